@@ -1,0 +1,3 @@
+pub mod PlainPipeLemmas
+pub mod PlainPipesLemmas
+pub mod NearSteps

@@ -1,0 +1,12 @@
+pub use Rattle.spec_pattern.specs.PipeStep
+pub use Rattle.spec_pattern.specs.Pipe
+pub use Rattle.spec_pattern.specs.Half
+pub mod Told
+pub mod Laws
+pub mod Lent
+pub mod Places
+pub mod PlainPipe
+pub mod PlainPipes
+pub mod PlainFits
+pub mod PlainPeers
+pub mod PlainSteps

@@ -1,0 +1,63 @@
+-- What the answer of a call on a half tells, and the steps that it stands for (zmq_msg_send(3), zmq_msg_recv(3)).
+use Rattle.std.specs.Prelude.{◌≡◌, ◌++◌, List, [], ◌∷◌, true, false}
+use mathlib.Core.List.{IsPrefix}
+use Rattle.zq_base.specs.Message.{Frames}
+use Rattle.spec_pattern.specs.declared.pipe_id.PipeId.{PipeId}
+use Rattle.spec_pattern.specs.PipeStep.{PipeStep, Commit, FullLook, Take, EmptyLook}
+use Rattle.spec_pattern.specs.Pipe.{Pipe, StandsFull, StandsEmpty, StandsAtDelimiter}
+use Rattle.spec_pattern.specs.Half.{Writing, Reading, without_parts, Commits, IsFull, Takes, IsEmpty, IsAtDelimiter}
+use Rattle.msg_pipe.specs.declared.pipes.PutIn.{PutIn}
+use Rattle.msg_pipe.specs.declared.pipes.PutIn.TheVariants as put
+use Rattle.msg_pipe.specs.declared.pipes.Committed.{Committed}
+use Rattle.msg_pipe.specs.declared.pipes.Committed.TheVariants as commit
+use Rattle.msg_pipe.specs.declared.pipes.Taken.{Taken}
+use Rattle.msg_pipe.specs.declared.pipes.Taken.TheVariants.{Item, Empty, Delimiter}
+
+-- the message is committed, or the pipe was found full and it comes back
+abbrev pub Puts : Writing → Frames → PutIn → Writing → Type 0
+Puts v m put.Ok w = Commits v m w
+Puts v m (put.Full back) w = (back ≡ m) × IsFull v w
+
+-- the message of the parts is committed and they are forgotten, or the pipe was found full and they stay
+abbrev pub CommitsParts : Writing → Committed → Writing → Type 0
+CommitsParts v commit.Ok w = Commits (without_parts v) v.parts w
+CommitsParts v commit.Full w = IsFull v w
+
+-- the oldest message left is taken, or there is none, or the delimiter stands there
+abbrev pub Finds : Reading → Taken → Reading → Type 0
+Finds v (Item m) w = Takes v m w
+Finds v Empty w = IsEmpty v w
+Finds v Delimiter w = IsAtDelimiter v w
+
+-- the step of a put at the pipe
+abbrev pub put_steps : PipeId → Frames → PutIn → List PipeStep
+put_steps p m put.Ok = Commit p m ∷ []
+put_steps p m (put.Full back) = FullLook p ∷ []
+
+-- the step of a take at the pipe; a look that finds the delimiter is none
+abbrev pub take_steps : PipeId → Taken → List PipeStep
+take_steps p (Item m) = Take p m ∷ []
+take_steps p Empty = EmptyLook p ∷ []
+take_steps p Delimiter = []
+
+-- what an exact look of a take saw: all that was committed, and whether the delimiter stands behind it
+pub record SeesAll (v : Writing) (found : Taken) (w : Reading) : Type 0 where
+  pub seen : w.seen ≡ v.committed
+  pub unsealed : found ≡ Empty → v.sealed ≡ false
+  pub sealed : found ≡ Delimiter → v.sealed ≡ true
+
+-- how the pipe stood at a put that answered so
+abbrev pub PutFinds : Pipe → PutIn → Type 0
+PutFinds p put.Ok = StandsFull p → ⊥
+PutFinds p (put.Full back) = StandsFull p
+
+-- how the pipe stood at a commit that answered so
+abbrev pub CommitFinds : Pipe → Committed → Type 0
+CommitFinds p commit.Ok = StandsFull p → ⊥
+CommitFinds p commit.Full = StandsFull p
+
+-- how the pipe stood at a take that answered so
+abbrev pub TakeFinds : Pipe → Taken → Type 0
+TakeFinds p (Item m) = IsPrefix (p.taken ++ m ∷ []) p.committed
+TakeFinds p Empty = StandsEmpty p
+TakeFinds p Delimiter = StandsAtDelimiter p

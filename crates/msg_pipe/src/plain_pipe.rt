@@ -1,0 +1,186 @@
+ghost use Rattle.std.specs.Prelude.{◌≡◌, ◌+◌, ◌≤◌, All, true, length};
+ghost use Rattle.std.specs.VecDeque.{deque_len, deque_capacity};
+ghost use Rattle.spec_pattern.specs.PipeStep.{most_commits};
+ghost use Rattle.spec_pattern.specs.Pipe.{IsCommittable};
+
+use crate::pipes::{Committed, PutIn, Taken};
+use http_server::Log;
+use std::alloc::{AllocError, AllocFailed, Global};
+use std::collections::VecDeque;
+use std::mem;
+use zq_base::{Frame, Message, Settled};
+
+/// The most messages that are ever committed to one pipe.
+const MOST: u64 = 4_611_686_018_427_387_902;
+
+/// A pipe of one thread. It keeps the messages that wait and counts the others; `past` has those
+/// that were taken, for proofs alone, and takes no memory.
+#[derive(Drop)]
+pub struct PlainPipe {
+    pub(crate) capacity: usize,
+    pub(crate) waiting: VecDeque<Message>,
+    pub(crate) parts: Vec<Frame>,
+    pub(crate) past: Log<Message, ()>,
+    pub(crate) taken: u64,
+    pub(crate) committed: u64,
+    pub(crate) freed: u64,
+    pub(crate) seen: u64,
+    pub(crate) full_looks: u64,
+    pub(crate) empty_looks: u64,
+    pub(crate) sealed: bool,
+    pub(crate) ended: bool,
+    ghost room: { (deque_len waiting ≤ capacity) × (capacity ≤ deque_capacity waiting) },
+    ghost counts: { (taken ≡ length past.items) × (committed ≡ taken + deque_len waiting)
+        × (committed ≤ most_commits) },
+    ghost looks: { (freed ≤ taken) × (taken ≤ seen) × (seen ≤ committed) },
+    ghost end: { ended ≡ true → (sealed ≡ true) × (deque_len waiting ≡ 0) },
+    ghost whole: { All IsCommittable waiting.items },
+}
+
+impl PlainPipe {
+    ghost use Rattle.std.specs.Prelude.{◌≡◌, ◌-◌, ◌≤◌, ◌∷◌, [], false, length, IfOk, IfErr, OnOk, OnErr};
+    ghost use Rattle.std.specs.VecDeque.{deque_capacity};
+    ghost use Rattle.spec_pattern.specs.Pipe.{IsCommittable};
+    ghost use Rattle.spec_pattern.specs.Half.{fresh_writing, fresh_reading, with_part, without_parts, with_delimiter, AreHalves};
+    ghost use Rattle.msg_pipe.specs.Told.{Puts, CommitsParts, Finds, SeesAll};
+    ghost use Rattle.msg_pipe.specs.PlainPipe.{plain_writing, plain_reading, plain_taken, plain_committed};
+
+    /// A pipe with room for so many messages.
+    pub(crate) fn new(alloc: Global, capacity: usize) -> Result<PlainPipe, AllocError>
+        ensures writing { IfOk result (λ p. plain_writing p ≡ fresh_writing capacity) }
+        ensures reading { IfOk result (λ p. plain_reading p ≡ fresh_reading) }
+    {
+        let waiting = VecDeque::with_capacity(alloc, capacity)?;
+        Ok(PlainPipe::over(alloc, capacity, waiting))
+    }
+
+    fn over(alloc: Global, capacity: usize, waiting: VecDeque<Message>) -> PlainPipe
+        requires empty { waiting.items ≡ [] }
+        requires room { capacity ≤ deque_capacity waiting }
+        ensures writing { plain_writing result ≡ fresh_writing capacity }
+        ensures reading { plain_reading result ≡ fresh_reading }
+    {
+        PlainPipe {
+            capacity,
+            waiting,
+            parts: Vec::new(alloc),
+            past: Log::new(),
+            taken: 0,
+            committed: 0,
+            freed: 0,
+            seen: 0,
+            full_looks: 0,
+            empty_looks: 0,
+            sealed: false,
+            ended: false,
+        }
+    }
+
+    pub(crate) fn part(&mut self, frame: Frame) -> Result<(), AllocFailed<Frame>>
+        ensures ok { OnOk result (plain_writing self.new ≡
+            with_part (frame ∷ []) (plain_writing self.old)) }
+        ensures err { OnErr result (plain_writing self.new ≡ plain_writing self.old) }
+        ensures back { IfErr result (λ e. e.value ≡ frame) }
+        ensures reading { plain_reading self.new ≡ plain_reading self.old }
+    {
+        self.parts.push(frame)
+    }
+
+    pub(crate) fn commit(&mut self) -> Committed
+        requires open { self.old.sealed ≡ false }
+        requires whole { IsCommittable self.old.parts.items }
+        ensures commit { CommitsParts (plain_writing self.old) result (plain_writing self.new) }
+        ensures exact { self.new.freed ≡ length (plain_taken self.old) }
+        ensures reading { plain_reading self.new ≡ plain_reading self.old }
+    {
+        let alloc = *self.parts.allocator();
+        let parts = mem::replace(&mut self.parts, Vec::new(alloc));
+        match self.put(Message::of_frames(parts)) {
+            PutIn::Ok => Committed::Ok,
+            PutIn::Full(message) => {
+                self.parts = message.into_frames();
+                Committed::Full
+            }
+        }
+    }
+
+    pub(crate) fn rollback(&mut self)
+        ensures forgets { plain_writing self.new ≡ without_parts (plain_writing self.old) }
+        ensures reading { plain_reading self.new ≡ plain_reading self.old }
+    {
+        self.parts.clear();
+    }
+
+    pub(crate) fn put(&mut self, message: Message) -> PutIn
+        requires open { self.old.sealed ≡ false }
+        requires whole { IsCommittable message }
+        ensures put { Puts (plain_writing self.old) message result (plain_writing self.new) }
+        ensures exact { self.new.freed ≡ length (plain_taken self.old) }
+        ensures reading { plain_reading self.new ≡ plain_reading self.old }
+    {
+        self.freed = self.taken;
+        if self.waiting.len() == self.capacity || self.committed == MOST {
+            self.full_looks = self.full_looks.saturating_add(1);
+            return PutIn::Full(message);
+        }
+        self.waiting.push_back_reserved(message);
+        self.committed += 1;
+        PutIn::Ok
+    }
+
+    pub(crate) fn seal(&mut self)
+        ensures seals { plain_writing self.new ≡ with_delimiter (plain_writing self.old) }
+        ensures reading { plain_reading self.new ≡ plain_reading self.old }
+    {
+        self.sealed = true;
+    }
+
+    pub(crate) fn take(&mut self) -> Taken
+        ensures take { Finds (plain_reading self.old) result (plain_reading self.new) }
+        ensures exact { SeesAll (plain_writing self.old) result (plain_reading self.new) }
+        ensures writing { plain_writing self.new ≡ plain_writing self.old }
+    {
+        self.seen = self.committed;
+        match self.waiting.pop_front() {
+            Some(message) => {
+                self.past = self.past.and(&message, &());
+                self.taken += 1;
+                Taken::Item(message)
+            }
+            None => self.find_nothing(),
+        }
+    }
+
+    /// What a look tells that finds no message.
+    fn find_nothing(&mut self) -> Taken
+        requires none { self.old.committed ≡ self.old.taken }
+        requires seen { self.old.seen ≡ self.old.committed }
+        ensures take { Finds (plain_reading self.old) result (plain_reading self.new) }
+        ensures exact { SeesAll (plain_writing self.old) result (plain_reading self.new) }
+        ensures writing { plain_writing self.new ≡ plain_writing self.old }
+    {
+        if self.sealed {
+            self.ended = true;
+            return Taken::Delimiter;
+        }
+        self.empty_looks = self.empty_looks.saturating_add(1);
+        Taken::Empty
+    }
+
+    /// Tells the counts, and gives the memory back with the messages that are left.
+    pub(crate) fn settle(&mut self) -> Settled
+        ensures sent { result.sent ≡ length (plain_committed self.old) }
+        ensures got { result.got ≡ length (plain_taken self.old) }
+        ensures rest { result.rest ≡ result.sent - result.got }
+        ensures halves { AreHalves (plain_writing self.old) (plain_reading self.old) }
+    {
+        let settled = Settled {
+            sent: self.committed,
+            got: self.taken,
+            rest: self.committed - self.taken,
+        };
+        let alloc = *self.parts.allocator();
+        *self = PlainPipe::over(alloc, 0, VecDeque::new(alloc));
+        settled
+    }
+}

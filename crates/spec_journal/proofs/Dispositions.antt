@@ -1,0 +1,67 @@
+-- Each message committed to a pipe has one end where takes are in order, and the counts of its row add up.
+use Rattle.std.proofs.Common.{◌≡◌, ◌+◌, ◌-◌, ◌≤◌, ℕ, List, [], ◌∷◌, ◌++◌, length, refl, sym, subst, ap, arith, length-append}
+use Rattle.std.specs.Prelude.{filter, flat_map, replicate, All, Contains}
+use Rattle.std.proofs.lemmas.List.{length-map, length-replicate}
+use Rattle.std.proofs.lemmas.List.Elements.{filter_map-append, All-nil, All-cons, All-contains}
+use mathlib.Core.List.{IsPrefix}
+use Rattle.zq_base.specs.Message.{Frames}
+use Rattle.spec_pattern.specs.declared.pipe_id.PipeId.{PipeId}
+use Rattle.spec_pattern.specs.PipeStep.{committed_to, taken_from, taken_by, TakesInOrder}
+use Rattle.spec_journal.specs.Run.{Doing, Run, steps_of}
+use Rattle.spec_journal.specs.declared.journal.PipeRow.{PipeRow}
+use Rattle.spec_journal.specs.declared.journal.Journal.{Journal}
+use Rattle.zq_script.specs.declared.script.Script.{Script}
+use Rattle.spec_journal.specs.Net.{Joined, end_a, end_b}
+use Rattle.spec_journal.specs.Printed.{IsJournalOf, rows_from, journal_of}
+use Rattle.spec_journal.specs.Disposition.{row_of, Disposition, Given, Heard, Dropped, Written, Lost, Rest, AllEnd, told_by, taken_as, dispositions, is_given, is_heard, is_dropped, is_written, is_lost, is_rest}
+
+-- each disposition is counted once
+counted_once : (ds : List Disposition) → length ds ≡ length (filter is_given ds) + length (filter is_heard ds)
+    + length (filter is_dropped ds) + length (filter is_written ds) + length (filter is_lost ds) + length (filter is_rest ds)
+counted_once [] = refl
+counted_once (Given ∷ ds) = omega (arith, counted_once ds)
+counted_once (Heard ∷ ds) = omega (arith, counted_once ds)
+counted_once (Dropped ∷ ds) = omega (arith, counted_once ds)
+counted_once (Written ∷ ds) = omega (arith, counted_once ds)
+counted_once (Lost ∷ ds) = omega (arith, counted_once ds)
+counted_once (Rest ∷ ds) = omega (arith, counted_once ds)
+
+-- one disposition for each message taken
+one_each : (p : PipeId) (ds : List Doing) → length (flat_map (told_by p) ds) ≡ length (taken_from p (steps_of ds))
+one_each p [] = refl
+one_each p (d ∷ ds) =
+    rw (length-append, filter_map-append (taken_by p) d.steps (steps_of ds), length-append, length-map (taken_from p d.steps) (λ _. taken_as d.answer), one_each p ds)
+
+few_taken : (taken committed : List Frames) → IsPrefix taken committed → length taken ≤ length committed
+few_taken taken committed (rest, whole) = let split : length (taken ++ rest) ≡ length taken + length rest = length-append taken rest in
+    let e : length (taken ++ rest) ≡ length committed = ap length whole in omega (arith, split, e)
+
+one_end : (run : Run) (p : PipeId) → IsPrefix (taken_from p (steps_of run.doings)) (committed_to p (steps_of run.doings))
+    → length (dispositions run p) ≡ length (committed_to p (steps_of run.doings))
+one_end run p taken =
+    let told = one_each p run.doings in
+    let few = few_taken (taken_from p (steps_of run.doings)) (committed_to p (steps_of run.doings)) taken in
+    let left = length-replicate (length (committed_to p (steps_of run.doings)) - length (taken_from p (steps_of run.doings))) Rest in
+    let both = length-append (flat_map (told_by p) run.doings) (replicate (length (committed_to p (steps_of run.doings)) - length (taken_from p (steps_of run.doings))) Rest) in
+    omega (arith, told, few, left, both)
+
+-- each message committed to the pipe has one end
+pub all_end : (run : Run) → TakesInOrder (steps_of run.doings) → (p : PipeId) → AllEnd run p
+all_end run taken p = record { each = one_end run p (taken p); sum = counted_once (dispositions run p) }
+
+-- the counts of each row add up
+abbrev AddsUp : PipeRow → Type 0
+AddsUp row = row.sent ≡ row.given + row.heard + row.dropped + row.written + row.lost + row.rest
+
+rows_from_add_up : (run : Run) (n : ℕ) (pairs : List Joined) → All AddsUp (rows_from run n pairs)
+rows_from_add_up run n [] = All-nil AddsUp
+rows_from_add_up run n (pair ∷ pairs) =
+    let a = row_of (end_a n) (dispositions run (end_a n)) in
+    let b = row_of (end_b n) (dispositions run (end_b n)) in
+    All-cons AddsUp a (b ∷ rows_from run (n + 1) pairs) (counted_once (dispositions run (end_a n)))
+    (All-cons AddsUp b (rows_from run (n + 1) pairs) (counted_once (dispositions run (end_b n))) (rows_from_add_up run (n + 1) pairs))
+
+pub rows_add_up : (script : Script) (j : Journal) → IsJournalOf script j → (row : PipeRow) → Contains j.pipes row → AddsUp row
+rows_add_up script j is row held =
+    let rows : All AddsUp (journal_of script is.run).pipes = rows_from_add_up is.run 1 is.run.net.pairs in
+    All-contains AddsUp j.pipes row (subst (λ (k : Journal). All AddsUp k.pipes) (sym is.journal_is) rows) held

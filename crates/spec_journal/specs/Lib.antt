@@ -1,0 +1,10 @@
+pub use Rattle.spec_pattern.specs.PipeStep
+pub use Rattle.spec_pattern.specs.TurnList
+pub use Rattle.spec_pattern.specs.Call
+pub mod Net
+pub mod Line
+pub mod Run
+pub mod Disposition
+pub mod Printed
+pub mod Text
+pub mod Examples

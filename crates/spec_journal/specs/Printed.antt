@@ -1,0 +1,41 @@
+-- The journal of a run.
+use Rattle.std.specs.Prelude.{◌≡◌, ◌+◌, ℕ, List, [], ◌∷◌, map}
+use Rattle.zq_script.specs.declared.script.Script.{Script}
+use Rattle.zq_script.specs.declared.script.ActorScript.{ActorScript}
+use Rattle.spec_pattern.specs.declared.pipe_id.PipeId.{PipeId}
+use Rattle.spec_journal.specs.declared.journal.Entry.{Entry}
+use Rattle.spec_journal.specs.declared.journal.ActorPart.{ActorPart}
+use Rattle.spec_journal.specs.declared.journal.PipeRow.{PipeRow}
+use Rattle.spec_journal.specs.declared.journal.Journal.{Journal}
+use Rattle.spec_journal.specs.Net.{Joined, end_a, end_b}
+use Rattle.spec_journal.specs.Run.{Doing, Run, IsRunOf, doings_by}
+use Rattle.spec_journal.specs.Disposition.{dispositions, row_of, AllEnd}
+
+-- what is shown of a line that was done
+abbrev pub entry_of : Doing → Entry
+entry_of d = record { line = d.line.number; answer = d.answer }
+
+-- each actor's answers, for the actors from this place on
+abbrev pub parts_from : ℕ → List ActorScript → List Doing → List ActorPart
+parts_from n [] ds = []
+parts_from n (actor ∷ actors) ds =
+    record { name = actor.name; entries = map entry_of (doings_by n ds) } ∷ parts_from (n + 1) actors ds
+
+-- the rows of the pairs from this number on: of each pair the pipe written by end a, then the other
+abbrev pub rows_from : Run → ℕ → List Joined → List PipeRow
+rows_from run n [] = []
+rows_from run n (j ∷ js) =
+    row_of (end_a n) (dispositions run (end_a n))
+    ∷ row_of (end_b n) (dispositions run (end_b n))
+    ∷ rows_from run (n + 1) js
+
+-- the journal of a run of a script
+abbrev pub journal_of : Script → Run → Journal
+journal_of script run = record { actors = parts_from 0 script.actors run.doings; pipes = rows_from run 1 run.net.pairs }
+
+-- The journal is that of a run of the script, in which each message has one named end.
+pub record IsJournalOf (script : Script) (j : Journal) : Type 0 where
+  pub run : Run
+  pub is_run : IsRunOf script run
+  pub all_end : (p : PipeId) → AllEnd run p
+  pub journal_is : j ≡ journal_of script run

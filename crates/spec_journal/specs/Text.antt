@@ -1,0 +1,95 @@
+-- The text of a journal (own format).
+use Rattle.std.specs.Prelude.{ℕ, List, [], ◌∷◌, ◌++◌, Bool, true, false, ◌&&◌, not, nat_le, nat_eq, if◌then◌else◌, length, codes, decimal, flat_map}
+use Rattle.std.specs.List.{list_all, starts_with}
+use Rattle.hex.specs.Hex.{encode_lower}
+use Rattle.zq_base.specs.Message.{Frames}
+use Rattle.spec_pattern.specs.declared.pipe_id.PipeId.{PipeId}
+use Rattle.spec_pattern.specs.declared.answers.SendRefusal.{SendRefusal}
+use Rattle.spec_pattern.specs.declared.answers.SendRefusal.TheVariants as send
+use Rattle.spec_pattern.specs.declared.answers.RecvRefusal.{RecvRefusal}
+use Rattle.spec_pattern.specs.declared.answers.RecvRefusal.TheVariants as recv
+use Rattle.spec_journal.specs.declared.journal.Answer.{Answer}
+use Rattle.spec_journal.specs.declared.journal.Answer.TheVariants as answer
+use Rattle.spec_journal.specs.declared.journal.Entry.{Entry}
+use Rattle.spec_journal.specs.declared.journal.ActorPart.{ActorPart}
+use Rattle.spec_journal.specs.declared.journal.PipeRow.{PipeRow}
+use Rattle.spec_journal.specs.declared.journal.Journal.{Journal}
+
+abbrev pub is_graphic : ℕ → Bool
+is_graphic octet = nat_le 33 octet && nat_le octet 126
+
+abbrev pub is_dash : List ℕ → Bool
+is_dash part = starts_with nat_eq part (codes "-") && nat_eq (length part) 1
+
+-- the part would be read back as itself
+abbrev pub is_plain : List ℕ → Bool
+is_plain part = list_all is_graphic part && not (is_dash part) && not (starts_with nat_eq part (codes "0x"))
+
+-- a part: `-` where it is empty, itself where it can be read back, else its octets in hex
+abbrev pub part_text : List ℕ → List ℕ
+part_text [] = codes "-"
+part_text (octet ∷ octets) =
+    if is_plain (octet ∷ octets) then octet ∷ octets else codes "0x" ++ encode_lower (octet ∷ octets)
+
+-- the parts of a message, each behind a space
+abbrev pub parts_text : Frames → List ℕ
+parts_text parts = flat_map (λ part. codes " " ++ part_text part) parts
+
+abbrev pub send_refusal_text : SendRefusal → List ℕ
+send_refusal_text send.Term = codes "term"
+send_refusal_text send.NotSupported = codes "notsup"
+send_refusal_text send.Fsm = codes "fsm"
+send_refusal_text send.NoBody = codes "nobody"
+send_refusal_text send.TooLarge = codes "toolarge"
+send_refusal_text send.SubLimit = codes "limit"
+send_refusal_text send.Unreachable = codes "unreachable"
+send_refusal_text send.Again = codes "again"
+
+abbrev pub recv_refusal_text : RecvRefusal → List ℕ
+recv_refusal_text recv.Term = codes "term"
+recv_refusal_text recv.NotSupported = codes "notsup"
+recv_refusal_text recv.Fsm = codes "fsm"
+recv_refusal_text recv.Again = codes "again"
+recv_refusal_text recv.Busy = codes "busy"
+
+abbrev pub answer_text : Answer → List ℕ
+answer_text (answer.Object o) = codes "ok o" ++ decimal o.0
+answer_text answer.Done = codes "ok"
+answer_text (answer.Pair p) = codes "ok p" ++ decimal p.0
+answer_text (answer.Got p m) = codes "msg p" ++ decimal p.0 ++ parts_text m
+answer_text (answer.NotSent refusal) = send_refusal_text refusal
+answer_text (answer.NotReceived refusal) = recv_refusal_text refusal
+
+-- a line of an actor: its name, the line's number, the answer
+abbrev pub entry_text : List ℕ → Entry → List ℕ
+entry_text name e = name ++ codes " " ++ decimal e.line ++ codes " " ++ answer_text e.answer ++ codes "\n"
+
+abbrev pub actor_text : ActorPart → List ℕ
+actor_text actor = flat_map (entry_text actor.name) actor.entries
+
+abbrev pub side_text : Bool → List ℕ
+side_text true = codes "a"
+side_text false = codes "b"
+
+-- a pipe by its pair and the end that writes it
+abbrev pub pipe_text : PipeId → List ℕ
+pipe_text p = codes "p" ++ decimal p.pair.0 ++ side_text p.a
+
+-- why messages are left: while sockets stay until the end of the run, they are closed there
+abbrev pub reason_text : ℕ → List ℕ
+reason_text rest = if nat_eq rest 0 then codes "-" else codes "closed"
+
+abbrev pub row_text : PipeRow → List ℕ
+row_text r = codes "pipe " ++ pipe_text r.pipe
+    ++ codes " sent " ++ decimal r.sent
+    ++ codes " given " ++ decimal r.given
+    ++ codes " heard " ++ decimal r.heard
+    ++ codes " dropped " ++ decimal r.dropped
+    ++ codes " written " ++ decimal r.written
+    ++ codes " lost " ++ decimal r.lost
+    ++ codes " rest " ++ decimal r.rest
+    ++ codes " " ++ reason_text r.rest ++ codes "\n"
+
+-- the text of a journal: each actor's answers, the pipes, and `done`
+abbrev pub journal_text : Journal → List ℕ
+journal_text j = flat_map actor_text j.actors ++ flat_map row_text j.pipes ++ codes "done\n"

@@ -1,0 +1,48 @@
+use spec_pattern::{PipeId, RecvRefusal, SendRefusal};
+use zq_base::{Message, ObjId, Octets, PairId, Seq};
+
+/// What a line of a script was answered.
+#[derive(Drop)]
+pub enum Answer {
+    Object(ObjId),
+    Done,
+    Pair(PairId),
+    Got(PairId, Message),
+    NotSent(SendRefusal),
+    NotReceived(RecvRefusal),
+}
+
+/// A line that was answered, by its number in the script.
+#[derive(Drop)]
+pub struct Entry {
+    pub line: u32,
+    pub answer: Answer,
+}
+
+/// An actor's answers, in the order of its lines.
+#[derive(Drop)]
+pub struct ActorPart {
+    pub name: Octets,
+    pub entries: Seq<Entry>,
+}
+
+/// What became of the messages of a pipe: how many were committed, and how many of these were given to
+/// the application, heard as subscriptions, dropped by a rule, written to a link, lost, and left.
+#[derive(Clone, Copy, Debug, PartialEq, Eq)]
+pub struct PipeRow {
+    pub pipe: PipeId,
+    pub sent: u64,
+    pub given: u64,
+    pub heard: u64,
+    pub dropped: u64,
+    pub written: u64,
+    pub lost: u64,
+    pub rest: u64,
+}
+
+/// What is printed of a run that is done.
+#[derive(Drop)]
+pub struct Journal {
+    pub actors: Seq<ActorPart>,
+    pub pipes: Seq<PipeRow>,
+}

@@ -1,0 +1,8 @@
+//! What a run of a script is, the journal that is printed of it, and the journal's text.
+#![tactic(auto)]
+
+mod journal;
+mod laws;
+
+pub use journal::{ActorPart, Answer, Entry, Journal, PipeRow};
+pub use laws::{each_message_has_one_end, rows_add_up, worked_examples};

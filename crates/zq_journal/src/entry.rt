@@ -1,0 +1,96 @@
+ghost use Rattle.std.specs.Prelude.{◌≡◌, ◌++◌, OnOk, decimal, flat_map};
+ghost use Rattle.spec_journal.specs.Text.{answer_text, entry_text, actor_text, send_refusal_text, recv_refusal_text};
+
+use crate::part::push_parts;
+use itoa::Buffer;
+use spec_journal::{ActorPart, Answer, Entry};
+use spec_pattern::{RecvRefusal, SendRefusal};
+use std::alloc::{AllocError, Global};
+
+/// Appends a number in decimal digits.
+pub(crate) fn push_number(out: &mut Vec<u8>, number: u64) -> Result<(), AllocError>
+    ensures { OnOk result (out.new.items ≡ out.old.items ++ decimal number) }
+{
+    let mut buffer = Buffer::new();
+    out.extend_from_slice(buffer.format(number).as_bytes())
+}
+
+fn send_refusal_name(refusal: SendRefusal) -> &'static [u8]
+    ensures { result.now ≡ send_refusal_text refusal }
+{
+    match refusal {
+        SendRefusal::Term => b"term",
+        SendRefusal::NotSupported => b"notsup",
+        SendRefusal::Fsm => b"fsm",
+        SendRefusal::NoBody => b"nobody",
+        SendRefusal::TooLarge => b"toolarge",
+        SendRefusal::SubLimit => b"limit",
+        SendRefusal::Unreachable => b"unreachable",
+        SendRefusal::Again => b"again",
+    }
+}
+
+fn recv_refusal_name(refusal: RecvRefusal) -> &'static [u8]
+    ensures { result.now ≡ recv_refusal_text refusal }
+{
+    match refusal {
+        RecvRefusal::Term => b"term",
+        RecvRefusal::NotSupported => b"notsup",
+        RecvRefusal::Fsm => b"fsm",
+        RecvRefusal::Again => b"again",
+        RecvRefusal::Busy => b"busy",
+    }
+}
+
+fn push_answer(alloc: Global, out: &mut Vec<u8>, answer: &Answer) -> Result<(), AllocError>
+    ensures { OnOk result (out.new.items ≡ out.old.items ++ answer_text answer.now) }
+{
+    match answer {
+        Answer::Object(object) => {
+            out.extend_from_slice(b"ok o")?;
+            push_number(out, u64::from(object.0))
+        }
+        Answer::Done => out.extend_from_slice(b"ok"),
+        Answer::Pair(pair) => {
+            out.extend_from_slice(b"ok p")?;
+            push_number(out, u64::from(pair.0))
+        }
+        Answer::Got(pair, message) => {
+            out.extend_from_slice(b"msg p")?;
+            push_number(out, u64::from(pair.0))?;
+            push_parts(alloc, out, message)
+        }
+        Answer::NotSent(refusal) => out.extend_from_slice(send_refusal_name(*refusal)),
+        Answer::NotReceived(refusal) => out.extend_from_slice(recv_refusal_name(*refusal)),
+    }
+}
+
+fn push_entry(
+    alloc: Global,
+    out: &mut Vec<u8>,
+    name: &[u8],
+    entry: &Entry,
+) -> Result<(), AllocError>
+    ensures { OnOk result (out.new.items ≡ out.old.items ++ entry_text name.now entry.now) }
+{
+    out.extend_from_slice(name)?;
+    out.extend_from_slice(b" ")?;
+    push_number(out, u64::from(entry.line))?;
+    out.extend_from_slice(b" ")?;
+    push_answer(alloc, out, &entry.answer)?;
+    out.extend_from_slice(b"\n")
+}
+
+/// Appends an actor's answers, each on a line.
+pub(crate) fn push_actor(
+    alloc: Global,
+    out: &mut Vec<u8>,
+    actor: &ActorPart,
+) -> Result<(), AllocError>
+    ensures { OnOk result (out.new.items ≡ out.old.items ++ actor_text actor.now) }
+{
+    for entry in actor.entries.as_slice() {
+        push_entry(alloc, out, actor.name.as_slice(), entry)?;
+    }
+    Ok(())
+}

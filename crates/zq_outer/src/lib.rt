@@ -1,0 +1,29 @@
+//! The outside: where octets come from and go to, links and their hosts, clocks and gates.
+//!
+//! Each trait counts its faults, stalls and ends, and an answer of that kind comes only where its
+//! count rose. The versions in memory fail by a plan, or never.
+#![tactic(auto)]
+
+mod calls;
+mod clock;
+mod gate;
+mod host;
+mod link;
+mod mem_sink;
+mod mem_source;
+mod pieces;
+mod sink;
+mod source;
+mod tape;
+
+pub use clock::{Clock, TickClock};
+pub use gate::{Gate, OpenGate};
+pub use host::{Dialled, Host, Listened, NoHost};
+pub use link::{Link, LinkGot, LinkPut, NoLink};
+pub use mem_sink::{MemSink, SureSink};
+pub use mem_source::{MemSource, SureSource};
+pub use sink::{Put, Sink};
+pub use source::{Got, Source};
+
+#[cfg(test)]
+mod tests;

@@ -1,0 +1,10 @@
+mod StandardFacts
+mod WordsLemmas
+mod NumberLemmas
+mod AnswerLemmas
+mod PlaceLemmas
+mod PartLemmas
+mod OptionLemmas
+mod KnownLemmas
+mod GroupLemmas
+mod ScriptLemmas

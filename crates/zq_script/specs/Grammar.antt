@@ -1,0 +1,146 @@
+-- What a line says, behind earlier lines, or the cause of its leftmost fault (own choice).
+use Rattle.std.specs.Prelude.{ℕ, Bool, List, [], ◌∷◌, Result, Ok, Err, ok_or, nat_eq, nat_lt, not, is_some, codes, drop, length, if◌then◌else◌}
+use Rattle.std.specs.List.{starts_with}
+use Rattle.std.specs.Str.{bytes_eq}
+use Rattle.zq_base.specs.declared.kind.Kind.{Kind}
+use Rattle.zq_base.specs.declared.kind.Kind.TheVariants.{Push, Pull}
+use Rattle.zq_script.specs.declared.fault.Cause.{Cause}
+use Rattle.zq_script.specs.declared.fault.Cause.TheVariants.{BadWord, UnknownSocket, DoubleName, TooManyActors}
+use Rattle.zq_base.specs.declared.endpoint.Endpoint.{Endpoint}
+use Rattle.zq_script.specs.declared.script.Call.{Call}
+use Rattle.zq_script.specs.declared.script.Call.TheVariants as call
+use Rattle.zq_script.specs.declared.statement.Statement.{Statement}
+use Rattle.zq_script.specs.declared.statement.Statement.TheVariants as says
+use Rattle.zq_script.specs.declared.verb.SocketVerb.{SocketVerb}
+use Rattle.zq_script.specs.declared.verb.SocketVerb.TheVariants as on
+use Rattle.zq_script.specs.declared.verb.Verb.{Verb}
+use Rattle.zq_script.specs.declared.verb.Verb.TheVariants as verb
+use Rattle.zq_script.specs.Answer.{◌>>=◌}
+use Rattle.zq_script.specs.Name.{is_name}
+use Rattle.zq_script.specs.Number.{number_in}
+use Rattle.zq_script.specs.Part.{message_of}
+use Rattle.zq_script.specs.Place.{endpoint_of}
+use Rattle.zq_script.specs.SocketOption.{default_options, with_options}
+use Rattle.zq_script.specs.Statement.{actor_names, is_actor, socket_of}
+use Rattle.zq_script.specs.Words.{Words}
+
+-- the first word and those behind it
+unfoldable pub first_word : Words → Result (List ℕ × Words) Cause
+first_word [] = Err BadWord
+first_word (word ∷ words) = Ok (word, words)
+
+-- there are no more words
+unfoldable pub line_end : Words → Result Unit Cause
+line_end [] = Ok tt
+line_end (word ∷ words) = Err BadWord
+
+-- the word as a name that isn't taken
+unfoldable pub new_name : Bool → List ℕ → Result (List ℕ) Cause
+new_name is_taken word =
+    if not (is_name word) then Err BadWord
+    else if is_taken then Err DoubleName
+    else Ok word
+
+-- the socket that the word names
+unfoldable pub known_socket : List Statement → List ℕ → Result ℕ Cause
+known_socket earlier word =
+    if is_name word then ok_or (socket_of word earlier) UnknownSocket else Err BadWord
+
+-- the kind that the word names: PUSH or PULL so far
+unfoldable pub kind_of : List ℕ → Result Kind Cause
+kind_of word =
+    if bytes_eq word (codes "PUSH") then Ok Push
+    else if bytes_eq word (codes "PULL") then Ok Pull
+    else Err BadWord
+
+-- what the first word of a line asks
+unfoldable pub verb_of : List ℕ → Result Verb Cause
+verb_of word =
+    if bytes_eq word (codes "actor") then Ok verb.Actor
+    else if bytes_eq word (codes "socket") then Ok verb.Socket
+    else if bytes_eq word (codes "bind") then Ok (verb.On on.Bind)
+    else if bytes_eq word (codes "connect") then Ok (verb.On on.Connect)
+    else if bytes_eq word (codes "send") then Ok (verb.On on.Send)
+    else if bytes_eq word (codes "recv") then Ok (verb.On on.Recv)
+    else Err BadWord
+
+-- one more actor may begin: there are 64 at most
+unfoldable pub room_for_actor : List Statement → Result Unit Cause
+room_for_actor earlier =
+    if nat_lt (length (actor_names earlier)) 64 then Ok tt else Err TooManyActors
+
+-- an actor has begun
+unfoldable pub some_actor : List Statement → Result Unit Cause
+some_actor earlier = if nat_eq (length (actor_names earlier)) 0 then Err BadWord else Ok tt
+
+-- the endpoint that ends a line
+unfoldable pub last_endpoint : Words → Result Endpoint Cause
+last_endpoint words = do
+  first ← first_word words
+  endpoint ← endpoint_of first.0
+  _ ← line_end first.1
+  Ok endpoint
+
+-- a number of tries: `tries=N` with N from 1 to 100,000
+unfoldable pub tries_in : List ℕ → Result ℕ Cause
+tries_in word =
+    if starts_with nat_eq word (codes "tries=")
+    then ok_or (number_in 1 100000 (drop 6 word)) BadWord else Err BadWord
+
+-- how often a receive is tried, by the words that end its line: once, where there are none
+unfoldable pub tries_of : Words → Result ℕ Cause
+tries_of [] = Ok 1
+tries_of (word ∷ words) = do
+  tries ← tries_in word
+  _ ← line_end words
+  Ok tries
+
+-- `bind S EP`, `connect S EP`, `send S PART..`, `recv S [tries=N]`, by the words behind S
+unfoldable pub call_of : SocketVerb → ℕ → Words → Result Call Cause
+call_of on.Bind socket words = last_endpoint words >>= λ endpoint. Ok (call.Bind socket endpoint)
+call_of on.Connect socket words =
+    last_endpoint words >>= λ endpoint. Ok (call.Connect socket endpoint)
+call_of on.Send socket words = message_of words >>= λ message. Ok (call.Send socket message)
+call_of on.Recv socket words = tries_of words >>= λ tries. Ok (call.Recv socket tries)
+
+-- `actor A`, by the words behind the first
+unfoldable pub actor_line : List Statement → Words → Result Statement Cause
+actor_line earlier words = do
+  _ ← room_for_actor earlier
+  first ← first_word words
+  name ← new_name (is_actor first.0 earlier) first.0
+  _ ← line_end first.1
+  Ok (says.Actor name)
+
+-- `socket S KIND OPT..`, by the words behind the first
+unfoldable pub socket_line : ℕ → List Statement → Words → Result Statement Cause
+socket_line number earlier words = do
+  _ ← some_actor earlier
+  first ← first_word words
+  name ← new_name (is_some (socket_of first.0 earlier)) first.0
+  second ← first_word first.1
+  kind ← kind_of second.0
+  options ← with_options second.1 default_options
+  Ok (says.Socket name (record { number = number; call = call.Socket kind options }))
+
+-- a line that asks something of a socket, by the words behind the first
+unfoldable pub call_line : ℕ → List Statement → SocketVerb → Words → Result Statement Cause
+call_line number earlier verb words = do
+  _ ← some_actor earlier
+  first ← first_word words
+  socket ← known_socket earlier first.0
+  asked ← call_of verb socket first.1
+  Ok (says.Other (record { number = number; call = asked }))
+
+-- what a line says whose first word is this verb
+unfoldable pub said_by : ℕ → List Statement → Verb → Words → Result Statement Cause
+said_by number earlier verb.Actor words = actor_line earlier words
+said_by number earlier verb.Socket words = socket_line number earlier words
+said_by number earlier (verb.On asked) words = call_line number earlier asked words
+
+-- what the line of this number and these words says, behind the earlier ones
+unfoldable pub statement_of : ℕ → List Statement → Words → Result Statement Cause
+statement_of number earlier words = do
+  first ← first_word words
+  verb ← verb_of first.0
+  said_by number earlier verb first.1

@@ -1,0 +1,14 @@
+pub mod Words
+pub mod Number
+pub mod Name
+pub mod Part
+pub mod Place
+pub mod Answer
+pub mod Statement
+pub mod Known
+pub mod SocketOption
+pub mod Grammar
+pub mod Script
+pub mod Groups
+pub mod Reader
+pub mod Plain

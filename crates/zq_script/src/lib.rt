@@ -1,0 +1,27 @@
+//! Reads scripts: what each actor is to do, line by line.
+#![tactic(auto)]
+
+mod call;
+mod endpoint;
+mod fault;
+mod group;
+mod known;
+mod line;
+mod name;
+mod number;
+mod options;
+mod part;
+mod plain;
+mod read;
+mod script;
+mod statement;
+mod verb;
+mod words;
+
+pub use fault::{Cause, ReadScript, ScriptFault};
+pub use plain::is_plain;
+pub use read::read_script;
+pub use script::{ActorScript, Call, Line, Script};
+
+#[cfg(test)]
+mod tests;

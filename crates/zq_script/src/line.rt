@@ -1,0 +1,158 @@
+ghost use Rattle.std.specs.Prelude.{◌≡◌, List, map};
+ghost use Rattle.zq_script.specs.Answer.{Gives};
+ghost use Rattle.zq_script.specs.Grammar.{new_name, known_socket, kind_of, room_for_actor, some_actor, actor_line, socket_line, call_line, said_by, statement_of};
+ghost use Rattle.zq_script.specs.Known.{Knows};
+ghost use Rattle.zq_script.specs.declared.statement.Statement.{Statement};
+
+use crate::call::read_call;
+use crate::fault::{Cause, LineError};
+use crate::known::Known;
+use crate::name::is_name;
+use crate::options::read_options;
+use crate::script::{Call, Line};
+use crate::statement::Statement;
+use crate::verb::{SocketVerb, Verb};
+use crate::words::{first_word, line_end, same_text};
+use std::alloc::Global;
+use zq_base::{Kind, Octets};
+
+// The word as a name that isn't taken.
+#[tactic(auto, unfolding(crate::specs::Grammar::new_name))]
+fn read_new_name(alloc: Global, is_taken: bool, word: &[u8]) -> Result<Octets, LineError>
+    ensures { Gives result (new_name is_taken word.now) }
+{
+    if !is_name(word) {
+        return Err(LineError::Fault(Cause::BadWord));
+    }
+    if is_taken {
+        return Err(LineError::Fault(Cause::DoubleName));
+    }
+    Ok(Octets::of_slice(alloc, word)?)
+}
+
+// The socket that the word names.
+#[tactic(auto, unfolding(crate::specs::Grammar::known_socket))]
+fn read_socket(known: &Known, word: &[u8]) -> Result<u32, LineError>
+    ensures { (earlier : List Statement) → Knows known.now earlier
+        → Gives result (known_socket earlier word.now) }
+{
+    if !is_name(word) {
+        return Err(LineError::Fault(Cause::BadWord));
+    }
+    match known.socket(word) {
+        Some(socket) => Ok(socket),
+        None => Err(LineError::Fault(Cause::UnknownSocket)),
+    }
+}
+
+// The kind that the word names.
+#[tactic(auto, unfolding(crate::specs::Grammar::kind_of))]
+fn read_kind(word: &[u8]) -> Result<Kind, LineError>
+    ensures { Gives result (kind_of word.now) }
+{
+    if same_text(word, b"PUSH") {
+        return Ok(Kind::Push);
+    }
+    if same_text(word, b"PULL") {
+        return Ok(Kind::Pull);
+    }
+    Err(LineError::Fault(Cause::BadWord))
+}
+
+// Nothing, where one more actor may begin.
+#[tactic(auto, unfolding(crate::specs::Grammar::room_for_actor))]
+fn room_for_actor(known: &Known) -> Result<(), LineError>
+    ensures { (earlier : List Statement) → Knows known.now earlier
+        → Gives result (room_for_actor earlier) }
+{
+    if known.actors() < 64 {
+        Ok(())
+    } else {
+        Err(LineError::Fault(Cause::TooManyActors))
+    }
+}
+
+// Nothing, where an actor has begun.
+#[tactic(auto, unfolding(crate::specs::Grammar::some_actor))]
+fn some_actor(known: &Known) -> Result<(), LineError>
+    ensures { (earlier : List Statement) → Knows known.now earlier
+        → Gives result (some_actor earlier) }
+{
+    if known.actors() == 0 {
+        Err(LineError::Fault(Cause::BadWord))
+    } else {
+        Ok(())
+    }
+}
+
+// `actor A`
+#[tactic(auto, unfolding(crate::specs::Grammar::actor_line))]
+fn read_actor(alloc: Global, known: &Known, words: &[&[u8]]) -> Result<Statement, LineError>
+    ensures { (earlier : List Statement) → Knows known.now earlier
+        → Gives result (actor_line earlier (map (λ x. x.now) words.now)) }
+{
+    room_for_actor(known)?;
+    let (word, rest) = first_word(words)?;
+    let name = read_new_name(alloc, known.has_actor(word), word)?;
+    line_end(rest)?;
+    Ok(Statement::Actor(name))
+}
+
+// `socket S KIND OPT..`
+#[tactic(auto, unfolding(crate::specs::Grammar::socket_line))]
+fn read_new_socket(
+    alloc: Global,
+    number: u32,
+    known: &Known,
+    words: &[&[u8]],
+) -> Result<Statement, LineError>
+    ensures { (earlier : List Statement) → Knows known.now earlier
+        → Gives result (socket_line number earlier (map (λ x. x.now) words.now)) }
+{
+    some_actor(known)?;
+    let (word, rest) = first_word(words)?;
+    let name = read_new_name(alloc, known.socket(word).is_some(), word)?;
+    let (word, rest) = first_word(rest)?;
+    let kind = read_kind(word)?;
+    let options = read_options(alloc, rest)?;
+    let call = Call::Socket(kind, options);
+    Ok(Statement::Socket(name, Line { number, call }))
+}
+
+// A line that asks something of a socket.
+#[tactic(auto, unfolding(crate::specs::Grammar::call_line))]
+fn read_call_line(
+    alloc: Global,
+    number: u32,
+    known: &Known,
+    verb: SocketVerb,
+    words: &[&[u8]],
+) -> Result<Statement, LineError>
+    ensures { (earlier : List Statement) → Knows known.now earlier
+        → Gives result (call_line number earlier verb (map (λ x. x.now) words.now)) }
+{
+    some_actor(known)?;
+    let (word, rest) = first_word(words)?;
+    let socket = read_socket(known, word)?;
+    let call = read_call(alloc, verb, socket, rest)?;
+    Ok(Statement::Other(Line { number, call }))
+}
+
+/// What the line of this number and these words says.
+#[tactic(auto, unfolding(crate::specs::Grammar::statement_of, crate::specs::Grammar::said_by))]
+pub(crate) fn read_line(
+    alloc: Global,
+    number: u32,
+    known: &Known,
+    words: &[&[u8]],
+) -> Result<Statement, LineError>
+    ensures { (earlier : List Statement) → Knows known.now earlier
+        → Gives result (statement_of number earlier (map (λ x. x.now) words.now)) }
+{
+    let (word, rest) = first_word(words)?;
+    match Verb::read(word)? {
+        Verb::Actor => read_actor(alloc, known, rest),
+        Verb::Socket => read_new_socket(alloc, number, known, rest),
+        Verb::On(verb) => read_call_line(alloc, number, known, verb, rest),
+    }
+}

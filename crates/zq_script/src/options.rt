@@ -1,0 +1,63 @@
+ghost use Rattle.std.specs.Prelude.{◌≡◌, map};
+ghost use Rattle.zq_script.specs.Answer.{Gives};
+ghost use Rattle.zq_script.specs.SocketOption.{default_options, mark_of, with_option, with_options};
+
+use crate::fault::{Cause, LineError};
+use crate::number::number_in;
+use std::alloc::Global;
+use zq_base::{Octets, Options, Role, Seq};
+
+// The options of a socket that is given none.
+fn default_options(alloc: Global) -> Options
+    ensures { result ≡ default_options }
+{
+    Options {
+        hwm: 1000,
+        rcvhwm: 1000,
+        linger: -1,
+        reconnect: 100,
+        id: Octets::new(alloc),
+        mandatory: false,
+        verbose: false,
+        role: Role::Null,
+        logins: Seq::new(alloc),
+    }
+}
+
+// A mark, in messages.
+#[tactic(auto, unfolding(crate::specs::SocketOption::mark_of))]
+fn read_mark(word: &[u8]) -> Result<u32, LineError>
+    ensures { Gives result (mark_of word.now) }
+{
+    match number_in(1, 10000, word) {
+        Some(mark) => Ok(mark),
+        None => Err(LineError::Fault(Cause::BadWord)),
+    }
+}
+
+// The options with the one that the word gives.
+#[tactic(auto, unfolding(crate::specs::SocketOption::with_option))]
+fn with_option(options: Options, word: &[u8]) -> Result<Options, LineError>
+    ensures { Gives result (with_option word.now options) }
+{
+    if word.starts_with(b"hwm=") {
+        let hwm = read_mark(&word[4..])?;
+        return Ok(Options { hwm, ..options });
+    }
+    if word.starts_with(b"rcvhwm=") {
+        let rcvhwm = read_mark(&word[7..])?;
+        return Ok(Options { rcvhwm, ..options });
+    }
+    Err(LineError::Fault(Cause::BadWord))
+}
+
+/// The options that the words give.
+pub(crate) fn read_options(alloc: Global, words: &[&[u8]]) -> Result<Options, LineError>
+    ensures { Gives result (with_options (map (λ x. x.now) words.now) default_options) }
+{
+    let mut options = default_options(alloc);
+    for word in words {
+        options = with_option(options, word)?;
+    }
+    Ok(options)
+}

@@ -1,0 +1,32 @@
+use zq_base::{Endpoint, Kind, Message, Octets, Options, Seq};
+
+/// A script: its actors, in the order in which they begin.
+#[derive(Drop)]
+pub struct Script {
+    pub actors: Seq<ActorScript>,
+}
+
+/// An actor and its lines, in the script's order.
+#[derive(Drop)]
+pub struct ActorScript {
+    pub name: Octets,
+    pub lines: Seq<Line>,
+}
+
+/// A line that asks something: its number in the script, from 1, and what it asks.
+#[derive(Drop)]
+pub struct Line {
+    pub number: u32,
+    pub call: Call,
+}
+
+/// What a line asks. The first number names a socket of the actor: 0 is that of its first `socket`
+/// line. The second number of `Recv` is how often it is tried.
+#[derive(Drop)]
+pub enum Call {
+    Socket(Kind, Options),
+    Bind(u32, Endpoint),
+    Connect(u32, Endpoint),
+    Send(u32, Message),
+    Recv(u32, u32),
+}

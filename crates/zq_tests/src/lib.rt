@@ -1,0 +1,5 @@
+//! Tests that cross crates: the program's call over memory.
+#![tactic(auto)]
+
+#[cfg(test)]
+mod run;

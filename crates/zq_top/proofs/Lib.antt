@@ -1,0 +1,10 @@
+mod Sockets
+mod SendLines
+mod Steps
+mod SendMoves
+mod JoinMoves
+mod Loop
+mod Journals
+mod WritesOn
+mod Completes
+mod WordLemmas
