@@ -1,0 +1,2 @@
+pub mod EndpointBook
+pub mod View

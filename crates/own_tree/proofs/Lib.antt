@@ -1,0 +1,4 @@
+mod RowLemmas
+mod TallyLemmas
+mod EndingLemmas
+mod MakeLemmas

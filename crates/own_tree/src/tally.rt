@@ -1,0 +1,6 @@
+/// The children of an object, counted.
+#[derive(Clone, Copy, Debug)]
+pub(crate) struct Tally {
+    pub living: u64,
+    pub unnoted: u64,
+}

@@ -1,0 +1,10 @@
+pub mod FlagLemmas
+pub mod FrameLemmas
+pub mod GreetingLemmas
+pub mod MetadataLemmas
+pub mod CommandLemmas
+pub mod HandshakeLemmas
+pub mod CommandFacts
+pub mod RuleLemmas
+pub mod StreamLemmas
+pub mod StandardFacts

@@ -1,0 +1,10 @@
+pub mod FrameFlags
+pub mod FrameEncoding
+pub mod Greeting
+pub mod Metadata
+pub mod Decoding
+pub mod PeerMetadata
+pub mod OwnCommands
+pub mod Handshake
+pub mod FrameRules
+pub mod DecodedStream

@@ -1,0 +1,4 @@
+pub mod HeadView
+pub mod Reading
+pub mod Scanning
+pub mod ReaderView

@@ -1,0 +1,2 @@
+pub mod Mechanism
+pub mod Step
