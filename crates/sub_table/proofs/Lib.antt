@@ -1,0 +1,2 @@
+pub mod TopicsLemmas
+pub mod ViewLemmas

@@ -1,0 +1,4 @@
+pub mod Topics
+pub mod Wanted
+pub mod View
+pub mod Answers
