@@ -1,0 +1,50 @@
+use Rattle.std.proofs.Common.{◌≡◌, ◌<◌, ◌+◌, ℕ, cond, not, [], ◌∷◌, ◌++◌, length, take, get_or, vec_len, vec_capacity, sym, ap, subst, ◌∙◌, append-nil, arith}
+use Rattle.std.proofs.lemmas.Grind.{common_steps, elements}
+use Rattle.std.proofs.lemmas.List.{take_more}
+use Rattle.dist.specs.Distribution.{step_of}
+use Rattle.dist.proofs.DistributionLemmas.{Distributes-as}
+use Rattle.dist.proofs.sending.send_to.Goals as goal
+use Rattle.dist.proofs.sending.send_to.Goals.{then-put_at, else-put_at}
+
+pub places-preserved : goal.places-preserved
+places-preserved g c =
+    let inv = c.places.invariant in
+    let i = c.places.place-index in
+    let places = c.args.places.now in
+    let p : ℕ = get_or places i 0 in
+    let within : i < length places = omega arith in
+    let copy : c.unwrap-copy.result ≡ c.args.message = grind (arith, elements) in
+    let step : g.P.Peers.runs c.places.peers (step_of (g.P.Peers.end_at c.args.peers.now) c.args.message (record { place = p; room = c.put_at.result }) ∷ []) c.put_at.new.peers =
+    subst (λ ends. g.P.Peers.runs c.places.peers (step_of ends c.args.message (record { place = p; room = c.put_at.result }) ∷ []) c.put_at.new.peers) inv.ends
+    (subst (λ m. g.P.Peers.runs c.places.peers (step_of (g.P.Peers.end_at c.places.peers) m (record { place = p; room = c.put_at.result }) ∷ []) c.put_at.new.peers) copy c.put_at.ensures.runs) in
+    let sent = Distributes-as g.P.Peers.runs g.met.P.Peers.runs_on (g.P.Peers.end_at c.args.peers.now) c.args.message
+    c.args.peers.now c.places.peers c.put_at.new.peers (take i places) c.places.put.items c.places.full.items p c.put_at.result
+    (take (i + 1) places) c.if-put_at.put.items c.if-put_at.full.items inv.sent step (take_more places i 0 within) in
+    record {
+      sent = elim c.if-put_at.branch [
+        | then-put_at w ↦ sent
+            (ap (λ v. v.items) w.put-is ∙ w.push_reserved.ensures.items ∙ ap (λ b. c.places.put.items ++ cond b (p ∷ []) []) (sym w.if-put_at.true))
+            (ap (λ v. v.items) w.full-is ∙ sym (append-nil c.places.full.items) ∙ ap (λ b. c.places.full.items ++ cond (not b) (p ∷ []) []) (sym w.if-put_at.true))
+        | else-put_at w ↦ sent
+            (ap (λ v. v.items) w.put-is ∙ sym (append-nil c.places.put.items) ∙ ap (λ b. c.places.put.items ++ cond b (p ∷ []) []) (sym w.if-put_at.false))
+            (ap (λ v. v.items) w.full-is ∙ w.push_reserved-else-put_at.ensures.items ∙ ap (λ b. c.places.full.items ++ cond (not b) (p ∷ []) []) (sym w.if-put_at.false))
+      ];
+      copies = grind (arith, elements);
+      left = grind (arith, common_steps);
+      filled = elim c.if-put_at.branch [
+        | then-put_at w ↦ omega (arith, ap vec_len w.put-is, ap vec_len w.full-is, w.push_reserved.ensures.len)
+        | else-put_at w ↦ omega (arith, ap vec_len w.put-is, ap vec_len w.full-is, w.push_reserved-else-put_at.ensures.len)
+      ];
+      put_room = elim c.if-put_at.branch [
+        | then-put_at w ↦ omega (arith, ap vec_capacity w.put-is, w.push_reserved.ensures.capacity)
+        | else-put_at w ↦ omega (arith, ap vec_capacity w.put-is)
+      ];
+      full_room = elim c.if-put_at.branch [
+        | then-put_at w ↦ omega (arith, ap vec_capacity w.full-is)
+        | else-put_at w ↦ omega (arith, ap vec_capacity w.full-is, w.push_reserved-else-put_at.ensures.capacity)
+      ];
+      places = c.put_at.ensures.places ∙ inv.places;
+      ends = c.put_at.ensures.ends ∙ inv.ends;
+      writable = c.put_at.ensures.writable ∙ inv.writable;
+      readings = c.put_at.ensures.readings ∙ inv.readings;
+    }

@@ -1,0 +1,247 @@
+-- What a call adds to the past.
+use Rattle.std.proofs.Common.{◌≡◌, ℕ, ◌+◌, ◌<◌, ◌≤◌, Bool, true, false, cond, eqb, List, [], ◌∷◌, ◌++◌, length, take, drop, Option, Some, None, refl, sym, ap, subst, ◌∙◌, append_assoc, arith}
+use Rattle.std.specs.Prelude.{◌&&◌, is_none, IsSome}
+use Rattle.std.specs.List.{flat_map}
+use Rattle.std.proofs.lemmas.Bool.{eqb-true, eqb-false, eq-eqb, lt-ltb, le-ltb}
+use Rattle.std.proofs.lemmas.List.{length-append, length-drop, append-nil, drop-append-le, drop-drop, drop_all, take-append-drop}
+use Rattle.std.proofs.lemmas.List.Concat.{flat_map-append}
+use Rattle.zq_base.specs.declared.options.EngineOpts.{EngineOpts}
+use Rattle.zq_base.specs.declared.options.Peer.{Peer}
+use Rattle.spec_zmtp.specs.declared.cause.Refusal.{Refusal}
+use Rattle.spec_zmtp.specs.declared.greeting.Judgement.TheVariants.{Good}
+use Rattle.spec_zmtp.specs.FrameEncoding.{encode_message}
+use Rattle.spec_zmtp.specs.Greeting.{greeting_of, judged, refusal_in}
+use Rattle.spec_zmtp.proofs.StreamLemmas.{judged_stays}
+use Rattle.zmtp_engine.specs.Hearing.{Hearing, Hears, HearsAt, Grows}
+use Rattle.zmtp_engine.specs.Listening.{Listening, Greeted, ListensTo, ListensAt, is_greeted, said_now}
+use Rattle.zmtp_engine.specs.Conversation.{Past, Conversation, Follows, fed, gave, took, wrote, lent}
+use Rattle.zmtp_engine.proofs.Judging.{long_judged}
+use Rattle.zmtp_engine.proofs.Meaning.{HeardNothing, heard_nothing, said_at, greeting_said, length-greeting_of}
+
+-- ---- what is said
+
+greeted_facts : (f : Option Refusal) (n : ℕ) → (is_none f && eqb n 64) ≡ true → (f ≡ None) × (n ≡ 64)
+greeted_facts None n e = (refl, eqb-true n 64 e)
+greeted_facts (Some r) n e = absurd cc
+
+not_greeted : (f : Option Refusal) (n : ℕ) → (is_none f && eqb n 64) ≡ false → f ≡ None → n ≡ 64 → ⊥
+not_greeted None n e none is = eqb-false n 64 e is
+not_greeted (Some r) n e none is = absurd cc
+
+is_greeted_by : (f : Option Refusal) (n : ℕ) → f ≡ None → n ≡ 64 → (is_none f && eqb n 64) ≡ true
+is_greeted_by f n none is = ap (λ (x : Option Refusal). is_none x && eqb n 64) none ∙ eq-eqb n 64 is
+
+hears_at : (opts : EngineOpts) (octets : List ℕ) (given : List (List (List ℕ))) (l : Listening) (f : Option Refusal) → ListensAt opts octets given l f → (o : List ℕ) × Hears opts o given l.hearing
+hears_at opts octets given l None g = (g.more, g.hears)
+hears_at opts octets given l (Some f) s = ([], s.hears)
+
+hears_some : (opts : EngineOpts) (octets : List ℕ) (given : List (List (List ℕ))) (l : Listening) → ListensTo opts octets given l → (o : List ℕ) × Hears opts o given l.hearing
+hears_some opts octets given l k = hears_at opts octets given l l.fault k
+
+pub said_long : (opts : EngineOpts) (octets : List ℕ) (given : List (List (List ℕ))) (l : Listening) → ListensTo opts octets given l → 64 ≤ length l.hearing.said
+said_long opts octets given l k =
+    let h = hears_some opts octets given l k in
+    let s = said_at opts h.0 given l.hearing l.hearing.refused h.1 in
+    omega (arith, ap (λ (x : List ℕ). length x) s.1, length-append (greeting_of opts.role) s.0, length-greeting_of opts.role)
+
+nothing_yet_at : (opts : EngineOpts) (octets : List ℕ) (given : List (List (List ℕ))) (l : Listening) (f : Option Refusal) → l.fault ≡ f → ListensAt opts octets given l f → is_greeted l ≡ false → HeardNothing given l.hearing
+nothing_yet_at opts octets given l None none g early =
+    heard_nothing opts given l.hearing (subst (λ (o : List ℕ). Hears opts o given l.hearing) (g.short (let ne = not_greeted l.fault (length l.greeting) early none in omega (arith, g.fits, ne))) g.hears)
+nothing_yet_at opts octets given l (Some f) some s early = heard_nothing opts given l.hearing s.hears
+
+stays_at : (opts : EngineOpts) (octets more : List ℕ) (given given' : List (List (List ℕ))) (l new : Listening) (f : Option Refusal) → new.fault ≡ f → ListensAt opts (octets ++ more) given' new f → ListensTo opts octets given l → is_greeted l ≡ true → is_greeted new ≡ true
+stays_at opts octets more given given' l new None none g k is =
+    let facts = greeted_facts l.fault (length l.greeting) is in
+    let old : Greeted opts octets given l = subst (λ (f : Option Refusal). ListensAt opts octets given l f) facts.0 k in
+    let long : length new.greeting < 64 → ⊥ = λ lt.
+    omega (arith, lt, facts.1, ap (λ (x : List ℕ). length x) old.all, length-append l.greeting old.more, ap (λ (x : List ℕ). length x) g.all, length-append octets more, length-append new.greeting g.more, ap (λ (x : List ℕ). length x) (g.short lt)) in
+    is_greeted_by new.fault (length new.greeting) none (omega (arith, g.fits, long))
+stays_at opts octets more given given' l new (Some f) some s k is =
+    let facts = greeted_facts l.fault (length l.greeting) is in
+    let old : Greeted opts octets given l = subst (λ (f : Option Refusal). ListensAt opts octets given l f) facts.0 k in
+    let good : judged opts.role (l.greeting ++ (old.more ++ more)) ≡ Good = judged_stays opts l.greeting (old.more ++ more) Good (long_judged opts.role l.greeting old.fine (omega (arith, facts.1))) (λ e. absurd cc) in
+    let same : l.greeting ++ (old.more ++ more) ≡ s.front ++ s.rest = sym (ap (λ (x : List ℕ). x ++ more) old.all ∙ append_assoc l.greeting old.more more) ∙ s.all in
+    let bad : judged opts.role (s.front ++ s.rest) ≡ judged opts.role s.front = judged_stays opts s.front s.rest (judged opts.role s.front) refl (λ e. let both : None ≡ Some f = sym (ap refusal_in e) ∙ s.bad in absurd cc) in
+    let both : None ≡ Some f = ap refusal_in (sym good ∙ ap (λ (x : List ℕ). judged opts.role x) same ∙ bad) ∙ s.bad in
+    absurd cc
+
+stays_greeted : (opts : EngineOpts) (octets more : List ℕ) (given given' : List (List (List ℕ))) (l new : Listening) → ListensTo opts octets given l → ListensTo opts (octets ++ more) given' new → is_greeted l ≡ true → is_greeted new ≡ true
+stays_greeted opts octets more given given' l new k j is = stays_at opts octets more given given' l new new.fault refl j k is
+
+-- what is said goes on at its end, and not once the peer is known
+record SaidOn (l new : Listening) : Type 0 where
+  extra : List ℕ
+  said : said_now new ≡ said_now l ++ extra
+  quiet : IsSome l.hearing.peer → (extra ≡ []) × (new.hearing.peer ≡ l.hearing.peer)
+
+said_if : (b : Bool) (l : Listening) → is_greeted l ≡ b → said_now l ≡ cond b l.hearing.said (take 64 l.hearing.said)
+said_if b l e = ap (λ (x : Bool). cond x l.hearing.said (take 64 l.hearing.said)) e
+
+no_peer : (p : Option Peer) → p ≡ None → IsSome p → ⊥
+no_peer p e some = let s : IsSome {T = Peer} None = subst (λ (q : Option Peer). IsSome q) e some in absurd cc
+
+said_on_at : (opts : EngineOpts) (octets more : List ℕ) (given given' : List (List (List ℕ))) (l new : Listening) (b b' : Bool) → is_greeted l ≡ b → is_greeted new ≡ b' → ListensTo opts octets given l → ListensTo opts (octets ++ more) given' new → Grows l.hearing new.hearing → SaidOn l new
+said_on_at opts octets more given given' l new true true e e' k j g = record {
+  extra = g.more;
+  said = said_if true new e' ∙ g.said ∙ ap (λ (x : List ℕ). x ++ g.more) (sym (said_if true l e));
+  quiet = g.quiet;
+}
+said_on_at opts octets more given given' l new true false e e' k j g = let both : true ≡ false = sym (stays_greeted opts octets more given given' l new k j e) ∙ e' in absurd cc
+said_on_at opts octets more given given' l new false true e e' k j g =
+    let h = hears_some opts octets given l k in
+    let h' = hears_some opts (octets ++ more) given' new j in
+    let s = said_at opts h'.0 given' new.hearing new.hearing.refused h'.1 in
+    let n = nothing_yet_at opts octets given l l.fault refl k e in
+    record {
+      extra = s.0;
+      said = said_if true new e' ∙ s.1 ∙ ap (λ (x : List ℕ). x ++ s.0) (sym (said_if false l e ∙ greeting_said opts h.0 given l.hearing h.1));
+      quiet = λ some. absurd (no_peer l.hearing.peer n.peer some);
+    }
+said_on_at opts octets more given given' l new false false e e' k j g =
+    let h = hears_some opts octets given l k in
+    let h' = hears_some opts (octets ++ more) given' new j in
+    let n = nothing_yet_at opts octets given l l.fault refl k e in
+    record {
+      extra = [];
+      said = said_if false new e' ∙ greeting_said opts h'.0 given' new.hearing h'.1 ∙ sym (said_if false l e ∙ greeting_said opts h.0 given l.hearing h.1) ∙ sym (append-nil (said_now l));
+      quiet = λ some. absurd (no_peer l.hearing.peer n.peer some);
+    }
+
+said_on : (opts : EngineOpts) (octets more : List ℕ) (given given' : List (List (List ℕ))) (l new : Listening) → ListensTo opts octets given l → ListensTo opts (octets ++ more) given' new → Grows l.hearing new.hearing → SaidOn l new
+said_on opts octets more given given' l new k j g = said_on_at opts octets more given given' l new (is_greeted l) (is_greeted new) refl refl k j g
+
+-- ---- a feed
+
+all_quiet : (written said x y said' extra : List ℕ) (at : ℕ) → at ≤ length said → x ≡ [] → y ≡ [] → written ++ (drop at said ++ x) ≡ said ++ y → said' ≡ said ++ extra → written ++ (drop at said' ++ x) ≡ said' ++ y
+all_quiet written said x y said' extra at le ex ey all grown =
+    let base : written ++ drop at said ≡ said = ap (λ (l : List ℕ). written ++ l) (sym (append-nil (drop at said)) ∙ ap (λ (l : List ℕ). drop at said ++ l) (sym ex)) ∙ all ∙ ap (λ (l : List ℕ). said ++ l) ey ∙ append-nil said in
+    let left : written ++ (drop at (said ++ extra) ++ x) ≡ said ++ extra =
+    ap (λ (l : List ℕ). written ++ (l ++ x)) (drop-append-le at said extra le) ∙ ap (λ (l : List ℕ). written ++ ((drop at said ++ extra) ++ l)) ex ∙ ap (λ (l : List ℕ). written ++ l) (append-nil (drop at said ++ extra))
+    ∙ sym (append_assoc written (drop at said) extra) ∙ ap (λ (l : List ℕ). l ++ extra) base in
+    ap (λ (s : List ℕ). written ++ (drop at s ++ x)) grown ∙ left ∙ sym grown ∙ sym (ap (λ (l : List ℕ). said' ++ l) ey ∙ append-nil said')
+
+record OutAll (p : Past) (c : Conversation) (l : Listening) : Type 0 where
+  all : p.written ++ (drop c.at (said_now l) ++ (c.piece ++ c.later)) ≡ said_now l ++ flat_map encode_message p.offered
+  idle : l.hearing.peer ≡ None → (p.offered ≡ []) × ((c.piece ≡ []) × (c.later ≡ []))
+
+feeds_at : (p : Past) (c : Conversation) (l : Listening) (q : Option Peer) → c.listening.hearing.peer ≡ q → Follows p c → SaidOn c.listening l → OutAll p c l
+feeds_at p c l None none f s =
+    let i = f.idle none in
+    let x : c.piece ++ c.later ≡ [] = ap (λ (a : List ℕ). a ++ c.later) i.1.0 ∙ i.1.1 in
+    let y : flat_map encode_message p.offered ≡ [] = ap (λ (ms : List (List (List ℕ))). flat_map encode_message ms) i.0 in
+    record {
+      all = all_quiet p.written (said_now c.listening) (c.piece ++ c.later) (flat_map encode_message p.offered) (said_now l) s.extra c.at f.within x y f.all s.said;
+      idle = λ e. i;
+    }
+feeds_at p c l (Some q) some f s =
+    let quiet = s.quiet (subst (λ (o : Option Peer). IsSome o) (sym some) refl) in
+    let same : said_now l ≡ said_now c.listening = s.said ∙ ap (λ (x : List ℕ). said_now c.listening ++ x) quiet.0 ∙ append-nil (said_now c.listening) in
+    record {
+      all = subst (λ (x : List ℕ). p.written ++ (drop c.at x ++ (c.piece ++ c.later)) ≡ x ++ flat_map encode_message p.offered) (sym same) f.all;
+      idle = λ e. let both : None ≡ Some q = sym e ∙ quiet.1 ∙ some in absurd cc;
+    }
+
+pub feeds : (p : Past) (octets : List ℕ) (c : Conversation) (l : Listening) → Follows p c → ListensTo p.opts (p.heard ++ octets) p.given l → Grows c.listening.hearing l.hearing → Follows (fed octets p) (record c { listening = l })
+feeds p octets c l f j g =
+    let s = said_on p.opts p.heard octets p.given p.given c.listening l f.listens j g in
+    let o = feeds_at p c l c.listening.hearing.peer refl f s in
+    record {
+      listens = j;
+      within = omega (arith, f.within, ap (λ (x : List ℕ). length x) s.said, length-append (said_now c.listening) s.extra);
+      all = o.all;
+      idle = o.idle;
+    }
+
+-- ---- a message taken out
+
+gave_at : (opts : EngineOpts) (octets : List ℕ) (given rest : List (List (List ℕ))) (m : List (List ℕ)) (h : Hearing) (r : Option Refusal) → h.queue ≡ m ∷ rest → HearsAt opts octets given h r → HearsAt opts octets (given ++ m ∷ []) (record h { queue = rest }) r
+gave_at opts octets given rest m h None q l = record {
+  frames = l.frames;
+  rest = l.rest;
+  all = l.all;
+  keep = l.keep;
+  shaken = record { opts_is = l.shaken.opts_is; said = l.shaken.said; peer = l.shaken.peer };
+  stage = l.stage;
+  unrefused = l.unrefused;
+  parts = l.parts;
+  whole = l.whole ∙ ap (λ (x : List (List (List ℕ))). given ++ x) q ∙ sym (append_assoc given (m ∷ []) rest);
+  offset = l.offset;
+  begun = l.begun;
+  earlier = l.earlier;
+  begins = l.begins;
+}
+gave_at opts octets given rest m h (Some r) q s = record {
+  frames = s.frames;
+  rest = s.rest;
+  items = s.items;
+  all = s.all;
+  keep = s.keep;
+  breaks = s.breaks;
+  shaken = record { opts_is = s.shaken.opts_is; said = s.shaken.said; peer = s.shaken.peer };
+  whole = s.whole ∙ ap (λ (x : List (List (List ℕ))). given ++ x) q ∙ sym (append_assoc given (m ∷ []) rest);
+  offset = s.offset;
+}
+
+gave_listens : (opts : EngineOpts) (octets : List ℕ) (given rest : List (List (List ℕ))) (m : List (List ℕ)) (l : Listening) (f : Option Refusal) → l.hearing.queue ≡ m ∷ rest → ListensAt opts octets given l f → ListensAt opts octets (given ++ m ∷ []) (record l { hearing = record l.hearing { queue = rest } }) f
+gave_listens opts octets given rest m l None q g = record { more = g.more; all = g.all; fine = g.fine; fits = g.fits; short = g.short; hears = gave_at opts g.more given rest m l.hearing l.hearing.refused q g.hears; role = g.role }
+gave_listens opts octets given rest m l (Some f) q s = record { front = s.front; rest = s.rest; all = s.all; bad = s.bad; hears = gave_at opts [] given rest m l.hearing l.hearing.refused q s.hears; role = s.role }
+
+pub gives : (p : Past) (m : List (List ℕ)) (rest : List (List (List ℕ))) (c : Conversation) → c.listening.hearing.queue ≡ m ∷ rest → Follows p c → Follows (gave m p) (record c { listening = record c.listening { hearing = record c.listening.hearing { queue = rest } } })
+gives p m rest c q f = record { listens = gave_listens p.opts p.heard p.given rest m c.listening c.listening.fault q f.listens; within = f.within; all = f.all; idle = f.idle }
+
+-- ---- a message taken in
+
+pub takes : (p : Past) (m : List (List ℕ)) (piece later : List ℕ) (c : Conversation) → IsSome c.listening.hearing.peer → c.piece ≡ [] → c.later ≡ [] → piece ++ later ≡ encode_message m → Follows p c → Follows (took m p) (record c { piece = piece; later = later })
+takes p m piece later c some np nl is f =
+    let said : List ℕ = said_now c.listening in
+    let sent : List ℕ = flat_map encode_message p.offered in
+    let none : c.piece ++ c.later ≡ [] = ap (λ (a : List ℕ). a ++ c.later) np ∙ nl in
+    let base : p.written ++ drop c.at said ≡ said ++ sent = ap (λ (l : List ℕ). p.written ++ l) (sym (append-nil (drop c.at said)) ∙ ap (λ (l : List ℕ). drop c.at said ++ l) (sym none)) ∙ f.all in
+    let more : flat_map encode_message (p.offered ++ m ∷ []) ≡ sent ++ encode_message m = flat_map-append encode_message p.offered (m ∷ []) ∙ ap (λ (l : List ℕ). sent ++ l) (append-nil (encode_message m)) in
+    record {
+      listens = f.listens;
+      within = f.within;
+      all = ap (λ (l : List ℕ). p.written ++ (drop c.at said ++ l)) is ∙ sym (append_assoc p.written (drop c.at said) (encode_message m)) ∙ ap (λ (l : List ℕ). l ++ encode_message m) base ∙ append_assoc said sent (encode_message m) ∙ ap (λ (l : List ℕ). said ++ l) (sym more);
+      idle = λ e. absurd (no_peer c.listening.hearing.peer e some);
+    }
+
+-- ---- octets written
+
+pub lent_said : (c : Conversation) → c.at < length (said_now c.listening) → lent c ≡ drop c.at (said_now c.listening)
+lent_said c lt = ap (λ (b : Bool). cond b (drop c.at (said_now c.listening)) c.piece) (lt-ltb c.at (length (said_now c.listening)) lt)
+
+pub lent_piece : (c : Conversation) → length (said_now c.listening) ≤ c.at → lent c ≡ c.piece
+lent_piece c le = ap (λ (b : Bool). cond b (drop c.at (said_now c.listening)) c.piece) (le-ltb c.at (length (said_now c.listening)) le)
+
+pub writes_said : (p : Past) (n : ℕ) (c : Conversation) → c.at < length (said_now c.listening) → n ≤ length (lent c) → Follows p c → Follows (wrote (take n (lent c)) p) (record c { at = c.at + n })
+writes_said p n c lt le f =
+    let said : List ℕ = said_now c.listening in
+    let is = lent_said c lt in
+    let rest : List ℕ = c.piece ++ c.later in
+    let split : take n (lent c) ++ drop (c.at + n) said ≡ drop c.at said = ap (λ (l : List ℕ). take n l ++ drop (c.at + n) said) is ∙ ap (λ (l : List ℕ). take n (drop c.at said) ++ l) (sym (drop-drop n c.at said)) ∙ take-append-drop n (drop c.at said) in
+    record {
+      listens = f.listens;
+      within = omega (arith, le, ap (λ (l : List ℕ). length l) is, length-drop c.at said, lt);
+      all = append_assoc p.written (take n (lent c)) (drop (c.at + n) said ++ rest) ∙ ap (λ (l : List ℕ). p.written ++ l) (sym (append_assoc (take n (lent c)) (drop (c.at + n) said) rest) ∙ ap (λ (l : List ℕ). l ++ rest) split) ∙ f.all;
+      idle = f.idle;
+    }
+
+both_none : (a b : List ℕ) → a ++ b ≡ [] → (a ≡ []) × (b ≡ [])
+both_none [] b e = (refl, e)
+both_none (x ∷ a) b e = absurd cc
+
+pub writes_piece : (p : Past) (n : ℕ) (piece later : List ℕ) (c : Conversation) → length (said_now c.listening) ≤ c.at → piece ++ later ≡ drop n c.piece ++ c.later → Follows p c → Follows (wrote (take n (lent c)) p) (record c { piece = piece; later = later })
+writes_piece p n piece later c le is f =
+    let said : List ℕ = said_now c.listening in
+    let none : drop c.at said ≡ [] = drop_all c.at said le in
+    let split : take n (lent c) ++ (piece ++ later) ≡ c.piece ++ c.later =
+    ap (λ (l : List ℕ). take n l ++ (piece ++ later)) (lent_piece c le) ∙ ap (λ (l : List ℕ). take n c.piece ++ l) is ∙ sym (append_assoc (take n c.piece) (drop n c.piece) c.later) ∙ ap (λ (l : List ℕ). l ++ c.later) (take-append-drop n c.piece) in
+    record {
+      listens = f.listens;
+      within = f.within;
+      all = ap (λ (l : List ℕ). (p.written ++ take n (lent c)) ++ (l ++ (piece ++ later))) none ∙ append_assoc p.written (take n (lent c)) (piece ++ later) ∙ ap (λ (l : List ℕ). p.written ++ l) split ∙ ap (λ (l : List ℕ). p.written ++ (l ++ (c.piece ++ c.later))) (sym none) ∙ f.all;
+      idle = λ e.
+          let i = f.idle e in
+          let over = both_none (take n (lent c)) (piece ++ later) (split ∙ ap (λ (a : List ℕ). a ++ c.later) i.1.0 ∙ i.1.1) in
+          (i.0, both_none piece later over.1);
+    }

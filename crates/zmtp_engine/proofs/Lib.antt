@@ -1,0 +1,13 @@
+pub mod Verdicts
+pub mod Bounds
+pub mod Steps
+pub mod Ends
+pub mod Commands
+pub mod Feeds
+pub mod Greetings
+pub mod Judging
+pub mod Meaning
+pub mod SendingLemmas
+pub mod Conversations
+pub mod Calls
+pub mod Exchanges

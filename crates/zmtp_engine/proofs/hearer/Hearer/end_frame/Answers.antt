@@ -1,0 +1,9 @@
+use Rattle.zmtp_engine.specs.HearerView.{hearing_of}
+use Rattle.zmtp_engine.proofs.Commands.{same_grows, on_ok}
+use Rattle.zmtp_engine.proofs.hearer.Hearer.end_frame.Goals as goal
+
+pub returns-in-More-clause-grows : goal.returns-in-More-clause-grows
+returns-in-More-clause-grows c = on_ok c.end_part.result _ (same_grows (hearing_of c.args.self.now) (hearing_of c.end_part.new.self) c.end_part.ensures.said c.end_part.ensures.peer)
+
+pub returns-in-Last-clause-grows : goal.returns-in-Last-clause-grows
+returns-in-Last-clause-grows c = on_ok c.end_message.result _ (same_grows (hearing_of c.args.self.now) (hearing_of c.end_message.new.self) c.end_message.ensures.said c.end_message.ensures.peer)

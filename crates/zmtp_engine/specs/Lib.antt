@@ -1,0 +1,11 @@
+pub mod Hearing
+pub mod Verdict
+pub mod HearerView
+pub mod Listening
+pub mod ListenerView
+pub mod Sending
+pub mod SendingView
+pub mod Conversation
+pub mod Answers
+pub mod EngineView
+pub mod Exchange

@@ -1,0 +1,20 @@
+//! A peer's stream of octets to messages, and messages to octets: ZMTP 3.0 without input or output.
+#![tactic(auto)]
+
+mod answers;
+mod ending;
+mod engine;
+mod hearer;
+mod laws;
+mod listener;
+mod say;
+mod sending;
+mod want;
+
+pub use answers::{Offered, State};
+pub use engine::Engine;
+pub use laws::{what_is_written_means_what_was_offered, what_one_writes_another_hears};
+pub use want::OutOfMemory;
+
+#[cfg(test)]
+mod tests;
