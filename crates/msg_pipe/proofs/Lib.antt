@@ -1,3 +1,4 @@
 pub mod PlainPipeLemmas
 pub mod PlainPipesLemmas
 pub mod NearSteps
+pub mod TurnListLemmas

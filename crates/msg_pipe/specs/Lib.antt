@@ -10,3 +10,4 @@ pub mod PlainPipes
 pub mod PlainFits
 pub mod PlainPeers
 pub mod PlainSteps
+pub mod Turns

@@ -3,7 +3,7 @@ use Rattle.std.specs.Prelude.{◌≡◌, ◌++◌, List, [], ◌∷◌, true, fa
 use mathlib.Core.List.{IsPrefix}
 use Rattle.zq_base.specs.Message.{Frames}
 use Rattle.spec_pattern.specs.declared.pipe_id.PipeId.{PipeId}
-use Rattle.spec_pattern.specs.PipeStep.{PipeStep, Commit, FullLook, Take, EmptyLook}
+use Rattle.spec_pattern.specs.PipeStep.{PipeStep, Commit, FullLook, Take, EmptyLook, DelimiterLook}
 use Rattle.spec_pattern.specs.Pipe.{Pipe, StandsFull, StandsEmpty, StandsAtDelimiter}
 use Rattle.spec_pattern.specs.Half.{Writing, Reading, without_parts, Commits, IsFull, Takes, IsEmpty, IsAtDelimiter}
 use Rattle.msg_pipe.specs.declared.pipes.PutIn.{PutIn}
@@ -34,11 +34,11 @@ abbrev pub put_steps : PipeId → Frames → PutIn → List PipeStep
 put_steps p m put.Ok = Commit p m ∷ []
 put_steps p m (put.Full back) = FullLook p ∷ []
 
--- the step of a take at the pipe; a look that finds the delimiter is none
+-- the step of a take at the pipe
 abbrev pub take_steps : PipeId → Taken → List PipeStep
 take_steps p (Item m) = Take p m ∷ []
 take_steps p Empty = EmptyLook p ∷ []
-take_steps p Delimiter = []
+take_steps p Delimiter = DelimiterLook p ∷ []
 
 -- what an exact look of a take saw: all that was committed, and whether the delimiter stands behind it
 pub record SeesAll (v : Writing) (found : Taken) (w : Reading) : Type 0 where

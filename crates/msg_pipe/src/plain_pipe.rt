@@ -46,7 +46,7 @@ impl PlainPipe {
     ghost use Rattle.msg_pipe.specs.PlainPipe.{plain_writing, plain_reading, plain_taken, plain_committed};
 
     /// A pipe with room for so many messages.
-    pub(crate) fn new(alloc: Global, capacity: usize) -> Result<PlainPipe, AllocError>
+    pub fn new(alloc: Global, capacity: usize) -> Result<PlainPipe, AllocError>
         ensures writing { IfOk result (λ p. plain_writing p ≡ fresh_writing capacity) }
         ensures reading { IfOk result (λ p. plain_reading p ≡ fresh_reading) }
     {
@@ -111,11 +111,12 @@ impl PlainPipe {
         self.parts.clear();
     }
 
-    pub(crate) fn put(&mut self, message: Message) -> PutIn
-        requires open { self.old.sealed ≡ false }
+    /// Commits a message, or finds the pipe full.
+    pub fn put(&mut self, message: Message) -> PutIn
+        requires open { (plain_writing self.old).sealed ≡ false }
         requires whole { IsCommittable message }
         ensures put { Puts (plain_writing self.old) message result (plain_writing self.new) }
-        ensures exact { self.new.freed ≡ length (plain_taken self.old) }
+        ensures exact { (plain_writing self.new).freed ≡ length (plain_taken self.old) }
         ensures reading { plain_reading self.new ≡ plain_reading self.old }
     {
         self.freed = self.taken;
@@ -128,14 +129,16 @@ impl PlainPipe {
         PutIn::Ok
     }
 
-    pub(crate) fn seal(&mut self)
+    /// Writes the delimiter, behind all that was committed.
+    pub fn seal(&mut self)
         ensures seals { plain_writing self.new ≡ with_delimiter (plain_writing self.old) }
         ensures reading { plain_reading self.new ≡ plain_reading self.old }
     {
         self.sealed = true;
     }
 
-    pub(crate) fn take(&mut self) -> Taken
+    /// Takes the oldest message.
+    pub fn take(&mut self) -> Taken
         ensures take { Finds (plain_reading self.old) result (plain_reading self.new) }
         ensures exact { SeesAll (plain_writing self.old) result (plain_reading self.new) }
         ensures writing { plain_writing self.new ≡ plain_writing self.old }
@@ -167,8 +170,21 @@ impl PlainPipe {
         Taken::Empty
     }
 
+    /// The counts so far: the messages committed, taken and left.
+    pub fn counts(&self) -> Settled
+        ensures sent { result.sent ≡ length (plain_committed self.now) }
+        ensures got { result.got ≡ length (plain_taken self.now) }
+        ensures rest { result.rest ≡ result.sent - result.got }
+    {
+        Settled {
+            sent: self.committed,
+            got: self.taken,
+            rest: self.committed - self.taken,
+        }
+    }
+
     /// Tells the counts, and gives the memory back with the messages that are left.
-    pub(crate) fn settle(&mut self) -> Settled
+    pub fn settle(&mut self) -> Settled
         ensures sent { result.sent ≡ length (plain_committed self.old) }
         ensures got { result.got ≡ length (plain_taken self.old) }
         ensures rest { result.rest ≡ result.sent - result.got }

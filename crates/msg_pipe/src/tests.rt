@@ -190,3 +190,48 @@ fn peers_put_and_take_at_their_place(rt: HostRuntime) -> Result<(), Fail> {
     assert_eq!(rt; [peers.can_write(0), peers.can_write(1)], [false, true]);
     Ok(())
 }
+
+#[test]
+fn a_pipe_by_itself_tells_its_counts(rt: HostRuntime) -> Result<(), Fail> {
+    let mut pipe = PlainPipe::new(rt.alloc(), 2)?;
+    let first = message(rt.alloc(), b"ab")?;
+    let second = message(rt.alloc(), b"c")?;
+    match pipe.put(first) {
+        PutIn::Ok => {}
+        PutIn::Full(_back) => Err("there is room")?,
+    }
+    match pipe.put(second) {
+        PutIn::Ok => {}
+        PutIn::Full(_back) => Err("there is room for two")?,
+    }
+    pipe.seal();
+    match pipe.take() {
+        Taken::Item(m) => {
+            assert_eq!(rt; octets(rt.alloc(), &m)?.as_slice(), b"ab".as_slice());
+        }
+        _other => Err("the first is there")?,
+    }
+    assert_eq!(rt;
+        pipe.settle(),
+        Settled {
+            sent: 2,
+            got: 1,
+            rest: 1
+        }
+    );
+    Ok(())
+}
+
+#[test]
+fn those_that_served_go_to_the_back(rt: HostRuntime) -> Result<(), Fail> {
+    let mut turns = TurnList::new(rt.alloc());
+    turns.add(3)?;
+    turns.add(5)?;
+    turns.add(7)?;
+    turns.add(9)?;
+    turns.serve(1);
+    assert_eq!(rt; turns.as_slice(), [7, 9, 3, 5].as_slice());
+    turns.remove(9);
+    assert_eq!(rt; turns.as_slice(), [7, 3, 5].as_slice());
+    Ok(())
+}

@@ -7,11 +7,13 @@ use mathlib.Core.List.{IsPrefix}
 use Rattle.zq_base.specs.Message.{Frames}
 use Rattle.spec_pattern.specs.declared.pipe_id.PipeId.{PipeId}
 use Rattle.spec_pattern.specs.PipeStep.{committed_to, taken_from, taken_by, TakesInOrder}
-use Rattle.spec_journal.specs.Run.{Doing, Run, steps_of}
+use Rattle.spec_journal.specs.Turn.{Doing}
+use Rattle.spec_journal.specs.Run.{Schedule, Run, doings_of, steps_of}
 use Rattle.spec_journal.specs.declared.journal.PipeRow.{PipeRow}
 use Rattle.spec_journal.specs.declared.journal.Journal.{Journal}
 use Rattle.zq_script.specs.declared.script.Script.{Script}
-use Rattle.spec_journal.specs.Net.{Joined, end_a, end_b}
+use Rattle.spec_journal.specs.declared.journal.Joined.{Joined}
+use Rattle.spec_journal.specs.Net.{end_a, end_b}
 use Rattle.spec_journal.specs.Printed.{IsJournalOf, rows_from, journal_of}
 use Rattle.spec_journal.specs.Disposition.{row_of, Disposition, Given, Heard, Dropped, Written, Lost, Rest, AllEnd, told_by, taken_as, dispositions, is_given, is_heard, is_dropped, is_written, is_lost, is_rest}
 
@@ -36,17 +38,17 @@ few_taken : (taken committed : List Frames) → IsPrefix taken committed → len
 few_taken taken committed (rest, whole) = let split : length (taken ++ rest) ≡ length taken + length rest = length-append taken rest in
     let e : length (taken ++ rest) ≡ length committed = ap length whole in omega (arith, split, e)
 
-one_end : (run : Run) (p : PipeId) → IsPrefix (taken_from p (steps_of run.doings)) (committed_to p (steps_of run.doings))
-    → length (dispositions run p) ≡ length (committed_to p (steps_of run.doings))
+one_end : (run : Run) (p : PipeId) → IsPrefix (taken_from p (steps_of (doings_of run))) (committed_to p (steps_of (doings_of run)))
+    → length (dispositions run p) ≡ length (committed_to p (steps_of (doings_of run)))
 one_end run p taken =
-    let told = one_each p run.doings in
-    let few = few_taken (taken_from p (steps_of run.doings)) (committed_to p (steps_of run.doings)) taken in
-    let left = length-replicate (length (committed_to p (steps_of run.doings)) - length (taken_from p (steps_of run.doings))) Rest in
-    let both = length-append (flat_map (told_by p) run.doings) (replicate (length (committed_to p (steps_of run.doings)) - length (taken_from p (steps_of run.doings))) Rest) in
+    let told = one_each p (doings_of run) in
+    let few = few_taken (taken_from p (steps_of (doings_of run))) (committed_to p (steps_of (doings_of run))) taken in
+    let left = length-replicate (length (committed_to p (steps_of (doings_of run))) - length (taken_from p (steps_of (doings_of run)))) Rest in
+    let both = length-append (flat_map (told_by p) (doings_of run)) (replicate (length (committed_to p (steps_of (doings_of run))) - length (taken_from p (steps_of (doings_of run)))) Rest) in
     omega (arith, told, few, left, both)
 
 -- each message committed to the pipe has one end
-pub all_end : (run : Run) → TakesInOrder (steps_of run.doings) → (p : PipeId) → AllEnd run p
+pub all_end : (run : Run) → TakesInOrder (steps_of (doings_of run)) → (p : PipeId) → AllEnd run p
 all_end run taken p = record { each = one_end run p (taken p); sum = counted_once (dispositions run p) }
 
 -- the counts of each row add up
@@ -61,7 +63,7 @@ rows_from_add_up run n (pair ∷ pairs) =
     All-cons AddsUp a (b ∷ rows_from run (n + 1) pairs) (counted_once (dispositions run (end_a n)))
     (All-cons AddsUp b (rows_from run (n + 1) pairs) (counted_once (dispositions run (end_b n))) (rows_from_add_up run (n + 1) pairs))
 
-pub rows_add_up : (script : Script) (j : Journal) → IsJournalOf script j → (row : PipeRow) → Contains j.pipes row → AddsUp row
-rows_add_up script j is row held =
-    let rows : All AddsUp (journal_of script is.run).pipes = rows_from_add_up is.run 1 is.run.net.pairs in
+pub rows_add_up : (script : Script) (schedule : Schedule) (j : Journal) → IsJournalOf script schedule j → (row : PipeRow) → Contains j.pipes row → AddsUp row
+rows_add_up script schedule j is row held =
+    let rows : All AddsUp (journal_of script j.done is.run).pipes = rows_from_add_up is.run 1 is.run.stage.net.pairs in
     All-contains AddsUp j.pipes row (subst (λ (k : Journal). All AddsUp k.pipes) (sym is.journal_is) rows) held

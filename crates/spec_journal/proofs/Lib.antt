@@ -1,2 +1,7 @@
 pub mod Dispositions
-pub mod StandardFacts
+pub mod ExampleTurns
+pub mod ExampleNames
+pub mod ExamplePipes
+pub mod ExampleJournals
+pub mod ExampleFacts
+pub mod Completeness

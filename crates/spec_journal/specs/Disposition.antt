@@ -5,7 +5,8 @@ use Rattle.spec_pattern.specs.PipeStep.{committed_to, taken_from}
 use Rattle.spec_journal.specs.declared.journal.PipeRow.{PipeRow}
 use Rattle.spec_journal.specs.declared.journal.Answer.{Answer}
 use Rattle.spec_journal.specs.declared.journal.Answer.TheVariants as answer
-use Rattle.spec_journal.specs.Run.{Doing, Run, steps_of}
+use Rattle.spec_journal.specs.Turn.{Doing}
+use Rattle.spec_journal.specs.Run.{Run, doings_of, steps_of}
 
 -- given to the application by the receive that shows it, heard as a subscription, dropped by a rule, written to a link, lost by a link, left in the pipe
 pub data Disposition : Type 0 where
@@ -24,6 +25,12 @@ taken_as (answer.Pair p) = Dropped
 taken_as (answer.Got p m) = Given
 taken_as (answer.NotSent refusal) = Dropped
 taken_as (answer.NotReceived refusal) = Dropped
+taken_as answer.Wait = Dropped
+taken_as answer.NoSocket = Dropped
+taken_as answer.NotSupported = Dropped
+taken_as answer.InUse = Dropped
+taken_as answer.BadPair = Dropped
+taken_as answer.TooMany = Dropped
 
 -- what became of the messages that a line took from the pipe
 abbrev pub told_by : PipeId → Doing → List Disposition
@@ -31,8 +38,8 @@ told_by p d = map (λ _. taken_as d.answer) (taken_from p d.steps)
 
 -- of each message committed to the pipe, in order, what became of it: those not taken are left
 abbrev pub dispositions : Run → PipeId → List Disposition
-dispositions run p = flat_map (told_by p) run.doings
-    ++ replicate (length (committed_to p (steps_of run.doings)) - length (taken_from p (steps_of run.doings))) Rest
+dispositions run p = flat_map (told_by p) (doings_of run)
+    ++ replicate (length (committed_to p (steps_of (doings_of run))) - length (taken_from p (steps_of (doings_of run)))) Rest
 
 abbrev pub is_given : Disposition → Bool
 is_given Given = true
@@ -88,6 +95,6 @@ row_of p ds = record { pipe = p; sent = length ds; given = length (filter is_giv
 
 -- each message committed to the pipe has one end, and the counts of the row add up
 pub record AllEnd (run : Run) (p : PipeId) : Type 0 where
-  pub each : length (dispositions run p) ≡ length (committed_to p (steps_of run.doings))
+  pub each : length (dispositions run p) ≡ length (committed_to p (steps_of (doings_of run)))
   pub sum : let row = row_of p (dispositions run p) in
       row.sent ≡ row.given + row.heard + row.dropped + row.written + row.lost + row.rest

@@ -3,8 +3,13 @@ pub use Rattle.spec_pattern.specs.TurnList
 pub use Rattle.spec_pattern.specs.Call
 pub mod Net
 pub mod Line
+pub mod Turn
 pub mod Run
 pub mod Disposition
 pub mod Printed
 pub mod Text
+pub mod ExamplesPipeline
+pub mod ExamplesPipes
+pub mod ExamplesNames
 pub mod Examples
+pub mod Completeness

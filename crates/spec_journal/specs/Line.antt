@@ -1,13 +1,15 @@
--- What a line of a script does: its pipe steps, its answer, and the net that it leaves.
-use Rattle.std.specs.Prelude.{◌≡◌, ◌≢◌, ℕ, List, [], ◌∷◌, ◌++◌, length, map, slice_set, Contains}
+-- What a line of a script does: its pipe steps, its answer, and the net that it leaves (zmq_socket(3), zmq_bind(3), zmq_connect(3), zmq_inproc(7)).
+use Rattle.std.specs.Prelude.{◌≡◌, ◌+◌, ℕ, List, [], ◌∷◌, ◌++◌, true, not, ◌||◌, Option, Some, None, length, filter, nat_le, nat_lt, slice_set, is_some, if◌then◌else◌}
 use Rattle.zq_base.specs.Message.{Frames}
-use Rattle.zq_base.specs.Kind.{fitting_kinds}
+use Rattle.zq_base.specs.declared.ids.ObjId.{ObjId}
 use Rattle.zq_base.specs.declared.kind.Kind.{Kind}
 use Rattle.zq_base.specs.declared.options.Options.{Options}
 use Rattle.zq_base.specs.declared.endpoint.Endpoint.{Endpoint}
 use Rattle.zq_base.specs.declared.endpoint.Endpoint.TheVariants.{Inproc, Tcp}
 use Rattle.zq_script.specs.declared.script.Call.{Call}
 use Rattle.zq_script.specs.declared.script.Call.TheVariants as call
+use Rattle.endpoint_book.specs.declared.binding.Binding.{Binding}
+use Rattle.endpoint_book.specs.EndpointBook.{Book, Name, binding_of, is_object, fits, is_fulfilled, fulfilled, waiters, with_name, with_waiting}
 use Rattle.spec_pattern.specs.PipeStep.{PipeStep}
 use Rattle.spec_pattern.specs.TurnList.{End}
 use Rattle.spec_pattern.specs.Call.{SendStep, RecvStep}
@@ -17,7 +19,7 @@ use Rattle.spec_pattern.specs.declared.answers.RecvAnswer.{RecvAnswer}
 use Rattle.spec_pattern.specs.declared.answers.RecvAnswer.TheVariants as got
 use Rattle.spec_journal.specs.declared.journal.Answer.{Answer}
 use Rattle.spec_journal.specs.declared.journal.Answer.TheVariants as answer
-use Rattle.spec_journal.specs.Net.{Net, Sock, Bound, Joined, IsSocket, next_object, next_pair, end_a, end_b, with_turns, seat_of}
+use Rattle.spec_journal.specs.Net.{Net, Sock, Mine, mine_at, next_object, next_pair, most_sockets, most_pairs, is_made, with_turns, joined, seat_of}
 
 -- what is answered to a line whose socket answered so
 abbrev pub sent_answer : SendAnswer → Answer
@@ -28,84 +30,126 @@ abbrev pub got_answer : RecvAnswer → Answer
 got_answer (got.Got from_ m) = answer.Got from_ m
 got_answer (got.Refused refusal) = answer.NotReceived refusal
 
+-- an answer and the net that is left with it
+abbrev pub Outcome : Type 0
+Outcome = Answer × Net
+
+-- the line makes no socket, so that its name stands for none
+abbrev pub without_socket : ℕ → Answer → Net → Outcome
+without_socket actor reply net = (reply, record net { seats = slice_set net.seats actor (seat_of net actor ++ None ∷ []) })
+
 -- a socket is made, with the next number
-pub record MakesSocket (actor : ℕ) (kind : Kind) (options : Options) (old : Net) (steps : List PipeStep) (reply : Answer) (new : Net) : Type 0 where
-  pub steps_are : steps ≡ []
-  pub reply_is : reply ≡ answer.Object (record { 0 = next_object old })
-  pub socks : new.socks ≡ old.socks ++ record { kind = kind; options = options; turns = [] } ∷ []
-  pub seats : new.seats ≡ slice_set old.seats actor (seat_of old actor ++ next_object old ∷ [])
-  pub names : new.names ≡ old.names
-  pub pairs : new.pairs ≡ old.pairs
+abbrev pub with_socket : ℕ → Kind → Options → Net → Outcome
+with_socket actor kind options net = (
+  answer.Object (record { 0 = next_object net }),
+  record net {
+    socks = net.socks ++ record { kind = kind; options = options; turns = [] } ∷ [];
+    seats = slice_set net.seats actor (seat_of net actor ++ Some (record { 0 = next_object net }) ∷ []);
+  },
+)
 
--- a name that nobody holds is bound
-pub record BindsName (actor place : ℕ) (name : List ℕ) (old : Net) (steps : List PipeStep) (reply : Answer) (new : Net) : Type 0 where
-  pub object : ℕ
-  pub socket : Sock
-  pub is_socket : IsSocket old actor place object socket
-  pub free : (b : Bound) → Contains old.names b → b.name ≢ name
-  pub steps_are : steps ≡ []
-  pub reply_is : reply ≡ answer.Done
-  pub names : new.names ≡ old.names ++ record { name = name; holder = object } ∷ []
-  pub socks : new.socks ≡ old.socks
-  pub pairs : new.pairs ≡ old.pairs
-  pub seats : new.seats ≡ old.seats
+-- a socket line: a kind that is not built yet is not supported, and no more sockets are made than may live
+abbrev pub makes : ℕ → Kind → Options → Net → Outcome
+makes actor kind options net =
+    if not (is_made kind) then without_socket actor answer.NotSupported net
+    else if nat_le most_sockets (length net.socks) then without_socket actor answer.TooMany net
+    else with_socket actor kind options net
 
--- A socket is joined to the one that holds the name, with the next pair number; each gets its end, last in its turn list.
-pub record JoinsPair (actor place : ℕ) (name : List ℕ) (old : Net) (steps : List PipeStep) (reply : Answer) (new : Net) : Type 0 where
-  pub a : ℕ
-  pub b : ℕ
-  pub connecting : Sock
-  pub bound : Sock
-  pub is_socket : IsSocket old actor place a connecting
-  pub held : Contains old.names (record { name = name; holder = b })
-  pub holder : Rattle.spec_journal.specs.Net.sock_at old b ≡ Rattle.std.specs.Prelude.Some bound
-  pub other : a ≢ b
-  pub fits : Contains (fitting_kinds connecting.kind) bound.kind
-  pub steps_are : steps ≡ []
-  pub reply_is : reply ≡ answer.Pair (record { 0 = next_pair old })
-  pub pairs : new.pairs ≡ old.pairs ++ record { a = a; b = b } ∷ []
-  pub socks : new.socks ≡ with_turns
-      (with_turns old.socks a connecting (connecting.turns ++ end_a (next_pair old) ∷ []))
-      b bound (bound.turns ++ end_b (next_pair old) ∷ [])
-  pub names : new.names ≡ old.names
-  pub seats : new.seats ≡ old.seats
+-- each of these sockets, in order, is joined to the one that binds
+abbrev pub joined_all : ObjId → List ObjId → Net → Net
+joined_all b [] net = net
+joined_all b (a ∷ others) net = joined_all b others (joined a b net)
 
--- a socket is asked to send
-pub record Sends (actor place : ℕ) (m : Frames) (old : Net) (steps : List PipeStep) (reply : Answer) (new : Net) : Type 0 where
-  pub object : ℕ
-  pub socket : Sock
-  pub is_socket : IsSocket old actor place object socket
+-- the socket as it holds a name
+abbrev pub binding : ObjId → Sock → Binding
+binding o s = record { holder = o; kind = s.kind }
+
+-- the book once the name is held and the connects that waited for it are fulfilled
+abbrev pub held_by : Binding → Name → Book → Book
+held_by b name book = with_name name b (with_waiting (filter (λ w. not (is_fulfilled name b w)) book.waiting) book)
+
+-- a bind: a name that is held is in use; one that is free is held from now on, and the waiting connects of other sockets whose kinds fit are fulfilled in their order, where there are pairs for all
+abbrev pub binds : ObjId → Sock → Name → Net → Outcome
+binds o s name net =
+    if is_some (binding_of net.book name) then (answer.InUse, net)
+    else if nat_lt most_pairs (length net.pairs + length (fulfilled name (binding o s) net.book)) then (answer.TooMany, net)
+    else (answer.Done, joined_all o (waiters (fulfilled name (binding o s) net.book)) (record net { book = held_by (binding o s) name net.book }))
+
+-- a connect to a name that nobody holds waits
+abbrev pub connect_waits : ObjId → Sock → Name → Net → Outcome
+connect_waits o s name net = (
+  answer.Wait,
+  record net {
+    book = with_waiting (net.book.waiting ++ record { name = name; waiter = o; kind = s.kind } ∷ []) net.book;
+  },
+)
+
+-- a connect to a name that is held: the socket that holds it has to be another one, of a kind that fits
+abbrev pub connect_finds : ObjId → Sock → Binding → Net → Outcome
+connect_finds o s b net =
+    if is_object b.holder o || not (fits s.kind b.kind) then (answer.BadPair, net)
+    else if nat_le most_pairs (length net.pairs) then (answer.TooMany, net)
+    else (answer.Pair (record { 0 = next_pair net }), joined o b.holder net)
+
+abbrev pub connects_to : ObjId → Sock → Name → Option Binding → Net → Outcome
+connects_to o s name None net = connect_waits o s name net
+connects_to o s name (Some b) net = connect_finds o s b net
+
+-- a connect
+abbrev pub connects : ObjId → Sock → Name → Net → Outcome
+connects o s name net = connects_to o s name (binding_of net.book name) net
+
+-- the line makes no pipe step, and has this answer and leaves this net
+abbrev pub Comes : Outcome → List PipeStep → Answer → Net → Type 0
+Comes outcome steps reply new = (steps ≡ []) × (reply ≡ outcome.0) × (new ≡ outcome.1)
+
+-- over tcp nothing is bound or connected yet
+abbrev pub at_endpoint : Endpoint → (Name → Outcome) → Net → Outcome
+at_endpoint (Inproc name) there net = there name
+at_endpoint (Tcp address) there net = (answer.NotSupported, net)
+
+-- a socket is asked to send; all its ends can be written
+pub record Sends (s : Mine) (m : Frames) (old : Net) (steps : List PipeStep) (reply : Answer) (new : Net) : Type 0 where
   pub sent : SendAnswer
   pub turns : List End
-  pub step : SendStep socket.kind m socket.turns steps sent turns
+  pub step : SendStep s.socket.kind (λ _. true) m s.socket.turns steps sent turns
   pub reply_is : reply ≡ sent_answer sent
-  pub new_is : new ≡ record old { socks = with_turns old.socks object socket turns }
+  pub new_is : new ≡ record old { socks = with_turns old.socks s.object.0 s.socket turns }
 
 -- a socket is asked to receive
-pub record Receives (actor place : ℕ) (old : Net) (steps : List PipeStep) (reply : Answer) (new : Net) : Type 0 where
-  pub object : ℕ
-  pub socket : Sock
-  pub is_socket : IsSocket old actor place object socket
+pub record Receives (s : Mine) (old : Net) (steps : List PipeStep) (reply : Answer) (new : Net) : Type 0 where
   pub got : RecvAnswer
   pub turns : List End
-  pub step : RecvStep socket.kind socket.turns steps got turns
+  pub step : RecvStep s.socket.kind s.socket.turns steps got turns
   pub reply_is : reply ≡ got_answer got
-  pub new_is : new ≡ record old { socks = with_turns old.socks object socket turns }
+  pub new_is : new ≡ record old { socks = with_turns old.socks s.object.0 s.socket turns }
 
--- a bind; over tcp not built yet
-abbrev pub Binds : ℕ → ℕ → Endpoint → Net → List PipeStep → Answer → Net → Type 0
-Binds actor place (Inproc name) old steps reply new = BindsName actor place name old steps reply new
-Binds actor place (Tcp address) old steps reply new = ⊥
+-- a line on a socket that was not made
+abbrev pub no_socket : Net → Outcome
+no_socket net = (answer.NoSocket, net)
 
--- a connect to a name that is held; one that waits for its name, and tcp, are not built yet
-abbrev pub Connects : ℕ → ℕ → Endpoint → Net → List PipeStep → Answer → Net → Type 0
-Connects actor place (Inproc name) old steps reply new = JoinsPair actor place name old steps reply new
-Connects actor place (Tcp address) old steps reply new = ⊥
+abbrev pub BindsAt : Option Mine → Endpoint → Net → List PipeStep → Answer → Net → Type 0
+BindsAt None at old steps reply new = Comes (no_socket old) steps reply new
+BindsAt (Some s) at old steps reply new =
+    Comes (at_endpoint at (λ name. binds s.object s.socket name old) old) steps reply new
+
+abbrev pub ConnectsTo : Option Mine → Endpoint → Net → List PipeStep → Answer → Net → Type 0
+ConnectsTo None to old steps reply new = Comes (no_socket old) steps reply new
+ConnectsTo (Some s) to old steps reply new =
+    Comes (at_endpoint to (λ name. connects s.object s.socket name old) old) steps reply new
+
+abbrev pub SendsBy : Option Mine → Frames → Net → List PipeStep → Answer → Net → Type 0
+SendsBy None m old steps reply new = Comes (no_socket old) steps reply new
+SendsBy (Some s) m old steps reply new = Sends s m old steps reply new
+
+abbrev pub ReceivesBy : Option Mine → Net → List PipeStep → Answer → Net → Type 0
+ReceivesBy None old steps reply new = Comes (no_socket old) steps reply new
+ReceivesBy (Some s) old steps reply new = Receives s old steps reply new
 
 -- what the actor's line does, from the net old: its pipe steps, its answer, the net that it leaves
 abbrev pub DoesCall : ℕ → Call → Net → List PipeStep → Answer → Net → Type 0
-DoesCall actor (call.Socket kind options) old steps reply new = MakesSocket actor kind options old steps reply new
-DoesCall actor (call.Bind place at) old steps reply new = Binds actor place at old steps reply new
-DoesCall actor (call.Connect place to) old steps reply new = Connects actor place to old steps reply new
-DoesCall actor (call.Send place m) old steps reply new = Sends actor place m old steps reply new
-DoesCall actor (call.Recv place tries) old steps reply new = Receives actor place old steps reply new
+DoesCall actor (call.Socket kind options) old steps reply new = Comes (makes actor kind options old) steps reply new
+DoesCall actor (call.Bind place at) old steps reply new = BindsAt (mine_at old actor place) at old steps reply new
+DoesCall actor (call.Connect place to) old steps reply new = ConnectsTo (mine_at old actor place) to old steps reply new
+DoesCall actor (call.Send place m) old steps reply new = SendsBy (mine_at old actor place) m old steps reply new
+DoesCall actor (call.Recv place tries) old steps reply new = ReceivesBy (mine_at old actor place) old steps reply new

@@ -1,10 +1,15 @@
 -- The sockets of a run and how they are joined (zmq_inproc(7), zmq_bind(3), zmq_connect(3)), before sockets are objects that end.
-use Rattle.std.specs.Prelude.{◌≡◌, ◌+◌, ◌-◌, ℕ, List, [], Bool, true, false, Option, Some, None, length, map, slice_get, slice_set}
+use Rattle.std.specs.Prelude.{◌+◌, ◌-◌, ℕ, List, [], ◌∷◌, ◌++◌, Bool, true, false, Option, Some, None, length, map, slice_get, slice_set}
+use Rattle.std.specs.Option.{option_map}
 use Rattle.zq_base.specs.declared.kind.Kind.{Kind}
+use Rattle.zq_base.specs.declared.kind.Kind.TheVariants.{Push, Pull, Pair, Dealer, Req, Rep, Router, Pub, XPub, Sub, XSub}
 use Rattle.zq_base.specs.declared.options.Options.{Options}
 use Rattle.zq_script.specs.declared.script.Script.{Script}
 use Rattle.spec_pattern.specs.declared.pipe_id.PipeId.{PipeId}
 use Rattle.spec_pattern.specs.TurnList.{End}
+use Rattle.zq_base.specs.declared.ids.ObjId.{ObjId}
+use Rattle.spec_journal.specs.declared.journal.Joined.{Joined}
+use Rattle.endpoint_book.specs.EndpointBook.{Book, empty_book}
 
 -- a socket, and the ends attached to it in the order of their turns
 pub record Sock : Type 0 where
@@ -12,26 +17,16 @@ pub record Sock : Type 0 where
   pub options : Options
   pub turns : List End
 
--- a name that an object holds
-pub record Bound : Type 0 where
-  pub name : List ℕ
-  pub holder : ℕ
-
--- the objects that a pair joins: end a is that of the socket that connected
-pub record Joined : Type 0 where
-  pub a : ℕ
-  pub b : ℕ
-
--- The sockets, numbered from 1 as they were made (0 is the root); the names that are held; the pairs, numbered from 1; and for each actor the objects that its socket lines made.
+-- The sockets, numbered from 1 as they were made (0 is the root); the names that are held and the connects that wait; the pairs, numbered from 1; and for each actor the objects that its socket lines made, none where one was refused.
 pub record Net : Type 0 where
   pub socks : List Sock
-  pub names : List Bound
+  pub book : Book
   pub pairs : List Joined
-  pub seats : List (List ℕ)
+  pub seats : List (List (Option ObjId))
 
 -- the net before the first line of a script
 abbrev pub net_before : Script → Net
-net_before script = record { socks = []; names = []; pairs = []; seats = map (λ _. []) script.actors }
+net_before script = record { socks = []; book = empty_book; pairs = []; seats = map (λ _. []) script.actors }
 
 -- the socket of this number
 abbrev pub sock_at : Net → ℕ → Option Sock
@@ -51,8 +46,8 @@ marks net writer reader = hwm_of (sock_at net writer) + rcvhwm_of (sock_at net r
 
 abbrev pub capacity_between : Net → Bool → Option Joined → ℕ
 capacity_between net a None = 0
-capacity_between net true (Some j) = marks net j.a j.b
-capacity_between net false (Some j) = marks net j.b j.a
+capacity_between net true (Some j) = marks net j.a.0 j.b.0
+capacity_between net false (Some j) = marks net j.b.0 j.a.0
 
 -- the capacity of a pipe
 abbrev pub capacity_in : Net → PipeId → ℕ
@@ -64,6 +59,27 @@ next_object net = length net.socks + 1
 
 abbrev pub next_pair : Net → ℕ
 next_pair net = length net.pairs + 1
+
+-- how many sockets may live at once, and how many pairs are ever made
+abbrev pub most_sockets : ℕ
+most_sockets = 1023
+
+abbrev pub most_pairs : ℕ
+most_pairs = 1000000
+
+-- whether sockets of the kind can be made so far
+abbrev pub is_made : Kind → Bool
+is_made Push = true
+is_made Pull = true
+is_made Pair = false
+is_made Dealer = false
+is_made Req = false
+is_made Rep = false
+is_made Router = false
+is_made Pub = false
+is_made XPub = false
+is_made Sub = false
+is_made XSub = false
 
 -- the ends of the pair of this number
 abbrev pub end_a : ℕ → End
@@ -79,15 +95,46 @@ turned turns s = record s { turns = turns }
 abbrev pub with_turns : List Sock → ℕ → Sock → List End → List Sock
 with_turns socks o s turns = slice_set socks (o - 1) (turned turns s)
 
-abbrev pub made_by : Option (List ℕ) → List ℕ
+abbrev pub with_end : List Sock → ℕ → Option Sock → End → List Sock
+with_end socks o None e = socks
+with_end socks o (Some s) e = with_turns socks o s (s.turns ++ e ∷ [])
+
+-- the sockets once the one of this number has a further end, last in its turn list
+abbrev pub attached : ℕ → End → List Sock → List Sock
+attached o e socks = with_end socks o (slice_get socks (o - 1)) e
+
+-- the net once the two sockets are joined by the next pair: the first has end a
+abbrev pub joined : ObjId → ObjId → Net → Net
+joined a b net = record net {
+  pairs = net.pairs ++ record { a = a; b = b } ∷ [];
+  socks = attached b.0 (end_b (next_pair net)) (attached a.0 (end_a (next_pair net)) net.socks);
+}
+
+abbrev pub made_by : Option (List (Option ObjId)) → List (Option ObjId)
 made_by None = []
 made_by (Some objects) = objects
 
--- the objects that an actor's socket lines made
-abbrev pub seat_of : Net → ℕ → List ℕ
+-- what an actor's socket lines made
+abbrev pub seat_of : Net → ℕ → List (Option ObjId)
 seat_of net actor = made_by (slice_get net.seats actor)
 
--- the actor's socket of this place is the object o, which is the socket s
-pub record IsSocket (net : Net) (actor place o : ℕ) (s : Sock) : Type 0 where
-  pub object : slice_get (seat_of net actor) place ≡ Some o
-  pub socket : sock_at net o ≡ Some s
+abbrev pub object_in : Option (Option ObjId) → Option ObjId
+object_in None = None
+object_in (Some object) = object
+
+-- the object that the actor's socket line of this place made
+abbrev pub object_at : Net → ℕ → ℕ → Option ObjId
+object_at net actor place = object_in (slice_get (seat_of net actor) place)
+
+-- a socket with its number
+pub record Mine : Type 0 where
+  pub object : ObjId
+  pub socket : Sock
+
+abbrev pub numbered : Net → Option ObjId → Option Mine
+numbered net None = None
+numbered net (Some o) = option_map (λ s. record { object = o; socket = s }) (sock_at net o.0)
+
+-- the actor's socket of this place
+abbrev pub mine_at : Net → ℕ → ℕ → Option Mine
+mine_at net actor place = numbered net (object_at net actor place)

@@ -55,6 +55,12 @@ recv_refusal_text recv.Busy = codes "busy"
 abbrev pub answer_text : Answer → List ℕ
 answer_text (answer.Object o) = codes "ok o" ++ decimal o.0
 answer_text answer.Done = codes "ok"
+answer_text answer.Wait = codes "wait"
+answer_text answer.NoSocket = codes "nosock"
+answer_text answer.NotSupported = codes "notsup"
+answer_text answer.InUse = codes "inuse"
+answer_text answer.BadPair = codes "badpair"
+answer_text answer.TooMany = codes "toomany"
 answer_text (answer.Pair p) = codes "ok p" ++ decimal p.0
 answer_text (answer.Got p m) = codes "msg p" ++ decimal p.0 ++ parts_text m
 answer_text (answer.NotSent refusal) = send_refusal_text refusal
@@ -90,6 +96,11 @@ row_text r = codes "pipe " ++ pipe_text r.pipe
     ++ codes " rest " ++ decimal r.rest
     ++ codes " " ++ reason_text r.rest ++ codes "\n"
 
--- the text of a journal: each actor's answers, the pipes, and `done`
+-- the last line: whether the run was done
+abbrev pub end_text : Bool → List ℕ
+end_text true = codes "done\n"
+end_text false = codes "unfinished\n"
+
+-- the text of a journal: each actor's answers, the pipes, and how the run ended
 abbrev pub journal_text : Journal → List ℕ
-journal_text j = flat_map actor_text j.actors ++ flat_map row_text j.pipes ++ codes "done\n"
+journal_text j = flat_map actor_text j.actors ++ flat_map row_text j.pipes ++ end_text j.done

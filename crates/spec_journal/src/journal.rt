@@ -7,6 +7,12 @@ pub enum Answer {
     Object(ObjId),
     Done,
     Pair(PairId),
+    Wait,
+    NoSocket,
+    NotSupported,
+    InUse,
+    BadPair,
+    TooMany,
     Got(PairId, Message),
     NotSent(SendRefusal),
     NotReceived(RecvRefusal),
@@ -40,9 +46,17 @@ pub struct PipeRow {
     pub rest: u64,
 }
 
-/// What is printed of a run that is done.
+/// What is printed of a run, and whether it was done within its turns.
 #[derive(Drop)]
 pub struct Journal {
     pub actors: Seq<ActorPart>,
     pub pipes: Seq<PipeRow>,
+    pub done: bool,
+}
+
+/// The objects that a pair joins: end a is that of the socket that connected.
+#[derive(Clone, Copy, Debug, PartialEq, Eq)]
+pub struct Joined {
+    pub a: ObjId,
+    pub b: ObjId,
 }

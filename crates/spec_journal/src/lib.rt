@@ -4,5 +4,5 @@
 mod journal;
 mod laws;
 
-pub use journal::{ActorPart, Answer, Entry, Journal, PipeRow};
-pub use laws::{each_message_has_one_end, rows_add_up, worked_examples};
+pub use journal::{ActorPart, Answer, Entry, Joined, Journal, PipeRow};
+pub use laws::{a_run_is_done_in_time, each_message_has_one_end, rows_add_up, worked_examples};

@@ -3,7 +3,7 @@ use Rattle.std.proofs.Common.{◌≡◌, ◌<◌, ◌≤◌, ◌+◌, ℕ, List,
 use Rattle.std.proofs.lemmas.List.Elements.{filter_map-append}
 use Rattle.zq_base.specs.Message.{Frames}
 use Rattle.spec_pattern.specs.declared.pipe_id.PipeId.{PipeId}
-use Rattle.spec_pattern.specs.PipeStep.{PipeStep, Commit, FullLook, Take, EmptyLook, same_pipe, committed_by, taken_by, committed_to, taken_from, Follows, AreExact, IsFullAfter, LooksHold, most_commits}
+use Rattle.spec_pattern.specs.PipeStep.{PipeStep, Commit, FullLook, Take, EmptyLook, DelimiterLook, same_pipe, committed_by, taken_by, committed_to, taken_from, Follows, AreExact, IsFullAfter, LooksHold, most_commits}
 use Rattle.spec_pattern.proofs.Exact.{same_pipes}
 
 -- a step in the middle follows from those before it
@@ -42,6 +42,7 @@ within_step c p past (Commit q m) f now = within_commit c p q past m (same_pipe 
 within_step c p past (FullLook q) f now = within_stepped c p past (FullLook q) (omega arith)
 within_step c p past (Take q m) f now = within_take c p q past m (same_pipe p q) refl f
 within_step c p past (EmptyLook q) f now = within_stepped c p past (EmptyLook q) (omega arith)
+within_step c p past (DelimiterLook q) f now = elim now [ ]
 
 within_kept : (c : PipeId → ℕ) (p : PipeId) (past steps : List PipeStep) → IsWithin c p past → AreExact c past steps → IsWithin c p (past ++ steps)
 within_kept c p past [] f exact = rw append-nil f

@@ -5,12 +5,13 @@ use mathlib.Core.List.{IsPrefix}
 use Rattle.zq_base.specs.Message.{Frames}
 use Rattle.spec_pattern.specs.declared.pipe_id.PipeId.{PipeId}
 
--- one step of one call at one pipe: a message committed, a look that found the pipe full, a message taken, a look that found it empty
+-- one step of one call at one pipe: a message committed, a look that found the pipe full, a message taken, a look that found it empty, a look that found the delimiter
 pub data PipeStep : Type 0 where
   Commit : (pipe : PipeId) → (message : Frames) → PipeStep
   FullLook : (pipe : PipeId) → PipeStep
   Take : (pipe : PipeId) → (message : Frames) → PipeStep
   EmptyLook : (pipe : PipeId) → PipeStep
+  DelimiterLook : (pipe : PipeId) → PipeStep
 
 -- the pipe that is read at the end which writes this one
 abbrev pub read_through : PipeId → PipeId
@@ -30,6 +31,7 @@ committed_by p (Commit q m) = if same_pipe p q then Some m else None
 committed_by p (FullLook q) = None
 committed_by p (Take q m) = None
 committed_by p (EmptyLook q) = None
+committed_by p (DelimiterLook q) = None
 
 -- the message that a step takes from the pipe
 abbrev pub taken_by : PipeId → PipeStep → Option Frames
@@ -37,6 +39,7 @@ taken_by p (Commit q m) = None
 taken_by p (FullLook q) = None
 taken_by p (Take q m) = if same_pipe p q then Some m else None
 taken_by p (EmptyLook q) = None
+taken_by p (DelimiterLook q) = None
 
 -- what was committed to the pipe, in order
 abbrev pub committed_to : PipeId → List PipeStep → List Frames
@@ -56,7 +59,7 @@ IsFullAfter capacity p past =
     (length (committed_to p past) ≡ length (taken_from p past) + capacity)
     ⊎ (length (committed_to p past) ≡ most_commits)
 
--- The step follows from the steps past: a look finds what they left, a commit found room, a take gives the oldest message left.
+-- The step follows from the steps past: a look finds what they left, a commit found room, a take gives the oldest message left. No pipe has a delimiter before the run's end.
 abbrev pub Follows : (PipeId → ℕ) → List PipeStep → PipeStep → Type 0
 Follows capacity past (Commit p m) =
     (length (committed_to p past) < length (taken_from p past) + capacity p)
@@ -66,6 +69,7 @@ Follows capacity past (Take p m) =
     slice_get (committed_to p past) (length (taken_from p past)) ≡ Some m
 Follows capacity past (EmptyLook p) =
     length (committed_to p past) ≡ length (taken_from p past)
+Follows capacity past (DelimiterLook p) = ⊥
 
 -- each of the steps that come after those past follows from all before it
 abbrev pub AreExact : (PipeId → ℕ) → List PipeStep → List PipeStep → Type 0

@@ -51,6 +51,12 @@ fn push_answer(alloc: Global, out: &mut Vec<u8>, answer: &Answer) -> Result<(), 
             push_number(out, u64::from(object.0))
         }
         Answer::Done => out.extend_from_slice(b"ok"),
+        Answer::Wait => out.extend_from_slice(b"wait"),
+        Answer::NoSocket => out.extend_from_slice(b"nosock"),
+        Answer::NotSupported => out.extend_from_slice(b"notsup"),
+        Answer::InUse => out.extend_from_slice(b"inuse"),
+        Answer::BadPair => out.extend_from_slice(b"badpair"),
+        Answer::TooMany => out.extend_from_slice(b"toomany"),
         Answer::Pair(pair) => {
             out.extend_from_slice(b"ok p")?;
             push_number(out, u64::from(pair.0))

@@ -32,6 +32,10 @@ pub fn print(alloc: Global, journal: &Journal) -> Result<Octets, AllocError>
     let mut out = Vec::new(alloc);
     push_actors(alloc, &mut out, journal.actors.as_slice())?;
     push_rows(&mut out, journal.pipes.as_slice())?;
-    out.extend_from_slice(b"done\n")?;
+    out.extend_from_slice(if journal.done {
+        b"done\n"
+    } else {
+        b"unfinished\n"
+    })?;
     Ok(Octets::of_vec(out))
 }

@@ -25,6 +25,7 @@ fn text_of(alloc: Global, name: &[u8], line: u32, answer: Answer) -> Result<Octe
     let journal = Journal {
         actors: Seq::of_vec(actors),
         pipes: Seq::new(alloc),
+        done: true,
     };
     Ok(print(alloc, &journal)?)
 }
@@ -32,9 +33,15 @@ fn text_of(alloc: Global, name: &[u8], line: u32, answer: Answer) -> Result<Octe
 #[test]
 fn answers_have_their_texts(rt: HostRuntime) -> Result<(), Fail> {
     let alloc = rt.alloc();
-    let cases: [(Answer, &[u8]); 9] = [
+    let cases: [(Answer, &[u8]); 15] = [
         (Answer::Object(ObjId(17)), b"a 4 ok o17\ndone\n"),
         (Answer::Done, b"a 4 ok\ndone\n"),
+        (Answer::Wait, b"a 4 wait\ndone\n"),
+        (Answer::NoSocket, b"a 4 nosock\ndone\n"),
+        (Answer::NotSupported, b"a 4 notsup\ndone\n"),
+        (Answer::InUse, b"a 4 inuse\ndone\n"),
+        (Answer::BadPair, b"a 4 badpair\ndone\n"),
+        (Answer::TooMany, b"a 4 toomany\ndone\n"),
         (
             Answer::Pair(PairId(4294967295)),
             b"a 4 ok p4294967295\ndone\n",
@@ -114,10 +121,24 @@ fn rows_tell_why_messages_are_left(rt: HostRuntime) -> Result<(), Fail> {
     let journal = Journal {
         actors: Seq::new(alloc),
         pipes: Seq::of_vec(pipes),
+        done: true,
     };
     let printed = print(alloc, &journal)?;
     let text: &[u8] =
         b"pipe p1a sent 6 given 1 heard 2 dropped 3 written 0 lost 0 rest 0 -\npipe p1b sent 18446744073709551615 given 1 heard 2 dropped 3 written 4 lost 5 rest 7 closed\ndone\n";
     assert_eq!(rt; printed.as_slice(), text);
+    Ok(())
+}
+
+#[test]
+fn an_unfinished_run_is_told(rt: HostRuntime) -> Result<(), Fail> {
+    let alloc = rt.alloc();
+    let journal = Journal {
+        actors: Seq::new(alloc),
+        pipes: Seq::new(alloc),
+        done: false,
+    };
+    let printed = print(alloc, &journal)?;
+    assert_eq!(rt; printed.as_slice(), b"unfinished\n".as_slice());
     Ok(())
 }

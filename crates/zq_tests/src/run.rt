@@ -65,74 +65,268 @@ fn call(
     })
 }
 
+/// A call: its words, the script, and the status and text that it has to give.
+type Case = (
+    &'static [&'static str],
+    &'static [u8],
+    Status,
+    &'static [u8],
+);
+
+/// The words of a run as usual.
+const RUN: &[&str] = &["zbus", "run"];
+
+/// Scripts of one and of several actors, and what their runs print.
+const CASES: [Case; 28] = [
+    (RUN, TWO_MESSAGES, Status::Done, TWO_MESSAGES_TEXT),
+    (RUN, b"", Status::Done, b"done\n"),
+    (RUN, b"# nothing\n\n", Status::Done, b"done\n"),
+    (RUN, b"actor a\n", Status::Done, b"done\n"),
+    (
+        RUN,
+        b"actor a\nsocket s PUSH\nsend s x\nrecv s\nsocket r PULL\nsend r x\nrecv r\n",
+        Status::Done,
+        b"a 2 ok o1\na 3 again\na 4 notsup\na 5 ok o2\na 6 notsup\na 7 again\ndone\n",
+    ),
+    (
+        RUN,
+        b"actor b\nsocket s PUSH\nsocket r PULL\nbind r inproc://q\nconnect s inproc://q\nsend s - 0x00ff 0x\n",
+        Status::Done,
+        b"b 2 ok o1\nb 3 ok o2\nb 4 ok\nb 5 ok p1\nb 6 ok p1\npipe p1a sent 1 given 0 heard 0 dropped 0 written 0 lost 0 rest 1 closed\npipe p1b sent 0 given 0 heard 0 dropped 0 written 0 lost 0 rest 0 -\ndone\n",
+    ),
+    (
+        RUN,
+        b"actor a\nsocket r PULL rcvhwm=1\nsocket s PUSH hwm=1\nbind r inproc://q\nconnect s inproc://q\nsend s a\nsend s b\nsend s c\nrecv r\nsend s c\n",
+        Status::Done,
+        b"a 2 ok o1\na 3 ok o2\na 4 ok\na 5 ok p1\na 6 ok p1\na 7 ok p1\na 8 again\na 9 msg p1 a\na 10 ok p1\npipe p1a sent 3 given 1 heard 0 dropped 0 written 0 lost 0 rest 2 closed\npipe p1b sent 0 given 0 heard 0 dropped 0 written 0 lost 0 rest 0 -\ndone\n",
+    ),
+    (
+        RUN,
+        b"actor a\nsocket s PUSH hwm=1\nsocket t PULL rcvhwm=1\nsocket u PULL rcvhwm=1\nsocket v PULL rcvhwm=1\nbind s inproc://q\nconnect t inproc://q\nconnect u inproc://q\nconnect v inproc://q\nsend s 1\nsend s 2\nsend s 3\nsend s 4\nsend s 5\nsend s 6\nrecv t\nrecv v\nsend s 7\nsend s 8\nsend s 9\n",
+        Status::Done,
+        b"a 2 ok o1\na 3 ok o2\na 4 ok o3\na 5 ok o4\na 6 ok\na 7 ok p1\na 8 ok p2\na 9 ok p3\na 10 ok p1\na 11 ok p2\na 12 ok p3\na 13 ok p1\na 14 ok p2\na 15 ok p3\na 16 msg p1 1\na 17 msg p3 3\na 18 ok p1\na 19 ok p3\na 20 again\npipe p1a sent 0 given 0 heard 0 dropped 0 written 0 lost 0 rest 0 -\npipe p1b sent 3 given 1 heard 0 dropped 0 written 0 lost 0 rest 2 closed\npipe p2a sent 0 given 0 heard 0 dropped 0 written 0 lost 0 rest 0 -\npipe p2b sent 2 given 0 heard 0 dropped 0 written 0 lost 0 rest 2 closed\npipe p3a sent 0 given 0 heard 0 dropped 0 written 0 lost 0 rest 0 -\npipe p3b sent 3 given 1 heard 0 dropped 0 written 0 lost 0 rest 2 closed\ndone\n",
+    ),
+    (
+        RUN,
+        b"actor a\nsocket s PUSH\nconnect s inproc://q\nsend s m\nsocket r PULL\nbind r inproc://q\nsend s m\n",
+        Status::Done,
+        b"a 2 ok o1\na 3 wait\na 4 again\na 5 ok o2\na 6 ok\na 7 ok p1\npipe p1a sent 1 given 0 heard 0 dropped 0 written 0 lost 0 rest 1 closed\npipe p1b sent 0 given 0 heard 0 dropped 0 written 0 lost 0 rest 0 -\ndone\n",
+    ),
+    (
+        RUN,
+        b"actor a\nsocket s PUSH\nsocket t PUSH\nsocket r PULL\nconnect t inproc://q\nconnect s inproc://q\nbind r inproc://q\nsend s x\nsend t y\nbind s inproc://q\nsocket q PULL\nconnect q inproc://q\nrecv r\nrecv r\n",
+        Status::Done,
+        b"a 2 ok o1\na 3 ok o2\na 4 ok o3\na 5 wait\na 6 wait\na 7 ok\na 8 ok p2\na 9 ok p1\na 10 inuse\na 11 ok o4\na 12 badpair\na 13 msg p1 y\na 14 msg p2 x\npipe p1a sent 1 given 1 heard 0 dropped 0 written 0 lost 0 rest 0 -\npipe p1b sent 0 given 0 heard 0 dropped 0 written 0 lost 0 rest 0 -\npipe p2a sent 1 given 1 heard 0 dropped 0 written 0 lost 0 rest 0 -\npipe p2b sent 0 given 0 heard 0 dropped 0 written 0 lost 0 rest 0 -\ndone\n",
+    ),
+    (
+        &["zbus", "run", "--seed", "0"],
+        b"actor a\nsocket r PULL\nbind r inproc://q\nrecv r\nactor b\nsocket s PUSH\nconnect s inproc://q\nsend s m\n",
+        Status::Done,
+        b"a 2 ok o1\na 3 ok\na 4 again\nb 6 ok o2\nb 7 ok p1\nb 8 ok p1\npipe p1a sent 1 given 0 heard 0 dropped 0 written 0 lost 0 rest 1 closed\npipe p1b sent 0 given 0 heard 0 dropped 0 written 0 lost 0 rest 0 -\ndone\n",
+    ),
+    (
+        &["zbus", "run", "--seed=3"],
+        b"actor a\nsocket r PULL\nbind r inproc://q\nrecv r\nactor b\nsocket s PUSH\nconnect s inproc://q\nsend s m\n",
+        Status::Done,
+        b"a 2 ok o2\na 3 ok\na 4 msg p1 m\nb 6 ok o1\nb 7 ok p1\nb 8 ok p1\npipe p1a sent 1 given 1 heard 0 dropped 0 written 0 lost 0 rest 0 -\npipe p1b sent 0 given 0 heard 0 dropped 0 written 0 lost 0 rest 0 -\ndone\n",
+    ),
+    (
+        &["zbus", "run", "--threads", "0", "--seed", "4"],
+        b"actor a\nsocket r PULL\nbind r inproc://q\nrecv r\nactor b\nsocket s PUSH\nconnect s inproc://q\nsend s m\n",
+        Status::Done,
+        b"a 2 ok o2\na 3 ok\na 4 msg p1 m\nb 6 ok o1\nb 7 wait\nb 8 ok p1\npipe p1a sent 1 given 1 heard 0 dropped 0 written 0 lost 0 rest 0 -\npipe p1b sent 0 given 0 heard 0 dropped 0 written 0 lost 0 rest 0 -\ndone\n",
+    ),
+    (
+        &["zbus", "run", "--turns", "3"],
+        b"actor a\nsocket r PULL\nrecv r tries=5\n",
+        Status::Unfinished,
+        b"a 2 ok o1\nunfinished\n",
+    ),
+    (
+        &["zbus", "run", "--turns", "6"],
+        b"actor a\nsocket r PULL\nrecv r tries=5\n",
+        Status::Unfinished,
+        b"a 2 ok o1\na 3 again\nunfinished\n",
+    ),
+    (
+        &["zbus", "run", "--turns", "7"],
+        b"actor a\nsocket r PULL\nrecv r tries=5\n",
+        Status::Done,
+        b"a 2 ok o1\na 3 again\ndone\n",
+    ),
+    (
+        RUN,
+        b"actor a\nsocket r PULL\nbind r inproc://q\nrecv r tries=10\nactor b\nsocket s PUSH\nconnect s inproc://q\nrecv s\nsend s m\n",
+        Status::Done,
+        b"a 2 ok o1\na 3 ok\na 4 msg p1 m\nb 6 ok o2\nb 7 ok p1\nb 8 notsup\nb 9 ok p1\npipe p1a sent 1 given 1 heard 0 dropped 0 written 0 lost 0 rest 0 -\npipe p1b sent 0 given 0 heard 0 dropped 0 written 0 lost 0 rest 0 -\ndone\n",
+    ),
+    (
+        RUN,
+        b"actor a\nsend s x\n",
+        Status::Script,
+        b"script 2 UnknownSocket\n",
+    ),
+    (RUN, b"x\n", Status::Script, b"script 1 BadWord\n"),
+    (
+        RUN,
+        b"\nactor a\n# c\nsocket s PUSH\nsocket s PULL\n",
+        Status::Script,
+        b"script 5 DoubleName\n",
+    ),
+    (
+        RUN,
+        b"actor a\nactor a\n",
+        Status::Script,
+        b"script 2 DoubleName\n",
+    ),
+    (
+        RUN,
+        b"actor a\nsocket s REQ\n",
+        Status::Script,
+        b"script 2 BadWord\n",
+    ),
+    (
+        RUN,
+        b"actor a\nsocket s PUSH hwm=0\n",
+        Status::Script,
+        b"script 2 BadWord\n",
+    ),
+    (RUN, b"actor a b\n", Status::Script, b"script 1 BadWord\n"),
+    (
+        RUN,
+        b"actor a\nsocket s PUSH\nbind s tcp://127.0.0.1:5\n",
+        Status::Script,
+        b"script 3 BadEndpoint\n",
+    ),
+    (
+        RUN,
+        b"actor a\nsocket s PUSH\nsend s\n",
+        Status::Script,
+        b"script 3 BadWord\n",
+    ),
+    (
+        RUN,
+        b"actor a\nsocket s PUSH\nsend s a\tb\nbind\n",
+        Status::Script,
+        b"script 3 BadPart\n",
+    ),
+    (
+        RUN,
+        b"actor a\nsocket r PULL\nrecv r tries=0\n",
+        Status::Script,
+        b"script 3 BadWord\n",
+    ),
+];
+
 #[test]
-fn scripts_of_the_form_are_run_and_others_refused(rt: HostRuntime) -> Result<(), Fail> {
+fn scripts_are_run_or_refused_as_they_must(rt: HostRuntime) -> Result<(), Fail> {
     let alloc = rt.alloc();
-    let refused: &[u8] = b"script 0 BadWord\n";
-    let cases: [(&[u8], Status, &[u8]); 13] = [
-        (TWO_MESSAGES, Status::Done, TWO_MESSAGES_TEXT),
-        (b"", Status::Done, b"done\n"),
-        (b"# nothing\n\n", Status::Done, b"done\n"),
-        (b"actor a\n", Status::Done, b"done\n"),
-        (
-            b"actor a\nsocket s PUSH\nsend s x\nrecv s\nsocket r PULL\nsend r x\nrecv r\n",
-            Status::Done,
-            b"a 2 ok o1\na 3 again\na 4 notsup\na 5 ok o2\na 6 notsup\na 7 again\ndone\n",
-        ),
-        (
-            b"actor b\nsocket s PUSH\nsocket r PULL\nbind r inproc://q\nconnect s inproc://q\nsend s - 0x00ff 0x\n",
-            Status::Done,
-            b"b 2 ok o1\nb 3 ok o2\nb 4 ok\nb 5 ok p1\nb 6 ok p1\npipe p1a sent 1 given 0 heard 0 dropped 0 written 0 lost 0 rest 1 closed\npipe p1b sent 0 given 0 heard 0 dropped 0 written 0 lost 0 rest 0 -\ndone\n",
-        ),
-        (b"actor a\nsend s x\n", Status::Script, refused),
-        (b"actor a\nactor b\n", Status::Script, refused),
-        (b"actor a\nsocket s PUSH hwm=1\n", Status::Script, refused),
-        (
-            b"actor a\nsocket s PUSH hwm=1000\n",
-            Status::Script,
-            refused,
-        ),
-        (
-            b"actor a\nsocket r PULL\nrecv r tries=1\n",
-            Status::Script,
-            refused,
-        ),
-        (
-            b"actor a\nsocket s PUSH\nconnect s inproc://q\n",
-            Status::Script,
-            refused,
-        ),
-        (b"actor a\nsocket s REQ\n", Status::Script, refused),
+    for (words, script, status, text) in &CASES {
+        let called = call(alloc, words, script, &[], &[], 4096)?;
+        assert_eq!(rt; called.status, *status);
+        assert_eq!(rt; called.text.as_slice(), *text);
+    }
+    Ok(())
+}
+
+/// The head, and then the line so often.
+fn repeated(alloc: Global, head: &[u8], line: &[u8], count: usize) -> Result<Vec<u8>, Fail> {
+    let mut octets = Vec::from_slice(alloc, head)?;
+    for _ in 0..count {
+        octets.extend_from_slice(line)?;
+    }
+    Ok(octets)
+}
+
+#[test]
+fn scripts_at_the_limits_are_read(rt: HostRuntime) -> Result<(), Fail> {
+    let alloc = rt.alloc();
+    let too_long: &[u8] = b"script 0 TooLong\n";
+    let cases: [(&[u8], usize, Status, &[u8]); 4] = [
+        (b"\n", 10_000, Status::Done, b"done\n"),
+        (b"\n", 10_001, Status::Script, too_long),
+        (b"#", 1_048_576, Status::Done, b"done\n"),
+        (b"#", 1_048_577, Status::Script, too_long),
     ];
-    for (script, status, text) in cases {
-        let called = call(alloc, &["zbus", "run"], script, &[], &[], 4096)?;
+    for (line, count, status, text) in cases {
+        let script = repeated(alloc, b"", line, count)?;
+        let called = call(alloc, RUN, &script, &[], &[], 65_536)?;
         assert_eq!(rt; called.status, status);
         assert_eq!(rt; called.text.as_slice(), text);
     }
     Ok(())
 }
 
+/// `count` lines, each `before` and a number of two digits from 10 on.
+fn numbered(alloc: Global, before: &[u8], count: usize) -> Result<Vec<u8>, Fail> {
+    let mut octets = Vec::new(alloc);
+    for number in 0..count {
+        octets.extend_from_slice(before)?;
+        octets.push(b'a' + (number / 10 % 26) as u8)?;
+        octets.push(b'0' + (number % 10) as u8)?;
+        octets.push(b'\n')?;
+    }
+    Ok(octets)
+}
+
 #[test]
-fn words_other_than_run_are_refused(rt: HostRuntime) -> Result<(), Fail> {
+fn a_script_has_64_actors_at_the_most(rt: HostRuntime) -> Result<(), Fail> {
     let alloc = rt.alloc();
-    let usage: &[u8] = b"usage: zbus run|soak|hear|forward\n";
-    let cases: [(&[&str], Status, &[u8]); 7] = [
-        (&["zbus", "run", "--threads", "0"], Status::Done, b"done\n"),
-        (&["zbus", "sing"], Status::Usage, usage),
-        (&["zbus"], Status::Usage, usage),
-        (&[], Status::Usage, usage),
-        (&["zbus", "run", "--threads", "1"], Status::Usage, usage),
-        (&["zbus", "run", "--threads"], Status::Usage, usage),
-        (
-            &["zbus", "run", "--threads", "0", "0"],
-            Status::Usage,
-            usage,
-        ),
+    let cases: [(usize, Status, &[u8]); 2] = [
+        (64, Status::Done, b"done\n"),
+        (65, Status::Script, b"script 65 TooManyActors\n"),
     ];
-    for (words, status, text) in cases {
-        let called = call(alloc, words, b"", &[], &[], 1)?;
+    for (count, status, text) in cases {
+        let script = numbered(alloc, b"actor ", count)?;
+        let called = call(alloc, RUN, &script, &[], &[], 4096)?;
         assert_eq!(rt; called.status, status);
         assert_eq!(rt; called.text.as_slice(), text);
+    }
+    Ok(())
+}
+
+/// An actor that makes so many sockets: their names have a letter for each part of their number.
+fn many_sockets(alloc: Global, count: usize) -> Result<Vec<u8>, Fail> {
+    let mut octets = Vec::from_slice(alloc, b"actor a\n")?;
+    for number in 0..count {
+        octets.extend_from_slice(b"socket s")?;
+        octets.push(b'a' + (number / 676 % 26) as u8)?;
+        octets.push(b'a' + (number / 26 % 26) as u8)?;
+        octets.push(b'a' + (number % 26) as u8)?;
+        octets.extend_from_slice(b" PUSH\n")?;
+    }
+    octets.extend_from_slice(b"send saaa x\n")?;
+    Ok(octets)
+}
+
+#[test]
+fn no_more_than_1023_sockets_live(rt: HostRuntime) -> Result<(), Fail> {
+    let alloc = rt.alloc();
+    let mut script = many_sockets(alloc, 1_024)?;
+    script.extend_from_slice(b"send sbnj x\n")?;
+    let called = call(alloc, RUN, &script, &[], &[], 65_536)?;
+    assert_eq!(rt; called.status, Status::Done);
+    let end: &[u8] = b"\na 1024 ok o1023\na 1025 toomany\na 1026 again\na 1027 nosock\ndone\n";
+    assert!(rt; called.text.ends_with(end));
+    Ok(())
+}
+
+#[test]
+fn other_words_are_refused(rt: HostRuntime) -> Result<(), Fail> {
+    let alloc = rt.alloc();
+    let words: [&[&str]; 4] = [
+        &["zbus", "sing"],
+        &[],
+        &["zbus", "hear", "PULL"],
+        &["zbus", "run", "--threads", "1"],
+    ];
+    for words in words {
+        let called = call(alloc, words, b"", &[], &[], 1)?;
+        assert_eq!(rt; called.status, Status::Usage);
+        assert_eq!(rt;
+            called.text.as_slice(),
+            b"usage: zbus run|soak|hear|forward\n".as_slice()
+        );
     }
     Ok(())
 }

@@ -1,14 +1,33 @@
--- A script of the form, with no fault of the outside, is run.
-use Rattle.std.proofs.Common.{◌≡◌, ◌<◌, ◌+◌, ℕ, List, ◌++◌, length, Some, true, refl, sym, arith, ◌⊎◌, inl, inr, length-append}
-use Rattle.std.specs.Prelude.{Ok, nat_lt}
+-- What the status is, where the outside has no fault.
+use Rattle.std.proofs.Common.{◌≡◌, ◌<◌, ◌+◌, ℕ, List, ◌++◌, length, Bool, true, false, Option, Some, refl, sym, ap, subst, ◌∙◌, arith, ◌⊎◌, inl, inr, length-append}
+use Rattle.std.specs.Prelude.{Ok, Err, nat_lt}
 use Rattle.std.proofs.lemmas.Bool.{lt-ltb}
 use Rattle.zq_outer.specs.Count.{Rose}
 use Rattle.zq_script.specs.Script.{script_of}
 use Rattle.zq_script.specs.declared.script.Script.{Script}
-use Rattle.zq_top.specs.Words.{IsRun}
-use Rattle.zq_top.specs.Headline.{SourceAt, WasRead, IsRunnable, IsRefused, Says}
+use Rattle.zq_script.specs.declared.fault.ScriptFault.{ScriptFault}
+use Rattle.spec_journal.specs.declared.journal.Journal.{Journal}
+use Rattle.spec_journal.specs.Run.{Schedule, Run, IsRunOf, IsUnfinished}
+use Rattle.spec_journal.specs.Printed.{IsJournalOf, EndsSo}
+use Rattle.spec_journal.specs.Completeness.{tries_in_all}
+use Rattle.spec_journal.proofs.Completeness.{runs_are_done}
+use Rattle.zq_words.specs.Words.{asked}
+use Rattle.zq_words.specs.declared.request.Request.{Request}
+use Rattle.zq_words.specs.declared.request.Request.TheVariants as request
+use Rattle.zq_top.specs.Headline.{AsksRun, AsksNothing, SourceAt, WasRead, Prints, Refuses, SaysOf, SaysOnceRead, Says}
 use Rattle.zq_top.specs.declared.status.Status.{Status}
 use Rattle.zq_top.specs.declared.status.Status.TheVariants as status
+
+-- what is said of octets that were read
+pub says_read : (s : Status) (words : List (List ℕ)) (before after : SourceAt) (schedule : Schedule) (octets text : List ℕ) → AsksRun words schedule
+    → WasRead before after octets → SaysOf schedule s octets text → Says s words before after text
+says_read status.Done words before after schedule octets text asks read says = (schedule, asks, (octets, read, says))
+says_read status.Script words before after schedule octets text asks read says = (schedule, asks, (octets, read, says))
+says_read status.Usage words before after schedule octets text asks read says = absurd says
+says_read status.ReadFault words before after schedule octets text asks read says = absurd says
+says_read status.WriteFault words before after schedule octets text asks read says = absurd says
+says_read status.OutOfMemory words before after schedule octets text asks read says = absurd says
+says_read status.Unfinished words before after schedule octets text asks read says = (schedule, asks, (octets, read, says))
 
 -- octets past the limit are no script
 too_long : (octets : List ℕ) (script : Script) → 1048576 < length octets → script_of octets ≡ Ok script → ⊥
@@ -16,22 +35,68 @@ unfolding script_of
 too_long octets script long is = let test : nat_lt 1048576 (length octets) ≡ true = lt-ltb 1048576 (length octets) long in
     let clash = rw test at is in cc
 
-refused_none : (octets read rest : List ℕ) (script : Script) → octets ≡ read ++ rest → length read ≡ 1048577 → IsRunnable octets script → ⊥
-refused_none octets read rest script whole limit runnable =
-    let long : length octets ≡ 1048577 + length rest = rw (whole, length-append, limit) refl in
-    too_long octets script (omega arith) runnable.script_is
+-- the words ask for one schedule
+run_parts : (a b c d : ℕ) → ◌≡◌ {A = Option Request} (Some (request.Run a b)) (Some (request.Run c d)) → (a ≡ c) × (b ≡ d)
+run_parts a b c d same = (cc, cc)
 
-not_refused : (before after : SourceAt) (octets read : List ℕ) (script : Script) → before.left ≡ Some octets → IsRunnable octets script → WasRead before after read → IsRefused read → ⊥
-not_refused before after octets read script left runnable (inl (rose, all)) refused =
-    let whole = rw left at all in refused script (rw (sym whole.0) runnable)
-not_refused before after octets read script left runnable (inr (limit, some)) refused =
-    let parts = rw left at some in refused_none octets read parts.0 script parts.1 limit runnable
+by_parts : (a b c d : ℕ) → a ≡ c → b ≡ d → ◌≡◌ {A = Schedule} (record { seed = a; turns = b }) (record { seed = c; turns = d })
+by_parts a b c d e f = cc
 
-pub completes : (s : Status) (words : List (List ℕ)) (before after : SourceAt) (text octets : List ℕ) (script : Script) → Says s words before after text → IsRun words
-    → before.left ≡ Some octets → IsRunnable octets script → (Rose before.faults after.faults → ⊥) → (s ≡ status.Done) ⊎ (s ≡ status.OutOfMemory)
-completes status.Done words before after text octets script says asked left runnable sound = inl refl
-completes status.Script words before after text octets script (run, (read, was_read, refused), is) asked left runnable sound = absurd (not_refused before after octets read script left runnable was_read refused)
-completes status.Usage words before after text octets script says asked left runnable sound = absurd (says.0 asked)
-completes status.ReadFault words before after text octets script says asked left runnable sound = absurd (sound says.1)
-completes status.WriteFault words before after text octets script says asked left runnable sound = absurd says
-completes status.OutOfMemory words before after text octets script says asked left runnable sound = absurd says
+one_schedule : (words : List (List ℕ)) (a b : Schedule) → AsksRun words a → AsksRun words b → a ≡ b
+one_schedule words a b first second =
+    let parts = run_parts a.seed a.turns b.seed b.turns (sym first ∙ second) in by_parts a.seed a.turns b.seed b.turns parts.0 parts.1
+
+-- the octets that were read are a script: they are all that the source had
+all_read : (before after : SourceAt) (octets read : List ℕ) (script : Script) → before.left ≡ Some octets → WasRead before after read → script_of read ≡ Ok script → read ≡ octets
+all_read before after octets read script left (inl (rose, all)) is = let whole = rw left at all in sym whole.0
+all_read before after octets read script left (inr (limit, some)) is = absurd (too_long read script (omega (arith, limit)) is)
+
+-- octets that are a script are read whole
+script_read : (before after : SourceAt) (octets read : List ℕ) (script : Script) → before.left ≡ Some octets → WasRead before after read → script_of octets ≡ Ok script → read ≡ octets
+script_read before after octets read script left (inl (rose, all)) is = let whole = rw left at all in sym whole.0
+script_read before after octets read script left (inr (limit, some)) is =
+    let parts = rw left at some in
+    let whole : octets ≡ read ++ parts.0 = parts.1 in
+    let long : length octets ≡ length read + length parts.0 = ap length whole ∙ length-append read parts.0 in
+    absurd (too_long octets script (omega (arith, limit, long)) is)
+
+-- an unfinished journal is of a script that has as many tries as the run may take turns
+not_done : (script : Script) (schedule : Schedule) (j : Journal) → IsJournalOf script schedule j → j.done ≡ false → tries_in_all script < schedule.turns → ⊥
+not_done script schedule j is none few = runs_are_done script schedule is.run is.is_run few (subst (λ d. EndsSo schedule d is.run) none is.ends)
+
+module _ (words : List (List ℕ)) (before after : SourceAt) (text octets : List ℕ) (schedule : Schedule) (asks : AsksRun words schedule) (left : before.left ≡ Some octets)
+    (sound : Rose before.faults after.faults → ⊥) where
+  pub completes : (s : Status) (script : Script) → Says s words before after text → script_of octets ≡ Ok script → tries_in_all script < schedule.turns
+      → (s ≡ status.Done) ⊎ (s ≡ status.OutOfMemory)
+  completes status.Done script says is few = inl refl
+  completes status.Script script (other, asked_other, (read, was_read, refuses)) is few =
+      let same : read ≡ octets = script_read before after octets read script left was_read is in
+      let clash : script_of octets ≡ Err refuses.fault = subst (λ (l : List ℕ). script_of l ≡ Err refuses.fault) same refuses.fault_is in
+      let both = sym is ∙ clash in cc
+  completes status.Usage script says is few = absurd (says.0 schedule asks)
+  completes status.ReadFault script says is few = absurd (sound says.1)
+  completes status.WriteFault script says is few = absurd says
+  completes status.OutOfMemory script says is few = inr refl
+  completes status.Unfinished script (other, asked_other, (read, was_read, prints)) is few =
+      let same : read ≡ octets = script_read before after octets read script left was_read is in
+      let found : script_of octets ≡ Ok prints.script = subst (λ (l : List ℕ). script_of l ≡ Ok prints.script) same prints.script_is in
+      let one : script ≡ prints.script = let both = sym is ∙ found in cc in
+      let when : schedule ≡ other = one_schedule words schedule other asks asked_other in
+      absurd (not_done prints.script other prints.journal prints.is_journal prints.done_is
+      (subst (λ (t : Schedule). tries_in_all prints.script < t.turns) when (subst (λ (t : Script). tries_in_all t < schedule.turns) one few)))
+
+  pub refuses : (s : Status) (fault : ScriptFault) → Says s words before after text → script_of octets ≡ Err fault
+      → (s ≡ status.Script) ⊎ (s ≡ status.OutOfMemory)
+  refuses status.Done fault (other, asked_other, (read, was_read, prints)) is =
+      let same : read ≡ octets = all_read before after octets read prints.script left was_read prints.script_is in
+      let found : script_of octets ≡ Ok prints.script = subst (λ (l : List ℕ). script_of l ≡ Ok prints.script) same prints.script_is in
+      let both = sym found ∙ is in cc
+  refuses status.Script fault says is = inl refl
+  refuses status.Usage fault says is = absurd (says.0 schedule asks)
+  refuses status.ReadFault fault says is = absurd (sound says.1)
+  refuses status.WriteFault fault says is = absurd says
+  refuses status.OutOfMemory fault says is = inr refl
+  refuses status.Unfinished fault (other, asked_other, (read, was_read, prints)) is =
+      let same : read ≡ octets = all_read before after octets read prints.script left was_read prints.script_is in
+      let found : script_of octets ≡ Ok prints.script = subst (λ (l : List ℕ). script_of l ≡ Ok prints.script) same prints.script_is in
+      let both = sym found ∙ is in cc

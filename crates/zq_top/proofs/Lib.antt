@@ -1,10 +1,6 @@
-mod Sockets
-mod SendLines
-mod Steps
-mod SendMoves
-mod JoinMoves
-mod Loop
-mod Journals
 mod WritesOn
-mod Completes
-mod WordLemmas
+pub mod OrderLemmas
+pub mod PlayLemmas
+pub mod Given
+pub mod JournalLemmas
+pub mod Completes

@@ -1,18 +1,29 @@
 -- What a call of the program says: for each status, what was read and the text that is written.
-use Rattle.std.specs.Prelude.{◌≡◌, ◌⊎◌, ℕ, List, Option, true, length, codes, Ok}
+use Rattle.std.specs.Prelude.{◌≡◌, ◌⊎◌, ℕ, List, ◌++◌, Option, Bool, true, false, Some, length, codes, decimal, Ok, Err}
 use Rattle.zq_script.specs.Script.{script_of}
-use Rattle.zq_script.specs.Plain.{is_plain}
 use Rattle.zq_script.specs.declared.script.Script.{Script}
+use Rattle.zq_script.specs.declared.fault.Cause.{Cause}
+use Rattle.zq_script.specs.declared.fault.Cause.TheVariants.{BadWord, BadEndpoint, BadPart, UnknownSocket, DoubleName, TooManyActors, TooLong}
+use Rattle.zq_script.specs.declared.fault.ScriptFault.{ScriptFault}
 use Rattle.spec_journal.specs.declared.journal.Journal.{Journal}
+use Rattle.spec_journal.specs.Run.{Schedule}
 use Rattle.spec_journal.specs.Printed.{IsJournalOf}
 use Rattle.spec_journal.specs.Text.{journal_text}
 use Rattle.zq_outer.specs.Count.{Rose}
 use Rattle.zq_outer.specs.Source.{Consumes, ConsumesAll}
 use Rattle.zq_outer.specs.Sink.{Appends, AppendsFront}
-use Rattle.zq_top.specs.Form.{IsFirstForm}
-use Rattle.zq_top.specs.Words.{IsRun}
+use Rattle.zq_words.specs.Words.{asked}
+use Rattle.zq_words.specs.declared.request.Request.TheVariants as request
 use Rattle.zq_top.specs.declared.status.Status.{Status}
 use Rattle.zq_top.specs.declared.status.Status.TheVariants as status
+
+-- the words ask for a run by this schedule
+abbrev pub AsksRun : List (List ℕ) → Schedule → Type 0
+AsksRun words schedule = asked words ≡ Some (request.Run schedule.seed schedule.turns)
+
+-- the words ask for nothing that the program does
+abbrev pub AsksNothing : List (List ℕ) → Type 0
+AsksNothing words = (schedule : Schedule) → AsksRun words schedule → ⊥
 
 -- what a source tells at a moment
 pub record SourceAt : Type 0 where
@@ -29,37 +40,61 @@ WasRead before after octets =
     (Rose before.ends after.ends × ConsumesAll before.left octets after.left)
     ⊎ ((length octets ≡ 1048577) × Consumes before.left octets after.left)
 
--- the octets are a script that spells out no option and no number of tries, and it is of the form that is run
-pub record IsRunnable (octets : List ℕ) (script : Script) : Type 0 where
-  pub script_is : script_of octets ≡ Ok script
-  pub plain : is_plain octets ≡ true
-  pub form : IsFirstForm script.actors
-
--- The text is that of the journal of a run of the script that the octets are.
-pub record Prints (octets text : List ℕ) : Type 0 where
+-- The text is that of the journal of a run of the script that the octets are, done or not.
+pub record Prints (schedule : Schedule) (done : Bool) (octets text : List ℕ) : Type 0 where
   pub script : Script
-  pub runnable : IsRunnable octets script
+  pub script_is : script_of octets ≡ Ok script
   pub journal : Journal
-  pub is_journal : IsJournalOf script journal
+  pub is_journal : IsJournalOf script schedule journal
+  pub done_is : journal.done ≡ done
   pub text_is : text ≡ journal_text journal
 
--- the octets are no script of the form
-abbrev pub IsRefused : List ℕ → Type 0
-IsRefused octets = (script : Script) → IsRunnable octets script → ⊥
+-- how a fault of a script is printed
+abbrev pub cause_text : Cause → List ℕ
+cause_text BadWord = codes "BadWord"
+cause_text BadEndpoint = codes "BadEndpoint"
+cause_text BadPart = codes "BadPart"
+cause_text UnknownSocket = codes "UnknownSocket"
+cause_text DoubleName = codes "DoubleName"
+cause_text TooManyActors = codes "TooManyActors"
+cause_text TooLong = codes "TooLong"
 
--- What is said with each status: 0 the text of a run's journal, 1 that the octets read are refused, 2 that the words ask for nothing, 3 that the source failed in this call.
+abbrev pub fault_text : ScriptFault → List ℕ
+fault_text f = codes "script " ++ decimal f.line ++ codes " " ++ cause_text f.cause ++ codes "\n"
+
+-- the octets are no script, and the text is their first fault, with its line
+pub record Refuses (octets text : List ℕ) : Type 0 where
+  pub fault : ScriptFault
+  pub fault_is : script_of octets ≡ Err fault
+  pub text_is : text ≡ fault_text fault
+
+-- what is said of the octets that were read, with each status
+abbrev pub SaysOf : Schedule → Status → List ℕ → List ℕ → Type 0
+SaysOf schedule status.Done octets text = Prints schedule true octets text
+SaysOf schedule status.Script octets text = Refuses octets text
+SaysOf schedule status.Usage octets text = ⊥
+SaysOf schedule status.ReadFault octets text = ⊥
+SaysOf schedule status.WriteFault octets text = ⊥
+SaysOf schedule status.OutOfMemory octets text = ⊥
+SaysOf schedule status.Unfinished octets text = Prints schedule false octets text
+
+-- what is said once some octets were read, with each status
+abbrev pub SaysOnceRead : Status → List (List ℕ) → SourceAt → SourceAt → List ℕ → Type 0
+SaysOnceRead s words before after text =
+    (schedule : Schedule) × AsksRun words schedule
+    × ((octets : List ℕ) × WasRead before after octets × SaysOf schedule s octets text)
+
+-- What is said with each status: 0 and 8 the text of a run's journal, done or not, 1 that the octets read are refused, 2 that the words ask for nothing, 3 that the source failed in this call.
 abbrev pub Says : Status → List (List ℕ) → SourceAt → SourceAt → List ℕ → Type 0
-Says status.Done words before after text =
-    IsRun words × ((octets : List ℕ) × WasRead before after octets × Prints octets text)
-Says status.Script words before after text =
-    IsRun words × ((octets : List ℕ) × WasRead before after octets × IsRefused octets)
-    × (text ≡ codes "script 0 BadWord\n")
+Says status.Done words before after text = SaysOnceRead status.Done words before after text
+Says status.Script words before after text = SaysOnceRead status.Script words before after text
 Says status.Usage words before after text =
-    (IsRun words → ⊥) × (before ≡ after) × (text ≡ codes "usage: zbus run|soak|hear|forward\n")
+    AsksNothing words × (before ≡ after) × (text ≡ codes "usage: zbus run|soak|hear|forward\n")
 Says status.ReadFault words before after text =
-    IsRun words × Rose before.faults after.faults × (text ≡ codes "read fault\n")
+    ((schedule : Schedule) × AsksRun words schedule) × Rose before.faults after.faults × (text ≡ codes "read fault\n")
 Says status.WriteFault words before after text = ⊥
 Says status.OutOfMemory words before after text = ⊥
+Says status.Unfinished words before after text = SaysOnceRead status.Unfinished words before after text
 
 -- a sink that had taken the first took such a text, whole
 abbrev pub Writes : (List ℕ → Type 0) → Option (List ℕ) → Option (List ℕ) → Type 0

@@ -1,10 +1,5 @@
 pub use Rattle.spec_journal.specs.Printed
 pub use Rattle.spec_journal.specs.Text
-pub mod Form
-pub mod Joint
-pub mod Stage
-pub mod SoFar
-pub mod Rows
 pub mod ExitCode
-pub mod Words
+pub mod Playing
 pub mod Headline

@@ -1,78 +1,136 @@
-ghost use Rattle.std.specs.Prelude.{◌≡◌, [], ◌∷◌, true, IfOk};
+ghost use Rattle.std.specs.Prelude.{◌≡◌, List, map, OnOk, IfOk};
+ghost use Rattle.std.specs.List.{list_all};
+ghost use Rattle.spec_journal.specs.Turn.{Doing};
 ghost use Rattle.spec_journal.specs.Printed.{IsJournalOf};
-ghost use Rattle.zq_top.specs.Form.{MayStand, IsFirstForm, nothing_before};
-ghost use Rattle.zq_top.specs.SoFar.{IsAmid, nothing_shown};
+ghost use Rattle.zq_top.specs.Playing.{WorkerDoes, WorkersDo, TurnDoes, Ends, AreNew, part_of, has_finished};
 
-use crate::world::World;
-use msg_pipe::Pipes;
-use spec_journal::{ActorPart, Entry, Journal};
+use crate::actor::Actor;
+use crate::order::Order;
+use flat_net::FlatNet;
+use spec_journal::{ActorPart, Journal};
 use std::alloc::{AllocError, Global};
 use zq_base::Seq;
-use zq_script::{ActorScript, Line, Script};
+use zq_script::Script;
 
-/// Does the lines of an actor.
-fn do_lines<P: Pipes + Drop>(
+/// How many workers are no actors: the reaper and the one I/O worker, which do nothing yet.
+const OTHER_WORKERS: usize = 2;
+
+/// A worker's step: only actors do anything.
+fn step(
     alloc: Global,
-    world: &mut World<P>,
-    lines: &[Line],
-) -> Result<Vec<Entry>, AllocError>
-    requires form { MayStand nothing_before lines.now }
-    requires new { world.old ≡ nothing_shown }
-    ensures { IfOk result (λ entries. IsAmid lines.now [] entries.items world.new) }
+    net: &mut FlatNet,
+    actors: &mut [Actor],
+    worker: usize,
+) -> Result<(), AllocError>
+    ensures { OnOk result ((ds : List Doing) × WorkerDoes worker net.old actors.old ds net.new actors.new) }
 {
-    let mut entries = Vec::new(alloc);
-    for line in lines {
-        let answer = world.step(alloc, &line.call)?;
-        entries.push(Entry {
-            line: line.number,
-            answer,
+    if worker < actors.len() {
+        actors[worker].step(alloc, net, worker)?;
+    }
+    Ok(())
+}
+
+/// The workers' steps in this order.
+fn steps(
+    alloc: Global,
+    net: &mut FlatNet,
+    actors: &mut [Actor],
+    order: &[usize],
+) -> Result<(), AllocError>
+    ensures { OnOk result ((ds : List Doing) × WorkersDo order.now net.old actors.old ds net.new actors.new) }
+{
+    'workers: for worker in order {
+        step(alloc, net, actors, *worker)?;
+    }
+    Ok(())
+}
+
+/// A turn.
+fn turn(
+    alloc: Global,
+    net: &mut FlatNet,
+    actors: &mut [Actor],
+    order: &mut Order,
+) -> Result<(), AllocError>
+    ensures turn { OnOk result ((ds : List Doing) × TurnDoes order.old.seed order.old.drawn net.old actors.old ds order.new.drawn net.new actors.new) }
+    ensures seed { order.new.seed ≡ order.old.seed }
+{
+    let workers = order.turn(alloc, actors.len().saturating_add(OTHER_WORKERS))?;
+    steps(alloc, net, actors, &workers)?;
+    Ok(())
+}
+
+/// Whether each actor's lines are over.
+fn is_finished(actors: &[Actor]) -> bool
+    ensures { result ≡ list_all has_finished actors.now }
+{
+    actors.iter().all(|actor| actor.is_finished())
+}
+
+/// Goes on by so many turns at the most, until each actor has finished. Says whether they have, at
+/// the beginning of one of these turns.
+fn run(
+    alloc: Global,
+    net: &mut FlatNet,
+    actors: &mut [Actor],
+    seed: u64,
+    turns: u32,
+) -> Result<bool, AllocError>
+    ensures { IfOk result (λ done. Ends (record { seed = seed; turns = turns }) done net.old actors.old net.new actors.new) }
+{
+    let mut order = Order::new(seed);
+    let mut left = turns;
+    'turns: while left > 0 {
+        if is_finished(actors) {
+            return Ok(true);
+        }
+        turn(alloc, net, actors, &mut order)?;
+        left -= 1;
+    }
+    Ok(false)
+}
+
+/// The actors of a script, before their first lines.
+fn actors_of<'a>(alloc: Global, script: &'a Script) -> Result<Vec<Actor<'a>>, AllocError>
+    ensures { IfOk result (λ actors. AreNew script.now.actors actors.items) }
+{
+    let mut actors = Vec::new(alloc);
+    'actors: for actor in script.actors.as_slice() {
+        actors.push(Actor::new(alloc, actor))?;
+    }
+    Ok(actors)
+}
+
+/// The actors' parts of the journal.
+fn parts(alloc: Global, actors: Vec<Actor>) -> Result<Seq<ActorPart>, AllocError>
+    ensures { IfOk result (λ parts. parts ≡ map part_of actors.entry.items) }
+{
+    let mut parts = Vec::with_capacity(alloc, actors.len())?;
+    'actors: for actor in actors {
+        parts.push(ActorPart {
+            name: actor.name.copy(alloc)?,
+            entries: Seq::of_vec(actor.entries),
         })?;
     }
-    Ok(entries)
+    Ok(Seq::of_vec(parts))
 }
 
-/// Plays the lines of the one actor.
-fn play_actor<P: Pipes + Drop>(
+/// Plays a script by a schedule: the seed, and the most turns that it may take.
+pub(crate) fn play(
     alloc: Global,
-    pipes: P,
-    waker: &P::Waker,
-    actor: &ActorScript,
-) -> Result<Journal, AllocError>
-    requires exact { P.exact ≡ true }
-    requires form { MayStand nothing_before actor.now.lines }
-    ensures { IfOk result (IsJournalOf (record { actors = actor.now ∷ [] })) }
-{
-    let mut world = World::new(pipes, alloc, waker)?;
-    let entries = do_lines(alloc, &mut world, actor.lines.as_slice())?;
-    let rows = world.settle(alloc)?;
-    let mut actors = Vec::new(alloc);
-    actors.push(ActorPart {
-        name: actor.name.copy(alloc)?,
-        entries: Seq::of_vec(entries),
-    })?;
-    Ok(Journal {
-        actors: Seq::of_vec(actors),
-        pipes: Seq::of_vec(rows),
-    })
-}
-
-/// Plays a script of the first form.
-pub(crate) fn play<P: Pipes + Drop>(
-    alloc: Global,
-    pipes: P,
-    waker: &P::Waker,
     script: &Script,
+    seed: u64,
+    turns: u32,
 ) -> Result<Journal, AllocError>
-    requires exact { P.exact ≡ true }
-    requires form { IsFirstForm script.now.actors }
-    ensures { IfOk result (IsJournalOf script.now) }
+    ensures { IfOk result (IsJournalOf script.now (record { seed = seed; turns = turns })) }
 {
-    let actors = script.actors.as_slice();
-    if actors.is_empty() {
-        return Ok(Journal {
-            actors: Seq::new(alloc),
-            pipes: Seq::new(alloc),
-        });
-    }
-    play_actor(alloc, pipes, waker, &actors[0])
+    let mut net = FlatNet::new(alloc, script.actors.len())?;
+    let mut actors = actors_of(alloc, script)?;
+    let done = run(alloc, &mut net, &mut actors, seed, turns)?;
+    let pipes = Seq::of_vec(net.rows(alloc)?);
+    Ok(Journal {
+        actors: parts(alloc, actors)?,
+        pipes,
+        done,
+    })
 }

@@ -13,6 +13,8 @@ pub enum Status {
     WriteFault,
     /// Want of memory: nothing was written.
     OutOfMemory,
+    /// The run isn't done after all its turns.
+    Unfinished,
 }
 
 impl Status {
@@ -30,6 +32,7 @@ impl Status {
             Status::ReadFault => 3,
             Status::WriteFault => 4,
             Status::OutOfMemory => 6,
+            Status::Unfinished => 8,
         }
     }
 }

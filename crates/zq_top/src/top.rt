@@ -1,59 +1,54 @@
-ghost use Rattle.std.specs.Prelude.{◌≡◌, ◌⊎◌, ◌≤◌, ℕ, List, Some, length, map, string_bytes, IfOk, IfSome, IfNone, true, false};
+ghost use Rattle.std.specs.Prelude.{◌≡◌, ◌⊎◌, ◌<◌, ◌≤◌, ℕ, List, Some, Ok, Err, map, string_bytes, codes, IfOk};
 ghost use Rattle.zq_outer.specs.Count.{Rose};
 ghost use Rattle.zq_outer.specs.Sink.{AppendsFront};
+ghost use Rattle.zq_script.specs.Script.{script_of};
 ghost use Rattle.zq_script.specs.declared.script.Script.{Script};
-ghost use Rattle.zq_top.specs.Words.{IsRun};
-ghost use Rattle.zq_top.specs.Headline.{Prints, IsRefused, IsRunnable, Says, Writes, WritesFront, source_at};
-ghost use Rattle.zq_top.specs.declared.status.Status.{Status};
+ghost use Rattle.zq_script.specs.declared.fault.ScriptFault.{ScriptFault};
+ghost use Rattle.spec_journal.specs.Run.{Schedule};
+ghost use Rattle.spec_journal.specs.Completeness.{tries_in_all};
+ghost use Rattle.zq_top.specs.Headline.{AsksRun, Says, SaysOf, Writes, WritesFront, source_at};
 
-use crate::form::is_first_form;
+use crate::fault::fault_text;
 use crate::play::play;
 use crate::status::Status;
 use crate::streams::{ReadError, read_all, write_all};
-use crate::words::is_run;
-use msg_pipe::PlainPipes;
 use std::alloc::{AllocError, Global};
 use zq_journal::print;
 use zq_outer::{Clock, Gate, Host, Sink, Source};
-use zq_script::{ReadScript, Script, is_plain, read_script};
+use zq_script::{ReadScript, read_script};
+use zq_words::{Request, WordsError, read_words};
 
-/// The script that the octets are, where it is of the form that is run.
-fn runnable(alloc: Global, octets: &[u8]) -> Result<Option<Script>, AllocError>
-    ensures some { IfOk result (λ found. IfSome found (IsRunnable octets.now)) }
-    ensures none { IfOk result (λ found. IfNone found (IsRefused octets.now)) }
+/// The text of a run of the script that the octets are, or of the script's fault, and the status.
+fn text_of(
+    alloc: Global,
+    octets: &[u8],
+    seed: u64,
+    turns: u32,
+) -> Result<(Status, Vec<u8>), AllocError>
+    ensures { IfOk result (λ said. SaysOf (record { seed = seed; turns = turns }) said.0 octets.now said.1.items) }
 {
-    let script = match read_script(alloc, octets) {
-        Ok(script) => script,
-        Err(ReadScript::Fault(_)) => return Ok(None),
-        Err(ReadScript::OutOfMemory) => return Err(AllocError),
-    };
-    if !is_plain(alloc, octets)? {
-        return Ok(None);
-    }
-    if !is_first_form(alloc, &script)? {
-        return Ok(None);
-    }
-    Ok(Some(script))
-}
-
-/// The text of a run of the script that the octets are.
-fn text_of_run(alloc: Global, octets: &[u8]) -> Result<Option<Vec<u8>>, AllocError>
-    ensures some { IfOk result (λ found. IfSome found (λ text. Prints octets.now text.items)) }
-    ensures none { IfOk result (λ found. IfNone found (IsRefused octets.now)) }
-{
-    match runnable(alloc, octets)? {
-        None => return Ok(None),
-        Some(script) => {
-            let journal = play(alloc, PlainPipes::new(alloc), &(), &script)?;
+    match read_script(alloc, octets) {
+        Ok(script) => {
+            let journal = play(alloc, &script, seed, turns)?;
             let text = print(alloc, &journal)?;
-            return Ok(Some(text.into_vec()));
+            if journal.done {
+                return Ok((Status::Done, text.into_vec()));
+            }
+            return Ok((Status::Unfinished, text.into_vec()));
         }
+        Err(ReadScript::Fault(fault)) => return Ok((Status::Script, fault_text(alloc, fault)?)),
+        Err(ReadScript::OutOfMemory) => return Err(AllocError),
     }
 }
 
-/// The text of a call that was asked to run, and its status.
-fn read_and_run<S: Source>(alloc: Global, script: &mut S) -> Result<(Status, Vec<u8>), AllocError>
-    ensures says { (words : List (List ℕ)) → IsRun words → IfOk result (λ said.
+/// The text of a call that was asked to run by this schedule, and its status.
+fn read_and_run<S: Source>(
+    alloc: Global,
+    script: &mut S,
+    seed: u64,
+    turns: u32,
+) -> Result<(Status, Vec<u8>), AllocError>
+    ensures says { (words : List (List ℕ)) → AsksRun words (record { seed = seed; turns = turns }) → IfOk result (λ said.
         Says said.0 words
         (source_at (S.left script.old) (S.faults script.old) (S.ends script.old))
         (source_at (S.left script.new) (S.faults script.new) (S.ends script.new)) said.1.items) }
@@ -66,15 +61,16 @@ fn read_and_run<S: Source>(alloc: Global, script: &mut S) -> Result<(Status, Vec
         }
         Err(ReadError::OutOfMemory) => return Err(AllocError),
     };
-    match text_of_run(alloc, &octets)? {
-        Some(text) => return Ok((Status::Done, text)),
-        None => {
-            return Ok((
-                Status::Script,
-                Vec::from_slice(alloc, b"script 0 BadWord\n")?,
-            ));
-        }
-    }
+    let said = text_of(alloc, &octets, seed, turns)?;
+    Ok(said)
+}
+
+/// The text of a call whose words ask for nothing that the program does.
+fn usage(alloc: Global) -> Result<(Status, Vec<u8>), AllocError>
+    ensures { IfOk result (λ said. (said.0 ≡ Status.Usage) × (said.1.items ≡ codes "usage: zbus run|soak|hear|forward\n")) }
+{
+    let text = Vec::from_slice(alloc, b"usage: zbus run|soak|hear|forward\n")?;
+    Ok((Status::Usage, text))
 }
 
 /// The text of a call with these words, and its status.
@@ -87,13 +83,21 @@ fn text_for<S: Source>(
         (source_at (S.left script.old) (S.faults script.old) (S.ends script.old))
         (source_at (S.left script.new) (S.faults script.new) (S.ends script.new)) said.1.items) }
 {
-    if !is_run(words) {
-        return Ok((
-            Status::Usage,
-            Vec::from_slice(alloc, b"usage: zbus run|soak|hear|forward\n")?,
-        ));
+    match read_words(alloc, words) {
+        Ok(Request::Run { seed, turns }) => {
+            let said = read_and_run(alloc, script, seed, turns)?;
+            return Ok(said);
+        }
+        Ok(Request::Hear { kind: _, login: _ }) => {
+            let said = usage(alloc)?;
+            return Ok(said);
+        }
+        Err(WordsError::Usage) => {
+            let said = usage(alloc)?;
+            return Ok(said);
+        }
+        Err(WordsError::OutOfMemory) => return Err(AllocError),
     }
-    read_and_run(alloc, script)
 }
 
 /// Does what the words of the command line ask: reads the script, runs it, and writes the journal.
@@ -111,6 +115,12 @@ pub fn run<S: Source, K: Sink, H: Host, C: Clock, G: Gate>(
 ) -> Status
     // The sink took the text of the journal of a run of the script that was read.
     ensures done { result ≡ Status.Done → Writes (Says Status.Done (map string_bytes words.now)
+        (source_at (S.left script.old) (S.faults script.old) (S.ends script.old))
+        (source_at (S.left script.new) (S.faults script.new) (S.ends script.new)))
+        (K.taken out.old) (K.taken out.new) }
+
+    // The sink took the text of the journal of a run that isn't done after all its turns.
+    ensures unfinished { result ≡ Status.Unfinished → Writes (Says Status.Unfinished (map string_bytes words.now)
         (source_at (S.left script.old) (S.faults script.old) (S.ends script.old))
         (source_at (S.left script.new) (S.faults script.new) (S.ends script.new)))
         (K.taken out.old) (K.taken out.new) }
@@ -140,12 +150,20 @@ pub fn run<S: Source, K: Sink, H: Host, C: Clock, G: Gate>(
         (source_at (S.left script.new) (S.faults script.new) (S.ends script.new))
         (K.taken out.old) (K.taken out.new) }
 
-    // A script of the form, with no fault of the outside, is run or meets want of memory.
-    ensures completes { IsRun (map string_bytes words.now) → (octets : List ℕ) → (s : Script) →
-        S.left script.old ≡ Some octets → IsRunnable octets s →
+    // A script with fewer tries than the run may take turns, and no fault of the outside, is run to
+    // its end, or meets want of memory.
+    ensures completes { (schedule : Schedule) → AsksRun (map string_bytes words.now) schedule → (octets : List ℕ) → (s : Script) →
+        S.left script.old ≡ Some octets → script_of octets ≡ Ok s → tries_in_all s < schedule.turns →
         (Rose (S.faults script.old) (S.faults script.new) → ⊥) →
         (Rose (K.faults out.old) (K.faults out.new) → ⊥) →
         (result ≡ Status.Done) ⊎ (result ≡ Status.OutOfMemory) }
+
+    // Octets that are no script, and no fault of the outside, are refused, or meet want of memory.
+    ensures refuses { (schedule : Schedule) → AsksRun (map string_bytes words.now) schedule → (octets : List ℕ) → (f : ScriptFault) →
+        S.left script.old ≡ Some octets → script_of octets ≡ Err f →
+        (Rose (S.faults script.old) (S.faults script.new) → ⊥) →
+        (Rose (K.faults out.old) (K.faults out.new) → ⊥) →
+        (result ≡ Status.Script) ⊎ (result ≡ Status.OutOfMemory) }
 
     // Want of memory comes before anything is written.
     ensures memory { result ≡ Status.OutOfMemory → K.taken out.new ≡ K.taken out.old }

@@ -1,6 +1,19 @@
-use Rattle.zq_top.proofs.Journals.{is_empty_journal, no_actor}
+use Rattle.std.proofs.Common.{rules, ◌≡◌, ℕ, List, sym, subst, ◌∙◌, ap, map, refl}
+use Rattle.spec_pattern.specs.PipeStep.{PipeStep}
+use Rattle.zq_top.specs.declared.actor.Actor.{Actor}
+use Rattle.zq_top.specs.Playing.{Ends, part_of}
+use Rattle.spec_journal.specs.declared.journal.Journal.{Journal}
+use Rattle.spec_journal.specs.Printed.{IsJournalOf}
+use Rattle.flat_net.specs.Flat.{Flat}
+use Rattle.zq_top.proofs.JournalLemmas.{the_journal, journals_are, from_the_start, written_back}
+use Rattle.zq_top.proofs.PlayLemmas.{same_count}
 use Rattle.zq_top.proofs.play.play.Goals as goal
 
-pub returns-then-is_empty : goal.returns-then-is_empty
-returns-then-is_empty g c = rw (c.new.ensures, c.new-then-is_empty.ensures)
-    (is_empty_journal c.args.script.now.actors (no_actor c.args.script.now.actors c.is_empty.result (rw c.as_slice-actors.ensures at c.is_empty.ensures) c.if-is_empty.true))
+pub returns : goal.returns
+returns c = subst (λ (j : Journal). IsJournalOf c.args.script.now (record { seed = c.args.seed; turns = c.args.turns }) j)
+    (journals_are _ _ c.of_vec-pipes.result c.of_vec-pipes.result c.in_ok-done.done (sym (c.in_ok-parts.ensures ∙ ap (map part_of) (written_back c.in_ok-actors.actors.len c.run.new.actors c.in_ok-actors.actors.items (same_count _ c.run.new.actors c.in_ok-done.ensures.did.names ∙ (search rules))))) refl)
+    (the_journal c.args.script.now (record { seed = c.args.seed; turns = c.args.turns }) c.in_ok-done.done c.run.new.net c.in_ok-actors.actors.items c.run.new.actors c.of_vec-pipes.result
+    c.in_ok-actors.ensures
+    (from_the_start (record { seed = c.args.seed; turns = c.args.turns }) c.in_ok-done.done c.in_ok-net.net c.run.new.net c.in_ok-actors.actors.items c.run.new.actors c.len.result _ c.in_ok-net.ensures c.len.ensures
+    (subst (λ (l : List Actor). Ends (record { seed = c.args.seed; turns = c.args.turns }) c.in_ok-done.done c.in_ok-net.net l c.run.new.net c.run.new.actors) c.deref_mut.ensures.value c.in_ok-done.ensures))
+    (search rules) (search rules) (search rules))

@@ -1,5 +1,10 @@
+use Rattle.std.proofs.Common.{rules, ◌≡◌, ℕ, List}
+use Rattle.zq_top.proofs.Completes.{says_read}
 use Rattle.zq_top.proofs.top.read_and_run.Goals as goal
 
-pub returns-in-None-clause-says : goal.returns-in-None-clause-says
-returns-in-None-clause-says g c = λ words asked.
-    (asked, (c.in-Ok.octets.items, c.in-Ok.ensures.ended, rw c.deref.ensures.value at (rw c.in-None.is at c.in_ok-text.ensures.none)), c.in_ok-from_slice-in-None.ensures.items)
+pub returns-in-Err-Failed-clause-says : goal.returns-in-Err-Failed-clause-says
+returns-in-Err-Failed-clause-says g c = λ words asks. ((record { seed = c.args.seed; turns = c.args.turns }, asks), search rules, c.in_ok-from_slice-in-Err-Failed.ensures.items)
+
+pub returns-clause-says : goal.returns-clause-says
+returns-clause-says g c = λ words asks. says_read c.in_ok-said.said.0 words _ _ (record { seed = c.args.seed; turns = c.args.turns }) c.in-Ok.octets.items _ asks c.in-Ok.ensures.ended
+    (rw c.deref.ensures.value at c.in_ok-said.ensures)

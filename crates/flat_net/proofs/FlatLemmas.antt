@@ -1,0 +1,147 @@
+-- How a net and its pipes stay what they are.
+use Rattle.std.proofs.Common.{◌≡◌, ◌≤◌, ◌<◌, ◌+◌, ◌-◌, ℕ, List, [], ◌∷◌, ◌++◌, Option, Some, None, length, map, refl, sym, ap, subst, ◌∙◌, arith, All, length-append, append-nil}
+use Rattle.std.specs.Prelude.{flat_map, slice_get, slice_set}
+use Rattle.std.proofs.Math.ListN.{get_or-append}
+use Rattle.std.proofs.Math.Seq.{map-set_same}
+use Rattle.std.proofs.lemmas.List.{map-append, length-map}
+use Rattle.std.proofs.lemmas.Grind.{flat_map-append}
+use Rattle.std.proofs.lemmas.List.Elements.{All-append, All-set, All-nil, All-cons, All-head, All-tail, All-weaker}
+use Rattle.std.proofs.lemmas.Option.{get_or_from_slice_get, slice_get_within, none-some}
+use Rattle.std.specs.Ordering.{nat_cmp}
+use Rattle.std.specs.Cmp.Lexicographic.{slice_cmp}
+use Rattle.std.specs.FinMap.{get-empty}
+use Rattle.zq_base.specs.declared.ids.ObjId.{ObjId}
+use Rattle.spec_pattern.specs.TurnList.{End}
+use Rattle.spec_pattern.specs.Pipe.{Pipe}
+use Rattle.spec_journal.specs.declared.journal.Joined.{Joined}
+use Rattle.spec_journal.specs.Net.{Sock, attached, with_end, turned}
+use Rattle.endpoint_book.specs.EndpointBook.{Book, empty_book}
+use Rattle.endpoint_book.specs.declared.waiting.Waiting.{Waiting}
+use Rattle.flat_net.specs.Pipes.{IsThere, fresh_pipe}
+use Rattle.flat_net.specs.Flat.{flat, IsFlat, IsOne, HasEnds, marks_of, InRange, JoinsSome, mark_at, capacities_of}
+
+-- a socket that has another turn list has the marks that it had
+pub turned_marks : (socks : List Sock) (k : ℕ) (s : Sock) (turns : List End) → slice_get socks k ≡ Some s
+    → map marks_of (slice_set socks k (turned turns s)) ≡ map marks_of socks
+turned_marks socks k s turns here = map-set_same marks_of socks k (turned turns s) s (ap marks_of (sym (get_or_from_slice_get socks k s s here)))
+
+attached_marks_at : (socks : List Sock) (o : ℕ) (e : End) (found : Option Sock) → slice_get socks (o - 1) ≡ found
+    → map marks_of (with_end socks o found e) ≡ map marks_of socks
+attached_marks_at socks o e None here = refl
+attached_marks_at socks o e (Some s) here = turned_marks socks (o - 1) s (s.turns ++ e ∷ []) here
+
+pub attached_marks : (socks : List Sock) (o : ℕ) (e : End) → map marks_of (attached o e socks) ≡ map marks_of socks
+attached_marks socks o e = attached_marks_at socks o e (slice_get socks (o - 1)) refl
+
+-- a list of sockets with the same marks is as long
+pub same_length : (socks others : List Sock) → map marks_of others ≡ map marks_of socks → length others ≡ length socks
+same_length socks others same = sym (length-map others marks_of) ∙ ap length same ∙ length-map socks marks_of
+
+-- an end that is there stays there where more pipes are
+pub there_longer : (pipes more : List Pipe) → length pipes ≤ length more → (s : Sock) → HasEnds pipes s → HasEnds more s
+there_longer pipes more le s h = All-weaker (IsThere pipes) (IsThere more) (λ p there. (there.0, omega (arith, le, there.1))) s.turns h
+
+pub all_longer : (pipes more : List Pipe) → length pipes ≤ length more → (socks : List Sock) → All (HasEnds pipes) socks → All (HasEnds more) socks
+all_longer pipes more le socks h = All-weaker (HasEnds pipes) (HasEnds more) (there_longer pipes more le) socks h
+
+-- what holds of each element holds of the one at a place
+pub element : {X : Type 0} (P : X → Type 0) (xs : List X) (k : ℕ) (x : X) → slice_get xs k ≡ Some x → All P xs → P x
+element P xs k x e all = subst P (get_or_from_slice_get xs k x x e) (all k x (slice_get_within xs k x e))
+
+-- a socket gets a further end
+attached_ends_at : (pipes : List Pipe) (socks : List Sock) (o : ℕ) (e : End) (found : Option Sock) → slice_get socks (o - 1) ≡ found
+    → IsThere pipes e → All (HasEnds pipes) socks → All (HasEnds pipes) (with_end socks o found e)
+attached_ends_at pipes socks o e None here there h = h
+attached_ends_at pipes socks o e (Some s) here there h =
+    All-set (HasEnds pipes) socks (o - 1) (turned (s.turns ++ e ∷ []) s)
+    (All-append (IsThere pipes) s.turns (e ∷ []) (element (HasEnds pipes) socks (o - 1) s here h) (All-cons (IsThere pipes) e [] there (All-nil (IsThere pipes)))) h
+
+pub attached_ends : (pipes : List Pipe) (socks : List Sock) (o : ℕ) (e : End)
+    → IsThere pipes e → All (HasEnds pipes) socks → All (HasEnds pipes) (attached o e socks)
+attached_ends pipes socks o e there h = attached_ends_at pipes socks o e (slice_get socks (o - 1)) refl there h
+
+-- a net without sockets
+pub flat_begins : (seats : List (List (Option ObjId))) → IsFlat (flat [] empty_book [] seats [])
+flat_begins seats = record {
+  few = omega arith;
+  room = omega arith;
+  ends = All-nil (HasEnds []);
+  marks = All-nil InRange;
+  joins = All-nil (JoinsSome 0);
+  waiters = All-nil (λ (x : Waiting). IsOne 0 x.waiter);
+  holders = λ name b held. absurd (none-some b (sym (get-empty (slice_cmp nat_cmp) name) ∙ held));
+  capacities = refl;
+}
+
+-- what the sockets' marks say of a pair doesn't change where more sockets come
+mark_before : (marks : List (ℕ × ℕ)) (m : ℕ × ℕ) (o : ObjId) → IsOne (length marks) o → mark_at (marks ++ m ∷ []) o ≡ mark_at marks o
+mark_before marks m o one = get_or-append marks (m ∷ []) (0, 0) (o.0 - 1) one
+
+pub capacities_before : (marks : List (ℕ × ℕ)) (m : ℕ × ℕ) (pairs : List Joined) → All (JoinsSome (length marks)) pairs
+    → flat_map (capacities_of (marks ++ m ∷ [])) pairs ≡ flat_map (capacities_of marks) pairs
+capacities_before marks m [] h = refl
+capacities_before marks m (j ∷ js) h =
+    let one = All-head (JoinsSome (length marks)) j js h in
+    let a = mark_before marks m j.a one.0 in
+    let b = mark_before marks m j.b one.1 in
+    rw (a, b, capacities_before marks m js (All-tail (JoinsSome (length marks)) j js h)) refl
+
+-- a socket more
+pub flat_with_socket : (socks : List Sock) (book : Book) (pairs : List Joined) (seats others : List (List (Option ObjId))) (pipes : List Pipe) (s : Sock)
+    → IsFlat (flat socks book pairs seats pipes) → InRange (marks_of s) → s.turns ≡ [] → length socks < 1023
+    → IsFlat (flat (socks ++ s ∷ []) book pairs others pipes)
+flat_with_socket socks book pairs seats others pipes s w range none few =
+    let more : length (socks ++ s ∷ []) ≡ length socks + 1 = length-append socks (s ∷ []) in
+    let marks : map marks_of (socks ++ s ∷ []) ≡ map marks_of socks ++ marks_of s ∷ [] = map-append marks_of socks (s ∷ []) in
+    let long : length (map marks_of socks) ≡ length socks = length-map socks marks_of in
+    record {
+      few = w.few;
+      room = omega (arith, more, few);
+      ends = All-append (HasEnds pipes) socks (s ∷ []) w.ends (All-cons (HasEnds pipes) s [] (subst (λ (l : List End). All (IsThere pipes) l) (sym none) (All-nil (IsThere pipes))) (All-nil (HasEnds pipes)));
+      marks = subst (All InRange) (sym marks) (All-append InRange (map marks_of socks) (marks_of s ∷ []) w.marks (All-cons InRange (marks_of s) [] range (All-nil InRange)));
+      joins = All-weaker (JoinsSome (length socks)) (JoinsSome (length (socks ++ s ∷ []))) (λ j one. (omega (arith, more, one.0), omega (arith, more, one.1))) pairs w.joins;
+      waiters = All-weaker (λ (x : Waiting). IsOne (length socks) x.waiter) (λ (x : Waiting). IsOne (length (socks ++ s ∷ [])) x.waiter) (λ x one. omega (arith, more, one)) book.waiting w.waiters;
+      holders = λ name b held. let one = w.holders name b held in omega (arith, more, one);
+      capacities = w.capacities ∙ sym (ap (λ (ms : List (ℕ × ℕ)). flat_map (capacities_of ms) pairs) marks ∙ capacities_before (map marks_of socks) (marks_of s) pairs (subst (λ n. All (JoinsSome n) pairs) (sym long) w.joins));
+    }
+
+-- other turn lists, and pipes of the same capacities
+pub flat_turned : (socks turned_socks : List Sock) (book : Book) (pairs : List Joined) (seats : List (List (Option ObjId))) (pipes others : List Pipe)
+    → IsFlat (flat socks book pairs seats pipes) → map marks_of turned_socks ≡ map marks_of socks
+    → All (HasEnds others) turned_socks → map (λ q. q.capacity) others ≡ map (λ q. q.capacity) pipes
+    → IsFlat (flat turned_socks book pairs seats others)
+flat_turned socks turned_socks book pairs seats pipes others w marks ends same =
+    let long = same_length socks turned_socks marks in
+    record {
+      few = w.few;
+      room = omega (arith, long, w.room);
+      ends = ends;
+      marks = subst (All InRange) (sym marks) w.marks;
+      joins = subst (λ n. All (JoinsSome n) pairs) (sym long) w.joins;
+      waiters = subst (λ n. All (λ (x : Waiting). IsOne n x.waiter) book.waiting) (sym long) w.waiters;
+      holders = λ name b held. subst (λ n. IsOne n b.holder) (sym long) (w.holders name b held);
+      capacities = same ∙ w.capacities ∙ ap (λ (ms : List (ℕ × ℕ)). flat_map (capacities_of ms) pairs) (sym marks);
+    }
+
+-- a pair more, between two sockets
+pub flat_with_pair : (socks : List Sock) (book : Book) (pairs : List Joined) (seats : List (List (Option ObjId))) (pipes : List Pipe) (j : Joined) (forth back : ℕ)
+    → IsFlat (flat socks book pairs seats pipes) → JoinsSome (length socks) j → length pairs < 1000000
+    → capacities_of (map marks_of socks) j ≡ forth ∷ back ∷ []
+    → IsFlat (flat socks book (pairs ++ j ∷ []) seats (pipes ++ fresh_pipe forth ∷ fresh_pipe back ∷ []))
+flat_with_pair socks book pairs seats pipes j forth back w one few caps =
+    let more : length (pairs ++ j ∷ []) ≡ length pairs + 1 = length-append pairs (j ∷ []) in
+    let longer : length (pipes ++ fresh_pipe forth ∷ fresh_pipe back ∷ []) ≡ length pipes + 2 = length-append pipes (fresh_pipe forth ∷ fresh_pipe back ∷ []) in
+    record {
+      few = omega (arith, more, few);
+      room = w.room;
+      ends = all_longer pipes (pipes ++ fresh_pipe forth ∷ fresh_pipe back ∷ []) (omega (arith, longer)) socks w.ends;
+      marks = w.marks;
+      joins = All-append (JoinsSome (length socks)) pairs (j ∷ []) w.joins (All-cons (JoinsSome (length socks)) j [] one (All-nil (JoinsSome (length socks))));
+      waiters = w.waiters;
+      holders = w.holders;
+      capacities = map-append (λ q. q.capacity) pipes (fresh_pipe forth ∷ fresh_pipe back ∷ [])
+          ∙ ap (λ (l : List ℕ). l ++ forth ∷ back ∷ []) w.capacities
+          ∙ ap (λ (l : List ℕ). flat_map (capacities_of (map marks_of socks)) pairs ++ l) (sym caps)
+          ∙ ap (λ (l : List ℕ). flat_map (capacities_of (map marks_of socks)) pairs ++ l) (sym (append-nil (capacities_of (map marks_of socks) j)))
+          ∙ sym (flat_map-append (capacities_of (map marks_of socks)) pairs (j ∷ []));
+    }

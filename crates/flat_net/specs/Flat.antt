@@ -1,0 +1,110 @@
+-- The net with its pipes, and what a line does to both (own choice).
+use Rattle.std.specs.Prelude.{◌≡◌, ◌⊎◌, ◌+◌, ◌-◌, ◌<◌, ◌≤◌, true, false, ℕ, List, [], ◌∷◌, ◌++◌, All, Option, Some, length, map, flat_map, get_or}
+use Rattle.zq_base.specs.declared.ids.ObjId.{ObjId}
+use Rattle.zq_base.specs.declared.kind.Kind.{Kind}
+use Rattle.zq_base.specs.declared.options.Options.{Options}
+use Rattle.zq_script.specs.declared.script.Call.{Call}
+use Rattle.zq_script.specs.declared.script.Call.TheVariants as call
+use Rattle.spec_pattern.specs.declared.pipe_id.PipeId.{PipeId}
+use Rattle.spec_pattern.specs.PipeStep.{PipeStep, committed_to, taken_from}
+use Rattle.spec_pattern.specs.Pipe.{Pipe}
+use Rattle.endpoint_book.specs.EndpointBook.{Book, Name, binding_of}
+use Rattle.endpoint_book.specs.declared.binding.Binding.{Binding}
+use Rattle.endpoint_book.specs.declared.waiting.Waiting.{Waiting}
+use Rattle.spec_journal.specs.declared.journal.Answer.{Answer}
+use Rattle.spec_journal.specs.declared.journal.Joined.{Joined}
+use Rattle.spec_journal.specs.declared.journal.PipeRow.{PipeRow}
+use Rattle.spec_journal.specs.declared.journal.Answer.TheVariants as answer
+use Rattle.spec_journal.specs.Net.{Net, Sock, sock_at, mine_at, is_made, most_sockets, next_object, end_a, end_b}
+use Rattle.spec_journal.specs.Line.{DoesCall}
+use Rattle.flat_net.specs.Pipes.{IsThere, IsPast}
+
+-- the net and its pipes
+pub record Flat : Type 0 where
+  pub net : Net
+  pub pipes : List Pipe
+
+abbrev pub flat : List Sock → Book → List Joined → List (List (Option ObjId)) → List Pipe → Flat
+flat socks book pairs seats pipes = record {
+  net = record { socks = socks; book = book; pairs = pairs; seats = seats };
+  pipes = pipes;
+}
+
+-- the object is one of so many sockets
+abbrev pub IsOne : ℕ → ObjId → Type 0
+IsOne count o = o.0 - 1 < count
+
+-- each end of the socket is an end of one of these pipes
+abbrev pub HasEnds : List Pipe → Sock → Type 0
+HasEnds pipes s = All (IsThere pipes) s.turns
+
+-- the marks of a socket: for sending and for receiving
+abbrev pub marks_of : Sock → ℕ × ℕ
+marks_of s = (s.options.hwm, s.options.rcvhwm)
+
+abbrev pub InRange : ℕ × ℕ → Type 0
+InRange m = (m.0 < 4294967296) × (m.1 < 4294967296)
+
+-- both objects of the pair are sockets
+abbrev pub JoinsSome : ℕ → Joined → Type 0
+JoinsSome count j = IsOne count j.a × IsOne count j.b
+
+-- the capacities of a pair's pipes, by the marks of all sockets
+abbrev pub mark_at : List (ℕ × ℕ) → ObjId → ℕ × ℕ
+mark_at marks o = get_or marks (o.0 - 1) (0, 0)
+
+abbrev pub capacities_of : List (ℕ × ℕ) → Joined → List ℕ
+capacities_of marks j = ((mark_at marks j.a).0 + (mark_at marks j.b).1) ∷ ((mark_at marks j.b).0 + (mark_at marks j.a).1) ∷ []
+
+-- What is always true of a net and its pipes: two pipes a pair, with the capacities of its sockets' marks; who waits, holds a name or is joined is a socket.
+pub record IsFlat (w : Flat) : Type 0 where
+  pub few : length w.net.pairs ≤ 1000000
+  pub room : length w.net.socks ≤ 1023
+  pub ends : All (HasEnds w.pipes) w.net.socks
+  pub marks : All InRange (map marks_of w.net.socks)
+  pub joins : All (JoinsSome (length w.net.socks)) w.net.pairs
+  pub waiters : All (λ (x : Waiting). IsOne (length w.net.socks) x.waiter) w.net.book.waiting
+  pub holders : (name : Name) (b : Binding) → binding_of w.net.book name ≡ Some b → IsOne (length w.net.socks) b.holder
+  pub capacities : map (λ q. q.capacity) w.pipes ≡ flat_map (capacities_of (map marks_of w.net.socks)) w.net.pairs
+
+-- the actor's socket of this place is this object
+pub record IsMine (net : Net) (actor place : ℕ) (o : ObjId) : Type 0 where
+  pub socket : Sock
+  pub mine : mine_at net actor place ≡ Some (record { object = o; socket = socket })
+  pub here : sock_at net o.0 ≡ Some socket
+  pub one : IsOne (length net.socks) o
+
+-- the line asks something of this object
+abbrev pub IsAskedOf : Net → ℕ → ObjId → Call → Type 0
+IsAskedOf net actor o (call.Socket kind options) = ⊥
+IsAskedOf net actor o (call.Bind place at) = IsMine net actor place o
+IsAskedOf net actor o (call.Connect place to) = IsMine net actor place o
+IsAskedOf net actor o (call.Send place m) = IsMine net actor place o
+IsAskedOf net actor o (call.Recv place tries) = IsMine net actor place o
+
+-- a socket is made with the next number, or none and why
+abbrev pub IsOpened : Kind → Options → Net → Answer → Net → Type 0
+IsOpened kind options old reply new =
+    ((is_made kind ≡ false) × (reply ≡ answer.NotSupported) × (new ≡ old))
+    ⊎ (((is_made kind ≡ true) × (most_sockets ≤ length old.socks) × (reply ≡ answer.TooMany) × (new ≡ old))
+    ⊎ ((is_made kind ≡ true) × (length old.socks < most_sockets)
+    × (reply ≡ answer.Object (record { 0 = next_object old }))
+    × (new ≡ record old { socks = old.socks ++ record { kind = kind; options = options; turns = [] } ∷ [] })))
+
+-- The line was done, with these steps and this answer; the steps past go on by these.
+pub record Moves (actor : ℕ) (call : Call) (old : Flat) (steps : List PipeStep) (reply : Answer) (new : Flat) : Type 0 where
+  pub does : DoesCall actor call old.net steps reply new.net
+  pub goes_on : (past : List PipeStep) → IsPast old.pipes past → IsPast new.pipes (past ++ steps)
+
+-- a row of a pipe whose messages were given or left
+abbrev pub plain_row : PipeId → ℕ → ℕ → PipeRow
+plain_row p sent given = record { pipe = p; sent = sent; given = given; heard = 0; dropped = 0; written = 0; lost = 0; rest = sent - given }
+
+-- the row of a pipe by the steps past
+abbrev pub past_row : List PipeStep → PipeId → PipeRow
+past_row past p = plain_row p (length (committed_to p past)) (length (taken_from p past))
+
+-- the rows of the pairs from this number on
+abbrev pub past_rows : List PipeStep → ℕ → List Joined → List PipeRow
+past_rows past n [] = []
+past_rows past n (j ∷ js) = past_row past (end_a n) ∷ past_row past (end_b n) ∷ past_rows past (n + 1) js

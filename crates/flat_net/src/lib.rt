@@ -1,0 +1,15 @@
+//! The sockets of a run and how they are joined, before sockets have owners and end.
+#![tactic(auto)]
+
+mod ends;
+mod net;
+mod options;
+mod pairs;
+mod pattern;
+mod seat;
+mod socket;
+
+pub use net::FlatNet;
+
+#[cfg(test)]
+mod tests;

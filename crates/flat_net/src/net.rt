@@ -1,0 +1,410 @@
+ghost use Rattle.std.specs.Prelude.{◌≡◌, ◌≤◌, OnOk, OnErr};
+ghost use Rattle.spec_journal.specs.Net.{attached};
+
+use crate::options::copy_options;
+use crate::pairs::Pairs;
+use crate::seat::Seat;
+use crate::socket::Socket;
+use endpoint_book::{BindError, Binding, EndpointBook};
+use http_server::Log;
+use spec_journal::{Answer, Joined, PipeRow};
+use spec_pattern::PipeId;
+use std::alloc::{AllocError, Global};
+use std::marker::Model;
+use zq_base::{Endpoint, Kind, Message, ObjId, Options, PairId};
+use zq_script::Call;
+
+/// How many sockets may live at once.
+const MOST_SOCKETS: usize = 1_023;
+
+/// How many pairs are ever made.
+const MOST_PAIRS: usize = 1_000_000;
+
+/// The sockets of a run, the pairs that join them, the names that they hold and the connects that
+/// wait. `joined` has the objects of each pair, for proofs alone, and takes no memory.
+#[derive(Drop)]
+pub struct FlatNet {
+    sockets: Vec<Socket>,
+    book: EndpointBook,
+    joined: Log<Joined, ()>,
+    seats: Vec<Seat>,
+    pairs: Pairs,
+}
+
+impl Model for FlatNet {
+    ghost use Rattle.std.specs.Prelude.{map};
+    ghost use Rattle.std.specs.Coded.{codes};
+    ghost use Rattle.endpoint_book.specs.View.{names_code};
+    ghost use Rattle.endpoint_book.specs.contracts.binding.Binding as bound;
+    ghost use Rattle.flat_net.specs.Flat.{Flat, flat, IsFlat};
+
+    ghost Value = { Flat };
+
+    ghost coded = { Prim.hlevel (codes, names_code bound.the_row.coded) };
+
+    ghost view = { λ w. flat w.sockets.items w.book (map (λ e. e.0) w.joined.items) w.seats.items w.pairs };
+
+    ghost invariant = { λ w. IsFlat (flat w.sockets.items w.book (map (λ e. e.0) w.joined.items) w.seats.items w.pairs) };
+}
+
+impl FlatNet {
+    ghost use Rattle.std.specs.Prelude.{◌≡◌, ◌+◌, ◌-◌, ◌*◌, ◌<◌, ◌≤◌, ℕ, List, [], ◌∷◌, ◌++◌, All, Some, None, replicate, length, slice_get, slice_set, IfOk, IfSome, IfNone, OnOk, IsTrue};
+    ghost use Rattle.spec_pattern.specs.PipeStep.{PipeStep, AreExact, most_commits};
+    ghost use Rattle.endpoint_book.specs.EndpointBook.{empty_book};
+    ghost use Rattle.spec_journal.specs.Net.{Sock, hwm_of, rcvhwm_of, sock_at, joined, seat_of, mine_at, capacity_in};
+    ghost use Rattle.spec_journal.specs.Line.{makes, binds, connects, connect_finds, joined_all, Sends, Receives};
+    ghost use Rattle.flat_net.specs.Pipes.{IsPast, IsThere, pipe_at};
+    ghost use Rattle.flat_net.specs.Flat.{flat, IsOne, IsOpened, IsMine, IsAskedOf, Moves, plain_row, past_rows};
+
+    /// A net with no sockets, for so many actors.
+    pub fn new(alloc: Global, actors: usize) -> Result<FlatNet, AllocError>
+        ensures { IfOk result (λ w. w ≡ flat [] empty_book [] (replicate actors []) []) }
+    {
+        let mut seats = Vec::new(alloc);
+        for _ in 0..actors {
+            seats.push(Seat::new(alloc))?;
+        }
+        Ok(FlatNet {
+            sockets: Vec::new(alloc),
+            book: EndpointBook::new(alloc),
+            joined: Log::new(),
+            seats,
+            pairs: Pairs::new(alloc),
+        })
+    }
+
+    /// Where the socket of this number stands.
+    fn place_of(&self, object: ObjId) -> Option<usize>
+        ensures some { IfSome result (λ k. (k ≡ object.0 - 1) × (k < length self.now.net.socks)) }
+        ensures none { IfNone result (slice_get self.now.net.socks (object.0 - 1) ≡ None) }
+    {
+        let place = (object.0 as usize).saturating_sub(1);
+        if place < self.sockets.len() {
+            return Some(place);
+        }
+        None
+    }
+
+    fn hwm(&self, object: ObjId) -> u32
+        ensures { result ≡ hwm_of (sock_at self.now.net object.0) }
+    {
+        match self.place_of(object) {
+            Some(place) => return self.sockets[place].hwm(),
+            None => return 0,
+        }
+    }
+
+    fn rcvhwm(&self, object: ObjId) -> u32
+        ensures { result ≡ rcvhwm_of (sock_at self.now.net object.0) }
+    {
+        match self.place_of(object) {
+            Some(place) => return self.sockets[place].rcvhwm(),
+            None => return 0,
+        }
+    }
+
+    /// How many pairs there are.
+    fn pair_count(&self) -> usize
+        ensures count { result ≡ length self.now.net.pairs }
+        ensures few { result ≤ 1000000 }
+        ensures pipes { length self.now.pipes ≡ 2 * result }
+    {
+        self.pairs.len() / 2
+    }
+
+    /// Joins two sockets: the first has end a.
+    fn join(&mut self, alloc: Global, a: ObjId, b: ObjId) -> Result<(), AllocError>
+        requires few { length self.old.net.pairs < 1000000 }
+        requires first { IsOne (length self.old.net.socks) a }
+        requires second { IsOne (length self.old.net.socks) b }
+        ensures net { OnOk result (self.new.net ≡ joined a b self.old.net) }
+        ensures goes_on { OnOk result ((past : List PipeStep) → IsPast self.old.pipes past → IsPast self.new.pipes past) }
+        ensures socks { length self.new.net.socks ≡ length self.old.net.socks }
+    {
+        let forth = self.hwm(a) as usize + self.rcvhwm(b) as usize;
+        let back = self.hwm(b) as usize + self.rcvhwm(a) as usize;
+        let pair = PairId(self.pair_count() as u32 + 1);
+        self.pairs.add_pair(alloc, forth, back)?;
+        self.joined = self.joined.and(&Joined { a, b }, &());
+        let end = PipeId { pair, a: true };
+        attach(&mut self.sockets, a, end)?;
+        attach(&mut self.sockets, b, end.other())?;
+        Ok(())
+    }
+
+    /// Joins each of these sockets to the one that binds, in their order.
+    fn join_all(&mut self, alloc: Global, waiters: &[ObjId], b: ObjId) -> Result<(), AllocError>
+        requires few { length self.old.net.pairs + length waiters.now ≤ 1000000 }
+        requires waiters { All (IsOne (length self.old.net.socks)) waiters.now }
+        requires binds { IsOne (length self.old.net.socks) b }
+        ensures net { OnOk result (self.new.net ≡ joined_all b waiters.now self.old.net) }
+        ensures goes_on { OnOk result ((past : List PipeStep) → IsPast self.old.pipes past → IsPast self.new.pipes past) }
+    {
+        'waiters: for a in waiters {
+            self.join(alloc, *a, b)?;
+        }
+        Ok(())
+    }
+
+    /// Notes what an actor's socket line made; nothing of an actor that has no seat.
+    fn note(&mut self, actor: usize, object: Option<ObjId>) -> Result<(), AllocError>
+        ensures net { OnOk result (self.new.net ≡ record self.old.net {
+          seats = slice_set self.old.net.seats actor (seat_of self.old.net actor ++ object ∷ []);
+        }) }
+        ensures pipes { self.new.pipes ≡ self.old.pipes }
+    {
+        match self.seats.get_mut(actor) {
+            Some(seat) => return seat.push(object),
+            None => return Ok(()),
+        }
+    }
+
+    /// Makes a socket, where its kind can be made and there is room.
+    fn open(&mut self, alloc: Global, kind: Kind, options: &Options) -> Result<Answer, AllocError>
+        ensures net { IfOk result (λ a. IsOpened kind options.now self.old.net a self.new.net) }
+        ensures pipes { self.new.pipes ≡ self.old.pipes }
+        ensures seats { self.new.net.seats ≡ self.old.net.seats }
+    {
+        let Some(socket) = Socket::new(alloc, kind, copy_options(alloc, options)?) else {
+            return Ok(Answer::NotSupported);
+        };
+        if self.sockets.len() >= MOST_SOCKETS {
+            return Ok(Answer::TooMany);
+        }
+        // For proofs: both marks have 32 bits.
+        let _marks = (socket.hwm(), socket.rcvhwm());
+        self.sockets.push(socket)?;
+        Ok(Answer::Object(ObjId(self.sockets.len() as u32)))
+    }
+
+    /// Does a socket line.
+    fn socket(
+        &mut self,
+        alloc: Global,
+        actor: usize,
+        kind: Kind,
+        options: &Options,
+    ) -> Result<Answer, AllocError>
+        ensures net { IfOk result (λ a. (a ≡ (makes actor kind options.now self.old.net).0)
+            × (self.new.net ≡ (makes actor kind options.now self.old.net).1)) }
+        ensures pipes { self.new.pipes ≡ self.old.pipes }
+    {
+        let answer = self.open(alloc, kind, options)?;
+        let object = match &answer {
+            Answer::Object(object) => Some(*object),
+            _ => None,
+        };
+        self.note(actor, object)?;
+        Ok(answer)
+    }
+
+    /// The actor's socket of this place.
+    fn mine(&self, actor: usize, place: usize) -> Option<ObjId>
+        ensures some { IfSome result (λ o. IsMine self.now.net actor place o) }
+        ensures none { IfNone result (mine_at self.now.net actor place ≡ None) }
+    {
+        let seat = self.seats.get(actor)?;
+        let object = seat.get(place)??;
+        self.place_of(object)?;
+        Some(object)
+    }
+
+    /// Binds a name.
+    fn bind(&mut self, alloc: Global, object: ObjId, name: &[u8]) -> Result<Answer, AllocError>
+        requires there { IsOne (length self.old.net.socks) object }
+        ensures net { IfOk result (λ a. (s : Sock) → sock_at self.old.net object.0 ≡ Some s →
+            (a ≡ (binds object s name.now self.old.net).0) × (self.new.net ≡ (binds object s name.now self.old.net).1)) }
+        ensures goes_on { OnOk result ((past : List PipeStep) → IsPast self.old.pipes past → IsPast self.new.pipes past) }
+    {
+        let place = (object.0 as usize).saturating_sub(1);
+        let binding = Binding {
+            holder: object,
+            kind: self.sockets[place].kind(),
+        };
+        if self.book.find(name).is_some() {
+            return Ok(Answer::InUse);
+        }
+        let waiters = self.book.waiting(alloc, name, binding)?;
+        if self.pair_count() + waiters.len() > MOST_PAIRS {
+            return Ok(Answer::TooMany);
+        }
+        match self.book.bind(alloc, name, binding) {
+            Ok(()) => {}
+            Err(BindError::InUse) => return Ok(Answer::InUse),
+            Err(BindError::OutOfMemory) => return Err(AllocError),
+        }
+        self.book.take_waiting(name, binding);
+        self.join_all(alloc, &waiters, object)?;
+        Ok(Answer::Done)
+    }
+
+    /// Connects to a name.
+    fn connect(&mut self, alloc: Global, object: ObjId, name: &[u8]) -> Result<Answer, AllocError>
+        requires there { IsOne (length self.old.net.socks) object }
+        ensures net { IfOk result (λ a. (s : Sock) → sock_at self.old.net object.0 ≡ Some s →
+            (a ≡ (connects object s name.now self.old.net).0) × (self.new.net ≡ (connects object s name.now self.old.net).1)) }
+        ensures goes_on { OnOk result ((past : List PipeStep) → IsPast self.old.pipes past → IsPast self.new.pipes past) }
+    {
+        let place = (object.0 as usize).saturating_sub(1);
+        let kind = self.sockets[place].kind();
+        match self.book.find(name) {
+            None => {
+                self.book.wait_for(alloc, name, object, kind)?;
+                return Ok(Answer::Wait);
+            }
+            Some(bound) => return self.connect_to(alloc, object, kind, bound),
+        }
+    }
+
+    /// Connects to the socket that holds the name.
+    fn connect_to(
+        &mut self,
+        alloc: Global,
+        object: ObjId,
+        kind: Kind,
+        bound: Binding,
+    ) -> Result<Answer, AllocError>
+        requires there { IsOne (length self.old.net.socks) object }
+        requires bound { IsOne (length self.old.net.socks) bound.holder }
+        ensures net { IfOk result (λ a. (s : Sock) → s.kind ≡ kind →
+            (a ≡ (connect_finds object s bound self.old.net).0) × (self.new.net ≡ (connect_finds object s bound self.old.net).1)) }
+        ensures goes_on { OnOk result ((past : List PipeStep) → IsPast self.old.pipes past → IsPast self.new.pipes past) }
+    {
+        if bound.holder == object {
+            return Ok(Answer::BadPair);
+        }
+        if !kind.fits(bound.kind) {
+            return Ok(Answer::BadPair);
+        }
+        let pairs = self.pair_count();
+        if pairs >= MOST_PAIRS {
+            return Ok(Answer::TooMany);
+        }
+        self.join(alloc, object, bound.holder)?;
+        Ok(Answer::Pair(PairId(pairs as u32 + 1)))
+    }
+
+    /// Asks a socket to send.
+    fn send(&mut self, object: ObjId, message: Message) -> Answer
+        requires there { IsOne (length self.old.net.socks) object }
+        ensures { (s : Sock) → sock_at self.old.net object.0 ≡ Some s →
+            (steps : List PipeStep) × Sends (record { object = object; socket = s }) message self.old.net steps result self.new.net
+            × ((past : List PipeStep) → IsPast self.old.pipes past → IsPast self.new.pipes (past ++ steps)) }
+    {
+        let place = (object.0 as usize).saturating_sub(1);
+        self.sockets[place].send(&mut self.pairs, message)
+    }
+
+    /// Asks a socket to receive.
+    fn recv(&mut self, object: ObjId) -> Answer
+        requires there { IsOne (length self.old.net.socks) object }
+        ensures { (s : Sock) → sock_at self.old.net object.0 ≡ Some s →
+            (steps : List PipeStep) × Receives (record { object = object; socket = s }) self.old.net steps result self.new.net
+            × ((past : List PipeStep) → IsPast self.old.pipes past → IsPast self.new.pipes (past ++ steps)) }
+    {
+        let place = (object.0 as usize).saturating_sub(1);
+        self.sockets[place].recv(&mut self.pairs)
+    }
+
+    /// Does a line on a socket.
+    fn ask(&mut self, alloc: Global, object: ObjId, call: &Call) -> Result<Answer, AllocError>
+        requires there { IsOne (length self.old.net.socks) object }
+        ensures { IfOk result (λ a. (actor : ℕ) → IsAskedOf self.old.net actor object call.now →
+            (steps : List PipeStep) × Moves actor call.now self.old steps a self.new) }
+    {
+        match call {
+            Call::Socket(_, _) => return Ok(Answer::NotSupported),
+            Call::Bind(_, Endpoint::Inproc(name)) => {
+                return self.bind(alloc, object, name.as_slice());
+            }
+            Call::Connect(_, Endpoint::Inproc(name)) => {
+                return self.connect(alloc, object, name.as_slice());
+            }
+            Call::Bind(_, Endpoint::Tcp(_)) => return Ok(Answer::NotSupported),
+            Call::Connect(_, Endpoint::Tcp(_)) => return Ok(Answer::NotSupported),
+            Call::Send(_, message) => {
+                let message = message.copy(alloc)?;
+                return Ok(self.send(object, message));
+            }
+            Call::Recv(_, _) => return Ok(self.recv(object)),
+        }
+    }
+
+    /// Does an actor's line once: its answer, and the net that it leaves (the actors are counted
+    /// from 0). Want of memory may leave a line half done, so a run ends with it.
+    pub fn step(&mut self, alloc: Global, actor: usize, call: &Call) -> Result<Answer, AllocError>
+        ensures { IfOk result (λ a. (steps : List PipeStep) × Moves actor call.now self.old steps a self.new) }
+    {
+        let place = match call {
+            Call::Socket(kind, options) => return self.socket(alloc, actor, *kind, options),
+            Call::Bind(place, _) => *place,
+            Call::Connect(place, _) => *place,
+            Call::Send(place, _) => *place,
+            Call::Recv(place, _) => *place,
+        };
+        match self.mine(actor, place as usize) {
+            None => return Ok(Answer::NoSocket),
+            Some(object) => return self.ask(alloc, object, call),
+        }
+    }
+
+    /// The row of one pipe.
+    fn row(&self, pipe: PipeId) -> PipeRow
+        requires there { IsThere self.now.pipes pipe }
+        ensures { result ≡ plain_row pipe (length (pipe_at self.now.pipes pipe).committed)
+            (length (pipe_at self.now.pipes pipe).taken) }
+    {
+        let counts = self.pairs.row(pipe);
+        PipeRow {
+            pipe,
+            sent: counts.sent,
+            given: counts.got,
+            heard: 0,
+            dropped: 0,
+            written: 0,
+            lost: 0,
+            rest: counts.rest,
+        }
+    }
+
+    /// The rows of all pairs' pipes, by the messages committed and taken: two a pair, in the order
+    /// of the pairs.
+    pub fn rows(&self, alloc: Global) -> Result<Vec<PipeRow>, AllocError>
+        ensures rows { IfOk result (λ v. (past : List PipeStep) → IsPast self.now.pipes past →
+            v.items ≡ past_rows past 1 self.now.net.pairs) }
+        ensures exact { OnOk result ((past : List PipeStep) → IsPast self.now.pipes past →
+            AreExact (capacity_in self.now.net) [] past) }
+        ensures fits { OnOk result ((p : PipeId) → capacity_in self.now.net p ≤ most_commits) }
+    {
+        // For proofs: what is always true of a net.
+        let _sockets = &self.sockets;
+        self.rows_of_pairs(alloc)
+    }
+
+    /// The same rows.
+    fn rows_of_pairs(&self, alloc: Global) -> Result<Vec<PipeRow>, AllocError>
+        ensures { IfOk result (λ v. (past : List PipeStep) → IsPast self.now.pipes past →
+            v.items ≡ past_rows past 1 self.now.net.pairs) }
+    {
+        let mut rows = Vec::new(alloc);
+        'pairs: for place in 0..self.pair_count() {
+            let pair = PairId(place as u32 + 1);
+            rows.push(self.row(PipeId { pair, a: true }))?;
+            rows.push(self.row(PipeId { pair, a: false }))?;
+        }
+        Ok(rows)
+    }
+}
+
+/// Gives the socket of this number a further end, if there is one.
+fn attach(sockets: &mut Vec<Socket>, object: ObjId, end: PipeId) -> Result<(), AllocError>
+    requires { 1 ≤ end.pair.0 }
+    ensures ok { OnOk result (sockets.new.items ≡ attached object.0 end sockets.old.items) }
+    ensures err { OnErr result (sockets.new.items ≡ sockets.old.items) }
+{
+    let place = (object.0 as usize).saturating_sub(1);
+    if place < sockets.len() {
+        return sockets[place].attach(end);
+    }
+    Ok(())
+}
