@@ -4,6 +4,3 @@
 mod sending;
 
 pub use sending::{Report, send_to};
-
-#[cfg(test)]
-mod tests;

@@ -8,6 +8,3 @@ mod waiting;
 pub use binding::Binding;
 pub use endpoint_book::{BindError, EndpointBook, NotBound};
 pub use waiting::Waiting;
-
-#[cfg(test)]
-mod tests;

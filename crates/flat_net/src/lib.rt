@@ -10,6 +10,3 @@ mod seat;
 mod socket;
 
 pub use net::FlatNet;
-
-#[cfg(test)]
-mod tests;

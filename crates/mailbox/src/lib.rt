@@ -6,6 +6,3 @@
 mod mailbox;
 
 pub use mailbox::Mailbox;
-
-#[cfg(test)]
-mod tests;

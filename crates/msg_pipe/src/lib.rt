@@ -19,6 +19,3 @@ pub use plain_peers::PlainPeers;
 pub use plain_pipe::PlainPipe;
 pub use plain_pipes::{PlainIn, PlainOut, PlainPipes};
 pub use turn_list::TurnList;
-
-#[cfg(test)]
-mod tests;

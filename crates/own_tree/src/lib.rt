@@ -10,6 +10,3 @@ pub use ending::Ending;
 pub use row::Row;
 pub use spec_control::{ObjKind, ObjState};
 pub use tree::OwnTree;
-
-#[cfg(test)]
-mod tests;

@@ -5,6 +5,3 @@ mod end;
 
 pub use end::End;
 pub use spec_control::{EndCommands, EndEvent, EndId, EndState, Reason};
-
-#[cfg(test)]
-mod tests;

@@ -8,6 +8,3 @@ mod push;
 pub use not_sent::NotSent;
 pub use pull::Pull;
 pub use push::Push;
-
-#[cfg(test)]
-mod tests;

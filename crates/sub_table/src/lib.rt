@@ -8,6 +8,3 @@ mod wanted;
 pub use told::Told;
 pub use topics::{Added, Cancelled, Topics};
 pub use wanted::{NotSub, Wanted, WantedError};
-
-#[cfg(test)]
-mod tests;

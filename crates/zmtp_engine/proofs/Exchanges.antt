@@ -35,16 +35,16 @@ use Rattle.zmtp_engine.proofs.Meaning.{means}
 use Rattle.zmtp_engine.proofs.Verdicts.{kind_is}
 
 -- whole frames behind a done handshake: the messages that they make, and the frames of the one that is unfinished
-record Runs (opts : EngineOpts) (octets : List ℕ) (h : Handshake) (whole : List (List (List ℕ))) (parts : List (List ℕ)) : Type 0 where
-  frames : List WireFrame
-  stream : IsStream opts octets frames []
-  shaken : handshake opts (items_of frames) ≡ h
-  whole_is : (gathered frames).whole ≡ whole
-  parts_are : parts ≡ bodies (gathered frames).unfinished
+pub record Runs (opts : EngineOpts) (octets : List ℕ) (h : Handshake) (whole : List (List (List ℕ))) (parts : List (List ℕ)) : Type 0 where
+  pub frames : List WireFrame
+  pub stream : IsStream opts octets frames []
+  pub shaken : handshake opts (items_of frames) ≡ h
+  pub whole_is : (gathered frames).whole ≡ whole
+  pub parts_are : parts ≡ bodies (gathered frames).unfinished
 
 -- ---- one frame more
 
-fits_size : (n : ℕ) → n ≤ 16777216 → FitsSize (ltb 255 n) n
+pub fits_size : (n : ℕ) → n ≤ 16777216 → FitsSize (ltb 255 n) n
 fits_size n le =
     elim (cases_lt 255 n) [
       | inl lt ↦ subst (λ (b : Bool). FitsSize b n) (sym (lt-ltb 255 n lt)) (omega arith)
@@ -76,7 +76,7 @@ quiet opts items h is run =
     handshake-more opts items MessageFrame ∙ ap (λ (x : Handshake). followed_by x (next opts x.stage MessageFrame)) is ∙ ap (λ (s : Stage). followed_by h (next opts s MessageFrame)) run ∙ still h run
 
 -- the frame that is written of a body
-abbrev written : FrameKind → List ℕ → WireFrame
+abbrev pub written : FrameKind → List ℕ → WireFrame
 written k body = record { kind = k; long = ltb 255 (length body); body = body }
 
 keeps : (opts : EngineOpts) (frames : List WireFrame) (h : Handshake) (parts : List (List ℕ)) (k : FrameKind) (body : List ℕ) → (k ≡ Last) ⊎ (k ≡ More) → handshake opts (items_of frames) ≡ h → h.stage ≡ Running → parts ≡ bodies (gathered frames).unfinished
@@ -87,19 +87,26 @@ keeps opts frames h parts k body which is run p few le = record {
   heard = ap (λ (i : Item). item_refusal opts frames i) (item_is k body which) ∙ ap (λ (x : Handshake). stage_refusal x.stage) (quiet opts (items_of frames) h is run) ∙ ap stage_refusal run;
 }
 
+-- one more frame that keeps the rules
+pub stream_push : (opts : EngineOpts) (octets : List ℕ) (frames : List WireFrame) (f : WireFrame) → IsStream opts octets frames [] → Keeps opts frames f → IsStream opts (octets ++ octets_of f) (frames ++ f ∷ []) []
+stream_push opts octets frames f s one = record {
+  greeting = s.greeting;
+  whole = s.whole;
+  accepted = s.accepted;
+  all = ap (λ (x : List ℕ). x ++ octets_of f) (s.all ∙ ap (λ (x : List ℕ). s.greeting ++ x) (append-nil (stream_of frames))) ∙ append_assoc s.greeting (stream_of frames) (octets_of f)
+      ∙ ap (λ (x : List ℕ). s.greeting ++ x) (sym (stream_of-push frames f) ∙ sym (append-nil (stream_of (frames ++ f ∷ []))));
+  keep = AllKeep-push opts [] frames f s.keep one;
+}
+
 one_more : (opts : EngineOpts) (octets : List ℕ) (h : Handshake) (whole : List (List (List ℕ))) (parts : List (List ℕ)) (k : FrameKind) (body : List ℕ) → (k ≡ Last) ⊎ (k ≡ More) → h.stage ≡ Running → length parts < 1023 → length body ≤ 16777216
     → Runs opts octets h whole parts → Runs opts (octets ++ encode_frame k body) h (queue_after k whole parts body) (parts_after k parts body)
 one_more opts octets h whole parts k body which run few le r =
     let f : WireFrame = written k body in
     let one = keeps opts r.frames h parts k body which r.shaken run r.parts_are few le in
     let g = gathered-push r.frames f in
-    let s = r.stream in
-    let all : octets ++ octets_of f ≡ s.greeting ++ (stream_of (r.frames ++ f ∷ []) ++ []) =
-    ap (λ (x : List ℕ). x ++ octets_of f) (s.all ∙ ap (λ (x : List ℕ). s.greeting ++ x) (append-nil (stream_of r.frames))) ∙ append_assoc s.greeting (stream_of r.frames) (octets_of f)
-    ∙ ap (λ (x : List ℕ). s.greeting ++ x) (sym (stream_of-push r.frames f) ∙ sym (append-nil (stream_of (r.frames ++ f ∷ [])))) in
     record {
       frames = r.frames ++ f ∷ [];
-      stream = record { greeting = s.greeting; whole = s.whole; accepted = s.accepted; all = all; keep = AllKeep-push opts [] r.frames f s.keep one };
+      stream = stream_push opts octets r.frames f r.stream one;
       shaken = ap (λ (i : List Item). handshake opts i) (items_of-push r.frames f ∙ ap (λ (i : Item). items_of r.frames ++ i ∷ []) (item_is k body which)) ∙ quiet opts (items_of r.frames) h r.shaken run;
       whole_is = ap (λ (x : Gathered). x.whole) g ∙ gathered_whole k f (gathered r.frames) parts [] whole r.parts_are r.whole_is;
       parts_are = gathered_parts k f (gathered r.frames) parts r.parts_are ∙ sym (ap (λ (x : Gathered). bodies x.unfinished) g);
@@ -131,14 +138,14 @@ messages_more opts octets h whole (m ∷ ms) run all r =
 
 -- ---- what whole frames mean
 
-abbrev decoded_at : EngineOpts → Handshake → List (List (List ℕ)) → Decoded
+abbrev pub decoded_at : EngineOpts → Handshake → List (List (List ℕ)) → Decoded
 decoded_at opts h whole = record { said = greeting_of opts.role ++ encode_commands h.said; peer = h.peer; messages = whole; outcome = Unfinished 0 }
 
 no_bodies : (fs : List WireFrame) → [] ≡ bodies fs → fs ≡ []
 no_bodies [] e = refl
 no_bodies (f ∷ fs) e = absurd cc
 
-runs_mean : (opts : EngineOpts) (octets : List ℕ) (h : Handshake) (whole : List (List (List ℕ))) → Runs opts octets h whole [] → Decodes opts octets (decoded_at opts h whole)
+pub runs_mean : (opts : EngineOpts) (octets : List ℕ) (h : Handshake) (whole : List (List (List ℕ))) → Runs opts octets h whole [] → Decodes opts octets (decoded_at opts h whole)
 runs_mean opts octets h whole r =
     let shaken : handshake opts (items_of r.frames ++ []) ≡ h = ap (λ (i : List Item). handshake opts i) (append-nil (items_of r.frames)) ∙ r.shaken in
     let none : (gathered r.frames).unfinished ≡ [] = no_bodies (gathered r.frames).unfinished r.parts_are in
@@ -162,7 +169,7 @@ kept opts before (f ∷ fs) none all =
     let now : stage_refusal (handshake opts (items_of (before ++ f ∷ []))).stage ≡ None = ap (λ (i : List Item). stage_refusal (handshake opts i).stage) (items_of-push before f) ∙ all.0.heard in
     ap (λ (l : List WireFrame). stage_refusal (handshake opts (items_of l)).stage) (sym (append_assoc before (f ∷ []) fs)) ∙ kept opts (before ++ f ∷ []) fs now all.1
 
-no_some : (p : Option Peer) → p ≡ None → IsSome p → ⊥
+pub no_some : (p : Option Peer) → p ≡ None → IsSome p → ⊥
 no_some p e some = let s : IsSome {T = Peer} None = subst (λ (q : Option Peer). IsSome q) e some in absurd cc
 
 done : (s : Stage) → stage_refusal s ≡ None → ((a : Awaited) → s ≡ Waiting a → ⊥) → s ≡ Running

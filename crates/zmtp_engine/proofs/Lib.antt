@@ -11,3 +11,4 @@ pub mod SendingLemmas
 pub mod Conversations
 pub mod Calls
 pub mod Exchanges
+pub mod FittingLemmas

@@ -13,8 +13,9 @@ mod want;
 
 pub use answers::{Offered, State};
 pub use engine::Engine;
-pub use laws::{what_is_written_means_what_was_offered, what_one_writes_another_hears};
+pub use laws::{
+    a_side_that_fits_decodes_what_was_offered, sides_that_fit_shake_hands,
+    what_is_written_means_what_was_offered, what_one_writes_a_fitting_one_hears,
+    what_one_writes_another_hears,
+};
 pub use want::OutOfMemory;
-
-#[cfg(test)]
-mod tests;

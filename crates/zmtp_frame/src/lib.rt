@@ -12,6 +12,3 @@ pub use head::{Head, encode_head};
 pub use reader::FrameReader;
 pub use spec_zmtp::{Flags, FrameKind};
 pub use step::Step;
-
-#[cfg(test)]
-mod tests;

@@ -95,7 +95,7 @@ hello_sayable opts h =
       brief = omega (arith, short.0, short.1, length-append l.user (length l.pass ∷ l.pass));
     }
 
-welcome_sayable : IsSayable our_welcome
+pub welcome_sayable : IsSayable our_welcome
 welcome_sayable = record {
   formed = record { named = omega arith; short = omega arith; hello = λ e. absurd (differs_at 0 _ _ refl e); error = λ e. absurd (differs_at 0 _ _ refl e); welcome = λ e. refl };
   brief = omega arith;

@@ -9,6 +9,3 @@ mod steps;
 
 pub use answer::Answer;
 pub use mech::Mech;
-
-#[cfg(test)]
-mod tests;

@@ -10,6 +10,3 @@ pub use command::{CommandError, read_command, write_command};
 pub use greeting::Greeting;
 pub use login::{read_login, write_login, write_reason};
 pub use metadata::{MetaError, read_meta, write_meta};
-
-#[cfg(test)]
-mod tests;

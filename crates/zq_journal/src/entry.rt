@@ -8,7 +8,7 @@ use spec_pattern::{RecvRefusal, SendRefusal};
 use std::alloc::{AllocError, Global};
 
 /// Appends a number in decimal digits.
-pub(crate) fn push_number(out: &mut Vec<u8>, number: u64) -> Result<(), AllocError>
+pub fn push_number(out: &mut Vec<u8>, number: u64) -> Result<(), AllocError>
     ensures { OnOk result (out.new.items ≡ out.old.items ++ decimal number) }
 {
     let mut buffer = Buffer::new();

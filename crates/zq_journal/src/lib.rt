@@ -6,8 +6,7 @@ mod journal;
 mod part;
 mod row;
 
+pub use entry::push_number;
 pub use journal::print;
+pub use part::{push_part, push_parts};
 pub use spec_journal::{ActorPart, Answer, Entry, Journal, PipeRow};
-
-#[cfg(test)]
-mod tests;

@@ -25,7 +25,8 @@ fn is_plain(part: &[u8]) -> bool
     is_graphic_text(part) && !is_dash(part) && !part.starts_with(b"0x")
 }
 
-fn push_part(alloc: Global, out: &mut Vec<u8>, part: &[u8]) -> Result<(), AllocError>
+/// Appends a part: `-` where it is empty, itself where it would be read back, else its octets in hex.
+pub fn push_part(alloc: Global, out: &mut Vec<u8>, part: &[u8]) -> Result<(), AllocError>
     ensures { OnOk result (out.new.items ≡ out.old.items ++ part_text part.now) }
 {
     if part.is_empty() {
@@ -40,11 +41,7 @@ fn push_part(alloc: Global, out: &mut Vec<u8>, part: &[u8]) -> Result<(), AllocE
 }
 
 /// Appends the parts of a message, each behind a space.
-pub(crate) fn push_parts(
-    alloc: Global,
-    out: &mut Vec<u8>,
-    message: &Message,
-) -> Result<(), AllocError>
+pub fn push_parts(alloc: Global, out: &mut Vec<u8>, message: &Message) -> Result<(), AllocError>
     ensures { OnOk result (out.new.items ≡ out.old.items ++ parts_text message.now) }
 {
     for frame in message.frames() {

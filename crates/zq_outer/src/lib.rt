@@ -24,6 +24,3 @@ pub use mem_sink::{MemSink, SureSink};
 pub use mem_source::{MemSource, SureSource};
 pub use sink::{Put, Sink};
 pub use source::{Got, Source};
-
-#[cfg(test)]
-mod tests;

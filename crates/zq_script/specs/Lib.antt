@@ -11,4 +11,3 @@ pub mod Grammar
 pub mod Script
 pub mod Groups
 pub mod Reader
-pub mod Plain

@@ -11,7 +11,6 @@ mod name;
 mod number;
 mod options;
 mod part;
-mod plain;
 mod read;
 mod script;
 mod statement;
@@ -19,9 +18,5 @@ mod verb;
 mod words;
 
 pub use fault::{Cause, ReadScript, ScriptFault};
-pub use plain::is_plain;
 pub use read::read_script;
 pub use script::{ActorScript, Call, Line, Script};
-
-#[cfg(test)]
-mod tests;

@@ -1,7 +1,7 @@
+use crate::calls::call;
 use std::alloc::Global;
 use std::test::Fail;
-use zq_outer::{MemSink, MemSource, NoHost, OpenGate, TickClock};
-use zq_top::{Status, run};
+use zq_top::Status;
 
 /// A PUSH that sends two messages to a PULL.
 const TWO_MESSAGES: &[u8] =
@@ -10,60 +10,6 @@ const TWO_MESSAGES: &[u8] =
 /// What its run prints.
 const TWO_MESSAGES_TEXT: &[u8] =
     b"a 2 ok o1\na 3 ok o2\na 4 ok\na 5 ok p1\na 6 ok p1\na 7 ok p1\na 8 msg p1 a\na 9 msg p1 b\na 10 again\npipe p1a sent 2 given 2 heard 0 dropped 0 written 0 lost 0 rest 0 -\npipe p1b sent 0 given 0 heard 0 dropped 0 written 0 lost 0 rest 0 -\ndone\n";
-
-/// What a call answered, and what its sink took.
-#[derive(Drop)]
-struct Called {
-    status: Status,
-    text: Vec<u8>,
-}
-
-fn list(alloc: Global, words: &[&str]) -> Result<Vec<String>, Fail> {
-    let mut list = Vec::new(alloc);
-    for word in words {
-        list.push(String::from_str(alloc, word)?)?;
-    }
-    Ok(list)
-}
-
-fn call(
-    alloc: Global,
-    words: &[&str],
-    script: &[u8],
-    failing_reads: &[u64],
-    failing_writes: &[u64],
-    size: usize,
-) -> Result<Called, Fail> {
-    let words = list(alloc, words)?;
-    let mut source = MemSource::new(
-        Vec::from_slice(alloc, script)?,
-        Vec::from_slice(alloc, failing_reads)?,
-        Vec::from_slice(alloc, &[size])?,
-    );
-    let mut sink = MemSink::new(
-        alloc,
-        Vec::from_slice(alloc, failing_writes)?,
-        Vec::from_slice(alloc, &[size])?,
-    );
-    let mut hosts = Vec::new(alloc);
-    for _ in 0..4 {
-        hosts.push(NoHost::new())?;
-    }
-    let mut clock = TickClock::new();
-    let status = run(
-        alloc,
-        &words,
-        &mut source,
-        &mut sink,
-        &mut hosts,
-        &mut clock,
-        &OpenGate,
-    );
-    Ok(Called {
-        status,
-        text: Vec::from_slice(alloc, sink.octets())?,
-    })
-}
 
 /// A call: its words, the script, and the status and text that it has to give.
 type Case = (
@@ -222,7 +168,7 @@ const CASES: [Case; 28] = [
 fn scripts_are_run_or_refused_as_they_must(rt: HostRuntime) -> Result<(), Fail> {
     let alloc = rt.alloc();
     for (words, script, status, text) in &CASES {
-        let called = call(alloc, words, script, &[], &[], 4096)?;
+        let called = call(alloc, words, script, &[], &[], &[4096])?;
         assert_eq!(rt; called.status, *status);
         assert_eq!(rt; called.text.as_slice(), *text);
     }
@@ -250,7 +196,7 @@ fn scripts_at_the_limits_are_read(rt: HostRuntime) -> Result<(), Fail> {
     ];
     for (line, count, status, text) in cases {
         let script = repeated(alloc, b"", line, count)?;
-        let called = call(alloc, RUN, &script, &[], &[], 65_536)?;
+        let called = call(alloc, RUN, &script, &[], &[], &[65_536])?;
         assert_eq!(rt; called.status, status);
         assert_eq!(rt; called.text.as_slice(), text);
     }
@@ -278,7 +224,7 @@ fn a_script_has_64_actors_at_the_most(rt: HostRuntime) -> Result<(), Fail> {
     ];
     for (count, status, text) in cases {
         let script = numbered(alloc, b"actor ", count)?;
-        let called = call(alloc, RUN, &script, &[], &[], 4096)?;
+        let called = call(alloc, RUN, &script, &[], &[], &[4096])?;
         assert_eq!(rt; called.status, status);
         assert_eq!(rt; called.text.as_slice(), text);
     }
@@ -304,7 +250,7 @@ fn no_more_than_1023_sockets_live(rt: HostRuntime) -> Result<(), Fail> {
     let alloc = rt.alloc();
     let mut script = many_sockets(alloc, 1_024)?;
     script.extend_from_slice(b"send sbnj x\n")?;
-    let called = call(alloc, RUN, &script, &[], &[], 65_536)?;
+    let called = call(alloc, RUN, &script, &[], &[], &[65_536])?;
     assert_eq!(rt; called.status, Status::Done);
     let end: &[u8] = b"\na 1024 ok o1023\na 1025 toomany\na 1026 again\na 1027 nosock\ndone\n";
     assert!(rt; called.text.ends_with(end));
@@ -314,14 +260,15 @@ fn no_more_than_1023_sockets_live(rt: HostRuntime) -> Result<(), Fail> {
 #[test]
 fn other_words_are_refused(rt: HostRuntime) -> Result<(), Fail> {
     let alloc = rt.alloc();
-    let words: [&[&str]; 4] = [
+    let words: [&[&str]; 5] = [
         &["zbus", "sing"],
         &[],
-        &["zbus", "hear", "PULL"],
+        &["zbus", "hear", "PULLS"],
+        &["zbus", "hear", "PULL", "--user", "u"],
         &["zbus", "run", "--threads", "1"],
     ];
     for words in words {
-        let called = call(alloc, words, b"", &[], &[], 1)?;
+        let called = call(alloc, words, b"", &[], &[], &[1])?;
         assert_eq!(rt; called.status, Status::Usage);
         assert_eq!(rt;
             called.text.as_slice(),
@@ -335,7 +282,7 @@ fn other_words_are_refused(rt: HostRuntime) -> Result<(), Fail> {
 fn a_source_that_fails_is_a_read_fault(rt: HostRuntime) -> Result<(), Fail> {
     let alloc = rt.alloc();
     for number in 1..14 {
-        let called = call(alloc, &["zbus", "run"], TWO_MESSAGES, &[number], &[], 10)?;
+        let called = call(alloc, &["zbus", "run"], TWO_MESSAGES, &[number], &[], &[10])?;
         assert_eq!(rt; called.status, Status::ReadFault);
         assert_eq!(rt; called.text.as_slice(), b"read fault\n".as_slice());
     }
@@ -346,7 +293,7 @@ fn a_source_that_fails_is_a_read_fault(rt: HostRuntime) -> Result<(), Fail> {
 fn a_sink_that_fails_has_taken_a_prefix(rt: HostRuntime) -> Result<(), Fail> {
     let alloc = rt.alloc();
     for number in 1..7u64 {
-        let called = call(alloc, &["zbus", "run"], TWO_MESSAGES, &[], &[number], 40)?;
+        let called = call(alloc, &["zbus", "run"], TWO_MESSAGES, &[], &[number], &[40])?;
         assert_eq!(rt; called.status, Status::WriteFault);
         let taken = (number as usize - 1) * 40;
         assert_eq!(rt; called.text.len(), taken);

@@ -1,5 +1,5 @@
 -- What the status is, where the outside has no fault.
-use Rattle.std.proofs.Common.{◌≡◌, ◌<◌, ◌+◌, ℕ, List, ◌++◌, length, Bool, true, false, Option, Some, refl, sym, ap, subst, ◌∙◌, arith, ◌⊎◌, inl, inr, length-append}
+use Rattle.std.proofs.Common.{◌≡◌, ◌<◌, ◌+◌, ℕ, List, ◌++◌, length, true, false, Option, Some, None, refl, sym, ap, subst, ◌∙◌, arith, ◌⊎◌, inl, inr, length-append}
 use Rattle.std.specs.Prelude.{Ok, Err, nat_lt}
 use Rattle.std.proofs.lemmas.Bool.{lt-ltb}
 use Rattle.zq_outer.specs.Count.{Rose}
@@ -7,27 +7,29 @@ use Rattle.zq_script.specs.Script.{script_of}
 use Rattle.zq_script.specs.declared.script.Script.{Script}
 use Rattle.zq_script.specs.declared.fault.ScriptFault.{ScriptFault}
 use Rattle.spec_journal.specs.declared.journal.Journal.{Journal}
-use Rattle.spec_journal.specs.Run.{Schedule, Run, IsRunOf, IsUnfinished}
+use Rattle.spec_journal.specs.Run.{Schedule}
 use Rattle.spec_journal.specs.Printed.{IsJournalOf, EndsSo}
 use Rattle.spec_journal.specs.Completeness.{tries_in_all}
 use Rattle.spec_journal.proofs.Completeness.{runs_are_done}
-use Rattle.zq_words.specs.Words.{asked}
+use Rattle.zq_base.specs.declared.kind.Kind.{Kind}
+use Rattle.zq_base.specs.declared.options.Login.{Login}
 use Rattle.zq_words.specs.declared.request.Request.{Request}
 use Rattle.zq_words.specs.declared.request.Request.TheVariants as request
-use Rattle.zq_top.specs.Headline.{AsksRun, AsksNothing, SourceAt, WasRead, Prints, Refuses, SaysOf, SaysOnceRead, Says}
+use Rattle.zq_top.specs.Headline.{AsksRun, AsksNothing, AsksHear, SourceAt, WasRead, SaysOf, Says}
 use Rattle.zq_top.specs.declared.status.Status.{Status}
 use Rattle.zq_top.specs.declared.status.Status.TheVariants as status
 
 -- what is said of octets that were read
 pub says_read : (s : Status) (words : List (List ℕ)) (before after : SourceAt) (schedule : Schedule) (octets text : List ℕ) → AsksRun words schedule
     → WasRead before after octets → SaysOf schedule s octets text → Says s words before after text
-says_read status.Done words before after schedule octets text asks read says = (schedule, asks, (octets, read, says))
+says_read status.Done words before after schedule octets text asks read says = inl (schedule, asks, (octets, read, says))
 says_read status.Script words before after schedule octets text asks read says = (schedule, asks, (octets, read, says))
 says_read status.Usage words before after schedule octets text asks read says = absurd says
 says_read status.ReadFault words before after schedule octets text asks read says = absurd says
 says_read status.WriteFault words before after schedule octets text asks read says = absurd says
 says_read status.OutOfMemory words before after schedule octets text asks read says = absurd says
 says_read status.Unfinished words before after schedule octets text asks read says = (schedule, asks, (octets, read, says))
+says_read status.Heard words before after schedule octets text asks read says = absurd says
 
 -- octets past the limit are no script
 too_long : (octets : List ℕ) (script : Script) → 1048576 < length octets → script_of octets ≡ Ok script → ⊥
@@ -64,6 +66,19 @@ script_read before after octets read script left (inr (limit, some)) is =
 not_done : (script : Script) (schedule : Schedule) (j : Journal) → IsJournalOf script schedule j → j.done ≡ false → tries_in_all script < schedule.turns → ⊥
 not_done script schedule j is none few = runs_are_done script schedule is.run is.is_run few (subst (λ d. EndsSo schedule d is.run) none is.ends)
 
+-- words that ask for a run ask for something, and for nothing else
+no_request : (r : Request) → ◌≡◌ {A = Option Request} (Some r) None → ⊥
+no_request r same = cc
+
+not_hear : (a b : ℕ) (kind : Kind) (login : Option Login) → ◌≡◌ {A = Option Request} (Some (request.Run a b)) (Some (request.Hear kind login)) → ⊥
+not_hear a b kind login same = cc
+
+run_asks : (words : List (List ℕ)) (schedule : Schedule) → AsksRun words schedule → AsksNothing words → ⊥
+run_asks words schedule asks none = no_request (request.Run schedule.seed schedule.turns) (sym asks ∙ none)
+
+run_hears_none : (words : List (List ℕ)) (schedule : Schedule) (kind : Kind) (login : Option Login) → AsksRun words schedule → AsksHear words kind login → ⊥
+run_hears_none words schedule kind login asks hears = not_hear schedule.seed schedule.turns kind login (sym asks ∙ hears)
+
 module _ (words : List (List ℕ)) (before after : SourceAt) (text octets : List ℕ) (schedule : Schedule) (asks : AsksRun words schedule) (left : before.left ≡ Some octets)
     (sound : Rose before.faults after.faults → ⊥) where
   pub completes : (s : Status) (script : Script) → Says s words before after text → script_of octets ≡ Ok script → tries_in_all script < schedule.turns
@@ -73,10 +88,11 @@ module _ (words : List (List ℕ)) (before after : SourceAt) (text octets : List
       let same : read ≡ octets = script_read before after octets read script left was_read is in
       let clash : script_of octets ≡ Err refuses.fault = subst (λ (l : List ℕ). script_of l ≡ Err refuses.fault) same refuses.fault_is in
       let both = sym is ∙ clash in cc
-  completes status.Usage script says is few = absurd (says.0 schedule asks)
+  completes status.Usage script says is few = absurd (run_asks words schedule asks says.0)
   completes status.ReadFault script says is few = absurd (sound says.1)
   completes status.WriteFault script says is few = absurd says
   completes status.OutOfMemory script says is few = inr refl
+  completes status.Heard script (kind, login, asked_other, heard) is few = absurd (run_hears_none words schedule kind login asks asked_other)
   completes status.Unfinished script (other, asked_other, (read, was_read, prints)) is few =
       let same : read ≡ octets = script_read before after octets read script left was_read is in
       let found : script_of octets ≡ Ok prints.script = subst (λ (l : List ℕ). script_of l ≡ Ok prints.script) same prints.script_is in
@@ -87,15 +103,17 @@ module _ (words : List (List ℕ)) (before after : SourceAt) (text octets : List
 
   pub refuses : (s : Status) (fault : ScriptFault) → Says s words before after text → script_of octets ≡ Err fault
       → (s ≡ status.Script) ⊎ (s ≡ status.OutOfMemory)
-  refuses status.Done fault (other, asked_other, (read, was_read, prints)) is =
+  refuses status.Done fault (inr (kind, login, asked_other, heard)) is = absurd (run_hears_none words schedule kind login asks asked_other)
+  refuses status.Done fault (inl (other, asked_other, (read, was_read, prints))) is =
       let same : read ≡ octets = all_read before after octets read prints.script left was_read prints.script_is in
       let found : script_of octets ≡ Ok prints.script = subst (λ (l : List ℕ). script_of l ≡ Ok prints.script) same prints.script_is in
       let both = sym found ∙ is in cc
   refuses status.Script fault says is = inl refl
-  refuses status.Usage fault says is = absurd (says.0 schedule asks)
+  refuses status.Usage fault says is = absurd (run_asks words schedule asks says.0)
   refuses status.ReadFault fault says is = absurd (sound says.1)
   refuses status.WriteFault fault says is = absurd says
   refuses status.OutOfMemory fault says is = inr refl
+  refuses status.Heard fault (kind, login, asked_other, heard) is = absurd (run_hears_none words schedule kind login asks asked_other)
   refuses status.Unfinished fault (other, asked_other, (read, was_read, prints)) is =
       let same : read ≡ octets = all_read before after octets read prints.script left was_read prints.script_is in
       let found : script_of octets ≡ Ok prints.script = subst (λ (l : List ℕ). script_of l ≡ Ok prints.script) same prints.script_is in

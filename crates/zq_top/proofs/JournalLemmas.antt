@@ -1,6 +1,6 @@
 -- The journal of a run that came to its end.
-use Rattle.std.proofs.Common.{◌≡◌, ◌≤◌, ◌<◌, ◌+◌, ℕ, List, [], ◌∷◌, ◌++◌, Bool, true, false, Option, Some, None, length, map, take, drop, refl, sym, ap, subst, ◌∙◌, arith}
-use Rattle.std.specs.Prelude.{flat_map, replicate, slice_get, slice_index_or, All}
+use Rattle.std.proofs.Common.{◌≡◌, ◌≤◌, ◌+◌, ℕ, List, [], ◌∷◌, ◌++◌, Bool, true, false, Option, Some, None, length, map, take, drop, refl, sym, ap, subst, ◌∙◌, arith}
+use Rattle.std.specs.Prelude.{replicate, slice_get, All}
 use Rattle.std.specs.List.{range_with_len}
 use Rattle.std.proofs.Math.Seq.{take-append_seam}
 use Rattle.std.proofs.lemmas.List.{length-map}
@@ -9,7 +9,7 @@ use Rattle.zq_base.specs.declared.ids.ObjId.{ObjId}
 use Rattle.zq_script.specs.declared.script.Script.{Script}
 use Rattle.zq_script.specs.declared.script.ActorScript.{ActorScript}
 use Rattle.spec_pattern.specs.declared.pipe_id.PipeId.{PipeId}
-use Rattle.spec_pattern.specs.PipeStep.{PipeStep, AreExact, TakesInOrder, most_commits}
+use Rattle.spec_pattern.specs.PipeStep.{PipeStep, AreExact, most_commits}
 use Rattle.spec_pattern.proofs.Exact.{taken_prefix}
 use Rattle.spec_pattern.proofs.Looks.{looks_hold}
 use Rattle.endpoint_book.specs.EndpointBook.{empty_book}
@@ -18,15 +18,15 @@ use Rattle.spec_journal.specs.declared.journal.ActorPart.{ActorPart}
 use Rattle.spec_journal.specs.declared.journal.PipeRow.{PipeRow}
 use Rattle.spec_journal.specs.declared.journal.Journal.{Journal}
 use Rattle.spec_journal.specs.Net.{Net, capacity_in}
-use Rattle.spec_journal.specs.Turn.{Doing, Agenda, Stage, stage_before, other_workers, whole_agenda, workers_of, Turns}
+use Rattle.spec_journal.specs.Turn.{Agenda, Stage, stage_before, other_workers, whole_agenda, workers_of, Turns}
 use Rattle.spec_journal.specs.Run.{Schedule, Run, IsRunOf, doings_of, doings_by, steps_of}
 use Rattle.spec_journal.specs.Printed.{IsJournalOf, journal_of, entries_of, parts_from, rows_from}
 use Rattle.spec_journal.specs.Printed as printed
 use Rattle.spec_journal.proofs.Dispositions.{all_end}
 use Rattle.flat_net.specs.Flat.{Flat, flat, past_rows}
-use Rattle.flat_net.specs.Pipes.{IsPast, IsThere}
+use Rattle.flat_net.specs.Pipes.{IsPast}
 use Rattle.zq_top.specs.declared.actor.Actor.{Actor}
-use Rattle.zq_top.specs.Playing.{agenda_of, entries_in, entries_at, Did, stage_of, EndsSo, Ends, AreNew, part_of}
+use Rattle.zq_top.specs.Playing.{agenda_of, entries_in, entries_at, stage_of, EndsSo, Ends, AreNew, part_of}
 use Rattle.zq_top.proofs.PlayLemmas.{parts_are}
 use Rattle.zq_top.proofs.Given.{all_given, past_rows_are}
 

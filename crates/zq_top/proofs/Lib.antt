@@ -4,3 +4,4 @@ pub mod PlayLemmas
 pub mod Given
 pub mod JournalLemmas
 pub mod Completes
+pub mod Hears

@@ -1,5 +1,5 @@
 -- How a run goes on by a worker's step, by the steps of several workers, and by a turn.
-use Rattle.std.proofs.Common.{◌≡◌, ◌≢◌, ◌≤◌, ◌<◌, ◌+◌, ℕ, List, [], ◌∷◌, ◌++◌, Bool, true, false, Option, Some, None, length, map, refl, sym, ap, subst, ◌∙◌, arith, append-nil, append_assoc, length-set, get_or-set_same, get_or-set_other, ltb, ltb-true, ltb-false, true≢false, ◌-◌, ◌&&◌, zero, suc, length-append}
+use Rattle.std.proofs.Common.{◌≡◌, ◌≢◌, ◌≤◌, ◌<◌, ◌+◌, ℕ, List, [], ◌∷◌, ◌++◌, Bool, true, false, Option, Some, length, map, refl, sym, ap, subst, ◌∙◌, arith, append-nil, append_assoc, length-set, get_or-set_same, get_or-set_other, ltb, ltb-true, ltb-false, true≢false, ◌-◌, ◌&&◌, zero, suc, length-append}
 use Rattle.std.specs.Prelude.{flat_map, filter, slice_get, slice_set, slice_index_or, nat_eq}
 use Rattle.std.specs.List.{range_with_len, list_all}
 use Rattle.std.proofs.lemmas.Bool.{eq-eqb, eqb-true, ne_eqb}
@@ -14,7 +14,7 @@ use Rattle.spec_pattern.specs.PipeStep.{PipeStep}
 use Rattle.spec_journal.specs.declared.journal.Answer.{Answer}
 use Rattle.spec_journal.specs.declared.journal.Entry.{Entry}
 use Rattle.spec_journal.specs.declared.journal.ActorPart.{ActorPart}
-use Rattle.spec_journal.specs.Turn.{Doing, Agenda, Stage, Tries, StepOf, StepsOf, Turns, IsOrder, IsFinished, is_over, after_try, lines_in, lines_left, other_workers, whole_agenda}
+use Rattle.spec_journal.specs.Turn.{Doing, Agenda, Stage, StepOf, StepsOf, Turns, IsOrder, IsFinished, is_over, after_try, lines_in, other_workers, whole_agenda}
 use Rattle.spec_journal.specs.Run.{steps_of, doings_by}
 use Rattle.spec_journal.specs.Printed.{entry_of, entries_of, parts_from}
 use Rattle.std.specs.Option.{option_map}

@@ -12,3 +12,4 @@ exit_code status.ReadFault = 3
 exit_code status.WriteFault = 4
 exit_code status.OutOfMemory = 6
 exit_code status.Unfinished = 8
+exit_code status.Heard = 9

@@ -1,7 +1,7 @@
 /// How a call of the program ended.
 #[derive(Clone, Copy, Debug, PartialEq, Eq)]
 pub enum Status {
-    /// The run is done.
+    /// The run is done, or the peer's octets were heard and are not refused.
     Done,
     /// The script is refused.
     Script,
@@ -15,6 +15,8 @@ pub enum Status {
     OutOfMemory,
     /// The run isn't done after all its turns.
     Unfinished,
+    /// The peer's octets are refused.
+    Heard,
 }
 
 impl Status {
@@ -33,6 +35,7 @@ impl Status {
             Status::WriteFault => 4,
             Status::OutOfMemory => 6,
             Status::Unfinished => 8,
+            Status::Heard => 9,
         }
     }
 }

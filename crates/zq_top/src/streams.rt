@@ -23,29 +23,62 @@ impl From<AllocError> for ReadError {
 }
 
 /// One octet more than the longest script has.
-pub(crate) const LIMIT: usize = 1_048_577;
+const SCRIPT_LIMIT: usize = 1_048_577;
 
-/// The octets of the source, up to its end or to one more than a script may have.
-pub(crate) fn read_all<S: Source>(alloc: Global, source: &mut S) -> Result<Vec<u8>, ReadError>
+/// As many octets as no list of them has.
+const MEMORY_LIMIT: usize = 9_223_372_036_854_775_807;
+
+/// The octets of the source, up to its end or to so many.
+fn read_up_to<S: Source>(alloc: Global, source: &mut S, limit: usize) -> Result<Vec<u8>, ReadError>
     ensures ended { IfOk result (λ octets.
         (Rose (S.ends source.old) (S.ends source.new)
         × ConsumesAll (S.left source.old) octets.items (S.left source.new))
-        ⊎ ((length octets.items ≡ LIMIT)
+        ⊎ ((length octets.items ≡ limit)
         × Consumes (S.left source.old) octets.items (S.left source.new))) }
-    ensures few { IfOk result (λ octets. length octets.items ≤ LIMIT) }
+    ensures few { IfOk result (λ octets. length octets.items ≤ limit) }
     ensures failed { IsErrOf result ReadError.Failed → Rose (S.faults source.old) (S.faults source.new) }
     ensures faults { S.faults source.old ≤ S.faults source.new }
     ensures ends { S.ends source.old ≤ S.ends source.new }
 {
     let mut octets = Vec::new(alloc);
     let mut buf = [0u8; 8192];
-    'reads: while octets.len() < LIMIT {
-        let want = (LIMIT - octets.len()).min(8192);
+    'reads: while octets.len() < limit {
+        let want = (limit - octets.len()).min(8192);
         match source.read(&mut buf[..want]) {
             Got::Bytes(count) => octets.extend_from_slice(&buf[..count])?,
             Got::End => return Ok(octets),
             Got::Failed => return Err(ReadError::Failed),
         }
+    }
+    Ok(octets)
+}
+
+/// The octets of the source, up to its end or to one more than a script may have.
+pub(crate) fn read_script_text<S: Source>(
+    alloc: Global,
+    source: &mut S,
+) -> Result<Vec<u8>, ReadError>
+    ensures ended { IfOk result (λ octets.
+        (Rose (S.ends source.old) (S.ends source.new)
+        × ConsumesAll (S.left source.old) octets.items (S.left source.new))
+        ⊎ ((length octets.items ≡ 1048577)
+        × Consumes (S.left source.old) octets.items (S.left source.new))) }
+    ensures failed { IsErrOf result ReadError.Failed → Rose (S.faults source.old) (S.faults source.new) }
+    ensures faults { S.faults source.old ≤ S.faults source.new }
+{
+    read_up_to(alloc, source, SCRIPT_LIMIT)
+}
+
+/// The octets of the source, up to its end.
+pub(crate) fn read_all<S: Source>(alloc: Global, source: &mut S) -> Result<Vec<u8>, ReadError>
+    ensures ended { IfOk result (λ octets. Rose (S.ends source.old) (S.ends source.new)
+        × ConsumesAll (S.left source.old) octets.items (S.left source.new)) }
+    ensures failed { IsErrOf result ReadError.Failed → Rose (S.faults source.old) (S.faults source.new) }
+    ensures faults { S.faults source.old ≤ S.faults source.new }
+{
+    let octets = read_up_to(alloc, source, MEMORY_LIMIT)?;
+    if octets.len() == MEMORY_LIMIT {
+        return Err(ReadError::OutOfMemory);
     }
     Ok(octets)
 }

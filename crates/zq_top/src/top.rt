@@ -1,4 +1,4 @@
-ghost use Rattle.std.specs.Prelude.{◌≡◌, ◌⊎◌, ◌<◌, ◌≤◌, ℕ, List, Some, Ok, Err, map, string_bytes, codes, IfOk};
+ghost use Rattle.std.specs.Prelude.{◌≡◌, ◌⊎◌, ◌<◌, ◌≤◌, ℕ, Bool, List, Option, Some, Ok, Err, map, string_bytes, codes, IfOk, IfSome};
 ghost use Rattle.zq_outer.specs.Count.{Rose};
 ghost use Rattle.zq_outer.specs.Sink.{AppendsFront};
 ghost use Rattle.zq_script.specs.Script.{script_of};
@@ -6,13 +6,18 @@ ghost use Rattle.zq_script.specs.declared.script.Script.{Script};
 ghost use Rattle.zq_script.specs.declared.fault.ScriptFault.{ScriptFault};
 ghost use Rattle.spec_journal.specs.Run.{Schedule};
 ghost use Rattle.spec_journal.specs.Completeness.{tries_in_all};
-ghost use Rattle.zq_top.specs.Headline.{AsksRun, Says, SaysOf, Writes, WritesFront, source_at};
+ghost use Rattle.spec_zmtp.specs.Metadata.{IsLogin};
+ghost use Rattle.spec_zmtp.specs.DecodedStream.{Decoded, Decodes};
+ghost use Rattle.zq_hear.specs.HearText.{IsHeard, hear_opts, is_refused};
+ghost use Rattle.zq_top.specs.Headline.{AsksRun, AsksHear, Says, SaysOf, Writes, WritesFront, source_at, heard_status};
 
 use crate::fault::fault_text;
 use crate::play::play;
 use crate::status::Status;
-use crate::streams::{ReadError, read_all, write_all};
+use crate::streams::{ReadError, read_all, read_script_text, write_all};
 use std::alloc::{AllocError, Global};
+use zq_base::{Kind, Login};
+use zq_hear::hear;
 use zq_journal::print;
 use zq_outer::{Clock, Gate, Host, Sink, Source};
 use zq_script::{ReadScript, read_script};
@@ -54,7 +59,7 @@ fn read_and_run<S: Source>(
         (source_at (S.left script.new) (S.faults script.new) (S.ends script.new)) said.1.items) }
     ensures faults { S.faults script.old ≤ S.faults script.new }
 {
-    let octets = match read_all(alloc, script) {
+    let octets = match read_script_text(alloc, script) {
         Ok(octets) => octets,
         Err(ReadError::Failed) => {
             return Ok((Status::ReadFault, Vec::from_slice(alloc, b"read fault\n")?));
@@ -62,6 +67,50 @@ fn read_and_run<S: Source>(
         Err(ReadError::OutOfMemory) => return Err(AllocError),
     };
     let said = text_of(alloc, &octets, seed, turns)?;
+    Ok(said)
+}
+
+/// The text of what the octets of a peer mean, and whether they are refused.
+fn heard_of(
+    alloc: Global,
+    kind: Kind,
+    login: Option<Login>,
+    octets: &[u8],
+) -> Result<(Status, Vec<u8>), AllocError>
+    requires login { IfSome login IsLogin }
+    ensures { IfOk result (λ said. (refused : Bool) × (said.0 ≡ heard_status refused)
+        × IsHeard (hear_opts kind login) octets.now said.1.items refused) }
+{
+    let heard = hear(alloc, kind, login, octets)?;
+    let status = if heard.refused {
+        Status::Heard
+    } else {
+        Status::Done
+    };
+    Ok((status, heard.text.into_vec()))
+}
+
+/// The text of a call that was asked to hear a peer, and its status.
+fn read_and_hear<S: Source>(
+    alloc: Global,
+    peer: &mut S,
+    kind: Kind,
+    login: Option<Login>,
+) -> Result<(Status, Vec<u8>), AllocError>
+    requires login { IfSome login IsLogin }
+    ensures { (words : List (List ℕ)) → AsksHear words kind login → IfOk result (λ said.
+        Says said.0 words
+        (source_at (S.left peer.old) (S.faults peer.old) (S.ends peer.old))
+        (source_at (S.left peer.new) (S.faults peer.new) (S.ends peer.new)) said.1.items) }
+{
+    let octets = match read_all(alloc, peer) {
+        Ok(octets) => octets,
+        Err(ReadError::Failed) => {
+            return Ok((Status::ReadFault, Vec::from_slice(alloc, b"read fault\n")?));
+        }
+        Err(ReadError::OutOfMemory) => return Err(AllocError),
+    };
+    let said = heard_of(alloc, kind, login, &octets)?;
     Ok(said)
 }
 
@@ -88,8 +137,8 @@ fn text_for<S: Source>(
             let said = read_and_run(alloc, script, seed, turns)?;
             return Ok(said);
         }
-        Ok(Request::Hear { kind: _, login: _ }) => {
-            let said = usage(alloc)?;
+        Ok(Request::Hear { kind, login }) => {
+            let said = read_and_hear(alloc, script, kind, login)?;
             return Ok(said);
         }
         Err(WordsError::Usage) => {
@@ -100,7 +149,8 @@ fn text_for<S: Source>(
     }
 }
 
-/// Does what the words of the command line ask: reads the script, runs it, and writes the journal.
+/// Does what the words of the command line ask: reads a script, runs it, and writes the journal; or reads all octets of
+/// a peer, and writes what they mean.
 ///
 /// `words[0]` is the program's name. The text is made whole before the first write. The hosts, the
 /// clock and the gate are those of runs over links and in threads, and are left as they are.
@@ -113,7 +163,8 @@ pub fn run<S: Source, K: Sink, H: Host, C: Clock, G: Gate>(
     clock: &mut C,
     gate: &G,
 ) -> Status
-    // The sink took the text of the journal of a run of the script that was read.
+    // The sink took the text of the journal of a run of the script that was read, or of what a peer's octets mean,
+    // which are not refused.
     ensures done { result ≡ Status.Done → Writes (Says Status.Done (map string_bytes words.now)
         (source_at (S.left script.old) (S.faults script.old) (S.ends script.old))
         (source_at (S.left script.new) (S.faults script.new) (S.ends script.new)))
@@ -125,7 +176,13 @@ pub fn run<S: Source, K: Sink, H: Host, C: Clock, G: Gate>(
         (source_at (S.left script.new) (S.faults script.new) (S.ends script.new)))
         (K.taken out.old) (K.taken out.new) }
 
-    // The octets that were read are refused, and only those are.
+    // The sink took the text of what a peer's octets mean, which are refused, with the cause and the offset.
+    ensures heard { result ≡ Status.Heard → Writes (Says Status.Heard (map string_bytes words.now)
+        (source_at (S.left script.old) (S.faults script.old) (S.ends script.old))
+        (source_at (S.left script.new) (S.faults script.new) (S.ends script.new)))
+        (K.taken out.old) (K.taken out.new) }
+
+    // The octets that were read are no script, and only those are refused so.
     ensures script { result ≡ Status.Script → Writes (Says Status.Script (map string_bytes words.now)
         (source_at (S.left script.old) (S.faults script.old) (S.ends script.old))
         (source_at (S.left script.new) (S.faults script.new) (S.ends script.new)))
@@ -164,6 +221,15 @@ pub fn run<S: Source, K: Sink, H: Host, C: Clock, G: Gate>(
         (Rose (S.faults script.old) (S.faults script.new) → ⊥) →
         (Rose (K.faults out.old) (K.faults out.new) → ⊥) →
         (result ≡ Status.Script) ⊎ (result ≡ Status.OutOfMemory) }
+
+    // Octets of a peer, and no fault of the outside, are heard, refused exactly where their meaning is, or meet want of
+    // memory.
+    ensures hears { (kind : Kind) (login : Option Login) → AsksHear (map string_bytes words.now) kind login →
+        (octets : List ℕ) (d : Decoded) →
+        S.left script.old ≡ Some octets → Decodes (hear_opts kind login) octets d →
+        (Rose (S.faults script.old) (S.faults script.new) → ⊥) →
+        (Rose (K.faults out.old) (K.faults out.new) → ⊥) →
+        (result ≡ heard_status (is_refused d.outcome)) ⊎ (result ≡ Status.OutOfMemory) }
 
     // Want of memory comes before anything is written.
     ensures memory { result ≡ Status.OutOfMemory → K.taken out.new ≡ K.taken out.old }

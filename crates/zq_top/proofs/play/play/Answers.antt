@@ -1,10 +1,8 @@
-use Rattle.std.proofs.Common.{rules, ◌≡◌, ℕ, List, sym, subst, ◌∙◌, ap, map, refl}
-use Rattle.spec_pattern.specs.PipeStep.{PipeStep}
+use Rattle.std.proofs.Common.{rules, List, sym, subst, ◌∙◌, ap, map, refl}
 use Rattle.zq_top.specs.declared.actor.Actor.{Actor}
 use Rattle.zq_top.specs.Playing.{Ends, part_of}
 use Rattle.spec_journal.specs.declared.journal.Journal.{Journal}
 use Rattle.spec_journal.specs.Printed.{IsJournalOf}
-use Rattle.flat_net.specs.Flat.{Flat}
 use Rattle.zq_top.proofs.JournalLemmas.{the_journal, journals_are, from_the_start, written_back}
 use Rattle.zq_top.proofs.PlayLemmas.{same_count}
 use Rattle.zq_top.proofs.play.play.Goals as goal

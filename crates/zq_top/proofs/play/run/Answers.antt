@@ -1,4 +1,4 @@
-use Rattle.std.proofs.Common.{rules, ◌≡◌, ℕ, List, sym, subst, ◌∙◌, arith}
+use Rattle.std.proofs.Common.{rules, List, subst, ◌∙◌}
 use Rattle.spec_journal.specs.Turn.{Doing}
 use Rattle.zq_top.specs.Playing.{TurnDoes}
 use Rattle.zq_top.proofs.PlayLemmas.{ends_done, ends_undone, one_turn_more, all_finished, not_finished}

@@ -1,4 +1,4 @@
-use Rattle.std.proofs.Common.{◌≡◌, ◌+◌, ℕ, List, length}
+use Rattle.std.proofs.Common.{◌≡◌, ◌+◌, List, length}
 use Rattle.spec_journal.specs.Turn.{Doing}
 use Rattle.zq_top.specs.Playing.{HasCome}
 use Rattle.zq_top.proofs.play.run.Given as goal

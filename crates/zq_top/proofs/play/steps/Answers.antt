@@ -1,6 +1,5 @@
 use Rattle.std.proofs.Common.{List, ℕ, ◌++◌, sym, subst}
 use Rattle.std.proofs.lemmas.List.{take_more}
-use Rattle.spec_journal.specs.Turn.{Doing}
 use Rattle.zq_top.specs.Playing.{WorkersDo}
 use Rattle.zq_top.proofs.PlayLemmas.{workers_more}
 use Rattle.zq_top.proofs.play.steps.Goals as goal

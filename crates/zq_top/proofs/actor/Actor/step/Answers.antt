@@ -1,4 +1,4 @@
-use Rattle.std.proofs.Common.{rules, ◌≡◌, ◌∷◌, ◌+◌, sym, ◌∙◌, refl}
+use Rattle.std.proofs.Common.{rules, ◌+◌, refl}
 use Rattle.zq_top.proofs.PlayLemmas.{tries_again, is_over_now}
 use Rattle.zq_top.proofs.actor.Actor.step.Goals as goal
 

@@ -1,4 +1,4 @@
-use Rattle.std.proofs.Common.{rules, ◌≡◌, ◌<◌, ℕ, ◌+◌, List, [], ◌∷◌, ◌++◌, length, refl, sym, subst, ap, ◌∙◌, arith}
+use Rattle.std.proofs.Common.{rules, ℕ, List, [], ◌∷◌, ◌++◌, refl, sym, subst, ◌∙◌}
 use Rattle.std.specs.List.{remove}
 use Rattle.zq_top.proofs.OrderLemmas.{GoesOn, goes_on_first, goes_on_more, goes_on_last}
 use Rattle.zq_top.proofs.order.Order.draw.Goals as goal

@@ -1,4 +1,4 @@
-use Rattle.std.proofs.Common.{◌≡◌, ℕ, length}
+use Rattle.std.proofs.Common.{◌≡◌, length}
 use Rattle.zq_top.proofs.OrderLemmas.{GoesOn}
 use Rattle.zq_top.proofs.order.Order.draw.Given as goal
 

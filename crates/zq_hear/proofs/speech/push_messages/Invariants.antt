@@ -1,0 +1,12 @@
+use Rattle.std.proofs.Common.{◌≡◌, ◌++◌, ℕ, List, length}
+use Rattle.std.specs.Prelude.{flat_map}
+use Rattle.zq_hear.specs.HearText.{message_text}
+use Rattle.zq_hear.specs.Told.{Told, Tells, with_given}
+use Rattle.zq_hear.proofs.speech.push_messages.Given as goal
+
+abbrev pub invariant-messages : goal.invariant-messages
+invariant-messages l = (more : List (List (List ℕ))) × (l.out.items ≡ l.fn.out.items ++ flat_map message_text more)
+    × ((t : Told) → Tells t l.fn.engine → Tells (with_given more t) l.engine)
+
+abbrev pub decreases-messages : goal.decreases-messages
+decreases-messages l = length l.engine.listening.hearing.queue

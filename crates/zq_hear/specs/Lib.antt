@@ -1,0 +1,2 @@
+pub mod HearText
+pub mod Told

@@ -1,0 +1,8 @@
+//! Hears a peer's octets, and tells in text what they mean and what is said in return.
+#![tactic(auto)]
+
+mod hearing;
+mod lines;
+mod speech;
+
+pub use hearing::{Heard, hear};
