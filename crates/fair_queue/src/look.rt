@@ -1,4 +1,5 @@
-ghost use Rattle.std.specs.Prelude.{◌≡◌, ◌<◌, All, MatchOption, slice_index_or};
+ghost use Rattle.std.specs.Prelude.{◌≡◌, ◌<◌, All, IfSome, MatchOption, slice_index_or};
+ghost use Rattle.spec_pattern.specs.Pipe.{IsCommittable};
 ghost use Rattle.fair_queue.specs.Looks.{GivesNothing, GivesNothingAt, GivesFirst, Gives};
 
 use msg_pipe::{Peers, Taken};
@@ -10,6 +11,7 @@ pub(crate) fn first_in<E: Peers>(peers: &mut E, places: &[usize]) -> Option<(usi
     ensures looks { MatchOption result
         (GivesNothing E.runs (E.end_at peers.old) places.now peers.old peers.new)
         (λ r. GivesFirst E.runs (E.end_at peers.old) places.now r.0 r.1 peers.old peers.new) }
+    ensures whole { IfSome result (λ r. IsCommittable r.1) }
     ensures places { E.places peers.new ≡ E.places peers.old }
     ensures ends { E.end_at peers.new ≡ E.end_at peers.old }
     ensures writable { E.writable peers.new ≡ E.writable peers.old }
@@ -30,6 +32,7 @@ fn look<E: Peers>(peers: &mut E, place: usize) -> Option<Message>
     ensures looks { MatchOption result
         (GivesNothingAt E.runs (E.end_at peers.old place) peers.old peers.new)
         (λ m. Gives E.runs (E.end_at peers.old place) m peers.old peers.new) }
+    ensures whole { IfSome result (λ m. IsCommittable m) }
     ensures places { E.places peers.new ≡ E.places peers.old }
     ensures ends { E.end_at peers.new ≡ E.end_at peers.old }
     ensures writable { E.writable peers.new ≡ E.writable peers.old }

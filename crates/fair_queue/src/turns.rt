@@ -1,6 +1,6 @@
 ghost use Rattle.std.specs.Prelude.{◌≡◌, ◌∷◌, [], ◌++◌, ◌<◌, All, OnOk, OnErr};
 ghost use Rattle.msg_pipe.specs.Turns.{without_place};
-ghost use Rattle.fair_queue.specs.FairQueue.{ReceivesByTurn};
+ghost use Rattle.fair_queue.specs.FairQueue.{ReceivesByTurn, GivesWhole};
 
 use crate::look::first_in;
 use msg_pipe::{Peers, TurnList};
@@ -60,6 +60,7 @@ impl Turns {
         requires there { All (λ place. place < E.places peers.old) self.old }
         ensures next { ReceivesByTurn E.runs (E.end_at peers.old)
             peers.old peers.new self.old result self.new }
+        ensures whole { GivesWhole result }
         ensures places { E.places peers.new ≡ E.places peers.old }
         ensures ends { E.end_at peers.new ≡ E.end_at peers.old }
         ensures writable { E.writable peers.new ≡ E.writable peers.old }

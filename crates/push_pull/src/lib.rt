@@ -1,10 +1,13 @@
-//! The sockets of the pipeline pattern over their attached ends: PUSH sends, PULL receives.
+//! The sockets of the pipeline pattern over their attached ends, PUSH and PULL, and PAIR over its
+//! one end.
 #![tactic(auto)]
 
 mod not_sent;
+mod pair_sock;
 mod pull;
 mod push;
 
 pub use not_sent::NotSent;
+pub use pair_sock::PairSock;
 pub use pull::Pull;
-pub use push::Push;
+pub use push::{MAX_FRAMES, Push};

@@ -12,7 +12,7 @@ use std::marker::Model;
 use zq_base::{Message, PairId};
 
 /// The most frames of a message that is sent.
-const MAX_FRAMES: usize = 1023;
+pub const MAX_FRAMES: usize = 1023;
 
 /// A PUSH: it sends to its peers by turn, and never receives (RFC 30, "The PUSH Socket Type").
 #[derive(Debug, Drop)]

@@ -23,6 +23,7 @@ taken_as (answer.Object o) = Dropped
 taken_as answer.Done = Dropped
 taken_as (answer.Pair p) = Dropped
 taken_as (answer.Got p m) = Given
+taken_as (answer.Dropped rule) = Dropped
 taken_as (answer.NotSent refusal) = Dropped
 taken_as (answer.NotReceived refusal) = Dropped
 taken_as answer.Wait = Dropped

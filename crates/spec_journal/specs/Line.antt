@@ -24,6 +24,7 @@ use Rattle.spec_journal.specs.Net.{Net, Sock, Mine, mine_at, next_object, next_p
 -- what is answered to a line whose socket answered so
 abbrev pub sent_answer : SendAnswer → Answer
 sent_answer (sent.Sent to) = answer.Pair to
+sent_answer (sent.Dropped rule) = answer.Dropped rule
 sent_answer (sent.Refused refusal) = answer.NotSent refusal
 
 abbrev pub got_answer : RecvAnswer → Answer

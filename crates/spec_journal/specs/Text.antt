@@ -8,6 +8,8 @@ use Rattle.spec_pattern.specs.declared.answers.SendRefusal.{SendRefusal}
 use Rattle.spec_pattern.specs.declared.answers.SendRefusal.TheVariants as send
 use Rattle.spec_pattern.specs.declared.answers.RecvRefusal.{RecvRefusal}
 use Rattle.spec_pattern.specs.declared.answers.RecvRefusal.TheVariants as recv
+use Rattle.spec_pattern.specs.declared.answers.Rule.{Rule}
+use Rattle.spec_pattern.specs.declared.answers.Rule.TheVariants as rule
 use Rattle.spec_journal.specs.declared.journal.Answer.{Answer}
 use Rattle.spec_journal.specs.declared.journal.Answer.TheVariants as answer
 use Rattle.spec_journal.specs.declared.journal.Entry.{Entry}
@@ -52,6 +54,17 @@ recv_refusal_text recv.Fsm = codes "fsm"
 recv_refusal_text recv.Again = codes "again"
 recv_refusal_text recv.Busy = codes "busy"
 
+abbrev pub rule_text : Rule → List ℕ
+rule_text rule.NoMatch = codes "nomatch"
+rule_text rule.PubFull = codes "pubfull"
+rule_text rule.Unroutable = codes "unroutable"
+rule_text rule.RouteFull = codes "routefull"
+rule_text rule.ReplyGone = codes "replygone"
+rule_text rule.NoSub = codes "nosub"
+rule_text rule.Stray = codes "stray"
+rule_text rule.BadEnv = codes "badenv"
+rule_text rule.Filtered = codes "filtered"
+
 abbrev pub answer_text : Answer → List ℕ
 answer_text (answer.Object o) = codes "ok o" ++ decimal o.0
 answer_text answer.Done = codes "ok"
@@ -63,6 +76,7 @@ answer_text answer.BadPair = codes "badpair"
 answer_text answer.TooMany = codes "toomany"
 answer_text (answer.Pair p) = codes "ok p" ++ decimal p.0
 answer_text (answer.Got p m) = codes "msg p" ++ decimal p.0 ++ parts_text m
+answer_text (answer.Dropped rule) = codes "drop " ++ rule_text rule
 answer_text (answer.NotSent refusal) = send_refusal_text refusal
 answer_text (answer.NotReceived refusal) = recv_refusal_text refusal
 

@@ -61,6 +61,7 @@ asks_again answer.Done = false
 asks_again (answer.Pair p) = false
 asks_again answer.Wait = false
 asks_again (answer.Got p m) = false
+asks_again (answer.Dropped rule) = false
 asks_again (answer.NotSent refusal) = false
 asks_again (answer.NotReceived refusal) = is_fleeting refusal
 asks_again answer.NoSocket = false

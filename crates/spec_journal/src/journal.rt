@@ -1,4 +1,4 @@
-use spec_pattern::{PipeId, RecvRefusal, SendRefusal};
+use spec_pattern::{PipeId, RecvRefusal, Rule, SendRefusal};
 use zq_base::{Message, ObjId, Octets, PairId, Seq};
 
 /// What a line of a script was answered.
@@ -14,6 +14,7 @@ pub enum Answer {
     BadPair,
     TooMany,
     Got(PairId, Message),
+    Dropped(Rule),
     NotSent(SendRefusal),
     NotReceived(RecvRefusal),
 }

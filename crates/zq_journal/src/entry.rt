@@ -1,10 +1,10 @@
 ghost use Rattle.std.specs.Prelude.{◌≡◌, ◌++◌, OnOk, decimal, flat_map};
-ghost use Rattle.spec_journal.specs.Text.{answer_text, entry_text, actor_text, send_refusal_text, recv_refusal_text};
+ghost use Rattle.spec_journal.specs.Text.{answer_text, entry_text, actor_text, send_refusal_text, recv_refusal_text, rule_text};
 
 use crate::part::push_parts;
 use itoa::Buffer;
 use spec_journal::{ActorPart, Answer, Entry};
-use spec_pattern::{RecvRefusal, SendRefusal};
+use spec_pattern::{RecvRefusal, Rule, SendRefusal};
 use std::alloc::{AllocError, Global};
 
 /// Appends a number in decimal digits.
@@ -42,6 +42,22 @@ fn recv_refusal_name(refusal: RecvRefusal) -> &'static [u8]
     }
 }
 
+fn rule_name(rule: Rule) -> &'static [u8]
+    ensures { result.now ≡ rule_text rule }
+{
+    match rule {
+        Rule::NoMatch => b"nomatch",
+        Rule::PubFull => b"pubfull",
+        Rule::Unroutable => b"unroutable",
+        Rule::RouteFull => b"routefull",
+        Rule::ReplyGone => b"replygone",
+        Rule::NoSub => b"nosub",
+        Rule::Stray => b"stray",
+        Rule::BadEnv => b"badenv",
+        Rule::Filtered => b"filtered",
+    }
+}
+
 fn push_answer(alloc: Global, out: &mut Vec<u8>, answer: &Answer) -> Result<(), AllocError>
     ensures { OnOk result (out.new.items ≡ out.old.items ++ answer_text answer.now) }
 {
@@ -65,6 +81,10 @@ fn push_answer(alloc: Global, out: &mut Vec<u8>, answer: &Answer) -> Result<(), 
             out.extend_from_slice(b"msg p")?;
             push_number(out, u64::from(pair.0))?;
             push_parts(alloc, out, message)
+        }
+        Answer::Dropped(rule) => {
+            out.extend_from_slice(b"drop ")?;
+            out.extend_from_slice(rule_name(*rule))
         }
         Answer::NotSent(refusal) => out.extend_from_slice(send_refusal_name(*refusal)),
         Answer::NotReceived(refusal) => out.extend_from_slice(recv_refusal_name(*refusal)),

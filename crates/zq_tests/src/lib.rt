@@ -10,6 +10,8 @@ mod calls;
 #[cfg(test)]
 mod copies;
 #[cfg(test)]
+mod dealing;
+#[cfg(test)]
 mod ends;
 #[cfg(test)]
 mod engines;
@@ -37,6 +39,8 @@ mod ownership;
 mod pipeline;
 #[cfg(test)]
 mod pipes;
+#[cfg(test)]
+mod requests;
 #[cfg(test)]
 mod run;
 #[cfg(test)]

@@ -1,17 +1,18 @@
 ghost use Rattle.std.specs.Prelude.{◌≡◌, ◌<◌, ℕ, All, IfOk, false};
 ghost use Rattle.spec_pattern.specs.Pipe.{IsCommittable};
 ghost use Rattle.msg_pipe.specs.PlainPeers.{pair_count, far_writing};
+ghost use Rattle.push_pull.specs.OnePeer.{turns_of};
 
 use msg_pipe::{Peers, PlainPeers, PutIn, Taken};
-use push_pull::{NotSent, Pull, Push};
-use spec_pattern::{RecvRefusal, SendRefusal};
+use push_pull::{PairSock, Pull, Push};
+use spec_pattern::{Attached, RecvRefusal, SendRefusal};
 use std::alloc::Global;
 use std::test::Fail;
 use zq_base::{Frame, Message};
 
 /// What a call told: the number of a pair, or a refusal.
 #[derive(Clone, Copy, Debug, PartialEq, Eq)]
-enum Told {
+pub enum Told {
     Sent(u32),
     Got(u32),
     NotSent(SendRefusal),
@@ -19,7 +20,7 @@ enum Told {
 }
 
 /// A message of so many frames.
-fn message(alloc: Global, count: usize) -> Result<Message, Fail> {
+pub fn message(alloc: Global, count: usize) -> Result<Message, Fail> {
     let mut frames = Vec::new(alloc);
     for _ in 0..count {
         let frame = Frame::of_slice(alloc, b"x")?;
@@ -32,7 +33,7 @@ fn message(alloc: Global, count: usize) -> Result<Message, Fail> {
 }
 
 /// Two pairs, each with room for one message.
-fn two(alloc: Global) -> Result<PlainPeers, Fail>
+pub fn two(alloc: Global) -> Result<PlainPeers, Fail>
     ensures count { IfOk result (λ p. pair_count p ≡ 2) }
     ensures open { IfOk result (λ p. (k : ℕ) → k < 2 → (far_writing p k).sealed ≡ false) }
 {
@@ -63,6 +64,32 @@ fn receive<E: Peers>(pull: &mut Pull, peers: &mut E) -> Told
     ensures there { All (λ place. place < 2) pull.new }
 {
     match pull.recv(peers) {
+        Ok((pair, _message)) => Told::Got(pair.0),
+        Err(refusal) => Told::NotGot(refusal),
+    }
+}
+
+/// Sends from a PAIR, over any peers.
+fn pair_send<E: Peers>(pair: &mut PairSock, peers: &mut E, message: Message) -> Told
+    requires count { E.places peers.old ≡ 2 }
+    requires there { All (λ place. place < 2) (turns_of pair.old) }
+    ensures count { E.places peers.new ≡ 2 }
+    ensures peer { pair.new ≡ pair.old }
+{
+    match pair.send(peers, message) {
+        Ok(pair) => Told::Sent(pair.0),
+        Err(refused) => Told::NotSent(refused.refusal),
+    }
+}
+
+/// Receives at a PAIR, over any peers.
+fn pair_receive<E: Peers>(pair: &mut PairSock, peers: &mut E) -> Told
+    requires count { E.places peers.old ≡ 2 }
+    requires there { All (λ place. place < 2) (turns_of pair.old) }
+    ensures count { E.places peers.new ≡ 2 }
+    ensures peer { pair.new ≡ pair.old }
+{
+    match pair.recv(peers) {
         Ok((pair, _message)) => Told::Got(pair.0),
         Err(refusal) => Told::NotGot(refusal),
     }
@@ -131,6 +158,52 @@ fn a_pull_receives_by_turn_and_never_sends(rt: HostRuntime) -> Result<(), Fail> 
     assert_eq!(rt;
         receive(&mut pull, &mut peers),
         Told::NotGot(RecvRefusal::Again)
+    );
+    Ok(())
+}
+
+#[test]
+fn a_pair_has_one_peer(rt: HostRuntime) -> Result<(), Fail> {
+    let alloc = rt.alloc();
+    let mut peers = two(alloc)?;
+    let one = message(alloc, 1)?;
+    if one.len() > 1023 {
+        Err("one frame")?;
+    }
+    match peers.far_put(1, one) {
+        PutIn::Ok => {}
+        PutIn::Full(_back) => Err("there is room")?,
+    }
+    let mut pair = PairSock::new();
+    assert_eq!(rt;
+        pair_send(&mut pair, &mut peers, message(alloc, 1)?),
+        Told::NotSent(SendRefusal::Again)
+    );
+    assert_eq!(rt; pair.attach(1), Attached::Yes);
+    assert_eq!(rt; pair.attach(0), Attached::Second);
+    let sends = [
+        (1, Told::Sent(2)),
+        (1, Told::NotSent(SendRefusal::Again)),
+        (1024, Told::NotSent(SendRefusal::TooLarge)),
+    ];
+    'sends: for (frames, want) in sends {
+        assert_eq!(rt;
+            pair_send(&mut pair, &mut peers, message(alloc, frames)?),
+            want
+        );
+    }
+    assert_eq!(rt; pair_receive(&mut pair, &mut peers), Told::Got(2));
+    assert_eq!(rt;
+        pair_receive(&mut pair, &mut peers),
+        Told::NotGot(RecvRefusal::Again)
+    );
+    pair.detach(0);
+    assert_eq!(rt; pair.attach(0), Attached::Second);
+    pair.detach(1);
+    assert_eq!(rt; pair.attach(0), Attached::Yes);
+    assert_eq!(rt;
+        pair_send(&mut pair, &mut peers, message(alloc, 1)?),
+        Told::Sent(1)
     );
     Ok(())
 }

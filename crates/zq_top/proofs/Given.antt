@@ -54,14 +54,15 @@ push_takes_none : (q : PipeId) (can_write : End → Bool) (m : Frames) (turns : 
     → PushSends can_write m turns steps answer new → taken_from q steps ≡ []
 push_takes_none q can_write m turns steps (sent.Sent to) new goes =
     rw (goes.steps_are, filter_map-append (taken_by q), fulls_take_none q (filter can_write goes.before)) refl
+push_takes_none q can_write m turns steps (sent.Dropped rule) new h = elim h [ ]
 push_takes_none q can_write m turns steps (sent.Refused refusal) new (again, none) = rw none.steps_are (fulls_take_none q (filter can_write turns))
 
 kind_takes_none : (q : PipeId) (kind : Kind) (can_write : End → Bool) (m : Frames) (turns : List End) (steps : List PipeStep) (answer : SendAnswer) (new : List End)
     → KindSends kind can_write m turns steps answer new → taken_from q steps ≡ []
 kind_takes_none q Push can_write m turns steps answer new h = push_takes_none q can_write m turns steps answer new h
 kind_takes_none q Pull can_write m turns steps answer new h = elim h [ ]
-kind_takes_none q Pair can_write m turns steps answer new h = elim h [ ]
-kind_takes_none q Dealer can_write m turns steps answer new h = elim h [ ]
+kind_takes_none q Pair can_write m turns steps answer new h = push_takes_none q can_write m turns steps answer new h
+kind_takes_none q Dealer can_write m turns steps answer new h = push_takes_none q can_write m turns steps answer new h
 kind_takes_none q Req can_write m turns steps answer new h = elim h [ ]
 kind_takes_none q Rep can_write m turns steps answer new h = elim h [ ]
 kind_takes_none q Router can_write m turns steps answer new h = elim h [ ]
@@ -99,8 +100,8 @@ kind_gives : (q : PipeId) (kind : Kind) (turns : List End) (steps : List PipeSte
     → KindReceives kind turns steps answer new → GivesAll q steps (got_answer answer)
 kind_gives q Push turns steps answer new h = elim h [ ]
 kind_gives q Pull turns steps answer new h = pull_gives q turns steps answer new h
-kind_gives q Pair turns steps answer new h = elim h [ ]
-kind_gives q Dealer turns steps answer new h = elim h [ ]
+kind_gives q Pair turns steps answer new h = pull_gives q turns steps answer new h
+kind_gives q Dealer turns steps answer new h = pull_gives q turns steps answer new h
 kind_gives q Req turns steps answer new h = elim h [ ]
 kind_gives q Rep turns steps answer new h = elim h [ ]
 kind_gives q Router turns steps answer new h = elim h [ ]

@@ -1,6 +1,7 @@
 use Rattle.std.proofs.Common.{◌<◌, ℕ, All, sym, ap, subst, ◌∙◌, arith}
+use Rattle.zq_base.specs.declared.kind.Kind.TheVariants.{Push}
 use Rattle.msg_pipe.proofs.TurnListLemmas.{All-middle, All-turned}
-use Rattle.push_pull.proofs.CallsLemmas.{Sends-put, Sends-none, Sends-peerless}
+use Rattle.push_pull.proofs.CallsLemmas.{push_sends, Sends-put, Sends-none, Sends-peerless}
 use Rattle.push_pull.proofs.push.Push.send.Goals as goal
 
 pub pair-requires : goal.pair-requires
@@ -12,7 +13,7 @@ pair-requires g c =
 
 pub returns-in-Put-clause-step : goal.returns-in-Put-clause-step
 returns-in-Put-clause-step g c =
-    Sends-put g.E.Peers.runs (g.E.Peers.end_at c.args.peers.now) c.args.peers.now c.next_out.new.peers c.args.self.now c.self.inside.turns c.self.view_is
+    Sends-put Push push_sends g.E.Peers.runs (g.E.Peers.end_at c.args.peers.now) c.args.peers.now c.next_out.new.peers c.args.self.now c.self.inside.turns c.self.view_is
     (g.E.Peers.writable c.args.peers.now) c.args.message c.next_out.new.self c.in-Put.place c.pair.result (omega arith) c.in-Put.ensures.next
     (c.pair.ensures ∙ ap (λ ends. (ends c.in-Put.place).pair) c.next_out.ensures.ends)
 
@@ -23,10 +24,10 @@ returns-in-Put-clause-below g c = λ n all.
 
 pub returns-in-AllFull-clause-step : goal.returns-in-AllFull-clause-step
 returns-in-AllFull-clause-step g c =
-    Sends-none g.E.Peers.runs (g.E.Peers.end_at c.args.peers.now) c.args.peers.now c.next_out.new.peers c.args.self.now c.self.inside.turns c.self.view_is
+    Sends-none Push push_sends g.E.Peers.runs (g.E.Peers.end_at c.args.peers.now) c.args.peers.now c.next_out.new.peers c.args.self.now c.self.inside.turns c.self.view_is
     (g.E.Peers.writable c.args.peers.now) c.args.message c.next_out.new.self c.in-AllFull.message (omega arith) c.in-AllFull.ensures.next
 
 pub returns-in-NoPeer-clause-step : goal.returns-in-NoPeer-clause-step
 returns-in-NoPeer-clause-step g c =
-    Sends-peerless g.E.Peers.runs (g.E.Peers.end_at c.args.peers.now) c.args.peers.now c.next_out.new.peers c.args.self.now c.self.inside.turns c.self.view_is
+    Sends-peerless Push push_sends g.E.Peers.runs (g.E.Peers.end_at c.args.peers.now) c.args.peers.now c.next_out.new.peers c.args.self.now c.self.inside.turns c.self.view_is
     (g.E.Peers.writable c.args.peers.now) g.met.E.Peers.runs_none c.args.message c.next_out.new.self c.in-NoPeer.message (omega arith) c.in-NoPeer.ensures.next
