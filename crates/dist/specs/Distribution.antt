@@ -1,7 +1,7 @@
 -- Sending one message to many (RFC 29, "The PUB Socket Type": it goes to all matching subscribers, and is dropped for those whose queue is full).
 use Rattle.std.specs.Prelude.{◌≡◌, ℕ, Bool, not, List, map, filter, if◌then◌else◌}
 use Rattle.zq_base.specs.Message.{Frames}
-use Rattle.spec_pattern.specs.declared.pipe_id.PipeId.{PipeId}
+use Rattle.zq_base.specs.Ends.{PipeId}
 use Rattle.spec_pattern.specs.PipeStep.{PipeStep, Commit, FullLook}
 
 -- the look at one place, and whether it found room

@@ -3,4 +3,5 @@
 
 mod sending;
 
-pub use sending::{Report, send_to};
+pub use sending::send_to;
+pub use spec_pattern::Report;

@@ -1,17 +1,12 @@
-ghost use Rattle.std.specs.Prelude.{◌≡◌, ◌∷◌, [], ◌<◌, ◌≤◌, length, All, true, vec_len, vec_capacity, IfOk, IfErr, OnErr};
+ghost use Rattle.std.specs.Prelude.{◌≡◌, ◌∷◌, [], ◌≤◌, length, All, true, vec_len, vec_capacity, IfOk, IfErr, OnErr};
 ghost use Rattle.spec_pattern.specs.Pipe.{IsCommittable};
+ghost use Rattle.msg_pipe.specs.Places.{KeepsPlaces};
 ghost use Rattle.dist.specs.Distribution.{step_of, Distributes};
 
 use msg_pipe::{Peers, PutIn};
+use spec_pattern::Report;
 use std::alloc::{AllocError, AllocFailed, Global};
 use zq_base::{Message, Seq};
-
-/// Where a message was committed, and where there was no room, in the order of the places.
-#[derive(Debug, Drop)]
-pub struct Report {
-    pub put: Seq<usize>,
-    pub full: Seq<usize>,
-}
 
 /// Sends a copy of the message to each of the places that has room. The copies share its octets.
 ///
@@ -21,18 +16,15 @@ pub fn send_to<P: Peers>(
     peers: &mut P,
     places: &[usize],
     message: Message,
-) -> Result<Report, AllocFailed<Message>>
-    requires there { All (λ place. place < P.places peers.old) places.now }
+) -> Result<Report<usize>, AllocFailed<Message>>
+    requires there { All (P.here peers.old) places.now }
     requires open { All (λ place. P.writable peers.old place ≡ true) places.now }
     requires whole { IsCommittable message }
     ensures ok { IfOk result (λ r. Distributes P.runs (P.end_at peers.old) message
         peers.old peers.new places.now r.put r.full) }
     ensures err { OnErr result (peers.new ≡ peers.old) }
     ensures back { IfErr result (λ e. e.value ≡ message) }
-    ensures places { P.places peers.new ≡ P.places peers.old }
-    ensures ends { P.end_at peers.new ≡ P.end_at peers.old }
-    ensures writable { P.writable peers.new ≡ P.writable peers.old }
-    ensures readings { P.reading_at peers.new ≡ P.reading_at peers.old }
+    ensures keeps { KeepsPlaces P.here P.end_at P.writable peers.old peers.new }
 {
     let Ok(mut copies) = copies_of(alloc, &message, places.len()) else {
         return Err(AllocFailed { value: message });
@@ -71,15 +63,12 @@ fn copies_of(alloc: Global, message: &Message, count: usize) -> Result<Vec<Messa
 
 // Puts the message at the place, and says whether there was room.
 fn put_at<P: Peers>(peers: &mut P, place: usize, message: Message) -> bool
-    requires there { place < P.places peers.old }
+    requires there { P.here peers.old place }
     requires open { P.writable peers.old place ≡ true }
     requires whole { IsCommittable message }
     ensures runs { P.runs peers.old
         (step_of (P.end_at peers.old) message (record { place = place; room = result }) ∷ []) peers.new }
-    ensures places { P.places peers.new ≡ P.places peers.old }
-    ensures ends { P.end_at peers.new ≡ P.end_at peers.old }
-    ensures writable { P.writable peers.new ≡ P.writable peers.old }
-    ensures readings { P.reading_at peers.new ≡ P.reading_at peers.old }
+    ensures keeps { KeepsPlaces P.here P.end_at P.writable peers.old peers.new }
 {
     match peers.put(place, message) {
         PutIn::Ok => true,

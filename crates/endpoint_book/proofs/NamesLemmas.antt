@@ -7,19 +7,18 @@ use Rattle.std.specs.Cmp.Lexicographic.{slice_cmp, bytes_decides, lists_ties, na
 use Rattle.std.specs.List.{AllByRecursion, IsDistinct}
 use Rattle.std.specs.Str.{bytes_eq}
 use Rattle.std.specs.Map.{keys_of, lookup, KeepsOthers, IsKeyTest, AreApart}
-use Rattle.std.specs.declared.vec.Vec.{Vec}
 use Rattle.std.specs.FinMap as finite
 use Rattle.zq_base.specs.declared.ids.ObjId.{ObjId}
-use Rattle.endpoint_book.specs.declared.binding.Binding.{Binding}
-use Rattle.endpoint_book.specs.EndpointBook.{Name, Names, is_object, is_held_by}
-use Rattle.endpoint_book.specs.View.{by_octets, names_of}
+use Rattle.spec_control.specs.declared.book.Binding.{Binding}
+use Rattle.spec_control.specs.EndpointBook.{Names, is_object, is_held_by, names_without}
+use Rattle.endpoint_book.specs.View.{by_numbers, names_of}
 
 -- numbers tie in their order where they are equal
 nat_ties : (x y : ℕ) → nat_eq x y ≡ eq_by_cmp nat_cmp x y
 nat_ties x y = unsigned_ties x y
 
 -- and octets in theirs
-pub octets_ties : (q n : Name) → eq_by_cmp (slice_cmp nat_cmp) q n ≡ bytes_eq q n
+pub octets_ties : (q n : List ℕ) → eq_by_cmp (slice_cmp nat_cmp) q n ≡ bytes_eq q n
 octets_ties q n = sym (lists_ties nat_cmp nat_ties q n)
 
 -- names that tie are one
@@ -27,106 +26,8 @@ pub names_apart : finite.IsAntisymmetric (slice_cmp nat_cmp)
 names_apart = finite.slice_cmp-IsAntisymmetric finite.nat_cmp-IsAntisymmetric
 
 -- maps that answer alike are one
-pub same_names : (m n : Names) → ((q : Name) → finite.get m q ≡ finite.get n q) → m ≡ n
+pub same_names : (m n : Names) → ((q : List ℕ) → finite.get m q ≡ finite.get n q) → m ≡ n
 same_names = finite.same_map nat_list_cmp_total names_apart
-
-module _ {A : Type 0} where
-  -- a name's test of a key
-  abbrev pub is_named : Name → Vec ℕ A → Bool
-  is_named name key = bytes_eq name key.items
-
-  -- two keys have the same octets
-  abbrev pub same_key : Vec ℕ A → Vec ℕ A → Bool
-  same_key key other = bytes_eq key.items other.items
-
-  -- the map answers what the entries do
-  pub get-names_of : (es : List (Vec ℕ A × Binding)) (q : Name) → finite.get (names_of es) q ≡ lookup (is_named q) es
-  get-names_of [] q = finite.get-empty (slice_cmp nat_cmp) q
-  get-names_of (e ∷ es) q =
-      finite.get-insert nat_list_cmp_total (names_of es) e.0.items e.1 q
-      ∙ ap (λ b. cond b (Some e.1) (finite.get (names_of es) q)) (octets_ties q e.0.items)
-      ∙ ap (cond (bytes_eq q e.0.items) (Some e.1)) (get-names_of es q)
-
-  -- a name tests keys as a key does
-  tests_keys : (q : Name) → IsKeyTest same_key (is_named q)
-  tests_keys q x y h = nat_list_eq_equiv.congr q x.items y.items h
-
-  -- two names that differ are of no key
-  apart : (name q : Name) → bytes_eq q name ≡ false → AreApart (is_named name) (is_named q)
-  apart name q other key h =
-      nat_list_eq_equiv.symm q key.items
-      ∙ sym (nat_list_eq_equiv.congr name key.items q h)
-      ∙ nat_list_eq_equiv.symm name q
-      ∙ other
-
-  -- what each name has once one was changed
-  pub get-changed : (name : Name) (w : Option Binding) (es fs : List (Vec ℕ A × Binding))
-      → lookup (is_named name) fs ≡ w → KeepsOthers same_key (is_named name) es fs
-      → (q : Name) → finite.get (names_of fs) q ≡ cond (bytes_eq q name) w (finite.get (names_of es) q)
-  unfolding KeepsOthers
-  get-changed name w es fs at keeps q = by (bytes_eq q name) refl
-    where
-      by : (b : Bool) → bytes_eq q name ≡ b → finite.get (names_of fs) q ≡ cond b w (finite.get (names_of es) q)
-      by true e = get-names_of fs q ∙ ap (λ n. lookup (is_named n) fs) ((bytes_decides q name).0 e) ∙ at
-      by false e = get-names_of fs q ∙ keeps (is_named q) (tests_keys q) (apart name q e) ∙ sym (get-names_of es q)
-
-  -- the map once a name is held
-  pub names_of-held : (name : Name) (binding : Binding) (es fs : List (Vec ℕ A × Binding))
-      → lookup (is_named name) fs ≡ Some binding → KeepsOthers same_key (is_named name) es fs
-      → names_of fs ≡ finite.insert (names_of es) name binding
-  names_of-held name binding es fs at keeps = same_names _ _ (λ q.
-      get-changed name (Some binding) es fs at keeps q
-      ∙ ap (λ b. cond b (Some binding) (finite.get (names_of es) q)) (sym (octets_ties q name))
-      ∙ sym (finite.get-insert nat_list_cmp_total (names_of es) name binding q))
-
-  -- the map once a name is held no more
-  pub names_of-freed : (name : Name) (es fs : List (Vec ℕ A × Binding))
-      → lookup (is_named name) fs ≡ None → KeepsOthers same_key (is_named name) es fs
-      → names_of fs ≡ finite.remove (names_of es) name
-  names_of-freed name es fs at keeps = same_names _ _ (λ q.
-      get-changed name None es fs at keeps q
-      ∙ ap (λ b. cond b None (finite.get (names_of es) q)) (sym (octets_ties q name))
-      ∙ sym (finite.get-remove nat_list_cmp_total (names_of es) name q))
-
-  -- the entries by octets answer what the entries do
-  lookup-by_octets : (es : List (Vec ℕ A × Binding)) (q : Name) → lookup (bytes_eq q) (by_octets es) ≡ lookup (is_named q) es
-  lookup-by_octets [] q = refl
-  lookup-by_octets (e ∷ es) q = ap (cond (bytes_eq q e.0.items) (Some e.1)) (lookup-by_octets es q)
-
-  -- no other key has these octets
-  all_apart : (key : Vec ℕ A) (es : List (Vec ℕ A × Binding))
-      → AllByRecursion (λ other. same_key key other ≡ false) (keys_of es)
-      → AllByRecursion (λ other. bytes_eq key.items other ≡ false) (keys_of (by_octets es))
-  all_apart key [] h = h
-  all_apart key (e ∷ es) h = (h.0, all_apart key es h.1)
-
-  -- keys that differ have different octets
-  IsDistinct-by_octets : (es : List (Vec ℕ A × Binding)) → IsDistinct same_key (keys_of es) → IsDistinct bytes_eq (keys_of (by_octets es))
-  unfolding IsDistinct
-  IsDistinct-by_octets [] h = h
-  IsDistinct-by_octets (e ∷ es) h = (all_apart e.0 es h.0, IsDistinct-by_octets es h.1)
-
-  -- a filter by the values, seen by octets
-  by_octets-filter : (keep : Binding → Bool) (es : List (Vec ℕ A × Binding))
-      → by_octets (filter (λ e. keep e.1) es) ≡ filter (λ e. keep e.1) (by_octets es)
-  by_octets-filter keep [] = refl
-  by_octets-filter keep (e ∷ es) = by (keep e.1) (by_octets-filter keep es)
-    where
-      by : (b : Bool) → by_octets (filter (λ e. keep e.1) es) ≡ filter (λ e. keep e.1) (by_octets es)
-          → by_octets (cond b (e ∷ filter (λ e. keep e.1) es) (filter (λ e. keep e.1) es))
-          ≡ cond b ((e.0.items, e.1) ∷ filter (λ e. keep e.1) (by_octets es)) (filter (λ e. keep e.1) (by_octets es))
-      by true rest = ap (λ others. (e.0.items, e.1) ∷ others) rest
-      by false rest = rest
-
-  -- what each name has once the bindings that fail a test are gone
-  get-kept : (keep : Binding → Bool) (es : List (Vec ℕ A × Binding)) → IsDistinct same_key (keys_of es) → (q : Name)
-      → finite.get (names_of (filter (λ e. keep e.1) es)) q ≡ option_filter keep (finite.get (names_of es) q)
-  get-kept keep es distinct q =
-      get-names_of (filter (λ e. keep e.1) es) q
-      ∙ sym (lookup-by_octets (filter (λ e. keep e.1) es) q)
-      ∙ ap (lookup (bytes_eq q)) (by_octets-filter keep es)
-      ∙ lookup-filter-values nat_list_eq_equiv keep q (by_octets es) (IsDistinct-by_octets es distinct)
-      ∙ ap (option_filter keep) (lookup-by_octets es q ∙ sym (get-names_of es q))
 
 -- a binding that is the object's is left out
 kept_where_other : (object : ObjId) (o : Option Binding)
@@ -134,12 +35,109 @@ kept_where_other : (object : ObjId) (o : Option Binding)
 kept_where_other object None = refl
 kept_where_other object (Some b) = refl
 
--- the map once the names of an object are gone
-pub names_of-dropped : {A : Type 0} (object : ObjId) (es : List (Vec ℕ A × Binding)) → IsDistinct same_key (keys_of es)
-    → names_of (filter (λ e. not (is_object e.1.holder object)) es)
-    ≡ finite.retain_keys (names_of es) (λ name. not (is_held_by object (finite.get (names_of es) name)))
-names_of-dropped object es distinct = same_names _ _ (λ q.
-    get-kept (λ b. not (is_object b.holder object)) es distinct q
-    ∙ kept_where_other object (finite.get (names_of es) q)
-    ∙ sym (finite.get-retain_keys (names_of es) (λ name. not (is_held_by object (finite.get (names_of es) name))) q
-    (λ x tied. ap (λ o. not (is_held_by object o)) (finite.get_tied nat_list_cmp_total (names_of es) q x tied))))
+module _ {K : Type 0} (numbers : K → List ℕ) where
+  -- a name's test of a key
+  abbrev pub is_named : List ℕ → K → Bool
+  is_named name key = bytes_eq name (numbers key)
+
+  -- two keys have the same octets
+  abbrev pub same_key : K → K → Bool
+  same_key key other = bytes_eq (numbers key) (numbers other)
+
+  -- the map answers what the entries do
+  pub get-names_of : (es : List (K × Binding)) (q : List ℕ) → finite.get (names_of numbers es) q ≡ lookup (is_named q) es
+  get-names_of [] q = finite.get-empty (slice_cmp nat_cmp) q
+  get-names_of (e ∷ es) q =
+      finite.get-insert nat_list_cmp_total (names_of numbers es) (numbers e.0) e.1 q
+      ∙ ap (λ b. cond b (Some e.1) (finite.get (names_of numbers es) q)) (octets_ties q (numbers e.0))
+      ∙ ap (cond (bytes_eq q (numbers e.0)) (Some e.1)) (get-names_of es q)
+
+  -- a name tests keys as a key does
+  tests_keys : (q : List ℕ) → IsKeyTest same_key (is_named q)
+  tests_keys q x y h = nat_list_eq_equiv.congr q (numbers x) (numbers y) h
+
+  -- two names that differ are of no key
+  apart : (name q : List ℕ) → bytes_eq q name ≡ false → AreApart (is_named name) (is_named q)
+  apart name q other key h =
+      nat_list_eq_equiv.symm q (numbers key)
+      ∙ sym (nat_list_eq_equiv.congr name (numbers key) q h)
+      ∙ nat_list_eq_equiv.symm name q
+      ∙ other
+
+  -- what each name has once one was changed
+  pub get-changed : (name : List ℕ) (w : Option Binding) (es fs : List (K × Binding))
+      → lookup (is_named name) fs ≡ w → KeepsOthers same_key (is_named name) es fs
+      → (q : List ℕ) → finite.get (names_of numbers fs) q ≡ cond (bytes_eq q name) w (finite.get (names_of numbers es) q)
+  unfolding KeepsOthers
+  get-changed name w es fs at keeps q = by (bytes_eq q name) refl
+    where
+      by : (b : Bool) → bytes_eq q name ≡ b → finite.get (names_of numbers fs) q ≡ cond b w (finite.get (names_of numbers es) q)
+      by true e = get-names_of fs q ∙ ap (λ n. lookup (is_named n) fs) ((bytes_decides q name).0 e) ∙ at
+      by false e = get-names_of fs q ∙ keeps (is_named q) (tests_keys q) (apart name q e) ∙ sym (get-names_of es q)
+
+  -- the map once a name is held
+  pub names_of-held : (name : List ℕ) (binding : Binding) (es fs : List (K × Binding))
+      → lookup (is_named name) fs ≡ Some binding → KeepsOthers same_key (is_named name) es fs
+      → names_of numbers fs ≡ finite.insert (names_of numbers es) name binding
+  names_of-held name binding es fs at keeps = same_names _ _ (λ q.
+      get-changed name (Some binding) es fs at keeps q
+      ∙ ap (λ b. cond b (Some binding) (finite.get (names_of numbers es) q)) (sym (octets_ties q name))
+      ∙ sym (finite.get-insert nat_list_cmp_total (names_of numbers es) name binding q))
+
+  -- the map once a name is held no more
+  pub names_of-freed : (name : List ℕ) (es fs : List (K × Binding))
+      → lookup (is_named name) fs ≡ None → KeepsOthers same_key (is_named name) es fs
+      → names_of numbers fs ≡ finite.remove (names_of numbers es) name
+  names_of-freed name es fs at keeps = same_names _ _ (λ q.
+      get-changed name None es fs at keeps q
+      ∙ ap (λ b. cond b None (finite.get (names_of numbers es) q)) (sym (octets_ties q name))
+      ∙ sym (finite.get-remove nat_list_cmp_total (names_of numbers es) name q))
+
+  -- the entries by octets answer what the entries do
+  lookup-by_numbers : (es : List (K × Binding)) (q : List ℕ) → lookup (bytes_eq q) (by_numbers numbers es) ≡ lookup (is_named q) es
+  lookup-by_numbers [] q = refl
+  lookup-by_numbers (e ∷ es) q = ap (cond (bytes_eq q (numbers e.0)) (Some e.1)) (lookup-by_numbers es q)
+
+  -- no other key has these octets
+  all_apart : (key : K) (es : List (K × Binding))
+      → AllByRecursion (λ other. same_key key other ≡ false) (keys_of es)
+      → AllByRecursion (λ other. bytes_eq (numbers key) other ≡ false) (keys_of (by_numbers numbers es))
+  all_apart key [] h = h
+  all_apart key (e ∷ es) h = (h.0, all_apart key es h.1)
+
+  -- keys that differ have different octets
+  IsDistinct-by_numbers : (es : List (K × Binding)) → IsDistinct same_key (keys_of es) → IsDistinct bytes_eq (keys_of (by_numbers numbers es))
+  unfolding IsDistinct
+  IsDistinct-by_numbers [] h = h
+  IsDistinct-by_numbers (e ∷ es) h = (all_apart e.0 es h.0, IsDistinct-by_numbers es h.1)
+
+  -- a filter by the values, seen by octets
+  by_numbers-filter : (keep : Binding → Bool) (es : List (K × Binding))
+      → by_numbers numbers (filter (λ e. keep e.1) es) ≡ filter (λ e. keep e.1) (by_numbers numbers es)
+  by_numbers-filter keep [] = refl
+  by_numbers-filter keep (e ∷ es) = by (keep e.1) (by_numbers-filter keep es)
+    where
+      by : (b : Bool) → by_numbers numbers (filter (λ e. keep e.1) es) ≡ filter (λ e. keep e.1) (by_numbers numbers es)
+          → by_numbers numbers (cond b (e ∷ filter (λ e. keep e.1) es) (filter (λ e. keep e.1) es))
+          ≡ cond b (((numbers e.0), e.1) ∷ filter (λ e. keep e.1) (by_numbers numbers es)) (filter (λ e. keep e.1) (by_numbers numbers es))
+      by true rest = ap (λ others. ((numbers e.0), e.1) ∷ others) rest
+      by false rest = rest
+
+  -- what each name has once the bindings that fail a test are gone
+  get-kept : (keep : Binding → Bool) (es : List (K × Binding)) → IsDistinct same_key (keys_of es) → (q : List ℕ)
+      → finite.get (names_of numbers (filter (λ e. keep e.1) es)) q ≡ option_filter keep (finite.get (names_of numbers es) q)
+  get-kept keep es distinct q =
+      get-names_of (filter (λ e. keep e.1) es) q
+      ∙ sym (lookup-by_numbers (filter (λ e. keep e.1) es) q)
+      ∙ ap (lookup (bytes_eq q)) (by_numbers-filter keep es)
+      ∙ lookup-filter-values nat_list_eq_equiv keep q (by_numbers numbers es) (IsDistinct-by_numbers es distinct)
+      ∙ ap (option_filter keep) (lookup-by_numbers es q ∙ sym (get-names_of es q))
+
+  -- the map once the names of an object are gone
+  pub names_of-dropped : (object : ObjId) (es : List (K × Binding)) → IsDistinct same_key (keys_of es)
+      → names_of numbers (filter (λ e. not (is_object e.1.holder object)) es) ≡ names_without object (names_of numbers es)
+  names_of-dropped object es distinct = same_names _ _ (λ q.
+      get-kept (λ b. not (is_object b.holder object)) es distinct q
+      ∙ kept_where_other object (finite.get (names_of numbers es) q)
+      ∙ sym (finite.get-retain_keys (names_of numbers es) (λ name. not (is_held_by object (finite.get (names_of numbers es) name))) q
+      (λ x tied. ap (λ o. not (is_held_by object o)) (finite.get_tied nat_list_cmp_total (names_of numbers es) q x tied))))

@@ -3,7 +3,7 @@ use Rattle.std.proofs.Common.{◌≡◌, ◌∙◌, ℕ, ◌+◌, ◌<◌, suc, 
 use Rattle.std.proofs.lemmas.Bool.Decides.{nat_tests, Decides-ltb}
 use Rattle.std.proofs.lemmas.Option.{cond_some}
 use Rattle.std.specs.List.{list_any, remove, position, position_or_len}
-use Rattle.endpoint_book.specs.EndpointBook.{without_first}
+use Rattle.spec_control.specs.EndpointBook.{without_first}
 
 module _ {X : Type 0} (test : X → Bool) where
   -- to remove the first that passes

@@ -1,2 +1,3 @@
-pub mod EndpointBook
 pub mod View
+pub mod Keys
+pub use Rattle.spec_control.specs.EndpointBook

@@ -6,21 +6,26 @@ use Rattle.std.specs.Map.{keys_of}
 use Rattle.std.specs.Str.{bytes_eq}
 use Rattle.std.specs.Coded.{Coded, coded_list, coded_ℕ}
 use Rattle.std.specs.declared.vec.Vec.{Vec}
-use Rattle.endpoint_book.specs.declared.binding.Binding.{Binding}
-use Rattle.endpoint_book.specs.EndpointBook.{Name, Names}
+use Rattle.spec_control.specs.declared.book.Binding.{Binding}
+use Rattle.spec_control.specs.EndpointBook.{Names}
 
-module _ {A : Type 0} where
-  -- the entries, each with its name's octets
-  abbrev pub by_octets : List (Vec ℕ A × Binding) → List (Name × Binding)
-  by_octets entries = map (λ e. (e.0.items, e.1)) entries
+-- the octets of a key
+abbrev pub octets_of : {A : Type 0} → Vec ℕ A → List ℕ
+octets_of key = key.items
+
+-- tables whose keys are seen as lists of numbers
+module _ {K : Type 0} (numbers : K → List ℕ) where
+  -- the entries, each with its key's numbers
+  abbrev pub by_numbers : List (K × Binding) → List (List ℕ × Binding)
+  by_numbers entries = map (λ e. (numbers e.0, e.1)) entries
 
   -- no two entries are of one name
-  abbrev pub AreDistinct : List (Vec ℕ A × Binding) → Type 0
-  AreDistinct entries = IsDistinct (λ key other. bytes_eq key.items other.items) (keys_of entries)
+  abbrev pub AreDistinct : List (K × Binding) → Type 0
+  AreDistinct entries = IsDistinct (λ key other. bytes_eq (numbers key) (numbers other)) (keys_of entries)
 
   -- the map that the entries are
-  abbrev pub names_of : List (Vec ℕ A × Binding) → Names
-  names_of entries = finite.from_entries (by_octets entries)
+  abbrev pub names_of : List (K × Binding) → Names
+  names_of entries = finite.from_entries (by_numbers entries)
 
 -- the code of such a map, from that of its values
 abbrev pub names_code : Coded Binding → Coded Names

@@ -1,14 +1,15 @@
 ghost use Rattle.std.specs.Prelude.{◌≡◌, ◌↔◌, ◌++◌, ◌∷◌, [], length, filter, not, IsTrue, IsOk, IsSome, IfOk, OnOk, OnErr, IsErrOf};
 ghost use Rattle.endpoint_book.specs.declared.endpoint_book.BindError.TheVariants.{OutOfMemory};
 
-use crate::binding::Binding;
-use crate::waiting::Waiting;
-use indexmap::IndexMap;
+use crate::address_table::AddressTable;
+use crate::name_table::NameTable;
+use crate::waits::{copy, is_connect_of, is_fulfilled};
+use spec_control::{Binding, Waiting};
 use std::alloc::{AllocError, Global};
 use std::marker::Model;
-use zq_base::{Kind, ObjId, Octets};
+use zq_base::{Endpoint, Kind, ObjId};
 
-/// Why a name is not bound.
+/// Why an endpoint is not bound.
 #[derive(Clone, Copy, Debug, PartialEq, Eq)]
 pub enum BindError {
     InUse,
@@ -27,162 +28,182 @@ impl From<AllocError> for BindError {
 #[derive(Clone, Copy, Debug, PartialEq, Eq)]
 pub struct NotBound;
 
-/// The names that are held, and the connects that wait.
+/// The endpoints that are held, and the connects that wait. An endpoint is one of inproc or of tcp: a name that reads as
+/// an address is another one.
 #[derive(Drop)]
 pub struct EndpointBook {
-    names: IndexMap<Vec<u8>, Binding>,
+    names: NameTable,
+    addresses: AddressTable,
     waiting: Vec<Waiting>,
 }
 
 impl Model for EndpointBook {
     ghost use Rattle.std.specs.Coded.{codes};
-    ghost use Rattle.endpoint_book.specs.EndpointBook.{Book};
-    ghost use Rattle.endpoint_book.specs.View.{names_of, names_code, AreDistinct};
-    ghost use Rattle.endpoint_book.specs.contracts.binding.Binding as bound;
+    ghost use Rattle.spec_control.specs.EndpointBook.{Book};
+    ghost use Rattle.endpoint_book.specs.View.{names_code};
+    ghost use Rattle.spec_control.specs.contracts.book.Binding as bound;
 
     ghost Value = { Book };
 
     ghost coded = { Prim.hlevel (codes, names_code bound.the_row.coded) };
 
-    ghost view = { λ b. record { held = names_of b.names.entries; waiting = b.waiting.items } };
-
-    ghost invariant = { λ b. AreDistinct b.names.entries };
+    ghost view = { λ b. record { names = b.names; addresses = b.addresses; waiting = b.waiting.items } };
 }
 
 impl EndpointBook {
     ghost use Rattle.std.specs.Prelude.{◌≡◌, ◌↔◌, ◌++◌, ◌∷◌, [], length, filter, not, IsTrue, IsOk, IsSome, IfOk, OnOk, OnErr, IsErrOf, position};
-    ghost use Rattle.endpoint_book.specs.EndpointBook.{empty_book, binding_of, holds, waits, fulfilled, waiters, is_fulfilled, is_connect_of, without_first, with_name, without_name, with_waiting, without_object};
+    ghost use Rattle.spec_control.specs.EndpointBook.{empty_book, binding_of, holds, waits, fulfilled, waiters, is_fulfilled, is_connect_of, without_first, with_name, without_name, with_waiting, without_object};
 
-    /// A book with no names in which nothing waits.
+    /// A book with no names in which nothing waits. It takes no memory.
     pub fn new(alloc: Global) -> Self
         ensures { result ≡ empty_book }
     {
         EndpointBook {
-            names: IndexMap::new(alloc),
+            names: NameTable::new(alloc),
+            addresses: AddressTable::new(alloc),
             waiting: Vec::new(alloc),
         }
     }
 
-    /// Who holds the name.
-    pub fn find(&self, name: &[u8]) -> Option<Binding>
-        ensures { result ≡ binding_of self.now name.now }
+    /// Who holds the endpoint, by one look-up.
+    pub fn find(&self, at: &Endpoint) -> Option<Binding>
+        ensures { result ≡ binding_of self.now at.now }
     {
-        self.names.get(name).copied()
+        match at {
+            Endpoint::Inproc(name) => return self.names.find(name.as_slice()),
+            Endpoint::Tcp(address) => return self.addresses.find(address),
+        }
     }
 
-    /// Gives the name to its new holder.
-    pub fn bind(&mut self, alloc: Global, name: &[u8], binding: Binding) -> Result<(), BindError>
-        ensures ok { OnOk result (self.new ≡ with_name name.now binding self.old) }
-        ensures in_use { IsErrOf result BindError.InUse ↔ IsSome (binding_of self.old name.now) }
+    /// Gives the endpoint to its new holder, by one look-up and one insertion.
+    pub fn bind(&mut self, alloc: Global, at: &Endpoint, binding: Binding) -> Result<(), BindError>
+        ensures ok { OnOk result (self.new ≡ with_name at.now binding self.old) }
+        ensures in_use { IsErrOf result BindError.InUse ↔ IsSome (binding_of self.old at.now) }
         ensures err { OnErr result (self.new ≡ self.old) }
     {
-        if self.find(name).is_some() {
+        if self.find(at).is_some() {
             return Err(BindError::InUse);
         }
-        self.hold(alloc, name, binding)?;
+        self.hold(alloc, at, binding)?;
         Ok(())
     }
 
-    // Puts the binding at the name.
-    fn hold(&mut self, alloc: Global, name: &[u8], binding: Binding) -> Result<(), AllocError>
-        ensures ok { OnOk result (self.new ≡ with_name name.now binding self.old) }
+    // Puts the binding at the endpoint.
+    fn hold(&mut self, alloc: Global, at: &Endpoint, binding: Binding) -> Result<(), AllocError>
+        ensures ok { OnOk result (self.new ≡ with_name at.now binding self.old) }
         ensures err { OnErr result (self.new ≡ self.old) }
     {
-        let key = Vec::from_slice(alloc, name)?;
-        self.names.insert(key, binding)?;
-        Ok(())
+        match at {
+            Endpoint::Inproc(name) => {
+                self.names.hold(alloc, name.as_slice(), binding)?;
+                return Ok(());
+            }
+            Endpoint::Tcp(address) => {
+                self.addresses.hold(address, binding)?;
+                return Ok(());
+            }
+        }
     }
 
-    /// Takes the name from its holder.
-    pub fn unbind(&mut self, name: &[u8], holder: ObjId) -> Result<(), NotBound>
-        ensures bound { IsOk result ↔ IsTrue (holds self.old holder name.now) }
-        ensures ok { OnOk result (self.new ≡ without_name name.now self.old) }
+    /// Takes the endpoint from its holder, by two look-ups.
+    pub fn unbind(&mut self, at: &Endpoint, holder: ObjId) -> Result<(), NotBound>
+        ensures bound { IsOk result ↔ IsTrue (holds self.old holder at.now) }
+        ensures ok { OnOk result (self.new ≡ without_name at.now self.old) }
         ensures err { OnErr result (self.new ≡ self.old) }
     {
-        if !self.holds(holder, name) {
+        if !self.holds(holder, at) {
             return Err(NotBound);
         }
-        self.free(name);
+        self.free(at);
         Ok(())
     }
 
-    /// Whether the name is the object's.
-    pub fn holds(&self, object: ObjId, name: &[u8]) -> bool
-        ensures { result ≡ holds self.now object name.now }
+    /// Whether the endpoint is the object's, by one look-up.
+    pub fn holds(&self, object: ObjId, at: &Endpoint) -> bool
+        ensures { result ≡ holds self.now object at.now }
     {
-        match self.find(name) {
+        match self.find(at) {
             Some(binding) => binding.holder == object,
             None => false,
         }
     }
 
-    // Takes the name from whoever holds it.
-    fn free(&mut self, name: &[u8])
-        ensures { self.new ≡ without_name name.now self.old }
+    // Takes the endpoint from whoever holds it.
+    fn free(&mut self, at: &Endpoint)
+        ensures { self.new ≡ without_name at.now self.old }
     {
-        self.names.swap_remove(name);
+        match at {
+            Endpoint::Inproc(name) => {
+                self.names.free(name.as_slice());
+                return;
+            }
+            Endpoint::Tcp(address) => {
+                self.addresses.free(address);
+                return;
+            }
+        }
     }
 
-    /// Notes that a connect waits for the name, after all that wait already.
+    /// Notes that a connect waits for the endpoint, after all that wait already. It costs a copy of the name.
     pub fn wait_for(
         &mut self,
         alloc: Global,
-        name: &[u8],
+        at: &Endpoint,
         waiter: ObjId,
         kind: Kind,
     ) -> Result<(), AllocError>
         ensures ok { OnOk result (self.new ≡ with_waiting (self.old.waiting
-            ++ record { name = name.now; waiter = waiter; kind = kind } ∷ []) self.old) }
+            ++ record { at = at.now; waiter = waiter; kind = kind } ∷ []) self.old) }
         ensures err { OnErr result (self.new ≡ self.old) }
     {
-        let name = Octets::of_slice(alloc, name)?;
-        self.waiting.push(Waiting { name, waiter, kind })?;
+        let at = copy(alloc, at)?;
+        self.waiting.push(Waiting { at, waiter, kind })?;
         Ok(())
     }
 
-    /// How many waiting connects a bind of the name fulfils.
-    pub fn count_waiting(&self, name: &[u8], binding: Binding) -> usize
-        ensures { result ≡ length (fulfilled name.now binding self.now) }
+    /// How many waiting connects a bind of the endpoint fulfils, by one walk over those that wait.
+    pub fn count_waiting(&self, at: &Endpoint, binding: Binding) -> usize
+        ensures { result ≡ length (fulfilled at.now binding self.now) }
     {
         self.waiting
             .iter()
-            .filter(|wait| wait.is_fulfilled(name, binding))
+            .filter(|wait| is_fulfilled(wait, at, binding))
             .count()
     }
 
-    /// The sockets whose waiting connects a bind of the name fulfils, a socket once for each.
+    /// The sockets whose waiting connects a bind of the endpoint fulfils, a socket once for each, by one walk over
+    /// those that wait.
     pub fn waiting(
         &self,
         alloc: Global,
-        name: &[u8],
+        at: &Endpoint,
         binding: Binding,
     ) -> Result<Vec<ObjId>, AllocError>
-        ensures { IfOk result (λ v. v.items ≡ waiters (fulfilled name.now binding self.now)) }
+        ensures { IfOk result (λ v. v.items ≡ waiters (fulfilled at.now binding self.now)) }
     {
         self.waiting
             .iter()
-            .filter(|wait| wait.is_fulfilled(name, binding))
+            .filter(|wait| is_fulfilled(wait, at, binding))
             .map(|wait| wait.waiter)
             .collect(alloc)
     }
 
-    /// Takes out the connects that `waiting` lists. The others go on waiting.
-    pub fn take_waiting(&mut self, name: &[u8], binding: Binding)
-        ensures { self.new ≡ with_waiting (filter (λ w. not (is_fulfilled name.now binding w))
+    /// Takes out the connects that `waiting` lists, by one walk over those that wait. The others go on waiting.
+    pub fn take_waiting(&mut self, at: &Endpoint, binding: Binding)
+        ensures { self.new ≡ with_waiting (filter (λ w. not (is_fulfilled at.now binding w))
             self.old.waiting) self.old }
     {
-        self.waiting
-            .retain(|wait| !wait.is_fulfilled(name, binding));
+        self.waiting.retain(|wait| !is_fulfilled(wait, at, binding));
     }
 
-    /// Takes back the object's longest waiting connect to the name.
-    pub fn take_back(&mut self, name: &[u8], waiter: ObjId) -> Result<(), NotBound>
-        ensures waits { IsOk result ↔ IsTrue (waits self.old waiter name.now) }
+    /// Takes back the object's longest waiting connect to the endpoint, by one walk over those that wait.
+    pub fn take_back(&mut self, at: &Endpoint, waiter: ObjId) -> Result<(), NotBound>
+        ensures waits { IsOk result ↔ IsTrue (waits self.old waiter at.now) }
         ensures ok { OnOk result (self.new ≡ with_waiting
-            (without_first (is_connect_of waiter name.now) self.old.waiting) self.old) }
+            (without_first (is_connect_of waiter at.now) self.old.waiting) self.old) }
         ensures err { OnErr result (self.new ≡ self.old) }
     {
-        match self.place_of(waiter, name) {
+        match self.place_of(waiter, at) {
             Some(place) => {
                 self.waiting.remove(place);
                 Ok(())
@@ -191,20 +212,21 @@ impl EndpointBook {
         }
     }
 
-    // Where the object's longest waiting connect to the name stands.
-    fn place_of(&self, object: ObjId, name: &[u8]) -> Option<usize>
-        ensures { result ≡ position (is_connect_of object name.now) self.now.waiting }
+    // Where the object's longest waiting connect to the endpoint stands.
+    fn place_of(&self, object: ObjId, at: &Endpoint) -> Option<usize>
+        ensures { result ≡ position (is_connect_of object at.now) self.now.waiting }
     {
         self.waiting
             .iter()
-            .position(|wait| wait.is_connect_of(object, name))
+            .position(|wait| is_connect_of(wait, object, at))
     }
 
-    /// Strikes all names and waiting connects of the object.
+    /// Strikes all names and waiting connects of the object, by one walk over the book.
     pub fn drop_object(&mut self, object: ObjId)
         ensures { self.new ≡ without_object object self.old }
     {
-        self.names.retain(|_, binding| binding.holder != object);
+        self.names.drop_object(object);
+        self.addresses.drop_object(object);
         self.waiting.retain(|wait| wait.waiter != object);
     }
 }

@@ -1,10 +1,11 @@
-//! The names that sockets are bound to, and the connects that wait for one.
+//! The endpoints that sockets are bound to, and the connects that wait for one.
 #![tactic(auto)]
 
-mod binding;
+mod address_table;
 mod endpoint_book;
-mod waiting;
+mod name_table;
+mod waits;
 
-pub use binding::Binding;
 pub use endpoint_book::{BindError, EndpointBook, NotBound};
-pub use waiting::Waiting;
+pub use spec_control::{Binding, Waiting};
+pub use waits::is_same;

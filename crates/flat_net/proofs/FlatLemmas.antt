@@ -7,41 +7,45 @@ use Rattle.std.proofs.lemmas.List.{map-append, length-map}
 use Rattle.std.proofs.lemmas.Grind.{flat_map-append}
 use Rattle.std.proofs.lemmas.List.Elements.{All-append, All-set, All-nil, All-cons, All-head, All-tail, All-weaker}
 use Rattle.std.proofs.lemmas.Option.{get_or_from_slice_get, slice_get_within, none-some}
-use Rattle.std.specs.Ordering.{nat_cmp}
-use Rattle.std.specs.Cmp.Lexicographic.{slice_cmp}
-use Rattle.std.specs.FinMap.{get-empty}
+use Rattle.spec_journal.proofs.ExampleNames.{none_held}
 use Rattle.zq_base.specs.declared.ids.ObjId.{ObjId}
 use Rattle.spec_pattern.specs.TurnList.{End}
-use Rattle.spec_pattern.specs.Pipe.{Pipe}
+use Rattle.spec_pattern.specs.Pattern.{Pattern, attach}
+use Rattle.pattern_laws.specs.Peers.{kept_ends}
+use Rattle.spec_journal.proofs.AttachLemmas.{attach_all}
 use Rattle.spec_journal.specs.declared.journal.Joined.{Joined}
 use Rattle.spec_journal.specs.Net.{Sock, attached, with_end, turned}
-use Rattle.endpoint_book.specs.EndpointBook.{Book, empty_book}
-use Rattle.endpoint_book.specs.declared.waiting.Waiting.{Waiting}
-use Rattle.flat_net.specs.Pipes.{IsThere, fresh_pipe}
+use Rattle.spec_control.specs.EndpointBook.{Book, empty_book}
+use Rattle.spec_control.specs.declared.book.Waiting.{Waiting}
+use Rattle.flat_net.specs.Pipes.{PlainEnds, IsThere, ArePairs}
+use Rattle.flat_net.specs.Pairs.{AddsPair}
 use Rattle.flat_net.specs.Flat.{flat, IsFlat, IsOne, HasEnds, marks_of, InRange, JoinsSome, mark_at, capacities_of}
 
--- a socket that has another turn list has the marks that it had
-pub turned_marks : (socks : List Sock) (k : ℕ) (s : Sock) (turns : List End) → slice_get socks k ≡ Some s
-    → map marks_of (slice_set socks k (turned turns s)) ≡ map marks_of socks
-turned_marks socks k s turns here = map-set_same marks_of socks k (turned turns s) s (ap marks_of (sym (get_or_from_slice_get socks k s s here)))
+-- a socket in another state has the marks that it had
+pub turned_marks : (socks : List Sock) (k : ℕ) (s : Sock) (pattern : Pattern) → slice_get socks k ≡ Some s
+    → map marks_of (slice_set socks k (turned pattern s)) ≡ map marks_of socks
+turned_marks socks k s pattern here = map-set_same marks_of socks k (turned pattern s) s (ap marks_of (sym (get_or_from_slice_get socks k s s here)))
 
-attached_marks_at : (socks : List Sock) (o : ℕ) (e : End) (found : Option Sock) → slice_get socks (o - 1) ≡ found
-    → map marks_of (with_end socks o found e) ≡ map marks_of socks
-attached_marks_at socks o e None here = refl
-attached_marks_at socks o e (Some s) here = turned_marks socks (o - 1) s (s.turns ++ e ∷ []) here
+attached_marks_at : (socks : List Sock) (o : ℕ) (e : End) (identity : List ℕ) (found : Option Sock) → slice_get socks (o - 1) ≡ found
+    → map marks_of (with_end socks o found e identity) ≡ map marks_of socks
+attached_marks_at socks o e identity None here = refl
+attached_marks_at socks o e identity (Some s) here = turned_marks socks (o - 1) s (attach e identity s.pattern) here
 
-pub attached_marks : (socks : List Sock) (o : ℕ) (e : End) → map marks_of (attached o e socks) ≡ map marks_of socks
-attached_marks socks o e = attached_marks_at socks o e (slice_get socks (o - 1)) refl
+pub attached_marks : (socks : List Sock) (o : ℕ) (e : End) (identity : List ℕ) → map marks_of (attached o e identity socks) ≡ map marks_of socks
+attached_marks socks o e identity = attached_marks_at socks o e identity (slice_get socks (o - 1)) refl
 
 -- a list of sockets with the same marks is as long
 pub same_length : (socks others : List Sock) → map marks_of others ≡ map marks_of socks → length others ≡ length socks
 same_length socks others same = sym (length-map others marks_of) ∙ ap length same ∙ length-map socks marks_of
 
--- an end that is there stays there where more pipes are
-pub there_longer : (pipes more : List Pipe) → length pipes ≤ length more → (s : Sock) → HasEnds pipes s → HasEnds more s
-there_longer pipes more le s h = All-weaker (IsThere pipes) (IsThere more) (λ p there. (there.0, omega (arith, le, there.1))) s.turns h
+pub attached_length : (socks : List Sock) (o : ℕ) (e : End) (identity : List ℕ) → length (attached o e identity socks) ≡ length socks
+attached_length socks o e identity = same_length socks (attached o e identity socks) (attached_marks socks o e identity)
 
-pub all_longer : (pipes more : List Pipe) → length pipes ≤ length more → (socks : List Sock) → All (HasEnds pipes) socks → All (HasEnds more) socks
+-- an end that is there stays there where more ends are
+pub there_longer : (pipes more : PlainEnds) → length pipes.rows ≤ length more.rows → (s : Sock) → HasEnds pipes s → HasEnds more s
+there_longer pipes more le s h = All-weaker (IsThere pipes) (IsThere more) (λ p there. (there.0, omega (arith, le, there.1))) (kept_ends s.pattern) h
+
+pub all_longer : (pipes more : PlainEnds) → length pipes.rows ≤ length more.rows → (socks : List Sock) → All (HasEnds pipes) socks → All (HasEnds more) socks
 all_longer pipes more le socks h = All-weaker (HasEnds pipes) (HasEnds more) (there_longer pipes more le) socks h
 
 -- what holds of each element holds of the one at a place
@@ -49,28 +53,28 @@ pub element : {X : Type 0} (P : X → Type 0) (xs : List X) (k : ℕ) (x : X) �
 element P xs k x e all = subst P (get_or_from_slice_get xs k x x e) (all k x (slice_get_within xs k x e))
 
 -- a socket gets a further end
-attached_ends_at : (pipes : List Pipe) (socks : List Sock) (o : ℕ) (e : End) (found : Option Sock) → slice_get socks (o - 1) ≡ found
-    → IsThere pipes e → All (HasEnds pipes) socks → All (HasEnds pipes) (with_end socks o found e)
-attached_ends_at pipes socks o e None here there h = h
-attached_ends_at pipes socks o e (Some s) here there h =
-    All-set (HasEnds pipes) socks (o - 1) (turned (s.turns ++ e ∷ []) s)
-    (All-append (IsThere pipes) s.turns (e ∷ []) (element (HasEnds pipes) socks (o - 1) s here h) (All-cons (IsThere pipes) e [] there (All-nil (IsThere pipes)))) h
+attached_ends_at : (pipes : PlainEnds) (socks : List Sock) (o : ℕ) (e : End) (identity : List ℕ) (found : Option Sock) → slice_get socks (o - 1) ≡ found
+    → IsThere pipes e → All (HasEnds pipes) socks → All (HasEnds pipes) (with_end socks o found e identity)
+attached_ends_at pipes socks o e identity None here there h = h
+attached_ends_at pipes socks o e identity (Some s) here there h =
+    All-set (HasEnds pipes) socks (o - 1) (turned (attach e identity s.pattern) s)
+    (attach_all (IsThere pipes) e identity s.pattern there (element (HasEnds pipes) socks (o - 1) s here h)) h
 
-pub attached_ends : (pipes : List Pipe) (socks : List Sock) (o : ℕ) (e : End)
-    → IsThere pipes e → All (HasEnds pipes) socks → All (HasEnds pipes) (attached o e socks)
-attached_ends pipes socks o e there h = attached_ends_at pipes socks o e (slice_get socks (o - 1)) refl there h
+pub attached_ends : (pipes : PlainEnds) (socks : List Sock) (o : ℕ) (e : End) (identity : List ℕ)
+    → IsThere pipes e → All (HasEnds pipes) socks → All (HasEnds pipes) (attached o e identity socks)
+attached_ends pipes socks o e identity there h = attached_ends_at pipes socks o e identity (slice_get socks (o - 1)) refl there h
 
 -- a net without sockets
-pub flat_begins : (seats : List (List (Option ObjId))) → IsFlat (flat [] empty_book [] seats [])
-flat_begins seats = record {
+pub flat_begins : (seats : List (List (Option ObjId))) (pipes : PlainEnds) → ArePairs pipes [] → IsFlat (flat [] empty_book [] seats pipes)
+flat_begins seats pipes none = record {
   few = omega arith;
   room = omega arith;
-  ends = All-nil (HasEnds []);
+  ends = All-nil (HasEnds pipes);
   marks = All-nil InRange;
   joins = All-nil (JoinsSome 0);
   waiters = All-nil (λ (x : Waiting). IsOne 0 x.waiter);
-  holders = λ name b held. absurd (none-some b (sym (get-empty (slice_cmp nat_cmp) name) ∙ held));
-  capacities = refl;
+  holders = λ name b held. absurd (none-some b (sym (none_held name) ∙ held));
+  pairs = none;
 }
 
 -- what the sockets' marks say of a pair doesn't change where more sockets come
@@ -87,8 +91,8 @@ capacities_before marks m (j ∷ js) h =
     rw (a, b, capacities_before marks m js (All-tail (JoinsSome (length marks)) j js h)) refl
 
 -- a socket more
-pub flat_with_socket : (socks : List Sock) (book : Book) (pairs : List Joined) (seats others : List (List (Option ObjId))) (pipes : List Pipe) (s : Sock)
-    → IsFlat (flat socks book pairs seats pipes) → InRange (marks_of s) → s.turns ≡ [] → length socks < 1023
+pub flat_with_socket : (socks : List Sock) (book : Book) (pairs : List Joined) (seats others : List (List (Option ObjId))) (pipes : PlainEnds) (s : Sock)
+    → IsFlat (flat socks book pairs seats pipes) → InRange (marks_of s) → HasEnds pipes s → length socks < 1023
     → IsFlat (flat (socks ++ s ∷ []) book pairs others pipes)
 flat_with_socket socks book pairs seats others pipes s w range none few =
     let more : length (socks ++ s ∷ []) ≡ length socks + 1 = length-append socks (s ∷ []) in
@@ -97,20 +101,20 @@ flat_with_socket socks book pairs seats others pipes s w range none few =
     record {
       few = w.few;
       room = omega (arith, more, few);
-      ends = All-append (HasEnds pipes) socks (s ∷ []) w.ends (All-cons (HasEnds pipes) s [] (subst (λ (l : List End). All (IsThere pipes) l) (sym none) (All-nil (IsThere pipes))) (All-nil (HasEnds pipes)));
+      ends = All-append (HasEnds pipes) socks (s ∷ []) w.ends (All-cons (HasEnds pipes) s [] none (All-nil (HasEnds pipes)));
       marks = subst (All InRange) (sym marks) (All-append InRange (map marks_of socks) (marks_of s ∷ []) w.marks (All-cons InRange (marks_of s) [] range (All-nil InRange)));
       joins = All-weaker (JoinsSome (length socks)) (JoinsSome (length (socks ++ s ∷ []))) (λ j one. (omega (arith, more, one.0), omega (arith, more, one.1))) pairs w.joins;
       waiters = All-weaker (λ (x : Waiting). IsOne (length socks) x.waiter) (λ (x : Waiting). IsOne (length (socks ++ s ∷ [])) x.waiter) (λ x one. omega (arith, more, one)) book.waiting w.waiters;
       holders = λ name b held. let one = w.holders name b held in omega (arith, more, one);
-      capacities = w.capacities ∙ sym (ap (λ (ms : List (ℕ × ℕ)). flat_map (capacities_of ms) pairs) marks ∙ capacities_before (map marks_of socks) (marks_of s) pairs (subst (λ n. All (JoinsSome n) pairs) (sym long) w.joins));
+      pairs = subst (ArePairs pipes) (sym (ap (λ (ms : List (ℕ × ℕ)). flat_map (capacities_of ms) pairs) marks ∙ capacities_before (map marks_of socks) (marks_of s) pairs (subst (λ n. All (JoinsSome n) pairs) (sym long) w.joins))) w.pairs;
     }
 
--- other turn lists, and pipes of the same capacities
-pub flat_turned : (socks turned_socks : List Sock) (book : Book) (pairs : List Joined) (seats : List (List (Option ObjId))) (pipes others : List Pipe)
+-- other turn lists, and the same pairs after calls at their ends
+pub flat_turned : (socks turned_socks : List Sock) (book : Book) (pairs : List Joined) (seats : List (List (Option ObjId))) (pipes others : PlainEnds)
     → IsFlat (flat socks book pairs seats pipes) → map marks_of turned_socks ≡ map marks_of socks
-    → All (HasEnds others) turned_socks → map (λ q. q.capacity) others ≡ map (λ q. q.capacity) pipes
+    → All (HasEnds others) turned_socks → ((capacities : List ℕ) → ArePairs pipes capacities → ArePairs others capacities)
     → IsFlat (flat turned_socks book pairs seats others)
-flat_turned socks turned_socks book pairs seats pipes others w marks ends same =
+flat_turned socks turned_socks book pairs seats pipes others w marks ends kept =
     let long = same_length socks turned_socks marks in
     record {
       few = w.few;
@@ -120,28 +124,27 @@ flat_turned socks turned_socks book pairs seats pipes others w marks ends same =
       joins = subst (λ n. All (JoinsSome n) pairs) (sym long) w.joins;
       waiters = subst (λ n. All (λ (x : Waiting). IsOne n x.waiter) book.waiting) (sym long) w.waiters;
       holders = λ name b held. subst (λ n. IsOne n b.holder) (sym long) (w.holders name b held);
-      capacities = same ∙ w.capacities ∙ ap (λ (ms : List (ℕ × ℕ)). flat_map (capacities_of ms) pairs) (sym marks);
+      pairs = subst (ArePairs others) (ap (λ (ms : List (ℕ × ℕ)). flat_map (capacities_of ms) pairs) (sym marks)) (kept (flat_map (capacities_of (map marks_of socks)) pairs) w.pairs);
     }
 
 -- a pair more, between two sockets
-pub flat_with_pair : (socks : List Sock) (book : Book) (pairs : List Joined) (seats : List (List (Option ObjId))) (pipes : List Pipe) (j : Joined) (forth back : ℕ)
+pub flat_with_pair : (socks : List Sock) (book : Book) (pairs : List Joined) (seats : List (List (Option ObjId))) (pipes others : PlainEnds) (j : Joined) (forth back : ℕ)
     → IsFlat (flat socks book pairs seats pipes) → JoinsSome (length socks) j → length pairs < 1000000
-    → capacities_of (map marks_of socks) j ≡ forth ∷ back ∷ []
-    → IsFlat (flat socks book (pairs ++ j ∷ []) seats (pipes ++ fresh_pipe forth ∷ fresh_pipe back ∷ []))
-flat_with_pair socks book pairs seats pipes j forth back w one few caps =
+    → capacities_of (map marks_of socks) j ≡ forth ∷ back ∷ [] → length pipes.rows ≤ length others.rows → AddsPair forth back pipes others
+    → IsFlat (flat socks book (pairs ++ j ∷ []) seats others)
+flat_with_pair socks book pairs seats pipes others j forth back w one few caps longer adds =
     let more : length (pairs ++ j ∷ []) ≡ length pairs + 1 = length-append pairs (j ∷ []) in
-    let longer : length (pipes ++ fresh_pipe forth ∷ fresh_pipe back ∷ []) ≡ length pipes + 2 = length-append pipes (fresh_pipe forth ∷ fresh_pipe back ∷ []) in
     record {
       few = omega (arith, more, few);
       room = w.room;
-      ends = all_longer pipes (pipes ++ fresh_pipe forth ∷ fresh_pipe back ∷ []) (omega (arith, longer)) socks w.ends;
+      ends = all_longer pipes others longer socks w.ends;
       marks = w.marks;
       joins = All-append (JoinsSome (length socks)) pairs (j ∷ []) w.joins (All-cons (JoinsSome (length socks)) j [] one (All-nil (JoinsSome (length socks))));
       waiters = w.waiters;
       holders = w.holders;
-      capacities = map-append (λ q. q.capacity) pipes (fresh_pipe forth ∷ fresh_pipe back ∷ [])
-          ∙ ap (λ (l : List ℕ). l ++ forth ∷ back ∷ []) w.capacities
-          ∙ ap (λ (l : List ℕ). flat_map (capacities_of (map marks_of socks)) pairs ++ l) (sym caps)
+      pairs = subst (ArePairs others)
+          (ap (λ (l : List ℕ). flat_map (capacities_of (map marks_of socks)) pairs ++ l) (sym caps)
           ∙ ap (λ (l : List ℕ). flat_map (capacities_of (map marks_of socks)) pairs ++ l) (sym (append-nil (capacities_of (map marks_of socks) j)))
-          ∙ sym (flat_map-append (capacities_of (map marks_of socks)) pairs (j ∷ []));
+          ∙ sym (flat_map-append (capacities_of (map marks_of socks)) pairs (j ∷ [])))
+          (adds.pairs (flat_map (capacities_of (map marks_of socks)) pairs) w.pairs);
     }

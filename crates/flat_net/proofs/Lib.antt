@@ -1,6 +1,8 @@
-pub mod Past
-pub mod SeenLemmas
-pub mod EndLemmas
+pub mod CallLemmas
+pub mod PairLemmas
+pub mod AddLemmas
+pub mod StateLemmas
+pub mod SocketLemmas
 pub mod FlatLemmas
 pub mod NetLemmas
 pub mod BindLemmas

@@ -2,55 +2,38 @@
 use Rattle.std.proofs.Common.{◌≡◌, ◌≤◌, ◌<◌, ◌+◌, ◌-◌, ◌*◌, ℕ, zero, suc, Bool, true, false, List, [], ◌∷◌, ◌++◌, Option, Some, None, length, map, refl, sym, ap, ◌∙◌, arith, All, append_assoc, take}
 use Rattle.std.specs.Prelude.{flat_map, slice_get, get_or, Result, Ok, Err, OnOk}
 use Rattle.std.specs.Option.{option_map}
-use Rattle.std.proofs.Math.ListN.{get_or-map}
 use Rattle.std.proofs.Math.Seq.{take-length}
 use Rattle.std.proofs.lemmas.List.{length-take-le, take_more}
 use Rattle.std.proofs.lemmas.Option.{slice_get-map}
 use Rattle.zq_base.specs.declared.ids.ObjId.{ObjId}
-use Rattle.spec_pattern.specs.declared.pipe_id.PipeId.{PipeId}
-use Rattle.spec_pattern.specs.PipeStep.{PipeStep, AreExact, most_commits, committed_to}
-use Rattle.spec_pattern.specs.Pipe.{Pipe}
+use Rattle.zq_base.specs.Ends.{PipeId}
+use Rattle.zq_base.specs.declared.ids.Settled.{Settled}
+use Rattle.spec_pattern.specs.PipeStep.{PipeStep, AreExact, most_commits}
 use Rattle.spec_journal.specs.declared.journal.Joined.{Joined}
 use Rattle.spec_journal.specs.declared.journal.PipeRow.{PipeRow}
 use Rattle.spec_journal.specs.Net.{Net, Sock, hwm_of, rcvhwm_of, capacity_between, capacity_in, end_a, end_b}
-use Rattle.endpoint_book.specs.EndpointBook.{Book}
-use Rattle.flat_net.specs.Pipes.{IsThere, index_of, side_index, pipe_at, fresh_pipe, IsPast}
-use Rattle.flat_net.specs.Flat.{flat, IsFlat, marks_of, InRange, capacities_of, plain_row, past_row, past_rows}
+use Rattle.spec_control.specs.EndpointBook.{Book}
+use Rattle.ends.proofs.RowLemmas.{some_same, place_within}
+use Rattle.flat_net.specs.Pipes.{PlainEnd, PlainEnds, plain, index_of, side_index, end_at, AreCapacities, IsPast}
+use Rattle.flat_net.specs.Pairs.{CountsAre}
+use Rattle.flat_net.specs.Flat.{flat, net_of, IsFlat, marks_of, InRange, capacities_of, past_row, past_rows}
+use Rattle.flat_net.proofs.PairLemmas.{place_back}
 use Rattle.flat_net.proofs.FlatLemmas.{element}
 use Rattle.flat_net.proofs.NetLemmas.{hwm_at, rcvhwm_at}
 
--- the row of a pipe, and the rows of the pairs from a number on, by the pipes
-abbrev pub pipe_row : List Pipe → PipeId → PipeRow
-pipe_row pipes p = plain_row p (length (pipe_at pipes p).committed) (length (pipe_at pipes p).taken)
-
-abbrev pub pipe_rows : List Pipe → ℕ → List Joined → List PipeRow
-pipe_rows pipes n [] = []
-pipe_rows pipes n (j ∷ js) = pipe_row pipes (end_a n) ∷ pipe_row pipes (end_b n) ∷ pipe_rows pipes (n + 1) js
-
--- one pair more
-pub pipe_rows_more : (pipes : List Pipe) (n : ℕ) (js : List Joined) (j : Joined) (m : ℕ) → m ≡ n + length js
-    → pipe_rows pipes n (js ++ j ∷ []) ≡ pipe_rows pipes n js ++ pipe_row pipes (end_a m) ∷ pipe_row pipes (end_b m) ∷ []
-pipe_rows_more pipes n [] j m e =
+-- the rows of one pair more
+pub past_rows_more : (past : List PipeStep) (n : ℕ) (js : List Joined) (j : Joined) (m : ℕ) → m ≡ n + length js
+    → past_rows past n (js ++ j ∷ []) ≡ past_rows past n js ++ past_row past (end_a m) ∷ past_row past (end_b m) ∷ []
+past_rows_more past n [] j m e =
     let same : n ≡ m = omega (arith, e) in
-    ap (λ (k : ℕ). pipe_row pipes (end_a k) ∷ pipe_row pipes (end_b k) ∷ []) same
-pipe_rows_more pipes n (x ∷ xs) j m e =
-    ap (λ (l : List PipeRow). pipe_row pipes (end_a n) ∷ pipe_row pipes (end_b n) ∷ l) (pipe_rows_more pipes (n + 1) xs j m (omega (arith, e)))
+    ap (λ (k : ℕ). past_row past (end_a k) ∷ past_row past (end_b k) ∷ []) same
+past_rows_more past n (x ∷ xs) j m e =
+    ap (λ (l : List PipeRow). past_row past (end_a n) ∷ past_row past (end_b n) ∷ l) (past_rows_more past (n + 1) xs j m (omega (arith, e)))
 
--- the rows by the steps past
-row_past : (pipes : List Pipe) (past : List PipeStep) (p : PipeId) → IsPast pipes past → IsThere pipes p → pipe_row pipes p ≡ past_row past p
-row_past pipes past p is there =
-    ap (λ n. plain_row p n (length (pipe_at pipes p).taken)) (ap length (sym (is.committed p there)))
-    ∙ ap (λ n. plain_row p (length (committed_to p past)) n) (ap length (sym (is.taken p there)))
-
-two_rows : (x y x' y' : PipeRow) (l l' : List PipeRow) → x ≡ x' → y ≡ y' → l ≡ l' → x ∷ y ∷ l ≡ x' ∷ y' ∷ l'
-two_rows x y x' y' l l' a b c = rw (a, b, c) refl
-
-pub rows_past : (pipes : List Pipe) (past : List PipeStep) → IsPast pipes past → (n : ℕ) (js : List Joined) → 1 ≤ n → 2 * (n - 1) + 2 * length js ≤ length pipes
-    → pipe_rows pipes n js ≡ past_rows past n js
-rows_past pipes past is n [] low room = refl
-rows_past pipes past is n (j ∷ js) low room =
-    two_rows _ _ _ _ _ _ (row_past pipes past (end_a n) is (low, omega (arith, low, room))) (row_past pipes past (end_b n) is (low, omega (arith, low, room)))
-    (rows_past pipes past is (n + 1) js (omega arith) (omega (arith, low, room)))
+-- the row of a pipe by its counts
+pub row_is : (past : List PipeStep) (p : PipeId) (counts : Settled) → CountsAre past p counts
+    → ◌≡◌ {A = PipeRow} (record { pipe = p; sent = counts.sent; given = counts.got; heard = 0; dropped = 0; written = 0; lost = 0; rest = counts.rest }) (past_row past p)
+row_is past p counts are = rw (are.rest, are.sent, are.got) refl
 
 -- the capacities by places
 by_place : (net : Net) (js : List Joined) (k : ℕ) (a : Bool)
@@ -62,18 +45,23 @@ by_place net (j ∷ js) (suc k) a =
     let more : 2 * suc k + side_index a ≡ suc (suc (2 * k + side_index a)) = omega arith in
     ap (λ (i : ℕ). get_or (flat_map (capacities_of (map marks_of net.socks)) (j ∷ js)) i 0) more ∙ by_place net js k a
 
-capacity_is : (socks : List Sock) (book : Book) (pairs : List Joined) (seats : List (List (Option ObjId))) (pipes : List Pipe) (p : PipeId)
-    → IsFlat (flat socks book pairs seats pipes) → capacity_in (flat socks book pairs seats pipes).net p ≡ (pipe_at pipes p).capacity
-capacity_is socks book pairs seats pipes p w =
-    sym (by_place (flat socks book pairs seats pipes).net pairs (p.pair.0 - 1) p.a)
-    ∙ ap (λ (l : List ℕ). get_or l (index_of p) 0) (sym w.capacities)
-    ∙ get_or-map (λ q. q.capacity) pipes (index_of p) (fresh_pipe 0)
+-- the capacities of the net are those of its pipes
+net_capacities : (socks : List Sock) (book : Book) (pairs : List Joined) (seats : List (List (Option ObjId))) (pipes : PlainEnds)
+    → IsFlat (flat socks book pairs seats pipes) → AreCapacities pipes (capacity_in (net_of socks book pairs seats))
+net_capacities socks book pairs seats pipes w k row here =
+    let capacities = flat_map (capacities_of (map marks_of socks)) pairs in
+    let e = w.pairs.ends k (let lt = place_within pipes.rows k row here in let c = w.pairs.count in omega (arith, c, lt)) in
+    let same : row ≡ e.row = some_same row e.row (sym here ∙ e.here) in
+    let end_is : row.end ≡ end_at k = ap (λ (r : PlainEnd). r.end) same ∙ e.end_is in
+    sym (by_place (net_of socks book pairs seats) pairs (row.end.pair.0 - 1) row.end.a)
+    ∙ ap (λ (i : ℕ). get_or capacities i 0) (ap index_of end_is ∙ place_back k)
+    ∙ sym e.capacity_is ∙ ap (λ (r : PlainEnd). (plain.writing pipes.pipes r.out).capacity) (sym same)
 
 -- the steps past are exact for the capacities of the net
-pub exact_past : (socks : List Sock) (book : Book) (pairs : List Joined) (seats : List (List (Option ObjId))) (pipes : List Pipe)
-    → IsFlat (flat socks book pairs seats pipes) → (past : List PipeStep) → IsPast pipes past → AreExact (capacity_in (flat socks book pairs seats pipes).net) [] past
+pub exact_past : (socks : List Sock) (book : Book) (pairs : List Joined) (seats : List (List (Option ObjId))) (pipes : PlainEnds)
+    → IsFlat (flat socks book pairs seats pipes) → (past : List PipeStep) → IsPast pipes past → AreExact (capacity_in (net_of socks book pairs seats)) [] past
 exact_past socks book pairs seats pipes w past is =
-    is.exact (capacity_in (flat socks book pairs seats pipes).net) (λ p there. capacity_is socks book pairs seats pipes p w)
+    (is.stands (capacity_in (net_of socks book pairs seats)) (net_capacities socks book pairs seats pipes w)).exact
 
 -- no capacity passes the sum of two marks
 hwm_small : (socks : List Sock) (k : ℕ) (found : Option Sock) → slice_get socks k ≡ found → All InRange (map marks_of socks) → hwm_of found < 4294967296
@@ -95,36 +83,34 @@ between_fits net false (Some j) all =
     let y = rcvhwm_small net.socks (j.a.0 - 1) (slice_get net.socks (j.a.0 - 1)) refl all in
     omega (arith, x, y)
 
-pub capacity_fits : (socks : List Sock) (book : Book) (pairs : List Joined) (seats : List (List (Option ObjId))) (pipes : List Pipe)
-    → IsFlat (flat socks book pairs seats pipes) → (p : PipeId) → capacity_in (flat socks book pairs seats pipes).net p ≤ most_commits
-capacity_fits socks book pairs seats pipes w p = between_fits (flat socks book pairs seats pipes).net p.a (slice_get pairs (p.pair.0 - 1)) w.marks
+pub capacity_fits : (socks : List Sock) (book : Book) (pairs : List Joined) (seats : List (List (Option ObjId))) (pipes : PlainEnds)
+    → IsFlat (flat socks book pairs seats pipes) → (p : PipeId) → capacity_in (net_of socks book pairs seats) p ≤ most_commits
+capacity_fits socks book pairs seats pipes w p = between_fits (net_of socks book pairs seats) p.a (slice_get pairs (p.pair.0 - 1)) w.marks
 
--- the rows of one pair more
+-- the rows after one pair more
 no_pair : Joined
 no_pair = record { a = record { 0 = 0 }; b = record { 0 = 0 } }
 
-pub rows_on : (pipes : List Pipe) (pairs : List Joined) (k : ℕ) (before between after : List PipeRow) (x y : PipeRow) → k < length pairs
-    → before ≡ pipe_rows pipes 1 (take k pairs) → between ≡ before ++ x ∷ [] → after ≡ between ++ y ∷ []
-    → x ≡ pipe_row pipes (end_a (k + 1)) → y ≡ pipe_row pipes (end_b (k + 1))
-    → after ≡ pipe_rows pipes 1 (take (k + 1) pairs)
-rows_on pipes pairs k before between after x y here e f g ex ey =
+pub rows_on : (past : List PipeStep) (pairs : List Joined) (k : ℕ) (before between after : List PipeRow) (x y : PipeRow) → k < length pairs
+    → before ≡ past_rows past 1 (take k pairs) → between ≡ before ++ x ∷ [] → after ≡ between ++ y ∷ []
+    → x ≡ past_row past (end_a (k + 1)) → y ≡ past_row past (end_b (k + 1))
+    → after ≡ past_rows past 1 (take (k + 1) pairs)
+rows_on past pairs k before between after x y here e f g ex ey =
     let count : length (take k pairs) ≡ k = length-take-le k pairs (omega (arith, here)) in
     let j = get_or pairs k no_pair in
-    let more = pipe_rows_more pipes 1 (take k pairs) j (k + 1) (omega (arith, count)) in
+    let more = past_rows_more past 1 (take k pairs) j (k + 1) (omega (arith, count)) in
     g ∙ ap (λ (l : List PipeRow). l ++ y ∷ []) f ∙ append_assoc before (x ∷ []) (y ∷ [])
     ∙ ap (λ (l : List PipeRow). l ++ x ∷ y ∷ []) e
-    ∙ ap (λ (r : PipeRow). pipe_rows pipes 1 (take k pairs) ++ r ∷ y ∷ []) ex
-    ∙ ap (λ (r : PipeRow). pipe_rows pipes 1 (take k pairs) ++ pipe_row pipes (end_a (k + 1)) ∷ r ∷ []) ey
+    ∙ ap (λ (r : PipeRow). past_rows past 1 (take k pairs) ++ r ∷ y ∷ []) ex
+    ∙ ap (λ (r : PipeRow). past_rows past 1 (take k pairs) ++ past_row past (end_a (k + 1)) ∷ r ∷ []) ey
     ∙ sym more
-    ∙ ap (λ (l : List Joined). pipe_rows pipes 1 l) (sym (take_more pairs k no_pair here))
+    ∙ ap (λ (l : List Joined). past_rows past 1 l) (sym (take_more pairs k no_pair here))
 
 -- the rows of all pairs
-pub rows_done : (pipes : List Pipe) (pairs : List Joined) (k : ℕ) (rows : List PipeRow) → rows ≡ pipe_rows pipes 1 (take k pairs) → k ≡ length pairs
-    → 2 * length pairs ≤ length pipes → (past : List PipeStep) → IsPast pipes past → rows ≡ past_rows past 1 pairs
-rows_done pipes pairs k rows e all room past is =
-    e ∙ ap (λ (n : ℕ). pipe_rows pipes 1 (take n pairs)) all
-    ∙ ap (λ (l : List Joined). pipe_rows pipes 1 l) (take-length pairs)
-    ∙ rows_past pipes past is 1 pairs (omega arith) (omega (arith, room))
+pub rows_done : (past : List PipeStep) (pairs : List Joined) (k : ℕ) (rows : List PipeRow) → rows ≡ past_rows past 1 (take k pairs) → k ≡ length pairs → rows ≡ past_rows past 1 pairs
+rows_done past pairs k rows e all =
+    e ∙ ap (λ (n : ℕ). past_rows past 1 (take n pairs)) all
+    ∙ ap (λ (l : List Joined). past_rows past 1 l) (take-length pairs)
 
 -- what is true anyway is true of a success
 pub on_ok : {T E P : Type 0} (r : Result T E) → P → OnOk r P

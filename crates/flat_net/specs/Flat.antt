@@ -5,38 +5,39 @@ use Rattle.zq_base.specs.declared.kind.Kind.{Kind}
 use Rattle.zq_base.specs.declared.options.Options.{Options}
 use Rattle.zq_script.specs.declared.script.Call.{Call}
 use Rattle.zq_script.specs.declared.script.Call.TheVariants as call
-use Rattle.spec_pattern.specs.declared.pipe_id.PipeId.{PipeId}
+use Rattle.zq_base.specs.Ends.{PipeId}
 use Rattle.spec_pattern.specs.PipeStep.{PipeStep, committed_to, taken_from}
-use Rattle.spec_pattern.specs.Pipe.{Pipe}
-use Rattle.endpoint_book.specs.EndpointBook.{Book, Name, binding_of}
-use Rattle.endpoint_book.specs.declared.binding.Binding.{Binding}
-use Rattle.endpoint_book.specs.declared.waiting.Waiting.{Waiting}
+use Rattle.spec_control.specs.EndpointBook.{Book, binding_of}
+use Rattle.zq_base.specs.declared.endpoint.Endpoint.{Endpoint}
+use Rattle.spec_control.specs.declared.book.Binding.{Binding}
+use Rattle.spec_control.specs.declared.book.Waiting.{Waiting}
 use Rattle.spec_journal.specs.declared.journal.Answer.{Answer}
 use Rattle.spec_journal.specs.declared.journal.Joined.{Joined}
 use Rattle.spec_journal.specs.declared.journal.PipeRow.{PipeRow}
 use Rattle.spec_journal.specs.declared.journal.Answer.TheVariants as answer
-use Rattle.spec_journal.specs.Net.{Net, Sock, sock_at, mine_at, is_made, most_sockets, next_object, end_a, end_b}
+use Rattle.pattern_laws.specs.Peers.{kept_ends}
+use Rattle.spec_journal.specs.Net.{Net, Sock, new_sock, sock_at, mine_at, is_made, most_pairs, most_sockets, next_object, end_a, end_b}
 use Rattle.spec_journal.specs.Line.{DoesCall}
-use Rattle.flat_net.specs.Pipes.{IsThere, IsPast}
+use Rattle.flat_net.specs.Pipes.{PlainEnds, IsThere, ArePairs, IsPast}
 
--- the net and its pipes
+-- the net, and the ends of its pairs with their pipes
 pub record Flat : Type 0 where
   pub net : Net
-  pub pipes : List Pipe
+  pub pipes : PlainEnds
 
-abbrev pub flat : List Sock → Book → List Joined → List (List (Option ObjId)) → List Pipe → Flat
-flat socks book pairs seats pipes = record {
-  net = record { socks = socks; book = book; pairs = pairs; seats = seats };
-  pipes = pipes;
-}
+abbrev pub net_of : List Sock → Book → List Joined → List (List (Option ObjId)) → Net
+net_of socks book pairs seats = record { socks = socks; book = book; pairs = pairs; seats = seats }
+
+abbrev pub flat : List Sock → Book → List Joined → List (List (Option ObjId)) → PlainEnds → Flat
+flat socks book pairs seats pipes = record { net = net_of socks book pairs seats; pipes = pipes }
 
 -- the object is one of so many sockets
 abbrev pub IsOne : ℕ → ObjId → Type 0
 IsOne count o = o.0 - 1 < count
 
--- each end of the socket is an end of one of these pipes
-abbrev pub HasEnds : List Pipe → Sock → Type 0
-HasEnds pipes s = All (IsThere pipes) s.turns
+-- each end of the socket is one of these
+abbrev pub HasEnds : PlainEnds → Sock → Type 0
+HasEnds pipes s = All (IsThere pipes) (kept_ends s.pattern)
 
 -- the marks of a socket: for sending and for receiving
 abbrev pub marks_of : Sock → ℕ × ℕ
@@ -56,16 +57,16 @@ mark_at marks o = get_or marks (o.0 - 1) (0, 0)
 abbrev pub capacities_of : List (ℕ × ℕ) → Joined → List ℕ
 capacities_of marks j = ((mark_at marks j.a).0 + (mark_at marks j.b).1) ∷ ((mark_at marks j.b).0 + (mark_at marks j.a).1) ∷ []
 
--- What is always true of a net and its pipes: two pipes a pair, with the capacities of its sockets' marks; who waits, holds a name or is joined is a socket.
+-- What is always true of a net: two pipes a pair, with the capacities of its sockets' marks; who waits, holds a name or is joined is a socket.
 pub record IsFlat (w : Flat) : Type 0 where
-  pub few : length w.net.pairs ≤ 1000000
-  pub room : length w.net.socks ≤ 1023
+  pub few : length w.net.pairs ≤ most_pairs
+  pub room : length w.net.socks ≤ most_sockets
   pub ends : All (HasEnds w.pipes) w.net.socks
   pub marks : All InRange (map marks_of w.net.socks)
   pub joins : All (JoinsSome (length w.net.socks)) w.net.pairs
   pub waiters : All (λ (x : Waiting). IsOne (length w.net.socks) x.waiter) w.net.book.waiting
-  pub holders : (name : Name) (b : Binding) → binding_of w.net.book name ≡ Some b → IsOne (length w.net.socks) b.holder
-  pub capacities : map (λ q. q.capacity) w.pipes ≡ flat_map (capacities_of (map marks_of w.net.socks)) w.net.pairs
+  pub holders : (name : Endpoint) (b : Binding) → binding_of w.net.book name ≡ Some b → IsOne (length w.net.socks) b.holder
+  pub pairs : ArePairs w.pipes (flat_map (capacities_of (map marks_of w.net.socks)) w.net.pairs)
 
 -- the actor's socket of this place is this object
 pub record IsMine (net : Net) (actor place : ℕ) (o : ObjId) : Type 0 where
@@ -89,7 +90,7 @@ IsOpened kind options old reply new =
     ⊎ (((is_made kind ≡ true) × (most_sockets ≤ length old.socks) × (reply ≡ answer.TooMany) × (new ≡ old))
     ⊎ ((is_made kind ≡ true) × (length old.socks < most_sockets)
     × (reply ≡ answer.Object (record { 0 = next_object old }))
-    × (new ≡ record old { socks = old.socks ++ record { kind = kind; options = options; turns = [] } ∷ [] })))
+    × (new ≡ record old { socks = old.socks ++ new_sock kind options ∷ [] })))
 
 -- The line was done, with these steps and this answer; the steps past go on by these.
 pub record Moves (actor : ℕ) (call : Call) (old : Flat) (steps : List PipeStep) (reply : Answer) (new : Flat) : Type 0 where

@@ -1,47 +1,28 @@
--- The plain pipes of all pairs, as the net sees them, and what a put and a take at one of them do (own choice).
-use Rattle.std.specs.Prelude.{◌≡◌, ◌*◌, ◌≤◌, ℕ, List, All, false, Some, length, slice_get, slice_set, slice_index_or}
-use Rattle.zq_base.specs.Message.{Frames}
-use Rattle.spec_pattern.specs.Pipe.{Pipe, IsCommittable, StandsFull}
-use Rattle.spec_pattern.specs.Half.{pipe_of}
-use Rattle.spec_journal.specs.Net.{most_pairs}
-use Rattle.msg_pipe.specs.PlainPipe.{plain_writing, plain_reading}
-use Rattle.msg_pipe.specs.declared.plain_pipe.PlainPipe.{PlainPipe}
-use Rattle.msg_pipe.specs.declared.pipes.PutIn.{PutIn}
-use Rattle.msg_pipe.specs.declared.pipes.PutIn.TheVariants as put
-use Rattle.msg_pipe.specs.declared.pipes.Taken.{Taken}
-use Rattle.msg_pipe.specs.declared.pipes.Taken.TheVariants.{Item, Empty, Delimiter}
-use Rattle.flat_net.specs.Pipes.{fresh_pipe, with_committed, with_taken, HasRoom}
+-- What the functions on all pairs do (own choice).
+use Rattle.std.specs.Prelude.{◌≡◌, ◌+◌, ◌-◌, ℕ, List, [], ◌∷◌, ◌++◌, length}
+use Rattle.zq_base.specs.Ends.{PipeId}
+use Rattle.zq_base.specs.declared.ids.Settled.{Settled}
+use Rattle.spec_pattern.specs.PipeStep.{PipeStep, committed_to, taken_from}
+use Rattle.ends.specs.Rows.{table}
+use Rattle.flat_net.specs.declared.pairs.Pairs.{Pairs}
+use Rattle.flat_net.specs.Pipes.{PlainEnds, ArePairs, IsPast}
 
--- the pipe of the two halves of a plain pipe
-abbrev pub seen : PlainPipe → Pipe
-seen p = pipe_of (plain_writing p) (plain_reading p)
+-- the ends with their pipes
+abbrev pub tabled : Pairs → PlainEnds
+tabled p = table p.pipes p.rows.items
 
-abbrev pub IsOpen : PlainPipe → Type 0
-IsOpen p = (plain_writing p).sealed ≡ false
+-- the next pair is there, over two pipes of these capacities that nobody used
+pub record AddsPair (forth back : ℕ) (old new : PlainEnds) : Type 0 where
+  pub count : length new.rows ≡ length old.rows + 2
+  pub pairs : (capacities : List ℕ) → ArePairs old capacities → ArePairs new (capacities ++ forth ∷ back ∷ [])
+  pub past : (capacities : List ℕ) → ArePairs old capacities → (past : List PipeStep) → IsPast old past → IsPast new past
 
--- None of the pipes has its delimiter, they stand by twos, and there are no more than all pairs have.
-pub record AreOfPairs (pipes : List PlainPipe) : Type 0 where
-  pub unsealed : All IsOpen pipes
-  pub pairs : ℕ
-  pub by_twos : length pipes ≡ 2 * pairs
-  pub few : pairs ≤ most_pairs
+-- the pairs are as they were
+abbrev pub KeepsPairs : PlainEnds → PlainEnds → Type 0
+KeepsPairs old new = (capacities : List ℕ) → ArePairs old capacities → ArePairs new capacities
 
--- a put at a pipe that is x before it and y after it
-abbrev pub PutsOn : Pipe → Frames → PutIn → Pipe → Type 0
-PutsOn x m put.Ok y = HasRoom x × (y ≡ with_committed x m)
-PutsOn x m (put.Full back) y = (back ≡ m) × StandsFull x × (y ≡ x)
-
--- a take
-abbrev pub TakesOn : Pipe → Taken → Pipe → Type 0
-TakesOn x (Item m) y = (slice_get x.committed (length x.taken) ≡ Some m) × IsCommittable m × (y ≡ with_taken x m)
-TakesOn x Empty y = (x.taken ≡ x.committed) × (y ≡ x)
-TakesOn x Delimiter y = ⊥
-
--- the pipe that stands at a place
-abbrev pub at_place : List Pipe → ℕ → Pipe
-at_place pipes place = slice_index_or pipes place (fresh_pipe 0)
-
--- what is done to one pipe leaves all others
-pub record DoesAt (R : Pipe → Pipe → Type 0) (old : List Pipe) (place : ℕ) (new : List Pipe) : Type 0 where
-  pub does : R (at_place old place) (at_place new place)
-  pub new_is : new ≡ slice_set old place (at_place new place)
+-- the counts of a pipe by the steps past
+pub record CountsAre (past : List PipeStep) (p : PipeId) (counts : Settled) : Type 0 where
+  pub sent : counts.sent ≡ length (committed_to p past)
+  pub got : counts.got ≡ length (taken_from p past)
+  pub rest : counts.rest ≡ counts.sent - counts.got

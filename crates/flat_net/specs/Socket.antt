@@ -1,51 +1,77 @@
--- Sockets by their patterns, and what a send and a receive of one do to the pipes (zmq_socket(3), "Pipeline pattern").
-use Rattle.std.specs.Prelude.{◌≡◌, ℕ, List, [], true, Option, Some, None, map, if◌then◌else◌}
+-- Sockets by their patterns, and what a send and a receive of one do over the ends of all pairs (zmq_socket(3)).
+use Rattle.std.specs.Prelude.{◌≡◌, ℕ, Bool, true, List, [], ◌++◌, Option, Some, None, Result, IfOk, map, if◌then◌else◌}
+use Rattle.std.specs.declared.alloc.AllocError.{AllocError}
 use Rattle.zq_base.specs.Message.{Frames}
 use Rattle.zq_base.specs.declared.kind.Kind.{Kind}
-use Rattle.zq_base.specs.declared.kind.Kind.TheVariants as kind
 use Rattle.zq_base.specs.declared.options.Options.{Options}
 use Rattle.spec_pattern.specs.PipeStep.{PipeStep}
-use Rattle.spec_pattern.specs.Pipe.{Pipe}
 use Rattle.spec_pattern.specs.TurnList.{End}
-use Rattle.spec_pattern.specs.Call.{SendStep, RecvStep}
+use Rattle.spec_pattern.specs.Pattern.{BothTurns, attach}
+use Rattle.spec_pattern.specs.Pattern as by_kind
+use Rattle.spec_pattern.specs.PatternCalls.{PatternSends, PatternReceives}
 use Rattle.spec_pattern.specs.declared.answers.SendAnswer.{SendAnswer}
 use Rattle.spec_pattern.specs.declared.answers.RecvAnswer.{RecvAnswer}
 use Rattle.spec_journal.specs.declared.journal.Answer.{Answer}
-use Rattle.spec_journal.specs.Net.{Sock, is_made}
+use Rattle.spec_journal.specs.Net.{Sock, is_made, new_sock}
 use Rattle.spec_journal.specs.Line.{sent_answer, got_answer}
+use Rattle.by_turn.specs.Calls.{Tells}
 use Rattle.flat_net.specs.declared.pattern.Pattern.{Pattern}
 use Rattle.flat_net.specs.declared.pattern.Pattern.TheVariants as pattern
-use Rattle.flat_net.specs.Pipes.{DoesAll}
-use Rattle.flat_net.specs.Ends.{end_at}
+use Rattle.ends.specs.Runs.{DoesAll}
+use Rattle.flat_net.specs.Pipes.{PlainEnds, plain, end_at}
 
-abbrev pub kind_of : Pattern → Kind
-kind_of (pattern.Push turns) = kind.Push
-kind_of (pattern.Pull turns) = kind.Pull
-
--- the places of its ends in the order of their turns, and the ends
+-- the places of its ends
 abbrev pub places_of : Pattern → List ℕ
 places_of (pattern.Push turns) = turns
 places_of (pattern.Pull turns) = turns
+places_of (pattern.Pair turns) = turns
+places_of (pattern.Dealer turns) = turns.outs ++ turns.ins
 
-abbrev pub ends_of : Pattern → List End
-ends_of p = map end_at (places_of p)
+-- the turns for sending and for receiving, by the ends
+abbrev pub both_by : (ℕ → End) → List ℕ → List ℕ → BothTurns
+both_by ends outs ins = record { outs = map ends outs; ins = map ends ins }
+
+-- a socket's state over ends that stand at these places
+abbrev pub pattern_by : (ℕ → End) → Pattern → by_kind.Pattern
+pattern_by ends (pattern.Push turns) = by_kind.Push (map ends turns)
+pattern_by ends (pattern.Pull turns) = by_kind.Pull (map ends turns)
+pattern_by ends (pattern.Pair turns) = by_kind.Pair (both_by ends turns turns)
+pattern_by ends (pattern.Dealer turns) = by_kind.Dealer (both_by ends turns.outs turns.ins)
+
+abbrev pub pattern_of : Pattern → by_kind.Pattern
+pattern_of p = pattern_by end_at p
+
+-- the end at the place is attached, whatever its peer is called
+abbrev pub AttachesAt : ℕ → Pattern → Pattern → Type 0
+AttachesAt place old new = (ends : ℕ → End) (identity : List ℕ) →
+    pattern_by ends new ≡ attach (ends place) identity (pattern_by ends old)
+
+module _ {S : Type 0} (runs : S → List PipeStep → S → Type 0) (ends : ℕ → End) where
+  -- the calls between the two states of the peers made the steps of a send
+  pub record SendsAt (writable : ℕ → Bool) (m : Frames) (before after : S) (old : Pattern) (answer : SendAnswer) (new : Pattern) : Type 0 where
+    pub steps : List PipeStep
+    pub runs_are : runs before steps after
+    pub step : (can_write : End → Bool) → Tells can_write ends writable (places_of old) →
+        PatternSends can_write m (pattern_by ends old) steps answer (pattern_by ends new)
+
+  -- the calls between the two states of the peers made the steps of a receive
+  pub record ReceivesAt (before after : S) (old : Pattern) (answer : RecvAnswer) (new : Pattern) : Type 0 where
+    pub steps : List PipeStep
+    pub runs_are : runs before steps after
+    pub step : PatternReceives (pattern_by ends old) steps [] answer (pattern_by ends new)
 
 -- a socket of this kind, where such are made
 abbrev pub new_socket : Kind → Options → Option Sock
-new_socket kind options = if is_made kind then Some (record { kind = kind; options = options; turns = [] }) else None
+new_socket kind options = if is_made kind then Some (new_sock kind options) else None
 
--- a send of a socket of this kind: its steps, which the pipes do, its answer, and its turn list after
-pub record SendsOver (kind : Kind) (m : Frames) (old : List Pipe) (turns : List End) (reply : Answer) (new : List Pipe) (turns' : List End) : Type 0 where
+-- A send of a socket in this state: its steps, which were calls at these ends, and, but for want of memory, its answer and its state after.
+pub record SendsOver (m : Frames) (old : PlainEnds) (state : by_kind.Pattern) (result : Result Answer AllocError) (new : PlainEnds) (state' : by_kind.Pattern) : Type 0 where
   pub steps : List PipeStep
-  pub sent : SendAnswer
-  pub does : DoesAll old steps new
-  pub step : SendStep kind (λ _. true) m turns steps sent turns'
-  pub reply_is : reply ≡ sent_answer sent
+  pub does : DoesAll plain old steps new
+  pub step : IfOk result (λ reply. (sent : SendAnswer) × PatternSends (λ _. true) m state steps sent state' × (reply ≡ sent_answer sent))
 
--- a receive
-pub record ReceivesOver (kind : Kind) (old : List Pipe) (turns : List End) (reply : Answer) (new : List Pipe) (turns' : List End) : Type 0 where
+-- A receive.
+pub record ReceivesOver (old : PlainEnds) (state : by_kind.Pattern) (result : Result Answer AllocError) (new : PlainEnds) (state' : by_kind.Pattern) : Type 0 where
   pub steps : List PipeStep
-  pub got : RecvAnswer
-  pub does : DoesAll old steps new
-  pub step : RecvStep kind turns steps got turns'
-  pub reply_is : reply ≡ got_answer got
+  pub does : DoesAll plain old steps new
+  pub step : IfOk result (λ reply. (got : RecvAnswer) × PatternReceives state steps [] got state' × (reply ≡ got_answer got))

@@ -1,9 +1,7 @@
 //! The sockets of a run and how they are joined, before sockets have owners and end.
 #![tactic(auto)]
 
-mod ends;
 mod net;
-mod options;
 mod pairs;
 mod pattern;
 mod seat;

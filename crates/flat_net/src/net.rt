@@ -1,7 +1,6 @@
-ghost use Rattle.std.specs.Prelude.{◌≡◌, ◌≤◌, OnOk, OnErr};
+ghost use Rattle.std.specs.Prelude.{◌≡◌, ◌≤◌, ℕ, List, OnOk, OnErr};
 ghost use Rattle.spec_journal.specs.Net.{attached};
 
-use crate::options::copy_options;
 use crate::pairs::Pairs;
 use crate::seat::Seat;
 use crate::socket::Socket;
@@ -35,30 +34,33 @@ impl Model for FlatNet {
     ghost use Rattle.std.specs.Prelude.{map};
     ghost use Rattle.std.specs.Coded.{codes};
     ghost use Rattle.endpoint_book.specs.View.{names_code};
-    ghost use Rattle.endpoint_book.specs.contracts.binding.Binding as bound;
+    ghost use Rattle.spec_control.specs.contracts.book.Binding as bound;
+    ghost use Rattle.flat_net.specs.Pairs.{tabled};
     ghost use Rattle.flat_net.specs.Flat.{Flat, flat, IsFlat};
 
     ghost Value = { Flat };
 
     ghost coded = { Prim.hlevel (codes, names_code bound.the_row.coded) };
 
-    ghost view = { λ w. flat w.sockets.items w.book (map (λ e. e.0) w.joined.items) w.seats.items w.pairs };
+    ghost view = { λ w. flat w.sockets.items w.book (map (λ e. e.0) w.joined.items) w.seats.items (tabled w.pairs) };
 
-    ghost invariant = { λ w. IsFlat (flat w.sockets.items w.book (map (λ e. e.0) w.joined.items) w.seats.items w.pairs) };
+    ghost invariant = { λ w. IsFlat (flat w.sockets.items w.book (map (λ e. e.0) w.joined.items) w.seats.items (tabled w.pairs)) };
 }
 
 impl FlatNet {
     ghost use Rattle.std.specs.Prelude.{◌≡◌, ◌+◌, ◌-◌, ◌*◌, ◌<◌, ◌≤◌, ℕ, List, [], ◌∷◌, ◌++◌, All, Some, None, replicate, length, slice_get, slice_set, IfOk, IfSome, IfNone, OnOk, IsTrue};
     ghost use Rattle.spec_pattern.specs.PipeStep.{PipeStep, AreExact, most_commits};
-    ghost use Rattle.endpoint_book.specs.EndpointBook.{empty_book};
-    ghost use Rattle.spec_journal.specs.Net.{Sock, hwm_of, rcvhwm_of, sock_at, joined, seat_of, mine_at, capacity_in};
+    ghost use Rattle.spec_control.specs.EndpointBook.{empty_book};
+    ghost use Rattle.spec_journal.specs.Net.{Sock, sock_kind, hwm_of, rcvhwm_of, sock_at, joined, seat_of, mine_at, capacity_in};
     ghost use Rattle.spec_journal.specs.Line.{makes, binds, connects, connect_finds, joined_all, Sends, Receives};
-    ghost use Rattle.flat_net.specs.Pipes.{IsPast, IsThere, pipe_at};
-    ghost use Rattle.flat_net.specs.Flat.{flat, IsOne, IsOpened, IsMine, IsAskedOf, Moves, plain_row, past_rows};
+    ghost use Rattle.zq_base.specs.Ends.{PipeId};
+    ghost use Rattle.flat_net.specs.Pipes.{IsPast, IsThere};
+    ghost use Rattle.flat_net.specs.Flat.{net_of, IsOne, IsOpened, IsMine, IsAskedOf, Moves, past_row, past_rows};
 
     /// A net with no sockets, for so many actors.
     pub fn new(alloc: Global, actors: usize) -> Result<FlatNet, AllocError>
-        ensures { IfOk result (λ w. w ≡ flat [] empty_book [] (replicate actors []) []) }
+        ensures net { IfOk result (λ w. w.net ≡ net_of [] empty_book [] (replicate actors [])) }
+        ensures past { IfOk result (λ w. IsPast w.pipes []) }
     {
         let mut seats = Vec::new(alloc);
         for _ in 0..actors {
@@ -107,7 +109,7 @@ impl FlatNet {
     fn pair_count(&self) -> usize
         ensures count { result ≡ length self.now.net.pairs }
         ensures few { result ≤ 1000000 }
-        ensures pipes { length self.now.pipes ≡ 2 * result }
+        ensures ends { length self.now.pipes.rows ≡ 2 * result }
     {
         self.pairs.len() / 2
     }
@@ -124,7 +126,7 @@ impl FlatNet {
         let forth = self.hwm(a) as usize + self.rcvhwm(b) as usize;
         let back = self.hwm(b) as usize + self.rcvhwm(a) as usize;
         let pair = PairId(self.pair_count() as u32 + 1);
-        self.pairs.add_pair(alloc, forth, back)?;
+        self.pairs.add_pair(alloc, pair, forth, back)?;
         self.joined = self.joined.and(&Joined { a, b }, &());
         let end = PipeId { pair, a: true };
         attach(&mut self.sockets, a, end)?;
@@ -165,7 +167,7 @@ impl FlatNet {
         ensures pipes { self.new.pipes ≡ self.old.pipes }
         ensures seats { self.new.net.seats ≡ self.old.net.seats }
     {
-        let Some(socket) = Socket::new(alloc, kind, copy_options(alloc, options)?) else {
+        let Some(socket) = Socket::new(alloc, kind, options.copy(alloc)?) else {
             return Ok(Answer::NotSupported);
         };
         if self.sockets.len() >= MOST_SOCKETS {
@@ -210,7 +212,7 @@ impl FlatNet {
     }
 
     /// Binds a name.
-    fn bind(&mut self, alloc: Global, object: ObjId, name: &[u8]) -> Result<Answer, AllocError>
+    fn bind(&mut self, alloc: Global, object: ObjId, name: &Endpoint) -> Result<Answer, AllocError>
         requires there { IsOne (length self.old.net.socks) object }
         ensures net { IfOk result (λ a. (s : Sock) → sock_at self.old.net object.0 ≡ Some s →
             (a ≡ (binds object s name.now self.old.net).0) × (self.new.net ≡ (binds object s name.now self.old.net).1)) }
@@ -239,7 +241,12 @@ impl FlatNet {
     }
 
     /// Connects to a name.
-    fn connect(&mut self, alloc: Global, object: ObjId, name: &[u8]) -> Result<Answer, AllocError>
+    fn connect(
+        &mut self,
+        alloc: Global,
+        object: ObjId,
+        name: &Endpoint,
+    ) -> Result<Answer, AllocError>
         requires there { IsOne (length self.old.net.socks) object }
         ensures net { IfOk result (λ a. (s : Sock) → sock_at self.old.net object.0 ≡ Some s →
             (a ≡ (connects object s name.now self.old.net).0) × (self.new.net ≡ (connects object s name.now self.old.net).1)) }
@@ -266,7 +273,7 @@ impl FlatNet {
     ) -> Result<Answer, AllocError>
         requires there { IsOne (length self.old.net.socks) object }
         requires bound { IsOne (length self.old.net.socks) bound.holder }
-        ensures net { IfOk result (λ a. (s : Sock) → s.kind ≡ kind →
+        ensures net { IfOk result (λ a. (s : Sock) → sock_kind s ≡ kind →
             (a ≡ (connect_finds object s bound self.old.net).0) × (self.new.net ≡ (connect_finds object s bound self.old.net).1)) }
         ensures goes_on { OnOk result ((past : List PipeStep) → IsPast self.old.pipes past → IsPast self.new.pipes past) }
     {
@@ -285,22 +292,22 @@ impl FlatNet {
     }
 
     /// Asks a socket to send.
-    fn send(&mut self, object: ObjId, message: Message) -> Answer
+    fn send(&mut self, object: ObjId, message: Message) -> Result<Answer, AllocError>
         requires there { IsOne (length self.old.net.socks) object }
-        ensures { (s : Sock) → sock_at self.old.net object.0 ≡ Some s →
-            (steps : List PipeStep) × Sends (record { object = object; socket = s }) message self.old.net steps result self.new.net
-            × ((past : List PipeStep) → IsPast self.old.pipes past → IsPast self.new.pipes (past ++ steps)) }
+        ensures { IfOk result (λ a. (s : Sock) → sock_at self.old.net object.0 ≡ Some s →
+            (steps : List PipeStep) × Sends (record { object = object; socket = s }) message self.old.net steps a self.new.net
+            × ((past : List PipeStep) → IsPast self.old.pipes past → IsPast self.new.pipes (past ++ steps))) }
     {
         let place = (object.0 as usize).saturating_sub(1);
         self.sockets[place].send(&mut self.pairs, message)
     }
 
     /// Asks a socket to receive.
-    fn recv(&mut self, object: ObjId) -> Answer
+    fn recv(&mut self, object: ObjId) -> Result<Answer, AllocError>
         requires there { IsOne (length self.old.net.socks) object }
-        ensures { (s : Sock) → sock_at self.old.net object.0 ≡ Some s →
-            (steps : List PipeStep) × Receives (record { object = object; socket = s }) self.old.net steps result self.new.net
-            × ((past : List PipeStep) → IsPast self.old.pipes past → IsPast self.new.pipes (past ++ steps)) }
+        ensures { IfOk result (λ a. (s : Sock) → sock_at self.old.net object.0 ≡ Some s →
+            (steps : List PipeStep) × Receives (record { object = object; socket = s }) self.old.net steps a self.new.net
+            × ((past : List PipeStep) → IsPast self.old.pipes past → IsPast self.new.pipes (past ++ steps))) }
     {
         let place = (object.0 as usize).saturating_sub(1);
         self.sockets[place].recv(&mut self.pairs)
@@ -314,19 +321,19 @@ impl FlatNet {
     {
         match call {
             Call::Socket(_, _) => return Ok(Answer::NotSupported),
-            Call::Bind(_, Endpoint::Inproc(name)) => {
-                return self.bind(alloc, object, name.as_slice());
-            }
-            Call::Connect(_, Endpoint::Inproc(name)) => {
-                return self.connect(alloc, object, name.as_slice());
-            }
-            Call::Bind(_, Endpoint::Tcp(_)) => return Ok(Answer::NotSupported),
-            Call::Connect(_, Endpoint::Tcp(_)) => return Ok(Answer::NotSupported),
+            Call::Bind(_, at) => match at {
+                Endpoint::Inproc(_) => return self.bind(alloc, object, at),
+                Endpoint::Tcp(_) => return Ok(Answer::NotSupported),
+            },
+            Call::Connect(_, to) => match to {
+                Endpoint::Inproc(_) => return self.connect(alloc, object, to),
+                Endpoint::Tcp(_) => return Ok(Answer::NotSupported),
+            },
             Call::Send(_, message) => {
                 let message = message.copy(alloc)?;
-                return Ok(self.send(object, message));
+                return self.send(object, message);
             }
-            Call::Recv(_, _) => return Ok(self.recv(object)),
+            Call::Recv(_, _) => return self.recv(object),
         }
     }
 
@@ -351,10 +358,9 @@ impl FlatNet {
     /// The row of one pipe.
     fn row(&self, pipe: PipeId) -> PipeRow
         requires there { IsThere self.now.pipes pipe }
-        ensures { result ≡ plain_row pipe (length (pipe_at self.now.pipes pipe).committed)
-            (length (pipe_at self.now.pipes pipe).taken) }
+        ensures { (past : List PipeStep) → IsPast self.now.pipes past → result ≡ past_row past pipe }
     {
-        let counts = self.pairs.row(pipe);
+        let counts = self.pairs.counts(pipe);
         PipeRow {
             pipe,
             sent: counts.sent,
@@ -399,7 +405,8 @@ impl FlatNet {
 /// Gives the socket of this number a further end, if there is one.
 fn attach(sockets: &mut Vec<Socket>, object: ObjId, end: PipeId) -> Result<(), AllocError>
     requires { 1 ≤ end.pair.0 }
-    ensures ok { OnOk result (sockets.new.items ≡ attached object.0 end sockets.old.items) }
+    ensures ok { OnOk result ((identity : List ℕ) →
+        sockets.new.items ≡ attached object.0 end identity sockets.old.items) }
     ensures err { OnErr result (sockets.new.items ≡ sockets.old.items) }
 {
     let place = (object.0 as usize).saturating_sub(1);

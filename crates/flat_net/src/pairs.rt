@@ -1,125 +1,97 @@
-ghost use Rattle.std.specs.Prelude.{◌≡◌, ◌*◌, ◌-◌, ◌<◌, ◌≤◌, [], ◌∷◌, ◌++◌, length, OnOk, OnErr};
-ghost use Rattle.spec_pattern.specs.Pipe.{IsCommittable};
-ghost use Rattle.spec_journal.specs.Net.{most_pairs};
-ghost use Rattle.flat_net.specs.Pipes.{fresh_pipe, index_of, IsThere, pipe_at};
-ghost use Rattle.flat_net.specs.Pairs.{PutsOn, TakesOn, DoesAt};
-ghost use Rattle.flat_net.specs.Ends.{end_at, other_place};
+ghost use Rattle.std.specs.Prelude.{◌≡◌, ◌*◌, ◌-◌, ◌<◌, ◌≤◌, ℕ, List, [], ◌∷◌, ◌++◌, length, OnOk, OnErr};
+ghost use Rattle.spec_pattern.specs.PipeStep.{PipeStep};
+ghost use Rattle.flat_net.specs.Pipes.{plain, index_of, IsThere, ArePairs, IsPast};
+ghost use Rattle.flat_net.specs.Pairs.{tabled, AddsPair, KeepsPairs, CountsAre};
 
-use msg_pipe::{PlainPipe, PutIn, Taken};
+use ends::EndRow;
+use msg_pipe::{PlainIn, PlainOut, PlainPipes};
 use spec_pattern::PipeId;
 use std::alloc::{AllocError, Global};
-use std::marker::Model;
-use zq_base::{Message, PairId, Settled};
+use zq_base::{PairId, Settled};
 
-/// The pipes of all pairs. A pair has two: the pipe that its end a writes, and the other one behind
-/// it.
+/// The ends of all pairs, with their pipes. An end stands at the place of the pipe that it writes:
+/// end a of a pair, and end b behind it.
 #[derive(Drop)]
 pub(crate) struct Pairs {
-    pipes: Vec<PlainPipe>,
-}
-
-impl Model for Pairs {
-    ghost use Rattle.std.specs.Prelude.{List, map};
-    ghost use Rattle.spec_pattern.specs.Pipe.{Pipe};
-
-    ghost Value = { List Pipe };
-
-    ghost use Rattle.flat_net.specs.Pairs.{seen, AreOfPairs};
-
-    ghost view = { λ s. map seen s.pipes.items };
-
-    ghost invariant = { λ s. AreOfPairs s.pipes.items };
+    pub(crate) pipes: PlainPipes,
+    pub(crate) rows: Vec<Option<Box<EndRow<PlainOut, PlainIn>>>>,
 }
 
 impl Pairs {
     /// No pairs yet.
     pub(crate) fn new(alloc: Global) -> Pairs
-        ensures { result ≡ [] }
+        ensures pairs { ArePairs (tabled result) [] }
+        ensures past { IsPast (tabled result) [] }
     {
         Pairs {
-            pipes: Vec::new(alloc),
+            pipes: PlainPipes::new(alloc),
+            rows: Vec::new(alloc),
         }
     }
 
-    /// How many pipes there are.
+    /// How many ends there are.
     pub(crate) fn len(&self) -> usize
-        ensures { result ≡ length self.now }
+        ensures { result ≡ length (tabled self.now).rows }
     {
-        self.pipes.len()
+        self.rows.len()
     }
 
-    /// The pair of the pipe at a place.
-    pub(crate) fn pair(&self, place: usize) -> PairId
-        requires { place < length self.now }
-        ensures { result ≡ (end_at place).pair }
-    {
-        let _pipes = &self.pipes;
-        PairId((place / 2) as u32 + 1)
-    }
-
-    /// Where the other pipe of its pair stands.
-    pub(crate) fn other(&self, place: usize) -> usize
-        requires { place < length self.now }
-        ensures other { result ≡ other_place place }
-        ensures there { result < length self.now }
-    {
-        let _pipes = &self.pipes;
-        if place % 2 == 0 {
-            return place + 1;
-        }
-        place - 1
-    }
-
-    /// Adds a pair whose two pipes hold so many messages: the pipe that its end a writes, and the
-    /// other one.
+    /// Adds the next pair, whose two pipes hold so many messages: the one that its end a writes, and
+    /// the other one.
     pub(crate) fn add_pair(
         &mut self,
         alloc: Global,
+        pair: PairId,
         forth: usize,
         back: usize,
     ) -> Result<(), AllocError>
-        requires room { length self.old < 2 * most_pairs }
-        ensures ok { OnOk result (self.new ≡
-            self.old ++ fresh_pipe forth ∷ fresh_pipe back ∷ []) }
-        ensures err { OnErr result (self.new ≡ self.old) }
+        requires some { 1 ≤ pair.0 }
+        requires next { length (tabled self.old).rows ≡ 2 * (pair.0 - 1) }
+        ensures ok { OnOk result (AddsPair forth back (tabled self.old) (tabled self.new)) }
+        ensures err { OnErr result (KeepsPairs (tabled self.old) (tabled self.new)) }
     {
-        self.pipes.reserve(2)?;
-        let forth = PlainPipe::new(alloc, forth)?;
-        let back = PlainPipe::new(alloc, back)?;
-        self.pipes.push_reserved(forth);
-        self.pipes.push_reserved(back);
+        self.rows.reserve(2)?;
+        let (out, far_input) = self.pipes.add(alloc, forth)?;
+        let (far_out, input) = self.pipes.add(alloc, back)?;
+        let end = PipeId { pair, a: true };
+        let near = Box::new(
+            alloc,
+            EndRow {
+                end,
+                writable: true,
+                out,
+                input,
+            },
+        )?;
+        let far = Box::new(
+            alloc,
+            EndRow {
+                end: end.other(),
+                writable: true,
+                out: far_out,
+                input: far_input,
+            },
+        )?;
+        self.rows.push_reserved(Some(near));
+        self.rows.push_reserved(Some(far));
         Ok(())
     }
 
-    /// Commits a message to the pipe at a place, or finds it full.
-    pub(crate) fn put(&mut self, place: usize, message: Message) -> PutIn
-        requires there { place < length self.old }
-        requires whole { IsCommittable message }
-        ensures { DoesAt (λ x y. PutsOn x message result y) self.old place self.new }
-    {
-        self.pipes[place].put(message)
-    }
-
-    /// Takes the oldest message from the pipe at a place.
-    pub(crate) fn take(&mut self, place: usize) -> Taken
-        requires there { place < length self.old }
-        ensures { DoesAt (λ x y. TakesOn x result y) self.old place self.new }
-    {
-        self.pipes[place].take()
-    }
-
     /// The counts of a pipe: the messages committed, taken and left.
-    pub(crate) fn row(&self, pipe: PipeId) -> Settled
-        requires there { IsThere self.now pipe }
-        ensures sent { result.sent ≡ length (pipe_at self.now pipe).committed }
-        ensures got { result.got ≡ length (pipe_at self.now pipe).taken }
-        ensures rest { result.rest ≡ result.sent - result.got }
+    pub(crate) fn counts(&self, pipe: PipeId) -> Settled
+        requires pairs { (capacities : List ℕ) × ArePairs (tabled self.now) capacities }
+        requires there { IsThere (tabled self.now) pipe }
+        ensures past { (past : List PipeStep) → IsPast (tabled self.now) past →
+            CountsAre past pipe result }
     {
-        self.pipes[place_of(pipe)].counts()
+        match &self.rows[place_of(pipe)] {
+            Some(row) => return self.pipes.counts(&row.out),
+            None => unreachable!(),
+        }
     }
 }
 
-/// Where a pipe stands.
+/// Where an end stands.
 pub(crate) fn place_of(pipe: PipeId) -> usize
     requires { 1 ≤ pipe.pair.0 }
     ensures { result ≡ index_of pipe }

@@ -1,16 +1,16 @@
-ghost use Rattle.std.specs.Prelude.{◌≡◌, ◌<◌, ◌↔◌, ◌∷◌, [], ◌++◌, All, length, map, IfSome, IsSome, OnOk, OnErr, true};
-ghost use Rattle.zq_base.specs.declared.kind.Kind.TheVariants.{Push as PushKind, Pull as PullKind};
-ghost use Rattle.spec_journal.specs.Net.{is_made};
-ghost use Rattle.spec_journal.specs.Line.{sent_answer, got_answer};
-ghost use Rattle.push_pull.specs.Calls.{send_answer, recv_answer};
-ghost use Rattle.flat_net.specs.Ends.{end_at};
-ghost use Rattle.flat_net.specs.Socket.{kind_of, places_of, ends_of, SendsOver, ReceivesOver};
+ghost use Rattle.std.specs.Prelude.{◌≡◌, ◌↔◌, ℕ, All, IfSome, IsSome, IsPermutation, OnOk, OnErr, true};
+ghost use Rattle.spec_pattern.specs.Results.{MatchSend, MatchRecv};
+ghost use Rattle.zq_base.specs.declared.options.Options.{Options};
+ghost use Rattle.spec_pattern.specs.TurnList.{End};
+ghost use Rattle.pattern_laws.specs.Peers.{pattern_kind};
+ghost use Rattle.spec_journal.specs.Net.{is_made, new_pattern};
+ghost use Rattle.msg_pipe.specs.Places.{KeepsPlaces};
+ghost use Rattle.flat_net.specs.Socket.{places_of, pattern_by, pattern_of, AttachesAt, SendsAt, ReceivesAt};
 
-use crate::ends::Ends;
-use crate::pairs::Pairs;
-use push_pull::{NotSent, Pull, Push};
-use spec_journal::Answer;
-use spec_pattern::RecvRefusal;
+use msg_pipe::Peers;
+use push_pull::{PairSock, Pull, Push};
+use router_dealer::Dealer;
+use spec_pattern::{RecvFault, SendFault, Sent};
 use std::alloc::{AllocError, Global};
 use zq_base::{Kind, Message, PairId};
 
@@ -19,132 +19,88 @@ use zq_base::{Kind, Message, PairId};
 pub(crate) enum Pattern {
     Push(Push),
     Pull(Pull),
+    Pair(PairSock),
+    Dealer(Dealer),
 }
 
 impl Pattern {
     /// The pattern of a kind, with no ends yet: there is none for a kind that is not built yet.
     pub(crate) fn new(alloc: Global, kind: Kind) -> Option<Pattern>
         ensures made { IsSome result ↔ (is_made kind ≡ true) }
-        ensures kind { IfSome result (λ p. kind_of p ≡ kind) }
-        ensures places { IfSome result (λ p. places_of p ≡ []) }
+        ensures state { IfSome result (λ p. (ends : ℕ → End) (options : Options) →
+            pattern_by ends p ≡ new_pattern kind options) }
     {
         match kind {
             Kind::Push => Some(Pattern::Push(Push::new(alloc))),
             Kind::Pull => Some(Pattern::Pull(Pull::new(alloc))),
+            Kind::Pair => Some(Pattern::Pair(PairSock::new(alloc))),
+            Kind::Dealer => Some(Pattern::Dealer(Dealer::new(alloc))),
             _ => None,
         }
     }
 
     pub(crate) fn kind(&self) -> Kind
-        ensures { result ≡ kind_of self.now }
+        ensures { result ≡ pattern_kind (pattern_of self.now) }
     {
         match self {
             Pattern::Push(_) => Kind::Push,
             Pattern::Pull(_) => Kind::Pull,
+            Pattern::Pair(_) => Kind::Pair,
+            Pattern::Dealer(_) => Kind::Dealer,
         }
     }
 
-    /// The end at this place is attached: its turn comes last.
+    /// The end at this place is attached: its turn comes last. A PAIR that has a peer leaves it
+    /// unattached.
     pub(crate) fn attach(&mut self, place: usize) -> Result<(), AllocError>
-        ensures ok { OnOk result (places_of self.new ≡ places_of self.old ++ place ∷ []) }
-        ensures err { OnErr result (places_of self.new ≡ places_of self.old) }
-        ensures kind { kind_of self.new ≡ kind_of self.old }
+        ensures ok { OnOk result (AttachesAt place self.old self.new) }
+        ensures err { OnErr result (self.new ≡ self.old) }
     {
         match self {
             Pattern::Push(push) => return push.attach(place),
             Pattern::Pull(pull) => return pull.attach(place),
+            Pattern::Pair(pair) => {
+                pair.attach(place)?;
+                return Ok(());
+            }
+            Pattern::Dealer(dealer) => return dealer.attach(place),
         }
     }
 
-    /// Asks the socket to send.
-    pub(crate) fn send(&mut self, pairs: &mut Pairs, message: Message) -> Answer
-        requires { All (λ place. place < length pairs.old) (places_of self.old) }
-        ensures step { SendsOver (kind_of self.old) message
-            pairs.old (ends_of self.old) result pairs.new (ends_of self.new) }
-        ensures there { All (λ place. place < length pairs.new) (places_of self.new) }
-        ensures kind { kind_of self.new ≡ kind_of self.old }
+    /// Sends by the kind's rule.
+    pub(crate) fn send<E: Peers>(
+        &mut self,
+        peers: &mut E,
+        message: Message,
+    ) -> Result<Sent, SendFault>
+        requires there { All (E.here peers.old) (places_of self.old) }
+        ensures step { MatchSend result (peers.new ≡ peers.old) (λ answer. SendsAt E.runs
+            (E.end_at peers.old) (E.writable peers.old) message
+            peers.old peers.new self.old answer self.new) }
+        ensures places { IsPermutation (places_of self.old) (places_of self.new) }
+        ensures keeps { KeepsPlaces E.here E.end_at E.writable peers.old peers.new }
     {
         match self {
-            Pattern::Push(push) => return push_sends(push, pairs, message),
-            Pattern::Pull(pull) => return pull_sends(pull, pairs, message),
+            Pattern::Push(push) => return push.send(peers, message),
+            Pattern::Pull(pull) => return pull.send(peers, message),
+            Pattern::Pair(pair) => return pair.send(peers, message),
+            Pattern::Dealer(dealer) => return dealer.send(peers, message),
         }
     }
 
-    /// Asks the socket to receive.
-    pub(crate) fn recv(&mut self, pairs: &mut Pairs) -> Answer
-        requires { All (λ place. place < length pairs.old) (places_of self.old) }
-        ensures step { ReceivesOver (kind_of self.old)
-            pairs.old (ends_of self.old) result pairs.new (ends_of self.new) }
-        ensures there { All (λ place. place < length pairs.new) (places_of self.new) }
-        ensures kind { kind_of self.new ≡ kind_of self.old }
+    /// Receives by the kind's rule.
+    pub(crate) fn recv<E: Peers>(&mut self, peers: &mut E) -> Result<(PairId, Message), RecvFault>
+        requires there { All (E.here peers.old) (places_of self.old) }
+        ensures step { MatchRecv result (peers.new ≡ peers.old) (λ answer. ReceivesAt E.runs
+            (E.end_at peers.old) peers.old peers.new self.old answer self.new) }
+        ensures places { IsPermutation (places_of self.old) (places_of self.new) }
+        ensures keeps { KeepsPlaces E.here E.end_at E.writable peers.old peers.new }
     {
         match self {
-            Pattern::Push(push) => return push_receives(push, pairs),
-            Pattern::Pull(pull) => return pull_receives(pull, pairs),
+            Pattern::Push(push) => return push.recv(peers),
+            Pattern::Pull(pull) => return pull.recv(peers),
+            Pattern::Pair(pair) => return pair.recv(peers),
+            Pattern::Dealer(dealer) => return dealer.recv(peers),
         }
     }
-}
-
-/// What is answered to a send.
-fn sent_reply(sent: Result<PairId, NotSent>) -> Answer
-    ensures { result ≡ sent_answer (send_answer sent) }
-{
-    match sent {
-        Ok(to) => Answer::Pair(to),
-        Err(e) => Answer::NotSent(e.refusal),
-    }
-}
-
-/// What is answered to a receive.
-fn got_reply(got: Result<(PairId, Message), RecvRefusal>) -> Answer
-    ensures { result ≡ got_answer (recv_answer got) }
-{
-    match got {
-        Ok((from, message)) => Answer::Got(from, message),
-        Err(refusal) => Answer::NotReceived(refusal),
-    }
-}
-
-/// A PUSH is asked to send.
-fn push_sends(push: &mut Push, pairs: &mut Pairs, message: Message) -> Answer
-    requires { All (λ place. place < length pairs.old) push.old }
-    ensures step { SendsOver PushKind message
-        pairs.old (map end_at push.old) result pairs.new (map end_at push.new) }
-    ensures there { All (λ place. place < length pairs.new) push.new }
-{
-    let mut ends = Ends { pairs };
-    sent_reply(push.send(&mut ends, message))
-}
-
-/// A PULL is asked to send, and never does.
-fn pull_sends(pull: &mut Pull, pairs: &mut Pairs, message: Message) -> Answer
-    ensures step { SendsOver PullKind message
-        pairs.old (map end_at pull.old) result pairs.new (map end_at pull.new) }
-    ensures pairs { pairs.new ≡ pairs.old }
-    ensures turns { pull.new ≡ pull.old }
-{
-    let mut ends = Ends { pairs };
-    sent_reply(pull.send(&mut ends, message))
-}
-
-/// A PUSH is asked to receive, and never does.
-fn push_receives(push: &mut Push, pairs: &mut Pairs) -> Answer
-    ensures step { ReceivesOver PushKind
-        pairs.old (map end_at push.old) result pairs.new (map end_at push.new) }
-    ensures pairs { pairs.new ≡ pairs.old }
-    ensures turns { push.new ≡ push.old }
-{
-    let mut ends = Ends { pairs };
-    got_reply(push.recv(&mut ends))
-}
-
-/// A PULL is asked to receive.
-fn pull_receives(pull: &mut Pull, pairs: &mut Pairs) -> Answer
-    requires { All (λ place. place < length pairs.old) pull.old }
-    ensures step { ReceivesOver PullKind
-        pairs.old (map end_at pull.old) result pairs.new (map end_at pull.new) }
-    ensures there { All (λ place. place < length pairs.new) pull.new }
-{
-    let mut ends = Ends { pairs };
-    got_reply(pull.recv(&mut ends))
 }

@@ -1,15 +1,23 @@
-ghost use Rattle.std.specs.Prelude.{◌≡◌, ◌≤◌, ◌∷◌, [], ◌++◌, All, OnOk, OnErr};
-ghost use Rattle.spec_journal.specs.Net.{turned};
-ghost use Rattle.flat_net.specs.Pipes.{IsThere};
-ghost use Rattle.flat_net.specs.Socket.{new_socket, SendsOver, ReceivesOver};
+ghost use Rattle.std.specs.Prelude.{◌≡◌, ◌≤◌, ◌<◌, ℕ, List, All, IsPermutation, length, Ok, IsErr, OnOk, OnErr};
+ghost use Rattle.spec_journal.specs.Net.{sock_kind, turned};
+ghost use Rattle.spec_journal.specs.Line.{sent_answer, got_answer};
+ghost use Rattle.spec_pattern.specs.Results.{MatchSend, MatchRecv};
+ghost use Rattle.ends.specs.Rows.{table};
+ghost use Rattle.flat_net.specs.Pipes.{plain, end_at, IsThere, ArePairs};
+ghost use Rattle.flat_net.specs.Pairs.{tabled};
+ghost use Rattle.pattern_laws.specs.Peers.{kept_ends};
+ghost use Rattle.spec_pattern.specs.Pattern.{attach};
+ghost use Rattle.flat_net.specs.Socket.{new_socket, places_of, pattern_of, SendsOver, ReceivesOver};
 
 use crate::pairs::{Pairs, place_of};
 use crate::pattern::Pattern;
+use ends::{EndRow, Ends};
+use msg_pipe::{PlainIn, PlainOut, PlainPipes};
 use spec_journal::Answer;
-use spec_pattern::PipeId;
+use spec_pattern::{PipeId, RecvFault, SendFault, Sent};
 use std::alloc::{AllocError, Global};
 use std::marker::Model;
-use zq_base::{Kind, Message, Options};
+use zq_base::{Kind, Message, Options, PairId};
 
 /// A socket. An end goes by the pipe that it writes.
 #[derive(Drop)]
@@ -23,13 +31,9 @@ impl Model for Socket {
 
     ghost Value = { Sock };
 
-    ghost use Rattle.flat_net.specs.Socket.{kind_of, ends_of};
+    ghost use Rattle.flat_net.specs.Socket.{pattern_of};
 
-    ghost view = { λ s. record {
-      kind = kind_of s.pattern;
-      options = s.options;
-      turns = ends_of s.pattern;
-    } };
+    ghost view = { λ s. record { options = s.options; pattern = pattern_of s.pattern } };
 }
 
 impl Socket {
@@ -44,7 +48,7 @@ impl Socket {
     }
 
     pub(crate) fn kind(&self) -> Kind
-        ensures { result ≡ self.now.kind }
+        ensures { result ≡ sock_kind self.now }
     {
         self.pattern.kind()
     }
@@ -63,34 +67,102 @@ impl Socket {
         self.options.rcvhwm
     }
 
-    /// An end is attached: its turn comes last.
+    /// An end is attached, by the kind's rule.
     pub(crate) fn attach(&mut self, end: PipeId) -> Result<(), AllocError>
         requires { 1 ≤ end.pair.0 }
-        ensures ok { OnOk result (self.new ≡ turned (self.old.turns ++ end ∷ []) self.old) }
+        ensures ok { OnOk result ((identity : List ℕ) →
+            self.new ≡ turned (attach end identity self.old.pattern) self.old) }
         ensures err { OnErr result (self.new ≡ self.old) }
     {
         self.pattern.attach(place_of(end))
     }
 
-    /// Asks the socket to send over these pipes.
-    pub(crate) fn send(&mut self, pairs: &mut Pairs, message: Message) -> Answer
-        requires { All (IsThere pairs.old) self.old.turns }
-        ensures step { SendsOver self.old.kind message
-            pairs.old self.old.turns result pairs.new self.new.turns }
-        ensures turned { self.new ≡ turned self.new.turns self.old }
-        ensures there { All (IsThere pairs.new) self.new.turns }
+    /// Asks the socket to send over the ends of all pairs.
+    pub(crate) fn send(&mut self, pairs: &mut Pairs, message: Message) -> Result<Answer, AllocError>
+        requires pairs { (capacities : List ℕ) × ArePairs (tabled pairs.old) capacities }
+        requires there { All (IsThere (tabled pairs.old)) (kept_ends self.old.pattern) }
+        ensures step { SendsOver message
+            (tabled pairs.old) self.old.pattern result (tabled pairs.new) self.new.pattern }
+        ensures turned { self.new ≡ turned self.new.pattern self.old }
+        ensures there { All (IsThere (tabled pairs.new)) (kept_ends self.new.pattern) }
     {
-        self.pattern.send(pairs, message)
+        send_over(
+            &mut self.pattern,
+            &mut pairs.pipes,
+            &mut pairs.rows,
+            message,
+        )
     }
 
-    /// Asks the socket to receive over these pipes.
-    pub(crate) fn recv(&mut self, pairs: &mut Pairs) -> Answer
-        requires { All (IsThere pairs.old) self.old.turns }
-        ensures step { ReceivesOver self.old.kind
-            pairs.old self.old.turns result pairs.new self.new.turns }
-        ensures turned { self.new ≡ turned self.new.turns self.old }
-        ensures there { All (IsThere pairs.new) self.new.turns }
+    /// Asks the socket to receive over the ends of all pairs.
+    pub(crate) fn recv(&mut self, pairs: &mut Pairs) -> Result<Answer, AllocError>
+        requires pairs { (capacities : List ℕ) × ArePairs (tabled pairs.old) capacities }
+        requires there { All (IsThere (tabled pairs.old)) (kept_ends self.old.pattern) }
+        ensures step { ReceivesOver
+            (tabled pairs.old) self.old.pattern result (tabled pairs.new) self.new.pattern }
+        ensures turned { self.new ≡ turned self.new.pattern self.old }
+        ensures there { All (IsThere (tabled pairs.new)) (kept_ends self.new.pattern) }
     {
-        self.pattern.recv(pairs)
+        recv_over(&mut self.pattern, &mut pairs.pipes, &mut pairs.rows)
+    }
+}
+
+// A send over lent ends.
+fn send_over(
+    pattern: &mut Pattern,
+    pipes: &mut PlainPipes,
+    rows: &mut Vec<Option<Box<EndRow<PlainOut, PlainIn>>>>,
+    message: Message,
+) -> Result<Answer, AllocError>
+    requires pairs { (capacities : List ℕ) × ArePairs (table pipes.old rows.old.items) capacities }
+    requires there { All (λ k. k < length rows.old.items) (places_of pattern.old) }
+    ensures step { SendsOver message
+        (table pipes.old rows.old.items) (pattern_of pattern.old) result
+        (table pipes.new rows.new.items) (pattern_of pattern.new) }
+    ensures places { IsPermutation (places_of pattern.old) (places_of pattern.new) }
+{
+    let mut ends = Ends { pipes, rows };
+    sent_reply(pattern.send(&mut ends, message))
+}
+
+// A receive over lent ends.
+fn recv_over(
+    pattern: &mut Pattern,
+    pipes: &mut PlainPipes,
+    rows: &mut Vec<Option<Box<EndRow<PlainOut, PlainIn>>>>,
+) -> Result<Answer, AllocError>
+    requires pairs { (capacities : List ℕ) × ArePairs (table pipes.old rows.old.items) capacities }
+    requires there { All (λ k. k < length rows.old.items) (places_of pattern.old) }
+    ensures step { ReceivesOver
+        (table pipes.old rows.old.items) (pattern_of pattern.old) result
+        (table pipes.new rows.new.items) (pattern_of pattern.new) }
+    ensures places { IsPermutation (places_of pattern.old) (places_of pattern.new) }
+{
+    let mut ends = Ends { pipes, rows };
+    got_reply(pattern.recv(&mut ends))
+}
+
+// What is answered to a send.
+fn sent_reply(sent: Result<Sent, SendFault>) -> Result<Answer, AllocError>
+    ensures { MatchSend sent (IsErr result) (λ answer. result ≡ Ok (sent_answer answer)) }
+{
+    match sent {
+        Ok(Sent::One(to)) => return Ok(Answer::Pair(to)),
+        Ok(Sent::Many(report)) => return Ok(Answer::Many(report)),
+        Ok(Sent::Subscribed) => return Ok(Answer::Done),
+        Ok(Sent::Dropped(rule)) => return Ok(Answer::Dropped(rule)),
+        Err(SendFault::Refused(refusal, _)) => return Ok(Answer::NotSent(refusal)),
+        Err(SendFault::OutOfMemory(_)) => return Err(AllocError),
+    }
+}
+
+// What is answered to a receive.
+fn got_reply(got: Result<(PairId, Message), RecvFault>) -> Result<Answer, AllocError>
+    ensures { MatchRecv got (IsErr result) (λ answer. result ≡ Ok (got_answer answer)) }
+{
+    match got {
+        Ok((from, message)) => return Ok(Answer::Got(from, message)),
+        Err(RecvFault::Refused(refusal)) => return Ok(Answer::NotReceived(refusal)),
+        Err(RecvFault::OutOfMemory) => return Err(AllocError),
     }
 }

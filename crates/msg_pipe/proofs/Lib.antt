@@ -1,4 +1,4 @@
 pub mod PlainPipeLemmas
 pub mod PlainPipesLemmas
-pub mod NearSteps
-pub mod TurnListLemmas
+pub mod TurnsLemmas
+pub mod PlacesLemmas

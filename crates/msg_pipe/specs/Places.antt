@@ -1,7 +1,9 @@
--- Values by place, before and after a call (own choice).
-use Rattle.std.specs.Prelude.{◌≡◌, ◌≢◌, ℕ}
+-- Ends by place, before and after a call (own choice).
+use Rattle.std.specs.Prelude.{◌≡◌, ℕ, Bool}
+use Rattle.zq_base.specs.Ends.{PipeId}
 
-module _ {V : Type 0} where
-  -- every place but this one has what it had
-  abbrev pub KeepsOthers : ℕ → (ℕ → V) → (ℕ → V) → Type 0
-  KeepsOthers place old new = (k : ℕ) → k ≢ place → new k ≡ old k
+-- each end is where it was, and can be written as before
+pub record KeepsPlaces {S : Type 0} (here : S → ℕ → Type 0) (end_at : S → ℕ → PipeId) (writable : S → ℕ → Bool) (old new : S) : Type 0 where
+  pub stay : (k : ℕ) → here old k → here new k
+  pub ends : end_at new ≡ end_at old
+  pub states : writable new ≡ writable old

@@ -1,16 +1,18 @@
 -- What the answer of a call on a half tells, and the steps that it stands for (zmq_msg_send(3), zmq_msg_recv(3)).
-use Rattle.std.specs.Prelude.{◌≡◌, ◌++◌, List, [], ◌∷◌, true, false}
+use Rattle.std.specs.Prelude.{◌≡◌, ◌++◌, [], ◌∷◌, Bool, true, false}
 use mathlib.Core.List.{IsPrefix}
 use Rattle.zq_base.specs.Message.{Frames}
-use Rattle.spec_pattern.specs.declared.pipe_id.PipeId.{PipeId}
-use Rattle.spec_pattern.specs.PipeStep.{PipeStep, Commit, FullLook, Take, EmptyLook, DelimiterLook}
-use Rattle.spec_pattern.specs.Pipe.{Pipe, StandsFull, StandsEmpty, StandsAtDelimiter}
-use Rattle.spec_pattern.specs.Half.{Writing, Reading, without_parts, Commits, IsFull, Takes, IsEmpty, IsAtDelimiter}
+use Rattle.zq_base.specs.Ends.{PipeId}
+use Rattle.spec_pattern.specs.PipeStep.{PipeStep, Commit, FullLook, Take, EmptyLook, DelimiterLook, WaitingLook}
+use Rattle.spec_pattern.specs.Pipe.{Pipe, IsCommittable, StandsFull, StandsEmpty, StandsAtDelimiter}
+use Rattle.spec_pattern.specs.Half.{Writing, Reading, without_parts, Commits, IsFull, Takes, SeesOne, IsEmpty, IsAtDelimiter}
 use Rattle.msg_pipe.specs.declared.pipes.PutIn.{PutIn}
 use Rattle.msg_pipe.specs.declared.pipes.PutIn.TheVariants as put
 use Rattle.msg_pipe.specs.declared.pipes.Committed.{Committed}
 use Rattle.msg_pipe.specs.declared.pipes.Committed.TheVariants as commit
 use Rattle.msg_pipe.specs.declared.pipes.Taken.{Taken}
+use Rattle.msg_pipe.specs.declared.pipes.Front.{Front}
+use Rattle.msg_pipe.specs.declared.pipes.Front.TheVariants as front
 use Rattle.msg_pipe.specs.declared.pipes.Taken.TheVariants.{Item, Empty, Delimiter}
 
 -- the message is committed, or the pipe was found full and it comes back
@@ -29,22 +31,56 @@ Finds v (Item m) w = Takes v m w
 Finds v Empty w = IsEmpty v w
 Finds v Delimiter w = IsAtDelimiter v w
 
+-- the front: a message waits, or there is none, or the delimiter stands there
+abbrev pub FrontFinds : Reading → Front → Reading → Type 0
+FrontFinds v front.Message w = SeesOne v w
+FrontFinds v front.Empty w = IsEmpty v w
+FrontFinds v front.Delimiter w = IsAtDelimiter v w
+
+-- the step of a look at the front of the pipe
+abbrev pub front_step : PipeId → Front → PipeStep
+front_step p front.Message = WaitingLook p
+front_step p front.Empty = EmptyLook p
+front_step p front.Delimiter = DelimiterLook p
+
+-- what stood at the front at a take
+abbrev pub front_of : Taken → Front
+front_of (Item m) = front.Message
+front_of Empty = front.Empty
+front_of Delimiter = front.Delimiter
+
+-- what stands where no message waits: the delimiter, or nothing yet
+abbrev pub end_of : Bool → Front
+end_of true = front.Delimiter
+end_of false = front.Empty
+
 -- the step of a put at the pipe
-abbrev pub put_steps : PipeId → Frames → PutIn → List PipeStep
-put_steps p m put.Ok = Commit p m ∷ []
-put_steps p m (put.Full back) = FullLook p ∷ []
+abbrev pub put_step : PipeId → Frames → PutIn → PipeStep
+put_step p m put.Ok = Commit p m
+put_step p m (put.Full back) = FullLook p
 
 -- the step of a take at the pipe
-abbrev pub take_steps : PipeId → Taken → List PipeStep
-take_steps p (Item m) = Take p m ∷ []
-take_steps p Empty = EmptyLook p ∷ []
-take_steps p Delimiter = DelimiterLook p ∷ []
+abbrev pub take_step : PipeId → Taken → PipeStep
+take_step p (Item m) = Take p m
+take_step p Empty = EmptyLook p
+take_step p Delimiter = DelimiterLook p
 
--- what an exact look of a take saw: all that was committed, and whether the delimiter stands behind it
-pub record SeesAll (v : Writing) (found : Taken) (w : Reading) : Type 0 where
+-- a message that comes back is the one that was given
+abbrev pub HandsBack : Frames → PutIn → Type 0
+HandsBack m put.Ok = Unit {0}
+HandsBack m (put.Full back) = back ≡ m
+
+-- a message that is taken fits a pipe
+abbrev pub TakesWhole : Taken → Type 0
+TakesWhole (Item m) = IsCommittable m
+TakesWhole Empty = Unit {0}
+TakesWhole Delimiter = Unit {0}
+
+-- what an exact look at the front saw: all that was committed, and whether the delimiter stands behind it
+pub record SeesAll (v : Writing) (found : Front) (w : Reading) : Type 0 where
   pub seen : w.seen ≡ v.committed
-  pub unsealed : found ≡ Empty → v.sealed ≡ false
-  pub sealed : found ≡ Delimiter → v.sealed ≡ true
+  pub unsealed : found ≡ front.Empty → v.sealed ≡ false
+  pub sealed : found ≡ front.Delimiter → v.sealed ≡ true
 
 -- how the pipe stood at a put that answered so
 abbrev pub PutFinds : Pipe → PutIn → Type 0

@@ -4,18 +4,16 @@
 mod laws;
 mod peers;
 mod pipes;
-mod plain_peers;
 mod plain_pipe;
 mod plain_pipes;
-mod turn_list;
+mod turns;
 
 pub use laws::{
     a_put_is_its_parts_and_its_commit, exact_looks_find_how_the_pipe_stands, halves_are_a_pipe,
     halves_that_fit_are_a_pipe,
 };
 pub use peers::Peers;
-pub use pipes::{Committed, Pipes, PutIn, Taken};
-pub use plain_peers::PlainPeers;
+pub use pipes::{Committed, Front, Pipes, PutIn, Taken};
 pub use plain_pipe::PlainPipe;
 pub use plain_pipes::{PlainIn, PlainOut, PlainPipes};
-pub use turn_list::TurnList;
+pub use turns::Turns;

@@ -3,7 +3,7 @@ ghost use Rattle.std.specs.VecDeque.{deque_len, deque_capacity};
 ghost use Rattle.spec_pattern.specs.PipeStep.{most_commits};
 ghost use Rattle.spec_pattern.specs.Pipe.{IsCommittable};
 
-use crate::pipes::{Committed, PutIn, Taken};
+use crate::pipes::{Committed, Front, PutIn, Taken};
 use http_server::Log;
 use std::alloc::{AllocError, AllocFailed, Global};
 use std::collections::VecDeque;
@@ -42,7 +42,7 @@ impl PlainPipe {
     ghost use Rattle.std.specs.VecDeque.{deque_capacity};
     ghost use Rattle.spec_pattern.specs.Pipe.{IsCommittable};
     ghost use Rattle.spec_pattern.specs.Half.{fresh_writing, fresh_reading, with_part, without_parts, with_delimiter, AreHalves};
-    ghost use Rattle.msg_pipe.specs.Told.{Puts, CommitsParts, Finds, SeesAll};
+    ghost use Rattle.msg_pipe.specs.Told.{Puts, CommitsParts, Finds, FrontFinds, SeesAll, front_of, end_of};
     ghost use Rattle.msg_pipe.specs.PlainPipe.{plain_writing, plain_reading, plain_taken, plain_committed};
 
     /// A pipe with room for so many messages.
@@ -54,6 +54,7 @@ impl PlainPipe {
         Ok(PlainPipe::over(alloc, capacity, waiting))
     }
 
+    // A new pipe over an empty queue that has the room.
     fn over(alloc: Global, capacity: usize, waiting: VecDeque<Message>) -> PlainPipe
         requires empty { waiting.items ≡ [] }
         requires room { capacity ≤ deque_capacity waiting }
@@ -76,6 +77,7 @@ impl PlainPipe {
         }
     }
 
+    /// Adds a frame to the message that is being built.
     pub(crate) fn part(&mut self, frame: Frame) -> Result<(), AllocFailed<Frame>>
         ensures ok { OnOk result (plain_writing self.new ≡
             with_part (frame ∷ []) (plain_writing self.old)) }
@@ -86,6 +88,7 @@ impl PlainPipe {
         self.parts.push(frame)
     }
 
+    /// Commits the message that was built, or finds the pipe full and keeps the parts.
     pub(crate) fn commit(&mut self) -> Committed
         requires open { self.old.sealed ≡ false }
         requires whole { IsCommittable self.old.parts.items }
@@ -104,6 +107,7 @@ impl PlainPipe {
         }
     }
 
+    /// Forgets the parts.
     pub(crate) fn rollback(&mut self)
         ensures forgets { plain_writing self.new ≡ without_parts (plain_writing self.old) }
         ensures reading { plain_reading self.new ≡ plain_reading self.old }
@@ -140,7 +144,8 @@ impl PlainPipe {
     /// Takes the oldest message.
     pub fn take(&mut self) -> Taken
         ensures take { Finds (plain_reading self.old) result (plain_reading self.new) }
-        ensures exact { SeesAll (plain_writing self.old) result (plain_reading self.new) }
+        ensures exact { SeesAll (plain_writing self.old) (front_of result)
+            (plain_reading self.new) }
         ensures writing { plain_writing self.new ≡ plain_writing self.old }
     {
         self.seen = self.committed;
@@ -150,24 +155,46 @@ impl PlainPipe {
                 self.taken += 1;
                 Taken::Item(message)
             }
-            None => self.find_nothing(),
+            None => {
+                if self.meets_end() {
+                    return Taken::Delimiter;
+                }
+                Taken::Empty
+            }
         }
     }
 
-    /// What a look tells that finds no message.
-    fn find_nothing(&mut self) -> Taken
+    /// Looks at the front and takes nothing.
+    pub(crate) fn front(&mut self) -> Front
+        ensures front { FrontFinds (plain_reading self.old) result (plain_reading self.new) }
+        ensures exact { SeesAll (plain_writing self.old) result (plain_reading self.new) }
+        ensures writing { plain_writing self.new ≡ plain_writing self.old }
+    {
+        self.seen = self.committed;
+        if self.taken < self.committed {
+            return Front::Message;
+        }
+        if self.meets_end() {
+            return Front::Delimiter;
+        }
+        Front::Empty
+    }
+
+    // A look that finds no message: it says whether the delimiter stands there, and is counted if not.
+    fn meets_end(&mut self) -> bool
         requires none { self.old.committed ≡ self.old.taken }
         requires seen { self.old.seen ≡ self.old.committed }
-        ensures take { Finds (plain_reading self.old) result (plain_reading self.new) }
-        ensures exact { SeesAll (plain_writing self.old) result (plain_reading self.new) }
+        ensures front { FrontFinds (plain_reading self.old) (end_of result)
+            (plain_reading self.new) }
+        ensures exact { SeesAll (plain_writing self.old) (end_of result) (plain_reading self.new) }
         ensures writing { plain_writing self.new ≡ plain_writing self.old }
     {
         if self.sealed {
             self.ended = true;
-            return Taken::Delimiter;
+            return true;
         }
         self.empty_looks = self.empty_looks.saturating_add(1);
-        Taken::Empty
+        false
     }
 
     /// The counts so far: the messages committed, taken and left.

@@ -1,5 +1,9 @@
-use crate::pipes::{Committed, Pipes, PutIn, Taken};
+ghost use Rattle.std.specs.Prelude.{◌≡◌, ◌-◌, ℕ, false, length, IfOk};
+ghost use Rattle.msg_pipe.specs.Known.{IsThere, KeepsAll, MakesPipe};
+
+use crate::pipes::{Committed, Front, Pipes, PutIn, Taken};
 use crate::plain_pipe::PlainPipe;
+use http_server::Log;
 use std::alloc::{AllocError, AllocFailed, Global};
 use zq_base::{Frame, Message, Settled};
 
@@ -24,17 +28,45 @@ pub struct PlainPipes {
 impl PlainPipes {
     /// No pipes yet.
     pub fn new(alloc: Global) -> PlainPipes
-        ensures { (o : PlainOut) → ⟦<PlainPipes as Pipes>⟧.has_out result o → ⊥ }
+        ensures { (n : ℕ) → ⟦<PlainPipes as Pipes>⟧.known.there result n ≡ false }
     {
         PlainPipes {
             pipes: Vec::new(alloc),
         }
     }
+
+    /// Makes a pipe of any capacity.
+    pub fn add(&mut self, alloc: Global, capacity: usize) -> Result<(PlainOut, PlainIn), AllocError>
+        ensures made { IfOk result (λ r. MakesPipe ⟦<PlainPipes as Pipes>⟧.known capacity r.0 r.1
+            self.old self.new) }
+        ensures keeps { KeepsAll ⟦<PlainPipes as Pipes>⟧.known self.old self.new }
+    {
+        self.pipes.reserve(1)?;
+        let pipe = PlainPipe::new(alloc, capacity)?;
+        let number = self.pipes.len();
+        self.pipes.push_reserved(pipe);
+        Ok((PlainOut { number }, PlainIn { number }))
+    }
+
+    /// The counts of a pipe so far: the messages committed, taken and left.
+    pub fn counts(&self, o: &PlainOut) -> Settled
+        requires here { IsThere ⟦<PlainPipes as Pipes>⟧.known self.now
+            (⟦<PlainPipes as Pipes>⟧.known.out_name o.now) }
+        ensures sent { result.sent ≡
+            length (⟦<PlainPipes as Pipes>⟧.known.writing self.now o.now).committed }
+        ensures got { (i : PlainIn) → ⟦<PlainPipes as Pipes>⟧.known.in_name i ≡
+            ⟦<PlainPipes as Pipes>⟧.known.out_name o.now →
+            result.got ≡ length (⟦<PlainPipes as Pipes>⟧.known.reading self.now i).taken }
+        ensures rest { result.rest ≡ result.sent - result.got }
+    {
+        self.pipes[o.number].counts()
+    }
 }
 
 impl Pipes for PlainPipes {
-    ghost use Rattle.std.specs.Prelude.{◌≢◌, ◌<◌, true, length};
-    ghost use Rattle.msg_pipe.specs.PlainPipes.{writing_at, reading_at};
+    ghost use Rattle.std.specs.Prelude.{nat_lt, true, length};
+    ghost use Rattle.std.proofs.Common.{ap, ltb-true};
+    ghost use Rattle.msg_pipe.specs.PlainPipes.{writing_at, reading_at, told_of};
     ghost use Rattle.msg_pipe.specs.PlainFits.{halves_at};
 
     type Out = PlainOut;
@@ -45,25 +77,25 @@ impl Pipes for PlainPipes {
 
     type Name = usize;
 
-    ghost has_out = { λ s o. o.number < length s.pipes.items };
+    type Story = Log<PlainPipe, bool>;
 
-    ghost has_in = { λ s i. i.number < length s.pipes.items };
+    ghost known = { record {
+      there = λ s n. nat_lt n (length s.pipes.items);
+      out_name = λ o. o.number;
+      in_name = λ i. i.number;
+      writing = λ s o. writing_at s.pipes.items o.number;
+      reading = λ s i. reading_at s.pipes.items i.number;
+      exact = true;
+    } };
 
-    ghost apart_out = { λ h o. h.number ≢ o.number };
+    ghost told = { λ story. told_of story.items };
 
-    ghost apart_in = { λ h i. h.number ≢ i.number };
+    ghost fitting = { λ _ s o i here same.
+        halves_at s.pipes.items o.number i.number (ltb-true _ _ here) same };
 
-    ghost out_name = { λ o. o.number };
+    ghost one_out = { λ _ s _ _ same. ap (writing_at s.pipes.items) same };
 
-    ghost in_name = { λ i. i.number };
-
-    ghost writing = { λ s o. writing_at s.pipes.items o.number };
-
-    ghost reading = { λ s i. reading_at s.pipes.items i.number };
-
-    ghost exact = { true };
-
-    ghost fitting = { λ _ s o i here _ same. halves_at s.pipes.items o.number i.number here same };
+    ghost one_in = { λ _ s _ _ same. ap (reading_at s.pipes.items) same };
 
     fn make(
         &mut self,
@@ -72,12 +104,10 @@ impl Pipes for PlainPipes {
         _writer: &(),
         _reader: &(),
     ) -> Result<(PlainOut, PlainIn), AllocError> {
-        self.pipes.reserve(1)?;
-        let pipe = PlainPipe::new(alloc, capacity as usize)?;
-        let number = self.pipes.len();
-        self.pipes.push_reserved(pipe);
-        Ok((PlainOut { number }, PlainIn { number }))
+        self.add(alloc, capacity as usize)
     }
+
+    fn wake(_waker: &()) {}
 
     fn name(o: &PlainOut) -> usize {
         o.number
@@ -110,6 +140,18 @@ impl Pipes for PlainPipes {
 
     fn take(&mut self, i: &mut PlainIn) -> Taken {
         self.pipes[i.number].take()
+    }
+
+    fn front(&mut self, i: &mut PlainIn) -> Front {
+        self.pipes[i.number].front()
+    }
+
+    fn story_out(&self, o: &PlainOut) -> Log<PlainPipe, bool> {
+        Log::new().and(&self.pipes[o.number], &true)
+    }
+
+    fn story_in(&self, i: &PlainIn) -> Log<PlainPipe, bool> {
+        Log::new().and(&self.pipes[i.number], &false)
     }
 
     fn settle(&mut self, i: PlainIn, _o: PlainOut) -> Settled {

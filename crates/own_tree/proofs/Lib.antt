@@ -1,4 +1,8 @@
+mod WriteLemmas
+mod SumLemmas
 mod RowLemmas
-mod TallyLemmas
+mod ListLemmas
+mod KeptLemmas
+mod BothLemmas
 mod EndingLemmas
 mod MakeLemmas

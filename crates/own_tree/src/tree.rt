@@ -1,50 +1,41 @@
-ghost use Rattle.std.specs.Prelude.{◌≡◌, ◌≢◌, ◌<◌, ◌≤◌, ◌+◌, ◌^◌, [], ◌∷◌, length, slice_get, IfOk, OnOk, OnErr, Some, false, ℕ};
+ghost use Rattle.std.specs.Prelude.{◌≡◌, ◌≢◌, ◌<◌, ◌≤◌, ◌+◌, ◌^◌, [], ◌∷◌, length, slice_get, IfOk, OnOk, OnErr};
 ghost use Rattle.zq_base.specs.declared.ids.ObjId.{ObjId};
-ghost use Rattle.spec_control.specs.declared.object.ObjState.TheVariants.{Live, Asked, Ended as HasEnded};
-ghost use Rattle.spec_control.specs.OwnershipTree.{Makes, Asks, Ends};
-ghost use Rattle.own_tree.specs.declared.ending.Ending.TheVariants.{Ended};
-ghost use Rattle.own_tree.specs.Rows.{row_at, tree_of, living_children, unnoted_children, IsRight};
-ghost use Rattle.own_tree.specs.Changes.{change, in_state, one_more_sent, one_more_processed, one_more_owed, one_less_owed, as_noted, as_told, owns_of, root_row, with_made, with_noted, with_told};
+ghost use Rattle.spec_control.specs.declared.object.ObjState.TheVariants.{Ended as HasEnded};
+ghost use Rattle.spec_control.specs.OwnershipTree.{Makes};
+ghost use Rattle.own_tree.specs.Rows.{row_at, state_at, tree_of, children_of, living_children, unnoted_children, live_objects, AllAddUp};
+ghost use Rattle.own_tree.specs.Changes.{root_row, with_made};
 
-use crate::ending::Ending;
 use crate::row::Row;
+use crate::rows::{count_made, list_made, push_made};
 use crate::tally::Tally;
-use spec_control::{ObjKind, ObjState};
+use spec_control::{ObjKind, Stage, Use};
 use std::alloc::{AllocError, Global};
 use std::marker::Model;
 use zq_base::{ObjId, SlotId};
 
-/// The objects of a context, by their numbers.
+/// The objects of a context, by their numbers. No call but `make` takes memory, and none walks over all objects.
 #[derive(Drop)]
 pub struct OwnTree {
-    rows: Vec<Row>,
-    tallies: Vec<Tally>,
+    pub(crate) rows: Vec<Row>,
+    pub(crate) tallies: Vec<Tally>,
+    pub(crate) children: Vec<Vec<ObjId>>,
+    pub(crate) live: usize,
 }
 
 impl Model for OwnTree {
     ghost use Rattle.std.specs.Prelude.{List};
     ghost use Rattle.own_tree.specs.declared.row.Row.{Row};
-    ghost use Rattle.own_tree.specs.Tallies.{AreTallied};
+    ghost use Rattle.own_tree.specs.Tallies.{lists_of, AreTallied};
 
     ghost Value = { List Row };
 
     ghost view = { λ t. t.rows.items };
 
-    ghost invariant = { λ t. AreTallied t.rows.items t.tallies.items };
-}
-
-/// How many Own announce an object of this kind to its owner.
-fn owns_of(kind: ObjKind) -> u64
-    ensures { result ≡ owns_of kind }
-{
-    match kind {
-        ObjKind::Root | ObjKind::Socket(_) => 0,
-        ObjKind::Listener | ObjKind::Session => 1,
-    }
+    ghost invariant = { λ t. AreTallied t.rows.items t.tallies.items (lists_of t.children.items) t.live };
 }
 
 impl OwnTree {
-    /// A context's objects at its making: the root, with number 0.
+    /// A context's objects at its making: the root, with number 0, which has nobody to ask.
     pub fn new(alloc: Global, slot: SlotId) -> Result<OwnTree, AllocError>
         ensures { IfOk result (λ t. t ≡ root_row slot ∷ []) }
     {
@@ -54,10 +45,13 @@ impl OwnTree {
             slot,
             sent: 0,
             processed: 0,
+            binds: 0,
             owed: 0,
+            ends: 0,
             noted: true,
-            told: false,
-            state: ObjState::Live,
+            plugged: true,
+            request: Use::Used,
+            stage: Stage::Alive,
         };
         let mut rows = Vec::new(alloc);
         rows.push(root)?;
@@ -66,7 +60,14 @@ impl OwnTree {
             living: 0,
             unnoted: 0,
         })?;
-        Ok(OwnTree { rows, tallies })
+        let mut children = Vec::new(alloc);
+        children.push(Vec::new(alloc))?;
+        Ok(OwnTree {
+            rows,
+            tallies,
+            children,
+            live: 1,
+        })
     }
 
     /// How many objects were made, the root among them. This is the next object's number.
@@ -83,6 +84,23 @@ impl OwnTree {
         self.rows.get(id.0 as usize).copied()
     }
 
+    /// How many objects have not ended, the root among them.
+    pub fn live(&self) -> usize
+        ensures { result ≡ live_objects self.now }
+    {
+        self.live
+    }
+
+    /// An object's children, in order of making, those that have ended among them.
+    pub fn children(&self, id: ObjId) -> &[ObjId]
+        ensures { result.now ≡ children_of (tree_of self.now) id }
+    {
+        match self.children.get(id.0 as usize) {
+            Some(children) => children.as_slice(),
+            None => &[],
+        }
+    }
+
     /// How many children of an object live, noted or not.
     pub fn living_children(&self, id: ObjId) -> u64
         ensures { result ≡ living_children self.now id }
@@ -97,184 +115,39 @@ impl OwnTree {
         self.tallies.get(id.0 as usize).map_or(0, |t| t.unnoted)
     }
 
-    /// Makes an object. Where its kind needs an Own, this one is counted as sent to the owner.
-    pub fn make(&mut self, owner: ObjId, kind: ObjKind, slot: SlotId) -> Result<ObjId, AllocError>
-        requires unended { (row_at self.old owner).state ≢ HasEnded }
+    /// What was sent to each object is processed or on its way, and what it waits for is there. It costs nothing.
+    pub fn add_up(&self)
+        ensures { AllAddUp self.now }
+    {
+        let _live = self.live;
+    }
+
+    /// Makes an object. Where its kind needs an Own, this one is counted as sent to the owner, and where a Plug is
+    /// put for the object, as sent to it.
+    pub fn make(
+        &mut self,
+        alloc: Global,
+        owner: ObjId,
+        kind: ObjKind,
+        slot: SlotId,
+        plug: bool,
+    ) -> Result<ObjId, AllocError>
+        requires unended { state_at self.old owner ≢ HasEnded }
         requires room { length self.old < 2 ^ 32 }
         requires fits { (row_at self.old owner).sent + 1 < 2 ^ 64 }
         ensures number { IfOk result (λ id. id.0 ≡ length self.old) }
-        ensures ok { OnOk result (self.new ≡ with_made owner kind slot self.old) }
+        ensures ok { OnOk result (self.new ≡ with_made owner kind slot plug self.old) }
         ensures err { OnErr result (self.new ≡ self.old) }
         ensures moves { OnOk result (Makes owner (tree_of self.old) (tree_of self.new)) }
     {
         self.rows.reserve(1)?;
         self.tallies.reserve(1)?;
+        self.children.reserve(1)?;
         let id = ObjId(self.rows.len() as u32);
-        let owns = owns_of(kind);
-        let at = owner.0 as usize;
-        self.rows[at].sent += owns;
-        let tally = &mut self.tallies[at];
-        tally.living += 1;
-        tally.unnoted += owns;
-        self.rows.push_reserved(Row {
-            owner: Some(owner),
-            kind,
-            slot,
-            sent: 0,
-            processed: 0,
-            owed: 0,
-            noted: owns == 0,
-            told: false,
-            state: ObjState::Live,
-        });
-        self.tallies.push_reserved(Tally {
-            living: 0,
-            unnoted: 0,
-        });
+        list_made(&mut self.children, alloc, owner, id)?;
+        count_made(&mut self.tallies, owner, kind);
+        push_made(&mut self.rows, owner, kind, slot, plug);
+        self.live += 1;
         Ok(id)
-    }
-
-    /// A Plug or a PipeBind is put for an object.
-    pub fn on_sent(&mut self, id: ObjId)
-        requires unended { (row_at self.old id).state ≢ HasEnded }
-        requires fits { (row_at self.old id).sent + 1 < 2 ^ 64 }
-        ensures next { self.new ≡ change one_more_sent id self.old }
-        ensures moves { tree_of self.new ≡ tree_of self.old }
-    {
-        self.rows[id.0 as usize].sent += 1;
-    }
-
-    /// An object processes a Plug or a PipeBind.
-    pub fn on_processed(&mut self, id: ObjId)
-        requires unended { (row_at self.old id).state ≢ HasEnded }
-        requires in_flight { (row_at self.old id).processed + unnoted_children self.old id < (row_at self.old id).sent }
-        ensures next { self.new ≡ change one_more_processed id self.old }
-        ensures moves { tree_of self.new ≡ tree_of self.old }
-    {
-        self.rows[id.0 as usize].processed += 1;
-    }
-
-    /// An end is attached to an object, which then waits until it is gone.
-    pub fn owe(&mut self, id: ObjId)
-        requires unended { (row_at self.old id).state ≢ HasEnded }
-        requires fits { (row_at self.old id).owed + 1 < 2 ^ 64 }
-        ensures next { self.new ≡ change one_more_owed id self.old }
-        ensures moves { tree_of self.new ≡ tree_of self.old }
-    {
-        self.rows[id.0 as usize].owed += 1;
-    }
-
-    /// A child's TermAck is processed, or an end is gone.
-    pub fn on_ack(&mut self, id: ObjId)
-        requires unended { (row_at self.old id).state ≢ HasEnded }
-        requires owed { 0 < (row_at self.old id).owed }
-        ensures next { self.new ≡ change one_less_owed id self.old }
-        ensures moves { tree_of self.new ≡ tree_of self.old }
-    {
-        self.rows[id.0 as usize].owed -= 1;
-    }
-
-    /// An object is asked to end.
-    pub fn ask(&mut self, id: ObjId)
-        requires live { (row_at self.old id).state ≡ Live }
-        ensures next { self.new ≡ change (in_state Asked) id self.old }
-        ensures moves { Asks id (tree_of self.old) (tree_of self.new) }
-    {
-        self.rows[id.0 as usize].state = ObjState::Asked;
-    }
-
-    /// A Term is put for a child, and its owner waits for the acknowledgement.
-    pub fn tell(&mut self, owner: ObjId, child: ObjId)
-        requires unended { (row_at self.old owner).state ≢ HasEnded }
-        requires owned { (row_at self.old child).owner ≡ Some owner }
-        requires untold { (row_at self.old child).told ≡ false }
-        requires fits { (row_at self.old owner).owed + 1 < 2 ^ 64 }
-        ensures next { self.new ≡ with_told owner child self.old }
-        ensures moves { tree_of self.new ≡ tree_of self.old }
-    {
-        self.mark_told(child);
-        self.owe(owner);
-    }
-
-    /// An owner processes the Own of a child, which may have ended meanwhile.
-    pub fn note_child(&mut self, owner: ObjId, child: ObjId)
-        requires unended { (row_at self.old owner).state ≢ HasEnded }
-        requires owned { (row_at self.old child).owner ≡ Some owner }
-        requires unnoted { (row_at self.old child).noted ≡ false }
-        ensures next { self.new ≡ with_noted owner child self.old }
-        ensures moves { tree_of self.new ≡ tree_of self.old }
-    {
-        self.mark_noted(owner, child);
-        self.on_processed(owner);
-    }
-
-    /// Ends an object if nothing keeps it, and says what does.
-    pub fn try_end(&mut self, id: ObjId) -> Ending
-        requires unended { (row_at self.old id).state ≢ HasEnded }
-        ensures right { IsRight self.old id result }
-        ensures ended { result ≡ Ended → self.new ≡ change (in_state HasEnded) id self.old }
-        ensures others { result ≢ Ended → self.new ≡ self.old }
-        ensures moves { (ends_left : ℕ) → ends_left ≤ (row_at self.old id).owed → result ≡ Ended →
-            Ends ends_left id (tree_of self.old) (tree_of self.new) }
-    {
-        let ending = self.ending_of(id);
-        if matches!(ending, Ending::Ended) {
-            self.end(id);
-        }
-        ending
-    }
-
-    fn mark_told(&mut self, child: ObjId)
-        requires there { child.0 < length self.old }
-        ensures next { self.new ≡ change as_told child self.old }
-        ensures moves { tree_of self.new ≡ tree_of self.old }
-    {
-        self.rows[child.0 as usize].told = true;
-    }
-
-    fn mark_noted(&mut self, owner: ObjId, child: ObjId)
-        requires owned { (row_at self.old child).owner ≡ Some owner }
-        requires unnoted { (row_at self.old child).noted ≡ false }
-        ensures next { self.new ≡ change as_noted child self.old }
-        ensures moves { tree_of self.new ≡ tree_of self.old }
-        ensures in_flight { (row_at self.new owner).processed + unnoted_children self.new owner
-            < (row_at self.new owner).sent }
-    {
-        self.rows[child.0 as usize].noted = true;
-        self.tallies[owner.0 as usize].unnoted -= 1;
-    }
-
-    /// What an object would answer if it tried to end.
-    fn ending_of(&self, id: ObjId) -> Ending
-        requires { (row_at self.now id).state ≢ HasEnded }
-        ensures { IsRight self.now id result }
-    {
-        let row = self.rows[id.0 as usize];
-        if matches!(row.state, ObjState::Live) {
-            return Ending::NotAsked;
-        }
-        if row.sent != row.processed {
-            return Ending::Behind(row.sent, row.processed);
-        }
-        if row.owed != 0 {
-            return Ending::Owes(row.owed);
-        }
-        let living = self.tallies[id.0 as usize].living;
-        if living != 0 {
-            return Ending::Owes(living);
-        }
-        Ending::Ended
-    }
-
-    fn end(&mut self, id: ObjId)
-        requires { IsRight self.old id Ended }
-        ensures next { self.new ≡ change (in_state HasEnded) id self.old }
-        ensures moves { Ends 0 id (tree_of self.old) (tree_of self.new) }
-    {
-        let row = &mut self.rows[id.0 as usize];
-        row.state = ObjState::Ended;
-        if let Some(owner) = row.owner {
-            self.tallies[owner.0 as usize].living -= 1;
-        }
     }
 }

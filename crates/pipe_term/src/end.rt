@@ -6,7 +6,8 @@ ghost use Rattle.spec_control.specs.declared.end.EndEvent.TheVariants.{Asked, Te
 use spec_control::{EndCommands, EndState, Reason};
 use std::marker::Model;
 
-/// An end of a pair of pipes: how far it is in its life, and why it was asked to end.
+/// An end of a pair of pipes: how far it is in its life, and why it was asked to end. Each call is one step of a
+/// table, in the same time always and without memory.
 #[derive(Debug, Drop)]
 pub struct End {
     state: EndState,

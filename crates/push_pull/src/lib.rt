@@ -2,12 +2,10 @@
 //! one end.
 #![tactic(auto)]
 
-mod not_sent;
 mod pair_sock;
 mod pull;
 mod push;
 
-pub use not_sent::NotSent;
 pub use pair_sock::PairSock;
 pub use pull::Pull;
-pub use push::{MAX_FRAMES, Push};
+pub use push::Push;

@@ -1,12 +1,13 @@
-ghost use Rattle.std.specs.Prelude.{◌≡◌, ◌∷◌, [], ◌++◌, ◌<◌, ℕ, All, IfErr, OnOk, OnErr};
+ghost use Rattle.std.specs.Prelude.{◌≡◌, ◌∷◌, [], ◌++◌, All, OnOk, OnErr, IsPermutation};
 ghost use Rattle.zq_base.specs.declared.kind.Kind.TheVariants.{Pull as PullKind};
+ghost use Rattle.spec_pattern.specs.Results.{MatchSend, MatchRecv, IfBack};
 ghost use Rattle.msg_pipe.specs.Turns.{without_place};
-ghost use Rattle.push_pull.specs.Calls.{send_answer, recv_answer, Sends, Receives};
+ghost use Rattle.msg_pipe.specs.Places.{KeepsPlaces};
+ghost use Rattle.by_turn.specs.Calls.{Sends, Receives};
 
-use crate::not_sent::NotSent;
-use fair_queue::{NextIn, Turns};
-use msg_pipe::Peers;
-use spec_pattern::{RecvRefusal, SendRefusal};
+use by_turn::receive_by_turn;
+use msg_pipe::{Peers, Turns};
+use spec_pattern::{RecvFault, SendFault, SendRefusal, Sent};
 use std::alloc::{AllocError, Global};
 use std::marker::Model;
 use zq_base::{Message, PairId};
@@ -51,34 +52,25 @@ impl Pull {
     }
 
     /// Receives from the first peer in turn that has a message: `Again` where none has one.
-    pub fn recv<E: Peers>(&mut self, peers: &mut E) -> Result<(PairId, Message), RecvRefusal>
-        requires there { All (λ place. place < E.places peers.old) self.old }
-        ensures step { Receives E.runs (E.end_at peers.old) PullKind
-            peers.old peers.new self.old (recv_answer result) self.new }
-        ensures below { (n : ℕ) → All (λ place. place < n) self.old →
-            All (λ place. place < n) self.new }
-        ensures places { E.places peers.new ≡ E.places peers.old }
-        ensures ends { E.end_at peers.new ≡ E.end_at peers.old }
-        ensures writable { E.writable peers.new ≡ E.writable peers.old }
-        ensures writings { E.writing_at peers.new ≡ E.writing_at peers.old }
+    pub fn recv<E: Peers>(&mut self, peers: &mut E) -> Result<(PairId, Message), RecvFault>
+        requires there { All (E.here peers.old) self.old }
+        ensures step { MatchRecv result ⊥ (λ answer. Receives E.runs (E.end_at peers.old) PullKind
+            peers.old peers.new self.old answer self.new) }
+        ensures places { IsPermutation self.old self.new }
+        ensures keeps { KeepsPlaces E.here E.end_at E.writable peers.old peers.new }
     {
-        match self.turns.next_in(peers) {
-            NextIn::Got(place, message) => return Ok((peers.pair(place), message)),
-            NextIn::AllEmpty => return Err(RecvRefusal::Again),
-        }
+        receive_by_turn(&mut self.turns, peers)
     }
 
     /// Refused: a PULL never sends.
-    pub fn send<E: Peers>(&mut self, peers: &mut E, message: Message) -> Result<PairId, NotSent>
-        ensures step { Sends E.runs (E.end_at peers.old) (E.writable peers.old) PullKind message
-            peers.old peers.new self.old (send_answer result) self.new }
-        ensures back { IfErr result (λ e. e.message ≡ message) }
+    pub fn send<E: Peers>(&mut self, peers: &mut E, message: Message) -> Result<Sent, SendFault>
+        ensures step { MatchSend result ⊥ (λ answer. Sends E.runs (E.end_at peers.old)
+            (E.writable peers.old) PullKind message peers.old peers.new
+            self.old answer self.new) }
+        ensures back { IfBack result (λ back. back ≡ message) }
         ensures turns { self.new ≡ self.old }
         ensures peers { peers.new ≡ peers.old }
     {
-        Err(NotSent {
-            refusal: SendRefusal::NotSupported,
-            message,
-        })
+        Err(SendFault::Refused(SendRefusal::NotSupported, message))
     }
 }

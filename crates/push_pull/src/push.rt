@@ -1,18 +1,16 @@
-ghost use Rattle.std.specs.Prelude.{◌≡◌, ◌∷◌, [], ◌++◌, ◌<◌, ℕ, All, IfErr, OnOk, OnErr};
+ghost use Rattle.std.specs.Prelude.{◌≡◌, ◌∷◌, [], ◌++◌, All, OnOk, OnErr, IsPermutation};
 ghost use Rattle.zq_base.specs.declared.kind.Kind.TheVariants.{Push as PushKind};
+ghost use Rattle.spec_pattern.specs.Results.{MatchSend, MatchRecv, IfBack};
 ghost use Rattle.msg_pipe.specs.Turns.{without_place};
-ghost use Rattle.push_pull.specs.Calls.{send_answer, recv_answer, Sends, Receives};
+ghost use Rattle.msg_pipe.specs.Places.{KeepsPlaces};
+ghost use Rattle.by_turn.specs.Calls.{Sends, Receives};
 
-use crate::not_sent::NotSent;
-use load_balancer::{NextOut, Turns};
-use msg_pipe::Peers;
-use spec_pattern::{RecvRefusal, SendRefusal};
+use by_turn::send_by_turn;
+use msg_pipe::{Peers, Turns};
+use spec_pattern::{RecvFault, RecvRefusal, SendFault, Sent};
 use std::alloc::{AllocError, Global};
 use std::marker::Model;
 use zq_base::{Message, PairId};
-
-/// The most frames of a message that is sent.
-pub const MAX_FRAMES: usize = 1023;
 
 /// A PUSH: it sends to its peers by turn, and never receives (RFC 30, "The PUSH Socket Type").
 #[derive(Debug, Drop)]
@@ -55,48 +53,25 @@ impl Push {
 
     /// Sends to the first peer in turn that has room: `Again` where none has, `TooLarge` from 1,024
     /// frames on.
-    pub fn send<E: Peers>(&mut self, peers: &mut E, message: Message) -> Result<PairId, NotSent>
-        requires there { All (λ place. place < E.places peers.old) self.old }
-        ensures step { Sends E.runs (E.end_at peers.old) (E.writable peers.old) PushKind message
-            peers.old peers.new self.old (send_answer result) self.new }
-        ensures back { IfErr result (λ e. e.message ≡ message) }
-        ensures below { (n : ℕ) → All (λ place. place < n) self.old →
-            All (λ place. place < n) self.new }
-        ensures places { E.places peers.new ≡ E.places peers.old }
-        ensures ends { E.end_at peers.new ≡ E.end_at peers.old }
-        ensures writable { E.writable peers.new ≡ E.writable peers.old }
-        ensures readings { E.reading_at peers.new ≡ E.reading_at peers.old }
+    pub fn send<E: Peers>(&mut self, peers: &mut E, message: Message) -> Result<Sent, SendFault>
+        requires there { All (E.here peers.old) self.old }
+        ensures step { MatchSend result ⊥ (λ answer. Sends E.runs (E.end_at peers.old)
+            (E.writable peers.old) PushKind message peers.old peers.new
+            self.old answer self.new) }
+        ensures back { IfBack result (λ back. back ≡ message) }
+        ensures places { IsPermutation self.old self.new }
+        ensures keeps { KeepsPlaces E.here E.end_at E.writable peers.old peers.new }
     {
-        if message.len() > MAX_FRAMES {
-            return Err(NotSent {
-                refusal: SendRefusal::TooLarge,
-                message,
-            });
-        }
-        match self.turns.next_out(peers, message) {
-            NextOut::Put(place) => return Ok(peers.pair(place)),
-            NextOut::AllFull(message) => {
-                return Err(NotSent {
-                    refusal: SendRefusal::Again,
-                    message,
-                });
-            }
-            NextOut::NoPeer(message) => {
-                return Err(NotSent {
-                    refusal: SendRefusal::Again,
-                    message,
-                });
-            }
-        }
+        send_by_turn(&mut self.turns, peers, message)
     }
 
     /// Refused: a PUSH never receives.
-    pub fn recv<E: Peers>(&mut self, peers: &mut E) -> Result<(PairId, Message), RecvRefusal>
-        ensures step { Receives E.runs (E.end_at peers.old) PushKind
-            peers.old peers.new self.old (recv_answer result) self.new }
+    pub fn recv<E: Peers>(&mut self, peers: &mut E) -> Result<(PairId, Message), RecvFault>
+        ensures step { MatchRecv result ⊥ (λ answer. Receives E.runs (E.end_at peers.old) PushKind
+            peers.old peers.new self.old answer self.new) }
         ensures turns { self.new ≡ self.old }
         ensures peers { peers.new ≡ peers.old }
     {
-        Err(RecvRefusal::NotSupported)
+        Err(RecvFault::Refused(RecvRefusal::NotSupported))
     }
 }

@@ -1,5 +1,5 @@
-pub mod BoundsLemmas
-pub mod DropsLemmas
 pub mod EnvelopeLemmas
+pub mod PartnersLemmas
+pub mod ReceiveLemmas
 pub mod ReqLemmas
 pub mod RepLemmas

@@ -1,42 +1,40 @@
 -- The calls of a REP, as the steps of its pattern.
 use Rattle.std.specs.Prelude.{nat_le}
-use Rattle.std.specs.Option.{option_map}
-use Rattle.std.proofs.Common.{◌≡◌, ◌≤◌, ◌<◌, ◌+◌, ℕ, Bool, true, false, List, [], ◌++◌, length, Some, None, refl, sym, ap, subst, ◌∙◌, arith, length-append}
+use Rattle.std.proofs.Common.{◌≡◌, ◌≤◌, ◌<◌, ◌+◌, ℕ, Bool, true, false, List, [], ◌++◌, map, length, Some, None, refl, sym, subst, ◌∙◌, arith, length-append, append-nil}
 use Rattle.std.proofs.lemmas.Bool.{le-leb, lt-leb}
-use Rattle.std.proofs.lemmas.List.Elements.{All-nil}
 use Rattle.zq_base.specs.Message.{Frames, max_committed}
 use Rattle.spec_pattern.specs.PipeStep.{PipeStep}
 use Rattle.spec_pattern.specs.TurnList.{End}
 use Rattle.spec_pattern.specs.Duty.{Free, Owing}
-use Rattle.spec_pattern.specs.Drops.{Round, Given}
+use Rattle.spec_pattern.specs.Drops.{ReceivesDropping}
 use Rattle.spec_pattern.specs.Routes.{GoesTo}
-use Rattle.spec_pattern.specs.Envelope.{split_envelope}
-use Rattle.spec_pattern.specs.RequestReply.{request_of, RepSends, RepReplies}
-use Rattle.spec_pattern.specs.declared.answers.Rule.TheVariants.{ReplyGone, RouteFull}
+use Rattle.spec_pattern.specs.RequestReply.{request_of, RepSends, RepReplies, RepReceives}
+use Rattle.spec_pattern.specs.declared.answers.Skip.{Skip}
+use Rattle.spec_pattern.specs.declared.answers.Rule.TheVariants.{ReplyGone, RouteFull, BadEnv}
 use Rattle.spec_pattern.specs.declared.answers.SendRefusal.TheVariants.{TooLarge}
 use Rattle.spec_pattern.specs.declared.answers.SendAnswer.TheVariants as sent
-use Rattle.req_rep.specs.Answering.{RepState, RepSent, RepStopped, TellsPartner, owed_duty}
-use Rattle.req_rep.specs.Bounds.{is_nobody}
-use Rattle.req_rep.specs.Dropping.{with_duty}
+use Rattle.spec_pattern.specs.declared.answers.RecvRefusal.TheVariants.{Fsm}
+use Rattle.spec_pattern.specs.declared.answers.RecvAnswer.{RecvAnswer}
+use Rattle.spec_pattern.specs.declared.answers.RecvAnswer.TheVariants as got
+use Rattle.by_turn.specs.Dropping.{receiving, DropsFew, ReceivesOver}
+use Rattle.by_turn.proofs.DroppingLemmas.{DropsMore-none}
+use Rattle.req_rep.specs.Partners.{is_nobody}
+use Rattle.req_rep.specs.Answering.{RepState, RepSent, RepGot, RepStopped, TellsPartner, owed_duty}
 use Rattle.req_rep.specs.declared.partner.Partner.{Partner}
 use Rattle.req_rep.specs.declared.partner.Partner.TheVariants.{Nobody, At, Gone}
 
--- a message that is split is a request
-pub request_is : (e : End) (m envelope rest : Frames) → split_envelope m ≡ Some (envelope, rest) → request_of e m ≡ Some (with_duty (Owing (Some e) envelope) rest)
-request_is e m envelope rest split =
-    let gives : Frames × Frames → Given = λ s. record { message = s.1; duty = Owing (Some e) s.0 } in
-    ap (option_map gives) split
+-- without a partner a REP is free
+free_is : (ends : ℕ → End) (owed : Partner) (envelope : Frames) → is_nobody owed ≡ true → owed_duty ends owed envelope ≡ Free
+free_is ends Nobody envelope e = refl
+free_is ends (At place) envelope e = absurd (cc e)
+free_is ends Gone envelope e = absurd (cc e)
 
--- a message that isn't split gives nothing
-pub request_none : (e : End) (m : Frames) → split_envelope m ≡ None → request_of e m ≡ None
-request_none e m none =
-    let gives : Frames × Frames → Given = λ s. record { message = s.1; duty = Owing (Some e) s.0 } in
-    ap (option_map gives) none
-
--- a REP by its parts
-pub same_state : (ins ins' : List ℕ) (owed owed' : Partner) (envelope envelope' : Frames) → ins ≡ ins' → owed ≡ owed' → envelope ≡ envelope'
-    → ◌≡◌ {A = RepState} (record { ins = ins; owed = owed; envelope = envelope }) (record { ins = ins'; owed = owed'; envelope = envelope' })
-same_state ins ins' owed owed' envelope envelope' e f g = cc
+-- with one it doesn't receive
+fsm : (ends : ℕ → End) (ins : List ℕ) (owed : Partner) (envelope : Frames) → is_nobody owed ≡ false
+    → RepReceives (map ends ins) (owed_duty ends owed envelope) [] [] (got.Refused Fsm) (map ends ins) (owed_duty ends owed envelope)
+fsm ends ins Nobody envelope e = absurd (cc e)
+fsm ends ins (At place) envelope e = (refl, refl, refl, refl, refl)
+fsm ends ins Gone envelope e = (refl, refl, refl, refl, refl)
 
 module _ (ends : ℕ → End) (can_write : End → Bool) (m envelope : Frames) where
   -- a reply that doesn't fit behind the envelope
@@ -66,52 +64,97 @@ module _ (ends : ℕ → End) (can_write : End → Bool) (m envelope : Frames) w
       subst (λ b. RepReplies can_write m (Some (ends place)) envelope b [] (sent.Dropped ReplyGone) Free) (sym (fits few))
       (subst (λ b. GoesTo (sent.Dropped ReplyGone) (sent.Dropped RouteFull) (envelope ++ m) (ends place) b [] (sent.Dropped ReplyGone)) (sym closed) (refl, refl), refl)
 
-module _ {S : Type 0} (runs : S → List PipeStep → S → Type 0) (no_steps : (s : S) → runs s [] s) (ends : ℕ → End) (s : S) (r : RepState) where
+module _ {S : Type 0} (runs : S → List PipeStep → S → Type 0) (ends : ℕ → End) (r0 r : RepState) (is : r0 ≡ r) where
   -- nothing was dropped before memory was wanted
-  pub RepStopped-none : (r' : RepState) → r' ≡ r → RepStopped runs ends s s r [] r'
-  RepStopped-none r' same = subst (λ (q : RepState). RepStopped runs ends s s r [] q) (sym same) (record {
-    steps = [];
-    runs_are = no_steps s;
-    dropped = [];
-    few = omega arith;
-    drops = record {
-      came = (refl, refl);
-      none = All-nil (λ (x : Round). request_of x.peer x.message ≡ None);
-      skips_are = refl;
-    };
-    owed_is = refl;
-    envelope_is = refl;
-  })
+  pub RepStopped-none : ((s : S) → runs s [] s) → (s : S) (told : List Skip) (envelope' : Frames) → envelope' ≡ r0.envelope
+      → RepStopped runs ends s s told told r (record { ins = r0.ins; owed = r0.owed; envelope = envelope' })
+  RepStopped-none no_steps s told envelope' same =
+      subst (λ (q : RepState). RepStopped runs ends s s told told q (record { ins = r0.ins; owed = r0.owed; envelope = envelope' })) is (record {
+        dropped = record {
+          count = 0;
+          few = omega arith;
+          drops = DropsMore-none runs ends request_of BadEnv no_steps (receiving s r0.ins told);
+        };
+        owed_is = refl;
+        envelope_is = same;
+      })
 
-  module _ (writable : ℕ → Bool) (m : Frames) where
+  -- a reply is owed
+  pub RepGot-fsm : (s : S) → runs s [] s → (told : List Skip) → is_nobody r0.owed ≡ false → RepGot runs ends s s told told r (got.Refused Fsm) r
+  RepGot-fsm s no_steps told some =
+      subst (λ (q : RepState). RepGot runs ends s s told told q (got.Refused Fsm) q) is (record {
+        steps = [];
+        runs_are = no_steps;
+        skips = [];
+        step = fsm ends r0.ins r0.owed r0.envelope some;
+        told_are = sym (append-nil told);
+      })
+
+  module _ (old new : S) (told told' : List Skip) (ins' : List ℕ) (envelope' : Frames) where
+    -- a request came
+    pub RepGot-over : (place : ℕ) (answer answer' : RecvAnswer) → is_nobody r0.owed ≡ true → answer' ≡ answer
+        → ReceivesOver runs ends request_of BadEnv (receiving old r0.ins told) (receiving new ins' told') answer Free (Owing (Some (ends place)) envelope')
+        → RepGot runs ends old new told told' r answer' (record { ins = ins'; owed = At place; envelope = envelope' })
+    RepGot-over place answer answer' nobody same over =
+        subst (λ (q : RepState). RepGot runs ends old new told told' q answer' (record { ins = ins'; owed = At place; envelope = envelope' })) is (record {
+          steps = over.steps;
+          runs_are = over.runs_are;
+          skips = over.skips;
+          step = subst (λ d. RepReceives (map ends r0.ins) d over.steps over.skips answer' (map ends ins') (Owing (Some (ends place)) envelope')) (sym (free_is ends r0.owed r0.envelope nobody))
+              (subst (λ a. ReceivesDropping request_of BadEnv (map ends r0.ins) over.steps over.skips a (map ends ins') Free (Owing (Some (ends place)) envelope')) (sym same) over.receives);
+          told_are = over.told_are;
+        })
+
+    -- no request came
+    pub RepGot-refused : (answer : RecvAnswer) → is_nobody r0.owed ≡ true
+        → ReceivesOver runs ends request_of BadEnv (receiving old r0.ins told) (receiving new ins' told') answer Free Free
+        → RepGot runs ends old new told told' r answer (record { ins = ins'; owed = r0.owed; envelope = envelope' })
+    RepGot-refused answer nobody over =
+        subst (λ (q : RepState). RepGot runs ends old new told told' q answer (record { ins = ins'; owed = r0.owed; envelope = envelope' })) is (record {
+          steps = over.steps;
+          runs_are = over.runs_are;
+          skips = over.skips;
+          step = subst (λ d. RepReceives (map ends r0.ins) d over.steps over.skips answer (map ends ins') (owed_duty ends r0.owed envelope')) (sym (free_is ends r0.owed r0.envelope nobody))
+              (subst (λ d. RepReceives (map ends r0.ins) Free over.steps over.skips answer (map ends ins') d) (sym (free_is ends r0.owed envelope' nobody)) over.receives);
+          told_are = over.told_are;
+        })
+
+    -- memory was wanting
+    pub RepStopped-few : envelope' ≡ r0.envelope → DropsFew runs ends request_of BadEnv (receiving old r0.ins told) (receiving new ins' told')
+        → RepStopped runs ends old new told told' r (record { ins = ins'; owed = r0.owed; envelope = envelope' })
+    RepStopped-few same few =
+        subst (λ (q : RepState). RepStopped runs ends old new told told' q (record { ins = ins'; owed = r0.owed; envelope = envelope' })) is (record {
+          dropped = few;
+          owed_is = refl;
+          envelope_is = same;
+        })
+
+  module _ (s : S) (no_steps : runs s [] s) (writable : ℕ → Bool) (m : Frames) (some : is_nobody r0.owed ≡ false) where
     -- a reply that doesn't fit
-    pub RepSent-large : is_nobody r.owed ≡ false → max_committed < length r.envelope + length m → RepSent runs ends writable m s s r (sent.Refused TooLarge) r
-    RepSent-large some many = record {
+    pub RepSent-large : max_committed < length r0.envelope + length m → RepSent runs ends writable m s s r (sent.Refused TooLarge) r
+    RepSent-large many = subst (λ (q : RepState). RepSent runs ends writable m s s q (sent.Refused TooLarge) q) is (record {
       steps = [];
-      runs_are = no_steps s;
-      step = λ can_write tells. large ends can_write m r.envelope r.owed some many;
-      ins_are = refl;
-    }
+      runs_are = no_steps;
+      step = λ can_write tells. large ends can_write m r0.envelope r0.owed some many;
+    })
 
     -- a reply whose peer is gone
-    pub RepSent-gone : (envelope' : Frames) → is_nobody r.owed ≡ false → ((place : ℕ) → r.owed ≡ At place → ⊥) → length r.envelope + length m ≤ max_committed
-        → RepSent runs ends writable m s s r (sent.Dropped ReplyGone) (record { ins = r.ins; owed = Nobody; envelope = envelope' })
-    RepSent-gone envelope' some not_at few = record {
+    pub RepSent-gone : (envelope' : Frames) → ((place : ℕ) → r0.owed ≡ At place → ⊥) → length r0.envelope + length m ≤ max_committed
+        → RepSent runs ends writable m s s r (sent.Dropped ReplyGone) (record { ins = r0.ins; owed = Nobody; envelope = envelope' })
+    RepSent-gone envelope' not_at few = subst (λ (q : RepState). RepSent runs ends writable m s s q (sent.Dropped ReplyGone) (record { ins = r0.ins; owed = Nobody; envelope = envelope' })) is (record {
       steps = [];
-      runs_are = no_steps s;
-      step = λ can_write tells. gone ends can_write m r.envelope r.owed some not_at few;
-      ins_are = refl;
-    }
+      runs_are = no_steps;
+      step = λ can_write tells. gone ends can_write m r0.envelope r0.owed some not_at few;
+    })
 
     -- a reply to an end that can't be written
-    pub RepSent-shut : (envelope' : Frames) (place : ℕ) → r.owed ≡ At place → writable place ≡ false → length r.envelope + length m ≤ max_committed
-        → RepSent runs ends writable m s s r (sent.Dropped ReplyGone) (record { ins = r.ins; owed = Nobody; envelope = envelope' })
-    RepSent-shut envelope' place at closed few = record {
+    pub RepSent-shut : (envelope' : Frames) (place : ℕ) → r0.owed ≡ At place → writable place ≡ false → length r0.envelope + length m ≤ max_committed
+        → RepSent runs ends writable m s s r (sent.Dropped ReplyGone) (record { ins = r0.ins; owed = Nobody; envelope = envelope' })
+    RepSent-shut envelope' place at closed few = subst (λ (q : RepState). RepSent runs ends writable m s s q (sent.Dropped ReplyGone) (record { ins = r0.ins; owed = Nobody; envelope = envelope' })) is (record {
       steps = [];
-      runs_are = no_steps s;
+      runs_are = no_steps;
       step = λ can_write tells.
-          let is : can_write (ends place) ≡ writable place = subst (TellsPartner can_write ends writable) at tells in
-          subst (λ (p : Partner). RepSends can_write m (owed_duty ends p r.envelope) [] (sent.Dropped ReplyGone) Free) (sym at)
-          (shut ends can_write m r.envelope place (is ∙ closed) few);
-      ins_are = refl;
-    }
+          let told : can_write (ends place) ≡ writable place = subst (TellsPartner can_write ends writable) at tells in
+          subst (λ (p : Partner). RepSends can_write m (owed_duty ends p r0.envelope) [] (sent.Dropped ReplyGone) Free) (sym at)
+          (shut ends can_write m r0.envelope place (told ∙ closed) few);
+    })

@@ -1,15 +1,15 @@
 -- A REP over its attached ends, by their places (RFC 28, "The REP Socket Type").
-use Rattle.std.specs.Prelude.{◌≡◌, ◌≤◌, ℕ, Bool, List, Some, None, map, length}
+use Rattle.std.specs.Prelude.{◌≡◌, ℕ, Bool, List, ◌++◌, Some, None, map}
 use Rattle.zq_base.specs.Message.{Frames}
 use Rattle.spec_pattern.specs.PipeStep.{PipeStep}
 use Rattle.spec_pattern.specs.TurnList.{End}
 use Rattle.spec_pattern.specs.Duty.{Duty, Free, Owing}
-use Rattle.spec_pattern.specs.Drops.{Round, Drops, most_drops}
 use Rattle.spec_pattern.specs.RequestReply.{RepSends, RepReceives, request_of}
 use Rattle.spec_pattern.specs.declared.answers.Rule.TheVariants.{BadEnv}
 use Rattle.spec_pattern.specs.declared.answers.Skip.{Skip}
 use Rattle.spec_pattern.specs.declared.answers.SendAnswer.{SendAnswer}
 use Rattle.spec_pattern.specs.declared.answers.RecvAnswer.{RecvAnswer}
+use Rattle.by_turn.specs.Dropping.{receiving, DropsFew}
 use Rattle.req_rep.specs.declared.partner.Partner.{Partner}
 use Rattle.req_rep.specs.declared.partner.Partner.TheVariants.{Nobody, At, Gone}
 
@@ -38,20 +38,17 @@ module _ {S : Type 0} (runs : S → List PipeStep → S → Type 0) (ends : ℕ 
     pub runs_are : runs old steps new
     pub step : (can_write : End → Bool) → TellsPartner can_write ends writable r.owed →
         RepSends can_write m (owed_duty ends r.owed r.envelope) steps answer (owed_duty ends r'.owed r'.envelope)
-    pub ins_are : r'.ins ≡ r.ins
 
-  -- the calls between the two states made the steps of a receive of the REP, which dropped these messages
-  pub record RepGot (old new : S) (r : RepState) (skips : List Skip) (answer : RecvAnswer) (r' : RepState) : Type 0 where
+  -- the calls between the two states made the steps of a receive of the REP, and what it dropped was told
+  pub record RepGot (old new : S) (told told' : List Skip) (r : RepState) (answer : RecvAnswer) (r' : RepState) : Type 0 where
     pub steps : List PipeStep
     pub runs_are : runs old steps new
+    pub skips : List Skip
     pub step : RepReceives (map ends r.ins) (owed_duty ends r.owed r.envelope) steps skips answer (map ends r'.ins) (owed_duty ends r'.owed r'.envelope)
+    pub told_are : told' ≡ told ++ skips
 
   -- a receive of the REP that met want of memory: what it dropped before stays dropped
-  pub record RepStopped (old new : S) (r : RepState) (skips : List Skip) (r' : RepState) : Type 0 where
-    pub steps : List PipeStep
-    pub runs_are : runs old steps new
-    pub dropped : List Round
-    pub few : length dropped ≤ most_drops
-    pub drops : Drops request_of BadEnv (map ends r.ins) dropped steps skips (map ends r'.ins)
+  pub record RepStopped (old new : S) (told told' : List Skip) (r r' : RepState) : Type 0 where
+    pub dropped : DropsFew runs ends request_of BadEnv (receiving old r.ins told) (receiving new r'.ins told')
     pub owed_is : r'.owed ≡ r.owed
     pub envelope_is : r'.envelope ≡ r.envelope

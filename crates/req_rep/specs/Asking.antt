@@ -1,16 +1,20 @@
 -- A REQ over its attached ends, by their places (RFC 28, "The REQ Socket Type").
-use Rattle.std.specs.Prelude.{◌≡◌, ◌≤◌, ◌<◌, ◌==◌, ℕ, Bool, if◌then◌else◌, List, Option, Some, None, map, length}
+use Rattle.std.specs.Prelude.{◌≡◌, ℕ, Bool, true, List, ◌++◌, Option, Some, None, map}
+use Rattle.std.specs.Option.{option_map}
 use Rattle.zq_base.specs.Message.{Frames}
+use Rattle.zq_base.specs.declared.ids.PairId.{PairId}
 use Rattle.spec_pattern.specs.PipeStep.{PipeStep}
 use Rattle.spec_pattern.specs.TurnList.{End}
 use Rattle.spec_pattern.specs.Duty.{Duty, Free, Asked}
-use Rattle.spec_pattern.specs.Drops.{Round, Drops, most_drops}
+use Rattle.spec_pattern.specs.Drops.{Given}
 use Rattle.spec_pattern.specs.RequestReply.{ReqSends, ReqReceives, reply_of}
 use Rattle.spec_pattern.specs.declared.answers.Rule.TheVariants.{Stray}
 use Rattle.spec_pattern.specs.declared.answers.Skip.{Skip}
 use Rattle.spec_pattern.specs.declared.answers.SendAnswer.{SendAnswer}
 use Rattle.spec_pattern.specs.declared.answers.RecvAnswer.{RecvAnswer}
-use Rattle.push_pull.specs.Calls.{Tells}
+use Rattle.by_turn.specs.Calls.{Tells}
+use Rattle.by_turn.specs.Dropping.{receiving, DropsFew}
+use Rattle.req_rep.specs.Partners.{end_of}
 use Rattle.req_rep.specs.declared.partner.Partner.{Partner}
 use Rattle.req_rep.specs.declared.partner.Partner.TheVariants.{Nobody, At, Gone}
 
@@ -20,29 +24,19 @@ pub record ReqState : Type 0 where
   pub ins : List ℕ
   pub asked : Partner
 
--- the end of a peer
-abbrev pub end_of : (ℕ → End) → Partner → Option End
-end_of ends Nobody = None
-end_of ends (At place) = Some (ends place)
-end_of ends Gone = None
-
 -- what is under way
 abbrev pub asked_duty : (ℕ → End) → Partner → Duty
 asked_duty ends Nobody = Free
 asked_duty ends (At place) = Asked (Some (ends place))
 asked_duty ends Gone = Asked None
 
--- the partner once the end at this place is no peer any more
-abbrev pub without_partner : ℕ → Partner → Partner
-without_partner place Nobody = Nobody
-without_partner place (At other) = if other == place then Gone else At other
-without_partner place Gone = Gone
+-- an end of the pair
+abbrev pub end_of_pair : PairId → End
+end_of_pair pair = record { pair = pair; a = true }
 
--- the partner's place is one of so many
-abbrev pub IsBelow : ℕ → Partner → Type 0
-IsBelow n Nobody = Unit {0}
-IsBelow n (At place) = place < n
-IsBelow n Gone = Unit {0}
+-- what a message gives where the peer of this pair was asked; either end of it says as much
+abbrev pub reply_by : Option PairId → End → Frames → Option Given
+reply_by asked e m = reply_of (option_map end_of_pair asked) e m
 
 module _ {S : Type 0} (runs : S → List PipeStep → S → Type 0) (ends : ℕ → End) where
   -- the calls between the two states made the steps of a send of the REQ
@@ -51,21 +45,16 @@ module _ {S : Type 0} (runs : S → List PipeStep → S → Type 0) (ends : ℕ 
     pub runs_are : runs old steps new
     pub step : (can_write : End → Bool) → Tells can_write ends writable r.outs →
         ReqSends can_write m (map ends r.outs) (asked_duty ends r.asked) steps answer (map ends r'.outs) (asked_duty ends r'.asked)
-    pub ins_are : r'.ins ≡ r.ins
 
-  -- the calls between the two states made the steps of a receive of the REQ, which dropped these messages
-  pub record ReqGot (old new : S) (r : ReqState) (skips : List Skip) (answer : RecvAnswer) (r' : ReqState) : Type 0 where
+  -- the calls between the two states made the steps of a receive of the REQ, and what it dropped was told
+  pub record ReqGot (old new : S) (told told' : List Skip) (r : ReqState) (answer : RecvAnswer) (r' : ReqState) : Type 0 where
     pub steps : List PipeStep
     pub runs_are : runs old steps new
+    pub skips : List Skip
     pub step : ReqReceives (map ends r.ins) (asked_duty ends r.asked) steps skips answer (map ends r'.ins) (asked_duty ends r'.asked)
-    pub outs_are : r'.outs ≡ r.outs
+    pub told_are : told' ≡ told ++ skips
 
   -- a receive of the REQ that met want of memory: what it dropped before stays dropped
-  pub record ReqStopped (old new : S) (r : ReqState) (skips : List Skip) (r' : ReqState) : Type 0 where
-    pub steps : List PipeStep
-    pub runs_are : runs old steps new
-    pub dropped : List Round
-    pub few : length dropped ≤ most_drops
-    pub drops : Drops (reply_of (end_of ends r.asked)) Stray (map ends r.ins) dropped steps skips (map ends r'.ins)
-    pub outs_are : r'.outs ≡ r.outs
+  pub record ReqStopped (old new : S) (told told' : List Skip) (r r' : ReqState) : Type 0 where
+    pub dropped : DropsFew runs ends (reply_of (end_of ends r.asked)) Stray (receiving old r.ins told) (receiving new r'.ins told')
     pub asked_is : r'.asked ≡ r.asked

@@ -1,5 +1,3 @@
+pub mod Partners
 pub mod Asking
 pub mod Answering
-pub mod Bounds
-pub mod Results
-pub mod Dropping

@@ -3,18 +3,14 @@ ghost use Rattle.spec_pattern.specs.Envelope.{split_envelope};
 
 use zq_base::{Frame, Message};
 
-/// The most frames of an envelope: something stands behind it in a message of 1,024 frames.
-pub(crate) const MAX_ENVELOPE: usize = 1023;
-
 // Splits a message behind its first empty frame, where something stands behind it. The front goes
 // into the envelope.
 pub(crate) fn split(message: Message, envelope: &mut Vec<Frame>) -> Option<Message>
     requires empty { envelope.old.items ≡ [] }
-    requires room { MAX_ENVELOPE ≤ vec_capacity envelope.old }
+    requires room { Message.MAX_COMMITTED ≤ vec_capacity envelope.old }
     ensures split { MatchOption result
         ((split_envelope message ≡ None) × (envelope.new ≡ envelope.old))
         (λ rest. split_envelope message ≡ Some (envelope.new.items, rest)) }
-    ensures few { length envelope.new.items ≤ MAX_ENVELOPE }
 {
     let Some(count) = envelope_len(message.frames()) else {
         return None;

@@ -10,8 +10,8 @@ pub enum Partner {
 
 impl Partner {
     ghost use Rattle.std.specs.Prelude.{◌≡◌};
-    ghost use Rattle.req_rep.specs.Asking.{without_partner};
-    ghost use Rattle.req_rep.specs.Bounds.{is_nobody as is_nobody_of};
+    ghost use Rattle.req_rep.specs.Partners.{without_partner};
+    ghost use Rattle.req_rep.specs.Partners.{is_nobody as is_nobody_of};
 
     /// Whether there is no partner.
     pub(crate) fn is_nobody(self) -> bool

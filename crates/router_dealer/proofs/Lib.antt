@@ -1,1 +1,6 @@
-pub mod DealingLemmas
+pub mod PlaceNamesLemmas
+pub mod NameTableLemmas
+pub mod RouterLemmas
+pub mod SendLemmas
+pub mod RecvLemmas
+pub mod LawLemmas

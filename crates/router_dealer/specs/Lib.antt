@@ -1,1 +1,4 @@
-pub mod Dealing
+pub mod PlaceNames
+pub mod Named
+pub mod NameTable
+pub mod Laws

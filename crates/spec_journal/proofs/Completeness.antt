@@ -11,7 +11,7 @@ use Rattle.zq_script.specs.declared.script.ActorScript.{ActorScript}
 use Rattle.zq_script.specs.declared.script.Line.{Line}
 use Rattle.spec_journal.specs.declared.journal.Answer.{Answer}
 use Rattle.spec_journal.specs.Turn.{Doing, Agenda, Stage, whole_agenda, stage_before, tries_of, asks_again, is_over, after_try, Tries, lines_in, lines_left, StepOf, StepsOf, next_number, choice, Chooses, IsOrder, other_workers, workers_of, IsFinished, Turns}
-use Rattle.spec_journal.specs.Completeness.{most_tries, tries_in, RunsAreDone}
+use Rattle.spec_journal.specs.Completeness.{most_tries, actor_tries, RunsAreDone}
 
 -- how often these lines are still tried at the most, where the first was tried so often before
 abbrev weight : List Line → ℕ → ℕ
@@ -195,20 +195,20 @@ few_turns seed workers x old (turn ∷ turns) new covers (unfinished, (order, af
     omega (arith, left, some, rest)
 
 -- before the first turn, what is left to try are the script's tries
-whole : (lines : List Line) → weight lines 0 ≡ tries_in lines
+whole : (lines : List Line) → weight lines 0 ≡ actor_tries lines
 whole [] = refl
 whole (line ∷ lines) =
     let rest = whole lines in
-    let sums : tries_in (line ∷ lines) ≡ max 1 (tries_of line.call) + tries_in lines = sum_by-cons most_tries line lines in
+    let sums : actor_tries (line ∷ lines) ≡ max 1 (tries_of line.call) + actor_tries lines = sum_by-cons most_tries line lines in
     omega (arith, rest, sums)
 
-all_whole : (actors : List ActorScript) → total (map whole_agenda actors) ≡ sum_by (λ actor. tries_in actor.lines) actors
+all_whole : (actors : List ActorScript) → total (map whole_agenda actors) ≡ sum_by (λ actor. actor_tries actor.lines) actors
 all_whole [] = refl
 all_whole (actor ∷ actors) =
-    let tries = λ (a : ActorScript). tries_in a.lines in
-    let first : weight actor.lines 0 ≡ tries_in actor.lines = whole actor.lines in
+    let tries = λ (a : ActorScript). actor_tries a.lines in
+    let first : weight actor.lines 0 ≡ actor_tries actor.lines = whole actor.lines in
     let rest : total (map whole_agenda actors) ≡ sum_by tries actors = all_whole actors in
-    ap (λ n. n + total (map whole_agenda actors)) first ∙ ap (λ n. tries_in actor.lines + n) rest ∙ sym (sum_by-cons tries actor actors)
+    ap (λ n. n + total (map whole_agenda actors)) first ∙ ap (λ n. actor_tries actor.lines + n) rest ∙ sym (sum_by-cons tries actor actors)
 
 all_workers : (script : Script) → Covers (workers_of script) (length (stage_before script).agendas)
 all_workers script v less =

@@ -1,11 +1,11 @@
 -- Each message committed to a pipe has one end where takes are in order, and the counts of its row add up.
-use Rattle.std.proofs.Common.{◌≡◌, ◌+◌, ◌-◌, ◌≤◌, ℕ, List, [], ◌∷◌, ◌++◌, length, refl, sym, subst, ap, arith, length-append}
+use Rattle.std.proofs.Common.{◌≡◌, ◌∙◌, ◌+◌, ◌-◌, ◌≤◌, ℕ, List, [], ◌∷◌, ◌++◌, length, refl, sym, subst, ap, arith, length-append}
 use Rattle.std.specs.Prelude.{filter, flat_map, replicate, All, Contains}
 use Rattle.std.proofs.lemmas.List.{length-map, length-replicate}
 use Rattle.std.proofs.lemmas.List.Elements.{filter_map-append, All-nil, All-cons, All-contains}
 use mathlib.Core.List.{IsPrefix}
 use Rattle.zq_base.specs.Message.{Frames}
-use Rattle.spec_pattern.specs.declared.pipe_id.PipeId.{PipeId}
+use Rattle.zq_base.specs.Ends.{PipeId}
 use Rattle.spec_pattern.specs.PipeStep.{committed_to, taken_from, taken_by, TakesInOrder}
 use Rattle.spec_journal.specs.Turn.{Doing}
 use Rattle.spec_journal.specs.Run.{Schedule, Run, doings_of, steps_of}
@@ -15,7 +15,7 @@ use Rattle.zq_script.specs.declared.script.Script.{Script}
 use Rattle.spec_journal.specs.declared.journal.Joined.{Joined}
 use Rattle.spec_journal.specs.Net.{end_a, end_b}
 use Rattle.spec_journal.specs.Printed.{IsJournalOf, rows_from, journal_of}
-use Rattle.spec_journal.specs.Disposition.{row_of, Disposition, Given, Heard, Dropped, Written, Lost, Rest, AllEnd, told_by, taken_as, dispositions, is_given, is_heard, is_dropped, is_written, is_lost, is_rest}
+use Rattle.spec_journal.specs.Disposition.{run_row, count_committed, Disposition, Given, Heard, Dropped, Written, Lost, Rest, AllEnd, told_by, taken_as, dispositions, is_given, is_heard, is_dropped, is_written, is_lost, is_rest}
 
 -- each disposition is counted once
 counted_once : (ds : List Disposition) → length ds ≡ length (filter is_given ds) + length (filter is_heard ds)
@@ -39,7 +39,7 @@ few_taken taken committed (rest, whole) = let split : length (taken ++ rest) ≡
     let e : length (taken ++ rest) ≡ length committed = ap length whole in omega (arith, split, e)
 
 one_end : (run : Run) (p : PipeId) → IsPrefix (taken_from p (steps_of (doings_of run))) (committed_to p (steps_of (doings_of run)))
-    → length (dispositions run p) ≡ length (committed_to p (steps_of (doings_of run)))
+    → length (dispositions run p) ≡ count_committed run p
 one_end run p taken =
     let told = one_each p (doings_of run) in
     let few = few_taken (taken_from p (steps_of (doings_of run))) (committed_to p (steps_of (doings_of run))) taken in
@@ -49,21 +49,22 @@ one_end run p taken =
 
 -- each message committed to the pipe has one end
 pub all_end : (run : Run) → TakesInOrder (steps_of (doings_of run)) → (p : PipeId) → AllEnd run p
-all_end run taken p = record { each = one_end run p (taken p); sum = counted_once (dispositions run p) }
+all_end run taken p = record { each = one_end run p (taken p); sum = sym (one_end run p (taken p)) ∙ counted_once (dispositions run p) }
 
 -- the counts of each row add up
 abbrev AddsUp : PipeRow → Type 0
 AddsUp row = row.sent ≡ row.given + row.heard + row.dropped + row.written + row.lost + row.rest
 
-rows_from_add_up : (run : Run) (n : ℕ) (pairs : List Joined) → All AddsUp (rows_from run n pairs)
-rows_from_add_up run n [] = All-nil AddsUp
-rows_from_add_up run n (pair ∷ pairs) =
-    let a = row_of (end_a n) (dispositions run (end_a n)) in
-    let b = row_of (end_b n) (dispositions run (end_b n)) in
-    All-cons AddsUp a (b ∷ rows_from run (n + 1) pairs) (counted_once (dispositions run (end_a n)))
-    (All-cons AddsUp b (rows_from run (n + 1) pairs) (counted_once (dispositions run (end_b n))) (rows_from_add_up run (n + 1) pairs))
+rows_from_add_up : (run : Run) → TakesInOrder (steps_of (doings_of run)) → (n : ℕ) (pairs : List Joined) → All AddsUp (rows_from run n pairs)
+rows_from_add_up run taken n [] = All-nil AddsUp
+rows_from_add_up run taken n (pair ∷ pairs) =
+    let a = all_end run taken (end_a n) in
+    let b = all_end run taken (end_b n) in
+    All-cons AddsUp (run_row run (end_a n)) (run_row run (end_b n) ∷ rows_from run (n + 1) pairs) a.sum
+    (All-cons AddsUp (run_row run (end_b n)) (rows_from run (n + 1) pairs) b.sum (rows_from_add_up run taken (n + 1) pairs))
 
 pub rows_add_up : (script : Script) (schedule : Schedule) (j : Journal) → IsJournalOf script schedule j → (row : PipeRow) → Contains j.pipes row → AddsUp row
 rows_add_up script schedule j is row held =
-    let rows : All AddsUp (journal_of script j.done is.run).pipes = rows_from_add_up is.run 1 is.run.stage.net.pairs in
+    let run = is.is_run in
+    let rows : All AddsUp (journal_of script j.done is.run).pipes = rows_from_add_up is.run run.in_order 1 is.run.stage.net.pairs in
     All-contains AddsUp j.pipes row (subst (λ (k : Journal). All AddsUp k.pipes) (sym is.journal_is) rows) held

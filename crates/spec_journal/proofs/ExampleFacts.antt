@@ -5,7 +5,9 @@ use Rattle.spec_journal.specs.Net.{end_a}
 use Rattle.spec_journal.specs.Examples.{Orders, WorkedExamples}
 use Rattle.spec_journal.proofs.ExampleJournals.{journals}
 use Rattle.spec_journal.proofs.ExamplePipes.{pipes}
+use Rattle.spec_journal.proofs.ExampleEdges.{edges}
 use Rattle.spec_journal.proofs.ExampleNames.{names}
+use Rattle.spec_journal.proofs.ExamplePeers.{peers}
 
 orders : Orders
 orders = record {
@@ -19,8 +21,10 @@ orders = record {
 
 pub examples : TakenIsPrefix → LooksHoldWhereExact → WorkedExamples
 examples taken_prefix looks_hold = record {
+  edges = edges taken_prefix looks_hold;
   journals = journals taken_prefix looks_hold;
   pipes = pipes;
   names = names;
+  peers = peers;
   orders = orders;
 }

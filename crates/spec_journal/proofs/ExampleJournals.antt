@@ -5,20 +5,21 @@ use Rattle.hex.specs.Hex.{encode_with}
 use Rattle.std.specs.Prelude.{slice_get, map}
 use Rattle.zq_base.specs.declared.kind.Kind.TheVariants.{Push, Pull}
 use Rattle.zq_script.specs.declared.script.Call.TheVariants as call
-use Rattle.spec_pattern.specs.declared.pipe_id.PipeId.{PipeId}
+use Rattle.zq_base.specs.Ends.{PipeId}
 use Rattle.spec_pattern.specs.declared.answers.RecvRefusal.TheVariants as recv
 use Rattle.spec_pattern.specs.PipeStep.{Commit, Take, EmptyLook, most_commits, AreExact}
 use Rattle.spec_pattern.specs.Laws.{TakenIsPrefix, LooksHoldWhereExact}
-use Rattle.endpoint_book.specs.EndpointBook.{Book, empty_book, with_name}
+use Rattle.spec_control.specs.EndpointBook.{Book, empty_book, with_name}
 use Rattle.spec_journal.specs.declared.journal.Answer.TheVariants as answer
 use Rattle.spec_journal.specs.Net.{Net, net_before, capacity_in, capacity_between, end_a}
 use Rattle.spec_journal.specs.Line.{DoesCall, binds, connects, connects_to}
 use Rattle.spec_journal.specs.Turn.{Doing, IsFinished, stage_before}
 use Rattle.spec_journal.specs.Run.{Run, IsRunOf, steps_of}
 use Rattle.spec_journal.specs.Printed.{IsJournalOf}
-use Rattle.spec_journal.specs.Text.{journal_text, parts_text, row_text}
+use Rattle.zq_script.specs.PartText.{parts_text}
+use Rattle.spec_journal.specs.Text.{journal_text, row_text}
 use Rattle.spec_journal.specs.ExamplesPipeline.{options_with, line_at, object_nr, pair_nr, at_q, got_from_1, plain_schedule, pipeline_script, pipeline_journal, pipeline_text, parts_example, row_example, empty_script, empty_journal, unfinished_journal}
-use Rattle.spec_journal.specs.ExamplesPipes.{pull, push, joined_net, stage_of, doing}
+use Rattle.spec_journal.specs.ExamplesPipes.{pull, push, joined_net, one_actor_stage, doing}
 use Rattle.spec_journal.specs.Examples.{Journals}
 use Rattle.spec_journal.proofs.Dispositions.{all_end}
 use Rattle.spec_journal.proofs.ExampleTurns.{InTurns, turn_more, at_end}
@@ -26,30 +27,30 @@ use Rattle.spec_journal.proofs.ExampleNames.{none_held, one_held, comes}
 use Rattle.spec_journal.proofs.ExamplePipes.{sends, receives, finds_empty}
 
 -- the nets that the first lines leave: a PULL, a PUSH, the name
-abbrev net_1 : Net
+abbrev pub net_1 : Net
 net_1 = record { socks = pull 1000 [] ∷ []; book = empty_book; pairs = []; seats = (Some (object_nr 1) ∷ []) ∷ [] }
 
 abbrev net_2 : Net
 net_2 = record net_1 { socks = pull 1000 [] ∷ push 1000 [] ∷ []; seats = (Some (object_nr 1) ∷ Some (object_nr 2) ∷ []) ∷ [] }
 
 abbrev q_held : Book
-q_held = with_name (codes "q") (record { holder = object_nr 1; kind = Pull }) empty_book
+q_held = with_name at_q (record { holder = object_nr 1; kind = Pull }) empty_book
 
 abbrev net_3 : Net
 net_3 = record net_2 { book = q_held }
 
-makes_pull : DoesCall 0 (call.Socket Pull (options_with 1000)) (net_before pipeline_script) [] (answer.Object (object_nr 1)) net_1
+pub makes_pull : DoesCall 0 (call.Socket Pull (options_with 1000)) (net_before pipeline_script) [] (answer.Object (object_nr 1)) net_1
 makes_pull = (refl, refl, refl)
 
 makes_push : DoesCall 0 (call.Socket Push (options_with 1000)) net_1 [] (answer.Object (object_nr 2)) net_2
 makes_push = (refl, refl, refl)
 
 does_bind : DoesCall 0 (call.Bind 0 at_q) net_2 [] answer.Done net_3
-does_bind = comes (binds (object_nr 1) (pull 1000 []) (codes "q") net_2) answer.Done net_3 (rw (none_held (codes "q")))
+does_bind = comes (binds (object_nr 1) (pull 1000 []) at_q net_2) answer.Done net_3 (rw (none_held at_q))
 
 does_connect : DoesCall 0 (call.Connect 1 at_q) net_3 [] (answer.Pair (pair_nr 1)) (joined_net 1000)
-does_connect = comes (connects (object_nr 2) (push 1000 []) (codes "q") net_3) (answer.Pair (pair_nr 1)) (joined_net 1000)
-    (ap (λ found. connects_to (object_nr 2) (push 1000 []) (codes "q") found net_3) (one_held (record { holder = object_nr 1; kind = Pull })))
+does_connect = comes (connects (object_nr 2) (push 1000 []) at_q net_3) (answer.Pair (pair_nr 1)) (joined_net 1000)
+    (ap (λ found. connects_to (object_nr 2) (push 1000 []) at_q found net_3) (one_held (record { holder = object_nr 1; kind = Pull })))
 
 abbrev pipeline_doings : List Doing
 pipeline_doings =
@@ -66,7 +67,7 @@ pipeline_doings =
 
 -- each turn has one line
 abbrev pipeline_run : Run
-pipeline_run = record { turns = map (λ d. d ∷ []) pipeline_doings; stage = stage_of (joined_net 1000) [] }
+pipeline_run = record { turns = map (λ d. d ∷ []) pipeline_doings; stage = one_actor_stage (joined_net 1000) [] }
 
 pipeline_turns : InTurns (net_before pipeline_script) pipeline_doings (joined_net 1000)
 pipeline_turns =
@@ -81,7 +82,7 @@ pipeline_turns =
     (turn_more (finds_empty 1000) refl at_end))))))))
 
 pipeline_exact : AreExact (capacity_in (joined_net 1000)) [] (steps_of pipeline_doings)
-pipeline_exact = ((omega arith, omega arith), ((omega arith, omega arith), (refl, (refl, (refl, tt)))))
+pipeline_exact = ((omega arith, omega arith, refl), ((omega arith, omega arith, refl), (refl, (refl, ((refl, refl), tt)))))
 
 -- the capacity of each pipe is one that a pipe can have
 few_where_joined : (a : Bool) (place : ℕ) → capacity_between (joined_net 1000) a (slice_get (joined_net 1000).pairs place) ≤ most_commits
@@ -89,7 +90,7 @@ few_where_joined true zero = omega arith
 few_where_joined false zero = omega arith
 few_where_joined a (suc place) = omega arith
 
-few : (p : PipeId) → capacity_in (joined_net 1000) p ≤ most_commits
+pub few : (p : PipeId) → capacity_in (joined_net 1000) p ≤ most_commits
 few p = few_where_joined p.a (p.pair.0 - 1)
 
 none_joined : (a : Bool) → capacity_between (net_before empty_script) a None ≤ most_commits
@@ -105,11 +106,11 @@ pipeline_is_run taken_prefix looks_hold = record {
   looks = looks_hold (capacity_in (joined_net 1000)) (steps_of pipeline_doings) few pipeline_exact;
 }
 
-nothing_left : IsFinished (stage_of (joined_net 1000) [])
+nothing_left : IsFinished (one_actor_stage (joined_net 1000) [])
 nothing_left zero = refl
 nothing_left (suc w) = refl
 
-pipeline : TakenIsPrefix → LooksHoldWhereExact → IsJournalOf pipeline_script plain_schedule pipeline_journal
+pub pipeline : TakenIsPrefix → LooksHoldWhereExact → IsJournalOf pipeline_script plain_schedule pipeline_journal
 pipeline taken_prefix looks_hold = let is_run = pipeline_is_run taken_prefix looks_hold in
     record { run = pipeline_run; is_run = is_run; ends = (nothing_left, omega arith); all_end = all_end pipeline_run is_run.in_order; journal_is = refl }
 

@@ -7,6 +7,7 @@ use Rattle.spec_pattern.specs.declared.answers.RecvRefusal.TheVariants as recv
 use Rattle.spec_pattern.specs.declared.answers.SendAnswer.TheVariants as sent
 use Rattle.spec_pattern.specs.declared.answers.RecvAnswer.TheVariants as got
 use Rattle.spec_pattern.specs.PipeStep.{Commit, FullLook, Take, EmptyLook}
+use Rattle.spec_pattern.specs.Pattern.{Push, Pull}
 use Rattle.spec_journal.specs.declared.journal.Answer.TheVariants as answer
 use Rattle.spec_journal.specs.Net.{end_a, end_b}
 use Rattle.spec_journal.specs.Line.{DoesCall}
@@ -17,9 +18,9 @@ use Rattle.spec_journal.proofs.ExampleTurns.{InTurns, turn_more, at_end}
 
 pub sends : (mark : ℕ) (part : List ℕ) → DoesCall 0 (call.Send 1 (part ∷ [])) (joined_net mark) (Commit (end_a 1) (part ∷ []) ∷ []) (answer.Pair (pair_nr 1)) (joined_net mark)
 sends mark part = record {
-  sent = sent.Sent (pair_nr 1);
-  turns = end_a 1 ∷ [];
-  step = record { before = []; peer = end_a 1; after = []; turns_are = refl; open_is = refl; steps_are = refl; to_is = refl; new_is = refl };
+  sent = sent.One (pair_nr 1);
+  pattern = Push (end_a 1 ∷ []);
+  step = (end_a 1 ∷ [], record { before = []; peer = end_a 1; after = []; turns_are = refl; open_is = refl; steps_are = refl; to_is = refl; new_is = refl }, refl);
   reply_is = refl;
   new_is = refl;
 }
@@ -27,8 +28,8 @@ sends mark part = record {
 finds_full : (mark : ℕ) (part : List ℕ) → DoesCall 0 (call.Send 1 (part ∷ [])) (joined_net mark) (FullLook (end_a 1) ∷ []) (answer.NotSent send.Again) (joined_net mark)
 finds_full mark part = record {
   sent = sent.Refused send.Again;
-  turns = end_a 1 ∷ [];
-  step = (refl, record { steps_are = refl; new_is = refl });
+  pattern = Push (end_a 1 ∷ []);
+  step = (end_a 1 ∷ [], (refl, record { steps_are = refl; new_is = refl }), refl);
   reply_is = refl;
   new_is = refl;
 }
@@ -36,8 +37,8 @@ finds_full mark part = record {
 pub receives : (mark : ℕ) (part : List ℕ) → DoesCall 0 (call.Recv 0 1) (joined_net mark) (Take (end_a 1) (part ∷ []) ∷ []) (got_from_1 part) (joined_net mark)
 receives mark part = record {
   got = got.Got (pair_nr 1) (part ∷ []);
-  turns = end_b 1 ∷ [];
-  step = record { before = []; peer = end_b 1; after = []; looks = []; turns_are = refl; looks_are = refl; steps_are = refl; from_is = refl; new_is = refl };
+  pattern = Pull (end_b 1 ∷ []);
+  step = (refl, (end_b 1 ∷ [], record { before = []; peer = end_b 1; after = []; looks = []; turns_are = refl; looks_are = refl; steps_are = refl; from_is = refl; new_is = refl }, refl));
   reply_is = refl;
   new_is = refl;
 }
@@ -45,8 +46,8 @@ receives mark part = record {
 pub finds_empty : (mark : ℕ) → DoesCall 0 (call.Recv 0 1) (joined_net mark) (EmptyLook (end_a 1) ∷ []) (answer.NotReceived recv.Again) (joined_net mark)
 finds_empty mark = record {
   got = got.Refused recv.Again;
-  turns = end_b 1 ∷ [];
-  step = (refl, record { looks_are = (EmptyLook (end_a 1), [], refl, inl refl, refl); new_is = refl });
+  pattern = Pull (end_b 1 ∷ []);
+  step = (refl, (end_b 1 ∷ [], (refl, record { looks_are = (EmptyLook (end_a 1), [], refl, inl refl, refl); new_is = refl }), refl));
   reply_is = refl;
   new_is = refl;
 }
@@ -66,8 +67,8 @@ first_octet o = 0
 pub pipes : Pipes
 pipes = record {
   narrow = narrow.turns;
-  narrow_exact = ((omega arith, omega arith), ((omega arith, omega arith), (inl refl, (refl, ((omega arith, omega arith), tt)))));
+  narrow_exact = ((omega arith, omega arith, refl), ((omega arith, omega arith, refl), (inl refl, (refl, ((omega arith, omega arith, refl), tt)))));
   no_room = λ exact. omega (arith, exact.1.1.0.0);
-  not_empty = λ exact. omega (arith, exact.1.0);
+  not_empty = λ exact. omega (arith, exact.1.0.0);
   not_the_oldest = λ exact. let same : 97 ≡ 98 = ap first_octet exact.1.1.0 in omega (arith, same);
 }

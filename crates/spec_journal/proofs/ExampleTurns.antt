@@ -6,18 +6,18 @@ use Rattle.spec_journal.specs.declared.journal.Answer.{Answer}
 use Rattle.spec_journal.specs.Net.{Net}
 use Rattle.spec_journal.specs.Line.{DoesCall}
 use Rattle.spec_journal.specs.Turn.{Doing, Tries, StepsOf, IsFinished, Turns, is_over}
-use Rattle.spec_journal.specs.ExamplesPipes.{stage_of, doing}
+use Rattle.spec_journal.specs.ExamplesPipes.{one_actor_stage, doing}
 use Rattle.spec_journal.specs.Examples.{three_workers}
 
-not_finished : (net : Net) (line : Line) (rest : List Line) → IsFinished (stage_of net (line ∷ rest)) → ⊥
+pub not_finished : (net : Net) (line : Line) (rest : List Line) → IsFinished (one_actor_stage net (line ∷ rest)) → ⊥
 not_finished net line rest done = let none : length (line ∷ rest) ≡ 0 = ap length (done 0) in omega (arith, none)
 
 -- the steps of one turn
-one_turn : (net new : Net) (line : Line) (rest : List Line) (steps : List PipeStep) (said : Answer)
+pub one_turn : (net new : Net) (line : Line) (rest : List Line) (steps : List PipeStep) (said : Answer)
     → DoesCall 0 line.call net steps said new → is_over 0 line.call said ≡ true
-    → StepsOf three_workers (stage_of net (line ∷ rest)) (doing line steps said ∷ []) (stage_of new rest)
+    → StepsOf three_workers (one_actor_stage net (line ∷ rest)) (doing line steps said ∷ []) (one_actor_stage new rest)
 one_turn net new line rest steps said does over =
-    let tried : Tries (stage_of net (line ∷ rest)) (doing line steps said) (stage_of new rest) = record {
+    let tried : Tries (one_actor_stage net (line ∷ rest)) (doing line steps said) (one_actor_stage new rest) = record {
       agenda = record { lines = line ∷ rest; tried = 0 };
       rest = rest;
       agenda_is = refl;
@@ -26,12 +26,12 @@ one_turn net new line rest steps said does over =
       over_is = sym over;
       agendas_are = refl;
     } in
-    let stage = stage_of new rest in
+    let stage = one_actor_stage new rest in
     (stage, doing line steps said ∷ [], [], refl, (refl, tried), (stage, [], [], refl, (refl, refl), (stage, [], [], refl, (refl, refl), (refl, refl))))
 
 -- from a net, the one actor's doings in turns of one step each lead to this net, and its lines are over
 pub record InTurns (net : Net) (ds : List Doing) (end : Net) : Type 0 where
-  pub turns : Turns 0 three_workers 0 (stage_of net (map (λ d. d.line) ds)) (map (λ d. d ∷ []) ds) (stage_of end [])
+  pub turns : Turns 0 three_workers 0 (one_actor_stage net (map (λ d. d.line) ds)) (map (λ d. d ∷ []) ds) (one_actor_stage end [])
 
 pub at_end : {net : Net} → InTurns net [] net
 at_end = record { turns = refl }
@@ -42,4 +42,4 @@ pub turn_more : {net new : Net} {line : Line} {steps : List PipeStep} {said : An
     → InTurns new ds end → InTurns net (doing line steps said ∷ ds) end
 turn_more {net} {new} {line} {steps} {said} {ds} {end} does over more =
     let rest = map (λ (d : Doing). d.line) ds in
-    record { turns = (not_finished net line rest, (three_workers, 0, stage_of new rest, inl (refl, refl, refl), one_turn net new line rest steps said does over, more.turns)) }
+    record { turns = (not_finished net line rest, (three_workers, 0, one_actor_stage new rest, inl (refl, refl, refl), one_turn net new line rest steps said does over, more.turns)) }

@@ -3,5 +3,11 @@ pub mod ExampleTurns
 pub mod ExampleNames
 pub mod ExamplePipes
 pub mod ExampleJournals
+pub mod ExamplePeers
+pub mod ExampleEdges
 pub mod ExampleFacts
 pub mod Completeness
+pub mod AttachLemmas
+pub mod NetLemmas
+pub mod CallLemmas
+pub mod RunLemmas

@@ -10,12 +10,12 @@ abbrev pub most_tries : Line → ℕ
 most_tries line = max 1 (tries_of line.call)
 
 -- how often an actor's lines are tried at the most
-abbrev pub tries_in : List Line → ℕ
-tries_in lines = sum_by most_tries lines
+abbrev pub actor_tries : List Line → ℕ
+actor_tries lines = sum_by most_tries lines
 
 -- how often the lines of all actors are tried at the most
 abbrev pub tries_in_all : Script → ℕ
-tries_in_all script = sum_by (λ actor. tries_in actor.lines) script.actors
+tries_in_all script = sum_by (λ actor. actor_tries actor.lines) script.actors
 
 -- a run that may take more turns than its script has tries is not unfinished after all of them
 abbrev pub RunsAreDone : Type 0

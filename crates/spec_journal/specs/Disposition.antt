@@ -1,6 +1,6 @@
 -- What became of each message that was committed to a pipe: each has one named end.
-use Rattle.std.specs.Prelude.{◌≡◌, ◌+◌, ◌-◌, List, ◌++◌, Bool, true, false, length, map, flat_map, filter, replicate}
-use Rattle.spec_pattern.specs.declared.pipe_id.PipeId.{PipeId}
+use Rattle.std.specs.Prelude.{◌≡◌, ◌+◌, ◌-◌, ℕ, List, ◌++◌, Bool, true, false, length, map, flat_map, filter, replicate}
+use Rattle.zq_base.specs.Ends.{PipeId}
 use Rattle.spec_pattern.specs.PipeStep.{committed_to, taken_from}
 use Rattle.spec_journal.specs.declared.journal.PipeRow.{PipeRow}
 use Rattle.spec_journal.specs.declared.journal.Answer.{Answer}
@@ -22,6 +22,7 @@ abbrev pub taken_as : Answer → Disposition
 taken_as (answer.Object o) = Dropped
 taken_as answer.Done = Dropped
 taken_as (answer.Pair p) = Dropped
+taken_as (answer.Many report) = Dropped
 taken_as (answer.Got p m) = Given
 taken_as (answer.Dropped rule) = Dropped
 taken_as (answer.NotSent refusal) = Dropped
@@ -37,10 +38,14 @@ taken_as answer.TooMany = Dropped
 abbrev pub told_by : PipeId → Doing → List Disposition
 told_by p d = map (λ _. taken_as d.answer) (taken_from p d.steps)
 
+-- how many messages were committed to the pipe
+abbrev pub count_committed : Run → PipeId → ℕ
+count_committed run p = length (committed_to p (steps_of (doings_of run)))
+
 -- of each message committed to the pipe, in order, what became of it: those not taken are left
 abbrev pub dispositions : Run → PipeId → List Disposition
 dispositions run p = flat_map (told_by p) (doings_of run)
-    ++ replicate (length (committed_to p (steps_of (doings_of run))) - length (taken_from p (steps_of (doings_of run)))) Rest
+    ++ replicate (count_committed run p - length (taken_from p (steps_of (doings_of run)))) Rest
 
 abbrev pub is_given : Disposition → Bool
 is_given Given = true
@@ -90,12 +95,16 @@ is_rest Written = false
 is_rest Lost = false
 is_rest Rest = true
 
--- the row of a pipe whose messages ended so
-abbrev pub row_of : PipeId → List Disposition → PipeRow
-row_of p ds = record { pipe = p; sent = length ds; given = length (filter is_given ds); heard = length (filter is_heard ds); dropped = length (filter is_dropped ds); written = length (filter is_written ds); lost = length (filter is_lost ds); rest = length (filter is_rest ds) }
+-- the row of a pipe to which so many messages were committed, which ended so
+abbrev pub row_of : PipeId → ℕ → List Disposition → PipeRow
+row_of p count ds = record { pipe = p; sent = count; given = length (filter is_given ds); heard = length (filter is_heard ds); dropped = length (filter is_dropped ds); written = length (filter is_written ds); lost = length (filter is_lost ds); rest = length (filter is_rest ds) }
 
--- each message committed to the pipe has one end, and the counts of the row add up
+-- the row of a pipe in the journal of a run
+abbrev pub run_row : Run → PipeId → PipeRow
+run_row run p = row_of p (count_committed run p) (dispositions run p)
+
+-- each message committed to the pipe has one end: there are as many as were committed, and the counts of the row add up to these
 pub record AllEnd (run : Run) (p : PipeId) : Type 0 where
-  pub each : length (dispositions run p) ≡ length (committed_to p (steps_of (doings_of run)))
-  pub sum : let row = row_of p (dispositions run p) in
+  pub each : length (dispositions run p) ≡ count_committed run p
+  pub sum : let row = run_row run p in
       row.sent ≡ row.given + row.heard + row.dropped + row.written + row.lost + row.rest

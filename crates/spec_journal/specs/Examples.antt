@@ -1,18 +1,23 @@
 -- Worked examples of runs and journals (own choice), so that a wrong rule in the definitions does not check.
-use Rattle.std.specs.Prelude.{◌≡◌, ℕ, List, [], ◌∷◌, true, false, codes, map}
+use Rattle.std.specs.Prelude.{Ok, ◌≡◌, ℕ, List, [], ◌∷◌, true, false, codes, map}
 use Rattle.zq_script.specs.declared.script.Call.TheVariants as call
 use Rattle.spec_pattern.specs.declared.answers.RecvRefusal.TheVariants as recv
 use Rattle.spec_pattern.specs.PipeStep.{Commit, FullLook, AreExact}
 use Rattle.spec_pattern.specs.TurnList.{GoesOut}
 use Rattle.spec_journal.specs.declared.journal.Answer.TheVariants as answer
-use Rattle.spec_journal.specs.Net.{capacity_in, end_a}
+use Rattle.spec_journal.specs.Net.{capacity_in, end_a, end_b}
 use Rattle.spec_journal.specs.Line.{DoesCall}
 use Rattle.spec_journal.specs.Turn.{Turns, IsOrder, is_over, stage_before}
+use Rattle.zq_script.specs.Script.{script_of}
 use Rattle.spec_journal.specs.Run.{steps_of}
+use Rattle.spec_journal.specs.Disposition.{run_row}
+use Rattle.spec_journal.specs.ExamplesEdges.{marked_net, rest_run, rest_row, pipeline_octets, one_turn_only, short_journal, both_left, one_left, finds_none, sends_m}
 use Rattle.spec_journal.specs.Printed.{IsJournalOf}
-use Rattle.spec_journal.specs.Text.{journal_text, parts_text, row_text}
+use Rattle.zq_script.specs.PartText.{parts_text}
+use Rattle.spec_journal.specs.Text.{journal_text, row_text}
 use Rattle.spec_journal.specs.ExamplesPipeline.{pipeline_script, pipeline_journal, pipeline_text, plain_schedule, empty_script, empty_journal, unfinished_journal, parts_example, row_example, got_from_1, at_q, pair_nr}
-use Rattle.spec_journal.specs.ExamplesPipes.{joined_net, stage_of, narrow_doings, three_commits, early_empty_look, later_first}
+use Rattle.spec_journal.specs.ExamplesPipes.{joined_net, one_actor_stage, narrow_doings, three_commits, early_empty_look, later_first}
+use Rattle.spec_journal.specs.ExamplesPeers.{pairs_net, second_net, pairs_doings, dealers_net, dealers_doings}
 use Rattle.spec_journal.specs.ExamplesNames.{waiting_script, waiting_doings, waited_net, two_pulls, two_pushes, four_waiting, two_fulfilled}
 
 -- the workers of a script of one actor, and of one of two
@@ -34,18 +39,24 @@ pub record Journals : Type 0 where
 
 -- A pipe of capacity 2 does as it should, and not otherwise.
 pub record Pipes : Type 0 where
-  pub narrow : Turns 0 three_workers 0 (stage_of (joined_net 1) (map (λ d. d.line) narrow_doings)) (map (λ d. d ∷ []) narrow_doings) (stage_of (joined_net 1) [])
+  pub narrow : Turns 0 three_workers 0 (one_actor_stage (joined_net 1) (map (λ d. d.line) narrow_doings)) (map (λ d. d ∷ []) narrow_doings) (one_actor_stage (joined_net 1) [])
   pub narrow_exact : AreExact (capacity_in (joined_net 1)) [] (steps_of narrow_doings)
   pub no_room : AreExact (capacity_in (joined_net 1)) [] three_commits → ⊥
   pub not_empty : AreExact (capacity_in (joined_net 1)) [] early_empty_look → ⊥
   pub not_the_oldest : AreExact (capacity_in (joined_net 1)) [] later_first → ⊥
 
 -- A connect waits for its name; a name is held once, and only fitting kinds are joined; a bind fulfils the connects that wait and fit, in the order in which they waited.
-pub record Names : Type 0 where
-  pub waits : Turns 0 three_workers 0 (stage_before waiting_script) (map (λ d. d ∷ []) waiting_doings) (stage_of waited_net [])
+pub record NameRules : Type 0 where
+  pub waits : Turns 0 three_workers 0 (stage_before waiting_script) (map (λ d. d ∷ []) waiting_doings) (one_actor_stage waited_net [])
   pub in_use : DoesCall 0 (call.Bind 1 at_q) two_pulls [] answer.InUse two_pulls
   pub bad_pair : DoesCall 0 (call.Connect 1 at_q) two_pushes [] answer.BadPair two_pushes
   pub fulfilled : DoesCall 0 (call.Bind 3 at_q) four_waiting [] answer.Done two_fulfilled
+
+-- A PAIR has one peer, and hears nothing of a second one; a DEALER's send leaves its turns for receiving alone.
+pub record TwoWays : Type 0 where
+  pub one_peer : Turns 0 three_workers 0 (one_actor_stage pairs_net (map (λ d. d.line) pairs_doings)) (map (λ d. d ∷ []) pairs_doings) (one_actor_stage second_net [])
+  pub two_orders : Turns 0 three_workers 0 (one_actor_stage (dealers_net (end_b 1 ∷ end_b 2 ∷ []) (end_b 1 ∷ end_b 2 ∷ [])) (map (λ d. d.line) dealers_doings)) (map (λ d. d ∷ []) dealers_doings)
+      (one_actor_stage (dealers_net (end_b 2 ∷ end_b 1 ∷ []) (end_b 2 ∷ end_b 1 ∷ [])) [])
 
 -- Of four workers the seed 1 chooses number 2, then the first of those left, and again; the seed 0 keeps their order. A receive of two tries that finds nothing is over with the second, and one that gets a message at once.
 pub record Orders : Type 0 where
@@ -57,9 +68,25 @@ pub record Orders : Type 0 where
   -- the first end is full, so the message goes to the second, and these two go behind the third
   pub next_end : GoesOut (λ _. true) (codes "a" ∷ []) (end_a 1 ∷ end_a 2 ∷ end_a 3 ∷ []) (FullLook (end_a 1) ∷ Commit (end_a 2) (codes "a" ∷ []) ∷ []) (pair_nr 2) (end_a 3 ∷ end_a 1 ∷ end_a 2 ∷ [])
 
+-- A pipe's capacity is the writer's mark for sending and the reader's for receiving; what is left is told; a script's octets are read; a run without turns left is unfinished; a turn of two actors goes by the seed. What is otherwise is no journal and no order.
+pub record Edges : Type 0 where
+  pub forth : capacity_in marked_net (end_a 1) ≡ 9
+  pub back : capacity_in marked_net (end_b 1) ≡ 530
+  pub no_pair : capacity_in marked_net (end_a 2) ≡ 0
+  pub left : run_row rest_run (end_a 1) ≡ rest_row
+  pub read : script_of pipeline_octets ≡ Ok pipeline_script
+  pub cut_short : IsJournalOf pipeline_script one_turn_only short_journal
+  pub not_unfinished : IsJournalOf pipeline_script plain_schedule (record pipeline_journal { done = false }) → ⊥
+  pub not_done : IsJournalOf pipeline_script one_turn_only (record short_journal { done = true }) → ⊥
+  pub no_row_missing : IsJournalOf pipeline_script plain_schedule (record pipeline_journal { pipes = [] }) → ⊥
+  pub two_actors : Turns 1 four_workers 1 both_left ((finds_none ∷ sends_m ∷ []) ∷ []) one_left
+  pub not_in_script_order : (after : ℕ) → IsOrder 1 1 four_workers four_workers after → ⊥
+
 -- the worked examples
 pub record WorkedExamples : Type 0 where
+  pub edges : Edges
   pub journals : Journals
   pub pipes : Pipes
-  pub names : Names
+  pub names : NameRules
+  pub peers : TwoWays
   pub orders : Orders

@@ -7,17 +7,19 @@ use Rattle.zq_script.specs.declared.script.Script.{Script}
 use Rattle.zq_script.specs.declared.script.Call.TheVariants as call
 use Rattle.spec_pattern.specs.declared.answers.SendRefusal.TheVariants as send
 use Rattle.spec_pattern.specs.PipeStep.{Commit}
-use Rattle.endpoint_book.specs.declared.waiting.Waiting.{Waiting}
-use Rattle.endpoint_book.specs.EndpointBook.{Name, Book, with_name, with_waiting, empty_book}
+use Rattle.zq_base.specs.declared.endpoint.Endpoint.TheVariants.{Inproc}
+use Rattle.spec_control.specs.declared.book.Waiting.{Waiting}
+use Rattle.spec_control.specs.EndpointBook.{Book, with_name, with_waiting, empty_book}
+use Rattle.zq_base.specs.declared.endpoint.Endpoint.{Endpoint}
 use Rattle.spec_journal.specs.declared.journal.Answer.TheVariants as answer
 use Rattle.spec_journal.specs.Net.{Net, Sock, end_a, end_b}
 use Rattle.spec_journal.specs.Turn.{Doing}
-use Rattle.spec_journal.specs.ExamplesPipeline.{options_with, line_at, script_of, object_nr, pair_nr, at_q}
+use Rattle.spec_journal.specs.ExamplesPipeline.{options_with, line_at, one_actor_script, object_nr, pair_nr, at_q}
 use Rattle.spec_journal.specs.ExamplesPipes.{pull, push, doing}
 
 -- the book in which the object of this number and kind holds q, and these connects wait
 abbrev pub q_held_by : ℕ → Kind → List Waiting → Book
-q_held_by n kind waits = with_name (codes "q") (record { holder = object_nr n; kind = kind }) (with_waiting waits empty_book)
+q_held_by n kind waits = with_name at_q (record { holder = object_nr n; kind = kind }) (with_waiting waits empty_book)
 
 -- a PUSH connects before there is a name q and finds no peer; a PULL binds q, and the PUSH can send
 abbrev pub waiting_doings : List Doing
@@ -31,7 +33,7 @@ waiting_doings =
     ∷ []
 
 abbrev pub waiting_script : Script
-waiting_script = script_of (map (λ d. d.line) waiting_doings)
+waiting_script = one_actor_script (map (λ d. d.line) waiting_doings)
 
 -- what is left: pair 1 has end a at the PUSH and end b at the PULL, and nothing waits
 abbrev pub waited_net : Net
@@ -59,8 +61,8 @@ abbrev pub two_pushes : Net
 two_pushes = holding_net Push (push 1000 []) (push 1000 [])
 
 -- a connect of the object of this number and kind that waits for the name
-abbrev pub wait_of : Name → ℕ → Kind → Waiting
-wait_of name n kind = record { name = name; waiter = object_nr n; kind = kind }
+abbrev pub wait_of : Endpoint → ℕ → Kind → Waiting
+wait_of name n kind = record { at = name; waiter = object_nr n; kind = kind }
 
 abbrev pub four_seats : List (List (Option ObjId))
 four_seats = (Some (object_nr 1) ∷ Some (object_nr 2) ∷ Some (object_nr 3) ∷ Some (object_nr 4) ∷ []) ∷ []
@@ -69,7 +71,7 @@ four_seats = (Some (object_nr 1) ∷ Some (object_nr 2) ∷ Some (object_nr 3) �
 abbrev pub four_waiting : Net
 four_waiting = record {
   socks = push 1000 [] ∷ pull 1000 [] ∷ push 1000 [] ∷ pull 1000 [] ∷ [];
-  book = with_waiting (wait_of (codes "q") 3 Push ∷ wait_of (codes "q") 2 Pull ∷ wait_of (codes "r") 1 Push ∷ wait_of (codes "q") 1 Push ∷ []) empty_book;
+  book = with_waiting (wait_of at_q 3 Push ∷ wait_of at_q 2 Pull ∷ wait_of (Inproc (codes "r")) 1 Push ∷ wait_of at_q 1 Push ∷ []) empty_book;
   pairs = [];
   seats = four_seats;
 }
@@ -78,7 +80,7 @@ four_waiting = record {
 abbrev pub two_fulfilled : Net
 two_fulfilled = record {
   socks = push 1000 (end_a 2 ∷ []) ∷ pull 1000 [] ∷ push 1000 (end_a 1 ∷ []) ∷ pull 1000 (end_b 1 ∷ end_b 2 ∷ []) ∷ [];
-  book = q_held_by 4 Pull (wait_of (codes "q") 2 Pull ∷ wait_of (codes "r") 1 Push ∷ []);
+  book = q_held_by 4 Pull (wait_of at_q 2 Pull ∷ wait_of (Inproc (codes "r")) 1 Push ∷ []);
   pairs = record { a = object_nr 3; b = object_nr 4 } ∷ record { a = object_nr 1; b = object_nr 4 } ∷ [];
   seats = four_seats;
 }

@@ -11,7 +11,7 @@ use Rattle.zq_script.specs.declared.script.Script.{Script}
 use Rattle.zq_script.specs.declared.script.Line.{Line}
 use Rattle.zq_script.specs.declared.script.Call.{Call}
 use Rattle.zq_script.specs.declared.script.Call.TheVariants as call
-use Rattle.spec_pattern.specs.declared.pipe_id.PipeId.{PipeId}
+use Rattle.zq_base.specs.Ends.{PipeId}
 use Rattle.spec_pattern.specs.declared.answers.RecvRefusal.TheVariants as recv
 use Rattle.spec_journal.specs.declared.journal.Answer.{Answer}
 use Rattle.spec_journal.specs.declared.journal.Answer.TheVariants as answer
@@ -55,11 +55,11 @@ pipeline_lines =
     ∷ []
 
 -- the script of one actor, a, with these lines
-abbrev pub script_of : List Line → Script
-script_of lines = record { actors = record { name = codes "a"; lines = lines } ∷ [] }
+abbrev pub one_actor_script : List Line → Script
+one_actor_script lines = record { actors = record { name = codes "a"; lines = lines } ∷ [] }
 
 abbrev pub pipeline_script : Script
-pipeline_script = script_of pipeline_lines
+pipeline_script = one_actor_script pipeline_lines
 
 -- in the script's order, with turns to spare
 abbrev pub plain_schedule : Schedule

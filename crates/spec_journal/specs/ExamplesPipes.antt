@@ -1,37 +1,38 @@
 -- Worked examples of a pipe of capacity 2: it takes two messages and no third, and gives them in order.
 use Rattle.std.specs.Prelude.{ℕ, List, [], ◌∷◌, Some, true, codes}
-use Rattle.zq_base.specs.declared.kind.Kind.TheVariants.{Push, Pull}
+use Rattle.zq_base.specs.declared.kind.Kind.TheVariants.{Pull}
 use Rattle.zq_script.specs.declared.script.Line.{Line}
 use Rattle.zq_script.specs.declared.script.Call.TheVariants as call
 use Rattle.spec_pattern.specs.declared.answers.SendRefusal.TheVariants as send
 use Rattle.spec_pattern.specs.PipeStep.{PipeStep, Commit, FullLook, Take, EmptyLook}
 use Rattle.spec_pattern.specs.TurnList.{End}
-use Rattle.endpoint_book.specs.EndpointBook.{with_name, empty_book}
+use Rattle.spec_pattern.specs.Pattern as by_kind
+use Rattle.spec_control.specs.EndpointBook.{with_name, empty_book}
 use Rattle.spec_journal.specs.declared.journal.Answer.{Answer}
 use Rattle.spec_journal.specs.declared.journal.Answer.TheVariants as answer
 use Rattle.spec_journal.specs.Net.{Net, Sock, end_a, end_b}
 use Rattle.spec_journal.specs.Turn.{Doing, Stage}
-use Rattle.spec_journal.specs.ExamplesPipeline.{options_with, line_at, object_nr, pair_nr, got_from_1}
+use Rattle.spec_journal.specs.ExamplesPipeline.{options_with, line_at, object_nr, pair_nr, got_from_1, at_q}
 
 -- a PULL and a PUSH with these marks and these ends
 abbrev pub pull : ℕ → List End → Sock
-pull mark turns = record { kind = Pull; options = options_with mark; turns = turns }
+pull mark turns = record { options = options_with mark; pattern = by_kind.Pull turns }
 
 abbrev pub push : ℕ → List End → Sock
-push mark turns = record { kind = Push; options = options_with mark; turns = turns }
+push mark turns = record { options = options_with mark; pattern = by_kind.Push turns }
 
 -- a PULL that holds q and a PUSH, joined by pair 1
 abbrev pub joined_net : ℕ → Net
 joined_net mark = record {
   socks = pull mark (end_b 1 ∷ []) ∷ push mark (end_a 1 ∷ []) ∷ [];
-  book = with_name (codes "q") (record { holder = object_nr 1; kind = Pull }) empty_book;
+  book = with_name at_q (record { holder = object_nr 1; kind = Pull }) empty_book;
   pairs = record { a = object_nr 2; b = object_nr 1 } ∷ [];
   seats = (Some (object_nr 1) ∷ Some (object_nr 2) ∷ []) ∷ [];
 }
 
 -- the stage of one actor that has these lines left
-abbrev pub stage_of : Net → List Line → Stage
-stage_of net lines = record { net = net; agendas = record { lines = lines; tried = 0 } ∷ [] }
+abbrev pub one_actor_stage : Net → List Line → Stage
+one_actor_stage net lines = record { net = net; agendas = record { lines = lines; tried = 0 } ∷ [] }
 
 -- a line that actor 0 did, and that is over
 abbrev pub doing : Line → List PipeStep → Answer → Doing

@@ -11,5 +11,7 @@ pub mod Text
 pub mod ExamplesPipeline
 pub mod ExamplesPipes
 pub mod ExamplesNames
+pub mod ExamplesPeers
+pub mod ExamplesEdges
 pub mod Examples
 pub mod Completeness

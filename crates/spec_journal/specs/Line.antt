@@ -8,22 +8,25 @@ use Rattle.zq_base.specs.declared.endpoint.Endpoint.{Endpoint}
 use Rattle.zq_base.specs.declared.endpoint.Endpoint.TheVariants.{Inproc, Tcp}
 use Rattle.zq_script.specs.declared.script.Call.{Call}
 use Rattle.zq_script.specs.declared.script.Call.TheVariants as call
-use Rattle.endpoint_book.specs.declared.binding.Binding.{Binding}
-use Rattle.endpoint_book.specs.EndpointBook.{Book, Name, binding_of, is_object, fits, is_fulfilled, fulfilled, waiters, with_name, with_waiting}
+use Rattle.spec_control.specs.declared.book.Binding.{Binding}
+use Rattle.spec_control.specs.EndpointBook.{Book, binding_of, is_object, is_fulfilled, fulfilled, waiters, with_name, with_waiting}
+use Rattle.zq_base.specs.Kind.{fits}
 use Rattle.spec_pattern.specs.PipeStep.{PipeStep}
-use Rattle.spec_pattern.specs.TurnList.{End}
-use Rattle.spec_pattern.specs.Call.{SendStep, RecvStep}
+use Rattle.spec_pattern.specs.Pattern.{Pattern}
+use Rattle.spec_pattern.specs.PatternCalls.{PatternSends, PatternReceives}
 use Rattle.spec_pattern.specs.declared.answers.SendAnswer.{SendAnswer}
 use Rattle.spec_pattern.specs.declared.answers.SendAnswer.TheVariants as sent
 use Rattle.spec_pattern.specs.declared.answers.RecvAnswer.{RecvAnswer}
 use Rattle.spec_pattern.specs.declared.answers.RecvAnswer.TheVariants as got
 use Rattle.spec_journal.specs.declared.journal.Answer.{Answer}
 use Rattle.spec_journal.specs.declared.journal.Answer.TheVariants as answer
-use Rattle.spec_journal.specs.Net.{Net, Sock, Mine, mine_at, next_object, next_pair, most_sockets, most_pairs, is_made, with_turns, joined, seat_of}
+use Rattle.spec_journal.specs.Net.{Net, Sock, Mine, mine_at, next_object, next_pair, most_sockets, most_pairs, is_made, sock_kind, new_sock, with_turned, joined, seat_of}
 
 -- what is answered to a line whose socket answered so
 abbrev pub sent_answer : SendAnswer → Answer
-sent_answer (sent.Sent to) = answer.Pair to
+sent_answer (sent.One to) = answer.Pair to
+sent_answer (sent.Many report) = answer.Many report
+sent_answer sent.Subscribed = answer.Done
 sent_answer (sent.Dropped rule) = answer.Dropped rule
 sent_answer (sent.Refused refusal) = answer.NotSent refusal
 
@@ -44,7 +47,7 @@ abbrev pub with_socket : ℕ → Kind → Options → Net → Outcome
 with_socket actor kind options net = (
   answer.Object (record { 0 = next_object net }),
   record net {
-    socks = net.socks ++ record { kind = kind; options = options; turns = [] } ∷ [];
+    socks = net.socks ++ new_sock kind options ∷ [];
     seats = slice_set net.seats actor (seat_of net actor ++ Some (record { 0 = next_object net }) ∷ []);
   },
 )
@@ -63,41 +66,41 @@ joined_all b (a ∷ others) net = joined_all b others (joined a b net)
 
 -- the socket as it holds a name
 abbrev pub binding : ObjId → Sock → Binding
-binding o s = record { holder = o; kind = s.kind }
+binding o s = record { holder = o; kind = sock_kind s }
 
 -- the book once the name is held and the connects that waited for it are fulfilled
-abbrev pub held_by : Binding → Name → Book → Book
-held_by b name book = with_name name b (with_waiting (filter (λ w. not (is_fulfilled name b w)) book.waiting) book)
+abbrev pub held_by : Binding → Endpoint → Book → Book
+held_by b name book = with_waiting (filter (λ w. not (is_fulfilled name b w)) book.waiting) (with_name name b book)
 
 -- a bind: a name that is held is in use; one that is free is held from now on, and the waiting connects of other sockets whose kinds fit are fulfilled in their order, where there are pairs for all
-abbrev pub binds : ObjId → Sock → Name → Net → Outcome
+abbrev pub binds : ObjId → Sock → Endpoint → Net → Outcome
 binds o s name net =
     if is_some (binding_of net.book name) then (answer.InUse, net)
     else if nat_lt most_pairs (length net.pairs + length (fulfilled name (binding o s) net.book)) then (answer.TooMany, net)
     else (answer.Done, joined_all o (waiters (fulfilled name (binding o s) net.book)) (record net { book = held_by (binding o s) name net.book }))
 
 -- a connect to a name that nobody holds waits
-abbrev pub connect_waits : ObjId → Sock → Name → Net → Outcome
+abbrev pub connect_waits : ObjId → Sock → Endpoint → Net → Outcome
 connect_waits o s name net = (
   answer.Wait,
   record net {
-    book = with_waiting (net.book.waiting ++ record { name = name; waiter = o; kind = s.kind } ∷ []) net.book;
+    book = with_waiting (net.book.waiting ++ record { at = name; waiter = o; kind = sock_kind s } ∷ []) net.book;
   },
 )
 
 -- a connect to a name that is held: the socket that holds it has to be another one, of a kind that fits
 abbrev pub connect_finds : ObjId → Sock → Binding → Net → Outcome
 connect_finds o s b net =
-    if is_object b.holder o || not (fits s.kind b.kind) then (answer.BadPair, net)
+    if is_object b.holder o || not (fits (sock_kind s) b.kind) then (answer.BadPair, net)
     else if nat_le most_pairs (length net.pairs) then (answer.TooMany, net)
     else (answer.Pair (record { 0 = next_pair net }), joined o b.holder net)
 
-abbrev pub connects_to : ObjId → Sock → Name → Option Binding → Net → Outcome
+abbrev pub connects_to : ObjId → Sock → Endpoint → Option Binding → Net → Outcome
 connects_to o s name None net = connect_waits o s name net
 connects_to o s name (Some b) net = connect_finds o s b net
 
 -- a connect
-abbrev pub connects : ObjId → Sock → Name → Net → Outcome
+abbrev pub connects : ObjId → Sock → Endpoint → Net → Outcome
 connects o s name net = connects_to o s name (binding_of net.book name) net
 
 -- the line makes no pipe step, and has this answer and leaves this net
@@ -105,25 +108,25 @@ abbrev pub Comes : Outcome → List PipeStep → Answer → Net → Type 0
 Comes outcome steps reply new = (steps ≡ []) × (reply ≡ outcome.0) × (new ≡ outcome.1)
 
 -- over tcp nothing is bound or connected yet
-abbrev pub at_endpoint : Endpoint → (Name → Outcome) → Net → Outcome
-at_endpoint (Inproc name) there net = there name
+abbrev pub at_endpoint : Endpoint → (Endpoint → Outcome) → Net → Outcome
+at_endpoint (Inproc name) there net = there (Inproc name)
 at_endpoint (Tcp address) there net = (answer.NotSupported, net)
 
 -- a socket is asked to send; all its ends can be written
 pub record Sends (s : Mine) (m : Frames) (old : Net) (steps : List PipeStep) (reply : Answer) (new : Net) : Type 0 where
   pub sent : SendAnswer
-  pub turns : List End
-  pub step : SendStep s.socket.kind (λ _. true) m s.socket.turns steps sent turns
+  pub pattern : Pattern
+  pub step : PatternSends (λ _. true) m s.socket.pattern steps sent pattern
   pub reply_is : reply ≡ sent_answer sent
-  pub new_is : new ≡ record old { socks = with_turns old.socks s.object.0 s.socket turns }
+  pub new_is : new ≡ record old { socks = with_turned old.socks s.object.0 s.socket pattern }
 
--- a socket is asked to receive
+-- a socket is asked to receive; none that is made so far drops messages on it
 pub record Receives (s : Mine) (old : Net) (steps : List PipeStep) (reply : Answer) (new : Net) : Type 0 where
   pub got : RecvAnswer
-  pub turns : List End
-  pub step : RecvStep s.socket.kind s.socket.turns steps got turns
+  pub pattern : Pattern
+  pub step : PatternReceives s.socket.pattern steps [] got pattern
   pub reply_is : reply ≡ got_answer got
-  pub new_is : new ≡ record old { socks = with_turns old.socks s.object.0 s.socket turns }
+  pub new_is : new ≡ record old { socks = with_turned old.socks s.object.0 s.socket pattern }
 
 -- a line on a socket that was not made
 abbrev pub no_socket : Net → Outcome

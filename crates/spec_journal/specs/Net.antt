@@ -5,17 +5,45 @@ use Rattle.zq_base.specs.declared.kind.Kind.{Kind}
 use Rattle.zq_base.specs.declared.kind.Kind.TheVariants.{Push, Pull, Pair, Dealer, Req, Rep, Router, Pub, XPub, Sub, XSub}
 use Rattle.zq_base.specs.declared.options.Options.{Options}
 use Rattle.zq_script.specs.declared.script.Script.{Script}
-use Rattle.spec_pattern.specs.declared.pipe_id.PipeId.{PipeId}
+use Rattle.zq_base.specs.Ends.{PipeId}
 use Rattle.spec_pattern.specs.TurnList.{End}
+use Rattle.spec_pattern.specs.Pattern.{Pattern, attach}
+use Rattle.spec_pattern.specs.Pattern as by_kind
+use Rattle.spec_pattern.specs.Duty.{Free}
+use Rattle.spec_pattern.specs.Publishing.{Publisher}
+use Rattle.pattern_laws.specs.Peers.{pattern_kind}
 use Rattle.zq_base.specs.declared.ids.ObjId.{ObjId}
 use Rattle.spec_journal.specs.declared.journal.Joined.{Joined}
-use Rattle.endpoint_book.specs.EndpointBook.{Book, empty_book}
+use Rattle.spec_control.specs.EndpointBook.{Book, empty_book}
 
--- a socket, and the ends attached to it in the order of their turns
+-- a socket: its options, and its state by its kind, with the ends attached to it
 pub record Sock : Type 0 where
-  pub kind : Kind
   pub options : Options
-  pub turns : List End
+  pub pattern : Pattern
+
+abbrev pub sock_kind : Sock → Kind
+sock_kind s = pattern_kind s.pattern
+
+-- a publisher without peers; an XPUB has a user who hears of subscriptions
+abbrev pub new_publisher : Options → Bool → Publisher
+new_publisher options tells = record { ins = []; subs = []; inbox = []; verbose = options.verbose; tells = tells }
+
+-- the state of a new socket, which has no peers (zmq_setsockopt(3), ZMQ_ROUTER_MANDATORY and ZMQ_XPUB_VERBOSE)
+abbrev pub new_pattern : Kind → Options → Pattern
+new_pattern Push options = by_kind.Push []
+new_pattern Pull options = by_kind.Pull []
+new_pattern Pair options = by_kind.Pair (record { outs = []; ins = [] })
+new_pattern Dealer options = by_kind.Dealer (record { outs = []; ins = [] })
+new_pattern Req options = by_kind.Req (record { outs = []; ins = [] }) Free
+new_pattern Rep options = by_kind.Rep [] Free
+new_pattern Router options = by_kind.Router (record { ins = []; names = []; drawn = 0; mandatory = options.mandatory })
+new_pattern Pub options = by_kind.Pub (new_publisher options false)
+new_pattern XPub options = by_kind.XPub (new_publisher options true)
+new_pattern Sub options = by_kind.Sub (record { ins = []; wanted = []; followers = [] })
+new_pattern XSub options = by_kind.XSub (record { ins = []; wanted = []; followers = [] })
+
+abbrev pub new_sock : Kind → Options → Sock
+new_sock kind options = record { options = options; pattern = new_pattern kind options }
 
 -- The sockets, numbered from 1 as they were made (0 is the root); the names that are held and the connects that wait; the pairs, numbered from 1; and for each actor the objects that its socket lines made, none where one was refused.
 pub record Net : Type 0 where
@@ -71,8 +99,8 @@ most_pairs = 1000000
 abbrev pub is_made : Kind → Bool
 is_made Push = true
 is_made Pull = true
-is_made Pair = false
-is_made Dealer = false
+is_made Pair = true
+is_made Dealer = true
 is_made Req = false
 is_made Rep = false
 is_made Router = false
@@ -88,26 +116,33 @@ end_a n = record { pair = record { 0 = n }; a = true }
 abbrev pub end_b : ℕ → End
 end_b n = record { pair = record { 0 = n }; a = false }
 
-abbrev pub turned : List End → Sock → Sock
-turned turns s = record s { turns = turns }
+abbrev pub turned : Pattern → Sock → Sock
+turned pattern s = record s { pattern = pattern }
 
--- a list of sockets with another turn list for the one of this number
-abbrev pub with_turns : List Sock → ℕ → Sock → List End → List Sock
-with_turns socks o s turns = slice_set socks (o - 1) (turned turns s)
+-- a list of sockets with another state of the one of this number
+abbrev pub with_turned : List Sock → ℕ → Sock → Pattern → List Sock
+with_turned socks o s pattern = slice_set socks (o - 1) (turned pattern s)
 
-abbrev pub with_end : List Sock → ℕ → Option Sock → End → List Sock
-with_end socks o None e = socks
-with_end socks o (Some s) e = with_turns socks o s (s.turns ++ e ∷ [])
+abbrev pub with_end : List Sock → ℕ → Option Sock → End → List ℕ → List Sock
+with_end socks o None e identity = socks
+with_end socks o (Some s) e identity = with_turned socks o s (attach e identity s.pattern)
 
--- the sockets once the one of this number has a further end, last in its turn list
-abbrev pub attached : ℕ → End → List Sock → List Sock
-attached o e socks = with_end socks o (slice_get socks (o - 1)) e
+-- the sockets once a peer of this identity came to the one of this number, by this end: a peer that the kind refuses isn't attached
+abbrev pub attached : ℕ → End → List ℕ → List Sock → List Sock
+attached o e identity socks = with_end socks o (slice_get socks (o - 1)) e identity
+
+-- what a socket tells its peers to call it
+abbrev pub sock_identity : Option Sock → List ℕ
+sock_identity None = []
+sock_identity (Some s) = s.options.id
 
 -- the net once the two sockets are joined by the next pair: the first has end a
 abbrev pub joined : ObjId → ObjId → Net → Net
 joined a b net = record net {
   pairs = net.pairs ++ record { a = a; b = b } ∷ [];
-  socks = attached b.0 (end_b (next_pair net)) (attached a.0 (end_a (next_pair net)) net.socks);
+  socks =
+      attached b.0 (end_b (next_pair net)) (sock_identity (sock_at net a.0))
+      (attached a.0 (end_a (next_pair net)) (sock_identity (sock_at net b.0)) net.socks);
 }
 
 abbrev pub made_by : Option (List (Option ObjId)) → List (Option ObjId)

@@ -2,7 +2,7 @@
 use Rattle.std.specs.Prelude.{◌≡◌, ◌+◌, ℕ, List, [], ◌∷◌, map, filter, Bool, true, false}
 use Rattle.zq_script.specs.declared.script.Script.{Script}
 use Rattle.zq_script.specs.declared.script.ActorScript.{ActorScript}
-use Rattle.spec_pattern.specs.declared.pipe_id.PipeId.{PipeId}
+use Rattle.zq_base.specs.Ends.{PipeId}
 use Rattle.spec_journal.specs.declared.journal.Entry.{Entry}
 use Rattle.spec_journal.specs.declared.journal.ActorPart.{ActorPart}
 use Rattle.spec_journal.specs.declared.journal.PipeRow.{PipeRow}
@@ -11,7 +11,7 @@ use Rattle.spec_journal.specs.declared.journal.Joined.{Joined}
 use Rattle.spec_journal.specs.Net.{end_a, end_b}
 use Rattle.spec_journal.specs.Turn.{Doing}
 use Rattle.spec_journal.specs.Run.{Schedule, Run, IsRunOf, IsDone, IsUnfinished, doings_of, doings_by}
-use Rattle.spec_journal.specs.Disposition.{dispositions, row_of, AllEnd}
+use Rattle.spec_journal.specs.Disposition.{run_row, AllEnd}
 
 -- what is shown of a line that is over
 abbrev pub entry_of : Doing → Entry
@@ -31,8 +31,8 @@ parts_from n (actor ∷ actors) ds =
 abbrev pub rows_from : Run → ℕ → List Joined → List PipeRow
 rows_from run n [] = []
 rows_from run n (j ∷ js) =
-    row_of (end_a n) (dispositions run (end_a n))
-    ∷ row_of (end_b n) (dispositions run (end_b n))
+    run_row run (end_a n)
+    ∷ run_row run (end_b n)
     ∷ rows_from run (n + 1) js
 
 -- the journal of a run of a script

@@ -1,9 +1,9 @@
 -- The text of a journal (own format).
-use Rattle.std.specs.Prelude.{ℕ, List, [], ◌∷◌, ◌++◌, Bool, true, false, ◌&&◌, not, nat_le, nat_eq, if◌then◌else◌, length, codes, decimal, flat_map}
-use Rattle.std.specs.List.{list_all, starts_with}
-use Rattle.hex.specs.Hex.{encode_lower}
-use Rattle.zq_base.specs.Message.{Frames}
-use Rattle.spec_pattern.specs.declared.pipe_id.PipeId.{PipeId}
+use Rattle.std.specs.Prelude.{ℕ, List, [], ◌∷◌, ◌++◌, Bool, true, false, nat_eq, if◌then◌else◌, codes, decimal, flat_map}
+use Rattle.zq_script.specs.PartText.{parts_text}
+use Rattle.zq_base.specs.Ends.{PipeId}
+use Rattle.zq_base.specs.declared.ids.PairId.{PairId}
+use Rattle.spec_pattern.specs.declared.answers.Report.{Report}
 use Rattle.spec_pattern.specs.declared.answers.SendRefusal.{SendRefusal}
 use Rattle.spec_pattern.specs.declared.answers.SendRefusal.TheVariants as send
 use Rattle.spec_pattern.specs.declared.answers.RecvRefusal.{RecvRefusal}
@@ -16,26 +16,6 @@ use Rattle.spec_journal.specs.declared.journal.Entry.{Entry}
 use Rattle.spec_journal.specs.declared.journal.ActorPart.{ActorPart}
 use Rattle.spec_journal.specs.declared.journal.PipeRow.{PipeRow}
 use Rattle.spec_journal.specs.declared.journal.Journal.{Journal}
-
-abbrev pub is_graphic : ℕ → Bool
-is_graphic octet = nat_le 33 octet && nat_le octet 126
-
-abbrev pub is_dash : List ℕ → Bool
-is_dash part = starts_with nat_eq part (codes "-") && nat_eq (length part) 1
-
--- the part would be read back as itself
-abbrev pub is_plain : List ℕ → Bool
-is_plain part = list_all is_graphic part && not (is_dash part) && not (starts_with nat_eq part (codes "0x"))
-
--- a part: `-` where it is empty, itself where it can be read back, else its octets in hex
-abbrev pub part_text : List ℕ → List ℕ
-part_text [] = codes "-"
-part_text (octet ∷ octets) =
-    if is_plain (octet ∷ octets) then octet ∷ octets else codes "0x" ++ encode_lower (octet ∷ octets)
-
--- the parts of a message, each behind a space
-abbrev pub parts_text : Frames → List ℕ
-parts_text parts = flat_map (λ part. codes " " ++ part_text part) parts
 
 abbrev pub send_refusal_text : SendRefusal → List ℕ
 send_refusal_text send.Term = codes "term"
@@ -65,6 +45,24 @@ rule_text rule.Stray = codes "stray"
 rule_text rule.BadEnv = codes "badenv"
 rule_text rule.Filtered = codes "filtered"
 
+-- these pairs, each behind a comma
+abbrev pub others_text : List PairId → List ℕ
+others_text pairs = flat_map (λ p. codes ",p" ++ decimal p.0) pairs
+
+-- these pairs, with commas between them
+abbrev pub pairs_text : List PairId → List ℕ
+pairs_text [] = []
+pairs_text (p ∷ ps) = codes "p" ++ decimal p.0 ++ others_text ps
+
+-- the pairs without room for a copy, where there are some
+abbrev pub full_text : List PairId → List ℕ
+full_text [] = []
+full_text (p ∷ ps) = codes " full " ++ pairs_text (p ∷ ps)
+
+-- the pairs to which copies of a message went, and those without room for one
+abbrev pub report_text : Report PairId → List ℕ
+report_text report = codes "ok " ++ pairs_text report.put ++ full_text report.full
+
 abbrev pub answer_text : Answer → List ℕ
 answer_text (answer.Object o) = codes "ok o" ++ decimal o.0
 answer_text answer.Done = codes "ok"
@@ -75,6 +73,7 @@ answer_text answer.InUse = codes "inuse"
 answer_text answer.BadPair = codes "badpair"
 answer_text answer.TooMany = codes "toomany"
 answer_text (answer.Pair p) = codes "ok p" ++ decimal p.0
+answer_text (answer.Many report) = report_text report
 answer_text (answer.Got p m) = codes "msg p" ++ decimal p.0 ++ parts_text m
 answer_text (answer.Dropped rule) = codes "drop " ++ rule_text rule
 answer_text (answer.NotSent refusal) = send_refusal_text refusal

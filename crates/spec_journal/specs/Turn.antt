@@ -59,6 +59,7 @@ abbrev pub asks_again : Answer → Bool
 asks_again (answer.Object o) = false
 asks_again answer.Done = false
 asks_again (answer.Pair p) = false
+asks_again (answer.Many report) = false
 asks_again answer.Wait = false
 asks_again (answer.Got p m) = false
 asks_again (answer.Dropped rule) = false

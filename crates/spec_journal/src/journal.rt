@@ -1,4 +1,4 @@
-use spec_pattern::{PipeId, RecvRefusal, Rule, SendRefusal};
+use spec_pattern::{PipeId, RecvRefusal, Report, Rule, SendRefusal};
 use zq_base::{Message, ObjId, Octets, PairId, Seq};
 
 /// What a line of a script was answered.
@@ -7,6 +7,7 @@ pub enum Answer {
     Object(ObjId),
     Done,
     Pair(PairId),
+    Many(Report<PairId>),
     Wait,
     NoSocket,
     NotSupported,

@@ -1,6 +1,6 @@
 ghost use Rattle.std.specs.Prelude.{◌≡◌, ◌+◌, Contains};
 ghost use Rattle.zq_script.specs.declared.script.Script.{Script};
-ghost use Rattle.spec_pattern.specs.declared.pipe_id.PipeId.{PipeId};
+ghost use Rattle.zq_base.specs.Ends.{PipeId};
 ghost use Rattle.spec_journal.specs.declared.journal.Journal.{Journal};
 ghost use Rattle.spec_journal.specs.declared.journal.PipeRow.{PipeRow};
 ghost use Rattle.spec_journal.specs.Run.{Schedule, Run, IsRunOf};
@@ -36,4 +36,10 @@ pub fn rows_add_up()
 /// A run that may take more turns than its script has tries is done within them.
 pub fn a_run_is_done_in_time()
     ensures { RunsAreDone }
+{}
+
+/// Two journals of one script by one schedule are equal: a run is replayed by its seed.
+pub fn a_script_has_one_journal()
+    ensures { (script : Script) (schedule : Schedule) (j k : Journal) → IsJournalOf script schedule j
+        → IsJournalOf script schedule k → j ≡ k }
 {}

@@ -5,8 +5,8 @@ use mathlib.Core.List.{IsPrefix}
 use Rattle.std.proofs.lemmas.Bool.{eqb-true}
 use Rattle.std.proofs.lemmas.List.Elements.{filter_map-append}
 use Rattle.zq_base.specs.Message.{Frames}
-use Rattle.spec_pattern.specs.declared.pipe_id.PipeId.{PipeId}
-use Rattle.spec_pattern.specs.PipeStep.{PipeStep, Commit, FullLook, Take, EmptyLook, DelimiterLook, same_pipe, same_side, committed_by, taken_by, committed_to, taken_from, Follows, AreExact, TakesInOrder}
+use Rattle.zq_base.specs.Ends.{PipeId}
+use Rattle.spec_pattern.specs.PipeStep.{PipeStep, Commit, FullLook, Take, EmptyLook, DelimiterLook, WaitingLook, Seal, same_pipe, same_side, committed_by, taken_by, committed_to, taken_from, Follows, AreExact, TakesInOrder}
 
 -- two names that are the same are equal
 same_sides : (a b : Bool) → same_side a b ≡ true → a ≡ b
@@ -55,7 +55,9 @@ one_step c p past (Commit q m) f now = stepped p past (Commit q m) (rw append-ni
 one_step c p past (FullLook q) f now = stepped p past (FullLook q) (rw (append-nil, append-nil) f)
 one_step c p past (Take q m) f now = took p q past m (same_pipe p q) refl f now
 one_step c p past (EmptyLook q) f now = stepped p past (EmptyLook q) (rw (append-nil, append-nil) f)
-one_step c p past (DelimiterLook q) f now = elim now [ ]
+one_step c p past (DelimiterLook q) f now = stepped p past (DelimiterLook q) (rw (append-nil, append-nil) f)
+one_step c p past (WaitingLook q) f now = stepped p past (WaitingLook q) (rw (append-nil, append-nil) f)
+one_step c p past (Seal q) f now = stepped p past (Seal q) (rw (append-nil, append-nil) f)
 
 prefix_kept : (c : PipeId → ℕ) (p : PipeId) (past steps : List PipeStep) → IsPrefix (taken_from p past) (committed_to p past) → AreExact c past steps
     → IsPrefix (taken_from p (past ++ steps)) (committed_to p (past ++ steps))

@@ -2,8 +2,8 @@
 use Rattle.std.proofs.Common.{◌≡◌, ◌<◌, ◌≤◌, ◌+◌, ℕ, List, [], ◌∷◌, ◌++◌, length, Bool, true, false, refl, sym, arith, append-nil, append_assoc, inl, inr, length-append, subst}
 use Rattle.std.proofs.lemmas.List.Elements.{filter_map-append}
 use Rattle.zq_base.specs.Message.{Frames}
-use Rattle.spec_pattern.specs.declared.pipe_id.PipeId.{PipeId}
-use Rattle.spec_pattern.specs.PipeStep.{PipeStep, Commit, FullLook, Take, EmptyLook, DelimiterLook, same_pipe, committed_by, taken_by, committed_to, taken_from, Follows, AreExact, IsFullAfter, LooksHold, most_commits}
+use Rattle.zq_base.specs.Ends.{PipeId}
+use Rattle.spec_pattern.specs.PipeStep.{PipeStep, Commit, FullLook, Take, EmptyLook, DelimiterLook, WaitingLook, Seal, same_pipe, committed_by, taken_by, committed_to, taken_from, Follows, AreExact, IsFullAfter, LooksHold, most_commits}
 use Rattle.spec_pattern.proofs.Exact.{same_pipes}
 
 -- a step in the middle follows from those before it
@@ -42,7 +42,9 @@ within_step c p past (Commit q m) f now = within_commit c p q past m (same_pipe 
 within_step c p past (FullLook q) f now = within_stepped c p past (FullLook q) (omega arith)
 within_step c p past (Take q m) f now = within_take c p q past m (same_pipe p q) refl f
 within_step c p past (EmptyLook q) f now = within_stepped c p past (EmptyLook q) (omega arith)
-within_step c p past (DelimiterLook q) f now = elim now [ ]
+within_step c p past (DelimiterLook q) f now = within_stepped c p past (DelimiterLook q) (omega arith)
+within_step c p past (WaitingLook q) f now = within_stepped c p past (WaitingLook q) (omega arith)
+within_step c p past (Seal q) f now = within_stepped c p past (Seal q) (omega arith)
 
 within_kept : (c : PipeId → ℕ) (p : PipeId) (past steps : List PipeStep) → IsWithin c p past → AreExact c past steps → IsWithin c p (past ++ steps)
 within_kept c p past [] f exact = rw append-nil f
@@ -74,7 +76,7 @@ full_holds c fits p before after exact =
 empty_holds : (c : PipeId → ℕ) (p : PipeId) (before after : List PipeStep) → AreExact c [] (before ++ EmptyLook p ∷ after)
     → length (taken_from p before) ≤ length (committed_to p (before ++ EmptyLook p ∷ after))
 empty_holds c p before after exact =
-    let now : length (committed_to p before) ≡ length (taken_from p before) = in_the_middle c [] before (EmptyLook p) after exact in
+    let now : length (committed_to p before) ≡ length (taken_from p before) = (in_the_middle c [] before (EmptyLook p) after exact).0 in
     let more = more_committed p before (EmptyLook p ∷ after) in
     omega arith
 

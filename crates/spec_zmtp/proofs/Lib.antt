@@ -7,4 +7,10 @@ pub mod HandshakeLemmas
 pub mod CommandFacts
 pub mod RuleLemmas
 pub mod StreamLemmas
+pub mod SizeLemmas
+pub mod JudgementLemmas
+pub mod WholeLemmas
+pub mod MoreLemmas
+pub mod TotalLemmas
 pub mod StandardFacts
+pub mod CollisionFacts

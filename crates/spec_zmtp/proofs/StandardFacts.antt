@@ -19,14 +19,14 @@ use Rattle.spec_zmtp.specs.PeerMetadata.{peer_of}
 use Rattle.spec_zmtp.specs.Handshake.{item_of_body, is_welcome, has_bad_meta, misplaced}
 use Rattle.spec_zmtp.specs.DecodedStream.{Decoded, Decodes, Outcome, Unfinished, Refused, unfinished, refused}
 
-abbrev side : Role → Kind → EngineOpts
+abbrev pub side : Role → Kind → EngineOpts
 side role kind = record { kind = kind; id = []; role = role; logins = record { user = 117 ∷ []; pass = 112 ∷ [] } ∷ [] }
 
 abbrev stranger : EngineOpts
 stranger = record { kind = Push; id = []; role = PlainClient; logins = record { user = 117 ∷ []; pass = 120 ∷ [] } ∷ [] }
 
 -- READY of a PUSH in its frame
-abbrev ready : WireFrame
+abbrev pub ready : WireFrame
 ready = record { kind = Command; long = false; body = encode_command (our_ready (side Null Push)) }
 
 abbrev hello : WireFrame
@@ -36,23 +36,23 @@ hello = record { kind = Last; long = false; body = codes "hello" }
 abbrev long_abc : WireFrame
 long_abc = record { kind = Last; long = true; body = codes "abc" }
 
-abbrev part : WireFrame
+abbrev pub part : WireFrame
 part = record { kind = More; long = false; body = codes "abc" }
 
 -- the greeting and READY of a PUSH, and these octets
-abbrev stream : List ℕ → List ℕ
+abbrev pub stream : List ℕ → List ℕ
 stream more = greeting_of Null ++ (encode_frame Command (encode_command (our_ready (side Null Push))) ++ more)
 
 -- what a PULL means by it
-abbrev heard : List (List (List ℕ)) → Outcome → Decoded
+abbrev pub heard : List (List (List ℕ)) → Outcome → Decoded
 heard messages outcome = record {
-  said = greeting_of Null ++ encode_frame Command (encode_command (our_ready (side Null Pull)));
+  said = our_ready (side Null Pull) ∷ [];
   peer = Some (record { kind = Push; identity = [] });
   messages = messages;
   outcome = outcome;
 }
 
-ready_keeps : Keeps (side Null Pull) [] ready
+pub ready_keeps : Keeps (side Null Pull) [] ready
 unfolding decode_command sized_at value_at named_at property_at properties_behind peer_of has_bad_meta misplaced
 ready_keeps = record { frame = record { fits = lit< tt; within = lit≤ tt }; in_place = refl; heard = refl }
 
@@ -64,7 +64,7 @@ long_keeps : Keeps (side Null Pull) (ready ∷ []) long_abc
 unfolding decode_command sized_at value_at named_at property_at properties_behind peer_of has_bad_meta misplaced
 long_keeps = record { frame = record { fits = lit< tt; within = lit≤ tt }; in_place = refl; heard = refl }
 
-part_keeps : Keeps (side Null Pull) (ready ∷ []) part
+pub part_keeps : Keeps (side Null Pull) (ready ∷ []) part
 unfolding decode_command sized_at value_at named_at property_at properties_behind peer_of has_bad_meta misplaced
 part_keeps = record { frame = record { fits = lit< tt; within = lit≤ tt }; in_place = refl; heard = refl }
 
@@ -98,17 +98,17 @@ one_octet_too_long = refused (ready ∷ []) (2 ∷ 0 ∷ 0 ∷ 0 ∷ 0 ∷ 1 ∷
     (by_size Last true 16777217 [] refl refl (lit< tt) (lit< tt) refl refl) refl
 
 early_message : Decodes (side Null Pull) (greeting_of Null ++ 0 ∷ 1 ∷ 97 ∷ [])
-    (record { said = greeting_of Null ++ encode_frame Command (encode_command (our_ready (side Null Pull))); peer = None; messages = []; outcome = Refused (record { cause = OutOfOrder; offset = 64 }) })
+    (record { said = our_ready (side Null Pull) ∷ []; peer = None; messages = []; outcome = Refused (record { cause = OutOfOrder; offset = 64 }) })
 unfolding decode_command sized_at value_at named_at property_at properties_behind peer_of has_bad_meta misplaced
 early_message = refused [] (0 ∷ 1 ∷ 97 ∷ []) OutOfOrder [] (record { greeting = greeting_of Null; whole = refl; accepted = refl; all = refl; keep = tt }) (by_flags 0 (1 ∷ 97 ∷ []) refl refl refl) refl
 
-two_pushes : Decodes (side Null Push) (stream []) (record { said = greeting_of Null ++ encode_frame Command (encode_command (our_ready (side Null Push))); peer = None; messages = []; outcome = Refused (record { cause = BadPair; offset = 64 }) })
+two_pushes : Decodes (side Null Push) (stream []) (record { said = our_ready (side Null Push) ∷ []; peer = None; messages = []; outcome = Refused (record { cause = BadPair; offset = 64 }) })
 unfolding decode_command sized_at value_at named_at property_at properties_behind peer_of has_bad_meta misplaced
 two_pushes = refused [] (encode_frame Command ready.body) BadPair (item_of_body ready.body ∷ []) (record { greeting = greeting_of Null; whole = refl; accepted = refl; all = refl; keep = tt })
     (by_item ready [] refl (record { fits = lit< tt; within = lit≤ tt }) refl refl refl) refl
 
 not_welcome : Decodes (side PlainServer Pull) (greeting_of PlainClient ++ encode_frame Command (encode_command (our_hello stranger)))
-    (record { said = greeting_of PlainServer ++ encode_frame Command (encode_command our_error); peer = None; messages = []; outcome = Refused (record { cause = NotWelcome; offset = 64 }) })
+    (record { said = our_error ∷ []; peer = None; messages = []; outcome = Refused (record { cause = NotWelcome; offset = 64 }) })
 unfolding decode_command sized_at value_at named_at property_at properties_behind peer_of has_bad_meta misplaced is_welcome decode_login
 not_welcome = refused [] (encode_frame Command (encode_command (our_hello stranger))) NotWelcome (item_of_body (encode_command (our_hello stranger)) ∷ []) (record { greeting = greeting_of PlainClient; whole = refl; accepted = refl; all = refl; keep = tt })
     (by_item (record { kind = Command; long = false; body = encode_command (our_hello stranger) }) [] refl (record { fits = lit< tt; within = lit≤ tt }) refl refl refl) refl

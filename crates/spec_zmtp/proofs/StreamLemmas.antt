@@ -96,7 +96,7 @@ one_meaning opts octets d e (greeting_refused r k p) (greeting_unfinished j q) =
 one_meaning opts octets d e (greeting_refused r k p) (greeting_refused r' k' q) =
     let both : Some r ≡ Some r' = sym k ∙ k' in
     let one : r ≡ r' = cc in
-    p ∙ ap (λ (z : Refusal). at_greeting opts (Refused z)) one ∙ sym q
+    p ∙ ap (λ (z : Refusal). at_greeting (Refused z)) one ∙ sym q
 one_meaning opts octets d e (greeting_refused r k p) (unfinished fs x s cut q) = absurd (no_good_refused _ r k (good_stays opts octets fs x s))
 one_meaning opts octets d e (greeting_refused r k p) (refused fs x c heard s break_ q) = absurd (no_good_refused _ r k (good_stays opts octets fs x s))
 one_meaning opts octets d e (unfinished fs x s cut p) (greeting_unfinished j q) = let both : NeedMore ≡ Good = sym j ∙ good_stays opts octets fs x s in absurd cc

@@ -54,12 +54,6 @@ pub record IsWireFrame (f : WireFrame) : Type 0 where
   pub fits : FitsSize f.long (length f.body)
   pub within : length f.body ≤ limit f.kind
 
--- the octets are an encoding of a frame of this kind and body
-abbrev pub EncodesFrame : FrameKind → List ℕ → List ℕ → Type 0
-EncodesFrame kind body octets =
-    (long : Bool) × IsWireFrame (record { kind = kind; long = long; body = body })
-    × (octets ≡ octets_of (record { kind = kind; long = long; body = body }))
-
 -- the encoding that is written
 abbrev pub encode_frame : FrameKind → List ℕ → List ℕ
 encode_frame kind body = encode_head kind (length body) ++ body

@@ -2,6 +2,7 @@
 use Rattle.std.specs.Prelude.{◌≡◌, ℕ, ◌<◌, ◌≤◌, ◌==◌, Bool, if◌then◌else◌, List, [], ◌∷◌, ◌++◌, length, map, Option, Some, None}
 use Rattle.std.specs.List.{fold}
 use Rattle.zq_base.specs.declared.options.EngineOpts.{EngineOpts}
+use Rattle.zq_base.specs.Message.{max_committed}
 use Rattle.spec_zmtp.specs.declared.cause.Cause.{Cause}
 use Rattle.spec_zmtp.specs.declared.cause.Cause.TheVariants.{BadFlags, TooLong, TooManyParts, OutOfOrder}
 use Rattle.spec_zmtp.specs.declared.flags.FrameKind.{FrameKind}
@@ -54,7 +55,7 @@ item_refusal opts before item = stage_refusal (handshake opts (items_of before +
 
 -- a 1,024th frame of one message
 abbrev pub count_refusal : List WireFrame → Option Cause
-count_refusal unfinished = if length unfinished == 1023 then Some TooManyParts else None
+count_refusal unfinished = if length unfinished == max_committed then Some TooManyParts else None
 
 -- a command between the frames of a message
 abbrev pub between_refusal : List WireFrame → Option Cause

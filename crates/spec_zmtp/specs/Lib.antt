@@ -2,6 +2,7 @@ pub mod FrameFlags
 pub mod FrameEncoding
 pub mod Greeting
 pub mod Metadata
+pub mod Put
 pub mod Decoding
 pub mod PeerMetadata
 pub mod OwnCommands

@@ -22,4 +22,7 @@ pub use handshake_laws::{
     decoded_properties_have_the_octets, metadata_is_its_properties,
     more_octets_change_no_judgement, one_item_more,
 };
-pub use stream_laws::{octets_have_one_meaning, refused_octets_stay_refused};
+pub use stream_laws::{
+    all_octets_have_a_meaning, each_whole_message_may_be_sent, more_octets_mean_more,
+    octets_have_one_meaning, refused_octets_stay_refused,
+};

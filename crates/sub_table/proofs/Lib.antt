@@ -1,2 +1,10 @@
-pub mod TopicsLemmas
 pub mod ViewLemmas
+pub mod SetLemmas
+pub mod HoldLemmas
+pub mod AnyLemmas
+pub mod RowLemmas
+pub mod TieLemmas
+pub mod MatchLemmas
+pub mod GoneLemmas
+pub mod CountLemmas
+pub mod TellLemmas

@@ -1,4 +1,4 @@
-pub mod Topics
-pub mod Wanted
 pub mod View
+pub mod Tables
 pub mod Answers
+pub mod Telling

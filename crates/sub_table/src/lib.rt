@@ -1,10 +1,15 @@
 //! The topics that peers subscribed to, those that a socket wants, and those that it told its peers.
 #![tactic(auto)]
 
+mod holders;
+mod peer_set;
+mod rows;
 mod told;
+mod topic_set;
 mod topics;
 mod wanted;
 
 pub use told::Told;
+pub use topic_set::TopicSet;
 pub use topics::{Added, Cancelled, Topics};
 pub use wanted::{NotSub, Wanted, WantedError};

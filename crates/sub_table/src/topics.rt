@@ -1,9 +1,10 @@
-ghost use Rattle.std.specs.Prelude.{◌≡◌};
-ghost use Rattle.sub_table.specs.Topics.{is_before};
-
+use crate::holders::Holders;
+use crate::peer_set::PeerSet;
+use crate::rows::{drop_topic, first_topic, put_topic};
+use crate::topic_set::TopicSet;
 use std::alloc::{AllocError, Global};
+use std::collections::BTreeMap;
 use std::marker::Model;
-use zq_base::Octets;
 
 /// What adding a topic found.
 #[derive(Clone, Copy, Debug, PartialEq, Eq)]
@@ -22,44 +23,65 @@ pub enum Cancelled {
     Unknown,
 }
 
-/// The topics that peers subscribed to. A peer goes by a number of the caller's, as its place.
+/// The topics that peers subscribed to. A peer goes by a number of the caller's, as its place, and
+/// a peer that comes later has a greater one.
 #[derive(Drop)]
 pub struct Topics {
-    entries: Vec<(Octets, usize)>,
+    peers: BTreeMap<usize, TopicSet>,
+    holders: Holders,
+    longest: usize,
 }
 
 impl Model for Topics {
-    ghost use Rattle.sub_table.specs.Topics.{Subscriptions, AreDistinct};
+    ghost use Rattle.std.specs.Prelude.{ℕ, List};
+    ghost use Rattle.sub_table.specs.Tables.{AreTied};
 
-    ghost Value = { Subscriptions };
+    ghost Value = { List (ℕ × List (List ℕ)) };
 
-    ghost view = { λ t. t.entries.items };
+    ghost view = { λ t. t.peers.entries };
 
-    ghost invariant = { λ t. AreDistinct t.entries.items };
+    ghost invariant = { λ t. AreTied t.peers.entries t.holders t.longest };
 }
 
 impl Topics {
-    ghost use Rattle.std.specs.Prelude.{◌≡◌, ◌∷◌, [], false, IfOk, OnErr, MatchOption};
-    ghost use Rattle.std.specs.List.{position_or_len, position};
-    ghost use Rattle.sub_table.specs.Topics.{max_topics, topic_count, has_topic, others_have, is_full, is_before, is_alone, with_topic, without_topic, without_peer, matches_peer, matching, topics_gone};
-    ghost use Rattle.sub_table.specs.Answers.{add_answer, after_add, cancel_answer};
+    ghost use Rattle.std.specs.Prelude.{◌≡◌, ◌<◌, ◌∷◌, [], ◌++◌, All, ℕ, length, nat_eq, is_some, true, false, IfOk, OnOk, OnErr, MatchOption};
+    ghost use Rattle.std.specs.List.Sorted.{IsStrictlySortedBy};
+    ghost use Rattle.std.specs.Map.{keys_of, lookup, set_value};
+    ghost use Rattle.std.specs.Ordering.{nat_cmp};
+    ghost use Rattle.spec_pattern.specs.Topics.{AreInOrder, with_topic, without_topic, topics_of, has_topic, others_have, with_peer, without_peer, after_add, after_cancel, matches, matching, topics_gone};
+    ghost use Rattle.sub_table.specs.Tables.{TakesFirst, TakesGone};
+    ghost use Rattle.sub_table.specs.View.{is_peer};
+    ghost use Rattle.sub_table.specs.Answers.{add_answer, cancel_answer};
 
     /// The most topics of a peer.
     pub const MAX: usize = 65_536;
 
-    /// No subscriptions.
+    /// No peers.
     pub fn new(alloc: Global) -> Self
         ensures { result ≡ [] }
     {
         Topics {
-            entries: Vec::new(alloc),
+            peers: BTreeMap::new(alloc),
+            holders: Holders::new(alloc),
+            longest: 0,
         }
+    }
+
+    /// A peer comes, behind the others.
+    pub fn join(&mut self, alloc: Global, peer: usize) -> Result<(), AllocError>
+        requires { All (λ p. p < peer) (keys_of self.old) }
+        ensures ok { OnOk result (self.new ≡ with_peer peer self.old) }
+        ensures err { OnErr result (self.new ≡ self.old) }
+    {
+        self.peers.insert(peer, TopicSet::new(alloc))?;
+        Ok(())
     }
 
     /// Adds a topic of the peer.
     pub fn add(&mut self, alloc: Global, peer: usize, topic: &[u8]) -> Result<Added, AllocError>
+        requires { is_some (lookup (nat_eq peer) self.old) ≡ true }
         ensures reply { IfOk result (λ a. a ≡ add_answer self.old peer topic.now) }
-        ensures ok { IfOk result (λ _. self.new ≡ after_add peer topic.now self.old) }
+        ensures ok { OnOk result (self.new ≡ after_add nat_eq peer topic.now self.old) }
         ensures err { OnErr result (self.new ≡ self.old) }
     {
         if self.has(peer, topic) {
@@ -71,16 +93,15 @@ impl Topics {
         let others = self.others_have(peer, topic);
         self.insert(alloc, peer, topic)?;
         if others {
-            Ok(Added::Added)
-        } else {
-            Ok(Added::First)
+            return Ok(Added::Added);
         }
+        Ok(Added::First)
     }
 
     /// Cancels a topic of the peer.
     pub fn cancel(&mut self, peer: usize, topic: &[u8]) -> Cancelled
         ensures reply { result ≡ cancel_answer self.old peer topic.now }
-        ensures next { self.new ≡ without_topic peer topic.now self.old }
+        ensures next { self.new ≡ after_cancel nat_eq peer topic.now self.old }
     {
         let had = self.has(peer, topic);
         let others = self.others_have(peer, topic);
@@ -94,127 +115,122 @@ impl Topics {
         }
     }
 
-    /// Those of the peers that have a topic which is a prefix of the octets, in their order.
-    pub fn matching(
-        &self,
-        alloc: Global,
-        peers: &[usize],
-        octets: &[u8],
-    ) -> Result<Vec<usize>, AllocError>
-        ensures { IfOk result (λ v. v.items ≡ matching self.now octets.now peers.now) }
+    /// The peers that have a topic which is a prefix of the octets, in the order in which they
+    /// came. Each prefix is looked up once, none that is longer than any topic.
+    pub fn matching(&self, alloc: Global, octets: &[u8]) -> Result<Vec<usize>, AllocError>
+        ensures { IfOk result (λ v. v.items ≡ matching nat_eq self.now octets.now) }
     {
-        peers
-            .iter()
-            .copied()
-            .filter(|peer| self.matches(*peer, octets))
-            .collect(alloc)
-    }
-
-    /// Whether one of the peer's topics is a prefix of the octets.
-    pub fn matches(&self, peer: usize, octets: &[u8]) -> bool
-        ensures { result ≡ matches_peer self.now octets.now peer }
-    {
-        self.entries
-            .iter()
-            .any(|s| s.1 == peer && octets.starts_with(s.0.as_slice()))
+        let found = self.found(alloc, octets)?;
+        let peers = found.into_vec(alloc)?;
+        Ok(peers)
     }
 
     /// Takes out the next topic that goes with the peer, since nobody else has it. Where none is
-    /// left, the peer's other subscriptions go.
-    pub fn next_gone(&mut self, peer: usize) -> Option<Octets>
+    /// left, the peer goes.
+    pub fn next_gone(&mut self, peer: usize) -> Option<Vec<u8>>
         ensures { MatchOption result
-            ((topics_gone self.old peer ≡ []) × (self.new ≡ without_peer peer self.old))
-            (λ t. (topics_gone self.old peer ≡ t ∷ topics_gone self.new peer)
-            × (self.new ≡ without_topic peer t self.old)) }
+            ((topics_gone nat_eq self.old peer ≡ []) × (self.new ≡ without_peer nat_eq peer self.old))
+            (λ t. TakesGone peer t.items self.old self.new) }
     {
-        match self.place_alone(peer) {
-            Some(place) => {
-                let (topic, _) = self.entries.remove(place);
-                Some(topic)
-            }
-            None => {
-                self.entries.retain(|s| s.1 != peer);
-                None
+        'topics: while let Some(topic) = self.take_first(peer) {
+            if !self.others_have(peer, topic.as_slice()) {
+                return Some(topic);
             }
         }
+        self.peers.remove(&peer);
+        None
     }
 
-    /// How many topics the peer has.
-    pub fn count(&self, peer: usize) -> usize
-        ensures { result ≡ topic_count self.now peer }
+    /// The peer goes, with all its topics.
+    pub fn leave(&mut self, peer: usize)
+        ensures { self.new ≡ without_peer nat_eq peer self.old }
     {
-        self.entries.iter().filter(|s| s.1 == peer).count()
+        'topics: while let Some(_topic) = self.next_gone(peer) {}
+    }
+
+    /// How many topics the peer has. They are in order, each once.
+    pub fn count(&self, peer: usize) -> usize
+        ensures value { result ≡ length (topics_of nat_eq self.now peer) }
+        ensures order { AreInOrder (topics_of nat_eq self.now peer) }
+    {
+        match self.peers.get(&peer) {
+            Some(topics) => return topics.len(),
+            None => return 0,
+        }
     }
 
     /// Whether the peer has the topic.
     pub fn has(&self, peer: usize, topic: &[u8]) -> bool
-        ensures { result ≡ has_topic self.now peer topic.now }
+        ensures { result ≡ has_topic nat_eq self.now peer topic.now }
     {
-        self.entries
-            .iter()
-            .any(|s| s.1 == peer && s.0.as_slice() == topic)
+        match self.peers.get(&peer) {
+            Some(topics) => return topics.has(topic),
+            None => return false,
+        }
     }
 
     // Whether a peer other than this one has the topic.
     fn others_have(&self, peer: usize, topic: &[u8]) -> bool
-        ensures { result ≡ others_have self.now peer topic.now }
+        ensures { result ≡ others_have nat_eq self.now peer topic.now }
     {
-        self.entries
-            .iter()
-            .any(|s| s.1 != peer && s.0.as_slice() == topic)
+        self.holders.has_other(topic, peer)
     }
 
-    // Puts the peer's subscription in its place.
+    // Puts a topic among the peer's.
     fn insert(&mut self, alloc: Global, peer: usize, topic: &[u8]) -> Result<(), AllocError>
-        requires { has_topic self.old peer topic.now ≡ false }
-        ensures ok { IfOk result (λ _. self.new ≡ with_topic peer topic.now self.old) }
+        requires here { is_some (lookup (nat_eq peer) self.old) ≡ true }
+        requires new { has_topic nat_eq self.old peer topic.now ≡ false }
+        ensures ok { OnOk result (self.new ≡
+            set_value (nat_eq peer) self.old (with_topic topic.now (topics_of nat_eq self.old peer))) }
         ensures err { OnErr result (self.new ≡ self.old) }
     {
-        let place = self.place_for(peer, topic);
-        let topic = Octets::of_slice(alloc, topic)?;
-        self.entries.insert(place, (topic, peer))?;
-        Ok(())
-    }
-
-    // Takes the peer's subscription to the topic out.
-    fn remove(&mut self, peer: usize, topic: &[u8])
-        ensures { self.new ≡ without_topic peer topic.now self.old }
-    {
-        self.entries
-            .retain(|s| !(s.1 == peer && s.0.as_slice() == topic));
-    }
-
-    // Where the peer's subscription to the topic belongs.
-    fn place_for(&self, peer: usize, topic: &[u8]) -> usize
-        ensures { result ≡ position_or_len (is_before peer topic.now) self.now }
-    {
-        match self.place_before(peer, topic) {
-            Some(place) => place,
-            None => self.entries.len(),
+        self.holders.add(alloc, topic, peer)?;
+        match put_topic(&mut self.peers, alloc, peer, topic) {
+            Ok(()) => {
+                self.longest = self.longest.max(topic.len());
+                return Ok(());
+            }
+            Err(e) => {
+                self.holders.remove(topic, peer);
+                return Err(e);
+            }
         }
     }
 
-    // Where the first subscription stands that comes after the peer's to the topic.
-    fn place_before(&self, peer: usize, topic: &[u8]) -> Option<usize>
-        ensures { result ≡ position (is_before peer topic.now) self.now }
+    // Takes a topic out of the peer's.
+    fn remove(&mut self, peer: usize, topic: &[u8])
+        ensures { self.new ≡ after_cancel nat_eq peer topic.now self.old }
     {
-        self.entries.iter().position(|s| is_before(peer, topic, s))
+        self.holders.remove(topic, peer);
+        drop_topic(&mut self.peers, peer, topic);
     }
 
-    // Where the first of the peer's topics stands that nobody else has.
-    fn place_alone(&self, peer: usize) -> Option<usize>
-        ensures { result ≡ position (is_alone self.now peer) self.now }
+    // Takes out the first of the peer's topics.
+    fn take_first(&mut self, peer: usize) -> Option<Vec<u8>>
+        ensures { MatchOption result
+            ((topics_of nat_eq self.old peer ≡ []) × (self.new ≡ self.old))
+            (λ t. TakesFirst peer t.items self.old self.new) }
     {
-        self.entries
-            .iter()
-            .position(|s| s.1 == peer && !self.others_have(peer, s.0.as_slice()))
+        match first_topic(&mut self.peers, peer) {
+            Some(topic) => {
+                self.holders.remove(topic.as_slice(), peer);
+                return Some(topic);
+            }
+            None => return None,
+        }
     }
-}
 
-// Whether the peer's subscription to the topic stands before this one.
-fn is_before(peer: usize, topic: &[u8], s: &(Octets, usize)) -> bool
-    ensures { result ≡ is_before peer topic.now s.now }
-{
-    let by_topic = topic.cmp(s.0.as_slice());
-    by_topic.then(peer.cmp(&s.1)).is_lt()
+    // The peers that have a topic which is a prefix of the octets.
+    fn found(&self, alloc: Global, octets: &[u8]) -> Result<PeerSet, AllocError>
+        ensures order { IsStrictlySortedBy nat_cmp (keys_of self.now) }
+        ensures found { IfOk result (λ peers. (q : ℕ) →
+            is_peer peers q ≡ matches (topics_of nat_eq self.now q) octets.now) }
+    {
+        let mut found = PeerSet::new(alloc);
+        let last = octets.len().min(self.longest);
+        'prefixes: for end in 0..last + 1 {
+            self.holders.add_to(&octets[..end], &mut found)?;
+        }
+        Ok(found)
+    }
 }

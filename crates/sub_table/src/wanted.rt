@@ -1,4 +1,4 @@
-use crate::told::Told;
+use crate::topic_set::TopicSet;
 use std::alloc::{AllocError, Global};
 use std::collections::BTreeMap;
 use std::marker::Model;
@@ -29,26 +29,28 @@ pub struct NotSub;
 #[derive(Drop)]
 pub struct Wanted {
     counts: BTreeMap<Vec<u8>, u64>,
+    longest: usize,
 }
 
 impl Model for Wanted {
     ghost use Rattle.std.specs.Prelude.{List, ℕ};
-    ghost use Rattle.sub_table.specs.View.{wanted_of};
+    ghost use Rattle.sub_table.specs.View.{entries_of};
+    ghost use Rattle.sub_table.specs.Tables.{AreCounts};
 
     ghost Value = { List (List ℕ × ℕ) };
 
-    ghost view = { λ w. wanted_of w.counts.entries };
+    ghost view = { λ w. entries_of w.counts.entries };
+
+    ghost invariant = { λ w. AreCounts (entries_of w.counts.entries) w.longest };
 }
 
 impl Wanted {
-    ghost use Rattle.std.specs.Prelude.{◌≡◌, ◌↔◌, [], true, false, IsTrue, IsOk, OnOk, OnErr, IsErrOf};
-    ghost use Rattle.std.specs.Option.{option_map};
-    ghost use Rattle.std.specs.Map.{lookup, set_value, remove_entry};
+    ghost use Rattle.std.specs.Prelude.{◌≡◌, ◌↔◌, ◌||◌, ◌≤◌, ℕ, List, [], length, true, false, IsTrue, IsOk, OnOk, OnErr, IsErrOf, if◌then◌else◌};
+    ghost use Rattle.std.specs.Map.{keys_of, lookup, set_value, remove_entry};
     ghost use Rattle.std.specs.BTreeMap.{insert_entry};
-    ghost use Rattle.std.specs.Ordering.{nat_cmp};
-    ghost use Rattle.std.specs.Cmp.Lexicographic.{slice_cmp};
     ghost use Rattle.std.specs.Str.{bytes_eq};
-    ghost use Rattle.sub_table.specs.Wanted.{wants, is_at_limit, with_one_more, with_one_less, matches_wanted, first_untold};
+    ghost use Rattle.spec_pattern.specs.Topics.{AreInOrder, is_among, topic_cmp};
+    ghost use Rattle.spec_pattern.specs.Wanted.{wants, is_at_limit, with_one_more, with_one_less, matches_wanted};
 
     /// The most distinct topics.
     pub const MAX: usize = 65_536;
@@ -59,6 +61,7 @@ impl Wanted {
     {
         Wanted {
             counts: BTreeMap::new(alloc),
+            longest: 0,
         }
     }
 
@@ -97,20 +100,26 @@ impl Wanted {
         Ok(())
     }
 
-    /// Whether the topic is wanted.
+    /// Whether the topic is wanted. The topics that are wanted stand in order.
     pub fn wants(&self, topic: &[u8]) -> bool
-        ensures { result ≡ wants self.now topic.now }
+        ensures value { result ≡ wants self.now topic.now }
+        ensures order { AreInOrder (keys_of self.now) }
     {
-        self.count(topic).is_some()
+        self.counts.contains_key(topic)
     }
 
-    /// Whether one of the topics is a prefix of the octets.
+    /// Whether one of the topics is a prefix of the octets. Each prefix is looked up once, none
+    /// that is longer than any topic.
     pub fn matches(&self, octets: &[u8]) -> bool
         ensures { result ≡ matches_wanted self.now octets.now }
     {
-        self.counts
-            .keys()
-            .any(|topic| octets.starts_with(topic.as_slice()))
+        let last = octets.len().min(self.longest);
+        'prefixes: for end in 0..last + 1 {
+            if self.wants(&octets[..end]) {
+                return true;
+            }
+        }
+        false
     }
 
     /// Whether as many topics are wanted as may be.
@@ -120,21 +129,22 @@ impl Wanted {
         self.counts.len() >= Wanted::MAX
     }
 
-    /// The first topic that is wanted and was not told.
-    pub(crate) fn first_untold(&self, told: &Told) -> Option<&[u8]>
-        ensures { option_map (λ t. t.now) result ≡ first_untold told.now self.now }
+    /// Adds the topics to a set. Where memory wants, some of them.
+    pub(crate) fn add_to(&self, alloc: Global, topics: &mut TopicSet) -> Result<(), AllocError>
+        ensures ok { OnOk result ((t : List ℕ) →
+            is_among topics.new t ≡ (is_among topics.old t || wants self.now t)) }
     {
-        match self.untold_key(told) {
-            Some(topic) => Some(topic.as_slice()),
-            None => None,
+        'topics: for topic in self.counts.keys() {
+            topics.add(alloc, topic.as_slice())?;
         }
+        Ok(())
     }
 
-    // The same, as it is kept.
-    fn untold_key(&self, told: &Told) -> Option<&Vec<u8>>
-        ensures { option_map (λ t. t.now.items) result ≡ first_untold told.now self.now }
+    /// The octet behind which the topic is told: 1 where it is wanted, and 0 where it is not.
+    pub(crate) fn octet(&self, topic: &[u8]) -> u8
+        ensures { result ≡ (if wants self.now topic.now then 1 else 0) }
     {
-        self.counts.keys().find(|t| !told.is_told(t.as_slice()))
+        if self.wants(topic) { 1 } else { 0 }
     }
 
     // How many more subscriptions than cancels a wanted topic has.
@@ -148,18 +158,23 @@ impl Wanted {
     fn set(&mut self, topic: &[u8], count: u64)
         ensures { self.new ≡ set_value (bytes_eq topic.now) self.old count }
     {
-        if let Some(slot) = self.counts.get_mut(topic) {
-            *slot = count;
+        match self.counts.get_mut(topic) {
+            Some(slot) => {
+                *slot = count;
+                return;
+            }
+            None => return,
         }
     }
 
     // Puts a topic in its place, with one subscription.
     fn begin(&mut self, alloc: Global, topic: &[u8]) -> Result<(), AllocError>
-        ensures ok { OnOk result (self.new ≡ insert_entry (slice_cmp nat_cmp) self.old topic.now 1) }
+        ensures ok { OnOk result (self.new ≡ insert_entry topic_cmp self.old topic.now 1) }
         ensures err { OnErr result (self.new ≡ self.old) }
     {
-        let topic = Vec::from_slice(alloc, topic)?;
-        self.counts.insert(topic, 1)?;
+        let key = Vec::from_slice(alloc, topic)?;
+        self.counts.insert(key, 1)?;
+        self.longest = self.longest.max(topic.len());
         Ok(())
     }
 

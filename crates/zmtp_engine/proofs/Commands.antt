@@ -20,7 +20,8 @@ use Rattle.spec_zmtp.specs.FrameRules.{item_at, items_of}
 use Rattle.spec_zmtp.specs.Decoding.{decode_command}
 use Rattle.spec_zmtp.specs.Handshake.{Item, Told, Malformed, told, Handshake, silent, next, handshake, handshake_as, stage_refusal}
 use Rattle.spec_zmtp.specs.Greeting.{greeting_of}
-use Rattle.spec_zmtp.specs.DecodedStream.{encode_commands, offset_of}
+use Rattle.spec_zmtp.specs.DecodedStream.{offset_of}
+use Rattle.spec_zmtp.specs.Put.{encode_commands}
 use Rattle.spec_zmtp.proofs.HandshakeLemmas.{peer-waiting}
 use Rattle.zmtp_mech.proofs.OutcomeLemmas.{added}
 use Rattle.zmtp_frame.specs.Reading.{InHead, InBody}

@@ -3,7 +3,7 @@ use Rattle.std.proofs.Common.{◌≡◌, ℕ, ◌+◌, ◌<◌, ◌≤◌, Bool,
 use Rattle.std.specs.Prelude.{◌&&◌, is_none, IsSome}
 use Rattle.std.specs.List.{flat_map}
 use Rattle.std.proofs.lemmas.Bool.{eqb-true, eqb-false, eq-eqb, lt-ltb, le-ltb}
-use Rattle.std.proofs.lemmas.List.{length-append, length-drop, append-nil, drop-append-le, drop-drop, drop_all, take-append-drop}
+use Rattle.std.proofs.lemmas.List.{length-append, append-nil, drop-append-le, take-append-drop, map-append}
 use Rattle.std.proofs.lemmas.List.Concat.{flat_map-append}
 use Rattle.zq_base.specs.declared.options.EngineOpts.{EngineOpts}
 use Rattle.zq_base.specs.declared.options.Peer.{Peer}
@@ -11,11 +11,19 @@ use Rattle.spec_zmtp.specs.declared.cause.Refusal.{Refusal}
 use Rattle.spec_zmtp.specs.declared.greeting.Judgement.TheVariants.{Good}
 use Rattle.spec_zmtp.specs.FrameEncoding.{encode_message}
 use Rattle.spec_zmtp.specs.Greeting.{greeting_of, judged, refusal_in}
+use Rattle.spec_zmtp.specs.declared.command.Command.{Command}
+use Rattle.spec_zmtp.specs.Put.{Put, Sends, says, sends, encode_commands}
+use Rattle.spec_zmtp.proofs.FrameLemmas.{same_front}
 use Rattle.spec_zmtp.proofs.StreamLemmas.{judged_stays}
 use Rattle.zmtp_engine.specs.Hearing.{Hearing, Hears, HearsAt, Grows}
 use Rattle.zmtp_engine.specs.Listening.{Listening, Greeted, ListensTo, ListensAt, is_greeted, said_now}
-use Rattle.zmtp_engine.specs.Conversation.{Past, Conversation, Follows, fed, gave, took, wrote, lent}
-use Rattle.zmtp_engine.proofs.Judging.{long_judged}
+use Rattle.zmtp_engine.specs.Speech.{IsModest}
+use Rattle.zmtp_engine.specs.Output.{Output, pieces_of, pieces_in, octets_left, joined, begun_run}
+use Rattle.zmtp_engine.specs.Conversation.{Past, Conversation, Follows, fed, gave, took, wrote, lent, with_output}
+use Rattle.spec_zmtp.proofs.JudgementLemmas.{long_judged}
+use Rattle.zmtp_engine.proofs.Fronts.{kept_said}
+use Rattle.zmtp_engine.proofs.OutputLemmas.{joined-pieces_of, begun_octets, begun_within, begun_idle}
+use Rattle.zmtp_engine.proofs.SaidLemmas.{commands_front, no_octets}
 use Rattle.zmtp_engine.proofs.Meaning.{HeardNothing, heard_nothing, said_at, greeting_said, length-greeting_of}
 
 -- ---- what is said
@@ -112,50 +120,77 @@ said_on opts octets more given given' l new k j g = said_on_at opts octets more 
 
 -- ---- a feed
 
-all_quiet : (written said x y said' extra : List ℕ) (at : ℕ) → at ≤ length said → x ≡ [] → y ≡ [] → written ++ (drop at said ++ x) ≡ said ++ y → said' ≡ said ++ extra → written ++ (drop at said' ++ x) ≡ said' ++ y
-all_quiet written said x y said' extra at le ex ey all grown =
-    let base : written ++ drop at said ≡ said = ap (λ (l : List ℕ). written ++ l) (sym (append-nil (drop at said)) ∙ ap (λ (l : List ℕ). drop at said ++ l) (sym ex)) ∙ all ∙ ap (λ (l : List ℕ). said ++ l) ey ∙ append-nil said in
-    let left : written ++ (drop at (said ++ extra) ++ x) ≡ said ++ extra =
-    ap (λ (l : List ℕ). written ++ (l ++ x)) (drop-append-le at said extra le) ∙ ap (λ (l : List ℕ). written ++ ((drop at said ++ extra) ++ l)) ex ∙ ap (λ (l : List ℕ). written ++ l) (append-nil (drop at said ++ extra))
-    ∙ sym (append_assoc written (drop at said) extra) ∙ ap (λ (l : List ℕ). l ++ extra) base in
-    ap (λ (s : List ℕ). written ++ (drop at s ++ x)) grown ∙ left ∙ sym grown ∙ sym (ap (λ (l : List ℕ). said' ++ l) ey ∙ append-nil said')
+all_quiet : (written run said x y said' extra : List ℕ) (at : ℕ) → at ≤ length said → x ≡ [] → y ≡ [] → written ++ (run ++ (drop at said ++ x)) ≡ said ++ y → said' ≡ said ++ extra → written ++ (run ++ (drop at said' ++ x)) ≡ said' ++ y
+all_quiet written run said x y said' extra at le ex ey all grown =
+    let base : (written ++ run) ++ drop at said ≡ said = append_assoc written run (drop at said) ∙ ap (λ (l : List ℕ). written ++ (run ++ l)) (sym (append-nil (drop at said)) ∙ ap (λ (l : List ℕ). drop at said ++ l) (sym ex)) ∙ all ∙ ap (λ (l : List ℕ). said ++ l) ey ∙ append-nil said in
+    let left : written ++ (run ++ (drop at (said ++ extra) ++ x)) ≡ said ++ extra =
+    ap (λ (l : List ℕ). written ++ (run ++ (l ++ x))) (drop-append-le at said extra le) ∙ ap (λ (l : List ℕ). written ++ (run ++ ((drop at said ++ extra) ++ l))) ex ∙ ap (λ (l : List ℕ). written ++ (run ++ l)) (append-nil (drop at said ++ extra))
+    ∙ sym (append_assoc written run (drop at said ++ extra)) ∙ sym (append_assoc (written ++ run) (drop at said) extra) ∙ ap (λ (l : List ℕ). l ++ extra) base in
+    ap (λ (s : List ℕ). written ++ (run ++ (drop at s ++ x))) grown ∙ left ∙ sym grown ∙ sym (ap (λ (l : List ℕ). said' ++ l) ey ∙ append-nil said')
 
-record OutAll (p : Past) (c : Conversation) (l : Listening) : Type 0 where
-  all : p.written ++ (drop c.at (said_now l) ++ (c.piece ++ c.later)) ≡ said_now l ++ flat_map encode_message p.offered
-  idle : l.hearing.peer ≡ None → (p.offered ≡ []) × ((c.piece ≡ []) × (c.later ≡ []))
+-- these commands are put behind those that were
+record PutOn (p : Past) (c : Conversation) (l : Listening) (f : Follows p c) (more : List Command) : Type 0 where
+  put : p.put ++ says more ≡ says (f.commands ++ more) ++ sends f.messages
+  all : p.written ++ (c.output.run ++ octets_left (said_now l) c.output) ≡ said_now l ++ flat_map encode_message f.messages
+  idle : l.hearing.peer ≡ None → (f.messages ≡ []) × (c.output.later ≡ None)
 
-feeds_at : (p : Past) (c : Conversation) (l : Listening) (q : Option Peer) → c.listening.hearing.peer ≡ q → Follows p c → SaidOn c.listening l → OutAll p c l
-feeds_at p c l None none f s =
+no_messages : (put : List Put) (cs more : List Command) (ms : List (List (List ℕ))) → ms ≡ [] → put ≡ says cs ++ sends ms → put ++ says more ≡ says (cs ++ more) ++ sends ms
+no_messages put cs more ms none e =
+    ap (λ (l : List Put). l ++ says more) (e ∙ ap (λ (m : List (List (List ℕ))). says cs ++ sends m) none ∙ append-nil (says cs)) ∙ sym (map-append _ cs more) ∙ sym (append-nil (says (cs ++ more)))
+    ∙ ap (λ (m : List (List (List ℕ))). says (cs ++ more) ++ sends m) (sym none)
+
+no_commands : (put : List Put) (cs more : List Command) (ms : List (List (List ℕ))) → more ≡ [] → put ≡ says cs ++ sends ms → put ++ says more ≡ says (cs ++ more) ++ sends ms
+no_commands put cs more ms none e =
+    ap (λ (m : List Command). put ++ says m) none ∙ append-nil put ∙ e ∙ ap (λ (l : List Command). says l ++ sends ms) (sym (append-nil cs) ∙ ap (λ (m : List Command). cs ++ m) (sym none))
+
+puts_on : (p : Past) (c : Conversation) (l : Listening) (q : Option Peer) → c.listening.hearing.peer ≡ q → (f : Follows p c) → (s : SaidOn c.listening l) → (more : List Command) → encode_commands more ≡ s.extra → PutOn p c l f more
+puts_on p c l None none f s more e =
     let i = f.idle none in
-    let x : c.piece ++ c.later ≡ [] = ap (λ (a : List ℕ). a ++ c.later) i.1.0 ∙ i.1.1 in
-    let y : flat_map encode_message p.offered ≡ [] = ap (λ (ms : List (List (List ℕ))). flat_map encode_message ms) i.0 in
+    let x : joined (pieces_in c.output.later) ≡ [] = ap (λ (o : Option (List (List ℕ))). joined (pieces_in o)) i.1 in
+    let y : flat_map encode_message f.messages ≡ [] = ap (λ (ms : List (List (List ℕ))). flat_map encode_message ms) i.0 in
     record {
-      all = all_quiet p.written (said_now c.listening) (c.piece ++ c.later) (flat_map encode_message p.offered) (said_now l) s.extra c.at f.within x y f.all s.said;
+      put = no_messages p.put f.commands more f.messages i.0 f.put;
+      all = all_quiet p.written c.output.run (said_now c.listening) (joined (pieces_in c.output.later)) (flat_map encode_message f.messages) (said_now l) s.extra c.output.begun f.within x y f.all s.said;
       idle = λ e. i;
     }
-feeds_at p c l (Some q) some f s =
+puts_on p c l (Some q) some f s more e =
     let quiet = s.quiet (subst (λ (o : Option Peer). IsSome o) (sym some) refl) in
     let same : said_now l ≡ said_now c.listening = s.said ∙ ap (λ (x : List ℕ). said_now c.listening ++ x) quiet.0 ∙ append-nil (said_now c.listening) in
     record {
-      all = subst (λ (x : List ℕ). p.written ++ (drop c.at x ++ (c.piece ++ c.later)) ≡ x ++ flat_map encode_message p.offered) (sym same) f.all;
+      put = no_commands p.put f.commands more f.messages (no_octets more (e ∙ quiet.0)) f.put;
+      all = subst (λ (x : List ℕ). p.written ++ (c.output.run ++ octets_left x c.output) ≡ x ++ flat_map encode_message f.messages) (sym same) f.all;
       idle = λ e. let both : None ≡ Some q = sym e ∙ quiet.1 ∙ some in absurd cc;
     }
 
-pub feeds : (p : Past) (octets : List ℕ) (c : Conversation) (l : Listening) → Follows p c → ListensTo p.opts (p.heard ++ octets) p.given l → Grows c.listening.hearing l.hearing → Follows (fed octets p) (record c { listening = l })
+pub feeds : (p : Past) (octets : List ℕ) (c : Conversation) (l : Listening) → Follows p c → ListensTo p.opts (p.heard ++ octets) p.given l → Grows c.listening.hearing l.hearing → (commands : List Command) × Follows (fed octets commands p) (record c { listening = l })
 feeds p octets c l f j g =
     let s = said_on p.opts p.heard octets p.given p.given c.listening l f.listens j g in
-    let o = feeds_at p c l c.listening.hearing.peer refl f s in
-    record {
-      listens = j;
-      within = omega (arith, f.within, ap (λ (x : List ℕ). length x) s.said, length-append (said_now c.listening) s.extra);
-      all = o.all;
-      idle = o.idle;
-    }
+    let k = kept_said p.opts (p.heard ++ octets) p.given l f.opts j in
+    let m : IsModest k.0 = k.2 in
+    let greeting : List ℕ = greeting_of p.opts.role in
+    let split : greeting ++ (encode_commands f.commands ++ s.extra) ≡ greeting ++ encode_commands k.0 =
+    sym (append_assoc greeting (encode_commands f.commands) s.extra) ∙ ap (λ (x : List ℕ). x ++ s.extra) (sym f.said) ∙ sym s.said ∙ k.1 in
+    let z = commands_front f.commands k.0 s.extra f.modest.1 m.1 (same_front greeting greeting (encode_commands f.commands ++ s.extra) (encode_commands k.0) refl split).1 in
+    let o = puts_on p c l c.listening.hearing.peer refl f s z.0 z.2 in (
+      z.0,
+      record {
+        opts = f.opts;
+        listens = j;
+        commands = f.commands ++ z.0;
+        messages = f.messages;
+        put = o.put;
+        modest = subst (λ (cs : List Command). IsModest cs) z.1 m;
+        said = k.1 ∙ ap (λ (cs : List Command). greeting ++ encode_commands cs) z.1;
+        within = omega (arith, f.within, ap (λ (x : List ℕ). length x) s.said, length-append (said_now c.listening) s.extra);
+        all = o.all;
+        idle = o.idle;
+      },
+    )
 
--- ---- a message taken out
+-- ---- messages taken out
 
-gave_at : (opts : EngineOpts) (octets : List ℕ) (given rest : List (List (List ℕ))) (m : List (List ℕ)) (h : Hearing) (r : Option Refusal) → h.queue ≡ m ∷ rest → HearsAt opts octets given h r → HearsAt opts octets (given ++ m ∷ []) (record h { queue = rest }) r
-gave_at opts octets given rest m h None q l = record {
+gave_at : (opts : EngineOpts) (octets : List ℕ) (given ms rest : List (List (List ℕ))) (h : Hearing) (r : Option Refusal) → h.queue ≡ ms ++ rest → HearsAt opts octets given h r → HearsAt opts octets (given ++ ms) (record h { queue = rest }) r
+gave_at opts octets given ms rest h None q l = record {
   frames = l.frames;
   rest = l.rest;
   all = l.all;
@@ -164,13 +199,13 @@ gave_at opts octets given rest m h None q l = record {
   stage = l.stage;
   unrefused = l.unrefused;
   parts = l.parts;
-  whole = l.whole ∙ ap (λ (x : List (List (List ℕ))). given ++ x) q ∙ sym (append_assoc given (m ∷ []) rest);
+  whole = l.whole ∙ ap (λ (x : List (List (List ℕ))). given ++ x) q ∙ sym (append_assoc given ms rest);
   offset = l.offset;
   begun = l.begun;
   earlier = l.earlier;
   begins = l.begins;
 }
-gave_at opts octets given rest m h (Some r) q s = record {
+gave_at opts octets given ms rest h (Some r) q s = record {
   frames = s.frames;
   rest = s.rest;
   items = s.items;
@@ -178,70 +213,90 @@ gave_at opts octets given rest m h (Some r) q s = record {
   keep = s.keep;
   breaks = s.breaks;
   shaken = record { opts_is = s.shaken.opts_is; said = s.shaken.said; peer = s.shaken.peer };
-  whole = s.whole ∙ ap (λ (x : List (List (List ℕ))). given ++ x) q ∙ sym (append_assoc given (m ∷ []) rest);
+  whole = s.whole ∙ ap (λ (x : List (List (List ℕ))). given ++ x) q ∙ sym (append_assoc given ms rest);
   offset = s.offset;
 }
 
-gave_listens : (opts : EngineOpts) (octets : List ℕ) (given rest : List (List (List ℕ))) (m : List (List ℕ)) (l : Listening) (f : Option Refusal) → l.hearing.queue ≡ m ∷ rest → ListensAt opts octets given l f → ListensAt opts octets (given ++ m ∷ []) (record l { hearing = record l.hearing { queue = rest } }) f
-gave_listens opts octets given rest m l None q g = record { more = g.more; all = g.all; fine = g.fine; fits = g.fits; short = g.short; hears = gave_at opts g.more given rest m l.hearing l.hearing.refused q g.hears; role = g.role }
-gave_listens opts octets given rest m l (Some f) q s = record { front = s.front; rest = s.rest; all = s.all; bad = s.bad; hears = gave_at opts [] given rest m l.hearing l.hearing.refused q s.hears; role = s.role }
+gave_listens : (opts : EngineOpts) (octets : List ℕ) (given ms rest : List (List (List ℕ))) (l : Listening) (f : Option Refusal) → l.hearing.queue ≡ ms ++ rest → ListensAt opts octets given l f → ListensAt opts octets (given ++ ms) (record l { hearing = record l.hearing { queue = rest } }) f
+gave_listens opts octets given ms rest l None q g = record { more = g.more; all = g.all; fine = g.fine; fits = g.fits; short = g.short; hears = gave_at opts g.more given ms rest l.hearing l.hearing.refused q g.hears; role = g.role }
+gave_listens opts octets given ms rest l (Some f) q s = record { front = s.front; rest = s.rest; all = s.all; bad = s.bad; hears = gave_at opts [] given ms rest l.hearing l.hearing.refused q s.hears; role = s.role }
 
-pub gives : (p : Past) (m : List (List ℕ)) (rest : List (List (List ℕ))) (c : Conversation) → c.listening.hearing.queue ≡ m ∷ rest → Follows p c → Follows (gave m p) (record c { listening = record c.listening { hearing = record c.listening.hearing { queue = rest } } })
-gives p m rest c q f = record { listens = gave_listens p.opts p.heard p.given rest m c.listening c.listening.fault q f.listens; within = f.within; all = f.all; idle = f.idle }
+-- the same with these messages waiting
+abbrev pub with_queue : List (List (List ℕ)) → Conversation → Conversation
+with_queue rest c = record c { listening = record c.listening { hearing = record c.listening.hearing { queue = rest } } }
+
+pub gives : (p : Past) (ms rest : List (List (List ℕ))) (c : Conversation) → c.listening.hearing.queue ≡ ms ++ rest → Follows p c → Follows (gave ms p) (with_queue rest c)
+gives p ms rest c q f = record {
+  opts = f.opts;
+  listens = gave_listens p.opts p.heard p.given ms rest c.listening c.listening.fault q f.listens;
+  commands = f.commands;
+  messages = f.messages;
+  put = f.put;
+  modest = f.modest;
+  said = f.said;
+  within = f.within;
+  all = f.all;
+  idle = f.idle;
+}
 
 -- ---- a message taken in
 
-pub takes : (p : Past) (m : List (List ℕ)) (piece later : List ℕ) (c : Conversation) → IsSome c.listening.hearing.peer → c.piece ≡ [] → c.later ≡ [] → piece ++ later ≡ encode_message m → Follows p c → Follows (took m p) (record c { piece = piece; later = later })
-takes p m piece later c some np nl is f =
+pub takes : (p : Past) (m : List (List ℕ)) (c : Conversation) → IsSome c.listening.hearing.peer → c.output.later ≡ None → Follows p c → Follows (took m p) (with_output (record c.output { later = Some (pieces_of m) }) c)
+takes p m c some none f =
     let said : List ℕ = said_now c.listening in
-    let sent : List ℕ = flat_map encode_message p.offered in
-    let none : c.piece ++ c.later ≡ [] = ap (λ (a : List ℕ). a ++ c.later) np ∙ nl in
-    let base : p.written ++ drop c.at said ≡ said ++ sent = ap (λ (l : List ℕ). p.written ++ l) (sym (append-nil (drop c.at said)) ∙ ap (λ (l : List ℕ). drop c.at said ++ l) (sym none)) ∙ f.all in
-    let more : flat_map encode_message (p.offered ++ m ∷ []) ≡ sent ++ encode_message m = flat_map-append encode_message p.offered (m ∷ []) ∙ ap (λ (l : List ℕ). sent ++ l) (append-nil (encode_message m)) in
+    let sent : List ℕ = flat_map encode_message f.messages in
+    let front : List ℕ = c.output.run ++ drop c.output.begun said in
+    let left : c.output.run ++ octets_left said c.output ≡ front =
+    ap (λ (o : Option (List (List ℕ))). c.output.run ++ (drop c.output.begun said ++ joined (pieces_in o))) none ∙ ap (λ (l : List ℕ). c.output.run ++ l) (append-nil (drop c.output.begun said)) in
+    let base : p.written ++ front ≡ said ++ sent = ap (λ (l : List ℕ). p.written ++ l) (sym left) ∙ f.all in
+    let more : flat_map encode_message (f.messages ++ m ∷ []) ≡ sent ++ encode_message m = flat_map-append encode_message f.messages (m ∷ []) ∙ ap (λ (l : List ℕ). sent ++ l) (append-nil (encode_message m)) in
     record {
+      opts = f.opts;
       listens = f.listens;
+      commands = f.commands;
+      messages = f.messages ++ m ∷ [];
+      put = ap (λ (l : List Put). l ++ Sends m ∷ []) f.put ∙ append_assoc (says f.commands) (sends f.messages) (Sends m ∷ []) ∙ ap (λ (l : List Put). says f.commands ++ l) (sym (map-append _ f.messages (m ∷ [])));
+      modest = f.modest;
+      said = f.said;
       within = f.within;
-      all = ap (λ (l : List ℕ). p.written ++ (drop c.at said ++ l)) is ∙ sym (append_assoc p.written (drop c.at said) (encode_message m)) ∙ ap (λ (l : List ℕ). l ++ encode_message m) base ∙ append_assoc said sent (encode_message m) ∙ ap (λ (l : List ℕ). said ++ l) (sym more);
+      all = ap (λ (l : List ℕ). p.written ++ (c.output.run ++ (drop c.output.begun said ++ l))) (joined-pieces_of m) ∙ ap (λ (l : List ℕ). p.written ++ l) (sym (append_assoc c.output.run (drop c.output.begun said) (encode_message m)))
+          ∙ sym (append_assoc p.written front (encode_message m)) ∙ ap (λ (l : List ℕ). l ++ encode_message m) base ∙ append_assoc said sent (encode_message m) ∙ ap (λ (l : List ℕ). said ++ l) (sym more);
       idle = λ e. absurd (no_peer c.listening.hearing.peer e some);
     }
 
 -- ---- octets written
 
-pub lent_said : (c : Conversation) → c.at < length (said_now c.listening) → lent c ≡ drop c.at (said_now c.listening)
-lent_said c lt = ap (λ (b : Bool). cond b (drop c.at (said_now c.listening)) c.piece) (lt-ltb c.at (length (said_now c.listening)) lt)
-
-pub lent_piece : (c : Conversation) → length (said_now c.listening) ≤ c.at → lent c ≡ c.piece
-lent_piece c le = ap (λ (b : Bool). cond b (drop c.at (said_now c.listening)) c.piece) (le-ltb c.at (length (said_now c.listening)) le)
-
-pub writes_said : (p : Past) (n : ℕ) (c : Conversation) → c.at < length (said_now c.listening) → n ≤ length (lent c) → Follows p c → Follows (wrote (take n (lent c)) p) (record c { at = c.at + n })
-writes_said p n c lt le f =
-    let said : List ℕ = said_now c.listening in
-    let is = lent_said c lt in
-    let rest : List ℕ = c.piece ++ c.later in
-    let split : take n (lent c) ++ drop (c.at + n) said ≡ drop c.at said = ap (λ (l : List ℕ). take n l ++ drop (c.at + n) said) is ∙ ap (λ (l : List ℕ). take n (drop c.at said) ++ l) (sym (drop-drop n c.at said)) ∙ take-append-drop n (drop c.at said) in
+pub writes : (p : Past) (n : ℕ) (c : Conversation) → Follows p c → Follows (wrote (take n (lent c)) p) (with_output (record c.output { run = drop n (lent c) }) c)
+writes p n c f =
+    let run : List ℕ = c.output.run in
+    let rest : List ℕ = octets_left (said_now c.listening) c.output in
     record {
+      opts = f.opts;
       listens = f.listens;
-      within = omega (arith, le, ap (λ (l : List ℕ). length l) is, length-drop c.at said, lt);
-      all = append_assoc p.written (take n (lent c)) (drop (c.at + n) said ++ rest) ∙ ap (λ (l : List ℕ). p.written ++ l) (sym (append_assoc (take n (lent c)) (drop (c.at + n) said) rest) ∙ ap (λ (l : List ℕ). l ++ rest) split) ∙ f.all;
+      commands = f.commands;
+      messages = f.messages;
+      put = f.put;
+      modest = f.modest;
+      said = f.said;
+      within = f.within;
+      all = append_assoc p.written (take n run) (drop n run ++ rest) ∙ ap (λ (l : List ℕ). p.written ++ l) (sym (append_assoc (take n run) (drop n run) rest) ∙ ap (λ (l : List ℕ). l ++ rest) (take-append-drop n run)) ∙ f.all;
       idle = f.idle;
     }
 
-both_none : (a b : List ℕ) → a ++ b ≡ [] → (a ≡ []) × (b ≡ [])
-both_none [] b e = (refl, e)
-both_none (x ∷ a) b e = absurd cc
+-- ---- a run begun
 
-pub writes_piece : (p : Past) (n : ℕ) (piece later : List ℕ) (c : Conversation) → length (said_now c.listening) ≤ c.at → piece ++ later ≡ drop n c.piece ++ c.later → Follows p c → Follows (wrote (take n (lent c)) p) (record c { piece = piece; later = later })
-writes_piece p n piece later c le is f =
+pub begins : (p : Past) (c : Conversation) → Follows p c → Follows p (with_output (begun_run (said_now c.listening) c.output) c)
+begins p c f =
     let said : List ℕ = said_now c.listening in
-    let none : drop c.at said ≡ [] = drop_all c.at said le in
-    let split : take n (lent c) ++ (piece ++ later) ≡ c.piece ++ c.later =
-    ap (λ (l : List ℕ). take n l ++ (piece ++ later)) (lent_piece c le) ∙ ap (λ (l : List ℕ). take n c.piece ++ l) is ∙ sym (append_assoc (take n c.piece) (drop n c.piece) c.later) ∙ ap (λ (l : List ℕ). l ++ c.later) (take-append-drop n c.piece) in
     record {
+      opts = f.opts;
       listens = f.listens;
-      within = f.within;
-      all = ap (λ (l : List ℕ). (p.written ++ take n (lent c)) ++ (l ++ (piece ++ later))) none ∙ append_assoc p.written (take n (lent c)) (piece ++ later) ∙ ap (λ (l : List ℕ). p.written ++ l) split ∙ ap (λ (l : List ℕ). p.written ++ (l ++ (c.piece ++ c.later))) (sym none) ∙ f.all;
-      idle = λ e.
-          let i = f.idle e in
-          let over = both_none (take n (lent c)) (piece ++ later) (split ∙ ap (λ (a : List ℕ). a ++ c.later) i.1.0 ∙ i.1.1) in
-          (i.0, both_none piece later over.1);
+      commands = f.commands;
+      messages = f.messages;
+      put = f.put;
+      modest = f.modest;
+      said = f.said;
+      within = begun_within said c.output f.within;
+      all = ap (λ (l : List ℕ). p.written ++ l) (begun_octets said c.output) ∙ f.all;
+      idle = λ e. let i = f.idle e in (i.0, begun_idle said c.output i.1);
     }

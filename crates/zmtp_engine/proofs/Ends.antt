@@ -21,7 +21,8 @@ use Rattle.spec_zmtp.specs.FrameRules.{Gathered, gathered, gather_at, bodies, it
 use Rattle.spec_zmtp.specs.Greeting.{greeting_of}
 use Rattle.spec_zmtp.specs.Metadata.{encode_command}
 use Rattle.spec_zmtp.specs.Handshake.{Item, MessageFrame, Handshake, handshake, next, is_running, stage_refusal}
-use Rattle.spec_zmtp.specs.DecodedStream.{stream_of, encode_commands, offset_of}
+use Rattle.spec_zmtp.specs.DecodedStream.{stream_of, offset_of}
+use Rattle.spec_zmtp.specs.Put.{encode_commands}
 use Rattle.spec_zmtp.proofs.FlagLemmas.{flags_of, flags_at-flags_octet}
 use Rattle.spec_zmtp.proofs.RuleLemmas.{stream_of-push, items_of-push, gathered-push, AllKeep-push}
 use Rattle.spec_zmtp.proofs.HandshakeLemmas.{handshake-more}

@@ -2,7 +2,7 @@
 use Rattle.std.proofs.Common.{◌≡◌, ℕ, suc, ◌+◌, ◌<◌, ◌≤◌, Bool, cond, ltb, eqb, List, [], ◌∷◌, ◌++◌, length, Option, Some, None, refl, sym, ap, subst, inl, inr, ◌∙◌, append_assoc, arith}
 use Rattle.std.specs.Prelude.{◌⊎◌, IsSome, All}
 use Rattle.std.specs.List.{flat_map}
-use Rattle.std.proofs.lemmas.Bool.{cases_lt, lt-ltb, le-ltb, ne_eqb}
+use Rattle.std.proofs.lemmas.Bool.{ne_eqb}
 use Rattle.std.proofs.lemmas.List.{append-nil, length-append, nil_from_length}
 use Rattle.std.proofs.lemmas.List.Concat.{flat_map-cons}
 use Rattle.zq_base.specs.declared.options.EngineOpts.{EngineOpts}
@@ -18,18 +18,19 @@ use Rattle.spec_zmtp.specs.declared.handshake.Awaited.{Awaited}
 use Rattle.spec_zmtp.specs.declared.handshake.Stage.{Stage}
 use Rattle.spec_zmtp.specs.declared.handshake.Stage.TheVariants.{Waiting, Running, Refused}
 use Rattle.spec_zmtp.specs.FrameFlags.{limit}
-use Rattle.spec_zmtp.specs.FrameEncoding.{WireFrame, FitsSize, octets_of, encode_frame, encode_message}
+use Rattle.spec_zmtp.specs.FrameEncoding.{WireFrame, octets_of, encode_frame, encode_message}
 use Rattle.spec_zmtp.specs.FrameRules.{Gathered, gathered, bodies, items_of, item_at, item_refusal, flags_refusal, kind_refusal, Keeps, AllKeep, at_flags}
-use Rattle.spec_zmtp.specs.Greeting.{greeting_of}
 use Rattle.spec_zmtp.specs.Handshake.{Item, MessageFrame, Handshake, silent, followed_by, handshake, handshake_as, next, stage_refusal}
-use Rattle.spec_zmtp.specs.DecodedStream.{Decoded, Decodes, Outcome, Unfinished, greeting_unfinished, greeting_refused, unfinished, refused, stream_of, encode_commands, behind_frames, unfinished_behind, refused_behind, IsStream}
+use Rattle.spec_zmtp.specs.DecodedStream.{Decoded, Decodes, octets_said, Outcome, Unfinished, greeting_unfinished, greeting_refused, unfinished, refused, stream_of, behind_frames, unfinished_behind, refused_behind, IsStream}
+use Rattle.spec_zmtp.specs.Put.{IsSendable, messages_in}
 use Rattle.spec_zmtp.proofs.FlagLemmas.{flags_at-flags_octet}
 use Rattle.spec_zmtp.proofs.HandshakeLemmas.{handshake-more, peer-waiting}
+use Rattle.spec_zmtp.proofs.SizeLemmas.{fits_size}
 use Rattle.spec_zmtp.proofs.RuleLemmas.{stream_of-push, items_of-push, gathered-push, AllKeep-push}
 use Rattle.spec_zmtp.proofs.StreamLemmas.{one_meaning}
-use Rattle.zmtp_engine.specs.Conversation.{Past, Conversation, Follows, IsCurrent, unwritten}
-use Rattle.zmtp_engine.specs.Exchange.{IsSendable, IsHandshake}
-use Rattle.zmtp_engine.proofs.Calls.{out_means}
+use Rattle.zmtp_engine.specs.Conversation.{Past, Conversation, Follows, IsCurrent, unwritten, waiting}
+use Rattle.zmtp_engine.specs.Exchange.{IsHandshake}
+use Rattle.zmtp_engine.proofs.Calls.{messages_put}
 use Rattle.zmtp_engine.proofs.Ends.{parts_after, queue_after, gathered_parts, gathered_whole, or_none}
 use Rattle.zmtp_engine.proofs.Meaning.{means}
 use Rattle.zmtp_engine.proofs.Verdicts.{kind_is}
@@ -43,13 +44,6 @@ pub record Runs (opts : EngineOpts) (octets : List ℕ) (h : Handshake) (whole :
   pub parts_are : parts ≡ bodies (gathered frames).unfinished
 
 -- ---- one frame more
-
-pub fits_size : (n : ℕ) → n ≤ 16777216 → FitsSize (ltb 255 n) n
-fits_size n le =
-    elim (cases_lt 255 n) [
-      | inl lt ↦ subst (λ (b : Bool). FitsSize b n) (sym (lt-ltb 255 n lt)) (omega arith)
-      | inr ge ↦ subst (λ (b : Bool). FitsSize b n) (sym (le-ltb 255 n ge)) (omega arith)
-    ]
 
 limit_is : (k : FrameKind) → (k ≡ Last) ⊎ (k ≡ More) → limit k ≡ 16777216
 limit_is k (inl e) = ap limit e
@@ -139,7 +133,7 @@ messages_more opts octets h whole (m ∷ ms) run all r =
 -- ---- what whole frames mean
 
 abbrev pub decoded_at : EngineOpts → Handshake → List (List (List ℕ)) → Decoded
-decoded_at opts h whole = record { said = greeting_of opts.role ++ encode_commands h.said; peer = h.peer; messages = whole; outcome = Unfinished 0 }
+decoded_at opts h whole = record { said = h.said; peer = h.peer; messages = whole; outcome = Unfinished 0 }
 
 no_bodies : (fs : List WireFrame) → [] ≡ bodies fs → fs ≡ []
 no_bodies [] e = refl
@@ -150,9 +144,9 @@ runs_mean opts octets h whole r =
     let shaken : handshake opts (items_of r.frames ++ []) ≡ h = ap (λ (i : List Item). handshake opts i) (append-nil (items_of r.frames)) ∙ r.shaken in
     let none : (gathered r.frames).unfinished ≡ [] = no_bodies (gathered r.frames).unfinished r.parts_are in
     let is : behind_frames opts r.frames [] (unfinished_behind r.frames []) ≡ decoded_at opts h whole =
-    ap (λ (x : Handshake). record { said = greeting_of opts.role ++ encode_commands x.said; peer = x.peer; messages = (gathered r.frames).whole; outcome = unfinished_behind r.frames [] }) shaken
-    ∙ ap (λ (w : List (List (List ℕ))). record { said = greeting_of opts.role ++ encode_commands h.said; peer = h.peer; messages = w; outcome = unfinished_behind r.frames [] }) r.whole_is
-    ∙ ap (λ (u : List WireFrame). record { said = greeting_of opts.role ++ encode_commands h.said; peer = h.peer; messages = whole; outcome = Unfinished (length (stream_of u) + 0) }) none in
+    ap (λ (x : Handshake). record { said = x.said; peer = x.peer; messages = (gathered r.frames).whole; outcome = unfinished_behind r.frames [] }) shaken
+    ∙ ap (λ (w : List (List (List ℕ))). record { said = h.said; peer = h.peer; messages = w; outcome = unfinished_behind r.frames [] }) r.whole_is
+    ∙ ap (λ (u : List WireFrame). record { said = h.said; peer = h.peer; messages = whole; outcome = Unfinished (length (stream_of u) + 0) }) none in
     unfinished r.frames [] r.stream (at_flags refl) (sym is)
 
 -- ---- a whole handshake
@@ -210,9 +204,9 @@ at_rest opts octets d fs x s is known whole =
         whole_is = sym messages;
         parts_are = sym (ap bodies none);
       };
-      is = is ∙ ap (λ (y : Handshake). record { said = greeting_of opts.role ++ encode_commands y.said; peer = y.peer; messages = (gathered fs).whole; outcome = unfinished_behind fs x }) same
-          ∙ ap (λ (w : List (List (List ℕ))). record { said = greeting_of opts.role ++ encode_commands h.said; peer = h.peer; messages = w; outcome = unfinished_behind fs x }) (sym messages)
-          ∙ ap (λ (o : Outcome). record { said = greeting_of opts.role ++ encode_commands h.said; peer = h.peer; messages = d.messages; outcome = o }) (sym (ap (λ (e : Decoded). e.outcome) is) ∙ whole);
+      is = is ∙ ap (λ (y : Handshake). record { said = y.said; peer = y.peer; messages = (gathered fs).whole; outcome = unfinished_behind fs x }) same
+          ∙ ap (λ (w : List (List (List ℕ))). record { said = h.said; peer = h.peer; messages = w; outcome = unfinished_behind fs x }) (sym messages)
+          ∙ ap (λ (o : Outcome). record { said = h.said; peer = h.peer; messages = d.messages; outcome = o }) (sym (ap (λ (e : Decoded). e.outcome) is) ∙ whole);
     }
 
 is_done : (opts : EngineOpts) (octets : List ℕ) (d : Decoded) → Decodes opts octets d → IsSome d.peer → d.outcome ≡ Unfinished 0 → Done opts octets d
@@ -227,7 +221,8 @@ is_done opts octets d (refused fs x cause heard s breaks is) known whole =
 abbrev with_messages : List (List (List ℕ)) → Decoded → Decoded
 with_messages ms d = record d { messages = ms }
 
-messages_behind : (opts : EngineOpts) (octets : List ℕ) (d : Decoded) (ms : List (List (List ℕ))) → IsHandshake opts octets d → All IsSendable ms → Decodes opts (octets ++ flat_map encode_message ms) (record d { messages = ms })
+-- messages behind a whole handshake are decoded to those messages
+pub messages_behind : (opts : EngineOpts) (octets : List ℕ) (d : Decoded) (ms : List (List (List ℕ))) → IsHandshake opts octets d → All IsSendable ms → Decodes opts (octets ++ flat_map encode_message ms) (record d { messages = ms })
 messages_behind opts octets d ms shake all =
     let x = is_done opts octets d shake.decodes shake.known shake.whole in
     let runs = messages_more opts octets x.shaken d.messages ms x.run all x.runs in
@@ -237,17 +232,22 @@ messages_behind opts octets d ms shake all =
     (subst (λ (w : List (List (List ℕ))). Decodes opts (octets ++ flat_map encode_message ms) (decoded_at opts x.shaken w)) only
     (runs_mean opts (octets ++ flat_map encode_message ms) x.shaken (d.messages ++ ms) runs))
 
-pub decodes_as_offered : (p : Past) (c : Conversation) (said : Decoded) (other : EngineOpts) (heard : Decoded) → Follows p c → IsCurrent c → unwritten c ≡ [] → All IsSendable p.offered → Decodes p.opts p.heard said → IsHandshake other said.said heard → Decodes other p.written (record heard { messages = p.offered })
-decodes_as_offered p c said other heard f now none all is shake =
-    let k = out_means p c f now in
-    let same : k.0 ≡ said = one_meaning p.opts p.heard k.0 said k.1 is in
-    let written_is : p.written ≡ said.said ++ flat_map encode_message p.offered =
-    sym (append-nil p.written) ∙ ap (λ (l : List ℕ). p.written ++ l) (sym none) ∙ k.2 ∙ ap (λ (d : Decoded). d.said ++ flat_map encode_message p.offered) same in
-    subst (λ (o : List ℕ). Decodes other o (record heard { messages = p.offered })) (sym written_is) (messages_behind other said.said heard p.offered shake all)
+-- all that an engine says and was offered is written
+pub all_written : (p : Past) (c : Conversation) (said : Decoded) → Follows p c → IsCurrent c → unwritten c ≡ [] → Decodes p.opts p.heard said → p.written ≡ octets_said p.opts said ++ flat_map encode_message (messages_in p.put)
+all_written p c said f now none is =
+    let m = means p.opts p.heard p.given c.listening f.listens now in
+    let same : m.0 ≡ said = one_meaning p.opts p.heard m.0 said m.1.decodes is in
+    sym (append-nil p.written) ∙ ap (λ (l : List ℕ). p.written ++ l) (sym none) ∙ f.all
+    ∙ ap (λ (l : List ℕ). l ++ flat_map encode_message f.messages) (sym m.1.said ∙ ap (λ (d : Decoded). octets_said p.opts d) same)
+    ∙ ap (λ (ms : List (List (List ℕ))). octets_said p.opts said ++ flat_map encode_message ms) (sym (messages_put p c f))
 
-pub hears_as_offered : (p q : Past) (c e : Conversation) (said heard : Decoded) → Follows p c → IsCurrent c → unwritten c ≡ [] → All IsSendable p.offered → Decodes p.opts p.heard said → Follows q e → IsCurrent e → q.heard ≡ p.written → IsHandshake q.opts said.said heard → q.given ++ e.listening.hearing.queue ≡ p.offered
+pub decodes_as_offered : (p : Past) (c : Conversation) (said : Decoded) (other : EngineOpts) (heard : Decoded) → Follows p c → IsCurrent c → unwritten c ≡ [] → All IsSendable (messages_in p.put) → Decodes p.opts p.heard said → IsHandshake other (octets_said p.opts said) heard → Decodes other p.written (record heard { messages = messages_in p.put })
+decodes_as_offered p c said other heard f now none all is shake =
+    subst (λ (o : List ℕ). Decodes other o (record heard { messages = messages_in p.put })) (sym (all_written p c said f now none is)) (messages_behind other (octets_said p.opts said) heard (messages_in p.put) shake all)
+
+pub hears_as_offered : (p q : Past) (c e : Conversation) (said heard : Decoded) → Follows p c → IsCurrent c → unwritten c ≡ [] → All IsSendable (messages_in p.put) → Decodes p.opts p.heard said → Follows q e → IsCurrent e → q.heard ≡ p.written → IsHandshake q.opts (octets_said p.opts said) heard → q.given ++ waiting e ≡ messages_in p.put
 hears_as_offered p q c e said heard f now none all is g now' same shake =
     let d = decodes_as_offered p c said q.opts heard f now none all is shake in
     let k = means q.opts q.heard q.given e.listening g.listens now' in
-    let one : k.0 ≡ record heard { messages = p.offered } = one_meaning q.opts p.written k.0 (record heard { messages = p.offered }) (subst (λ (o : List ℕ). Decodes q.opts o k.0) same k.1.decodes) d in
+    let one : k.0 ≡ record heard { messages = messages_in p.put } = one_meaning q.opts p.written k.0 (record heard { messages = messages_in p.put }) (subst (λ (o : List ℕ). Decodes q.opts o k.0) same k.1.decodes) d in
     sym k.1.messages ∙ ap (λ (x : Decoded). x.messages) one

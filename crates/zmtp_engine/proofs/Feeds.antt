@@ -1,6 +1,7 @@
 -- One step after what was heard, and whole feeds.
 use Rattle.std.proofs.Common.{◌≡◌, ℕ, ◌+◌, ◌-◌, true, false, List, ◌++◌, length, take, drop, Option, Some, None, refl, sym, ap, subst, ◌∙◌, append_assoc, arith}
 use Rattle.std.specs.Option.{is_some}
+use Rattle.std.specs.Prelude.{IsSome}
 use Rattle.std.proofs.lemmas.List.{take-append-drop, take-take, drop-take, take_rest}
 use Rattle.zq_base.specs.declared.options.EngineOpts.{EngineOpts}
 use Rattle.spec_zmtp.specs.declared.cause.Refusal.{Refusal}
@@ -36,7 +37,7 @@ pub was_refused : (o : Option Refusal) → is_some o ≡ true → (r : Refusal) 
 was_refused None e = absurd cc
 was_refused (Some r) e = (r, refl)
 
-take_add : (n k : ℕ) (xs : List ℕ) → take (n + k) xs ≡ take n xs ++ take k (drop n xs)
+pub take_add : (n k : ℕ) (xs : List ℕ) → take (n + k) xs ≡ take n xs ++ take k (drop n xs)
 take_add n k xs = sym (take-append-drop n (take (n + k) xs)) ∙ rw (take-take n (n + k) xs (omega arith), drop-take n k xs) refl
 
 -- one step after what was heard
@@ -63,3 +64,7 @@ head_at (SawTooLong size) opts octets given h e l none =
 
 pub in_head_now : (opts : EngineOpts) (octets : List ℕ) (given : List (List (List ℕ))) (h : Hearing) → Listens opts octets given h → left_at h.reader ≡ None → (begun : List ℕ) × (h.reader ≡ InHead begun)
 in_head_now opts octets given h l none = head_at h.reader opts octets given h refl l none
+
+pub some_refused : (o : Option Refusal) → IsSome o → (r : Refusal) × (o ≡ Some r)
+some_refused None some = absurd cc
+some_refused (Some r) some = (r, refl)

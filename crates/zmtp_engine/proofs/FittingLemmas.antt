@@ -30,16 +30,18 @@ use Rattle.spec_zmtp.specs.Decoding.{decode_command, decode_meta}
 use Rattle.spec_zmtp.specs.PeerMetadata.{value_of, kind_named, fits, is_identity, peer_fitting, peer_of, peer_from}
 use Rattle.spec_zmtp.specs.OwnCommands.{IsEngineOpts, tells_identity, own_properties, own_login, our_ready, our_initiate, our_hello, our_welcome, our_error}
 use Rattle.spec_zmtp.specs.Handshake.{Item, Told, Malformed, MessageFrame, Handshake, told, silent, saying, misplaced, met, ready_awaited, is_welcome, peer_awaited, welcome_awaited, hello_awaited, initiate_awaited, handshake, handshake_as, stage_refusal}
-use Rattle.spec_zmtp.specs.DecodedStream.{Decoded, Decodes, Unfinished, greeting_unfinished, greeting_refused, unfinished, refused, encode_commands, IsStream}
+use Rattle.spec_zmtp.specs.DecodedStream.{Decoded, Decodes, octets_said, Unfinished, greeting_unfinished, greeting_refused, unfinished, refused, IsStream}
+use Rattle.spec_zmtp.specs.Put.{IsSendable, encode_commands, messages_in}
 use Rattle.spec_zmtp.proofs.CommandLemmas.{decode_command-encode_command}
 use Rattle.spec_zmtp.proofs.FlagLemmas.{flags_at-flags_octet}
 use Rattle.spec_zmtp.proofs.MetadataLemmas.{decode_meta-encode_meta}
+use Rattle.spec_zmtp.proofs.SizeLemmas.{fits_size}
 use Rattle.spec_zmtp.proofs.RuleLemmas.{items_of-push, gathered-push}
 use Rattle.zmtp_mech.specs.Mechanism.{IsSayable}
 use Rattle.zmtp_mech.proofs.SayableLemmas.{ready_sayable, initiate_sayable, hello_sayable, welcome_sayable, short_identity}
-use Rattle.zmtp_engine.specs.Conversation.{Past, Conversation, Follows, IsCurrent, unwritten}
-use Rattle.zmtp_engine.specs.Exchange.{IsSendable, IsHandshake, RolesMeet, Fitting, as_told}
-use Rattle.zmtp_engine.proofs.Exchanges.{runs_mean, decoded_at, fits_size, written, stream_push, no_some, decodes_as_offered, hears_as_offered}
+use Rattle.zmtp_engine.specs.Conversation.{Past, Conversation, Follows, IsCurrent, unwritten, waiting}
+use Rattle.zmtp_engine.specs.Exchange.{IsHandshake, RolesMeet, Fitting, as_told}
+use Rattle.zmtp_engine.proofs.Exchanges.{runs_mean, decoded_at, written, stream_push, no_some, decodes_as_offered, hears_as_offered}
 use Rattle.zmtp_engine.proofs.Meaning.{length-greeting_of}
 
 -- ---- what is told of oneself
@@ -104,7 +106,7 @@ peer_is ours k id f i =
     ∙ peer_fits ours k (cond (tells_identity k) id []) f (is_identity_at (tells_identity k) id i)
 
 -- the metadata of a side is that peer to another
-peer_told : (ours : Kind) (opts : EngineOpts) → IsEngineOpts opts → fits ours opts.kind ≡ true → peer_from ours (decode_meta (encode_meta (own_properties opts))) ≡ Ok (as_told opts)
+pub peer_told : (ours : Kind) (opts : EngineOpts) → IsEngineOpts opts → fits ours opts.kind ≡ true → peer_from ours (decode_meta (encode_meta (own_properties opts))) ≡ Ok (as_told opts)
 peer_told ours opts h f =
     ap (λ (o : Option (List Property)). peer_from ours o) (decode_meta-encode_meta (own_properties opts) (all_properties opts.kind opts.id (short_identity opts.id h.identity)))
     ∙ peer_is ours opts.kind opts.id f h.identity
@@ -159,20 +161,20 @@ hello_awaited_said opts (Told c ∷ heard) known =
     server_said false d x y z said h none none' known = absurd (no_some y.peer none known)
 
 -- once the peer is known, all is said
-handshake_said : (role : Role) (opts : EngineOpts) (heard : List Item) → IsSome (handshake_as role opts heard).peer → (handshake_as role opts heard).said ≡ whole_said role opts
+pub handshake_said : (role : Role) (opts : EngineOpts) (heard : List Item) → IsSome (handshake_as role opts heard).peer → (handshake_as role opts heard).said ≡ whole_said role opts
 handshake_said Null opts heard known = ap (λ (l : List Command). our_ready opts ∷ l) (peer_awaited_said opts awaited.Ready (codes "READY") [] heard known)
 handshake_said PlainClient opts heard known = ap (λ (l : List Command). our_hello opts ∷ l) (welcome_awaited_said opts heard known)
 handshake_said PlainServer opts heard known = hello_awaited_said opts heard known
 
-said_is : (opts : EngineOpts) (octets : List ℕ) (d : Decoded) → Decodes opts octets d → IsSome d.peer → d.said ≡ greeting_of opts.role ++ encode_commands (whole_said opts.role opts)
+said_is : (opts : EngineOpts) (octets : List ℕ) (d : Decoded) → Decodes opts octets d → IsSome d.peer → d.said ≡ whole_said opts.role opts
 said_is opts octets d (greeting_unfinished j is) known = absurd (no_some d.peer (ap (λ (e : Decoded). e.peer) is) known)
 said_is opts octets d (greeting_refused r j is) known = absurd (no_some d.peer (ap (λ (e : Decoded). e.peer) is) known)
 said_is opts octets d (unfinished fs x s cut is) known =
     ap (λ (e : Decoded). e.said) is
-    ∙ ap (λ (l : List Command). greeting_of opts.role ++ encode_commands l) (handshake_said opts.role opts (items_of fs ++ []) (subst (λ (p : Option Peer). IsSome p) (ap (λ (e : Decoded). e.peer) is) known))
+    ∙ handshake_said opts.role opts (items_of fs ++ []) (subst (λ (p : Option Peer). IsSome p) (ap (λ (e : Decoded). e.peer) is) known)
 said_is opts octets d (refused fs x cause heard s breaks is) known =
     ap (λ (e : Decoded). e.said) is
-    ∙ ap (λ (l : List Command). greeting_of opts.role ++ encode_commands l) (handshake_said opts.role opts (items_of fs ++ heard) (subst (λ (p : Option Peer). IsSome p) (ap (λ (e : Decoded). e.peer) is) known))
+    ∙ handshake_said opts.role opts (items_of fs ++ heard) (subst (λ (p : Option Peer). IsSome p) (ap (λ (e : Decoded). e.peer) is) known)
 
 -- ---- what is heard of it
 
@@ -182,10 +184,10 @@ NoneRefused role other before [] = Unit {0}
 NoneRefused role other before (c ∷ cs) = (stage_refusal (handshake_as role other (before ++ Told c ∷ [])).stage ≡ None) × NoneRefused role other (before ++ Told c ∷ []) cs
 
 -- to a side of this role these commands are a whole handshake of this peer
-record Accepts (role : Role) (other : EngineOpts) (cs : List Command) (peer : Peer) : Type 0 where
-  sayable : All IsSayable cs
-  unrefused : NoneRefused role other [] cs
-  known : (handshake_as role other (map (λ (c : Command). Told c) cs)).peer ≡ Some peer
+pub record Accepts (role : Role) (other : EngineOpts) (cs : List Command) (peer : Peer) : Type 0 where
+  pub sayable : All IsSayable cs
+  pub unrefused : NoneRefused role other [] cs
+  pub known : (handshake_as role other (map (λ (c : Command). Told c) cs)).peer ≡ Some peer
 
 called : (name content : List ℕ) → is_called name (command name content) ≡ true
 called name content = (bytes_eq-Decides name name).1 refl
@@ -202,18 +204,18 @@ two : (c d : Command) → IsSayable c → IsSayable d → All IsSayable (c ∷ d
 two c d h k = All-cons IsSayable c (d ∷ []) h (one d k)
 
 -- a WELCOME is heard
-welcomed : (other : EngineOpts) (heard : List Item) → welcome_awaited other (Told our_welcome ∷ heard) ≡ saying (our_initiate other) (ready_awaited other heard)
+pub welcomed : (other : EngineOpts) (heard : List Item) → welcome_awaited other (Told our_welcome ∷ heard) ≡ saying (our_initiate other) (ready_awaited other heard)
 welcomed other heard = ap (λ (b : Bool). cond b (saying (our_initiate other) (ready_awaited other heard)) (silent (Refused (misplaced our_welcome)))) (called (codes "WELCOME") [])
 
 -- the HELLO of a login that is accepted is heard
-greeted : (other : EngineOpts) (content : List ℕ) (heard : List Item) → is_welcome other.logins content ≡ true → hello_awaited other (Told (command (codes "HELLO") content) ∷ heard) ≡ saying our_welcome (initiate_awaited other heard)
+pub greeted : (other : EngineOpts) (content : List ℕ) (heard : List Item) → is_welcome other.logins content ≡ true → hello_awaited other (Told (command (codes "HELLO") content) ∷ heard) ≡ saying our_welcome (initiate_awaited other heard)
 greeted other content heard w =
     let refuse : Handshake = silent (Refused (misplaced (command (codes "HELLO") content))) in
     let stranger : Handshake = saying our_error (silent (Refused NotWelcome)) in
     let welcome : Handshake = saying our_welcome (initiate_awaited other heard) in
     ap (λ (b : Bool). cond (not b) refuse (cond (is_welcome other.logins content) welcome stranger)) (called (codes "HELLO") content) ∙ ap (λ (b : Bool). cond b welcome stranger) w
 
-accepts : (role theirs : Role) (opts other : EngineOpts) → IsEngineOpts opts → RolesMeet role theirs opts other → peer_from other.kind (decode_meta (encode_meta (own_properties opts))) ≡ Ok (as_told opts)
+pub accepts : (role theirs : Role) (opts other : EngineOpts) → IsEngineOpts opts → RolesMeet role theirs opts other → peer_from other.kind (decode_meta (encode_meta (own_properties opts))) ≡ Ok (as_told opts)
     → Accepts theirs other (whole_said role opts) (as_told opts)
 accepts Null Null opts other h meet is =
     let m = meets other awaited.Ready (codes "READY") (encode_meta (own_properties opts)) [] (as_told opts) is in
@@ -249,7 +251,7 @@ accepts PlainServer PlainClient opts other h meet is =
 accepts PlainServer PlainServer opts other h meet is = absurd meet
 
 -- sides whose mechanisms meet take each other's greeting
-greeting_accepted : (role theirs : Role) (opts other : EngineOpts) → RolesMeet role theirs opts other → judged theirs (greeting_of role) ≡ Good
+pub greeting_accepted : (role theirs : Role) (opts other : EngineOpts) → RolesMeet role theirs opts other → judged theirs (greeting_of role) ≡ Good
 greeting_accepted Null Null opts other meet = refl
 greeting_accepted Null PlainClient opts other meet = absurd meet
 greeting_accepted Null PlainServer opts other meet = absurd meet
@@ -263,7 +265,7 @@ greeting_accepted PlainServer PlainServer opts other meet = absurd meet
 -- ---- the stream of it
 
 -- a greeting and commands of these items
-record Spoken (other : EngineOpts) (octets : List ℕ) (items : List Item) : Type 0 where
+pub record Spoken (other : EngineOpts) (octets : List ℕ) (items : List Item) : Type 0 where
   frames : List WireFrame
   stream : IsStream other octets frames []
   items_are : items_of frames ≡ items
@@ -301,7 +303,7 @@ commands_more other octets items (c ∷ cs) all fine r =
     (append_assoc octets first (encode_commands cs) ∙ ap (λ (x : List ℕ). octets ++ x) (sym (flat_map-cons (λ (c : Command). encode_frame kind.Command (encode_command c)) c cs)))
     (subst (λ (l : List Item). Spoken other ((octets ++ first) ++ encode_commands cs) l) (append_assoc items (Told c ∷ []) (map (λ (c : Command). Told c) cs)) rest)
 
-spoken_means : (other : EngineOpts) (octets : List ℕ) (items : List Item) → Spoken other octets items → Decodes other octets (decoded_at other (handshake other items) [])
+pub spoken_means : (other : EngineOpts) (octets : List ℕ) (items : List Item) → Spoken other octets items → Decodes other octets (decoded_at other (handshake other items) [])
 spoken_means other octets items r =
     runs_mean other octets (handshake other items) [] (record {
       frames = r.frames;
@@ -309,6 +311,17 @@ spoken_means other octets items r =
       shaken = ap (λ (l : List Item). handshake other l) r.items_are;
       whole_is = ap (λ (g : Gathered). g.whole) r.nothing;
       parts_are = sym (ap (λ (g : Gathered). bodies g.unfinished) r.nothing);
+    })
+
+-- a greeting that is accepted, and commands behind it
+pub spoken : (other : EngineOpts) (greeting : List ℕ) (cs : List Command) → length greeting ≡ 64 → judged other.role greeting ≡ Good → All IsSayable cs → NoneRefused other.role other [] cs
+    → Spoken other (greeting ++ encode_commands cs) (map (λ (c : Command). Told c) cs)
+spoken other greeting cs len good all fine =
+    commands_more other greeting [] cs all fine (record {
+      frames = [];
+      stream = record { greeting = greeting; whole = len; accepted = good; all = sym (append-nil greeting); keep = tt };
+      items_are = refl;
+      nothing = refl;
     })
 
 some_is : (p : Option Peer) (q : Peer) → p ≡ Some q → IsSome p
@@ -319,33 +332,27 @@ whole_heard : (other : EngineOpts) (greeting : List ℕ) (cs : List Command) (pe
     → (heard : Decoded) × IsHandshake other (greeting ++ encode_commands cs) heard × (heard.peer ≡ Some peer)
 whole_heard other greeting cs peer len good a =
     let items : List Item = map (λ (c : Command). Told c) cs in
-    let start : Spoken other greeting [] = record {
-      frames = [];
-      stream = record { greeting = greeting; whole = len; accepted = good; all = sym (append-nil greeting); keep = tt };
-      items_are = refl;
-      nothing = refl;
-    } in
-    let means = spoken_means other (greeting ++ encode_commands cs) items (commands_more other greeting [] cs a.sayable a.unrefused start) in (
+    let means = spoken_means other (greeting ++ encode_commands cs) items (spoken other greeting cs len good a.sayable a.unrefused) in (
       decoded_at other (handshake other items) [],
       record { decodes = means; known = some_is (handshake other items).peer peer a.known; alone = refl; whole = refl },
       a.known,
     )
 
-pub fitting_handshake : (opts other : EngineOpts) (octets : List ℕ) (said : Decoded) → Fitting opts other → Decodes opts octets said → IsSome said.peer → (heard : Decoded) × IsHandshake other said.said heard × (heard.peer ≡ Some (as_told opts))
+pub fitting_handshake : (opts other : EngineOpts) (octets : List ℕ) (said : Decoded) → Fitting opts other → Decodes opts octets said → IsSome said.peer → (heard : Decoded) × IsHandshake other (octets_said opts said) heard × (heard.peer ≡ Some (as_told opts))
 fitting_handshake opts other octets said f is known =
     let a = accepts opts.role other.role opts other f.ours f.roles (peer_told other.kind opts f.ours f.kinds) in
-    subst (λ (o : List ℕ). (heard : Decoded) × IsHandshake other o heard × (heard.peer ≡ Some (as_told opts))) (sym (said_is opts octets said is known))
+    subst (λ (o : List ℕ). (heard : Decoded) × IsHandshake other o heard × (heard.peer ≡ Some (as_told opts))) (sym (ap (λ (cs : List Command). greeting_of opts.role ++ encode_commands cs) (said_is opts octets said is known)))
     (whole_heard other (greeting_of opts.role) (whole_said opts.role opts) (as_told opts) (length-greeting_of opts.role) (greeting_accepted opts.role other.role opts other f.roles) a)
 
-pub fitting_decodes : (p : Past) (c : Conversation) (said : Decoded) (other : EngineOpts) → Follows p c → IsCurrent c → unwritten c ≡ [] → All IsSendable p.offered → Decodes p.opts p.heard said → IsSome said.peer → Fitting p.opts other
-    → (heard : Decoded) × Decodes other p.written heard × (heard.messages ≡ p.offered) × (heard.peer ≡ Some (as_told p.opts)) × (heard.outcome ≡ Unfinished 0)
+pub fitting_decodes : (p : Past) (c : Conversation) (said : Decoded) (other : EngineOpts) → Follows p c → IsCurrent c → unwritten c ≡ [] → All IsSendable (messages_in p.put) → Decodes p.opts p.heard said → IsSome said.peer → Fitting p.opts other
+    → (heard : Decoded) × Decodes other p.written heard × (heard.messages ≡ messages_in p.put) × (heard.peer ≡ Some (as_told p.opts)) × (heard.outcome ≡ Unfinished 0)
 fitting_decodes p c said other f now none all is known fit =
     let h = fitting_handshake p.opts other p.heard said fit is known in
     let d : Decoded = h.0 in
-    (record d { messages = p.offered }, decodes_as_offered p c said other d f now none all is h.1, refl, h.2, h.1.whole)
+    (record d { messages = messages_in p.put }, decodes_as_offered p c said other d f now none all is h.1, refl, h.2, h.1.whole)
 
-pub fitting_hears : (p q : Past) (c e : Conversation) (said : Decoded) → Follows p c → IsCurrent c → unwritten c ≡ [] → All IsSendable p.offered → Decodes p.opts p.heard said → IsSome said.peer → Follows q e → IsCurrent e → q.heard ≡ p.written
-    → Fitting p.opts q.opts → q.given ++ e.listening.hearing.queue ≡ p.offered
+pub fitting_hears : (p q : Past) (c e : Conversation) (said : Decoded) → Follows p c → IsCurrent c → unwritten c ≡ [] → All IsSendable (messages_in p.put) → Decodes p.opts p.heard said → IsSome said.peer → Follows q e → IsCurrent e → q.heard ≡ p.written
+    → Fitting p.opts q.opts → q.given ++ waiting e ≡ messages_in p.put
 fitting_hears p q c e said f now none all is known g now' same fit =
     let h = fitting_handshake p.opts q.opts p.heard said fit is known in
     hears_as_offered p q c e said h.0 f now none all is g now' same h.1

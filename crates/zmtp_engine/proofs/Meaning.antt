@@ -14,14 +14,15 @@ use Rattle.spec_zmtp.specs.FrameEncoding.{WireFrame, IsCutHead, octets_of}
 use Rattle.spec_zmtp.specs.FrameRules.{gathered, items_of, Breaks, by_flags, by_size, by_item, IsCutFrame, at_flags, in_head, in_body}
 use Rattle.spec_zmtp.specs.Greeting.{greeting_of, judged}
 use Rattle.spec_zmtp.specs.Handshake.{Item, handshake, handshake_as}
-use Rattle.spec_zmtp.specs.DecodedStream.{Unfinished, Refused, Decoded, Decodes, greeting_unfinished, greeting_refused, unfinished, refused, stream_of, offset_of, encode_commands, at_greeting, behind_frames, unfinished_behind, refused_behind, IsStream}
+use Rattle.spec_zmtp.specs.DecodedStream.{Unfinished, Refused, Decoded, Decodes, greeting_unfinished, greeting_refused, unfinished, refused, stream_of, offset_of, at_greeting, behind_frames, unfinished_behind, refused_behind, IsStream}
+use Rattle.spec_zmtp.specs.Put.{encode_commands}
 use Rattle.spec_zmtp.proofs.StreamLemmas.{refused_stays}
 use Rattle.zmtp_frame.specs.Reading.{Stage, InHead, InBody, SawBadFlags, SawTooLong}
 use Rattle.zmtp_engine.specs.Hearing.{Hearing, Hears, HearsAt, IsBegun, IsSettledAt}
 use Rattle.zmtp_engine.specs.Listening.{Listening, Greeted, Faulted, ListensTo, ListensAt, IsSettledNow, is_greeted, refusal_now, rest_now, outcome_by, Means}
-use Rattle.zmtp_engine.proofs.Bounds.{unfinished_small, cut_small}
+use Rattle.spec_zmtp.proofs.SizeLemmas.{unfinished_small, cut_small}
 use Rattle.zmtp_engine.proofs.Feeds.{hears_more}
-use Rattle.zmtp_engine.proofs.Judging.{short_judged, long_judged}
+use Rattle.spec_zmtp.proofs.JudgementLemmas.{short_judged, long_judged}
 
 -- ---- a frame that has begun is cut
 
@@ -91,12 +92,12 @@ said_by f n said = cond (is_none f && eqb n 64) said (take 64 said)
 
 faulted_means : (opts : EngineOpts) (octets : List ℕ) (given : List (List (List ℕ))) (l : Listening) (f : Refusal) → l.fault ≡ Some f → Faulted opts octets given l f → (d : Decoded) × Means opts octets given l d
 faulted_means opts octets given l f some s =
-    let d : Decoded = at_greeting opts (Refused f) in
+    let d : Decoded = at_greeting (Refused f) in
     let n = heard_nothing opts given l.hearing s.hears in (
       d,
       record {
         decodes = subst (λ (o : List ℕ). Decodes opts o d) (sym s.all) (refused_stays opts s.front s.rest d f (greeting_refused f s.bad refl) refl);
-        said = sym (ap (λ (x : Option Refusal). said_by x (length l.greeting) l.hearing.said) some ∙ greeting_said opts [] given l.hearing s.hears);
+        said = append-nil (greeting_of opts.role) ∙ sym (ap (λ (x : Option Refusal). said_by x (length l.greeting) l.hearing.said) some ∙ greeting_said opts [] given l.hearing s.hears);
         peer = sym n.peer;
         messages = sym n.messages;
         outcome = sym (ap (λ (x : Option Refusal). outcome_by (cond (is_none x) l.hearing.refused x) (rest_now l)) some);
@@ -108,14 +109,14 @@ short_means : (opts : EngineOpts) (octets : List ℕ) (given : List (List (List 
 short_means opts octets given l none g lt =
     let n = heard_nothing opts given l.hearing (subst (λ (o : List ℕ). Hears opts o given l.hearing) (g.short lt) g.hears) in
     let octets_is : octets ≡ l.greeting = g.all ∙ ap (λ (m : List ℕ). l.greeting ++ m) (g.short lt) ∙ append-nil l.greeting in
-    let d : Decoded = at_greeting opts (Unfinished (length octets)) in
+    let d : Decoded = at_greeting (Unfinished (length octets)) in
     let no_64 : eqb (length l.greeting) 64 ≡ false = ne_eqb (length l.greeting) 64 (λ e. absurd (omega arith)) in
     let not_yet : is_greeted l ≡ false = ap (λ (x : Option Refusal). is_none x && eqb (length l.greeting) 64) none ∙ no_64 in
     let refusal : refusal_now l ≡ None = ap (λ (x : Option Refusal). cond (is_none x) l.hearing.refused x) none ∙ n.refused in (
       d,
       record {
         decodes = greeting_unfinished (ap (λ (o : List ℕ). judged opts.role o) octets_is ∙ short_judged opts.role l.greeting g.fine lt) refl;
-        said = sym (ap (λ (b : Bool). cond b l.hearing.said (take 64 l.hearing.said)) not_yet ∙ greeting_said opts g.more given l.hearing g.hears);
+        said = append-nil (greeting_of opts.role) ∙ sym (ap (λ (b : Bool). cond b l.hearing.said (take 64 l.hearing.said)) not_yet ∙ greeting_said opts g.more given l.hearing g.hears);
         peer = sym n.peer;
         messages = sym n.messages;
         outcome = ap (λ (o : List ℕ). Unfinished (length o)) octets_is ∙ sym (ap (λ (b : Bool). outcome_by (refusal_now l) (cond b (l.hearing.earlier + l.hearing.begun) (length l.greeting))) not_yet ∙ ap (λ (x : Option Refusal). outcome_by x (length l.greeting)) refusal);
@@ -233,3 +234,9 @@ refused_more opts octets piece given l r none some k =
       hears = hears_more opts g.more piece given l.hearing r some g.hears;
       role = g.role;
     })
+
+-- a refusal that is kept is that of the octets
+pub refused_means : (opts : EngineOpts) (octets : List ℕ) (given : List (List (List ℕ))) (l : Listening) (r : Refusal) → ListensTo opts octets given l → IsSettledNow l → refusal_now l ≡ Some r → (d : Decoded) × (q : Refusal) × Decodes opts octets d × (d.outcome ≡ Refused q)
+refused_means opts octets given l r k settled some =
+    let m = means opts octets given l k settled in
+    (m.0, r, m.1.decodes, m.1.outcome ∙ ap (λ (x : Option Refusal). outcome_by x (rest_now l)) some)

@@ -83,7 +83,7 @@ verdict_now : (opts : EngineOpts) (octets : List ℕ) (given : List (List (List 
 verdict_now opts octets given h octet l = octet_is opts l.frames h.stage h.parts octet l.stage l.unrefused l.parts
 
 -- a flags octet in front: what begins one is none
-none_begun : (n : ℕ) → n ≡ 0 → (xs : List ℕ) → n ≡ offset_of (length xs) → xs ≡ []
+pub none_begun : (n : ℕ) → n ≡ 0 → (xs : List ℕ) → n ≡ offset_of (length xs) → xs ≡ []
 none_begun n e xs b = nil_from_length xs (omega arith)
 
 -- the flags octet in front of octets passes, as it did before or as it was judged now
@@ -105,7 +105,7 @@ judged_bad opts octets (x ∷ piece) given h new r l zero_begun lt judged same r
     (subst (λ (y : List ℕ). Breaks opts l.frames (y ++ x ∷ []) r.cause []) (sym none) (by_flags x [] refl (verdict_now opts octets given h x l ∙ judged) refl))
 
 -- the first octet of a head is its flags octet
-first_of_head : (kind : FrameKind) (long : Bool) (size : ℕ) (octets : List ℕ) → octets ≡ head_octets kind long size → get_or octets 0 0 ≡ flags_octet kind long
+pub first_of_head : (kind : FrameKind) (long : Bool) (size : ℕ) (octets : List ℕ) → octets ≡ head_octets kind long size → get_or octets 0 0 ≡ flags_octet kind long
 first_of_head kind long size octets e = ap (λ (o : List ℕ). get_or o 0 0) e
 
 pub began : (opts : EngineOpts) (octets piece : List ℕ) (given : List (List (List ℕ))) (h new : Hearing) (begun : List ℕ) (taken size : ℕ) (kind : FrameKind) (l : Listens opts octets given h) → h.reader ≡ InHead begun → 0 < taken → taken ≤ length piece

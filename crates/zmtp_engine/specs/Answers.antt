@@ -15,18 +15,30 @@ abbrev pub MatchOffered : Offered → Type 0 → (List (List ℕ) → Type 0) �
 MatchOffered Taken taken again = taken
 MatchOffered (Again message) taken again = again message
 
--- the state by a refusal and the peer
-abbrev pub state_by : Option Refusal → Option Peer → State
-state_by (Some r) peer = Refused r
-state_by None None = Shaking
-state_by None (Some peer) = Running
+-- how a stream stands, with the peer once the handshake is done
+pub data Standing : Type 0 where
+  IsShaking : Standing
+  IsRunning : Peer → Standing
+  IsRefused : Refusal → Standing
 
--- the state of an engine
-abbrev pub state_of : Conversation → State
-state_of c = state_by (refusal_now c.listening) c.listening.hearing.peer
+-- what a state tells
+abbrev pub standing_of : State → Standing
+standing_of Shaking = IsShaking
+standing_of (Running peer) = IsRunning peer.now
+standing_of (Refused r) = IsRefused r
 
--- the state of a decoded stream
-abbrev pub state_at : decoded.Outcome → Option Peer → State
-state_at (decoded.Refused r) peer = Refused r
-state_at (decoded.Unfinished n) None = Shaking
-state_at (decoded.Unfinished n) (Some peer) = Running
+-- how it stands by a refusal and the peer
+abbrev pub standing_by : Option Refusal → Option Peer → Standing
+standing_by (Some r) peer = IsRefused r
+standing_by None None = IsShaking
+standing_by None (Some peer) = IsRunning peer
+
+-- how the stream of an engine stands
+abbrev pub standing_now : Conversation → Standing
+standing_now c = standing_by (refusal_now c.listening) c.listening.hearing.peer
+
+-- how a decoded stream stands
+abbrev pub standing_at : decoded.Outcome → Option Peer → Standing
+standing_at (decoded.Refused r) peer = IsRefused r
+standing_at (decoded.Unfinished n) None = IsShaking
+standing_at (decoded.Unfinished n) (Some peer) = IsRunning peer

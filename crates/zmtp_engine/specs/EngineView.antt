@@ -1,18 +1,23 @@
 -- What an engine's fields stand for.
-use Rattle.std.specs.Prelude.{◌≤◌}
+use Rattle.std.specs.Prelude.{◌≡◌, ◌≤◌, [], None, vec_capacity}
 use Rattle.zmtp_engine.specs.declared.engine.Engine.TheInside.{Inside}
 use Rattle.zmtp_engine.specs.ListenerView.{listening_of}
-use Rattle.zmtp_engine.specs.Sending.{piece_in, later_in, IsOutgoingIn}
-use Rattle.zmtp_engine.specs.SendingView.{outgoing_in}
-use Rattle.zmtp_engine.specs.Conversation.{Past, Conversation, Follows}
+use Rattle.zmtp_engine.specs.WriterView.{output_of, IsWriter}
+use Rattle.zmtp_engine.specs.Conversation.{Past, Conversation, Follows, unwritten}
 
 -- what is kept, without where it lies in memory
 abbrev pub conversation_of : Inside → Conversation
-conversation_of e = record { listening = listening_of e.listener; at = e.at; piece = piece_in (outgoing_in e.sending); later = later_in (outgoing_in e.sending) }
+conversation_of e = record { listening = listening_of e.listener; output = output_of e.writer }
 
--- what is kept is of some past
+-- nothing is left where nothing is lent
+pub record IsSpent (c : Conversation) : Type 0 where
+  pub unwritten : unwritten c ≡ []
+  pub idle : c.output.later ≡ None
+
+-- what is kept is of some past, and something is lent where anything is left
 pub record IsEngine (e : Inside) : Type 0 where
-  pub within : e.listener.have ≤ 64
-  pub outgoing : IsOutgoingIn (outgoing_in e.sending)
+  pub room : 64 ≤ vec_capacity e.listener.greeting
+  pub writer : IsWriter e.writer
   pub past : Past
   pub follows : Follows past (conversation_of e)
+  pub lends : (conversation_of e).output.run ≡ [] → IsSpent (conversation_of e)

@@ -10,7 +10,8 @@ use Rattle.spec_zmtp.specs.FrameEncoding.{WireFrame, FitsSize, IsCutHead, head_o
 use Rattle.spec_zmtp.specs.FrameRules.{gathered, bodies, items_of, octet_refusal, AllKeep, Breaks}
 use Rattle.spec_zmtp.specs.Greeting.{greeting_of}
 use Rattle.spec_zmtp.specs.Handshake.{Item, handshake, stage_refusal}
-use Rattle.spec_zmtp.specs.DecodedStream.{stream_of, encode_commands, offset_of}
+use Rattle.spec_zmtp.specs.DecodedStream.{stream_of, offset_of}
+use Rattle.spec_zmtp.specs.Put.{encode_commands}
 use Rattle.zmtp_frame.specs.Reading.{Stage, InHead, InBody, SawBadFlags, SawTooLong}
 
 -- what is kept: where the reader is, how the handshake stands, the frame that has begun, the frames of the unfinished message,

@@ -1,10 +1,12 @@
+pub mod Speech
 pub mod Hearing
 pub mod Verdict
 pub mod HearerView
+pub mod Refusing
 pub mod Listening
 pub mod ListenerView
-pub mod Sending
-pub mod SendingView
+pub mod Output
+pub mod WriterView
 pub mod Conversation
 pub mod Answers
 pub mod EngineView

@@ -1,10 +1,10 @@
 -- What is kept of a peer's stream with its greeting.
-use Rattle.std.specs.Prelude.{◌≡◌, ℕ, ◌+◌, ◌<◌, ◌≤◌, ◌^◌, ◌==◌, ◌&&◌, Bool, if◌then◌else◌, is_none, List, [], ◌++◌, length, take, Option, Some, None}
+use Rattle.std.specs.Prelude.{◌≡◌, ℕ, ◌+◌, ◌<◌, ◌≤◌, ◌^◌, ◌==◌, ◌&&◌, Bool, if◌then◌else◌, is_none, List, [], ◌++◌, length, take, Option, Some, None, IsSome}
 use Rattle.zq_base.specs.declared.options.EngineOpts.{EngineOpts}
 use Rattle.zq_base.specs.declared.options.Role.{Role}
 use Rattle.spec_zmtp.specs.declared.cause.Refusal.{Refusal}
 use Rattle.spec_zmtp.specs.Greeting.{greeting_refusal}
-use Rattle.spec_zmtp.specs.DecodedStream.{Outcome, Unfinished, Refused, Decoded, Decodes}
+use Rattle.spec_zmtp.specs.DecodedStream.{Outcome, Unfinished, Refused, Decoded, Decodes, octets_said}
 use Rattle.zmtp_engine.specs.Hearing.{Hearing, Hears, IsSettled}
 
 -- the octets of the greeting that came, why it is refused, and what is kept of the octets behind it
@@ -70,8 +70,22 @@ outcome_by None n = Unfinished n
 -- what is kept is what the octets mean
 pub record Means (opts : EngineOpts) (octets : List ℕ) (given : List (List (List ℕ))) (l : Listening) (d : Decoded) : Type 0 where
   pub decodes : Decodes opts octets d
-  pub said : d.said ≡ said_now l
+  pub said : octets_said opts d ≡ said_now l
   pub peer : d.peer ≡ l.hearing.peer
   pub messages : d.messages ≡ given ++ l.hearing.queue
   pub outcome : d.outcome ≡ outcome_by (refusal_now l) (rest_now l)
   pub small : refusal_now l ≡ None → rest_now l < 2 ^ 64
+
+-- ---- a step of the greeting
+
+-- so many octets of a piece were taken for the greeting: up to the one at which it is refused, or whole
+pub record Greets (old new : Listening) (piece : List ℕ) (n : ℕ) : Type 0 where
+  pub role : new.role ≡ old.role
+  pub hearing : new.hearing ≡ old.hearing
+  pub filled : new.greeting ≡ old.greeting ++ take n piece
+  pub within : n ≤ length piece
+  pub few : length old.greeting + n ≤ 64
+  pub told : 0 < n → new.fault ≡ greeting_refusal new.role new.greeting
+  pub still : n ≡ 0 → new.fault ≡ None
+  pub all : new.fault ≡ None → length old.greeting + n < 64 → n ≡ length piece
+  pub before : IsSome new.fault → (m : ℕ) × (n ≡ m + 1) × (0 < m → greeting_refusal new.role (old.greeting ++ take m piece) ≡ None)

@@ -1,5 +1,6 @@
 -- The refusal of a flags octet, by how the handshake stands and which frames of the message came before.
 use Rattle.std.specs.Prelude.{ℕ, ◌==◌, if◌then◌else◌, List, length, Option, Some, None}
+use Rattle.zq_base.specs.Message.{max_committed}
 use Rattle.spec_zmtp.specs.declared.cause.Cause.{Cause}
 use Rattle.spec_zmtp.specs.declared.cause.Cause.TheVariants.{BadFlags, TooManyParts, OutOfOrder}
 use Rattle.spec_zmtp.specs.declared.flags.FrameKind.{FrameKind}
@@ -11,7 +12,7 @@ use Rattle.spec_zmtp.specs.Handshake.{is_running}
 
 -- of a message frame
 abbrev pub message_verdict : Stage → List (List ℕ) → Option Cause
-message_verdict stage parts = if is_running stage then (if length parts == 1023 then Some TooManyParts else None) else Some OutOfOrder
+message_verdict stage parts = if is_running stage then (if length parts == max_committed then Some TooManyParts else None) else Some OutOfOrder
 
 -- of a frame of this kind
 abbrev pub kind_verdict : Stage → List (List ℕ) → FrameKind → Option Cause

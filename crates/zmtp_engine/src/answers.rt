@@ -1,13 +1,13 @@
 use spec_zmtp::Refusal;
-use zq_base::Message;
+use zq_base::{Message, Peer};
 
 /// How an engine's stream stands.
-#[derive(Clone, Copy, Debug, PartialEq, Eq)]
-pub enum State {
+#[derive(Clone, Copy, Debug)]
+pub enum State<'a> {
     /// The handshake is not done.
     Shaking,
-    /// The handshake is done, and the peer is known.
-    Running,
+    /// The handshake is done with this peer.
+    Running(&'a Peer),
     Refused(Refusal),
 }
 

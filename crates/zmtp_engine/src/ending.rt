@@ -1,6 +1,7 @@
-ghost use Rattle.std.specs.Prelude.{◌≡◌, ◌<◌, List, ℕ, None, OnOk, OnErr};
+ghost use Rattle.std.specs.Prelude.{◌≡◌, ◌<◌, List, ℕ, None, IsSome, OnOk, OnErr};
 ghost use Rattle.zq_base.specs.declared.options.EngineOpts.{EngineOpts};
 
+use crate::blocks::take_body;
 use crate::hearer::Hearer;
 use crate::say::{say, say_if};
 use spec_zmtp::{Cause, FrameKind, Refusal};
@@ -13,10 +14,11 @@ use zq_base::{Frame, Message};
 impl Hearer {
     ghost use Rattle.zmtp_engine.specs.Hearing.{Hears, Listens, Grows, Known, weight};
     ghost use Rattle.zmtp_engine.specs.HearerView.{hearing_of};
+    ghost use Rattle.zmtp_engine.specs.Refusing.{JustBroken};
     ghost use Rattle.zmtp_frame.specs.Reading.{InBody};
 
-    /// Ends a frame that others of its message follow.
-    fn end_part(&mut self) -> Result<(), AllocError>
+    // Ends a frame that others of its message follow.
+    fn end_part(&mut self, alloc: Global) -> Result<(), AllocError>
         requires body { self.old.reader ≡ InBody 0 }
         requires kind { self.old.kind ≡ FrameKind.More }
         requires unrefused { self.old.refused ≡ None }
@@ -29,13 +31,13 @@ impl Hearer {
             Listens opts octets given (hearing_of self.old) → OnOk result (Hears opts octets given (hearing_of self.new)) }
     {
         self.parts.reserve(1)?;
-        let body = self.body.freeze_to(self.body.len())?;
+        let body = take_body(alloc, &mut self.body)?;
         self.parts.push_reserved(Frame::of_bytes(body));
         self.next_frame(self.earlier.saturating_add(self.begun));
         Ok(())
     }
 
-    /// Ends the last frame of a message.
+    // Ends the last frame of a message.
     fn end_message(&mut self, alloc: Global) -> Result<(), AllocError>
         requires body { self.old.reader ≡ InBody 0 }
         requires kind { self.old.kind ≡ FrameKind.Last }
@@ -50,7 +52,7 @@ impl Hearer {
     {
         self.parts.reserve(1)?;
         self.queue.reserve(1)?;
-        let body = self.body.freeze_to(self.body.len())?;
+        let body = take_body(alloc, &mut self.body)?;
         self.parts.push_reserved(Frame::of_bytes(body));
         let parts = replace(&mut self.parts, Vec::new(alloc));
         self.queue.push_back_reserved(Message::of_frames(parts));
@@ -58,7 +60,7 @@ impl Hearer {
         Ok(())
     }
 
-    /// Ends a command.
+    // Ends a command.
     fn end_command(&mut self, alloc: Global) -> Result<(), AllocError>
         requires body { self.old.reader ≡ InBody 0 }
         requires kind { self.old.kind ≡ FrameKind.Command }
@@ -120,10 +122,12 @@ impl Hearer {
         ensures grows { OnOk result (Grows (hearing_of self.old) (hearing_of self.new)) }
         ensures hears { (opts : EngineOpts) (octets : List ℕ) (given : List (List (List ℕ))) →
             Listens opts octets given (hearing_of self.old) → OnOk result (Hears opts octets given (hearing_of self.new)) }
+        ensures breaks { (opts : EngineOpts) (octets : List ℕ) (given : List (List (List ℕ))) →
+            Listens opts octets given (hearing_of self.old) → IsSome self.new.refused → JustBroken opts octets }
     {
         match self.kind {
             FrameKind::Command => self.end_command(alloc),
-            FrameKind::More => self.end_part(),
+            FrameKind::More => self.end_part(alloc),
             FrameKind::Last => self.end_message(alloc),
         }
     }

@@ -1,18 +1,21 @@
-ghost use Rattle.std.specs.Prelude.{◌≡◌, ◌++◌, ◌≤◌, [], List, ℕ, length, take, None, MatchResult, IfOk, IfSome, IfNone, OnOk, Ok};
-ghost use Rattle.std.specs.List.{flat_map};
+ghost use Rattle.std.specs.Prelude.{◌≡◌, ◌++◌, ◌≤◌, [], List, ℕ, ◌∷◌, length, take, drop, None, Some, IsSome, MatchResult, IfOk, IfSome, IfNone, OnOk, Ok};
 ghost use Rattle.std.specs.Option.{option_copied};
-ghost use Rattle.spec_zmtp.specs.FrameEncoding.{encode_message};
+ghost use Rattle.spec_zmtp.specs.declared.command.Command.{Command};
 ghost use Rattle.spec_zmtp.specs.OwnCommands.{IsEngineOpts};
-ghost use Rattle.spec_zmtp.specs.DecodedStream.{Decoded, Decodes, Unfinished};
-ghost use Rattle.zmtp_engine.specs.Listening.{refusal_now};
-ghost use Rattle.zmtp_engine.specs.Conversation.{Past, no_past, fed, gave, took, wrote, Follows, IsCurrent, CanOffer, MustWait, unwritten, lent};
-ghost use Rattle.zmtp_engine.specs.Answers.{MatchOffered, state_of, state_at};
+ghost use Rattle.spec_zmtp.specs.DecodedStream.{Decoded, Unfinished};
+ghost use Rattle.zmtp_engine.specs.Refusing.{BreaksAt};
+ghost use Rattle.zmtp_engine.specs.Listening.{refusal_now, said_now};
+ghost use Rattle.zmtp_engine.specs.Output.{begun_run, pieces_of};
+ghost use Rattle.zmtp_engine.specs.Conversation.{Past, no_past, fed, gave, took, wrote, IsMeaning, Follows, IsCurrent, CanOffer, MustWait, unwritten, lent, waiting};
+ghost use Rattle.zmtp_engine.specs.EngineView.{IsSpent};
+ghost use Rattle.zmtp_engine.specs.Answers.{MatchOffered, standing_of, standing_now, standing_at};
 
 use crate::answers::{Offered, State};
 use crate::listener::Listener;
-use crate::sending::Sending;
 use crate::want::OutOfMemory;
+use crate::writer::Writer;
 use std::alloc::{AllocError, Global};
+use std::collections::VecDeque;
 use std::marker::Model;
 use std::mem::replace;
 use zq_base::{EngineOpts, Message, Peer};
@@ -23,8 +26,7 @@ use zq_base::{EngineOpts, Message, Peer};
 #[derive(Drop)]
 pub struct Engine {
     listener: Listener,
-    at: usize,
-    sending: Option<Sending>,
+    writer: Writer,
 }
 
 impl Model for Engine {
@@ -47,36 +49,53 @@ impl Engine {
         ensures current { IfOk result (λ e. IsCurrent e) }
     {
         let listener = Listener::new(alloc, &opts)?;
-        Ok(Engine {
-            listener,
-            at: 0,
-            sending: None,
-        })
+        let mut writer = Writer::new(alloc)?;
+        writer.begin(listener.said());
+        Ok(Engine { listener, writer })
     }
 
     /// Hears a piece of the peer's stream: all of it, unless it is refused or memory wants.
     pub fn feed(&mut self, alloc: Global, piece: &[u8]) -> Result<usize, OutOfMemory>
-        ensures follows { (p : Past) → Follows p self.old →
-            MatchResult result (λ _. Follows (fed piece.now p) self.new)
-            (λ e. Follows (fed (take e.taken piece.now) p) self.new) }
+        ensures follows { (p : Past) → Follows p self.old → (commands : List Command) ×
+            MatchResult result (λ _. Follows (fed piece.now commands p) self.new)
+            (λ e. Follows (fed (take e.taken piece.now) commands p) self.new) }
         ensures current { OnOk result (IsCurrent self.new) }
-        ensures whole { IfOk result (λ n. refusal_now self.new.listening ≡ None → n ≡ length piece.now) }
+        ensures whole { MatchResult result (λ n. (n ≤ length piece.now)
+            × (refusal_now self.new.listening ≡ None → n ≡ length piece.now))
+            (λ e. e.taken ≤ length piece.now) }
+        ensures breaks { (p : Past) → Follows p self.old → refusal_now self.old.listening ≡ None →
+            IsSome (refusal_now self.new.listening) →
+            IfOk result (λ n. BreaksAt p.opts p.heard (take n piece.now)) }
         ensures refused { IfSome (refusal_now self.old.listening) (λ _.
             (result ≡ Ok 0) × (self.new ≡ self.old)) }
-        ensures taken { MatchResult result (λ n. n ≤ length piece.now)
-            (λ e. e.taken ≤ length piece.now) }
+        ensures lent { self.new.output ≡ begun_run (said_now self.new.listening) self.old.output }
     {
-        self.listener.feed(alloc, piece)
+        let taken = self.listener.feed(alloc, piece);
+        self.writer.begin(self.listener.said());
+        taken
     }
 
-    /// The next whole message.
+    /// The next whole message; none only where no whole message is left.
     pub fn next_message(&mut self) -> Option<Message>
-        ensures some { IfSome result (λ m. (p : Past) → Follows p self.old → Follows (gave m p) self.new) }
-        ensures none { IfNone result ((self.new ≡ self.old) × ((p : Past) → Follows p self.old →
-            IsCurrent self.old → (d : Decoded) × Decodes p.opts p.heard d × (d.messages ≡ p.given))) }
+        ensures some { IfSome result (λ m. (p : Past) → Follows p self.old → Follows (gave (m ∷ []) p) self.new) }
+        ensures first { IfSome result (λ m. waiting self.old ≡ m ∷ waiting self.new) }
+        ensures none { IfNone result ((self.new ≡ self.old) × (waiting self.old ≡ [])) }
         ensures current { IsCurrent self.old → IsCurrent self.new }
+        ensures lent { self.new.output ≡ self.old.output }
     {
         self.listener.hearer.queue.pop_front()
+    }
+
+    /// Takes all whole messages out, in exchange for an empty list.
+    pub fn take_messages(&mut self, empty: VecDeque<Message>) -> VecDeque<Message>
+        requires empty { empty.items ≡ [] }
+        ensures all { result.items ≡ waiting self.old }
+        ensures none { waiting self.new ≡ [] }
+        ensures follows { (p : Past) → Follows p self.old → Follows (gave result.items p) self.new }
+        ensures current { IsCurrent self.old → IsCurrent self.new }
+        ensures lent { self.new.output ≡ self.old.output }
+    {
+        replace(&mut self.listener.hearer.queue, empty)
     }
 
     /// Takes a message to be written.
@@ -85,7 +104,9 @@ impl Engine {
             ((p : Past) → Follows p self.old → Follows (took message p) self.new)
             (λ m. (m ≡ message) × (self.new ≡ self.old)) }
         ensures exactly { MatchOffered result (CanOffer self.old) (λ _. MustWait self.old) }
-        ensures current { IsCurrent self.old → IsCurrent self.new }
+        ensures heard { self.new.listening ≡ self.old.listening }
+        ensures lent { MatchOffered result (self.new.output ≡ begun_run (said_now self.old.listening)
+            (record self.old.output { later = Some (pieces_of message) })) (λ _. Unit {0}) }
     {
         if self.listener.refusal().is_some() {
             return Offered::Again(message);
@@ -93,31 +114,21 @@ impl Engine {
         if self.listener.hearer.peer.is_none() {
             return Offered::Again(message);
         }
-        if self.sending.is_some() {
+        if self.writer.sending.is_some() {
             return Offered::Again(message);
         }
-        self.sending = Some(Sending::new(message));
+        self.writer.take_in(message);
+        self.writer.begin(self.listener.said());
         Offered::Taken
     }
 
     /// The next octets to be written: some where there are any.
-    #[tactic(auto, using(crate::proofs::Calls::out_means))]
     pub fn out(&self) -> &[u8]
         ensures lent { result.now ≡ lent self.now }
         ensures prefix { (rest : List ℕ) × (unwritten self.now ≡ result.now ++ rest) }
-        ensures empty { result.now ≡ [] → unwritten self.now ≡ [] }
-        ensures meaning { (p : Past) → Follows p self.now → IsCurrent self.now →
-            (d : Decoded) × Decodes p.opts p.heard d
-            × (p.written ++ unwritten self.now ≡ d.said ++ flat_map encode_message p.offered) }
+        ensures empty { result.now ≡ [] → IsSpent self.now }
     {
-        let said = self.listener.said();
-        if self.at < said.len() {
-            return &said[self.at..];
-        }
-        match &self.sending {
-            Some(sending) => sending.piece(),
-            None => &[],
-        }
+        self.writer.lent()
     }
 
     /// So many octets of what `out` lent were written.
@@ -125,53 +136,42 @@ impl Engine {
         requires within { n ≤ length (lent self.old) }
         ensures follows { (p : Past) → Follows p self.old →
             Follows (wrote (take n (lent self.old)) p) self.new }
-        ensures current { IsCurrent self.old → IsCurrent self.new }
+        ensures heard { self.new.listening ≡ self.old.listening }
+        ensures lent { self.new.output ≡ begun_run (said_now self.old.listening)
+            (record self.old.output { run = drop n (lent self.old) }) }
     {
-        if self.at < self.listener.said().len() {
-            self.at += n;
-            return;
-        }
-        match replace(&mut self.sending, None) {
-            Some(sending) => {
-                self.sending = sending.wrote(n);
-                return;
-            }
-            None => return,
-        }
+        self.writer.wrote(n);
+        self.writer.begin(self.listener.said());
     }
 
     /// How the stream stands.
-    pub fn state(&self) -> State
-        ensures state { result ≡ state_of self.now }
-        ensures meaning { (p : Past) → Follows p self.now → IsCurrent self.now →
-            (d : Decoded) × Decodes p.opts p.heard d × (result ≡ state_at d.outcome d.peer) }
+    pub fn state(&self) -> State<'_>
+        ensures state { standing_of result ≡ standing_now self.now }
+        ensures meaning { (p : Past) (d : Decoded) → Follows p self.now → IsCurrent self.now →
+            IsMeaning p d → standing_of result ≡ standing_at d.outcome d.peer }
     {
         match self.listener.refusal() {
-            Some(refusal) => State::Refused(refusal),
-            None => {
-                if self.listener.hearer.peer.is_none() {
-                    State::Shaking
-                } else {
-                    State::Running
-                }
-            }
+            Some(refusal) => return State::Refused(refusal),
+            None => match &self.listener.hearer.peer {
+                Some(peer) => return State::Running(peer),
+                None => return State::Shaking,
+            },
         }
     }
 
     /// The peer, once the handshake is done, also where the stream was refused later.
     pub fn peer(&self) -> Option<&Peer>
         ensures peer { option_copied result ≡ self.now.listening.hearing.peer }
-        ensures meaning { (p : Past) → Follows p self.now → IsCurrent self.now →
-            (d : Decoded) × Decodes p.opts p.heard d × (option_copied result ≡ d.peer) }
+        ensures meaning { (p : Past) (d : Decoded) → Follows p self.now → IsCurrent self.now →
+            IsMeaning p d → option_copied result ≡ d.peer }
     {
         self.listener.hearer.peer.as_ref()
     }
 
     /// How many octets of the greeting, message or command that is unfinished have come.
     pub fn rest(&self) -> u64
-        ensures meaning { (p : Past) → Follows p self.now → IsCurrent self.now →
-            (d : Decoded) × Decodes p.opts p.heard d
-            × ((n : ℕ) → d.outcome ≡ Unfinished n → result ≡ n) }
+        ensures meaning { (p : Past) (d : Decoded) → Follows p self.now → IsCurrent self.now →
+            IsMeaning p d → (n : ℕ) → d.outcome ≡ Unfinished n → result ≡ n }
     {
         self.listener.rest()
     }

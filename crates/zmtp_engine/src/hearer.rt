@@ -1,9 +1,10 @@
-ghost use Rattle.std.specs.Prelude.{◌≡◌, ◌++◌, ◌<◌, ◌≤◌, ◌+◌, [], List, ℕ, length, take, Some, None, MatchResult, IfOk, OnOk, OnErr};
+ghost use Rattle.std.specs.Prelude.{◌≡◌, ◌++◌, ◌<◌, ◌≤◌, ◌+◌, [], List, ℕ, length, take, Some, None, IsSome, MatchResult, IfOk, OnOk, OnErr};
 ghost use Rattle.zq_base.specs.declared.options.EngineOpts.{EngineOpts};
 ghost use Rattle.spec_zmtp.specs.OwnCommands.{IsEngineOpts};
 ghost use Rattle.zmtp_mech.specs.Mechanism.{begun};
 ghost use Rattle.spec_zmtp.specs.Handshake as handshake;
 
+use crate::blocks::make_room;
 use crate::say::say_if;
 use crate::want::OutOfMemory;
 use bytes::BytesMut;
@@ -38,6 +39,7 @@ impl Hearer {
     ghost use Rattle.spec_zmtp.specs.DecodedStream.{offset_of};
     ghost use Rattle.zmtp_engine.specs.Hearing.{Hears, Listens, Grows, Known, weight, IsSettled};
     ghost use Rattle.zmtp_engine.specs.HearerView.{hearing_of};
+    ghost use Rattle.zmtp_engine.specs.Refusing.{JustBroken};
     ghost use Rattle.zmtp_frame.specs.Reading.{left_at, InHead, InBody};
 
     /// What is kept before the first octet: our greeting and our first command are ready to be said.
@@ -68,7 +70,7 @@ impl Hearer {
         })
     }
 
-    /// The refusal of a frame with this flags octet.
+    // The refusal of a frame with this flags octet.
     fn judge(&self, flags: u8) -> Option<Cause>
         ensures { result ≡ octet_verdict (hearing_of self.now).stage self.now.parts.items flags }
     {
@@ -86,7 +88,7 @@ impl Hearer {
             FrameKind::Last | FrameKind::More => {
                 if !is_running(self.mech.stage()) {
                     Some(Cause::OutOfOrder)
-                } else if self.parts.len() == 1023 {
+                } else if self.parts.len() == Message::MAX_COMMITTED {
                     Some(Cause::TooManyParts)
                 } else {
                     None
@@ -108,13 +110,13 @@ impl Hearer {
         ensures peer { self.new.peer ≡ self.old.peer }
         ensures refused { self.new.refused ≡ self.old.refused }
     {
-        let (_, _) = self.reader.feed(&[]);
+        self.reader.next_frame();
         self.offset = self.offset.saturating_add(self.begun);
         self.begun = 0;
         self.earlier = earlier;
     }
 
-    /// Takes octets of a frame's head.
+    // Takes octets of a frame's head.
     fn hear_head(&mut self, piece: &[u8]) -> usize
         requires some { 0 < length piece.now }
         requires head { (begun : List ℕ) × (self.old.reader ≡ InHead begun) }
@@ -126,6 +128,9 @@ impl Hearer {
         ensures hears { (opts : EngineOpts) (octets : List ℕ) (given : List (List (List ℕ))) →
             Listens opts octets given (hearing_of self.old) →
             Hears opts (octets ++ take result piece.now) given (hearing_of self.new) }
+        ensures breaks { (opts : EngineOpts) (octets : List ℕ) (given : List (List (List ℕ))) →
+            Listens opts octets given (hearing_of self.old) → IsSome self.new.refused →
+            JustBroken opts (octets ++ take result piece.now) }
     {
         if self.begun == 0 {
             match self.judge(piece[0]) {
@@ -169,7 +174,7 @@ impl Hearer {
         }
     }
 
-    /// Takes octets of a frame's body.
+    // Takes octets of a frame's body.
     fn hear_body(&mut self, left: u64, piece: &[u8]) -> Result<usize, AllocError>
         requires some { 0 < length piece.now }
         requires body { self.old.reader ≡ InBody left }
@@ -179,6 +184,7 @@ impl Hearer {
         ensures err { OnErr result (hearing_of self.new ≡ hearing_of self.old) }
         ensures said { self.new.said.items ≡ self.old.said.items }
         ensures peer { self.new.peer ≡ self.old.peer }
+        ensures refused { self.new.refused ≡ self.old.refused }
         ensures hears { (opts : EngineOpts) (octets : List ℕ) (given : List (List (List ℕ))) →
             Listens opts octets given (hearing_of self.old) →
             IfOk result (λ n. Hears opts (octets ++ take n piece.now) given (hearing_of self.new)) }
@@ -189,7 +195,8 @@ impl Hearer {
             piece.len()
         };
         let part = &piece[..count];
-        self.body.extend_from_slice(part)?;
+        make_room(&mut self.body, part.len())?;
+        self.body.extend_reserved(part);
         let (taken, _) = self.reader.feed(part);
         self.begun = self.begun.saturating_add(taken as u64);
         Ok(taken)
@@ -203,6 +210,10 @@ impl Hearer {
             Hears opts octets given (hearing_of self.old) →
             MatchResult result (λ _. Hears opts (octets ++ piece.now) given (hearing_of self.new))
             (λ e. Hears opts (octets ++ take e.taken piece.now) given (hearing_of self.new)) }
+        ensures breaks { (opts : EngineOpts) (octets : List ℕ) (given : List (List (List ℕ))) →
+            Hears opts octets given (hearing_of self.old) → self.old.refused ≡ None → IsSome self.new.refused →
+            IfOk result (λ n. Hears opts (octets ++ take n piece.now) given (hearing_of self.new)
+            × JustBroken opts (octets ++ take n piece.now)) }
         ensures grows { Grows (hearing_of self.old) (hearing_of self.new) }
         ensures settled { OnOk result (IsSettled (hearing_of self.new)) }
         ensures whole { IfOk result (λ taken. self.new.refused ≡ None → taken ≡ length piece.now) }
@@ -236,7 +247,7 @@ impl Hearer {
     }
 }
 
-/// The handshake of these options.
+// The handshake of these options.
 fn mechanism(alloc: Global, opts: &EngineOpts) -> Result<Mech, AllocError>
     requires { IsEngineOpts opts.now }
     ensures { IfOk result (λ m. m ≡ begun opts.now) }
@@ -248,7 +259,7 @@ fn mechanism(alloc: Global, opts: &EngineOpts) -> Result<Mech, AllocError>
     }
 }
 
-/// Whether the handshake is done.
+// Whether the handshake is done.
 fn is_running(stage: Stage) -> bool
     ensures { result ≡ handshake.is_running stage }
 {

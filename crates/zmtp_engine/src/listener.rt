@@ -1,4 +1,4 @@
-ghost use Rattle.std.specs.Prelude.{◌≡◌, ◌++◌, ◌≤◌, ◌+◌, ◌-◌, ◌<◌, ◌^◌, min, [], List, ℕ, length, take, Some, None, MatchResult, IfOk, IfSome, OnOk, Ok};
+ghost use Rattle.std.specs.Prelude.{◌≡◌, ◌++◌, ◌≤◌, ◌-◌, ◌^◌, min, [], List, ℕ, length, take, vec_capacity, Some, None, IsSome, MatchResult, IfOk, IfSome, OnOk, Ok};
 ghost use Rattle.zq_base.specs.declared.options.EngineOpts.{EngineOpts};
 ghost use Rattle.spec_zmtp.specs.Greeting.{refusal_in};
 ghost use Rattle.spec_zmtp.specs.OwnCommands.{IsEngineOpts};
@@ -14,29 +14,12 @@ use zq_base::{EngineOpts, Role};
 #[derive(Drop)]
 pub(crate) struct Listener {
     pub(crate) role: Role,
-    pub(crate) greeting: [u8; 64],
-    pub(crate) have: usize,
+    pub(crate) greeting: Vec<u8>,
     pub(crate) fault: Option<Refusal>,
     pub(crate) hearer: Hearer,
 }
 
-/// Adds octets of a piece to a greeting.
-fn fill(greeting: &mut [u8; 64], have: usize, piece: &[u8]) -> usize
-    requires { have ≤ 64 }
-    ensures count { result ≡ min (64 - have) (length piece.now) }
-    ensures filled { take (have + result) greeting.new ≡ take have greeting.old ++ take result piece.now }
-{
-    let room = 64 - have;
-    let count = if room < piece.len() {
-        room
-    } else {
-        piece.len()
-    };
-    greeting[have..have + count].copy_from_slice(&piece[..count]);
-    count
-}
-
-/// The refusal that a judgement is.
+// The refusal that a judgement is.
 fn fault_in(judgement: Judgement) -> Option<Refusal>
     ensures { result ≡ refusal_in judgement }
 {
@@ -51,37 +34,61 @@ fn fault_in(judgement: Judgement) -> Option<Refusal>
 
 impl Listener {
     ghost use Rattle.zmtp_engine.specs.Hearing.{Grows};
-    ghost use Rattle.zmtp_engine.specs.Listening.{ListensTo, IsSettledNow, refusal_now, is_greeted, said_now, rest_now};
+    ghost use Rattle.zmtp_engine.specs.Refusing.{BreaksAt};
+    ghost use Rattle.zmtp_engine.specs.Listening.{ListensTo, IsSettledNow, Greets, refusal_now, is_greeted, said_now, rest_now};
     ghost use Rattle.zmtp_engine.specs.ListenerView.{listening_of};
 
     /// A listener before the first octet.
     pub(crate) fn new(alloc: Global, opts: &EngineOpts) -> Result<Self, AllocError>
         requires { IsEngineOpts opts.now }
         ensures listens { IfOk result (λ l. ListensTo opts.now [] [] (listening_of l)) }
-        ensures within { IfOk result (λ l. l.have ≤ 64) }
+        ensures room { IfOk result (λ l. 64 ≤ vec_capacity l.greeting) }
         ensures settled { IfOk result (λ l. IsSettledNow (listening_of l)) }
     {
         Ok(Listener {
             role: opts.role,
-            greeting: [0; 64],
-            have: 0,
+            greeting: Vec::with_capacity(alloc, 64)?,
             fault: None,
             hearer: Hearer::new(alloc, opts)?,
         })
     }
 
+    // Takes octets of the greeting, up to the one at which it is refused.
+    fn greet(&mut self, piece: &[u8]) -> usize
+        requires room { 64 ≤ vec_capacity self.old.greeting }
+        requires few { length self.old.greeting.items ≤ 64 }
+        requires open { self.old.fault ≡ None }
+        ensures room { 64 ≤ vec_capacity self.new.greeting }
+        ensures greets { Greets (listening_of self.old) (listening_of self.new) piece.now result }
+    {
+        let mut count = 0;
+        'octets: while self.greeting.len() < 64 && count < piece.len() {
+            self.greeting.push_reserved(piece[count]);
+            count += 1;
+            let greeting = Greeting { role: self.role };
+            self.fault = fault_in(greeting.read(self.greeting.as_slice()));
+            if self.fault.is_some() {
+                return count;
+            }
+        }
+        count
+    }
+
     /// Hears a piece of the stream, up to a refusal.
     pub(crate) fn feed(&mut self, alloc: Global, piece: &[u8]) -> Result<usize, OutOfMemory>
-        requires within { self.old.have ≤ 64 }
+        requires room { 64 ≤ vec_capacity self.old.greeting }
         requires listens { (opts : EngineOpts) × (octets : List ℕ) × (given : List (List (List ℕ)))
             × ListensTo opts octets given (listening_of self.old) }
-        ensures within { self.new.have ≤ 64 }
+        ensures room { 64 ≤ vec_capacity self.new.greeting }
         ensures listens { (opts : EngineOpts) (octets : List ℕ) (given : List (List (List ℕ))) →
             ListensTo opts octets given (listening_of self.old) →
             MatchResult result (λ _. ListensTo opts (octets ++ piece.now) given (listening_of self.new))
             (λ e. ListensTo opts (octets ++ take e.taken piece.now) given (listening_of self.new)) }
+        ensures breaks { (opts : EngineOpts) (octets : List ℕ) (given : List (List (List ℕ))) →
+            ListensTo opts octets given (listening_of self.old) → refusal_now (listening_of self.old) ≡ None →
+            IsSome (refusal_now (listening_of self.new)) →
+            IfOk result (λ n. BreaksAt opts octets (take n piece.now)) }
         ensures grows { Grows (listening_of self.old).hearing (listening_of self.new).hearing }
-        ensures greets { self.new.fault ≡ None → self.old.fault ≡ None }
         ensures settled { OnOk result (IsSettledNow (listening_of self.new)) }
         ensures whole { IfOk result (λ n. refusal_now (listening_of self.new) ≡ None → n ≡ length piece.now) }
         ensures refused { IfSome (refusal_now (listening_of self.old)) (λ _.
@@ -94,14 +101,11 @@ impl Listener {
         if self.hearer.refused.is_some() {
             return Ok(0);
         }
-        let count = fill(&mut self.greeting, self.have, piece);
-        self.have += count;
-        let greeting = Greeting { role: self.role };
-        self.fault = fault_in(greeting.read(&self.greeting[..self.have]));
+        let count = self.greet(piece);
         if self.fault.is_some() {
             return Ok(count);
         }
-        if self.have < 64 {
+        if self.greeting.len() < 64 {
             return Ok(count);
         }
         match self.hearer.feed(alloc, &piece[count..]) {
@@ -112,20 +116,18 @@ impl Listener {
         }
     }
 
-    /// Whether the peer's greeting is accepted.
+    // Whether the peer's greeting is accepted.
     fn is_greeted(&self) -> bool
-        requires within { self.now.have ≤ 64 }
         ensures { result ≡ is_greeted (listening_of self.now) }
     {
         match self.fault {
             Some(_) => false,
-            None => self.have == 64,
+            None => self.greeting.len() == 64,
         }
     }
 
     /// All that is said so far.
     pub(crate) fn said(&self) -> &[u8]
-        requires within { self.now.have ≤ 64 }
         requires long { 64 ≤ length self.now.hearer.said.items }
         ensures { result.now ≡ said_now (listening_of self.now) }
     {
@@ -148,12 +150,11 @@ impl Listener {
 
     /// How many octets of what is unfinished have come.
     pub(crate) fn rest(&self) -> u64
-        requires within { self.now.have ≤ 64 }
         ensures { result ≡ min (rest_now (listening_of self.now)) (2 ^ 64 - 1) }
     {
         if self.is_greeted() {
             return self.hearer.earlier.saturating_add(self.hearer.begun);
         }
-        self.have as u64
+        self.greeting.len() as u64
     }
 }

@@ -1,6 +1,6 @@
 ghost use Rattle.std.specs.Prelude.{◌≡◌, ◌++◌, ◌∷◌, [], ◌≤◌, IfSome};
 ghost use Rattle.std.specs.Option.{option_to_list};
-ghost use Rattle.spec_zmtp.specs.DecodedStream.{encode_commands};
+ghost use Rattle.spec_zmtp.specs.Put.{encode_commands};
 ghost use Rattle.zmtp_mech.specs.Mechanism.{IsSayable};
 
 use bytes::BytesMut;

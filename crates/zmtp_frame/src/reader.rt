@@ -1,6 +1,6 @@
 ghost use Rattle.std.specs.Prelude.{◌≡◌, ◌≢◌, ◌≤◌, ◌<◌, [], length, take, ℕ};
 ghost use Rattle.zmtp_frame.specs.declared.step.Step.TheVariants.{NeedMore, FrameEnd};
-ghost use Rattle.zmtp_frame.specs.Reading.{Feeds, IsReading, InHead, left_at};
+ghost use Rattle.zmtp_frame.specs.Reading.{Feeds, IsReading, InHead, InBody, left_at};
 
 use crate::flags::size_limit;
 use crate::scan::{Scan, take_head};
@@ -49,6 +49,15 @@ impl FrameReader {
             have: 0,
             left: 0,
         }
+    }
+
+    /// Goes on to the next frame, behind a body that is whole.
+    pub fn next_frame(&mut self)
+        requires { self.old ≡ InBody 0 }
+        ensures { self.new ≡ InHead [] }
+    {
+        self.phase = Phase::InHead;
+        self.have = 0;
     }
 
     /// How many octets of the body are still to come, behind a head.

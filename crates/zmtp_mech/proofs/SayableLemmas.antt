@@ -101,7 +101,7 @@ welcome_sayable = record {
   brief = omega arith;
 }
 
-error_sayable : IsSayable our_error
+pub error_sayable : IsSayable our_error
 error_sayable = record {
   formed = record { named = omega arith; short = omega arith; hello = λ e. absurd (differs_at 0 _ _ refl e); error = λ e. (codes "Not-welcome", omega arith, refl); welcome = λ e. absurd (differs_at 0 _ _ refl e) };
   brief = omega arith;

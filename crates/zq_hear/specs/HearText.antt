@@ -10,8 +10,8 @@ use Rattle.zq_base.specs.declared.options.Peer.{Peer}
 use Rattle.zq_base.specs.declared.options.Role.TheVariants.{Null, PlainServer}
 use Rattle.spec_zmtp.specs.declared.cause.Cause.{Cause}
 use Rattle.spec_zmtp.specs.declared.cause.Cause.TheVariants as cause
-use Rattle.spec_zmtp.specs.DecodedStream.{Outcome, Unfinished, Refused, Decoded, Decodes}
-use Rattle.spec_journal.specs.Text.{part_text, parts_text}
+use Rattle.spec_zmtp.specs.DecodedStream.{Outcome, Unfinished, Refused, Decoded, Decodes, octets_said}
+use Rattle.zq_script.specs.PartText.{part_text, parts_text}
 
 -- who hears: without security, or a PLAIN server that accepts this login alone
 abbrev pub hear_opts : Kind → Option Login → EngineOpts
@@ -56,12 +56,13 @@ abbrev pub is_refused : Outcome → Bool
 is_refused (Unfinished octets) = false
 is_refused (Refused refusal) = true
 
-abbrev pub hear_text : Decoded → List ℕ
-hear_text d = said_text d.said ++ peer_text d.peer ++ flat_map message_text d.messages ++ outcome_text d.outcome
+-- all that is told of what octets mean to a side of these options
+abbrev pub hear_text : EngineOpts → Decoded → List ℕ
+hear_text opts d = said_text (octets_said opts d) ++ peer_text d.peer ++ flat_map message_text d.messages ++ outcome_text d.outcome
 
 -- the text and the refusal are those of what the octets mean under these options
 pub record IsHeard (opts : EngineOpts) (octets text : List ℕ) (refused : Bool) : Type 0 where
   pub decoded : Decoded
   pub decodes : Decodes opts octets decoded
-  pub text_is : text ≡ hear_text decoded
+  pub text_is : text ≡ hear_text opts decoded
   pub refused_is : refused ≡ is_refused decoded.outcome

@@ -1,7 +1,9 @@
 -- How far an engine that only hears has told what it heard.
 use Rattle.std.specs.Prelude.{ℕ, List, [], ◌++◌}
 use Rattle.zq_base.specs.declared.options.EngineOpts.{EngineOpts}
+use Rattle.spec_zmtp.specs.Put.{says}
 use Rattle.spec_zmtp.specs.DecodedStream.{Decoded, Decodes}
+use Rattle.zmtp_engine.specs.Answers.{Standing, IsShaking, IsRunning, IsRefused}
 use Rattle.zmtp_engine.specs.Conversation.{Past, Conversation, Follows, IsCurrent}
 
 -- what an engine heard and what that means, the messages that it gave, and the octets of it that were written
@@ -18,7 +20,7 @@ untold opts octets d = record { opts = opts; heard = octets; means = d; given = 
 
 -- what the engine went through, where it was offered nothing
 abbrev pub past_of : Told → Past
-past_of t = record { opts = t.opts; heard = t.heard; given = t.given; offered = []; written = t.written }
+past_of t = record { opts = t.opts; heard = t.heard; given = t.given; put = says t.means.said; written = t.written }
 
 -- more octets were written
 abbrev pub with_written : List ℕ → Told → Told
@@ -37,3 +39,9 @@ pub record Tells (t : Told) (c : Conversation) : Type 0 where
 -- an engine that only hears
 abbrev pub OnlyHears : Conversation → Type 0
 OnlyHears c = (t : Told) × Tells t c
+
+-- what is no refusal
+abbrev pub IsOpen : Standing → Type 0
+IsOpen IsShaking = Unit {0}
+IsOpen (IsRunning peer) = Unit {0}
+IsOpen (IsRefused refusal) = ⊥

@@ -2,7 +2,9 @@
 #![tactic(auto)]
 
 mod hearing;
+mod laws;
 mod lines;
 mod speech;
 
 pub use hearing::{Heard, hear};
+pub use laws::texts_work;

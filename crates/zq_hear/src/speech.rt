@@ -1,8 +1,9 @@
 ghost use Rattle.std.specs.Prelude.{◌≡◌, ◌++◌, [], List, ℕ, IfOk, OnOk, flat_map};
-ghost use Rattle.spec_zmtp.specs.DecodedStream.{Decoded};
+ghost use Rattle.spec_zmtp.specs.DecodedStream.{Decoded, octets_said};
 ghost use Rattle.spec_zmtp.specs.OwnCommands.{IsEngineOpts};
 ghost use Rattle.zq_hear.specs.HearText.{message_text, outcome_text, is_refused};
-ghost use Rattle.zq_hear.specs.Told.{Told, Tells, OnlyHears, untold, with_written, with_given};
+ghost use Rattle.zmtp_engine.specs.Answers.{standing_now};
+ghost use Rattle.zq_hear.specs.Told.{IsOpen, Told, Tells, OnlyHears, untold, with_written, with_given};
 
 use crate::lines::{push_message, push_refusal, push_rest};
 use std::alloc::{AllocError, Global};
@@ -22,7 +23,8 @@ pub(crate) fn listen(alloc: Global, opts: EngineOpts, octets: &[u8]) -> Result<E
 /// Takes out all octets that an engine has to write.
 pub(crate) fn take_said(alloc: Global, engine: &mut Engine) -> Result<Vec<u8>, AllocError>
     requires hears { OnlyHears engine.old }
-    ensures all { IfOk result (λ said. (t : Told) → Tells t engine.old → t.written ++ said.items ≡ t.means.said) }
+    ensures all { IfOk result (λ said. (t : Told) → Tells t engine.old → t.written ++ said.items
+        ≡ octets_said t.opts t.means) }
     ensures tells { IfOk result (λ said. (t : Told) → Tells t engine.old →
         Tells (with_written said.items t) engine.new) }
 {
@@ -54,6 +56,18 @@ pub(crate) fn push_messages(
     Ok(())
 }
 
+// Appends how many octets of what is unfinished came, and that nothing is refused.
+fn push_unfinished(out: &mut Vec<u8>, engine: &Engine) -> Result<bool, AllocError>
+    requires unrefused { IsOpen (standing_now engine.now) }
+    ensures text { OnOk result ((t : Told) → Tells t engine.now →
+        out.new.items ≡ out.old.items ++ outcome_text t.means.outcome) }
+    ensures refused { IfOk result (λ refused. (t : Told) → Tells t engine.now →
+        refused ≡ is_refused t.means.outcome) }
+{
+    push_rest(out, engine.rest())?;
+    Ok(false)
+}
+
 /// Appends how the stream stands, and tells whether it is refused.
 pub(crate) fn push_outcome(out: &mut Vec<u8>, engine: &Engine) -> Result<bool, AllocError>
     ensures text { OnOk result ((t : Told) → Tells t engine.now →
@@ -66,9 +80,7 @@ pub(crate) fn push_outcome(out: &mut Vec<u8>, engine: &Engine) -> Result<bool, A
             push_refusal(out, refusal)?;
             return Ok(true);
         }
-        State::Shaking | State::Running => {
-            push_rest(out, engine.rest())?;
-            return Ok(false);
-        }
+        State::Shaking => return push_unfinished(out, engine),
+        State::Running(_) => return push_unfinished(out, engine),
     }
 }

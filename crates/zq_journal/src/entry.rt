@@ -2,6 +2,7 @@ ghost use Rattle.std.specs.Prelude.{◌≡◌, ◌++◌, OnOk, decimal, flat_map
 ghost use Rattle.spec_journal.specs.Text.{answer_text, entry_text, actor_text, send_refusal_text, recv_refusal_text, rule_text};
 
 use crate::part::push_parts;
+use crate::report::push_report;
 use itoa::Buffer;
 use spec_journal::{ActorPart, Answer, Entry};
 use spec_pattern::{RecvRefusal, Rule, SendRefusal};
@@ -77,6 +78,7 @@ fn push_answer(alloc: Global, out: &mut Vec<u8>, answer: &Answer) -> Result<(), 
             out.extend_from_slice(b"ok p")?;
             push_number(out, u64::from(pair.0))
         }
+        Answer::Many(report) => push_report(out, report),
         Answer::Got(pair, message) => {
             out.extend_from_slice(b"msg p")?;
             push_number(out, u64::from(pair.0))?;

@@ -4,6 +4,7 @@
 mod entry;
 mod journal;
 mod part;
+mod report;
 mod row;
 
 pub use entry::push_number;

@@ -1,28 +1,30 @@
-ghost use Rattle.std.specs.Prelude.{◌≡◌, ◌++◌, OnOk};
-ghost use Rattle.spec_journal.specs.Text.{is_dash, is_graphic, is_plain, part_text, parts_text};
+ghost use Rattle.std.specs.Prelude.{◌≡◌, ◌++◌, OnOk, codes};
+ghost use Rattle.std.specs.Char.{is_ascii_graphic};
 ghost use Rattle.std.specs.List.{list_all};
+ghost use Rattle.std.specs.Str.{bytes_eq};
+ghost use Rattle.zq_script.specs.PartText.{is_plain_part, part_text, parts_text};
 
 use std::alloc::{AllocError, Global};
 use zq_base::Message;
 
-/// Whether all octets are printed and no space is among them.
-fn is_graphic_text(part: &[u8]) -> bool
-    ensures { result ≡ list_all is_graphic part.now }
+// Whether all octets are printable and none is a space.
+fn is_graphic(part: &[u8]) -> bool
+    ensures { result ≡ list_all is_ascii_graphic part.now }
 {
-    part.iter().all(|octet| (33..=126).contains(octet))
+    part.iter().all(|octet| octet.is_ascii_graphic())
 }
 
 fn is_dash(part: &[u8]) -> bool
-    ensures { result ≡ is_dash part.now }
+    ensures { result ≡ bytes_eq part.now (codes "-") }
 {
-    part.starts_with(b"-") && part.len() == 1
+    part == b"-".as_slice()
 }
 
-/// Whether the part would be read back as itself.
+// Whether the part would be read back as itself.
 fn is_plain(part: &[u8]) -> bool
-    ensures { result ≡ is_plain part.now }
+    ensures { result ≡ is_plain_part part.now }
 {
-    is_graphic_text(part) && !is_dash(part) && !part.starts_with(b"0x")
+    is_graphic(part) && (!is_dash(part) && !part.starts_with(b"0x"))
 }
 
 /// Appends a part: `-` where it is empty, itself where it would be read back, else its octets in hex.

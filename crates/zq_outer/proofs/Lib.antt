@@ -1,3 +1,5 @@
 pub mod TapeLemmas
 pub mod SourceLemmas
 pub mod SinkLemmas
+pub mod MemLinkLemmas
+pub mod CircleLemmas

@@ -2,5 +2,10 @@ pub mod Count
 pub mod Source
 pub mod Sink
 pub mod Link
+pub mod Host
 pub mod Clock
 pub mod Memory
+pub mod Pace
+pub mod Plan
+pub mod Mates
+pub mod Circle

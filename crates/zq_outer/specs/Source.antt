@@ -12,7 +12,7 @@ IsCounted got.Failed room = Unit {0}
 -- One read: what was left, what is left now, the answer, and the buffer. The octets given are
 -- the next ones, it ends where nothing is left, and a failed read takes nothing.
 abbrev pub Reads : Option (List ℕ) → Option (List ℕ) → Got → List ℕ → Type 0
-Reads None new answer buf = new ≡ None
+Reads None new answer buf = Unit {0}
 Reads (Some left) new (got.Bytes n) buf =
     (rest : List ℕ) × (left ≡ take n buf ++ rest) × (new ≡ Some rest)
 Reads (Some left) new got.End buf = (left ≡ []) × (new ≡ Some [])
@@ -20,11 +20,11 @@ Reads (Some left) new got.Failed buf = new ≡ Some left
 
 -- several reads: these octets were the next ones
 abbrev pub Consumes : Option (List ℕ) → List ℕ → Option (List ℕ) → Type 0
-Consumes None octets new = new ≡ None
+Consumes None octets new = Unit {0}
 Consumes (Some left) octets new =
     (rest : List ℕ) × (left ≡ octets ++ rest) × (new ≡ Some rest)
 
 -- reads to the end: these octets were all that was left
 abbrev pub ConsumesAll : Option (List ℕ) → List ℕ → Option (List ℕ) → Type 0
-ConsumesAll None octets new = new ≡ None
+ConsumesAll None octets new = Unit {0}
 ConsumesAll (Some left) octets new = (left ≡ octets) × (new ≡ Some [])

@@ -22,6 +22,7 @@ pub enum Dialled<L> {
 /// Where links come from. A key is the number of the listener or of the session that asks.
 pub trait Host {
     ghost use Rattle.zq_outer.specs.Count.{RoseIf};
+    ghost use Rattle.zq_outer.specs.Host.{IfLinked, IsNew};
 
     type L: Link;
 
@@ -39,12 +40,14 @@ pub trait Host {
     /// Takes one link that came to a listener.
     fn accept(&mut self, key: u32) -> Dialled<Self::L>
         ensures faults { RoseIf (faults self.old) (faults self.new) (result ≡ Dialled.Failed) }
-        ensures stalls { RoseIf (stalls self.old) (stalls self.new) (result ≡ Dialled.NotReady) };
+        ensures stalls { RoseIf (stalls self.old) (stalls self.new) (result ≡ Dialled.NotReady) }
+        ensures fresh { IfLinked result (λ link. IsNew (Self.L.heard link) (Self.L.said link)) };
 
     /// Dials an address. Where it isn't ready, it is asked again with the same key.
     fn connect(&mut self, key: u32, to: &Address) -> Dialled<Self::L>
         ensures faults { RoseIf (faults self.old) (faults self.new) (result ≡ Dialled.Failed) }
-        ensures stalls { RoseIf (stalls self.old) (stalls self.new) (result ≡ Dialled.NotReady) };
+        ensures stalls { RoseIf (stalls self.old) (stalls self.new) (result ≡ Dialled.NotReady) }
+        ensures fresh { IfLinked result (λ link. IsNew (Self.L.heard link) (Self.L.said link)) };
 
     /// Gives up what this key listens to or dials.
     fn forget(&mut self, key: u32)

@@ -13,7 +13,7 @@ use Rattle.zq_script.specs.declared.known.Known.{Known}
 use Rattle.zq_script.specs.declared.script.Line.{Line}
 use Rattle.zq_script.specs.declared.statement.Statement.{Statement}
 use Rattle.zq_script.specs.declared.statement.Statement.TheVariants.{Actor, Socket, Other}
-use Rattle.zq_script.specs.Known.{Knows, kept_socket}
+use Rattle.zq_script.specs.Known.{HasLearned, kept_socket}
 use Rattle.zq_script.specs.Statement.{actor_names, socket_count, socket_of}
 
 apart : (bs cs ks : List ℕ) → bytes_eq bs cs ≡ false → bytes_eq bs ks ≡ true → bytes_eq cs ks ≡ false
@@ -43,20 +43,20 @@ get_by-after items bs m n w h =
     (λ cs e. other_entries _ _ _ _ h.3 _ (λ x y. (eq_by_cmp_equiv nat_list_cmp_total).congr cs (items x) (items y)) (λ k. apart_in_order bs cs (items k) e))
 
 -- nothing is known before the first line
-pub knows_nothing : (known : Known) → known.actors.items ≡ [] → IsEmpty known.sockets → known.count ≡ 0 → Knows known []
+pub knows_nothing : (known : Known) → known.actors.items ≡ [] → IsEmpty known.sockets → known.count ≡ 0 → HasLearned known []
 unfolding actor_names socket_count socket_of
 knows_nothing known a s n = record { actors = a; sockets = λ word. ap (lookup _) s; count = n }
 
 -- a new actor begins, with no socket
 pub knows_actor : (old new : Known) (name : List ℕ) → new.actors.items ≡ old.actors.items ++ name ∷ [] → IsEmpty new.sockets → new.count ≡ 0
-    → (earlier : List Statement) → Knows old earlier → Knows new (Actor name ∷ earlier)
+    → (earlier : List Statement) → HasLearned old earlier → HasLearned new (Actor name ∷ earlier)
 unfolding actor_names socket_count socket_of
 knows_actor old new name a s n earlier h = record { actors = a ∙ ap (λ l. l ++ name ∷ []) h.actors; sockets = λ word. ap (lookup _) s; count = n }
 
 -- the last actor has one more socket
 pub knows_socket : (old new : Known) (name key : List ℕ) → key ≡ name → new.actors.items ≡ old.actors.items
     → ((word : List ℕ) → kept_socket new word ≡ (if bytes_eq key word then Some old.count else kept_socket old word)) → new.count ≡ old.count + 1
-    → (earlier : List Statement) (line : Line) → Knows old earlier → Knows new (Socket name line ∷ earlier)
+    → (earlier : List Statement) (line : Line) → HasLearned old earlier → HasLearned new (Socket name line ∷ earlier)
 unfolding actor_names socket_count socket_of
 knows_socket old new name key k a s n earlier line h = record {
   actors = a ∙ h.actors;
@@ -65,6 +65,6 @@ knows_socket old new name key k a s n earlier line h = record {
 }
 
 -- other lines make nothing known
-pub knows_other : (known : Known) (line : Line) (earlier : List Statement) → Knows known earlier → Knows known (Other line ∷ earlier)
+pub knows_other : (known : Known) (line : Line) (earlier : List Statement) → HasLearned known earlier → HasLearned known (Other line ∷ earlier)
 unfolding actor_names socket_count socket_of
 knows_other known line earlier h = record { actors = h.actors; sockets = h.sockets; count = h.count }

@@ -1,6 +1,5 @@
-mod StandardFacts
+pub mod StandardFacts
 mod WordsLemmas
-mod NumberLemmas
 mod AnswerLemmas
 mod PlaceLemmas
 mod PartLemmas
@@ -8,3 +7,4 @@ mod OptionLemmas
 mod KnownLemmas
 mod GroupLemmas
 mod ScriptLemmas
+mod PartTextLemmas

@@ -1,16 +1,16 @@
 -- Scripts and words worked out by hand: a wrong rule in the specs does not check.
 use Rattle.std.proofs.Common.{◌≡◌, refl, ◌++◌, List, [], ◌∷◌, ℕ}
-use Rattle.std.specs.Prelude.{Ok, Err, Some, None, codes, ⊤}
+use Rattle.std.specs.Prelude.{Ok, Err, codes, ⊤}
 use Rattle.std.specs.List.{join_with_byte}
 use Rattle.hex.proofs.OnLiterals.{hex_on_literals}
 use Rattle.zq_base.specs.declared.endpoint.Endpoint.TheVariants.{Inproc}
 use Rattle.zq_base.specs.declared.kind.Kind.TheVariants.{Push, Pull}
 use Rattle.zq_script.specs.declared.fault.Cause.TheVariants.{BadWord, BadPart, UnknownSocket}
 use Rattle.zq_script.specs.declared.script.Call.TheVariants.{Socket, Bind, Connect, Send, Recv}
-use Rattle.zq_script.specs.Grammar.{first_word, line_end, new_name, known_socket, kind_of, verb_of, room_for_actor, some_actor, last_endpoint, tries_of, call_of, actor_line, socket_line, call_line, said_by, statement_of}
+use Rattle.zq_script.specs.Grammar.{first_word, line_end, new_name, known_socket, kind_word, verb_of, room_for_actor, some_actor, last_endpoint, tries_words, call_of, actor_line, socket_line, call_line, statement_by, statement_of}
 use Rattle.zq_script.specs.Name.{is_name}
-use Rattle.zq_script.specs.Number.{is_number, digits_value, number_in}
-use Rattle.zq_script.specs.Part.{hex_part, plain_part, part_of, parts_of, message_of}
+use Rattle.zq_base.specs.Number.{is_number, number_in}
+use Rattle.zq_script.specs.Part.{hex_part, plain_part, part_of, parts_of, parts_message}
 use Rattle.zq_script.specs.Place.{is_inproc_name, endpoint_of}
 use Rattle.zq_script.specs.Script.{at_line, line_statement, statements_from, leading_lines, actors_of, script_of}
 use Rattle.zq_script.specs.SocketOption.{default_options, mark_of, with_option, with_options}
@@ -20,12 +20,6 @@ use Rattle.zq_script.specs.Words.{without_empty_end, lines_of, words_of, is_skip
 -- lines, each but the last ended by LF
 abbrev text : List (List ℕ) → List ℕ
 text lines = join_with_byte 10 lines
-
--- numbers have no sign and no leading zero
-numbers : (number_in 0 10 (codes "0") ≡ Some 0) × (number_in 1 10 (codes "0") ≡ None) × (number_in 1 10 (codes "10") ≡ Some 10)
-    × (number_in 1 10 (codes "11") ≡ None) × (number_in 1 10 (codes "07") ≡ None) × (number_in 1 10 (codes "+7") ≡ None) × (number_in 1 10 [] ≡ None)
-unfolding number_in is_number digits_value
-numbers = (refl, refl, refl, refl, refl, refl, refl)
 
 -- the last line may lack its LF, and only then is it no empty one
 line_ends : (lines_of [] ≡ []) × (lines_of (10 ∷ 10 ∷ []) ≡ [] ∷ [] ∷ []) × (lines_of (97 ∷ 10 ∷ 98 ∷ []) ≡ (97 ∷ []) ∷ (98 ∷ []) ∷ [])
@@ -45,23 +39,23 @@ unfolding part_of plain_part hex_part hex_on_literals
 parts = (refl, refl, refl, refl, refl, refl)
 
 -- what computes the words of lines on a literal
-unfoldable words_on_literals : ⊤
-unfolding lines_of without_empty_end words_of is_skipped is_name number_in is_number digits_value
+unfoldable pub words_on_literals : ⊤
+unfolding lines_of without_empty_end words_of is_skipped is_name number_in is_number
 words_on_literals = tt
 
 -- what computes the values that words give on a literal
-unfoldable values_on_literals : ⊤
-unfolding endpoint_of is_inproc_name message_of parts_of part_of plain_part hex_part mark_of with_option with_options
+unfoldable pub values_on_literals : ⊤
+unfolding endpoint_of is_inproc_name parts_message parts_of part_of plain_part hex_part mark_of with_option with_options
 values_on_literals = tt
 
 -- what computes what a line says on a literal
-unfoldable grammar_on_literals : ⊤
-unfolding verb_of kind_of known_socket new_name first_word line_end room_for_actor some_actor tries_of last_endpoint call_of
+unfoldable pub grammar_on_literals : ⊤
+unfolding verb_of kind_word known_socket new_name first_word line_end room_for_actor some_actor tries_words last_endpoint call_of
 grammar_on_literals = tt
 
 -- what computes a whole script on a literal
-unfoldable script_on_literals : ⊤
-unfolding actor_line socket_line call_line said_by statement_of actor_names socket_count socket_of
+unfoldable pub script_on_literals : ⊤
+unfolding actor_line socket_line call_line statement_by statement_of actor_names socket_count socket_of
 script_on_literals = tt
 
 -- a script of one actor with two sockets

@@ -3,7 +3,7 @@ use Rattle.std.specs.Prelude.{ℕ, Bool, List, [], ◌∷◌, Result, Ok, Err, o
 use Rattle.std.specs.List.{starts_with}
 use Rattle.std.specs.Str.{bytes_eq}
 use Rattle.zq_base.specs.declared.kind.Kind.{Kind}
-use Rattle.zq_base.specs.declared.kind.Kind.TheVariants.{Push, Pull}
+use Rattle.zq_base.specs.declared.kind.Kind.TheVariants.{Push, Pull, Pair, Dealer}
 use Rattle.zq_script.specs.declared.fault.Cause.{Cause}
 use Rattle.zq_script.specs.declared.fault.Cause.TheVariants.{BadWord, UnknownSocket, DoubleName, TooManyActors}
 use Rattle.zq_base.specs.declared.endpoint.Endpoint.{Endpoint}
@@ -17,8 +17,8 @@ use Rattle.zq_script.specs.declared.verb.Verb.{Verb}
 use Rattle.zq_script.specs.declared.verb.Verb.TheVariants as verb
 use Rattle.zq_script.specs.Answer.{◌>>=◌}
 use Rattle.zq_script.specs.Name.{is_name}
-use Rattle.zq_script.specs.Number.{number_in}
-use Rattle.zq_script.specs.Part.{message_of}
+use Rattle.zq_base.specs.Number.{number_in}
+use Rattle.zq_script.specs.Part.{parts_message}
 use Rattle.zq_script.specs.Place.{endpoint_of}
 use Rattle.zq_script.specs.SocketOption.{default_options, with_options}
 use Rattle.zq_script.specs.Statement.{actor_names, is_actor, socket_of}
@@ -46,11 +46,13 @@ unfoldable pub known_socket : List Statement → List ℕ → Result ℕ Cause
 known_socket earlier word =
     if is_name word then ok_or (socket_of word earlier) UnknownSocket else Err BadWord
 
--- the kind that the word names: PUSH or PULL so far
-unfoldable pub kind_of : List ℕ → Result Kind Cause
-kind_of word =
+-- the kind that the word names, of those that are built so far
+unfoldable pub kind_word : List ℕ → Result Kind Cause
+kind_word word =
     if bytes_eq word (codes "PUSH") then Ok Push
     else if bytes_eq word (codes "PULL") then Ok Pull
+    else if bytes_eq word (codes "PAIR") then Ok Pair
+    else if bytes_eq word (codes "DEALER") then Ok Dealer
     else Err BadWord
 
 -- what the first word of a line asks
@@ -82,16 +84,16 @@ last_endpoint words = do
   Ok endpoint
 
 -- a number of tries: `tries=N` with N from 1 to 100,000
-unfoldable pub tries_in : List ℕ → Result ℕ Cause
-tries_in word =
+unfoldable pub tries_word : List ℕ → Result ℕ Cause
+tries_word word =
     if starts_with nat_eq word (codes "tries=")
     then ok_or (number_in 1 100000 (drop 6 word)) BadWord else Err BadWord
 
 -- how often a receive is tried, by the words that end its line: once, where there are none
-unfoldable pub tries_of : Words → Result ℕ Cause
-tries_of [] = Ok 1
-tries_of (word ∷ words) = do
-  tries ← tries_in word
+unfoldable pub tries_words : Words → Result ℕ Cause
+tries_words [] = Ok 1
+tries_words (word ∷ words) = do
+  tries ← tries_word word
   _ ← line_end words
   Ok tries
 
@@ -100,8 +102,8 @@ unfoldable pub call_of : SocketVerb → ℕ → Words → Result Call Cause
 call_of on.Bind socket words = last_endpoint words >>= λ endpoint. Ok (call.Bind socket endpoint)
 call_of on.Connect socket words =
     last_endpoint words >>= λ endpoint. Ok (call.Connect socket endpoint)
-call_of on.Send socket words = message_of words >>= λ message. Ok (call.Send socket message)
-call_of on.Recv socket words = tries_of words >>= λ tries. Ok (call.Recv socket tries)
+call_of on.Send socket words = parts_message words >>= λ message. Ok (call.Send socket message)
+call_of on.Recv socket words = tries_words words >>= λ tries. Ok (call.Recv socket tries)
 
 -- `actor A`, by the words behind the first
 unfoldable pub actor_line : List Statement → Words → Result Statement Cause
@@ -119,7 +121,7 @@ socket_line number earlier words = do
   first ← first_word words
   name ← new_name (is_some (socket_of first.0 earlier)) first.0
   second ← first_word first.1
-  kind ← kind_of second.0
+  kind ← kind_word second.0
   options ← with_options second.1 default_options
   Ok (says.Socket name (record { number = number; call = call.Socket kind options }))
 
@@ -133,14 +135,14 @@ call_line number earlier verb words = do
   Ok (says.Other (record { number = number; call = asked }))
 
 -- what a line says whose first word is this verb
-unfoldable pub said_by : ℕ → List Statement → Verb → Words → Result Statement Cause
-said_by number earlier verb.Actor words = actor_line earlier words
-said_by number earlier verb.Socket words = socket_line number earlier words
-said_by number earlier (verb.On asked) words = call_line number earlier asked words
+unfoldable pub statement_by : ℕ → List Statement → Verb → Words → Result Statement Cause
+statement_by number earlier verb.Actor words = actor_line earlier words
+statement_by number earlier verb.Socket words = socket_line number earlier words
+statement_by number earlier (verb.On asked) words = call_line number earlier asked words
 
 -- what the line of this number and these words says, behind the earlier ones
 unfoldable pub statement_of : ℕ → List Statement → Words → Result Statement Cause
 statement_of number earlier words = do
   first ← first_word words
   verb ← verb_of first.0
-  said_by number earlier verb first.1
+  statement_by number earlier verb first.1

@@ -12,7 +12,7 @@ abbrev pub kept_socket : Known → List ℕ → Option ℕ
 kept_socket known word = get_by (λ key. slice_cmp nat_cmp word key.items) known.sockets
 
 -- what is kept is what the earlier lines, the last of them first, have made known
-pub record Knows (known : Known) (earlier : List Statement) : Type 0 where
+pub record HasLearned (known : Known) (earlier : List Statement) : Type 0 where
   pub actors : known.actors.items ≡ actor_names earlier
   pub sockets : (word : List ℕ) → kept_socket known word ≡ socket_of word earlier
   pub count : known.count ≡ socket_count earlier

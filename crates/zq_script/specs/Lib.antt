@@ -1,7 +1,7 @@
 pub mod Words
-pub mod Number
 pub mod Name
 pub mod Part
+pub mod PartText
 pub mod Place
 pub mod Answer
 pub mod Statement

@@ -34,8 +34,8 @@ parts_of (word ∷ words) = do
   Ok (part ∷ parts)
 
 -- the message of 1 to 1,024 parts; both a bad part and one too many are bad parts
-unfoldable pub message_of : Words → Result (List (List ℕ)) Cause
-message_of words =
+unfoldable pub parts_message : Words → Result (List (List ℕ)) Cause
+parts_message words =
     if nat_eq (length words) 0 then Err BadWord
     else if nat_lt 1024 (length words) then Err BadPart
     else parts_of words

@@ -6,7 +6,7 @@ use Rattle.zq_base.specs.declared.options.Role.TheVariants.{Null}
 use Rattle.zq_script.specs.declared.fault.Cause.{Cause}
 use Rattle.zq_script.specs.declared.fault.Cause.TheVariants.{BadWord}
 use Rattle.zq_script.specs.Answer.{◌>>=◌}
-use Rattle.zq_script.specs.Number.{number_in}
+use Rattle.zq_base.specs.Number.{number_in}
 use Rattle.zq_script.specs.Words.{Words}
 
 -- the options of a socket that is given none

@@ -1,16 +1,15 @@
 ghost use Rattle.std.specs.Prelude.{◌≡◌, map};
 ghost use Rattle.zq_script.specs.Answer.{Gives};
-ghost use Rattle.zq_script.specs.Grammar.{last_endpoint, tries_in, tries_of, call_of};
+ghost use Rattle.zq_script.specs.Grammar.{last_endpoint, tries_word, tries_words, call_of};
 
 use crate::endpoint::read_endpoint;
 use crate::fault::{Cause, LineError};
-use crate::number::number_in;
 use crate::part::read_message;
 use crate::script::Call;
 use crate::verb::SocketVerb;
 use crate::words::{first_word, line_end};
 use std::alloc::Global;
-use zq_base::Endpoint;
+use zq_base::{Endpoint, number_in};
 
 // The endpoint that ends a line.
 #[tactic(auto, unfolding(crate::specs::Grammar::last_endpoint))]
@@ -24,23 +23,23 @@ fn read_last_endpoint(alloc: Global, words: &[&[u8]]) -> Result<Endpoint, LineEr
 }
 
 // A number of tries.
-#[tactic(auto, unfolding(crate::specs::Grammar::tries_in))]
+#[tactic(auto, unfolding(crate::specs::Grammar::tries_word))]
 fn read_tries_in(word: &[u8]) -> Result<u32, LineError>
-    ensures { Gives result (tries_in word.now) }
+    ensures { Gives result (tries_word word.now) }
 {
     if !word.starts_with(b"tries=") {
         return Err(LineError::Fault(Cause::BadWord));
     }
     match number_in(1, 100_000, &word[6..]) {
-        Some(tries) => Ok(tries),
+        Some(tries) => Ok(tries as u32),
         None => Err(LineError::Fault(Cause::BadWord)),
     }
 }
 
 // How often a receive is tried.
-#[tactic(auto, unfolding(crate::specs::Grammar::tries_of, crate::specs::Grammar::first_word))]
+#[tactic(auto, unfolding(crate::specs::Grammar::tries_words, crate::specs::Grammar::first_word))]
 fn read_tries(words: &[&[u8]]) -> Result<u32, LineError>
-    ensures { Gives result (tries_of (map (λ x. x.now) words.now)) }
+    ensures { Gives result (tries_words (map (λ x. x.now) words.now)) }
 {
     if words.is_empty() {
         return Ok(1);

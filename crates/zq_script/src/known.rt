@@ -14,7 +14,7 @@ pub(crate) struct Known {
 
 impl Known {
     ghost use Rattle.std.specs.Prelude.{◌≡◌, ◌+◌, ◌^◌, ◌<◌, ◌≤◌, ◌∷◌, [], List, length, OnOk};
-    ghost use Rattle.zq_script.specs.Known.{Knows};
+    ghost use Rattle.zq_script.specs.Known.{HasLearned};
     ghost use Rattle.zq_script.specs.Statement.{actor_names, is_actor, socket_of};
     ghost use Rattle.zq_script.specs.declared.script.Line.{Line};
     ghost use Rattle.zq_script.specs.declared.statement.Statement.{Statement};
@@ -22,7 +22,7 @@ impl Known {
 
     /// What is known before the first line.
     pub(crate) fn new(alloc: Global) -> Known
-        ensures knows { Knows result [] }
+        ensures knows { HasLearned result [] }
         ensures count { result.count ≡ 0 }
     {
         Known {
@@ -34,7 +34,7 @@ impl Known {
 
     /// How many actors there are.
     pub(crate) fn actors(&self) -> usize
-        ensures { (earlier : List Statement) → Knows self.now earlier
+        ensures { (earlier : List Statement) → HasLearned self.now earlier
             → result ≡ length (actor_names earlier) }
     {
         self.actors.len()
@@ -42,7 +42,7 @@ impl Known {
 
     /// Whether there is an actor of this name.
     pub(crate) fn has_actor(&self, name: &[u8]) -> bool
-        ensures { (earlier : List Statement) → Knows self.now earlier
+        ensures { (earlier : List Statement) → HasLearned self.now earlier
             → result ≡ is_actor name.now earlier }
     {
         for actor in &self.actors {
@@ -55,7 +55,7 @@ impl Known {
 
     /// The number of the last actor's socket of this name.
     pub(crate) fn socket(&self, name: &[u8]) -> Option<u32>
-        ensures { (earlier : List Statement) → Knows self.now earlier
+        ensures { (earlier : List Statement) → HasLearned self.now earlier
             → result ≡ socket_of name.now earlier }
     {
         self.sockets.get(name).copied()
@@ -63,8 +63,8 @@ impl Known {
 
     // A new actor begins.
     fn add_actor(&mut self, alloc: Global, name: &Octets) -> Result<(), AllocError>
-        ensures knows { OnOk result ((earlier : List Statement) → Knows self.old earlier
-            → Knows self.new (Actor name.now ∷ earlier)) }
+        ensures knows { OnOk result ((earlier : List Statement) → HasLearned self.old earlier
+            → HasLearned self.new (Actor name.now ∷ earlier)) }
         ensures count { OnOk result (self.new.count ≡ 0) }
     {
         let name = name.copy(alloc)?;
@@ -78,7 +78,7 @@ impl Known {
     fn add_socket(&mut self, alloc: Global, name: &Octets) -> Result<(), AllocError>
         requires { self.old.count + 1 < 2 ^ 32 }
         ensures knows { OnOk result ((earlier : List Statement) (line : Line)
-            → Knows self.old earlier → Knows self.new (Socket name.now line ∷ earlier)) }
+            → HasLearned self.old earlier → HasLearned self.new (Socket name.now line ∷ earlier)) }
         ensures count { OnOk result (self.new.count ≡ self.old.count + 1) }
     {
         let key = Vec::from_slice(alloc, name.as_slice())?;
@@ -90,8 +90,8 @@ impl Known {
     /// Takes in what a line says.
     pub(crate) fn learn(&mut self, alloc: Global, statement: &Statement) -> Result<(), AllocError>
         requires { self.old.count + 1 < 2 ^ 32 }
-        ensures knows { OnOk result ((earlier : List Statement) → Knows self.old earlier
-            → Knows self.new (statement.now ∷ earlier)) }
+        ensures knows { OnOk result ((earlier : List Statement) → HasLearned self.old earlier
+            → HasLearned self.new (statement.now ∷ earlier)) }
         ensures count { OnOk result (self.new.count ≤ self.old.count + 1) }
     {
         match statement {

@@ -6,9 +6,9 @@ mod endpoint;
 mod fault;
 mod group;
 mod known;
+mod laws;
 mod line;
 mod name;
-mod number;
 mod options;
 mod part;
 mod read;
@@ -18,5 +18,6 @@ mod verb;
 mod words;
 
 pub use fault::{Cause, ReadScript, ScriptFault};
+pub use laws::a_printed_part_is_read_back;
 pub use read::read_script;
 pub use script::{ActorScript, Call, Line, Script};

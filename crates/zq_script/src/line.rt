@@ -1,7 +1,7 @@
 ghost use Rattle.std.specs.Prelude.{◌≡◌, List, map};
 ghost use Rattle.zq_script.specs.Answer.{Gives};
-ghost use Rattle.zq_script.specs.Grammar.{new_name, known_socket, kind_of, room_for_actor, some_actor, actor_line, socket_line, call_line, said_by, statement_of};
-ghost use Rattle.zq_script.specs.Known.{Knows};
+ghost use Rattle.zq_script.specs.Grammar.{new_name, known_socket, kind_word, room_for_actor, some_actor, actor_line, socket_line, call_line, statement_by, statement_of};
+ghost use Rattle.zq_script.specs.Known.{HasLearned};
 ghost use Rattle.zq_script.specs.declared.statement.Statement.{Statement};
 
 use crate::call::read_call;
@@ -33,7 +33,7 @@ fn read_new_name(alloc: Global, is_taken: bool, word: &[u8]) -> Result<Octets, L
 // The socket that the word names.
 #[tactic(auto, unfolding(crate::specs::Grammar::known_socket))]
 fn read_socket(known: &Known, word: &[u8]) -> Result<u32, LineError>
-    ensures { (earlier : List Statement) → Knows known.now earlier
+    ensures { (earlier : List Statement) → HasLearned known.now earlier
         → Gives result (known_socket earlier word.now) }
 {
     if !is_name(word) {
@@ -46,9 +46,9 @@ fn read_socket(known: &Known, word: &[u8]) -> Result<u32, LineError>
 }
 
 // The kind that the word names.
-#[tactic(auto, unfolding(crate::specs::Grammar::kind_of))]
+#[tactic(auto, unfolding(crate::specs::Grammar::kind_word))]
 fn read_kind(word: &[u8]) -> Result<Kind, LineError>
-    ensures { Gives result (kind_of word.now) }
+    ensures { Gives result (kind_word word.now) }
 {
     if same_text(word, b"PUSH") {
         return Ok(Kind::Push);
@@ -56,13 +56,19 @@ fn read_kind(word: &[u8]) -> Result<Kind, LineError>
     if same_text(word, b"PULL") {
         return Ok(Kind::Pull);
     }
+    if same_text(word, b"PAIR") {
+        return Ok(Kind::Pair);
+    }
+    if same_text(word, b"DEALER") {
+        return Ok(Kind::Dealer);
+    }
     Err(LineError::Fault(Cause::BadWord))
 }
 
 // Nothing, where one more actor may begin.
 #[tactic(auto, unfolding(crate::specs::Grammar::room_for_actor))]
 fn room_for_actor(known: &Known) -> Result<(), LineError>
-    ensures { (earlier : List Statement) → Knows known.now earlier
+    ensures { (earlier : List Statement) → HasLearned known.now earlier
         → Gives result (room_for_actor earlier) }
 {
     if known.actors() < 64 {
@@ -75,7 +81,7 @@ fn room_for_actor(known: &Known) -> Result<(), LineError>
 // Nothing, where an actor has begun.
 #[tactic(auto, unfolding(crate::specs::Grammar::some_actor))]
 fn some_actor(known: &Known) -> Result<(), LineError>
-    ensures { (earlier : List Statement) → Knows known.now earlier
+    ensures { (earlier : List Statement) → HasLearned known.now earlier
         → Gives result (some_actor earlier) }
 {
     if known.actors() == 0 {
@@ -88,7 +94,7 @@ fn some_actor(known: &Known) -> Result<(), LineError>
 // `actor A`
 #[tactic(auto, unfolding(crate::specs::Grammar::actor_line))]
 fn read_actor(alloc: Global, known: &Known, words: &[&[u8]]) -> Result<Statement, LineError>
-    ensures { (earlier : List Statement) → Knows known.now earlier
+    ensures { (earlier : List Statement) → HasLearned known.now earlier
         → Gives result (actor_line earlier (map (λ x. x.now) words.now)) }
 {
     room_for_actor(known)?;
@@ -106,7 +112,7 @@ fn read_new_socket(
     known: &Known,
     words: &[&[u8]],
 ) -> Result<Statement, LineError>
-    ensures { (earlier : List Statement) → Knows known.now earlier
+    ensures { (earlier : List Statement) → HasLearned known.now earlier
         → Gives result (socket_line number earlier (map (λ x. x.now) words.now)) }
 {
     some_actor(known)?;
@@ -128,7 +134,7 @@ fn read_call_line(
     verb: SocketVerb,
     words: &[&[u8]],
 ) -> Result<Statement, LineError>
-    ensures { (earlier : List Statement) → Knows known.now earlier
+    ensures { (earlier : List Statement) → HasLearned known.now earlier
         → Gives result (call_line number earlier verb (map (λ x. x.now) words.now)) }
 {
     some_actor(known)?;
@@ -139,14 +145,14 @@ fn read_call_line(
 }
 
 /// What the line of this number and these words says.
-#[tactic(auto, unfolding(crate::specs::Grammar::statement_of, crate::specs::Grammar::said_by))]
+#[tactic(auto, unfolding(crate::specs::Grammar::statement_of, crate::specs::Grammar::statement_by))]
 pub(crate) fn read_line(
     alloc: Global,
     number: u32,
     known: &Known,
     words: &[&[u8]],
 ) -> Result<Statement, LineError>
-    ensures { (earlier : List Statement) → Knows known.now earlier
+    ensures { (earlier : List Statement) → HasLearned known.now earlier
         → Gives result (statement_of number earlier (map (λ x. x.now) words.now)) }
 {
     let (word, rest) = first_word(words)?;

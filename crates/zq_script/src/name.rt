@@ -1,9 +1,9 @@
 ghost use Rattle.std.specs.Prelude.{◌≡◌};
 ghost use Rattle.std.specs.List.{list_all};
-ghost use Rattle.zq_script.specs.Name.{is_name, is_name_octet};
+ghost use Rattle.zq_script.specs.Name.{is_name, is_word_octet};
 
 fn all_name_octets(word: &[u8]) -> bool
-    ensures { result ≡ list_all is_name_octet word.now }
+    ensures { result ≡ list_all is_word_octet word.now }
 {
     word.iter().all(|b| b.is_ascii_alphanumeric() || *b == b'_')
 }

@@ -3,9 +3,8 @@ ghost use Rattle.zq_script.specs.Answer.{Gives};
 ghost use Rattle.zq_script.specs.SocketOption.{default_options, mark_of, with_option, with_options};
 
 use crate::fault::{Cause, LineError};
-use crate::number::number_in;
 use std::alloc::Global;
-use zq_base::{Octets, Options, Role, Seq};
+use zq_base::{Octets, Options, Role, Seq, number_in};
 
 // The options of a socket that is given none.
 fn default_options(alloc: Global) -> Options
@@ -29,8 +28,8 @@ fn default_options(alloc: Global) -> Options
 fn read_mark(word: &[u8]) -> Result<u32, LineError>
     ensures { Gives result (mark_of word.now) }
 {
-    match number_in(1, 10000, word) {
-        Some(mark) => Ok(mark),
+    match number_in(1, 10_000, word) {
+        Some(mark) => Ok(mark as u32),
         None => Err(LineError::Fault(Cause::BadWord)),
     }
 }

@@ -2,7 +2,7 @@ ghost use Rattle.std.specs.Prelude.{◌≡◌, Ok, Err, IfOk, IfErr, length, map
 ghost use Rattle.std.specs.Char.{is_ascii_graphic};
 ghost use Rattle.std.specs.List.{list_all};
 ghost use Rattle.zq_script.specs.Answer.{Gives};
-ghost use Rattle.zq_script.specs.Part.{hex_part, plain_part, part_of, parts_of, message_of};
+ghost use Rattle.zq_script.specs.Part.{hex_part, plain_part, part_of, parts_of, parts_message};
 ghost use Rattle.zq_script.specs.declared.fault.Cause.{Cause};
 ghost use Rattle.zq_script.specs.declared.fault.LineError.TheVariants.{Fault, OutOfMemory};
 
@@ -91,9 +91,9 @@ fn read_parts(alloc: Global, words: &[&[u8]]) -> Result<Vec<Frame>, LineError>
 }
 
 /// The message of these parts.
-#[tactic(auto, unfolding(crate::specs::Part::message_of))]
+#[tactic(auto, unfolding(crate::specs::Part::parts_message))]
 pub(crate) fn read_message(alloc: Global, words: &[&[u8]]) -> Result<Message, LineError>
-    ensures { Gives result (message_of (map (λ x. x.now) words.now)) }
+    ensures { Gives result (parts_message (map (λ x. x.now) words.now)) }
 {
     if words.is_empty() {
         return Err(LineError::Fault(Cause::BadWord));

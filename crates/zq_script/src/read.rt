@@ -1,6 +1,6 @@
 ghost use Rattle.std.specs.Prelude.{◌≡◌, ◌+◌, ◌^◌, ◌<◌, ◌≤◌, [], ◌++◌, List, Ok, Err, IfOk, IfErr, OnOk, length, map, option_to_list, reverse};
 ghost use Rattle.zq_script.specs.Answer.{Reads};
-ghost use Rattle.zq_script.specs.Known.{Knows};
+ghost use Rattle.zq_script.specs.Known.{HasLearned};
 ghost use Rattle.zq_script.specs.Script.{line_statement, statements_from, script_of};
 ghost use Rattle.zq_script.specs.declared.fault.ReadScript.TheVariants.{Fault};
 ghost use Rattle.zq_script.specs.declared.fault.ScriptFault.{ScriptFault};
@@ -27,7 +27,7 @@ fn read_statement(
     known: &Known,
     line: &[u8],
 ) -> Result<Option<Statement>, ReadScript>
-    ensures { (earlier : List Statement) → Knows known.now earlier
+    ensures { (earlier : List Statement) → HasLearned known.now earlier
         → Reads result (line_statement number earlier line.now) }
 {
     let words = words(alloc, line)?;
@@ -54,8 +54,8 @@ fn take_in(
     requires { known.old.count + 1 < 2 ^ 32 }
     ensures statements { OnOk result (statements.new.items
         ≡ statements.old.items ++ option_to_list said) }
-    ensures knows { OnOk result (Knows known.old (reverse statements.old.items)
-        → Knows known.new (reverse statements.new.items)) }
+    ensures knows { OnOk result (HasLearned known.old (reverse statements.old.items)
+        → HasLearned known.new (reverse statements.new.items)) }
     ensures count { OnOk result (known.new.count ≤ known.old.count + 1) }
 {
     match said {

@@ -1,6 +1,6 @@
 use std::alloc::Global;
 use std::test::Fail;
-use zq_outer::{MemSink, MemSource, NoHost, OpenGate, TickClock};
+use zq_outer::{Got, MemSink, MemSource, NoHost, OpenGate, Source, TickClock};
 use zq_top::{Status, run};
 
 /// What a call answered, and what its sink took.
@@ -18,6 +18,33 @@ fn list(alloc: Global, words: &[&str]) -> Result<Vec<String>, Fail> {
     Ok(list)
 }
 
+fn source(
+    alloc: Global,
+    octets: &[u8],
+    failing: &[u64],
+    sizes: &[usize],
+) -> Result<MemSource, Fail> {
+    let octets = Vec::from_slice(alloc, octets)?;
+    let failing = Vec::from_slice(alloc, failing)?;
+    let sizes = Vec::from_slice(alloc, sizes)?;
+    Ok(MemSource::new(octets, failing, sizes))
+}
+
+fn sink(alloc: Global, failing: &[u64], sizes: &[usize]) -> Result<MemSink, Fail> {
+    let failing = Vec::from_slice(alloc, failing)?;
+    let sizes = Vec::from_slice(alloc, sizes)?;
+    Ok(MemSink::new(alloc, failing, sizes))
+}
+
+/// The program's call over memory, without hosts.
+fn run_over(alloc: Global, words: &[String], source: &mut MemSource, sink: &mut MemSink) -> Status {
+    let mut hosts: Vec<NoHost> = Vec::new(alloc);
+    let mut clock = TickClock::new();
+    run(
+        alloc, words, source, sink, &mut hosts, &mut clock, &OpenGate,
+    )
+}
+
 /// The program's call over memory: reads and writes move so many octets in turn, and those of these numbers fail.
 pub fn call(
     alloc: Global,
@@ -28,32 +55,47 @@ pub fn call(
     sizes: &[usize],
 ) -> Result<Called, Fail> {
     let words = list(alloc, words)?;
-    let mut source = MemSource::new(
-        Vec::from_slice(alloc, octets)?,
-        Vec::from_slice(alloc, failing_reads)?,
-        Vec::from_slice(alloc, sizes)?,
-    );
-    let mut sink = MemSink::new(
-        alloc,
-        Vec::from_slice(alloc, failing_writes)?,
-        Vec::from_slice(alloc, sizes)?,
-    );
-    let mut hosts = Vec::new(alloc);
-    for _ in 0..4 {
-        hosts.push(NoHost::new())?;
+    let mut source = source(alloc, octets, failing_reads, sizes)?;
+    let mut sink = sink(alloc, failing_writes, sizes)?;
+    let status = run_over(alloc, &words, &mut source, &mut sink);
+    let text = Vec::from_slice(alloc, sink.octets())?;
+    Ok(Called { status, text })
+}
+
+/// Whether a call over a source and a sink that never fail gives this status and text.
+pub fn answers(
+    alloc: Global,
+    words: &[&str],
+    octets: &[u8],
+    status: Status,
+    text: &[u8],
+) -> Result<bool, Fail> {
+    let called = call(alloc, words, octets, &[], &[], &[4096])?;
+    Ok(called.status == status && called.text.as_slice() == text)
+}
+
+/// Whether a call whose read of this number fails tells a read fault.
+pub fn fails_to_read(
+    alloc: Global,
+    words: &[&str],
+    octets: &[u8],
+    number: u64,
+    size: usize,
+) -> Result<bool, Fail> {
+    let called = call(alloc, words, octets, &[number], &[], &[size])?;
+    Ok(called.status == Status::ReadFault && called.text.as_slice() == b"read fault\n".as_slice())
+}
+
+/// How many octets the source has left behind a run of a script of so many `#`: at most 64.
+pub fn left_behind(alloc: Global, words: &[&str], count: usize) -> Result<usize, Fail> {
+    let words = list(alloc, words)?;
+    let octets = Vec::from_elem(alloc, b'#', count)?;
+    let mut source = source(alloc, &octets, &[], &[65_536])?;
+    let mut sink = sink(alloc, &[], &[65_536])?;
+    let _status = run_over(alloc, &words, &mut source, &mut sink);
+    let mut rest = [0u8; 64];
+    match source.read(&mut rest) {
+        Got::Bytes(count) => Ok(count),
+        Got::End | Got::Failed => Ok(0),
     }
-    let mut clock = TickClock::new();
-    let status = run(
-        alloc,
-        &words,
-        &mut source,
-        &mut sink,
-        &mut hosts,
-        &mut clock,
-        &OpenGate,
-    );
-    Ok(Called {
-        status,
-        text: Vec::from_slice(alloc, sink.octets())?,
-    })
 }

@@ -1,286 +1,315 @@
-use crate::calls::call;
+ghost use Rattle.std.specs.Prelude.{◌≤◌, length};
+
+use crate::calls::{answers, call, fails_to_read};
 use std::alloc::{AllocError, Global};
 use std::test::Fail;
 use zq_top::Status;
 
-/// Greetings of a side without security and of a PLAIN client (RFC 23, RFC 24).
+/// A greeting without security, and with a READY of a PUSH behind it (RFC 23).
 const NULL: &[u8] =
     b"\xff\0\0\0\0\0\0\0\0\x7f\x03\0NULL\0\0\0\0\0\0\0\0\0\0\0\0\0\0\0\0\0\0\0\0\0\0\0\0\0\0\0\0\0\0\0\0\0\0\0\0\0\0\0\0\0\0\0\0\0\0\0\0";
 
-const CLIENT: &[u8] =
-    b"\xff\0\0\0\0\0\0\0\0\x7f\x03\0PLAIN\0\0\0\0\0\0\0\0\0\0\0\0\0\0\0\0\0\0\0\0\0\0\0\0\0\0\0\0\0\0\0\0\0\0\0\0\0\0\0\0\0\0\0\0\0\0\0";
+const NULL_PUSH: &[u8] =
+    b"\xff\0\0\0\0\0\0\0\0\x7f\x03\0NULL\0\0\0\0\0\0\0\0\0\0\0\0\0\0\0\0\0\0\0\0\0\0\0\0\0\0\0\0\0\0\0\0\0\0\0\0\0\0\0\0\0\0\0\0\0\0\0\0\x04\x1a\x05READY\x0bSocket-Type\0\0\0\x04PUSH";
 
-/// READY of a PUSH, and of a DEALER without an identity (RFC 23).
-const READY_PUSH: &[u8] = b"\x04\x1a\x05READY\x0bSocket-Type\0\0\0\x04PUSH";
-
-const READY_DEALER: &[u8] = b"\x04)\x05READY\x0bSocket-Type\0\0\0\x06DEALER\x08Identity\0\0\0\0";
-
-/// HELLO of the user u with the passwords x and p, and INITIATE of a PUSH (RFC 24).
-const HELLO_X: &[u8] = b"\x04\x0a\x05HELLO\x01u\x01x";
-
-const HELLO_P: &[u8] = b"\x04\x0a\x05HELLO\x01u\x01p";
-
-const INITIATE_PUSH: &[u8] = b"\x04\x1d\x08INITIATE\x0bSocket-Type\0\0\0\x04PUSH";
-
-/// What is said at first by a side without security and by a PLAIN server, in hex.
-const SAID_NULL: &[u8] =
-    b"said ff00000000000000007f03004e554c4c000000000000000000000000000000000000000000000000000000000000000000000000000000000000000000000000";
-
-const SAID_SERVER: &[u8] =
-    b"said ff00000000000000007f0300504c41494e0000000000000000000000000000000100000000000000000000000000000000000000000000000000000000000000";
-
-/// READY of a PULL, of a PUSH, of a ROUTER and of a REP, WELCOME, and ERROR, in hex.
-const PULL: &[u8] = b"041a0552454144590b536f636b65742d547970650000000450554c4c";
-
-const PUSH: &[u8] = b"041a0552454144590b536f636b65742d547970650000000450555348";
-
-const ROUTER: &[u8] =
-    b"04290552454144590b536f636b65742d5479706500000006524f55544552084964656e7469747900000000";
-
-const REP: &[u8] = b"04190552454144590b536f636b65742d5479706500000003524550";
-
-const WELCOME: &[u8] = b"04080757454c434f4d45";
-
-const ERROR: &[u8] = b"0412054552524f520b4e6f742d77656c636f6d65";
-
-/// A body of 255 octets.
-const BODY: &[u8] =
-    b"aaaaaaaaaaaaaaaaaaaaaaaaaaaaaaaaaaaaaaaaaaaaaaaaaaaaaaaaaaaaaaaaaaaaaaaaaaaaaaaaaaaaaaaaaaaaaaaaaaaaaaaaaaaaaaaaaaaaaaaaaaaaaaaaaaaaaaaaaaaaaaaaaaaaaaaaaaaaaaaaaaaaaaaaaaaaaaaaaaaaaaaaaaaaaaaaaaaaaaaaaaaaaaaaaaaaaaaaaaaaaaaaaaaaaaaaaaaaaaaaaaaaaaaaaaaaaaa";
+/// The same, and a message.
+const NULL_PUSH_HELLO: &[u8] =
+    b"\xff\0\0\0\0\0\0\0\0\x7f\x03\0NULL\0\0\0\0\0\0\0\0\0\0\0\0\0\0\0\0\0\0\0\0\0\0\0\0\0\0\0\0\0\0\0\0\0\0\0\0\0\0\0\0\0\0\0\0\0\0\0\0\x04\x1a\x05READY\x0bSocket-Type\0\0\0\x04PUSH\0\x05hello";
 
 /// A user of 255 octets.
 const USER_NAME: &str =
     "uuuuuuuuuuuuuuuuuuuuuuuuuuuuuuuuuuuuuuuuuuuuuuuuuuuuuuuuuuuuuuuuuuuuuuuuuuuuuuuuuuuuuuuuuuuuuuuuuuuuuuuuuuuuuuuuuuuuuuuuuuuuuuuuuuuuuuuuuuuuuuuuuuuuuuuuuuuuuuuuuuuuuuuuuuuuuuuuuuuuuuuuuuuuuuuuuuuuuuuuuuuuuuuuuuuuuuuuuuuuuuuuuuuuuuuuuuuuuuuuuuuuuuuuuuuuuuu";
 
-/// The same.
-const USER: &[u8] =
-    b"uuuuuuuuuuuuuuuuuuuuuuuuuuuuuuuuuuuuuuuuuuuuuuuuuuuuuuuuuuuuuuuuuuuuuuuuuuuuuuuuuuuuuuuuuuuuuuuuuuuuuuuuuuuuuuuuuuuuuuuuuuuuuuuuuuuuuuuuuuuuuuuuuuuuuuuuuuuuuuuuuuuuuuuuuuuuuuuuuuuuuuuuuuuuuuuuuuuuuuuuuuuuuuuuuuuuuuuuuuuuuuuuuuuuuuuuuuuuuuuuuuuuuuuuuuuuuuu";
-
-/// The words of a call, the octets of a peer, the status and what is told.
+/// The words of a call, the octets of a peer, the status and the text that is told. A PULL without
+/// security says a greeting of 64 octets, and a READY once it has heard one; a PLAIN server WELCOME or
+/// ERROR before it (RFC 23, RFC 24).
 type Case = (
     &'static [&'static str],
-    &'static [&'static [u8]],
+    &'static [u8],
     Status,
-    &'static [&'static [u8]],
+    &'static [u8],
 );
 
 /// Octets of a peer that are not refused.
-const HEARD: [Case; 15] = [
+const HEARD: [Case; 16] = [
     (
         &["zbus", "hear", "PULL"],
-        &[],
+        b"\xff\0\0\0\0\0\0\0\0\x7f\x03\0NULL\0\0\0\0\0\0\0\0\0\0\0\0\0\0\0\0\0\0\0\0\0\0\0\0\0\0\0\0\0\0\0\0\0\0\0\0\0\0\0\0\0\0\0\0\0\0\0\0\x04\x1a\x05READY\x0bSocket-Type\0\0\0\x04PUSH\x04\x05\x04PING\0\x05hello",
         Status::Done,
-        &[SAID_NULL, b"\nrest 0\n"],
+        b"said ff00000000000000007f03004e554c4c000000000000000000000000000000000000000000000000000000000000000000000000000000000000000000000000041a0552454144590b536f636b65742d547970650000000450554c4c\npeer PUSH -\nmsg hello\nrest 0\n",
     ),
     (
         &["zbus", "hear", "PULL"],
-        &[NULL, READY_PUSH, b"\0\x05hello"],
+        b"",
         Status::Done,
-        &[SAID_NULL, PULL, b"\npeer PUSH -\nmsg hello\nrest 0\n"],
+        b"said ff00000000000000007f03004e554c4c000000000000000000000000000000000000000000000000000000000000000000000000000000000000000000000000\nrest 0\n",
     ),
     (
         &["zbus", "hear", "PULL"],
-        &[NULL, READY_PUSH, b"\0\x05hell"],
+        b"\xff\0\0\0\0\0\0\0\0\x7f\x03\0NULL\0\0\0\0\0\0\0\0\0\0\0\0\0\0\0\0\0\0\0\0\0\0\0\0\0\0\0\0\0\0\0\0\0\0\0\0\0\0\0\0\0\0\0\0\0\0\0\0\x04\x1a\x05READY\x0bSocket-Type\0\0\0\x04PUSH\0\x05hello",
         Status::Done,
-        &[SAID_NULL, PULL, b"\npeer PUSH -\nrest 6\n"],
+        b"said ff00000000000000007f03004e554c4c000000000000000000000000000000000000000000000000000000000000000000000000000000000000000000000000041a0552454144590b536f636b65742d547970650000000450554c4c\npeer PUSH -\nmsg hello\nrest 0\n",
     ),
     (
         &["zbus", "hear", "PULL"],
-        &[NULL, READY_PUSH, b"\0\xff", BODY],
+        b"\xff\0\0\0\0\0\0\0\0\x7f\x03\0NULL\0\0\0\0\0\0\0\0\0\0\0\0\0\0\0\0\0\0\0\0\0\0\0\0\0\0\0\0\0\0\0\0\0\0\0\0\0\0\0\0\0\0\0\0\0\0\0\0\x04\x1a\x05READY\x0bSocket-Type\0\0\0\x04PUSH\0\x05hell",
         Status::Done,
-        &[SAID_NULL, PULL, b"\npeer PUSH -\nmsg ", BODY, b"\nrest 0\n"],
+        b"said ff00000000000000007f03004e554c4c000000000000000000000000000000000000000000000000000000000000000000000000000000000000000000000000041a0552454144590b536f636b65742d547970650000000450554c4c\npeer PUSH -\nrest 6\n",
     ),
     (
         &["zbus", "hear", "PULL"],
-        &[NULL, READY_PUSH, b"\x02\0\0\0\0\0\0\x01\0", BODY, b"a"],
+        b"\xff\0\0\0\0\0\0\0\0\x7f\x03\0NULL\0\0\0\0\0\0\0\0\0\0\0\0\0\0\0\0\0\0\0\0\0\0\0\0\0\0\0\0\0\0\0\0\0\0\0\0\0\0\0\0\0\0\0\0\0\0\0\0\x04\x1a\x05READY\x0bSocket-Type\0\0\0\x04PUSH\0\xffaaaaaaaaaaaaaaaaaaaaaaaaaaaaaaaaaaaaaaaaaaaaaaaaaaaaaaaaaaaaaaaaaaaaaaaaaaaaaaaaaaaaaaaaaaaaaaaaaaaaaaaaaaaaaaaaaaaaaaaaaaaaaaaaaaaaaaaaaaaaaaaaaaaaaaaaaaaaaaaaaaaaaaaaaaaaaaaaaaaaaaaaaaaaaaaaaaaaaaaaaaaaaaaaaaaaaaaaaaaaaaaaaaaaaaaaaaaaaaaaaaaaaaaaaaaaaaa",
         Status::Done,
-        &[
-            SAID_NULL,
-            PULL,
-            b"\npeer PUSH -\nmsg ",
-            BODY,
-            b"a\nrest 0\n",
-        ],
+        b"said ff00000000000000007f03004e554c4c000000000000000000000000000000000000000000000000000000000000000000000000000000000000000000000000041a0552454144590b536f636b65742d547970650000000450554c4c\npeer PUSH -\nmsg aaaaaaaaaaaaaaaaaaaaaaaaaaaaaaaaaaaaaaaaaaaaaaaaaaaaaaaaaaaaaaaaaaaaaaaaaaaaaaaaaaaaaaaaaaaaaaaaaaaaaaaaaaaaaaaaaaaaaaaaaaaaaaaaaaaaaaaaaaaaaaaaaaaaaaaaaaaaaaaaaaaaaaaaaaaaaaaaaaaaaaaaaaaaaaaaaaaaaaaaaaaaaaaaaaaaaaaaaaaaaaaaaaaaaaaaaaaaaaaaaaaaaaaaaaaaaaa\nrest 0\n",
     ),
     (
         &["zbus", "hear", "PULL"],
-        &[NULL, READY_PUSH, b"\x02\0\0\0\0\0\0\0\x03abc"],
+        b"\xff\0\0\0\0\0\0\0\0\x7f\x03\0NULL\0\0\0\0\0\0\0\0\0\0\0\0\0\0\0\0\0\0\0\0\0\0\0\0\0\0\0\0\0\0\0\0\0\0\0\0\0\0\0\0\0\0\0\0\0\0\0\0\x04\x1a\x05READY\x0bSocket-Type\0\0\0\x04PUSH\x02\0\0\0\0\0\0\x01\0aaaaaaaaaaaaaaaaaaaaaaaaaaaaaaaaaaaaaaaaaaaaaaaaaaaaaaaaaaaaaaaaaaaaaaaaaaaaaaaaaaaaaaaaaaaaaaaaaaaaaaaaaaaaaaaaaaaaaaaaaaaaaaaaaaaaaaaaaaaaaaaaaaaaaaaaaaaaaaaaaaaaaaaaaaaaaaaaaaaaaaaaaaaaaaaaaaaaaaaaaaaaaaaaaaaaaaaaaaaaaaaaaaaaaaaaaaaaaaaaaaaaaaaaaaaaaaaa",
         Status::Done,
-        &[SAID_NULL, PULL, b"\npeer PUSH -\nmsg abc\nrest 0\n"],
+        b"said ff00000000000000007f03004e554c4c000000000000000000000000000000000000000000000000000000000000000000000000000000000000000000000000041a0552454144590b536f636b65742d547970650000000450554c4c\npeer PUSH -\nmsg aaaaaaaaaaaaaaaaaaaaaaaaaaaaaaaaaaaaaaaaaaaaaaaaaaaaaaaaaaaaaaaaaaaaaaaaaaaaaaaaaaaaaaaaaaaaaaaaaaaaaaaaaaaaaaaaaaaaaaaaaaaaaaaaaaaaaaaaaaaaaaaaaaaaaaaaaaaaaaaaaaaaaaaaaaaaaaaaaaaaaaaaaaaaaaaaaaaaaaaaaaaaaaaaaaaaaaaaaaaaaaaaaaaaaaaaaaaaaaaaaaaaaaaaaaaaaaaa\nrest 0\n",
     ),
     (
         &["zbus", "hear", "PULL"],
-        &[NULL, READY_PUSH, b"\x01\x03abc"],
+        b"\xff\0\0\0\0\0\0\0\0\x7f\x03\0NULL\0\0\0\0\0\0\0\0\0\0\0\0\0\0\0\0\0\0\0\0\0\0\0\0\0\0\0\0\0\0\0\0\0\0\0\0\0\0\0\0\0\0\0\0\0\0\0\0\x04\x1a\x05READY\x0bSocket-Type\0\0\0\x04PUSH\x02\0\0\0\0\0\0\0\x03abc",
         Status::Done,
-        &[SAID_NULL, PULL, b"\npeer PUSH -\nrest 5\n"],
+        b"said ff00000000000000007f03004e554c4c000000000000000000000000000000000000000000000000000000000000000000000000000000000000000000000000041a0552454144590b536f636b65742d547970650000000450554c4c\npeer PUSH -\nmsg abc\nrest 0\n",
     ),
     (
         &["zbus", "hear", "PULL"],
-        &[NULL, READY_PUSH, b"\x01\x03abc\0\0\0\x01-"],
+        b"\xff\0\0\0\0\0\0\0\0\x7f\x03\0NULL\0\0\0\0\0\0\0\0\0\0\0\0\0\0\0\0\0\0\0\0\0\0\0\0\0\0\0\0\0\0\0\0\0\0\0\0\0\0\0\0\0\0\0\0\0\0\0\0\x04\x1a\x05READY\x0bSocket-Type\0\0\0\x04PUSH\x01\x03abc",
         Status::Done,
-        &[
-            SAID_NULL,
-            PULL,
-            b"\npeer PUSH -\nmsg abc -\nmsg 0x2d\nrest 0\n",
-        ],
+        b"said ff00000000000000007f03004e554c4c000000000000000000000000000000000000000000000000000000000000000000000000000000000000000000000000041a0552454144590b536f636b65742d547970650000000450554c4c\npeer PUSH -\nrest 5\n",
     ),
     (
         &["zbus", "hear", "PULL"],
-        &[NULL, READY_PUSH, READY_PUSH],
+        b"\xff\0\0\0\0\0\0\0\0\x7f\x03\0NULL\0\0\0\0\0\0\0\0\0\0\0\0\0\0\0\0\0\0\0\0\0\0\0\0\0\0\0\0\0\0\0\0\0\0\0\0\0\0\0\0\0\0\0\0\0\0\0\0\x04\x1a\x05READY\x0bSocket-Type\0\0\0\x04PUSH\x01\x03abc\0\0\0\x01-",
         Status::Done,
-        &[SAID_NULL, PULL, b"\npeer PUSH -\nrest 0\n"],
+        b"said ff00000000000000007f03004e554c4c000000000000000000000000000000000000000000000000000000000000000000000000000000000000000000000000041a0552454144590b536f636b65742d547970650000000450554c4c\npeer PUSH -\nmsg abc -\nmsg 0x2d\nrest 0\n",
     ),
     (
         &["zbus", "hear", "PULL"],
-        &[NULL],
+        b"\xff\0\0\0\0\0\0\0\0\x7f\x03\0NULL\0\0\0\0\0\0\0\0\0\0\0\0\0\0\0\0\0\0\0\0\0\0\0\0\0\0\0\0\0\0\0\0\0\0\0\0\0\0\0\0\0\0\0\0\0\0\0\0\x04\x1a\x05READY\x0bSocket-Type\0\0\0\x04PUSH\x04\x1a\x05READY\x0bSocket-Type\0\0\0\x04PUSH",
         Status::Done,
-        &[SAID_NULL, PULL, b"\nrest 0\n"],
+        b"said ff00000000000000007f03004e554c4c000000000000000000000000000000000000000000000000000000000000000000000000000000000000000000000000041a0552454144590b536f636b65742d547970650000000450554c4c\npeer PUSH -\nrest 0\n",
     ),
     (
         &["zbus", "hear", "PULL"],
-        &[b"\xff\0\0\0\0\0\0\0\0\x7f\x03"],
+        b"\xff\0\0\0\0\0\0\0\0\x7f\x03\0NULL\0\0\0\0\0\0\0\0\0\0\0\0\0\0\0\0\0\0\0\0\0\0\0\0\0\0\0\0\0\0\0\0\0\0\0\0\0\0\0\0\0\0\0\0\0\0\0\0",
         Status::Done,
-        &[SAID_NULL, b"\nrest 11\n"],
+        b"said ff00000000000000007f03004e554c4c000000000000000000000000000000000000000000000000000000000000000000000000000000000000000000000000041a0552454144590b536f636b65742d547970650000000450554c4c\nrest 0\n",
+    ),
+    (
+        &["zbus", "hear", "PULL"],
+        b"\xff\0\0\0\0\0\0\0\0\x7f\x03",
+        Status::Done,
+        b"said ff00000000000000007f03004e554c4c000000000000000000000000000000000000000000000000000000000000000000000000000000000000000000000000\nrest 11\n",
     ),
     (
         &["zbus", "hear", "REP"],
-        &[NULL, READY_DEALER, b"\x01\0", b"\0\x01q"],
+        b"\xff\0\0\0\0\0\0\0\0\x7f\x03\0NULL\0\0\0\0\0\0\0\0\0\0\0\0\0\0\0\0\0\0\0\0\0\0\0\0\0\0\0\0\0\0\0\0\0\0\0\0\0\0\0\0\0\0\0\0\0\0\0\0\x04)\x05READY\x0bSocket-Type\0\0\0\x06DEALER\x08Identity\0\0\0\0\x01\0\0\x01q",
         Status::Done,
-        &[SAID_NULL, REP, b"\npeer DEALER -\nmsg - q\nrest 0\n"],
+        b"said ff00000000000000007f03004e554c4c00000000000000000000000000000000000000000000000000000000000000000000000000000000000000000000000004190552454144590b536f636b65742d5479706500000003524550\npeer DEALER -\nmsg - q\nrest 0\n",
     ),
     (
         &["zbus", "hear", "ROUTER"],
-        &[
-            NULL,
-            b"\x04+\x05READY\x0bSocket-Type\0\0\0\x06DEALER\x08Identity\0\0\0\x02k ",
-        ],
+        b"\xff\0\0\0\0\0\0\0\0\x7f\x03\0NULL\0\0\0\0\0\0\0\0\0\0\0\0\0\0\0\0\0\0\0\0\0\0\0\0\0\0\0\0\0\0\0\0\0\0\0\0\0\0\0\0\0\0\0\0\0\0\0\0\x04+\x05READY\x0bSocket-Type\0\0\0\x06DEALER\x08Identity\0\0\0\x02k ",
         Status::Done,
-        &[SAID_NULL, ROUTER, b"\npeer DEALER 0x6b20\nrest 0\n"],
+        b"said ff00000000000000007f03004e554c4c00000000000000000000000000000000000000000000000000000000000000000000000000000000000000000000000004290552454144590b536f636b65742d5479706500000006524f55544552084964656e7469747900000000\npeer DEALER 0x6b20\nrest 0\n",
     ),
     (
         &["zbus", "hear", "PUSH"],
-        &[NULL, b"\x04\x1a\x05READY\x0bsocket-type\0\0\0\x04PULL"],
+        b"\xff\0\0\0\0\0\0\0\0\x7f\x03\0NULL\0\0\0\0\0\0\0\0\0\0\0\0\0\0\0\0\0\0\0\0\0\0\0\0\0\0\0\0\0\0\0\0\0\0\0\0\0\0\0\0\0\0\0\0\0\0\0\0\x04\x1a\x05READY\x0bsocket-type\0\0\0\x04PULL",
         Status::Done,
-        &[SAID_NULL, PUSH, b"\npeer PULL -\nrest 0\n"],
+        b"said ff00000000000000007f03004e554c4c000000000000000000000000000000000000000000000000000000000000000000000000000000000000000000000000041a0552454144590b536f636b65742d547970650000000450555348\npeer PULL -\nrest 0\n",
     ),
     (
         &["zbus", "hear", "ROUTER"],
-        &[
-            NULL,
-            b"\x04)\x05READY\x08identity\0\0\0\0\x0bSOCKET-TYPE\0\0\0\x06DEALER",
-        ],
+        b"\xff\0\0\0\0\0\0\0\0\x7f\x03\0NULL\0\0\0\0\0\0\0\0\0\0\0\0\0\0\0\0\0\0\0\0\0\0\0\0\0\0\0\0\0\0\0\0\0\0\0\0\0\0\0\0\0\0\0\0\0\0\0\0\x04)\x05READY\x08identity\0\0\0\0\x0bSOCKET-TYPE\0\0\0\x06DEALER",
         Status::Done,
-        &[SAID_NULL, ROUTER, b"\npeer DEALER -\nrest 0\n"],
+        b"said ff00000000000000007f03004e554c4c00000000000000000000000000000000000000000000000000000000000000000000000000000000000000000000000004290552454144590b536f636b65742d5479706500000006524f55544552084964656e7469747900000000\npeer DEALER -\nrest 0\n",
     ),
 ];
 
 /// Octets of a peer that are refused.
-const REFUSED: [Case; 16] = [
+const REFUSED: [Case; 17] = [
     (
         &["zbus", "hear", "PULL"],
-        &[NULL, READY_PUSH, b"\x08\0"],
+        b"\xff\0\0\0\0\0\0\0\0\x7f\x03\0NULL\0\0\0\0\0\0\0\0\0\0\0\0\0\0\0\0\0\0\0\0\0\0\0\0\0\0\0\0\0\0\0\0\0\0\0\0\0\0\0\0\0\0\0\0\0\0\0\0\x04\x1a\x05READY\x0bSocket-Type\0\0\0\x04PUSH\x04\x12\x05ERROR\x0bNot-welcome",
         Status::Heard,
-        &[SAID_NULL, PULL, b"\npeer PUSH -\nrefused BadFlags at 92\n"],
+        b"said ff00000000000000007f03004e554c4c000000000000000000000000000000000000000000000000000000000000000000000000000000000000000000000000041a0552454144590b536f636b65742d547970650000000450554c4c\npeer PUSH -\nrefused PeerError at 92\n",
     ),
     (
         &["zbus", "hear", "PULL"],
-        &[NULL, READY_PUSH, b"\x05\0"],
+        b"\xff\0\0\0\0\0\0\0\0\x7f\x03\0NULL\0\0\0\0\0\0\0\0\0\0\0\0\0\0\0\0\0\0\0\0\0\0\0\0\0\0\0\0\0\0\0\0\0\0\0\0\0\0\0\0\0\0\0\0\0\0\0\0\x04\x1a\x05READY\x0bSocket-Type\0\0\0\x04PUSH\x08\0",
         Status::Heard,
-        &[SAID_NULL, PULL, b"\npeer PUSH -\nrefused BadFlags at 92\n"],
+        b"said ff00000000000000007f03004e554c4c000000000000000000000000000000000000000000000000000000000000000000000000000000000000000000000000041a0552454144590b536f636b65742d547970650000000450554c4c\npeer PUSH -\nrefused BadFlags at 92\n",
     ),
     (
         &["zbus", "hear", "PULL"],
-        &[NULL, READY_PUSH, b"\x02\0\0\0\0\x01\0\0\x01"],
+        b"\xff\0\0\0\0\0\0\0\0\x7f\x03\0NULL\0\0\0\0\0\0\0\0\0\0\0\0\0\0\0\0\0\0\0\0\0\0\0\0\0\0\0\0\0\0\0\0\0\0\0\0\0\0\0\0\0\0\0\0\0\0\0\0\x04\x1a\x05READY\x0bSocket-Type\0\0\0\x04PUSH\x05\0",
         Status::Heard,
-        &[SAID_NULL, PULL, b"\npeer PUSH -\nrefused TooLong at 92\n"],
+        b"said ff00000000000000007f03004e554c4c000000000000000000000000000000000000000000000000000000000000000000000000000000000000000000000000041a0552454144590b536f636b65742d547970650000000450554c4c\npeer PUSH -\nrefused BadFlags at 92\n",
+    ),
+    (
+        &["zbus", "hear", "PULL"],
+        b"\xff\0\0\0\0\0\0\0\0\x7f\x03\0NULL\0\0\0\0\0\0\0\0\0\0\0\0\0\0\0\0\0\0\0\0\0\0\0\0\0\0\0\0\0\0\0\0\0\0\0\0\0\0\0\0\0\0\0\0\0\0\0\0\x04\x1a\x05READY\x0bSocket-Type\0\0\0\x04PUSH\x02\0\0\0\0\x01\0\0\x01",
+        Status::Heard,
+        b"said ff00000000000000007f03004e554c4c000000000000000000000000000000000000000000000000000000000000000000000000000000000000000000000000041a0552454144590b536f636b65742d547970650000000450554c4c\npeer PUSH -\nrefused TooLong at 92\n",
     ),
     (
         &["zbus", "hear", "PUSH"],
-        &[NULL, READY_PUSH],
+        b"\xff\0\0\0\0\0\0\0\0\x7f\x03\0NULL\0\0\0\0\0\0\0\0\0\0\0\0\0\0\0\0\0\0\0\0\0\0\0\0\0\0\0\0\0\0\0\0\0\0\0\0\0\0\0\0\0\0\0\0\0\0\0\0\x04\x1a\x05READY\x0bSocket-Type\0\0\0\x04PUSH",
         Status::Heard,
-        &[SAID_NULL, PUSH, b"\nrefused BadPair at 64\n"],
+        b"said ff00000000000000007f03004e554c4c000000000000000000000000000000000000000000000000000000000000000000000000000000000000000000000000041a0552454144590b536f636b65742d547970650000000450555348\nrefused BadPair at 64\n",
     ),
     (
         &["zbus", "hear", "PULL"],
-        &[NULL, b"\0\x01a"],
+        b"\xff\0\0\0\0\0\0\0\0\x7f\x03\0NULL\0\0\0\0\0\0\0\0\0\0\0\0\0\0\0\0\0\0\0\0\0\0\0\0\0\0\0\0\0\0\0\0\0\0\0\0\0\0\0\0\0\0\0\0\0\0\0\0\0\x01a",
         Status::Heard,
-        &[SAID_NULL, PULL, b"\nrefused OutOfOrder at 64\n"],
+        b"said ff00000000000000007f03004e554c4c000000000000000000000000000000000000000000000000000000000000000000000000000000000000000000000000041a0552454144590b536f636b65742d547970650000000450554c4c\nrefused OutOfOrder at 64\n",
     ),
     (
         &["zbus", "hear", "PULL"],
-        &[b"\xff\0\0\0\0\0\0\0\0\0"],
+        b"\xff\0\0\0\0\0\0\0\0\0",
         Status::Heard,
-        &[SAID_NULL, b"\nrefused BadSignature at 9\n"],
+        b"said ff00000000000000007f03004e554c4c000000000000000000000000000000000000000000000000000000000000000000000000000000000000000000000000\nrefused BadSignature at 9\n",
     ),
     (
         &["zbus", "hear", "PULL"],
-        &[b"\xff\0\0\0\0\0\0\0\0\x7f\x02"],
+        b"\xff\0\0\0\0\0\0\0\0\x7f\x02",
         Status::Heard,
-        &[SAID_NULL, b"\nrefused OldVersion at 10\n"],
+        b"said ff00000000000000007f03004e554c4c000000000000000000000000000000000000000000000000000000000000000000000000000000000000000000000000\nrefused OldVersion at 10\n",
     ),
     (
         &["zbus", "hear", "PULL"],
-        &[CLIENT],
+        b"\xff\0\0\0\0\0\0\0\0\x7f\x03\0PLAIN\0\0\0\0\0\0\0\0\0\0\0\0\0\0\0\0\0\0\0\0\0\0\0\0\0\0\0\0\0\0\0\0\0\0\0\0\0\0\0\0\0\0\0\0\0\0\0",
         Status::Heard,
-        &[SAID_NULL, b"\nrefused OtherMechanism at 12\n"],
+        b"said ff00000000000000007f03004e554c4c000000000000000000000000000000000000000000000000000000000000000000000000000000000000000000000000\nrefused OtherMechanism at 12\n",
     ),
     (
         &["zbus", "hear", "PULL"],
-        &[NULL, b"\x04\x12\x05ERROR\x0bNot-welcome"],
+        b"\xff\0\0\0\0\0\0\0\0\x7f\x03\0NULL\0\0\0\0\0\0\0\0\0\0\0\0\0\0\0\0\0\0\0\0\0\0\0\0\0\0\0\0\0\0\0\0\0\0\0\0\0\0\0\0\0\0\0\0\0\0\0\0\x04\x12\x05ERROR\x0bNot-welcome",
         Status::Heard,
-        &[SAID_NULL, PULL, b"\nrefused PeerError at 64\n"],
+        b"said ff00000000000000007f03004e554c4c000000000000000000000000000000000000000000000000000000000000000000000000000000000000000000000000041a0552454144590b536f636b65742d547970650000000450554c4c\nrefused PeerError at 64\n",
     ),
     (
         &["zbus", "hear", "PULL"],
-        &[NULL, b"\x04\0"],
+        b"\xff\0\0\0\0\0\0\0\0\x7f\x03\0NULL\0\0\0\0\0\0\0\0\0\0\0\0\0\0\0\0\0\0\0\0\0\0\0\0\0\0\0\0\0\0\0\0\0\0\0\0\0\0\0\0\0\0\0\0\0\0\0\0\x04\0",
         Status::Heard,
-        &[SAID_NULL, PULL, b"\nrefused BadCommand at 64\n"],
+        b"said ff00000000000000007f03004e554c4c000000000000000000000000000000000000000000000000000000000000000000000000000000000000000000000000041a0552454144590b536f636b65742d547970650000000450554c4c\nrefused BadCommand at 64\n",
     ),
     (
         &["zbus", "hear", "PULL"],
-        &[NULL, b"\x04\x0a\x05READY\0\0\0\0"],
+        b"\xff\0\0\0\0\0\0\0\0\x7f\x03\0NULL\0\0\0\0\0\0\0\0\0\0\0\0\0\0\0\0\0\0\0\0\0\0\0\0\0\0\0\0\0\0\0\0\0\0\0\0\0\0\0\0\0\0\0\0\0\0\0\0\x04\n\x05READY\0\0\0\0",
         Status::Heard,
-        &[SAID_NULL, PULL, b"\nrefused BadMeta at 64\n"],
+        b"said ff00000000000000007f03004e554c4c000000000000000000000000000000000000000000000000000000000000000000000000000000000000000000000000041a0552454144590b536f636b65742d547970650000000450554c4c\nrefused BadMeta at 64\n",
     ),
     (
         &["zbus", "hear", "PULL"],
-        &[NULL, b"\x04\x06\x05READY"],
+        b"\xff\0\0\0\0\0\0\0\0\x7f\x03\0NULL\0\0\0\0\0\0\0\0\0\0\0\0\0\0\0\0\0\0\0\0\0\0\0\0\0\0\0\0\0\0\0\0\0\0\0\0\0\0\0\0\0\0\0\0\0\0\0\0\x04\x06\x05READY",
         Status::Heard,
-        &[SAID_NULL, PULL, b"\nrefused NoKind at 64\n"],
+        b"said ff00000000000000007f03004e554c4c000000000000000000000000000000000000000000000000000000000000000000000000000000000000000000000000041a0552454144590b536f636b65742d547970650000000450554c4c\nrefused NoKind at 64\n",
     ),
     (
         &["zbus", "hear", "PULL"],
-        &[NULL, b"\x06\0\0\0\0\0\x01\0\x01"],
+        b"\xff\0\0\0\0\0\0\0\0\x7f\x03\0NULL\0\0\0\0\0\0\0\0\0\0\0\0\0\0\0\0\0\0\0\0\0\0\0\0\0\0\0\0\0\0\0\0\0\0\0\0\0\0\0\0\0\0\0\0\0\0\0\0\x06\0\0\0\0\0\x01\0\x01",
         Status::Heard,
-        &[SAID_NULL, PULL, b"\nrefused TooLong at 64\n"],
+        b"said ff00000000000000007f03004e554c4c000000000000000000000000000000000000000000000000000000000000000000000000000000000000000000000000041a0552454144590b536f636b65742d547970650000000450554c4c\nrefused TooLong at 64\n",
     ),
     (
         &["zbus", "hear", "ROUTER"],
-        &[
-            NULL,
-            b"\x04*\x05READY\x0bSocket-Type\0\0\0\x06DEALER\x08Identity\0\0\0\x01\0",
-        ],
+        b"\xff\0\0\0\0\0\0\0\0\x7f\x03\0NULL\0\0\0\0\0\0\0\0\0\0\0\0\0\0\0\0\0\0\0\0\0\0\0\0\0\0\0\0\0\0\0\0\0\0\0\0\0\0\0\0\0\0\0\0\0\0\0\0\x04*\x05READY\x0bSocket-Type\0\0\0\x06DEALER\x08Identity\0\0\0\x01\0",
         Status::Heard,
-        &[SAID_NULL, ROUTER, b"\nrefused BadIdentity at 64\n"],
+        b"said ff00000000000000007f03004e554c4c00000000000000000000000000000000000000000000000000000000000000000000000000000000000000000000000004290552454144590b536f636b65742d5479706500000006524f55544552084964656e7469747900000000\nrefused BadIdentity at 64\n",
     ),
     (
         &["zbus", "hear", "PULL"],
-        &[NULL, READY_PUSH, b"\x01\x01a", b"\x04\x04\x03foo"],
+        b"\xff\0\0\0\0\0\0\0\0\x7f\x03\0NULL\0\0\0\0\0\0\0\0\0\0\0\0\0\0\0\0\0\0\0\0\0\0\0\0\0\0\0\0\0\0\0\0\0\0\0\0\0\0\0\0\0\0\0\0\0\0\0\0\x04\x1a\x05READY\x0bSocket-Type\0\0\0\x04PUSH\x01\x01a\x04\x04\x03foo",
         Status::Heard,
-        &[
-            SAID_NULL,
-            PULL,
-            b"\npeer PUSH -\nrefused OutOfOrder at 95\n",
-        ],
+        b"said ff00000000000000007f03004e554c4c000000000000000000000000000000000000000000000000000000000000000000000000000000000000000000000000041a0552454144590b536f636b65742d547970650000000450554c4c\npeer PUSH -\nrefused OutOfOrder at 95\n",
     ),
     (
         &["zbus", "hear", "PULL"],
-        &[NULL, READY_PUSH, b"\0\x01a", b"\x08\0"],
+        b"\xff\0\0\0\0\0\0\0\0\x7f\x03\0NULL\0\0\0\0\0\0\0\0\0\0\0\0\0\0\0\0\0\0\0\0\0\0\0\0\0\0\0\0\0\0\0\0\0\0\0\0\0\0\0\0\0\0\0\0\0\0\0\0\x04\x1a\x05READY\x0bSocket-Type\0\0\0\x04PUSH\0\x01a\x08\0",
         Status::Heard,
-        &[
-            SAID_NULL,
-            PULL,
-            b"\npeer PUSH -\nmsg a\nrefused BadFlags at 95\n",
-        ],
+        b"said ff00000000000000007f03004e554c4c000000000000000000000000000000000000000000000000000000000000000000000000000000000000000000000000041a0552454144590b536f636b65742d547970650000000450554c4c\npeer PUSH -\nmsg a\nrefused BadFlags at 95\n",
+    ),
+];
+
+/// Octets that break two rules at once, and the rule that counts: of one flags octet flags, order, number of frames; then
+/// the size; of a whole command its form, its metadata, its place, and then what it tells of the peer.
+const COLLISIONS: [Case; 12] = [
+    (
+        &["zbus", "hear", "PULL"],
+        b"\xff\0\0\0\0\0\0\0\0\x7f\x03\0NULL\0\0\0\0\0\0\0\0\0\0\0\0\0\0\0\0\0\0\0\0\0\0\0\0\0\0\0\0\0\0\0\0\0\0\0\0\0\0\0\0\0\0\0\0\0\0\0\0\x08\0",
+        Status::Heard,
+        b"said ff00000000000000007f03004e554c4c000000000000000000000000000000000000000000000000000000000000000000000000000000000000000000000000041a0552454144590b536f636b65742d547970650000000450554c4c\nrefused BadFlags at 64\n",
+    ),
+    (
+        &["zbus", "hear", "PULL"],
+        b"\xff\0\0\0\0\0\0\0\0\x7f\x03\0NULL\0\0\0\0\0\0\0\0\0\0\0\0\0\0\0\0\0\0\0\0\0\0\0\0\0\0\0\0\0\0\0\0\0\0\0\0\0\0\0\0\0\0\0\0\0\0\0\0\x04\x1a\x05READY\x0bSocket-Type\0\0\0\x04PUSH\x01\x01a\x0c\0",
+        Status::Heard,
+        b"said ff00000000000000007f03004e554c4c000000000000000000000000000000000000000000000000000000000000000000000000000000000000000000000000041a0552454144590b536f636b65742d547970650000000450554c4c\npeer PUSH -\nrefused BadFlags at 95\n",
+    ),
+    (
+        &["zbus", "hear", "PULL"],
+        b"\xff\0\0\0\0\0\0\0\0\x7f\x03\0NULL\0\0\0\0\0\0\0\0\0\0\0\0\0\0\0\0\0\0\0\0\0\0\0\0\0\0\0\0\0\0\0\0\0\0\0\0\0\0\0\0\0\0\0\0\0\0\0\0\x02\0\0\0\0\x01\0\0\x01",
+        Status::Heard,
+        b"said ff00000000000000007f03004e554c4c000000000000000000000000000000000000000000000000000000000000000000000000000000000000000000000000041a0552454144590b536f636b65742d547970650000000450554c4c\nrefused OutOfOrder at 64\n",
+    ),
+    (
+        &["zbus", "hear", "PULL"],
+        b"\xff\0\0\0\0\0\0\0\0\x7f\x03\0NULL\0\0\0\0\0\0\0\0\0\0\0\0\0\0\0\0\0\0\0\0\0\0\0\0\0\0\0\0\0\0\0\0\0\0\0\0\0\0\0\0\0\0\0\0\0\0\0\0\x04\x1a\x05READY\x0bSocket-Type\0\0\0\x04PUSH\x01\x01a\x06\0\0\0\0\0\x01\0\x01",
+        Status::Heard,
+        b"said ff00000000000000007f03004e554c4c000000000000000000000000000000000000000000000000000000000000000000000000000000000000000000000000041a0552454144590b536f636b65742d547970650000000450554c4c\npeer PUSH -\nrefused OutOfOrder at 95\n",
+    ),
+    (
+        &["zbus", "hear", "PULL"],
+        b"\xff\0\0\0\0\0\0\0\0\x7f\x03\0NULL\0\0\0\0\0\0\0\0\0\0\0\0\0\0\0\0\0\0\0\0\0\0\0\0\0\0\0\0\0\0\0\0\0\0\0\0\0\0\0\0\0\0\0\0\0\0\0\0\x04\x0d\x08INITIATE\0\0\0\0",
+        Status::Heard,
+        b"said ff00000000000000007f03004e554c4c000000000000000000000000000000000000000000000000000000000000000000000000000000000000000000000000041a0552454144590b536f636b65742d547970650000000450554c4c\nrefused BadMeta at 64\n",
+    ),
+    (
+        &["zbus", "hear", "PULL"],
+        b"\xff\0\0\0\0\0\0\0\0\x7f\x03\0NULL\0\0\0\0\0\0\0\0\0\0\0\0\0\0\0\0\0\0\0\0\0\0\0\0\0\0\0\0\0\0\0\0\0\0\0\0\0\0\0\0\0\0\0\0\0\0\0\0\x04\x06\x05HELLO",
+        Status::Heard,
+        b"said ff00000000000000007f03004e554c4c000000000000000000000000000000000000000000000000000000000000000000000000000000000000000000000000041a0552454144590b536f636b65742d547970650000000450554c4c\nrefused BadCommand at 64\n",
+    ),
+    (
+        &["zbus", "hear", "PULL"],
+        b"\xff\0\0\0\0\0\0\0\0\x7f\x03\0NULL\0\0\0\0\0\0\0\0\0\0\0\0\0\0\0\0\0\0\0\0\0\0\0\0\0\0\0\0\0\0\0\0\0\0\0\0\0\0\0\0\0\0\0\0\0\0\0\0\x04\x09\x07WELCOMEx",
+        Status::Heard,
+        b"said ff00000000000000007f03004e554c4c000000000000000000000000000000000000000000000000000000000000000000000000000000000000000000000000041a0552454144590b536f636b65742d547970650000000450554c4c\nrefused BadCommand at 64\n",
+    ),
+    (
+        &["zbus", "hear", "PULL"],
+        b"\xff\0\0\0\0\0\0\0\0\x7f\x03\0NULL\0\0\0\0\0\0\0\0\0\0\0\0\0\0\0\0\0\0\0\0\0\0\0\0\0\0\0\0\0\0\0\0\0\0\0\0\0\0\0\0\0\0\0\0\0\0\0\0\x04\x1a\x05READY\x0bSocket-Type\0\0\0\x04PUSH\x04\x06\x05ERROR",
+        Status::Heard,
+        b"said ff00000000000000007f03004e554c4c000000000000000000000000000000000000000000000000000000000000000000000000000000000000000000000000041a0552454144590b536f636b65742d547970650000000450554c4c\npeer PUSH -\nrefused BadCommand at 92\n",
+    ),
+    (
+        &["zbus", "hear", "PULL"],
+        b"\xff\0\0\0\0\0\0\0\0\x7f\x03\0NULL\0\0\0\0\0\0\0\0\0\0\0\0\0\0\0\0\0\0\0\0\0\0\0\0\0\0\0\0\0\0\0\0\0\0\0\0\0\0\0\0\0\0\0\0\0\0\0\0\x04\x1a\x05READY\x0bSocket-Type\0\0\0\x04PUSH\x04\x0a\x05READY\0\0\0\0",
+        Status::Heard,
+        b"said ff00000000000000007f03004e554c4c000000000000000000000000000000000000000000000000000000000000000000000000000000000000000000000000041a0552454144590b536f636b65742d547970650000000450554c4c\npeer PUSH -\nrefused BadMeta at 92\n",
+    ),
+    (
+        &["zbus", "hear", "PULL"],
+        b"\xff\0\0\0\0\0\0\0\0\x7f\x03\0NULL\0\0\0\0\0\0\0\0\0\0\0\0\0\0\0\0\0\0\0\0\0\0\0\0\0\0\0\0\0\0\0\0\0\0\0\0\0\0\0\0\0\0\0\0\0\0\0\0\x04\x1a\x05READY\x0bSocket-Type\0\0\0\x04PUSH\x04\x0a\x05HELLO\x01u\x01x",
+        Status::Done,
+        b"said ff00000000000000007f03004e554c4c000000000000000000000000000000000000000000000000000000000000000000000000000000000000000000000000041a0552454144590b536f636b65742d547970650000000450554c4c\npeer PUSH -\nrest 0\n",
+    ),
+    (
+        &["zbus", "hear", "PULL"],
+        b"\xff\0\0\0\0\0\0\0\0\x7f\x03\0NULL\0\0\0\0\0\0\0\0\0\0\0\0\0\0\0\0\0\0\0\0\0\0\0\0\0\0\0\0\0\0\0\0\0\0\0\0\0\0\0\0\0\0\0\0\0\0\0\0\x04\x14\x05READY\x08Identity\0\0\0\x01\0",
+        Status::Heard,
+        b"said ff00000000000000007f03004e554c4c000000000000000000000000000000000000000000000000000000000000000000000000000000000000000000000000041a0552454144590b536f636b65742d547970650000000450554c4c\nrefused NoKind at 64\n",
+    ),
+    (
+        &["zbus", "hear", "PULL"],
+        b"\xff\0\0\0\0\0\0\0\0\x7f\x03\0NULL\0\0\0\0\0\0\0\0\0\0\0\0\0\0\0\0\0\0\0\0\0\0\0\0\0\0\0\0\0\0\0\0\0\0\0\0\0\0\0\0\0\0\0\0\0\0\0\0\x04(\x05READY\x0bSocket-Type\0\0\0\x04PULL\x08Identity\0\0\0\x01\0",
+        Status::Heard,
+        b"said ff00000000000000007f03004e554c4c000000000000000000000000000000000000000000000000000000000000000000000000000000000000000000000000041a0552454144590b536f636b65742d547970650000000450554c4c\nrefused BadPair at 64\n",
     ),
 ];
 
@@ -288,55 +317,58 @@ const REFUSED: [Case; 16] = [
 const LOGINS: [Case; 4] = [
     (
         &["zbus", "hear", "PULL", "--user", "u", "--pass", "x"],
-        &[CLIENT, HELLO_P],
+        b"\xff\0\0\0\0\0\0\0\0\x7f\x03\0PLAIN\0\0\0\0\0\0\0\0\0\0\0\0\0\0\0\0\0\0\0\0\0\0\0\0\0\0\0\0\0\0\0\0\0\0\0\0\0\0\0\0\0\0\0\0\0\0\0\x04\n\x05HELLO\x01u\x01p",
         Status::Heard,
-        &[SAID_SERVER, ERROR, b"\nrefused NotWelcome at 64\n"],
+        b"said ff00000000000000007f0300504c41494e00000000000000000000000000000001000000000000000000000000000000000000000000000000000000000000000412054552524f520b4e6f742d77656c636f6d65\nrefused NotWelcome at 64\n",
     ),
     (
         &["zbus", "hear", "PULL", "--user", "u", "--pass", "p"],
-        &[CLIENT, HELLO_X],
+        b"\xff\0\0\0\0\0\0\0\0\x7f\x03\0PLAIN\0\0\0\0\0\0\0\0\0\0\0\0\0\0\0\0\0\0\0\0\0\0\0\0\0\0\0\0\0\0\0\0\0\0\0\0\0\0\0\0\0\0\0\0\0\0\0\x04\n\x05HELLO\x01u\x01x",
         Status::Heard,
-        &[SAID_SERVER, ERROR, b"\nrefused NotWelcome at 64\n"],
+        b"said ff00000000000000007f0300504c41494e00000000000000000000000000000001000000000000000000000000000000000000000000000000000000000000000412054552524f520b4e6f742d77656c636f6d65\nrefused NotWelcome at 64\n",
     ),
     (
         &["zbus", "hear", "PULL", "--user=u", "--pass=p"],
-        &[CLIENT, HELLO_P, INITIATE_PUSH],
+        b"\xff\0\0\0\0\0\0\0\0\x7f\x03\0PLAIN\0\0\0\0\0\0\0\0\0\0\0\0\0\0\0\0\0\0\0\0\0\0\0\0\0\0\0\0\0\0\0\0\0\0\0\0\0\0\0\0\0\0\0\0\0\0\0\x04\n\x05HELLO\x01u\x01p\x04\x1d\x08INITIATE\x0bSocket-Type\0\0\0\x04PUSH",
         Status::Done,
-        &[SAID_SERVER, WELCOME, PULL, b"\npeer PUSH -\nrest 0\n"],
+        b"said ff00000000000000007f0300504c41494e000000000000000000000000000000010000000000000000000000000000000000000000000000000000000000000004080757454c434f4d45041a0552454144590b536f636b65742d547970650000000450554c4c\npeer PUSH -\nrest 0\n",
     ),
     (
         &["zbus", "hear", "PULL", "--pass", "p", "--user", USER_NAME],
-        &[
-            CLIENT,
-            b"\x06\0\0\0\0\0\0\x01\x08\x05HELLO\xff",
-            USER,
-            b"\x01p",
-        ],
+        b"\xff\0\0\0\0\0\0\0\0\x7f\x03\0PLAIN\0\0\0\0\0\0\0\0\0\0\0\0\0\0\0\0\0\0\0\0\0\0\0\0\0\0\0\0\0\0\0\0\0\0\0\0\0\0\0\0\0\0\0\0\0\0\0\x06\0\0\0\0\0\0\x01\x08\x05HELLO\xffuuuuuuuuuuuuuuuuuuuuuuuuuuuuuuuuuuuuuuuuuuuuuuuuuuuuuuuuuuuuuuuuuuuuuuuuuuuuuuuuuuuuuuuuuuuuuuuuuuuuuuuuuuuuuuuuuuuuuuuuuuuuuuuuuuuuuuuuuuuuuuuuuuuuuuuuuuuuuuuuuuuuuuuuuuuuuuuuuuuuuuuuuuuuuuuuuuuuuuuuuuuuuuuuuuuuuuuuuuuuuuuuuuuuuuuuuuuuuuuuuuuuuuuuuuuuuuu\x01p",
         Status::Done,
-        &[SAID_SERVER, WELCOME, b"\nrest 0\n"],
+        b"said ff00000000000000007f0300504c41494e000000000000000000000000000000010000000000000000000000000000000000000000000000000000000000000004080757454c434f4d45\nrest 0\n",
     ),
 ];
 
-/// The pieces one behind the other.
-fn joined(alloc: Global, pieces: &[&[u8]]) -> Result<Vec<u8>, AllocError> {
-    let mut octets = Vec::new(alloc);
-    for piece in pieces {
-        octets.extend_from_slice(piece)?;
+#[test]
+fn peers_are_heard(rt: HostRuntime) -> Result<(), Fail> {
+    for (words, octets, status, text) in &HEARD {
+        assert!(rt; answers(rt.alloc(), words, octets, *status, text)?);
     }
-    Ok(octets)
+    Ok(())
 }
 
 #[test]
-fn peers_are_heard_or_refused_as_they_must(rt: HostRuntime) -> Result<(), Fail> {
-    let alloc = rt.alloc();
-    for cases in [&HEARD[..], &REFUSED[..], &LOGINS[..]] {
-        for (words, pieces, status, lines) in cases {
-            let octets = joined(alloc, pieces)?;
-            let text = joined(alloc, lines)?;
-            let called = call(alloc, words, octets.as_slice(), &[], &[], &[4096])?;
-            assert_eq!(rt; called.status, *status);
-            assert_eq!(rt; called.text.as_slice(), text.as_slice());
-        }
+fn peers_are_refused_with_the_cause_and_the_offset(rt: HostRuntime) -> Result<(), Fail> {
+    for (words, octets, status, text) in &REFUSED {
+        assert!(rt; answers(rt.alloc(), words, octets, *status, text)?);
+    }
+    Ok(())
+}
+
+#[test]
+fn of_two_broken_rules_one_counts(rt: HostRuntime) -> Result<(), Fail> {
+    for (words, octets, status, text) in &COLLISIONS {
+        assert!(rt; answers(rt.alloc(), words, octets, *status, text)?);
+    }
+    Ok(())
+}
+
+#[test]
+fn peers_log_in(rt: HostRuntime) -> Result<(), Fail> {
+    for (words, octets, status, text) in &LOGINS {
+        assert!(rt; answers(rt.alloc(), words, octets, *status, text)?);
     }
     Ok(())
 }
@@ -367,50 +399,61 @@ fn cut_text(alloc: Global, cut: usize) -> Result<String, AllocError> {
     )
 }
 
+/// Whether so many of the octets are told to mean what they do.
+fn is_cut_well(alloc: Global, octets: &[u8], cut: usize) -> Result<bool, Fail>
+    requires { cut ≤ length octets.now }
+{
+    let text = cut_text(alloc, cut)?;
+    answers(alloc, HEAR, &octets[..cut], Status::Done, text.as_bytes())
+}
+
 #[test]
 fn a_stream_is_heard_at_each_cut(rt: HostRuntime) -> Result<(), Fail> {
-    let alloc = rt.alloc();
-    let octets = joined(alloc, &[NULL, READY_PUSH, b"\0\x05hello"])?;
-    let whole = cut_text(alloc, octets.len())?;
+    let octets: &[u8] = NULL_PUSH_HELLO;
     for cut in 0..=octets.len() {
-        let text = cut_text(alloc, cut)?;
-        let called = call(alloc, HEAR, &octets[..cut], &[], &[], &[4096])?;
-        assert_eq!(rt; called.status, Status::Done);
-        assert_eq!(rt; called.text.as_slice(), text.as_bytes());
-        let called = call(alloc, HEAR, octets.as_slice(), &[], &[], &[cut, 4096])?;
-        assert_eq!(rt; called.text.as_slice(), whole.as_bytes());
+        assert!(rt; is_cut_well(rt.alloc(), octets, cut)?);
     }
     Ok(())
+}
+
+/// Whether all octets mean the same where the first read gives so many.
+fn is_joined_well(alloc: Global, cut: usize) -> Result<bool, Fail> {
+    let text = cut_text(alloc, NULL_PUSH_HELLO.len())?;
+    let called = call(alloc, HEAR, NULL_PUSH_HELLO, &[], &[], &[cut, 4096])?;
+    Ok(called.status == Status::Done && called.text.as_slice() == text.as_bytes())
+}
+
+#[test]
+fn a_stream_means_the_same_over_each_cut(rt: HostRuntime) -> Result<(), Fail> {
+    for cut in 0..100 {
+        assert!(rt; is_joined_well(rt.alloc(), cut)?);
+    }
+    Ok(())
+}
+
+/// A greeting, a READY, and so many frames behind which more are to come.
+fn unending(alloc: Global, frames: usize) -> Result<Vec<u8>, AllocError> {
+    let mut octets = Vec::from_slice(alloc, NULL_PUSH)?;
+    for _ in 0..frames {
+        octets.extend_from_slice(b"\x01\0")?;
+    }
+    Ok(octets)
 }
 
 #[test]
 fn too_many_frames_are_refused(rt: HostRuntime) -> Result<(), Fail> {
     let alloc = rt.alloc();
-    let mut octets = joined(alloc, &[NULL, READY_PUSH])?;
-    for _ in 0..1024 {
-        octets.extend_from_slice(b"\x01\0")?;
-    }
-    let called = call(alloc, HEAR, octets.as_slice(), &[], &[], &[1])?;
-    let text = joined(
-        alloc,
-        &[
-            SAID_NULL,
-            PULL,
-            b"\npeer PUSH -\nrefused TooManyParts at 2138\n",
-        ],
-    )?;
-    assert_eq!(rt; called.status, Status::Heard);
-    assert_eq!(rt; called.text.as_slice(), text.as_slice());
+    let octets = unending(alloc, 1024)?;
+    let text: &[u8] =
+        b"said ff00000000000000007f03004e554c4c000000000000000000000000000000000000000000000000000000000000000000000000000000000000000000000000041a0552454144590b536f636b65742d547970650000000450554c4c\npeer PUSH -\nrefused TooManyParts at 2138\n";
+    assert!(rt; answers(alloc, HEAR, octets.as_slice(), Status::Heard, text)?);
     Ok(())
 }
 
 #[test]
 fn a_peer_that_fails_is_a_read_fault(rt: HostRuntime) -> Result<(), Fail> {
-    let alloc = rt.alloc();
     for number in 1..4u64 {
-        let called = call(alloc, HEAR, NULL, &[number], &[], &[32])?;
-        assert_eq!(rt; called.status, Status::ReadFault);
-        assert_eq!(rt; called.text.as_slice(), b"read fault\n".as_slice());
+        assert!(rt; fails_to_read(rt.alloc(), HEAR, NULL, number, 32)?);
     }
     Ok(())
 }

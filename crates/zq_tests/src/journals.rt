@@ -1,4 +1,4 @@
-use spec_pattern::{PipeId, RecvRefusal, SendRefusal};
+use spec_pattern::{PipeId, RecvRefusal, Report, SendRefusal};
 use std::alloc::Global;
 use std::test::Fail;
 use zq_base::{Frame, Message, ObjId, Octets, PairId, Seq};
@@ -69,6 +69,30 @@ fn answers_have_their_texts(rt: HostRuntime) -> Result<(), Fail> {
         let printed = text_of(alloc, b"a", 4, answer)?;
         assert_eq!(rt; printed.as_slice(), text);
     }
+    Ok(())
+}
+
+/// Pairs of these numbers.
+fn pairs(alloc: Global, numbers: &[u32]) -> Result<Seq<PairId>, Fail> {
+    let mut pairs = Vec::new(alloc);
+    for number in numbers {
+        pairs.push(PairId(*number))?;
+    }
+    Ok(Seq::of_vec(pairs))
+}
+
+/// Whether copies to these pairs, with no room at those, are told so.
+fn copies_are_told(alloc: Global, put: &[u32], full: &[u32], text: &[u8]) -> Result<bool, Fail> {
+    let put = pairs(alloc, put)?;
+    let full = pairs(alloc, full)?;
+    let told = text_of(alloc, b"a", 4, Answer::Many(Report { put, full }))?;
+    Ok(told.as_slice() == text)
+}
+
+#[test]
+fn copies_are_told_by_their_pairs(rt: HostRuntime) -> Result<(), Fail> {
+    assert!(rt; copies_are_told(rt.alloc(), &[1, 2], &[], b"a 4 ok p1,p2\ndone\n")?);
+    assert!(rt; copies_are_told(rt.alloc(), &[2], &[1], b"a 4 ok p2 full p1\ndone\n")?);
     Ok(())
 }
 

@@ -1,4 +1,4 @@
-use crate::calls::call;
+use crate::calls::{answers, call, fails_to_read, left_behind};
 use std::alloc::Global;
 use std::test::Fail;
 use zq_top::Status;
@@ -23,7 +23,7 @@ type Case = (
 const RUN: &[&str] = &["zbus", "run"];
 
 /// Scripts of one and of several actors, and what their runs print.
-const CASES: [Case; 28] = [
+const CASES: [Case; 30] = [
     (RUN, TWO_MESSAGES, Status::Done, TWO_MESSAGES_TEXT),
     (RUN, b"", Status::Done, b"done\n"),
     (RUN, b"# nothing\n\n", Status::Done, b"done\n"),
@@ -162,43 +162,66 @@ const CASES: [Case; 28] = [
         Status::Script,
         b"script 3 BadWord\n",
     ),
+    (
+        RUN,
+        b"actor a\nsocket b PAIR\nsocket c PAIR\nbind b inproc://q\nconnect c inproc://q\nsend b x\nrecv c\nsend c y\nrecv b\nrecv b\nsocket d PAIR\nconnect d inproc://q\nsend d z\nrecv b\n",
+        Status::Done,
+        b"a 2 ok o1\na 3 ok o2\na 4 ok\na 5 ok p1\na 6 ok p1\na 7 msg p1 x\na 8 ok p1\na 9 msg p1 y\na 10 again\na 11 ok o3\na 12 ok p2\na 13 ok p2\na 14 again\npipe p1a sent 1 given 1 heard 0 dropped 0 written 0 lost 0 rest 0 -\npipe p1b sent 1 given 1 heard 0 dropped 0 written 0 lost 0 rest 0 -\npipe p2a sent 1 given 0 heard 0 dropped 0 written 0 lost 0 rest 1 closed\npipe p2b sent 0 given 0 heard 0 dropped 0 written 0 lost 0 rest 0 -\ndone\n",
+    ),
+    (
+        RUN,
+        b"actor a\nsocket d DEALER\nsocket e DEALER\nsocket f DEALER\nbind d inproc://q\nconnect e inproc://q\nconnect f inproc://q\nsend d x\nsend f m\nsend e n\nrecv d\nrecv d\nsend d y\nrecv f\nsocket s PUSH\nconnect s inproc://q\n",
+        Status::Done,
+        b"a 2 ok o1\na 3 ok o2\na 4 ok o3\na 5 ok\na 6 ok p1\na 7 ok p2\na 8 ok p1\na 9 ok p2\na 10 ok p1\na 11 msg p1 n\na 12 msg p2 m\na 13 ok p2\na 14 msg p2 y\na 15 ok o4\na 16 badpair\npipe p1a sent 1 given 1 heard 0 dropped 0 written 0 lost 0 rest 0 -\npipe p1b sent 1 given 0 heard 0 dropped 0 written 0 lost 0 rest 1 closed\npipe p2a sent 1 given 1 heard 0 dropped 0 written 0 lost 0 rest 0 -\npipe p2b sent 1 given 1 heard 0 dropped 0 written 0 lost 0 rest 0 -\ndone\n",
+    ),
 ];
 
 #[test]
 fn scripts_are_run_or_refused_as_they_must(rt: HostRuntime) -> Result<(), Fail> {
-    let alloc = rt.alloc();
     for (words, script, status, text) in &CASES {
-        let called = call(alloc, words, script, &[], &[], &[4096])?;
-        assert_eq!(rt; called.status, *status);
-        assert_eq!(rt; called.text.as_slice(), *text);
+        assert!(rt; answers(rt.alloc(), words, script, *status, text)?);
     }
     Ok(())
 }
 
-/// The head, and then the line so often.
-fn repeated(alloc: Global, head: &[u8], line: &[u8], count: usize) -> Result<Vec<u8>, Fail> {
-    let mut octets = Vec::from_slice(alloc, head)?;
+/// The line so often.
+fn repeated(alloc: Global, line: &[u8], count: usize) -> Result<Vec<u8>, Fail> {
+    let mut octets = Vec::new(alloc);
     for _ in 0..count {
         octets.extend_from_slice(line)?;
     }
     Ok(octets)
 }
 
+/// Whether a script of a line so often is answered so.
+fn repeated_answers(
+    alloc: Global,
+    line: &[u8],
+    count: usize,
+    status: Status,
+    text: &[u8],
+) -> Result<bool, Fail> {
+    let script = repeated(alloc, line, count)?;
+    answers(alloc, RUN, &script, status, text)
+}
+
+#[test]
+fn a_longer_source_is_read_no_further(rt: HostRuntime) -> Result<(), Fail> {
+    assert!(rt; left_behind(rt.alloc(), RUN, 1_048_600)? == 23);
+    Ok(())
+}
+
 #[test]
 fn scripts_at_the_limits_are_read(rt: HostRuntime) -> Result<(), Fail> {
-    let alloc = rt.alloc();
-    let too_long: &[u8] = b"script 0 TooLong\n";
-    let cases: [(&[u8], usize, Status, &[u8]); 4] = [
+    let cases: [(&[u8], usize, Status, &[u8]); 5] = [
         (b"\n", 10_000, Status::Done, b"done\n"),
-        (b"\n", 10_001, Status::Script, too_long),
+        (b"\n", 10_001, Status::Script, b"script 0 TooLong\n"),
         (b"#", 1_048_576, Status::Done, b"done\n"),
-        (b"#", 1_048_577, Status::Script, too_long),
+        (b"#", 1_048_577, Status::Script, b"script 0 TooLong\n"),
+        (b"#", 1_058_577, Status::Script, b"script 0 TooLong\n"),
     ];
     for (line, count, status, text) in cases {
-        let script = repeated(alloc, b"", line, count)?;
-        let called = call(alloc, RUN, &script, &[], &[], &[65_536])?;
-        assert_eq!(rt; called.status, status);
-        assert_eq!(rt; called.text.as_slice(), text);
+        assert!(rt; repeated_answers(rt.alloc(), line, count, status, text)?);
     }
     Ok(())
 }
@@ -215,19 +238,16 @@ fn numbered(alloc: Global, before: &[u8], count: usize) -> Result<Vec<u8>, Fail>
     Ok(octets)
 }
 
+/// Whether a script of so many actors is answered so.
+fn actors_answer(alloc: Global, count: usize, status: Status, text: &[u8]) -> Result<bool, Fail> {
+    let script = numbered(alloc, b"actor ", count)?;
+    answers(alloc, RUN, &script, status, text)
+}
+
 #[test]
 fn a_script_has_64_actors_at_the_most(rt: HostRuntime) -> Result<(), Fail> {
-    let alloc = rt.alloc();
-    let cases: [(usize, Status, &[u8]); 2] = [
-        (64, Status::Done, b"done\n"),
-        (65, Status::Script, b"script 65 TooManyActors\n"),
-    ];
-    for (count, status, text) in cases {
-        let script = numbered(alloc, b"actor ", count)?;
-        let called = call(alloc, RUN, &script, &[], &[], &[4096])?;
-        assert_eq!(rt; called.status, status);
-        assert_eq!(rt; called.text.as_slice(), text);
-    }
+    assert!(rt; actors_answer(rt.alloc(), 64, Status::Done, b"done\n")?);
+    assert!(rt; actors_answer(rt.alloc(), 65, Status::Script, b"script 65 TooManyActors\n")?);
     Ok(())
 }
 
@@ -241,25 +261,21 @@ fn many_sockets(alloc: Global, count: usize) -> Result<Vec<u8>, Fail> {
         octets.push(b'a' + (number % 26) as u8)?;
         octets.extend_from_slice(b" PUSH\n")?;
     }
-    octets.extend_from_slice(b"send saaa x\n")?;
+    octets.extend_from_slice(b"send saaa x\nsend sbnj x\n")?;
     Ok(octets)
 }
 
 #[test]
 fn no_more_than_1023_sockets_live(rt: HostRuntime) -> Result<(), Fail> {
-    let alloc = rt.alloc();
-    let mut script = many_sockets(alloc, 1_024)?;
-    script.extend_from_slice(b"send sbnj x\n")?;
-    let called = call(alloc, RUN, &script, &[], &[], &[65_536])?;
-    assert_eq!(rt; called.status, Status::Done);
+    let script = many_sockets(rt.alloc(), 1_024)?;
+    let called = call(rt.alloc(), RUN, &script, &[], &[], &[65_536])?;
     let end: &[u8] = b"\na 1024 ok o1023\na 1025 toomany\na 1026 again\na 1027 nosock\ndone\n";
-    assert!(rt; called.text.ends_with(end));
+    assert!(rt; called.status == Status::Done && called.text.ends_with(end));
     Ok(())
 }
 
 #[test]
 fn other_words_are_refused(rt: HostRuntime) -> Result<(), Fail> {
-    let alloc = rt.alloc();
     let words: [&[&str]; 5] = [
         &["zbus", "sing"],
         &[],
@@ -267,37 +283,36 @@ fn other_words_are_refused(rt: HostRuntime) -> Result<(), Fail> {
         &["zbus", "hear", "PULL", "--user", "u"],
         &["zbus", "run", "--threads", "1"],
     ];
+    let text: &[u8] = b"usage: zbus run|soak|hear|forward\n";
     for words in words {
-        let called = call(alloc, words, b"", &[], &[], &[1])?;
-        assert_eq!(rt; called.status, Status::Usage);
-        assert_eq!(rt;
-            called.text.as_slice(),
-            b"usage: zbus run|soak|hear|forward\n".as_slice()
-        );
+        assert!(rt; answers(rt.alloc(), words, b"", Status::Usage, text)?);
     }
     Ok(())
 }
 
 #[test]
 fn a_source_that_fails_is_a_read_fault(rt: HostRuntime) -> Result<(), Fail> {
-    let alloc = rt.alloc();
     for number in 1..14 {
-        let called = call(alloc, &["zbus", "run"], TWO_MESSAGES, &[number], &[], &[10])?;
-        assert_eq!(rt; called.status, Status::ReadFault);
-        assert_eq!(rt; called.text.as_slice(), b"read fault\n".as_slice());
+        assert!(rt; fails_to_read(rt.alloc(), RUN, TWO_MESSAGES, number, 10)?);
     }
     Ok(())
 }
 
+/// Whether a sink that fails at this write has taken what was written before.
+fn fails_to_write(alloc: Global, number: u64, taken: usize) -> Result<bool, Fail> {
+    let called = call(alloc, RUN, TWO_MESSAGES, &[], &[number], &[40])?;
+    let text = called.text.as_slice();
+    Ok(
+        called.status == Status::WriteFault
+            && text.len() == taken
+            && TWO_MESSAGES_TEXT.starts_with(text),
+    )
+}
+
 #[test]
 fn a_sink_that_fails_has_taken_a_prefix(rt: HostRuntime) -> Result<(), Fail> {
-    let alloc = rt.alloc();
-    for number in 1..7u64 {
-        let called = call(alloc, &["zbus", "run"], TWO_MESSAGES, &[], &[number], &[40])?;
-        assert_eq!(rt; called.status, Status::WriteFault);
-        let taken = (number as usize - 1) * 40;
-        assert_eq!(rt; called.text.len(), taken);
-        assert_eq!(rt; TWO_MESSAGES_TEXT.starts_with(called.text.as_slice()), true);
+    for number in 0..6 {
+        assert!(rt; fails_to_write(rt.alloc(), number as u64 + 1, number * 40)?);
     }
     Ok(())
 }

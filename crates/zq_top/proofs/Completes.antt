@@ -1,5 +1,5 @@
 -- What the status is, where the outside has no fault.
-use Rattle.std.proofs.Common.{◌≡◌, ◌<◌, ◌+◌, ℕ, List, ◌++◌, length, true, false, Option, Some, None, refl, sym, ap, subst, ◌∙◌, arith, ◌⊎◌, inl, inr, length-append}
+use Rattle.std.proofs.Common.{◌≡◌, ◌<◌, ◌+◌, ℕ, List, ◌++◌, length, Bool, true, false, Option, Some, None, refl, sym, ap, subst, ◌∙◌, arith, ◌⊎◌, inl, inr, length-append}
 use Rattle.std.specs.Prelude.{Ok, Err, nat_lt}
 use Rattle.std.proofs.lemmas.Bool.{lt-ltb}
 use Rattle.zq_outer.specs.Count.{Rose}
@@ -15,13 +15,13 @@ use Rattle.zq_base.specs.declared.kind.Kind.{Kind}
 use Rattle.zq_base.specs.declared.options.Login.{Login}
 use Rattle.zq_words.specs.declared.request.Request.{Request}
 use Rattle.zq_words.specs.declared.request.Request.TheVariants as request
-use Rattle.zq_top.specs.Headline.{AsksRun, AsksNothing, AsksHear, SourceAt, WasRead, SaysOf, Says}
+use Rattle.zq_top.specs.Headline.{AsksRun, AsksNothing, AsksHear, AsksScript, SourceAt, WasRead, Prints, SaysOf, SaysText, ComesDue, run_status}
 use Rattle.zq_top.specs.declared.status.Status.{Status}
 use Rattle.zq_top.specs.declared.status.Status.TheVariants as status
 
 -- what is said of octets that were read
 pub says_read : (s : Status) (words : List (List ℕ)) (before after : SourceAt) (schedule : Schedule) (octets text : List ℕ) → AsksRun words schedule
-    → WasRead before after octets → SaysOf schedule s octets text → Says s words before after text
+    → WasRead before after octets → SaysOf schedule s octets text → SaysText s words before after text
 says_read status.Done words before after schedule octets text asks read says = inl (schedule, asks, (octets, read, says))
 says_read status.Script words before after schedule octets text asks read says = (schedule, asks, (octets, read, says))
 says_read status.Usage words before after schedule octets text asks read says = absurd says
@@ -50,13 +50,13 @@ one_schedule words a b first second =
 
 -- the octets that were read are a script: they are all that the source had
 all_read : (before after : SourceAt) (octets read : List ℕ) (script : Script) → before.left ≡ Some octets → WasRead before after read → script_of read ≡ Ok script → read ≡ octets
-all_read before after octets read script left (inl (rose, all)) is = let whole = rw left at all in sym whole.0
-all_read before after octets read script left (inr (limit, some)) is = absurd (too_long read script (omega (arith, limit)) is)
+all_read before after octets read script left (few, inl (rose, all)) is = let whole = rw left at all in sym whole.0
+all_read before after octets read script left (few, inr (limit, some)) is = absurd (too_long read script (omega (arith, limit)) is)
 
 -- octets that are a script are read whole
 script_read : (before after : SourceAt) (octets read : List ℕ) (script : Script) → before.left ≡ Some octets → WasRead before after read → script_of octets ≡ Ok script → read ≡ octets
-script_read before after octets read script left (inl (rose, all)) is = let whole = rw left at all in sym whole.0
-script_read before after octets read script left (inr (limit, some)) is =
+script_read before after octets read script left (few, inl (rose, all)) is = let whole = rw left at all in sym whole.0
+script_read before after octets read script left (few, inr (limit, some)) is =
     let parts = rw left at some in
     let whole : octets ≡ read ++ parts.0 = parts.1 in
     let long : length octets ≡ length read + length parts.0 = ap length whole ∙ length-append read parts.0 in
@@ -79,9 +79,37 @@ run_asks words schedule asks none = no_request (request.Run schedule.seed schedu
 run_hears_none : (words : List (List ℕ)) (schedule : Schedule) (kind : Kind) (login : Option Login) → AsksRun words schedule → AsksHear words kind login → ⊥
 run_hears_none words schedule kind login asks hears = not_hear schedule.seed schedule.turns kind login (sym asks ∙ hears)
 
+-- a run that is asked for ends as its one journal does
+module _ (words : List (List ℕ)) (before after : SourceAt) (text : List ℕ) (schedule : Schedule) (script : Script) (asks : AsksScript words before.left schedule script) where
+  -- a journal that was printed is of this script, by this schedule
+  one_end : (done : Bool) (other : Schedule) (read : List ℕ) (j : Journal) → AsksRun words other → WasRead before after read → Prints other done read text
+      → IsJournalOf script schedule j → j.done ≡ done
+  one_end done other read j asked_other was_read prints is =
+      let same : read ≡ asks.octets = script_read before after asks.octets read script asks.left_is was_read asks.script_is in
+      let found : script_of asks.octets ≡ Ok prints.script = subst (λ (l : List ℕ). script_of l ≡ Ok prints.script) same prints.script_is in
+      let whole = sym asks.script_is ∙ found in
+      let one : script ≡ prints.script = cc in
+      let when : schedule ≡ other = one_schedule words schedule other asks.asks asked_other in
+      let there : IsJournalOf prints.script other j = subst (λ (t : Schedule). IsJournalOf prints.script t j) when (subst (λ (t : Script). IsJournalOf t schedule j) one is) in
+      ap (λ (k : Journal). k.done) (prints.only j there) ∙ prints.done_is
+
+  pub ends_so : (s : Status) (j : Journal) → (Rose before.faults after.faults → ⊥) → SaysText s words before after text → IsJournalOf script schedule j → ComesDue s (run_status j.done)
+  ends_so status.Done j sound (inl (other, asked_other, (read, was_read, prints))) is = inl (ap run_status (sym (one_end true other read j asked_other was_read prints is)))
+  ends_so status.Done j sound (inr (kind, login, asked_other, heard)) is = absurd (run_hears_none words schedule kind login asks.asks asked_other)
+  ends_so status.Script j sound (other, asked_other, (read, was_read, refuses)) is =
+      let same : read ≡ asks.octets = script_read before after asks.octets read script asks.left_is was_read asks.script_is in
+      let clash : script_of asks.octets ≡ Err refuses.fault = subst (λ (l : List ℕ). script_of l ≡ Err refuses.fault) same refuses.fault_is in
+      let both = sym asks.script_is ∙ clash in absurd (cc)
+  ends_so status.Usage j sound says is = absurd (run_asks words schedule asks.asks says.0)
+  ends_so status.ReadFault j sound says is = absurd (sound says.1)
+  ends_so status.WriteFault j sound says is = absurd says
+  ends_so status.OutOfMemory j sound says is = inr refl
+  ends_so status.Unfinished j sound (other, asked_other, (read, was_read, prints)) is = inl (ap run_status (sym (one_end false other read j asked_other was_read prints is)))
+  ends_so status.Heard j sound (kind, login, asked_other, heard) is = absurd (run_hears_none words schedule kind login asks.asks asked_other)
+
 module _ (words : List (List ℕ)) (before after : SourceAt) (text octets : List ℕ) (schedule : Schedule) (asks : AsksRun words schedule) (left : before.left ≡ Some octets)
     (sound : Rose before.faults after.faults → ⊥) where
-  pub completes : (s : Status) (script : Script) → Says s words before after text → script_of octets ≡ Ok script → tries_in_all script < schedule.turns
+  pub completes : (s : Status) (script : Script) → SaysText s words before after text → script_of octets ≡ Ok script → tries_in_all script < schedule.turns
       → (s ≡ status.Done) ⊎ (s ≡ status.OutOfMemory)
   completes status.Done script says is few = inl refl
   completes status.Script script (other, asked_other, (read, was_read, refuses)) is few =
@@ -101,7 +129,7 @@ module _ (words : List (List ℕ)) (before after : SourceAt) (text octets : List
       absurd (not_done prints.script other prints.journal prints.is_journal prints.done_is
       (subst (λ (t : Schedule). tries_in_all prints.script < t.turns) when (subst (λ (t : Script). tries_in_all t < schedule.turns) one few)))
 
-  pub refuses : (s : Status) (fault : ScriptFault) → Says s words before after text → script_of octets ≡ Err fault
+  pub refuses : (s : Status) (fault : ScriptFault) → SaysText s words before after text → script_of octets ≡ Err fault
       → (s ≡ status.Script) ⊎ (s ≡ status.OutOfMemory)
   refuses status.Done fault (inr (kind, login, asked_other, heard)) is = absurd (run_hears_none words schedule kind login asks asked_other)
   refuses status.Done fault (inl (other, asked_other, (read, was_read, prints))) is =

@@ -15,15 +15,15 @@ use Rattle.zq_words.specs.Words.{are_in_order, program, login_of, hear_of, run_o
 use Rattle.zq_words.specs.Number.{number_or}
 use Rattle.zq_words.specs.declared.request.Request.{Request}
 use Rattle.zq_words.specs.declared.request.Request.TheVariants as request
-use Rattle.zq_top.specs.Headline.{AsksHear, SourceAt, SaysHeard, Says, heard_status}
+use Rattle.zq_top.specs.Headline.{AsksHear, SourceAt, SaysHeard, SaysText, heard_status}
 use Rattle.zq_top.specs.declared.status.Status.{Status}
 use Rattle.zq_top.specs.declared.status.Status.TheVariants as status
 
 -- what is said of octets that were heard
 pub says_heard : (refused : Bool) (s : Status) (words : List (List ℕ)) (before after : SourceAt) (text : List ℕ) → s ≡ heard_status refused
-    → SaysHeard refused words before after text → Says s words before after text
-says_heard false s words before after text is says = subst (λ t. Says t words before after text) (sym is) (inr says)
-says_heard true s words before after text is says = subst (λ t. Says t words before after text) (sym is) says
+    → SaysHeard refused words before after text → SaysText s words before after text
+says_heard false s words before after text is says = subst (λ t. SaysText t words before after text) (sym is) (inr says)
+says_heard true s words before after text is says = subst (λ t. SaysText t words before after text) (sym is) says
 
 some_same : {A : Type 0} (a b : A) → ◌≡◌ {A = Option A} (Some a) (Some b) → a ≡ b
 some_same a b same = cc
@@ -102,7 +102,7 @@ module _ (words : List (List ℕ)) (before after : SourceAt) (text octets : List
       let one : heard.decoded ≡ d = one_meaning (hear_opts kind login) octets heard.decoded d on means in
       heard.refused_is ∙ ap (λ (e : Decoded). is_refused e.outcome) one
 
-  pub hears : (s : Status) → Says s words before after text → (s ≡ heard_status (is_refused d.outcome)) ⊎ (s ≡ status.OutOfMemory)
+  pub hears : (s : Status) → SaysText s words before after text → (s ≡ heard_status (is_refused d.outcome)) ⊎ (s ≡ status.OutOfMemory)
   hears status.Done (inl (schedule, asked_run, read)) = absurd (not_run schedule.seed schedule.turns kind login (sym asked_run ∙ asks))
   hears status.Done (inr heard) = inl (ap heard_status (one_outcome false heard))
   hears status.Script (schedule, asked_run, read) = absurd (not_run schedule.seed schedule.turns kind login (sym asked_run ∙ asks))

@@ -8,11 +8,11 @@ use Rattle.std.proofs.lemmas.Option.{get_or_from_slice_get, slice_get_within}
 use Rattle.zq_base.specs.declared.ids.ObjId.{ObjId}
 use Rattle.zq_script.specs.declared.script.Script.{Script}
 use Rattle.zq_script.specs.declared.script.ActorScript.{ActorScript}
-use Rattle.spec_pattern.specs.declared.pipe_id.PipeId.{PipeId}
+use Rattle.zq_base.specs.Ends.{PipeId}
 use Rattle.spec_pattern.specs.PipeStep.{PipeStep, AreExact, most_commits}
 use Rattle.spec_pattern.proofs.Exact.{taken_prefix}
 use Rattle.spec_pattern.proofs.Looks.{looks_hold}
-use Rattle.endpoint_book.specs.EndpointBook.{empty_book}
+use Rattle.spec_control.specs.EndpointBook.{empty_book}
 use Rattle.spec_journal.specs.declared.journal.Entry.{Entry}
 use Rattle.spec_journal.specs.declared.journal.ActorPart.{ActorPart}
 use Rattle.spec_journal.specs.declared.journal.PipeRow.{PipeRow}
@@ -23,10 +23,12 @@ use Rattle.spec_journal.specs.Run.{Schedule, Run, IsRunOf, doings_of, doings_by,
 use Rattle.spec_journal.specs.Printed.{IsJournalOf, journal_of, entries_of, parts_from, rows_from}
 use Rattle.spec_journal.specs.Printed as printed
 use Rattle.spec_journal.proofs.Dispositions.{all_end}
-use Rattle.flat_net.specs.Flat.{Flat, flat, past_rows}
+use Rattle.spec_journal.proofs.NetLemmas.{IsSound}
+use Rattle.spec_journal.proofs.RunLemmas.{sound_before}
+use Rattle.flat_net.specs.Flat.{Flat, net_of, past_rows}
 use Rattle.flat_net.specs.Pipes.{IsPast}
 use Rattle.zq_top.specs.declared.actor.Actor.{Actor}
-use Rattle.zq_top.specs.Playing.{agenda_of, entries_in, entries_at, stage_of, EndsSo, Ends, AreNew, part_of}
+use Rattle.zq_top.specs.Playing.{agenda_of, entries_in, entries_at, stage_at, TurnsEndSo, RunEnds, AreNew, actor_part}
 use Rattle.zq_top.proofs.PlayLemmas.{parts_are}
 use Rattle.zq_top.proofs.Given.{all_given, past_rows_are}
 
@@ -38,22 +40,16 @@ seats_are (s ∷ ss) = ap (λ (l : List (List (Option ObjId))). [] ∷ l) (seats
 stages_are : (n m : Net) (xs ys : List Agenda) → n ≡ m → xs ≡ ys → ◌≡◌ {A = Stage} (record { net = n; agendas = xs }) (record { net = m; agendas = ys })
 stages_are n m xs ys e f = cc
 
-begins : (script : Script) (xs : List Actor) → AreNew script.actors xs
-    → stage_of (flat [] empty_book [] (replicate (length script.actors) []) []) xs ≡ stage_before script
-begins script xs new = stages_are _ _ (map agenda_of xs) (map whole_agenda script.actors)
-    (ap (λ (l : List (List (Option ObjId))). (flat [] empty_book [] l []).net) (sym (seats_are script.actors))) new.agendas
+-- the net before the first line of so many actors
+abbrev IsNewNet : ℕ → Flat → Type 0
+IsNewNet n w = (w.net ≡ net_of [] empty_book [] (replicate n [])) × IsPast w.pipes []
+
+begins : (script : Script) (w : Flat) (xs : List Actor) → IsNewNet (length script.actors) w → AreNew script.actors xs → stage_at w xs ≡ stage_before script
+begins script w xs net new = stages_are w.net _ (map agenda_of xs) (map whole_agenda script.actors)
+    (net.0 ∙ ap (λ (l : List (List (Option ObjId))). net_of [] empty_book [] l) (sym (seats_are script.actors))) new.agendas
 
 counts : (ss : List ActorScript) (xs : List Actor) → AreNew ss xs → length xs ≡ length ss
 counts ss xs new = sym (length-map xs (λ (a : Actor). a.name.now)) ∙ ap length new.names ∙ length-map ss (λ (s : ActorScript). s.name)
-
--- nothing was taken from pipes that are not there
-no_past : IsPast [] []
-no_past = record {
-  committed = λ p there. absurd (omega (arith, there.1));
-  taken = λ p there. absurd (omega (arith, there.1));
-  nothing = λ p none. (refl, refl);
-  exact = λ c same. tt;
-}
 
 -- what holds of each element holds of the one at a place
 element : {X : Type 0} (P : X → Type 0) (xs : List X) (k : ℕ) (x : X) → slice_get xs k ≡ Some x → All P xs → P x
@@ -82,11 +78,11 @@ no_entries_in (Some x) f = f x refl
 no_entries : (xs : List Actor) → All (λ (a : Actor). a.entries.items ≡ []) xs → (a : ℕ) → entries_at xs a ≡ []
 no_entries xs none a = no_entries_in (slice_get xs a) (λ x here. element (λ (y : Actor). y.entries.items ≡ []) xs a x here none)
 
-ends_printed : (schedule : Schedule) (done : Bool) (run : Run) → EndsSo schedule done run.turns run.stage → printed.EndsSo schedule done run
+ends_printed : (schedule : Schedule) (done : Bool) (run : Run) → TurnsEndSo schedule done run.turns run.stage → printed.EndsSo schedule done run
 ends_printed schedule true run e = e
 ends_printed schedule false run e = e
 
-within_turns : (schedule : Schedule) (done : Bool) (run : Run) → EndsSo schedule done run.turns run.stage → length run.turns ≤ schedule.turns
+within_turns : (schedule : Schedule) (done : Bool) (run : Run) → TurnsEndSo schedule done run.turns run.stage → length run.turns ≤ schedule.turns
 within_turns schedule true run e = omega (arith, e.1)
 within_turns schedule false run e = omega (arith, e)
 
@@ -97,50 +93,47 @@ zero_plus : (a : ℕ) → a ≡ 0 + a
 zero_plus a = omega arith
 
 -- a run of the script, by its turns
-the_run : (script : Script) (schedule : Schedule) (done : Bool) (u : Flat) (xs ys : List Actor) → AreNew script.actors xs
-    → (e : Ends schedule done (flat [] empty_book [] (replicate (length script.actors) []) []) xs u ys)
+the_run : (script : Script) (schedule : Schedule) (done : Bool) (w u : Flat) (xs ys : List Actor) → IsNewNet (length script.actors) w → AreNew script.actors xs
+    → (e : RunEnds schedule done w xs u ys)
     → ((past : List PipeStep) → IsPast u.pipes past → AreExact (capacity_in u.net) [] past)
     → ((p : PipeId) → capacity_in u.net p ≤ most_commits)
-    → IsRunOf script schedule (record { turns = e.turns; stage = stage_of u ys })
-the_run script schedule done u xs ys new e exact fits =
-    let run : Run = record { turns = e.turns; stage = stage_of u ys } in
-    let is_exact : AreExact (capacity_in u.net) [] (steps_of (doings_of run)) = exact (steps_of (doings_of run)) (e.did.past [] no_past) in
+    → IsRunOf script schedule (record { turns = e.turns; stage = stage_at u ys })
+the_run script schedule done w u xs ys net new e exact fits =
+    let run : Run = record { turns = e.turns; stage = stage_at u ys } in
+    let is_exact : AreExact (capacity_in u.net) [] (steps_of (doings_of run)) = exact (steps_of (doings_of run)) (e.did.past [] net.1) in
     record {
-      turns = subst (λ (s : Stage). Turns schedule.seed (workers_of script) schedule.seed s e.turns (stage_of u ys)) (begins script xs new)
-          (subst (λ n. Turns schedule.seed (range_with_len 0 (n + other_workers)) schedule.seed (stage_of (flat [] empty_book [] (replicate (length script.actors) []) []) xs) e.turns (stage_of u ys)) (counts script.actors xs new) e.are_turns);
+      turns = subst (λ (s : Stage). Turns schedule.seed (workers_of script) schedule.seed s e.turns (stage_at u ys)) (begins script w xs net new)
+          (subst (λ n. Turns schedule.seed (range_with_len 0 (n + other_workers)) schedule.seed (stage_at w xs) e.turns (stage_at u ys)) (counts script.actors xs new) e.are_turns);
       within = within_turns schedule done run e.ends;
       exact = is_exact;
       in_order = taken_prefix (capacity_in u.net) (steps_of (doings_of run)) is_exact;
       looks = looks_hold (capacity_in u.net) (steps_of (doings_of run)) fits is_exact;
     }
 
-pub the_journal : (script : Script) (schedule : Schedule) (done : Bool) (u : Flat) (xs ys : List Actor) (rows : List PipeRow) → AreNew script.actors xs
-    → (e : Ends schedule done (flat [] empty_book [] (replicate (length script.actors) []) []) xs u ys)
+pub the_journal : (script : Script) (schedule : Schedule) (done : Bool) (w u : Flat) (xs ys : List Actor) (rows : List PipeRow) (n : ℕ)
+    → w.net ≡ net_of [] empty_book [] (replicate n []) → n ≡ length script.actors → IsPast w.pipes [] → AreNew script.actors xs
+    → (e : RunEnds schedule done w xs u ys)
     → ((past : List PipeStep) → IsPast u.pipes past → rows ≡ past_rows past 1 u.net.pairs)
     → ((past : List PipeStep) → IsPast u.pipes past → AreExact (capacity_in u.net) [] past)
     → ((p : PipeId) → capacity_in u.net p ≤ most_commits)
-    → IsJournalOf script schedule (record { actors = map part_of ys; pipes = rows; done = done })
-the_journal script schedule done u xs ys rows new e are_rows exact fits =
-    let run : Run = record { turns = e.turns; stage = stage_of u ys } in
-    let is_run = the_run script schedule done u xs ys new e exact fits in
-    let past = e.did.past [] no_past in
-    let given = all_given schedule.seed (range_with_len 0 (length xs + other_workers)) schedule.seed _ e.turns _ e.are_turns in
+    → IsJournalOf script schedule (record { actors = map actor_part ys; pipes = rows; done = done })
+the_journal script schedule done w u xs ys rows n begun same none new e are_rows exact fits =
+    let net : IsNewNet (length script.actors) w = (subst (λ k. w.net ≡ net_of [] empty_book [] (replicate k [])) same begun, none) in
+    let run : Run = record { turns = e.turns; stage = stage_at u ys } in
+    let is_run = the_run script schedule done w u xs ys net new e exact fits in
+    let past = e.did.past [] none in
+    let given = all_given schedule.seed (range_with_len 0 (length xs + other_workers)) schedule.seed _ e.turns _
+    (subst (λ (s : Stage). IsSound s.net) (sym (begins script w xs net new)) (sound_before script)) e.are_turns in
     record {
       run = run;
       is_run = is_run;
       ends = ends_printed schedule done run e.ends;
       all_end = all_end run is_run.in_order;
-      journal_is = journals_are (map part_of ys) (parts_from 0 script.actors (doings_of run)) rows (rows_from run 1 u.net.pairs) done
+      journal_is = journals_are (map actor_part ys) (parts_from 0 script.actors (doings_of run)) rows (rows_from run 1 u.net.pairs) done
           (parts_are 0 script.actors ys (doings_of run) (same_names script.actors xs ys new e.did.names)
           (λ a. subst (λ k. entries_at ys a ≡ entries_of (doings_by k (doings_of run))) (zero_plus a) (e.did.entries a ∙ ap (λ (l : List Entry). l ++ entries_of (doings_by a (doings_of run))) (no_entries xs new.entries a))))
           (are_rows (steps_of (doings_of run)) past ∙ past_rows_are run 1 u.net.pairs is_run.in_order given);
     }
-
--- the run as it begins, by the number of actors
-pub from_the_start : (schedule : Schedule) (done : Bool) (w u : Flat) (xs ys : List Actor) (n m : ℕ) → w ≡ flat [] empty_book [] (replicate n []) [] → n ≡ m
-    → Ends schedule done w xs u ys → Ends schedule done (flat [] empty_book [] (replicate m []) []) xs u ys
-from_the_start schedule done w u xs ys n m is same e =
-    subst (λ k. Ends schedule done (flat [] empty_book [] (replicate k []) []) xs u ys) same (subst (λ (v : Flat). Ends schedule done v xs u ys) is e)
 
 -- what was lent is written back whole
 pub written_back : (n : ℕ) (ys xs : List Actor) → length ys ≡ n → take n (ys ++ drop (length ys) xs) ≡ ys

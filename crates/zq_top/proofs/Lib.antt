@@ -5,3 +5,4 @@ pub mod Given
 pub mod JournalLemmas
 pub mod Completes
 pub mod Hears
+pub mod Dues

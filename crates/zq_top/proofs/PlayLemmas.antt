@@ -22,7 +22,7 @@ use Rattle.spec_journal.specs.Line.{DoesCall}
 use Rattle.flat_net.specs.Flat.{Flat, Moves}
 use Rattle.flat_net.specs.Pipes.{IsPast}
 use Rattle.zq_top.specs.declared.actor.Actor.{Actor}
-use Rattle.zq_top.specs.Playing.{agenda_of, ActorDoes, entries_in, entries_at, Did, stage_of, WorkerDoes, WorkersDo, TurnDoes, HasCome, Ends, AreNew, has_finished, part_of}
+use Rattle.zq_top.specs.Playing.{agenda_of, ActorDoes, entries_in, entries_at, Did, stage_at, WorkerDoes, WorkersDo, TurnDoes, HasCome, RunEnds, AreNew, has_finished, actor_part}
 
 -- a list after one of its elements was set
 pub get_set_here : {X : Type 0} (xs : List X) (i : ℕ) (y : X) → i < length xs → slice_get (slice_set xs i y) i ≡ Some y
@@ -84,7 +84,7 @@ workers_none w actors = record { steps = (refl, refl); did = did_none w actors }
 pub workers_more : (order : List ℕ) (x : ℕ) (u v w : Flat) (xs ys zs : List Actor) (ds es : List Doing)
     → WorkersDo order u xs ds v ys → WorkerDoes x v ys es w zs → WorkersDo (order ++ x ∷ []) u xs (ds ++ es) w zs
 workers_more order x u v w xs ys zs ds es first then = record {
-  steps = steps_more order x (stage_of u xs) (stage_of v ys) (stage_of w zs) ds es first.steps then.step;
+  steps = steps_more order x (stage_at u xs) (stage_at v ys) (stage_at w zs) ds es first.steps then.step;
   did = did_more u v w xs ys zs ds es first.did then.did;
 }
 
@@ -93,13 +93,13 @@ pub has_come_first : (seed : ℕ) (w : Flat) (actors : List Actor) → HasCome s
 has_come_first seed w actors = record { on = λ rest end_ h. h; did = did_none w actors }
 
 pub has_come_more : (seed drawn next : ℕ) (u v w : Flat) (xs ys zs : List Actor) (turns : List (List Doing)) (ds : List Doing)
-    → HasCome seed drawn u xs turns v ys → (IsFinished (stage_of v ys) → ⊥) → TurnDoes seed drawn v ys ds next w zs
+    → HasCome seed drawn u xs turns v ys → (IsFinished (stage_at v ys) → ⊥) → TurnDoes seed drawn v ys ds next w zs
     → HasCome seed next u xs (turns ++ ds ∷ []) w zs
 has_come_more seed drawn next u v w xs ys zs turns ds come some turn = record {
   on = λ rest end_ h.
       let order = subst (λ n. IsOrder seed drawn (range_with_len 0 (n + other_workers)) turn.order next) (same_count xs ys come.did.names) turn.is_order in
-      subst (λ (l : List (List Doing)). Turns seed (range_with_len 0 (length xs + other_workers)) seed (stage_of u xs) l end_) (sym (append_assoc turns (ds ∷ []) rest))
-      (come.on (ds ∷ rest) end_ (some, (turn.order, next, stage_of w zs, order, turn.steps, h)));
+      subst (λ (l : List (List Doing)). Turns seed (range_with_len 0 (length xs + other_workers)) seed (stage_at u xs) l end_) (sym (append_assoc turns (ds ∷ []) rest))
+      (come.on (ds ∷ rest) end_ (some, (turn.order, next, stage_at w zs, order, turn.steps, h)));
   did = subst (λ (l : List Doing). Did u xs l w zs) (sym (flat_map-append (λ (t : List Doing). t) turns (ds ∷ []) ∙ ap (λ (l : List Doing). flat_map (λ (t : List Doing). t) turns ++ l) (append-nil ds)))
       (did_more u v w xs ys zs (flat_map (λ (t : List Doing). t) turns) ds come.did turn.did);
 }
@@ -230,7 +230,7 @@ finished_at [] k e = refl
 finished_at (x ∷ xs) zero e = no_lines x.lines.now (both_true (has_finished x) (list_all has_finished xs) e).0
 finished_at (x ∷ xs) (suc k) e = finished_at xs k (both_true (has_finished x) (list_all has_finished xs) e).1
 
-pub all_finished : (w : Flat) (xs : List Actor) → list_all has_finished xs ≡ true → IsFinished (stage_of w xs)
+pub all_finished : (w : Flat) (xs : List Actor) → list_all has_finished xs ≡ true → IsFinished (stage_at w xs)
 all_finished w xs all = λ k. finished_at xs k all
 
 not_head : (x : Actor) (xs : List Actor) (b : Bool) → (list_all has_finished xs ≡ false → ((k : ℕ) → lines_in (slice_get (map agenda_of xs) k) ≡ []) → ⊥)
@@ -242,33 +242,33 @@ not_at : (xs : List Actor) → list_all has_finished xs ≡ false → ((k : ℕ)
 not_at [] e f = true≢false e
 not_at (x ∷ xs) e f = not_head x xs (has_finished x) (not_at xs) refl e f
 
-pub not_finished : (w : Flat) (xs : List Actor) → list_all has_finished xs ≡ false → IsFinished (stage_of w xs) → ⊥
+pub not_finished : (w : Flat) (xs : List Actor) → list_all has_finished xs ≡ false → IsFinished (stage_at w xs) → ⊥
 not_finished w xs some f = not_at xs some f
 
 -- a run that is done, and one that isn't
 pub ends_done : (seed turns drawn left : ℕ) (u v : Flat) (xs ys : List Actor)
-    → ((ts : List (List Doing)) × HasCome seed drawn u xs ts v ys × (length ts + left ≡ turns)) → 0 < left → IsFinished (stage_of v ys)
-    → Ends (record { seed = seed; turns = turns }) true u xs v ys
+    → ((ts : List (List Doing)) × HasCome seed drawn u xs ts v ys × (length ts + left ≡ turns)) → 0 < left → IsFinished (stage_at v ys)
+    → RunEnds (record { seed = seed; turns = turns }) true u xs v ys
 ends_done seed turns drawn left u v xs ys (ts, come, few) some done = record {
   turns = ts;
-  are_turns = subst (λ (l : List (List Doing)). Turns seed (range_with_len 0 (length xs + other_workers)) seed (stage_of u xs) l (stage_of v ys)) (append-nil ts) (come.on [] (stage_of v ys) refl);
+  are_turns = subst (λ (l : List (List Doing)). Turns seed (range_with_len 0 (length xs + other_workers)) seed (stage_at u xs) l (stage_at v ys)) (append-nil ts) (come.on [] (stage_at v ys) refl);
   did = come.did;
   ends = (done, omega (arith, few, some));
 }
 
 pub ends_undone : (seed turns drawn left : ℕ) (u v : Flat) (xs ys : List Actor)
     → ((ts : List (List Doing)) × HasCome seed drawn u xs ts v ys × (length ts + left ≡ turns)) → left ≡ 0
-    → Ends (record { seed = seed; turns = turns }) false u xs v ys
+    → RunEnds (record { seed = seed; turns = turns }) false u xs v ys
 ends_undone seed turns drawn left u v xs ys (ts, come, few) none = record {
   turns = ts;
-  are_turns = subst (λ (l : List (List Doing)). Turns seed (range_with_len 0 (length xs + other_workers)) seed (stage_of u xs) l (stage_of v ys)) (append-nil ts) (come.on [] (stage_of v ys) refl);
+  are_turns = subst (λ (l : List (List Doing)). Turns seed (range_with_len 0 (length xs + other_workers)) seed (stage_at u xs) l (stage_at v ys)) (append-nil ts) (come.on [] (stage_at v ys) refl);
   did = come.did;
   ends = omega (arith, few, none);
 }
 
 -- a turn more
 pub one_turn_more : (seed turns drawn next left : ℕ) (u v w : Flat) (xs ys zs : List Actor)
-    → ((ts : List (List Doing)) × HasCome seed drawn u xs ts v ys × (length ts + left ≡ turns)) → 0 < left → (IsFinished (stage_of v ys) → ⊥)
+    → ((ts : List (List Doing)) × HasCome seed drawn u xs ts v ys × (length ts + left ≡ turns)) → 0 < left → (IsFinished (stage_at v ys) → ⊥)
     → ((ds : List Doing) × TurnDoes seed drawn v ys ds next w zs)
     → (ts : List (List Doing)) × HasCome seed next u xs ts w zs × (length ts + (left - 1) ≡ turns)
 one_turn_more seed turns drawn next left u v w xs ys zs (ts, come, few) some on (ds, turn) =
@@ -292,7 +292,7 @@ are_new_none = record { agendas = refl; names = refl; entries = All-nil (λ (a :
 -- the parts of a journal are those of its run
 pub parts_are : (n : ℕ) (ss : List ActorScript) (xs : List Actor) (ds : List Doing)
     → map (λ (a : Actor). a.name.now) xs ≡ map (λ (s : ActorScript). s.name) ss → ((a : ℕ) → entries_at xs a ≡ entries_of (doings_by (n + a) ds))
-    → map part_of xs ≡ parts_from n ss ds
+    → map actor_part xs ≡ parts_from n ss ds
 parts_are n [] [] ds names entries = refl
 parts_are n [] (x ∷ xs) ds names entries = cc
 parts_are n (s ∷ ss) [] ds names entries = cc
@@ -300,6 +300,6 @@ parts_are n (s ∷ ss) (x ∷ xs) ds names entries =
     let head : x.name.now ≡ s.name = cc in
     let tail : map (λ (a : Actor). a.name.now) xs ≡ map (λ (t : ActorScript). t.name) ss = cc in
     let first : x.entries.items ≡ entries_of (doings_by n ds) = entries 0 ∙ ap (λ k. entries_of (doings_by k ds)) (plus_zero n) in
-    let one : part_of x ≡ record { name = s.name; entries = entries_of (doings_by n ds) } = one_part x.name.now s.name x.entries.items (entries_of (doings_by n ds)) head first in
+    let one : actor_part x ≡ record { name = s.name; entries = entries_of (doings_by n ds) } = one_part x.name.now s.name x.entries.items (entries_of (doings_by n ds)) head first in
     let others = parts_are (n + 1) ss xs ds tail (λ a. entries (suc a) ∙ ap (λ k. entries_of (doings_by k ds)) (plus_one n a)) in
-    ap (λ (l : List ActorPart). part_of x ∷ l) others ∙ ap (λ (p : ActorPart). p ∷ parts_from (n + 1) ss ds) one
+    ap (λ (l : List ActorPart). actor_part x ∷ l) others ∙ ap (λ (p : ActorPart). p ∷ parts_from (n + 1) ss ds) one

@@ -1,5 +1,5 @@
 -- What a call of the program says: for each status, what was read and the text that is written.
-use Rattle.std.specs.Prelude.{◌≡◌, ◌⊎◌, ℕ, List, ◌++◌, Option, Bool, true, false, Some, None, length, codes, decimal, Ok, Err}
+use Rattle.std.specs.Prelude.{◌≡◌, ◌⊎◌, ◌<◌, ◌≤◌, ℕ, List, ◌++◌, Option, Bool, true, false, Some, None, length, codes, decimal, Ok, Err}
 use Rattle.zq_script.specs.Script.{script_of}
 use Rattle.zq_script.specs.declared.script.Script.{Script}
 use Rattle.zq_script.specs.declared.fault.Cause.{Cause}
@@ -7,6 +7,7 @@ use Rattle.zq_script.specs.declared.fault.Cause.TheVariants.{BadWord, BadEndpoin
 use Rattle.zq_script.specs.declared.fault.ScriptFault.{ScriptFault}
 use Rattle.spec_journal.specs.declared.journal.Journal.{Journal}
 use Rattle.spec_journal.specs.Run.{Schedule}
+use Rattle.spec_journal.specs.Completeness.{tries_in_all}
 use Rattle.spec_journal.specs.Printed.{IsJournalOf}
 use Rattle.spec_journal.specs.Text.{journal_text}
 use Rattle.zq_outer.specs.Count.{Rose}
@@ -14,7 +15,8 @@ use Rattle.zq_outer.specs.Source.{Consumes, ConsumesAll}
 use Rattle.zq_outer.specs.Sink.{Appends, AppendsFront}
 use Rattle.zq_base.specs.declared.kind.Kind.{Kind}
 use Rattle.zq_base.specs.declared.options.Login.{Login}
-use Rattle.zq_hear.specs.HearText.{hear_opts, IsHeard}
+use Rattle.spec_zmtp.specs.DecodedStream.{Decoded, Decodes}
+use Rattle.zq_hear.specs.HearText.{hear_opts, IsHeard, is_refused}
 use Rattle.zq_words.specs.Words.{asked}
 use Rattle.zq_words.specs.declared.request.Request.{Request}
 use Rattle.zq_words.specs.declared.request.Request.TheVariants as request
@@ -46,36 +48,41 @@ source_at left faults ends = record { left = left; faults = faults; ends = ends 
 abbrev pub WasReadWhole : SourceAt → SourceAt → List ℕ → Type 0
 WasReadWhole before after octets = Rose before.ends after.ends × ConsumesAll before.left octets after.left
 
--- the octets were read, up to the source's end, or one more than a script may have
+-- the most octets that are read of a script: one more than the longest has
+abbrev pub most_read : ℕ
+most_read = 1048577
+
+-- the octets were read, up to the source's end, or the most that are read
 abbrev pub WasRead : SourceAt → SourceAt → List ℕ → Type 0
 WasRead before after octets =
-    WasReadWhole before after octets
-    ⊎ ((length octets ≡ 1048577) × Consumes before.left octets after.left)
+    (length octets ≤ most_read)
+    × (WasReadWhole before after octets ⊎ ((length octets ≡ most_read) × Consumes before.left octets after.left))
 
--- The text is that of the journal of a run of the script that the octets are, done or not.
+-- The text is that of the one journal of the script that the octets are, by the schedule, done or not.
 pub record Prints (schedule : Schedule) (done : Bool) (octets text : List ℕ) : Type 0 where
   pub script : Script
   pub script_is : script_of octets ≡ Ok script
   pub journal : Journal
   pub is_journal : IsJournalOf script schedule journal
+  pub only : (other : Journal) → IsJournalOf script schedule other → other ≡ journal
   pub done_is : journal.done ≡ done
   pub text_is : text ≡ journal_text journal
 
 -- how a fault of a script is printed
-abbrev pub cause_text : Cause → List ℕ
-cause_text BadWord = codes "BadWord"
-cause_text BadEndpoint = codes "BadEndpoint"
-cause_text BadPart = codes "BadPart"
-cause_text UnknownSocket = codes "UnknownSocket"
-cause_text DoubleName = codes "DoubleName"
-cause_text TooManyActors = codes "TooManyActors"
-cause_text TooLong = codes "TooLong"
+abbrev pub script_cause_text : Cause → List ℕ
+script_cause_text BadWord = codes "BadWord"
+script_cause_text BadEndpoint = codes "BadEndpoint"
+script_cause_text BadPart = codes "BadPart"
+script_cause_text UnknownSocket = codes "UnknownSocket"
+script_cause_text DoubleName = codes "DoubleName"
+script_cause_text TooManyActors = codes "TooManyActors"
+script_cause_text TooLong = codes "TooLong"
 
 abbrev pub fault_text : ScriptFault → List ℕ
-fault_text f = codes "script " ++ decimal f.line ++ codes " " ++ cause_text f.cause ++ codes "\n"
+fault_text f = codes "script " ++ decimal f.line ++ codes " " ++ script_cause_text f.cause ++ codes "\n"
 
 -- the octets are no script, and the text is their first fault, with its line
-pub record Refuses (octets text : List ℕ) : Type 0 where
+pub record RefusesScript (octets text : List ℕ) : Type 0 where
   pub fault : ScriptFault
   pub fault_is : script_of octets ≡ Err fault
   pub text_is : text ≡ fault_text fault
@@ -83,7 +90,7 @@ pub record Refuses (octets text : List ℕ) : Type 0 where
 -- what is said of the octets that were read, with each status
 abbrev pub SaysOf : Schedule → Status → List ℕ → List ℕ → Type 0
 SaysOf schedule status.Done octets text = Prints schedule true octets text
-SaysOf schedule status.Script octets text = Refuses octets text
+SaysOf schedule status.Script octets text = RefusesScript octets text
 SaysOf schedule status.Usage octets text = ⊥
 SaysOf schedule status.ReadFault octets text = ⊥
 SaysOf schedule status.WriteFault octets text = ⊥
@@ -109,24 +116,81 @@ heard_status false = status.Done
 heard_status true = status.Heard
 
 -- What is said with each status: 0 and 8 the text of a run's journal, done or not; 0 and 9 that of a peer's octets, kept or refused; 1 that the script read is refused, 2 that the words ask for nothing, 3 that the source failed in this call.
-abbrev pub Says : Status → List (List ℕ) → SourceAt → SourceAt → List ℕ → Type 0
-Says status.Done words before after text =
+abbrev pub SaysText : Status → List (List ℕ) → SourceAt → SourceAt → List ℕ → Type 0
+SaysText status.Done words before after text =
     SaysOnceRead status.Done words before after text ⊎ SaysHeard false words before after text
-Says status.Script words before after text = SaysOnceRead status.Script words before after text
-Says status.Usage words before after text =
+SaysText status.Script words before after text = SaysOnceRead status.Script words before after text
+SaysText status.Usage words before after text =
     AsksNothing words × (before ≡ after) × (text ≡ codes "usage: zbus run|soak|hear|forward\n")
-Says status.ReadFault words before after text =
+SaysText status.ReadFault words before after text =
     ((r : Request) × (asked words ≡ Some r)) × Rose before.faults after.faults × (text ≡ codes "read fault\n")
-Says status.WriteFault words before after text = ⊥
-Says status.OutOfMemory words before after text = ⊥
-Says status.Unfinished words before after text = SaysOnceRead status.Unfinished words before after text
-Says status.Heard words before after text = SaysHeard true words before after text
+SaysText status.WriteFault words before after text = ⊥
+SaysText status.OutOfMemory words before after text = ⊥
+SaysText status.Unfinished words before after text = SaysOnceRead status.Unfinished words before after text
+SaysText status.Heard words before after text = SaysHeard true words before after text
 
 -- a sink that had taken the first took such a text, whole
-abbrev pub Writes : (List ℕ → Type 0) → Option (List ℕ) → Option (List ℕ) → Type 0
-Writes IsText before after = (text : List ℕ) × IsText text × Appends before text after
+abbrev pub WritesText : (List ℕ → Type 0) → Option (List ℕ) → Option (List ℕ) → Type 0
+WritesText IsText before after = (text : List ℕ) × IsText text × Appends before text after
 
 -- a sink that had taken the first took a front of the text of some status
 abbrev pub WritesFront : List (List ℕ) → SourceAt → SourceAt → Option (List ℕ) → Option (List ℕ) → Type 0
 WritesFront words before after taken taken_now =
-    (s : Status) × (text : List ℕ) × Says s words before after text × AppendsFront taken text taken_now
+    (s : Status) × (text : List ℕ) × SaysText s words before after text × AppendsFront taken text taken_now
+
+-- what a sink tells at a moment
+pub record SinkAt : Type 0 where
+  pub taken : Option (List ℕ)
+  pub faults : ℕ
+
+-- a source and a sink at a moment
+pub record Outside : Type 0 where
+  pub source : SourceAt
+  pub sink : SinkAt
+
+abbrev pub outside : Option (List ℕ) → ℕ → ℕ → Option (List ℕ) → ℕ → Outside
+outside left faults ends taken failures = record {
+  source = source_at left faults ends;
+  sink = record { taken = taken; faults = failures };
+}
+
+-- What was read and written with each status: the sink took the text that belongs to the status, whole; with 4 it failed in this call, and took a front of the text of another status; with 6 nothing was written.
+abbrev pub AnswersCall : Status → List (List ℕ) → Outside → Outside → Type 0
+AnswersCall status.WriteFault words before after =
+    Rose before.sink.faults after.sink.faults
+    × WritesFront words before.source after.source before.sink.taken after.sink.taken
+AnswersCall status.OutOfMemory words before after = after.sink ≡ before.sink
+AnswersCall s words before after = WritesText (SaysText s words before.source after.source) before.sink.taken after.sink.taken
+
+-- neither the source nor the sink failed in this call
+abbrev pub IsSound : Outside → Outside → Type 0
+IsSound before after =
+    (Rose before.source.faults after.source.faults → ⊥) × (Rose before.sink.faults after.sink.faults → ⊥)
+
+-- the words ask for a run by this schedule, and the source has the octets of this script
+pub record AsksScript (words : List (List ℕ)) (left : Option (List ℕ)) (schedule : Schedule) (script : Script) : Type 0 where
+  pub asks : AsksRun words schedule
+  pub octets : List ℕ
+  pub left_is : left ≡ Some octets
+  pub script_is : script_of octets ≡ Ok script
+
+-- the status is this one, or memory was wanting
+abbrev pub ComesDue : Status → Status → Type 0
+ComesDue s due = (s ≡ due) ⊎ (s ≡ status.OutOfMemory)
+
+-- the status of a run, done or not
+abbrev pub run_status : Bool → Status
+run_status true = status.Done
+run_status false = status.Unfinished
+
+-- Which status is due where the outside has no fault: 0 exactly where the script's one journal is done, and 8 exactly where it isn't; 0 where the run may take more turns than the script has tries; 1 where the octets are no script; 0 or 9 by what a peer's octets mean.
+pub record IsDue (s : Status) (words : List (List ℕ)) (left : Option (List ℕ)) : Type 0 where
+  pub run : (schedule : Schedule) (script : Script) (j : Journal) →
+      AsksScript words left schedule script → IsJournalOf script schedule j → ComesDue s (run_status j.done)
+  pub completes : (schedule : Schedule) (script : Script) →
+      AsksScript words left schedule script → tries_in_all script < schedule.turns → ComesDue s status.Done
+  pub refuses : (schedule : Schedule) (octets : List ℕ) (fault : ScriptFault) →
+      AsksRun words schedule → left ≡ Some octets → script_of octets ≡ Err fault → ComesDue s status.Script
+  pub hears : (kind : Kind) (login : Option Login) (octets : List ℕ) (d : Decoded) →
+      AsksHear words kind login → left ≡ Some octets → Decodes (hear_opts kind login) octets d →
+      ComesDue s (heard_status (is_refused d.outcome))

@@ -1,3 +1,4 @@
+pub mod Examples
 pub use Rattle.spec_journal.specs.Printed
 pub use Rattle.spec_journal.specs.Text
 pub use Rattle.spec_zmtp.specs.DecodedStream

@@ -43,44 +43,44 @@ pub record Did (before : Flat) (old : List Actor) (ds : List Doing) (after : Fla
   pub names : map (λ (a : Actor). a.name) new ≡ map (λ (a : Actor). a.name) old
 
 -- the net, and what each of the actors has still to do
-abbrev pub stage_of : Flat → List Actor → Stage
-stage_of w actors = record { net = w.net; agendas = map agenda_of actors }
+abbrev pub stage_at : Flat → List Actor → Stage
+stage_at w actors = record { net = w.net; agendas = map agenda_of actors }
 
 -- a worker's step
 pub record WorkerDoes (w : ℕ) (before : Flat) (old : List Actor) (ds : List Doing) (after : Flat) (new : List Actor) : Type 0 where
-  pub step : StepOf w (stage_of before old) ds (stage_of after new)
+  pub step : StepOf w (stage_at before old) ds (stage_at after new)
   pub did : Did before old ds after new
 
 -- the workers' steps, in this order
 pub record WorkersDo (order : List ℕ) (before : Flat) (old : List Actor) (ds : List Doing) (after : Flat) (new : List Actor) : Type 0 where
-  pub steps : StepsOf order (stage_of before old) ds (stage_of after new)
+  pub steps : StepsOf order (stage_at before old) ds (stage_at after new)
   pub did : Did before old ds after new
 
 -- what the next turn is, from where the run stands
 pub record TurnDoes (seed drawn : ℕ) (before : Flat) (old : List Actor) (ds : List Doing) (after_drawn : ℕ) (after : Flat) (new : List Actor) : Type 0 where
   pub order : List ℕ
   pub is_order : IsOrder seed drawn (range_with_len 0 (length old + other_workers)) order after_drawn
-  pub steps : StepsOf order (stage_of before old) ds (stage_of after new)
+  pub steps : StepsOf order (stage_at before old) ds (stage_at after new)
   pub did : Did before old ds after new
 
 -- After these turns, with the last number drawn, all stands so: further turns go on behind them.
 pub record HasCome (seed drawn : ℕ) (before : Flat) (old : List Actor) (turns : List (List Doing)) (after : Flat) (new : List Actor) : Type 0 where
   pub on : (rest : List (List Doing)) (end_ : Stage) →
-      Turns seed (range_with_len 0 (length old + other_workers)) drawn (stage_of after new) rest end_ →
-      Turns seed (range_with_len 0 (length old + other_workers)) seed (stage_of before old) (turns ++ rest) end_
+      Turns seed (range_with_len 0 (length old + other_workers)) drawn (stage_at after new) rest end_ →
+      Turns seed (range_with_len 0 (length old + other_workers)) seed (stage_at before old) (turns ++ rest) end_
   pub did : Did before old (flat_map (λ turn. turn) turns) after new
 
 -- how a run ended: done at the beginning of a further turn, or not done after all of its turns
-abbrev pub EndsSo : Schedule → Bool → List (List Doing) → Stage → Type 0
-EndsSo schedule true turns end_ = IsFinished end_ × (length turns < schedule.turns)
-EndsSo schedule false turns end_ = length turns ≡ schedule.turns
+abbrev pub TurnsEndSo : Schedule → Bool → List (List Doing) → Stage → Type 0
+TurnsEndSo schedule true turns end_ = IsFinished end_ × (length turns < schedule.turns)
+TurnsEndSo schedule false turns end_ = length turns ≡ schedule.turns
 
 -- The run came to its end by these turns.
-pub record Ends (schedule : Schedule) (done : Bool) (before : Flat) (old : List Actor) (after : Flat) (new : List Actor) : Type 0 where
+pub record RunEnds (schedule : Schedule) (done : Bool) (before : Flat) (old : List Actor) (after : Flat) (new : List Actor) : Type 0 where
   pub turns : List (List Doing)
-  pub are_turns : Turns schedule.seed (range_with_len 0 (length old + other_workers)) schedule.seed (stage_of before old) turns (stage_of after new)
+  pub are_turns : Turns schedule.seed (range_with_len 0 (length old + other_workers)) schedule.seed (stage_at before old) turns (stage_at after new)
   pub did : Did before old (flat_map (λ turn. turn) turns) after new
-  pub ends : EndsSo schedule done turns (stage_of after new)
+  pub ends : TurnsEndSo schedule done turns (stage_at after new)
 
 -- the actors of these scripts, before their first lines
 pub record AreNew (scripts : List ActorScript) (actors : List Actor) : Type 0 where
@@ -89,8 +89,8 @@ pub record AreNew (scripts : List ActorScript) (actors : List Actor) : Type 0 wh
   pub entries : All (λ (a : Actor). a.entries.items ≡ []) actors
 
 -- the actor's part of the journal
-abbrev pub part_of : Actor → ActorPart
-part_of a = record { name = a.name.now; entries = a.entries.items }
+abbrev pub actor_part : Actor → ActorPart
+actor_part a = record { name = a.name.now; entries = a.entries.items }
 
 -- the actor's lines are over
 abbrev pub has_finished : Actor → Bool

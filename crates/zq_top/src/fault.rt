@@ -1,11 +1,11 @@
 ghost use Rattle.std.specs.Prelude.{◌≡◌, IfOk, string_bytes};
-ghost use Rattle.zq_top.specs.Headline.{cause_text, fault_text};
+ghost use Rattle.zq_top.specs.Headline.{script_cause_text, fault_text};
 
 use std::alloc::{AllocError, Global};
 use zq_script::{Cause, ScriptFault};
 
 fn cause_name(cause: Cause) -> &'static str
-    ensures { result.now ≡ cause_text cause }
+    ensures { result.now ≡ script_cause_text cause }
 {
     match cause {
         Cause::BadWord => "BadWord",

@@ -3,11 +3,13 @@
 
 mod actor;
 mod fault;
+mod laws;
 mod order;
 mod play;
 mod status;
 mod streams;
 mod top;
 
+pub use laws::faults_work;
 pub use status::Status;
 pub use top::run;

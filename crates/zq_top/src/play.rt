@@ -2,7 +2,7 @@ ghost use Rattle.std.specs.Prelude.{◌≡◌, List, map, OnOk, IfOk};
 ghost use Rattle.std.specs.List.{list_all};
 ghost use Rattle.spec_journal.specs.Turn.{Doing};
 ghost use Rattle.spec_journal.specs.Printed.{IsJournalOf};
-ghost use Rattle.zq_top.specs.Playing.{WorkerDoes, WorkersDo, TurnDoes, Ends, AreNew, part_of, has_finished};
+ghost use Rattle.zq_top.specs.Playing.{WorkerDoes, WorkersDo, TurnDoes, RunEnds, AreNew, actor_part, has_finished};
 
 use crate::actor::Actor;
 use crate::order::Order;
@@ -67,7 +67,7 @@ fn is_finished(actors: &[Actor]) -> bool
     actors.iter().all(|actor| actor.is_finished())
 }
 
-/// Goes on by so many turns at the most, until each actor has finished. Says whether they have, at
+/// Goes on by so many turns at the most, until each actor has finished. SaysText whether they have, at
 /// the beginning of one of these turns.
 fn run(
     alloc: Global,
@@ -76,7 +76,7 @@ fn run(
     seed: u64,
     turns: u32,
 ) -> Result<bool, AllocError>
-    ensures { IfOk result (λ done. Ends (record { seed = seed; turns = turns }) done net.old actors.old net.new actors.new) }
+    ensures { IfOk result (λ done. RunEnds (record { seed = seed; turns = turns }) done net.old actors.old net.new actors.new) }
 {
     let mut order = Order::new(seed);
     let mut left = turns;
@@ -103,7 +103,7 @@ fn actors_of<'a>(alloc: Global, script: &'a Script) -> Result<Vec<Actor<'a>>, Al
 
 /// The actors' parts of the journal.
 fn parts(alloc: Global, actors: Vec<Actor>) -> Result<Seq<ActorPart>, AllocError>
-    ensures { IfOk result (λ parts. parts ≡ map part_of actors.entry.items) }
+    ensures { IfOk result (λ parts. parts ≡ map actor_part actors.entry.items) }
 {
     let mut parts = Vec::with_capacity(alloc, actors.len())?;
     'actors: for actor in actors {

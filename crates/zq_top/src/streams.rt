@@ -2,6 +2,7 @@ ghost use Rattle.std.specs.Prelude.{◌≡◌, ◌≤◌, ◌⊎◌, length, IfO
 ghost use Rattle.zq_outer.specs.Count.{Rose};
 ghost use Rattle.zq_outer.specs.Source.{Consumes, ConsumesAll};
 ghost use Rattle.zq_outer.specs.Sink.{Appends, AppendsFront};
+ghost use Rattle.zq_top.specs.Headline.{WasRead, source_at};
 ghost use Rattle.zq_top.specs.declared.streams.ReadError.TheVariants.{OutOfMemory};
 
 use std::alloc::{AllocError, Global};
@@ -58,11 +59,9 @@ pub(crate) fn read_script_text<S: Source>(
     alloc: Global,
     source: &mut S,
 ) -> Result<Vec<u8>, ReadError>
-    ensures ended { IfOk result (λ octets.
-        (Rose (S.ends source.old) (S.ends source.new)
-        × ConsumesAll (S.left source.old) octets.items (S.left source.new))
-        ⊎ ((length octets.items ≡ 1048577)
-        × Consumes (S.left source.old) octets.items (S.left source.new))) }
+    ensures read { IfOk result (λ octets. WasRead
+        (source_at (S.left source.old) (S.faults source.old) (S.ends source.old))
+        (source_at (S.left source.new) (S.faults source.new) (S.ends source.new)) octets.items) }
     ensures failed { IsErrOf result ReadError.Failed → Rose (S.faults source.old) (S.faults source.new) }
     ensures faults { S.faults source.old ≤ S.faults source.new }
 {

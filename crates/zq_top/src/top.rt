@@ -1,15 +1,8 @@
-ghost use Rattle.std.specs.Prelude.{◌≡◌, ◌⊎◌, ◌<◌, ◌≤◌, ℕ, Bool, List, Option, Some, Ok, Err, map, string_bytes, codes, IfOk, IfSome};
-ghost use Rattle.zq_outer.specs.Count.{Rose};
-ghost use Rattle.zq_outer.specs.Sink.{AppendsFront};
-ghost use Rattle.zq_script.specs.Script.{script_of};
-ghost use Rattle.zq_script.specs.declared.script.Script.{Script};
-ghost use Rattle.zq_script.specs.declared.fault.ScriptFault.{ScriptFault};
+ghost use Rattle.std.specs.Prelude.{◌≡◌, ◌≤◌, ℕ, Bool, List, map, string_bytes, codes, IfOk, IfSome};
 ghost use Rattle.spec_journal.specs.Run.{Schedule};
-ghost use Rattle.spec_journal.specs.Completeness.{tries_in_all};
 ghost use Rattle.spec_zmtp.specs.Metadata.{IsLogin};
-ghost use Rattle.spec_zmtp.specs.DecodedStream.{Decoded, Decodes};
-ghost use Rattle.zq_hear.specs.HearText.{IsHeard, hear_opts, is_refused};
-ghost use Rattle.zq_top.specs.Headline.{AsksRun, AsksHear, Says, SaysOf, Writes, WritesFront, source_at, heard_status};
+ghost use Rattle.zq_hear.specs.HearText.{IsHeard, hear_opts};
+ghost use Rattle.zq_top.specs.Headline.{AsksRun, AsksHear, SaysText, SaysOf, AnswersCall, IsSound, IsDue, outside, source_at, heard_status};
 
 use crate::fault::fault_text;
 use crate::play::play;
@@ -54,7 +47,7 @@ fn read_and_run<S: Source>(
     turns: u32,
 ) -> Result<(Status, Vec<u8>), AllocError>
     ensures says { (words : List (List ℕ)) → AsksRun words (record { seed = seed; turns = turns }) → IfOk result (λ said.
-        Says said.0 words
+        SaysText said.0 words
         (source_at (S.left script.old) (S.faults script.old) (S.ends script.old))
         (source_at (S.left script.new) (S.faults script.new) (S.ends script.new)) said.1.items) }
     ensures faults { S.faults script.old ≤ S.faults script.new }
@@ -99,7 +92,7 @@ fn read_and_hear<S: Source>(
 ) -> Result<(Status, Vec<u8>), AllocError>
     requires login { IfSome login IsLogin }
     ensures { (words : List (List ℕ)) → AsksHear words kind login → IfOk result (λ said.
-        Says said.0 words
+        SaysText said.0 words
         (source_at (S.left peer.old) (S.faults peer.old) (S.ends peer.old))
         (source_at (S.left peer.new) (S.faults peer.new) (S.ends peer.new)) said.1.items) }
 {
@@ -128,7 +121,7 @@ fn text_for<S: Source>(
     words: &[String],
     script: &mut S,
 ) -> Result<(Status, Vec<u8>), AllocError>
-    ensures { IfOk result (λ said. Says said.0 (map string_bytes words.now)
+    ensures { IfOk result (λ said. SaysText said.0 (map string_bytes words.now)
         (source_at (S.left script.old) (S.faults script.old) (S.ends script.old))
         (source_at (S.left script.new) (S.faults script.new) (S.ends script.new)) said.1.items) }
 {
@@ -149,11 +142,11 @@ fn text_for<S: Source>(
     }
 }
 
-/// Does what the words of the command line ask: reads a script, runs it, and writes the journal; or reads all octets of
-/// a peer, and writes what they mean.
+/// Does what the words of the command line ask: reads a script, runs it, and writes the journal; or
+/// reads all octets of a peer, and writes what they mean.
 ///
-/// `words[0]` is the program's name. The text is made whole before the first write. The hosts, the
-/// clock and the gate are those of runs over links and in threads, and are left as they are.
+/// `words[0]` is the program's name. The text is made whole before the first write. The hosts and
+/// the clock are those of runs over links; the gate is that of runs in threads.
 pub fn run<S: Source, K: Sink, H: Host, C: Clock, G: Gate>(
     alloc: Global,
     words: &[String],
@@ -163,76 +156,22 @@ pub fn run<S: Source, K: Sink, H: Host, C: Clock, G: Gate>(
     clock: &mut C,
     gate: &G,
 ) -> Status
-    // The sink took the text of the journal of a run of the script that was read, or of what a peer's octets mean,
-    // which are not refused.
-    ensures done { result ≡ Status.Done → Writes (Says Status.Done (map string_bytes words.now)
-        (source_at (S.left script.old) (S.faults script.old) (S.ends script.old))
-        (source_at (S.left script.new) (S.faults script.new) (S.ends script.new)))
-        (K.taken out.old) (K.taken out.new) }
+    // Each status says what was read and written.
+    ensures answers { AnswersCall result (map string_bytes words.now)
+        (outside (S.left script.old) (S.faults script.old) (S.ends script.old) (K.taken out.old) (K.faults out.old))
+        (outside (S.left script.new) (S.faults script.new) (S.ends script.new) (K.taken out.new) (K.faults out.new)) }
 
-    // The sink took the text of the journal of a run that isn't done after all its turns.
-    ensures unfinished { result ≡ Status.Unfinished → Writes (Says Status.Unfinished (map string_bytes words.now)
-        (source_at (S.left script.old) (S.faults script.old) (S.ends script.old))
-        (source_at (S.left script.new) (S.faults script.new) (S.ends script.new)))
-        (K.taken out.old) (K.taken out.new) }
+    // Where neither the source nor the sink failed, the status is the one that is due.
+    ensures due { IsSound
+        (outside (S.left script.old) (S.faults script.old) (S.ends script.old) (K.taken out.old) (K.faults out.old))
+        (outside (S.left script.new) (S.faults script.new) (S.ends script.new) (K.taken out.new) (K.faults out.new))
+        → IsDue result (map string_bytes words.now) (S.left script.old) }
 
-    // The sink took the text of what a peer's octets mean, which are refused, with the cause and the offset.
-    ensures heard { result ≡ Status.Heard → Writes (Says Status.Heard (map string_bytes words.now)
-        (source_at (S.left script.old) (S.faults script.old) (S.ends script.old))
-        (source_at (S.left script.new) (S.faults script.new) (S.ends script.new)))
-        (K.taken out.old) (K.taken out.new) }
+    // Want of memory comes before the first write is tried.
+    ensures memory { result ≡ Status.OutOfMemory → out.new ≡ out.old }
 
-    // The octets that were read are no script, and only those are refused so.
-    ensures script { result ≡ Status.Script → Writes (Says Status.Script (map string_bytes words.now)
-        (source_at (S.left script.old) (S.faults script.old) (S.ends script.old))
-        (source_at (S.left script.new) (S.faults script.new) (S.ends script.new)))
-        (K.taken out.old) (K.taken out.new) }
-
-    // The words are refused, and nothing is read.
-    ensures usage { result ≡ Status.Usage → Writes (Says Status.Usage (map string_bytes words.now)
-        (source_at (S.left script.old) (S.faults script.old) (S.ends script.old))
-        (source_at (S.left script.new) (S.faults script.new) (S.ends script.new)))
-        (K.taken out.old) (K.taken out.new) }
-
-    // The source failed in this call.
-    ensures read_fault { result ≡ Status.ReadFault → Writes (Says Status.ReadFault (map string_bytes words.now)
-        (source_at (S.left script.old) (S.faults script.old) (S.ends script.old))
-        (source_at (S.left script.new) (S.faults script.new) (S.ends script.new)))
-        (K.taken out.old) (K.taken out.new) }
-
-    // The sink failed in this call, and took a front of the text that belongs to another status.
-    ensures write_fault { result ≡ Status.WriteFault → Rose (K.faults out.old) (K.faults out.new)
-        × WritesFront (map string_bytes words.now)
-        (source_at (S.left script.old) (S.faults script.old) (S.ends script.old))
-        (source_at (S.left script.new) (S.faults script.new) (S.ends script.new))
-        (K.taken out.old) (K.taken out.new) }
-
-    // A script with fewer tries than the run may take turns, and no fault of the outside, is run to
-    // its end, or meets want of memory.
-    ensures completes { (schedule : Schedule) → AsksRun (map string_bytes words.now) schedule → (octets : List ℕ) → (s : Script) →
-        S.left script.old ≡ Some octets → script_of octets ≡ Ok s → tries_in_all s < schedule.turns →
-        (Rose (S.faults script.old) (S.faults script.new) → ⊥) →
-        (Rose (K.faults out.old) (K.faults out.new) → ⊥) →
-        (result ≡ Status.Done) ⊎ (result ≡ Status.OutOfMemory) }
-
-    // Octets that are no script, and no fault of the outside, are refused, or meet want of memory.
-    ensures refuses { (schedule : Schedule) → AsksRun (map string_bytes words.now) schedule → (octets : List ℕ) → (f : ScriptFault) →
-        S.left script.old ≡ Some octets → script_of octets ≡ Err f →
-        (Rose (S.faults script.old) (S.faults script.new) → ⊥) →
-        (Rose (K.faults out.old) (K.faults out.new) → ⊥) →
-        (result ≡ Status.Script) ⊎ (result ≡ Status.OutOfMemory) }
-
-    // Octets of a peer, and no fault of the outside, are heard, refused exactly where their meaning is, or meet want of
-    // memory.
-    ensures hears { (kind : Kind) (login : Option Login) → AsksHear (map string_bytes words.now) kind login →
-        (octets : List ℕ) (d : Decoded) →
-        S.left script.old ≡ Some octets → Decodes (hear_opts kind login) octets d →
-        (Rose (S.faults script.old) (S.faults script.new) → ⊥) →
-        (Rose (K.faults out.old) (K.faults out.new) → ⊥) →
-        (result ≡ heard_status (is_refused d.outcome)) ⊎ (result ≡ Status.OutOfMemory) }
-
-    // Want of memory comes before anything is written.
-    ensures memory { result ≡ Status.OutOfMemory → K.taken out.new ≡ K.taken out.old }
+    // No run has links or time yet.
+    ensures untouched { (hosts.new ≡ hosts.old) × (clock.new ≡ clock.old) }
 {
     let (status, text) = match text_for(alloc, words, script) {
         Ok(said) => said,

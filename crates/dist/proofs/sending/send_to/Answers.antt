@@ -1,6 +1,7 @@
 use Rattle.std.proofs.Common.{◌≡◌, ◌<◌, ◌+◌, ℕ, cond, not, [], ◌∷◌, ◌++◌, length, take, get_or, vec_len, vec_capacity, sym, ap, subst, ◌∙◌, append-nil, arith}
 use Rattle.std.proofs.lemmas.Grind.{common_steps, elements}
 use Rattle.std.proofs.lemmas.List.{take_more}
+use Rattle.msg_pipe.proofs.PlacesLemmas.{keeps_on}
 use Rattle.dist.specs.Distribution.{step_of}
 use Rattle.dist.proofs.DistributionLemmas.{Distributes-as}
 use Rattle.dist.proofs.sending.send_to.Goals as goal
@@ -15,7 +16,7 @@ places-preserved g c =
     let within : i < length places = omega arith in
     let copy : c.unwrap-copy.result ≡ c.args.message = grind (arith, elements) in
     let step : g.P.Peers.runs c.places.peers (step_of (g.P.Peers.end_at c.args.peers.now) c.args.message (record { place = p; room = c.put_at.result }) ∷ []) c.put_at.new.peers =
-    subst (λ ends. g.P.Peers.runs c.places.peers (step_of ends c.args.message (record { place = p; room = c.put_at.result }) ∷ []) c.put_at.new.peers) inv.ends
+    subst (λ ends. g.P.Peers.runs c.places.peers (step_of ends c.args.message (record { place = p; room = c.put_at.result }) ∷ []) c.put_at.new.peers) inv.keeps.ends
     (subst (λ m. g.P.Peers.runs c.places.peers (step_of (g.P.Peers.end_at c.places.peers) m (record { place = p; room = c.put_at.result }) ∷ []) c.put_at.new.peers) copy c.put_at.ensures.runs) in
     let sent = Distributes-as g.P.Peers.runs g.met.P.Peers.runs_on (g.P.Peers.end_at c.args.peers.now) c.args.message
     c.args.peers.now c.places.peers c.put_at.new.peers (take i places) c.places.put.items c.places.full.items p c.put_at.result
@@ -43,8 +44,5 @@ places-preserved g c =
         | then-put_at w ↦ omega (arith, ap vec_capacity w.full-is)
         | else-put_at w ↦ omega (arith, ap vec_capacity w.full-is, w.push_reserved-else-put_at.ensures.capacity)
       ];
-      places = c.put_at.ensures.places ∙ inv.places;
-      ends = c.put_at.ensures.ends ∙ inv.ends;
-      writable = c.put_at.ensures.writable ∙ inv.writable;
-      readings = c.put_at.ensures.readings ∙ inv.readings;
+      keeps = keeps_on g.P.Peers.here g.P.Peers.end_at g.P.Peers.writable c.args.peers.now c.places.peers c.put_at.new.peers inv.keeps c.put_at.ensures.keeps;
     }

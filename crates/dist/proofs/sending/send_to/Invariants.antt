@@ -1,5 +1,6 @@
 use Rattle.std.proofs.Common.{◌≡◌, ◌+◌, ◌≤◌, length, take, vec_len, All}
 use Rattle.std.specs.Prelude.{vec_capacity}
+use Rattle.msg_pipe.specs.Places.{KeepsPlaces}
 use Rattle.dist.specs.Distribution.{Distributes}
 use Rattle.dist.proofs.sending.send_to.Given as goal
 
@@ -12,8 +13,5 @@ invariant-places g l = record {
   filled : vec_len l.put + vec_len l.full ≡ l.place-index;
   put_room : length l.places ≤ vec_capacity l.put;
   full_room : length l.places ≤ vec_capacity l.full;
-  places : g.P.Peers.places l.peers ≡ g.P.Peers.places l.fn.peers;
-  ends : g.P.Peers.end_at l.peers ≡ g.P.Peers.end_at l.fn.peers;
-  writable : g.P.Peers.writable l.peers ≡ g.P.Peers.writable l.fn.peers;
-  readings : g.P.Peers.reading_at l.peers ≡ g.P.Peers.reading_at l.fn.peers;
+  keeps : KeepsPlaces g.P.Peers.here g.P.Peers.end_at g.P.Peers.writable l.fn.peers l.peers;
 }

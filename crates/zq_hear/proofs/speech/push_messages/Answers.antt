@@ -9,11 +9,7 @@ pub messages-init : goal.messages-init
 messages-init c = ([], sym (append-nil c.args.out.now.items), λ t k. none_given t c.args.engine.now k)
 
 pub messages-smaller : goal.messages-smaller
-messages-smaller c =
-    let t : Told = c.requires.hears.0 in
-    let k : Tells (with_given c.messages.invariant.0 t) c.messages.engine = c.messages.invariant.2 t c.requires.hears.1 in
-    fewer_left t c.messages.engine c.next_message.new.self c.messages.invariant.0 c.in-Some.message k
-    (message_given t c.messages.engine c.next_message.new.self c.messages.invariant.0 c.in-Some.message (λ p f. c.in-Some.ensures.some p f) c.next_message.ensures.current k)
+messages-smaller c = fewer_left c.messages.engine c.next_message.new.self c.in-Some.message c.in-Some.ensures.first
 
 pub messages-preserved : goal.messages-preserved
 messages-preserved c = (

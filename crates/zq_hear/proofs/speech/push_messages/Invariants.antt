@@ -1,5 +1,6 @@
 use Rattle.std.proofs.Common.{◌≡◌, ◌++◌, ℕ, List, length}
 use Rattle.std.specs.Prelude.{flat_map}
+use Rattle.zmtp_engine.specs.Conversation.{waiting}
 use Rattle.zq_hear.specs.HearText.{message_text}
 use Rattle.zq_hear.specs.Told.{Told, Tells, with_given}
 use Rattle.zq_hear.proofs.speech.push_messages.Given as goal
@@ -9,4 +10,4 @@ invariant-messages l = (more : List (List (List ℕ))) × (l.out.items ≡ l.fn.
     × ((t : Told) → Tells t l.fn.engine → Tells (with_given more t) l.engine)
 
 abbrev pub decreases-messages : goal.decreases-messages
-decreases-messages l = length l.engine.listening.hearing.queue
+decreases-messages l = length (waiting l.engine)

@@ -1,7 +1,7 @@
 use Rattle.std.proofs.Common.{◌+◌, arith, refl, ap, sym, subst}
 use Rattle.std.specs.Prelude.{map, reverse, []}
 use Rattle.std.proofs.lemmas.Result.{err_from_is_err_and}
-use Rattle.zq_script.specs.Known.{Knows}
+use Rattle.zq_script.specs.Known.{HasLearned}
 use Rattle.zq_script.specs.Script.{statements_from}
 use Rattle.zq_script.proofs.ScriptLemmas.{GoesOn, goes_on-start, lines-step, lines-stop, lines-end}
 use Rattle.zq_script.proofs.read.read_statements.Goals as goal
@@ -9,7 +9,7 @@ use Rattle.zq_script.proofs.read.read_statements.Goals as goal
 pub loop-line-init : goal.loop-line-init
 loop-line-init c = record {
   whole = goes_on-start c.args.lines.now _ c.new-statements.ensures.items;
-  knows = subst (λ l. Knows c.new-known.result (reverse l)) (sym c.new-statements.ensures.items) c.new-known.ensures.knows;
+  knows = subst (λ l. HasLearned c.new-known.result (reverse l)) (sym c.new-statements.ensures.items) c.new-known.ensures.knows;
   number = refl;
   few = omega arith;
   lines = c.requires;

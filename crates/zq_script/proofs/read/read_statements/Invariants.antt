@@ -1,6 +1,6 @@
 use Rattle.std.proofs.Common.{◌≡◌, ◌≤◌, [], length}
 use Rattle.std.specs.Prelude.{map, reverse}
-use Rattle.zq_script.specs.Known.{Knows}
+use Rattle.zq_script.specs.Known.{HasLearned}
 use Rattle.zq_script.specs.Script.{statements_from}
 use Rattle.zq_script.proofs.ScriptLemmas.{GoesOn}
 use Rattle.zq_script.proofs.read.read_statements.Given as goal
@@ -9,7 +9,7 @@ use Rattle.zq_script.proofs.read.read_statements.Given as goal
 abbrev pub invariant-loop-line : goal.invariant-loop-line
 invariant-loop-line l = record {
   whole : GoesOn l.lines l.line-index (statements_from 1 [] (map (λ x. x.now) l.lines)) l.statements.items;
-  knows : Knows l.known (reverse l.statements.items);
+  knows : HasLearned l.known (reverse l.statements.items);
   number : l.number ≡ l.line-index;
   few : l.known.count ≤ l.line-index;
   lines : length l.lines ≤ 10000;

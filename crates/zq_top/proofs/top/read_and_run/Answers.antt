@@ -7,5 +7,5 @@ pub returns-in-Err-Failed-clause-says : goal.returns-in-Err-Failed-clause-says
 returns-in-Err-Failed-clause-says g c = λ words asks. ((request.Run c.args.seed c.args.turns, asks), search rules, c.in_ok-from_slice-in-Err-Failed.ensures.items)
 
 pub returns-clause-says : goal.returns-clause-says
-returns-clause-says g c = λ words asks. says_read c.in_ok-said.said.0 words _ _ (record { seed = c.args.seed; turns = c.args.turns }) c.in-Ok.octets.items _ asks c.in-Ok.ensures.ended
+returns-clause-says g c = λ words asks. says_read c.in_ok-said.said.0 words _ _ (record { seed = c.args.seed; turns = c.args.turns }) c.in-Ok.octets.items _ asks c.in-Ok.ensures.read
     (rw c.deref.ensures.value at c.in_ok-said.ensures)

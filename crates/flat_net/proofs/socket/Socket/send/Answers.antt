@@ -1,12 +1,18 @@
 use Rattle.std.proofs.Common.{All, sym, subst}
+use Rattle.pattern_laws.specs.Peers.{kept_ends}
 use Rattle.spec_journal.specs.Net.{Sock}
+use Rattle.ends.specs.Rows.{table}
 use Rattle.flat_net.specs.Pipes.{IsThere}
-use Rattle.flat_net.specs.Socket.{places_of}
-use Rattle.flat_net.proofs.EndLemmas.{places_there, ends_there}
+use Rattle.flat_net.specs.Pairs.{tabled}
+use Rattle.flat_net.proofs.SocketLemmas.{keeps_there, turns_there}
 use Rattle.flat_net.proofs.socket.Socket.send.Goals as goal
 
-pub send-requires : goal.send-requires
-send-requires c = places_there c.args.pairs.now (places_of c.self.inside.pattern) (subst (λ (s : Sock). All (IsThere c.args.pairs.now) s.turns) (sym c.self.view_is) c.requires)
+pub send_over-requires-clause-there : goal.send_over-requires-clause-there
+send_over-requires-clause-there c =
+    keeps_there (tabled c.args.pairs.now) c.self.inside.pattern (subst (λ (s : Sock). All (IsThere (tabled c.args.pairs.now)) (kept_ends s.pattern)) (sym c.self.view_is) c.requires.there)
 
 pub returns-clause-there : goal.returns-clause-there
-returns-clause-there c = ends_there c.send.new.pairs (places_of c.send.new.self) c.send.ensures.there
+returns-clause-there c =
+    let step = c.send_over.ensures.step in
+    turns_there (tabled c.args.pairs.now) step.steps (table c.send_over.new.pipes c.send_over.new.rows.items) step.does c.self.inside.pattern c.send_over.new.pattern c.send_over.ensures.places
+    (keeps_there (tabled c.args.pairs.now) c.self.inside.pattern (subst (λ (s : Sock). All (IsThere (tabled c.args.pairs.now)) (kept_ends s.pattern)) (sym c.self.view_is) c.requires.there))

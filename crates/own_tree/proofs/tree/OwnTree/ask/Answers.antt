@@ -1,7 +1,17 @@
 use Rattle.std.specs.Prelude.{refl}
-use Rattle.own_tree.proofs.RowLemmas.{asks_from}
+use Rattle.spec_control.specs.declared.stage.Stage.TheVariants.{Ending}
+use Rattle.own_tree.specs.Rows.{row_at}
+use Rattle.own_tree.specs.Changes.{in_stage}
+use Rattle.own_tree.proofs.RowLemmas.{asked_lives, live_has_row, asks_from}
+use Rattle.own_tree.proofs.KeptLemmas.{kept_in, asked_alike, asked_lives_on}
 use Rattle.own_tree.proofs.tree.OwnTree.ask.Goals as goal
+
+pub invariant_of-self : goal.invariant_of-self
+invariant_of-self c =
+    kept_in (in_stage Ending) _ _ _ _ _ c.args.id c.index_mut.result.now c.self.view_is (live_has_row _ _ (asked_lives (row_at c.args.self.now c.args.id) c.requires.told)) c.index_mut.ensures.value c.self.invariant
+    (record { owner = refl; noted = refl; awaited = asked_alike (row_at c.args.self.now c.args.id) c.requires.told }) (asked_lives_on (row_at c.args.self.now c.args.id) c.requires.told)
+    (λ u a h. record { sent = h.sent; owed = h.owed; sent_fits = h.sent_fits; ends_fit = h.ends_fit })
 
 pub returns-clause-moves : goal.returns-clause-moves
 returns-clause-moves c =
-    asks_from _ _ c.args.id _ c.index_mut.result.now c.self.view_is c.requires.live c.index_mut.ensures.value refl refl
+    asks_from _ _ c.args.id _ c.index_mut.result.now c.self.view_is c.requires.told c.index_mut.ensures.value refl refl

@@ -1,11 +1,15 @@
 use Rattle.std.specs.Prelude.{refl}
-use Rattle.own_tree.proofs.RowLemmas.{makes_no_move, processed_fits}
+use Rattle.std.proofs.Common.{arith}
+use Rattle.own_tree.specs.Changes.{with_bind_processed}
+use Rattle.own_tree.proofs.RowLemmas.{has_row, makes_no_move}
+use Rattle.own_tree.proofs.KeptLemmas.{kept_in}
 use Rattle.own_tree.proofs.tree.OwnTree.on_processed.Goals as goal
 
-pub returns-clause-moves : goal.returns-clause-moves
-returns-clause-moves c =
-    makes_no_move _ _ c.args.id _ c.index_mut.result.now c.self.view_is c.requires.unended c.index_mut.ensures.value refl refl
+pub invariant_of-self : goal.invariant_of-self
+invariant_of-self c =
+    kept_in with_bind_processed _ _ _ _ _ c.args.id c.index_mut-row.result.now c.self.view_is (has_row _ _ c.requires.unended) c.index_mut-row.ensures.value c.self.invariant
+    (record { owner = refl; noted = refl; awaited = λ id. refl }) refl
+    (λ u a h. let s = h.sent in let r = c.requires.coming in record { sent = omega (arith, s, r); owed = h.owed; sent_fits = h.sent_fits; ends_fit = h.ends_fit })
 
-pub overflow_add-index_mut : goal.overflow_add-index_mut
-overflow_add-index_mut c =
-    record { fits = processed_fits _ _ c.self.inside.tallies.items c.args.id c.index_mut.result.now _ c.self.view_is c.requires.unended c.index_mut.ensures.value c.self.invariant c.requires.in_flight }
+pub returns-clause-moves : goal.returns-clause-moves
+returns-clause-moves c = makes_no_move _ _ c.args.id _ c.index_mut-row.result.now c.self.view_is c.requires.unended c.index_mut-row.ensures.value refl refl

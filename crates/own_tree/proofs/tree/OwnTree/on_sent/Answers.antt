@@ -1,7 +1,15 @@
 use Rattle.std.specs.Prelude.{refl}
-use Rattle.own_tree.proofs.RowLemmas.{makes_no_move}
+use Rattle.std.proofs.Common.{arith}
+use Rattle.own_tree.specs.Changes.{with_bind_sent}
+use Rattle.own_tree.proofs.RowLemmas.{has_row, makes_no_move}
+use Rattle.own_tree.proofs.KeptLemmas.{kept_in}
 use Rattle.own_tree.proofs.tree.OwnTree.on_sent.Goals as goal
 
+pub invariant_of-self : goal.invariant_of-self
+invariant_of-self c =
+    kept_in with_bind_sent _ _ _ _ _ c.args.id c.index_mut-row.result.now c.self.view_is (has_row _ _ c.requires.unended) c.index_mut-row.ensures.value c.self.invariant
+    (record { owner = refl; noted = refl; awaited = λ id. refl }) refl
+    (λ u a h. let s = h.sent in let r = c.requires.fits in record { sent = omega (arith, s); owed = h.owed; sent_fits = r; ends_fit = h.ends_fit })
+
 pub returns-clause-moves : goal.returns-clause-moves
-returns-clause-moves c =
-    makes_no_move _ _ c.args.id _ c.index_mut.result.now c.self.view_is c.requires.unended c.index_mut.ensures.value refl refl
+returns-clause-moves c = makes_no_move _ _ c.args.id _ c.index_mut-row.result.now c.self.view_is c.requires.unended c.index_mut-row.ensures.value refl refl

@@ -1,28 +1,44 @@
-use Rattle.std.proofs.Common.{ap, not, map, rules, subst, sym, ◌∙◌}
-use Rattle.std.proofs.lemmas.Fn.{filter_same}
-use Rattle.sub_table.specs.Topics.{AreDistinct, Subscription, is_of, is_alone, without_peer}
-use Rattle.sub_table.proofs.TopicsLemmas.{gone_first, AreDistinct-left, AreDistinct-filter, filter-not_found}
+use Rattle.std.proofs.Common.{◌≡◌, refl, sym, ap, ◌∙◌, true, false, nat_eq, cond, None}
+use Rattle.std.specs.Map.{lookup, remove_entry}
+use Rattle.std.specs.Option.{option_map}
+use Rattle.spec_pattern.specs.Topics.{others_have, topics_of, without_peer}
+use Rattle.sub_table.proofs.RowLemmas.{same_peer}
+use Rattle.sub_table.proofs.TieLemmas.{AreTied-rows}
+use Rattle.sub_table.proofs.GoneLemmas.{ChangesOnly-none, ChangesOnly-then, topics_gone-shared, topics_gone-alone, topics_gone-none, without_peer-only, has_topic-gone, lookup-gone}
 use Rattle.sub_table.proofs.topics.Topics.next_gone.Goals as goal
 
-pub returns-in-Some : goal.returns-in-Some
-returns-in-Some c =
-    gone_first c.args.peer c.self.inside.entries.items c.args.self.now c.remove-topic.new.self.items c.in-Some.place c.remove-topic.result
-    c.self.view_is c.self.invariant c.in-Some.ensures c.remove-topic.ensures.value c.remove-topic.ensures.items
+pub topics-init : goal.topics-init
+topics-init c = record { gone = refl; only = ChangesOnly-none c.args.peer c.args.self.now }
+
+pub topics-preserved : goal.topics-preserved
+topics-preserved c =
+    let shared : others_have nat_eq c.take_first.new.self c.args.peer c.in-Some.topic.items ≡ true =
+    ap (others_have nat_eq c.take_first.new.self c.args.peer) (sym c.as_slice.ensures.value) ∙ sym c.others_have.ensures ∙ c.if-not-others_have.false in
+    record {
+      gone = topics_gone-shared c.args.peer c.in-Some.topic.items c.topics.self c.take_first.new.self c.in-Some.ensures shared ∙ c.topics.invariant.gone;
+      only = ChangesOnly-then c.args.peer c.args.self.now c.topics.self c.take_first.new.self c.topics.invariant.only c.in-Some.ensures.only;
+    }
+
+pub returns-then-not-others_have : goal.returns-then-not-others_have
+returns-then-not-others_have c =
+    let alone : others_have nat_eq c.take_first.new.self c.args.peer c.in-Some.topic.items ≡ false =
+    ap (others_have nat_eq c.take_first.new.self c.args.peer) (sym c.as_slice.ensures.value) ∙ sym c.others_have.ensures ∙ c.if-not-others_have.true in
+    record {
+      gone = sym c.topics.invariant.gone ∙ topics_gone-alone c.args.peer c.in-Some.topic.items c.topics.self c.take_first.new.self c.in-Some.ensures alone;
+      only = ChangesOnly-then c.args.peer c.args.self.now c.topics.self c.take_first.new.self c.topics.invariant.only c.in-Some.ensures.only;
+    }
 
 pub invariant_of-self : goal.invariant_of-self
 invariant_of-self c =
-    AreDistinct-left c.args.peer c.remove-topic.result.0 c.self.inside.entries.items c.args.self.now c.remove-topic.new.self.items c.self.view_is c.self.invariant
-    (gone_first c.args.peer c.self.inside.entries.items c.args.self.now c.remove-topic.new.self.items c.in-Some.place c.remove-topic.result
-    c.self.view_is c.self.invariant c.in-Some.ensures c.remove-topic.ensures.value c.remove-topic.ensures.items).1
+    AreTied-rows c.self.inside.peers.entries c.remove.new.self.entries c.self.inside.holders c.self.inside.longest c.remove.ensures.ordered c.self.invariant
+    (has_topic-gone c.args.peer c.self.inside.peers.entries c.remove.new.self.entries
+    (ap (λ subs. topics_of nat_eq subs c.args.peer) (c.self.view_is ∙ c.in_default.ensures.1) ∙ c.in_default.ensures.0)
+    (λ q. lookup-gone c.args.peer q c.self.inside.peers.entries c.remove.new.self.entries (c.remove.ensures.updates.0 q)))
 
-pub returns-in-None : goal.returns-in-None
-returns-in-None c = (
-  ap (map (λ (s : Subscription). s.0)) (filter-not_found (is_alone c.args.self.now c.args.peer) c.args.self.now c.in-None.ensures),
-  filter_same _ (λ s. not (is_of c.args.peer s)) _ (λ s b f h. search rules) _ _ c.retain.ensures.filtered
-      ∙ ap (without_peer c.args.peer) c.self.view_is,
+pub returns : goal.returns
+returns c = (
+  sym c.topics.invariant.gone ∙ topics_gone-none c.args.peer c.topics.self c.in_default.ensures.0,
+  c.remove.ensures.entries ∙ ap (λ test. remove_entry test c.self.inside.peers.entries) (same_peer c.args.peer)
+      ∙ ap (without_peer nat_eq c.args.peer) (c.self.view_is ∙ c.in_default.ensures.1)
+      ∙ without_peer-only c.args.peer c.args.self.now c.topics.self c.topics.invariant.only,
 )
-
-pub invariant_of-self-in-None : goal.invariant_of-self-in-None
-invariant_of-self-in-None c =
-    subst AreDistinct (sym (filter_same _ (λ s. not (is_of c.args.peer s)) _ (λ s b f h. search rules) _ _ c.retain.ensures.filtered))
-    (AreDistinct-filter (λ s. not (is_of c.args.peer s)) c.self.inside.entries.items c.self.invariant)

@@ -1,15 +1,19 @@
-use Rattle.std.proofs.Common.{ap, rules, ◌∙◌, nat_eq}
-use Rattle.std.proofs.lemmas.Iterator.Consumers.{YieldsList-from_rest}
-use Rattle.std.proofs.lemmas.Iterator.Search.{any_from_yields_List}
-use Rattle.std.specs.List.{starts_with}
-use Rattle.std.specs.Map.{keys_of}
-use Rattle.sub_table.specs.Wanted.{matches_wanted}
-use Rattle.sub_table.proofs.ViewLemmas.{any-wanted_of}
+use Rattle.std.proofs.Common.{◌≡◌, ◌∙◌, ◌<◌, ◌+◌, ap, sym, subst, refl, min, length, take, arith}
+use Rattle.spec_pattern.specs.Wanted.{wants, matches_wanted}
+use Rattle.sub_table.specs.Tables.{AreCounts}
+use Rattle.sub_table.proofs.MatchLemmas.{any_below, any_below_at}
+use Rattle.sub_table.proofs.CountLemmas.{matches_wanted-fronts}
 use Rattle.sub_table.proofs.wanted.Wanted.matches.Goals as goal
+
+pub returns-then-wants : goal.returns-then-wants
+returns-then-wants c =
+    let within : c.prefixes.end < min (length c.args.octets.now) c.self.inside.longest + 1 = omega arith in
+    sym (any_below_at (min (length c.args.octets.now) c.self.inside.longest + 1) (λ i. wants c.args.self.now (take i c.args.octets.now)) c.prefixes.end within
+    (sym c.wants.ensures.value ∙ c.if-wants.true))
+    ∙ matches_wanted-fronts c.args.self.now c.args.octets.now c.self.inside.longest (subst (λ counts. AreCounts counts c.self.inside.longest) c.self.view_is c.self.invariant)
 
 pub returns : goal.returns
 returns c =
-    any_from_yields_List (λ k. starts_with nat_eq c.args.octets.now k.items) _ _ _ c.any.ensures.ran
-    (YieldsList-from_rest (keys_of c.self.inside.counts.entries) c.keys.ensures.rest) (λ x b q h. search rules)
-    ∙ any-wanted_of (starts_with nat_eq c.args.octets.now) c.self.inside.counts.entries
-    ∙ ap (λ w. matches_wanted w c.args.octets.now) c.self.view_is
+    let last : c.prefixes.end ≡ min (length c.args.octets.now) c.self.inside.longest + 1 = omega arith in
+    sym c.prefixes.invariant ∙ ap (λ n. any_below n (λ i. wants c.args.self.now (take i c.args.octets.now))) last
+    ∙ matches_wanted-fronts c.args.self.now c.args.octets.now c.self.inside.longest (subst (λ counts. AreCounts counts c.self.inside.longest) c.self.view_is c.self.invariant)

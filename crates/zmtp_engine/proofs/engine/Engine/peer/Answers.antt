@@ -4,6 +4,5 @@ use Rattle.zmtp_engine.proofs.Calls.{peer_means}
 use Rattle.zmtp_engine.proofs.engine.Engine.peer.Goals as goal
 
 pub returns-clause-meaning : goal.returns-clause-meaning
-returns-clause-meaning c = λ p f now.
-    let k = peer_means p c.args.self.now f now in
-    (k.0, k.1, c.as_ref.ensures.value ∙ ap (λ (v : Conversation). v.listening.hearing.peer) c.self.view_is ∙ k.2)
+returns-clause-meaning c = λ p d f now is.
+    c.as_ref.ensures.value ∙ ap (λ (v : Conversation). v.listening.hearing.peer) c.self.view_is ∙ peer_means p c.args.self.now d f now is

@@ -1,52 +1,56 @@
-use Rattle.std.proofs.Common.{◌≡◌, ℕ, ◌+◌, ◌<◌, ◌≤◌, List, ◌++◌, length, take, drop, Option, sym, ap, subst, ◌∙◌, arith}
-use Rattle.zmtp_engine.specs.Conversation.{Conversation, Follows, wrote, lent}
+use Rattle.std.proofs.Common.{◌≡◌, ℕ, ◌≤◌, List, length, take, drop, refl, sym, ap, subst, ◌∙◌, arith}
+use Rattle.zmtp_engine.specs.Listening.{Listening, said_now}
+use Rattle.zmtp_engine.specs.ListenerView.{listening_of}
+use Rattle.zmtp_engine.specs.Output.{Output, begun_run}
+use Rattle.zmtp_engine.specs.WriterView.{output_of}
+use Rattle.zmtp_engine.specs.Conversation.{Past, Conversation, Follows, wrote, lent}
 use Rattle.zmtp_engine.specs.EngineView.{conversation_of}
-use Rattle.zmtp_engine.specs.Listening.{said_now}
-use Rattle.zmtp_engine.specs.Sending.{piece_in, later_in}
-use Rattle.zmtp_engine.specs.SendingView.{outgoing_in}
-use Rattle.zmtp_engine.specs.declared.sending.Sending.{Sending}
-use Rattle.zmtp_engine.proofs.Conversations.{writes_said, writes_piece}
+use Rattle.zmtp_engine.proofs.Calls.{begins_as, spent_by, said_brief, talking}
+use Rattle.zmtp_engine.proofs.Conversations.{said_long, writes}
 use Rattle.zmtp_engine.proofs.engine.Engine.wrote.Goals as goal
+
+pub wrote-requires : goal.wrote-requires
+wrote-requires c = record { writer = c.self.invariant.writer; within = subst (λ (v : Conversation). c.args.n ≤ length (lent v)) (sym c.self.view_is) c.requires.within }
+
+pub said-requires : goal.said-requires
+said-requires c =
+    let p = c.self.invariant.past in
+    record { long = said_long p.opts p.heard p.given (listening_of c.self.inside.listener) c.self.invariant.follows.listens }
+
+pub begin-requires : goal.begin-requires
+begin-requires c =
+    let f = c.self.invariant.follows in
+    let n : length c.said.result.now ≡ length (said_now (listening_of c.self.inside.listener)) = ap (λ (x : List ℕ). length x) c.said.ensures in
+    let b : (output_of c.wrote.new.self).begun ≡ c.self.inside.writer.begun = ap (λ (o : Output). o.begun) c.wrote.ensures.written in
+    record { writer = c.wrote.ensures.writer; within = omega (arith, n, b, f.within); brief = omega (arith, n, said_brief c.self.invariant.past _ f) }
+
+-- octets that are written
+written : (p : Past) (n : ℕ) (l : Listening) (o mid new : Output) (said : List ℕ) → Follows p (talking l o) → mid ≡ record o { run = drop n o.run } → said ≡ said_now l → new ≡ begun_run said mid
+    → Follows (wrote (take n o.run) p) (talking l new)
+written p n l o mid new said f is e k =
+    begins_as (wrote (take n o.run) p) l mid new said e k (subst (λ (x : Output). Follows (wrote (take n o.run) p) (talking l x)) (sym is) (writes p n (talking l o) f))
 
 pub invariant_of-self : goal.invariant_of-self
 invariant_of-self c =
-    let old : Conversation = conversation_of c.self.inside in
-    let lt : old.at < length (said_now old.listening) = omega (arith, c.if-self-said.true, ap (λ (l : List ℕ). length l) c.said.ensures) in
-    let le : c.args.n ≤ length (lent old) = subst (λ (v : Conversation). c.args.n ≤ length (lent v)) (sym c.self.view_is) c.requires.within in
+    let l : Listening = listening_of c.self.inside.listener in
+    let o : Output = output_of c.self.inside.writer in
     record {
-      within = c.self.invariant.within;
-      outgoing = c.self.invariant.outgoing;
-      past = wrote (take c.args.n (lent old)) c.self.invariant.past;
-      follows = writes_said c.self.invariant.past c.args.n old lt le c.self.invariant.follows;
+      room = c.self.invariant.room;
+      writer = c.begin.ensures.writer;
+      past = wrote (take c.args.n o.run) c.self.invariant.past;
+      follows = written c.self.invariant.past c.args.n l o (output_of c.wrote.new.self) (output_of c.begin.new.self) c.said.result.now c.self.invariant.follows c.wrote.ensures.written c.said.ensures c.begin.ensures.begun;
+      lends = λ e. spent_by l (output_of c.begin.new.self) c.said.result.now c.said.ensures c.begin.ensures.spent e;
     }
 
-pub returns-then-self-said-clause-follows : goal.returns-then-self-said-clause-follows
-returns-then-self-said-clause-follows c = λ p f.
-    let old : Conversation = conversation_of c.self.inside in
-    let new : Conversation = record old { at = c.self.inside.at + c.args.n } in
-    let lt : old.at < length (said_now old.listening) = omega (arith, c.if-self-said.true, ap (λ (l : List ℕ). length l) c.said.ensures) in
-    let le : c.args.n ≤ length (lent old) = subst (λ (v : Conversation). c.args.n ≤ length (lent v)) (sym c.self.view_is) c.requires.within in
-    subst (λ (v : Conversation). Follows (wrote (take c.args.n (lent v)) p) new) c.self.view_is (writes_said p c.args.n old lt le (subst (λ (v : Conversation). Follows p v) (sym c.self.view_is) f))
+pub returns-clause-follows : goal.returns-clause-follows
+returns-clause-follows c = λ p f.
+    let l : Listening = listening_of c.self.inside.listener in
+    let o : Output = output_of c.self.inside.writer in
+    subst (λ (v : Conversation). Follows (wrote (take c.args.n (lent v)) p) (talking l (output_of c.begin.new.self))) c.self.view_is
+    (written p c.args.n l o (output_of c.wrote.new.self) (output_of c.begin.new.self) c.said.result.now (subst (λ (v : Conversation). Follows p v) (sym c.self.view_is) f) c.wrote.ensures.written c.said.ensures c.begin.ensures.begun)
 
-pub invariant_of-self-in-Some : goal.invariant_of-self-in-Some
-invariant_of-self-in-Some c =
-    let old : Conversation = conversation_of c.self.inside in
-    let le : length (said_now old.listening) ≤ old.at = omega (arith, c.if-self-said.false, ap (λ (l : List ℕ). length l) c.said.ensures) in
-    let octets : piece_in (outgoing_in c.wrote.result) ++ later_in (outgoing_in c.wrote.result) ≡ drop c.args.n old.piece ++ old.later =
-    c.wrote.ensures.octets ∙ ap (λ (o : Option Sending). drop c.args.n (piece_in (outgoing_in o)) ++ later_in (outgoing_in o)) c.in-Some.ensures.value in
-    record {
-      within = c.self.invariant.within;
-      outgoing = c.wrote.ensures.outgoing;
-      past = wrote (take c.args.n (lent old)) c.self.invariant.past;
-      follows = writes_piece c.self.invariant.past c.args.n (piece_in (outgoing_in c.wrote.result)) (later_in (outgoing_in c.wrote.result)) old le octets c.self.invariant.follows;
-    }
-
-pub returns-in-Some-clause-follows : goal.returns-in-Some-clause-follows
-returns-in-Some-clause-follows c = λ p f.
-    let old : Conversation = conversation_of c.self.inside in
-    let new : Conversation = record old { piece = piece_in (outgoing_in c.wrote.result); later = later_in (outgoing_in c.wrote.result) } in
-    let le : length (said_now old.listening) ≤ old.at = omega (arith, c.if-self-said.false, ap (λ (l : List ℕ). length l) c.said.ensures) in
-    let octets : piece_in (outgoing_in c.wrote.result) ++ later_in (outgoing_in c.wrote.result) ≡ drop c.args.n old.piece ++ old.later =
-    c.wrote.ensures.octets ∙ ap (λ (o : Option Sending). drop c.args.n (piece_in (outgoing_in o)) ++ later_in (outgoing_in o)) c.in-Some.ensures.value in
-    subst (λ (v : Conversation). Follows (wrote (take c.args.n (lent v)) p) new) c.self.view_is
-    (writes_piece p c.args.n (piece_in (outgoing_in c.wrote.result)) (later_in (outgoing_in c.wrote.result)) old le octets (subst (λ (v : Conversation). Follows p v) (sym c.self.view_is) f))
+pub returns-clause-lent : goal.returns-clause-lent
+returns-clause-lent c =
+    let l : Listening = listening_of c.self.inside.listener in
+    c.begin.ensures.begun ∙ ap (λ (s : List ℕ). begun_run s (output_of c.wrote.new.self)) c.said.ensures ∙ ap (λ (x : Output). begun_run (said_now l) x) c.wrote.ensures.written
+    ∙ ap (λ (v : Conversation). begun_run (said_now v.listening) (record v.output { run = drop c.args.n (lent v) })) c.self.view_is

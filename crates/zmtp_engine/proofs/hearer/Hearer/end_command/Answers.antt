@@ -5,7 +5,7 @@ use Rattle.spec_zmtp.specs.declared.cause.Cause.TheVariants as cause
 use Rattle.spec_zmtp.specs.declared.cause.Refusal.{Refusal}
 use Rattle.spec_zmtp.specs.declared.handshake.Stage.TheVariants.{Waiting, Running, Refused}
 use Rattle.spec_zmtp.specs.Handshake.{Handshake, Told, next}
-use Rattle.spec_zmtp.specs.DecodedStream.{encode_commands}
+use Rattle.spec_zmtp.specs.Put.{encode_commands}
 use Rattle.zmtp_mech.specs.declared.answer.Answer.{Answer}
 use Rattle.zmtp_meta.specs.declared.command.CommandError.{CommandError}
 use Rattle.zmtp_mech.specs.Mechanism.{Mechanism}

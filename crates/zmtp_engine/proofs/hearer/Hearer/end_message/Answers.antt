@@ -1,10 +1,10 @@
 use Rattle.std.proofs.Common.{◌≡◌, ℕ, ◌+◌, List, [], ◌∷◌, ◌++◌, length, refl, sym, ap, subst, inl, ◌∙◌, arith}
-use Rattle.std.proofs.lemmas.List.{take_all, length-append, length-map}
+use Rattle.std.proofs.lemmas.List.{length-append, length-map}
 use Rattle.spec_zmtp.specs.FrameEncoding.{WireFrame}
 use Rattle.spec_zmtp.specs.FrameRules.{gathered}
 use Rattle.zmtp_engine.specs.Hearing.{Hearing, Hears}
 use Rattle.zmtp_engine.specs.HearerView.{hearing_of}
-use Rattle.zmtp_engine.proofs.Bounds.{unfinished_small}
+use Rattle.spec_zmtp.proofs.SizeLemmas.{unfinished_small}
 use Rattle.zmtp_engine.proofs.Ends.{frame_ends, message_shakes}
 use Rattle.zmtp_engine.proofs.hearer.Hearer.end_message.Goals as goal
 
@@ -22,14 +22,14 @@ pub returns-clause-hears : goal.returns-clause-hears
 returns-clause-hears c = λ opts octets given l.
     let old : Hearing = hearing_of c.args.self.now in
     let whole : c.of_bytes.result ≡ c.args.self.now.body.items =
-    c.of_bytes.ensures ∙ c.in_ok-body.ensures.front ∙ take_all c.len.result c.args.self.now.body.items (omega (arith, c.len.ensures.value)) in
+    c.of_bytes.ensures ∙ c.in_ok-body.ensures.ok in
     let parts : c.push_reserved.new.self.items ≡ c.args.self.now.parts.items ++ c.args.self.now.body.items ∷ [] =
     c.push_reserved.ensures.items ∙ ap (λ (l : List (List ℕ)). l ++ c.of_bytes.result ∷ []) c.in_ok-reserve.ensures.items ∙ ap (λ (b : List ℕ). c.args.self.now.parts.items ++ b ∷ []) whole in
     let message : c.of_frames.result ≡ c.args.self.now.parts.items ++ c.args.self.now.body.items ∷ [] = c.of_frames.ensures ∙ ap (λ v. v.items) c.replace-parts.ensures.value ∙ parts in
     let queue : c.push_back_reserved.new.self.items ≡ c.args.self.now.queue.items ++ (c.args.self.now.parts.items ++ c.args.self.now.body.items ∷ []) ∷ [] =
     c.push_back_reserved.ensures.items ∙ ap (λ (q : List (List (List ℕ))). q ++ c.of_frames.result ∷ []) c.in_ok-reserve-2.ensures.items ∙ ap (λ (m : List (List ℕ)). c.args.self.now.queue.items ++ m ∷ []) message in
     let none : c.replace-parts.new.dest.items ≡ [] = ap (λ v. v.items) c.replace-parts.ensures.after ∙ c.new.ensures.items in
-    let new : Hearing = record old { reader = _; parts = c.replace-parts.new.dest.items; body = c.freeze_to.new.self.items; queue = c.push_back_reserved.new.self.items; offset = _; begun = 0; earlier = 0 } in
+    let new : Hearing = record old { reader = _; parts = c.replace-parts.new.dest.items; body = c.take_body.new.body.items; queue = c.push_back_reserved.new.self.items; offset = _; begun = 0; earlier = 0 } in
     let shakes = message_shakes opts octets given old new l c.requires.body (inl c.requires.kind) refl refl refl refl in
     subst (λ (x : Hearing). Hears opts octets given x) (sym c.next_frame.ensures.next) (frame_ends opts octets given old new l c.requires.body (record {
       shakes = shakes.0;

@@ -1,10 +1,19 @@
-use Rattle.std.proofs.Common.{◌≡◌, ◌++◌, take, sym, subst, ◌∙◌, arith}
-use Rattle.std.proofs.lemmas.List.{take_all}
+use Rattle.std.proofs.Common.{◌≡◌, ℕ, List, refl, ◌++◌, take, sym, subst, ◌∙◌, arith}
+use Rattle.std.proofs.lemmas.List.{take_all, append-nil}
 use Rattle.zmtp_engine.specs.Hearing.{Hearing, Hears}
 use Rattle.zmtp_engine.specs.HearerView.{hearing_of}
 use Rattle.zmtp_engine.proofs.Commands.{same_grows, grows_on}
+use Rattle.zmtp_engine.proofs.Breaking.{none_refused, then_broken}
 use Rattle.zmtp_engine.proofs.Feeds.{hears_open, not_refused, then_hears, settles, in_head_now}
 use Rattle.zmtp_engine.proofs.hearer.Hearer.feed.Goals as goal
+
+pub octets-init : goal.octets-init
+octets-init c = record {
+  within = omega arith;
+  grows = same_grows (hearing_of c.args.self.now) (hearing_of c.args.self.now) refl refl;
+  hears = λ opts octets given h. subst (λ (l : List ℕ). Hears opts l given (hearing_of c.args.self.now)) (sym (append-nil octets)) h;
+  breaks = λ opts octets given h none some. none_refused c.args.self.now.refused none some;
+}
 
 pub end_frame-requires-clause-known : goal.end_frame-requires-clause-known
 end_frame-requires-clause-known c =
@@ -22,6 +31,9 @@ octets-preserved-in-Ok c = record {
   hears = λ opts octets given h.
       c.in-Ok.ensures.hears opts (octets ++ take c.octets.taken c.args.piece.now) given
       (hears_open opts (octets ++ take c.octets.taken c.args.piece.now) given (hearing_of c.octets.self) (not_refused c.octets.self.refused c.octets-test.ensures) (c.octets.invariant.hears opts octets given h));
+  breaks = λ opts octets given h none some.
+      c.in-Ok.ensures.breaks opts (octets ++ take c.octets.taken c.args.piece.now) given
+      (hears_open opts (octets ++ take c.octets.taken c.args.piece.now) given (hearing_of c.octets.self) (not_refused c.octets.self.refused c.octets-test.ensures) (c.octets.invariant.hears opts octets given h)) some;
 }
 
 pub returns-in-Err-clause-hears : goal.returns-in-Err-clause-hears
@@ -43,6 +55,10 @@ octets-preserved c = record {
   hears = λ opts octets given h.
       then_hears opts octets c.args.piece.now c.octets.taken c.hear_head-taken.result given (hearing_of c.octets.self) (hearing_of c.hear_head-taken.new.self) (not_refused c.octets.self.refused c.octets-test.ensures) (c.octets.invariant.hears opts octets given h)
       (λ l. c.hear_head-taken.ensures.hears opts (octets ++ take c.octets.taken c.args.piece.now) given l);
+  breaks = λ opts octets given h none some.
+      then_broken opts octets c.args.piece.now c.octets.taken c.hear_head-taken.result
+      (c.hear_head-taken.ensures.breaks opts (octets ++ take c.octets.taken c.args.piece.now) given
+      (hears_open opts (octets ++ take c.octets.taken c.args.piece.now) given (hearing_of c.octets.self) (not_refused c.octets.self.refused c.octets-test.ensures) (c.octets.invariant.hears opts octets given h)) some);
 }
 
 pub octets-preserved-in-Ok-hear_body : goal.octets-preserved-in-Ok-hear_body
@@ -53,6 +69,7 @@ octets-preserved-in-Ok-hear_body c = record {
   hears = λ opts octets given h.
       then_hears opts octets c.args.piece.now c.octets.taken c.in-Ok-hear_body.count given (hearing_of c.octets.self) (hearing_of c.hear_body.new.self) (not_refused c.octets.self.refused c.octets-test.ensures) (c.octets.invariant.hears opts octets given h)
       (λ l. c.in-Ok-hear_body.ensures.hears opts (octets ++ take c.octets.taken c.args.piece.now) given l);
+  breaks = λ opts octets given h none some. none_refused c.hear_body.new.self.refused (c.in-Ok-hear_body.ensures.refused ∙ not_refused c.octets.self.refused c.octets-test.ensures) some;
 }
 
 pub returns-in-Err-hear_body-clause-hears : goal.returns-in-Err-hear_body-clause-hears
@@ -72,3 +89,12 @@ returns-then-taken-piece-2-clause-hears c = λ opts octets given h.
 pub returns-clause-hears : goal.returns-clause-hears
 returns-clause-hears c = λ opts octets given h.
     settles opts octets c.args.piece.now c.octets.taken given (hearing_of c.octets.self) c.octets-test.ensures (c.octets.invariant.hears opts octets given h)
+
+pub returns-then-taken-piece-clause-breaks : goal.returns-then-taken-piece-clause-breaks
+returns-then-taken-piece-clause-breaks c = λ opts octets given h none some. none_refused c.octets.self.refused (not_refused c.octets.self.refused c.octets-test.ensures) some
+
+pub returns-then-taken-piece-2-clause-breaks : goal.returns-then-taken-piece-2-clause-breaks
+returns-then-taken-piece-2-clause-breaks c = λ opts octets given h none some. none_refused c.octets.self.refused (not_refused c.octets.self.refused c.octets-test.ensures) some
+
+pub returns-clause-breaks : goal.returns-clause-breaks
+returns-clause-breaks c = λ opts octets given h none some. (c.octets.invariant.hears opts octets given h, c.octets.invariant.breaks opts octets given h none some)

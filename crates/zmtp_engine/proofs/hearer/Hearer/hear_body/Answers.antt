@@ -1,4 +1,4 @@
-use Rattle.std.proofs.Common.{◌≡◌, ℕ, ◌+◌, ◌-◌, ◌^◌, ◌<◌, ◌≤◌, min, List, length, take, refl, ap, ◌∙◌, arith}
+use Rattle.std.proofs.Common.{◌≡◌, ℕ, ◌+◌, ◌-◌, ◌^◌, ◌<◌, ◌≤◌, min, List, length, ◌++◌, take, refl, ap, ◌∙◌, arith}
 use Rattle.std.proofs.lemmas.List.{length-take-le}
 use Rattle.zmtp_frame.specs.Reading.{InBody, Feeds}
 use Rattle.zmtp_engine.specs.HearerView.{hearing_of}
@@ -18,5 +18,5 @@ returns-clause-hears c = λ opts octets given l.
     let taken : c.feed-taken.result.0 ≡ n = b.0 ∙ len in
     let same : take c.feed-taken.result.0 c.args.piece.now ≡ part = ap (λ (k : ℕ). take k c.args.piece.now) taken in
     body_goes_on opts octets part (take c.feed-taken.result.0 c.args.piece.now) given (hearing_of c.args.self.now) _ c.args.left b.1.0 l c.requires.body b.1.1
-    (record { opts = refl; stage = refl; peer = refl; said = refl; parts = refl; queue = refl; offset = refl; earlier = refl }) c.requires.unrefused b.1.2 refl c.in_ok-extend_from_slice.ensures.ok
+    (record { opts = refl; stage = refl; peer = refl; said = refl; parts = refl; queue = refl; offset = refl; earlier = refl }) c.requires.unrefused b.1.2 refl (c.extend_reserved.ensures.items ∙ ap (λ (b : List ℕ). b ++ part) c.make_room.ensures.same)
     (c.saturating_add-self.ensures ∙ ap (λ (k : ℕ). min (c.args.self.now.begun + k) (2 ^ 64 - 1)) b.0) same

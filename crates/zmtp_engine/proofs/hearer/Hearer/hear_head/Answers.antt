@@ -6,6 +6,7 @@ use Rattle.zmtp_frame.specs.Reading.{Stage, Feeds, FeedsHead}
 use Rattle.zmtp_frame.specs.declared.step.Step.TheVariants as step
 use Rattle.zmtp_engine.specs.HearerView.{hearing_of}
 use Rattle.zmtp_engine.proofs.Steps.{judged_bad, began, too_long, head_goes_on, head_feeds}
+use Rattle.zmtp_engine.proofs.Breaking.{flags_broken, octet_broken, head_broken, none_refused}
 use Rattle.zmtp_engine.proofs.hearer.Hearer.hear_head.Goals as goal
 use Rattle.zmtp_engine.proofs.hearer.Hearer.hear_head.Goals.{then-self-eq0+in-None, else-self-eq0}
 
@@ -51,3 +52,28 @@ returns-in-NeedMore-clause-hears c = λ opts octets given l.
 pub returns-in-BadFlags-clause-some : goal.returns-in-BadFlags-clause-some
 returns-in-BadFlags-clause-some c =
     head_feeds c.requires.head.0 c.args.piece.now c.feed-taken.result.0 c.feed-taken.result.1 c.feed-taken.new.self (subst (λ (s : Stage). Feeds s c.args.piece.now c.feed-taken.result.0 c.feed-taken.result.1 c.feed-taken.new.self) c.requires.head.1 c.feed-taken.ensures.step) c.requires.some
+
+pub returns-in-Some-clause-breaks : goal.returns-in-Some-clause-breaks
+returns-in-Some-clause-breaks c = λ opts octets given l some. flags_broken opts octets c.args.piece.now given (hearing_of c.args.self.now) l c.if-self-eq0.true c.requires.some
+
+pub returns-in-Head-clause-breaks : goal.returns-in-Head-clause-breaks
+returns-in-Head-clause-breaks c = λ opts octets given l some. none_refused c.args.self.now.refused c.requires.unrefused some
+
+pub returns-in-TooLong-clause-breaks : goal.returns-in-TooLong-clause-breaks
+returns-in-TooLong-clause-breaks c = λ opts octets given l some.
+    let st = c.requires.head in
+    let f : FeedsHead st.0 c.args.piece.now c.feed-taken.result.0 (step.TooLong c.in-TooLong.field-0) c.feed-taken.new.self =
+    subst (λ (s : Stage). Feeds s c.args.piece.now c.feed-taken.result.0 (step.TooLong c.in-TooLong.field-0) c.feed-taken.new.self) st.1 (rw c.in-TooLong.is at c.feed-taken.ensures.step) in
+    head_broken opts octets c.args.piece.now given (hearing_of c.args.self.now) st.0 c.feed-taken.result.0 c.in-TooLong.field-0 f.2.0 l st.1 f.0 f.1
+    (elim c.if-self-eq0.branch [ then-self-eq0+in-None w ↦ λ z. sym w.in-None.ensures | else-self-eq0 w ↦ λ z. absurd (w.if-self-eq0.false z) ])
+    f.2.1
+
+pub returns-in-NeedMore-clause-breaks : goal.returns-in-NeedMore-clause-breaks
+returns-in-NeedMore-clause-breaks c = λ opts octets given l some. none_refused c.args.self.now.refused c.requires.unrefused some
+
+pub returns-in-BadFlags-clause-breaks : goal.returns-in-BadFlags-clause-breaks
+returns-in-BadFlags-clause-breaks c = λ opts octets given l some.
+    let st = c.requires.head in
+    let f : FeedsHead st.0 c.args.piece.now c.feed-taken.result.0 (step.BadFlags c.in-BadFlags.field-0) c.feed-taken.new.self =
+    subst (λ (s : Stage). Feeds s c.args.piece.now c.feed-taken.result.0 (step.BadFlags c.in-BadFlags.field-0) c.feed-taken.new.self) st.1 (rw c.in-BadFlags.is at c.feed-taken.ensures.step) in
+    octet_broken opts octets c.args.piece.now given (hearing_of c.args.self.now) st.0 c.feed-taken.result.0 l st.1 f.1 f.0 c.requires.some

@@ -4,7 +4,7 @@ use Rattle.zq_base.specs.declared.options.EngineOpts.{EngineOpts}
 use Rattle.spec_zmtp.specs.declared.command.Command.{Command}
 use Rattle.spec_zmtp.specs.Greeting.{greeting_of}
 use Rattle.spec_zmtp.specs.Handshake.{handshake}
-use Rattle.spec_zmtp.specs.DecodedStream.{encode_commands}
+use Rattle.spec_zmtp.specs.Put.{encode_commands}
 use Rattle.zmtp_mech.specs.Mechanism.{Mechanism, begun}
 use Rattle.zmtp_engine.proofs.Commands.{fresh}
 use Rattle.zmtp_engine.proofs.hearer.Hearer.new.Goals as goal

@@ -1,0 +1,3 @@
+pub mod EndsLemmas
+pub mod CallsLemmas
+pub mod DroppingLemmas

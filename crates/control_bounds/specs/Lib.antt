@@ -1,0 +1,4 @@
+pub mod Bound
+pub mod Room
+pub mod History
+pub mod Worked

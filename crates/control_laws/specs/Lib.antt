@@ -1,0 +1,3 @@
+pub mod Mail
+pub mod Kept
+pub mod Laws

@@ -1,0 +1,11 @@
+pub mod GuardLemmas
+pub mod MetLemmas
+pub mod FateLemmas
+pub mod GoLemmas
+pub mod SoundLemmas
+pub mod WeighLemmas
+pub mod PairWeighLemmas
+pub mod JoinGoLemmas
+pub mod WordGoLemmas
+pub mod EventGoLemmas
+pub mod StepsLemmas

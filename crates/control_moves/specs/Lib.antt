@@ -1,0 +1,6 @@
+pub mod Move
+pub mod OwnMoves
+pub mod Coming
+pub mod Met
+pub mod Fate
+pub mod Steps

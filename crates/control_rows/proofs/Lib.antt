@@ -1,0 +1,11 @@
+pub mod ListLemmas
+pub mod LinkLemmas
+pub mod ClosedLemmas
+pub mod RowLemmas
+pub mod QuietLemmas
+pub mod OthersLemmas
+pub mod PromptLemmas
+pub mod ShapeLemmas
+pub mod StepLemmas
+pub mod TreeOfLemmas
+pub mod EndStepLemmas

@@ -1,0 +1,4 @@
+pub mod Reached
+pub mod Prompt
+pub mod TreeOf
+pub mod EndStep

@@ -1,0 +1,5 @@
+use Rattle.ctl_state.proofs.ObjectLemmas.{nobody_is_told}
+use Rattle.ctl_state.proofs.objects.Objects.may_be_told.Goals as goal
+
+pub returns-in-None : goal.returns-in-None
+returns-in-None c = nobody_is_told _ _ c.row.result c.args.id.0 c.self.view_is c.row.ensures c.in-None.is

@@ -1,0 +1,8 @@
+use Rattle.std.specs.Prelude.{refl}
+use Rattle.spec_control.specs.EndpointBook.{is_connect_of, without_first}
+use Rattle.ctl_state.proofs.RegisterLemmas.{now_waiting, names_stand}
+use Rattle.ctl_state.proofs.state.State.take_back.Goals as goal
+
+pub returns-in-Ok-clause-stands : goal.returns-in-Ok-clause-stands
+returns-in-Ok-clause-stands g c = λ k h. names_stand c.args.self.now _ _ _ k c.in-Ok.ensures.ok
+    (now_waiting c.args.self.now.book k.names h.names (without_first (is_connect_of c.args.waiter c.args.at.now))) refl refl refl refl h

@@ -1,0 +1,43 @@
+-- The mailboxes of a context, and the letters in them.
+use Rattle.std.specs.Prelude.{◌≡◌, ◌≢◌, ℕ, List, ◌∷◌, true, map, length, slice_index_or, slice_set, ◌+◌, ◌++◌, All, None}
+use Rattle.mailbox.specs.Mail.{Mail, no_mail}
+use Rattle.spec_control.specs.declared.letter.Letter.{Letter}
+use Rattle.ctl_state.specs.declared.command.Command.{Command}
+
+module _ {L : Type 0} where
+  -- a mailbox, by its number
+  abbrev pub mail_at : List (Mail (Command L)) → ℕ → Mail (Command L)
+  mail_at boxes k = slice_index_or boxes k no_mail
+
+  -- the mailboxes with this one in place of one of them
+  abbrev pub with_mail : ℕ → Mail (Command L) → List (Mail (Command L)) → List (Mail (Command L))
+  with_mail k mail boxes = slice_set boxes k mail
+
+  -- the letters in a mailbox, oldest first
+  abbrev pub letters : Mail (Command L) → List Letter
+  letters mail = map (λ command. command.letter) mail.commands
+
+  -- the oldest command of this mailbox was taken out, and its place is free; the others are as before
+  pub record Takes (k : ℕ) (command : Command L) (old new : List (Mail (Command L))) : Type 0 where
+    pub front : (mail_at old k).commands ≡ command ∷ (mail_at new k).commands
+    pub spare : (mail_at new k).spare ≡ (mail_at old k).spare
+    pub freed : (mail_at new k).freed ≡ true
+    pub others : (j : ℕ) → j ≢ k → mail_at new j ≡ mail_at old j
+    pub many : length new ≡ length old
+
+  -- commands with no load were put behind those that were there, each in room that was kept
+  pub record GrowsBare (old new : Mail (Command L)) : Type 0 where
+    pub more : List (Command L)
+    pub commands : new.commands ≡ old.commands ++ more
+    pub bare : All (λ command. command.load ≡ None) more
+    pub spare : new.spare + length more ≡ old.spare
+    pub freed : new.freed ≡ old.freed
+
+  -- the same of each mailbox
+  pub record PutsBare (old new : List (Mail (Command L))) : Type 0 where
+    pub grows : (k : ℕ) → GrowsBare (mail_at old k) (mail_at new k)
+    pub many : length new ≡ length old
+
+  -- the letters of each mailbox are these
+  pub record AreIn (boxes : List (Mail (Command L))) (letters_in : ℕ → List Letter) : Type 0 where
+    pub each : (k : ℕ) → letters (mail_at boxes k) ≡ letters_in k

@@ -1,0 +1,9 @@
+pub mod Boxes
+pub mod Children
+pub mod Listed
+pub mod Lists
+pub mod Needs
+pub mod Objects
+pub mod Pairs
+pub mod Parts
+pub mod Stands

@@ -1,0 +1,95 @@
+ghost use Rattle.std.specs.Prelude.{◌≡◌, ◌≢◌, ◌+◌, ◌<◌, ◌++◌, ◌∷◌, [], length, replicate, true, IfOk, OnOk, OnErr, IfSome, IfNone};
+ghost use Rattle.mailbox.specs.Mail.{no_mail, with_spare, with_sent, with_put_back};
+ghost use Rattle.ctl_state.specs.Boxes.{mail_at, with_mail, Takes};
+
+use crate::command::Command;
+use mailbox::Mailbox;
+use std::alloc::{AllocError, Global};
+use std::marker::Model;
+use zq_base::SlotId;
+
+/// The mailboxes of a context, by their numbers.
+#[derive(Drop)]
+pub struct Boxes<L> {
+    boxes: Vec<Mailbox<Command<L>>>,
+}
+
+impl<L> Model for Boxes<L> {
+    ghost use Rattle.std.specs.Prelude.{List};
+    ghost use Rattle.mailbox.specs.Mail.{Mail};
+    ghost use Rattle.ctl_state.specs.declared.command.Command.{Command};
+
+    ghost Value = { List (Mail (Command L)) };
+
+    ghost view = { λ b. b.boxes.items };
+}
+
+impl<L: Drop> Boxes<L> {
+    /// So many mailboxes, with no command and no room for one.
+    pub fn empty(alloc: Global, many: usize) -> Result<Boxes<L>, AllocError>
+        ensures { IfOk result (λ b. b ≡ replicate many no_mail) }
+    {
+        let mut boxes = Vec::new(alloc);
+        'boxes: for _ in 0..many {
+            boxes.push(Mailbox::new(alloc))?;
+        }
+        Ok(Boxes { boxes })
+    }
+
+    /// How many mailboxes there are. This is the next one's number.
+    pub fn len(&self) -> usize
+        ensures { result ≡ length self.now }
+    {
+        self.boxes.len()
+    }
+
+    /// Adds a mailbox with room for so many commands.
+    pub fn add(&mut self, alloc: Global, room: usize) -> Result<(), AllocError>
+        ensures ok { OnOk result (self.new ≡ self.old ++ with_spare room no_mail ∷ []) }
+        ensures err { OnErr result (self.new ≡ self.old) }
+    {
+        let mut mailbox = Mailbox::new(alloc);
+        mailbox.reserve(room)?;
+        self.boxes.push(mailbox)?;
+        Ok(())
+    }
+
+    /// Keeps room for so many more commands in a mailbox.
+    pub fn reserve(&mut self, slot: SlotId, more: usize) -> Result<(), AllocError>
+        requires there { slot.0 < length self.old }
+        ensures ok { OnOk result (self.new ≡ with_mail slot.0
+            (with_spare ((mail_at self.old slot.0).spare + more) (mail_at self.old slot.0)) self.old) }
+        ensures err { OnErr result (self.new ≡ self.old) }
+    {
+        self.boxes[slot.0 as usize].reserve(more)?;
+        Ok(())
+    }
+
+    /// Puts a command into a mailbox, in room that was kept.
+    pub fn send(&mut self, slot: SlotId, command: Command<L>)
+        requires room { 0 < (mail_at self.old slot.0).spare }
+        ensures { self.new ≡ with_mail slot.0 (with_sent command (mail_at self.old slot.0)) self.old }
+    {
+        self.boxes[slot.0 as usize].send(command);
+    }
+
+    /// Takes the oldest command of a mailbox out.
+    pub fn take(&mut self, slot: SlotId) -> Option<Command<L>>
+        requires there { slot.0 < length self.old }
+        ensures none { IfNone result
+            (((mail_at self.old slot.0).commands ≡ []) × (self.new ≡ self.old)) }
+        ensures front { IfSome result (λ command. Takes slot.0 command self.old self.new) }
+    {
+        self.boxes[slot.0 as usize].take_front()
+    }
+
+    /// Puts the command back that was taken last, as the oldest.
+    pub fn put_back(&mut self, slot: SlotId, command: Command<L>)
+        requires there { slot.0 < length self.old }
+        requires freed { (mail_at self.old slot.0).freed ≡ true }
+        ensures { self.new
+            ≡ with_mail slot.0 (with_put_back command (mail_at self.old slot.0)) self.old }
+    {
+        self.boxes[slot.0 as usize].put_back(command);
+    }
+}

@@ -1,0 +1,34 @@
+//! What the control plane keeps between two events, and the small updates that its events are made
+//! of.
+//!
+//! Each call is one update of the control state: of whatever control state it stood for before, it
+//! stands for the updated one behind it.
+#![tactic(auto)]
+
+mod belongings;
+mod boxes;
+mod children;
+mod command;
+mod detail;
+mod ending;
+mod ends;
+mod hold;
+mod links;
+mod lists;
+mod mail;
+mod making;
+mod names;
+mod object_children;
+mod object_lists;
+mod objects;
+mod pair;
+mod pairs;
+mod reads;
+mod room_list;
+mod state;
+mod tells;
+
+pub use command::Command;
+pub use detail::{Detail, Made};
+pub use hold::{Held, Hold};
+pub use state::State;

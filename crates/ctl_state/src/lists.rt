@@ -1,0 +1,136 @@
+ghost use Rattle.std.specs.Prelude.{◌≡◌, ◌<◌, find, length, map, option_map, position, OnOk, OnErr};
+ghost use Rattle.spec_control.specs.EndpointBook.{without_first};
+ghost use Rattle.spec_control.specs.Hold.{is_bind_to, is_connect_to, waits_for, fulfil};
+ghost use Rattle.spec_control.specs.After.{with_hold};
+ghost use Rattle.spec_control.specs.Control.{Control, ends_of};
+ghost use Rattle.ctl_state.specs.Listed.{with_last, with_room};
+ghost use Rattle.ctl_state.specs.Lists.{belongings_at, hold_of, with_ends, with_holds};
+ghost use Rattle.ctl_state.specs.Parts.{on_lists};
+ghost use Rattle.ctl_state.specs.Stands.{Stands, Updates, holds_by};
+
+use crate::hold::{Hold, is_bind_to, is_connect_to, waits_for};
+use crate::state::State;
+use std::alloc::AllocError;
+use zq_base::{EndId, Endpoint, ObjId, PairId};
+
+impl<L: Drop> State<L> {
+    /// The ends of an object, in the order of their attachment, those that are gone among them.
+    pub fn ends_of(&self, id: ObjId) -> &[EndId]
+        ensures { (c : Control) → Stands self.now c → result.now ≡ ends_of id.0 c }
+    {
+        self.objects.ends_of(id)
+    }
+
+    /// What a socket has bound and connected, in order.
+    pub fn holds_of(&self, id: ObjId) -> &[Hold]
+        ensures { (c : Control) → Stands self.now c → map hold_of result.now ≡ c.holds id.0 }
+    {
+        self.objects.holds_of(id)
+    }
+
+    /// Keeps room for so many more ends of an object.
+    pub fn reserve_ends(&mut self, id: ObjId, more: usize) -> Result<(), AllocError>
+        requires there { id.0 < length self.old.objects.lists }
+        ensures ok { OnOk result (Updates (λ c. c) self.old self.new) }
+        ensures next { OnOk result (self.new ≡ on_lists (with_ends (with_room more) id.0) self.old) }
+        ensures err { OnErr result (self.new ≡ self.old) }
+    {
+        self.objects.reserve_ends(id, more)?;
+        Ok(())
+    }
+
+    /// Keeps room for so many more binds and connects of a socket.
+    pub fn reserve_holds(&mut self, id: ObjId, more: usize) -> Result<(), AllocError>
+        requires there { id.0 < length self.old.objects.lists }
+        ensures ok { OnOk result (Updates (λ c. c) self.old self.new) }
+        ensures next { OnOk result (self.new ≡ on_lists (with_holds (with_room more) id.0) self.old) }
+        ensures err { OnErr result (self.new ≡ self.old) }
+    {
+        self.objects.reserve_holds(id, more)?;
+        Ok(())
+    }
+
+    /// A socket holds a bind or a connect more, in room that was kept.
+    pub fn hold(&mut self, id: ObjId, hold: Hold)
+        requires room { 0 < (belongings_at self.old.objects.lists id.0).holds.spare }
+        ensures stands { Updates (with_hold id.0 (hold_of hold)) self.old self.new }
+        ensures next { self.new ≡ on_lists (with_holds (with_last hold) id.0) self.old }
+    {
+        self.objects.hold_comes(id, hold);
+    }
+
+    // Where the first bind of a socket to the endpoint stands.
+    fn bind_place(&self, id: ObjId, to: &Endpoint) -> Option<usize>
+        ensures { result ≡ position (λ h. is_bind_to to.now (hold_of h))
+            (belongings_at self.now.objects.lists id.0).holds.items }
+    {
+        self.objects
+            .holds_of(id)
+            .iter()
+            .position(|hold| is_bind_to(hold, to))
+    }
+
+    // Where the first connect of a socket to the endpoint stands.
+    fn connect_place(&self, id: ObjId, to: &Endpoint) -> Option<usize>
+        ensures { result ≡ position (λ h. is_connect_to to.now (hold_of h))
+            (belongings_at self.now.objects.lists id.0).holds.items }
+    {
+        self.objects
+            .holds_of(id)
+            .iter()
+            .position(|hold| is_connect_to(hold, to))
+    }
+
+    // Where the longest waiting connect of a socket to the endpoint stands.
+    fn waiting_place(&self, id: ObjId, to: &Endpoint) -> Option<usize>
+        ensures { result ≡ position (λ h. waits_for to.now (hold_of h))
+            (belongings_at self.now.objects.lists id.0).holds.items }
+    {
+        self.objects
+            .holds_of(id)
+            .iter()
+            .position(|hold| waits_for(hold, to))
+    }
+
+    /// Strikes the first bind of a socket to the endpoint, if there is one.
+    pub fn strike_bind(&mut self, id: ObjId, to: &Endpoint) -> Option<Hold>
+        ensures found { (c : Control) → Stands self.old c →
+            option_map hold_of result ≡ find (is_bind_to to.now) (c.holds id.0) }
+        ensures stands { Updates (holds_by (without_first (is_bind_to to.now)) id.0)
+            self.old self.new }
+        ensures rest { self.new ≡ on_lists (λ _. self.new.objects.lists) self.old }
+    {
+        match self.bind_place(id, to) {
+            Some(place) => return Some(self.objects.hold_goes(id, place)),
+            None => return None,
+        }
+    }
+
+    /// Strikes the first connect of a socket to the endpoint, if there is one.
+    pub fn strike_connect(&mut self, id: ObjId, to: &Endpoint) -> Option<Hold>
+        ensures found { (c : Control) → Stands self.old c →
+            option_map hold_of result ≡ find (is_connect_to to.now) (c.holds id.0) }
+        ensures stands { Updates (holds_by (without_first (is_connect_to to.now)) id.0)
+            self.old self.new }
+        ensures rest { self.new ≡ on_lists (λ _. self.new.objects.lists) self.old }
+    {
+        match self.connect_place(id, to) {
+            Some(place) => return Some(self.objects.hold_goes(id, place)),
+            None => return None,
+        }
+    }
+
+    /// The longest waiting connect of a socket to the endpoint has got this pair.
+    pub fn fulfil(&mut self, id: ObjId, at: &Endpoint, pair: PairId)
+        ensures stands { Updates (holds_by (fulfil at.now pair.0) id.0) self.old self.new }
+        ensures rest { self.new ≡ on_lists (λ _. self.new.objects.lists) self.old }
+    {
+        match self.waiting_place(id, at) {
+            Some(place) => {
+                self.objects.hold_joins(id, place, pair);
+                return;
+            }
+            None => return,
+        }
+    }
+}

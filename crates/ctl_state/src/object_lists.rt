@@ -1,0 +1,100 @@
+ghost use Rattle.std.specs.Prelude.{◌≡◌, ◌<◌, length, slice_index_or, OnOk, OnErr, ◌≤◌, slice_get, IfSome, IfNone};
+ghost use Rattle.ctl_state.specs.Listed.{with_room, with_last};
+ghost use Rattle.ctl_state.specs.Lists.{belongings_at, with_ends, with_holds, without_at, joined_at};
+ghost use Rattle.ctl_state.specs.Objects.{with_lists, detail_at};
+
+use crate::detail::Detail;
+use crate::hold::{Held, Hold};
+use crate::objects::Objects;
+use own_tree::Row;
+use std::alloc::AllocError;
+use zq_base::{EndId, ObjId, PairId};
+
+impl Objects {
+    /// The row of an object in the tree, if there is one of this number.
+    pub fn row(&self, id: ObjId) -> Option<Row>
+        ensures { result ≡ slice_get self.now.tree id.0 }
+    {
+        self.tree.row(id)
+    }
+
+    /// What is known of an object beside its place in the tree, if there is one of this number.
+    pub fn detail(&self, id: ObjId) -> Option<&Detail>
+        ensures some { IfSome result (λ d. d.now ≡ detail_at self.now id.0) }
+        ensures none { IfNone result (length self.now.tree ≤ id.0) }
+    {
+        self.details.get(id.0 as usize)
+    }
+
+    /// The ends of an object, in the order of their attachment, those that are gone among them.
+    pub fn ends_of(&self, id: ObjId) -> &[EndId]
+        ensures { result.now ≡ (belongings_at self.now.lists id.0).ends.items }
+    {
+        match self.lists.get(id.0 as usize) {
+            Some(lists) => return lists.ends.as_slice(),
+            None => return &[],
+        }
+    }
+
+    /// What a socket has bound and connected, in order.
+    pub fn holds_of(&self, id: ObjId) -> &[Hold]
+        ensures { result.now ≡ (belongings_at self.now.lists id.0).holds.items }
+    {
+        match self.lists.get(id.0 as usize) {
+            Some(lists) => return lists.holds.as_slice(),
+            None => return &[],
+        }
+    }
+
+    /// Keeps room for so many more ends of an object.
+    pub fn reserve_ends(&mut self, id: ObjId, more: usize) -> Result<(), AllocError>
+        requires there { id.0 < length self.old.lists }
+        ensures ok { OnOk result (self.new
+            ≡ with_lists (with_ends (with_room more) id.0 self.old.lists) self.old) }
+        ensures err { OnErr result (self.new ≡ self.old) }
+    {
+        self.lists[id.0 as usize].ends.reserve(more)?;
+        Ok(())
+    }
+
+    /// Keeps room for so many more binds and connects of a socket.
+    pub fn reserve_holds(&mut self, id: ObjId, more: usize) -> Result<(), AllocError>
+        requires there { id.0 < length self.old.lists }
+        ensures ok { OnOk result (self.new
+            ≡ with_lists (with_holds (with_room more) id.0 self.old.lists) self.old) }
+        ensures err { OnErr result (self.new ≡ self.old) }
+    {
+        self.lists[id.0 as usize].holds.reserve(more)?;
+        Ok(())
+    }
+
+    /// A socket holds a bind or a connect more, in room that was kept.
+    pub fn hold_comes(&mut self, id: ObjId, hold: Hold)
+        requires room { 0 < (belongings_at self.old.lists id.0).holds.spare }
+        ensures { self.new ≡ with_lists (with_holds (with_last hold) id.0 self.old.lists) self.old }
+    {
+        self.lists[id.0 as usize].holds.push(hold);
+    }
+
+    /// A bind or a connect of a socket is struck.
+    pub fn hold_goes(&mut self, id: ObjId, place: usize) -> Hold
+        requires there { place < length (belongings_at self.old.lists id.0).holds.items }
+        ensures value { result
+            ≡ slice_index_or (belongings_at self.old.lists id.0).holds.items place result }
+        ensures rest { self.new
+            ≡ with_lists (with_holds (without_at place) id.0 self.old.lists) self.old }
+    {
+        self.lists[id.0 as usize].holds.remove(place)
+    }
+
+    /// A connect of a socket that waited has got this pair.
+    pub fn hold_joins(&mut self, id: ObjId, place: usize, pair: PairId)
+        requires there { place < length (belongings_at self.old.lists id.0).holds.items }
+        ensures { self.new
+            ≡ with_lists (with_holds (joined_at place pair) id.0 self.old.lists) self.old }
+    {
+        self.lists[id.0 as usize]
+            .holds
+            .join(place, Held::Joined(pair, None));
+    }
+}

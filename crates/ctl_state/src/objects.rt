@@ -1,0 +1,294 @@
+ghost use Rattle.std.specs.Prelude.{◌≡◌, ◌≢◌, ◌<◌, ◌+◌, ◌^◌, Some, true, false, length, IsTrue, IfOk, OnOk, OnErr};
+ghost use Rattle.spec_control.specs.declared.object.ObjState.TheVariants.{Ended as HasEnded};
+ghost use Rattle.spec_control.specs.declared.stage.Stage.TheVariants.{Alive, Ending as IsEnding, Finished};
+ghost use Rattle.spec_control.specs.declared.stage.Use.{Use};
+ghost use Rattle.spec_control.specs.declared.stage.Use.TheVariants.{Unused, OnItsWay, Used};
+ghost use Rattle.spec_control.specs.Row.{OwnComes, PlugComes, IsTold, TermComes, AsksOver, RequestComes, ReapComes, AckComes, RootAsked, StopPut, StopComes, AsksForLink, AsksForLinger};
+ghost use Rattle.own_tree.specs.Rows.{state_at, state_of, live_objects, may_be_asked, tree_of, IsRight, AddsUp};
+ghost use Rattle.own_tree.specs.declared.ending.Ending.TheVariants.{Ended as DidEnd};
+ghost use Rattle.own_tree.specs.Changes.{as_plugged, change, in_stage, with_bind_sent, with_bind_processed, with_cleared, with_noted, with_request, with_told, without_end};
+ghost use Rattle.ctl_state.specs.Objects.{tree_row, kept_row, with_tree, with_detail, with_attached, with_object, root_kept, row_made, Becomes, Links, MakesRow, TakesChild, TakesEnd, TakesBind};
+
+use crate::belongings::Belongings;
+use crate::detail::{Detail, Made, root_detail};
+use own_tree::{Ending, ObjState, OwnTree, Use};
+use std::alloc::{AllocError, Global};
+use std::marker::Model;
+use zq_base::{EndId, ObjId, SlotId};
+
+/// The objects of a context, by their numbers: their tree, and what is known of each beside it.
+#[derive(Drop)]
+pub struct Objects {
+    pub(crate) tree: OwnTree,
+    pub(crate) details: Vec<Detail>,
+    pub(crate) lists: Vec<Belongings>,
+}
+
+impl Model for Objects {
+    ghost use Rattle.std.specs.Prelude.{◌≡◌, length};
+    ghost use Rattle.ctl_state.specs.Objects.{ObjectRows};
+
+    ghost Value = { ObjectRows };
+
+    ghost view = { λ o. record { tree = o.tree; details = o.details.items; lists = o.lists.items } };
+
+    ghost invariant = { λ o. (length o.details.items ≡ length o.tree)
+        × (length o.lists.items ≡ length o.tree) };
+}
+
+impl Objects {
+    /// The objects of a context at its making: its root.
+    pub fn new(alloc: Global, slot: SlotId) -> Result<Objects, AllocError>
+        ensures { IfOk result (λ o. o ≡ root_kept slot) }
+    {
+        let tree = OwnTree::new(alloc, slot)?;
+        let mut details = Vec::new(alloc);
+        details.push(root_detail(alloc))?;
+        let mut lists = Vec::new(alloc);
+        lists.push(Belongings::new(alloc))?;
+        Ok(Objects {
+            tree,
+            details,
+            lists,
+        })
+    }
+
+    /// The mailbox of an object.
+    pub fn slot(&self, id: ObjId) -> SlotId
+        ensures { result ≡ (tree_row self.now id.0).slot }
+    {
+        match self.tree.row(id) {
+            Some(row) => return row.slot,
+            None => return SlotId(0),
+        }
+    }
+
+    /// An owner processes the Own of a child.
+    pub fn own_comes(&mut self, owner: ObjId, child: ObjId)
+        requires unended { state_at self.old.tree owner ≢ HasEnded }
+        requires owned { (tree_row self.old child.0).owner ≡ Some owner }
+        requires unnoted { (tree_row self.old child.0).noted ≡ false }
+        ensures links { Links OwnComes child.0 self.old self.new }
+        ensures next { self.new ≡ with_tree (with_noted owner child self.old.tree) self.old }
+    {
+        self.tree.note_child(owner, child);
+    }
+
+    /// An object processes its Plug.
+    pub fn plug_comes(&mut self, id: ObjId)
+        requires unended { state_at self.old.tree id ≢ HasEnded }
+        requires unplugged { (tree_row self.old id.0).plugged ≡ false }
+        ensures links { Links PlugComes id.0 self.old self.new }
+        ensures next { self.new ≡ with_tree (change as_plugged id self.old.tree) self.old }
+    {
+        self.tree.on_plug(id);
+    }
+
+    /// A child's Term is put.
+    pub fn is_told(&mut self, owner: ObjId, child: ObjId)
+        requires unended { state_at self.old.tree owner ≢ HasEnded }
+        requires owned { (tree_row self.old child.0).owner ≡ Some owner }
+        requires alive { (tree_row self.old child.0).stage ≡ Alive }
+        ensures links { Links IsTold child.0 self.old self.new }
+        ensures shape { tree_of self.new.tree ≡ tree_of self.old.tree }
+        ensures next { self.new ≡ with_tree (with_told owner child self.old.tree) self.old }
+    {
+        self.tree.tell(owner, child);
+    }
+
+    /// An object processes its Term, or it is the root and is asked.
+    pub fn term_comes(&mut self, id: ObjId)
+        requires told { IsTrue (may_be_asked (tree_row self.old id.0)) }
+        ensures links { Links TermComes id.0 self.old self.new }
+        ensures next { self.new ≡ with_tree (change (in_stage IsEnding) id self.old.tree) self.old }
+    {
+        self.tree.ask(id);
+    }
+
+    /// An object asks to end: a socket is closed.
+    pub fn asks_over(&mut self, id: ObjId)
+        requires unended { state_at self.old.tree id ≢ HasEnded }
+        requires unused { (tree_row self.old id.0).request ≡ Unused }
+        ensures links { Links AsksOver id.0 self.old self.new }
+        ensures next { self.new
+            ≡ with_tree (change (with_request OnItsWay) id self.old.tree) self.old }
+    {
+        self.tree.ask_over(id);
+    }
+
+    /// The owner of an object processes its asking to end.
+    pub fn request_comes(&mut self, id: ObjId)
+        requires coming { (tree_row self.old id.0).request ≡ OnItsWay }
+        ensures links { Links RequestComes id.0 self.old self.new }
+        ensures next { self.new ≡ with_tree (change (with_request Used) id self.old.tree) self.old }
+    {
+        self.tree.on_request(id);
+    }
+
+    /// The root processes a socket's Reap, and the socket's Term is put.
+    pub fn reap_comes(&mut self, socket: ObjId)
+        requires unended { state_at self.old.tree (record { 0 = 0 }) ≢ HasEnded }
+        requires owned { (tree_row self.old socket.0).owner ≡ Some (record { 0 = 0 }) }
+        requires alive { (tree_row self.old socket.0).stage ≡ Alive }
+        requires coming { (tree_row self.old socket.0).request ≡ OnItsWay }
+        ensures links { Links ReapComes socket.0 self.old self.new }
+        ensures next { self.new
+            ≡ with_tree (with_told (record { 0 = 0 }) socket
+            (change (with_request Used) socket self.old.tree)) self.old }
+    {
+        self.tree.on_request(socket);
+        self.tree.tell(ObjId(0), socket);
+    }
+
+    /// The owner of an object processes its TermAck.
+    pub fn ack_comes(&mut self, owner: ObjId, child: ObjId)
+        requires unended { state_at self.old.tree owner ≢ HasEnded }
+        requires owned { (tree_row self.old child.0).owner ≡ Some owner }
+        requires finished { (tree_row self.old child.0).stage ≡ Finished }
+        ensures links { Links AckComes child.0 self.old self.new }
+        ensures next { self.new ≡ with_tree (with_cleared owner child self.old.tree) self.old }
+    {
+        self.tree.on_ack(owner, child);
+    }
+
+    /// A PipeBind is put for an object, or a Plug with its end.
+    pub fn bind_put(&mut self, id: ObjId)
+        requires { TakesBind self.old id }
+        ensures { self.new ≡ with_tree (change with_bind_sent id self.old.tree) self.old }
+    {
+        self.tree.on_sent(id);
+    }
+
+    /// An object processes the bind of an end.
+    pub fn bind_comes(&mut self, id: ObjId)
+        requires unended { state_at self.old.tree id ≢ HasEnded }
+        requires coming { 0 < (tree_row self.old id.0).binds }
+        ensures { self.new ≡ with_tree (change with_bind_processed id self.old.tree) self.old }
+    {
+        self.tree.on_processed(id);
+    }
+
+    /// An end of an object is attached, in room that was kept.
+    pub fn end_comes(&mut self, id: ObjId, e: EndId)
+        requires { TakesEnd self.old id }
+        ensures { self.new ≡ with_attached id e self.old }
+    {
+        self.tree.owe(id);
+        self.lists[id.0 as usize].ends.push(e);
+    }
+
+    /// An end of an object is gone.
+    pub fn end_goes(&mut self, id: ObjId)
+        requires unended { state_at self.old.tree id ≢ HasEnded }
+        requires attached { 0 < (tree_row self.old id.0).ends }
+        ensures { self.new ≡ with_tree (change without_end id self.old.tree) self.old }
+    {
+        self.tree.on_gone(id);
+    }
+
+    /// How many objects were made.
+    pub fn len(&self) -> usize
+        ensures { result ≡ length self.now.tree }
+    {
+        self.tree.len()
+    }
+
+    /// How many objects have not ended.
+    pub fn live(&self) -> usize
+        ensures { result ≡ live_objects self.now.tree }
+    {
+        self.tree.live()
+    }
+
+    /// How far the root is.
+    pub fn root(&self) -> ObjState
+        ensures { result ≡ state_of (tree_row self.now 0).stage }
+    {
+        match self.tree.row(ObjId(0)) {
+            Some(row) => return row.state(),
+            None => return ObjState::Ended,
+        }
+    }
+
+    /// The owner of an object, which the root alone has not.
+    pub fn owner(&self, id: ObjId) -> Option<ObjId>
+        ensures { result ≡ (tree_row self.now id.0).owner }
+    {
+        match self.tree.row(id) {
+            Some(row) => return row.owner,
+            None => return None,
+        }
+    }
+
+    /// Ends an object if nothing keeps it. Whether it ended is the answer.
+    pub fn ends(&mut self, id: ObjId) -> bool
+        requires unended { state_at self.old.tree id ≢ HasEnded }
+        ensures yes { result ≡ true → IsRight self.old.tree id DidEnd }
+        ensures no { result ≡ false → IsRight self.old.tree id DidEnd → ⊥ }
+        ensures ended { result ≡ true →
+            Becomes id.0 (record (kept_row self.old id.0) { stage = Finished }) self.old self.new }
+        ensures others { result ≡ false → self.new ≡ self.old }
+        ensures adds { AddsUp self.old.tree id }
+    {
+        self.tree.add_up();
+        match self.tree.try_end(id) {
+            Ending::Ended => return true,
+            _ => return false,
+        }
+    }
+
+    /// Makes an object.
+    pub fn make(&mut self, alloc: Global, owner: ObjId, made: Made) -> Result<ObjId, AllocError>
+        requires { TakesChild self.old owner }
+        ensures number { IfOk result (λ id. id.0 ≡ length self.old.tree) }
+        ensures ok { OnOk result (self.new ≡ with_object owner made self.old) }
+        ensures row { OnOk result (MakesRow (row_made owner made) self.old self.new) }
+        ensures err { OnErr result (self.new ≡ self.old) }
+    {
+        self.details.reserve(1)?;
+        self.lists.reserve(1)?;
+        let id = self
+            .tree
+            .make(alloc, owner, made.kind, made.slot, made.plug)?;
+        self.details.push_reserved(made.detail);
+        self.lists.push_reserved(Belongings::new(alloc));
+        Ok(id)
+    }
+
+    /// A socket's Stop is put.
+    pub fn stop_put(&mut self, id: ObjId)
+        requires there { id.0 < length self.old.tree }
+        ensures links { Links StopPut id.0 self.old self.new }
+        ensures shape { tree_of self.new.tree ≡ tree_of self.old.tree }
+        ensures next { self.new ≡ with_detail (λ d. record d { stop = OnItsWay }) id.0 self.old }
+    {
+        self.details[id.0 as usize].stop = Use::OnItsWay;
+    }
+
+    /// A socket processes its Stop.
+    pub fn stop_comes(&mut self, id: ObjId)
+        requires there { id.0 < length self.old.tree }
+        ensures links { Links StopComes id.0 self.old self.new }
+        ensures next { self.new ≡ with_detail (λ d. record d { stop = Used }) id.0 self.old }
+    {
+        self.details[id.0 as usize].stop = Use::Used;
+    }
+
+    /// A session has asked its end by a request, since its link ended.
+    pub fn asks_for_link(&mut self, id: ObjId)
+        requires there { id.0 < length self.old.tree }
+        ensures links { Links AsksForLink id.0 self.old self.new }
+        ensures next { self.new ≡ with_detail (λ d. record d { asked_link = true }) id.0 self.old }
+    {
+        self.details[id.0 as usize].asked_link = true;
+    }
+
+    /// A session has asked its end by a request, since its linger is over.
+    pub fn asks_for_linger(&mut self, id: ObjId)
+        requires there { id.0 < length self.old.tree }
+        ensures links { Links AsksForLinger id.0 self.old self.new }
+        ensures next { self.new ≡ with_detail (λ d. record d { asked_linger = true }) id.0 self.old }
+    {
+        self.details[id.0 as usize].asked_linger = true;
+    }
+}

@@ -1,0 +1,14 @@
+use Rattle.std.proofs.Common.{List, [], ◌∷◌, ◌++◌, Bool, true, ap, sym, ◌∙◌, ltb-true}
+use Rattle.spec_pattern.specs.Half.{Writing, fresh_writing}
+use Rattle.msg_pipe.specs.declared.plain_pipe.PlainPipe.{PlainPipe}
+use Rattle.msg_pipe.specs.PlainPipe.{plain_writing}
+use Rattle.msg_pipe.specs.PlainPipes.{told_of}
+use Rattle.msg_pipe.proofs.PlainPipesLemmas.{seen_here}
+use Rattle.msg_pipe.proofs.plain_pipes.PlainPipesPipes.story_out.Goals as goal
+
+pub returns : goal.returns
+returns c =
+    let ps = c.args.self.now.pipes.items in
+    let p = c.index.result.now in
+    let seen = seen_here plain_writing (fresh_writing 0) ps c.args.o.now.number p (sym c.index.ensures) (ltb-true _ _ c.requires) in
+    ap told_of (c.and.ensures ∙ ap (λ (l : List (PlainPipe × Bool)). l ++ (p, true) ∷ []) c.new.ensures) ∙ sym (ap (λ (h : Writing). h.committed) seen)

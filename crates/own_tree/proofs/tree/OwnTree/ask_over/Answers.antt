@@ -1,0 +1,15 @@
+use Rattle.std.specs.Prelude.{refl}
+use Rattle.spec_control.specs.declared.stage.Use.TheVariants.{OnItsWay}
+use Rattle.own_tree.specs.Changes.{with_request}
+use Rattle.own_tree.proofs.RowLemmas.{has_row, makes_no_move}
+use Rattle.own_tree.proofs.KeptLemmas.{kept_in}
+use Rattle.own_tree.proofs.tree.OwnTree.ask_over.Goals as goal
+
+pub invariant_of-self : goal.invariant_of-self
+invariant_of-self c =
+    kept_in (with_request OnItsWay) _ _ _ _ _ c.args.id c.index_mut.result.now c.self.view_is (has_row _ _ c.requires.unended) c.index_mut.ensures.value c.self.invariant
+    (record { owner = refl; noted = refl; awaited = λ id. refl }) refl
+    (λ u a h. record { sent = h.sent; owed = h.owed; sent_fits = h.sent_fits; ends_fit = h.ends_fit })
+
+pub returns-clause-moves : goal.returns-clause-moves
+returns-clause-moves c = makes_no_move _ _ c.args.id _ c.index_mut.result.now c.self.view_is c.requires.unended c.index_mut.ensures.value refl refl

@@ -1,0 +1,13 @@
+use Rattle.own_tree.proofs.BothLemmas.{noted_tally, noted_in, noting_moves}
+use Rattle.own_tree.proofs.tree.OwnTree.note_child.Goals as goal
+
+pub overflow_sub-index_mut : goal.overflow_sub-index_mut
+overflow_sub-index_mut c =
+    (noted_tally _ _ _ _ _ c.args.owner c.args.child _ c.self.view_is c.self.invariant c.requires.unended c.requires.owned c.requires.unnoted c.index_mut.ensures.value).1
+
+pub invariant_of-self : goal.invariant_of-self
+invariant_of-self c =
+    noted_in _ _ _ _ _ _ c.args.owner c.args.child c.index_mut.result.now c.self.view_is c.note.ensures c.self.invariant c.requires.unended c.requires.owned c.requires.unnoted c.index_mut.ensures.value
+
+pub returns-clause-moves : goal.returns-clause-moves
+returns-clause-moves c = noting_moves _ _ _ c.args.owner c.args.child c.self.view_is c.note.ensures

@@ -1,0 +1,15 @@
+use Rattle.std.specs.Prelude.{refl}
+use Rattle.own_tree.specs.Changes.{as_plugged}
+use Rattle.own_tree.proofs.RowLemmas.{has_row, makes_no_move}
+use Rattle.own_tree.proofs.KeptLemmas.{plugged_adds}
+use Rattle.own_tree.proofs.KeptLemmas.{kept_in}
+use Rattle.own_tree.proofs.tree.OwnTree.on_plug.Goals as goal
+
+pub invariant_of-self : goal.invariant_of-self
+invariant_of-self c =
+    kept_in as_plugged _ _ _ _ _ c.args.id c.index_mut-row.result.now c.self.view_is (has_row _ _ c.requires.unended) c.index_mut-row.ensures.value c.self.invariant
+    (record { owner = refl; noted = refl; awaited = λ id. refl }) refl
+    (λ u a h. plugged_adds _ u a c.requires.unplugged h)
+
+pub returns-clause-moves : goal.returns-clause-moves
+returns-clause-moves c = makes_no_move _ _ c.args.id _ c.index_mut-row.result.now c.self.view_is c.requires.unended c.index_mut-row.ensures.value refl refl

@@ -1,0 +1,15 @@
+use Rattle.std.specs.Prelude.{refl}
+use Rattle.spec_control.specs.declared.stage.Use.TheVariants.{Used}
+use Rattle.own_tree.specs.Changes.{with_request}
+use Rattle.own_tree.proofs.RowLemmas.{coming_has_row, keeps_tree}
+use Rattle.own_tree.proofs.KeptLemmas.{kept_in}
+use Rattle.own_tree.proofs.tree.OwnTree.on_request.Goals as goal
+
+pub invariant_of-self : goal.invariant_of-self
+invariant_of-self c =
+    kept_in (with_request Used) _ _ _ _ _ c.args.id c.index_mut.result.now c.self.view_is (coming_has_row _ _ c.requires.coming) c.index_mut.ensures.value c.self.invariant
+    (record { owner = refl; noted = refl; awaited = λ id. refl }) refl
+    (λ u a h. record { sent = h.sent; owed = h.owed; sent_fits = h.sent_fits; ends_fit = h.ends_fit })
+
+pub returns-clause-moves : goal.returns-clause-moves
+returns-clause-moves c = keeps_tree _ _ c.args.id _ c.index_mut.result.now c.self.view_is (coming_has_row _ _ c.requires.coming) c.index_mut.ensures.value refl refl

@@ -1,0 +1,4 @@
+pub mod PlacesLemmas
+pub mod WriterLemmas
+pub mod ReaderLemmas
+pub mod HalvesLemmas

@@ -1,0 +1,3 @@
+pub mod AcrossLemmas
+pub mod CountLemmas
+pub mod ExampleLemmas

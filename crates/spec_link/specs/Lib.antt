@@ -1,0 +1,12 @@
+pub use Rattle.spec_pattern.specs.PipeStep
+pub use Rattle.spec_zmtp.specs.DecodedStream
+pub mod LinkAct
+pub mod LinkRun
+pub mod Parts
+pub mod Rows
+pub mod InFlight
+pub mod History
+pub mod Turn
+pub mod Listening
+pub mod Across
+pub mod Examples

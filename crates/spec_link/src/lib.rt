@@ -1,0 +1,14 @@
+//! Links, sessions and listeners as definitions: their acts, the run of a link, a session's turn,
+//! and the rows that are read off its history.
+#![tactic(auto)]
+
+mod due;
+mod laws;
+mod row;
+
+pub use due::Due;
+pub use laws::{
+    one_message_is_in_flight, what_is_put_was_taken_across_a_link, what_is_said_whole_is_written,
+    worked_links_run,
+};
+pub use row::{LinkEnd, ListenerRow, SessionRow};

@@ -1,0 +1,29 @@
+use Rattle.std.proofs.Common.{◌≡◌, ap, sym, subst, ◌||◌, ◌∙◌, ℕ, List, Some, None, nat_eq}
+use Rattle.std.specs.Option.{is_some}
+use Rattle.sub_table.specs.View.{Gains, entries_of, is_peer, holds, holders_of}
+use Rattle.sub_table.proofs.HoldLemmas.{lookup-updated, holders_of-found, Gains-set, holds-kept}
+use Rattle.sub_table.proofs.holders.Holders.add.Goals as goal
+
+pub begin-requires : goal.begin-requires
+begin-requires c =
+    ap (λ m. holders_of (entries_of m.entries) c.args.topic.now) c.get_mut.follows.holds-at-none
+    ∙ holders_of-found c.args.topic.now c.self.inside.by_topic None c.in-None.ensures.value
+
+pub returns-in-Ok-clause-ok : goal.returns-in-Ok-clause-ok
+returns-in-Ok-clause-ok c =
+    let new = (c.get_mut.follows.lender c.add.new.self).entries in
+    subst (λ held. Gains c.args.topic.now c.args.peer held (entries_of new)) c.self.view_is
+    (Gains-set c.args.topic.now c.args.peer c.add.new.self (entries_of c.self.inside.by_topic.entries) (entries_of new)
+    (λ t. lookup-updated c.args.topic.now t c.self.inside.by_topic (c.get_mut.follows.lender c.add.new.self) (Some c.add.new.self)
+    ((c.get_mut.follows.holds c.add.new.self).3 (ap is_some (sym c.in-Some.ensures.value))))
+    (λ q. c.in-Ok.ensures.ok q
+    ∙ ap (λ peers. nat_eq c.args.peer q || is_peer peers q) (sym (holders_of-found c.args.topic.now c.self.inside.by_topic (Some c.in-Some.peers.now) c.in-Some.ensures.value))))
+
+pub returns-in-Err-clause-err : goal.returns-in-Err-clause-err
+returns-in-Err-clause-err c = λ t q.
+    let new = (c.get_mut.follows.lender c.add.new.self).entries in
+    holds-kept c.args.topic.now c.add.new.self (entries_of c.self.inside.by_topic.entries) (entries_of new)
+    (λ t. lookup-updated c.args.topic.now t c.self.inside.by_topic (c.get_mut.follows.lender c.add.new.self) (Some c.add.new.self)
+    ((c.get_mut.follows.holds c.add.new.self).3 (ap is_some (sym c.in-Some.ensures.value))))
+    (c.in-Err.ensures.err ∙ sym (holders_of-found c.args.topic.now c.self.inside.by_topic (Some c.in-Some.peers.now) c.in-Some.ensures.value)) t q
+    ∙ ap (λ held. holds held t q) c.self.view_is

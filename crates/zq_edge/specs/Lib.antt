@@ -1,0 +1,2 @@
+pub use Rattle.zq_top.specs.Headline
+pub mod Edge

@@ -1,0 +1,241 @@
+ghost use Rattle.std.specs.Prelude.{◌≡◌};
+ghost use Rattle.std.specs.Net.Addr.{ipv4_octets};
+ghost use Rattle.std.specs.Net.Socket.{v4_ip, v4_port};
+
+use crate::answer::{Trouble, is_drained, meaning};
+use crate::net_link::NetLink;
+use crate::ready::Ready;
+use crate::watch::Watch;
+use indexmap::IndexMap;
+use mio::Interest;
+use mio::net::{TcpListener, TcpStream};
+use std::alloc::{AllocError, Global};
+use std::io;
+use std::io::ErrorKind;
+use std::marker::Model;
+use std::net::{Ipv4Addr, Net, SocketAddr, SocketAddrV4};
+use std::sync::Arc;
+use std::time::Duration;
+use zq_base::Address;
+use zq_outer::{Dialled, Host, Listened};
+
+/// A socket that the host has, with what is known of its readiness.
+#[derive(Drop)]
+struct Watched<S> {
+    socket: S,
+    ready: Arc<Ready>,
+}
+
+/// A host over TCP. Want of memory is a fault, too.
+#[derive(Drop)]
+pub struct NetHost<'r, R: Net> {
+    rt: &'r R,
+    watch: Watch,
+    listeners: IndexMap<u32, Watched<TcpListener>>,
+    dials: IndexMap<u32, Watched<TcpStream>>,
+    faults: u64,
+    stalls: u64,
+}
+
+impl<'r, R: Net> Model for NetHost<'r, R> {
+    ghost use Rattle.zq_net.specs.Counts.{HostCounts};
+
+    ghost Value = { HostCounts };
+
+    ghost view = { λ h. record { faults = h.faults; stalls = h.stalls } };
+}
+
+impl<'r, R: Net> NetHost<'r, R> {
+    ghost use Rattle.std.specs.Prelude.{◌≡◌, IfOk, OnErr, MatchOption};
+    ghost use Rattle.zq_outer.specs.Count.{RoseIf};
+    ghost use Rattle.zq_outer.specs.declared.host.Dialled.TheVariants as dial;
+
+    /// A host with no listener and no dial. Where the system gives it no poll, each call of it fails.
+    pub fn new(rt: &'r R, alloc: Global) -> Result<NetHost<'r, R>, AllocError>
+        ensures counts { IfOk result (λ h. h ≡ record { faults = 0; stalls = 0 }) }
+    {
+        Ok(NetHost {
+            rt,
+            watch: Watch::new(rt, alloc)?,
+            listeners: IndexMap::new(alloc),
+            dials: IndexMap::new(alloc),
+            faults: 0,
+            stalls: 0,
+        })
+    }
+
+    // Begins to listen.
+    fn begin_listening(&mut self, key: u32, at: &Address) -> io::Result<()>
+        ensures counts { self.new ≡ self.old }
+    {
+        let mut socket = TcpListener::bind(self.rt, SocketAddr::V4(socket_addr(at)))?;
+        let ready = self.watch.add(&mut socket, Interest::READABLE)?;
+        self.listeners.insert(key, Watched { socket, ready })?;
+        Ok(())
+    }
+
+    // Begins to dial.
+    fn begin_dialling(&mut self, key: u32, to: &Address) -> io::Result<()>
+        ensures counts { self.new ≡ self.old }
+    {
+        let mut socket = TcpStream::connect(self.rt, SocketAddr::V4(socket_addr(to)))?;
+        let ready = self.watch.add(&mut socket, both_ways())?;
+        self.dials.insert(key, Watched { socket, ready })?;
+        Ok(())
+    }
+
+    // The next link that came to a listener, unless none is known to wait.
+    fn next_link(&mut self, key: u32) -> io::Result<Option<NetLink>>
+        ensures counts { self.new ≡ self.old }
+    {
+        let Some(listener) = self.listeners.get(&key) else {
+            return Err(io::Error::from(ErrorKind::NotFound));
+        };
+        if !listener.ready.take_read() {
+            self.watch.look_if_due()?;
+            if !listener.ready.take_read() {
+                return Ok(None);
+            }
+        }
+        let got = listener.socket.accept();
+        if !is_drained(&got) {
+            listener.ready.read_goes_on();
+        }
+        match got {
+            Ok((mut stream, _)) => {
+                let ready = self.watch.add(&mut stream, both_ways())?;
+                let link = self.link(stream, ready)?;
+                Ok(Some(link))
+            }
+            Err(error) if meaning(error.kind()) == Trouble::Failed => Err(error),
+            Err(_) => Ok(None),
+        }
+    }
+
+    // The link of a dial, which is begun where it isn't there, unless it isn't known to be connected.
+    fn dialled(&mut self, key: u32, to: &Address) -> io::Result<Option<NetLink>>
+        ensures counts { self.new ≡ self.old }
+    {
+        if !self.dials.contains_key(&key) {
+            self.begin_dialling(key, to)?;
+        }
+        let Some(dial) = self.dials.get(&key) else {
+            return Err(io::Error::from(ErrorKind::NotFound));
+        };
+        if !dial.ready.take_write() {
+            self.watch.look_if_due()?;
+            if !dial.ready.take_write() {
+                return Ok(None);
+            }
+        }
+        if !is_connected(&dial.socket)? {
+            return Ok(None);
+        }
+        let Some(dial) = self.dials.swap_remove(&key) else {
+            return Err(io::Error::from(ErrorKind::NotFound));
+        };
+        dial.ready.write_goes_on();
+        let link = self.link(dial.socket, dial.ready)?;
+        Ok(Some(link))
+    }
+
+    // A link over a stream that is connected and watched.
+    fn link(&self, stream: TcpStream, ready: Arc<Ready>) -> io::Result<NetLink>
+        ensures counts { IfOk result (λ l. l ≡ record { faults = 0; stalls = 0; ends = 0 }) }
+    {
+        stream.set_nodelay(true)?;
+        Ok(NetLink::new(stream, ready, self.watch.looks()?))
+    }
+
+    // The answer of an accept or a connect, counted.
+    fn answer(&mut self, link: io::Result<Option<NetLink>>) -> Dialled<NetLink>
+        ensures ok { IfOk link (λ found. MatchOption found (result ≡ dial.NotReady) (λ l. result ≡ dial.Linked l)) }
+        ensures err { OnErr link (result ≡ dial.Failed) }
+        ensures faults { RoseIf self.old.faults self.new.faults (result ≡ dial.Failed) }
+        ensures stalls { RoseIf self.old.stalls self.new.stalls (result ≡ dial.NotReady) }
+    {
+        match link {
+            Ok(Some(link)) => Dialled::Linked(link),
+            Ok(None) => {
+                self.stalls = self.stalls.saturating_add(1);
+                Dialled::NotReady
+            }
+            Err(_) => {
+                self.faults = self.faults.saturating_add(1);
+                Dialled::Failed
+            }
+        }
+    }
+}
+
+impl<'r, R: Net> Host for NetHost<'r, R> {
+    type L = NetLink;
+
+    ghost faults = { λ h. h.faults };
+
+    ghost stalls = { λ h. h.stalls };
+
+    fn listen(&mut self, key: u32, at: &Address) -> Listened {
+        match self.begin_listening(key, at) {
+            Ok(()) => Listened::Listening,
+            Err(_) => {
+                self.faults = self.faults.saturating_add(1);
+                Listened::Failed
+            }
+        }
+    }
+
+    fn accept(&mut self, key: u32) -> Dialled<NetLink> {
+        let link = self.next_link(key);
+        self.answer(link)
+    }
+
+    fn connect(&mut self, key: u32, to: &Address) -> Dialled<NetLink> {
+        let link = self.dialled(key, to);
+        if link.is_err() {
+            self.dials.swap_remove(&key);
+        }
+        self.answer(link)
+    }
+
+    fn forget(&mut self, key: u32) {
+        self.listeners.swap_remove(&key);
+        self.dials.swap_remove(&key);
+    }
+
+    fn rest(&mut self, ms: u32) {
+        if self
+            .watch
+            .look(Duration::from_millis(u64::from(ms)))
+            .is_err()
+        {
+            self.faults = self.faults.saturating_add(1);
+        }
+    }
+}
+
+// The system's form of an address.
+fn socket_addr(at: &Address) -> SocketAddrV4
+    ensures octets { ipv4_octets (v4_ip result) ≡ at.now.octets }
+    ensures port { v4_port result ≡ at.now.port }
+{
+    let [a, b, c, d] = at.octets;
+    SocketAddrV4::new(Ipv4Addr::new(a, b, c, d), at.port)
+}
+
+// What a link is watched for.
+fn both_ways() -> Interest {
+    Interest::READABLE | Interest::WRITABLE
+}
+
+// Whether a dial is done. A failed one tells its error here.
+fn is_connected(stream: &TcpStream) -> io::Result<bool> {
+    if let Some(error) = stream.take_error()? {
+        return Err(error);
+    }
+    match stream.peer_addr() {
+        Ok(_) => Ok(true),
+        Err(error) if error.kind() == ErrorKind::NotConnected => Ok(false),
+        Err(error) => Err(error),
+    }
+}

@@ -1,0 +1,318 @@
+ghost use Rattle.std.specs.Prelude.{◌≡◌, ◌≤◌, ◌<◌, ◌-◌, ◌++◌, [], ℕ, length, take, option_map, None, Some, IfOk, IfSome};
+ghost use mathlib.Core.List.{IsPrefix};
+ghost use Rattle.zq_outer.specs.Link.{IsHeard, Hears, IsSaid, Says};
+ghost use Rattle.zq_outer.specs.Mates.{AreMates, heard_at, said_at, cut_at, IsSameEnd};
+
+use crate::link::{Link, LinkGot, LinkPut};
+use crate::mem_calls::{MemCalls, Planned};
+use crate::pace::Pace;
+use rtrb::{Consumer, Producer, RingBuffer};
+use std::alloc::{AllocError, Global};
+use std::sync::Arc;
+use std::sync::atomic::AtomicBool;
+use std::sync::atomic::Ordering::SeqCst;
+
+/// One end of a link in memory, which reads what the other end wrote.
+#[derive(Drop)]
+pub struct MemLink {
+    to: Producer<u8, Global>,
+    from: Consumer<u8, Global>,
+    most: usize,
+    left: Option<u64>,
+    is_cut: Arc<AtomicBool>,
+    pace: Option<Pace>,
+    calls: Option<Arc<MemCalls>>,
+    faults: u64,
+    stalls: u64,
+    ends: u64,
+}
+
+impl MemLink {
+    /// Two ends, with room for so many octets each way. A call moves at most so many.
+    pub fn pair(alloc: Global, room: usize, most: usize) -> Result<(MemLink, MemLink), AllocError>
+        requires { 0 < most }
+        ensures mates { IfOk result (λ r. AreMates r.0 r.1) }
+        ensures first { IfOk result (λ r. (heard_at r.0 ≡ []) × (said_at r.0 ≡ [])) }
+        ensures second { IfOk result (λ r. (heard_at r.1 ≡ []) × (said_at r.1 ≡ [])) }
+        ensures uncut { IfOk result (λ r. (cut_at r.0 ≡ None) × (cut_at r.1 ≡ None)) }
+    {
+        let (there, there_end) = RingBuffer::new(alloc, room)?;
+        let (back, back_end) = RingBuffer::new(alloc, room)?;
+        let is_cut = Arc::new(alloc, AtomicBool::new(false))?;
+        let near = MemLink::end(there, back_end, most, Arc::try_clone(&is_cut)?);
+        let far = MemLink::end(back, there_end, most, is_cut);
+        Ok((near, far))
+    }
+
+    // One end over its two rings.
+    fn end(
+        to: Producer<u8, Global>,
+        from: Consumer<u8, Global>,
+        most: usize,
+        is_cut: Arc<AtomicBool>,
+    ) -> MemLink
+        ensures rings { (result.to ≡ to) × (result.from ≡ from) }
+        ensures uncut { result.left ≡ None }
+        ensures most { result.most ≡ most }
+    {
+        MemLink {
+            to,
+            from,
+            most,
+            left: None,
+            is_cut,
+            pace: None,
+            calls: None,
+            faults: 0,
+            stalls: 0,
+            ends: 0,
+        }
+    }
+
+    /// What the one read is a front of what the other wrote.
+    pub fn tell(reader: &mut MemLink, writer: &mut MemLink)
+        requires mates { AreMates writer.old reader.old }
+        ensures mates { AreMates writer.new reader.new }
+        ensures front { IsPrefix (heard_at reader.new) (said_at writer.new) }
+        ensures reader { (heard_at reader.new ≡ heard_at reader.old) × (said_at reader.new ≡ said_at reader.old) }
+        ensures writer { (heard_at writer.new ≡ heard_at writer.old) × (said_at writer.new ≡ said_at writer.old) }
+    {
+        let _ = reader.from.slots_beside(&mut writer.to);
+    }
+
+    /// Its reads and writes go by a plan.
+    pub(crate) fn follow(&mut self, calls: Arc<MemCalls>)
+        ensures { self.new ≡ record self.old { calls = Some calls } }
+    {
+        self.calls = Some(calls);
+    }
+
+    /// Its reads give these pieces.
+    pub(crate) fn follow_pace(&mut self, pace: Pace)
+        ensures { self.new ≡ record self.old { pace = Some pace } }
+    {
+        self.pace = Some(pace);
+    }
+
+    /// It is cut when it has written so many octets.
+    pub(crate) fn cut_after(&mut self, octets: u64)
+        ensures { self.new ≡ record self.old { left = Some octets } }
+    {
+        self.left = Some(octets);
+        if octets == 0 {
+            self.is_cut.store(true, SeqCst);
+        }
+    }
+
+    /// Writes what there is room for, by no plan.
+    pub(crate) fn say(&mut self, octets: &[u8])
+        ensures { self.new ≡ record self.old { to = self.new.to } }
+    {
+        let _ = self.to.push_partial_slice(octets);
+    }
+
+    // Reads what the plan, the cut and the pieces let it.
+    fn try_read(&mut self, buf: &mut [u8]) -> LinkGot
+        requires { 0 < length buf.old }
+        ensures counted { IsHeard result (length buf.old) }
+        ensures bytes { Hears (Some (heard_at self.old)) (Some (heard_at self.new)) result buf.new }
+        ensures others { (said_at self.new ≡ said_at self.old) × (cut_at self.new ≡ cut_at self.old) }
+        ensures counts { (self.new.faults ≡ self.old.faults) × (self.new.stalls ≡ self.old.stalls) × (self.new.ends ≡ self.old.ends) }
+        ensures same { IsSameEnd self.old self.new }
+    {
+        match self.planned_read() {
+            Planned::Goes => {}
+            Planned::Stalls => return LinkGot::NotReady,
+            Planned::Fails => return LinkGot::Failed,
+        }
+        if self.left == Some(0) {
+            return LinkGot::Ended;
+        }
+        // Looked at before the read, so that no octet is missed.
+        let over = self.is_cut.load(SeqCst) || self.from.is_abandoned();
+        let most = self.room(buf.len());
+        let count = self.from.pop_partial_slice(&mut buf[..most]);
+        if count > 0 {
+            self.gave(count);
+            return LinkGot::Bytes(count);
+        }
+        if over && most > 0 {
+            return LinkGot::Ended;
+        }
+        LinkGot::NotReady
+    }
+
+    // Writes what the plan and the cut let it.
+    fn try_write(&mut self, piece: &[u8]) -> LinkPut
+        requires { 0 < length piece.now }
+        ensures counted { IsSaid result (length piece.now) }
+        ensures bytes { Says (Some (said_at self.old)) (Some (said_at self.new)) result piece.now }
+        ensures others { (heard_at self.new ≡ heard_at self.old) × (cut_at self.new ≡ cut_at self.old) }
+        ensures counts { (self.new.faults ≡ self.old.faults) × (self.new.stalls ≡ self.old.stalls) × (self.new.ends ≡ self.old.ends) }
+        ensures same { IsSameEnd self.old self.new }
+    {
+        match self.planned_write() {
+            Planned::Goes => {}
+            Planned::Stalls => return LinkPut::NotReady,
+            Planned::Fails => return LinkPut::Failed,
+        }
+        if self.left == Some(0) || self.is_over() {
+            return LinkPut::Ended;
+        }
+        let count = self.push(piece);
+        if count > 0 {
+            return LinkPut::Took(count);
+        }
+        LinkPut::NotReady
+    }
+
+    // Whether the other end is gone, or the link is cut and all is read that it wrote.
+    fn is_over(&mut self) -> bool
+        ensures octets { (heard_at self.new ≡ heard_at self.old) × (said_at self.new ≡ said_at self.old) }
+        ensures left { self.new.left ≡ self.old.left }
+        ensures counts { (self.new.faults ≡ self.old.faults) × (self.new.stalls ≡ self.old.stalls) × (self.new.ends ≡ self.old.ends) }
+        ensures same { IsSameEnd self.old self.new }
+    {
+        self.to.is_abandoned() || self.is_cut.load(SeqCst) && self.from.is_empty()
+    }
+
+    // How many octets of so many a write may take.
+    fn allowed(&self, len: usize) -> usize
+        ensures within { result ≤ len }
+        ensures uncut { IfSome self.now.left (λ left. result ≤ left) }
+    {
+        let most = len.min(self.most);
+        match self.left {
+            Some(left) if left < most as u64 => left as usize,
+            _ => most,
+        }
+    }
+
+    // Writes what there is room for and the cut lets it.
+    #[tactic(auto, using(crate::proofs::MemLinkLemmas::pushed_front, crate::proofs::MemLinkLemmas::cut_kept))]
+    fn push(&mut self, piece: &[u8]) -> usize
+        ensures count { result ≤ length piece.now }
+        ensures pushed { said_at self.new ≡ said_at self.old ++ take result piece.now }
+        ensures others { (heard_at self.new ≡ heard_at self.old) × (cut_at self.new ≡ cut_at self.old) }
+        ensures counts { (self.new.faults ≡ self.old.faults) × (self.new.stalls ≡ self.old.stalls) × (self.new.ends ≡ self.old.ends) }
+        ensures same { IsSameEnd self.old self.new }
+    {
+        let most = self.allowed(piece.len());
+        let (pushed, _) = self.to.push_partial_slice(&piece[..most]);
+        let count = pushed.len();
+        self.spend(count);
+        count
+    }
+
+    // So many octets were written.
+    fn spend(&mut self, count: usize)
+        requires { IfSome self.old.left (λ left. count ≤ left) }
+        ensures left { self.new.left ≡ option_map (λ left. left - count) self.old.left }
+        ensures others { self.new ≡ record self.old { left = self.new.left } }
+    {
+        if let Some(left) = self.left {
+            self.left = Some(left - count as u64);
+            if left == count as u64 {
+                self.is_cut.store(true, SeqCst);
+            }
+        }
+    }
+
+    // How many octets of so much room a read may give.
+    fn room(&mut self, len: usize) -> usize
+        ensures within { result ≤ len }
+        ensures paced { IfSome self.new.pace (λ p. result ≤ p.first.octets) }
+        ensures others { self.new ≡ record self.old { pace = self.new.pace } }
+    {
+        let most = len.min(self.most);
+        match &mut self.pace {
+            Some(pace) => most.min(pace.next_read()),
+            None => most,
+        }
+    }
+
+    // So many octets were read.
+    fn gave(&mut self, count: usize)
+        requires { IfSome self.old.pace (λ p. count ≤ p.first.octets) }
+        ensures others { self.new ≡ record self.old { pace = self.new.pace } }
+    {
+        if let Some(pace) = &mut self.pace {
+            pace.gave(count);
+        }
+    }
+
+    // What is to become of the next read.
+    fn planned_read(&self) -> Planned {
+        match &self.calls {
+            Some(calls) => calls.next_read(),
+            None => Planned::Goes,
+        }
+    }
+
+    // What is to become of the next write.
+    fn planned_write(&self) -> Planned {
+        match &self.calls {
+            Some(calls) => calls.next_write(),
+            None => Planned::Goes,
+        }
+    }
+}
+
+impl Link for MemLink {
+    ghost use Rattle.std.specs.Prelude.{◌≡◌, ◌<◌, length, Some};
+    ghost use Rattle.zq_outer.specs.Count.{RoseIf};
+    ghost use Rattle.zq_outer.specs.Link.{IsHeard, Hears, IsSaid, Says};
+    ghost use Rattle.zq_outer.specs.Mates.{heard_at, said_at, cut_at, IsSameEnd};
+
+    ghost heard = { λ l. Some (heard_at l) };
+
+    ghost said = { λ l. Some (said_at l) };
+
+    ghost faults = { λ l. l.faults };
+
+    ghost stalls = { λ l. l.stalls };
+
+    ghost ends = { λ l. l.ends };
+
+    fn read(&mut self, buf: &mut [u8]) -> LinkGot
+        requires { 0 < length buf.old }
+        ensures counted { IsHeard result (length buf.old) }
+        ensures bytes { Hears (Some (heard_at self.old)) (Some (heard_at self.new)) result buf.new }
+        ensures others { Some (said_at self.new) ≡ Some (said_at self.old) }
+        ensures faults { RoseIf self.old.faults self.new.faults (result ≡ LinkGot.Failed) }
+        ensures stalls { RoseIf self.old.stalls self.new.stalls (result ≡ LinkGot.NotReady) }
+        ensures ends { RoseIf self.old.ends self.new.ends (result ≡ LinkGot.Ended) }
+        ensures cut { cut_at self.new ≡ cut_at self.old }
+        ensures same { IsSameEnd self.old self.new }
+    {
+        let got = self.try_read(buf);
+        match got {
+            LinkGot::Bytes(_) => {}
+            LinkGot::NotReady => self.stalls = self.stalls.saturating_add(1),
+            LinkGot::Ended => self.ends = self.ends.saturating_add(1),
+            LinkGot::Failed => self.faults = self.faults.saturating_add(1),
+        }
+        got
+    }
+
+    fn write(&mut self, piece: &[u8]) -> LinkPut
+        requires { 0 < length piece.now }
+        ensures counted { IsSaid result (length piece.now) }
+        ensures bytes { Says (Some (said_at self.old)) (Some (said_at self.new)) result piece.now }
+        ensures others { Some (heard_at self.new) ≡ Some (heard_at self.old) }
+        ensures faults { RoseIf self.old.faults self.new.faults (result ≡ LinkPut.Failed) }
+        ensures stalls { RoseIf self.old.stalls self.new.stalls (result ≡ LinkPut.NotReady) }
+        ensures ends { RoseIf self.old.ends self.new.ends (result ≡ LinkPut.Ended) }
+        ensures cut { cut_at self.new ≡ cut_at self.old }
+        ensures same { IsSameEnd self.old self.new }
+    {
+        let put = self.try_write(piece);
+        match put {
+            LinkPut::Took(_) => {}
+            LinkPut::NotReady => self.stalls = self.stalls.saturating_add(1),
+            LinkPut::Ended => self.ends = self.ends.saturating_add(1),
+            LinkPut::Failed => self.faults = self.faults.saturating_add(1),
+        }
+        put
+    }
+}

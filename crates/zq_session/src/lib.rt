@@ -1,0 +1,18 @@
+//! A session: it drives one engine over one link, and moves whole messages between the link and the
+//! pipes of its end.
+#![tactic(auto)]
+
+mod dialler;
+mod laws;
+mod listener;
+mod read_part;
+mod side;
+mod wire;
+mod write_part;
+
+pub use dialler::{Dial, Dialler};
+pub use laws::what_is_kept_is_of_a_link_run;
+pub use listener::{Accepted, Listener};
+pub use side::LinkSide;
+pub use wire::Fetched;
+pub use write_part::Written;

@@ -1,7 +1,0 @@
-use Rattle.zq_tests.proofs.requests.ask.Goals as goal
-
-pub returns-in-Ok-clause-there : goal.returns-in-Ok-clause-there
-returns-in-Ok-clause-there g c = c.send.ensures.below 2 c.requires.there
-
-pub returns-in-Err-Refused-clause-there : goal.returns-in-Err-Refused-clause-there
-returns-in-Err-Refused-clause-there g c = c.send.ensures.below 2 c.requires.there

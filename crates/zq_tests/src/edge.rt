@@ -1,0 +1,114 @@
+use std::alloc::{AllocError, Global};
+use std::io;
+use std::io::{Read, Write};
+use std::test::Fail;
+use zq_edge::serve;
+
+/// A stream that fails at each call.
+#[derive(Drop)]
+struct Broken;
+
+impl Read for Broken {
+    fn read(&mut self, _buf: &mut [u8]) -> io::Result<usize> {
+        Err(io::Error::from(io::ErrorKind::BrokenPipe))
+    }
+}
+
+impl Write for Broken {
+    fn write(&mut self, _buf: &[u8]) -> io::Result<usize> {
+        Err(io::Error::from(io::ErrorKind::BrokenPipe))
+    }
+
+    fn flush(&mut self) -> io::Result<()> {
+        Ok(())
+    }
+}
+
+/// Words of the command line.
+fn list(alloc: Global, words: &[&str]) -> Result<Vec<String>, AllocError> {
+    let mut list = Vec::new(alloc);
+    for word in words {
+        list.push(String::from_str(alloc, word)?)?;
+    }
+    Ok(list)
+}
+
+/// Whether a call over octets in memory ends with this exit code, and this text written.
+fn serves(
+    alloc: Global,
+    words: &[&str],
+    octets: &[u8],
+    code: u8,
+    text: &[u8],
+) -> Result<bool, Fail> {
+    let ended = serve(alloc, list(alloc, words), octets, Vec::new(alloc));
+    Ok(ended.code == code && ended.writer.as_slice() == text)
+}
+
+/// A call: its words, what is read, the exit code, and what is written.
+type Case = (&'static [&'static str], &'static [u8], u8, &'static [u8]);
+
+const CASES: [Case; 5] = [
+    (
+        &["zbus", "run"],
+        b"actor a\nsocket r PULL\n",
+        0,
+        b"a 2 ok o1\ndone\n",
+    ),
+    (&["zbus", "run"], b"x\n", 1, b"script 1 BadWord\n"),
+    (
+        &["zbus", "sing"],
+        b"actor a\n",
+        2,
+        b"usage: zbus run|soak|hear|forward\n",
+    ),
+    (
+        &["zbus", "run", "--turns", "1"],
+        b"actor a\nsocket r PULL\nrecv r\n",
+        8,
+        b"a 2 ok o1\nunfinished\n",
+    ),
+    (
+        &["zbus", "hear", "PULL"],
+        b"\xff\0\0\0\0\0\0\0\0\x7f\x02",
+        9,
+        b"said ff00000000000000007f03004e554c4c000000000000000000000000000000000000000000000000000000000000000000000000000000000000000000000000\nrefused OldVersion at 10\n",
+    ),
+];
+
+#[test]
+fn calls_end_with_their_exit_codes(rt: HostRuntime) -> Result<(), Fail> {
+    for (words, octets, code, text) in &CASES {
+        assert!(rt; serves(rt.alloc(), words, octets, *code, text)?);
+    }
+    Ok(())
+}
+
+#[test]
+fn a_reader_that_fails_ends_with_3(rt: HostRuntime) -> Result<(), Fail> {
+    let alloc = rt.alloc();
+    let ended = serve(
+        alloc,
+        list(alloc, &["zbus", "run"]),
+        Broken,
+        Vec::new(alloc),
+    );
+    assert!(rt; ended.code == 3 && ended.writer.as_slice() == b"read fault\n".as_slice());
+    Ok(())
+}
+
+#[test]
+fn a_writer_that_fails_ends_with_4(rt: HostRuntime) -> Result<(), Fail> {
+    let alloc = rt.alloc();
+    let octets: &[u8] = b"actor a\n";
+    let ended = serve(alloc, list(alloc, &["zbus", "run"]), octets, Broken);
+    assert!(rt; ended.code == 4);
+    Ok(())
+}
+
+#[test]
+fn words_without_memory_end_with_6(rt: HostRuntime) -> Result<(), Fail> {
+    let ended = serve(rt.alloc(), Err(AllocError), Broken, Broken);
+    assert!(rt; ended.code == 6);
+    Ok(())
+}

@@ -1,0 +1,64 @@
+use crate::calls::answers;
+use std::test::Fail;
+use zq_top::Status;
+
+/// The words of each example, its script or octets, and its text: the files of examples/, written by tools/examples.
+const EXAMPLES: [(&[&str], &[u8], &[u8]); 9] = [
+    (
+        &["zbus", "run"],
+        b"# A DEALER sends to two others by turn, and one of them answers.\nactor a\nsocket d DEALER\nsocket x DEALER\nsocket y DEALER\nbind d inproc://q\nconnect x inproc://q\nconnect y inproc://q\nsend d one\nsend d two\nrecv x\nrecv y\nsend y back\nrecv d\n",
+        b"a 3 ok o1\na 4 ok o2\na 5 ok o3\na 6 ok\na 7 ok p1\na 8 ok p2\na 9 ok p1\na 10 ok p2\na 11 msg p1 one\na 12 msg p2 two\na 13 ok p2\na 14 msg p2 back\npipe p1a sent 0 given 0 heard 0 dropped 0 written 0 lost 0 rest 0 -\npipe p1b sent 1 given 1 heard 0 dropped 0 written 0 lost 0 rest 0 -\npipe p2a sent 1 given 1 heard 0 dropped 0 written 0 lost 0 rest 0 -\npipe p2b sent 1 given 1 heard 0 dropped 0 written 0 lost 0 rest 0 -\ndone\n",
+    ),
+    (
+        &[
+            "zbus", "hear", "PULL", "--user", "alice", "--pass", "wonder",
+        ],
+        b"\xff\x00\x00\x00\x00\x00\x00\x00\x01\x7f\x03\x01PLAIN\x00\x00\x00\x00\x00\x00\x00\x00\x00\x00\x00\x00\x00\x00\x00\x00\x00\x00\x00\x00\x00\x00\x00\x00\x00\x00\x00\x00\x00\x00\x00\x00\x00\x00\x00\x00\x00\x00\x00\x00\x00\x00\x00\x00\x00\x00\x00\x04\x13\x05HELLO\x05alice\x06wonder\x04\x1d\x08INITIATE\x0bSocket-Type\x00\x00\x00\x04PUSH\x00\x06secret",
+        b"said ff00000000000000007f0300504c41494e000000000000000000000000000000010000000000000000000000000000000000000000000000000000000000000004080757454c434f4d45041a0552454144590b536f636b65742d547970650000000450554c4c\npeer PUSH -\nmsg secret\nrest 0\n",
+    ),
+    (
+        &["zbus", "hear", "PULL"],
+        b"\xff\x00\x00\x00\x00\x00\x00\x00\x01\x7f\x03\x01NULL\x00\x00\x00\x00\x00\x00\x00\x00\x00\x00\x00\x00\x00\x00\x00\x00\x00\x00\x00\x00\x00\x00\x00\x00\x00\x00\x00\x00\x00\x00\x00\x00\x00\x00\x00\x00\x00\x00\x00\x00\x00\x00\x00\x00\x00\x00\x00\x00\x04\x1a\x05READY\x0bSocket-Type\x00\x00\x00\x04PUSH\x00\x05hello\x01\x01a\x01\x00\x02\x00\x00\x00\x00\x00\x00\x01,xxxxxxxxxxxxxxxxxxxxxxxxxxxxxxxxxxxxxxxxxxxxxxxxxxxxxxxxxxxxxxxxxxxxxxxxxxxxxxxxxxxxxxxxxxxxxxxxxxxxxxxxxxxxxxxxxxxxxxxxxxxxxxxxxxxxxxxxxxxxxxxxxxxxxxxxxxxxxxxxxxxxxxxxxxxxxxxxxxxxxxxxxxxxxxxxxxxxxxxxxxxxxxxxxxxxxxxxxxxxxxxxxxxxxxxxxxxxxxxxxxxxxxxxxxxxxxxxxxxxxxxxxxxxxxxxxxxxxxxxxxxxxxxxxxxxxxxxxxxx",
+        b"said ff00000000000000007f03004e554c4c000000000000000000000000000000000000000000000000000000000000000000000000000000000000000000000000041a0552454144590b536f636b65742d547970650000000450554c4c\npeer PUSH -\nmsg hello\nmsg a - xxxxxxxxxxxxxxxxxxxxxxxxxxxxxxxxxxxxxxxxxxxxxxxxxxxxxxxxxxxxxxxxxxxxxxxxxxxxxxxxxxxxxxxxxxxxxxxxxxxxxxxxxxxxxxxxxxxxxxxxxxxxxxxxxxxxxxxxxxxxxxxxxxxxxxxxxxxxxxxxxxxxxxxxxxxxxxxxxxxxxxxxxxxxxxxxxxxxxxxxxxxxxxxxxxxxxxxxxxxxxxxxxxxxxxxxxxxxxxxxxxxxxxxxxxxxxxxxxxxxxxxxxxxxxxxxxxxxxxxxxxxxxxxxxxxxxxxxxxxx\nrest 0\n",
+    ),
+    (
+        &["zbus", "hear", "REP"],
+        b"\xff\x00\x00\x00\x00\x00\x00\x00\x07\x7f\x03\x01NULL\x00\x00\x00\x00\x00\x00\x00\x00\x00\x00\x00\x00\x00\x00\x00\x00\x00\x00\x00\x00\x00\x00\x00\x00\x00\x00\x00\x00\x00\x00\x00\x00\x00\x00\x00\x00\x00\x00\x00\x00\x00\x00\x00\x00\x00\x00\x00\x00\x04,\x05READY\x0bSocket-Type\x00\x00\x00\x03REQ\x08Identity\x00\x00\x00\x06client\x01\x00\x00\x08question",
+        b"said ff00000000000000007f03004e554c4c00000000000000000000000000000000000000000000000000000000000000000000000000000000000000000000000004190552454144590b536f636b65742d5479706500000003524550\npeer REQ client\nmsg - question\nrest 0\n",
+    ),
+    (
+        &["zbus", "hear", "PUB"],
+        b"\xff\x00\x00\x00\x00\x00\x00\x00\x01\x7f\x03\x01NULL\x00\x00\x00\x00\x00\x00\x00\x00\x00\x00\x00\x00\x00\x00\x00\x00\x00\x00\x00\x00\x00\x00\x00\x00\x00\x00\x00\x00\x00\x00\x00\x00\x00\x00\x00\x00\x00\x00\x00\x00\x00\x00\x00\x00\x00\x00\x00\x00\x04\x19\x05READY\x0bSocket-Type\x00\x00\x00\x03SUB\x00\x05\x01news\x00\x05\x00news",
+        b"said ff00000000000000007f03004e554c4c00000000000000000000000000000000000000000000000000000000000000000000000000000000000000000000000004190552454144590b536f636b65742d5479706500000003505542\npeer SUB -\nmsg 0x016e657773\nmsg 0x006e657773\nrest 0\n",
+    ),
+    (
+        &["zbus", "run"],
+        b"actor a\nsocket r PULL rcvhwm=1\nsocket s PUSH hwm=1\nbind r inproc://q\nconnect s inproc://q\nsend s one\nsend s two\nsend s three\nrecv r\nsend s three\n",
+        b"a 2 ok o1\na 3 ok o2\na 4 ok\na 5 ok p1\na 6 ok p1\na 7 ok p1\na 8 again\na 9 msg p1 one\na 10 ok p1\npipe p1a sent 3 given 1 heard 0 dropped 0 written 0 lost 0 rest 2 closed\npipe p1b sent 0 given 0 heard 0 dropped 0 written 0 lost 0 rest 0 -\ndone\n",
+    ),
+    (
+        &["zbus", "run"],
+        b"# Two PAIRs talk, each to the other alone.\nactor a\nsocket x PAIR\nsocket y PAIR\nbind x inproc://q\nconnect y inproc://q\nsend x one\nrecv y\nsend y two\nrecv x\n",
+        b"a 3 ok o1\na 4 ok o2\na 5 ok\na 6 ok p1\na 7 ok p1\na 8 msg p1 one\na 9 ok p1\na 10 msg p1 two\npipe p1a sent 1 given 1 heard 0 dropped 0 written 0 lost 0 rest 0 -\npipe p1b sent 1 given 1 heard 0 dropped 0 written 0 lost 0 rest 0 -\ndone\n",
+    ),
+    (
+        &["zbus", "run"],
+        b"# A ventilator hands out work; two workers take it by turn.\nactor ventilator\nsocket out PUSH\nbind out inproc://work\nsend out job 1\nsend out job 2\nsend out job 3\nactor one\nsocket in PULL\nconnect in inproc://work\nrecv in\nrecv in tries=5\nactor two\nsocket in PULL\nconnect in inproc://work\nrecv in tries=5\nrecv in tries=2\n",
+        b"ventilator 3 ok o1\nventilator 4 ok\nventilator 5 ok p1\nventilator 6 ok p2\nventilator 7 ok p1\none 9 ok o2\none 10 ok p1\none 11 msg p1 job 1\none 12 msg p1 job 3\ntwo 14 ok o3\ntwo 15 ok p2\ntwo 16 msg p2 job 2\ntwo 17 again\npipe p1a sent 0 given 0 heard 0 dropped 0 written 0 lost 0 rest 0 -\npipe p1b sent 2 given 2 heard 0 dropped 0 written 0 lost 0 rest 0 -\npipe p2a sent 0 given 0 heard 0 dropped 0 written 0 lost 0 rest 0 -\npipe p2b sent 1 given 1 heard 0 dropped 0 written 0 lost 0 rest 0 -\ndone\n",
+    ),
+    (
+        &["zbus", "run", "--seed", "3"],
+        b"# Run with --seed 3: the sender's socket is made first, and its message is there when it is looked for.\nactor a\nsocket r PULL\nbind r inproc://q\nrecv r\nactor b\nsocket s PUSH\nconnect s inproc://q\nsend s m\n",
+        b"a 3 ok o2\na 4 ok\na 5 msg p1 m\nb 7 ok o1\nb 8 ok p1\nb 9 ok p1\npipe p1a sent 1 given 1 heard 0 dropped 0 written 0 lost 0 rest 0 -\npipe p1b sent 0 given 0 heard 0 dropped 0 written 0 lost 0 rest 0 -\ndone\n",
+    ),
+];
+
+#[test]
+fn each_example_has_its_text(rt: HostRuntime) -> Result<(), Fail> {
+    let alloc = rt.alloc();
+    for (words, input, text) in EXAMPLES {
+        let told = answers(alloc, words, input, Status::Done, text)?;
+        assert!(rt; told);
+    }
+    Ok(())
+}

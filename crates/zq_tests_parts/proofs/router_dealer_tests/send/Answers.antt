@@ -1,0 +1,13 @@
+use Rattle.std.proofs.Common.{◌<◌, ℕ, List, All, length, sym, subst}
+use Rattle.std.proofs.lemmas.List.Sorted.{All-permutation}
+use Rattle.zq_tests_parts.proofs.router_dealer_tests.send.Goals as goal
+
+pub returns : goal.returns
+returns c = record {
+  outs =
+      All-permutation (λ (k : ℕ). k < length c.send.new.peers) c.args.dealer.now.outs c.send.new.self.outs c.send.ensures.places
+      (λ k d within. c.send.ensures.keeps.stay _ (c.requires.outs k d within));
+  ins =
+      subst (λ (l : List ℕ). All (λ (k : ℕ). k < length c.send.new.peers) l) (sym c.send.ensures.ins)
+      (λ k d within. c.send.ensures.keeps.stay _ (c.requires.ins k d within));
+}

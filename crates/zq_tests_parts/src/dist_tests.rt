@@ -1,0 +1,82 @@
+ghost use Rattle.std.specs.Prelude.{◌≡◌, All, true};
+
+use crate::messages::message;
+use crate::peers::TestPeers;
+use dist::{Report, send_to};
+use msg_pipe::{Peers, Taken};
+use std::alloc::Global;
+use std::test::Fail;
+
+/// Whether there are such places and all can be written.
+fn are_open(peers: &TestPeers, places: &[usize]) -> bool
+    ensures there { result ≡ true →
+        All (λ place. ⟦<TestPeers as Peers>⟧.here peers.now place) places.now }
+    ensures open { result ≡ true →
+        All (λ place. ⟦<TestPeers as Peers>⟧.writable peers.now place ≡ true) places.now }
+{
+    'places: for place in places {
+        if *place >= peers.count() {
+            return false;
+        }
+        if !peers.can_write(*place) {
+            return false;
+        }
+    }
+    true
+}
+
+/// Sends to places that are tested.
+fn send(
+    alloc: Global,
+    peers: &mut TestPeers,
+    places: &[usize],
+    octets: &[u8],
+) -> Result<Report<usize>, Fail> {
+    let message = message(alloc, octets)?;
+    if !are_open(peers, places) {
+        Err("open places")?;
+    }
+    match send_to(alloc, peers, places, message) {
+        Ok(report) => Ok(report),
+        Err(_refused) => Err("memory")?,
+    }
+}
+
+/// How many messages come out at the far end of a place, of at most four.
+fn far_copies(peers: &mut TestPeers, place: usize) -> Result<usize, Fail> {
+    let mut copies = 0usize;
+    for _ in 0..4 {
+        match peers.far_take(place)? {
+            Taken::Item(_message) => copies = copies.wrapping_add(1),
+            _other => {}
+        }
+    }
+    Ok(copies)
+}
+
+#[test]
+fn a_copy_goes_to_each_place_with_room(rt: HostRuntime) -> Result<(), Fail> {
+    let alloc = rt.alloc();
+    let mut peers = TestPeers::new(alloc);
+    peers.attach(alloc, 2)?;
+    peers.attach(alloc, 1)?;
+    peers.attach(alloc, 2)?;
+    let cases: [(&[usize], &[usize], &[usize]); 4] = [
+        (&[], &[], &[]),
+        (&[1], &[1], &[]),
+        (&[2, 1, 0], &[2, 0], &[1]),
+        (&[0, 1], &[0], &[1]),
+    ];
+    for (places, put, full) in cases {
+        let report = send(alloc, &mut peers, places, b"all")?;
+        assert_eq!(rt; report.put.as_slice(), put);
+        assert_eq!(rt; report.full.as_slice(), full);
+    }
+    let copies = [
+        far_copies(&mut peers, 0)?,
+        far_copies(&mut peers, 1)?,
+        far_copies(&mut peers, 2)?,
+    ];
+    assert_eq!(rt; copies, [2, 1, 1]);
+    Ok(())
+}

@@ -1,0 +1,65 @@
+ghost use Rattle.std.specs.Prelude.{◌≡◌, length, ◌<◌, ◌∷◌, [], ℕ, All, IfOk};
+
+use crate::messages::message;
+use crate::peers::TestPeers;
+use fair_queue::{NextIn, Turns, next_in, no_peer_with_messages_is_passed_over};
+use std::alloc::Global;
+use std::test::Fail;
+
+/// Three pairs.
+fn three(alloc: Global) -> Result<TestPeers, Fail>
+    ensures { IfOk result (λ p. length p ≡ 3) }
+{
+    let mut peers = TestPeers::new(alloc);
+    peers.attach(alloc, 2)?;
+    peers.attach(alloc, 2)?;
+    peers.attach(alloc, 2)?;
+    Ok(peers)
+}
+
+/// The places 0, 1, 2 in turn.
+fn in_turn(alloc: Global) -> Result<Turns, Fail>
+    ensures { IfOk result (λ t. All (λ place. place < 3) t) }
+{
+    let mut turns = Turns::new(alloc);
+    turns.add(0)?;
+    turns.add(1)?;
+    turns.add(2)?;
+    Ok(turns)
+}
+
+/// The place that serves.
+fn receive(turns: &mut Turns, peers: &mut TestPeers) -> Option<usize>
+    requires there { All (λ place. place < length peers.old) turns.old }
+    ensures there { All (λ place. place < length peers.new) turns.new }
+{
+    match next_in(turns, peers) {
+        NextIn::Got(place, _message) => Some(place),
+        NextIn::AllEmpty => None,
+    }
+}
+
+#[test]
+fn peers_with_messages_serve_by_turn(rt: HostRuntime) -> Result<(), Fail> {
+    let alloc = rt.alloc();
+    let mut peers = three(alloc)?;
+    'puts: for place in [0, 0, 1, 2, 2] {
+        peers.far_put(place, message(alloc, b"x")?)?;
+    }
+    let mut turns = in_turn(alloc)?;
+    let served = [Some(0), Some(1), Some(2), Some(0), Some(2), None];
+    'served: for want in served {
+        assert_eq!(rt; receive(&mut turns, &mut peers), want);
+    }
+    Ok(())
+}
+
+#[test]
+fn where_no_peer_has_a_message_none_serves(rt: HostRuntime) -> Result<(), Fail> {
+    let alloc = rt.alloc();
+    let mut peers = three(alloc)?;
+    let mut turns = in_turn(alloc)?;
+    assert_eq!(rt; receive(&mut turns, &mut peers), None);
+    no_peer_with_messages_is_passed_over();
+    Ok(())
+}

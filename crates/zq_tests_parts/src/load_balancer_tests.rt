@@ -1,0 +1,83 @@
+ghost use Rattle.std.specs.Prelude.{◌≡◌, length, ◌<◌, All, IfOk};
+ghost use Rattle.spec_pattern.specs.Pipe.{IsCommittable};
+
+use crate::messages::message;
+use crate::peers::TestPeers;
+use load_balancer::{NextOut, Turns, next_out};
+use std::alloc::Global;
+use std::test::Fail;
+use zq_base::Message;
+
+/// Three pairs, each with room for two messages.
+fn three(alloc: Global) -> Result<TestPeers, Fail>
+    ensures { IfOk result (λ p. length p ≡ 3) }
+{
+    let mut peers = TestPeers::new(alloc);
+    peers.attach(alloc, 2)?;
+    peers.attach(alloc, 2)?;
+    peers.attach(alloc, 2)?;
+    Ok(peers)
+}
+
+/// The places 0, 1, 2 in turn.
+fn in_turn(alloc: Global) -> Result<Turns, Fail>
+    ensures { IfOk result (λ t. All (λ place. place < 3) t) }
+{
+    let mut turns = Turns::new(alloc);
+    turns.add(0)?;
+    turns.add(1)?;
+    turns.add(2)?;
+    Ok(turns)
+}
+
+/// What a send by turn told.
+#[derive(Clone, Copy, Debug, PartialEq, Eq)]
+enum Told {
+    Put(usize),
+    AllFull,
+    NoPeer,
+}
+
+fn send(turns: &mut Turns, peers: &mut TestPeers, message: Message) -> Told
+    requires there { All (λ place. place < length peers.old) turns.old }
+    requires whole { IsCommittable message }
+    ensures there { All (λ place. place < length peers.new) turns.new }
+{
+    match next_out(turns, peers, message) {
+        NextOut::Put(place) => Told::Put(place),
+        NextOut::AllFull(_back) => Told::AllFull,
+        NextOut::NoPeer(_back) => Told::NoPeer,
+    }
+}
+
+#[test]
+fn messages_go_to_peers_with_room_by_turn(rt: HostRuntime) -> Result<(), Fail> {
+    let alloc = rt.alloc();
+    let mut peers = three(alloc)?;
+    let mut turns = in_turn(alloc)?;
+    'filled: for place in [0, 1, 2, 0, 1, 2] {
+        assert_eq!(rt;
+            send(&mut turns, &mut peers, message(alloc, b"x")?),
+            Told::Put(place)
+        );
+    }
+    let _taken = peers.far_take(2)?;
+    let _taken = peers.far_take(0)?;
+    'told: for want in [Told::Put(0), Told::Put(2), Told::AllFull] {
+        assert_eq!(rt; send(&mut turns, &mut peers, message(alloc, b"x")?), want);
+    }
+    Ok(())
+}
+
+#[test]
+fn a_place_that_cannot_be_written_gets_none(rt: HostRuntime) -> Result<(), Fail> {
+    let alloc = rt.alloc();
+    let mut peers = three(alloc)?;
+    let mut turns = in_turn(alloc)?;
+    peers.set_writable(0, false)?;
+    assert_eq!(rt;
+        send(&mut turns, &mut peers, message(alloc, b"x")?),
+        Told::Put(1)
+    );
+    Ok(())
+}

@@ -1,0 +1,59 @@
+ghost use Rattle.std.specs.Prelude.{IfOk};
+ghost use Rattle.spec_pattern.specs.Pipe.{IsCommittable};
+
+use std::alloc::Global;
+use std::test::Fail;
+use zq_base::{Frame, Message};
+
+/// A message of one frame of each of these octets, which fits a pipe.
+pub fn message(alloc: Global, octets: &[u8]) -> Result<Message, Fail>
+    ensures { IfOk result (λ m. IsCommittable m) }
+{
+    let mut frames = Vec::new(alloc);
+    for octet in octets {
+        let frame = Frame::of_slice(alloc, &[*octet])?;
+        frames.push(frame).map_err(|_| "room")?;
+    }
+    match Message::of_parts(frames) {
+        Ok(message) => {
+            if message.len() > Message::MAX_COMMITTED {
+                Err("it fits no pipe")?;
+            }
+            Ok(message)
+        }
+        Err(_refused) => Err("1 to 1,024 frames")?,
+    }
+}
+
+/// A message of so many frames.
+pub fn frames(alloc: Global, count: usize) -> Result<Message, Fail> {
+    let mut frames = Vec::new(alloc);
+    for _ in 0..count {
+        let frame = Frame::of_slice(alloc, b"x")?;
+        frames.push(frame).map_err(|_| "room")?;
+    }
+    match Message::of_parts(frames) {
+        Ok(message) => Ok(message),
+        Err(_refused) => Err("1 to 1,024 frames")?,
+    }
+}
+
+/// The octets of a message's frames.
+pub fn octets(alloc: Global, message: &Message) -> Result<Vec<u8>, Fail> {
+    let mut octets = Vec::new(alloc);
+    for frame in message.frames() {
+        for octet in frame.as_slice() {
+            octets.push(*octet).map_err(|_| "room")?;
+        }
+    }
+    Ok(octets)
+}
+
+/// A message of one frame of these octets, which fits a pipe.
+pub fn one_frame(alloc: Global, octets: &[u8]) -> Result<Message, Fail>
+    ensures { IfOk result (λ m. IsCommittable m) }
+{
+    let mut frames = Vec::with_capacity(alloc, 1)?;
+    frames.push_reserved(Frame::of_slice(alloc, octets)?);
+    Ok(Message::of_frames(frames))
+}

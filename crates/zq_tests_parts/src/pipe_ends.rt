@@ -1,0 +1,128 @@
+use pipe_term::EndCommands::{Ack, Nothing, Settle, SettleAndAck, TermAndSeal};
+use pipe_term::EndEvent::{AckCame, Asked, DelimiterSeen, TermCame};
+use pipe_term::EndState::{
+    AckSent, Active, AskedOnce, AskedTwice, DelimiterGot, Gone, WaitDelimiter,
+};
+use pipe_term::{End, EndCommands, EndEvent, EndState, Reason};
+use std::test::Fail;
+
+const ASKED: EndEvent = Asked(Reason::Closed, false);
+
+const ASKED_WITH_DELAY: EndEvent = Asked(Reason::Linger, true);
+
+/// The ways to the seven states, which stand in this order in each row below.
+const WAYS: [&[EndEvent]; 7] = [
+    &[],
+    &[DelimiterSeen],
+    &[TermCame],
+    &[TermCame, DelimiterSeen],
+    &[ASKED],
+    &[ASKED, TermCame],
+    &[ASKED, TermCame, AckCame],
+];
+
+/// What an end is and does behind an event, or `None` where it does not come.
+type Cell = Option<(EndState, EndCommands)>;
+
+/// The events, each with its cell for each state.
+const TABLE: [(EndEvent, [Cell; 7]); 5] = [
+    (
+        ASKED,
+        [
+            Some((AskedOnce, TermAndSeal)),
+            Some((AskedOnce, TermAndSeal)),
+            Some((AckSent, Ack)),
+            Some((AckSent, Nothing)),
+            Some((AskedOnce, Nothing)),
+            Some((AskedTwice, Nothing)),
+            None,
+        ],
+    ),
+    (
+        ASKED_WITH_DELAY,
+        [
+            Some((AskedOnce, TermAndSeal)),
+            Some((AskedOnce, TermAndSeal)),
+            Some((WaitDelimiter, Nothing)),
+            Some((AckSent, Nothing)),
+            Some((AskedOnce, Nothing)),
+            Some((AskedTwice, Nothing)),
+            None,
+        ],
+    ),
+    (
+        TermCame,
+        [
+            Some((WaitDelimiter, Nothing)),
+            Some((AckSent, Ack)),
+            None,
+            None,
+            Some((AskedTwice, Ack)),
+            None,
+            None,
+        ],
+    ),
+    (
+        DelimiterSeen,
+        [
+            Some((DelimiterGot, Nothing)),
+            None,
+            Some((AckSent, Ack)),
+            None,
+            None,
+            None,
+            None,
+        ],
+    ),
+    (
+        AckCame,
+        [
+            None,
+            None,
+            None,
+            Some((Gone, Settle)),
+            Some((Gone, SettleAndAck)),
+            Some((Gone, Settle)),
+            None,
+        ],
+    ),
+];
+
+/// What an end does at an event, or `None` where that event does not come in its state.
+fn hear(end: &mut End, event: EndEvent) -> Option<EndCommands> {
+    match event {
+        Asked(reason, delay) if !end.is_gone() => Some(end.ask(reason, delay)),
+        TermCame if end.awaits_term() => Some(end.on_term()),
+        DelimiterSeen if end.can_read() => Some(end.on_delimiter()),
+        AckCame if end.awaits_ack() => Some(end.on_ack()),
+        _ => None,
+    }
+}
+
+#[test]
+fn the_table_of_an_ends_life(rt: HostRuntime) -> Result<(), Fail> {
+    for (event, row) in TABLE {
+        for (way, want) in WAYS.iter().zip(row) {
+            let mut end = End::new();
+            for &earlier in *way {
+                assert!(rt; hear(&mut end, earlier).is_some());
+            }
+            let got = hear(&mut end, event).map(|commands| (end.state(), commands));
+            assert_eq!(rt; got, want, "{event:?} behind {way:?}");
+        }
+    }
+    Ok(())
+}
+
+#[test]
+fn the_first_ask_with_an_effect_gives_the_reason(rt: HostRuntime) -> Result<(), Fail> {
+    let mut end = End::new();
+    assert!(rt; end.can_write());
+    end.on_term();
+    end.ask(Reason::Linger, true);
+    assert_eq!(rt; end.reason(), None);
+    end.ask(Reason::Link, false);
+    end.ask(Reason::Closed, false);
+    assert_eq!(rt; end.reason(), Some(Reason::Link));
+    Ok(())
+}

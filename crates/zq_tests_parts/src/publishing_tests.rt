@@ -1,0 +1,271 @@
+ghost use Rattle.std.specs.Prelude.{◌≡◌, ◌<◌, All, length, IfOk};
+ghost use Rattle.std.specs.Map.{keys_of};
+
+use crate::messages::{frames, one_frame};
+use crate::peers::TestPeers;
+use msg_pipe::{Peers, Taken};
+use pub_sub::{Pub, XPub};
+use spec_pattern::{RecvFault, RecvRefusal, Rule, SendFault, SendRefusal, Sent};
+use std::alloc::Global;
+use std::test::Fail;
+use zq_base::{Message, PairId};
+
+/// What a call told.
+#[derive(Clone, Copy, Debug, PartialEq, Eq)]
+pub enum Told {
+    /// How many ends a message went to, and how many were full.
+    Went(usize, usize),
+    Dropped(Rule),
+    NotSent(SendRefusal),
+    /// The number of the pair that gave a message, and how many octets its first frame has.
+    Gave(u32, usize),
+    NotGiven(RecvRefusal),
+    Else,
+}
+
+/// What a send told.
+fn told_sent(answer: Result<Sent, SendFault>) -> Told {
+    match answer {
+        Ok(Sent::Many(report)) => Told::Went(report.put.len(), report.full.len()),
+        Ok(Sent::Dropped(rule)) => Told::Dropped(rule),
+        Err(SendFault::Refused(refusal, _back)) => Told::NotSent(refusal),
+        _other => Told::Else,
+    }
+}
+
+/// What a receive told.
+fn told_given(answer: Result<(PairId, Message), RecvFault>) -> Told {
+    match answer {
+        Ok((pair, message)) => Told::Gave(pair.0, message.frame(0).len()),
+        Err(RecvFault::Refused(refusal)) => Told::NotGiven(refusal),
+        Err(RecvFault::OutOfMemory) => Told::Else,
+    }
+}
+
+/// Two pairs, of which the first has room for one message. Their peers said these.
+fn two(alloc: Global, first: &[u8], second: &[u8]) -> Result<TestPeers, Fail>
+    ensures { IfOk result (λ p. length p ≡ 2) }
+{
+    let mut peers = TestPeers::new(alloc);
+    peers.attach(alloc, 1)?;
+    peers.attach(alloc, 4)?;
+    peers.far_put(0, one_frame(alloc, first)?)?;
+    peers.far_put(1, one_frame(alloc, second)?)?;
+    Ok(peers)
+}
+
+/// A PUB with two peers, which it heard.
+fn pub_of_two(alloc: Global, peers: &mut TestPeers) -> Result<Pub, Fail>
+    requires { length peers.old ≡ 2 }
+    ensures there { IfOk result (λ p. All (λ place. place < length peers.new) (keys_of p.subs)) }
+{
+    let mut publisher = Pub::new(alloc);
+    publisher.attach(alloc, 0)?;
+    publisher.attach(alloc, 1)?;
+    publisher.hear_peers(alloc, peers)?;
+    Ok(publisher)
+}
+
+/// An XPUB with two peers.
+fn xpub_of_two(alloc: Global, peers: &TestPeers, verbose: bool) -> Result<XPub, Fail>
+    requires { length peers.now ≡ 2 }
+    ensures there { IfOk result (λ p. All (λ place. place < length peers.now) (keys_of p.subs)) }
+{
+    let mut publisher = XPub::new(alloc, verbose);
+    publisher.attach(alloc, 0)?;
+    publisher.attach(alloc, 1)?;
+    Ok(publisher)
+}
+
+/// Sends a message of one frame from a PUB.
+fn send(alloc: Global, publisher: &Pub, peers: &mut TestPeers, body: &[u8]) -> Result<Told, Fail>
+    requires there { All (λ place. place < length peers.old) (keys_of publisher.now.subs) }
+    ensures there { All (λ place. place < length peers.new) (keys_of publisher.now.subs) }
+{
+    Ok(told_sent(publisher.send(alloc, peers, one_frame(alloc, body)?)))
+}
+
+/// Sends a message of one frame from an XPUB.
+fn send_told(
+    alloc: Global,
+    publisher: &XPub,
+    peers: &mut TestPeers,
+    body: &[u8],
+) -> Result<Told, Fail>
+    requires there { All (λ place. place < length peers.old) (keys_of publisher.now.subs) }
+    ensures there { All (λ place. place < length peers.new) (keys_of publisher.now.subs) }
+{
+    Ok(told_sent(publisher.send(alloc, peers, one_frame(alloc, body)?)))
+}
+
+/// The peer at place 0 of a PUB goes.
+fn leave(publisher: &mut Pub, peers: &TestPeers)
+    requires there { All (λ place. place < length peers.now) (keys_of publisher.old.subs) }
+    ensures there { All (λ place. place < length peers.now) (keys_of publisher.new.subs) }
+{
+    publisher.detach(0);
+}
+
+/// The peer at place 0 of an XPUB goes.
+fn leave_told(publisher: &mut XPub, peers: &TestPeers)
+    requires there { All (λ place. place < length peers.now) (keys_of publisher.old.subs) }
+    ensures there { All (λ place. place < length peers.now) (keys_of publisher.new.subs) }
+{
+    publisher.detach(PairId(1), 0);
+}
+
+/// Receives at an XPUB.
+fn receive(alloc: Global, publisher: &mut XPub, peers: &mut TestPeers) -> Told
+    requires there { All (λ place. place < length peers.old) (keys_of publisher.old.subs) }
+    ensures there { All (λ place. place < length peers.new) (keys_of publisher.new.subs) }
+{
+    told_given(publisher.recv(alloc, peers))
+}
+
+/// Whether an XPUB hears its peers.
+fn hears(alloc: Global, publisher: &mut XPub, peers: &mut TestPeers) -> bool
+    requires there { All (λ place. place < length peers.old) (keys_of publisher.old.subs) }
+    ensures there { All (λ place. place < length peers.new) (keys_of publisher.new.subs) }
+{
+    publisher.hear_peers(alloc, peers).is_ok()
+}
+
+/// One pair, whose peer said 1,001 messages which are no subscriptions.
+fn one_full(alloc: Global) -> Result<TestPeers, Fail>
+    ensures { IfOk result (λ p. length p ≡ 1) }
+{
+    let mut peers = TestPeers::new(alloc);
+    peers.attach(alloc, 1001)?;
+    'messages: for _ in 0..1001 {
+        peers.far_put(0, one_frame(alloc, b"x")?)?;
+    }
+    Ok(peers)
+}
+
+/// An XPUB with one peer.
+fn xpub_of_one(alloc: Global, peers: &TestPeers) -> Result<XPub, Fail>
+    requires { length peers.now ≡ 1 }
+    ensures there { IfOk result (λ p. All (λ place. place < length peers.now) (keys_of p.subs)) }
+{
+    let mut publisher = XPub::new(alloc, false);
+    publisher.attach(alloc, 0)?;
+    Ok(publisher)
+}
+
+/// Whether a message waits at the near end of the first pair, which it takes.
+fn has_message(peers: &mut TestPeers) -> Result<bool, Fail> {
+    if peers.count() == 0 {
+        Err("one pair")?;
+    }
+    match peers.take(0) {
+        Taken::Item(_message) => Ok(true),
+        _other => Ok(false),
+    }
+}
+
+#[test]
+fn a_pub_sends_to_the_peers_that_match(rt: HostRuntime) -> Result<(), Fail> {
+    let alloc = rt.alloc();
+    let mut peers = two(alloc, &[1], &[1, b'a'])?;
+    let mut publisher = pub_of_two(alloc, &mut peers)?;
+    assert_eq!(rt;
+        send(alloc, &publisher, &mut peers, b"ab")?,
+        Told::Went(2, 0)
+    );
+    assert_eq!(rt;
+        send(alloc, &publisher, &mut peers, b"a")?,
+        Told::Went(1, 1)
+    );
+    assert_eq!(rt;
+        send(alloc, &publisher, &mut peers, b"b")?,
+        Told::Dropped(Rule::PubFull)
+    );
+    leave(&mut publisher, &peers);
+    assert_eq!(rt;
+        send(alloc, &publisher, &mut peers, b"b")?,
+        Told::Dropped(Rule::NoMatch)
+    );
+    Ok(())
+}
+
+#[test]
+fn a_pub_never_receives_and_sends_1_023_frames(rt: HostRuntime) -> Result<(), Fail> {
+    let alloc = rt.alloc();
+    let mut peers = two(alloc, &[1], &[1])?;
+    let publisher = pub_of_two(alloc, &mut peers)?;
+    assert_eq!(rt;
+        told_sent(publisher.send(alloc, &mut peers, frames(alloc, 1024)?)),
+        Told::NotSent(SendRefusal::TooLarge)
+    );
+    assert_eq!(rt;
+        told_given(publisher.recv(&mut peers)),
+        Told::NotGiven(RecvRefusal::NotSupported)
+    );
+    Ok(())
+}
+
+#[test]
+fn an_xpub_tells_its_user_what_is_news(rt: HostRuntime) -> Result<(), Fail> {
+    let alloc = rt.alloc();
+    let mut peers = two(alloc, &[1, b'a', b'b'], &[1, b'a', b'b'])?;
+    let mut publisher = xpub_of_two(alloc, &peers, false)?;
+    assert_eq!(rt;
+        receive(alloc, &mut publisher, &mut peers),
+        Told::Gave(1, 3)
+    );
+    assert_eq!(rt;
+        receive(alloc, &mut publisher, &mut peers),
+        Told::NotGiven(RecvRefusal::Again)
+    );
+    peers.far_put(1, one_frame(alloc, &[0, b'a', b'b'])?)?;
+    assert_eq!(rt;
+        receive(alloc, &mut publisher, &mut peers),
+        Told::NotGiven(RecvRefusal::Again)
+    );
+    assert_eq!(rt;
+        send_told(alloc, &publisher, &mut peers, b"abc")?,
+        Told::Went(1, 0)
+    );
+    leave_told(&mut publisher, &peers);
+    assert_eq!(rt;
+        receive(alloc, &mut publisher, &mut peers),
+        Told::Gave(1, 3)
+    );
+    Ok(())
+}
+
+#[test]
+fn a_verbose_xpub_tells_of_each_add_and_of_all_else(rt: HostRuntime) -> Result<(), Fail> {
+    let alloc = rt.alloc();
+    let mut peers = two(alloc, &[1, b'a'], &[1, b'a'])?;
+    peers.far_put(1, one_frame(alloc, b"else")?)?;
+    let mut publisher = xpub_of_two(alloc, &peers, true)?;
+    assert_eq!(rt;
+        receive(alloc, &mut publisher, &mut peers),
+        Told::Gave(1, 2)
+    );
+    assert_eq!(rt;
+        receive(alloc, &mut publisher, &mut peers),
+        Told::Gave(2, 2)
+    );
+    assert_eq!(rt;
+        receive(alloc, &mut publisher, &mut peers),
+        Told::Gave(2, 4)
+    );
+    Ok(())
+}
+
+#[test]
+fn an_xpub_stops_hearing_where_1_000_wait(rt: HostRuntime) -> Result<(), Fail> {
+    let alloc = rt.alloc();
+    let mut peers = one_full(alloc)?;
+    let mut publisher = xpub_of_one(alloc, &peers)?;
+    assert!(rt; hears(alloc, &mut publisher, &mut peers));
+    assert!(rt; hears(alloc, &mut publisher, &mut peers));
+    assert!(rt; hears(alloc, &mut publisher, &mut peers));
+    assert!(rt; hears(alloc, &mut publisher, &mut peers));
+    assert!(rt; hears(alloc, &mut publisher, &mut peers));
+    assert!(rt; has_message(&mut peers)?);
+    assert!(rt; !has_message(&mut peers)?);
+    Ok(())
+}

@@ -1,0 +1,39 @@
+ghost use Rattle.std.specs.Prelude.{◌≡◌, ◌≢◌, Some};
+ghost use Rattle.own_tree.specs.Rows.{row_at, state_at};
+ghost use Rattle.spec_control.specs.declared.object.ObjState.TheVariants.{Ended as HasEnded};
+
+use own_tree::{Ending, ObjKind, OwnTree};
+use std::test::Fail;
+use zq_base::{Kind, ObjId, SlotId};
+
+const ROOT: ObjId = ObjId(0);
+
+/// Whether the child ends; its owner then processes the acknowledgement.
+fn ends(tree: &mut OwnTree, owner: ObjId, child: ObjId) -> bool
+    requires two { owner ≢ child }
+    requires owner { state_at tree.old owner ≢ HasEnded }
+    requires child { state_at tree.old child ≢ HasEnded }
+    requires owned { (row_at tree.old child).owner ≡ Some owner }
+    ensures { state_at tree.new owner ≡ state_at tree.old owner }
+{
+    if !matches!(tree.try_end(child), Ending::Ended) {
+        return false;
+    }
+    tree.on_ack(owner, child);
+    true
+}
+
+#[test]
+fn a_root_ends_after_its_socket(rt: HostRuntime) -> Result<(), Fail> {
+    let alloc = rt.alloc();
+    let mut tree = OwnTree::new(alloc, SlotId(0))?;
+    let socket = tree.make(alloc, ROOT, ObjKind::Socket(Kind::Pull), SlotId(1), false)?;
+    tree.ask(ROOT);
+    tree.tell(ROOT, socket);
+    assert_eq!(rt; tree.try_end(ROOT), Ending::Owes(1));
+    tree.ask(socket);
+    assert!(rt; ends(&mut tree, ROOT, socket));
+    assert_eq!(rt; tree.try_end(ROOT), Ending::Ended);
+    assert_eq!(rt; tree.live(), 0);
+    Ok(())
+}
