@@ -1,4 +1,4 @@
-//! Tests of the base, of the outside in memory and over TCP, and of the codec.
+//! Tests of the base and of the codec.
 #![tactic(auto)]
 
 #[cfg(test)]
@@ -10,12 +10,4 @@ mod frames;
 #[cfg(test)]
 mod handshakes;
 #[cfg(test)]
-mod memory_links;
-#[cfg(test)]
 mod metadata;
-#[cfg(test)]
-mod net;
-#[cfg(test)]
-mod outer;
-#[cfg(test)]
-mod sessions;

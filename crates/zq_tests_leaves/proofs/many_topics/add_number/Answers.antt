@@ -4,7 +4,7 @@ use Rattle.std.proofs.lemmas.Map.{keys-set_value}
 use Rattle.std.proofs.lemmas.Map.Made.{is_some-lookup}
 use Rattle.std.specs.List.{list_any}
 use Rattle.spec_pattern.specs.Topics.{Topic, Subscribers, with_topic, topics_of, has_topic, is_full, after_add}
-use Rattle.zq_tests_parts.proofs.many_topics.add_number.Goals as goal
+use Rattle.zq_tests_leaves.proofs.many_topics.add_number.Goals as goal
 
 there_still : (t : Topic) (subs : Subscribers ℕ) → is_some (lookup (nat_eq 0) subs) ≡ true → is_some (lookup (nat_eq 0) (after_add nat_eq 0 t subs)) ≡ true
 there_still t subs there = by (has_topic nat_eq subs 0 t || is_full nat_eq subs 0)
