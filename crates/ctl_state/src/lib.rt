@@ -31,4 +31,5 @@ mod tells;
 pub use command::Command;
 pub use detail::{Detail, Made};
 pub use hold::{Held, Hold};
+pub use room_list::RoomList;
 pub use state::State;

@@ -16,7 +16,7 @@ use Rattle.spec_control.specs.Stage.{is_unused, is_ending}
 use Rattle.spec_control.specs.After.{socket_row}
 use Rattle.spec_control.specs.Reply.{root_asked}
 use Rattle.spec_control.specs.Quiescence.{IsQuiescent}
-use Rattle.spec_control.specs.ControlExamples.{Stories, options_of, empty_run, crossed_run, session_run, EmptyContextEnds, CrossedSocketsEnd, LingeringSessionEnds, WorkedRuns}
+use Rattle.spec_control.specs.ControlExamples.{Stories, options_of, empty_run, crossed_run, session_run, read_out_run, EmptyContextEnds, CrossedSocketsEnd, LingeringSessionEnds, ReadOutSocketsEnd, WorkedRuns}
 
 never : false ≡ true → ⊥
 never f = Prim.grind arith
@@ -152,9 +152,9 @@ crossed stories = record {
               (
                 record { may = (record { socket = refl; open_still = refl; lives = refl }, refl); answered = record { joined = refl; kinds = tt; opened = refl; settled = refl; output = refl } },
                 (
-                  record { may = record { behind = _; oldest = refl; held = refl }; answered = record { joined = refl; kinds = tt; opened = refl; settled = refl; output = λ h. absurd (never h) } },
+                  record { may = record { behind = _; oldest = refl; held = refl }; answered = record { joined = refl; kinds = (tt, tt); opened = refl; settled = refl; output = λ h. absurd (never h) } },
                   (
-                    record { may = record { behind = _; oldest = refl; held = refl }; answered = record { joined = refl; kinds = tt; opened = refl; settled = refl; output = λ h. absurd (never h) } },
+                    record { may = record { behind = _; oldest = refl; held = refl }; answered = record { joined = refl; kinds = (tt, tt); opened = refl; settled = refl; output = λ h. absurd (never h) } },
                     (
                       record { may = record { behind = _; oldest = refl; held = refl }; answered = record { joined = refl; kinds = tt; opened = refl; settled = refl; output = λ h. absurd (never h) } },
                       (
@@ -243,7 +243,7 @@ session stories = record {
             (
               record { may = (tt, refl); answered = record { joined = refl; kinds = tt; opened = refl; settled = refl; output = refl } },
               (
-                record { may = record { behind = _; oldest = refl; held = refl }; answered = record { joined = refl; kinds = tt; opened = refl; settled = refl; output = λ h. absurd (never h) } },
+                record { may = record { behind = _; oldest = refl; held = refl }; answered = record { joined = refl; kinds = (tt, tt); opened = refl; settled = refl; output = λ h. absurd (never h) } },
                 (
                   record { may = record { behind = _; oldest = refl; held = refl }; answered = record { joined = refl; kinds = tt; opened = refl; settled = refl; output = λ h. absurd (never h) } },
                   (
@@ -284,5 +284,88 @@ session stories = record {
   quiescent = rests (after_all (session_run stories) (begun 1)) (session_rows stories) (session_rows_are stories) (session_asked stories) (session_done stories) (session_waits stories);
 }
 
+read_out_0 : (stories : Stories) → (after_all (read_out_run stories) (begun 1)).boxes 0 ≡ []
+read_out_0 stories = refl
+
+read_out_2 : (stories : Stories) → (after_all (read_out_run stories) (begun 1)).boxes 2 ≡ []
+read_out_2 stories = refl
+
+read_out_3 : (stories : Stories) → (after_all (read_out_run stories) (begun 1)).boxes 3 ≡ []
+read_out_3 stories = refl
+
+read_out_rows_are : (stories : Stories) → (after_all (read_out_run stories) (begun 1)).rows ≡ crossed_rows stories
+read_out_rows_are stories = refl
+
+read_out_asked : (stories : Stories) → root_asked (after_all (read_out_run stories) (begun 1)) ≡ true
+read_out_asked stories = refl
+
+read_out_done : (stories : Stories) (i : ℕ) → IsDone (after_all (read_out_run stories) (begun 1)) (obj (crossed_rows stories) i)
+read_out_done stories zero = record { closed = λ h. absurd (never h); ended = refl; empty = read_out_0 stories }
+read_out_done stories (suc zero) = record { closed = λ h. refl; ended = refl; empty = read_out_2 stories }
+read_out_done stories (suc (suc zero)) = record { closed = λ h. refl; ended = refl; empty = read_out_3 stories }
+read_out_done stories (suc (suc (suc i))) = record { closed = λ h. absurd (never h); ended = refl; empty = read_out_0 stories }
+
+pub read_out : (stories : Stories) → ReadOutSocketsEnd stories
+read_out stories = record {
+  run_is = (
+      record { may = (tt, refl); answered = record { joined = refl; kinds = tt; opened = refl; settled = refl; output = refl } },
+      (
+        record { may = (tt, refl); answered = record { joined = refl; kinds = tt; opened = refl; settled = refl; output = refl } },
+        (
+          record { may = (record { socket = refl; open_still = refl; lives = refl }, refl); answered = record { joined = refl; kinds = tt; opened = refl; settled = refl; output = refl } },
+          (
+            record { may = (record { socket = refl; open_still = refl; lives = refl }, refl); answered = record { joined = refl; kinds = (tt, tt); opened = refl; settled = refl; output = refl } },
+            (
+              record { may = record { behind = _; oldest = refl; held = refl }; answered = record { joined = refl; kinds = (tt, tt); opened = refl; settled = refl; output = λ h. absurd (never h) } },
+              (
+                record { may = (record { socket = refl; open_still = refl; lives = refl }, refl); answered = record { joined = refl; kinds = tt; opened = refl; settled = refl; output = refl } },
+                (
+                  record { may = record { behind = _; oldest = refl; held = refl }; answered = record { joined = refl; kinds = (tt, tt); opened = refl; settled = refl; output = λ h. absurd (never h) } },
+                  (
+                    record { may = record { behind = _; oldest = refl; held = refl }; answered = record { joined = refl; kinds = tt; opened = refl; settled = refl; output = λ h. absurd (never h) } },
+                    (
+                      record { may = record { looked_at = refl; held = refl }; answered = record { joined = refl; kinds = tt; opened = refl; settled = refl; output = refl } },
+                      (
+                        record { may = record { behind = _; oldest = refl; held = refl }; answered = record { joined = refl; kinds = tt; opened = refl; settled = refl; output = λ h. absurd (never h) } },
+                        (
+                          record { may = (record { socket = refl; open_still = refl; lives = refl }, refl); answered = record { joined = refl; kinds = tt; opened = refl; settled = refl; output = refl } },
+                          (
+                            record { may = record { behind = _; oldest = refl; held = refl }; answered = record { joined = refl; kinds = (tt, tt); opened = refl; settled = refl; output = λ h. absurd (never h) } },
+                            (
+                              record { may = record { behind = _; oldest = refl; held = refl }; answered = record { joined = refl; kinds = tt; opened = refl; settled = record { adds_up = refl; read_out = λ e. refl }; output = λ h. absurd (never h) } },
+                              (
+                                record { may = record { behind = _; oldest = refl; held = refl }; answered = record { joined = refl; kinds = tt; opened = refl; settled = refl; output = λ h. absurd (never h) } },
+                                (
+                                  record { may = record { behind = _; oldest = refl; held = refl }; answered = record { joined = refl; kinds = tt; opened = refl; settled = record { adds_up = refl; read_out = λ e. refl }; output = λ h. absurd (never h) } },
+                                  (
+                                    record { may = record { behind = _; oldest = refl; held = refl }; answered = record { joined = refl; kinds = tt; opened = refl; settled = refl; output = λ h. absurd (never h) } },
+                                    (
+                                      record { may = record { behind = _; oldest = refl; held = refl }; answered = record { joined = refl; kinds = tt; opened = refl; settled = refl; output = λ h. absurd (never h) } },
+                                      (
+                                        record { may = (tt, refl); answered = record { joined = refl; kinds = tt; opened = refl; settled = refl; output = refl } },
+                                        tt,
+                                      ),
+                                    ),
+                                  ),
+                                ),
+                              ),
+                            ),
+                          ),
+                        ),
+                      ),
+                    ),
+                  ),
+                ),
+              ),
+            ),
+          ),
+        ),
+      ),
+    );
+  ended_are = refl;
+  settlements_are = refl;
+  quiescent = rests (after_all (read_out_run stories) (begun 1)) (crossed_rows stories) (read_out_rows_are stories) (read_out_asked stories) (read_out_done stories) (crossed_waits stories);
+}
+
 pub worked_runs : WorkedRuns
-worked_runs = record { empty = empty; crossed = crossed; session = session }
+worked_runs = record { empty = empty; crossed = crossed; session = session; read_out = read_out }

@@ -16,7 +16,7 @@ use Rattle.spec_control.specs.declared.letter.Letter.{Letter}
 use Rattle.spec_control.specs.declared.letter.Word.{Word}
 use Rattle.spec_control.specs.declared.letter.Word.TheVariants.{Term, TermAck, PipeTerm, PipeTermAck, Stop}
 use Rattle.spec_control.specs.declared.stage.Stage.TheVariants.{Finished}
-use Rattle.spec_control.specs.EndLife.{cell, commands_of, reason_after}
+use Rattle.spec_control.specs.EndLife.{cell, commands_of, has_met, reason_after}
 use Rattle.spec_control.specs.Register.{Register, no_names}
 use Rattle.spec_control.specs.Hold.{Hold}
 use Rattle.spec_control.specs.Place.{Place, Unmade, Away, At, is_here}
@@ -166,6 +166,12 @@ abbrev pub reason_in : EndEvent → Place → Option Reason → Option Reason
 reason_in event Unmade reason = reason
 reason_in event Away reason = reason
 reason_in event (At state) reason = reason_after event (record { state = state; reason = reason })
+
+-- an end there has met its delimiter, and was asked for no reason
+abbrev pub met_in : Place → Option Reason → Bool
+met_in Unmade reason = false
+met_in Away reason = false
+met_in (At state) reason = has_met state reason
 
 -- a pair after an event of this end
 abbrev pub moved : PairEvent → EndId → Control → Control

@@ -1,4 +1,4 @@
--- Worked control runs, by hand from the tables: an empty context; two sockets whose ends are asked at once; a session that reads on to its delimiter and has output left.
+-- Worked control runs, by hand from the tables: an empty context; two sockets whose ends are asked at once; a session that reads on to its delimiter and has output left; an end that met its delimiter before its socket was closed.
 use Rattle.std.specs.Prelude.{◌≡◌, ℕ, pos, Bool, true, false, List, [], ◌∷◌, Some, None, codes}
 use Rattle.zq_base.specs.declared.ids.ObjId.{ObjId}
 use Rattle.zq_base.specs.declared.endpoint.Endpoint.{Endpoint}
@@ -37,16 +37,16 @@ module _ (stories : Stories) where
   abbrev pub silent : Answered ℕ ℕ
   silent = record { joined = []; opened = []; settled = None; output_left = false; stories = stories }
 
-  -- an end of pair 1 joined, whose kind takes it; pipe 1a has name 11, pipe 1b has name 12
-  abbrev pub name_of_pipe : Bool → ℕ
-  name_of_pipe true = 11
-  name_of_pipe false = 12
-
+  -- an end of pair 1 joined, whose kind takes it, or was taken over by the reaper; pipe 1a has name 11, pipe 1b has name 12
   abbrev pub joined : Bool → (peer : List ℕ) → Answered ℕ ℕ
-  joined true peer = record silent { joined = record { end = end_of 1 true; peer = peer; written = 11; read = 12; answer = Yes } ∷ [] }
-  joined false peer = record silent { joined = record { end = end_of 1 false; peer = peer; written = 12; read = 11; answer = Yes } ∷ [] }
+  joined true peer = record silent { joined = record { end = end_of 1 true; peer = peer; written = 11; read = 12; answer = Yes; met = false } ∷ [] }
+  joined false peer = record silent { joined = record { end = end_of 1 false; peer = peer; written = 12; read = 11; answer = Yes; met = false } ∷ [] }
 
-  -- the same, and the pair was made for it
+  -- end 1b was taken over by the reaper, which had met its delimiter before
+  abbrev pub met_before : Answered ℕ ℕ
+  met_before = record silent { joined = record { end = end_of 1 false; peer = []; written = 12; read = 11; answer = Yes; met = true } ∷ [] }
+
+  -- an end of pair 1 joined, and the pair was made for it
   abbrev pub opened : Bool → (peer : List ℕ) → Answered ℕ ℕ
   opened a peer = record (joined a peer) { opened = record { pipe = end_of 1 true; name = 11 } ∷ record { pipe = end_of 1 false; name = 12 } ∷ [] }
 
@@ -102,8 +102,8 @@ module _ (stories : Stories) where
       ∷ takes 2 1 (PipeBind (end_of 1 false) (7 ∷ [])) (joined false (7 ∷ []))
       ∷ requests (Close (id 1)) Done silent
       ∷ requests (Close (id 2)) Done silent
-      ∷ takes 0 0 (Reap (id 1)) silent
-      ∷ takes 0 0 (Reap (id 2)) silent
+      ∷ takes 0 0 (Reap (id 1)) (joined false [])
+      ∷ takes 0 0 (Reap (id 2)) (joined true [])
       ∷ takes 2 1 Term silent
       ∷ takes 3 2 Term silent
       ∷ takes 2 1 (PipeTerm (end_of 1 false)) silent
@@ -129,7 +129,7 @@ module _ (stories : Stories) where
       ∷ takes 2 1 (Own (id 2)) silent
       ∷ requests (Close (id 1)) Done silent
       ∷ requests AskTerm Asked silent
-      ∷ takes 0 0 (Reap (id 1)) silent
+      ∷ takes 0 0 (Reap (id 1)) (joined true [])
       ∷ takes 2 1 Term silent
       ∷ takes 1 2 (PipeTerm (end_of 1 false)) silent
       ∷ takes 1 2 Term silent
@@ -146,8 +146,37 @@ module _ (stories : Stories) where
       (record { end = end_of 1 true; counts = record { sent = 0; got = 0; rest = 0 }; reason = Some Closed }
       ∷ record { end = end_of 1 false; counts = record { sent = 3; got = 3; rest = 0 }; reason = None } ∷ [])
 
+  -- a PULL is bound and a PUSH connected; the PUSH is closed, and the PULL meets its delimiter and acknowledges before it is closed; the reaper settles its pipe, which is read out, without a reason
+  abbrev pub read_out_run : List (Item ℕ ℕ)
+  read_out_run =
+      requests (Socket Pull (options_of [] 0)) (Object (id 1)) silent
+      ∷ requests (Socket Push (options_of (7 ∷ []) 0)) (Object (id 2)) silent
+      ∷ requests (Bind (id 1) name) Done silent
+      ∷ requests (Connect (id 2) name) (Pair (record { 0 = 1 })) (opened true [])
+      ∷ takes 2 1 (PipeBind (end_of 1 false) (7 ∷ [])) (joined false (7 ∷ []))
+      ∷ requests (Close (id 2)) Done silent
+      ∷ takes 0 0 (Reap (id 2)) (joined true [])
+      ∷ takes 3 2 Term silent
+      ∷ event (Delimited (end_of 1 false) silent)
+      ∷ takes 2 1 (PipeTerm (end_of 1 false)) silent
+      ∷ requests (Close (id 1)) Done silent
+      ∷ takes 0 0 (Reap (id 1)) met_before
+      ∷ takes 3 2 (PipeTermAck (end_of 1 true)) (settled 0 0 0 false)
+      ∷ takes 2 1 Term silent
+      ∷ takes 2 1 (PipeTermAck (end_of 1 false)) (settled 2 2 0 false)
+      ∷ takes 0 0 (TermAck (id 2)) silent
+      ∷ takes 0 0 (TermAck (id 1)) silent
+      ∷ requests AskTerm Asked silent
+      ∷ []
+
+  abbrev pub ReadOutSocketsEnd : Type 0
+  ReadOutSocketsEnd = EndsWith read_out_run (id 2 ∷ id 1 ∷ id 0 ∷ [])
+      (record { end = end_of 1 true; counts = record { sent = 0; got = 0; rest = 0 }; reason = Some Closed }
+      ∷ record { end = end_of 1 false; counts = record { sent = 2; got = 2; rest = 0 }; reason = None } ∷ [])
+
 -- the worked runs are control runs, and come to their ends
 pub record WorkedRuns : Type 0 where
   pub empty : (stories : Stories) → EmptyContextEnds stories
   pub crossed : (stories : Stories) → CrossedSocketsEnd stories
   pub session : (stories : Stories) → LingeringSessionEnds stories
+  pub read_out : (stories : Stories) → ReadOutSocketsEnd stories

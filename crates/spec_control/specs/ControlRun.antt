@@ -1,5 +1,5 @@
 -- A control run: events that fit the state that those before them left, in any order of deliveries (own choice, after libzmq's `ctx_t`).
-use Rattle.std.specs.Prelude.{◌≡◌, ◌≢◌, ◌+◌, ◌==◌, ◌&&◌, ℕ, Bool, true, false, List, [], ◌∷◌, ◌++◌, Option, Some, None, All, map}
+use Rattle.std.specs.Prelude.{◌≡◌, ◌≢◌, ◌+◌, ◌==◌, ◌&&◌, ℕ, Bool, true, false, List, [], ◌∷◌, ◌++◌, Option, Some, None, All, map, filter}
 use Rattle.std.specs.List.{list_any}
 use Rattle.zq_base.specs.declared.ids.Settled.{Settled}
 use Rattle.zq_base.specs.declared.kind.Kind.TheVariants.{Router, Pair as IsPair}
@@ -33,7 +33,7 @@ use Rattle.spec_control.specs.Register.{fulfilled_by}
 use Rattle.spec_control.specs.Place.{Unmade, is_here, looks}
 use Rattle.spec_control.specs.Row.{Row, is_socket, is_session, is_listener}
 use Rattle.spec_control.specs.Rows.{obj, may_end}
-use Rattle.spec_control.specs.Control.{Control, end_of, place_of, owner_of, next_pair}
+use Rattle.spec_control.specs.Control.{Control, end_of, place_of, owner_of, next_pair, ends_of, met_in}
 use Rattle.spec_control.specs.After.{after, binding_by, pair_or_none}
 use Rattle.spec_control.specs.Reply.{reply_of, root_state, live_count, has_room}
 use Rattle.spec_control.specs.Stage.{has_ended, was_asked, is_coming}
@@ -98,10 +98,15 @@ MayAsk c (AskEnd e reason) = MayAskEnd c e reason
 MayAsk c (AskOver o) = MayAskOver (obj c.rows o.0)
 MayAsk c (OutputOver o) = MayBeOver c o.0
 
--- an end that joins its owner in an event, and its peer's identity
+-- an end that joins its owner in an event, its peer's identity, and whether it had met its delimiter before
 pub record Joins : Type 0 where
   pub end : EndId
   pub peer : List ℕ
+  pub met : Bool
+
+-- an end that joins by its attachment, which has met nothing yet
+abbrev pub attaches : EndId → List ℕ → Joins
+attaches e peer = record { end = e; peer = peer; met = false }
 
 -- the identity of a socket
 abbrev pub identity_of : Control → ℕ → List ℕ
@@ -110,19 +115,19 @@ identity_of c i = (obj c.rows i).options.id
 -- the ends of the bind's own for these waiting connects, from this pair on
 abbrev pub bind_joins : Control → ℕ → List Waiting → List Joins
 bind_joins c k [] = []
-bind_joins c k (w ∷ ws) = record { end = end_of k false; peer = identity_of c w.waiter.0 } ∷ bind_joins c (k + 1) ws
+bind_joins c k (w ∷ ws) = attaches (end_of k false) (identity_of c w.waiter.0) ∷ bind_joins c (k + 1) ws
 
 abbrev pub connect_joins : Control → Option Binding → List Joins
 connect_joins c None = []
-connect_joins c (Some binding) = record { end = end_of (next_pair c) true; peer = identity_of c binding.holder.0 } ∷ []
+connect_joins c (Some binding) = attaches (end_of (next_pair c) true) (identity_of c binding.holder.0) ∷ []
 
 -- the ends that join in a request that is not refused; a session's link tells its peer's identity later, if ever
 abbrev pub request_joins : Control → Req → List Joins
 request_joins c (Bind o (Inproc name)) = bind_joins c (next_pair c) (fulfilled_by (Inproc name) (binding_by o.0 c) c.names)
 request_joins c (Bind o (Tcp address)) = []
 request_joins c (Connect o (Inproc name)) = connect_joins c (c.names.held (Inproc name))
-request_joins c (Connect o (Tcp address)) = record { end = end_of (next_pair c) true; peer = [] } ∷ []
-request_joins c (Shaken o peer) = record { end = end_of (pair_or_none (obj c.rows o.0).pair) true; peer = [] } ∷ []
+request_joins c (Connect o (Tcp address)) = attaches (end_of (next_pair c) true) [] ∷ []
+request_joins c (Shaken o peer) = attaches (end_of (pair_or_none (obj c.rows o.0).pair) true) [] ∷ []
 request_joins c (MakeSocket kind options) = []
 request_joins c AskTerm = []
 request_joins c (Unbind o at) = []
@@ -133,18 +138,26 @@ request_joins c (AskEnd e reason) = []
 request_joins c (AskOver o) = []
 request_joins c (OutputOver o) = []
 
-abbrev pub word_joins : Word → List Joins
-word_joins (Own child) = []
-word_joins (Plug None) = []
-word_joins (Plug (Some e)) = record { end = e; peer = [] } ∷ []
-word_joins (TermReq child) = []
-word_joins Term = []
-word_joins (TermAck child) = []
-word_joins (PipeBind e peer) = record { end = e; peer = peer } ∷ []
-word_joins (PipeTerm e) = []
-word_joins (PipeTermAck e) = []
-word_joins Stop = []
-word_joins (Reap socket) = []
+-- an end that the reaper takes over: it may have met its delimiter while its socket was open
+abbrev pub taken_over : Control → EndId → Joins
+taken_over c e = record { end = e; peer = []; met = met_in (place_of c e) (c.reasons e) }
+
+-- the ends that the reaper takes over with a closed socket: all that are there, as the close gave them
+abbrev pub reap_joins : Control → ℕ → List Joins
+reap_joins c i = map (λ e. taken_over c e) (filter (λ e. is_here (place_of c e)) (ends_of i c))
+
+abbrev pub word_joins : Control → Word → List Joins
+word_joins c (Own child) = []
+word_joins c (Plug None) = []
+word_joins c (Plug (Some e)) = attaches e [] ∷ []
+word_joins c (TermReq child) = []
+word_joins c Term = []
+word_joins c (TermAck child) = []
+word_joins c (PipeBind e peer) = attaches e peer ∷ []
+word_joins c (PipeTerm e) = []
+word_joins c (PipeTermAck e) = []
+word_joins c Stop = []
+word_joins c (Reap socket) = reap_joins c socket.0
 
 -- nothing where a request was refused
 abbrev pub unless_refused : {X : Type 0} → Reply → List X → List X
@@ -157,10 +170,10 @@ unless_refused Asked xs = xs
 unless_refused Before xs = []
 unless_refused (Refused refusal) xs = []
 
--- the ends that join in an event, in order
+-- the ends that join in an event, or that the reaper takes over, in order
 abbrev pub joins_in : {N S : Type 0} → Control → Did N S → List Joins
 joins_in c (DidAsk req reply h) = unless_refused reply (request_joins c req)
-joins_in c (Delivered slot letter h) = word_joins letter.word
+joins_in c (Delivered slot letter h) = word_joins c letter.word
 joins_in c (Delimited e h) = []
 
 -- both pipes of a pair, by the ends that write them
@@ -225,7 +238,7 @@ answer_of (Delimited e h) = h
 
 -- the holder answered what the event asks, no more and no less
 pub record IsAnswered {N S : Type 0} (c : Control) (did : Did N S) : Type 0 where
-  pub joined : map (λ j. record { end = j.end; peer = j.peer }) (answer_of did).joined ≡ joins_in c did
+  pub joined : map (λ j. record { end = j.end; peer = j.peer; met = j.met }) (answer_of did).joined ≡ joins_in c did
   pub kinds : MayAnswerAll (after did c) (answer_of did).joined
   pub opened : map (λ n. n.pipe) (answer_of did).opened ≡ opened_in c did
   pub settled : SettlesIn c did

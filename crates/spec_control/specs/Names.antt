@@ -1,9 +1,8 @@
--- The names of pipes in a control run, and what is told of halves that are handed over (own choice).
+-- The names of pipes in a control run (own choice).
 use Rattle.std.specs.Prelude.{◌≡◌, List, [], ◌∷◌, ◌++◌, Option, Some, None, if◌then◌else◌, All, flat_map}
 use Rattle.zq_base.specs.declared.ids.EndId.{EndId}
 use Rattle.spec_control.specs.declared.entry.PipeName.{PipeName}
 use Rattle.spec_control.specs.declared.entry.Joining.{Joining}
-use Rattle.spec_control.specs.declared.entry.Answered.{Answered}
 use Rattle.spec_control.specs.declared.entry.Item.{Item}
 use Rattle.spec_control.specs.declared.entry.Item.TheVariants.{Event, Seen}
 use Rattle.zq_base.specs.Ends.{other_end}
@@ -35,10 +34,6 @@ module _ {N S : Type 0} where
   pub record IsTold (items : List (Item N S)) (j : Joining N) : Type 0 where
     pub written : name_of items j.end ≡ Some j.written
     pub read : name_of items (other_end j.end) ≡ Some j.read
-
-  -- the stories of halves that an item hands over for a socket, at its close or to the reaper
-  abbrev pub stories_in : Answered N S → List (PipeName N × S)
-  stories_in h = h.stories.items
 
   -- behind these items, an item tells the names as they were given
   abbrev pub FitsNames : List (Item N S) → Item N S → Type 0

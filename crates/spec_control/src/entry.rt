@@ -4,7 +4,8 @@ use crate::request::{Reply, Req};
 use http_server::Log;
 use zq_base::{Attached, EndId, Octets, Seq, Settled, SlotId};
 
-/// An end that joined its owner, with the names of the two pipes of its pair.
+/// An end that joined its owner, or that the reaper took over, with the names of the two pipes of
+/// its pair.
 #[derive(Drop)]
 pub struct Joining<N> {
     pub end: EndId,
@@ -15,6 +16,9 @@ pub struct Joining<N> {
     /// The pipe that the end reads.
     pub read: N,
     pub answer: Attached,
+    /// Whether its reading half had met the delimiter of its pipe before: of an end that the reaper
+    /// takes over alone.
+    pub met: bool,
 }
 
 /// A pipe, by the end that writes it, and its name.

@@ -1,0 +1,3 @@
+mod NamedLemmas
+mod OwnLemmas
+mod TrialLemmas

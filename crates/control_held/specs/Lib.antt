@@ -1,0 +1,7 @@
+pub mod Held
+pub mod Has
+pub mod OwnAsks
+pub mod Laws
+pub mod Trial
+pub mod Worker
+pub mod Met

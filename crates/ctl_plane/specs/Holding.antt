@@ -1,0 +1,154 @@
+-- What a holder of ends has, and what each of its calls does to it (own choice, after libzmq's `pipe_t` and `socket_base_t`).
+use Rattle.std.specs.Prelude.{◌≡◌, ◌≢◌, ◌≤◌, ℕ, Bool, true, false, not, List, [], ◌∷◌, ◌++◌, Option, Some, None, if◌then◌else◌, filter, All}
+use Rattle.std.specs.List.{list_any}
+use Rattle.zq_base.specs.declared.ids.EndId.{EndId}
+use Rattle.zq_base.specs.declared.kind.Kind.{Kind}
+use Rattle.zq_base.specs.declared.kind.Kind.TheVariants.{Router, Pair}
+use Rattle.zq_base.specs.declared.attached.Attached.{Attached}
+use Rattle.zq_base.specs.declared.attached.Attached.TheVariants.{Yes, BadId, Second}
+use Rattle.spec_pattern.specs.Pipe.{max_capacity}
+use Rattle.spec_control.specs.Control.{is_end}
+use Rattle.control_held.specs.Held.{Held}
+use Rattle.ctl_plane.specs.declared.halves.Halves.{Halves}
+use Rattle.ctl_plane.specs.declared.given.Given.{Given}
+
+-- what a holder has
+pub record Holding (N : Type 0) : Type 0 where
+  -- the objects that it is the holder of
+  pub holds : ℕ → Bool
+  -- an object's ends, in the order of their attachment
+  pub ends : ℕ → List (Held N)
+  -- the writing half of an end is with the holder still
+  pub writes : EndId → Bool
+  -- the reading half of an end has met the other end's delimiter
+  pub at_delimiter : EndId → Bool
+  -- the kind that ends of an object join, if it is a socket that was not closed
+  pub kind : ℕ → Option Kind
+  -- a session that has output left to write within its linger
+  pub output_left : ℕ → Bool
+
+-- a pipe's capacity
+pub record IsCapacity (capacity : ℕ) : Type 0 where
+  pub some : 1 ≤ capacity
+  pub few : capacity ≤ max_capacity
+
+-- a ROUTER alone refuses a peer by its name, and a PAIR a second one (zmq_socket(3))
+abbrev pub MayRefuse : Option Kind → Attached → Type 0
+MayRefuse kind Yes = Unit {0}
+MayRefuse kind BadId = kind ≡ Some Router
+MayRefuse kind Second = kind ≡ Some Pair
+
+module _ {N : Type 0} where
+  -- an end is among these
+  abbrev pub has_end : EndId → List (Held N) → Bool
+  has_end e hs = list_any (λ h. is_end e h.end) hs
+
+  abbrev pub without_end : EndId → List (Held N) → List (Held N)
+  without_end e hs = filter (λ h. not (is_end e h.end)) hs
+
+  -- the names of the pipe that an end writes and of the one that it reads
+  abbrev pub written_in : List (Held N) → EndId → Option N
+  written_in [] e = None
+  written_in (h ∷ hs) e = if is_end e h.end then Some h.written else written_in hs e
+
+  abbrev pub read_in : List (Held N) → EndId → Option N
+  read_in [] e = None
+  read_in (h ∷ hs) e = if is_end e h.end then Some h.read else read_in hs e
+
+  -- the writing halves of ends but one are where they were
+  abbrev pub WritesButAt : EndId → Bool → (old new : Holding N) → Type 0
+  WritesButAt e now old new = (d : EndId) → new.writes d ≡ (if is_end d e then now else old.writes d)
+
+  abbrev pub WritesAsBefore : (old new : Holding N) → Type 0
+  WritesAsBefore old new = (d : EndId) → new.writes d ≡ old.writes d
+
+  -- an object's ends are these now, and else all is as before; an end that was at its delimiter is there while it is held
+  pub record HoldsNow (o : ℕ) (hs : List (Held N)) (old new : Holding N) : Type 0 where
+    pub ends : new.ends o ≡ hs
+    pub others : (i : ℕ) → i ≢ o → new.ends i ≡ old.ends i
+    pub objects : (i : ℕ) → new.holds i ≡ old.holds i
+    pub kinds : (i : ℕ) → new.kind i ≡ old.kind i
+    pub output : (i : ℕ) → new.output_left i ≡ old.output_left i
+    pub delimiters : (i : ℕ) (e : EndId) → has_end e (new.ends i) ≡ true → old.at_delimiter e ≡ true → new.at_delimiter e ≡ true
+
+  -- all is as before
+  pub record Stays (o : ℕ) (old new : Holding N) : Type 0 where
+    pub now : HoldsNow o (old.ends o) old new
+    pub writers : WritesAsBefore old new
+
+  -- an end joined an object
+  pub record Joined (o : ℕ) (h : Held N) (old new : Holding N) : Type 0 where
+    pub now : HoldsNow o (old.ends o ++ h ∷ []) old new
+    pub writers : WritesButAt h.end true old new
+
+  -- an end left it, whose writing half is not there
+  pub record Left (o : ℕ) (e : EndId) (old new : Holding N) : Type 0 where
+    pub now : HoldsNow o (without_end e (old.ends o)) old new
+    pub writers : WritesButAt e false old new
+
+  -- the writing half of an end was given away
+  pub record Yielded (o : ℕ) (e : EndId) (old new : Holding N) : Type 0 where
+    pub now : HoldsNow o (old.ends o) old new
+    pub writers : WritesButAt e false old new
+
+  -- all ends are as before, and what is said of other objects' output; of this one it may change
+  pub record IsTold (o : ℕ) (old new : Holding N) : Type 0 where
+    pub ends : (i : ℕ) → new.ends i ≡ old.ends i
+    pub writes : WritesAsBefore old new
+    pub kinds : (i : ℕ) → new.kind i ≡ old.kind i
+    pub objects : (i : ℕ) → i ≢ o → new.holds i ≡ old.holds i
+    pub output : (i : ℕ) → i ≢ o → new.output_left i ≡ old.output_left i
+    pub delimiters : (e : EndId) → old.at_delimiter e ≡ true → new.at_delimiter e ≡ true
+
+  -- an object is taken in, with these ends
+  pub record IsPlugged (o : ℕ) (hs : List (Held N)) (old new : Holding N) : Type 0 where
+    pub here : new.holds o ≡ true
+    pub ends : new.ends o ≡ hs
+    pub no_kind : new.kind o ≡ None
+    pub others : (i : ℕ) → i ≢ o → (new.holds i ≡ old.holds i) × ((new.ends i ≡ old.ends i) × (new.kind i ≡ old.kind i))
+    pub output : (i : ℕ) → i ≢ o → new.output_left i ≡ old.output_left i
+    pub delimiters : (i : ℕ) (e : EndId) → has_end e (old.ends i) ≡ true → old.at_delimiter e ≡ true → new.at_delimiter e ≡ true
+
+  -- an object's ends were all given away, with the object; those of other objects are as before
+  pub record HasGiven (o : ℕ) (old new : Holding N) : Type 0 where
+    pub none : new.ends o ≡ []
+    pub gone : new.holds o ≡ false
+    pub others : (i : ℕ) → i ≢ o → (new.holds i ≡ old.holds i) × ((new.ends i ≡ old.ends i) × (new.kind i ≡ old.kind i))
+
+  -- the last of these ends is this one
+  pub record IsLast (e : EndId) (hs : List (Held N)) : Type 0 where
+    pub before : List (Held N)
+    pub last : Held N
+    pub are : hs ≡ before ++ last ∷ []
+    pub end : is_end e last.end ≡ true
+
+module _ {N O I : Type 0} where
+  -- of the ends that a closed socket gives, those that are said to have met their delimiter have met it
+  abbrev pub AreMet : (ended : I → Bool) → List (Given N O I) → Type 0
+  AreMet ended gs = All (λ g. g.met ≡ true → ended g.input ≡ true) gs
+
+  -- and the holder that takes them says so
+  abbrev pub AreAtDelimiter : (EndId → Bool) → List (Given N O I) → Type 0
+  AreAtDelimiter at gs = All (λ g. g.met ≡ true → at g.end ≡ true) gs
+
+  -- it is said of each that has
+  abbrev pub AllTold : (EndId → Bool) → List (Given N O I) → Type 0
+  AllTold at gs = All (λ g. g.met ≡ at g.end) gs
+
+module _ {N O I : Type 0} (out_name : O → N) (in_name : I → N) where
+  -- an end with these halves
+  abbrev pub held_with : EndId → Halves O I → Held N
+  held_with e halves = record { end = e; written = out_name halves.out; read = in_name halves.input }
+
+  -- of the two halves of each of two pipes, each end has one
+  pub record AreCrossed (mine other : Halves O I) : Type 0 where
+    pub there : in_name other.input ≡ out_name mine.out
+    pub back : in_name mine.input ≡ out_name other.out
+
+  -- an end that a closed socket gives to the reaper; its writing half may be yielded
+  abbrev pub held_given : Given N O I → Held N
+  held_given g = record { end = g.end; written = g.written; read = in_name g.input }
+
+  abbrev pub held_optional : Option (EndId × Halves O I) → List (Held N)
+  held_optional None = []
+  held_optional (Some x) = held_with x.0 x.1 ∷ []

@@ -1,0 +1,8 @@
+/// What a delivery found in a mailbox.
+#[derive(Clone, Copy, Debug, PartialEq, Eq)]
+pub enum Delivery {
+    /// Its oldest command was processed.
+    Done,
+    /// It is empty.
+    Empty,
+}

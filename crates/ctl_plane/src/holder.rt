@@ -1,0 +1,155 @@
+ghost use Rattle.std.specs.Prelude.{◌≡◌, ◌+◌, [], true, false, Some, IfOk, IfErr, OnOk, map};
+
+use crate::given::Given;
+use crate::halves::Halves;
+use crate::made::Made;
+use msg_pipe::Pipes;
+use spec_control::EndState;
+use std::alloc::{AllocError, AllocFailed, Global};
+use zq_base::{Address, Attached, EndId, Kind, ObjId, Options, Peer, Settled};
+
+/// The owner of ends, lent to the control plane for one event, with its pipes.
+///
+/// It has ends of one socket, of all that an I/O worker took in, or of the closed sockets of the
+/// reaper. The plane names the object with each end.
+pub trait Holder<P: Pipes> {
+    ghost use Rattle.ctl_plane.specs.Holding.{Holding, IsCapacity, MayRefuse, has_end, written_in};
+    ghost use Rattle.ctl_plane.specs.Holding.{read_in, Stays, Joined, Left, Yielded, HasGiven};
+    ghost use Rattle.ctl_plane.specs.Holding.{IsTold, IsPlugged, IsLast, held_with, AreCrossed};
+    ghost use Rattle.ctl_plane.specs.Holding.{held_given, held_optional};
+    ghost use Rattle.ctl_plane.specs.Holding.{AreMet, AllTold, AreAtDelimiter};
+    ghost use Rattle.std.specs.Prelude.{Bool};
+
+    /// What it has.
+    ghost holding: { Self → Holding P.Name };
+
+    /// A reading half has met its delimiter, as its pipes know it.
+    ghost ended: { Self → P.In → Bool };
+
+    /// Makes the pipes of a pair: this holder's end writes the first, of this many messages, and
+    /// reads the second.
+    fn make(
+        &mut self,
+        alloc: Global,
+        o: ObjId,
+        written: u32,
+        read: u32,
+        mine: &P::Waker,
+        other: &P::Waker,
+    ) -> Result<Made<P::Out, P::In>, AllocError>
+        requires written { IsCapacity written }
+        requires read { IsCapacity read }
+        ensures pair { IfOk result (λ m.
+            AreCrossed P.known.out_name P.known.in_name m.mine m.other) }
+        ensures stays { Stays o.0 (holding self.old) (holding self.new) };
+
+    /// An end joins an object, whose kind answers. It keeps the halves of an end that its kind
+    /// refuses too; the end is then no peer. Want of memory hands them back.
+    fn attach(
+        &mut self,
+        alloc: Global,
+        o: ObjId,
+        end: EndId,
+        peer: &Peer,
+        halves: Halves<P::Out, P::In>,
+    ) -> Result<Attached, AllocFailed<Halves<P::Out, P::In>>>
+        requires here { (holding self.old).holds o.0 ≡ true }
+        requires new { has_end end ((holding self.old).ends o.0) ≡ false }
+        ensures ok { OnOk result (Joined o.0 (held_with P.known.out_name P.known.in_name end halves)
+            (holding self.old) (holding self.new)) }
+        ensures refuses { IfOk result (λ a. MayRefuse ((holding self.old).kind o.0) a) }
+        ensures err { IfErr result (λ e. (e.value ≡ halves) × (self.new ≡ self.old)) };
+
+    /// Undoes the last attach that still stands.
+    fn take_back(&mut self, o: ObjId, end: EndId) -> Halves<P::Out, P::In>
+        requires last { IsLast end ((holding self.old).ends o.0) }
+        requires writer { (holding self.old).writes end ≡ true }
+        ensures left { Left o.0 end (holding self.old) (holding self.new) }
+        ensures written { written_in ((holding self.old).ends o.0) end
+            ≡ Some (P.known.out_name result.out) }
+        ensures read { read_in ((holding self.old).ends o.0) end
+            ≡ Some (P.known.in_name result.input) };
+
+    /// An end goes to a state of its life.
+    fn set_state(&mut self, o: ObjId, end: EndId, state: EndState)
+        requires here { has_end end ((holding self.old).ends o.0) ≡ true }
+        ensures stays { Stays o.0 (holding self.old) (holding self.new) };
+
+    /// The pipe that an end writes gets its delimiter.
+    fn seal(&mut self, o: ObjId, end: EndId)
+        requires here { has_end end ((holding self.old).ends o.0) ≡ true }
+        requires writer { (holding self.old).writes end ≡ true }
+        ensures stays { Stays o.0 (holding self.old) (holding self.new) };
+
+    /// Gives away the writing half of an end that acknowledges; parts that were not committed are
+    /// rolled back.
+    fn yield_writer(&mut self, o: ObjId, end: EndId) -> P::Out
+        requires here { has_end end ((holding self.old).ends o.0) ≡ true }
+        requires writer { (holding self.old).writes end ≡ true }
+        ensures name { written_in ((holding self.old).ends o.0) end
+            ≡ Some (P.known.out_name result) }
+        ensures yielded { Yielded o.0 end (holding self.old) (holding self.new) };
+
+    /// Joins the two halves of the pipe that an end read, which is gone then. What is left in a
+    /// pipe that was read to its delimiter is nothing.
+    fn settle(&mut self, o: ObjId, end: EndId, writer: P::Out) -> Settled
+        requires yielded { (holding self.old).writes end ≡ false }
+        requires pipe { read_in ((holding self.old).ends o.0) end ≡ Some (P.known.out_name writer) }
+        ensures sum { result.sent ≡ result.got + result.rest }
+        ensures read_out { (holding self.old).at_delimiter end ≡ true → result.rest ≡ 0 }
+        ensures gone { Left o.0 end (holding self.old) (holding self.new) };
+
+    /// Calls of the socket other than close are refused from now on.
+    fn stop(&mut self, o: ObjId)
+        ensures stays { Stays o.0 (holding self.old) (holding self.new) };
+
+    /// A waker of this holder. Nothing is promised of it.
+    fn waker(&self) -> P::Waker;
+
+    /// Takes in a listener, which has no end, or a session with its end or none yet. Want of memory
+    /// hands the halves back.
+    fn plug(
+        &mut self,
+        alloc: Global,
+        o: ObjId,
+        kind: Kind,
+        at: &Address,
+        options: &Options,
+        end: Option<(EndId, Halves<P::Out, P::In>)>,
+    ) -> Result<(), AllocFailed<Option<(EndId, Halves<P::Out, P::In>)>>>
+        requires new { (holding self.old).holds o.0 ≡ false }
+        ensures ok { OnOk result (IsPlugged o.0
+            (held_optional P.known.out_name P.known.in_name end)
+            (holding self.old) (holding self.new)) }
+        ensures err { IfErr result (λ e. (e.value ≡ end) × (self.new ≡ self.old)) };
+
+    /// An object's Term was processed.
+    fn told(&mut self, o: ObjId)
+        ensures { IsTold o.0 (holding self.old) (holding self.new) };
+
+    /// Whether a session has output left to write within its linger.
+    fn output_left(&self, o: ObjId) -> bool
+        ensures { result ≡ (holding self.now).output_left o.0 };
+
+    /// An object has ended.
+    fn over(&mut self, o: ObjId)
+        requires { (holding self.old).ends o.0 ≡ [] }
+        ensures { IsTold o.0 (holding self.old) (holding self.new) };
+
+    /// Gives all ends of a socket that is closed.
+    fn give_ends(&mut self, o: ObjId) -> Vec<Given<P::Name, P::Out, P::In>>
+        requires here { (holding self.old).holds o.0 ≡ true }
+        ensures all { map (held_given P.known.out_name P.known.in_name) result.items
+            ≡ (holding self.old).ends o.0 }
+        ensures none { HasGiven o.0 (holding self.old) (holding self.new) }
+        ensures told { AllTold (holding self.old).at_delimiter result.items }
+        ensures met { AreMet (ended self.new) result.items };
+
+    /// Takes the ends of a closed socket. It needs no memory.
+    fn take_ends(&mut self, o: ObjId, ends: Vec<Given<P::Name, P::Out, P::In>>)
+        requires new { (holding self.old).holds o.0 ≡ false }
+        requires met { AreMet (ended self.old) ends.items }
+        ensures all { IsPlugged o.0 (map (held_given P.known.out_name P.known.in_name) ends.items)
+            (holding self.old) (holding self.new) }
+        ensures at { AreAtDelimiter (holding self.new).at_delimiter ends.items };
+}
