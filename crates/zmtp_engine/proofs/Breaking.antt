@@ -1,13 +1,13 @@
 -- The octets of a refusal, the last one aside, break no rule.
-use Rattle.std.proofs.Common.{◌≡◌, ℕ, ◌+◌, ◌-◌, ◌<◌, ◌≤◌, Bool, true, false, List, [], ◌∷◌, ◌++◌, length, take, drop, get_or, Option, Some, None, refl, sym, ap, subst, ◌∙◌, append_assoc, arith}
+use Rattle.std.proofs.Common.{◌≡◌, ℕ, ◌+◌, ◌-◌, ◌<◌, ◌≤◌, Bool, true, false, List, [], ◌∷◌, ◌++◌, length, take, drop, get_or, Option, None, refl, sym, ap, subst, ◌∙◌, append_assoc, arith}
 use Rattle.std.specs.Prelude.{MatchOption, IsSome}
 use Rattle.std.proofs.lemmas.List.{append-nil, length-append, length-take-le, get_or-take, take_rest}
 use Rattle.zq_base.specs.declared.options.EngineOpts.{EngineOpts}
 use Rattle.spec_zmtp.specs.declared.greeting.Judgement.TheVariants.{Good}
 use Rattle.spec_zmtp.specs.declared.flags.FrameKind.{FrameKind}
 use Rattle.spec_zmtp.specs.declared.flags.Flags.{Flags}
-use Rattle.spec_zmtp.specs.FrameFlags.{flags_octet, flags_at}
-use Rattle.spec_zmtp.specs.FrameEncoding.{WireFrame, IsWireFrame, IsHead, IsCutHead, FitsSize, head_octets, size_octets, size_length, octets_of}
+use Rattle.spec_zmtp.specs.FrameFlags.{flags_octet}
+use Rattle.spec_zmtp.specs.FrameEncoding.{WireFrame, IsWireFrame, IsHead, head_octets, size_octets, size_length}
 use Rattle.spec_zmtp.specs.FrameRules.{octet_refusal, AllKeep, IsCutFrame, at_flags, in_head, in_body}
 use Rattle.spec_zmtp.specs.Greeting.{judged}
 use Rattle.spec_zmtp.specs.DecodedStream.{offset_of, Decoded, Decodes, Unfinished, stream_of, behind_frames, unfinished_behind, IsStream, unfinished}

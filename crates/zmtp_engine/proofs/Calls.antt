@@ -12,13 +12,13 @@ use Rattle.spec_zmtp.specs.declared.cause.Refusal.{Refusal}
 use Rattle.spec_zmtp.specs.declared.command.Command.{Command}
 use Rattle.spec_zmtp.specs.FrameEncoding.{encode_message}
 use Rattle.spec_zmtp.specs.Greeting.{greeting_of}
-use Rattle.spec_zmtp.specs.Put.{Put, says, sends, command_in, message_in, encode_said, encode_put, commands_in, messages_in, encode_puts, encode_commands}
+use Rattle.spec_zmtp.specs.Put.{says, sends, command_in, message_in, encode_said, encode_put, commands_in, messages_in, encode_puts, encode_commands}
 use Rattle.spec_zmtp.specs.DecodedStream.{Decoded, Decodes, Outcome, Unfinished, octets_said, at_greeting, greeting_unfinished}
 use Rattle.spec_zmtp.specs.OwnCommands.{IsEngineOpts}
 use Rattle.spec_zmtp.proofs.FrameLemmas.{same_front}
 use Rattle.spec_zmtp.proofs.StreamLemmas.{one_meaning}
 use Rattle.zmtp_engine.specs.declared.want.OutOfMemory.{OutOfMemory}
-use Rattle.zmtp_engine.specs.Answers.{Standing, standing_by, standing_now, standing_at}
+use Rattle.zmtp_engine.specs.Answers.{standing_by, standing_now, standing_at}
 use Rattle.zmtp_engine.specs.Speech.{IsModest}
 use Rattle.zmtp_engine.specs.Hearing.{Grows}
 use Rattle.zmtp_engine.specs.Listening.{Listening, ListensTo, IsSettledNow, refusal_now, rest_now, said_now, outcome_by}
@@ -26,7 +26,7 @@ use Rattle.zmtp_engine.specs.Output.{Output, run_size, piece_of, pieces_in, join
 use Rattle.zmtp_engine.specs.EngineView.{IsSpent}
 use Rattle.zmtp_engine.specs.declared.sending.Sending.{Sending}
 use Rattle.zmtp_engine.specs.WriterView.{later_in}
-use Rattle.zmtp_engine.specs.Conversation.{Past, Conversation, Follows, IsCurrent, IsMeaning, HasLeft, no_past, fed, gave, octets_put, unwritten, waiting, with_output}
+use Rattle.zmtp_engine.specs.Conversation.{Past, Conversation, Follows, IsCurrent, IsMeaning, HasLeft, no_past, fed, gave, octets_put, unwritten, waiting}
 use Rattle.zmtp_engine.proofs.Conversations.{feeds, gives, begins, with_queue}
 use Rattle.zmtp_engine.proofs.Fronts.{fronts}
 use Rattle.zmtp_engine.proofs.Meaning.{means, length-greeting_of}

@@ -1,8 +1,8 @@
 -- What a call adds to the past.
-use Rattle.std.proofs.Common.{◌≡◌, ℕ, ◌+◌, ◌<◌, ◌≤◌, Bool, true, false, cond, eqb, List, [], ◌∷◌, ◌++◌, length, take, drop, Option, Some, None, refl, sym, ap, subst, ◌∙◌, append_assoc, arith}
+use Rattle.std.proofs.Common.{◌≡◌, ℕ, ◌<◌, ◌≤◌, Bool, true, false, cond, eqb, List, [], ◌∷◌, ◌++◌, length, take, drop, Option, Some, None, refl, sym, ap, subst, ◌∙◌, append_assoc, arith}
 use Rattle.std.specs.Prelude.{◌&&◌, is_none, IsSome}
 use Rattle.std.specs.List.{flat_map}
-use Rattle.std.proofs.lemmas.Bool.{eqb-true, eqb-false, eq-eqb, lt-ltb, le-ltb}
+use Rattle.std.proofs.lemmas.Bool.{eqb-true, eqb-false, eq-eqb}
 use Rattle.std.proofs.lemmas.List.{length-append, append-nil, drop-append-le, take-append-drop, map-append}
 use Rattle.std.proofs.lemmas.List.Concat.{flat_map-append}
 use Rattle.zq_base.specs.declared.options.EngineOpts.{EngineOpts}
@@ -18,7 +18,7 @@ use Rattle.spec_zmtp.proofs.StreamLemmas.{judged_stays}
 use Rattle.zmtp_engine.specs.Hearing.{Hearing, Hears, HearsAt, Grows}
 use Rattle.zmtp_engine.specs.Listening.{Listening, Greeted, ListensTo, ListensAt, is_greeted, said_now}
 use Rattle.zmtp_engine.specs.Speech.{IsModest}
-use Rattle.zmtp_engine.specs.Output.{Output, pieces_of, pieces_in, octets_left, joined, begun_run}
+use Rattle.zmtp_engine.specs.Output.{pieces_of, pieces_in, octets_left, joined, begun_run}
 use Rattle.zmtp_engine.specs.Conversation.{Past, Conversation, Follows, fed, gave, took, wrote, lent, with_output}
 use Rattle.spec_zmtp.proofs.JudgementLemmas.{long_judged}
 use Rattle.zmtp_engine.proofs.Fronts.{kept_said}

@@ -1,5 +1,5 @@
 -- What of an engine's octets reaches another side, wherever the link is cut.
-use Rattle.std.proofs.Common.{◌≡◌, ℕ, ◌<◌, ◌≤◌, ltb, List, [], ◌∷◌, ◌++◌, length, Option, Some, None, refl, sym, ap, subst, inl, inr, ◌∙◌, append_assoc, arith}
+use Rattle.std.proofs.Common.{◌≡◌, ℕ, ◌<◌, ltb, List, [], ◌∷◌, ◌++◌, length, Option, Some, None, refl, sym, ap, subst, ◌∙◌, append_assoc, arith}
 use Rattle.std.specs.Prelude.{IsSome, All, map}
 use Rattle.std.specs.List.{flat_map, fold}
 use mathlib.Core.List.{IsPrefix}
@@ -21,14 +21,14 @@ use Rattle.spec_zmtp.specs.Greeting.{greeting_of}
 use Rattle.spec_zmtp.specs.Put.{IsSendable, encode_said, encode_commands, messages_in}
 use Rattle.spec_zmtp.specs.DecodedStream.{Decoded, Decodes, Refused, Unfinished, octets_said, stream_of, IsStream, greeting_unfinished, greeting_refused, unfinished, refused}
 use Rattle.spec_zmtp.proofs.FrameLemmas.{same_front, one_frame}
-use Rattle.spec_zmtp.proofs.MoreLemmas.{gathered_front, front_of, front_trans}
+use Rattle.spec_zmtp.proofs.MoreLemmas.{gathered_front, front_of}
 use Rattle.spec_zmtp.proofs.SizeLemmas.{fits_size}
 use Rattle.spec_zmtp.proofs.StreamLemmas.{one_meaning, refused_stays}
 use Rattle.zmtp_mech.specs.Mechanism.{IsSayable}
 use Rattle.zmtp_engine.specs.Listening.{said_now}
-use Rattle.zmtp_engine.specs.Conversation.{Past, Conversation, Follows, octets_put, unwritten}
+use Rattle.zmtp_engine.specs.Conversation.{Past, Conversation, Follows, unwritten}
 use Rattle.zmtp_engine.specs.Exchange.{Fitting}
-use Rattle.zmtp_engine.proofs.Calls.{messages_put, octets_are, same_commands}
+use Rattle.zmtp_engine.proofs.Calls.{messages_put}
 use Rattle.zmtp_engine.proofs.Exchanges.{messages_behind}
 use Rattle.zmtp_engine.proofs.FittingLemmas.{fitting_handshake}
 use Rattle.zmtp_engine.proofs.Fronts.{fronts}

@@ -1,9 +1,9 @@
 -- Two sides that fit each other shake hands.
-use Rattle.std.proofs.Common.{◌≡◌, ℕ, List, [], ◌∷◌, ◌++◌, length, Option, Some, None, refl, sym, ap, subst, ◌∙◌, append_assoc}
-use Rattle.std.specs.Prelude.{IsSome, All, codes, map}
+use Rattle.std.proofs.Common.{◌≡◌, ℕ, List, [], ◌∷◌, ◌++◌, Option, Some, refl, sym, ap, subst, ◌∙◌, append_assoc}
+use Rattle.std.specs.Prelude.{IsSome, All, map}
 use mathlib.Core.List.{IsPrefix}
 use Rattle.std.proofs.lemmas.List.Concat.{flat_map-append}
-use Rattle.std.proofs.lemmas.List.Elements.{All-nil, All-cons, All-head}
+use Rattle.std.proofs.lemmas.List.Elements.{All-nil, All-cons}
 use Rattle.zq_base.specs.declared.options.EngineOpts.{EngineOpts}
 use Rattle.zq_base.specs.declared.options.Peer.{Peer}
 use Rattle.zq_base.specs.declared.options.Role.{Role}
@@ -12,8 +12,8 @@ use Rattle.spec_zmtp.specs.declared.command.Command.{Command}
 use Rattle.spec_zmtp.specs.declared.greeting.Judgement.TheVariants.{Good}
 use Rattle.spec_zmtp.specs.Greeting.{greeting_of, judged}
 use Rattle.spec_zmtp.specs.Handshake.{Item, Told, Handshake, handshake, handshake_as}
-use Rattle.spec_zmtp.specs.Metadata.{encode_login, command}
-use Rattle.spec_zmtp.specs.OwnCommands.{own_login, our_ready, our_initiate, our_hello, our_welcome}
+use Rattle.spec_zmtp.specs.Metadata.{encode_login}
+use Rattle.spec_zmtp.specs.OwnCommands.{own_login, our_hello, our_welcome}
 use Rattle.spec_zmtp.specs.Put.{encode_said, encode_commands}
 use Rattle.spec_zmtp.specs.DecodedStream.{Decoded, Decodes, GoesOn, octets_said}
 use Rattle.spec_zmtp.proofs.MoreLemmas.{more_means}
@@ -21,7 +21,7 @@ use Rattle.zmtp_mech.specs.Mechanism.{IsSayable}
 use Rattle.zmtp_mech.proofs.SayableLemmas.{hello_sayable, welcome_sayable}
 use Rattle.zmtp_engine.specs.Exchange.{RolesMeet, Fitting, as_told}
 use Rattle.zmtp_engine.proofs.Exchanges.{decoded_at}
-use Rattle.zmtp_engine.proofs.FittingLemmas.{NoneRefused, Accepts, accepts, whole_said, greeting_accepted, peer_told, welcomed, greeted, handshake_said, spoken, spoken_means}
+use Rattle.zmtp_engine.proofs.FittingLemmas.{NoneRefused, accepts, whole_said, peer_told, welcomed, greeted, handshake_said, spoken, spoken_means}
 use Rattle.zmtp_engine.proofs.Meaning.{length-greeting_of}
 
 -- what a side that says at least these commands means to another goes on where they end

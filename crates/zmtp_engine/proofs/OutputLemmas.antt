@@ -1,13 +1,13 @@
 -- Runs have the octets of the pieces, in order.
-use Rattle.std.proofs.Common.{◌≡◌, ℕ, suc, ◌+◌, ◌<◌, ◌≤◌, Bool, true, false, cond, ltb, leb, List, [], ◌∷◌, ◌++◌, length, get_or, drop, Option, Some, None, refl, sym, ap, subst, inl, inr, ◌∙◌, append_assoc, arith}
+use Rattle.std.proofs.Common.{◌≡◌, ℕ, suc, ◌+◌, ◌<◌, ◌≤◌, Bool, true, false, cond, ltb, leb, List, [], ◌∷◌, ◌++◌, length, drop, Option, Some, None, refl, sym, ap, inl, inr, ◌∙◌, append_assoc, arith}
 use Rattle.std.proofs.lemmas.Bool.{cases_lt, lt-ltb, le-ltb, le-leb, lt-leb, eq-eqb, ne_eqb}
 use Rattle.std.proofs.lemmas.List.{append-nil, length-append, drop_all, length-drop, nil_from_length}
 use Rattle.std.proofs.lemmas.List.Concat.{flat_map-append}
 use Rattle.std.proofs.Math.Seq.{drop-cons}
 use Rattle.spec_zmtp.specs.declared.flags.FrameKind.{FrameKind}
 use Rattle.spec_zmtp.specs.declared.flags.FrameKind.TheVariants.{Last, More}
-use Rattle.spec_zmtp.specs.FrameEncoding.{encode_head, encode_frame, encode_message}
-use Rattle.zmtp_engine.specs.Output.{piece_of, pieces_of, joined, run_size, Run, filled_run, next_run, Output, pieces_in, pieces_left, octets_left, after_run, begun_at, begun_run}
+use Rattle.spec_zmtp.specs.FrameEncoding.{encode_head, encode_message}
+use Rattle.zmtp_engine.specs.Output.{piece_of, pieces_of, joined, Run, filled_run, next_run, Output, pieces_in, pieces_left, octets_left, after_run, begun_at, begun_run}
 use Rattle.zmtp_engine.specs.WriterView.{body_at, kind_of, head_at}
 
 -- ---- pieces

@@ -1,5 +1,5 @@
 -- What a side says in a handshake: few commands, told apart by their octets.
-use Rattle.std.proofs.Common.{◌≡◌, ℕ, suc, ◌+◌, ◌<◌, ◌≤◌, Bool, true, false, cond, ltb, List, [], ◌∷◌, ◌++◌, length, Option, Some, None, Result, Ok, Err, refl, sym, ap, subst, ◌∙◌, append_assoc, arith}
+use Rattle.std.proofs.Common.{◌≡◌, ℕ, suc, ◌≤◌, Bool, true, false, cond, ltb, List, [], ◌∷◌, ◌++◌, length, Some, Result, Ok, Err, refl, sym, ap, subst, ◌∙◌, append_assoc, arith}
 use Rattle.std.specs.Prelude.{All, codes, not}
 use Rattle.std.proofs.lemmas.List.{length-append}
 use Rattle.std.proofs.lemmas.List.Elements.{All-nil, All-cons, All-head, All-tail}
@@ -14,7 +14,7 @@ use Rattle.spec_zmtp.specs.declared.flags.FrameKind.TheVariants.{Command}
 use Rattle.spec_zmtp.specs.declared.handshake.Awaited.{Awaited}
 use Rattle.spec_zmtp.specs.declared.handshake.Awaited.TheVariants as awaited
 use Rattle.spec_zmtp.specs.declared.handshake.Stage.TheVariants.{Refused}
-use Rattle.spec_zmtp.specs.FrameEncoding.{WireFrame, IsWireFrame, octets_of, encode_head}
+use Rattle.spec_zmtp.specs.FrameEncoding.{WireFrame, IsWireFrame, encode_head}
 use Rattle.spec_zmtp.specs.FrameRules.{items_of}
 use Rattle.spec_zmtp.specs.Metadata.{encode_command, is_called}
 use Rattle.spec_zmtp.specs.Decoding.{decode_command, decode_meta}

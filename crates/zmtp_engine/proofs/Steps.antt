@@ -5,7 +5,7 @@ use Rattle.zq_base.specs.declared.options.EngineOpts.{EngineOpts}
 use Rattle.spec_zmtp.specs.declared.cause.Cause.TheVariants as cause
 use Rattle.spec_zmtp.specs.declared.cause.Refusal.{Refusal}
 use Rattle.spec_zmtp.specs.declared.flags.FrameKind.{FrameKind}
-use Rattle.spec_zmtp.specs.FrameFlags.{flags_octet, limit}
+use Rattle.spec_zmtp.specs.FrameFlags.{flags_octet, flags_at, limit}
 use Rattle.spec_zmtp.specs.FrameEncoding.{WireFrame, IsHead, IsCutHead, FitsSize, head_octets}
 use Rattle.spec_zmtp.specs.FrameRules.{items_of, octet_refusal, Breaks, by_flags, by_size}
 use Rattle.spec_zmtp.specs.Handshake.{Item}
@@ -14,7 +14,8 @@ use Rattle.zmtp_frame.specs.Reading.{Stage, InHead, InBody, SawBadFlags, SawTooL
 use Rattle.zmtp_frame.specs.declared.step.Step.{Step}
 use Rattle.zmtp_frame.specs.declared.step.Step.TheVariants.{NeedMore, Head, Piece, FrameEnd, BadFlags, TooLong}
 use Rattle.zmtp_engine.specs.Hearing.{Hearing, Listens, Hears, HearsAt, HasShaken, IsBegun}
-use Rattle.zmtp_engine.specs.Verdict.{octet_verdict}
+use Rattle.zmtp_engine.specs.Verdict.{octet_verdict, IsToldOf}
+use Rattle.spec_zmtp.proofs.FlagLemmas.{flags_of, flags_at-flags_octet}
 use Rattle.zmtp_engine.proofs.Verdicts.{octet_is}
 
 -- what a step within a frame leaves as it is
@@ -184,3 +185,22 @@ head_feeds begun piece taken (Piece from to) new f lt = absurd f
 head_feeds begun piece taken FrameEnd new f lt = absurd f
 head_feeds begun piece taken (BadFlags flags) new f lt = omega (arith, f.0)
 head_feeds begun piece taken (TooLong size) new f lt = f.0
+
+-- what a reader before a head tells of the octet in front
+pub told_first : (begun piece : List ℕ) (taken : ℕ) (s : Step) (new : Stage) → begun ≡ [] → Feeds (InHead begun) piece taken s new → IsToldOf s (get_or piece 0 0)
+told_first begun piece taken NeedMore new none f = tt
+told_first begun piece taken (Head kind size) new none f =
+    let first : get_or piece 0 0 ≡ flags_octet kind f.2.0 =
+    sym (get_or-take taken piece 0 0 f.0) ∙ ap (λ (o : List ℕ). get_or (o ++ take taken piece) 0 0) (sym none) ∙ first_of_head kind f.2.0 size (begun ++ take taken piece) f.2.2 in
+    (flags_of kind f.2.0, ap (λ (o : ℕ). flags_at o) first ∙ flags_at-flags_octet kind f.2.0, refl)
+told_first begun piece taken (Piece from to) new none f = tt
+told_first begun piece taken FrameEnd new none f = tt
+told_first begun piece taken (BadFlags flags) new none f = tt
+told_first begun piece taken (TooLong size) new none f = tt
+
+-- of a frame that has not begun
+pub told_now : (opts : EngineOpts) (octets : List ℕ) (given : List (List (List ℕ))) (h : Hearing) (begun piece : List ℕ) (taken : ℕ) (s : Step) (new : Stage) → Listens opts octets given h → h.begun ≡ 0 → h.reader ≡ InHead begun
+    → Feeds h.reader piece taken s new → IsToldOf s (get_or piece 0 0)
+told_now opts octets given h begun piece taken s new l zero_begun stage f =
+    let none : begun ≡ [] = sym (at_head opts octets given h begun l stage).0 ∙ none_begun h.begun zero_begun l.rest l.begun in
+    told_first begun piece taken s new none (subst (λ (x : Stage). Feeds x piece taken s new) stage f)

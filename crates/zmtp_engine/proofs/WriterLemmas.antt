@@ -1,11 +1,10 @@
 -- What a writer lends are runs of the pieces.
-use Rattle.std.proofs.Common.{◌≡◌, ℕ, suc, ◌+◌, ◌-◌, ◌<◌, ◌≤◌, List, [], ◌∷◌, ◌++◌, length, drop, Option, Some, None, refl, sym, ap, subst, inl, inr, ◌∙◌, append_assoc, arith}
+use Rattle.std.proofs.Common.{◌≡◌, ℕ, suc, ◌+◌, ◌<◌, ◌≤◌, List, [], ◌∷◌, ◌++◌, length, drop, Some, None, refl, sym, ap, subst, inl, inr, ◌∙◌, arith}
 use Rattle.std.specs.Prelude.{◌⊎◌}
-use Rattle.std.proofs.lemmas.Bool.{cases_lt, lt-ltb, le-ltb}
-use Rattle.std.proofs.lemmas.List.{append-nil, length-append, length-drop, drop-drop, nil_from_length}
-use Rattle.spec_zmtp.specs.FrameEncoding.{encode_head}
+use Rattle.std.proofs.lemmas.Bool.{cases_lt, lt-ltb}
+use Rattle.std.proofs.lemmas.List.{append-nil}
 use Rattle.spec_zmtp.proofs.SizeLemmas.{length-head}
-use Rattle.std.proofs.Common.{ltb, cond, Bool, true, false}
+use Rattle.std.proofs.Common.{ltb, cond, Bool}
 use Rattle.zmtp_engine.specs.declared.sending.Next.{Next}
 use Rattle.zmtp_engine.specs.declared.sending.Next.TheVariants.{Head, Body, Lent}
 use Rattle.zmtp_engine.specs.Output.{piece_of, pieces_of, Run, filled_run, next_run, after_run}

@@ -1,5 +1,5 @@
 -- What an engine went through, what it keeps of it, and what that means.
-use Rattle.std.specs.Prelude.{◌≡◌, ℕ, ◌≤◌, List, [], ◌∷◌, ◌++◌, length, Option, Some, None, IsSome, ◌⊎◌}
+use Rattle.std.specs.Prelude.{◌≡◌, ℕ, ◌≤◌, List, [], ◌∷◌, ◌++◌, length, None, IsSome, ◌⊎◌}
 use Rattle.std.specs.List.{flat_map}
 use mathlib.Core.List.{IsPrefix}
 use Rattle.zq_base.specs.declared.options.EngineOpts.{EngineOpts}

@@ -1,10 +1,11 @@
 pub mod Speech
 pub mod Hearing
+pub mod BodyView
 pub mod Verdict
-pub mod HearerView
+pub mod TrafficView
 pub mod Refusing
 pub mod Listening
-pub mod ListenerView
+pub mod StreamView
 pub mod Output
 pub mod WriterView
 pub mod Conversation

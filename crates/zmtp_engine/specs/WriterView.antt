@@ -1,5 +1,5 @@
 -- What the fields of a writer stand for.
-use Rattle.std.specs.Prelude.{◌≡◌, ℕ, suc, ◌+◌, ◌-◌, ◌*◌, ◌^◌, ◌<◌, ◌≤◌, ◌==◌, if◌then◌else◌, List, [], ◌++◌, length, drop, slice_index_or, Option, Some, None}
+use Rattle.std.specs.Prelude.{ℕ, suc, ◌+◌, ◌-◌, ◌*◌, ◌^◌, ◌<◌, ◌≤◌, ◌==◌, if◌then◌else◌, List, [], ◌++◌, length, drop, slice_index_or, Option, Some, None}
 use Rattle.bytes.specs.Filled.{Filled}
 use Rattle.spec_zmtp.specs.declared.flags.FrameKind.{FrameKind}
 use Rattle.spec_zmtp.specs.declared.flags.FrameKind.TheVariants.{Last, More}

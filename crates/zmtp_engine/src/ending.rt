@@ -1,9 +1,8 @@
 ghost use Rattle.std.specs.Prelude.{◌≡◌, ◌<◌, List, ℕ, None, IsSome, OnOk, OnErr};
 ghost use Rattle.zq_base.specs.declared.options.EngineOpts.{EngineOpts};
 
-use crate::blocks::take_body;
-use crate::hearer::Hearer;
 use crate::say::{say, say_if};
+use crate::traffic_decoder::TrafficDecoder;
 use spec_zmtp::{Cause, FrameKind, Refusal};
 use std::alloc::{AllocError, Global};
 use std::mem::replace;
@@ -11,9 +10,9 @@ use zmtp_mech::Answer;
 use zmtp_meta::{CommandError, read_command};
 use zq_base::{Frame, Message};
 
-impl Hearer {
+impl TrafficDecoder {
     ghost use Rattle.zmtp_engine.specs.Hearing.{Hears, Listens, Grows, Known, weight};
-    ghost use Rattle.zmtp_engine.specs.HearerView.{hearing_of};
+    ghost use Rattle.zmtp_engine.specs.TrafficView.{hearing_of};
     ghost use Rattle.zmtp_engine.specs.Refusing.{JustBroken};
     ghost use Rattle.zmtp_frame.specs.Reading.{InBody};
 
@@ -31,7 +30,7 @@ impl Hearer {
             Listens opts octets given (hearing_of self.old) → OnOk result (Hears opts octets given (hearing_of self.new)) }
     {
         self.parts.reserve(1)?;
-        let body = take_body(alloc, &mut self.body)?;
+        let body = self.body.take()?;
         self.parts.push_reserved(Frame::of_bytes(body));
         self.next_frame(self.earlier.saturating_add(self.begun));
         Ok(())
@@ -50,9 +49,9 @@ impl Hearer {
         ensures hears { (opts : EngineOpts) (octets : List ℕ) (given : List (List (List ℕ))) →
             Listens opts octets given (hearing_of self.old) → OnOk result (Hears opts octets given (hearing_of self.new)) }
     {
-        self.parts.reserve(1)?;
+        self.parts.reserve_exact(1)?;
         self.queue.reserve(1)?;
-        let body = take_body(alloc, &mut self.body)?;
+        let body = self.body.take()?;
         self.parts.push_reserved(Frame::of_bytes(body));
         let parts = replace(&mut self.parts, Vec::new(alloc));
         self.queue.push_back_reserved(Message::of_frames(parts));

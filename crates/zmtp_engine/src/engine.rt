@@ -11,7 +11,7 @@ ghost use Rattle.zmtp_engine.specs.EngineView.{IsSpent};
 ghost use Rattle.zmtp_engine.specs.Answers.{MatchOffered, standing_of, standing_now, standing_at};
 
 use crate::answers::{Offered, State};
-use crate::listener::Listener;
+use crate::stream_decoder::StreamDecoder;
 use crate::want::OutOfMemory;
 use crate::writer::Writer;
 use std::alloc::{AllocError, Global};
@@ -25,7 +25,7 @@ use zq_base::{EngineOpts, Message, Peer};
 /// What an engine went through is a `Past`; each call says what it adds to it, and what the octets fed so far mean.
 #[derive(Drop)]
 pub struct Engine {
-    listener: Listener,
+    stream: StreamDecoder,
     writer: Writer,
 }
 
@@ -48,10 +48,10 @@ impl Engine {
         ensures follows { IfOk result (λ e. Follows (no_past opts) e) }
         ensures current { IfOk result (λ e. IsCurrent e) }
     {
-        let listener = Listener::new(alloc, &opts)?;
+        let stream = StreamDecoder::new(alloc, &opts)?;
         let mut writer = Writer::new(alloc)?;
-        writer.begin(listener.said());
-        Ok(Engine { listener, writer })
+        writer.begin(stream.said());
+        Ok(Engine { stream, writer })
     }
 
     /// Hears a piece of the peer's stream: all of it, unless it is refused or memory wants.
@@ -70,8 +70,8 @@ impl Engine {
             (result ≡ Ok 0) × (self.new ≡ self.old)) }
         ensures lent { self.new.output ≡ begun_run (said_now self.new.listening) self.old.output }
     {
-        let taken = self.listener.feed(alloc, piece);
-        self.writer.begin(self.listener.said());
+        let taken = self.stream.feed(alloc, piece);
+        self.writer.begin(self.stream.said());
         taken
     }
 
@@ -83,7 +83,7 @@ impl Engine {
         ensures current { IsCurrent self.old → IsCurrent self.new }
         ensures lent { self.new.output ≡ self.old.output }
     {
-        self.listener.hearer.queue.pop_front()
+        self.stream.traffic.queue.pop_front()
     }
 
     /// Takes all whole messages out, in exchange for an empty list.
@@ -95,7 +95,7 @@ impl Engine {
         ensures current { IsCurrent self.old → IsCurrent self.new }
         ensures lent { self.new.output ≡ self.old.output }
     {
-        replace(&mut self.listener.hearer.queue, empty)
+        replace(&mut self.stream.traffic.queue, empty)
     }
 
     /// Takes a message to be written.
@@ -108,17 +108,17 @@ impl Engine {
         ensures lent { MatchOffered result (self.new.output ≡ begun_run (said_now self.old.listening)
             (record self.old.output { later = Some (pieces_of message) })) (λ _. Unit {0}) }
     {
-        if self.listener.refusal().is_some() {
+        if self.stream.refusal().is_some() {
             return Offered::Again(message);
         }
-        if self.listener.hearer.peer.is_none() {
+        if self.stream.traffic.peer.is_none() {
             return Offered::Again(message);
         }
         if self.writer.sending.is_some() {
             return Offered::Again(message);
         }
         self.writer.take_in(message);
-        self.writer.begin(self.listener.said());
+        self.writer.begin(self.stream.said());
         Offered::Taken
     }
 
@@ -141,7 +141,7 @@ impl Engine {
             (record self.old.output { run = drop n (lent self.old) }) }
     {
         self.writer.wrote(n);
-        self.writer.begin(self.listener.said());
+        self.writer.begin(self.stream.said());
     }
 
     /// How the stream stands.
@@ -150,9 +150,9 @@ impl Engine {
         ensures meaning { (p : Past) (d : Decoded) → Follows p self.now → IsCurrent self.now →
             IsMeaning p d → standing_of result ≡ standing_at d.outcome d.peer }
     {
-        match self.listener.refusal() {
+        match self.stream.refusal() {
             Some(refusal) => return State::Refused(refusal),
-            None => match &self.listener.hearer.peer {
+            None => match &self.stream.traffic.peer {
                 Some(peer) => return State::Running(peer),
                 None => return State::Shaking,
             },
@@ -165,7 +165,7 @@ impl Engine {
         ensures meaning { (p : Past) (d : Decoded) → Follows p self.now → IsCurrent self.now →
             IsMeaning p d → option_copied result ≡ d.peer }
     {
-        self.listener.hearer.peer.as_ref()
+        self.stream.traffic.peer.as_ref()
     }
 
     /// How many octets of the greeting, message or command that is unfinished have come.
@@ -173,6 +173,6 @@ impl Engine {
         ensures meaning { (p : Past) (d : Decoded) → Follows p self.now → IsCurrent self.now →
             IsMeaning p d → (n : ℕ) → d.outcome ≡ Unfinished n → result ≡ n }
     {
-        self.listener.rest()
+        self.stream.rest()
     }
 }

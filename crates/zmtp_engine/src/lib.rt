@@ -2,14 +2,14 @@
 #![tactic(auto)]
 
 mod answers;
-mod blocks;
+mod body;
 mod ending;
 mod engine;
-mod hearer;
 mod laws;
-mod listener;
 mod say;
 mod sending;
+mod stream_decoder;
+mod traffic_decoder;
 mod want;
 mod writer;
 

@@ -15,7 +15,7 @@ use crate::commands::{
 use crate::peer::read_peer;
 use spec_zmtp::{Awaited, Cause, Command, Stage};
 use std::alloc::{AllocError, Global};
-use zmtp_meta::{MetaError, read_login, read_meta};
+use zmtp_meta::{is_meta, read_login};
 use zq_base::{EngineOpts, Login};
 
 /// An answer, and the stage that comes with it.
@@ -27,31 +27,27 @@ pub struct Step {
 
 #[tactic(auto, unfolding(spec_zmtp::specs::Handshake::has_bad_meta))]
 /// Whether the command has metadata that is none.
-fn has_bad_meta(alloc: Global, command: &Command) -> Result<bool, AllocError>
-    ensures { IfOk result (λ bad. bad ≡ has_bad_meta command.now) }
+fn has_bad_meta(command: &Command) -> bool
+    ensures { result ≡ has_bad_meta command.now }
 {
     if !is_called(command, READY) && !is_called(command, INITIATE) {
-        return Ok(false);
+        return false;
     }
-    match read_meta(alloc, command.content.as_slice()) {
-        Ok(_) => Ok(false),
-        Err(MetaError::BadMeta) => Ok(true),
-        Err(MetaError::OutOfMemory) => Err(AllocError),
-    }
+    !is_meta(command.content.as_slice())
 }
 
 #[tactic(auto, unfolding(spec_zmtp::specs::Handshake::misplaced))]
 /// Why a command in place of the one awaited is refused.
-fn misplaced(alloc: Global, command: &Command) -> Result<Cause, AllocError>
-    ensures { IfOk result (λ cause. cause ≡ misplaced command.now) }
+fn misplaced(command: &Command) -> Cause
+    ensures { result ≡ misplaced command.now }
 {
-    if has_bad_meta(alloc, command)? {
-        return Ok(Cause::BadMeta);
+    if has_bad_meta(command) {
+        return Cause::BadMeta;
     }
     if is_called(command, ERROR) {
-        return Ok(Cause::PeerError);
+        return Cause::PeerError;
     }
-    Ok(Cause::OutOfOrder)
+    Cause::OutOfOrder
 }
 
 /// The refusal of a peer, with a command to say first.
@@ -93,7 +89,7 @@ fn hear_ready(alloc: Global, opts: &EngineOpts, command: &Command) -> Result<Ste
     ensures { IfOk result (λ s. Shows s (next opts.now (stage.Waiting awaited.Ready) (Told command.now))) }
 {
     if !is_called(command, READY) {
-        return Ok(refused(misplaced(alloc, command)?, None));
+        return Ok(refused(misplaced(command), None));
     }
     match read_peer(alloc, opts.kind, command.content.as_slice())? {
         Ok(peer) => Ok(Step {
@@ -111,7 +107,7 @@ fn hear_initiate(alloc: Global, opts: &EngineOpts, command: &Command) -> Result<
         (λ s. Shows s (next opts.now (stage.Waiting awaited.Initiate) (Told command.now))) }
 {
     if !is_called(command, INITIATE) {
-        return Ok(refused(misplaced(alloc, command)?, None));
+        return Ok(refused(misplaced(command), None));
     }
     match read_peer(alloc, opts.kind, command.content.as_slice())? {
         Ok(peer) => {
@@ -132,7 +128,7 @@ fn hear_welcome(alloc: Global, opts: &EngineOpts, command: &Command) -> Result<S
         (λ s. Shows s (next opts.now (stage.Waiting awaited.Welcome) (Told command.now))) }
 {
     if !is_called(command, WELCOME) {
-        return Ok(refused(misplaced(alloc, command)?, None));
+        return Ok(refused(misplaced(command), None));
     }
     let initiate = our_initiate(alloc, opts)?;
     Ok(Step {
@@ -146,7 +142,7 @@ fn hear_hello(alloc: Global, opts: &EngineOpts, command: &Command) -> Result<Ste
     ensures { IfOk result (λ s. Shows s (next opts.now (stage.Waiting awaited.Hello) (Told command.now))) }
 {
     if !is_called(command, HELLO) {
-        return Ok(refused(misplaced(alloc, command)?, None));
+        return Ok(refused(misplaced(command), None));
     }
     if !is_welcome(opts.logins.as_slice(), command.content.as_slice()) {
         let error = our_error(alloc)?;
@@ -160,19 +156,19 @@ fn hear_hello(alloc: Global, opts: &EngineOpts, command: &Command) -> Result<Ste
 }
 
 /// Hears a command once Running.
-fn hear_running(alloc: Global, command: &Command) -> Result<Step, AllocError>
-    ensures { IfOk result (λ s. Shows s (silent (running (Told command.now ∷ [])))) }
+fn hear_running(command: &Command) -> Step
+    ensures { Shows result (silent (running (Told command.now ∷ []))) }
 {
-    if has_bad_meta(alloc, command)? {
-        return Ok(refused(Cause::BadMeta, None));
+    if has_bad_meta(command) {
+        return refused(Cause::BadMeta, None);
     }
     if is_called(command, ERROR) {
-        return Ok(refused(Cause::PeerError, None));
+        return refused(Cause::PeerError, None);
     }
-    Ok(Step {
+    Step {
         answer: Answer::Wait,
         stage: Stage::Running,
-    })
+    }
 }
 
 /// Hears a command at any stage.
@@ -190,7 +186,7 @@ pub fn hear_command(
         Stage::Waiting(Awaited::Hello) => hear_hello(alloc, opts, command),
         Stage::Waiting(Awaited::Welcome) => hear_welcome(alloc, opts, command),
         Stage::Waiting(Awaited::Initiate) => hear_initiate(alloc, opts, command),
-        Stage::Running => hear_running(alloc, command),
+        Stage::Running => Ok(hear_running(command)),
         Stage::Refused(cause) => Ok(refused(cause, None)),
     }
 }

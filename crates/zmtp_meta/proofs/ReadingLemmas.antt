@@ -1,13 +1,13 @@
 -- What a reader has read is what octets encode.
-use Rattle.std.proofs.Common.{◌≡◌, ◌≢◌, ℕ, ◌<◌, List, [], ◌∷◌, ◌++◌, length, Option, Some, None, Bor, sym, ap, ◌∙◌, arith}
-use Rattle.std.specs.Prelude.{option_map, IfSome, IfNone}
+use Rattle.std.proofs.Common.{◌≡◌, ◌≢◌, ◌↔◌, ℕ, ◌<◌, Bool, true, false, List, [], ◌∷◌, ◌++◌, length, Option, Some, None, Bor, refl, sym, ap, ◌∙◌, arith}
+use Rattle.std.specs.Prelude.{option_map, is_some, IfSome, IfNone, IsTrue, All}
 use Rattle.std.proofs.lemmas.List.{append-nil, length-append}
 use Rattle.zq_base.specs.declared.options.Login.{Login}
 use Rattle.spec_zmtp.specs.declared.command.Property.{Property}
-use Rattle.spec_zmtp.specs.Metadata.{IsOctets, IsLogin, login, encode_login, IsCommand, command, encode_command, encode_property}
+use Rattle.spec_zmtp.specs.Metadata.{IsOctets, IsLogin, login, encode_login, IsCommand, command, encode_command, IsProperty, encode_property, encode_meta}
 use Rattle.spec_zmtp.specs.Decoding.{decode_login, decode_command, property_at, decode_meta}
 use Rattle.spec_zmtp.proofs.CommandLemmas.{encode_login-decode_login, no_login, encode_command-decode_command}
-use Rattle.spec_zmtp.proofs.MetadataLemmas.{with_front, with_front-more, decode_none, decode_first, Begins, property_takes, decode_nothing}
+use Rattle.spec_zmtp.proofs.MetadataLemmas.{with_front, with_front-more, decode_none, decode_first, Begins, property_takes, decode_nothing, encode_meta-decode_meta, no_properties}
 
 -- ---- logins
 
@@ -61,3 +61,35 @@ one_read content rest after found p decoded all is =
       octets = b.octets_left;
       less = omega (arith, ap length b.split, length-append (encode_property p) after);
     }
+
+-- ---- metadata that is judged and not built
+
+some_more : (p : Property) (o : Option (List Property)) → is_some (option_map (λ ps. p ∷ ps) o) ≡ is_some o
+some_more p None = refl
+some_more p (Some ps) = refl
+
+-- one property was passed
+pub record Passed1 (content rest after : List ℕ) : Type 0 where
+  pub told : is_some (decode_meta content) ≡ is_some (decode_meta after)
+  pub octets : IsOctets after
+  pub less : length after < length rest
+
+pub one_passed : (content rest after : List ℕ) (p : Property) → is_some (decode_meta content) ≡ is_some (decode_meta rest) → IsOctets rest → Some (p, after) ≡ property_at rest → Passed1 content rest after
+one_passed content rest after p told all is =
+    let b : Begins rest p after = property_takes rest p after all (sym is) in
+    record {
+      told = told ∙ ap (λ o. is_some o) (decode_first rest after p (sym is) b.split) ∙ some_more p (decode_meta after);
+      octets = b.octets_left;
+      less = omega (arith, ap length b.split, length-append (encode_property p) after);
+    }
+
+pub none_left : (content rest : List ℕ) → is_some (decode_meta content) ≡ is_some (decode_meta rest) → 0 < length rest → None ≡ property_at rest → false ≡ is_some (decode_meta content)
+none_left content rest told some is = sym (told ∙ ap (λ o. is_some o) (decode_none rest some (sym is)))
+
+pub all_passed : (content rest : List ℕ) → is_some (decode_meta content) ≡ is_some (decode_meta rest) → rest ≡ [] → true ≡ is_some (decode_meta content)
+all_passed content rest told empty = sym (told ∙ ap (λ l. is_some (decode_meta l)) empty ∙ ap (λ o. is_some o) decode_nothing)
+
+-- what is told is whether the content is that of some properties
+pub told_as : (content : List ℕ) (o : Option (List Property)) (r : Bool) → IsOctets content → decode_meta content ≡ o → r ≡ is_some o → IsTrue r ↔ ((ps : List Property) × All IsProperty ps × (content ≡ encode_meta ps))
+told_as content None r all is told = (λ t. let clash : false ≡ true = sym told ∙ t in absurd cc, λ x. absurd (no_properties content is x.0 x.1 x.2))
+told_as content (Some ps) r all is told = (λ t. let e = encode_meta-decode_meta ps content all is in (ps, e.0, e.1), λ x. told)

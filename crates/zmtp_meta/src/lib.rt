@@ -9,4 +9,4 @@ mod metadata;
 pub use command::{CommandError, read_command, write_command};
 pub use greeting::Greeting;
 pub use login::{read_login, write_login, write_reason};
-pub use metadata::{MetaError, read_meta, write_meta};
+pub use metadata::{MetaError, is_meta, read_meta, write_meta};

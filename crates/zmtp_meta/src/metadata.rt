@@ -1,4 +1,4 @@
-ghost use Rattle.std.specs.Prelude.{◌≡◌, ◌≢◌, List, ℕ, ◌++◌, length, option_map, IfOk, OnOk, Err, Some, None, All};
+ghost use Rattle.std.specs.Prelude.{◌≡◌, ◌≢◌, ◌↔◌, List, ℕ, ◌++◌, length, option_map, is_some, IfOk, OnOk, IsTrue, Err, Some, None, All};
 ghost use Rattle.std.specs.List.{list_all};
 ghost use Rattle.spec_zmtp.specs.declared.command.Property.{Property};
 ghost use Rattle.spec_zmtp.specs.Metadata.{IsProperty, is_name_octet, property, encode_property, encode_meta};
@@ -131,4 +131,21 @@ pub fn read_meta(alloc: Global, content: &[u8]) -> Result<Vec<Property>, MetaErr
         rest = after;
     }
     Ok(found)
+}
+
+/// Whether this content is that of some properties, of which none is built.
+pub fn is_meta(content: &[u8]) -> bool
+    ensures good { IsTrue result ↔ ((ps : List Property) × All IsProperty ps × (content.now ≡ encode_meta ps)) }
+
+    // The same as a function of the content.
+    ensures value { result ≡ is_some (decode_meta content.now) }
+{
+    let mut rest = content;
+    'properties: while !rest.is_empty() {
+        let Some(property) = split_property(rest) else {
+            return false;
+        };
+        rest = property.2;
+    }
+    true
 }

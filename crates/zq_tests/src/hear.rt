@@ -431,22 +431,43 @@ fn a_stream_means_the_same_over_each_cut(rt: HostRuntime) -> Result<(), Fail> {
     Ok(())
 }
 
-/// A greeting, a READY, and so many frames behind which more are to come.
-fn unending(alloc: Global, frames: usize) -> Result<Vec<u8>, AllocError> {
+/// The 1,024th frame of a message, and what is told: one more, one that is too long as well, a command, and one with a flag
+/// that is none.
+const LAST_FRAMES: [(&[u8], &[u8]); 4] = [
+    (
+        b"\x01\0",
+        b"said ff00000000000000007f03004e554c4c000000000000000000000000000000000000000000000000000000000000000000000000000000000000000000000000041a0552454144590b536f636b65742d547970650000000450554c4c\npeer PUSH -\nrefused TooManyParts at 2138\n",
+    ),
+    (
+        b"\x02\0\0\0\0\x01\0\0\x01",
+        b"said ff00000000000000007f03004e554c4c000000000000000000000000000000000000000000000000000000000000000000000000000000000000000000000000041a0552454144590b536f636b65742d547970650000000450554c4c\npeer PUSH -\nrefused TooManyParts at 2138\n",
+    ),
+    (
+        b"\x04\x05\x04PING",
+        b"said ff00000000000000007f03004e554c4c000000000000000000000000000000000000000000000000000000000000000000000000000000000000000000000000041a0552454144590b536f636b65742d547970650000000450554c4c\npeer PUSH -\nrefused OutOfOrder at 2138\n",
+    ),
+    (
+        b"\x09\0",
+        b"said ff00000000000000007f03004e554c4c000000000000000000000000000000000000000000000000000000000000000000000000000000000000000000000000041a0552454144590b536f636b65742d547970650000000450554c4c\npeer PUSH -\nrefused BadFlags at 2138\n",
+    ),
+];
+
+/// A greeting, a READY, 1,023 frames behind which more are to come, and this one.
+fn many_frames(alloc: Global, last: &[u8]) -> Result<Vec<u8>, AllocError> {
     let mut octets = Vec::from_slice(alloc, NULL_PUSH)?;
-    for _ in 0..frames {
+    for _ in 0..1023 {
         octets.extend_from_slice(b"\x01\0")?;
     }
+    octets.extend_from_slice(last)?;
     Ok(octets)
 }
 
 #[test]
-fn too_many_frames_are_refused(rt: HostRuntime) -> Result<(), Fail> {
-    let alloc = rt.alloc();
-    let octets = unending(alloc, 1024)?;
-    let text: &[u8] =
-        b"said ff00000000000000007f03004e554c4c000000000000000000000000000000000000000000000000000000000000000000000000000000000000000000000000041a0552454144590b536f636b65742d547970650000000450554c4c\npeer PUSH -\nrefused TooManyParts at 2138\n";
-    assert!(rt; answers(alloc, HEAR, octets.as_slice(), Status::Heard, text)?);
+fn a_frame_too_many_is_refused(rt: HostRuntime) -> Result<(), Fail> {
+    for (last, text) in &LAST_FRAMES {
+        let octets = many_frames(rt.alloc(), last)?;
+        assert!(rt; answers(rt.alloc(), HEAR, octets.as_slice(), Status::Heard, text)?);
+    }
     Ok(())
 }
 

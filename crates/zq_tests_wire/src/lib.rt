@@ -11,3 +11,5 @@ mod frames;
 mod handshakes;
 #[cfg(test)]
 mod metadata;
+#[cfg(test)]
+mod streams;

@@ -1,7 +1,7 @@
 use spec_zmtp::Judgement;
 use std::test::Fail;
 use zmtp_meta::{
-    CommandError, Greeting, MetaError, read_command, read_login, read_meta, write_command,
+    CommandError, Greeting, MetaError, is_meta, read_command, read_login, read_meta, write_command,
     write_login, write_meta, write_reason,
 };
 use zq_base::Role;
@@ -133,6 +133,12 @@ fn other_contents_are_no_metadata(rt: HostRuntime) -> Result<(), Fail> {
         }
     }
     Ok(())
+}
+
+#[test]
+fn metadata_is_judged_alone(rt: HostRuntime) {
+    assert!(rt; is_meta(b"\x0bSocket-Type\0\0\0\x06DEALER\x08Identity\0\0\0\0"));
+    assert!(rt; !is_meta(b"\x01a\0\0\0\x01bc"));
 }
 
 #[test]

@@ -1,10 +1,10 @@
-use Rattle.std.proofs.Common.{◌≡◌, ℕ, ◌≤◌, List, None, length, take, refl, sym, ap, subst, ◌∙◌, arith}
+use Rattle.std.proofs.Common.{◌≡◌, ℕ, List, length, refl, sym, ap, subst, ◌∙◌, arith}
 use Rattle.std.specs.Prelude.{IfSome, Ok}
 use Rattle.zmtp_engine.specs.Listening.{Listening, refusal_now, said_now}
-use Rattle.zmtp_engine.specs.ListenerView.{listening_of}
+use Rattle.zmtp_engine.specs.StreamView.{listening_of}
 use Rattle.zmtp_engine.specs.Output.{Output, begun_run}
 use Rattle.zmtp_engine.specs.WriterView.{output_of}
-use Rattle.zmtp_engine.specs.Conversation.{Past, Conversation, Follows}
+use Rattle.zmtp_engine.specs.Conversation.{Conversation, Follows}
 use Rattle.zmtp_engine.specs.EngineView.{conversation_of}
 use Rattle.zmtp_engine.proofs.Calls.{feed_matches, feed_some, begins_as, spent_by, said_brief, talking, if_refused, feeds_nothing}
 use Rattle.zmtp_engine.proofs.Conversations.{said_long}

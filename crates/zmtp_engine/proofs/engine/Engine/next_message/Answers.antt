@@ -1,8 +1,8 @@
-use Rattle.std.proofs.Common.{◌≡◌, ◌∷◌, [], subst}
-use Rattle.std.specs.Prelude.{IfSome, IfNone}
-use Rattle.zmtp_engine.specs.Conversation.{Past, Conversation, Follows, gave, waiting}
+use Rattle.std.proofs.Common.{◌∷◌, [], subst}
+use Rattle.std.specs.Prelude.{IfSome}
+use Rattle.zmtp_engine.specs.Conversation.{Past, Conversation, Follows, gave}
 use Rattle.zmtp_engine.specs.EngineView.{conversation_of}
-use Rattle.zmtp_engine.proofs.Calls.{next_past, next_some, next_first, next_none}
+use Rattle.zmtp_engine.proofs.Calls.{next_past, next_some}
 use Rattle.zmtp_engine.proofs.Conversations.{with_queue}
 use Rattle.zmtp_engine.proofs.engine.Engine.next_message.Goals as goal
 

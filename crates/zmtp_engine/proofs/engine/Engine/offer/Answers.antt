@@ -1,11 +1,10 @@
-use Rattle.std.proofs.Common.{◌≡◌, ℕ, ◌≤◌, List, None, Some, length, refl, sym, ap, subst, inr, ◌∙◌, arith}
+use Rattle.std.proofs.Common.{◌≡◌, ℕ, List, None, Some, length, sym, ap, subst, inr, ◌∙◌, arith}
 use Rattle.std.specs.Prelude.{IsSome}
 use Rattle.zmtp_engine.specs.Listening.{Listening, said_now}
-use Rattle.zmtp_engine.specs.ListenerView.{listening_of}
+use Rattle.zmtp_engine.specs.StreamView.{listening_of}
 use Rattle.zmtp_engine.specs.Output.{Output, begun_run, pieces_of}
 use Rattle.zmtp_engine.specs.WriterView.{output_of, later_in}
 use Rattle.zmtp_engine.specs.Conversation.{Past, Conversation, Follows, took}
-use Rattle.zmtp_engine.specs.EngineView.{conversation_of}
 use Rattle.zmtp_engine.proofs.Calls.{begins_as, spent_by, said_brief, talking, some_later, none_sending}
 use Rattle.zmtp_engine.proofs.Conversations.{said_long, takes}
 use Rattle.zmtp_engine.proofs.engine.Engine.offer.Goals as goal
@@ -20,12 +19,12 @@ take_in-requires c = record { writer = c.self.invariant.writer; idle = none_send
 pub said-requires : goal.said-requires
 said-requires c =
     let p = c.self.invariant.past in
-    record { long = said_long p.opts p.heard p.given (listening_of c.self.inside.listener) c.self.invariant.follows.listens }
+    record { long = said_long p.opts p.heard p.given (listening_of c.self.inside.stream) c.self.invariant.follows.listens }
 
 pub begin-requires : goal.begin-requires
 begin-requires c =
     let f = c.self.invariant.follows in
-    let n : length c.said.result.now ≡ length (said_now (listening_of c.self.inside.listener)) = ap (λ (x : List ℕ). length x) c.said.ensures in
+    let n : length c.said.result.now ≡ length (said_now (listening_of c.self.inside.stream)) = ap (λ (x : List ℕ). length x) c.said.ensures in
     let b : (output_of c.take_in.new.self).begun ≡ c.self.inside.writer.begun = ap (λ (o : Output). o.begun) c.take_in.ensures.taken in
     record { writer = c.take_in.ensures.writer; within = omega (arith, n, b, f.within); brief = omega (arith, n, said_brief c.self.invariant.past _ f) }
 
@@ -37,7 +36,7 @@ taken p m l o mid new said some none f is e n =
 
 pub invariant_of-self : goal.invariant_of-self
 invariant_of-self c =
-    let l : Listening = listening_of c.self.inside.listener in
+    let l : Listening = listening_of c.self.inside.stream in
     let o : Output = output_of c.self.inside.writer in
     record {
       room = c.self.invariant.room;
@@ -50,13 +49,13 @@ invariant_of-self c =
 
 pub returns-clause-answer : goal.returns-clause-answer
 returns-clause-answer c = λ p f.
-    let l : Listening = listening_of c.self.inside.listener in
+    let l : Listening = listening_of c.self.inside.stream in
     let o : Output = output_of c.self.inside.writer in
     taken p c.args.message l o (output_of c.take_in.new.self) (output_of c.begin.new.self) c.said.result.now c.if-is_none.ensures
     (ap later_in (none_sending c.self.inside.writer.sending (sym c.if-is_some-2.ensures))) (subst (λ (v : Conversation). Follows p v) (sym c.self.view_is) f) c.take_in.ensures.taken c.said.ensures c.begin.ensures.begun
 
 pub returns-clause-lent : goal.returns-clause-lent
 returns-clause-lent c =
-    let l : Listening = listening_of c.self.inside.listener in
+    let l : Listening = listening_of c.self.inside.stream in
     c.begin.ensures.begun ∙ ap (λ (s : List ℕ). begun_run s (output_of c.take_in.new.self)) c.said.ensures ∙ ap (λ (x : Output). begun_run (said_now l) x) c.take_in.ensures.taken
     ∙ ap (λ (v : Conversation). begun_run (said_now v.listening) (record v.output { later = Some (pieces_of c.args.message) })) c.self.view_is

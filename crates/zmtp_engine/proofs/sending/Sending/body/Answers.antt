@@ -1,4 +1,4 @@
-use Rattle.std.proofs.Common.{◌≡◌, ℕ, List, [], length, get_or, ap, sym, ◌∙◌, arith}
+use Rattle.std.proofs.Common.{ℕ, List, length, ap, arith}
 use Rattle.zmtp_engine.proofs.sending.Sending.body.Goals as goal
 
 pub returns-clause-few : goal.returns-clause-few

@@ -1,4 +1,4 @@
-use Rattle.std.proofs.Common.{◌≡◌, ℕ, List}
+use Rattle.std.proofs.Common.{◌≡◌}
 use Rattle.zmtp_engine.specs.Output.{filled_run}
 use Rattle.zmtp_engine.specs.WriterView.{pieces_behind, IsSending, IsOpen, HasRoom, togo}
 use Rattle.zmtp_engine.proofs.sending.Sending.gather.Given as goal

@@ -1,7 +1,7 @@
-use Rattle.std.proofs.Common.{◌≡◌, ℕ, ◌+◌, ◌≤◌, ◌++◌, List, length, ap, sym, ◌∙◌, arith}
+use Rattle.std.proofs.Common.{ℕ, ◌+◌, ◌≤◌, ◌++◌, List, length, ap, sym, ◌∙◌, arith}
 use Rattle.zmtp_engine.specs.declared.sending.Next.{Next}
 use Rattle.zmtp_engine.specs.declared.sending.Next.TheVariants.{Body}
-use Rattle.zmtp_engine.specs.Output.{Run, filled_run}
+use Rattle.zmtp_engine.specs.Output.{filled_run}
 use Rattle.zmtp_engine.specs.WriterView.{head_at, pieces_at}
 use Rattle.zmtp_engine.proofs.WriterLemmas.{head_taken}
 use Rattle.zmtp_engine.proofs.sending.Sending.gather_head.Goals as goal

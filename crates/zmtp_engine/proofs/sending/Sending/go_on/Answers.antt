@@ -1,5 +1,5 @@
-use Rattle.std.proofs.Common.{◌≡◌, ℕ, suc, ◌<◌, ◌++◌, List, length, drop, Some, sym, ap, eqb-true, ◌∙◌, arith}
-use Rattle.zmtp_engine.specs.Output.{Run, piece_of, pieces_of, filled_run, next_run, after_run}
+use Rattle.std.proofs.Common.{ℕ, suc, ◌++◌, List, drop, sym, ap, eqb-true, ◌∙◌, arith}
+use Rattle.zmtp_engine.specs.Output.{Run, piece_of, pieces_of, filled_run, next_run}
 use Rattle.zmtp_engine.specs.WriterView.{body_at, pieces_behind}
 use Rattle.zmtp_engine.proofs.WriterLemmas.{is_lent, solid_at, after_some}
 use Rattle.zmtp_engine.proofs.sending.Sending.go_on.Goals as goal
