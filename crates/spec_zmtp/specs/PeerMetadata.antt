@@ -1,8 +1,8 @@
 -- What a peer tells of itself in its metadata (RFC 23, "Connection Metadata").
 use Rattle.std.specs.Prelude.{ℕ, Bool, not, ◌&&◌, nat_le, nat_eq, if◌then◌else◌, List, [], ◌∷◌, length, find, Option, Some, None, option_map, unwrap_or, Result, Ok, Err, codes}
-use Rattle.std.specs.List.{list_any, starts_with}
+use Rattle.std.specs.List.{starts_with}
 use Rattle.std.specs.Str.{bytes_eq, str_eq_ignore_ascii_case}
-use Rattle.zq_base.specs.Kind.{kind_name, fitting_kinds}
+use Rattle.zq_base.specs.Kind.{kind_name, fits}
 use Rattle.zq_base.specs.declared.kind.Kind.{Kind}
 use Rattle.zq_base.specs.declared.kind.Kind.TheVariants.{Push, Pull, Pair, Dealer, Req, Rep, Router, Pub, XPub, Sub, XSub}
 use Rattle.zq_base.specs.declared.options.Peer.{Peer}
@@ -21,10 +21,6 @@ kinds = Push ∷ Pull ∷ Pair ∷ Dealer ∷ Req ∷ Rep ∷ Router ∷ Pub ∷
 -- the kind of this name
 abbrev pub kind_named : List ℕ → Option Kind
 kind_named name = find (λ k. bytes_eq (kind_name k) name) kinds
-
--- whether a peer of this kind may be joined to ours
-abbrev pub fits : Kind → Kind → Bool
-fits ours theirs = list_any (λ k. bytes_eq (kind_name k) (kind_name theirs)) (fitting_kinds ours)
 
 -- whether octets may be an identity: at most 255, of which the first is not 0; none is the empty one
 abbrev pub is_identity : List ℕ → Bool

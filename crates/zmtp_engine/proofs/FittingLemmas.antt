@@ -5,7 +5,7 @@ use Rattle.std.proofs.lemmas.List.{append-nil}
 use Rattle.std.proofs.lemmas.List.Concat.{flat_map-cons}
 use Rattle.std.proofs.lemmas.List.Elements.{All-nil, All-cons, All-head, All-tail}
 use Rattle.std.proofs.lemmas.Slice.Eq.{bytes_eq-Decides}
-use Rattle.zq_base.specs.Kind.{kind_name}
+use Rattle.zq_base.specs.Kind.{kind_name, fits}
 use Rattle.zq_base.specs.declared.kind.Kind.{Kind}
 use Rattle.zq_base.specs.declared.kind.Kind.TheVariants.{Push, Pull, Pair, Dealer, Req, Rep, Router, Pub, XPub, Sub, XSub}
 use Rattle.zq_base.specs.declared.options.EngineOpts.{EngineOpts}
@@ -27,7 +27,7 @@ use Rattle.spec_zmtp.specs.FrameRules.{Gathered, gathered, bodies, items_of, bet
 use Rattle.spec_zmtp.specs.Greeting.{greeting_of, judged}
 use Rattle.spec_zmtp.specs.Metadata.{IsProperty, encode_command, encode_login, encode_meta, is_called, command, property}
 use Rattle.spec_zmtp.specs.Decoding.{decode_command, decode_meta}
-use Rattle.spec_zmtp.specs.PeerMetadata.{value_of, kind_named, fits, is_identity, peer_fitting, peer_of, peer_from}
+use Rattle.spec_zmtp.specs.PeerMetadata.{value_of, kind_named, is_identity, peer_fitting, peer_of, peer_from}
 use Rattle.spec_zmtp.specs.OwnCommands.{IsEngineOpts, tells_identity, own_properties, own_login, our_ready, our_initiate, our_hello, our_welcome, our_error}
 use Rattle.spec_zmtp.specs.Handshake.{Item, Told, Malformed, MessageFrame, Handshake, told, silent, saying, misplaced, met, ready_awaited, is_welcome, peer_awaited, welcome_awaited, hello_awaited, initiate_awaited, handshake, handshake_as, stage_refusal}
 use Rattle.spec_zmtp.specs.DecodedStream.{Decoded, Decodes, octets_said, Unfinished, greeting_unfinished, greeting_refused, unfinished, refused, IsStream}

@@ -7,7 +7,7 @@ use Rattle.zq_base.specs.declared.options.Role.{Role}
 use Rattle.zq_base.specs.declared.options.Role.TheVariants.{Null, PlainClient, PlainServer}
 use Rattle.spec_zmtp.specs.declared.cause.Refusal.{Refusal}
 use Rattle.spec_zmtp.specs.Metadata.{encode_login}
-use Rattle.spec_zmtp.specs.PeerMetadata.{fits}
+use Rattle.zq_base.specs.Kind.{fits}
 use Rattle.spec_zmtp.specs.OwnCommands.{IsEngineOpts, tells_identity, own_login}
 use Rattle.spec_zmtp.specs.Handshake.{is_welcome}
 use Rattle.spec_zmtp.specs.Put.{IsSendable, messages_in}

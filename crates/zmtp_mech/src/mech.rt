@@ -10,7 +10,7 @@ use crate::steps::hear_command;
 use spec_zmtp::{Awaited, Cause, Command, Stage};
 use std::alloc::{AllocError, Global};
 use std::marker::Model;
-use zq_base::{EngineOpts, Login, Logins, Role};
+use zq_base::{EngineOpts, Role};
 
 /// One side's handshake by NULL or PLAIN.
 #[derive(Drop)]
@@ -30,29 +30,6 @@ impl Model for Mech {
     ghost invariant = { λ m. IsEngineOpts m.opts };
 }
 
-fn copy_logins(alloc: Global, logins: &[Login]) -> Result<Vec<Login>, AllocError>
-    ensures { IfOk result (λ copies. copies.items ≡ logins.now) }
-{
-    let mut copies = Vec::with_capacity(alloc, logins.len())?;
-    'logins: for login in logins {
-        let user = login.user.copy(alloc)?;
-        let pass = login.pass.copy(alloc)?;
-        copies.push_reserved(Login { user, pass });
-    }
-    Ok(copies)
-}
-
-fn copy_opts(alloc: Global, opts: &EngineOpts) -> Result<EngineOpts, AllocError>
-    ensures { IfOk result (λ copy. copy ≡ opts.now) }
-{
-    Ok(EngineOpts {
-        kind: opts.kind,
-        id: opts.id.copy(alloc)?,
-        role: opts.role,
-        logins: Logins::of_vec(copy_logins(alloc, opts.logins.as_slice())?),
-    })
-}
-
 impl Mech {
     /// The handshake of a side without security.
     pub fn null(alloc: Global, opts: &EngineOpts) -> Result<Mech, AllocError>
@@ -61,7 +38,7 @@ impl Mech {
         ensures { IfOk result (λ m. m ≡ begun opts.now) }
     {
         Ok(Mech {
-            opts: copy_opts(alloc, opts)?,
+            opts: opts.copy(alloc)?,
             stage: Stage::Waiting(Awaited::Ready),
         })
     }
@@ -73,7 +50,7 @@ impl Mech {
         ensures { IfOk result (λ m. m ≡ begun opts.now) }
     {
         Ok(Mech {
-            opts: copy_opts(alloc, opts)?,
+            opts: opts.copy(alloc)?,
             stage: Stage::Waiting(Awaited::Welcome),
         })
     }
@@ -85,7 +62,7 @@ impl Mech {
         ensures { IfOk result (λ m. m ≡ begun opts.now) }
     {
         Ok(Mech {
-            opts: copy_opts(alloc, opts)?,
+            opts: opts.copy(alloc)?,
             stage: Stage::Waiting(Awaited::Hello),
         })
     }

@@ -1,6 +1,6 @@
 ghost use Rattle.std.specs.Prelude.{◌≡◌, [], IfOk, unwrap_or};
 ghost use Rattle.spec_zmtp.specs.Decoding.{decode_meta};
-ghost use Rattle.spec_zmtp.specs.PeerMetadata.{value_of, kind_named, fits, is_identity, peer_of, peer_from};
+ghost use Rattle.spec_zmtp.specs.PeerMetadata.{value_of, kind_named, is_identity, peer_of, peer_from};
 
 use crate::commands::{IDENTITY, SOCKET_TYPE};
 use spec_zmtp::{Cause, Property};
@@ -28,13 +28,6 @@ fn is_identity(octets: &[u8]) -> bool
     octets.len() <= 255 && !octets.starts_with(&[0])
 }
 
-/// Whether a peer of their kind may be joined to ours.
-fn fits(ours: Kind, theirs: Kind) -> bool
-    ensures { result ≡ fits ours theirs }
-{
-    ours.fits(theirs)
-}
-
 /// The kind of this name.
 fn kind_named(name: &[u8]) -> Option<Kind>
     ensures { result ≡ kind_named name.now }
@@ -54,7 +47,7 @@ fn peer_of(
     let Some(kind) = kind_named(value_of(properties, SOCKET_TYPE)) else {
         return Ok(Err(Cause::NoKind));
     };
-    if !fits(ours, kind) {
+    if !ours.fits(kind) {
         return Ok(Err(Cause::BadPair));
     }
     let identity = value_of(properties, IDENTITY);

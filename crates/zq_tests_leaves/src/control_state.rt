@@ -5,7 +5,7 @@ use endpoint_book::Binding;
 use spec_control::{ObjKind, ObjState, Use};
 use std::alloc::{AllocError, Global};
 use std::test::Fail;
-use zq_base::{Endpoint, Kind, ObjId, Octets, Options, PairId, Role, Seq, SlotId};
+use zq_base::{EndId, Endpoint, Kind, ObjId, Octets, Options, PairId, Role, Seq, SlotId};
 
 const ROOT: ObjId = ObjId(0);
 
@@ -90,5 +90,46 @@ fn a_name_is_held_and_waited_for(rt: HostRuntime) -> Result<(), Fail> {
     assert_eq!(rt; state.count_waiting(&at, binding), 0);
     state.drop_names(ObjId(1));
     assert_eq!(rt; state.find(&at), None);
+    Ok(())
+}
+
+/// Whether an object has used its asking to end and its Stop.
+fn is_over(state: &State<u8>, id: ObjId) -> bool {
+    match (state.row(id), state.detail(id)) {
+        (Some(row), Some(detail)) => row.request == Use::Used && detail.stop == Use::Used,
+        _other => false,
+    }
+}
+
+#[test]
+fn what_comes_for_a_socket_is_seen(rt: HostRuntime) -> Result<(), Fail> {
+    let alloc = rt.alloc();
+    let mut state: State<u8> = State::new(alloc, 0)?;
+    let socket = state.make(alloc, ROOT, made(alloc, PAIR, SlotId(0), false))?;
+    state.asks_over(socket);
+    state.request_comes(socket);
+    state.stop_comes(socket);
+    assert!(rt; is_over(&state, socket));
+    Ok(())
+}
+
+/// Whether the ends of a pair are here so, and struck so: first end a, then end b.
+fn stands(state: &State<u8>, pair: PairId, here: [bool; 2], struck: [bool; 2]) -> bool {
+    let (near, far) = (EndId { pair, a: true }, EndId { pair, a: false });
+    let is_here = [state.is_here(near), state.is_here(far)];
+    is_here == here && [state.is_struck(near), state.is_struck(far)] == struck
+}
+
+#[test]
+fn a_pair_is_made_end_by_end(rt: HostRuntime) -> Result<(), Fail> {
+    let alloc = rt.alloc();
+    let mut state: State<u8> = State::new(alloc, 0)?;
+    let pair = state.draw(ROOT, ROOT)?;
+    state.reserve_ends(ROOT, 2)?;
+    state.open(EndId { pair, a: true });
+    state.strike(EndId { pair, a: false });
+    assert!(rt; stands(&state, pair, [true, false], [false, true]));
+    state.bind(EndId { pair, a: false });
+    assert!(rt; stands(&state, pair, [true, true], [false, true]));
     Ok(())
 }

@@ -2,6 +2,8 @@
 #![tactic(auto)]
 
 #[cfg(test)]
+mod attached_ends;
+#[cfg(test)]
 mod dist_tests;
 #[cfg(test)]
 mod fair_queue_tests;

@@ -198,6 +198,17 @@ fn a_name_is_free_once_its_peer_is_gone(rt: HostRuntime) -> Result<(), Fail> {
 }
 
 #[test]
+fn a_name_can_be_drawn(rt: HostRuntime) -> Result<(), Fail> {
+    let peers = three(rt.alloc())?;
+    let mut router = fresh(rt.alloc(), false, &peers);
+    let before = router.can_draw();
+    let answer = join(rt.alloc(), &mut router, &peers, 0, b"")?;
+    let after = router.can_draw();
+    assert_eq!(rt; (before, answer, after), (true, Attached::Yes, true));
+    Ok(())
+}
+
+#[test]
 fn what_may_be_an_identity(rt: HostRuntime) -> Result<(), Fail> {
     assert!(rt; is_identity(b""));
     assert!(rt; is_identity(b"k"));

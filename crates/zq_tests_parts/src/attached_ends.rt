@@ -1,0 +1,132 @@
+ghost use Rattle.std.specs.Prelude.{◌≡◌, ◌∷◌, [], ◌≤◌, false, OnOk, All, IfOk};
+ghost use Rattle.spec_pattern.specs.Pipe.{IsCommittable, max_capacity};
+ghost use Rattle.ends.specs.declared.row.EndRow.{EndRow};
+ghost use Rattle.ends.specs.Rows.{table, row_at, IsRow, can_write_of};
+ghost use Rattle.ends.specs.Held.{IsHeld, IsReady};
+
+use crate::messages::message;
+use crate::push_pull_tests::{Told, told_got, told_sent};
+use ends::{EndRow, Ends, attach};
+use msg_pipe::{Front, Pipes, PlainIn, PlainOut, PlainPipes};
+use push_pull::{Pull, Push};
+use spec_pattern::{RecvFault, RecvRefusal, SendFault, SendRefusal, Sent};
+use std::alloc::Global;
+use std::test::Fail;
+use zq_base::{EndId, Message, PairId};
+
+/// A PUSH sends over the ends of a socket, over any pipes.
+fn push_over<P: Pipes>(
+    pipes: &mut P,
+    rows: &mut Vec<Option<Box<EndRow<P::Out, P::In>>>>,
+    push: &mut Push,
+    message: Message,
+) -> Result<Sent, SendFault>
+    requires { IsReady P.known (table pipes.old rows.old.items) push.old }
+    ensures { IsReady P.known (table pipes.new rows.new.items) push.new }
+{
+    let mut ends = Ends { pipes, rows };
+    push.send(&mut ends, message)
+}
+
+/// A PULL receives over the ends of a socket, over any pipes.
+fn pull_over<P: Pipes>(
+    pipes: &mut P,
+    rows: &mut Vec<Option<Box<EndRow<P::Out, P::In>>>>,
+    pull: &mut Pull,
+) -> Result<(PairId, Message), RecvFault>
+    requires { IsReady P.known (table pipes.old rows.old.items) pull.old }
+    ensures { IsReady P.known (table pipes.new rows.new.items) pull.new }
+{
+    let mut ends = Ends { pipes, rows };
+    pull.recv(&mut ends)
+}
+
+/// The rows of a socket over plain pipes.
+#[derive(Drop)]
+struct Socket {
+    pipes: PlainPipes,
+    rows: Vec<Option<Box<EndRow<PlainOut, PlainIn>>>>,
+}
+
+/// A socket with the end a of pair 7, whose pipes hold a message each.
+fn with_one_end(alloc: Global, writable: bool) -> Result<Socket, Fail>
+    ensures held { IfOk result (λ s. IsHeld ⟦<PlainPipes as Pipes>⟧.known
+        (table s.pipes s.rows.items)) }
+    ensures there { IfOk result (λ s. IsRow s.rows.items 0) }
+    ensures state { IfOk result (λ s. can_write_of (row_at s.rows.items 0) ≡ writable) }
+    ensures unsealed { IfOk result (λ s. (row : EndRow PlainOut PlainIn) →
+        row_at s.rows.items 0 ≡ Some row →
+        (⟦<PlainPipes as Pipes>⟧.known.writing s.pipes row.out).sealed ≡ false) }
+{
+    let mut pipes = PlainPipes::new(alloc);
+    let mut rows = Vec::new(alloc);
+    let (out, _far_in) = pipes.make(alloc, 1, &(), &())?;
+    let (_far_out, input) = pipes.make(alloc, 1, &(), &())?;
+    let row = EndRow {
+        end: EndId {
+            pair: PairId(7),
+            a: true,
+        },
+        writable,
+        out,
+        input,
+    };
+    attach(alloc, &pipes, &mut rows, row)?;
+    Ok(Socket { pipes, rows })
+}
+
+#[test]
+fn a_push_sends_over_its_end(rt: HostRuntime) -> Result<(), Fail> {
+    let alloc = rt.alloc();
+    let mut socket = with_one_end(alloc, true)?;
+    let mut push = Push::new(alloc);
+    push.attach(0)?;
+    let first = message(alloc, b"a")?;
+    assert_eq!(rt;
+        told_sent(push_over(&mut socket.pipes, &mut socket.rows, &mut push, first)),
+        Told::Sent(7)
+    );
+    let second = message(alloc, b"b")?;
+    assert_eq!(rt;
+        told_sent(push_over(&mut socket.pipes, &mut socket.rows, &mut push, second)),
+        Told::NotSent(SendRefusal::Again)
+    );
+    Ok(())
+}
+
+#[test]
+fn a_pull_finds_its_end_empty(rt: HostRuntime) -> Result<(), Fail> {
+    let alloc = rt.alloc();
+    let mut socket = with_one_end(alloc, true)?;
+    let mut pull = Pull::new(alloc);
+    pull.attach(0)?;
+    assert_eq!(rt;
+        told_got(pull_over(&mut socket.pipes, &mut socket.rows, &mut pull)),
+        Told::NotGot(RecvRefusal::Again)
+    );
+    Ok(())
+}
+
+#[test]
+fn an_end_is_looked_at_without_a_take(rt: HostRuntime) -> Result<(), Fail> {
+    let alloc = rt.alloc();
+    let mut socket = with_one_end(alloc, true)?;
+    let mut ends = Ends {
+        pipes: &mut socket.pipes,
+        rows: &mut socket.rows,
+    };
+    assert_eq!(rt; ends.front(0), Front::Empty);
+    Ok(())
+}
+
+#[test]
+fn an_end_is_sealed(rt: HostRuntime) -> Result<(), Fail> {
+    let alloc = rt.alloc();
+    let mut socket = with_one_end(alloc, false)?;
+    let mut ends = Ends {
+        pipes: &mut socket.pipes,
+        rows: &mut socket.rows,
+    };
+    ends.seal(0);
+    Ok(())
+}
