@@ -1,0 +1,6 @@
+mod CapacityLemmas
+mod EventLemmas
+mod BareLemmas
+mod BeginLemmas
+mod DoneLemmas
+mod AskLemmas

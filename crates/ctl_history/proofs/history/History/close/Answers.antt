@@ -1,0 +1,43 @@
+use Rattle.std.proofs.Common.{ap, sym, ◌∙◌, subst}
+use Rattle.spec_control.specs.Rows.{obj}
+use Rattle.spec_control.specs.Row.{Row}
+use Rattle.spec_control.specs.ControlRun.{IsOpenSocket}
+use Rattle.spec_control.specs.declared.stage.Use.TheVariants.{OnItsWay}
+use Rattle.own_tree.specs.Changes.{change, with_request}
+use Rattle.ctl_history.specs.Past.{Past, control_of}
+use Rattle.ctl_history.proofs.BareLemmas.{tree_boxes}
+use Rattle.ctl_history.proofs.DoneLemmas.{reap_room, close_entry, closes, listed_now, event_now}
+use Rattle.ctl_history.proofs.history.History.close.Goals as goal
+
+pub asks_over-requires : goal.asks_over-requires
+asks_over-requires g c =
+    let h = c.self.invariant in
+    let is_open = subst (λ (p : Past g.row.N.Denot g.row.S.Denot). IsOpenSocket (obj (control_of p).rows c.args.socket.0)) (sym c.self.view_is) c.requires.open in
+    let met = c.needs.ensures _ h.stands in
+    record {
+      unended = met.unended c.args.socket is_open.lives;
+      unused = ap (λ (o : Row). o.request) (sym (met.row c.args.socket.0)) ∙ is_open.open_still;
+    }
+
+pub put-requires : goal.put-requires
+put-requires g c =
+    let h = c.self.invariant in
+    let is_open = subst (λ (p : Past g.row.N.Denot g.row.S.Denot). IsOpenSocket (obj (control_of p).rows c.args.socket.0)) (sym c.self.view_is) c.requires.open in
+    record {
+      room = reap_room c.self.inside.state c.asks_over.new.self _ _ c.args.socket h is_open c.asks_over.ensures.stands (tree_boxes c.self.inside.state c.asks_over.new.self (change (with_request OnItsWay) c.args.socket) c.asks_over.ensures.next);
+    }
+
+pub push-requires : goal.push-requires
+push-requires g c =
+    let is_open = subst (λ (p : Past g.row.N.Denot g.row.S.Denot). IsOpenSocket (obj (control_of p).rows c.args.socket.0)) (sym c.self.view_is) c.requires.open in
+    record { room = close_entry c.self.inside.state _ _ c.args.socket c.args.h c.self.invariant is_open c.requires.silent }
+
+pub invariant_of-self : goal.invariant_of-self
+invariant_of-self g c =
+    let is_open = subst (λ (p : Past g.row.N.Denot g.row.S.Denot). IsOpenSocket (obj (control_of p).rows c.args.socket.0)) (sym c.self.view_is) c.requires.open in
+    listed_now c.put.new.self c.self.inside.workers c.self.inside.events _ _ c.push.ensures
+    (closes c.self.inside.state c.asks_over.new.self c.put.new.self _ _ c.args.socket c.args.load c.args.h (change (with_request OnItsWay) c.args.socket) c.self.invariant is_open c.requires.silent
+    c.asks_over.ensures.stands c.asks_over.ensures.next c.put.ensures.stands c.put.ensures.next)
+
+pub returns : goal.returns
+returns g c = event_now c.args.self.now c.self.inside.workers c.self.inside.events _ _ (sym c.self.view_is) c.push.ensures

@@ -1,0 +1,55 @@
+-- The events of a control plane in their order, and the control state that they led to (own choice).
+use Rattle.std.specs.Prelude.{◌≡◌, ◌≤◌, ◌+◌, ℕ, false, List, [], ◌∷◌, ◌++◌, None, length, map}
+use Rattle.spec_control.specs.declared.entry.Answered.{Answered}
+use Rattle.spec_control.specs.declared.entry.Did.{Did}
+use Rattle.spec_control.specs.declared.entry.Item.{Item}
+use Rattle.spec_control.specs.declared.entry.Item.TheVariants.{Event}
+use Rattle.spec_control.specs.Rows.{obj}
+use Rattle.spec_control.specs.Control.{Control, begun, next_object, next_pair}
+use Rattle.spec_control.specs.ControlRun.{after_all, IsControlRun}
+use Rattle.spec_control.specs.Reply.{most_objects, most_made_pairs}
+use Rattle.control_bounds.specs.Room.{to_come}
+use Rattle.control_bounds.specs.History.{entries_left}
+use Rattle.ctl_state.specs.declared.state.State.{State}
+use Rattle.ctl_state.specs.Boxes.{mail_at}
+use Rattle.ctl_state.specs.Stands.{Stands}
+
+-- how many I/O workers a context has, and its control events so far, in order
+pub record Past (N S : Type 0) : Type 0 where
+  pub workers : ℕ
+  pub events : List (Did N S)
+
+module _ {N S : Type 0} where
+  -- an event as an item of the one order; whose it is stands there
+  abbrev pub as_item : Did N S → Item N S
+  as_item did = Event (record { by = 0; did = did })
+
+  -- the state that the events led to
+  abbrev pub control_of : Past N S → Control
+  control_of p = after_all (map as_item p.events) (begun p.workers)
+
+  -- one event more
+  abbrev pub with_event : Did N S → Past N S → Past N S
+  with_event did p = record p { events = p.events ++ did ∷ [] }
+
+  -- each event fits the state that those before it led to
+  abbrev pub IsPast : Past N S → Type 0
+  IsPast p = IsControlRun (begun p.workers) (map as_item p.events)
+
+  -- a holder that had no end to answer for
+  pub record IsSilent (h : Answered N S) : Type 0 where
+    pub joined : h.joined ≡ []
+    pub opened : h.opened ≡ []
+    pub settled : h.settled ≡ None
+    pub output : h.output_left ≡ false
+
+-- what is kept stands for the state that these events led to, with room for all that may still come into each mailbox, and into the history
+pub record IsHistory {L N S : Type 0} (s : State L) (p : Past N S) (spare : ℕ) : Type 0 where
+  pub run : IsPast p
+  pub stands : Stands s (control_of p)
+  pub room : (m : ℕ) → to_come (control_of p) m ≤ (mail_at s.boxes m).spare
+  pub entries : entries_left (control_of p).rows ≤ spare
+  pub root : (obj (control_of p).rows 0).slot ≡ 0
+  pub objects : next_object (control_of p) ≤ most_objects
+  pub pairs : next_pair (control_of p) ≤ most_made_pairs + 1
+  pub boxes : length s.boxes ≤ p.workers + next_object (control_of p)

@@ -1,0 +1,54 @@
+ghost use Rattle.std.specs.Prelude.{◌≡◌, false, IfOk, IsOk, OnOk, OnErr};
+ghost use Rattle.spec_control.specs.declared.request.Req.TheVariants.{AskTerm};
+ghost use Rattle.spec_control.specs.declared.request.Reply.TheVariants.{Refused};
+ghost use Rattle.spec_control.specs.declared.entry.Did.TheVariants.{Asked};
+ghost use Rattle.spec_control.specs.ControlRun.{MayAsk};
+ghost use Rattle.spec_control.specs.Reply.{reply_of, root_asked};
+ghost use Rattle.ctl_history.specs.Past.{control_of, with_event, IsSilent};
+
+use crate::ending::ask_root;
+use crate::history::History;
+use crate::stages::root_lives;
+use spec_control::{Answered, Did, Refusal, Reply, Req};
+use std::alloc::AllocError;
+
+impl<L: Drop, N: Drop, S: Drop> History<L, N, S> {
+    /// Asks the root to end, once: each open socket gets a Stop. Where it was not asked before this
+    /// takes no memory. It costs a walk over the sockets that were made.
+    pub fn ask_term(&mut self, h: Answered<N, S>) -> Result<Reply, AllocError>
+        requires silent { IsSilent h }
+        ensures ok { IfOk result (λ reply. self.new ≡ with_event (Asked AskTerm reply h) self.old) }
+        ensures reply { IfOk result (λ reply. reply ≡ reply_of (control_of self.old) AskTerm) }
+        ensures succeeds { root_asked (control_of self.old) ≡ false → IsOk result }
+        ensures err { OnErr result (self.new ≡ self.old) }
+    {
+        if !root_lives(&self.state) {
+            self.events.reserve(1)?;
+            self.events.push(Did::Asked(Req::AskTerm, Reply::Before, h));
+            return Ok(Reply::Before);
+        }
+        ask_root(&mut self.state);
+        self.events.push(Did::Asked(Req::AskTerm, Reply::Asked, h));
+        Ok(Reply::Asked)
+    }
+
+    /// Notes a request that is refused, and so changes nothing.
+    pub fn refuse(
+        &mut self,
+        request: Req,
+        refusal: Refusal,
+        h: Answered<N, S>,
+    ) -> Result<(), AllocError>
+        requires may { MayAsk (control_of self.old) request }
+        requires refused { reply_of (control_of self.old) request ≡ Refused refusal }
+        requires silent { IsSilent h }
+        ensures ok { OnOk result
+            (self.new ≡ with_event (Asked request (Refused refusal) h) self.old) }
+        ensures err { OnErr result (self.new ≡ self.old) }
+    {
+        self.events.reserve(1)?;
+        self.events
+            .push(Did::Asked(request, Reply::Refused(refusal), h));
+        Ok(())
+    }
+}
