@@ -1,5 +1,6 @@
 pub mod CallLemmas
 pub mod PairLemmas
+pub mod GivenLemmas
 pub mod AddLemmas
 pub mod StateLemmas
 pub mod SocketLemmas
@@ -7,3 +8,5 @@ pub mod FlatLemmas
 pub mod NetLemmas
 pub mod BindLemmas
 pub mod RowLemmas
+pub mod CountedLemmas
+pub mod AskLemmas

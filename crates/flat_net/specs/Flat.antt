@@ -7,6 +7,7 @@ use Rattle.zq_script.specs.declared.script.Call.{Call}
 use Rattle.zq_script.specs.declared.script.Call.TheVariants as call
 use Rattle.zq_base.specs.Ends.{PipeId}
 use Rattle.spec_pattern.specs.PipeStep.{PipeStep, committed_to, taken_from}
+use Rattle.spec_pattern.specs.declared.answers.Skip.{Skip}
 use Rattle.spec_control.specs.EndpointBook.{Book, binding_of}
 use Rattle.zq_base.specs.declared.endpoint.Endpoint.{Endpoint}
 use Rattle.spec_control.specs.declared.book.Binding.{Binding}
@@ -18,7 +19,9 @@ use Rattle.spec_journal.specs.declared.journal.Answer.TheVariants as answer
 use Rattle.pattern_laws.specs.Peers.{kept_ends}
 use Rattle.spec_journal.specs.Net.{Net, Sock, new_sock, sock_at, mine_at, is_made, most_pairs, most_sockets, next_object, end_a, end_b}
 use Rattle.spec_journal.specs.Line.{DoesCall}
+use Rattle.flat_net.specs.declared.outcome.Outcome.{Outcome}
 use Rattle.flat_net.specs.Pipes.{PlainEnds, IsThere, ArePairs, IsPast}
+use Rattle.flat_net.specs.Given.{gives, IsLast, AreGiven}
 
 -- the net, and the ends of its pairs with their pipes
 pub record Flat : Type 0 where
@@ -92,20 +95,43 @@ IsOpened kind options old reply new =
     × (reply ≡ answer.Object (record { 0 = next_object old }))
     × (new ≡ record old { socks = old.socks ++ new_sock kind options ∷ [] })))
 
--- The line was done, with these steps and this answer; the steps past go on by these.
-pub record Moves (actor : ℕ) (call : Call) (old : Flat) (steps : List PipeStep) (reply : Answer) (new : Flat) : Type 0 where
-  pub does : DoesCall actor call old.net steps reply new.net
+-- The line was done, with these steps, these drops and this answer; the steps past go on by these.
+pub record Moves (actor : ℕ) (call : Call) (old : Flat) (steps : List PipeStep) (skips : List Skip) (o : Outcome) (new : Flat) : Type 0 where
+  pub does : DoesCall actor call old.net steps skips o.answer new.net
   pub goes_on : (past : List PipeStep) → IsPast old.pipes past → IsPast new.pipes (past ++ steps)
+  pub last : IsLast steps o
 
--- a row of a pipe whose messages were given or left
-abbrev pub plain_row : PipeId → ℕ → ℕ → PipeRow
-plain_row p sent given = record { pipe = p; sent = sent; given = given; heard = 0; dropped = 0; written = 0; lost = 0; rest = sent - given }
+-- the line was done, and its drops were told behind what was told before
+abbrev pub IsMoved : ℕ → Call → Flat → List Skip → Outcome → Flat → List Skip → Type 0
+IsMoved actor call old told o new told' =
+    (steps : List PipeStep) × (skips : List Skip) × Moves actor call old steps skips o new × (told' ≡ told ++ skips)
 
--- the row of a pipe by the steps past
-abbrev pub past_row : List PipeStep → PipeId → PipeRow
-past_row past p = plain_row p (length (committed_to p past)) (length (taken_from p past))
+-- a net with its pipes, and how many messages were given at each end, by place
+pub record Counted : Type 0 where
+  pub net : Net
+  pub pipes : PlainEnds
+  pub given : List ℕ
+
+-- The line was done; the steps past and the counts of messages given go on.
+pub record Does (actor : ℕ) (call : Call) (old : Counted) (steps : List PipeStep) (skips : List Skip) (reply : Answer) (new : Counted) : Type 0 where
+  pub does : DoesCall actor call old.net steps skips reply new.net
+  pub goes_on : (past : List PipeStep) → IsPast old.pipes past → IsPast new.pipes (past ++ steps)
+  pub counts : (count : PipeId → ℕ) → AreGiven old.given count → AreGiven new.given (λ q. count q + gives reply steps q)
+
+-- the line was done, and what it dropped was told behind what was told before
+abbrev pub IsDone : ℕ → Call → Counted → List Skip → Answer → Counted → List Skip → Type 0
+IsDone actor call old told reply new told' =
+    (steps : List PipeStep) × (skips : List Skip) × Does actor call old steps skips reply new × (told' ≡ told ++ skips)
+
+-- a row of a pipe whose messages were given, dropped or left, by how many were sent, given and taken
+abbrev pub plain_row : PipeId → ℕ → ℕ → ℕ → PipeRow
+plain_row p sent given taken = record { pipe = p; sent = sent; given = given; heard = 0; dropped = taken - given; written = 0; lost = 0; rest = sent - taken }
+
+-- the row of a pipe by the steps past and by how many of its messages were given
+abbrev pub past_row : List PipeStep → (PipeId → ℕ) → PipeId → PipeRow
+past_row past given p = plain_row p (length (committed_to p past)) (given p) (length (taken_from p past))
 
 -- the rows of the pairs from this number on
-abbrev pub past_rows : List PipeStep → ℕ → List Joined → List PipeRow
-past_rows past n [] = []
-past_rows past n (j ∷ js) = past_row past (end_a n) ∷ past_row past (end_b n) ∷ past_rows past (n + 1) js
+abbrev pub past_rows : List PipeStep → (PipeId → ℕ) → ℕ → List Joined → List PipeRow
+past_rows past given n [] = []
+past_rows past given n (j ∷ js) = past_row past given (end_a n) ∷ past_row past given (end_b n) ∷ past_rows past given (n + 1) js

@@ -1,5 +1,7 @@
 pub use Rattle.spec_journal.specs.Net
 pub mod Pipes
+pub mod Given
+pub mod GivenOwed
 pub mod Pairs
 pub mod Flat
 pub mod Socket

@@ -1,10 +1,14 @@
 //! The sockets of a run and how they are joined, before sockets have owners and end.
 #![tactic(auto)]
 
+mod counted_net;
+mod given;
 mod net;
+mod noting;
+mod outcome;
 mod pairs;
 mod pattern;
 mod seat;
 mod socket;
 
-pub use net::FlatNet;
+pub use counted_net::CountedNet;

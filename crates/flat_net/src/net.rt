@@ -1,13 +1,15 @@
 ghost use Rattle.std.specs.Prelude.{◌≡◌, ◌≤◌, ℕ, List, OnOk, OnErr};
 ghost use Rattle.spec_journal.specs.Net.{attached};
 
+use crate::given::Given;
+use crate::outcome::Outcome;
 use crate::pairs::Pairs;
 use crate::seat::Seat;
 use crate::socket::Socket;
 use endpoint_book::{BindError, Binding, EndpointBook};
 use http_server::Log;
 use spec_journal::{Answer, Joined, PipeRow};
-use spec_pattern::PipeId;
+use spec_pattern::{PipeId, Skip};
 use std::alloc::{AllocError, Global};
 use std::marker::Model;
 use zq_base::{Endpoint, Kind, Message, ObjId, Options, PairId};
@@ -22,7 +24,7 @@ const MOST_PAIRS: usize = 1_000_000;
 /// The sockets of a run, the pairs that join them, the names that they hold and the connects that
 /// wait. `joined` has the objects of each pair, for proofs alone, and takes no memory.
 #[derive(Drop)]
-pub struct FlatNet {
+pub(crate) struct FlatNet {
     sockets: Vec<Socket>,
     book: EndpointBook,
     joined: Log<Joined, ()>,
@@ -55,10 +57,12 @@ impl FlatNet {
     ghost use Rattle.spec_journal.specs.Line.{makes, binds, connects, connect_finds, joined_all, Sends, Receives};
     ghost use Rattle.zq_base.specs.Ends.{PipeId};
     ghost use Rattle.flat_net.specs.Pipes.{IsPast, IsThere};
-    ghost use Rattle.flat_net.specs.Flat.{net_of, IsOne, IsOpened, IsMine, IsAskedOf, Moves, past_row, past_rows};
+    ghost use Rattle.spec_pattern.specs.declared.answers.Skip.{Skip};
+    ghost use Rattle.flat_net.specs.Given.{given_in, IsLast};
+    ghost use Rattle.flat_net.specs.Flat.{net_of, IsOne, IsOpened, IsMine, IsAskedOf, IsMoved, past_row, past_rows};
 
     /// A net with no sockets, for so many actors.
-    pub fn new(alloc: Global, actors: usize) -> Result<FlatNet, AllocError>
+    pub(crate) fn new(alloc: Global, actors: usize) -> Result<FlatNet, AllocError>
         ensures net { IfOk result (λ w. w.net ≡ net_of [] empty_book [] (replicate actors [])) }
         ensures past { IfOk result (λ w. IsPast w.pipes []) }
     {
@@ -295,108 +299,136 @@ impl FlatNet {
     fn send(&mut self, object: ObjId, message: Message) -> Result<Answer, AllocError>
         requires there { IsOne (length self.old.net.socks) object }
         ensures { IfOk result (λ a. (s : Sock) → sock_at self.old.net object.0 ≡ Some s →
-            (steps : List PipeStep) × Sends (record { object = object; socket = s }) message self.old.net steps a self.new.net
+            (steps : List PipeStep) × Sends (record { object = object; socket = s }) message self.old.net steps [] a self.new.net
             × ((past : List PipeStep) → IsPast self.old.pipes past → IsPast self.new.pipes (past ++ steps))) }
     {
         let place = (object.0 as usize).saturating_sub(1);
         self.sockets[place].send(&mut self.pairs, message)
     }
 
-    /// Asks a socket to receive.
-    fn recv(&mut self, object: ObjId) -> Result<Answer, AllocError>
+    /// Asks a socket to receive. The messages that it drops are told behind those told before.
+    fn recv(&mut self, object: ObjId, told: &mut Vec<Skip>) -> Result<Outcome, AllocError>
         requires there { IsOne (length self.old.net.socks) object }
-        ensures { IfOk result (λ a. (s : Sock) → sock_at self.old.net object.0 ≡ Some s →
-            (steps : List PipeStep) × Receives (record { object = object; socket = s }) self.old.net steps a self.new.net
-            × ((past : List PipeStep) → IsPast self.old.pipes past → IsPast self.new.pipes (past ++ steps))) }
+        ensures { IfOk result (λ o. (s : Sock) → sock_at self.old.net object.0 ≡ Some s →
+            (steps : List PipeStep) × (skips : List Skip)
+            × Receives (record { object = object; socket = s }) self.old.net steps skips o.answer self.new.net
+            × ((past : List PipeStep) → IsPast self.old.pipes past → IsPast self.new.pipes (past ++ steps))
+            × (told.new.items ≡ told.old.items ++ skips) × IsLast steps o) }
     {
         let place = (object.0 as usize).saturating_sub(1);
-        self.sockets[place].recv(&mut self.pairs)
+        self.sockets[place].recv(&mut self.pairs, told)
     }
 
     /// Does a line on a socket.
-    fn ask(&mut self, alloc: Global, object: ObjId, call: &Call) -> Result<Answer, AllocError>
+    fn ask(
+        &mut self,
+        alloc: Global,
+        object: ObjId,
+        call: &Call,
+        told: &mut Vec<Skip>,
+    ) -> Result<Outcome, AllocError>
         requires there { IsOne (length self.old.net.socks) object }
-        ensures { IfOk result (λ a. (actor : ℕ) → IsAskedOf self.old.net actor object call.now →
-            (steps : List PipeStep) × Moves actor call.now self.old steps a self.new) }
+        ensures { IfOk result (λ o. (actor : ℕ) → IsAskedOf self.old.net actor object call.now →
+            IsMoved actor call.now self.old told.old.items o self.new told.new.items) }
     {
         match call {
-            Call::Socket(_, _) => return Ok(Answer::NotSupported),
+            Call::Socket(_, _) => return Ok(Outcome::of(Answer::NotSupported)),
             Call::Bind(_, at) => match at {
-                Endpoint::Inproc(_) => return self.bind(alloc, object, at),
-                Endpoint::Tcp(_) => return Ok(Answer::NotSupported),
+                Endpoint::Inproc(_) => {
+                    let answer = self.bind(alloc, object, at)?;
+                    return Ok(Outcome::of(answer));
+                }
+                Endpoint::Tcp(_) => return Ok(Outcome::of(Answer::NotSupported)),
             },
             Call::Connect(_, to) => match to {
-                Endpoint::Inproc(_) => return self.connect(alloc, object, to),
-                Endpoint::Tcp(_) => return Ok(Answer::NotSupported),
+                Endpoint::Inproc(_) => {
+                    let answer = self.connect(alloc, object, to)?;
+                    return Ok(Outcome::of(answer));
+                }
+                Endpoint::Tcp(_) => return Ok(Outcome::of(Answer::NotSupported)),
             },
             Call::Send(_, message) => {
                 let message = message.copy(alloc)?;
-                return self.send(object, message);
+                let answer = self.send(object, message)?;
+                return Ok(Outcome::of(answer));
             }
-            Call::Recv(_, _) => return self.recv(object),
+            Call::Recv(_, _) => return self.recv(object, told),
         }
     }
 
     /// Does an actor's line once: its answer, and the net that it leaves (the actors are counted
-    /// from 0). Want of memory may leave a line half done, so a run ends with it.
-    pub fn step(&mut self, alloc: Global, actor: usize, call: &Call) -> Result<Answer, AllocError>
-        ensures { IfOk result (λ a. (steps : List PipeStep) × Moves actor call.now self.old steps a self.new) }
+    /// from 0). The messages that it drops are told behind those told before. Want of memory may
+    /// leave a line half done, so a run ends with it.
+    pub(crate) fn step(
+        &mut self,
+        alloc: Global,
+        actor: usize,
+        call: &Call,
+        told: &mut Vec<Skip>,
+    ) -> Result<Outcome, AllocError>
+        ensures { IfOk result (λ o.
+            IsMoved actor call.now self.old told.old.items o self.new told.new.items) }
     {
         let place = match call {
-            Call::Socket(kind, options) => return self.socket(alloc, actor, *kind, options),
+            Call::Socket(kind, options) => {
+                let answer = self.socket(alloc, actor, *kind, options)?;
+                return Ok(Outcome::of(answer));
+            }
             Call::Bind(place, _) => *place,
             Call::Connect(place, _) => *place,
             Call::Send(place, _) => *place,
             Call::Recv(place, _) => *place,
         };
         match self.mine(actor, place as usize) {
-            None => return Ok(Answer::NoSocket),
-            Some(object) => return self.ask(alloc, object, call),
+            None => return Ok(Outcome::of(Answer::NoSocket)),
+            Some(object) => return self.ask(alloc, object, call, told),
         }
     }
 
     /// The row of one pipe.
-    fn row(&self, pipe: PipeId) -> PipeRow
+    fn row(&self, pipe: PipeId, given: &Given) -> PipeRow
         requires there { IsThere self.now.pipes pipe }
-        ensures { (past : List PipeStep) → IsPast self.now.pipes past → result ≡ past_row past pipe }
+        ensures { (past : List PipeStep) → IsPast self.now.pipes past →
+            result ≡ past_row past (given_in given.now) pipe }
     {
         let counts = self.pairs.counts(pipe);
+        let given = given.of(pipe);
         PipeRow {
             pipe,
             sent: counts.sent,
-            given: counts.got,
+            given,
             heard: 0,
-            dropped: 0,
+            dropped: counts.got.saturating_sub(given),
             written: 0,
             lost: 0,
             rest: counts.rest,
         }
     }
 
-    /// The rows of all pairs' pipes, by the messages committed and taken: two a pair, in the order
-    /// of the pairs.
-    pub fn rows(&self, alloc: Global) -> Result<Vec<PipeRow>, AllocError>
+    /// The rows of all pairs' pipes, by the messages committed, given and taken: two a pair, in the
+    /// order of the pairs. What was taken and not given was dropped.
+    pub(crate) fn rows(&self, alloc: Global, given: &Given) -> Result<Vec<PipeRow>, AllocError>
         ensures rows { IfOk result (λ v. (past : List PipeStep) → IsPast self.now.pipes past →
-            v.items ≡ past_rows past 1 self.now.net.pairs) }
+            v.items ≡ past_rows past (given_in given.now) 1 self.now.net.pairs) }
         ensures exact { OnOk result ((past : List PipeStep) → IsPast self.now.pipes past →
             AreExact (capacity_in self.now.net) [] past) }
         ensures fits { OnOk result ((p : PipeId) → capacity_in self.now.net p ≤ most_commits) }
     {
         // For proofs: what is always true of a net.
         let _sockets = &self.sockets;
-        self.rows_of_pairs(alloc)
+        self.rows_of_pairs(alloc, given)
     }
 
     /// The same rows.
-    fn rows_of_pairs(&self, alloc: Global) -> Result<Vec<PipeRow>, AllocError>
+    fn rows_of_pairs(&self, alloc: Global, given: &Given) -> Result<Vec<PipeRow>, AllocError>
         ensures { IfOk result (λ v. (past : List PipeStep) → IsPast self.now.pipes past →
-            v.items ≡ past_rows past 1 self.now.net.pairs) }
+            v.items ≡ past_rows past (given_in given.now) 1 self.now.net.pairs) }
     {
         let mut rows = Vec::new(alloc);
         'pairs: for place in 0..self.pair_count() {
             let pair = PairId(place as u32 + 1);
-            rows.push(self.row(PipeId { pair, a: true }))?;
-            rows.push(self.row(PipeId { pair, a: false }))?;
+            rows.push(self.row(PipeId { pair, a: true }, given))?;
+            rows.push(self.row(PipeId { pair, a: false }, given))?;
         }
         Ok(rows)
     }

@@ -1,4 +1,4 @@
-ghost use Rattle.std.specs.Prelude.{◌≡◌, ◌≤◌, ◌<◌, ℕ, List, All, IsPermutation, length, Ok, IsErr, OnOk, OnErr};
+ghost use Rattle.std.specs.Prelude.{◌≡◌, ◌≤◌, ◌<◌, ℕ, List, All, length, Ok, IsErr, OnOk, OnErr};
 ghost use Rattle.spec_journal.specs.Net.{sock_kind, turned};
 ghost use Rattle.spec_journal.specs.Line.{sent_answer, got_answer};
 ghost use Rattle.spec_pattern.specs.Results.{MatchSend, MatchRecv};
@@ -9,12 +9,14 @@ ghost use Rattle.pattern_laws.specs.Peers.{kept_ends};
 ghost use Rattle.spec_pattern.specs.Pattern.{attach};
 ghost use Rattle.flat_net.specs.Socket.{new_socket, places_of, pattern_of, SendsOver, ReceivesOver};
 
+use crate::noting::Noting;
+use crate::outcome::Outcome;
 use crate::pairs::{Pairs, place_of};
 use crate::pattern::Pattern;
 use ends::{EndRow, Ends};
 use msg_pipe::{PlainIn, PlainOut, PlainPipes};
 use spec_journal::Answer;
-use spec_pattern::{PipeId, RecvFault, SendFault, Sent};
+use spec_pattern::{PipeId, RecvFault, SendFault, Sent, Skip};
 use std::alloc::{AllocError, Global};
 use std::marker::Model;
 use zq_base::{Kind, Message, Options, PairId};
@@ -94,16 +96,21 @@ impl Socket {
         )
     }
 
-    /// Asks the socket to receive over the ends of all pairs.
-    pub(crate) fn recv(&mut self, pairs: &mut Pairs) -> Result<Answer, AllocError>
+    /// Asks the socket to receive over the ends of all pairs. The messages that it drops are told
+    /// behind those told before.
+    pub(crate) fn recv(
+        &mut self,
+        pairs: &mut Pairs,
+        told: &mut Vec<Skip>,
+    ) -> Result<Outcome, AllocError>
         requires pairs { (capacities : List ℕ) × ArePairs (tabled pairs.old) capacities }
         requires there { All (IsThere (tabled pairs.old)) (kept_ends self.old.pattern) }
-        ensures step { ReceivesOver
-            (tabled pairs.old) self.old.pattern result (tabled pairs.new) self.new.pattern }
+        ensures step { ReceivesOver told.old.items (tabled pairs.old) self.old.pattern result
+            told.new.items (tabled pairs.new) self.new.pattern }
         ensures turned { self.new ≡ turned self.new.pattern self.old }
         ensures there { All (IsThere (tabled pairs.new)) (kept_ends self.new.pattern) }
     {
-        recv_over(&mut self.pattern, &mut pairs.pipes, &mut pairs.rows)
+        recv_over(&mut self.pattern, &mut pairs.pipes, &mut pairs.rows, told)
     }
 }
 
@@ -119,7 +126,6 @@ fn send_over(
     ensures step { SendsOver message
         (table pipes.old rows.old.items) (pattern_of pattern.old) result
         (table pipes.new rows.new.items) (pattern_of pattern.new) }
-    ensures places { IsPermutation (places_of pattern.old) (places_of pattern.new) }
 {
     let mut ends = Ends { pipes, rows };
     sent_reply(pattern.send(&mut ends, message))
@@ -130,16 +136,20 @@ fn recv_over(
     pattern: &mut Pattern,
     pipes: &mut PlainPipes,
     rows: &mut Vec<Option<Box<EndRow<PlainOut, PlainIn>>>>,
-) -> Result<Answer, AllocError>
+    told: &mut Vec<Skip>,
+) -> Result<Outcome, AllocError>
     requires pairs { (capacities : List ℕ) × ArePairs (table pipes.old rows.old.items) capacities }
     requires there { All (λ k. k < length rows.old.items) (places_of pattern.old) }
-    ensures step { ReceivesOver
-        (table pipes.old rows.old.items) (pattern_of pattern.old) result
+    ensures step { ReceivesOver told.old.items
+        (table pipes.old rows.old.items) (pattern_of pattern.old) result told.new.items
         (table pipes.new rows.new.items) (pattern_of pattern.new) }
-    ensures places { IsPermutation (places_of pattern.old) (places_of pattern.new) }
 {
-    let mut ends = Ends { pipes, rows };
-    got_reply(pattern.recv(&mut ends))
+    let mut noting = Noting {
+        ends: Ends { pipes, rows },
+        last: None,
+    };
+    let got = pattern.recv(&mut noting, told);
+    got_reply(got, noting.last)
 }
 
 // What is answered to a send.
@@ -156,13 +166,29 @@ fn sent_reply(sent: Result<Sent, SendFault>) -> Result<Answer, AllocError>
     }
 }
 
-// What is answered to a receive.
-fn got_reply(got: Result<(PairId, Message), RecvFault>) -> Result<Answer, AllocError>
-    ensures { MatchRecv got (IsErr result) (λ answer. result ≡ Ok (got_answer answer)) }
+// What is answered to a receive that took a message last at this place.
+fn got_reply(
+    got: Result<(PairId, Message), RecvFault>,
+    last: Option<usize>,
+) -> Result<Outcome, AllocError>
+    ensures { MatchRecv got (IsErr result) (λ answer. result ≡ Ok (record {
+      answer = got_answer answer;
+      last = last;
+    })) }
 {
     match got {
-        Ok((from, message)) => return Ok(Answer::Got(from, message)),
-        Err(RecvFault::Refused(refusal)) => return Ok(Answer::NotReceived(refusal)),
+        Ok((from, message)) => {
+            return Ok(Outcome {
+                answer: Answer::Got(from, message),
+                last,
+            });
+        }
+        Err(RecvFault::Refused(refusal)) => {
+            return Ok(Outcome {
+                answer: Answer::NotReceived(refusal),
+                last,
+            });
+        }
         Err(RecvFault::OutOfMemory) => return Err(AllocError),
     }
 }

@@ -9,6 +9,7 @@ use Rattle.std.proofs.lemmas.Option.{slice_get_past}
 use Rattle.zq_script.specs.declared.script.Script.{Script}
 use Rattle.zq_script.specs.declared.script.ActorScript.{ActorScript}
 use Rattle.zq_script.specs.declared.script.Line.{Line}
+use Rattle.spec_pattern.specs.declared.answers.Skip.{Skip}
 use Rattle.spec_journal.specs.declared.journal.Answer.{Answer}
 use Rattle.spec_journal.specs.Turn.{Doing, Agenda, Stage, whole_agenda, stage_before, tries_of, asks_again, is_over, after_try, Tries, lines_in, lines_left, StepOf, StepsOf, next_number, choice, Chooses, IsOrder, other_workers, workers_of, IsFinished, Turns}
 use Rattle.spec_journal.specs.Completeness.{most_tries, actor_tries, RunsAreDone}
@@ -44,12 +45,12 @@ lighter_when_left line rest tried reply e =
     let fewer = fewer_left (tries_of line.call) tried some_left in
     omega (arith, fewer)
 
-lighter : (agenda : Agenda) (line : Line) (rest : List Line) (reply : Answer) (over : Bool)
+lighter : (agenda : Agenda) (line : Line) (rest : List Line) (told : List Skip) (reply : Answer) (over : Bool)
     → agenda.lines ≡ line ∷ rest → over ≡ is_over agenda.tried line.call reply
-    → weigh (after_try agenda rest over) < weigh agenda
-lighter agenda line rest reply true lines_are over_is =
+    → weigh (after_try agenda rest told over) < weigh agenda
+lighter agenda line rest told reply true lines_are over_is =
     subst (λ lines. weight rest 0 < weight lines agenda.tried) (sym lines_are) (lighter_when_over line rest agenda.tried)
-lighter agenda line rest reply false lines_are over_is =
+lighter agenda line rest told reply false lines_are over_is =
     subst (λ lines. weight lines (agenda.tried + 1) < weight lines agenda.tried) (sym lines_are) (lighter_when_left line rest agenda.tried reply over_is)
 
 abbrev weigh_some : Option Agenda → ℕ
@@ -66,13 +67,13 @@ exchanged (first ∷ others) (suc k) agenda new e = let rest = exchanged others 
 
 try_lowers : (old : Stage) (d : Doing) (new : Stage) → Tries old d new → total new.agendas < total old.agendas
 try_lowers old d new t =
-    let less = lighter t.agenda d.line t.rest d.answer d.over t.lines_are t.over_is in
-    let sums = exchanged old.agendas d.actor t.agenda (after_try t.agenda t.rest d.over) t.agenda_is in
-    let is : total new.agendas ≡ total (slice_set old.agendas d.actor (after_try t.agenda t.rest d.over)) = ap total t.agendas_are in
+    let less = lighter t.agenda d.line t.rest d.told d.answer d.over t.lines_are t.over_is in
+    let sums = exchanged old.agendas d.actor t.agenda (after_try t.agenda t.rest d.told d.over) t.agenda_is in
+    let is : total new.agendas ≡ total (slice_set old.agendas d.actor (after_try t.agenda t.rest d.told d.over)) = ap total t.agendas_are in
     omega (arith, less, sums, is)
 
 try_keeps_actors : (old : Stage) (d : Doing) (new : Stage) → Tries old d new → length new.agendas ≡ length old.agendas
-try_keeps_actors old d new t = ap length t.agendas_are ∙ length-set old.agendas d.actor (after_try t.agenda t.rest d.over)
+try_keeps_actors old d new t = ap length t.agendas_are ∙ length-set old.agendas d.actor (after_try t.agenda t.rest d.told d.over)
 
 -- what is done between two stages lowers what is left to try by as much at least, and keeps the number of actors
 record Lowers (old : Stage) (ds : List Doing) (new : Stage) : Type 0 where

@@ -1,12 +1,13 @@
 -- Each message committed to a pipe has one end where takes are in order, and the counts of its row add up.
-use Rattle.std.proofs.Common.{◌≡◌, ◌∙◌, ◌+◌, ◌-◌, ◌≤◌, ℕ, List, [], ◌∷◌, ◌++◌, length, refl, sym, subst, ap, arith, length-append}
+use Rattle.std.proofs.Common.{◌≡◌, ◌∙◌, ◌+◌, ◌-◌, ◌≤◌, ℕ, suc, List, [], ◌∷◌, ◌++◌, Bool, true, false, length, drop, refl, sym, subst, ap, arith, length-append}
 use Rattle.std.specs.Prelude.{filter, flat_map, replicate, All, Contains}
-use Rattle.std.proofs.lemmas.List.{length-map, length-replicate}
+use Rattle.std.proofs.lemmas.List.{length-replicate}
 use Rattle.std.proofs.lemmas.List.Elements.{filter_map-append, All-nil, All-cons, All-contains}
 use mathlib.Core.List.{IsPrefix}
 use Rattle.zq_base.specs.Message.{Frames}
 use Rattle.zq_base.specs.Ends.{PipeId}
-use Rattle.spec_pattern.specs.PipeStep.{committed_to, taken_from, taken_by, TakesInOrder}
+use Rattle.spec_pattern.specs.PipeStep.{PipeStep, Commit, FullLook, Take, EmptyLook, DelimiterLook, WaitingLook, Seal, same_pipe, committed_to, taken_from, taken_by, TakesInOrder}
+use Rattle.spec_pattern.specs.declared.answers.Skip.{Skip}
 use Rattle.spec_journal.specs.Turn.{Doing}
 use Rattle.spec_journal.specs.Run.{Schedule, Run, doings_of, steps_of}
 use Rattle.spec_journal.specs.declared.journal.PipeRow.{PipeRow}
@@ -15,10 +16,10 @@ use Rattle.zq_script.specs.declared.script.Script.{Script}
 use Rattle.spec_journal.specs.declared.journal.Joined.{Joined}
 use Rattle.spec_journal.specs.Net.{end_a, end_b}
 use Rattle.spec_journal.specs.Printed.{IsJournalOf, rows_from, journal_of}
-use Rattle.spec_journal.specs.Disposition.{run_row, count_committed, Disposition, Given, Heard, Dropped, Written, Lost, Rest, AllEnd, told_by, taken_as, dispositions, is_given, is_heard, is_dropped, is_written, is_lost, is_rest}
+use Rattle.spec_journal.specs.Disposition.{run_row, count_committed, Disposition, Given, Heard, Dropped, Written, Lost, Rest, AllEnd, told_in, told_by, dispositions, is_given, is_heard, is_dropped, is_written, is_lost, is_rest}
 
 -- each disposition is counted once
-counted_once : (ds : List Disposition) → length ds ≡ length (filter is_given ds) + length (filter is_heard ds)
+pub counted_once : (ds : List Disposition) → length ds ≡ length (filter is_given ds) + length (filter is_heard ds)
     + length (filter is_dropped ds) + length (filter is_written ds) + length (filter is_lost ds) + length (filter is_rest ds)
 counted_once [] = refl
 counted_once (Given ∷ ds) = omega (arith, counted_once ds)
@@ -29,10 +30,25 @@ counted_once (Lost ∷ ds) = omega (arith, counted_once ds)
 counted_once (Rest ∷ ds) = omega (arith, counted_once ds)
 
 -- one disposition for each message taken
-one_each : (p : PipeId) (ds : List Doing) → length (flat_map (told_by p) ds) ≡ length (taken_from p (steps_of ds))
+pub told_length : (p : PipeId) (steps : List PipeStep) (skips : List Skip) → length (told_in p steps skips) ≡ length (taken_from p steps)
+told_length p [] skips = refl
+told_length p (Commit q m ∷ steps) skips = told_length p steps skips
+told_length p (FullLook q ∷ steps) skips = told_length p steps skips
+told_length p (Take q m ∷ steps) skips = by (same_pipe p q) refl (told_length p steps (drop 1 skips))
+  where
+    by : (b : Bool) → same_pipe p q ≡ b → length (told_in p steps (drop 1 skips)) ≡ length (taken_from p steps)
+        → length (told_in p (Take q m ∷ steps) skips) ≡ length (taken_from p (Take q m ∷ steps))
+    by true e rest = rw e (ap suc rest)
+    by false e rest = rw e rest
+told_length p (EmptyLook q ∷ steps) skips = told_length p steps skips
+told_length p (DelimiterLook q ∷ steps) skips = told_length p steps skips
+told_length p (WaitingLook q ∷ steps) skips = told_length p steps skips
+told_length p (Seal q ∷ steps) skips = told_length p steps skips
+
+pub one_each : (p : PipeId) (ds : List Doing) → length (flat_map (told_by p) ds) ≡ length (taken_from p (steps_of ds))
 one_each p [] = refl
 one_each p (d ∷ ds) =
-    rw (length-append, filter_map-append (taken_by p) d.steps (steps_of ds), length-append, length-map (taken_from p d.steps) (λ _. taken_as d.answer), one_each p ds)
+    rw (length-append, filter_map-append (taken_by p) d.steps (steps_of ds), length-append, told_length p d.steps d.skips, one_each p ds)
 
 few_taken : (taken committed : List Frames) → IsPrefix taken committed → length taken ≤ length committed
 few_taken taken committed (rest, whole) = let split : length (taken ++ rest) ≡ length taken + length rest = length-append taken rest in

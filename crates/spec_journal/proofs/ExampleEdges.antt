@@ -48,7 +48,7 @@ no_pair false = omega arith
 first_turn : Turns 0 three_workers 0 (stage_before pipeline_script) ((first_doing ∷ []) ∷ []) (one_actor_stage net_1 later_lines)
 first_turn = (
   not_finished (net_before pipeline_script) first_line later_lines,
-  (three_workers, 0, one_actor_stage net_1 later_lines, inl (refl, refl, refl), one_turn (net_before pipeline_script) net_1 first_line later_lines [] (answer.Object (object_nr 1)) makes_pull refl, refl),
+  (three_workers, 0, one_actor_stage net_1 later_lines, inl (refl, refl, refl), one_turn (net_before pipeline_script) net_1 first_line later_lines [] [] (answer.Object (object_nr 1)) makes_pull refl, refl),
 )
 
 cut_short : TakenIsPrefix → LooksHoldWhereExact → IsJournalOf pipeline_script one_turn_only short_journal
@@ -81,9 +81,9 @@ no_other_end j e = by j.done (ap (λ (k : Journal). k.done) e)
 no_fewer_rows : (p : PipeRow) (ps : List PipeRow) → ◌≡◌ {A = List PipeRow} (p ∷ ps) [] → ⊥
 no_fewer_rows p ps e = cc
 
-finds : Tries both_left finds_none (record both_left { agendas = record { lines = tries_twice ∷ []; tried = 1 } ∷ record { lines = sends_once ∷ []; tried = 0 } ∷ [] })
+finds : Tries both_left finds_none (record both_left { agendas = record { lines = tries_twice ∷ []; tried = 1; told = [] } ∷ record { lines = sends_once ∷ []; tried = 0; told = [] } ∷ [] })
 finds = record {
-  agenda = record { lines = tries_twice ∷ []; tried = 0 };
+  agenda = record { lines = tries_twice ∷ []; tried = 0; told = [] };
   rest = [];
   agenda_is = refl;
   lines_are = refl;
@@ -94,13 +94,14 @@ finds = record {
     reply_is = refl;
     new_is = refl;
   };
+  told_is = refl;
   over_is = refl;
   agendas_are = refl;
 }
 
-sends : Tries (record both_left { agendas = record { lines = tries_twice ∷ []; tried = 1 } ∷ record { lines = sends_once ∷ []; tried = 0 } ∷ [] }) sends_m one_left
+sends : Tries (record both_left { agendas = record { lines = tries_twice ∷ []; tried = 1; told = [] } ∷ record { lines = sends_once ∷ []; tried = 0; told = [] } ∷ [] }) sends_m one_left
 sends = record {
-  agenda = record { lines = sends_once ∷ []; tried = 0 };
+  agenda = record { lines = sends_once ∷ []; tried = 0; told = [] };
   rest = [];
   agenda_is = refl;
   lines_are = refl;
@@ -108,15 +109,17 @@ sends = record {
     sent = sent.One (pair_nr 1);
     pattern = by_kind.Push (end_a 1 ∷ []);
     step = (end_a 1 ∷ [], record { before = []; peer = end_a 1; after = []; turns_are = refl; open_is = refl; steps_are = refl; to_is = refl; new_is = refl }, refl);
+    skips_are = refl;
     reply_is = refl;
     new_is = refl;
   };
+  told_is = refl;
   over_is = refl;
   agendas_are = refl;
 }
 
 abbrev between : Stage
-between = record both_left { agendas = record { lines = tries_twice ∷ []; tried = 1 } ∷ record { lines = sends_once ∷ []; tried = 0 } ∷ [] }
+between = record both_left { agendas = record { lines = tries_twice ∷ []; tried = 1; told = [] } ∷ record { lines = sends_once ∷ []; tried = 0; told = [] } ∷ [] }
 
 still_lines : IsFinished both_left → ⊥
 still_lines done = let none : length (tries_twice ∷ []) ≡ 0 = ap length (done 0) in omega (arith, none)

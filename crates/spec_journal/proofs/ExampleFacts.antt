@@ -8,6 +8,7 @@ use Rattle.spec_journal.proofs.ExamplePipes.{pipes}
 use Rattle.spec_journal.proofs.ExampleEdges.{edges}
 use Rattle.spec_journal.proofs.ExampleNames.{names}
 use Rattle.spec_journal.proofs.ExamplePeers.{peers}
+use Rattle.spec_journal.proofs.ExampleDrops.{drops}
 
 orders : Orders
 orders = record {
@@ -27,4 +28,5 @@ examples taken_prefix looks_hold = record {
   names = names;
   peers = peers;
   orders = orders;
+  drops = drops;
 }

@@ -39,16 +39,16 @@ q_held = with_name at_q (record { holder = object_nr 1; kind = Pull }) empty_boo
 abbrev net_3 : Net
 net_3 = record net_2 { book = q_held }
 
-pub makes_pull : DoesCall 0 (call.Socket Pull (options_with 1000)) (net_before pipeline_script) [] (answer.Object (object_nr 1)) net_1
-makes_pull = (refl, refl, refl)
+pub makes_pull : DoesCall 0 (call.Socket Pull (options_with 1000)) (net_before pipeline_script) [] [] (answer.Object (object_nr 1)) net_1
+makes_pull = (refl, refl, refl, refl)
 
-makes_push : DoesCall 0 (call.Socket Push (options_with 1000)) net_1 [] (answer.Object (object_nr 2)) net_2
-makes_push = (refl, refl, refl)
+makes_push : DoesCall 0 (call.Socket Push (options_with 1000)) net_1 [] [] (answer.Object (object_nr 2)) net_2
+makes_push = (refl, refl, refl, refl)
 
-does_bind : DoesCall 0 (call.Bind 0 at_q) net_2 [] answer.Done net_3
+does_bind : DoesCall 0 (call.Bind 0 at_q) net_2 [] [] answer.Done net_3
 does_bind = comes (binds (object_nr 1) (pull 1000 []) at_q net_2) answer.Done net_3 (rw (none_held at_q))
 
-does_connect : DoesCall 0 (call.Connect 1 at_q) net_3 [] (answer.Pair (pair_nr 1)) (joined_net 1000)
+does_connect : DoesCall 0 (call.Connect 1 at_q) net_3 [] [] (answer.Pair (pair_nr 1)) (joined_net 1000)
 does_connect = comes (connects (object_nr 2) (push 1000 []) at_q net_3) (answer.Pair (pair_nr 1)) (joined_net 1000)
     (ap (λ found. connects_to (object_nr 2) (push 1000 []) at_q found net_3) (one_held (record { holder = object_nr 1; kind = Pull })))
 

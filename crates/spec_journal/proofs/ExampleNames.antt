@@ -32,8 +32,8 @@ pub one_held : (b : Binding) → binding_of (with_name at_q b empty_book) at_q �
 one_held b = finite.get-insert nat_list_cmp_total finite.empty (codes "q") b (codes "q")
 
 -- a line without steps
-pub comes : (outcome : Outcome) (said : Answer) (new : Net) → outcome ≡ (said, new) → Comes outcome [] said new
-comes outcome said new e = (refl, ap (λ (o : Outcome). o.0) (sym e), ap (λ (o : Outcome). o.1) (sym e))
+pub comes : (outcome : Outcome) (said : Answer) (new : Net) → outcome ≡ (said, new) → Comes outcome [] [] said new
+comes outcome said new e = (refl, ap (λ (o : Outcome). o.0) (sym e), ap (λ (o : Outcome). o.1) (sym e), refl)
 
 -- the nets that the lines leave: a PUSH, its connect, a PULL
 abbrev net_1 : Net
@@ -45,33 +45,35 @@ net_2 = record net_1 { book = with_waiting (wait_of at_q 1 Push ∷ []) empty_bo
 abbrev net_3 : Net
 net_3 = record net_2 { socks = push 1000 [] ∷ pull 1000 [] ∷ []; seats = (Some (object_nr 1) ∷ Some (object_nr 2) ∷ []) ∷ [] }
 
-makes_push : DoesCall 0 (call.Socket Push (options_with 1000)) (net_before waiting_script) [] (answer.Object (object_nr 1)) net_1
-makes_push = (refl, refl, refl)
+makes_push : DoesCall 0 (call.Socket Push (options_with 1000)) (net_before waiting_script) [] [] (answer.Object (object_nr 1)) net_1
+makes_push = (refl, refl, refl, refl)
 
-connect_waits : DoesCall 0 (call.Connect 0 at_q) net_1 [] answer.Wait net_2
+connect_waits : DoesCall 0 (call.Connect 0 at_q) net_1 [] [] answer.Wait net_2
 connect_waits = comes (connects (object_nr 1) (push 1000 []) at_q net_1) answer.Wait net_2
     (ap (λ found. connects_to (object_nr 1) (push 1000 []) at_q found net_1) (none_held at_q))
 
-has_no_peer : DoesCall 0 (call.Send 0 (codes "m" ∷ [])) net_2 [] (answer.NotSent send.Again) net_2
+has_no_peer : DoesCall 0 (call.Send 0 (codes "m" ∷ [])) net_2 [] [] (answer.NotSent send.Again) net_2
 has_no_peer = record {
   sent = sent.Refused send.Again;
   pattern = by_kind.Push [];
   step = ([], (refl, record { steps_are = refl; new_is = refl }), refl);
+  skips_are = refl;
   reply_is = refl;
   new_is = refl;
 }
 
-makes_pull : DoesCall 0 (call.Socket Pull (options_with 1000)) net_2 [] (answer.Object (object_nr 2)) net_3
-makes_pull = (refl, refl, refl)
+makes_pull : DoesCall 0 (call.Socket Pull (options_with 1000)) net_2 [] [] (answer.Object (object_nr 2)) net_3
+makes_pull = (refl, refl, refl, refl)
 
-bind_joins : DoesCall 0 (call.Bind 1 at_q) net_3 [] answer.Done waited_net
+bind_joins : DoesCall 0 (call.Bind 1 at_q) net_3 [] [] answer.Done waited_net
 bind_joins = comes (binds (object_nr 2) (pull 1000 []) at_q net_3) answer.Done waited_net (rw (none_held at_q))
 
-sends : DoesCall 0 (call.Send 0 (codes "m" ∷ [])) waited_net (Commit (end_a 1) (codes "m" ∷ []) ∷ []) (answer.Pair (pair_nr 1)) waited_net
+sends : DoesCall 0 (call.Send 0 (codes "m" ∷ [])) waited_net (Commit (end_a 1) (codes "m" ∷ []) ∷ []) [] (answer.Pair (pair_nr 1)) waited_net
 sends = record {
   sent = sent.One (pair_nr 1);
   pattern = by_kind.Push (end_a 1 ∷ []);
   step = (end_a 1 ∷ [], record { before = []; peer = end_a 1; after = []; turns_are = refl; open_is = refl; steps_are = refl; to_is = refl; new_is = refl }, refl);
+  skips_are = refl;
   reply_is = refl;
   new_is = refl;
 }
@@ -85,15 +87,15 @@ waits =
     (turn_more bind_joins refl
     (turn_more sends refl at_end)))))
 
-in_use : DoesCall 0 (call.Bind 1 at_q) two_pulls [] answer.InUse two_pulls
+in_use : DoesCall 0 (call.Bind 1 at_q) two_pulls [] [] answer.InUse two_pulls
 in_use = comes (binds (object_nr 2) (pull 1000 []) at_q two_pulls) answer.InUse two_pulls
     (rw (one_held (record { holder = object_nr 1; kind = Pull })))
 
-bad_pair : DoesCall 0 (call.Connect 1 at_q) two_pushes [] answer.BadPair two_pushes
+bad_pair : DoesCall 0 (call.Connect 1 at_q) two_pushes [] [] answer.BadPair two_pushes
 bad_pair = comes (connects (object_nr 2) (push 1000 []) at_q two_pushes) answer.BadPair two_pushes
     (ap (λ found. connects_to (object_nr 2) (push 1000 []) at_q found two_pushes) (one_held (record { holder = object_nr 1; kind = Push })))
 
-fulfilled : DoesCall 0 (call.Bind 3 at_q) four_waiting [] answer.Done two_fulfilled
+fulfilled : DoesCall 0 (call.Bind 3 at_q) four_waiting [] [] answer.Done two_fulfilled
 fulfilled = comes (binds (object_nr 4) (pull 1000 []) at_q four_waiting) answer.Done two_fulfilled (rw (none_held at_q))
 
 pub names : NameRules

@@ -4,6 +4,7 @@ pub mod ExampleNames
 pub mod ExamplePipes
 pub mod ExampleJournals
 pub mod ExamplePeers
+pub mod ExampleDrops
 pub mod ExampleEdges
 pub mod ExampleFacts
 pub mod Completeness

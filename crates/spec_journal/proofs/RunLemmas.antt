@@ -18,6 +18,7 @@ use Rattle.pattern_laws.specs.Peers.{kept_ends, peer_names, HaveOneName}
 use Rattle.pattern_laws.specs.Laws.{AgreeOn}
 use Rattle.spec_control.specs.declared.book.Binding.{Binding}
 use Rattle.spec_journal.proofs.ExampleNames.{none_held}
+use Rattle.spec_pattern.specs.declared.answers.Skip.{Skip}
 use Rattle.spec_journal.specs.declared.journal.Answer.{Answer}
 use Rattle.spec_journal.specs.declared.journal.Journal.{Journal}
 use Rattle.spec_journal.specs.Net.{Net, Mine, capacity_in, mine_at, sock_at, with_turned}
@@ -34,45 +35,45 @@ pub socket_ends : (net : Net) (m : Mine) → IsSound net → sock_at net m.objec
 socket_ends net m sound here = each_get (HasEnds net.pairs net.socks) net.socks _ m.socket sound.ends here
 
 -- what a line keeps of the net
-bind_at_kept : (actor place : ℕ) (at : Endpoint) (net : Net) (steps : List PipeStep) (reply : Answer) (new : Net) (m : Option Mine) → mine_at net actor place ≡ m
-    → IsSound net → BindsAt m at net steps reply new → Kept net new
-bind_at_kept actor place at net steps reply new None e sound does = subst (Kept net) (sym does.2) (sound, grows_none net)
-bind_at_kept actor place at net steps reply new (Some m) e sound does = bind_kept m at net new sound (mine_here net actor place m e) does.2
+bind_at_kept : (actor place : ℕ) (at : Endpoint) (net : Net) (steps : List PipeStep) (skips : List Skip) (reply : Answer) (new : Net) (m : Option Mine) → mine_at net actor place ≡ m
+    → IsSound net → BindsAt m at net steps skips reply new → Kept net new
+bind_at_kept actor place at net steps skips reply new None e sound does = subst (Kept net) (sym does.2) (sound, grows_none net)
+bind_at_kept actor place at net steps skips reply new (Some m) e sound does = bind_kept m at net new sound (mine_here net actor place m e) does.2
 
-connect_to_kept : (actor place : ℕ) (to : Endpoint) (net : Net) (steps : List PipeStep) (reply : Answer) (new : Net) (m : Option Mine) → mine_at net actor place ≡ m
-    → IsSound net → ConnectsTo m to net steps reply new → Kept net new
-connect_to_kept actor place to net steps reply new None e sound does = subst (Kept net) (sym does.2) (sound, grows_none net)
-connect_to_kept actor place to net steps reply new (Some m) e sound does = connect_kept m to net new sound (mine_here net actor place m e) does.2
+connect_to_kept : (actor place : ℕ) (to : Endpoint) (net : Net) (steps : List PipeStep) (skips : List Skip) (reply : Answer) (new : Net) (m : Option Mine) → mine_at net actor place ≡ m
+    → IsSound net → ConnectsTo m to net steps skips reply new → Kept net new
+connect_to_kept actor place to net steps skips reply new None e sound does = subst (Kept net) (sym does.2) (sound, grows_none net)
+connect_to_kept actor place to net steps skips reply new (Some m) e sound does = connect_kept m to net new sound (mine_here net actor place m e) does.2
 
-send_by_kept : (actor place : ℕ) (f : Frames) (net : Net) (steps : List PipeStep) (reply : Answer) (new : Net) (m : Option Mine) → mine_at net actor place ≡ m
-    → IsSound net → SendsBy m f net steps reply new → Kept net new
-send_by_kept actor place f net steps reply new None e sound does = subst (Kept net) (sym does.2) (sound, grows_none net)
-send_by_kept actor place f net steps reply new (Some m) e sound does =
+send_by_kept : (actor place : ℕ) (f : Frames) (net : Net) (steps : List PipeStep) (skips : List Skip) (reply : Answer) (new : Net) (m : Option Mine) → mine_at net actor place ≡ m
+    → IsSound net → SendsBy m f net steps skips reply new → Kept net new
+send_by_kept actor place f net steps skips reply new None e sound does = subst (Kept net) (sym does.2) (sound, grows_none net)
+send_by_kept actor place f net steps skips reply new (Some m) e sound does =
     let here = mine_here net actor place m e in
     subst (Kept net) (sym does.new_is)
     (turned_kept net m.object.0 m.socket does.pattern sound here
     (send_has (IsPaired net.pairs net.socks) f m.socket.pattern steps does.sent does.pattern does.step (socket_ends net m sound here)))
 
-receive_by_kept : (actor place : ℕ) (net : Net) (steps : List PipeStep) (reply : Answer) (new : Net) (m : Option Mine) → mine_at net actor place ≡ m
-    → IsSound net → ReceivesBy m net steps reply new → Kept net new
-receive_by_kept actor place net steps reply new None e sound does = subst (Kept net) (sym does.2) (sound, grows_none net)
-receive_by_kept actor place net steps reply new (Some m) e sound does =
+receive_by_kept : (actor place : ℕ) (net : Net) (steps : List PipeStep) (skips : List Skip) (reply : Answer) (new : Net) (m : Option Mine) → mine_at net actor place ≡ m
+    → IsSound net → ReceivesBy m net steps skips reply new → Kept net new
+receive_by_kept actor place net steps skips reply new None e sound does = subst (Kept net) (sym does.2) (sound, grows_none net)
+receive_by_kept actor place net steps skips reply new (Some m) e sound does =
     let here = mine_here net actor place m e in
     subst (Kept net) (sym does.new_is)
     (turned_kept net m.object.0 m.socket does.pattern sound here
-    (receive_has (IsPaired net.pairs net.socks) m.socket.pattern steps does.got does.pattern does.step (socket_ends net m sound here)))
+    (receive_has (IsPaired net.pairs net.socks) m.socket.pattern steps skips does.got does.pattern does.step (socket_ends net m sound here)))
 
-call_kept : (actor : ℕ) (asked : Call) (net : Net) (steps : List PipeStep) (reply : Answer) (new : Net) → IsSound net → DoesCall actor asked net steps reply new → Kept net new
-call_kept actor (call.Socket kind options) net steps reply new sound does = socket_kept actor kind options net new sound does.2
-call_kept actor (call.Bind place at) net steps reply new sound does = bind_at_kept actor place at net steps reply new (mine_at net actor place) refl sound does
-call_kept actor (call.Connect place to) net steps reply new sound does = connect_to_kept actor place to net steps reply new (mine_at net actor place) refl sound does
-call_kept actor (call.Send place f) net steps reply new sound does = send_by_kept actor place f net steps reply new (mine_at net actor place) refl sound does
-call_kept actor (call.Recv place tries) net steps reply new sound does = receive_by_kept actor place net steps reply new (mine_at net actor place) refl sound does
+call_kept : (actor : ℕ) (asked : Call) (net : Net) (steps : List PipeStep) (skips : List Skip) (reply : Answer) (new : Net) → IsSound net → DoesCall actor asked net steps skips reply new → Kept net new
+call_kept actor (call.Socket kind options) net steps skips reply new sound does = socket_kept actor kind options net new sound does.2
+call_kept actor (call.Bind place at) net steps skips reply new sound does = bind_at_kept actor place at net steps skips reply new (mine_at net actor place) refl sound does
+call_kept actor (call.Connect place to) net steps skips reply new sound does = connect_to_kept actor place to net steps skips reply new (mine_at net actor place) refl sound does
+call_kept actor (call.Send place f) net steps skips reply new sound does = send_by_kept actor place f net steps skips reply new (mine_at net actor place) refl sound does
+call_kept actor (call.Recv place tries) net steps skips reply new sound does = receive_by_kept actor place net steps skips reply new (mine_at net actor place) refl sound does
 
 -- what steps, and turns, keep of it
 pub step_kept : (w : ℕ) (old : Stage) (ds : List Doing) (new : Stage) → IsSound old.net → StepOf w old ds new → Kept old.net new.net
 step_kept w old [] new sound step = subst (λ (s : Stage). Kept old.net s.net) (sym step.1) (sound, grows_none old.net)
-step_kept w old (d ∷ []) new sound step = call_kept d.actor d.line.call old.net d.steps d.answer new.net sound step.1.does
+step_kept w old (d ∷ []) new sound step = call_kept d.actor d.line.call old.net d.steps d.skips d.answer new.net sound step.1.does
 step_kept w old (d ∷ e ∷ ds) new sound step = elim step [ ]
 
 pub steps_kept : (ws : List ℕ) (old : Stage) (ds : List Doing) (new : Stage) → IsSound old.net → StepsOf ws old ds new → Kept old.net new.net
@@ -95,14 +96,15 @@ agree net n m g h ends all =
     All-weaker (IsPaired net.pairs net.socks) (λ e. capacity_in n e ≡ capacity_in m e) (λ e is. capacity_stays net n g e is ∙ sym (capacity_stays net m h e is)) ends all
 
 -- a call has one outcome
-record OneCall (steps : List PipeStep) (reply : Answer) (new : Net) (steps2 : List PipeStep) (reply2 : Answer) (new2 : Net) : Type 0 where
+record OneCall (steps : List PipeStep) (skips : List Skip) (reply : Answer) (new : Net) (steps2 : List PipeStep) (skips2 : List Skip) (reply2 : Answer) (new2 : Net) : Type 0 where
   same_steps : steps ≡ steps2
+  same_skips : skips ≡ skips2
   same_reply : reply ≡ reply2
   same_net : new ≡ new2
 
-one_outcome : (o : Outcome) (steps : List PipeStep) (reply : Answer) (new : Net) (steps2 : List PipeStep) (reply2 : Answer) (new2 : Net)
-    → Comes o steps reply new → Comes o steps2 reply2 new2 → OneCall steps reply new steps2 reply2 new2
-one_outcome o steps reply new steps2 reply2 new2 g h = record { same_steps = g.0 ∙ sym h.0; same_reply = g.1 ∙ sym h.1; same_net = g.2 ∙ sym h.2 }
+one_outcome : (o : Outcome) (steps : List PipeStep) (skips : List Skip) (reply : Answer) (new : Net) (steps2 : List PipeStep) (skips2 : List Skip) (reply2 : Answer) (new2 : Net)
+    → Comes o steps skips reply new → Comes o steps2 skips2 reply2 new2 → OneCall steps skips reply new steps2 skips2 reply2 new2
+one_outcome o steps skips reply new steps2 skips2 reply2 new2 g h = record { same_steps = g.0 ∙ sym h.0; same_skips = g.3 ∙ sym h.3; same_reply = g.1 ∙ sym h.1; same_net = g.2 ∙ sym h.2 }
 
 -- the net with this state of a socket
 abbrev net_with : Mine → Net → Pattern → Net
@@ -110,70 +112,72 @@ net_with s net pattern = record net { socks = with_turned net.socks s.object.0 s
 
 -- the steps past, and two nets at whose capacities further steps are exact
 module _ (past : List PipeStep) (n m : Net) where
-  one_send : (s : Mine) (f : Frames) (net : Net) (steps : List PipeStep) (reply : Answer) (new : Net) (steps2 : List PipeStep) (reply2 : Answer) (new2 : Net)
-      → AgreeOn (capacity_in n) (capacity_in m) (kept_ends s.socket.pattern) → Sends s f net steps reply new → Sends s f net steps2 reply2 new2
-      → AreExact (capacity_in n) past steps → AreExact (capacity_in m) past steps2 → OneCall steps reply new steps2 reply2 new2
-  one_send s f net steps reply new steps2 reply2 new2 same g h x y =
+  one_send : (s : Mine) (f : Frames) (net : Net) (steps : List PipeStep) (skips : List Skip) (reply : Answer) (new : Net) (steps2 : List PipeStep) (skips2 : List Skip) (reply2 : Answer) (new2 : Net)
+      → AgreeOn (capacity_in n) (capacity_in m) (kept_ends s.socket.pattern) → Sends s f net steps skips reply new → Sends s f net steps2 skips2 reply2 new2
+      → AreExact (capacity_in n) past steps → AreExact (capacity_in m) past steps2 → OneCall steps skips reply new steps2 skips2 reply2 new2
+  one_send s f net steps skips reply new steps2 skips2 reply2 new2 same g h x y =
       let one = send_settled (capacity_in n) (capacity_in m) past f s.socket.pattern steps steps2 g.sent h.sent g.pattern h.pattern same g.step h.step x y in
       record {
         same_steps = one.same_steps;
+        same_skips = g.skips_are ∙ sym h.skips_are;
         same_reply = g.reply_is ∙ ap sent_answer one.same_answer ∙ sym h.reply_is;
         same_net = g.new_is ∙ ap (net_with s net) one.same_pattern ∙ sym h.new_is;
       }
 
-  one_receive : (s : Mine) (net : Net) (steps : List PipeStep) (reply : Answer) (new : Net) (steps2 : List PipeStep) (reply2 : Answer) (new2 : Net)
-      → HaveOneName (peer_names s.socket.pattern) → Receives s net steps reply new → Receives s net steps2 reply2 new2
-      → AreExact (capacity_in n) past steps → AreExact (capacity_in m) past steps2 → OneCall steps reply new steps2 reply2 new2
-  one_receive s net steps reply new steps2 reply2 new2 names g h x y =
-      let one = receive_settled (capacity_in n) (capacity_in m) past s.socket.pattern steps steps2 g.got h.got g.pattern h.pattern names g.step h.step x y in
+  one_receive : (s : Mine) (net : Net) (steps : List PipeStep) (skips : List Skip) (reply : Answer) (new : Net) (steps2 : List PipeStep) (skips2 : List Skip) (reply2 : Answer) (new2 : Net)
+      → HaveOneName (peer_names s.socket.pattern) → Receives s net steps skips reply new → Receives s net steps2 skips2 reply2 new2
+      → AreExact (capacity_in n) past steps → AreExact (capacity_in m) past steps2 → OneCall steps skips reply new steps2 skips2 reply2 new2
+  one_receive s net steps skips reply new steps2 skips2 reply2 new2 names g h x y =
+      let one = receive_settled (capacity_in n) (capacity_in m) past s.socket.pattern steps steps2 skips skips2 g.got h.got g.pattern h.pattern names g.step h.step x y in
       record {
-        same_steps = one.same_steps;
-        same_reply = g.reply_is ∙ ap got_answer one.same_answer ∙ sym h.reply_is;
-        same_net = g.new_is ∙ ap (net_with s net) one.same_pattern ∙ sym h.new_is;
+        same_steps = one.0.same_steps;
+        same_skips = one.1;
+        same_reply = g.reply_is ∙ ap got_answer one.0.same_answer ∙ sym h.reply_is;
+        same_net = g.new_is ∙ ap (net_with s net) one.0.same_pattern ∙ sym h.new_is;
       }
 
-  one_bind : (s : Option Mine) (at : Endpoint) (net : Net) (steps : List PipeStep) (reply : Answer) (new : Net) (steps2 : List PipeStep) (reply2 : Answer) (new2 : Net)
-      → BindsAt s at net steps reply new → BindsAt s at net steps2 reply2 new2 → OneCall steps reply new steps2 reply2 new2
-  one_bind None at net steps reply new steps2 reply2 new2 g h = one_outcome (no_socket net) steps reply new steps2 reply2 new2 g h
-  one_bind (Some s) at net steps reply new steps2 reply2 new2 g h = one_outcome (at_endpoint at (λ name. binds s.object s.socket name net) net) steps reply new steps2 reply2 new2 g h
+  one_bind : (s : Option Mine) (at : Endpoint) (net : Net) (steps : List PipeStep) (skips : List Skip) (reply : Answer) (new : Net) (steps2 : List PipeStep) (skips2 : List Skip) (reply2 : Answer) (new2 : Net)
+      → BindsAt s at net steps skips reply new → BindsAt s at net steps2 skips2 reply2 new2 → OneCall steps skips reply new steps2 skips2 reply2 new2
+  one_bind None at net steps skips reply new steps2 skips2 reply2 new2 g h = one_outcome (no_socket net) steps skips reply new steps2 skips2 reply2 new2 g h
+  one_bind (Some s) at net steps skips reply new steps2 skips2 reply2 new2 g h = one_outcome (at_endpoint at (λ name. binds s.object s.socket name net) net) steps skips reply new steps2 skips2 reply2 new2 g h
 
-  one_connect : (s : Option Mine) (to : Endpoint) (net : Net) (steps : List PipeStep) (reply : Answer) (new : Net) (steps2 : List PipeStep) (reply2 : Answer) (new2 : Net)
-      → ConnectsTo s to net steps reply new → ConnectsTo s to net steps2 reply2 new2 → OneCall steps reply new steps2 reply2 new2
-  one_connect None to net steps reply new steps2 reply2 new2 g h = one_outcome (no_socket net) steps reply new steps2 reply2 new2 g h
-  one_connect (Some s) to net steps reply new steps2 reply2 new2 g h = one_outcome (at_endpoint to (λ name. connects s.object s.socket name net) net) steps reply new steps2 reply2 new2 g h
+  one_connect : (s : Option Mine) (to : Endpoint) (net : Net) (steps : List PipeStep) (skips : List Skip) (reply : Answer) (new : Net) (steps2 : List PipeStep) (skips2 : List Skip) (reply2 : Answer) (new2 : Net)
+      → ConnectsTo s to net steps skips reply new → ConnectsTo s to net steps2 skips2 reply2 new2 → OneCall steps skips reply new steps2 skips2 reply2 new2
+  one_connect None to net steps skips reply new steps2 skips2 reply2 new2 g h = one_outcome (no_socket net) steps skips reply new steps2 skips2 reply2 new2 g h
+  one_connect (Some s) to net steps skips reply new steps2 skips2 reply2 new2 g h = one_outcome (at_endpoint to (λ name. connects s.object s.socket name net) net) steps skips reply new steps2 skips2 reply2 new2 g h
 
-  one_send_by : (actor place : ℕ) (s : Option Mine) (f : Frames) (net : Net) (steps : List PipeStep) (reply : Answer) (new : Net) (steps2 : List PipeStep) (reply2 : Answer) (new2 : Net)
-      → mine_at net actor place ≡ s → IsSound net → Grows net n → Grows net m → SendsBy s f net steps reply new → SendsBy s f net steps2 reply2 new2
-      → AreExact (capacity_in n) past steps → AreExact (capacity_in m) past steps2 → OneCall steps reply new steps2 reply2 new2
-  one_send_by actor place None f net steps reply new steps2 reply2 new2 e sound p q g h x y = one_outcome (no_socket net) steps reply new steps2 reply2 new2 g h
-  one_send_by actor place (Some s) f net steps reply new steps2 reply2 new2 e sound p q g h x y =
-      one_send s f net steps reply new steps2 reply2 new2 (agree net n m p q (kept_ends s.socket.pattern) (socket_ends net s sound (mine_here net actor place s e)).0) g h x y
+  one_send_by : (actor place : ℕ) (s : Option Mine) (f : Frames) (net : Net) (steps : List PipeStep) (skips : List Skip) (reply : Answer) (new : Net) (steps2 : List PipeStep) (skips2 : List Skip) (reply2 : Answer) (new2 : Net)
+      → mine_at net actor place ≡ s → IsSound net → Grows net n → Grows net m → SendsBy s f net steps skips reply new → SendsBy s f net steps2 skips2 reply2 new2
+      → AreExact (capacity_in n) past steps → AreExact (capacity_in m) past steps2 → OneCall steps skips reply new steps2 skips2 reply2 new2
+  one_send_by actor place None f net steps skips reply new steps2 skips2 reply2 new2 e sound p q g h x y = one_outcome (no_socket net) steps skips reply new steps2 skips2 reply2 new2 g h
+  one_send_by actor place (Some s) f net steps skips reply new steps2 skips2 reply2 new2 e sound p q g h x y =
+      one_send s f net steps skips reply new steps2 skips2 reply2 new2 (agree net n m p q (kept_ends s.socket.pattern) (socket_ends net s sound (mine_here net actor place s e)).0) g h x y
 
-  one_receive_by : (actor place : ℕ) (s : Option Mine) (net : Net) (steps : List PipeStep) (reply : Answer) (new : Net) (steps2 : List PipeStep) (reply2 : Answer) (new2 : Net)
-      → mine_at net actor place ≡ s → IsSound net → ReceivesBy s net steps reply new → ReceivesBy s net steps2 reply2 new2
-      → AreExact (capacity_in n) past steps → AreExact (capacity_in m) past steps2 → OneCall steps reply new steps2 reply2 new2
-  one_receive_by actor place None net steps reply new steps2 reply2 new2 e sound g h x y = one_outcome (no_socket net) steps reply new steps2 reply2 new2 g h
-  one_receive_by actor place (Some s) net steps reply new steps2 reply2 new2 e sound g h x y =
-      one_receive s net steps reply new steps2 reply2 new2 (socket_ends net s sound (mine_here net actor place s e)).1 g h x y
+  one_receive_by : (actor place : ℕ) (s : Option Mine) (net : Net) (steps : List PipeStep) (skips : List Skip) (reply : Answer) (new : Net) (steps2 : List PipeStep) (skips2 : List Skip) (reply2 : Answer) (new2 : Net)
+      → mine_at net actor place ≡ s → IsSound net → ReceivesBy s net steps skips reply new → ReceivesBy s net steps2 skips2 reply2 new2
+      → AreExact (capacity_in n) past steps → AreExact (capacity_in m) past steps2 → OneCall steps skips reply new steps2 skips2 reply2 new2
+  one_receive_by actor place None net steps skips reply new steps2 skips2 reply2 new2 e sound g h x y = one_outcome (no_socket net) steps skips reply new steps2 skips2 reply2 new2 g h
+  one_receive_by actor place (Some s) net steps skips reply new steps2 skips2 reply2 new2 e sound g h x y =
+      one_receive s net steps skips reply new steps2 skips2 reply2 new2 (socket_ends net s sound (mine_here net actor place s e)).1 g h x y
 
-  one_call : (actor : ℕ) (asked : Call) (net : Net) (steps : List PipeStep) (reply : Answer) (new : Net) (steps2 : List PipeStep) (reply2 : Answer) (new2 : Net)
-      → IsSound net → Grows net n → Grows net m → DoesCall actor asked net steps reply new → DoesCall actor asked net steps2 reply2 new2
-      → AreExact (capacity_in n) past steps → AreExact (capacity_in m) past steps2 → OneCall steps reply new steps2 reply2 new2
-  one_call actor (call.Socket kind options) net steps reply new steps2 reply2 new2 sound p q g h x y = one_outcome (makes actor kind options net) steps reply new steps2 reply2 new2 g h
-  one_call actor (call.Bind place at) net steps reply new steps2 reply2 new2 sound p q g h x y = one_bind (mine_at net actor place) at net steps reply new steps2 reply2 new2 g h
-  one_call actor (call.Connect place to) net steps reply new steps2 reply2 new2 sound p q g h x y = one_connect (mine_at net actor place) to net steps reply new steps2 reply2 new2 g h
-  one_call actor (call.Send place f) net steps reply new steps2 reply2 new2 sound p q g h x y =
-      one_send_by actor place (mine_at net actor place) f net steps reply new steps2 reply2 new2 refl sound p q g h x y
-  one_call actor (call.Recv place tries) net steps reply new steps2 reply2 new2 sound p q g h x y =
-      one_receive_by actor place (mine_at net actor place) net steps reply new steps2 reply2 new2 refl sound g h x y
+  one_call : (actor : ℕ) (asked : Call) (net : Net) (steps : List PipeStep) (skips : List Skip) (reply : Answer) (new : Net) (steps2 : List PipeStep) (skips2 : List Skip) (reply2 : Answer) (new2 : Net)
+      → IsSound net → Grows net n → Grows net m → DoesCall actor asked net steps skips reply new → DoesCall actor asked net steps2 skips2 reply2 new2
+      → AreExact (capacity_in n) past steps → AreExact (capacity_in m) past steps2 → OneCall steps skips reply new steps2 skips2 reply2 new2
+  one_call actor (call.Socket kind options) net steps skips reply new steps2 skips2 reply2 new2 sound p q g h x y = one_outcome (makes actor kind options net) steps skips reply new steps2 skips2 reply2 new2 g h
+  one_call actor (call.Bind place at) net steps skips reply new steps2 skips2 reply2 new2 sound p q g h x y = one_bind (mine_at net actor place) at net steps skips reply new steps2 skips2 reply2 new2 g h
+  one_call actor (call.Connect place to) net steps skips reply new steps2 skips2 reply2 new2 sound p q g h x y = one_connect (mine_at net actor place) to net steps skips reply new steps2 skips2 reply2 new2 g h
+  one_call actor (call.Send place f) net steps skips reply new steps2 skips2 reply2 new2 sound p q g h x y =
+      one_send_by actor place (mine_at net actor place) f net steps skips reply new steps2 skips2 reply2 new2 refl sound p q g h x y
+  one_call actor (call.Recv place tries) net steps skips reply new steps2 skips2 reply2 new2 sound p q g h x y =
+      one_receive_by actor place (mine_at net actor place) net steps skips reply new steps2 skips2 reply2 new2 refl sound g h x y
 
 -- the same was done, and the same stage is left
 record OneWay {A : Type 0} (ds : A) (new : Stage) (ds2 : A) (new2 : Stage) : Type 0 where
   same_doings : ds ≡ ds2
   same_stage : new ≡ new2
 
-one_doing : (d e : Doing) → d.actor ≡ e.actor → d.line ≡ e.line → d.steps ≡ e.steps → d.answer ≡ e.answer → d.over ≡ e.over → d ≡ e
-one_doing d e a l s r o = λ i. record { actor = a i; line = l i; steps = s i; answer = r i; over = o i }
+one_doing : (d e : Doing) → d.actor ≡ e.actor → d.line ≡ e.line → d.steps ≡ e.steps → d.skips ≡ e.skips → d.told ≡ e.told → d.answer ≡ e.answer → d.over ≡ e.over → d ≡ e
+one_doing d e a l s k t r o = λ i. record { actor = a i; line = l i; steps = s i; skips = k i; told = t i; answer = r i; over = o i }
 
 one_stage : (s t : Stage) → s.net ≡ t.net → s.agendas ≡ t.agendas → s ≡ t
 one_stage s t n a = λ i. record { net = n i; agendas = a i }
@@ -186,18 +190,20 @@ one_try past n m old d e new new2 same sound p q g h x y =
     let lines : d.line ∷ g.rest ≡ e.line ∷ h.rest = sym g.lines_are ∙ ap (λ (a : Agenda). a.lines) agenda ∙ h.lines_are in
     let line : d.line ≡ e.line = cc in
     let rest : g.rest ≡ h.rest = cc in
-    let does = subst (λ (l : Line). DoesCall e.actor l.call old.net e.steps e.answer new2.net) (sym line) h.does in
-    let call = one_call past n m d.actor d.line.call old.net d.steps d.answer new.net e.steps e.answer new2.net sound p q g.does
-    (subst (λ k. DoesCall k d.line.call old.net e.steps e.answer new2.net) (sym same) does) x y in
+    let does = subst (λ (l : Line). DoesCall e.actor l.call old.net e.steps e.skips e.answer new2.net) (sym line) h.does in
+    let call = one_call past n m d.actor d.line.call old.net d.steps d.skips d.answer new.net e.steps e.skips e.answer new2.net sound p q g.does
+    (subst (λ k. DoesCall k d.line.call old.net e.steps e.skips e.answer new2.net) (sym same) does) x y in
     let reply = call.same_reply in
+    let told : d.told ≡ e.told = g.told_is ∙ ap (λ (a : Agenda). a.told ++ d.skips) agenda ∙ ap (λ (l : List Skip). h.agenda.told ++ l) call.same_skips ∙ sym h.told_is in
     let over : d.over ≡ e.over = g.over_is ∙ ap (λ (a : Agenda). is_over a.tried d.line.call d.answer) agenda
     ∙ ap (λ (l : Line). is_over h.agenda.tried l.call d.answer) line ∙ ap (is_over h.agenda.tried e.line.call) reply ∙ sym h.over_is in
-    let agendas : new.agendas ≡ new2.agendas = g.agendas_are ∙ ap (λ k. slice_set old.agendas k (after_try g.agenda g.rest d.over)) same
-    ∙ ap (λ (a : Agenda). slice_set old.agendas e.actor (after_try a g.rest d.over)) agenda
-    ∙ ap (λ (r : List Line). slice_set old.agendas e.actor (after_try h.agenda r d.over)) rest
-    ∙ ap (λ (o : Bool). slice_set old.agendas e.actor (after_try h.agenda h.rest o)) over ∙ sym h.agendas_are in
+    let agendas : new.agendas ≡ new2.agendas = g.agendas_are ∙ ap (λ k. slice_set old.agendas k (after_try g.agenda g.rest d.told d.over)) same
+    ∙ ap (λ (a : Agenda). slice_set old.agendas e.actor (after_try a g.rest d.told d.over)) agenda
+    ∙ ap (λ (r : List Line). slice_set old.agendas e.actor (after_try h.agenda r d.told d.over)) rest
+    ∙ ap (λ (t : List Skip). slice_set old.agendas e.actor (after_try h.agenda h.rest t d.over)) told
+    ∙ ap (λ (o : Bool). slice_set old.agendas e.actor (after_try h.agenda h.rest e.told o)) over ∙ sym h.agendas_are in
     record {
-      same_doings = ap (λ (z : Doing). z ∷ []) (one_doing d e same line call.same_steps reply over);
+      same_doings = ap (λ (z : Doing). z ∷ []) (one_doing d e same line call.same_steps call.same_skips told reply over);
       same_stage = one_stage new new2 call.same_net agendas;
     }
 

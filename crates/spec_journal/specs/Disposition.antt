@@ -1,14 +1,13 @@
 -- What became of each message that was committed to a pipe: each has one named end.
-use Rattle.std.specs.Prelude.{◌≡◌, ◌+◌, ◌-◌, ℕ, List, ◌++◌, Bool, true, false, length, map, flat_map, filter, replicate}
+use Rattle.std.specs.Prelude.{◌≡◌, ◌+◌, ◌-◌, ℕ, List, [], ◌∷◌, ◌++◌, Bool, true, false, length, flat_map, filter, replicate, drop, if◌then◌else◌}
 use Rattle.zq_base.specs.Ends.{PipeId}
-use Rattle.spec_pattern.specs.PipeStep.{committed_to, taken_from}
+use Rattle.spec_pattern.specs.PipeStep.{PipeStep, Commit, FullLook, Take, EmptyLook, DelimiterLook, WaitingLook, Seal, same_pipe, committed_to, taken_from}
+use Rattle.spec_pattern.specs.declared.answers.Skip.{Skip}
 use Rattle.spec_journal.specs.declared.journal.PipeRow.{PipeRow}
-use Rattle.spec_journal.specs.declared.journal.Answer.{Answer}
-use Rattle.spec_journal.specs.declared.journal.Answer.TheVariants as answer
 use Rattle.spec_journal.specs.Turn.{Doing}
 use Rattle.spec_journal.specs.Run.{Run, doings_of, steps_of}
 
--- given to the application by the receive that shows it, heard as a subscription, dropped by a rule, written to a link, lost by a link, left in the pipe
+-- given to the application by the receive that shows it, heard as a subscription, dropped by a rule that its receive tells, written to a link, lost by a link, left in the pipe
 pub data Disposition : Type 0 where
   Given : Disposition
   Heard : Disposition
@@ -17,26 +16,26 @@ pub data Disposition : Type 0 where
   Lost : Disposition
   Rest : Disposition
 
--- what became of the messages that a line took, by its answer: the one that it shows is given
-abbrev pub taken_as : Answer → Disposition
-taken_as (answer.Object o) = Dropped
-taken_as answer.Done = Dropped
-taken_as (answer.Pair p) = Dropped
-taken_as (answer.Many report) = Dropped
-taken_as (answer.Got p m) = Given
-taken_as (answer.Dropped rule) = Dropped
-taken_as (answer.NotSent refusal) = Dropped
-taken_as (answer.NotReceived refusal) = Dropped
-taken_as answer.Wait = Dropped
-taken_as answer.NoSocket = Dropped
-taken_as answer.NotSupported = Dropped
-taken_as answer.InUse = Dropped
-taken_as answer.BadPair = Dropped
-taken_as answer.TooMany = Dropped
+-- what became of a message taken, where these are the drops that are left to tell
+abbrev pub taken_as : List Skip → Disposition
+taken_as [] = Given
+taken_as (skip ∷ skips) = Dropped
 
--- what became of the messages that a line took from the pipe
+-- what became of the messages that steps took from the pipe: of all that they took, the first were dropped, as many as were told, and those behind them given
+abbrev pub told_in : PipeId → List PipeStep → List Skip → List Disposition
+told_in p [] skips = []
+told_in p (Commit q m ∷ steps) skips = told_in p steps skips
+told_in p (FullLook q ∷ steps) skips = told_in p steps skips
+told_in p (Take q m ∷ steps) skips =
+    if same_pipe p q then taken_as skips ∷ told_in p steps (drop 1 skips) else told_in p steps (drop 1 skips)
+told_in p (EmptyLook q ∷ steps) skips = told_in p steps skips
+told_in p (DelimiterLook q ∷ steps) skips = told_in p steps skips
+told_in p (WaitingLook q ∷ steps) skips = told_in p steps skips
+told_in p (Seal q ∷ steps) skips = told_in p steps skips
+
+-- what became of the messages that a try took from the pipe
 abbrev pub told_by : PipeId → Doing → List Disposition
-told_by p d = map (λ _. taken_as d.answer) (taken_from p d.steps)
+told_by p d = told_in p d.steps d.skips
 
 -- how many messages were committed to the pipe
 abbrev pub count_committed : Run → PipeId → ℕ

@@ -7,16 +7,18 @@ use Rattle.spec_pattern.specs.TurnList.{GoesOut}
 use Rattle.spec_journal.specs.declared.journal.Answer.TheVariants as answer
 use Rattle.spec_journal.specs.Net.{capacity_in, end_a, end_b}
 use Rattle.spec_journal.specs.Line.{DoesCall}
-use Rattle.spec_journal.specs.Turn.{Turns, IsOrder, is_over, stage_before}
+use Rattle.spec_journal.specs.Turn.{Turns, Tries, IsOrder, is_over, stage_before}
 use Rattle.zq_script.specs.Script.{script_of}
 use Rattle.spec_journal.specs.Run.{steps_of}
 use Rattle.spec_journal.specs.Disposition.{run_row}
 use Rattle.spec_journal.specs.ExamplesEdges.{marked_net, rest_run, rest_row, pipeline_octets, one_turn_only, short_journal, both_left, one_left, finds_none, sends_m}
-use Rattle.spec_journal.specs.Printed.{IsJournalOf}
+use Rattle.spec_journal.specs.Printed.{IsJournalOf, entry_of}
 use Rattle.zq_script.specs.PartText.{parts_text}
-use Rattle.spec_journal.specs.Text.{journal_text, row_text}
+use Rattle.spec_journal.specs.Text.{journal_text, row_text, entry_text}
 use Rattle.spec_journal.specs.ExamplesPipeline.{pipeline_script, pipeline_journal, pipeline_text, plain_schedule, empty_script, empty_journal, unfinished_journal, parts_example, row_example, got_from_1, at_q, pair_nr}
 use Rattle.spec_journal.specs.ExamplesPipes.{joined_net, one_actor_stage, narrow_doings, three_commits, early_empty_look, later_first}
+use Rattle.spec_pattern.specs.Duty.{Free}
+use Rattle.spec_journal.specs.ExamplesDrops.{rep_net, rep_doings, owing_1, rep_run, rep_row, both_peers, turned_peers, asked_1, req_net, req_doings, req_run, stray_row, drops_first, gives_then, rep_waits, rep_waits_on, rep_done, shown_twice, entry_example}
 use Rattle.spec_journal.specs.ExamplesPeers.{pairs_net, second_net, pairs_doings, dealers_net, dealers_doings}
 use Rattle.spec_journal.specs.ExamplesNames.{waiting_script, waiting_doings, waited_net, two_pulls, two_pushes, four_waiting, two_fulfilled}
 
@@ -48,9 +50,9 @@ pub record Pipes : Type 0 where
 -- A connect waits for its name; a name is held once, and only fitting kinds are joined; a bind fulfils the connects that wait and fit, in the order in which they waited.
 pub record NameRules : Type 0 where
   pub waits : Turns 0 three_workers 0 (stage_before waiting_script) (map (λ d. d ∷ []) waiting_doings) (one_actor_stage waited_net [])
-  pub in_use : DoesCall 0 (call.Bind 1 at_q) two_pulls [] answer.InUse two_pulls
-  pub bad_pair : DoesCall 0 (call.Connect 1 at_q) two_pushes [] answer.BadPair two_pushes
-  pub fulfilled : DoesCall 0 (call.Bind 3 at_q) four_waiting [] answer.Done two_fulfilled
+  pub in_use : DoesCall 0 (call.Bind 1 at_q) two_pulls [] [] answer.InUse two_pulls
+  pub bad_pair : DoesCall 0 (call.Connect 1 at_q) two_pushes [] [] answer.BadPair two_pushes
+  pub fulfilled : DoesCall 0 (call.Bind 3 at_q) four_waiting [] [] answer.Done two_fulfilled
 
 -- A PAIR has one peer, and hears nothing of a second one; a DEALER's send leaves its turns for receiving alone.
 pub record TwoWays : Type 0 where
@@ -82,6 +84,17 @@ pub record Edges : Type 0 where
   pub two_actors : Turns 1 four_workers 1 both_left ((finds_none ∷ sends_m ∷ []) ∷ []) one_left
   pub not_in_script_order : (after : ℕ) → IsOrder 1 1 four_workers four_workers after → ⊥
 
+-- A REP drops a message without an envelope and a REQ one of another peer: each is told at its pair and counted at its pipe. A line that is tried again shows what all its tries dropped.
+pub record DropRules : Type 0 where
+  pub bad_envelope : Turns 0 three_workers 0 (one_actor_stage (rep_net Free) (map (λ d. d.line) rep_doings)) (map (λ d. d ∷ []) rep_doings) (one_actor_stage (rep_net owing_1) [])
+  pub bad_row : run_row rep_run (end_a 1) ≡ rep_row
+  pub stray : Turns 0 three_workers 0 (one_actor_stage (req_net both_peers asked_1) (map (λ d. d.line) req_doings)) (map (λ d. d ∷ []) req_doings) (one_actor_stage (req_net turned_peers Free) [])
+  pub stray_row : run_row req_run (end_b 2) ≡ stray_row
+  pub first_try : Tries rep_waits drops_first rep_waits_on
+  pub second_try : Tries rep_waits_on gives_then rep_done
+  pub shown : entry_of gives_then ≡ shown_twice
+  pub printed : entry_text (codes "a") entry_example ≡ codes "a 12 busy !badenv@p1 !stray@p20\n"
+
 -- the worked examples
 pub record WorkedExamples : Type 0 where
   pub edges : Edges
@@ -90,3 +103,4 @@ pub record WorkedExamples : Type 0 where
   pub names : NameRules
   pub peers : TwoWays
   pub orders : Orders
+  pub drops : DropRules

@@ -72,17 +72,17 @@ sends_once = line_at 6 (call.Send 0 (codes "m" ∷ []))
 abbrev pub both_left : Stage
 both_left = record {
   net = shared_net;
-  agendas = record { lines = tries_twice ∷ []; tried = 0 } ∷ record { lines = sends_once ∷ []; tried = 0 } ∷ [];
+  agendas = record { lines = tries_twice ∷ []; tried = 0; told = [] } ∷ record { lines = sends_once ∷ []; tried = 0; told = [] } ∷ [];
 }
 
 abbrev pub one_left : Stage
 one_left = record {
   net = shared_net;
-  agendas = record { lines = tries_twice ∷ []; tried = 1 } ∷ record { lines = []; tried = 0 } ∷ [];
+  agendas = record { lines = tries_twice ∷ []; tried = 1; told = [] } ∷ record { lines = []; tried = 0; told = [] } ∷ [];
 }
 
 abbrev pub finds_none : Doing
-finds_none = record { actor = 0; line = tries_twice; steps = EmptyLook (end_a 1) ∷ []; answer = answer.NotReceived recv.Again; over = false }
+finds_none = record { actor = 0; line = tries_twice; steps = EmptyLook (end_a 1) ∷ []; skips = []; told = []; answer = answer.NotReceived recv.Again; over = false }
 
 abbrev pub sends_m : Doing
-sends_m = record { actor = 1; line = sends_once; steps = Commit (end_a 1) (codes "m" ∷ []) ∷ []; answer = answer.Pair (pair_nr 1); over = true }
+sends_m = record { actor = 1; line = sends_once; steps = Commit (end_a 1) (codes "m" ∷ []) ∷ []; skips = []; told = []; answer = answer.Pair (pair_nr 1); over = true }

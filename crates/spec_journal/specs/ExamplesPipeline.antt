@@ -67,7 +67,7 @@ plain_schedule = record { seed = 0; turns = 100000 }
 
 -- what is shown of a line
 abbrev pub entry_at : ℕ → Answer → Entry
-entry_at line said = record { line = line; answer = said }
+entry_at line said = record { line = line; answer = said; skips = [] }
 
 -- what is answered where a message of one part came by pair 1
 abbrev pub got_from_1 : List ℕ → Answer

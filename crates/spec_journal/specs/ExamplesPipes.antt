@@ -3,6 +3,7 @@ use Rattle.std.specs.Prelude.{ℕ, List, [], ◌∷◌, Some, true, codes}
 use Rattle.zq_base.specs.declared.kind.Kind.TheVariants.{Pull}
 use Rattle.zq_script.specs.declared.script.Line.{Line}
 use Rattle.zq_script.specs.declared.script.Call.TheVariants as call
+use Rattle.spec_pattern.specs.declared.answers.Skip.{Skip}
 use Rattle.spec_pattern.specs.declared.answers.SendRefusal.TheVariants as send
 use Rattle.spec_pattern.specs.PipeStep.{PipeStep, Commit, FullLook, Take, EmptyLook}
 use Rattle.spec_pattern.specs.TurnList.{End}
@@ -32,11 +33,15 @@ joined_net mark = record {
 
 -- the stage of one actor that has these lines left
 abbrev pub one_actor_stage : Net → List Line → Stage
-one_actor_stage net lines = record { net = net; agendas = record { lines = lines; tried = 0 } ∷ [] }
+one_actor_stage net lines = record { net = net; agendas = record { lines = lines; tried = 0; told = [] } ∷ [] }
 
--- a line that actor 0 did, and that is over
+-- a line that actor 0 did, which dropped these messages, and that is over
+abbrev pub dropping : Line → List PipeStep → List Skip → Answer → Doing
+dropping line steps skips said = record { actor = 0; line = line; steps = steps; skips = skips; told = skips; answer = said; over = true }
+
+-- and one that dropped none
 abbrev pub doing : Line → List PipeStep → Answer → Doing
-doing line steps said = record { actor = 0; line = line; steps = steps; answer = said; over = true }
+doing line steps said = dropping line steps [] said
 
 -- two messages go out, the third finds the pipe full, one is taken, and the third goes out
 abbrev pub narrow_doings : List Doing

@@ -12,6 +12,7 @@ pub mod ExamplesPipeline
 pub mod ExamplesPipes
 pub mod ExamplesNames
 pub mod ExamplesPeers
+pub mod ExamplesDrops
 pub mod ExamplesEdges
 pub mod Examples
 pub mod Completeness

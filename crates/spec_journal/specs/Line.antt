@@ -1,4 +1,4 @@
--- What a line of a script does: its pipe steps, its answer, and the net that it leaves (zmq_socket(3), zmq_bind(3), zmq_connect(3), zmq_inproc(7)).
+-- What a line of a script does: its pipe steps, the messages that it drops, its answer, and the net that it leaves (zmq_socket(3), zmq_bind(3), zmq_connect(3), zmq_inproc(7)).
 use Rattle.std.specs.Prelude.{◌≡◌, ◌+◌, ℕ, List, [], ◌∷◌, ◌++◌, true, not, ◌||◌, Option, Some, None, length, filter, nat_le, nat_lt, slice_set, is_some, if◌then◌else◌}
 use Rattle.zq_base.specs.Message.{Frames}
 use Rattle.zq_base.specs.declared.ids.ObjId.{ObjId}
@@ -14,6 +14,7 @@ use Rattle.zq_base.specs.Kind.{fits}
 use Rattle.spec_pattern.specs.PipeStep.{PipeStep}
 use Rattle.spec_pattern.specs.Pattern.{Pattern}
 use Rattle.spec_pattern.specs.PatternCalls.{PatternSends, PatternReceives}
+use Rattle.spec_pattern.specs.declared.answers.Skip.{Skip}
 use Rattle.spec_pattern.specs.declared.answers.SendAnswer.{SendAnswer}
 use Rattle.spec_pattern.specs.declared.answers.SendAnswer.TheVariants as sent
 use Rattle.spec_pattern.specs.declared.answers.RecvAnswer.{RecvAnswer}
@@ -103,9 +104,9 @@ connects_to o s name (Some b) net = connect_finds o s b net
 abbrev pub connects : ObjId → Sock → Endpoint → Net → Outcome
 connects o s name net = connects_to o s name (binding_of net.book name) net
 
--- the line makes no pipe step, and has this answer and leaves this net
-abbrev pub Comes : Outcome → List PipeStep → Answer → Net → Type 0
-Comes outcome steps reply new = (steps ≡ []) × (reply ≡ outcome.0) × (new ≡ outcome.1)
+-- the line makes no pipe step and drops nothing, and has this answer and leaves this net
+abbrev pub Comes : Outcome → List PipeStep → List Skip → Answer → Net → Type 0
+Comes outcome steps skips reply new = (steps ≡ []) × (reply ≡ outcome.0) × (new ≡ outcome.1) × (skips ≡ [])
 
 -- over tcp nothing is bound or connected yet
 abbrev pub at_endpoint : Endpoint → (Endpoint → Outcome) → Net → Outcome
@@ -113,18 +114,19 @@ at_endpoint (Inproc name) there net = there (Inproc name)
 at_endpoint (Tcp address) there net = (answer.NotSupported, net)
 
 -- a socket is asked to send; all its ends can be written
-pub record Sends (s : Mine) (m : Frames) (old : Net) (steps : List PipeStep) (reply : Answer) (new : Net) : Type 0 where
+pub record Sends (s : Mine) (m : Frames) (old : Net) (steps : List PipeStep) (skips : List Skip) (reply : Answer) (new : Net) : Type 0 where
   pub sent : SendAnswer
   pub pattern : Pattern
   pub step : PatternSends (λ _. true) m s.socket.pattern steps sent pattern
+  pub skips_are : skips ≡ []
   pub reply_is : reply ≡ sent_answer sent
   pub new_is : new ≡ record old { socks = with_turned old.socks s.object.0 s.socket pattern }
 
--- a socket is asked to receive; none that is made so far drops messages on it
-pub record Receives (s : Mine) (old : Net) (steps : List PipeStep) (reply : Answer) (new : Net) : Type 0 where
+-- a socket is asked to receive
+pub record Receives (s : Mine) (old : Net) (steps : List PipeStep) (skips : List Skip) (reply : Answer) (new : Net) : Type 0 where
   pub got : RecvAnswer
   pub pattern : Pattern
-  pub step : PatternReceives s.socket.pattern steps [] got pattern
+  pub step : PatternReceives s.socket.pattern steps skips got pattern
   pub reply_is : reply ≡ got_answer got
   pub new_is : new ≡ record old { socks = with_turned old.socks s.object.0 s.socket pattern }
 
@@ -132,28 +134,28 @@ pub record Receives (s : Mine) (old : Net) (steps : List PipeStep) (reply : Answ
 abbrev pub no_socket : Net → Outcome
 no_socket net = (answer.NoSocket, net)
 
-abbrev pub BindsAt : Option Mine → Endpoint → Net → List PipeStep → Answer → Net → Type 0
-BindsAt None at old steps reply new = Comes (no_socket old) steps reply new
-BindsAt (Some s) at old steps reply new =
-    Comes (at_endpoint at (λ name. binds s.object s.socket name old) old) steps reply new
+abbrev pub BindsAt : Option Mine → Endpoint → Net → List PipeStep → List Skip → Answer → Net → Type 0
+BindsAt None at old steps skips reply new = Comes (no_socket old) steps skips reply new
+BindsAt (Some s) at old steps skips reply new =
+    Comes (at_endpoint at (λ name. binds s.object s.socket name old) old) steps skips reply new
 
-abbrev pub ConnectsTo : Option Mine → Endpoint → Net → List PipeStep → Answer → Net → Type 0
-ConnectsTo None to old steps reply new = Comes (no_socket old) steps reply new
-ConnectsTo (Some s) to old steps reply new =
-    Comes (at_endpoint to (λ name. connects s.object s.socket name old) old) steps reply new
+abbrev pub ConnectsTo : Option Mine → Endpoint → Net → List PipeStep → List Skip → Answer → Net → Type 0
+ConnectsTo None to old steps skips reply new = Comes (no_socket old) steps skips reply new
+ConnectsTo (Some s) to old steps skips reply new =
+    Comes (at_endpoint to (λ name. connects s.object s.socket name old) old) steps skips reply new
 
-abbrev pub SendsBy : Option Mine → Frames → Net → List PipeStep → Answer → Net → Type 0
-SendsBy None m old steps reply new = Comes (no_socket old) steps reply new
-SendsBy (Some s) m old steps reply new = Sends s m old steps reply new
+abbrev pub SendsBy : Option Mine → Frames → Net → List PipeStep → List Skip → Answer → Net → Type 0
+SendsBy None m old steps skips reply new = Comes (no_socket old) steps skips reply new
+SendsBy (Some s) m old steps skips reply new = Sends s m old steps skips reply new
 
-abbrev pub ReceivesBy : Option Mine → Net → List PipeStep → Answer → Net → Type 0
-ReceivesBy None old steps reply new = Comes (no_socket old) steps reply new
-ReceivesBy (Some s) old steps reply new = Receives s old steps reply new
+abbrev pub ReceivesBy : Option Mine → Net → List PipeStep → List Skip → Answer → Net → Type 0
+ReceivesBy None old steps skips reply new = Comes (no_socket old) steps skips reply new
+ReceivesBy (Some s) old steps skips reply new = Receives s old steps skips reply new
 
--- what the actor's line does, from the net old: its pipe steps, its answer, the net that it leaves
-abbrev pub DoesCall : ℕ → Call → Net → List PipeStep → Answer → Net → Type 0
-DoesCall actor (call.Socket kind options) old steps reply new = Comes (makes actor kind options old) steps reply new
-DoesCall actor (call.Bind place at) old steps reply new = BindsAt (mine_at old actor place) at old steps reply new
-DoesCall actor (call.Connect place to) old steps reply new = ConnectsTo (mine_at old actor place) to old steps reply new
-DoesCall actor (call.Send place m) old steps reply new = SendsBy (mine_at old actor place) m old steps reply new
-DoesCall actor (call.Recv place tries) old steps reply new = ReceivesBy (mine_at old actor place) old steps reply new
+-- what the actor's line does, from the net old: its pipe steps, the messages that it drops, its answer, the net that it leaves
+abbrev pub DoesCall : ℕ → Call → Net → List PipeStep → List Skip → Answer → Net → Type 0
+DoesCall actor (call.Socket kind options) old steps skips reply new = Comes (makes actor kind options old) steps skips reply new
+DoesCall actor (call.Bind place at) old steps skips reply new = BindsAt (mine_at old actor place) at old steps skips reply new
+DoesCall actor (call.Connect place to) old steps skips reply new = ConnectsTo (mine_at old actor place) to old steps skips reply new
+DoesCall actor (call.Send place m) old steps skips reply new = SendsBy (mine_at old actor place) m old steps skips reply new
+DoesCall actor (call.Recv place tries) old steps skips reply new = ReceivesBy (mine_at old actor place) old steps skips reply new

@@ -13,9 +13,9 @@ use Rattle.spec_journal.specs.Turn.{Doing}
 use Rattle.spec_journal.specs.Run.{Schedule, Run, IsRunOf, IsDone, IsUnfinished, doings_of, doings_by}
 use Rattle.spec_journal.specs.Disposition.{run_row, AllEnd}
 
--- what is shown of a line that is over
+-- what is shown of a line that is over: its last answer, and the messages that all its tries dropped
 abbrev pub entry_of : Doing → Entry
-entry_of d = record { line = d.line.number; answer = d.answer }
+entry_of d = record { line = d.line.number; answer = d.answer; skips = d.told }
 
 -- what is shown of what was done
 abbrev pub entries_of : List Doing → List Entry

@@ -8,6 +8,7 @@ use Rattle.spec_pattern.specs.declared.answers.SendRefusal.{SendRefusal}
 use Rattle.spec_pattern.specs.declared.answers.SendRefusal.TheVariants as send
 use Rattle.spec_pattern.specs.declared.answers.RecvRefusal.{RecvRefusal}
 use Rattle.spec_pattern.specs.declared.answers.RecvRefusal.TheVariants as recv
+use Rattle.spec_pattern.specs.declared.answers.Skip.{Skip}
 use Rattle.spec_pattern.specs.declared.answers.Rule.{Rule}
 use Rattle.spec_pattern.specs.declared.answers.Rule.TheVariants as rule
 use Rattle.spec_journal.specs.declared.journal.Answer.{Answer}
@@ -79,9 +80,16 @@ answer_text (answer.Dropped rule) = codes "drop " ++ rule_text rule
 answer_text (answer.NotSent refusal) = send_refusal_text refusal
 answer_text (answer.NotReceived refusal) = recv_refusal_text refusal
 
--- a line of an actor: its name, the line's number, the answer
+-- a message that was dropped: by its rule, at its pair
+abbrev pub skip_text : Skip → List ℕ
+skip_text s = codes " !" ++ rule_text s.rule ++ codes "@p" ++ decimal s.pair.0
+
+abbrev pub skips_text : List Skip → List ℕ
+skips_text skips = flat_map skip_text skips
+
+-- a line of an actor: its name, the line's number, the answer, the messages dropped
 abbrev pub entry_text : List ℕ → Entry → List ℕ
-entry_text name e = name ++ codes " " ++ decimal e.line ++ codes " " ++ answer_text e.answer ++ codes "\n"
+entry_text name e = name ++ codes " " ++ decimal e.line ++ codes " " ++ answer_text e.answer ++ skips_text e.skips ++ codes "\n"
 
 abbrev pub actor_text : ActorPart → List ℕ
 actor_text actor = flat_map (entry_text actor.name) actor.entries

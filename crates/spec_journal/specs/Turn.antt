@@ -7,6 +7,7 @@ use Rattle.zq_script.specs.declared.script.Line.{Line}
 use Rattle.zq_script.specs.declared.script.Call.{Call}
 use Rattle.zq_script.specs.declared.script.Call.TheVariants as call
 use Rattle.spec_pattern.specs.PipeStep.{PipeStep}
+use Rattle.spec_pattern.specs.declared.answers.Skip.{Skip}
 use Rattle.spec_pattern.specs.declared.answers.RecvRefusal.{RecvRefusal}
 use Rattle.spec_pattern.specs.declared.answers.RecvRefusal.TheVariants as recv
 use Rattle.spec_journal.specs.declared.journal.Answer.{Answer}
@@ -14,18 +15,21 @@ use Rattle.spec_journal.specs.declared.journal.Answer.TheVariants as answer
 use Rattle.spec_journal.specs.Net.{Net, net_before}
 use Rattle.spec_journal.specs.Line.{DoesCall}
 
--- one try of a line: by which actor, counted from 0, its pipe steps, its answer, and whether the line is over with it
+-- one try of a line: by which actor, counted from 0, its pipe steps, the messages that it dropped, those that all tries of the line dropped so far, its answer, and whether the line is over with it
 pub record Doing : Type 0 where
   pub actor : ℕ
   pub line : Line
   pub steps : List PipeStep
+  pub skips : List Skip
+  pub told : List Skip
   pub answer : Answer
   pub over : Bool
 
--- what an actor has still to do: the lines that are not over, and how often the first of these was tried
+-- what an actor has still to do: the lines that are not over, how often the first of these was tried, and the messages that its tries dropped
 pub record Agenda : Type 0 where
   pub lines : List Line
   pub tried : ℕ
+  pub told : List Skip
 
 -- the net, and what each actor has still to do
 pub record Stage : Type 0 where
@@ -33,7 +37,7 @@ pub record Stage : Type 0 where
   pub agendas : List Agenda
 
 abbrev pub whole_agenda : ActorScript → Agenda
-whole_agenda actor = record { lines = actor.lines; tried = 0 }
+whole_agenda actor = record { lines = actor.lines; tried = 0; told = [] }
 
 -- the stage before the first turn
 abbrev pub stage_before : Script → Stage
@@ -75,10 +79,10 @@ asks_again answer.TooMany = false
 abbrev pub is_over : ℕ → Call → Answer → Bool
 is_over tried asked reply = not (asks_again reply) || nat_le (tries_of asked) (tried + 1)
 
--- what is left behind a try of the first line
-abbrev pub after_try : Agenda → List Line → Bool → Agenda
-after_try agenda rest true = record { lines = rest; tried = 0 }
-after_try agenda rest false = record agenda { tried = agenda.tried + 1 }
+-- what is left behind a try of the first line, whose tries dropped these messages
+abbrev pub after_try : Agenda → List Line → List Skip → Bool → Agenda
+after_try agenda rest told true = record { lines = rest; tried = 0; told = [] }
+after_try agenda rest told false = record agenda { tried = agenda.tried + 1; told = told }
 
 -- the actor tries its first line
 pub record Tries (old : Stage) (d : Doing) (new : Stage) : Type 0 where
@@ -86,9 +90,10 @@ pub record Tries (old : Stage) (d : Doing) (new : Stage) : Type 0 where
   pub rest : List Line
   pub agenda_is : slice_get old.agendas d.actor ≡ Some agenda
   pub lines_are : agenda.lines ≡ d.line ∷ rest
-  pub does : DoesCall d.actor d.line.call old.net d.steps d.answer new.net
+  pub does : DoesCall d.actor d.line.call old.net d.steps d.skips d.answer new.net
+  pub told_is : d.told ≡ agenda.told ++ d.skips
   pub over_is : d.over ≡ is_over agenda.tried d.line.call d.answer
-  pub agendas_are : new.agendas ≡ slice_set old.agendas d.actor (after_try agenda rest d.over)
+  pub agendas_are : new.agendas ≡ slice_set old.agendas d.actor (after_try agenda rest d.told d.over)
 
 abbrev pub lines_in : Option Agenda → List Line
 lines_in None = []

@@ -1,4 +1,4 @@
-use spec_pattern::{PipeId, RecvRefusal, Report, Rule, SendRefusal};
+use spec_pattern::{PipeId, RecvRefusal, Report, Rule, SendRefusal, Skip};
 use zq_base::{Message, ObjId, Octets, PairId, Seq};
 
 /// What a line of a script was answered.
@@ -20,11 +20,12 @@ pub enum Answer {
     NotReceived(RecvRefusal),
 }
 
-/// A line that was answered, by its number in the script.
+/// A line that was answered, by its number in the script, with the messages that all its tries dropped.
 #[derive(Drop)]
 pub struct Entry {
     pub line: u32,
     pub answer: Answer,
+    pub skips: Seq<Skip>,
 }
 
 /// An actor's answers, in the order of its lines.

@@ -1,11 +1,11 @@
 ghost use Rattle.std.specs.Prelude.{◌≡◌, ◌++◌, OnOk, decimal, flat_map};
-ghost use Rattle.spec_journal.specs.Text.{answer_text, entry_text, actor_text, send_refusal_text, recv_refusal_text, rule_text};
+ghost use Rattle.spec_journal.specs.Text.{answer_text, entry_text, actor_text, send_refusal_text, recv_refusal_text, rule_text, skip_text, skips_text};
 
 use crate::part::push_parts;
 use crate::report::push_report;
 use itoa::Buffer;
 use spec_journal::{ActorPart, Answer, Entry};
-use spec_pattern::{RecvRefusal, Rule, SendRefusal};
+use spec_pattern::{RecvRefusal, Rule, SendRefusal, Skip};
 use std::alloc::{AllocError, Global};
 
 /// Appends a number in decimal digits.
@@ -93,6 +93,35 @@ fn push_answer(alloc: Global, out: &mut Vec<u8>, answer: &Answer) -> Result<(), 
     }
 }
 
+// Appends a message that was dropped: its rule, and its pair.
+fn push_skip(out: &mut Vec<u8>, skip: &Skip) -> Result<(), AllocError>
+    ensures { OnOk result (out.new.items ≡ out.old.items ++ skip_text skip.now) }
+{
+    out.extend_from_slice(b" !")?;
+    out.extend_from_slice(rule_name(skip.rule))?;
+    out.extend_from_slice(b"@p")?;
+    push_number(out, u64::from(skip.pair.0))
+}
+
+// Appends the messages that were dropped.
+fn push_skips(out: &mut Vec<u8>, skips: &[Skip]) -> Result<(), AllocError>
+    ensures { OnOk result (out.new.items ≡ out.old.items ++ skips_text skips.now) }
+{
+    for skip in skips {
+        push_skip(out, skip)?;
+    }
+    Ok(())
+}
+
+// Appends what a line was answered, and the messages that it dropped.
+fn push_outcome(alloc: Global, out: &mut Vec<u8>, entry: &Entry) -> Result<(), AllocError>
+    ensures { OnOk result (out.new.items ≡
+        out.old.items ++ answer_text entry.now.answer ++ skips_text entry.now.skips) }
+{
+    push_answer(alloc, out, &entry.answer)?;
+    push_skips(out, entry.skips.as_slice())
+}
+
 fn push_entry(
     alloc: Global,
     out: &mut Vec<u8>,
@@ -105,7 +134,7 @@ fn push_entry(
     out.extend_from_slice(b" ")?;
     push_number(out, u64::from(entry.line))?;
     out.extend_from_slice(b" ")?;
-    push_answer(alloc, out, &entry.answer)?;
+    push_outcome(alloc, out, entry)?;
     out.extend_from_slice(b"\n")
 }
 

@@ -3,7 +3,7 @@ use Rattle.std.specs.Prelude.{ℕ, Bool, List, [], ◌∷◌, Result, Ok, Err, o
 use Rattle.std.specs.List.{starts_with}
 use Rattle.std.specs.Str.{bytes_eq}
 use Rattle.zq_base.specs.declared.kind.Kind.{Kind}
-use Rattle.zq_base.specs.declared.kind.Kind.TheVariants.{Push, Pull, Pair, Dealer}
+use Rattle.zq_base.specs.declared.kind.Kind.TheVariants.{Push, Pull, Pair, Dealer, Req, Rep}
 use Rattle.zq_script.specs.declared.fault.Cause.{Cause}
 use Rattle.zq_script.specs.declared.fault.Cause.TheVariants.{BadWord, UnknownSocket, DoubleName, TooManyActors}
 use Rattle.zq_base.specs.declared.endpoint.Endpoint.{Endpoint}
@@ -53,6 +53,8 @@ kind_word word =
     else if bytes_eq word (codes "PULL") then Ok Pull
     else if bytes_eq word (codes "PAIR") then Ok Pair
     else if bytes_eq word (codes "DEALER") then Ok Dealer
+    else if bytes_eq word (codes "REQ") then Ok Req
+    else if bytes_eq word (codes "REP") then Ok Rep
     else Err BadWord
 
 -- what the first word of a line asks

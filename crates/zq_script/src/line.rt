@@ -62,6 +62,12 @@ fn read_kind(word: &[u8]) -> Result<Kind, LineError>
     if same_text(word, b"DEALER") {
         return Ok(Kind::Dealer);
     }
+    if same_text(word, b"REQ") {
+        return Ok(Kind::Req);
+    }
+    if same_text(word, b"REP") {
+        return Ok(Kind::Rep);
+    }
     Err(LineError::Fault(Cause::BadWord))
 }
 

@@ -3,7 +3,7 @@ use std::test::Fail;
 use zq_top::Status;
 
 /// The words of each example, its script or octets, and its text: the files of examples/, written by tools/examples.
-const EXAMPLES: [(&[&str], &[u8], &[u8]); 9] = [
+const EXAMPLES: [(&[&str], &[u8], &[u8]); 10] = [
     (
         &["zbus", "run"],
         b"# A DEALER sends to two others by turn, and one of them answers.\nactor a\nsocket d DEALER\nsocket x DEALER\nsocket y DEALER\nbind d inproc://q\nconnect x inproc://q\nconnect y inproc://q\nsend d one\nsend d two\nrecv x\nrecv y\nsend y back\nrecv d\n",
@@ -45,6 +45,11 @@ const EXAMPLES: [(&[&str], &[u8], &[u8]); 9] = [
         &["zbus", "run"],
         b"# A ventilator hands out work; two workers take it by turn.\nactor ventilator\nsocket out PUSH\nbind out inproc://work\nsend out job 1\nsend out job 2\nsend out job 3\nactor one\nsocket in PULL\nconnect in inproc://work\nrecv in\nrecv in tries=5\nactor two\nsocket in PULL\nconnect in inproc://work\nrecv in tries=5\nrecv in tries=2\n",
         b"ventilator 3 ok o1\nventilator 4 ok\nventilator 5 ok p1\nventilator 6 ok p2\nventilator 7 ok p1\none 9 ok o2\none 10 ok p1\none 11 msg p1 job 1\none 12 msg p1 job 3\ntwo 14 ok o3\ntwo 15 ok p2\ntwo 16 msg p2 job 2\ntwo 17 again\npipe p1a sent 0 given 0 heard 0 dropped 0 written 0 lost 0 rest 0 -\npipe p1b sent 2 given 2 heard 0 dropped 0 written 0 lost 0 rest 0 -\npipe p2a sent 0 given 0 heard 0 dropped 0 written 0 lost 0 rest 0 -\npipe p2b sent 1 given 1 heard 0 dropped 0 written 0 lost 0 rest 0 -\ndone\n",
+    ),
+    (
+        &["zbus", "run"],
+        b"# A REP drops what has no envelope, and answers the REQ that asked.\nactor a\nsocket p REP\nsocket d DEALER\nsocket q REQ\nbind p inproc://q\nconnect d inproc://q\nconnect q inproc://q\nsend d x\nsend q question\nrecv p\nsend p answer\nrecv q\nrecv q\n",
+        b"a 3 ok o1\na 4 ok o2\na 5 ok o3\na 6 ok\na 7 ok p1\na 8 ok p2\na 9 ok p1\na 10 ok p2\na 11 msg p2 question !badenv@p1\na 12 ok p2\na 13 msg p2 answer\na 14 fsm\npipe p1a sent 1 given 0 heard 0 dropped 1 written 0 lost 0 rest 0 -\npipe p1b sent 0 given 0 heard 0 dropped 0 written 0 lost 0 rest 0 -\npipe p2a sent 1 given 1 heard 0 dropped 0 written 0 lost 0 rest 0 -\npipe p2b sent 1 given 1 heard 0 dropped 0 written 0 lost 0 rest 0 -\ndone\n",
     ),
     (
         &["zbus", "run", "--seed", "3"],

@@ -1,4 +1,4 @@
-use spec_pattern::{PipeId, RecvRefusal, Report, SendRefusal};
+use spec_pattern::{PipeId, RecvRefusal, Report, Rule, SendRefusal, Skip};
 use std::alloc::Global;
 use std::test::Fail;
 use zq_base::{Frame, Message, ObjId, Octets, PairId, Seq};
@@ -15,8 +15,21 @@ fn message(alloc: Global, parts: &[&[u8]]) -> Result<Message, Fail> {
 
 /// The text of a journal in which one actor was answered once.
 fn text_of(alloc: Global, name: &[u8], line: u32, answer: Answer) -> Result<Octets, Fail> {
+    let skips = Seq::new(alloc);
+    text_of_entry(
+        alloc,
+        name,
+        Entry {
+            line,
+            answer,
+            skips,
+        },
+    )
+}
+
+fn text_of_entry(alloc: Global, name: &[u8], entry: Entry) -> Result<Octets, Fail> {
     let mut entries = Vec::new(alloc);
-    entries.push(Entry { line, answer })?;
+    entries.push(entry)?;
     let mut actors = Vec::new(alloc);
     actors.push(ActorPart {
         name: Octets::of_slice(alloc, name)?,
@@ -69,6 +82,27 @@ fn answers_have_their_texts(rt: HostRuntime) -> Result<(), Fail> {
         let printed = text_of(alloc, b"a", 4, answer)?;
         assert_eq!(rt; printed.as_slice(), text);
     }
+    Ok(())
+}
+
+#[test]
+fn drops_are_told_behind_the_answer(rt: HostRuntime) -> Result<(), Fail> {
+    let alloc = rt.alloc();
+    let mut skips = Vec::new(alloc);
+    for (rule, pair) in [(Rule::BadEnv, 1), (Rule::Stray, 20), (Rule::Filtered, 3)] {
+        skips.push(Skip {
+            rule,
+            pair: PairId(pair),
+        })?;
+    }
+    let entry = Entry {
+        line: 7,
+        answer: Answer::NotReceived(RecvRefusal::Busy),
+        skips: Seq::of_vec(skips),
+    };
+    let printed = text_of_entry(alloc, b"a", entry)?;
+    let text: &[u8] = b"a 7 busy !badenv@p1 !stray@p20 !filtered@p3\ndone\n";
+    assert_eq!(rt; printed.as_slice(), text);
     Ok(())
 }
 

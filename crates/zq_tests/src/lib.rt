@@ -12,6 +12,8 @@ mod hear;
 #[cfg(test)]
 mod journals;
 #[cfg(test)]
+mod requests;
+#[cfg(test)]
 mod run;
 #[cfg(test)]
 mod scripts;

@@ -25,12 +25,13 @@ use Rattle.spec_journal.specs.Printed as printed
 use Rattle.spec_journal.proofs.Dispositions.{all_end}
 use Rattle.spec_journal.proofs.NetLemmas.{IsSound}
 use Rattle.spec_journal.proofs.RunLemmas.{sound_before}
-use Rattle.flat_net.specs.Flat.{Flat, net_of, past_rows}
+use Rattle.flat_net.specs.Given.{given_in, AreGiven}
+use Rattle.flat_net.specs.Flat.{Counted, net_of, past_rows}
 use Rattle.flat_net.specs.Pipes.{IsPast}
 use Rattle.zq_top.specs.declared.actor.Actor.{Actor}
 use Rattle.zq_top.specs.Playing.{agenda_of, entries_in, entries_at, stage_at, TurnsEndSo, RunEnds, AreNew, actor_part}
 use Rattle.zq_top.proofs.PlayLemmas.{parts_are}
-use Rattle.zq_top.proofs.Given.{all_given, past_rows_are}
+use Rattle.zq_top.proofs.Given.{all_told, past_rows_are}
 
 -- the net before the first line, for each actor an empty seat
 seats_are : (ss : List ActorScript) → map {B = List (Option ObjId)} (λ _. []) ss ≡ replicate (length ss) []
@@ -41,10 +42,10 @@ stages_are : (n m : Net) (xs ys : List Agenda) → n ≡ m → xs ≡ ys → ◌
 stages_are n m xs ys e f = cc
 
 -- the net before the first line of so many actors
-abbrev IsNewNet : ℕ → Flat → Type 0
+abbrev IsNewNet : ℕ → Counted → Type 0
 IsNewNet n w = (w.net ≡ net_of [] empty_book [] (replicate n [])) × IsPast w.pipes []
 
-begins : (script : Script) (w : Flat) (xs : List Actor) → IsNewNet (length script.actors) w → AreNew script.actors xs → stage_at w xs ≡ stage_before script
+begins : (script : Script) (w : Counted) (xs : List Actor) → IsNewNet (length script.actors) w → AreNew script.actors xs → stage_at w xs ≡ stage_before script
 begins script w xs net new = stages_are w.net _ (map agenda_of xs) (map whole_agenda script.actors)
     (net.0 ∙ ap (λ (l : List (List (Option ObjId))). net_of [] empty_book [] l) (sym (seats_are script.actors))) new.agendas
 
@@ -93,7 +94,7 @@ zero_plus : (a : ℕ) → a ≡ 0 + a
 zero_plus a = omega arith
 
 -- a run of the script, by its turns
-the_run : (script : Script) (schedule : Schedule) (done : Bool) (w u : Flat) (xs ys : List Actor) → IsNewNet (length script.actors) w → AreNew script.actors xs
+the_run : (script : Script) (schedule : Schedule) (done : Bool) (w u : Counted) (xs ys : List Actor) → IsNewNet (length script.actors) w → AreNew script.actors xs
     → (e : RunEnds schedule done w xs u ys)
     → ((past : List PipeStep) → IsPast u.pipes past → AreExact (capacity_in u.net) [] past)
     → ((p : PipeId) → capacity_in u.net p ≤ most_commits)
@@ -110,19 +111,23 @@ the_run script schedule done w u xs ys net new e exact fits =
       looks = looks_hold (capacity_in u.net) (steps_of (doings_of run)) fits is_exact;
     }
 
-pub the_journal : (script : Script) (schedule : Schedule) (done : Bool) (w u : Flat) (xs ys : List Actor) (rows : List PipeRow) (n : ℕ)
-    → w.net ≡ net_of [] empty_book [] (replicate n []) → n ≡ length script.actors → IsPast w.pipes [] → AreNew script.actors xs
+-- no message is given before the first line
+none_before : (given : List ℕ) → given ≡ [] → AreGiven given (λ q. 0)
+none_before given none q some = rw none refl
+
+pub the_journal : (script : Script) (schedule : Schedule) (done : Bool) (w u : Counted) (xs ys : List Actor) (rows : List PipeRow) (n : ℕ)
+    → w.net ≡ net_of [] empty_book [] (replicate n []) → n ≡ length script.actors → IsPast w.pipes [] → w.given ≡ [] → AreNew script.actors xs
     → (e : RunEnds schedule done w xs u ys)
-    → ((past : List PipeStep) → IsPast u.pipes past → rows ≡ past_rows past 1 u.net.pairs)
+    → ((past : List PipeStep) → IsPast u.pipes past → rows ≡ past_rows past (given_in u.given) 1 u.net.pairs)
     → ((past : List PipeStep) → IsPast u.pipes past → AreExact (capacity_in u.net) [] past)
     → ((p : PipeId) → capacity_in u.net p ≤ most_commits)
     → IsJournalOf script schedule (record { actors = map actor_part ys; pipes = rows; done = done })
-the_journal script schedule done w u xs ys rows n begun same none new e are_rows exact fits =
+the_journal script schedule done w u xs ys rows n begun same none no_given new e are_rows exact fits =
     let net : IsNewNet (length script.actors) w = (subst (λ k. w.net ≡ net_of [] empty_book [] (replicate k [])) same begun, none) in
     let run : Run = record { turns = e.turns; stage = stage_at u ys } in
     let is_run = the_run script schedule done w u xs ys net new e exact fits in
     let past = e.did.past [] none in
-    let given = all_given schedule.seed (range_with_len 0 (length xs + other_workers)) schedule.seed _ e.turns _
+    let told = all_told schedule.seed (range_with_len 0 (length xs + other_workers)) schedule.seed _ e.turns _
     (subst (λ (s : Stage). IsSound s.net) (sym (begins script w xs net new)) (sound_before script)) e.are_turns in
     record {
       run = run;
@@ -132,7 +137,8 @@ the_journal script schedule done w u xs ys rows n begun same none new e are_rows
       journal_is = journals_are (map actor_part ys) (parts_from 0 script.actors (doings_of run)) rows (rows_from run 1 u.net.pairs) done
           (parts_are 0 script.actors ys (doings_of run) (same_names script.actors xs ys new e.did.names)
           (λ a. subst (λ k. entries_at ys a ≡ entries_of (doings_by k (doings_of run))) (zero_plus a) (e.did.entries a ∙ ap (λ (l : List Entry). l ++ entries_of (doings_by a (doings_of run))) (no_entries xs new.entries a))))
-          (are_rows (steps_of (doings_of run)) past ∙ past_rows_are run 1 u.net.pairs is_run.in_order given);
+          (are_rows (steps_of (doings_of run)) past
+          ∙ past_rows_are run (capacity_in u.net) u.given 1 u.net.pairs (omega arith) is_run.exact is_run.in_order (e.did.given (λ q. 0) (none_before w.given no_given)) told);
     }
 
 -- what was lent is written back whole

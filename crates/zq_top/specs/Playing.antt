@@ -1,5 +1,5 @@
 -- How far a run has come (own choice).
-use Rattle.std.specs.Prelude.{◌≡◌, ◌+◌, ◌<◌, ℕ, Bool, true, false, List, [], ◌∷◌, ◌++◌, length, nat_eq, All, map, flat_map, slice_get, Option, Some, None}
+use Rattle.std.specs.Prelude.{◌≡◌, ◌+◌, ◌<◌, ℕ, Bool, true, false, List, [], ◌∷◌, ◌++◌, length, nat_eq, All, map, flat_map, sum_by, slice_get, Option, Some, None}
 use Rattle.std.specs.List.{range_with_len}
 use Rattle.zq_script.specs.declared.script.Line.{Line}
 use Rattle.spec_pattern.specs.PipeStep.{PipeStep}
@@ -9,22 +9,25 @@ use Rattle.zq_script.specs.declared.script.ActorScript.{ActorScript}
 use Rattle.spec_journal.specs.declared.journal.ActorPart.{ActorPart}
 use Rattle.spec_journal.specs.Run.{Schedule, steps_of, doings_by}
 use Rattle.spec_journal.specs.Printed.{entries_of}
-use Rattle.flat_net.specs.Flat.{Flat, Moves}
+use Rattle.zq_base.specs.Ends.{PipeId}
+use Rattle.flat_net.specs.Given.{gives, AreGiven}
+use Rattle.flat_net.specs.Flat.{Counted, Does}
 use Rattle.flat_net.specs.Pipes.{IsPast}
 use Rattle.zq_top.specs.declared.actor.Actor.{Actor}
 
 -- what an actor has still to do
 abbrev pub agenda_of : Actor → Agenda
-agenda_of a = record { lines = a.lines.now; tried = a.tried }
+agenda_of a = record { lines = a.lines.now; tried = a.tried; told = a.told.items }
 
 -- The actor of this number did these things (one or none), and goes on from there; its answers are kept.
-abbrev pub ActorDoes : ℕ → Actor → Flat → List Doing → Actor → Flat → Type 0
+abbrev pub ActorDoes : ℕ → Actor → Counted → List Doing → Actor → Counted → Type 0
 ActorDoes w old before [] new after = (old.lines.now ≡ []) × (new ≡ old) × (after ≡ before)
 ActorDoes w old before (d ∷ []) new after =
     (rest : List Line) × (d.actor ≡ w) × (old.lines.now ≡ d.line ∷ rest)
-    × Moves w d.line.call before d.steps d.answer after
+    × Does w d.line.call before d.steps d.skips d.answer after
+    × (d.told ≡ old.told.items ++ d.skips)
     × (d.over ≡ is_over old.tried d.line.call d.answer)
-    × (agenda_of new ≡ after_try (agenda_of old) rest d.over) × (new.name ≡ old.name)
+    × (agenda_of new ≡ after_try (agenda_of old) rest d.told d.over) × (new.name ≡ old.name)
     × (new.entries.items ≡ old.entries.items ++ entries_of (d ∷ []))
 ActorDoes w old before (d ∷ e ∷ ds) new after = ⊥
 
@@ -36,35 +39,40 @@ entries_in (Some a) = a.entries.items
 abbrev pub entries_at : List Actor → ℕ → List Entry
 entries_at actors a = entries_in (slice_get actors a)
 
--- The net and the actors before did these things: the steps past go on by theirs, and the answers by those of lines that are over.
-pub record Did (before : Flat) (old : List Actor) (ds : List Doing) (after : Flat) (new : List Actor) : Type 0 where
+-- how many messages of the pipe these things gave
+abbrev pub given_by : PipeId → List Doing → ℕ
+given_by q ds = sum_by (λ (d : Doing). gives d.answer d.steps q) ds
+
+-- The net and the actors before did these things: the steps past go on by theirs, the counts of messages given by what they gave, and the answers by those of lines that are over.
+pub record Did (before : Counted) (old : List Actor) (ds : List Doing) (after : Counted) (new : List Actor) : Type 0 where
   pub past : (past : List PipeStep) → IsPast before.pipes past → IsPast after.pipes (past ++ steps_of ds)
+  pub given : (count : PipeId → ℕ) → AreGiven before.given count → AreGiven after.given (λ q. count q + given_by q ds)
   pub entries : (a : ℕ) → entries_at new a ≡ entries_at old a ++ entries_of (doings_by a ds)
   pub names : map (λ (a : Actor). a.name) new ≡ map (λ (a : Actor). a.name) old
 
 -- the net, and what each of the actors has still to do
-abbrev pub stage_at : Flat → List Actor → Stage
+abbrev pub stage_at : Counted → List Actor → Stage
 stage_at w actors = record { net = w.net; agendas = map agenda_of actors }
 
 -- a worker's step
-pub record WorkerDoes (w : ℕ) (before : Flat) (old : List Actor) (ds : List Doing) (after : Flat) (new : List Actor) : Type 0 where
+pub record WorkerDoes (w : ℕ) (before : Counted) (old : List Actor) (ds : List Doing) (after : Counted) (new : List Actor) : Type 0 where
   pub step : StepOf w (stage_at before old) ds (stage_at after new)
   pub did : Did before old ds after new
 
 -- the workers' steps, in this order
-pub record WorkersDo (order : List ℕ) (before : Flat) (old : List Actor) (ds : List Doing) (after : Flat) (new : List Actor) : Type 0 where
+pub record WorkersDo (order : List ℕ) (before : Counted) (old : List Actor) (ds : List Doing) (after : Counted) (new : List Actor) : Type 0 where
   pub steps : StepsOf order (stage_at before old) ds (stage_at after new)
   pub did : Did before old ds after new
 
 -- what the next turn is, from where the run stands
-pub record TurnDoes (seed drawn : ℕ) (before : Flat) (old : List Actor) (ds : List Doing) (after_drawn : ℕ) (after : Flat) (new : List Actor) : Type 0 where
+pub record TurnDoes (seed drawn : ℕ) (before : Counted) (old : List Actor) (ds : List Doing) (after_drawn : ℕ) (after : Counted) (new : List Actor) : Type 0 where
   pub order : List ℕ
   pub is_order : IsOrder seed drawn (range_with_len 0 (length old + other_workers)) order after_drawn
   pub steps : StepsOf order (stage_at before old) ds (stage_at after new)
   pub did : Did before old ds after new
 
 -- After these turns, with the last number drawn, all stands so: further turns go on behind them.
-pub record HasCome (seed drawn : ℕ) (before : Flat) (old : List Actor) (turns : List (List Doing)) (after : Flat) (new : List Actor) : Type 0 where
+pub record HasCome (seed drawn : ℕ) (before : Counted) (old : List Actor) (turns : List (List Doing)) (after : Counted) (new : List Actor) : Type 0 where
   pub on : (rest : List (List Doing)) (end_ : Stage) →
       Turns seed (range_with_len 0 (length old + other_workers)) drawn (stage_at after new) rest end_ →
       Turns seed (range_with_len 0 (length old + other_workers)) seed (stage_at before old) (turns ++ rest) end_
@@ -76,7 +84,7 @@ TurnsEndSo schedule true turns end_ = IsFinished end_ × (length turns < schedul
 TurnsEndSo schedule false turns end_ = length turns ≡ schedule.turns
 
 -- The run came to its end by these turns.
-pub record RunEnds (schedule : Schedule) (done : Bool) (before : Flat) (old : List Actor) (after : Flat) (new : List Actor) : Type 0 where
+pub record RunEnds (schedule : Schedule) (done : Bool) (before : Counted) (old : List Actor) (after : Counted) (new : List Actor) : Type 0 where
   pub turns : List (List Doing)
   pub are_turns : Turns schedule.seed (range_with_len 0 (length old + other_workers)) schedule.seed (stage_at before old) turns (stage_at after new)
   pub did : Did before old (flat_map (λ turn. turn) turns) after new

@@ -2,20 +2,22 @@ ghost use Rattle.std.specs.Prelude.{◌≡◌, ◌<◌, List, [], OnOk, false};
 ghost use Rattle.spec_journal.specs.Turn.{Doing, tries_of, asks_again, is_over};
 ghost use Rattle.zq_top.specs.Playing.{ActorDoes, has_finished};
 
-use flat_net::FlatNet;
+use flat_net::CountedNet;
 use spec_journal::{Answer, Entry};
-use spec_pattern::RecvRefusal;
+use spec_pattern::{RecvRefusal, Skip};
 use std::alloc::{AllocError, Global};
-use zq_base::Octets;
+use std::mem::replace;
+use zq_base::{Octets, Seq};
 use zq_script::{ActorScript, Call, Line};
 
-/// An actor: the lines that are not over, how often the first of these was tried, and the answers so
-/// far.
+/// An actor: the lines that are not over, how often the first of these was tried, the messages that
+/// its tries dropped, and the answers so far.
 #[derive(Drop)]
 pub(crate) struct Actor<'a> {
     pub(crate) name: &'a Octets,
     pub(crate) lines: &'a [Line],
     pub(crate) tried: u32,
+    pub(crate) told: Vec<Skip>,
     pub(crate) entries: Vec<Entry>,
 }
 
@@ -53,12 +55,14 @@ impl<'a> Actor<'a> {
         ensures name { result.name.now ≡ script.now.name }
         ensures lines { result.lines.now ≡ script.now.lines }
         ensures tried { result.tried ≡ 0 }
+        ensures told { result.told.items ≡ [] }
         ensures entries { result.entries.items ≡ [] }
     {
         Actor {
             name: &script.name,
             lines: script.lines.as_slice(),
             tried: 0,
+            told: Vec::new(alloc),
             entries: Vec::new(alloc),
         }
     }
@@ -74,7 +78,7 @@ impl<'a> Actor<'a> {
     pub(crate) fn step(
         &mut self,
         alloc: Global,
-        net: &mut FlatNet,
+        net: &mut CountedNet,
         number: usize,
     ) -> Result<(), AllocError>
         ensures { OnOk result ((ds : List Doing) × ActorDoes number self.old net.old ds self.new net.new) }
@@ -82,16 +86,18 @@ impl<'a> Actor<'a> {
         let Some((line, rest)) = self.lines.split_first() else {
             return Ok(());
         };
-        let answer = net.step(alloc, number, &line.call)?;
+        let answer = net.step(alloc, number, &line.call, &mut self.told)?;
         if !is_over(self.tried, &line.call, &answer) {
             self.tried += 1;
             return Ok(());
         }
         self.lines = rest;
         self.tried = 0;
+        let told = replace(&mut self.told, Vec::new(alloc));
         self.entries.push(Entry {
             line: line.number,
             answer,
+            skips: Seq::of_vec(told),
         })?;
         Ok(())
     }

@@ -6,7 +6,7 @@ ghost use Rattle.zq_top.specs.Playing.{WorkerDoes, WorkersDo, TurnDoes, RunEnds,
 
 use crate::actor::Actor;
 use crate::order::Order;
-use flat_net::FlatNet;
+use flat_net::CountedNet;
 use spec_journal::{ActorPart, Journal};
 use std::alloc::{AllocError, Global};
 use zq_base::Seq;
@@ -18,7 +18,7 @@ const OTHER_WORKERS: usize = 2;
 /// A worker's step: only actors do anything.
 fn step(
     alloc: Global,
-    net: &mut FlatNet,
+    net: &mut CountedNet,
     actors: &mut [Actor],
     worker: usize,
 ) -> Result<(), AllocError>
@@ -33,7 +33,7 @@ fn step(
 /// The workers' steps in this order.
 fn steps(
     alloc: Global,
-    net: &mut FlatNet,
+    net: &mut CountedNet,
     actors: &mut [Actor],
     order: &[usize],
 ) -> Result<(), AllocError>
@@ -48,7 +48,7 @@ fn steps(
 /// A turn.
 fn turn(
     alloc: Global,
-    net: &mut FlatNet,
+    net: &mut CountedNet,
     actors: &mut [Actor],
     order: &mut Order,
 ) -> Result<(), AllocError>
@@ -71,7 +71,7 @@ fn is_finished(actors: &[Actor]) -> bool
 /// the beginning of one of these turns.
 fn run(
     alloc: Global,
-    net: &mut FlatNet,
+    net: &mut CountedNet,
     actors: &mut [Actor],
     seed: u64,
     turns: u32,
@@ -124,7 +124,7 @@ pub(crate) fn play(
 ) -> Result<Journal, AllocError>
     ensures { IfOk result (IsJournalOf script.now (record { seed = seed; turns = turns })) }
 {
-    let mut net = FlatNet::new(alloc, script.actors.len())?;
+    let mut net = CountedNet::new(alloc, script.actors.len())?;
     let mut actors = actors_of(alloc, script)?;
     let done = run(alloc, &mut net, &mut actors, seed, turns)?;
     let pipes = Seq::of_vec(net.rows(alloc)?);

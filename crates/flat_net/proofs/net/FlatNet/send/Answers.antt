@@ -1,5 +1,5 @@
 use Rattle.std.specs.Prelude.{IfOk}
-use Rattle.std.proofs.Common.{◌≡◌, List, ◌++◌, Some, map, subst}
+use Rattle.std.proofs.Common.{◌≡◌, List, [], ◌++◌, Some, map, subst}
 use Rattle.spec_pattern.specs.PipeStep.{PipeStep}
 use Rattle.spec_journal.specs.Net.{Sock, sock_at}
 use Rattle.spec_journal.specs.Line.{Sends}
@@ -21,7 +21,7 @@ returns c =
     let s = c.self.inside in
     let step = c.send.ensures.step in
     subst (λ (w : Flat). IfOk c.send.result (λ a. (s : Sock) → sock_at w.net c.args.object.0 ≡ Some s →
-    (steps : List PipeStep) × Sends (record { object = c.args.object; socket = s }) c.args.message w.net steps a
+    (steps : List PipeStep) × Sends (record { object = c.args.object; socket = s }) c.args.message w.net steps [] a
     (asked c.self.inside.sockets.items c.self.inside.book (map (λ e. e.0) c.self.inside.joined.items) c.self.inside.seats.items c.saturating_sub-place.result c.send.new.self)
     × ((past : List PipeStep) → IsPast w.pipes past → IsPast (tabled c.send.new.pairs) (past ++ steps)))) c.self.view_is
     (did_send s.sockets.items s.book (map (λ e. e.0) s.joined.items) s.seats.items (tabled s.pairs) (tabled c.send.new.pairs) c.args.object c.saturating_sub-place.result c.index_mut.result.now c.send.new.self _ step.steps c.send.new.self.pattern

@@ -1,0 +1,100 @@
+use crate::calls::{answers, call};
+use std::alloc::Global;
+use std::test::Fail;
+use zq_top::Status;
+
+/// Scripts of REQs and REPs, and what their runs print.
+const CASES: [(&[u8], &[u8]); 9] = [
+    // A REQ asks and hears the reply by turns, and so does a REP.
+    (
+        b"actor a\nsocket q REQ\nsocket p REP\nbind p inproc://q\nconnect q inproc://q\nrecv q\nsend p x\nrecv p\nsend q one\nsend q two\nrecv q\nrecv p\nrecv p\nsend p yes no\nsend p z\nrecv q\nrecv q\n",
+        b"a 2 ok o1\na 3 ok o2\na 4 ok\na 5 ok p1\na 6 fsm\na 7 fsm\na 8 again\na 9 ok p1\na 10 fsm\na 11 again\na 12 msg p1 one\na 13 fsm\na 14 ok p1\na 15 fsm\na 16 msg p1 yes no\na 17 fsm\npipe p1a sent 1 given 1 heard 0 dropped 0 written 0 lost 0 rest 0 -\npipe p1b sent 1 given 1 heard 0 dropped 0 written 0 lost 0 rest 0 -\ndone\n",
+    ),
+    // A REQ without a peer has asked nothing.
+    (
+        b"actor a\nsocket q REQ\nsend q x\nrecv q\n",
+        b"a 2 ok o1\na 3 again\na 4 fsm\ndone\n",
+    ),
+    // A REQ asks its peers by turn.
+    (
+        b"actor a\nsocket r REP\nsocket s REP\nsocket q REQ\nbind r inproc://r\nbind s inproc://s\nconnect q inproc://r\nconnect q inproc://s\nsend q 1\nrecv s\nrecv r\nsend r a\nrecv q\nsend q 2\nrecv s\n",
+        b"a 2 ok o1\na 3 ok o2\na 4 ok o3\na 5 ok\na 6 ok\na 7 ok p1\na 8 ok p2\na 9 ok p1\na 10 again\na 11 msg p1 1\na 12 ok p1\na 13 msg p1 a\na 14 ok p2\na 15 msg p2 2\npipe p1a sent 1 given 1 heard 0 dropped 0 written 0 lost 0 rest 0 -\npipe p1b sent 1 given 1 heard 0 dropped 0 written 0 lost 0 rest 0 -\npipe p2a sent 1 given 1 heard 0 dropped 0 written 0 lost 0 rest 0 -\npipe p2b sent 0 given 0 heard 0 dropped 0 written 0 lost 0 rest 0 -\ndone\n",
+    ),
+    // A REP drops what has no envelope, or nothing behind it, and gives the request behind these.
+    (
+        b"actor a\nsocket p REP\nsocket d DEALER\nbind p inproc://q\nconnect d inproc://q\nsend d x\nsend d -\nsend d - r\nrecv p\nsend p yes\nrecv d\n",
+        b"a 2 ok o1\na 3 ok o2\na 4 ok\na 5 ok p1\na 6 ok p1\na 7 ok p1\na 8 ok p1\na 9 msg p1 r !badenv@p1 !badenv@p1\na 10 ok p1\na 11 msg p1 - yes\npipe p1a sent 3 given 1 heard 0 dropped 2 written 0 lost 0 rest 0 -\npipe p1b sent 1 given 1 heard 0 dropped 0 written 0 lost 0 rest 0 -\ndone\n",
+    ),
+    // The reply stands behind the whole envelope.
+    (
+        b"actor a\nsocket p REP\nsocket d DEALER\nbind p inproc://q\nconnect d inproc://q\nsend d x y - r\nrecv p\nsend p z\nrecv d\n",
+        b"a 2 ok o1\na 3 ok o2\na 4 ok\na 5 ok p1\na 6 ok p1\na 7 msg p1 r\na 8 ok p1\na 9 msg p1 x y - z\npipe p1a sent 1 given 1 heard 0 dropped 0 written 0 lost 0 rest 0 -\npipe p1b sent 1 given 1 heard 0 dropped 0 written 0 lost 0 rest 0 -\ndone\n",
+    ),
+    // A drop is told at its pair and counted at its pipe.
+    (
+        b"actor a\nsocket p REP\nsocket d DEALER\nsocket e DEALER\nbind p inproc://q\nconnect d inproc://q\nconnect e inproc://q\nsend d x\nsend e - q\nrecv p\n",
+        b"a 2 ok o1\na 3 ok o2\na 4 ok o3\na 5 ok\na 6 ok p1\na 7 ok p2\na 8 ok p1\na 9 ok p2\na 10 msg p2 q !badenv@p1\npipe p1a sent 1 given 0 heard 0 dropped 1 written 0 lost 0 rest 0 -\npipe p1b sent 0 given 0 heard 0 dropped 0 written 0 lost 0 rest 0 -\npipe p2a sent 1 given 1 heard 0 dropped 0 written 0 lost 0 rest 0 -\npipe p2b sent 0 given 0 heard 0 dropped 0 written 0 lost 0 rest 0 -\ndone\n",
+    ),
+    // A line with tries shows what all of them dropped.
+    (
+        b"actor a\nsocket p REP\nbind p inproc://q\nrecv p tries=5\nactor b\nsocket d DEALER\nconnect d inproc://q\nsend d x\nsend d - r\n",
+        b"a 2 ok o1\na 3 ok\na 4 msg p1 r !badenv@p1\nb 6 ok o2\nb 7 ok p1\nb 8 ok p1\nb 9 ok p1\npipe p1a sent 2 given 1 heard 0 dropped 1 written 0 lost 0 rest 0 -\npipe p1b sent 0 given 0 heard 0 dropped 0 written 0 lost 0 rest 0 -\ndone\n",
+    ),
+    // A reply to a full pipe is dropped, and owed no longer.
+    (
+        b"actor a\nsocket p REP hwm=1\nsocket d DEALER rcvhwm=1\nbind p inproc://q\nconnect d inproc://q\nsend d - r\nsend d - s\nsend d - t\nrecv p\nsend p 1\nrecv p\nsend p 2\nrecv p\nsend p 3\nsend p 4\nrecv d\n",
+        b"a 2 ok o1\na 3 ok o2\na 4 ok\na 5 ok p1\na 6 ok p1\na 7 ok p1\na 8 ok p1\na 9 msg p1 r\na 10 ok p1\na 11 msg p1 s\na 12 ok p1\na 13 msg p1 t\na 14 drop routefull\na 15 fsm\na 16 msg p1 - 1\npipe p1a sent 3 given 3 heard 0 dropped 0 written 0 lost 0 rest 0 -\npipe p1b sent 2 given 1 heard 0 dropped 0 written 0 lost 0 rest 1 closed\ndone\n",
+    ),
+    // Two REQs fit no pair, and neither do two REPs.
+    (
+        b"actor a\nsocket q REQ\nsocket r REQ\nsocket s REP\nsocket t REP\nbind q inproc://q\nconnect r inproc://q\nbind s inproc://s\nconnect t inproc://s\n",
+        b"a 2 ok o1\na 3 ok o2\na 4 ok o3\na 5 ok o4\na 6 ok\na 7 badpair\na 8 ok\na 9 badpair\ndone\n",
+    ),
+];
+
+#[test]
+fn requests_and_replies_are_told(rt: HostRuntime) -> Result<(), Fail> {
+    for (script, text) in CASES {
+        assert!(rt; answers(rt.alloc(), &["zbus", "run"], script, Status::Done, text)?);
+    }
+    Ok(())
+}
+
+/// Adds the text so often.
+fn repeat(octets: &mut Vec<u8>, text: &[u8], count: usize) -> Result<(), Fail> {
+    for _ in 0..count {
+        octets.extend_from_slice(text)?;
+    }
+    Ok(())
+}
+
+/// A script in which a REP receives 257 messages without an envelope, by two calls.
+fn bad_envelopes(alloc: Global) -> Result<Vec<u8>, Fail> {
+    let mut script = Vec::from_slice(
+        alloc,
+        b"actor a\nsocket p REP\nsocket d DEALER\nbind p inproc://q\nconnect d inproc://q\n",
+    )?;
+    repeat(&mut script, b"send d x\n", 257)?;
+    script.extend_from_slice(b"recv p\nrecv p\n")?;
+    Ok(script)
+}
+
+/// The end of its journal: the first call drops 256 and no more.
+fn last_answers(alloc: Global) -> Result<Vec<u8>, Fail> {
+    let mut text = Vec::from_slice(alloc, b"a 262 ok p1\na 263 busy")?;
+    repeat(&mut text, b" !badenv@p1", 256)?;
+    text.extend_from_slice(
+        b"\na 264 again !badenv@p1\npipe p1a sent 257 given 0 heard 0 dropped 257 written 0 lost 0 rest 0 -\npipe p1b sent 0 given 0 heard 0 dropped 0 written 0 lost 0 rest 0 -\ndone\n",
+    )?;
+    Ok(text)
+}
+
+#[test]
+fn one_call_drops_256_messages_at_the_most(rt: HostRuntime) -> Result<(), Fail> {
+    let alloc = rt.alloc();
+    let script = bad_envelopes(alloc)?;
+    let text = last_answers(alloc)?;
+    let called = call(alloc, &["zbus", "run"], &script, &[], &[], &[4096])?;
+    assert!(rt; called.text.as_slice().ends_with(&text));
+    Ok(())
+}
