@@ -6,3 +6,8 @@ pub mod RoomLemmas
 pub mod SendLemmas
 pub mod ReceiveLemmas
 pub mod PeerLemmas
+pub mod WeightLemmas
+pub mod TellLemmas
+pub mod FollowerLemmas
+pub mod SubscriberLemmas
+pub mod XSubLemmas

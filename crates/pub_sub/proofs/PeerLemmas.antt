@@ -28,7 +28,7 @@ with-at ends place p = λ j. record {
 }
 
 -- its row goes
-without-subs_at : (ends : ℕ → End) (p : ℕ) (subs : Subscribers ℕ) → ((k : ℕ) → is_place (keys_of subs) k ≡ true → same_pipe (ends p) (ends k) ≡ nat_eq p k)
+pub without-subs_at : (ends : ℕ → End) (p : ℕ) (subs : Subscribers ℕ) → ((k : ℕ) → is_place (keys_of subs) k ≡ true → same_pipe (ends p) (ends k) ≡ nat_eq p k)
     → without_peer same_pipe (ends p) (subs_at ends subs) ≡ subs_at ends (without_peer nat_eq p subs)
 without-subs_at ends p [] apart = refl
 without-subs_at ends p (s ∷ subs) apart =
@@ -41,7 +41,7 @@ without-subs_at ends p (s ∷ subs) apart =
     by false rest = ap (λ l. (ends s.0, s.1) ∷ l) rest
 
 -- its turn goes
-without-ins : (ends : ℕ → End) (p : ℕ) (ins : List ℕ) → ((k : ℕ) → is_place ins k ≡ true → same_pipe (ends p) (ends k) ≡ nat_eq p k)
+pub without-ins : (ends : ℕ → End) (p : ℕ) (ins : List ℕ) → ((k : ℕ) → is_place ins k ≡ true → same_pipe (ends p) (ends k) ≡ nat_eq p k)
     → filter (λ x. not (same_pipe (ends p) x)) (map ends ins) ≡ map ends (without_place p ins)
 without-ins ends p ins apart =
     filter-ends ends (λ x. not (same_pipe (ends p) x)) ins

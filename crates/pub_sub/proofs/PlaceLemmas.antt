@@ -26,7 +26,7 @@ pub later : (p q : ℕ) (ps : List ℕ) → is_place ps q ≡ true → is_place 
 later p q ps there = ap (λ b. nat_eq q p || b) there ∙ or_true (nat_eq q p)
 
 -- the ends of the peers
-keys_of-subs_at : (ends : ℕ → End) (subs : Subscribers ℕ) → keys_of (subs_at ends subs) ≡ map ends (keys_of subs)
+pub keys_of-subs_at : (ends : ℕ → End) (subs : Subscribers ℕ) → keys_of (subs_at ends subs) ≡ map ends (keys_of subs)
 keys_of-subs_at ends [] = refl
 keys_of-subs_at ends (s ∷ subs) = ap (λ l. ends s.0 ∷ l) (keys_of-subs_at ends subs)
 

@@ -6,3 +6,7 @@ pub mod Publishers
 pub mod Known
 pub mod Audiences
 pub mod Hearing
+pub mod Telling
+pub mod Followers
+pub mod Subscribing
+pub mod XSubs

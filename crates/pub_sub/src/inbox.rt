@@ -1,5 +1,6 @@
 ghost use Rattle.std.specs.Prelude.{◌≡◌, ◌<◌, ◌≤◌, ◌+◌, ◌-◌, [], ◌∷◌, length, IfOk, OnOk, OnErr, MatchOption};
 ghost use Rattle.zq_base.specs.Message.{max_octets};
+ghost use Rattle.spec_pattern.specs.Pipe.{IsCommittable};
 ghost use Rattle.pub_sub.specs.Notes.{IsTopic, notice, cancel, nothing_waits, with_room, with_notice};
 
 use crate::note::Note;
@@ -96,7 +97,7 @@ impl Inbox {
     {
         match self.notes.take_front() {
             Some(Note::Heard(pair, message)) => return Ok(Some((pair, message))),
-            Some(Note::Cancelled(pair, topic)) => match cancel_of(alloc, topic.as_slice()) {
+            Some(Note::Cancelled(pair, topic)) => match one_frame(alloc, 0, topic.as_slice()) {
                 Ok(message) => return Ok(Some((pair, message))),
                 Err(fault) => {
                     self.notes.put_back(Note::Cancelled(pair, topic));
@@ -108,13 +109,14 @@ impl Inbox {
     }
 }
 
-// The message that cancels a topic.
-fn cancel_of(alloc: Global, topic: &[u8]) -> Result<Message, AllocError>
+// A message of one frame: an octet, and a topic behind it.
+pub(crate) fn one_frame(alloc: Global, octet: u8, topic: &[u8]) -> Result<Message, AllocError>
     requires { IsTopic topic.now }
-    ensures { IfOk result (λ m. m ≡ cancel topic.now) }
+    ensures value { IfOk result (λ m. m ≡ (octet ∷ topic.now) ∷ []) }
+    ensures fits { IfOk result (λ m. IsCommittable m) }
 {
     let mut octets = Vec::with_capacity(alloc, topic.len() + 1)?;
-    octets.push_reserved(0);
+    octets.push_reserved(octet);
     octets.extend_from_slice(topic)?;
     let mut frames = Vec::with_capacity(alloc, 1)?;
     match Bytes::from_vec(octets) {

@@ -1,56 +1,34 @@
-ghost use Rattle.std.specs.Prelude.{◌≡◌, ◌<◌, ℕ, All, true, OnOk, OnErr};
+ghost use Rattle.std.specs.Prelude.{◌≡◌, ℕ, All, true};
 ghost use Rattle.std.specs.Map.{keys_of};
-ghost use Rattle.spec_pattern.specs.Results.{MatchSend, MatchRecv, IfBack};
-ghost use Rattle.msg_pipe.specs.Places.{KeepsPlaces};
-ghost use Rattle.pub_sub.specs.Publishers.{no_subscribers, with_subscriber_at, without_and_told, Attaches, Detaches, KeepsPeers, Publishes};
 ghost use Rattle.spec_pattern.specs.TurnList.{End};
-ghost use Rattle.pub_sub.specs.Hearing.{HearsPeers, StopsHearing, XPubGives, XPubStops};
+ghost use Rattle.spec_pattern.specs.Results.{MatchRecv};
+ghost use Rattle.msg_pipe.specs.Places.{KeepsPlaces};
+ghost use Rattle.pub_sub.specs.Publishers.{no_subscribers, without_and_told, Detaches, KeepsPeers};
+ghost use Rattle.pub_sub.specs.Hearing.{XPubGives, XPubStops};
 
+use crate::extent::Extended;
+use crate::pub_socket::PubSocket;
 use crate::publisher::Publisher;
 use msg_pipe::Peers;
-use spec_pattern::{RecvFault, SendFault, Sent};
-use std::alloc::{AllocError, Global};
-use std::marker::Model;
+use spec_pattern::RecvFault;
+use std::alloc::Global;
+use std::marker::PhantomData;
 use zq_base::{Message, PairId};
 
 /// An XPUB: a PUB whose user is told what its peers subscribe to and cancel, and what else they
 /// send (RFC 29, "The XPUB Socket Type").
-#[derive(Drop)]
-pub struct XPub {
-    publisher: Publisher,
-}
+pub type XPub = PubSocket<Extended>;
 
-impl Model for XPub {
-    ghost use Rattle.std.specs.Prelude.{◌≡◌, true};
-    ghost use Rattle.pub_sub.specs.Publishers.{PubState};
-
-    ghost Value = { PubState };
-
-    ghost view = { λ p. p.publisher };
-
-    ghost invariant = { λ p. p.publisher.tells ≡ true };
-}
-
-impl XPub {
+impl PubSocket<Extended> {
     /// No ends yet. With `verbose` the user is told of each add, and otherwise of a topic's first
     /// (zmq_setsockopt(3), "ZMQ_XPUB_VERBOSE").
     pub fn new(alloc: Global, verbose: bool) -> XPub
         ensures { result ≡ no_subscribers verbose true }
     {
-        XPub {
+        PubSocket {
             publisher: Publisher::new(alloc, verbose, true),
+            extent: PhantomData,
         }
-    }
-
-    /// The end at this place is attached, behind the others, whose places are lower: its turn comes
-    /// last, and it has no topic.
-    pub fn attach(&mut self, alloc: Global, place: usize) -> Result<(), AllocError>
-        requires last { All (λ p. p < place) (keys_of self.old.subs) }
-        ensures ok { OnOk result (self.new ≡ with_subscriber_at place self.old) }
-        ensures defined { OnOk result ((ends : ℕ → End) → Attaches ends place self.old self.new) }
-        ensures err { OnErr result (self.new ≡ self.old) }
-    {
-        self.publisher.attach(alloc, place)
     }
 
     /// The end at this place, which is of this pair, is a peer no longer. The user is told a cancel
@@ -61,38 +39,6 @@ impl XPub {
             Detaches ends place self.old self.new }
     {
         self.publisher.leave_told(pair, place);
-    }
-
-    /// Hears its peers by turn, until none has a message, 256 were heard, or 1,000 messages wait
-    /// for the user. Where memory wants, the message that it took is kept, and is the first at the
-    /// next hearing, uncounted.
-    pub fn hear_peers<E: Peers>(&mut self, alloc: Global, peers: &mut E) -> Result<(), AllocError>
-        requires there { All (E.here peers.old) (keys_of self.old.subs) }
-        ensures heard { OnOk result (HearsPeers E.runs (E.end_at peers.old)
-            peers.old peers.new self.old self.new) }
-        ensures memory { OnErr result (StopsHearing E.runs (E.end_at peers.old)
-            peers.old peers.new self.old self.new) }
-        ensures same { KeepsPeers self.old self.new }
-        ensures keeps { KeepsPlaces E.here E.end_at E.writable peers.old peers.new }
-    {
-        self.publisher.hear_peers(alloc, peers)
-    }
-
-    /// Sends as a PUB does.
-    pub fn send<E: Peers>(
-        &self,
-        alloc: Global,
-        peers: &mut E,
-        message: Message,
-    ) -> Result<Sent, SendFault>
-        requires there { All (E.here peers.old) (keys_of self.now.subs) }
-        ensures step { MatchSend result (peers.new ≡ peers.old) (λ answer.
-            Publishes E.runs (E.end_at peers.old) (E.writable peers.old) message
-            peers.old peers.new self.now answer) }
-        ensures back { IfBack result (λ back. back ≡ message) }
-        ensures keeps { KeepsPlaces E.here E.end_at E.writable peers.old peers.new }
-    {
-        self.publisher.send(alloc, peers, message)
     }
 
     /// Gives what waits first for the user; with nothing waiting it hears its peers before that. With

@@ -46,7 +46,7 @@ write_acts None octets = []
 write_acts (Some answer) octets = Wire (Writes answer octets) ∷ []
 
 abbrev pub WriteFits : Option LinkPut → List ℕ → Type 0
-WriteFits None octets = Unit {0}
+WriteFits None octets = octets ≡ []
 WriteFits (Some answer) octets = FitsPut answer octets
 
 -- the link is over by this answer
@@ -79,7 +79,7 @@ read_acts None octets = []
 read_acts (Some answer) octets = Wire (Reads answer octets) ∷ []
 
 abbrev pub ReadFits : Option LinkGot → List ℕ → Type 0
-ReadFits None octets = Unit {0}
+ReadFits None octets = octets ≡ []
 ReadFits (Some answer) octets = FitsGot answer octets
 
 -- messages that are put into the pipe, in order

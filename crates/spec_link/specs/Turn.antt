@@ -213,28 +213,38 @@ PutsLast b s acts more =
     ⊎ (((CanWrite s × (b.opts.kind ≡ Push → ⊥)) → ⊥) × (more ≡ []))
 
 -- a link that is over: what is held is put, where no reading part came before; where the stream is refused, one write of what is left; and the link is let go. An accepted session asks its end and asks to end.
-pub record ClosesLink (b : Basis) (s : Standing) (unread : Type 0) (acts : List LinkAct) (cause : LinkEnd) (now : ℕ) (more : List SessionEvent) : Type 0 where
+pub record ClosesLink (b : Basis) (s : Standing) (unread answered : Type 0) (acts : List LinkAct) (cause : LinkEnd) (now : ℕ) (more : List SessionEvent) : Type 0 where
   pub puts : List LinkAct
   pub last : List LinkAct
   pub asks : List SessionEvent
   pub over : List SessionEvent
   pub all : more ≡ map (λ a. Acted a) (puts ++ last) ++ (Closed now cause ∷ (asks ++ over))
   pub puts_are : (unread × PutsLast b s acts puts) ⊎ ((unread → ⊥) × (puts ≡ []))
-  pub refused : IsEnded acts ⊎ IsWriteOnly b (acts ++ puts) last
-  pub ended : IsEnded acts → last ≡ []
+  pub refused : answered ⊎ IsWriteOnly b (acts ++ puts) last
+  pub silent : answered → last ≡ []
   pub asks_are : DueOnce s ((b.dials ≡ false) × (IsSome s.state × (s.state ≡ Some Gone → ⊥))) (Request (AskEnd b.end Link)) asks
-  pub over_is : DueOnce s (b.dials ≡ false) (Request (AskOver b.object)) over
+  pub over_is : DueOnce (after_all b s asks) (b.dials ≡ false) (Request (AskOver b.object)) over
 
 -- why a link is over behind these acts: an answer ended it, or what was heard is refused
 abbrev pub IsOverBy : Basis → (acts behind : List LinkAct) → LinkEnd → Type 0
 IsOverBy b acts behind cause = IsEndedBy behind cause ⊎ ((IsEnded behind → ⊥) × IsRefusedBy b (acts ++ behind) cause)
 
--- the handshake of an accepted session that wasn't told is done
+-- it said before that its handshake is done
+abbrev pub WasShaken : Basis → Standing → Type 0
+WasShaken b s = (peer : Peer) × WasDue s (Request (Shaken b.object peer))
+
+-- the handshake is done with this peer, and nothing is refused
+abbrev pub IsShakenBy : Basis → List LinkAct → Peer → Type 0
+IsShakenBy b acts peer = (d : Decoded) → Decodes b.opts (heard_of acts) d → IsRunning d × (d.peer ≡ Some peer)
+
+-- an accepted session that wasn't told says once that its handshake is done
+abbrev pub MayShake : Basis → Standing → Type 0
+MayShake b s = (b.dials ≡ false) × ((IsTold s → ⊥) × (WasShaken b s → ⊥))
+
 abbrev pub ShakenIsDue : Basis → Standing → List LinkAct → List SessionEvent → Type 0
 ShakenIsDue b s acts events =
-    ((peer : Peer) × ((d : Decoded) → Decodes b.opts (heard_of acts) d → IsRunning d × (d.peer ≡ Some peer))
-    × DueOnce s ((b.dials ≡ false) × (IsTold s → ⊥)) (Request (Shaken b.object peer)) events)
-    ⊎ ((((d : Decoded) → Decodes b.opts (heard_of acts) d → IsRunning d) → ⊥) × (events ≡ []))
+    ((peer : Peer) × IsShakenBy b acts peer × MayShake b s × (events ≡ IsDue (Request (Shaken b.object peer)) ∷ []))
+    ⊎ (((peer : Peer) → IsShakenBy b acts peer → MayShake b s → ⊥) × (events ≡ []))
 
 -- a turn with a link: the writing part; the reading part where the link stands; the delimiter where the take met it; the handshake where it is done; and the end of the link where it is over
 pub record IsLinkedTurn (b : Basis) (s : Standing) (acts : List LinkAct) (now : ℕ) (more : List SessionEvent) : Type 0 where
@@ -247,9 +257,11 @@ pub record IsLinkedTurn (b : Basis) (s : Standing) (acts : List LinkAct) (now : 
   pub write : WritesAt b s acts writes
   pub read : (IsEnded writes × (reads ≡ [])) ⊎ ((IsEnded writes → ⊥) × ReadsAt b s (acts ++ writes) reads)
   pub delimiter_is : DelimiterIsDue b s writes delimiter
-  pub shaken_is : ShakenIsDue b s (acts ++ (writes ++ reads)) shaken
-  pub stands : ((cause : LinkEnd) → IsOverBy b acts (writes ++ reads) cause → ⊥) → closes ≡ []
-  pub over : (cause : LinkEnd) → IsOverBy b acts (writes ++ reads) cause → ClosesLink b s (IsEnded writes) (acts ++ (writes ++ reads)) cause now closes
+  pub shaken_is : ShakenIsDue b (after_all b s (map (λ a. Acted a) (writes ++ reads) ++ delimiter)) (acts ++ (writes ++ reads)) shaken
+  pub closing :
+      ((cause : LinkEnd) × IsOverBy b acts (writes ++ reads) cause
+      × ClosesLink b (after_all b s (map (λ a. Acted a) (writes ++ reads) ++ (delimiter ++ shaken))) (IsEnded writes) (IsEnded (writes ++ reads)) (acts ++ (writes ++ reads)) cause now closes)
+      ⊎ (((cause : LinkEnd) → IsOverBy b acts (writes ++ reads) cause → ⊥) × (closes ≡ []))
 
 -- ---- the turn
 
@@ -270,5 +282,5 @@ pub record IsTurn (b : Basis) (s : Standing) (now : ℕ) (more : List SessionEve
   pub all : more ≡ gives ++ (output ++ (over ++ works))
   pub gives_up : Exactly ((s.gave_up ≡ false) × LingerIsOver b.linger s.told now) (GivesUp b s) gives
   pub output_is : DueOnce (after_all b s gives) (IsTold s × ((s.waits ≡ true) × HasNoOutput b (after_all b s gives))) (Request (OutputOver b.object)) output
-  pub over_is : DueOnce (after_all b s gives) ((IsTold s → ⊥) × (s.state ≡ Some Gone)) (Request (AskOver b.object)) over
+  pub over_is : DueOnce (after_all b s (gives ++ output)) ((IsTold s → ⊥) × (s.state ≡ Some Gone)) (Request (AskOver b.object)) over
   pub works_as : Works b (after_all b s (gives ++ (output ++ over))) now works

@@ -1,3 +1,13 @@
 pub mod KeptLemmas
 pub mod RestLemmas
 pub mod PartLemmas
+pub mod SilentLemmas
+pub mod ListLemmas
+pub mod LifeLemmas
+pub mod HalfLemmas
+pub mod BothLemmas
+pub mod AtLemmas
+pub mod CourseLemmas
+pub mod UnlinkedLemmas
+pub mod TurnLemmas
+pub mod SessionLemmas

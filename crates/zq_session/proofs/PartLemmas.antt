@@ -70,6 +70,7 @@ module _ {S O I N : Type 0} (K : Known S O I N) where
       record {
         octets = octets;
         found = None;
+        fits = fits;
         told = told;
         look = refl;
         took = (refl, refl);
@@ -98,6 +99,7 @@ module _ {S O I N : Type 0} (K : Known S O I N) where
       record {
         octets = octets;
         found = Some found;
+        fits = fits;
         told = told;
         look = ap Some is;
         took = takes;
@@ -137,7 +139,7 @@ module _ {S O I N : Type 0} (K : Known S O I N) where
   -- ---- the reading part
 
   -- what was put stops where nothing waits, or at a full pipe
-  stops : (pipe : PipeId) (ms : List Frames) (full : Bool) (X Y : Type 0) → (full ≡ true → X) → (full ≡ false → Y) → PutsAll X Y pipe (put_acts pipe ms full)
+  pub stops : (pipe : PipeId) (ms : List Frames) (full : Bool) (X Y : Type 0) → (full ≡ true → X) → (full ≡ false → Y) → PutsAll X Y pipe (put_acts pipe ms full)
   stops pipe ms false X Y f g = (ms, inl (append-nil (puts pipe ms), g refl))
   stops pipe ms true X Y f g = (ms, inr (refl, f refl))
 
@@ -154,6 +156,7 @@ module _ {S O I N : Type 0} (K : Known S O I N) where
         octets = octets;
         messages = ms;
         full = full;
+        fits = fits;
         told = told;
         puts = puts_are;
         run = all;
@@ -178,6 +181,7 @@ module _ {S O I N : Type 0} (K : Known S O I N) where
     octets = r.octets;
     messages = r.messages;
     full = r.full;
+    fits = r.fits;
     told = r.told;
     puts = r.puts;
     run = r.run;

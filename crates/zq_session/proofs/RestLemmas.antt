@@ -149,7 +149,7 @@ rest_new opts k none f now =
 
 -- ---- what may be taken
 
-running_by : (o : Outcome) (q : Option Peer) (peer : Peer) → standing_at o q ≡ Runs peer → (q ≡ Some peer) × ((n : ℕ) × (o ≡ Unfinished n))
+pub running_by : (o : Outcome) (q : Option Peer) (peer : Peer) → standing_at o q ≡ Runs peer → (q ≡ Some peer) × ((n : ℕ) × (o ≡ Unfinished n))
 running_by (Refused r) q peer e = absurd cc
 running_by (Unfinished n) None peer e = absurd cc
 running_by (Unfinished n) (Some x) peer e = (cc, (n, refl))
@@ -175,7 +175,7 @@ pub stands_as : (s : Standing) (opts : EngineOpts) (acts : List LinkAct) (k : Ke
     → (d : Decoded) → Decodes opts (heard_of acts) d → s ≡ standing_at d.outcome d.peer
 stands_as s opts acts k none now says r d decodes = says (past_by opts acts r.heard k.held r.put) d r.follows now (rest_left opts acts k none r d decodes).meaning
 
-known_some : (q : Option Peer) (peer : Peer) → q ≡ Some peer → IsSome q
+pub known_some : (q : Option Peer) (peer : Peer) → q ≡ Some peer → IsSome q
 known_some q peer e = subst (λ (o : Option Peer). IsSome o) (sym e) refl
 
 pub take_due : (opts : EngineOpts) (acts : List LinkAct) (k : Kept) (peer : Peer) → k.unfed ≡ [] → IsCurrent k.engine → unwritten k.engine ≡ [] → StandsAs (Runs peer) k.engine
@@ -187,7 +187,7 @@ take_due opts acts k peer none now all says r = λ d decodes.
     )
 
 -- a stream that runs isn't one that shakes hands or is refused
-running_stands : (o : Outcome) (q : Option Peer) (n : ℕ) → o ≡ Unfinished n → IsSome q → (peer : Peer) × (standing_at o q ≡ Runs peer)
+pub running_stands : (o : Outcome) (q : Option Peer) (n : ℕ) → o ≡ Unfinished n → IsSome q → (peer : Peer) × (standing_at o q ≡ Runs peer)
 running_stands (Refused r) q n e some = absurd cc
 running_stands (Unfinished m) None n e some = absurd cc
 running_stands (Unfinished m) (Some x) n e some = (x, refl)

@@ -9,7 +9,7 @@ use Rattle.msg_pipe.specs.Told.{take_step}
 use Rattle.msg_pipe.specs.declared.pipes.Taken.{Taken}
 use Rattle.msg_pipe.specs.declared.pipes.Taken.TheVariants as taken
 use Rattle.spec_link.specs.LinkAct.{LinkAct, Step}
-use Rattle.spec_link.specs.Parts.{IsTake, SomethingHeld, NothingHeld, ReadFits, IsWritePart, IsReadPart, write_acts, read_acts}
+use Rattle.spec_link.specs.Parts.{IsTake, SomethingHeld, NothingHeld, WriteFits, ReadFits, IsWritePart, IsReadPart, write_acts, read_acts}
 use Rattle.zq_session.specs.Kept.{Kept, HasRun, Acts}
 use Rattle.zq_session.specs.declared.wire.Fetched.{Fetched}
 use Rattle.zq_session.specs.declared.wire.Fetched.TheVariants as fetched
@@ -37,6 +37,7 @@ module _ {S O I N : Type 0} (K : Known S O I N) where
   pub record WritesBy (old : Kept) (done : Written) (new : Kept) (said said' : Option (List ℕ)) (s : S) (i : I) (s' : S) (i' : I) : Type 0 where
     pub octets : List ℕ
     pub found : Option Taken
+    pub fits : WriteFits done.put octets
     pub told : Adds said octets said'
     pub look : done.look ≡ option_map fetched_of found
     pub took : TookRun s i found s' i'
@@ -49,6 +50,7 @@ module _ {S O I N : Type 0} (K : Known S O I N) where
     pub octets : List ℕ
     pub messages : List Frames
     pub full : Bool
+    pub fits : ReadFits answer octets
     pub told : Adds heard octets heard'
     pub puts : PutsRun K s o messages full s' o'
     pub run : (pipe : PipeId) → Acts old (read_acts answer octets ++ put_acts pipe messages full) new

@@ -2,17 +2,24 @@
 //! pipes of its end.
 #![tactic(auto)]
 
+mod catch_up;
+mod course;
 mod dialler;
 mod laws;
+mod life;
 mod listener;
+mod parts;
 mod read_part;
+mod session;
 mod side;
+mod side_calls;
 mod wire;
 mod write_part;
 
 pub use dialler::{Dial, Dialler};
 pub use laws::what_is_kept_is_of_a_link_run;
 pub use listener::{Accepted, Listener};
+pub use session::Session;
 pub use side::LinkSide;
 pub use wire::Fetched;
 pub use write_part::Written;

@@ -19,8 +19,8 @@ use zmtp_engine::OutOfMemory;
 use zq_outer::{Link, LinkGot};
 
 impl Wire {
-    // Reads once where nothing is held and all is fed.
-    fn read_due<L: Link>(&mut self, link: &mut L) -> Option<LinkGot>
+    /// Reads once where nothing is held and all is fed.
+    pub(crate) fn read_due<L: Link>(&mut self, link: &mut L) -> Option<LinkGot>
         requires sound { IsSound self.old }
         ensures sound { IsSound self.new }
         ensures run { (octets : List ℕ)
@@ -44,8 +44,8 @@ impl Wire {
         Some(answer)
     }
 
-    // Puts what is whole into the pipe, in order, until it is full.
-    fn commit<P: Pipes>(&mut self, pipes: &mut P, out: &mut P::Out) -> bool
+    /// Puts what is whole into the pipe, in order, until it is full.
+    pub(crate) fn commit<P: Pipes>(&mut self, pipes: &mut P, out: &mut P::Out) -> bool
         requires sound { IsSound self.old }
         requires alive { IsAlive (kept self.old) }
         requires current { IsCurrent self.old.engine }

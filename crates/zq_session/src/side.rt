@@ -21,8 +21,8 @@ use zq_outer::{Link, LinkGot};
 /// wanted is behind, until a reading part goes well.
 #[derive(Drop)]
 pub struct LinkSide {
-    wire: Wire,
-    behind: bool,
+    pub(crate) wire: Wire,
+    pub(crate) behind: bool,
 }
 
 impl Model for LinkSide {

@@ -23,8 +23,8 @@ pub struct Written {
     pub look: Option<Fetched>,
 }
 
-// Whether the link is over by this answer.
-fn is_over(put: Option<LinkPut>) -> bool
+/// Whether the link is over by this answer.
+pub(crate) fn is_over(put: Option<LinkPut>) -> bool
     ensures yes { result ≡ true → IsWriteOver put }
     ensures no { result ≡ false → IsWriteOver put → ⊥ }
 {
@@ -40,8 +40,8 @@ fn is_over(put: Option<LinkPut>) -> bool
 }
 
 impl Wire {
-    // Writes once where something is to be written.
-    fn write_due<L: Link>(&mut self, link: &mut L) -> Option<LinkPut>
+    /// Writes once where something is to be written.
+    pub(crate) fn write_due<L: Link>(&mut self, link: &mut L) -> Option<LinkPut>
         requires sound { IsSound self.old }
         requires rest { IsAtRest (kept self.old) }
         ensures sound { IsSound self.new }

@@ -1,4 +1,4 @@
-use Rattle.std.proofs.Common.{[], Option, ap}
+use Rattle.std.proofs.Common.{[], Option, refl, ap}
 use Rattle.std.specs.Prelude.{is_some}
 use Rattle.zq_base.specs.Message.{Frames}
 use Rattle.zq_session.specs.WireView.{kept}
@@ -8,10 +8,10 @@ use Rattle.zq_session.proofs.RestLemmas.{nothing_held, something_held, rest_whol
 use Rattle.zq_session.proofs.wire.Wire.read_due.Goals as goal
 
 pub returns-then-self-clause-run : goal.returns-then-self-clause-run
-returns-then-self-clause-run g c = ([], no_acts (kept c.args.self.now), adds_none _, tt)
+returns-then-self-clause-run g c = ([], no_acts (kept c.args.self.now), adds_none _, refl)
 
 pub returns-in-Some-clause-run : goal.returns-in-Some-clause-run
-returns-in-Some-clause-run g c = ([], no_acts (kept c.args.self.now), adds_none _, tt)
+returns-in-Some-clause-run g c = ([], no_acts (kept c.args.self.now), adds_none _, refl)
 
 pub returns-in-Some-clause-due : goal.returns-in-Some-clause-due
 returns-in-Some-clause-due g c = λ rest opts acts r.

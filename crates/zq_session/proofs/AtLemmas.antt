@@ -1,0 +1,178 @@
+-- What the calls at a link do, by the half that is there.
+use Rattle.std.proofs.Common.{◌≡◌, ℕ, Bool, true, false, List, [], ◌∷◌, ◌++◌, Option, Some, None, refl, sym, ap, subst, ◌∙◌, inl, inr}
+use Rattle.std.specs.Prelude.{◌⊎◌, IsSome, option_map}
+use Rattle.std.specs.List.{flat_map}
+use Rattle.std.proofs.lemmas.List.{append-nil}
+use Rattle.zq_base.specs.Message.{Frames}
+use Rattle.zq_base.specs.Ends.{PipeId}
+use Rattle.zq_base.specs.declared.options.EngineOpts.{EngineOpts}
+use Rattle.zq_outer.specs.declared.link.LinkGot.{LinkGot}
+use Rattle.zq_outer.specs.declared.link.LinkPut.{LinkPut}
+use Rattle.msg_pipe.specs.Known.{Known}
+use Rattle.msg_pipe.specs.Told.{take_step}
+use Rattle.msg_pipe.specs.declared.pipes.Taken.{Taken}
+use Rattle.msg_pipe.specs.declared.pipes.Taken.TheVariants as taken
+use Rattle.spec_pattern.specs.PipeStep.{PipeStep}
+use Rattle.spec_link.specs.LinkAct.{LinkAct, Step, said_of, heard_of}
+use Rattle.spec_link.specs.Parts.{IsSilentReadPart, NothingHeld, write_acts, read_acts}
+use Rattle.spec_link.specs.History.{Basis}
+use Rattle.spec_link.specs.Turn.{IsWriteOnly}
+use Rattle.zq_session.specs.declared.write_part.Written.{Written}
+use Rattle.zq_session.specs.declared.life.ReadMode.TheVariants as mode
+use Rattle.zq_session.specs.Kept.{Kept, HasRun, Acts}
+use Rattle.zq_session.specs.Calls.{Adds, TakeRun, PutsRun, put_acts}
+use Rattle.zq_session.specs.Works.{take_acts, fetched_of, TookRun, WritesBy, ReadsBy}
+use Rattle.zq_session.specs.Silent.{HearsBy}
+use Rattle.zq_session.specs.Single.{WritesAlone, PutsBy}
+use Rattle.zq_session.specs.Halves.{AtIn, StepRun, StepsRun, step_in}
+use Rattle.zq_session.specs.Doing.{WritesAtBy, ReadsAtBy}
+use Rattle.zq_session.specs.BothParts.{LastBy}
+use Rattle.zq_session.proofs.KeptLemmas.{acts_same, no_acts}
+use Rattle.zq_session.proofs.PartLemmas.{adds_none}
+use Rattle.zq_session.proofs.HalfLemmas.{no_steps, one_step, puts_steps}
+use Rattle.zq_session.proofs.BothLemmas.{write_says, write_hears, write_steps, put_says, put_hears}
+
+no_true : (b : Bool) → b ≡ false → b ≡ true → ⊥
+no_true b e d = absurd cc
+
+-- a list with nothing behind it
+or_nothing : (P : List LinkAct → Type 0) (xs : List LinkAct) → P xs → P (xs ++ [])
+or_nothing P xs k = subst P (sym (append-nil xs)) k
+
+module _ {S O I N : Type 0} (K : Known S O I N) where
+  -- ---- the writing part
+
+  pub alone_at : (can_read : Bool) (k0 k1 : Kept) (put : Option LinkPut) (said said' : Option (List ℕ)) (s : S) (i : Option I) → can_read ≡ false → (w : WritesAlone k0 put k1 said said')
+      → WritesAtBy K can_read k0 (record { put = put; look = None }) k1 said said' s i s i
+  alone_at can_read k0 k1 put said said' s i e w = record {
+    octets = w.octets;
+    found = None;
+    fits = w.fits;
+    told = w.told;
+    look = refl;
+    steps = λ pipe o. no_steps K s i o;
+    run = λ pipe. acts_same k0 k1 (write_acts put w.octets) (write_acts put w.octets ++ []) (sym (append-nil (write_acts put w.octets))) w.run;
+    takes = λ d. absurd (no_true can_read e d);
+    alone = λ d pipe b acts r. or_nothing (λ l. IsWriteOnly b acts l) (write_acts put w.octets) (w.part b acts r);
+  }
+
+  take_run : (pipe : PipeId) (found : Taken) (s s' : S) (h h' : I) (o : Option O) → TakeRun K s h found s' h' → StepRun K (take_step pipe found) s (Some h) o s' (Some h') o
+  take_run pipe (taken.Item m) s s' h h' o r = record { old = h; new = h'; was = refl; is = refl; other = refl; runs = r }
+  take_run pipe taken.Empty s s' h h' o r = record { old = h; new = h'; was = refl; is = refl; other = refl; runs = r }
+  take_run pipe taken.Delimiter s s' h h' o r = record { old = h; new = h'; was = refl; is = refl; other = refl; runs = r }
+
+  took_steps : (pipe : PipeId) (found : Option Taken) (s s' : S) (h h' : I) (o : Option O) → TookRun K s h found s' h' → StepsRun K (flat_map step_in (take_acts pipe found)) s (Some h) o s' (Some h') o
+  took_steps pipe None s s' h h' o r = (r.0, (ap (λ (x : I). Some x) r.1, refl))
+  took_steps pipe (Some found) s s' h h' o r = one_step K (take_step pipe found) s s' (Some h) (Some h') o o (take_run pipe found s s' h h' o r)
+
+  pub took_at : (can_read : Bool) (k0 k1 : Kept) (done : Written) (said said' : Option (List ℕ)) (s s' : S) (i i' : Option I) (h h' : I) → can_read ≡ true → i ≡ Some h → i' ≡ Some h'
+      → (w : WritesBy K k0 done k1 said said' s h s' h') → WritesAtBy K can_read k0 done k1 said said' s i s' i'
+  took_at can_read k0 k1 done said said' s s' i i' h h' e was is w = record {
+    octets = w.octets;
+    found = w.found;
+    fits = w.fits;
+    told = w.told;
+    look = w.look;
+    steps = λ pipe o.
+        subst (λ (x : Option I). StepsRun K (flat_map step_in (take_acts pipe w.found)) s x o s' i' o) (sym was)
+        (subst (λ (x : Option I). StepsRun K (flat_map step_in (take_acts pipe w.found)) s (Some h) o s' x o) (sym is)
+        (took_steps pipe w.found s s' h h' o w.took));
+    run = w.run;
+    takes = λ d pipe opts acts r. w.part pipe opts acts r;
+    alone = λ d. absurd (no_true can_read d e);
+  }
+
+  -- ---- the reading part
+
+  pub reads_none : (k : Kept) (heard : Option (List ℕ)) (s : S) (o : Option O) → ReadsAtBy K mode.Nothing k None k heard heard s o s o
+  reads_none k heard s o = record {
+    octets = [];
+    messages = [];
+    full = false;
+    fits = refl;
+    told = adds_none heard;
+    steps = λ pipe i. no_steps K s i o;
+    run = λ pipe. no_acts k;
+    part = λ pipe opts acts r. refl;
+  }
+
+  pub reads_puts : (A : Type 0) (k0 k1 : Kept) (got : Option LinkGot) (heard heard' : Option (List ℕ)) (s s' : S) (o o' : Option O) (h h' : O) → A → o ≡ Some h → o' ≡ Some h'
+      → (r : ReadsBy K A k0 got k1 heard heard' s h s' h') → ReadsAtBy K mode.Puts k0 got k1 heard heard' s o s' o'
+  reads_puts A k0 k1 got heard heard' s s' o o' h h' rest was is r = record {
+    octets = r.octets;
+    messages = r.messages;
+    full = r.full;
+    fits = r.fits;
+    told = r.told;
+    steps = λ pipe i.
+        subst (λ (x : Option O). StepsRun K (flat_map step_in (put_acts pipe r.messages r.full)) s i x s' i o') (sym was)
+        (subst (λ (x : Option O). StepsRun K (flat_map step_in (put_acts pipe r.messages r.full)) s i (Some h) s' i x) (sym is)
+        (puts_steps K pipe r.messages r.full s s' i h h' r.puts));
+    run = r.run;
+    part = λ pipe opts acts run. r.part rest pipe opts acts run;
+  }
+
+  pub reads_holds : (k0 k1 : Kept) (got : Option LinkGot) (heard heard' : Option (List ℕ)) (s : S) (o : Option O) → (r : HearsBy k0 got k1 heard heard')
+      → ReadsAtBy K mode.Holds k0 got k1 heard heard' s o s o
+  reads_holds k0 k1 got heard heard' s o r = record {
+    octets = r.octets;
+    messages = [];
+    full = false;
+    fits = r.fits;
+    told = r.told;
+    steps = λ pipe i. no_steps K s i o;
+    run = λ pipe. acts_same k0 k1 (read_acts got r.octets) (read_acts got r.octets ++ []) (sym (append-nil (read_acts got r.octets))) r.run;
+    part = λ pipe opts acts run. or_nothing (λ l. IsSilentReadPart (NothingHeld opts acts) l) (read_acts got r.octets) (r.part opts acts run);
+  }
+
+  -- ---- the last acts
+
+  pub last_says : (refused puts : Bool) (pipe : PipeId) (k0 k1 : Kept) (put : Option LinkPut) (said said' : Option (List ℕ)) (s : S) (o : Option O) → refused ≡ true → puts ≡ false → (w : WritesAlone k0 put k1 said said')
+      → LastBy K refused puts pipe k0 k1 said said' s o s o
+  last_says refused puts pipe k0 k1 put said said' s o e d w = record {
+    put_last = [];
+    said_last = write_acts put w.octets;
+    said_is = subst (λ (x : List ℕ). Adds said x said') (sym (write_says put w.octets w.fits)) w.told;
+    hears = write_hears put w.octets;
+    steps = λ i. subst (λ (l : List PipeStep). StepsRun K l s i o s i o) (sym (write_steps put w.octets)) (no_steps K s i o);
+    run = w.run;
+    all = λ x. absurd (no_true puts d x);
+    none = λ _. refl;
+    says = λ _ b acts r. w.part b acts r;
+    silent = λ x. absurd (no_true refused x e);
+  }
+
+  pub last_puts : (refused puts : Bool) (pipe : PipeId) (k0 k1 : Kept) (said : Option (List ℕ)) (s s' : S) (o o' : Option O) (h h' : O) → refused ≡ false → puts ≡ true → o ≡ Some h → o' ≡ Some h'
+      → (w : PutsBy K k0 k1 s h s' h') → LastBy K refused puts pipe k0 k1 said said s o s' o'
+  last_puts refused puts pipe k0 k1 said s s' o o' h h' e d was is w =
+      let acts_put = put_acts pipe w.messages w.full in
+      record {
+        put_last = acts_put;
+        said_last = [];
+        said_is = subst (λ (x : List ℕ). Adds said x said) (sym (ap (λ (l : List LinkAct). said_of l) (append-nil acts_put) ∙ put_says pipe w.messages w.full)) (adds_none said);
+        hears = ap (λ (l : List LinkAct). heard_of l) (append-nil acts_put) ∙ put_hears pipe w.messages w.full;
+        steps = λ i. subst (λ (l : List LinkAct). StepsRun K (flat_map step_in l) s i o s' i o') (sym (append-nil acts_put))
+            (subst (λ (x : Option O). StepsRun K (flat_map step_in acts_put) s i x s' i o') (sym was)
+            (subst (λ (x : Option O). StepsRun K (flat_map step_in acts_put) s i (Some h) s' i x) (sym is)
+            (puts_steps K pipe w.messages w.full s s' i h h' w.puts)));
+        run = acts_same k0 k1 acts_put (acts_put ++ []) (sym (append-nil acts_put)) (w.run pipe);
+        all = λ _ opts acts r. w.part pipe opts acts r;
+        none = λ x. absurd (no_true puts x d);
+        says = λ x. absurd (no_true refused e x);
+        silent = λ _. refl;
+      }
+
+  pub last_nothing : (refused puts : Bool) (pipe : PipeId) (k : Kept) (said : Option (List ℕ)) (s : S) (o : Option O) → refused ≡ false → puts ≡ false
+      → LastBy K refused puts pipe k k said said s o s o
+  last_nothing refused puts pipe k said s o e d = record {
+    put_last = [];
+    said_last = [];
+    said_is = adds_none said;
+    hears = refl;
+    steps = λ i. no_steps K s i o;
+    run = no_acts k;
+    all = λ x. absurd (no_true puts d x);
+    none = λ _. refl;
+    says = λ x. absurd (no_true refused e x);
+    silent = λ _. refl;
+  }

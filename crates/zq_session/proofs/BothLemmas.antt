@@ -1,0 +1,411 @@
+-- The two parts of a turn, by how the session stands.
+use Rattle.std.proofs.Common.{◌≡◌, ◌<◌, ℕ, zero, suc, Bool, true, false, List, [], ◌∷◌, ◌++◌, length, drop, Option, Some, None, refl, sym, ap, subst, ◌∙◌, inl, inr, arith}
+use Rattle.std.specs.Prelude.{◌⊎◌, ◌&&◌, if◌then◌else◌, Contains, IsSome, MatchOption, option_map}
+use Rattle.std.specs.List.{flat_map}
+use Rattle.std.proofs.lemmas.List.{append-nil}
+use Rattle.std.proofs.lemmas.List.Concat.{flat_map-append}
+use Rattle.zq_base.specs.Message.{Frames}
+use Rattle.zq_base.specs.Ends.{PipeId}
+use Rattle.zq_base.specs.declared.options.EngineOpts.{EngineOpts}
+use Rattle.zq_base.specs.declared.kind.Kind.TheVariants.{Push}
+use Rattle.zq_outer.specs.declared.link.LinkGot.{LinkGot}
+use Rattle.zq_outer.specs.declared.link.LinkPut.{LinkPut}
+use Rattle.zq_outer.specs.declared.link.LinkPut.TheVariants as link_put
+use Rattle.msg_pipe.specs.Known.{Known}
+use Rattle.msg_pipe.specs.Told.{take_step}
+use Rattle.msg_pipe.specs.declared.pipes.Taken.{Taken}
+use Rattle.msg_pipe.specs.declared.pipes.Taken.TheVariants as taken
+use Rattle.spec_pattern.specs.PipeStep.{PipeStep, Commit, FullLook, Take, EmptyLook, DelimiterLook, read_through}
+use Rattle.spec_pattern.specs.Topics.{Topic}
+use Rattle.spec_control.specs.declared.end.EndState.{EndState}
+use Rattle.spec_control.specs.declared.end.EndState.TheVariants.{Active}
+use Rattle.spec_link.specs.declared.row.LinkEnd.{LinkEnd}
+use Rattle.spec_link.specs.declared.row.LinkEnd.TheVariants as why
+use Rattle.spec_link.specs.LinkAct.{LinkAct, Wire, Step, Writes, Reads, said_by, heard_by, said_of, heard_of, taken_of, repeated_of}
+use Rattle.spec_link.specs.Parts.{IsTake, IsWritePart, IsReadPart, IsSilentReadPart, IsWriteOver, NothingHeld, WriteFits, ReadFits, write_acts, read_acts, puts}
+use Rattle.spec_link.specs.History.{Basis, Standing}
+use Rattle.spec_link.specs.Rows.{ClosedLink}
+use Rattle.spec_link.specs.Turn.{IsEnded, IsEndedBy, EndsBy, IsWriteOnly, IsNextOf, HasNext, WritesAt, ReadsAt, CanRead, topics_due, topics_left, topics_taken, subscribes, no_more, puts as puts_at, holds, write_end, read_end, read_pipe}
+use Rattle.zq_session.specs.declared.wire.Fetched.{Fetched}
+use Rattle.zq_session.specs.declared.wire.Fetched.TheVariants as fetched
+use Rattle.zq_session.specs.declared.write_part.Written.{Written}
+use Rattle.zq_session.specs.declared.life.Life.{Life}
+use Rattle.zq_session.specs.declared.life.ReadMode.{ReadMode}
+use Rattle.zq_session.specs.declared.life.ReadMode.TheVariants as mode
+use Rattle.zq_session.specs.declared.parts.Done.{Done}
+use Rattle.zq_session.specs.Kept.{Kept, HasRun, Acts}
+use Rattle.zq_session.specs.Calls.{Adds, full_acts, put_acts}
+use Rattle.zq_session.specs.Works.{take_acts, fetched_of, WantsBy}
+use Rattle.zq_session.specs.Lives.{Story, basis_of, standing_of}
+use Rattle.zq_session.specs.LifeView.{IsReadable, IsWritable}
+use Rattle.zq_session.specs.Halves.{StepsRun, step_in}
+use Rattle.zq_session.specs.Doing.{WritesAtBy, ReadsAtBy, ReadsAs, IsReading, EndsAs}
+use Rattle.zq_session.specs.BothParts.{IsPlain, AreParts, AreCut, PartsBy, CutBy}
+use Rattle.zq_session.proofs.KeptLemmas.{acts_on}
+use Rattle.zq_session.proofs.ListLemmas.{in_either, in_left, in_right, in_one, the_one, in_none}
+use Rattle.zq_session.proofs.HalfLemmas.{steps_on}
+
+-- ---- what the acts add up to
+
+added : {A : Type 0} (f : LinkAct → List A) (xs ys : List LinkAct) (m n : List A) → flat_map f xs ≡ m → flat_map f ys ≡ n → flat_map f (xs ++ ys) ≡ m ++ n
+added f xs ys m n e d = flat_map-append f xs ys ∙ ap (λ (l : List _). l ++ flat_map f ys) e ∙ ap (λ (l : List _). m ++ l) d
+
+pub write_says : (answer : Option LinkPut) (octets : List ℕ) → WriteFits answer octets → said_of (write_acts answer octets) ≡ octets
+write_says None octets fits = sym fits
+write_says (Some a) octets fits = append-nil octets
+
+pub write_hears : (answer : Option LinkPut) (octets : List ℕ) → heard_of (write_acts answer octets) ≡ []
+write_hears None octets = refl
+write_hears (Some a) octets = refl
+
+pub write_steps : (answer : Option LinkPut) (octets : List ℕ) → flat_map step_in (write_acts answer octets) ≡ []
+write_steps None octets = refl
+write_steps (Some a) octets = refl
+
+take_says : (pipe : PipeId) (found : Option Taken) → said_of (take_acts pipe found) ≡ []
+take_says pipe None = refl
+take_says pipe (Some x) = refl
+
+take_hears : (pipe : PipeId) (found : Option Taken) → heard_of (take_acts pipe found) ≡ []
+take_hears pipe None = refl
+take_hears pipe (Some x) = refl
+
+read_says : (answer : Option LinkGot) (octets : List ℕ) → said_of (read_acts answer octets) ≡ []
+read_says None octets = refl
+read_says (Some a) octets = refl
+
+read_hears : (answer : Option LinkGot) (octets : List ℕ) → ReadFits answer octets → heard_of (read_acts answer octets) ≡ octets
+read_hears None octets fits = sym fits
+read_hears (Some a) octets fits = append-nil octets
+
+read_steps : (answer : Option LinkGot) (octets : List ℕ) → flat_map step_in (read_acts answer octets) ≡ []
+read_steps None octets = refl
+read_steps (Some a) octets = refl
+
+pub put_says : (pipe : PipeId) (ms : List Frames) (full : Bool) → said_of (put_acts pipe ms full) ≡ []
+put_says pipe [] false = refl
+put_says pipe [] true = refl
+put_says pipe (m ∷ ms) full = put_says pipe ms full
+
+pub put_hears : (pipe : PipeId) (ms : List Frames) (full : Bool) → heard_of (put_acts pipe ms full) ≡ []
+put_hears pipe [] false = refl
+put_hears pipe [] true = refl
+put_hears pipe (m ∷ ms) full = put_hears pipe ms full
+
+-- ---- answers that end a link
+
+step_never : (step : PipeStep) (cause : LinkEnd) → EndsBy (Step step) cause → ⊥
+step_never step cause (inl e) = (let x = e.2 in absurd cc)
+step_never step cause (inr e) = (let x = e.2 in absurd cc)
+
+write_by : (a : LinkPut) (octets : List ℕ) (cause : LinkEnd) → EndsBy (Wire (Writes a octets)) cause → write_end a ≡ Some cause
+write_by a octets cause (inl e) = (let x = e.2 in let same : a ≡ e.0 = cc in ap (λ (y : LinkPut). write_end y) same ∙ e.3)
+write_by a octets cause (inr e) = (let x = e.2 in absurd cc)
+
+read_by : (a : LinkGot) (octets : List ℕ) (cause : LinkEnd) → EndsBy (Wire (Reads a octets)) cause → read_end a ≡ Some cause
+read_by a octets cause (inl e) = (let x = e.2 in absurd cc)
+read_by a octets cause (inr e) = (let x = e.2 in let same : a ≡ e.0 = cc in ap (λ (y : LinkGot). read_end y) same ∙ e.3)
+
+ends_write : (put : Option LinkPut) (octets : List ℕ) (act : LinkAct) (cause : LinkEnd) → Contains (write_acts put octets) act → EndsBy act cause → (a : LinkPut) × (put ≡ Some a) × (write_end a ≡ Some cause)
+ends_write None octets act cause c e = in_none act c
+ends_write (Some a) octets act cause c e =
+    (a, refl, write_by a octets cause (subst (λ (x : LinkAct). EndsBy x cause) (sym (in_one (Wire (Writes a octets)) act c.0 c.1 c.2)) e))
+
+ends_read : (got : Option LinkGot) (octets : List ℕ) (act : LinkAct) (cause : LinkEnd) → Contains (read_acts got octets) act → EndsBy act cause → (a : LinkGot) × (got ≡ Some a) × (read_end a ≡ Some cause)
+ends_read None octets act cause c e = in_none act c
+ends_read (Some a) octets act cause c e =
+    (a, refl, read_by a octets cause (subst (λ (x : LinkAct). EndsBy x cause) (sym (in_one (Wire (Reads a octets)) act c.0 c.1 c.2)) e))
+
+ends_take : (pipe : PipeId) (found : Option Taken) (act : LinkAct) (cause : LinkEnd) → Contains (take_acts pipe found) act → EndsBy act cause → ⊥
+ends_take pipe None act cause c e = in_none act c
+ends_take pipe (Some x) act cause c e = step_never (take_step pipe x) cause (subst (λ (y : LinkAct). EndsBy y cause) (sym (in_one (Step (take_step pipe x)) act c.0 c.1 c.2)) e)
+
+pub ends_put : (pipe : PipeId) (ms : List Frames) (full : Bool) (act : LinkAct) (cause : LinkEnd) → Contains (put_acts pipe ms full) act → EndsBy act cause → ⊥
+ends_put pipe [] false act cause c e = in_none act c
+ends_put pipe [] true act cause c e = step_never (FullLook pipe) cause (subst (λ (y : LinkAct). EndsBy y cause) (sym (in_one (Step (FullLook pipe)) act c.0 c.1 c.2)) e)
+ends_put pipe (m ∷ ms) full act cause c e =
+    elim (in_either (Step (Commit pipe m) ∷ []) (put_acts pipe ms full) act c) as (λ _. ⊥) [
+      | inl k ↦ step_never (Commit pipe m) cause (subst (λ (y : LinkAct). EndsBy y cause) (sym (in_one (Step (Commit pipe m)) act k.0 k.1 k.2)) e)
+      | inr k ↦ ends_put pipe ms full act cause k e
+    ]
+
+-- the writing part of these
+abbrev pub writing : Option LinkPut → List ℕ → PipeId → Option Taken → List LinkAct
+writing put octets pipe found = write_acts put octets ++ take_acts pipe found
+
+abbrev pub reading : Option LinkGot → List ℕ → PipeId → List Frames → Bool → List LinkAct
+reading got octets pipe ms full = read_acts got octets ++ put_acts pipe ms full
+
+pub ends_writing : (put : Option LinkPut) (octets : List ℕ) (pipe : PipeId) (found : Option Taken) (cause : LinkEnd) → IsEndedBy (writing put octets pipe found) cause
+    → (a : LinkPut) × (put ≡ Some a) × (write_end a ≡ Some cause)
+ends_writing put octets pipe found cause e =
+    elim (in_either (write_acts put octets) (take_acts pipe found) e.0 e.1) as (λ _. (a : LinkPut) × (put ≡ Some a) × (write_end a ≡ Some cause)) [
+      | inl c ↦ ends_write put octets e.0 cause c e.2
+      | inr c ↦ absurd (ends_take pipe found e.0 cause c e.2)
+    ]
+
+ends_reading : (got : Option LinkGot) (octets : List ℕ) (pipe : PipeId) (ms : List Frames) (full : Bool) (cause : LinkEnd) → IsEndedBy (reading got octets pipe ms full) cause
+    → (a : LinkGot) × (got ≡ Some a) × (read_end a ≡ Some cause)
+ends_reading got octets pipe ms full cause e =
+    elim (in_either (read_acts got octets) (put_acts pipe ms full) e.0 e.1) as (λ _. (a : LinkGot) × (got ≡ Some a) × (read_end a ≡ Some cause)) [
+      | inl c ↦ ends_read got octets e.0 cause c e.2
+      | inr c ↦ absurd (ends_put pipe ms full e.0 cause c e.2)
+    ]
+
+writing_ends : (put : Option LinkPut) (octets : List ℕ) (more : List LinkAct) (a : LinkPut) (cause : LinkEnd) → put ≡ Some a → write_end a ≡ Some cause → IsEndedBy (write_acts put octets ++ more) cause
+writing_ends put octets more a cause is e =
+    subst (λ (x : Option LinkPut). IsEndedBy (write_acts x octets ++ more) cause) (sym is)
+    (Wire (Writes a octets), (0, omega arith, refl), inl (a, octets, refl, e))
+
+reading_ends : (got : Option LinkGot) (octets : List ℕ) (more : List LinkAct) (a : LinkGot) (cause : LinkEnd) → got ≡ Some a → read_end a ≡ Some cause → IsEndedBy (read_acts got octets ++ more) cause
+reading_ends got octets more a cause is e =
+    subst (λ (x : Option LinkGot). IsEndedBy (read_acts x octets ++ more) cause) (sym is)
+    (Wire (Reads a octets), (0, omega arith, refl), inr (a, octets, refl, e))
+
+-- no answer ends a link that stands by it
+over_end : (a : LinkPut) (cause : LinkEnd) → write_end a ≡ Some cause → IsWriteOver (Some a)
+over_end (link_put.Took n) cause e = absurd cc
+over_end link_put.NotReady cause e = absurd cc
+over_end link_put.Ended cause e = inl refl
+over_end link_put.Failed cause e = inr refl
+
+pub end_over : (put : Option LinkPut) → IsWriteOver put → (cause : LinkEnd) × (a : LinkPut) × (put ≡ Some a) × (write_end a ≡ Some cause)
+end_over p (inl e) = (why.Ended, link_put.Ended, e, refl)
+end_over p (inr e) = (why.Failed, link_put.Failed, e, refl)
+
+pub not_over : (put : Option LinkPut) (octets : List ℕ) (pipe : PipeId) (found : Option Taken) → (IsWriteOver put → ⊥) → IsEnded (writing put octets pipe found) → ⊥
+not_over put octets pipe found never e =
+    let k = ends_writing put octets pipe found e.0 e.1 in
+    never (subst (λ (x : Option LinkPut). IsWriteOver x) (sym k.1) (over_end k.0 e.0 k.2))
+
+pub is_over_ends : (put : Option LinkPut) (octets : List ℕ) (pipe : PipeId) (found : Option Taken) → IsWriteOver put → IsEnded (writing put octets pipe found)
+is_over_ends put octets pipe found over =
+    let k = end_over put over in
+    (k.0, writing_ends put octets (take_acts pipe found) k.1 k.0 k.2 k.3)
+
+-- ---- the delimiter
+
+look_none : (look : Option Fetched) (found : Option Taken) → look ≡ option_map fetched_of found → look ≡ Some fetched.Delimiter → option_map fetched_of found ≡ Some fetched.Delimiter
+look_none look found e d = sym e ∙ d
+
+met_by : (pipe : PipeId) (found : Option Taken) → option_map fetched_of found ≡ Some fetched.Delimiter → Contains (take_acts pipe found) (Step (DelimiterLook pipe))
+met_by pipe None e = absurd cc
+met_by pipe (Some (taken.Item m)) e = absurd cc
+met_by pipe (Some taken.Empty) e = absurd cc
+met_by pipe (Some taken.Delimiter) e = the_one (Step (DelimiterLook pipe))
+
+pub met_in : (put : Option LinkPut) (octets : List ℕ) (pipe : PipeId) (found : Option Taken) (look : Option Fetched) → look ≡ option_map fetched_of found → look ≡ Some fetched.Delimiter
+    → Contains (writing put octets pipe found) (Step (DelimiterLook pipe))
+met_in put octets pipe found look e d = in_right (write_acts put octets) (take_acts pipe found) (Step (DelimiterLook pipe)) (met_by pipe found (look_none look found e d))
+
+wire_step : (a : LinkPut) (octets : List ℕ) (step : PipeStep) → Wire (Writes a octets) ≡ Step step → ⊥
+wire_step a octets step e = absurd cc
+
+unwritten : (put : Option LinkPut) (octets : List ℕ) (step : PipeStep) → Contains (write_acts put octets) (Step step) → ⊥
+unwritten None octets step c = in_none (Step step) c
+unwritten (Some a) octets step c = wire_step a octets step (in_one (Wire (Writes a octets)) (Step step) c.0 c.1 c.2)
+
+steps_differ : (m : Frames) (pipe : PipeId) → Step (Take pipe m) ≡ Step (DelimiterLook pipe) → ⊥
+steps_differ m pipe e = absurd cc
+
+looks_differ : (pipe : PipeId) → Step (EmptyLook pipe) ≡ Step (DelimiterLook pipe) → ⊥
+looks_differ pipe e = absurd cc
+
+unmet_by : (pipe : PipeId) (found : Option Taken) → Contains (take_acts pipe found) (Step (DelimiterLook pipe)) → option_map fetched_of found ≡ Some fetched.Delimiter
+unmet_by pipe None c = in_none (Step (DelimiterLook pipe)) c
+unmet_by pipe (Some (taken.Item m)) c = absurd (steps_differ m pipe (in_one (Step (Take pipe m)) (Step (DelimiterLook pipe)) c.0 c.1 c.2))
+unmet_by pipe (Some taken.Empty) c = absurd (looks_differ pipe (in_one (Step (EmptyLook pipe)) (Step (DelimiterLook pipe)) c.0 c.1 c.2))
+unmet_by pipe (Some taken.Delimiter) c = refl
+
+pub unmet_in : (put : Option LinkPut) (octets : List ℕ) (pipe : PipeId) (found : Option Taken) (look : Option Fetched) → look ≡ option_map fetched_of found → (look ≡ Some fetched.Delimiter → ⊥)
+    → Contains (writing put octets pipe found) (Step (DelimiterLook pipe)) → ⊥
+unmet_in put octets pipe found look e never c =
+    elim (in_either (write_acts put octets) (take_acts pipe found) (Step (DelimiterLook pipe)) c) as (λ _. ⊥) [
+      | inl k ↦ unwritten put octets (DelimiterLook pipe) k
+      | inr k ↦ never (e ∙ unmet_by pipe found k)
+    ]
+
+-- ---- by how the session stands
+
+drop_none : {A : Type 0} (n : ℕ) (l : List A) → l ≡ [] → drop n l ≡ []
+drop_none zero [] e = refl
+drop_none (suc n) [] e = refl
+drop_none n (x ∷ l) e = absurd cc
+
+no_topics : {A : Type 0} (dials silent : Bool) (topics : List A) → silent ≡ false → (if dials && silent then topics else []) ≡ []
+no_topics true true topics e = absurd cc
+no_topics true false topics e = refl
+no_topics false silent topics e = refl
+
+-- a session of a plain kind has no topics to say again
+no_topics_left : (b : Basis) (s : Standing) (acts : List LinkAct) → subscribes b.opts.kind ≡ false → topics_left b s acts ≡ []
+no_topics_left b s acts e =
+    drop_none (length (repeated_of acts)) (topics_due b s.closed) (no_topics b.dials (subscribes b.opts.kind) (topics_taken (flat_map (λ (link : ClosedLink). taken_of link.acts) s.closed)) e)
+
+-- the writing part where these topics are left
+abbrev pub WritesWith : Basis → Standing → List Topic → (acts more : List LinkAct) → Type 0
+WritesWith b s topics acts more =
+    (HasNext s topics × IsWritePart b.opts (IsNextOf (read_pipe b) topics) acts more) ⊎ ((HasNext s topics → ⊥) × IsWriteOnly b acts more)
+
+next_part : (b : Basis) (acts more : List LinkAct) → IsWritePart b.opts (IsTake (read_pipe b)) acts more → IsWritePart b.opts (IsNextOf (read_pipe b) []) acts more
+next_part b acts more w = record {
+  answer = w.answer;
+  octets = w.octets;
+  takes = w.takes;
+  all = w.all;
+  fits = w.fits;
+  none = w.none;
+  some = w.some;
+  over = w.over;
+  take = w.take;
+  wait = w.wait;
+}
+
+pub writes_at : (b : Basis) (s : Standing) (acts more : List LinkAct) (can_read : Bool) → subscribes b.opts.kind ≡ false → (can_read ≡ true → CanRead s) → (can_read ≡ false → CanRead s → ⊥)
+    → (can_read ≡ true → IsWritePart b.opts (IsTake (read_pipe b)) acts more) → (can_read ≡ false → IsWriteOnly b acts more) → WritesAt b s acts more
+writes_at b s acts more true plain sure never takes alone =
+    subst (λ (t : List Topic). WritesWith b s t acts more) (sym (no_topics_left b s acts plain)) (inl (sure refl, next_part b acts more (takes refl)))
+writes_at b s acts more false plain sure never takes alone =
+    subst (λ (t : List Topic). WritesWith b s t acts more) (sym (no_topics_left b s acts plain)) (inr (never refl, alone refl))
+
+none_some : {X : Type 0} (o : Option EndState) (x : EndState) → o ≡ None → o ≡ Some x → X
+none_some o x e d = absurd cc
+
+pub reads_at : (b : Basis) (s : Standing) (how : ReadMode) (acts more : List LinkAct) → IsPlain b.opts → IsReading s.state s.told how → ReadsAs how b.opts b.end acts more → ReadsAt b s acts more
+reads_at b s mode.Nothing acts more plain is r = no_more is r
+reads_at b s mode.Puts acts more plain is r = puts_at (λ never. none_some s.state Active never.1 is) plain.keeps is r
+reads_at b s mode.Holds acts more plain is r = holds is.0 plain.keeps is.1 r
+
+no_answer : (a : LinkGot) → None ≡ Some a → ⊥
+no_answer a e = absurd cc
+
+module _ {S O I N : Type 0} (K : Known S O I N) where
+  -- both parts
+  pub parts_by : (l : Life) (can_read : Bool) (how : ReadMode) (k0 k1 k2 : Kept) (done : Written) (answer : Option LinkGot) (said said' heard heard' : Option (List ℕ)) (s s1 s2 : S) (i i1 : Option I) (o o2 : Option O)
+      → (can_read ≡ true → IsReadable l.state) → (can_read ≡ false → IsReadable l.state → ⊥) → IsReading l.state l.told how → (IsWriteOver done.put → ⊥)
+      → (w : WritesAtBy K can_read k0 done k1 said said' s i s1 i1) → (r : ReadsAtBy K how k1 answer k2 heard heard' s1 o s2 o2)
+      → PartsBy K l k0 (record { written = done; got = answer }) k2 said said' heard heard' s i o s2 i1 o2
+  parts_by l can_read how k0 k1 k2 done answer said said' heard heard' s s1 s2 i i1 o o2 sure never is stands w r =
+      let inward = read_through l.end in
+      let writes = writing done.put w.octets inward w.found in
+      let reads = reading answer r.octets l.end r.messages r.full in
+      record {
+        writes = writes;
+        reads = reads;
+        said_is = subst (λ (x : List ℕ). Adds said x said') (sym (added said_by writes reads w.octets []
+            (added said_by (write_acts done.put w.octets) (take_acts inward w.found) w.octets [] (write_says done.put w.octets w.fits) (take_says inward w.found) ∙ append-nil w.octets)
+            (added said_by (read_acts answer r.octets) (put_acts l.end r.messages r.full) [] [] (read_says answer r.octets) (put_says l.end r.messages r.full))
+            ∙ append-nil w.octets)) w.told;
+        heard_is = subst (λ (x : List ℕ). Adds heard x heard') (sym (added heard_by writes reads [] r.octets
+            (added heard_by (write_acts done.put w.octets) (take_acts inward w.found) [] [] (write_hears done.put w.octets) (take_hears inward w.found))
+            (added heard_by (read_acts answer r.octets) (put_acts l.end r.messages r.full) r.octets [] (read_hears answer r.octets r.fits) (put_hears l.end r.messages r.full) ∙ append-nil r.octets))) r.told;
+        steps = subst (λ (x : List PipeStep). StepsRun K x s i o s2 i1 o2)
+            (sym (added step_in writes reads (flat_map step_in (take_acts inward w.found)) (flat_map step_in (put_acts l.end r.messages r.full))
+            (added step_in (write_acts done.put w.octets) (take_acts inward w.found) [] (flat_map step_in (take_acts inward w.found)) (write_steps done.put w.octets) refl)
+            (added step_in (read_acts answer r.octets) (put_acts l.end r.messages r.full) [] (flat_map step_in (put_acts l.end r.messages r.full)) (read_steps answer r.octets) refl)))
+            (steps_on K (flat_map step_in (take_acts inward w.found)) (flat_map step_in (put_acts l.end r.messages r.full)) s s1 s2 i i1 i1 o o o2 (w.steps inward o) (r.steps l.end i1));
+        run = acts_on k0 k1 k2 writes reads (w.run inward) (r.run l.end);
+        parts = λ p acts plain run. record {
+          write = writes_at (basis_of l p) (standing_of l p) acts writes can_read plain.silent sure never
+              (λ e. w.takes e inward p.opts acts run) (λ e. w.alone e inward (basis_of l p) acts run);
+          read = inr (
+            not_over done.put w.octets inward w.found stands,
+            reads_at (basis_of l p) (standing_of l p) how (acts ++ writes) reads plain is (r.part l.end p.opts (acts ++ writes) (w.run inward p.opts acts run)),
+          );
+        };
+        met = λ e. met_in done.put w.octets inward w.found done.look w.look e;
+        unmet = λ e. unmet_in done.put w.octets inward w.found done.look w.look e;
+        ends = λ cause e. elim (in_either writes reads e.0 e.1) as (λ _. EndsAs done.put answer cause) [
+          | inl c ↦ inl (ends_writing done.put w.octets inward w.found cause (e.0, c, e.2))
+          | inr c ↦ inr (ends_reading answer r.octets l.end r.messages r.full cause (e.0, c, e.2))
+        ];
+        over = λ cause e. elim e as (λ _. IsEndedBy (writes ++ reads) cause) [
+          | inl k ↦ (let x = writing_ends done.put w.octets (take_acts inward w.found) k.0 cause k.1 k.2 in (x.0, in_left writes reads x.0 x.1, x.2))
+          | inr k ↦ (let x = reading_ends answer r.octets (put_acts l.end r.messages r.full) k.0 cause k.1 k.2 in (x.0, in_right writes reads x.0 x.1, x.2))
+        ];
+        write_over = λ over. absurd (stands over);
+        write_stands = λ never. not_over done.put w.octets inward w.found never;
+      }
+
+  -- the first alone, where the link is over
+  pub parts_over : (l : Life) (can_read : Bool) (k0 k1 : Kept) (done : Written) (said said' heard heard' : Option (List ℕ)) (s s1 : S) (i i1 : Option I) (o : Option O)
+      → (can_read ≡ true → IsReadable l.state) → (can_read ≡ false → IsReadable l.state → ⊥) → IsWriteOver done.put → Adds heard [] heard'
+      → (w : WritesAtBy K can_read k0 done k1 said said' s i s1 i1)
+      → PartsBy K l k0 (record { written = done; got = None }) k1 said said' heard heard' s i o s1 i1 o
+  parts_over l can_read k0 k1 done said said' heard heard' s s1 i i1 o sure never over none w =
+      let inward = read_through l.end in
+      let writes = writing done.put w.octets inward w.found in
+      let all = append-nil writes in
+      record {
+        writes = writes;
+        reads = [];
+        said_is = subst (λ (x : List ℕ). Adds said x said') (sym (ap (λ (l : List LinkAct). said_of l) all
+            ∙ added said_by (write_acts done.put w.octets) (take_acts inward w.found) w.octets [] (write_says done.put w.octets w.fits) (take_says inward w.found) ∙ append-nil w.octets)) w.told;
+        heard_is = subst (λ (x : List ℕ). Adds heard x heard') (sym (ap (λ (l : List LinkAct). heard_of l) all
+            ∙ added heard_by (write_acts done.put w.octets) (take_acts inward w.found) [] [] (write_hears done.put w.octets) (take_hears inward w.found))) none;
+        steps = subst (λ (x : List PipeStep). StepsRun K x s i o s1 i1 o)
+            (sym (ap (λ (l : List LinkAct). flat_map step_in l) all ∙ added step_in (write_acts done.put w.octets) (take_acts inward w.found) [] (flat_map step_in (take_acts inward w.found)) (write_steps done.put w.octets) refl))
+            (w.steps inward o);
+        run = λ opts acts r. subst (λ (x : List LinkAct). HasRun opts (acts ++ x) k1) (sym all) (w.run inward opts acts r);
+        parts = λ p acts plain run. record {
+          write = writes_at (basis_of l p) (standing_of l p) acts writes can_read plain.silent sure never
+              (λ e. w.takes e inward p.opts acts run) (λ e. w.alone e inward (basis_of l p) acts run);
+          read = inl (is_over_ends done.put w.octets inward w.found over, refl);
+        };
+        met = λ e. met_in done.put w.octets inward w.found done.look w.look e;
+        unmet = λ e. unmet_in done.put w.octets inward w.found done.look w.look e;
+        ends = λ cause e. inl (ends_writing done.put w.octets inward w.found cause (e.0, subst (λ (x : List LinkAct). Contains x e.0) all e.1, e.2));
+        over = λ cause e. elim e as (λ _. IsEndedBy (writes ++ []) cause) [
+          | inl k ↦ (let x = writing_ends done.put w.octets (take_acts inward w.found) k.0 cause k.1 k.2 in (x.0, in_left writes [] x.0 x.1, x.2))
+          | inr k ↦ absurd (no_answer k.0 k.1)
+        ];
+        write_over = λ e. is_over_ends done.put w.octets inward w.found e;
+        write_stands = λ never. not_over done.put w.octets inward w.found never;
+      }
+
+  -- the second cut short where memory wants
+  pub parts_cut : (A : Type 0) (shown : Option LinkGot → Type 0) (l : Life) (can_read : Bool) (k0 k1 k2 : Kept) (done : Written) (said said' heard heard' : Option (List ℕ)) (s s1 s2 : S) (i i1 : Option I) (o o2 : Option O)
+      → (can_read ≡ true → IsReadable l.state) → (can_read ≡ false → IsReadable l.state → ⊥) → (IsWriteOver done.put → ⊥)
+      → (w : WritesAtBy K can_read k0 done k1 said said' s i s1 i1) → (s2 ≡ s1) → (o2 ≡ o) → (r : WantsBy A k1 k2 heard heard' shown)
+      → CutBy K l k0 k2 said said' heard heard' s i o s2 i1 o2
+  parts_cut A shown l can_read k0 k1 k2 done said said' heard heard' s s1 s2 i i1 o o2 sure never stands w same_pipes same_out r =
+      let inward = read_through l.end in
+      let writes = writing done.put w.octets inward w.found in
+      let reads = read_acts r.answer r.octets in
+      record {
+        writes = writes;
+        reads = reads;
+        said_is = subst (λ (x : List ℕ). Adds said x said') (sym (added said_by writes reads w.octets []
+            (added said_by (write_acts done.put w.octets) (take_acts inward w.found) w.octets [] (write_says done.put w.octets w.fits) (take_says inward w.found) ∙ append-nil w.octets)
+            (read_says r.answer r.octets) ∙ append-nil w.octets)) w.told;
+        heard_is = subst (λ (x : List ℕ). Adds heard x heard') (sym (added heard_by writes reads [] r.octets
+            (added heard_by (write_acts done.put w.octets) (take_acts inward w.found) [] [] (write_hears done.put w.octets) (take_hears inward w.found))
+            (read_hears r.answer r.octets r.fits))) r.told;
+        steps = subst (λ (x : List PipeStep). StepsRun K x s i o s2 i1 o2)
+            (sym (added step_in writes reads (flat_map step_in (take_acts inward w.found)) []
+            (added step_in (write_acts done.put w.octets) (take_acts inward w.found) [] (flat_map step_in (take_acts inward w.found)) (write_steps done.put w.octets) refl)
+            (read_steps r.answer r.octets)))
+            (steps_on K (flat_map step_in (take_acts inward w.found)) [] s s1 s2 i i1 i1 o o o2 (w.steps inward o) (same_pipes, (refl, same_out)));
+        run = acts_on k0 k1 k2 writes reads (w.run inward) r.run;
+        parts = λ p acts plain run. record {
+          write = writes_at (basis_of l p) (standing_of l p) acts writes can_read plain.silent sure never
+              (λ e. w.takes e inward p.opts acts run) (λ e. w.alone e inward (basis_of l p) acts run);
+          stands = not_over done.put w.octets inward w.found stands;
+          answer = r.answer;
+          octets = r.octets;
+          fits = r.fits;
+          read = refl;
+        };
+      }
+
+  -- the same, by what the link tells at another moment
+  pub writes_to : (can_read : Bool) (k0 k1 : Kept) (done : Written) (said said1 said' : Option (List ℕ)) (s s' : S) (i i' : Option I) → said1 ≡ said'
+      → WritesAtBy K can_read k0 done k1 said said1 s i s' i' → WritesAtBy K can_read k0 done k1 said said' s i s' i'
+  writes_to can_read k0 k1 done said said1 said' s s' i i' e w = subst (λ (x : Option (List ℕ)). WritesAtBy K can_read k0 done k1 said x s i s' i') e w
+
+  pub reads_from : (how : ReadMode) (k0 k1 : Kept) (answer : Option LinkGot) (heard heard1 heard' : Option (List ℕ)) (s s' : S) (o o' : Option O) → heard1 ≡ heard
+      → ReadsAtBy K how k0 answer k1 heard1 heard' s o s' o' → ReadsAtBy K how k0 answer k1 heard heard' s o s' o'
+  reads_from how k0 k1 answer heard heard1 heard' s s' o o' e r = subst (λ (x : Option (List ℕ)). ReadsAtBy K how k0 answer k1 x heard' s o s' o') e r
+
+pub wants_from : (A : Type 0) (shown : Option LinkGot → Type 0) (k0 k1 : Kept) (heard heard1 heard' : Option (List ℕ)) → heard1 ≡ heard → WantsBy A k0 k1 heard1 heard' shown → WantsBy A k0 k1 heard heard' shown
+wants_from A shown k0 k1 heard heard1 heard' e w = subst (λ (x : Option (List ℕ)). WantsBy A k0 k1 x heard' shown) e w

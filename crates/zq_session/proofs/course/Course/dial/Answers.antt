@@ -1,0 +1,31 @@
+use Rattle.std.proofs.Common.{◌≡◌, refl, subst}
+use Rattle.spec_link.specs.LinkAct.{Linked, Failed}
+use Rattle.zq_session.specs.declared.dialler.Dial.{Dial}
+use Rattle.zq_session.specs.Dials.{HostCounts, IsDial, IfDialled, IsFresh, answer_of, moment_after}
+use Rattle.zq_session.proofs.CourseLemmas.{link_none}
+use Rattle.zq_session.proofs.UnlinkedLemmas.{counts_as, dials_by, links_fresh, no_side}
+use Rattle.zq_session.proofs.course.Course.dial.Goals as goal
+
+pub returns-in-Linked-clause-dials : goal.returns-in-Linked-clause-dials
+returns-in-Linked-clause-dials g c =
+    let e = c.in_ok-link-in-Some.ensures in
+    let d = c.in-Some.dialler in
+    let is = c.in-Linked.is in
+    dials_by c.args.now c.args.met c.args.self.now _ d c.dial.new.self Linked _ _ _ _
+    (counts_as _ _ _ _ _ _ is e.counts) refl c.in-Some.is refl
+    (subst (λ (x : Dial _). IsDial d.dial_at c.args.now (answer_of x)) is e.due)
+    (subst (λ (x : Dial _). c.dial.new.self ≡ record d { dial_at = moment_after d.interval c.args.now (answer_of x) d.dial_at }) is e.next)
+    (c.may_dial.ensures.yes c.if-not-may_dial.false)
+    (λ p o none. links_fresh p.opts _ _ c.in-Linked.side d.opts o refl refl (let k = rw is at e.linked in k.0.0)) (λ _. refl)
+
+pub returns-in-Failed-clause-dials : goal.returns-in-Failed-clause-dials
+returns-in-Failed-clause-dials g c =
+    let e = c.in_ok-link-in-Some.ensures in
+    let d = c.in-Some.dialler in
+    let is = c.in-Failed.is in
+    dials_by c.args.now c.args.met c.args.self.now _ d c.dial.new.self Failed _ _ _ _
+    (counts_as _ _ _ _ _ _ is e.counts) refl c.in-Some.is refl
+    (subst (λ (x : Dial _). IsDial d.dial_at c.args.now (answer_of x)) is e.due)
+    (subst (λ (x : Dial _). c.dial.new.self ≡ record d { dial_at = moment_after d.interval c.args.now (answer_of x) d.dial_at }) is e.next)
+    (c.may_dial.ensures.yes c.if-not-may_dial.false)
+    (λ p o none. link_none p.opts p.link _ c.requires.no_link none) (λ k. no_side _ Failed c.requires.no_link k)

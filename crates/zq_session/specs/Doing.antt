@@ -1,0 +1,85 @@
+-- The two parts of a turn at a link, by how the session's end stands (own choice).
+use Rattle.std.specs.Prelude.{◌≡◌, ◌⊎◌, ℕ, Bool, true, false, List, [], ◌++◌, Option, Some, None, IsSome, option_map}
+use Rattle.std.specs.List.{flat_map}
+use Rattle.zq_base.specs.Message.{Frames}
+use Rattle.zq_base.specs.Ends.{PipeId}
+use Rattle.zq_base.specs.declared.options.EngineOpts.{EngineOpts}
+use Rattle.zq_outer.specs.declared.link.LinkGot.{LinkGot}
+use Rattle.zq_outer.specs.declared.link.LinkPut.{LinkPut}
+use Rattle.msg_pipe.specs.Known.{Known}
+use Rattle.msg_pipe.specs.declared.pipes.Taken.{Taken}
+use Rattle.spec_control.specs.declared.end.EndState.{EndState}
+use Rattle.spec_link.specs.declared.row.LinkEnd.{LinkEnd}
+use Rattle.spec_link.specs.declared.row.LinkEnd.TheVariants.{Refused}
+use Rattle.spec_zmtp.specs.declared.cause.Cause.{Cause}
+use Rattle.spec_link.specs.LinkAct.{LinkAct}
+use Rattle.spec_link.specs.Parts.{IsTake, NothingHeld, IsWritePart, IsReadPart, IsSilentReadPart, WriteFits, ReadFits, write_acts, read_acts}
+use Rattle.spec_link.specs.History.{Basis}
+use Rattle.spec_link.specs.Turn.{IsWriteOnly, write_end, read_end}
+use Rattle.zq_session.specs.declared.life.ReadMode.{ReadMode}
+use Rattle.zq_session.specs.declared.life.ReadMode.TheVariants as mode
+use Rattle.zq_session.specs.declared.write_part.Written.{Written}
+use Rattle.zq_session.specs.LifeView.{IsWritable}
+use Rattle.zq_session.specs.Kept.{Kept, HasRun, Acts}
+use Rattle.zq_session.specs.Calls.{Adds, put_acts}
+use Rattle.zq_session.specs.Works.{take_acts, fetched_of}
+use Rattle.zq_session.specs.Silent.{IsRefusedNow, IsUnrefused}
+use Rattle.zq_session.specs.Halves.{StepsRun, step_in}
+
+-- the reading part of a session that reads so
+abbrev pub ReadsAs : ReadMode → EngineOpts → PipeId → (acts more : List LinkAct) → Type 0
+ReadsAs mode.Nothing opts pipe acts more = more ≡ []
+ReadsAs mode.Puts opts pipe acts more = IsReadPart opts pipe acts more
+ReadsAs mode.Holds opts pipe acts more = IsSilentReadPart (NothingHeld opts acts) more
+
+-- how a session reads: it was told before its pair was made, or its end can be written, or it can't
+abbrev pub IsReading : Option EndState → Option ℕ → ReadMode → Type 0
+IsReading state told mode.Nothing = IsSome told × (state ≡ None)
+IsReading state told mode.Puts = IsWritable state
+IsReading state told mode.Holds = ((IsSome told × (state ≡ None)) → ⊥) × (IsWritable state → ⊥)
+
+module _ {S O I N : Type 0} (K : Known S O I N) where
+  -- the writing part: with a take where the end can be read, and else a write alone
+  pub record WritesAtBy (can_read : Bool) (old : Kept) (done : Written) (new : Kept) (said said' : Option (List ℕ)) (s : S) (i : Option I) (s' : S) (i' : Option I) : Type 0 where
+    pub octets : List ℕ
+    pub found : Option Taken
+    pub fits : WriteFits done.put octets
+    pub told : Adds said octets said'
+    pub look : done.look ≡ option_map fetched_of found
+    pub steps : (pipe : PipeId) (o : Option O) → StepsRun K (flat_map step_in (take_acts pipe found)) s i o s' i' o
+    pub run : (pipe : PipeId) → Acts old (write_acts done.put octets ++ take_acts pipe found) new
+    pub takes : can_read ≡ true → (pipe : PipeId) (opts : EngineOpts) (acts : List LinkAct) → HasRun opts acts old →
+        IsWritePart opts (IsTake pipe) acts (write_acts done.put octets ++ take_acts pipe found)
+    pub alone : can_read ≡ false → (pipe : PipeId) (b : Basis) (acts : List LinkAct) → HasRun b.opts acts old →
+        IsWriteOnly b acts (write_acts done.put octets ++ take_acts pipe found)
+
+  -- the reading part
+  pub record ReadsAtBy (how : ReadMode) (old : Kept) (answer : Option LinkGot) (new : Kept) (heard heard' : Option (List ℕ)) (s : S) (o : Option O) (s' : S) (o' : Option O) : Type 0 where
+    pub octets : List ℕ
+    pub messages : List Frames
+    pub full : Bool
+    pub fits : ReadFits answer octets
+    pub told : Adds heard octets heard'
+    pub steps : (pipe : PipeId) (i : Option I) → StepsRun K (flat_map step_in (put_acts pipe messages full)) s i o s' i o'
+    pub run : (pipe : PipeId) → Acts old (read_acts answer octets ++ put_acts pipe messages full) new
+    pub part : (pipe : PipeId) (opts : EngineOpts) (acts : List LinkAct) → HasRun opts acts old →
+        ReadsAs how opts pipe acts (read_acts answer octets ++ put_acts pipe messages full)
+
+-- an answer of the turn ended the link
+abbrev pub EndsAs : Option LinkPut → Option LinkGot → LinkEnd → Type 0
+EndsAs put got cause =
+    ((a : LinkPut) × (put ≡ Some a) × (write_end a ≡ Some cause)) ⊎ ((a : LinkGot) × (got ≡ Some a) × (read_end a ≡ Some cause))
+
+-- the link is over for this cause, by an answer or by what was heard; or it stands
+abbrev pub IsOverNow : Option LinkPut → Option LinkGot → Kept → LinkEnd → Type 0
+IsOverNow put got k cause =
+    EndsAs put got cause
+    ⊎ (((other : LinkEnd) → EndsAs put got other → ⊥) × ((c : Cause) × (cause ≡ Refused c) × IsRefusedNow c k))
+
+pub record StandsNow (put : Option LinkPut) (got : Option LinkGot) (k : Kept) : Type 0 where
+  pub answers : (other : LinkEnd) → EndsAs put got other → ⊥
+  pub unrefused : IsUnrefused k
+
+-- a link that is over since the stream was refused
+abbrev pub IsRefusal : LinkEnd → Type 0
+IsRefusal cause = (c : Cause) × (cause ≡ Refused c)

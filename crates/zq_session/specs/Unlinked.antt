@@ -1,0 +1,50 @@
+-- A turn without a link: the look and the dial (own choice).
+use Rattle.std.specs.Prelude.{◌≡◌, ℕ, ◌≤◌, ◌⊎◌, Bool, true, false, List, [], ◌∷◌, ◌++◌, Option, Some, None, IsSome}
+use Rattle.std.specs.List.{flat_map}
+use Rattle.zq_base.specs.Ends.{PipeId}
+use Rattle.zq_outer.specs.Count.{RoseIf}
+use Rattle.msg_pipe.specs.Known.{Known}
+use Rattle.msg_pipe.specs.Told.{front_step}
+use Rattle.msg_pipe.specs.declared.pipes.Front.{Front}
+use Rattle.spec_link.specs.LinkAct.{HostAnswer, Linked, Failed, NotReady}
+use Rattle.spec_link.specs.History.{Basis, SessionEvent, Dialled, Standing}
+use Rattle.spec_link.specs.Turn.{Exactly, CanRead, IsTold, IsUnlinkedTurn}
+use Rattle.zq_session.specs.declared.life.Life.{Life}
+use Rattle.zq_session.specs.declared.course.Course.{Course}
+use Rattle.zq_session.specs.Dials.{HostCounts}
+use Rattle.zq_session.specs.Lives.{Story, basis_of, standing_of}
+use Rattle.zq_session.specs.Halves.{StepRun, StepsRun, step_at}
+use Rattle.zq_session.specs.Courses.{HasStory, CourseStep}
+
+-- the dial of an answer, where one was made
+abbrev pub dial_events : ℕ → Option HostAnswer → List SessionEvent
+dial_events now None = []
+dial_events now (Some answer) = Dialled now answer ∷ []
+
+-- a dial is due, by whether the look before it met the delimiter
+pub record IsDialDue (b : Basis) (s : Standing) (met : Bool) (now : ℕ) : Type 0 where
+  pub dials : b.dials ≡ true
+  pub moment : s.dial_at ≤ now
+  pub wanted : (IsTold s → ⊥) ⊎ (CanRead s × (met ≡ false))
+
+-- one dial exactly where it is due
+pub record DialsBy (now : ℕ) (met : Bool) (old new : Course) (faults faults' stalls stalls' : ℕ) : Type 0 where
+  pub answer : Option HostAnswer
+  pub counts : HostCounts answer faults faults' stalls stalls'
+  pub does : (p : Story) → HasStory old p → p.link ≡ None →
+      Exactly (IsDialDue (basis_of old.life p) (standing_of old.life p) met now) (λ e. (a : HostAnswer) × (e ≡ Dialled now a ∷ [])) (dial_events now answer)
+      × CourseStep old new p (dial_events now answer)
+  pub linked : IsSome new.side → answer ≡ Some Linked
+
+module _ {S O I N : Type 0} (K : Known S O I N) where
+  -- a look exactly where the end can be read
+  abbrev pub LooksBy : (can_read : Bool) → Option Front → S → Option I → S → Option I → Type 0
+  LooksBy can_read None s i s' i' = (can_read ≡ false) × ((s' ≡ s) × (i' ≡ i))
+  LooksBy can_read (Some found) s i s' i' = (can_read ≡ true) × ((pipe : PipeId) (o : Option O) → StepRun K (front_step pipe found) s i o s' i' o)
+
+  -- a turn without a link, whatever the story
+  pub record UnlinkedBy (now : ℕ) (old new : Course) (s : S) (i : Option I) (o : Option O) (s' : S) (i' : Option I) (p : Story) : Type 0 where
+    pub events : List SessionEvent
+    pub turn : IsUnlinkedTurn (basis_of old.life p) (standing_of old.life p) now events
+    pub step : CourseStep old new p events
+    pub steps : StepsRun K (flat_map step_at events) s i o s' i' o

@@ -1,0 +1,361 @@
+ghost use Rattle.std.specs.Prelude.{◌≡◌, None, Some, true, false};
+ghost use Rattle.spec_link.specs.Turn.{LingerIsOver};
+ghost use Rattle.zq_session.specs.LifeView.{IsReadable, IsWritable};
+ghost use Rattle.zq_session.specs.Doing.{IsReading};
+
+use spec_control::EndState;
+use zq_base::{EndId, Kind, ObjId};
+
+/// What became due to the control plane, each at most once.
+#[derive(Clone, Copy, Debug, PartialEq, Eq)]
+pub(crate) struct Asked {
+    /// Its end was asked since it gave up.
+    pub(crate) linger: bool,
+    /// Its end was asked since its link was over.
+    pub(crate) link: bool,
+    pub(crate) over: bool,
+    pub(crate) output: bool,
+    pub(crate) delimiter: bool,
+    pub(crate) shaken: bool,
+}
+
+impl Asked {
+    /// Nothing became due yet.
+    pub(crate) fn none() -> Asked
+        ensures { result ≡ record {
+          linger = false;
+          link = false;
+          over = false;
+          output = false;
+          delimiter = false;
+          shaken = false;
+        } }
+    {
+        Asked {
+            linger: false,
+            link: false,
+            over: false,
+            output: false,
+            delimiter: false,
+            shaken: false,
+        }
+    }
+}
+
+/// How a session reads.
+#[derive(Clone, Copy, Debug, PartialEq, Eq)]
+pub(crate) enum ReadMode {
+    /// It was told to end before its pair was made.
+    Nothing,
+    /// What is whole is put into its pipe.
+    Puts,
+    /// Its end can't be written.
+    Holds,
+}
+
+/// How a session stands, aside from its link and what dials.
+#[derive(Clone, Copy, Debug)]
+pub(crate) struct Life {
+    pub(crate) object: ObjId,
+    pub(crate) end: EndId,
+    pub(crate) kind: Kind,
+    pub(crate) dials: bool,
+    /// In milliseconds; none: for ever.
+    pub(crate) linger: Option<u32>,
+    pub(crate) state: Option<EndState>,
+    /// The reading of the clock at which it was told to end.
+    pub(crate) told: Option<u64>,
+    /// Whether the plane's last try to end it found output.
+    pub(crate) waits: bool,
+    pub(crate) gave_up: bool,
+    pub(crate) asked: Asked,
+}
+
+impl Life {
+    /// Whether its end can be read.
+    pub(crate) fn can_read(&self) -> bool
+        ensures yes { result ≡ true → IsReadable self.now.state }
+        ensures no { result ≡ false → IsReadable self.now.state → ⊥ }
+    {
+        match self.state {
+            Some(EndState::Active) => return true,
+            Some(EndState::WaitDelimiter) => return true,
+            _ => return false,
+        }
+    }
+
+    /// Whether its end can be written.
+    pub(crate) fn can_write(&self) -> bool
+        ensures yes { result ≡ true → IsWritable self.now.state }
+        ensures no { result ≡ false → IsWritable self.now.state → ⊥ }
+    {
+        match self.state {
+            Some(EndState::Active) => return true,
+            _ => return false,
+        }
+    }
+
+    /// How it reads.
+    pub(crate) fn reading(&self) -> ReadMode
+        ensures { IsReading self.now.state self.now.told result }
+    {
+        match self.state {
+            Some(EndState::Active) => return ReadMode::Puts,
+            Some(_) => return ReadMode::Holds,
+            None => {}
+        }
+        if self.told.is_some() {
+            return ReadMode::Nothing;
+        }
+        ReadMode::Holds
+    }
+
+    /// Whether it doesn't linger at all.
+    pub(crate) fn lingers_not(&self) -> bool
+        ensures yes { result ≡ true → self.now.linger ≡ Some 0 }
+        ensures no { result ≡ false → self.now.linger ≡ Some 0 → ⊥ }
+    {
+        match self.linger {
+            None => return false,
+            Some(n) => return n == 0,
+        }
+    }
+
+    /// Whether its linger is over by this reading of the clock.
+    pub(crate) fn linger_is_over(&self, now: u64) -> bool
+        ensures yes { result ≡ true → LingerIsOver self.now.linger self.now.told now }
+        ensures no { result ≡ false → LingerIsOver self.now.linger self.now.told now → ⊥ }
+    {
+        match self.linger {
+            None => return false,
+            Some(n) => match self.told {
+                None => return false,
+                Some(moment) => {
+                    if n == 0 {
+                        return true;
+                    }
+                    return moment.saturating_add(n as u64) <= now;
+                }
+            },
+        }
+    }
+}
+
+impl Life {
+    ghost use Rattle.std.specs.Prelude.{◌≡◌, ◌⊎◌, List, ◌∷◌, [], Some, None, IsSome, true, false};
+    ghost use Rattle.spec_control.specs.declared.end.EndState.TheVariants.{WaitDelimiter, Gone};
+    ghost use Rattle.spec_control.specs.declared.end.Reason.TheVariants.{Linger, Link};
+    ghost use Rattle.spec_control.specs.declared.request.Req.TheVariants.{AskEnd, AskOver, OutputOver};
+    ghost use Rattle.spec_link.specs.declared.due.Due.TheVariants.{Request, Delimiter};
+    ghost use Rattle.spec_link.specs.History.{SessionEvent};
+    ghost use Rattle.spec_link.specs.Turn.{DueOnce, Exactly, GivesUp, IsTold, LingerIsOver};
+    ghost use Rattle.zq_session.specs.LifeSteps.{LifeDoes};
+
+    // Whether it was told to end.
+    fn is_told(&self) -> bool
+        ensures yes { result ≡ true → IsSome self.now.told }
+        ensures no { result ≡ false → IsSome self.now.told → ⊥ }
+    {
+        match self.told {
+            Some(_) => return true,
+            None => return false,
+        }
+    }
+
+    // Whether its end waits for the delimiter.
+    fn waits_delimiter(&self) -> bool
+        ensures yes { result ≡ true → self.now.state ≡ Some WaitDelimiter }
+        ensures no { result ≡ false → self.now.state ≡ Some WaitDelimiter → ⊥ }
+    {
+        match self.state {
+            Some(EndState::WaitDelimiter) => return true,
+            _ => return false,
+        }
+    }
+
+    // Whether its end is gone.
+    fn is_gone(&self) -> bool
+        ensures yes { result ≡ true → self.now.state ≡ Some Gone }
+        ensures no { result ≡ false → self.now.state ≡ Some Gone → ⊥ }
+    {
+        match self.state {
+            Some(EndState::Gone) => return true,
+            _ => return false,
+        }
+    }
+
+    // Whether it has an end that isn't gone.
+    fn has_end(&self) -> bool
+        ensures yes { result ≡ true → IsSome self.now.state × (self.now.state ≡ Some Gone → ⊥) }
+        ensures no { result ≡ false → IsSome self.now.state →
+            (self.now.state ≡ Some Gone → ⊥) → ⊥ }
+    {
+        match self.state {
+            None => return false,
+            Some(EndState::Gone) => return false,
+            Some(_) => return true,
+        }
+    }
+
+    // Asks its end, once, where that waits for the delimiter.
+    fn ask_linger(&mut self)
+        ensures does { LifeDoes self.old self.new (λ b s. DueOnce s
+            (s.state ≡ Some WaitDelimiter) (Request (AskEnd b.end Linger))) }
+        ensures keeps { self.new.gave_up ≡ self.old.gave_up }
+        ensures state { self.new.state ≡ self.old.state }
+    {
+        if !self.waits_delimiter() {
+            return;
+        }
+        let before = self.asked.linger;
+        if before {
+            return;
+        }
+        self.asked.linger = true;
+    }
+
+    /// Gives up where its linger is over.
+    pub(crate) fn give_up_due(&mut self, now: u64)
+        ensures does { LifeDoes self.old self.new (λ b s. Exactly
+            ((s.gave_up ≡ false) × LingerIsOver b.linger s.told now) (GivesUp b s)) }
+        ensures state { self.new.state ≡ self.old.state }
+    {
+        let before = self.gave_up;
+        if before {
+            return;
+        }
+        if !self.linger_is_over(now) {
+            return;
+        }
+        self.gave_up = true;
+        self.ask_linger();
+    }
+
+    /// Asks to end, once, where its end is gone and it wasn't told.
+    pub(crate) fn over_due(&mut self)
+        ensures does { LifeDoes self.old self.new (λ b s. DueOnce s
+            ((IsTold s → ⊥) × (s.state ≡ Some Gone)) (Request (AskOver b.object))) }
+        ensures keeps { self.new.gave_up ≡ self.old.gave_up }
+        ensures state { self.new.state ≡ self.old.state }
+    {
+        if self.is_told() {
+            return;
+        }
+        if !self.is_gone() {
+            return;
+        }
+        let before = self.asked.over;
+        if before {
+            return;
+        }
+        self.asked.over = true;
+    }
+
+    /// Whether it waited for its output alone, and may have none left.
+    pub(crate) fn waits_for_output(&self) -> bool
+        ensures yes { result ≡ true → IsSome self.now.told × ((self.now.waits ≡ true)
+            × ((self.now.state ≡ Some Gone) ⊎ (self.now.state ≡ None))) }
+        ensures no { result ≡ false → IsSome self.now.told → self.now.waits ≡ true →
+            ((self.now.state ≡ Some Gone) ⊎ (self.now.state ≡ None)) → ⊥ }
+    {
+        if !self.waits {
+            return false;
+        }
+        if self.told.is_none() {
+            return false;
+        }
+        match self.state {
+            None => return true,
+            Some(EndState::Gone) => return true,
+            _ => return false,
+        }
+    }
+
+    /// Whether it dials, aside from the moment, where the look before met the delimiter or didn't.
+    pub(crate) fn may_dial(&self, met: bool) -> bool
+        ensures yes { result ≡ true → (IsSome self.now.told → ⊥)
+            ⊎ (IsReadable self.now.state × (met ≡ false)) }
+        ensures no { result ≡ false → (IsSome self.now.told → ⊥)
+            ⊎ (IsReadable self.now.state × (met ≡ false)) → ⊥ }
+    {
+        if self.told.is_none() {
+            return true;
+        }
+        if met {
+            return false;
+        }
+        self.can_read()
+    }
+
+    /// Whether it is to say that its handshake is done.
+    pub(crate) fn may_shake(&self) -> bool
+        ensures yes { result ≡ true → (self.now.dials ≡ false) × ((IsSome self.now.told → ⊥)
+            × (self.now.asked.shaken ≡ false)) }
+        ensures no { result ≡ false → self.now.dials ≡ false → (IsSome self.now.told → ⊥) →
+            self.now.asked.shaken ≡ true }
+    {
+        if self.dials {
+            return false;
+        }
+        if self.told.is_some() {
+            return false;
+        }
+        !self.asked.shaken
+    }
+
+    /// The delimiter becomes due, once, where a look met it.
+    pub(crate) fn delimiter_due(&mut self, met: bool)
+        ensures does { LifeDoes self.old self.new (λ b s.
+            DueOnce s (met ≡ true) (Delimiter b.end)) }
+        ensures keeps { self.new.gave_up ≡ self.old.gave_up }
+        ensures state { self.new.state ≡ self.old.state }
+    {
+        if !met {
+            return;
+        }
+        let before = self.asked.delimiter;
+        if before {
+            return;
+        }
+        self.asked.delimiter = true;
+    }
+
+    /// Its end, where it has one that isn't gone, is asked once by an accepted session whose link
+    /// is over.
+    pub(crate) fn ask_link(&mut self)
+        ensures does { LifeDoes self.old self.new (λ b s. DueOnce s
+            ((b.dials ≡ false) × (IsSome s.state × (s.state ≡ Some Gone → ⊥)))
+            (Request (AskEnd b.end Link))) }
+        ensures keeps { self.new.gave_up ≡ self.old.gave_up }
+    {
+        let dials = self.dials;
+        if dials {
+            return;
+        }
+        if !self.has_end() {
+            return;
+        }
+        let before = self.asked.link;
+        if before {
+            return;
+        }
+        self.asked.link = true;
+    }
+
+    /// An accepted session whose link is over asks to end, once.
+    pub(crate) fn ask_over(&mut self)
+        ensures does { LifeDoes self.old self.new (λ b s.
+            DueOnce s (b.dials ≡ false) (Request (AskOver b.object))) }
+        ensures keeps { self.new.gave_up ≡ self.old.gave_up }
+    {
+        let dials = self.dials;
+        if dials {
+            return;
+        }
+        let before = self.asked.over;
+        if before {
+            return;
+        }
+        self.asked.over = true;
+    }
+}

@@ -1,0 +1,194 @@
+ghost use Rattle.std.specs.Prelude.{◌≡◌, List, [], ◌∷◌, None, Some, is_some, true, false, OnOk, IfOk};
+ghost use Rattle.spec_zmtp.specs.OwnCommands.{IsEngineOpts};
+ghost use Rattle.spec_control.specs.declared.end.EndState.TheVariants.{Active};
+ghost use Rattle.spec_link.specs.History.{Basis, SessionEvent, Given, EndIs, Told};
+ghost use Rattle.zq_session.specs.BothParts.{IsPlain};
+ghost use Rattle.zq_session.specs.Sessions.{HasLived, Happens, TurnsOn, AreAt, has_link};
+
+use crate::course::Course;
+use crate::dialler::Dialler;
+use crate::life::{Asked, Life};
+use crate::side::LinkSide;
+use msg_pipe::Pipes;
+use spec_control::EndState;
+use std::alloc::{AllocError, Global};
+use std::marker::Model;
+use zq_base::{Address, EndId, EngineOpts, ObjId};
+use zq_outer::Host;
+
+/// A session: it drives one engine over one link at a time, and moves whole messages between the
+/// link and the pipes of its end.
+///
+/// What it went through is a list of events; each call says what it adds to it.
+#[derive(Drop)]
+pub struct Session<P: Pipes> {
+    course: Course,
+    input: Option<P::In>,
+    out: Option<P::Out>,
+}
+
+impl<P: Pipes> Model for Session<P> {
+    ghost use Rattle.zq_session.specs.Sessions.{SessionState};
+
+    ghost Value = { SessionState P.Out P.In };
+
+    ghost view = { λ s. record { course = s.course; input = s.input; out = s.out } };
+}
+
+impl<P: Pipes> Session<P> {
+    /// A session that dials this address, at once, and again after the interval. Interval and
+    /// linger are in milliseconds; no linger lingers for ever.
+    pub fn connecting(
+        object: ObjId,
+        end: EndId,
+        to: Address,
+        opts: EngineOpts,
+        interval: u32,
+        linger: Option<u32>,
+    ) -> Session<P>
+        requires opts { IsEngineOpts opts }
+        requires plain { IsPlain opts }
+        ensures lived { HasLived (record {
+          object = object;
+          end = end;
+          opts = opts;
+          dials = true;
+          interval = interval;
+          linger = linger;
+        }) [] result }
+        ensures no_link { has_link result ≡ false }
+    {
+        let kind = opts.kind;
+        Session {
+            course: Course {
+                life: Life {
+                    object,
+                    end,
+                    kind,
+                    dials: true,
+                    linger,
+                    state: None,
+                    told: None,
+                    waits: false,
+                    gave_up: false,
+                    asked: Asked::none(),
+                },
+                side: None,
+                dialler: Some(Dialler::new(object, to, opts, interval)),
+                peer: None,
+            },
+            input: None,
+            out: None,
+        }
+    }
+
+    /// A session of a link that was accepted.
+    pub fn accepted(
+        alloc: Global,
+        object: ObjId,
+        end: EndId,
+        opts: EngineOpts,
+        linger: Option<u32>,
+    ) -> Result<Session<P>, AllocError>
+        requires opts { IsEngineOpts opts }
+        requires plain { IsPlain opts }
+        ensures lived { IfOk result (λ s. HasLived (record {
+          object = object;
+          end = end;
+          opts = opts;
+          dials = false;
+          interval = 0;
+          linger = linger;
+        }) (Given ∷ []) s) }
+        ensures link { IfOk result (λ s. has_link s ≡ true) }
+    {
+        let kind = opts.kind;
+        let side = LinkSide::new(alloc, opts)?;
+        Ok(Session {
+            course: Course {
+                life: Life {
+                    object,
+                    end,
+                    kind,
+                    dials: false,
+                    linger,
+                    state: None,
+                    told: None,
+                    waits: false,
+                    gave_up: false,
+                    asked: Asked::none(),
+                },
+                side: Some(side),
+                dialler: None,
+                peer: None,
+            },
+            input: None,
+            out: None,
+        })
+    }
+
+    /// Whether it has a link.
+    pub fn has_link(&self) -> bool
+        ensures { result ≡ has_link self.now }
+    {
+        self.course.side.is_some()
+    }
+
+    /// Gives it the halves of its end: the pipe that it reads, and the one that it writes.
+    pub fn attach(&mut self, input: P::In, out: P::Out)
+        ensures happens { Happens self.old (EndIs Active) self.new }
+        ensures halves { (self.new.input ≡ Some input) × (self.new.out ≡ Some out) }
+        ensures keeps { has_link self.new ≡ has_link self.old }
+    {
+        self.course.life.state = Some(EndState::Active);
+        self.input = Some(input);
+        self.out = Some(out);
+    }
+
+    /// Its end came into this state.
+    pub fn set_state(&mut self, state: EndState)
+        ensures happens { Happens self.old (EndIs state) self.new }
+        ensures keeps { (has_link self.new ≡ has_link self.old)
+            × ((self.new.input ≡ self.old.input) × (self.new.out ≡ self.old.out)) }
+    {
+        self.course.life.state = Some(state);
+    }
+
+    /// It is told to end, at this reading of the clock.
+    pub fn told(&mut self, now: u64)
+        ensures happens { Happens self.old (Told now) self.new }
+        ensures keeps { (has_link self.new ≡ has_link self.old)
+            × ((self.new.input ≡ self.old.input) × (self.new.out ≡ self.old.out)) }
+    {
+        self.course.life.told = Some(now);
+    }
+
+    /// A turn, by a reading of the clock: it gives up where its linger is over; says what is due;
+    /// and then looks and dials, where it has no link, or writes, takes, reads and puts at its
+    /// link.
+    pub fn turn<H: Host>(
+        &mut self,
+        alloc: Global,
+        pipes: &mut P,
+        host: &mut H,
+        link: &mut Option<H::L>,
+        now: u64,
+    ) -> Result<(), AllocError>
+        requires linked { is_some link.old ≡ has_link self.old }
+        requires there { AreAt P.known pipes.old self.old }
+        ensures turn { OnOk result ((b : Basis) (history : List SessionEvent) →
+            HasLived b history self.old → TurnsOn P.known H.L.heard H.L.said b history now
+            self.old self.new link.old link.new pipes.old pipes.new) }
+        ensures linked { is_some link.new ≡ has_link self.new }
+    {
+        self.course.turn(
+            alloc,
+            pipes,
+            &mut self.input,
+            &mut self.out,
+            host,
+            link,
+            now,
+        )
+    }
+}
