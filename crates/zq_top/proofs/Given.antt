@@ -300,12 +300,12 @@ abbrev AreTold : PipeId → List Doing → Type 0
 AreTold p ds = number is_given (flat_map (told_by p) ds) ≡ given_by p ds
 
 both_told : (p : PipeId) (ds es : List Doing) → AreTold p ds → AreTold p es → AreTold p (ds ++ es)
-both_told p ds es first then =
+both_told p ds es first behind =
     let told : flat_map (told_by p) (ds ++ es) ≡ flat_map (told_by p) ds ++ flat_map (told_by p) es = flat_map-append (told_by p) ds es in
     let count : given_by p (ds ++ es) ≡ given_by p ds + given_by p es = sum_by-append (λ (d : Doing). gives d.answer d.steps p) ds es in
     let both = number_both is_given (flat_map (told_by p) ds) (flat_map (told_by p) es) in
     let whole : number is_given (flat_map (told_by p) (ds ++ es)) ≡ number is_given (flat_map (told_by p) ds ++ flat_map (told_by p) es) = ap (number is_given) told in
-    omega (arith, whole, both, count, first, then)
+    omega (arith, whole, both, count, first, behind)
 
 step_told : (p : PipeId) (w : ℕ) (old : Stage) (ds : List Doing) (new : Stage) → IsSound old.net → StepOf w old ds new → AreTold p ds
 step_told p w old [] new sound h = refl
@@ -343,8 +343,8 @@ plain_told f g d p (Take q m ∷ steps) skips = by (same_pipe p q) refl (kind_of
     kind_of (s ∷ ss) = d
 
     by : (b : Bool) → same_pipe p q ≡ b → f (taken_as skips) ≡ false → number f (told_in p steps (drop 1 skips)) ≡ 0 → number f (told_in p (Take q m ∷ steps) skips) ≡ 0
-    by true e no rest = rw (e, no) rest
-    by false e no rest = rw e rest
+    by true e other rest = rw (e, other) rest
+    by false e other rest = rw e rest
 plain_told f g d p (EmptyLook q ∷ steps) skips = plain_told f g d p steps skips
 plain_told f g d p (DelimiterLook q ∷ steps) skips = plain_told f g d p steps skips
 plain_told f g d p (WaitingLook q ∷ steps) skips = plain_told f g d p steps skips
