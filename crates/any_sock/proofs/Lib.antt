@@ -1,0 +1,7 @@
+pub mod PlaceLemmas
+pub mod SendLemmas
+pub mod RecvLemmas
+pub mod PumpLemmas
+pub mod AttachLemmas
+pub mod DetachLemmas
+pub mod FreshLemmas

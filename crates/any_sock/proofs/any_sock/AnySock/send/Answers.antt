@@ -1,0 +1,80 @@
+use Rattle.std.proofs.Common.{All, sym, ap, subst, map, refl}
+use Rattle.any_sock.specs.Over.{HaveSamePlaces, peer_places}
+use Rattle.any_sock.specs.declared.any_sock.AnySock.{AnySock}
+use Rattle.any_sock.specs.declared.any_sock.AnySock.TheVariants as sock
+use Rattle.any_sock.proofs.PlaceLemmas.{all_front, same_by_order, same_as, same_both, order_as}
+use Rattle.any_sock.proofs.SendLemmas.{push_sent, pull_sent, pair_sent, dealer_sent, req_sent, rep_sent, router_sent, router_back, pub_sent, xpub_sent}
+use Rattle.any_sock.proofs.any_sock.AnySock.send.Goals as goal
+
+pub returns-in-Push-clause-step : goal.returns-in-Push-clause-step
+returns-in-Push-clause-step g c = push_sent _ _ _ _ _ _ c.send.result c.args.self.now c.in-Push.push c.send.new.self c.in-Push.is c.send.ensures.step
+
+pub returns-in-Pull-clause-step : goal.returns-in-Pull-clause-step
+returns-in-Pull-clause-step g c = pull_sent _ _ _ _ _ _ c.send-in-Pull.result c.args.self.now c.in-Pull.pull c.send-in-Pull.new.self c.in-Pull.is c.send-in-Pull.ensures.step
+
+pub returns-in-Pair-clause-step : goal.returns-in-Pair-clause-step
+returns-in-Pair-clause-step g c = pair_sent _ _ _ _ _ _ c.send-in-Pair.result c.args.self.now c.in-Pair.pair c.send-in-Pair.new.self c.in-Pair.is c.send-in-Pair.ensures.peer c.send-in-Pair.ensures.step
+
+pub send-requires-in-Dealer : goal.send-requires-in-Dealer
+send-requires-in-Dealer g c = record {
+  there = all_front (g.E.Peers.here c.args.peers.now) c.in-Dealer.dealer.outs c.in-Dealer.dealer.ins (subst (λ (q : AnySock). All (g.E.Peers.here c.args.peers.now) (peer_places q)) c.in-Dealer.is c.requires.there);
+}
+
+pub returns-in-Dealer-clause-step : goal.returns-in-Dealer-clause-step
+returns-in-Dealer-clause-step g c = dealer_sent _ _ _ _ _ _ c.send-in-Dealer.result c.args.self.now c.in-Dealer.dealer c.send-in-Dealer.new.self c.in-Dealer.is c.send-in-Dealer.ensures.ins c.send-in-Dealer.ensures.step
+
+pub send-requires-in-Req : goal.send-requires-in-Req
+send-requires-in-Req g c = record {
+  there = all_front (g.E.Peers.here c.args.peers.now) c.in-Req.req.outs c.in-Req.req.ins (subst (λ (q : AnySock). All (g.E.Peers.here c.args.peers.now) (peer_places q)) c.in-Req.is c.requires.there);
+}
+
+pub returns-in-Req-clause-step : goal.returns-in-Req-clause-step
+returns-in-Req-clause-step g c = req_sent _ _ _ _ _ _ c.send-in-Req.result c.args.self.now c.in-Req.req c.send-in-Req.new.self c.in-Req.is c.send-in-Req.ensures.ins c.send-in-Req.ensures.step
+
+pub returns-in-Rep-clause-step : goal.returns-in-Rep-clause-step
+returns-in-Rep-clause-step g c = rep_sent _ _ _ _ _ _ c.send-in-Rep.result c.args.self.now c.in-Rep.rep c.send-in-Rep.new.self c.in-Rep.is c.send-in-Rep.ensures.ins c.send-in-Rep.ensures.step
+
+pub send-requires-in-Router : goal.send-requires-in-Router
+send-requires-in-Router g c = record {
+  there = all_front (g.E.Peers.here c.args.peers.now) c.in-Router.router.ins (map (λ n. n.place) c.in-Router.router.names) (subst (λ (q : AnySock). All (g.E.Peers.here c.args.peers.now) (peer_places q)) c.in-Router.is c.requires.there);
+}
+
+pub returns-in-Router-clause-step : goal.returns-in-Router-clause-step
+returns-in-Router-clause-step g c =
+    router_sent _ _ _ _ _ _ c.in-Router.router c.send-in-Router.new.self c.send-in-Router.ensures.same c.send-in-Router.result c.args.self.now c.in-Router.is c.send-in-Router.ensures.sends
+
+pub returns-in-Router-clause-back : goal.returns-in-Router-clause-back
+returns-in-Router-clause-back g c = router_back _ _ _ _ _ _ c.in-Router.router c.send-in-Router.result c.send-in-Router.ensures.sends
+
+pub returns-in-Push-clause-places : goal.returns-in-Push-clause-places
+returns-in-Push-clause-places g c = subst (λ (q : AnySock). HaveSamePlaces (peer_places q) c.send.new.self) (sym c.in-Push.is) (same_by_order _ _ c.send.ensures.places)
+
+pub returns-in-Pull-clause-places : goal.returns-in-Pull-clause-places
+returns-in-Pull-clause-places g c = subst (λ (q : AnySock). HaveSamePlaces (peer_places q) c.send-in-Pull.new.self) (sym c.in-Pull.is) (same_as _ _ c.send-in-Pull.ensures.turns)
+
+pub returns-in-Pair-clause-places : goal.returns-in-Pair-clause-places
+returns-in-Pair-clause-places g c = subst (λ (q : AnySock). HaveSamePlaces (peer_places q) c.send-in-Pair.new.self) (sym c.in-Pair.is) (same_as _ _ c.send-in-Pair.ensures.peer)
+
+pub returns-in-Dealer-clause-places : goal.returns-in-Dealer-clause-places
+returns-in-Dealer-clause-places g c = subst (λ (q : AnySock). HaveSamePlaces (peer_places q) (peer_places (sock.Dealer c.send-in-Dealer.new.self))) (sym c.in-Dealer.is) (same_both _ _ _ _ c.send-in-Dealer.ensures.places (order_as _ _ c.send-in-Dealer.ensures.ins))
+
+pub returns-in-Req-clause-places : goal.returns-in-Req-clause-places
+returns-in-Req-clause-places g c = subst (λ (q : AnySock). HaveSamePlaces (peer_places q) (peer_places (sock.Req c.send-in-Req.new.self))) (sym c.in-Req.is) (same_both _ _ _ _ c.send-in-Req.ensures.places (order_as _ _ c.send-in-Req.ensures.ins))
+
+pub returns-in-Rep-clause-places : goal.returns-in-Rep-clause-places
+returns-in-Rep-clause-places g c = subst (λ (q : AnySock). HaveSamePlaces (peer_places q) (peer_places (sock.Rep c.send-in-Rep.new.self))) (sym c.in-Rep.is) (same_as _ _ c.send-in-Rep.ensures.ins)
+
+pub returns-in-Router-clause-places : goal.returns-in-Router-clause-places
+returns-in-Router-clause-places g c = subst (λ (q : AnySock). HaveSamePlaces (peer_places q) (peer_places (sock.Router c.send-in-Router.new.self))) (sym c.in-Router.is) (same_as _ _ (ap (λ q. peer_places (sock.Router q)) c.send-in-Router.ensures.same))
+
+pub returns-in-Pub-clause-step : goal.returns-in-Pub-clause-step
+returns-in-Pub-clause-step g c = pub_sent _ _ _ _ _ _ c.send-in-Pub.result c.args.self.now c.in-Pub.publisher c.in-Pub.is c.send-in-Pub.ensures.step
+
+pub returns-in-Pub-clause-places : goal.returns-in-Pub-clause-places
+returns-in-Pub-clause-places g c = subst (λ (q : AnySock). HaveSamePlaces (peer_places q) (peer_places (sock.Pub c.in-Pub.publisher))) (sym c.in-Pub.is) (same_as _ _ refl)
+
+pub returns-in-XPub-clause-step : goal.returns-in-XPub-clause-step
+returns-in-XPub-clause-step g c = xpub_sent _ _ _ _ _ _ c.send-in-XPub.result c.args.self.now c.in-XPub.publisher c.in-XPub.is c.send-in-XPub.ensures.step
+
+pub returns-in-XPub-clause-places : goal.returns-in-XPub-clause-places
+returns-in-XPub-clause-places g c = subst (λ (q : AnySock). HaveSamePlaces (peer_places q) (peer_places (sock.XPub c.in-XPub.publisher))) (sym c.in-XPub.is) (same_as _ _ refl)

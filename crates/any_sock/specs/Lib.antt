@@ -1,0 +1,5 @@
+pub mod Over
+pub mod Stopped
+pub mod Calls
+pub mod Peers
+pub mod Fresh

@@ -1,0 +1,54 @@
+-- A peer comes to a socket of any kind, or goes, by its place (zmq_connect(3), zmq_disconnect(3)).
+use Rattle.std.specs.Prelude.{◌≡◌, ◌<◌, ℕ, true, List, [], ◌∷◌, ◌++◌, All, Contains, nat_eq, Result, Ok, Err}
+use Rattle.zq_base.specs.declared.attached.Attached.{Attached}
+use Rattle.zq_base.specs.declared.attached.Attached.TheVariants.{Yes, BadId, Second}
+use Rattle.zq_base.specs.declared.ids.PairId.{PairId}
+use Rattle.spec_pattern.specs.PipeStep.{same_pipe}
+use Rattle.spec_pattern.specs.TurnList.{End}
+use Rattle.spec_pattern.specs.Pattern.{attach_answer, attach, detach}
+use Rattle.router_dealer.specs.Named.{IsIdentity}
+use Rattle.pub_sub.specs.Places.{is_place, AreApart}
+use Rattle.pub_sub.specs.Publishers.{kept_without}
+use Rattle.any_sock.specs.Over.{HaveSamePlaces, peer_places, partner_places, over, left_of, Leftover}
+use Rattle.any_sock.specs.declared.any_sock.AnySock.{AnySock}
+use Rattle.any_sock.specs.declared.any_sock.AnySock.TheVariants as sock
+
+-- a ROUTER takes a peer under what may be an identity, while a name is left to draw; the other kinds take each peer
+abbrev pub CanName : AnySock → List ℕ → Type 0
+CanName (sock.Router r) identity = IsIdentity identity × (r.drawn < 4294967295)
+CanName _ identity = Unit {0}
+
+-- the places after an attach: one more, or as before where the end was refused
+abbrev pub AddsPlace : Attached → ℕ → AnySock → AnySock → Type 0
+AddsPlace Yes place s s' = HaveSamePlaces (peer_places s ++ place ∷ []) (peer_places s')
+AddsPlace BadId place s s' = s' ≡ s
+AddsPlace Second place s s' = s' ≡ s
+
+-- the end at the place was attached, or refused, as the kind does with it, whatever ends are there
+pub record AttachedOver (place : ℕ) (identity : List ℕ) (s : AnySock) (answer : Attached) (s' : AnySock) : Type 0 where
+  pub answers : (ends : ℕ → End) → answer ≡ attach_answer identity (over ends s)
+  pub attaches : (ends : ℕ → End) → over ends s' ≡ attach (ends place) identity (over ends s)
+  pub places : AddsPlace answer place s s'
+  pub left_is : left_of s' ≡ left_of s
+
+-- the end at a peer's place is of this pair, and is no other's of the socket
+pub record IsOneEnd (ends : ℕ → End) (pair : PairId) (place : ℕ) (s : AnySock) : Type 0 where
+  pub known : is_place (peer_places s) place ≡ true
+  pub pair_is : (ends place).pair ≡ pair
+  pub apart : AreApart ends (peer_places s)
+  pub partner : All (λ k. same_pipe (ends place) (ends k) ≡ nat_eq place k) (partner_places s)
+
+-- what was left to obey of a peer goes with it; what is to be given stays
+abbrev pub left_without : ℕ → Leftover → Leftover
+left_without place left = record left { to_obey = kept_without place left.to_obey }
+
+-- the end at the place, of this pair, is a peer no longer
+pub record DetachedOver (pair : PairId) (place : ℕ) (s s' : AnySock) : Type 0 where
+  pub detaches : (ends : ℕ → End) → IsOneEnd ends pair place s → over ends s' ≡ detach (ends place) (over ends s)
+  pub places : All (Contains (peer_places s)) (peer_places s')
+  pub left_is : left_of s' ≡ left_without place (left_of s)
+
+-- an attach that refuses no peer
+abbrev pub as_taken : {E : Type 0} → Result (Unit {0}) E → Result Attached E
+as_taken (Ok done) = Ok Yes
+as_taken (Err e) = Err e

@@ -1,0 +1,13 @@
+//! A socket of any kind over its attached ends: one type for all kinds, of which each call is that of
+//! its kind.
+#![tactic(auto)]
+
+mod any_sock;
+mod calls;
+mod change_fault;
+mod topics;
+mod unbuilt_kind;
+
+pub use any_sock::AnySock;
+pub use change_fault::ChangeFault;
+pub use unbuilt_kind::UnbuiltKind;
