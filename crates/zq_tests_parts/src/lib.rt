@@ -10,6 +10,8 @@ mod fair_queue_tests;
 #[cfg(test)]
 mod load_balancer_tests;
 #[cfg(test)]
+mod many_wanted;
+#[cfg(test)]
 mod messages;
 #[cfg(test)]
 mod msg_pipe_tests;
@@ -25,3 +27,7 @@ mod req_rep_tests;
 mod router_dealer_tests;
 #[cfg(test)]
 mod router_tests;
+#[cfg(test)]
+mod subscribing_tests;
+#[cfg(test)]
+mod xsub_tests;

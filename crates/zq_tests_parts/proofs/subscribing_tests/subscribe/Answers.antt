@@ -1,0 +1,12 @@
+use Rattle.std.proofs.Common.{◌<◌, ℕ, List, All, length, sym, subst}
+use Rattle.zq_tests_parts.proofs.subscribing_tests.subscribe.Goals as goal
+
+pub returns : goal.returns
+returns c = record {
+  ins =
+      subst (λ (l : List ℕ). All (λ (k : ℕ). k < length c.subscribe.new.peers) l) (sym c.subscribe.ensures.same.ins_are)
+      (λ k d within. c.subscribe.ensures.keeps.stay _ (c.requires.ins k d within));
+  there =
+      subst (λ (l : List ℕ). All (λ (k : ℕ). k < length c.subscribe.new.peers) l) (sym c.subscribe.ensures.same.places_are)
+      (λ k d within. c.subscribe.ensures.keeps.stay _ (c.requires.there k d within));
+}

@@ -1,0 +1,82 @@
+ghost use Rattle.std.specs.Prelude.{◌≡◌, []};
+ghost use Rattle.std.specs.Map.{keys_of};
+
+use crate::messages::one_frame;
+use crate::peers::TestPeers;
+use pub_sub::{ChangeFault, Sub, XSendFault, XSub};
+use spec_pattern::{SendRefusal, Sent};
+use std::alloc::Global;
+use std::test::Fail;
+
+/// What a subscription was answered.
+#[derive(Clone, Copy, Debug, PartialEq, Eq)]
+pub enum Answer {
+    Done,
+    Limit,
+    Else,
+}
+
+/// What a SUB answered.
+fn changed(done: Result<(), ChangeFault>) -> Answer {
+    match done {
+        Ok(()) => Answer::Done,
+        Err(ChangeFault::SubLimit) => Answer::Limit,
+        Err(_other) => Answer::Else,
+    }
+}
+
+/// What an XSUB answered.
+fn sent(answer: Result<Sent, XSendFault>) -> Answer {
+    match answer {
+        Ok(Sent::Subscribed) => Answer::Done,
+        Err(XSendFault::Refused(SendRefusal::SubLimit, _back)) => Answer::Limit,
+        _other => Answer::Else,
+    }
+}
+
+/// Subscribes a SUB without peers to a number.
+fn subscribe(alloc: Global, sub: &mut Sub, peers: &mut TestPeers, number: u32) -> Answer
+    requires { keys_of sub.old.followers ≡ [] }
+    ensures { keys_of sub.new.followers ≡ [] }
+{
+    changed(sub.subscribe(alloc, peers, &number.to_be_bytes()))
+}
+
+/// Asks an XSUB without peers to send a subscription to a number.
+fn send(alloc: Global, xsub: &mut XSub, peers: &mut TestPeers, number: u32) -> Result<Answer, Fail>
+    requires { keys_of xsub.old.followers ≡ [] }
+    ensures { keys_of xsub.new.followers ≡ [] }
+{
+    let octets = number.to_be_bytes();
+    let message = one_frame(alloc, &[1, octets[0], octets[1], octets[2], octets[3]])?;
+    Ok(sent(xsub.send(alloc, peers, message)))
+}
+
+#[test]
+fn a_sub_wants_65_536_topics_and_no_more(rt: HostRuntime) -> Result<(), Fail> {
+    let alloc = rt.alloc();
+    let mut peers = TestPeers::new(alloc);
+    let mut sub = Sub::new(alloc);
+    for number in 0..65_536 {
+        assert!(rt; subscribe(alloc, &mut sub, &mut peers, number) == Answer::Done);
+    }
+    assert_eq!(rt;
+        subscribe(alloc, &mut sub, &mut peers, 65_536),
+        Answer::Limit
+    );
+    assert_eq!(rt; subscribe(alloc, &mut sub, &mut peers, 9), Answer::Done);
+    Ok(())
+}
+
+#[test]
+fn an_xsub_wants_65_536_topics_and_no_more(rt: HostRuntime) -> Result<(), Fail> {
+    let alloc = rt.alloc();
+    let mut peers = TestPeers::new(alloc);
+    let mut xsub = XSub::new(alloc);
+    for number in 0..65_536 {
+        assert!(rt; send(alloc, &mut xsub, &mut peers, number)? == Answer::Done);
+    }
+    assert_eq!(rt; send(alloc, &mut xsub, &mut peers, 65_536)?, Answer::Limit);
+    assert_eq!(rt; send(alloc, &mut xsub, &mut peers, 9)?, Answer::Done);
+    Ok(())
+}
