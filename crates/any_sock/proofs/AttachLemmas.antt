@@ -21,6 +21,7 @@ use Rattle.router_dealer.specs.Named.{RouterState, IsTaken, Attaches, attached_s
 use Rattle.router_dealer.proofs.LawLemmas.{attaches_the_end}
 use Rattle.pub_sub.specs.Publishers.{PubState, publisher_at, with_subscriber_at}
 use Rattle.pub_sub.specs.Publishers as publishers
+use Rattle.pub_sub.specs.Subscribing.{SubState, with_publisher_at, Joins}
 use Rattle.any_sock.specs.Over.{HaveSamePlaces, peer_places, left_of}
 use Rattle.any_sock.specs.Peers.{AttachedOver, AddsPlace, as_taken}
 use Rattle.any_sock.specs.declared.any_sock.AnySock.{AnySock}
@@ -136,6 +137,30 @@ module _ (place : ℕ) (identity : List ℕ) (s : AnySock) where
     attaches = λ ends. ap by_kind.XPub (defined ends);
     places = same_as _ _ (ap (λ q. keys_of q.subs) e ∙ map-append (λ (x : ℕ × List Topic). x.0) p.subs ((place, []) ∷ []));
     left_is = ap (λ q. left_of (sock.XPub q)) e;
+  })
+
+  -- one place more behind the turns and behind the peers
+  sub_places : (u : SubState) → HaveSamePlaces ((u.ins ++ keys_of u.followers) ++ place ∷ []) ((u.ins ++ place ∷ []) ++ keys_of (u.followers ++ (place, []) ∷ []))
+  sub_places u =
+      subst (λ (l : List ℕ). HaveSamePlaces ((u.ins ++ keys_of u.followers) ++ place ∷ []) ((u.ins ++ place ∷ []) ++ l))
+      (sym (map-append (λ (x : ℕ × List Topic). x.0) u.followers ((place, []) ∷ []))) (places_both u.ins (keys_of u.followers) place)
+
+  pub sub_taken : (u u' : SubState) → s ≡ sock.Sub u → u' ≡ with_publisher_at place u → ((ends : ℕ → End) → Joins ends place u u')
+      → AttachedOver place identity s Yes (sock.Sub u')
+  sub_taken u u' is e defined = subst (λ (t : AnySock). AttachedOver place identity t Yes (sock.Sub u')) (sym is) (record {
+    answers = λ ends. refl;
+    attaches = λ ends. ap by_kind.Sub (defined ends);
+    places = subst (λ (q : SubState). HaveSamePlaces ((u.ins ++ keys_of u.followers) ++ place ∷ []) (q.ins ++ keys_of q.followers)) (sym e) (sub_places u);
+    left_is = refl;
+  })
+
+  pub xsub_taken : (u u' : SubState) → s ≡ sock.XSub u → u' ≡ with_publisher_at place u → ((ends : ℕ → End) → Joins ends place u u')
+      → AttachedOver place identity s Yes (sock.XSub u')
+  xsub_taken u u' is e defined = subst (λ (t : AnySock). AttachedOver place identity t Yes (sock.XSub u')) (sym is) (record {
+    answers = λ ends. refl;
+    attaches = λ ends. ap by_kind.XSub (defined ends);
+    places = subst (λ (q : SubState). HaveSamePlaces ((u.ins ++ keys_of u.followers) ++ place ∷ []) (q.ins ++ keys_of q.followers)) (sym e) (sub_places u);
+    left_is = refl;
   })
 
   -- a PAIR takes one peer

@@ -28,6 +28,7 @@ use Rattle.router_dealer.proofs.LawLemmas.{detaches_the_end}
 use Rattle.router_dealer.proofs.PlaceNamesLemmas.{turned}
 use Rattle.pub_sub.specs.Places.{is_place, AreApart}
 use Rattle.pub_sub.specs.Publishers.{PubState, Detaches, without_subscriber_at, without_and_told}
+use Rattle.pub_sub.specs.Subscribing.{SubState, Leaves, without_publisher_at}
 use Rattle.any_sock.specs.Over.{partner_place, left_of}
 use Rattle.any_sock.specs.Peers.{DetachedOver}
 use Rattle.any_sock.specs.declared.any_sock.AnySock.{AnySock}
@@ -169,4 +170,27 @@ module _ (pair : PairId) (place : ℕ) (s : AnySock) where
     places = subst (λ (z : PubState). All (Contains (keys_of p.subs)) (keys_of z.subs)) (sym e)
         (All-map-remove_entry (nat_eq place) (λ (x : ℕ × List Topic). x.0) (Contains (keys_of p.subs)) p.subs (All-contains_itself (keys_of p.subs)));
     left_is = ap (λ z. left_of (sock.XPub z)) e;
+  })
+
+  -- no place comes with a subscriber's peer that goes
+  sub_fewer : (u : SubState) → All (Contains (u.ins ++ keys_of u.followers)) (without_place place u.ins ++ keys_of (without_publisher_at place u).followers)
+  sub_fewer u =
+      let C = Contains (u.ins ++ keys_of u.followers) in
+      let all = All-contains_itself (u.ins ++ keys_of u.followers) in
+      All-append C (without_place place u.ins) _
+      (All-filter (λ other. not (other == place)) C u.ins (all_front C u.ins (keys_of u.followers) all))
+      (All-map-remove_entry (nat_eq place) (λ (x : ℕ × List Topic). x.0) C u.followers (all_behind C u.ins (keys_of u.followers) all))
+
+  pub sub_left : (u u' : SubState) → s ≡ sock.Sub u → u' ≡ without_publisher_at place u → ((ends : ℕ → End) → Leaves ends place u u') → DetachedOver pair place s (sock.Sub u')
+  sub_left u u' is e defined = subst (λ (t : AnySock). DetachedOver pair place t (sock.Sub u')) (sym is) (record {
+    detaches = λ ends one. ap by_kind.Sub (defined ends one.apart one.known);
+    places = subst (λ (z : SubState). All (Contains (u.ins ++ keys_of u.followers)) (z.ins ++ keys_of z.followers)) (sym e) (sub_fewer u);
+    left_is = refl;
+  })
+
+  pub xsub_left : (u u' : SubState) → s ≡ sock.XSub u → u' ≡ without_publisher_at place u → ((ends : ℕ → End) → Leaves ends place u u') → DetachedOver pair place s (sock.XSub u')
+  xsub_left u u' is e defined = subst (λ (t : AnySock). DetachedOver pair place t (sock.XSub u')) (sym is) (record {
+    detaches = λ ends one. ap by_kind.XSub (defined ends one.apart one.known);
+    places = subst (λ (z : SubState). All (Contains (u.ins ++ keys_of u.followers)) (z.ins ++ keys_of z.followers)) (sym e) (sub_fewer u);
+    left_is = refl;
   })

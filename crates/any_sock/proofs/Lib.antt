@@ -5,3 +5,4 @@ pub mod PumpLemmas
 pub mod AttachLemmas
 pub mod DetachLemmas
 pub mod FreshLemmas
+pub mod ChangeLemmas

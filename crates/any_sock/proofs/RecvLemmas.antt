@@ -32,6 +32,8 @@ use Rattle.router_dealer.specs.Named.{Kept, RouterState, RouterGot, TakesNamed, 
 use Rattle.router_dealer.specs.Laws.{router_at}
 use Rattle.pub_sub.specs.Hearing.{XPubGives, XPubStops, in_hearing, in_giving}
 use Rattle.pub_sub.specs.Publishers.{PubState, publisher_at, meant, resumed}
+use Rattle.pub_sub.specs.Subscribing.{SubState, subscriber_at, SubGives, SubStops}
+use Rattle.pub_sub.specs.XSubs.{XSubGives}
 use Rattle.any_sock.specs.Over.{Leftover, both_at, left_of}
 use Rattle.any_sock.specs.Calls.{GotOver, RecvStopped, RecvDone}
 use Rattle.any_sock.specs.declared.any_sock.AnySock.{AnySock}
@@ -242,6 +244,53 @@ module _ {S : Type 0} (runs : S → List PipeStep → S → Type 0) (ends : ℕ 
         step = λ apart. (refl, (publisher_at ends p', x.gives apart, refl));
         told_are = none_told same;
         left_is = ap still_obeys (x.kept_is ∙ sym (none_kept ends p));
+      }))
+
+  sub_stopped : (u u' : SubState) → SubStops runs ends old new told told' u u'
+      → RecvStopped runs ends old new told told' (sock.Sub u) (sock.Sub u')
+  sub_stopped u u' x = record {
+    steps = x.dropped.drops.steps;
+    runs_are = x.dropped.drops.runs_are;
+    skips = x.dropped.drops.skips;
+    step = λ apart. (
+      refl,
+      map ends u'.ins,
+      record {
+        dropped = x.dropped.drops.dropped;
+        few = subst (λ (n : ℕ). n ≤ 256) (sym x.dropped.drops.count_is) x.dropped.few;
+        drops = x.dropped.drops.drops;
+      },
+      ap (λ v. by_kind.Sub (subscriber_at ends v)) x.new_is,
+    );
+    told_are = x.dropped.drops.told_are;
+  }
+
+  pub sub_got : (u u' : SubState) → s ≡ sock.Sub u
+      → MatchRecv r (SubStops runs ends old new told told' u u') (λ answer. SubGives runs ends old new told told' u answer u')
+      → RecvDone runs ends (left_of s).to_give old new told told' s r (sock.Sub u')
+  sub_got u u' is h =
+      subst (λ (t : AnySock). RecvDone runs ends (left_of t).to_give old new told told' t r (sock.Sub u')) (sym is)
+      (recv_each r _ _ _ _ h (sub_stopped u u') (λ answer x. record {
+        steps = x.steps;
+        runs_are = x.runs_are;
+        skips = x.skips;
+        step = λ apart. (subscriber_at ends u', x.step, refl);
+        told_are = x.told_are;
+        left_is = refl;
+      }))
+
+  pub xsub_got : (u u' : SubState) → s ≡ sock.XSub u → told' ≡ told
+      → MatchRecv r ⊥ (λ answer. XSubGives runs ends old new u answer u')
+      → RecvDone runs ends (left_of s).to_give old new told told' s r (sock.XSub u')
+  xsub_got u u' is same h =
+      subst (λ (t : AnySock). RecvDone runs ends (left_of t).to_give old new told told' t r (sock.XSub u')) (sym is)
+      (recv_each r ⊥ _ _ _ h (λ no. absurd no) (λ answer x. record {
+        steps = x.steps;
+        runs_are = x.runs_are;
+        skips = [];
+        step = λ apart. (refl, (subscriber_at ends u', x.step, refl));
+        told_are = none_told same;
+        left_is = refl;
       }))
 
 -- a ROUTER's

@@ -1,6 +1,6 @@
 -- A send of a kind is one of a socket of any kind.
-use Rattle.std.proofs.Common.{◌≡◌, ℕ, Bool, true, false, List, [], ◌∷◌, All, map, refl, sym, ap, subst}
-use Rattle.std.specs.Prelude.{Ok, Err, Some, if◌then◌else◌}
+use Rattle.std.proofs.Common.{◌≡◌, ℕ, Bool, true, false, List, [], ◌∷◌, ◌++◌, All, map, refl, sym, ap, subst}
+use Rattle.std.specs.Prelude.{Result, Ok, Err, Some, if◌then◌else◌}
 use Rattle.std.specs.Map.{keys_of}
 use Rattle.std.specs.Str.{bytes_eq}
 use Rattle.std.proofs.lemmas.List.Elements.{All-head, All-tail}
@@ -21,20 +21,38 @@ use Rattle.req_rep.specs.declared.partner.Partner.{Partner}
 use Rattle.req_rep.specs.declared.partner.Partner.TheVariants.{Nobody, At, Gone}
 use Rattle.router_dealer.specs.PlaceNames.{PlaceName, place_named}
 use Rattle.router_dealer.specs.Named.{RouterState, RouterSent, SendsNamed}
+use Rattle.spec_pattern.specs.Publishing.{Saying, Adds, Cancels, Other, saying_of}
+use Rattle.spec_pattern.specs.PatternCalls.{Subscribe, Unsubscribe}
+use Rattle.spec_pattern.specs.declared.answers.SendRefusal.TheVariants.{NotSupported}
+use Rattle.spec_pattern.specs.declared.answers.Sent.{Sent}
 use Rattle.pub_sub.specs.Publishers.{PubState, Publishes}
+use Rattle.pub_sub.specs.Subscribing.{SubState, subscriber_at, wanting, wanted_by}
+use Rattle.pub_sub.specs.XSubs.{MatchXSend, IfXBack, passed_on, SaysUntold, XSubSent}
+use Rattle.pub_sub.specs.declared.xsend_fault.XSendFault.{XSendFault}
+use Rattle.pub_sub.specs.declared.xsend_fault.XSendFault.TheVariants as xfault
 use Rattle.any_sock.specs.Over.{partner_place, both_at}
-use Rattle.any_sock.specs.Calls.{SentOver, SendUndone}
+use Rattle.any_sock.specs.Stopped.{SaysSome}
+use Rattle.any_sock.specs.Calls.{SentOver, SendUndone, SaidUntold}
 use Rattle.any_sock.specs.declared.any_sock.AnySock.{AnySock}
 use Rattle.any_sock.specs.declared.any_sock.AnySock.TheVariants as sock
 use Rattle.router_dealer.proofs.PlaceNamesLemmas.{same_some, no_some}
 use Rattle.pub_sub.proofs.KnownLemmas.{place_of_all}
+use Rattle.pub_sub.proofs.XSubLemmas.{MatchXSend-passed, IfXBack-passed}
 use Rattle.any_sock.proofs.PlaceLemmas.{all_front, all_behind}
+use Rattle.any_sock.proofs.PumpLemmas.{told_some, steps_told, runs_told}
 
 -- what holds of each answer, and where memory was wanting
 pub send_each : (r : SendResult) (M N : Type 0) (P Q : SendAnswer → Type 0) → MatchSend r M P → (M → N) → ((answer : SendAnswer) → P answer → Q answer) → MatchSend r N Q
 send_each (Ok s) M N P Q h memory each = each (answer_of s) h
 send_each (Err (send.Refused refusal back)) M N P Q h memory each = each (sent.Refused refusal) h
 send_each (Err (send.OutOfMemory back)) M N P Q h memory each = memory h
+
+-- what holds of a result, where it is passed on
+pub passes : (x : Result Sent XSendFault) (r : SendResult) (memory untold : Type 0) (P : SendAnswer → Type 0) → x ≡ passed_on r → MatchSend r memory P → MatchXSend x memory untold P
+passes x r memory untold P is h = subst (λ (y : Result Sent XSendFault). MatchXSend y memory untold P) (sym is) (MatchXSend-passed r memory untold P h)
+
+pub passes_back : (x : Result Sent XSendFault) (r : SendResult) (P : Frames → Type 0) → x ≡ passed_on r → IfBack r P → IfXBack x P
+passes_back x r P is h = subst (λ (y : Result Sent XSendFault). IfXBack y P) (sym is) (IfXBack-passed r P h)
 
 -- what is told of the place of each name
 pub told_named : (P : ℕ → Type 0) (names : List PlaceName) → All P (map (λ n. n.place) names) → (name : List ℕ) (place : ℕ) → place_named names name ≡ Some place → P place
@@ -147,6 +165,59 @@ module _ {S : Type 0} (runs : S → List PipeStep → S → Type 0) (ends : ℕ 
         runs_are = x.runs_are;
         step = λ w reads. (x.step w (λ q there. place_of_all (λ k. w (ends k) ≡ writable k) (keys_of p.subs) q reads.peers there) reads.apart, refl);
       }))
+
+  pub sub_sent : (u : SubState) → s ≡ sock.Sub u → runs old [] new
+      → MatchSend r ⊥ (λ answer. answer ≡ sent.Refused NotSupported)
+      → MatchSend r (SendUndone old new s (sock.Sub u)) (λ answer. SentOver runs ends writable m old new s answer (sock.Sub u))
+  sub_sent u is none h =
+      subst (λ (t : AnySock). MatchSend r (SendUndone old new t (sock.Sub u)) (λ answer. SentOver runs ends writable m old new t answer (sock.Sub u))) (sym is)
+      (send_each r ⊥ _ _ _ h (λ no. absurd no) (λ answer x. record { steps = []; runs_are = none; step = λ w reads. (x, refl, refl) }))
+
+-- an XSUB's result
+module _ {S : Type 0} (runs : S → List PipeStep → S → Type 0) (ends : ℕ → End) (writable : ℕ → Bool) (m : Frames) (old new : S) (u u' : SubState)
+    (on : (s t u : S) (before after : List PipeStep) → runs s before t → runs t after u → runs s (before ++ after) u) where
+  xsub_answered : (answer : SendAnswer) → XSubSent runs ends writable m old new u answer u' → SentOver runs ends writable m old new (sock.XSub u) answer (sock.XSub u')
+  xsub_answered answer x = record {
+    steps = x.steps;
+    runs_are = x.runs_are;
+    step = λ w reads.
+        let P = λ (k : ℕ). w (ends k) ≡ writable k in (
+          subscriber_at ends u',
+          x.step w (λ q there. place_of_all P (keys_of u.followers) q (all_behind P u.ins (keys_of u.followers) reads.peers) there),
+          refl,
+        );
+  }
+
+  -- what was said was obeyed, and wasn't told whole
+  says_some : (saying : Saying) → SaysUntold runs ends writable saying old new u u'
+      → (steps : List PipeStep) × (runs old steps new)
+      × SaysSome (λ can_write. Tells can_write ends writable (u.ins ++ keys_of u.followers)) saying (subscriber_at ends u) steps (subscriber_at ends u')
+  says_some (Adds topic) x =
+      let v = wanting (wanted_by Subscribe topic u.wanted) u in
+      (steps_told runs ends writable old new v u' x.stops, runs_told runs ends writable old new v u' on x.stops, (x.made, told_some runs ends writable old new v u' x.stops))
+  says_some (Cancels topic) x =
+      let v = wanting (wanted_by Unsubscribe topic u.wanted) u in
+      (steps_told runs ends writable old new v u' x.stops, runs_told runs ends writable old new v u' on x.stops, (x.made, told_some runs ends writable old new v u' x.stops))
+  says_some Other x = absurd x
+
+  xsub_by : (r : Result Sent XSendFault)
+      → MatchXSend r ((u' ≡ u) × (new ≡ old)) (SaysUntold runs ends writable (saying_of m) old new u u') (λ answer. XSubSent runs ends writable m old new u answer u')
+      → MatchXSend r (SendUndone old new (sock.XSub u) (sock.XSub u')) (SaidUntold runs ends writable m old new (sock.XSub u) (sock.XSub u'))
+      (λ answer. SentOver runs ends writable m old new (sock.XSub u) answer (sock.XSub u'))
+  xsub_by (Ok s) h = xsub_answered (answer_of s) h
+  xsub_by (Err (xfault.Refused refusal back)) h = xsub_answered (sent.Refused refusal) h
+  xsub_by (Err (xfault.OutOfMemory back)) h = record { needs = tt; stays = ap sock.XSub h.0; peers_stay = h.1 }
+  xsub_by (Err xfault.Untold) h =
+      let some = says_some (saying_of m) h in
+      record { steps = some.0; runs_are = some.1; step = (subscriber_at ends u', some.2, refl) }
+
+  pub xsub_sent : (r : Result Sent XSendFault) (s : AnySock) → s ≡ sock.XSub u
+      → MatchXSend r ((u' ≡ u) × (new ≡ old)) (SaysUntold runs ends writable (saying_of m) old new u u') (λ answer. XSubSent runs ends writable m old new u answer u')
+      → MatchXSend r (SendUndone old new s (sock.XSub u')) (SaidUntold runs ends writable m old new s (sock.XSub u'))
+      (λ answer. SentOver runs ends writable m old new s answer (sock.XSub u'))
+  xsub_sent r s is h =
+      subst (λ (t : AnySock). MatchXSend r (SendUndone old new t (sock.XSub u')) (SaidUntold runs ends writable m old new t (sock.XSub u'))
+      (λ answer. SentOver runs ends writable m old new t answer (sock.XSub u'))) (sym is) (xsub_by r h)
 
 -- a ROUTER's result
 module _ {S : Type 0} (runs : S → List PipeStep → S → Type 0) (ends : ℕ → End) (writable : ℕ → Bool) (m : Frames) (old new : S) (q q' : RouterState) (same : q' ≡ q) where

@@ -11,21 +11,25 @@ use Rattle.spec_pattern.specs.declared.answers.SendAnswer.{SendAnswer}
 use Rattle.spec_pattern.specs.declared.answers.RecvAnswer.{RecvAnswer}
 use Rattle.spec_pattern.specs.declared.answers.Skip.{Skip}
 use Rattle.router_dealer.specs.Named.{Kept, GivesKept}
+use Rattle.by_turn.specs.Calls.{Tells}
 use Rattle.pub_sub.specs.Places.{AreApart}
+use Rattle.pub_sub.specs.declared.change_fault.ChangeFault as followed
+use Rattle.pub_sub.specs.declared.change_fault.ChangeFault.TheVariants as follow
 use Rattle.any_sock.specs.Over.{IsReadingOf, peer_places, over, caught_up, as_received, left_of}
-use Rattle.any_sock.specs.Stopped.{StopsReceive, StopsPump}
+use Rattle.any_sock.specs.Stopped.{StopsReceive, StopsPump, StopsSend, StopsChange}
 use Rattle.any_sock.specs.declared.any_sock.AnySock.{AnySock}
 use Rattle.any_sock.specs.declared.any_sock.AnySock.TheVariants as sock
 use Rattle.any_sock.specs.declared.change_fault.ChangeFault.{ChangeFault}
 use Rattle.any_sock.specs.declared.change_fault.ChangeFault.TheVariants as fault
 
--- whether a send may need memory: a PUSH's, a PULL's, a PAIR's and a DEALER's never does, and a ROUTER's only to hand a message back
+-- whether a send may need memory: a PUSH's, a PULL's, a PAIR's, a DEALER's and a SUB's never does, and a ROUTER's only to hand a message back
 abbrev pub SendNeedsMemory : AnySock → Type 0
 SendNeedsMemory (sock.Push turns) = ⊥
 SendNeedsMemory (sock.Pull turns) = ⊥
 SendNeedsMemory (sock.Pair turns) = ⊥
 SendNeedsMemory (sock.Dealer t) = ⊥
 SendNeedsMemory (sock.Router r) = r.mandatory ≡ true
+SendNeedsMemory (sock.Sub s) = ⊥
 SendNeedsMemory _ = Unit {0}
 
 -- a send met want of memory, and changed nothing
@@ -34,13 +38,34 @@ pub record SendUndone {S : Type 0} (old new : S) (s s' : AnySock) : Type 0 where
   pub stays : s' ≡ s
   pub peers_stay : new ≡ old
 
--- of a change of topics: its answer, or what holds where memory was wanting
-abbrev pub MatchChanged : Result (Unit {0}) ChangeFault → Type 0 → (ChangeAnswer → Type 0) → Type 0
-MatchChanged (Ok done) memory P = P (Changed Done)
-MatchChanged (Err fault.NoTopics) memory P = P NoTopics
-MatchChanged (Err fault.SubLimit) memory P = P (Changed Limit)
-MatchChanged (Err fault.NotSub) memory P = P (Changed NotSub)
-MatchChanged (Err fault.OutOfMemory) memory P = memory
+-- of a change of topics: its answer, or what holds where memory was wanting before it was made, and where it was made and wasn't told
+abbrev pub MatchChanged : Result (Unit {0}) ChangeFault → Type 0 → Type 0 → (ChangeAnswer → Type 0) → Type 0
+MatchChanged (Ok done) nothing untold P = P (Changed Done)
+MatchChanged (Err fault.NoTopics) nothing untold P = P NoTopics
+MatchChanged (Err fault.SubLimit) nothing untold P = P (Changed Limit)
+MatchChanged (Err fault.NotSub) nothing untold P = P (Changed NotSub)
+MatchChanged (Err fault.OutOfMemory) nothing untold P = nothing
+MatchChanged (Err fault.Untold) nothing untold P = untold
+
+-- what a change at a subscriber is answered
+abbrev pub of_subscriber : Result (Unit {0}) followed.ChangeFault → Result (Unit {0}) ChangeFault
+of_subscriber (Ok done) = Ok done
+of_subscriber (Err follow.SubLimit) = Err fault.SubLimit
+of_subscriber (Err follow.NotSub) = Err fault.NotSub
+of_subscriber (Err follow.OutOfMemory) = Err fault.OutOfMemory
+of_subscriber (Err follow.Untold) = Err fault.Untold
+
+-- whether the socket has topics of its own
+abbrev pub HasTopics : AnySock → Type 0
+HasTopics (sock.Sub s) = Unit {0}
+HasTopics (sock.XSub s) = Unit {0}
+HasTopics _ = ⊥
+
+-- a change of topics met want of memory, and changed nothing
+pub record ChangeUndone {S : Type 0} (old new : S) (s s' : AnySock) : Type 0 where
+  pub needs : HasTopics s
+  pub stays : s' ≡ s
+  pub peers_stay : new ≡ old
 
 module _ {S : Type 0} (runs : S → List PipeStep → S → Type 0) (ends : ℕ → End) where
   -- ---- sending
@@ -51,6 +76,12 @@ module _ {S : Type 0} (runs : S → List PipeStep → S → Type 0) (ends : ℕ 
     pub runs_are : runs old steps new
     pub step : (can_write : End → Bool) → IsReadingOf can_write ends writable s
         → PatternSends can_write m (over ends s) steps answer (over ends s')
+
+  -- a message was a subscription or a cancel and was obeyed, and telling it met want of memory
+  pub record SaidUntold (writable : ℕ → Bool) (m : Frames) (old new : S) (s s' : AnySock) : Type 0 where
+    pub steps : List PipeStep
+    pub runs_are : runs old steps new
+    pub step : StopsSend (λ can_write. Tells can_write ends writable (peer_places s)) m (over ends s) steps (over ends s')
 
   -- ---- receiving
 
@@ -88,7 +119,7 @@ module _ {S : Type 0} (runs : S → List PipeStep → S → Type 0) (ends : ℕ 
 
   -- ---- what comes before a call
 
-  -- the calls made the steps of what comes before a call: a publisher hears its peers
+  -- the calls made the steps of what comes before a call: a publisher hears its peers, a subscriber tells them
   pub record PumpedOver (writable : ℕ → Bool) (old new : S) (s s' : AnySock) : Type 0 where
     pub steps : List PipeStep
     pub runs_are : runs old steps new
@@ -97,11 +128,11 @@ module _ {S : Type 0} (runs : S → List PipeStep → S → Type 0) (ends : ℕ 
     pub left_is : left_of s' ≡ left_of (caught_up ends s)
 
   -- it met want of memory: what it did before stays done
-  pub record PumpStopped (old new : S) (s s' : AnySock) : Type 0 where
+  pub record PumpStopped (writable : ℕ → Bool) (old new : S) (s s' : AnySock) : Type 0 where
     pub steps : List PipeStep
     pub runs_are : runs old steps new
-    pub step : AreApart ends (peer_places s)
-        → StopsPump (over ends (caught_up ends s)) steps (over ends (caught_up ends s'))
+    pub step : AreApart ends (peer_places s) → StopsPump (λ can_write. Tells can_write ends writable (peer_places s))
+        (over ends (caught_up ends s)) steps (over ends (caught_up ends s'))
 
   -- ---- topics
 
@@ -111,3 +142,9 @@ module _ {S : Type 0} (runs : S → List PipeStep → S → Type 0) (ends : ℕ 
     pub runs_are : runs old steps new
     pub step : (can_write : End → Bool) → IsReadingOf can_write ends writable s
         → PatternChanges change can_write topic (over ends s) steps answer (over ends s')
+
+  -- a change was made, and telling it met want of memory
+  pub record ChangeUntold (writable : ℕ → Bool) (change : Change) (topic : Topic) (old new : S) (s s' : AnySock) : Type 0 where
+    pub steps : List PipeStep
+    pub runs_are : runs old steps new
+    pub step : StopsChange (λ can_write. Tells can_write ends writable (peer_places s)) change topic (over ends s) steps (over ends s')

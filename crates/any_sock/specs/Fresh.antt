@@ -11,12 +11,6 @@ use Rattle.spec_pattern.specs.Pattern as by_kind
 use Rattle.any_sock.specs.Over.{peer_places, over, left_of, nothing_left}
 use Rattle.any_sock.specs.declared.any_sock.AnySock.{AnySock}
 
--- whether sockets of the kind are built
-abbrev pub is_built : Kind → Bool
-is_built Sub = false
-is_built XSub = false
-is_built _ = true
-
 -- a publisher without peers
 abbrev pub empty_publisher : Bool → Bool → Publisher
 empty_publisher verbose tells = record { ins = []; subs = []; inbox = []; verbose = verbose; tells = tells }

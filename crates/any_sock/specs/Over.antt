@@ -14,12 +14,13 @@ use Rattle.router_dealer.specs.Named.{Kept}
 use Rattle.router_dealer.specs.Laws.{router_at}
 use Rattle.pub_sub.specs.Places.{AreApart}
 use Rattle.pub_sub.specs.Publishers.{publisher_at, meant}
+use Rattle.pub_sub.specs.Subscribing.{subscriber_at}
 use Rattle.any_sock.specs.declared.any_sock.AnySock.{AnySock}
 use Rattle.any_sock.specs.declared.any_sock.AnySock.TheVariants as sock
 
 -- ---- the places of a socket
 
--- the places of its peers: those of its turns, a ROUTER's named ones too, and a publisher's listed ones
+-- the places of its peers: those of its turns, a ROUTER's named ones and a subscriber's told ones too, and a publisher's listed ones
 abbrev pub peer_places : AnySock → List ℕ
 peer_places (sock.Push turns) = turns
 peer_places (sock.Pull turns) = turns
@@ -30,6 +31,8 @@ peer_places (sock.Rep r) = r.ins
 peer_places (sock.Router r) = r.ins ++ map (λ n. n.place) r.names
 peer_places (sock.Pub p) = keys_of p.subs
 peer_places (sock.XPub p) = keys_of p.subs
+peer_places (sock.Sub u) = u.ins ++ keys_of u.followers
+peer_places (sock.XSub u) = u.ins ++ keys_of u.followers
 
 -- the place of a partner
 abbrev pub partner_place : Partner → List ℕ
@@ -65,6 +68,8 @@ over ends (sock.Rep r) = by_kind.Rep (map ends r.ins) (owed_duty ends r.owed r.e
 over ends (sock.Router r) = router_at ends r
 over ends (sock.Pub p) = by_kind.Pub (publisher_at ends p)
 over ends (sock.XPub p) = by_kind.XPub (publisher_at ends p)
+over ends (sock.Sub u) = by_kind.Sub (subscriber_at ends u)
+over ends (sock.XSub u) = by_kind.XSub (subscriber_at ends u)
 
 -- ---- what want of memory left to do
 

@@ -1,12 +1,11 @@
-ghost use Rattle.std.specs.Prelude.{◌≡◌, ◌<◌, ◌↔◌, ℕ, All, true, IsOk, IsTrue, IfOk, IfErr, OnErr};
+ghost use Rattle.std.specs.Prelude.{◌≡◌, ◌<◌, ◌↔◌, ℕ, All, IsTrue, IfOk, OnErr};
 ghost use Rattle.spec_pattern.specs.TurnList.{End};
 ghost use Rattle.pattern_laws.specs.Peers.{pattern_kind};
 ghost use Rattle.any_sock.specs.Over.{peer_places, over};
 ghost use Rattle.any_sock.specs.Peers.{CanName, AttachedOver, DetachedOver, as_taken};
-ghost use Rattle.any_sock.specs.Fresh.{is_built, IsWithoutPeers};
+ghost use Rattle.any_sock.specs.Fresh.{IsWithoutPeers};
 
-use crate::unbuilt_kind::UnbuiltKind;
-use pub_sub::{Pub, XPub};
+use pub_sub::{Pub, Sub, XPub, XSub};
 use push_pull::{PairSock, Pull, Push};
 use req_rep::{Rep, Req};
 use router_dealer::{Dealer, Router, is_identity};
@@ -27,27 +26,28 @@ pub enum AnySock {
     Router(Router),
     Pub(Pub),
     XPub(XPub),
+    Sub(Sub),
+    XSub(XSub),
 }
 
 impl AnySock {
-    /// A socket of the kind, with no ends yet. SUB and XSUB are not built yet.
-    pub fn new(alloc: Global, kind: Kind, options: &Options) -> Result<AnySock, UnbuiltKind>
-        ensures built { IsOk result ↔ (is_built kind ≡ true) }
-        ensures ok { IfOk result (λ s. IsWithoutPeers kind options.now s) }
-        ensures err { IfErr result (λ e. e.kind ≡ kind) }
+    /// A socket of the kind, with no ends yet. Of the options a ROUTER heeds `mandatory` and an XPUB
+    /// `verbose`.
+    pub fn new(alloc: Global, kind: Kind, options: &Options) -> AnySock
+        ensures { IsWithoutPeers kind options.now result }
     {
         match kind {
-            Kind::Push => return Ok(AnySock::Push(Push::new(alloc))),
-            Kind::Pull => return Ok(AnySock::Pull(Pull::new(alloc))),
-            Kind::Pair => return Ok(AnySock::Pair(PairSock::new(alloc))),
-            Kind::Dealer => return Ok(AnySock::Dealer(Dealer::new(alloc))),
-            Kind::Req => return Ok(AnySock::Req(Req::new(alloc))),
-            Kind::Rep => return Ok(AnySock::Rep(Rep::new(alloc))),
-            Kind::Router => return Ok(AnySock::Router(Router::new(alloc, options.mandatory))),
-            Kind::Pub => return Ok(AnySock::Pub(Pub::new(alloc))),
-            Kind::XPub => return Ok(AnySock::XPub(XPub::new(alloc, options.verbose))),
-            Kind::Sub => return Err(UnbuiltKind { kind }),
-            Kind::XSub => return Err(UnbuiltKind { kind }),
+            Kind::Push => return AnySock::Push(Push::new(alloc)),
+            Kind::Pull => return AnySock::Pull(Pull::new(alloc)),
+            Kind::Pair => return AnySock::Pair(PairSock::new(alloc)),
+            Kind::Dealer => return AnySock::Dealer(Dealer::new(alloc)),
+            Kind::Req => return AnySock::Req(Req::new(alloc)),
+            Kind::Rep => return AnySock::Rep(Rep::new(alloc)),
+            Kind::Router => return AnySock::Router(Router::new(alloc, options.mandatory)),
+            Kind::Pub => return AnySock::Pub(Pub::new(alloc)),
+            Kind::XPub => return AnySock::XPub(XPub::new(alloc, options.verbose)),
+            Kind::Sub => return AnySock::Sub(Sub::new(alloc)),
+            Kind::XSub => return AnySock::XSub(XSub::new(alloc)),
         }
     }
 
@@ -65,6 +65,8 @@ impl AnySock {
             AnySock::Router(_) => return Kind::Router,
             AnySock::Pub(_) => return Kind::Pub,
             AnySock::XPub(_) => return Kind::XPub,
+            AnySock::Sub(_) => return Kind::Sub,
+            AnySock::XSub(_) => return Kind::XSub,
         }
     }
 
@@ -104,6 +106,8 @@ impl AnySock {
             AnySock::Router(router) => return router.attach(alloc, place, identity),
             AnySock::Pub(publisher) => return taken(publisher.attach(alloc, place)),
             AnySock::XPub(publisher) => return taken(publisher.attach(alloc, place)),
+            AnySock::Sub(subscriber) => return taken(subscriber.attach(alloc, place)),
+            AnySock::XSub(subscriber) => return taken(subscriber.attach(alloc, place)),
         }
     }
 
@@ -122,6 +126,8 @@ impl AnySock {
             AnySock::Router(router) => router.detach(place),
             AnySock::Pub(publisher) => publisher.detach(place),
             AnySock::XPub(publisher) => publisher.detach(pair, place),
+            AnySock::Sub(subscriber) => subscriber.detach(place),
+            AnySock::XSub(subscriber) => subscriber.detach(place),
         }
     }
 }

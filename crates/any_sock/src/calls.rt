@@ -1,43 +1,51 @@
-ghost use Rattle.std.specs.Prelude.{◌≡◌, All, OnOk, OnErr};
-ghost use Rattle.spec_pattern.specs.Results.{MatchSend, IfBack};
+ghost use Rattle.std.specs.Prelude.{◌≡◌, All, Contains, OnOk, OnErr};
+ghost use Rattle.pub_sub.specs.XSubs.{MatchXSend, IfXBack};
 ghost use Rattle.msg_pipe.specs.Places.{KeepsPlaces};
-ghost use Rattle.any_sock.specs.Over.{peer_places, HaveSamePlaces, left_of};
-ghost use Rattle.any_sock.specs.Calls.{SentOver, SendUndone, RecvDone, PumpedOver, PumpStopped};
+ghost use Rattle.any_sock.specs.Over.{peer_places, partner_places, HaveSamePlaces, left_of};
+ghost use Rattle.any_sock.specs.Calls.{SentOver, SendUndone, SaidUntold, RecvDone, PumpedOver, PumpStopped};
 
 use crate::any_sock::AnySock;
 use msg_pipe::Peers;
-use spec_pattern::{RecvFault, SendFault, Sent, Skip};
+use pub_sub::{XSendFault, passed_on};
+use spec_pattern::{RecvFault, Sent, Skip};
 use std::alloc::{AllocError, Global};
 use zq_base::{Message, PairId};
 
 impl AnySock {
     /// Sends by the kind's rule: the answer, and where the message went, are those of the kind
-    /// (zmq_msg_send(3)). A message that is refused, or for which memory wants, comes back whole.
+    /// (zmq_msg_send(3)). A message that is refused, or for which memory wants, comes back whole; one
+    /// of an XSUB that is a subscription is obeyed, and may be `Untold`. The peer that a REQ asked, or
+    /// to which a REP owes a reply, is one of its peers.
     pub fn send<E: Peers>(
         &mut self,
         alloc: Global,
         peers: &mut E,
         message: Message,
-    ) -> Result<Sent, SendFault>
+    ) -> Result<Sent, XSendFault>
         requires there { All (E.here peers.old) (peer_places self.old) }
-        ensures step { MatchSend result (SendUndone peers.old peers.new self.old self.new)
+        ensures step { MatchXSend result (SendUndone peers.old peers.new self.old self.new)
+            (SaidUntold E.runs (E.end_at peers.old) (E.writable peers.old) message
+            peers.old peers.new self.old self.new)
             (λ answer. SentOver E.runs (E.end_at peers.old) (E.writable peers.old) message
             peers.old peers.new self.old answer self.new) }
-        ensures back { IfBack result (λ back. back ≡ message) }
+        ensures back { IfXBack result (λ back. back ≡ message) }
         ensures places { HaveSamePlaces (peer_places self.old) (peer_places self.new) }
+        ensures partner { All (Contains (peer_places self.old)) (partner_places self.old) }
         ensures left { left_of self.new ≡ left_of self.old }
         ensures keeps { KeepsPlaces E.here E.end_at E.writable peers.old peers.new }
     {
         match self {
-            AnySock::Push(push) => return push.send(peers, message),
-            AnySock::Pull(pull) => return pull.send(peers, message),
-            AnySock::Pair(pair) => return pair.send(peers, message),
-            AnySock::Dealer(dealer) => return dealer.send(peers, message),
-            AnySock::Req(req) => return req.send(peers, message),
-            AnySock::Rep(rep) => return rep.send(peers, message),
-            AnySock::Router(router) => return router.send(peers, message),
-            AnySock::Pub(publisher) => return publisher.send(alloc, peers, message),
-            AnySock::XPub(publisher) => return publisher.send(alloc, peers, message),
+            AnySock::Push(push) => return passed_on(push.send(peers, message)),
+            AnySock::Pull(pull) => return passed_on(pull.send(peers, message)),
+            AnySock::Pair(pair) => return passed_on(pair.send(peers, message)),
+            AnySock::Dealer(dealer) => return passed_on(dealer.send(peers, message)),
+            AnySock::Req(req) => return passed_on(req.send(peers, message)),
+            AnySock::Rep(rep) => return passed_on(rep.send(peers, message)),
+            AnySock::Router(router) => return passed_on(router.send(peers, message)),
+            AnySock::Pub(publisher) => return passed_on(publisher.send(alloc, peers, message)),
+            AnySock::XPub(publisher) => return passed_on(publisher.send(alloc, peers, message)),
+            AnySock::Sub(subscriber) => return passed_on(subscriber.send(peers, message)),
+            AnySock::XSub(subscriber) => return subscriber.send(alloc, peers, message),
         }
     }
 
@@ -65,16 +73,19 @@ impl AnySock {
             AnySock::Router(router) => return router.recv(peers),
             AnySock::Pub(publisher) => return publisher.recv(peers),
             AnySock::XPub(publisher) => return publisher.recv(alloc, peers),
+            AnySock::Sub(subscriber) => return subscriber.recv(peers, skips),
+            AnySock::XSub(subscriber) => return subscriber.recv(peers),
         }
     }
 
-    /// What comes before each call: a publisher hears what its peers subscribe to and cancel. Where
-    /// memory wants, the message that it took is obeyed first at the next time.
+    /// What comes before each call: a publisher hears what its peers subscribe to and cancel, and a
+    /// subscriber tells its peers what it wants. Where memory wants, the message that a publisher took
+    /// is obeyed first at the next time, and what a subscriber has left to tell is told then.
     pub fn pump<E: Peers>(&mut self, alloc: Global, peers: &mut E) -> Result<(), AllocError>
         requires there { All (E.here peers.old) (peer_places self.old) }
         ensures ok { OnOk result (PumpedOver E.runs (E.end_at peers.old) (E.writable peers.old)
             peers.old peers.new self.old self.new) }
-        ensures err { OnErr result (PumpStopped E.runs (E.end_at peers.old)
+        ensures err { OnErr result (PumpStopped E.runs (E.end_at peers.old) (E.writable peers.old)
             peers.old peers.new self.old self.new) }
         ensures places { HaveSamePlaces (peer_places self.old) (peer_places self.new) }
         ensures keeps { KeepsPlaces E.here E.end_at E.writable peers.old peers.new }
@@ -82,6 +93,8 @@ impl AnySock {
         match self {
             AnySock::Pub(publisher) => return publisher.hear_peers(alloc, peers),
             AnySock::XPub(publisher) => return publisher.hear_peers(alloc, peers),
+            AnySock::Sub(subscriber) => return subscriber.tell(alloc, peers),
+            AnySock::XSub(subscriber) => return subscriber.tell(alloc, peers),
             _ => return Ok(()),
         }
     }

@@ -6,8 +6,6 @@ mod any_sock;
 mod calls;
 mod change_fault;
 mod topics;
-mod unbuilt_kind;
 
 pub use any_sock::AnySock;
 pub use change_fault::ChangeFault;
-pub use unbuilt_kind::UnbuiltKind;

@@ -2,7 +2,7 @@
 use Rattle.std.proofs.Common.{◌≡◌, ◌<◌, ◌≤◌, ◌+◌, ◌-◌, ℕ, Bool, true, false, not, List, [], ◌∷◌, ◌++◌, Option, Some, None, length, refl, sym, ap, subst, ◌∙◌, arith, All, filter, if◌then◌else◌}
 use Rattle.std.specs.Prelude.{Result, Ok, Err, IfOk, slice_get, slice_index_or, nat_lt, is_some}
 use Rattle.std.proofs.lemmas.List.Elements.{All-filter, All-map, All-append, All-cons, All-nil}
-use Rattle.std.proofs.lemmas.Option.{get_or_from_slice_get, none-some}
+use Rattle.std.proofs.lemmas.Option.{get_or_from_slice_get}
 use Rattle.std.proofs.lemmas.Bool.Decides.{nat_tests}
 use Rattle.std.proofs.lemmas.List.{length-map}
 use Rattle.zq_base.specs.declared.ids.ObjId.{ObjId}
@@ -11,16 +11,16 @@ use Rattle.std.specs.declared.alloc.AllocError.{AllocError}
 use Rattle.spec_journal.specs.declared.journal.Answer.{Answer}
 use Rattle.spec_journal.specs.declared.journal.Answer.TheVariants as answer
 use Rattle.spec_journal.specs.declared.journal.Joined.{Joined}
-use Rattle.spec_journal.specs.Net.{Net, Sock, sock_kind, new_sock, sock_at, most_pairs, is_made}
-use Rattle.spec_journal.proofs.NetLemmas.{holder_more, no_ends}
+use Rattle.spec_journal.specs.Net.{Net, Sock, sock_kind, new_sock, sock_at, most_pairs}
+use Rattle.spec_journal.proofs.NetLemmas.{holder_more}
+use Rattle.flat_net.proofs.KeptLemmas.{new_within}
 use Rattle.spec_journal.specs.Line.{Outcome, joined_all, binds, binding, held_by, connects, connects_to, connect_waits, connect_finds}
 use Rattle.spec_control.specs.EndpointBook.{Book, binding_of, fulfilled, is_fulfilled, waiters, with_name, with_waiting}
 use Rattle.zq_base.specs.declared.endpoint.Endpoint.{Endpoint}
 use Rattle.spec_control.specs.declared.book.Binding.{Binding}
 use Rattle.spec_control.specs.declared.book.Waiting.{Waiting}
-use Rattle.flat_net.specs.Pipes.{PlainEnds, IsThere}
+use Rattle.flat_net.specs.Pipes.{PlainEnds}
 use Rattle.flat_net.specs.Flat.{Flat, flat, net_of, IsFlat, IsOne}
-use Rattle.flat_net.specs.Socket.{new_socket}
 use Rattle.flat_net.proofs.FlatLemmas.{flat_with_socket}
 use Rattle.zq_base.specs.declared.options.Options.{Options}
 
@@ -168,17 +168,10 @@ room_left pairs book name b found m n e f g le =
     not_past k le = grind (arith, nat_tests)
 
 -- a socket was made
-pub made_so : (kind : Kind) (options : Options) (s : Sock) → Some s ≡ new_socket kind options → ◌≡◌ {A = Sock} s (new_sock kind options)
-made_so kind options s made = by (is_made kind) made
-  where
-    by : (t : Bool) → Some s ≡ (if t then Some (new_sock kind options) else None) → ◌≡◌ {A = Sock} s (new_sock kind options)
-    by true f = cc
-    by false f = absurd (none-some s (sym f))
-
 pub flat_opened : (socks now : List Sock) (book : Book) (pairs : List Joined) (seats : List (List (Option ObjId))) (pipes : PlainEnds) (kind : Kind) (options : Options) (s : Sock)
-    → IsFlat (flat socks book pairs seats pipes) → Some s ≡ new_socket kind options → (options.hwm < 4294967296) × (options.rcvhwm < 4294967296)
+    → IsFlat (flat socks book pairs seats pipes) → s ≡ new_sock kind options → (options.hwm < 4294967296) × (options.rcvhwm < 4294967296)
     → length socks < 1023 → now ≡ socks ++ s ∷ [] → IsFlat (flat now book pairs seats pipes)
 flat_opened socks now book pairs seats pipes kind options s w made range few e =
     subst (λ (l : List Sock). IsFlat (flat l book pairs seats pipes)) (sym e)
-    (subst (λ (x : Sock). IsFlat (flat (socks ++ x ∷ []) book pairs seats pipes)) (sym (made_so kind options s made))
-    (flat_with_socket socks book pairs seats seats pipes (new_sock kind options) w range (no_ends (IsThere pipes) kind options) few))
+    (subst (λ (x : Sock). IsFlat (flat (socks ++ x ∷ []) book pairs seats pipes)) (sym made)
+    (flat_with_socket socks book pairs seats seats pipes (new_sock kind options) w range (new_within (length pipes.rows) kind options) few))

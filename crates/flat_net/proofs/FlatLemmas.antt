@@ -11,15 +11,15 @@ use Rattle.spec_journal.proofs.ExampleNames.{none_held}
 use Rattle.zq_base.specs.declared.ids.ObjId.{ObjId}
 use Rattle.spec_pattern.specs.TurnList.{End}
 use Rattle.spec_pattern.specs.Pattern.{Pattern, attach}
-use Rattle.pattern_laws.specs.Peers.{kept_ends}
-use Rattle.spec_journal.proofs.AttachLemmas.{attach_all}
 use Rattle.spec_journal.specs.declared.journal.Joined.{Joined}
 use Rattle.spec_journal.specs.Net.{Sock, attached, with_end, turned}
 use Rattle.spec_control.specs.EndpointBook.{Book, empty_book}
 use Rattle.spec_control.specs.declared.book.Waiting.{Waiting}
-use Rattle.flat_net.specs.Pipes.{PlainEnds, IsThere, ArePairs}
+use Rattle.flat_net.specs.Pipes.{PlainEnds, ArePairs, index_of}
+use Rattle.flat_net.specs.Asking.{IsWithin}
 use Rattle.flat_net.specs.Pairs.{AddsPair}
 use Rattle.flat_net.specs.Flat.{flat, IsFlat, IsOne, HasEnds, marks_of, InRange, JoinsSome, mark_at, capacities_of}
+use Rattle.flat_net.proofs.KeptLemmas.{within_more, attach_within}
 
 -- a socket in another state has the marks that it had
 pub turned_marks : (socks : List Sock) (k : ℕ) (s : Sock) (pattern : Pattern) → slice_get socks k ≡ Some s
@@ -43,7 +43,7 @@ attached_length socks o e identity = same_length socks (attached o e identity so
 
 -- an end that is there stays there where more ends are
 pub there_longer : (pipes more : PlainEnds) → length pipes.rows ≤ length more.rows → (s : Sock) → HasEnds pipes s → HasEnds more s
-there_longer pipes more le s h = All-weaker (IsThere pipes) (IsThere more) (λ p there. (there.0, omega (arith, le, there.1))) (kept_ends s.pattern) h
+there_longer pipes more le s h = within_more (length pipes.rows) (length more.rows) s.pattern le h
 
 pub all_longer : (pipes more : PlainEnds) → length pipes.rows ≤ length more.rows → (socks : List Sock) → All (HasEnds pipes) socks → All (HasEnds more) socks
 all_longer pipes more le socks h = All-weaker (HasEnds pipes) (HasEnds more) (there_longer pipes more le) socks h
@@ -52,17 +52,24 @@ all_longer pipes more le socks h = All-weaker (HasEnds pipes) (HasEnds more) (th
 pub element : {X : Type 0} (P : X → Type 0) (xs : List X) (k : ℕ) (x : X) → slice_get xs k ≡ Some x → All P xs → P x
 element P xs k x e all = subst P (get_or_from_slice_get xs k x x e) (all k x (slice_get_within xs k x e))
 
--- a socket gets a further end
-attached_ends_at : (pipes : PlainEnds) (socks : List Sock) (o : ℕ) (e : End) (identity : List ℕ) (found : Option Sock) → slice_get socks (o - 1) ≡ found
-    → IsThere pipes e → All (HasEnds pipes) socks → All (HasEnds pipes) (with_end socks o found e identity)
-attached_ends_at pipes socks o e identity None here there h = h
-attached_ends_at pipes socks o e identity (Some s) here there h =
-    All-set (HasEnds pipes) socks (o - 1) (turned (attach e identity s.pattern) s)
-    (attach_all (IsThere pipes) e identity s.pattern there (element (HasEnds pipes) socks (o - 1) s here h)) h
+-- the ends of a socket stand below this place
+abbrev pub HasWithin : ℕ → Sock → Type 0
+HasWithin n s = IsWithin n s.pattern
 
-pub attached_ends : (pipes : PlainEnds) (socks : List Sock) (o : ℕ) (e : End) (identity : List ℕ)
-    → IsThere pipes e → All (HasEnds pipes) socks → All (HasEnds pipes) (attached o e identity socks)
-attached_ends pipes socks o e identity there h = attached_ends_at pipes socks o e identity (slice_get socks (o - 1)) refl there h
+-- a socket gets a further end, behind all
+attached_ends_at : (n : ℕ) (socks : List Sock) (o : ℕ) (e : End) (identity : List ℕ) (found : Option Sock) → slice_get socks (o - 1) ≡ found
+    → 1 ≤ e.pair.0 → index_of e ≡ n → All (HasWithin n) socks → All (HasWithin (n + 1)) (with_end socks o found e identity)
+attached_ends_at n socks o e identity found here some is h =
+    by found here (All-weaker (HasWithin n) (HasWithin (n + 1)) (λ s w. within_more n (n + 1) s.pattern (omega arith) w) socks h)
+  where
+    by : (f : Option Sock) → slice_get socks (o - 1) ≡ f → All (HasWithin (n + 1)) socks → All (HasWithin (n + 1)) (with_end socks o f e identity)
+    by None here more = more
+    by (Some s) here more = All-set (HasWithin (n + 1)) socks (o - 1) (turned (attach e identity s.pattern) s)
+        (attach_within n e identity s.pattern some is (element (HasWithin n) socks (o - 1) s here h)) more
+
+pub attached_ends : (n : ℕ) (socks : List Sock) (o : ℕ) (e : End) (identity : List ℕ)
+    → 1 ≤ e.pair.0 → index_of e ≡ n → All (HasWithin n) socks → All (HasWithin (n + 1)) (attached o e identity socks)
+attached_ends n socks o e identity some is h = attached_ends_at n socks o e identity (slice_get socks (o - 1)) refl some is h
 
 -- a net without sockets
 pub flat_begins : (seats : List (List (Option ObjId))) (pipes : PlainEnds) → ArePairs pipes [] → IsFlat (flat [] empty_book [] seats pipes)

@@ -1,7 +1,6 @@
 -- Counts of messages given, by the places of the ends.
-use Rattle.std.proofs.Common.{◌≡◌, ◌≢◌, ◌+◌, ◌≤◌, ◌<◌, ℕ, zero, suc, Bool, true, false, List, [], ◌∷◌, ◌++◌, Option, Some, None, length, nat_eq, refl, sym, ap, ◌∙◌, subst, arith, eqb-true, eq-eqb, get_or-set_same, get_or-set_other, true≢false}
-use Rattle.std.specs.Prelude.{get_or, slice_set, min, if◌then◌else◌, IfSome}
-use Rattle.std.specs.Option.{option_map}
+use Rattle.std.proofs.Common.{◌≡◌, ◌+◌, ◌≤◌, ◌<◌, ℕ, zero, suc, Bool, true, false, List, [], ◌∷◌, ◌++◌, Option, Some, None, length, nat_eq, refl, sym, ap, ◌∙◌, subst, arith, eqb-true, eq-eqb, get_or-set_same, get_or-set_other, true≢false}
+use Rattle.std.specs.Prelude.{get_or, slice_set, min, if◌then◌else◌}
 use Rattle.std.proofs.lemmas.Bool.{eqb-false}
 use Rattle.zq_base.specs.Ends.{PipeId}
 use Rattle.zq_base.specs.Message.{Frames}
@@ -9,7 +8,6 @@ use Rattle.spec_pattern.specs.PipeStep.{PipeStep, Take, same_pipe, read_through}
 use Rattle.msg_pipe.specs.declared.pipes.PutIn.{PutIn}
 use Rattle.msg_pipe.specs.declared.pipes.PutIn.TheVariants as put
 use Rattle.msg_pipe.specs.Told.{put_step}
-use Rattle.msg_pipe.specs.Places.{KeepsPlaces}
 use Rattle.spec_pattern.specs.TurnList.{End}
 use Rattle.spec_pattern.proofs.Exact.{same_pipes}
 use Rattle.ends.proofs.StepLemmas.{own_pipe}
@@ -80,11 +78,6 @@ one_given old new place last is after count are q some =
     by true false e = absurd (true≢false e)
     by false true e = absurd (true≢false (sym e))
 
--- the noted place stands for its end by place
-pub noted_end : (f g : ℕ → End) (P : ℕ → Type 0) → ((k : ℕ) → P k → f k ≡ g k) → (last : Option ℕ) → IfSome last P → taken_at f last ≡ taken_at g last
-noted_end f g P same None h = refl
-noted_end f g P same (Some k) h = ap (λ e. Some (read_through e)) (same k h)
-
 -- an answer that shows no message gives none
 none_gives : (a : Answer) (steps : List PipeStep) (q : PipeId) → shows a ≡ false → gives a steps q ≡ 0
 none_gives (answer.Got p m) steps q e = absurd (true≢false e)
@@ -98,6 +91,8 @@ none_gives answer.NotSupported steps q e = refl
 none_gives answer.InUse steps q e = refl
 none_gives answer.BadPair steps q e = refl
 none_gives answer.TooMany steps q e = refl
+none_gives answer.Limit steps q e = refl
+none_gives answer.NotSub steps q e = refl
 none_gives (answer.Dropped rule) steps q e = refl
 none_gives (answer.NotSent refusal) steps q e = refl
 none_gives (answer.NotReceived refusal) steps q e = refl
@@ -115,6 +110,8 @@ shown_gives answer.NotSupported steps q e = absurd (true≢false (sym e))
 shown_gives answer.InUse steps q e = absurd (true≢false (sym e))
 shown_gives answer.BadPair steps q e = absurd (true≢false (sym e))
 shown_gives answer.TooMany steps q e = absurd (true≢false (sym e))
+shown_gives answer.Limit steps q e = absurd (true≢false (sym e))
+shown_gives answer.NotSub steps q e = absurd (true≢false (sym e))
 shown_gives (answer.Dropped rule) steps q e = absurd (true≢false (sym e))
 shown_gives (answer.NotSent refusal) steps q e = absurd (true≢false (sym e))
 shown_gives (answer.NotReceived refusal) steps q e = absurd (true≢false (sym e))
@@ -131,6 +128,8 @@ shown_last answer.NotSupported T e is = absurd (true≢false (sym e))
 shown_last answer.InUse T e is = absurd (true≢false (sym e))
 shown_last answer.BadPair T e is = absurd (true≢false (sym e))
 shown_last answer.TooMany T e is = absurd (true≢false (sym e))
+shown_last answer.Limit T e is = absurd (true≢false (sym e))
+shown_last answer.NotSub T e is = absurd (true≢false (sym e))
 shown_last (answer.Dropped rule) T e is = absurd (true≢false (sym e))
 shown_last (answer.NotSent refusal) T e is = absurd (true≢false (sym e))
 shown_last (answer.NotReceived refusal) T e is = absurd (true≢false (sym e))
@@ -155,32 +154,16 @@ count_one old new o place shown here after steps last count are q some =
     one_given old new place (last_taken steps None) is after count are q some
     ∙ ap (λ n. min (count q + n) most_count) (sym (shown_gives o.answer steps q shown))
 
--- what holds of a noted place goes on
-still_here : (P Q : ℕ → Type 0) → ((k : ℕ) → P k → Q k) → (last : Option ℕ) → IfSome last P → IfSome last Q
-still_here P Q more None h = tt
-still_here P Q more (Some k) h = more k h
-
 -- a put takes no message
 pub put_takes_none : (p : PipeId) (m : Frames) (r : PutIn) (last : Option PipeId) → last_taken (put_step p m r ∷ []) last ≡ last
 put_takes_none p m put.Ok last = refl
 put_takes_none p m (put.Full back) last = refl
 
 -- a call at an end is noted
-module _ {S : Type 0} (runs : S → List PipeStep → S → Type 0) (ends : S → ℕ → End) (here : S → ℕ → Type 0) (writable : S → ℕ → Bool)
-    (s t : S) (keeps : KeepsPlaces here ends writable s t) (last : Option ℕ) where
-  pub note_same : (step : PipeStep) → ((l : Option PipeId) → last_taken (step ∷ []) l ≡ l) → runs s (step ∷ []) t → Notes runs ends here s last (step ∷ []) t last
-  note_same step same ran = record {
-    runs_are = ran;
-    ends_are = keeps.ends;
-    last_is = ap (λ (f : ℕ → End). taken_at f last) keeps.ends ∙ sym (same (taken_at (ends s) last));
-    there = still_here (here s) (here t) keeps.stay last;
-  }
+module _ {S : Type 0} (runs : S → List PipeStep → S → Type 0) (s t : S) (last : Option ℕ) where
+  pub note_same : (step : PipeStep) → ((l : Option PipeId) → last_taken (step ∷ []) l ≡ l) → runs s (step ∷ []) t → Notes runs s last (step ∷ []) t last
+  note_same step same ran = record { runs_are = ran; last_is = sym (same (taken_at end_at last)) }
 
-  pub note_taken : (place : ℕ) (m : Frames) → here s place → runs s (Take (read_through (ends s place)) m ∷ []) t
-      → Notes runs ends here s last (Take (read_through (ends s place)) m ∷ []) t (Some place)
-  note_taken place m at ran = record {
-    runs_are = ran;
-    ends_are = keeps.ends;
-    last_is = ap (λ (f : ℕ → End). Some (read_through (f place))) keeps.ends;
-    there = λ h. keeps.stay place at;
-  }
+  pub note_taken : (e : End) (place : ℕ) (m : Frames) → e ≡ end_at place → runs s (Take (read_through e) m ∷ []) t
+      → Notes runs s last (Take (read_through (end_at place)) m ∷ []) t (Some place)
+  note_taken e place m is ran = record { runs_are = subst (λ x. runs s (Take (read_through x) m ∷ []) t) is ran; last_is = refl }

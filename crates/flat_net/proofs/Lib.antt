@@ -2,7 +2,8 @@ pub mod CallLemmas
 pub mod PairLemmas
 pub mod GivenLemmas
 pub mod AddLemmas
-pub mod StateLemmas
+pub mod KeptLemmas
+pub mod AskingLemmas
 pub mod SocketLemmas
 pub mod FlatLemmas
 pub mod NetLemmas

@@ -11,29 +11,33 @@ use Rattle.zq_base.specs.declared.ids.Settled.{Settled}
 use Rattle.spec_pattern.specs.PipeStep.{PipeStep, AreExact, most_commits}
 use Rattle.spec_journal.specs.declared.journal.Joined.{Joined}
 use Rattle.spec_journal.specs.declared.journal.PipeRow.{PipeRow}
-use Rattle.spec_journal.specs.Net.{Net, Sock, hwm_of, rcvhwm_of, capacity_between, capacity_in, end_a, end_b}
+use Rattle.spec_journal.specs.Net.{Net, Sock, hwm_of, rcvhwm_of, capacity_between, capacity_in, is_heard_from, end_a, end_b}
 use Rattle.spec_control.specs.EndpointBook.{Book}
 use Rattle.ends.proofs.RowLemmas.{some_same, place_within}
 use Rattle.flat_net.specs.Pipes.{PlainEnd, PlainEnds, plain, index_of, side_index, end_at, AreCapacities, IsPast}
 use Rattle.flat_net.specs.Pairs.{CountsAre}
-use Rattle.flat_net.specs.Flat.{flat, net_of, IsFlat, marks_of, InRange, capacities_of, past_row, past_rows}
+use Rattle.flat_net.specs.Flat.{flat, net_of, IsFlat, marks_of, InRange, capacities_of, heard_row, past_row, past_rows}
 use Rattle.flat_net.proofs.PairLemmas.{place_back}
 use Rattle.flat_net.proofs.FlatLemmas.{element}
 use Rattle.flat_net.proofs.NetLemmas.{hwm_at, rcvhwm_at}
 
 -- the rows of one pair more
-pub past_rows_more : (past : List PipeStep) (given : PipeId → ℕ) (n : ℕ) (js : List Joined) (j : Joined) (m : ℕ) → m ≡ n + length js
-    → past_rows past given n (js ++ j ∷ []) ≡ past_rows past given n js ++ past_row past given (end_a m) ∷ past_row past given (end_b m) ∷ []
-past_rows_more past given n [] j m e =
+pub past_rows_more : (net : Net) (past : List PipeStep) (given : PipeId → ℕ) (n : ℕ) (js : List Joined) (j : Joined) (m : ℕ) → m ≡ n + length js
+    → past_rows net past given n (js ++ j ∷ []) ≡ past_rows net past given n js ++ past_row net past given (end_a m) ∷ past_row net past given (end_b m) ∷ []
+past_rows_more net past given n [] j m e =
     let same : n ≡ m = omega (arith, e) in
-    ap (λ (k : ℕ). past_row past given (end_a k) ∷ past_row past given (end_b k) ∷ []) same
-past_rows_more past given n (x ∷ xs) j m e =
-    ap (λ (l : List PipeRow). past_row past given (end_a n) ∷ past_row past given (end_b n) ∷ l) (past_rows_more past given (n + 1) xs j m (omega (arith, e)))
+    ap (λ (k : ℕ). past_row net past given (end_a k) ∷ past_row net past given (end_b k) ∷ []) same
+past_rows_more net past given n (x ∷ xs) j m e =
+    ap (λ (l : List PipeRow). past_row net past given (end_a n) ∷ past_row net past given (end_b n) ∷ l) (past_rows_more net past given (n + 1) xs j m (omega (arith, e)))
 
 -- the row of a pipe by its counts
-pub row_is : (past : List PipeStep) (given : PipeId → ℕ) (p : PipeId) (counts : Settled) (count : ℕ) → CountsAre past p counts → count ≡ given p
-    → ◌≡◌ {A = PipeRow} (record { pipe = p; sent = counts.sent; given = count; heard = 0; dropped = counts.got - count; written = 0; lost = 0; rest = counts.rest }) (past_row past given p)
-row_is past given p counts count are same = rw (are.rest, are.sent, are.got, same) refl
+pub row_is : (net : Net) (past : List PipeStep) (given : PipeId → ℕ) (p : PipeId) (counts : Settled) (count : ℕ) → CountsAre past p counts → count ≡ given p → is_heard_from net p ≡ false
+    → ◌≡◌ {A = PipeRow} (record { pipe = p; sent = counts.sent; given = count; heard = 0; dropped = counts.got - count; written = 0; lost = 0; rest = counts.rest }) (past_row net past given p)
+row_is net past given p counts count are same none = rw (are.rest, are.sent, are.got, same, none) refl
+
+pub heard_row_is : (net : Net) (past : List PipeStep) (given : PipeId → ℕ) (p : PipeId) (counts : Settled) → CountsAre past p counts → is_heard_from net p ≡ true
+    → heard_row p counts.sent counts.got counts.rest ≡ past_row net past given p
+heard_row_is net past given p counts are all = rw (are.rest, are.sent, are.got, all) refl
 
 -- the capacities by places
 by_place : (net : Net) (js : List Joined) (k : ℕ) (a : Bool)
@@ -91,26 +95,26 @@ capacity_fits socks book pairs seats pipes w p = between_fits (net_of socks book
 no_pair : Joined
 no_pair = record { a = record { 0 = 0 }; b = record { 0 = 0 } }
 
-pub rows_on : (past : List PipeStep) (given : PipeId → ℕ) (pairs : List Joined) (k : ℕ) (before between after : List PipeRow) (x y : PipeRow) → k < length pairs
-    → before ≡ past_rows past given 1 (take k pairs) → between ≡ before ++ x ∷ [] → after ≡ between ++ y ∷ []
-    → x ≡ past_row past given (end_a (k + 1)) → y ≡ past_row past given (end_b (k + 1))
-    → after ≡ past_rows past given 1 (take (k + 1) pairs)
-rows_on past given pairs k before between after x y here e f g ex ey =
+pub rows_on : (net : Net) (past : List PipeStep) (given : PipeId → ℕ) (pairs : List Joined) (k : ℕ) (before between after : List PipeRow) (x y : PipeRow) → k < length pairs
+    → before ≡ past_rows net past given 1 (take k pairs) → between ≡ before ++ x ∷ [] → after ≡ between ++ y ∷ []
+    → x ≡ past_row net past given (end_a (k + 1)) → y ≡ past_row net past given (end_b (k + 1))
+    → after ≡ past_rows net past given 1 (take (k + 1) pairs)
+rows_on net past given pairs k before between after x y here e f g ex ey =
     let count : length (take k pairs) ≡ k = length-take-le k pairs (omega (arith, here)) in
     let j = get_or pairs k no_pair in
-    let more = past_rows_more past given 1 (take k pairs) j (k + 1) (omega (arith, count)) in
+    let more = past_rows_more net past given 1 (take k pairs) j (k + 1) (omega (arith, count)) in
     g ∙ ap (λ (l : List PipeRow). l ++ y ∷ []) f ∙ append_assoc before (x ∷ []) (y ∷ [])
     ∙ ap (λ (l : List PipeRow). l ++ x ∷ y ∷ []) e
-    ∙ ap (λ (r : PipeRow). past_rows past given 1 (take k pairs) ++ r ∷ y ∷ []) ex
-    ∙ ap (λ (r : PipeRow). past_rows past given 1 (take k pairs) ++ past_row past given (end_a (k + 1)) ∷ r ∷ []) ey
+    ∙ ap (λ (r : PipeRow). past_rows net past given 1 (take k pairs) ++ r ∷ y ∷ []) ex
+    ∙ ap (λ (r : PipeRow). past_rows net past given 1 (take k pairs) ++ past_row net past given (end_a (k + 1)) ∷ r ∷ []) ey
     ∙ sym more
-    ∙ ap (λ (l : List Joined). past_rows past given 1 l) (sym (take_more pairs k no_pair here))
+    ∙ ap (λ (l : List Joined). past_rows net past given 1 l) (sym (take_more pairs k no_pair here))
 
 -- the rows of all pairs
-pub rows_done : (past : List PipeStep) (given : PipeId → ℕ) (pairs : List Joined) (k : ℕ) (rows : List PipeRow) → rows ≡ past_rows past given 1 (take k pairs) → k ≡ length pairs → rows ≡ past_rows past given 1 pairs
-rows_done past given pairs k rows e all =
-    e ∙ ap (λ (n : ℕ). past_rows past given 1 (take n pairs)) all
-    ∙ ap (λ (l : List Joined). past_rows past given 1 l) (take-length pairs)
+pub rows_done : (net : Net) (past : List PipeStep) (given : PipeId → ℕ) (pairs : List Joined) (k : ℕ) (rows : List PipeRow) → rows ≡ past_rows net past given 1 (take k pairs) → k ≡ length pairs → rows ≡ past_rows net past given 1 pairs
+rows_done net past given pairs k rows e all =
+    e ∙ ap (λ (n : ℕ). past_rows net past given 1 (take n pairs)) all
+    ∙ ap (λ (l : List Joined). past_rows net past given 1 l) (take-length pairs)
 
 -- what is true anyway is true of a success
 pub on_ok : {T E P : Type 0} (r : Result T E) → P → OnOk r P

@@ -1,5 +1,5 @@
 -- How many messages were given at each end (own choice): a line gives one where its answer shows one, and it is the one that the line took last.
-use Rattle.std.specs.Prelude.{◌≡◌, ◌+◌, ◌≤◌, ℕ, Bool, true, false, List, [], ◌∷◌, Option, Some, None, IfSome, get_or, min, nat_eq, if◌then◌else◌}
+use Rattle.std.specs.Prelude.{◌≡◌, ◌+◌, ◌≤◌, ℕ, Bool, true, false, List, [], ◌∷◌, Option, Some, None, get_or, min, nat_eq, if◌then◌else◌}
 use Rattle.std.specs.Option.{option_map}
 use Rattle.zq_base.specs.Ends.{PipeId}
 use Rattle.spec_pattern.specs.PipeStep.{PipeStep, Commit, FullLook, Take, EmptyLook, DelimiterLook, WaitingLook, Seal, read_through, same_pipe}
@@ -48,6 +48,10 @@ taken_at ends place = option_map (λ k. read_through (ends k)) place
 abbrev pub with_answer : Answer → Outcome
 with_answer reply = record { answer = reply; last = None }
 
+-- the same outcome with another answer
+abbrev pub as_answered : Answer → Outcome → Outcome
+as_answered reply o = record o { answer = reply }
+
 -- a message that is shown was the last taken, at the end of this place
 abbrev pub IsLast : List PipeStep → Outcome → Type 0
 IsLast steps o = IfShown o.answer (taken_at end_at o.last ≡ last_taken steps None)
@@ -69,8 +73,6 @@ abbrev pub AreGiven : List ℕ → (PipeId → ℕ) → Type 0
 AreGiven given count = (q : PipeId) → 1 ≤ q.pair.0 → given_in given q ≡ min (count q) most_count
 
 -- Calls made these steps, and the place of the last message taken was noted.
-pub record Notes {S : Type 0} (runs : S → List PipeStep → S → Type 0) (ends : S → ℕ → End) (here : S → ℕ → Type 0) (old : S) (last : Option ℕ) (steps : List PipeStep) (new : S) (last' : Option ℕ) : Type 0 where
+pub record Notes {S : Type 0} (runs : S → List PipeStep → S → Type 0) (old : S) (last : Option ℕ) (steps : List PipeStep) (new : S) (last' : Option ℕ) : Type 0 where
   pub runs_are : runs old steps new
-  pub ends_are : ends new ≡ ends old
-  pub last_is : taken_at (ends new) last' ≡ last_taken steps (taken_at (ends old) last)
-  pub there : IfSome last (here old) → IfSome last' (here new)
+  pub last_is : taken_at end_at last' ≡ last_taken steps (taken_at end_at last)

@@ -3,7 +3,6 @@ use Rattle.std.specs.Prelude.{◌≡◌, ℕ, List, [], ◌∷◌, ◌++◌, Opt
 use Rattle.std.proofs.Common.{refl, sym, ap, ◌∙◌}
 use Rattle.zq_base.specs.Ends.{PipeId}
 use Rattle.spec_pattern.specs.PipeStep.{PipeStep, Commit, FullLook, Take, EmptyLook, DelimiterLook, WaitingLook, Seal}
-use Rattle.spec_pattern.specs.TurnList.{End}
 use Rattle.flat_net.specs.Given.{last_taken, Notes}
 
 pub last_both : (xs ys : List PipeStep) (last : Option PipeId) → last_taken (xs ++ ys) last ≡ last_taken ys (last_taken xs last)
@@ -16,15 +15,13 @@ last_both (DelimiterLook p ∷ xs) ys last = last_both xs ys last
 last_both (WaitingLook p ∷ xs) ys last = last_both xs ys last
 last_both (Seal p ∷ xs) ys last = last_both xs ys last
 
-module _ {S : Type 0} (runs : S → List PipeStep → S → Type 0) (ends : S → ℕ → End) (here : S → ℕ → Type 0) where
-  pub notes_none : (s : S) (last : Option ℕ) → runs s [] s → Notes runs ends here s last [] s last
-  notes_none s last none = record { runs_are = none; ends_are = refl; last_is = refl; there = λ h. h }
+module _ {S : Type 0} (runs : S → List PipeStep → S → Type 0) where
+  pub notes_none : (s : S) (last : Option ℕ) → runs s [] s → Notes runs s last [] s last
+  notes_none s last none = record { runs_are = none; last_is = refl }
 
   pub notes_on : (s t u : S) (a b c : Option ℕ) (before after : List PipeStep) → (runs s before t → runs t after u → runs s (before ++ after) u)
-      → Notes runs ends here s a before t b → Notes runs ends here t b after u c → Notes runs ends here s a (before ++ after) u c
+      → Notes runs s a before t b → Notes runs t b after u c → Notes runs s a (before ++ after) u c
   notes_on s t u a b c before after on first then = record {
     runs_are = on first.runs_are then.runs_are;
-    ends_are = then.ends_are ∙ first.ends_are;
     last_is = then.last_is ∙ ap (last_taken after) first.last_is ∙ sym (last_both before after _);
-    there = λ h. then.there (first.there h);
   }

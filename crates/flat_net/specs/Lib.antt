@@ -3,5 +3,5 @@ pub mod Pipes
 pub mod Given
 pub mod GivenOwed
 pub mod Pairs
+pub mod Asking
 pub mod Flat
-pub mod Socket

@@ -71,7 +71,7 @@ impl CountedNet {
     /// order of the pairs. What was taken and not given was dropped.
     pub fn rows(&self, alloc: Global) -> Result<Vec<PipeRow>, AllocError>
         ensures rows { IfOk result (λ v. (past : List PipeStep) → IsPast self.now.pipes past →
-            v.items ≡ past_rows past (given_in self.now.given) 1 self.now.net.pairs) }
+            v.items ≡ past_rows self.now.net past (given_in self.now.given) 1 self.now.net.pairs) }
         ensures exact { OnOk result ((past : List PipeStep) → IsPast self.now.pipes past →
             AreExact (capacity_in self.now.net) [] past) }
         ensures fits { OnOk result ((p : PipeId) → capacity_in self.now.net p ≤ most_commits) }

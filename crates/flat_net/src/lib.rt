@@ -1,13 +1,13 @@
 //! The sockets of a run and how they are joined, before sockets have owners and end.
 #![tactic(auto)]
 
+mod asking;
 mod counted_net;
 mod given;
 mod net;
 mod noting;
 mod outcome;
 mod pairs;
-mod pattern;
 mod seat;
 mod socket;
 

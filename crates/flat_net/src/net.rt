@@ -1,5 +1,8 @@
-ghost use Rattle.std.specs.Prelude.{◌≡◌, ◌≤◌, ℕ, List, OnOk, OnErr};
+ghost use Rattle.std.specs.Prelude.{◌≡◌, ◌≤◌, ◌<◌, OnOk, OnErr};
+ghost use Rattle.router_dealer.specs.Named.{IsIdentity};
 ghost use Rattle.spec_journal.specs.Net.{attached};
+ghost use Rattle.flat_net.specs.Pipes.{index_of};
+ghost use Rattle.flat_net.specs.Flat.{IsWithinAt, heard_row};
 
 use crate::given::Given;
 use crate::outcome::Outcome;
@@ -7,12 +10,11 @@ use crate::pairs::Pairs;
 use crate::seat::Seat;
 use crate::socket::Socket;
 use endpoint_book::{BindError, Binding, EndpointBook};
-use http_server::Log;
 use spec_journal::{Answer, Joined, PipeRow};
 use spec_pattern::{PipeId, Skip};
 use std::alloc::{AllocError, Global};
 use std::marker::Model;
-use zq_base::{Endpoint, Kind, Message, ObjId, Options, PairId};
+use zq_base::{Endpoint, Kind, ObjId, Octets, Options, PairId, Settled};
 use zq_script::Call;
 
 /// How many sockets may live at once.
@@ -22,18 +24,17 @@ const MOST_SOCKETS: usize = 1_023;
 const MOST_PAIRS: usize = 1_000_000;
 
 /// The sockets of a run, the pairs that join them, the names that they hold and the connects that
-/// wait. `joined` has the objects of each pair, for proofs alone, and takes no memory.
+/// wait. `joined` has the objects of each pair.
 #[derive(Drop)]
 pub(crate) struct FlatNet {
     sockets: Vec<Socket>,
     book: EndpointBook,
-    joined: Log<Joined, ()>,
+    joined: Vec<Joined>,
     seats: Vec<Seat>,
     pairs: Pairs,
 }
 
 impl Model for FlatNet {
-    ghost use Rattle.std.specs.Prelude.{map};
     ghost use Rattle.std.specs.Coded.{codes};
     ghost use Rattle.endpoint_book.specs.View.{names_code};
     ghost use Rattle.spec_control.specs.contracts.book.Binding as bound;
@@ -44,22 +45,22 @@ impl Model for FlatNet {
 
     ghost coded = { Prim.hlevel (codes, names_code bound.the_row.coded) };
 
-    ghost view = { λ w. flat w.sockets.items w.book (map (λ e. e.0) w.joined.items) w.seats.items (tabled w.pairs) };
+    ghost view = { λ w. flat w.sockets.items w.book w.joined.items w.seats.items (tabled w.pairs) };
 
-    ghost invariant = { λ w. IsFlat (flat w.sockets.items w.book (map (λ e. e.0) w.joined.items) w.seats.items (tabled w.pairs)) };
+    ghost invariant = { λ w. IsFlat (flat w.sockets.items w.book w.joined.items w.seats.items (tabled w.pairs)) };
 }
 
 impl FlatNet {
     ghost use Rattle.std.specs.Prelude.{◌≡◌, ◌+◌, ◌-◌, ◌*◌, ◌<◌, ◌≤◌, ℕ, List, [], ◌∷◌, ◌++◌, All, Some, None, replicate, length, slice_get, slice_set, IfOk, IfSome, IfNone, OnOk, IsTrue};
     ghost use Rattle.spec_pattern.specs.PipeStep.{PipeStep, AreExact, most_commits};
     ghost use Rattle.spec_control.specs.EndpointBook.{empty_book};
-    ghost use Rattle.spec_journal.specs.Net.{Sock, sock_kind, hwm_of, rcvhwm_of, sock_at, joined, seat_of, mine_at, capacity_in};
-    ghost use Rattle.spec_journal.specs.Line.{makes, binds, connects, connect_finds, joined_all, Sends, Receives};
+    ghost use Rattle.spec_journal.specs.Net.{Sock, sock_kind, hwm_of, rcvhwm_of, sock_at, sock_identity, sock_publishes, is_heard_from, joined, seat_of, mine_at, capacity_in};
+    ghost use Rattle.spec_journal.specs.Line.{makes, binds, connects, at_endpoint, connect_finds, joined_all};
     ghost use Rattle.zq_base.specs.Ends.{PipeId};
     ghost use Rattle.flat_net.specs.Pipes.{IsPast, IsThere};
     ghost use Rattle.spec_pattern.specs.declared.answers.Skip.{Skip};
     ghost use Rattle.flat_net.specs.Given.{given_in, IsLast};
-    ghost use Rattle.flat_net.specs.Flat.{net_of, IsOne, IsOpened, IsMine, IsAskedOf, IsMoved, past_row, past_rows};
+    ghost use Rattle.flat_net.specs.Flat.{net_of, IsOne, IsOpened, IsMine, IsAskedOf, IsAsked, IsOutcome, DoesInNet, IsMoved, past_row, past_rows};
 
     /// A net with no sockets, for so many actors.
     pub(crate) fn new(alloc: Global, actors: usize) -> Result<FlatNet, AllocError>
@@ -73,7 +74,7 @@ impl FlatNet {
         Ok(FlatNet {
             sockets: Vec::new(alloc),
             book: EndpointBook::new(alloc),
-            joined: Log::new(),
+            joined: Vec::new(alloc),
             seats,
             pairs: Pairs::new(alloc),
         })
@@ -109,6 +110,42 @@ impl FlatNet {
         }
     }
 
+    /// What the socket tells its peers to call it.
+    fn identity(&self, alloc: Global, object: ObjId) -> Result<Octets, AllocError>
+        ensures { IfOk result (λ id. id ≡ sock_identity (sock_at self.now.net object.0)) }
+    {
+        match self.place_of(object) {
+            Some(place) => return self.sockets[place].identity(alloc),
+            None => return Ok(Octets::new(alloc)),
+        }
+    }
+
+    /// Whether the socket is a publisher.
+    fn publishes(&self, object: ObjId) -> bool
+        ensures { result ≡ sock_publishes (sock_at self.now.net object.0) }
+    {
+        match self.place_of(object) {
+            Some(place) => return self.sockets[place].publishes(),
+            None => return false,
+        }
+    }
+
+    /// Whether what is taken from the pipe is heard: a publisher reads it.
+    fn is_heard(&self, pipe: PipeId) -> bool
+        requires { 1 ≤ pipe.pair.0 }
+        ensures { result ≡ is_heard_from self.now.net pipe }
+    {
+        match self.joined.get(pipe.pair.0 as usize - 1) {
+            Some(joined) => {
+                if pipe.a {
+                    return self.publishes(joined.b);
+                }
+                return self.publishes(joined.a);
+            }
+            None => return false,
+        }
+    }
+
     /// How many pairs there are.
     fn pair_count(&self) -> usize
         ensures count { result ≡ length self.now.net.pairs }
@@ -129,12 +166,15 @@ impl FlatNet {
     {
         let forth = self.hwm(a) as usize + self.rcvhwm(b) as usize;
         let back = self.hwm(b) as usize + self.rcvhwm(a) as usize;
+        let of_a = self.identity(alloc, a)?;
+        let of_b = self.identity(alloc, b)?;
         let pair = PairId(self.pair_count() as u32 + 1);
+        self.joined.reserve(1)?;
         self.pairs.add_pair(alloc, pair, forth, back)?;
-        self.joined = self.joined.and(&Joined { a, b }, &());
+        self.joined.push_reserved(Joined { a, b });
         let end = PipeId { pair, a: true };
-        attach(&mut self.sockets, a, end)?;
-        attach(&mut self.sockets, b, end.other())?;
+        attach(alloc, &mut self.sockets, a, end, of_b.as_slice())?;
+        attach(alloc, &mut self.sockets, b, end.other(), of_a.as_slice())?;
         Ok(())
     }
 
@@ -165,18 +205,16 @@ impl FlatNet {
         }
     }
 
-    /// Makes a socket, where its kind can be made and there is room.
+    /// Makes a socket, where there is room.
     fn open(&mut self, alloc: Global, kind: Kind, options: &Options) -> Result<Answer, AllocError>
         ensures net { IfOk result (λ a. IsOpened kind options.now self.old.net a self.new.net) }
         ensures pipes { self.new.pipes ≡ self.old.pipes }
         ensures seats { self.new.net.seats ≡ self.old.net.seats }
     {
-        let Some(socket) = Socket::new(alloc, kind, options.copy(alloc)?) else {
-            return Ok(Answer::NotSupported);
-        };
         if self.sockets.len() >= MOST_SOCKETS {
             return Ok(Answer::TooMany);
         }
+        let socket = Socket::new(alloc, kind, options.copy(alloc)?);
         // For proofs: both marks have 32 bits.
         let _marks = (socket.hwm(), socket.rcvhwm());
         self.sockets.push(socket)?;
@@ -215,8 +253,27 @@ impl FlatNet {
         Some(object)
     }
 
+    /// Binds a name: over tcp none is bound yet.
+    fn bind(&mut self, alloc: Global, object: ObjId, at: &Endpoint) -> Result<Answer, AllocError>
+        requires there { IsOne (length self.old.net.socks) object }
+        ensures net { IfOk result (λ a. (s : Sock) → sock_at self.old.net object.0 ≡ Some s →
+            IsOutcome (at_endpoint at.now (λ name. binds object s name self.old.net) self.old.net)
+            a self.new.net) }
+        ensures goes_on { OnOk result ((past : List PipeStep) → IsPast self.old.pipes past → IsPast self.new.pipes past) }
+    {
+        match at {
+            Endpoint::Inproc(_) => return self.bind_name(alloc, object, at),
+            Endpoint::Tcp(_) => return Ok(Answer::NotSupported),
+        }
+    }
+
     /// Binds a name.
-    fn bind(&mut self, alloc: Global, object: ObjId, name: &Endpoint) -> Result<Answer, AllocError>
+    fn bind_name(
+        &mut self,
+        alloc: Global,
+        object: ObjId,
+        name: &Endpoint,
+    ) -> Result<Answer, AllocError>
         requires there { IsOne (length self.old.net.socks) object }
         ensures net { IfOk result (λ a. (s : Sock) → sock_at self.old.net object.0 ≡ Some s →
             (a ≡ (binds object s name.now self.old.net).0) × (self.new.net ≡ (binds object s name.now self.old.net).1)) }
@@ -244,8 +301,22 @@ impl FlatNet {
         Ok(Answer::Done)
     }
 
+    /// Connects to a name: over tcp to none yet.
+    fn connect(&mut self, alloc: Global, object: ObjId, to: &Endpoint) -> Result<Answer, AllocError>
+        requires there { IsOne (length self.old.net.socks) object }
+        ensures net { IfOk result (λ a. (s : Sock) → sock_at self.old.net object.0 ≡ Some s →
+            IsOutcome (at_endpoint to.now (λ name. connects object s name self.old.net) self.old.net)
+            a self.new.net) }
+        ensures goes_on { OnOk result ((past : List PipeStep) → IsPast self.old.pipes past → IsPast self.new.pipes past) }
+    {
+        match to {
+            Endpoint::Inproc(_) => return self.connect_name(alloc, object, to),
+            Endpoint::Tcp(_) => return Ok(Answer::NotSupported),
+        }
+    }
+
     /// Connects to a name.
-    fn connect(
+    fn connect_name(
         &mut self,
         alloc: Global,
         object: ObjId,
@@ -295,28 +366,51 @@ impl FlatNet {
         Ok(Answer::Pair(PairId(pairs as u32 + 1)))
     }
 
-    /// Asks a socket to send.
-    fn send(&mut self, object: ObjId, message: Message) -> Result<Answer, AllocError>
+    /// Asks a socket to do what a line asks of it. The messages that it drops are told behind those
+    /// told before.
+    fn ask_socket(
+        &mut self,
+        alloc: Global,
+        object: ObjId,
+        call: &Call,
+        told: &mut Vec<Skip>,
+    ) -> Result<Outcome, AllocError>
         requires there { IsOne (length self.old.net.socks) object }
-        ensures { IfOk result (λ a. (s : Sock) → sock_at self.old.net object.0 ≡ Some s →
-            (steps : List PipeStep) × Sends (record { object = object; socket = s }) message self.old.net steps [] a self.new.net
-            × ((past : List PipeStep) → IsPast self.old.pipes past → IsPast self.new.pipes (past ++ steps))) }
+        ensures asked { IfOk result (λ o. (s : Sock) → sock_at self.old.net object.0 ≡ Some s →
+            IsAsked call.now object s self.old told.old.items o self.new told.new.items) }
+        ensures socks { length self.new.net.socks ≡ length self.old.net.socks }
     {
         let place = (object.0 as usize).saturating_sub(1);
-        self.sockets[place].send(&mut self.pairs, message)
+        self.sockets[place].ask(alloc, &mut self.pairs, call, told)
     }
 
-    /// Asks a socket to receive. The messages that it drops are told behind those told before.
-    fn recv(&mut self, object: ObjId, told: &mut Vec<Skip>) -> Result<Outcome, AllocError>
+    /// Does what a line asks of the net, behind what it asked of the socket, which this came of.
+    fn ask_net(
+        &mut self,
+        alloc: Global,
+        object: ObjId,
+        call: &Call,
+        asked: Outcome,
+    ) -> Result<Outcome, AllocError>
         requires there { IsOne (length self.old.net.socks) object }
         ensures { IfOk result (λ o. (s : Sock) → sock_at self.old.net object.0 ≡ Some s →
-            (steps : List PipeStep) × (skips : List Skip)
-            × Receives (record { object = object; socket = s }) self.old.net steps skips o.answer self.new.net
-            × ((past : List PipeStep) → IsPast self.old.pipes past → IsPast self.new.pipes (past ++ steps))
-            × (told.new.items ≡ told.old.items ++ skips) × IsLast steps o) }
+            DoesInNet call.now object s self.old asked o self.new) }
     {
-        let place = (object.0 as usize).saturating_sub(1);
-        self.sockets[place].recv(&mut self.pairs, told)
+        match call {
+            Call::Bind(_, at) => {
+                let answer = self.bind(alloc, object, at)?;
+                return Ok(asked.with(answer));
+            }
+            Call::Connect(_, to) => {
+                let answer = self.connect(alloc, object, to)?;
+                return Ok(asked.with(answer));
+            }
+            Call::Socket(_, _) => return Ok(asked),
+            Call::Send(_, _) => return Ok(asked),
+            Call::Recv(_, _) => return Ok(asked),
+            Call::Subscribe(_, _) => return Ok(asked),
+            Call::Unsubscribe(_, _) => return Ok(asked),
+        }
     }
 
     /// Does a line on a socket.
@@ -331,29 +425,8 @@ impl FlatNet {
         ensures { IfOk result (λ o. (actor : ℕ) → IsAskedOf self.old.net actor object call.now →
             IsMoved actor call.now self.old told.old.items o self.new told.new.items) }
     {
-        match call {
-            Call::Socket(_, _) => return Ok(Outcome::of(Answer::NotSupported)),
-            Call::Bind(_, at) => match at {
-                Endpoint::Inproc(_) => {
-                    let answer = self.bind(alloc, object, at)?;
-                    return Ok(Outcome::of(answer));
-                }
-                Endpoint::Tcp(_) => return Ok(Outcome::of(Answer::NotSupported)),
-            },
-            Call::Connect(_, to) => match to {
-                Endpoint::Inproc(_) => {
-                    let answer = self.connect(alloc, object, to)?;
-                    return Ok(Outcome::of(answer));
-                }
-                Endpoint::Tcp(_) => return Ok(Outcome::of(Answer::NotSupported)),
-            },
-            Call::Send(_, message) => {
-                let message = message.copy(alloc)?;
-                let answer = self.send(object, message)?;
-                return Ok(Outcome::of(answer));
-            }
-            Call::Recv(_, _) => return self.recv(object, told),
-        }
+        let asked = self.ask_socket(alloc, object, call, told)?;
+        self.ask_net(alloc, object, call, asked)
     }
 
     /// Does an actor's line once: its answer, and the net that it leaves (the actors are counted
@@ -378,6 +451,8 @@ impl FlatNet {
             Call::Connect(place, _) => *place,
             Call::Send(place, _) => *place,
             Call::Recv(place, _) => *place,
+            Call::Subscribe(place, _) => *place,
+            Call::Unsubscribe(place, _) => *place,
         };
         match self.mine(actor, place as usize) {
             None => return Ok(Outcome::of(Answer::NoSocket)),
@@ -389,9 +464,12 @@ impl FlatNet {
     fn row(&self, pipe: PipeId, given: &Given) -> PipeRow
         requires there { IsThere self.now.pipes pipe }
         ensures { (past : List PipeStep) → IsPast self.now.pipes past →
-            result ≡ past_row past (given_in given.now) pipe }
+            result ≡ past_row self.now.net past (given_in given.now) pipe }
     {
         let counts = self.pairs.counts(pipe);
+        if self.is_heard(pipe) {
+            return heard_row(pipe, counts);
+        }
         let given = given.of(pipe);
         PipeRow {
             pipe,
@@ -409,7 +487,7 @@ impl FlatNet {
     /// order of the pairs. What was taken and not given was dropped.
     pub(crate) fn rows(&self, alloc: Global, given: &Given) -> Result<Vec<PipeRow>, AllocError>
         ensures rows { IfOk result (λ v. (past : List PipeStep) → IsPast self.now.pipes past →
-            v.items ≡ past_rows past (given_in given.now) 1 self.now.net.pairs) }
+            v.items ≡ past_rows self.now.net past (given_in given.now) 1 self.now.net.pairs) }
         ensures exact { OnOk result ((past : List PipeStep) → IsPast self.now.pipes past →
             AreExact (capacity_in self.now.net) [] past) }
         ensures fits { OnOk result ((p : PipeId) → capacity_in self.now.net p ≤ most_commits) }
@@ -422,7 +500,7 @@ impl FlatNet {
     /// The same rows.
     fn rows_of_pairs(&self, alloc: Global, given: &Given) -> Result<Vec<PipeRow>, AllocError>
         ensures { IfOk result (λ v. (past : List PipeStep) → IsPast self.now.pipes past →
-            v.items ≡ past_rows past (given_in given.now) 1 self.now.net.pairs) }
+            v.items ≡ past_rows self.now.net past (given_in given.now) 1 self.now.net.pairs) }
     {
         let mut rows = Vec::new(alloc);
         'pairs: for place in 0..self.pair_count() {
@@ -434,16 +512,41 @@ impl FlatNet {
     }
 }
 
-/// Gives the socket of this number a further end, if there is one.
-fn attach(sockets: &mut Vec<Socket>, object: ObjId, end: PipeId) -> Result<(), AllocError>
-    requires { 1 ≤ end.pair.0 }
-    ensures ok { OnOk result ((identity : List ℕ) →
-        sockets.new.items ≡ attached object.0 end identity sockets.old.items) }
+// The row of a pipe that a publisher reads: all that was taken was heard.
+fn heard_row(pipe: PipeId, counts: Settled) -> PipeRow
+    ensures { result ≡ heard_row pipe counts.sent counts.got counts.rest }
+{
+    PipeRow {
+        pipe,
+        sent: counts.sent,
+        given: 0,
+        heard: counts.got,
+        dropped: 0,
+        written: 0,
+        lost: 0,
+        rest: counts.rest,
+    }
+}
+
+/// Gives the socket of this number a further end, if there is one: the peer says this identity.
+fn attach(
+    alloc: Global,
+    sockets: &mut Vec<Socket>,
+    object: ObjId,
+    end: PipeId,
+    identity: &[u8],
+) -> Result<(), AllocError>
+    requires some { 1 ≤ end.pair.0 }
+    requires last { IsWithinAt (index_of end) object.0 sockets.old.items }
+    requires few { index_of end < 4294967295 }
+    requires name { IsIdentity identity.now }
+    ensures ok { OnOk result (sockets.new.items ≡
+        attached object.0 end identity.now sockets.old.items) }
     ensures err { OnErr result (sockets.new.items ≡ sockets.old.items) }
 {
     let place = (object.0 as usize).saturating_sub(1);
     if place < sockets.len() {
-        return sockets[place].attach(end);
+        return sockets[place].attach(alloc, end, identity);
     }
     Ok(())
 }

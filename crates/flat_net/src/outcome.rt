@@ -1,5 +1,5 @@
 ghost use Rattle.std.specs.Prelude.{◌≡◌};
-ghost use Rattle.flat_net.specs.Given.{with_answer};
+ghost use Rattle.flat_net.specs.Given.{with_answer, as_answered};
 
 use spec_journal::Answer;
 
@@ -16,5 +16,15 @@ impl Outcome {
         ensures { result ≡ with_answer answer }
     {
         Outcome { answer, last: None }
+    }
+
+    /// The same with this answer.
+    pub(crate) fn with(self, answer: Answer) -> Outcome
+        ensures { result ≡ as_answered answer self }
+    {
+        Outcome {
+            answer,
+            last: self.last,
+        }
     }
 }

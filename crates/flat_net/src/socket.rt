@@ -1,58 +1,71 @@
-ghost use Rattle.std.specs.Prelude.{◌≡◌, ◌≤◌, ◌<◌, ℕ, List, All, length, Ok, IsErr, OnOk, OnErr};
-ghost use Rattle.spec_journal.specs.Net.{sock_kind, turned};
-ghost use Rattle.spec_journal.specs.Line.{sent_answer, got_answer};
-ghost use Rattle.spec_pattern.specs.Results.{MatchSend, MatchRecv};
-ghost use Rattle.ends.specs.Rows.{table};
-ghost use Rattle.flat_net.specs.Pipes.{plain, end_at, IsThere, ArePairs};
-ghost use Rattle.flat_net.specs.Pairs.{tabled};
-ghost use Rattle.pattern_laws.specs.Peers.{kept_ends};
+ghost use Rattle.std.specs.Prelude.{◌≡◌, ◌≤◌, ◌<◌, ℕ, List, All, length, true, IfOk, OnOk, OnErr};
+ghost use Rattle.spec_pattern.specs.PipeStep.{PipeStep};
 ghost use Rattle.spec_pattern.specs.Pattern.{attach};
-ghost use Rattle.flat_net.specs.Socket.{new_socket, places_of, pattern_of, SendsOver, ReceivesOver};
+ghost use Rattle.router_dealer.specs.Named.{IsIdentity};
+ghost use Rattle.any_sock.specs.Over.{peer_places, over, left_of, nothing_left};
+ghost use Rattle.spec_journal.specs.Net.{sock_kind, new_sock, told_identity, publishes, turned};
+ghost use Rattle.ends.specs.Rows.{table};
+ghost use Rattle.flat_net.specs.Pipes.{plain, index_of, end_at, ArePairs};
+ghost use Rattle.flat_net.specs.Pairs.{tabled};
+ghost use Rattle.flat_net.specs.Asking.{IsWithin, LineOver, LentOver};
 
+use crate::asking::ask_socket;
 use crate::noting::Noting;
 use crate::outcome::Outcome;
 use crate::pairs::{Pairs, place_of};
-use crate::pattern::Pattern;
+use any_sock::AnySock;
 use ends::{EndRow, Ends};
 use msg_pipe::{PlainIn, PlainOut, PlainPipes};
-use spec_journal::Answer;
-use spec_pattern::{PipeId, RecvFault, SendFault, Sent, Skip};
+use router_dealer::is_identity;
+use spec_pattern::{PipeId, Skip};
 use std::alloc::{AllocError, Global};
 use std::marker::Model;
-use zq_base::{Kind, Message, Options, PairId};
+use zq_base::{Kind, Octets, Options};
+use zq_script::Call;
 
 /// A socket. An end goes by the pipe that it writes.
 #[derive(Drop)]
 pub(crate) struct Socket {
     options: Options,
-    pattern: Pattern,
+    pattern: AnySock,
 }
 
 impl Model for Socket {
+    ghost use Rattle.std.specs.Prelude.{◌≡◌};
+    ghost use Rattle.any_sock.specs.Over.{over, left_of, nothing_left};
     ghost use Rattle.spec_journal.specs.Net.{Sock};
+    ghost use Rattle.flat_net.specs.Pipes.{end_at};
 
     ghost Value = { Sock };
 
-    ghost use Rattle.flat_net.specs.Socket.{pattern_of};
+    ghost view = { λ s. record { options = s.options; pattern = over end_at s.pattern } };
 
-    ghost view = { λ s. record { options = s.options; pattern = pattern_of s.pattern } };
+    ghost invariant = { λ s. left_of s.pattern ≡ nothing_left };
 }
 
 impl Socket {
-    /// A socket with no ends yet: none of a kind that is not built yet.
-    pub(crate) fn new(alloc: Global, kind: Kind, options: Options) -> Option<Socket>
-        ensures { result ≡ new_socket kind options }
+    /// A socket with no ends yet.
+    pub(crate) fn new(alloc: Global, kind: Kind, options: Options) -> Socket
+        ensures { result ≡ new_sock kind options }
     {
-        match Pattern::new(alloc, kind) {
-            Some(pattern) => return Some(Socket { options, pattern }),
-            None => return None,
-        }
+        let pattern = AnySock::new(alloc, kind, &options);
+        Socket { options, pattern }
     }
 
     pub(crate) fn kind(&self) -> Kind
         ensures { result ≡ sock_kind self.now }
     {
         self.pattern.kind()
+    }
+
+    /// Whether it hears its peers: what these send are subscriptions.
+    pub(crate) fn publishes(&self) -> bool
+        ensures { result ≡ publishes (sock_kind self.now) }
+    {
+        match self.kind() {
+            Kind::Pub | Kind::XPub => true,
+            _ => false,
+        }
     }
 
     /// The mark for sending.
@@ -69,126 +82,90 @@ impl Socket {
         self.options.rcvhwm
     }
 
-    /// An end is attached, by the kind's rule.
-    pub(crate) fn attach(&mut self, end: PipeId) -> Result<(), AllocError>
-        requires { 1 ≤ end.pair.0 }
-        ensures ok { OnOk result ((identity : List ℕ) →
-            self.new ≡ turned (attach end identity self.old.pattern) self.old) }
+    /// What it tells its peers to call it: nothing, where its option may be no identity.
+    pub(crate) fn identity(&self, alloc: Global) -> Result<Octets, AllocError>
+        ensures { IfOk result (λ id. id ≡ told_identity self.now.options.id) }
+    {
+        if is_identity(self.options.id.as_slice()) {
+            return self.options.id.copy(alloc);
+        }
+        Ok(Octets::new(alloc))
+    }
+
+    /// An end is attached behind those before it, by the kind's rule: the peer says this identity.
+    pub(crate) fn attach(
+        &mut self,
+        alloc: Global,
+        end: PipeId,
+        identity: &[u8],
+    ) -> Result<(), AllocError>
+        requires some { 1 ≤ end.pair.0 }
+        requires last { IsWithin (index_of end) self.old.pattern }
+        requires few { index_of end < 4294967295 }
+        requires name { IsIdentity identity.now }
+        ensures ok { OnOk result (self.new ≡ turned (attach end identity.now self.old.pattern) self.old) }
         ensures err { OnErr result (self.new ≡ self.old) }
     {
-        self.pattern.attach(place_of(end))
+        self.pattern.attach(alloc, place_of(end), identity)?;
+        Ok(())
     }
 
-    /// Asks the socket to send over the ends of all pairs.
-    pub(crate) fn send(&mut self, pairs: &mut Pairs, message: Message) -> Result<Answer, AllocError>
-        requires pairs { (capacities : List ℕ) × ArePairs (tabled pairs.old) capacities }
-        requires there { All (IsThere (tabled pairs.old)) (kept_ends self.old.pattern) }
-        ensures step { SendsOver message
-            (tabled pairs.old) self.old.pattern result (tabled pairs.new) self.new.pattern }
-        ensures turned { self.new ≡ turned self.new.pattern self.old }
-        ensures there { All (IsThere (tabled pairs.new)) (kept_ends self.new.pattern) }
-    {
-        send_over(
-            &mut self.pattern,
-            &mut pairs.pipes,
-            &mut pairs.rows,
-            message,
-        )
-    }
-
-    /// Asks the socket to receive over the ends of all pairs. The messages that it drops are told
-    /// behind those told before.
-    pub(crate) fn recv(
+    /// Asks the socket to do what a line asks of it, over the ends of all pairs. The messages that it
+    /// drops are told behind those told before. A run ends with want of memory: what is half done
+    /// then goes with the socket's peers.
+    pub(crate) fn ask(
         &mut self,
+        alloc: Global,
         pairs: &mut Pairs,
+        call: &Call,
         told: &mut Vec<Skip>,
     ) -> Result<Outcome, AllocError>
         requires pairs { (capacities : List ℕ) × ArePairs (tabled pairs.old) capacities }
-        requires there { All (IsThere (tabled pairs.old)) (kept_ends self.old.pattern) }
-        ensures step { ReceivesOver told.old.items (tabled pairs.old) self.old.pattern result
+        requires there { IsWithin (length (tabled pairs.old).rows) self.old.pattern }
+        ensures step { LineOver call.now told.old.items (tabled pairs.old) self.old.pattern result
             told.new.items (tabled pairs.new) self.new.pattern }
         ensures turned { self.new ≡ turned self.new.pattern self.old }
-        ensures there { All (IsThere (tabled pairs.new)) (kept_ends self.new.pattern) }
+        ensures there { IsWithin (length (tabled pairs.new).rows) self.new.pattern }
     {
-        recv_over(&mut self.pattern, &mut pairs.pipes, &mut pairs.rows, told)
+        match ask_over(
+            &mut self.pattern,
+            alloc,
+            &mut pairs.pipes,
+            &mut pairs.rows,
+            call,
+            told,
+        ) {
+            Ok(outcome) => return Ok(outcome),
+            Err(fault) => {
+                self.pattern = AnySock::new(alloc, self.pattern.kind(), &self.options);
+                return Err(fault);
+            }
+        }
     }
 }
 
-// A send over lent ends.
-fn send_over(
-    pattern: &mut Pattern,
+// Does what a line asks of a socket, over lent ends.
+fn ask_over(
+    sock: &mut AnySock,
+    alloc: Global,
     pipes: &mut PlainPipes,
     rows: &mut Vec<Option<Box<EndRow<PlainOut, PlainIn>>>>,
-    message: Message,
-) -> Result<Answer, AllocError>
-    requires pairs { (capacities : List ℕ) × ArePairs (table pipes.old rows.old.items) capacities }
-    requires there { All (λ k. k < length rows.old.items) (places_of pattern.old) }
-    ensures step { SendsOver message
-        (table pipes.old rows.old.items) (pattern_of pattern.old) result
-        (table pipes.new rows.new.items) (pattern_of pattern.new) }
-{
-    let mut ends = Ends { pipes, rows };
-    sent_reply(pattern.send(&mut ends, message))
-}
-
-// A receive over lent ends.
-fn recv_over(
-    pattern: &mut Pattern,
-    pipes: &mut PlainPipes,
-    rows: &mut Vec<Option<Box<EndRow<PlainOut, PlainIn>>>>,
+    call: &Call,
     told: &mut Vec<Skip>,
 ) -> Result<Outcome, AllocError>
     requires pairs { (capacities : List ℕ) × ArePairs (table pipes.old rows.old.items) capacities }
-    requires there { All (λ k. k < length rows.old.items) (places_of pattern.old) }
-    ensures step { ReceivesOver told.old.items
-        (table pipes.old rows.old.items) (pattern_of pattern.old) result told.new.items
-        (table pipes.new rows.new.items) (pattern_of pattern.new) }
+    requires there { All (λ k. k < length rows.old.items) (peer_places sock.old) }
+    requires nothing { left_of sock.old ≡ nothing_left }
+    ensures step { LentOver call.now told.old.items (table pipes.old rows.old.items)
+        sock.old result told.new.items (table pipes.new rows.new.items) sock.new }
 {
     let mut noting = Noting {
         ends: Ends { pipes, rows },
         last: None,
     };
-    let got = pattern.recv(&mut noting, told);
-    got_reply(got, noting.last)
-}
-
-// What is answered to a send.
-fn sent_reply(sent: Result<Sent, SendFault>) -> Result<Answer, AllocError>
-    ensures { MatchSend sent (IsErr result) (λ answer. result ≡ Ok (sent_answer answer)) }
-{
-    match sent {
-        Ok(Sent::One(to)) => return Ok(Answer::Pair(to)),
-        Ok(Sent::Many(report)) => return Ok(Answer::Many(report)),
-        Ok(Sent::Subscribed) => return Ok(Answer::Done),
-        Ok(Sent::Dropped(rule)) => return Ok(Answer::Dropped(rule)),
-        Err(SendFault::Refused(refusal, _)) => return Ok(Answer::NotSent(refusal)),
-        Err(SendFault::OutOfMemory(_)) => return Err(AllocError),
-    }
-}
-
-// What is answered to a receive that took a message last at this place.
-fn got_reply(
-    got: Result<(PairId, Message), RecvFault>,
-    last: Option<usize>,
-) -> Result<Outcome, AllocError>
-    ensures { MatchRecv got (IsErr result) (λ answer. result ≡ Ok (record {
-      answer = got_answer answer;
-      last = last;
-    })) }
-{
-    match got {
-        Ok((from, message)) => {
-            return Ok(Outcome {
-                answer: Answer::Got(from, message),
-                last,
-            });
-        }
-        Err(RecvFault::Refused(refusal)) => {
-            return Ok(Outcome {
-                answer: Answer::NotReceived(refusal),
-                last,
-            });
-        }
-        Err(RecvFault::OutOfMemory) => return Err(AllocError),
-    }
+    let answer = ask_socket(sock, alloc, &mut noting, call, told)?;
+    Ok(Outcome {
+        answer,
+        last: noting.last,
+    })
 }

@@ -137,10 +137,10 @@ or_true true = refl
 or_true false = refl
 
 -- a place of either list is one of both
-in_first : (ps qs : List ℕ) (q : ℕ) → is_place ps q ≡ true → is_place (ps ++ qs) q ≡ true
+pub in_first : (ps qs : List ℕ) (q : ℕ) → is_place ps q ≡ true → is_place (ps ++ qs) q ≡ true
 in_first ps qs q there = list_any-append (nat_eq q) ps qs ∙ ap (λ b. b || is_place qs q) there
 
-in_second : (ps qs : List ℕ) (q : ℕ) → is_place qs q ≡ true → is_place (ps ++ qs) q ≡ true
+pub in_second : (ps qs : List ℕ) (q : ℕ) → is_place qs q ≡ true → is_place (ps ++ qs) q ≡ true
 in_second ps qs q there = list_any-append (nat_eq q) ps qs ∙ ap (λ b. is_place ps q || b) there ∙ or_true (is_place ps q)
 
 -- a peer comes
@@ -160,11 +160,11 @@ leaves-at : (ends : ℕ → End) (place : ℕ) (s : SubState) → Leaves ends pl
 leaves-at ends place s = λ apart there j. record {
   ins =
       sym (without-ins ends place s.ins
-      (λ k in_. apart place k (in_second s.ins (keys_of s.followers) place there) (in_first s.ins (keys_of s.followers) k in_))) j;
+      (λ k in_. apart place k there (in_first s.ins (keys_of s.followers) k in_))) j;
   wanted = s.wanted;
   followers =
       sym (without-subs_at ends place s.followers
-      (λ k in_. apart place k (in_second s.ins (keys_of s.followers) place there) (in_second s.ins (keys_of s.followers) k in_))) j;
+      (λ k in_. apart place k there (in_second s.ins (keys_of s.followers) k in_))) j;
 }
 
 pub Leaves-gone : (place : ℕ) (v p q : SubState) → v ≡ p → q ≡ without_publisher_at place v → (ends : ℕ → End) → Leaves ends place p q

@@ -114,10 +114,10 @@ IfXBack-passed (Err (send.Refused refusal back)) P h = h
 IfXBack-passed (Err (send.OutOfMemory back)) P h = h
 
 -- what is answered to another
-pub MatchXSend-passed : (r : SendResult) (memory : Type 0) (P : SendAnswer → Type 0) → MatchSend r memory P → MatchXSend (passed_on r) memory ⊥ P
-MatchXSend-passed (Ok s) memory P h = h
-MatchXSend-passed (Err (send.Refused refusal back)) memory P h = h
-MatchXSend-passed (Err (send.OutOfMemory back)) memory P h = h
+pub MatchXSend-passed : (r : SendResult) (memory untold : Type 0) (P : SendAnswer → Type 0) → MatchSend r memory P → MatchXSend (passed_on r) memory untold P
+MatchXSend-passed (Ok s) memory untold P h = h
+MatchXSend-passed (Err (send.Refused refusal back)) memory untold P h = h
+MatchXSend-passed (Err (send.OutOfMemory back)) memory untold P h = h
 
 -- what follows from each answer follows from the result
 pub MatchXSend-as : (A B untold : Type 0) (P Q : SendAnswer → Type 0) (r : Result Sent XSendFault) → (A → B) → ((answer : SendAnswer) → P answer → Q answer)

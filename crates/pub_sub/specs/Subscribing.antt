@@ -53,7 +53,7 @@ Joins ends place s s' = subscriber_at ends s' ≡ with_publisher (ends place) (s
 -- the peer at this place went, over the ends that are there, no two of which are the same
 abbrev pub Leaves : (ℕ → End) → ℕ → SubState → SubState → Type 0
 Leaves ends place s s' =
-    AreApart ends (s.ins ++ keys_of s.followers) → is_place (keys_of s.followers) place ≡ true
+    AreApart ends (s.ins ++ keys_of s.followers) → is_place (s.ins ++ keys_of s.followers) place ≡ true
     → subscriber_at ends s' ≡ without_publisher (ends place) (subscriber_at ends s)
 
 -- what is always so: a topic that is wanted can be told, and each peer follows

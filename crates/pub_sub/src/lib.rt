@@ -32,5 +32,5 @@ pub use pub_socket::PubSocket;
 pub use sub_sock::Sub;
 pub use sub_socket::SubSocket;
 pub use xpub_sock::XPub;
-pub use xsend_fault::XSendFault;
+pub use xsend_fault::{XSendFault, passed_on};
 pub use xsub_sock::XSub;

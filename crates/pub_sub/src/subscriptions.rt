@@ -7,17 +7,17 @@ ghost use Rattle.msg_pipe.specs.Places.{KeepsPlaces};
 ghost use Rattle.pub_sub.specs.Many.{SendsMany};
 ghost use Rattle.pub_sub.specs.Followers.{places_of};
 ghost use Rattle.pub_sub.specs.Subscribing.{KeepsFollowers, KeepsWanted};
-ghost use Rattle.pub_sub.specs.XSubs.{MatchXSend, IfXBack, sent_by, passed_on, XSubGives, XSubSent, SaysUntold};
+ghost use Rattle.pub_sub.specs.XSubs.{MatchXSend, IfXBack, sent_by, XSubGives, XSubSent, SaysUntold};
 
 use crate::change_fault::ChangeFault;
 use crate::follower::Follower;
 use crate::many::send_to_many;
 use crate::saying::{Saying, saying_of};
 use crate::subscriber::Subscriber;
-use crate::xsend_fault::XSendFault;
+use crate::xsend_fault::{XSendFault, passed_on};
 use by_turn::receive_by_turn;
 use msg_pipe::Peers;
-use spec_pattern::{RecvFault, Rule, SendFault, SendRefusal, Sent};
+use spec_pattern::{RecvFault, Rule, SendRefusal, Sent};
 use std::alloc::{AllocError, Global};
 use zq_base::{Message, PairId};
 
@@ -105,17 +105,6 @@ fn sent_of(done: Result<(), ChangeFault>, message: Message) -> Result<Sent, XSen
         Err(ChangeFault::NotSub) => return Ok(Sent::Dropped(Rule::NoSub)),
         Err(ChangeFault::OutOfMemory) => return Err(XSendFault::OutOfMemory(message)),
         Err(ChangeFault::Untold) => return Err(XSendFault::Untold),
-    }
-}
-
-// What another message is answered.
-fn passed_on(sent: Result<Sent, SendFault>) -> Result<Sent, XSendFault>
-    ensures { result ≡ passed_on sent }
-{
-    match sent {
-        Ok(sent) => return Ok(sent),
-        Err(SendFault::Refused(refusal, back)) => return Err(XSendFault::Refused(refusal, back)),
-        Err(SendFault::OutOfMemory(back)) => return Err(XSendFault::OutOfMemory(back)),
     }
 }
 

@@ -29,12 +29,12 @@ impl Model for Rep {
 }
 
 impl Rep {
-    ghost use Rattle.std.specs.Prelude.{◌≡◌, [], ◌∷◌, ◌++◌, All, OnOk, OnErr, IsPermutation};
+    ghost use Rattle.std.specs.Prelude.{◌≡◌, [], ◌∷◌, ◌++◌, All, Contains, OnOk, OnErr, IsPermutation};
     ghost use Rattle.spec_pattern.specs.Results.{MatchSend, MatchRecv, IfBack};
     ghost use Rattle.msg_pipe.specs.Turns.{without_place};
     ghost use Rattle.msg_pipe.specs.Places.{KeepsPlaces};
     ghost use Rattle.req_rep.specs.Answering.{RepSent, RepGot, RepStopped};
-    ghost use Rattle.req_rep.specs.Partners.{without_partner};
+    ghost use Rattle.req_rep.specs.Partners.{IsAt, without_partner};
 
     /// No ends yet, and no reply owed.
     pub fn new(alloc: Global) -> Rep
@@ -113,7 +113,7 @@ impl Rep {
 
     /// Sends the reply behind its envelope: `Fsm` where none is owed, `TooLarge` where both have
     /// more than 1,023 frames. Where its peer is gone or can't be written, or its pipe is full, the
-    /// reply is dropped, and owed no longer.
+    /// reply is dropped, and owed no longer. The peer to which a reply is owed is one of its peers.
     pub fn send<E: Peers>(&mut self, peers: &mut E, message: Message) -> Result<Sent, SendFault>
         requires there { All (E.here peers.old) self.old.ins }
         ensures step { MatchSend result ((self.new ≡ self.old) × (peers.new ≡ peers.old))
@@ -121,6 +121,7 @@ impl Rep {
             peers.old peers.new self.old answer self.new) }
         ensures back { IfBack result (λ back. back ≡ message) }
         ensures ins { self.new.ins ≡ self.old.ins }
+        ensures partner { IsAt (Contains self.old.ins) self.old.owed }
         ensures keeps { KeepsPlaces E.here E.end_at E.writable peers.old peers.new }
     {
         if self.owed.is_nobody() {

@@ -31,12 +31,12 @@ impl Model for Req {
 }
 
 impl Req {
-    ghost use Rattle.std.specs.Prelude.{◌≡◌, [], ◌∷◌, ◌++◌, All, OnOk, OnErr, IsPermutation};
+    ghost use Rattle.std.specs.Prelude.{◌≡◌, [], ◌∷◌, ◌++◌, All, Contains, OnOk, OnErr, IsPermutation};
     ghost use Rattle.spec_pattern.specs.Results.{MatchSend, MatchRecv, IfBack};
     ghost use Rattle.msg_pipe.specs.Turns.{without_place};
     ghost use Rattle.msg_pipe.specs.Places.{KeepsPlaces};
     ghost use Rattle.req_rep.specs.Asking.{ReqSent, ReqGot, ReqStopped};
-    ghost use Rattle.req_rep.specs.Partners.{without_partner};
+    ghost use Rattle.req_rep.specs.Partners.{IsAt, without_partner};
 
     /// No ends yet, and nothing asked.
     pub fn new(alloc: Global) -> Req
@@ -73,7 +73,8 @@ impl Req {
     }
 
     /// Sends a request to the first peer in turn that has room, behind an empty frame: `Fsm` where
-    /// a reply is awaited, `TooLarge` from 1,023 frames on, `Again` where no peer has room.
+    /// a reply is awaited, `TooLarge` from 1,023 frames on, `Again` where no peer has room. The peer
+    /// that was asked is one of its peers.
     pub fn send<E: Peers>(&mut self, peers: &mut E, message: Message) -> Result<Sent, SendFault>
         requires there { All (E.here peers.old) self.old.outs }
         ensures step { MatchSend result ((self.new ≡ self.old) × (peers.new ≡ peers.old))
@@ -82,6 +83,7 @@ impl Req {
         ensures back { IfBack result (λ back. back ≡ message) }
         ensures ins { self.new.ins ≡ self.old.ins }
         ensures places { IsPermutation self.old.outs self.new.outs }
+        ensures partner { IsAt (Contains self.old.ins) self.old.asked }
         ensures keeps { KeepsPlaces E.here E.end_at E.writable peers.old peers.new }
     {
         if !self.asked.is_nobody() {

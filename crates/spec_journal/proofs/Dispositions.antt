@@ -14,7 +14,7 @@ use Rattle.spec_journal.specs.declared.journal.PipeRow.{PipeRow}
 use Rattle.spec_journal.specs.declared.journal.Journal.{Journal}
 use Rattle.zq_script.specs.declared.script.Script.{Script}
 use Rattle.spec_journal.specs.declared.journal.Joined.{Joined}
-use Rattle.spec_journal.specs.Net.{end_a, end_b}
+use Rattle.spec_journal.specs.Net.{end_a, end_b, is_heard_from}
 use Rattle.spec_journal.specs.Printed.{IsJournalOf, rows_from, journal_of}
 use Rattle.spec_journal.specs.Disposition.{run_row, count_committed, Disposition, Given, Heard, Dropped, Written, Lost, Rest, AllEnd, told_in, told_by, dispositions, is_given, is_heard, is_dropped, is_written, is_lost, is_rest}
 
@@ -30,25 +30,25 @@ counted_once (Lost ∷ ds) = omega (arith, counted_once ds)
 counted_once (Rest ∷ ds) = omega (arith, counted_once ds)
 
 -- one disposition for each message taken
-pub told_length : (p : PipeId) (steps : List PipeStep) (skips : List Skip) → length (told_in p steps skips) ≡ length (taken_from p steps)
-told_length p [] skips = refl
-told_length p (Commit q m ∷ steps) skips = told_length p steps skips
-told_length p (FullLook q ∷ steps) skips = told_length p steps skips
-told_length p (Take q m ∷ steps) skips = by (same_pipe p q) refl (told_length p steps (drop 1 skips))
+pub told_length : (heard : Bool) (p : PipeId) (steps : List PipeStep) (skips : List Skip) → length (told_in heard p steps skips) ≡ length (taken_from p steps)
+told_length heard p [] skips = refl
+told_length heard p (Commit q m ∷ steps) skips = told_length heard p steps skips
+told_length heard p (FullLook q ∷ steps) skips = told_length heard p steps skips
+told_length heard p (Take q m ∷ steps) skips = by (same_pipe p q) refl (told_length heard p steps (drop 1 skips))
   where
-    by : (b : Bool) → same_pipe p q ≡ b → length (told_in p steps (drop 1 skips)) ≡ length (taken_from p steps)
-        → length (told_in p (Take q m ∷ steps) skips) ≡ length (taken_from p (Take q m ∷ steps))
+    by : (b : Bool) → same_pipe p q ≡ b → length (told_in heard p steps (drop 1 skips)) ≡ length (taken_from p steps)
+        → length (told_in heard p (Take q m ∷ steps) skips) ≡ length (taken_from p (Take q m ∷ steps))
     by true e rest = rw e (ap suc rest)
     by false e rest = rw e rest
-told_length p (EmptyLook q ∷ steps) skips = told_length p steps skips
-told_length p (DelimiterLook q ∷ steps) skips = told_length p steps skips
-told_length p (WaitingLook q ∷ steps) skips = told_length p steps skips
-told_length p (Seal q ∷ steps) skips = told_length p steps skips
+told_length heard p (EmptyLook q ∷ steps) skips = told_length heard p steps skips
+told_length heard p (DelimiterLook q ∷ steps) skips = told_length heard p steps skips
+told_length heard p (WaitingLook q ∷ steps) skips = told_length heard p steps skips
+told_length heard p (Seal q ∷ steps) skips = told_length heard p steps skips
 
-pub one_each : (p : PipeId) (ds : List Doing) → length (flat_map (told_by p) ds) ≡ length (taken_from p (steps_of ds))
-one_each p [] = refl
-one_each p (d ∷ ds) =
-    rw (length-append, filter_map-append (taken_by p) d.steps (steps_of ds), length-append, told_length p d.steps d.skips, one_each p ds)
+pub one_each : (heard : Bool) (p : PipeId) (ds : List Doing) → length (flat_map (told_by heard p) ds) ≡ length (taken_from p (steps_of ds))
+one_each heard p [] = refl
+one_each heard p (d ∷ ds) =
+    rw (length-append, filter_map-append (taken_by p) d.steps (steps_of ds), length-append, told_length heard p d.steps d.skips, one_each heard p ds)
 
 few_taken : (taken committed : List Frames) → IsPrefix taken committed → length taken ≤ length committed
 few_taken taken committed (rest, whole) = let split : length (taken ++ rest) ≡ length taken + length rest = length-append taken rest in
@@ -57,10 +57,11 @@ few_taken taken committed (rest, whole) = let split : length (taken ++ rest) ≡
 one_end : (run : Run) (p : PipeId) → IsPrefix (taken_from p (steps_of (doings_of run))) (committed_to p (steps_of (doings_of run)))
     → length (dispositions run p) ≡ count_committed run p
 one_end run p taken =
-    let told = one_each p (doings_of run) in
+    let heard = is_heard_from run.stage.net p in
+    let told = one_each heard p (doings_of run) in
     let few = few_taken (taken_from p (steps_of (doings_of run))) (committed_to p (steps_of (doings_of run))) taken in
     let left = length-replicate (length (committed_to p (steps_of (doings_of run))) - length (taken_from p (steps_of (doings_of run)))) Rest in
-    let both = length-append (flat_map (told_by p) (doings_of run)) (replicate (length (committed_to p (steps_of (doings_of run))) - length (taken_from p (steps_of (doings_of run)))) Rest) in
+    let both = length-append (flat_map (told_by heard p) (doings_of run)) (replicate (length (committed_to p (steps_of (doings_of run))) - length (taken_from p (steps_of (doings_of run)))) Rest) in
     omega (arith, told, few, left, both)
 
 -- each message committed to the pipe has one end

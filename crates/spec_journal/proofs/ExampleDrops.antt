@@ -1,5 +1,5 @@
 -- What the lines of a REP and of a REQ that drop messages do.
-use Rattle.std.proofs.Common.{◌≡◌, ℕ, List, [], ◌∷◌, ◌++◌, Some, None, codes, inl, refl, arith, All}
+use Rattle.std.proofs.Common.{◌≡◌, List, [], ◌∷◌, ◌++◌, Some, None, codes, inl, refl, arith, All}
 use Rattle.std.proofs.lemmas.List.Elements.{All-nil, All-cons}
 use Rattle.std.specs.Fmt.{digits}
 use Rattle.zq_base.specs.Message.{Frames}
@@ -22,7 +22,7 @@ use Rattle.spec_journal.specs.Text.{entry_text}
 use Rattle.spec_journal.specs.ExamplesPipeline.{pair_nr, got_from_1}
 use Rattle.spec_journal.specs.ExamplesDrops.{skip_at, rep_net, rep_doings, owing_1, both_peers, turned_peers, asked_1, req_net, req_doings, drops_first, gives_then, rep_waits, rep_waits_on, rep_done, entry_example, tries_rep_twice}
 use Rattle.spec_journal.specs.Examples.{DropRules}
-use Rattle.spec_journal.proofs.ExampleTurns.{InTurns, turn_more, at_end}
+use Rattle.spec_journal.proofs.ExampleTurns.{unpumped, InTurns, turn_more, at_end}
 use Rattle.spec_journal.proofs.ExamplePeers.{goes_first}
 
 one_none : (P : Round → Type 0) (r : Round) → P r → All P (r ∷ [])
@@ -80,19 +80,19 @@ takes_request = record {
 }
 
 rep_drops : DoesCall 0 (call.Recv 0 1) (rep_net Free) (Take (end_a 1) (codes "x" ∷ []) ∷ EmptyLook (end_a 1) ∷ []) (skip_at BadEnv 1 ∷ []) (answer.NotReceived recv.Again) (rep_net Free)
-rep_drops = record { got = got.Refused recv.Again; pattern = by_kind.Rep (end_b 1 ∷ []) Free; step = (end_b 1 ∷ [], Free, drops_bad, refl); reply_is = refl; new_is = refl }
+rep_drops = unpumped (refl, refl) (record { got = got.Refused recv.Again; pattern = by_kind.Rep (end_b 1 ∷ []) Free; step = (end_b 1 ∷ [], Free, drops_bad, refl); reply_is = refl; new_is = refl })
 
 rep_gives : DoesCall 0 (call.Recv 0 1) (rep_net Free) (Take (end_a 1) ([] ∷ codes "r" ∷ []) ∷ []) [] (got_from_1 (codes "r")) (rep_net owing_1)
-rep_gives = record { got = got.Got (pair_nr 1) (codes "r" ∷ []); pattern = by_kind.Rep (end_b 1 ∷ []) owing_1; step = (end_b 1 ∷ [], owing_1, takes_request, refl); reply_is = refl; new_is = refl }
+rep_gives = unpumped (refl, refl) (record { got = got.Got (pair_nr 1) (codes "r" ∷ []); pattern = by_kind.Rep (end_b 1 ∷ []) owing_1; step = (end_b 1 ∷ [], owing_1, takes_request, refl); reply_is = refl; new_is = refl })
 
 abbrev one_dealer : End → by_kind.Pattern
 one_dealer e = by_kind.Dealer (record { outs = e ∷ []; ins = e ∷ [] })
 
 sends_bad : DoesCall 0 (call.Send 1 (codes "x" ∷ [])) (rep_net Free) (Commit (end_a 1) (codes "x" ∷ []) ∷ []) [] (answer.Pair (pair_nr 1)) (rep_net Free)
-sends_bad = record { sent = sent.One (pair_nr 1); pattern = one_dealer (end_a 1); step = (end_a 1 ∷ [], goes_first (codes "x" ∷ []) (end_a 1) [], refl); skips_are = refl; reply_is = refl; new_is = refl }
+sends_bad = unpumped (refl, refl) (record { sent = sent.One (pair_nr 1); pattern = one_dealer (end_a 1); step = (end_a 1 ∷ [], goes_first (codes "x" ∷ []) (end_a 1) [], refl); skips_are = refl; reply_is = refl; new_is = refl })
 
 sends_request : DoesCall 0 (call.Send 1 ([] ∷ codes "r" ∷ [])) (rep_net Free) (Commit (end_a 1) ([] ∷ codes "r" ∷ []) ∷ []) [] (answer.Pair (pair_nr 1)) (rep_net Free)
-sends_request = record { sent = sent.One (pair_nr 1); pattern = one_dealer (end_a 1); step = (end_a 1 ∷ [], goes_first ([] ∷ codes "r" ∷ []) (end_a 1) [], refl); skips_are = refl; reply_is = refl; new_is = refl }
+sends_request = unpumped (refl, refl) (record { sent = sent.One (pair_nr 1); pattern = one_dealer (end_a 1); step = (end_a 1 ∷ [], goes_first ([] ∷ codes "r" ∷ []) (end_a 1) [], refl); skips_are = refl; reply_is = refl; new_is = refl })
 
 bad_envelope : InTurns (rep_net Free) rep_doings (rep_net owing_1)
 bad_envelope =
@@ -165,16 +165,16 @@ abbrev req_state : List End → Duty → by_kind.Pattern
 req_state ins duty = by_kind.Req (record { outs = turned_peers; ins = ins }) duty
 
 req_drops : DoesCall 0 (call.Recv 0 1) (req_net both_peers asked_1) (EmptyLook (end_b 1) ∷ Take (end_b 2) ([] ∷ codes "x" ∷ []) ∷ EmptyLook (end_b 1) ∷ EmptyLook (end_b 2) ∷ []) (skip_at Stray 2 ∷ []) (answer.NotReceived recv.Again) (req_net both_peers asked_1)
-req_drops = record { got = got.Refused recv.Again; pattern = req_state both_peers asked_1; step = (both_peers, asked_1, drops_stray, refl); reply_is = refl; new_is = refl }
+req_drops = unpumped (refl, refl) (record { got = got.Refused recv.Again; pattern = req_state both_peers asked_1; step = (both_peers, asked_1, drops_stray, refl); reply_is = refl; new_is = refl })
 
 req_gives : DoesCall 0 (call.Recv 0 1) (req_net both_peers asked_1) (Take (end_b 1) ([] ∷ codes "yes" ∷ []) ∷ []) [] (got_from_1 (codes "yes")) (req_net turned_peers Free)
-req_gives = record { got = got.Got (pair_nr 1) (codes "yes" ∷ []); pattern = req_state turned_peers Free; step = (turned_peers, Free, takes_reply, refl); reply_is = refl; new_is = refl }
+req_gives = unpumped (refl, refl) (record { got = got.Got (pair_nr 1) (codes "yes" ∷ []); pattern = req_state turned_peers Free; step = (turned_peers, Free, takes_reply, refl); reply_is = refl; new_is = refl })
 
 sends_stray : DoesCall 0 (call.Send 2 ([] ∷ codes "x" ∷ [])) (req_net both_peers asked_1) (Commit (end_b 2) ([] ∷ codes "x" ∷ []) ∷ []) [] (answer.Pair (pair_nr 2)) (req_net both_peers asked_1)
-sends_stray = record { sent = sent.One (pair_nr 2); pattern = one_dealer (end_b 2); step = (end_b 2 ∷ [], goes_first ([] ∷ codes "x" ∷ []) (end_b 2) [], refl); skips_are = refl; reply_is = refl; new_is = refl }
+sends_stray = unpumped (refl, refl) (record { sent = sent.One (pair_nr 2); pattern = one_dealer (end_b 2); step = (end_b 2 ∷ [], goes_first ([] ∷ codes "x" ∷ []) (end_b 2) [], refl); skips_are = refl; reply_is = refl; new_is = refl })
 
 sends_reply : DoesCall 0 (call.Send 1 ([] ∷ codes "yes" ∷ [])) (req_net both_peers asked_1) (Commit (end_b 1) ([] ∷ codes "yes" ∷ []) ∷ []) [] (answer.Pair (pair_nr 1)) (req_net both_peers asked_1)
-sends_reply = record { sent = sent.One (pair_nr 1); pattern = one_dealer (end_b 1); step = (end_b 1 ∷ [], goes_first ([] ∷ codes "yes" ∷ []) (end_b 1) [], refl); skips_are = refl; reply_is = refl; new_is = refl }
+sends_reply = unpumped (refl, refl) (record { sent = sent.One (pair_nr 1); pattern = one_dealer (end_b 1); step = (end_b 1 ∷ [], goes_first ([] ∷ codes "yes" ∷ []) (end_b 1) [], refl); skips_are = refl; reply_is = refl; new_is = refl })
 
 stray : InTurns (req_net both_peers asked_1) req_doings (req_net turned_peers Free)
 stray =

@@ -23,7 +23,7 @@ use Rattle.spec_journal.specs.ExamplesPipeline.{pair_nr, object_nr, options_with
 use Rattle.spec_journal.specs.ExamplesPipes.{one_actor_stage, doing}
 use Rattle.spec_journal.specs.ExamplesEdges.{pipeline_octets, one_turn_only, short_journal, both_left, one_left, finds_none, sends_m, tries_twice, sends_once}
 use Rattle.spec_journal.proofs.Dispositions.{all_end}
-use Rattle.spec_journal.proofs.ExampleTurns.{not_finished, one_turn}
+use Rattle.spec_journal.proofs.ExampleTurns.{unpumped, not_finished, one_turn}
 use Rattle.spec_journal.proofs.ExampleJournals.{net_1, makes_pull, pipeline}
 use Rattle.spec_journal.proofs.RunLemmas.{one_journal}
 
@@ -87,13 +87,13 @@ finds = record {
   rest = [];
   agenda_is = refl;
   lines_are = refl;
-  does = record {
+  does = unpumped (refl, refl) (record {
     got = got.Refused recv.Again;
     pattern = by_kind.Pull (end_b 1 ∷ []);
     step = (refl, (end_b 1 ∷ [], (refl, record { looks_are = (EmptyLook (end_a 1), [], refl, inl refl, refl); new_is = refl }), refl));
     reply_is = refl;
     new_is = refl;
-  };
+  });
   told_is = refl;
   over_is = refl;
   agendas_are = refl;
@@ -105,14 +105,14 @@ sends = record {
   rest = [];
   agenda_is = refl;
   lines_are = refl;
-  does = record {
+  does = unpumped (refl, refl) (record {
     sent = sent.One (pair_nr 1);
     pattern = by_kind.Push (end_a 1 ∷ []);
     step = (end_a 1 ∷ [], record { before = []; peer = end_a 1; after = []; turns_are = refl; open_is = refl; steps_are = refl; to_is = refl; new_is = refl }, refl);
     skips_are = refl;
     reply_is = refl;
     new_is = refl;
-  };
+  });
   told_is = refl;
   over_is = refl;
   agendas_are = refl;

@@ -9,6 +9,8 @@ use Rattle.spec_journal.proofs.ExampleEdges.{edges}
 use Rattle.spec_journal.proofs.ExampleNames.{names}
 use Rattle.spec_journal.proofs.ExamplePeers.{peers}
 use Rattle.spec_journal.proofs.ExampleDrops.{drops}
+use Rattle.spec_journal.proofs.ExampleRouters.{routers}
+use Rattle.spec_journal.proofs.ExampleTopics.{topics}
 
 orders : Orders
 orders = record {
@@ -29,4 +31,6 @@ examples taken_prefix looks_hold = record {
   peers = peers;
   orders = orders;
   drops = drops;
+  routers = routers;
+  topics = topics;
 }

@@ -22,7 +22,7 @@ use Rattle.spec_journal.specs.ExamplesPipeline.{options_with, line_at, object_nr
 use Rattle.spec_journal.specs.ExamplesPipes.{pull, push, joined_net, one_actor_stage, doing}
 use Rattle.spec_journal.specs.Examples.{Journals}
 use Rattle.spec_journal.proofs.Dispositions.{all_end}
-use Rattle.spec_journal.proofs.ExampleTurns.{InTurns, turn_more, at_end}
+use Rattle.spec_journal.proofs.ExampleTurns.{unpumped, InTurns, turn_more, at_end}
 use Rattle.spec_journal.proofs.ExampleNames.{none_held, one_held, comes}
 use Rattle.spec_journal.proofs.ExamplePipes.{sends, receives, finds_empty}
 
@@ -46,11 +46,11 @@ makes_push : DoesCall 0 (call.Socket Push (options_with 1000)) net_1 [] [] (answ
 makes_push = (refl, refl, refl, refl)
 
 does_bind : DoesCall 0 (call.Bind 0 at_q) net_2 [] [] answer.Done net_3
-does_bind = comes (binds (object_nr 1) (pull 1000 []) at_q net_2) answer.Done net_3 (rw (none_held at_q))
+does_bind = unpumped (refl, refl) (comes (binds (object_nr 1) (pull 1000 []) at_q net_2) answer.Done net_3 (rw (none_held at_q)))
 
 does_connect : DoesCall 0 (call.Connect 1 at_q) net_3 [] [] (answer.Pair (pair_nr 1)) (joined_net 1000)
-does_connect = comes (connects (object_nr 2) (push 1000 []) at_q net_3) (answer.Pair (pair_nr 1)) (joined_net 1000)
-    (ap (λ found. connects_to (object_nr 2) (push 1000 []) at_q found net_3) (one_held (record { holder = object_nr 1; kind = Pull })))
+does_connect = unpumped (refl, refl) (comes (connects (object_nr 2) (push 1000 []) at_q net_3) (answer.Pair (pair_nr 1)) (joined_net 1000)
+    (ap (λ found. connects_to (object_nr 2) (push 1000 []) at_q found net_3) (one_held (record { holder = object_nr 1; kind = Pull }))))
 
 abbrev pipeline_doings : List Doing
 pipeline_doings =

@@ -21,7 +21,7 @@ use Rattle.spec_journal.specs.ExamplesPipeline.{options_with, object_nr, pair_nr
 use Rattle.spec_journal.specs.ExamplesPipes.{pull, push}
 use Rattle.spec_journal.specs.ExamplesNames.{wait_of, waiting_script, waiting_doings, waited_net, two_pulls, two_pushes, four_waiting, two_fulfilled}
 use Rattle.spec_journal.specs.Examples.{NameRules}
-use Rattle.spec_journal.proofs.ExampleTurns.{InTurns, turn_more, at_end}
+use Rattle.spec_journal.proofs.ExampleTurns.{unpumped, InTurns, turn_more, at_end}
 
 -- in an empty book nobody holds a name, and in a book of one name its holder does
 pub none_held : (name : Endpoint) → binding_of empty_book name ≡ None
@@ -49,34 +49,34 @@ makes_push : DoesCall 0 (call.Socket Push (options_with 1000)) (net_before waiti
 makes_push = (refl, refl, refl, refl)
 
 connect_waits : DoesCall 0 (call.Connect 0 at_q) net_1 [] [] answer.Wait net_2
-connect_waits = comes (connects (object_nr 1) (push 1000 []) at_q net_1) answer.Wait net_2
-    (ap (λ found. connects_to (object_nr 1) (push 1000 []) at_q found net_1) (none_held at_q))
+connect_waits = unpumped (refl, refl) (comes (connects (object_nr 1) (push 1000 []) at_q net_1) answer.Wait net_2
+    (ap (λ found. connects_to (object_nr 1) (push 1000 []) at_q found net_1) (none_held at_q)))
 
 has_no_peer : DoesCall 0 (call.Send 0 (codes "m" ∷ [])) net_2 [] [] (answer.NotSent send.Again) net_2
-has_no_peer = record {
+has_no_peer = unpumped (refl, refl) (record {
   sent = sent.Refused send.Again;
   pattern = by_kind.Push [];
   step = ([], (refl, record { steps_are = refl; new_is = refl }), refl);
   skips_are = refl;
   reply_is = refl;
   new_is = refl;
-}
+})
 
 makes_pull : DoesCall 0 (call.Socket Pull (options_with 1000)) net_2 [] [] (answer.Object (object_nr 2)) net_3
 makes_pull = (refl, refl, refl, refl)
 
 bind_joins : DoesCall 0 (call.Bind 1 at_q) net_3 [] [] answer.Done waited_net
-bind_joins = comes (binds (object_nr 2) (pull 1000 []) at_q net_3) answer.Done waited_net (rw (none_held at_q))
+bind_joins = unpumped (refl, refl) (comes (binds (object_nr 2) (pull 1000 []) at_q net_3) answer.Done waited_net (rw (none_held at_q)))
 
 sends : DoesCall 0 (call.Send 0 (codes "m" ∷ [])) waited_net (Commit (end_a 1) (codes "m" ∷ []) ∷ []) [] (answer.Pair (pair_nr 1)) waited_net
-sends = record {
+sends = unpumped (refl, refl) (record {
   sent = sent.One (pair_nr 1);
   pattern = by_kind.Push (end_a 1 ∷ []);
   step = (end_a 1 ∷ [], record { before = []; peer = end_a 1; after = []; turns_are = refl; open_is = refl; steps_are = refl; to_is = refl; new_is = refl }, refl);
   skips_are = refl;
   reply_is = refl;
   new_is = refl;
-}
+})
 
 waits : InTurns (net_before waiting_script) waiting_doings waited_net
 waits =
@@ -88,15 +88,15 @@ waits =
     (turn_more sends refl at_end)))))
 
 in_use : DoesCall 0 (call.Bind 1 at_q) two_pulls [] [] answer.InUse two_pulls
-in_use = comes (binds (object_nr 2) (pull 1000 []) at_q two_pulls) answer.InUse two_pulls
-    (rw (one_held (record { holder = object_nr 1; kind = Pull })))
+in_use = unpumped (refl, refl) (comes (binds (object_nr 2) (pull 1000 []) at_q two_pulls) answer.InUse two_pulls
+    (rw (one_held (record { holder = object_nr 1; kind = Pull }))))
 
 bad_pair : DoesCall 0 (call.Connect 1 at_q) two_pushes [] [] answer.BadPair two_pushes
-bad_pair = comes (connects (object_nr 2) (push 1000 []) at_q two_pushes) answer.BadPair two_pushes
-    (ap (λ found. connects_to (object_nr 2) (push 1000 []) at_q found two_pushes) (one_held (record { holder = object_nr 1; kind = Push })))
+bad_pair = unpumped (refl, refl) (comes (connects (object_nr 2) (push 1000 []) at_q two_pushes) answer.BadPair two_pushes
+    (ap (λ found. connects_to (object_nr 2) (push 1000 []) at_q found two_pushes) (one_held (record { holder = object_nr 1; kind = Push }))))
 
 fulfilled : DoesCall 0 (call.Bind 3 at_q) four_waiting [] [] answer.Done two_fulfilled
-fulfilled = comes (binds (object_nr 4) (pull 1000 []) at_q four_waiting) answer.Done two_fulfilled (rw (none_held at_q))
+fulfilled = unpumped (refl, refl) (comes (binds (object_nr 4) (pull 1000 []) at_q four_waiting) answer.Done two_fulfilled (rw (none_held at_q)))
 
 pub names : NameRules
 names = record { waits = waits.turns; in_use = in_use; bad_pair = bad_pair; fulfilled = fulfilled }

@@ -1,5 +1,5 @@
 -- What the lines of PAIRs and DEALERs of the worked examples do.
-use Rattle.std.proofs.Common.{◌≡◌, ℕ, List, [], ◌∷◌, ◌++◌, true, codes, inl, refl, ap}
+use Rattle.std.proofs.Common.{ℕ, List, [], ◌∷◌, ◌++◌, true, codes, inl, refl, ap}
 use Rattle.zq_base.specs.Message.{Frames}
 use Rattle.zq_base.specs.declared.kind.Kind.TheVariants.{Pair}
 use Rattle.zq_script.specs.declared.script.Call.TheVariants as call
@@ -15,7 +15,7 @@ use Rattle.spec_journal.specs.Line.{DoesCall, connects, connects_to}
 use Rattle.spec_journal.specs.ExamplesPipeline.{object_nr, pair_nr, got_from_1, at_q}
 use Rattle.spec_journal.specs.ExamplesPeers.{pair_of, pairs_net, second_net, pairs_doings, dealers_net, dealers_doings}
 use Rattle.spec_journal.specs.Examples.{TwoWays}
-use Rattle.spec_journal.proofs.ExampleTurns.{InTurns, turn_more, at_end}
+use Rattle.spec_journal.proofs.ExampleTurns.{unpumped, InTurns, turn_more, at_end}
 use Rattle.spec_journal.proofs.ExampleNames.{one_held, comes}
 
 -- the first end serves
@@ -29,32 +29,32 @@ abbrev peer_state : End → by_kind.Pattern
 peer_state e = by_kind.Pair (record { outs = e ∷ []; ins = e ∷ [] })
 
 first_sends : (part : List ℕ) → DoesCall 0 (call.Send 0 (part ∷ [])) pairs_net (Commit (end_b 1) (part ∷ []) ∷ []) [] (answer.Pair (pair_nr 1)) pairs_net
-first_sends part = record { sent = sent.One (pair_nr 1); pattern = peer_state (end_b 1); step = (end_b 1 ∷ [], goes_first (part ∷ []) (end_b 1) [], refl); skips_are = refl; reply_is = refl; new_is = refl }
+first_sends part = unpumped (refl, refl) (record { sent = sent.One (pair_nr 1); pattern = peer_state (end_b 1); step = (end_b 1 ∷ [], goes_first (part ∷ []) (end_b 1) [], refl); skips_are = refl; reply_is = refl; new_is = refl })
 
 second_sends : (part : List ℕ) → DoesCall 0 (call.Send 1 (part ∷ [])) pairs_net (Commit (end_a 1) (part ∷ []) ∷ []) [] (answer.Pair (pair_nr 1)) pairs_net
-second_sends part = record { sent = sent.One (pair_nr 1); pattern = peer_state (end_a 1); step = (end_a 1 ∷ [], goes_first (part ∷ []) (end_a 1) [], refl); skips_are = refl; reply_is = refl; new_is = refl }
+second_sends part = unpumped (refl, refl) (record { sent = sent.One (pair_nr 1); pattern = peer_state (end_a 1); step = (end_a 1 ∷ [], goes_first (part ∷ []) (end_a 1) [], refl); skips_are = refl; reply_is = refl; new_is = refl })
 
 first_receives : (part : List ℕ) → DoesCall 0 (call.Recv 0 1) pairs_net (Take (end_a 1) (part ∷ []) ∷ []) [] (got_from_1 part) pairs_net
-first_receives part = record { got = got.Got (pair_nr 1) (part ∷ []); pattern = peer_state (end_b 1); step = (refl, (end_b 1 ∷ [], comes_first (part ∷ []) (end_b 1) [], refl)); reply_is = refl; new_is = refl }
+first_receives part = unpumped (refl, refl) (record { got = got.Got (pair_nr 1) (part ∷ []); pattern = peer_state (end_b 1); step = (refl, (end_b 1 ∷ [], comes_first (part ∷ []) (end_b 1) [], refl)); reply_is = refl; new_is = refl })
 
 second_receives : (part : List ℕ) → DoesCall 0 (call.Recv 1 1) pairs_net (Take (end_b 1) (part ∷ []) ∷ []) [] (got_from_1 part) pairs_net
-second_receives part = record { got = got.Got (pair_nr 1) (part ∷ []); pattern = peer_state (end_a 1); step = (refl, (end_a 1 ∷ [], comes_first (part ∷ []) (end_a 1) [], refl)); reply_is = refl; new_is = refl }
+second_receives part = unpumped (refl, refl) (record { got = got.Got (pair_nr 1) (part ∷ []); pattern = peer_state (end_a 1); step = (refl, (end_a 1 ∷ [], comes_first (part ∷ []) (end_a 1) [], refl)); reply_is = refl; new_is = refl })
 
 third_connects : DoesCall 0 (call.Connect 2 at_q) pairs_net [] [] (answer.Pair (pair_nr 2)) second_net
-third_connects = comes (connects (object_nr 3) (pair_of []) at_q pairs_net) (answer.Pair (pair_nr 2)) second_net
-    (ap (λ found. connects_to (object_nr 3) (pair_of []) at_q found pairs_net) (one_held (record { holder = object_nr 1; kind = Pair })))
+third_connects = unpumped (refl, refl) (comes (connects (object_nr 3) (pair_of []) at_q pairs_net) (answer.Pair (pair_nr 2)) second_net
+    (ap (λ found. connects_to (object_nr 3) (pair_of []) at_q found pairs_net) (one_held (record { holder = object_nr 1; kind = Pair }))))
 
 third_sends : (part : List ℕ) → DoesCall 0 (call.Send 2 (part ∷ [])) second_net (Commit (end_a 2) (part ∷ []) ∷ []) [] (answer.Pair (pair_nr 2)) second_net
-third_sends part = record { sent = sent.One (pair_nr 2); pattern = peer_state (end_a 2); step = (end_a 2 ∷ [], goes_first (part ∷ []) (end_a 2) [], refl); skips_are = refl; reply_is = refl; new_is = refl }
+third_sends part = unpumped (refl, refl) (record { sent = sent.One (pair_nr 2); pattern = peer_state (end_a 2); step = (end_a 2 ∷ [], goes_first (part ∷ []) (end_a 2) [], refl); skips_are = refl; reply_is = refl; new_is = refl })
 
 finds_none : DoesCall 0 (call.Recv 0 1) second_net (EmptyLook (end_a 1) ∷ []) [] (answer.NotReceived recv.Again) second_net
-finds_none = record {
+finds_none = unpumped (refl, refl) (record {
   got = got.Refused recv.Again;
   pattern = peer_state (end_b 1);
   step = (refl, (end_b 1 ∷ [], (refl, record { looks_are = (EmptyLook (end_a 1), [], refl, inl refl, refl); new_is = refl }), refl));
   reply_is = refl;
   new_is = refl;
-}
+})
 
 one_peer : InTurns pairs_net pairs_doings second_net
 one_peer =
@@ -77,16 +77,16 @@ abbrev turns_of : List End → List End → by_kind.Pattern
 turns_of outs ins = by_kind.Dealer (record { outs = outs; ins = ins })
 
 deals : (part : List ℕ) → DoesCall 0 (call.Send 0 (part ∷ [])) (dealers_net in_order in_order) (Commit (end_b 1) (part ∷ []) ∷ []) [] (answer.Pair (pair_nr 1)) (dealers_net turned_once in_order)
-deals part = record { sent = sent.One (pair_nr 1); pattern = turns_of turned_once in_order; step = (turned_once, goes_first (part ∷ []) (end_b 1) (end_b 2 ∷ []), refl); skips_are = refl; reply_is = refl; new_is = refl }
+deals part = unpumped (refl, refl) (record { sent = sent.One (pair_nr 1); pattern = turns_of turned_once in_order; step = (turned_once, goes_first (part ∷ []) (end_b 1) (end_b 2 ∷ []), refl); skips_are = refl; reply_is = refl; new_is = refl })
 
 last_deals : (part : List ℕ) → DoesCall 0 (call.Send 2 (part ∷ [])) (dealers_net turned_once in_order) (Commit (end_a 2) (part ∷ []) ∷ []) [] (answer.Pair (pair_nr 2)) (dealers_net turned_once in_order)
-last_deals part = record { sent = sent.One (pair_nr 2); pattern = turns_of (end_a 2 ∷ []) (end_a 2 ∷ []); step = (end_a 2 ∷ [], goes_first (part ∷ []) (end_a 2) [], refl); skips_are = refl; reply_is = refl; new_is = refl }
+last_deals part = unpumped (refl, refl) (record { sent = sent.One (pair_nr 2); pattern = turns_of (end_a 2 ∷ []) (end_a 2 ∷ []); step = (end_a 2 ∷ [], goes_first (part ∷ []) (end_a 2) [], refl); skips_are = refl; reply_is = refl; new_is = refl })
 
 other_deals : (part : List ℕ) → DoesCall 0 (call.Send 1 (part ∷ [])) (dealers_net turned_once in_order) (Commit (end_a 1) (part ∷ []) ∷ []) [] (answer.Pair (pair_nr 1)) (dealers_net turned_once in_order)
-other_deals part = record { sent = sent.One (pair_nr 1); pattern = turns_of (end_a 1 ∷ []) (end_a 1 ∷ []); step = (end_a 1 ∷ [], goes_first (part ∷ []) (end_a 1) [], refl); skips_are = refl; reply_is = refl; new_is = refl }
+other_deals part = unpumped (refl, refl) (record { sent = sent.One (pair_nr 1); pattern = turns_of (end_a 1 ∷ []) (end_a 1 ∷ []); step = (end_a 1 ∷ [], goes_first (part ∷ []) (end_a 1) [], refl); skips_are = refl; reply_is = refl; new_is = refl })
 
 is_dealt : (part : List ℕ) → DoesCall 0 (call.Recv 0 1) (dealers_net turned_once in_order) (Take (end_a 1) (part ∷ []) ∷ []) [] (got_from_1 part) (dealers_net turned_once turned_once)
-is_dealt part = record { got = got.Got (pair_nr 1) (part ∷ []); pattern = turns_of turned_once turned_once; step = (refl, (turned_once, comes_first (part ∷ []) (end_b 1) (end_b 2 ∷ []), refl)); reply_is = refl; new_is = refl }
+is_dealt part = unpumped (refl, refl) (record { got = got.Got (pair_nr 1) (part ∷ []); pattern = turns_of turned_once turned_once; step = (refl, (turned_once, comes_first (part ∷ []) (end_b 1) (end_b 2 ∷ []), refl)); reply_is = refl; new_is = refl })
 
 two_orders : InTurns (dealers_net in_order in_order) dealers_doings (dealers_net turned_once turned_once)
 two_orders =

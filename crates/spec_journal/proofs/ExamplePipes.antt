@@ -14,45 +14,45 @@ use Rattle.spec_journal.specs.Line.{DoesCall}
 use Rattle.spec_journal.specs.ExamplesPipeline.{pair_nr, got_from_1}
 use Rattle.spec_journal.specs.ExamplesPipes.{joined_net, narrow_doings}
 use Rattle.spec_journal.specs.Examples.{Pipes}
-use Rattle.spec_journal.proofs.ExampleTurns.{InTurns, turn_more, at_end}
+use Rattle.spec_journal.proofs.ExampleTurns.{unpumped, InTurns, turn_more, at_end}
 
 pub sends : (mark : ℕ) (part : List ℕ) → DoesCall 0 (call.Send 1 (part ∷ [])) (joined_net mark) (Commit (end_a 1) (part ∷ []) ∷ []) [] (answer.Pair (pair_nr 1)) (joined_net mark)
-sends mark part = record {
+sends mark part = unpumped (refl, refl) (record {
   sent = sent.One (pair_nr 1);
   pattern = Push (end_a 1 ∷ []);
   step = (end_a 1 ∷ [], record { before = []; peer = end_a 1; after = []; turns_are = refl; open_is = refl; steps_are = refl; to_is = refl; new_is = refl }, refl);
   skips_are = refl;
   reply_is = refl;
   new_is = refl;
-}
+})
 
 finds_full : (mark : ℕ) (part : List ℕ) → DoesCall 0 (call.Send 1 (part ∷ [])) (joined_net mark) (FullLook (end_a 1) ∷ []) [] (answer.NotSent send.Again) (joined_net mark)
-finds_full mark part = record {
+finds_full mark part = unpumped (refl, refl) (record {
   sent = sent.Refused send.Again;
   pattern = Push (end_a 1 ∷ []);
   step = (end_a 1 ∷ [], (refl, record { steps_are = refl; new_is = refl }), refl);
   skips_are = refl;
   reply_is = refl;
   new_is = refl;
-}
+})
 
 pub receives : (mark : ℕ) (part : List ℕ) → DoesCall 0 (call.Recv 0 1) (joined_net mark) (Take (end_a 1) (part ∷ []) ∷ []) [] (got_from_1 part) (joined_net mark)
-receives mark part = record {
+receives mark part = unpumped (refl, refl) (record {
   got = got.Got (pair_nr 1) (part ∷ []);
   pattern = Pull (end_b 1 ∷ []);
   step = (refl, (end_b 1 ∷ [], record { before = []; peer = end_b 1; after = []; looks = []; turns_are = refl; looks_are = refl; steps_are = refl; from_is = refl; new_is = refl }, refl));
   reply_is = refl;
   new_is = refl;
-}
+})
 
 pub finds_empty : (mark : ℕ) → DoesCall 0 (call.Recv 0 1) (joined_net mark) (EmptyLook (end_a 1) ∷ []) [] (answer.NotReceived recv.Again) (joined_net mark)
-finds_empty mark = record {
+finds_empty mark = unpumped (refl, refl) (record {
   got = got.Refused recv.Again;
   pattern = Pull (end_b 1 ∷ []);
   step = (refl, (end_b 1 ∷ [], (refl, record { looks_are = (EmptyLook (end_a 1), [], refl, inl refl, refl); new_is = refl }), refl));
   reply_is = refl;
   new_is = refl;
-}
+})
 
 narrow : InTurns (joined_net 1) narrow_doings (joined_net 1)
 narrow =

@@ -4,11 +4,18 @@ use Rattle.zq_script.specs.declared.script.Line.{Line}
 use Rattle.spec_pattern.specs.PipeStep.{PipeStep}
 use Rattle.spec_pattern.specs.declared.answers.Skip.{Skip}
 use Rattle.spec_journal.specs.declared.journal.Answer.{Answer}
-use Rattle.spec_journal.specs.Net.{Net}
-use Rattle.spec_journal.specs.Line.{DoesCall}
+use Rattle.spec_pattern.specs.PatternCalls.{PatternPumps}
+use Rattle.spec_journal.specs.Net.{Net, Mine, net_turned}
+use Rattle.spec_journal.specs.Line.{DoesCall, SockCall, PumpsThen, open_to_all}
 use Rattle.spec_journal.specs.Turn.{Doing, Tries, StepsOf, IsFinished, Turns, is_over}
 use Rattle.spec_journal.specs.ExamplesPipes.{one_actor_stage, dropping}
 use Rattle.spec_journal.specs.Examples.{three_workers}
+
+-- a line on a socket that neither hears nor tells
+pub unpumped : {Does : SockCall} {s : Mine} {net : Net} {steps : List PipeStep} {skips : List Skip} {said : Answer} {new : Net}
+    → PatternPumps open_to_all s.socket.pattern [] s.socket.pattern → Does s (net_turned s net s.socket.pattern) steps skips said new
+    → PumpsThen Does s net steps skips said new
+unpumped {Does} {s} {net} {steps} still does = record { pumped = s.socket.pattern; front = []; back = steps; pumps = still; does = does; steps_are = refl }
 
 pub not_finished : (net : Net) (line : Line) (rest : List Line) → IsFinished (one_actor_stage net (line ∷ rest)) → ⊥
 not_finished net line rest done = let none : length (line ∷ rest) ≡ 0 = ap length (done 0) in omega (arith, none)

@@ -5,6 +5,8 @@ pub mod ExamplePipes
 pub mod ExampleJournals
 pub mod ExamplePeers
 pub mod ExampleDrops
+pub mod ExampleRouters
+pub mod ExampleTopics
 pub mod ExampleEdges
 pub mod ExampleFacts
 pub mod Completeness

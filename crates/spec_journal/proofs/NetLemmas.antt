@@ -16,14 +16,16 @@ use Rattle.zq_base.specs.declared.endpoint.Endpoint.TheVariants.{Inproc, Tcp}
 use Rattle.spec_control.specs.EndpointBook.{Book, numbers_of, binding_of, fulfilled, is_fulfilled, waiters, with_name, with_waiting}
 use Rattle.spec_control.specs.declared.book.Binding.{Binding}
 use Rattle.spec_control.specs.declared.book.Waiting.{Waiting}
+use Rattle.spec_pattern.specs.PipeStep.{read_through}
 use Rattle.spec_pattern.specs.TurnList.{End}
 use Rattle.spec_pattern.specs.Pattern.{Pattern, attach}
-use Rattle.pattern_laws.specs.Peers.{pattern_kind, kept_ends, peer_names, named_peer, HaveOneName}
+use Rattle.pattern_laws.specs.Peers.{pattern_kind, kept_ends, peer_names, named_peer, HaveOneName, KeepsPeers}
 use Rattle.pattern_laws.proofs.NamesStayLemmas.{names_stay_one}
+use Rattle.pattern_laws.proofs.PumpedLemmas.{all_stay}
 use Rattle.spec_journal.specs.declared.journal.Answer.{Answer}
 use Rattle.spec_journal.specs.declared.journal.Answer.TheVariants as answer
 use Rattle.spec_journal.specs.declared.journal.Joined.{Joined}
-use Rattle.spec_journal.specs.Net.{Net, Sock, Mine, sock_at, hwm_of, rcvhwm_of, capacity_between, capacity_in, next_pair, most_sockets, most_pairs, is_made, sock_kind, new_pattern, new_sock, sock_identity, end_a, end_b, turned, with_turned, with_end, attached, joined, object_at, numbered, mine_at}
+use Rattle.spec_journal.specs.Net.{Net, Sock, Mine, sock_at, hwm_of, rcvhwm_of, capacity_between, capacity_in, next_pair, most_sockets, most_pairs, sock_kind, new_pattern, new_sock, sock_identity, end_a, end_b, turned, with_turned, with_end, attached, joined, object_at, numbered, mine_at, publishes, sock_publishes, heard_over, is_heard_from}
 use Rattle.spec_journal.specs.Line.{Outcome, without_socket, with_socket, makes, joined_all, binding, held_by, binds, connect_waits, connects_to, connects, at_endpoint}
 use Rattle.spec_journal.proofs.AttachLemmas.{attach_all, attach_kind, names_kept}
 
@@ -75,14 +77,14 @@ get_behind : {A : Type 0} (xs : List A) (x : A) → slice_get (xs ++ x ∷ []) (
 get_behind [] x = refl
 get_behind (y ∷ xs) x = get_behind xs x
 
--- the socket of this place is there, with these options
+-- the socket of this place is there, with these options and of this kind
 abbrev Keeps : List Sock → ℕ → Sock → Type 0
-Keeps socks k s = (t : Sock) × (slice_get socks k ≡ Some t) × (t.options ≡ s.options)
+Keeps socks k s = (t : Sock) × (slice_get socks k ≡ Some t) × (t.options ≡ s.options) × (sock_kind t ≡ sock_kind s)
 
 abbrev KeepsAll : List Sock → List Sock → Type 0
 KeepsAll old new = (k : ℕ) (s : Sock) → slice_get old k ≡ Some s → Keeps new k s
 
--- pairs stay, and sockets keep their options
+-- pairs stay, and sockets keep their options and kinds
 pub record Grows (old new : Net) : Type 0 where
   pub pairs : (k : ℕ) (j : Joined) → slice_get old.pairs k ≡ Some j → slice_get new.pairs k ≡ Some j
   pub socks : KeepsAll old.socks new.socks
@@ -91,13 +93,23 @@ pub record Grows (old new : Net) : Type 0 where
 abbrev HasSock : List Sock → ObjId → Type 0
 HasSock socks o = (s : Sock) × (slice_get socks (o.0 - 1) ≡ Some s)
 
--- the end is that of a pair of sockets
-abbrev pub IsPaired : List Joined → List Sock → End → Type 0
-IsPaired pairs socks e = (j : Joined) × (slice_get pairs (e.pair.0 - 1) ≡ Some j) × HasSock socks j.a × HasSock socks j.b
+-- the object is a socket of this kind
+abbrev pub IsOfKind : List Sock → Kind → ObjId → Type 0
+IsOfKind socks kind o = (s : Sock) × (slice_get socks (o.0 - 1) ≡ Some s) × (sock_kind s ≡ kind)
 
--- each end that a socket keeps is so, no peer of it has two names, and its kind is one that is made
-abbrev pub KeepsEnds : (End → Type 0) → Sock → Type 0
-KeepsEnds P s = All P (kept_ends s.pattern) × HaveOneName (peer_names s.pattern) × (is_made (sock_kind s) ≡ true)
+-- whose end a, or the other, of a pair is
+abbrev pub owner_of : Bool → Joined → ObjId
+owner_of true j = j.a
+owner_of false j = j.b
+
+-- the end is that of a pair of sockets, and is one of this kind's
+abbrev pub IsPaired : List Joined → List Sock → Kind → End → Type 0
+IsPaired pairs socks kind e =
+    (j : Joined) × (slice_get pairs (e.pair.0 - 1) ≡ Some j) × HasSock socks j.a × HasSock socks j.b × IsOfKind socks kind (owner_of e.a j)
+
+-- each end that a socket keeps is so for its kind, and no peer of it has two names
+abbrev pub KeepsEnds : (Kind → End → Type 0) → Sock → Type 0
+KeepsEnds P s = All (P (sock_kind s)) (kept_ends s.pattern) × HaveOneName (peer_names s.pattern)
 
 abbrev pub HasEnds : List Joined → List Sock → Sock → Type 0
 HasEnds pairs socks s = KeepsEnds (IsPaired pairs socks) s
@@ -113,20 +125,28 @@ abbrev pub Kept : Net → Net → Type 0
 Kept old new = IsSound new × Grows old new
 
 pub grows_none : (net : Net) → Grows net net
-grows_none net = record { pairs = λ k j e. e; socks = λ k s e. (s, e, refl) }
+grows_none net = record { pairs = λ k j e. e; socks = λ k s e. (s, e, refl, refl) }
 
 pub grows_on : (old mid new : Net) → Grows old mid → Grows mid new → Grows old new
 grows_on old mid new one other = record {
   pairs = λ k j e. other.pairs k j (one.pairs k j e);
-  socks = λ k s e. let m = one.socks k s e in let n = other.socks k m.0 m.1 in (n.0, n.1, n.2 ∙ m.2);
+  socks = λ k s e. let m = one.socks k s e in let n = other.socks k m.0 m.1 in (n.0, n.1, n.2 ∙ m.2, n.3 ∙ m.3);
 }
 
 stays_sock : (old new : List Sock) (o : ObjId) → KeepsAll old new → HasSock old o → HasSock new o
 stays_sock old new o keeps (s, here) = let n = keeps (o.0 - 1) s here in (n.0, n.1)
 
-stays_paired : (old new : Net) → Grows old new → (e : End) → IsPaired old.pairs old.socks e → IsPaired new.pairs new.socks e
-stays_paired old new grows e (j, here, a, b) =
-    (j, grows.pairs (e.pair.0 - 1) j here, stays_sock old.socks new.socks j.a grows.socks a, stays_sock old.socks new.socks j.b grows.socks b)
+stays_of_kind : (old new : List Sock) (kind : Kind) (o : ObjId) → KeepsAll old new → IsOfKind old kind o → IsOfKind new kind o
+stays_of_kind old new kind o keeps (s, here, is) = let n = keeps (o.0 - 1) s here in (n.0, n.1, n.3 ∙ is)
+
+pub stays_paired : (old new : Net) → Grows old new → (kind : Kind) (e : End) → IsPaired old.pairs old.socks kind e → IsPaired new.pairs new.socks kind e
+stays_paired old new grows kind e (j, here, a, b, own) = (
+  j,
+  grows.pairs (e.pair.0 - 1) j here,
+  stays_sock old.socks new.socks j.a grows.socks a,
+  stays_sock old.socks new.socks j.b grows.socks b,
+  stays_of_kind old.socks new.socks kind (owner_of e.a j) grows.socks own,
+)
 
 -- the capacity of a pipe that is there stays
 hwm_stays : (old new : Net) → Grows old new → (o : ObjId) → HasSock old.socks o → hwm_of (sock_at new o.0) ≡ hwm_of (sock_at old o.0)
@@ -144,8 +164,8 @@ between_stays : (old new : Net) → Grows old new → (side : Bool) (j : Joined)
 between_stays old new grows true j a b = let x = hwm_stays old new grows j.a a in let y = rcvhwm_stays old new grows j.b b in omega (arith, x, y)
 between_stays old new grows false j a b = let x = hwm_stays old new grows j.b b in let y = rcvhwm_stays old new grows j.a a in omega (arith, x, y)
 
-pub capacity_stays : (old new : Net) → Grows old new → (e : End) → IsPaired old.pairs old.socks e → capacity_in new e ≡ capacity_in old e
-capacity_stays old new grows e (j, here, a, b) =
+pub capacity_stays : (old new : Net) → Grows old new → (kind : Kind) (e : End) → IsPaired old.pairs old.socks kind e → capacity_in new e ≡ capacity_in old e
+capacity_stays old new grows kind e (j, here, a, b, own) =
     ap (capacity_between new e.a) (grows.pairs (e.pair.0 - 1) j here) ∙ between_stays old new grows e.a j a b
     ∙ sym (ap (capacity_between old e.a) here)
 
@@ -164,31 +184,40 @@ sound_on old new sound grows ends same = (
 ends_on : (old new : Net) → Grows old new → (socks : List Sock) → Each (HasEnds old.pairs old.socks) socks → Each (HasEnds new.pairs new.socks) socks
 ends_on old new grows socks all =
     each_more (HasEnds old.pairs old.socks) (HasEnds new.pairs new.socks)
-    (λ s has. (All-weaker (IsPaired old.pairs old.socks) (IsPaired new.pairs new.socks) (stays_paired old new grows) (kept_ends s.pattern) has.0, has.1, has.2)) socks all
+    (λ s has. (
+      All-weaker (IsPaired old.pairs old.socks (sock_kind s)) (IsPaired new.pairs new.socks (sock_kind s)) (stays_paired old new grows (sock_kind s)) (kept_ends s.pattern) has.0,
+      has.1,
+    )) socks all
 
--- another state of a socket keeps its options
-set_keeps : (socks : List Sock) (k : ℕ) (s : Sock) (pattern : Pattern) → slice_get socks k ≡ Some s → KeepsAll socks (slice_set socks k (turned pattern s))
-set_keeps [] k s pattern e = λ i t f. cc
-set_keeps (x ∷ xs) zero s pattern e = at
+-- another state of a socket keeps its options, and its kind where it is of that
+set_keeps : (socks : List Sock) (k : ℕ) (s : Sock) (pattern : Pattern) → slice_get socks k ≡ Some s → pattern_kind pattern ≡ sock_kind s
+    → KeepsAll socks (slice_set socks k (turned pattern s))
+set_keeps [] k s pattern e is = λ i t f. cc
+set_keeps (x ∷ xs) zero s pattern e is = at
   where
     at : (i : ℕ) (t : Sock) → slice_get (x ∷ xs) i ≡ Some t → Keeps (turned pattern s ∷ xs) i t
-    at zero t f = let same : s ≡ t = cc in (turned pattern s, refl, ap (λ (r : Sock). r.options) same)
-    at (suc i) t f = (t, f, refl)
-set_keeps (x ∷ xs) (suc k) s pattern e = at (set_keeps xs k s pattern e)
+    at zero t f = let same : s ≡ t = cc in (turned pattern s, refl, ap (λ (r : Sock). r.options) same, is ∙ ap sock_kind same)
+    at (suc i) t f = (t, f, refl, refl)
+set_keeps (x ∷ xs) (suc k) s pattern e is = at (set_keeps xs k s pattern e is)
   where
     at : KeepsAll xs (slice_set xs k (turned pattern s)) → (i : ℕ) (t : Sock) → slice_get (x ∷ xs) i ≡ Some t → Keeps (x ∷ slice_set xs k (turned pattern s)) i t
-    at keeps zero t f = (t, f, refl)
+    at keeps zero t f = (t, f, refl, refl)
     at keeps (suc i) t f = keeps i t f
 
--- the ends of a socket that is there, once it has another state
-pub turned_kept : (net : Net) (o : ℕ) (s : Sock) (pattern : Pattern) → IsSound net → sock_at net o ≡ Some s → HasEnds net.pairs net.socks (turned pattern s)
+-- a socket that is there, once a call left it in another state
+pub turned_kept : (net : Net) (o : ℕ) (s : Sock) (pattern : Pattern) → IsSound net → sock_at net o ≡ Some s → KeepsPeers s.pattern pattern
     → Kept net (record net { socks = with_turned net.socks o s pattern })
-turned_kept net o s pattern sound here has =
+turned_kept net o s pattern sound here keeps =
     let new : Net = record net { socks = with_turned net.socks o s pattern } in
-    let grows : Grows net new = record { pairs = λ k j e. e; socks = set_keeps net.socks (o - 1) s pattern here } in
+    let grows : Grows net new = record { pairs = λ k j e. e; socks = set_keeps net.socks (o - 1) s pattern here keeps.kind_is } in
+    let all = ends_on net new grows net.socks sound.ends in
+    let own = each_get (HasEnds new.pairs new.socks) net.socks (o - 1) s all here in
+    let stay = all_stay (IsPaired new.pairs new.socks (sock_kind s)) s.pattern pattern keeps own.0 in
     sound_on net new sound grows
-    (each_set (HasEnds new.pairs new.socks) net.socks (o - 1) (turned pattern s) (ends_on net new grows net.socks sound.ends)
-    (All-weaker (IsPaired net.pairs net.socks) (IsPaired new.pairs new.socks) (stays_paired net new grows) (kept_ends pattern) has.0, has.1, has.2))
+    (each_set (HasEnds new.pairs new.socks) net.socks (o - 1) (turned pattern s) all (
+      subst (λ (k : Kind). All (IsPaired new.pairs new.socks k) (kept_ends pattern)) (sym keeps.kind_is) stay,
+      names_stay_one.calls s.pattern pattern keeps own.1,
+    ))
     refl
 
 -- a further end keeps the options, and adds one end
@@ -196,37 +225,37 @@ attach_keeps : (socks : List Sock) (o : ℕ) (e : End) (identity : List ℕ) →
 attach_keeps socks o e identity = by (slice_get socks (o - 1)) refl
   where
     by : (s : Option Sock) → slice_get socks (o - 1) ≡ s → KeepsAll socks (with_end socks o s e identity)
-    by None none = λ k t f. (t, f, refl)
-    by (Some s) here = set_keeps socks (o - 1) s (attach e identity s.pattern) here
+    by None none = λ k t f. (t, f, refl, refl)
+    by (Some s) here = set_keeps socks (o - 1) s (attach e identity s.pattern) here (attach_kind e identity s.pattern)
 
 -- where all ends kept differ from the new one, no peer gets a second name
-attach_ends : (P Q : End → Type 0) (socks : List Sock) (o : ℕ) (e : End) (identity : List ℕ) → Each (KeepsEnds P) socks → ((x : End) → P x → Q x × (x ≢ e)) → Q e
-    → Each (KeepsEnds Q) (attached o e identity socks)
+attach_ends : (P Q : Kind → End → Type 0) (socks : List Sock) (o : ℕ) (e : End) (identity : List ℕ) → Each (KeepsEnds P) socks → ((kind : Kind) (x : End) → P kind x → Q kind x × (x ≢ e))
+    → ((s : Sock) → slice_get socks (o - 1) ≡ Some s → Q (sock_kind s) e) → Each (KeepsEnds Q) (attached o e identity socks)
 attach_ends P Q socks o e identity all more one = by (slice_get socks (o - 1)) refl
   where
     up : (s : Sock) → KeepsEnds P s → KeepsEnds Q s
-    up s has = (All-weaker P Q (λ x is. (more x is).0) (kept_ends s.pattern) has.0, has.1, has.2)
+    up s has = (All-weaker (P (sock_kind s)) (Q (sock_kind s)) (λ x is. (more (sock_kind s) x is).0) (kept_ends s.pattern) has.0, has.1)
 
-    with_one : (s : Sock) → KeepsEnds P s → KeepsEnds Q (turned (attach e identity s.pattern) s)
-    with_one s has = (
-      attach_all Q e identity s.pattern one (up s has).0,
+    with_one : (s : Sock) → slice_get socks (o - 1) ≡ Some s → KeepsEnds P s → KeepsEnds Q (turned (attach e identity s.pattern) s)
+    with_one s here has = (
+      subst (λ (k : Kind). All (Q k) (kept_ends (attach e identity s.pattern))) (sym (attach_kind e identity s.pattern))
+          (attach_all (Q (sock_kind s)) e identity s.pattern (one s here) (up s has).0),
       names_stay_one.comes e identity s.pattern
-          (All-weaker P (λ x. x ≢ e) (λ x is. (more x is).1) (map named_peer (peer_names s.pattern)) (names_kept P s.pattern has.0)) has.1,
-      ap is_made (attach_kind e identity s.pattern) ∙ has.2,
+          (All-weaker (P (sock_kind s)) (λ x. x ≢ e) (λ x is. (more (sock_kind s) x is).1) (map named_peer (peer_names s.pattern)) (names_kept (P (sock_kind s)) s.pattern has.0)) has.1,
     )
 
     by : (s : Option Sock) → slice_get socks (o - 1) ≡ s → Each (KeepsEnds Q) (with_end socks o s e identity)
     by None none = each_more (KeepsEnds P) (KeepsEnds Q) up socks all
     by (Some s) here =
         each_set (KeepsEnds Q) socks (o - 1) (turned (attach e identity s.pattern) s) (each_more (KeepsEnds P) (KeepsEnds Q) up socks all)
-        (with_one s (each_get (KeepsEnds P) socks (o - 1) s all here))
+        (with_one s here (each_get (KeepsEnds P) socks (o - 1) s all here))
 
 last_pair : (n : ℕ) → (n + 1) - 1 ≡ n
 last_pair n = omega arith
 
 -- the next pair's ends are of no pair so far
-is_new : (net : Net) (e x : End) → e.pair.0 ≡ next_pair net → IsPaired net.pairs net.socks x → x ≢ e
-is_new net e x next (j, here, a, b) same =
+is_new : (net : Net) (kind : Kind) (e x : End) → e.pair.0 ≡ next_pair net → IsPaired net.pairs net.socks kind x → x ≢ e
+is_new net kind e x next (j, here, a, b, own) same =
     let place : x.pair.0 - 1 ≡ length net.pairs = ap (λ (y : End). y.pair.0 - 1) same ∙ ap (λ (n : ℕ). n - 1) next ∙ last_pair (length net.pairs) in
     none_there (slice_get net.pairs (x.pair.0 - 1)) (slice_get_past net.pairs (x.pair.0 - 1) (omega (arith, place))) here
   where
@@ -247,22 +276,23 @@ joined_kept a b net sound has_a has_b =
     let keeps : KeepsAll net.socks new.socks = λ k s e.
     let m = attach_keeps net.socks a.0 (end_a n) to_a k s e in
     let o = attach_keeps first b.0 (end_b n) to_b k m.0 m.1 in
-    (o.0, o.1, o.2 ∙ m.2) in
+    (o.0, o.1, o.2 ∙ m.2, o.3 ∙ m.3) in
     let grows : Grows net new = record { pairs = λ k j e. get_front net.pairs (record { a = a; b = b } ∷ []) k j e; socks = keeps } in
     let pair : slice_get new.pairs (n - 1) ≡ Some (record { a = a; b = b }) =
     ap (slice_get new.pairs) (last_pair (length net.pairs)) ∙ get_behind net.pairs (record { a = a; b = b }) in
     let both_a : HasSock new.socks a = stays_sock net.socks new.socks a keeps has_a in
     let both_b : HasSock new.socks b = stays_sock net.socks new.socks b keeps has_b in
-    let Old : End → Type 0 = IsPaired net.pairs net.socks in
-    let New : End → Type 0 = IsPaired new.pairs new.socks in
-    let Mid : End → Type 0 = λ x. New x × (x ≢ end_b n) in
+    let Old : Kind → End → Type 0 = IsPaired net.pairs net.socks in
+    let New : Kind → End → Type 0 = IsPaired new.pairs new.socks in
+    let Mid : Kind → End → Type 0 = λ k x. New k x × (x ≢ end_b n) in
+    let second = attach_keeps first b.0 (end_b n) to_b in
     sound_on net new sound grows
     (attach_ends Mid New first b.0 (end_b n) to_b
     (attach_ends Old Mid net.socks a.0 (end_a n) to_a sound.ends
-    (λ x is. ((stays_paired net new grows x is, is_new net (end_b n) x refl is), is_new net (end_a n) x refl is))
-    ((record { a = a; b = b }, pair, both_a, both_b), sides_differ n))
-    (λ x is. is)
-    (record { a = a; b = b }, pair, both_a, both_b))
+    (λ k x is. ((stays_paired net new grows k x is, is_new net k (end_b n) x refl is), is_new net k (end_a n) x refl is))
+    (λ s here. ((record { a = a; b = b }, pair, both_a, both_b, stays_of_kind net.socks new.socks (sock_kind s) a keeps (s, here, refl)), sides_differ n)))
+    (λ k x is. is)
+    (λ s here. (record { a = a; b = b }, pair, both_a, both_b, stays_of_kind first new.socks (sock_kind s) b second (s, here, refl))))
     refl
 
 kept_on : (old mid new : Net) → Kept old mid → Kept mid new → Kept old new
@@ -290,7 +320,7 @@ kept_same net sound = (sound, grows_none net)
 
 -- what an actor's lines made says nothing of the sockets
 seats_kept : (net : Net) (seats : List (List (Option ObjId))) → IsSound net → Kept net (record net { seats = seats })
-seats_kept net seats sound = sound_on net (record net { seats = seats }) sound (record { pairs = λ k j e. e; socks = λ k s e. (s, e, refl) }) sound.ends refl
+seats_kept net seats sound = sound_on net (record net { seats = seats }) sound (record { pairs = λ k j e. e; socks = λ k s e. (s, e, refl, refl) }) sound.ends refl
 
 -- a new socket keeps no ends, and is of its kind
 pub no_ends : (P : End → Type 0) (kind : Kind) (options : Options) → All P (kept_ends (new_pattern kind options))
@@ -332,38 +362,33 @@ new_kind XPub options = refl
 new_kind Sub options = refl
 new_kind XSub options = refl
 
-none_kept : (P : End → Type 0) (kind : Kind) (options : Options) → is_made kind ≡ true → KeepsEnds P (new_sock kind options)
-none_kept P kind options made = (no_ends P kind options, no_names kind options, ap is_made (new_kind kind options) ∙ made)
+none_kept : (P : Kind → End → Type 0) (kind : Kind) (options : Options) → KeepsEnds P (new_sock kind options)
+none_kept P kind options = (no_ends (P (sock_kind (new_sock kind options))) kind options, no_names kind options)
 
-made_kept : (net : Net) (s : Sock) (seats : List (List (Option ObjId))) → IsSound net → ((P : End → Type 0) → KeepsEnds P s)
+made_kept : (net : Net) (s : Sock) (seats : List (List (Option ObjId))) → IsSound net → ((P : Kind → End → Type 0) → KeepsEnds P s)
     → Kept net (record net { socks = net.socks ++ s ∷ []; seats = seats })
 made_kept net s seats sound none =
     let new : Net = record net { socks = net.socks ++ s ∷ []; seats = seats } in
-    let grows : Grows net new = record { pairs = λ k j e. e; socks = λ k t e. (t, get_front net.socks (s ∷ []) k t e, refl) } in
+    let grows : Grows net new = record { pairs = λ k j e. e; socks = λ k t e. (t, get_front net.socks (s ∷ []) k t e, refl, refl) } in
     sound_on net new sound grows
     (each_append (HasEnds new.pairs new.socks) net.socks (s ∷ []) (ends_on net new grows net.socks sound.ends)
     (none (IsPaired new.pairs new.socks), tt))
     refl
 
 makes_kept : (actor : ℕ) (kind : Kind) (options : Options) (net : Net) → IsSound net → IsKept net (makes actor kind options net)
-makes_kept actor kind options net sound = by (is_made kind) refl
+makes_kept actor kind options net sound =
+    either (IsKept net) (nat_le most_sockets (length net.socks)) _ _ (without answer.TooMany)
+    (made_kept net (new_sock kind options) (with_socket actor kind options net).1.seats sound (λ P. none_kept P kind options))
   where
     without : (reply : Answer) → IsKept net (without_socket actor reply net)
     without reply = seats_kept net (without_socket actor reply net).1.seats sound
-
-    by : (b : Bool) → is_made kind ≡ b
-        → IsKept net (if not b then without_socket actor answer.NotSupported net else if nat_le most_sockets (length net.socks) then without_socket actor answer.TooMany net else with_socket actor kind options net)
-    by false made = without answer.NotSupported
-    by true made =
-        either (IsKept net) (nat_le most_sockets (length net.socks)) _ _ (without answer.TooMany)
-        (made_kept net (new_sock kind options) (with_socket actor kind options net).1.seats sound (λ P. none_kept P kind options made))
 
 -- another book, of such waiting connects and such names
 book_kept : (net : Net) (book : Book) → IsSound net → Each (λ (w : Waiting). HasSock net.socks w.waiter) book.waiting
     → ((name : Endpoint) (b : Binding) → binding_of book name ≡ Some b → HasSock net.socks b.holder) → Kept net (record net { book = book })
 book_kept net book sound waiters holders = (
   record { ends = sound.ends; waiters = waiters; holders = holders },
-  record { pairs = λ k j e. e; socks = λ k s e. (s, e, refl) },
+  record { pairs = λ k j e. e; socks = λ k s e. (s, e, refl, refl) },
 )
 
 -- a name more
@@ -445,3 +470,13 @@ pub connect_kept : (m : Mine) (to : Endpoint) (net new : Net) → IsSound net �
     → new ≡ (at_endpoint to (λ name. connects m.object m.socket name net) net).1 → Kept net new
 connect_kept m (Inproc name) net new sound here same = comes_kept net new (connects m.object m.socket (Inproc name) net) same (connects_kept m.object m.socket (Inproc name) net sound (m.socket, here))
 connect_kept m (Tcp address) net new sound here same = subst (Kept net) (sym same) (kept_same net sound)
+
+-- ---- what is taken at the ends of a publisher is heard
+
+-- a pipe that is read at an end of a kind is heard as the kind hears
+pub heard_there : (net : Net) (kind : Kind) (e : End) → IsPaired net.pairs net.socks kind e → is_heard_from net (read_through e) ≡ publishes kind
+heard_there net kind e (j, here, a, b, own) = ap (heard_over net (read_through e).a) here ∙ by e.a own
+  where
+    by : (side : Bool) → IsOfKind net.socks kind (owner_of side j) → heard_over net (not side) (Some j) ≡ publishes kind
+    by true (s, at, is) = ap sock_publishes at ∙ ap publishes is
+    by false (s, at, is) = ap sock_publishes at ∙ ap publishes is

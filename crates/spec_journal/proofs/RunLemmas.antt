@@ -1,5 +1,5 @@
 -- A script has one run by a schedule: each order, each step and each turn is settled by those before it.
-use Rattle.std.proofs.Common.{◌≡◌, ◌-◌, ◌<◌, ◌∙◌, inl, inr, ℕ, suc, List, [], ◌∷◌, ◌++◌, Bool, true, false, Option, Some, None, All, length, refl, sym, subst, ap, arith}
+use Rattle.std.proofs.Common.{◌≡◌, ◌-◌, ◌<◌, ◌∙◌, inl, inr, ℕ, suc, zero, List, [], ◌∷◌, ◌++◌, Bool, true, false, Option, Some, None, All, length, refl, sym, subst, ap, arith}
 use Rattle.std.specs.Prelude.{slice_get, slice_set, flat_map}
 use Rattle.std.specs.List.{remove}
 use Rattle.std.proofs.lemmas.List.Elements.{All-weaker}
@@ -7,13 +7,16 @@ use Rattle.std.proofs.lemmas.Grind.{flat_map-append}
 use Rattle.zq_base.specs.Message.{Frames}
 use Rattle.zq_base.specs.Ends.{PipeId}
 use Rattle.zq_base.specs.declared.endpoint.Endpoint.{Endpoint}
+use Rattle.zq_base.specs.declared.kind.Kind.{Kind}
 use Rattle.zq_script.specs.declared.script.Script.{Script}
 use Rattle.zq_script.specs.declared.script.Line.{Line}
 use Rattle.zq_script.specs.declared.script.Call.{Call}
 use Rattle.zq_script.specs.declared.script.Call.TheVariants as call
 use Rattle.spec_pattern.specs.PipeStep.{PipeStep, AreExact}
 use Rattle.spec_pattern.specs.TurnList.{End}
+use Rattle.spec_pattern.specs.Topics.{Topic}
 use Rattle.spec_pattern.specs.Pattern.{Pattern}
+use Rattle.spec_pattern.specs.PatternCalls.{PatternPumps, Change, Subscribe, Unsubscribe}
 use Rattle.pattern_laws.specs.Peers.{kept_ends, peer_names, HaveOneName}
 use Rattle.pattern_laws.specs.Laws.{AgreeOn}
 use Rattle.spec_control.specs.declared.book.Binding.{Binding}
@@ -21,54 +24,88 @@ use Rattle.spec_journal.proofs.ExampleNames.{none_held}
 use Rattle.spec_pattern.specs.declared.answers.Skip.{Skip}
 use Rattle.spec_journal.specs.declared.journal.Answer.{Answer}
 use Rattle.spec_journal.specs.declared.journal.Journal.{Journal}
-use Rattle.spec_journal.specs.Net.{Net, Mine, capacity_in, mine_at, sock_at, with_turned}
-use Rattle.spec_journal.specs.Line.{Outcome, Comes, Sends, Receives, BindsAt, ConnectsTo, SendsBy, ReceivesBy, DoesCall, makes, binds, connects, at_endpoint, no_socket, sent_answer, got_answer}
+use Rattle.spec_journal.specs.Net.{Net, Sock, Mine, capacity_in, mine_at, sock_at, sock_kind, turned, as_turned, net_turned}
+use Rattle.spec_journal.specs.Line.{Outcome, Comes, open_to_all, Sends, Receives, ChangesTopics, BindsAt, ConnectsTo, SockCall, PumpsThen, OnSocket, DoesCall, makes, binds, connects, at_endpoint, no_socket, sent_answer, got_answer, changed_answer}
 use Rattle.spec_journal.specs.Turn.{Doing, Agenda, Stage, stage_before, is_over, after_try, Tries, lines_in, lines_left, StepOf, StepsOf, next_number, choice, Chooses, IsOrder, workers_of, IsFinished, Turns}
 use Rattle.spec_journal.specs.Run.{Schedule, Run, steps_of}
 use Rattle.spec_journal.specs.Printed.{IsJournalOf, EndsSo, journal_of}
 use Rattle.spec_journal.proofs.NetLemmas.{each_get, Grows, IsPaired, HasEnds, IsSound, Kept, grows_none, grows_on, capacity_stays, turned_kept, socket_kept, bind_kept, connect_kept, mine_here}
 use Rattle.pattern_laws.proofs.StepLemmas.{exact_front, exact_behind}
-use Rattle.spec_journal.proofs.CallLemmas.{send_settled, receive_settled, send_has, receive_has}
+use Rattle.pattern_laws.proofs.PumpedLemmas.{all_stay}
+use Rattle.pattern_laws.proofs.KeepCallLemmas.{calls_keep_peers}
+use Rattle.pattern_laws.proofs.NamesStayLemmas.{names_stay_one}
+use Rattle.spec_journal.proofs.CallLemmas.{send_settled, receive_settled, change_settled, pump_settled}
 
 -- each end of a socket is that of a pair of sockets, and no peer of it has two names
 pub socket_ends : (net : Net) (m : Mine) → IsSound net → sock_at net m.object.0 ≡ Some m.socket → HasEnds net.pairs net.socks m.socket
 socket_ends net m sound here = each_get (HasEnds net.pairs net.socks) net.socks _ m.socket sound.ends here
 
--- what a line keeps of the net
-bind_at_kept : (actor place : ℕ) (at : Endpoint) (net : Net) (steps : List PipeStep) (skips : List Skip) (reply : Answer) (new : Net) (m : Option Mine) → mine_at net actor place ≡ m
-    → IsSound net → BindsAt m at net steps skips reply new → Kept net new
-bind_at_kept actor place at net steps skips reply new None e sound does = subst (Kept net) (sym does.2) (sound, grows_none net)
-bind_at_kept actor place at net steps skips reply new (Some m) e sound does = bind_kept m at net new sound (mine_here net actor place m e) does.2
+-- a socket stays where it is once its pattern is another
+turned_here : (socks : List Sock) (k : ℕ) (s t : Sock) → slice_get socks k ≡ Some s → slice_get (slice_set socks k t) k ≡ Some t
+turned_here [] k s t e = cc
+turned_here (x ∷ xs) zero s t e = refl
+turned_here (x ∷ xs) (suc k) s t e = turned_here xs k s t e
 
-connect_to_kept : (actor place : ℕ) (to : Endpoint) (net : Net) (steps : List PipeStep) (skips : List Skip) (reply : Answer) (new : Net) (m : Option Mine) → mine_at net actor place ≡ m
-    → IsSound net → ConnectsTo m to net steps skips reply new → Kept net new
-connect_to_kept actor place to net steps skips reply new None e sound does = subst (Kept net) (sym does.2) (sound, grows_none net)
-connect_to_kept actor place to net steps skips reply new (Some m) e sound does = connect_kept m to net new sound (mine_here net actor place m e) does.2
+pub pumped_here : (net : Net) (s : Mine) (pattern : Pattern) → sock_at net s.object.0 ≡ Some s.socket → sock_at (net_turned s net pattern) s.object.0 ≡ Some (as_turned s pattern).socket
+pumped_here net s pattern here = turned_here net.socks (s.object.0 - 1) s.socket (turned pattern s.socket) here
 
-send_by_kept : (actor place : ℕ) (f : Frames) (net : Net) (steps : List PipeStep) (skips : List Skip) (reply : Answer) (new : Net) (m : Option Mine) → mine_at net actor place ≡ m
-    → IsSound net → SendsBy m f net steps skips reply new → Kept net new
-send_by_kept actor place f net steps skips reply new None e sound does = subst (Kept net) (sym does.2) (sound, grows_none net)
-send_by_kept actor place f net steps skips reply new (Some m) e sound does =
-    let here = mine_here net actor place m e in
+-- what a pump keeps of the net
+pub pump_kept : (s : Mine) (net : Net) (front : List PipeStep) (pumped : Pattern) → IsSound net → sock_at net s.object.0 ≡ Some s.socket
+    → PatternPumps open_to_all s.socket.pattern front pumped → Kept net (net_turned s net pumped)
+pump_kept s net front pumped sound here pumps =
+    turned_kept net s.object.0 s.socket pumped sound here (calls_keep_peers.pumps open_to_all s.socket.pattern (record { steps = front; new = pumped }) pumps)
+
+-- what a call keeps of it
+abbrev pub Keeping : SockCall → Type 0
+Keeping Does = (s : Mine) (net : Net) (steps : List PipeStep) (skips : List Skip) (reply : Answer) (new : Net) → IsSound net → sock_at net s.object.0 ≡ Some s.socket
+    → Does s net steps skips reply new → Kept net new
+
+binds_keep : (at : Endpoint) → Keeping (BindsAt at)
+binds_keep at s net steps skips reply new sound here does = bind_kept s at net new sound here does.2
+
+connects_keep : (to : Endpoint) → Keeping (ConnectsTo to)
+connects_keep to s net steps skips reply new sound here does = connect_kept s to net new sound here does.2
+
+sends_keep : (f : Frames) → Keeping (Sends f)
+sends_keep f s net steps skips reply new sound here does =
     subst (Kept net) (sym does.new_is)
-    (turned_kept net m.object.0 m.socket does.pattern sound here
-    (send_has (IsPaired net.pairs net.socks) f m.socket.pattern steps does.sent does.pattern does.step (socket_ends net m sound here)))
+    (turned_kept net s.object.0 s.socket does.pattern sound here
+    (calls_keep_peers.sends open_to_all f s.socket.pattern (record { steps = steps; answer = does.sent; new = does.pattern }) does.step))
 
-receive_by_kept : (actor place : ℕ) (net : Net) (steps : List PipeStep) (skips : List Skip) (reply : Answer) (new : Net) (m : Option Mine) → mine_at net actor place ≡ m
-    → IsSound net → ReceivesBy m net steps skips reply new → Kept net new
-receive_by_kept actor place net steps skips reply new None e sound does = subst (Kept net) (sym does.2) (sound, grows_none net)
-receive_by_kept actor place net steps skips reply new (Some m) e sound does =
-    let here = mine_here net actor place m e in
+receives_keep : Keeping Receives
+receives_keep s net steps skips reply new sound here does =
     subst (Kept net) (sym does.new_is)
-    (turned_kept net m.object.0 m.socket does.pattern sound here
-    (receive_has (IsPaired net.pairs net.socks) m.socket.pattern steps skips does.got does.pattern does.step (socket_ends net m sound here)))
+    (turned_kept net s.object.0 s.socket does.pattern sound here
+    (calls_keep_peers.receives s.socket.pattern (record { steps = steps; skips = skips; answer = does.got; new = does.pattern }) does.step))
+
+changes_keep : (change : Change) (topic : Topic) → Keeping (ChangesTopics change topic)
+changes_keep change topic s net steps skips reply new sound here does =
+    subst (Kept net) (sym does.new_is)
+    (turned_kept net s.object.0 s.socket does.pattern sound here
+    (calls_keep_peers.changes change open_to_all topic s.socket.pattern (record { steps = steps; answer = does.changed; new = does.pattern }) does.step))
+
+-- what a line on a socket keeps of it
+pumps_keep : (Does : SockCall) → Keeping Does → Keeping (PumpsThen Does)
+pumps_keep Does keeps s net steps skips reply new sound here does =
+    let first = pump_kept s net does.front does.pumped sound here does.pumps in
+    let mid = net_turned s net does.pumped in
+    let then = keeps (as_turned s does.pumped) mid does.back skips reply new first.0 (pumped_here net s does.pumped here) does.does in
+    (then.0, grows_on net mid new first.1 then.1)
+
+on_socket_kept : (Does : SockCall) → Keeping Does → (actor place : ℕ) (net : Net) (steps : List PipeStep) (skips : List Skip) (reply : Answer) (new : Net) (m : Option Mine) → mine_at net actor place ≡ m
+    → IsSound net → OnSocket Does m net steps skips reply new → Kept net new
+on_socket_kept Does keeps actor place net steps skips reply new None e sound does = subst (Kept net) (sym does.2) (sound, grows_none net)
+on_socket_kept Does keeps actor place net steps skips reply new (Some s) e sound does =
+    pumps_keep Does keeps s net steps skips reply new sound (mine_here net actor place s e) does
 
 call_kept : (actor : ℕ) (asked : Call) (net : Net) (steps : List PipeStep) (skips : List Skip) (reply : Answer) (new : Net) → IsSound net → DoesCall actor asked net steps skips reply new → Kept net new
 call_kept actor (call.Socket kind options) net steps skips reply new sound does = socket_kept actor kind options net new sound does.2
-call_kept actor (call.Bind place at) net steps skips reply new sound does = bind_at_kept actor place at net steps skips reply new (mine_at net actor place) refl sound does
-call_kept actor (call.Connect place to) net steps skips reply new sound does = connect_to_kept actor place to net steps skips reply new (mine_at net actor place) refl sound does
-call_kept actor (call.Send place f) net steps skips reply new sound does = send_by_kept actor place f net steps skips reply new (mine_at net actor place) refl sound does
-call_kept actor (call.Recv place tries) net steps skips reply new sound does = receive_by_kept actor place net steps skips reply new (mine_at net actor place) refl sound does
+call_kept actor (call.Bind place at) net steps skips reply new sound does = on_socket_kept (BindsAt at) (binds_keep at) actor place net steps skips reply new (mine_at net actor place) refl sound does
+call_kept actor (call.Connect place to) net steps skips reply new sound does = on_socket_kept (ConnectsTo to) (connects_keep to) actor place net steps skips reply new (mine_at net actor place) refl sound does
+call_kept actor (call.Send place f) net steps skips reply new sound does = on_socket_kept (Sends f) (sends_keep f) actor place net steps skips reply new (mine_at net actor place) refl sound does
+call_kept actor (call.Recv place tries) net steps skips reply new sound does = on_socket_kept Receives receives_keep actor place net steps skips reply new (mine_at net actor place) refl sound does
+call_kept actor (call.Subscribe place topic) net steps skips reply new sound does = on_socket_kept (ChangesTopics Subscribe topic) (changes_keep Subscribe topic) actor place net steps skips reply new (mine_at net actor place) refl sound does
+call_kept actor (call.Unsubscribe place topic) net steps skips reply new sound does = on_socket_kept (ChangesTopics Unsubscribe topic) (changes_keep Unsubscribe topic) actor place net steps skips reply new (mine_at net actor place) refl sound does
 
 -- what steps, and turns, keep of it
 pub step_kept : (w : ℕ) (old : Stage) (ds : List Doing) (new : Stage) → IsSound old.net → StepOf w old ds new → Kept old.net new.net
@@ -91,9 +128,9 @@ turns_kept_all seed workers x old (turn ∷ turns) new sound (begun, (order, aft
     (on.0, grows_on old.net mid.net new.net one.1 on.1)
 
 -- two later nets give the pipes of this one the same capacities
-agree : (net n m : Net) → Grows net n → Grows net m → (ends : List End) → All (IsPaired net.pairs net.socks) ends → AgreeOn (capacity_in n) (capacity_in m) ends
-agree net n m g h ends all =
-    All-weaker (IsPaired net.pairs net.socks) (λ e. capacity_in n e ≡ capacity_in m e) (λ e is. capacity_stays net n g e is ∙ sym (capacity_stays net m h e is)) ends all
+agree : (net n m : Net) → Grows net n → Grows net m → (kind : Kind) (ends : List End) → All (IsPaired net.pairs net.socks kind) ends → AgreeOn (capacity_in n) (capacity_in m) ends
+agree net n m g h kind ends all =
+    All-weaker (IsPaired net.pairs net.socks kind) (λ e. capacity_in n e ≡ capacity_in m e) (λ e is. capacity_stays net n g kind e is ∙ sym (capacity_stays net m h kind e is)) ends all
 
 -- a call has one outcome
 record OneCall (steps : List PipeStep) (skips : List Skip) (reply : Answer) (new : Net) (steps2 : List PipeStep) (skips2 : List Skip) (reply2 : Answer) (new2 : Net) : Type 0 where
@@ -106,70 +143,91 @@ one_outcome : (o : Outcome) (steps : List PipeStep) (skips : List Skip) (reply :
     → Comes o steps skips reply new → Comes o steps2 skips2 reply2 new2 → OneCall steps skips reply new steps2 skips2 reply2 new2
 one_outcome o steps skips reply new steps2 skips2 reply2 new2 g h = record { same_steps = g.0 ∙ sym h.0; same_skips = g.3 ∙ sym h.3; same_reply = g.1 ∙ sym h.1; same_net = g.2 ∙ sym h.2 }
 
--- the net with this state of a socket
-abbrev net_with : Mine → Net → Pattern → Net
-net_with s net pattern = record net { socks = with_turned net.socks s.object.0 s.socket pattern }
-
--- the steps past, and two nets at whose capacities further steps are exact
-module _ (past : List PipeStep) (n m : Net) where
-  one_send : (s : Mine) (f : Frames) (net : Net) (steps : List PipeStep) (skips : List Skip) (reply : Answer) (new : Net) (steps2 : List PipeStep) (skips2 : List Skip) (reply2 : Answer) (new2 : Net)
-      → AgreeOn (capacity_in n) (capacity_in m) (kept_ends s.socket.pattern) → Sends s f net steps skips reply new → Sends s f net steps2 skips2 reply2 new2
+-- two nets at whose capacities further steps are exact
+module _ (n m : Net) where
+  -- what a socket is asked is settled by its state and the steps past
+  abbrev Settled : SockCall → Type 0
+  Settled Does = (past : List PipeStep) (s : Mine) (net : Net) (steps : List PipeStep) (skips : List Skip) (reply : Answer) (new : Net) (steps2 : List PipeStep) (skips2 : List Skip) (reply2 : Answer) (new2 : Net)
+      → AgreeOn (capacity_in n) (capacity_in m) (kept_ends s.socket.pattern) → HaveOneName (peer_names s.socket.pattern)
+      → Does s net steps skips reply new → Does s net steps2 skips2 reply2 new2
       → AreExact (capacity_in n) past steps → AreExact (capacity_in m) past steps2 → OneCall steps skips reply new steps2 skips2 reply2 new2
-  one_send s f net steps skips reply new steps2 skips2 reply2 new2 same g h x y =
+
+  one_send : (f : Frames) → Settled (Sends f)
+  one_send f past s net steps skips reply new steps2 skips2 reply2 new2 same names g h x y =
       let one = send_settled (capacity_in n) (capacity_in m) past f s.socket.pattern steps steps2 g.sent h.sent g.pattern h.pattern same g.step h.step x y in
       record {
         same_steps = one.same_steps;
         same_skips = g.skips_are ∙ sym h.skips_are;
         same_reply = g.reply_is ∙ ap sent_answer one.same_answer ∙ sym h.reply_is;
-        same_net = g.new_is ∙ ap (net_with s net) one.same_pattern ∙ sym h.new_is;
+        same_net = g.new_is ∙ ap (net_turned s net) one.same_pattern ∙ sym h.new_is;
       }
 
-  one_receive : (s : Mine) (net : Net) (steps : List PipeStep) (skips : List Skip) (reply : Answer) (new : Net) (steps2 : List PipeStep) (skips2 : List Skip) (reply2 : Answer) (new2 : Net)
-      → HaveOneName (peer_names s.socket.pattern) → Receives s net steps skips reply new → Receives s net steps2 skips2 reply2 new2
-      → AreExact (capacity_in n) past steps → AreExact (capacity_in m) past steps2 → OneCall steps skips reply new steps2 skips2 reply2 new2
-  one_receive s net steps skips reply new steps2 skips2 reply2 new2 names g h x y =
+  one_receive : Settled Receives
+  one_receive past s net steps skips reply new steps2 skips2 reply2 new2 same names g h x y =
       let one = receive_settled (capacity_in n) (capacity_in m) past s.socket.pattern steps steps2 skips skips2 g.got h.got g.pattern h.pattern names g.step h.step x y in
       record {
         same_steps = one.0.same_steps;
         same_skips = one.1;
         same_reply = g.reply_is ∙ ap got_answer one.0.same_answer ∙ sym h.reply_is;
-        same_net = g.new_is ∙ ap (net_with s net) one.0.same_pattern ∙ sym h.new_is;
+        same_net = g.new_is ∙ ap (net_turned s net) one.0.same_pattern ∙ sym h.new_is;
       }
 
-  one_bind : (s : Option Mine) (at : Endpoint) (net : Net) (steps : List PipeStep) (skips : List Skip) (reply : Answer) (new : Net) (steps2 : List PipeStep) (skips2 : List Skip) (reply2 : Answer) (new2 : Net)
-      → BindsAt s at net steps skips reply new → BindsAt s at net steps2 skips2 reply2 new2 → OneCall steps skips reply new steps2 skips2 reply2 new2
-  one_bind None at net steps skips reply new steps2 skips2 reply2 new2 g h = one_outcome (no_socket net) steps skips reply new steps2 skips2 reply2 new2 g h
-  one_bind (Some s) at net steps skips reply new steps2 skips2 reply2 new2 g h = one_outcome (at_endpoint at (λ name. binds s.object s.socket name net) net) steps skips reply new steps2 skips2 reply2 new2 g h
+  one_change : (change : Change) (topic : Topic) → Settled (ChangesTopics change topic)
+  one_change change topic past s net steps skips reply new steps2 skips2 reply2 new2 same names g h x y =
+      let one = change_settled (capacity_in n) (capacity_in m) past change topic s.socket.pattern steps steps2 g.changed h.changed g.pattern h.pattern same g.step h.step x y in
+      record {
+        same_steps = one.same_steps;
+        same_skips = g.skips_are ∙ sym h.skips_are;
+        same_reply = g.reply_is ∙ ap changed_answer one.same_answer ∙ sym h.reply_is;
+        same_net = g.new_is ∙ ap (net_turned s net) one.same_pattern ∙ sym h.new_is;
+      }
 
-  one_connect : (s : Option Mine) (to : Endpoint) (net : Net) (steps : List PipeStep) (skips : List Skip) (reply : Answer) (new : Net) (steps2 : List PipeStep) (skips2 : List Skip) (reply2 : Answer) (new2 : Net)
-      → ConnectsTo s to net steps skips reply new → ConnectsTo s to net steps2 skips2 reply2 new2 → OneCall steps skips reply new steps2 skips2 reply2 new2
-  one_connect None to net steps skips reply new steps2 skips2 reply2 new2 g h = one_outcome (no_socket net) steps skips reply new steps2 skips2 reply2 new2 g h
-  one_connect (Some s) to net steps skips reply new steps2 skips2 reply2 new2 g h = one_outcome (at_endpoint to (λ name. connects s.object s.socket name net) net) steps skips reply new steps2 skips2 reply2 new2 g h
+  one_bind : (at : Endpoint) → Settled (BindsAt at)
+  one_bind at past s net steps skips reply new steps2 skips2 reply2 new2 same names g h x y =
+      one_outcome (at_endpoint at (λ name. binds s.object s.socket name net) net) steps skips reply new steps2 skips2 reply2 new2 g h
 
-  one_send_by : (actor place : ℕ) (s : Option Mine) (f : Frames) (net : Net) (steps : List PipeStep) (skips : List Skip) (reply : Answer) (new : Net) (steps2 : List PipeStep) (skips2 : List Skip) (reply2 : Answer) (new2 : Net)
-      → mine_at net actor place ≡ s → IsSound net → Grows net n → Grows net m → SendsBy s f net steps skips reply new → SendsBy s f net steps2 skips2 reply2 new2
+  one_connect : (to : Endpoint) → Settled (ConnectsTo to)
+  one_connect to past s net steps skips reply new steps2 skips2 reply2 new2 same names g h x y =
+      one_outcome (at_endpoint to (λ name. connects s.object s.socket name net) net) steps skips reply new steps2 skips2 reply2 new2 g h
+
+  -- and so it is with the pump before it
+  one_pumped : (Does : SockCall) → Settled Does → Settled (PumpsThen Does)
+  one_pumped Does settled past s net steps skips reply new steps2 skips2 reply2 new2 same names g h x y =
+      let c = capacity_in n in
+      let d = capacity_in m in
+      let exact = subst (AreExact c past) g.steps_are x in
+      let exact2 = subst (AreExact d past) h.steps_are y in
+      let p = pump_settled c d past s.socket.pattern g.front h.front g.pumped h.pumped same g.pumps h.pumps (exact_front c past g.front g.back exact) (exact_front d past h.front h.back exact2) in
+      let keeps = calls_keep_peers.pumps open_to_all s.socket.pattern (record { steps = g.front; new = g.pumped }) g.pumps in
+      let does = subst (λ (k : Pattern). Does (as_turned s k) (net_turned s net k) h.back skips2 reply2 new2) (sym p.1) h.does in
+      let one = settled (past ++ g.front) (as_turned s g.pumped) (net_turned s net g.pumped) g.back skips reply new h.back skips2 reply2 new2
+      (all_stay (λ e. c e ≡ d e) s.socket.pattern g.pumped keeps same) (names_stay_one.calls s.socket.pattern g.pumped keeps names) g.does does
+      (exact_behind c past g.front g.back exact) (subst (λ l. AreExact d (past ++ l) h.back) (sym p.0) (exact_behind d past h.front h.back exact2)) in
+      record {
+        same_steps = g.steps_are ∙ ap (λ l. l ++ g.back) p.0 ∙ ap (λ l. h.front ++ l) one.same_steps ∙ sym h.steps_are;
+        same_skips = one.same_skips;
+        same_reply = one.same_reply;
+        same_net = one.same_net;
+      }
+
+  one_on_socket : (Does : SockCall) → Settled Does → (past : List PipeStep) (actor place : ℕ) (s : Option Mine) (net : Net) (steps : List PipeStep) (skips : List Skip) (reply : Answer) (new : Net) (steps2 : List PipeStep) (skips2 : List Skip) (reply2 : Answer) (new2 : Net)
+      → mine_at net actor place ≡ s → IsSound net → Grows net n → Grows net m → OnSocket Does s net steps skips reply new → OnSocket Does s net steps2 skips2 reply2 new2
       → AreExact (capacity_in n) past steps → AreExact (capacity_in m) past steps2 → OneCall steps skips reply new steps2 skips2 reply2 new2
-  one_send_by actor place None f net steps skips reply new steps2 skips2 reply2 new2 e sound p q g h x y = one_outcome (no_socket net) steps skips reply new steps2 skips2 reply2 new2 g h
-  one_send_by actor place (Some s) f net steps skips reply new steps2 skips2 reply2 new2 e sound p q g h x y =
-      one_send s f net steps skips reply new steps2 skips2 reply2 new2 (agree net n m p q (kept_ends s.socket.pattern) (socket_ends net s sound (mine_here net actor place s e)).0) g h x y
+  one_on_socket Does settled past actor place None net steps skips reply new steps2 skips2 reply2 new2 e sound p q g h x y = one_outcome (no_socket net) steps skips reply new steps2 skips2 reply2 new2 g h
+  one_on_socket Does settled past actor place (Some s) net steps skips reply new steps2 skips2 reply2 new2 e sound p q g h x y =
+      let has = socket_ends net s sound (mine_here net actor place s e) in
+      one_pumped Does settled past s net steps skips reply new steps2 skips2 reply2 new2 (agree net n m p q (sock_kind s.socket) (kept_ends s.socket.pattern) has.0) has.1 g h x y
 
-  one_receive_by : (actor place : ℕ) (s : Option Mine) (net : Net) (steps : List PipeStep) (skips : List Skip) (reply : Answer) (new : Net) (steps2 : List PipeStep) (skips2 : List Skip) (reply2 : Answer) (new2 : Net)
-      → mine_at net actor place ≡ s → IsSound net → ReceivesBy s net steps skips reply new → ReceivesBy s net steps2 skips2 reply2 new2
-      → AreExact (capacity_in n) past steps → AreExact (capacity_in m) past steps2 → OneCall steps skips reply new steps2 skips2 reply2 new2
-  one_receive_by actor place None net steps skips reply new steps2 skips2 reply2 new2 e sound g h x y = one_outcome (no_socket net) steps skips reply new steps2 skips2 reply2 new2 g h
-  one_receive_by actor place (Some s) net steps skips reply new steps2 skips2 reply2 new2 e sound g h x y =
-      one_receive s net steps skips reply new steps2 skips2 reply2 new2 (socket_ends net s sound (mine_here net actor place s e)).1 g h x y
-
-  one_call : (actor : ℕ) (asked : Call) (net : Net) (steps : List PipeStep) (skips : List Skip) (reply : Answer) (new : Net) (steps2 : List PipeStep) (skips2 : List Skip) (reply2 : Answer) (new2 : Net)
+  one_call : (past : List PipeStep) (actor : ℕ) (asked : Call) (net : Net) (steps : List PipeStep) (skips : List Skip) (reply : Answer) (new : Net) (steps2 : List PipeStep) (skips2 : List Skip) (reply2 : Answer) (new2 : Net)
       → IsSound net → Grows net n → Grows net m → DoesCall actor asked net steps skips reply new → DoesCall actor asked net steps2 skips2 reply2 new2
       → AreExact (capacity_in n) past steps → AreExact (capacity_in m) past steps2 → OneCall steps skips reply new steps2 skips2 reply2 new2
-  one_call actor (call.Socket kind options) net steps skips reply new steps2 skips2 reply2 new2 sound p q g h x y = one_outcome (makes actor kind options net) steps skips reply new steps2 skips2 reply2 new2 g h
-  one_call actor (call.Bind place at) net steps skips reply new steps2 skips2 reply2 new2 sound p q g h x y = one_bind (mine_at net actor place) at net steps skips reply new steps2 skips2 reply2 new2 g h
-  one_call actor (call.Connect place to) net steps skips reply new steps2 skips2 reply2 new2 sound p q g h x y = one_connect (mine_at net actor place) to net steps skips reply new steps2 skips2 reply2 new2 g h
-  one_call actor (call.Send place f) net steps skips reply new steps2 skips2 reply2 new2 sound p q g h x y =
-      one_send_by actor place (mine_at net actor place) f net steps skips reply new steps2 skips2 reply2 new2 refl sound p q g h x y
-  one_call actor (call.Recv place tries) net steps skips reply new steps2 skips2 reply2 new2 sound p q g h x y =
-      one_receive_by actor place (mine_at net actor place) net steps skips reply new steps2 skips2 reply2 new2 refl sound g h x y
+  one_call past actor (call.Socket kind options) net steps skips reply new steps2 skips2 reply2 new2 sound p q g h x y = one_outcome (makes actor kind options net) steps skips reply new steps2 skips2 reply2 new2 g h
+  one_call past actor (call.Bind place at) net steps skips reply new steps2 skips2 reply2 new2 sound p q g h x y = one_on_socket (BindsAt at) (one_bind at) past actor place (mine_at net actor place) net steps skips reply new steps2 skips2 reply2 new2 refl sound p q g h x y
+  one_call past actor (call.Connect place to) net steps skips reply new steps2 skips2 reply2 new2 sound p q g h x y = one_on_socket (ConnectsTo to) (one_connect to) past actor place (mine_at net actor place) net steps skips reply new steps2 skips2 reply2 new2 refl sound p q g h x y
+  one_call past actor (call.Send place f) net steps skips reply new steps2 skips2 reply2 new2 sound p q g h x y = one_on_socket (Sends f) (one_send f) past actor place (mine_at net actor place) net steps skips reply new steps2 skips2 reply2 new2 refl sound p q g h x y
+  one_call past actor (call.Recv place tries) net steps skips reply new steps2 skips2 reply2 new2 sound p q g h x y = one_on_socket Receives one_receive past actor place (mine_at net actor place) net steps skips reply new steps2 skips2 reply2 new2 refl sound p q g h x y
+  one_call past actor (call.Subscribe place topic) net steps skips reply new steps2 skips2 reply2 new2 sound p q g h x y = one_on_socket (ChangesTopics Subscribe topic) (one_change Subscribe topic) past actor place (mine_at net actor place) net steps skips reply new steps2 skips2 reply2 new2 refl sound p q g h x y
+  one_call past actor (call.Unsubscribe place topic) net steps skips reply new steps2 skips2 reply2 new2 sound p q g h x y = one_on_socket (ChangesTopics Unsubscribe topic) (one_change Unsubscribe topic) past actor place (mine_at net actor place) net steps skips reply new steps2 skips2 reply2 new2 refl sound p q g h x y
 
 -- the same was done, and the same stage is left
 record OneWay {A : Type 0} (ds : A) (new : Stage) (ds2 : A) (new2 : Stage) : Type 0 where
@@ -191,7 +249,7 @@ one_try past n m old d e new new2 same sound p q g h x y =
     let line : d.line ≡ e.line = cc in
     let rest : g.rest ≡ h.rest = cc in
     let does = subst (λ (l : Line). DoesCall e.actor l.call old.net e.steps e.skips e.answer new2.net) (sym line) h.does in
-    let call = one_call past n m d.actor d.line.call old.net d.steps d.skips d.answer new.net e.steps e.skips e.answer new2.net sound p q g.does
+    let call = one_call n m past d.actor d.line.call old.net d.steps d.skips d.answer new.net e.steps e.skips e.answer new2.net sound p q g.does
     (subst (λ k. DoesCall k d.line.call old.net e.steps e.skips e.answer new2.net) (sym same) does) x y in
     let reply = call.same_reply in
     let told : d.told ≡ e.told = g.told_is ∙ ap (λ (a : Agenda). a.told ++ d.skips) agenda ∙ ap (λ (l : List Skip). h.agenda.told ++ l) call.same_skips ∙ sym h.told_is in

@@ -4,6 +4,7 @@ use Rattle.zq_base.specs.Ends.{PipeId}
 use Rattle.spec_pattern.specs.PipeStep.{PipeStep, Commit, FullLook, Take, EmptyLook, DelimiterLook, WaitingLook, Seal, same_pipe, committed_to, taken_from}
 use Rattle.spec_pattern.specs.declared.answers.Skip.{Skip}
 use Rattle.spec_journal.specs.declared.journal.PipeRow.{PipeRow}
+use Rattle.spec_journal.specs.Net.{is_heard_from}
 use Rattle.spec_journal.specs.Turn.{Doing}
 use Rattle.spec_journal.specs.Run.{Run, doings_of, steps_of}
 
@@ -16,26 +17,27 @@ pub data Disposition : Type 0 where
   Lost : Disposition
   Rest : Disposition
 
--- what became of a message taken, where these are the drops that are left to tell
-abbrev pub taken_as : List Skip → Disposition
-taken_as [] = Given
-taken_as (skip ∷ skips) = Dropped
+-- what became of a message taken, by whether its pipe is a publisher's to hear, where these are the drops that are left to tell
+abbrev pub taken_as : Bool → List Skip → Disposition
+taken_as true skips = Heard
+taken_as false [] = Given
+taken_as false (skip ∷ skips) = Dropped
 
--- what became of the messages that steps took from the pipe: of all that they took, the first were dropped, as many as were told, and those behind them given
-abbrev pub told_in : PipeId → List PipeStep → List Skip → List Disposition
-told_in p [] skips = []
-told_in p (Commit q m ∷ steps) skips = told_in p steps skips
-told_in p (FullLook q ∷ steps) skips = told_in p steps skips
-told_in p (Take q m ∷ steps) skips =
-    if same_pipe p q then taken_as skips ∷ told_in p steps (drop 1 skips) else told_in p steps (drop 1 skips)
-told_in p (EmptyLook q ∷ steps) skips = told_in p steps skips
-told_in p (DelimiterLook q ∷ steps) skips = told_in p steps skips
-told_in p (WaitingLook q ∷ steps) skips = told_in p steps skips
-told_in p (Seal q ∷ steps) skips = told_in p steps skips
+-- what became of the messages that steps took from the pipe: a publisher heard them; else, of all that the steps took, the first were dropped, as many as were told, and those behind them given
+abbrev pub told_in : Bool → PipeId → List PipeStep → List Skip → List Disposition
+told_in heard p [] skips = []
+told_in heard p (Commit q m ∷ steps) skips = told_in heard p steps skips
+told_in heard p (FullLook q ∷ steps) skips = told_in heard p steps skips
+told_in heard p (Take q m ∷ steps) skips =
+    if same_pipe p q then taken_as heard skips ∷ told_in heard p steps (drop 1 skips) else told_in heard p steps (drop 1 skips)
+told_in heard p (EmptyLook q ∷ steps) skips = told_in heard p steps skips
+told_in heard p (DelimiterLook q ∷ steps) skips = told_in heard p steps skips
+told_in heard p (WaitingLook q ∷ steps) skips = told_in heard p steps skips
+told_in heard p (Seal q ∷ steps) skips = told_in heard p steps skips
 
 -- what became of the messages that a try took from the pipe
-abbrev pub told_by : PipeId → Doing → List Disposition
-told_by p d = told_in p d.steps d.skips
+abbrev pub told_by : Bool → PipeId → Doing → List Disposition
+told_by heard p d = told_in heard p d.steps d.skips
 
 -- how many messages were committed to the pipe
 abbrev pub count_committed : Run → PipeId → ℕ
@@ -43,7 +45,7 @@ count_committed run p = length (committed_to p (steps_of (doings_of run)))
 
 -- of each message committed to the pipe, in order, what became of it: those not taken are left
 abbrev pub dispositions : Run → PipeId → List Disposition
-dispositions run p = flat_map (told_by p) (doings_of run)
+dispositions run p = flat_map (told_by (is_heard_from run.stage.net p) p) (doings_of run)
     ++ replicate (count_committed run p - length (taken_from p (steps_of (doings_of run)))) Rest
 
 abbrev pub is_given : Disposition → Bool

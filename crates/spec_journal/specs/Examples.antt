@@ -5,7 +5,7 @@ use Rattle.spec_pattern.specs.declared.answers.RecvRefusal.TheVariants as recv
 use Rattle.spec_pattern.specs.PipeStep.{Commit, FullLook, AreExact}
 use Rattle.spec_pattern.specs.TurnList.{GoesOut}
 use Rattle.spec_journal.specs.declared.journal.Answer.TheVariants as answer
-use Rattle.spec_journal.specs.Net.{capacity_in, end_a, end_b}
+use Rattle.spec_journal.specs.Net.{capacity_in, told_identity, end_a, end_b}
 use Rattle.spec_journal.specs.Line.{DoesCall}
 use Rattle.spec_journal.specs.Turn.{Turns, Tries, IsOrder, is_over, stage_before}
 use Rattle.zq_script.specs.Script.{script_of}
@@ -15,10 +15,12 @@ use Rattle.spec_journal.specs.ExamplesEdges.{marked_net, rest_run, rest_row, pip
 use Rattle.spec_journal.specs.Printed.{IsJournalOf, entry_of}
 use Rattle.zq_script.specs.PartText.{parts_text}
 use Rattle.spec_journal.specs.Text.{journal_text, row_text, entry_text}
-use Rattle.spec_journal.specs.ExamplesPipeline.{pipeline_script, pipeline_journal, pipeline_text, plain_schedule, empty_script, empty_journal, unfinished_journal, parts_example, row_example, got_from_1, at_q, pair_nr}
+use Rattle.spec_journal.specs.ExamplesPipeline.{pipeline_script, pipeline_journal, pipeline_text, plain_schedule, empty_script, empty_journal, unfinished_journal, parts_example, row_example, row_given, got_from_1, at_q, pair_nr}
 use Rattle.spec_journal.specs.ExamplesPipes.{joined_net, one_actor_stage, narrow_doings, three_commits, early_empty_look, later_first}
 use Rattle.spec_pattern.specs.Duty.{Free}
 use Rattle.spec_journal.specs.ExamplesDrops.{rep_net, rep_doings, owing_1, rep_run, rep_row, both_peers, turned_peers, asked_1, req_net, req_doings, req_run, stray_row, drops_first, gives_then, rep_waits, rep_waits_on, rep_done, shown_twice, entry_example}
+use Rattle.spec_journal.specs.ExamplesRouters.{router_net, twice_named, router_doings, router_run, unnamed_row}
+use Rattle.spec_journal.specs.ExamplesTopics.{no_topics, cancel_heard, topics_doings, topics_run, heard_row, tells_late, finds_full, untold_net, topic_told}
 use Rattle.spec_journal.specs.ExamplesPeers.{pairs_net, second_net, pairs_doings, dealers_net, dealers_doings}
 use Rattle.spec_journal.specs.ExamplesNames.{waiting_script, waiting_doings, waited_net, two_pulls, two_pushes, four_waiting, two_fulfilled}
 
@@ -95,6 +97,21 @@ pub record DropRules : Type 0 where
   pub shown : entry_of gives_then ≡ shown_twice
   pub printed : entry_text (codes "a") entry_example ≡ codes "a 12 busy !badenv@p1 !stray@p20\n"
 
+-- A ROUTER puts a peer's name in front and sends to a peer by its name; the second peer of one identity is none, and what it sends is left. What may be no identity isn't told.
+pub record RouterRules : Type 0 where
+  pub named : Turns 0 three_workers 0 (one_actor_stage router_net (map (λ d. d.line) router_doings)) (map (λ d. d ∷ []) router_doings) (one_actor_stage twice_named [])
+  pub left : run_row router_run (end_a 2) ≡ unnamed_row
+  pub untold : told_identity (0 ∷ []) ≡ []
+  pub told : told_identity (codes "k") ≡ codes "k"
+
+-- What a SUB tells is heard by an XPUB before its next call, and counted as heard at its pipe alone; a SUB tells before its next call what it couldn't tell before.
+pub record TopicRules : Type 0 where
+  pub heard : Turns 0 three_workers 0 (one_actor_stage no_topics (map (λ d. d.line) topics_doings)) (map (λ d. d ∷ []) topics_doings) (one_actor_stage cancel_heard [])
+  pub heard_row : run_row topics_run (end_a 1) ≡ heard_row
+  pub given_row : run_row topics_run (end_b 1) ≡ row_given (end_b 1) 1
+  pub late : DoesCall 0 tells_late.line.call untold_net tells_late.steps [] tells_late.answer topic_told
+  pub full : DoesCall 0 finds_full.line.call untold_net finds_full.steps [] finds_full.answer untold_net
+
 -- the worked examples
 pub record WorkedExamples : Type 0 where
   pub edges : Edges
@@ -104,3 +121,5 @@ pub record WorkedExamples : Type 0 where
   pub peers : TwoWays
   pub orders : Orders
   pub drops : DropRules
+  pub routers : RouterRules
+  pub topics : TopicRules

@@ -13,6 +13,8 @@ pub mod ExamplesPipes
 pub mod ExamplesNames
 pub mod ExamplesPeers
 pub mod ExamplesDrops
+pub mod ExamplesRouters
+pub mod ExamplesTopics
 pub mod ExamplesEdges
 pub mod Examples
 pub mod Completeness

@@ -1,5 +1,5 @@
--- What a line of a script does: its pipe steps, the messages that it drops, its answer, and the net that it leaves (zmq_socket(3), zmq_bind(3), zmq_connect(3), zmq_inproc(7)).
-use Rattle.std.specs.Prelude.{◌≡◌, ◌+◌, ℕ, List, [], ◌∷◌, ◌++◌, true, not, ◌||◌, Option, Some, None, length, filter, nat_le, nat_lt, slice_set, is_some, if◌then◌else◌}
+-- What a line of a script does: its pipe steps, the messages that it drops, its answer, and the net that it leaves (zmq_socket(3), zmq_bind(3), zmq_connect(3), zmq_inproc(7); zmq_setsockopt(3), ZMQ_SUBSCRIBE and ZMQ_UNSUBSCRIBE).
+use Rattle.std.specs.Prelude.{◌≡◌, ◌+◌, ℕ, List, [], ◌∷◌, ◌++◌, true, not, ◌||◌, Option, Some, None, length, filter, nat_le, nat_lt, slice_set, is_some, Bool, if◌then◌else◌}
 use Rattle.zq_base.specs.Message.{Frames}
 use Rattle.zq_base.specs.declared.ids.ObjId.{ObjId}
 use Rattle.zq_base.specs.declared.kind.Kind.{Kind}
@@ -13,7 +13,10 @@ use Rattle.spec_control.specs.EndpointBook.{Book, binding_of, is_object, is_fulf
 use Rattle.zq_base.specs.Kind.{fits}
 use Rattle.spec_pattern.specs.PipeStep.{PipeStep}
 use Rattle.spec_pattern.specs.Pattern.{Pattern}
-use Rattle.spec_pattern.specs.PatternCalls.{PatternSends, PatternReceives}
+use Rattle.spec_pattern.specs.TurnList.{End}
+use Rattle.spec_pattern.specs.Topics.{Topic}
+use Rattle.spec_pattern.specs.Subscribing.{Done, Limit, NotSub}
+use Rattle.spec_pattern.specs.PatternCalls.{PatternSends, PatternReceives, PatternPumps, PatternChanges, Change, Subscribe, Unsubscribe, ChangeAnswer, NoTopics, Changed}
 use Rattle.spec_pattern.specs.declared.answers.Skip.{Skip}
 use Rattle.spec_pattern.specs.declared.answers.SendAnswer.{SendAnswer}
 use Rattle.spec_pattern.specs.declared.answers.SendAnswer.TheVariants as sent
@@ -21,7 +24,7 @@ use Rattle.spec_pattern.specs.declared.answers.RecvAnswer.{RecvAnswer}
 use Rattle.spec_pattern.specs.declared.answers.RecvAnswer.TheVariants as got
 use Rattle.spec_journal.specs.declared.journal.Answer.{Answer}
 use Rattle.spec_journal.specs.declared.journal.Answer.TheVariants as answer
-use Rattle.spec_journal.specs.Net.{Net, Sock, Mine, mine_at, next_object, next_pair, most_sockets, most_pairs, is_made, sock_kind, new_sock, with_turned, joined, seat_of}
+use Rattle.spec_journal.specs.Net.{Net, Sock, Mine, mine_at, next_object, next_pair, most_sockets, most_pairs, sock_kind, new_sock, joined, seat_of, as_turned, net_turned}
 
 -- what is answered to a line whose socket answered so
 abbrev pub sent_answer : SendAnswer → Answer
@@ -34,6 +37,12 @@ sent_answer (sent.Refused refusal) = answer.NotSent refusal
 abbrev pub got_answer : RecvAnswer → Answer
 got_answer (got.Got from_ m) = answer.Got from_ m
 got_answer (got.Refused refusal) = answer.NotReceived refusal
+
+abbrev pub changed_answer : ChangeAnswer → Answer
+changed_answer NoTopics = answer.NotSupported
+changed_answer (Changed Done) = answer.Done
+changed_answer (Changed Limit) = answer.Limit
+changed_answer (Changed NotSub) = answer.NotSub
 
 -- an answer and the net that is left with it
 abbrev pub Outcome : Type 0
@@ -53,11 +62,10 @@ with_socket actor kind options net = (
   },
 )
 
--- a socket line: a kind that is not built yet is not supported, and no more sockets are made than may live
+-- a socket line: no more sockets are made than may live
 abbrev pub makes : ℕ → Kind → Options → Net → Outcome
 makes actor kind options net =
-    if not (is_made kind) then without_socket actor answer.NotSupported net
-    else if nat_le most_sockets (length net.socks) then without_socket actor answer.TooMany net
+    if nat_le most_sockets (length net.socks) then without_socket actor answer.TooMany net
     else with_socket actor kind options net
 
 -- each of these sockets, in order, is joined to the one that binds
@@ -113,14 +121,18 @@ abbrev pub at_endpoint : Endpoint → (Endpoint → Outcome) → Net → Outcome
 at_endpoint (Inproc name) there net = there (Inproc name)
 at_endpoint (Tcp address) there net = (answer.NotSupported, net)
 
--- a socket is asked to send; all its ends can be written
-pub record Sends (s : Mine) (m : Frames) (old : Net) (steps : List PipeStep) (skips : List Skip) (reply : Answer) (new : Net) : Type 0 where
+-- all ends can be written
+abbrev pub open_to_all : End → Bool
+open_to_all e = true
+
+-- a socket is asked to send
+pub record Sends (m : Frames) (s : Mine) (old : Net) (steps : List PipeStep) (skips : List Skip) (reply : Answer) (new : Net) : Type 0 where
   pub sent : SendAnswer
   pub pattern : Pattern
-  pub step : PatternSends (λ _. true) m s.socket.pattern steps sent pattern
+  pub step : PatternSends open_to_all m s.socket.pattern steps sent pattern
   pub skips_are : skips ≡ []
   pub reply_is : reply ≡ sent_answer sent
-  pub new_is : new ≡ record old { socks = with_turned old.socks s.object.0 s.socket pattern }
+  pub new_is : new ≡ net_turned s old pattern
 
 -- a socket is asked to receive
 pub record Receives (s : Mine) (old : Net) (steps : List PipeStep) (skips : List Skip) (reply : Answer) (new : Net) : Type 0 where
@@ -128,34 +140,52 @@ pub record Receives (s : Mine) (old : Net) (steps : List PipeStep) (skips : List
   pub pattern : Pattern
   pub step : PatternReceives s.socket.pattern steps skips got pattern
   pub reply_is : reply ≡ got_answer got
-  pub new_is : new ≡ record old { socks = with_turned old.socks s.object.0 s.socket pattern }
+  pub new_is : new ≡ net_turned s old pattern
+
+-- a socket is asked to subscribe to a topic, or to cancel a subscription
+pub record ChangesTopics (change : Change) (topic : Topic) (s : Mine) (old : Net) (steps : List PipeStep) (skips : List Skip) (reply : Answer) (new : Net) : Type 0 where
+  pub changed : ChangeAnswer
+  pub pattern : Pattern
+  pub step : PatternChanges change open_to_all topic s.socket.pattern steps changed pattern
+  pub skips_are : skips ≡ []
+  pub reply_is : reply ≡ changed_answer changed
+  pub new_is : new ≡ net_turned s old pattern
+
+abbrev pub BindsAt : Endpoint → Mine → Net → List PipeStep → List Skip → Answer → Net → Type 0
+BindsAt at s old steps skips reply new =
+    Comes (at_endpoint at (λ name. binds s.object s.socket name old) old) steps skips reply new
+
+abbrev pub ConnectsTo : Endpoint → Mine → Net → List PipeStep → List Skip → Answer → Net → Type 0
+ConnectsTo to s old steps skips reply new =
+    Comes (at_endpoint to (λ name. connects s.object s.socket name old) old) steps skips reply new
+
+-- what a socket is asked: from a net, the pipe steps, the messages dropped, the answer and the net after
+abbrev pub SockCall : Type 1
+SockCall = Mine → Net → List PipeStep → List Skip → Answer → Net → Type 0
+
+-- a line on a socket: a publisher hears its peers and a subscriber tells them, and then it does what it is asked
+pub record PumpsThen (Does : SockCall) (s : Mine) (old : Net) (steps : List PipeStep) (skips : List Skip) (reply : Answer) (new : Net) : Type 0 where
+  pub pumped : Pattern
+  pub front : List PipeStep
+  pub back : List PipeStep
+  pub pumps : PatternPumps open_to_all s.socket.pattern front pumped
+  pub does : Does (as_turned s pumped) (net_turned s old pumped) back skips reply new
+  pub steps_are : steps ≡ front ++ back
 
 -- a line on a socket that was not made
 abbrev pub no_socket : Net → Outcome
 no_socket net = (answer.NoSocket, net)
 
-abbrev pub BindsAt : Option Mine → Endpoint → Net → List PipeStep → List Skip → Answer → Net → Type 0
-BindsAt None at old steps skips reply new = Comes (no_socket old) steps skips reply new
-BindsAt (Some s) at old steps skips reply new =
-    Comes (at_endpoint at (λ name. binds s.object s.socket name old) old) steps skips reply new
-
-abbrev pub ConnectsTo : Option Mine → Endpoint → Net → List PipeStep → List Skip → Answer → Net → Type 0
-ConnectsTo None to old steps skips reply new = Comes (no_socket old) steps skips reply new
-ConnectsTo (Some s) to old steps skips reply new =
-    Comes (at_endpoint to (λ name. connects s.object s.socket name old) old) steps skips reply new
-
-abbrev pub SendsBy : Option Mine → Frames → Net → List PipeStep → List Skip → Answer → Net → Type 0
-SendsBy None m old steps skips reply new = Comes (no_socket old) steps skips reply new
-SendsBy (Some s) m old steps skips reply new = Sends s m old steps skips reply new
-
-abbrev pub ReceivesBy : Option Mine → Net → List PipeStep → List Skip → Answer → Net → Type 0
-ReceivesBy None old steps skips reply new = Comes (no_socket old) steps skips reply new
-ReceivesBy (Some s) old steps skips reply new = Receives s old steps skips reply new
+abbrev pub OnSocket : SockCall → Option Mine → Net → List PipeStep → List Skip → Answer → Net → Type 0
+OnSocket Does None old steps skips reply new = Comes (no_socket old) steps skips reply new
+OnSocket Does (Some s) old steps skips reply new = PumpsThen Does s old steps skips reply new
 
 -- what the actor's line does, from the net old: its pipe steps, the messages that it drops, its answer, the net that it leaves
 abbrev pub DoesCall : ℕ → Call → Net → List PipeStep → List Skip → Answer → Net → Type 0
 DoesCall actor (call.Socket kind options) old steps skips reply new = Comes (makes actor kind options old) steps skips reply new
-DoesCall actor (call.Bind place at) old steps skips reply new = BindsAt (mine_at old actor place) at old steps skips reply new
-DoesCall actor (call.Connect place to) old steps skips reply new = ConnectsTo (mine_at old actor place) to old steps skips reply new
-DoesCall actor (call.Send place m) old steps skips reply new = SendsBy (mine_at old actor place) m old steps skips reply new
-DoesCall actor (call.Recv place tries) old steps skips reply new = ReceivesBy (mine_at old actor place) old steps skips reply new
+DoesCall actor (call.Bind place at) old steps skips reply new = OnSocket (BindsAt at) (mine_at old actor place) old steps skips reply new
+DoesCall actor (call.Connect place to) old steps skips reply new = OnSocket (ConnectsTo to) (mine_at old actor place) old steps skips reply new
+DoesCall actor (call.Send place m) old steps skips reply new = OnSocket (Sends m) (mine_at old actor place) old steps skips reply new
+DoesCall actor (call.Recv place tries) old steps skips reply new = OnSocket Receives (mine_at old actor place) old steps skips reply new
+DoesCall actor (call.Subscribe place topic) old steps skips reply new = OnSocket (ChangesTopics Subscribe topic) (mine_at old actor place) old steps skips reply new
+DoesCall actor (call.Unsubscribe place topic) old steps skips reply new = OnSocket (ChangesTopics Unsubscribe topic) (mine_at old actor place) old steps skips reply new

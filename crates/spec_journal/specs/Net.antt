@@ -1,10 +1,11 @@
 -- The sockets of a run and how they are joined (zmq_inproc(7), zmq_bind(3), zmq_connect(3)), before sockets are objects that end.
-use Rattle.std.specs.Prelude.{◌+◌, ◌-◌, ℕ, List, [], ◌∷◌, ◌++◌, Bool, true, false, Option, Some, None, length, map, slice_get, slice_set}
+use Rattle.std.specs.Prelude.{◌+◌, ◌-◌, ℕ, List, [], ◌∷◌, ◌++◌, Bool, true, false, Option, Some, None, length, map, slice_get, slice_set, if◌then◌else◌}
 use Rattle.std.specs.Option.{option_map}
 use Rattle.zq_base.specs.declared.kind.Kind.{Kind}
 use Rattle.zq_base.specs.declared.kind.Kind.TheVariants.{Push, Pull, Pair, Dealer, Req, Rep, Router, Pub, XPub, Sub, XSub}
 use Rattle.zq_base.specs.declared.options.Options.{Options}
 use Rattle.zq_script.specs.declared.script.Script.{Script}
+use Rattle.zq_script.specs.SocketOption.{is_identity}
 use Rattle.zq_base.specs.Ends.{PipeId}
 use Rattle.spec_pattern.specs.TurnList.{End}
 use Rattle.spec_pattern.specs.Pattern.{Pattern, attach}
@@ -24,9 +25,9 @@ pub record Sock : Type 0 where
 abbrev pub sock_kind : Sock → Kind
 sock_kind s = pattern_kind s.pattern
 
--- a publisher without peers; an XPUB has a user who hears of subscriptions
-abbrev pub new_publisher : Options → Bool → Publisher
-new_publisher options tells = record { ins = []; subs = []; inbox = []; verbose = options.verbose; tells = tells }
+-- a publisher without peers; an XPUB has a user who hears of subscriptions, of each or of news alone
+abbrev pub new_publisher : Bool → Bool → Publisher
+new_publisher verbose tells = record { ins = []; subs = []; inbox = []; verbose = verbose; tells = tells }
 
 -- the state of a new socket, which has no peers (zmq_setsockopt(3), ZMQ_ROUTER_MANDATORY and ZMQ_XPUB_VERBOSE)
 abbrev pub new_pattern : Kind → Options → Pattern
@@ -37,8 +38,8 @@ new_pattern Dealer options = by_kind.Dealer (record { outs = []; ins = [] })
 new_pattern Req options = by_kind.Req (record { outs = []; ins = [] }) Free
 new_pattern Rep options = by_kind.Rep [] Free
 new_pattern Router options = by_kind.Router (record { ins = []; names = []; drawn = 0; mandatory = options.mandatory })
-new_pattern Pub options = by_kind.Pub (new_publisher options false)
-new_pattern XPub options = by_kind.XPub (new_publisher options true)
+new_pattern Pub options = by_kind.Pub (new_publisher false false)
+new_pattern XPub options = by_kind.XPub (new_publisher options.verbose true)
 new_pattern Sub options = by_kind.Sub (record { ins = []; wanted = []; followers = [] })
 new_pattern XSub options = by_kind.XSub (record { ins = []; wanted = []; followers = [] })
 
@@ -81,6 +82,26 @@ capacity_between net false (Some j) = marks net j.b.0 j.a.0
 abbrev pub capacity_in : Net → PipeId → ℕ
 capacity_in net p = capacity_between net p.a (slice_get net.pairs (p.pair.0 - 1))
 
+-- whether sockets of the kind hear their peers: what these send are subscriptions
+abbrev pub publishes : Kind → Bool
+publishes Pub = true
+publishes XPub = true
+publishes _ = false
+
+abbrev pub sock_publishes : Option Sock → Bool
+sock_publishes None = false
+sock_publishes (Some s) = publishes (sock_kind s)
+
+-- whether what end a, or the other, of a pair writes is read by a publisher
+abbrev pub heard_over : Net → Bool → Option Joined → Bool
+heard_over net a None = false
+heard_over net true (Some j) = sock_publishes (sock_at net j.b.0)
+heard_over net false (Some j) = sock_publishes (sock_at net j.a.0)
+
+-- whether what is taken from a pipe is heard: a publisher reads it
+abbrev pub is_heard_from : Net → PipeId → Bool
+is_heard_from net p = heard_over net p.a (slice_get net.pairs (p.pair.0 - 1))
+
 -- the number of the next object, and of the next pair
 abbrev pub next_object : Net → ℕ
 next_object net = length net.socks + 1
@@ -94,20 +115,6 @@ most_sockets = 1023
 
 abbrev pub most_pairs : ℕ
 most_pairs = 1000000
-
--- whether sockets of the kind can be made so far
-abbrev pub is_made : Kind → Bool
-is_made Push = true
-is_made Pull = true
-is_made Pair = true
-is_made Dealer = true
-is_made Req = true
-is_made Rep = true
-is_made Router = false
-is_made Pub = false
-is_made XPub = false
-is_made Sub = false
-is_made XSub = false
 
 -- the ends of the pair of this number
 abbrev pub end_a : ℕ → End
@@ -131,10 +138,14 @@ with_end socks o (Some s) e identity = with_turned socks o s (attach e identity 
 abbrev pub attached : ℕ → End → List ℕ → List Sock → List Sock
 attached o e identity socks = with_end socks o (slice_get socks (o - 1)) e identity
 
--- what a socket tells its peers to call it
+-- what may be an identity is told, and no other octets
+abbrev pub told_identity : List ℕ → List ℕ
+told_identity id = if is_identity id then id else []
+
+-- what a socket tells its peers to call it (zmq_setsockopt(3), ZMQ_IDENTITY)
 abbrev pub sock_identity : Option Sock → List ℕ
 sock_identity None = []
-sock_identity (Some s) = s.options.id
+sock_identity (Some s) = told_identity s.options.id
 
 -- the net once the two sockets are joined by the next pair: the first has end a
 abbrev pub joined : ObjId → ObjId → Net → Net
@@ -173,3 +184,10 @@ numbered net (Some o) = option_map (λ s. record { object = o; socket = s }) (so
 -- the actor's socket of this place
 abbrev pub mine_at : Net → ℕ → ℕ → Option Mine
 mine_at net actor place = numbered net (object_at net actor place)
+
+-- the actor's socket, and the net, once its pattern is this one
+abbrev pub as_turned : Mine → Pattern → Mine
+as_turned s pattern = record s { socket = turned pattern s.socket }
+
+abbrev pub net_turned : Mine → Net → Pattern → Net
+net_turned s net pattern = record net { socks = with_turned net.socks s.object.0 s.socket pattern }

@@ -50,6 +50,8 @@ tries_of (call.Bind place at) = 1
 tries_of (call.Connect place to) = 1
 tries_of (call.Send place m) = 1
 tries_of (call.Recv place tries) = tries
+tries_of (call.Subscribe place topic) = 1
+tries_of (call.Unsubscribe place topic) = 1
 
 abbrev pub is_fleeting : RecvRefusal → Bool
 is_fleeting recv.Term = false
@@ -74,6 +76,8 @@ asks_again answer.NotSupported = false
 asks_again answer.InUse = false
 asks_again answer.BadPair = false
 asks_again answer.TooMany = false
+asks_again answer.Limit = false
+asks_again answer.NotSub = false
 
 -- whether the line is over with this answer, where it was tried so often before
 abbrev pub is_over : ℕ → Call → Answer → Bool

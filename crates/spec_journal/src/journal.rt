@@ -14,6 +14,8 @@ pub enum Answer {
     InUse,
     BadPair,
     TooMany,
+    Limit,
+    NotSub,
     Got(PairId, Message),
     Dropped(Rule),
     NotSent(SendRefusal),

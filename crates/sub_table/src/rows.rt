@@ -10,7 +10,7 @@ use crate::topic_set::TopicSet;
 use std::alloc::{AllocError, Global};
 use std::collections::BTreeMap;
 
-// Puts a topic among a peer's.
+/// Puts a topic among a peer's.
 pub(crate) fn put_topic(
     peers: &mut BTreeMap<usize, TopicSet>,
     alloc: Global,
@@ -34,7 +34,7 @@ pub(crate) fn put_topic(
     }
 }
 
-// Takes a topic out of a peer's.
+/// Takes a topic out of a peer's.
 pub(crate) fn drop_topic(peers: &mut BTreeMap<usize, TopicSet>, peer: usize, topic: &[u8])
     ensures value { peers.new.entries ≡ set_value (nat_eq peer) peers.old.entries
         (without_topic topic.now (topics_of nat_eq peers.old.entries peer)) }
@@ -51,7 +51,7 @@ pub(crate) fn drop_topic(peers: &mut BTreeMap<usize, TopicSet>, peer: usize, top
     }
 }
 
-// Takes out the first of a peer's topics.
+/// Takes out the first of a peer's topics.
 pub(crate) fn first_topic(peers: &mut BTreeMap<usize, TopicSet>, peer: usize) -> Option<Vec<u8>>
     ensures first { MatchOption result
         ((topics_of nat_eq peers.old.entries peer ≡ []) × (peers.new.entries ≡ peers.old.entries))

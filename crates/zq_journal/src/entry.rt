@@ -74,6 +74,8 @@ fn push_answer(alloc: Global, out: &mut Vec<u8>, answer: &Answer) -> Result<(), 
         Answer::InUse => out.extend_from_slice(b"inuse"),
         Answer::BadPair => out.extend_from_slice(b"badpair"),
         Answer::TooMany => out.extend_from_slice(b"toomany"),
+        Answer::Limit => out.extend_from_slice(b"limit"),
+        Answer::NotSub => out.extend_from_slice(b"notsub"),
         Answer::Pair(pair) => {
             out.extend_from_slice(b"ok p")?;
             push_number(out, u64::from(pair.0))

@@ -8,3 +8,4 @@ mod KnownLemmas
 mod GroupLemmas
 mod ScriptLemmas
 mod PartTextLemmas
+mod KindLemmas

@@ -1,19 +1,20 @@
 -- Scripts and words worked out by hand: a wrong rule in the specs does not check.
 use Rattle.std.proofs.Common.{◌≡◌, refl, ◌++◌, List, [], ◌∷◌, ℕ}
-use Rattle.std.specs.Prelude.{Ok, Err, codes, ⊤}
+use Rattle.std.specs.Prelude.{Ok, Err, codes, ⊤, true}
 use Rattle.std.specs.List.{join_with_byte}
 use Rattle.hex.proofs.OnLiterals.{hex_on_literals}
 use Rattle.zq_base.specs.declared.endpoint.Endpoint.TheVariants.{Inproc}
 use Rattle.zq_base.specs.declared.kind.Kind.TheVariants.{Push, Pull}
 use Rattle.zq_script.specs.declared.fault.Cause.TheVariants.{BadWord, BadPart, UnknownSocket}
-use Rattle.zq_script.specs.declared.script.Call.TheVariants.{Socket, Bind, Connect, Send, Recv}
-use Rattle.zq_script.specs.Grammar.{first_word, line_end, new_name, known_socket, kind_word, verb_of, room_for_actor, some_actor, last_endpoint, tries_words, call_of, actor_line, socket_line, call_line, statement_by, statement_of}
+use Rattle.zq_script.specs.declared.script.Call.TheVariants.{Socket, Bind, Connect, Send, Recv, Subscribe, Unsubscribe}
+use Rattle.zq_script.specs.declared.verb.SocketVerb.TheVariants as on
+use Rattle.zq_script.specs.Grammar.{first_word, line_end, new_name, known_socket, kind_word, verb_of, room_for_actor, some_actor, last_endpoint, last_part, tries_words, call_of, actor_line, socket_line, call_line, statement_by, statement_of}
 use Rattle.zq_script.specs.Name.{is_name}
 use Rattle.zq_base.specs.Number.{is_number, number_in}
 use Rattle.zq_script.specs.Part.{hex_part, plain_part, part_of, parts_of, parts_message}
 use Rattle.zq_script.specs.Place.{is_inproc_name, endpoint_of}
 use Rattle.zq_script.specs.Script.{at_line, line_statement, statements_from, leading_lines, actors_of, script_of}
-use Rattle.zq_script.specs.SocketOption.{default_options, mark_of, with_option, with_options}
+use Rattle.zq_script.specs.SocketOption.{default_options, identity_of, mark_of, with_option, with_options}
 use Rattle.zq_script.specs.Statement.{actor_names, socket_count, socket_of}
 use Rattle.zq_script.specs.Words.{without_empty_end, lines_of, words_of, is_skipped}
 
@@ -45,12 +46,12 @@ words_on_literals = tt
 
 -- what computes the values that words give on a literal
 unfoldable pub values_on_literals : ⊤
-unfolding endpoint_of is_inproc_name parts_message parts_of part_of plain_part hex_part mark_of with_option with_options
+unfolding endpoint_of is_inproc_name parts_message parts_of part_of plain_part hex_part mark_of identity_of with_option with_options
 values_on_literals = tt
 
 -- what computes what a line says on a literal
 unfoldable pub grammar_on_literals : ⊤
-unfolding verb_of kind_word known_socket new_name first_word line_end room_for_actor some_actor tries_words last_endpoint call_of
+unfolding verb_of kind_word known_socket new_name first_word line_end room_for_actor some_actor tries_words last_endpoint last_part call_of
 grammar_on_literals = tt
 
 -- what computes a whole script on a literal
@@ -90,3 +91,21 @@ early = refl
 last_counts : with_options (codes "hwm=1" ∷ codes "rcvhwm=2" ∷ codes "hwm=3" ∷ []) default_options ≡ Ok (record default_options { hwm = 3; rcvhwm = 2 })
 unfolding words_on_literals values_on_literals
 last_counts = refl
+
+-- an identity has 1 to 255 octets, the first not 0; it and a topic are parts
+identities : (identity_of (codes "0x0100") ≡ Ok (1 ∷ 0 ∷ [])) × (identity_of (codes "0x0001") ≡ Err BadPart)
+    × (identity_of [] ≡ Err BadPart) × (identity_of (codes "-") ≡ Err BadPart) × (identity_of (codes "0x") ≡ Ok (codes "0x"))
+unfolding values_on_literals hex_on_literals
+identities = (refl, refl, refl, refl, refl)
+
+-- flags have no value
+flags : (with_options (codes "verbose" ∷ codes "mandatory" ∷ []) default_options ≡ Ok (record default_options { verbose = true; mandatory = true }))
+    × (with_options (codes "mandatory=1" ∷ []) default_options ≡ Err BadWord)
+unfolding words_on_literals values_on_literals
+flags = (refl, refl)
+
+-- a topic is one part
+topics : (call_of on.Subscribe 0 (codes "-" ∷ []) ≡ Ok (Subscribe 0 [])) × (call_of on.Unsubscribe 1 (codes "ab" ∷ []) ≡ Ok (Unsubscribe 1 (codes "ab")))
+    × (call_of on.Subscribe 0 [] ≡ Err BadWord) × (call_of on.Subscribe 0 (codes "a" ∷ codes "b" ∷ []) ≡ Err BadWord)
+unfolding values_on_literals grammar_on_literals
+topics = (refl, refl, refl, refl)

@@ -3,7 +3,7 @@ use Rattle.std.specs.Prelude.{ℕ, Bool, List, [], ◌∷◌, Result, Ok, Err, o
 use Rattle.std.specs.List.{starts_with}
 use Rattle.std.specs.Str.{bytes_eq}
 use Rattle.zq_base.specs.declared.kind.Kind.{Kind}
-use Rattle.zq_base.specs.declared.kind.Kind.TheVariants.{Push, Pull, Pair, Dealer, Req, Rep}
+use Rattle.zq_base.specs.declared.kind.Kind.TheVariants.{Push, Pull, Pair, Dealer, Req, Rep, Router, Pub, XPub, Sub, XSub}
 use Rattle.zq_script.specs.declared.fault.Cause.{Cause}
 use Rattle.zq_script.specs.declared.fault.Cause.TheVariants.{BadWord, UnknownSocket, DoubleName, TooManyActors}
 use Rattle.zq_base.specs.declared.endpoint.Endpoint.{Endpoint}
@@ -18,7 +18,7 @@ use Rattle.zq_script.specs.declared.verb.Verb.TheVariants as verb
 use Rattle.zq_script.specs.Answer.{◌>>=◌}
 use Rattle.zq_script.specs.Name.{is_name}
 use Rattle.zq_base.specs.Number.{number_in}
-use Rattle.zq_script.specs.Part.{parts_message}
+use Rattle.zq_script.specs.Part.{part_of, parts_message}
 use Rattle.zq_script.specs.Place.{endpoint_of}
 use Rattle.zq_script.specs.SocketOption.{default_options, with_options}
 use Rattle.zq_script.specs.Statement.{actor_names, is_actor, socket_of}
@@ -46,7 +46,7 @@ unfoldable pub known_socket : List Statement → List ℕ → Result ℕ Cause
 known_socket earlier word =
     if is_name word then ok_or (socket_of word earlier) UnknownSocket else Err BadWord
 
--- the kind that the word names, of those that are built so far
+-- the kind that the word names
 unfoldable pub kind_word : List ℕ → Result Kind Cause
 kind_word word =
     if bytes_eq word (codes "PUSH") then Ok Push
@@ -55,6 +55,11 @@ kind_word word =
     else if bytes_eq word (codes "DEALER") then Ok Dealer
     else if bytes_eq word (codes "REQ") then Ok Req
     else if bytes_eq word (codes "REP") then Ok Rep
+    else if bytes_eq word (codes "ROUTER") then Ok Router
+    else if bytes_eq word (codes "PUB") then Ok Pub
+    else if bytes_eq word (codes "XPUB") then Ok XPub
+    else if bytes_eq word (codes "SUB") then Ok Sub
+    else if bytes_eq word (codes "XSUB") then Ok XSub
     else Err BadWord
 
 -- what the first word of a line asks
@@ -66,6 +71,8 @@ verb_of word =
     else if bytes_eq word (codes "connect") then Ok (verb.On on.Connect)
     else if bytes_eq word (codes "send") then Ok (verb.On on.Send)
     else if bytes_eq word (codes "recv") then Ok (verb.On on.Recv)
+    else if bytes_eq word (codes "sub") then Ok (verb.On on.Subscribe)
+    else if bytes_eq word (codes "unsub") then Ok (verb.On on.Unsubscribe)
     else Err BadWord
 
 -- one more actor may begin: there are 64 at most
@@ -85,6 +92,14 @@ last_endpoint words = do
   _ ← line_end first.1
   Ok endpoint
 
+-- the part that ends a line
+unfoldable pub last_part : Words → Result (List ℕ) Cause
+last_part words = do
+  first ← first_word words
+  part ← part_of first.0
+  _ ← line_end first.1
+  Ok part
+
 -- a number of tries: `tries=N` with N from 1 to 100,000
 unfoldable pub tries_word : List ℕ → Result ℕ Cause
 tries_word word =
@@ -99,13 +114,15 @@ tries_words (word ∷ words) = do
   _ ← line_end words
   Ok tries
 
--- `bind S EP`, `connect S EP`, `send S PART..`, `recv S [tries=N]`, by the words behind S
+-- `bind S EP`, `connect S EP`, `send S PART..`, `recv S [tries=N]`, `sub S PART`, `unsub S PART`, by the words behind S
 unfoldable pub call_of : SocketVerb → ℕ → Words → Result Call Cause
 call_of on.Bind socket words = last_endpoint words >>= λ endpoint. Ok (call.Bind socket endpoint)
 call_of on.Connect socket words =
     last_endpoint words >>= λ endpoint. Ok (call.Connect socket endpoint)
 call_of on.Send socket words = parts_message words >>= λ message. Ok (call.Send socket message)
 call_of on.Recv socket words = tries_words words >>= λ tries. Ok (call.Recv socket tries)
+call_of on.Subscribe socket words = last_part words >>= λ topic. Ok (call.Subscribe socket topic)
+call_of on.Unsubscribe socket words = last_part words >>= λ topic. Ok (call.Unsubscribe socket topic)
 
 -- `actor A`, by the words behind the first
 unfoldable pub actor_line : List Statement → Words → Result Statement Cause

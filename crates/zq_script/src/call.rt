@@ -1,11 +1,12 @@
 ghost use Rattle.std.specs.Prelude.{◌≡◌, map};
 ghost use Rattle.zq_script.specs.Answer.{Gives};
-ghost use Rattle.zq_script.specs.Grammar.{last_endpoint, tries_word, tries_words, call_of};
+ghost use Rattle.zq_script.specs.Grammar.{last_endpoint, last_part, tries_word, tries_words, call_of};
 
 use crate::endpoint::read_endpoint;
 use crate::fault::{Cause, LineError};
-use crate::part::read_message;
+use crate::part::{read_message, read_topic};
 use crate::script::Call;
+use crate::topic::Topic;
 use crate::verb::SocketVerb;
 use crate::words::{first_word, line_end};
 use std::alloc::Global;
@@ -20,6 +21,17 @@ fn read_last_endpoint(alloc: Global, words: &[&[u8]]) -> Result<Endpoint, LineEr
     let endpoint = read_endpoint(alloc, word)?;
     line_end(rest)?;
     Ok(endpoint)
+}
+
+// The topic that ends a line.
+#[tactic(auto, unfolding(crate::specs::Grammar::last_part))]
+fn read_last_topic(alloc: Global, words: &[&[u8]]) -> Result<Topic, LineError>
+    ensures { Gives result (last_part (map (λ x. x.now) words.now)) }
+{
+    let (word, rest) = first_word(words)?;
+    let topic = read_topic(alloc, word)?;
+    line_end(rest)?;
+    Ok(topic)
 }
 
 // A number of tries.
@@ -65,5 +77,7 @@ pub(crate) fn read_call(
         SocketVerb::Connect => Ok(Call::Connect(socket, read_last_endpoint(alloc, words)?)),
         SocketVerb::Send => Ok(Call::Send(socket, read_message(alloc, words)?)),
         SocketVerb::Recv => Ok(Call::Recv(socket, read_tries(words)?)),
+        SocketVerb::Subscribe => Ok(Call::Subscribe(socket, read_last_topic(alloc, words)?)),
+        SocketVerb::Unsubscribe => Ok(Call::Unsubscribe(socket, read_last_topic(alloc, words)?)),
     }
 }

@@ -14,6 +14,7 @@ mod part;
 mod read;
 mod script;
 mod statement;
+mod topic;
 mod verb;
 mod words;
 
@@ -21,3 +22,4 @@ pub use fault::{Cause, ReadScript, ScriptFault};
 pub use laws::a_printed_part_is_read_back;
 pub use read::read_script;
 pub use script::{ActorScript, Call, Line, Script};
+pub use topic::Topic;

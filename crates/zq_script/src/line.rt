@@ -12,7 +12,7 @@ use crate::options::read_options;
 use crate::script::{Call, Line};
 use crate::statement::Statement;
 use crate::verb::{SocketVerb, Verb};
-use crate::words::{first_word, line_end, same_text};
+use crate::words::{first_word, line_end};
 use std::alloc::Global;
 use zq_base::{Kind, Octets};
 
@@ -46,29 +46,13 @@ fn read_socket(known: &Known, word: &[u8]) -> Result<u32, LineError>
 }
 
 // The kind that the word names.
-#[tactic(auto, unfolding(crate::specs::Grammar::kind_word))]
 fn read_kind(word: &[u8]) -> Result<Kind, LineError>
     ensures { Gives result (kind_word word.now) }
 {
-    if same_text(word, b"PUSH") {
-        return Ok(Kind::Push);
+    match Kind::read(word) {
+        Some(kind) => Ok(kind),
+        None => Err(LineError::Fault(Cause::BadWord)),
     }
-    if same_text(word, b"PULL") {
-        return Ok(Kind::Pull);
-    }
-    if same_text(word, b"PAIR") {
-        return Ok(Kind::Pair);
-    }
-    if same_text(word, b"DEALER") {
-        return Ok(Kind::Dealer);
-    }
-    if same_text(word, b"REQ") {
-        return Ok(Kind::Req);
-    }
-    if same_text(word, b"REP") {
-        return Ok(Kind::Rep);
-    }
-    Err(LineError::Fault(Cause::BadWord))
 }
 
 // Nothing, where one more actor may begin.

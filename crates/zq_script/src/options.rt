@@ -1,8 +1,10 @@
 ghost use Rattle.std.specs.Prelude.{◌≡◌, map};
 ghost use Rattle.zq_script.specs.Answer.{Gives};
-ghost use Rattle.zq_script.specs.SocketOption.{default_options, mark_of, with_option, with_options};
+ghost use Rattle.zq_script.specs.SocketOption.{default_options, is_identity, identity_of, mark_of, with_option, with_options};
 
 use crate::fault::{Cause, LineError};
+use crate::part::read_octets;
+use crate::words::same_text;
 use std::alloc::Global;
 use zq_base::{Octets, Options, Role, Seq, number_in};
 
@@ -34,9 +36,28 @@ fn read_mark(word: &[u8]) -> Result<u32, LineError>
     }
 }
 
+// Whether the octets may be a socket's identity.
+fn is_identity(octets: &[u8]) -> bool
+    ensures { result ≡ is_identity octets.now }
+{
+    1 <= octets.len() && octets.len() <= 255 && !octets.starts_with(b"\0")
+}
+
+// An identity.
+#[tactic(auto, unfolding(crate::specs::SocketOption::identity_of))]
+fn read_identity(alloc: Global, word: &[u8]) -> Result<Octets, LineError>
+    ensures { Gives result (identity_of word.now) }
+{
+    let id = read_octets(alloc, word)?;
+    if !is_identity(id.as_slice()) {
+        return Err(LineError::Fault(Cause::BadPart));
+    }
+    Ok(id)
+}
+
 // The options with the one that the word gives.
 #[tactic(auto, unfolding(crate::specs::SocketOption::with_option))]
-fn with_option(options: Options, word: &[u8]) -> Result<Options, LineError>
+fn with_option(alloc: Global, options: Options, word: &[u8]) -> Result<Options, LineError>
     ensures { Gives result (with_option word.now options) }
 {
     if word.starts_with(b"hwm=") {
@@ -47,6 +68,22 @@ fn with_option(options: Options, word: &[u8]) -> Result<Options, LineError>
         let rcvhwm = read_mark(&word[7..])?;
         return Ok(Options { rcvhwm, ..options });
     }
+    if word.starts_with(b"id=") {
+        let id = read_identity(alloc, &word[3..])?;
+        return Ok(Options { id, ..options });
+    }
+    if same_text(word, b"mandatory") {
+        return Ok(Options {
+            mandatory: true,
+            ..options
+        });
+    }
+    if same_text(word, b"verbose") {
+        return Ok(Options {
+            verbose: true,
+            ..options
+        });
+    }
     Err(LineError::Fault(Cause::BadWord))
 }
 
@@ -56,7 +93,7 @@ pub(crate) fn read_options(alloc: Global, words: &[&[u8]]) -> Result<Options, Li
 {
     let mut options = default_options(alloc);
     for word in words {
-        options = with_option(options, word)?;
+        options = with_option(alloc, options, word)?;
     }
     Ok(options)
 }

@@ -7,10 +7,11 @@ ghost use Rattle.zq_script.specs.declared.fault.Cause.{Cause};
 ghost use Rattle.zq_script.specs.declared.fault.LineError.TheVariants.{Fault, OutOfMemory};
 
 use crate::fault::{Cause, LineError};
+use crate::topic::Topic;
 use crate::words::same_text;
 use hex::FromHexError;
 use std::alloc::Global;
-use zq_base::{Frame, Message};
+use zq_base::{Frame, Message, Octets};
 
 /// Whether all octets are printable and none is a space.
 pub(crate) fn all_graphic(word: &[u8]) -> bool
@@ -74,6 +75,26 @@ pub(crate) fn read_part(alloc: Global, word: &[u8]) -> Result<Frame, LineError>
         return frame(alloc, b"");
     }
     read_some_part(alloc, word)
+}
+
+/// The octets of the part that the word stands for.
+pub(crate) fn read_octets(alloc: Global, word: &[u8]) -> Result<Octets, LineError>
+    ensures { Gives result (part_of word.now) }
+{
+    let part = read_part(alloc, word)?;
+    Ok(Octets::of_slice(alloc, part.as_slice())?)
+}
+
+/// The topic that the word stands for. A word of a script is shorter than the longest frame, so
+/// memory alone can be wanting.
+pub(crate) fn read_topic(alloc: Global, word: &[u8]) -> Result<Topic, LineError>
+    ensures { Gives result (part_of word.now) }
+{
+    let octets = read_octets(alloc, word)?;
+    if octets.len() >= Frame::MAX {
+        return Err(LineError::OutOfMemory);
+    }
+    Ok(Topic::of_octets(octets))
 }
 
 // All parts.

@@ -1,3 +1,4 @@
+use crate::topic::Topic;
 use zq_base::{Endpoint, Kind, Message, Octets, Options, Seq};
 
 /// A script: its actors, in the order in which they begin.
@@ -29,4 +30,6 @@ pub enum Call {
     Connect(u32, Endpoint),
     Send(u32, Message),
     Recv(u32, u32),
+    Subscribe(u32, Topic),
+    Unsubscribe(u32, Topic),
 }

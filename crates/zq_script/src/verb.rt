@@ -19,6 +19,8 @@ pub(crate) enum SocketVerb {
     Connect,
     Send,
     Recv,
+    Subscribe,
+    Unsubscribe,
 }
 
 impl Verb {
@@ -44,6 +46,12 @@ impl Verb {
         }
         if same_text(word, b"recv") {
             return Ok(Verb::On(SocketVerb::Recv));
+        }
+        if same_text(word, b"sub") {
+            return Ok(Verb::On(SocketVerb::Subscribe));
+        }
+        if same_text(word, b"unsub") {
+            return Ok(Verb::On(SocketVerb::Unsubscribe));
         }
         Err(LineError::Fault(Cause::BadWord))
     }

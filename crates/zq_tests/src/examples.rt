@@ -3,7 +3,7 @@ use std::test::Fail;
 use zq_top::Status;
 
 /// The words of each example, its script or octets, and its text: the files of examples/, written by tools/examples.
-const EXAMPLES: [(&[&str], &[u8], &[u8]); 10] = [
+const EXAMPLES: [(&[&str], &[u8], &[u8]); 13] = [
     (
         &["zbus", "run"],
         b"# A DEALER sends to two others by turn, and one of them answers.\nactor a\nsocket d DEALER\nsocket x DEALER\nsocket y DEALER\nbind d inproc://q\nconnect x inproc://q\nconnect y inproc://q\nsend d one\nsend d two\nrecv x\nrecv y\nsend y back\nrecv d\n",
@@ -48,13 +48,28 @@ const EXAMPLES: [(&[&str], &[u8], &[u8]); 10] = [
     ),
     (
         &["zbus", "run"],
+        b"# A PUB sends to the SUBs that want a message's beginning, and drops what nobody wants.\nactor a\nsocket p PUB\nsocket s SUB\nsocket t SUB\nbind p inproc://q\nconnect s inproc://q\nconnect t inproc://q\nsub s weather\nsub t -\nsend p weather.oslo rain\nsend p sports 2:1\nunsub t -\nsend p sports 3:1\nrecv s\nrecv t\n",
+        b"a 3 ok o1\na 4 ok o2\na 5 ok o3\na 6 ok\na 7 ok p1\na 8 ok p2\na 9 ok\na 10 ok\na 11 ok p1,p2\na 12 ok p2\na 13 ok\na 14 drop nomatch\na 15 msg p1 weather.oslo rain\na 16 again !filtered@p2 !filtered@p2\npipe p1a sent 1 given 0 heard 1 dropped 0 written 0 lost 0 rest 0 -\npipe p1b sent 1 given 1 heard 0 dropped 0 written 0 lost 0 rest 0 -\npipe p2a sent 2 given 0 heard 2 dropped 0 written 0 lost 0 rest 0 -\npipe p2b sent 2 given 0 heard 0 dropped 2 written 0 lost 0 rest 0 -\ndone\n",
+    ),
+    (
+        &["zbus", "run"],
         b"# A REP drops what has no envelope, and answers the REQ that asked.\nactor a\nsocket p REP\nsocket d DEALER\nsocket q REQ\nbind p inproc://q\nconnect d inproc://q\nconnect q inproc://q\nsend d x\nsend q question\nrecv p\nsend p answer\nrecv q\nrecv q\n",
         b"a 3 ok o1\na 4 ok o2\na 5 ok o3\na 6 ok\na 7 ok p1\na 8 ok p2\na 9 ok p1\na 10 ok p2\na 11 msg p2 question !badenv@p1\na 12 ok p2\na 13 msg p2 answer\na 14 fsm\npipe p1a sent 1 given 0 heard 0 dropped 1 written 0 lost 0 rest 0 -\npipe p1b sent 0 given 0 heard 0 dropped 0 written 0 lost 0 rest 0 -\npipe p2a sent 1 given 1 heard 0 dropped 0 written 0 lost 0 rest 0 -\npipe p2b sent 1 given 1 heard 0 dropped 0 written 0 lost 0 rest 0 -\ndone\n",
+    ),
+    (
+        &["zbus", "run"],
+        b"# A ROUTER answers by name: a REQ behind its envelope, a DEALER that said none by a drawn name.\nactor a\nsocket r ROUTER mandatory\nsocket q REQ id=alice\nsocket d DEALER\nbind r inproc://q\nconnect q inproc://q\nconnect d inproc://q\nsend q question\nsend d news\nrecv r\nrecv r\nsend r alice - answer\nsend r bob - answer\nrecv q\n",
+        b"a 3 ok o1\na 4 ok o2\na 5 ok o3\na 6 ok\na 7 ok p1\na 8 ok p2\na 9 ok p1\na 10 ok p2\na 11 msg p1 alice - question\na 12 msg p2 0x0000000001 news\na 13 ok p1\na 14 unreachable\na 15 msg p1 answer\npipe p1a sent 1 given 1 heard 0 dropped 0 written 0 lost 0 rest 0 -\npipe p1b sent 1 given 1 heard 0 dropped 0 written 0 lost 0 rest 0 -\npipe p2a sent 1 given 1 heard 0 dropped 0 written 0 lost 0 rest 0 -\npipe p2b sent 0 given 0 heard 0 dropped 0 written 0 lost 0 rest 0 -\ndone\n",
     ),
     (
         &["zbus", "run", "--seed", "3"],
         b"# Run with --seed 3: the sender's socket is made first, and its message is there when it is looked for.\nactor a\nsocket r PULL\nbind r inproc://q\nrecv r\nactor b\nsocket s PUSH\nconnect s inproc://q\nsend s m\n",
         b"a 3 ok o2\na 4 ok\na 5 msg p1 m\nb 7 ok o1\nb 8 ok p1\nb 9 ok p1\npipe p1a sent 1 given 1 heard 0 dropped 0 written 0 lost 0 rest 0 -\npipe p1b sent 0 given 0 heard 0 dropped 0 written 0 lost 0 rest 0 -\ndone\n",
+    ),
+    (
+        &["zbus", "run"],
+        b"# An XPUB's user is told what is wanted first and no longer; an XSUB subscribes by what it sends.\nactor a\nsocket x XPUB\nsocket s SUB\nsocket y XSUB\nbind x inproc://q\nconnect s inproc://q\nconnect y inproc://q\nsub s a\nsend y 0x0161\nsend y hello\nrecv x\nrecv x\nrecv x\nsend x ab\nrecv s\nrecv y\nunsub s a\nrecv x\nsend y 0x0061\nrecv x\nsend y 0x0061\n",
+        b"a 3 ok o1\na 4 ok o2\na 5 ok o3\na 6 ok\na 7 ok p1\na 8 ok p2\na 9 ok\na 10 ok\na 11 ok p2\na 12 msg p1 0x0161\na 13 msg p2 hello\na 14 again\na 15 ok p1,p2\na 16 msg p1 ab\na 17 msg p2 ab\na 18 ok\na 19 again\na 20 ok\na 21 msg p2 0x0061\na 22 drop nosub\npipe p1a sent 2 given 0 heard 2 dropped 0 written 0 lost 0 rest 0 -\npipe p1b sent 1 given 1 heard 0 dropped 0 written 0 lost 0 rest 0 -\npipe p2a sent 3 given 0 heard 3 dropped 0 written 0 lost 0 rest 0 -\npipe p2b sent 1 given 1 heard 0 dropped 0 written 0 lost 0 rest 0 -\ndone\n",
     ),
 ];
 

@@ -12,10 +12,18 @@ mod hear;
 #[cfg(test)]
 mod journals;
 #[cfg(test)]
+mod limits;
+#[cfg(test)]
+mod publishing;
+#[cfg(test)]
 mod requests;
+#[cfg(test)]
+mod routers;
 #[cfg(test)]
 mod run;
 #[cfg(test)]
 mod scripts;
+#[cfg(test)]
+mod subscriptions;
 #[cfg(test)]
 mod words;

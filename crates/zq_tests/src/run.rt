@@ -127,7 +127,7 @@ const CASES: [Case; 30] = [
     ),
     (
         RUN,
-        b"actor a\nsocket s ROUTER\n",
+        b"actor a\nsocket s STREAM\n",
         Status::Script,
         b"script 2 BadWord\n",
     ),

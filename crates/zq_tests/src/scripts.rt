@@ -122,7 +122,7 @@ fn the_leftmost_fault_of_a_line_is_told(rt: HostRuntime) -> Result<(), Fail> {
         ("socket t- PUSH", Cause::BadWord),
         ("socket s", Cause::DoubleName),
         ("socket s PUSSH", Cause::DoubleName),
-        ("socket t ROUTER", Cause::BadWord),
+        ("socket t ROUTERS", Cause::BadWord),
         ("socket t push", Cause::BadWord),
         ("socket t PUSH hwm=0", Cause::BadWord),
         ("socket t PUSH hwm=10001", Cause::BadWord),
@@ -151,6 +151,55 @@ fn the_leftmost_fault_of_a_line_is_told(rt: HostRuntime) -> Result<(), Fail> {
         ("recv s tries=1 tries=1", Cause::BadWord),
         ("unbind s inproc://q", Cause::BadWord),
         ("close s", Cause::BadWord),
+    ] {
+        let mut text = Vec::from_slice(rt.alloc(), b"actor a\nsocket s PUSH\n")?;
+        text.extend_from_slice(line.as_bytes())?;
+        text.extend_from_slice(b"\nactor a")?;
+        let found = fault(rt.alloc(), text.as_slice())?;
+        assert_eq!(rt; found, Some(ScriptFault { line: 3, cause }), "{line}");
+    }
+    Ok(())
+}
+
+#[test]
+fn topics_and_options_are_read(rt: HostRuntime) -> Result<(), Fail> {
+    let text = b"actor a\nsocket t XPUB id=0x0100 verbose mandatory\nsub t ab\nunsub t -";
+    let script = script(rt.alloc(), text)?;
+    let Some(actor) = script.actors.as_slice().first() else {
+        return Err("an actor")?;
+    };
+    for line in actor.lines.as_slice() {
+        let read = match (line.number, &line.call) {
+            (2, Call::Socket(Kind::XPub, options)) => {
+                options.verbose
+                    && options.mandatory
+                    && options.id.as_slice() == b"\x01\0".as_slice()
+            }
+            (3, Call::Subscribe(0, topic)) => topic.as_slice() == b"ab".as_slice(),
+            (4, Call::Unsubscribe(0, topic)) => topic.as_slice() == b"".as_slice(),
+            (_, _) => false,
+        };
+        assert!(rt; read);
+    }
+    Ok(())
+}
+
+#[test]
+fn topics_and_options_have_their_faults(rt: HostRuntime) -> Result<(), Fail> {
+    for (line, cause) in [
+        ("socket t PUB id=", Cause::BadPart),
+        ("socket t PUB id=-", Cause::BadPart),
+        ("socket t PUB id=0x00ff", Cause::BadPart),
+        ("socket t PUB id=\u{7f}", Cause::BadPart),
+        ("socket t PUB id", Cause::BadWord),
+        ("socket t ROUTER mandatory=1", Cause::BadWord),
+        ("socket t XPUB verbose verbos", Cause::BadWord),
+        ("sub", Cause::BadWord),
+        ("sub s", Cause::BadWord),
+        ("sub t a", Cause::UnknownSocket),
+        ("sub s a b", Cause::BadWord),
+        ("unsub s \u{1}", Cause::BadPart),
+        ("unsub s - -", Cause::BadWord),
     ] {
         let mut text = Vec::from_slice(rt.alloc(), b"actor a\nsocket s PUSH\n")?;
         text.extend_from_slice(line.as_bytes())?;
@@ -216,6 +265,17 @@ fn actors_and_parts_have_limits(rt: HostRuntime) -> Result<(), Fail> {
     assert_eq!(rt;
         fault(rt.alloc(), parts.as_slice())?,
         Some(ScriptFault { line: 3, cause })
+    );
+    Ok(())
+}
+
+#[test]
+fn an_identity_of_256_octets_is_refused(rt: HostRuntime) -> Result<(), Fail> {
+    let text = with_copies(rt.alloc(), b"actor a\nsocket t DEALER id=", b"x", 256)?;
+    let cause = Cause::BadPart;
+    assert_eq!(rt;
+        fault(rt.alloc(), text.as_slice())?,
+        Some(ScriptFault { line: 2, cause })
     );
     Ok(())
 }

@@ -31,7 +31,7 @@ use Rattle.flat_net.specs.Pipes.{IsPast}
 use Rattle.zq_top.specs.declared.actor.Actor.{Actor}
 use Rattle.zq_top.specs.Playing.{agenda_of, entries_in, entries_at, stage_at, TurnsEndSo, RunEnds, AreNew, actor_part}
 use Rattle.zq_top.proofs.PlayLemmas.{parts_are}
-use Rattle.zq_top.proofs.Given.{all_told, past_rows_are}
+use Rattle.zq_top.proofs.Given.{run_told, past_rows_are}
 
 -- the net before the first line, for each actor an empty seat
 seats_are : (ss : List ActorScript) → map {B = List (Option ObjId)} (λ _. []) ss ≡ replicate (length ss) []
@@ -118,7 +118,7 @@ none_before given none q some = rw none refl
 pub the_journal : (script : Script) (schedule : Schedule) (done : Bool) (w u : Counted) (xs ys : List Actor) (rows : List PipeRow) (n : ℕ)
     → w.net ≡ net_of [] empty_book [] (replicate n []) → n ≡ length script.actors → IsPast w.pipes [] → w.given ≡ [] → AreNew script.actors xs
     → (e : RunEnds schedule done w xs u ys)
-    → ((past : List PipeStep) → IsPast u.pipes past → rows ≡ past_rows past (given_in u.given) 1 u.net.pairs)
+    → ((past : List PipeStep) → IsPast u.pipes past → rows ≡ past_rows u.net past (given_in u.given) 1 u.net.pairs)
     → ((past : List PipeStep) → IsPast u.pipes past → AreExact (capacity_in u.net) [] past)
     → ((p : PipeId) → capacity_in u.net p ≤ most_commits)
     → IsJournalOf script schedule (record { actors = map actor_part ys; pipes = rows; done = done })
@@ -127,7 +127,7 @@ the_journal script schedule done w u xs ys rows n begun same none no_given new e
     let run : Run = record { turns = e.turns; stage = stage_at u ys } in
     let is_run = the_run script schedule done w u xs ys net new e exact fits in
     let past = e.did.past [] none in
-    let told = all_told schedule.seed (range_with_len 0 (length xs + other_workers)) schedule.seed _ e.turns _
+    let told = run_told schedule.seed (range_with_len 0 (length xs + other_workers)) schedule.seed _ e.turns _
     (subst (λ (s : Stage). IsSound s.net) (sym (begins script w xs net new)) (sound_before script)) e.are_turns in
     record {
       run = run;

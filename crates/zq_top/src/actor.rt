@@ -27,7 +27,8 @@ fn tries_of(call: &Call) -> u32
 {
     match call {
         Call::Recv(_, tries) => *tries,
-        Call::Socket(_, _) | Call::Bind(_, _) | Call::Connect(_, _) | Call::Send(_, _) => 1,
+        Call::Socket(_, _) | Call::Bind(_, _) | Call::Connect(_, _) => 1,
+        Call::Send(_, _) | Call::Subscribe(_, _) | Call::Unsubscribe(_, _) => 1,
     }
 }
 

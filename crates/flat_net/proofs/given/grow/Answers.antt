@@ -1,4 +1,4 @@
-use Rattle.std.proofs.Common.{◌≡◌, ℕ, List, ap, ◌∙◌}
+use Rattle.std.proofs.Common.{ℕ, List, ap, ◌∙◌}
 use Rattle.std.specs.Prelude.{get_or}
 use Rattle.flat_net.proofs.GivenLemmas.{get_or_zero}
 use Rattle.flat_net.proofs.given.grow.Goals as goal

@@ -4,7 +4,7 @@ use Rattle.any_sock.specs.Over.{peer_places}
 use Rattle.any_sock.specs.declared.any_sock.AnySock.{AnySock}
 use Rattle.any_sock.specs.declared.any_sock.AnySock.TheVariants as sock
 use Rattle.any_sock.proofs.PlaceLemmas.{all_behind}
-use Rattle.any_sock.proofs.AttachLemmas.{taken_ok, taken_both, taken_err, err_for, push_taken, pull_taken, pair_taken, dealer_taken, req_taken, rep_taken, router_taken, router_err, pub_taken, xpub_taken, new_place}
+use Rattle.any_sock.proofs.AttachLemmas.{taken_ok, taken_both, taken_err, err_for, push_taken, pull_taken, pair_taken, dealer_taken, req_taken, rep_taken, router_taken, router_err, pub_taken, xpub_taken, sub_taken, xsub_taken, new_place}
 use Rattle.any_sock.proofs.any_sock.AnySock.attach.Goals as goal
 
 pub returns-in-Push-clause-ok : goal.returns-in-Push-clause-ok
@@ -62,3 +62,15 @@ returns-in-Router-clause-ok c = router_taken _ c.in-Router.router _ c.args.self.
 
 pub returns-in-Router-clause-err : goal.returns-in-Router-clause-err
 returns-in-Router-clause-err c = err_for c.attach-in-Router.result _ _ (router_err _ c.in-Router.router _ c.attach-in-Router.result c.attach-in-Router.new.self c.attach-in-Router.ensures.attaches) (λ same. ap sock.Router same ∙ sym c.in-Router.is)
+
+pub returns-in-Sub-clause-ok : goal.returns-in-Sub-clause-ok
+returns-in-Sub-clause-ok c = taken_both c.attach-in-Sub.result c.taken-in-Sub.result _ _ _ c.taken-in-Sub.ensures c.attach-in-Sub.ensures.ok c.attach-in-Sub.ensures.defined (sub_taken _ _ c.args.self.now c.in-Sub.subscriber c.attach-in-Sub.new.self c.in-Sub.is)
+
+pub returns-in-Sub-clause-err : goal.returns-in-Sub-clause-err
+returns-in-Sub-clause-err c = taken_err c.attach-in-Sub.result c.taken-in-Sub.result _ _ c.taken-in-Sub.ensures c.attach-in-Sub.ensures.err (λ same. ap sock.Sub same ∙ sym c.in-Sub.is)
+
+pub returns-in-XSub-clause-ok : goal.returns-in-XSub-clause-ok
+returns-in-XSub-clause-ok c = taken_both c.attach-in-XSub.result c.taken-in-XSub.result _ _ _ c.taken-in-XSub.ensures c.attach-in-XSub.ensures.ok c.attach-in-XSub.ensures.defined (xsub_taken _ _ c.args.self.now c.in-XSub.subscriber c.attach-in-XSub.new.self c.in-XSub.is)
+
+pub returns-in-XSub-clause-err : goal.returns-in-XSub-clause-err
+returns-in-XSub-clause-err c = taken_err c.attach-in-XSub.result c.taken-in-XSub.result _ _ c.taken-in-XSub.ensures c.attach-in-XSub.ensures.err (λ same. ap sock.XSub same ∙ sym c.in-XSub.is)

@@ -1,4 +1,4 @@
-use Rattle.any_sock.proofs.DetachLemmas.{push_left, pull_left, pair_left, dealer_left, req_left, rep_left, router_left, pub_left, xpub_left}
+use Rattle.any_sock.proofs.DetachLemmas.{push_left, pull_left, pair_left, dealer_left, req_left, rep_left, router_left, pub_left, xpub_left, sub_left, xsub_left}
 use Rattle.any_sock.proofs.any_sock.AnySock.detach.Goals as goal
 
 pub returns-in-Push : goal.returns-in-Push
@@ -27,3 +27,9 @@ returns-in-Pub c = pub_left _ _ c.args.self.now c.in-Pub.publisher c.detach-in-P
 
 pub returns-in-XPub : goal.returns-in-XPub
 returns-in-XPub c = xpub_left _ _ c.args.self.now c.in-XPub.publisher c.detach-in-XPub.new.self c.in-XPub.is c.detach-in-XPub.ensures.gone c.detach-in-XPub.ensures.defined
+
+pub returns-in-Sub : goal.returns-in-Sub
+returns-in-Sub c = sub_left _ _ c.args.self.now c.in-Sub.subscriber c.detach-in-Sub.new.self c.in-Sub.is c.detach-in-Sub.ensures.gone c.detach-in-Sub.ensures.defined
+
+pub returns-in-XSub : goal.returns-in-XSub
+returns-in-XSub c = xsub_left _ _ c.args.self.now c.in-XSub.subscriber c.detach-in-XSub.new.self c.in-XSub.is c.detach-in-XSub.ensures.gone c.detach-in-XSub.ensures.defined

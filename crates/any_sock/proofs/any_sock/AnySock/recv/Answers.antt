@@ -1,9 +1,10 @@
 use Rattle.std.proofs.Common.{All, sym, ap, subst, map, refl, []}
+use Rattle.std.specs.Map.{keys_of}
 use Rattle.any_sock.specs.Over.{HaveSamePlaces, peer_places}
 use Rattle.any_sock.specs.declared.any_sock.AnySock.{AnySock}
 use Rattle.any_sock.specs.declared.any_sock.AnySock.TheVariants as sock
 use Rattle.any_sock.proofs.PlaceLemmas.{all_front, all_behind, same_by_order, same_as, same_both, order_as}
-use Rattle.any_sock.proofs.RecvLemmas.{push_got, pull_got, pair_got, dealer_got, req_got, rep_got, router_got, pub_got, xpub_got}
+use Rattle.any_sock.proofs.RecvLemmas.{push_got, pull_got, pair_got, dealer_got, req_got, rep_got, router_got, pub_got, xpub_got, sub_got, xsub_got}
 use Rattle.any_sock.proofs.any_sock.AnySock.recv.Goals as goal
 
 pub returns-in-Push-clause-step : goal.returns-in-Push-clause-step
@@ -78,3 +79,27 @@ returns-in-Pub-clause-step g c =
 
 pub returns-in-Pub-clause-places : goal.returns-in-Pub-clause-places
 returns-in-Pub-clause-places g c = subst (λ (q : AnySock). HaveSamePlaces (peer_places q) (peer_places (sock.Pub c.in-Pub.publisher))) (sym c.in-Pub.is) (same_as _ _ refl)
+
+pub recv-requires-in-Sub : goal.recv-requires-in-Sub
+recv-requires-in-Sub g c = record {
+  there = all_front (g.E.Peers.here c.args.peers.now) c.in-Sub.subscriber.ins (keys_of c.in-Sub.subscriber.followers) (subst (λ (q : AnySock). All (g.E.Peers.here c.args.peers.now) (peer_places q)) c.in-Sub.is c.requires.there);
+}
+
+pub returns-in-Sub-clause-step : goal.returns-in-Sub-clause-step
+returns-in-Sub-clause-step g c = sub_got _ _ _ _ _ _ c.recv-in-Sub.result c.args.self.now c.in-Sub.subscriber c.recv-in-Sub.new.self c.in-Sub.is c.recv-in-Sub.ensures.step
+
+pub returns-in-Sub-clause-places : goal.returns-in-Sub-clause-places
+returns-in-Sub-clause-places g c = subst (λ (q : AnySock). HaveSamePlaces (peer_places q) (peer_places (sock.Sub c.recv-in-Sub.new.self))) (sym c.in-Sub.is)
+    (same_both _ _ _ _ c.recv-in-Sub.ensures.places (order_as _ _ (ap keys_of c.recv-in-Sub.ensures.same.followers_are)))
+
+pub recv-requires-in-XSub : goal.recv-requires-in-XSub
+recv-requires-in-XSub g c = record {
+  there = all_front (g.E.Peers.here c.args.peers.now) c.in-XSub.subscriber.ins (keys_of c.in-XSub.subscriber.followers) (subst (λ (q : AnySock). All (g.E.Peers.here c.args.peers.now) (peer_places q)) c.in-XSub.is c.requires.there);
+}
+
+pub returns-in-XSub-clause-step : goal.returns-in-XSub-clause-step
+returns-in-XSub-clause-step g c = xsub_got _ _ _ _ _ _ c.recv-in-XSub.result c.args.self.now c.in-XSub.subscriber c.recv-in-XSub.new.self c.in-XSub.is refl c.recv-in-XSub.ensures.step
+
+pub returns-in-XSub-clause-places : goal.returns-in-XSub-clause-places
+returns-in-XSub-clause-places g c = subst (λ (q : AnySock). HaveSamePlaces (peer_places q) (peer_places (sock.XSub c.recv-in-XSub.new.self))) (sym c.in-XSub.is)
+    (same_both _ _ _ _ c.recv-in-XSub.ensures.places (order_as _ _ (ap keys_of c.recv-in-XSub.ensures.same.followers_are)))

@@ -1,25 +1,15 @@
-use Rattle.flat_net.proofs.AskLemmas.{ask_bind, ask_connect, ask_send, tcp_bind, tcp_connect}
+use Rattle.std.proofs.Common.{ℕ, sym, subst}
+use Rattle.std.proofs.lemmas.Result.{IfOk-weaker}
+use Rattle.flat_net.specs.Flat.{IsOne}
+use Rattle.flat_net.proofs.AskLemmas.{line_moved, asked_there}
 use Rattle.flat_net.proofs.net.FlatNet.ask.Goals as goal
 
-pub returns-in-Inproc : goal.returns-in-Inproc
-returns-in-Inproc c actor asked =
-    ask_bind actor c.args.object c.args.self.now c.bind.new.self c.args.told.now.items c.args.call.now _ c.of-in-Inproc.result _ c.of-in-Inproc.ensures asked
-    _ _ c.in-Bind.is c.in-Inproc.is c.in_ok-answer-in-Inproc.ensures.net c.in_ok-answer-in-Inproc.ensures.goes_on
+pub ask_net-requires : goal.ask_net-requires
+ask_net-requires c = record { there = subst (λ (n : ℕ). IsOne n c.args.object) (sym c.ask_socket.ensures.socks) c.requires.there }
 
-pub returns-in-Tcp : goal.returns-in-Tcp
-returns-in-Tcp c actor asked =
-    tcp_bind actor c.args.object c.args.self.now c.args.told.now.items c.args.call.now _ _ _ c.of-in-Tcp.result c.of-in-Tcp.ensures asked c.in-Tcp.is c.in-Bind.is
-
-pub returns-in-Inproc-to : goal.returns-in-Inproc-to
-returns-in-Inproc-to c actor asked =
-    ask_connect actor c.args.object c.args.self.now c.connect.new.self c.args.told.now.items c.args.call.now _ c.of-in-Inproc-to.result _ c.of-in-Inproc-to.ensures asked
-    _ _ c.in-Connect.is c.in-Inproc-to.is c.in_ok-answer-in-Inproc-to.ensures.net c.in_ok-answer-in-Inproc-to.ensures.goes_on
-
-pub returns-in-Tcp-to : goal.returns-in-Tcp-to
-returns-in-Tcp-to c actor asked =
-    tcp_connect actor c.args.object c.args.self.now c.args.told.now.items c.args.call.now _ _ _ c.of-in-Tcp-to.result c.of-in-Tcp-to.ensures asked c.in-Tcp-to.is c.in-Connect.is
-
-pub returns-in-Send : goal.returns-in-Send
-returns-in-Send c actor asked =
-    ask_send actor c.args.object c.args.self.now c.send.new.self c.args.told.now.items c.args.call.now _ c.of-in-Send.result _ c.of-in-Send.ensures asked
-    _ _ c.in-Send.is c.in_ok-message-in-Send.ensures c.in_ok-answer-in-Send.ensures
+pub returns : goal.returns
+returns c =
+    let did = c.in_ok-asked.ensures.asked in
+    IfOk-weaker c.ask_net.result _ _ (λ r done actor mine.
+    line_moved actor c.args.object c.args.call.now c.args.self.now c.ask_socket.new.self c.ask_net.new.self c.args.told.now.items c.ask_socket.new.told.items c.in_ok-asked.asked r mine did done
+    (asked_there c.args.object c.args.call.now c.args.self.now c.ask_socket.new.self c.args.told.now.items c.ask_socket.new.told.items c.in_ok-asked.asked did)) c.ask_net.ensures

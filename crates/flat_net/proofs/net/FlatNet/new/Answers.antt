@@ -1,7 +1,6 @@
-use Rattle.std.proofs.Common.{◌≡◌, ℕ, List, [], ◌∷◌, ◌++◌, Option, map, replicate, ap, ◌∙◌, arith}
+use Rattle.std.proofs.Common.{◌≡◌, ℕ, List, [], ◌∷◌, ◌++◌, Option, replicate, ap, ◌∙◌, arith}
 use Rattle.std.proofs.lemmas.List.{replicate_more}
 use Rattle.zq_base.specs.declared.ids.ObjId.{ObjId}
-use Rattle.spec_journal.specs.declared.journal.Joined.{Joined}
 use Rattle.flat_net.specs.Pairs.{tabled}
 use Rattle.flat_net.proofs.NetLemmas.{flat_made, same_net}
 use Rattle.flat_net.proofs.net.FlatNet.new.Goals as goal
@@ -19,11 +18,11 @@ loop-preserved c =
 pub invariant_of-result : goal.invariant_of-result
 invariant_of-result c =
     flat_made c.new-2.result.items c.new-3.result _ c.loop.seats.items (tabled c.new-5.result) c.new-2.ensures.items c.new-3.ensures
-    (ap (λ (l : List (Joined × Unit {0})). map (λ e. e.0) l) c.new-4.ensures) c.new-5.ensures.pairs
+    c.new-4.ensures.items c.new-5.ensures.pairs
 
 pub returns-clause-net : goal.returns-clause-net
 returns-clause-net c =
     let all : c.loop.counter ≡ c.args.actors = omega arith in
     same_net c.new-2.result.items [] c.new-3.result _ _ [] c.loop.seats.items (replicate c.args.actors []) c.new-2.ensures.items c.new-3.ensures
-    (ap (λ (l : List (Joined × Unit {0})). map (λ e. e.0) l) c.new-4.ensures)
+    c.new-4.ensures.items
     (c.loop.invariant ∙ ap (λ (n : ℕ). replicate n []) all)

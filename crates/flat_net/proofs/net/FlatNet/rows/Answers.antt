@@ -1,4 +1,4 @@
-use Rattle.std.proofs.Common.{◌≤◌, List, [], map, subst}
+use Rattle.std.proofs.Common.{◌≤◌, List, [], subst}
 use Rattle.zq_base.specs.Ends.{PipeId}
 use Rattle.spec_pattern.specs.PipeStep.{PipeStep, AreExact, most_commits}
 use Rattle.spec_journal.specs.Net.{capacity_in}
@@ -12,10 +12,10 @@ pub returns-clause-exact : goal.returns-clause-exact
 returns-clause-exact c =
     let s = c.self.inside in
     on_ok c.rows_of_pairs.result (subst (λ (w : Flat). (past : List PipeStep) → IsPast w.pipes past → AreExact (capacity_in w.net) [] past) c.self.view_is
-    (exact_past s.sockets.items s.book (map (λ e. e.0) s.joined.items) s.seats.items (tabled s.pairs) c.self.invariant))
+    (exact_past s.sockets.items s.book s.joined.items s.seats.items (tabled s.pairs) c.self.invariant))
 
 pub returns-clause-fits : goal.returns-clause-fits
 returns-clause-fits c =
     let s = c.self.inside in
     on_ok c.rows_of_pairs.result (subst (λ (w : Flat). (p : PipeId) → capacity_in w.net p ≤ most_commits) c.self.view_is
-    (capacity_fits s.sockets.items s.book (map (λ e. e.0) s.joined.items) s.seats.items (tabled s.pairs) c.self.invariant))
+    (capacity_fits s.sockets.items s.book s.joined.items s.seats.items (tabled s.pairs) c.self.invariant))

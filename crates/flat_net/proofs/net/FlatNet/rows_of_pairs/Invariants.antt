@@ -7,4 +7,4 @@ use Rattle.flat_net.proofs.net.FlatNet.rows_of_pairs.Given as goal
 
 -- the rows of the first pairs
 abbrev pub invariant-pairs : goal.invariant-pairs
-invariant-pairs l = (past : List PipeStep) → IsPast l.self.pipes past → l.rows.items ≡ past_rows past (given_in l.given) 1 (take l.place l.self.net.pairs)
+invariant-pairs l = (past : List PipeStep) → IsPast l.self.pipes past → l.rows.items ≡ past_rows l.self.net past (given_in l.given) 1 (take l.place l.self.net.pairs)

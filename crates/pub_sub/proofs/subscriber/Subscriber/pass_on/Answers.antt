@@ -39,7 +39,7 @@ returns-clause-step g c =
     c.as_slice-2.ensures.value ∙ c.in-Ok.ensures
     ∙ ap (filter writable) (ap places_of c.as_slice.ensures.value ∙ sym (keys_rows c.self.inside.followers.items) ∙ ap (λ (s : SubState). keys_of s.followers) c.self.view_is) in
     subst (λ r. MatchXSend r (new ≡ old) ⊥ (λ answer. SendsMany g.E.Peers.runs ends c.args.message old new (filter writable (keys_of c.args.self.now.followers)) answer)) (sym c.passed_on.ensures)
-    (MatchXSend-passed c.send_to_many-sent.result (new ≡ old) (λ answer. SendsMany g.E.Peers.runs ends c.args.message old new (filter writable (keys_of c.args.self.now.followers)) answer)
+    (MatchXSend-passed c.send_to_many-sent.result (new ≡ old) ⊥ (λ answer. SendsMany g.E.Peers.runs ends c.args.message old new (filter writable (keys_of c.args.self.now.followers)) answer)
     (subst (λ l. MatchSend c.send_to_many-sent.result (new ≡ old) (λ answer. SendsMany g.E.Peers.runs ends c.args.message old new l answer)) are c.send_to_many-sent.ensures.step))
 
 pub returns-clause-back : goal.returns-clause-back

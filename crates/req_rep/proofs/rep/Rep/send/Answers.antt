@@ -1,8 +1,8 @@
-use Rattle.std.proofs.Common.{◌≡◌, ◌≤◌, ◌<◌, ◌+◌, false, length, ap, arith, rules}
+use Rattle.std.proofs.Common.{◌≡◌, ◌≤◌, ◌<◌, ◌+◌, false, Contains, length, ap, subst, arith, rules}
 use Rattle.zq_base.specs.Message.{max_committed}
 use Rattle.msg_pipe.proofs.PlacesLemmas.{keeps_none}
 use Rattle.req_rep.specs.Answering.{RepState}
-use Rattle.req_rep.specs.Partners.{is_nobody}
+use Rattle.req_rep.specs.Partners.{is_nobody, IsAt}
 use Rattle.req_rep.proofs.RepLemmas.{RepSent-large, RepSent-gone, RepSent-shut}
 use Rattle.req_rep.proofs.rep.Rep.send.Goals as goal
 
@@ -24,6 +24,7 @@ returns-in_default g c =
           (g.E.Peers.writable c.args.peers.now) c.args.message some c.clear.new.self.items c.in_default.not-At few;
       back = tt;
       ins = ap (λ (s : RepState). s.ins) c.self.view_is;
+      partner = subst (λ (s : RepState). IsAt (Contains s.ins) s.owed) c.self.view_is c.self.invariant.peer;
       keeps = keeps_none g.E.Peers.here g.E.Peers.end_at g.E.Peers.writable c.args.peers.now;
     }
 

@@ -1,0 +1,41 @@
+use Rattle.std.proofs.Common.{All, sym, subst, refl}
+use Rattle.std.specs.Map.{keys_of}
+use Rattle.spec_pattern.specs.PatternCalls.{Subscribe}
+use Rattle.msg_pipe.proofs.PlacesLemmas.{keeps_none}
+use Rattle.any_sock.specs.Over.{HaveSamePlaces, peer_places}
+use Rattle.any_sock.specs.declared.any_sock.AnySock.{AnySock}
+use Rattle.any_sock.specs.declared.any_sock.AnySock.TheVariants as sock
+use Rattle.any_sock.proofs.PlaceLemmas.{all_behind, same_as, same_followers}
+use Rattle.any_sock.proofs.ChangeLemmas.{sub_changed, xsub_changed, no_topics}
+use Rattle.any_sock.proofs.any_sock.AnySock.subscribe.Goals as goal
+
+pub subscribe-requires-clause-there : goal.subscribe-requires-clause-there
+subscribe-requires-clause-there g c = all_behind (g.E.Peers.here c.args.peers.now) c.in-Sub.subscriber.ins (keys_of c.in-Sub.subscriber.followers) (subst (λ (q : AnySock). All (g.E.Peers.here c.args.peers.now) (peer_places q)) c.in-Sub.is c.requires.there)
+
+pub returns-in-Sub-clause-step : goal.returns-in-Sub-clause-step
+returns-in-Sub-clause-step g c =
+    sub_changed g.E.Peers.runs (g.E.Peers.end_at c.args.peers.now) (g.E.Peers.writable c.args.peers.now) Subscribe c.args.topic.now c.args.peers.now c.subscribe.new.peers
+    c.in-Sub.subscriber c.subscribe.new.self g.met.E.Peers.runs_on c.of_subscriber.result c.subscribe.result c.args.self.now c.of_subscriber.ensures c.in-Sub.is c.subscribe.ensures.step
+
+pub returns-in-Sub-clause-places : goal.returns-in-Sub-clause-places
+returns-in-Sub-clause-places g c = subst (λ (q : AnySock). HaveSamePlaces (peer_places q) (peer_places (sock.Sub c.subscribe.new.self))) (sym c.in-Sub.is) (same_followers _ _ c.subscribe.ensures.same)
+
+pub subscribe-requires-in-XSub-clause-there : goal.subscribe-requires-in-XSub-clause-there
+subscribe-requires-in-XSub-clause-there g c = all_behind (g.E.Peers.here c.args.peers.now) c.in-XSub.subscriber.ins (keys_of c.in-XSub.subscriber.followers) (subst (λ (q : AnySock). All (g.E.Peers.here c.args.peers.now) (peer_places q)) c.in-XSub.is c.requires.there)
+
+pub returns-in-XSub-clause-step : goal.returns-in-XSub-clause-step
+returns-in-XSub-clause-step g c =
+    xsub_changed g.E.Peers.runs (g.E.Peers.end_at c.args.peers.now) (g.E.Peers.writable c.args.peers.now) Subscribe c.args.topic.now c.args.peers.now c.subscribe-in-XSub.new.peers
+    c.in-XSub.subscriber c.subscribe-in-XSub.new.self g.met.E.Peers.runs_on c.of_subscriber-in-XSub.result c.subscribe-in-XSub.result c.args.self.now c.of_subscriber-in-XSub.ensures c.in-XSub.is c.subscribe-in-XSub.ensures.step
+
+pub returns-in-XSub-clause-places : goal.returns-in-XSub-clause-places
+returns-in-XSub-clause-places g c = subst (λ (q : AnySock). HaveSamePlaces (peer_places q) (peer_places (sock.XSub c.subscribe-in-XSub.new.self))) (sym c.in-XSub.is) (same_followers _ _ c.subscribe-in-XSub.ensures.same)
+
+pub returns-in_default : goal.returns-in_default
+returns-in_default g c = record {
+  step = no_topics g.E.Peers.runs (g.E.Peers.end_at c.args.peers.now) (g.E.Peers.writable c.args.peers.now) Subscribe c.args.topic.now c.args.peers.now c.args.self.now
+      c.in_default.not-Sub c.in_default.not-XSub (g.met.E.Peers.runs_none c.args.peers.now);
+  places = same_as _ _ refl;
+  left = refl;
+  keeps = keeps_none g.E.Peers.here g.E.Peers.end_at g.E.Peers.writable c.args.peers.now;
+}

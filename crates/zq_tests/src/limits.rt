@@ -1,0 +1,166 @@
+use crate::calls::call;
+use std::alloc::Global;
+use std::test::Fail;
+use zq_top::Status;
+
+/// A text in pieces, each so often.
+type Pieces = &'static [(&'static [u8], usize)];
+
+/// Long scripts, and how what their runs print ends.
+const LIMITS: [(Pieces, Pieces); 7] = [
+    // One receive of a REP drops 256 messages at the most.
+    (
+        &[
+            (
+                b"actor a\nsocket p REP\nsocket d DEALER\nbind p inproc://q\nconnect d inproc://q\n",
+                1,
+            ),
+            (b"send d x\n", 257),
+            (b"recv p\nrecv p\n", 1),
+        ],
+        &[
+            (b"a 262 ok p1\na 263 busy", 1),
+            (b" !badenv@p1", 256),
+            (
+                b"\na 264 again !badenv@p1\npipe p1a sent 257 given 0 heard 0 dropped 257 written 0 lost 0 rest 0 -\npipe p1b sent 0 given 0 heard 0 dropped 0 written 0 lost 0 rest 0 -\ndone\n",
+                1,
+            ),
+        ],
+    ),
+    // And so does one of a SUB.
+    (
+        &[
+            (
+                b"actor a\nsocket p PUB\nsocket s SUB\nbind p inproc://q\nconnect s inproc://q\nsub s a\n",
+                1,
+            ),
+            (b"send p a\n", 257),
+            (b"unsub s a\nrecv s\nrecv s\n", 1),
+        ],
+        &[
+            (b"a 263 ok p1\na 264 ok\na 265 busy", 1),
+            (b" !filtered@p1", 256),
+            (
+                b"\na 266 again !filtered@p1\npipe p1a sent 2 given 0 heard 1 dropped 0 written 0 lost 0 rest 1 closed\npipe p1b sent 257 given 0 heard 0 dropped 257 written 0 lost 0 rest 0 -\ndone\n",
+                1,
+            ),
+        ],
+    ),
+    // An XPUB hears 256 messages before a receive and 256 in it, none of them news.
+    (
+        &[
+            (
+                b"actor a\nsocket x XPUB\nsocket t SUB\nsocket s SUB\nbind x inproc://q\nconnect t inproc://q\nconnect s inproc://q\nsub t a\nrecv x\n",
+                1,
+            ),
+            (b"sub s a\nunsub s a\n", 257),
+            (b"recv x\nrecv x\n", 1),
+        ],
+        &[(
+            b"a 523 ok\na 524 busy\na 525 again\npipe p1a sent 1 given 0 heard 1 dropped 0 written 0 lost 0 rest 0 -\npipe p1b sent 0 given 0 heard 0 dropped 0 written 0 lost 0 rest 0 -\npipe p2a sent 514 given 0 heard 514 dropped 0 written 0 lost 0 rest 0 -\npipe p2b sent 0 given 0 heard 0 dropped 0 written 0 lost 0 rest 0 -\ndone\n",
+            1,
+        )],
+    ),
+    // It hears no more while 1,000 messages wait for its user.
+    (
+        &[
+            (
+                b"actor a\nsocket x XPUB\nsocket y XSUB\nbind x inproc://q\nconnect y inproc://q\n",
+                1,
+            ),
+            (b"send y m\n", 1001),
+            (b"send x z\n", 5),
+        ],
+        &[(
+            b"a 1006 ok p1\na 1007 drop nomatch\na 1008 drop nomatch\na 1009 drop nomatch\na 1010 drop nomatch\na 1011 drop nomatch\npipe p1a sent 1001 given 0 heard 1000 dropped 0 written 0 lost 0 rest 1 closed\npipe p1b sent 0 given 0 heard 0 dropped 0 written 0 lost 0 rest 0 -\ndone\n",
+            1,
+        )],
+    ),
+    // And hears on once one was given.
+    (
+        &[
+            (
+                b"actor a\nsocket x XPUB\nsocket y XSUB\nbind x inproc://q\nconnect y inproc://q\n",
+                1,
+            ),
+            (b"send y m\n", 1001),
+            (b"send x z\n", 5),
+            (b"recv x\nrecv x\n", 1),
+        ],
+        &[(
+            b"a 1011 drop nomatch\na 1012 msg p1 m\na 1013 msg p1 m\npipe p1a sent 1001 given 0 heard 1001 dropped 0 written 0 lost 0 rest 0 -\npipe p1b sent 0 given 0 heard 0 dropped 0 written 0 lost 0 rest 0 -\ndone\n",
+            1,
+        )],
+    ),
+    // A name has 255 octets at the most.
+    (
+        &[
+            (b"actor a\nsocket r ROUTER\nsocket d DEALER id=", 1),
+            (b"x", 255),
+            (
+                b"\nbind r inproc://q\nconnect d inproc://q\nsend d m\nrecv r\n",
+                1,
+            ),
+        ],
+        &[
+            (b"a 6 ok p1\na 7 msg p1 ", 1),
+            (b"x", 255),
+            (
+                b" m\npipe p1a sent 1 given 1 heard 0 dropped 0 written 0 lost 0 rest 0 -\npipe p1b sent 0 given 0 heard 0 dropped 0 written 0 lost 0 rest 0 -\ndone\n",
+                1,
+            ),
+        ],
+    ),
+    // A message is committed with 1,023 frames at the most: a ROUTER's name is none of them.
+    (
+        &[
+            (
+                b"actor a\nsocket r ROUTER\nsocket d DEALER id=d\nbind r inproc://q\nconnect d inproc://q\nsend r d",
+                1,
+            ),
+            (b" x", 1023),
+            (b"\nsend d", 1),
+            (b" x", 1024),
+            (b"\nsend d", 1),
+            (b" x", 1023),
+            (b"\n", 1),
+        ],
+        &[(
+            b"a 6 ok p1\na 7 toolarge\na 8 ok p1\npipe p1a sent 1 given 0 heard 0 dropped 0 written 0 lost 0 rest 1 closed\npipe p1b sent 1 given 0 heard 0 dropped 0 written 0 lost 0 rest 1 closed\ndone\n",
+            1,
+        )],
+    ),
+];
+
+/// Adds the text so often.
+fn repeat(octets: &mut Vec<u8>, text: &[u8], count: usize) -> Result<(), Fail> {
+    for _ in 0..count {
+        octets.extend_from_slice(text)?;
+    }
+    Ok(())
+}
+
+/// The text of these pieces.
+fn text_of(alloc: Global, pieces: Pieces) -> Result<Vec<u8>, Fail> {
+    let mut octets = Vec::new(alloc);
+    for (text, count) in pieces {
+        repeat(&mut octets, text, *count)?;
+    }
+    Ok(octets)
+}
+
+/// Whether the run of the script is done, and its text ends so.
+fn ends_so(alloc: Global, script: Pieces, end: Pieces) -> Result<bool, Fail> {
+    let script = text_of(alloc, script)?;
+    let end = text_of(alloc, end)?;
+    let called = call(alloc, &["zbus", "run"], &script, &[], &[], &[65_536])?;
+    Ok(called.status == Status::Done && called.text.ends_with(&end))
+}
+
+#[test]
+fn limits_are_met(rt: HostRuntime) -> Result<(), Fail> {
+    for (script, end) in LIMITS {
+        assert!(rt; ends_so(rt.alloc(), script, end)?);
+    }
+    Ok(())
+}
