@@ -263,7 +263,7 @@ pair_for t m w Opens place e = sym (nothing ((obj t w).slot == m))
 pair_for t m w BindCame place e = sym (nothing ((obj t w).slot == m))
 pair_for t m w (Happens event) place e = end_for t m w (commands_in event place) e
 
-place_falls : (event : EndEvent) (place : Place) → to_put (place_after (Happens event) place) + puts_end (commands_in event place) ≤ to_put place
+pub place_falls : (event : EndEvent) (place : Place) → to_put (place_after (Happens event) place) + puts_end (commands_in event place) ≤ to_put place
 place_falls event Unmade = omega arith
 place_falls event Away = omega arith
 place_falls (Asked reason true) (At Active) = omega arith

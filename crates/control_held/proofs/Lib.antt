@@ -1,3 +1,3 @@
-mod NamedLemmas
+pub mod NamedLemmas
 mod OwnLemmas
-mod TrialLemmas
+pub mod TrialLemmas

@@ -41,7 +41,7 @@ name_more e [] ys n h = absurd (some_none h)
 name_more e (x ∷ xs) ys n h = found (is_end e x.pipe) x.name n (name_in e xs) (name_in e (xs ++ ys)) (name_more e xs ys n) h
 
 module _ {N S : Type 0} where
-  later : (past more : List (Item N S)) (e : EndId) (n : N) → name_of past e ≡ Some n → name_of (past ++ more) e ≡ Some n
+  pub later : (past more : List (Item N S)) (e : EndId) (n : N) → name_of past e ≡ Some n → name_of (past ++ more) e ≡ Some n
   later past more e n h =
       ap (name_in e) (flat_map-append named_in past more) ∙ name_more e (flat_map named_in past) (flat_map named_in more) n h
 

@@ -16,13 +16,13 @@ use Rattle.control_held.specs.Met.{DelimitersAreTold}
 use Rattle.control_held.specs.Worker.{WorkerComesOut}
 use Rattle.control_held.specs.Trial.{callers, with_callers, TrialComesOut}
 
-none : {X : Type 0} (P : X → Type 0) → All P []
+pub none : {X : Type 0} (P : X → Type 0) → All P []
 none P k d lt = absurd (below lt)
   where
     below : {k : ℕ} → k < 0 → ⊥
     below h = omega arith
 
-one : {X : Type 0} (P : X → Type 0) (x : X) → P x → All P (x ∷ [])
+pub one : {X : Type 0} (P : X → Type 0) (x : X) → P x → All P (x ∷ [])
 one P x h zero d lt = h
 one P x h (suc k) d lt = absurd (below lt)
   where
@@ -43,28 +43,28 @@ callers_run (k ∷ ks) (Event entry ∷ items) c run = (run.0, callers_run ks it
 callers_run (k ∷ ks) (Seen sight ∷ items) c run = (record { empty = run.0.empty; root = run.0.root; live = run.0.live; room = run.0.room }, callers_run ks items c run.1)
 
 -- an event of an object that its caller has
-acts : {N S : Type 0} (past : List (Item N S)) (c : Control) (did : Did N S) (k i : ℕ) → acts_in c did ≡ Some i → taken_in did ≡ None → has_after i past ≡ Some k → IsBy past c did k
+pub acts : {N S : Type 0} (past : List (Item N S)) (c : Control) (did : Did N S) (k i : ℕ) → acts_in c did ≡ Some i → taken_in did ≡ None → has_after i past ≡ Some k → IsBy past c did k
 acts past c did k i here none has = record {
   acts = λ j e. subst (λ (n : ℕ). has_after n past ≡ Some k) (some_of (subst (λ (o : Option ℕ). o ≡ Some j) here e)) has;
   takes = λ j e. absurd (some_none (subst (λ (o : Option ℕ). o ≡ Some j) none e));
 }
 
 -- one that takes an object in
-takes : {N S : Type 0} (past : List (Item N S)) (c : Control) (did : Did N S) (k i : ℕ) → acts_in c did ≡ None → taken_in did ≡ Some i → has_after i past ≡ None → IsBy past c did k
+pub takes : {N S : Type 0} (past : List (Item N S)) (c : Control) (did : Did N S) (k i : ℕ) → acts_in c did ≡ None → taken_in did ≡ Some i → has_after i past ≡ None → IsBy past c did k
 takes past c did k i none here free = record {
   acts = λ j e. absurd (some_none (subst (λ (o : Option ℕ). o ≡ Some j) none e));
   takes = λ j e. subst (λ (n : ℕ). has_after n past ≡ None) (some_of (subst (λ (o : Option ℕ). o ≡ Some j) here e)) free;
 }
 
 -- one of the root
-of_root : {N S : Type 0} (past : List (Item N S)) (c : Control) (did : Did N S) (k : ℕ) → acts_in c did ≡ None → taken_in did ≡ None → IsBy past c did k
+pub of_root : {N S : Type 0} (past : List (Item N S)) (c : Control) (did : Did N S) (k : ℕ) → acts_in c did ≡ None → taken_in did ≡ None → IsBy past c did k
 of_root past c did k no_act no_take = record {
   acts = λ j e. absurd (some_none (subst (λ (o : Option ℕ). o ≡ Some j) no_act e));
   takes = λ j e. absurd (some_none (subst (λ (o : Option ℕ). o ≡ Some j) no_take e));
 }
 
 -- one end joins, and is told its names
-told : {N S : Type 0} (items : List (Item N S)) (j : Joining N) → name_of items j.end ≡ Some j.written → name_of items (other_end j.end) ≡ Some j.read → All (IsTold items) (j ∷ [])
+pub told : {N S : Type 0} (items : List (Item N S)) (j : Joining N) → name_of items j.end ≡ Some j.written → name_of items (other_end j.end) ≡ Some j.read → All (IsTold items) (j ∷ [])
 told items j written read = one (IsTold items) j (record { written = written; read = read })
 
 pub trial_comes_out : TrialComesOut

@@ -20,7 +20,7 @@ use Rattle.control_moves.specs.Met.{EndMeets, met_by, MeetsCell, NeverMeets, Nev
 use Rattle.control_moves.proofs.GuardLemmas.{bind_may, term_came_may, ack_came_may, plug_end_may}
 
 -- an event that may come in a phase meets a cell that goes on
-meets_cell : (c : Control) → Kept c → (e : EndId) (event : PairEvent) → may event (end_half (pair c.rows e.pair.0) e.a) (end_half (pair c.rows e.pair.0) (not e.a)) ≡ true → MeetsCell c (record { end = e; event = event })
+pub meets_cell : (c : Control) → Kept c → (e : EndId) (event : PairEvent) → may event (end_half (pair c.rows e.pair.0) e.a) (end_half (pair c.rows e.pair.0) (not e.a)) ≡ true → MeetsCell c (record { end = e; event = event })
 meets_cell c kept e event comes =
     let phase = (inv_of (rows_of (kept_but 0 c kept))).phases e.pair.0 in
     (moves_on event e.a (pair c.rows e.pair.0) _ phase (moves_after event e.a (pair c.rows e.pair.0) phase comes)).1

@@ -1,11 +1,10 @@
 -- What a command that concerns no end needs, and what it does.
-use Rattle.std.specs.Prelude.{◌≡◌, ◌≢◌, ◌<◌, ◌≤◌, ◌+◌, ℕ, Bool, true, false, cond, List, [], ◌∷◌, Option, Some, length, map, sum_by, refl}
+use Rattle.std.specs.Prelude.{◌≡◌, ◌≢◌, ◌<◌, ◌≤◌, ◌+◌, ℕ, Bool, true, false, cond, List, [], ◌∷◌, Option, Some, length, map, refl}
 use Rattle.std.proofs.Common.{arith, sym, ap, ◌∙◌, subst}
 use Rattle.std.proofs.lemmas.Bool.{eq-eqb}
 use Rattle.std.proofs.lemmas.List.{get_or-set_other}
 use Rattle.std.proofs.lemmas.List.Sums.{get_or-le-sum_by}
 use Rattle.zq_base.specs.declared.ids.ObjId.{ObjId}
-use Rattle.zq_base.specs.declared.ids.SlotId.{SlotId}
 use Rattle.mailbox.specs.Mail.{Mail}
 use Rattle.spec_control.specs.declared.letter.Letter.{Letter}
 use Rattle.spec_control.specs.declared.letter.Word.{Word}
@@ -14,9 +13,7 @@ use Rattle.spec_control.specs.declared.stage.Stage.{Stage}
 use Rattle.spec_control.specs.declared.stage.Stage.TheVariants.{Alive, Told, Ending, Finished, Cleared}
 use Rattle.spec_control.specs.declared.entry.Joining.{Joining}
 use Rattle.spec_control.specs.declared.entry.PipeName.{PipeName}
-use Rattle.spec_control.specs.declared.entry.Answered.{Answered}
 use Rattle.spec_control.specs.declared.entry.Did.{Did}
-use Rattle.spec_control.specs.declared.entry.Did.TheVariants.{Delivered}
 use Rattle.spec_control.specs.declared.object.ObjState.TheVariants.{Ended}
 use Rattle.spec_control.specs.declared.stage.Use.{Use}
 use Rattle.spec_control.specs.declared.stage.Use.TheVariants.{Unused, OnItsWay, Used}
@@ -32,8 +29,6 @@ use Rattle.control_rows.proofs.StepLemmas.{same_owner, same_slot}
 use Rattle.control_laws.specs.Kept.{Kept}
 use Rattle.control_laws.proofs.RootLemmas.{oldest_lives}
 use Rattle.control_moves.specs.Coming.{ComesToOwner}
-use Rattle.control_moves.specs.Move.{Move, LinkMoves}
-use Rattle.control_moves.specs.OwnMoves.{word_moves}
 use Rattle.control_moves.proofs.SoundLemmas.{link_there}
 use Rattle.control_moves.proofs.GuardLemmas.{may_come}
 use Rattle.control_bounds.specs.Room.{down_to_come, up_to_come, row_to_come, for_slot, slots_of, to_come}
@@ -49,7 +44,7 @@ use Rattle.ctl_state.specs.Stands.{Stands, slot_of, HasRoomForAck}
 use Rattle.ctl_state.proofs.BareLemmas.{tells_not}
 use Rattle.ctl_state.proofs.ReadLemmas.{read_kept}
 use Rattle.ctl_history.specs.Past.{IsSilent}
-use Rattle.ctl_history.specs.Bare.{is_bare, HearsOf, Hears}
+use Rattle.ctl_history.specs.Bare.{HearsOf, Hears}
 use Rattle.ctl_history.proofs.CapacityLemmas.{taken_spare}
 
 -- ---- what may still come has its part in the sums
@@ -184,28 +179,3 @@ module _ {N S : Type 0} where
     settled = settles;
     output = leaves;
   }
-
-  pub bare_answered : (c : Control) (slot : SlotId) (to : ObjId) (word : Word) (h : Answered N S) → is_bare word ≡ true → IsSilent h → IsAnswered c (Delivered slot (record { to = to; word = word }) h)
-  bare_answered c slot to (Own child) h bare silent = silent_answered c _ silent refl refl silent.settled (λ left. absurd (never (sym silent.output ∙ left)))
-  bare_answered c slot to (Plug end) h bare silent = absurd (never bare)
-  bare_answered c slot to (TermReq child) h bare silent = silent_answered c _ silent refl refl silent.settled (λ left. absurd (never (sym silent.output ∙ left)))
-  bare_answered c slot to Term h bare silent = absurd (never bare)
-  bare_answered c slot to (TermAck child) h bare silent = silent_answered c _ silent refl refl silent.settled (λ left. absurd (never (sym silent.output ∙ left)))
-  bare_answered c slot to (PipeBind e peer) h bare silent = absurd (never bare)
-  bare_answered c slot to (PipeTerm e) h bare silent = absurd (never bare)
-  bare_answered c slot to (PipeTermAck e) h bare silent = absurd (never bare)
-  bare_answered c slot to Stop h bare silent = silent_answered c _ silent refl refl silent.settled (λ left. absurd (never (sym silent.output ∙ left)))
-  bare_answered c slot to (Reap socket) h bare silent = absurd (never bare)
-
--- a bare command makes nothing
-pub bare_makes : (f : Move → ℕ) → ((i : ℕ) (event : LinkEvent) → f (LinkMoves i event) ≡ 0) → (at : ℕ) (word : Word) → is_bare word ≡ true → sum_by f (word_moves at word) ≡ 0
-bare_makes f none at (Own child) bare = let a = none child.0 OwnComes in omega (arith, a)
-bare_makes f none at (Plug end) bare = absurd (never bare)
-bare_makes f none at (TermReq child) bare = let a = none child.0 RequestComes in omega (arith, a)
-bare_makes f none at Term bare = absurd (never bare)
-bare_makes f none at (TermAck child) bare = let a = none child.0 AckComes in omega (arith, a)
-bare_makes f none at (PipeBind e peer) bare = absurd (never bare)
-bare_makes f none at (PipeTerm e) bare = absurd (never bare)
-bare_makes f none at (PipeTermAck e) bare = absurd (never bare)
-bare_makes f none at Stop bare = let a = none at StopComes in omega (arith, a)
-bare_makes f none at (Reap socket) bare = absurd (never bare)

@@ -1,5 +1,5 @@
 -- What is kept at a context's making.
-use Rattle.std.specs.Prelude.{◌≡◌, ◌<◌, ◌≤◌, ◌⊎◌, ◌+◌, ◌==◌, ℕ, Bool, cond, List, [], length, replicate, refl}
+use Rattle.std.specs.Prelude.{◌≡◌, ◌<◌, ◌≤◌, ◌⊎◌, ◌+◌, ◌^◌, ◌==◌, ℕ, Bool, cond, List, [], length, replicate, refl}
 use Rattle.std.proofs.Common.{arith, sym, ap, ◌∙◌, subst, inl, inr}
 use Rattle.std.proofs.lemmas.Bool.{cases_eq, ne_eqb}
 use Rattle.std.proofs.lemmas.List.{get_or-set_same, length-set, length-replicate}
@@ -15,12 +15,13 @@ use Rattle.ctl_state.specs.Stands.{Stands}
 use Rattle.spec_control.specs.declared.entry.Did.{Did}
 use Rattle.ctl_history.specs.Past.{IsHistory}
 
-module _ {L N S : Type 0} where
+module _ {L G N S : Type 0} where
   -- with room for the root's Term in its mailbox, and for its asking and its end in the history
-  pub begins : (s : State L) (workers spare : ℕ) (empty : List (Mail (Command L))) → Stands s (begun workers) → empty ≡ replicate (workers + 1) no_mail →
+  pub begins : (s : State L) (workers spare : ℕ) (empty : List (Mail (Command L))) → workers < 2 ^ 31 → Stands s (begun workers) → empty ≡ replicate (workers + 1) no_mail →
       s.boxes ≡ with_mail 0 (with_spare ((mail_at empty 0).spare + 1) (mail_at empty 0)) empty → 2 ≤ spare →
-      IsHistory {L = L} {N = N} {S = S} s (record { workers = workers; events = [] }) spare
-  begins s workers spare empty stands none is room = record {
+      IsHistory {L = L} {G = G} {N = N} {S = S} s (record { workers = workers; events = []; given = [] }) spare
+  begins s workers spare empty few stands none is room = record {
+    few = few;
     run = tt;
     stands = stands;
     room = λ m. at m (cases_eq m 0);
@@ -54,8 +55,8 @@ module _ {L N S : Type 0} where
           omega (arith, most, none_here)
 
   -- the same with the history's list, which has no event yet
-  pub begins_now : (s : State L) (workers : ℕ) (empty : List (Mail (Command L))) (l : Listed (Did N S)) → Stands s (begun workers) → empty ≡ replicate (workers + 1) no_mail →
+  pub begins_now : (s : State L) (workers : ℕ) (empty : List (Mail (Command L))) (l : Listed (Did N S)) → workers < 2 ^ 31 → Stands s (begun workers) → empty ≡ replicate (workers + 1) no_mail →
       s.boxes ≡ with_mail 0 (with_spare ((mail_at empty 0).spare + 1) (mail_at empty 0)) empty → l ≡ with_room 2 no_list →
-      IsHistory s (record { workers = workers; events = l.items }) l.spare
-  begins_now s workers empty l stands none is room =
-      subst (λ (x : Listed (Did N S)). IsHistory s (record { workers = workers; events = x.items }) x.spare) (sym room) (begins s workers 2 empty stands none is (omega arith))
+      IsHistory {L = L} {G = G} {N = N} {S = S} s (record { workers = workers; events = l.items; given = [] }) l.spare
+  begins_now s workers empty l few stands none is room =
+      subst (λ (x : Listed (Did N S)). IsHistory {L = L} {G = G} {N = N} {S = S} s (record { workers = workers; events = x.items; given = [] }) x.spare) (sym room) (begins s workers 2 empty few stands none is (omega arith))

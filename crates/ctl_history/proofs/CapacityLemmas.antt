@@ -8,7 +8,7 @@ use Rattle.spec_control.specs.declared.letter.Letter.{Letter}
 use Rattle.spec_control.specs.Control.{Control}
 use Rattle.ctl_state.specs.declared.command.Command.{Command}
 use Rattle.ctl_state.specs.declared.state.State.{State}
-use Rattle.ctl_state.specs.Boxes.{mail_at, with_mail, Takes}
+use Rattle.ctl_state.specs.Boxes.{mail_at, with_mail, Takes, PutsBare}
 use Rattle.ctl_state.specs.Parts.{Tells}
 use Rattle.ctl_state.specs.Stands.{Stands}
 use Rattle.ctl_state.proofs.StandLemmas.{roomy}
@@ -25,13 +25,16 @@ module _ {L : Type 0} where
   mail_length s c h m = sym (ap (λ (ls : List Letter). length ls) (h.boxes.each m)) ∙ length-map (mail_at s.boxes m).commands (λ (x : Command L). x.letter)
 
   -- commands were put in room that was kept
-  pub told_capacity : (s t : State L) → Tells s t → (m : ℕ) → capacity t.boxes m ≡ capacity s.boxes m
-  told_capacity s t h m =
-      let g = h.bare.grows m in
+  pub puts_capacity : (old new : List (Mail (Command L))) → PutsBare old new → (m : ℕ) → capacity new m ≡ capacity old m
+  puts_capacity old new h m =
+      let g = h.grows m in
       let all = ap (λ (xs : List (Command L)). length xs) g.commands in
-      let parts = length-append (mail_at s.boxes m).commands g.more in
+      let parts = length-append (mail_at old m).commands g.more in
       let spare = g.spare in
       omega (arith, all, parts, spare)
+
+  pub told_capacity : (s t : State L) → Tells s t → (m : ℕ) → capacity t.boxes m ≡ capacity s.boxes m
+  told_capacity s t h m = puts_capacity s.boxes t.boxes h.bare m
 
   -- one was taken
   pub taken_capacity : (k : ℕ) (command : Command L) (old new : List (Mail (Command L))) → Takes k command old new → (m : ℕ) → capacity new m + cond (k == m) 1 0 ≡ capacity old m

@@ -1,11 +1,10 @@
 -- That the calls of a history add the event that they say.
-use Rattle.std.specs.Prelude.{◌≡◌, ◌<◌, ◌+◌, ◌-◌, ℕ, Bool, true, false, List, [], ◌∷◌, ◌++◌, Option, not, if◌then◌else◌, length, refl}
+use Rattle.std.specs.Prelude.{◌≡◌, ◌<◌, ◌-◌, ℕ, Bool, true, false, List, [], ◌∷◌, ◌++◌, Option, not, if◌then◌else◌, length, refl}
 use Rattle.std.proofs.Common.{arith, sym, ap, ◌∙◌, subst}
 use Rattle.std.proofs.lemmas.List.{length-set}
 use Rattle.zq_base.specs.declared.ids.ObjId.{ObjId}
 use Rattle.zq_base.specs.declared.ids.SlotId.{SlotId}
 use Rattle.mailbox.specs.Mail.{Mail, no_mail, with_sent, with_put_back}
-use Rattle.spec_control.specs.declared.letter.Letter.{Letter}
 use Rattle.spec_control.specs.declared.letter.Word.TheVariants.{Reap}
 use Rattle.spec_control.specs.declared.request.Req.{Req}
 use Rattle.spec_control.specs.declared.request.Req.TheVariants.{Close, AskTerm}
@@ -13,21 +12,20 @@ use Rattle.spec_control.specs.declared.request.Refusal.{Refusal}
 use Rattle.spec_control.specs.declared.request.Reply.TheVariants.{Done, Asked as WasAsked, Before, Refused}
 use Rattle.spec_control.specs.declared.entry.Answered.{Answered}
 use Rattle.spec_control.specs.declared.entry.Did.{Did}
-use Rattle.spec_control.specs.declared.entry.Did.TheVariants.{Asked, Delivered}
+use Rattle.spec_control.specs.declared.entry.Did.TheVariants.{Asked}
 use Rattle.spec_control.specs.Row.{Row, nobody, AsksOver, RootAsked, link_after}
 use Rattle.spec_control.specs.Rows.{obj}
 use Rattle.spec_control.specs.PairPhase.{behind_first}
 use Rattle.spec_control.specs.Stage.{is_alive}
 use Rattle.spec_control.specs.Reply.{reply_of}
 use Rattle.spec_control.specs.Control.{Control, link, put, stop_sockets, try_end}
-use Rattle.spec_control.specs.After.{Answers, answers_in, after, processed, without_front}
-use Rattle.spec_control.specs.ControlRun.{Fits, IsOpenSocket, MayAsk, MayDeliver}
+use Rattle.spec_control.specs.After.{without_front}
+use Rattle.spec_control.specs.ControlRun.{Fits, IsOpenSocket, MayAsk}
 use Rattle.control_rows.proofs.StepLemmas.{inv_of, same_slot}
 use Rattle.control_laws.proofs.EndLemmas.{kept_but}
 use Rattle.control_laws.proofs.JoinLemmas.{open_is, socket_owned}
 use Rattle.control_laws.proofs.TellLemmas.{rows_of}
 use Rattle.control_moves.proofs.SoundLemmas.{socket_there}
-use Rattle.control_bounds.specs.Room.{move_room, slots_of}
 use Rattle.own_tree.specs.declared.row.Row.{Row as TreeRow}
 use Rattle.ctl_state.specs.declared.command.Command.{Command}
 use Rattle.ctl_state.specs.declared.state.State.{State}
@@ -36,11 +34,11 @@ use Rattle.ctl_state.specs.Listed.{Listed, with_last, with_room}
 use Rattle.ctl_state.specs.Parts.{on_boxes, on_tree, sent_to, Tells}
 use Rattle.ctl_state.specs.Stands.{Stands, Updates, letter_for, slot_of}
 use Rattle.ctl_state.proofs.ReadLemmas.{read_kept}
-use Rattle.ctl_history.specs.Past.{Past, control_of, with_event, IsHistory, IsSilent}
-use Rattle.ctl_history.specs.Bare.{is_bare, Hears}
-use Rattle.ctl_history.proofs.CapacityLemmas.{capacity, taken_spare, told_capacity, taken_capacity, sent_capacity}
-use Rattle.ctl_history.proofs.EventLemmas.{MakesNothing, kept_past, one_foreseen, one_noted, roomier, has_entry, objects_made, pairs_drawn}
-use Rattle.ctl_history.proofs.BareLemmas.{ack_to_come, hears, silent_answered, bare_answered, bare_makes}
+use Rattle.ctl_history.specs.Past.{Past, control_of, with_event, with_given, IsHistory, IsSilent}
+use Rattle.ctl_history.specs.Bare.{Hears}
+use Rattle.ctl_history.proofs.CapacityLemmas.{capacity, taken_spare, told_capacity, sent_capacity}
+use Rattle.ctl_history.proofs.EventLemmas.{MakesNothing, kept_past, one_foreseen, one_noted, has_entry}
+use Rattle.ctl_history.proofs.BareLemmas.{ack_to_come, hears, silent_answered}
 
 module _ {L : Type 0} where
   -- the order of closing is not kept
@@ -58,7 +56,7 @@ module _ {L : Type 0} where
   }
 
 module _ {N S : Type 0} where
-  abbrev now_closed : Past N S → ObjId → Control
+  abbrev now_closed : {G : Type 0} → Past G N S → ObjId → Control
   now_closed p o = record (control_of p) { closed = (control_of p).closed ++ o ∷ [] }
 
   close_fits : (c : Control) (o : ObjId) (a : Answered N S) → IsOpenSocket (obj c.rows o.0) → IsSilent a → Fits c (Asked (Close o) Done a)
@@ -66,18 +64,6 @@ module _ {N S : Type 0} where
 
   close_makes : (c : Control) (o : ObjId) (a : Answered N S) → MakesNothing c (Asked (Close o) Done a)
   close_makes c o a = record { no_room = λ m. refl; no_entries = refl; no_objects = refl; no_pairs = refl; foreseen = refl }
-
-  bare_fits : (c : Control) (slot : SlotId) (letter : Letter) (a : Answered N S) → is_bare letter.word ≡ true → IsSilent a → MayDeliver c slot.0 letter → Fits c (Delivered slot letter a)
-  bare_fits c slot letter a bare silent may = record { may = may; answered = bare_answered c slot letter.to letter.word a bare silent }
-
-  bare_nothing : (c : Control) (slot : SlotId) (letter : Letter) (a : Answered N S) → is_bare letter.word ≡ true → MakesNothing c (Delivered slot letter a)
-  bare_nothing c slot letter a bare = record {
-    no_room = λ m. bare_makes (move_room (slots_of (after (Delivered slot letter a) c).rows) m) (λ i event. refl) letter.to.0 letter.word bare;
-    no_entries = refl;
-    no_objects = bare_makes objects_made (λ i event. refl) letter.to.0 letter.word bare;
-    no_pairs = bare_makes pairs_drawn (λ i event. refl) letter.to.0 letter.word bare;
-    foreseen = refl;
-  }
 
   ask_fits : (c : Control) (a : Answered N S) → is_alive (obj c.rows 0).stage ≡ true → IsSilent a → Fits c (Asked AskTerm WasAsked a)
   ask_fits c a alive silent = record {
@@ -88,20 +74,29 @@ module _ {N S : Type 0} where
   ask_makes : (c : Control) (a : Answered N S) → MakesNothing c (Asked AskTerm WasAsked a)
   ask_makes c a = record { no_room = λ m. refl; no_entries = refl; no_objects = refl; no_pairs = refl; foreseen = refl }
 
+module _ {G N S : Type 0} where
   -- the list of events with one more
-  pub event_now : (old : Past N S) (workers : ℕ) (l now : Listed (Did N S)) (did : Did N S) → old ≡ record { workers = workers; events = l.items } → now ≡ with_last did l →
-      ◌≡◌ {A = Past N S} (record { workers = workers; events = now.items }) (with_event did old)
-  event_now old workers l now did was is =
-      ap (λ (x : Listed (Did N S)). let y : Past N S = record { workers = workers; events = x.items } in y) is ∙ ap (with_event did) (sym was)
+  pub event_now : (old : Past G N S) (workers : ℕ) (l now : Listed (Did N S)) (given later : List G) (did : Did N S) → old ≡ record { workers = workers; events = l.items; given = given } → now ≡ with_last did l → later ≡ given →
+      ◌≡◌ {A = Past G N S} (record { workers = workers; events = now.items; given = later }) (with_event did old)
+  event_now old workers l now given later did was is same =
+      ap (λ (x : Listed (Did N S)). let y : Past G N S = record { workers = workers; events = x.items; given = later } in y) is
+      ∙ ap (λ (gs : List G). let y : Past G N S = record { workers = workers; events = l.items ++ did ∷ []; given = gs } in y) same ∙ ap (with_event did) (sym was)
 
-  pub noted_event : (old : Past N S) (workers : ℕ) (l mid now : Listed (Did N S)) (did : Did N S) → old ≡ record { workers = workers; events = l.items } → mid ≡ with_room 1 l → now ≡ with_last did mid →
-      ◌≡◌ {A = Past N S} (record { workers = workers; events = now.items }) (with_event did old)
-  noted_event old workers l mid now did was more is = event_now old workers (with_room 1 l) now did was (is ∙ ap (with_last did) more)
+  -- and the ends of a closed socket that are on their way then
+  pub event_given : (old : Past G N S) (workers : ℕ) (l now : Listed (Did N S)) (given later gs : List G) (did : Did N S) → old ≡ record { workers = workers; events = l.items; given = given } → now ≡ with_last did l → later ≡ given ++ gs →
+      ◌≡◌ {A = Past G N S} (record { workers = workers; events = now.items; given = later }) (with_given gs (with_event did old))
+  event_given old workers l now given later gs did was is same =
+      ap (λ (x : Listed (Did N S)). let y : Past G N S = record { workers = workers; events = x.items; given = later } in y) is
+      ∙ ap (λ (xs : List G). let y : Past G N S = record { workers = workers; events = l.items ++ did ∷ []; given = xs } in y) same ∙ ap (λ (y : Past G N S). with_given gs (with_event did y)) (sym was)
 
-module _ {L N S : Type 0} where
+  pub noted_event : (old : Past G N S) (workers : ℕ) (l mid now : Listed (Did N S)) (given later : List G) (did : Did N S) → old ≡ record { workers = workers; events = l.items; given = given } → mid ≡ with_room 1 l → now ≡ with_last did mid → later ≡ given →
+      ◌≡◌ {A = Past G N S} (record { workers = workers; events = now.items; given = later }) (with_event did old)
+  noted_event old workers l mid now given later did was more is same = event_now old workers (with_room 1 l) now given later did was (is ∙ ap (with_last did) more) same
+
+module _ {L G N S : Type 0} where
   -- ---- a close
   -- the Reap of an open socket has room in the root's mailbox
-  pub reap_room : (s t : State L) (p : Past N S) (spare : ℕ) (o : ObjId) → IsHistory s p spare → IsOpenSocket (obj (control_of p).rows o.0) → Updates (link AsksOver o.0) s t → t.boxes ≡ s.boxes →
+  pub reap_room : (s t : State L) (p : Past G N S) (spare : ℕ) (o : ObjId) → IsHistory s p spare → IsOpenSocket (obj (control_of p).rows o.0) → Updates (link AsksOver o.0) s t → t.boxes ≡ s.boxes →
       0 < (mail_at t.boxes (slot_of t 0)).spare
   reap_room s t p spare o h is_open updates boxes =
       let c = control_of p in
@@ -115,10 +110,10 @@ module _ {L N S : Type 0} where
       subst (λ (b : List (Mail (Command L))). 0 < (mail_at b (slot_of t 0)).spare) (sym boxes)
       (subst (λ (n : ℕ). 0 < (mail_at s.boxes n).spare) slot (omega (arith, some, most)))
 
-  pub close_entry : (s : State L) (p : Past N S) (spare : ℕ) (o : ObjId) (a : Answered N S) → IsHistory s p spare → IsOpenSocket (obj (control_of p).rows o.0) → IsSilent a → 0 < spare
+  pub close_entry : (s : State L) (p : Past G N S) (spare : ℕ) (o : ObjId) (a : Answered N S) → IsHistory s p spare → IsOpenSocket (obj (control_of p).rows o.0) → IsSilent a → 0 < spare
   close_entry s p spare o a h is_open silent = has_entry s p (Asked (Close o) Done a) spare h (close_fits (control_of p) o a is_open silent) refl refl
 
-  pub closes : (s mid t : State L) (p : Past N S) (spare : ℕ) (o : ObjId) (load : Option L) (a : Answered N S) (f : List TreeRow → List TreeRow) → IsHistory s p spare →
+  pub closes : (s mid t : State L) (p : Past G N S) (spare : ℕ) (o : ObjId) (load : Option L) (a : Answered N S) (f : List TreeRow → List TreeRow) → IsHistory s p spare →
       IsOpenSocket (obj (control_of p).rows o.0) → IsSilent a → Updates (link AsksOver o.0) s mid → mid ≡ on_tree f s → Updates (put 0 (Reap o)) mid t →
       t ≡ sent_to (slot_of mid 0) (letter_for (record { 0 = 0 }) (Reap o) load) mid → IsHistory t (with_event (Asked (Close o) Done a) p) (spare - 1)
   closes s mid t p spare o load a f h is_open silent first mid_is last is =
@@ -140,30 +135,18 @@ module _ {L N S : Type 0} where
 
   -- ---- a delivery
   -- what a command that was taken needs
-  pub taken_hears : (s mid : State L) (p : Past N S) (spare : ℕ) (slot : SlotId) (command : Command L) → IsHistory s p spare → Takes slot.0 command s.boxes mid.boxes →
+  pub taken_hears : (s mid : State L) (p : Past G N S) (spare : ℕ) (slot : SlotId) (command : Command L) → IsHistory s p spare → Takes slot.0 command s.boxes mid.boxes →
       (control_of p).boxes slot.0 ≡ command.letter ∷ behind_first ((control_of p).boxes slot.0) → Hears mid command.letter.to.0 command.letter.word (without_front slot.0 (control_of p))
   taken_hears s mid p spare slot command h took is =
       hears s mid (control_of p) (kept_past p h.run) h.room slot.0 command took command.letter.to.0 command.letter.word _ is
 
-  pub bare_entry : (s : State L) (p : Past N S) (spare : ℕ) (slot : SlotId) (letter : Letter) (a : Answered N S) → IsHistory s p spare → is_bare letter.word ≡ true → IsSilent a → MayDeliver (control_of p) slot.0 letter → 0 < spare
-  bare_entry s p spare slot letter a h bare silent may = has_entry s p (Delivered slot letter a) spare h (bare_fits (control_of p) slot letter a bare silent may) refl refl
-
-  pub hears_bare : (s mid t : State L) (p : Past N S) (spare : ℕ) (slot : SlotId) (command : Command L) (a : Answered N S) → IsHistory s p spare → is_bare command.letter.word ≡ true → IsSilent a →
-      MayDeliver (control_of p) slot.0 command.letter → Takes slot.0 command s.boxes mid.boxes → Updates (without_front slot.0) s mid →
-      ((h : Answers) → h.left ≡ false → Updates (processed command.letter.to.0 command.letter.word h) mid t) → Tells mid t →
-      IsHistory t (with_event (Delivered slot command.letter a) p) (spare - 1)
-  hears_bare s mid t p spare slot command a h bare silent may took first second tells =
-      one_foreseen s t p (Delivered slot command.letter a) spare h (bare_fits (control_of p) slot command.letter a bare silent may)
-      (second (answers_in a) silent.output (without_front slot.0 (control_of p)) (first (control_of p) h.stands)) (bare_nothing (control_of p) slot command.letter a bare)
-      (λ m. (let told = told_capacity mid t tells m in let taken = taken_capacity slot.0 command s.boxes mid.boxes took m in omega (arith, told, taken)))
-      (tells.bare.many ∙ took.many)
-
   -- a command that was put back
-  pub goes_back : (s mid heard t : State L) (p : Past N S) (spare : ℕ) (slot : SlotId) (command : Command L) → IsHistory s p spare → Takes slot.0 command s.boxes mid.boxes → heard ≡ mid →
+  pub goes_back : (s mid heard t : State L) (p : Past G N S) (spare : ℕ) (slot : SlotId) (command : Command L) → IsHistory s p spare → Takes slot.0 command s.boxes mid.boxes → heard ≡ mid →
       Stands mid (without_front slot.0 (control_of p)) → (control_of p).boxes slot.0 ≡ command.letter ∷ behind_first ((control_of p).boxes slot.0) →
       ((c : Control) → Stands heard (without_front slot.0 c) → c.boxes slot.0 ≡ command.letter ∷ behind_first (c.boxes slot.0) → Stands t c) →
       t ≡ on_boxes (with_mail slot.0 (with_put_back command (mail_at heard.boxes slot.0))) heard → IsHistory t p spare
   goes_back s mid heard t p spare slot command h took same stands oldest back is = record {
+    few = h.few;
     run = h.run;
     stands = back (control_of p) (subst (λ (x : State L). Stands x (without_front slot.0 (control_of p))) (sym same) stands) oldest;
     room = λ m. (let most = h.room m in let was = taken_spare slot.0 command s.boxes mid.boxes took m in let now = spare_now m in omega (arith, most, was, now));
@@ -185,12 +168,12 @@ module _ {L N S : Type 0} where
       many_now : length t.boxes ≡ length mid.boxes
       many_now = ap (λ (b : List (Mail (Command L))). length b) boxes_are ∙ length-set mid.boxes slot.0 _
 
-module _ {L N S : Type 0} where
+module _ {L G N S : Type 0} where
   -- ---- the root's asking
-  pub ask_entry : (s : State L) (p : Past N S) (spare : ℕ) (a : Answered N S) → IsHistory s p spare → is_alive (obj (control_of p).rows 0).stage ≡ true → IsSilent a → 0 < spare
+  pub ask_entry : (s : State L) (p : Past G N S) (spare : ℕ) (a : Answered N S) → IsHistory s p spare → is_alive (obj (control_of p).rows 0).stage ≡ true → IsSilent a → 0 < spare
   ask_entry s p spare a h alive silent = has_entry s p (Asked AskTerm WasAsked a) spare h (ask_fits (control_of p) a alive silent) refl refl
 
-  pub asks : (s t : State L) (p : Past N S) (spare : ℕ) (a : Answered N S) → IsHistory s p spare → is_alive (obj (control_of p).rows 0).stage ≡ true → IsSilent a →
+  pub asks : (s t : State L) (p : Past G N S) (spare : ℕ) (a : Answered N S) → IsHistory s p spare → is_alive (obj (control_of p).rows 0).stage ≡ true → IsSilent a →
       Updates (λ c. try_end 0 false (stop_sockets (length c.rows.objects) (link RootAsked 0 c))) s t → Tells s t → IsHistory t (with_event (Asked AskTerm WasAsked a) p) (spare - 1)
   asks s t p spare a h alive silent updates tells =
       one_foreseen s t p (Asked AskTerm WasAsked a) spare h (ask_fits (control_of p) a alive silent)
@@ -198,7 +181,7 @@ module _ {L N S : Type 0} where
       (ask_makes (control_of p) a) (λ m. (let told = told_capacity s t tells m in omega (arith, told))) tells.bare.many
 
   -- ---- an answer that changes nothing
-  pub asks_again : (s : State L) (p : Past N S) (spare : ℕ) (a : Answered N S) → IsHistory s p spare → is_alive (obj (control_of p).rows 0).stage ≡ false → IsSilent a → IsHistory s (with_event (Asked AskTerm Before a) p) spare
+  pub asks_again : (s : State L) (p : Past G N S) (spare : ℕ) (a : Answered N S) → IsHistory s p spare → is_alive (obj (control_of p).rows 0).stage ≡ false → IsSilent a → IsHistory s (with_event (Asked AskTerm Before a) p) spare
   asks_again s p spare a h asked silent =
       one_noted s p (Asked AskTerm Before a) spare h
       (record {
@@ -206,21 +189,8 @@ module _ {L N S : Type 0} where
         answered = silent_answered (control_of p) (Asked AskTerm Before a) silent refl refl silent.settled silent.output;
       }) refl refl (omega arith)
 
-  pub refuses : (s : State L) (p : Past N S) (spare : ℕ) (req : Req) (refusal : Refusal) (a : Answered N S) → IsHistory s p spare → MayAsk (control_of p) req → reply_of (control_of p) req ≡ Refused refusal → IsSilent a →
+  pub refuses : (s : State L) (p : Past G N S) (spare : ℕ) (req : Req) (refusal : Refusal) (a : Answered N S) → IsHistory s p spare → MayAsk (control_of p) req → reply_of (control_of p) req ≡ Refused refusal → IsSilent a →
       IsHistory s (with_event (Asked req (Refused refusal) a) p) spare
   refuses s p spare req refusal a h may refused silent =
       one_noted s p (Asked req (Refused refusal) a) spare h
       (record { may = (may, sym refused); answered = silent_answered (control_of p) (Asked req (Refused refusal) a) silent refl refl silent.settled silent.output }) refl refl (omega arith)
-
--- ---- the history's list
-module _ {L N S : Type 0} where
-  -- the invariant with the entry in its list
-  pub listed_now : (t : State L) (workers : ℕ) (l now : Listed (Did N S)) (did : Did N S) → now ≡ with_last did l →
-      IsHistory t (with_event did (record { workers = workers; events = l.items })) (l.spare - 1) → IsHistory t (record { workers = workers; events = now.items }) now.spare
-  listed_now t workers l now did is h = subst (λ (x : Listed (Did N S)). IsHistory t (record { workers = workers; events = x.items }) x.spare) (sym is) h
-
-  -- the same with room for one entry more
-  pub noted_now : (t : State L) (workers : ℕ) (l mid now : Listed (Did N S)) (did : Did N S) → mid ≡ with_room 1 l → now ≡ with_last did mid →
-      IsHistory t (with_event did (record { workers = workers; events = l.items })) l.spare → IsHistory t (record { workers = workers; events = now.items }) now.spare
-  noted_now t workers l mid now did more is h =
-      listed_now t workers (with_room 1 l) now did (is ∙ ap (with_last did) more) (roomier t _ l.spare (l.spare + 1 - 1) (omega arith) h)

@@ -26,10 +26,11 @@ use Rattle.control_bounds.specs.History.{entries_left, foreseen_in, entries_rese
 use Rattle.control_bounds.proofs.RoomLemmas.{room_is_kept}
 use Rattle.control_bounds.proofs.HistoryLemmas.{history_room_is_kept}
 use Rattle.ctl_state.specs.declared.state.State.{State}
-use Rattle.ctl_state.specs.Boxes.{mail_at}
+use Rattle.ctl_state.specs.Boxes.{mail_at, PutsBare}
 use Rattle.ctl_state.specs.Stands.{Stands}
 use Rattle.ctl_history.specs.Past.{Past, as_item, control_of, with_event, IsPast, IsHistory}
-use Rattle.ctl_history.proofs.CapacityLemmas.{capacity, mail_length}
+use Rattle.ctl_state.proofs.BareLemmas.{bare_not}
+use Rattle.ctl_history.proofs.CapacityLemmas.{capacity, mail_length, puts_capacity}
 
 -- ---- one event more
 module _ {N S : Type 0} where
@@ -41,17 +42,18 @@ module _ {N S : Type 0} where
   run_more [] item c run fits = (fits, tt)
   run_more (x ∷ items) item c run fits = (run.0, run_more items item (after_item x c) run.1 fits)
 
-  pub control_more : (p : Past N S) (did : Did N S) → control_of (with_event did p) ≡ after did (control_of p)
+module _ {G N S : Type 0} where
+  pub control_more : (p : Past G N S) (did : Did N S) → control_of (with_event did p) ≡ after did (control_of p)
   control_more p did =
       ap (λ (items : List (Item N S)). after_all items (begun p.workers)) (map-append as_item p.events (did ∷ []))
       ∙ after_more (map as_item p.events) (as_item did) (begun p.workers)
 
-  past_more : (p : Past N S) (did : Did N S) → IsPast p → Fits (control_of p) did → IsPast (with_event did p)
+  past_more : (p : Past G N S) (did : Did N S) → IsPast p → Fits (control_of p) did → IsPast (with_event did p)
   past_more p did run fits =
       subst (λ (items : List (Item N S)). IsControlRun (begun p.workers) items) (sym (map-append as_item p.events (did ∷ [])))
       (run_more (map as_item p.events) (as_item did) (begun p.workers) run fits)
 
-  pub kept_past : (p : Past N S) → IsPast p → Kept (control_of p)
+  pub kept_past : (p : Past G N S) → IsPast p → Kept (control_of p)
   kept_past p run = runs_are_kept N S p.workers (map as_item p.events) run
 
 -- ---- how many objects and pairs there are then
@@ -110,7 +112,7 @@ module _ {N S : Type 0} (c : Control) (did : Did N S) (kept : Kept c) (fits : Fi
       let same = ap (λ (r : Rows). length r.objects) (taken_rows did c) in
       omega (arith, grown, same)
 
-  pairs_after : next_pair (after did c) ≡ next_pair c + sum_by pairs_drawn (own_moves c did)
+  pub pairs_after : next_pair (after did c) ≡ next_pair c + sum_by pairs_drawn (own_moves c did)
   pairs_after =
       let grown = goes_grow (λ s. length s.pairs) pairs_drawn pairs_free pairs_step (own_moves c did) (having_taken did c) (after did c) (event_goes c did kept fits) in
       let same = ap (λ (r : Rows). length r.pairs) (taken_rows did c) in
@@ -126,9 +128,9 @@ module _ {N S : Type 0} where
     pub foreseen : foreseen_in did ≡ 1
 
 -- ---- an event that the code has done
-module _ {L N S : Type 0} where
+module _ {L G N S : Type 0} where
   -- the new state stands for what the event leads to; room for what it made was kept, in the mailboxes and in the history, and there are not too many
-  pub record GoesOn (s t : State L) (p : Past N S) (did : Did N S) (spare later : ℕ) : Type 0 where
+  pub record GoesOn (s t : State L) (p : Past G N S) (did : Did N S) (spare later : ℕ) : Type 0 where
     pub fits : Fits (control_of p) did
     pub stands : Stands t (after did (control_of p))
     pub room : (m : ℕ) → capacity s.boxes m + reserved (control_of p) did m ≤ capacity t.boxes m + took_from did m
@@ -137,8 +139,9 @@ module _ {L N S : Type 0} where
     pub pairs : next_pair (control_of p) + sum_by pairs_drawn (own_moves (control_of p) did) ≤ most_made_pairs + 1
     pub boxes : length t.boxes ≤ length s.boxes + sum_by objects_made (own_moves (control_of p) did)
 
-  pub one_more : (s t : State L) (p : Past N S) (did : Did N S) (spare later : ℕ) → IsHistory s p spare → GoesOn s t p did spare later → IsHistory t (with_event did p) later
+  pub one_more : (s t : State L) (p : Past G N S) (did : Did N S) (spare later : ℕ) → IsHistory s p spare → GoesOn s t p did spare later → IsHistory t (with_event did p) later
   one_more s t p did spare later h g = record {
+    few = h.few;
     run = past_more p did h.run g.fits;
     stands = subst (λ (d : Control). Stands t d) (sym same) g.stands;
     room = λ m. subst (λ (d : Control). to_come d m ≤ (mail_at t.boxes m).spare) (sym same) (room m);
@@ -182,14 +185,14 @@ module _ {L N S : Type 0} where
           omega (arith, law, were, are)
 
   -- where an entry was foreseen and nothing is made, the history has room for it
-  pub has_entry : (s : State L) (p : Past N S) (did : Did N S) (spare : ℕ) → IsHistory s p spare → Fits (control_of p) did → foreseen_in did ≡ 1 → entries_reserved (control_of p) did ≡ 0 → 0 < spare
+  pub has_entry : (s : State L) (p : Past G N S) (did : Did N S) (spare : ℕ) → IsHistory s p spare → Fits (control_of p) did → foreseen_in did ≡ 1 → entries_reserved (control_of p) did ≡ 0 → 0 < spare
   has_entry s p did spare h fits foreseen none =
       let law = history_room_is_kept N S p.workers (map as_item p.events) h.run did fits in
       let most = h.entries in
       omega (arith, law, most, foreseen, none)
 
   -- such an event, with its entry in room that was kept
-  pub one_foreseen : (s t : State L) (p : Past N S) (did : Did N S) (spare : ℕ) → IsHistory s p spare → Fits (control_of p) did → Stands t (after did (control_of p)) →
+  pub one_foreseen : (s t : State L) (p : Past G N S) (did : Did N S) (spare : ℕ) → IsHistory s p spare → Fits (control_of p) did → Stands t (after did (control_of p)) →
       MakesNothing (control_of p) did → ((m : ℕ) → capacity s.boxes m ≤ capacity t.boxes m + took_from did m) → length t.boxes ≡ length s.boxes →
       IsHistory t (with_event did p) (spare - 1)
   one_foreseen s t p did spare h fits stands nothing room boxes =
@@ -204,8 +207,9 @@ module _ {L N S : Type 0} where
       })
 
   -- more room for entries does no harm
-  pub roomier : (s : State L) (p : Past N S) (spare more : ℕ) → spare ≤ more → IsHistory s p spare → IsHistory s p more
+  pub roomier : (s : State L) (p : Past G N S) (spare more : ℕ) → spare ≤ more → IsHistory s p spare → IsHistory s p more
   roomier s p spare more less h = record {
+    few = h.few;
     run = h.run;
     stands = h.stands;
     room = h.room;
@@ -216,16 +220,22 @@ module _ {L N S : Type 0} where
     boxes = h.boxes;
   }
 
-  -- an event that changes nothing, with an entry in room of its own
-  pub one_noted : (s : State L) (p : Past N S) (did : Did N S) (spare : ℕ) → IsHistory s p spare → Fits (control_of p) did → after did (control_of p) ≡ control_of p → own_moves (control_of p) did ≡ [] →
-      entries_reserved (control_of p) did ≡ 0 → IsHistory s (with_event did p) spare
-  one_noted s p did spare h fits stays none free =
-      one_more s s p did spare spare h (record {
+  -- an event that makes nothing, with an entry in room of its own; commands with no load were put at the most
+  pub one_brought : (s t : State L) (p : Past G N S) (did : Did N S) (spare : ℕ) → IsHistory s p spare → Fits (control_of p) did → Stands t (after did (control_of p)) → own_moves (control_of p) did ≡ [] →
+      entries_reserved (control_of p) did ≡ 0 → PutsBare s.boxes t.boxes → IsHistory t (with_event did p) spare
+  one_brought s t p did spare h fits stands none free puts =
+      one_more s t p did spare spare h (record {
         fits = fits;
-        stands = subst (λ (c : Control). Stands s c) (sym stays) h.stands;
-        room = λ m. (let no_room = ap (sum_by (move_room (slots_of (after did (control_of p)).rows) m)) none in omega (arith, no_room));
+        stands = stands;
+        room = λ m. (let no_room = ap (sum_by (move_room (slots_of (after did (control_of p)).rows) m)) none in let same = puts_capacity s.boxes t.boxes puts m in omega (arith, no_room, same));
         entries = omega (arith, free);
         objects = (let made = ap (sum_by objects_made) none in let few = h.objects in omega (arith, made, few));
         pairs = (let drawn = ap (sum_by pairs_drawn) none in let few = h.pairs in omega (arith, drawn, few));
-        boxes = omega arith;
+        boxes = (let many = puts.many in omega (arith, many));
       })
+
+  -- an event that changes nothing, with an entry in room of its own
+  pub one_noted : (s : State L) (p : Past G N S) (did : Did N S) (spare : ℕ) → IsHistory s p spare → Fits (control_of p) did → after did (control_of p) ≡ control_of p → own_moves (control_of p) did ≡ [] →
+      entries_reserved (control_of p) did ≡ 0 → IsHistory s (with_event did p) spare
+  one_noted s p did spare h fits stays none free =
+      one_brought s s p did spare h fits (subst (λ (c : Control). Stands s c) (sym stays) h.stands) none free (bare_not s.boxes)

@@ -4,3 +4,17 @@ mod BareLemmas
 mod BeginLemmas
 mod DoneLemmas
 mod AskLemmas
+mod CarryLemmas
+mod PlaneLemmas
+mod PlaneDoneLemmas
+mod HearLemmas
+mod SettledLemmas
+mod DeliverLemmas
+mod DelimitLemmas
+mod MakingLemmas
+mod RefusalLemmas
+mod StrikeLemmas
+mod WaitLemmas
+mod BindLemmas
+mod ConnectLemmas
+mod FreshLemmas

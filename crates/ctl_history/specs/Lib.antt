@@ -1,2 +1,9 @@
 pub mod Past
+pub mod Carried
 pub mod Bare
+pub mod Hearing
+pub mod Binding
+pub mod Connecting
+pub mod Making
+pub mod Refusals
+pub mod Striking

@@ -1,5 +1,5 @@
 -- The events of a control plane in their order, and the control state that they led to (own choice).
-use Rattle.std.specs.Prelude.{◌≡◌, ◌≤◌, ◌+◌, ℕ, false, List, [], ◌∷◌, ◌++◌, None, length, map}
+use Rattle.std.specs.Prelude.{◌≡◌, ◌<◌, ◌≤◌, ◌+◌, ◌^◌, ℕ, false, List, [], ◌∷◌, ◌++◌, None, length, map}
 use Rattle.spec_control.specs.declared.entry.Answered.{Answered}
 use Rattle.spec_control.specs.declared.entry.Did.{Did}
 use Rattle.spec_control.specs.declared.entry.Item.{Item}
@@ -14,27 +14,16 @@ use Rattle.ctl_state.specs.declared.state.State.{State}
 use Rattle.ctl_state.specs.Boxes.{mail_at}
 use Rattle.ctl_state.specs.Stands.{Stands}
 
--- how many I/O workers a context has, and its control events so far, in order
-pub record Past (N S : Type 0) : Type 0 where
+-- how many I/O workers a context has, its control events so far, in order, and the ends of closed sockets that are on their way to the reaper
+pub record Past (G N S : Type 0) : Type 0 where
   pub workers : ℕ
   pub events : List (Did N S)
+  pub given : List G
 
 module _ {N S : Type 0} where
   -- an event as an item of the one order; whose it is stands there
   abbrev pub as_item : Did N S → Item N S
   as_item did = Event (record { by = 0; did = did })
-
-  -- the state that the events led to
-  abbrev pub control_of : Past N S → Control
-  control_of p = after_all (map as_item p.events) (begun p.workers)
-
-  -- one event more
-  abbrev pub with_event : Did N S → Past N S → Past N S
-  with_event did p = record p { events = p.events ++ did ∷ [] }
-
-  -- each event fits the state that those before it led to
-  abbrev pub IsPast : Past N S → Type 0
-  IsPast p = IsControlRun (begun p.workers) (map as_item p.events)
 
   -- a holder that had no end to answer for
   pub record IsSilent (h : Answered N S) : Type 0 where
@@ -43,8 +32,30 @@ module _ {N S : Type 0} where
     pub settled : h.settled ≡ None
     pub output : h.output_left ≡ false
 
+module _ {G N S : Type 0} where
+  -- the events in their one order
+  abbrev pub items_of : Past G N S → List (Item N S)
+  items_of p = map as_item p.events
+
+  -- the state that the events led to
+  abbrev pub control_of : Past G N S → Control
+  control_of p = after_all (items_of p) (begun p.workers)
+
+  -- one event more
+  abbrev pub with_event : Did N S → Past G N S → Past G N S
+  with_event did p = record p { events = p.events ++ did ∷ [] }
+
+  -- these ends of a closed socket more are on their way
+  abbrev pub with_given : List G → Past G N S → Past G N S
+  with_given gs p = record p { given = p.given ++ gs }
+
+  -- each event fits the state that those before it led to
+  abbrev pub IsPast : Past G N S → Type 0
+  IsPast p = IsControlRun (begun p.workers) (items_of p)
+
 -- what is kept stands for the state that these events led to, with room for all that may still come into each mailbox, and into the history
-pub record IsHistory {L N S : Type 0} (s : State L) (p : Past N S) (spare : ℕ) : Type 0 where
+pub record IsHistory {L G N S : Type 0} (s : State L) (p : Past G N S) (spare : ℕ) : Type 0 where
+  pub few : p.workers < 2 ^ 31
   pub run : IsPast p
   pub stands : Stands s (control_of p)
   pub room : (m : ℕ) → to_come (control_of p) m ≤ (mail_at s.boxes m).spare

@@ -9,13 +9,17 @@ ghost use Rattle.ctl_history.specs.Past.{control_of, with_event, IsSilent};
 use crate::ending::ask_root;
 use crate::history::History;
 use crate::stages::root_lives;
+use msg_pipe::Pipes;
 use spec_control::{Answered, Did, Refusal, Reply, Req};
 use std::alloc::AllocError;
 
-impl<L: Drop, N: Drop, S: Drop> History<L, N, S> {
+impl<P: Pipes> History<P>
+where
+    P::Name: Drop,
+{
     /// Asks the root to end, once: each open socket gets a Stop. Where it was not asked before this
     /// takes no memory. It costs a walk over the sockets that were made.
-    pub fn ask_term(&mut self, h: Answered<N, S>) -> Result<Reply, AllocError>
+    pub fn ask_term(&mut self, h: Answered<P::Name, P::Story>) -> Result<Reply, AllocError>
         requires silent { IsSilent h }
         ensures ok { IfOk result (λ reply. self.new ≡ with_event (Asked AskTerm reply h) self.old) }
         ensures reply { IfOk result (λ reply. reply ≡ reply_of (control_of self.old) AskTerm) }
@@ -37,7 +41,7 @@ impl<L: Drop, N: Drop, S: Drop> History<L, N, S> {
         &mut self,
         request: Req,
         refusal: Refusal,
-        h: Answered<N, S>,
+        h: Answered<P::Name, P::Story>,
     ) -> Result<(), AllocError>
         requires may { MayAsk (control_of self.old) request }
         requires refused { reply_of (control_of self.old) request ≡ Refused refusal }

@@ -1,36 +1,48 @@
-ghost use Rattle.std.specs.Prelude.{◌≡◌, ◌↔◌, ◌<◌, ◌&&◌, ◌==◌, false, []};
+ghost use Rattle.std.specs.Prelude.{◌≡◌, ◌<◌, ◌&&◌, ◌==◌, ℕ, true, false};
 ghost use Rattle.std.specs.List.{list_any};
 ghost use Rattle.spec_control.specs.ControlRun.{is_between};
-ghost use Rattle.ctl_history.specs.declared.heard.Heard.TheVariants.{Empty};
-ghost use Rattle.ctl_history.specs.Past.{control_of, IsSilent};
-ghost use Rattle.ctl_history.specs.Bare.{FindsBare};
+ghost use Rattle.ctl_history.specs.Past.{control_of};
+ghost use Rattle.ctl_history.specs.Hearing.{IsServed, HasWhat, FindsOldest};
 
-use crate::bare::hear;
 use crate::heard::Heard;
+use crate::hearing::process;
 use crate::history::History;
-use spec_control::{Answered, Did};
+use ctl_holder::Holder;
+use ctl_state::Command;
+use msg_pipe::Pipes;
+use spec_control::Did;
+use std::alloc::Global;
 use zq_base::SlotId;
 
-impl<L: Drop, N: Drop, S: Drop> History<L, N, S> {
-    /// Processes the oldest command of a mailbox, if it concerns no end: that a child is there, asks
-    /// to end or has ended, and that a socket is stopped. It takes no memory, and costs the same
-    /// however many objects there are.
-    pub fn deliver_bare(&mut self, slot: SlotId, h: Answered<N, S>) -> Heard
+impl<P: Pipes> History<P>
+where
+    P::Name: Drop,
+{
+    /// Processes the oldest command of a mailbox with the holder of the objects that it serves, if
+    /// it is one that is heard; any other waits. It takes no memory.
+    pub fn deliver<H: Holder<P>>(&mut self, alloc: Global, slot: SlotId, holder: &mut H) -> Heard
         requires there { slot.0 < (control_of self.old).slots }
         requires held { list_any (λ o. is_between o && o.slot == slot.0)
             (control_of self.old).rows.objects ≡ false }
-        requires silent { IsSilent h }
-        ensures found { FindsBare slot h result self.old self.new }
-        ensures empty { result ≡ Empty ↔ ((control_of self.old).boxes slot.0 ≡ []) }
+        requires lent { (i : ℕ) → IsServed (control_of self.old) slot.0 i →
+            (H.holding holder.old).holds i ≡ true }
+        requires has { HasWhat self.old (H.holding holder.old) }
+        ensures found { FindsOldest slot result self.old self.new }
+        ensures keeps { HasWhat self.new (H.holding holder.new) }
     {
         let Some(command) = self.state.take(slot) else {
             return Heard::Empty;
         };
-        if !hear(&mut self.state, &command.letter) {
-            self.state.put_back(slot, command);
-            return Heard::ForHolder;
+        let Command { letter, load } = command;
+        match process(&mut self.state, alloc, holder, &letter, load) {
+            Ok(answered) => {
+                self.events.push(Did::Delivered(slot, letter, answered));
+                return Heard::Done;
+            }
+            Err(load) => {
+                self.state.put_back(slot, Command { letter, load });
+                return Heard::ForHolder;
+            }
         }
-        self.events.push(Did::Delivered(slot, command.letter, h));
-        Heard::Done
     }
 }

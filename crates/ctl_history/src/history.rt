@@ -1,40 +1,53 @@
 ghost use Rattle.std.specs.Prelude.{◌≡◌, ◌<◌, ◌^◌, [], IfOk};
+ghost use Rattle.spec_control.specs.Rows.{obj};
 ghost use Rattle.spec_control.specs.Reply.{root_state, live_count, has_room};
 ghost use Rattle.ctl_history.specs.Past.{control_of};
 
+use ctl_holder::Load;
 use ctl_state::{RoomList, State};
+use msg_pipe::Pipes;
 use spec_control::{Did, ObjState};
 use std::alloc::{AllocError, Global};
 use std::marker::Model;
-use zq_base::SlotId;
+use zq_base::{ObjId, SlotId};
 
-/// The control events of a context in their order, with the state that they led to. A command
-/// carries a load of type `L`; a pipe's name is an `N`, and what a half tells an `S`.
+/// The control events of a context in their order, with the state that they led to, and with the
+/// halves of pipes that commands carry.
 ///
 /// Room for all that may still come is kept ahead: in each mailbox, and in the history.
 #[derive(Drop)]
-pub struct History<L, N, S> {
+pub struct History<P: Pipes> {
     pub(crate) workers: u32,
-    pub(crate) state: State<L>,
-    pub(crate) events: RoomList<Did<N, S>>,
+    pub(crate) state: State<Load<P::Name, P::Out, P::In>>,
+    pub(crate) events: RoomList<Did<P::Name, P::Story>>,
 }
 
-impl<L, N, S> Model for History<L, N, S> {
-    ghost use Rattle.ctl_history.specs.Past.{Past, IsHistory};
+impl<P: Pipes> Model for History<P> {
+    ghost use Rattle.ctl_holder.specs.declared.given.Given.{Given};
+    ghost use Rattle.ctl_history.specs.Past.{Past};
+    ghost use Rattle.ctl_history.specs.Carried.{given_in, IsPlane};
 
-    ghost Value = { Past N S };
+    ghost Value = { Past (Given P.Name P.Out P.In) P.Name P.Story };
 
-    ghost view = { λ h. record { workers = h.workers; events = h.events.items } };
+    ghost view = { λ h. record {
+      workers = h.workers;
+      events = h.events.items;
+      given = given_in h.state.boxes;
+    } };
 
-    ghost invariant = { λ h. IsHistory h.state
-        (record { workers = h.workers; events = h.events.items }) h.events.spare };
+    ghost invariant = { λ h. IsPlane P.known.out_name P.known.in_name h.state
+        (record { workers = h.workers; events = h.events.items; given = given_in h.state.boxes })
+        h.events.spare };
 }
 
-impl<L: Drop, N: Drop, S: Drop> History<L, N, S> {
+impl<P: Pipes> History<P>
+where
+    P::Name: Drop,
+{
     /// A context at its making, with so many I/O workers.
-    pub fn new(alloc: Global, workers: u32) -> Result<History<L, N, S>, AllocError>
+    pub fn new(alloc: Global, workers: u32) -> Result<History<P>, AllocError>
         requires few { workers < 2 ^ 31 }
-        ensures { IfOk result (λ h. h ≡ record { workers = workers; events = [] }) }
+        ensures { IfOk result (λ h. h ≡ record { workers = workers; events = []; given = [] }) }
     {
         let mut state = State::new(alloc, workers)?;
         state.reserve(SlotId(0), 1)?;
@@ -52,6 +65,13 @@ impl<L: Drop, N: Drop, S: Drop> History<L, N, S> {
         ensures { result ≡ root_state (control_of self.now) }
     {
         self.state.root()
+    }
+
+    /// The mailbox of an object. It costs a look at one row.
+    pub fn slot(&self, id: ObjId) -> SlotId
+        ensures { (obj (control_of self.now).rows id.0).slot ≡ result.0 }
+    {
+        self.state.slot(id)
     }
 
     /// How many objects have not ended, the root among them. It is counted along, so it costs no

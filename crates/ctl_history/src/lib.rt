@@ -6,12 +6,23 @@
 
 mod asking;
 mod bare;
+mod binding;
 mod closing;
+mod connecting;
+mod delimiters;
 mod deliveries;
 mod ending;
 mod heard;
+mod hearing;
 mod history;
+mod making;
+mod naming;
+mod refusals;
+mod refused;
 mod stages;
+mod striking;
+mod unbinding;
+mod waiting;
 
 pub use heard::Heard;
 pub use history::History;

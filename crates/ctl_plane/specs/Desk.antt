@@ -17,7 +17,7 @@ use Rattle.control_held.specs.Has.{has_after}
 use Rattle.control_held.specs.Met.{met_after}
 use Rattle.ctl_plane.specs.declared.delivery.Delivery.{Delivery}
 use Rattle.ctl_plane.specs.declared.delivery.Delivery.TheVariants.{Done, Empty}
-use Rattle.ctl_plane.specs.Holding.{Holding, has_end}
+use Rattle.ctl_holder.specs.Holding.{Holding, has_end}
 
 module _ {N S : Type 0} where
   -- a holder that is lent has of its objects what the items of its caller say

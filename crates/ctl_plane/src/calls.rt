@@ -15,7 +15,7 @@ pub trait Calls<P: Pipes> {
     ghost use Rattle.spec_control.specs.declared.request.Req.TheVariants.{Disconnect};
     ghost use Rattle.spec_control.specs.Control.{id};
     ghost use Rattle.control_held.specs.OwnAsks.{known_after};
-    ghost use Rattle.ctl_plane.specs.Holding.{Holding};
+    ghost use Rattle.ctl_holder.specs.Holding.{Holding};
     ghost use Rattle.ctl_plane.specs.Desk.{HasWhatTheySay, AsksOnce, GoesOn};
 
     /// The number of the socket.

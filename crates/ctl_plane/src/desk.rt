@@ -2,7 +2,7 @@ ghost use Rattle.std.specs.Prelude.{◌≡◌, ℕ, Bool, true, false, List, Som
 ghost use Rattle.spec_control.specs.declared.entry.Item.{Item};
 
 use crate::delivery::Delivery;
-use crate::holder::Holder;
+use ctl_holder::Holder;
 use msg_pipe::Pipes;
 use spec_control::{Reply, Req, SeenEmpty, Sight};
 use std::alloc::{AllocError, Global};

@@ -15,7 +15,7 @@ use Rattle.ctl_state.specs.declared.pair.Spot.TheVariants.{Unmade, Away, At, Ove
 use Rattle.ctl_state.specs.Pairs.{place_at, spot_comes, spot_after}
 
 -- an end that stays where it is counts as before
-here_stays : (event : EndEvent) (state : EndState) → comes event state ≡ true → event ≢ AckCame → is_here (IsAt (state_after (cell event state) state)) ≡ is_here (IsAt state)
+pub here_stays : (event : EndEvent) (state : EndState) → comes event state ≡ true → event ≢ AckCame → is_here (IsAt (state_after (cell event state) state)) ≡ is_here (IsAt state)
 here_stays (Asked reason delay) Active h n = refl
 here_stays (Asked reason delay) DelimiterGot h n = refl
 here_stays (Asked reason true) WaitDelimiter h n = refl

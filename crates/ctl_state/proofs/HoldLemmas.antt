@@ -1,9 +1,10 @@
 -- What is found, struck and joined among the holds of a socket.
-use Rattle.std.specs.Prelude.{◌≡◌, ◌<◌, ◌+◌, ◌||◌, ℕ, Bool, true, false, not, cond, if◌then◌else◌, List, [], ◌∷◌, Some, None, find, length, map, option_map, position, nat_lt, remove, slice_get, slice_index_or, slice_set, refl}
+use Rattle.std.specs.Prelude.{◌≡◌, ◌<◌, ◌+◌, ◌||◌, ℕ, Bool, true, false, not, cond, if◌then◌else◌, List, [], ◌∷◌, Some, None, find, is_some, length, map, Option, option_map, position, nat_lt, remove, slice_get, slice_index_or, slice_set, refl}
 use Rattle.std.specs.List.{list_any, position_or_len}
 use Rattle.std.proofs.Common.{arith, sym, ap, ◌∙◌, subst, one-add}
 use Rattle.std.proofs.lemmas.Bool.{false≢true}
 use Rattle.std.proofs.lemmas.Bool.Decides.{Decides-ltb}
+use Rattle.std.proofs.lemmas.List.{get_or_default}
 use Rattle.std.proofs.lemmas.List.Folds.{find_at}
 use Rattle.std.proofs.lemmas.Option.{cond_some, slice_get_read}
 use Rattle.std.proofs.lemmas.Slice.Eq.{bytes_eq-Decides}
@@ -27,11 +28,20 @@ same_address a b e =
     ∙ ap (λ (o : List ℕ). let x : Address = record { octets = o; port = b.port } in x) octets
 
 -- what is one endpoint is the same
-same_endpoint : (a b : Endpoint) → is_endpoint a b ≡ true → a ≡ b
+pub same_endpoint : (a b : Endpoint) → is_endpoint a b ≡ true → a ≡ b
 same_endpoint (Inproc a) (Inproc b) h = ap Inproc ((bytes_eq-Decides a b).0 h)
 same_endpoint (Inproc a) (Tcp b) h = absurd (false≢true h)
 same_endpoint (Tcp a) (Inproc b) h = absurd (false≢true h)
 same_endpoint (Tcp a) (Tcp b) h = ap Tcp (same_address a b ((bytes_eq-Decides (numbers_of a) (numbers_of b)).0 h))
+
+-- what none passes stays whole
+pub none_struck : {X : Type 0} (test : X → Bool) (xs : List X) → list_any test xs ≡ false → without_first test xs ≡ xs
+none_struck test [] h = refl
+none_struck test (x ∷ xs) h = at (none_struck test xs) (test x) h
+  where
+    at : (list_any test xs ≡ false → without_first test xs ≡ xs) → (b : Bool) → (b || list_any test xs) ≡ false → (if b then xs else x ∷ without_first test xs) ≡ x ∷ xs
+    at rest true e = absurd (false≢true (sym e))
+    at rest false e = ap (λ ys. x ∷ ys) (rest e)
 
 module _ (test : HoldSaid → Bool) where
   abbrev passes : Hold → Bool
@@ -53,15 +63,6 @@ module _ (test : HoldSaid → Bool) where
       at : without_first test (map hold_of xs) ≡ map hold_of (without_first passes xs) → (b : Bool) → (if b then map hold_of xs else hold_of x ∷ without_first test (map hold_of xs)) ≡ map hold_of (if b then xs else x ∷ without_first passes xs)
       at rest true = refl
       at rest false = ap (λ (ys : List HoldSaid). hold_of x ∷ ys) rest
-
-  -- what none passes stays whole
-  none_struck : (xs : List Hold) → list_any passes xs ≡ false → without_first passes xs ≡ xs
-  none_struck [] h = refl
-  none_struck (x ∷ xs) h = at (none_struck xs) (test (hold_of x)) h
-    where
-      at : (list_any passes xs ≡ false → without_first passes xs ≡ xs) → (b : Bool) → (b || list_any passes xs) ≡ false → (if b then xs else x ∷ without_first passes xs) ≡ x ∷ xs
-      at rest true e = absurd (false≢true (sym e))
-      at rest false e = ap (λ (ys : List Hold). x ∷ ys) (rest e)
 
   none_there : (xs : List Hold) → list_any passes xs ≡ false → find passes xs ≡ None
   none_there [] h = refl
@@ -89,12 +90,20 @@ module _ (test : HoldSaid → Bool) where
   pub found_none : (xs : List Hold) → None ≡ position passes xs → None ≡ find test (map hold_of xs)
   found_none xs e = sym (found_in xs ∙ ap (option_map hold_of) (none_there xs (none_found passes xs e)))
 
+  -- one is found where one stands somewhere
+  pub is_found : (xs : List Hold) → is_some (position passes xs) ≡ is_some (find test (map hold_of xs))
+  is_found xs = by (position passes xs) refl
+    where
+      by : (r : Option ℕ) → r ≡ position passes xs → is_some r ≡ is_some (find test (map hold_of xs))
+      by None e = ap is_some (found_none xs e)
+      by (Some p) e = ap is_some (found_there xs p (slice_index_or xs p no_hold) e (get_or_default xs p no_hold (slice_index_or xs p no_hold) (place_within xs p e)))
+
   -- what is left without it
   pub struck_there : (xs : List Hold) (p : ℕ) → Some p ≡ position passes xs → map hold_of (remove xs p) ≡ without_first test (map hold_of xs)
   struck_there xs p e = ap (map hold_of) (remove-position passes xs p e) ∙ sym (struck_in xs)
 
   pub struck_none : (xs : List Hold) → None ≡ position passes xs → map hold_of xs ≡ without_first test (map hold_of xs)
-  struck_none xs e = sym (struck_in xs ∙ ap (map hold_of) (none_struck xs (none_found passes xs e)))
+  struck_none xs e = sym (struck_in xs ∙ ap (map hold_of) (none_struck passes xs (none_found passes xs e)))
 
 module _ (at : Endpoint) (pair : PairId) where
   abbrev waits : Hold → Bool

@@ -1,8 +1,8 @@
 -- That what is kept goes on standing for a control state, as commands come and go.
-use Rattle.std.specs.Prelude.{◌≡◌, ◌<◌, ◌⊎◌, ◌++◌, ◌∷◌, [], ℕ, Bool, List, Option, Some, None, if◌then◌else◌, map, length, refl, ◌+◌, IfSome, OnSome}
-use Rattle.std.proofs.Common.{sym, ap, ◌∙◌, subst, inl, inr}
+use Rattle.std.specs.Prelude.{◌≡◌, ◌<◌, ◌⊎◌, ◌++◌, ◌∷◌, [], ℕ, Bool, List, Option, Some, None, if◌then◌else◌, map, length, take, refl, ◌+◌, IfSome, OnSome}
+use Rattle.std.proofs.Common.{arith, sym, ap, ◌∙◌, subst, inl, inr}
 use Rattle.std.proofs.lemmas.Bool.{cases_eq, eq-eqb, ne_eqb}
-use Rattle.std.proofs.lemmas.List.{length-set, length_push, get_or-set_same, get_or-set_other}
+use Rattle.std.proofs.lemmas.List.{take-append-le, take_all, length-set, length_push, get_or-set_same, get_or-set_other}
 use Rattle.mailbox.specs.Mail.{Mail, no_mail, with_spare, with_put_back}
 use Rattle.spec_control.specs.declared.letter.Letter.{Letter}
 use Rattle.spec_control.specs.PairPhase.{behind_first}
@@ -11,6 +11,7 @@ use Rattle.spec_control.specs.Control.{Control, with_value}
 use Rattle.ctl_state.specs.declared.command.Command.{Command}
 use Rattle.ctl_state.specs.declared.state.State.{State}
 use Rattle.ctl_state.specs.Boxes.{mail_at, with_mail, letters, Takes, AreIn}
+use Rattle.ctl_state.specs.Parts.{on_boxes}
 use Rattle.ctl_state.specs.Stands.{Stands, slot_more}
 use Rattle.ctl_state.proofs.ReadLemmas.{read_kept, pushed_same}
 
@@ -93,3 +94,11 @@ module _ {L : Type 0} where
 pub on_some : {X : Type 0} (r : Option X) (T : X → Type 0) (P : Type 0) → IfSome r T → ((x : X) → T x → P) → OnSome r P
 on_some None T P h f = tt
 on_some (Some x) T P h f = f x h
+
+module _ {L : Type 0} where
+  -- a mailbox that was added is taken out again
+  pub cut_back : (old mid now : State L) (boxes : List (Mail (Command L))) (mail : Mail (Command L)) (many : ℕ) → mid ≡ on_boxes (λ b. b ++ mail ∷ []) old → now ≡ mid → many ≡ length old.boxes →
+      boxes ≡ take many now.boxes → on_boxes (λ _. boxes) now ≡ old
+  cut_back old mid now boxes mail many added same count cut =
+      ap (λ (s : State L). on_boxes (λ _. boxes) s) (same ∙ added) ∙ ap (λ (b : List (Mail (Command L))). on_boxes (λ _. b) old)
+      (cut ∙ ap (λ (s : State L). take many s.boxes) (same ∙ added) ∙ ap (λ (n : ℕ). take n (old.boxes ++ mail ∷ [])) count ∙ take-append-le (length old.boxes) old.boxes (mail ∷ []) (omega arith) ∙ take_all (length old.boxes) old.boxes (omega arith))

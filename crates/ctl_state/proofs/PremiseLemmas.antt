@@ -191,8 +191,9 @@ module _ {L : Type 0} (s : State L) (c : Control) (h : Stands s c) where
         ∙ ap (λ (r : Row). is_owner_by 0 r.owner) (h.objects.each i) ∙ same_owner 0 (tree_row s.objects i).owner;
   }
 
-  pub all_met : AreMet s c
-  all_met = record {
+  pub all_met : length s.objects.lists ≡ length s.objects.tree → AreMet s c
+  all_met even = record {
+    listed = λ i within. (let many = h.objects.many in omega (arith, within, many, even));
     unended = unended_by;
     owned = owned_by;
     row = h.objects.each;

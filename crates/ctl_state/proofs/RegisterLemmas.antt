@@ -1,5 +1,6 @@
 -- That the kept book goes on saying what the control state does of names.
 use Rattle.std.specs.Prelude.{◌≡◌, ℕ, Bool, true, false, not, cond, if◌then◌else◌, List, filter, Option, Some, None, refl, IfOk, Ok, Err, Result}
+use Rattle.std.specs.List.{list_any}
 use Rattle.std.specs.FinMap as finite
 use Rattle.std.specs.Str.{bytes_eq}
 use Rattle.std.specs.Cmp.Lexicographic.{nat_list_cmp_total}
@@ -9,9 +10,10 @@ use Rattle.zq_base.specs.declared.endpoint.Endpoint.TheVariants.{Inproc, Tcp}
 use Rattle.zq_base.specs.declared.ids.ObjId.{ObjId}
 use Rattle.spec_control.specs.declared.book.Binding.{Binding}
 use Rattle.spec_control.specs.declared.book.Waiting.{Waiting}
-use Rattle.spec_control.specs.EndpointBook.{Names, Book, binding_of, numbers_of, is_object, is_held_by, is_waiter, with_name, without_name, with_waiting, names_without, without_object}
+use Rattle.spec_control.specs.EndpointBook.{Names, Book, binding_of, numbers_of, is_endpoint, is_object, is_held_by, is_waiter, is_connect_of, without_first, with_name, without_name, with_waiting, names_without, without_object}
 use Rattle.spec_control.specs.Register.{Register, IsRegister, with_holder, without_holder, waiting_now, unless_held_by, without_names_of}
 use Rattle.spec_control.specs.Control.{Control}
+use Rattle.ctl_state.proofs.HoldLemmas.{none_struck, same_endpoint}
 use Rattle.endpoint_book.proofs.NamesLemmas.{octets_ties, names_apart}
 use Rattle.ctl_state.specs.declared.state.State.{State}
 use Rattle.ctl_state.specs.Stands.{Stands}
@@ -61,6 +63,21 @@ module _ (book : Book) (r : Register) (h : IsRegister book r) where
       by : (other : Endpoint) → binding_of (without_name (Tcp address) book) other ≡ (without_holder (Tcp address) r).held other
       by (Inproc q) = h.same_holders (Inproc q)
       by (Tcp q) = get_freed book.addresses (numbers_of address) (numbers_of q) ∙ ap (cond (bytes_eq (numbers_of q) (numbers_of address)) None) (h.same_holders (Tcp q))
+
+  -- what nobody holds is free
+  pub free_already : (at : Endpoint) → binding_of book at ≡ None → IsRegister book (without_holder at r)
+  free_already at none = record { same_holders = λ other. by other (is_endpoint other at) refl; same_waiting = h.same_waiting }
+    where
+      by : (other : Endpoint) (b : Bool) → is_endpoint other at ≡ b → binding_of book other ≡ (if b then None else r.held other)
+      by other true e = ap (binding_of book) (same_endpoint other at e) ∙ none
+      by other false e = h.same_holders other
+
+  -- and what waits not is taken back
+  pub back_already : (o : ObjId) (at : Endpoint) → list_any (is_connect_of o at) book.waiting ≡ false → IsRegister book (waiting_now (without_first (is_connect_of o at) r.waiting) r)
+  back_already o at none = record {
+    same_holders = h.same_holders;
+    same_waiting = sym (none_struck (is_connect_of o at) book.waiting none) ∙ ap (without_first (is_connect_of o at)) h.same_waiting;
+  }
 
   pub now_waiting : (f : List Waiting → List Waiting) → IsRegister (with_waiting (f book.waiting) book) (waiting_now (f r.waiting) r)
   now_waiting f = record { same_holders = by; same_waiting = ap f h.same_waiting }

@@ -1,8 +1,23 @@
 -- The mailboxes of a context, and the letters in them.
-use Rattle.std.specs.Prelude.{◌≡◌, ◌≢◌, ℕ, List, ◌∷◌, true, map, length, slice_index_or, slice_set, ◌+◌, ◌++◌, All, None}
+use Rattle.std.specs.Prelude.{◌≡◌, ◌≢◌, ℕ, List, ◌∷◌, true, map, length, slice_index_or, slice_set, ◌+◌, ◌++◌, All, None, Bool, false}
 use Rattle.mailbox.specs.Mail.{Mail, no_mail}
 use Rattle.spec_control.specs.declared.letter.Letter.{Letter}
+use Rattle.spec_control.specs.declared.letter.Word.{Word}
+use Rattle.spec_control.specs.declared.letter.Word.TheVariants.{Own, Plug, TermReq, Term, TermAck, PipeBind, PipeTerm, PipeTermAck, Stop, Reap}
 use Rattle.ctl_state.specs.declared.command.Command.{Command}
+
+-- an object is told to end or is stopped, or a child of it has ended
+abbrev pub tells_object : Word → Bool
+tells_object (Own child) = false
+tells_object (Plug end) = false
+tells_object (TermReq child) = false
+tells_object Term = true
+tells_object (TermAck child) = true
+tells_object (PipeBind e peer) = false
+tells_object (PipeTerm e) = false
+tells_object (PipeTermAck e) = false
+tells_object Stop = true
+tells_object (Reap socket) = false
 
 module _ {L : Type 0} where
   -- a mailbox, by its number
@@ -25,11 +40,16 @@ module _ {L : Type 0} where
     pub others : (j : ℕ) → j ≢ k → mail_at new j ≡ mail_at old j
     pub many : length new ≡ length old
 
-  -- commands with no load were put behind those that were there, each in room that was kept
+  -- such a command, which carries nothing
+  pub record IsBareTold (command : Command L) : Type 0 where
+    pub empty : command.load ≡ None
+    pub word : tells_object command.letter.word ≡ true
+
+  -- such commands were put behind those that were there, each in room that was kept
   pub record GrowsBare (old new : Mail (Command L)) : Type 0 where
     pub more : List (Command L)
     pub commands : new.commands ≡ old.commands ++ more
-    pub bare : All (λ command. command.load ≡ None) more
+    pub bare : All (λ command. IsBareTold command) more
     pub spare : new.spare + length more ≡ old.spare
     pub freed : new.freed ≡ old.freed
 

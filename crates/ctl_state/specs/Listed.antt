@@ -15,6 +15,10 @@ module _ {T : Type 0} where
   abbrev pub with_room : ℕ → Listed T → Listed T
   with_room more list = record list { spare = list.spare + more }
 
+  -- with so much less
+  abbrev pub without_room : ℕ → Listed T → Listed T
+  without_room fewer list = record list { spare = list.spare - fewer }
+
   -- an element more at the end, in room that was kept
   abbrev pub with_last : T → Listed T → Listed T
   with_last item list = record { items = list.items ++ item ∷ []; spare = list.spare - 1 }

@@ -21,7 +21,8 @@ use Rattle.ctl_state.specs.Children.{HaveRoom}
 
 -- of an object: its row, that it has not ended, whose it is, and that one more end or bind can be counted for it;
 -- of an end: that an event may come to it, where it is, and that it counts for its owner; that there is room
--- for the commands of an object's children where there is for those of all objects; and that the root owns the sockets
+-- for the commands of an object's children where there is for those of all objects; that each object has its lists; and that the root
+-- owns the sockets
 pub record AreMet {L : Type 0} (s : State L) (c : Control) : Type 0 where
   pub unended : (i : ObjId) → has_ended (obj c.rows i.0).stage ≡ false → state_at s.objects.tree i ≢ Ended
   pub owned : (i : ℕ) (w : ObjId) → (obj c.rows i).owner ≡ Some w.0 → (tree_row s.objects i).owner ≡ Some w
@@ -36,4 +37,5 @@ pub record AreMet {L : Type 0} (s : State L) (c : Control) : Type 0 where
   pub sent_fits : (i : ℕ) → length c.rows.objects < 2 ^ 62 → length c.rows.pairs < 2 ^ 62 → (tree_row s.objects i).sent + 1 < 2 ^ 64
   pub children : (test : Row → Bool) (owner : ObjId) → ((k : ℕ) → sum_by (λ o. cond (test o && o.slot == k) 1 0) c.rows.objects ≤ (mail_at s.boxes k).spare) →
       HaveRoom test s (children_of (tree_of s.objects.tree) owner)
+  pub listed : (i : ℕ) → i < length c.rows.objects → i < length s.objects.lists
   pub sockets : ((i : ℕ) → owner_fits (obj c.rows i).kind (obj c.rows i).owner ≡ true) → RootOwnsSockets s.objects

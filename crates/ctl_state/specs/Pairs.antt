@@ -1,13 +1,14 @@
 -- The pairs as they are kept, and the rows, reasons and struck connects of the control state that they are.
-use Rattle.std.specs.Prelude.{◌≡◌, ℕ, Bool, true, false, not, List, Option, None, length, slice_index_or, slice_set}
+use Rattle.std.specs.Prelude.{◌≡◌, ℕ, Bool, true, false, not, List, Option, Some, None, length, slice_index_or, slice_set}
 use Rattle.zq_base.specs.declared.ids.EndId.{EndId}
 use Rattle.zq_base.specs.declared.ids.ObjId.{ObjId}
+use Rattle.spec_control.specs.declared.end.EndState.{EndState}
 use Rattle.spec_control.specs.declared.end.EndState.TheVariants.{Gone}
 use Rattle.spec_control.specs.declared.end.EndEvent.{EndEvent}
 use Rattle.spec_control.specs.declared.end.EndCommands.{EndCommands}
 use Rattle.spec_control.specs.declared.end.EndCommands.TheVariants.{Nothing}
 use Rattle.spec_control.specs.declared.end.Reason.{Reason}
-use Rattle.spec_control.specs.EndLife.{new_life, life_after, commands_at, comes}
+use Rattle.spec_control.specs.EndLife.{ReasonFits, new_life, life_after, commands_at, comes}
 use Rattle.spec_control.specs.Place.{Place, Unmade as IsUnmade, Away as IsAway, At as IsAt}
 use Rattle.spec_control.specs.Rows.{PairRow, no_pair}
 use Rattle.ctl_state.specs.declared.pair.Spot.{Spot}
@@ -20,6 +21,18 @@ place_at Unmade = IsUnmade
 place_at Away = IsAway
 place_at (At life) = IsAt life.state
 place_at Over = IsAt Gone
+
+-- how far an end there is in its life, if it was attached
+abbrev pub state_in : Place → Option EndState
+state_in IsUnmade = None
+state_in IsAway = None
+state_in (IsAt state) = Some state
+
+-- the reason fits how far an end there is
+abbrev pub FitsAt : Place → Option Reason → Type 0
+FitsAt IsUnmade reason = Unit {0}
+FitsAt IsAway reason = Unit {0}
+FitsAt (IsAt state) reason = ReasonFits state reason
 
 -- why it was asked
 abbrev pub reason_at : Spot → Option Reason

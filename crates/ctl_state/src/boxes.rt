@@ -1,4 +1,4 @@
-ghost use Rattle.std.specs.Prelude.{◌≡◌, ◌≢◌, ◌+◌, ◌<◌, ◌++◌, ◌∷◌, [], length, replicate, true, IfOk, OnOk, OnErr, IfSome, IfNone};
+ghost use Rattle.std.specs.Prelude.{◌≡◌, ◌≢◌, ◌+◌, ◌-◌, ◌<◌, ◌≤◌, ◌++◌, ◌∷◌, [], length, replicate, take, true, IfOk, OnOk, OnErr, IfSome, IfNone};
 ghost use Rattle.mailbox.specs.Mail.{no_mail, with_spare, with_sent, with_put_back};
 ghost use Rattle.ctl_state.specs.Boxes.{mail_at, with_mail, Takes};
 
@@ -54,6 +54,13 @@ impl<L: Drop> Boxes<L> {
         Ok(())
     }
 
+    /// Takes all mailboxes out but so many.
+    pub fn truncate(&mut self, many: usize)
+        ensures { self.new ≡ take many self.old }
+    {
+        self.boxes.truncate(many);
+    }
+
     /// Keeps room for so many more commands in a mailbox.
     pub fn reserve(&mut self, slot: SlotId, more: usize) -> Result<(), AllocError>
         requires there { slot.0 < length self.old }
@@ -63,6 +70,16 @@ impl<L: Drop> Boxes<L> {
     {
         self.boxes[slot.0 as usize].reserve(more)?;
         Ok(())
+    }
+
+    /// Gives up room that was kept in a mailbox: so many commands fewer will come.
+    pub fn release(&mut self, slot: SlotId, fewer: usize)
+        requires there { slot.0 < length self.old }
+        requires kept { fewer ≤ (mail_at self.old slot.0).spare }
+        ensures { self.new ≡ with_mail slot.0
+            (with_spare ((mail_at self.old slot.0).spare - fewer) (mail_at self.old slot.0)) self.old }
+    {
+        self.boxes[slot.0 as usize].release(fewer);
     }
 
     /// Puts a command into a mailbox, in room that was kept.

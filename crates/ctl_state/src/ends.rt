@@ -9,13 +9,13 @@ ghost use Rattle.own_tree.specs.Rows.{state_at};
 ghost use Rattle.ctl_state.specs.declared.pair.Spot.TheVariants.{Unmade, Away};
 ghost use Rattle.ctl_state.specs.Boxes.{mail_at};
 ghost use Rattle.ctl_state.specs.Objects.{tree_row, TakesEnd, TakesBind};
-ghost use Rattle.ctl_state.specs.Pairs.{entry_at, entry_struck, owner_at, spot_after, spot_at, spot_comes, with_spot};
+ghost use Rattle.ctl_state.specs.Pairs.{state_in, FitsAt, entry_at, entry_struck, owner_at, spot_after, spot_at, spot_comes, with_spot};
 ghost use Rattle.own_tree.specs.Changes.{change, without_end};
 ghost use Rattle.ctl_state.specs.Parts.{bound, on_pairs, on_tree, opened, sent_to};
 ghost use Rattle.ctl_state.specs.Stands.{Stands, Updates, letter_for, slot_of, stepped, struck_now, tells, told_word};
 
 use crate::state::State;
-use spec_control::{EndCommands, EndEvent, Word};
+use spec_control::{EndCommands, EndEvent, EndState, Word};
 use zq_base::{EndId, ObjId};
 
 impl<L: Drop> State<L> {
@@ -32,6 +32,20 @@ impl<L: Drop> State<L> {
         ensures { (c : Control) → Stands self.now c → result ≡ is_here (place_of c e) }
     {
         self.pairs.is_here(e)
+    }
+
+    /// How far an end is in its life, if it was attached.
+    pub fn end_state(&self, e: EndId) -> Option<EndState>
+        ensures { (c : Control) → Stands self.now c → result ≡ state_in (place_of c e) }
+    {
+        self.pairs.end_state(e)
+    }
+
+    /// The reason of an end fits how far it is in its life. It costs nothing.
+    pub fn reason_fits(&self, e: EndId)
+        ensures { (c : Control) → Stands self.now c → FitsAt (place_of c e) (c.reasons e) }
+    {
+        self.pairs.reason_fits(e);
     }
 
     /// Whether the connect of an end was struck.

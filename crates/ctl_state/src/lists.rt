@@ -1,9 +1,9 @@
-ghost use Rattle.std.specs.Prelude.{◌≡◌, ◌<◌, find, length, map, option_map, position, OnOk, OnErr};
+ghost use Rattle.std.specs.Prelude.{◌≡◌, ◌<◌, ◌≤◌, find, is_some, length, map, option_map, position, OnOk, OnErr};
 ghost use Rattle.spec_control.specs.EndpointBook.{without_first};
 ghost use Rattle.spec_control.specs.Hold.{is_bind_to, is_connect_to, waits_for, fulfil};
 ghost use Rattle.spec_control.specs.After.{with_hold};
 ghost use Rattle.spec_control.specs.Control.{Control, ends_of};
-ghost use Rattle.ctl_state.specs.Listed.{with_last, with_room};
+ghost use Rattle.ctl_state.specs.Listed.{with_last, with_room, without_room};
 ghost use Rattle.ctl_state.specs.Lists.{belongings_at, hold_of, with_ends, with_holds};
 ghost use Rattle.ctl_state.specs.Parts.{on_lists};
 ghost use Rattle.ctl_state.specs.Stands.{Stands, Updates, holds_by};
@@ -50,6 +50,24 @@ impl<L: Drop> State<L> {
         Ok(())
     }
 
+    /// Gives up room that was kept: so many ends of an object fewer will come.
+    pub fn release_ends(&mut self, id: ObjId, fewer: usize)
+        requires there { id.0 < length self.old.objects.lists }
+        requires kept { fewer ≤ (belongings_at self.old.objects.lists id.0).ends.spare }
+        ensures { self.new ≡ on_lists (with_ends (without_room fewer) id.0) self.old }
+    {
+        self.objects.release_ends(id, fewer);
+    }
+
+    /// Gives up room that was kept: so many binds and connects of a socket fewer will come.
+    pub fn release_holds(&mut self, id: ObjId, fewer: usize)
+        requires there { id.0 < length self.old.objects.lists }
+        requires kept { fewer ≤ (belongings_at self.old.objects.lists id.0).holds.spare }
+        ensures { self.new ≡ on_lists (with_holds (without_room fewer) id.0) self.old }
+    {
+        self.objects.release_holds(id, fewer);
+    }
+
     /// A socket holds a bind or a connect more, in room that was kept.
     pub fn hold(&mut self, id: ObjId, hold: Hold)
         requires room { 0 < (belongings_at self.old.objects.lists id.0).holds.spare }
@@ -90,6 +108,22 @@ impl<L: Drop> State<L> {
             .holds_of(id)
             .iter()
             .position(|hold| waits_for(hold, to))
+    }
+
+    /// Whether a socket has bound the endpoint, by a walk over what it has bound and connected.
+    pub fn has_bind(&self, id: ObjId, to: &Endpoint) -> bool
+        ensures { (c : Control) → Stands self.now c →
+            result ≡ is_some (find (is_bind_to to.now) (c.holds id.0)) }
+    {
+        self.bind_place(id, to).is_some()
+    }
+
+    /// Whether a socket has connected to the endpoint, by a walk over what it has bound and connected.
+    pub fn has_connect(&self, id: ObjId, to: &Endpoint) -> bool
+        ensures { (c : Control) → Stands self.now c →
+            result ≡ is_some (find (is_connect_to to.now) (c.holds id.0)) }
+    {
+        self.connect_place(id, to).is_some()
     }
 
     /// Strikes the first bind of a socket to the endpoint, if there is one.

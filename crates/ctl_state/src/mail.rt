@@ -1,4 +1,4 @@
-ghost use Rattle.std.specs.Prelude.{◌≡◌, ◌<◌, ◌+◌, ◌^◌, ◌++◌, ◌∷◌, [], length, true, IfSome, IfNone, IfOk, OnOk, OnErr, OnSome};
+ghost use Rattle.std.specs.Prelude.{◌≡◌, ◌<◌, ◌≤◌, ◌+◌, ◌-◌, ◌^◌, ◌++◌, ◌∷◌, [], length, true, IfSome, IfNone, IfOk, OnOk, OnErr, OnSome};
 ghost use Rattle.mailbox.specs.Mail.{no_mail, with_spare, with_put_back};
 ghost use Rattle.spec_control.specs.PairPhase.{behind_first};
 ghost use Rattle.spec_control.specs.After.{without_front};
@@ -38,6 +38,17 @@ impl<L: Drop> State<L> {
     {
         self.boxes.reserve(slot, more)?;
         Ok(())
+    }
+
+    /// Gives up room that was kept in a mailbox: so many commands fewer will come.
+    pub fn release(&mut self, slot: SlotId, fewer: usize)
+        requires there { slot.0 < length self.old.boxes }
+        requires kept { fewer ≤ (mail_at self.old.boxes slot.0).spare }
+        ensures { self.new ≡ on_boxes (with_mail slot.0
+            (with_spare ((mail_at self.old.boxes slot.0).spare - fewer) (mail_at self.old.boxes slot.0)))
+            self.old }
+    {
+        self.boxes.release(slot, fewer);
     }
 
     /// Takes the oldest command of a mailbox out, if there is one. Its place stays free for it.

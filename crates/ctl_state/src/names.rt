@@ -1,6 +1,6 @@
 ghost use Rattle.std.specs.Prelude.{◌≡◌, ◌↔◌, ◌++◌, ◌∷◌, [], filter, not, IsTrue, IsSome, OnOk, OnErr, IsErrOf, true, false, length, IfOk};
 ghost use Rattle.endpoint_book.specs.declared.endpoint_book.BindError.TheVariants.{InUse};
-ghost use Rattle.spec_control.specs.EndpointBook.{binding_of, holds, waits, is_fulfilled, is_connect_of, without_first, waiters};
+ghost use Rattle.spec_control.specs.EndpointBook.{binding_of, holds, is_fulfilled, is_connect_of, without_first, waiters};
 ghost use Rattle.spec_control.specs.Register.{with_holder, without_holder, without_names_of, fulfilled_by};
 ghost use Rattle.spec_control.specs.Control.{Control};
 ghost use Rattle.ctl_state.specs.Stands.{Stands, Updates, names_by, waits_by};
@@ -36,8 +36,22 @@ impl<L: Drop> State<L> {
         Ok(())
     }
 
-    /// Takes the endpoint from its holder.
-    pub fn free_name(&mut self, at: &Endpoint, holder: ObjId)
+    /// Takes the endpoint from its holder, if it has one.
+    pub fn free_name(&mut self, at: &Endpoint)
+        ensures stands { Updates (names_by (without_holder at.now)) self.old self.new }
+        ensures rest { self.new ≡ on_book (λ _. self.new.book) self.old }
+    {
+        match self.book.find(at) {
+            Some(binding) => {
+                self.free_from(at, binding.holder);
+                return;
+            }
+            None => return,
+        }
+    }
+
+    // Takes the endpoint from this holder.
+    fn free_from(&mut self, at: &Endpoint, holder: ObjId)
         requires { IsTrue (holds self.old.book holder at.now) }
         ensures stands { Updates (names_by (without_holder at.now)) self.old self.new }
         ensures rest { self.new ≡ on_book (λ _. self.new.book) self.old }
@@ -95,9 +109,8 @@ impl<L: Drop> State<L> {
         self.book.take_waiting(at, binding);
     }
 
-    /// Takes back the object's longest waiting connect to the endpoint.
+    /// Takes back the object's longest waiting connect to the endpoint, if there is one.
     pub fn take_back(&mut self, at: &Endpoint, waiter: ObjId)
-        requires { IsTrue (waits self.old.book waiter at.now) }
         ensures stands { Updates (names_by (waits_by (without_first (is_connect_of waiter at.now))))
             self.old self.new }
         ensures rest { self.new ≡ on_book (λ _. self.new.book) self.old }

@@ -1,5 +1,5 @@
 ghost use Rattle.std.specs.Prelude.{◌≡◌, ◌<◌, length, slice_index_or, OnOk, OnErr, ◌≤◌, slice_get, IfSome, IfNone};
-ghost use Rattle.ctl_state.specs.Listed.{with_room, with_last};
+ghost use Rattle.ctl_state.specs.Listed.{with_room, without_room, with_last};
 ghost use Rattle.ctl_state.specs.Lists.{belongings_at, with_ends, with_holds, without_at, joined_at};
 ghost use Rattle.ctl_state.specs.Objects.{with_lists, detail_at};
 
@@ -66,6 +66,31 @@ impl Objects {
     {
         self.lists[id.0 as usize].holds.reserve(more)?;
         Ok(())
+    }
+
+    /// Gives up room that was kept: so many binds and connects of a socket fewer will come.
+    pub fn release_holds(&mut self, id: ObjId, fewer: usize)
+        requires there { id.0 < length self.old.lists }
+        requires kept { fewer ≤ (belongings_at self.old.lists id.0).holds.spare }
+        ensures { self.new ≡ with_lists (with_holds (without_room fewer) id.0 self.old.lists) self.old }
+    {
+        self.lists[id.0 as usize].holds.release(fewer);
+    }
+
+    /// Gives up room that was kept: so many ends of an object fewer will come.
+    pub fn release_ends(&mut self, id: ObjId, fewer: usize)
+        requires there { id.0 < length self.old.lists }
+        requires kept { fewer ≤ (belongings_at self.old.lists id.0).ends.spare }
+        ensures { self.new ≡ with_lists (with_ends (without_room fewer) id.0 self.old.lists) self.old }
+    {
+        self.lists[id.0 as usize].ends.release(fewer);
+    }
+
+    /// Each object has its lists. It costs nothing.
+    pub fn needs(&self)
+        ensures { length self.now.lists ≡ length self.now.tree }
+    {
+        let _many = self.tree.len();
     }
 
     /// A socket holds a bind or a connect more, in room that was kept.

@@ -1,10 +1,10 @@
 ghost use Rattle.std.specs.Prelude.{◌≡◌, true};
 ghost use Rattle.spec_control.specs.EndLife.{comes, life_after, commands_at};
 ghost use Rattle.spec_control.specs.Place.{is_here};
-ghost use Rattle.ctl_state.specs.Pairs.{place_at, spot_comes, spot_after, spot_commands, entry_with, spot_in, owner_in, struck_in};
+ghost use Rattle.ctl_state.specs.Pairs.{place_at, reason_at, state_in, FitsAt, spot_comes, spot_after, spot_commands, entry_with, spot_in, owner_in, struck_in};
 
 use pipe_term::End;
-use spec_control::{EndCommands, EndEvent};
+use spec_control::{EndCommands, EndEvent, EndState};
 use zq_base::ObjId;
 
 /// Where an end is.
@@ -75,6 +75,51 @@ pub(crate) fn is_here_in(pair: &Entry, a: bool) -> bool
         return is_here(&pair.a);
     }
     is_here(&pair.b)
+}
+
+// How far an end there is, if it was attached.
+fn state_there(spot: &Spot) -> Option<EndState>
+    ensures { result ≡ state_in (place_at spot.now) }
+{
+    match spot {
+        Spot::At(end) => return Some(end.state()),
+        Spot::Over => return Some(EndState::Gone),
+        Spot::Unmade | Spot::Away => return None,
+    }
+}
+
+/// How far this end of the pair is, if it was attached.
+pub(crate) fn state_of(pair: &Entry, a: bool) -> Option<EndState>
+    ensures { result ≡ state_in (place_at (spot_in pair.now a)) }
+{
+    if a {
+        return state_there(&pair.a);
+    }
+    state_there(&pair.b)
+}
+
+// The reason of an end there fits its state. It costs nothing.
+fn fits_there(spot: &Spot)
+    ensures { FitsAt (place_at spot.now) (reason_at spot.now) }
+{
+    match spot {
+        Spot::At(end) => {
+            let _reason = end.reason();
+            return;
+        }
+        Spot::Unmade | Spot::Away | Spot::Over => return,
+    }
+}
+
+/// The reason of this end of the pair fits its state. It costs nothing.
+pub(crate) fn fits_in(pair: &Entry, a: bool)
+    ensures { FitsAt (place_at (spot_in pair.now a)) (reason_at (spot_in pair.now a)) }
+{
+    if a {
+        fits_there(&pair.a);
+        return;
+    }
+    fits_there(&pair.b);
 }
 
 /// Whose this end of the pair is.

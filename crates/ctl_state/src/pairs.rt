@@ -1,12 +1,12 @@
-ghost use Rattle.std.specs.Prelude.{◌≡◌, ◌<◌, ◌^◌, ◌++◌, ◌∷◌, [], true, false, length, slice_set, IfOk, OnOk, OnErr};
+ghost use Rattle.std.specs.Prelude.{◌≡◌, ◌<◌, ◌^◌, ◌++◌, ◌∷◌, [], true, false, length, slice_set, take, IfOk, OnOk, OnErr};
 ghost use Rattle.ctl_state.specs.declared.pair.Spot.TheVariants.{At};
 ghost use Rattle.spec_control.specs.EndLife.{new_life};
 ghost use Rattle.spec_control.specs.Place.{is_here};
-ghost use Rattle.ctl_state.specs.Pairs.{no_entry, entry_at, place_at, owner_at, struck_at, spot_at, with_spot, entry_struck, entry_open, entry_drawn, spot_comes, spot_after, spot_commands};
+ghost use Rattle.ctl_state.specs.Pairs.{state_in, reason_at, FitsAt, no_entry, entry_at, place_at, owner_at, struck_at, spot_at, with_spot, entry_struck, entry_open, entry_drawn, spot_comes, spot_after, spot_commands};
 
-use crate::pair::{Entry, Spot, is_here_in, owner_in, step_in, struck_in};
+use crate::pair::{Entry, Spot, fits_in, is_here_in, owner_in, state_of, step_in, struck_in};
 use pipe_term::End;
-use spec_control::{EndCommands, EndEvent};
+use spec_control::{EndCommands, EndEvent, EndState};
 use std::alloc::{AllocError, Global};
 use std::marker::Model;
 use zq_base::{EndId, ObjId, PairId};
@@ -69,6 +69,13 @@ impl Pairs {
         Ok(PairId(number))
     }
 
+    /// Takes all numbers back but so many.
+    pub fn truncate(&mut self, many: usize)
+        ensures { self.new ≡ take many self.old }
+    {
+        self.pairs.truncate(many);
+    }
+
     /// Whose an end is.
     pub fn owner(&self, e: EndId) -> ObjId
         ensures { result ≡ owner_at self.now e }
@@ -86,6 +93,26 @@ impl Pairs {
         match self.pairs.get(e.pair.0 as usize) {
             Some(pair) => return is_here_in(pair, e.a),
             None => return false,
+        }
+    }
+
+    /// How far an end is, if it was attached.
+    pub fn end_state(&self, e: EndId) -> Option<EndState>
+        ensures { result ≡ state_in (place_at (spot_at self.now e)) }
+    {
+        match self.pairs.get(e.pair.0 as usize) {
+            Some(pair) => return state_of(pair, e.a),
+            None => return Some(EndState::Gone),
+        }
+    }
+
+    /// The reason of an end fits its state. It costs nothing.
+    pub fn reason_fits(&self, e: EndId)
+        ensures { FitsAt (place_at (spot_at self.now e)) (reason_at (spot_at self.now e)) }
+    {
+        match self.pairs.get(e.pair.0 as usize) {
+            Some(pair) => fits_in(pair, e.a),
+            None => return,
         }
     }
 

@@ -10,7 +10,7 @@ use crate::detail::Detail;
 use crate::state::State;
 use own_tree::Row;
 use spec_control::ObjState;
-use zq_base::ObjId;
+use zq_base::{ObjId, SlotId};
 
 /// How many objects are ever made, the root among them.
 const MOST_OBJECTS: usize = 1_000_000;
@@ -77,6 +77,13 @@ impl<L: Drop> State<L> {
         self.boxes.len()
     }
 
+    /// The mailbox of an object.
+    pub fn slot(&self, id: ObjId) -> SlotId
+        ensures { (c : Control) → Stands self.now c → (obj c.rows id.0).slot ≡ result.0 }
+    {
+        self.objects.slot(id)
+    }
+
     /// What the ownership tree knows of an object, if there is one of this number.
     pub fn row(&self, id: ObjId) -> Option<Row>
         ensures some { IfSome result (λ t. (c : Control) → Stands self.now c →
@@ -100,6 +107,6 @@ impl<L: Drop> State<L> {
     pub fn needs(&self)
         ensures { (c : Control) → Stands self.now c → AreMet self.now c }
     {
-        let _workers = self.workers;
+        self.objects.needs();
     }
 }

@@ -1,5 +1,5 @@
-ghost use Rattle.std.specs.Prelude.{◌≡◌, ◌<◌, length, remove, slice_index_or, slice_set, OnOk, OnErr};
-ghost use Rattle.ctl_state.specs.Listed.{no_list, with_room, with_last, with_items};
+ghost use Rattle.std.specs.Prelude.{◌≡◌, ◌<◌, ◌≤◌, length, remove, slice_index_or, slice_set, OnOk, OnErr};
+ghost use Rattle.ctl_state.specs.Listed.{no_list, with_room, without_room, with_last, with_items};
 ghost use Rattle.ctl_state.specs.Lists.{no_hold};
 
 use crate::hold::{Held, Hold};
@@ -55,6 +55,14 @@ impl<T> RoomList<T> {
         self.items.reserve(spare)?;
         self.spare = spare;
         Ok(())
+    }
+
+    /// Gives up room that was kept: so many elements fewer will come.
+    pub fn release(&mut self, fewer: usize)
+        requires kept { fewer ≤ self.old.spare }
+        ensures { self.new ≡ without_room fewer self.old }
+    {
+        self.spare -= fewer;
     }
 
     /// Adds an element at the end, in room that was kept. It takes no memory and moves no element.

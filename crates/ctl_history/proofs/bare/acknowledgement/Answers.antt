@@ -18,8 +18,8 @@ ack_comes-requires g c =
       finished = finished_is _ (ap (λ (o : Row). is_finished o.stage) (sym (met.row c.args.child.0)) ∙ left _ _ w.is.comes.comes);
     }
 
-pub try_end-ended-requires : goal.try_end-ended-requires
-try_end-ended-requires g c =
+pub try_end-requires : goal.try_end-requires
+try_end-requires g c =
     let w = c.requires.may in
     let stands = c.ack_comes.ensures.stands w.control w.stands in
     let met = c.needs-2.ensures (link AckComes c.args.child.0 w.control) stands in
@@ -31,8 +31,11 @@ try_end-ended-requires g c =
     }
 
 pub returns-clause-stands : goal.returns-clause-stands
-returns-clause-stands g c = λ k h. c.try_end-ended.ensures.stands (link AckComes c.args.child.0 k) (c.ack_comes.ensures.stands k h)
+returns-clause-stands g c = λ k h. c.try_end.ensures.stands (link AckComes c.args.child.0 k) (c.ack_comes.ensures.stands k h)
 
 pub returns-clause-only : goal.returns-clause-only
 returns-clause-only g c =
-    tells_on c.args.state.now c.ack_comes.new.self c.try_end-ended.new.self (tree_tells c.args.state.now c.ack_comes.new.self (with_cleared c.args.at c.args.child) c.ack_comes.ensures.next) c.try_end-ended.ensures.only
+    tells_on c.args.state.now c.ack_comes.new.self c.try_end.new.self (tree_tells c.args.state.now c.ack_comes.new.self (with_cleared c.args.at c.args.child) c.ack_comes.ensures.next) c.try_end.ensures.only
+
+pub returns-clause-ended : goal.returns-clause-ended
+returns-clause-ended g c = λ k h ended. sym (c.try_end.ensures.answer (link AckComes c.args.child.0 k) (c.ack_comes.ensures.stands k h)) ∙ ended

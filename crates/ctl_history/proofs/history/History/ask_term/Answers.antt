@@ -1,33 +1,53 @@
-use Rattle.std.proofs.Common.{sym, ◌∙◌}
-use Rattle.ctl_history.proofs.EventLemmas.{kept_past}
-use Rattle.ctl_history.proofs.DoneLemmas.{ask_entry, asks, asks_again, listed_now, noted_now}
+use Rattle.std.specs.Prelude.{◌≡◌, Bool, not, if◌then◌else◌, refl}
+use Rattle.std.proofs.Common.{ap, sym, ◌∙◌, subst}
+use Rattle.spec_control.specs.declared.request.Reply.TheVariants.{Asked as WasAsked, Before}
+use Rattle.spec_control.specs.Reply.{root_asked}
+use Rattle.ctl_holder.specs.declared.given.Given.{Given}
+use Rattle.ctl_history.specs.Past.{Past, control_of}
+use Rattle.ctl_history.proofs.CarryLemmas.{told_given}
+use Rattle.ctl_history.proofs.DoneLemmas.{ask_entry, asks, asks_again, event_now}
+use Rattle.ctl_history.proofs.PlaneLemmas.{plane_kept, planed_now, planed_noted, one_plane, tells_no_names}
+use Rattle.ctl_history.proofs.PlaneDoneLemmas.{told_plane}
 use Rattle.ctl_history.proofs.history.History.ask_term.Goals as goal
 
 pub invariant_of-self-then-not-root_lives : goal.invariant_of-self-then-not-root_lives
 invariant_of-self-then-not-root_lives g c =
-    noted_now c.self.inside.state c.self.inside.workers c.self.inside.events c.reserve.new.self c.push.new.self _ c.in_ok-reserve.ensures.ok c.push.ensures
-    (asks_again c.self.inside.state _ _ c.args.h c.self.invariant (sym (c.root_lives.ensures _ c.self.invariant.stands) ∙ c.if-not-root_lives.true) c.requires.silent)
+    planed_noted g.P.Pipes.known.out_name g.P.Pipes.known.in_name c.self.inside.state c.self.inside.workers c.self.inside.events c.reserve.new.self c.push.new.self _ _ _ c.in_ok-reserve.ensures.ok c.push.ensures
+    (one_plane g.P.Pipes.known.out_name g.P.Pipes.known.in_name c.self.inside.state c.self.inside.state _ _ _ _ c.self.invariant
+    (asks_again c.self.inside.state _ _ c.args.h c.self.invariant.history (sym (c.root_lives.ensures _ c.self.invariant.history.stands) ∙ c.if-not-root_lives.true) c.requires.silent)
+    (tells_no_names _ _ c.requires.silent) c.self.invariant.carried refl)
 
 pub ask_root-requires : goal.ask_root-requires
 ask_root-requires g c = record {
   may = record {
     control = _;
-    stands = c.self.invariant.stands;
+    stands = c.self.invariant.history.stands;
     is = record {
-      kept = kept_past _ c.self.invariant.run;
-      alive = sym (c.root_lives.ensures _ c.self.invariant.stands) ∙ c.if-not-root_lives.false;
-      room = c.self.invariant.room;
+      kept = plane_kept g.P.Pipes.known.out_name g.P.Pipes.known.in_name _ _ _ c.self.invariant;
+      alive = sym (c.root_lives.ensures _ c.self.invariant.history.stands) ∙ c.if-not-root_lives.false;
+      room = c.self.invariant.history.room;
     };
   };
 }
 
 pub push-requires-2 : goal.push-requires-2
 push-requires-2 g c = record {
-  room = ask_entry c.self.inside.state _ _ c.args.h c.self.invariant (sym (c.root_lives.ensures _ c.self.invariant.stands) ∙ c.if-not-root_lives.false) c.requires.silent;
+  room = ask_entry c.self.inside.state _ _ c.args.h c.self.invariant.history (sym (c.root_lives.ensures _ c.self.invariant.history.stands) ∙ c.if-not-root_lives.false) c.requires.silent;
 }
 
 pub invariant_of-self-2 : goal.invariant_of-self-2
 invariant_of-self-2 g c =
-    listed_now c.ask_root.new.state c.self.inside.workers c.self.inside.events c.push-2.new.self _ c.push-2.ensures
-    (asks c.self.inside.state c.ask_root.new.state _ _ c.args.h c.self.invariant (sym (c.root_lives.ensures _ c.self.invariant.stands) ∙ c.if-not-root_lives.false) c.requires.silent
-    c.ask_root.ensures.stands c.ask_root.ensures.only)
+    planed_now g.P.Pipes.known.out_name g.P.Pipes.known.in_name c.ask_root.new.state c.self.inside.workers c.self.inside.events c.push-2.new.self _ _ _ c.push-2.ensures
+    (told_plane g.P.Pipes.known.out_name g.P.Pipes.known.in_name c.self.inside.state c.ask_root.new.state _ _ _ _ c.self.invariant
+    (asks c.self.inside.state c.ask_root.new.state _ _ c.args.h c.self.invariant.history (sym (c.root_lives.ensures _ c.self.invariant.history.stands) ∙ c.if-not-root_lives.false) c.requires.silent
+    c.ask_root.ensures.stands c.ask_root.ensures.only) (tells_no_names _ _ c.requires.silent) refl c.ask_root.ensures.only)
+
+pub returns-clause-ok : goal.returns-clause-ok
+returns-clause-ok g c =
+    event_now c.args.self.now c.self.inside.workers c.self.inside.events c.push-2.new.self _ _ _ (sym c.self.view_is) c.push-2.ensures
+    (told_given c.self.inside.state.boxes c.ask_root.new.state.boxes c.ask_root.ensures.only.bare)
+
+pub returns-clause-reply : goal.returns-clause-reply
+returns-clause-reply g c =
+    subst (λ (p : Past (Given g.row.P-Name.Denot g.row.P-Out.Denot g.row.P-In.Denot) g.row.P-Name.Denot g.row.P-Story.Denot). WasAsked ≡ (if root_asked (control_of p) then Before else WasAsked)) c.self.view_is
+    (sym (ap (λ (b : Bool). if not b then Before else WasAsked) (sym (c.root_lives.ensures _ c.self.invariant.history.stands) ∙ c.if-not-root_lives.false)))

@@ -32,7 +32,7 @@ returns-clause-rest g c =
 
 pub returns-clause-only : goal.returns-clause-only
 returns-clause-only g c =
-    tells_one c.args.self.now (on_objects (λ _. c.stop_put.new.self) c.args.self.now) c.put.new.self _ _ refl
+    tells_one c.args.self.now (on_objects (λ _. c.stop_put.new.self) c.args.self.now) c.put.new.self _ _ refl refl
     (subst (λ (n : ℕ). 0 < (mail_at c.args.self.now.boxes n).spare) (sym (ap (λ (r : Row). r.slot) c.stop_put.ensures.links.here))
     (room_here may_stop c.args.self.now c.args.socket c.requires.room (sym c.may_stop.ensures ∙ c.if-not-may_stop.false)))
     refl c.stop_put.ensures.links.lists c.put.ensures.next

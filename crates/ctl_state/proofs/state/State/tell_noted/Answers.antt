@@ -16,5 +16,5 @@ returns-clause-rest g c =
 
 pub returns-clause-only : goal.returns-clause-only
 returns-clause-only g c =
-    tells_one c.args.self.now (on_tree (with_told c.args.owner c.args.child) c.args.self.now) c.tell.new.self _ _ refl
+    tells_one c.args.self.now (on_tree (with_told c.args.owner c.args.child) c.args.self.now) c.tell.new.self _ _ refl refl
     (room_here may_tell c.args.self.now c.args.child c.requires.room (sym c.may_tell.ensures ∙ c.if-not-may_tell.false)) refl refl c.tell.ensures.next

@@ -17,7 +17,7 @@ returns-in-None-clause-stands g c = λ k o e h. subst (λ (w : Option ℕ). Stan
 
 pub returns-in-Some-clause-only : goal.returns-in-Some-clause-only
 returns-in-Some-clause-only g c =
-    tells_one c.args.self.now c.args.self.now c.put.new.self _ _ refl (c.requires c.in-Some.owner.0 (ap owner_number (sym c.owner.ensures ∙ c.in-Some.is)))
+    tells_one c.args.self.now c.args.self.now c.put.new.self _ _ refl refl (c.requires c.in-Some.owner.0 (ap owner_number (sym c.owner.ensures ∙ c.in-Some.is)))
     refl refl c.put.ensures.next
 
 pub returns-in-None-clause-only : goal.returns-in-None-clause-only

@@ -1,5 +1,5 @@
 -- What a holder of ends has, and what each of its calls does to it (own choice, after libzmq's `pipe_t` and `socket_base_t`).
-use Rattle.std.specs.Prelude.{◌≡◌, ◌≢◌, ◌≤◌, ℕ, Bool, true, false, not, List, [], ◌∷◌, ◌++◌, Option, Some, None, if◌then◌else◌, filter, All}
+use Rattle.std.specs.Prelude.{◌≡◌, ◌≢◌, ◌≤◌, ℕ, Bool, true, false, not, List, [], ◌∷◌, ◌++◌, Option, Some, None, if◌then◌else◌, filter, All, map}
 use Rattle.std.specs.List.{list_any}
 use Rattle.zq_base.specs.declared.ids.EndId.{EndId}
 use Rattle.zq_base.specs.declared.kind.Kind.{Kind}
@@ -7,10 +7,11 @@ use Rattle.zq_base.specs.declared.kind.Kind.TheVariants.{Router, Pair}
 use Rattle.zq_base.specs.declared.attached.Attached.{Attached}
 use Rattle.zq_base.specs.declared.attached.Attached.TheVariants.{Yes, BadId, Second}
 use Rattle.spec_pattern.specs.Pipe.{max_capacity}
+use Rattle.spec_control.specs.declared.entry.Joining.{Joining}
 use Rattle.spec_control.specs.Control.{is_end}
 use Rattle.control_held.specs.Held.{Held}
-use Rattle.ctl_plane.specs.declared.halves.Halves.{Halves}
-use Rattle.ctl_plane.specs.declared.given.Given.{Given}
+use Rattle.ctl_holder.specs.declared.halves.Halves.{Halves}
+use Rattle.ctl_holder.specs.declared.given.Given.{Given}
 
 -- what a holder has
 pub record Holding (N : Type 0) : Type 0 where
@@ -152,3 +153,10 @@ module _ {N O I : Type 0} (out_name : O → N) (in_name : I → N) where
   abbrev pub held_optional : Option (EndId × Halves O I) → List (Held N)
   held_optional None = []
   held_optional (Some x) = held_with x.0 x.1 ∷ []
+
+  -- the list of these ends as the reaper takes them over: no peer is told, no kind refuses
+  abbrev pub given_as : Given N O I → Joining N
+  given_as g = record { end = g.end; peer = []; written = g.written; read = in_name g.input; answer = Yes; met = g.met }
+
+  abbrev pub AreGivenAs : List (Given N O I) → List (Joining N) → Type 0
+  AreGivenAs gs js = js ≡ map given_as gs

@@ -1,4 +1,5 @@
-use zq_base::EndId;
+use spec_control::Joining;
+use zq_base::{EndId, Seq};
 
 /// An end that a closed socket gives to the reaper.
 #[derive(Drop)]
@@ -11,4 +12,12 @@ pub struct Given<N, O, I> {
     pub input: I,
     /// Whether the reading half has met the other end's delimiter.
     pub met: bool,
+}
+
+/// The ends of a closed socket, and the list of them that the plane notes as the reaper takes them
+/// over: it is made with them, since neither the close nor the reaper takes memory.
+#[derive(Drop)]
+pub struct Parting<N, O, I> {
+    pub ends: Vec<Given<N, O, I>>,
+    pub joined: Seq<Joining<N>>,
 }

@@ -1,6 +1,6 @@
 ghost use Rattle.std.specs.Prelude.{◌≡◌, ◌+◌, [], true, false, Some, IfOk, IfErr, OnOk, map};
 
-use crate::given::Given;
+use crate::given::{Given, Parting};
 use crate::halves::Halves;
 use crate::made::Made;
 use msg_pipe::Pipes;
@@ -13,11 +13,11 @@ use zq_base::{Address, Attached, EndId, Kind, ObjId, Options, Peer, Settled};
 /// It has ends of one socket, of all that an I/O worker took in, or of the closed sockets of the
 /// reaper. The plane names the object with each end.
 pub trait Holder<P: Pipes> {
-    ghost use Rattle.ctl_plane.specs.Holding.{Holding, IsCapacity, MayRefuse, has_end, written_in};
-    ghost use Rattle.ctl_plane.specs.Holding.{read_in, Stays, Joined, Left, Yielded, HasGiven};
-    ghost use Rattle.ctl_plane.specs.Holding.{IsTold, IsPlugged, IsLast, held_with, AreCrossed};
-    ghost use Rattle.ctl_plane.specs.Holding.{held_given, held_optional};
-    ghost use Rattle.ctl_plane.specs.Holding.{AreMet, AllTold, AreAtDelimiter};
+    ghost use Rattle.ctl_holder.specs.Holding.{Holding, IsCapacity, MayRefuse, has_end, written_in};
+    ghost use Rattle.ctl_holder.specs.Holding.{read_in, Stays, Joined, Left, Yielded, HasGiven};
+    ghost use Rattle.ctl_holder.specs.Holding.{IsTold, IsPlugged, IsLast, held_with, AreCrossed};
+    ghost use Rattle.ctl_holder.specs.Holding.{held_given, held_optional};
+    ghost use Rattle.ctl_holder.specs.Holding.{AreMet, AllTold, AreAtDelimiter, AreGivenAs};
     ghost use Rattle.std.specs.Prelude.{Bool};
 
     /// What it has.
@@ -137,13 +137,15 @@ pub trait Holder<P: Pipes> {
         ensures { IsTold o.0 (holding self.old) (holding self.new) };
 
     /// Gives all ends of a socket that is closed.
-    fn give_ends(&mut self, o: ObjId) -> Vec<Given<P::Name, P::Out, P::In>>
+    fn give_ends(&mut self, o: ObjId) -> Parting<P::Name, P::Out, P::In>
         requires here { (holding self.old).holds o.0 ≡ true }
-        ensures all { map (held_given P.known.out_name P.known.in_name) result.items
+        ensures all { map (held_given P.known.out_name P.known.in_name) result.ends.items
             ≡ (holding self.old).ends o.0 }
+        ensures joined { AreGivenAs P.known.out_name P.known.in_name result.ends.items
+            result.joined }
         ensures none { HasGiven o.0 (holding self.old) (holding self.new) }
-        ensures told { AllTold (holding self.old).at_delimiter result.items }
-        ensures met { AreMet (ended self.new) result.items };
+        ensures told { AllTold (holding self.old).at_delimiter result.ends.items }
+        ensures met { AreMet (ended self.new) result.ends.items };
 
     /// Takes the ends of a closed socket. It needs no memory.
     fn take_ends(&mut self, o: ObjId, ends: Vec<Given<P::Name, P::Out, P::In>>)

@@ -1,0 +1,4 @@
+pub mod MailLemmas
+pub mod HeldLemmas
+pub mod TurnLemmas
+pub mod SettleLemmas

@@ -1,0 +1,199 @@
+-- What the commands in the mailboxes carry, through the small changes of the mailboxes.
+use Rattle.std.specs.Prelude.{◌≡◌, ◌<◌, ◌++◌, ◌∷◌, [], ℕ, true, false, List, Option, Some, None, All, length, flat_map, refl}
+use Rattle.std.proofs.Common.{sym, ap, ◌∙◌, subst, inl, inr}
+use Rattle.std.proofs.lemmas.Bool.{cases_eq}
+use Rattle.std.proofs.lemmas.List.{append-nil, get_or-set_same, get_or-set_other}
+use Rattle.std.proofs.lemmas.List.Concat.{flat_map-append}
+use Rattle.std.proofs.lemmas.List.Elements.{All-cons, All-nil, All-head, All-tail, All-append, All-weaker}
+use Rattle.mailbox.specs.Mail.{Mail, no_mail, with_sent, with_put_back}
+use Rattle.zq_base.specs.Ends.{other_end}
+use Rattle.zq_base.specs.declared.ids.EndId.{EndId}
+use Rattle.spec_control.specs.declared.entry.Item.{Item}
+use Rattle.spec_control.specs.declared.entry.Joining.{Joining}
+use Rattle.spec_control.specs.declared.letter.Word.{Word}
+use Rattle.spec_control.specs.declared.letter.Word.TheVariants.{Own, Plug, TermReq, Term, TermAck, PipeBind, PipeTerm, PipeTermAck, Stop, Reap}
+use Rattle.spec_control.specs.Names.{name_of}
+use Rattle.control_rows.proofs.ListLemmas.{never}
+use Rattle.ctl_holder.specs.declared.load.Load.{Load}
+use Rattle.ctl_holder.specs.declared.load.Load.TheVariants.{Halves, Writer, Ends}
+use Rattle.ctl_holder.specs.declared.given.Given.{Given}
+use Rattle.ctl_holder.specs.Load.{IsNamed, BringsHalvesOf, BringsWriterTo, BringsEnds, Carries, brings_ends, given_by}
+use Rattle.ctl_state.specs.declared.command.Command.{Command}
+use Rattle.ctl_state.specs.Boxes.{mail_at, with_mail, tells_object, IsBareTold, PutsBare, Takes}
+use Rattle.ctl_state.proofs.StandLemmas.{roomy}
+use Rattle.ctl_history.specs.Carried.{given_in, AreCarried}
+
+module _ {N O I : Type 0} (out_name : O → N) (in_name : I → N) where
+  module _ (early late : EndId → Option N) (more : (e : EndId) (n : N) → early e ≡ Some n → late e ≡ Some n) where
+    halves_later : (e : EndId) (load : Option (Load N O I)) → BringsHalvesOf out_name in_name early e load → BringsHalvesOf out_name in_name late e load
+    halves_later e (Some (Halves h)) is = record { out = is.out; input = is.input; written = more e h.written is.written; read = more (other_end e) h.read is.read }
+    halves_later e (Some (Writer o)) is = is
+    halves_later e (Some (Ends p)) is = is
+    halves_later e None is = is
+
+    writer_later : (e : EndId) (load : Option (Load N O I)) → BringsWriterTo out_name in_name early e load → BringsWriterTo out_name in_name late e load
+    writer_later e (Some (Halves h)) is = is
+    writer_later e (Some (Writer o)) is = more (other_end e) (out_name o) is
+    writer_later e (Some (Ends p)) is = is
+    writer_later e None is = is
+
+    named_later : (j : Joining N) → IsNamed out_name in_name early j → IsNamed out_name in_name late j
+    named_later j is = record { written = more j.end j.written is.written; read = more (other_end j.end) j.read is.read }
+
+    ends_later : (load : Option (Load N O I)) → BringsEnds out_name in_name early load → BringsEnds out_name in_name late load
+    ends_later (Some (Halves h)) is = is
+    ends_later (Some (Writer o)) is = is
+    ends_later (Some (Ends p)) is = record { listed = is.listed; named = All-weaker (IsNamed out_name in_name early) (IsNamed out_name in_name late) named_later p.joined is.named }
+    ends_later None is = is
+
+    -- names that are known stay so, and with them what is carried
+    pub carries_later : (word : Word) (load : Option (Load N O I)) → Carries out_name in_name early word load → Carries out_name in_name late word load
+    carries_later (Own child) load is = is
+    carries_later (Plug end) load is = is
+    carries_later (TermReq child) load is = is
+    carries_later Term load is = is
+    carries_later (TermAck child) load is = is
+    carries_later (PipeBind e peer) load is = halves_later e load is
+    carries_later (PipeTerm e) load is = is
+    carries_later (PipeTermAck e) load is = writer_later e load is
+    carries_later Stop load is = is
+    carries_later (Reap socket) load is = ends_later load is
+
+  module _ (names : EndId → Option N) where
+    halves_no_ends : (e : EndId) (load : Option (Load N O I)) → BringsHalvesOf out_name in_name names e load → given_by load ≡ []
+    halves_no_ends e (Some (Halves h)) is = refl
+    halves_no_ends e (Some (Writer o)) is = absurd is
+    halves_no_ends e (Some (Ends p)) is = absurd is
+    halves_no_ends e None is = absurd is
+
+    writer_no_ends : (e : EndId) (load : Option (Load N O I)) → BringsWriterTo out_name in_name names e load → given_by load ≡ []
+    writer_no_ends e (Some (Halves h)) is = absurd is
+    writer_no_ends e (Some (Writer o)) is = refl
+    writer_no_ends e (Some (Ends p)) is = absurd is
+    writer_no_ends e None is = absurd is
+
+    -- no other command brings a closed socket's ends
+    pub brings_none : (word : Word) (load : Option (Load N O I)) → brings_ends word ≡ false → Carries out_name in_name names word load → given_by load ≡ []
+    brings_none (Own child) load none is = ap given_by is
+    brings_none (Plug end) load none is = ap given_by is
+    brings_none (TermReq child) load none is = ap given_by is
+    brings_none Term load none is = ap given_by is
+    brings_none (TermAck child) load none is = ap given_by is
+    brings_none (PipeBind e peer) load none is = halves_no_ends e load is
+    brings_none (PipeTerm e) load none is = ap given_by is
+    brings_none (PipeTermAck e) load none is = writer_no_ends e load is
+    brings_none Stop load none is = ap given_by is
+    brings_none (Reap socket) load none is = absurd (never (sym none))
+
+    -- an object is told with no load
+    pub told_carries : (word : Word) (load : Option (Load N O I)) → load ≡ None → tells_object word ≡ true → Carries out_name in_name names word load
+    told_carries (Own child) load none told = none
+    told_carries (Plug end) load none told = none
+    told_carries (TermReq child) load none told = none
+    told_carries Term load none told = none
+    told_carries (TermAck child) load none told = none
+    told_carries (PipeBind e peer) load none told = absurd (never told)
+    told_carries (PipeTerm e) load none told = none
+    told_carries (PipeTermAck e) load none told = absurd (never told)
+    told_carries Stop load none told = none
+    told_carries (Reap socket) load none told = absurd (never told)
+
+  module _ {S : Type 0} (items : List (Item N S)) where
+    abbrev IsCarried : Command (Load N O I) → Type 0
+    IsCarried command = Carries out_name in_name (name_of items) command.letter.word command.load
+
+    -- ---- objects were told
+    told_is : (command : Command (Load N O I)) → IsBareTold command → IsCarried command
+    told_is command told = told_carries (name_of items) command.letter.word command.load told.empty told.word
+
+    pub told_carried : (old new : List (Mail (Command (Load N O I)))) → PutsBare old new → AreCarried out_name in_name items old → AreCarried out_name in_name items new
+    told_carried old new puts all m =
+        let g = puts.grows m in
+        subst (λ (xs : List (Command (Load N O I))). All IsCarried xs) (sym g.commands)
+        (All-append IsCarried (mail_at old m).commands g.more (all m) (All-weaker IsBareTold IsCarried told_is g.more g.bare))
+
+    -- ---- a command was taken, or put back
+    pub taken_carried : (k : ℕ) (command : Command (Load N O I)) (old new : List (Mail (Command (Load N O I)))) → Takes k command old new → AreCarried out_name in_name items old → AreCarried out_name in_name items new
+    taken_carried k command old new took all m =
+        elim (cases_eq m k) [
+          | inl same ↦
+              subst (λ (n : ℕ). All IsCarried (mail_at new n).commands) (sym same)
+              (All-tail IsCarried command (mail_at new k).commands (subst (λ (xs : List (Command (Load N O I))). All IsCarried xs) took.front (all k)))
+          | inr other ↦ subst (λ (mail : Mail (Command (Load N O I))). All IsCarried mail.commands) (sym (took.others m other)) (all m)
+        ]
+
+    pub taken_carries : (k : ℕ) (command : Command (Load N O I)) (old new : List (Mail (Command (Load N O I)))) → Takes k command old new → AreCarried out_name in_name items old →
+        Carries out_name in_name (name_of items) command.letter.word command.load
+    taken_carries k command old new took all =
+        All-head IsCarried command (mail_at new k).commands (subst (λ (xs : List (Command (Load N O I))). All IsCarried xs) took.front (all k))
+
+    set_carried : (k : ℕ) (mail : Mail (Command (Load N O I))) (boxes : List (Mail (Command (Load N O I)))) → k < length boxes → All IsCarried mail.commands →
+        AreCarried out_name in_name items boxes → AreCarried out_name in_name items (with_mail k mail boxes)
+    set_carried k mail boxes there is all m =
+        elim (cases_eq m k) [
+          | inl same ↦
+              subst (λ (n : ℕ). All IsCarried (mail_at (with_mail k mail boxes) n).commands) (sym same)
+              (subst (λ (x : Mail (Command (Load N O I))). All IsCarried x.commands) (sym (get_or-set_same boxes k mail no_mail there)) is)
+          | inr other ↦ subst (λ (x : Mail (Command (Load N O I))). All IsCarried x.commands) (sym (get_or-set_other boxes k m mail no_mail other)) (all m)
+        ]
+
+    pub sent_carried : (k : ℕ) (command : Command (Load N O I)) (boxes : List (Mail (Command (Load N O I)))) → 0 < (mail_at boxes k).spare → Carries out_name in_name (name_of items) command.letter.word command.load →
+        AreCarried out_name in_name items boxes → AreCarried out_name in_name items (with_mail k (with_sent command (mail_at boxes k)) boxes)
+    sent_carried k command boxes room is all =
+        set_carried k (with_sent command (mail_at boxes k)) boxes (roomy boxes k room)
+        (All-append IsCarried (mail_at boxes k).commands (command ∷ []) (all k) (All-cons IsCarried command [] is (All-nil IsCarried))) all
+
+-- ---- the ends on their way to the reaper
+module _ {N O I : Type 0} where
+  abbrev of_command : Command (Load N O I) → List (Given N O I)
+  of_command command = given_by command.load
+
+  told_none : (more : List (Command (Load N O I))) → All IsBareTold more → flat_map of_command more ≡ []
+  told_none [] all = refl
+  told_none (x ∷ xs) all =
+      ap (λ (ys : List (Given N O I)). ys ++ flat_map of_command xs) (ap given_by (All-head IsBareTold x xs all).empty) ∙ told_none xs (All-tail IsBareTold x xs all)
+
+  pub told_given : (old new : List (Mail (Command (Load N O I)))) → PutsBare old new → given_in new ≡ given_in old
+  told_given old new puts =
+      let g = puts.grows 0 in
+      ap (flat_map of_command) g.commands ∙ flat_map-append of_command (mail_at old 0).commands g.more
+      ∙ ap (λ (ys : List (Given N O I)). given_in old ++ ys) (told_none g.more g.bare) ∙ append-nil (given_in old)
+
+  pub taken_given : (k : ℕ) (command : Command (Load N O I)) (old new : List (Mail (Command (Load N O I)))) → Takes k command old new → given_by command.load ≡ [] → given_in new ≡ given_in old
+  taken_given k command old new took none =
+      elim (cases_eq 0 k) [
+        | inl same ↦
+            let front = subst (λ (n : ℕ). (mail_at old n).commands ≡ command ∷ (mail_at new n).commands) (sym same) took.front in
+            sym (ap (flat_map of_command) front ∙ ap (λ (ys : List (Given N O I)). ys ++ given_in new) none)
+        | inr other ↦ ap (λ (mail : Mail (Command (Load N O I))). flat_map of_command mail.commands) (took.others 0 other)
+      ]
+
+  set_given : (k : ℕ) (mail : Mail (Command (Load N O I))) (boxes : List (Mail (Command (Load N O I)))) → k < length boxes → flat_map of_command mail.commands ≡ flat_map of_command (mail_at boxes k).commands →
+      given_in (with_mail k mail boxes) ≡ given_in boxes
+  set_given k mail boxes there same =
+      elim (cases_eq 0 k) [
+        | inl here ↦
+            subst (λ (n : ℕ). flat_map of_command (mail_at (with_mail k mail boxes) n).commands ≡ flat_map of_command (mail_at boxes n).commands) (sym here)
+            (ap (λ (x : Mail (Command (Load N O I))). flat_map of_command x.commands) (get_or-set_same boxes k mail no_mail there) ∙ same)
+        | inr other ↦ ap (λ (x : Mail (Command (Load N O I))). flat_map of_command x.commands) (get_or-set_other boxes k 0 mail no_mail other)
+      ]
+
+  pub sent_given : (k : ℕ) (command : Command (Load N O I)) (boxes : List (Mail (Command (Load N O I)))) → 0 < (mail_at boxes k).spare → given_by command.load ≡ [] →
+      given_in (with_mail k (with_sent command (mail_at boxes k)) boxes) ≡ given_in boxes
+  sent_given k command boxes room none =
+      set_given k (with_sent command (mail_at boxes k)) boxes (roomy boxes k room)
+      (flat_map-append of_command (mail_at boxes k).commands (command ∷ []) ∙ ap (λ (ys : List (Given N O I)). flat_map of_command (mail_at boxes k).commands ++ ys) (append-nil (given_by command.load) ∙ none)
+      ∙ append-nil (flat_map of_command (mail_at boxes k).commands))
+
+  -- a command that is put back stands where it stood
+  pub back_same : (k : ℕ) (command : Command (Load N O I)) (old mid : List (Mail (Command (Load N O I)))) → Takes k command old mid → k < length mid → (m : ℕ) →
+      (mail_at (with_mail k (with_put_back command (mail_at mid k)) mid) m).commands ≡ (mail_at old m).commands
+  back_same k command old mid took there m =
+      elim (cases_eq m k) [
+        | inl same ↦
+            subst (λ (n : ℕ). (mail_at (with_mail k (with_put_back command (mail_at mid k)) mid) n).commands ≡ (mail_at old n).commands) (sym same)
+            (ap (λ (x : Mail (Command (Load N O I))). x.commands) (get_or-set_same mid k (with_put_back command (mail_at mid k)) no_mail there) ∙ sym took.front)
+        | inr other ↦
+            ap (λ (x : Mail (Command (Load N O I))). x.commands) (get_or-set_other mid k m (with_put_back command (mail_at mid k)) no_mail other)
+            ∙ ap (λ (x : Mail (Command (Load N O I))). x.commands) (took.others m other)
+      ]

@@ -1,0 +1,281 @@
+-- That a delivery with a holder adds its event.
+use Rattle.std.specs.Prelude.{◌≡◌, ◌≢◌, ◌<◌, ◌≤◌, ◌&&◌, ◌==◌, ◌-◌, ◌++◌, ◌∷◌, [], ℕ, true, false, List, Option, Some, None, All, map, flat_map, length, refl}
+use Rattle.std.specs.List.{list_any}
+use Rattle.std.proofs.Common.{arith, sym, ap, ◌∙◌, subst}
+use Rattle.std.proofs.lemmas.List.{append-nil, map-append, length-append}
+use Rattle.std.proofs.lemmas.List.Concat.{flat_map-append}
+use Rattle.std.proofs.lemmas.List.Elements.{All-head, All-tail, All-weaker, All-append}
+use Rattle.zq_base.specs.Ends.{other_end}
+use Rattle.zq_base.specs.declared.ids.EndId.{EndId}
+use Rattle.zq_base.specs.declared.ids.SlotId.{SlotId}
+use Rattle.zq_base.specs.declared.ids.Settled.{Settled}
+use Rattle.mailbox.specs.Mail.{Mail}
+use Rattle.spec_control.specs.declared.end.EndEvent.{EndEvent}
+use Rattle.spec_control.specs.declared.end.EndEvent.TheVariants.{TermCame, DelimiterSeen}
+use Rattle.spec_control.specs.declared.entry.Answered.{Answered}
+use Rattle.spec_control.specs.declared.entry.Did.{Did}
+use Rattle.spec_control.specs.declared.entry.Did.TheVariants.{Delivered}
+use Rattle.spec_control.specs.declared.entry.Item.{Item}
+use Rattle.spec_control.specs.declared.entry.Joining.{Joining}
+use Rattle.spec_control.specs.declared.entry.PipeName.{PipeName}
+use Rattle.spec_control.specs.declared.letter.Letter.{Letter}
+use Rattle.spec_control.specs.declared.letter.Word.{Word}
+use Rattle.spec_control.specs.declared.letter.Word.TheVariants.{Own, Plug, TermReq, Term, TermAck, PipeBind, PipeTerm, PipeTermAck, Stop, Reap}
+use Rattle.spec_control.specs.PairPhase.{behind_first}
+use Rattle.spec_control.specs.Names.{name_of, IsTold, FitsNames}
+use Rattle.spec_control.specs.Row.{Row, nobody}
+use Rattle.spec_control.specs.Stage.{has_ended}
+use Rattle.spec_control.specs.Control.{Control}
+use Rattle.spec_control.specs.After.{after, without_front}
+use Rattle.spec_control.specs.ControlRun.{Fits, IsAnswered, is_between, word_joins, Settles}
+use Rattle.control_held.specs.Held.{Held}
+use Rattle.control_held.proofs.NamedLemmas.{later}
+use Rattle.control_rows.proofs.ListLemmas.{never, placed}
+use Rattle.control_laws.specs.Kept.{Kept}
+use Rattle.control_laws.proofs.RootLemmas.{oldest_lives}
+use Rattle.control_moves.proofs.GuardLemmas.{may_come}
+use Rattle.control_bounds.specs.Room.{to_come, move_room, slots_of}
+use Rattle.ctl_holder.specs.declared.load.Load.{Load}
+use Rattle.ctl_holder.specs.declared.given.Given.{Given}
+use Rattle.ctl_holder.specs.Holding.{Holding}
+use Rattle.ctl_holder.specs.Lent.{HasBothNames, HasAll}
+use Rattle.ctl_holder.specs.Load.{Carries, IsNamed, brings_ends, given_by}
+use Rattle.ctl_state.specs.declared.command.Command.{Command}
+use Rattle.ctl_state.specs.declared.state.State.{State}
+use Rattle.ctl_state.specs.Boxes.{mail_at, Takes}
+use Rattle.ctl_state.specs.Stands.{Updates}
+use Rattle.ctl_ends.specs.Turning.{IsLoaded, PutsLoaded, TurnsAt}
+use Rattle.ctl_history.specs.Past.{Past, as_item, items_of, control_of, with_event, IsHistory}
+use Rattle.ctl_history.specs.Carried.{given_in, AreCarried, IsPlane}
+use Rattle.ctl_history.specs.Hearing.{is_heard, IsServed, IsAcknowledged, HearsEnd, MayHear, IsProcessed, HasWhat}
+use Rattle.ctl_history.proofs.CapacityLemmas.{capacity, taken_capacity, taken_spare}
+use Rattle.ctl_history.proofs.EventLemmas.{MakesNothing, kept_past, control_more, one_foreseen, has_entry, objects_made, pairs_drawn}
+use Rattle.ctl_history.proofs.CarryLemmas.{brings_none, taken_carried, taken_carries, taken_given}
+use Rattle.ctl_history.proofs.PlaneLemmas.{unplugged_made, one_plane}
+use Rattle.ctl_history.proofs.PlaneDoneLemmas.{word_makes}
+use Rattle.ctl_history.proofs.DoneLemmas.{taken_hears}
+use Rattle.ctl_history.proofs.HearLemmas.{turns_at}
+use Rattle.ctl_history.proofs.SettledLemmas.{acknowledged_at}
+
+-- ---- commands that were put with what they bring
+module _ {N O I : Type 0} (out_name : O → N) (in_name : I → N) where
+  module _ (names : EndId → Option N) (old new : List (Mail (Command (Load N O I)))) (puts : PutsLoaded out_name in_name names old new) where
+    pub loaded_capacity : (m : ℕ) → capacity new m ≡ capacity old m
+    loaded_capacity m =
+        let g = puts.grows m in
+        let all = ap (λ (xs : List (Command (Load N O I))). length xs) g.commands in
+        let parts = length-append (mail_at old m).commands g.more in
+        let spare = g.spare in
+        omega (arith, all, parts, spare)
+
+    no_given : (more : List (Command (Load N O I))) → All (λ command. IsLoaded out_name in_name names command) more → flat_map (λ (x : Command (Load N O I)). given_by x.load) more ≡ []
+    no_given [] all = refl
+    no_given (x ∷ xs) all =
+        let first = All-head (λ (y : Command (Load N O I)). IsLoaded out_name in_name names y) x xs all in
+        ap (λ (gs : List (Given N O I)). gs ++ flat_map (λ (y : Command (Load N O I)). given_by y.load) xs) (brings_none out_name in_name names x.letter.word x.load first.no_ends first.carries)
+        ∙ no_given xs (All-tail (λ (y : Command (Load N O I)). IsLoaded out_name in_name names y) x xs all)
+
+    pub loaded_given : given_in new ≡ given_in old
+    loaded_given =
+        let g = puts.grows 0 in
+        ap (flat_map (λ (x : Command (Load N O I)). given_by x.load)) g.commands ∙ flat_map-append (λ (x : Command (Load N O I)). given_by x.load) (mail_at old 0).commands g.more
+        ∙ ap (λ (gs : List (Given N O I)). given_in old ++ gs) (no_given g.more g.loaded) ∙ append-nil (given_in old)
+
+  pub loaded_carried : {S : Type 0} (items : List (Item N S)) (old new : List (Mail (Command (Load N O I)))) → PutsLoaded out_name in_name (name_of items) old new → AreCarried out_name in_name items old → AreCarried out_name in_name items new
+  loaded_carried items old new puts all m =
+      let g = puts.grows m in
+      subst (λ (xs : List (Command (Load N O I))). All (λ (x : Command (Load N O I)). Carries out_name in_name (name_of items) x.letter.word x.load) xs) (sym g.commands)
+      (All-append (λ (x : Command (Load N O I)). Carries out_name in_name (name_of items) x.letter.word x.load) (mail_at old m).commands g.more (all m)
+      (All-weaker (λ (x : Command (Load N O I)). IsLoaded out_name in_name (name_of items) x) (λ (x : Command (Load N O I)). Carries out_name in_name (name_of items) x.letter.word x.load) (λ x is. is.carries) g.more g.loaded))
+
+-- ---- names that are known later
+module _ {N : Type 0} (early late : EndId → Option N) (more : (e : EndId) (n : N) → early e ≡ Some n → late e ≡ Some n) where
+  names_later : (x : Held N) → HasBothNames early x → HasBothNames late x
+  names_later x has = record { written = more x.end x.written has.written; read = more (other_end x.end) x.read has.read }
+
+  pub has_later : (c : Control) (h : Holding N) → HasAll early c h → HasAll late c h
+  has_later c h has i holds = record {
+    ends = (has i holds).ends;
+    named = All-weaker (HasBothNames early) (HasBothNames late) names_later (h.ends i) (has i holds).named;
+    writes = (has i holds).writes;
+    delimiters = (has i holds).delimiters;
+  }
+
+-- ---- the control state once a command was taken
+joins_taken : (slot : ℕ) (c : Control) (word : Word) → word_joins (without_front slot c) word ≡ word_joins c word
+joins_taken slot c (Own child) = refl
+joins_taken slot c (Plug None) = refl
+joins_taken slot c (Plug (Some e)) = refl
+joins_taken slot c (TermReq child) = refl
+joins_taken slot c Term = refl
+joins_taken slot c (TermAck child) = refl
+joins_taken slot c (PipeBind e peer) = refl
+joins_taken slot c (PipeTerm e) = refl
+joins_taken slot c (PipeTermAck e) = refl
+joins_taken slot c Stop = refl
+joins_taken slot c (Reap socket) = refl
+
+settles_taken : (slot : ℕ) (c : Control) (word : Word) (counts : Option Settled) → Settles (without_front slot c) word counts → Settles c word counts
+settles_taken slot c (Own child) counts h = h
+settles_taken slot c (Plug end) counts h = h
+settles_taken slot c (TermReq child) counts h = h
+settles_taken slot c Term counts h = h
+settles_taken slot c (TermAck child) counts h = h
+settles_taken slot c (PipeBind e peer) counts h = h
+settles_taken slot c (PipeTerm e) counts h = h
+settles_taken slot c (PipeTermAck e) (Some counts) h = h
+settles_taken slot c (PipeTermAck e) None h = h
+settles_taken slot c Stop counts h = h
+settles_taken slot c (Reap socket) counts h = h
+
+heard_no_reap : (word : Word) → is_heard word ≡ true → brings_ends word ≡ false
+heard_no_reap (Own child) h = refl
+heard_no_reap (Plug end) h = refl
+heard_no_reap (TermReq child) h = refl
+heard_no_reap Term h = refl
+heard_no_reap (TermAck child) h = refl
+heard_no_reap (PipeBind e peer) h = refl
+heard_no_reap (PipeTerm e) h = refl
+heard_no_reap (PipeTermAck e) h = refl
+heard_no_reap Stop h = refl
+heard_no_reap (Reap socket) h = absurd (never h)
+
+not_seen : TermCame ≡ DelimiterSeen → ⊥
+not_seen f = grind arith
+
+module _ {N O I S : Type 0} (out_name : O → N) (in_name : I → N) (s mid : State (Load N O I)) (p : Past (Given N O I) N S) (spare : ℕ) (slot : SlotId) (command : Command (Load N O I)) (plane : IsPlane out_name in_name s p spare)
+    (took : Takes slot.0 command s.boxes mid.boxes) (first : Updates (without_front slot.0) s mid) (front : (control_of p).boxes slot.0 ≡ command.letter ∷ behind_first ((control_of p).boxes slot.0)) where
+  taken : Kept (control_of p)
+  taken = kept_past p plane.history.run
+
+  room_mid : (m : ℕ) → to_come (control_of p) m ≤ (mail_at mid.boxes m).spare
+  room_mid m = let most = plane.history.room m in let same = taken_spare slot.0 command s.boxes mid.boxes took m in omega (arith, most, same)
+
+  pub served : (h : Holding N) → ((i : ℕ) → IsServed (control_of p) slot.0 i → h.holds i ≡ true) → command.letter.to.0 ≢ 0 → h.holds command.letter.to.0 ≡ true
+  served h lent above =
+      let o = oldest_lives (control_of p) taken slot.0 command.letter.to.0 command.letter.word _ front in
+      lent command.letter.to.0 (record { no_root = above; there = placed (λ (r : Row). has_ended r.stage) (control_of p).rows.objects nobody command.letter.to.0 refl o.1; here = o.0 })
+
+  acks_taken : (h : Holding N) (to : ℕ) (e : EndId) → IsAcknowledged out_name in_name (name_of (items_of p)) (control_of p) mid h to e command.load →
+      IsAcknowledged out_name in_name (name_of (items_of p)) (without_front slot.0 (control_of p)) mid h to e command.load
+  acks_taken h to e t = record {
+    half = t.half;
+    brings = t.brings;
+    owner = t.owner;
+    settles = record {
+      lent = t.settles.lent;
+      within = t.settles.within;
+      listed = t.settles.listed;
+      state = t.settles.state;
+      there = t.settles.there;
+      may_come = t.settles.may_come;
+      unended = t.settles.unended;
+      pipe = t.settles.pipe;
+      room = t.settles.room;
+    };
+    ack_room = t.ack_room;
+  }
+
+  turns_taken : (h : Holding N) (e : EndId) (event : EndEvent) → TurnsAt out_name in_name (control_of p) mid h e event → TurnsAt out_name in_name (without_front slot.0 (control_of p)) mid h e event
+  turns_taken h e event t = record {
+    lent = t.lent;
+    within = t.within;
+    listed = t.listed;
+    state = t.state;
+    there = t.there;
+    may_come = t.may_come;
+    delimiter = t.delimiter;
+    room = t.room;
+  }
+
+  pub ends_for : (h : Holding N) (to : ℕ) (word : Word) (rest : List Letter) → (to ≢ 0 → h.holds to ≡ true) → (control_of p).boxes slot.0 ≡ record { to = record { 0 = to }; word = word } ∷ rest →
+      Carries out_name in_name (name_of (items_of p)) word command.load →
+      HearsEnd out_name in_name (name_of (items_of p)) (without_front slot.0 (control_of p)) mid h to word command.load
+  ends_for h to (Own child) rest lent is carries = tt
+  ends_for h to (Plug end) rest lent is carries = tt
+  ends_for h to (TermReq child) rest lent is carries = tt
+  ends_for h to Term rest lent is carries = tt
+  ends_for h to (TermAck child) rest lent is carries = tt
+  ends_for h to (PipeBind e peer) rest lent is carries = tt
+  ends_for h to (PipeTerm e) rest lent is carries =
+      let comes_to = may_come (control_of p) taken slot.0 rest to (PipeTerm e) is in
+      turns_taken h e TermCame (turns_at (control_of p) taken out_name in_name mid h e TermCame comes_to.comes
+      (λ above. ap h.holds comes_to.owner ∙ lent (λ z. above (comes_to.owner ∙ z))) (λ seen. absurd (not_seen seen)) room_mid)
+  ends_for h to (PipeTermAck e) rest lent is carries =
+      let comes_to = may_come (control_of p) taken slot.0 rest to (PipeTermAck e) is in
+      let o = oldest_lives (control_of p) taken slot.0 to (PipeTermAck e) rest is in
+      acks_taken h to e (acknowledged_at out_name in_name (control_of p) taken (name_of (items_of p)) mid h to e command.load carries comes_to.comes comes_to.owner
+      (placed (λ (r : Row). has_ended r.stage) (control_of p).rows.objects nobody to refl o.1) o.1 lent room_mid)
+  ends_for h to Stop rest lent is carries = tt
+  ends_for h to (Reap socket) rest lent is carries = tt
+
+  abbrev pub may_hear : (h : Holding N) → HasWhat p h → ((i : ℕ) → IsServed (control_of p) slot.0 i → h.holds i ≡ true) →
+      MayHear out_name in_name mid h command.letter command.load
+  may_hear h has lent = record {
+    control = without_front slot.0 (control_of p);
+    names = name_of (items_of p);
+    stands = first (control_of p) plane.history.stands;
+    has = has;
+    lent = served h lent;
+    hears = taken_hears s mid p spare slot command plane.history took front;
+    ends = ends_for h command.letter.to.0 command.letter.word _ (served h lent) front (taken_carries out_name in_name (items_of p) slot.0 command s.boxes mid.boxes took plane.carried);
+  }
+
+  module _ (t : State (Load N O I)) (k : Holding N) (a : Answered N S) (held : list_any (λ o. is_between o && o.slot == slot.0) (control_of p).rows.objects ≡ false) (heard : is_heard command.letter.word ≡ true)
+      (done : IsProcessed out_name in_name mid t k (name_of (items_of p)) (without_front slot.0 (control_of p)) command.letter a) where
+    abbrev did : Did N S
+    did = Delivered slot command.letter a
+
+    answered : IsAnswered (control_of p) did
+    answered = record {
+      joined = done.answers.joined ∙ joins_taken slot.0 (control_of p) command.letter.word;
+      kinds = done.answers.kinds;
+      opened = ap (λ (ns : List (PipeName N)). map (λ n. n.pipe) ns) done.answers.opened;
+      settled = settles_taken slot.0 (control_of p) command.letter.word a.settled done.answers.settled;
+      output = λ left. absurd (never (sym done.answers.output ∙ left));
+    }
+
+    fits : Fits (control_of p) did
+    fits = record { may = record { behind = _; oldest = front; held = held }; answered = answered }
+
+    nothing : MakesNothing (control_of p) did
+    nothing = record {
+      no_room = λ m. word_makes (move_room (slots_of (after did (control_of p)).rows) m) (λ i event. refl) (λ e event. refl) command.letter.to.0 command.letter.word;
+      no_entries = refl;
+      no_objects = word_makes objects_made (λ i event. refl) (λ e event. refl) command.letter.to.0 command.letter.word;
+      no_pairs = word_makes pairs_drawn (λ i event. refl) (λ e event. refl) command.letter.to.0 command.letter.word;
+      foreseen = refl;
+    }
+
+    history : IsHistory t (with_event did p) (spare - 1)
+    history =
+        one_foreseen s t p did spare plane.history fits done.led.stands nothing
+        (λ m. (let put = loaded_capacity out_name in_name (name_of (items_of p)) mid.boxes t.boxes done.led.puts m in let gone = taken_capacity slot.0 command s.boxes mid.boxes took m in omega (arith, put, gone)))
+        (done.led.puts.many ∙ took.many)
+
+    told : (j : Joining N) → IsNamed out_name in_name (name_of (items_of p)) j → IsTold (items_of p ++ as_item did ∷ []) j
+    told j is = record { written = later (items_of p) (as_item did ∷ []) j.end j.written is.written; read = later (items_of p) (as_item did ∷ []) (other_end j.end) j.read is.read }
+
+    names_fit : FitsNames (items_of p) (as_item did)
+    names_fit = All-weaker (IsNamed out_name in_name (name_of (items_of p))) (IsTold (items_of p ++ as_item did ∷ [])) told a.joined done.answers.named
+
+    pub delivers : IsPlane out_name in_name t (with_event did p) (spare - 1)
+    delivers =
+        one_plane out_name in_name s t p did spare (spare - 1) plane history names_fit
+        (loaded_carried out_name in_name (items_of p) mid.boxes t.boxes done.led.puts (taken_carried out_name in_name (items_of p) slot.0 command s.boxes mid.boxes took plane.carried))
+        (word_makes unplugged_made (λ i event. refl) (λ e event. refl) command.letter.to.0 command.letter.word)
+
+    pub delivers_entry : 0 < spare
+    delivers_entry = has_entry s p did spare plane.history fits refl refl
+
+    pub delivers_given : given_in t.boxes ≡ given_in s.boxes
+    delivers_given =
+        loaded_given out_name in_name (name_of (items_of p)) mid.boxes t.boxes done.led.puts
+        ∙ taken_given slot.0 command s.boxes mid.boxes took
+        (brings_none out_name in_name (name_of (items_of p)) command.letter.word command.load (heard_no_reap command.letter.word heard) (taken_carries out_name in_name (items_of p) slot.0 command s.boxes mid.boxes took plane.carried))
+
+    pub delivers_keeps : HasWhat (with_event did p) k
+    delivers_keeps =
+        subst (λ (c : Control). HasAll (name_of (items_of (with_event did p))) c k) (sym (control_more p did))
+        (subst (λ (items : List (Item N S)). HasAll (name_of items) (after did (control_of p)) k) (sym (map-append as_item p.events (did ∷ [])))
+        (has_later (name_of (items_of p)) (name_of (items_of p ++ as_item did ∷ [])) (later (items_of p) (as_item did ∷ [])) (after did (control_of p)) k done.led.has))

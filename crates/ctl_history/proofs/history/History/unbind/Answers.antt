@@ -1,0 +1,30 @@
+use Rattle.std.specs.Prelude.{◌≡◌, None}
+use Rattle.std.proofs.Common.{sym, subst}
+use Rattle.spec_control.specs.declared.request.Req.TheVariants.{Unbind}
+use Rattle.spec_control.specs.Rows.{obj}
+use Rattle.spec_control.specs.ControlRun.{IsOpenSocket}
+use Rattle.spec_control.specs.Reply.{reply_of}
+use Rattle.ctl_holder.specs.declared.given.Given.{Given}
+use Rattle.ctl_history.specs.Past.{Past, control_of}
+use Rattle.ctl_history.specs.Refusals.{refusal_in}
+use Rattle.ctl_history.proofs.CarryLemmas.{told_given}
+use Rattle.ctl_history.proofs.DoneLemmas.{noted_event}
+use Rattle.ctl_history.proofs.PlaneLemmas.{planed_noted}
+use Rattle.ctl_history.proofs.StrikeLemmas.{unbind_done, unbinds_plane}
+use Rattle.ctl_history.proofs.history.History.unbind.Goals as goal
+
+pub invariant_of-self-in-None : goal.invariant_of-self-in-None
+invariant_of-self-in-None g c =
+    planed_noted g.P.Pipes.known.out_name g.P.Pipes.known.in_name c.strike_bind.new.state c.self.inside.workers c.self.inside.events c.reserve.new.self c.push.new.self _ _ _ c.in_ok-reserve-in-None.ensures.ok c.push.ensures
+    (unbinds_plane g.P.Pipes.known.out_name g.P.Pipes.known.in_name c.self.inside.state c.strike_bind.new.state _ _ c.args.socket c.args.at c.args.h c.self.invariant
+    (subst (λ (p : Past (Given g.row.P-Name.Denot g.row.P-Out.Denot g.row.P-In.Denot) g.row.P-Name.Denot g.row.P-Story.Denot). IsOpenSocket (obj (control_of p).rows c.args.socket.0)) (sym c.self.view_is) c.requires.open) c.requires.silent
+    (sym (c.in-None.ensures _ c.self.invariant.history.stands)) c.strike_bind.ensures.stands c.strike_bind.ensures.only)
+
+pub returns-in-None-clause-ok : goal.returns-in-None-clause-ok
+returns-in-None-clause-ok g c =
+    noted_event c.args.self.now c.self.inside.workers c.self.inside.events c.reserve.new.self c.push.new.self _ _ _ (sym c.self.view_is) c.in_ok-reserve-in-None.ensures.ok c.push.ensures
+    (told_given c.self.inside.state.boxes c.strike_bind.new.state.boxes c.strike_bind.ensures.only)
+
+pub returns-in-None-clause-reply : goal.returns-in-None-clause-reply
+returns-in-None-clause-reply g c =
+    sym (unbind_done (control_of c.args.self.now) c.args.socket c.args.at (subst (λ (p : Past (Given g.row.P-Name.Denot g.row.P-Out.Denot g.row.P-In.Denot) g.row.P-Name.Denot g.row.P-Story.Denot). refusal_in (reply_of (control_of p) (Unbind c.args.socket c.args.at)) ≡ None) c.self.view_is (sym (c.in-None.ensures _ c.self.invariant.history.stands))))

@@ -1,0 +1,172 @@
+-- What an object needs to hear a command with its holder, and what it has done then (own choice).
+use Rattle.std.specs.Prelude.{◌≡◌, ◌≢◌, ◌<◌, ◌&&◌, ◌==◌, cond, ℕ, Bool, true, false, List, [], ◌∷◌, Option, Some, None, All, map}
+use Rattle.zq_base.specs.Ends.{other_end}
+use Rattle.zq_base.specs.declared.ids.EndId.{EndId}
+use Rattle.zq_base.specs.declared.ids.SlotId.{SlotId}
+use Rattle.spec_control.specs.declared.end.EndEvent.TheVariants.{TermCame, AckCame}
+use Rattle.spec_control.specs.declared.letter.Letter.{Letter}
+use Rattle.spec_control.specs.declared.letter.Word.{Word}
+use Rattle.spec_control.specs.declared.letter.Word.TheVariants.{Own, Plug, TermReq, Term, TermAck, PipeBind, PipeTerm, PipeTermAck, Stop, Reap}
+use Rattle.spec_control.specs.declared.entry.Answered.{Answered}
+use Rattle.spec_control.specs.declared.entry.Did.TheVariants.{Delivered, Delimited}
+use Rattle.spec_control.specs.Rows.{obj}
+use Rattle.spec_control.specs.Control.{Control, commands_in, happens, next_object, owner_of, place_of, try_end}
+use Rattle.spec_control.specs.Place.{looks}
+use Rattle.spec_control.specs.After.{answers_in, processed, settle}
+use Rattle.spec_control.specs.ControlRun.{Joins, word_joins, MayAnswerAll, Settles, IsSettled}
+use Rattle.zq_base.specs.declared.ids.Settled.{Settled}
+use Rattle.spec_control.specs.Names.{name_of}
+use Rattle.ctl_holder.specs.declared.load.Load.{Load}
+use Rattle.ctl_holder.specs.declared.load.Load.TheVariants.{Halves, Writer, Ends}
+use Rattle.ctl_holder.specs.Holding.{Holding}
+use Rattle.ctl_holder.specs.Lent.{HasAll}
+use Rattle.ctl_holder.specs.Load.{IsNamed}
+use Rattle.ctl_state.specs.declared.state.State.{State}
+use Rattle.ctl_state.specs.Stands.{Stands, tells}
+use Rattle.ctl_state.specs.Boxes.{mail_at}
+use Rattle.ctl_ends.specs.Turning.{PutsLoaded, TurnsAt}
+use Rattle.ctl_ends.specs.Settling.{SettlesAt}
+use Rattle.ctl_history.specs.declared.heard.Heard.{Heard}
+use Rattle.ctl_history.specs.declared.heard.Heard.TheVariants.{Done, Empty, ForHolder}
+use Rattle.ctl_history.specs.Past.{Past, items_of, control_of, with_event, IsSilent}
+use Rattle.ctl_history.specs.Bare.{Hears}
+
+-- the commands that are processed; each other one waits
+abbrev pub is_heard : Word → Bool
+is_heard (Own child) = true
+is_heard (Plug end) = false
+is_heard (TermReq child) = true
+is_heard Term = false
+is_heard (TermAck child) = true
+is_heard (PipeBind e peer) = false
+is_heard (PipeTerm e) = true
+is_heard (PipeTermAck e) = true
+is_heard Stop = true
+is_heard (Reap socket) = false
+
+-- a load is a writing half
+abbrev pub BringsWriter : {N O I : Type 0} → Option (Load N O I) → Type 0
+BringsWriter (Some (Halves h)) = ⊥
+BringsWriter (Some (Writer o)) = Unit {0}
+BringsWriter (Some (Ends p)) = ⊥
+BringsWriter None = ⊥
+
+-- an object whose commands come to this mailbox, but for the root
+pub record IsServed (c : Control) (slot i : ℕ) : Type 0 where
+  pub no_root : i ≢ 0
+  pub there : i < next_object c
+  pub here : (obj c.rows i).slot ≡ slot
+
+module _ {N S : Type 0} where
+  -- a pipe was settled with these counts, and else there was nothing to answer for
+  pub record HasCounts (counts : Settled) (a : Answered N S) : Type 0 where
+    pub joined : a.joined ≡ []
+    pub opened : a.opened ≡ []
+    pub settled : a.settled ≡ Some counts
+    pub output : a.output_left ≡ false
+
+module _ {N O I : Type 0} (out_name : O → N) (in_name : I → N) where
+  -- the other end's acknowledgement may come to an end of this object, with what it brings, and with room for the object's own acknowledgement behind it
+  pub record IsAcknowledged (names : EndId → Option N) (c : Control) (s : State (Load N O I)) (h : Holding N) (at : ℕ) (e : EndId) (load : Option (Load N O I)) : Type 0 where
+    pub half : O
+    pub brings : load ≡ Some (Writer half)
+    pub owner : owner_of c e ≡ at
+    pub settles : SettlesAt out_name in_name names c s h e half
+    pub ack_room : (w : ℕ) → (obj c.rows at).owner ≡ Some w →
+        cond (tells (commands_in AckCame (place_of c e)) && (obj c.rows (owner_of c (other_end e))).slot == (obj c.rows w).slot) 1 0 < (mail_at s.boxes (obj c.rows w).slot).spare
+
+  -- what a command for an end needs
+  abbrev pub HearsEnd : (names : EndId → Option N) → Control → State (Load N O I) → Holding N → (at : ℕ) → Word → Option (Load N O I) → Type 0
+  HearsEnd names c s h at (Own child) load = Unit {0}
+  HearsEnd names c s h at (Plug end) load = Unit {0}
+  HearsEnd names c s h at (TermReq child) load = Unit {0}
+  HearsEnd names c s h at Term load = Unit {0}
+  HearsEnd names c s h at (TermAck child) load = Unit {0}
+  HearsEnd names c s h at (PipeBind e peer) load = Unit {0}
+  HearsEnd names c s h at (PipeTerm e) load = TurnsAt out_name in_name c s h e TermCame
+  HearsEnd names c s h at (PipeTermAck e) load = IsAcknowledged names c s h at e load
+  HearsEnd names c s h at Stop load = Unit {0}
+  HearsEnd names c s h at (Reap socket) load = Unit {0}
+
+  -- a command was taken that an object may hear, with a holder that has what the control state says
+  pub record MayHear (s : State (Load N O I)) (h : Holding N) (letter : Letter) (load : Option (Load N O I)) : Type 0 where
+    pub control : Control
+    pub names : EndId → Option N
+    pub stands : Stands s control
+    pub has : HasAll names control h
+    pub lent : letter.to.0 ≢ 0 → h.holds letter.to.0 ≡ true
+    pub hears : Hears s letter.to.0 letter.word control
+    pub ends : HearsEnd names control s h letter.to.0 letter.word load
+
+  -- an acknowledgement came, and its object has a holder that is lent
+  pub record MayAcknowledge (s : State (Load N O I)) (h : Holding N) (at : ℕ) (e : EndId) (load : Option (Load N O I)) : Type 0 where
+    pub control : Control
+    pub names : EndId → Option N
+    pub stands : Stands s control
+    pub has : HasAll names control h
+    pub comes : IsAcknowledged names control s h at e load
+
+  -- the state was changed so with the holder, and commands were put
+  pub record Led (names : EndId → Option N) (now : Control) (s t : State (Load N O I)) (k : Holding N) : Type 0 where
+    pub stands : Stands t now
+    pub has : HasAll names now k
+    pub puts : PutsLoaded out_name in_name names s.boxes t.boxes
+    pub lists : t.objects.lists ≡ s.objects.lists
+
+  -- the pipe was settled, and the object ended if it could
+  pub record Acknowledges (names : EndId → Option N) (c : Control) (at : ℕ) (e : EndId) (counts : Settled) (s t : State (Load N O I)) (k : Holding N) : Type 0 where
+    pub led : Led names (try_end at false (settle e (Some counts) (happens AckCame e c))) s t k
+    pub settled : IsSettled (c.reasons e) counts
+
+  -- the holder answered what the command asks
+  pub record AnswersTo {S : Type 0} (names : EndId → Option N) (c : Control) (letter : Letter) (a : Answered N S) : Type 0 where
+    pub joined : map (λ j. let x : Joins = record { end = j.end; peer = j.peer; met = j.met } in x) a.joined ≡ word_joins c letter.word
+    pub kinds : MayAnswerAll (processed letter.to.0 letter.word (answers_in a) c) a.joined
+    pub opened : a.opened ≡ []
+    pub settled : Settles c letter.word a.settled
+    pub output : a.output_left ≡ false
+    pub named : All (IsNamed out_name in_name names) a.joined
+
+  -- a command was processed
+  pub record IsProcessed {S : Type 0} (s t : State (Load N O I)) (k : Holding N) (names : EndId → Option N) (c : Control) (letter : Letter) (a : Answered N S) : Type 0 where
+    pub answers : AnswersTo names c letter a
+    pub led : Led names (processed letter.to.0 letter.word (answers_in a) c) s t k
+
+module _ {G N S : Type 0} where
+  -- a lent holder has of its objects what the events say
+  abbrev pub HasWhat : Past G N S → Holding N → Type 0
+  HasWhat p h = HasAll (name_of (items_of p)) (control_of p) h
+
+  -- the oldest command of a mailbox was processed
+  pub record TakesOldest (slot : SlotId) (old new : Past G N S) : Type 0 where
+    pub letter : Letter
+    pub behind : List Letter
+    pub oldest : (control_of old).boxes slot.0 ≡ letter ∷ behind
+    pub heard : is_heard letter.word ≡ true
+    pub answered : Answered N S
+    pub step : new ≡ with_event (Delivered slot letter answered) old
+
+  -- it waits still
+  pub record LeavesOldest (slot : SlotId) (p : Past G N S) : Type 0 where
+    pub letter : Letter
+    pub behind : List Letter
+    pub oldest : (control_of p).boxes slot.0 ≡ letter ∷ behind
+    pub left : is_heard letter.word ≡ false
+
+  -- what a delivery found: only a command that was processed changes anything
+  abbrev pub FindsOldest : SlotId → Heard → (old new : Past G N S) → Type 0
+  FindsOldest slot Done old new = TakesOldest slot old new
+  FindsOldest slot Empty old new = ((control_of old).boxes slot.0 ≡ []) × (new ≡ old)
+  FindsOldest slot ForHolder old new = LeavesOldest slot old × (new ≡ old)
+
+  -- an end met its delimiter, and nothing else happened
+  pub record NotesDelimiter (e : EndId) (old new : Past G N S) : Type 0 where
+    pub looked_at : looks (place_of (control_of old) e) ≡ true
+    pub answered : Answered N S
+    pub silent : IsSilent answered
+    pub step : new ≡ with_event (Delimited e answered) old
+
+  -- a delimiter counts where it is looked at
+  abbrev pub MeetsDelimiter : EndId → Bool → (old new : Past G N S) → Type 0
+  MeetsDelimiter e true old new = NotesDelimiter e old new
+  MeetsDelimiter e false old new = (looks (place_of (control_of old) e) ≡ false) × (new ≡ old)

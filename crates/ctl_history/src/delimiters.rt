@@ -1,0 +1,54 @@
+ghost use Rattle.std.specs.Prelude.{◌≡◌, true, false};
+ghost use Rattle.spec_control.specs.Place.{looks};
+ghost use Rattle.spec_control.specs.Rows.{obj};
+ghost use Rattle.spec_control.specs.Control.{Control, owner_of, place_of};
+ghost use Rattle.spec_control.specs.ControlRun.{is_between};
+ghost use Rattle.ctl_state.specs.Stands.{Stands};
+ghost use Rattle.ctl_history.specs.Past.{control_of};
+ghost use Rattle.ctl_history.specs.Hearing.{HasWhat, MeetsDelimiter};
+
+use crate::hearing::silent;
+use crate::history::History;
+use ctl_ends::turn_end;
+use ctl_holder::Holder;
+use ctl_state::State;
+use msg_pipe::Pipes;
+use spec_control::{Did, EndEvent, EndState};
+use std::alloc::Global;
+use zq_base::EndId;
+
+// Whether the front of the pipe that an end reads is looked at.
+fn is_looked_at<L: Drop>(state: &State<L>, e: EndId) -> bool
+    ensures { (c : Control) → Stands state.now c → result ≡ looks (place_of c e) }
+{
+    match state.end_state(e) {
+        Some(EndState::Active | EndState::WaitDelimiter) => return true,
+        Some(EndState::DelimiterGot | EndState::AckSent | EndState::AskedOnce) => return false,
+        Some(EndState::AskedTwice | EndState::Gone) | None => return false,
+    }
+}
+
+impl<P: Pipes> History<P>
+where
+    P::Name: Drop,
+{
+    /// Notes that an end is at the delimiter of the pipe that it reads, with the holder of its
+    /// object, if the end is one in whose state that is looked at; else nothing happens. Whether it
+    /// is one is the answer. It takes no memory.
+    pub fn delimiter<H: Holder<P>>(&mut self, alloc: Global, e: EndId, holder: &mut H) -> bool
+        requires at { (H.holding holder.old).at_delimiter e ≡ true }
+        requires lent { (H.holding holder.old).holds (owner_of (control_of self.old) e) ≡ true }
+        requires held { is_between (obj (control_of self.old).rows
+            (owner_of (control_of self.old) e)) ≡ false }
+        requires has { HasWhat self.old (H.holding holder.old) }
+        ensures found { MeetsDelimiter e result self.old self.new }
+        ensures keeps { HasWhat self.new (H.holding holder.new) }
+    {
+        if !is_looked_at(&self.state, e) {
+            return false;
+        }
+        turn_end(&mut self.state, holder, e, EndEvent::DelimiterSeen);
+        self.events.push(Did::Delimited(e, silent(alloc)));
+        true
+    }
+}

@@ -1,0 +1,14 @@
+//! What the control plane asks of the holders of ends, and what its commands carry.
+#![tactic(auto)]
+
+mod given;
+mod halves;
+mod holder;
+mod load;
+mod made;
+
+pub use given::{Given, Parting};
+pub use halves::{Halves, NamedHalves};
+pub use holder::Holder;
+pub use load::Load;
+pub use made::Made;
