@@ -1,0 +1,7 @@
+mod OverLemmas
+mod KeepLemmas
+mod EventLemmas
+mod StayLemmas
+mod OrderLemmas
+mod DoneLemmas
+mod TurnLemmas

@@ -1,0 +1,20 @@
+ghost use Rattle.run_laws.specs.DoneRuns.{DoneRunsLeaveNothing};
+ghost use Rattle.run_laws.specs.EndOrder.{ObjectsEndInOrder};
+ghost use Rattle.run_laws.specs.TurnsLocal.{TurnsAreLocal};
+
+/// In a run, on one thread or on many, the objects in the order of their ending are those that have
+/// ended, each once, and each child stands before its owner.
+pub fn objects_end_once_and_in_order<N, S>()
+    ensures { ObjectsEndInOrder N S }
+{}
+
+/// Where the root has ended, so has each object, both pipes of each pair were settled once, and no
+/// object is shown as living.
+pub fn done_runs_leave_nothing<N, S>()
+    ensures { DoneRunsLeaveNothing N S }
+{}
+
+/// Where a run goes in turns, each worker does what its role asks, by its own deeds alone.
+pub fn turns_are_local<N, S>()
+    ensures { TurnsAreLocal N S }
+{}

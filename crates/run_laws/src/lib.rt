@@ -1,0 +1,7 @@
+//! Laws of runs of scripts over sockets that end: each object ends once, and after what it owns; where
+//! the root has ended nothing is left; what goes in turns goes by each worker's own deeds.
+#![tactic(auto)]
+
+mod laws;
+
+pub use laws::{done_runs_leave_nothing, objects_end_once_and_in_order, turns_are_local};

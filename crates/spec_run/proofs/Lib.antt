@@ -1,0 +1,13 @@
+mod PlainLemmas
+mod CapacityLemmas
+mod FateLemmas
+mod JournalLemmas
+mod RowLemmas
+mod ClosingFacts
+mod LeftFacts
+mod TermFacts
+mod ShortFacts
+mod ReadFacts
+mod EventFacts
+mod RefusedFacts
+mod WorkedFacts

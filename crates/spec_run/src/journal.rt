@@ -1,0 +1,65 @@
+use spec_control::{ObjKind, Reason};
+use spec_journal::{Answer, PipeRow};
+use spec_pattern::Skip;
+use zq_base::{ObjId, Octets, PairId, Seq};
+
+/// What a line of a script was answered.
+#[derive(Drop)]
+pub enum LineAnswer {
+    /// As it is where sockets do not end.
+    Plain(Answer),
+    /// This session was made, with its pair.
+    Both(ObjId, PairId),
+    /// The socket has no such bind or connect.
+    NotBound,
+    /// The context was asked to end.
+    Term,
+}
+
+/// A line that was answered, by its number in the script, with the messages that all its tries dropped.
+#[derive(Drop)]
+pub struct LineEntry {
+    pub line: u32,
+    pub answer: LineAnswer,
+    pub skips: Seq<Skip>,
+}
+
+/// An actor's answers, in the order of its lines.
+#[derive(Drop)]
+pub struct ActorLines {
+    pub name: Octets,
+    pub entries: Seq<LineEntry>,
+}
+
+/// An object and what it is.
+#[derive(Clone, Copy, Debug, PartialEq, Eq)]
+pub struct ObjectLine {
+    pub object: ObjId,
+    pub kind: ObjKind,
+}
+
+/// What became of the messages of a pipe that was settled, and why the end that read it was asked.
+#[derive(Clone, Copy, Debug, PartialEq, Eq)]
+pub struct SettledRow {
+    pub counts: PipeRow,
+    pub reason: Option<Reason>,
+}
+
+/// What an object is, and whether it has ended.
+#[derive(Clone, Copy, Debug, PartialEq, Eq)]
+pub struct ObjectRow {
+    pub kind: ObjKind,
+    pub ended: bool,
+}
+
+/// What is printed of a run: the answers, the objects in the order of their ending, the row of each
+/// pipe that was settled, from pair 1 on, that written by end a before the other's, with none where
+/// it was not; the objects by number from 0, and whether the root has ended.
+#[derive(Drop)]
+pub struct RunJournal {
+    pub actors: Seq<ActorLines>,
+    pub ended: Seq<ObjectLine>,
+    pub pipes: Seq<Option<SettledRow>>,
+    pub objects: Seq<ObjectRow>,
+    pub done: bool,
+}
