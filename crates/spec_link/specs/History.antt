@@ -19,7 +19,7 @@ pub record Basis : Type 0 where
   pub interval : ℕ
   pub linger : Option ℕ
 
--- what happens, in order: an accept gave the session its link; it dialled; an act at its link or its end; its link was over and let go; its end came into this state; its Term was processed; the plane tried to end it, and found output left or none; it gave up; something became due to the plane
+-- what happens, in order: an accept gave the session its link; it dialled; an act at its link or its end; its link was over and let go; its end came into this state; its Term was processed; the plane tried to end it, and found output left or none; it gave up; something became due to the plane; and that was handed to the plane
 pub data SessionEvent : Type 0 where
   Given : SessionEvent
   Dialled : (now : ℕ) → HostAnswer → SessionEvent
@@ -30,8 +30,9 @@ pub data SessionEvent : Type 0 where
   Tried : (left : Bool) → SessionEvent
   GaveUp : SessionEvent
   IsDue : Due → SessionEvent
+  Handed : Due → SessionEvent
 
--- how a session stands: the acts at its link where it has one, its links that are over, the moment from which a dial is due, the moment of its Term, the state of its end once it is made, whether the plane's last try found output, whether it gave up, and all that became due
+-- how a session stands: the acts at its link where it has one, its links that are over, the moment from which a dial is due, the moment of its Term, the state of its end once it is made, whether the plane's last try found output, whether it gave up, all that became due, and all of it that was handed to the plane
 pub record Standing : Type 0 where
   pub link : Option (List LinkAct)
   pub closed : List ClosedLink
@@ -41,9 +42,10 @@ pub record Standing : Type 0 where
   pub waits : Bool
   pub gave_up : Bool
   pub dues : List Due
+  pub handed : List Due
 
 abbrev pub unborn : Standing
-unborn = record { link = None; closed = []; dial_at = 0; told = None; state = None; waits = false; gave_up = false; dues = [] }
+unborn = record { link = None; closed = []; dial_at = 0; told = None; state = None; waits = false; gave_up = false; dues = []; handed = [] }
 
 -- the moment so many milliseconds later, at most the greatest reading
 abbrev pub later : ℕ → ℕ → ℕ
@@ -81,6 +83,7 @@ after b s (Told now) = record s { told = Some now }
 after b s (Tried left) = record s { waits = left }
 after b s GaveUp = record s { gave_up = true }
 after b s (IsDue due) = record s { dues = s.dues ++ due ∷ [] }
+after b s (Handed due) = record s { handed = s.handed ++ due ∷ [] }
 
 -- after some more, and after all so far
 abbrev pub after_all : Basis → Standing → List SessionEvent → Standing

@@ -7,6 +7,7 @@ pub mod Rows
 pub mod InFlight
 pub mod History
 pub mod Turn
+pub mod Handing
 pub mod Listening
 pub mod Across
 pub mod Examples

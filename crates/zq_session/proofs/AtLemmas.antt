@@ -1,11 +1,12 @@
 -- What the calls at a link do, by the half that is there.
-use Rattle.std.proofs.Common.{◌≡◌, ℕ, Bool, true, false, List, [], ◌∷◌, ◌++◌, Option, Some, None, refl, sym, ap, subst, ◌∙◌, inl, inr}
-use Rattle.std.specs.Prelude.{◌⊎◌, IsSome, option_map}
+use Rattle.std.proofs.Common.{◌≡◌, ℕ, Bool, true, false, List, [], ◌++◌, Option, Some, None, refl, sym, ap, subst, ◌∙◌}
+use Rattle.std.specs.Prelude.{IsSome, MatchOption}
 use Rattle.std.specs.List.{flat_map}
 use Rattle.std.proofs.lemmas.List.{append-nil}
 use Rattle.zq_base.specs.Message.{Frames}
 use Rattle.zq_base.specs.Ends.{PipeId}
 use Rattle.zq_base.specs.declared.options.EngineOpts.{EngineOpts}
+use Rattle.zq_base.specs.declared.kind.Kind.TheVariants.{Push}
 use Rattle.zq_outer.specs.declared.link.LinkGot.{LinkGot}
 use Rattle.zq_outer.specs.declared.link.LinkPut.{LinkPut}
 use Rattle.msg_pipe.specs.Known.{Known}
@@ -13,27 +14,87 @@ use Rattle.msg_pipe.specs.Told.{take_step}
 use Rattle.msg_pipe.specs.declared.pipes.Taken.{Taken}
 use Rattle.msg_pipe.specs.declared.pipes.Taken.TheVariants as taken
 use Rattle.spec_pattern.specs.PipeStep.{PipeStep}
-use Rattle.spec_link.specs.LinkAct.{LinkAct, Step, said_of, heard_of}
-use Rattle.spec_link.specs.Parts.{IsSilentReadPart, NothingHeld, write_acts, read_acts}
-use Rattle.spec_link.specs.History.{Basis}
+use Rattle.spec_link.specs.LinkAct.{LinkAct, said_of, heard_of}
+use Rattle.spec_link.specs.Parts.{IsSilentReadPart, NothingHeld, SomethingHeld, write_acts, read_acts, puts}
 use Rattle.spec_link.specs.Turn.{IsWriteOnly}
 use Rattle.zq_session.specs.declared.write_part.Written.{Written}
+use Rattle.zq_session.specs.declared.life.ReadMode.{ReadMode}
 use Rattle.zq_session.specs.declared.life.ReadMode.TheVariants as mode
-use Rattle.zq_session.specs.Kept.{Kept, HasRun, Acts}
-use Rattle.zq_session.specs.Calls.{Adds, TakeRun, PutsRun, put_acts}
-use Rattle.zq_session.specs.Works.{take_acts, fetched_of, TookRun, WritesBy, ReadsBy}
+use Rattle.zq_session.specs.Kept.{Kept, Acts, IsKeptOf, KeepsActs, without_puts}
+use Rattle.zq_session.specs.Calls.{Adds, TakeRun, put_acts}
+use Rattle.zq_session.specs.Works.{take_acts, TookRun, WritesBy, ReadsBy, WantsBy}
 use Rattle.zq_session.specs.Silent.{HearsBy}
-use Rattle.zq_session.specs.Single.{WritesAlone, PutsBy}
-use Rattle.zq_session.specs.Halves.{AtIn, StepRun, StepsRun, step_in}
-use Rattle.zq_session.specs.Doing.{WritesAtBy, ReadsAtBy}
+use Rattle.zq_session.specs.Single.{WritesAlone, PutsBy, DropsBy}
+use Rattle.zq_session.specs.Halves.{StepRun, StepsRun, step_in}
+use Rattle.zq_session.specs.Doing.{WritesAtBy, ReadsAtBy, WantsAtBy}
 use Rattle.zq_session.specs.BothParts.{LastBy}
-use Rattle.zq_session.proofs.KeptLemmas.{acts_same, no_acts}
-use Rattle.zq_session.proofs.PartLemmas.{adds_none}
+use Rattle.zq_session.proofs.KeptLemmas.{acts_on, acts_same, no_acts}
+use Rattle.zq_session.proofs.UnputLemmas.{does_by, does_nothing, does_puts, run_of, unput_on, unput_puts, unput_read}
+use Rattle.zq_session.proofs.PartLemmas.{adds_none, some_pipe}
 use Rattle.zq_session.proofs.HalfLemmas.{no_steps, one_step, puts_steps}
 use Rattle.zq_session.proofs.BothLemmas.{write_says, write_hears, write_steps, put_says, put_hears}
 
 no_true : (b : Bool) → b ≡ false → b ≡ true → ⊥
 no_true b e d = absurd cc
+
+-- a silent reading part reads where it is due
+no_read : (answer : Option LinkGot) (octets : List ℕ) → [] ≡ read_acts answer octets → answer ≡ None
+no_read None octets e = refl
+no_read (Some a) octets e = absurd cc
+
+waits_not : (reads : Type 0) (got : Option LinkGot) (octets : List ℕ) → IsSilentReadPart reads (read_acts got octets) → reads → got ≡ None → ⊥
+waits_not reads got octets part due none =
+    part.waits (no_read part.answer part.octets (subst (λ (x : Option LinkGot). read_acts x octets ≡ read_acts part.answer part.octets) none part.all)) due
+
+-- acts behind what was dropped
+dropped_then : (k0 k1 k2 : Kept) (pipe : PipeId) (ms : List Frames) (reads more : List LinkAct) (opts : EngineOpts) → opts.kind ≡ Push → without_puts reads ≡ more → Acts k0 (puts pipe ms) k1 → Acts k1 reads k2
+    → KeepsActs opts k0 more k2
+dropped_then k0 k1 k2 pipe ms reads more opts e same f g =
+    does_by opts k0 k2 (puts pipe ms ++ reads) more (acts_on k0 k1 k2 (puts pipe ms) reads f g) (λ n. absurd (n e))
+    (λ _. unput_on (puts pipe ms) reads [] more (unput_puts pipe ms) same)
+
+-- ---- a reading part that memory cut short
+
+match_by : (answer : Option LinkGot) (X Y : Type 0) → (answer ≡ None → X) → (IsSome answer → Y) → MatchOption answer X (λ _. Y)
+match_by None X Y f g = f refl
+match_by (Some a) X Y f g = g refl
+
+some_if : (answer : Option LinkGot) → (answer ≡ None → ⊥) → IsSome answer
+some_if None f = absurd (f refl)
+some_if (Some a) f = refl
+
+module _ (A : Type 0) (shown : Option LinkGot → Type 0) (k0 k1 : Kept) (heard heard' : Option (List ℕ)) (rest : A) (w : WantsBy A k0 k1 heard heard' shown) where
+  wants_run_at : (opts : EngineOpts) → (opts.kind ≡ Push → ⊥) → KeepsActs opts k0 (read_acts w.answer w.octets) k1
+  wants_run_at opts n = does_puts opts k0 k1 (read_acts w.answer w.octets) n w.run
+
+  wants_part_at : (opts : EngineOpts) (acts : List LinkAct) → (opts.kind ≡ Push → ⊥) → IsKeptOf opts acts k0 → MatchOption w.answer (SomethingHeld opts acts) (λ _. NothingHeld opts acts)
+  wants_part_at opts acts n r =
+      let run = run_of opts acts k0 n r in
+      match_by w.answer (SomethingHeld opts acts) (NothingHeld opts acts) (w.held rest opts acts run) (w.read rest opts acts run)
+
+  pub wants_puts : WantsAtBy mode.Puts k0 k1 heard heard' shown
+  wants_puts = record { answer = w.answer; octets = w.octets; fits = w.fits; told = w.told; run = wants_run_at; part = wants_part_at; counts = w.counts }
+
+  pub wants_holds : WantsAtBy mode.Holds k0 k1 heard heard' shown
+  wants_holds = record { answer = w.answer; octets = w.octets; fits = w.fits; told = w.told; run = wants_run_at; part = wants_part_at; counts = w.counts }
+
+pub wants_drops : (A : Type 0) (shown : Option LinkGot → Type 0) (k0 k1 k2 : Kept) (heard heard' : Option (List ℕ)) → A → (d : DropsBy k0 k1) → (w : WantsBy A k1 k2 heard heard' shown)
+    → WantsAtBy mode.Drops k0 k2 heard heard' shown
+wants_drops A shown k0 k1 k2 heard heard' rest d w = record {
+  answer = w.answer;
+  octets = w.octets;
+  fits = w.fits;
+  told = w.told;
+  run = λ opts e. dropped_then k0 k1 k2 some_pipe d.messages (read_acts w.answer w.octets) (read_acts w.answer w.octets) opts e (unput_read w.answer w.octets) (d.run some_pipe) w.run;
+  part = λ opts acts e r.
+      let all = r.all ++ puts some_pipe d.messages in
+      let after = d.run some_pipe opts r.all r.run in
+      some_if w.answer (λ none. (d.none opts all after).1 (w.held rest opts all after none));
+  counts = w.counts;
+}
+
+pub wants_as : (reads how : ReadMode) (k0 k1 : Kept) (heard heard' : Option (List ℕ)) (shown : Option LinkGot → Type 0) → how ≡ reads → WantsAtBy reads k0 k1 heard heard' shown → WantsAtBy how k0 k1 heard heard' shown
+wants_as reads how k0 k1 heard heard' shown e w = subst (λ (m : ReadMode). WantsAtBy m k0 k1 heard heard' shown) (sym e) w
 
 -- a list with nothing behind it
 or_nothing : (P : List LinkAct → Type 0) (xs : List LinkAct) → P xs → P (xs ++ [])
@@ -92,8 +153,8 @@ module _ {S O I N : Type 0} (K : Known S O I N) where
     fits = refl;
     told = adds_none heard;
     steps = λ pipe i. no_steps K s i o;
-    run = λ pipe. no_acts k;
-    part = λ pipe opts acts r. refl;
+    run = λ pipe opts _. does_nothing opts k;
+    part = λ pipe opts acts _ r. refl;
   }
 
   pub reads_puts : (A : Type 0) (k0 k1 : Kept) (got : Option LinkGot) (heard heard' : Option (List ℕ)) (s s' : S) (o o' : Option O) (h h' : O) → A → o ≡ Some h → o' ≡ Some h'
@@ -108,22 +169,49 @@ module _ {S O I N : Type 0} (K : Known S O I N) where
         subst (λ (x : Option O). StepsRun K (flat_map step_in (put_acts pipe r.messages r.full)) s i x s' i o') (sym was)
         (subst (λ (x : Option O). StepsRun K (flat_map step_in (put_acts pipe r.messages r.full)) s i (Some h) s' i x) (sym is)
         (puts_steps K pipe r.messages r.full s s' i h h' r.puts));
-    run = r.run;
-    part = λ pipe opts acts run. r.part rest pipe opts acts run;
+    run = λ pipe opts n. does_puts opts k0 k1 (read_acts got r.octets ++ put_acts pipe r.messages r.full) n (r.run pipe);
+    part = λ pipe opts acts n run. r.part rest pipe opts acts (run_of opts acts k0 n run);
   }
 
   pub reads_holds : (k0 k1 : Kept) (got : Option LinkGot) (heard heard' : Option (List ℕ)) (s : S) (o : Option O) → (r : HearsBy k0 got k1 heard heard')
       → ReadsAtBy K mode.Holds k0 got k1 heard heard' s o s o
-  reads_holds k0 k1 got heard heard' s o r = record {
-    octets = r.octets;
-    messages = [];
-    full = false;
-    fits = r.fits;
-    told = r.told;
-    steps = λ pipe i. no_steps K s i o;
-    run = λ pipe. acts_same k0 k1 (read_acts got r.octets) (read_acts got r.octets ++ []) (sym (append-nil (read_acts got r.octets))) r.run;
-    part = λ pipe opts acts run. or_nothing (λ l. IsSilentReadPart (NothingHeld opts acts) l) (read_acts got r.octets) (r.part opts acts run);
-  }
+  reads_holds k0 k1 got heard heard' s o r =
+      let reads = read_acts got r.octets in
+      record {
+        octets = r.octets;
+        messages = [];
+        full = false;
+        fits = r.fits;
+        told = r.told;
+        steps = λ pipe i. no_steps K s i o;
+        run = λ pipe opts n. does_puts opts k0 k1 (reads ++ []) n (acts_same k0 k1 reads (reads ++ []) (sym (append-nil reads)) r.run);
+        part = λ pipe opts acts n run. or_nothing (λ l. IsSilentReadPart (NothingHeld opts acts) l) reads (r.part opts acts (run_of opts acts k0 n run));
+      }
+
+  pub reads_drops : (k0 k1 k2 : Kept) (got : Option LinkGot) (heard heard' : Option (List ℕ)) (s : S) (o : Option O) → (d : DropsBy k0 k1) → (r : HearsBy k1 got k2 heard heard')
+      → ReadsAtBy K mode.Drops k0 got k2 heard heard' s o s o
+  reads_drops k0 k1 k2 got heard heard' s o d r =
+      let reads = read_acts got r.octets in
+      record {
+        octets = r.octets;
+        messages = [];
+        full = false;
+        fits = r.fits;
+        told = r.told;
+        steps = λ pipe i. no_steps K s i o;
+        run = λ pipe opts e. dropped_then k0 k1 k2 pipe d.messages reads (reads ++ []) opts e (unput_read got r.octets ∙ sym (append-nil reads)) (d.run pipe) r.run;
+        part = λ pipe opts acts e run. record {
+          answer = got;
+          octets = r.octets;
+          all = append-nil reads;
+          fits = r.fits;
+          read = λ _. tt;
+          waits = λ none _.
+              let after = d.run some_pipe opts run.all run.run in
+              waits_not (NothingHeld opts (run.all ++ puts some_pipe d.messages)) got r.octets (r.part opts (run.all ++ puts some_pipe d.messages) after)
+              (d.none opts (run.all ++ puts some_pipe d.messages) after).0 none;
+        };
+      }
 
   -- ---- the last acts
 

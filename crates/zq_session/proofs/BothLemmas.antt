@@ -1,13 +1,13 @@
 -- The two parts of a turn, by how the session stands.
-use Rattle.std.proofs.Common.{◌≡◌, ◌<◌, ℕ, zero, suc, Bool, true, false, List, [], ◌∷◌, ◌++◌, length, drop, Option, Some, None, refl, sym, ap, subst, ◌∙◌, inl, inr, arith}
-use Rattle.std.specs.Prelude.{◌⊎◌, ◌&&◌, if◌then◌else◌, Contains, IsSome, MatchOption, option_map}
+use Rattle.std.proofs.Common.{◌≡◌, ℕ, zero, suc, Bool, true, false, List, [], ◌∷◌, ◌++◌, length, drop, Option, Some, None, refl, sym, ap, subst, ◌∙◌, inl, inr, arith}
+use Rattle.std.specs.Prelude.{◌⊎◌, ◌&&◌, if◌then◌else◌, Contains, option_map}
 use Rattle.std.specs.List.{flat_map}
 use Rattle.std.proofs.lemmas.List.{append-nil}
 use Rattle.std.proofs.lemmas.List.Concat.{flat_map-append}
 use Rattle.zq_base.specs.Message.{Frames}
 use Rattle.zq_base.specs.Ends.{PipeId}
 use Rattle.zq_base.specs.declared.options.EngineOpts.{EngineOpts}
-use Rattle.zq_base.specs.declared.kind.Kind.TheVariants.{Push}
+use Rattle.zq_base.specs.declared.kind.Kind.{Kind}
 use Rattle.zq_outer.specs.declared.link.LinkGot.{LinkGot}
 use Rattle.zq_outer.specs.declared.link.LinkPut.{LinkPut}
 use Rattle.zq_outer.specs.declared.link.LinkPut.TheVariants as link_put
@@ -22,26 +22,25 @@ use Rattle.spec_control.specs.declared.end.EndState.TheVariants.{Active}
 use Rattle.spec_link.specs.declared.row.LinkEnd.{LinkEnd}
 use Rattle.spec_link.specs.declared.row.LinkEnd.TheVariants as why
 use Rattle.spec_link.specs.LinkAct.{LinkAct, Wire, Step, Writes, Reads, said_by, heard_by, said_of, heard_of, taken_of, repeated_of}
-use Rattle.spec_link.specs.Parts.{IsTake, IsWritePart, IsReadPart, IsSilentReadPart, IsWriteOver, NothingHeld, WriteFits, ReadFits, write_acts, read_acts, puts}
+use Rattle.spec_link.specs.Parts.{IsTake, IsWritePart, IsWriteOver, WriteFits, ReadFits, write_acts, read_acts}
 use Rattle.spec_link.specs.History.{Basis, Standing}
 use Rattle.spec_link.specs.Rows.{ClosedLink}
-use Rattle.spec_link.specs.Turn.{IsEnded, IsEndedBy, EndsBy, IsWriteOnly, IsNextOf, HasNext, WritesAt, ReadsAt, CanRead, topics_due, topics_left, topics_taken, subscribes, no_more, puts as puts_at, holds, write_end, read_end, read_pipe}
+use Rattle.spec_link.specs.Turn.{IsEnded, IsEndedBy, EndsBy, IsWriteOnly, IsNextOf, HasNext, WritesAt, ReadsAt, CanRead, topics_due, topics_left, topics_taken, subscribes, no_more, puts as puts_at, drops, holds, write_end, read_end, read_pipe}
 use Rattle.zq_session.specs.declared.wire.Fetched.{Fetched}
 use Rattle.zq_session.specs.declared.wire.Fetched.TheVariants as fetched
 use Rattle.zq_session.specs.declared.write_part.Written.{Written}
 use Rattle.zq_session.specs.declared.life.Life.{Life}
 use Rattle.zq_session.specs.declared.life.ReadMode.{ReadMode}
 use Rattle.zq_session.specs.declared.life.ReadMode.TheVariants as mode
-use Rattle.zq_session.specs.declared.parts.Done.{Done}
-use Rattle.zq_session.specs.Kept.{Kept, HasRun, Acts}
-use Rattle.zq_session.specs.Calls.{Adds, full_acts, put_acts}
-use Rattle.zq_session.specs.Works.{take_acts, fetched_of, WantsBy}
-use Rattle.zq_session.specs.Lives.{Story, basis_of, standing_of}
-use Rattle.zq_session.specs.LifeView.{IsReadable, IsWritable}
+use Rattle.zq_session.specs.Kept.{Kept}
+use Rattle.zq_session.specs.Calls.{Adds, put_acts}
+use Rattle.zq_session.specs.Works.{take_acts, fetched_of}
+use Rattle.zq_session.specs.Lives.{basis_of, standing_of}
+use Rattle.zq_session.specs.LifeView.{IsReadable}
 use Rattle.zq_session.specs.Halves.{StepsRun, step_in}
-use Rattle.zq_session.specs.Doing.{WritesAtBy, ReadsAtBy, ReadsAs, IsReading, EndsAs}
-use Rattle.zq_session.specs.BothParts.{IsPlain, AreParts, AreCut, PartsBy, CutBy}
-use Rattle.zq_session.proofs.KeptLemmas.{acts_on}
+use Rattle.zq_session.specs.Doing.{WritesAtBy, ReadsAtBy, WantsAtBy, ReadsAs, IsReading, IsFor, EndsAs}
+use Rattle.zq_session.specs.BothParts.{SaysNoTopics, PartsBy, CutBy}
+use Rattle.zq_session.proofs.UnputLemmas.{does_these, does_on, does_as, unput_writing, tells_as, write_part_as, write_only_as}
 use Rattle.zq_session.proofs.ListLemmas.{in_either, in_left, in_right, in_one, the_one, in_none}
 use Rattle.zq_session.proofs.HalfLemmas.{steps_on}
 
@@ -232,15 +231,14 @@ drop_none zero [] e = refl
 drop_none (suc n) [] e = refl
 drop_none n (x ∷ l) e = absurd cc
 
-no_topics : {A : Type 0} (dials silent : Bool) (topics : List A) → silent ≡ false → (if dials && silent then topics else []) ≡ []
-no_topics true true topics e = absurd cc
-no_topics true false topics e = refl
-no_topics false silent topics e = refl
+no_topics : {A : Type 0} (says : Bool) (topics : List A) → says ≡ false → (if says then topics else []) ≡ []
+no_topics true topics e = absurd cc
+no_topics false topics e = refl
 
--- a session of a plain kind has no topics to say again
-no_topics_left : (b : Basis) (s : Standing) (acts : List LinkAct) → subscribes b.opts.kind ≡ false → topics_left b s acts ≡ []
+-- one that has no topics to say again
+no_topics_left : (b : Basis) (s : Standing) (acts : List LinkAct) → SaysNoTopics b.dials b.opts → topics_left b s acts ≡ []
 no_topics_left b s acts e =
-    drop_none (length (repeated_of acts)) (topics_due b s.closed) (no_topics b.dials (subscribes b.opts.kind) (topics_taken (flat_map (λ (link : ClosedLink). taken_of link.acts) s.closed)) e)
+    drop_none (length (repeated_of acts)) (topics_due b s.closed) (no_topics (b.dials && subscribes b.opts.kind) (topics_taken (flat_map (λ (link : ClosedLink). taken_of link.acts) s.closed)) e)
 
 -- the writing part where these topics are left
 abbrev pub WritesWith : Basis → Standing → List Topic → (acts more : List LinkAct) → Type 0
@@ -261,7 +259,7 @@ next_part b acts more w = record {
   wait = w.wait;
 }
 
-pub writes_at : (b : Basis) (s : Standing) (acts more : List LinkAct) (can_read : Bool) → subscribes b.opts.kind ≡ false → (can_read ≡ true → CanRead s) → (can_read ≡ false → CanRead s → ⊥)
+pub writes_at : (b : Basis) (s : Standing) (acts more : List LinkAct) (can_read : Bool) → SaysNoTopics b.dials b.opts → (can_read ≡ true → CanRead s) → (can_read ≡ false → CanRead s → ⊥)
     → (can_read ≡ true → IsWritePart b.opts (IsTake (read_pipe b)) acts more) → (can_read ≡ false → IsWriteOnly b acts more) → WritesAt b s acts more
 writes_at b s acts more true plain sure never takes alone =
     subst (λ (t : List Topic). WritesWith b s t acts more) (sym (no_topics_left b s acts plain)) (inl (sure refl, next_part b acts more (takes refl)))
@@ -271,10 +269,18 @@ writes_at b s acts more false plain sure never takes alone =
 none_some : {X : Type 0} (o : Option EndState) (x : EndState) → o ≡ None → o ≡ Some x → X
 none_some o x e d = absurd cc
 
-pub reads_at : (b : Basis) (s : Standing) (how : ReadMode) (acts more : List LinkAct) → IsPlain b.opts → IsReading s.state s.told how → ReadsAs how b.opts b.end acts more → ReadsAt b s acts more
-reads_at b s mode.Nothing acts more plain is r = no_more is r
-reads_at b s mode.Puts acts more plain is r = puts_at (λ never. none_some s.state Active never.1 is) plain.keeps is r
-reads_at b s mode.Holds acts more plain is r = holds is.0 plain.keeps is.1 r
+pub reads_at : (b : Basis) (s : Standing) (how : ReadMode) (kind : Kind) (acts more : List LinkAct) → IsFor how b.opts → IsReading kind s.state s.told how → ReadsAs how b.opts b.end acts more → ReadsAt b s acts more
+reads_at b s mode.Nothing kind acts more for_kind is r = no_more is r
+reads_at b s mode.Puts kind acts more for_kind is r = puts_at (λ never. none_some s.state Active never.1 is.1) for_kind is.1 r
+reads_at b s mode.Holds kind acts more for_kind is r = holds is.0 for_kind is.1.1 r
+reads_at b s mode.Drops kind acts more for_kind is r = drops is.0 for_kind r
+
+-- how it reads fits its kind
+pub is_for : (how : ReadMode) (opts : EngineOpts) (kind : Kind) (state : Option EndState) (told : Option ℕ) → opts.kind ≡ kind → IsReading kind state told how → IsFor how opts
+is_for mode.Nothing opts kind state told e is = tt
+is_for mode.Puts opts kind state told e is = λ push. is.0 (sym e ∙ push)
+is_for mode.Holds opts kind state told e is = λ push. is.1.0 (sym e ∙ push)
+is_for mode.Drops opts kind state told e is = e ∙ is.1
 
 no_answer : (a : LinkGot) → None ≡ Some a → ⊥
 no_answer a e = absurd cc
@@ -282,7 +288,7 @@ no_answer a e = absurd cc
 module _ {S O I N : Type 0} (K : Known S O I N) where
   -- both parts
   pub parts_by : (l : Life) (can_read : Bool) (how : ReadMode) (k0 k1 k2 : Kept) (done : Written) (answer : Option LinkGot) (said said' heard heard' : Option (List ℕ)) (s s1 s2 : S) (i i1 : Option I) (o o2 : Option O)
-      → (can_read ≡ true → IsReadable l.state) → (can_read ≡ false → IsReadable l.state → ⊥) → IsReading l.state l.told how → (IsWriteOver done.put → ⊥)
+      → (can_read ≡ true → IsReadable l.state) → (can_read ≡ false → IsReadable l.state → ⊥) → IsReading l.kind l.state l.told how → (IsWriteOver done.put → ⊥)
       → (w : WritesAtBy K can_read k0 done k1 said said' s i s1 i1) → (r : ReadsAtBy K how k1 answer k2 heard heard' s1 o s2 o2)
       → PartsBy K l k0 (record { written = done; got = answer }) k2 said said' heard heard' s i o s2 i1 o2
   parts_by l can_read how k0 k1 k2 done answer said said' heard heard' s s1 s2 i i1 o o2 sure never is stands w r =
@@ -304,13 +310,16 @@ module _ {S O I N : Type 0} (K : Known S O I N) where
             (added step_in (write_acts done.put w.octets) (take_acts inward w.found) [] (flat_map step_in (take_acts inward w.found)) (write_steps done.put w.octets) refl)
             (added step_in (read_acts answer r.octets) (put_acts l.end r.messages r.full) [] (flat_map step_in (put_acts l.end r.messages r.full)) (read_steps answer r.octets) refl)))
             (steps_on K (flat_map step_in (take_acts inward w.found)) (flat_map step_in (put_acts l.end r.messages r.full)) s s1 s2 i i1 i1 o o o2 (w.steps inward o) (r.steps l.end i1));
-        run = acts_on k0 k1 k2 writes reads (w.run inward) (r.run l.end);
-        parts = λ p acts plain run. record {
-          write = writes_at (basis_of l p) (standing_of l p) acts writes can_read plain.silent sure never
-              (λ e. w.takes e inward p.opts acts run) (λ e. w.alone e inward (basis_of l p) acts run);
+        run = λ opts kind. does_on opts k0 k1 k2 writes reads (does_these opts k0 k1 writes (unput_writing done.put w.octets inward w.found) (w.run inward)) (r.run l.end opts (is_for how opts l.kind l.state l.told kind is));
+        parts = λ p acts kind silent run. record {
+          write = writes_at (basis_of l p) (standing_of l p) acts writes can_read silent sure never
+              (λ e. write_part_as p.opts (IsTake inward) run.all acts writes (tells_as p.opts acts k0 run) (w.takes e inward p.opts run.all run.run))
+              (λ e. write_only_as (basis_of l p) run.all acts writes (tells_as p.opts acts k0 run) (w.alone e inward (basis_of l p) run.all run.run));
           read = inr (
             not_over done.put w.octets inward w.found stands,
-            reads_at (basis_of l p) (standing_of l p) how (acts ++ writes) reads plain is (r.part l.end p.opts (acts ++ writes) (w.run inward p.opts acts run)),
+            (let fits = is_for how p.opts l.kind l.state l.told kind is in
+                reads_at (basis_of l p) (standing_of l p) how l.kind (acts ++ writes) reads fits is
+                (r.part l.end p.opts (acts ++ writes) fits (does_these p.opts k0 k1 writes (unput_writing done.put w.octets inward w.found) (w.run inward) acts run))),
           );
         };
         met = λ e. met_in done.put w.octets inward w.found done.look w.look e;
@@ -346,10 +355,11 @@ module _ {S O I N : Type 0} (K : Known S O I N) where
         steps = subst (λ (x : List PipeStep). StepsRun K x s i o s1 i1 o)
             (sym (ap (λ (l : List LinkAct). flat_map step_in l) all ∙ added step_in (write_acts done.put w.octets) (take_acts inward w.found) [] (flat_map step_in (take_acts inward w.found)) (write_steps done.put w.octets) refl))
             (w.steps inward o);
-        run = λ opts acts r. subst (λ (x : List LinkAct). HasRun opts (acts ++ x) k1) (sym all) (w.run inward opts acts r);
-        parts = λ p acts plain run. record {
-          write = writes_at (basis_of l p) (standing_of l p) acts writes can_read plain.silent sure never
-              (λ e. w.takes e inward p.opts acts run) (λ e. w.alone e inward (basis_of l p) acts run);
+        run = λ opts kind. does_as opts k0 k1 writes (writes ++ []) (sym all) (does_these opts k0 k1 writes (unput_writing done.put w.octets inward w.found) (w.run inward));
+        parts = λ p acts kind silent run. record {
+          write = writes_at (basis_of l p) (standing_of l p) acts writes can_read silent sure never
+              (λ e. write_part_as p.opts (IsTake inward) run.all acts writes (tells_as p.opts acts k0 run) (w.takes e inward p.opts run.all run.run))
+              (λ e. write_only_as (basis_of l p) run.all acts writes (tells_as p.opts acts k0 run) (w.alone e inward (basis_of l p) run.all run.run));
           read = inl (is_over_ends done.put w.octets inward w.found over, refl);
         };
         met = λ e. met_in done.put w.octets inward w.found done.look w.look e;
@@ -364,11 +374,11 @@ module _ {S O I N : Type 0} (K : Known S O I N) where
       }
 
   -- the second cut short where memory wants
-  pub parts_cut : (A : Type 0) (shown : Option LinkGot → Type 0) (l : Life) (can_read : Bool) (k0 k1 k2 : Kept) (done : Written) (said said' heard heard' : Option (List ℕ)) (s s1 s2 : S) (i i1 : Option I) (o o2 : Option O)
-      → (can_read ≡ true → IsReadable l.state) → (can_read ≡ false → IsReadable l.state → ⊥) → (IsWriteOver done.put → ⊥)
-      → (w : WritesAtBy K can_read k0 done k1 said said' s i s1 i1) → (s2 ≡ s1) → (o2 ≡ o) → (r : WantsBy A k1 k2 heard heard' shown)
+  pub parts_cut : (shown : Option LinkGot → Type 0) (l : Life) (can_read : Bool) (how : ReadMode) (k0 k1 k2 : Kept) (done : Written) (said said' heard heard' : Option (List ℕ)) (s s1 s2 : S) (i i1 : Option I) (o o2 : Option O)
+      → (can_read ≡ true → IsReadable l.state) → (can_read ≡ false → IsReadable l.state → ⊥) → IsReading l.kind l.state l.told how → (IsWriteOver done.put → ⊥)
+      → (w : WritesAtBy K can_read k0 done k1 said said' s i s1 i1) → (s2 ≡ s1) → (o2 ≡ o) → (r : WantsAtBy how k1 k2 heard heard' shown)
       → CutBy K l k0 k2 said said' heard heard' s i o s2 i1 o2
-  parts_cut A shown l can_read k0 k1 k2 done said said' heard heard' s s1 s2 i i1 o o2 sure never stands w same_pipes same_out r =
+  parts_cut shown l can_read how k0 k1 k2 done said said' heard heard' s s1 s2 i i1 o o2 sure never is stands w same_pipes same_out r =
       let inward = read_through l.end in
       let writes = writing done.put w.octets inward w.found in
       let reads = read_acts r.answer r.octets in
@@ -386,15 +396,19 @@ module _ {S O I N : Type 0} (K : Known S O I N) where
             (added step_in (write_acts done.put w.octets) (take_acts inward w.found) [] (flat_map step_in (take_acts inward w.found)) (write_steps done.put w.octets) refl)
             (read_steps r.answer r.octets)))
             (steps_on K (flat_map step_in (take_acts inward w.found)) [] s s1 s2 i i1 i1 o o o2 (w.steps inward o) (same_pipes, (refl, same_out)));
-        run = acts_on k0 k1 k2 writes reads (w.run inward) r.run;
-        parts = λ p acts plain run. record {
-          write = writes_at (basis_of l p) (standing_of l p) acts writes can_read plain.silent sure never
-              (λ e. w.takes e inward p.opts acts run) (λ e. w.alone e inward (basis_of l p) acts run);
+        run = λ opts kind. does_on opts k0 k1 k2 writes reads (does_these opts k0 k1 writes (unput_writing done.put w.octets inward w.found) (w.run inward)) (r.run opts (is_for how opts l.kind l.state l.told kind is));
+        parts = λ p acts kind silent run. record {
+          write = writes_at (basis_of l p) (standing_of l p) acts writes can_read silent sure never
+              (λ e. write_part_as p.opts (IsTake inward) run.all acts writes (tells_as p.opts acts k0 run) (w.takes e inward p.opts run.all run.run))
+              (λ e. write_only_as (basis_of l p) run.all acts writes (tells_as p.opts acts k0 run) (w.alone e inward (basis_of l p) run.all run.run));
           stands = not_over done.put w.octets inward w.found stands;
           answer = r.answer;
           octets = r.octets;
           fits = r.fits;
           read = refl;
+          how = how;
+          reading = subst (λ (k : Kind). IsReading k l.state l.told how) (sym kind) is;
+          once = r.part p.opts (acts ++ writes) (is_for how p.opts l.kind l.state l.told kind is) (does_these p.opts k0 k1 writes (unput_writing done.put w.octets inward w.found) (w.run inward) acts run);
         };
       }
 
@@ -407,5 +421,5 @@ module _ {S O I N : Type 0} (K : Known S O I N) where
       → ReadsAtBy K how k0 answer k1 heard1 heard' s o s' o' → ReadsAtBy K how k0 answer k1 heard heard' s o s' o'
   reads_from how k0 k1 answer heard heard1 heard' s s' o o' e r = subst (λ (x : Option (List ℕ)). ReadsAtBy K how k0 answer k1 x heard' s o s' o') e r
 
-pub wants_from : (A : Type 0) (shown : Option LinkGot → Type 0) (k0 k1 : Kept) (heard heard1 heard' : Option (List ℕ)) → heard1 ≡ heard → WantsBy A k0 k1 heard1 heard' shown → WantsBy A k0 k1 heard heard' shown
-wants_from A shown k0 k1 heard heard1 heard' e w = subst (λ (x : Option (List ℕ)). WantsBy A k0 k1 x heard' shown) e w
+pub wants_from : (how : ReadMode) (shown : Option LinkGot → Type 0) (k0 k1 : Kept) (heard heard1 heard' : Option (List ℕ)) → heard1 ≡ heard → WantsAtBy how k0 k1 heard1 heard' shown → WantsAtBy how k0 k1 heard heard' shown
+wants_from how shown k0 k1 heard heard1 heard' e w = subst (λ (x : Option (List ℕ)). WantsAtBy how k0 k1 x heard' shown) e w

@@ -1,9 +1,10 @@
 -- What a turn with a link does, from its steps.
 use Rattle.std.proofs.Common.{◌≡◌, ℕ, Bool, true, false, List, [], ◌∷◌, ◌++◌, Option, Some, None, refl, sym, ap, subst, ◌∙◌, inl, inr, append_assoc}
 use Rattle.std.specs.Prelude.{◌⊎◌, Contains, IsSome, map}
-use Rattle.std.specs.List.{flat_map, fold}
-use Rattle.std.proofs.lemmas.List.{append-nil, map-append}
+use Rattle.std.specs.List.{flat_map}
+use Rattle.std.proofs.lemmas.List.{append-nil}
 use Rattle.std.proofs.lemmas.List.Sums.{fold-append}
+use Rattle.std.proofs.lemmas.List.Elements.{Contains-push}
 use Rattle.std.proofs.lemmas.List.Concat.{flat_map-append}
 use Rattle.zq_base.specs.declared.ids.EndId.{EndId}
 use Rattle.zq_base.specs.declared.ids.ObjId.{ObjId}
@@ -27,15 +28,15 @@ use Rattle.spec_control.specs.declared.end.Reason.TheVariants.{Link}
 use Rattle.spec_control.specs.declared.request.Req.TheVariants.{Shaken, AskEnd, AskOver}
 use Rattle.spec_link.specs.declared.row.LinkEnd.{LinkEnd}
 use Rattle.spec_link.specs.declared.row.LinkEnd.TheVariants as why
-use Rattle.spec_link.specs.LinkAct.{LinkAct, Wire, Step, said_by, heard_by, said_of, heard_of}
+use Rattle.spec_link.specs.LinkAct.{LinkAct, Step, said_by, heard_by, said_of, heard_of}
 use Rattle.spec_link.specs.Parts.{IsWriteOver, PutsAll, SomethingHeld, NothingHeld}
 use Rattle.spec_link.specs.History.{Basis, SessionEvent, Acted, Closed, IsDue, Standing, after, after_all, later}
-use Rattle.spec_link.specs.Turn.{DueOnce, Exactly, WasDue, CanWrite, PutsLast, IsWriteOnly, IsEnded, IsEndedBy, IsOverBy, IsLinkedTurn, ShakenIsDue, ClosesLink, written_pipe, write_end, read_end}
+use Rattle.spec_link.specs.Turn.{DueOnce, Exactly, CanWrite, PutsLast, IsWriteOnly, IsEnded, IsEndedBy, IsOverBy, ShakenIsDue, ClosesLink, written_pipe, write_end, read_end}
 use Rattle.zq_session.specs.declared.life.Life.{Life}
 use Rattle.zq_session.specs.declared.course.Course.{Course}
 use Rattle.zq_session.specs.declared.parts.Done.{Done}
 use Rattle.zq_session.specs.declared.wire.Fetched.TheVariants as fetched
-use Rattle.zq_session.specs.Kept.{Kept, Side, HasRun, Acts}
+use Rattle.zq_session.specs.Kept.{Kept, Side, IsKeptOf, KeepsActs}
 use Rattle.zq_session.specs.Calls.{Adds}
 use Rattle.zq_session.specs.Dials.{DiallerState}
 use Rattle.zq_session.specs.Silent.{IsShaken, IsUnshaken}
@@ -44,12 +45,13 @@ use Rattle.zq_session.specs.LifeSteps.{IsSame, LifeStep, LifeDoes, with_dues}
 use Rattle.zq_session.specs.Halves.{StepsRun, step_in, step_at}
 use Rattle.zq_session.specs.LifeView.{IsWritable}
 use Rattle.zq_session.specs.Doing.{EndsAs, IsOverNow, StandsNow, IsRefusal}
-use Rattle.zq_session.specs.BothParts.{IsPlain, AreParts, PartsBy, LastBy}
-use Rattle.zq_session.specs.Courses.{HasStory, CourseStep, ShakesBy, LinkedBy, act_at}
+use Rattle.zq_session.specs.BothParts.{SaysNoTopics, AreParts, PartsBy, LastBy}
+use Rattle.zq_session.specs.Courses.{HasStory, PeerStep, ShakeStep, ShakesBy, LinkedBy, act_at}
 use Rattle.zq_session.specs.Ending.{Asks, AsksBy, DialsLater}
 use Rattle.zq_session.proofs.HalfLemmas.{steps_on}
+use Rattle.zq_session.proofs.UnputLemmas.{run_of, tells_as, write_only_as, refused_of, unrefused_of, shaken_of, unshaken_of}
 use Rattle.zq_session.proofs.BothLemmas.{end_over}
-use Rattle.zq_session.proofs.LifeLemmas.{no_step, due_step, due_shaken}
+use Rattle.zq_session.proofs.LifeLemmas.{no_step, due_shaken, contains_on}
 
 -- ---- events
 
@@ -66,11 +68,11 @@ after_acts b s before [] = ap (λ (l : List LinkAct). record s { link = Some l }
 after_acts b s before (a ∷ acts) =
     after_acts b s (before ++ a ∷ []) acts ∙ ap (λ (l : List LinkAct). record s { link = Some l }) (append_assoc before (a ∷ []) acts)
 
-steps_of_acts : (acts : List LinkAct) → flat_map step_at (acted acts) ≡ flat_map step_in acts
+pub steps_of_acts : (acts : List LinkAct) → flat_map step_at (acted acts) ≡ flat_map step_in acts
 steps_of_acts [] = refl
 steps_of_acts (a ∷ acts) = ap (λ (l : List PipeStep). step_in a ++ l) (steps_of_acts acts)
 
-acts_of_acts : (acts : List LinkAct) → flat_map act_at (acted acts) ≡ acts
+pub acts_of_acts : (acts : List LinkAct) → flat_map act_at (acted acts) ≡ acts
 acts_of_acts [] = refl
 acts_of_acts (a ∷ acts) = ap (λ (l : List LinkAct). a ∷ l) (acts_of_acts acts)
 
@@ -99,7 +101,7 @@ no_due_acts x = refl
 pub no_due_steps : (x : Due) → step_at (IsDue x) ≡ []
 no_due_steps x = refl
 
-more_of : {A : Type 0} (f : SessionEvent → List A) (xs ys : List SessionEvent) (m n : List A) → flat_map f xs ≡ m → flat_map f ys ≡ n → flat_map f (xs ++ ys) ≡ m ++ n
+pub more_of : {A : Type 0} (f : SessionEvent → List A) (xs ys : List SessionEvent) (m n : List A) → flat_map f xs ≡ m → flat_map f ys ≡ n → flat_map f (xs ++ ys) ≡ m ++ n
 more_of f xs ys m n e d = flat_map-append f xs ys ∙ ap (λ (l : List _). l ++ flat_map f ys) e ∙ ap (λ (l : List _). m ++ l) d
 
 -- ---- what stays
@@ -116,6 +118,12 @@ same_on a b c x y = record {
   waits_is = y.waits_is ∙ x.waits_is;
 }
 
+-- the peer behind one step and another
+pub peer_on : (a b c : Course) (dues more : List Due) → b.life.object ≡ a.life.object → ((x : Due) → Contains dues x → Contains more x) → PeerStep a b dues → PeerStep b c more → PeerStep a c more
+peer_on a b c dues more e grows x (inr y) = inr (y.0, y.1, subst (λ (o : ObjId). Contains more (Request (Shaken o y.0))) e y.2)
+peer_on a b c dues more e grows (inl x) (inl y) = inl (y.0 ∙ x.0, y.1 ∙ x.1)
+peer_on a b c dues more e grows (inr x) (inl y) = inr (x.0, y.1 ∙ x.1, grows (Request (Shaken a.life.object x.0)) x.2)
+
 -- the basis is the same
 abbrev basis_from : ObjId → EndId → EngineOpts → Bool → ℕ → Option ℕ → Basis
 basis_from object end opts dials interval linger = record { object = object; end = end; opts = opts; dials = dials; interval = interval; linger = linger }
@@ -129,7 +137,7 @@ basis_is old new p q same o i =
     ∙ ap (λ (x : ℕ). basis_from old.object old.end p.opts old.dials x new.linger) i
     ∙ ap (λ (x : Option ℕ). basis_from old.object old.end p.opts old.dials p.interval x) same.linger_is
 
-dials_same : (dials : Bool) (p q : Story) (d : Option DiallerState) → q.opts ≡ p.opts → q.interval ≡ p.interval → q.dial_at ≡ p.dial_at → IsOfDials dials p d → IsOfDials dials q d
+pub dials_same : (dials : Bool) (p q : Story) (d : Option DiallerState) → q.opts ≡ p.opts → q.interval ≡ p.interval → q.dial_at ≡ p.dial_at → IsOfDials dials p d → IsOfDials dials q d
 dials_same true p q None o i m k = absurd k
 dials_same true p q (Some d) o i m k = (k.0 ∙ sym o, (k.1.0 ∙ sym i, k.1.1 ∙ sym m))
 dials_same false p q None o i m k = tt
@@ -141,21 +149,24 @@ pub dials_on : (old new : Life) (p q : Story) (d d' : Option DiallerState) → I
 dials_on old new p q d d' same e o i m k =
     subst (λ (b : Bool). IsOfDials b q d') (sym same.dials_is) (subst (λ (x : Option DiallerState). IsOfDials old.dials q x) (sym e) (dials_same old.dials p q d o i m k))
 
+pub silent_on : (old new : Life) (opts : EngineOpts) → IsSame old new → SaysNoTopics old.dials opts → SaysNoTopics new.dials opts
+silent_on old new opts same e = subst (λ (b : Bool). SaysNoTopics b opts) (sym same.dials_is) e
+
 -- what holds with these acts at the link holds where they are those of the story
-by_link : (C : Story → Type 0) (p : Story) (acts : List LinkAct) → p.link ≡ Some acts → C (record p { link = Some acts }) → C p
+pub by_link : (C : Story → Type 0) (p : Story) (acts : List LinkAct) → p.link ≡ Some acts → C (record p { link = Some acts }) → C p
 by_link C p acts e k = subst (λ (l : Option (List LinkAct)). C (record p { link = l })) (sym e) k
 
 the_side : (x y : Side) → Some x ≡ Some y → x ≡ y
 the_side x y e = cc
 
 pub link_some : (opts : EngineOpts) (link : Option (List LinkAct)) (side : Option Side) (sd : Side) → side ≡ Some sd → IsOfLink opts link side
-    → (acts : List LinkAct) × (link ≡ Some acts) × HasRun opts acts sd.kept
+    → (acts : List LinkAct) × (link ≡ Some acts) × IsKeptOf opts acts sd.kept
 link_some opts None None sd e k = absurd cc
 link_some opts None (Some x) sd e k = absurd k
 link_some opts (Some acts) None sd e k = absurd k
-link_some opts (Some acts) (Some x) sd e k = (acts, refl, subst (λ (y : Side). HasRun opts acts y.kept) (the_side x sd e) k)
+link_some opts (Some acts) (Some x) sd e k = (acts, refl, subst (λ (y : Side). IsKeptOf opts acts y.kept) (the_side x sd e) k)
 
-pub link_is : (opts : EngineOpts) (link : Option (List LinkAct)) (side : Option Side) (sd : Side) (acts : List LinkAct) → side ≡ Some sd → link ≡ Some acts → HasRun opts acts sd.kept
+pub link_is : (opts : EngineOpts) (link : Option (List LinkAct)) (side : Option Side) (sd : Side) (acts : List LinkAct) → side ≡ Some sd → link ≡ Some acts → IsKeptOf opts acts sd.kept
     → IsOfLink opts link side
 link_is opts link side sd acts e d r =
     subst (λ (x : Option Side). IsOfLink opts link x) (sym e) (subst (λ (x : Option (List LinkAct)). IsOfLink opts x (Some sd)) (sym d) r)
@@ -170,8 +181,8 @@ once_as s P Q x events f g (inl e) = inl ((f e.0.0, e.0.1), e.1)
 once_as s P Q x events f g (inr e) = inr ((λ q. e.0 (g q.0, q.1)), e.1)
 
 -- the first answers of a turn with a link
-pub record FrontBy (old new : Life) (k : Kept) (writes reads acts : List LinkAct) (p : Story) : Type 0 where
-  pub run : HasRun p.opts (acts ++ (writes ++ reads)) k
+pub record FrontBy (old new : Life) (peer peer' : Option Peer) (k : Kept) (writes reads acts : List LinkAct) (p : Story) : Type 0 where
+  pub run : IsKeptOf p.opts (acts ++ (writes ++ reads)) k
   pub parts : AreParts (basis_of old p) (standing_of old p) acts writes reads
   pub delimiter : List SessionEvent
   pub shaken : List SessionEvent
@@ -181,13 +192,15 @@ pub record FrontBy (old new : Life) (k : Kept) (writes reads acts : List LinkAct
   pub after_is : after_all (basis_of old p) (standing_of old p) (acted (writes ++ reads) ++ (delimiter ++ shaken)) ≡ standing_of new (record p { link = Some (acts ++ (writes ++ reads)); dues = dues })
   pub due : AreDue new new.asked dues
   pub same : IsSame old new
+  pub grows : (x : Due) → Contains p.dues x → Contains dues x
+  pub peer_is : ((new.asked.shaken ≡ old.asked.shaken) × (peer' ≡ peer)) ⊎ ((q : Peer) × (peer' ≡ Some q) × Contains dues (Request (Shaken old.object q)))
 
-module _ (old l1 new : Life) (k0 k1 : Kept) (writes reads : List LinkAct) (met : Bool) where
-  front_at : (p : Story) (acts : List LinkAct) → AreDue old old.asked p.dues → HasRun p.opts acts k0
-      → Acts k0 (writes ++ reads) k1 → AreParts (basis_of old p) (standing_of old (record p { link = Some acts })) acts writes reads
+module _ (old l1 new : Life) (peer peer' : Option Peer) (k0 k1 : Kept) (writes reads : List LinkAct) (met : Bool) where
+  front_at : (p : Story) (acts : List LinkAct) → AreDue old old.asked p.dues → IsKeptOf p.opts acts k0
+      → KeepsActs p.opts k0 (writes ++ reads) k1 → AreParts (basis_of old p) (standing_of old (record p { link = Some acts })) acts writes reads
       → (met ≡ true → Contains writes (Step (DelimiterLook (read_through old.end)))) → (Contains writes (Step (DelimiterLook (read_through old.end))) → met ≡ true)
-      → LifeDoes old l1 (λ b s. DueOnce s (met ≡ true) (Delimiter b.end)) → ShakesBy l1 new k1
-      → FrontBy old new k1 writes reads acts (record p { link = Some acts })
+      → LifeDoes old l1 (λ b s. DueOnce s (met ≡ true) (Delimiter b.end)) → ShakesBy l1 new peer peer' k1
+      → FrontBy old new peer peer' k1 writes reads acts (record p { link = Some acts })
   front_at p acts due run acts_are parts met_in in_met marks shakes =
       let more = writes ++ reads in
       let b = basis_of old p in
@@ -195,7 +208,7 @@ module _ (old l1 new : Life) (k0 k1 : Kept) (writes reads : List LinkAct) (met :
       let q = record p { link = Some (acts ++ more) } in
       let d = marks q due in
       let q1 = with_dues q d.1.dues in
-      let run1 = acts_are p.opts acts run in
+      let run1 = acts_are acts run in
       let h = shakes q1 (acts ++ more) d.1.due run1 in
       let basis : basis_of l1 q1 ≡ b = basis_is old l1 p q1 d.1.same refl refl in
       let middle : after_all b s (acted more ++ d.0) ≡ standing_of l1 q1 = after_on b s (standing_of old q) (standing_of l1 q1) (acted more) d.0 (after_acts b s acts more) d.1.after_is in
@@ -213,16 +226,21 @@ module _ (old l1 new : Life) (k0 k1 : Kept) (writes reads : List LinkAct) (met :
             (subst (λ (x : Basis). after_all x (standing_of l1 q1) h.0 ≡ standing_of new (with_dues q1 h.1.dues)) basis h.1.after_is);
         due = h.1.due;
         same = same_on old l1 new d.1.same h.1.same;
+        grows = λ x c. h.1.grows x (d.1.grows x c);
+        peer_is = elim h.1.peer_is as (λ _. ((new.asked.shaken ≡ old.asked.shaken) × (peer' ≡ peer)) ⊎ ((q : Peer) × (peer' ≡ Some q) × Contains h.1.dues (Request (Shaken old.object q)))) [
+          | inl e ↦ inl (e.0 ∙ d.1.shaken_is, e.1)
+          | inr e ↦ inr (e.0, e.1, subst (λ (o : ObjId). Contains h.1.dues (Request (Shaken o e.0))) d.1.same.object_is e.2)
+        ];
       }
 
 -- a link that is over behind these acts, by the answers and what was heard
 pub over_is : (opts : EngineOpts) (b : Basis) (acts writes reads : List LinkAct) (put : Option LinkPut) (got : Option LinkGot) (k : Kept) (cause : LinkEnd) → b.opts ≡ opts
     → ((other : LinkEnd) → EndsAs put got other → IsEndedBy (writes ++ reads) other) → ((other : LinkEnd) → IsEndedBy (writes ++ reads) other → EndsAs put got other)
-    → HasRun opts (acts ++ (writes ++ reads)) k → IsOverNow put got k cause → IsOverBy b acts (writes ++ reads) cause
+    → IsKeptOf opts (acts ++ (writes ++ reads)) k → IsOverNow put got k cause → IsOverBy b acts (writes ++ reads) cause
 over_is opts b acts writes reads put got k cause e over ends run (inl x) = inl (over cause x)
 over_is opts b acts writes reads put got k cause e over ends run (inr x) =
     let c = x.1.0 in
-    let r = x.1.2 opts (acts ++ (writes ++ reads)) run in
+    let r = refused_of opts (acts ++ (writes ++ reads)) k run c x.1.2 in
     inr (
       (λ y. x.0 y.0 (ends y.0 y.1)),
       subst (λ (o : EngineOpts). (d : Decoded) × Decodes o (heard_of (acts ++ (writes ++ reads))) d × (f : Refusal) × (d.outcome ≡ StreamRefused f) × (cause ≡ why.Refused f.cause)) (sym e)
@@ -231,14 +249,14 @@ over_is opts b acts writes reads put got k cause e over ends run (inr x) =
 
 -- a link that stands
 stands_on : (opts : EngineOpts) (b : Basis) (acts writes reads : List LinkAct) (put : Option LinkPut) (got : Option LinkGot) (k : Kept) → b.opts ≡ opts
-    → ((other : LinkEnd) → IsEndedBy (writes ++ reads) other → EndsAs put got other) → HasRun opts (acts ++ (writes ++ reads)) k → StandsNow put got k
+    → ((other : LinkEnd) → IsEndedBy (writes ++ reads) other → EndsAs put got other) → IsKeptOf opts (acts ++ (writes ++ reads)) k → StandsNow put got k
     → (cause : LinkEnd) → IsOverBy b acts (writes ++ reads) cause → ⊥
 stands_on opts b acts writes reads put got k e ends run st cause (inl x) = st.answers cause (ends cause x)
 stands_on opts b acts writes reads put got k e ends run st cause (inr x) =
     let r = x.1 in
-    st.unrefused opts (acts ++ (writes ++ reads)) run r.0 (subst (λ (o : EngineOpts). Decodes o (heard_of (acts ++ (writes ++ reads))) r.0) e r.1) r.2 r.3
+    unrefused_of opts (acts ++ (writes ++ reads)) k run st.unrefused r.0 (subst (λ (o : EngineOpts). Decodes o (heard_of (acts ++ (writes ++ reads))) r.0) e r.1) r.2 r.3
 
-met_is : (met : Bool) (X : Type 0) → (met ≡ false → X → ⊥) → X → met ≡ true
+pub met_is : (met : Bool) (X : Type 0) → (met ≡ false → X → ⊥) → X → met ≡ true
 met_is true X never x = refl
 met_is false X never x = absurd (never refl x)
 
@@ -259,7 +277,7 @@ module _ {S O I N : Type 0} (K : Known S O I N) where
       → old.side ≡ Some sd → new.side ≡ Some sd1 → new.dialler ≡ old.dialler
       → (met ≡ true → done.written.look ≡ Some fetched.Delimiter) → (met ≡ false → done.written.look ≡ Some fetched.Delimiter → ⊥)
       → PartsBy K old.life sd.kept done sd1.kept said said' heard heard' s i o s' i' o'
-      → LifeDoes old.life l1 (λ b s. DueOnce s (met ≡ true) (Delimiter b.end)) → ShakesBy l1 new.life sd1.kept → StandsNow done.written.put done.got sd1.kept
+      → LifeDoes old.life l1 (λ b s. DueOnce s (met ≡ true) (Delimiter b.end)) → ShakesBy l1 new.life old.peer new.peer sd1.kept → StandsNow done.written.put done.got sd1.kept
       → (p : Story) → HasStory old p → LinkedBy K now old new said said' heard heard' s i o s' i' o' p
   turn_stands now old new l1 sd sd1 done met said said' heard heard' s s' i i' o o' es en ed sure never pb marks shakes st p keeps =
       let link = link_some p.opts p.link old.side sd es keeps.link in
@@ -268,7 +286,7 @@ module _ {S O I N : Type 0} (K : Known S O I N) where
       let q = record p { link = Some acts } in
       let more = pb.writes ++ pb.reads in
       let b = basis_of old.life p in
-      let f = front_at old.life l1 new.life sd.kept sd1.kept pb.writes pb.reads met p acts k.due link.2 pb.run (pb.parts q acts k.plain link.2)
+      let f = front_at old.life l1 new.life old.peer new.peer sd.kept sd1.kept pb.writes pb.reads met p acts k.due link.2 (pb.run p.opts k.kind_is) (pb.parts q acts k.kind_is k.silent link.2)
       (λ e. pb.met (sure e)) (λ c. met_is met (Contains pb.writes (Step (DelimiterLook (read_through old.life.end)))) (λ e. pb.unmet (never e)) c) marks shakes in
       let stands = stands_on p.opts b acts pb.writes pb.reads done.written.put done.got sd1.kept refl pb.ends f.run st in
       record {
@@ -294,11 +312,15 @@ module _ {S O I N : Type 0} (K : Known S O I N) where
           same = f.same;
           opts_is = refl;
           interval_is = refl;
+          handed_is = refl;
+          grows = f.grows;
+          peer_is = f.peer_is;
           keeps = record {
             due = f.due;
             link = link_is p.opts (Some (acts ++ more)) new.side sd1 (acts ++ more) en refl f.run;
             dial = dials_on old.life new.life q (record q { link = Some (acts ++ more); dues = f.dues }) old.dialler new.dialler f.same ed refl refl refl k.dial;
-            plain = k.plain;
+            kind_is = k.kind_is ∙ sym f.same.kind_is;
+            silent = silent_on old.life new.life p.opts f.same k.silent;
           };
         };
         steps = subst (λ (x : List PipeStep). StepsRun K x s i o s' i' o')
@@ -344,15 +366,15 @@ dues_by b c s t u P x events e (inr k) =
     subst (λ (l : List SessionEvent). (after_all b t l).dues ≡ (after_all c s l).dues) (sym k.1) e
 
 -- the puts of what is held
-puts_last : (b : Basis) (s : Standing) (acts writes put_last : List LinkAct) (put : Option LinkPut) (puts : Bool) → (b.opts.kind ≡ Push → ⊥) → (IsWriteOver put → IsEnded writes) → ((IsWriteOver put → ⊥) → IsEnded writes → ⊥)
-    → (puts ≡ true → IsWriteOver put × CanWrite s) → (puts ≡ false → IsWriteOver put → CanWrite s → ⊥)
+puts_last : (b : Basis) (s : Standing) (acts writes put_last : List LinkAct) (put : Option LinkPut) (puts : Bool) → (IsWriteOver put → IsEnded writes) → ((IsWriteOver put → ⊥) → IsEnded writes → ⊥)
+    → (puts ≡ true → IsWriteOver put × ((b.opts.kind ≡ Push → ⊥) × CanWrite s)) → (puts ≡ false → IsWriteOver put → (b.opts.kind ≡ Push → ⊥) → CanWrite s → ⊥)
     → (puts ≡ true → PutsAll (SomethingHeld b.opts (acts ++ put_last)) (NothingHeld b.opts (acts ++ put_last)) (written_pipe b) put_last) → (puts ≡ false → put_last ≡ [])
     → IsWriteOver put ⊎ (IsWriteOver put → ⊥)
     → (IsEnded writes × PutsLast b s acts put_last) ⊎ ((IsEnded writes → ⊥) × (put_last ≡ []))
-puts_last b s acts writes put_last put true keeps ends stands sure never all none (inl over) = inl (ends over, inl (((sure refl).1, keeps), all refl))
-puts_last b s acts writes put_last put true keeps ends stands sure never all none (inr n) = absurd (n (sure refl).0)
-puts_last b s acts writes put_last put false keeps ends stands sure never all none (inl over) = inl (ends over, inr ((λ c. never refl over c.0), none refl))
-puts_last b s acts writes put_last put false keeps ends stands sure never all none (inr n) = inr (stands n, none refl)
+puts_last b s acts writes put_last put true ends stands sure never all none (inl over) = inl (ends over, inl (((sure refl).1.1, (sure refl).1.0), all refl))
+puts_last b s acts writes put_last put true ends stands sure never all none (inr n) = absurd (n (sure refl).0)
+puts_last b s acts writes put_last put false ends stands sure never all none (inl over) = inl (ends over, inr ((λ c. never refl over c.1 c.0), none refl))
+puts_last b s acts writes put_last put false ends stands sure never all none (inr n) = inr (stands n, none refl)
 
 -- the last write
 last_write : (answered : Type 0) (b : Basis) (acts put_last said_last : List LinkAct) (refused puts : Bool) → (refused ≡ true → puts ≡ false) → (puts ≡ false → put_last ≡ []) → (refused ≡ true → IsWriteOnly b acts said_last) → (refused ≡ false → answered)
@@ -393,23 +415,23 @@ refused_only put got k cause r (inr e) other d = e.0 other d
 module _ {S O I N : Type 0} (K : Known S O I N) where
   -- a turn whose link is over
   pub turn_over : (now : ℕ) (old mid new : Course) (l1 : Life) (sd sd1 sd2 : Side) (done : Done) (cause : LinkEnd) (met refused puts : Bool) (said said1 said' heard heard' : Option (List ℕ)) (s s1 s' : S) (i i' : Option I) (o o1 o' : Option O)
-      → old.side ≡ Some sd → new.side ≡ None → mid.dialler ≡ old.dialler
+      → old.side ≡ Some sd → new.side ≡ None → mid.dialler ≡ old.dialler → new.peer ≡ mid.peer
       → (met ≡ true → done.written.look ≡ Some fetched.Delimiter) → (met ≡ false → done.written.look ≡ Some fetched.Delimiter → ⊥)
       → (refused ≡ true → IsRefusal cause) → (refused ≡ false → IsRefusal cause → ⊥)
-      → (puts ≡ true → IsWriteOver done.written.put × IsWritable mid.life.state) → (puts ≡ false → IsWriteOver done.written.put → IsWritable mid.life.state → ⊥)
+      → (puts ≡ true → IsWriteOver done.written.put × ((mid.life.kind ≡ Push → ⊥) × IsWritable mid.life.state)) → (puts ≡ false → IsWriteOver done.written.put → (mid.life.kind ≡ Push → ⊥) → IsWritable mid.life.state → ⊥)
       → PartsBy K old.life sd.kept done sd1.kept said said1 heard heard' s i o s1 i' o1
-      → LifeDoes old.life l1 (λ b s. DueOnce s (met ≡ true) (Delimiter b.end)) → ShakesBy l1 mid.life sd1.kept → IsOverNow done.written.put done.got sd1.kept cause
+      → LifeDoes old.life l1 (λ b s. DueOnce s (met ≡ true) (Delimiter b.end)) → ShakesBy l1 mid.life old.peer mid.peer sd1.kept → IsOverNow done.written.put done.got sd1.kept cause
       → ((pipe : PipeId) → LastBy K refused puts pipe sd1.kept sd2.kept said1 said' s1 o1 s' o') → (refused ≡ true → puts ≡ false)
       → Asks mid.life new.life → DialsLater now mid new
       → (p : Story) → HasStory old p → LinkedBy K now old new said said' heard heard' s i o s' i' o' p
-  turn_over now old mid new l1 sd sd1 sd2 done cause met refused puts said said1 said' heard heard' s s1 s' i i' o o1 o' es en ed sure never ry rn py pn pb marks shakes ov lasts one asks dials p keeps =
+  turn_over now old mid new l1 sd sd1 sd2 done cause met refused puts said said1 said' heard heard' s s1 s' i i' o o1 o' es en ed ep sure never ry rn py pn pb marks shakes ov lasts one asks dials p keeps =
       let link = link_some p.opts p.link old.side sd es keeps.link in
       let acts = link.0 in
       by_link (λ q. HasStory old q → LinkedBy K now old new said said' heard heard' s i o s' i' o' q) p acts link.1 (λ k.
       let q = record p { link = Some acts } in
       let more = pb.writes ++ pb.reads in
       let b = basis_of old.life p in
-      let f = front_at old.life l1 mid.life sd.kept sd1.kept pb.writes pb.reads met p acts k.due link.2 pb.run (pb.parts q acts k.plain link.2)
+      let f = front_at old.life l1 mid.life old.peer mid.peer sd.kept sd1.kept pb.writes pb.reads met p acts k.due link.2 (pb.run p.opts k.kind_is) (pb.parts q acts k.kind_is k.silent link.2)
       (λ e. pb.met (sure e)) (λ c. met_is met (Contains pb.writes (Step (DelimiterLook (read_through old.life.end)))) (λ e. pb.unmet (never e)) c) marks shakes in
       let lb = lasts mid.life.end in
       let last = lb.put_last ++ lb.said_last in
@@ -419,6 +441,7 @@ module _ {S O I N : Type 0} (K : Known S O I N) where
       let a = asks q4 f.due in
       let b2 = basis_of mid.life q2 in
       let basis : b2 ≡ b = basis_is old.life mid.life p q2 f.same refl refl in
+      let kind : p.opts.kind ≡ mid.life.kind = k.kind_is ∙ sym f.same.kind_is in
       let closes = acted last ++ (Closed now cause ∷ (a.asks ++ a.over)) in
       let ended : refused ≡ false → IsEnded more = λ e. (cause, pb.over cause (ended_by done.written.put done.got sd1.kept cause (rn e) ov)) in
       let fresh : refused ≡ true → IsEnded more → ⊥ = λ e x. refused_only done.written.put done.got sd1.kept cause (ry e) ov x.0 (pb.ends x.0 x.1) in
@@ -428,9 +451,11 @@ module _ {S O I N : Type 0} (K : Known S O I N) where
         asks = a.asks;
         over = a.over;
         all = refl;
-        puts_are = puts_last b2 (standing_of mid.life q2) acts1 pb.writes lb.put_last done.written.put puts k.plain.keeps pb.write_over pb.write_stands py pn
-            (λ e. lb.all e p.opts acts1 f.run) lb.none (over_or_not done.written.put);
-        refused = last_write (IsEnded more) b2 acts1 lb.put_last lb.said_last refused puts one lb.none (λ e. lb.says e b2 acts1 f.run) ended;
+        puts_are = puts_last b2 (standing_of mid.life q2) acts1 pb.writes lb.put_last done.written.put puts pb.write_over pb.write_stands
+            (λ e. ((py e).0, ((λ push. (py e).1.0 (sym kind ∙ push)), (py e).1.1))) (λ e over keeps. pn e over (λ push. keeps (kind ∙ push)))
+            (λ e. lb.all e p.opts acts1 (run_of p.opts acts1 sd1.kept (λ push. (py e).1.0 (sym kind ∙ push)) f.run)) lb.none (over_or_not done.written.put);
+        refused = last_write (IsEnded more) b2 acts1 lb.put_last lb.said_last refused puts one lb.none
+            (λ e. write_only_as b2 f.run.all acts1 lb.said_last (tells_as p.opts acts1 sd1.kept f.run) (lb.says e b2 f.run.all f.run.run)) ended;
         silent = last_none (IsEnded more) lb.said_last refused lb.silent fresh;
         asks_are = a.asks_are;
         over_is = once_by (after_all (basis_of mid.life q4) (standing_of mid.life q4) a.asks) (after_all b2 (standing_of mid.life q2) a.asks) (mid.life.dials ≡ false) (Request (AskOver mid.life.object)) a.over
@@ -478,13 +503,17 @@ module _ {S O I N : Type 0} (K : Known S O I N) where
           same = same_on old.life mid.life new.life f.same a.same;
           opts_is = refl;
           interval_is = refl;
+          handed_is = refl;
+          grows = λ x c. a.grows x (f.grows x c);
+          peer_is = peer_on old mid new f.dues a.dues f.same.object_is a.grows f.peer_is (inl (a.shaken_is, ep));
           keeps = record {
             due = a.due;
             link = link_none p.opts None new.side en refl;
             dial = dials_same new.life.dials (record q2 { dial_at = later now p.interval }) (with_dues q4 a.dues) new.dialler refl refl refl
                 (subst (λ (x : Bool). IsOfDials x (record q2 { dial_at = later now p.interval }) new.dialler) (sym a.same.dials_is)
                 (dials mid.life.dials q2 (dials_on old.life mid.life q q2 old.dialler mid.dialler f.same ed refl refl refl k.dial)));
-            plain = k.plain;
+            kind_is = kind ∙ sym a.same.kind_is;
+            silent = silent_on mid.life new.life p.opts a.same (silent_on old.life mid.life p.opts f.same k.silent);
           };
         };
         steps = subst (λ (x : List PipeStep). StepsRun K x s i o s' i' o')
@@ -505,25 +534,38 @@ ends_none put got f g why.Failed e = g e
 ends_none put got f g (why.Refused c) e = no_refusal put got (why.Refused c) (c, refl) e
 
 -- the handshake isn't to be told
-pub shakes_not : (l : Life) (k : Kept) → ((l.dials ≡ false) → (IsSome l.told → ⊥) → l.asked.shaken ≡ true) → ShakesBy l l k
-shakes_not l k never = λ p acts due r. (
+shake_none : (l : Life) (peer : Option Peer) (p : Story) → LifeStep l l p [] → ShakeStep l l peer peer p []
+shake_none l peer p s = record { dues = s.dues; after_is = s.after_is; due = s.due; same = s.same; grows = s.grows; peer_is = inl (refl, refl) }
+
+pub shakes_not : (l : Life) (peer : Option Peer) (k : Kept) → ((l.dials ≡ false) → (IsSome l.told → ⊥) → l.asked.shaken ≡ true) → ShakesBy l l peer peer k
+shakes_not l peer k never = λ p acts due r. (
   [],
-  no_step l p due,
-  inr ((λ peer is may. may.1.1 (subst (λ (b : Bool). Tells b ((q : Peer) × Contains p.dues (Request (Shaken l.object q)))) (never may.0 may.1.0) due.shaken)), refl),
+  shake_none l peer p (no_step l p due),
+  inr ((λ q is may. may.1.1 (subst (λ (b : Bool). Tells b ((q : Peer) × Contains p.dues (Request (Shaken l.object q)))) (never may.0 may.1.0) due.shaken)), refl),
 )
 
 -- it isn't done
-pub shakes_none : (l : Life) (k : Kept) → IsUnshaken k → ShakesBy l l k
-shakes_none l k un = λ p acts due r. ([], no_step l p due, inr ((λ peer is may. un p.opts acts r (λ d decodes. (is d decodes).0)), refl))
+pub shakes_none : (l : Life) (peer : Option Peer) (k : Kept) → IsUnshaken k → ShakesBy l l peer peer k
+shakes_none l peer k un = λ p acts due r. ([], shake_none l peer p (no_step l p due), inr ((λ q is may. unshaken_of p.opts acts k r un (λ d decodes. (is d decodes).0)), refl))
 
 -- it is told
-pub shakes_now : (l : Life) (k : Kept) (peer : Peer) → IsShaken peer k → l.dials ≡ false → (IsSome l.told → ⊥) → l.asked.shaken ≡ false → ShakesBy l (record l { asked = record l.asked { shaken = true } }) k
-shakes_now l k peer is dials told before = λ p acts due r. (
+pub shakes_now : (l : Life) (was : Option Peer) (k : Kept) (peer : Peer) → IsShaken peer k → l.dials ≡ false → (IsSome l.told → ⊥) → l.asked.shaken ≡ false
+    → ShakesBy l (record l { asked = record l.asked { shaken = true } }) was (Some peer) k
+shakes_now l was k peer is dials told before = λ p acts due r. (
   IsDue (Request (Shaken l.object peer)) ∷ [],
-  due_step l (record l.asked { shaken = true }) p (Request (Shaken l.object peer)) (due_shaken l l.asked p.dues due peer),
+  (let x = Request (Shaken l.object peer) in
+      let d = due_shaken l l.asked p.dues due peer in
+      record {
+        dues = p.dues ++ x ∷ [];
+        after_is = refl;
+        due = record { linger = d.linger; link = d.link; over = d.over; output = d.output; delimiter = d.delimiter; shaken = d.shaken };
+        same = record { object_is = refl; end_is = refl; kind_is = refl; dials_is = refl; linger_is = refl; state_is = refl; told_is = refl; waits_is = refl };
+        grows = λ y c. contains_on p.dues x y c;
+        peer_is = inr (peer, refl, Contains-push p.dues x);
+      }),
   inl (
     peer,
-    (λ d decodes. is p.opts acts r d decodes),
+    (λ d decodes. shaken_of p.opts acts k r peer is d decodes),
     (dials, (told, subst (λ (b : Bool). Tells b ((q : Peer) × Contains p.dues (Request (Shaken l.object q)))) before due.shaken)),
     refl,
   ),
@@ -554,6 +596,8 @@ asks_by l l1 l2 f g = λ p due.
           (subst (λ (x : Basis). after_all x (standing_of l1 q) e.0 ≡ standing_of l2 (with_dues q e.1.dues)) basis e.1.after_is);
       due = e.1.due;
       same = same_on l l1 l2 d.1.same e.1.same;
+      grows = λ x c. e.1.grows x (d.1.grows x c);
+      shaken_is = e.1.shaken_is ∙ d.1.shaken_is;
     }
 
 -- the next dial comes after the interval

@@ -1,22 +1,21 @@
 -- Steps at the halves of an end, one after another.
 use Rattle.std.proofs.Common.{◌≡◌, Bool, true, false, List, [], ◌∷◌, ◌++◌, Option, Some, None, refl, sym, ap, subst, ◌∙◌}
 use Rattle.std.specs.List.{flat_map}
-use Rattle.std.proofs.lemmas.List.Concat.{flat_map-append}
 use Rattle.zq_base.specs.Message.{Frames}
 use Rattle.zq_base.specs.Ends.{PipeId}
 use Rattle.spec_control.specs.declared.end.EndState.{EndState}
-use Rattle.spec_pattern.specs.Half.{Writing, Commits, IsFull}
+use Rattle.spec_pattern.specs.Half.{Writing}
 use Rattle.spec_pattern.specs.PipeStep.{PipeStep, Commit, FullLook, Take, EmptyLook, DelimiterLook, WaitingLook, Seal}
-use Rattle.msg_pipe.specs.Known.{Known, IsThere, KeepsButIn, KeepsButOut}
+use Rattle.msg_pipe.specs.Known.{Known, IsThere, KeepsButIn}
 use Rattle.msg_pipe.specs.Told.{Puts}
 use Rattle.msg_pipe.specs.declared.pipes.PutIn.{PutIn}
 use Rattle.msg_pipe.specs.declared.pipes.PutIn.TheVariants as put_in
-use Rattle.msg_pipe.specs.declared.pipes.Taken.{Taken}
-use Rattle.msg_pipe.specs.declared.pipes.Taken.TheVariants as taken
-use Rattle.spec_link.specs.LinkAct.{LinkAct, Step}
-use Rattle.zq_session.specs.LifeView.{IsReadable, IsWritable}
-use Rattle.zq_session.specs.Calls.{TakeRun, PutRun, PutsRun, put_acts}
-use Rattle.zq_session.specs.Halves.{AtIn, AtOut, StepRun, StepsRun, AreThere, ReadsThere, WritesThere, step_in}
+use Rattle.msg_pipe.specs.Told.{front_step}
+use Rattle.msg_pipe.specs.declared.pipes.Front.{Front}
+use Rattle.zq_session.specs.Unlinked.{LooksBy}
+use Rattle.zq_session.proofs.PartLemmas.{some_pipe}
+use Rattle.zq_session.specs.Calls.{PutRun, PutsRun, put_acts}
+use Rattle.zq_session.specs.Halves.{StepRun, StepsRun, AreThere, step_in}
 
 -- a put leaves the pipe as open as it was
 sealed_by : (v w : Writing) (m : Frames) (found : PutIn) → Puts v m found w → w.sealed ≡ v.sealed
@@ -85,6 +84,25 @@ module _ {S O I N : Type 0} (K : Known S O I N) where
       (subst (λ (a : Option I). AreThere K state s a o') (sym r.1.0)
       (subst (λ (a : Option O). AreThere K state s i a) (sym r.1.1) t))
   steps_there (x ∷ steps) s s' state i i' o o' r t = steps_there steps r.0 s' state r.1 i' r.2 o' r.4 (step_there x s r.0 state i r.1 o r.2 r.3 t)
+
+  -- behind a look
+  pub look_there : (can_read : Bool) (found : Option Front) (s s' : S) (state : Option EndState) (i i' : Option I) (o : Option O) → LooksBy K can_read found s i s' i' → AreThere K state s i o → AreThere K state s' i' o
+  look_there can_read None s s' state i i' o r t = steps_there [] s s' state i i' o o (r.1.0, (r.1.1, refl)) t
+  look_there can_read (Some f) s s' state i i' o r t = steps_there (front_step some_pipe f ∷ []) s s' state i i' o o (one_step (front_step some_pipe f) s s' i i' o o (r.1 some_pipe o)) t
+
+  -- and so are all pipes
+  step_keeps : (step : PipeStep) (s s' : S) (i i' : Option I) (o o' : Option O) → StepRun K step s i o s' i' o' → (n : N) → IsThere K s n → IsThere K s' n
+  step_keeps (Commit pipe m) s s' i i' o o' r n t = r.runs.keeps.there n t
+  step_keeps (FullLook pipe) s s' i i' o o' r n t = r.runs.1.keeps.there n t
+  step_keeps (Take pipe m) s s' i i' o o' r n t = r.runs.keeps.there n t
+  step_keeps (EmptyLook pipe) s s' i i' o o' r n t = r.runs.keeps.there n t
+  step_keeps (DelimiterLook pipe) s s' i i' o o' r n t = r.runs.keeps.there n t
+  step_keeps (WaitingLook pipe) s s' i i' o o' r n t = r.runs.keeps.there n t
+  step_keeps (Seal pipe) s s' i i' o o' r n t = absurd r
+
+  pub steps_keep : (steps : List PipeStep) (s s' : S) (i i' : Option I) (o o' : Option O) → StepsRun K steps s i o s' i' o' → (n : N) → IsThere K s n → IsThere K s' n
+  steps_keep [] s s' i i' o o' r n t = subst (λ (a : S). IsThere K a n) (sym r.0) t
+  steps_keep (x ∷ steps) s s' i i' o o' r n t = steps_keep steps r.0 s' r.1 i' r.2 o' r.4 n (step_keeps x s r.0 i r.1 o r.2 r.3 n t)
 
   -- ---- puts as steps
 

@@ -5,9 +5,13 @@ pub mod SilentLemmas
 pub mod ListLemmas
 pub mod LifeLemmas
 pub mod HalfLemmas
+pub mod DropLemmas
+pub mod UnputLemmas
 pub mod BothLemmas
 pub mod AtLemmas
 pub mod CourseLemmas
 pub mod UnlinkedLemmas
 pub mod TurnLemmas
+pub mod CutLemmas
 pub mod SessionLemmas
+pub mod HandLemmas

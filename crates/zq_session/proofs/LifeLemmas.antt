@@ -1,27 +1,24 @@
 -- What became due, and what that adds to the story of a session.
 use Rattle.std.proofs.Common.{◌≡◌, ℕ, Some, Bool, true, false, List, [], ◌∷◌, ◌++◌, refl, subst, inl, inr}
-use Rattle.std.specs.Prelude.{◌⊎◌, Contains}
+use Rattle.std.specs.Prelude.{Contains}
 use Rattle.std.proofs.lemmas.List.Elements.{Contains-push}
 use Rattle.zq_base.specs.declared.options.Peer.{Peer}
-use Rattle.zq_base.specs.declared.ids.EndId.{EndId}
-use Rattle.spec_control.specs.declared.end.Reason.{Reason}
 use Rattle.spec_control.specs.declared.end.Reason.TheVariants.{Linger, Link}
-use Rattle.spec_control.specs.declared.request.Req.{Req}
 use Rattle.spec_control.specs.declared.request.Req.TheVariants.{Shaken, AskEnd, AskOver, OutputOver}
 use Rattle.spec_link.specs.declared.due.Due.{Due}
 use Rattle.spec_link.specs.declared.due.Due.TheVariants.{Request, Delimiter}
-use Rattle.spec_link.specs.History.{Basis, SessionEvent, Standing, IsDue, GaveUp, after_all}
+use Rattle.spec_link.specs.History.{Basis, Standing, IsDue, GaveUp}
 use Rattle.spec_control.specs.declared.end.EndState.TheVariants.{WaitDelimiter}
 use Rattle.spec_link.specs.Turn.{DueOnce, Exactly, GivesUp, LingerIsOver}
 use Rattle.zq_session.specs.declared.life.Asked.{Asked}
 use Rattle.zq_session.specs.declared.life.Life.{Life}
 use Rattle.zq_session.specs.Lives.{Story, AreDue, Tells, basis_of, standing_of}
-use Rattle.zq_session.specs.LifeSteps.{LifeStep, LifeDoes, IsSame, with_dues}
+use Rattle.zq_session.specs.LifeSteps.{LifeStep, LifeDoes}
 use Rattle.zq_session.proofs.ListLemmas.{in_either, in_left, in_one}
 
 -- ---- lists with one more
 
-contains_on : {A : Type 0} (xs : List A) (x y : A) → Contains xs y → Contains (xs ++ x ∷ []) y
+pub contains_on : {A : Type 0} (xs : List A) (x y : A) → Contains xs y → Contains (xs ++ x ∷ []) y
 contains_on xs x y c = in_left xs (x ∷ []) y c
 
 contains_back : {A : Type 0} (xs : List A) (x y : A) → (x ≡ y → ⊥) → Contains (xs ++ x ∷ []) y → Contains xs y
@@ -117,15 +114,24 @@ module _ (l : Life) (asked : Asked) (dues : List Due) (due : AreDue l asked dues
 
 -- nothing happened
 pub no_step : (l : Life) (p : Story) → AreDue l l.asked p.dues → LifeStep l l p []
-no_step l p due = record { dues = p.dues; after_is = refl; due = due; same = record { object_is = refl; end_is = refl; kind_is = refl; dials_is = refl; linger_is = refl; state_is = refl; told_is = refl; waits_is = refl } }
+no_step l p due = record {
+  dues = p.dues;
+  after_is = refl;
+  due = due;
+  same = record { object_is = refl; end_is = refl; kind_is = refl; dials_is = refl; linger_is = refl; state_is = refl; told_is = refl; waits_is = refl };
+  grows = λ x c. c;
+  shaken_is = refl;
+}
 
 -- this became due
-pub due_step : (l : Life) (asked : Asked) (p : Story) (x : Due) → AreDue l asked (p.dues ++ x ∷ []) → LifeStep l (record l { asked = asked }) p (IsDue x ∷ [])
-due_step l asked p x due = record {
+pub due_step : (l : Life) (asked : Asked) (p : Story) (x : Due) → asked.shaken ≡ l.asked.shaken → AreDue l asked (p.dues ++ x ∷ []) → LifeStep l (record l { asked = asked }) p (IsDue x ∷ [])
+due_step l asked p x shaken due = record {
   dues = p.dues ++ x ∷ [];
   after_is = refl;
   due = record { linger = due.linger; link = due.link; over = due.over; output = due.output; delimiter = due.delimiter; shaken = due.shaken };
   same = record { object_is = refl; end_is = refl; kind_is = refl; dials_is = refl; linger_is = refl; state_is = refl; told_is = refl; waits_is = refl };
+  grows = λ y c. contains_on p.dues x y c;
+  shaken_is = shaken;
 }
 
 -- it isn't due, or it was due before
@@ -153,12 +159,12 @@ module _ (l : Life) (premise : Basis → Standing → Type 0) (x : Basis → Due
   does_again flag e tells = λ p due. ([], no_step l p due, was_due (standing_of l p) (premise (basis_of l p) (standing_of l p)) (x (basis_of l p)) flag e (tells p due))
 
   -- it becomes due
-  pub does_now : (asked : Asked) (flag : Bool) → flag ≡ false → ((p : Story) → AreDue l l.asked p.dues → Tells flag (Contains p.dues (x (basis_of l p))))
+  pub does_now : (asked : Asked) (flag : Bool) → asked.shaken ≡ l.asked.shaken → flag ≡ false → ((p : Story) → AreDue l l.asked p.dues → Tells flag (Contains p.dues (x (basis_of l p))))
       → ((p : Story) → premise (basis_of l p) (standing_of l p)) → ((p : Story) → AreDue l l.asked p.dues → AreDue l asked (p.dues ++ x (basis_of l p) ∷ []))
       → LifeDoes l (record l { asked = asked }) (λ b s. DueOnce s (premise b s) (x b))
-  does_now asked flag e tells holds marks = λ p due. (
+  does_now asked flag shaken e tells holds marks = λ p due. (
     IsDue (x (basis_of l p)) ∷ [],
-    due_step l asked p (x (basis_of l p)) (marks p due),
+    due_step l asked p (x (basis_of l p)) shaken (marks p due),
     is_due (standing_of l p) (premise (basis_of l p) (standing_of l p)) (x (basis_of l p)) flag e (tells p due) (holds p),
   )
 
@@ -189,6 +195,8 @@ gives_now l l2 now up over f = λ p due.
           told_is = same.told_is;
           waits_is = same.waits_is;
         };
+        grows = d.1.grows;
+        shaken_is = d.1.shaken_is;
       },
       inl ((up, over), (d.0, refl, d.2)),
     )

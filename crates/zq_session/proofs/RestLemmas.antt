@@ -7,7 +7,6 @@ use Rattle.std.proofs.lemmas.List.{append-nil, append_cancel_left}
 use Rattle.std.proofs.lemmas.List.Elements.{All-head, All-tail}
 use Rattle.zq_base.specs.Message.{Frames}
 use Rattle.zq_base.specs.declared.options.EngineOpts.{EngineOpts}
-use Rattle.zq_base.specs.declared.kind.Kind.TheVariants.{Push}
 use Rattle.zq_base.specs.declared.options.Peer.{Peer}
 use Rattle.spec_pattern.specs.Pipe.{IsCommittable}
 use Rattle.spec_zmtp.specs.FrameEncoding.{encode_message}
@@ -24,7 +23,7 @@ use Rattle.zmtp_engine.specs.EngineView.{IsSpent}
 use Rattle.zmtp_engine.proofs.Calls.{has_left, octets_are, messages_put, commands_put}
 use Rattle.zmtp_engine.proofs.Meaning.{means}
 use Rattle.spec_link.specs.LinkAct.{LinkAct, said_of, heard_of, put_of}
-use Rattle.spec_link.specs.LinkRun.{to_say, IsLinkRun}
+use Rattle.spec_link.specs.LinkRun.{to_say}
 use Rattle.spec_link.specs.Parts.{NothingToWrite, SomethingToWrite, MayTake, NothingHeld, SomethingHeld}
 use Rattle.zq_session.specs.Kept.{Kept, past_by, HasRun, IsAlive, IsAtRest, whole}
 
@@ -221,16 +220,3 @@ rest_same old new eu ed el rest = record {
   current = subst (λ (l : Listening). IsSettledNow l) (sym el) rest.current;
   drained = λ none. ap (λ (l : Listening). l.hearing.queue) el ∙ rest.drained (sym ed ∙ none);
 }
-
--- what is kept at rest is of a run of the link
-pub run_means : (opts : EngineOpts) (acts : List LinkAct) (k : Kept) → HasRun opts acts k → IsAtRest k → (opts.kind ≡ Push → put_of acts ≡ []) → (d : Decoded) × IsLinkRun opts acts d
-run_means opts acts k r rest push =
-    let m = some_meaning opts acts k rest.fed rest.current r in (
-      m.0,
-      record {
-        decodes = m.1;
-        said = (unwritten k.engine, said_left opts acts k rest.fed rest.current r m.0 m.1);
-        put = (whole k, sym (messages_left opts acts k rest.fed rest.current r m.0 m.1));
-        drops = push;
-      },
-    )

@@ -1,7 +1,6 @@
 -- What the octets heard so far mean for a session that reads alone.
-use Rattle.std.proofs.Common.{◌≡◌, ℕ, Bool, true, false, List, [], ◌∷◌, ◌++◌, length, Option, Some, None, refl, sym, ap, subst, ◌∙◌}
+use Rattle.std.proofs.Common.{◌≡◌, ℕ, Bool, true, false, List, [], ◌++◌, Option, Some, None, refl, sym, ◌∙◌}
 use Rattle.std.specs.Prelude.{MatchOption, IsSome}
-use Rattle.std.specs.Option.{option_to_list}
 use Rattle.std.proofs.lemmas.List.{append-nil}
 use Rattle.zq_base.specs.Message.{Frames}
 use Rattle.zq_base.specs.declared.options.EngineOpts.{EngineOpts}
@@ -13,9 +12,9 @@ use Rattle.msg_pipe.specs.Known.{Known}
 use Rattle.spec_zmtp.specs.declared.cause.Refusal.{Refusal}
 use Rattle.spec_zmtp.specs.DecodedStream.{Decoded, Decodes, Outcome, Unfinished, Refused}
 use Rattle.zmtp_engine.specs.Answers.{Standing, IsShaking, IsRunning as Runs, IsRefused, standing_at}
-use Rattle.zmtp_engine.specs.Conversation.{IsCurrent, unwritten, waiting}
-use Rattle.spec_link.specs.LinkAct.{LinkAct, heard_of, put_of}
-use Rattle.spec_link.specs.Parts.{IsRunning, NothingToWrite, SomethingToWrite, NothingHeld, SomethingHeld, WriteFits, ReadFits, write_acts, read_acts}
+use Rattle.zmtp_engine.specs.Conversation.{IsCurrent, unwritten}
+use Rattle.spec_link.specs.LinkAct.{LinkAct, heard_of}
+use Rattle.spec_link.specs.Parts.{NothingToWrite, SomethingToWrite, NothingHeld, SomethingHeld, WriteFits, ReadFits, write_acts, read_acts}
 use Rattle.zq_session.specs.Kept.{Kept, HasRun, IsAtRest, Acts, whole}
 use Rattle.zq_session.specs.Calls.{Adds, PutsRun, put_acts}
 use Rattle.zq_session.specs.Single.{WritesAlone, PutsBy}

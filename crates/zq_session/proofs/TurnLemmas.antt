@@ -15,27 +15,26 @@ use Rattle.spec_control.specs.declared.end.EndState.TheVariants.{Gone, WaitDelim
 use Rattle.spec_control.specs.declared.request.Req.TheVariants.{AskEnd, AskOver, OutputOver}
 use Rattle.spec_control.specs.declared.end.Reason.TheVariants.{Linger}
 use Rattle.spec_link.specs.declared.due.Due.TheVariants.{Request}
-use Rattle.spec_link.specs.LinkAct.{LinkAct, said_of, heard_of}
+use Rattle.spec_link.specs.LinkAct.{LinkAct}
 use Rattle.spec_link.specs.Parts.{SomethingToWrite}
 use Rattle.spec_link.specs.History.{Basis, SessionEvent, GaveUp, IsDue, Standing, after_all}
-use Rattle.spec_link.specs.Turn.{DueOnce, Exactly, GivesUp, LingerIsOver, HasNoOutput, IsTold, IsTurn, IsLinkedTurn, IsUnlinkedTurn, Works, WorksAt}
+use Rattle.spec_link.specs.Turn.{DueOnce, Exactly, GivesUp, LingerIsOver, HasNoOutput, IsTold, IsLinkedTurn, IsUnlinkedTurn, Works, WorksAt}
 use Rattle.zq_session.specs.declared.life.Life.{Life}
 use Rattle.zq_session.specs.declared.course.Course.{Course}
-use Rattle.zq_session.specs.Kept.{Kept, Side, HasRun, Acts}
-use Rattle.zq_session.specs.Calls.{Adds}
+use Rattle.zq_session.specs.Kept.{Side, Acts, IsKeptOf}
 use Rattle.zq_session.specs.Silent.{HasOutput, HasNone}
-use Rattle.zq_session.specs.Lives.{Story, AreDue, IsOfLink, basis_of, standing_of}
-use Rattle.zq_session.specs.LifeSteps.{IsSame, LifeStep, LifeDoes, with_dues}
+use Rattle.zq_session.specs.Lives.{Story, IsOfLink, basis_of, standing_of}
+use Rattle.zq_session.specs.LifeSteps.{LifeStep, LifeDoes, with_dues}
 use Rattle.zq_session.specs.Halves.{StepsRun, step_at}
 use Rattle.zq_session.specs.Courses.{HasStory, CourseStep, LinkedBy, act_at}
 use Rattle.zq_session.specs.Unlinked.{UnlinkedBy}
 use Rattle.zq_session.specs.Turns.{IsOutputGone, OutputBy, BeginsBy, IsToldBy, TurnsBy}
-use Rattle.zq_session.proofs.KeptLemmas.{acts_on}
 use Rattle.zq_session.proofs.PartLemmas.{adds_none}
 use Rattle.zq_session.proofs.UnlinkedLemmas.{link_gone}
 use Rattle.zq_session.proofs.HalfLemmas.{no_steps}
 use Rattle.zq_session.proofs.LifeLemmas.{no_step, due_step, due_output, not_due, was_due, is_due}
-use Rattle.zq_session.proofs.CourseLemmas.{after_on, due_adds, no_due_acts, no_due_steps, dials_on, once_as, same_on, basis_is, link_some, link_is, link_none}
+use Rattle.zq_session.proofs.CourseLemmas.{after_on, due_adds, no_due_acts, no_due_steps, dials_on, same_on, basis_is, link_some, link_is, silent_on, peer_on}
+use Rattle.zq_session.proofs.UnputLemmas.{does_these, output_of, none_of}
 
 -- ---- a step of a session's life alone
 
@@ -45,20 +44,36 @@ link_same opts opts' link link' side side' eo el es k =
     subst (λ (x : EngineOpts). IsOfLink x link' side') (sym eo)
     (subst (λ (x : Option (List LinkAct)). IsOfLink opts x side') (sym el) (subst (λ (x : Option Side). IsOfLink opts link x) (sym es) k))
 
-abbrev pub course_step : (old new : Course) (p : Story) (events : List SessionEvent) → new.side ≡ old.side → new.dialler ≡ old.dialler → LifeStep old.life new.life p events → HasStory old p → CourseStep old new p events
-course_step old new p events es ed step keeps = record {
+abbrev pub course_step : (old new : Course) (p : Story) (events : List SessionEvent) → new.side ≡ old.side → new.dialler ≡ old.dialler → new.peer ≡ old.peer → LifeStep old.life new.life p events → HasStory old p → CourseStep old new p events
+course_step old new p events es ed ep step keeps = record {
   story = with_dues p step.dues;
   after_is = step.after_is;
   same = step.same;
   opts_is = refl;
   interval_is = refl;
+  handed_is = refl;
+  grows = step.grows;
+  peer_is = inl (step.shaken_is, ep);
   keeps = record {
     due = step.due;
     link = link_same p.opts p.opts p.link p.link old.side new.side refl refl es keeps.link;
     dial = dials_on old.life new.life p (with_dues p step.dues) old.dialler new.dialler step.same ed refl refl refl keeps.dial;
-    plain = keeps.plain;
+    kind_is = keeps.kind_is ∙ sym step.same.kind_is;
+    silent = silent_on old.life new.life p.opts step.same keeps.silent;
   };
 }
+
+-- hearing what was read before is no act
+pub story_heard : (c : Course) (sd sd' : Side) → c.side ≡ Some sd → Acts sd.kept [] sd'.kept → (p : Story) → HasStory c p → HasStory (record c { side = Some sd' }) p
+story_heard c sd sd' e f p k =
+    let l = link_some p.opts p.link c.side sd e k.link in
+    record {
+      due = k.due;
+      link = link_is p.opts p.link (Some sd') sd' l.0 refl l.1 (subst (λ (x : List LinkAct). IsKeptOf p.opts x sd'.kept) (append-nil l.0) (does_these p.opts sd.kept sd'.kept [] refl f l.0 l.2));
+      dial = k.dial;
+      kind_is = k.kind_is;
+      silent = k.silent;
+    }
 
 -- steps behind steps
 abbrev pub course_on : (a b c : Course) (p : Story) (xs ys : List SessionEvent) (x : CourseStep a b p xs) → CourseStep b c x.story ys → CourseStep a c p (xs ++ ys)
@@ -71,12 +86,15 @@ course_on a b c p xs ys x y =
       same = same_on a.life b.life c.life x.same y.same;
       opts_is = y.opts_is ∙ x.opts_is;
       interval_is = y.interval_is ∙ x.interval_is;
+      handed_is = y.handed_is ∙ x.handed_is;
+      grows = λ d k. y.grows d (x.grows d k);
+      peer_is = peer_on a b c x.story.dues y.story.dues x.same.object_is y.grows x.peer_is y.peer_is;
       keeps = y.keeps;
     }
 
 -- what is kept is kept still, of the same story
-abbrev pub course_same : (old new : Course) (p : Story) → new.life ≡ old.life → HasStory new p → CourseStep old new p []
-course_same old new p e keeps = record {
+abbrev pub course_same : (old new : Course) (p : Story) → new.life ≡ old.life → new.peer ≡ old.peer → HasStory new p → CourseStep old new p []
+course_same old new p e ep keeps = record {
   story = p;
   after_is = ap (λ (l : Life). standing_of l p) (sym e);
   same = record {
@@ -91,6 +109,9 @@ course_same old new p e keeps = record {
   };
   opts_is = refl;
   interval_is = refl;
+  handed_is = refl;
+  grows = λ d k. k;
+  peer_is = inl (ap (λ (l : Life). l.asked.shaken) e, ep);
   keeps = keeps;
 }
 
@@ -107,14 +128,14 @@ acts_eq x y e = cc
 pub gone_written : (link : Option (List LinkAct)) (opts : EngineOpts) (side : Option Side) (sd : Side) → side ≡ Some sd → HasNone sd.kept → IsOfLink opts link side → (acts : List LinkAct) → link ≡ Some acts → SomethingToWrite opts acts → ⊥
 gone_written link opts side sd e none k acts d some =
     let l = link_some opts link side sd e k in
-    (none opts l.0 l.2).1 (subst (λ (a : List LinkAct). SomethingToWrite opts a) (acts_eq acts l.0 (sym d ∙ l.1)) some)
+    none_of opts l.0 sd.kept l.2 none (subst (λ (a : List LinkAct). SomethingToWrite opts a) (acts_eq acts l.0 (sym d ∙ l.1)) some)
 
 pub not_gone : (b : Basis) (s : Standing) (side : Option Side) (sd : Side) → side ≡ Some sd → HasOutput sd.kept → (s.gave_up ≡ false) → (b.linger ≡ Some 0 → ⊥) → IsOfLink b.opts s.link side → IsOutputGone b s → ⊥
 not_gone b s side sd e some up linger k (inl g) = (let u = up in absurd cc)
 not_gone b s side sd e some up linger k (inr (inl g)) = linger g
 not_gone b s side sd e some up linger k (inr (inr g)) =
     let l = link_some b.opts s.link side sd e k in
-    g l.0 l.1 (some b.opts l.0 l.2)
+    g l.0 l.1 (output_of b.opts l.0 sd.kept l.2 some)
 
 -- ---- the first answers
 
@@ -142,26 +163,26 @@ over_as s t told told' state state' object object' events es et ew eo k =
     (subst (λ (x : Option EndState). OverIs t told' x object events) ew
     (subst (λ (x : ObjId). OverIs t told' state' x events) eo k)))
 
-pub begins_by : (now : ℕ) (old mid1 mid2 mid3 new : Course) → mid1.side ≡ old.side → mid1.dialler ≡ old.dialler
+pub begins_by : (now : ℕ) (old mid1 mid2 mid3 new : Course) → mid1.side ≡ old.side → mid1.dialler ≡ old.dialler → mid1.peer ≡ old.peer
     → LifeDoes old.life mid1.life (λ b s. Exactly ((s.gave_up ≡ false) × LingerIsOver b.linger s.told now) (GivesUp b s))
-    → ((p : Story) → HasStory mid1 p → HasStory mid2 p) → mid2.life ≡ mid1.life → OutputBy mid2 mid3
-    → new.side ≡ mid3.side → new.dialler ≡ mid3.dialler
+    → ((p : Story) → HasStory mid1 p → HasStory mid2 p) → mid2.life ≡ mid1.life → mid2.peer ≡ mid1.peer → OutputBy mid2 mid3
+    → new.side ≡ mid3.side → new.dialler ≡ mid3.dialler → new.peer ≡ mid3.peer
     → LifeDoes mid3.life new.life (λ b s. DueOnce s ((IsTold s → ⊥) × (s.state ≡ Some Gone)) (Request (AskOver b.object)))
     → (p : Story) → HasStory old p → BeginsBy now old new p
-begins_by now old mid1 mid2 mid3 new e1 d1 f1 f2 e2 f3 e4 d4 f4 p keeps =
+begins_by now old mid1 mid2 mid3 new e1 d1 p1 f1 f2 e2 p2 f3 e4 d4 p4 f4 p keeps =
     let a = f1 p keeps.due in
     let b = basis_of old.life p in
     let s = standing_of old.life p in
     let q = with_dues p a.1.dues in
-    let c1 = course_step old mid1 p a.0 e1 d1 a.1 keeps in
+    let c1 = course_step old mid1 p a.0 e1 d1 p1 a.1 keeps in
     let keeps2 = f2 q c1.keeps in
     let o = f3 q keeps2 in
-    let c2 = course_same mid1 mid2 q e2 keeps2 in
+    let c2 = course_same mid1 mid2 q e2 p2 keeps2 in
     let c12 = course_on old mid1 mid2 p a.0 [] c1 c2 in
     let c3 = o.2 in
     let q3 = c3.story in
     let v = f4 q3 c3.keeps.due in
-    let c4 = course_step mid3 new q3 v.0 e4 d4 v.1 c3.keeps in
+    let c4 = course_step mid3 new q3 v.0 e4 d4 p4 v.1 c3.keeps in
     let same2 = same_on old.life mid1.life mid2.life a.1.same c2.same in
     let basis2 = basis_is old.life mid2.life p q same2 refl refl in
     let standing2 : standing_of mid2.life q ≡ after_all b s a.0 = ap (λ (l : Life). standing_of l q) e2 ∙ sym a.1.after_is in
@@ -184,7 +205,7 @@ begins_by now old mid1 mid2 mid3 new e1 d1 f1 f2 e2 f3 e4 d4 f4 p keeps =
 -- ---- the whole turn
 
 -- no act is among what it gives up by
-gives_none : {A : Type 0} (f : SessionEvent → List A) (b : Basis) (s : Standing) (P : Type 0) (events : List SessionEvent) → f GaveUp ≡ [] → ((t : Standing) (Q : Type 0) (x : Due) (e : List SessionEvent) → DueOnce t Q x e → flat_map f e ≡ [])
+pub gives_none : {A : Type 0} (f : SessionEvent → List A) (b : Basis) (s : Standing) (P : Type 0) (events : List SessionEvent) → f GaveUp ≡ [] → ((t : Standing) (Q : Type 0) (x : Due) (e : List SessionEvent) → DueOnce t Q x e → flat_map f e ≡ [])
     → Exactly P (GivesUp b s) events → flat_map f events ≡ []
 gives_none f b s P events none dues (inl k) =
     ap (λ (l : List SessionEvent). flat_map f l) k.1.1 ∙ ap (λ (l : List _). l ++ flat_map f k.1.0) none ∙ dues s (s.state ≡ Some WaitDelimiter) (Request (AskEnd b.end Linger)) k.1.0 k.1.2
@@ -198,7 +219,7 @@ first_none f gives output over works eg eo ev =
     ∙ flat_map-append f output (over ++ works) ∙ ap (λ (l : List _). l ++ flat_map f (over ++ works)) eo
     ∙ flat_map-append f over works ∙ ap (λ (l : List _). l ++ flat_map f works) ev
 
-regroup_first : {A : Type 0} (a b c d : List A) → (a ++ (b ++ c)) ++ d ≡ a ++ (b ++ (c ++ d))
+pub regroup_first : {A : Type 0} (a b c d : List A) → (a ++ (b ++ c)) ++ d ≡ a ++ (b ++ (c ++ d))
 regroup_first a b c d = append_assoc a (b ++ c) d ∙ ap (λ (l : List _). a ++ l) (append_assoc b c d)
 
 works_linked : (b : Basis) (s : Standing) (link : Option (List LinkAct)) (acts : List LinkAct) (now : ℕ) (events : List SessionEvent) → link ≡ Some acts → IsLinkedTurn b s acts now events → WorksAt b s link now events
@@ -208,7 +229,7 @@ works_unlinked : (b : Basis) (s : Standing) (link : Option (List LinkAct)) (now 
 works_unlinked b s link now events e t = subst (λ (l : Option (List LinkAct)). WorksAt b s l now events) (sym e) t
 
 -- the first answers add no act and no step
-first_adds : {A : Type 0} (f : SessionEvent → List A) → ((x : Due) → f (IsDue x) ≡ []) → f GaveUp ≡ [] → (now : ℕ) (old mid : Course) (p : Story) (begins : BeginsBy now old mid p) (works : List SessionEvent)
+pub first_adds : {A : Type 0} (f : SessionEvent → List A) → ((x : Due) → f (IsDue x) ≡ []) → f GaveUp ≡ [] → (now : ℕ) (old mid : Course) (p : Story) (begins : BeginsBy now old mid p) (works : List SessionEvent)
     → flat_map f (begins.gives ++ (begins.output ++ (begins.over ++ works))) ≡ flat_map f works
 first_adds f dues up now old mid p begins works =
     let b = basis_of old.life p in
@@ -248,7 +269,7 @@ module _ {S O I N L : Type 0} (K : Known S O I N) (heard said : L → Option (Li
         told = subst (λ (l : List LinkAct). IsToldBy heard said link l link') (sym (first_adds act_at no_due_acts refl now old mid p begins works)) told;
       }
 
-  told_same : (link : Option L) → IsToldBy heard said link [] link
+  pub told_same : (link : Option L) → IsToldBy heard said link [] link
   told_same None = tt
   told_same (Some l) = (adds_none (said l), adds_none (heard l))
 
@@ -256,7 +277,7 @@ module _ {S O I N L : Type 0} (K : Known S O I N) (heard said : L → Option (Li
   pub turns_given_up : (now : ℕ) (old new : Course) (link : Option L) (s : S) (i : Option I) (o : Option O) (p : Story) → new.life.gave_up ≡ true → BeginsBy now old new p
       → TurnsBy K heard said now old new link link s i o s i o p
   turns_given_up now old new link s i o p e begins =
-      turns_with now old new new link link s s i i o o p begins [] (inl (e, refl)) (course_same new new begins.step.story refl begins.step.keeps) (no_steps K s i o) (told_same link)
+      turns_with now old new new link link s s i i o o p begins [] (inl (e, refl)) (course_same new new begins.step.story refl refl begins.step.keeps) (no_steps K s i o) (told_same link)
 
   -- it works at its link
   pub turns_linked : (now : ℕ) (old mid new : Course) (link : Option L) (l l' : L) (link' : Option L) (s s' : S) (i i' : Option I) (o o' : Option O) (p : Story) → mid.life.gave_up ≡ false → (begins : BeginsBy now old mid p)
@@ -286,15 +307,15 @@ module _ {S O I N L : Type 0} (K : Known S O I N) (heard said : L → Option (Li
       (told_new (flat_map act_at w.events) link' fresh))
 
 -- memory cut the first answers short: it may have given up
-pub begins_cut : (now : ℕ) (old mid1 mid2 : Course) → mid1.side ≡ old.side → mid1.dialler ≡ old.dialler
+pub begins_cut : (now : ℕ) (old mid1 mid2 : Course) → mid1.side ≡ old.side → mid1.dialler ≡ old.dialler → mid1.peer ≡ old.peer
     → LifeDoes old.life mid1.life (λ b s. Exactly ((s.gave_up ≡ false) × LingerIsOver b.linger s.told now) (GivesUp b s))
-    → ((p : Story) → HasStory mid1 p → HasStory mid2 p) → mid2.life ≡ mid1.life
+    → ((p : Story) → HasStory mid1 p → HasStory mid2 p) → mid2.life ≡ mid1.life → mid2.peer ≡ mid1.peer
     → (p : Story) → HasStory old p → (gives : List SessionEvent) × Exactly ((old.life.gave_up ≡ false) × LingerIsOver old.life.linger old.life.told now) (GivesUp (basis_of old.life p) (standing_of old.life p)) gives × CourseStep old mid2 p gives
-begins_cut now old mid1 mid2 e1 d1 f1 f2 e2 p keeps =
+begins_cut now old mid1 mid2 e1 d1 p1 f1 f2 e2 p2 p keeps =
     let a = f1 p keeps.due in
     let q = with_dues p a.1.dues in
-    let c1 = course_step old mid1 p a.0 e1 d1 a.1 keeps in
-    let c2 = course_same mid1 mid2 q e2 (f2 q c1.keeps) in
+    let c1 = course_step old mid1 p a.0 e1 d1 p1 a.1 keeps in
+    let c2 = course_same mid1 mid2 q e2 p2 (f2 q c1.keeps) in
     (a.0, a.2, subst (λ (l : List SessionEvent). CourseStep old mid2 p l) (append-nil a.0) (course_on old mid1 mid2 p a.0 [] c1 c2))
 
 pub none_is : {T : Type 0} (o : Option T) → is_some o ≡ false → o ≡ None
@@ -311,14 +332,14 @@ pub output_none : (c : Course) → ((p : Story) → HasStory c p → OutputGone 
 output_none c never = λ p keeps. (
   [],
   not_due (standing_of c.life p) (OutputGone c p) (Request (OutputOver c.life.object)) (never p keeps),
-  course_step c c p [] refl refl (no_step c.life p keeps.due) keeps,
+  course_step c c p [] refl refl refl (no_step c.life p keeps.due) keeps,
 )
 
 pub output_again : (c : Course) → c.life.asked.output ≡ true → OutputBy c c
 output_again c e = λ p keeps. (
   [],
   was_due (standing_of c.life p) (OutputGone c p) (Request (OutputOver c.life.object)) c.life.asked.output e keeps.due.output,
-  course_step c c p [] refl refl (no_step c.life p keeps.due) keeps,
+  course_step c c p [] refl refl refl (no_step c.life p keeps.due) keeps,
 )
 
 pub output_now : (c : Course) → c.life.asked.output ≡ false → ((p : Story) → HasStory c p → OutputGone c p) → OutputBy c (record c { life = record c.life { asked = record c.life.asked { output = true } } })
@@ -327,5 +348,5 @@ output_now c e gone = λ p keeps.
     let x = Request (OutputOver c.life.object) in (
       IsDue x ∷ [],
       is_due (standing_of c.life p) (OutputGone c p) x c.life.asked.output e keeps.due.output (gone p keeps),
-      course_step c (record c { life = l2 }) p (IsDue x ∷ []) refl refl (due_step c.life (record c.life.asked { output = true }) p x (due_output c.life c.life.asked p.dues keeps.due)) keeps,
+      course_step c (record c { life = l2 }) p (IsDue x ∷ []) refl refl refl (due_step c.life (record c.life.asked { output = true }) p x refl (due_output c.life c.life.asked p.dues keeps.due)) keeps,
     )

@@ -1,6 +1,6 @@
 -- What a turn without a link does, from its steps.
 use Rattle.std.proofs.Common.{◌≡◌, ℕ, ◌≤◌, Bool, true, false, List, [], ◌∷◌, ◌++◌, Option, Some, None, refl, sym, ap, subst, ◌∙◌, inl, inr, arith}
-use Rattle.std.specs.Prelude.{◌⊎◌, Contains, IsSome, OnOk, Result, Ok, Err}
+use Rattle.std.specs.Prelude.{◌⊎◌, Contains, IsSome, OnOk, OnErr, Result, Ok, Err}
 use Rattle.std.specs.List.{flat_map}
 use Rattle.std.proofs.lemmas.List.{append-nil}
 use Rattle.std.proofs.lemmas.List.Concat.{flat_map-append}
@@ -10,13 +10,13 @@ use Rattle.msg_pipe.specs.Known.{Known}
 use Rattle.msg_pipe.specs.Told.{front_step}
 use Rattle.msg_pipe.specs.declared.pipes.Front.{Front}
 use Rattle.msg_pipe.specs.declared.pipes.Front.TheVariants as front
-use Rattle.spec_pattern.specs.PipeStep.{PipeStep, DelimiterLook, EmptyLook, WaitingLook, read_through}
+use Rattle.spec_pattern.specs.PipeStep.{PipeStep, DelimiterLook, read_through}
 use Rattle.spec_control.specs.declared.end.EndState.{EndState}
 use Rattle.spec_link.specs.declared.due.Due.{Due}
 use Rattle.spec_link.specs.declared.due.Due.TheVariants.{Delimiter}
 use Rattle.spec_link.specs.LinkAct.{HostAnswer, Linked, LinkAct, Step}
 use Rattle.spec_link.specs.History.{Basis, SessionEvent, Acted, Dialled, IsDue, Standing, after_all, link_after, dial_at_after}
-use Rattle.spec_link.specs.Turn.{DueOnce, Exactly, CanRead, IsTold, Looks, DelimiterIsDue, DialIsDue, IsUnlinkedTurn, IsLook}
+use Rattle.spec_link.specs.Turn.{DueOnce, Exactly, CanRead, IsTold, Looks, DelimiterIsDue, DialIsDue, IsLook}
 use Rattle.zq_session.specs.declared.life.Life.{Life}
 use Rattle.zq_session.specs.declared.course.Course.{Course}
 use Rattle.zq_session.specs.Kept.{Side, HasRun}
@@ -25,12 +25,14 @@ use Rattle.zq_session.specs.Dials.{DiallerState, HostCounts, answer_of}
 use Rattle.zq_session.specs.LifeView.{IsReadable}
 use Rattle.zq_session.specs.Lives.{Story, AreDue, IsOfLink, IsOfDials, basis_of, standing_of}
 use Rattle.zq_session.specs.LifeSteps.{IsSame, LifeStep, LifeDoes, with_dues}
-use Rattle.zq_session.specs.Halves.{StepRun, StepsRun, step_at}
-use Rattle.zq_session.specs.Courses.{HasStory, CourseStep}
+use Rattle.zq_session.specs.Halves.{StepsRun, step_at}
+use Rattle.zq_session.specs.Courses.{HasStory}
+use Rattle.zq_session.specs.Cuts.{CutUnlinkedBy}
 use Rattle.zq_session.specs.Unlinked.{DialsBy, IsDialDue, LooksBy, UnlinkedBy, dial_events}
 use Rattle.zq_session.proofs.HalfLemmas.{one_step, no_steps, steps_on}
 use Rattle.zq_session.proofs.ListLemmas.{in_either, in_one, in_none, the_one}
-use Rattle.zq_session.proofs.CourseLemmas.{after_on, due_adds, no_due_steps, dials_on, once_as, same_on, basis_is, link_none, link_is}
+use Rattle.zq_session.proofs.CourseLemmas.{after_on, due_adds, no_due_steps, dials_on, once_as, same_on, basis_is, link_none, link_is, silent_on, peer_on}
+use Rattle.zq_session.proofs.UnputLemmas.{of_nothing}
 
 pub link_gone : (opts : EngineOpts) (link : Option (List LinkAct)) (side : Option Side) → side ≡ None → IsOfLink opts link side → link ≡ None
 link_gone opts None side e k = refl
@@ -102,7 +104,7 @@ not_in s P x act other dues once never c =
 look_step : (old new : Life) (p : Story) (act : LinkAct) (dues : List SessionEvent) → p.link ≡ None → LifeStep old new p dues → LifeStep old new p (Acted act ∷ dues)
 look_step old new p act dues e step =
     by_none (λ q. LifeStep old new q dues → LifeStep old new q (Acted act ∷ dues)) p e
-    (λ k. record { dues = k.dues; after_is = k.after_is; due = k.due; same = k.same }) step
+    (λ k. record { dues = k.dues; after_is = k.after_is; due = k.due; same = k.same; grows = k.grows; shaken_is = k.shaken_is }) step
 
 dial_steps : (now : ℕ) (answer : Option HostAnswer) → flat_map step_at (dial_events now answer) ≡ []
 dial_steps now None = refl
@@ -141,19 +143,20 @@ module _ (b c : Basis) (s t : Standing) (looks : List SessionEvent) (met : Bool)
   }
 
 module _ {S O I N : Type 0} (K : Known S O I N) where
-  dialled : (now : ℕ) (old mid new : Course) (met : Bool) (faults faults' stalls stalls' : ℕ) (s s' : S) (i i' : Option I) (o : Option O) → mid.side ≡ None → mid.dialler ≡ old.dialler
+  dialled : (now : ℕ) (old mid new : Course) (met : Bool) (faults faults' stalls stalls' : ℕ) (s s' : S) (i i' : Option I) (o : Option O) → mid.side ≡ None → mid.dialler ≡ old.dialler → mid.peer ≡ old.peer
       → (looks : List SessionEvent) (p : Story) → p.link ≡ None → HasStory old p → (step : LifeStep old.life mid.life p looks)
       → Exactly (CanRead (standing_of old.life p)) (Looks (basis_of old.life p) (standing_of old.life p)) looks
       → (met ≡ true → Contains looks (Acted (Step (DelimiterLook (read_through old.life.end))))) → (Contains looks (Acted (Step (DelimiterLook (read_through old.life.end)))) → met ≡ true)
       → StepsRun K (flat_map step_at looks) s i o s' i' o → DialsBy now met mid new faults faults' stalls stalls' → UnlinkedBy K now old new s i o s' i' p
-  dialled now old mid new met faults faults' stalls stalls' s s' i i' o em ed looks p pl keeps step looked there back runs dials =
+  dialled now old mid new met faults faults' stalls stalls' s s' i i' o em ed ep looks p pl keeps step looked there back runs dials =
       let q = with_dues p step.dues in
       let b = basis_of old.life p in
       let mid_keeps : HasStory mid q = record {
         due = step.due;
         link = link_none p.opts p.link mid.side em pl;
         dial = dials_on old.life mid.life p q old.dialler mid.dialler step.same ed refl refl refl keeps.dial;
-        plain = keeps.plain;
+        kind_is = keeps.kind_is ∙ sym step.same.kind_is;
+        silent = silent_on old.life mid.life p.opts step.same keeps.silent;
       } in
       let d = dials.does q mid_keeps pl in
       let basis : basis_of mid.life q ≡ b = basis_is old.life mid.life p q step.same refl refl in
@@ -177,27 +180,31 @@ module _ {S O I N : Type 0} (K : Known S O I N) where
           same = same_on old.life mid.life new.life step.same d.1.same;
           opts_is = d.1.opts_is;
           interval_is = d.1.interval_is;
+          handed_is = d.1.handed_is;
+          grows = λ x c. d.1.grows x (step.grows x c);
+          peer_is = peer_on old mid new step.dues d.1.story.dues step.same.object_is d.1.grows (inl (step.shaken_is, ep)) d.1.peer_is;
           keeps = d.1.keeps;
         };
         steps = subst (λ (l : List PipeStep). StepsRun K l s i o s' i' o) (sym (flat_map-append step_at looks events ∙ ap (λ (l : List PipeStep). flat_map step_at looks ++ l) (dial_steps now dials.answer) ∙ append-nil (flat_map step_at looks))) runs;
       }
 
-  unlinked_at : (now : ℕ) (old mid new : Course) (can_read met : Bool) (found : Option Front) (faults faults' stalls stalls' : ℕ) (s s' : S) (i i' : Option I) (o : Option O)
-      → mid.side ≡ None → mid.dialler ≡ old.dialler
+  -- a look, and what comes behind it
+  looked_at : (R : Type 0) (old mid : Course) (can_read met : Bool) (found : Option Front) (s s' : S) (i i' : Option I) (o : Option O)
       → (can_read ≡ true → IsReadable old.life.state) → (can_read ≡ false → IsReadable old.life.state → ⊥)
       → (met ≡ true → found ≡ Some front.Delimiter) → (met ≡ false → found ≡ Some front.Delimiter → ⊥)
       → LooksBy K can_read found s i s' i' → LifeDoes old.life mid.life (λ b s. DueOnce s (met ≡ true) (Delimiter b.end))
-      → DialsBy now met mid new faults faults' stalls stalls'
-      → (p : Story) → p.link ≡ None → HasStory old p → UnlinkedBy K now old new s i o s' i' p
-  unlinked_at now old mid new can_read met None faults faults' stalls stalls' s s' i i' o em ed sure never my mn looks marks dials p pl keeps =
+      → (p : Story) → p.link ≡ None → HasStory old p
+      → ((looks : List SessionEvent) (step : LifeStep old.life mid.life p looks)
+      → Exactly (CanRead (standing_of old.life p)) (Looks (basis_of old.life p) (standing_of old.life p)) looks
+      → (met ≡ true → Contains looks (Acted (Step (DelimiterLook (read_through old.life.end))))) → (Contains looks (Acted (Step (DelimiterLook (read_through old.life.end)))) → met ≡ true)
+      → StepsRun K (flat_map step_at looks) s i o s' i' o → R) → R
+  looked_at R old mid can_read met None s s' i i' o sure never my mn looks marks p pl keeps finish =
       let d = marks p keeps.due in
-      let q = with_dues p d.1.dues in
-      let b = basis_of old.life p in
       let none : d.0 ≡ [] = none_due (standing_of old.life p) (met ≡ true) (Delimiter old.life.end) d.0 (λ e. no_front (my e)) d.2 in
       let step : LifeStep old.life mid.life p [] = subst (λ (l : List SessionEvent). LifeStep old.life mid.life p l) none d.1 in
-      dialled now old mid new met faults faults' stalls stalls' s s' i i' o em ed [] p pl keeps step (inr (never looks.0, refl))
-      (λ e. absurd (no_front (my e))) (λ c. in_none (Acted (Step (DelimiterLook (read_through old.life.end)))) c) (looks.1.0, (looks.1.1, refl)) dials
-  unlinked_at now old mid new can_read met (Some f) faults faults' stalls stalls' s s' i i' o em ed sure never my mn looks marks dials p pl keeps =
+      finish [] step (inr (never looks.0, refl))
+      (λ e. absurd (no_front (my e))) (λ c. in_none (Acted (Step (DelimiterLook (read_through old.life.end)))) c) (looks.1.0, (looks.1.1, refl))
+  looked_at R old mid can_read met (Some f) s s' i i' o sure never my mn looks marks p pl keeps finish =
       let d = marks p keeps.due in
       let inward = read_through old.life.end in
       let b = basis_of old.life p in
@@ -208,29 +215,65 @@ module _ {S O I N : Type 0} (K : Known S O I N) where
       let in_met : Contains (act ∷ []) delim → met ≡ true = λ c. true_by met (λ e. mn e (ap (λ (x : Front). Some x) (found_by inward f (in_one act delim c.0 c.1 c.2)))) in
       let dues : DelimiterIsDue b st (act ∷ []) d.0 = once_as st (met ≡ true) (Contains (act ∷ []) delim) (Delimiter old.life.end) d.0 met_in in_met d.2 in
       let step : LifeStep old.life mid.life p (Acted act ∷ d.0) = look_step old.life mid.life p act d.0 pl d.1 in
-      dialled now old mid new met faults faults' stalls stalls' s s' i i' o em ed (Acted act ∷ d.0) p pl keeps step
+      finish (Acted act ∷ d.0) step
       (inl (sure looks.0, (front_step inward f, is_look inward f, d.0, refl, dues)))
       (λ e. acted_in act d.0 delim (found_act inward f (my e)))
       (λ c. true_by met (λ e. not_in st (met ≡ true) (Delimiter old.life.end) act delim d.0 d.2 (λ x. mn e (ap (λ (y : Front). Some y) (found_by inward f x))) c))
       (steps_on K (front_step inward f ∷ []) (flat_map step_at d.0) s s' s' i i' i' o o o
       (one_step K (front_step inward f) s s' i i' o o (looks.1 inward o))
       (subst (λ (l : List PipeStep). StepsRun K l s' i' o s' i' o) (sym (due_adds step_at no_due_steps st (met ≡ true) (Delimiter old.life.end) d.0 d.2)) (no_steps K s' i' o)))
-      dials
 
   pub unlinked_by : (now : ℕ) (old mid new : Course) (can_read met : Bool) (found : Option Front) (faults faults' stalls stalls' : ℕ) (s s' : S) (i i' : Option I) (o : Option O)
-      → old.side ≡ None → mid.side ≡ None → mid.dialler ≡ old.dialler
+      → old.side ≡ None → mid.side ≡ None → mid.dialler ≡ old.dialler → mid.peer ≡ old.peer
       → (can_read ≡ true → IsReadable old.life.state) → (can_read ≡ false → IsReadable old.life.state → ⊥)
       → (met ≡ true → found ≡ Some front.Delimiter) → (met ≡ false → found ≡ Some front.Delimiter → ⊥)
       → LooksBy K can_read found s i s' i' → LifeDoes old.life mid.life (λ b s. DueOnce s (met ≡ true) (Delimiter b.end))
       → DialsBy now met mid new faults faults' stalls stalls'
       → (p : Story) → HasStory old p → UnlinkedBy K now old new s i o s' i' p
-  unlinked_by now old mid new can_read met found faults faults' stalls stalls' s s' i i' o eo em ed sure never my mn looks marks dials p keeps =
+  unlinked_by now old mid new can_read met found faults faults' stalls stalls' s s' i i' o eo em ed ep sure never my mn looks marks dials p keeps =
       by_none (λ q. HasStory old q → UnlinkedBy K now old new s i o s' i' q) p (link_gone p.opts p.link old.side eo keeps.link)
-      (λ k. unlinked_at now old mid new can_read met found faults faults' stalls stalls' s s' i i' o em ed sure never my mn looks marks dials (record p { link = None }) refl k) keeps
+      (λ k. (let q = record p { link = None } in
+      looked_at (UnlinkedBy K now old new s i o s' i' q) old mid can_read met found s s' i i' o sure never my mn looks marks q refl k (λ l step looked there back runs.
+      dialled now old mid new met faults faults' stalls stalls' s s' i i' o em ed ep l q refl k step looked there back runs dials))) keeps
+
+  -- memory wanted behind the look
+  pub cut_unlinked : (old mid new : Course) (can_read met : Bool) (found : Option Front) (s s' : S) (i i' : Option I) (o : Option O)
+      → old.side ≡ None → mid.side ≡ None → mid.dialler ≡ old.dialler → mid.peer ≡ old.peer → new ≡ mid
+      → (can_read ≡ true → IsReadable old.life.state) → (can_read ≡ false → IsReadable old.life.state → ⊥)
+      → (met ≡ true → found ≡ Some front.Delimiter) → (met ≡ false → found ≡ Some front.Delimiter → ⊥)
+      → LooksBy K can_read found s i s' i' → LifeDoes old.life mid.life (λ b s. DueOnce s (met ≡ true) (Delimiter b.end))
+      → (p : Story) → HasStory old p → CutUnlinkedBy K old new s i o s' i' p
+  cut_unlinked old mid new can_read met found s s' i i' o eo em ed ep same sure never my mn looks marks p keeps =
+      subst (λ (c : Course). CutUnlinkedBy K old c s i o s' i' p) (sym same)
+      (by_none (λ q. HasStory old q → CutUnlinkedBy K old mid s i o s' i' q) p (link_gone p.opts p.link old.side eo keeps.link)
+      (λ k. (let q = record p { link = None } in
+      looked_at (CutUnlinkedBy K old mid s i o s' i' q) old mid can_read met found s s' i i' o sure never my mn looks marks q refl k (λ l step looked there back runs.
+      record {
+        events = l;
+        cut = looked;
+        step = record {
+          story = with_dues q step.dues;
+          after_is = step.after_is;
+          same = step.same;
+          opts_is = refl;
+          interval_is = refl;
+          handed_is = refl;
+          grows = step.grows;
+          peer_is = inl (step.shaken_is, ep);
+          keeps = record {
+            due = step.due;
+            link = link_none p.opts None mid.side em refl;
+            dial = dials_on old.life mid.life q (with_dues q step.dues) old.dialler mid.dialler step.same ed refl refl refl k.dial;
+            kind_is = k.kind_is ∙ sym step.same.kind_is;
+            silent = silent_on old.life mid.life p.opts step.same k.silent;
+          };
+        };
+        steps = runs;
+      }))) keeps)
 
 -- ---- the dial
 
-same_by : (old new : Life) → new ≡ old → IsSame old new
+pub same_by : (old new : Life) → new ≡ old → IsSame old new
 same_by old new e = record {
   object_is = ap (λ (l : Life). l.object) e;
   end_is = ap (λ (l : Life). l.end) e;
@@ -251,11 +294,11 @@ is_dialled true p d e o i m = (o, (i, m))
 is_dialled false p d e o i m = absurd cc
 
 pub dials_by : (now : ℕ) (met : Bool) (old new : Course) (d d' : DiallerState) (a : HostAnswer) (faults faults' stalls stalls' : ℕ) → HostCounts (Some a) faults faults' stalls stalls'
-    → new.life ≡ old.life → old.dialler ≡ Some d → new.dialler ≡ Some d' → d.dial_at ≤ now → d' ≡ record d { dial_at = dial_at_after d.interval now a d.dial_at }
+    → new.life ≡ old.life → new.peer ≡ old.peer → old.dialler ≡ Some d → new.dialler ≡ Some d' → d.dial_at ≤ now → d' ≡ record d { dial_at = dial_at_after d.interval now a d.dial_at }
     → ((IsSome old.life.told → ⊥) ⊎ (IsReadable old.life.state × (met ≡ false)))
     → ((p : Story) → d.opts ≡ p.opts → p.link ≡ None → IsOfLink p.opts (link_after a p.link) new.side) → (IsSome new.side → Some a ≡ Some Linked)
     → DialsBy now met old new faults faults' stalls stalls'
-dials_by now met old new d d' a faults faults' stalls stalls' counts el eo en moment next wanted links linked = record {
+dials_by now met old new d d' a faults faults' stalls stalls' counts el epeer eo en moment next wanted links linked = record {
   answer = Some a;
   counts = counts;
   does = λ p keeps none.
@@ -269,13 +312,17 @@ dials_by now met old new d d' a faults faults' stalls stalls' counts el eo en mo
           same = same;
           opts_is = refl;
           interval_is = refl;
+          handed_is = refl;
+          grows = λ x c. c;
+          peer_is = inl (ap (λ (l : Life). l.asked.shaken) el, epeer);
           keeps = record {
             due = subst (λ (l : Life). AreDue l l.asked p.dues) (sym el) keeps.due;
             link = links p k.1.0 none;
             dial = subst (λ (o : Option DiallerState). IsOfDials new.life.dials q o) (sym en) (is_dialled new.life.dials q d' (same.dials_is ∙ k.0)
                 (ap (λ (x : DiallerState). x.opts) next ∙ k.1.0) (ap (λ (x : DiallerState). x.interval) next ∙ k.1.1.0)
                 (ap (λ (x : DiallerState). x.dial_at) next ∙ ap (λ (n : ℕ). dial_at_after n now a d.dial_at) k.1.1.0 ∙ ap (λ (n : ℕ). dial_at_after p.interval now a n) k.1.1.1));
-            plain = keeps.plain;
+            kind_is = keeps.kind_is ∙ sym same.kind_is;
+            silent = silent_on old.life new.life p.opts same keeps.silent;
           };
         },
       );
@@ -283,7 +330,7 @@ dials_by now met old new d d' a faults faults' stalls stalls' counts el eo en mo
 }
 
 pub links_fresh : (opts : EngineOpts) (link : Option (List LinkAct)) (side : Option Side) (sd : Side) (other : EngineOpts) → other ≡ opts → side ≡ Some sd → link ≡ Some [] → HasRun other [] sd.kept → IsOfLink opts link side
-links_fresh opts link side sd other e es el r = link_is opts link side sd [] es el (subst (λ (x : EngineOpts). HasRun x [] sd.kept) e r)
+links_fresh opts link side sd other e es el r = link_is opts link side sd [] es el (of_nothing opts sd.kept (subst (λ (x : EngineOpts). HasRun x [] sd.kept) e r))
 
 some_never : (side : Option Side) (a : HostAnswer) → side ≡ None → IsSome side → Some a ≡ Some Linked
 some_never None a e k = absurd cc
@@ -295,6 +342,10 @@ no_side side a e k = some_never side a e k
 pub on_ok : {T E : Type 0} (r : Result T E) (X Y : Type 0) → (X → Y) → OnOk r X → OnOk r Y
 on_ok (Ok x) X Y f k = f k
 on_ok (Err e) X Y f k = tt
+
+pub on_errs : {T E : Type 0} (r : Result T E) (X Y : Type 0) → (X → Y) → OnErr r X → OnErr r Y
+on_errs (Ok x) X Y f k = tt
+on_errs (Err e) X Y f k = f k
 
 -- the counts of an answer, by another name of it
 pub counts_as : {L : Type 0} (x y : Dial L) (faults faults' stalls stalls' : ℕ) → x ≡ y → HostCounts (answer_of x) faults faults' stalls stalls' → HostCounts (answer_of y) faults faults' stalls stalls'

@@ -1,9 +1,8 @@
 -- The two parts of a turn at a link one after another, and the last acts at a link that is over (own choice).
-use Rattle.std.specs.Prelude.{◌≡◌, ◌⊎◌, ℕ, Bool, true, false, List, [], ◌++◌, Option, Some, Contains}
+use Rattle.std.specs.Prelude.{◌≡◌, ◌⊎◌, ℕ, Bool, true, false, ◌&&◌, List, [], ◌++◌, Option, Some, Contains}
 use Rattle.std.specs.List.{flat_map}
 use Rattle.zq_base.specs.Ends.{PipeId}
 use Rattle.zq_base.specs.declared.options.EngineOpts.{EngineOpts}
-use Rattle.zq_base.specs.declared.kind.Kind.TheVariants.{Push}
 use Rattle.zq_outer.specs.declared.link.LinkGot.{LinkGot}
 use Rattle.msg_pipe.specs.Known.{Known}
 use Rattle.spec_pattern.specs.PipeStep.{DelimiterLook, read_through}
@@ -14,24 +13,24 @@ use Rattle.spec_link.specs.History.{Basis, Standing}
 use Rattle.spec_link.specs.Turn.{IsEnded, IsEndedBy, IsWriteOnly, WritesAt, ReadsAt, subscribes}
 use Rattle.zq_session.specs.declared.wire.Fetched.TheVariants as fetched
 use Rattle.zq_session.specs.declared.life.Life.{Life}
+use Rattle.zq_session.specs.declared.life.ReadMode.{ReadMode}
 use Rattle.zq_session.specs.declared.parts.Done.{Done}
-use Rattle.zq_session.specs.Kept.{Kept, HasRun, Acts}
+use Rattle.zq_session.specs.Kept.{Kept, HasRun, Acts, IsKeptOf, KeepsActs}
 use Rattle.zq_session.specs.Calls.{Adds}
 use Rattle.zq_session.specs.Lives.{Story, basis_of, standing_of}
 use Rattle.zq_session.specs.Halves.{StepsRun, step_in}
-use Rattle.zq_session.specs.Doing.{EndsAs}
+use Rattle.zq_session.specs.Doing.{EndsAs, IsReading, ReadsOnce}
 
--- it keeps what it hears, and has no topics to say again
-pub record IsPlain (opts : EngineOpts) : Type 0 where
-  pub keeps : opts.kind ≡ Push → ⊥
-  pub silent : subscribes opts.kind ≡ false
+-- it has no topics to say again: it was accepted, or is of a kind that has none
+abbrev pub SaysNoTopics : (dials : Bool) → EngineOpts → Type 0
+SaysNoTopics dials opts = (dials && subscribes opts.kind) ≡ false
 
 -- one part behind the other, of one that stands so
 pub record AreParts (b : Basis) (s : Standing) (acts writes reads : List LinkAct) : Type 0 where
   pub write : WritesAt b s acts writes
   pub read : (IsEnded writes × (reads ≡ [])) ⊎ ((IsEnded writes → ⊥) × ReadsAt b s (acts ++ writes) reads)
 
--- a part that memory cut short: its read alone was made
+-- the second part, cut short by memory: its read alone was made, where it was due
 pub record AreCut (b : Basis) (s : Standing) (acts writes reads : List LinkAct) : Type 0 where
   pub write : WritesAt b s acts writes
   pub stands : IsEnded writes → ⊥
@@ -39,6 +38,9 @@ pub record AreCut (b : Basis) (s : Standing) (acts writes reads : List LinkAct) 
   pub octets : List ℕ
   pub fits : ReadFits answer octets
   pub read : reads ≡ read_acts answer octets
+  pub how : ReadMode
+  pub reading : IsReading b.opts.kind s.state s.told how
+  pub once : ReadsOnce how b.opts (acts ++ writes) answer
 
 module _ {S O I N : Type 0} (K : Known S O I N) where
   -- both parts, and what their answers tell of them
@@ -48,8 +50,9 @@ module _ {S O I N : Type 0} (K : Known S O I N) where
     pub said_is : Adds said (said_of (writes ++ reads)) said'
     pub heard_is : Adds heard (heard_of (writes ++ reads)) heard'
     pub steps : StepsRun K (flat_map step_in (writes ++ reads)) s i o s' i' o'
-    pub run : Acts old (writes ++ reads) new
-    pub parts : (p : Story) (acts : List LinkAct) → IsPlain p.opts → HasRun p.opts acts old → AreParts (basis_of l p) (standing_of l p) acts writes reads
+    pub run : (opts : EngineOpts) → opts.kind ≡ l.kind → KeepsActs opts old (writes ++ reads) new
+    pub parts : (p : Story) (acts : List LinkAct) → p.opts.kind ≡ l.kind → SaysNoTopics l.dials p.opts → IsKeptOf p.opts acts old →
+        AreParts (basis_of l p) (standing_of l p) acts writes reads
     pub met : done.written.look ≡ Some fetched.Delimiter → Contains writes (Step (DelimiterLook (read_through l.end)))
     pub unmet : (done.written.look ≡ Some fetched.Delimiter → ⊥) → Contains writes (Step (DelimiterLook (read_through l.end))) → ⊥
     pub ends : (cause : LinkEnd) → IsEndedBy (writes ++ reads) cause → EndsAs done.written.put done.got cause
@@ -64,8 +67,9 @@ module _ {S O I N : Type 0} (K : Known S O I N) where
     pub said_is : Adds said (said_of (writes ++ reads)) said'
     pub heard_is : Adds heard (heard_of (writes ++ reads)) heard'
     pub steps : StepsRun K (flat_map step_in (writes ++ reads)) s i o s' i' o'
-    pub run : Acts old (writes ++ reads) new
-    pub parts : (p : Story) (acts : List LinkAct) → IsPlain p.opts → HasRun p.opts acts old → AreCut (basis_of l p) (standing_of l p) acts writes reads
+    pub run : (opts : EngineOpts) → opts.kind ≡ l.kind → KeepsActs opts old (writes ++ reads) new
+    pub parts : (p : Story) (acts : List LinkAct) → p.opts.kind ≡ l.kind → SaysNoTopics l.dials p.opts → IsKeptOf p.opts acts old →
+        AreCut (basis_of l p) (standing_of l p) acts writes reads
 
   -- the last acts: puts of all that is whole, or one write of what is left, or none
   pub record LastBy (refused puts : Bool) (pipe : PipeId) (old new : Kept) (said said' : Option (List ℕ)) (s : S) (o : Option O) (s' : S) (o' : Option O) : Type 0 where

@@ -1,19 +1,21 @@
 -- What the steps of a turn do to what a session keeps, whatever happened before (own choice).
-use Rattle.std.specs.Prelude.{◌≡◌, ◌⊎◌, ℕ, Bool, true, false, List, [], ◌∷◌, ◌++◌, Option, Some, None, IsSome, IfSome}
+use Rattle.std.specs.Prelude.{◌≡◌, ◌⊎◌, ℕ, false, List, [], ◌∷◌, Option, Some, IfSome, Contains}
 use Rattle.std.specs.List.{flat_map}
 use Rattle.zq_base.specs.declared.options.Peer.{Peer}
 use Rattle.msg_pipe.specs.Known.{Known}
-use Rattle.zq_outer.specs.Host.{IsNew}
+use Rattle.spec_control.specs.declared.request.Req.TheVariants.{Shaken}
+use Rattle.spec_link.specs.declared.due.Due.{Due}
+use Rattle.spec_link.specs.declared.due.Due.TheVariants.{Request}
 use Rattle.spec_link.specs.LinkAct.{LinkAct, said_of, heard_of}
-use Rattle.spec_link.specs.History.{Basis, SessionEvent, Given, Dialled, Acted, Closed, EndIs, Told, Tried, GaveUp, IsDue, Standing, after_all}
-use Rattle.spec_link.specs.Turn.{IsEnded, IsLinkedTurn, IsUnlinkedTurn, ShakenIsDue}
+use Rattle.spec_link.specs.History.{SessionEvent, Given, Dialled, Acted, Closed, EndIs, Told, Tried, GaveUp, IsDue, Handed, after_all}
+use Rattle.spec_link.specs.Turn.{IsLinkedTurn, ShakenIsDue}
 use Rattle.zq_session.specs.declared.life.Life.{Life}
 use Rattle.zq_session.specs.declared.course.Course.{Course}
-use Rattle.zq_session.specs.Kept.{Kept, Side, HasRun, Acts}
+use Rattle.zq_session.specs.Kept.{Kept, IsKeptOf}
 use Rattle.zq_session.specs.Calls.{Adds}
 use Rattle.zq_session.specs.Lives.{Story, AreDue, IsOfLink, IsOfDials, basis_of, standing_of}
-use Rattle.zq_session.specs.LifeSteps.{IsSame, LifeStep}
-use Rattle.zq_session.specs.BothParts.{IsPlain}
+use Rattle.zq_session.specs.LifeSteps.{IsSame, with_dues}
+use Rattle.zq_session.specs.BothParts.{SaysNoTopics}
 use Rattle.zq_session.specs.Halves.{StepsRun, step_at}
 
 -- what a session keeps is of this story
@@ -21,11 +23,18 @@ pub record HasStory (c : Course) (p : Story) : Type 0 where
   pub due : AreDue c.life c.life.asked p.dues
   pub link : IsOfLink p.opts p.link c.side
   pub dial : IsOfDials c.life.dials p c.dialler
-  pub plain : IsPlain p.opts
+  pub kind_is : p.opts.kind ≡ c.life.kind
+  pub silent : SaysNoTopics c.life.dials p.opts
 
 -- where it has a link, all that was read is heard
 abbrev pub IsAtEase : Course → Type 0
 IsAtEase c = IfSome c.side (λ side. side.behind ≡ false)
+
+-- the peer whose handshake is to be told is as it was, or of one that became due just now
+abbrev pub PeerStep : (old new : Course) → List Due → Type 0
+PeerStep old new dues =
+    ((new.life.asked.shaken ≡ old.life.asked.shaken) × (new.peer ≡ old.peer))
+    ⊎ ((peer : Peer) × (new.peer ≡ Some peer) × Contains dues (Request (Shaken old.life.object peer)))
 
 -- these events happened, and what is kept is of the story with them
 pub record CourseStep (old new : Course) (p : Story) (events : List SessionEvent) : Type 0 where
@@ -34,12 +43,24 @@ pub record CourseStep (old new : Course) (p : Story) (events : List SessionEvent
   pub same : IsSame old.life new.life
   pub opts_is : story.opts ≡ p.opts
   pub interval_is : story.interval ≡ p.interval
+  pub handed_is : story.handed ≡ p.handed
+  pub grows : (x : Due) → Contains p.dues x → Contains story.dues x
+  pub peer_is : PeerStep old new story.dues
   pub keeps : HasStory new story
 
+-- the handshake was told, with the peer
+pub record ShakeStep (old new : Life) (peer peer' : Option Peer) (p : Story) (events : List SessionEvent) : Type 0 where
+  pub dues : List Due
+  pub after_is : after_all (basis_of old p) (standing_of old p) events ≡ standing_of new (with_dues p dues)
+  pub due : AreDue new new.asked dues
+  pub same : IsSame old new
+  pub grows : (x : Due) → Contains p.dues x → Contains dues x
+  pub peer_is : ((new.asked.shaken ≡ old.asked.shaken) × (peer' ≡ peer)) ⊎ ((q : Peer) × (peer' ≡ Some q) × Contains dues (Request (Shaken old.object q)))
+
 -- whatever the story, the handshake was said to be done where that is due
-abbrev pub ShakesBy : Life → Life → Kept → Type 0
-ShakesBy old new k = (p : Story) (acts : List LinkAct) → AreDue old old.asked p.dues → HasRun p.opts acts k →
-    (events : List SessionEvent) × LifeStep old new p events × ShakenIsDue (basis_of old p) (standing_of old p) acts events
+abbrev pub ShakesBy : Life → Life → (peer peer' : Option Peer) → Kept → Type 0
+ShakesBy old new peer peer' k = (p : Story) (acts : List LinkAct) → AreDue old old.asked p.dues → IsKeptOf p.opts acts k →
+    (events : List SessionEvent) × ShakeStep old new peer peer' p events × ShakenIsDue (basis_of old p) (standing_of old p) acts events
 
 -- the act that an event is, where it is one
 abbrev pub act_at : SessionEvent → List LinkAct
@@ -52,6 +73,7 @@ act_at (Told now) = []
 act_at (Tried left) = []
 act_at GaveUp = []
 act_at (IsDue due) = []
+act_at (Handed due) = []
 
 module _ {S O I N : Type 0} (K : Known S O I N) where
   -- a turn with a link, whatever the story

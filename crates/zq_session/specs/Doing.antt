@@ -1,9 +1,11 @@
 -- The two parts of a turn at a link, by how the session's end stands (own choice).
-use Rattle.std.specs.Prelude.{◌≡◌, ◌⊎◌, ℕ, Bool, true, false, List, [], ◌++◌, Option, Some, None, IsSome, option_map}
+use Rattle.std.specs.Prelude.{◌≡◌, ◌⊎◌, ℕ, Bool, true, false, List, [], ◌++◌, Option, Some, None, IsSome, MatchOption, option_map}
 use Rattle.std.specs.List.{flat_map}
 use Rattle.zq_base.specs.Message.{Frames}
 use Rattle.zq_base.specs.Ends.{PipeId}
 use Rattle.zq_base.specs.declared.options.EngineOpts.{EngineOpts}
+use Rattle.zq_base.specs.declared.kind.Kind.{Kind}
+use Rattle.zq_base.specs.declared.kind.Kind.TheVariants.{Push}
 use Rattle.zq_outer.specs.declared.link.LinkGot.{LinkGot}
 use Rattle.zq_outer.specs.declared.link.LinkPut.{LinkPut}
 use Rattle.msg_pipe.specs.Known.{Known}
@@ -13,14 +15,14 @@ use Rattle.spec_link.specs.declared.row.LinkEnd.{LinkEnd}
 use Rattle.spec_link.specs.declared.row.LinkEnd.TheVariants.{Refused}
 use Rattle.spec_zmtp.specs.declared.cause.Cause.{Cause}
 use Rattle.spec_link.specs.LinkAct.{LinkAct}
-use Rattle.spec_link.specs.Parts.{IsTake, NothingHeld, IsWritePart, IsReadPart, IsSilentReadPart, WriteFits, ReadFits, write_acts, read_acts}
+use Rattle.spec_link.specs.Parts.{IsTake, NothingHeld, SomethingHeld, IsWritePart, IsReadPart, IsSilentReadPart, WriteFits, ReadFits, write_acts, read_acts}
 use Rattle.spec_link.specs.History.{Basis}
 use Rattle.spec_link.specs.Turn.{IsWriteOnly, write_end, read_end}
 use Rattle.zq_session.specs.declared.life.ReadMode.{ReadMode}
 use Rattle.zq_session.specs.declared.life.ReadMode.TheVariants as mode
 use Rattle.zq_session.specs.declared.write_part.Written.{Written}
 use Rattle.zq_session.specs.LifeView.{IsWritable}
-use Rattle.zq_session.specs.Kept.{Kept, HasRun, Acts}
+use Rattle.zq_session.specs.Kept.{Kept, HasRun, Acts, IsKeptOf, KeepsActs}
 use Rattle.zq_session.specs.Calls.{Adds, put_acts}
 use Rattle.zq_session.specs.Works.{take_acts, fetched_of}
 use Rattle.zq_session.specs.Silent.{IsRefusedNow, IsUnrefused}
@@ -31,12 +33,28 @@ abbrev pub ReadsAs : ReadMode → EngineOpts → PipeId → (acts more : List Li
 ReadsAs mode.Nothing opts pipe acts more = more ≡ []
 ReadsAs mode.Puts opts pipe acts more = IsReadPart opts pipe acts more
 ReadsAs mode.Holds opts pipe acts more = IsSilentReadPart (NothingHeld opts acts) more
+ReadsAs mode.Drops opts pipe acts more = IsSilentReadPart (Unit {0}) more
 
--- how a session reads: it was told before its pair was made, or its end can be written, or it can't
-abbrev pub IsReading : Option EndState → Option ℕ → ReadMode → Type 0
-IsReading state told mode.Nothing = IsSome told × (state ≡ None)
-IsReading state told mode.Puts = IsWritable state
-IsReading state told mode.Holds = ((IsSome told × (state ≡ None)) → ⊥) × (IsWritable state → ⊥)
+-- a session of this kind may read so: a PUSH drops what it hears, and no other does
+abbrev pub IsFor : ReadMode → EngineOpts → Type 0
+IsFor mode.Nothing opts = Unit {0}
+IsFor mode.Puts opts = opts.kind ≡ Push → ⊥
+IsFor mode.Holds opts = opts.kind ≡ Push → ⊥
+IsFor mode.Drops opts = opts.kind ≡ Push
+
+-- one read exactly where it is due, of a session that reads so
+abbrev pub ReadsOnce : ReadMode → EngineOpts → (acts : List LinkAct) → Option LinkGot → Type 0
+ReadsOnce mode.Nothing opts acts answer = answer ≡ None
+ReadsOnce mode.Puts opts acts answer = MatchOption answer (SomethingHeld opts acts) (λ _. NothingHeld opts acts)
+ReadsOnce mode.Holds opts acts answer = MatchOption answer (SomethingHeld opts acts) (λ _. NothingHeld opts acts)
+ReadsOnce mode.Drops opts acts answer = IsSome answer
+
+-- how a session reads: it was told before its pair was made, or it drops what it hears, or its end can be written, or it can't
+abbrev pub IsReading : Kind → Option EndState → Option ℕ → ReadMode → Type 0
+IsReading kind state told mode.Nothing = IsSome told × (state ≡ None)
+IsReading kind state told mode.Puts = (kind ≡ Push → ⊥) × IsWritable state
+IsReading kind state told mode.Holds = ((IsSome told × (state ≡ None)) → ⊥) × ((kind ≡ Push → ⊥) × (IsWritable state → ⊥))
+IsReading kind state told mode.Drops = ((IsSome told × (state ≡ None)) → ⊥) × (kind ≡ Push)
 
 module _ {S O I N : Type 0} (K : Known S O I N) where
   -- the writing part: with a take where the end can be read, and else a write alone
@@ -61,9 +79,19 @@ module _ {S O I N : Type 0} (K : Known S O I N) where
     pub fits : ReadFits answer octets
     pub told : Adds heard octets heard'
     pub steps : (pipe : PipeId) (i : Option I) → StepsRun K (flat_map step_in (put_acts pipe messages full)) s i o s' i o'
-    pub run : (pipe : PipeId) → Acts old (read_acts answer octets ++ put_acts pipe messages full) new
-    pub part : (pipe : PipeId) (opts : EngineOpts) (acts : List LinkAct) → HasRun opts acts old →
+    pub run : (pipe : PipeId) (opts : EngineOpts) → IsFor how opts → KeepsActs opts old (read_acts answer octets ++ put_acts pipe messages full) new
+    pub part : (pipe : PipeId) (opts : EngineOpts) (acts : List LinkAct) → IsFor how opts → IsKeptOf opts acts old →
         ReadsAs how opts pipe acts (read_acts answer octets ++ put_acts pipe messages full)
+
+-- a reading part that memory cut short: its read alone was made, where it was due
+pub record WantsAtBy (how : ReadMode) (old new : Kept) (heard heard' : Option (List ℕ)) (shown : Option LinkGot → Type 0) : Type 0 where
+  pub answer : Option LinkGot
+  pub octets : List ℕ
+  pub fits : ReadFits answer octets
+  pub told : Adds heard octets heard'
+  pub run : (opts : EngineOpts) → IsFor how opts → KeepsActs opts old (read_acts answer octets) new
+  pub part : (opts : EngineOpts) (acts : List LinkAct) → IsFor how opts → IsKeptOf opts acts old → ReadsOnce how opts acts answer
+  pub counts : shown answer
 
 -- an answer of the turn ended the link
 abbrev pub EndsAs : Option LinkPut → Option LinkGot → LinkEnd → Type 0

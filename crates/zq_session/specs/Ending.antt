@@ -1,5 +1,5 @@
 -- What a session does as it lets a link go (own choice).
-use Rattle.std.specs.Prelude.{◌≡◌, ℕ, Bool, false, List, ◌++◌, Some, IsSome}
+use Rattle.std.specs.Prelude.{◌≡◌, ℕ, Bool, false, List, ◌++◌, Some, IsSome, Contains}
 use Rattle.spec_control.specs.declared.end.EndState.TheVariants.{Gone}
 use Rattle.spec_control.specs.declared.end.Reason.TheVariants.{Link}
 use Rattle.spec_control.specs.declared.request.Req.TheVariants.{AskEnd, AskOver}
@@ -22,6 +22,8 @@ pub record AsksBy (old new : Life) (p : Story) : Type 0 where
   pub after_is : after_all (basis_of old p) (standing_of old p) (asks ++ over) ≡ standing_of new (with_dues p dues)
   pub due : AreDue new new.asked dues
   pub same : IsSame old new
+  pub grows : (x : Due) → Contains p.dues x → Contains dues x
+  pub shaken_is : new.asked.shaken ≡ old.asked.shaken
 
 abbrev pub Asks : Life → Life → Type 0
 Asks old new = (p : Story) → AreDue old old.asked p.dues → AsksBy old new p

@@ -1,5 +1,5 @@
 -- The two halves of a session's end, and the steps that it does at them (own choice).
-use Rattle.std.specs.Prelude.{◌≡◌, Bool, false, List, [], ◌∷◌, Option, Some, None}
+use Rattle.std.specs.Prelude.{◌≡◌, false, List, [], ◌∷◌, Option, Some}
 use Rattle.zq_base.specs.Message.{Frames}
 use Rattle.spec_control.specs.declared.end.EndState.{EndState}
 use Rattle.spec_pattern.specs.PipeStep.{PipeStep, Commit, FullLook, Take, EmptyLook, DelimiterLook, WaitingLook, Seal}
@@ -7,14 +7,12 @@ use Rattle.msg_pipe.specs.Known.{Known, IsThere, KeepsButIn, SeesCommits}
 use Rattle.msg_pipe.specs.Told.{FrontFinds}
 use Rattle.msg_pipe.specs.declared.pipes.Front.{Front}
 use Rattle.msg_pipe.specs.declared.pipes.Front.TheVariants as front
-use Rattle.msg_pipe.specs.declared.pipes.PutIn.{PutIn}
 use Rattle.msg_pipe.specs.declared.pipes.PutIn.TheVariants as put_in
-use Rattle.msg_pipe.specs.declared.pipes.Taken.{Taken}
 use Rattle.msg_pipe.specs.declared.pipes.Taken.TheVariants as taken
 use Rattle.spec_link.specs.LinkAct.{LinkAct, Wire, Step}
-use Rattle.spec_link.specs.History.{SessionEvent, Given, Dialled, Acted, Closed, EndIs, Told, Tried, GaveUp, IsDue}
+use Rattle.spec_link.specs.History.{SessionEvent, Given, Dialled, Acted, Closed, EndIs, Told, Tried, GaveUp, IsDue, Handed}
 use Rattle.zq_session.specs.LifeView.{IsReadable, IsWritable}
-use Rattle.zq_session.specs.Calls.{TakeRun, PutRun, PutsRun}
+use Rattle.zq_session.specs.Calls.{TakeRun, PutRun}
 
 -- the step at a pipe that an act is, where it is one
 abbrev pub step_in : LinkAct → List PipeStep
@@ -32,6 +30,7 @@ step_at (Told now) = []
 step_at (Tried left) = []
 step_at GaveUp = []
 step_at (IsDue due) = []
+step_at (Handed due) = []
 
 module _ {S O I N : Type 0} (K : Known S O I N) where
   -- the reading half is there, and is of a pipe that is there

@@ -1,11 +1,14 @@
 -- What a session keeps of one link, and the acts at the link that it is kept of (own choice).
-use Rattle.std.specs.Prelude.{◌≡◌, ℕ, Bool, List, [], ◌++◌, Option, None}
+use Rattle.std.specs.Prelude.{◌≡◌, ℕ, Bool, List, [], ◌∷◌, ◌++◌, Option, None}
+use Rattle.std.specs.List.{flat_map}
 use Rattle.std.specs.Option.{option_to_list}
 use Rattle.zq_base.specs.Message.{Frames}
 use Rattle.zq_base.specs.declared.options.EngineOpts.{EngineOpts}
+use Rattle.zq_base.specs.declared.kind.Kind.TheVariants.{Push}
+use Rattle.spec_pattern.specs.PipeStep.{PipeStep, Commit, FullLook, Take, EmptyLook, DelimiterLook, WaitingLook, Seal}
 use Rattle.spec_zmtp.specs.Put.{Put, messages_in}
 use Rattle.zmtp_engine.specs.Conversation.{Conversation, Past, Follows, IsCurrent, waiting}
-use Rattle.spec_link.specs.LinkAct.{LinkAct, said_of, heard_of, offered_of, put_of}
+use Rattle.spec_link.specs.LinkAct.{LinkAct, Wire, Step, said_of, heard_of, offered_of, put_of}
 
 -- the engine's conversation, the octets that were read and aren't fed, and a whole message that waits for the pipe, before those that the engine has
 pub record Kept : Type 0 where
@@ -44,6 +47,34 @@ pub record IsAtRest (k : Kept) : Type 0 where
 -- these acts more were done, whatever acts were done before
 abbrev pub Acts : Kept → List LinkAct → Kept → Type 0
 Acts old more new = (opts : EngineOpts) (acts : List LinkAct) → HasRun opts acts old → HasRun opts (acts ++ more) new
+
+-- an act, where it is no put
+abbrev pub unput_at : PipeStep → List LinkAct
+unput_at (Commit pipe m) = []
+unput_at (FullLook pipe) = Step (FullLook pipe) ∷ []
+unput_at (Take pipe m) = Step (Take pipe m) ∷ []
+unput_at (EmptyLook pipe) = Step (EmptyLook pipe) ∷ []
+unput_at (DelimiterLook pipe) = Step (DelimiterLook pipe) ∷ []
+unput_at (WaitingLook pipe) = Step (WaitingLook pipe) ∷ []
+unput_at (Seal pipe) = Step (Seal pipe) ∷ []
+
+abbrev pub unput_by : LinkAct → List LinkAct
+unput_by (Wire act) = Wire act ∷ []
+unput_by (Step step) = unput_at step
+
+abbrev pub without_puts : List LinkAct → List LinkAct
+without_puts acts = flat_map unput_by acts
+
+-- What is kept is of these acts at a link. To what is kept a message that a PUSH dropped is one that was put, though no pipe has it.
+pub record IsKeptOf (opts : EngineOpts) (acts : List LinkAct) (k : Kept) : Type 0 where
+  pub all : List LinkAct
+  pub run : HasRun opts all k
+  pub puts : (opts.kind ≡ Push → ⊥) → all ≡ acts
+  pub drops : opts.kind ≡ Push → without_puts all ≡ acts
+
+-- these acts more were done at the link, whatever acts were done before
+abbrev pub KeepsActs : EngineOpts → Kept → List LinkAct → Kept → Type 0
+KeepsActs opts old more new = (acts : List LinkAct) → IsKeptOf opts acts old → IsKeptOf opts (acts ++ more) new
 
 -- the whole messages that wait for the pipe
 abbrev pub whole : Kept → List Frames

@@ -1,12 +1,11 @@
 -- What a session keeps of a link is of a run of the link (RFC 23, "Traffic").
-use Rattle.std.specs.Prelude.{◌≡◌, List, []}
+use Rattle.std.specs.Prelude.{List}
 use Rattle.zq_base.specs.declared.options.EngineOpts.{EngineOpts}
-use Rattle.zq_base.specs.declared.kind.Kind.TheVariants.{Push}
 use Rattle.spec_zmtp.specs.DecodedStream.{Decoded}
-use Rattle.spec_link.specs.LinkAct.{LinkAct, put_of}
+use Rattle.spec_link.specs.LinkAct.{LinkAct}
 use Rattle.spec_link.specs.LinkRun.{IsLinkRun}
-use Rattle.zq_session.specs.Kept.{Kept, HasRun, IsAtRest}
+use Rattle.zq_session.specs.Kept.{Kept, IsKeptOf, IsAtRest}
 
 abbrev pub KeepsALinkRun : Type 0
-KeepsALinkRun = (opts : EngineOpts) (acts : List LinkAct) (k : Kept) → HasRun opts acts k → IsAtRest k →
-    (opts.kind ≡ Push → put_of acts ≡ []) → (d : Decoded) × IsLinkRun opts acts d
+KeepsALinkRun = (opts : EngineOpts) (acts : List LinkAct) (k : Kept) → IsKeptOf opts acts k → IsAtRest k →
+    (d : Decoded) × IsLinkRun opts acts d

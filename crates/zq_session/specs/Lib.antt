@@ -23,5 +23,7 @@ pub mod Courses
 pub mod Ending
 pub mod Unlinked
 pub mod Turns
+pub mod Cuts
 pub mod Sessions
+pub mod Handings
 pub mod Laws

@@ -26,6 +26,8 @@ pub record LifeStep (old new : Life) (p : Story) (events : List SessionEvent) : 
   pub after_is : after_all (basis_of old p) (standing_of old p) events ≡ standing_of new (with_dues p dues)
   pub due : AreDue new new.asked dues
   pub same : IsSame old new
+  pub grows : (x : Due) → Contains p.dues x → Contains dues x
+  pub shaken_is : new.asked.shaken ≡ old.asked.shaken
 
 -- whatever the story, events of this kind happened
 abbrev pub LifeDoes : Life → Life → (Basis → Standing → List SessionEvent → Type 0) → Type 0

@@ -1,8 +1,5 @@
 -- What a session keeps of all that happened to it (own choice).
-use Rattle.std.specs.Prelude.{◌≡◌, ℕ, Bool, true, false, List, [], ◌∷◌, ◌++◌, Option, Some, None, IsSome, Contains}
-use Rattle.zq_base.specs.declared.kind.Kind.{Kind}
-use Rattle.zq_base.specs.declared.ids.EndId.{EndId}
-use Rattle.zq_base.specs.declared.ids.ObjId.{ObjId}
+use Rattle.std.specs.Prelude.{◌≡◌, ℕ, Bool, true, false, List, Option, Some, None, Contains}
 use Rattle.zq_base.specs.declared.options.EngineOpts.{EngineOpts}
 use Rattle.zq_base.specs.declared.options.Peer.{Peer}
 use Rattle.spec_control.specs.declared.end.Reason.TheVariants.{Linger, Link}
@@ -11,13 +8,13 @@ use Rattle.spec_link.specs.declared.due.Due.{Due}
 use Rattle.spec_link.specs.declared.due.Due.TheVariants.{Request, Delimiter}
 use Rattle.spec_link.specs.LinkAct.{LinkAct}
 use Rattle.spec_link.specs.Rows.{ClosedLink}
-use Rattle.spec_link.specs.History.{Basis, SessionEvent, Standing, after_all}
+use Rattle.spec_link.specs.History.{Basis, Standing}
 use Rattle.zq_session.specs.declared.life.Asked.{Asked}
 use Rattle.zq_session.specs.declared.life.Life.{Life}
-use Rattle.zq_session.specs.Kept.{Side, HasRun}
+use Rattle.zq_session.specs.Kept.{Side, IsKeptOf}
 use Rattle.zq_session.specs.Dials.{DiallerState}
 
--- what happened and isn't kept as it was: the options and the interval, the acts at the link and at those that are over, the moment from which a dial is due, and all that became due
+-- what happened and isn't kept as it was: the options and the interval, the acts at the link and at those that are over, the moment from which a dial is due, all that became due, and all of it that was handed to the plane
 pub record Story : Type 0 where
   pub opts : EngineOpts
   pub interval : ℕ
@@ -25,12 +22,13 @@ pub record Story : Type 0 where
   pub closed : List ClosedLink
   pub dial_at : ℕ
   pub dues : List Due
+  pub handed : List Due
 
 abbrev pub basis_of : Life → Story → Basis
 basis_of l p = record { object = l.object; end = l.end; opts = p.opts; dials = l.dials; interval = p.interval; linger = l.linger }
 
 abbrev pub standing_of : Life → Story → Standing
-standing_of l p = record { link = p.link; closed = p.closed; dial_at = p.dial_at; told = l.told; state = l.state; waits = l.waits; gave_up = l.gave_up; dues = p.dues }
+standing_of l p = record { link = p.link; closed = p.closed; dial_at = p.dial_at; told = l.told; state = l.state; waits = l.waits; gave_up = l.gave_up; dues = p.dues; handed = p.handed }
 
 -- a flag tells whether this is so
 abbrev pub Tells : Bool → Type 0 → Type 0
@@ -51,7 +49,7 @@ abbrev pub IsOfLink : EngineOpts → Option (List LinkAct) → Option Side → T
 IsOfLink opts None None = Unit {0}
 IsOfLink opts None (Some side) = ⊥
 IsOfLink opts (Some acts) None = ⊥
-IsOfLink opts (Some acts) (Some side) = HasRun opts acts side.kept
+IsOfLink opts (Some acts) (Some side) = IsKeptOf opts acts side.kept
 
 -- what dials is kept exactly of a connecting session
 abbrev pub IsOfDials : Bool → Story → Option DiallerState → Type 0

@@ -1,26 +1,36 @@
 -- A session, by all that happened to it (own choice).
-use Rattle.std.specs.Prelude.{◌≡◌, ℕ, Bool, true, false, List, [], ◌∷◌, ◌++◌, Option, Some, None, is_some}
+use Rattle.std.specs.Prelude.{◌≡◌, ℕ, Bool, true, false, List, [], ◌∷◌, ◌++◌, Option, Some, is_some, Contains}
 use Rattle.std.specs.List.{flat_map}
-use Rattle.msg_pipe.specs.Known.{Known}
-use Rattle.spec_control.specs.declared.end.EndState.{EndState}
+use Rattle.msg_pipe.specs.Known.{Known, IsThere}
+use Rattle.zq_base.specs.declared.options.Peer.{Peer}
+use Rattle.spec_control.specs.declared.request.Req.TheVariants.{Shaken}
+use Rattle.spec_link.specs.declared.due.Due.TheVariants.{Request}
 use Rattle.spec_link.specs.History.{Basis, SessionEvent, standing}
 use Rattle.spec_link.specs.Turn.{IsTurn}
 use Rattle.zq_session.specs.declared.course.Course.{Course}
-use Rattle.zq_session.specs.Lives.{Story, basis_of, standing_of}
+use Rattle.zq_session.specs.declared.life.Asked.{Asked}
+use Rattle.zq_session.specs.Lives.{Story, AreDue, basis_of, standing_of}
 use Rattle.zq_session.specs.Halves.{AreThere, StepsRun, step_at}
 use Rattle.zq_session.specs.Courses.{HasStory, act_at}
 use Rattle.zq_session.specs.Turns.{IsToldBy}
+use Rattle.zq_session.specs.Cuts.{IsCutTurn}
 
--- what a session keeps of what happened, and the halves of its end
+-- what a session keeps of what happened, what of it was handed to the plane, and the halves of its end
 pub record SessionState (O I : Type 0) : Type 0 where
   pub course : Course
+  pub given : Asked
   pub input : Option I
   pub out : Option O
+
+-- each flag tells whether that was handed to the plane; the peer of a handshake that wasn't is kept
+pub record IsHanded (c : Course) (given : Asked) (p : Story) : Type 0 where
+  pub given_is : AreDue c.life given p.handed
+  pub peer : c.life.asked.shaken ≡ true → given.shaken ≡ false → (q : Peer) × (c.peer ≡ Some q) × Contains p.dues (Request (Shaken c.life.object q))
 
 -- what a session keeps is of this history, by this basis
 abbrev pub HasLived : {O I : Type 0} → Basis → List SessionEvent → SessionState O I → Type 0
 HasLived b history v =
-    (p : Story) × (basis_of v.course.life p ≡ b) × (standing b history ≡ standing_of v.course.life p) × HasStory v.course p
+    (p : Story) × (basis_of v.course.life p ≡ b) × (standing b history ≡ standing_of v.course.life p) × HasStory v.course p × IsHanded v.course v.given p
 
 -- it has a link
 abbrev pub has_link : {O I : Type 0} → SessionState O I → Bool
@@ -36,10 +46,20 @@ module _ {S O I N : Type 0} (K : Known S O I N) where
   AreAt s v = AreThere K v.course.life.state s v.input v.out
 
 module _ {S O I N L : Type 0} (K : Known S O I N) where
-  -- a turn by a reading of the clock, behind this history: the halves and the link did what stands among its events
+  -- a turn by a reading of the clock, behind this history: the halves and the link did what stands among its events, and all pipes are there still
   pub record TurnsOn (heard said : L → Option (List ℕ)) (b : Basis) (history : List SessionEvent) (now : ℕ) (old new : SessionState O I) (link link' : Option L) (s s' : S) : Type 0 where
     pub events : List SessionEvent
     pub turn : IsTurn b (standing b history) now events
     pub lived : HasLived b (history ++ events) new
     pub steps : StepsRun K (flat_map step_at events) s old.input old.out s' new.input new.out
     pub told : IsToldBy heard said link (flat_map act_at events) link'
+    pub there : (n : N) → IsThere K s n → IsThere K s' n
+
+  -- the same of one that memory cut short
+  pub record CutsOn (heard said : L → Option (List ℕ)) (b : Basis) (history : List SessionEvent) (now : ℕ) (old new : SessionState O I) (link link' : Option L) (s s' : S) : Type 0 where
+    pub events : List SessionEvent
+    pub cut : IsCutTurn b (standing b history) now events
+    pub lived : HasLived b (history ++ events) new
+    pub steps : StepsRun K (flat_map step_at events) s old.input old.out s' new.input new.out
+    pub told : IsToldBy heard said link (flat_map act_at events) link'
+    pub there : (n : N) → IsThere K s n → IsThere K s' n

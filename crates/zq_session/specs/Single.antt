@@ -6,7 +6,7 @@ use Rattle.zq_base.specs.declared.options.EngineOpts.{EngineOpts}
 use Rattle.zq_outer.specs.declared.link.LinkPut.{LinkPut}
 use Rattle.msg_pipe.specs.Known.{Known}
 use Rattle.spec_link.specs.LinkAct.{LinkAct}
-use Rattle.spec_link.specs.Parts.{NothingHeld, SomethingHeld, PutsAll, WriteFits, write_acts}
+use Rattle.spec_link.specs.Parts.{NothingHeld, SomethingHeld, PutsAll, WriteFits, write_acts, puts}
 use Rattle.spec_link.specs.History.{Basis}
 use Rattle.spec_link.specs.Turn.{IsWriteOnly}
 use Rattle.zq_session.specs.Kept.{Kept, HasRun, Acts}
@@ -19,6 +19,12 @@ pub record WritesAlone (old : Kept) (answer : Option LinkPut) (new : Kept) (said
   pub told : Adds said octets said'
   pub run : Acts old (write_acts answer octets) new
   pub part : (b : Basis) (acts : List LinkAct) → HasRun b.opts acts old → IsWriteOnly b acts (write_acts answer octets)
+
+-- all that is whole is dropped, which to what is kept is as if it was put
+pub record DropsBy (old new : Kept) : Type 0 where
+  pub messages : List Frames
+  pub run : (pipe : PipeId) → Acts old (puts pipe messages) new
+  pub none : (opts : EngineOpts) (acts : List LinkAct) → HasRun opts acts new → NothingHeld opts acts × (SomethingHeld opts acts → ⊥)
 
 module _ {S O I N : Type 0} (K : Known S O I N) where
   -- puts of all that is whole, until the pipe is full

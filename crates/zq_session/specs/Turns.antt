@@ -1,5 +1,5 @@
 -- A whole turn of a session, whatever happened before (own choice).
-use Rattle.std.specs.Prelude.{◌≡◌, ◌⊎◌, ℕ, Bool, true, false, List, ◌++◌, Option, Some, None}
+use Rattle.std.specs.Prelude.{◌≡◌, ◌⊎◌, ℕ, true, false, List, ◌++◌, Option, Some, None}
 use Rattle.std.specs.List.{flat_map}
 use Rattle.msg_pipe.specs.Known.{Known}
 use Rattle.zq_outer.specs.Host.{IsNew}

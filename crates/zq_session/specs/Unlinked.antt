@@ -1,15 +1,13 @@
 -- A turn without a link: the look and the dial (own choice).
-use Rattle.std.specs.Prelude.{◌≡◌, ℕ, ◌≤◌, ◌⊎◌, Bool, true, false, List, [], ◌∷◌, ◌++◌, Option, Some, None, IsSome}
+use Rattle.std.specs.Prelude.{◌≡◌, ℕ, ◌≤◌, ◌⊎◌, Bool, true, false, List, [], ◌∷◌, Option, Some, None, IsSome}
 use Rattle.std.specs.List.{flat_map}
 use Rattle.zq_base.specs.Ends.{PipeId}
-use Rattle.zq_outer.specs.Count.{RoseIf}
 use Rattle.msg_pipe.specs.Known.{Known}
 use Rattle.msg_pipe.specs.Told.{front_step}
 use Rattle.msg_pipe.specs.declared.pipes.Front.{Front}
-use Rattle.spec_link.specs.LinkAct.{HostAnswer, Linked, Failed, NotReady}
+use Rattle.spec_link.specs.LinkAct.{HostAnswer, Linked}
 use Rattle.spec_link.specs.History.{Basis, SessionEvent, Dialled, Standing}
 use Rattle.spec_link.specs.Turn.{Exactly, CanRead, IsTold, IsUnlinkedTurn}
-use Rattle.zq_session.specs.declared.life.Life.{Life}
 use Rattle.zq_session.specs.declared.course.Course.{Course}
 use Rattle.zq_session.specs.Dials.{HostCounts}
 use Rattle.zq_session.specs.Lives.{Story, basis_of, standing_of}

@@ -1,9 +1,11 @@
 ghost use Rattle.std.specs.Prelude.{◌≡◌, Bool, None, Some, Option, IsSome, is_some, true, false, OnOk, OnErr, IfOk, IfSome};
+ghost use Rattle.zq_base.specs.declared.kind.Kind.TheVariants.{Push};
 ghost use Rattle.zq_outer.specs.Host.{IsNew};
 ghost use Rattle.zq_session.specs.Courses.{HasStory, IsAtEase, ShakesBy, LinkedBy};
 ghost use Rattle.spec_link.specs.Parts.{IsWriteOver};
 ghost use Rattle.zq_session.specs.LifeView.{IsWritable, IsReadable};
 ghost use Rattle.zq_session.specs.Unlinked.{DialsBy, UnlinkedBy};
+ghost use Rattle.zq_session.specs.Cuts.{CutAtLinkBy, CutUnlinkedBy};
 ghost use Rattle.spec_link.specs.History.{later};
 ghost use Rattle.zq_session.specs.Lives.{Story, IsOfDials};
 ghost use Rattle.zq_session.specs.Ending.{Asks, DialsLater};
@@ -45,15 +47,18 @@ pub(crate) fn is_refused(cause: LinkEnd) -> bool
     }
 }
 
-/// Whether what is held is put as a link ends: its write ended it, and the end can be written.
+/// Whether what is held is put as a link ends: its write ended it, and the session puts what it
+/// hears.
 pub(crate) fn puts_last(life: &Life, put: Option<LinkPut>) -> bool
-    ensures yes { result ≡ true → IsWriteOver put × IsWritable life.now.state }
-    ensures no { result ≡ false → IsWriteOver put → IsWritable life.now.state → ⊥ }
+    ensures yes { result ≡ true → IsWriteOver put
+        × ((life.now.kind ≡ Push → ⊥) × IsWritable life.now.state) }
+    ensures no { result ≡ false → IsWriteOver put → (life.now.kind ≡ Push → ⊥) →
+        IsWritable life.now.state → ⊥ }
 {
     if !is_over(put) {
         return false;
     }
-    life.can_write()
+    life.puts()
 }
 
 /// Says once that the handshake of an accepted session is done.
@@ -64,7 +69,7 @@ pub(crate) fn shaken_due(
     side: &LinkSide,
 ) -> Result<(), AllocError>
     requires rest { side.now.behind ≡ false }
-    ensures ok { OnOk result (ShakesBy life.old life.new side.now.kept) }
+    ensures ok { OnOk result (ShakesBy life.old life.new peer.old peer.new side.now.kept) }
     ensures state { life.new.state ≡ life.old.state }
     ensures err { OnErr result ((life.new ≡ life.old) × (peer.new ≡ peer.old)) }
 {
@@ -101,6 +106,8 @@ impl Course {
         ensures asks { Asks self.old.life self.new.life }
         ensures dials { DialsLater now self.old self.new }
         ensures gone { self.new.side ≡ None }
+        ensures peer { self.new.peer ≡ self.old.peer }
+        ensures state { self.new.life.state ≡ self.old.life.state }
     {
         self.life.ask_link();
         self.life.ask_over();
@@ -126,10 +133,16 @@ impl Course {
             LinkedBy P.known now self.old self.new
             (L.said link.old) (L.said link.new) (L.heard link.old) (L.heard link.new)
             pipes.old input.old out.old pipes.new input.new out.new p) }
+        ensures there { AreThere P.known self.old.life.state pipes.new input.new out.new }
+        ensures state { self.new.life.state ≡ self.old.life.state }
         ensures over { IfOk result (λ over. over ≡ true → self.new.side ≡ None) }
         ensures stands { IfOk result (λ over. over ≡ false → IsSome self.new.side) }
         ensures rest { OnOk result (IsAtEase self.new) }
         ensures err { OnErr result (IsSome self.new.side) }
+        ensures cut { OnErr result ((p : Story) → HasStory self.old p →
+            CutAtLinkBy P.known self.old self.new
+            (L.said link.old) (L.said link.new) (L.heard link.old) (L.heard link.new)
+            pipes.old input.old out.old pipes.new input.new out.new p) }
     {
         match &mut self.side {
             None => unreachable!(),
@@ -165,6 +178,7 @@ impl Course {
         ensures linked { IfOk result (λ o. is_some self.new.side ≡ is_some o) }
         ensures ease { OnOk result (IsAtEase self.new) }
         ensures err { OnErr result ((self.new ≡ self.old) × (host.new ≡ host.old)) }
+        ensures life { self.new.life ≡ self.old.life }
     {
         if !self.life.may_dial(met) {
             return Ok(None);
@@ -202,6 +216,11 @@ impl Course {
         ensures linked { IfOk result (λ o. is_some self.new.side ≡ is_some o) }
         ensures ease { OnOk result (IsAtEase self.new) }
         ensures err { OnErr result (self.new.side ≡ None) }
+        ensures cut { OnErr result ((p : Story) (o : Option P.Out) → HasStory self.old p →
+            CutUnlinkedBy P.known self.old self.new pipes.old input.old o pipes.new input.new p) }
+        ensures there { (o : Option P.Out) → AreThere P.known self.old.life.state
+            pipes.old input.old o → AreThere P.known self.old.life.state pipes.new input.new o }
+        ensures state { self.new.life.state ≡ self.old.life.state }
     {
         let found = look_at(self.life.can_read(), pipes, input);
         let met = found_delimiter(found);
@@ -217,13 +236,15 @@ impl Course {
     ghost use Rattle.zq_session.specs.Courses.{HasStory, IsAtEase, CourseStep};
     ghost use Rattle.zq_session.specs.Halves.{AreThere};
     ghost use Rattle.zq_session.specs.Turns.{IsOutputGone, OutputBy, BeginsBy, TurnsBy};
+    ghost use Rattle.zq_session.specs.Cuts.{CutsBy};
     ghost use Rattle.spec_link.specs.History.{SessionEvent};
+    ghost use Rattle.spec_link.specs.Handing.{HasOutputLeft};
     ghost use Rattle.std.specs.Prelude.{List};
 
     // Hears what memory left of the octets that were read.
     fn catch_up(&mut self, alloc: Global) -> Result<(), AllocError>
         ensures story { (p : Story) → HasStory self.old p → HasStory self.new p }
-        ensures life { self.new.life ≡ self.old.life }
+        ensures life { (self.new.life ≡ self.old.life) × (self.new.peer ≡ self.old.peer) }
         ensures link { is_some self.new.side ≡ is_some self.old.side }
         ensures ease { OnOk result (self.new.life.gave_up ≡ false → IsAtEase self.new) }
     {
@@ -258,6 +279,31 @@ impl Course {
         match &self.side {
             None => return true,
             Some(side) => return !side.has_output(),
+        }
+    }
+
+    /// Whether output is left that it would still write; where it is behind that isn't known.
+    pub(crate) fn output_left(&self) -> bool
+        ensures yes { result ≡ true → IsAtEase self.now → (p : Story) → HasStory self.now p →
+            HasOutputLeft (basis_of self.now.life p) (standing_of self.now.life p) }
+        ensures no { result ≡ false → (p : Story) → HasStory self.now p →
+            HasOutputLeft (basis_of self.now.life p) (standing_of self.now.life p) → ⊥ }
+    {
+        let up = self.life.gave_up;
+        if up {
+            return false;
+        }
+        if self.life.lingers_not() {
+            return false;
+        }
+        match &self.side {
+            None => return false,
+            Some(side) => {
+                if side.is_behind() {
+                    return true;
+                }
+                return side.has_output();
+            }
         }
     }
 
@@ -317,6 +363,10 @@ impl Course {
         ensures turn { OnOk result ((p : Story) → HasStory self.old p →
             TurnsBy P.known H.L.heard H.L.said now self.old self.new link.old link.new
             pipes.old input.old out.old pipes.new input.new out.new p) }
+        ensures cut { OnErr result ((p : Story) → HasStory self.old p →
+            CutsBy P.known H.L.heard H.L.said now self.old self.new link.old link.new
+            pipes.old input.old out.old pipes.new input.new out.new p) }
+        ensures there { AreThere P.known self.new.life.state pipes.new input.new out.new }
         ensures linked { is_some link.new ≡ is_some self.new.side }
     {
         self.begin(alloc, now)?;

@@ -5,6 +5,9 @@
 mod catch_up;
 mod course;
 mod dialler;
+mod dropping;
+mod ending;
+mod handing;
 mod laws;
 mod life;
 mod listener;

@@ -1,4 +1,5 @@
-ghost use Rattle.std.specs.Prelude.{◌≡◌, None, Some, true, false};
+ghost use Rattle.std.specs.Prelude.{◌≡◌, None, Some, IsSome, true, false};
+ghost use Rattle.zq_base.specs.declared.kind.Kind.TheVariants.{Push};
 ghost use Rattle.spec_link.specs.Turn.{LingerIsOver};
 ghost use Rattle.zq_session.specs.LifeView.{IsReadable, IsWritable};
 ghost use Rattle.zq_session.specs.Doing.{IsReading};
@@ -51,6 +52,8 @@ pub(crate) enum ReadMode {
     Puts,
     /// Its end can't be written.
     Holds,
+    /// What is whole is dropped.
+    Drops,
 }
 
 /// How a session stands, aside from its link and what dials.
@@ -95,17 +98,51 @@ impl Life {
         }
     }
 
-    /// How it reads.
-    pub(crate) fn reading(&self) -> ReadMode
-        ensures { IsReading self.now.state self.now.told result }
+    // Whether it drops what it hears.
+    fn drops(&self) -> bool
+        ensures yes { result ≡ true → self.now.kind ≡ Push }
+        ensures no { result ≡ false → self.now.kind ≡ Push → ⊥ }
+    {
+        match self.kind {
+            Kind::Push => return true,
+            _ => return false,
+        }
+    }
+
+    /// Whether it puts what it hears: it doesn't drop it, and its end can be written.
+    pub(crate) fn puts(&self) -> bool
+        ensures yes { result ≡ true → (self.now.kind ≡ Push → ⊥) × IsWritable self.now.state }
+        ensures no { result ≡ false → (self.now.kind ≡ Push → ⊥) → IsWritable self.now.state → ⊥ }
+    {
+        if self.drops() {
+            return false;
+        }
+        self.can_write()
+    }
+
+    // Whether it was told to end before its pair was made.
+    fn reads_no_more(&self) -> bool
+        ensures yes { result ≡ true → IsSome self.now.told × (self.now.state ≡ None) }
+        ensures no { result ≡ false → (IsSome self.now.told × (self.now.state ≡ None)) → ⊥ }
     {
         match self.state {
-            Some(EndState::Active) => return ReadMode::Puts,
-            Some(_) => return ReadMode::Holds,
-            None => {}
+            Some(_) => return false,
+            None => return self.told.is_some(),
         }
-        if self.told.is_some() {
+    }
+
+    /// How it reads.
+    pub(crate) fn reading(&self) -> ReadMode
+        ensures { IsReading self.now.kind self.now.state self.now.told result }
+    {
+        if self.reads_no_more() {
             return ReadMode::Nothing;
+        }
+        if self.drops() {
+            return ReadMode::Drops;
+        }
+        if self.can_write() {
+            return ReadMode::Puts;
         }
         ReadMode::Holds
     }
@@ -327,6 +364,7 @@ impl Life {
             ((b.dials ≡ false) × (IsSome s.state × (s.state ≡ Some Gone → ⊥)))
             (Request (AskEnd b.end Link))) }
         ensures keeps { self.new.gave_up ≡ self.old.gave_up }
+        ensures state { self.new.state ≡ self.old.state }
     {
         let dials = self.dials;
         if dials {
@@ -347,6 +385,7 @@ impl Life {
         ensures does { LifeDoes self.old self.new (λ b s.
             DueOnce s (b.dials ≡ false) (Request (AskOver b.object))) }
         ensures keeps { self.new.gave_up ≡ self.old.gave_up }
+        ensures state { self.new.state ≡ self.old.state }
     {
         let dials = self.dials;
         if dials {

@@ -1,9 +1,8 @@
 ghost use Rattle.std.specs.Prelude.{◌≡◌, true, false, Some, IfOk, OnOk, OnErr, IfSome, IfNone};
 ghost use Rattle.zq_base.specs.Ends.{PipeId};
 ghost use Rattle.zq_session.specs.Calls.{WriteCounts, ReadCounts};
-ghost use Rattle.zq_session.specs.Works.{WantsBy};
 ghost use Rattle.zq_session.specs.Halves.{ReadsThere, WritesThere, AreThere};
-ghost use Rattle.zq_session.specs.Doing.{WritesAtBy, ReadsAtBy, EndsAs, IsOverNow, StandsNow};
+ghost use Rattle.zq_session.specs.Doing.{WritesAtBy, ReadsAtBy, WantsAtBy, EndsAs, IsOverNow, StandsNow};
 ghost use Rattle.zq_session.specs.Unlinked.{LooksBy};
 ghost use Rattle.zq_session.specs.BothParts.{PartsBy, CutBy, LastBy};
 
@@ -58,7 +57,7 @@ pub(crate) fn read_at<P: Pipes, L: Link>(
         (L.heard link.old) (L.heard link.new) pipes.old out.old pipes.new out.new) }
     ensures rest { OnOk result (side.new.behind ≡ false) }
     ensures err { OnErr result ((pipes.new ≡ pipes.old) × (out.new ≡ out.old)
-        × WantsBy (side.old.behind ≡ false) side.old.kept side.new.kept
+        × WantsAtBy how side.old.kept side.new.kept
         (L.heard link.old) (L.heard link.new) (λ got. ReadCounts got
         (L.faults link.old) (L.faults link.new) (L.stalls link.old) (L.stalls link.new)
         (L.ends link.old) (L.ends link.new))) }
@@ -72,6 +71,13 @@ pub(crate) fn read_at<P: Pipes, L: Link>(
             Ok(got) => return Ok(got),
             Err(_) => return Err(AllocError),
         },
+        ReadMode::Drops => {
+            side.drop_whole();
+            match side.read_only(alloc, link) {
+                Ok(got) => return Ok(got),
+                Err(_) => return Err(AllocError),
+            }
+        }
         ReadMode::Puts => match out {
             Some(half) => match side.read_part(alloc, pipes, half, link) {
                 Ok(got) => return Ok(got),

@@ -1,9 +1,9 @@
-ghost use Rattle.std.specs.Prelude.{◌≡◌, List, [], ◌∷◌, None, Some, is_some, true, false, OnOk, IfOk};
+ghost use Rattle.std.specs.Prelude.{◌≡◌, List, [], ◌∷◌, None, Some, is_some, true, false, OnOk, OnErr, IfOk};
 ghost use Rattle.spec_zmtp.specs.OwnCommands.{IsEngineOpts};
 ghost use Rattle.spec_control.specs.declared.end.EndState.TheVariants.{Active};
 ghost use Rattle.spec_link.specs.History.{Basis, SessionEvent, Given, EndIs, Told};
-ghost use Rattle.zq_session.specs.BothParts.{IsPlain};
-ghost use Rattle.zq_session.specs.Sessions.{HasLived, Happens, TurnsOn, AreAt, has_link};
+ghost use Rattle.zq_session.specs.BothParts.{SaysNoTopics};
+ghost use Rattle.zq_session.specs.Sessions.{HasLived, Happens, TurnsOn, CutsOn, AreAt, has_link};
 
 use crate::course::Course;
 use crate::dialler::Dialler;
@@ -22,9 +22,11 @@ use zq_outer::Host;
 /// What it went through is a list of events; each call says what it adds to it.
 #[derive(Drop)]
 pub struct Session<P: Pipes> {
-    course: Course,
-    input: Option<P::In>,
-    out: Option<P::Out>,
+    pub(crate) course: Course,
+    /// What became due and was handed out.
+    pub(crate) given: Asked,
+    pub(crate) input: Option<P::In>,
+    pub(crate) out: Option<P::Out>,
 }
 
 impl<P: Pipes> Model for Session<P> {
@@ -32,7 +34,12 @@ impl<P: Pipes> Model for Session<P> {
 
     ghost Value = { SessionState P.Out P.In };
 
-    ghost view = { λ s. record { course = s.course; input = s.input; out = s.out } };
+    ghost view = { λ s. record {
+      course = s.course;
+      given = s.given;
+      input = s.input;
+      out = s.out;
+    } };
 }
 
 impl<P: Pipes> Session<P> {
@@ -47,7 +54,7 @@ impl<P: Pipes> Session<P> {
         linger: Option<u32>,
     ) -> Session<P>
         requires opts { IsEngineOpts opts }
-        requires plain { IsPlain opts }
+        requires silent { SaysNoTopics true opts }
         ensures lived { HasLived (record {
           object = object;
           end = end;
@@ -77,6 +84,7 @@ impl<P: Pipes> Session<P> {
                 dialler: Some(Dialler::new(object, to, opts, interval)),
                 peer: None,
             },
+            given: Asked::none(),
             input: None,
             out: None,
         }
@@ -91,7 +99,6 @@ impl<P: Pipes> Session<P> {
         linger: Option<u32>,
     ) -> Result<Session<P>, AllocError>
         requires opts { IsEngineOpts opts }
-        requires plain { IsPlain opts }
         ensures lived { IfOk result (λ s. HasLived (record {
           object = object;
           end = end;
@@ -122,6 +129,7 @@ impl<P: Pipes> Session<P> {
                 dialler: None,
                 peer: None,
             },
+            given: Asked::none(),
             input: None,
             out: None,
         })
@@ -166,6 +174,8 @@ impl<P: Pipes> Session<P> {
     /// A turn, by a reading of the clock: it gives up where its linger is over; says what is due;
     /// and then looks and dials, where it has no link, or writes, takes, reads and puts at its
     /// link.
+    ///
+    /// Where memory wants, a part of that was done, and the next turn is one like any other.
     pub fn turn<H: Host>(
         &mut self,
         alloc: Global,
@@ -179,7 +189,11 @@ impl<P: Pipes> Session<P> {
         ensures turn { OnOk result ((b : Basis) (history : List SessionEvent) →
             HasLived b history self.old → TurnsOn P.known H.L.heard H.L.said b history now
             self.old self.new link.old link.new pipes.old pipes.new) }
+        ensures cut { OnErr result ((b : Basis) (history : List SessionEvent) →
+            HasLived b history self.old → CutsOn P.known H.L.heard H.L.said b history now
+            self.old self.new link.old link.new pipes.old pipes.new) }
         ensures linked { is_some link.new ≡ has_link self.new }
+        ensures there { AreAt P.known pipes.new self.new }
     {
         self.course.turn(
             alloc,

@@ -1,4 +1,4 @@
-use Rattle.std.proofs.Common.{Option, sym, subst}
+use Rattle.std.proofs.Common.{Option, subst}
 use Rattle.zq_session.specs.Dials.{DiallerState}
 use Rattle.zq_session.specs.Lives.{IsOfDials}
 use Rattle.zq_session.proofs.CourseLemmas.{dials_after}

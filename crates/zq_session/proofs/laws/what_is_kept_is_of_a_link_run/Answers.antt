@@ -1,5 +1,5 @@
-use Rattle.zq_session.proofs.RestLemmas.{run_means}
+use Rattle.zq_session.proofs.UnputLemmas.{means_link_run}
 use Rattle.zq_session.proofs.laws.what_is_kept_is_of_a_link_run.Goals as goal
 
 pub returns : goal.returns
-returns c = λ opts acts k r rest push. run_means opts acts k r rest push
+returns c = λ opts acts k r rest. means_link_run opts acts k r rest

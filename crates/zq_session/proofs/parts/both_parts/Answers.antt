@@ -20,7 +20,7 @@ pub read_at-requires-clause-here : goal.read_at-requires-clause-here
 read_at-requires-clause-here g c = λ e.
     let w = c.write_at-written.ensures.writes in
     (steps_there g.P.Pipes.known (flat_map step_in (take_acts some_pipe w.found)) _ _ c.args.life.now.state _ _ _ _ (w.steps some_pipe c.args.out.now) c.requires.there).writes
-    (subst (λ (m : ReadMode). IsReading c.args.life.now.state c.args.life.now.told m) e c.reading.ensures)
+    (subst (λ (m : ReadMode). IsReading c.args.life.now.kind c.args.life.now.state c.args.life.now.told m) e c.reading.ensures).1
 
 pub returns-in_err-got-clause-err : goal.returns-in_err-got-clause-err
 returns-in_err-got-clause-err g c =
@@ -28,8 +28,8 @@ returns-in_err-got-clause-err g c =
     let k = c.in_err-got.ensures.err in
     let writes = writes_to g.P.Pipes.known _ _ _ _ _ _ _ _ _ _ _ (sym c.read_at.ensures.others) w.writes in
     let wants = wants_from _ _ _ _ _ _ _ w.others k.2 in
-    on_err c.from_residual.result _ (parts_cut g.P.Pipes.known _ _ c.args.life.now c.can_read.result c.args.side.now.kept c.write_at-written.new.side.kept c.read_at.new.side.kept c.write_at-written.result _ _ _ _ _ _ _ _ _ _ _
-    c.can_read.ensures.yes c.can_read.ensures.no (c.is_over.ensures.no c.if-is_over.false) writes k.0 k.1 wants)
+    on_err c.from_residual.result _ (parts_cut g.P.Pipes.known _ c.args.life.now c.can_read.result c.reading.result c.args.side.now.kept c.write_at-written.new.side.kept c.read_at.new.side.kept c.write_at-written.result _ _ _ _ _ _ _ _ _ _ _
+    c.can_read.ensures.yes c.can_read.ensures.no c.reading.ensures (c.is_over.ensures.no c.if-is_over.false) writes k.0 k.1 wants)
 
 pub returns-clause-ok : goal.returns-clause-ok
 returns-clause-ok g c =

@@ -1,7 +1,7 @@
 use Rattle.std.proofs.Common.{◌≡◌, refl, subst}
 use Rattle.spec_link.specs.LinkAct.{Linked, Failed}
 use Rattle.zq_session.specs.declared.dialler.Dial.{Dial}
-use Rattle.zq_session.specs.Dials.{HostCounts, IsDial, IfDialled, IsFresh, answer_of, moment_after}
+use Rattle.zq_session.specs.Dials.{IsDial, answer_of, moment_after}
 use Rattle.zq_session.proofs.CourseLemmas.{link_none}
 use Rattle.zq_session.proofs.UnlinkedLemmas.{counts_as, dials_by, links_fresh, no_side}
 use Rattle.zq_session.proofs.course.Course.dial.Goals as goal
@@ -12,7 +12,7 @@ returns-in-Linked-clause-dials g c =
     let d = c.in-Some.dialler in
     let is = c.in-Linked.is in
     dials_by c.args.now c.args.met c.args.self.now _ d c.dial.new.self Linked _ _ _ _
-    (counts_as _ _ _ _ _ _ is e.counts) refl c.in-Some.is refl
+    (counts_as _ _ _ _ _ _ is e.counts) refl refl c.in-Some.is refl
     (subst (λ (x : Dial _). IsDial d.dial_at c.args.now (answer_of x)) is e.due)
     (subst (λ (x : Dial _). c.dial.new.self ≡ record d { dial_at = moment_after d.interval c.args.now (answer_of x) d.dial_at }) is e.next)
     (c.may_dial.ensures.yes c.if-not-may_dial.false)
@@ -24,7 +24,7 @@ returns-in-Failed-clause-dials g c =
     let d = c.in-Some.dialler in
     let is = c.in-Failed.is in
     dials_by c.args.now c.args.met c.args.self.now _ d c.dial.new.self Failed _ _ _ _
-    (counts_as _ _ _ _ _ _ is e.counts) refl c.in-Some.is refl
+    (counts_as _ _ _ _ _ _ is e.counts) refl refl c.in-Some.is refl
     (subst (λ (x : Dial _). IsDial d.dial_at c.args.now (answer_of x)) is e.due)
     (subst (λ (x : Dial _). c.dial.new.self ≡ record d { dial_at = moment_after d.interval c.args.now (answer_of x) d.dial_at }) is e.next)
     (c.may_dial.ensures.yes c.if-not-may_dial.false)

@@ -1,10 +1,16 @@
-use Rattle.std.proofs.Common.{◌++◌, Some, refl, ◌∙◌, subst, Option}
+use Rattle.std.proofs.Common.{◌≡◌, ◌++◌, true, Some, refl, sym, ◌∙◌, subst, Option}
+use Rattle.spec_link.specs.declared.due.Due.TheVariants.{Delimiter}
+use Rattle.spec_link.specs.Turn.{DueOnce}
+use Rattle.zq_session.specs.declared.life.Life.{Life}
+use Rattle.zq_session.specs.LifeSteps.{LifeDoes}
 use Rattle.std.specs.List.{flat_map}
 use Rattle.spec_control.specs.declared.end.EndState.{EndState}
 use Rattle.zq_session.specs.LifeView.{IsWritable}
 use Rattle.zq_session.specs.Halves.{step_in}
 use Rattle.zq_session.proofs.HalfLemmas.{steps_there}
 use Rattle.zq_session.proofs.CourseLemmas.{turn_stands, turn_over, one_by, heard_to}
+use Rattle.zq_session.proofs.PartLemmas.{on_err, some_pipe}
+use Rattle.zq_session.proofs.CutLemmas.{cut_at_link, cut_behind}
 use Rattle.zq_session.proofs.course.Course.linked.Goals as goal
 
 pub last_acts-requires-clause-one : goal.last_acts-requires-clause-one
@@ -15,7 +21,7 @@ pub last_acts-requires-clause-here : goal.last_acts-requires-clause-here
 last_acts-requires-clause-here g c = λ e.
     let pb = c.in_ok-done-in-Some.ensures.ok in
     (steps_there g.P.Pipes.known (flat_map step_in (pb.writes ++ pb.reads)) c.args.pipes.now c.both_parts.new.pipes c.args.self.now.life.state c.args.input.now c.both_parts.new.input c.args.out.now c.both_parts.new.out pb.steps c.requires.there).writes
-    (subst (λ (s : Option EndState). IsWritable s) (c.shaken_due.ensures.state ∙ c.delimiter_due.ensures.state) (c.puts_last-puts.ensures.yes e).1)
+    (subst (λ (s : Option EndState). IsWritable s) (c.shaken_due.ensures.state ∙ c.delimiter_due.ensures.state) (c.puts_last-puts.ensures.yes e).1.1)
 
 pub returns-in-None-over_by-clause-turn : goal.returns-in-None-over_by-clause-turn
 returns-in-None-over_by-clause-turn g c =
@@ -27,5 +33,38 @@ returns-in-Some-over_by-clause-turn g c =
     let one = one_by c.in_ok-done-in-Some.done.written.put c.in_ok-done-in-Some.done.got c.both_parts.new.side.kept c.in-Some-over_by.cause c.is_refused.result c.puts_last-puts.result c.is_refused.ensures.yes (λ e. (c.puts_last-puts.ensures.yes e).0) c.in-Some-over_by.ensures.some in
     heard_to g.P.Pipes.known c.args.now c.args.self.now c.end_link.new.self _ _ _ _ _ _ _ _ _ _ _ c.last_acts.ensures.others
     (turn_over g.P.Pipes.known c.args.now c.args.self.now (record c.args.self.now { life = c.shaken_due.new.life; side = Some c.last_acts.new.side; peer = c.shaken_due.new.peer }) c.end_link.new.self c.delimiter_due.new.self _ c.both_parts.new.side c.last_acts.new.side c.in_ok-done-in-Some.done c.in-Some-over_by.cause c.met_delimiter.result c.is_refused.result c.puts_last-puts.result _ _ _ _ _ _ _ _ _ _ _ _ _
-    c.in-Some.is c.end_link.ensures.gone refl c.met_delimiter.ensures.yes c.met_delimiter.ensures.no c.is_refused.ensures.yes c.is_refused.ensures.no c.puts_last-puts.ensures.yes c.puts_last-puts.ensures.no
+    c.in-Some.is c.end_link.ensures.gone refl c.end_link.ensures.peer c.met_delimiter.ensures.yes c.met_delimiter.ensures.no c.is_refused.ensures.yes c.is_refused.ensures.no c.puts_last-puts.ensures.yes c.puts_last-puts.ensures.no
     c.in_ok-done-in-Some.ensures.ok c.delimiter_due.ensures.does c.in_ok-shaken_due-in-Some.ensures.ok c.in-Some-over_by.ensures.some c.last_acts.ensures.last one c.end_link.ensures.asks c.end_link.ensures.dials)
+
+pub returns-in_err-done-in-Some-clause-cut : goal.returns-in_err-done-in-Some-clause-cut
+returns-in_err-done-in-Some-clause-cut g c =
+    on_err _ _ (cut_at_link g.P.Pipes.known c.args.self.now _ c.in-Some.side c.both_parts.new.side _ _ _ _ _ _ _ _ _ _ c.in-Some.is refl refl refl refl c.in_err-done-in-Some.ensures.err)
+
+pub returns-in_err-shaken_due-in-Some-clause-cut : goal.returns-in_err-shaken_due-in-Some-clause-cut
+returns-in_err-shaken_due-in-Some-clause-cut g c =
+    let e = c.in_err-shaken_due-in-Some.ensures.err in
+    on_err _ _ (cut_behind g.P.Pipes.known c.args.self.now _ c.in-Some.side c.both_parts.new.side c.in_ok-done-in-Some.done c.met_delimiter.result _ _ _ _ _ _ _ _ _ _
+    c.in-Some.is refl refl e.1 c.met_delimiter.ensures.yes c.met_delimiter.ensures.no c.in_ok-done-in-Some.ensures.ok
+    (subst (λ (l : Life). LifeDoes c.args.self.now.life l (λ b s. DueOnce s (c.met_delimiter.result ≡ true) (Delimiter b.end))) (sym e.0) c.delimiter_due.ensures.does))
+
+pub returns-in_err-done-in-Some-clause-there : goal.returns-in_err-done-in-Some-clause-there
+returns-in_err-done-in-Some-clause-there g c =
+    let cb = c.in_err-done-in-Some.ensures.err in
+    steps_there g.P.Pipes.known (flat_map step_in (cb.writes ++ cb.reads)) c.args.pipes.now c.both_parts.new.pipes c.args.self.now.life.state c.args.input.now c.both_parts.new.input c.args.out.now c.both_parts.new.out cb.steps c.requires.there
+
+pub returns-in_err-shaken_due-in-Some-clause-there : goal.returns-in_err-shaken_due-in-Some-clause-there
+returns-in_err-shaken_due-in-Some-clause-there g c =
+    let pb = c.in_ok-done-in-Some.ensures.ok in
+    steps_there g.P.Pipes.known (flat_map step_in (pb.writes ++ pb.reads)) c.args.pipes.now c.both_parts.new.pipes c.args.self.now.life.state c.args.input.now c.both_parts.new.input c.args.out.now c.both_parts.new.out pb.steps c.requires.there
+
+pub returns-in-None-over_by-clause-there : goal.returns-in-None-over_by-clause-there
+returns-in-None-over_by-clause-there g c =
+    let pb = c.in_ok-done-in-Some.ensures.ok in
+    steps_there g.P.Pipes.known (flat_map step_in (pb.writes ++ pb.reads)) c.args.pipes.now c.both_parts.new.pipes c.args.self.now.life.state c.args.input.now c.both_parts.new.input c.args.out.now c.both_parts.new.out pb.steps c.requires.there
+
+pub returns-in-Some-over_by-clause-there : goal.returns-in-Some-over_by-clause-there
+returns-in-Some-over_by-clause-there g c =
+    let pb = c.in_ok-done-in-Some.ensures.ok in
+    let lb = c.last_acts.ensures.last some_pipe in
+    steps_there g.P.Pipes.known (flat_map step_in (lb.put_last ++ lb.said_last)) c.both_parts.new.pipes c.last_acts.new.pipes c.args.self.now.life.state c.both_parts.new.input c.both_parts.new.input c.both_parts.new.out c.last_acts.new.out (lb.steps c.both_parts.new.input)
+    (steps_there g.P.Pipes.known (flat_map step_in (pb.writes ++ pb.reads)) c.args.pipes.now c.both_parts.new.pipes c.args.self.now.life.state c.args.input.now c.both_parts.new.input c.args.out.now c.both_parts.new.out pb.steps c.requires.there)

@@ -1,17 +1,17 @@
-use Rattle.std.specs.Prelude.{◌≡◌, true, false, Some, IsSome}
-use Rattle.spec_control.specs.declared.end.EndState.TheVariants.{WaitDelimiter, Gone}
-use Rattle.spec_control.specs.declared.end.Reason.TheVariants.{Linger, Link}
-use Rattle.spec_control.specs.declared.request.Req.TheVariants.{AskEnd, AskOver}
-use Rattle.spec_link.specs.declared.due.Due.TheVariants.{Request, Delimiter}
-use Rattle.spec_link.specs.Turn.{IsTold}
+use Rattle.std.proofs.Common.{refl}
+use Rattle.std.specs.Prelude.{◌≡◌, true, Some}
+use Rattle.spec_control.specs.declared.end.EndState.TheVariants.{WaitDelimiter}
+use Rattle.spec_control.specs.declared.end.Reason.TheVariants.{Linger}
+use Rattle.spec_control.specs.declared.request.Req.TheVariants.{AskEnd}
+use Rattle.spec_link.specs.declared.due.Due.TheVariants.{Request}
 use Rattle.zq_session.specs.declared.life.Life.{Life}
-use Rattle.zq_session.proofs.LifeLemmas.{does_none, does_again, does_now, due_linger, due_over, due_delimiter, due_link}
+use Rattle.zq_session.proofs.LifeLemmas.{does_none, does_again, does_now, due_linger}
 use Rattle.zq_session.proofs.life.Life.ask_linger.Goals as goal
 
 pub returns-clause-does : goal.returns-clause-does
 returns-clause-does c =
     let l : Life = c.args.self.now in
-    does_now l (λ b s. s.state ≡ Some WaitDelimiter) (λ b. Request (AskEnd b.end Linger)) (record l.asked { linger = true }) l.asked.linger c.if-before.false (λ p due. due.linger)
+    does_now l (λ b s. s.state ≡ Some WaitDelimiter) (λ b. Request (AskEnd b.end Linger)) (record l.asked { linger = true }) l.asked.linger refl c.if-before.false (λ p due. due.linger)
     (λ p. c.waits_delimiter.ensures.yes c.if-not-waits_delimiter.false) (λ p due. due_linger l l.asked p.dues due)
 
 pub returns-then-before-clause-does : goal.returns-then-before-clause-does

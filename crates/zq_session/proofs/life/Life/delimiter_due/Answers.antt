@@ -1,17 +1,14 @@
-use Rattle.std.specs.Prelude.{◌≡◌, true, false, Some, IsSome}
-use Rattle.spec_control.specs.declared.end.EndState.TheVariants.{WaitDelimiter, Gone}
-use Rattle.spec_control.specs.declared.end.Reason.TheVariants.{Linger, Link}
-use Rattle.spec_control.specs.declared.request.Req.TheVariants.{AskEnd, AskOver}
-use Rattle.spec_link.specs.declared.due.Due.TheVariants.{Request, Delimiter}
-use Rattle.spec_link.specs.Turn.{IsTold}
+use Rattle.std.proofs.Common.{refl}
+use Rattle.std.specs.Prelude.{◌≡◌, true}
+use Rattle.spec_link.specs.declared.due.Due.TheVariants.{Delimiter}
 use Rattle.zq_session.specs.declared.life.Life.{Life}
-use Rattle.zq_session.proofs.LifeLemmas.{does_none, does_again, does_now, due_linger, due_over, due_delimiter, due_link, differs}
+use Rattle.zq_session.proofs.LifeLemmas.{does_none, does_again, does_now, due_delimiter, differs}
 use Rattle.zq_session.proofs.life.Life.delimiter_due.Goals as goal
 
 pub returns-clause-does : goal.returns-clause-does
 returns-clause-does c =
     let l : Life = c.args.self.now in
-    does_now l (λ b s. c.args.met ≡ true) (λ b. Delimiter b.end) (record l.asked { delimiter = true }) l.asked.delimiter c.if-before.false (λ p due. due.delimiter)
+    does_now l (λ b s. c.args.met ≡ true) (λ b. Delimiter b.end) (record l.asked { delimiter = true }) l.asked.delimiter refl c.if-before.false (λ p due. due.delimiter)
     (λ p. c.if-not-met.false) (λ p due. due_delimiter l l.asked p.dues due)
 
 pub returns-then-before-clause-does : goal.returns-then-before-clause-does

@@ -1,16 +1,19 @@
 use Rattle.std.proofs.Common.{[], Some, refl}
-use Rattle.zq_session.proofs.SessionLemmas.{nothing_due}
+use Rattle.zq_session.proofs.SessionLemmas.{nothing_due, shaken_none}
+use Rattle.zq_session.proofs.UnputLemmas.{of_nothing}
 use Rattle.zq_session.proofs.session.Session.accepted.Goals as goal
 
 pub returns-clause-lived : goal.returns-clause-lived
 returns-clause-lived g c = (
-  record { opts = c.args.opts; interval = 0; link = Some []; closed = []; dial_at = 0; dues = [] },
+  record { opts = c.args.opts; interval = 0; link = Some []; closed = []; dial_at = 0; dues = []; handed = [] },
   refl,
   refl,
   record {
     due = nothing_due _ c.none.result c.none.ensures;
-    link = c.in_ok-side.ensures.run;
+    link = of_nothing c.args.opts _ c.in_ok-side.ensures.run;
     dial = tt;
-    plain = c.requires.plain;
+    kind_is = refl;
+    silent = refl;
   },
+  record { given_is = nothing_due _ c.none-2.result c.none-2.ensures; peer = λ asked once. absurd (shaken_none c.none.result c.none.ensures asked) },
 )

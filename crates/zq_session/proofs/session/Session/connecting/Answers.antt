@@ -1,18 +1,20 @@
 use Rattle.std.proofs.Common.{[], None, refl, ap}
 use Rattle.zq_session.specs.Dials.{DiallerState}
-use Rattle.zq_session.proofs.SessionLemmas.{nothing_due}
+use Rattle.zq_session.proofs.SessionLemmas.{nothing_due, shaken_none}
 use Rattle.zq_session.proofs.session.Session.connecting.Goals as goal
 
 pub returns-clause-lived : goal.returns-clause-lived
 returns-clause-lived g c =
     let e = c.new.ensures in (
-      record { opts = c.args.opts; interval = c.args.interval; link = None; closed = []; dial_at = 0; dues = [] },
+      record { opts = c.args.opts; interval = c.args.interval; link = None; closed = []; dial_at = 0; dues = []; handed = [] },
       refl,
       refl,
       record {
         due = nothing_due _ c.none.result c.none.ensures;
         link = tt;
         dial = (ap (λ (x : DiallerState). x.opts) e, (ap (λ (x : DiallerState). x.interval) e, ap (λ (x : DiallerState). x.dial_at) e));
-        plain = c.requires.plain;
+        kind_is = refl;
+        silent = c.requires.silent;
       },
+      record { given_is = nothing_due _ c.none-2.result c.none-2.ensures; peer = λ asked once. absurd (shaken_none c.none.result c.none.ensures asked) },
     )
