@@ -6,7 +6,7 @@ ghost use Rattle.msg_pipe.specs.Places.{KeepsPlaces};
 use msg_pipe::{Peers, Taken, Turns};
 use zq_base::Message;
 
-// Takes a message at the first of the places that has one, and says which of them it is.
+/// Takes a message at the first of the places that has one, and says which of them it is.
 pub(crate) fn first_in<E: Peers>(peers: &mut E, places: &Turns) -> Option<(usize, Message)>
     requires there { All (E.here peers.old) places.now }
     ensures looks { MatchOption result

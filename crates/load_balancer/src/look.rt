@@ -7,8 +7,8 @@ ghost use Rattle.msg_pipe.specs.Places.{KeepsPlaces};
 use msg_pipe::{Peers, PutIn, Turns};
 use zq_base::Message;
 
-// Commits the message at the first of the places that can be written and has room, and says which
-// of them it is, or hands the message back.
+/// Commits the message at the first of the places that can be written and has room, and says which
+/// of them it is, or hands the message back.
 pub(crate) fn put_first<E: Peers>(
     peers: &mut E,
     places: &Turns,
@@ -55,7 +55,7 @@ fn put_at<E: Peers>(peers: &mut E, place: usize, message: Message) -> Result<(),
     }
 }
 
-// Whether any of the places can be written.
+/// Whether any of the places can be written.
 pub(crate) fn any_open<E: Peers>(peers: &E, places: &Turns) -> bool
     requires { All (E.here peers.now) places.now }
     ensures { result ≡ list_any (E.writable peers.now) places.now }

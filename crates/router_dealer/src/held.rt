@@ -24,7 +24,7 @@ impl Model for Held {
 }
 
 impl Held {
-    // Nothing is kept.
+    /// Nothing is kept.
     pub(crate) fn new(alloc: Global) -> Held
         ensures { result.kept ≡ None }
     {
@@ -34,7 +34,7 @@ impl Held {
         }
     }
 
-    // Makes room for a name of so many octets.
+    /// Makes room for a name of so many octets.
     pub(crate) fn reserve(&mut self, octets: usize) -> Result<(), AllocError>
         ensures ok { OnOk result (octets ≤ self.new.room) }
         ensures room { self.old.room ≤ self.new.room }
@@ -43,7 +43,7 @@ impl Held {
         self.name.reserve(octets)
     }
 
-    // Keeps a message, behind its name.
+    /// Keeps a message, behind its name.
     pub(crate) fn keep(&mut self, pair: PairId, name: &[u8], rest: Message)
         requires room { length name.now ≤ self.old.room }
         requires few { length rest < 1024 }
@@ -58,7 +58,7 @@ impl Held {
         self.rest = Some((pair, rest));
     }
 
-    // Gives the message that is kept, behind its name.
+    /// Gives the message that is kept, behind its name.
     pub(crate) fn give(&mut self) -> Result<Option<(PairId, Message)>, AllocError>
         ensures gives { GivesHeld self.old.kept result self.new.kept }
         ensures room { self.new.room ≡ self.old.room }

@@ -30,7 +30,7 @@ impl Model for Names {
 }
 
 impl Names {
-    // No peer has a name.
+    /// No peer has a name.
     pub(crate) fn new(alloc: Global) -> Names
         ensures { result ≡ [] }
     {
@@ -40,21 +40,21 @@ impl Names {
         }
     }
 
-    // The place of a name.
+    /// The place of a name.
     pub(crate) fn find(&self, name: &[u8]) -> Option<usize>
         ensures { result ≡ place_named self.now name.now }
     {
         self.places.get(name).copied()
     }
 
-    // Whether a place has a name.
+    /// Whether a place has a name.
     pub(crate) fn is_named(&self, place: usize) -> bool
         ensures { result ≡ is_some (name_placed self.now place) }
     {
         self.names.contains_key(&place)
     }
 
-    // The name of a place.
+    /// The name of a place.
     pub(crate) fn name_of(&self, place: usize) -> &Frame
         requires { HasName self.now place }
         ensures { place_named self.now result.now ≡ Some place }
@@ -65,7 +65,7 @@ impl Names {
         }
     }
 
-    // Gives a place a name.
+    /// Gives a place a name.
     pub(crate) fn give(
         &mut self,
         alloc: Global,
@@ -93,7 +93,7 @@ impl Names {
         }
     }
 
-    // The place has its name no more.
+    /// The place has its name no more.
     pub(crate) fn forget(&mut self, place: usize)
         ensures without { self.new ≡ without_name_at place self.old }
         ensures sound { AreApart self.new }

@@ -7,7 +7,7 @@ use spec_pattern::{Rule, SendFault, SendRefusal, Sent};
 use std::alloc::AllocError;
 use zq_base::{Frame, Message};
 
-// Gives up a message whose peer isn't there, or hands it back where it must be routed.
+/// Gives up a message whose peer isn't there, or hands it back where it must be routed.
 pub(crate) fn unroutable(mandatory: bool, message: Message) -> Result<Sent, SendFault>
     ensures { result ≡ where_missing mandatory message }
 {
@@ -17,7 +17,7 @@ pub(crate) fn unroutable(mandatory: bool, message: Message) -> Result<Sent, Send
     Ok(Sent::Dropped(Rule::Unroutable))
 }
 
-// Puts a message in without its first frame, or gives it up where the pipe is full.
+/// Puts a message in without its first frame, or gives it up where the pipe is full.
 pub(crate) fn put_or_drop<E: Peers>(
     peers: &mut E,
     place: usize,
@@ -38,7 +38,7 @@ pub(crate) fn put_or_drop<E: Peers>(
     }
 }
 
-// Puts a message in without its first frame, or hands it back whole where the pipe is full.
+/// Puts a message in without its first frame, or hands it back whole where the pipe is full.
 pub(crate) fn put_or_hand_back<E: Peers>(
     peers: &mut E,
     back: &mut Vec<Frame>,
@@ -86,7 +86,7 @@ fn behind(room: &mut Vec<Frame>, name: Frame, rest: Message) -> Message
     Message::of_frames(frames)
 }
 
-// Puts a copy of a name before a message.
+/// Puts a copy of a name before a message.
 pub(crate) fn put_behind(name: &Frame, message: &mut Message) -> Result<(), AllocError>
     requires { length message.old < 1024 }
     ensures ok { OnOk result (message.new ≡ name.now ∷ message.old) }

@@ -31,7 +31,7 @@ pub fn is_called(command: &Command, name: &[u8]) -> bool
     command.name.as_slice() == name
 }
 
-/// The command of this name and content.
+// The command of this name and content.
 fn command(alloc: Global, name: &[u8], content: Octets) -> Result<Command, AllocError>
     ensures { IfOk result (λ c. c ≡ command name.now content) }
 {
@@ -39,7 +39,7 @@ fn command(alloc: Global, name: &[u8], content: Octets) -> Result<Command, Alloc
     Ok(Command { name, content })
 }
 
-/// The property of this name and value.
+// The property of this name and value.
 fn property(alloc: Global, name: &[u8], value: &[u8]) -> Result<Property, AllocError>
     ensures { IfOk result (λ p. p ≡ property name.now value.now) }
 {
@@ -48,7 +48,7 @@ fn property(alloc: Global, name: &[u8], value: &[u8]) -> Result<Property, AllocE
     Ok(Property { name, value })
 }
 
-/// Whether a side of this kind tells its identity.
+// Whether a side of this kind tells its identity.
 fn tells_identity(kind: Kind) -> bool
     ensures { result ≡ tells_identity kind }
 {
@@ -59,7 +59,7 @@ fn tells_identity(kind: Kind) -> bool
     }
 }
 
-/// What we tell of ourselves.
+// What we tell of ourselves.
 fn own_properties(alloc: Global, opts: &EngineOpts) -> Result<Vec<Property>, AllocError>
     ensures { IfOk result (λ list. list.items ≡ own_properties opts.now) }
 {
@@ -71,7 +71,7 @@ fn own_properties(alloc: Global, opts: &EngineOpts) -> Result<Vec<Property>, All
     Ok(list)
 }
 
-/// Our metadata.
+// Our metadata.
 fn own_meta(alloc: Global, opts: &EngineOpts) -> Result<Octets, AllocError>
     requires { IsEngineOpts opts.now }
     ensures { IfOk result (λ m. m ≡ encode_meta (own_properties opts.now)) }
@@ -98,7 +98,7 @@ pub fn our_initiate(alloc: Global, opts: &EngineOpts) -> Result<Command, AllocEr
     command(alloc, INITIATE, meta)
 }
 
-/// The content of our HELLO.
+// The content of our HELLO.
 fn own_login(alloc: Global, opts: &EngineOpts) -> Result<Octets, AllocError>
     requires { IsEngineOpts opts.now }
     ensures { IfOk result (λ l. l ≡ encode_login (own_login opts.now.logins)) }

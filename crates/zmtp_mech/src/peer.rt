@@ -8,7 +8,7 @@ use std::alloc::{AllocError, Global};
 use zmtp_meta::{MetaError, read_meta};
 use zq_base::{Kind, Octets, Peer};
 
-/// The value of the first property of this name, or none.
+// The value of the first property of this name, or none.
 fn value_of<'a>(properties: &'a [Property], name: &[u8]) -> &'a [u8]
     ensures { result.now ≡ unwrap_or (value_of name.now properties.now) [] }
 {
@@ -21,14 +21,14 @@ fn value_of<'a>(properties: &'a [Property], name: &[u8]) -> &'a [u8]
     }
 }
 
-/// Whether octets may be a peer's identity.
+// Whether octets may be a peer's identity.
 fn is_identity(octets: &[u8]) -> bool
     ensures { result ≡ is_identity octets.now }
 {
     octets.len() <= 255 && !octets.starts_with(&[0])
 }
 
-/// The kind of this name.
+// The kind of this name.
 fn kind_named(name: &[u8]) -> Option<Kind>
     ensures { result ≡ kind_named name.now }
 {
@@ -36,7 +36,7 @@ fn kind_named(name: &[u8]) -> Option<Kind>
 }
 
 #[tactic(auto, unfolding(spec_zmtp::specs::PeerMetadata::peer_of))]
-/// The peer that these properties tell of, or why it is refused.
+// The peer that these properties tell of, or why it is refused.
 fn peer_of(
     alloc: Global,
     ours: Kind,

@@ -26,7 +26,7 @@ pub struct Step {
 }
 
 #[tactic(auto, unfolding(spec_zmtp::specs::Handshake::has_bad_meta))]
-/// Whether the command has metadata that is none.
+// Whether the command has metadata that is none.
 fn has_bad_meta(command: &Command) -> bool
     ensures { result ≡ has_bad_meta command.now }
 {
@@ -37,7 +37,7 @@ fn has_bad_meta(command: &Command) -> bool
 }
 
 #[tactic(auto, unfolding(spec_zmtp::specs::Handshake::misplaced))]
-/// Why a command in place of the one awaited is refused.
+// Why a command in place of the one awaited is refused.
 fn misplaced(command: &Command) -> Cause
     ensures { result ≡ misplaced command.now }
 {
@@ -50,7 +50,7 @@ fn misplaced(command: &Command) -> Cause
     Cause::OutOfOrder
 }
 
-/// The refusal of a peer, with a command to say first.
+// The refusal of a peer, with a command to say first.
 fn refused(cause: Cause, say: Option<Command>) -> Step
     ensures { result ≡ record { answer = Answer.Refused cause say; stage = stage.Refused cause } }
 {
@@ -60,21 +60,21 @@ fn refused(cause: Cause, say: Option<Command>) -> Step
     }
 }
 
-/// Whether a login has this user and this password.
+// Whether a login has this user and this password.
 fn is_login(login: &Login, user: &[u8], pass: &[u8]) -> bool
     ensures { result ≡ (bytes_eq login.now.user user.now && bytes_eq login.now.pass pass.now) }
 {
     login.user.as_slice() == user && login.pass.as_slice() == pass
 }
 
-/// Whether one of these logins has this user and this password.
+// Whether one of these logins has this user and this password.
 fn has_login(logins: &[Login], user: &[u8], pass: &[u8]) -> bool
     ensures { result ≡ list_any (λ l. bytes_eq l.user user.now && bytes_eq l.pass pass.now) logins.now }
 {
     logins.iter().any(|login| is_login(login, user, pass))
 }
 
-/// Whether the content of a HELLO is one of these logins.
+// Whether the content of a HELLO is one of these logins.
 fn is_welcome(logins: &[Login], content: &[u8]) -> bool
     ensures { result ≡ is_welcome logins.now content.now }
 {
@@ -84,7 +84,7 @@ fn is_welcome(logins: &[Login], content: &[u8]) -> bool
     }
 }
 
-/// Hears a command where READY is awaited.
+// Hears a command where READY is awaited.
 fn hear_ready(alloc: Global, opts: &EngineOpts, command: &Command) -> Result<Step, AllocError>
     ensures { IfOk result (λ s. Shows s (next opts.now (stage.Waiting awaited.Ready) (Told command.now))) }
 {
@@ -100,7 +100,7 @@ fn hear_ready(alloc: Global, opts: &EngineOpts, command: &Command) -> Result<Ste
     }
 }
 
-/// Hears a command where INITIATE is awaited.
+// Hears a command where INITIATE is awaited.
 fn hear_initiate(alloc: Global, opts: &EngineOpts, command: &Command) -> Result<Step, AllocError>
     requires { IsEngineOpts opts.now }
     ensures { IfOk result
@@ -121,7 +121,7 @@ fn hear_initiate(alloc: Global, opts: &EngineOpts, command: &Command) -> Result<
     }
 }
 
-/// Hears a command where WELCOME is awaited.
+// Hears a command where WELCOME is awaited.
 fn hear_welcome(alloc: Global, opts: &EngineOpts, command: &Command) -> Result<Step, AllocError>
     requires { IsEngineOpts opts.now }
     ensures { IfOk result
@@ -137,7 +137,7 @@ fn hear_welcome(alloc: Global, opts: &EngineOpts, command: &Command) -> Result<S
     })
 }
 
-/// Hears a command where HELLO is awaited.
+// Hears a command where HELLO is awaited.
 fn hear_hello(alloc: Global, opts: &EngineOpts, command: &Command) -> Result<Step, AllocError>
     ensures { IfOk result (λ s. Shows s (next opts.now (stage.Waiting awaited.Hello) (Told command.now))) }
 {
@@ -155,7 +155,7 @@ fn hear_hello(alloc: Global, opts: &EngineOpts, command: &Command) -> Result<Ste
     })
 }
 
-/// Hears a command once Running.
+// Hears a command once Running.
 fn hear_running(command: &Command) -> Step
     ensures { Shows result (silent (running (Told command.now ∷ []))) }
 {

@@ -45,7 +45,7 @@ const ERROR: &[u8] = b"ERROR";
 
 const WELCOME: &[u8] = b"WELCOME";
 
-/// Whether the content of a known command has its form, metadata aside.
+// Whether the content of a known command has its form, metadata aside.
 fn is_formed(name: &[u8], content: &[u8]) -> bool
     ensures { result ≡ has_form (command name.now content.now) }
 {
@@ -62,7 +62,7 @@ fn is_formed(name: &[u8], content: &[u8]) -> bool
 }
 
 #[tactic(auto, unfolding(spec_zmtp::specs::Decoding::decode_command))]
-/// The name and the content of the command of this body.
+// The name and the content of the command of this body.
 fn split_command(body: &[u8]) -> Option<(&[u8], &[u8])>
     ensures { option_map (λ x. command x.0.now x.1.now) result ≡ decode_command body.now }
 {

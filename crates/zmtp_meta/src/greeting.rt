@@ -14,7 +14,7 @@ pub struct Greeting {
     pub role: Role,
 }
 
-/// The mechanism's name, filled up with octets 0.
+// The mechanism's name, filled up with octets 0.
 fn mechanism(role: Role) -> [u8; 20]
     ensures { result ≡ mechanism_of role }
 {

@@ -6,7 +6,7 @@ ghost use Rattle.zq_base.specs.declared.options.Login.{Login};
 use std::alloc::{AllocError, Global};
 use zq_base::Octets;
 
-/// Octets behind one that counts them, at the end of others.
+// Octets behind one that counts them, at the end of others.
 fn push_counted(out: &mut Vec<u8>, octets: &[u8]) -> Result<(), AllocError>
     requires { IsShort octets.now }
     ensures { OnOk result (out.new.items ≡ out.old.items ++ counted octets.now) }
@@ -48,7 +48,7 @@ pub fn is_reason(content: &[u8]) -> bool
 }
 
 #[tactic(auto, unfolding(spec_zmtp::specs::Decoding::decode_login))]
-/// The user and the password of a content.
+// The user and the password of a content.
 fn split_login(content: &[u8]) -> Option<(&[u8], &[u8])>
     ensures { option_map (λ l. login l.0.now l.1.now) result ≡ decode_login content.now }
 {

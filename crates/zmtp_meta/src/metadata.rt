@@ -37,7 +37,7 @@ impl<T: Drop> From<AllocFailed<T>> for MetaError {
     }
 }
 
-/// The octets of a property, at the end of others.
+// The octets of a property, at the end of others.
 fn push_property(out: &mut Vec<u8>, property: &Property) -> Result<(), AllocError>
     requires { IsProperty property.now }
     ensures { OnOk result (out.new.items ≡ out.old.items ++ encode_property property.now) }
@@ -78,7 +78,7 @@ fn is_name(octets: &[u8]) -> bool
 }
 
 #[tactic(auto, unfolding(spec_zmtp::specs::Decoding::property_at, spec_zmtp::specs::Decoding::named_at, spec_zmtp::specs::Decoding::value_at, spec_zmtp::specs::Decoding::sized_at))]
-/// The name and the value of the property at the front, and what follows it.
+// The name and the value of the property at the front, and what follows it.
 fn split_property(octets: &[u8]) -> Option<(&[u8], &[u8], &[u8])>
     ensures { option_map (λ x. (property x.0.now x.1.now, x.2.now)) result ≡ property_at octets.now }
 {

@@ -17,7 +17,7 @@ pub struct Heard {
     pub refused: bool,
 }
 
-/// The options of a side without security, or of a PLAIN server that accepts one login.
+// The options of a side without security, or of a PLAIN server that accepts one login.
 fn options(alloc: Global, kind: Kind, login: Option<Login>) -> Result<EngineOpts, AllocError>
     ensures { IfOk result (λ opts. opts ≡ hear_opts kind login) }
 {

@@ -25,7 +25,7 @@ impl FailingCalls {
         FailingCalls { fails, made: 0 }
     }
 
-    // Counts one more call, and says whether it fails.
+    /// Counts one more call, and says whether it fails.
     pub fn next_fails(&mut self) -> bool
         ensures fails { IsTrue result ↔ FailsNext self.old }
         ensures next { self.new ≡ after_call self.old }

@@ -27,7 +27,7 @@ impl Pieces {
         Pieces { sizes, at: 0 }
     }
 
-    // How many octets the next call moves at most, where there is room for so many.
+    /// How many octets the next call moves at most, where there is room for so many.
     pub fn next(&mut self, room: usize) -> usize
         requires { 0 < room }
         ensures value { result ≡ piece_size self.old room }

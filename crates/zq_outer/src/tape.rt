@@ -32,7 +32,7 @@ impl Tape {
         self.at == self.octets.len()
     }
 
-    // Moves the next octets to the front of the buffer, so many at most.
+    /// Moves the next octets to the front of the buffer, so many at most.
     pub fn give(&mut self, buf: &mut [u8], most: usize) -> usize
         requires { most ≤ length buf.old }
         ensures count { result ≡ min most (length self.old) }

@@ -48,52 +48,86 @@ fn name(alloc: Global) -> Result<Endpoint, AllocError> {
     Ok(Endpoint::Inproc(Octets::of_slice(alloc, b"a")?))
 }
 
-#[test]
-fn a_socket_is_made(rt: HostRuntime) -> Result<(), Fail> {
-    let alloc = rt.alloc();
+// Whether a socket is made under the root, and a mailbox for it.
+fn makes_a_socket(alloc: Global) -> Result<bool, AllocError> {
     let mut state: State<u8> = State::new(alloc, 1)?;
     let socket = state.make(alloc, ROOT, made(alloc, PAIR, SlotId(2), false))?;
     let slot = state.add_box(alloc, 4)?;
-    assert_eq!(rt; (socket, slot), (ObjId(1), SlotId(2)));
-    assert_eq!(rt; (state.live(), state.root()), (2, ObjState::Live));
+    let is_made = socket == ObjId(1) && slot == SlotId(2);
+    Ok(is_made && state.live() == 2 && state.root() == ObjState::Live)
+}
+
+#[test]
+fn a_socket_is_made(rt: HostRuntime) -> Result<(), Fail> {
+    assert!(rt; makes_a_socket(rt.alloc())?);
     Ok(())
+}
+
+// Whether a pair is drawn behind the blank one.
+fn draws(alloc: Global) -> Result<bool, AllocError> {
+    let mut state: State<u8> = State::new(alloc, 0)?;
+    let pair = state.draw(ROOT, ROOT)?;
+    Ok(pair == PairId(1) && state.pairs() == 2)
+}
+
+// Keeps room for ends and holds of the root.
+fn keep_room(alloc: Global) -> Result<(), AllocError> {
+    let mut state: State<u8> = State::new(alloc, 0)?;
+    state.reserve_ends(ROOT, 2)?;
+    state.reserve_holds(ROOT, 1)
+}
+
+// Keeps room in the root's mailbox.
+fn keep_letters(alloc: Global) -> Result<(), AllocError> {
+    let mut state: State<u8> = State::new(alloc, 0)?;
+    state.reserve(SlotId(0), 4)
 }
 
 #[test]
 fn room_is_kept_for_a_pair(rt: HostRuntime) -> Result<(), Fail> {
-    let alloc = rt.alloc();
-    let mut state: State<u8> = State::new(alloc, 0)?;
-    let pair = state.draw(ROOT, ROOT)?;
-    state.reserve_ends(ROOT, 2)?;
-    state.reserve_holds(ROOT, 1)?;
-    state.reserve(SlotId(0), 4)?;
-    assert_eq!(rt; (pair, state.pairs()), (PairId(1), 2));
+    keep_room(rt.alloc())?;
+    keep_letters(rt.alloc())?;
+    assert!(rt; draws(rt.alloc())?);
     Ok(())
+}
+
+/// The socket that holds a name.
+const HOLDER: Binding = Binding {
+    holder: ObjId(1),
+    kind: Kind::Pair,
+};
+
+// Whether a socket holds a name, for which no connect waits.
+fn is_held(alloc: Global, state: &mut State<u8>, at: &Endpoint) -> bool {
+    let held = state.hold_name(alloc, at, HOLDER).is_ok();
+    held && state.find(at) == Some(HOLDER) && state.count_waiting(at, HOLDER) == 0
+}
+
+// Whether a connect waits for it.
+fn is_waited_for(alloc: Global, state: &mut State<u8>, at: &Endpoint) -> Result<bool, AllocError> {
+    state.wait_for(alloc, at, ObjId(2), Kind::Pair)?;
+    let waiters = state.waiting(alloc, at, HOLDER)?;
+    Ok(waiters.as_slice() == [ObjId(2)].as_slice() && state.count_waiting(at, HOLDER) == 1)
+}
+
+// Whether the connect is taken out, and the name dropped.
+fn is_let_go(state: &mut State<u8>, at: &Endpoint) -> bool {
+    state.take_waiting(at, HOLDER);
+    let is_taken = state.count_waiting(at, HOLDER) == 0;
+    state.drop_names(ObjId(1));
+    is_taken && state.find(at).is_none()
 }
 
 #[test]
 fn a_name_is_held_and_waited_for(rt: HostRuntime) -> Result<(), Fail> {
-    let alloc = rt.alloc();
-    let mut state: State<u8> = State::new(alloc, 0)?;
-    let at = name(alloc)?;
-    let binding = Binding {
-        holder: ObjId(1),
-        kind: Kind::Pair,
-    };
-    assert!(rt; state.hold_name(alloc, &at, binding).is_ok());
-    assert_eq!(rt; state.find(&at), Some(binding));
-    state.wait_for(alloc, &at, ObjId(2), Kind::Pair)?;
-    assert_eq!(rt; state.count_waiting(&at, binding), 1);
-    let waiters = state.waiting(alloc, &at, binding)?;
-    assert_eq!(rt; waiters.as_slice(), [ObjId(2)].as_slice());
-    state.take_waiting(&at, binding);
-    assert_eq!(rt; state.count_waiting(&at, binding), 0);
-    state.drop_names(ObjId(1));
-    assert_eq!(rt; state.find(&at), None);
+    let at = name(rt.alloc())?;
+    let mut state: State<u8> = State::new(rt.alloc(), 0)?;
+    assert!(rt; is_held(rt.alloc(), &mut state, &at));
+    assert!(rt; is_waited_for(rt.alloc(), &mut state, &at)? && is_let_go(&mut state, &at));
     Ok(())
 }
 
-/// Whether an object has used its asking to end and its Stop.
+// Whether an object has used its asking to end and its Stop.
 fn is_over(state: &State<u8>, id: ObjId) -> bool {
     match (state.row(id), state.detail(id)) {
         (Some(row), Some(detail)) => row.request == Use::Used && detail.stop == Use::Used,
@@ -113,23 +147,21 @@ fn what_comes_for_a_socket_is_seen(rt: HostRuntime) -> Result<(), Fail> {
     Ok(())
 }
 
-/// Whether the ends of a pair are here so, and struck so: first end a, then end b.
-fn stands(state: &State<u8>, pair: PairId, here: [bool; 2], struck: [bool; 2]) -> bool {
-    let (near, far) = (EndId { pair, a: true }, EndId { pair, a: false });
-    let is_here = [state.is_here(near), state.is_here(far)];
-    is_here == here && [state.is_struck(near), state.is_struck(far)] == struck
+// Whether an end is here so, and struck so.
+fn stands(state: &State<u8>, e: EndId, here: bool, struck: bool) -> bool {
+    state.is_here(e) == here && state.is_struck(e) == struck
 }
 
 #[test]
 fn a_pair_is_made_end_by_end(rt: HostRuntime) -> Result<(), Fail> {
-    let alloc = rt.alloc();
-    let mut state: State<u8> = State::new(alloc, 0)?;
+    let mut state: State<u8> = State::new(rt.alloc(), 0)?;
     let pair = state.draw(ROOT, ROOT)?;
+    let (near, far) = (EndId { pair, a: true }, EndId { pair, a: false });
     state.reserve_ends(ROOT, 2)?;
-    state.open(EndId { pair, a: true });
-    state.strike(EndId { pair, a: false });
-    assert!(rt; stands(&state, pair, [true, false], [false, true]));
-    state.bind(EndId { pair, a: false });
-    assert!(rt; stands(&state, pair, [true, true], [false, true]));
+    state.open(near);
+    state.strike(far);
+    assert!(rt; stands(&state, near, true, false) && stands(&state, far, false, true));
+    state.bind(far);
+    assert!(rt; stands(&state, near, true, false) && stands(&state, far, true, true));
     Ok(())
 }

@@ -1,10 +1,11 @@
 use mailbox::Mailbox;
+use std::alloc::{AllocError, Global};
 use std::test::Fail;
 
-#[test]
-fn commands_come_out_in_the_order_sent(rt: HostRuntime) -> Result<(), Fail> {
-    let mut mailbox = Mailbox::new(rt.alloc());
-    assert!(rt; mailbox.is_empty());
+// Whether commands come out in the order in which they were sent.
+fn keeps_order(alloc: Global) -> Result<bool, AllocError> {
+    let mut mailbox: Mailbox<u8> = Mailbox::new(alloc);
+    let begins = mailbox.is_empty();
     mailbox.reserve(2)?;
     mailbox.reserve(1)?;
     mailbox.send(7);
@@ -16,28 +17,36 @@ fn commands_come_out_in_the_order_sent(rt: HostRuntime) -> Result<(), Fail> {
         mailbox.take_front(),
         mailbox.take_front(),
     ];
-    assert_eq!(rt; first, Some(7));
-    assert_eq!(rt; rest, [Some(8), Some(9), None]);
-    assert_eq!(rt; mailbox.len(), 0);
-    assert_eq!(rt; mailbox.spare(), 0);
+    let is_over = mailbox.len() == 0 && mailbox.spare() == 0;
+    Ok(begins && first == Some(7) && rest == [Some(8), Some(9), None] && is_over)
+}
+
+#[test]
+fn commands_come_out_in_the_order_sent(rt: HostRuntime) -> Result<(), Fail> {
+    assert!(rt; keeps_order(rt.alloc())?);
     Ok(())
+}
+
+// Whether a command that is put back is the first again, and took no further room.
+fn takes_back(alloc: Global) -> Result<bool, AllocError> {
+    let mut mailbox: Mailbox<u8> = Mailbox::new(alloc);
+    mailbox.reserve(4)?;
+    mailbox.send(7);
+    mailbox.send(8);
+    let before = mailbox.front() == Some(&7);
+    let Some(first) = mailbox.take_front() else {
+        return Ok(false);
+    };
+    mailbox.send(9);
+    mailbox.put_back(first);
+    let room = mailbox.len() == 3 && mailbox.spare() == 1;
+    let behind = mailbox.front() == Some(&7);
+    mailbox.release(1);
+    Ok(before && room && behind && mailbox.spare() == 0)
 }
 
 #[test]
 fn a_command_goes_back_into_its_place(rt: HostRuntime) -> Result<(), Fail> {
-    let mut mailbox = Mailbox::new(rt.alloc());
-    mailbox.reserve(4)?;
-    mailbox.send(7);
-    mailbox.send(8);
-    assert_eq!(rt; mailbox.front(), Some(&7));
-    let Some(first) = mailbox.take_front() else {
-        return Err("a command".into());
-    };
-    mailbox.send(9);
-    mailbox.put_back(first);
-    assert_eq!(rt; (mailbox.len(), mailbox.spare()), (3, 1));
-    assert_eq!(rt; mailbox.front(), Some(&7));
-    mailbox.release(1);
-    assert_eq!(rt; mailbox.spare(), 0);
+    assert!(rt; takes_back(rt.alloc())?);
     Ok(())
 }

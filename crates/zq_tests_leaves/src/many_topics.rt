@@ -5,7 +5,7 @@ use std::alloc::{AllocError, Global};
 use std::test::Fail;
 use sub_table::{Added, Topics};
 
-/// Adds a number as a topic of peer 0.
+// Adds a number as a topic of peer 0.
 fn add_number(alloc: Global, topics: &mut Topics, number: u32) -> Result<Added, AllocError>
     requires { is_some (lookup (nat_eq 0) topics.old) ≡ true }
     ensures { is_some (lookup (nat_eq 0) topics.new) ≡ true }
@@ -21,8 +21,8 @@ fn a_peer_has_65_536_topics_and_no_more(rt: HostRuntime) -> Result<(), Fail> {
     for number in 0..65_536 {
         assert!(rt; add_number(alloc, &mut topics, number)? != Added::Ignored);
     }
-    assert_eq!(rt; add_number(alloc, &mut topics, 65_536)?, Added::Ignored);
-    assert_eq!(rt; add_number(alloc, &mut topics, 9)?, Added::Known);
-    assert_eq!(rt; topics.count(0), 65_536);
+    assert!(rt; add_number(alloc, &mut topics, 65_536)? == Added::Ignored);
+    assert!(rt; add_number(alloc, &mut topics, 9)? == Added::Known);
+    assert!(rt; topics.count(0) == 65_536);
     Ok(())
 }

@@ -8,7 +8,7 @@ use zq_base::{Kind, ObjId, SlotId};
 
 const ROOT: ObjId = ObjId(0);
 
-/// Whether the child ends; its owner then processes the acknowledgement.
+// Whether the child ends; its owner then processes the acknowledgement.
 fn ends(tree: &mut OwnTree, owner: ObjId, child: ObjId) -> bool
     requires two { owner ≢ child }
     requires owner { state_at tree.old owner ≢ HasEnded }
@@ -30,10 +30,10 @@ fn a_root_ends_after_its_socket(rt: HostRuntime) -> Result<(), Fail> {
     let socket = tree.make(alloc, ROOT, ObjKind::Socket(Kind::Pull), SlotId(1), false)?;
     tree.ask(ROOT);
     tree.tell(ROOT, socket);
-    assert_eq!(rt; tree.try_end(ROOT), Ending::Owes(1));
+    assert!(rt; tree.try_end(ROOT) == Ending::Owes(1));
     tree.ask(socket);
     assert!(rt; ends(&mut tree, ROOT, socket));
-    assert_eq!(rt; tree.try_end(ROOT), Ending::Ended);
-    assert_eq!(rt; tree.live(), 0);
+    assert!(rt; tree.try_end(ROOT) == Ending::Ended);
+    assert!(rt; tree.live() == 0);
     Ok(())
 }

@@ -1,4 +1,4 @@
-use std::alloc::Global;
+use std::alloc::{AllocError, Global};
 use std::test::Fail;
 use zq_base::{Address, Octets, Seq};
 use zq_outer::{
@@ -16,22 +16,32 @@ const ELSEWHERE: Address = Address {
     port: 5556,
 };
 
-/// The answer of one read, and the octets that it gave.
-fn heard<L: Link>(alloc: Global, link: &mut L) -> Result<(LinkGot, Vec<u8>), Fail> {
+// Whether one read gives these octets, at most 8.
+fn reads<L: Link>(link: &mut L, octets: &[u8]) -> bool {
     let mut buf = [0; 8];
-    let got = link.read(&mut buf);
-    let count = match got {
-        LinkGot::Bytes(count) => count.min(8),
-        _ => 0,
-    };
-    Ok((got, Vec::from_slice(alloc, &buf[..count])?))
+    link.read(&mut buf) == LinkGot::Bytes(octets.len()) && buf.as_slice().starts_with(octets)
 }
 
-fn plan(alloc: Global, fails: &[PlannedCall], stalls: &[PlannedCall]) -> Result<Plan, Fail> {
+// Whether a read isn't ready.
+fn stalls<L: Link>(link: &mut L) -> bool {
+    link.read(&mut [0; 8]) == LinkGot::NotReady
+}
+
+// Whether a read tells that the link has ended.
+fn has_ended<L: Link>(link: &mut L) -> bool {
+    link.read(&mut [0; 8]) == LinkGot::Ended
+}
+
+fn plan(
+    alloc: Global,
+    fails: &[PlannedCall],
+    stalls: &[PlannedCall],
+    cuts: &[Cut],
+) -> Result<Plan, AllocError> {
     Ok(Plan {
         fails: Seq::of_vec(Vec::from_slice(alloc, fails)?),
         stalls: Seq::of_vec(Vec::from_slice(alloc, stalls)?),
-        cuts: Seq::new(alloc),
+        cuts: Seq::of_vec(Vec::from_slice(alloc, cuts)?),
         peers: Seq::new(alloc),
     })
 }
@@ -40,6 +50,7 @@ fn call(kind: CallKind, number: u64) -> PlannedCall {
     PlannedCall { kind, number }
 }
 
+// Both ends of a dial that is accepted.
 fn linked<H: Host>(host: &mut H) -> Option<(H::L, H::L)> {
     let Dialled::Linked(near) = host.connect(2, &AT) else {
         return None;
@@ -50,40 +61,42 @@ fn linked<H: Host>(host: &mut H) -> Option<(H::L, H::L)> {
     Some((near, far))
 }
 
+// Whether 5 octets fit, of which 3 go at once.
+fn takes_what_fits<L: Link>(near: &mut L) -> bool {
+    let first = near.write(b"abcdefg") == LinkPut::Took(3);
+    let second = near.write(b"defg") == LinkPut::Took(2);
+    first && second && near.write(b"fg") == LinkPut::NotReady
+}
+
+// Whether what is read makes room for more.
+fn has_room_behind_a_read<L: Link>(near: &mut L, far: &mut L) -> bool {
+    reads(far, b"abc") && near.write(b"fg") == LinkPut::Took(2)
+}
+
+// Whether a link whose other end is gone gives what was written, and then has ended.
+fn gives_the_rest<L: Link>(far: &mut L) -> bool {
+    let is_gone = far.write(b"x") == LinkPut::Ended;
+    is_gone && reads(far, b"def") && reads(far, b"g") && has_ended(far)
+}
+
 #[test]
 fn one_end_reads_what_the_other_wrote(rt: HostRuntime) -> Result<(), Fail> {
     let (mut near, mut far) = MemLink::pair(rt.alloc(), 5, 3)?;
     MemLink::tell(&mut far, &mut near);
-    assert_eq!(rt; near.write(b"abcdefg"), LinkPut::Took(3));
-    assert_eq!(rt; near.write(b"defg"), LinkPut::Took(2));
-    assert_eq!(rt; near.write(b"fg"), LinkPut::NotReady);
-    let (got, octets) = heard(rt.alloc(), &mut far)?;
-    assert_eq!(rt; got, LinkGot::Bytes(3));
-    assert_eq!(rt; octets.as_slice(), b"abc".as_slice());
-    assert_eq!(rt; near.write(b"fg"), LinkPut::Took(2));
-    // What is written before an end is dropped is read, and then the link has ended.
+    assert!(rt; takes_what_fits(&mut near));
+    assert!(rt; has_room_behind_a_read(&mut near, &mut far));
     drop(near);
-    assert_eq!(rt; far.write(b"x"), LinkPut::Ended);
-    assert_eq!(rt;
-        heard(rt.alloc(), &mut far)?.1.as_slice(),
-        b"def".as_slice()
-    );
-    assert_eq!(rt; heard(rt.alloc(), &mut far)?.1.as_slice(), b"g".as_slice());
-    assert_eq!(rt; heard(rt.alloc(), &mut far)?.0, LinkGot::Ended);
+    assert!(rt; gives_the_rest(&mut far));
     Ok(())
 }
 
-/// The answers of two reads, and the octets that both gave.
-fn two_reads<L: Link>(alloc: Global, link: &mut L) -> Result<(LinkGot, LinkGot, Vec<u8>), Fail> {
-    let (first, mut octets) = heard(alloc, link)?;
-    let (second, more) = heard(alloc, link)?;
-    for octet in &more {
-        octets.push(*octet)?;
-    }
-    Ok((first, second, octets))
+// Whether a host's first listen fails, and its second does not.
+fn listens_at_last<H: Host>(host: &mut H) -> bool {
+    let first = host.listen(1, &AT) == Listened::Failed;
+    first && host.listen(1, &AT) == Listened::Listening
 }
 
-/// Whether of three dials the first isn't ready and the others fail.
+// Whether of three dials the first isn't ready and the others fail.
 fn dials_stall_and_fail<H: Host>(host: &mut H) -> bool {
     let first = matches!(host.connect(2, &AT), Dialled::NotReady);
     let second = matches!(host.connect(2, &AT), Dialled::Failed);
@@ -91,135 +104,158 @@ fn dials_stall_and_fail<H: Host>(host: &mut H) -> bool {
     first && second && third
 }
 
-/// Whether an accept isn't ready.
+// Whether an accept isn't ready.
 fn nobody_dials<H: Host>(host: &mut H) -> bool {
     matches!(host.accept(1), Dialled::NotReady)
 }
 
-/// A host of this plan that listens.
-fn listening(alloc: Global, plan: Plan) -> Result<MemHost, Fail> {
-    let mut host = MemHost::make(alloc, plan, 8)?;
-    match host.listen(1, &AT) {
-        Listened::Listening => Ok(host),
-        _ => Err("a listener".into()),
-    }
-}
-
-/// The first link of a host, both its ends.
-fn one_link<H: Host>(host: &mut H) -> Result<(H::L, H::L), Fail> {
-    match linked(host) {
-        Some(ends) => Ok(ends),
-        None => Err("a link".into()),
-    }
+// Whether a dial is accepted, and no other one.
+fn links_once<H: Host>(host: &mut H) -> bool {
+    linked(host).is_some() && nobody_dials(host)
 }
 
 #[test]
 fn a_host_fails_and_stalls_by_its_calls_numbers(rt: HostRuntime) -> Result<(), Fail> {
     let fails = [call(CallKind::Listen, 1), call(CallKind::Connect, 2)];
     let stalls = [call(CallKind::Connect, 1), call(CallKind::Accept, 1)];
-    let plan = plan(rt.alloc(), &fails, &stalls)?;
+    let plan = plan(rt.alloc(), &fails, &stalls, &[])?;
     let mut host = MemHost::make(rt.alloc(), plan, 8)?;
-    assert_eq!(rt; host.listen(1, &AT), Listened::Failed);
-    assert_eq!(rt; host.listen(1, &AT), Listened::Listening);
-    assert!(rt; dials_stall_and_fail(&mut host));
-    assert!(rt; nobody_dials(&mut host));
-    assert!(rt; linked(&mut host).is_some());
-    assert!(rt; nobody_dials(&mut host));
+    assert!(rt; listens_at_last(&mut host) && dials_stall_and_fail(&mut host));
+    assert!(rt; nobody_dials(&mut host) && links_once(&mut host));
     Ok(())
+}
+
+// Whether a host listens at once.
+fn listens<H: Host>(host: &mut H) -> bool {
+    host.listen(1, &AT) == Listened::Listening
+}
+
+// Whether the second write of a link fails, and the second read and its first one stall.
+fn ends_fail_and_stall<L: Link>(near: &mut L, far: &mut L) -> bool {
+    let written = near.write(b"ab") == LinkPut::Took(2) && far.write(b"cd") == LinkPut::Failed;
+    written && stalls(near) && stalls(far) && reads(far, b"ab")
+}
+
+// The same of the first link of a host.
+fn links_fail_and_stall<H: Host>(host: &mut H) -> bool {
+    match linked(host) {
+        Some((mut near, mut far)) => ends_fail_and_stall(&mut near, &mut far),
+        None => false,
+    }
 }
 
 #[test]
 fn links_fail_and_stall_by_their_calls_numbers(rt: HostRuntime) -> Result<(), Fail> {
     let fails = [call(CallKind::Write, 2)];
-    let stalls = [call(CallKind::Read, 2)];
-    let plan = plan(rt.alloc(), &fails, &stalls)?;
-    let mut host = listening(rt.alloc(), plan)?;
-    let (mut near, mut far) = one_link(&mut host)?;
-    let written = (near.write(b"ab"), far.write(b"cd"));
-    assert_eq!(rt; written, (LinkPut::Took(2), LinkPut::Failed));
-    assert_eq!(rt; heard(rt.alloc(), &mut near)?.0, LinkGot::NotReady);
-    let (first, second, octets) = two_reads(rt.alloc(), &mut far)?;
-    assert_eq!(rt; (first, second), (LinkGot::NotReady, LinkGot::Bytes(2)));
-    assert_eq!(rt; octets.as_slice(), b"ab".as_slice());
+    let plan = plan(rt.alloc(), &fails, &[call(CallKind::Read, 2)], &[])?;
+    let mut host = MemHost::make(rt.alloc(), plan, 8)?;
+    assert!(rt; listens(&mut host) && links_fail_and_stall(&mut host));
     Ok(())
+}
+
+// Whether a link is cut behind 4 octets, for both sides.
+fn is_cut<L: Link>(near: &mut L, far: &mut L) -> bool {
+    let written = near.write(b"abcdef") == LinkPut::Took(4);
+    let is_over = near.write(b"ef") == LinkPut::Ended && has_ended(near);
+    written && is_over && reads(far, b"abcd") && has_ended(far) && far.write(b"z") == LinkPut::Ended
+}
+
+// Whether the next link of a host is cut.
+fn next_is_cut<H: Host>(host: &mut H) -> bool {
+    match linked(host) {
+        Some((mut near, mut far)) => is_cut(&mut near, &mut far),
+        None => false,
+    }
+}
+
+// Whether a host's first link is whole and the second is cut.
+fn second_is_cut<H: Host>(host: &mut H) -> bool {
+    match linked(host) {
+        Some((mut whole, _far)) => {
+            next_is_cut(host) && whole.write(b"abcdef") == LinkPut::Took(6)
+        }
+        None => false,
+    }
 }
 
 #[test]
 fn a_cut_link_ends_for_both_sides(rt: HostRuntime) -> Result<(), Fail> {
-    let mut plan = plan(rt.alloc(), &[], &[])?;
-    plan.cuts = Seq::of_vec(Vec::from_slice(rt.alloc(), &[Cut { link: 2, octets: 4 }])?);
-    let mut host = listening(rt.alloc(), plan)?;
-    let (mut whole, _far) = one_link(&mut host)?;
-    let (mut near, mut far) = one_link(&mut host)?;
-    assert_eq!(rt; whole.write(b"abcdef"), LinkPut::Took(6));
-    let written = (near.write(b"abcdef"), near.write(b"ef"));
-    assert_eq!(rt; written, (LinkPut::Took(4), LinkPut::Ended));
-    assert_eq!(rt; heard(rt.alloc(), &mut near)?.0, LinkGot::Ended);
-    let (first, second, octets) = two_reads(rt.alloc(), &mut far)?;
-    assert_eq!(rt; (first, second), (LinkGot::Bytes(4), LinkGot::Ended));
-    assert_eq!(rt; octets.as_slice(), b"abcd".as_slice());
-    assert_eq!(rt; far.write(b"z"), LinkPut::Ended);
+    let plan = plan(rt.alloc(), &[], &[], &[Cut { link: 2, octets: 4 }])?;
+    let mut host = MemHost::make(rt.alloc(), plan, 8)?;
+    assert!(rt; listens(&mut host) && second_is_cut(&mut host));
     Ok(())
 }
 
-/// A plan of one peer, which says `ab` behind two reads and `c` at the next.
-fn one_peer(alloc: Global) -> Result<Plan, Fail> {
-    let first = Octets::of_slice(alloc, b"ab")?;
-    let second = Octets::of_slice(alloc, b"c")?;
-    let pieces = [
-        Piece {
-            stalls: 2,
-            octets: first,
-        },
-        Piece {
-            stalls: 0,
-            octets: second,
-        },
-    ];
+fn piece(alloc: Global, stalls: u64, octets: &[u8]) -> Result<Piece, AllocError> {
+    let octets = Octets::of_slice(alloc, octets)?;
+    Ok(Piece { stalls, octets })
+}
+
+// A peer which says `ab` behind two reads and `c` at the next.
+fn peer(alloc: Global) -> Result<MemPeer, AllocError> {
+    let pieces = [piece(alloc, 2, b"ab")?, piece(alloc, 0, b"c")?];
     let pieces = Seq::of_vec(Vec::from_array(alloc, pieces)?);
-    let peers = Vec::from_array(alloc, [MemPeer { at: AT, pieces }])?;
-    let mut plan = plan(alloc, &[], &[])?;
-    plan.peers = Seq::of_vec(peers);
-    Ok(plan)
+    Ok(MemPeer { at: AT, pieces })
+}
+
+// A plan of that peer.
+fn one_peer(alloc: Global) -> Result<Plan, AllocError> {
+    let peers = Vec::from_array(alloc, [peer(alloc)?])?;
+    Ok(Plan {
+        fails: Seq::new(alloc),
+        stalls: Seq::new(alloc),
+        cuts: Seq::new(alloc),
+        peers: Seq::of_vec(peers),
+    })
+}
+
+// Whether a link hears the peer's pieces.
+fn hears_the_peer<L: Link>(link: &mut L) -> bool {
+    stalls(link) && stalls(link) && reads(link, b"ab") && reads(link, b"c")
+}
+
+// Whether the first peer of a host reads what was written to it.
+fn is_written_to(host: &mut MemHost) -> bool {
+    match host.far_end(0) {
+        Some(peer) => reads(peer, b"hello"),
+        None => false,
+    }
+}
+
+// Whether the one peer of a host is dialled once, is heard, and hears.
+fn talks_with_the_peer(host: &mut MemHost) -> bool {
+    let Dialled::Linked(mut link) = host.connect(2, &AT) else {
+        return false;
+    };
+    let is_used_up = matches!(host.connect(2, &AT), Dialled::Failed);
+    let heard = hears_the_peer(&mut link) && link.write(b"hello") == LinkPut::Took(5);
+    is_used_up && heard && is_written_to(host)
 }
 
 #[test]
 fn a_peer_speaks_piece_by_piece(rt: HostRuntime) -> Result<(), Fail> {
-    let plan = one_peer(rt.alloc())?;
-    let mut host = MemHost::make(rt.alloc(), plan, 8)?;
-    let Dialled::Linked(mut link) = host.connect(2, &AT) else {
-        panic!(rt; "no link");
-    };
-    // The one peer at this address is used up.
-    assert!(rt; matches!(host.connect(2, &AT), Dialled::Failed));
-    let (first, second, _) = two_reads(rt.alloc(), &mut link)?;
-    assert_eq!(rt; (first, second), (LinkGot::NotReady, LinkGot::NotReady));
-    let (_, _, octets) = two_reads(rt.alloc(), &mut link)?;
-    assert_eq!(rt; octets.as_slice(), b"abc".as_slice());
-    assert_eq!(rt; link.write(b"hello"), LinkPut::Took(5));
-    let Some(peer) = host.far_end(0) else {
-        panic!(rt; "no peer");
-    };
-    assert_eq!(rt; heard(rt.alloc(), peer)?.1.as_slice(), b"hello".as_slice());
+    let mut host = MemHost::make(rt.alloc(), one_peer(rt.alloc())?, 8)?;
+    assert!(rt; talks_with_the_peer(&mut host));
     Ok(())
 }
 
+// Whether a link takes all that is written, and gives these octets over and over.
+fn gives_over_and_over<L: Link>(near: &mut L) -> bool {
+    let written = near.write(b"hello") == LinkPut::Took(5);
+    let read = near.read(&mut [0; 2]) == LinkGot::Bytes(2);
+    written && read && reads(near, b"cde") && reads(near, b"abcde")
+}
+
+// The same of the first link of a host.
+fn is_sure<H: Host>(host: &mut H) -> bool {
+    match linked(host) {
+        Some((mut near, _far)) => gives_over_and_over(&mut near),
+        None => false,
+    }
+}
+
 #[test]
-fn a_sure_link_gives_its_octets_over_and_over(rt: HostRuntime) -> Result<(), Fail> {
+fn a_sure_link_gives_its_octets_over_and_over(rt: HostRuntime) {
     let mut host = SureHost::new(b"abcde");
-    assert_eq!(rt; host.listen(1, &AT), Listened::Listening);
-    let Some((mut near, _far)) = linked(&mut host) else {
-        panic!(rt; "no link");
-    };
-    assert_eq!(rt; near.write(b"hello"), LinkPut::Took(5));
-    assert_eq!(rt; near.read(&mut [0; 2]), LinkGot::Bytes(2));
-    assert_eq!(rt;
-        heard(rt.alloc(), &mut near)?.1.as_slice(),
-        b"cde".as_slice()
-    );
-    assert_eq!(rt;
-        heard(rt.alloc(), &mut near)?.1.as_slice(),
-        b"abcde".as_slice()
-    );
-    Ok(())
+    assert!(rt; listens(&mut host) && is_sure(&mut host));
 }

@@ -1,5 +1,6 @@
 ghost use Rattle.std.specs.Prelude.{◌<◌, length};
 
+use std::alloc::{AllocError, Global};
 use std::io;
 use std::io::{ErrorKind, Read, Write};
 use std::net::{Shutdown, TcpListener, TcpStream};
@@ -9,7 +10,7 @@ use zq_base::Address;
 use zq_net::{NetHost, NetLink};
 use zq_outer::{Dialled, Host, Link, LinkGot, LinkPut, Listened};
 
-/// An address of the loopback, its port asked of the system and let go.
+// An address of the loopback, its port asked of the system and let go.
 fn free_address(rt: &HostRuntime) -> Result<Address, Fail> {
     let asked = TcpListener::bind(rt, "127.0.0.1:0")?;
     address_of(&asked)
@@ -22,7 +23,7 @@ fn address_of(listener: &TcpListener) -> Result<Address, Fail> {
     })
 }
 
-/// The link of a dial, asked for again and again with a rest between.
+// The link of a dial, asked for again and again with a rest between.
 fn dialled<H: Host>(host: &mut H, key: u32, to: &Address) -> Option<H::L> {
     for _ in 0..100 {
         match host.connect(key, to) {
@@ -34,7 +35,7 @@ fn dialled<H: Host>(host: &mut H, key: u32, to: &Address) -> Option<H::L> {
     None
 }
 
-/// The next link of a listener, asked for as above.
+// The next link of a listener, asked for as above.
 fn accepted<H: Host>(host: &mut H, key: u32) -> Option<H::L> {
     for _ in 0..100 {
         match host.accept(key) {
@@ -46,7 +47,7 @@ fn accepted<H: Host>(host: &mut H, key: u32) -> Option<H::L> {
     None
 }
 
-/// The first answer of a read other than NotReady, with a rest between.
+// The first answer of a read other than NotReady, with a rest between.
 fn read_in_time<H: Host>(host: &mut H, link: &mut H::L, buf: &mut [u8; 8]) -> LinkGot {
     for _ in 0..100 {
         let got = link.read(buf);
@@ -58,7 +59,7 @@ fn read_in_time<H: Host>(host: &mut H, link: &mut H::L, buf: &mut [u8; 8]) -> Li
     LinkGot::NotReady
 }
 
-/// A link to a peer of the system's own.
+// A link to a peer of the system's own.
 fn link_and_peer<'r>(
     rt: &'r HostRuntime,
 ) -> Result<(NetHost<'r, HostRuntime>, NetLink, TcpStream), Fail> {
@@ -70,7 +71,7 @@ fn link_and_peer<'r>(
     Ok((host, link, peer))
 }
 
-/// Whether what is written at one end is read at the other.
+// Whether what is written at one end is read at the other.
 fn carries<H: Host>(host: &mut H, from: &mut H::L, to: &mut H::L, said: [u8; 2]) -> bool {
     let mut buf = [0; 8];
     let put = from.write(&said);
@@ -78,7 +79,7 @@ fn carries<H: Host>(host: &mut H, from: &mut H::L, to: &mut H::L, said: [u8; 2])
     put == LinkPut::Took(2) && got == LinkGot::Bytes(2) && &buf[..2] == said.as_slice()
 }
 
-/// Whether each end of a link reads what the other writes.
+// Whether each end of a link reads what the other writes.
 fn carries_both_ways<H: Host>(
     client: &mut H,
     server: &mut H,
@@ -90,11 +91,56 @@ fn carries_both_ways<H: Host>(
     forth && back
 }
 
-/// A link from one host to the other's listener, both its ends.
+// A link from one host to the other's listener, both its ends.
 fn joined<H: Host>(client: &mut H, server: &mut H, key: u32, at: &Address) -> Option<(H::L, H::L)> {
     let near = dialled(client, key, at)?;
     let far = accepted(server, 1)?;
     Some((near, far))
+}
+
+// Links from one host to the other's listener.
+fn many_links<H: Host>(
+    alloc: Global,
+    client: &mut H,
+    server: &mut H,
+    at: &Address,
+) -> Result<Vec<(H::L, H::L)>, Fail> {
+    let mut links = Vec::new(alloc);
+    for key in 100..300 {
+        match joined(client, server, key, at) {
+            Some(ends) => links.push(ends)?,
+            None => return Err("a link".into()),
+        }
+    }
+    Ok(links)
+}
+
+// Whether each of the links carries both ways.
+fn all_carry<H: Host>(client: &mut H, server: &mut H, links: &mut [(H::L, H::L)]) -> bool {
+    for (number, ends) in (0..200u8).zip(links.iter_mut()) {
+        if !carries_both_ways(client, server, ends, number) {
+            return false;
+        }
+    }
+    true
+}
+
+fn listens<H: Host>(host: &mut H, at: &Address) -> bool {
+    host.listen(1, at) == Listened::Listening
+}
+
+// Whether 200 links to one listener carry both ways.
+fn serves_200<H: Host>(
+    alloc: Global,
+    client: &mut H,
+    server: &mut H,
+    at: &Address,
+) -> Result<bool, Fail> {
+    if !listens(server, at) {
+        return Ok(false);
+    }
+    let mut links = many_links(alloc, client, server, at)?;
+    Ok(links.len() == 200 && all_carry(client, server, &mut links))
 }
 
 #[test]
@@ -102,29 +148,23 @@ fn a_listener_serves_200_links(rt: HostRuntime) -> Result<(), Fail> {
     let at = free_address(&rt)?;
     let mut server = NetHost::new(&rt, rt.alloc())?;
     let mut client = NetHost::new(&rt, rt.alloc())?;
-    assert_eq!(rt; server.listen(1, &at), Listened::Listening);
-    let mut links = Vec::new(rt.alloc());
-    for key in 100..300 {
-        match joined(&mut client, &mut server, key, &at) {
-            Some(ends) => links.push(ends)?,
-            None => return Err("a link".into()),
-        }
-    }
-    for (number, ends) in (0..200u8).zip(links.iter_mut()) {
-        assert!(rt; carries_both_ways(&mut client, &mut server, ends, number));
-    }
+    assert!(rt; serves_200(rt.alloc(), &mut client, &mut server, &at)?);
     Ok(())
+}
+
+// Whether an address has one listener at a time.
+fn has_one_listener<H: Host>(host: &mut H, at: &Address) -> bool {
+    let second = listens(host, at) && host.listen(2, at) == Listened::Failed;
+    let accepted = matches!(host.accept(2), Dialled::Failed);
+    host.forget(1);
+    second && accepted && host.listen(2, at) == Listened::Listening
 }
 
 #[test]
 fn a_second_listener_at_one_address_fails(rt: HostRuntime) -> Result<(), Fail> {
     let at = free_address(&rt)?;
     let mut host = NetHost::new(&rt, rt.alloc())?;
-    assert_eq!(rt; host.listen(1, &at), Listened::Listening);
-    assert_eq!(rt; host.listen(2, &at), Listened::Failed);
-    assert!(rt; matches!(host.accept(2), Dialled::Failed));
-    host.forget(1);
-    assert_eq!(rt; host.listen(2, &at), Listened::Listening);
+    assert!(rt; has_one_listener(&mut host, &at));
     Ok(())
 }
 
@@ -136,74 +176,115 @@ fn a_dial_where_nobody_listens_fails(rt: HostRuntime) -> Result<(), Fail> {
     Ok(())
 }
 
+// The key of the first of 1,000 dials that isn't ready; the links of those before it are kept.
+fn first_waiting<H: Host>(
+    host: &mut H,
+    at: &Address,
+    links: &mut Vec<H::L>,
+) -> Result<Option<u32>, AllocError> {
+    for key in 0..1000 {
+        match host.connect(key, at) {
+            Dialled::Linked(link) => links.push(link)?,
+            Dialled::NotReady => return Ok(Some(key)),
+            Dialled::Failed => return Ok(None),
+        }
+    }
+    Ok(None)
+}
+
+// Whether a dial isn't ready for 100 calls more.
+fn stays_waiting<H: Host>(host: &mut H, key: u32, at: &Address) -> bool {
+    for _ in 0..100 {
+        if !matches!(host.connect(key, at), Dialled::NotReady) {
+            return false;
+        }
+    }
+    host.forget(key);
+    true
+}
+
+// Whether a dial of a listener whose queue is full waits.
+fn waits<H: Host>(alloc: Global, host: &mut H, at: &Address) -> Result<bool, AllocError> {
+    let mut links = Vec::new(alloc);
+    match first_waiting(host, at, &mut links)? {
+        Some(key) => Ok(stays_waiting(host, key, at)),
+        None => Ok(false),
+    }
+}
+
 #[test]
 fn a_dial_that_nobody_answers_isnt_ready(rt: HostRuntime) -> Result<(), Fail> {
     // Nobody accepts here, so that its queue fills up.
     let listener = TcpListener::bind(&rt, "127.0.0.1:0")?;
     let at = address_of(&listener)?;
     let mut host = NetHost::new(&rt, rt.alloc())?;
-    let mut links = Vec::new(rt.alloc());
-    let mut waiting = None;
-    for key in 0..1000 {
-        match host.connect(key, &at) {
-            Dialled::Linked(link) => links.push(link)?,
-            Dialled::NotReady => {
-                waiting = Some(key);
-                break;
-            }
-            Dialled::Failed => break,
-        }
-    }
-    let Some(key) = waiting else {
-        panic!(rt; "each dial was answered");
-    };
-    for _ in 0..100 {
-        assert!(rt; matches!(host.connect(key, &at), Dialled::NotReady));
-    }
-    host.forget(key);
+    assert!(rt; waits(rt.alloc(), &mut host, &at)?);
     Ok(())
+}
+
+// Whether a link ends, for reads and for writes.
+fn ends<H: Host>(host: &mut H, link: &mut H::L) -> bool {
+    let mut buf = [0; 8];
+    let read = read_in_time(host, link, &mut buf) == LinkGot::Ended;
+    let written = link.write(b"abc") == LinkPut::Ended;
+    read && written && link.read(&mut buf) == LinkGot::Ended
+}
+
+// Whether an octet is there, which stays there.
+fn has_octets(peer: &TcpStream) -> io::Result<bool> {
+    Ok(peer.peek(&mut [0; 8])? > 0)
 }
 
 #[test]
 fn a_peer_that_resets_ends_the_link(rt: HostRuntime) -> Result<(), Fail> {
     let (mut host, mut link, peer) = link_and_peer(&rt)?;
-    assert_eq!(rt; link.write(b"abc"), LinkPut::Took(3));
     // A peer that closes with octets unread resets the connection.
-    assert!(rt; peer.peek(&mut [0; 8])? > 0);
+    assert!(rt; link.write(b"abc") == LinkPut::Took(3) && has_octets(&peer)?);
     drop(peer);
-    let mut buf = [0; 8];
-    assert_eq!(rt;
-        read_in_time(&mut host, &mut link, &mut buf),
-        LinkGot::Ended
-    );
-    assert_eq!(rt; link.write(b"abc"), LinkPut::Ended);
-    assert_eq!(rt; link.read(&mut buf), LinkGot::Ended);
+    assert!(rt; ends(&mut host, &mut link));
     Ok(())
+}
+
+// Says `bye` and no more.
+fn say_bye(peer: &mut TcpStream) -> io::Result<()> {
+    peer.write_all(b"bye")?;
+    peer.shutdown(Shutdown::Write)
+}
+
+// Whether `bye` is read, then the end, and the link is still written.
+fn hears_bye<H: Host>(host: &mut H, link: &mut H::L) -> bool {
+    let mut buf = [0; 8];
+    let read = read_in_time(host, link, &mut buf) == LinkGot::Bytes(3);
+    let bye = buf.as_slice().starts_with(b"bye");
+    let ended = read_in_time(host, link, &mut buf) == LinkGot::Ended;
+    read && bye && ended && link.write(b"on") == LinkPut::Took(2)
+}
+
+// Whether `on` is heard.
+fn hears_on<R: Read>(peer: &mut R) -> io::Result<bool> {
+    let mut heard = [0; 2];
+    peer.read_exact(&mut heard)?;
+    Ok(&heard == b"on")
+}
+
+// Whether a peer that says no more still reads.
+fn reads_half_closed<H: Host>(
+    host: &mut H,
+    link: &mut H::L,
+    peer: &mut TcpStream,
+) -> io::Result<bool> {
+    say_bye(peer)?;
+    Ok(hears_bye(host, link) && hears_on(peer)?)
 }
 
 #[test]
 fn a_half_closed_peer_still_reads(rt: HostRuntime) -> Result<(), Fail> {
     let (mut host, mut link, mut peer) = link_and_peer(&rt)?;
-    peer.write_all(b"bye")?;
-    peer.shutdown(Shutdown::Write)?;
-    let mut buf = [0; 8];
-    assert_eq!(rt;
-        read_in_time(&mut host, &mut link, &mut buf),
-        LinkGot::Bytes(3)
-    );
-    assert_eq!(rt; &buf[..3], b"bye".as_slice());
-    assert_eq!(rt;
-        read_in_time(&mut host, &mut link, &mut buf),
-        LinkGot::Ended
-    );
-    assert_eq!(rt; link.write(b"on"), LinkPut::Took(2));
-    let mut heard = [0; 2];
-    peer.read_exact(&mut heard)?;
-    assert_eq!(rt; &heard, b"on");
+    assert!(rt; reads_half_closed(&mut host, &mut link, &mut peer)?);
     Ok(())
 }
 
-/// How many octets a link takes until it isn't ready.
+// How many octets a link takes until it isn't ready.
 fn fill<L: Link>(link: &mut L, piece: &[u8; 4096]) -> u64 {
     let mut taken = 0_u64;
     for _ in 0..100_000 {
@@ -215,7 +296,7 @@ fn fill<L: Link>(link: &mut L, piece: &[u8; 4096]) -> u64 {
     taken
 }
 
-/// Reads so many octets.
+// Reads so many octets.
 fn drain<R: Read>(peer: &mut R, octets: u64) -> io::Result<()> {
     let mut left = octets;
     let mut buf = [0; 4096];
@@ -228,46 +309,93 @@ fn drain<R: Read>(peer: &mut R, octets: u64) -> io::Result<()> {
     Ok(())
 }
 
+// Whether a full link isn't ready until its peer has read.
+fn stalls_until_read<H: Host, R: Read>(
+    host: &mut H,
+    link: &mut H::L,
+    peer: &mut R,
+) -> io::Result<bool> {
+    let piece = [7; 4096];
+    let taken = fill(link, &piece);
+    let stalls = link.write(&piece) == LinkPut::NotReady;
+    drain(peer, taken)?;
+    host.rest(2000);
+    Ok(stalls && link.write(&piece) == LinkPut::Took(4096))
+}
+
 #[test]
 fn a_full_buffer_stalls_until_the_peer_reads(rt: HostRuntime) -> Result<(), Fail> {
     let (mut host, mut link, mut peer) = link_and_peer(&rt)?;
-    let piece = [7; 4096];
-    let taken = fill(&mut link, &piece);
-    assert_eq!(rt; link.write(&piece), LinkPut::NotReady);
-    drain(&mut peer, taken)?;
-    host.rest(2000);
-    assert_eq!(rt; link.write(&piece), LinkPut::Took(4096));
+    assert!(rt; stalls_until_read(&mut host, &mut link, &mut peer)?);
     Ok(())
+}
+
+// Whether nothing is there to be read.
+fn is_idle<L: Link>(link: &mut L) -> bool {
+    link.read(&mut [0; 8]) == LinkGot::NotReady
+}
+
+// Whether one octet is there.
+fn has_one<L: Link>(link: &mut L) -> bool {
+    link.read(&mut [0; 8]) == LinkGot::Bytes(1)
+}
+
+// How long a host rests that may rest so many milliseconds.
+fn rested<H: Host>(rt: &HostRuntime, host: &mut H, ms: u32) -> Result<Duration, Fail> {
+    let begun = Instant::now(rt)?;
+    host.rest(ms);
+    Ok(begun.elapsed(rt)?)
+}
+
+// Whether a rest lasts its time where nothing comes.
+fn rests<H: Host>(rt: &HostRuntime, host: &mut H, link: &mut H::L) -> Result<bool, Fail> {
+    // What the system tells of a new link is taken up.
+    host.rest(0);
+    let before = is_idle(link);
+    let rested = rested(rt, host, 60)?;
+    Ok(before && rested >= Duration::from_millis(60) && is_idle(link))
+}
+
+// Whether a rest ends with what the peer writes.
+fn wakes<H: Host, W: Write>(
+    rt: &HostRuntime,
+    host: &mut H,
+    link: &mut H::L,
+    peer: &mut W,
+) -> Result<bool, Fail> {
+    peer.write_all(b"x")?;
+    let rested = rested(rt, host, 20_000)?;
+    Ok(rested < Duration::from_millis(15_000) && has_one(link))
 }
 
 #[test]
 fn rest_wakes_at_its_time_and_at_readiness(rt: HostRuntime) -> Result<(), Fail> {
     let (mut host, mut link, mut peer) = link_and_peer(&rt)?;
-    let mut buf = [0; 8];
-    // What the system tells of a new link is taken up.
-    host.rest(0);
-    assert_eq!(rt; link.read(&mut buf), LinkGot::NotReady);
-    let begun = Instant::now(&rt)?;
-    host.rest(60);
-    assert!(rt; begun.elapsed(&rt)? >= Duration::from_millis(60));
-    assert_eq!(rt; link.read(&mut buf), LinkGot::NotReady);
-    peer.write_all(b"x")?;
-    let begun = Instant::now(&rt)?;
-    host.rest(20_000);
-    assert!(rt; begun.elapsed(&rt)? < Duration::from_millis(15_000));
-    assert_eq!(rt; link.read(&mut buf), LinkGot::Bytes(1));
+    let rested = rests(&rt, &mut host, &mut link)?;
+    assert!(rt; rested && wakes(&rt, &mut host, &mut link, &mut peer)?);
     Ok(())
+}
+
+// Whether a link with an octet isn't ready for 31 calls, and gives it at the next.
+fn is_left_alone<L: Link>(link: &mut L) -> bool {
+    for _ in 0..31 {
+        if !is_idle(link) {
+            return false;
+        }
+    }
+    has_one(link)
+}
+
+// Whether a link that wasn't ready is asked again in time for what the peer writes.
+fn is_asked_in_time<L: Link, W: Write>(link: &mut L, peer: &mut W) -> io::Result<bool> {
+    let before = is_idle(link);
+    peer.write_all(b"x")?;
+    Ok(before && is_left_alone(link))
 }
 
 #[test]
 fn a_link_that_isnt_ready_is_left_alone_for_31_calls(rt: HostRuntime) -> Result<(), Fail> {
     let (_host, mut link, mut peer) = link_and_peer(&rt)?;
-    let mut buf = [0; 8];
-    assert_eq!(rt; link.read(&mut buf), LinkGot::NotReady);
-    peer.write_all(b"x")?;
-    for _ in 0..31 {
-        assert_eq!(rt; link.read(&mut buf), LinkGot::NotReady);
-    }
-    assert_eq!(rt; link.read(&mut buf), LinkGot::Bytes(1));
+    assert!(rt; is_asked_in_time(&mut link, &mut peer)?);
     Ok(())
 }

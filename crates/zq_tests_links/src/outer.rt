@@ -1,4 +1,4 @@
-use std::alloc::Global;
+use std::alloc::{AllocError, Global};
 use std::test::Fail;
 use zq_base::Address;
 use zq_outer::{
@@ -6,46 +6,42 @@ use zq_outer::{
     NoLink, OpenGate, Put, Sink, Source, SureSink, SureSource, TickClock,
 };
 
-/// What a reader of four octets at a time is told, and what it was given.
-fn read_on<S: Source>(
-    alloc: Global,
-    source: &mut S,
-    calls: u32,
-) -> Result<(Vec<Got>, Vec<u8>), Fail> {
-    let mut answers = Vec::new(alloc);
-    let mut octets = Vec::new(alloc);
-    for _ in 0..calls {
+// Whether a reader of four octets at a time is told and given these, in turn.
+fn gives<S: Source>(source: &mut S, answers: &[(Got, &[u8])]) -> bool {
+    for (got, octets) in answers {
         let mut buf = [0; 4];
-        let got = source.read(&mut buf);
-        answers.push(got)?;
-        if let Got::Bytes(n) = got {
-            octets.extend_from_slice(&buf[..n.min(4)])?;
+        if source.read(&mut buf) != *got || !buf.as_slice().starts_with(octets) {
+            return false;
         }
     }
-    Ok((answers, octets))
+    true
+}
+
+fn source(
+    alloc: Global,
+    octets: &[u8],
+    fails: &[u64],
+    sizes: &[usize],
+) -> Result<MemSource, AllocError> {
+    let octets = Vec::from_slice(alloc, octets)?;
+    let fails = Vec::from_slice(alloc, fails)?;
+    let sizes = Vec::from_slice(alloc, sizes)?;
+    Ok(MemSource::new(octets, fails, sizes))
 }
 
 #[test]
 fn a_source_moves_octets_by_its_plan(rt: HostRuntime) -> Result<(), Fail> {
-    let octets = Vec::from_slice(rt.alloc(), b"abcdefgh")?;
-    let fails = Vec::from_slice(rt.alloc(), &[2, 6])?;
-    let sizes = Vec::from_slice(rt.alloc(), &[1, 9, 3])?;
-    let mut source = MemSource::new(octets, fails, sizes);
-    let (answers, read) = read_on(rt.alloc(), &mut source, 7)?;
-    assert_eq!(rt;
-        answers.as_slice(),
-        [
-            Got::Bytes(1),
-            Got::Failed,
-            Got::Bytes(3),
-            Got::Bytes(3),
-            Got::Bytes(1),
-            Got::Failed,
-            Got::End,
-        ]
-        .as_slice()
-    );
-    assert_eq!(rt; read.as_slice(), b"abcdefgh".as_slice());
+    let mut source = source(rt.alloc(), b"abcdefgh", &[2, 6], &[1, 9, 3])?;
+    let answers: [(Got, &[u8]); 7] = [
+        (Got::Bytes(1), b"a"),
+        (Got::Failed, b""),
+        (Got::Bytes(3), b"bcd"),
+        (Got::Bytes(3), b"efg"),
+        (Got::Bytes(1), b"h"),
+        (Got::Failed, b""),
+        (Got::End, b""),
+    ];
+    assert!(rt; gives(&mut source, &answers));
     Ok(())
 }
 
@@ -53,40 +49,57 @@ fn a_source_moves_octets_by_its_plan(rt: HostRuntime) -> Result<(), Fail> {
 fn a_sure_source_gives_all_that_fits_and_ends(rt: HostRuntime) -> Result<(), Fail> {
     let octets = Vec::from_slice(rt.alloc(), b"abcdef")?;
     let mut source = SureSource::new(octets, Vec::new(rt.alloc()));
-    let (answers, read) = read_on(rt.alloc(), &mut source, 4)?;
-    let want = [Got::Bytes(4), Got::Bytes(2), Got::End, Got::End];
-    assert_eq!(rt; answers.as_slice(), want.as_slice());
-    assert_eq!(rt; read.as_slice(), b"abcdef".as_slice());
+    let answers: [(Got, &[u8]); 4] = [
+        (Got::Bytes(4), b"abcd"),
+        (Got::Bytes(2), b"ef"),
+        (Got::End, b""),
+        (Got::End, b""),
+    ];
+    assert!(rt; gives(&mut source, &answers));
     Ok(())
 }
 
-fn write_on<K: Sink>(alloc: Global, sink: &mut K, pieces: &[&[u8]]) -> Result<Vec<Put>, Fail> {
-    let mut answers = Vec::new(alloc);
-    for piece in pieces {
-        if !piece.is_empty() {
-            answers.push(sink.write(piece))?;
+// Whether a sink answers so to these pieces, in turn.
+fn takes<K: Sink>(sink: &mut K, answers: &[(&[u8], Put)]) -> bool {
+    for (piece, put) in answers {
+        if piece.is_empty() || sink.write(piece) != *put {
+            return false;
         }
     }
-    Ok(answers)
+    true
+}
+
+fn sink(alloc: Global, fails: &[u64], sizes: &[usize]) -> Result<MemSink, AllocError> {
+    let fails = Vec::from_slice(alloc, fails)?;
+    let sizes = Vec::from_slice(alloc, sizes)?;
+    Ok(MemSink::new(alloc, fails, sizes))
 }
 
 #[test]
 fn a_sink_keeps_what_it_took(rt: HostRuntime) -> Result<(), Fail> {
-    let fails = Vec::from_slice(rt.alloc(), &[3])?;
-    let sizes = Vec::from_slice(rt.alloc(), &[2, 0, 5])?;
-    let mut sink = MemSink::new(rt.alloc(), fails, sizes);
-    let pieces: [&[u8]; 4] = [b"abc", b"de", b"f", b"ghijklm"];
-    let answers = write_on(rt.alloc(), &mut sink, &pieces)?;
-    let want = [Put::Took(2), Put::Took(1), Put::Failed, Put::Took(5)];
-    assert_eq!(rt; answers.as_slice(), want.as_slice());
-    assert_eq!(rt; sink.octets(), b"abdghijk".as_slice());
-
-    let mut sure = SureSink::new(rt.alloc(), Vec::new(rt.alloc()));
-    let answers = write_on(rt.alloc(), &mut sure, &pieces)?;
-    let want = [Put::Took(3), Put::Took(2), Put::Took(1), Put::Took(7)];
-    assert_eq!(rt; answers.as_slice(), want.as_slice());
-    assert_eq!(rt; sure.octets(), b"abcdefghijklm".as_slice());
+    let mut sink = sink(rt.alloc(), &[3], &[2, 0, 5])?;
+    let answers: [(&[u8], Put); 4] = [
+        (b"abc", Put::Took(2)),
+        (b"de", Put::Took(1)),
+        (b"f", Put::Failed),
+        (b"ghijklm", Put::Took(5)),
+    ];
+    assert!(rt; takes(&mut sink, &answers));
+    assert!(rt; sink.octets() == b"abdghijk".as_slice());
     Ok(())
+}
+
+#[test]
+fn a_sure_sink_keeps_all(rt: HostRuntime) {
+    let mut sure = SureSink::new(rt.alloc(), Vec::new(rt.alloc()));
+    let answers: [(&[u8], Put); 4] = [
+        (b"abc", Put::Took(3)),
+        (b"de", Put::Took(2)),
+        (b"f", Put::Took(1)),
+        (b"ghijklm", Put::Took(7)),
+    ];
+    assert!(rt; takes(&mut sure, &answers));
+    assert!(rt; sure.octets() == b"abcdefghijklm".as_slice());
 }
 
 fn fails_always<H: Host>(host: &mut H) -> bool {

@@ -1,4 +1,5 @@
-use std::alloc::Global;
+use bytes::Bytes;
+use std::alloc::{AllocError, Global};
 use std::test::Fail;
 use zq_base::{Address, Endpoint, EndpointError, Frame, Kind, Message, Octets, PartsError};
 
@@ -18,32 +19,71 @@ fn message(alloc: Global, bodies: &[&[u8]]) -> Result<Message, Fail> {
     }
 }
 
+// Whether a frame of these octets, and its copy, hold them.
+fn frame_holds(alloc: Global, body: &[u8]) -> Result<bool, Fail> {
+    let frame = Frame::of_slice(alloc, body)?;
+    Ok(frame.copy()?.as_slice() == body)
+}
+
+// The same of a frame that is made of a block.
+fn block_holds(alloc: Global, body: &[u8]) -> Result<bool, AllocError> {
+    if body.len() > 5 {
+        return Ok(false);
+    }
+    let frame = Frame::of_bytes(Bytes::copy_from_slice(alloc, body)?);
+    Ok(frame.len() == body.len())
+}
+
+// The same of octets and their copy.
+fn octets_hold(alloc: Global, body: &[u8]) -> Result<bool, AllocError> {
+    let octets = Octets::of_slice(alloc, body)?;
+    Ok(octets.copy(alloc)?.as_slice() == body)
+}
+
 #[test]
 fn frames_hold_their_octets(rt: HostRuntime) -> Result<(), Fail> {
     for body in [b"".as_slice(), b"\x00", b"hello"] {
-        let frame = Frame::of_slice(rt.alloc(), body)?;
-        assert_eq!(rt; frame.copy()?.as_slice(), body);
-        let bytes = bytes::Bytes::copy_from_slice(rt.alloc(), body)?;
-        assert_eq!(rt; Frame::of_bytes(bytes).len(), body.len());
-        let octets = Octets::of_slice(rt.alloc(), body)?;
-        assert_eq!(rt; octets.copy(rt.alloc())?.as_slice(), body);
+        assert!(rt; frame_holds(rt.alloc(), body)?);
+        assert!(rt; block_holds(rt.alloc(), body)? && octets_hold(rt.alloc(), body)?);
     }
     Ok(())
 }
 
+// A message of the frames b and c, and a in front of them.
+fn with_front(alloc: Global) -> Result<Message, Fail> {
+    let mut message = message(alloc, &[b"b", b"c"])?;
+    if message.len() != 2 {
+        return Err("two frames".into());
+    }
+    let first = Frame::of_slice(alloc, b"a")?;
+    message.push_front(first).map_err(|_| "room")?;
+    Ok(message)
+}
+
+// Whether a message has these frames.
+fn has(message: &Message, bodies: &[&[u8]]) -> bool {
+    for (i, body) in bodies.iter().enumerate() {
+        if i >= message.len() || message.frame(i).as_slice() != *body {
+            return false;
+        }
+    }
+    message.len() == bodies.len()
+}
+
+// Whether two frames are left behind the first, a.
+fn leaves_two(mut message: Message) -> bool {
+    if message.len() != 3 {
+        return false;
+    }
+    let first = message.pop_front().as_slice() == b"a".as_slice();
+    first && message.frames().len() == 2 && message.into_frames().len() == 2
+}
+
 #[test]
 fn messages_keep_their_frames_in_order(rt: HostRuntime) -> Result<(), Fail> {
-    let mut message = message(rt.alloc(), &[b"b", b"c"])?;
-    assert_eq!(rt; message.len(), 2);
-    let first = Frame::of_slice(rt.alloc(), b"a")?;
-    message.push_front(first).map_err(|_| "room")?;
-    let copy = message.copy(rt.alloc())?;
-    for (i, body) in [b"a", b"b", b"c"].iter().enumerate() {
-        assert_eq!(rt; copy.frame(i).as_slice(), body.as_slice(), "at {i}");
-    }
-    assert_eq!(rt; message.pop_front().as_slice(), b"a".as_slice());
-    assert_eq!(rt; message.frames().len(), 2);
-    assert_eq!(rt; message.into_frames().len(), 2);
+    let message = with_front(rt.alloc())?;
+    assert!(rt; has(&message.copy(rt.alloc())?, &[b"a", b"b", b"c"]));
+    assert!(rt; leaves_two(message));
     Ok(())
 }
 
@@ -51,9 +91,19 @@ fn messages_keep_their_frames_in_order(rt: HostRuntime) -> Result<(), Fail> {
 fn no_frames_are_no_message(rt: HostRuntime) -> Result<(), Fail> {
     match Message::of_parts(Vec::new(rt.alloc())) {
         Ok(_) => Err("refused")?,
-        Err(refused) => assert_eq!(rt; refused.cause, PartsError::NoParts),
+        Err(refused) => assert!(rt; refused.cause == PartsError::NoParts),
     }
     Ok(())
+}
+
+// Whether the kinds of these names fit, or none where one of them has another name.
+fn fit(one: &[u8], other: &[u8]) -> Option<bool> {
+    let a = Kind::read(one)?;
+    let b = Kind::read(other)?;
+    if b.name() != other {
+        return None;
+    }
+    Some(a.fits(b))
 }
 
 #[test]
@@ -69,41 +119,56 @@ fn kinds_that_fit(rt: HostRuntime) {
         ("XPUB", "SUB", true),
         ("PUB", "XPUB", false),
     ] {
-        match (Kind::read(one.as_bytes()), Kind::read(other.as_bytes())) {
-            (Some(a), Some(b)) => {
-                assert_eq!(rt; a.fits(b), fits, "{one} and {other}");
-                assert_eq!(rt; b.name(), other.as_bytes());
-            }
-            _ => assert!(rt; false, "{one} or {other} is no kind"),
-        }
+        assert!(rt; fit(one.as_bytes(), other.as_bytes()) == Some(fits));
     }
-    assert_eq!(rt; Kind::read(b"push"), None);
+    assert!(rt; Kind::read(b"push").is_none());
+}
+
+// Whether a text is read as this inproc name.
+fn reads_name(alloc: Global, text: &str, name: &[u8]) -> Result<bool, Fail> {
+    match Endpoint::read(alloc, text)? {
+        Endpoint::Inproc(octets) => Ok(octets.as_slice() == name),
+        Endpoint::Tcp(_) => Ok(false),
+    }
+}
+
+// Whether a text is read as this address.
+fn reads_address(alloc: Global, text: &str, octets: [u8; 4], port: u16) -> Result<bool, Fail> {
+    match Endpoint::read(alloc, text)? {
+        Endpoint::Tcp(address) => Ok(address == Address { octets, port }),
+        Endpoint::Inproc(_) => Ok(false),
+    }
 }
 
 #[test]
 fn endpoints_are_read(rt: HostRuntime) -> Result<(), Fail> {
-    for name in ["a", "a/b:c", "~!"] {
-        let text = format!(in rt.alloc(); "inproc://{name}")?;
-        match Endpoint::read(rt.alloc(), text.as_str())? {
-            Endpoint::Inproc(octets) => assert_eq!(rt; octets.as_slice(), name.as_bytes()),
-            Endpoint::Tcp(_) => assert!(rt; false, "{name}"),
-        }
+    for (text, name) in [
+        ("inproc://a", b"a".as_slice()),
+        ("inproc://a/b:c", b"a/b:c"),
+        ("inproc://~!", b"~!"),
+    ] {
+        assert!(rt; reads_name(rt.alloc(), text, name)?);
     }
     for (text, octets, port) in [
         ("tcp://127.0.0.1:5555", [127, 0, 0, 1], 5555),
         ("tcp://0.0.0.0:5", [0, 0, 0, 0], 5),
         ("tcp://255.10.100.9:65535", [255, 10, 100, 9], 65535),
     ] {
-        match Endpoint::read(rt.alloc(), text)? {
-            Endpoint::Tcp(address) => assert_eq!(rt; address, Address { octets, port }),
-            Endpoint::Inproc(_) => assert!(rt; false, "{text}"),
-        }
+        assert!(rt; reads_address(rt.alloc(), text, octets, port)?);
     }
     Ok(())
 }
 
+// Whether a text is refused for this cause.
+fn is_refused(alloc: Global, text: &[u8], cause: EndpointError) -> bool {
+    match Endpoint::read_octets(alloc, text) {
+        Ok(_) => false,
+        Err(found) => found == cause,
+    }
+}
+
 #[test]
-fn texts_that_are_no_endpoint(rt: HostRuntime) -> Result<(), Fail> {
+fn texts_that_are_no_endpoint(rt: HostRuntime) {
     for (text, cause) in [
         ("", EndpointError::BadScheme),
         ("inproc:/a", EndpointError::BadScheme),
@@ -122,13 +187,14 @@ fn texts_that_are_no_endpoint(rt: HostRuntime) -> Result<(), Fail> {
         ("tcp://1.2.3.4:65536", EndpointError::BadAddress),
         ("tcp://*:4", EndpointError::BadAddress),
     ] {
-        let found = Endpoint::read(rt.alloc(), text).err();
-        assert_eq!(rt; found, Some(cause), "{text}");
+        assert!(rt; is_refused(rt.alloc(), text.as_bytes(), cause));
     }
+}
+
+#[test]
+fn a_name_has_255_octets_at_the_most(rt: HostRuntime) {
     let mut long = [b'a'; 265];
     long[..9].copy_from_slice(b"inproc://");
     assert!(rt; Endpoint::read_octets(rt.alloc(), &long[..264]).is_ok());
-    let found = Endpoint::read_octets(rt.alloc(), &long).err();
-    assert_eq!(rt; found, Some(EndpointError::BadName));
-    Ok(())
+    assert!(rt; is_refused(rt.alloc(), &long, EndpointError::BadName));
 }

@@ -1,4 +1,5 @@
 ghost use Rattle.std.specs.Prelude.{◌≡◌, IfOk};
+ghost use Rattle.spec_zmtp.specs.Metadata.{IsLogin};
 ghost use Rattle.spec_zmtp.specs.OwnCommands.{IsEngineOpts};
 
 use spec_zmtp::{Cause, Refusal};
@@ -17,8 +18,10 @@ const CLIENT: &[u8] =
 const SERVER: &[u8] =
     b"\xff\0\0\0\0\0\0\0\0\x7f\x03\0PLAIN\0\0\0\0\0\0\0\0\0\0\0\0\0\0\0\x01\0\0\0\0\0\0\0\0\0\0\0\0\0\0\0\0\0\0\0\0\0\0\0\0\0\0\0\0\0\0\0";
 
-/// READY and INITIATE of a PUSH, and of a PULL.
+/// READY of a PUSH, a PAIR and a PULL, and INITIATE of a PUSH and a PULL.
 const READY_PUSH: &[u8] = b"\x04\x1a\x05READY\x0bSocket-Type\0\0\0\x04PUSH";
+
+const READY_PAIR: &[u8] = b"\x04\x1a\x05READY\x0bSocket-Type\0\0\0\x04PAIR";
 
 const READY_PULL: &[u8] = b"\x04\x1a\x05READY\x0bSocket-Type\0\0\0\x04PULL";
 
@@ -33,14 +36,20 @@ const WELCOME: &[u8] = b"\x04\x08\x07WELCOME";
 
 const ERROR: &[u8] = b"\x04\x12\x05ERROR\x0bNot-welcome";
 
-/// Options with the login of the user u.
-fn options(alloc: Global, kind: Kind, role: Role, pass: u8) -> Result<EngineOpts, Fail>
-    ensures { IfOk result (λ o. IsEngineOpts o) }
+// The login of the user u.
+fn login(alloc: Global, pass: u8) -> Result<Login, AllocError>
+    ensures { IfOk result IsLogin }
 {
     let user = Octets::of_slice(alloc, b"u")?;
     let pass = Octets::of_slice(alloc, &[pass])?;
-    let mut list = Vec::new(alloc);
-    list.push(Login { user, pass }).map_err(|_| "room")?;
+    Ok(Login { user, pass })
+}
+
+// Options with that login.
+fn options(alloc: Global, kind: Kind, role: Role, pass: u8) -> Result<EngineOpts, AllocError>
+    ensures { IfOk result (λ o. IsEngineOpts o) }
+{
+    let list = Vec::from_array(alloc, [login(alloc, pass)?])?;
     Ok(EngineOpts {
         kind,
         id: Octets::new(alloc),
@@ -54,12 +63,12 @@ fn new_engine(alloc: Global, kind: Kind, role: Role, pass: u8) -> Result<Engine,
     Ok(Engine::new(alloc, opts)?)
 }
 
-/// Whether a piece is heard whole.
+// Whether a piece is heard whole.
 fn hears(alloc: Global, engine: &mut Engine, piece: &[u8]) -> bool {
     engine.feed(alloc, piece) == Ok(piece.len())
 }
 
-/// All that an engine lends, as it is written.
+// All that an engine lends, as it is written.
 fn said(alloc: Global, engine: &mut Engine) -> Result<Vec<u8>, AllocError> {
     let mut octets = Vec::new(alloc);
     for _ in 0..8 {
@@ -71,22 +80,25 @@ fn said(alloc: Global, engine: &mut Engine) -> Result<Vec<u8>, AllocError> {
     Ok(octets)
 }
 
-/// The octets of the next message, with '|' behind each frame.
-fn next_text(alloc: Global, engine: &mut Engine) -> Result<Vec<u8>, AllocError> {
-    let mut octets = Vec::new(alloc);
-    match engine.next_message() {
-        Some(message) => {
-            for frame in message.frames() {
-                octets.extend_from_slice(frame.as_slice())?;
-                octets.push(b'|')?;
-            }
+// Whether a message has these frames.
+fn has(message: &Message, bodies: &[&[u8]]) -> bool {
+    for (frame, body) in message.frames().iter().zip(bodies) {
+        if frame.as_slice() != *body {
+            return false;
         }
-        None => {}
     }
-    Ok(octets)
+    message.len() == bodies.len()
 }
 
-/// Whether the handshake is done with a PUSH.
+// Whether the next message has these frames.
+fn gives(engine: &mut Engine, bodies: &[&[u8]]) -> bool {
+    match engine.next_message() {
+        Some(message) => has(&message, bodies),
+        None => false,
+    }
+}
+
+// Whether the handshake is done with a PUSH.
 fn runs_with_a_push(engine: &Engine) -> bool {
     let known = match engine.peer() {
         Some(peer) => peer.kind == Kind::Push,
@@ -146,7 +158,7 @@ const TALKS: [(Role, u8, &[(&[u8], &[u8])]); 4] = [
     ),
 ];
 
-/// Whether an engine says what it must to each piece.
+// Whether an engine says what it must to each piece.
 fn talks(alloc: Global, engine: &mut Engine, turns: &[(&[u8], &[u8])]) -> Result<bool, AllocError> {
     for (heard, answer) in turns {
         if !hears(alloc, engine, heard) {
@@ -160,40 +172,46 @@ fn talks(alloc: Global, engine: &mut Engine, turns: &[(&[u8], &[u8])]) -> Result
     Ok(true)
 }
 
+// Whether the peer that knows the password x is welcome, and one with another is not.
+fn ends_well(engine: &Engine, pass: u8) -> bool {
+    if pass == b'x' {
+        return runs_with_a_push(engine);
+    }
+    let refusal = Refusal {
+        cause: Cause::NotWelcome,
+        offset: 64,
+    };
+    refusal_of(engine) == Some(refusal)
+}
+
+// Whether a PULL of this role talks so, and ends as it must.
+fn shakes(alloc: Global, role: Role, pass: u8, turns: &[(&[u8], &[u8])]) -> Result<bool, Fail> {
+    let mut engine = new_engine(alloc, Kind::Pull, role, pass)?;
+    let begins = is_shaking(&engine);
+    Ok(begins && talks(alloc, &mut engine, turns)? && ends_well(&engine, pass))
+}
+
 #[test]
 fn each_role_says_what_the_standard_has_it_say(rt: HostRuntime) -> Result<(), Fail> {
     for (role, pass, turns) in &TALKS {
-        let mut engine = new_engine(rt.alloc(), Kind::Pull, *role, *pass)?;
-        assert!(rt; is_shaking(&engine));
-        assert!(rt; talks(rt.alloc(), &mut engine, turns)?);
-        if *pass == b'x' {
-            assert!(rt; runs_with_a_push(&engine));
-        } else {
-            let refusal = Refusal {
-                cause: Cause::NotWelcome,
-                offset: 64,
-            };
-            assert_eq!(rt; refusal_of(&engine), Some(refusal));
-        }
+        assert!(rt; shakes(rt.alloc(), *role, *pass, turns)?);
     }
     Ok(())
 }
 
+// Whether a message comes with the second of two pieces.
+fn hears_hello(alloc: Global, front: &[u8], back: &[u8]) -> Result<bool, Fail> {
+    let mut engine = new_engine(alloc, Kind::Pull, Role::Null, b'x')?;
+    let early = hears(alloc, &mut engine, front) && engine.next_message().is_none();
+    Ok(early && hears(alloc, &mut engine, back) && gives(&mut engine, &[b"hello"]))
+}
+
 #[test]
 fn a_message_is_heard_in_any_two_pieces(rt: HostRuntime) -> Result<(), Fail> {
-    let mut octets = Vec::from_slice(rt.alloc(), NULL)?;
-    octets.extend_from_slice(READY_PUSH)?;
-    octets.extend_from_slice(b"\0\x05hello")?;
+    let octets = [NULL, READY_PUSH, b"\0\x05hello"].concat(rt.alloc())?;
     for cut in 0..octets.len() {
         let (front, back) = octets.split_at(cut);
-        let mut engine = new_engine(rt.alloc(), Kind::Pull, Role::Null, b'x')?;
-        assert!(rt; hears(rt.alloc(), &mut engine, front));
-        assert!(rt; next_text(rt.alloc(), &mut engine)?.is_empty());
-        assert!(rt; hears(rt.alloc(), &mut engine, back));
-        assert_eq!(rt;
-            next_text(rt.alloc(), &mut engine)?.as_slice(),
-            b"hello|".as_slice()
-        );
+        assert!(rt; hears_hello(rt.alloc(), front, back)?);
     }
     Ok(())
 }
@@ -208,7 +226,7 @@ const BODIES: [(&[u8], usize); 3] = [
 /// The sizes of the pieces in which a body comes, in turn.
 const SIZES: [usize; 5] = [1, 255, 4_096, 65_537, 1_048_576];
 
-/// So many octets in front, or all that there are, and those behind.
+// So many octets in front, or all that there are, and those behind.
 fn cut(octets: &[u8], size: usize) -> (&[u8], &[u8]) {
     if octets.len() < size {
         (octets, &[])
@@ -217,7 +235,7 @@ fn cut(octets: &[u8], size: usize) -> (&[u8], &[u8]) {
     }
 }
 
-/// Whether a body is heard in pieces.
+// Whether a body is heard in pieces.
 fn hears_in_pieces(alloc: Global, engine: &mut Engine, body: &[u8]) -> bool {
     let mut rest = body;
     for turn in 0..80 {
@@ -230,29 +248,24 @@ fn hears_in_pieces(alloc: Global, engine: &mut Engine, body: &[u8]) -> bool {
     rest.is_empty()
 }
 
-/// Whether the next message has this frame alone.
-fn has_frame(engine: &mut Engine, body: &[u8]) -> bool {
-    match engine.next_message() {
-        Some(message) => message.len() == 1 && message.frame(0).as_slice() == body,
-        None => false,
-    }
+// Whether a body behind this head is heard, in pieces.
+fn hears_body(alloc: Global, head: &[u8], count: usize) -> Result<bool, Fail> {
+    let body = vec![in alloc; b'a'; count]?;
+    let mut engine = new_engine(alloc, Kind::Pull, Role::Null, b'x')?;
+    let begins = hears(alloc, &mut engine, NULL) && hears(alloc, &mut engine, READY_PUSH);
+    let heard = hears(alloc, &mut engine, head) && hears_in_pieces(alloc, &mut engine, &body);
+    Ok(begins && heard && gives(&mut engine, &[body.as_slice()]))
 }
 
 #[test]
 fn bodies_up_to_the_limit_are_heard_in_pieces(rt: HostRuntime) -> Result<(), Fail> {
     for (head, count) in &BODIES {
-        let body = vec![in rt.alloc(); b'a'; *count]?;
-        let mut engine = new_engine(rt.alloc(), Kind::Pull, Role::Null, b'x')?;
-        assert!(rt; hears(rt.alloc(), &mut engine, NULL));
-        assert!(rt; hears(rt.alloc(), &mut engine, READY_PUSH));
-        assert!(rt; hears(rt.alloc(), &mut engine, head));
-        assert!(rt; hears_in_pieces(rt.alloc(), &mut engine, &body));
-        assert!(rt; has_frame(&mut engine, &body));
+        assert!(rt; hears_body(rt.alloc(), head, *count)?);
     }
     Ok(())
 }
 
-/// The message of an empty frame and 'hello'.
+// The message of an empty frame and 'hello'.
 fn two_frames(alloc: Global) -> Result<Message, Fail> {
     let mut parts = Vec::new(alloc);
     parts.push(Frame::of_slice(alloc, b"").ok().ok_or("a frame")?)?;
@@ -260,6 +273,7 @@ fn two_frames(alloc: Global) -> Result<Message, Fail> {
     Ok(Message::of_parts(parts).ok().ok_or("parts")?)
 }
 
+// Whether a message is taken.
 fn takes(engine: &mut Engine, message: Message) -> bool {
     match engine.offer(message) {
         Offered::Taken => true,
@@ -267,46 +281,70 @@ fn takes(engine: &mut Engine, message: Message) -> bool {
     }
 }
 
+// Whether the message of two frames is taken.
+fn takes_two(alloc: Global, engine: &mut Engine) -> Result<bool, Fail> {
+    Ok(takes(engine, two_frames(alloc)?))
+}
+
+// Whether a PUSH takes a message once the handshake is done, and no second one.
+fn takes_one(alloc: Global, push: &mut Engine) -> Result<bool, Fail> {
+    let early = takes_two(alloc, push)?;
+    let shaken = hears(alloc, push, NULL) && hears(alloc, push, READY_PULL);
+    Ok(!early && shaken && takes_two(alloc, push)? && !takes_two(alloc, push)?)
+}
+
+// Whether a PULL hears the message of two frames.
+fn pull_hears(alloc: Global, octets: &[u8]) -> Result<bool, Fail> {
+    let mut pull = new_engine(alloc, Kind::Pull, Role::Null, b'x')?;
+    Ok(hears(alloc, &mut pull, octets) && gives(&mut pull, &[b"", b"hello"]))
+}
+
+// Whether a PULL hears what a PUSH says.
+fn passes_on(alloc: Global, push: &mut Engine) -> Result<bool, Fail> {
+    let octets = said(alloc, push)?;
+    let ends = octets.as_slice().ends_with(b"PUSH\x01\0\0\x05hello");
+    Ok(ends && pull_hears(alloc, &octets)?)
+}
+
 #[test]
 fn what_one_engine_writes_another_hears(rt: HostRuntime) -> Result<(), Fail> {
     let mut push = new_engine(rt.alloc(), Kind::Push, Role::Null, b'x')?;
-    assert!(rt; !takes(&mut push, two_frames(rt.alloc())?));
-    assert!(rt; hears(rt.alloc(), &mut push, NULL));
-    assert!(rt; hears(rt.alloc(), &mut push, READY_PULL));
-    assert!(rt; takes(&mut push, two_frames(rt.alloc())?));
-    assert!(rt; !takes(&mut push, two_frames(rt.alloc())?));
-    let octets = said(rt.alloc(), &mut push)?;
-    assert!(rt; octets.as_slice().ends_with(b"PUSH\x01\0\0\x05hello"));
-    assert!(rt; takes(&mut push, two_frames(rt.alloc())?));
-    let mut pull = new_engine(rt.alloc(), Kind::Pull, Role::Null, b'x')?;
-    assert!(rt; hears(rt.alloc(), &mut pull, &octets));
-    assert_eq!(rt;
-        next_text(rt.alloc(), &mut pull)?.as_slice(),
-        b"|hello|".as_slice()
-    );
+    assert!(rt; takes_one(rt.alloc(), &mut push)?);
+    assert!(rt; passes_on(rt.alloc(), &mut push)? && takes_two(rt.alloc(), &mut push)?);
     Ok(())
 }
 
-/// A PAIR whose handshake is done, and is written.
+// A PAIR whose handshake is done, and is written.
 fn running_pair(alloc: Global) -> Result<Engine, Fail> {
     let mut engine = new_engine(alloc, Kind::Pair, Role::Null, b'x')?;
-    engine.feed(alloc, NULL).map_err(|_| "the greeting")?;
-    engine
-        .feed(alloc, b"\x04\x1a\x05READY\x0bSocket-Type\0\0\0\x04PAIR")
-        .map_err(|_| "READY")?;
+    if !hears(alloc, &mut engine, NULL) || !hears(alloc, &mut engine, READY_PAIR) {
+        return Err("a handshake".into());
+    }
     said(alloc, &mut engine)?;
     Ok(engine)
+}
+
+// Whether an engine lends these octets, of which so many are written.
+fn lends(engine: &mut Engine, octets: &[u8], count: usize) -> bool {
+    let lent = engine.out();
+    if lent != octets || lent.len() < count {
+        return false;
+    }
+    engine.wrote(count);
+    true
+}
+
+// Whether the message of two frames goes out in one run.
+fn goes_out_at_once(alloc: Global, engine: &mut Engine) -> Result<bool, Fail> {
+    let taken = takes_two(alloc, engine)?;
+    let lent = lends(engine, b"\x01\0\0\x05hello", 3) && lends(engine, b"\x05hello", 6);
+    Ok(taken && lent && engine.out().is_empty())
 }
 
 #[test]
 fn a_small_message_goes_out_in_one_run(rt: HostRuntime) -> Result<(), Fail> {
     let mut engine = running_pair(rt.alloc())?;
-    assert!(rt; takes(&mut engine, two_frames(rt.alloc())?));
-    assert_eq!(rt; engine.out(), b"\x01\0\0\x05hello".as_slice());
-    engine.wrote(3);
-    assert_eq!(rt; engine.out(), b"\x05hello".as_slice());
-    engine.wrote(6);
-    assert!(rt; engine.out().is_empty());
+    assert!(rt; goes_out_at_once(rt.alloc(), &mut engine)?);
     Ok(())
 }
 
@@ -318,21 +356,36 @@ const RUNS: [(usize, &[usize]); 4] = [
     (100_000, &[9, 100_000]),
 ];
 
+// The message of one frame of so many octets.
+fn of_size(alloc: Global, size: usize) -> Result<Message, Fail> {
+    let body = vec![in alloc; b'a'; size]?;
+    let mut parts = Vec::new(alloc);
+    parts.push(Frame::of_slice(alloc, &body).ok().ok_or("a frame")?)?;
+    Ok(Message::of_parts(parts).ok().ok_or("parts")?)
+}
+
+// Whether what an engine lends goes out in runs of these sizes.
+fn goes_out_in(engine: &mut Engine, runs: &[usize]) -> bool {
+    for run in runs {
+        let count = engine.out().len();
+        if count != *run {
+            return false;
+        }
+        engine.wrote(count);
+    }
+    engine.out().is_empty()
+}
+
+// Whether a message of a frame of so many octets goes out in these runs.
+fn is_lent_in(alloc: Global, size: usize, runs: &[usize]) -> Result<bool, Fail> {
+    let mut engine = running_pair(alloc)?;
+    Ok(takes(&mut engine, of_size(alloc, size)?) && goes_out_in(&mut engine, runs))
+}
+
 #[test]
 fn a_body_that_no_run_holds_is_lent_alone(rt: HostRuntime) -> Result<(), Fail> {
     for (size, runs) in &RUNS {
-        let mut engine = running_pair(rt.alloc())?;
-        let body = vec![in rt.alloc(); b'a'; *size]?;
-        let mut parts = Vec::new(rt.alloc());
-        parts.push(Frame::of_slice(rt.alloc(), &body).ok().ok_or("a frame")?)?;
-        let message = Message::of_parts(parts).ok().ok_or("parts")?;
-        assert!(rt; takes(&mut engine, message));
-        for run in *runs {
-            let count = engine.out().len();
-            assert_eq!(rt; count, *run);
-            engine.wrote(count);
-        }
-        assert!(rt; engine.out().is_empty());
+        assert!(rt; is_lent_in(rt.alloc(), *size, runs)?);
     }
     Ok(())
 }

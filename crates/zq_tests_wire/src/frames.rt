@@ -25,10 +25,10 @@ const WRITTEN: [(FrameKind, u64, &[u8]); 6] = [
 fn heads_are_written_short_up_to_255_octets(rt: HostRuntime) -> Result<(), Fail> {
     for (kind, size, octets) in &WRITTEN {
         let head = encode_head(*kind, *size);
-        assert_eq!(rt; head.as_slice(), *octets);
-        assert_eq!(rt; head.len(), octets.len());
+        assert!(rt; head.as_slice() == *octets);
+        assert!(rt; head.len() == octets.len());
         assert!(rt; *size <= size_limit(*kind));
-        assert_eq!(rt; write_flags(*kind, octets.len() == 9), octets[0]);
+        assert!(rt; write_flags(*kind, octets.len() == 9) == octets[0]);
     }
     Ok(())
 }
@@ -60,10 +60,10 @@ fn heads_are_read_in_any_two_pieces(rt: HostRuntime) -> Result<(), Fail> {
             let (front, back) = octets.split_at(cut);
             let mut reader = FrameReader::new();
             let (taken, step) = reader.feed(front);
-            assert_eq!(rt; taken, cut);
+            assert!(rt; taken == cut);
             assert!(rt; step == Step::NeedMore);
             let (taken, step) = reader.feed(back);
-            assert_eq!(rt; taken, back.len());
+            assert!(rt; taken == back.len());
             assert!(rt; step == *end);
         }
     }
@@ -75,7 +75,7 @@ fn a_body_is_told_by_its_parts_and_its_end(rt: HostRuntime) -> Result<(), Fail> 
     let mut reader = FrameReader::new();
     let (taken, step) = reader.feed(b"\x01\x03ab");
     assert!(rt; taken == 2 && step == Step::Head(FrameKind::More, 3));
-    assert_eq!(rt; reader.left(), Some(3));
+    assert!(rt; reader.left() == Some(3));
     let (taken, step) = reader.feed(b"ab");
     assert!(rt; taken == 2 && step == Step::Piece(0, 2));
     let (taken, step) = reader.feed(b"");

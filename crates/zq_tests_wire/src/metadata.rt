@@ -1,4 +1,5 @@
-use spec_zmtp::Judgement;
+use spec_zmtp::{Judgement, Property};
+use std::alloc::{AllocError, Global};
 use std::test::Fail;
 use zmtp_meta::{
     CommandError, Greeting, MetaError, is_meta, read_command, read_login, read_meta, write_command,
@@ -15,18 +16,15 @@ const CLIENT: &[u8; 64] =
 const SERVER: &[u8; 64] =
     b"\xff\0\0\0\0\0\0\0\0\x7f\x03\0PLAIN\0\0\0\0\0\0\0\0\0\0\0\0\0\0\0\x01\0\0\0\0\0\0\0\0\0\0\0\0\0\0\0\0\0\0\0\0\0\0\0\0\0\0\0\0\0\0\0";
 
+// Whether the greeting of a role has these octets.
+fn greets(role: Role, octets: &[u8]) -> bool {
+    Greeting { role }.write().as_slice() == octets
+}
+
 #[test]
 fn greetings_have_the_octets_of_the_standard(rt: HostRuntime) {
-    let null = Greeting { role: Role::Null };
-    let client = Greeting {
-        role: Role::PlainClient,
-    };
-    let server = Greeting {
-        role: Role::PlainServer,
-    };
-    assert_eq!(rt; null.write().as_slice(), NULL.as_slice());
-    assert_eq!(rt; client.write().as_slice(), CLIENT.as_slice());
-    assert_eq!(rt; server.write().as_slice(), SERVER.as_slice());
+    assert!(rt; greets(Role::Null, NULL) && greets(Role::PlainClient, CLIENT));
+    assert!(rt; greets(Role::PlainServer, SERVER));
 }
 
 #[test]
@@ -46,7 +44,23 @@ fn greetings_are_judged_as_soon_as_they_can_be(rt: HostRuntime) {
         (b"\0\0\0\0\0\0\0\0\0", Judgement::NeedMore),
         (b"", Judgement::NeedMore),
     ] {
-        assert_eq!(rt; null.read(octets), judgement, "{octets:?}");
+        assert!(rt; null.read(octets) == judgement);
+    }
+}
+
+// Whether a command is written as this body.
+fn is_written(alloc: Global, name: &[u8], content: &[u8], body: &[u8]) -> Result<bool, AllocError> {
+    if name.is_empty() || name.len() > 255 {
+        return Ok(false);
+    }
+    Ok(write_command(alloc, name, content)?.as_slice() == body)
+}
+
+// Whether a body is read as this command.
+fn is_read(alloc: Global, name: &[u8], content: &[u8], body: &[u8]) -> bool {
+    match read_command(alloc, body) {
+        Ok(command) => command.name.as_slice() == name && command.content.as_slice() == content,
+        Err(_) => false,
     }
 }
 
@@ -66,17 +80,22 @@ fn command_bodies_are_written_and_read(rt: HostRuntime) -> Result<(), Fail> {
         (b"READY", b"any", b"\x05READYany"),
         (b"\0", b"", b"\x01\0"),
     ] {
-        let written = write_command(rt.alloc(), name, content)?;
-        assert_eq!(rt; written.as_slice(), body, "{name:?}");
-        let command = read_command(rt.alloc(), body).map_err(|_| "a command")?;
-        assert_eq!(rt; command.name.as_slice(), name);
-        assert_eq!(rt; command.content.as_slice(), content);
+        assert!(rt; is_written(rt.alloc(), name, content, body)?);
+        assert!(rt; is_read(rt.alloc(), name, content, body));
     }
     Ok(())
 }
 
+// Whether a body is that of no command.
+fn is_no_command(alloc: Global, body: &[u8]) -> bool {
+    match read_command(alloc, body) {
+        Ok(_) => false,
+        Err(error) => error == CommandError::BadCommand,
+    }
+}
+
 #[test]
-fn other_bodies_are_no_commands(rt: HostRuntime) -> Result<(), Fail> {
+fn other_bodies_are_no_commands(rt: HostRuntime) {
     for body in [
         b"".as_slice(),
         b"\0",
@@ -91,32 +110,47 @@ fn other_bodies_are_no_commands(rt: HostRuntime) -> Result<(), Fail> {
         b"\x05HELLO\x02u",
         b"\x07WELCOME\0",
     ] {
-        match read_command(rt.alloc(), body) {
-            Ok(_) => Err("refused")?,
-            Err(error) => assert_eq!(rt; error, CommandError::BadCommand, "{body:?}"),
+        assert!(rt; is_no_command(rt.alloc(), body));
+    }
+}
+
+// Whether the properties are these.
+fn are(found: &[Property], wanted: &[(&[u8], &[u8])]) -> bool {
+    for (property, (name, value)) in found.iter().zip(wanted) {
+        if property.name.as_slice() != *name || property.value.as_slice() != *value {
+            return false;
         }
     }
-    Ok(())
+    found.len() == wanted.len()
 }
 
 #[test]
 fn metadata_is_written_and_read(rt: HostRuntime) -> Result<(), Fail> {
     let kind = b"\x0bSocket-Type\0\0\0\x06DEALER\x08Identity\0\0\0\0";
     let found = read_meta(rt.alloc(), kind).map_err(|_| "metadata")?;
-    assert_eq!(rt; found.len(), 2);
-    assert_eq!(rt; found[0].name.as_slice(), b"Socket-Type".as_slice());
-    assert_eq!(rt; found[0].value.as_slice(), b"DEALER".as_slice());
-    assert_eq!(rt; found[1].name.as_slice(), b"Identity".as_slice());
-    assert_eq!(rt; found[1].value.as_slice(), b"".as_slice());
-    let written = write_meta(rt.alloc(), found.as_slice())?;
-    assert_eq!(rt; written.as_slice(), kind.as_slice());
-    let none = read_meta(rt.alloc(), b"").map_err(|_| "metadata")?;
-    assert_eq!(rt; none.len(), 0);
+    let wanted: [(&[u8], &[u8]); 2] = [(b"Socket-Type", b"DEALER"), (b"Identity", b"")];
+    assert!(rt; are(found.as_slice(), &wanted));
+    assert!(rt; write_meta(rt.alloc(), found.as_slice())?.as_slice() == kind.as_slice());
     Ok(())
 }
 
 #[test]
-fn other_contents_are_no_metadata(rt: HostRuntime) -> Result<(), Fail> {
+fn no_octets_are_no_properties(rt: HostRuntime) -> Result<(), Fail> {
+    let none = read_meta(rt.alloc(), b"").map_err(|_| "metadata")?;
+    assert!(rt; none.is_empty());
+    Ok(())
+}
+
+// Whether a content is no metadata.
+fn is_no_metadata(alloc: Global, content: &[u8]) -> bool {
+    match read_meta(alloc, content) {
+        Ok(_) => false,
+        Err(error) => error == MetaError::BadMeta,
+    }
+}
+
+#[test]
+fn other_contents_are_no_metadata(rt: HostRuntime) {
     for content in [
         b"\0".as_slice(),
         b"\0\0\0\0\0",
@@ -127,12 +161,8 @@ fn other_contents_are_no_metadata(rt: HostRuntime) -> Result<(), Fail> {
         b"\x01a\x01\0\0\0b",
         b"\x01a\0\0\0\x01bc",
     ] {
-        match read_meta(rt.alloc(), content) {
-            Ok(_) => Err("refused")?,
-            Err(error) => assert_eq!(rt; error, MetaError::BadMeta, "{content:?}"),
-        }
+        assert!(rt; is_no_metadata(rt.alloc(), content));
     }
-    Ok(())
 }
 
 #[test]
@@ -141,15 +171,25 @@ fn metadata_is_judged_alone(rt: HostRuntime) {
     assert!(rt; !is_meta(b"\x01a\0\0\0\x01bc"));
 }
 
+// Whether octets are those of this login.
+fn is_login(content: &[u8], user: &[u8], pass: &[u8]) -> bool {
+    match read_login(content) {
+        Some((u, p)) => u == user && p == pass,
+        None => false,
+    }
+}
+
 #[test]
-fn logins_and_reasons_are_counted(rt: HostRuntime) -> Result<(), Fail> {
+fn logins_are_counted(rt: HostRuntime) -> Result<(), Fail> {
     let login = write_login(rt.alloc(), b"u", b"x")?;
-    assert_eq!(rt; login.as_slice(), b"\x01u\x01x".as_slice());
-    let (user, pass) = read_login(login.as_slice()).ok_or("a login")?;
-    assert_eq!(rt; user, b"u".as_slice());
-    assert_eq!(rt; pass, b"x".as_slice());
-    assert!(rt; read_login(b"\x01u\x01xy").is_none());
+    assert!(rt; login.as_slice() == b"\x01u\x01x".as_slice());
+    assert!(rt; is_login(login.as_slice(), b"u", b"x") && read_login(b"\x01u\x01xy").is_none());
+    Ok(())
+}
+
+#[test]
+fn reasons_are_counted(rt: HostRuntime) -> Result<(), Fail> {
     let reason = write_reason(rt.alloc(), b"Not-welcome")?;
-    assert_eq!(rt; reason.as_slice(), b"\x0bNot-welcome".as_slice());
+    assert!(rt; reason.as_slice() == b"\x0bNot-welcome".as_slice());
     Ok(())
 }

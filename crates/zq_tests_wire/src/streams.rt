@@ -10,7 +10,7 @@ const NULL: &[u8] =
 
 const READY_PUSH: &[u8] = b"\x04\x1a\x05READY\x0bSocket-Type\0\0\0\x04PUSH";
 
-/// A PULL without security.
+// A PULL without security.
 fn new_pull(alloc: Global) -> Result<Engine, Fail> {
     let opts = EngineOpts {
         kind: Kind::Pull,
@@ -21,7 +21,7 @@ fn new_pull(alloc: Global) -> Result<Engine, Fail> {
     Ok(Engine::new(alloc, opts)?)
 }
 
-/// How many octets of a piece are taken, or 99 where memory wants.
+// How many octets of a piece are taken, or 99 where memory wants.
 fn taken_of(alloc: Global, engine: &mut Engine, piece: &[u8]) -> usize {
     match engine.feed(alloc, piece) {
         Ok(count) => count,
@@ -29,9 +29,19 @@ fn taken_of(alloc: Global, engine: &mut Engine, piece: &[u8]) -> usize {
     }
 }
 
-/// How many whole messages are taken out at once.
+// How many whole messages are taken out at once.
 fn taken_out(alloc: Global, engine: &mut Engine) -> usize {
     engine.take_messages(VecDeque::new(alloc)).len()
+}
+
+// Whether pieces are taken so far.
+fn takes(alloc: Global, engine: &mut Engine, pieces: &[(&[u8], usize)]) -> bool {
+    for (piece, count) in pieces {
+        if taken_of(alloc, engine, piece) != *count {
+            return false;
+        }
+    }
+    true
 }
 
 #[test]
@@ -39,21 +49,27 @@ fn a_refusal_takes_the_octets_up_to_the_one_that_breaks_a_rule(
     rt: HostRuntime,
 ) -> Result<(), Fail> {
     let mut engine = new_pull(rt.alloc())?;
-    assert_eq!(rt; taken_of(rt.alloc(), &mut engine, NULL), 64);
-    assert_eq!(rt; taken_of(rt.alloc(), &mut engine, READY_PUSH), 28);
-    assert_eq!(rt; taken_of(rt.alloc(), &mut engine, b"\0\x01a\x08bc"), 4);
-    assert_eq!(rt; taken_of(rt.alloc(), &mut engine, b"bc"), 0);
+    let pieces: [(&[u8], usize); 4] = [
+        (NULL, 64),
+        (READY_PUSH, 28),
+        (b"\0\x01a\x08bc", 4),
+        (b"bc", 0),
+    ];
+    assert!(rt; takes(rt.alloc(), &mut engine, &pieces));
     Ok(())
 }
 
 #[test]
 fn all_whole_messages_are_taken_out_at_once(rt: HostRuntime) -> Result<(), Fail> {
     let mut engine = new_pull(rt.alloc())?;
-    taken_of(rt.alloc(), &mut engine, NULL);
-    taken_of(rt.alloc(), &mut engine, READY_PUSH);
-    taken_of(rt.alloc(), &mut engine, b"\0\x01a\x01\x01b\0\x01c\0\x02d");
-    assert_eq!(rt; taken_out(rt.alloc(), &mut engine), 2);
-    taken_of(rt.alloc(), &mut engine, b"e");
-    assert_eq!(rt; taken_out(rt.alloc(), &mut engine), 1);
+    let pieces: [(&[u8], usize); 3] = [
+        (NULL, 64),
+        (READY_PUSH, 28),
+        (b"\0\x01a\x01\x01b\0\x01c\0\x02d", 12),
+    ];
+    assert!(rt; takes(rt.alloc(), &mut engine, &pieces));
+    assert!(rt; taken_out(rt.alloc(), &mut engine) == 2);
+    assert!(rt; takes(rt.alloc(), &mut engine, &[(b"e", 1)]));
+    assert!(rt; taken_out(rt.alloc(), &mut engine) == 1);
     Ok(())
 }
