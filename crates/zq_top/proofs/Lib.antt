@@ -1,6 +1,7 @@
 mod WritesOn
 pub mod OrderLemmas
 pub mod PlayLemmas
+mod Receives
 pub mod Given
 pub mod JournalLemmas
 pub mod Completes

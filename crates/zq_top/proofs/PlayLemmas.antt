@@ -1,7 +1,7 @@
 -- How a run goes on by a worker's step, by the steps of several workers, and by a turn.
 use Rattle.std.proofs.Common.{◌≡◌, ◌≢◌, ◌≤◌, ◌<◌, ◌+◌, ℕ, List, [], ◌∷◌, ◌++◌, Bool, true, false, Option, Some, length, map, refl, sym, ap, subst, ◌∙◌, arith, append-nil, append_assoc, length-set, get_or-set_same, get_or-set_other, ltb, ltb-true, ltb-false, true≢false, ◌-◌, ◌&&◌, zero, suc, length-append}
 use Rattle.std.proofs.lemmas.List.Sums.{sum_by-cons, sum_by-append}
-use Rattle.std.specs.Prelude.{flat_map, filter, sum_by, min, slice_get, slice_set, slice_index_or, nat_eq}
+use Rattle.std.specs.Prelude.{flat_map, filter, min, slice_get, slice_set, slice_index_or, nat_eq}
 use Rattle.std.specs.List.{range_with_len, list_all}
 use Rattle.std.proofs.lemmas.Bool.{eq-eqb, eqb-true, ne_eqb}
 use Rattle.std.proofs.lemmas.Grind.{flat_map-append}
@@ -24,7 +24,7 @@ use Rattle.spec_pattern.specs.declared.answers.Skip.{Skip}
 use Rattle.zq_base.specs.Ends.{PipeId}
 use Rattle.flat_net.specs.Given.{AreGiven, gives, most_count}
 use Rattle.flat_net.proofs.GivenLemmas.{none_given}
-use Rattle.flat_net.specs.Flat.{Counted, Does, IsDone}
+use Rattle.flat_net.specs.Flat.{Counted, IsDone}
 use Rattle.flat_net.specs.Pipes.{IsPast}
 use Rattle.zq_top.specs.declared.actor.Actor.{Actor}
 use Rattle.zq_top.specs.Playing.{agenda_of, ActorDoes, entries_in, entries_at, given_by, Did, stage_at, WorkerDoes, WorkersDo, TurnDoes, HasCome, RunEnds, AreNew, has_finished, actor_part}
