@@ -1,3 +1,5 @@
 pub mod NamesLemmas
 pub mod WaitingLemmas
 mod KeyLemmas
+mod ListsLemmas
+mod OrderLemmas

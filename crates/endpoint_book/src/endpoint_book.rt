@@ -3,8 +3,8 @@ ghost use Rattle.endpoint_book.specs.declared.endpoint_book.BindError.TheVariant
 
 use crate::address_table::AddressTable;
 use crate::name_table::NameTable;
-use crate::waits::{copy, is_connect_of, is_fulfilled};
-use spec_control::{Binding, Waiting};
+use crate::wait_table::WaitTable;
+use spec_control::Binding;
 use std::alloc::{AllocError, Global};
 use std::marker::Model;
 use zq_base::{Endpoint, Kind, ObjId};
@@ -34,7 +34,7 @@ pub struct NotBound;
 pub struct EndpointBook {
     names: NameTable,
     addresses: AddressTable,
-    waiting: Vec<Waiting>,
+    waits: WaitTable,
 }
 
 impl Model for EndpointBook {
@@ -47,7 +47,7 @@ impl Model for EndpointBook {
 
     ghost coded = { Prim.hlevel (codes, names_code bound.the_row.coded) };
 
-    ghost view = { λ b. record { names = b.names; addresses = b.addresses; waiting = b.waiting.items } };
+    ghost view = { λ b. record { names = b.names; addresses = b.addresses; waiting = b.waits } };
 }
 
 impl EndpointBook {
@@ -61,7 +61,7 @@ impl EndpointBook {
         EndpointBook {
             names: NameTable::new(alloc),
             addresses: AddressTable::new(alloc),
-            waiting: Vec::new(alloc),
+            waits: WaitTable::new(alloc),
         }
     }
 
@@ -144,7 +144,8 @@ impl EndpointBook {
         }
     }
 
-    /// Notes that a connect waits for the endpoint, after all that wait already. It costs a copy of the name.
+    /// Notes that a connect waits for the endpoint, after all that wait already, by one look-up. It costs two copies of the
+    /// name.
     pub fn wait_for(
         &mut self,
         alloc: Global,
@@ -156,23 +157,19 @@ impl EndpointBook {
             ++ record { at = at.now; waiter = waiter; kind = kind } ∷ []) self.old) }
         ensures err { OnErr result (self.new ≡ self.old) }
     {
-        let at = copy(alloc, at)?;
-        self.waiting.push(Waiting { at, waiter, kind })?;
+        self.waits.push(alloc, at, waiter, kind)?;
         Ok(())
     }
 
-    /// How many waiting connects a bind of the endpoint fulfils, by one walk over those that wait.
+    /// How many waiting connects a bind of the endpoint fulfils, by one look-up and one walk over those that wait for it.
     pub fn count_waiting(&self, at: &Endpoint, binding: Binding) -> usize
         ensures { result ≡ length (fulfilled at.now binding self.now) }
     {
-        self.waiting
-            .iter()
-            .filter(|wait| is_fulfilled(wait, at, binding))
-            .count()
+        self.waits.count(at, binding)
     }
 
-    /// The sockets whose waiting connects a bind of the endpoint fulfils, a socket once for each, by one walk over
-    /// those that wait.
+    /// The sockets whose waiting connects a bind of the endpoint fulfils, a socket once for each, by one look-up and one walk
+    /// over those that wait for it.
     pub fn waiting(
         &self,
         alloc: Global,
@@ -181,44 +178,29 @@ impl EndpointBook {
     ) -> Result<Vec<ObjId>, AllocError>
         ensures { IfOk result (λ v. v.items ≡ waiters (fulfilled at.now binding self.now)) }
     {
-        self.waiting
-            .iter()
-            .filter(|wait| is_fulfilled(wait, at, binding))
-            .map(|wait| wait.waiter)
-            .collect(alloc)
+        self.waits.waiters(alloc, at, binding)
     }
 
-    /// Takes out the connects that `waiting` lists, by one walk over those that wait. The others go on waiting.
+    /// Takes out the connects that `waiting` lists, as it finds them. The others go on waiting.
     pub fn take_waiting(&mut self, at: &Endpoint, binding: Binding)
         ensures { self.new ≡ with_waiting (filter (λ w. not (is_fulfilled at.now binding w))
             self.old.waiting) self.old }
     {
-        self.waiting.retain(|wait| !is_fulfilled(wait, at, binding));
+        self.waits.take_fulfilled(at, binding);
     }
 
-    /// Takes back the object's longest waiting connect to the endpoint, by one walk over those that wait.
+    /// Takes back the object's longest waiting connect to the endpoint, by two look-ups and one walk over those that wait for
+    /// it.
     pub fn take_back(&mut self, at: &Endpoint, waiter: ObjId) -> Result<(), NotBound>
         ensures waits { IsOk result ↔ IsTrue (waits self.old waiter at.now) }
         ensures ok { OnOk result (self.new ≡ with_waiting
             (without_first (is_connect_of waiter at.now) self.old.waiting) self.old) }
         ensures err { OnErr result (self.new ≡ self.old) }
     {
-        match self.place_of(waiter, at) {
-            Some(place) => {
-                self.waiting.remove(place);
-                Ok(())
-            }
-            None => Err(NotBound),
+        if !self.waits.take_first(waiter, at) {
+            return Err(NotBound);
         }
-    }
-
-    // Where the object's longest waiting connect to the endpoint stands.
-    fn place_of(&self, object: ObjId, at: &Endpoint) -> Option<usize>
-        ensures { result ≡ position (is_connect_of object at.now) self.now.waiting }
-    {
-        self.waiting
-            .iter()
-            .position(|wait| is_connect_of(wait, object, at))
+        Ok(())
     }
 
     /// Strikes all names and waiting connects of the object, by one walk over the book.
@@ -227,6 +209,6 @@ impl EndpointBook {
     {
         self.names.drop_object(object);
         self.addresses.drop_object(object);
-        self.waiting.retain(|wait| wait.waiter != object);
+        self.waits.drop_object(object);
     }
 }

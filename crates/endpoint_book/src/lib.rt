@@ -2,8 +2,11 @@
 #![tactic(auto)]
 
 mod address_table;
+mod change;
 mod endpoint_book;
 mod name_table;
+mod wait_lists;
+mod wait_table;
 mod waits;
 
 pub use endpoint_book::{BindError, EndpointBook, NotBound};

@@ -1,7 +1,7 @@
 -- All peers are told, one after the other.
-use Rattle.std.proofs.Common.{◌≡◌, ◌∙◌, ◌+◌, ◌<◌, ◌≤◌, ℕ, zero, suc, Bool, true, false, cond, ◌||◌, List, [], ◌∷◌, ◌++◌, length, map, get_or, set, remove, take, nat_eq, All, refl, sym, ap, subst, arith, append_assoc, length-append}
+use Rattle.std.proofs.Common.{◌≡◌, ◌∙◌, ◌+◌, ◌<◌, ◌≤◌, ℕ, zero, suc, Bool, true, false, cond, ◌&&◌, ◌||◌, List, [], ◌∷◌, ◌++◌, length, map, get_or, set, remove, take, nat_eq, All, refl, sym, ap, subst, arith, add-one, append_assoc, length-append}
 use Rattle.std.proofs.lemmas.List.{append-nil, map-append}
-use Rattle.std.proofs.lemmas.List.Elements.{All-head, All-tail, All-push, All-set, All-get_or}
+use Rattle.std.proofs.lemmas.List.Elements.{All-cons, All-head, All-tail, All-push, All-set, All-get_or}
 use Rattle.std.proofs.lemmas.List.Folds.{list_any-append}
 use Rattle.std.specs.Cmp.{nat_eq_equiv}
 use Rattle.std.specs.Map.{keys_of, remove_entry}
@@ -183,6 +183,21 @@ StayFollowers-written wanted first fs i x y lt is stays h = record {
   places_are = map-written (λ (f : Follower). f.place) fs i x y lt is stays.place_is ∙ h.places_are;
   follow = All-set (IsFollower wanted) fs i y stays.follows h.follow;
 }
+
+-- where both of two tests are met
+pub both_true : (a b : Bool) → (a && b) ≡ true → (a ≡ true) × (b ≡ true)
+both_true true b h = (refl, h)
+both_true false b h = absurd (cc)
+
+-- one more has nothing left to be told
+told_next : (P : Follower → Type 0) (fs : List Follower) (i : ℕ) (y : Follower) → i < length fs → All P (take i fs) → P y → All P (take (suc i) (set fs i y))
+told_next P [] i y lt all one = absurd (omega arith)
+told_next P (f ∷ fs) zero y lt all one = All-push P [] y all one
+told_next P (f ∷ fs) (suc i) y lt all one =
+    All-cons P f (take (suc i) (set fs i y)) (All-head P f (take i fs) all) (told_next P fs i y (omega arith) (All-tail P f (take i fs) all) one)
+
+pub told_more : (P : Follower → Type 0) (fs : List Follower) (i : ℕ) (y : Follower) → i < length fs → All P (take i fs) → P y → All P (take (i + 1) (set fs i y))
+told_more P fs i y lt all one = subst (λ n. All P (take n (set fs i y))) (sym (add-one i)) (told_next P fs i y lt all one)
 
 -- ---- noting
 

@@ -23,7 +23,7 @@ use Rattle.spec_pattern.specs.Drops.{ReceivesDropping}
 use Rattle.spec_pattern.specs.Results.{MatchRecv}
 use Rattle.spec_pattern.specs.Topics.{Topic, topic_cmp, is_among}
 use Rattle.spec_pattern.specs.Wanted.{Wanted, wants, count_of, most_equal, with_one_more, with_one_less}
-use Rattle.spec_pattern.specs.Subscribing.{wanted_of}
+use Rattle.spec_pattern.specs.Subscribing.{EndsTelling, TellsWhere, TellsAll, wanted_of}
 use Rattle.spec_pattern.specs.declared.answers.Rule.TheVariants.{Filtered}
 use Rattle.spec_pattern.specs.declared.answers.Skip.{Skip}
 use Rattle.spec_pattern.specs.declared.answers.RecvRefusal.{RecvRefusal}
@@ -34,10 +34,10 @@ use Rattle.spec_pattern.specs.declared.answers.RecvAnswer.TheVariants as got
 use Rattle.by_turn.specs.Dropping.{receiving, DropsFew, ReceivesOver, MatchDropping}
 use Rattle.sub_table.specs.Telling.{WantsAlike}
 use Rattle.pub_sub.specs.Notes.{IsTopic}
-use Rattle.pub_sub.specs.Places.{is_place}
-use Rattle.pub_sub.specs.Telling.{IsFollower}
+use Rattle.pub_sub.specs.Places.{is_place, subs_at}
+use Rattle.pub_sub.specs.Telling.{IsFollower, IsTold}
 use Rattle.pub_sub.specs.Followers.{rows_of, places_of}
-use Rattle.pub_sub.specs.Subscribing.{SubState, subscriber_at, with_publisher_at, without_publisher_at, Joins, Leaves, AreFollowed, SubGives, SubStops}
+use Rattle.pub_sub.specs.Subscribing.{SubState, subscriber_at, with_publisher_at, without_publisher_at, Joins, Leaves, AreFollowed, TellsPeers, SubGives, SubStops}
 use Rattle.pub_sub.specs.declared.follower.Follower.{Follower}
 use Rattle.pub_sub.proofs.PeerLemmas.{without-subs_at, without-ins}
 
@@ -113,14 +113,15 @@ short-less topic v w is all = subst (λ l. All IsTopic (keys_of l)) (sym is) (by
 
 -- ---- peers come and go
 
-pub AreFollowed-with : (wanted : Wanted) (fs : List Follower) (f : Follower) → AreFollowed wanted fs → f.told.told ≡ [] → f.told.lost ≡ true → AreFollowed wanted (fs ++ f ∷ [])
-AreFollowed-with wanted fs f h told lost = record {
+pub AreFollowed-with : (wanted : Wanted) (fs : List Follower) (f : Follower) (quiet : Bool) → AreFollowed wanted fs quiet → f.told.told ≡ [] → f.told.lost ≡ true → AreFollowed wanted (fs ++ f ∷ []) false
+AreFollowed-with wanted fs f quiet h told lost = record {
   short = h.short;
   follow = All-push (IsFollower wanted) fs f h.follow (record {
     known = λ t found new. absurd (cc);
     wanted_are = h.short;
     told_are = subst (All IsTopic) (sym told) (λ k d lt. absurd (omega arith));
   });
+  none_left = λ e. absurd (cc);
 }
 
 All-removed : (P : Follower → Type 0) (fs : List Follower) (i : ℕ) → All P fs → All P (remove fs i)
@@ -129,8 +130,40 @@ All-removed P [] (suc i) all = all
 All-removed P (f ∷ fs) zero all = All-tail P f fs all
 All-removed P (f ∷ fs) (suc i) all = All-cons P f (remove fs i) (All-head P f fs all) (All-removed P fs i (All-tail P f fs all))
 
-pub AreFollowed-without : (wanted : Wanted) (fs : List Follower) (i : ℕ) → AreFollowed wanted fs → AreFollowed wanted (remove fs i)
-AreFollowed-without wanted fs i h = record { short = h.short; follow = All-removed (IsFollower wanted) fs i h.follow }
+pub AreFollowed-without : (wanted : Wanted) (fs : List Follower) (i : ℕ) (quiet : Bool) → AreFollowed wanted fs quiet → AreFollowed wanted (remove fs i) quiet
+AreFollowed-without wanted fs i quiet h = record {
+  short = h.short;
+  follow = All-removed (IsFollower wanted) fs i h.follow;
+  none_left = λ e. All-removed (IsTold wanted) fs i (h.none_left e);
+}
+
+-- where nobody has anything left to be told, telling all makes no step
+none_told : (can_write : End → Bool) (ends : ℕ → End) (wanted : Wanted) (fs : List Follower) → All (IsTold wanted) fs
+    → TellsAll can_write wanted (subs_at ends (rows_of fs)) [] (subs_at ends (rows_of fs))
+none_told can_write ends wanted [] told = (refl, refl)
+none_told can_write ends wanted (f ∷ fs) told = (
+  f.told.told,
+  subs_at ends (rows_of fs),
+  [],
+  [],
+  by (can_write (ends f.place)),
+  none_told can_write ends wanted fs (All-tail (IsTold wanted) f fs told),
+  refl,
+  refl,
+)
+  where
+    by : (b : Bool) → TellsWhere b wanted (ends f.place) f.told.told [] f.told.told
+    by true = ([], (subst (λ d. EndsTelling d (ends f.place) []) (sym (All-head (IsTold wanted) f fs told)) refl, refl))
+    by false = (refl, refl)
+
+pub TellsPeers-none : {S : Type 0} (runs : S → List PipeStep → S → Type 0) (ends : ℕ → End) (writable : ℕ → Bool) (peers : S) (ins : List ℕ) (wanted : Wanted) (fs : List Follower)
+    → runs peers [] peers → All (IsTold wanted) fs
+    → TellsPeers runs ends writable peers peers (record { ins = ins; wanted = wanted; followers = rows_of fs }) (record { ins = ins; wanted = wanted; followers = rows_of fs })
+TellsPeers-none runs ends writable peers ins wanted fs none told = record {
+  steps = [];
+  runs_are = none;
+  step = λ can_write tells. record { followers = subs_at ends (rows_of fs); tells = none_told can_write ends wanted fs told; new_is = refl };
+}
 
 or_true : (b : Bool) → (b || true) ≡ true
 or_true true = refl

@@ -14,7 +14,7 @@ use Rattle.msg_pipe.specs.Turns.{without_place}
 use Rattle.by_turn.specs.Dropping.{receiving, DropsFew}
 use Rattle.pub_sub.specs.Notes.{IsTopic}
 use Rattle.pub_sub.specs.Places.{subs_at, is_place, AreApart, TellsOf}
-use Rattle.pub_sub.specs.Telling.{IsFollower}
+use Rattle.pub_sub.specs.Telling.{IsFollower, IsTold}
 use Rattle.pub_sub.specs.Followers.{StopsRows}
 use Rattle.pub_sub.specs.declared.follower.Follower.{Follower}
 use Rattle.pub_sub.specs.declared.change_fault.ChangeFault.{ChangeFault}
@@ -56,10 +56,11 @@ Leaves ends place s s' =
     AreApart ends (s.ins ++ keys_of s.followers) → is_place (s.ins ++ keys_of s.followers) place ≡ true
     → subscriber_at ends s' ≡ without_publisher (ends place) (subscriber_at ends s)
 
--- what is always so: a topic that is wanted can be told, and each peer follows
-pub record AreFollowed (wanted : Wanted) (fs : List Follower) : Type 0 where
+-- what is always so: a topic that is wanted can be told, each peer follows, and where it is quiet none has anything left to be told
+pub record AreFollowed (wanted : Wanted) (fs : List Follower) (quiet : Bool) : Type 0 where
   pub short : All IsTopic (keys_of wanted)
   pub follow : All (IsFollower wanted) fs
+  pub none_left : quiet ≡ true → All (IsTold wanted) fs
 
 -- the peers stay
 pub record KeepsFollowers (s s' : SubState) : Type 0 where

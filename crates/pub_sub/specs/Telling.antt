@@ -1,5 +1,5 @@
 -- How a subscriber tells its peers, by their places (RFC 29, "The SUB Socket Type", "The XSUB Socket Type").
-use Rattle.std.specs.Prelude.{◌≡◌, ◌+◌, ℕ, Bool, true, false, not, List, [], ◌∷◌, filter, length, Some, All}
+use Rattle.std.specs.Prelude.{◌≡◌, ◌+◌, ℕ, Bool, true, false, not, List, [], ◌∷◌, filter, length, Some, None, All}
 use Rattle.std.specs.Map.{keys_of}
 use Rattle.spec_pattern.specs.PipeStep.{PipeStep, Commit, FullLook}
 use Rattle.spec_pattern.specs.TurnList.{End}
@@ -56,6 +56,10 @@ pub record IsFollower (wanted : Wanted) (f : Follower) : Type 0 where
   pub known : IsKnown wanted f.told
   pub wanted_are : All IsTopic (keys_of wanted)
   pub told_are : All IsTopic f.told.told
+
+-- a peer has nothing left to be told
+abbrev pub IsTold : Wanted → Follower → Type 0
+IsTold wanted f = difference f.told.told wanted ≡ None
 
 -- it is the same peer, and is one still
 pub record StaysFollower (wanted : Wanted) (f f' : Follower) : Type 0 where

@@ -1,6 +1,6 @@
 ghost use Rattle.std.specs.Prelude.{◌≡◌, [], true, IfOk, OnOk, OnErr};
 ghost use Rattle.msg_pipe.specs.Places.{KeepsPlaces};
-ghost use Rattle.pub_sub.specs.Telling.{IsTelling, TellsAt, TellsChange, IsFollower, StaysFollower, UntoldChange, IsChange};
+ghost use Rattle.pub_sub.specs.Telling.{IsTelling, TellsAt, TellsChange, IsFollower, IsTold, StaysFollower, UntoldChange, IsChange};
 
 use crate::inbox::one_frame;
 use msg_pipe::{Peers, PutIn};
@@ -32,13 +32,13 @@ impl Follower {
         }
     }
 
-    // Tells the peer what differs, while it has room.
+    // Tells the peer what differs, while it has room: whether nothing is left.
     pub(crate) fn tell<E: Peers>(
         &mut self,
         alloc: Global,
         wanted: &Wanted,
         peers: &mut E,
-    ) -> Result<(), AllocError>
+    ) -> Result<bool, AllocError>
         requires there { E.here peers.old self.old.place }
         requires follows { IsFollower wanted.now self.old }
         ensures told { OnOk result (TellsAt E.runs (E.end_at peers.old)
@@ -46,22 +46,23 @@ impl Follower {
             self.old.place self.old.told.told self.new.told.told) }
         ensures memory { OnErr result (IsTelling E.runs (E.end_at peers.old) peers.old peers.new
             wanted.now self.old.place self.old.told.told self.new.told.told) }
+        ensures none { IfOk result (λ none. none ≡ true → IsTold wanted.now self.new) }
         ensures same { StaysFollower wanted.now self.old self.new }
         ensures keeps { KeepsPlaces E.here E.end_at E.writable peers.old peers.new }
     {
         if !peers.can_write(self.place) {
-            return Ok(());
+            return Ok(false);
         }
         self.tell_open(alloc, wanted, peers)
     }
 
-    // Tells the peer, which can be written.
+    // Tells the peer, which can be written: whether nothing is left.
     fn tell_open<E: Peers>(
         &mut self,
         alloc: Global,
         wanted: &Wanted,
         peers: &mut E,
-    ) -> Result<(), AllocError>
+    ) -> Result<bool, AllocError>
         requires there { E.here peers.old self.old.place }
         requires open { E.writable peers.old self.old.place ≡ true }
         requires follows { IsFollower wanted.now self.old }
@@ -69,16 +70,17 @@ impl Follower {
             wanted.now self.old.place self.old.told.told self.new.told.told) }
         ensures memory { OnErr result (IsTelling E.runs (E.end_at peers.old) peers.old peers.new
             wanted.now self.old.place self.old.told.told self.new.told.told) }
+        ensures none { IfOk result (λ none. none ≡ true → IsTold wanted.now self.new) }
         ensures same { StaysFollower wanted.now self.old self.new }
         ensures keeps { KeepsPlaces E.here E.end_at E.writable peers.old peers.new }
     {
         'changes: while let Some((octet, topic)) = self.told.difference(alloc, wanted)? {
             let room = self.tell_one(alloc, wanted, peers, octet, topic.as_slice())?;
             if !room {
-                return Ok(());
+                return Ok(false);
             }
         }
-        Ok(())
+        Ok(true)
     }
 
     // Tells the peer that a topic is wanted, or is wanted no longer: whether there was room.

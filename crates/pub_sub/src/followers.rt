@@ -1,11 +1,11 @@
-ghost use Rattle.std.specs.Prelude.{◌≡◌, ◌<◌, All, length, nat_eq, remove, MatchOption, OnOk, OnErr};
+ghost use Rattle.std.specs.Prelude.{◌≡◌, ◌<◌, ◌&&◌, All, length, nat_eq, remove, true, MatchOption, IfOk, OnOk, OnErr};
 ghost use Rattle.std.specs.Map.{keys_of};
 ghost use Rattle.spec_pattern.specs.Topics.{without_peer};
 ghost use Rattle.spec_pattern.specs.Wanted.{Wanted};
 ghost use Rattle.sub_table.specs.Telling.{WantsAlike};
 ghost use Rattle.msg_pipe.specs.Places.{KeepsPlaces};
 ghost use Rattle.pub_sub.specs.Notes.{IsTopic};
-ghost use Rattle.pub_sub.specs.Telling.{IsFollower};
+ghost use Rattle.pub_sub.specs.Telling.{IsFollower, IsTold};
 ghost use Rattle.pub_sub.specs.Followers.{rows_of, places_of, StayFollowers, TellsRows, StopsRows};
 
 use crate::follower::Follower;
@@ -13,26 +13,35 @@ use msg_pipe::Peers;
 use std::alloc::{AllocError, Global};
 use sub_table::Wanted;
 
-// Tells each peer what differs, in their order, while it has room.
+// Tells each peer what differs, in their order, while it has room: whether nothing is left.
 pub(crate) fn tell_all<E: Peers>(
     alloc: Global,
     wanted: &Wanted,
     followers: &mut [Follower],
     peers: &mut E,
-) -> Result<(), AllocError>
+) -> Result<bool, AllocError>
     requires there { All (E.here peers.old) (places_of followers.old) }
     requires follow { All (IsFollower wanted.now) followers.old }
     ensures told { OnOk result (TellsRows E.runs (E.end_at peers.old) (E.writable peers.old)
         wanted.now peers.old peers.new (rows_of followers.old) (rows_of followers.new)) }
     ensures memory { OnErr result (StopsRows E.runs (E.end_at peers.old) (E.writable peers.old)
         wanted.now peers.old peers.new (rows_of followers.old) (rows_of followers.new)) }
+    ensures none { IfOk result (λ none. none ≡ true → All (IsTold wanted.now) followers.new) }
     ensures same { StayFollowers wanted.now followers.old followers.new }
     ensures keeps { KeepsPlaces E.here E.end_at E.writable peers.old peers.new }
 {
+    let mut none = true;
     for follower in followers.iter_mut() {
-        follower.tell(alloc, wanted, peers)?;
+        let told = follower.tell(alloc, wanted, peers)?;
+        none = both(none, told);
     }
-    Ok(())
+    Ok(none)
+}
+
+fn both(a: bool, b: bool) -> bool
+    ensures { result ≡ (a && b) }
+{
+    a && b
 }
 
 // Notes for each peer that the topic is wanted, or is wanted no longer.

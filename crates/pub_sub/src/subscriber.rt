@@ -19,11 +19,13 @@ use sub_table::{Wanted, WantedError};
 use zq_base::{Message, PairId};
 
 // A SUB or an XSUB: the turns of its peers, what it wants, and its peers with what each was told.
+// Where it is quiet, none of them has anything left to be told.
 #[derive(Drop)]
 pub(crate) struct Subscriber {
     pub(crate) ins: Turns,
     pub(crate) wanted: Wanted,
     pub(crate) followers: Vec<Follower>,
+    pub(crate) quiet: bool,
 }
 
 impl Model for Subscriber {
@@ -38,7 +40,7 @@ impl Model for Subscriber {
       followers = rows_of s.followers.items;
     } };
 
-    ghost invariant = { λ s. AreFollowed s.wanted s.followers.items };
+    ghost invariant = { λ s. AreFollowed s.wanted s.followers.items s.quiet };
 }
 
 impl Subscriber {
@@ -50,10 +52,12 @@ impl Subscriber {
             ins: Turns::new(alloc),
             wanted: Wanted::new(alloc),
             followers: Vec::new(alloc),
+            quiet: true,
         }
     }
 
-    // Tells each peer what differs, in their order, while it has room.
+    // Tells each peer what differs, in their order, while it has room. Where nothing is left for
+    // any of them, none is looked at.
     pub(crate) fn tell<E: Peers>(&mut self, alloc: Global, peers: &mut E) -> Result<(), AllocError>
         requires there { All (E.here peers.old) (keys_of self.old.followers) }
         ensures told { OnOk result (TellsPeers E.runs (E.end_at peers.old) (E.writable peers.old)
@@ -63,7 +67,26 @@ impl Subscriber {
         ensures same { KeepsFollowers self.old self.new }
         ensures keeps { KeepsPlaces E.here E.end_at E.writable peers.old peers.new }
     {
-        tell_all(alloc, &self.wanted, self.followers.as_mut_slice(), peers)
+        if self.quiet {
+            return Ok(());
+        }
+        self.tell_each(alloc, peers)
+    }
+
+    // Looks at each peer, and tells it what differs.
+    fn tell_each<E: Peers>(&mut self, alloc: Global, peers: &mut E) -> Result<(), AllocError>
+        requires there { All (E.here peers.old) (keys_of self.old.followers) }
+        ensures told { OnOk result (TellsPeers E.runs (E.end_at peers.old) (E.writable peers.old)
+            peers.old peers.new self.old self.new) }
+        ensures memory { OnErr result (StopsTelling E.runs (E.end_at peers.old)
+            (E.writable peers.old) peers.old peers.new self.old self.new) }
+        ensures same { KeepsFollowers self.old self.new }
+        ensures keeps { KeepsPlaces E.here E.end_at E.writable peers.old peers.new }
+    {
+        self.quiet = false;
+        let none = tell_all(alloc, &self.wanted, self.followers.as_mut_slice(), peers)?;
+        self.quiet = none;
+        Ok(())
     }
 
     // Subscribes to the topic once more, and tells it.
@@ -89,6 +112,7 @@ impl Subscriber {
             Err(WantedError::OutOfMemory) => return Err(ChangeFault::OutOfMemory),
         }
         note_all(alloc, topic, self.followers.as_mut_slice());
+        self.quiet = false;
         match self.tell(alloc, peers) {
             Ok(()) => return Ok(()),
             Err(_) => return Err(ChangeFault::Untold),
@@ -115,6 +139,7 @@ impl Subscriber {
             return Err(ChangeFault::NotSub);
         }
         note_all(alloc, topic, self.followers.as_mut_slice());
+        self.quiet = false;
         match self.tell(alloc, peers) {
             Ok(()) => return Ok(()),
             Err(_) => return Err(ChangeFault::Untold),
@@ -153,7 +178,10 @@ impl Subscriber {
     {
         self.ins.add(place)?;
         match self.followers.push(Follower::new(alloc, place)) {
-            Ok(()) => return Ok(()),
+            Ok(()) => {
+                self.quiet = false;
+                return Ok(());
+            }
             Err(_failed) => {
                 self.ins.take_back();
                 return Err(AllocError);

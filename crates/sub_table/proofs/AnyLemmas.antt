@@ -1,5 +1,5 @@
 -- Lists by what is in them.
-use Rattle.std.proofs.Common.{◌≡◌, ◌∙◌, ℕ, Bool, true, false, cond, ◌<◌, ◌||◌, ◌&&◌, filter, List, [], ◌∷◌, Some, None, nat_eq, nat_lt, refl, sym, ap, arith}
+use Rattle.std.proofs.Common.{◌≡◌, ◌∙◌, ℕ, Bool, true, false, cond, ◌<◌, ◌||◌, ◌&&◌, filter, List, [], ◌∷◌, Some, nat_eq, nat_lt, refl, sym, ap, arith}
 use Rattle.std.proofs.lemmas.Bool.{ltb-true}
 use Rattle.std.proofs.lemmas.Map.Views.{exact_unsigned_eq}
 use Rattle.std.specs.Cmp.{nat_eq_equiv}

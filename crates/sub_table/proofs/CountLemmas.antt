@@ -1,20 +1,20 @@
 -- Counts of topics that stand in order.
-use Rattle.std.proofs.Common.{◌≡◌, ◌∙◌, ℕ, Bool, true, false, cond, max, min, ◌≤◌, ◌+◌, ◌||◌, List, [], ◌∷◌, ◌++◌, length, map, take, Option, Some, None, refl, sym, ap, subst, arith, Bor}
-use Rattle.std.proofs.lemmas.Map.{keys-set_value}
+use Rattle.std.proofs.Common.{◌≡◌, ◌∙◌, ℕ, Bool, true, false, cond, ◌+◌, ◌||◌, List, [], ◌∷◌, ◌++◌, length, map, take, Option, Some, None, refl, sym, ap, subst, Bor}
 use Rattle.std.proofs.lemmas.List.Folds.{list_any-append}
-use Rattle.std.specs.Cmp.Lexicographic.{bytes_decides, nat_list_eq_equiv}
+use Rattle.std.specs.Cmp.Lexicographic.{nat_list_eq_equiv}
 use Rattle.std.specs.List.{list_any}
 use Rattle.std.specs.List.Sorted.{IsStrictlySortedBy}
-use Rattle.std.specs.Map.{keys_of, lookup, set_value}
+use Rattle.std.specs.Map.{keys_of, lookup}
 use Rattle.std.specs.Map.Iter.{deref}
-use Rattle.std.specs.Option.{is_some}
+use Rattle.std.specs.Option.{is_some, IfSome, IfNone}
 use Rattle.std.specs.Str.{bytes_eq}
 use Rattle.std.specs.declared.vec.Vec.{Vec}
-use Rattle.spec_pattern.specs.Topics.{Topic, AreInOrder, is_among, matches}
+use Rattle.spec_pattern.specs.Topics.{Topic, AreInOrder, is_among}
 use Rattle.spec_pattern.specs.Wanted.{Wanted, wants, matches_wanted}
+use Rattle.sub_table.specs.Lengths.{AreLengths, number_of}
 use Rattle.sub_table.specs.View.{entries_of, topics_in}
-use Rattle.sub_table.specs.Tables.{AreCounts}
-use Rattle.sub_table.proofs.ViewLemmas.{key_cmp, AreInOrder-topics_in, none_in_order}
+use Rattle.sub_table.proofs.ViewLemmas.{key_cmp, AreInOrder-topics_in}
+use Rattle.sub_table.proofs.LengthLemmas.{none_so_long}
 use Rattle.sub_table.proofs.MatchLemmas.{any_below, matches-fronts}
 
 module _ {K X : Type 0} (test : K → Bool) where
@@ -27,6 +27,11 @@ module _ {K X : Type 0} (test : K → Bool) where
       by true rest = refl
       by false rest = rest
 
+-- where none is found
+pub nothing_found : {X : Type 0} (o : Option X) → is_some o ≡ false → o ≡ None
+nothing_found None h = refl
+nothing_found (Some x) h = cc
+
 module _ {A X : Type 0} where
   -- a tree's topics, in order
   pub keys_of-entries_of : (es : List (Vec ℕ A × X)) → topics_in (keys_of es) ≡ keys_of (entries_of es)
@@ -37,56 +42,26 @@ module _ {A X : Type 0} where
   pub entries_in_order : (es : List (Vec ℕ A × X)) → IsStrictlySortedBy key_cmp (keys_of es) → AreInOrder (keys_of (entries_of es))
   entries_in_order es order = subst AreInOrder (keys_of-entries_of es) (AreInOrder-topics_in (keys_of es) order)
 
-module _ {X : Type 0} where
-  -- no topics
-  pub AreCounts-none : (es : List (Topic × X)) (longest : ℕ) → es ≡ [] → AreCounts es longest
-  AreCounts-none es longest none = record {
-    short = λ t h. absurd (by (sym (ap (λ l. is_some (lookup (bytes_eq t) l)) none) ∙ h));
-    order = subst (λ l. AreInOrder (keys_of l)) (sym none) none_in_order;
-  }
-    where
-      by : false ≡ true → ⊥
-      by e = cc
+-- a topic of a length that none has is not there
+pub not_found : {X : Type 0} (es : List (Topic × X)) (counts : List (ℕ × ℕ)) → AreLengths (keys_of es) counts
+    → (t : Topic) → number_of counts (length t) ≡ 0 → lookup (bytes_eq t) es ≡ None
+not_found es counts are t none =
+    nothing_found (lookup (bytes_eq t) es) (found_is_key (bytes_eq t) es ∙ none_so_long t (keys_of es) (sym (are (length t)) ∙ none))
 
-  -- a topic more
-  pub AreCounts-more : (topic : Topic) (v : X) (old new : List (Topic × X)) (longest : ℕ) → AreInOrder (keys_of new) → AreCounts old longest
-      → ((t : Topic) → lookup (bytes_eq t) new ≡ cond (bytes_eq topic t) (Some v) (lookup (bytes_eq t) old)) → AreCounts new (max longest (length topic))
-  AreCounts-more topic v old new longest order counts sets = record {
-    short = λ t h. by t (bytes_eq topic t) refl (sym (ap is_some (sets t)) ∙ h) (counts.short t);
-    order = order;
-  }
-    where
-      by : (t : Topic) (b : Bool) → bytes_eq topic t ≡ b → is_some (cond b (Some v) (lookup (bytes_eq t) old)) ≡ true
-          → (is_some (lookup (bytes_eq t) old) ≡ true → length t ≤ longest) → length t ≤ max longest (length topic)
-      by t true same h short = let e : length topic ≡ length t = ap length ((bytes_decides topic t).0 same) in omega arith
-      by t false other h short = let l : length t ≤ longest = short h in omega arith
+-- what is so of a fact about what may be there is so of one that follows
+pub if_some : {X : Type 0} {P Q : X → Type 0} (o : Option X) → ((x : X) → P x → Q x) → IfSome o P → IfSome o Q
+if_some None then h = tt
+if_some (Some x) then h = then x h
 
-  -- a topic less
-  pub AreCounts-less : (topic : Topic) (old new : List (Topic × X)) (longest : ℕ) → AreInOrder (keys_of new) → AreCounts old longest
-      → ((t : Topic) → lookup (bytes_eq t) new ≡ cond (bytes_eq topic t) None (lookup (bytes_eq t) old)) → AreCounts new longest
-  AreCounts-less topic old new longest order counts sets = record {
-    short = λ t h. by t (bytes_eq topic t) (sym (ap is_some (sets t)) ∙ h) (counts.short t);
-    order = order;
-  }
-    where
-      by : (t : Topic) (b : Bool) → is_some (cond b None (lookup (bytes_eq t) old)) ≡ true
-          → (is_some (lookup (bytes_eq t) old) ≡ true → length t ≤ longest) → length t ≤ longest
-      by t true h short = absurd (cc)
-      by t false h short = short h
-
-  -- a count that is set
-  pub AreCounts-set : (topic : Topic) (v : X) (old new : List (Topic × X)) (longest : ℕ) → AreCounts old longest → new ≡ set_value (bytes_eq topic) old v → AreCounts new longest
-  AreCounts-set topic v old new longest counts is = subst (λ l. AreCounts l longest) (sym is) (record {
-    short = λ t h. counts.short t (found_is_key (bytes_eq t) old ∙ ap (list_any (bytes_eq t)) (sym (keys-set_value (bytes_eq topic) old v)) ∙ sym (found_is_key (bytes_eq t) (set_value (bytes_eq topic) old v)) ∙ h);
-    order = subst AreInOrder (sym (keys-set_value (bytes_eq topic) old v)) counts.order;
-  })
+pub if_none : {X : Type 0} {P Q : Type 0} (o : Option X) → (P → Q) → IfNone o P → IfNone o Q
+if_none None then h = then h
+if_none (Some x) then h = tt
 
 -- what is wanted matches where a front of the octets is wanted
-pub matches_wanted-fronts : (wanted : Wanted) (octets : List ℕ) (longest : ℕ) → AreCounts wanted longest
-    → any_below (min (length octets) longest + 1) (λ i. wants wanted (take i octets)) ≡ matches_wanted wanted octets
-matches_wanted-fronts wanted octets longest counts =
-    (λ j. any_below (min (length octets) longest + 1) (λ i. found_is_key (bytes_eq (take i octets)) wanted j))
-    ∙ matches-fronts (keys_of wanted) octets longest (λ t h. counts.short t (found_is_key (bytes_eq t) wanted ∙ h))
+pub matches_wanted-fronts : (wanted : Wanted) (octets : List ℕ) → any_below (length octets + 1) (λ i. wants wanted (take i octets)) ≡ matches_wanted wanted octets
+matches_wanted-fronts wanted octets =
+    (λ j. any_below (length octets + 1) (λ i. found_is_key (bytes_eq (take i octets)) wanted j))
+    ∙ matches-fronts (keys_of wanted) octets
 
 -- topics to which one of a list is added, behind those before it
 pub is_among-one_more : (topic : Topic) (start mid new xs ys : List Topic) (t : Topic)

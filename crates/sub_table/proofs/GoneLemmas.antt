@@ -4,10 +4,10 @@ use Rattle.std.proofs.lemmas.Map.{keys-set_value}
 use Rattle.std.proofs.lemmas.Map.Views.{exact_unsigned_eq}
 use Rattle.std.specs.List.{list_any}
 use Rattle.std.specs.Ordering.{nat_cmp, eq_by_cmp}
-use Rattle.std.specs.Map.{keys_of, lookup, set_value, remove_entry}
+use Rattle.std.specs.Map.{keys_of, lookup, set_value}
 use Rattle.std.specs.Option.{is_some, unwrap_or}
 use Rattle.spec_pattern.specs.Topics.{Topic, Subscribers, is_among, topics_of, has_topic, others_have, topics_gone, without_peer}
-use Rattle.sub_table.specs.Tables.{ChangesOnly, TakesFirst, TakesGone}
+use Rattle.sub_table.specs.Tables.{ChangesOnly, TakesFirst}
 use Rattle.sub_table.proofs.ViewLemmas.{set_value-absent}
 use Rattle.sub_table.proofs.RowLemmas.{same_peer, set_value-found, set_value-twice, remove_entry-set_value, topics_of-set}
 

@@ -5,6 +5,7 @@ pub mod AnyLemmas
 pub mod RowLemmas
 pub mod TieLemmas
 pub mod MatchLemmas
+pub mod LengthLemmas
 pub mod GoneLemmas
 pub mod CountLemmas
 pub mod TellLemmas

@@ -1,26 +1,24 @@
 -- Each peer's topics and each topic's peers go on saying the same.
-use Rattle.std.proofs.Common.{◌≡◌, ◌∙◌, ℕ, Bool, true, false, not, cond, max, ◌≤◌, ◌||◌, ◌&&◌, List, [], ◌∷◌, length, nat_eq, Option, Some, None, refl, sym, ap, arith}
+use Rattle.std.proofs.Common.{◌≡◌, ◌∙◌, ℕ, Bool, true, false, not, ◌||◌, ◌&&◌, List, nat_eq, refl, sym, ap}
 use Rattle.std.proofs.lemmas.Map.Views.{exact_unsigned_eq}
 use Rattle.std.specs.Cmp.{nat_eq_equiv}
 use Rattle.std.specs.Cmp.Lexicographic.{bytes_decides}
 use Rattle.std.specs.List.{list_any}
 use Rattle.std.specs.List.Sorted.{IsStrictlySortedBy}
 use Rattle.std.specs.Ordering.{nat_cmp}
-use Rattle.std.specs.Map.{keys_of, lookup}
-use Rattle.std.specs.Option.{is_some}
+use Rattle.std.specs.Map.{keys_of}
 use Rattle.std.specs.Str.{bytes_eq}
 use Rattle.spec_pattern.specs.Topics.{Topic, Subscribers, has_topic, others_have}
-use Rattle.sub_table.specs.View.{is_peer, holders_of, holds, Gains, Loses}
+use Rattle.sub_table.specs.View.{holders_of, holds, Gains, Loses}
 use Rattle.sub_table.specs.Tables.{AreTied}
 use Rattle.sub_table.proofs.AnyLemmas.{any_gives, any_at, both_ways, row_is_key}
 use Rattle.sub_table.proofs.RowLemmas.{row_of_topic}
 
-module _ (subs new : Subscribers ℕ) (held : List (Topic × List ℕ)) (longest : ℕ) where
+module _ (subs new : Subscribers ℕ) (held : List (Topic × List ℕ)) where
   -- the peers' topics stay
-  pub AreTied-rows : IsStrictlySortedBy nat_cmp (keys_of new) → AreTied subs held longest → ((q : ℕ) (t : Topic) → has_topic nat_eq new q t ≡ has_topic nat_eq subs q t) → AreTied new held longest
+  pub AreTied-rows : IsStrictlySortedBy nat_cmp (keys_of new) → AreTied subs held → ((q : ℕ) (t : Topic) → has_topic nat_eq new q t ≡ has_topic nat_eq subs q t) → AreTied new held
   AreTied-rows order tied same = record {
     same = λ t p. tied.same t p ∙ sym (same p t);
-    short = λ t p h. tied.short t p (sym (same p t) ∙ h);
     order = order;
   }
 
@@ -31,41 +29,28 @@ module _ (subs new : Subscribers ℕ) (held : List (Topic × List ℕ)) (longest
   swapped false false = refl
 
   -- a peer has a topic more
-  pub AreTied-more : (topic : Topic) (peer : ℕ) (after : List (Topic × List ℕ)) → IsStrictlySortedBy nat_cmp (keys_of new) → AreTied subs held longest → Gains topic peer held after
+  pub AreTied-more : (topic : Topic) (peer : ℕ) (after : List (Topic × List ℕ)) → IsStrictlySortedBy nat_cmp (keys_of new) → AreTied subs held → Gains topic peer held after
       → ((q : ℕ) (t : Topic) → has_topic nat_eq new q t ≡ ((nat_eq peer q && bytes_eq topic t) || has_topic nat_eq subs q t))
-      → AreTied new after (max longest (length topic))
+      → AreTied new after
   AreTied-more topic peer after order tied gains more = record {
     same = λ t p. gains t p ∙ (λ j. swapped (bytes_eq topic t) (nat_eq peer p) j || tied.same t p j) ∙ sym (more p t);
-    short = λ t p h. by t (nat_eq peer p) (bytes_eq topic t) refl (λ has. tied.short t p has) (sym (more p t) ∙ h);
     order = order;
   }
-    where
-      by : (t : Topic) (a b : Bool) → bytes_eq topic t ≡ b → {has : Bool} → (has ≡ true → length t ≤ longest) → ((a && b) || has) ≡ true → length t ≤ max longest (length topic)
-      by t true true same short h = let e : length topic ≡ length t = ap length ((bytes_decides topic t).0 same) in omega arith
-      by t true false same short h = let l : length t ≤ longest = short h in omega arith
-      by t false b same short h = let l : length t ≤ longest = short h in omega arith
-
-  kept : (a b : Bool) → (not a && b) ≡ true → b ≡ true
-  kept true true h = refl
-  kept true false h = h
-  kept false b h = h
 
   -- a peer has a topic less
-  pub AreTied-less : (topic : Topic) (peer : ℕ) (after : List (Topic × List ℕ)) → IsStrictlySortedBy nat_cmp (keys_of new) → AreTied subs held longest → Loses topic peer held after
+  pub AreTied-less : (topic : Topic) (peer : ℕ) (after : List (Topic × List ℕ)) → IsStrictlySortedBy nat_cmp (keys_of new) → AreTied subs held → Loses topic peer held after
       → ((q : ℕ) (t : Topic) → has_topic nat_eq new q t ≡ (not (nat_eq peer q && bytes_eq topic t) && has_topic nat_eq subs q t))
-      → AreTied new after longest
+      → AreTied new after
   AreTied-less topic peer after order tied loses less = record {
     same = λ t p. loses t p ∙ (λ j. not (swapped (bytes_eq topic t) (nat_eq peer p) j) && tied.same t p j) ∙ sym (less p t);
-    short = λ t p h. tied.short t p (kept (nat_eq peer p && bytes_eq topic t) (has_topic nat_eq subs p t) (sym (less p t) ∙ h));
     order = order;
   }
 
 -- what a topic gained and lost again is what was, where the peer hadn't the topic
-pub AreTied-undone : (subs : Subscribers ℕ) (held mid after : List (Topic × List ℕ)) (longest peer : ℕ) (topic : Topic) → AreTied subs held longest
-    → has_topic nat_eq subs peer topic ≡ false → Gains topic peer held mid → Loses topic peer mid after → AreTied subs after longest
-AreTied-undone subs held mid after longest peer topic tied new gains loses = record {
+pub AreTied-undone : (subs : Subscribers ℕ) (held mid after : List (Topic × List ℕ)) (peer : ℕ) (topic : Topic) → AreTied subs held
+    → has_topic nat_eq subs peer topic ≡ false → Gains topic peer held mid → Loses topic peer mid after → AreTied subs after
+AreTied-undone subs held mid after peer topic tied new gains loses = record {
   same = λ t p. loses t p ∙ ap (λ b. not (bytes_eq topic t && nat_eq peer p) && b) (gains t p) ∙ by t p (bytes_eq topic t) (nat_eq peer p) refl refl ∙ tied.same t p;
-  short = tied.short;
   order = tied.order;
 }
   where
@@ -76,14 +61,14 @@ AreTied-undone subs held mid after longest peer topic tied new gains loses = rec
     by t p false b here there = refl
 
 -- the peers of a topic are what they were
-pub AreTied-held : (subs : Subscribers ℕ) (held after : List (Topic × List ℕ)) (longest : ℕ) → AreTied subs held longest
-    → ((t : Topic) (q : ℕ) → holds after t q ≡ holds held t q) → AreTied subs after longest
-AreTied-held subs held after longest tied same = record { same = λ t p. same t p ∙ tied.same t p; short = tied.short; order = tied.order }
+pub AreTied-held : (subs : Subscribers ℕ) (held after : List (Topic × List ℕ)) → AreTied subs held
+    → ((t : Topic) (q : ℕ) → holds after t q ≡ holds held t q) → AreTied subs after
+AreTied-held subs held after tied same = record { same = λ t p. same t p ∙ tied.same t p; order = tied.order }
 
 -- whether others have a topic, seen from the topic and from the peers
-pub others-held : (subs : Subscribers ℕ) (held : List (Topic × List ℕ)) (longest peer : ℕ) (topic : Topic) → AreTied subs held longest
+pub others-held : (subs : Subscribers ℕ) (held : List (Topic × List ℕ)) (peer : ℕ) (topic : Topic) → AreTied subs held
     → list_any (λ q. not (nat_eq peer q)) (holders_of held topic) ≡ others_have nat_eq subs peer topic
-others-held subs held longest peer topic tied = both_ways _ _ there back
+others-held subs held peer topic tied = both_ways _ _ there back
   where
     both : (a b : Bool) → a ≡ true → b ≡ true → (a && b) ≡ true
     both true b x y = y

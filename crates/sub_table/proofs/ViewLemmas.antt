@@ -33,7 +33,7 @@ module _ {A : Type 0} where
   same_tests : (q : Topic) → at_key q ≡ same_octets q
   same_tests q = λ j k. octets_ties q k.items j
 
-  set_value-octets : (q : Topic) (es : List (Vec ℕ A × ℕ)) (v : ℕ) → entries_of (set_value (same_octets q) es v) ≡ set_value (bytes_eq q) (entries_of es) v
+  set_value-octets : {X : Type 0} (q : Topic) (es : List (Vec ℕ A × X)) (v : X) → entries_of (set_value (same_octets q) es v) ≡ set_value (bytes_eq q) (entries_of es) v
   set_value-octets q [] v = refl
   set_value-octets q (e ∷ es) v = by (bytes_eq q e.0.items) (set_value-octets q es v)
     where
@@ -44,10 +44,10 @@ module _ {A : Type 0} where
       by false rest = ap (λ l. (e.0.items, e.1) ∷ l) rest
 
   -- a count that is set
-  pub set_value-entries_of : (q : Topic) (es : List (Vec ℕ A × ℕ)) (v : ℕ) → entries_of (set_value (at_key q) es v) ≡ set_value (bytes_eq q) (entries_of es) v
+  pub set_value-entries_of : {X : Type 0} (q : Topic) (es : List (Vec ℕ A × X)) (v : X) → entries_of (set_value (at_key q) es v) ≡ set_value (bytes_eq q) (entries_of es) v
   set_value-entries_of q es v = ap (λ test. entries_of (set_value test es v)) (same_tests q) ∙ set_value-octets q es v
 
-  remove_entry-octets : (q : Topic) (es : List (Vec ℕ A × ℕ)) → entries_of (remove_entry (same_octets q) es) ≡ remove_entry (bytes_eq q) (entries_of es)
+  remove_entry-octets : {X : Type 0} (q : Topic) (es : List (Vec ℕ A × X)) → entries_of (remove_entry (same_octets q) es) ≡ remove_entry (bytes_eq q) (entries_of es)
   remove_entry-octets q [] = refl
   remove_entry-octets q (e ∷ es) = by (bytes_eq q e.0.items) (remove_entry-octets q es)
     where
@@ -57,7 +57,7 @@ module _ {A : Type 0} where
       by false rest = ap (λ l. (e.0.items, e.1) ∷ l) rest
 
   -- a topic that is taken out
-  pub remove_entry-entries_of : (q : Topic) (es : List (Vec ℕ A × ℕ)) → entries_of (remove_entry (at_key q) es) ≡ remove_entry (bytes_eq q) (entries_of es)
+  pub remove_entry-entries_of : {X : Type 0} (q : Topic) (es : List (Vec ℕ A × X)) → entries_of (remove_entry (at_key q) es) ≡ remove_entry (bytes_eq q) (entries_of es)
   remove_entry-entries_of q es = ap (λ test. entries_of (remove_entry test es)) (same_tests q) ∙ remove_entry-octets q es
 
   -- the order of keys is that of their octets
@@ -65,7 +65,7 @@ module _ {A : Type 0} where
   key_cmp k other = slice_cmp nat_cmp k.items other.items
 
   -- a topic that is put in
-  pub insert_entry-entries_of : (k : Vec ℕ A) (v : ℕ) (es : List (Vec ℕ A × ℕ)) → entries_of (insert_entry key_cmp es k v) ≡ insert_entry (slice_cmp nat_cmp) (entries_of es) k.items v
+  pub insert_entry-entries_of : {X : Type 0} (k : Vec ℕ A) (v : X) (es : List (Vec ℕ A × X)) → entries_of (insert_entry key_cmp es k v) ≡ insert_entry (slice_cmp nat_cmp) (entries_of es) k.items v
   insert_entry-entries_of k v [] = refl
   insert_entry-entries_of k v (e ∷ es) = by (slice_cmp nat_cmp k.items e.0.items) (insert_entry-entries_of k v es)
     where
@@ -136,7 +136,7 @@ module _ {A : Type 0} where
       by false rest = rest
 
   -- the topics that are wanted, in order
-  pub keys_of-entries_of : (es : List (Vec ℕ A × ℕ)) → topics_in (keys_of es) ≡ keys_of (entries_of es)
+  pub keys_of-entries_of : {X : Type 0} (es : List (Vec ℕ A × X)) → topics_in (keys_of es) ≡ keys_of (entries_of es)
   keys_of-entries_of [] = refl
   keys_of-entries_of (e ∷ es) = ap (λ l. e.0.items ∷ l) (keys_of-entries_of es)
 

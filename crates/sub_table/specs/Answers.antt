@@ -1,8 +1,6 @@
 -- What adding and cancelling a topic answer (RFC 29, "The XPUB Socket Type": the upstream sees a topic's first subscriber and its last cancel).
-use Rattle.std.specs.Prelude.{◌≡◌, ◌∷◌, ◌≤◌, ℕ, List, length, nat_eq, true, if◌then◌else◌}
-use Rattle.std.specs.Map.{set_value}
-use Rattle.spec_pattern.specs.Topics.{Topic, Subscribers, topics_of, has_topic, others_have, is_full, topics_gone}
-use Rattle.sub_table.specs.View.{holds}
+use Rattle.std.specs.Prelude.{ℕ, nat_eq, if◌then◌else◌}
+use Rattle.spec_pattern.specs.Topics.{Topic, Subscribers, has_topic, others_have, is_full}
 use Rattle.sub_table.specs.declared.topics.Added.{Added}
 use Rattle.sub_table.specs.declared.topics.Added.TheVariants as add
 use Rattle.sub_table.specs.declared.topics.Cancelled.{Cancelled}

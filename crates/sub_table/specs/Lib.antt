@@ -1,4 +1,5 @@
 pub mod View
 pub mod Tables
 pub mod Answers
+pub mod Lengths
 pub mod Telling

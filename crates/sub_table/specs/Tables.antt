@@ -1,17 +1,15 @@
 -- How a table of topics is kept: each peer's topics, and each topic's peers, which say the same (own choice).
-use Rattle.std.specs.Prelude.{◌≡◌, ◌∷◌, ◌≤◌, ℕ, List, length, nat_eq, true}
+use Rattle.std.specs.Prelude.{◌≡◌, ◌∷◌, ℕ, List, nat_eq}
 use Rattle.std.specs.List.Sorted.{IsStrictlySortedBy}
-use Rattle.std.specs.Map.{keys_of, lookup, set_value}
-use Rattle.std.specs.Option.{is_some}
-use Rattle.std.specs.Str.{bytes_eq}
+use Rattle.std.specs.Map.{keys_of, set_value}
 use Rattle.std.specs.Ordering.{nat_cmp}
 use Rattle.spec_pattern.specs.Topics.{Topic, Subscribers, AreInOrder, topics_of, has_topic, topics_gone}
+use Rattle.sub_table.specs.Lengths.{AreLengths}
 use Rattle.sub_table.specs.View.{holds}
 
--- a topic's peers are those that have it, no topic is longer than this, and peers stand in the order of their numbers
-pub record AreTied (subs : Subscribers ℕ) (held : List (Topic × List ℕ)) (longest : ℕ) : Type 0 where
+-- a topic's peers are those that have it, and peers stand in the order of their numbers
+pub record AreTied (subs : Subscribers ℕ) (held : List (Topic × List ℕ)) : Type 0 where
   pub same : (t : Topic) (p : ℕ) → holds held t p ≡ has_topic nat_eq subs p t
-  pub short : (t : Topic) (p : ℕ) → has_topic nat_eq subs p t ≡ true → length t ≤ longest
   pub order : IsStrictlySortedBy nat_cmp (keys_of subs)
 
 -- only the peer's topics change
@@ -28,7 +26,7 @@ pub record TakesGone (peer : ℕ) (topic : Topic) (old new : Subscribers ℕ) : 
   pub gone : topics_gone nat_eq old peer ≡ topic ∷ topics_gone nat_eq new peer
   pub only : ChangesOnly peer old new
 
--- topics stand in order, and none is longer than this
-pub record AreCounts {X : Type 0} (entries : List (Topic × X)) (longest : ℕ) : Type 0 where
-  pub short : (t : Topic) → is_some (lookup (bytes_eq t) entries) ≡ true → length t ≤ longest
+-- topics stand in order, and these are the counts of their lengths
+pub record AreCounts {X : Type 0} (entries : List (Topic × X)) (counts : List (ℕ × ℕ)) : Type 0 where
+  pub lengths : AreLengths (keys_of entries) counts
   pub order : AreInOrder (keys_of entries)

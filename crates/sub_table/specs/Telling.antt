@@ -1,5 +1,5 @@
 -- What is kept of a peer to find the topics that it has to be told: those that may differ, or that any may (own choice).
-use Rattle.std.specs.Prelude.{◌≡◌, Bool, true, false, not, List, [], ◌∷◌}
+use Rattle.std.specs.Prelude.{◌≡◌, Bool, true, false, not, List, ◌∷◌}
 use Rattle.std.specs.Map.{keys_of}
 use Rattle.std.specs.Str.{bytes_eq}
 use Rattle.spec_pattern.specs.Topics.{Topic, AreInOrder, is_among}

@@ -1,25 +1,31 @@
+use crate::lengths::Lengths;
 use crate::peer_set::PeerSet;
 use std::alloc::{AllocError, Global};
 use std::collections::BTreeMap;
 use std::marker::Model;
 
-/// The peers of each topic that has any.
+/// The peers of each topic that has any, and how long these topics are.
 #[derive(Drop)]
 pub(crate) struct Holders {
     by_topic: BTreeMap<Vec<u8>, PeerSet>,
+    lengths: Lengths,
 }
 
 impl Model for Holders {
     ghost use Rattle.std.specs.Prelude.{List, ℕ};
+    ghost use Rattle.std.specs.Map.{keys_of};
+    ghost use Rattle.sub_table.specs.Lengths.{AreLengths};
     ghost use Rattle.sub_table.specs.View.{entries_of};
 
     ghost Value = { List (List ℕ × List ℕ) };
 
     ghost view = { λ h. entries_of h.by_topic.entries };
+
+    ghost invariant = { λ h. AreLengths (keys_of (entries_of h.by_topic.entries)) h.lengths };
 }
 
 impl Holders {
-    ghost use Rattle.std.specs.Prelude.{◌≡◌, ◌&&◌, ◌||◌, ℕ, List, not, [], nat_eq, IsTrue, OnOk, OnErr};
+    ghost use Rattle.std.specs.Prelude.{◌≡◌, ◌≤◌, ◌<◌, ◌&&◌, ◌||◌, ℕ, List, None, not, [], length, nat_eq, is_some, true, IsTrue, OnOk, OnErr, IfSome, IfNone};
     ghost use Rattle.std.specs.List.{list_any};
     ghost use Rattle.std.specs.Map.{lookup};
     ghost use Rattle.std.specs.Option.{option_map};
@@ -32,7 +38,17 @@ impl Holders {
     {
         Holders {
             by_topic: BTreeMap::new(alloc),
+            lengths: Lengths::new(alloc),
         }
+    }
+
+    /// The least length from this one on that a topic has.
+    pub(crate) fn next_length(&self, from: usize) -> Option<usize>
+        ensures some { IfSome result (λ n. (from ≤ n)
+            × ((t : List ℕ) → from ≤ length t → length t < n → holders_of self.now t ≡ [])) }
+        ensures none { IfNone result ((t : List ℕ) → from ≤ length t → holders_of self.now t ≡ []) }
+    {
+        self.lengths.next(from)
     }
 
     /// The peers of the topic.
@@ -83,26 +99,34 @@ impl Holders {
     {
         if self.leaves_none(topic, peer) {
             self.by_topic.remove(topic);
+            self.lengths.remove(topic.len());
         }
     }
 
     // The peer has a topic that nobody has.
     fn begin(&mut self, alloc: Global, topic: &[u8], peer: usize) -> Result<(), AllocError>
-        requires { holders_of self.old topic.now ≡ [] }
+        requires { lookup (bytes_eq topic.now) self.old ≡ None }
         ensures ok { OnOk result (Gains topic.now peer self.old self.new) }
         ensures err { OnErr result ((t : List ℕ) (q : ℕ) → holds self.new t q ≡ holds self.old t q) }
     {
-        let topic = Vec::from_slice(alloc, topic)?;
+        let key = Vec::from_slice(alloc, topic)?;
         let mut peers = PeerSet::new(alloc);
         peers.add(peer)?;
-        self.by_topic.insert(topic, peers)?;
-        Ok(())
+        self.lengths.add(topic.len())?;
+        match self.by_topic.insert(key, peers) {
+            Ok(_) => return Ok(()),
+            Err(e) => {
+                self.lengths.remove(topic.len());
+                return Err(e.into());
+            }
+        }
     }
 
     // Takes the peer out, and says whether it was the topic's last.
     fn leaves_none(&mut self, topic: &[u8], peer: usize) -> bool
         ensures loses { Loses topic.now peer self.old self.new }
-        ensures none { IsTrue result → holders_of self.new topic.now ≡ [] }
+        ensures none { IsTrue result → (holders_of self.new topic.now ≡ [])
+            × (is_some (lookup (bytes_eq topic.now) self.new) ≡ true) }
     {
         match self.by_topic.get_mut(topic) {
             Some(peers) => {

@@ -2,6 +2,7 @@
 #![tactic(auto)]
 
 mod holders;
+mod lengths;
 mod peer_set;
 mod rows;
 mod told;

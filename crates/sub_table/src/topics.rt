@@ -29,7 +29,6 @@ pub enum Cancelled {
 pub struct Topics {
     peers: BTreeMap<usize, TopicSet>,
     holders: Holders,
-    longest: usize,
 }
 
 impl Model for Topics {
@@ -40,11 +39,11 @@ impl Model for Topics {
 
     ghost view = { λ t. t.peers.entries };
 
-    ghost invariant = { λ t. AreTied t.peers.entries t.holders t.longest };
+    ghost invariant = { λ t. AreTied t.peers.entries t.holders };
 }
 
 impl Topics {
-    ghost use Rattle.std.specs.Prelude.{◌≡◌, ◌<◌, ◌∷◌, [], ◌++◌, All, ℕ, length, nat_eq, is_some, true, false, IfOk, OnOk, OnErr, MatchOption};
+    ghost use Rattle.std.specs.Prelude.{◌≡◌, ◌<◌, ◌≤◌, ◌∷◌, [], ◌++◌, All, ℕ, List, length, nat_eq, is_some, true, false, IfOk, IfSome, IfNone, OnOk, OnErr, MatchOption};
     ghost use Rattle.std.specs.List.Sorted.{IsStrictlySortedBy};
     ghost use Rattle.std.specs.Map.{keys_of, lookup, set_value};
     ghost use Rattle.std.specs.Ordering.{nat_cmp};
@@ -63,7 +62,6 @@ impl Topics {
         Topics {
             peers: BTreeMap::new(alloc),
             holders: Holders::new(alloc),
-            longest: 0,
         }
     }
 
@@ -116,7 +114,7 @@ impl Topics {
     }
 
     /// The peers that have a topic which is a prefix of the octets, in the order in which they
-    /// came. Each prefix is looked up once, none that is longer than any topic.
+    /// came. A prefix is looked up once, and only where a topic is as long.
     pub fn matching(&self, alloc: Global, octets: &[u8]) -> Result<Vec<usize>, AllocError>
         ensures { IfOk result (λ v. v.items ≡ matching nat_eq self.now octets.now) }
     {
@@ -186,10 +184,7 @@ impl Topics {
     {
         self.holders.add(alloc, topic, peer)?;
         match put_topic(&mut self.peers, alloc, peer, topic) {
-            Ok(()) => {
-                self.longest = self.longest.max(topic.len());
-                return Ok(());
-            }
+            Ok(()) => return Ok(()),
             Err(e) => {
                 self.holders.remove(topic, peer);
                 return Err(e);
@@ -227,10 +222,29 @@ impl Topics {
             is_peer peers q ≡ matches (topics_of nat_eq self.now q) octets.now) }
     {
         let mut found = PeerSet::new(alloc);
-        let last = octets.len().min(self.longest);
-        'prefixes: for end in 0..last + 1 {
+        let mut from = 0;
+        'prefixes: while let Some(end) = self.next_end(from, octets.len()) {
             self.holders.add_to(&octets[..end], &mut found)?;
+            from = end + 1;
         }
         Ok(found)
+    }
+
+    // The least length from this one on that a topic has, up to the last.
+    fn next_end(&self, from: usize, last: usize) -> Option<usize>
+        ensures some { IfSome result (λ n. (from ≤ n) × (n ≤ last)
+            × ((q : ℕ) (t : List ℕ) → from ≤ length t → length t < n → has_topic nat_eq self.now q t ≡ false)) }
+        ensures none { IfNone result ((q : ℕ) (t : List ℕ) → from ≤ length t → length t ≤ last →
+            has_topic nat_eq self.now q t ≡ false) }
+    {
+        match self.holders.next_length(from) {
+            Some(end) => {
+                if end > last {
+                    return None;
+                }
+                return Some(end);
+            }
+            None => return None,
+        }
     }
 }

@@ -1,3 +1,4 @@
+use crate::lengths::Lengths;
 use crate::topic_set::TopicSet;
 use std::alloc::{AllocError, Global};
 use std::collections::BTreeMap;
@@ -29,7 +30,7 @@ pub struct NotSub;
 #[derive(Drop)]
 pub struct Wanted {
     counts: BTreeMap<Vec<u8>, u64>,
-    longest: usize,
+    lengths: Lengths,
 }
 
 impl Model for Wanted {
@@ -41,11 +42,11 @@ impl Model for Wanted {
 
     ghost view = { λ w. entries_of w.counts.entries };
 
-    ghost invariant = { λ w. AreCounts (entries_of w.counts.entries) w.longest };
+    ghost invariant = { λ w. AreCounts (entries_of w.counts.entries) w.lengths };
 }
 
 impl Wanted {
-    ghost use Rattle.std.specs.Prelude.{◌≡◌, ◌↔◌, ◌||◌, ◌≤◌, ℕ, List, [], length, true, false, IsTrue, IsOk, OnOk, OnErr, IsErrOf, if◌then◌else◌};
+    ghost use Rattle.std.specs.Prelude.{◌≡◌, ◌↔◌, ◌||◌, ◌≤◌, ◌<◌, ℕ, List, [], length, true, false, IsTrue, IsOk, IfSome, IfNone, OnOk, OnErr, IsErrOf, if◌then◌else◌};
     ghost use Rattle.std.specs.Map.{keys_of, lookup, set_value, remove_entry};
     ghost use Rattle.std.specs.BTreeMap.{insert_entry};
     ghost use Rattle.std.specs.Str.{bytes_eq};
@@ -61,7 +62,7 @@ impl Wanted {
     {
         Wanted {
             counts: BTreeMap::new(alloc),
-            longest: 0,
+            lengths: Lengths::new(alloc),
         }
     }
 
@@ -108,16 +109,17 @@ impl Wanted {
         self.counts.contains_key(topic)
     }
 
-    /// Whether one of the topics is a prefix of the octets. Each prefix is looked up once, none
-    /// that is longer than any topic.
+    /// Whether one of the topics is a prefix of the octets. A prefix is looked up once, and only
+    /// where a topic is as long.
     pub fn matches(&self, octets: &[u8]) -> bool
         ensures { result ≡ matches_wanted self.now octets.now }
     {
-        let last = octets.len().min(self.longest);
-        'prefixes: for end in 0..last + 1 {
+        let mut from = 0;
+        'prefixes: while let Some(end) = self.next_end(from, octets.len()) {
             if self.wants(&octets[..end]) {
                 return true;
             }
+            from = end + 1;
         }
         false
     }
@@ -169,19 +171,45 @@ impl Wanted {
 
     // Puts a topic in its place, with one subscription.
     fn begin(&mut self, alloc: Global, topic: &[u8]) -> Result<(), AllocError>
+        requires { wants self.old topic.now ≡ false }
         ensures ok { OnOk result (self.new ≡ insert_entry topic_cmp self.old topic.now 1) }
         ensures err { OnErr result (self.new ≡ self.old) }
     {
         let key = Vec::from_slice(alloc, topic)?;
-        self.counts.insert(key, 1)?;
-        self.longest = self.longest.max(topic.len());
-        Ok(())
+        self.lengths.add(topic.len())?;
+        match self.counts.insert(key, 1) {
+            Ok(_) => return Ok(()),
+            Err(e) => {
+                self.lengths.remove(topic.len());
+                return Err(e.into());
+            }
+        }
     }
 
-    // Takes a topic out.
+    // Takes a topic out that is wanted.
     fn end(&mut self, topic: &[u8])
+        requires { wants self.old topic.now ≡ true }
         ensures { self.new ≡ remove_entry (bytes_eq topic.now) self.old }
     {
         self.counts.remove(topic);
+        self.lengths.remove(topic.len());
+    }
+
+    // The least length from this one on that a topic has, up to the last.
+    fn next_end(&self, from: usize, last: usize) -> Option<usize>
+        ensures some { IfSome result (λ n. (from ≤ n) × (n ≤ last)
+            × ((t : List ℕ) → from ≤ length t → length t < n → wants self.now t ≡ false)) }
+        ensures none { IfNone result ((t : List ℕ) → from ≤ length t → length t ≤ last →
+            wants self.now t ≡ false) }
+    {
+        match self.lengths.next(from) {
+            Some(end) => {
+                if end > last {
+                    return None;
+                }
+                return Some(end);
+            }
+            None => return None,
+        }
     }
 }

@@ -1,4 +1,4 @@
-use Rattle.std.proofs.Common.{◌≡◌, ap, sym, ◌∙◌, not, ◌&&◌, Some, None, nat_eq}
+use Rattle.std.proofs.Common.{ap, sym, ◌∙◌, not, ◌&&◌, Some, None, nat_eq}
 use Rattle.std.specs.Map.{set_value}
 use Rattle.std.specs.Option.{is_some}
 use Rattle.std.specs.Str.{bytes_eq}

@@ -1,4 +1,4 @@
-use Rattle.std.proofs.Common.{◌≡◌, ap, sym, ◌∙◌, ◌||◌, Some, nat_eq}
+use Rattle.std.proofs.Common.{ap, sym, ◌∙◌, ◌||◌, Some, nat_eq}
 use Rattle.std.specs.Map.{set_value}
 use Rattle.std.specs.Str.{bytes_eq}
 use Rattle.spec_pattern.specs.Topics.{is_among, has_topic}

@@ -1,5 +1,6 @@
 use Rattle.std.proofs.Common.{◌∙◌, Some, ◌<◌, true, false, refl, ap, sym, subst}
 use Rattle.std.specs.Option.{option_map}
+use Rattle.spec_pattern.specs.Wanted.{difference}
 use Rattle.pub_sub.specs.Telling.{weight, TellsChange, TellsAt}
 use Rattle.pub_sub.proofs.KnownLemmas.{KeepsPlaces-on}
 use Rattle.pub_sub.proofs.TellLemmas.{TellsChange-as, TellsAt-full, TellsAt-all, IsTelling-more}
@@ -45,3 +46,8 @@ returns-clause-told g c =
     subst (TellsAt g.E.Peers.runs (g.E.Peers.end_at c.args.peers.now) true c.args.peers.now c.changes.peers c.args.wanted.now c.args.self.now.place c.args.self.now.told.told) (sym c.in_ok-octet.ensures.told)
     (TellsAt-all g.E.Peers.runs (g.E.Peers.end_at c.args.peers.now) c.args.peers.now c.changes.peers c.args.wanted.now c.args.self.now.place c.args.self.now.told.told c.changes.self.told.told
     (sym c.in_ok-octet.ensures.value ∙ ap (option_map (λ x. (x.0, x.1.items))) c.in_default.is) c.changes.invariant.telling)
+
+pub returns-clause-none : goal.returns-clause-none
+returns-clause-none g c = λ _.
+    ap (λ l. difference l c.args.wanted.now) c.in_ok-octet.ensures.told
+    ∙ sym c.in_ok-octet.ensures.value ∙ ap (option_map (λ x. (x.0, x.1.items))) c.in_default.is

@@ -5,4 +5,5 @@ use Rattle.pub_sub.proofs.subscriber.Subscriber.leave.Goals as goal
 
 pub invariant_of-self : goal.invariant_of-self
 invariant_of-self c =
-    subst (AreFollowed c.self.inside.wanted) (sym c.remove-gone.ensures.items) (AreFollowed-without c.self.inside.wanted c.self.inside.followers.items c.in-Some.index c.self.invariant)
+    subst (λ fs. AreFollowed c.self.inside.wanted fs c.self.inside.quiet) (sym c.remove-gone.ensures.items)
+    (AreFollowed-without c.self.inside.wanted c.self.inside.followers.items c.in-Some.index c.self.inside.quiet c.self.invariant)

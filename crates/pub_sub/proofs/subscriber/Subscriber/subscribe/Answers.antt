@@ -1,4 +1,4 @@
-use Rattle.std.proofs.Common.{◌∙◌, All, sym, ap, subst, arith}
+use Rattle.std.proofs.Common.{◌∙◌, All, sym, ap, subst, arith, true≢false}
 use Rattle.std.proofs.lemmas.List.{with_items_is}
 use Rattle.std.specs.Map.{keys_of}
 use Rattle.pub_sub.specs.Telling.{IsFollower}
@@ -16,6 +16,7 @@ invariant_of-self-2 g c =
           subst (All (IsFollower c.subscribe.new.self)) (sym (with_items_is c.self.inside.followers c.note_all.new.followers (omega (arith, c.note_all.auto.followers, c.as_mut_slice.ensures.len))))
           (c.note_all.ensures.follow c.self.inside.wanted c.subscribe.new.self (alike-more c.args.topic.now c.self.inside.wanted c.subscribe.new.self c.in-Ok.ensures.ok) short
           (subst (All (IsFollower c.self.inside.wanted)) (sym c.as_mut_slice.ensures.value) c.self.invariant.follow));
+      none_left = λ e. absurd (true≢false (sym e));
     }
 
 pub tell-requires : goal.tell-requires

@@ -1,31 +1,11 @@
-use Rattle.std.proofs.Common.{◌∙◌, All, sym, ap, subst, arith}
-use Rattle.std.proofs.lemmas.List.{with_items_is}
-use Rattle.std.specs.Map.{keys_of}
-use Rattle.pub_sub.specs.Telling.{IsFollower}
-use Rattle.pub_sub.specs.Followers.{rows_of, places_of}
-use Rattle.pub_sub.specs.Subscribing.{SubState}
-use Rattle.pub_sub.proofs.SubscriberLemmas.{keys_rows}
+use Rattle.std.proofs.Common.{sym, ap, subst, refl}
+use Rattle.pub_sub.specs.Subscribing.{SubState, TellsPeers}
+use Rattle.pub_sub.proofs.SubscriberLemmas.{TellsPeers-none}
 use Rattle.pub_sub.proofs.subscriber.Subscriber.tell.Goals as goal
 
-pub tell_all-requires-clause-there : goal.tell_all-requires-clause-there
-tell_all-requires-clause-there g c =
-    subst (All (g.E.Peers.here c.args.peers.now))
-    (ap (λ (s : SubState). keys_of s.followers) (sym c.self.view_is) ∙ keys_rows c.self.inside.followers.items ∙ ap places_of (sym c.as_mut_slice.ensures.value)) c.requires.there
-
-pub tell_all-requires-clause-follow : goal.tell_all-requires-clause-follow
-tell_all-requires-clause-follow g c = subst (All (IsFollower c.self.inside.wanted)) (sym c.as_mut_slice.ensures.value) c.self.invariant.follow
-
-pub invariant_of-self : goal.invariant_of-self
-invariant_of-self g c = record {
-  short = c.self.invariant.short;
-  follow = subst (All (IsFollower c.self.inside.wanted)) (sym (with_items_is c.self.inside.followers c.tell_all.new.followers (omega (arith, c.tell_all.auto.followers, c.as_mut_slice.ensures.len)))) c.tell_all.ensures.same.follow;
-}
-
-pub returns-clause-same : goal.returns-clause-same
-returns-clause-same g c = record {
-  ins_are = ap (λ (s : SubState). s.ins) c.self.view_is;
-  places_are =
-      ap (λ l. keys_of (rows_of l)) (with_items_is c.self.inside.followers c.tell_all.new.followers (omega (arith, c.tell_all.auto.followers, c.as_mut_slice.ensures.len)))
-      ∙ keys_rows c.tell_all.new.followers ∙ c.tell_all.ensures.same.places_are ∙ ap places_of c.as_mut_slice.ensures.value
-      ∙ sym (keys_rows c.self.inside.followers.items) ∙ ap (λ (s : SubState). keys_of s.followers) c.self.view_is;
-}
+pub returns-then-self-clause-told : goal.returns-then-self-clause-told
+returns-then-self-clause-told g c =
+    let ends = g.E.Peers.end_at c.args.peers.now in
+    subst (λ (s : SubState). TellsPeers g.E.Peers.runs ends (g.E.Peers.writable c.args.peers.now) c.args.peers.now c.args.peers.now s s) c.self.view_is
+    (TellsPeers-none g.E.Peers.runs ends (g.E.Peers.writable c.args.peers.now) c.args.peers.now c.self.inside.ins c.self.inside.wanted c.self.inside.followers.items
+    (g.met.E.Peers.runs_none c.args.peers.now) (c.self.invariant.none_left c.if-self.true))

@@ -1,13 +1,27 @@
-use Rattle.std.proofs.Common.{◌≡◌, ap, sym, subst, ◌||◌, ◌∙◌, ℕ, List, Some, None, nat_eq}
+use Rattle.std.proofs.Common.{ap, sym, subst, ◌||◌, ◌∙◌, Some, nat_eq}
+use Rattle.std.specs.Map.{lookup}
 use Rattle.std.specs.Option.{is_some}
-use Rattle.sub_table.specs.View.{Gains, entries_of, is_peer, holds, holders_of}
+use Rattle.std.specs.Str.{bytes_eq}
+use Rattle.sub_table.specs.View.{Gains, entries_of, is_peer, holds}
+use Rattle.sub_table.proofs.ViewLemmas.{lookup-entries_of, set_value-entries_of}
+use Rattle.sub_table.proofs.LengthLemmas.{AreLengths-set}
 use Rattle.sub_table.proofs.HoldLemmas.{lookup-updated, holders_of-found, Gains-set, holds-kept}
 use Rattle.sub_table.proofs.holders.Holders.add.Goals as goal
 
 pub begin-requires : goal.begin-requires
 begin-requires c =
-    ap (λ m. holders_of (entries_of m.entries) c.args.topic.now) c.get_mut.follows.holds-at-none
-    ∙ holders_of-found c.args.topic.now c.self.inside.by_topic None c.in-None.ensures.value
+    ap (λ m. lookup (bytes_eq c.args.topic.now) (entries_of m.entries)) c.get_mut.follows.holds-at-none
+    ∙ sym (c.in-None.ensures.value ∙ lookup-entries_of c.args.topic.now c.self.inside.by_topic.entries)
+
+pub invariant_of-self : goal.invariant_of-self
+invariant_of-self c =
+    AreLengths-set (bytes_eq c.args.topic.now) c.add.new.self (entries_of c.self.inside.by_topic.entries) _ c.self.inside.lengths
+    (ap entries_of (c.get_mut.follows.holds c.add.new.self).0 ∙ set_value-entries_of c.args.topic.now c.self.inside.by_topic.entries c.add.new.self) c.self.invariant
+
+pub invariant_of-self-in-Err : goal.invariant_of-self-in-Err
+invariant_of-self-in-Err c =
+    AreLengths-set (bytes_eq c.args.topic.now) c.add.new.self (entries_of c.self.inside.by_topic.entries) _ c.self.inside.lengths
+    (ap entries_of (c.get_mut.follows.holds c.add.new.self).0 ∙ set_value-entries_of c.args.topic.now c.self.inside.by_topic.entries c.add.new.self) c.self.invariant
 
 pub returns-in-Ok-clause-ok : goal.returns-in-Ok-clause-ok
 returns-in-Ok-clause-ok c =

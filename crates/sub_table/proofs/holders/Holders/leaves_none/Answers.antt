@@ -1,6 +1,9 @@
-use Rattle.std.proofs.Common.{◌≡◌, ap, sym, refl, subst, not, ◌&&◌, ◌∙◌, Some, None, nat_eq}
+use Rattle.std.proofs.Common.{ap, sym, subst, not, ◌&&◌, ◌∙◌, Some, None, nat_eq}
 use Rattle.std.specs.Option.{is_some}
+use Rattle.std.specs.Str.{bytes_eq}
 use Rattle.sub_table.specs.View.{Loses, entries_of, is_peer, holders_of}
+use Rattle.sub_table.proofs.ViewLemmas.{lookup-entries_of, set_value-entries_of}
+use Rattle.sub_table.proofs.LengthLemmas.{AreLengths-set}
 use Rattle.sub_table.proofs.HoldLemmas.{lookup-updated, holders_of-updated, holders_of-found, Loses-set, Loses-none}
 use Rattle.sub_table.proofs.holders.Holders.leaves_none.Goals as goal
 
@@ -16,9 +19,16 @@ returns-in-Some-clause-loses c =
 
 pub returns-in-Some-clause-none : goal.returns-in-Some-clause-none
 returns-in-Some-clause-none c = λ empty.
-    holders_of-updated c.args.topic.now c.self.inside.by_topic (c.get_mut.follows.lender c.remove.new.self) (Some c.remove.new.self)
-    ((c.get_mut.follows.holds c.remove.new.self).3 (ap is_some (sym c.in-Some.ensures.value)))
-    ∙ c.is_empty.ensures.0 empty
+    let new = c.get_mut.follows.lender c.remove.new.self in
+    let updates = (c.get_mut.follows.holds c.remove.new.self).3 (ap is_some (sym c.in-Some.ensures.value)) in (
+      holders_of-updated c.args.topic.now c.self.inside.by_topic new (Some c.remove.new.self) updates ∙ c.is_empty.ensures.0 empty,
+      ap is_some (sym (lookup-entries_of c.args.topic.now new.entries) ∙ updates.1),
+    )
+
+pub invariant_of-self : goal.invariant_of-self
+invariant_of-self c =
+    AreLengths-set (bytes_eq c.args.topic.now) c.remove.new.self (entries_of c.self.inside.by_topic.entries) _ c.self.inside.lengths
+    (ap entries_of (c.get_mut.follows.holds c.remove.new.self).0 ∙ set_value-entries_of c.args.topic.now c.self.inside.by_topic.entries c.remove.new.self) c.self.invariant
 
 pub returns-in-None-clause-loses : goal.returns-in-None-clause-loses
 returns-in-None-clause-loses c =

@@ -1,7 +1,7 @@
-use Rattle.std.proofs.Common.{◌≡◌, ◌∙◌, ap, sym, refl, subst, ℕ, Some, cond}
-use Rattle.spec_pattern.specs.Topics.{Topic, AreInOrder}
-use Rattle.spec_pattern.specs.Wanted.{wants, difference}
-use Rattle.sub_table.specs.Telling.{ToldState, IsKnown, IsSettled}
+use Rattle.std.proofs.Common.{◌∙◌, ap, sym, refl, subst, Some}
+use Rattle.spec_pattern.specs.Topics.{AreInOrder}
+use Rattle.spec_pattern.specs.Wanted.{wants}
+use Rattle.sub_table.specs.Telling.{ToldState}
 use Rattle.sub_table.proofs.TellLemmas.{difference-first, difference-no_suspect}
 use Rattle.sub_table.proofs.told.Told.first.Goals as goal
 

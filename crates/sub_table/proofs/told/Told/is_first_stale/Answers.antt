@@ -1,4 +1,4 @@
-use Rattle.std.proofs.Common.{◌≡◌, ◌∙◌, ap, sym, subst}
+use Rattle.std.proofs.Common.{subst}
 use mathlib.Core.Bool.{beq}
 use Rattle.sub_table.specs.Telling.{ToldState, IsStale}
 use Rattle.sub_table.proofs.TellLemmas.{IsStale-by}

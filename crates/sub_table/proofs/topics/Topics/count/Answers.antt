@@ -1,5 +1,4 @@
 use Rattle.std.proofs.Common.{ap, subst, sym, ◌∙◌, None, nat_eq}
-use Rattle.std.specs.List.Sorted.{IsStrictlySortedBy}
 use Rattle.spec_pattern.specs.Topics.{AreInOrder, topics_of}
 use Rattle.sub_table.proofs.RowLemmas.{topics_of-found}
 use Rattle.sub_table.proofs.ViewLemmas.{none_in_order}

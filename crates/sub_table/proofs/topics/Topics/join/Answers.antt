@@ -1,4 +1,4 @@
-use Rattle.std.proofs.Common.{◌≡◌, ap, sym, subst, ◌∙◌, ℕ, ◌<◌, nat_eq}
+use Rattle.std.proofs.Common.{ap, sym, subst, ◌∙◌, ◌<◌, nat_eq}
 use Rattle.std.specs.BTreeMap.{insert_entry}
 use Rattle.std.specs.List.{All}
 use Rattle.std.specs.Map.{keys_of}
@@ -10,7 +10,7 @@ use Rattle.sub_table.proofs.topics.Topics.join.Goals as goal
 
 pub invariant_of-self-2 : goal.invariant_of-self-2
 invariant_of-self-2 c =
-    AreTied-rows c.self.inside.peers.entries c.insert.new.self.entries c.self.inside.holders c.self.inside.longest c.in_ok-insert.ensures.ordered c.self.invariant
+    AreTied-rows c.self.inside.peers.entries c.insert.new.self.entries c.self.inside.holders c.in_ok-insert.ensures.ordered c.self.invariant
     (λ q t. ap (λ subs. has_topic nat_eq subs q t)
     (c.in_ok-insert.ensures.entries ∙ ap (insert_entry nat_cmp c.self.inside.peers.entries c.args.peer) c.new.ensures
     ∙ insert_entry-last c.args.peer _ c.self.inside.peers.entries (subst (λ subs. All (λ k. k < c.args.peer) (keys_of subs)) (sym c.self.view_is) c.requires))

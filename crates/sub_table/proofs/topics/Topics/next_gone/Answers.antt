@@ -1,6 +1,5 @@
-use Rattle.std.proofs.Common.{◌≡◌, refl, sym, ap, ◌∙◌, true, false, nat_eq, cond, None}
-use Rattle.std.specs.Map.{lookup, remove_entry}
-use Rattle.std.specs.Option.{option_map}
+use Rattle.std.proofs.Common.{◌≡◌, refl, sym, ap, ◌∙◌, true, false, nat_eq}
+use Rattle.std.specs.Map.{remove_entry}
 use Rattle.spec_pattern.specs.Topics.{others_have, topics_of, without_peer}
 use Rattle.sub_table.proofs.RowLemmas.{same_peer}
 use Rattle.sub_table.proofs.TieLemmas.{AreTied-rows}
@@ -30,7 +29,7 @@ returns-then-not-others_have c =
 
 pub invariant_of-self : goal.invariant_of-self
 invariant_of-self c =
-    AreTied-rows c.self.inside.peers.entries c.remove.new.self.entries c.self.inside.holders c.self.inside.longest c.remove.ensures.ordered c.self.invariant
+    AreTied-rows c.self.inside.peers.entries c.remove.new.self.entries c.self.inside.holders c.remove.ensures.ordered c.self.invariant
     (has_topic-gone c.args.peer c.self.inside.peers.entries c.remove.new.self.entries
     (ap (λ subs. topics_of nat_eq subs c.args.peer) (c.self.view_is ∙ c.in_default.ensures.1) ∙ c.in_default.ensures.0)
     (λ q. lookup-gone c.args.peer q c.self.inside.peers.entries c.remove.new.self.entries (c.remove.ensures.updates.0 q)))

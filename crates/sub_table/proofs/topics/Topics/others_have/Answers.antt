@@ -6,5 +6,5 @@ use Rattle.sub_table.proofs.topics.Topics.others_have.Goals as goal
 pub returns : goal.returns
 returns c =
     c.has_other.ensures
-    ∙ others-held c.self.inside.peers.entries c.self.inside.holders c.self.inside.longest c.args.peer c.args.topic.now c.self.invariant
+    ∙ others-held c.self.inside.peers.entries c.self.inside.holders c.args.peer c.args.topic.now c.self.invariant
     ∙ ap (λ subs. others_have nat_eq subs c.args.peer c.args.topic.now) c.self.view_is

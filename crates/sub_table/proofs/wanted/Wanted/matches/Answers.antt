@@ -1,19 +1,28 @@
-use Rattle.std.proofs.Common.{◌≡◌, ◌∙◌, ◌<◌, ◌+◌, ap, sym, subst, refl, min, length, take, arith}
-use Rattle.spec_pattern.specs.Wanted.{wants, matches_wanted}
-use Rattle.sub_table.specs.Tables.{AreCounts}
-use Rattle.sub_table.proofs.MatchLemmas.{any_below, any_below_at}
+use Rattle.std.proofs.Common.{◌∙◌, ◌≤◌, ◌+◌, ◌||◌, sym, length, take, arith}
+use Rattle.spec_pattern.specs.Wanted.{wants}
+use Rattle.sub_table.proofs.MatchLemmas.{any_below_at, any_below-next, any_below-last}
 use Rattle.sub_table.proofs.CountLemmas.{matches_wanted-fronts}
 use Rattle.sub_table.proofs.wanted.Wanted.matches.Goals as goal
 
+pub prefixes-preserved : goal.prefixes-preserved
+prefixes-preserved c =
+    let octets = c.args.octets.now in
+    record {
+      none =
+          any_below-next octets (wants c.args.self.now) c.prefixes.from c.in-Some.end c.in-Some.ensures.some.0 c.in-Some.ensures.some.1 c.in-Some.ensures.some.2
+          ∙ (λ j. c.prefixes.invariant.none j || (sym c.wants.ensures.value ∙ c.if-wants.false) j);
+      within = let l : c.in-Some.end ≤ length octets = c.in-Some.ensures.some.1 in omega (arith, l);
+    }
+
 pub returns-then-wants : goal.returns-then-wants
 returns-then-wants c =
-    let within : c.prefixes.end < min (length c.args.octets.now) c.self.inside.longest + 1 = omega arith in
-    sym (any_below_at (min (length c.args.octets.now) c.self.inside.longest + 1) (λ i. wants c.args.self.now (take i c.args.octets.now)) c.prefixes.end within
+    let l : c.in-Some.end ≤ length c.args.octets.now = c.in-Some.ensures.some.1 in
+    sym (any_below_at (length c.args.octets.now + 1) (λ i. wants c.args.self.now (take i c.args.octets.now)) c.in-Some.end (omega (arith, l))
     (sym c.wants.ensures.value ∙ c.if-wants.true))
-    ∙ matches_wanted-fronts c.args.self.now c.args.octets.now c.self.inside.longest (subst (λ counts. AreCounts counts c.self.inside.longest) c.self.view_is c.self.invariant)
+    ∙ matches_wanted-fronts c.args.self.now c.args.octets.now
 
 pub returns : goal.returns
 returns c =
-    let last : c.prefixes.end ≡ min (length c.args.octets.now) c.self.inside.longest + 1 = omega arith in
-    sym c.prefixes.invariant ∙ ap (λ n. any_below n (λ i. wants c.args.self.now (take i c.args.octets.now))) last
-    ∙ matches_wanted-fronts c.args.self.now c.args.octets.now c.self.inside.longest (subst (λ counts. AreCounts counts c.self.inside.longest) c.self.view_is c.self.invariant)
+    sym c.prefixes.invariant.none
+    ∙ sym (any_below-last c.args.octets.now (wants c.args.self.now) c.prefixes.from c.prefixes.invariant.within c.in_default.ensures.none)
+    ∙ matches_wanted-fronts c.args.self.now c.args.octets.now

@@ -1,10 +1,11 @@
-use Rattle.std.proofs.Common.{ap, sym, subst, ◌∙◌, ◌≡◌}
-use Rattle.std.specs.Map.{set_value}
+use Rattle.std.proofs.Common.{ap, sym, subst, ◌∙◌}
+use Rattle.std.proofs.lemmas.Map.{keys-set_value}
+use Rattle.std.specs.Map.{keys_of, set_value}
+use Rattle.spec_pattern.specs.Topics.{AreInOrder}
 use Rattle.std.specs.Str.{bytes_eq}
-use Rattle.sub_table.specs.Tables.{AreCounts}
 use Rattle.sub_table.specs.View.{entries_of}
 use Rattle.sub_table.proofs.ViewLemmas.{at_key, set_value-absent, set_value-entries_of}
-use Rattle.sub_table.proofs.CountLemmas.{AreCounts-set}
+use Rattle.sub_table.proofs.LengthLemmas.{AreLengths-set}
 use Rattle.sub_table.proofs.wanted.Wanted.set.Goals as goal
 
 pub returns-in-Some : goal.returns-in-Some
@@ -15,8 +16,11 @@ returns-in-Some c =
 
 pub invariant_of-self : goal.invariant_of-self
 invariant_of-self c =
-    AreCounts-set c.args.topic.now c.args.count (entries_of c.self.inside.counts.entries) _ c.self.inside.longest c.self.invariant
-    (ap entries_of (c.get_mut.follows.holds c.args.count).0 ∙ set_value-entries_of c.args.topic.now c.self.inside.counts.entries c.args.count)
+    let is = ap entries_of (c.get_mut.follows.holds c.args.count).0 ∙ set_value-entries_of c.args.topic.now c.self.inside.counts.entries c.args.count in
+    record {
+      lengths = AreLengths-set (bytes_eq c.args.topic.now) c.args.count (entries_of c.self.inside.counts.entries) _ c.self.inside.lengths is c.self.invariant.lengths;
+      order = subst AreInOrder (sym (ap keys_of is ∙ keys-set_value (bytes_eq c.args.topic.now) (entries_of c.self.inside.counts.entries) c.args.count)) c.self.invariant.order;
+    }
 
 pub returns-in-None : goal.returns-in-None
 returns-in-None c =
