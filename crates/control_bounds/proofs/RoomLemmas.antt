@@ -23,7 +23,7 @@ use Rattle.control_rows.proofs.RowLemmas.{pair_there}
 use Rattle.control_rows.proofs.StepLemmas.{same_slot, same_owner, after_owner}
 use Rattle.control_laws.proofs.MailLemmas.{value_here, value_else}
 use Rattle.control_laws.proofs.EndLemmas.{may_end_is}
-use Rattle.control_moves.specs.Move.{Move, LinkMoves, EndMoves, ObjectEnds, ObjectMade, PairDrawn, LetterPut, move_rows, move_boxes, move_letters, is_named, MayMove, Leads}
+use Rattle.control_moves.specs.Move.{Move, LinkMoves, EndMoves, ObjectEnds, ObjectMade, PairDrawn, LetterPut, move_rows, move_boxes, move_letters, is_named, MayMove, Leads, MovesTo}
 use Rattle.control_moves.specs.OwnMoves.{having_taken}
 use Rattle.control_bounds.specs.Room.{down_to_come, up_to_come, row_to_come, pair_to_come, all_to_come, move_room, slots_of, to_come, reserved, took_from, RoomIsKept}
 use Rattle.control_moves.proofs.SoundLemmas.{Sound, sound_of, sound_move, move_stays, link_there, ending_there, leads_stay}
@@ -152,6 +152,16 @@ all_same slot other m s sound same =
     ∙ ap (λ (n : ℕ). cond (other (pair s k).a_owner == m) (to_put (pair s k).b) 0 + cond (n == m) (to_put (pair s k).a) 0) (same (pair s k).b_owner (sound.ends k false))) in
     omega (arith, rows, pairs)
 
+-- moves of one event, from rows that are sound
+pub goes_room : (own : List Move) (c d : Control) → Sound c.rows → MovesTo own c d → (m : ℕ) → length (d.boxes m) + to_come d m ≤ (length (c.boxes m) + to_come c m) + sum_by (move_room (slots_of d.rows) m) own
+goes_room own c d sound g m =
+    let slot = slots_of d.rows in
+    let all = leads_room slot m g.moves c.rows c.boxes d sound g.leads (λ i. refl) in
+    let named = gain_of_own (λ s. 0) (λ x. 0) (move_room slot m) (room_free slot m) (λ x s so may_so. omega arith) g.moves in
+    let own_are = ap (sum_by (move_room slot m)) g.own_are in
+    let slots = all_same slot (slots_of c.rows) m c.rows sound (λ i there. (leads_stay g.moves c.rows c.boxes d i g.leads there).slot) in
+    omega (arith, all, named, own_are, slots)
+
 -- ---- one event
 taken_room : {N S : Type 0} (c : Control) (did : Did N S) → Fits c did → (m : ℕ) → length ((having_taken did c).boxes m) + took_from did m ≡ length (c.boxes m)
 taken_room c (DidAsk req reply h) fits m = omega arith
@@ -190,3 +200,14 @@ event_room c did kept fits m =
 
 pub room_is_kept : (N S : Type 0) → RoomIsKept N S
 room_is_kept N S workers items run did fits m = event_room (after_all items (begun workers)) did (runs_are_kept N S workers items run) fits m
+
+-- moves of one event that make nothing leave the room as it was kept
+pub moves_room : (c d : Control) → Kept c → MovesTo [] c d → (m : ℕ) → length (d.boxes m) + to_come d m ≤ length (c.boxes m) + to_come c m
+moves_room c d kept g m =
+    let slot = slots_of d.rows in
+    let sound = sound_of c kept in
+    let all = leads_room slot m g.moves c.rows c.boxes d sound g.leads (λ i. refl) in
+    let own = gain_of_own (λ s. 0) (λ x. 0) (move_room slot m) (room_free slot m) (λ x s sound may_so. omega arith) g.moves in
+    let own_are = ap (sum_by (move_room slot m)) g.own_are in
+    let slots = all_same slot (slots_of c.rows) m c.rows sound (λ i there. (leads_stay g.moves c.rows c.boxes d i g.leads there).slot) in
+    omega (arith, all, own, own_are, slots)

@@ -1,3 +1,3 @@
 pub mod NamedLemmas
-mod OwnLemmas
+pub mod OwnLemmas
 pub mod TrialLemmas

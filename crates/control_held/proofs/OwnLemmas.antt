@@ -242,3 +242,11 @@ pub own_items_are_whole : (N S : Type 0) → OwnItemsAreWhole N S
 own_items_are_whole N S c items may i k other has =
     let fit = (over k i other items [] c None [] None [] refl may (begins k)).fit in
     record { has = fit.mine_has (owns k (has_after i items) has); ends = fit.mine_ends (owns k (has_after i items) has) }
+
+-- and who has it by its own items has it in the order
+pub own_has : {N S : Type 0} (c : Control) (items : List (Item N S)) → AreBy [] c items → (i k : ℕ) → i ≢ 0 → has_after i (items_by k items) ≡ Some k → has_after i items ≡ Some k
+own_has c items may i k other own = by (is_owner k (has_after i items)) refl
+  where
+    by : (b : Bool) → is_owner k (has_after i items) ≡ b → has_after i items ≡ Some k
+    by true mine = owned_by k (has_after i items) mine
+    by false none = absurd (none_some (sym ((over k i other items [] c None [] None [] refl may (begins k)).fit.other_has none) ∙ own))

@@ -123,7 +123,7 @@ joins_objects c x y a h =
     (greets true (h.kind (end_of (next_pair c) a)) (end_of (next_pair c) a)
     (open_pair (end_of (next_pair c) a) (PipeBind (end_of (next_pair c) (not a)) (obj c.rows (owner_of (draws x y c) (end_of (next_pair c) a))).options.id) (draws x y c))).leaves.objects
 
-joins_pairs : (c : Control) (x y : ℕ) (a : Bool) (h : Answers) → next_pair (joins x y a h c) ≡ next_pair c + 1
+pub joins_pairs : (c : Control) (x y : ℕ) (a : Bool) (h : Answers) → next_pair (joins x y a h c) ≡ next_pair c + 1
 joins_pairs c x y a h =
     let e = end_of (next_pair c) a in
     let opened = open_pair e (PipeBind (end_of (next_pair c) (not a)) (obj c.rows (owner_of (draws x y c) e)).options.id) (draws x y c) in

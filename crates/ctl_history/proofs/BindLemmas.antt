@@ -30,7 +30,8 @@ use Rattle.ctl_state.specs.Needs.{AreMet}
 use Rattle.ctl_state.specs.Stands.{Stands, Updates}
 use Rattle.ctl_state.proofs.BareLemmas.{bare_not}
 use Rattle.ctl_history.specs.Binding.{bound_now, MayBindAlone}
-use Rattle.ctl_history.specs.Carried.{AreCarried, IsPlane}
+use Rattle.ctl_history.specs.Carried.{AreCarried, IsPlane, SameEndLists}
+use Rattle.ctl_history.proofs.OwedLemmas.{binds_put}
 use Rattle.ctl_history.specs.Past.{Past, control_of, items_of, with_event, IsHistory, IsSilent}
 use Rattle.ctl_history.specs.Refusals.{refusal_in}
 use Rattle.ctl_history.proofs.BareLemmas.{silent_answered}
@@ -90,8 +91,9 @@ module _ {L G N S : Type 0} where
 
 module _ {N O I S : Type 0} (out_name : O → N) (in_name : I → N) where
   pub binds_plane : (s t : State (Load N O I)) (p : Past (Given N O I) N S) (spare : ℕ) (o : ObjId) (name : List ℕ) (a : Answered N S) → IsPlane out_name in_name s p spare → MayBindAlone (control_of p) o name → IsSilent a →
-      Updates (bound_now o.0 (Inproc name)) s t → t.boxes ≡ s.boxes → IsPlane out_name in_name t (with_event (Asked (Bind o (Inproc name)) Done a) p) spare
-  binds_plane s t p spare o name a h may silent updates boxes =
+      Updates (bound_now o.0 (Inproc name)) s t → t.boxes ≡ s.boxes → SameEndLists s.objects.lists t.objects.lists → IsPlane out_name in_name t (with_event (Asked (Bind o (Inproc name)) Done a) p) spare
+  binds_plane s t p spare o name a h may silent updates boxes lists =
       one_plane out_name in_name s t p (Asked (Bind o (Inproc name)) Done a) spare spare h (binds_alone s t p spare o name a h.history may silent updates boxes)
-      (tells_no_names (items_of p) (Asked (Bind o (Inproc name)) Done a) silent) (subst (AreCarried out_name in_name (items_of p)) (sym boxes) h.carried)
+      (tells_no_names (items_of p) (Asked (Bind o (Inproc name)) Done a) silent) (subst (AreCarried out_name in_name (items_of p) (control_of p)) (sym boxes) h.carried) lists
+      (ap (λ (ws : List Waiting). sum_by binds_put (fulfil_moves (control_of p) o.0 (next_pair (control_of p)) ws)) may.alone)
       (ap (λ (ws : List Waiting). sum_by unplugged_made (fulfil_moves (control_of p) o.0 (next_pair (control_of p)) ws)) may.alone)

@@ -13,15 +13,17 @@ use Rattle.spec_control.specs.declared.entry.Joining.{Joining}
 use Rattle.spec_control.specs.declared.letter.Word.{Word}
 use Rattle.spec_control.specs.declared.letter.Word.TheVariants.{Own, Plug, TermReq, Term, TermAck, PipeBind, PipeTerm, PipeTermAck, Stop, Reap}
 use Rattle.spec_control.specs.Names.{name_of}
+use Rattle.spec_control.specs.Control.{Control}
 use Rattle.control_rows.proofs.ListLemmas.{never}
 use Rattle.ctl_holder.specs.declared.load.Load.{Load}
 use Rattle.ctl_holder.specs.declared.load.Load.TheVariants.{Halves, Writer, Ends}
 use Rattle.ctl_holder.specs.declared.given.Given.{Given}
-use Rattle.ctl_holder.specs.Load.{IsNamed, BringsHalvesOf, BringsWriterTo, BringsEnds, Carries, brings_ends, given_by}
+use Rattle.ctl_holder.specs.Load.{IsNamed, BringsHalvesOf, BringsWriterTo, BringsEnds, Carries, ReapsAll, brings_ends, given_by}
 use Rattle.ctl_state.specs.declared.command.Command.{Command}
 use Rattle.ctl_state.specs.Boxes.{mail_at, with_mail, tells_object, IsBareTold, PutsBare, Takes}
 use Rattle.ctl_state.proofs.StandLemmas.{roomy}
-use Rattle.ctl_history.specs.Carried.{given_in, AreCarried}
+pub use Rattle.ctl_terms.proofs.HolderLemmas.{told_carries}
+use Rattle.ctl_history.specs.Carried.{given_in, IsCarried, AreCarried}
 
 module _ {N O I : Type 0} (out_name : O → N) (in_name : I → N) where
   module _ (early late : EndId → Option N) (more : (e : EndId) (n : N) → early e ≡ Some n → late e ≡ Some n) where
@@ -85,63 +87,75 @@ module _ {N O I : Type 0} (out_name : O → N) (in_name : I → N) where
     brings_none Stop load none is = ap given_by is
     brings_none (Reap socket) load none is = absurd (never (sym none))
 
-    -- an object is told with no load
-    pub told_carries : (word : Word) (load : Option (Load N O I)) → load ≡ None → tells_object word ≡ true → Carries out_name in_name names word load
-    told_carries (Own child) load none told = none
-    told_carries (Plug end) load none told = none
-    told_carries (TermReq child) load none told = none
-    told_carries Term load none told = none
-    told_carries (TermAck child) load none told = none
-    told_carries (PipeBind e peer) load none told = absurd (never told)
-    told_carries (PipeTerm e) load none told = none
-    told_carries (PipeTermAck e) load none told = absurd (never told)
-    told_carries Stop load none told = none
-    told_carries (Reap socket) load none told = absurd (never told)
+  -- no other command brings a closed socket's ends
+  pub no_reap : (c : Control) (word : Word) (load : Option (Load N O I)) → brings_ends word ≡ false → ReapsAll c word load
+  no_reap c (Own child) load none = tt
+  no_reap c (Plug end) load none = tt
+  no_reap c (TermReq child) load none = tt
+  no_reap c Term load none = tt
+  no_reap c (TermAck child) load none = tt
+  no_reap c (PipeBind e peer) load none = tt
+  no_reap c (PipeTerm e) load none = tt
+  no_reap c (PipeTermAck e) load none = tt
+  no_reap c Stop load none = tt
+  no_reap c (Reap socket) load none = absurd (never (sym none))
 
-  module _ {S : Type 0} (items : List (Item N S)) where
-    abbrev IsCarried : Command (Load N O I) → Type 0
-    IsCarried command = Carries out_name in_name (name_of items) command.letter.word command.load
+  pub told_no_ends : (word : Word) → tells_object word ≡ true → brings_ends word ≡ false
+  told_no_ends (Own child) h = refl
+  told_no_ends (Plug end) h = refl
+  told_no_ends (TermReq child) h = refl
+  told_no_ends Term h = refl
+  told_no_ends (TermAck child) h = refl
+  told_no_ends (PipeBind e peer) h = refl
+  told_no_ends (PipeTerm e) h = refl
+  told_no_ends (PipeTermAck e) h = refl
+  told_no_ends Stop h = refl
+  told_no_ends (Reap socket) h = absurd (never h)
+
+  module _ {S : Type 0} (items : List (Item N S)) (c : Control) where
+    abbrev Is : Command (Load N O I) → Type 0
+    Is command = IsCarried out_name in_name items c command
 
     -- ---- objects were told
-    told_is : (command : Command (Load N O I)) → IsBareTold command → IsCarried command
-    told_is command told = told_carries (name_of items) command.letter.word command.load told.empty told.word
+    told_is : (command : Command (Load N O I)) → IsBareTold command → Is command
+    told_is command told = record { carries = told_carries out_name in_name (name_of items) command.letter.word command.load told.empty told.word; reaps = no_reap c command.letter.word command.load (told_no_ends command.letter.word told.word) }
 
-    pub told_carried : (old new : List (Mail (Command (Load N O I)))) → PutsBare old new → AreCarried out_name in_name items old → AreCarried out_name in_name items new
+    pub told_carried : (old new : List (Mail (Command (Load N O I)))) → PutsBare old new → AreCarried out_name in_name items c old → AreCarried out_name in_name items c new
     told_carried old new puts all m =
         let g = puts.grows m in
-        subst (λ (xs : List (Command (Load N O I))). All IsCarried xs) (sym g.commands)
-        (All-append IsCarried (mail_at old m).commands g.more (all m) (All-weaker IsBareTold IsCarried told_is g.more g.bare))
+        subst (λ (xs : List (Command (Load N O I))). All Is xs) (sym g.commands)
+        (All-append Is (mail_at old m).commands g.more (all m) (All-weaker IsBareTold Is told_is g.more g.bare))
 
     -- ---- a command was taken, or put back
-    pub taken_carried : (k : ℕ) (command : Command (Load N O I)) (old new : List (Mail (Command (Load N O I)))) → Takes k command old new → AreCarried out_name in_name items old → AreCarried out_name in_name items new
+    pub taken_carried : (k : ℕ) (command : Command (Load N O I)) (old new : List (Mail (Command (Load N O I)))) → Takes k command old new → AreCarried out_name in_name items c old → AreCarried out_name in_name items c new
     taken_carried k command old new took all m =
         elim (cases_eq m k) [
           | inl same ↦
-              subst (λ (n : ℕ). All IsCarried (mail_at new n).commands) (sym same)
-              (All-tail IsCarried command (mail_at new k).commands (subst (λ (xs : List (Command (Load N O I))). All IsCarried xs) took.front (all k)))
-          | inr other ↦ subst (λ (mail : Mail (Command (Load N O I))). All IsCarried mail.commands) (sym (took.others m other)) (all m)
+              subst (λ (n : ℕ). All Is (mail_at new n).commands) (sym same)
+              (All-tail Is command (mail_at new k).commands (subst (λ (xs : List (Command (Load N O I))). All Is xs) took.front (all k)))
+          | inr other ↦ subst (λ (mail : Mail (Command (Load N O I))). All Is mail.commands) (sym (took.others m other)) (all m)
         ]
 
-    pub taken_carries : (k : ℕ) (command : Command (Load N O I)) (old new : List (Mail (Command (Load N O I)))) → Takes k command old new → AreCarried out_name in_name items old →
-        Carries out_name in_name (name_of items) command.letter.word command.load
+    pub taken_carries : (k : ℕ) (command : Command (Load N O I)) (old new : List (Mail (Command (Load N O I)))) → Takes k command old new → AreCarried out_name in_name items c old →
+        IsCarried out_name in_name items c command
     taken_carries k command old new took all =
-        All-head IsCarried command (mail_at new k).commands (subst (λ (xs : List (Command (Load N O I))). All IsCarried xs) took.front (all k))
+        All-head Is command (mail_at new k).commands (subst (λ (xs : List (Command (Load N O I))). All Is xs) took.front (all k))
 
-    set_carried : (k : ℕ) (mail : Mail (Command (Load N O I))) (boxes : List (Mail (Command (Load N O I)))) → k < length boxes → All IsCarried mail.commands →
-        AreCarried out_name in_name items boxes → AreCarried out_name in_name items (with_mail k mail boxes)
+    set_carried : (k : ℕ) (mail : Mail (Command (Load N O I))) (boxes : List (Mail (Command (Load N O I)))) → k < length boxes → All Is mail.commands →
+        AreCarried out_name in_name items c boxes → AreCarried out_name in_name items c (with_mail k mail boxes)
     set_carried k mail boxes there is all m =
         elim (cases_eq m k) [
           | inl same ↦
-              subst (λ (n : ℕ). All IsCarried (mail_at (with_mail k mail boxes) n).commands) (sym same)
-              (subst (λ (x : Mail (Command (Load N O I))). All IsCarried x.commands) (sym (get_or-set_same boxes k mail no_mail there)) is)
-          | inr other ↦ subst (λ (x : Mail (Command (Load N O I))). All IsCarried x.commands) (sym (get_or-set_other boxes k m mail no_mail other)) (all m)
+              subst (λ (n : ℕ). All Is (mail_at (with_mail k mail boxes) n).commands) (sym same)
+              (subst (λ (x : Mail (Command (Load N O I))). All Is x.commands) (sym (get_or-set_same boxes k mail no_mail there)) is)
+          | inr other ↦ subst (λ (x : Mail (Command (Load N O I))). All Is x.commands) (sym (get_or-set_other boxes k m mail no_mail other)) (all m)
         ]
 
-    pub sent_carried : (k : ℕ) (command : Command (Load N O I)) (boxes : List (Mail (Command (Load N O I)))) → 0 < (mail_at boxes k).spare → Carries out_name in_name (name_of items) command.letter.word command.load →
-        AreCarried out_name in_name items boxes → AreCarried out_name in_name items (with_mail k (with_sent command (mail_at boxes k)) boxes)
+    pub sent_carried : (k : ℕ) (command : Command (Load N O I)) (boxes : List (Mail (Command (Load N O I)))) → 0 < (mail_at boxes k).spare → IsCarried out_name in_name items c command →
+        AreCarried out_name in_name items c boxes → AreCarried out_name in_name items c (with_mail k (with_sent command (mail_at boxes k)) boxes)
     sent_carried k command boxes room is all =
         set_carried k (with_sent command (mail_at boxes k)) boxes (roomy boxes k room)
-        (All-append IsCarried (mail_at boxes k).commands (command ∷ []) (all k) (All-cons IsCarried command [] is (All-nil IsCarried))) all
+        (All-append Is (mail_at boxes k).commands (command ∷ []) (all k) (All-cons Is command [] is (All-nil Is))) all
 
 -- ---- the ends on their way to the reaper
 module _ {N O I : Type 0} where

@@ -23,7 +23,8 @@ use Rattle.ctl_state.specs.Stands.{Stands, Updates}
 use Rattle.ctl_state.proofs.BareLemmas.{bare_not}
 use Rattle.ctl_holder.specs.declared.given.Given.{Given}
 use Rattle.ctl_holder.specs.declared.load.Load.{Load}
-use Rattle.ctl_history.specs.Carried.{AreCarried, IsPlane}
+use Rattle.ctl_history.specs.Carried.{AreCarried, IsPlane, SameEndLists}
+use Rattle.ctl_history.proofs.OwedLemmas.{binds_put}
 use Rattle.ctl_history.specs.Connecting.{MayWait}
 use Rattle.ctl_history.specs.Past.{Past, control_of, items_of, with_event, IsHistory, IsSilent}
 use Rattle.ctl_history.proofs.BareLemmas.{silent_answered}
@@ -54,8 +55,9 @@ module _ {L G N S : Type 0} where
 
 module _ {N O I S : Type 0} (out_name : O → N) (in_name : I → N) where
   pub waits_plane : (s t : State (Load N O I)) (p : Past (Given N O I) N S) (spare : ℕ) (o : ObjId) (name : List ℕ) (a : Answered N S) → IsPlane out_name in_name s p spare → MayWait (control_of p) o.0 name → IsSilent a →
-      ((h : Answers) → Updates (connects_to o.0 (Inproc name) None h) s t) → t.boxes ≡ s.boxes → IsPlane out_name in_name t (with_event (Asked (Connect o (Inproc name)) Wait a) p) spare
-  waits_plane s t p spare o name a h may silent updates boxes =
+      ((h : Answers) → Updates (connects_to o.0 (Inproc name) None h) s t) → t.boxes ≡ s.boxes → SameEndLists s.objects.lists t.objects.lists → IsPlane out_name in_name t (with_event (Asked (Connect o (Inproc name)) Wait a) p) spare
+  waits_plane s t p spare o name a h may silent updates boxes lists =
       one_plane out_name in_name s t p (Asked (Connect o (Inproc name)) Wait a) spare spare h (waits_on s t p spare o name a h.history may silent updates boxes)
-      (tells_no_names (items_of p) (Asked (Connect o (Inproc name)) Wait a) silent) (subst (AreCarried out_name in_name (items_of p)) (sym boxes) h.carried)
+      (tells_no_names (items_of p) (Asked (Connect o (Inproc name)) Wait a) silent) (subst (AreCarried out_name in_name (items_of p) (control_of p)) (sym boxes) h.carried) lists
+      (ap (λ (x : Option Binding). sum_by binds_put (connect_moves (control_of p) o.0 x)) may.free)
       (ap (λ (x : Option Binding). sum_by unplugged_made (connect_moves (control_of p) o.0 x)) may.free)

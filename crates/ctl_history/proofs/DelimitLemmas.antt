@@ -28,6 +28,7 @@ use Rattle.ctl_history.proofs.EventLemmas.{MakesNothing, kept_past, control_more
 use Rattle.ctl_history.proofs.BareLemmas.{silent_answered}
 use Rattle.ctl_history.proofs.PlaneLemmas.{one_plane, tells_no_names}
 use Rattle.ctl_history.proofs.HearLemmas.{turns_at}
+use Rattle.ctl_history.proofs.OwedLemmas.{same_lists}
 use Rattle.ctl_history.proofs.DeliverLemmas.{loaded_capacity, loaded_given, loaded_carried, has_later}
 
 module _ {N O I S : Type 0} (out_name : O → N) (in_name : I → N) (s : State (Load N O I)) (p : Past (Given N O I) N S) (spare : ℕ) (e : EndId) (plane : IsPlane out_name in_name s p spare) (looked_at : looks (place_of (control_of p) e) ≡ true) where
@@ -55,7 +56,8 @@ module _ {N O I S : Type 0} (out_name : O → N) (in_name : I → N) (s : State 
     meets =
         one_plane out_name in_name s t p did spare (spare - 1) plane
         (one_foreseen s t p did spare plane.history fits leads.stands nothing (λ m. (let put = loaded_capacity out_name in_name (name_of (items_of p)) s.boxes t.boxes leads.puts m in omega (arith, put))) leads.puts.many)
-        (tells_no_names (items_of p) did silent) (loaded_carried out_name in_name (items_of p) s.boxes t.boxes leads.puts plane.carried) refl
+        (tells_no_names (items_of p) did silent) (loaded_carried out_name in_name (items_of p) (control_of p) s.boxes t.boxes leads.puts plane.carried)
+        (same_lists s.objects.lists t.objects.lists leads.lists) refl refl
 
     pub meets_entry : 0 < spare
     meets_entry = has_entry s p did spare plane.history fits refl refl

@@ -46,15 +46,20 @@ use Rattle.ctl_state.specs.Boxes.{mail_at, Takes}
 use Rattle.ctl_state.specs.Stands.{Updates}
 use Rattle.ctl_ends.specs.Turning.{IsLoaded, PutsLoaded, TurnsAt}
 use Rattle.ctl_history.specs.Past.{Past, as_item, items_of, control_of, with_event, IsHistory}
-use Rattle.ctl_history.specs.Carried.{given_in, AreCarried, IsPlane}
+use Rattle.ctl_history.specs.Carried.{given_in, IsCarried, AreCarried, IsPlane}
 use Rattle.ctl_history.specs.Hearing.{is_heard, IsServed, IsAcknowledged, HearsEnd, MayHear, IsProcessed, HasWhat}
 use Rattle.ctl_history.proofs.CapacityLemmas.{capacity, taken_capacity, taken_spare}
 use Rattle.ctl_history.proofs.EventLemmas.{MakesNothing, kept_past, control_more, one_foreseen, has_entry, objects_made, pairs_drawn}
-use Rattle.ctl_history.proofs.CarryLemmas.{brings_none, taken_carried, taken_carries, taken_given}
+use Rattle.ctl_history.proofs.OwedLemmas.{word_binds, same_lists}
+use Rattle.ctl_history.proofs.CarryLemmas.{brings_none, no_reap, taken_carried, taken_carries, taken_given}
 use Rattle.ctl_history.proofs.PlaneLemmas.{unplugged_made, one_plane}
 use Rattle.ctl_history.proofs.PlaneDoneLemmas.{word_makes}
 use Rattle.ctl_history.proofs.DoneLemmas.{taken_hears}
-use Rattle.ctl_history.proofs.HearLemmas.{turns_at}
+use Rattle.ctl_history.proofs.HearLemmas.{turns_at, end_of_no_root}
+use Rattle.control_bounds.proofs.RoomLemmas.{goes_room}
+use Rattle.control_moves.specs.Move.{LinkMoves}
+use Rattle.control_moves.proofs.SoundLemmas.{sound_of}
+use Rattle.spec_control.specs.Row.{TermComes}
 use Rattle.ctl_history.proofs.SettledLemmas.{acknowledged_at}
 
 -- ---- commands that were put with what they bring
@@ -81,12 +86,12 @@ module _ {N O I : Type 0} (out_name : O → N) (in_name : I → N) where
         ap (flat_map (λ (x : Command (Load N O I)). given_by x.load)) g.commands ∙ flat_map-append (λ (x : Command (Load N O I)). given_by x.load) (mail_at old 0).commands g.more
         ∙ ap (λ (gs : List (Given N O I)). given_in old ++ gs) (no_given g.more g.loaded) ∙ append-nil (given_in old)
 
-  pub loaded_carried : {S : Type 0} (items : List (Item N S)) (old new : List (Mail (Command (Load N O I)))) → PutsLoaded out_name in_name (name_of items) old new → AreCarried out_name in_name items old → AreCarried out_name in_name items new
-  loaded_carried items old new puts all m =
+  pub loaded_carried : {S : Type 0} (items : List (Item N S)) (c : Control) (old new : List (Mail (Command (Load N O I)))) → PutsLoaded out_name in_name (name_of items) old new → AreCarried out_name in_name items c old → AreCarried out_name in_name items c new
+  loaded_carried items c old new puts all m =
       let g = puts.grows m in
-      subst (λ (xs : List (Command (Load N O I))). All (λ (x : Command (Load N O I)). Carries out_name in_name (name_of items) x.letter.word x.load) xs) (sym g.commands)
-      (All-append (λ (x : Command (Load N O I)). Carries out_name in_name (name_of items) x.letter.word x.load) (mail_at old m).commands g.more (all m)
-      (All-weaker (λ (x : Command (Load N O I)). IsLoaded out_name in_name (name_of items) x) (λ (x : Command (Load N O I)). Carries out_name in_name (name_of items) x.letter.word x.load) (λ x is. is.carries) g.more g.loaded))
+      subst (λ (xs : List (Command (Load N O I))). All (IsCarried out_name in_name items c) xs) (sym g.commands)
+      (All-append (IsCarried out_name in_name items c) (mail_at old m).commands g.more (all m)
+      (All-weaker (IsLoaded out_name in_name (name_of items)) (IsCarried out_name in_name items c) (λ x is. record { carries = is.carries; reaps = no_reap out_name in_name c x.letter.word x.load is.no_ends }) g.more g.loaded))
 
 -- ---- names that are known later
 module _ {N : Type 0} (early late : EndId → Option N) (more : (e : EndId) (n : N) → early e ≡ Some n → late e ≡ Some n) where
@@ -144,7 +149,7 @@ not_seen : TermCame ≡ DelimiterSeen → ⊥
 not_seen f = grind arith
 
 module _ {N O I S : Type 0} (out_name : O → N) (in_name : I → N) (s mid : State (Load N O I)) (p : Past (Given N O I) N S) (spare : ℕ) (slot : SlotId) (command : Command (Load N O I)) (plane : IsPlane out_name in_name s p spare)
-    (took : Takes slot.0 command s.boxes mid.boxes) (first : Updates (without_front slot.0) s mid) (front : (control_of p).boxes slot.0 ≡ command.letter ∷ behind_first ((control_of p).boxes slot.0)) where
+    (lists : mid.objects.lists ≡ s.objects.lists) (took : Takes slot.0 command s.boxes mid.boxes) (first : Updates (without_front slot.0) s mid) (front : (control_of p).boxes slot.0 ≡ command.letter ∷ behind_first ((control_of p).boxes slot.0)) where
   taken : Kept (control_of p)
   taken = kept_past p plane.history.run
 
@@ -194,7 +199,14 @@ module _ {N O I S : Type 0} (out_name : O → N) (in_name : I → N) (s mid : St
   ends_for h to (Own child) rest lent is carries = tt
   ends_for h to (Plug end) rest lent is carries = tt
   ends_for h to (TermReq child) rest lent is carries = tt
-  ends_for h to Term rest lent is carries = tt
+  ends_for h to Term rest lent is carries = record {
+    rootless = λ e here. end_of_no_root (control_of p) taken e here;
+    comes = may_come (control_of p) taken slot.0 rest to Term is;
+    room = λ d moves m.
+        (let all = goes_room (LinkMoves to TermComes ∷ []) (without_front slot.0 (control_of p)) d (sound_of (control_of p) taken) moves m in
+        let most = room_mid m in
+        omega (arith, all, most));
+  }
   ends_for h to (TermAck child) rest lent is carries = tt
   ends_for h to (PipeBind e peer) rest lent is carries = tt
   ends_for h to (PipeTerm e) rest lent is carries =
@@ -218,7 +230,7 @@ module _ {N O I S : Type 0} (out_name : O → N) (in_name : I → N) (s mid : St
     has = has;
     lent = served h lent;
     hears = taken_hears s mid p spare slot command plane.history took front;
-    ends = ends_for h command.letter.to.0 command.letter.word _ (served h lent) front (taken_carries out_name in_name (items_of p) slot.0 command s.boxes mid.boxes took plane.carried);
+    ends = ends_for h command.letter.to.0 command.letter.word _ (served h lent) front (taken_carries out_name in_name (items_of p) (control_of p) slot.0 command s.boxes mid.boxes took plane.carried).carries;
   }
 
   module _ (t : State (Load N O I)) (k : Holding N) (a : Answered N S) (held : list_any (λ o. is_between o && o.slot == slot.0) (control_of p).rows.objects ≡ false) (heard : is_heard command.letter.word ≡ true)
@@ -262,7 +274,8 @@ module _ {N O I S : Type 0} (out_name : O → N) (in_name : I → N) (s mid : St
     pub delivers : IsPlane out_name in_name t (with_event did p) (spare - 1)
     delivers =
         one_plane out_name in_name s t p did spare (spare - 1) plane history names_fit
-        (loaded_carried out_name in_name (items_of p) mid.boxes t.boxes done.led.puts (taken_carried out_name in_name (items_of p) slot.0 command s.boxes mid.boxes took plane.carried))
+        (loaded_carried out_name in_name (items_of p) (control_of p) mid.boxes t.boxes done.led.puts (taken_carried out_name in_name (items_of p) (control_of p) slot.0 command s.boxes mid.boxes took plane.carried))
+        (same_lists s.objects.lists t.objects.lists (done.led.lists ∙ lists)) (word_binds command.letter.to.0 command.letter.word)
         (word_makes unplugged_made (λ i event. refl) (λ e event. refl) command.letter.to.0 command.letter.word)
 
     pub delivers_entry : 0 < spare
@@ -272,7 +285,7 @@ module _ {N O I S : Type 0} (out_name : O → N) (in_name : I → N) (s mid : St
     delivers_given =
         loaded_given out_name in_name (name_of (items_of p)) mid.boxes t.boxes done.led.puts
         ∙ taken_given slot.0 command s.boxes mid.boxes took
-        (brings_none out_name in_name (name_of (items_of p)) command.letter.word command.load (heard_no_reap command.letter.word heard) (taken_carries out_name in_name (items_of p) slot.0 command s.boxes mid.boxes took plane.carried))
+        (brings_none out_name in_name (name_of (items_of p)) command.letter.word command.load (heard_no_reap command.letter.word heard) (taken_carries out_name in_name (items_of p) (control_of p) slot.0 command s.boxes mid.boxes took plane.carried).carries)
 
     pub delivers_keeps : HasWhat (with_event did p) k
     delivers_keeps =

@@ -5,6 +5,9 @@ mod BeginLemmas
 mod DoneLemmas
 mod AskLemmas
 mod CarryLemmas
+mod OwedLemmas
+mod ReapLemmas
+mod CloseLemmas
 mod PlaneLemmas
 mod PlaneDoneLemmas
 mod HearLemmas
@@ -14,7 +17,14 @@ mod DelimitLemmas
 mod MakingLemmas
 mod RefusalLemmas
 mod StrikeLemmas
+mod DisconnectLemmas
+mod StruckLemmas
 mod WaitLemmas
 mod BindLemmas
 mod ConnectLemmas
 mod FreshLemmas
+mod OwnerLemmas
+mod NamedPlaneLemmas
+mod JoinHeldLemmas
+mod HeldEventLemmas
+mod HeldPlaneLemmas

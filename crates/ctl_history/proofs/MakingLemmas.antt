@@ -16,7 +16,6 @@ use Rattle.spec_control.specs.declared.entry.Did.{Did}
 use Rattle.spec_control.specs.declared.entry.Did.TheVariants.{Asked}
 use Rattle.spec_control.specs.declared.stage.Stage.{Stage}
 use Rattle.spec_control.specs.declared.stage.Stage.TheVariants.{Alive, Told, Ending, Finished, Cleared}
-use Rattle.spec_control.specs.Names.{name_of}
 use Rattle.spec_control.specs.Row.{Row, nobody}
 use Rattle.spec_control.specs.Rows.{obj}
 use Rattle.spec_control.specs.Stage.{is_alive, has_ended}
@@ -39,8 +38,10 @@ use Rattle.ctl_state.proofs.ReadLemmas.{read_kept, pushed_same}
 use Rattle.ctl_state.proofs.StandLemmas.{roomy}
 use Rattle.ctl_holder.specs.declared.given.Given.{Given}
 use Rattle.ctl_holder.specs.declared.load.Load.{Load}
-use Rattle.ctl_holder.specs.Load.{Carries, given_by}
-use Rattle.ctl_history.specs.Carried.{given_in, IsPlane}
+use Rattle.ctl_holder.specs.Load.{given_by}
+use Rattle.ctl_history.specs.Carried.{given_in, IsPlane, SameEndLists, IsCarried}
+use Rattle.ctl_history.proofs.OwedLemmas.{made_aside}
+use Rattle.ctl_state.specs.declared.belongings.Belongings.{Belongings}
 use Rattle.ctl_history.specs.Making.{TakesSocket, MakesSocket}
 use Rattle.ctl_history.specs.Past.{Past, control_of, items_of, with_event, IsHistory, IsSilent}
 use Rattle.ctl_history.specs.Refusals.{refusal_in}
@@ -225,8 +226,8 @@ module _ {N O I S : Type 0} (out_name : O → N) (in_name : I → N) where
       IsHistory t (with_event (Asked (MakeSocket kind options) (Object o) a) p) later → IsSilent a → MakesSocket made s t → IsPlane out_name in_name t (with_event (Asked (MakeSocket kind options) (Object o) a) p) later
   made_plane s t p kind options o made a spare later h history silent makes_it =
       one_plane out_name in_name s t p (Asked (MakeSocket kind options) (Object o) a) spare later h history (tells_no_names (items_of p) (Asked (MakeSocket kind options) (Object o) a) silent)
-      (λ m. subst (λ (xs : List (Command (Load N O I))). All (λ (x : Command (Load N O I)). Carries out_name in_name (name_of (items_of p)) x.letter.word x.load) xs) (sym (made_commands s t made makes_it m)) (h.carried m))
-      refl
+      (λ m. subst (λ (xs : List (Command (Load N O I))). All (IsCarried out_name in_name (items_of p) (control_of p)) xs) (sym (made_commands s t made makes_it m)) (h.carried m))
+      (subst (λ (ls : List Belongings). SameEndLists s.objects.lists ls) (sym makes_it.lists) (made_aside s.objects.lists)) refl refl
 
   -- all is as before where memory was wanting
   pub planed_back : (s t : State (Load N O I)) (workers : ℕ) (l now : Listed (Did N S)) → t ≡ s → now ≡ l → IsPlane out_name in_name s (record { workers = workers; events = l.items; given = given_in s.boxes }) l.spare →

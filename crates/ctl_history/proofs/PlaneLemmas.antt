@@ -1,5 +1,5 @@
 -- That a control plane goes on being one: its names, what its commands carry, and that each object is taken in.
-use Rattle.std.specs.Prelude.{◌≡◌, ◌+◌, ◌++◌, ◌∷◌, ◌-◌, [], ℕ, Bool, true, false, cond, List, All, map, replicate, sum_by, flat_map, suc, zero, ◌≤◌, refl}
+use Rattle.std.specs.Prelude.{◌≡◌, ◌+◌, ◌==◌, ◌++◌, ◌∷◌, ◌-◌, [], ℕ, Bool, true, false, cond, List, All, map, replicate, sum_by, flat_map, suc, zero, ◌≤◌, refl}
 use Rattle.std.proofs.Common.{arith, sym, ap, ◌∙◌, subst, inl, inr}
 use Rattle.std.proofs.lemmas.Bool.{cases_lt}
 use Rattle.std.proofs.lemmas.List.{append-nil, append_assoc, map-append, length-replicate, get_or-replicate, get_or_past}
@@ -11,7 +11,7 @@ use Rattle.spec_control.specs.declared.entry.Joining.{Joining}
 use Rattle.spec_control.specs.declared.letter.Letter.{Letter}
 use Rattle.spec_control.specs.Names.{name_of, IsTold, FitsNames, AreNamed}
 use Rattle.spec_control.specs.Row.{Row, nobody, LinkEvent, OwnComes, PlugComes, IsTold as Told, TermComes, AsksOver, RequestComes, ReapComes, AckComes, RootAsked, StopPut, StopComes, AsksForLink, AsksForLinger, link_after}
-use Rattle.spec_control.specs.Rows.{Rows, obj, root_alone}
+use Rattle.spec_control.specs.Rows.{Rows, obj, root_alone, of_ends, bind_waits}
 use Rattle.spec_control.specs.Control.{Control, begun}
 use Rattle.spec_control.specs.After.{after}
 use Rattle.spec_control.specs.ControlRun.{Fits, FitsItem, answer_of, after_all, after_item, IsControlRun}
@@ -25,16 +25,19 @@ use Rattle.control_moves.proofs.WeighLemmas.{gain_of_own, taken_rows}
 use Rattle.control_moves.proofs.EventGoLemmas.{event_goes}
 use Rattle.ctl_holder.specs.declared.load.Load.{Load}
 use Rattle.ctl_holder.specs.declared.given.Given.{Given}
-use Rattle.ctl_holder.specs.Load.{Carries, given_by}
+use Rattle.ctl_holder.specs.Load.{given_by}
 use Rattle.ctl_state.specs.declared.command.Command.{Command}
 use Rattle.ctl_state.specs.declared.state.State.{State}
 use Rattle.ctl_state.specs.Boxes.{mail_at, with_mail}
 use Rattle.ctl_state.specs.Listed.{Listed, with_last, with_room, no_list}
 use Rattle.ctl_state.proofs.ReadLemmas.{read_kept}
 use Rattle.ctl_history.specs.Past.{Past, as_item, items_of, control_of, with_event, IsHistory, IsSilent}
-use Rattle.ctl_history.specs.Carried.{given_in, AreCarried, IsPlane}
+use Rattle.ctl_state.specs.Stands.{Stands}
+use Rattle.ctl_history.specs.Carried.{given_in, IsCarried, AreCarried, BindsFit, SameEndLists, IsPlane}
 use Rattle.ctl_history.proofs.EventLemmas.{control_more, kept_past, roomier}
 use Rattle.ctl_history.proofs.CarryLemmas.{carries_later}
+use Rattle.ctl_history.proofs.OwedLemmas.{binds_put, binds_fit}
+use Rattle.ctl_history.proofs.ReapLemmas.{carried_later}
 
 -- ---- no move but an object's making leaves one that is not taken in
 abbrev pub unplugged_made : Move → ℕ
@@ -71,7 +74,7 @@ plugged_stays StopComes o h = refl
 plugged_stays AsksForLink o h = refl
 plugged_stays AsksForLinger o h = refl
 
-abbrev ArePlugged : Rows → Type 0
+abbrev pub ArePlugged : Rows → Type 0
 ArePlugged s = (i : ℕ) → (obj s i).plugged ≡ true
 
 plugged_move : (m : Move) (s : Rows) → unplugged_made m ≡ 0 → ArePlugged s → ArePlugged (move_rows m s)
@@ -95,7 +98,7 @@ plugged_leads (m ∷ ms) s boxes d h none all =
     let first = sum_by-cons unplugged_made m ms in
     plugged_leads ms (move_rows m s) (move_boxes m s boxes) d h.1 (omega (arith, none, first)) (plugged_move m s (omega (arith, none, first)) all)
 
-plugged_after : {N S : Type 0} (c : Control) (did : Did N S) → Kept c → Fits c did → sum_by unplugged_made (own_moves c did) ≡ 0 → ArePlugged c.rows → ArePlugged (after did c).rows
+pub plugged_after : {N S : Type 0} (c : Control) (did : Did N S) → Kept c → Fits c did → sum_by unplugged_made (own_moves c did) ≡ 0 → ArePlugged c.rows → ArePlugged (after did c).rows
 plugged_after c did kept fits none all =
     let e = event_goes c did kept fits in
     let of_all = gain_of_own (λ s. 0) (λ m. 0) unplugged_made unplugged_free (λ m s sound may. omega arith) e.moves in
@@ -104,7 +107,7 @@ plugged_after c did kept fits none all =
 
 -- ---- one item more
 module _ {N S : Type 0} where
-  named_more : (past items : List (Item N S)) (item : Item N S) → AreNamed past items → FitsNames (past ++ items) item → AreNamed past (items ++ item ∷ [])
+  pub named_more : (past items : List (Item N S)) (item : Item N S) → AreNamed past items → FitsNames (past ++ items) item → AreNamed past (items ++ item ∷ [])
   named_more past [] item named fits = (subst (λ (xs : List (Item N S)). FitsNames xs item) (append-nil past) fits, tt)
   named_more past (x ∷ items) item named fits =
       (named.0, named_more (past ++ x ∷ []) items item named.1 (subst (λ (xs : List (Item N S)). FitsNames xs item) (sym (append_assoc past (x ∷ []) items)) fits))
@@ -118,26 +121,52 @@ module _ {N S : Type 0} where
   tells_no_names past did silent = subst (λ (js : List (Joining N)). All (IsTold (past ++ as_item did ∷ [])) js) (sym silent.joined) (All-nil (IsTold (past ++ as_item did ∷ [])))
 
 module _ {N O I S : Type 0} (out_name : O → N) (in_name : I → N) where
-  -- an event more, whatever it is
-  pub one_plane : (s t : State (Load N O I)) (p : Past (Given N O I) N S) (did : Did N S) (spare later_spare : ℕ) → IsPlane out_name in_name s p spare → IsHistory t (with_event did p) later_spare →
-      FitsNames (items_of p) (as_item did) → AreCarried out_name in_name (items_of p) t.boxes → sum_by unplugged_made (own_moves (control_of p) did) ≡ 0 →
+  -- an event that fits
+  pub fits_last : (t : State (Load N O I)) (p : Past (Given N O I) N S) (did : Did N S) (later_spare : ℕ) → IsHistory t (with_event did p) later_spare → Fits (control_of p) did
+  fits_last t p did later_spare history =
+      run_last (items_of p) (as_item did) (begun p.workers) (subst (λ (xs : List (Item N S)). IsControlRun (begun p.workers) xs) (map-append as_item p.events (did ∷ [])) history.run)
+
+  -- what is kept stands for the state behind an event
+  pub stands_last : (t : State (Load N O I)) (p : Past (Given N O I) N S) (did : Did N S) (later_spare : ℕ) → IsHistory t (with_event did p) later_spare → Stands t (after did (control_of p))
+  stands_last t p did later_spare history = subst (λ (d : Control). Stands t d) (control_more p did) history.stands
+
+  -- what is carried then
+  pub carried_last : (s t : State (Load N O I)) (p : Past (Given N O I) N S) (did : Did N S) (spare later_spare : ℕ) → IsPlane out_name in_name s p spare → IsHistory t (with_event did p) later_spare →
+      AreCarried out_name in_name (items_of p) (control_of p) t.boxes → AreCarried out_name in_name (items_of p) (after did (control_of p)) t.boxes
+  carried_last s t p did spare later_spare h history carried =
+      carried_later out_name in_name (items_of p) (control_of p) did t (kept_past p h.history.run) (subst Kept (control_more p did) (kept_past (with_event did p) history.run)) h.history.stands.lists.known
+      (fits_last t p did later_spare history) (stands_last t p did later_spare history) carried
+
+  -- an event more, whatever it is, by what is carried and what is on its way then
+  pub plane_more : (s t : State (Load N O I)) (p : Past (Given N O I) N S) (did : Did N S) (spare later_spare : ℕ) → IsPlane out_name in_name s p spare → IsHistory t (with_event did p) later_spare →
+      FitsNames (items_of p) (as_item did) → AreCarried out_name in_name (items_of p) (after did (control_of p)) t.boxes → BindsFit (after did (control_of p)) t.objects.lists → sum_by unplugged_made (own_moves (control_of p) did) ≡ 0 →
       IsPlane out_name in_name t (with_event did p) later_spare
-  one_plane s t p did spare later_spare h history names carried none = record {
+  plane_more s t p did spare later_spare h history names carried binds none = record {
     history = history;
     named = subst (λ (xs : List (Item N S)). AreNamed [] xs) (sym items_are) (named_more [] (items_of p) (as_item did) h.named names);
-    carried = λ m. subst (λ (xs : List (Item N S)). All (λ (x : Command (Load N O I)). Carries out_name in_name (name_of xs) x.letter.word x.load) (mail_at t.boxes m).commands) (sym items_are) (carried_now m);
-    plugged = subst (λ (c : Control). ArePlugged c.rows) (sym (control_more p did)) (plugged_after (control_of p) did (kept_past p h.history.run) fits none h.plugged);
+    carried = subst (λ (d : Control). AreCarried out_name in_name (items_of (with_event did p)) d t.boxes) (sym (control_more p did))
+        (subst (λ (xs : List (Item N S)). AreCarried out_name in_name xs (after did (control_of p)) t.boxes) (sym items_are) carried_now);
+    plugged = subst (λ (c : Control). ArePlugged c.rows) (sym (control_more p did)) (plugged_after (control_of p) did (kept_past p h.history.run) (fits_last t p did later_spare history) none h.plugged);
+    binds = subst (λ (d : Control). BindsFit d t.objects.lists) (sym (control_more p did)) binds;
   }
     where
       items_are : items_of (with_event did p) ≡ items_of p ++ as_item did ∷ []
       items_are = map-append as_item p.events (did ∷ [])
 
-      fits : Fits (control_of p) did
-      fits = run_last (items_of p) (as_item did) (begun p.workers) (subst (λ (xs : List (Item N S)). IsControlRun (begun p.workers) xs) items_are history.run)
+      carried_now : AreCarried out_name in_name (items_of p ++ as_item did ∷ []) (after did (control_of p)) t.boxes
+      carried_now m = λ k x lt.
+          (let one = carried m k x lt in record {
+            carries = carries_later out_name in_name (name_of (items_of p)) (name_of (items_of p ++ as_item did ∷ [])) (later (items_of p) (as_item did ∷ [])) _ _ one.carries;
+            reaps = one.reaps;
+          })
 
-      carried_now : AreCarried out_name in_name (items_of p ++ as_item did ∷ []) t.boxes
-      carried_now m k x lt =
-          carries_later out_name in_name (name_of (items_of p)) (name_of (items_of p ++ as_item did ∷ [])) (later (items_of p) (as_item did ∷ [])) _ _ (carried m k x lt)
+  -- an event more that makes no pair and brings no closed socket's ends
+  pub one_plane : (s t : State (Load N O I)) (p : Past (Given N O I) N S) (did : Did N S) (spare later_spare : ℕ) → IsPlane out_name in_name s p spare → IsHistory t (with_event did p) later_spare →
+      FitsNames (items_of p) (as_item did) → AreCarried out_name in_name (items_of p) (control_of p) t.boxes → SameEndLists s.objects.lists t.objects.lists → sum_by binds_put (own_moves (control_of p) did) ≡ 0 →
+      sum_by unplugged_made (own_moves (control_of p) did) ≡ 0 → IsPlane out_name in_name t (with_event did p) later_spare
+  one_plane s t p did spare later_spare h history names carried same no_binds none =
+      plane_more s t p did spare later_spare h history names (carried_last s t p did spare later_spare h history carried)
+      (binds_fit (control_of p) did (kept_past p h.history.run) (fits_last t p did later_spare history) no_binds s.objects.lists t.objects.lists same h.binds) none
 
   -- the invariant does not speak of what is on its way to the reaper
   given_aside : (t : State (Load N O I)) (workers spare : ℕ) (events : List (Did N S)) (a b : List (Given N O I)) → IsPlane out_name in_name t (record { workers = workers; events = events; given = a }) spare →
@@ -157,6 +186,7 @@ module _ {N O I S : Type 0} (out_name : O → N) (in_name : I → N) where
     named = h.named;
     carried = h.carried;
     plugged = h.plugged;
+    binds = h.binds;
   }
 
   pub plane_kept : (s : State (Load N O I)) (p : Past (Given N O I) N S) (spare : ℕ) → IsPlane out_name in_name s p spare → Kept (control_of p)
@@ -171,7 +201,7 @@ module _ {N O I S : Type 0} (out_name : O → N) (in_name : I → N) where
       (given_aside t workers (l.spare - 1) (l.items ++ did ∷ []) given now_given h)
 
   roomier_plane : (t : State (Load N O I)) (p : Past (Given N O I) N S) (spare more : ℕ) → spare ≤ more → IsPlane out_name in_name t p spare → IsPlane out_name in_name t p more
-  roomier_plane t p spare more less h = record { history = roomier t p spare more less h.history; named = h.named; carried = h.carried; plugged = h.plugged }
+  roomier_plane t p spare more less h = record { history = roomier t p spare more less h.history; named = h.named; carried = h.carried; plugged = h.plugged; binds = h.binds }
 
   -- and with room for one entry more
   pub planed_noted : (t : State (Load N O I)) (workers : ℕ) (l mid now : Listed (Did N S)) (given now_given : List (Given N O I)) (did : Did N S) → mid ≡ with_room 1 l → now ≡ with_last did mid →
@@ -212,6 +242,13 @@ all_plugged : (i : ℕ) → (obj root_alone i).plugged ≡ true
 all_plugged zero = refl
 all_plugged (suc i) = refl
 
+no_bind : (i : ℕ) → ◌≡◌ {A = ℕ} (sum_by (of_ends bind_waits i) root_alone.pairs) 0
+no_bind i = by (0 == i)
+  where
+    by : (b : Bool) → ◌≡◌ {A = ℕ} (0 + (cond b 0 0 + cond b 0 0)) 0
+    by true = refl
+    by false = refl
+
 module _ {N O I S : Type 0} (out_name : O → N) (in_name : I → N) where
   pub plane_begins : (s : State (Load N O I)) (workers : ℕ) (empty : List (Mail (Command (Load N O I)))) (l : Listed (Did N S)) → empty ≡ replicate (workers + 1) no_mail →
       s.boxes ≡ with_mail 0 (with_spare ((mail_at empty 0).spare + 1) (mail_at empty 0)) empty → l ≡ with_room 2 no_list →
@@ -219,9 +256,10 @@ module _ {N O I S : Type 0} (out_name : O → N) (in_name : I → N) where
   plane_begins s workers empty l none is room history = given_aside out_name in_name s workers l.spare l.items [] (given_in s.boxes) (record {
     history = history;
     named = subst (λ (x : Listed (Did N S)). AreNamed [] (map as_item x.items)) (sym room) tt;
-    carried = λ m. subst (λ (xs : List (Command (Load N O I))). All (λ (x : Command (Load N O I)). Carries out_name in_name (name_of (map as_item l.items)) x.letter.word x.load) xs) (sym (no_command s workers m empty none is))
-        (All-nil (λ (x : Command (Load N O I)). Carries out_name in_name (name_of (map as_item l.items)) x.letter.word x.load));
+    carried = λ m. subst (λ (xs : List (Command (Load N O I))). All (IsCarried out_name in_name (map as_item l.items) (after_all (map as_item l.items) (begun workers))) xs) (sym (no_command s workers m empty none is))
+        (All-nil (IsCarried out_name in_name (map as_item l.items) (after_all (map as_item l.items) (begun workers))));
     plugged = subst (λ (x : Listed (Did N S)). ArePlugged (after_all (map as_item x.items) (begun workers)).rows) (sym room) all_plugged;
+    binds = subst (λ (x : Listed (Did N S)). BindsFit (after_all (map as_item x.items) (begun workers)) s.objects.lists) (sym room) (λ i. (let none_waits = no_bind i in omega (arith, none_waits)));
   })
 
   pub begins_empty : (s : State (Load N O I)) (workers : ℕ) (empty : List (Mail (Command (Load N O I)))) (l : Listed (Did N S)) → empty ≡ replicate (workers + 1) no_mail →

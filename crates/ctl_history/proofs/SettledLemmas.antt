@@ -40,7 +40,8 @@ use Rattle.ctl_ends.specs.Settling.{SettlesEnd}
 use Rattle.ctl_ends.proofs.MailLemmas.{puts_on}
 use Rattle.ctl_ends.proofs.TurnLemmas.{comes_here}
 use Rattle.ctl_history.specs.Hearing.{IsAcknowledged, Led, Acknowledges, HasCounts, IsProcessed, BringsWriter}
-use Rattle.ctl_history.proofs.HearLemmas.{ends_on, tried, has_same, has_told, bare_loaded, finds_at, end_of_no_root, room_for, told_is_put}
+use Rattle.control_others.proofs.StayLemmas.{ends_on, tried}
+use Rattle.ctl_history.proofs.HearLemmas.{has_same, has_told, bare_loaded, finds_at, end_of_no_root, room_for, told_is_put}
 
 module _ {L : Type 0} where
   -- the settlements are not kept

@@ -30,7 +30,7 @@ use Rattle.ctl_state.specs.Stands.{Stands, Updates, slot_of}
 use Rattle.ctl_holder.specs.declared.given.Given.{Given}
 use Rattle.ctl_holder.specs.declared.load.Load.{Load}
 use Rattle.ctl_history.specs.Bare.{Somewhere}
-use Rattle.ctl_history.specs.Carried.{IsPlane}
+use Rattle.ctl_history.specs.Carried.{IsPlane, SameEndLists}
 use Rattle.ctl_history.specs.Past.{Past, control_of, items_of, with_event, IsHistory, IsSilent}
 use Rattle.ctl_history.specs.Refusals.{refusal_in}
 use Rattle.ctl_history.specs.Striking.{MayStrike}
@@ -97,8 +97,8 @@ module _ {L G N S : Type 0} where
 
 module _ {N O I S : Type 0} (out_name : O → N) (in_name : I → N) where
   pub unbinds_plane : (s t : State (Load N O I)) (p : Past (Given N O I) N S) (spare : ℕ) (o : ObjId) (at : Endpoint) (a : Answered N S) → IsPlane out_name in_name s p spare → IsOpenSocket (obj (control_of p).rows o.0) → IsSilent a →
-      refusal_in (reply_of (control_of p) (Unbind o at)) ≡ None → Updates (strikes_first o.0 at (is_bind_to at)) s t → PutsBare s.boxes t.boxes →
+      refusal_in (reply_of (control_of p) (Unbind o at)) ≡ None → Updates (strikes_first o.0 at (is_bind_to at)) s t → PutsBare s.boxes t.boxes → SameEndLists s.objects.lists t.objects.lists →
       IsPlane out_name in_name t (with_event (Asked (Unbind o at) Done a) p) spare
-  unbinds_plane s t p spare o at a h is_open silent free updates puts =
+  unbinds_plane s t p spare o at a h is_open silent free updates puts lists =
       one_plane out_name in_name s t p (Asked (Unbind o at) Done a) spare spare h (unbinds s t p spare o at a h.history is_open silent free updates puts)
-      (tells_no_names (items_of p) (Asked (Unbind o at) Done a) silent) (told_carried out_name in_name (items_of p) s.boxes t.boxes puts h.carried) refl
+      (tells_no_names (items_of p) (Asked (Unbind o at) Done a) silent) (told_carried out_name in_name (items_of p) (control_of p) s.boxes t.boxes puts h.carried) lists refl refl

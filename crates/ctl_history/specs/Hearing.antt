@@ -11,7 +11,10 @@ use Rattle.spec_control.specs.declared.entry.Answered.{Answered}
 use Rattle.spec_control.specs.declared.entry.Did.TheVariants.{Delivered, Delimited}
 use Rattle.spec_control.specs.Rows.{obj}
 use Rattle.spec_control.specs.Control.{Control, commands_in, happens, next_object, owner_of, place_of, try_end}
-use Rattle.spec_control.specs.Place.{looks}
+use Rattle.spec_control.specs.Place.{is_here, looks}
+use Rattle.spec_control.specs.Row.{TermComes, link_may}
+use Rattle.control_moves.specs.Move.{LinkMoves}
+use Rattle.ctl_terms.specs.Asking.{HasRoomOver}
 use Rattle.spec_control.specs.After.{answers_in, processed, settle}
 use Rattle.spec_control.specs.ControlRun.{Joins, word_joins, MayAnswerAll, Settles, IsSettled}
 use Rattle.zq_base.specs.declared.ids.Settled.{Settled}
@@ -36,7 +39,7 @@ abbrev pub is_heard : Word → Bool
 is_heard (Own child) = true
 is_heard (Plug end) = false
 is_heard (TermReq child) = true
-is_heard Term = false
+is_heard Term = true
 is_heard (TermAck child) = true
 is_heard (PipeBind e peer) = false
 is_heard (PipeTerm e) = true
@@ -65,6 +68,12 @@ module _ {N S : Type 0} where
     pub settled : a.settled ≡ Some counts
     pub output : a.output_left ≡ false
 
+-- a Term may come to an object, with room for all that it asks and tells; the root has no end
+pub record HearsTerm {L : Type 0} (c : Control) (s : State L) (at : ℕ) : Type 0 where
+  pub rootless : (e : EndId) → is_here (place_of c e) ≡ true → owner_of c e ≢ 0
+  pub comes : link_may TermComes (obj c.rows at) ≡ true
+  pub room : HasRoomOver (LinkMoves at TermComes ∷ []) c s
+
 module _ {N O I : Type 0} (out_name : O → N) (in_name : I → N) where
   -- the other end's acknowledgement may come to an end of this object, with what it brings, and with room for the object's own acknowledgement behind it
   pub record IsAcknowledged (names : EndId → Option N) (c : Control) (s : State (Load N O I)) (h : Holding N) (at : ℕ) (e : EndId) (load : Option (Load N O I)) : Type 0 where
@@ -80,7 +89,7 @@ module _ {N O I : Type 0} (out_name : O → N) (in_name : I → N) where
   HearsEnd names c s h at (Own child) load = Unit {0}
   HearsEnd names c s h at (Plug end) load = Unit {0}
   HearsEnd names c s h at (TermReq child) load = Unit {0}
-  HearsEnd names c s h at Term load = Unit {0}
+  HearsEnd names c s h at Term load = HearsTerm c s at
   HearsEnd names c s h at (TermAck child) load = Unit {0}
   HearsEnd names c s h at (PipeBind e peer) load = Unit {0}
   HearsEnd names c s h at (PipeTerm e) load = TurnsAt out_name in_name c s h e TermCame

@@ -7,3 +7,4 @@ pub mod Connecting
 pub mod Making
 pub mod Refusals
 pub mod Striking
+pub mod Joining

@@ -5,7 +5,7 @@ ghost use Rattle.spec_control.specs.declared.entry.Did.TheVariants.{Asked};
 ghost use Rattle.spec_control.specs.Rows.{obj};
 ghost use Rattle.spec_control.specs.ControlRun.{IsOpenSocket};
 ghost use Rattle.ctl_history.specs.Past.{control_of, items_of, with_event, with_given, IsSilent};
-ghost use Rattle.ctl_holder.specs.Load.{AreEndsOfClosed};
+ghost use Rattle.ctl_holder.specs.Load.{AreEndsOfClosed, GivesAll};
 ghost use Rattle.spec_control.specs.Names.{name_of};
 
 use crate::history::History;
@@ -27,6 +27,7 @@ where
     )
         requires ends { AreEndsOfClosed P.known.out_name P.known.in_name
             (name_of (items_of self.old)) parting }
+        requires all { GivesAll (control_of self.old) socket.0 parting }
         requires open { IsOpenSocket (obj (control_of self.old).rows socket.0) }
         requires silent { IsSilent h }
         ensures { self.new ≡ with_given parting.ends.items

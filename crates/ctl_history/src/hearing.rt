@@ -8,6 +8,7 @@ use crate::bare::{acknowledgement, own, request};
 use ctl_ends::{settle_end, turn_end};
 use ctl_holder::{Holder, Load};
 use ctl_state::State;
+use ctl_terms::process_term;
 use http_server::Log;
 use msg_pipe::Pipes;
 use spec_control::{Answered, EndEvent, Letter, Word};
@@ -141,6 +142,10 @@ where
             let counts = acknowledged(state, holder, letter.to, e, load);
             return Ok(with_counts(alloc, counts));
         }
-        Word::Plug(_) | Word::Term | Word::PipeBind(_, _) | Word::Reap(_) => return Err(load),
+        Word::Term => {
+            process_term(state, holder, letter.to);
+            return Ok(silent(alloc));
+        }
+        Word::Plug(_) | Word::PipeBind(_, _) | Word::Reap(_) => return Err(load),
     }
 }

@@ -2,6 +2,7 @@ ghost use Rattle.std.specs.Prelude.{◌≡◌, ◌<◌, None, length, OnOk, OnEr
 ghost use Rattle.ctl_state.specs.Stands.{Updates};
 ghost use Rattle.ctl_history.specs.Bare.{Somewhere};
 ghost use Rattle.ctl_history.specs.Binding.{bound_now};
+ghost use Rattle.ctl_history.specs.Carried.{SameEndLists};
 
 use crate::refusals::binding_by;
 use ctl_state::{Held, Hold, State};
@@ -23,6 +24,7 @@ pub(crate) fn take_name<L: Drop>(
     requires free { Somewhere state.old (λ c. c.names.held at.now ≡ None) }
     ensures ok { OnOk result (Updates (bound_now socket.0 at.now) state.old state.new) }
     ensures boxes { state.new.boxes ≡ state.old.boxes }
+    ensures ends { OnOk result (SameEndLists state.old.objects.lists state.new.objects.lists) }
     ensures err { OnErr result (state.new ≡ state.old) }
 {
     let binding = binding_by(state, socket);

@@ -10,6 +10,7 @@ ghost use Rattle.ctl_state.specs.Lists.{owner_number, hold_at};
 ghost use Rattle.ctl_state.specs.Parts.{Tells};
 ghost use Rattle.ctl_state.specs.Stands.{Stands, Updates};
 ghost use Rattle.ctl_history.specs.Bare.{Somewhere};
+ghost use Rattle.ctl_history.specs.Carried.{SameEndLists};
 ghost use Rattle.ctl_history.specs.Striking.{MayStrike};
 
 use ctl_state::{Held, State};
@@ -49,8 +50,8 @@ fn tell_child<L: Drop>(state: &mut State<L>, socket: ObjId, child: ObjId)
     state.tell_where(true, socket, child);
 }
 
-// The listener or the session of what was struck is told to end, if it has one.
-fn tell_struck<L: Drop>(state: &mut State<L>, socket: ObjId, child: Option<ObjId>)
+/// The listener or the session of what was struck is told to end, if it has one.
+pub(crate) fn tell_struck<L: Drop>(state: &mut State<L>, socket: ObjId, child: Option<ObjId>)
     requires may { Somewhere state.old (MayStrike state.old socket.0) }
     ensures stands { Updates (tell_struck socket.0 (owner_number child)) state.old state.new }
     ensures only { Tells state.old state.new }
@@ -70,6 +71,7 @@ fn free<L: Drop>(state: &mut State<L>, socket: ObjId, to: &Endpoint, listener: O
     ensures stands { Updates (λ c. tell_struck socket.0 (owner_number listener)
         (record c { names = without_holder to.now c.names })) state.old state.new }
     ensures only { PutsBare state.old.boxes state.new.boxes }
+    ensures ends { SameEndLists state.old.objects.lists state.new.objects.lists }
 {
     state.free_name(to);
     tell_struck(state, socket, listener);
@@ -81,6 +83,7 @@ fn strike<L: Drop>(state: &mut State<L>, socket: ObjId, to: &Endpoint, held: Hel
     ensures stands { (at : Endpoint) → is_bind_to to.now (hold_at at held) ≡ true →
         Updates (strikes socket.0 to.now (Some (hold_at at held))) state.old state.new }
     ensures only { PutsBare state.old.boxes state.new.boxes }
+    ensures ends { SameEndLists state.old.objects.lists state.new.objects.lists }
 {
     match held {
         Held::Bound(listener) => {
@@ -97,6 +100,7 @@ pub(crate) fn strike_bind<L: Drop>(state: &mut State<L>, socket: ObjId, to: &End
     ensures stands { Updates (strikes_first socket.0 to.now (is_bind_to to.now))
         state.old state.new }
     ensures only { PutsBare state.old.boxes state.new.boxes }
+    ensures ends { SameEndLists state.old.objects.lists state.new.objects.lists }
 {
     match state.strike_bind(socket, to) {
         Some(hold) => {

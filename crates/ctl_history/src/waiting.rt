@@ -1,6 +1,7 @@
 ghost use Rattle.std.specs.Prelude.{◌≡◌, ◌<◌, None, length, OnOk, OnErr};
 ghost use Rattle.spec_control.specs.After.{Answers, connects_to};
 ghost use Rattle.ctl_state.specs.Stands.{Updates};
+ghost use Rattle.ctl_history.specs.Carried.{SameEndLists};
 
 use crate::refusals::kind_of;
 use ctl_state::{Held, Hold, State};
@@ -20,6 +21,7 @@ pub(crate) fn wait<L: Drop>(
     ensures ok { OnOk result ((h : Answers) →
         Updates (connects_to socket.0 to.now None h) state.old state.new) }
     ensures boxes { state.new.boxes ≡ state.old.boxes }
+    ensures ends { OnOk result (SameEndLists state.old.objects.lists state.new.objects.lists) }
     ensures err { OnErr result (state.new ≡ state.old) }
 {
     let kind = kind_of(state, socket);

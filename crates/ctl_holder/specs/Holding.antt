@@ -1,5 +1,5 @@
 -- What a holder of ends has, and what each of its calls does to it (own choice, after libzmq's `pipe_t` and `socket_base_t`).
-use Rattle.std.specs.Prelude.{◌≡◌, ◌≢◌, ◌≤◌, ℕ, Bool, true, false, not, List, [], ◌∷◌, ◌++◌, Option, Some, None, if◌then◌else◌, filter, All, map}
+use Rattle.std.specs.Prelude.{◌≡◌, ◌≢◌, ◌≤◌, ℕ, Bool, true, false, not, List, [], ◌∷◌, ◌++◌, Option, Some, None, if◌then◌else◌, filter, is_some, unwrap_or, All, map}
 use Rattle.std.specs.List.{list_any}
 use Rattle.zq_base.specs.declared.ids.EndId.{EndId}
 use Rattle.zq_base.specs.declared.kind.Kind.{Kind}
@@ -8,6 +8,8 @@ use Rattle.zq_base.specs.declared.attached.Attached.{Attached}
 use Rattle.zq_base.specs.declared.attached.Attached.TheVariants.{Yes, BadId, Second}
 use Rattle.spec_pattern.specs.Pipe.{max_capacity}
 use Rattle.spec_control.specs.declared.entry.Joining.{Joining}
+use Rattle.spec_control.specs.declared.end.EndState.{EndState}
+use Rattle.spec_control.specs.declared.end.EndState.TheVariants.{Active, DelimiterGot, WaitDelimiter, AckSent, AskedOnce, AskedTwice, Gone}
 use Rattle.spec_control.specs.Control.{is_end}
 use Rattle.control_held.specs.Held.{Held}
 use Rattle.ctl_holder.specs.declared.halves.Halves.{Halves}
@@ -27,6 +29,10 @@ pub record Holding (N : Type 0) : Type 0 where
   pub kind : ℕ → Option Kind
   -- a session that has output left to write within its linger
   pub output_left : ℕ → Bool
+  -- how far an end is, as the holder was told last
+  pub state : EndId → EndState
+  -- the changes of state that it was told so far, in order
+  pub turns : List (EndId × EndState)
 
 -- a pipe's capacity
 pub record IsCapacity (capacity : ℕ) : Type 0 where
@@ -38,6 +44,17 @@ abbrev pub MayRefuse : Option Kind → Attached → Type 0
 MayRefuse kind Yes = Unit {0}
 MayRefuse kind BadId = kind ≡ Some Router
 MayRefuse kind Second = kind ≡ Some Pair
+
+-- the two are one state
+abbrev pub is_state : (s t : EndState) → Bool
+is_state Active Active = true
+is_state DelimiterGot DelimiterGot = true
+is_state WaitDelimiter WaitDelimiter = true
+is_state AckSent AckSent = true
+is_state AskedOnce AskedOnce = true
+is_state AskedTwice AskedTwice = true
+is_state Gone Gone = true
+is_state s t = false
 
 module _ {N : Type 0} where
   -- an end is among these
@@ -62,6 +79,25 @@ module _ {N : Type 0} where
 
   abbrev pub WritesAsBefore : (old new : Holding N) → Type 0
   WritesAsBefore old new = (d : EndId) → new.writes d ≡ old.writes d
+
+  -- how far each end is that is had stays, and nothing more was told
+  pub record KeepsTurns (old new : Holding N) : Type 0 where
+    pub states : (i : ℕ) (d : EndId) → has_end d (new.ends i) ≡ true → new.state d ≡ old.state d
+    pub turns : new.turns ≡ old.turns
+
+  -- ends that came begin in these states, and else all is as before
+  pub record Begins (began : EndId → Option EndState) (old new : Holding N) : Type 0 where
+    pub states : (i : ℕ) (d : EndId) → has_end d (new.ends i) ≡ true → new.state d ≡ unwrap_or (began d) (old.state d)
+    pub turns : new.turns ≡ old.turns
+
+  -- an end that joined is Active
+  abbrev pub BeginsActive : EndId → (old new : Holding N) → Type 0
+  BeginsActive e old new = Begins (λ d. if is_end d e then Some Active else None) old new
+
+  -- an end is told that it is in this state now, which is a change unless it was in it
+  pub record TurnsTo (e : EndId) (state : EndState) (old new : Holding N) : Type 0 where
+    pub states : (i : ℕ) (d : EndId) → has_end d (new.ends i) ≡ true → new.state d ≡ (if is_end d e then state else old.state d)
+    pub turns : new.turns ≡ old.turns ++ (if is_state (old.state e) state then [] else (e, state) ∷ [])
 
   -- an object's ends are these now, and else all is as before; an end that was at its delimiter is there while it is held
   pub record HoldsNow (o : ℕ) (hs : List (Held N)) (old new : Holding N) : Type 0 where
@@ -100,6 +136,7 @@ module _ {N : Type 0} where
     pub objects : (i : ℕ) → i ≢ o → new.holds i ≡ old.holds i
     pub output : (i : ℕ) → i ≢ o → new.output_left i ≡ old.output_left i
     pub delimiters : (e : EndId) → old.at_delimiter e ≡ true → new.at_delimiter e ≡ true
+    pub turns : KeepsTurns old new
 
   -- an object is taken in, with these ends
   pub record IsPlugged (o : ℕ) (hs : List (Held N)) (old new : Holding N) : Type 0 where
@@ -115,6 +152,9 @@ module _ {N : Type 0} where
     pub none : new.ends o ≡ []
     pub gone : new.holds o ≡ false
     pub others : (i : ℕ) → i ≢ o → (new.holds i ≡ old.holds i) × ((new.ends i ≡ old.ends i) × (new.kind i ≡ old.kind i))
+    pub writers : (i : ℕ) (e : EndId) → has_end e (new.ends i) ≡ true → new.writes e ≡ old.writes e
+    pub delimiters : (i : ℕ) (e : EndId) → has_end e (new.ends i) ≡ true → old.at_delimiter e ≡ true → new.at_delimiter e ≡ true
+    pub output : (i : ℕ) → i ≢ o → new.output_left i ≡ old.output_left i
 
   -- the last of these ends is this one
   pub record IsLast (e : EndId) (hs : List (Held N)) : Type 0 where
@@ -122,6 +162,11 @@ module _ {N : Type 0} where
     pub last : Held N
     pub are : hs ≡ before ++ last ∷ []
     pub end : is_end e last.end ≡ true
+
+-- a session's end is Active
+abbrev pub states_optional : {O I : Type 0} → Option (EndId × Halves O I) → EndId → Option EndState
+states_optional None d = None
+states_optional (Some x) d = if is_end d x.0 then Some Active else None
 
 module _ {N O I : Type 0} where
   -- of the ends that a closed socket gives, those that are said to have met their delimiter have met it
@@ -135,6 +180,24 @@ module _ {N O I : Type 0} where
   -- it is said of each that has
   abbrev pub AllTold : (EndId → Bool) → List (Given N O I) → Type 0
   AllTold at gs = All (λ g. g.met ≡ at g.end) gs
+
+  -- how far each is that has come
+  abbrev pub states_given : List (Given N O I) → EndId → Option EndState
+  states_given [] d = None
+  states_given (g ∷ gs) d = if is_end d g.end then Some g.state else states_given gs d
+
+  -- it is said of each how far it is
+  abbrev pub AllStated : (EndId → EndState) → List (Given N O I) → Type 0
+  AllStated state gs = All (λ g. g.state ≡ state g.end) gs
+
+  -- each comes with its writing half, where the holder has it still
+  abbrev pub AllWriting : (EndId → Bool) → List (Given N O I) → Type 0
+  AllWriting writes gs = All (λ g. is_some g.out ≡ writes g.end) gs
+
+  -- the writing half of an end came with these, if it is one of them
+  abbrev pub writes_in : List (Given N O I) → EndId → (was : Bool) → Bool
+  writes_in [] e was = was
+  writes_in (g ∷ gs) e was = if is_end e g.end then is_some g.out else writes_in gs e was
 
 module _ {N O I : Type 0} (out_name : O → N) (in_name : I → N) where
   -- an end with these halves

@@ -1,15 +1,19 @@
 -- What the commands of a control plane carry (own choice).
-use Rattle.std.specs.Prelude.{◌≡◌, Bool, true, false, List, [], Option, Some, None, All}
+use Rattle.std.specs.Prelude.{◌≡◌, ℕ, Bool, true, false, List, [], Option, Some, None, All, is_some, map}
 use Rattle.zq_base.specs.Ends.{other_end}
 use Rattle.zq_base.specs.declared.ids.EndId.{EndId}
 use Rattle.spec_control.specs.declared.letter.Word.{Word}
 use Rattle.spec_control.specs.declared.letter.Word.TheVariants.{Own, Plug, TermReq, Term, TermAck, PipeBind, PipeTerm, PipeTermAck, Stop, Reap}
 use Rattle.ctl_holder.specs.declared.halves.NamedHalves.{NamedHalves}
 use Rattle.spec_control.specs.declared.entry.Joining.{Joining}
+use Rattle.spec_control.specs.Rows.{obj}
+use Rattle.spec_control.specs.Control.{Control, place_of}
+use Rattle.spec_control.specs.ControlRun.{Joins, is_between, reap_joins}
 use Rattle.ctl_holder.specs.declared.given.Given.{Given}
 use Rattle.ctl_holder.specs.declared.given.Parting.{Parting}
 use Rattle.ctl_holder.specs.declared.load.Load.{Load}
 use Rattle.ctl_holder.specs.Holding.{AreGivenAs}
+use Rattle.ctl_holder.specs.Lent.{has_writer}
 use Rattle.ctl_holder.specs.declared.load.Load.TheVariants.{Halves as BringsHalves, Writer, Ends}
 
 module _ {N O I : Type 0} (out_name : O → N) (in_name : I → N) (name_of : EndId → Option N) where
@@ -82,3 +86,33 @@ given_by (Some (BringsHalves h)) = []
 given_by (Some (Writer o)) = []
 given_by (Some (Ends p)) = p.ends.items
 given_by None = []
+
+module _ {N O I : Type 0} where
+  -- a closed socket gives all of its ends that are there, as they are, each with its writing half but where it acknowledged
+  pub record GivesAll (c : Control) (socket : ℕ) (p : Parting N O I) : Type 0 where
+    pub joined : map (λ j. let x : Joins = record { end = j.end; peer = j.peer; met = j.met } in x) p.joined ≡ reap_joins c socket
+    pub writers : All (λ g. is_some g.out ≡ has_writer (place_of c g.end)) p.ends.items
+
+  -- they are those of a closed socket whose Reap is on its way
+  pub record ComeToReaper (c : Control) (socket : ℕ) (p : Parting N O I) : Type 0 where
+    pub between : is_between (obj c.rows socket) ≡ true
+    pub all : GivesAll c socket p
+
+  abbrev pub BringsAll : Control → ℕ → Option (Load N O I) → Type 0
+  BringsAll c socket (Some (BringsHalves h)) = Unit {0}
+  BringsAll c socket (Some (Writer o)) = Unit {0}
+  BringsAll c socket (Some (Ends p)) = ComeToReaper c socket p
+  BringsAll c socket None = Unit {0}
+
+  -- a Reap brings them all, by this control state
+  abbrev pub ReapsAll : Control → Word → Option (Load N O I) → Type 0
+  ReapsAll c (Own child) load = Unit {0}
+  ReapsAll c (Plug end) load = Unit {0}
+  ReapsAll c (TermReq child) load = Unit {0}
+  ReapsAll c Term load = Unit {0}
+  ReapsAll c (TermAck child) load = Unit {0}
+  ReapsAll c (PipeBind e peer) load = Unit {0}
+  ReapsAll c (PipeTerm e) load = Unit {0}
+  ReapsAll c (PipeTermAck e) load = Unit {0}
+  ReapsAll c Stop load = Unit {0}
+  ReapsAll c (Reap socket) load = BringsAll c socket.0 load

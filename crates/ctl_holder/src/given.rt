@@ -1,4 +1,4 @@
-use spec_control::Joining;
+use spec_control::{EndState, Joining};
 use zq_base::{EndId, Seq};
 
 /// An end that a closed socket gives to the reaper.
@@ -12,6 +12,8 @@ pub struct Given<N, O, I> {
     pub input: I,
     /// Whether the reading half has met the other end's delimiter.
     pub met: bool,
+    /// How far the end is in its life.
+    pub state: EndState,
 }
 
 /// The ends of a closed socket, and the list of them that the plane notes as the reaper takes them

@@ -17,14 +17,30 @@ pub trait Holder<P: Pipes> {
     ghost use Rattle.ctl_holder.specs.Holding.{read_in, Stays, Joined, Left, Yielded, HasGiven};
     ghost use Rattle.ctl_holder.specs.Holding.{IsTold, IsPlugged, IsLast, held_with, AreCrossed};
     ghost use Rattle.ctl_holder.specs.Holding.{held_given, held_optional};
-    ghost use Rattle.ctl_holder.specs.Holding.{AreMet, AllTold, AreAtDelimiter, AreGivenAs};
+    ghost use Rattle.ctl_holder.specs.Holding.{AreMet, AllTold, AllWriting, AreAtDelimiter, AreGivenAs};
+    ghost use Rattle.ctl_holder.specs.Holding.{writes_in};
+    ghost use Rattle.zq_base.specs.declared.ids.EndId.{EndId};
+    ghost use Rattle.ctl_holder.specs.Holding.{KeepsTurns, BeginsActive, Begins, TurnsTo, AllStated};
+    ghost use Rattle.ctl_holder.specs.Holding.{states_optional, states_given};
     ghost use Rattle.std.specs.Prelude.{Bool};
+    ghost use Rattle.std.specs.Option.{ForSome};
+    ghost use Rattle.ctl_holder.specs.declared.halves.Halves.{Halves};
 
     /// What it has.
     ghost holding: { Self → Holding P.Name };
 
     /// A reading half has met its delimiter, as its pipes know it.
     ghost ended: { Self → P.In → Bool };
+
+    /// Halves that may join what it has: their pipes are among its own, nothing was sealed in them,
+    /// and none of its ends has a half of one of them.
+    ghost fits: { Self → Halves P.Out P.In → Type 0 };
+
+    /// Whether it takes in listeners and sessions.
+    ghost serves: { Bool };
+
+    /// Whether it takes in the ends of closed sockets.
+    ghost reaps: { Bool };
 
     /// Makes the pipes of a pair: this holder's end writes the first, of this many messages, and
     /// reads the second.
@@ -41,7 +57,9 @@ pub trait Holder<P: Pipes> {
         requires read { IsCapacity read }
         ensures pair { IfOk result (λ m.
             AreCrossed P.known.out_name P.known.in_name m.mine m.other) }
-        ensures stays { Stays o.0 (holding self.old) (holding self.new) };
+        ensures fits { IfOk result (λ m. fits self.new m.mine) }
+        ensures stays { Stays o.0 (holding self.old) (holding self.new) }
+        ensures turns { KeepsTurns (holding self.old) (holding self.new) };
 
     /// An end joins an object, whose kind answers. It keeps the halves of an end that its kind
     /// refuses too; the end is then no peer. Want of memory hands them back.
@@ -55,8 +73,10 @@ pub trait Holder<P: Pipes> {
     ) -> Result<Attached, AllocFailed<Halves<P::Out, P::In>>>
         requires here { (holding self.old).holds o.0 ≡ true }
         requires new { has_end end ((holding self.old).ends o.0) ≡ false }
+        requires fits { fits self.old halves }
         ensures ok { OnOk result (Joined o.0 (held_with P.known.out_name P.known.in_name end halves)
             (holding self.old) (holding self.new)) }
+        ensures turns { OnOk result (BeginsActive end (holding self.old) (holding self.new)) }
         ensures refuses { IfOk result (λ a. MayRefuse ((holding self.old).kind o.0) a) }
         ensures err { IfErr result (λ e. (e.value ≡ halves) × (self.new ≡ self.old)) };
 
@@ -68,18 +88,21 @@ pub trait Holder<P: Pipes> {
         ensures written { written_in ((holding self.old).ends o.0) end
             ≡ Some (P.known.out_name result.out) }
         ensures read { read_in ((holding self.old).ends o.0) end
-            ≡ Some (P.known.in_name result.input) };
+            ≡ Some (P.known.in_name result.input) }
+        ensures turns { KeepsTurns (holding self.old) (holding self.new) };
 
     /// An end goes to a state of its life.
     fn set_state(&mut self, o: ObjId, end: EndId, state: EndState)
         requires here { has_end end ((holding self.old).ends o.0) ≡ true }
-        ensures stays { Stays o.0 (holding self.old) (holding self.new) };
+        ensures stays { Stays o.0 (holding self.old) (holding self.new) }
+        ensures turns { TurnsTo end state (holding self.old) (holding self.new) };
 
     /// The pipe that an end writes gets its delimiter.
     fn seal(&mut self, o: ObjId, end: EndId)
         requires here { has_end end ((holding self.old).ends o.0) ≡ true }
         requires writer { (holding self.old).writes end ≡ true }
-        ensures stays { Stays o.0 (holding self.old) (holding self.new) };
+        ensures stays { Stays o.0 (holding self.old) (holding self.new) }
+        ensures turns { KeepsTurns (holding self.old) (holding self.new) };
 
     /// Gives away the writing half of an end that acknowledges; parts that were not committed are
     /// rolled back.
@@ -88,7 +111,8 @@ pub trait Holder<P: Pipes> {
         requires writer { (holding self.old).writes end ≡ true }
         ensures name { written_in ((holding self.old).ends o.0) end
             ≡ Some (P.known.out_name result) }
-        ensures yielded { Yielded o.0 end (holding self.old) (holding self.new) };
+        ensures yielded { Yielded o.0 end (holding self.old) (holding self.new) }
+        ensures turns { KeepsTurns (holding self.old) (holding self.new) };
 
     /// Joins the two halves of the pipe that an end read, which is gone then. What is left in a
     /// pipe that was read to its delimiter is nothing.
@@ -97,17 +121,19 @@ pub trait Holder<P: Pipes> {
         requires pipe { read_in ((holding self.old).ends o.0) end ≡ Some (P.known.out_name writer) }
         ensures sum { result.sent ≡ result.got + result.rest }
         ensures read_out { (holding self.old).at_delimiter end ≡ true → result.rest ≡ 0 }
-        ensures gone { Left o.0 end (holding self.old) (holding self.new) };
+        ensures gone { Left o.0 end (holding self.old) (holding self.new) }
+        ensures turns { KeepsTurns (holding self.old) (holding self.new) };
 
     /// Calls of the socket other than close are refused from now on.
     fn stop(&mut self, o: ObjId)
-        ensures stays { Stays o.0 (holding self.old) (holding self.new) };
+        ensures stays { Stays o.0 (holding self.old) (holding self.new) }
+        ensures turns { KeepsTurns (holding self.old) (holding self.new) };
 
     /// A waker of this holder. Nothing is promised of it.
     fn waker(&self) -> P::Waker;
 
-    /// Takes in a listener, which has no end, or a session with its end or none yet. Want of memory
-    /// hands the halves back.
+    /// Takes in a listener, which has no end, or a session with its end or none yet, whose halves fit.
+    /// Want of memory hands the halves back.
     fn plug(
         &mut self,
         alloc: Global,
@@ -117,9 +143,13 @@ pub trait Holder<P: Pipes> {
         options: &Options,
         end: Option<(EndId, Halves<P::Out, P::In>)>,
     ) -> Result<(), AllocFailed<Option<(EndId, Halves<P::Out, P::In>)>>>
+        requires serves { serves ≡ true }
         requires new { (holding self.old).holds o.0 ≡ false }
+        requires fits { ForSome end (λ x. fits self.old x.1) }
         ensures ok { OnOk result (IsPlugged o.0
             (held_optional P.known.out_name P.known.in_name end)
+            (holding self.old) (holding self.new)) }
+        ensures turns { OnOk result (Begins (states_optional end)
             (holding self.old) (holding self.new)) }
         ensures err { IfErr result (λ e. (e.value ≡ end) × (self.new ≡ self.old)) };
 
@@ -145,13 +175,20 @@ pub trait Holder<P: Pipes> {
             result.joined }
         ensures none { HasGiven o.0 (holding self.old) (holding self.new) }
         ensures told { AllTold (holding self.old).at_delimiter result.ends.items }
+        ensures writing { AllWriting (holding self.old).writes result.ends.items }
+        ensures states { AllStated (holding self.old).state result.ends.items }
+        ensures turns { KeepsTurns (holding self.old) (holding self.new) }
         ensures met { AreMet (ended self.new) result.ends.items };
 
     /// Takes the ends of a closed socket. It needs no memory.
     fn take_ends(&mut self, o: ObjId, ends: Vec<Given<P::Name, P::Out, P::In>>)
+        requires reaps { reaps ≡ true }
         requires new { (holding self.old).holds o.0 ≡ false }
         requires met { AreMet (ended self.old) ends.items }
         ensures all { IsPlugged o.0 (map (held_given P.known.out_name P.known.in_name) ends.items)
             (holding self.old) (holding self.new) }
-        ensures at { AreAtDelimiter (holding self.new).at_delimiter ends.items };
+        ensures at { AreAtDelimiter (holding self.new).at_delimiter ends.items }
+        ensures turns { Begins (states_given ends.items) (holding self.old) (holding self.new) }
+        ensures writing { (e : EndId) → (holding self.new).writes e
+            ≡ writes_in ends.items e ((holding self.old).writes e) };
 }

@@ -1,74 +1,163 @@
--- What a caller's items are after a call of its desk (own choice).
-use Rattle.std.specs.Prelude.{◌≡◌, ℕ, Bool, true, false, List, [], ◌∷◌, ◌++◌, Some, Option, None}
+-- What a caller's moments are after a call of its desk (own choice).
+use Rattle.std.specs.Prelude.{◌≡◌, ◌<◌, ◌==◌, ◌⊎◌, ℕ, Bool, true, false, List, [], ◌∷◌, ◌++◌, Some, Option, None, count_by}
+use Rattle.std.specs.List.{list_any}
 use Rattle.zq_base.specs.declared.ids.EndId.{EndId}
 use Rattle.zq_base.specs.declared.ids.SlotId.{SlotId}
 use Rattle.spec_control.specs.declared.letter.Letter.{Letter}
 use Rattle.spec_control.specs.declared.request.Req.{Req}
 use Rattle.spec_control.specs.declared.request.Reply.{Reply}
 use Rattle.spec_control.specs.declared.entry.Answered.{Answered}
+use Rattle.spec_control.specs.declared.entry.Did.{Did}
 use Rattle.spec_control.specs.declared.entry.Did.TheVariants.{Asked, Delivered, Delimited}
 use Rattle.spec_control.specs.declared.entry.SeenEmpty.{SeenEmpty}
-use Rattle.spec_control.specs.declared.entry.SeenEmpty.TheVariants.{Mailbox}
+use Rattle.spec_control.specs.declared.entry.SeenEmpty.TheVariants.{Nothing, Mailbox, Reapers}
 use Rattle.spec_control.specs.declared.entry.Sight.{Sight}
 use Rattle.spec_control.specs.declared.entry.Item.{Item}
 use Rattle.spec_control.specs.declared.entry.Item.TheVariants.{Event, Seen}
+use Rattle.spec_control.specs.Rows.{obj}
+use Rattle.spec_control.specs.Control.{Control, met_in, place_of}
 use Rattle.control_held.specs.Held.{ends_after}
 use Rattle.control_held.specs.Has.{has_after}
-use Rattle.control_held.specs.Met.{met_after}
+use Rattle.control_held.specs.Moments.{Moment, items_in, left_after, first_waiting}
 use Rattle.ctl_plane.specs.declared.delivery.Delivery.{Delivery}
 use Rattle.ctl_plane.specs.declared.delivery.Delivery.TheVariants.{Done, Empty}
+use Rattle.ctl_plane.specs.declared.pumped.Pumped.{Pumped}
+use Rattle.ctl_plane.specs.declared.pumped.Pumped.TheVariants.{More, Drained}
 use Rattle.ctl_holder.specs.Holding.{Holding, has_end}
+use Rattle.ctl_holder.specs.Lent.{has_writer}
+
+-- an end of an object that the holder has
+pub record HoldsEnd {N : Type 0} (e : EndId) (h : Holding N) : Type 0 where
+  pub object : ℕ
+  pub has : h.holds object ≡ true
+  pub here : has_end e (h.ends object) ≡ true
+
+-- it is the mailbox of this object that was looked at
+abbrev pub is_mailbox_of : ℕ → Control → SeenEmpty → Bool
+is_mailbox_of i c Nothing = false
+is_mailbox_of i c (Mailbox slot) = slot.0 == (obj c.rows i).slot
+is_mailbox_of i c Reapers = false
+
+-- how many commands a pump takes at once
+abbrev pub pump_limit : ℕ
+pump_limit = 64
 
 module _ {N S : Type 0} where
-  -- a holder that is lent has of its objects what the items of its caller say
-  pub record HasWhatTheySay (by : ℕ) (items : List (Item N S)) (h : Holding N) : Type 0 where
-    pub objects : (i : ℕ) → h.holds i ≡ true → has_after i items ≡ Some by
-    pub ends : (i : ℕ) → h.holds i ≡ true → h.ends i ≡ ends_after i items
-    pub delimiters : (i : ℕ) (e : EndId) → h.holds i ≡ true → has_end e (h.ends i) ≡ true → met_after e items ≡ true → h.at_delimiter e ≡ true
+  -- a holder that is lent has of its objects what the moments of its caller say: the ends that joined, each as the last moment of its object left it
+  pub record HasWhatTheySay (by : ℕ) (moments : List (Moment N S)) (h : Holding N) : Type 0 where
+    pub objects : (i : ℕ) → h.holds i ≡ true → has_after i (items_in moments) ≡ Some by
+    pub no_root : h.holds 0 ≡ false
+    pub ends : (i : ℕ) → h.holds i ≡ true → h.ends i ≡ ends_after i (items_in moments)
+    pub writes : (i : ℕ) (e : EndId) → h.holds i ≡ true → has_end e (h.ends i) ≡ true → h.writes e ≡ has_writer (place_of (left_after i moments) e)
+    pub delimiters : (i : ℕ) (e : EndId) → h.holds i ≡ true → has_end e (h.ends i) ≡ true → met_in (place_of (left_after i moments) e) ((left_after i moments).reasons e) ≡ true → h.at_delimiter e ≡ true
 
-  -- one item more: a request by this caller, with its answer
-  pub record AsksOnce (by : ℕ) (req : Req) (reply : Reply) (old new : List (Item N S)) : Type 0 where
+  -- the mailbox of an object that the holder has
+  pub record IsItsMailbox (slot : ℕ) (moments : List (Moment N S)) (h : Holding N) : Type 0 where
+    pub object : ℕ
+    pub has : h.holds object ≡ true
+    pub here : (obj (left_after object moments).rows object).slot ≡ slot
+
+  -- a mailbox that a caller may take from: an I/O worker's own, or that of an object that it has
+  abbrev pub MayTakeFrom : (own : ℕ → Bool) → (slot : ℕ) → List (Moment N S) → Holding N → Type 0
+  MayTakeFrom own slot moments h = (own slot ≡ true) ⊎ IsItsMailbox slot moments h
+
+  -- one moment more: this item, with the control plane as it found it
+  abbrev pub adds : Control → Item N S → (old new : List (Moment N S)) → Type 0
+  adds found item old new = new ≡ old ++ record { found = found; item = item } ∷ []
+
+  -- an event of this caller
+  abbrev pub by_caller : ℕ → Did N S → Item N S
+  by_caller by did = Event (record { by = by; did = did })
+
+  -- a request by this caller, with its answer
+  pub record AsksOnce (by : ℕ) (req : Req) (reply : Reply) (old new : List (Moment N S)) : Type 0 where
+    pub found : Control
     pub answered : Answered N S
-    pub one_more : new ≡ old ++ Event (record { by = by; did = Asked req reply answered }) ∷ []
+    pub one_more : adds found (by_caller by (Asked req reply answered)) old new
 
   -- a command of this mailbox
-  pub record TakesOne (by : ℕ) (slot : SlotId) (old new : List (Item N S)) : Type 0 where
+  pub record TakesOne (by : ℕ) (slot : SlotId) (old new : List (Moment N S)) : Type 0 where
+    pub found : Control
     pub letter : Letter
     pub answered : Answered N S
-    pub one_more : new ≡ old ++ Event (record { by = by; did = Delivered slot letter answered }) ∷ []
+    pub one_more : adds found (by_caller by (Delivered slot letter answered)) old new
+
+  -- a command of the first of the reaper's mailboxes that was not empty
+  pub record TakesFirst (by : ℕ) (old new : List (Moment N S)) : Type 0 where
+    pub slot : SlotId
+    pub takes : TakesOne by slot old new
+    pub first : first_waiting takes.found ≡ Some slot.0
 
   -- a delimiter that an end met
-  pub record Delimits (by : ℕ) (e : EndId) (old new : List (Item N S)) : Type 0 where
+  pub record Delimits (by : ℕ) (e : EndId) (old new : List (Moment N S)) : Type 0 where
+    pub found : Control
     pub answered : Answered N S
-    pub one_more : new ≡ old ++ Event (record { by = by; did = Delimited e answered }) ∷ []
+    pub one_more : adds found (by_caller by (Delimited e answered)) old new
 
   -- a look by this caller
-  pub record Looks (by : ℕ) (empty : SeenEmpty) (sight : Sight) (old new : List (Item N S)) : Type 0 where
+  pub record Looks (by : ℕ) (empty : SeenEmpty) (sight : Sight) (old new : List (Moment N S)) : Type 0 where
+    pub found : Control
     pub caller : sight.by ≡ by
     pub looked_at : sight.empty ≡ empty
-    pub one_more : new ≡ old ++ Seen sight ∷ []
+    pub one_more : adds found (Seen sight) old new
 
-  -- a look that found the mailbox empty
-  pub record FindsNothing (by : ℕ) (slot : SlotId) (old new : List (Item N S)) : Type 0 where
+  -- a look that found what it looked at empty
+  pub record FindsNothing (by : ℕ) (empty : SeenEmpty) (old new : List (Moment N S)) : Type 0 where
     pub sight : Sight
-    pub looks : Looks by (Mailbox slot) sight old new
+    pub looks : Looks by empty sight old new
 
   -- a delivery
-  abbrev pub GivesOrNot : (by : ℕ) → SlotId → Delivery → (old new : List (Item N S)) → Type 0
+  abbrev pub GivesOrNot : (by : ℕ) → SlotId → Delivery → (old new : List (Moment N S)) → Type 0
   GivesOrNot by slot Done old new = TakesOne by slot old new
-  GivesOrNot by slot Empty old new = FindsNothing by slot old new
+  GivesOrNot by slot Empty old new = FindsNothing by (Mailbox slot) old new
+
+  -- a delivery of the reaper's
+  abbrev pub ReapsOrNot : (by : ℕ) → Delivery → (old new : List (Moment N S)) → Type 0
+  ReapsOrNot by Done old new = TakesFirst by old new
+  ReapsOrNot by Empty old new = FindsNothing by Reapers old new
 
   -- a delimiter that is looked at or not
-  abbrev pub DelimitsOrNot : (by : ℕ) → EndId → Bool → (old new : List (Item N S)) → Type 0
+  abbrev pub DelimitsOrNot : (by : ℕ) → EndId → Bool → (old new : List (Moment N S)) → Type 0
   DelimitsOrNot by e true old new = Delimits by e old new
   DelimitsOrNot by e false old new = new ≡ old
 
   -- a look, which sees nothing where a mailbox that it asks for is not empty
-  abbrev pub LooksOrNot : (by : ℕ) → SeenEmpty → Option Sight → (old new : List (Item N S)) → Type 0
+  abbrev pub LooksOrNot : (by : ℕ) → SeenEmpty → Option Sight → (old new : List (Moment N S)) → Type 0
   LooksOrNot by empty (Some sight) old new = Looks by empty sight old new
   LooksOrNot by empty None old new = new ≡ old
 
-  -- some items more
-  pub record GoesOn (old new : List (Item N S)) : Type 0 where
-    pub more : List (Item N S)
+  -- some moments more
+  pub record GoesOn (old new : List (Moment N S)) : Type 0 where
+    pub more : List (Moment N S)
     pub behind : new ≡ old ++ more
+
+  -- a command was taken, and a look found the mailbox of this object empty
+  abbrev pub takes_letter : Item N S → Bool
+  takes_letter (Event entry) = is_delivery entry.did
+    where
+      is_delivery : Did N S → Bool
+      is_delivery (Asked req reply h) = false
+      is_delivery (Delivered slot letter h) = true
+      is_delivery (Delimited e h) = false
+  takes_letter (Seen sight) = false
+
+  abbrev pub finds_empty : ℕ → Moment N S → Bool
+  finds_empty i m = sees_empty m.item
+    where
+      sees_empty : Item N S → Bool
+      sees_empty (Event entry) = false
+      sees_empty (Seen sight) = is_mailbox_of i m.found sight.empty
+
+  -- how many commands were taken
+  abbrev pub letters_taken : List (Moment N S) → ℕ
+  letters_taken moments = count_by (λ m. takes_letter m.item) moments
+
+  -- a pump takes so many commands at the most, and no fewer but where a look of it found the mailbox empty
+  abbrev pub StopsAt : (i : ℕ) → Pumped → List (Moment N S) → Type 0
+  StopsAt i More moments = letters_taken moments ≡ pump_limit
+  StopsAt i Drained moments = (letters_taken moments < pump_limit) × (list_any (finds_empty i) moments ≡ true)
+
+  pub record Pumps (i : ℕ) (pumped : Pumped) (old new : List (Moment N S)) : Type 0 where
+    pub more : List (Moment N S)
+    pub behind : new ≡ old ++ more
+    pub stops : StopsAt i pumped more

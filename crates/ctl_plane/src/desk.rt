@@ -1,31 +1,43 @@
-ghost use Rattle.std.specs.Prelude.{◌≡◌, ℕ, Bool, true, false, List, Some, OnOk, OnErr, IfOk};
-ghost use Rattle.spec_control.specs.declared.entry.Item.{Item};
+ghost use Rattle.std.specs.Prelude.{◌≡◌, ℕ, Bool, true, List, Some, OnErr, IfOk};
+ghost use Rattle.control_held.specs.Moments.{Moment};
 
 use crate::delivery::Delivery;
 use ctl_holder::Holder;
 use msg_pipe::Pipes;
 use spec_control::{Reply, Req, SeenEmpty, Sight};
 use std::alloc::{AllocError, Global};
-use zq_base::{EndId, SlotId};
+use zq_base::{EndId, ObjId, SlotId};
 
-/// A caller's way to the control plane. Each call adds to the items that this caller did and saw.
+/// A caller's way to the control plane. Each call adds to the moments of this caller: what it did
+/// and saw, each time with the control plane as it found it.
 ///
-/// A call is lent a holder that has of its objects what these items say.
+/// A call is lent a holder that has of its objects what these moments say.
 pub trait Desk<P: Pipes> {
     ghost use Rattle.control_held.specs.Held.{asker};
     ghost use Rattle.control_held.specs.OwnAsks.{MayAskOwn};
+    ghost use Rattle.control_held.specs.Moments.{items_in, left_after};
+    ghost use Rattle.control_held.specs.Has.{has_after};
+    ghost use Rattle.spec_control.specs.Rows.{obj};
     ghost use Rattle.ctl_plane.specs.Desk.{HasWhatTheySay, AsksOnce, GivesOrNot, DelimitsOrNot};
-    ghost use Rattle.ctl_plane.specs.Desk.{LooksOrNot};
+    ghost use Rattle.ctl_plane.specs.Desk.{ReapsOrNot, LooksOrNot, MayTakeFrom, HoldsEnd};
 
     /// The caller's number.
     ghost number: { Self → ℕ };
 
-    /// What it did and saw so far, in order.
-    ghost items: { Self → List (Item P.Name P.Story) };
+    /// What it did and saw so far, in order, each item with the control plane as it found it.
+    ghost moments: { Self → List (Moment P.Name P.Story) };
+
+    /// The mailboxes that it has beside those of its sockets: an I/O worker's own.
+    ghost mailbox: { Self → ℕ → Bool };
 
     /// The objects that this caller has and whose commands come to one of its mailboxes, by the
     /// mailbox's number.
     ghost served: { Self → ℕ → ℕ → Bool };
+
+    /// The mailbox of an object that this caller has.
+    fn slot(&self, object: ObjId) -> SlotId
+        requires has { has_after object.0 (items_in (moments self.now)) ≡ Some (number self.now) }
+        ensures { result.0 ≡ (obj (left_after object.0 (moments self.now)).rows object.0).slot };
 
     /// Makes a request. Want of memory leaves all as it was.
     fn request<H: Holder<P>>(
@@ -34,14 +46,14 @@ pub trait Desk<P: Pipes> {
         request: Req,
         holder: &mut H,
     ) -> Result<Reply, AllocError>
-        requires may { MayAskOwn (items self.old) request }
+        requires may { MayAskOwn (items_in (moments self.old)) request }
         requires lent { (i : ℕ) → asker request ≡ Some i → (H.holding holder.old).holds i ≡ true }
-        requires has { HasWhatTheySay (number self.old) (items self.old) (H.holding holder.old) }
+        requires has { HasWhatTheySay (number self.old) (moments self.old) (H.holding holder.old) }
         ensures ok { IfOk result (λ reply.
-            AsksOnce (number self.old) request reply (items self.old) (items self.new)) }
-        ensures err { OnErr result (items self.new ≡ items self.old) }
+            AsksOnce (number self.old) request reply (moments self.old) (moments self.new)) }
+        ensures err { OnErr result (moments self.new ≡ moments self.old) }
         ensures keeps { (number self.new ≡ number self.old)
-            × HasWhatTheySay (number self.new) (items self.new) (H.holding holder.new) };
+            × HasWhatTheySay (number self.new) (moments self.new) (H.holding holder.new) };
 
     /// Processes the oldest command of a mailbox, or finds it empty. Want of memory leaves the
     /// command where it was.
@@ -51,29 +63,49 @@ pub trait Desk<P: Pipes> {
         slot: SlotId,
         holder: &mut H,
     ) -> Result<Delivery, AllocError>
+        requires mine { MayTakeFrom (mailbox self.old) slot.0 (moments self.old)
+            (H.holding holder.old) }
         requires lent { (i : ℕ) → served self.old slot.0 i ≡ true →
             (H.holding holder.old).holds i ≡ true }
-        requires has { HasWhatTheySay (number self.old) (items self.old) (H.holding holder.old) }
+        requires has { HasWhatTheySay (number self.old) (moments self.old) (H.holding holder.old) }
         ensures ok { IfOk result (λ found.
-            GivesOrNot (number self.old) slot found (items self.old) (items self.new)) }
-        ensures err { OnErr result (items self.new ≡ items self.old) }
+            GivesOrNot (number self.old) slot found (moments self.old) (moments self.new)) }
+        ensures err { OnErr result (moments self.new ≡ moments self.old) }
         ensures keeps { (number self.new ≡ number self.old)
-            × HasWhatTheySay (number self.new) (items self.new) (H.holding holder.new) };
+            × HasWhatTheySay (number self.new) (moments self.new) (H.holding holder.new) };
+
+    /// Processes the oldest command of the first of the reaper's mailboxes that is not empty, in the
+    /// order of the root's and those of the closed sockets that it took over, or finds all of them
+    /// empty. Want of memory leaves the command where it was.
+    fn deliver_first<H: Holder<P>>(
+        &mut self,
+        alloc: Global,
+        holder: &mut H,
+    ) -> Result<Delivery, AllocError>
+        requires lent { (m i : ℕ) → served self.old m i ≡ true →
+            (H.holding holder.old).holds i ≡ true }
+        requires has { HasWhatTheySay (number self.old) (moments self.old) (H.holding holder.old) }
+        ensures ok { IfOk result (λ found.
+            ReapsOrNot (number self.old) found (moments self.old) (moments self.new)) }
+        ensures err { OnErr result (moments self.new ≡ moments self.old) }
+        ensures keeps { (number self.new ≡ number self.old)
+            × HasWhatTheySay (number self.new) (moments self.new) (H.holding holder.new) };
 
     /// Tells that an end is at the delimiter of the pipe that it reads. Answers whether its state
     /// is one in which that is looked at; else nothing happens.
     fn delimiter<H: Holder<P>>(&mut self, end: EndId, holder: &mut H) -> bool
+        requires mine { HoldsEnd end (H.holding holder.old) }
         requires at { (H.holding holder.old).at_delimiter end ≡ true }
-        requires has { HasWhatTheySay (number self.old) (items self.old) (H.holding holder.old) }
+        requires has { HasWhatTheySay (number self.old) (moments self.old) (H.holding holder.old) }
         ensures found { DelimitsOrNot (number self.old) end result
-            (items self.old) (items self.new) }
+            (moments self.old) (moments self.new) }
         ensures keeps { (number self.new ≡ number self.old)
-            × HasWhatTheySay (number self.new) (items self.new) (H.holding holder.new) };
+            × HasWhatTheySay (number self.new) (moments self.new) (H.holding holder.new) };
 
     /// Looks at mailboxes, at the root's state, at how many objects live, and whether there is room
     /// for one session more.
     fn look(&mut self, empty: SeenEmpty) -> Option<Sight>
         ensures found { LooksOrNot (number self.old) empty result
-            (items self.old) (items self.new) }
+            (moments self.old) (moments self.new) }
         ensures number { number self.new ≡ number self.old };
 }

@@ -2,7 +2,7 @@ ghost use Rattle.std.specs.Prelude.{◌≡◌, ◌≢◌, ◌<◌, slice_set, tr
 ghost use Rattle.zq_base.specs.Ends.{other_end};
 ghost use Rattle.spec_control.specs.declared.object.ObjState.TheVariants.{Ended as HasEnded};
 ghost use Rattle.spec_control.specs.declared.end.EndEvent.TheVariants.{AckCame};
-ghost use Rattle.spec_control.specs.Place.{is_here};
+ghost use Rattle.spec_control.specs.Place.{is_away, is_here};
 ghost use Rattle.spec_control.specs.PairPhase.{Opens, BindCame};
 ghost use Rattle.spec_control.specs.Control.{Control, attach, commands_in, owner_of, place_of, tell_other};
 ghost use Rattle.own_tree.specs.Rows.{state_at};
@@ -25,6 +25,13 @@ impl<L: Drop> State<L> {
         ensures stands { (c : Control) → Stands self.now c → owner_of c e ≡ result.0 }
     {
         self.pairs.owner(e)
+    }
+
+    /// Whether the bind of an end is on its way.
+    pub fn is_away(&self, e: EndId) -> bool
+        ensures { (c : Control) → Stands self.now c → result ≡ is_away (place_of c e) }
+    {
+        self.pairs.is_away(e)
     }
 
     /// Whether an end is attached and not gone.

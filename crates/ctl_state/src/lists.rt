@@ -1,4 +1,4 @@
-ghost use Rattle.std.specs.Prelude.{◌≡◌, ◌<◌, ◌≤◌, find, is_some, length, map, option_map, position, OnOk, OnErr};
+ghost use Rattle.std.specs.Prelude.{◌≡◌, ◌<◌, ◌≤◌, ℕ, find, is_some, length, map, option_map, position, OnOk, OnErr};
 ghost use Rattle.spec_control.specs.EndpointBook.{without_first};
 ghost use Rattle.spec_control.specs.Hold.{is_bind_to, is_connect_to, waits_for, fulfil};
 ghost use Rattle.spec_control.specs.After.{with_hold};
@@ -133,6 +133,8 @@ impl<L: Drop> State<L> {
         ensures stands { Updates (holds_by (without_first (is_bind_to to.now)) id.0)
             self.old self.new }
         ensures rest { self.new ≡ on_lists (λ _. self.new.objects.lists) self.old }
+        ensures ends { (i : ℕ) → (belongings_at self.new.objects.lists i).ends
+            ≡ (belongings_at self.old.objects.lists i).ends }
     {
         match self.bind_place(id, to) {
             Some(place) => return Some(self.objects.hold_goes(id, place)),
@@ -147,6 +149,8 @@ impl<L: Drop> State<L> {
         ensures stands { Updates (holds_by (without_first (is_connect_to to.now)) id.0)
             self.old self.new }
         ensures rest { self.new ≡ on_lists (λ _. self.new.objects.lists) self.old }
+        ensures ends { (i : ℕ) → (belongings_at self.new.objects.lists i).ends
+            ≡ (belongings_at self.old.objects.lists i).ends }
     {
         match self.connect_place(id, to) {
             Some(place) => return Some(self.objects.hold_goes(id, place)),

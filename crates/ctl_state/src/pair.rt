@@ -1,6 +1,6 @@
 ghost use Rattle.std.specs.Prelude.{◌≡◌, true};
 ghost use Rattle.spec_control.specs.EndLife.{comes, life_after, commands_at};
-ghost use Rattle.spec_control.specs.Place.{is_here};
+ghost use Rattle.spec_control.specs.Place.{is_away, is_here};
 ghost use Rattle.ctl_state.specs.Pairs.{place_at, reason_at, state_in, FitsAt, spot_comes, spot_after, spot_commands, entry_with, spot_in, owner_in, struck_in};
 
 use pipe_term::End;
@@ -65,6 +65,26 @@ fn is_here(spot: &Spot) -> bool
         Spot::At(end) => return !end.is_gone(),
         Spot::Unmade | Spot::Away | Spot::Over => return false,
     }
+}
+
+// Whether the bind of an end there is on its way.
+fn is_away(spot: &Spot) -> bool
+    ensures { result ≡ is_away (place_at spot.now) }
+{
+    match spot {
+        Spot::Away => return true,
+        Spot::Unmade | Spot::At(_) | Spot::Over => return false,
+    }
+}
+
+/// Whether the bind of this end of the pair is on its way.
+pub(crate) fn is_away_in(pair: &Entry, a: bool) -> bool
+    ensures { result ≡ is_away (place_at (spot_in pair.now a)) }
+{
+    if a {
+        return is_away(&pair.a);
+    }
+    is_away(&pair.b)
 }
 
 /// Whether this end of the pair is attached and not gone.

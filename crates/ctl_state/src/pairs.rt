@@ -1,10 +1,12 @@
 ghost use Rattle.std.specs.Prelude.{◌≡◌, ◌<◌, ◌^◌, ◌++◌, ◌∷◌, [], true, false, length, slice_set, take, IfOk, OnOk, OnErr};
 ghost use Rattle.ctl_state.specs.declared.pair.Spot.TheVariants.{At};
 ghost use Rattle.spec_control.specs.EndLife.{new_life};
-ghost use Rattle.spec_control.specs.Place.{is_here};
+ghost use Rattle.spec_control.specs.Place.{is_away, is_here};
 ghost use Rattle.ctl_state.specs.Pairs.{state_in, reason_at, FitsAt, no_entry, entry_at, place_at, owner_at, struck_at, spot_at, with_spot, entry_struck, entry_open, entry_drawn, spot_comes, spot_after, spot_commands};
 
-use crate::pair::{Entry, Spot, fits_in, is_here_in, owner_in, state_of, step_in, struck_in};
+use crate::pair::{
+    Entry, Spot, fits_in, is_away_in, is_here_in, owner_in, state_of, step_in, struck_in,
+};
 use pipe_term::End;
 use spec_control::{EndCommands, EndEvent, EndState};
 use std::alloc::{AllocError, Global};
@@ -83,6 +85,16 @@ impl Pairs {
         match self.pairs.get(e.pair.0 as usize) {
             Some(pair) => return owner_in(pair, e.a),
             None => return ObjId(0),
+        }
+    }
+
+    /// Whether the bind of an end is on its way.
+    pub fn is_away(&self, e: EndId) -> bool
+        ensures { result ≡ is_away (place_at (spot_at self.now e)) }
+    {
+        match self.pairs.get(e.pair.0 as usize) {
+            Some(pair) => return is_away_in(pair, e.a),
+            None => return false,
         }
     }
 

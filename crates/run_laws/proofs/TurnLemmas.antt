@@ -4,10 +4,11 @@ use Rattle.std.specs.List.{list_any, range_with_len}
 use Rattle.std.proofs.Common.{arith, sym, ap, ◌∙◌, subst}
 use Rattle.std.proofs.lemmas.Bool.{eq-eqb}
 use Rattle.control_held.specs.OwnAsks.{is_none}
+use Rattle.control_held.specs.Moments.{Moment, reaper_slots}
 use Rattle.spec_run.specs.LineCall.{RunActor, RunScript}
-use Rattle.spec_run.specs.Act.{Moment, Deed, Tries, Shuts, Fetches, Idles, Works, Looks, AsksRoot, Reads}
+use Rattle.spec_run.specs.Act.{Deed, Tries, Shuts, Fetches, Idles, Works, Looks, AsksRoot, Reads}
 use Rattle.spec_run.specs.Standing.{ActorStanding, standing_before, LocalRun}
-use Rattle.spec_run.specs.Worker.{Role, ActsBy, Reaps, Serves, Conducts, roles, reaper_slots, ReapsSo, ConductsSo, EachDoes, IsWorkOf}
+use Rattle.spec_run.specs.Worker.{Role, ActsBy, Reaps, Serves, Conducts, roles, ReapsSo, ConductsSo, EachDoes, IsWorkOf}
 use Rattle.spec_run.specs.OwnedRun.{OwnedRun, deeds_in, AllWork}
 use Rattle.spec_run.specs.InTurns.{OneTurn, Turned, AsksIf, Begins, ActorStep, ReaperStep, AllStep, TurnsGo, turn_step, conductor_steps, worker_count, IsInTurns}
 

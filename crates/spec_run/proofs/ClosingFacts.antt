@@ -2,6 +2,7 @@
 use Rattle.std.specs.Prelude.{◌≡◌, ℕ, [], ◌∷◌, Some, refl}
 use Rattle.zq_base.specs.declared.kind.Kind.TheVariants.{Pull}
 use Rattle.spec_journal.specs.ExamplesPipeline.{options_with}
+use Rattle.control_held.specs.Moments.{moments_from}
 use Rattle.spec_run.specs.LineCall.{Closes}
 use Rattle.spec_run.specs.OpenSocket.{new_open}
 use Rattle.spec_run.specs.Standing.{ActorStanding}
@@ -16,7 +17,6 @@ use Rattle.spec_control.specs.ControlExamples.{Stories}
 use Rattle.control_held.specs.Has.{AreBy}
 use Rattle.control_held.proofs.TrialLemmas.{none, acts, takes, of_root}
 use Rattle.spec_run.specs.ExampleParts.{moment, line_nr}
-use Rattle.spec_run.specs.Act.{moments_from}
 use Rattle.spec_run.specs.Worker.{roles}
 use Rattle.spec_run.specs.OwnedRun.{IsRun, every_pipe, AllWork, AreTold, pipe_capacity, control_at_end}
 use Rattle.spec_run.specs.InTurns.{IsInTurns, IsOneThread}

@@ -12,9 +12,10 @@ use Rattle.control_held.proofs.TrialLemmas.{none, acts, takes, of_root}
 use Rattle.zq_script.specs.declared.script.Call.TheVariants as call
 use Rattle.spec_journal.specs.declared.journal.Answer.TheVariants as answer
 use Rattle.spec_journal.specs.ExamplesPipeline.{options_with}
+use Rattle.control_held.specs.Moments.{moments_from}
 use Rattle.spec_run.specs.declared.journal.LineAnswer.TheVariants.{Plain}
 use Rattle.spec_run.specs.LineCall.{Asks, Closes}
-use Rattle.spec_run.specs.Act.{Said, moments_from}
+use Rattle.spec_run.specs.Act.{Said}
 use Rattle.spec_run.specs.Event.{TakesLetter}
 use Rattle.spec_run.specs.Worker.{roles, AsksTheRoot}
 use Rattle.spec_run.specs.OwnedRun.{IsRun, every_pipe, AllWork, AreTold, pipe_capacity, control_at_end, all_steps}

@@ -16,6 +16,7 @@ use Rattle.spec_control.specs.declared.stage.Use.TheVariants.{Used}
 use Rattle.spec_control.specs.Rows.{obj}
 use Rattle.spec_control.specs.Control.{Control, begun, id, end_of}
 use Rattle.spec_control.specs.ControlRun.{IsControlRun}
+use Rattle.control_held.specs.Moments.{moments_from}
 use Rattle.spec_run.proofs.PlainLemmas.{never}
 use Rattle.spec_control.specs.Names.{AreNamed}
 use Rattle.spec_control.specs.ControlExamples.{Stories}
@@ -26,7 +27,7 @@ use Rattle.spec_run.specs.ExampleParts.{moment, line_nr, over_at}
 use Rattle.spec_run.specs.LineCall.{Asks, Closes, RunLine}
 use Rattle.spec_journal.specs.declared.journal.Answer.TheVariants as answer
 use Rattle.spec_run.specs.declared.journal.LineAnswer.TheVariants.{Plain}
-use Rattle.spec_run.specs.Act.{Step, Said, moments_from}
+use Rattle.spec_run.specs.Act.{Step, Said}
 use Rattle.spec_run.specs.OpenSocket.{OpenSock, new_open, sock_after}
 use Rattle.spec_run.specs.Event.{finds_one, finds_end}
 use Rattle.spec_run.specs.Pump.{found_empty}

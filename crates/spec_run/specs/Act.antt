@@ -1,19 +1,11 @@
 -- What a worker does: its acts, each a step at a pipe or an item of the control plane, and its deeds (own choice).
-use Rattle.std.specs.Prelude.{◌==◌, ℕ, Bool, List, [], ◌∷◌, ◌++◌, Option, Some, None, filter, flat_map}
+use Rattle.std.specs.Prelude.{ℕ, Bool, List, [], ◌∷◌, ◌++◌, Option, Some, None, flat_map}
 use Rattle.std.specs.List.{filter_map}
 use Rattle.spec_pattern.specs.PipeStep.{PipeStep}
 use Rattle.spec_pattern.specs.declared.answers.Skip.{Skip}
-use Rattle.spec_control.specs.declared.entry.Item.{Item}
-use Rattle.spec_control.specs.Control.{Control}
-use Rattle.spec_control.specs.ControlRun.{after_item}
-use Rattle.control_held.specs.Held.{caller_of}
+use Rattle.control_held.specs.Moments.{Moment}
 use Rattle.spec_run.specs.declared.journal.LineAnswer.{LineAnswer}
 use Rattle.spec_run.specs.LineCall.{RunLine}
-
--- an event or a look, with the control plane as it found it
-pub record Moment (N S : Type 0) : Type 0 where
-  pub found : Control
-  pub item : Item N S
 
 pub data Act (N S : Type 0) : Type 0 where
   Step : PipeStep → Act N S
@@ -45,10 +37,6 @@ pub data Deed (N S : Type 0) : Type 0 where
   Reads : (now : ℕ) → Deed N S
 
 module _ {N S : Type 0} where
-  -- the control plane as an item left it
-  abbrev pub left_by : Moment N S → Control
-  left_by m = after_item m.item m.found
-
   abbrev pub pipe_step_of : Act N S → Option PipeStep
   pipe_step_of (Step step) = Some step
   pipe_step_of (Said m) = None
@@ -77,12 +65,3 @@ module _ {N S : Type 0} where
 
   abbrev pub all_acts : List (Deed N S) → List (Act N S)
   all_acts deeds = flat_map acts_of deeds
-
-  -- each item of an order with what it found, from this state on
-  abbrev pub moments_from : Control → List (Item N S) → List (Moment N S)
-  moments_from c [] = []
-  moments_from c (item ∷ items) = record { found = c; item = item } ∷ moments_from (after_item item c) items
-
-  -- those of one caller
-  abbrev pub moments_by : ℕ → List (Moment N S) → List (Moment N S)
-  moments_by k moments = filter (λ m. caller_of m.item == k) moments

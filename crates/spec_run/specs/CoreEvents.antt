@@ -5,12 +5,13 @@ use Rattle.control_held.specs.OwnAsks.{is_none}
 use Rattle.spec_pattern.specs.PipeStep.{AreExact}
 use Rattle.spec_control.specs.Control.{Control, begun}
 use Rattle.spec_control.specs.ControlRun.{is_between, after_all}
+use Rattle.control_held.specs.Moments.{moments_from, reaper_slots}
 use Rattle.spec_run.specs.declared.journal.RunJournal.{RunJournal}
 use Rattle.spec_run.specs.LineCall.{RunScript}
-use Rattle.spec_run.specs.Act.{Act, Deed, Fetches, AsksRoot, Reads, all_acts, steps_in, moments_in, moments_from}
+use Rattle.spec_run.specs.Act.{Act, Deed, Fetches, AsksRoot, Reads, all_acts, steps_in, moments_in}
 use Rattle.spec_run.specs.Event.{TakesLetter}
 use Rattle.spec_run.specs.Standing.{ActorStanding, standing_before, FetchesOne, has_finished}
-use Rattle.spec_run.specs.Worker.{AsksTheRoot, reaper_slots}
+use Rattle.spec_run.specs.Worker.{AsksTheRoot}
 use Rattle.spec_run.specs.OwnedRun.{OwnedRun, IsRun, every_pipe, pipe_capacity, control_at_end}
 use Rattle.spec_run.specs.InTurns.{ActorStep, worker_count}
 use Rattle.spec_run.specs.RunJournal.{run_journal}

@@ -15,12 +15,13 @@ use Rattle.spec_control.specs.declared.entry.Item.{Item}
 use Rattle.spec_control.specs.declared.entry.Item.TheVariants.{Event, Seen}
 use Rattle.spec_control.specs.Control.{begun, id}
 use Rattle.spec_control.specs.ControlRun.{after_all}
+use Rattle.control_held.specs.Moments.{Moment}
 use Rattle.spec_run.specs.declared.journal.LineAnswer.{LineAnswer}
 use Rattle.spec_run.specs.declared.journal.LineEntry.{LineEntry}
 use Rattle.spec_run.specs.declared.journal.ObjectLine.{ObjectLine}
 use Rattle.spec_run.specs.declared.journal.ObjectRow.{ObjectRow}
 use Rattle.spec_run.specs.LineCall.{LineCall, RunLine}
-use Rattle.spec_run.specs.Act.{Moment, Act, Try, Deed}
+use Rattle.spec_run.specs.Act.{Act, Try, Deed}
 use Rattle.spec_run.specs.InTurns.{OneTurn}
 
 -- items of a caller: a request, a letter taken, a delimiter met, a look

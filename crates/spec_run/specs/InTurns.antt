@@ -14,11 +14,12 @@ use Rattle.control_held.specs.Held.{caller_of}
 use Rattle.spec_control.specs.declared.entry.SeenEmpty.TheVariants.{Nothing, Reapers}
 use Rattle.spec_control.specs.Control.{begun}
 use Rattle.spec_journal.specs.Turn.{IsOrder}
+use Rattle.control_held.specs.Moments.{Moment, moments_from, first_waiting}
 use Rattle.spec_run.specs.LineCall.{RunScript}
-use Rattle.spec_run.specs.Act.{Moment, Act, Deed, Tries, Shuts, Fetches, Idles, Works, Looks, AsksRoot, Reads, all_acts, steps_in, moments_in, moments_from}
+use Rattle.spec_run.specs.Act.{Act, Deed, Tries, Shuts, Fetches, Idles, Works, Looks, AsksRoot, Reads, all_acts, steps_in, moments_in}
 use Rattle.spec_run.specs.Event.{IsLookAt, TakesLetter}
 use Rattle.spec_run.specs.Standing.{ActorStanding, standing_before, DoesTry, ShutsFirst, has_finished}
-use Rattle.spec_run.specs.Worker.{AsksTheRoot, first_waiting}
+use Rattle.spec_run.specs.Worker.{AsksTheRoot}
 use Rattle.spec_run.specs.OwnedRun.{OwnedRun, pipe_capacity, control_at_end}
 
 abbrev pub is_live : ObjState → Bool

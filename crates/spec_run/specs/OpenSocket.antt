@@ -18,7 +18,7 @@ use Rattle.spec_control.specs.Rows.{obj}
 use Rattle.spec_control.specs.Control.{is_end, place_of, owner_of, ends_of}
 use Rattle.spec_control.specs.Names.{joined_in}
 use Rattle.spec_journal.specs.Net.{new_pattern}
-use Rattle.spec_run.specs.Act.{Moment, left_by}
+use Rattle.control_held.specs.Moments.{Moment, left_by}
 
 pub record OpenSock : Type 0 where
   pub object : ℕ

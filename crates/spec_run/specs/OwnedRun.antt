@@ -14,8 +14,9 @@ use Rattle.spec_control.specs.ControlRun.{IsControlRun, after_all}
 use Rattle.spec_control.specs.Names.{AreNamed}
 use Rattle.control_held.specs.Held.{caller_of}
 use Rattle.control_held.specs.Has.{AreBy}
+use Rattle.control_held.specs.Moments.{Moment, moments_from, moments_by}
 use Rattle.spec_run.specs.LineCall.{RunScript}
-use Rattle.spec_run.specs.Act.{Moment, Deed, all_acts, steps_in, moments_in, moments_from, moments_by}
+use Rattle.spec_run.specs.Act.{Deed, all_acts, steps_in, moments_in}
 use Rattle.spec_run.specs.Worker.{Role, roles, IsWorkOf}
 
 -- the capacity of a pipe between two sockets is the writer's mark for sending and the reader's for receiving; between a socket and a session it is the socket's mark (zmq_setsockopt(3), ZMQ_SNDHWM and ZMQ_RCVHWM)

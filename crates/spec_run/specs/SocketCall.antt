@@ -19,10 +19,11 @@ use Rattle.spec_control.specs.Control.{id}
 use Rattle.spec_control.specs.Reply.{root_asked}
 use Rattle.spec_journal.specs.declared.journal.Answer.TheVariants as answer
 use Rattle.spec_journal.specs.Line.{sent_answer, got_answer, changed_answer}
+use Rattle.control_held.specs.Moments.{Moment, left_by}
 use Rattle.spec_run.specs.declared.journal.LineAnswer.{LineAnswer}
 use Rattle.spec_run.specs.declared.journal.LineAnswer.TheVariants.{Plain, Term}
 use Rattle.spec_run.specs.ControlAnswer.{reply_answer}
-use Rattle.spec_run.specs.Act.{Moment, Act, Step, Try, left_by, moments_in}
+use Rattle.spec_run.specs.Act.{Act, Step, Try, moments_in}
 use Rattle.spec_run.specs.OpenSocket.{OpenSock, can_write, PassesItems}
 use Rattle.spec_run.specs.Event.{IsRequest, acts_said}
 

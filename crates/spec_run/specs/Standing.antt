@@ -11,10 +11,11 @@ use Rattle.spec_control.specs.declared.request.Reply.{Reply}
 use Rattle.spec_control.specs.declared.request.Reply.TheVariants.{Done, Object, Pair, Both, Wait, Asked, Before, Refused}
 use Rattle.spec_control.specs.Control.{id}
 use Rattle.spec_journal.specs.declared.journal.Answer.TheVariants as answer
+use Rattle.control_held.specs.Moments.{Moment}
 use Rattle.spec_run.specs.declared.journal.LineAnswer.TheVariants.{Plain}
 use Rattle.spec_run.specs.LineCall.{LineCall, Asks, Unbinds, Disconnects, Closes, Terms, RunLine, RunActor, line_is_over}
 use Rattle.spec_run.specs.ControlAnswer.{reply_answer}
-use Rattle.spec_run.specs.Act.{Moment, Act, Try, moments_in, Deed, Tries, Shuts, Fetches, Idles, Works, Looks, AsksRoot, Reads}
+use Rattle.spec_run.specs.Act.{Act, Try, moments_in, Deed, Tries, Shuts, Fetches, Idles, Works, Looks, AsksRoot, Reads}
 use Rattle.spec_run.specs.OpenSocket.{OpenSock, PassesItems, new_open}
 use Rattle.spec_run.specs.Event.{IsRequest, TakesLetter, acts_said}
 use Rattle.spec_run.specs.Pump.{Pumps}

@@ -1,15 +1,12 @@
 -- The workers of a run and what the deeds of each are: the actors, the reaper of closed sockets, the I/O workers, and the conductor, who reads the clock and asks the root (own choice, after libzmq's `reaper_t` and `io_thread_t`).
-use Rattle.std.specs.Prelude.{◌≡◌, ◌==◌, ℕ, true, not, List, [], ◌∷◌, ◌++◌, Option, filter, find, map, replicate}
+use Rattle.std.specs.Prelude.{◌≡◌, ◌==◌, ℕ, true, List, [], ◌∷◌, ◌++◌, map, replicate}
 use Rattle.std.specs.List.{list_any}
-use Rattle.control_held.specs.OwnAsks.{is_none}
 use Rattle.spec_control.specs.declared.request.Req.TheVariants.{AskTerm}
 use Rattle.spec_control.specs.declared.request.Reply.{Reply}
 use Rattle.spec_control.specs.declared.entry.SeenEmpty.TheVariants.{Nothing, Reapers}
-use Rattle.spec_control.specs.Rows.{obj}
-use Rattle.spec_control.specs.Control.{Control}
-use Rattle.spec_control.specs.Stage.{is_used}
+use Rattle.control_held.specs.Moments.{Moment, reaper_slots}
 use Rattle.spec_run.specs.LineCall.{RunActor, RunScript}
-use Rattle.spec_run.specs.Act.{Moment, Act, Deed, Tries, Shuts, Fetches, Idles, Works, Looks, AsksRoot, Reads}
+use Rattle.spec_run.specs.Act.{Act, Deed, Tries, Shuts, Fetches, Idles, Works, Looks, AsksRoot, Reads}
 use Rattle.spec_run.specs.Event.{IsRequest, IsLookAt, TakesLetter, acts_said}
 use Rattle.spec_run.specs.Standing.{ActorStanding, standing_before, LocalRun}
 
@@ -22,14 +19,6 @@ pub data Role : Type 0 where
 -- the workers by their numbers, which are those of their callers: the actors in script order, the reaper, so many I/O workers, and the conductor
 abbrev pub roles : RunScript → (io : ℕ) → List Role
 roles script io = map (λ actor. ActsBy actor) script ++ Reaps ∷ (replicate io Serves ++ Conducts ∷ [])
-
--- the mailboxes that the reaper has: the root's, and those of closed sockets that it took over, in the order of closing
-abbrev pub reaper_slots : Control → List ℕ
-reaper_slots c = 0 ∷ map (λ o. (obj c.rows o.0).slot) (filter (λ o. is_used (obj c.rows o.0).request) c.closed)
-
--- the first of them that is not empty
-abbrev pub first_waiting : Control → Option ℕ
-first_waiting c = find (λ slot. not (is_none (c.boxes slot))) (reaper_slots c)
 
 module _ {N S : Type 0} where
   -- the root is asked

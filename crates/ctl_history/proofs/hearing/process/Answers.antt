@@ -6,7 +6,8 @@ use Rattle.ctl_holder.specs.declared.load.Load.{Load}
 use Rattle.ctl_state.specs.declared.state.State.{State}
 use Rattle.ctl_state.proofs.BareLemmas.{tells_not}
 use Rattle.ctl_history.specs.Hearing.{HearsEnd}
-use Rattle.ctl_history.proofs.HearLemmas.{own_done, request_done, ack_done, stop_done, turn_done, ended_has_none, has_same, link_ends_stay}
+use Rattle.ctl_history.proofs.HearLemmas.{own_done, request_done, ack_done, stop_done, turn_done, term_done, ended_has_none, has_same}
+use Rattle.control_others.proofs.StayLemmas.{link_ends_stay}
 use Rattle.ctl_history.proofs.SettledLemmas.{ack_processed}
 use Rattle.ctl_history.proofs.hearing.process.Goals as goal
 
@@ -19,6 +20,19 @@ pub returns-in-TermReq-clause-heard : goal.returns-in-TermReq-clause-heard
 returns-in-TermReq-clause-heard g c = λ w.
     request_done g.P.Pipes.known.out_name g.P.Pipes.known.in_name c.args.state.now c.request.new.state (g.H.Holder.holding c.args.holder.now) c.args.letter.now.to c.silent-in-TermReq.result c.silent-in-TermReq.ensures w.control w.names
     c.args.letter.now.word c.in-TermReq.child c.in-TermReq.is (c.request.ensures.stands w.control w.stands) c.request.ensures.only w.has
+
+pub process_term-requires : goal.process_term-requires
+process_term-requires g c =
+    let w = c.requires.may in
+    let hears = subst (λ (x : Word). HearsEnd g.P.Pipes.known.out_name g.P.Pipes.known.in_name w.names w.control c.args.state.now (g.H.Holder.holding c.args.holder.now) c.args.letter.now.to.0 x c.args.load) c.in-Term.is w.ends in
+    record { may = record { control = w.control; names = w.names; stands = w.stands; has = w.has; lent = w.lent; rootless = hears.rootless; comes = hears.comes; room = hears.room } }
+
+pub returns-in-Term-clause-heard : goal.returns-in-Term-clause-heard
+returns-in-Term-clause-heard g c = λ w.
+    let hears = subst (λ (x : Word). HearsEnd g.P.Pipes.known.out_name g.P.Pipes.known.in_name w.names w.control c.args.state.now (g.H.Holder.holding c.args.holder.now) c.args.letter.now.to.0 x c.args.load) c.in-Term.is w.ends in
+    term_done g.P.Pipes.known.out_name g.P.Pipes.known.in_name c.args.state.now c.process_term.new.state (g.H.Holder.holding c.args.holder.now) c.args.letter.now.to c.silent-in-Term.result c.silent-in-Term.ensures w.control w.names
+    (g.H.Holder.holding c.process_term.new.holder) c.args.letter.now.word c.in-Term.is
+    (c.process_term.ensures (record { control = w.control; names = w.names; stands = w.stands; has = w.has; lent = w.lent; rootless = hears.rootless; comes = hears.comes; room = hears.room }))
 
 pub tell_over-requires : goal.tell_over-requires
 tell_over-requires g c = record {

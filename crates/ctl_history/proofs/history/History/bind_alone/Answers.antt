@@ -16,7 +16,7 @@ take_name-requires-clause-there g c =
 pub invariant_of-self-in-Ok : goal.invariant_of-self-in-Ok
 invariant_of-self-in-Ok g c =
     planed_noted g.P.Pipes.known.out_name g.P.Pipes.known.in_name c.take_name.new.state c.self.inside.workers c.self.inside.events c.reserve.new.self c.push.new.self _ _ _ c.in_ok-reserve.ensures.ok c.push.ensures
-    (binds_plane g.P.Pipes.known.out_name g.P.Pipes.known.in_name c.self.inside.state c.take_name.new.state _ _ c.args.socket c.args.name c.args.h c.self.invariant (subst (λ (p : Past (Given g.row.P-Name.Denot g.row.P-Out.Denot g.row.P-In.Denot) g.row.P-Name.Denot g.row.P-Story.Denot). MayBindAlone (control_of p) c.args.socket c.args.name) (sym c.self.view_is) c.requires.may) c.requires.silent c.in-Ok.ensures.ok c.take_name.ensures.boxes)
+    (binds_plane g.P.Pipes.known.out_name g.P.Pipes.known.in_name c.self.inside.state c.take_name.new.state _ _ c.args.socket c.args.name c.args.h c.self.invariant (subst (λ (p : Past (Given g.row.P-Name.Denot g.row.P-Out.Denot g.row.P-In.Denot) g.row.P-Name.Denot g.row.P-Story.Denot). MayBindAlone (control_of p) c.args.socket c.args.name) (sym c.self.view_is) c.requires.may) c.requires.silent c.in-Ok.ensures.ok c.take_name.ensures.boxes c.in-Ok.ensures.ends)
 
 pub invariant_of-self-in-Err : goal.invariant_of-self-in-Err
 invariant_of-self-in-Err g c =

@@ -10,7 +10,9 @@ use Rattle.ctl_history.proofs.BareLemmas.{tree_boxes}
 use Rattle.ctl_history.proofs.DoneLemmas.{reap_room, close_entry, closes, event_given}
 use Rattle.ctl_history.proofs.PlaneLemmas.{planed_now}
 use Rattle.ctl_history.proofs.PlaneDoneLemmas.{closes_plane, closes_given}
-use Rattle.ctl_holder.specs.Load.{AreEndsOfClosed}
+use Rattle.ctl_holder.specs.Load.{AreEndsOfClosed, GivesAll}
+use Rattle.ctl_holder.specs.declared.load.Load.{Load}
+use Rattle.ctl_state.specs.declared.state.State.{State}
 use Rattle.spec_control.specs.Names.{name_of}
 use Rattle.ctl_history.proofs.history.History.close.Goals as goal
 
@@ -45,7 +47,9 @@ invariant_of-self g c =
     (closes_plane g.P.Pipes.known.out_name g.P.Pipes.known.in_name c.self.inside.state c.asks_over.new.self c.put.new.self _ _ c.args.socket c.args.parting c.self.invariant is_open c.asks_over.ensures.stands
     (tree_boxes c.self.inside.state c.asks_over.new.self (change (with_request OnItsWay) c.args.socket) c.asks_over.ensures.next) c.put.ensures.next c.args.h _
     (closes c.self.inside.state c.asks_over.new.self c.put.new.self _ _ c.args.socket _ c.args.h (change (with_request OnItsWay) c.args.socket) c.self.invariant.history is_open c.requires.silent
-    c.asks_over.ensures.stands c.asks_over.ensures.next c.put.ensures.stands c.put.ensures.next) c.requires.silent ends)
+    c.asks_over.ensures.stands c.asks_over.ensures.next c.put.ensures.stands c.put.ensures.next) c.requires.silent ends
+    (subst (λ (p : Past (Given g.row.P-Name.Denot g.row.P-Out.Denot g.row.P-In.Denot) g.row.P-Name.Denot g.row.P-Story.Denot). GivesAll (control_of p) c.args.socket.0 c.args.parting) (sym c.self.view_is) c.requires.all)
+    (ap (λ (x : State (Load g.row.P-Name.Denot g.row.P-Out.Denot g.row.P-In.Denot)). x.objects.lists) c.asks_over.ensures.next))
 
 pub returns : goal.returns
 returns g c =

@@ -16,7 +16,7 @@ wait-requires-clause-there g c =
 pub invariant_of-self-in-Ok : goal.invariant_of-self-in-Ok
 invariant_of-self-in-Ok g c =
     planed_noted g.P.Pipes.known.out_name g.P.Pipes.known.in_name c.wait.new.state c.self.inside.workers c.self.inside.events c.reserve.new.self c.push.new.self _ _ _ c.in_ok-reserve.ensures.ok c.push.ensures
-    (waits_plane g.P.Pipes.known.out_name g.P.Pipes.known.in_name c.self.inside.state c.wait.new.state _ _ c.args.socket c.args.name c.args.h c.self.invariant (subst (λ (p : Past (Given g.row.P-Name.Denot g.row.P-Out.Denot g.row.P-In.Denot) g.row.P-Name.Denot g.row.P-Story.Denot). MayWait (control_of p) c.args.socket.0 c.args.name) (sym c.self.view_is) c.requires.may) c.requires.silent c.in-Ok.ensures.ok c.wait.ensures.boxes)
+    (waits_plane g.P.Pipes.known.out_name g.P.Pipes.known.in_name c.self.inside.state c.wait.new.state _ _ c.args.socket c.args.name c.args.h c.self.invariant (subst (λ (p : Past (Given g.row.P-Name.Denot g.row.P-Out.Denot g.row.P-In.Denot) g.row.P-Name.Denot g.row.P-Story.Denot). MayWait (control_of p) c.args.socket.0 c.args.name) (sym c.self.view_is) c.requires.may) c.requires.silent c.in-Ok.ensures.ok c.wait.ensures.boxes c.in-Ok.ensures.ends)
 
 pub invariant_of-self-in-Err : goal.invariant_of-self-in-Err
 invariant_of-self-in-Err g c =

@@ -18,7 +18,7 @@ invariant_of-self-in-None g c =
     planed_noted g.P.Pipes.known.out_name g.P.Pipes.known.in_name c.strike_bind.new.state c.self.inside.workers c.self.inside.events c.reserve.new.self c.push.new.self _ _ _ c.in_ok-reserve-in-None.ensures.ok c.push.ensures
     (unbinds_plane g.P.Pipes.known.out_name g.P.Pipes.known.in_name c.self.inside.state c.strike_bind.new.state _ _ c.args.socket c.args.at c.args.h c.self.invariant
     (subst (λ (p : Past (Given g.row.P-Name.Denot g.row.P-Out.Denot g.row.P-In.Denot) g.row.P-Name.Denot g.row.P-Story.Denot). IsOpenSocket (obj (control_of p).rows c.args.socket.0)) (sym c.self.view_is) c.requires.open) c.requires.silent
-    (sym (c.in-None.ensures _ c.self.invariant.history.stands)) c.strike_bind.ensures.stands c.strike_bind.ensures.only)
+    (sym (c.in-None.ensures _ c.self.invariant.history.stands)) c.strike_bind.ensures.stands c.strike_bind.ensures.only c.strike_bind.ensures.ends)
 
 pub returns-in-None-clause-ok : goal.returns-in-None-clause-ok
 returns-in-None-clause-ok g c =

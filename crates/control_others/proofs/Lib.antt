@@ -1,0 +1,3 @@
+pub mod StayLemmas
+pub mod SparedLemmas
+pub mod EventLemmas

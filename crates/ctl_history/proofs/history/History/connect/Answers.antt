@@ -1,0 +1,21 @@
+use Rattle.std.proofs.Common.{sym, subst}
+use Rattle.zq_base.specs.declared.endpoint.Endpoint.TheVariants.{Inproc}
+use Rattle.spec_control.specs.declared.request.Req.TheVariants.{Connect}
+use Rattle.spec_control.specs.Reply.{reply_of}
+use Rattle.ctl_holder.specs.declared.given.Given.{Given}
+use Rattle.ctl_history.specs.Hearing.{HasWhat}
+use Rattle.ctl_history.specs.Past.{Past, control_of}
+use Rattle.ctl_history.proofs.NamedPlaneLemmas.{keeps_refused}
+use Rattle.ctl_history.proofs.RefusalLemmas.{refusal_is}
+use Rattle.ctl_history.proofs.history.History.connect.Goals as goal
+
+pub refuse-requires-clause-refused : goal.refuse-requires-clause-refused
+refuse-requires-clause-refused g c = refusal_is (reply_of (control_of c.args.self.now) (Connect c.args.socket (Inproc c.args.name))) c.in-Some.refusal c.in-Some.ensures
+
+pub returns-in-Some-clause-reply : goal.returns-in-Some-clause-reply
+returns-in-Some-clause-reply g c = sym (refusal_is (reply_of (control_of c.args.self.now) (Connect c.args.socket (Inproc c.args.name))) c.in-Some.refusal c.in-Some.ensures)
+
+pub returns-in-Some-clause-keeps : goal.returns-in-Some-clause-keeps
+returns-in-Some-clause-keeps g c =
+    subst (λ (p : Past (Given g.row.P-Name.Denot g.row.P-Out.Denot g.row.P-In.Denot) g.row.P-Name.Denot g.row.P-Story.Denot). HasWhat p (g.H.Holder.holding c.args.holder.now)) (sym c.in_ok-refuse-in-Some.ensures.ok)
+    (keeps_refused c.args.self.now (Connect c.args.socket (Inproc c.args.name)) c.in-Some.refusal c.silent.result (g.H.Holder.holding c.args.holder.now) c.requires.has)

@@ -1,0 +1,167 @@
+ghost use Rattle.std.specs.Prelude.{◌≡◌, ◌≤◌, length, Some, None, IfOk, OnErr};
+ghost use Rattle.zq_base.specs.declared.endpoint.Endpoint.TheVariants.{Inproc};
+ghost use Rattle.spec_control.specs.declared.book.Binding.{Binding};
+ghost use Rattle.spec_control.specs.declared.request.Req.TheVariants.{Connect};
+ghost use Rattle.spec_control.specs.Reply.{reply_of};
+ghost use Rattle.ctl_holder.specs.Holding.{Stays};
+ghost use Rattle.ctl_history.specs.Hearing.{HasWhat};
+ghost use Rattle.ctl_history.specs.Joining.{IsName, IsNoted, IsOfSame, Lends, NotesRequest};
+ghost use Rattle.ctl_history.specs.Past.{control_of};
+ghost use Rattle.ctl_history.specs.Refusals.{refusal_in};
+
+use crate::hearing::silent;
+use crate::history::History;
+use ctl_holder::Holder;
+use ctl_joins::{Notes, Owners, connect_pair};
+use http_server::Log;
+use msg_pipe::Pipes;
+use spec_control::{Answered, Binding, Did, Reply, Req};
+use std::alloc::{AllocError, Global};
+use zq_base::{Endpoint, ObjId, Octets, Seq};
+
+// What a holder answered for pairs that were made. It takes no memory.
+fn with_notes<N: Drop, S>(notes: Notes<N>) -> Answered<N, S>
+    ensures { IsNoted notes result }
+{
+    let Notes { joined, opened } = notes;
+    Answered {
+        joined: Seq::of_vec(joined),
+        opened: Seq::of_vec(opened),
+        settled: None,
+        output_left: false,
+        stories: Log::new(),
+    }
+}
+
+// The name that an endpoint is.
+fn name_of(at: Endpoint) -> Octets
+    requires name { IsName at }
+    ensures { at ≡ Inproc result }
+{
+    match at {
+        Endpoint::Inproc(name) => return name,
+        Endpoint::Tcp(_) => unreachable!(),
+    }
+}
+
+impl<P: Pipes> History<P>
+where
+    P::Name: Drop,
+{
+    /// Connects a socket to a name, with the holder of its ends (zmq_connect(3), zmq_inproc(7)). It
+    /// is refused once the root was asked, where the name is the socket's own or its holder's kind
+    /// does not fit, and where too many pairs were made. A name that nobody holds is waited for. To
+    /// the holder of a name a pair is made: the connecting socket has end a, which joins its holder
+    /// at once, and the bind of the other end is on its way. Room for all that may come of the pair
+    /// is kept, so that its ending takes no memory. There is a waker for each mailbox, by its number.
+    /// It costs a look-up, and copies of the name and of two identities.
+    pub fn connect<H: Holder<P>>(
+        &mut self,
+        alloc: Global,
+        socket: ObjId,
+        name: Octets,
+        holder: &mut H,
+        wakers: &[P::Waker],
+    ) -> Result<Reply, AllocError>
+        requires lends { Lends (control_of self.old) socket.0 (H.holding holder.old) }
+        requires wakers { (control_of self.old).slots ≤ length wakers.now }
+        requires has { HasWhat self.old (H.holding holder.old) }
+        ensures ok { IfOk result (λ reply. NotesRequest socket (Connect socket (Inproc name)) reply
+            self.old self.new (H.holding holder.old) (H.holding holder.new)) }
+        ensures reply { IfOk result (λ reply.
+            reply ≡ reply_of (control_of self.old) (Connect socket (Inproc name))) }
+        ensures err { OnErr result ((self.new ≡ self.old)
+            × Stays socket.0 (H.holding holder.old) (H.holding holder.new)) }
+        ensures same { IsOfSame (H.holding holder.old) (H.holding holder.new) }
+        ensures keeps { HasWhat self.new (H.holding holder.new) }
+    {
+        let at = Endpoint::Inproc(name);
+        match self.connect_refusal(socket, &at) {
+            Some(refusal) => {
+                self.refuse(Req::Connect(socket, at), refusal, silent(alloc))?;
+                return Ok(Reply::Refused(refusal));
+            }
+            None => return self.connect_now(alloc, socket, at, holder, wakers),
+        }
+    }
+
+    // Connects a socket to a name, where that is not refused.
+    fn connect_now<H: Holder<P>>(
+        &mut self,
+        alloc: Global,
+        socket: ObjId,
+        at: Endpoint,
+        holder: &mut H,
+        wakers: &[P::Waker],
+    ) -> Result<Reply, AllocError>
+        requires name { IsName at }
+        requires free { refusal_in (reply_of (control_of self.old) (Connect socket at)) ≡ None }
+        requires lends { Lends (control_of self.old) socket.0 (H.holding holder.old) }
+        requires wakers { (control_of self.old).slots ≤ length wakers.now }
+        requires has { HasWhat self.old (H.holding holder.old) }
+        ensures ok { IfOk result (λ reply. NotesRequest socket (Connect socket at) reply
+            self.old self.new (H.holding holder.old) (H.holding holder.new)) }
+        ensures reply { IfOk result (λ reply.
+            reply ≡ reply_of (control_of self.old) (Connect socket at)) }
+        ensures err { OnErr result ((self.new ≡ self.old)
+            × Stays socket.0 (H.holding holder.old) (H.holding holder.new)) }
+        ensures same { IsOfSame (H.holding holder.old) (H.holding holder.new) }
+        ensures keeps { HasWhat self.new (H.holding holder.new) }
+    {
+        let found = self.state.find(&at);
+        let name = name_of(at);
+        match found {
+            Some(binding) => {
+                return self.connect_held(alloc, socket, name, binding, holder, wakers);
+            }
+            None => {
+                let reply = self.connect_waits(alloc, socket, name, silent(alloc))?;
+                return Ok(reply);
+            }
+        }
+    }
+
+    // Connects a socket to the holder of a name, where that is not refused.
+    fn connect_held<H: Holder<P>>(
+        &mut self,
+        alloc: Global,
+        socket: ObjId,
+        name: Octets,
+        binding: Binding,
+        holder: &mut H,
+        wakers: &[P::Waker],
+    ) -> Result<Reply, AllocError>
+        requires held { (control_of self.old).names.held (Inproc name) ≡ Some binding }
+        requires free { refusal_in (reply_of (control_of self.old)
+            (Connect socket (Inproc name))) ≡ None }
+        requires lends { Lends (control_of self.old) socket.0 (H.holding holder.old) }
+        requires wakers { (control_of self.old).slots ≤ length wakers.now }
+        requires has { HasWhat self.old (H.holding holder.old) }
+        ensures ok { IfOk result (λ reply. NotesRequest socket (Connect socket (Inproc name)) reply
+            self.old self.new (H.holding holder.old) (H.holding holder.new)) }
+        ensures reply { IfOk result (λ reply.
+            reply ≡ reply_of (control_of self.old) (Connect socket (Inproc name))) }
+        ensures err { OnErr result ((self.new ≡ self.old)
+            × Stays socket.0 (H.holding holder.old) (H.holding holder.new)) }
+        ensures same { IsOfSame (H.holding holder.old) (H.holding holder.new) }
+        ensures keeps { HasWhat self.new (H.holding holder.new) }
+    {
+        let copy = Endpoint::Inproc(name.copy(alloc)?);
+        let at = Endpoint::Inproc(name);
+        // Its entry, and eight of what comes of the pair.
+        self.events.reserve(9)?;
+        self.state.needs();
+        let owners = Owners::of(&self.state, socket, binding.holder);
+        match connect_pair(&mut self.state, alloc, holder, owners, copy, wakers) {
+            Ok((pair, notes)) => {
+                let reply = Reply::Pair(pair);
+                self.events.push(Did::Asked(Req::Connect(socket, at), reply, with_notes(notes)));
+                return Ok(reply);
+            }
+            Err(error) => {
+                self.events.release(9);
+                return Err(error);
+            }
+        }
+    }
+}

@@ -1,0 +1,26 @@
+use Rattle.std.specs.Prelude.{false}
+use Rattle.std.proofs.Common.{ap}
+use Rattle.spec_control.specs.declared.end.EndEvent.TheVariants.{Asked}
+use Rattle.ctl_holder.specs.declared.load.Load.{Load}
+use Rattle.ctl_state.specs.declared.state.State.{State}
+use Rattle.ctl_state.specs.Stands.{stepped}
+use Rattle.ctl_joins.proofs.GreetingLemmas.{asked, tell_room}
+use Rattle.ctl_joins.proofs.greeting.ask_first.Goals as goal
+
+pub tell_other-requires : goal.tell_other-requires
+tell_other-requires g c =
+    let w = c.requires.may in
+    record {
+      room = tell_room c.args.state.now (g.H.Holder.holding c.args.holder.now) c.args.o.0 c.args.first w c.args.reason c.step_end-commands.new.self c.step_end-commands.result
+          (c.step_end-commands.ensures.stands w.control w.stands) (c.step_end-commands.ensures.commands w.control w.stands)
+          (ap (λ (x : State (Load g.row.P-Name.Denot g.row.P-Out.Denot g.row.P-In.Denot)). x.boxes) c.step_end-commands.ensures.next);
+    }
+
+pub returns : goal.returns
+returns g c = λ w.
+    let stands = c.step_end-commands.ensures.stands w.control w.stands in
+    asked c.args.state.now (g.H.Holder.holding c.args.holder.now) c.args.o.0 c.args.first w c.args.reason c.step_end-commands.new.self c.step_end-commands.result stands
+    (c.step_end-commands.ensures.commands w.control w.stands) (ap (λ (x : State (Load g.row.P-Name.Denot g.row.P-Out.Denot g.row.P-In.Denot)). x.boxes) c.step_end-commands.ensures.next)
+    g.P.Pipes.known.out_name g.P.Pipes.known.in_name (g.H.Holder.holding c.set_state.new.self) (g.H.Holder.holding c.seal.new.self) c.tell_other.new.self c.set_state.ensures.stays c.seal.ensures.stays
+    (ap (λ (x : State (Load g.row.P-Name.Denot g.row.P-Out.Denot g.row.P-In.Denot)). x.objects.lists) c.step_end-commands.ensures.next)
+    (c.tell_other.ensures.stands (stepped (Asked c.args.reason false) c.args.first w.control) stands) c.tell_other.ensures.told

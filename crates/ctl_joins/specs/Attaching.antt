@@ -1,0 +1,22 @@
+-- The first end of a pair is attached at its holder (own choice, after libzmq's `pipe_t`).
+use Rattle.std.specs.Prelude.{◌≡◌, ◌≤◌, ◌∷◌, [], ℕ}
+use Rattle.zq_base.specs.declared.ids.EndId.{EndId}
+use Rattle.control_held.specs.Held.{Held}
+use Rattle.ctl_holder.specs.Holding.{Holding, MayRefuse}
+use Rattle.ctl_joins.specs.declared.attaching.FirstEnd.{FirstEnd}
+use Rattle.ctl_joins.specs.Joined.{Gets}
+
+-- an end with these names of its pipes
+abbrev pub held_first : {N O I : Type 0} → EndId → FirstEnd N O I → Held N
+held_first end f = record { end = end; written = f.told.written; read = f.told.read }
+
+module _ {N O I : Type 0} (out_name : O → N) (in_name : I → N) where
+  -- the holder has the end; the halves of the other end are of the same two pipes, crossed
+  pub record AttachesFirst (o : ℕ) (end : EndId) (f : FirstEnd N O I) (h k : Holding N) : Type 0 where
+    pub gets : (n : ℕ) → n ≤ end.pair.0 → Gets n o (held_first end f ∷ []) h k
+    pub refuses : MayRefuse (h.kind o) f.answer
+    pub opened : f.opened ≡ f.told
+    pub other_written : f.other.written ≡ f.told.read
+    pub other_read : f.other.read ≡ f.told.written
+    pub other_out : out_name f.other.halves.out ≡ f.other.written
+    pub other_in : in_name f.other.halves.input ≡ f.other.read

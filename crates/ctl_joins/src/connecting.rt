@@ -1,0 +1,98 @@
+ghost use Rattle.std.specs.Prelude.{◌≡◌, ◌<◌, ◌+◌, ◌^◌, length, true, OnOk, OnErr, IfOk};
+ghost use Rattle.spec_control.specs.Control.{draws};
+ghost use Rattle.ctl_holder.specs.Holding.{Stays};
+ghost use Rattle.ctl_state.specs.Stands.{Updates};
+ghost use Rattle.ctl_joins.specs.Connecting.{Connects, HasDrawnHeld, MayConnect, with_hold_room};
+ghost use Rattle.ctl_joins.specs.Room.{HavePlaces, with_drawn};
+
+use crate::attaching::{FirstEnd, attach_first};
+use crate::drawing::{draw_pair, undraw_pair};
+use crate::joining::join_pair;
+use crate::notes::Notes;
+use crate::owners::Owners;
+use crate::papers::{Papers, capacities_of, papers_of};
+use ctl_holder::{Holder, Load};
+use ctl_state::{Held, Hold, State};
+use msg_pipe::Pipes;
+use std::alloc::{AllocError, Global};
+use zq_base::{EndId, Endpoint, PairId};
+
+// Keeps room for a hold of the connecting socket, and draws the pair's number with all its room.
+fn draw_held<L: Drop>(state: &mut State<L>, o: Owners) -> Result<PairId, AllocError>
+    requires there { HavePlaces state.old o }
+    requires few { length state.old.pairs < 2 ^ 32 }
+    ensures number { IfOk result (λ p. p.0 ≡ length state.old.pairs) }
+    ensures ok { OnOk result (Updates (draws o.first.0 o.last.0) state.old state.new) }
+    ensures next { OnOk result
+        (state.new ≡ with_drawn true o (with_hold_room o.first.0 state.old)) }
+    ensures err { OnErr result (state.new ≡ state.old) }
+{
+    state.reserve_holds(o.first, 1)?;
+    match draw_pair(state, o, true) {
+        Ok(pair) => return Ok(pair),
+        Err(error) => {
+            state.release_holds(o.first, 1);
+            return Err(error);
+        }
+    }
+}
+
+// Takes both back.
+fn undraw_held<L: Drop>(state: &mut State<L>, o: Owners, pair: PairId)
+    requires drawn { HasDrawnHeld state.old o }
+    requires last { pair.0 + 1 ≡ length state.old.pairs }
+    ensures { (w : HasDrawnHeld state.old o) → state.new ≡ w.before }
+{
+    undraw_pair(state, o, true, pair);
+    state.release_holds(o.first, 1);
+}
+
+/// Makes the pair of a connect to the holder of its name: the connecting socket has end a, which is
+/// attached at once, and the bind of the other end is put. Where memory wants, all is as before; the
+/// holder's ends are too. It costs copies of the two identities.
+pub fn connect_pair<P: Pipes, H: Holder<P>>(
+    state: &mut State<Load<P::Name, P::Out, P::In>>,
+    alloc: Global,
+    holder: &mut H,
+    o: Owners,
+    at: Endpoint,
+    wakers: &[P::Waker],
+) -> Result<(PairId, Notes<P::Name>), AllocError>
+where
+    P::Name: Drop,
+    requires may { MayConnect state.old (H.holding holder.old) o (length wakers.now) }
+    ensures ok { IfOk result (λ r. (w : MayConnect state.old (H.holding holder.old) o
+        (length wakers.now)) → Connects P.known.out_name P.known.in_name w.control o at r.0 r.1
+        state.old state.new (H.holding holder.old) (H.holding holder.new)) }
+    ensures err { OnErr result (state.new ≡ state.old) }
+    ensures stays { OnErr result
+        (Stays o.first.0 (H.holding holder.old) (H.holding holder.new)) }
+{
+    let said = papers_of(state, alloc, o)?;
+    let sizes = capacities_of(state, o);
+    let mut notes = Notes::with_room(alloc, 1)?;
+    let Papers { identity, peer } = said;
+    let pair = draw_held(state, o)?;
+    let first = EndId { pair, a: true };
+    let mine = &wakers[o.first_slot.0 as usize];
+    let theirs = &wakers[o.last_slot.0 as usize];
+    match attach_first(holder, alloc, o.first, first, &peer, sizes, mine, theirs) {
+        Ok(end) => {
+            let FirstEnd {
+                answer,
+                told,
+                opened,
+                other,
+            } = end;
+            let held = Held::Joined(pair, None);
+            state.hold(o.first, Hold { at, held });
+            join_pair(state, holder, o.first, first, identity, answer, other);
+            notes.note(first, peer.identity, answer, told, opened);
+            return Ok((pair, notes));
+        }
+        Err(error) => {
+            undraw_held(state, o, pair);
+            return Err(error);
+        }
+    }
+}

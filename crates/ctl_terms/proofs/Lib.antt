@@ -1,0 +1,4 @@
+pub mod HolderLemmas
+pub mod PutLemmas
+pub mod AskLemmas
+pub mod TermLemmas

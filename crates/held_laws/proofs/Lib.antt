@@ -1,0 +1,14 @@
+mod MoveLemmas
+mod LeadLemmas
+mod AttachedLemmas
+mod OwnerLemmas
+mod HereLemmas
+mod BetweenLemmas
+mod EventLemmas
+mod LawLemmas
+mod StepLemmas
+mod OthersLemmas
+mod MomentLemmas
+mod NobodyLemmas
+mod HaveLemmas
+mod SayLemmas

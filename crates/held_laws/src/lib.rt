@@ -1,0 +1,9 @@
+//! What a caller of the control plane reads off its own items of the ends that it has is so in the
+//! control state.
+#![tactic(auto)]
+
+mod laws;
+
+pub use laws::{
+    ends_are_here, holders_have_what_is_said, lent_holders_have_it, other_holders_stay,
+};
