@@ -1,5 +1,4 @@
 mod WritesOn
-pub mod OrderLemmas
 pub mod PlayLemmas
 mod Receives
 pub mod Given

@@ -4,7 +4,6 @@
 mod actor;
 mod fault;
 mod laws;
-mod order;
 mod play;
 mod status;
 mod streams;

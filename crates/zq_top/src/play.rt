@@ -5,10 +5,10 @@ ghost use Rattle.spec_journal.specs.Printed.{IsJournalOf};
 ghost use Rattle.zq_top.specs.Playing.{WorkerDoes, WorkersDo, TurnDoes, RunEnds, AreNew, actor_part, has_finished};
 
 use crate::actor::Actor;
-use crate::order::Order;
 use flat_net::CountedNet;
 use spec_journal::{ActorPart, Journal};
 use std::alloc::{AllocError, Global};
+use turn_order::Order;
 use zq_base::Seq;
 use zq_script::Script;
 

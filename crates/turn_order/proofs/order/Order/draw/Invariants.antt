@@ -1,6 +1,6 @@
 use Rattle.std.proofs.Common.{◌≡◌, length}
-use Rattle.zq_top.proofs.OrderLemmas.{GoesOn}
-use Rattle.zq_top.proofs.order.Order.draw.Given as goal
+use Rattle.turn_order.proofs.OrderLemmas.{GoesOn}
+use Rattle.turn_order.proofs.order.Order.draw.Given as goal
 
 abbrev pub invariant-workers : goal.invariant-workers
 invariant-workers l = record {

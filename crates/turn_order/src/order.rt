@@ -7,14 +7,14 @@ use std::alloc::{AllocError, Global};
 /// Draws the order in which the workers step, turn by turn: `drawn` is the last number drawn, at
 /// first the seed.
 #[derive(Clone, Copy, Debug, PartialEq, Eq)]
-pub(crate) struct Order {
-    pub(crate) seed: u64,
-    pub(crate) drawn: u64,
+pub struct Order {
+    pub seed: u64,
+    pub drawn: u64,
 }
 
 impl Order {
     /// The order before the first turn.
-    pub(crate) fn new(seed: u64) -> Order
+    pub fn new(seed: u64) -> Order
         ensures { result ≡ record { seed = seed; drawn = seed } }
     {
         Order { seed, drawn: seed }
@@ -37,7 +37,7 @@ impl Order {
 
     /// The order of the next turn, of so many workers counted from 0.
     #[tactic(auto, using(crate::proofs::OrderLemmas::kept_order, crate::proofs::OrderLemmas::drawn_order))]
-    pub(crate) fn turn(&mut self, alloc: Global, workers: usize) -> Result<Vec<usize>, AllocError>
+    pub fn turn(&mut self, alloc: Global, workers: usize) -> Result<Vec<usize>, AllocError>
         ensures order { IfOk result (λ order. IsOrder self.old.seed self.old.drawn
             (range_with_len 0 workers) order.items self.new.drawn) }
         ensures seed { self.new.seed ≡ self.old.seed }

@@ -1,7 +1,7 @@
 use Rattle.std.proofs.Common.{rules, ℕ, List, [], ◌∷◌, ◌++◌, refl, sym, subst, ◌∙◌}
 use Rattle.std.specs.List.{remove}
-use Rattle.zq_top.proofs.OrderLemmas.{GoesOn, goes_on_first, goes_on_more, goes_on_last}
-use Rattle.zq_top.proofs.order.Order.draw.Goals as goal
+use Rattle.turn_order.proofs.OrderLemmas.{GoesOn, goes_on_first, goes_on_more, goes_on_last}
+use Rattle.turn_order.proofs.order.Order.draw.Goals as goal
 
 pub workers-init : goal.workers-init
 workers-init c = record {

@@ -1,0 +1,6 @@
+pub mod PlaceLemmas
+pub mod SoundLemmas
+pub mod HalfLemmas
+pub mod AttachLemmas
+pub mod EndsLemmas
+pub mod MakeLemmas

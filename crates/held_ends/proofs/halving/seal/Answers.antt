@@ -1,0 +1,67 @@
+use Rattle.std.proofs.Common.{sym, ap, ◌∙◌, subst, arith, set, Some, true}
+use Rattle.std.specs.Box.{with_value}
+use Rattle.msg_pipe.specs.Known.{IsThere}
+use Rattle.held_ends.specs.declared.table.Place.{Place}
+use Rattle.held_ends.specs.Sound.{IsSound}
+use Rattle.held_ends.proofs.PlaceLemmas.{place_within, place_found}
+use Rattle.held_ends.proofs.HalfLemmas.{found_row, never_none, within, sealed_sound, sealed_already}
+use Rattle.held_ends.proofs.halving.seal.Goals as goal
+
+pub index-requires : goal.index-requires
+index-requires g c = let w = place_within c.args.table.now.places.items c.args.place c.requires.writes.place c.requires.writes.there in omega (arith, w)
+
+pub returns-then-index-clause-sealed : goal.returns-then-index-clause-sealed
+returns-then-index-clause-sealed g c =
+    let p = c.requires.writes.place in
+    let same = place_found c.args.table.now.places.items c.args.place p c.index.result.now c.requires.writes.there c.index.ensures in
+    record {
+      place = p;
+      there = c.requires.writes.there;
+      now = sealed_already c.args.table.now.places.items c.args.place p c.requires.writes.there (sym (ap (λ (x : Place _ _). x.sealed) same) ∙ c.if-index.true);
+    }
+
+pub index_mut-requires : goal.index_mut-requires
+index_mut-requires g c = let w = within g.P.Pipes.known c.args.pipes.now c.args.table.now.rows.items c.args.table.now.places.items c.args.place c.requires.writes.place c.requires.sound c.requires.writes.there c.requires.writes.held in omega (arith, w)
+
+pub seal_row-requires-clause-here : goal.seal_row-requires-clause-here
+seal_row-requires-clause-here g c =
+    let p = c.requires.writes.place in
+    let f = found_row g.P.Pipes.known c.args.pipes.now c.args.table.now.rows.items c.args.table.now.places.items c.args.place p c.requires.sound c.requires.writes.there c.requires.writes.held
+    c.index_mut.result.now c.in-Some.row c.deref_mut.result.now c.requires.writes.writes c.index_mut.ensures.value c.in-Some.is c.deref_mut.ensures.value in
+    subst (IsThere g.P.Pipes.known c.args.pipes.now) (sym f.1.name_is) f.1.there
+
+pub seal_row-requires-clause-unsealed : goal.seal_row-requires-clause-unsealed
+seal_row-requires-clause-unsealed g c =
+    let p = c.requires.writes.place in
+    let f = found_row g.P.Pipes.known c.args.pipes.now c.args.table.now.rows.items c.args.table.now.places.items c.args.place p c.requires.sound c.requires.writes.there c.requires.writes.held
+    c.index_mut.result.now c.in-Some.row c.deref_mut.result.now c.requires.writes.writes c.index_mut.ensures.value c.in-Some.is c.deref_mut.ensures.value in
+    let same = place_found c.args.table.now.places.items c.args.place p c.index.result.now c.requires.writes.there c.index.ensures in
+    f.1.unsealed (sym (ap (λ (x : Place _ _). x.sealed) same) ∙ c.if-index.false)
+
+pub unreachable-requires : goal.unreachable-requires
+unreachable-requires g c =
+    never_none g.P.Pipes.known c.args.pipes.now c.args.table.now.rows.items c.args.table.now.places.items c.args.place c.requires.writes.place c.requires.sound c.requires.writes.there c.requires.writes.held
+    c.index_mut.result.now c.requires.writes.writes c.index_mut.ensures.value c.in-None.is
+
+pub index_mut-requires-2 : goal.index_mut-requires-2
+index_mut-requires-2 g c = let w = place_within c.args.table.now.places.items c.args.place c.requires.writes.place c.requires.writes.there in omega (arith, w)
+
+pub returns-clause-sound : goal.returns-clause-sound
+returns-clause-sound g c =
+    let p = c.requires.writes.place in
+    let f = found_row g.P.Pipes.known c.args.pipes.now c.args.table.now.rows.items c.args.table.now.places.items c.args.place p c.requires.sound c.requires.writes.there c.requires.writes.held
+    c.index_mut.result.now c.in-Some.row c.deref_mut.result.now c.requires.writes.writes c.index_mut.ensures.value c.in-Some.is c.deref_mut.ensures.value in
+    let same = place_found c.args.table.now.places.items c.args.place p c.index_mut-2.result.now c.requires.writes.there c.index_mut-2.ensures.value in
+    subst (λ (x : Place _ _). IsSound g.P.Pipes.known c.seal_row.new.pipes (set c.args.table.now.rows.items c.args.place (Some (with_value c.in-Some.row c.seal_row.new.row))) (set c.args.table.now.places.items c.args.place (record x { sealed = true }))) (sym same)
+    (sealed_sound g.P.Pipes.known c.args.pipes.now c.args.table.now.rows.items c.args.table.now.places.items c.args.place p c.requires.sound c.requires.writes.there c.requires.writes.held
+    c.seal_row.new.pipes c.deref_mut.result.now c.seal_row.new.row.out (with_value c.in-Some.row c.seal_row.new.row) c.requires.writes.writes f.0 f.1 c.seal_row.ensures.seals c.seal_row.ensures.keeps c.seal_row.ensures.row)
+
+pub returns-clause-sealed : goal.returns-clause-sealed
+returns-clause-sealed g c =
+    let p = c.requires.writes.place in
+    let same = place_found c.args.table.now.places.items c.args.place p c.index_mut-2.result.now c.requires.writes.there c.index_mut-2.ensures.value in
+    record {
+      place = p;
+      there = c.requires.writes.there;
+      now = ap (λ (x : Place _ _). set c.args.table.now.places.items c.args.place (record x { sealed = true })) same;
+    }

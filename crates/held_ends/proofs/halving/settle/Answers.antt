@@ -1,0 +1,52 @@
+use Rattle.std.proofs.Common.{sym, ap, ◌∙◌, subst, arith, set, None, false}
+use Rattle.msg_pipe.specs.Known.{IsThere}
+use Rattle.held_ends.specs.declared.table.Place.{Place}
+use Rattle.held_ends.specs.Sound.{IsSound}
+use Rattle.held_ends.proofs.PlaceLemmas.{place_within, place_found}
+use Rattle.held_ends.proofs.SoundLemmas.{one_some}
+use Rattle.held_ends.proofs.HalfLemmas.{reading_there, settled_sound, adds_up, nothing_left, no_input}
+use Rattle.held_ends.proofs.halving.settle.Goals as goal
+
+pub index_mut-requires : goal.index_mut-requires
+index_mut-requires g c = let w = place_within c.args.table.now.places.items c.args.place c.requires.reads.place c.requires.reads.there in omega (arith, w)
+
+pub settle-requires-clause-here : goal.settle-requires-clause-here
+settle-requires-clause-here g c =
+    let s = reading_there g.P.Pipes.known c.args.pipes.now c.args.table.now.rows.items c.args.table.now.places.items c.args.place c.requires.reads.place c.requires.sound c.requires.reads.there c.requires.reads.held c.requires.reads.yielded in
+    subst (IsThere g.P.Pipes.known c.args.pipes.now) c.requires.reads.pipe s.3.there
+
+pub settle-requires-clause-pair : goal.settle-requires-clause-pair
+settle-requires-clause-pair g c =
+    let s = reading_there g.P.Pipes.known c.args.pipes.now c.args.table.now.rows.items c.args.table.now.places.items c.args.place c.requires.reads.place c.requires.sound c.requires.reads.there c.requires.reads.held c.requires.reads.yielded in
+    let same = place_found c.args.table.now.places.items c.args.place c.requires.reads.place c.index_mut.result.now c.requires.reads.there c.index_mut.ensures.value in
+    let half = one_some c.in-Some.input s.0 (sym c.in-Some.is ∙ c.give_reading.ensures.half ∙ ap (λ (x : Place _ _). x.input) same ∙ s.2) in
+    ap g.P.Pipes.known.in_name half ∙ s.3.name_is ∙ c.requires.reads.pipe
+
+pub returns-in-Some-clause-sound : goal.returns-in-Some-clause-sound
+returns-in-Some-clause-sound g c =
+    let same = place_found c.args.table.now.places.items c.args.place c.requires.reads.place c.index_mut.result.now c.requires.reads.there c.index_mut.ensures.value in
+    subst (λ (x : Place _ _). IsSound g.P.Pipes.known c.settle.new.self c.args.table.now.rows.items (set c.args.table.now.places.items c.args.place x))
+    (sym (c.give_reading.ensures.gone ∙ ap (λ (x : Place _ _). record x { held = false; input = None }) same))
+    (settled_sound g.P.Pipes.known c.args.pipes.now c.args.table.now.rows.items c.args.table.now.places.items c.args.place c.requires.reads.place c.requires.sound c.requires.reads.there c.requires.reads.held c.settle.new.self (g.P.Pipes.known.out_name c.args.writer) c.requires.reads.yielded (sym c.requires.reads.pipe) c.settle.ensures.keeps)
+
+pub returns-in-Some-clause-settled : goal.returns-in-Some-clause-settled
+returns-in-Some-clause-settled g c =
+    let s = reading_there g.P.Pipes.known c.args.pipes.now c.args.table.now.rows.items c.args.table.now.places.items c.args.place c.requires.reads.place c.requires.sound c.requires.reads.there c.requires.reads.held c.requires.reads.yielded in
+    let same = place_found c.args.table.now.places.items c.args.place c.requires.reads.place c.index_mut.result.now c.requires.reads.there c.index_mut.ensures.value in
+    let half = one_some c.in-Some.input s.0 (sym c.in-Some.is ∙ c.give_reading.ensures.half ∙ ap (λ (x : Place _ _). x.input) same ∙ s.2) in
+    record {
+      place = c.requires.reads.place;
+      there = c.requires.reads.there;
+      sum = adds_up _ _ c.settle.result c.settle.ensures.halves c.settle.ensures.sent c.settle.ensures.got c.settle.ensures.rest;
+      read_out = λ m. nothing_left _ _ c.settle.result c.settle.ensures.halves
+          (ap (λ (i : _). (g.P.Pipes.known.reading c.args.pipes.now i).ended) half ∙ s.3.met m)
+          c.settle.ensures.sent c.settle.ensures.got c.settle.ensures.rest;
+      now = ap (λ (x : Place _ _). set c.args.table.now.places.items c.args.place x)
+          (c.give_reading.ensures.gone ∙ ap (λ (x : Place _ _). record x { held = false; input = None }) same);
+    }
+
+pub unreachable-requires : goal.unreachable-requires
+unreachable-requires g c =
+    let s = reading_there g.P.Pipes.known c.args.pipes.now c.args.table.now.rows.items c.args.table.now.places.items c.args.place c.requires.reads.place c.requires.sound c.requires.reads.there c.requires.reads.held c.requires.reads.yielded in
+    let same = place_found c.args.table.now.places.items c.args.place c.requires.reads.place c.index_mut.result.now c.requires.reads.there c.index_mut.ensures.value in
+    no_input s.0 c.give_reading.result c.in-None.is (c.give_reading.ensures.half ∙ ap (λ (x : Place _ _). x.input) same ∙ s.2)

@@ -1,0 +1,15 @@
+ghost use Rattle.std.specs.Prelude.{List};
+ghost use Rattle.ends.specs.Rows.{Rows, table};
+ghost use Rattle.ends.specs.Held.{IsHeld};
+ghost use Rattle.held_ends.specs.declared.table.Place.{Place};
+ghost use Rattle.held_ends.specs.Sound.{IsSound};
+
+use msg_pipe::Pipes;
+
+/// The ends whose writing halves are there are held with the pipes, as calls on messages want them.
+pub fn sound_ends_are_held<P: Pipes>(pipes: &P)
+    ensures { (rows : Rows P.Out P.In) (places : List (Place P.Name P.In)) →
+        IsSound P.known pipes.now rows places → IsHeld P.known (table pipes.now rows) }
+{
+    let _unread = pipes;
+}

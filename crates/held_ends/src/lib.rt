@@ -1,0 +1,18 @@
+//! The ends of one owner with their halves, by the places of their attachment, over any pipes.
+//!
+//! What an end's halves do at each event of its life is written here once.
+#![tactic(auto)]
+
+mod attaching;
+mod finding;
+mod halving;
+mod laws;
+mod pipes;
+mod table;
+
+pub use attaching::{attach, make, take_back};
+pub use finding::find;
+pub use halving::{seal, set_state, settle, yield_writer};
+pub use laws::sound_ends_are_held;
+pub use pipes::HeldPipes;
+pub use table::{EndTable, Place};

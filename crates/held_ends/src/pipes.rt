@@ -1,0 +1,13 @@
+use msg_pipe::Pipes;
+
+/// Pipes that an owner of ends can name by either half, and whose owner it can tell others.
+pub trait HeldPipes: Pipes {
+    ghost use Rattle.std.specs.Prelude.{◌≡◌};
+
+    /// The pipe of a reading half.
+    fn reads(i: &Self::In) -> Self::Name
+        ensures { result ≡ Self.known.in_name i.now };
+
+    /// A waker of the same owner. Nothing is promised of it.
+    fn same_waker(waker: &Self::Waker) -> Self::Waker;
+}
