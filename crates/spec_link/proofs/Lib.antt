@@ -1,3 +1,4 @@
 pub mod AcrossLemmas
 pub mod CountLemmas
 pub mod ExampleLemmas
+pub mod TopicLemmas

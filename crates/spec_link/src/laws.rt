@@ -1,6 +1,7 @@
 ghost use Rattle.spec_link.specs.Across.{CrossesWhole};
 ghost use Rattle.spec_link.specs.Examples.{WorkedLinks};
 ghost use Rattle.spec_link.specs.InFlight.{AllIsWritten, OneIsInFlight};
+ghost use Rattle.spec_link.specs.TopicsFirst.{TopicsComeFirst};
 
 /// Across a link that gives its reader a front of what was written to it, the messages that one
 /// side hears, and those that it puts, are a front of those offered at the other, each whole.
@@ -17,6 +18,12 @@ pub fn what_is_said_whole_is_written()
 /// written.
 pub fn one_message_is_in_flight()
     ensures { OneIsInFlight }
+{}
+
+/// On a new link of a connecting session of a SUB or XSUB the topics that it took before come first:
+/// in order, before any message that it takes; and so its peer hears them.
+pub fn topics_come_first()
+    ensures { TopicsComeFirst }
 {}
 
 /// The worked links are link runs of their parts, with their rows.

@@ -8,7 +8,7 @@ mod row;
 
 pub use due::Due;
 pub use laws::{
-    one_message_is_in_flight, what_is_put_was_taken_across_a_link, what_is_said_whole_is_written,
-    worked_links_run,
+    one_message_is_in_flight, topics_come_first, what_is_put_was_taken_across_a_link,
+    what_is_said_whole_is_written, worked_links_run,
 };
 pub use row::{LinkEnd, ListenerRow, SessionRow};

@@ -1,18 +1,16 @@
 ghost use Rattle.std.specs.Prelude.{◌≡◌, ◌<◌, true, false, IfOk};
 ghost use Rattle.shared_pipe.specs.Halves.{writing_of};
 ghost use Rattle.spec_pattern.specs.Pipe.{IsCommittable};
-ghost use Rattle.spec_zmtp.specs.OwnCommands.{IsEngineOpts};
-ghost use Rattle.zq_session.specs.BothParts.{SaysNoTopics};
+ghost use Rattle.zq_session.specs.Sessions.{has_link};
 
+use crate::options::{Security, pair};
 use crate::seat::Seat;
-use msg_pipe::{Pipes, Taken};
+use msg_pipe::{Pipes, PutIn, Taken};
 use shared_pipe::{SharedIn, SharedOut, SharedPipes, Waker};
-use std::alloc::Global;
+use std::alloc::{AllocError, Global};
 use std::test::Fail;
-use zq_base::{
-    Address, EndId, EngineOpts, Frame, Kind, Logins, Message, ObjId, Octets, PairId, Role, Seq,
-};
-use zq_outer::{Cut, Dialled, Host, Listened, MemHost, Plan};
+use zq_base::{Address, EndId, Frame, Message, ObjId, PairId};
+use zq_outer::{Dialled, Host, Listened, MemHost, MemLink, Plan};
 use zq_session::Session;
 
 const AT: Address = Address {
@@ -20,25 +18,13 @@ const AT: Address = Address {
     port: 5555,
 };
 
-const A: EndId = EndId {
+const END: EndId = EndId {
     pair: PairId(1),
     a: false,
 };
 
 /// A session over links in memory, between pipes of two threads.
-type Here = Seat<SharedPipes, MemHost>;
-
-/// A plan by which the first link ends behind so many octets of its connecting end.
-pub fn cut_behind(alloc: Global, octets: u64) -> Result<Plan, Fail> {
-    let mut cuts = Vec::new(alloc);
-    cuts.push(Cut { link: 1, octets })?;
-    Ok(Plan {
-        fails: Seq::new(alloc),
-        stalls: Seq::new(alloc),
-        cuts: Seq::of_vec(cuts),
-        peers: Seq::new(alloc),
-    })
-}
+pub type Here = Seat<SharedPipes, MemHost>;
 
 /// A host of this plan that listens and gives links of so many octets a call.
 pub fn listening(alloc: Global, plan: Plan, most: usize) -> Result<MemHost, Fail>
@@ -51,74 +37,150 @@ pub fn listening(alloc: Global, plan: Plan, most: usize) -> Result<MemHost, Fail
     }
 }
 
-/// Options of a PAIR without security.
-fn pair(alloc: Global) -> EngineOpts
-    ensures opts { IsEngineOpts result }
-    ensures silent { SaysNoTopics true result }
-{
-    EngineOpts {
-        kind: Kind::Pair,
-        id: Octets::new(alloc),
-        role: Role::Null,
-        logins: Logins::new(alloc),
+/// The link that waits to be accepted.
+pub fn accepted(host: &mut MemHost) -> Result<MemLink, Fail> {
+    match host.accept(1) {
+        Dialled::Linked(link) => Ok(link),
+        _ => Err("a link".into()),
     }
 }
 
 /// A message of one frame, which fits a pipe.
-fn hello(alloc: Global) -> Result<Message, Fail>
+pub fn one_frame(alloc: Global, octets: &[u8]) -> Result<Message, Fail>
     ensures { IfOk result (λ m. IsCommittable m) }
 {
     let mut frames = Vec::with_capacity(alloc, 1)?;
-    frames.push_reserved(Frame::of_slice(alloc, b"hello")?);
+    frames.push_reserved(Frame::of_slice(alloc, octets)?);
     Ok(Message::of_frames(frames))
 }
 
 /// The two halves of a new pipe; the writing one isn't sealed.
 #[derive(Drop)]
-struct Ends {
-    out: SharedOut,
-    input: SharedIn,
+pub struct Ends {
+    pub out: SharedOut,
+    pub input: SharedIn,
     ghost open: { (writing_of out).sealed ≡ false },
 }
 
-fn new_pipe(alloc: Global) -> Result<Ends, Fail> {
-    let nobody = Waker::nobody();
-    let (out, input) = SharedPipes.make(alloc, 4, &nobody, &nobody)?;
-    Ok(Ends { out, input })
+impl Ends {
+    pub fn new(alloc: Global) -> Result<Ends, Fail> {
+        let nobody = Waker::nobody();
+        let (out, input) = SharedPipes.make(alloc, 4, &nobody, &nobody)?;
+        Ok(Ends { out, input })
+    }
+}
+
+/// A writing half that isn't sealed.
+#[derive(Drop)]
+pub struct Feed {
+    pub out: SharedOut,
+    ghost open: { (writing_of out).sealed ≡ false },
+}
+
+impl Feed {
+    /// Whether a message of one frame of these octets was put.
+    pub fn put(&mut self, alloc: Global, octets: &[u8]) -> Result<bool, Fail> {
+        let message = one_frame(alloc, octets)?;
+        Ok(matches!(SharedPipes.put(&mut self.out, message), PutIn::Ok))
+    }
 }
 
 /// A pipe's reading half, with one message waiting.
 fn waiting(alloc: Global) -> Result<SharedIn, Fail> {
-    let message = hello(alloc)?;
-    let mut ends = new_pipe(alloc)?;
+    let message = one_frame(alloc, b"hello")?;
+    let mut ends = Ends::new(alloc)?;
     let _put = SharedPipes.put(&mut ends.out, message);
     Ok(ends.input)
 }
 
-/// A connecting session that has one message to send.
-pub fn sender(alloc: Global) -> Result<Here, Fail> {
-    let input = waiting(alloc)?;
-    let back = new_pipe(alloc)?;
-    let session = Session::connecting(ObjId(2), A, AT, pair(alloc), 10, None);
-    Ok(Seat::new(SharedPipes, session, None, input, back.out))
+/// A connecting session that reads this half, and writes that one; its interval is 10.
+pub fn connecting(
+    alloc: Global,
+    security: Security,
+    input: SharedIn,
+    to: Feed,
+) -> Result<Here, Fail> {
+    let opts = pair(alloc, security, true)?;
+    let session = Session::connecting(ObjId(2), END, AT, opts, 10, None);
+    Ok(Seat::new(SharedPipes, session, None, input, to.out))
 }
 
-/// An accepted session, and the half that reads what it puts.
-pub fn receiver(alloc: Global, host: &mut MemHost) -> Result<(Here, SharedIn), Fail> {
-    let Dialled::Linked(link) = host.accept(1) else {
-        return Err("a link".into());
-    };
-    let none = new_pipe(alloc)?;
-    let to = new_pipe(alloc)?;
-    let session = Session::accepted(alloc, ObjId(3), A, pair(alloc), None)?;
-    let seat = Seat::new(SharedPipes, session, Some(link), none.input, to.out);
+/// A connecting session that has one message to send, and the half that reads what it puts.
+pub fn sender(alloc: Global, security: Security) -> Result<(Here, SharedIn), Fail> {
+    let input = waiting(alloc)?;
+    let to = Ends::new(alloc)?;
+    let seat = connecting(alloc, security, input, Feed { out: to.out })?;
     Ok((seat, to.input))
 }
 
-/// Whether that message was taken.
-pub fn is_hello(from: &mut SharedIn) -> bool {
+/// An accepted session without halves.
+fn accepted_session(alloc: Global, security: Security) -> Result<Session<SharedPipes>, Fail>
+    ensures { IfOk result (λ s. has_link s ≡ true) }
+{
+    let opts = pair(alloc, security, false)?;
+    Ok(Session::accepted(alloc, ObjId(3), END, opts, None)?)
+}
+
+/// An accepted session of this link that writes this half.
+fn answering(alloc: Global, security: Security, link: MemLink, to: Feed) -> Result<Here, Fail> {
+    let session = accepted_session(alloc, security)?;
+    let none = Ends::new(alloc)?;
+    Ok(Seat::new(SharedPipes, session, Some(link), none.input, to.out))
+}
+
+/// An accepted session, and the half that reads what it puts.
+pub fn receiver(
+    alloc: Global,
+    host: &mut MemHost,
+    security: Security,
+) -> Result<(Here, SharedIn), Fail> {
+    let link = accepted(host)?;
+    let to = Ends::new(alloc)?;
+    let seat = answering(alloc, security, link, Feed { out: to.out })?;
+    Ok((seat, to.input))
+}
+
+/// A connecting session with its host, and the half that reads what it puts.
+#[derive(Drop)]
+pub struct Caller {
+    pub host: MemHost,
+    pub near: Here,
+    pub back: SharedIn,
+}
+
+impl Caller {
+    /// One with a message to send, on a host of this plan that listens, too.
+    pub fn new(alloc: Global, security: Security, plan: Plan, most: usize) -> Result<Caller, Fail>
+        requires { 0 < most }
+    {
+        let host = listening(alloc, plan, most)?;
+        let (near, back) = sender(alloc, security)?;
+        Ok(Caller { host, near, back })
+    }
+
+    pub fn turn(&mut self, alloc: Global) -> Result<(), AllocError> {
+        self.near.turn(alloc, &mut self.host)
+    }
+}
+
+/// So many turns of both sessions.
+pub fn turns_of_both(
+    alloc: Global,
+    caller: &mut Caller,
+    far: &mut Here,
+    count: u32,
+) -> Result<(), AllocError> {
+    for _ in 0..count {
+        caller.turn(alloc)?;
+        far.turn(alloc, &mut caller.host)?;
+    }
+    Ok(())
+}
+
+/// Whether a message that begins with this frame was taken.
+pub fn takes(from: &mut SharedIn, octets: &[u8]) -> bool {
     match SharedPipes.take(from) {
-        Taken::Item(message) => message.frames()[0].as_slice() == b"hello".as_slice(),
+        Taken::Item(message) => message.frames()[0].as_slice() == octets,
         _ => false,
     }
 }

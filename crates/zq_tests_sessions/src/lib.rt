@@ -2,7 +2,17 @@
 #![tactic(auto)]
 
 #[cfg(test)]
+mod cut_peer;
+#[cfg(test)]
+mod dials;
+#[cfg(test)]
 mod lane;
+#[cfg(test)]
+mod many;
+#[cfg(test)]
+mod options;
+#[cfg(test)]
+mod plans;
 #[cfg(test)]
 mod seat;
 #[cfg(test)]

@@ -42,11 +42,16 @@ impl<P: Pipes + Drop, H: Host> Seat<P, H> {
         }
     }
 
-    /// A turn at time 0.
+    /// A turn at this moment.
     #[tactic(auto, using(crate::proofs::SeatLemmas::are_at, crate::proofs::SeatLemmas::reads_here, crate::proofs::SeatLemmas::writes_here))]
-    pub fn turn(&mut self, alloc: Global, host: &mut H) -> Result<(), AllocError> {
+    pub fn turn_at(&mut self, alloc: Global, host: &mut H, now: u64) -> Result<(), AllocError> {
         self.session
-            .turn(alloc, &mut self.pipes, host, &mut self.link, 0)
+            .turn(alloc, &mut self.pipes, host, &mut self.link, now)
+    }
+
+    /// A turn at time 0.
+    pub fn turn(&mut self, alloc: Global, host: &mut H) -> Result<(), AllocError> {
+        self.turn_at(alloc, host, 0)
     }
 
     /// Whether it has a link.
