@@ -5,6 +5,7 @@ use Rattle.std.specs.List.{list_all, starts_with}
 use Rattle.std.specs.Result.{result_ok}
 use Rattle.std.specs.Str.{bytes_eq}
 use Rattle.hex.specs.Hex.{decode_of}
+use Rattle.zq_base.specs.Message.{max_frames}
 use Rattle.zq_script.specs.declared.fault.Cause.{Cause}
 use Rattle.zq_script.specs.declared.fault.Cause.TheVariants.{BadWord, BadPart}
 use Rattle.zq_script.specs.Answer.{◌>>=◌}
@@ -37,5 +38,5 @@ parts_of (word ∷ words) = do
 unfoldable pub parts_message : Words → Result (List (List ℕ)) Cause
 parts_message words =
     if nat_eq (length words) 0 then Err BadWord
-    else if nat_lt 1024 (length words) then Err BadPart
+    else if nat_lt max_frames (length words) then Err BadPart
     else parts_of words

@@ -119,7 +119,7 @@ pub(crate) fn read_message(alloc: Global, words: &[&[u8]]) -> Result<Message, Li
     if words.is_empty() {
         return Err(LineError::Fault(Cause::BadWord));
     }
-    if 1024 < words.len() {
+    if Message::MAX < words.len() {
         return Err(LineError::Fault(Cause::BadPart));
     }
     Ok(Message::of_frames(read_parts(alloc, words)?))

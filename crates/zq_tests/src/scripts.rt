@@ -1,7 +1,7 @@
 use std::alloc::Global;
 use std::test::Fail;
-use zq_base::{Endpoint, Kind};
-use zq_script::{Call, Cause, ReadScript, Script, ScriptFault, read_script};
+use zq_base::{Endpoint, Kind, Message, Options};
+use zq_script::{Call, Cause, Line, ReadScript, Script, ScriptFault, read_script};
 
 // The fault of a script, if it has one.
 fn fault(alloc: Global, octets: &[u8]) -> Result<Option<ScriptFault>, Fail> {
@@ -21,6 +21,24 @@ fn with_copies(alloc: Global, text: &[u8], more: &[u8], n: u32) -> Result<Vec<u8
     Ok(octets)
 }
 
+// Whether the first fault of the octets is this one, or none.
+fn has_fault(alloc: Global, octets: &[u8], wanted: Option<ScriptFault>) -> Result<bool, Fail> {
+    Ok(fault(alloc, octets)? == wanted)
+}
+
+// Whether the text, so many copies of another and a last one have this fault, or none.
+fn copies_have(
+    alloc: Global,
+    text: &[u8],
+    copy: (&[u8], u32),
+    last: &[u8],
+    wanted: Option<ScriptFault>,
+) -> Result<bool, Fail> {
+    let mut octets = with_copies(alloc, text, copy.0, copy.1)?;
+    octets.extend_from_slice(last)?;
+    has_fault(alloc, octets.as_slice(), wanted)
+}
+
 fn script(alloc: Global, octets: &[u8]) -> Result<Script, Fail> {
     match read_script(alloc, octets) {
         Ok(script) => Ok(script),
@@ -28,19 +46,61 @@ fn script(alloc: Global, octets: &[u8]) -> Result<Script, Fail> {
     }
 }
 
+// Whether there are two actors, `a_1` with lines of the numbers 4 and 6, and `b` without lines.
+fn has_two_actors(script: &Script) -> bool {
+    match script.actors.as_slice() {
+        [first, second] => {
+            let names = first.name.as_slice() == b"a_1".as_slice()
+                && second.name.as_slice() == b"b".as_slice();
+            names && are_4_and_6(first.lines.as_slice()) && second.lines.len() == 0
+        }
+        _ => false,
+    }
+}
+
+fn are_4_and_6(lines: &[Line]) -> bool {
+    match lines {
+        [first, second] => (first.number, second.number) == (4, 6),
+        _ => false,
+    }
+}
+
 #[test]
 fn actors_have_their_lines(rt: HostRuntime) -> Result<(), Fail> {
     let text = b"# two actors\n\n  actor a_1  \nsocket r PULL\n\x20# \t\nrecv  r\nactor b";
-    let script = script(rt.alloc(), text)?;
-    let actors = script.actors.as_slice();
-    assert_eq!(rt; actors.len(), 2);
-    assert_eq!(rt; actors[0].name.as_slice(), b"a_1".as_slice());
-    assert_eq!(rt; actors[1].name.as_slice(), b"b".as_slice());
-    assert_eq!(rt; actors[1].lines.len(), 0);
-    let lines = actors[0].lines.as_slice();
-    assert_eq!(rt; lines.len(), 2);
-    assert_eq!(rt; (lines[0].number, lines[1].number), (4, 6));
+    assert!(rt; has_two_actors(&script(rt.alloc(), text)?));
     Ok(())
+}
+
+// Whether a socket has the marks and times that stand where none are given.
+fn are_defaults(options: &Options) -> bool {
+    (options.hwm, options.rcvhwm) == (1000, 1000)
+        && (options.linger, options.reconnect) == (-1, 100)
+}
+
+// Whether a message has these four parts.
+fn has_four_parts(message: &Message) -> bool {
+    let parts = [b"".as_slice(), b"\x00\xff", b"0xf", b"x"];
+    for (frame, part) in message.frames().iter().zip(parts) {
+        if frame.as_slice() != part {
+            return false;
+        }
+    }
+    message.len() == 4
+}
+
+// Whether a line asks what it should.
+fn asks(line: &Line) -> bool {
+    match (line.number, &line.call) {
+        (2, Call::Socket(Kind::Pull, options)) => (options.hwm, options.rcvhwm) == (2, 10_000),
+        (3, Call::Socket(Kind::Push, options)) => are_defaults(options),
+        (4, Call::Bind(0, Endpoint::Inproc(name))) => name.as_slice() == b"q".as_slice(),
+        (5, Call::Connect(1, Endpoint::Inproc(name))) => name.as_slice() == b"q".as_slice(),
+        (6, Call::Send(1, message)) => has_four_parts(message),
+        (7, Call::Recv(0, tries)) => *tries == 100_000,
+        (8, Call::Recv(0, tries)) => *tries == 1,
+        (_, _) => false,
+    }
 }
 
 #[test]
@@ -53,31 +113,7 @@ fn lines_ask_what_their_words_say(rt: HostRuntime) -> Result<(), Fail> {
         return Err("an actor")?;
     };
     for line in actor.lines.as_slice() {
-        match (line.number, &line.call) {
-            (2, Call::Socket(Kind::Pull, options)) => {
-                assert_eq!(rt; (options.hwm, options.rcvhwm), (2, 10_000));
-            }
-            (3, Call::Socket(Kind::Push, options)) => {
-                assert_eq!(rt; (options.hwm, options.rcvhwm), (1000, 1000));
-                assert_eq!(rt; (options.linger, options.reconnect), (-1, 100));
-            }
-            (4, Call::Bind(0, Endpoint::Inproc(name))) => {
-                assert_eq!(rt; name.as_slice(), b"q".as_slice());
-            }
-            (5, Call::Connect(1, Endpoint::Inproc(name))) => {
-                assert_eq!(rt; name.as_slice(), b"q".as_slice());
-            }
-            (6, Call::Send(1, message)) => {
-                let parts = [b"".as_slice(), b"\x00\xff", b"0xf", b"x"];
-                assert_eq!(rt; message.len(), 4);
-                for (frame, part) in message.frames().iter().zip(parts) {
-                    assert_eq!(rt; frame.as_slice(), part);
-                }
-            }
-            (7, Call::Recv(0, tries)) => assert_eq!(rt; *tries, 100_000),
-            (8, Call::Recv(0, tries)) => assert_eq!(rt; *tries, 1),
-            (_, _) => Err("another call")?,
-        }
+        assert!(rt; asks(line));
     }
     Ok(())
 }
@@ -99,8 +135,8 @@ fn the_first_fault_is_told_with_its_line(rt: HostRuntime) -> Result<(), Fail> {
         ("actor a\nterm", 2, Cause::BadWord),
         ("actor a\nSOCKET s PUSH", 2, Cause::BadWord),
     ] {
-        let found = fault(rt.alloc(), text.as_bytes())?;
-        assert_eq!(rt; found, Some(ScriptFault { line, cause }), "{text}");
+        let wanted = Some(ScriptFault { line, cause });
+        assert!(rt; has_fault(rt.alloc(), text.as_bytes(), wanted)?, "{text}");
     }
     for text in [
         "",
@@ -109,9 +145,17 @@ fn the_first_fault_is_told_with_its_line(rt: HostRuntime) -> Result<(), Fail> {
         "  \n # any \u{e9}\t\n",
         "actor abcdefghijklmnopqrstuvwxyz012345",
     ] {
-        assert_eq!(rt; fault(rt.alloc(), text.as_bytes())?, None, "{text}");
+        assert!(rt; has_fault(rt.alloc(), text.as_bytes(), None)?, "{text}");
     }
     Ok(())
+}
+
+// Whether a line behind one that makes the socket `s` has this fault, before that of the next line.
+fn line_has(alloc: Global, line: &str, cause: Cause) -> Result<bool, Fail> {
+    let mut text = Vec::from_slice(alloc, b"actor a\nsocket s PUSH\n")?;
+    text.extend_from_slice(line.as_bytes())?;
+    text.extend_from_slice(b"\nactor a")?;
+    has_fault(alloc, text.as_slice(), Some(ScriptFault { line: 3, cause }))
 }
 
 #[test]
@@ -152,13 +196,24 @@ fn the_leftmost_fault_of_a_line_is_told(rt: HostRuntime) -> Result<(), Fail> {
         ("unbind s inproc://q", Cause::BadWord),
         ("close s", Cause::BadWord),
     ] {
-        let mut text = Vec::from_slice(rt.alloc(), b"actor a\nsocket s PUSH\n")?;
-        text.extend_from_slice(line.as_bytes())?;
-        text.extend_from_slice(b"\nactor a")?;
-        let found = fault(rt.alloc(), text.as_slice())?;
-        assert_eq!(rt; found, Some(ScriptFault { line: 3, cause }), "{line}");
+        assert!(rt; line_has(rt.alloc(), line, cause)?, "{line}");
     }
     Ok(())
+}
+
+// Whether an XPUB has both marks and the identity 01 00.
+fn are_given(options: &Options) -> bool {
+    options.verbose && options.mandatory && options.id.as_slice() == b"\x01\0".as_slice()
+}
+
+// Whether a line of topics or options asks what it should.
+fn asks_topics(line: &Line) -> bool {
+    match (line.number, &line.call) {
+        (2, Call::Socket(Kind::XPub, options)) => are_given(options),
+        (3, Call::Subscribe(0, topic)) => topic.as_slice() == b"ab".as_slice(),
+        (4, Call::Unsubscribe(0, topic)) => topic.as_slice() == b"".as_slice(),
+        (_, _) => false,
+    }
 }
 
 #[test]
@@ -169,17 +224,7 @@ fn topics_and_options_are_read(rt: HostRuntime) -> Result<(), Fail> {
         return Err("an actor")?;
     };
     for line in actor.lines.as_slice() {
-        let read = match (line.number, &line.call) {
-            (2, Call::Socket(Kind::XPub, options)) => {
-                options.verbose
-                    && options.mandatory
-                    && options.id.as_slice() == b"\x01\0".as_slice()
-            }
-            (3, Call::Subscribe(0, topic)) => topic.as_slice() == b"ab".as_slice(),
-            (4, Call::Unsubscribe(0, topic)) => topic.as_slice() == b"".as_slice(),
-            (_, _) => false,
-        };
-        assert!(rt; read);
+        assert!(rt; asks_topics(line));
     }
     Ok(())
 }
@@ -201,11 +246,7 @@ fn topics_and_options_have_their_faults(rt: HostRuntime) -> Result<(), Fail> {
         ("unsub s \u{1}", Cause::BadPart),
         ("unsub s - -", Cause::BadWord),
     ] {
-        let mut text = Vec::from_slice(rt.alloc(), b"actor a\nsocket s PUSH\n")?;
-        text.extend_from_slice(line.as_bytes())?;
-        text.extend_from_slice(b"\nactor a")?;
-        let found = fault(rt.alloc(), text.as_slice())?;
-        assert_eq!(rt; found, Some(ScriptFault { line: 3, cause }), "{line}");
+        assert!(rt; line_has(rt.alloc(), line, cause)?, "{line}");
     }
     Ok(())
 }
@@ -214,9 +255,8 @@ fn topics_and_options_have_their_faults(rt: HostRuntime) -> Result<(), Fail> {
 fn sockets_belong_to_their_actor(rt: HostRuntime) -> Result<(), Fail> {
     let text = b"actor a\nsocket s PUSH\nactor b\nsocket t PULL\nsocket s PULL\nrecv s\n\
         actor s\nrecv s";
-    let found = fault(rt.alloc(), text)?;
     let cause = Cause::UnknownSocket;
-    assert_eq!(rt; found, Some(ScriptFault { line: 8, cause }));
+    assert!(rt; has_fault(rt.alloc(), text, Some(ScriptFault { line: 8, cause }))?);
     Ok(())
 }
 
@@ -226,81 +266,102 @@ fn scripts_have_limits(rt: HostRuntime) -> Result<(), Fail> {
         line: 0,
         cause: Cause::TooLong,
     });
-    let mut spaces = with_copies(rt.alloc(), b"", b"    ", 262_144)?;
-    assert_eq!(rt; fault(rt.alloc(), spaces.as_slice())?, None);
-    spaces.extend_from_slice(b" ")?;
-    assert_eq!(rt; fault(rt.alloc(), spaces.as_slice())?, too_long);
-    let mut lines = with_copies(rt.alloc(), b"", b"\n", 9_999)?;
-    lines.extend_from_slice(b"x")?;
     let last = Some(ScriptFault {
         line: 10_000,
         cause: Cause::BadWord,
     });
-    assert_eq!(rt; fault(rt.alloc(), lines.as_slice())?, last);
-    lines.extend_from_slice(b"\n")?;
-    assert_eq!(rt; fault(rt.alloc(), lines.as_slice())?, last);
-    lines.extend_from_slice(b" ")?;
-    assert_eq!(rt; fault(rt.alloc(), lines.as_slice())?, too_long);
+    let cases: [(&[u8], u32, &[u8], Option<ScriptFault>); 5] = [
+        (b"    ", 262_144, b"", None),
+        (b"    ", 262_144, b" ", too_long),
+        (b"\n", 9_999, b"x", last),
+        (b"\n", 9_999, b"x\n", last),
+        (b"\n", 9_999, b"x\n ", too_long),
+    ];
+    for (copy, count, end, wanted) in cases {
+        assert!(rt; copies_have(rt.alloc(), b"", (copy, count), end, wanted)?);
+    }
     Ok(())
 }
 
-#[test]
-fn actors_and_parts_have_limits(rt: HostRuntime) -> Result<(), Fail> {
-    let mut actors = Vec::new(rt.alloc());
+// 64 actors.
+fn many_actors(alloc: Global) -> Result<Vec<u8>, Fail> {
+    let mut actors = Vec::new(alloc);
     for i in 0..64u8 {
         actors.extend_from_slice(b"actor a")?;
         actors.extend_from_slice(&[b'0' + i / 8, b'0' + i % 8, b'\n'])?;
     }
-    assert_eq!(rt; fault(rt.alloc(), actors.as_slice())?, None);
+    Ok(actors)
+}
+
+// Whether 64 actors are read, and a 65th is one too many, whatever its name.
+fn has_64_actors(alloc: Global) -> Result<bool, Fail> {
+    let mut actors = many_actors(alloc)?;
+    let most = has_fault(alloc, actors.as_slice(), None)?;
     actors.extend_from_slice(b"actor ?")?;
     let cause = Cause::TooManyActors;
-    assert_eq!(rt;
-        fault(rt.alloc(), actors.as_slice())?,
-        Some(ScriptFault { line: 65, cause })
-    );
-    let mut parts = with_copies(rt.alloc(), b"actor a\nsocket s PUSH\nsend s", b" -", 1024)?;
-    assert_eq!(rt; fault(rt.alloc(), parts.as_slice())?, None);
-    parts.extend_from_slice(b" -")?;
+    let wanted = Some(ScriptFault { line: 65, cause });
+    Ok(most && has_fault(alloc, actors.as_slice(), wanted)?)
+}
+
+#[test]
+fn actors_and_parts_have_limits(rt: HostRuntime) -> Result<(), Fail> {
+    let text = b"actor a\nsocket s PUSH\nsend s";
     let cause = Cause::BadPart;
-    assert_eq!(rt;
-        fault(rt.alloc(), parts.as_slice())?,
-        Some(ScriptFault { line: 3, cause })
-    );
+    let wanted = Some(ScriptFault { line: 3, cause });
+    assert!(rt; has_64_actors(rt.alloc())?);
+    assert!(rt; copies_have(rt.alloc(), text, (b" -", 1024), b"", None)?);
+    assert!(rt; copies_have(rt.alloc(), text, (b" -", 1024), b" -", wanted)?);
     Ok(())
 }
 
 #[test]
 fn an_identity_of_256_octets_is_refused(rt: HostRuntime) -> Result<(), Fail> {
-    let text = with_copies(rt.alloc(), b"actor a\nsocket t DEALER id=", b"x", 256)?;
+    let text = b"actor a\nsocket t DEALER id=";
     let cause = Cause::BadPart;
-    assert_eq!(rt;
-        fault(rt.alloc(), text.as_slice())?,
-        Some(ScriptFault { line: 2, cause })
-    );
+    let wanted = Some(ScriptFault { line: 2, cause });
+    assert!(rt; copies_have(rt.alloc(), text, (b"x", 256), b"", wanted)?);
     Ok(())
+}
+
+// A socket of this number, and a send at it.
+fn push_socket(text: &mut Vec<u8>, number: u32) -> Result<(), Fail> {
+    let digits = [
+        b'a' + (number / 256 % 16) as u8,
+        b'a' + (number / 16 % 16) as u8,
+        b'a' + (number % 16) as u8,
+    ];
+    text.extend_from_slice(b"socket ")?;
+    text.extend_from_slice(&digits)?;
+    text.extend_from_slice(b" PUSH\nsend ")?;
+    text.extend_from_slice(&digits)?;
+    text.extend_from_slice(b" x\n")?;
+    Ok(())
+}
+
+// An actor with 4,096 sockets.
+fn many_sockets(alloc: Global) -> Result<Vec<u8>, Fail> {
+    let mut text = Vec::from_slice(alloc, b"actor a\n")?;
+    for number in 0..4_096u32 {
+        push_socket(&mut text, number)?;
+    }
+    Ok(text)
+}
+
+// Whether there are 8,192 lines, of which the last sends at the last socket.
+fn are_all(lines: &[Line]) -> bool {
+    match lines.last() {
+        Some(last) => lines.len() == 8_192 && matches!(last.call, Call::Send(4_095, _)),
+        None => false,
+    }
 }
 
 #[test]
 fn many_sockets_are_read(rt: HostRuntime) -> Result<(), Fail> {
-    let mut text = Vec::from_slice(rt.alloc(), b"actor a\n")?;
-    for i in 0..4_096u32 {
-        let digits = [
-            b'a' + (i / 256) as u8,
-            b'a' + (i / 16 % 16) as u8,
-            b'a' + (i % 16) as u8,
-        ];
-        text.extend_from_slice(b"socket ")?;
-        text.extend_from_slice(&digits)?;
-        text.extend_from_slice(b" PUSH\nsend ")?;
-        text.extend_from_slice(&digits)?;
-        text.extend_from_slice(b" x\n")?;
-    }
+    let text = many_sockets(rt.alloc())?;
     let script = script(rt.alloc(), text.as_slice())?;
     let Some(actor) = script.actors.as_slice().first() else {
         return Err("an actor")?;
     };
-    let lines = actor.lines.as_slice();
-    assert_eq!(rt; lines.len(), 8_192);
-    assert!(rt; matches!(lines[8_191].call, Call::Send(4_095, _)));
+    assert!(rt; are_all(actor.lines.as_slice()));
     Ok(())
 }

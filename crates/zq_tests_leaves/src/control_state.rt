@@ -161,6 +161,7 @@ fn a_pair_is_made_end_by_end(rt: HostRuntime) -> Result<(), Fail> {
     state.open(near);
     state.strike(far);
     assert!(rt; stands(&state, near, true, false) && stands(&state, far, false, true));
+    assert!(rt; state.is_away(far));
     state.bind(far);
     assert!(rt; stands(&state, near, true, false) && stands(&state, far, true, true));
     Ok(())

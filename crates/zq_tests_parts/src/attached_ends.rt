@@ -14,7 +14,7 @@ use std::alloc::Global;
 use std::test::Fail;
 use zq_base::{EndId, Message, PairId};
 
-/// A PUSH sends over the ends of a socket, over any pipes.
+// A PUSH sends over the ends of a socket, over any pipes.
 fn push_over<P: Pipes>(
     pipes: &mut P,
     rows: &mut Vec<Option<Box<EndRow<P::Out, P::In>>>>,
@@ -28,7 +28,7 @@ fn push_over<P: Pipes>(
     push.send(&mut ends, message)
 }
 
-/// A PULL receives over the ends of a socket, over any pipes.
+// A PULL receives over the ends of a socket, over any pipes.
 fn pull_over<P: Pipes>(
     pipes: &mut P,
     rows: &mut Vec<Option<Box<EndRow<P::Out, P::In>>>>,
@@ -48,7 +48,7 @@ struct Socket {
     rows: Vec<Option<Box<EndRow<PlainOut, PlainIn>>>>,
 }
 
-/// A socket with the end a of pair 7, whose pipes hold a message each.
+// A socket with the end a of pair 7, whose pipes hold a message each.
 fn with_one_end(alloc: Global, writable: bool) -> Result<Socket, Fail>
     ensures held { IfOk result (λ s. IsHeld ⟦<PlainPipes as Pipes>⟧.known
         (table s.pipes s.rows.items)) }
@@ -75,34 +75,47 @@ fn with_one_end(alloc: Global, writable: bool) -> Result<Socket, Fail>
     Ok(Socket { pipes, rows })
 }
 
-#[test]
-fn a_push_sends_over_its_end(rt: HostRuntime) -> Result<(), Fail> {
-    let alloc = rt.alloc();
-    let mut socket = with_one_end(alloc, true)?;
+// A PUSH with the end at place 0.
+fn push_of_one(alloc: Global) -> Result<Push, Fail>
+    ensures { IfOk result (λ push. push ≡ 0 ∷ []) }
+{
     let mut push = Push::new(alloc);
     push.attach(0)?;
-    let first = message(alloc, b"a")?;
-    assert_eq!(rt;
-        told_sent(push_over(&mut socket.pipes, &mut socket.rows, &mut push, first)),
-        Told::Sent(7)
+    Ok(push)
+}
+
+#[test]
+fn a_push_sends_over_its_end(rt: HostRuntime) -> Result<(), Fail> {
+    let first = message(rt.alloc(), b"a")?;
+    let second = message(rt.alloc(), b"b")?;
+    let mut socket = with_one_end(rt.alloc(), true)?;
+    let mut push = push_of_one(rt.alloc())?;
+    assert!(rt;
+        told_sent(push_over(&mut socket.pipes, &mut socket.rows, &mut push, first)) == Told::Sent(7)
     );
-    let second = message(alloc, b"b")?;
-    assert_eq!(rt;
-        told_sent(push_over(&mut socket.pipes, &mut socket.rows, &mut push, second)),
-        Told::NotSent(SendRefusal::Again)
+    assert!(rt;
+        told_sent(push_over(&mut socket.pipes, &mut socket.rows, &mut push, second))
+            == Told::NotSent(SendRefusal::Again)
     );
     Ok(())
 }
 
-#[test]
-fn a_pull_finds_its_end_empty(rt: HostRuntime) -> Result<(), Fail> {
-    let alloc = rt.alloc();
-    let mut socket = with_one_end(alloc, true)?;
+// A PULL with the end at place 0.
+fn pull_of_one(alloc: Global) -> Result<Pull, Fail>
+    ensures { IfOk result (λ pull. pull ≡ 0 ∷ []) }
+{
     let mut pull = Pull::new(alloc);
     pull.attach(0)?;
-    assert_eq!(rt;
-        told_got(pull_over(&mut socket.pipes, &mut socket.rows, &mut pull)),
-        Told::NotGot(RecvRefusal::Again)
+    Ok(pull)
+}
+
+#[test]
+fn a_pull_finds_its_end_empty(rt: HostRuntime) -> Result<(), Fail> {
+    let mut socket = with_one_end(rt.alloc(), true)?;
+    let mut pull = pull_of_one(rt.alloc())?;
+    assert!(rt;
+        told_got(pull_over(&mut socket.pipes, &mut socket.rows, &mut pull))
+            == Told::NotGot(RecvRefusal::Again)
     );
     Ok(())
 }
@@ -115,7 +128,7 @@ fn an_end_is_looked_at_without_a_take(rt: HostRuntime) -> Result<(), Fail> {
         pipes: &mut socket.pipes,
         rows: &mut socket.rows,
     };
-    assert_eq!(rt; ends.front(0), Front::Empty);
+    assert!(rt; ends.front(0) == Front::Empty);
     Ok(())
 }
 

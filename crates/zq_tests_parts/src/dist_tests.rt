@@ -7,7 +7,7 @@ use msg_pipe::{Peers, Taken};
 use std::alloc::Global;
 use std::test::Fail;
 
-/// Whether there are such places and all can be written.
+// Whether there are such places and all can be written.
 fn are_open(peers: &TestPeers, places: &[usize]) -> bool
     ensures there { result ≡ true →
         All (λ place. ⟦<TestPeers as Peers>⟧.here peers.now place) places.now }
@@ -25,7 +25,7 @@ fn are_open(peers: &TestPeers, places: &[usize]) -> bool
     true
 }
 
-/// Sends to places that are tested.
+// Sends to places that are tested.
 fn send(
     alloc: Global,
     peers: &mut TestPeers,
@@ -42,7 +42,7 @@ fn send(
     }
 }
 
-/// How many messages come out at the far end of a place, of at most four.
+// How many messages come out at the far end of a place, of at most four.
 fn far_copies(peers: &mut TestPeers, place: usize) -> Result<usize, Fail> {
     let mut copies = 0usize;
     for _ in 0..4 {
@@ -54,13 +54,39 @@ fn far_copies(peers: &mut TestPeers, place: usize) -> Result<usize, Fail> {
     Ok(copies)
 }
 
-#[test]
-fn a_copy_goes_to_each_place_with_room(rt: HostRuntime) -> Result<(), Fail> {
-    let alloc = rt.alloc();
+// Three pairs, of which the second has room for one message and the others for two.
+fn three(alloc: Global) -> Result<TestPeers, Fail> {
     let mut peers = TestPeers::new(alloc);
     peers.attach(alloc, 2)?;
     peers.attach(alloc, 1)?;
     peers.attach(alloc, 2)?;
+    Ok(peers)
+}
+
+// Whether a send to places tells that these got a copy, and that those were full.
+fn tells(
+    alloc: Global,
+    peers: &mut TestPeers,
+    places: &[usize],
+    put: &[usize],
+    full: &[usize],
+) -> Result<bool, Fail> {
+    let report = send(alloc, peers, places, b"all")?;
+    Ok(report.put.as_slice() == put && report.full.as_slice() == full)
+}
+
+// How many messages come out at the far end of each place.
+fn copies(peers: &mut TestPeers) -> Result<[usize; 3], Fail> {
+    Ok([
+        far_copies(peers, 0)?,
+        far_copies(peers, 1)?,
+        far_copies(peers, 2)?,
+    ])
+}
+
+#[test]
+fn a_copy_goes_to_each_place_with_room(rt: HostRuntime) -> Result<(), Fail> {
+    let mut peers = three(rt.alloc())?;
     let cases: [(&[usize], &[usize], &[usize]); 4] = [
         (&[], &[], &[]),
         (&[1], &[1], &[]),
@@ -68,15 +94,8 @@ fn a_copy_goes_to_each_place_with_room(rt: HostRuntime) -> Result<(), Fail> {
         (&[0, 1], &[0], &[1]),
     ];
     for (places, put, full) in cases {
-        let report = send(alloc, &mut peers, places, b"all")?;
-        assert_eq!(rt; report.put.as_slice(), put);
-        assert_eq!(rt; report.full.as_slice(), full);
+        assert!(rt; tells(rt.alloc(), &mut peers, places, put, full)?);
     }
-    let copies = [
-        far_copies(&mut peers, 0)?,
-        far_copies(&mut peers, 1)?,
-        far_copies(&mut peers, 2)?,
-    ];
-    assert_eq!(rt; copies, [2, 1, 1]);
+    assert!(rt; copies(&mut peers)? == [2, 1, 1]);
     Ok(())
 }

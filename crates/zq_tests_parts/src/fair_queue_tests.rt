@@ -6,7 +6,7 @@ use fair_queue::{NextIn, Turns, next_in, no_peer_with_messages_is_passed_over};
 use std::alloc::Global;
 use std::test::Fail;
 
-/// Three pairs.
+// Three pairs.
 fn three(alloc: Global) -> Result<TestPeers, Fail>
     ensures { IfOk result (λ p. length p ≡ 3) }
 {
@@ -17,7 +17,7 @@ fn three(alloc: Global) -> Result<TestPeers, Fail>
     Ok(peers)
 }
 
-/// The places 0, 1, 2 in turn.
+// The places 0, 1, 2 in turn.
 fn in_turn(alloc: Global) -> Result<Turns, Fail>
     ensures { IfOk result (λ t. All (λ place. place < 3) t) }
 {
@@ -28,7 +28,7 @@ fn in_turn(alloc: Global) -> Result<Turns, Fail>
     Ok(turns)
 }
 
-/// The place that serves.
+// The place that serves.
 fn receive(turns: &mut Turns, peers: &mut TestPeers) -> Option<usize>
     requires there { All (λ place. place < length peers.old) turns.old }
     ensures there { All (λ place. place < length peers.new) turns.new }
@@ -39,18 +39,35 @@ fn receive(turns: &mut Turns, peers: &mut TestPeers) -> Option<usize>
     }
 }
 
-#[test]
-fn peers_with_messages_serve_by_turn(rt: HostRuntime) -> Result<(), Fail> {
-    let alloc = rt.alloc();
+// Three pairs, whose peers have said two, one and two messages of two frames.
+fn three_with_messages(alloc: Global) -> Result<TestPeers, Fail>
+    ensures { IfOk result (λ p. length p ≡ 3) }
+{
     let mut peers = three(alloc)?;
     'puts: for place in [0, 0, 1, 2, 2] {
-        peers.far_put(place, message(alloc, b"x")?)?;
+        peers.far_put(place, message(alloc, b"xy")?)?;
     }
-    let mut turns = in_turn(alloc)?;
-    let served = [Some(0), Some(1), Some(2), Some(0), Some(2), None];
-    'served: for want in served {
-        assert_eq!(rt; receive(&mut turns, &mut peers), want);
+    Ok(peers)
+}
+
+// Whether these places serve in turn.
+fn serve(turns: &mut Turns, peers: &mut TestPeers, wanted: &[Option<usize>]) -> bool
+    requires there { All (λ place. place < length peers.old) turns.old }
+{
+    'rows: for place in wanted {
+        if receive(turns, peers) != *place {
+            return false;
+        }
     }
+    true
+}
+
+#[test]
+fn peers_with_messages_serve_by_turn(rt: HostRuntime) -> Result<(), Fail> {
+    let mut peers = three_with_messages(rt.alloc())?;
+    let mut turns = in_turn(rt.alloc())?;
+    let wanted = [Some(0), Some(1), Some(2), Some(0), Some(2), None];
+    assert!(rt; serve(&mut turns, &mut peers, &wanted));
     Ok(())
 }
 
@@ -59,7 +76,7 @@ fn where_no_peer_has_a_message_none_serves(rt: HostRuntime) -> Result<(), Fail> 
     let alloc = rt.alloc();
     let mut peers = three(alloc)?;
     let mut turns = in_turn(alloc)?;
-    assert_eq!(rt; receive(&mut turns, &mut peers), None);
+    assert!(rt; receive(&mut turns, &mut peers) == None);
     no_peer_with_messages_is_passed_over();
     Ok(())
 }

@@ -16,7 +16,7 @@ pub enum Answer {
     Else,
 }
 
-/// What a SUB answered.
+// What a SUB answered.
 fn changed(done: Result<(), ChangeFault>) -> Answer {
     match done {
         Ok(()) => Answer::Done,
@@ -25,7 +25,7 @@ fn changed(done: Result<(), ChangeFault>) -> Answer {
     }
 }
 
-/// What an XSUB answered.
+// What an XSUB answered.
 fn sent(answer: Result<Sent, XSendFault>) -> Answer {
     match answer {
         Ok(Sent::Subscribed) => Answer::Done,
@@ -34,7 +34,7 @@ fn sent(answer: Result<Sent, XSendFault>) -> Answer {
     }
 }
 
-/// Subscribes a SUB without peers to a number.
+// Subscribes a SUB without peers to a number.
 fn subscribe(alloc: Global, sub: &mut Sub, peers: &mut TestPeers, number: u32) -> Answer
     requires { keys_of sub.old.followers ≡ [] }
     ensures { keys_of sub.new.followers ≡ [] }
@@ -42,7 +42,7 @@ fn subscribe(alloc: Global, sub: &mut Sub, peers: &mut TestPeers, number: u32) -
     changed(sub.subscribe(alloc, peers, &number.to_be_bytes()))
 }
 
-/// Asks an XSUB without peers to send a subscription to a number.
+// Asks an XSUB without peers to send a subscription to a number.
 fn send(alloc: Global, xsub: &mut XSub, peers: &mut TestPeers, number: u32) -> Result<Answer, Fail>
     requires { keys_of xsub.old.followers ≡ [] }
     ensures { keys_of xsub.new.followers ≡ [] }
@@ -52,31 +52,48 @@ fn send(alloc: Global, xsub: &mut XSub, peers: &mut TestPeers, number: u32) -> R
     Ok(sent(xsub.send(alloc, peers, message)))
 }
 
+// Whether a SUB without peers subscribes to 65,536 numbers.
+fn subscribes_to_all(alloc: Global, sub: &mut Sub, peers: &mut TestPeers) -> bool
+    requires { keys_of sub.old.followers ≡ [] }
+    ensures { keys_of sub.new.followers ≡ [] }
+{
+    'numbers: for number in 0..65_536 {
+        if subscribe(alloc, sub, peers, number) != Answer::Done {
+            return false;
+        }
+    }
+    true
+}
+
 #[test]
 fn a_sub_wants_65_536_topics_and_no_more(rt: HostRuntime) -> Result<(), Fail> {
-    let alloc = rt.alloc();
-    let mut peers = TestPeers::new(alloc);
-    let mut sub = Sub::new(alloc);
-    for number in 0..65_536 {
-        assert!(rt; subscribe(alloc, &mut sub, &mut peers, number) == Answer::Done);
-    }
-    assert_eq!(rt;
-        subscribe(alloc, &mut sub, &mut peers, 65_536),
-        Answer::Limit
-    );
-    assert_eq!(rt; subscribe(alloc, &mut sub, &mut peers, 9), Answer::Done);
+    let mut peers = TestPeers::new(rt.alloc());
+    let mut sub = Sub::new(rt.alloc());
+    assert!(rt; subscribes_to_all(rt.alloc(), &mut sub, &mut peers));
+    assert!(rt; subscribe(rt.alloc(), &mut sub, &mut peers, 65_536) == Answer::Limit);
+    assert!(rt; subscribe(rt.alloc(), &mut sub, &mut peers, 9) == Answer::Done);
     Ok(())
+}
+
+// Whether an XSUB without peers sends subscriptions to 65,536 numbers.
+fn sends_all(alloc: Global, xsub: &mut XSub, peers: &mut TestPeers) -> Result<bool, Fail>
+    requires { keys_of xsub.old.followers ≡ [] }
+    ensures { keys_of xsub.new.followers ≡ [] }
+{
+    'numbers: for number in 0..65_536 {
+        if send(alloc, xsub, peers, number)? != Answer::Done {
+            return Ok(false);
+        }
+    }
+    Ok(true)
 }
 
 #[test]
 fn an_xsub_wants_65_536_topics_and_no_more(rt: HostRuntime) -> Result<(), Fail> {
-    let alloc = rt.alloc();
-    let mut peers = TestPeers::new(alloc);
-    let mut xsub = XSub::new(alloc);
-    for number in 0..65_536 {
-        assert!(rt; send(alloc, &mut xsub, &mut peers, number)? == Answer::Done);
-    }
-    assert_eq!(rt; send(alloc, &mut xsub, &mut peers, 65_536)?, Answer::Limit);
-    assert_eq!(rt; send(alloc, &mut xsub, &mut peers, 9)?, Answer::Done);
+    let mut peers = TestPeers::new(rt.alloc());
+    let mut xsub = XSub::new(rt.alloc());
+    assert!(rt; sends_all(rt.alloc(), &mut xsub, &mut peers)?);
+    assert!(rt; send(rt.alloc(), &mut xsub, &mut peers, 65_536)? == Answer::Limit);
+    assert!(rt; send(rt.alloc(), &mut xsub, &mut peers, 9)? == Answer::Done);
     Ok(())
 }

@@ -1,6 +1,7 @@
 ghost use Rattle.std.specs.Prelude.{IfOk};
 ghost use Rattle.spec_pattern.specs.Pipe.{IsCommittable};
 
+use msg_pipe::Taken;
 use std::alloc::Global;
 use std::test::Fail;
 use zq_base::{Frame, Message};
@@ -56,4 +57,22 @@ pub fn one_frame(alloc: Global, octets: &[u8]) -> Result<Message, Fail>
     let mut frames = Vec::with_capacity(alloc, 1)?;
     frames.push_reserved(Frame::of_slice(alloc, octets)?);
     Ok(Message::of_frames(frames))
+}
+
+/// Whether a message has one frame of each of these octets.
+pub fn holds(message: &Message, octets: &[u8]) -> bool {
+    for (frame, octet) in message.frames().iter().zip(octets) {
+        if frame.as_slice() != [*octet].as_slice() {
+            return false;
+        }
+    }
+    message.len() == octets.len()
+}
+
+/// Whether what was taken is the message of one frame of each of these octets.
+pub fn is_item(taken: Taken, octets: &[u8]) -> bool {
+    match taken {
+        Taken::Item(message) => holds(&message, octets),
+        _other => false,
+    }
 }

@@ -23,7 +23,7 @@ pub enum Told {
     Else,
 }
 
-/// What a send told.
+// What a send told.
 fn told_sent(answer: Result<Sent, SendFault>) -> Told {
     match answer {
         Ok(Sent::Many(report)) => Told::Went(report.put.len(), report.full.len()),
@@ -33,7 +33,7 @@ fn told_sent(answer: Result<Sent, SendFault>) -> Told {
     }
 }
 
-/// What a receive told.
+// What a receive told.
 fn told_given(answer: Result<(PairId, Message), RecvFault>) -> Told {
     match answer {
         Ok((pair, message)) => Told::Gave(pair.0, message.frame(0).len()),
@@ -42,7 +42,7 @@ fn told_given(answer: Result<(PairId, Message), RecvFault>) -> Told {
     }
 }
 
-/// Two pairs, of which the first has room for one message. Their peers said these.
+// Two pairs, of which the first has room for one message. Their peers said these.
 fn two(alloc: Global, first: &[u8], second: &[u8]) -> Result<TestPeers, Fail>
     ensures { IfOk result (λ p. length p ≡ 2) }
 {
@@ -54,7 +54,7 @@ fn two(alloc: Global, first: &[u8], second: &[u8]) -> Result<TestPeers, Fail>
     Ok(peers)
 }
 
-/// A PUB with two peers, which it heard.
+// A PUB with two peers, which it heard.
 fn pub_of_two(alloc: Global, peers: &mut TestPeers) -> Result<Pub, Fail>
     requires { length peers.old ≡ 2 }
     ensures there { IfOk result (λ p. All (λ place. place < length peers.new) (keys_of p.subs)) }
@@ -66,7 +66,7 @@ fn pub_of_two(alloc: Global, peers: &mut TestPeers) -> Result<Pub, Fail>
     Ok(publisher)
 }
 
-/// An XPUB with two peers.
+// An XPUB with two peers.
 fn xpub_of_two(alloc: Global, peers: &TestPeers, verbose: bool) -> Result<XPub, Fail>
     requires { length peers.now ≡ 2 }
     ensures there { IfOk result (λ p. All (λ place. place < length peers.now) (keys_of p.subs)) }
@@ -77,7 +77,7 @@ fn xpub_of_two(alloc: Global, peers: &TestPeers, verbose: bool) -> Result<XPub, 
     Ok(publisher)
 }
 
-/// Sends a message of one frame from a PUB.
+// Sends a message of one frame from a PUB.
 fn send(alloc: Global, publisher: &Pub, peers: &mut TestPeers, body: &[u8]) -> Result<Told, Fail>
     requires there { All (λ place. place < length peers.old) (keys_of publisher.now.subs) }
     ensures there { All (λ place. place < length peers.new) (keys_of publisher.now.subs) }
@@ -85,7 +85,7 @@ fn send(alloc: Global, publisher: &Pub, peers: &mut TestPeers, body: &[u8]) -> R
     Ok(told_sent(publisher.send(alloc, peers, one_frame(alloc, body)?)))
 }
 
-/// Sends a message of one frame from an XPUB.
+// Sends a message of one frame from an XPUB.
 fn send_told(
     alloc: Global,
     publisher: &XPub,
@@ -98,7 +98,7 @@ fn send_told(
     Ok(told_sent(publisher.send(alloc, peers, one_frame(alloc, body)?)))
 }
 
-/// The peer at place 0 of a PUB goes.
+// The peer at place 0 of a PUB goes.
 fn leave(publisher: &mut Pub, peers: &TestPeers)
     requires there { All (λ place. place < length peers.now) (keys_of publisher.old.subs) }
     ensures there { All (λ place. place < length peers.now) (keys_of publisher.new.subs) }
@@ -106,7 +106,7 @@ fn leave(publisher: &mut Pub, peers: &TestPeers)
     publisher.detach(0);
 }
 
-/// The peer at place 0 of an XPUB goes.
+// The peer at place 0 of an XPUB goes.
 fn leave_told(publisher: &mut XPub, peers: &TestPeers)
     requires there { All (λ place. place < length peers.now) (keys_of publisher.old.subs) }
     ensures there { All (λ place. place < length peers.now) (keys_of publisher.new.subs) }
@@ -114,7 +114,7 @@ fn leave_told(publisher: &mut XPub, peers: &TestPeers)
     publisher.detach(PairId(1), 0);
 }
 
-/// Receives at an XPUB.
+// Receives at an XPUB.
 fn receive(alloc: Global, publisher: &mut XPub, peers: &mut TestPeers) -> Told
     requires there { All (λ place. place < length peers.old) (keys_of publisher.old.subs) }
     ensures there { All (λ place. place < length peers.new) (keys_of publisher.new.subs) }
@@ -122,7 +122,7 @@ fn receive(alloc: Global, publisher: &mut XPub, peers: &mut TestPeers) -> Told
     told_given(publisher.recv(alloc, peers))
 }
 
-/// Whether an XPUB hears its peers.
+// Whether an XPUB hears its peers.
 fn hears(alloc: Global, publisher: &mut XPub, peers: &mut TestPeers) -> bool
     requires there { All (λ place. place < length peers.old) (keys_of publisher.old.subs) }
     ensures there { All (λ place. place < length peers.new) (keys_of publisher.new.subs) }
@@ -130,7 +130,7 @@ fn hears(alloc: Global, publisher: &mut XPub, peers: &mut TestPeers) -> bool
     publisher.hear_peers(alloc, peers).is_ok()
 }
 
-/// One pair, whose peer said 1,001 messages which are no subscriptions.
+// One pair, whose peer said 1,001 messages which are no subscriptions.
 fn one_full(alloc: Global) -> Result<TestPeers, Fail>
     ensures { IfOk result (λ p. length p ≡ 1) }
 {
@@ -142,7 +142,7 @@ fn one_full(alloc: Global) -> Result<TestPeers, Fail>
     Ok(peers)
 }
 
-/// An XPUB with one peer.
+// An XPUB with one peer.
 fn xpub_of_one(alloc: Global, peers: &TestPeers) -> Result<XPub, Fail>
     requires { length peers.now ≡ 1 }
     ensures there { IfOk result (λ p. All (λ place. place < length peers.now) (keys_of p.subs)) }
@@ -152,7 +152,7 @@ fn xpub_of_one(alloc: Global, peers: &TestPeers) -> Result<XPub, Fail>
     Ok(publisher)
 }
 
-/// Whether a message waits at the near end of the first pair, which it takes.
+// Whether a message waits at the near end of the first pair, which it takes.
 fn has_message(peers: &mut TestPeers) -> Result<bool, Fail> {
     if peers.count() == 0 {
         Err("one pair")?;
@@ -163,28 +163,63 @@ fn has_message(peers: &mut TestPeers) -> Result<bool, Fail> {
     }
 }
 
+// Whether sends of messages of one frame from a PUB tell these.
+fn sends(
+    alloc: Global,
+    publisher: &Pub,
+    peers: &mut TestPeers,
+    wanted: &[(&[u8], Told)],
+) -> Result<bool, Fail>
+    requires there { All (λ place. place < length peers.old) (keys_of publisher.now.subs) }
+    ensures there { All (λ place. place < length peers.new) (keys_of publisher.now.subs) }
+{
+    'rows: for (body, told) in wanted {
+        if send(alloc, publisher, peers, body)? != *told {
+            return Ok(false);
+        }
+    }
+    Ok(true)
+}
+
+// Whether receives at an XPUB tell these.
+fn receives(alloc: Global, publisher: &mut XPub, peers: &mut TestPeers, wanted: &[Told]) -> bool
+    requires there { All (λ place. place < length peers.old) (keys_of publisher.old.subs) }
+    ensures there { All (λ place. place < length peers.new) (keys_of publisher.new.subs) }
+{
+    'rows: for told in wanted {
+        if receive(alloc, publisher, peers) != *told {
+            return false;
+        }
+    }
+    true
+}
+
+// Whether an XPUB hears its peers so often.
+fn hears_often(alloc: Global, publisher: &mut XPub, peers: &mut TestPeers, times: u32) -> bool
+    requires there { All (λ place. place < length peers.old) (keys_of publisher.old.subs) }
+    ensures there { All (λ place. place < length peers.new) (keys_of publisher.new.subs) }
+{
+    'times: for _ in 0..times {
+        if !hears(alloc, publisher, peers) {
+            return false;
+        }
+    }
+    true
+}
+
 #[test]
 fn a_pub_sends_to_the_peers_that_match(rt: HostRuntime) -> Result<(), Fail> {
     let alloc = rt.alloc();
     let mut peers = two(alloc, &[1], &[1, b'a'])?;
     let mut publisher = pub_of_two(alloc, &mut peers)?;
-    assert_eq!(rt;
-        send(alloc, &publisher, &mut peers, b"ab")?,
-        Told::Went(2, 0)
-    );
-    assert_eq!(rt;
-        send(alloc, &publisher, &mut peers, b"a")?,
-        Told::Went(1, 1)
-    );
-    assert_eq!(rt;
-        send(alloc, &publisher, &mut peers, b"b")?,
-        Told::Dropped(Rule::PubFull)
-    );
+    let wanted: [(&[u8], Told); 3] = [
+        (b"ab", Told::Went(2, 0)),
+        (b"a", Told::Went(1, 1)),
+        (b"b", Told::Dropped(Rule::PubFull)),
+    ];
+    assert!(rt; sends(alloc, &publisher, &mut peers, &wanted)?);
     leave(&mut publisher, &peers);
-    assert_eq!(rt;
-        send(alloc, &publisher, &mut peers, b"b")?,
-        Told::Dropped(Rule::NoMatch)
-    );
+    assert!(rt; send(alloc, &publisher, &mut peers, b"b")? == Told::Dropped(Rule::NoMatch));
     Ok(())
 }
 
@@ -193,13 +228,10 @@ fn a_pub_never_receives_and_sends_1_023_frames(rt: HostRuntime) -> Result<(), Fa
     let alloc = rt.alloc();
     let mut peers = two(alloc, &[1], &[1])?;
     let publisher = pub_of_two(alloc, &mut peers)?;
-    assert_eq!(rt;
-        told_sent(publisher.send(alloc, &mut peers, frames(alloc, 1024)?)),
-        Told::NotSent(SendRefusal::TooLarge)
-    );
-    assert_eq!(rt;
-        told_given(publisher.recv(&mut peers)),
-        Told::NotGiven(RecvRefusal::NotSupported)
+    let sent = told_sent(publisher.send(alloc, &mut peers, frames(alloc, 1024)?));
+    assert!(rt; sent == Told::NotSent(SendRefusal::TooLarge));
+    assert!(rt;
+        told_given(publisher.recv(&mut peers)) == Told::NotGiven(RecvRefusal::NotSupported)
     );
     Ok(())
 }
@@ -209,28 +241,13 @@ fn an_xpub_tells_its_user_what_is_news(rt: HostRuntime) -> Result<(), Fail> {
     let alloc = rt.alloc();
     let mut peers = two(alloc, &[1, b'a', b'b'], &[1, b'a', b'b'])?;
     let mut publisher = xpub_of_two(alloc, &peers, false)?;
-    assert_eq!(rt;
-        receive(alloc, &mut publisher, &mut peers),
-        Told::Gave(1, 3)
-    );
-    assert_eq!(rt;
-        receive(alloc, &mut publisher, &mut peers),
-        Told::NotGiven(RecvRefusal::Again)
-    );
+    let wanted = [Told::Gave(1, 3), Told::NotGiven(RecvRefusal::Again)];
+    assert!(rt; receives(alloc, &mut publisher, &mut peers, &wanted));
     peers.far_put(1, one_frame(alloc, &[0, b'a', b'b'])?)?;
-    assert_eq!(rt;
-        receive(alloc, &mut publisher, &mut peers),
-        Told::NotGiven(RecvRefusal::Again)
-    );
-    assert_eq!(rt;
-        send_told(alloc, &publisher, &mut peers, b"abc")?,
-        Told::Went(1, 0)
-    );
+    assert!(rt; receives(alloc, &mut publisher, &mut peers, &wanted[1..]));
+    assert!(rt; send_told(alloc, &publisher, &mut peers, b"abc")? == Told::Went(1, 0));
     leave_told(&mut publisher, &peers);
-    assert_eq!(rt;
-        receive(alloc, &mut publisher, &mut peers),
-        Told::Gave(1, 3)
-    );
+    assert!(rt; receive(alloc, &mut publisher, &mut peers) == Told::Gave(1, 3));
     Ok(())
 }
 
@@ -240,18 +257,8 @@ fn a_verbose_xpub_tells_of_each_add_and_of_all_else(rt: HostRuntime) -> Result<(
     let mut peers = two(alloc, &[1, b'a'], &[1, b'a'])?;
     peers.far_put(1, one_frame(alloc, b"else")?)?;
     let mut publisher = xpub_of_two(alloc, &peers, true)?;
-    assert_eq!(rt;
-        receive(alloc, &mut publisher, &mut peers),
-        Told::Gave(1, 2)
-    );
-    assert_eq!(rt;
-        receive(alloc, &mut publisher, &mut peers),
-        Told::Gave(2, 2)
-    );
-    assert_eq!(rt;
-        receive(alloc, &mut publisher, &mut peers),
-        Told::Gave(2, 4)
-    );
+    let wanted = [Told::Gave(1, 2), Told::Gave(2, 2), Told::Gave(2, 4)];
+    assert!(rt; receives(alloc, &mut publisher, &mut peers, &wanted));
     Ok(())
 }
 
@@ -260,12 +267,7 @@ fn an_xpub_stops_hearing_where_1_000_wait(rt: HostRuntime) -> Result<(), Fail> {
     let alloc = rt.alloc();
     let mut peers = one_full(alloc)?;
     let mut publisher = xpub_of_one(alloc, &peers)?;
-    assert!(rt; hears(alloc, &mut publisher, &mut peers));
-    assert!(rt; hears(alloc, &mut publisher, &mut peers));
-    assert!(rt; hears(alloc, &mut publisher, &mut peers));
-    assert!(rt; hears(alloc, &mut publisher, &mut peers));
-    assert!(rt; hears(alloc, &mut publisher, &mut peers));
-    assert!(rt; has_message(&mut peers)?);
-    assert!(rt; !has_message(&mut peers)?);
+    assert!(rt; hears_often(alloc, &mut publisher, &mut peers, 5));
+    assert!(rt; has_message(&mut peers)? && !has_message(&mut peers)?);
     Ok(())
 }

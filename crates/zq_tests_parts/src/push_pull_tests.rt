@@ -49,7 +49,7 @@ pub fn two(alloc: Global) -> Result<TestPeers, Fail>
     Ok(peers)
 }
 
-/// Sends a message of so many frames from a PUSH.
+// Sends a message of so many frames from a PUSH.
 fn send(alloc: Global, push: &mut Push, peers: &mut TestPeers, count: usize) -> Result<Told, Fail>
     requires there { All (λ place. place < length peers.old) push.old }
     ensures there { All (λ place. place < length peers.new) push.new }
@@ -57,7 +57,7 @@ fn send(alloc: Global, push: &mut Push, peers: &mut TestPeers, count: usize) -> 
     Ok(told_sent(push.send(peers, frames(alloc, count)?)))
 }
 
-/// Receives at a PULL.
+// Receives at a PULL.
 fn receive(pull: &mut Pull, peers: &mut TestPeers) -> Told
     requires there { All (λ place. place < length peers.old) pull.old }
     ensures there { All (λ place. place < length peers.new) pull.new }
@@ -65,7 +65,7 @@ fn receive(pull: &mut Pull, peers: &mut TestPeers) -> Told
     told_got(pull.recv(peers))
 }
 
-/// Sends a message of so many frames from a PAIR.
+// Sends a message of so many frames from a PAIR.
 fn pair_send(
     alloc: Global,
     pair: &mut PairSock,
@@ -78,7 +78,7 @@ fn pair_send(
     Ok(told_sent(pair.send(peers, frames(alloc, count)?)))
 }
 
-/// Receives at a PAIR.
+// Receives at a PAIR.
 fn pair_receive(pair: &mut PairSock, peers: &mut TestPeers) -> Told
     requires there { All (λ place. place < length peers.old) pair.old }
     ensures there { All (λ place. place < length peers.new) pair.new }
@@ -86,85 +86,177 @@ fn pair_receive(pair: &mut PairSock, peers: &mut TestPeers) -> Told
     told_got(pair.recv(peers))
 }
 
-#[test]
-fn a_push_sends_by_turn_and_never_receives(rt: HostRuntime) -> Result<(), Fail> {
-    let alloc = rt.alloc();
-    let mut peers = two(alloc)?;
+// Whether sends of so many frames from a PUSH tell these.
+fn sends(
+    alloc: Global,
+    push: &mut Push,
+    peers: &mut TestPeers,
+    wanted: &[(usize, Told)],
+) -> Result<bool, Fail>
+    requires there { All (λ place. place < length peers.old) push.old }
+    ensures there { All (λ place. place < length peers.new) push.new }
+{
+    'rows: for (count, told) in wanted {
+        if send(alloc, push, peers, *count)? != *told {
+            return Ok(false);
+        }
+    }
+    Ok(true)
+}
+
+// Whether sends of so many frames from a PAIR tell these.
+fn pair_sends(
+    alloc: Global,
+    pair: &mut PairSock,
+    peers: &mut TestPeers,
+    wanted: &[(usize, Told)],
+) -> Result<bool, Fail>
+    requires there { All (λ place. place < length peers.old) pair.old }
+    ensures there { All (λ place. place < length peers.new) pair.new }
+{
+    'rows: for (count, told) in wanted {
+        if pair_send(alloc, pair, peers, *count)? != *told {
+            return Ok(false);
+        }
+    }
+    Ok(true)
+}
+
+// How many frames the next message at the far end of a pair has.
+fn count_taken(peers: &mut TestPeers, place: usize) -> Result<usize, Fail>
+    ensures { length peers.new ≡ length peers.old }
+{
+    match peers.far_take(place)? {
+        Taken::Item(message) => Ok(message.len()),
+        _other => Err("a message is there")?,
+    }
+}
+
+// A PUSH with the ends at places 0 and 1.
+fn push_of_two(alloc: Global) -> Result<Push, Fail>
+    ensures { IfOk result (λ push. All (λ place. place < 2) push) }
+{
     let mut push = Push::new(alloc);
     push.attach(0)?;
     push.attach(1)?;
-    assert_eq!(rt; send(alloc, &mut push, &mut peers, 1)?, Told::Sent(1));
-    assert_eq!(rt; send(alloc, &mut push, &mut peers, 1023)?, Told::Sent(2));
-    assert_eq!(rt;
-        send(alloc, &mut push, &mut peers, 1)?,
-        Told::NotSent(SendRefusal::Again)
-    );
-    assert_eq!(rt;
-        send(alloc, &mut push, &mut peers, 1024)?,
-        Told::NotSent(SendRefusal::TooLarge)
-    );
-    assert_eq!(rt;
-        told_got(push.recv(&mut peers)),
-        Told::NotGot(RecvRefusal::NotSupported)
-    );
-    match peers.far_take(1)? {
-        Taken::Item(message) => assert_eq!(rt; message.len(), 1023),
-        _other => Err("the second message is there")?,
-    }
-    assert_eq!(rt; send(alloc, &mut push, &mut peers, 1)?, Told::Sent(2));
+    Ok(push)
+}
+
+// Whether a PUSH receives nothing, and sends on once its second peer has taken 1,023 frames.
+fn sends_on(alloc: Global, push: &mut Push, peers: &mut TestPeers) -> Result<bool, Fail>
+    requires there { All (λ place. place < length peers.old) push.old }
+{
+    let never = told_got(push.recv(peers)) == Told::NotGot(RecvRefusal::NotSupported);
+    let taken = count_taken(peers, 1)? == 1023;
+    Ok(never && taken && send(alloc, push, peers, 1)? == Told::Sent(2))
+}
+
+#[test]
+fn a_push_sends_by_turn_and_never_receives(rt: HostRuntime) -> Result<(), Fail> {
+    let mut peers = two(rt.alloc())?;
+    let mut push = push_of_two(rt.alloc())?;
+    let wanted = [
+        (1, Told::Sent(1)),
+        (1023, Told::Sent(2)),
+        (1, Told::NotSent(SendRefusal::Again)),
+        (1024, Told::NotSent(SendRefusal::TooLarge)),
+    ];
+    assert!(rt; sends(rt.alloc(), &mut push, &mut peers, &wanted)?);
+    assert!(rt; sends_on(rt.alloc(), &mut push, &mut peers)?);
     push.detach(0);
     Ok(())
 }
 
-#[test]
-fn a_pull_receives_by_turn_and_never_sends(rt: HostRuntime) -> Result<(), Fail> {
-    let alloc = rt.alloc();
+// Whether a PULL hands a message of three frames back.
+fn hands_back(answer: Result<Sent, SendFault>) -> bool {
+    match answer {
+        Err(SendFault::Refused(SendRefusal::NotSupported, back)) => back.len() == 3,
+        _other => false,
+    }
+}
+
+// Two pairs, of which the second has a message.
+fn two_and_a_message(alloc: Global) -> Result<TestPeers, Fail>
+    ensures { IfOk result (λ p. length p ≡ 2) }
+{
     let mut peers = two(alloc)?;
+    peers.far_put(1, message(alloc, b"x")?)?;
+    Ok(peers)
+}
+
+// A PULL with the ends at places 0 and 1.
+fn pull_of_two(alloc: Global) -> Result<Pull, Fail>
+    ensures { IfOk result (λ pull. All (λ place. place < 2) pull) }
+{
     let mut pull = Pull::new(alloc);
     pull.attach(0)?;
     pull.attach(1)?;
-    peers.far_put(1, message(alloc, b"x")?)?;
-    assert_eq!(rt; receive(&mut pull, &mut peers), Told::Got(2));
-    assert_eq!(rt;
-        receive(&mut pull, &mut peers),
-        Told::NotGot(RecvRefusal::Again)
-    );
-    match pull.send(&mut peers, frames(alloc, 3)?) {
-        Err(SendFault::Refused(refusal, back)) => {
-            assert_eq!(rt; refusal, SendRefusal::NotSupported);
-            assert_eq!(rt; back.len(), 3);
-        }
-        _other => Err("a PULL never sends")?,
-    }
+    Ok(pull)
+}
+
+// Whether a PULL receives the one message that is there.
+fn receives_once(pull: &mut Pull, peers: &mut TestPeers) -> bool
+    requires there { All (λ place. place < length peers.old) pull.old }
+    ensures there { All (λ place. place < length peers.new) pull.new }
+{
+    let first = receive(pull, peers) == Told::Got(2);
+    first && receive(pull, peers) == Told::NotGot(RecvRefusal::Again)
+}
+
+#[test]
+fn a_pull_receives_by_turn_and_never_sends(rt: HostRuntime) -> Result<(), Fail> {
+    let mut peers = two_and_a_message(rt.alloc())?;
+    let mut pull = pull_of_two(rt.alloc())?;
+    assert!(rt; receives_once(&mut pull, &mut peers));
+    assert!(rt; hands_back(pull.send(&mut peers, frames(rt.alloc(), 3)?)));
     pull.detach(1);
     Ok(())
 }
 
+// Whether a PAIR takes a second peer once the first is gone.
+fn changes_its_peer(pair: &mut PairSock) -> Result<bool, Fail> {
+    pair.detach(0);
+    let second = pair.attach(0)? == Attached::Second;
+    pair.detach(1);
+    Ok(second && pair.attach(0)? == Attached::Yes)
+}
+
+// A PAIR whose peer is at place 1, and whether it takes a second one.
+fn pair_of_one(alloc: Global) -> Result<(PairSock, bool), Fail>
+    ensures { IfOk result (λ made. All (λ place. place < 2) made.0) }
+{
+    let mut pair = PairSock::new(alloc);
+    let first = pair.attach(1)? == Attached::Yes;
+    let second = pair.attach(0)? == Attached::Second;
+    Ok((pair, first && second))
+}
+
+// Whether a PAIR receives the one message that is there.
+fn pair_receives_once(pair: &mut PairSock, peers: &mut TestPeers) -> bool
+    requires there { All (λ place. place < length peers.old) pair.old }
+{
+    let first = pair_receive(pair, peers) == Told::Got(2);
+    first && pair_receive(pair, peers) == Told::NotGot(RecvRefusal::Again)
+}
+
 #[test]
 fn a_pair_has_one_peer(rt: HostRuntime) -> Result<(), Fail> {
-    let alloc = rt.alloc();
-    let mut peers = two(alloc)?;
-    peers.far_put(1, message(alloc, b"x")?)?;
-    let mut pair = PairSock::new(alloc);
-    assert_eq!(rt; pair.attach(1)?, Attached::Yes);
-    assert_eq!(rt; pair.attach(0)?, Attached::Second);
-    assert_eq!(rt; pair_send(alloc, &mut pair, &mut peers, 1)?, Told::Sent(2));
-    assert_eq!(rt;
-        pair_send(alloc, &mut pair, &mut peers, 1)?,
-        Told::NotSent(SendRefusal::Again)
-    );
-    assert_eq!(rt;
-        pair_send(alloc, &mut pair, &mut peers, 1024)?,
-        Told::NotSent(SendRefusal::TooLarge)
-    );
-    assert_eq!(rt; pair_receive(&mut pair, &mut peers), Told::Got(2));
-    assert_eq!(rt;
-        pair_receive(&mut pair, &mut peers),
-        Told::NotGot(RecvRefusal::Again)
-    );
-    pair.detach(0);
-    assert_eq!(rt; pair.attach(0)?, Attached::Second);
-    pair.detach(1);
-    assert_eq!(rt; pair.attach(0)?, Attached::Yes);
+    let mut peers = two_and_a_message(rt.alloc())?;
+    let (mut pair, has_one_peer) = pair_of_one(rt.alloc())?;
+    let wanted = [
+        (1, Told::Sent(2)),
+        (1, Told::NotSent(SendRefusal::Again)),
+        (1024, Told::NotSent(SendRefusal::TooLarge)),
+    ];
+    assert!(rt; has_one_peer && pair_sends(rt.alloc(), &mut pair, &mut peers, &wanted)?);
+    assert!(rt; pair_receives_once(&mut pair, &mut peers));
+    Ok(())
+}
+
+#[test]
+fn a_pair_takes_another_peer_once_the_first_is_gone(rt: HostRuntime) -> Result<(), Fail> {
+    let mut pair = PairSock::new(rt.alloc());
+    assert!(rt; pair.attach(1)? == Attached::Yes);
+    assert!(rt; changes_its_peer(&mut pair)?);
     Ok(())
 }

@@ -1,4 +1,4 @@
-ghost use Rattle.std.specs.Prelude.{length, ◌<◌, All, IfOk};
+ghost use Rattle.std.specs.Prelude.{◌≡◌, length, ◌<◌, All, IfOk};
 ghost use Rattle.spec_pattern.specs.Pipe.{IsCommittable};
 
 use crate::messages::{frames, message};
@@ -11,7 +11,7 @@ use std::alloc::Global;
 use std::test::Fail;
 use zq_base::{Frame, Message};
 
-/// A message of one frame behind an empty one.
+// A message of one frame behind an empty one.
 fn delimited(alloc: Global) -> Result<Message, Fail>
     ensures { IfOk result (λ m. IsCommittable m) }
 {
@@ -33,7 +33,7 @@ fn delimited(alloc: Global) -> Result<Message, Fail>
     }
 }
 
-/// Sends a request of so many frames.
+// Sends a request of so many frames.
 fn ask(alloc: Global, req: &mut Req, peers: &mut TestPeers, count: usize) -> Result<Told, Fail>
     requires outs { All (λ place. place < length peers.old) req.old.outs }
     requires ins { All (λ place. place < length peers.old) req.old.ins }
@@ -43,7 +43,7 @@ fn ask(alloc: Global, req: &mut Req, peers: &mut TestPeers, count: usize) -> Res
     Ok(told_sent(req.send(peers, frames(alloc, count)?)))
 }
 
-/// Receives a reply.
+// Receives a reply.
 fn hear(req: &mut Req, peers: &mut TestPeers, skips: &mut Vec<Skip>) -> Told
     requires outs { All (λ place. place < length peers.old) req.old.outs }
     requires ins { All (λ place. place < length peers.old) req.old.ins }
@@ -53,7 +53,7 @@ fn hear(req: &mut Req, peers: &mut TestPeers, skips: &mut Vec<Skip>) -> Told
     told_got(req.recv(peers, skips))
 }
 
-/// Receives a request.
+// Receives a request.
 fn serve(rep: &mut Rep, peers: &mut TestPeers, skips: &mut Vec<Skip>) -> Told
     requires ins { All (λ place. place < length peers.old) rep.old.ins }
     ensures ins { All (λ place. place < length peers.new) rep.new.ins }
@@ -61,7 +61,7 @@ fn serve(rep: &mut Rep, peers: &mut TestPeers, skips: &mut Vec<Skip>) -> Told
     told_got(rep.recv(peers, skips))
 }
 
-/// Sends a reply of so many frames.
+// Sends a reply of so many frames.
 fn answer(alloc: Global, rep: &mut Rep, peers: &mut TestPeers, count: usize) -> Result<Told, Fail>
     requires ins { All (λ place. place < length peers.old) rep.old.ins }
     ensures ins { All (λ place. place < length peers.new) rep.new.ins }
@@ -69,7 +69,7 @@ fn answer(alloc: Global, rep: &mut Rep, peers: &mut TestPeers, count: usize) -> 
     Ok(told_sent(rep.send(peers, frames(alloc, count)?)))
 }
 
-/// How many frames the next message at the far end of the first pair has.
+// How many frames the next message at the far end of the first pair has.
 fn count_taken(peers: &mut TestPeers) -> Result<usize, Fail> {
     match peers.far_take(0)? {
         Taken::Item(message) => Ok(message.len()),
@@ -77,44 +77,95 @@ fn count_taken(peers: &mut TestPeers) -> Result<usize, Fail> {
     }
 }
 
-#[test]
-fn a_req_asks_and_hears_the_reply(rt: HostRuntime) -> Result<(), Fail> {
-    let alloc = rt.alloc();
+// A pair whose far end has said `x`, and a reply behind it.
+fn with_reply(alloc: Global) -> Result<TestPeers, Fail>
+    ensures { IfOk result (λ p. length p ≡ 1) }
+{
     let mut peers = TestPeers::new(alloc);
     peers.attach(alloc, 2)?;
     peers.far_put(0, message(alloc, b"x")?)?;
     peers.far_put(0, delimited(alloc)?)?;
-    let mut skips = Vec::new(alloc);
+    Ok(peers)
+}
+
+// A REQ with the end at place 0.
+fn req_of_one(alloc: Global) -> Result<Req, Fail>
+    ensures outs { IfOk result (λ req. All (λ place. place < 1) req.outs) }
+    ensures ins { IfOk result (λ req. All (λ place. place < 1) req.ins) }
+{
     let mut req = Req::new(alloc);
     req.attach(0)?;
-    assert_eq!(rt; ask(alloc, &mut req, &mut peers, 1022)?, Told::Sent(1));
-    assert_eq!(rt;
-        ask(alloc, &mut req, &mut peers, 1)?,
-        Told::NotSent(SendRefusal::Fsm)
-    );
-    assert_eq!(rt; hear(&mut req, &mut peers, &mut skips), Told::Got(1));
-    assert_eq!(rt; skips.len(), 1);
+    Ok(req)
+}
+
+// Whether a REQ asks, and then asks no more.
+fn asks_once(alloc: Global, req: &mut Req, peers: &mut TestPeers) -> Result<bool, Fail>
+    requires outs { All (λ place. place < length peers.old) req.old.outs }
+    requires ins { All (λ place. place < length peers.old) req.old.ins }
+    ensures outs { All (λ place. place < length peers.new) req.new.outs }
+    ensures ins { All (λ place. place < length peers.new) req.new.ins }
+{
+    let first = ask(alloc, req, peers, 1022)? == Told::Sent(1);
+    let second = ask(alloc, req, peers, 1)? == Told::NotSent(SendRefusal::Fsm);
+    Ok(first && second)
+}
+
+// Whether a REQ hears the reply, behind a message that it drops.
+fn hears_behind_a_drop(alloc: Global, req: &mut Req, peers: &mut TestPeers) -> bool
+    requires outs { All (λ place. place < length peers.old) req.old.outs }
+    requires ins { All (λ place. place < length peers.old) req.old.ins }
+{
+    let mut skips = Vec::new(alloc);
+    hear(req, peers, &mut skips) == Told::Got(1) && skips.len() == 1
+}
+
+#[test]
+fn a_req_asks_and_hears_the_reply(rt: HostRuntime) -> Result<(), Fail> {
+    let mut peers = with_reply(rt.alloc())?;
+    let mut req = req_of_one(rt.alloc())?;
+    assert!(rt; asks_once(rt.alloc(), &mut req, &mut peers)?);
+    assert!(rt; hears_behind_a_drop(rt.alloc(), &mut req, &mut peers));
     req.detach(0);
-    assert_eq!(rt; count_taken(&mut peers)?, 1023);
+    assert!(rt; count_taken(&mut peers)? == 1023);
     Ok(())
+}
+
+// A pair whose far end has said a request.
+fn with_request(alloc: Global) -> Result<TestPeers, Fail>
+    ensures { IfOk result (λ p. length p ≡ 1) }
+{
+    let mut peers = TestPeers::new(alloc);
+    peers.attach(alloc, 2)?;
+    peers.far_put(0, delimited(alloc)?)?;
+    Ok(peers)
+}
+
+// A REP with the end at place 0.
+fn rep_of_one(alloc: Global) -> Result<Rep, Fail>
+    ensures ins { IfOk result (λ rep. All (λ place. place < 1) rep.ins) }
+{
+    let mut rep = Rep::new(alloc);
+    rep.attach(0)?;
+    Ok(rep)
+}
+
+// Whether a REP receives a request, and then receives no more.
+fn serves_once(alloc: Global, rep: &mut Rep, peers: &mut TestPeers) -> bool
+    requires ins { All (λ place. place < length peers.old) rep.old.ins }
+    ensures ins { All (λ place. place < length peers.new) rep.new.ins }
+{
+    let mut skips = Vec::new(alloc);
+    let first = serve(rep, peers, &mut skips) == Told::Got(1);
+    first && serve(rep, peers, &mut skips) == Told::NotGot(RecvRefusal::Fsm)
 }
 
 #[test]
 fn a_rep_answers_behind_the_envelope(rt: HostRuntime) -> Result<(), Fail> {
-    let alloc = rt.alloc();
-    let mut peers = TestPeers::new(alloc);
-    peers.attach(alloc, 2)?;
-    peers.far_put(0, delimited(alloc)?)?;
-    let mut skips = Vec::new(alloc);
-    let mut rep = Rep::new(alloc);
-    rep.attach(0)?;
-    assert_eq!(rt; serve(&mut rep, &mut peers, &mut skips), Told::Got(1));
-    assert_eq!(rt;
-        serve(&mut rep, &mut peers, &mut skips),
-        Told::NotGot(RecvRefusal::Fsm)
-    );
-    assert_eq!(rt; answer(alloc, &mut rep, &mut peers, 1)?, Told::Sent(1));
+    let mut peers = with_request(rt.alloc())?;
+    let mut rep = rep_of_one(rt.alloc())?;
+    assert!(rt; serves_once(rt.alloc(), &mut rep, &mut peers));
+    assert!(rt; answer(rt.alloc(), &mut rep, &mut peers, 1)? == Told::Sent(1));
     rep.detach(0);
-    assert_eq!(rt; count_taken(&mut peers)?, 2);
+    assert!(rt; count_taken(&mut peers)? == 2);
     Ok(())
 }

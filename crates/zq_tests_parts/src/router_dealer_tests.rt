@@ -1,4 +1,4 @@
-ghost use Rattle.std.specs.Prelude.{length, ◌<◌, All};
+ghost use Rattle.std.specs.Prelude.{◌≡◌, length, ◌<◌, All, IfOk};
 
 use crate::messages::{frames, message};
 use crate::peers::TestPeers;
@@ -8,7 +8,7 @@ use spec_pattern::RecvRefusal;
 use std::alloc::Global;
 use std::test::Fail;
 
-/// Sends a message of so many frames from a DEALER.
+// Sends a message of so many frames from a DEALER.
 fn send(
     alloc: Global,
     dealer: &mut Dealer,
@@ -23,7 +23,7 @@ fn send(
     Ok(told_sent(dealer.send(peers, frames(alloc, count)?)))
 }
 
-/// Receives at a DEALER.
+// Receives at a DEALER.
 fn receive(dealer: &mut Dealer, peers: &mut TestPeers) -> Told
     requires outs { All (λ place. place < length peers.old) dealer.old.outs }
     requires ins { All (λ place. place < length peers.old) dealer.old.ins }
@@ -33,21 +33,53 @@ fn receive(dealer: &mut Dealer, peers: &mut TestPeers) -> Told
     told_got(dealer.recv(peers))
 }
 
-#[test]
-fn a_dealer_sends_and_receives_by_turn(rt: HostRuntime) -> Result<(), Fail> {
-    let alloc = rt.alloc();
+// Two pairs, of which the second has a message.
+fn two_and_a_message(alloc: Global) -> Result<TestPeers, Fail>
+    ensures { IfOk result (λ p. length p ≡ 2) }
+{
     let mut peers = two(alloc)?;
+    peers.far_put(1, message(alloc, b"x")?)?;
+    Ok(peers)
+}
+
+// A DEALER with the ends at places 0 and 1.
+fn dealer_of_two(alloc: Global) -> Result<Dealer, Fail>
+    ensures outs { IfOk result (λ dealer. All (λ place. place < 2) dealer.outs) }
+    ensures ins { IfOk result (λ dealer. All (λ place. place < 2) dealer.ins) }
+{
     let mut dealer = Dealer::new(alloc);
     dealer.attach(0)?;
     dealer.attach(1)?;
-    peers.far_put(1, message(alloc, b"x")?)?;
-    assert_eq!(rt; send(alloc, &mut dealer, &mut peers, 1)?, Told::Sent(1));
-    assert_eq!(rt; send(alloc, &mut dealer, &mut peers, 1023)?, Told::Sent(2));
-    assert_eq!(rt; receive(&mut dealer, &mut peers), Told::Got(2));
-    assert_eq!(rt;
-        receive(&mut dealer, &mut peers),
-        Told::NotGot(RecvRefusal::Again)
-    );
+    Ok(dealer)
+}
+
+// Whether a DEALER sends by turn.
+fn sends_by_turn(alloc: Global, dealer: &mut Dealer, peers: &mut TestPeers) -> Result<bool, Fail>
+    requires outs { All (λ place. place < length peers.old) dealer.old.outs }
+    requires ins { All (λ place. place < length peers.old) dealer.old.ins }
+    ensures outs { All (λ place. place < length peers.new) dealer.new.outs }
+    ensures ins { All (λ place. place < length peers.new) dealer.new.ins }
+{
+    let first = send(alloc, dealer, peers, 1)? == Told::Sent(1);
+    let second = send(alloc, dealer, peers, 1023)? == Told::Sent(2);
+    Ok(first && second)
+}
+
+// Whether a DEALER receives the one message that is there.
+fn receives_once(dealer: &mut Dealer, peers: &mut TestPeers) -> bool
+    requires outs { All (λ place. place < length peers.old) dealer.old.outs }
+    requires ins { All (λ place. place < length peers.old) dealer.old.ins }
+{
+    let first = receive(dealer, peers) == Told::Got(2);
+    first && receive(dealer, peers) == Told::NotGot(RecvRefusal::Again)
+}
+
+#[test]
+fn a_dealer_sends_and_receives_by_turn(rt: HostRuntime) -> Result<(), Fail> {
+    let mut peers = two_and_a_message(rt.alloc())?;
+    let mut dealer = dealer_of_two(rt.alloc())?;
+    assert!(rt; sends_by_turn(rt.alloc(), &mut dealer, &mut peers)?);
+    assert!(rt; receives_once(&mut dealer, &mut peers));
     dealer.detach(0);
     Ok(())
 }

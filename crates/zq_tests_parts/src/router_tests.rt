@@ -10,7 +10,7 @@ use std::alloc::Global;
 use std::test::Fail;
 use zq_base::{Frame, Message, PairId};
 
-/// A ROUTER without peers.
+// A ROUTER without peers.
 fn fresh(alloc: Global, mandatory: bool, peers: &TestPeers) -> Router
     ensures there { All (λ k. k < length peers.now) result.ins }
 {
@@ -18,7 +18,7 @@ fn fresh(alloc: Global, mandatory: bool, peers: &TestPeers) -> Router
     Router::new(alloc, mandatory)
 }
 
-/// Attaches the end at a place under this identity.
+// Attaches the end at a place under this identity.
 fn join(
     alloc: Global,
     router: &mut Router,
@@ -44,7 +44,7 @@ fn join(
     Ok(router.attach(alloc, place, identity)?)
 }
 
-/// A ROUTER with one peer, at place 0.
+// A ROUTER with one peer, at place 0.
 fn with_peer(
     alloc: Global,
     mandatory: bool,
@@ -60,7 +60,7 @@ fn with_peer(
     }
 }
 
-/// Detaches the end at a place.
+// Detaches the end at a place.
 fn leave(router: &mut Router, peers: &TestPeers, place: usize)
     requires there { All (λ k. k < length peers.now) router.old.ins }
     ensures there { All (λ k. k < length peers.now) router.new.ins }
@@ -68,7 +68,7 @@ fn leave(router: &mut Router, peers: &TestPeers, place: usize)
     router.detach(place);
 }
 
-/// Sends a message.
+// Sends a message.
 fn send(router: &mut Router, peers: &mut TestPeers, message: Message) -> Told
     requires there { All (λ k. k < length peers.old) router.old.ins }
     ensures there { All (λ k. k < length peers.new) router.new.ins }
@@ -76,7 +76,7 @@ fn send(router: &mut Router, peers: &mut TestPeers, message: Message) -> Told
     told_sent(router.send(peers, message))
 }
 
-/// Receives a message.
+// Receives a message.
 fn receive(router: &mut Router, peers: &mut TestPeers) -> Result<(PairId, Message), RecvFault>
     requires there { All (λ k. k < length peers.old) router.old.ins }
     ensures there { All (λ k. k < length peers.new) router.new.ins }
@@ -84,7 +84,7 @@ fn receive(router: &mut Router, peers: &mut TestPeers) -> Result<(PairId, Messag
     router.recv(peers)
 }
 
-/// What was received: the number of the pair and the octets of the frames, or nothing for now.
+// What was received: the number of the pair and the octets of the frames, or nothing for now.
 fn heard(
     alloc: Global,
     answer: Result<(PairId, Message), RecvFault>,
@@ -96,7 +96,7 @@ fn heard(
     }
 }
 
-/// Whether the next message comes from this pair with these octets.
+// Whether the next message comes from this pair with these octets.
 fn hears(
     alloc: Global,
     router: &mut Router,
@@ -112,7 +112,7 @@ fn hears(
     }
 }
 
-/// A message of a name and one frame more.
+// A message of a name and one frame more.
 fn named(alloc: Global, name: &[u8]) -> Result<Message, Fail> {
     let mut frames = Vec::new(alloc);
     frames
@@ -127,7 +127,7 @@ fn named(alloc: Global, name: &[u8]) -> Result<Message, Fail> {
     }
 }
 
-/// How many frames the next message at the far end of a pair has.
+// How many frames the next message at the far end of a pair has.
 fn count_taken(peers: &mut TestPeers, place: usize) -> Result<usize, Fail>
     ensures { length peers.new ≡ length peers.old }
 {
@@ -137,7 +137,7 @@ fn count_taken(peers: &mut TestPeers, place: usize) -> Result<usize, Fail>
     }
 }
 
-/// Three pairs, each with room for one message.
+// Three pairs, each with room for one message.
 fn three(alloc: Global) -> Result<TestPeers, Fail>
     ensures { IfOk result (λ p. length p ≡ 3) }
 {
@@ -164,7 +164,7 @@ fn a_message_goes_to_a_drawn_name(rt: HostRuntime) -> Result<(), Fail> {
     let mut peers = three(alloc)?;
     let mut router = with_peer(alloc, false, &peers, b"")?;
     let back = named(alloc, b"\0\0\0\0\x01")?;
-    assert_eq!(rt; send(&mut router, &mut peers, back), Told::Sent(1));
+    assert!(rt; send(&mut router, &mut peers, back) == Told::Sent(1));
     Ok(())
 }
 
@@ -182,7 +182,7 @@ fn a_name_in_use_is_refused(rt: HostRuntime) -> Result<(), Fail> {
     let alloc = rt.alloc();
     let peers = three(alloc)?;
     let mut router = with_peer(alloc, false, &peers, b"k")?;
-    assert_eq!(rt; join(alloc, &mut router, &peers, 1, b"k")?, Attached::BadId);
+    assert!(rt; join(alloc, &mut router, &peers, 1, b"k")? == Attached::BadId);
     assert!(rt; !router.is_attached(1));
     Ok(())
 }
@@ -193,7 +193,7 @@ fn a_name_is_free_once_its_peer_is_gone(rt: HostRuntime) -> Result<(), Fail> {
     let peers = three(alloc)?;
     let mut router = with_peer(alloc, false, &peers, b"k")?;
     leave(&mut router, &peers, 0);
-    assert_eq!(rt; join(alloc, &mut router, &peers, 1, b"k")?, Attached::Yes);
+    assert!(rt; join(alloc, &mut router, &peers, 1, b"k")? == Attached::Yes);
     Ok(())
 }
 
@@ -204,7 +204,7 @@ fn a_name_can_be_drawn(rt: HostRuntime) -> Result<(), Fail> {
     let before = router.can_draw();
     let answer = join(rt.alloc(), &mut router, &peers, 0, b"")?;
     let after = router.can_draw();
-    assert_eq!(rt; (before, answer, after), (true, Attached::Yes, true));
+    assert!(rt; (before, answer, after) == (true, Attached::Yes, true));
     Ok(())
 }
 
@@ -226,10 +226,7 @@ fn a_message_to_nobody_is_given_up(rt: HostRuntime) -> Result<(), Fail> {
     let mut peers = three(alloc)?;
     let mut router = with_peer(alloc, false, &peers, b"x")?;
     let unknown = named(alloc, b"k")?;
-    assert_eq!(rt;
-        send(&mut router, &mut peers, unknown),
-        Told::Dropped(Rule::Unroutable)
-    );
+    assert!(rt; send(&mut router, &mut peers, unknown) == Told::Dropped(Rule::Unroutable));
     Ok(())
 }
 
@@ -239,10 +236,7 @@ fn a_name_alone_has_no_body(rt: HostRuntime) -> Result<(), Fail> {
     let mut peers = three(alloc)?;
     let mut router = with_peer(alloc, false, &peers, b"x")?;
     let alone = frames(alloc, 1)?;
-    assert_eq!(rt;
-        send(&mut router, &mut peers, alone),
-        Told::NotSent(SendRefusal::NoBody)
-    );
+    assert!(rt; send(&mut router, &mut peers, alone) == Told::NotSent(SendRefusal::NoBody));
     Ok(())
 }
 
@@ -252,13 +246,10 @@ fn a_message_goes_without_its_name_until_the_pipe_is_full(rt: HostRuntime) -> Re
     let mut peers = three(alloc)?;
     let mut router = with_peer(alloc, false, &peers, b"x")?;
     let longest = frames(alloc, 1024)?;
-    assert_eq!(rt; send(&mut router, &mut peers, longest), Told::Sent(1));
+    assert!(rt; send(&mut router, &mut peers, longest) == Told::Sent(1));
     let more = named(alloc, b"x")?;
-    assert_eq!(rt;
-        send(&mut router, &mut peers, more),
-        Told::Dropped(Rule::RouteFull)
-    );
-    assert_eq!(rt; count_taken(&mut peers, 0)?, 1023);
+    assert!(rt; send(&mut router, &mut peers, more) == Told::Dropped(Rule::RouteFull));
+    assert!(rt; count_taken(&mut peers, 0)? == 1023);
     Ok(())
 }
 
@@ -268,10 +259,7 @@ fn a_message_to_nobody_is_refused_where_it_must_be_routed(rt: HostRuntime) -> Re
     let mut peers = three(alloc)?;
     let mut router = with_peer(alloc, true, &peers, b"x")?;
     let unknown = named(alloc, b"k")?;
-    assert_eq!(rt;
-        send(&mut router, &mut peers, unknown),
-        Told::NotSent(SendRefusal::Unreachable)
-    );
+    assert!(rt; send(&mut router, &mut peers, unknown) == Told::NotSent(SendRefusal::Unreachable));
     Ok(())
 }
 
@@ -281,11 +269,11 @@ fn a_full_pipe_hands_the_message_back(rt: HostRuntime) -> Result<(), Fail> {
     let mut peers = three(alloc)?;
     let mut router = with_peer(alloc, true, &peers, b"x")?;
     let first = named(alloc, b"x")?;
-    assert_eq!(rt; send(&mut router, &mut peers, first), Told::Sent(1));
+    assert!(rt; send(&mut router, &mut peers, first) == Told::Sent(1));
     match router.send(&mut peers, frames(alloc, 3)?) {
         Err(SendFault::Refused(refusal, back)) => {
-            assert_eq!(rt; refusal, SendRefusal::Again);
-            assert_eq!(rt; back.len(), 3);
+            assert!(rt; refusal == SendRefusal::Again);
+            assert!(rt; back.len() == 3);
         }
         _other => Err("its pipe is full")?,
     }

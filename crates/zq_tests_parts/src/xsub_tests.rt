@@ -24,7 +24,7 @@ pub enum Answer {
     Else,
 }
 
-/// What a send was answered.
+// What a send was answered.
 fn sent(answer: Result<Sent, XSendFault>) -> Answer {
     match answer {
         Ok(Sent::Subscribed) => Answer::Subscribed,
@@ -35,7 +35,7 @@ fn sent(answer: Result<Sent, XSendFault>) -> Answer {
     }
 }
 
-/// What a receive was answered.
+// What a receive was answered.
 fn given(answer: Result<(PairId, Message), RecvFault>) -> Answer {
     match answer {
         Ok((_pair, message)) => Answer::Gave(message.frame(0).len()),
@@ -44,7 +44,7 @@ fn given(answer: Result<(PairId, Message), RecvFault>) -> Answer {
     }
 }
 
-/// An XSUB with two peers.
+// An XSUB with two peers.
 fn xsub_of_two(alloc: Global, peers: &TestPeers) -> Result<XSub, Fail>
     requires { length peers.now ≡ 2 }
     ensures ins { IfOk result (λ s. All (λ place. place < length peers.now) s.ins) }
@@ -56,7 +56,7 @@ fn xsub_of_two(alloc: Global, peers: &TestPeers) -> Result<XSub, Fail>
     Ok(xsub)
 }
 
-/// Two pairs, of which the first has room for one message.
+// Two pairs, of which the first has room for one message.
 fn two(alloc: Global) -> Result<TestPeers, Fail>
     ensures { IfOk result (λ p. length p ≡ 2) }
 {
@@ -66,7 +66,7 @@ fn two(alloc: Global) -> Result<TestPeers, Fail>
     Ok(peers)
 }
 
-/// Sends a message of one frame.
+// Sends a message of one frame.
 fn send(alloc: Global, xsub: &mut XSub, peers: &mut TestPeers, body: &[u8]) -> Result<Answer, Fail>
     requires ins { All (λ place. place < length peers.old) xsub.old.ins }
     requires there { All (λ place. place < length peers.old) (keys_of xsub.old.followers) }
@@ -77,7 +77,7 @@ fn send(alloc: Global, xsub: &mut XSub, peers: &mut TestPeers, body: &[u8]) -> R
     Ok(sent(xsub.send(alloc, peers, message)))
 }
 
-/// Receives.
+// Receives.
 fn receive(xsub: &mut XSub, peers: &mut TestPeers) -> Answer
     requires ins { All (λ place. place < length peers.old) xsub.old.ins }
     requires there { All (λ place. place < length peers.old) (keys_of xsub.old.followers) }
@@ -86,7 +86,7 @@ fn receive(xsub: &mut XSub, peers: &mut TestPeers) -> Answer
     given(xsub.recv(peers))
 }
 
-/// How many octets the first frame of the message has that the second peer takes next.
+// How many octets the first frame of the message has that the second peer takes next.
 fn taken(peers: &mut TestPeers) -> Result<usize, Fail>
     ensures { length peers.new ≡ length peers.old }
 {
@@ -96,26 +96,35 @@ fn taken(peers: &mut TestPeers) -> Result<usize, Fail>
     }
 }
 
+// Whether an XSUB cannot cancel `a`, and subscribes to it and tells so.
+fn subscribes(alloc: Global, xsub: &mut XSub, peers: &mut TestPeers) -> Result<bool, Fail>
+    requires ins { All (λ place. place < length peers.old) xsub.old.ins }
+    requires there { All (λ place. place < length peers.old) (keys_of xsub.old.followers) }
+    ensures ins { All (λ place. place < length peers.new) xsub.new.ins }
+    ensures there { All (λ place. place < length peers.new) (keys_of xsub.new.followers) }
+{
+    let cancel = send(alloc, xsub, peers, &[0, b'a'])? == Answer::Dropped(Rule::NoSub);
+    let add = send(alloc, xsub, peers, &[1, b'a'])? == Answer::Subscribed;
+    Ok(cancel && add && taken(peers)? == 2)
+}
+
+// Whether an XSUB gives what comes, though it isn't wanted.
+fn gives(alloc: Global, xsub: &mut XSub, peers: &mut TestPeers) -> Result<bool, Fail>
+    requires ins { All (λ place. place < length peers.old) xsub.old.ins }
+    requires there { All (λ place. place < length peers.old) (keys_of xsub.old.followers) }
+{
+    peers.far_put(1, one_frame(alloc, b"not wanted")?)?;
+    Ok(receive(xsub, peers) == Answer::Gave(10))
+}
+
 #[test]
 fn an_xsub_subscribes_by_what_it_sends(rt: HostRuntime) -> Result<(), Fail> {
     let alloc = rt.alloc();
     let mut peers = two(alloc)?;
     let mut xsub = xsub_of_two(alloc, &peers)?;
-    assert_eq!(rt;
-        send(alloc, &mut xsub, &mut peers, &[0, b'a'])?,
-        Answer::Dropped(Rule::NoSub)
-    );
-    assert_eq!(rt;
-        send(alloc, &mut xsub, &mut peers, &[1, b'a'])?,
-        Answer::Subscribed
-    );
-    assert_eq!(rt; taken(&mut peers)?, 2);
-    assert_eq!(rt;
-        send(alloc, &mut xsub, &mut peers, b"else")?,
-        Answer::Went(1, 1)
-    );
-    assert_eq!(rt; taken(&mut peers)?, 4);
-    peers.far_put(1, one_frame(alloc, b"not wanted")?)?;
-    assert_eq!(rt; receive(&mut xsub, &mut peers), Answer::Gave(10));
+    assert!(rt; subscribes(alloc, &mut xsub, &mut peers)?);
+    assert!(rt; send(alloc, &mut xsub, &mut peers, b"else")? == Answer::Went(1, 1));
+    assert!(rt; taken(&mut peers)? == 4);
+    assert!(rt; gives(alloc, &mut xsub, &mut peers)?);
     Ok(())
 }
