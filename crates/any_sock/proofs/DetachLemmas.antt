@@ -26,9 +26,10 @@ use Rattle.router_dealer.specs.Named.{RouterState, detached_state}
 use Rattle.router_dealer.specs.Laws.{IsNoOther}
 use Rattle.router_dealer.proofs.LawLemmas.{detaches_the_end}
 use Rattle.router_dealer.proofs.PlaceNamesLemmas.{turned}
-use Rattle.pub_sub.specs.Places.{is_place, AreApart}
+use Rattle.pub_sub.specs.Places.{is_place, AreApart, AreOthers}
 use Rattle.pub_sub.specs.Publishers.{PubState, Detaches, without_subscriber_at, without_and_told}
 use Rattle.pub_sub.specs.Subscribing.{SubState, Leaves, without_publisher_at}
+use Rattle.pub_sub.proofs.SubscriberLemmas.{others_turns}
 use Rattle.any_sock.specs.Over.{partner_place, left_of}
 use Rattle.any_sock.specs.Peers.{DetachedOver}
 use Rattle.any_sock.specs.declared.any_sock.AnySock.{AnySock}
@@ -75,26 +76,59 @@ module _ (ends : ℕ → End) (place : ℕ) where
       by true false e = absurd (cc e)
       by false true e = absurd (cc e)
 
+-- ---- the place that goes
+
+others_both : (place : ℕ) (outs ins : List ℕ) → AreOthers place (without_place place outs ++ without_place place ins)
+others_both place outs ins =
+    All-append (λ k. nat_eq place k ≡ false) (without_place place outs) (without_place place ins) (others_turns place outs) (others_turns place ins)
+
+others_partner : (place : ℕ) (p : Partner) → AreOthers place (partner_place (without_partner place p))
+others_partner place Nobody = All-nil (λ k. nat_eq place k ≡ false)
+others_partner place Gone = All-nil (λ k. nat_eq place k ≡ false)
+others_partner place (At other) = by (other == place) refl
+  where
+    by : (b : Bool) → nat_eq other place ≡ b → AreOthers place (partner_place (cond b Gone (At other)))
+    by true same = All-nil (λ k. nat_eq place k ≡ false)
+    by false h = All-cons (λ k. nat_eq place k ≡ false) other [] (nat_eq_equiv.symm place other ∙ h) (All-nil (λ k. nat_eq place k ≡ false))
+
+others_named : (place : ℕ) (names : List PlaceName) → AreOthers place (map (λ n. n.place) (filter (λ n. not (nat_eq place n.place)) names))
+others_named place [] = All-nil (λ k. nat_eq place k ≡ false)
+others_named place (n ∷ names) = by (nat_eq place n.place) refl (others_named place names)
+  where
+    by : (b : Bool) → nat_eq place n.place ≡ b → AreOthers place (map (λ n. n.place) (filter (λ n. not (nat_eq place n.place)) names))
+        → AreOthers place (map (λ n. n.place) (cond (not b) (n ∷ filter (λ n. not (nat_eq place n.place)) names) (filter (λ n. not (nat_eq place n.place)) names)))
+    by true same rest = rest
+    by false h rest = All-cons (λ k. nat_eq place k ≡ false) n.place _ h rest
+
 module _ (pair : PairId) (place : ℕ) (s : AnySock) where
   pub push_left : (turns turns' : List ℕ) → s ≡ sock.Push turns → turns' ≡ without_place place turns → DetachedOver pair place s (sock.Push turns')
   push_left turns turns' is e = subst (λ (u : AnySock × List ℕ). DetachedOver pair place u.0 (sock.Push u.1)) (λ i. (sym is i, sym e i)) (record {
     detaches = λ ends one. ap by_kind.Push (turns_without ends place turns (no_other ends place turns one.apart one.known));
     places = fewer (λ other. not (other == place)) turns;
+    peers_gone = others_turns place turns;
+    partner_gone = All-nil (λ k. nat_eq place k ≡ false);
     left_is = refl;
+    kind_is = λ ends. refl;
   })
 
   pub pull_left : (turns turns' : List ℕ) → s ≡ sock.Pull turns → turns' ≡ without_place place turns → DetachedOver pair place s (sock.Pull turns')
   pull_left turns turns' is e = subst (λ (u : AnySock × List ℕ). DetachedOver pair place u.0 (sock.Pull u.1)) (λ i. (sym is i, sym e i)) (record {
     detaches = λ ends one. ap by_kind.Pull (turns_without ends place turns (no_other ends place turns one.apart one.known));
     places = fewer (λ other. not (other == place)) turns;
+    peers_gone = others_turns place turns;
+    partner_gone = All-nil (λ k. nat_eq place k ≡ false);
     left_is = refl;
+    kind_is = λ ends. refl;
   })
 
   pub pair_left : (turns turns' : List ℕ) → s ≡ sock.Pair turns → turns' ≡ without_place place turns → DetachedOver pair place s (sock.Pair turns')
   pair_left turns turns' is e = subst (λ (u : AnySock × List ℕ). DetachedOver pair place u.0 (sock.Pair u.1)) (λ i. (sym is i, sym e i)) (record {
     detaches = λ ends one. ap (λ l. by_kind.Pair (record { outs = l; ins = l })) (turns_without ends place turns (no_other ends place turns one.apart one.known));
     places = fewer (λ other. not (other == place)) turns;
+    peers_gone = others_turns place turns;
+    partner_gone = All-nil (λ k. nat_eq place k ≡ false);
     left_is = refl;
+    kind_is = λ ends. refl;
   })
 
   pub dealer_left : (t t' : Both) → s ≡ sock.Dealer t → t' ≡ without_turns place t → DetachedOver pair place s (sock.Dealer t')
@@ -106,7 +140,10 @@ module _ (pair : PairId) (place : ℕ) (s : AnySock) where
         let ins = turns_without ends place t.ins (all_behind P t.outs t.ins all) in
         λ i. by_kind.Dealer (record { outs = outs i; ins = ins i });
     places = fewer_both (λ other. not (other == place)) t.outs t.ins;
+    peers_gone = others_both place t.outs t.ins;
+    partner_gone = All-nil (λ k. nat_eq place k ≡ false);
     left_is = refl;
+    kind_is = λ ends. refl;
   })
 
   pub req_left : (q q' : ReqState) → s ≡ sock.Req q
@@ -120,7 +157,10 @@ module _ (pair : PairId) (place : ℕ) (s : AnySock) where
         let duty = partner_goes ends place q.asked one.partner in
         λ i. by_kind.Req (record { outs = outs i; ins = ins i }) (duty i);
     places = fewer_both (λ other. not (other == place)) q.outs q.ins;
+    peers_gone = others_both place q.outs q.ins;
+    partner_gone = others_partner place q.asked;
     left_is = refl;
+    kind_is = λ ends. refl;
   })
 
   pub rep_left : (q q' : RepState) → s ≡ sock.Rep q
@@ -131,7 +171,10 @@ module _ (pair : PairId) (place : ℕ) (s : AnySock) where
         let duty = owed_goes ends place q.owed q.envelope one.partner in
         λ i. by_kind.Rep (ins i) (duty i);
     places = fewer (λ other. not (other == place)) q.ins;
+    peers_gone = others_turns place q.ins;
+    partner_gone = others_partner place q.owed;
     left_is = refl;
+    kind_is = λ ends. refl;
   })
 
   pub router_left : (q q' : RouterState) → s ≡ sock.Router q → q' ≡ detached_state place q → DetachedOver pair place s (sock.Router q')
@@ -148,28 +191,38 @@ module _ (pair : PairId) (place : ℕ) (s : AnySock) where
         All-append C (without_place place q.ins) _
         (All-filter (λ other. not (other == place)) C q.ins (all_front C q.ins names all))
         (All-map C (λ (n : PlaceName). n.place) _ (All-filter (λ n. not (nat_eq place n.place)) (λ n. C n.place) q.names (names_all C q.names (all_behind C q.ins names all))));
+    peers_gone = All-append (λ k. nat_eq place k ≡ false) (without_place place q.ins) _ (others_turns place q.ins) (others_named place q.names);
+    partner_gone = All-nil (λ k. nat_eq place k ≡ false);
     left_is = refl;
+    kind_is = λ ends. refl;
   })
     where
       names_all : (C : ℕ → Type 0) (names : List PlaceName) → All C (map (λ n. n.place) names) → All (λ n. C n.place) names
       names_all C [] all = All-nil (λ n. C n.place)
       names_all C (n ∷ names) all = All-cons (λ n. C n.place) n names (All-head C n.place _ all) (names_all C names (All-tail C n.place _ all))
 
-  pub pub_left : (p p' : PubState) → s ≡ sock.Pub p → p' ≡ without_subscriber_at place p → ((ends : ℕ → End) → Detaches ends place p p') → DetachedOver pair place s (sock.Pub p')
-  pub_left p p' is e defined = subst (λ (t : AnySock). DetachedOver pair place t (sock.Pub p')) (sym is) (record {
+  pub pub_left : (p p' : PubState) → s ≡ sock.Pub p → p' ≡ without_subscriber_at place p → ((ends : ℕ → End) → Detaches ends place p p')
+      → AreOthers place (p'.ins ++ keys_of p'.subs) → DetachedOver pair place s (sock.Pub p')
+  pub_left p p' is e defined others = subst (λ (t : AnySock). DetachedOver pair place t (sock.Pub p')) (sym is) (record {
     detaches = λ ends one. ap by_kind.Pub (defined ends one.apart one.known);
     places = subst (λ (z : PubState). All (Contains (keys_of p.subs)) (keys_of z.subs)) (sym e)
         (All-map-remove_entry (nat_eq place) (λ (x : ℕ × List Topic). x.0) (Contains (keys_of p.subs)) p.subs (All-contains_itself (keys_of p.subs)));
+    peers_gone = all_behind (λ k. nat_eq place k ≡ false) p'.ins (keys_of p'.subs) others;
+    partner_gone = All-nil (λ k. nat_eq place k ≡ false);
     left_is = ap (λ z. left_of (sock.Pub z)) e;
+    kind_is = λ ends. refl;
   })
 
   pub xpub_left : (p p' : PubState) → s ≡ sock.XPub p → p' ≡ without_and_told pair place p → ((ends : ℕ → End) → (ends place).pair ≡ pair → Detaches ends place p p')
-      → DetachedOver pair place s (sock.XPub p')
-  xpub_left p p' is e defined = subst (λ (t : AnySock). DetachedOver pair place t (sock.XPub p')) (sym is) (record {
+      → AreOthers place (p'.ins ++ keys_of p'.subs) → DetachedOver pair place s (sock.XPub p')
+  xpub_left p p' is e defined others = subst (λ (t : AnySock). DetachedOver pair place t (sock.XPub p')) (sym is) (record {
     detaches = λ ends one. ap by_kind.XPub (defined ends one.pair_is one.apart one.known);
     places = subst (λ (z : PubState). All (Contains (keys_of p.subs)) (keys_of z.subs)) (sym e)
         (All-map-remove_entry (nat_eq place) (λ (x : ℕ × List Topic). x.0) (Contains (keys_of p.subs)) p.subs (All-contains_itself (keys_of p.subs)));
+    peers_gone = all_behind (λ k. nat_eq place k ≡ false) p'.ins (keys_of p'.subs) others;
+    partner_gone = All-nil (λ k. nat_eq place k ≡ false);
     left_is = ap (λ z. left_of (sock.XPub z)) e;
+    kind_is = λ ends. refl;
   })
 
   -- no place comes with a subscriber's peer that goes
@@ -181,16 +234,24 @@ module _ (pair : PairId) (place : ℕ) (s : AnySock) where
       (All-filter (λ other. not (other == place)) C u.ins (all_front C u.ins (keys_of u.followers) all))
       (All-map-remove_entry (nat_eq place) (λ (x : ℕ × List Topic). x.0) C u.followers (all_behind C u.ins (keys_of u.followers) all))
 
-  pub sub_left : (u u' : SubState) → s ≡ sock.Sub u → u' ≡ without_publisher_at place u → ((ends : ℕ → End) → Leaves ends place u u') → DetachedOver pair place s (sock.Sub u')
-  sub_left u u' is e defined = subst (λ (t : AnySock). DetachedOver pair place t (sock.Sub u')) (sym is) (record {
+  pub sub_left : (u u' : SubState) → s ≡ sock.Sub u → u' ≡ without_publisher_at place u → ((ends : ℕ → End) → Leaves ends place u u')
+      → AreOthers place (u'.ins ++ keys_of u'.followers) → DetachedOver pair place s (sock.Sub u')
+  sub_left u u' is e defined others = subst (λ (t : AnySock). DetachedOver pair place t (sock.Sub u')) (sym is) (record {
     detaches = λ ends one. ap by_kind.Sub (defined ends one.apart one.known);
     places = subst (λ (z : SubState). All (Contains (u.ins ++ keys_of u.followers)) (z.ins ++ keys_of z.followers)) (sym e) (sub_fewer u);
+    peers_gone = others;
+    partner_gone = All-nil (λ k. nat_eq place k ≡ false);
     left_is = refl;
+    kind_is = λ ends. refl;
   })
 
-  pub xsub_left : (u u' : SubState) → s ≡ sock.XSub u → u' ≡ without_publisher_at place u → ((ends : ℕ → End) → Leaves ends place u u') → DetachedOver pair place s (sock.XSub u')
-  xsub_left u u' is e defined = subst (λ (t : AnySock). DetachedOver pair place t (sock.XSub u')) (sym is) (record {
+  pub xsub_left : (u u' : SubState) → s ≡ sock.XSub u → u' ≡ without_publisher_at place u → ((ends : ℕ → End) → Leaves ends place u u')
+      → AreOthers place (u'.ins ++ keys_of u'.followers) → DetachedOver pair place s (sock.XSub u')
+  xsub_left u u' is e defined others = subst (λ (t : AnySock). DetachedOver pair place t (sock.XSub u')) (sym is) (record {
     detaches = λ ends one. ap by_kind.XSub (defined ends one.apart one.known);
     places = subst (λ (z : SubState). All (Contains (u.ins ++ keys_of u.followers)) (z.ins ++ keys_of z.followers)) (sym e) (sub_fewer u);
+    peers_gone = others;
+    partner_gone = All-nil (λ k. nat_eq place k ≡ false);
     left_is = refl;
+    kind_is = λ ends. refl;
   })

@@ -6,8 +6,9 @@ use Rattle.zq_base.specs.declared.ids.PairId.{PairId}
 use Rattle.spec_pattern.specs.PipeStep.{same_pipe}
 use Rattle.spec_pattern.specs.TurnList.{End}
 use Rattle.spec_pattern.specs.Pattern.{attach_answer, attach, detach}
-use Rattle.router_dealer.specs.Named.{IsIdentity}
-use Rattle.pub_sub.specs.Places.{is_place, AreApart}
+use Rattle.pattern_laws.specs.Peers.{pattern_kind}
+use Rattle.router_dealer.specs.Named.{IsIdentity, most_drawn}
+use Rattle.pub_sub.specs.Places.{is_place, AreApart, AreOthers}
 use Rattle.pub_sub.specs.Publishers.{kept_without}
 use Rattle.any_sock.specs.Over.{HaveSamePlaces, peer_places, partner_places, over, left_of, Leftover}
 use Rattle.any_sock.specs.declared.any_sock.AnySock.{AnySock}
@@ -15,7 +16,7 @@ use Rattle.any_sock.specs.declared.any_sock.AnySock.TheVariants as sock
 
 -- a ROUTER takes a peer under what may be an identity, while a name is left to draw; the other kinds take each peer
 abbrev pub CanName : AnySock → List ℕ → Type 0
-CanName (sock.Router r) identity = IsIdentity identity × (r.drawn < 4294967295)
+CanName (sock.Router r) identity = IsIdentity identity × (r.drawn < most_drawn)
 CanName _ identity = Unit {0}
 
 -- the places after an attach: one more, or as before where the end was refused
@@ -42,11 +43,14 @@ pub record IsOneEnd (ends : ℕ → End) (pair : PairId) (place : ℕ) (s : AnyS
 abbrev pub left_without : ℕ → Leftover → Leftover
 left_without place left = record left { to_obey = kept_without place left.to_obey }
 
--- the end at the place, of this pair, is a peer no longer
+-- the end at the place, of this pair, is a peer no longer: no other place is a peer's then than before, and neither a peer nor a partner has this one
 pub record DetachedOver (pair : PairId) (place : ℕ) (s s' : AnySock) : Type 0 where
   pub detaches : (ends : ℕ → End) → IsOneEnd ends pair place s → over ends s' ≡ detach (ends place) (over ends s)
   pub places : All (Contains (peer_places s)) (peer_places s')
+  pub peers_gone : AreOthers place (peer_places s')
+  pub partner_gone : AreOthers place (partner_places s')
   pub left_is : left_of s' ≡ left_without place (left_of s)
+  pub kind_is : (ends : ℕ → End) → pattern_kind (over ends s') ≡ pattern_kind (over ends s)
 
 -- an attach that refuses no peer
 abbrev pub as_taken : {E : Type 0} → Result (Unit {0}) E → Result Attached E

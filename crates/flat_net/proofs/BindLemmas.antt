@@ -157,14 +157,14 @@ did_connect now socks book pairs seats pipes o k kind d at b (Ok a) new view pla
 
 -- there are pairs left for all that are found
 pub room_left : (pairs : List Joined) (book : Book) (name : Endpoint) (b : Binding) (found : List ObjId) (m n : ℕ)
-    → m ≡ length pairs → n ≡ length found → found ≡ waiters (fulfilled name b book) → m + n ≤ 1000000
+    → m ≡ length pairs → n ≡ length found → found ≡ waiters (fulfilled name b book) → m + n ≤ most_pairs
     → nat_lt most_pairs (length pairs + length (fulfilled name b book)) ≡ false
 room_left pairs book name b found m n e f g le =
     let count : length found ≡ length (fulfilled name b book) = ap length g ∙ length-map (fulfilled name b book) (λ w. w.waiter) in
-    let all : length pairs + length (fulfilled name b book) ≤ 1000000 = omega (arith, e, f, count, le) in
+    let all : length pairs + length (fulfilled name b book) ≤ most_pairs = omega (arith, e, f, count, le) in
     not_past (length pairs + length (fulfilled name b book)) all
   where
-    not_past : (k : ℕ) → k ≤ 1000000 → nat_lt most_pairs k ≡ false
+    not_past : (k : ℕ) → k ≤ most_pairs → nat_lt most_pairs k ≡ false
     not_past k le = grind (arith, nat_tests)
 
 -- a socket was made

@@ -12,7 +12,7 @@ use Rattle.zq_base.specs.declared.ids.ObjId.{ObjId}
 use Rattle.spec_pattern.specs.TurnList.{End}
 use Rattle.spec_pattern.specs.Pattern.{Pattern, attach}
 use Rattle.spec_journal.specs.declared.journal.Joined.{Joined}
-use Rattle.spec_journal.specs.Net.{Sock, attached, with_end, turned}
+use Rattle.spec_journal.specs.Net.{most_pairs, Sock, attached, with_end, turned}
 use Rattle.spec_control.specs.EndpointBook.{Book, empty_book}
 use Rattle.spec_control.specs.declared.book.Waiting.{Waiting}
 use Rattle.flat_net.specs.Pipes.{PlainEnds, ArePairs, index_of}
@@ -136,7 +136,7 @@ flat_turned socks turned_socks book pairs seats pipes others w marks ends kept =
 
 -- a pair more, between two sockets
 pub flat_with_pair : (socks : List Sock) (book : Book) (pairs : List Joined) (seats : List (List (Option ObjId))) (pipes others : PlainEnds) (j : Joined) (forth back : ℕ)
-    → IsFlat (flat socks book pairs seats pipes) → JoinsSome (length socks) j → length pairs < 1000000
+    → IsFlat (flat socks book pairs seats pipes) → JoinsSome (length socks) j → length pairs < most_pairs
     → capacities_of (map marks_of socks) j ≡ forth ∷ back ∷ [] → length pipes.rows ≤ length others.rows → AddsPair forth back pipes others
     → IsFlat (flat socks book (pairs ++ j ∷ []) seats others)
 flat_with_pair socks book pairs seats pipes others j forth back w one few caps longer adds =

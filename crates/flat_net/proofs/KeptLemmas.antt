@@ -23,7 +23,7 @@ use Rattle.pattern_laws.specs.Peers.{kept_ends, out_turns, in_turns, peer_names,
 use Rattle.pattern_laws.proofs.KeepCallLemmas.{calls_keep_peers}
 use Rattle.pattern_laws.proofs.PumpedLemmas.{all_stay}
 use Rattle.router_dealer.specs.PlaceNames.{PlaceName, names_at}
-use Rattle.router_dealer.specs.Named.{IsIdentity}
+use Rattle.router_dealer.specs.Named.{most_drawn, IsIdentity}
 use Rattle.pub_sub.specs.Places.{subs_at}
 use Rattle.any_sock.specs.declared.any_sock.AnySock.{AnySock}
 use Rattle.any_sock.specs.declared.any_sock.AnySock.TheVariants as sock
@@ -231,7 +231,7 @@ attach_within n e identity p some here w =
     }
 
 -- a ROUTER that drew no more names than there are places below has one left
-pub can_name : (n : ℕ) (s : AnySock) (identity : List ℕ) → IsWithin n (over end_at s) → n < 4294967295 → IsIdentity identity → CanName s identity
+pub can_name : (n : ℕ) (s : AnySock) (identity : List ℕ) → IsWithin n (over end_at s) → n < most_drawn → IsIdentity identity → CanName s identity
 can_name n (sock.Push turns) identity w few is = tt
 can_name n (sock.Pull turns) identity w few is = tt
 can_name n (sock.Pair turns) identity w few is = tt

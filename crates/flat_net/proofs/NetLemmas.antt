@@ -20,7 +20,7 @@ use Rattle.spec_pattern.specs.TurnList.{End}
 use Rattle.spec_journal.specs.declared.journal.Answer.{Answer}
 use Rattle.spec_journal.specs.declared.journal.Answer.TheVariants as answer
 use Rattle.spec_journal.specs.declared.journal.Joined.{Joined}
-use Rattle.spec_journal.specs.Net.{Net, Sock, attached, with_end, turned, joined, sock_at, hwm_of, rcvhwm_of, told_identity, sock_identity, end_a, end_b}
+use Rattle.spec_journal.specs.Net.{most_pairs, Net, Sock, attached, with_end, turned, joined, sock_at, hwm_of, rcvhwm_of, told_identity, sock_identity, end_a, end_b}
 use Rattle.spec_journal.specs.Line.{joined_all, DoesCall}
 use Rattle.spec_control.specs.EndpointBook.{Book, empty_book}
 use Rattle.ends.specs.Runs.{DoesAll}
@@ -220,7 +220,7 @@ two_capacities w x y z w' x' y' z' a b c d = rw (a, b, c, d) refl
 -- a pair was added
 pub flat_paired : (now : Flat) (socks others : List Sock) (book : Book) (log more : List Joined) (seats : List (List (Option ObjId))) (pipes after : PlainEnds) (a b : ObjId) (w x y z : ℕ)
     → IsFlat (flat socks book log seats pipes) → flat socks book log seats pipes ≡ now
-    → length now.net.pairs < 1000000 → IsOne (length now.net.socks) a → IsOne (length now.net.socks) b
+    → length now.net.pairs < most_pairs → IsOne (length now.net.socks) a → IsOne (length now.net.socks) b
     → w ≡ hwm_of (sock_at now.net a.0) → x ≡ rcvhwm_of (sock_at now.net b.0) → y ≡ hwm_of (sock_at now.net b.0) → z ≡ rcvhwm_of (sock_at now.net a.0)
     → AddsPair (w + x) (y + z) pipes after → more ≡ log ++ record { a = a; b = b } ∷ [] → Kept socks after others
     → IsFlat (flat others book more seats after)
@@ -235,7 +235,7 @@ flat_paired now socks others book log more seats pipes after a b w x y z is view
     let count = adds.count in
     let paired = flat_with_pair socks book log seats pipes after j (w + x) (y + z) is
     (back (λ n. IsOne (length n.net.socks) a) first, back (λ n. IsOne (length n.net.socks) b) second)
-    (back (λ n. length n.net.pairs < 1000000) few) caps (omega (arith, count)) adds in
+    (back (λ n. length n.net.pairs < most_pairs) few) caps (omega (arith, count)) adds in
     let longer : log ++ j ∷ [] ≡ more = sym logged in
     let here = subst (λ (l : List Joined). IsFlat (flat socks book l seats after)) longer paired in
     flat_turned socks others book more seats after after here kept.marks kept.ends (λ capacities are. are)

@@ -1,7 +1,7 @@
 ghost use Rattle.std.specs.Prelude.{◌≡◌, ◌≤◌, ◌<◌, ℕ, List, All, length, true, IfOk, OnOk, OnErr};
 ghost use Rattle.spec_pattern.specs.PipeStep.{PipeStep};
 ghost use Rattle.spec_pattern.specs.Pattern.{attach};
-ghost use Rattle.router_dealer.specs.Named.{IsIdentity};
+ghost use Rattle.router_dealer.specs.Named.{most_drawn, IsIdentity};
 ghost use Rattle.any_sock.specs.Over.{peer_places, over, left_of, nothing_left};
 ghost use Rattle.spec_journal.specs.Net.{sock_kind, new_sock, told_identity, publishes, turned};
 ghost use Rattle.ends.specs.Rows.{table};
@@ -101,7 +101,7 @@ impl Socket {
     ) -> Result<(), AllocError>
         requires some { 1 ≤ end.pair.0 }
         requires last { IsWithin (index_of end) self.old.pattern }
-        requires few { index_of end < 4294967295 }
+        requires few { index_of end < most_drawn }
         requires name { IsIdentity identity.now }
         ensures ok { OnOk result (self.new ≡ turned (attach end identity.now self.old.pattern) self.old) }
         ensures err { OnErr result (self.new ≡ self.old) }

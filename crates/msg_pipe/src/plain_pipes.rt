@@ -19,6 +19,15 @@ pub struct PlainIn {
     pub(crate) number: usize,
 }
 
+impl PlainIn {
+    /// The pipe that it reads.
+    pub fn name(&self) -> usize
+        ensures { result ≡ ⟦<PlainPipes as Pipes>⟧.known.in_name self.now }
+    {
+        self.number
+    }
+}
+
 /// Pipes of one thread, which keep their messages themselves.
 #[derive(Drop)]
 pub struct PlainPipes {

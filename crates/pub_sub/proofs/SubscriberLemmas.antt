@@ -1,12 +1,15 @@
 -- What a subscriber wants changes, and its peers follow.
-use Rattle.std.proofs.Common.{◌≡◌, ◌∙◌, ◌+◌, ◌-◌, ℕ, zero, suc, Bool, true, false, cond, ◌||◌, List, [], ◌∷◌, ◌++◌, map, remove, nat_eq, min, Some, All, refl, sym, ap, subst, arith}
+use Rattle.std.proofs.Common.{◌≡◌, ◌∙◌, ◌+◌, ◌-◌, ◌<◌, ◌==◌, not, ℕ, zero, suc, Bool, true, false, cond, ◌||◌, List, [], ◌∷◌, ◌++◌, map, remove, nat_eq, min, Some, All, refl, sym, ap, subst, arith}
 use Rattle.std.proofs.lemmas.List.{map-append}
-use Rattle.std.proofs.lemmas.List.Elements.{All-head, All-tail, All-cons, All-push}
+use Rattle.std.proofs.lemmas.List.Elements.{All-head, All-tail, All-nil, All-cons, All-push, All-append}
 use Rattle.std.proofs.lemmas.Map.{keys-set_value}
-use Rattle.std.proofs.lemmas.Map.Views.{All-keys-insert_entry, All-map-remove_entry}
+use Rattle.std.proofs.lemmas.Map.Keys.{IsDistinct-head, IsDistinct-tail, IsDistinct-cons}
+use Rattle.std.proofs.lemmas.Map.Views.{All-keys-insert_entry, All-map-remove_entry, exact_unsigned_eq}
 use Rattle.std.proofs.lemmas.List.Folds.{list_any-append}
 use Rattle.std.specs.BTreeMap.{insert_entry}
+use Rattle.std.specs.Cmp.{nat_eq_equiv}
 use Rattle.std.specs.Cmp.Lexicographic.{slice_cmp, bytes_decides, nat_list_eq_equiv}
+use Rattle.std.specs.List.{IsDistinct, AllByRecursion}
 use Rattle.std.specs.Map.{keys_of, lookup, set_value, remove_entry}
 use Rattle.std.specs.Option.{is_some}
 use Rattle.std.specs.Ordering.{nat_cmp, match_ordering}
@@ -33,8 +36,10 @@ use Rattle.spec_pattern.specs.declared.answers.RecvAnswer.{RecvAnswer}
 use Rattle.spec_pattern.specs.declared.answers.RecvAnswer.TheVariants as got
 use Rattle.by_turn.specs.Dropping.{receiving, DropsFew, ReceivesOver, MatchDropping}
 use Rattle.sub_table.specs.Telling.{WantsAlike}
+use Rattle.sub_table.proofs.GoneLemmas.{others-left}
+use Rattle.msg_pipe.specs.Turns.{without_place}
 use Rattle.pub_sub.specs.Notes.{IsTopic}
-use Rattle.pub_sub.specs.Places.{is_place, subs_at}
+use Rattle.pub_sub.specs.Places.{is_place, subs_at, AreOthers}
 use Rattle.pub_sub.specs.Telling.{IsFollower, IsTold}
 use Rattle.pub_sub.specs.Followers.{rows_of, places_of}
 use Rattle.pub_sub.specs.Subscribing.{SubState, subscriber_at, with_publisher_at, without_publisher_at, Joins, Leaves, AreFollowed, TellsPeers, SubGives, SubStops}
@@ -113,9 +118,81 @@ short-less topic v w is all = subst (λ l. All IsTopic (keys_of l)) (sym is) (by
 
 -- ---- peers come and go
 
-pub AreFollowed-with : (wanted : Wanted) (fs : List Follower) (f : Follower) (quiet : Bool) → AreFollowed wanted fs quiet → f.told.told ≡ [] → f.told.lost ≡ true → AreFollowed wanted (fs ++ f ∷ []) false
-AreFollowed-with wanted fs f quiet h told lost = record {
+-- a place above the others is none of them
+differs : (q p : ℕ) → q < p → nat_eq q p ≡ false
+differs q p below = by (nat_eq q p) refl
+  where
+    by : (b : Bool) → nat_eq q p ≡ b → nat_eq q p ≡ false
+    by false e = e
+    by true e = let same : q ≡ p = exact_unsigned_eq q p e in absurd (omega (arith, same, below))
+
+all_pushed : (q p : ℕ) (fs : List Follower) (f : Follower) → f.place ≡ p → AllByRecursion (λ k. nat_eq q k ≡ false) (places_of fs) → nat_eq q p ≡ false
+    → AllByRecursion (λ k. nat_eq q k ≡ false) (places_of (fs ++ f ∷ []))
+all_pushed q p [] f is all new = (ap (nat_eq q) is ∙ new, tt)
+all_pushed q p (g ∷ fs) f is all new = (all.0, all_pushed q p fs f is all.1 new)
+
+apart_none : IsDistinct nat_eq []
+unfolding IsDistinct
+apart_none = tt
+
+-- nothing is wanted, and there are no peers
+pub AreFollowed-none : AreFollowed [] [] true
+AreFollowed-none = record {
+  short = All-nil IsTopic;
+  apart = apart_none;
+  follow = All-nil (IsFollower []);
+  none_left = λ quiet. All-nil (IsTold []);
+}
+
+apart_pushed : (fs : List Follower) (f : Follower) → IsDistinct nat_eq (places_of fs) → All (λ q. q < f.place) (places_of fs) → IsDistinct nat_eq (places_of (fs ++ f ∷ []))
+apart_pushed [] f apart last = IsDistinct-cons nat_eq f.place [] tt apart_none
+apart_pushed (g ∷ fs) f apart last =
+    IsDistinct-cons nat_eq g.place (places_of (fs ++ f ∷ []))
+    (all_pushed g.place f.place fs f refl (IsDistinct-head nat_eq g.place (places_of fs) apart) (differs g.place f.place (All-head (λ q. q < f.place) g.place (places_of fs) last)))
+    (apart_pushed fs f (IsDistinct-tail nat_eq g.place (places_of fs) apart) (All-tail (λ q. q < f.place) g.place (places_of fs) last))
+
+all_removed : (q : ℕ) (fs : List Follower) (i : ℕ) → AllByRecursion (λ k. nat_eq q k ≡ false) (places_of fs) → AllByRecursion (λ k. nat_eq q k ≡ false) (places_of (remove fs i))
+all_removed q [] zero all = all
+all_removed q [] (suc i) all = all
+all_removed q (f ∷ fs) zero all = all.1
+all_removed q (f ∷ fs) (suc i) all = (all.0, all_removed q fs i all.1)
+
+apart_removed : (fs : List Follower) (i : ℕ) → IsDistinct nat_eq (places_of fs) → IsDistinct nat_eq (places_of (remove fs i))
+apart_removed [] zero apart = apart
+apart_removed [] (suc i) apart = apart
+apart_removed (f ∷ fs) zero apart = IsDistinct-tail nat_eq f.place (places_of fs) apart
+apart_removed (f ∷ fs) (suc i) apart =
+    IsDistinct-cons nat_eq f.place (places_of (remove fs i)) (all_removed f.place fs i (IsDistinct-head nat_eq f.place (places_of fs) apart))
+    (apart_removed fs i (IsDistinct-tail nat_eq f.place (places_of fs) apart))
+
+-- the rows have the places that the peers have
+pub apart_rows : (fs gs : List Follower) → rows_of gs ≡ rows_of fs → IsDistinct nat_eq (places_of fs) → IsDistinct nat_eq (places_of gs)
+apart_rows fs gs same apart = subst (IsDistinct nat_eq) (sym (keys_rows fs) ∙ ap keys_of (sym same) ∙ keys_rows gs) apart
+
+-- a turn that goes leaves no other of its place
+pub others_turns : (place : ℕ) (turns : List ℕ) → AreOthers place (without_place place turns)
+others_turns place [] = All-nil (λ k. nat_eq place k ≡ false)
+others_turns place (k ∷ ks) = by (k == place) refl (others_turns place ks)
+  where
+    other : nat_eq k place ≡ false → nat_eq place k ≡ false
+    other h = nat_eq_equiv.symm place k ∙ h
+
+    by : (b : Bool) → nat_eq k place ≡ b → AreOthers place (without_place place ks) → AreOthers place (cond (not b) (k ∷ without_place place ks) (without_place place ks))
+    by true same rest = rest
+    by false h rest = All-cons (λ k. nat_eq place k ≡ false) k (without_place place ks) (other h) rest
+
+-- no peer has the place of one that went
+pub others_follow : (place : ℕ) (ins : List ℕ) (fs : List Follower) → IsDistinct nat_eq (places_of fs)
+    → AreOthers place (without_place place ins ++ keys_of (remove_entry (nat_eq place) (rows_of fs)))
+others_follow place ins fs apart =
+    All-append (λ k. nat_eq place k ≡ false) (without_place place ins) (keys_of (remove_entry (nat_eq place) (rows_of fs))) (others_turns place ins)
+    (others-left place (rows_of fs) (subst (IsDistinct nat_eq) (sym (keys_rows fs)) apart))
+
+pub AreFollowed-with : (wanted : Wanted) (fs : List Follower) (f : Follower) (quiet : Bool) → AreFollowed wanted fs quiet → All (λ q. q < f.place) (places_of fs)
+    → f.told.told ≡ [] → f.told.lost ≡ true → AreFollowed wanted (fs ++ f ∷ []) false
+AreFollowed-with wanted fs f quiet h last told lost = record {
   short = h.short;
+  apart = apart_pushed fs f h.apart last;
   follow = All-push (IsFollower wanted) fs f h.follow (record {
     known = λ t found new. absurd (cc);
     wanted_are = h.short;
@@ -133,6 +210,7 @@ All-removed P (f ∷ fs) (suc i) all = All-cons P f (remove fs i) (All-head P f 
 pub AreFollowed-without : (wanted : Wanted) (fs : List Follower) (i : ℕ) (quiet : Bool) → AreFollowed wanted fs quiet → AreFollowed wanted (remove fs i) quiet
 AreFollowed-without wanted fs i quiet h = record {
   short = h.short;
+  apart = apart_removed fs i h.apart;
   follow = All-removed (IsFollower wanted) fs i h.follow;
   none_left = λ e. All-removed (IsTold wanted) fs i (h.none_left e);
 }

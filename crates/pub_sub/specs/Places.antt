@@ -1,5 +1,5 @@
 -- Peers by their places, seen as the ends that are there (own choice).
-use Rattle.std.specs.Prelude.{◌≡◌, ℕ, Bool, true, List, map, nat_eq}
+use Rattle.std.specs.Prelude.{◌≡◌, ℕ, Bool, true, false, List, All, map, nat_eq}
 use Rattle.std.specs.List.{list_any}
 use Rattle.spec_pattern.specs.PipeStep.{same_pipe}
 use Rattle.spec_pattern.specs.TurnList.{End}
@@ -12,6 +12,10 @@ subs_at ends subs = map (λ s. (ends s.0, s.1)) subs
 -- the place is one of these
 abbrev pub is_place : List ℕ → ℕ → Bool
 is_place places p = list_any (nat_eq p) places
+
+-- these are other places than this one
+abbrev pub AreOthers : ℕ → List ℕ → Type 0
+AreOthers place places = All (λ other. nat_eq place other ≡ false) places
 
 -- no two of these places have one end
 abbrev pub AreApart : (ℕ → End) → List ℕ → Type 0

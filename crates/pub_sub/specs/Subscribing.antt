@@ -1,5 +1,6 @@
 -- A SUB or an XSUB by its places (RFC 29, "The SUB Socket Type", "The XSUB Socket Type").
 use Rattle.std.specs.Prelude.{◌≡◌, ℕ, Bool, true, not, List, [], ◌∷◌, ◌++◌, map, nat_eq, Result, Ok, Err, All}
+use Rattle.std.specs.List.{IsDistinct}
 use Rattle.std.specs.Map.{keys_of}
 use Rattle.spec_pattern.specs.PipeStep.{PipeStep}
 use Rattle.spec_pattern.specs.TurnList.{End}
@@ -15,7 +16,7 @@ use Rattle.by_turn.specs.Dropping.{receiving, DropsFew}
 use Rattle.pub_sub.specs.Notes.{IsTopic}
 use Rattle.pub_sub.specs.Places.{subs_at, is_place, AreApart, TellsOf}
 use Rattle.pub_sub.specs.Telling.{IsFollower, IsTold}
-use Rattle.pub_sub.specs.Followers.{StopsRows}
+use Rattle.pub_sub.specs.Followers.{places_of, StopsRows}
 use Rattle.pub_sub.specs.declared.follower.Follower.{Follower}
 use Rattle.pub_sub.specs.declared.change_fault.ChangeFault.{ChangeFault}
 use Rattle.pub_sub.specs.declared.change_fault.ChangeFault.TheVariants as fault
@@ -56,9 +57,10 @@ Leaves ends place s s' =
     AreApart ends (s.ins ++ keys_of s.followers) → is_place (s.ins ++ keys_of s.followers) place ≡ true
     → subscriber_at ends s' ≡ without_publisher (ends place) (subscriber_at ends s)
 
--- what is always so: a topic that is wanted can be told, each peer follows, and where it is quiet none has anything left to be told
+-- what is always so: a topic that is wanted can be told, each peer follows, each at a place of its own, and where it is quiet none has anything left to be told
 pub record AreFollowed (wanted : Wanted) (fs : List Follower) (quiet : Bool) : Type 0 where
   pub short : All IsTopic (keys_of wanted)
+  pub apart : IsDistinct nat_eq (places_of fs)
   pub follow : All (IsFollower wanted) fs
   pub none_left : quiet ≡ true → All (IsTold wanted) fs
 

@@ -2,7 +2,7 @@ ghost use Rattle.std.specs.Prelude.{◌≡◌, ◌≤◌, ◌+◌, ◌++◌, ◌
 ghost use Rattle.std.specs.Map.{keys_of};
 ghost use Rattle.spec_pattern.specs.Topics.{topics_gone, without_peer, after_add, after_cancel};
 ghost use Rattle.spec_pattern.specs.Publishing.{Adds, Cancels, saying_of};
-ghost use Rattle.pub_sub.specs.Places.{is_place};
+ghost use Rattle.pub_sub.specs.Places.{is_place, AreOthers};
 ghost use Rattle.pub_sub.specs.Notes.{IsTopic, with_room};
 ghost use Rattle.pub_sub.specs.Publishers.{subs_after_at, is_news_at, cancels_of};
 ghost use Rattle.pub_sub.specs.Audiences.{CanTell, is_news_of, gain_of};
@@ -164,6 +164,7 @@ impl Audience {
           };
         } }
         ensures can { CanTell self.new.tells self.new.inbox.spare self.new.topics 0 }
+        ensures others { AreOthers place (keys_of self.new.topics) }
     {
         let rest = self.inbox.spare() - self.topics.count(place);
         'topics: while let Some(topic) = self.topics.next_gone(place) {

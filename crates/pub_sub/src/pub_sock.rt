@@ -1,8 +1,10 @@
-ghost use Rattle.std.specs.Prelude.{◌≡◌, ℕ, false};
+ghost use Rattle.std.specs.Prelude.{◌≡◌, ◌++◌, ℕ, false};
+ghost use Rattle.std.specs.Map.{keys_of};
 ghost use Rattle.spec_pattern.specs.TurnList.{End};
 ghost use Rattle.spec_pattern.specs.Results.{MatchRecv};
 ghost use Rattle.spec_pattern.specs.declared.answers.RecvRefusal.TheVariants.{NotSupported};
 ghost use Rattle.spec_pattern.specs.declared.answers.RecvAnswer.TheVariants.{Refused};
+ghost use Rattle.pub_sub.specs.Places.{AreOthers};
 ghost use Rattle.pub_sub.specs.Publishers.{no_subscribers, without_subscriber_at, Detaches};
 
 use crate::extent::Plain;
@@ -29,9 +31,11 @@ impl PubSocket<Plain> {
         }
     }
 
-    /// The end at this place is a peer no longer, and its topics go with it. This takes no memory.
+    /// The end at this place is a peer no longer, and its topics go with it: none has its place
+    /// then. This takes no memory.
     pub fn detach(&mut self, place: usize)
         ensures gone { self.new ≡ without_subscriber_at place self.old }
+        ensures others { AreOthers place (self.new.ins ++ keys_of self.new.subs) }
         ensures defined { (ends : ℕ → End) → Detaches ends place self.old self.new }
     {
         self.publisher.leave(place);

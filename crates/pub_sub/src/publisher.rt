@@ -1,7 +1,8 @@
-ghost use Rattle.std.specs.Prelude.{◌≡◌, ◌<◌, ℕ, All, filter, true, false, IfOk, OnOk, OnErr};
+ghost use Rattle.std.specs.Prelude.{◌≡◌, ◌<◌, ◌++◌, ℕ, All, filter, true, false, IfOk, OnOk, OnErr};
 ghost use Rattle.std.specs.Map.{keys_of};
 ghost use Rattle.spec_pattern.specs.Results.{MatchSend, IfBack};
 ghost use Rattle.msg_pipe.specs.Places.{KeepsPlaces};
+ghost use Rattle.pub_sub.specs.Places.{AreOthers};
 ghost use Rattle.pub_sub.specs.Publishers.{no_subscribers, with_subscriber_at, without_subscriber_at, without_and_told, kept_without, Detaches, Publishes};
 ghost use Rattle.spec_pattern.specs.TurnList.{End};
 
@@ -86,6 +87,7 @@ impl Publisher {
     pub(crate) fn leave(&mut self, place: usize)
         requires { self.old.tells ≡ false }
         ensures gone { self.new ≡ without_subscriber_at place self.old }
+        ensures others { AreOthers place (self.new.ins ++ keys_of self.new.subs) }
         ensures defined { (ends : ℕ → End) → Detaches ends place self.old self.new }
     {
         forget(&mut self.kept, place);
@@ -98,6 +100,7 @@ impl Publisher {
     pub(crate) fn leave_told(&mut self, pair: PairId, place: usize)
         requires { self.old.tells ≡ true }
         ensures gone { self.new ≡ without_and_told pair place self.old }
+        ensures others { AreOthers place (self.new.ins ++ keys_of self.new.subs) }
         ensures defined { (ends : ℕ → End) → (ends place).pair ≡ pair →
             Detaches ends place self.old self.new }
     {

@@ -1,9 +1,10 @@
-ghost use Rattle.std.specs.Prelude.{◌≡◌, ◌<◌, ℕ, All, length, OnOk, OnErr};
+ghost use Rattle.std.specs.Prelude.{◌≡◌, ◌<◌, ◌++◌, ℕ, All, length, OnOk, OnErr};
 ghost use Rattle.std.specs.Map.{keys_of};
 ghost use Rattle.zq_base.specs.Message.{max_octets};
 ghost use Rattle.spec_pattern.specs.TurnList.{End};
 ghost use Rattle.spec_pattern.specs.PatternCalls.{Subscribe, Unsubscribe};
 ghost use Rattle.msg_pipe.specs.Places.{KeepsPlaces};
+ghost use Rattle.pub_sub.specs.Places.{AreOthers};
 ghost use Rattle.pub_sub.specs.Subscribing.{no_publishers, with_publisher_at, without_publisher_at, Joins, Leaves, KeepsFollowers, MatchChange, TellsPeers, StopsTelling, ChangesAt, ChangesUntold};
 
 use crate::change_fault::ChangeFault;
@@ -39,9 +40,10 @@ impl<K: Extent> SubSocket<K> {
         }
     }
 
-    /// The end at this place is attached, behind the others: its turn comes last, and it was told
-    /// nothing.
+    /// The end at this place is attached, behind the others, whose places are lower: its turn comes
+    /// last, and it was told nothing.
     pub fn attach(&mut self, alloc: Global, place: usize) -> Result<(), AllocError>
+        requires last { All (λ p. p < place) (keys_of self.old.followers) }
         ensures ok { OnOk result (self.new ≡ with_publisher_at place self.old) }
         ensures defined { OnOk result ((ends : ℕ → End) → Joins ends place self.old self.new) }
         ensures err { OnErr result (self.new ≡ self.old) }
@@ -49,9 +51,10 @@ impl<K: Extent> SubSocket<K> {
         self.subscriber.attach(alloc, place)
     }
 
-    /// The end at this place is a peer no longer. This takes no memory.
+    /// The end at this place is a peer no longer: none has its place then. This takes no memory.
     pub fn detach(&mut self, place: usize)
         ensures gone { self.new ≡ without_publisher_at place self.old }
+        ensures others { AreOthers place (self.new.ins ++ keys_of self.new.followers) }
         ensures defined { (ends : ℕ → End) → Leaves ends place self.old self.new }
     {
         self.subscriber.leave(place);

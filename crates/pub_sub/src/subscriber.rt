@@ -1,9 +1,10 @@
-ghost use Rattle.std.specs.Prelude.{◌≡◌, All, OnOk, OnErr, IsPermutation};
+ghost use Rattle.std.specs.Prelude.{◌≡◌, ◌<◌, ◌++◌, All, OnOk, OnErr, IsPermutation};
 ghost use Rattle.std.specs.Map.{keys_of};
 ghost use Rattle.spec_pattern.specs.Results.{MatchRecv};
 ghost use Rattle.spec_pattern.specs.PatternCalls.{Subscribe, Unsubscribe};
 ghost use Rattle.msg_pipe.specs.Places.{KeepsPlaces};
 ghost use Rattle.pub_sub.specs.Notes.{IsTopic};
+ghost use Rattle.pub_sub.specs.Places.{AreOthers};
 ghost use Rattle.pub_sub.specs.Subscribing.{no_publishers, with_publisher_at, without_publisher_at, KeepsFollowers, KeepsWanted, MatchChange, TellsPeers, StopsTelling, ChangesAt, ChangesUntold, SubGives, SubStops};
 
 use crate::change_fault::ChangeFault;
@@ -171,8 +172,9 @@ impl Subscriber {
         }
     }
 
-    // The end at this place is attached, behind the others.
+    // The end at this place is attached, behind the others, whose places are lower.
     pub(crate) fn attach(&mut self, alloc: Global, place: usize) -> Result<(), AllocError>
+        requires last { All (λ p. p < place) (keys_of self.old.followers) }
         ensures ok { OnOk result (self.new ≡ with_publisher_at place self.old) }
         ensures err { OnErr result (self.new ≡ self.old) }
     {
@@ -189,9 +191,10 @@ impl Subscriber {
         }
     }
 
-    // The end at this place is a peer no longer.
+    // The end at this place is a peer no longer: none has its place then.
     pub(crate) fn leave(&mut self, place: usize)
-        ensures { self.new ≡ without_publisher_at place self.old }
+        ensures gone { self.new ≡ without_publisher_at place self.old }
+        ensures others { AreOthers place (self.new.ins ++ keys_of self.new.followers) }
     {
         self.ins.remove(place);
         if let Some(index) = find(self.followers.as_slice(), place) {

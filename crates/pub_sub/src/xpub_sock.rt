@@ -1,8 +1,9 @@
-ghost use Rattle.std.specs.Prelude.{◌≡◌, ℕ, All, true};
+ghost use Rattle.std.specs.Prelude.{◌≡◌, ◌++◌, ℕ, All, true};
 ghost use Rattle.std.specs.Map.{keys_of};
 ghost use Rattle.spec_pattern.specs.TurnList.{End};
 ghost use Rattle.spec_pattern.specs.Results.{MatchRecv};
 ghost use Rattle.msg_pipe.specs.Places.{KeepsPlaces};
+ghost use Rattle.pub_sub.specs.Places.{AreOthers};
 ghost use Rattle.pub_sub.specs.Publishers.{no_subscribers, without_and_told, Detaches, KeepsPeers};
 ghost use Rattle.pub_sub.specs.Hearing.{XPubGives, XPubStops};
 
@@ -32,9 +33,11 @@ impl PubSocket<Extended> {
     }
 
     /// The end at this place, which is of this pair, is a peer no longer. The user is told a cancel
-    /// of each of its topics that nobody else has, in their order. This takes no memory.
+    /// of each of its topics that nobody else has, in their order. None has its place then. This
+    /// takes no memory.
     pub fn detach(&mut self, pair: PairId, place: usize)
         ensures gone { self.new ≡ without_and_told pair place self.old }
+        ensures others { AreOthers place (self.new.ins ++ keys_of self.new.subs) }
         ensures defined { (ends : ℕ → End) → (ends place).pair ≡ pair →
             Detaches ends place self.old self.new }
     {

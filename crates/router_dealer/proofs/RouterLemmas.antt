@@ -9,7 +9,7 @@ use Rattle.std.specs.Str.{bytes_eq}
 use Rattle.spec_pattern.specs.Routing.{drawn_name}
 use Rattle.msg_pipe.specs.Turns.{without_place}
 use Rattle.router_dealer.specs.PlaceNames.{PlaceName, place_named, AreApart, without_name_at}
-use Rattle.router_dealer.specs.Named.{RouterState, HasName, IsOwn, IsDrawn, AreOwnOrDrawn, IsRouter}
+use Rattle.router_dealer.specs.Named.{most_drawn, RouterState, HasName, IsOwn, IsDrawn, AreOwnOrDrawn, IsRouter}
 use Rattle.router_dealer.specs.NameTable.{HasRoom, IsReady}
 use Rattle.router_dealer.proofs.PlaceNamesLemmas.{no_some, same_some, turned, place_named-given, kept_at, place_named-without}
 
@@ -195,7 +195,7 @@ drawn_apart a b small also e =
     ∙ from_be_bytes-to_be_bytes_4 b also
 
 -- the next is free
-pub next_is_free : (m : List PlaceName) (drawn : ℕ) → AreOwnOrDrawn drawn m → drawn < 4294967295 → place_named m (drawn_name (drawn + 1)) ≡ None
+pub next_is_free : (m : List PlaceName) (drawn : ℕ) → AreOwnOrDrawn drawn m → drawn < most_drawn → place_named m (drawn_name (drawn + 1)) ≡ None
 next_is_free m drawn all few = by (place_named m (drawn_name (drawn + 1))) refl
   where
     none : IsOwn (drawn_name (drawn + 1)) ⊎ IsDrawn drawn (drawn_name (drawn + 1)) → ⊥

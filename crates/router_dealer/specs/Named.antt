@@ -45,6 +45,10 @@ abbrev pub IsOwn : List ℕ → Type 0
 IsOwn [] = ⊥
 IsOwn (octet ∷ octets) = octet ≢ 0
 
+-- the most names that are ever drawn: each has four octets for its number, from 1
+abbrev pub most_drawn : ℕ
+most_drawn = 4294967295
+
 -- a name that was drawn, of so many
 abbrev pub IsDrawn : ℕ → List ℕ → Type 0
 IsDrawn drawn name = (n : ℕ) × (1 ≤ n) × (n ≤ drawn) × (name ≡ drawn_name n)

@@ -15,12 +15,13 @@ pub(crate) struct Held {
 impl Model for Held {
     ghost use Rattle.std.specs.Prelude.{◌<◌, IfSome, length, vec_capacity};
     ghost use Rattle.router_dealer.specs.NameTable.{HeldState, kept_of};
+    ghost use Rattle.zq_base.specs.Message.{max_frames};
 
     ghost Value = { HeldState };
 
     ghost view = { λ h. record { kept = kept_of h.name.items h.rest; room = vec_capacity h.name } };
 
-    ghost invariant = { λ h. IfSome h.rest (λ p. length p.1 < 1024) };
+    ghost invariant = { λ h. IfSome h.rest (λ p. length p.1 < max_frames) };
 }
 
 impl Held {
@@ -46,7 +47,7 @@ impl Held {
     /// Keeps a message, behind its name.
     pub(crate) fn keep(&mut self, pair: PairId, name: &[u8], rest: Message)
         requires room { length name.now ≤ self.old.room }
-        requires few { length rest < 1024 }
+        requires few { length rest < Message.MAX }
         ensures kept { self.new.kept ≡ Some (record { pair = pair; message = name.now ∷ rest }) }
         ensures room { self.old.room ≤ self.new.room }
     {
@@ -79,7 +80,7 @@ impl Held {
 
 // Puts a name of these octets before a message.
 fn put_before(alloc: Global, name: &[u8], message: &mut Message) -> Result<(), AllocError>
-    requires { length message.old < 1024 }
+    requires { length message.old < Message.MAX }
     ensures ok { OnOk result (message.new ≡ name.now ∷ message.old) }
     ensures err { OnErr result (message.new ≡ message.old) }
 {

@@ -72,7 +72,7 @@ pub(crate) fn put_or_hand_back<E: Peers>(
 fn behind(room: &mut Vec<Frame>, name: Frame, rest: Message) -> Message
     requires no_frames { room.old.items ≡ [] }
     requires room { length rest + 1 ≤ vec_capacity room.old }
-    requires few { length rest < 1024 }
+    requires few { length rest < Message.MAX }
     ensures whole { result ≡ name ∷ rest }
     ensures no_frames { room.new.items ≡ [] }
 {
@@ -88,7 +88,7 @@ fn behind(room: &mut Vec<Frame>, name: Frame, rest: Message) -> Message
 
 /// Puts a copy of a name before a message.
 pub(crate) fn put_behind(name: &Frame, message: &mut Message) -> Result<(), AllocError>
-    requires { length message.old < 1024 }
+    requires { length message.old < Message.MAX }
     ensures ok { OnOk result (message.new ≡ name.now ∷ message.old) }
     ensures err { OnErr result (message.new ≡ message.old) }
 {

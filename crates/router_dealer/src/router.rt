@@ -1,7 +1,7 @@
 ghost use Rattle.std.specs.Prelude.{is_some, IsTrue, ◌≡◌, ◌≢◌, ◌⊎◌, ◌<◌, ◌≤◌, ◌↔◌, ◌++◌, ◌∷◌, [], ℕ, List, All, None, Some, Ok, length, OnOk, OnErr, IsPermutation};
 ghost use Rattle.msg_pipe.specs.Places.{KeepsPlaces};
 ghost use Rattle.router_dealer.specs.PlaceNames.{place_named, name_placed};
-ghost use Rattle.router_dealer.specs.Named.{no_ends, IsNew, IsIdentity, IsTaken, IsOwn, IsDrawn, named_state, detached_state, Attaches, SendsNamed, TakesNamed, ReceivesNamed, HasName, GivesNamed};
+ghost use Rattle.router_dealer.specs.Named.{most_drawn, no_ends, IsNew, IsIdentity, IsTaken, IsOwn, IsDrawn, named_state, detached_state, Attaches, SendsNamed, TakesNamed, ReceivesNamed, HasName, GivesNamed};
 
 use crate::held::Held;
 use crate::names::Names;
@@ -61,7 +61,7 @@ impl Router {
 
     /// Whether a further name can be drawn: of 4,294,967,295 that there are.
     pub fn can_draw(&self) -> bool
-        ensures { IsTrue result ↔ (self.now.drawn < 4294967295) }
+        ensures { IsTrue result ↔ (self.now.drawn < most_drawn) }
     {
         self.drawn < u32::MAX
     }
@@ -76,7 +76,7 @@ impl Router {
     ) -> Result<Attached, AllocError>
         requires new { IsNew place self.old }
         requires identity { IsIdentity identity.now }
-        requires drawn { self.old.drawn < 4294967295 }
+        requires drawn { self.old.drawn < most_drawn }
         ensures attaches { Attaches identity.now place self.old result self.new }
         ensures bad_id { (result ≡ Ok Attached.BadId) ↔ IsTaken self.old.names identity.now }
     {
@@ -94,7 +94,7 @@ impl Router {
     // The end is attached under the next name that is drawn.
     fn attach_drawn(&mut self, alloc: Global, place: usize) -> Result<Attached, AllocError>
         requires new { IsNew place self.old }
-        requires drawn { self.old.drawn < 4294967295 }
+        requires drawn { self.old.drawn < most_drawn }
         ensures attaches { Attaches [] place self.old result self.new }
         ensures good_id { result ≢ Ok Attached.BadId }
     {
@@ -216,7 +216,7 @@ impl Router {
         mut message: Message,
     ) -> Result<(PairId, Message), RecvFault>
         requires named { HasName self.old.names place }
-        requires few { length message < 1024 }
+        requires few { length message < Message.MAX }
         ensures { GivesNamed place pair message self.old result self.new }
     {
         let name = self.names.name_of(place);

@@ -1,10 +1,14 @@
 -- The topics that go with a peer, one after the other.
-use Rattle.std.proofs.Common.{◌≡◌, ◌∙◌, ℕ, Bool, true, false, not, cond, ◌&&◌, List, [], ◌∷◌, filter, nat_eq, Option, Some, None, refl, sym, ap}
+use Rattle.std.proofs.Common.{◌≡◌, ◌∙◌, ℕ, Bool, true, false, not, cond, ◌&&◌, List, [], ◌∷◌, filter, nat_eq, Option, Some, None, All, refl, sym, ap, subst}
 use Rattle.std.proofs.lemmas.Map.{keys-set_value}
+use Rattle.std.proofs.lemmas.List.Elements.{All-nil, All-cons}
+use Rattle.std.proofs.lemmas.Map.Keys.{IsDistinct-head, IsDistinct-tail, IsDistinct-from_sorted}
 use Rattle.std.proofs.lemmas.Map.Views.{exact_unsigned_eq}
-use Rattle.std.specs.List.{list_any}
+use Rattle.std.specs.Cmp.{unsigned_tied}
+use Rattle.std.specs.List.{list_any, IsDistinct, AllByRecursion}
+use Rattle.std.specs.List.Sorted.{IsStrictlySortedBy}
 use Rattle.std.specs.Ordering.{nat_cmp, eq_by_cmp}
-use Rattle.std.specs.Map.{keys_of, lookup, set_value}
+use Rattle.std.specs.Map.{keys_of, lookup, set_value, remove_entry}
 use Rattle.std.specs.Option.{is_some, unwrap_or}
 use Rattle.spec_pattern.specs.Topics.{Topic, Subscribers, is_among, topics_of, has_topic, others_have, topics_gone, without_peer}
 use Rattle.sub_table.specs.Tables.{ChangesOnly, TakesFirst}
@@ -93,3 +97,25 @@ pub lookup-gone : (p q : ℕ) (old new : Subscribers ℕ) → lookup (eq_by_cmp 
 lookup-gone p q old new h =
     ap (λ test. lookup test new) (sym (same_peer q)) ∙ h
     ∙ (λ j. cond (same_peer p j q) None (lookup (same_peer q j) old))
+
+-- ---- nobody has the number of a peer that went
+
+each_other : (p : ℕ) (ks : List ℕ) → AllByRecursion (λ k. nat_eq p k ≡ false) ks → All (λ k. nat_eq p k ≡ false) ks
+each_other p [] all = All-nil (λ k. nat_eq p k ≡ false)
+each_other p (k ∷ ks) all = All-cons (λ k. nat_eq p k ≡ false) k ks all.0 (each_other p ks all.1)
+
+-- where no two entries have one number, none has the one that goes
+pub others-left : {X : Type 0} (p : ℕ) (es : List (ℕ × X)) → IsDistinct nat_eq (keys_of es) → All (λ k. nat_eq p k ≡ false) (keys_of (remove_entry (nat_eq p) es))
+others-left p [] apart = All-nil (λ k. nat_eq p k ≡ false)
+others-left p (e ∷ es) apart = by (nat_eq p e.0) refl (others-left p es (IsDistinct-tail nat_eq e.0 (keys_of es) apart))
+  where
+    by : (b : Bool) → nat_eq p e.0 ≡ b → All (λ k. nat_eq p k ≡ false) (keys_of (remove_entry (nat_eq p) es))
+        → All (λ k. nat_eq p k ≡ false) (keys_of (cond b es (e ∷ remove_entry (nat_eq p) es)))
+    by true same rest =
+        subst (λ q. All (λ k. nat_eq q k ≡ false) (keys_of es)) (sym (exact_unsigned_eq p e.0 same))
+        (each_other e.0 (keys_of es) (IsDistinct-head nat_eq e.0 (keys_of es) apart))
+    by false other rest = All-cons (λ k. nat_eq p k ≡ false) e.0 (keys_of (remove_entry (nat_eq p) es)) other rest
+
+-- and so it is of entries in the order of their numbers
+pub others-sorted : {X : Type 0} (p : ℕ) (es : List (ℕ × X)) → IsStrictlySortedBy nat_cmp (keys_of es) → All (λ k. nat_eq p k ≡ false) (keys_of (remove_entry (nat_eq p) es))
+others-sorted p es order = others-left p es (subst (λ same. IsDistinct same (keys_of es)) (λ j a b. unsigned_tied a b j) (IsDistinct-from_sorted nat_cmp (keys_of es) order))

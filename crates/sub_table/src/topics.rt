@@ -124,10 +124,11 @@ impl Topics {
     }
 
     /// Takes out the next topic that goes with the peer, since nobody else has it. Where none is
-    /// left, the peer goes.
+    /// left, the peer goes: none has its number then.
     pub fn next_gone(&mut self, peer: usize) -> Option<Vec<u8>>
         ensures { MatchOption result
-            ((topics_gone nat_eq self.old peer ≡ []) × (self.new ≡ without_peer nat_eq peer self.old))
+            ((topics_gone nat_eq self.old peer ≡ []) × (self.new ≡ without_peer nat_eq peer self.old)
+            × All (λ p. nat_eq peer p ≡ false) (keys_of self.new))
             (λ t. TakesGone peer t.items self.old self.new) }
     {
         'topics: while let Some(topic) = self.take_first(peer) {
@@ -139,9 +140,10 @@ impl Topics {
         None
     }
 
-    /// The peer goes, with all its topics.
+    /// The peer goes, with all its topics: none has its number then.
     pub fn leave(&mut self, peer: usize)
-        ensures { self.new ≡ without_peer nat_eq peer self.old }
+        ensures gone { self.new ≡ without_peer nat_eq peer self.old }
+        ensures others { All (λ p. nat_eq peer p ≡ false) (keys_of self.new) }
     {
         'topics: while let Some(_topic) = self.next_gone(peer) {}
     }

@@ -7,7 +7,7 @@ use zq_top::Status;
 type Pieces = &'static [(&'static [u8], usize)];
 
 /// Long scripts, and how what their runs print ends.
-const LIMITS: [(Pieces, Pieces); 7] = [
+const LIMITS: [(Pieces, Pieces); 10] = [
     // One receive of a REP drops 256 messages at the most.
     (
         &[
@@ -42,6 +42,25 @@ const LIMITS: [(Pieces, Pieces); 7] = [
             (b" !filtered@p1", 256),
             (
                 b"\na 266 again !filtered@p1\npipe p1a sent 2 given 0 heard 1 dropped 0 written 0 lost 0 rest 1 closed\npipe p1b sent 257 given 0 heard 0 dropped 257 written 0 lost 0 rest 0 -\ndone\n",
+                1,
+            ),
+        ],
+    ),
+    // And so does one of a REQ: another peer's messages are strays, whatever they look like.
+    (
+        &[
+            (
+                b"actor a\nsocket r ROUTER\nsocket t ROUTER\nsocket q REQ id=q\nbind r inproc://r\nbind t inproc://t\nconnect q inproc://r\nconnect q inproc://t\nsend q one\n",
+                1,
+            ),
+            (b"send t q - x\n", 257),
+            (b"recv q\nrecv q\n", 1),
+        ],
+        &[
+            (b"a 266 ok p2\na 267 busy", 1),
+            (b" !stray@p2", 256),
+            (
+                b"\na 268 again !stray@p2\npipe p1a sent 1 given 0 heard 0 dropped 0 written 0 lost 0 rest 1 closed\npipe p1b sent 0 given 0 heard 0 dropped 0 written 0 lost 0 rest 0 -\npipe p2a sent 0 given 0 heard 0 dropped 0 written 0 lost 0 rest 0 -\npipe p2b sent 257 given 0 heard 0 dropped 257 written 0 lost 0 rest 0 -\ndone\n",
                 1,
             ),
         ],
@@ -127,6 +146,44 @@ const LIMITS: [(Pieces, Pieces); 7] = [
         ],
         &[(
             b"a 6 ok p1\na 7 toolarge\na 8 ok p1\npipe p1a sent 1 given 0 heard 0 dropped 0 written 0 lost 0 rest 1 closed\npipe p1b sent 1 given 0 heard 0 dropped 0 written 0 lost 0 rest 1 closed\ndone\n",
+            1,
+        )],
+    ),
+    // A request and a reply are committed with an empty frame before them, which counts.
+    (
+        &[
+            (
+                b"actor a\nsocket q REQ\nsocket p REP\nbind p inproc://q\nconnect q inproc://q\nsend q",
+                1,
+            ),
+            (b" x", 1023),
+            (b"\nsend q one\nrecv p\nsend p", 1),
+            (b" x", 1023),
+            (b"\nsend p", 1),
+            (b" x", 1022),
+            (b"\n", 1),
+        ],
+        &[(
+            b"a 6 toolarge\na 7 ok p1\na 8 msg p1 one\na 9 toolarge\na 10 ok p1\npipe p1a sent 1 given 1 heard 0 dropped 0 written 0 lost 0 rest 0 -\npipe p1b sent 1 given 0 heard 0 dropped 0 written 0 lost 0 rest 1 closed\ndone\n",
+            1,
+        )],
+    ),
+    // An XPUB and an XSUB commit 1,023 frames at the most, too.
+    (
+        &[
+            (
+                b"actor a\nsocket x XPUB\nsocket y XSUB\nbind x inproc://q\nconnect y inproc://q\nsend x",
+                1,
+            ),
+            (b" x", 1024),
+            (b"\nsend y", 1),
+            (b" x", 1024),
+            (b"\nsend y", 1),
+            (b" x", 1023),
+            (b"\n", 1),
+        ],
+        &[(
+            b"a 5 ok p1\na 6 toolarge\na 7 toolarge\na 8 ok p1\npipe p1a sent 1 given 0 heard 0 dropped 0 written 0 lost 0 rest 1 closed\npipe p1b sent 0 given 0 heard 0 dropped 0 written 0 lost 0 rest 0 -\ndone\n",
             1,
         )],
     ),

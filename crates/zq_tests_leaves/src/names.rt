@@ -36,17 +36,21 @@ fn is_unbound_once(book: &mut EndpointBook, at: &Endpoint) -> bool {
     held && by_another && by_its_holder && again && book.find(at).is_none()
 }
 
+// Whether a name and an address have one holder each until they are unbound.
+fn have_one_holder(alloc: Global, book: &mut EndpointBook, name: &Endpoint) -> bool {
+    let bound = is_bound_once(alloc, book, name) && is_bound_once(alloc, book, &tcp(5));
+    bound && is_unbound_once(book, name) && is_unbound_once(book, &tcp(5))
+}
+
+fn are_held_once(alloc: Global, book: &mut EndpointBook) -> Result<bool, AllocError> {
+    let name = inproc(alloc, b"a")?;
+    Ok(have_one_holder(alloc, book, &name))
+}
+
 #[test]
 fn an_endpoint_has_one_holder_until_it_is_unbound(rt: HostRuntime) -> Result<(), Fail> {
-    let alloc = rt.alloc();
-    let mut book = EndpointBook::new(alloc);
-    let endpoints = [inproc(alloc, b"a")?, tcp(5)];
-    for at in &endpoints {
-        assert!(rt; is_bound_once(alloc, &mut book, at));
-    }
-    for at in &endpoints {
-        assert!(rt; is_unbound_once(&mut book, at));
-    }
+    let mut book = EndpointBook::new(rt.alloc());
+    assert!(rt; are_held_once(rt.alloc(), &mut book)?);
     Ok(())
 }
 
@@ -59,12 +63,16 @@ fn are_apart(alloc: Global, book: &mut EndpointBook, name: &Endpoint, address: &
     named && is_free && bound && found && book.find(name) == Some(binding(1, Kind::Pull))
 }
 
+// Whether a name that reads as an address is bound beside it, and no other address with them.
+fn reads_as_an_address(alloc: Global, book: &mut EndpointBook) -> Result<bool, AllocError> {
+    let name = inproc(alloc, b"tcp://1.2.3.4:5")?;
+    Ok(are_apart(alloc, book, &name, &tcp(5)) && book.find(&tcp(6)).is_none())
+}
+
 #[test]
 fn a_name_that_reads_as_an_address_is_another_endpoint(rt: HostRuntime) -> Result<(), Fail> {
     let mut book = EndpointBook::new(rt.alloc());
-    let name = inproc(rt.alloc(), b"tcp://1.2.3.4:5")?;
-    assert!(rt; are_apart(rt.alloc(), &mut book, &name, &tcp(5)));
-    assert!(rt; book.find(&tcp(6)).is_none());
+    assert!(rt; reads_as_an_address(rt.alloc(), &mut book)?);
     Ok(())
 }
 
@@ -121,16 +129,29 @@ fn wait_all(alloc: Global, book: &mut EndpointBook) -> Result<(), AllocError> {
     Ok(())
 }
 
+// Whether the PULL of socket 9 fulfils three connects of a, in their order, and none of an address.
+fn are_fulfilled(alloc: Global, book: &mut EndpointBook, a: &Endpoint) -> Result<bool, AllocError> {
+    let pull = binding(9, Kind::Pull);
+    let waiting = are_waiting(alloc, book, a, pull, &[ObjId(3), ObjId(5), ObjId(3)])?;
+    Ok(waiting && are_taken(book, a, pull) && book.count_waiting(&tcp(5), pull) == 0)
+}
+
+// Whether the others go on waiting, once these are taken out.
+fn others_go_on(alloc: Global, book: &EndpointBook, a: &Endpoint) -> Result<bool, AllocError> {
+    let b = inproc(alloc, b"b")?;
+    Ok(others_wait(book, a, &b))
+}
+
+fn fulfils_its_own(alloc: Global, book: &mut EndpointBook) -> Result<bool, AllocError> {
+    wait_all(alloc, book)?;
+    let a = inproc(alloc, b"a")?;
+    Ok(are_fulfilled(alloc, book, &a)? && others_go_on(alloc, book, &a)?)
+}
+
 #[test]
 fn connects_are_fulfilled_in_order_and_others_go_on_waiting(rt: HostRuntime) -> Result<(), Fail> {
     let mut book = EndpointBook::new(rt.alloc());
-    wait_all(rt.alloc(), &mut book)?;
-    let a = inproc(rt.alloc(), b"a")?;
-    let waiters = [ObjId(3), ObjId(5), ObjId(3)];
-    let pull = binding(9, Kind::Pull);
-    assert!(rt; are_waiting(rt.alloc(), &book, &a, pull, &waiters)?);
-    assert!(rt; are_taken(&mut book, &a, pull) && book.count_waiting(&tcp(5), pull) == 0);
-    assert!(rt; others_wait(&book, &a, &inproc(rt.alloc(), b"b")?));
+    assert!(rt; fulfils_its_own(rt.alloc(), &mut book)?);
     Ok(())
 }
 
@@ -153,18 +174,64 @@ fn holds_nothing(book: &EndpointBook, a: &Endpoint) -> bool {
     name && book.find(&tcp(2)) == Some(binding(8, Kind::Dealer))
 }
 
+// The connects of sockets 7 and 8 to c.
+fn wait_for_c(alloc: Global, book: &mut EndpointBook) -> Result<(), AllocError> {
+    for waiter in [7, 8, 7, 8] {
+        wait(alloc, book, b"c", waiter, Kind::Dealer)?;
+    }
+    Ok(())
+}
+
+// Whether these connects wait for c.
+fn wait_at_c(
+    alloc: Global,
+    book: &EndpointBook,
+    c: &Endpoint,
+    waiters: &[ObjId],
+) -> Result<bool, AllocError> {
+    are_waiting(alloc, book, c, binding(1, Kind::Router), waiters)
+}
+
+// Whether socket 8 takes one of its connects back.
+fn is_taken_back(
+    alloc: Global,
+    book: &mut EndpointBook,
+    a: &Endpoint,
+    c: &Endpoint,
+) -> Result<bool, AllocError> {
+    let taken = bind_all(alloc, book, a) && takes_back(book, a, c);
+    Ok(taken && wait_at_c(alloc, book, c, &[ObjId(7), ObjId(7), ObjId(8)])?)
+}
+
+// Whether socket 7 is dropped with all that it holds and waits for.
+fn is_dropped(
+    alloc: Global,
+    book: &mut EndpointBook,
+    a: &Endpoint,
+    c: &Endpoint,
+) -> Result<bool, AllocError> {
+    book.drop_object(ObjId(7));
+    Ok(holds_nothing(book, a) && wait_at_c(alloc, book, c, &[ObjId(8)])?)
+}
+
+fn comes_and_goes(
+    alloc: Global,
+    book: &mut EndpointBook,
+    a: &Endpoint,
+) -> Result<bool, AllocError> {
+    let c = inproc(alloc, b"c")?;
+    Ok(is_taken_back(alloc, book, a, &c)? && is_dropped(alloc, book, a, &c)?)
+}
+
+fn lets_go(alloc: Global, book: &mut EndpointBook) -> Result<bool, AllocError> {
+    wait_for_c(alloc, book)?;
+    let a = inproc(alloc, b"a")?;
+    comes_and_goes(alloc, book, &a)
+}
+
 #[test]
 fn a_connect_is_taken_back_and_an_object_is_dropped(rt: HostRuntime) -> Result<(), Fail> {
-    let alloc = rt.alloc();
-    let mut book = EndpointBook::new(alloc);
-    let (a, c) = (inproc(alloc, b"a")?, inproc(alloc, b"c")?);
-    for waiter in [7, 8, 7, 8] {
-        wait(alloc, &mut book, b"c", waiter, Kind::Dealer)?;
-    }
-    assert!(rt; bind_all(alloc, &mut book, &a) && takes_back(&mut book, &a, &c));
-    let router = binding(1, Kind::Router);
-    assert!(rt; are_waiting(alloc, &book, &c, router, &[ObjId(7), ObjId(7), ObjId(8)])?);
-    book.drop_object(ObjId(7));
-    assert!(rt; holds_nothing(&book, &a) && are_waiting(alloc, &book, &c, router, &[ObjId(8)])?);
+    let mut book = EndpointBook::new(rt.alloc());
+    assert!(rt; lets_go(rt.alloc(), &mut book)?);
     Ok(())
 }

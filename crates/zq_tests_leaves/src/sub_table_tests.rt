@@ -1,3 +1,6 @@
+ghost use Rattle.sub_table.specs.Telling.{IsKnown};
+
+use std::alloc::{AllocError, Global};
 use std::test::Fail;
 use sub_table::{Added, Cancelled, NotSub, Told, Topics, Wanted, WantedError};
 
@@ -58,22 +61,43 @@ fn equal_topics_are_counted(rt: HostRuntime) -> Result<(), Fail> {
     Ok(())
 }
 
+// Whether the topic is told, and nothing is left to tell then.
+fn is_told(alloc: Global, wanted: &Wanted, told: &mut Told) -> Result<bool, AllocError>
+    requires { IsKnown wanted.now told.old }
+{
+    told.add(alloc, wanted, b"a")?;
+    Ok(told.is_told(b"a") && told.difference(alloc, wanted)?.is_none())
+}
+
+// Whether the first difference is to subscribe to the topic.
+fn is_to_be_told(alloc: Global, wanted: &Wanted, told: &mut Told) -> Result<bool, AllocError>
+    requires { IsKnown wanted.now told.old }
+    ensures { IsKnown wanted.now told.new }
+{
+    match told.difference(alloc, wanted)? {
+        Some((octet, topic)) => return Ok(octet == 1 && topic.as_slice() == b"a".as_slice()),
+        None => return Ok(false),
+    }
+}
+
+// Whether a peer was not told the topic once it is cancelled.
+fn is_not_told(alloc: Global, wanted: &Wanted, told: &mut Told) -> bool {
+    told.cancel(wanted, b"a");
+    told.note(alloc, b"a");
+    !told.is_told(b"a")
+}
+
+fn is_told_once(alloc: Global, wanted: &Wanted) -> Result<bool, AllocError> {
+    let mut told = Told::new(alloc);
+    let first = is_to_be_told(alloc, wanted, &mut told)? && is_told(alloc, wanted, &mut told)?;
+    Ok(first && is_not_told(alloc, wanted, &mut told))
+}
+
 #[test]
 fn a_wanted_topic_is_told_once(rt: HostRuntime) -> Result<(), Fail> {
-    let alloc = rt.alloc();
-    let mut wanted = Wanted::new(alloc);
-    let mut told = Told::new(alloc);
-    wanted.subscribe(alloc, b"a").map_err(|_| "room")?;
-    let Some((octet, topic)) = told.difference(alloc, &wanted)? else {
-        return Err("a topic".into());
-    };
-    assert_eq!(rt; (octet, topic.as_slice()), (1, b"a".as_slice()));
-    told.add(alloc, &wanted, b"a")?;
-    assert!(rt; told.is_told(b"a"));
-    assert!(rt; told.difference(alloc, &wanted)?.is_none());
-    told.cancel(&wanted, b"a");
-    told.note(alloc, b"a");
-    assert!(rt; !told.is_told(b"a"));
+    let mut wanted = Wanted::new(rt.alloc());
+    wanted.subscribe(rt.alloc(), b"a").map_err(|_| "room")?;
+    assert!(rt; is_told_once(rt.alloc(), &wanted)?);
     Ok(())
 }
 

@@ -74,3 +74,13 @@ returns-in-XSub-clause-ok c = taken_both c.attach-in-XSub.result c.taken-in-XSub
 
 pub returns-in-XSub-clause-err : goal.returns-in-XSub-clause-err
 returns-in-XSub-clause-err c = taken_err c.attach-in-XSub.result c.taken-in-XSub.result _ _ c.taken-in-XSub.ensures c.attach-in-XSub.ensures.err (λ same. ap sock.XSub same ∙ sym c.in-XSub.is)
+
+pub attach-requires-in-Sub : goal.attach-requires-in-Sub
+attach-requires-in-Sub c =
+    let last = subst (λ (q : AnySock). All (λ k. k < c.args.place) (peer_places q)) c.in-Sub.is c.requires.last in
+    record { last = all_behind (λ k. k < c.args.place) c.in-Sub.subscriber.ins _ last }
+
+pub attach-requires-in-XSub : goal.attach-requires-in-XSub
+attach-requires-in-XSub c =
+    let last = subst (λ (q : AnySock). All (λ k. k < c.args.place) (peer_places q)) c.in-XSub.is c.requires.last in
+    record { last = all_behind (λ k. k < c.args.place) c.in-XSub.subscriber.ins _ last }

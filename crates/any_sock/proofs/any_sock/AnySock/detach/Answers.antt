@@ -23,13 +23,13 @@ pub returns-in-Router : goal.returns-in-Router
 returns-in-Router c = router_left _ _ c.args.self.now c.in-Router.router c.detach-in-Router.new.self c.in-Router.is c.detach-in-Router.ensures
 
 pub returns-in-Pub : goal.returns-in-Pub
-returns-in-Pub c = pub_left _ _ c.args.self.now c.in-Pub.publisher c.detach-in-Pub.new.self c.in-Pub.is c.detach-in-Pub.ensures.gone c.detach-in-Pub.ensures.defined
+returns-in-Pub c = pub_left _ _ c.args.self.now c.in-Pub.publisher c.detach-in-Pub.new.self c.in-Pub.is c.detach-in-Pub.ensures.gone c.detach-in-Pub.ensures.defined c.detach-in-Pub.ensures.others
 
 pub returns-in-XPub : goal.returns-in-XPub
-returns-in-XPub c = xpub_left _ _ c.args.self.now c.in-XPub.publisher c.detach-in-XPub.new.self c.in-XPub.is c.detach-in-XPub.ensures.gone c.detach-in-XPub.ensures.defined
+returns-in-XPub c = xpub_left _ _ c.args.self.now c.in-XPub.publisher c.detach-in-XPub.new.self c.in-XPub.is c.detach-in-XPub.ensures.gone c.detach-in-XPub.ensures.defined c.detach-in-XPub.ensures.others
 
 pub returns-in-Sub : goal.returns-in-Sub
-returns-in-Sub c = sub_left _ _ c.args.self.now c.in-Sub.subscriber c.detach-in-Sub.new.self c.in-Sub.is c.detach-in-Sub.ensures.gone c.detach-in-Sub.ensures.defined
+returns-in-Sub c = sub_left _ _ c.args.self.now c.in-Sub.subscriber c.detach-in-Sub.new.self c.in-Sub.is c.detach-in-Sub.ensures.gone c.detach-in-Sub.ensures.defined c.detach-in-Sub.ensures.others
 
 pub returns-in-XSub : goal.returns-in-XSub
-returns-in-XSub c = xsub_left _ _ c.args.self.now c.in-XSub.subscriber c.detach-in-XSub.new.self c.in-XSub.is c.detach-in-XSub.ensures.gone c.detach-in-XSub.ensures.defined
+returns-in-XSub c = xsub_left _ _ c.args.self.now c.in-XSub.subscriber c.detach-in-XSub.new.self c.in-XSub.is c.detach-in-XSub.ensures.gone c.detach-in-XSub.ensures.defined c.detach-in-XSub.ensures.others

@@ -1,4 +1,8 @@
-use Rattle.std.proofs.Common.{◌∙◌, ap, sym, subst}
+use Rattle.std.proofs.Common.{◌≡◌, ◌∙◌, false, nat_eq, ap, sym, subst}
+use Rattle.std.proofs.lemmas.List.Elements.{All-append}
+use Rattle.std.specs.Map.{keys_of}
+use Rattle.pub_sub.specs.Places.{AreOthers}
+use Rattle.pub_sub.proofs.SubscriberLemmas.{others_turns}
 use Rattle.pub_sub.specs.Publishers.{PubState}
 use Rattle.pub_sub.specs.Audiences.{CanTell}
 use Rattle.pub_sub.proofs.KnownLemmas.{IsPublisher-without}
@@ -23,8 +27,8 @@ invariant_of-self c =
       inbox = c.self.inside.audience.inbox.notices;
       verbose = c.self.inside.audience.verbose;
       tells = c.self.inside.audience.tells;
-    }) c.self.inside.audience.inbox.spare c.self.invariant.known c.remove.ensures c.leave.ensures c.forget.ensures
-    (subst (λ l. CanTell c.self.inside.audience.tells c.self.inside.audience.inbox.spare l 0) (sym c.leave.ensures)
+    }) c.self.inside.audience.inbox.spare c.self.invariant.known c.remove.ensures c.leave.ensures.gone c.forget.ensures
+    (subst (λ l. CanTell c.self.inside.audience.tells c.self.inside.audience.inbox.spare l 0) (sym c.leave.ensures.gone)
     (CanTell-silent c.self.inside.audience.tells c.self.inside.audience.inbox.spare c.args.place c.self.inside.audience.topics c.self.invariant.can_tell
     (ap (λ (p : PubState). p.tells) c.self.view_is ∙ c.requires)))
 
@@ -48,9 +52,14 @@ returns-clause-defined c =
     }) c.self.view_is c.self.invariant.known (ap (λ (p : PubState). p.tells) c.self.view_is ∙ c.requires)
     (λ j. record {
       ins = c.remove.ensures j;
-      subs = c.leave.ensures j;
+      subs = c.leave.ensures.gone j;
       kept = c.forget.ensures j;
       inbox = c.self.inside.audience.inbox.notices;
       verbose = c.self.inside.audience.verbose;
       tells = c.self.inside.audience.tells;
     })
+
+pub returns-clause-others : goal.returns-clause-others
+returns-clause-others c =
+    All-append (λ k. nat_eq c.args.place k ≡ false) c.remove.new.self (keys_of c.leave.new.self)
+    (subst (AreOthers c.args.place) (sym c.remove.ensures) (others_turns c.args.place c.self.inside.ins)) c.leave.ensures.others

@@ -1,4 +1,8 @@
-use Rattle.std.proofs.Common.{◌∙◌, ap}
+use Rattle.std.proofs.Common.{◌≡◌, ◌∙◌, false, nat_eq, ap, sym, subst}
+use Rattle.std.proofs.lemmas.List.Elements.{All-append}
+use Rattle.std.specs.Map.{keys_of}
+use Rattle.pub_sub.specs.Places.{AreOthers}
+use Rattle.pub_sub.proofs.SubscriberLemmas.{others_turns}
 use Rattle.pub_sub.specs.declared.audience.Audience.{Audience}
 use Rattle.pub_sub.proofs.KnownLemmas.{IsPublisher-without}
 use Rattle.pub_sub.specs.Publishers.{PubState}
@@ -50,3 +54,8 @@ returns-clause-defined c =
       verbose = (c.leave.ensures.ok j).verbose;
       tells = (c.leave.ensures.ok j).tells;
     })
+
+pub returns-clause-others : goal.returns-clause-others
+returns-clause-others c =
+    All-append (λ k. nat_eq c.args.place k ≡ false) c.remove.new.self (keys_of c.leave.new.self.topics)
+    (subst (AreOthers c.args.place) (sym c.remove.ensures) (others_turns c.args.place c.self.inside.ins)) c.leave.ensures.others

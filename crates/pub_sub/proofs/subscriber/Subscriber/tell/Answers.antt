@@ -1,4 +1,4 @@
-use Rattle.std.proofs.Common.{sym, ap, subst, refl}
+use Rattle.std.proofs.Common.{subst}
 use Rattle.pub_sub.specs.Subscribing.{SubState, TellsPeers}
 use Rattle.pub_sub.proofs.SubscriberLemmas.{TellsPeers-none}
 use Rattle.pub_sub.proofs.subscriber.Subscriber.tell.Goals as goal

@@ -1,5 +1,6 @@
-use Rattle.std.proofs.Common.{◌∙◌, All, sym, ap, subst, arith, true≢false}
+use Rattle.std.proofs.Common.{◌∙◌, All, nat_eq, sym, ap, subst, arith, true≢false}
 use Rattle.std.proofs.lemmas.List.{with_items_is}
+use Rattle.std.specs.List.{IsDistinct}
 use Rattle.std.specs.Map.{keys_of}
 use Rattle.pub_sub.specs.Telling.{IsFollower, IsTold}
 use Rattle.pub_sub.specs.Followers.{rows_of, places_of}
@@ -18,6 +19,9 @@ tell_all-requires-clause-follow g c = subst (All (IsFollower c.self.inside.wante
 pub invariant_of-self : goal.invariant_of-self
 invariant_of-self g c = record {
   short = c.self.invariant.short;
+  apart = subst (IsDistinct nat_eq)
+      (ap places_of (sym c.as_mut_slice.ensures.value) ∙ sym c.tell_all.ensures.same.places_are
+      ∙ ap places_of (sym (with_items_is c.self.inside.followers c.tell_all.new.followers (omega (arith, c.tell_all.auto.followers, c.as_mut_slice.ensures.len))))) c.self.invariant.apart;
   follow = subst (All (IsFollower c.self.inside.wanted)) (sym (with_items_is c.self.inside.followers c.tell_all.new.followers (omega (arith, c.tell_all.auto.followers, c.as_mut_slice.ensures.len)))) c.tell_all.ensures.same.follow;
   none_left = λ e. absurd (true≢false (sym e));
 }
@@ -25,6 +29,9 @@ invariant_of-self g c = record {
 pub invariant_of-self-2 : goal.invariant_of-self-2
 invariant_of-self-2 g c = record {
   short = c.self.invariant.short;
+  apart = subst (IsDistinct nat_eq)
+      (ap places_of (sym c.as_mut_slice.ensures.value) ∙ sym c.tell_all.ensures.same.places_are
+      ∙ ap places_of (sym (with_items_is c.self.inside.followers c.tell_all.new.followers (omega (arith, c.tell_all.auto.followers, c.as_mut_slice.ensures.len))))) c.self.invariant.apart;
   follow = subst (All (IsFollower c.self.inside.wanted)) (sym (with_items_is c.self.inside.followers c.tell_all.new.followers (omega (arith, c.tell_all.auto.followers, c.as_mut_slice.ensures.len)))) c.tell_all.ensures.same.follow;
   none_left = λ e. subst (All (IsTold c.self.inside.wanted)) (sym (with_items_is c.self.inside.followers c.tell_all.new.followers (omega (arith, c.tell_all.auto.followers, c.as_mut_slice.ensures.len)))) (c.in_ok-none.ensures.none e);
 }

@@ -1,9 +1,9 @@
-use Rattle.std.proofs.Common.{◌≡◌, refl, sym, ap, ◌∙◌, true, false, nat_eq}
-use Rattle.std.specs.Map.{remove_entry}
+use Rattle.std.proofs.Common.{◌≡◌, All, refl, sym, ap, subst, ◌∙◌, true, false, nat_eq}
+use Rattle.std.specs.Map.{keys_of, remove_entry}
 use Rattle.spec_pattern.specs.Topics.{others_have, topics_of, without_peer}
 use Rattle.sub_table.proofs.RowLemmas.{same_peer}
 use Rattle.sub_table.proofs.TieLemmas.{AreTied-rows}
-use Rattle.sub_table.proofs.GoneLemmas.{ChangesOnly-none, ChangesOnly-then, topics_gone-shared, topics_gone-alone, topics_gone-none, without_peer-only, has_topic-gone, lookup-gone}
+use Rattle.sub_table.proofs.GoneLemmas.{ChangesOnly-none, ChangesOnly-then, topics_gone-shared, topics_gone-alone, topics_gone-none, without_peer-only, has_topic-gone, lookup-gone, others-sorted}
 use Rattle.sub_table.proofs.topics.Topics.next_gone.Goals as goal
 
 pub topics-init : goal.topics-init
@@ -40,4 +40,7 @@ returns c = (
   c.remove.ensures.entries ∙ ap (λ test. remove_entry test c.self.inside.peers.entries) (same_peer c.args.peer)
       ∙ ap (without_peer nat_eq c.args.peer) (c.self.view_is ∙ c.in_default.ensures.1)
       ∙ without_peer-only c.args.peer c.args.self.now c.topics.self c.topics.invariant.only,
+  subst (λ es. All (λ p. nat_eq c.args.peer p ≡ false) (keys_of es))
+      (sym (c.remove.ensures.entries ∙ ap (λ test. remove_entry test c.self.inside.peers.entries) (same_peer c.args.peer)))
+      (others-sorted c.args.peer c.self.inside.peers.entries c.self.invariant.order),
 )

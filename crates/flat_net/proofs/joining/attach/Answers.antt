@@ -1,6 +1,6 @@
 use Rattle.std.proofs.Common.{arith}
 use Rattle.flat_net.proofs.NetLemmas.{ok_more, sock_here, attached_so}
-use Rattle.flat_net.proofs.net.attach.Goals as goal
+use Rattle.flat_net.proofs.joining.attach.Goals as goal
 
 pub attach-requires-clause-last : goal.attach-requires-clause-last
 attach-requires-clause-last c =
