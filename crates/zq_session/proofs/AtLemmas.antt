@@ -14,7 +14,7 @@ use Rattle.msg_pipe.specs.Told.{take_step}
 use Rattle.msg_pipe.specs.declared.pipes.Taken.{Taken}
 use Rattle.msg_pipe.specs.declared.pipes.Taken.TheVariants as taken
 use Rattle.spec_pattern.specs.PipeStep.{PipeStep}
-use Rattle.spec_link.specs.LinkAct.{LinkAct, said_of, heard_of}
+use Rattle.spec_link.specs.LinkAct.{LinkAct, said_of, heard_of, taken_of, repeated_of}
 use Rattle.spec_link.specs.Parts.{IsSilentReadPart, NothingHeld, SomethingHeld, write_acts, read_acts, puts}
 use Rattle.spec_link.specs.Turn.{IsWriteOnly}
 use Rattle.zq_session.specs.declared.write_part.Written.{Written}
@@ -32,6 +32,7 @@ use Rattle.zq_session.proofs.KeptLemmas.{acts_on, acts_same, no_acts}
 use Rattle.zq_session.proofs.UnputLemmas.{does_by, does_nothing, does_puts, run_of, unput_on, unput_puts, unput_read}
 use Rattle.zq_session.proofs.PartLemmas.{adds_none, some_pipe}
 use Rattle.zq_session.proofs.HalfLemmas.{no_steps, one_step, puts_steps}
+use Rattle.zq_session.proofs.NotingLemmas.{write_still, put_still}
 use Rattle.zq_session.proofs.BothLemmas.{write_says, write_hears, write_steps, put_says, put_hears}
 
 no_true : (b : Bool) → b ≡ false → b ≡ true → ⊥
@@ -122,7 +123,7 @@ module _ {S O I N : Type 0} (K : Known S O I N) where
   take_run pipe taken.Empty s s' h h' o r = record { old = h; new = h'; was = refl; is = refl; other = refl; runs = r }
   take_run pipe taken.Delimiter s s' h h' o r = record { old = h; new = h'; was = refl; is = refl; other = refl; runs = r }
 
-  took_steps : (pipe : PipeId) (found : Option Taken) (s s' : S) (h h' : I) (o : Option O) → TookRun K s h found s' h' → StepsRun K (flat_map step_in (take_acts pipe found)) s (Some h) o s' (Some h') o
+  pub took_steps : (pipe : PipeId) (found : Option Taken) (s s' : S) (h h' : I) (o : Option O) → TookRun K s h found s' h' → StepsRun K (flat_map step_in (take_acts pipe found)) s (Some h) o s' (Some h') o
   took_steps pipe None s s' h h' o r = (r.0, (ap (λ (x : I). Some x) r.1, refl))
   took_steps pipe (Some found) s s' h h' o r = one_step K (take_step pipe found) s s' (Some h) (Some h') o o (take_run pipe found s s' h h' o r)
 
@@ -222,6 +223,8 @@ module _ {S O I N : Type 0} (K : Known S O I N) where
     said_last = write_acts put w.octets;
     said_is = subst (λ (x : List ℕ). Adds said x said') (sym (write_says put w.octets w.fits)) w.told;
     hears = write_hears put w.octets;
+    takes = (write_still put w.octets).takes;
+    repeats = (write_still put w.octets).repeats;
     steps = λ i. subst (λ (l : List PipeStep). StepsRun K l s i o s i o) (sym (write_steps put w.octets)) (no_steps K s i o);
     run = w.run;
     all = λ x. absurd (no_true puts d x);
@@ -239,6 +242,8 @@ module _ {S O I N : Type 0} (K : Known S O I N) where
         said_last = [];
         said_is = subst (λ (x : List ℕ). Adds said x said) (sym (ap (λ (l : List LinkAct). said_of l) (append-nil acts_put) ∙ put_says pipe w.messages w.full)) (adds_none said);
         hears = ap (λ (l : List LinkAct). heard_of l) (append-nil acts_put) ∙ put_hears pipe w.messages w.full;
+        takes = ap (λ (l : List LinkAct). taken_of l) (append-nil acts_put) ∙ (put_still pipe w.messages w.full).takes;
+        repeats = ap (λ (l : List LinkAct). repeated_of l) (append-nil acts_put) ∙ (put_still pipe w.messages w.full).repeats;
         steps = λ i. subst (λ (l : List LinkAct). StepsRun K (flat_map step_in l) s i o s' i o') (sym (append-nil acts_put))
             (subst (λ (x : Option O). StepsRun K (flat_map step_in acts_put) s i x s' i o') (sym was)
             (subst (λ (x : Option O). StepsRun K (flat_map step_in acts_put) s i (Some h) s' i x) (sym is)
@@ -257,6 +262,8 @@ module _ {S O I N : Type 0} (K : Known S O I N) where
     said_last = [];
     said_is = adds_none said;
     hears = refl;
+    takes = refl;
+    repeats = refl;
     steps = λ i. no_steps K s i o;
     run = no_acts k;
     all = λ x. absurd (no_true puts d x);

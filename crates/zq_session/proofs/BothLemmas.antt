@@ -1,6 +1,6 @@
 -- The two parts of a turn, by how the session stands.
-use Rattle.std.proofs.Common.{◌≡◌, ℕ, zero, suc, Bool, true, false, List, [], ◌∷◌, ◌++◌, length, drop, Option, Some, None, refl, sym, ap, subst, ◌∙◌, inl, inr, arith}
-use Rattle.std.specs.Prelude.{◌⊎◌, ◌&&◌, if◌then◌else◌, Contains, option_map}
+use Rattle.std.proofs.Common.{◌≡◌, ℕ, Bool, true, false, List, [], ◌∷◌, ◌++◌, Option, Some, None, refl, sym, ap, subst, ◌∙◌, inl, inr, arith}
+use Rattle.std.specs.Prelude.{Contains}
 use Rattle.std.specs.List.{flat_map}
 use Rattle.std.proofs.lemmas.List.{append-nil}
 use Rattle.std.proofs.lemmas.List.Concat.{flat_map-append}
@@ -13,34 +13,33 @@ use Rattle.zq_outer.specs.declared.link.LinkPut.{LinkPut}
 use Rattle.zq_outer.specs.declared.link.LinkPut.TheVariants as link_put
 use Rattle.msg_pipe.specs.Known.{Known}
 use Rattle.msg_pipe.specs.Told.{take_step}
-use Rattle.msg_pipe.specs.declared.pipes.Taken.{Taken}
 use Rattle.msg_pipe.specs.declared.pipes.Taken.TheVariants as taken
 use Rattle.spec_pattern.specs.PipeStep.{PipeStep, Commit, FullLook, Take, EmptyLook, DelimiterLook, read_through}
-use Rattle.spec_pattern.specs.Topics.{Topic}
 use Rattle.spec_control.specs.declared.end.EndState.{EndState}
 use Rattle.spec_control.specs.declared.end.EndState.TheVariants.{Active}
 use Rattle.spec_link.specs.declared.row.LinkEnd.{LinkEnd}
 use Rattle.spec_link.specs.declared.row.LinkEnd.TheVariants as why
-use Rattle.spec_link.specs.LinkAct.{LinkAct, Wire, Step, Writes, Reads, said_by, heard_by, said_of, heard_of, taken_of, repeated_of}
-use Rattle.spec_link.specs.Parts.{IsTake, IsWritePart, IsWriteOver, WriteFits, ReadFits, write_acts, read_acts}
+use Rattle.spec_link.specs.LinkAct.{LinkAct, Wire, Step, Writes, Reads, Repeats, said_by, heard_by, taken_by, repeated_by, said_of, heard_of}
+use Rattle.spec_link.specs.Parts.{IsTake, IsWriteOver, WriteFits, ReadFits, write_acts, read_acts}
 use Rattle.spec_link.specs.History.{Basis, Standing}
-use Rattle.spec_link.specs.Rows.{ClosedLink}
-use Rattle.spec_link.specs.Turn.{IsEnded, IsEndedBy, EndsBy, IsWriteOnly, IsNextOf, HasNext, WritesAt, ReadsAt, CanRead, topics_due, topics_left, topics_taken, subscribes, no_more, puts as puts_at, drops, holds, write_end, read_end, read_pipe}
+use Rattle.spec_link.specs.Turn.{IsEnded, IsEndedBy, EndsBy, ReadsAt, no_more, puts as puts_at, drops, holds, write_end, read_end}
 use Rattle.zq_session.specs.declared.wire.Fetched.{Fetched}
 use Rattle.zq_session.specs.declared.wire.Fetched.TheVariants as fetched
 use Rattle.zq_session.specs.declared.write_part.Written.{Written}
 use Rattle.zq_session.specs.declared.life.Life.{Life}
 use Rattle.zq_session.specs.declared.life.ReadMode.{ReadMode}
 use Rattle.zq_session.specs.declared.life.ReadMode.TheVariants as mode
-use Rattle.zq_session.specs.Kept.{Kept}
+use Rattle.zq_session.specs.Kept.{Kept, Side}
 use Rattle.zq_session.specs.Calls.{Adds, put_acts}
-use Rattle.zq_session.specs.Works.{take_acts, fetched_of}
 use Rattle.zq_session.specs.Lives.{basis_of, standing_of}
 use Rattle.zq_session.specs.LifeView.{IsReadable}
 use Rattle.zq_session.specs.Halves.{StepsRun, step_in}
-use Rattle.zq_session.specs.Doing.{WritesAtBy, ReadsAtBy, WantsAtBy, ReadsAs, IsReading, IsFor, EndsAs}
-use Rattle.zq_session.specs.BothParts.{SaysNoTopics, PartsBy, CutBy}
-use Rattle.zq_session.proofs.UnputLemmas.{does_these, does_on, does_as, unput_writing, tells_as, write_part_as, write_only_as}
+use Rattle.zq_session.specs.Doing.{ReadsAtBy, WantsAtBy, ReadsAs, IsReading, IsFor, EndsAs}
+use Rattle.zq_session.specs.BothParts.{PartsBy, CutBy, UnnotedBy}
+use Rattle.link_topics.specs.Topics.{Topics}
+use Rattle.zq_session.specs.Noting.{NextBy, UnsaidBy, Next, Takes, Says, next_acts, next_look, WriteMode, taking, alone, saying, mode_of}
+use Rattle.zq_session.proofs.NotingLemmas.{writes_now, notes_more, still_on, still_none, write_still, read_still, put_still}
+use Rattle.zq_session.proofs.UnputLemmas.{does_these, does_on, does_as, unput_write, unput_next, tells_as, write_part_as, write_only_as}
 use Rattle.zq_session.proofs.ListLemmas.{in_either, in_left, in_right, in_one, the_one, in_none}
 use Rattle.zq_session.proofs.HalfLemmas.{steps_on}
 
@@ -61,13 +60,17 @@ pub write_steps : (answer : Option LinkPut) (octets : List ℕ) → flat_map ste
 write_steps None octets = refl
 write_steps (Some a) octets = refl
 
-take_says : (pipe : PipeId) (found : Option Taken) → said_of (take_acts pipe found) ≡ []
-take_says pipe None = refl
-take_says pipe (Some x) = refl
+take_says : (pipe : PipeId) (next : Next) → said_of (next_acts pipe next) ≡ []
+take_says pipe (Takes None) = refl
+take_says pipe (Takes (Some x)) = refl
+take_says pipe (Says None) = refl
+take_says pipe (Says (Some m)) = refl
 
-take_hears : (pipe : PipeId) (found : Option Taken) → heard_of (take_acts pipe found) ≡ []
-take_hears pipe None = refl
-take_hears pipe (Some x) = refl
+take_hears : (pipe : PipeId) (next : Next) → heard_of (next_acts pipe next) ≡ []
+take_hears pipe (Takes None) = refl
+take_hears pipe (Takes (Some x)) = refl
+take_hears pipe (Says None) = refl
+take_hears pipe (Says (Some m)) = refl
 
 read_says : (answer : Option LinkGot) (octets : List ℕ) → said_of (read_acts answer octets) ≡ []
 read_says None octets = refl
@@ -115,9 +118,15 @@ ends_read None octets act cause c e = in_none act c
 ends_read (Some a) octets act cause c e =
     (a, refl, read_by a octets cause (subst (λ (x : LinkAct). EndsBy x cause) (sym (in_one (Wire (Reads a octets)) act c.0 c.1 c.2)) e))
 
-ends_take : (pipe : PipeId) (found : Option Taken) (act : LinkAct) (cause : LinkEnd) → Contains (take_acts pipe found) act → EndsBy act cause → ⊥
-ends_take pipe None act cause c e = in_none act c
-ends_take pipe (Some x) act cause c e = step_never (take_step pipe x) cause (subst (λ (y : LinkAct). EndsBy y cause) (sym (in_one (Step (take_step pipe x)) act c.0 c.1 c.2)) e)
+says_never : (m : Frames) (cause : LinkEnd) → EndsBy (Wire (Repeats m)) cause → ⊥
+says_never m cause (inl e) = (let x = e.2 in absurd cc)
+says_never m cause (inr e) = (let x = e.2 in absurd cc)
+
+ends_take : (pipe : PipeId) (next : Next) (act : LinkAct) (cause : LinkEnd) → Contains (next_acts pipe next) act → EndsBy act cause → ⊥
+ends_take pipe (Takes None) act cause c e = in_none act c
+ends_take pipe (Says None) act cause c e = in_none act c
+ends_take pipe (Says (Some m)) act cause c e = says_never m cause (subst (λ (y : LinkAct). EndsBy y cause) (sym (in_one (Wire (Repeats m)) act c.0 c.1 c.2)) e)
+ends_take pipe (Takes (Some x)) act cause c e = step_never (take_step pipe x) cause (subst (λ (y : LinkAct). EndsBy y cause) (sym (in_one (Step (take_step pipe x)) act c.0 c.1 c.2)) e)
 
 pub ends_put : (pipe : PipeId) (ms : List Frames) (full : Bool) (act : LinkAct) (cause : LinkEnd) → Contains (put_acts pipe ms full) act → EndsBy act cause → ⊥
 ends_put pipe [] false act cause c e = in_none act c
@@ -129,18 +138,18 @@ ends_put pipe (m ∷ ms) full act cause c e =
     ]
 
 -- the writing part of these
-abbrev pub writing : Option LinkPut → List ℕ → PipeId → Option Taken → List LinkAct
-writing put octets pipe found = write_acts put octets ++ take_acts pipe found
+abbrev pub writing : Option LinkPut → List ℕ → PipeId → Next → List LinkAct
+writing put octets pipe next = write_acts put octets ++ next_acts pipe next
 
 abbrev pub reading : Option LinkGot → List ℕ → PipeId → List Frames → Bool → List LinkAct
 reading got octets pipe ms full = read_acts got octets ++ put_acts pipe ms full
 
-pub ends_writing : (put : Option LinkPut) (octets : List ℕ) (pipe : PipeId) (found : Option Taken) (cause : LinkEnd) → IsEndedBy (writing put octets pipe found) cause
+pub ends_writing : (put : Option LinkPut) (octets : List ℕ) (pipe : PipeId) (next : Next) (cause : LinkEnd) → IsEndedBy (writing put octets pipe next) cause
     → (a : LinkPut) × (put ≡ Some a) × (write_end a ≡ Some cause)
-ends_writing put octets pipe found cause e =
-    elim (in_either (write_acts put octets) (take_acts pipe found) e.0 e.1) as (λ _. (a : LinkPut) × (put ≡ Some a) × (write_end a ≡ Some cause)) [
+ends_writing put octets pipe next cause e =
+    elim (in_either (write_acts put octets) (next_acts pipe next) e.0 e.1) as (λ _. (a : LinkPut) × (put ≡ Some a) × (write_end a ≡ Some cause)) [
       | inl c ↦ ends_write put octets e.0 cause c e.2
-      | inr c ↦ absurd (ends_take pipe found e.0 cause c e.2)
+      | inr c ↦ absurd (ends_take pipe next e.0 cause c e.2)
     ]
 
 ends_reading : (got : Option LinkGot) (octets : List ℕ) (pipe : PipeId) (ms : List Frames) (full : Bool) (cause : LinkEnd) → IsEndedBy (reading got octets pipe ms full) cause
@@ -172,30 +181,28 @@ pub end_over : (put : Option LinkPut) → IsWriteOver put → (cause : LinkEnd) 
 end_over p (inl e) = (why.Ended, link_put.Ended, e, refl)
 end_over p (inr e) = (why.Failed, link_put.Failed, e, refl)
 
-pub not_over : (put : Option LinkPut) (octets : List ℕ) (pipe : PipeId) (found : Option Taken) → (IsWriteOver put → ⊥) → IsEnded (writing put octets pipe found) → ⊥
-not_over put octets pipe found never e =
-    let k = ends_writing put octets pipe found e.0 e.1 in
+pub not_over : (put : Option LinkPut) (octets : List ℕ) (pipe : PipeId) (next : Next) → (IsWriteOver put → ⊥) → IsEnded (writing put octets pipe next) → ⊥
+not_over put octets pipe next never e =
+    let k = ends_writing put octets pipe next e.0 e.1 in
     never (subst (λ (x : Option LinkPut). IsWriteOver x) (sym k.1) (over_end k.0 e.0 k.2))
 
-pub is_over_ends : (put : Option LinkPut) (octets : List ℕ) (pipe : PipeId) (found : Option Taken) → IsWriteOver put → IsEnded (writing put octets pipe found)
-is_over_ends put octets pipe found over =
+pub is_over_ends : (put : Option LinkPut) (octets : List ℕ) (pipe : PipeId) (next : Next) → IsWriteOver put → IsEnded (writing put octets pipe next)
+is_over_ends put octets pipe next over =
     let k = end_over put over in
-    (k.0, writing_ends put octets (take_acts pipe found) k.1 k.0 k.2 k.3)
+    (k.0, writing_ends put octets (next_acts pipe next) k.1 k.0 k.2 k.3)
 
 -- ---- the delimiter
 
-look_none : (look : Option Fetched) (found : Option Taken) → look ≡ option_map fetched_of found → look ≡ Some fetched.Delimiter → option_map fetched_of found ≡ Some fetched.Delimiter
-look_none look found e d = sym e ∙ d
+met_by : (pipe : PipeId) (next : Next) → next_look next ≡ Some fetched.Delimiter → Contains (next_acts pipe next) (Step (DelimiterLook pipe))
+met_by pipe (Says m) e = absurd cc
+met_by pipe (Takes None) e = absurd cc
+met_by pipe (Takes (Some (taken.Item m))) e = absurd cc
+met_by pipe (Takes (Some taken.Empty)) e = absurd cc
+met_by pipe (Takes (Some taken.Delimiter)) e = the_one (Step (DelimiterLook pipe))
 
-met_by : (pipe : PipeId) (found : Option Taken) → option_map fetched_of found ≡ Some fetched.Delimiter → Contains (take_acts pipe found) (Step (DelimiterLook pipe))
-met_by pipe None e = absurd cc
-met_by pipe (Some (taken.Item m)) e = absurd cc
-met_by pipe (Some taken.Empty) e = absurd cc
-met_by pipe (Some taken.Delimiter) e = the_one (Step (DelimiterLook pipe))
-
-pub met_in : (put : Option LinkPut) (octets : List ℕ) (pipe : PipeId) (found : Option Taken) (look : Option Fetched) → look ≡ option_map fetched_of found → look ≡ Some fetched.Delimiter
-    → Contains (writing put octets pipe found) (Step (DelimiterLook pipe))
-met_in put octets pipe found look e d = in_right (write_acts put octets) (take_acts pipe found) (Step (DelimiterLook pipe)) (met_by pipe found (look_none look found e d))
+pub met_in : (put : Option LinkPut) (octets : List ℕ) (pipe : PipeId) (next : Next) (look : Option Fetched) → look ≡ next_look next → look ≡ Some fetched.Delimiter
+    → Contains (writing put octets pipe next) (Step (DelimiterLook pipe))
+met_in put octets pipe next look e d = in_right (write_acts put octets) (next_acts pipe next) (Step (DelimiterLook pipe)) (met_by pipe next (sym e ∙ d))
 
 wire_step : (a : LinkPut) (octets : List ℕ) (step : PipeStep) → Wire (Writes a octets) ≡ Step step → ⊥
 wire_step a octets step e = absurd cc
@@ -210,61 +217,26 @@ steps_differ m pipe e = absurd cc
 looks_differ : (pipe : PipeId) → Step (EmptyLook pipe) ≡ Step (DelimiterLook pipe) → ⊥
 looks_differ pipe e = absurd cc
 
-unmet_by : (pipe : PipeId) (found : Option Taken) → Contains (take_acts pipe found) (Step (DelimiterLook pipe)) → option_map fetched_of found ≡ Some fetched.Delimiter
-unmet_by pipe None c = in_none (Step (DelimiterLook pipe)) c
-unmet_by pipe (Some (taken.Item m)) c = absurd (steps_differ m pipe (in_one (Step (Take pipe m)) (Step (DelimiterLook pipe)) c.0 c.1 c.2))
-unmet_by pipe (Some taken.Empty) c = absurd (looks_differ pipe (in_one (Step (EmptyLook pipe)) (Step (DelimiterLook pipe)) c.0 c.1 c.2))
-unmet_by pipe (Some taken.Delimiter) c = refl
+says_differ : (m : Frames) (pipe : PipeId) → Wire (Repeats m) ≡ Step (DelimiterLook pipe) → ⊥
+says_differ m pipe e = absurd cc
 
-pub unmet_in : (put : Option LinkPut) (octets : List ℕ) (pipe : PipeId) (found : Option Taken) (look : Option Fetched) → look ≡ option_map fetched_of found → (look ≡ Some fetched.Delimiter → ⊥)
-    → Contains (writing put octets pipe found) (Step (DelimiterLook pipe)) → ⊥
-unmet_in put octets pipe found look e never c =
-    elim (in_either (write_acts put octets) (take_acts pipe found) (Step (DelimiterLook pipe)) c) as (λ _. ⊥) [
+unmet_by : (pipe : PipeId) (next : Next) → Contains (next_acts pipe next) (Step (DelimiterLook pipe)) → next_look next ≡ Some fetched.Delimiter
+unmet_by pipe (Takes None) c = in_none (Step (DelimiterLook pipe)) c
+unmet_by pipe (Takes (Some (taken.Item m))) c = absurd (steps_differ m pipe (in_one (Step (Take pipe m)) (Step (DelimiterLook pipe)) c.0 c.1 c.2))
+unmet_by pipe (Takes (Some taken.Empty)) c = absurd (looks_differ pipe (in_one (Step (EmptyLook pipe)) (Step (DelimiterLook pipe)) c.0 c.1 c.2))
+unmet_by pipe (Takes (Some taken.Delimiter)) c = refl
+unmet_by pipe (Says None) c = in_none (Step (DelimiterLook pipe)) c
+unmet_by pipe (Says (Some m)) c = absurd (says_differ m pipe (in_one (Wire (Repeats m)) (Step (DelimiterLook pipe)) c.0 c.1 c.2))
+
+pub unmet_in : (put : Option LinkPut) (octets : List ℕ) (pipe : PipeId) (next : Next) (look : Option Fetched) → look ≡ next_look next → (look ≡ Some fetched.Delimiter → ⊥)
+    → Contains (writing put octets pipe next) (Step (DelimiterLook pipe)) → ⊥
+unmet_in put octets pipe next look e never c =
+    elim (in_either (write_acts put octets) (next_acts pipe next) (Step (DelimiterLook pipe)) c) as (λ _. ⊥) [
       | inl k ↦ unwritten put octets (DelimiterLook pipe) k
-      | inr k ↦ never (e ∙ unmet_by pipe found k)
+      | inr k ↦ never (e ∙ unmet_by pipe next k)
     ]
 
 -- ---- by how the session stands
-
-drop_none : {A : Type 0} (n : ℕ) (l : List A) → l ≡ [] → drop n l ≡ []
-drop_none zero [] e = refl
-drop_none (suc n) [] e = refl
-drop_none n (x ∷ l) e = absurd cc
-
-no_topics : {A : Type 0} (says : Bool) (topics : List A) → says ≡ false → (if says then topics else []) ≡ []
-no_topics true topics e = absurd cc
-no_topics false topics e = refl
-
--- one that has no topics to say again
-no_topics_left : (b : Basis) (s : Standing) (acts : List LinkAct) → SaysNoTopics b.dials b.opts → topics_left b s acts ≡ []
-no_topics_left b s acts e =
-    drop_none (length (repeated_of acts)) (topics_due b s.closed) (no_topics (b.dials && subscribes b.opts.kind) (topics_taken (flat_map (λ (link : ClosedLink). taken_of link.acts) s.closed)) e)
-
--- the writing part where these topics are left
-abbrev pub WritesWith : Basis → Standing → List Topic → (acts more : List LinkAct) → Type 0
-WritesWith b s topics acts more =
-    (HasNext s topics × IsWritePart b.opts (IsNextOf (read_pipe b) topics) acts more) ⊎ ((HasNext s topics → ⊥) × IsWriteOnly b acts more)
-
-next_part : (b : Basis) (acts more : List LinkAct) → IsWritePart b.opts (IsTake (read_pipe b)) acts more → IsWritePart b.opts (IsNextOf (read_pipe b) []) acts more
-next_part b acts more w = record {
-  answer = w.answer;
-  octets = w.octets;
-  takes = w.takes;
-  all = w.all;
-  fits = w.fits;
-  none = w.none;
-  some = w.some;
-  over = w.over;
-  take = w.take;
-  wait = w.wait;
-}
-
-pub writes_at : (b : Basis) (s : Standing) (acts more : List LinkAct) (can_read : Bool) → SaysNoTopics b.dials b.opts → (can_read ≡ true → CanRead s) → (can_read ≡ false → CanRead s → ⊥)
-    → (can_read ≡ true → IsWritePart b.opts (IsTake (read_pipe b)) acts more) → (can_read ≡ false → IsWriteOnly b acts more) → WritesAt b s acts more
-writes_at b s acts more true plain sure never takes alone =
-    subst (λ (t : List Topic). WritesWith b s t acts more) (sym (no_topics_left b s acts plain)) (inl (sure refl, next_part b acts more (takes refl)))
-writes_at b s acts more false plain sure never takes alone =
-    subst (λ (t : List Topic). WritesWith b s t acts more) (sym (no_topics_left b s acts plain)) (inr (never refl, alone refl))
 
 none_some : {X : Type 0} (o : Option EndState) (x : EndState) → o ≡ None → o ≡ Some x → X
 none_some o x e d = absurd cc
@@ -285,137 +257,177 @@ is_for mode.Drops opts kind state told e is = e ∙ is.1
 no_answer : (a : LinkGot) → None ≡ Some a → ⊥
 no_answer a e = absurd cc
 
+taking_alone : (mode : WriteMode) (X : Type 0) → mode ≡ taking → mode ≡ alone → X
+taking_alone mode X e d = absurd cc
+
+taking_saying : (mode : WriteMode) (m : Frames) (X : Type 0) → mode ≡ taking → mode ≡ saying m → X
+taking_saying mode m X e d = absurd cc
+
 module _ {S O I N : Type 0} (K : Known S O I N) where
   -- both parts
-  pub parts_by : (l : Life) (can_read : Bool) (how : ReadMode) (k0 k1 k2 : Kept) (done : Written) (answer : Option LinkGot) (said said' heard heard' : Option (List ℕ)) (s s1 s2 : S) (i i1 : Option I) (o o2 : Option O)
+  pub parts_by : (l : Life) (t t' : Option Topics) (can_read : Bool) (how : ReadMode) (k0 k1 k2 : Kept) (done : Written) (answer : Option LinkGot) (said said' heard heard' : Option (List ℕ)) (s s1 s2 : S) (i i1 : Option I) (o o2 : Option O)
       → (can_read ≡ true → IsReadable l.state) → (can_read ≡ false → IsReadable l.state → ⊥) → IsReading l.kind l.state l.told how → (IsWriteOver done.put → ⊥)
-      → (w : WritesAtBy K can_read k0 done k1 said said' s i s1 i1) → (r : ReadsAtBy K how k1 answer k2 heard heard' s1 o s2 o2)
-      → PartsBy K l k0 (record { written = done; got = answer }) k2 said said' heard heard' s i o s2 i1 o2
-  parts_by l can_read how k0 k1 k2 done answer said said' heard heard' s s1 s2 i i1 o o2 sure never is stands w r =
+      → (w : NextBy K (mode_of can_read t) t t' k0 done k1 said said' s i s1 i1) → (r : ReadsAtBy K how k1 answer k2 heard heard' s1 o s2 o2)
+      → PartsBy K l t t' k0 (record { written = done; got = answer }) k2 said said' heard heard' s i o s2 i1 o2
+  parts_by l t t' can_read how k0 k1 k2 done answer said said' heard heard' s s1 s2 i i1 o o2 sure never is stands w r =
       let inward = read_through l.end in
-      let writes = writing done.put w.octets inward w.found in
+      let writes = writing done.put w.octets inward w.next in
       let reads = reading answer r.octets l.end r.messages r.full in
       record {
         writes = writes;
         reads = reads;
         said_is = subst (λ (x : List ℕ). Adds said x said') (sym (added said_by writes reads w.octets []
-            (added said_by (write_acts done.put w.octets) (take_acts inward w.found) w.octets [] (write_says done.put w.octets w.fits) (take_says inward w.found) ∙ append-nil w.octets)
+            (added said_by (write_acts done.put w.octets) (next_acts inward w.next) w.octets [] (write_says done.put w.octets w.fits) (take_says inward w.next) ∙ append-nil w.octets)
             (added said_by (read_acts answer r.octets) (put_acts l.end r.messages r.full) [] [] (read_says answer r.octets) (put_says l.end r.messages r.full))
             ∙ append-nil w.octets)) w.told;
         heard_is = subst (λ (x : List ℕ). Adds heard x heard') (sym (added heard_by writes reads [] r.octets
-            (added heard_by (write_acts done.put w.octets) (take_acts inward w.found) [] [] (write_hears done.put w.octets) (take_hears inward w.found))
+            (added heard_by (write_acts done.put w.octets) (next_acts inward w.next) [] [] (write_hears done.put w.octets) (take_hears inward w.next))
             (added heard_by (read_acts answer r.octets) (put_acts l.end r.messages r.full) r.octets [] (read_hears answer r.octets r.fits) (put_hears l.end r.messages r.full) ∙ append-nil r.octets))) r.told;
         steps = subst (λ (x : List PipeStep). StepsRun K x s i o s2 i1 o2)
-            (sym (added step_in writes reads (flat_map step_in (take_acts inward w.found)) (flat_map step_in (put_acts l.end r.messages r.full))
-            (added step_in (write_acts done.put w.octets) (take_acts inward w.found) [] (flat_map step_in (take_acts inward w.found)) (write_steps done.put w.octets) refl)
+            (sym (added step_in writes reads (flat_map step_in (next_acts inward w.next)) (flat_map step_in (put_acts l.end r.messages r.full))
+            (added step_in (write_acts done.put w.octets) (next_acts inward w.next) [] (flat_map step_in (next_acts inward w.next)) (write_steps done.put w.octets) refl)
             (added step_in (read_acts answer r.octets) (put_acts l.end r.messages r.full) [] (flat_map step_in (put_acts l.end r.messages r.full)) (read_steps answer r.octets) refl)))
-            (steps_on K (flat_map step_in (take_acts inward w.found)) (flat_map step_in (put_acts l.end r.messages r.full)) s s1 s2 i i1 i1 o o o2 (w.steps inward o) (r.steps l.end i1));
-        run = λ opts kind. does_on opts k0 k1 k2 writes reads (does_these opts k0 k1 writes (unput_writing done.put w.octets inward w.found) (w.run inward)) (r.run l.end opts (is_for how opts l.kind l.state l.told kind is));
+            (steps_on K (flat_map step_in (next_acts inward w.next)) (flat_map step_in (put_acts l.end r.messages r.full)) s s1 s2 i i1 i1 o o o2 (w.steps inward o) (r.steps l.end i1));
+        notes = w.notes inward ∙ sym (notes_more writes reads t (still_on (read_acts answer r.octets) (put_acts l.end r.messages r.full) (read_still answer r.octets) (put_still l.end r.messages r.full)));
+        run = λ opts kind. does_on opts k0 k1 k2 writes reads (does_these opts k0 k1 writes (unput_next done.put w.octets inward w.next) (w.run inward)) (r.run l.end opts (is_for how opts l.kind l.state l.told kind is));
         parts = λ p acts kind silent run. record {
-          write = writes_at (basis_of l p) (standing_of l p) acts writes can_read silent sure never
+          write = writes_now (basis_of l p) (standing_of l p) acts writes can_read sure never t silent
               (λ e. write_part_as p.opts (IsTake inward) run.all acts writes (tells_as p.opts acts k0 run) (w.takes e inward p.opts run.all run.run))
-              (λ e. write_only_as (basis_of l p) run.all acts writes (tells_as p.opts acts k0 run) (w.alone e inward (basis_of l p) run.all run.run));
+              (λ e. write_only_as (basis_of l p) run.all acts writes (tells_as p.opts acts k0 run) (w.alone_is e inward (basis_of l p) run.all run.run))
+              (λ x e. write_part_as p.opts (λ act. act ≡ Wire (Repeats x)) run.all acts writes (tells_as p.opts acts k0 run) (w.says x e inward p.opts run.all run.run));
           read = inr (
-            not_over done.put w.octets inward w.found stands,
+            not_over done.put w.octets inward w.next stands,
             (let fits = is_for how p.opts l.kind l.state l.told kind is in
                 reads_at (basis_of l p) (standing_of l p) how l.kind (acts ++ writes) reads fits is
-                (r.part l.end p.opts (acts ++ writes) fits (does_these p.opts k0 k1 writes (unput_writing done.put w.octets inward w.found) (w.run inward) acts run))),
+                (r.part l.end p.opts (acts ++ writes) fits (does_these p.opts k0 k1 writes (unput_next done.put w.octets inward w.next) (w.run inward) acts run))),
           );
         };
-        met = λ e. met_in done.put w.octets inward w.found done.look w.look e;
-        unmet = λ e. unmet_in done.put w.octets inward w.found done.look w.look e;
+        met = λ e. met_in done.put w.octets inward w.next done.look w.look e;
+        unmet = λ e. unmet_in done.put w.octets inward w.next done.look w.look e;
         ends = λ cause e. elim (in_either writes reads e.0 e.1) as (λ _. EndsAs done.put answer cause) [
-          | inl c ↦ inl (ends_writing done.put w.octets inward w.found cause (e.0, c, e.2))
+          | inl c ↦ inl (ends_writing done.put w.octets inward w.next cause (e.0, c, e.2))
           | inr c ↦ inr (ends_reading answer r.octets l.end r.messages r.full cause (e.0, c, e.2))
         ];
         over = λ cause e. elim e as (λ _. IsEndedBy (writes ++ reads) cause) [
-          | inl k ↦ (let x = writing_ends done.put w.octets (take_acts inward w.found) k.0 cause k.1 k.2 in (x.0, in_left writes reads x.0 x.1, x.2))
+          | inl k ↦ (let x = writing_ends done.put w.octets (next_acts inward w.next) k.0 cause k.1 k.2 in (x.0, in_left writes reads x.0 x.1, x.2))
           | inr k ↦ (let x = reading_ends answer r.octets (put_acts l.end r.messages r.full) k.0 cause k.1 k.2 in (x.0, in_right writes reads x.0 x.1, x.2))
         ];
         write_over = λ over. absurd (stands over);
-        write_stands = λ never. not_over done.put w.octets inward w.found never;
+        write_stands = λ never. not_over done.put w.octets inward w.next never;
       }
 
   -- the first alone, where the link is over
-  pub parts_over : (l : Life) (can_read : Bool) (k0 k1 : Kept) (done : Written) (said said' heard heard' : Option (List ℕ)) (s s1 : S) (i i1 : Option I) (o : Option O)
+  pub parts_over : (l : Life) (t t' : Option Topics) (can_read : Bool) (k0 k1 : Kept) (done : Written) (said said' heard heard' : Option (List ℕ)) (s s1 : S) (i i1 : Option I) (o : Option O)
       → (can_read ≡ true → IsReadable l.state) → (can_read ≡ false → IsReadable l.state → ⊥) → IsWriteOver done.put → Adds heard [] heard'
-      → (w : WritesAtBy K can_read k0 done k1 said said' s i s1 i1)
-      → PartsBy K l k0 (record { written = done; got = None }) k1 said said' heard heard' s i o s1 i1 o
-  parts_over l can_read k0 k1 done said said' heard heard' s s1 i i1 o sure never over none w =
+      → (w : NextBy K (mode_of can_read t) t t' k0 done k1 said said' s i s1 i1)
+      → PartsBy K l t t' k0 (record { written = done; got = None }) k1 said said' heard heard' s i o s1 i1 o
+  parts_over l t t' can_read k0 k1 done said said' heard heard' s s1 i i1 o sure never over none w =
       let inward = read_through l.end in
-      let writes = writing done.put w.octets inward w.found in
+      let writes = writing done.put w.octets inward w.next in
       let all = append-nil writes in
       record {
         writes = writes;
         reads = [];
         said_is = subst (λ (x : List ℕ). Adds said x said') (sym (ap (λ (l : List LinkAct). said_of l) all
-            ∙ added said_by (write_acts done.put w.octets) (take_acts inward w.found) w.octets [] (write_says done.put w.octets w.fits) (take_says inward w.found) ∙ append-nil w.octets)) w.told;
+            ∙ added said_by (write_acts done.put w.octets) (next_acts inward w.next) w.octets [] (write_says done.put w.octets w.fits) (take_says inward w.next) ∙ append-nil w.octets)) w.told;
         heard_is = subst (λ (x : List ℕ). Adds heard x heard') (sym (ap (λ (l : List LinkAct). heard_of l) all
-            ∙ added heard_by (write_acts done.put w.octets) (take_acts inward w.found) [] [] (write_hears done.put w.octets) (take_hears inward w.found))) none;
+            ∙ added heard_by (write_acts done.put w.octets) (next_acts inward w.next) [] [] (write_hears done.put w.octets) (take_hears inward w.next))) none;
         steps = subst (λ (x : List PipeStep). StepsRun K x s i o s1 i1 o)
-            (sym (ap (λ (l : List LinkAct). flat_map step_in l) all ∙ added step_in (write_acts done.put w.octets) (take_acts inward w.found) [] (flat_map step_in (take_acts inward w.found)) (write_steps done.put w.octets) refl))
+            (sym (ap (λ (l : List LinkAct). flat_map step_in l) all ∙ added step_in (write_acts done.put w.octets) (next_acts inward w.next) [] (flat_map step_in (next_acts inward w.next)) (write_steps done.put w.octets) refl))
             (w.steps inward o);
-        run = λ opts kind. does_as opts k0 k1 writes (writes ++ []) (sym all) (does_these opts k0 k1 writes (unput_writing done.put w.octets inward w.found) (w.run inward));
+        notes = w.notes inward ∙ sym (notes_more writes [] t still_none);
+        run = λ opts kind. does_as opts k0 k1 writes (writes ++ []) (sym all) (does_these opts k0 k1 writes (unput_next done.put w.octets inward w.next) (w.run inward));
         parts = λ p acts kind silent run. record {
-          write = writes_at (basis_of l p) (standing_of l p) acts writes can_read silent sure never
+          write = writes_now (basis_of l p) (standing_of l p) acts writes can_read sure never t silent
               (λ e. write_part_as p.opts (IsTake inward) run.all acts writes (tells_as p.opts acts k0 run) (w.takes e inward p.opts run.all run.run))
-              (λ e. write_only_as (basis_of l p) run.all acts writes (tells_as p.opts acts k0 run) (w.alone e inward (basis_of l p) run.all run.run));
-          read = inl (is_over_ends done.put w.octets inward w.found over, refl);
+              (λ e. write_only_as (basis_of l p) run.all acts writes (tells_as p.opts acts k0 run) (w.alone_is e inward (basis_of l p) run.all run.run))
+              (λ x e. write_part_as p.opts (λ act. act ≡ Wire (Repeats x)) run.all acts writes (tells_as p.opts acts k0 run) (w.says x e inward p.opts run.all run.run));
+          read = inl (is_over_ends done.put w.octets inward w.next over, refl);
         };
-        met = λ e. met_in done.put w.octets inward w.found done.look w.look e;
-        unmet = λ e. unmet_in done.put w.octets inward w.found done.look w.look e;
-        ends = λ cause e. inl (ends_writing done.put w.octets inward w.found cause (e.0, subst (λ (x : List LinkAct). Contains x e.0) all e.1, e.2));
+        met = λ e. met_in done.put w.octets inward w.next done.look w.look e;
+        unmet = λ e. unmet_in done.put w.octets inward w.next done.look w.look e;
+        ends = λ cause e. inl (ends_writing done.put w.octets inward w.next cause (e.0, subst (λ (x : List LinkAct). Contains x e.0) all e.1, e.2));
         over = λ cause e. elim e as (λ _. IsEndedBy (writes ++ []) cause) [
-          | inl k ↦ (let x = writing_ends done.put w.octets (take_acts inward w.found) k.0 cause k.1 k.2 in (x.0, in_left writes [] x.0 x.1, x.2))
+          | inl k ↦ (let x = writing_ends done.put w.octets (next_acts inward w.next) k.0 cause k.1 k.2 in (x.0, in_left writes [] x.0 x.1, x.2))
           | inr k ↦ absurd (no_answer k.0 k.1)
         ];
-        write_over = λ e. is_over_ends done.put w.octets inward w.found e;
-        write_stands = λ never. not_over done.put w.octets inward w.found never;
+        write_over = λ e. is_over_ends done.put w.octets inward w.next e;
+        write_stands = λ never. not_over done.put w.octets inward w.next never;
       }
 
   -- the second cut short where memory wants
-  pub parts_cut : (shown : Option LinkGot → Type 0) (l : Life) (can_read : Bool) (how : ReadMode) (k0 k1 k2 : Kept) (done : Written) (said said' heard heard' : Option (List ℕ)) (s s1 s2 : S) (i i1 : Option I) (o o2 : Option O)
+  pub parts_cut : (shown : Option LinkGot → Type 0) (l : Life) (t t' : Option Topics) (can_read : Bool) (how : ReadMode) (k0 k1 k2 : Kept) (done : Written) (said said' heard heard' : Option (List ℕ)) (s s1 s2 : S) (i i1 : Option I) (o o2 : Option O)
       → (can_read ≡ true → IsReadable l.state) → (can_read ≡ false → IsReadable l.state → ⊥) → IsReading l.kind l.state l.told how → (IsWriteOver done.put → ⊥)
-      → (w : WritesAtBy K can_read k0 done k1 said said' s i s1 i1) → (s2 ≡ s1) → (o2 ≡ o) → (r : WantsAtBy how k1 k2 heard heard' shown)
-      → CutBy K l k0 k2 said said' heard heard' s i o s2 i1 o2
-  parts_cut shown l can_read how k0 k1 k2 done said said' heard heard' s s1 s2 i i1 o o2 sure never is stands w same_pipes same_out r =
+      → (w : NextBy K (mode_of can_read t) t t' k0 done k1 said said' s i s1 i1) → (s2 ≡ s1) → (o2 ≡ o) → (r : WantsAtBy how k1 k2 heard heard' shown)
+      → CutBy K l t t' k0 k2 said said' heard heard' s i o s2 i1 o2
+  parts_cut shown l t t' can_read how k0 k1 k2 done said said' heard heard' s s1 s2 i i1 o o2 sure never is stands w same_pipes same_out r =
       let inward = read_through l.end in
-      let writes = writing done.put w.octets inward w.found in
+      let writes = writing done.put w.octets inward w.next in
       let reads = read_acts r.answer r.octets in
       record {
         writes = writes;
         reads = reads;
         said_is = subst (λ (x : List ℕ). Adds said x said') (sym (added said_by writes reads w.octets []
-            (added said_by (write_acts done.put w.octets) (take_acts inward w.found) w.octets [] (write_says done.put w.octets w.fits) (take_says inward w.found) ∙ append-nil w.octets)
+            (added said_by (write_acts done.put w.octets) (next_acts inward w.next) w.octets [] (write_says done.put w.octets w.fits) (take_says inward w.next) ∙ append-nil w.octets)
             (read_says r.answer r.octets) ∙ append-nil w.octets)) w.told;
         heard_is = subst (λ (x : List ℕ). Adds heard x heard') (sym (added heard_by writes reads [] r.octets
-            (added heard_by (write_acts done.put w.octets) (take_acts inward w.found) [] [] (write_hears done.put w.octets) (take_hears inward w.found))
+            (added heard_by (write_acts done.put w.octets) (next_acts inward w.next) [] [] (write_hears done.put w.octets) (take_hears inward w.next))
             (read_hears r.answer r.octets r.fits))) r.told;
         steps = subst (λ (x : List PipeStep). StepsRun K x s i o s2 i1 o2)
-            (sym (added step_in writes reads (flat_map step_in (take_acts inward w.found)) []
-            (added step_in (write_acts done.put w.octets) (take_acts inward w.found) [] (flat_map step_in (take_acts inward w.found)) (write_steps done.put w.octets) refl)
+            (sym (added step_in writes reads (flat_map step_in (next_acts inward w.next)) []
+            (added step_in (write_acts done.put w.octets) (next_acts inward w.next) [] (flat_map step_in (next_acts inward w.next)) (write_steps done.put w.octets) refl)
             (read_steps r.answer r.octets)))
-            (steps_on K (flat_map step_in (take_acts inward w.found)) [] s s1 s2 i i1 i1 o o o2 (w.steps inward o) (same_pipes, (refl, same_out)));
-        run = λ opts kind. does_on opts k0 k1 k2 writes reads (does_these opts k0 k1 writes (unput_writing done.put w.octets inward w.found) (w.run inward)) (r.run opts (is_for how opts l.kind l.state l.told kind is));
+            (steps_on K (flat_map step_in (next_acts inward w.next)) [] s s1 s2 i i1 i1 o o o2 (w.steps inward o) (same_pipes, (refl, same_out)));
+        notes = w.notes inward ∙ sym (notes_more writes reads t (read_still r.answer r.octets));
+        run = λ opts kind. does_on opts k0 k1 k2 writes reads (does_these opts k0 k1 writes (unput_next done.put w.octets inward w.next) (w.run inward)) (r.run opts (is_for how opts l.kind l.state l.told kind is));
         parts = λ p acts kind silent run. record {
-          write = writes_at (basis_of l p) (standing_of l p) acts writes can_read silent sure never
+          write = writes_now (basis_of l p) (standing_of l p) acts writes can_read sure never t silent
               (λ e. write_part_as p.opts (IsTake inward) run.all acts writes (tells_as p.opts acts k0 run) (w.takes e inward p.opts run.all run.run))
-              (λ e. write_only_as (basis_of l p) run.all acts writes (tells_as p.opts acts k0 run) (w.alone e inward (basis_of l p) run.all run.run));
-          stands = not_over done.put w.octets inward w.found stands;
+              (λ e. write_only_as (basis_of l p) run.all acts writes (tells_as p.opts acts k0 run) (w.alone_is e inward (basis_of l p) run.all run.run))
+              (λ x e. write_part_as p.opts (λ act. act ≡ Wire (Repeats x)) run.all acts writes (tells_as p.opts acts k0 run) (w.says x e inward p.opts run.all run.run));
+          stands = not_over done.put w.octets inward w.next stands;
           answer = r.answer;
           octets = r.octets;
           fits = r.fits;
           read = refl;
           how = how;
           reading = subst (λ (k : Kind). IsReading k l.state l.told how) (sym kind) is;
-          once = r.part p.opts (acts ++ writes) (is_for how p.opts l.kind l.state l.told kind is) (does_these p.opts k0 k1 writes (unput_writing done.put w.octets inward w.found) (w.run inward) acts run);
+          once = r.part p.opts (acts ++ writes) (is_for how p.opts l.kind l.state l.told kind is) (does_these p.opts k0 k1 writes (unput_next done.put w.octets inward w.next) (w.run inward) acts run);
         };
       }
 
+  -- the first alone, of which a message couldn't be noted
+  pub parts_unnoted : (l : Life) (t t' : Option Topics) (can_read : Bool) (k0 : Kept) (new : Side) (said said' heard heard' : Option (List ℕ)) (s s1 : S) (i i1 : Option I) (o : Option O)
+      → (can_read ≡ true → IsReadable l.state) → (can_read ≡ false → IsReadable l.state → ⊥) → Adds heard [] heard'
+      → (u : UnsaidBy K (mode_of can_read t) t t' k0 new said said' s i s1 i1)
+      → UnnotedBy K l t t' k0 new said said' heard heard' s i o s1 i1 o
+  parts_unnoted l t t' can_read k0 new said said' heard heard' s s1 i i1 o sure never none u =
+      let inward = read_through l.end in
+      let before = write_acts u.put u.octets in
+      let take = Step (Take inward u.message) ∷ [] in
+      let writes = before ++ take in
+      record {
+        before = before;
+        message = u.message;
+        some = u.some;
+        said_is = subst (λ (x : List ℕ). Adds said x said') (sym (added said_by before take u.octets [] (write_says u.put u.octets u.fits) refl ∙ append-nil u.octets)) u.told;
+        heard_is = subst (λ (x : List ℕ). Adds heard x heard') (sym (added heard_by before take [] [] (write_hears u.put u.octets) refl)) none;
+        steps = subst (λ (x : List PipeStep). StepsRun K x s i o s1 i1 o) (sym (added step_in before take [] (Take inward u.message ∷ []) (write_steps u.put u.octets) refl)) (u.steps inward o);
+        left = u.left;
+        same = u.same;
+        takes = added taken_by before take [] (u.message ∷ []) (write_still u.put u.octets).takes refl;
+        repeats = added repeated_by before take [] [] (write_still u.put u.octets).repeats refl;
+        run = λ opts. does_these opts k0 new.kept before (unput_write u.put u.octets) u.run;
+        parts = λ p acts kind says run. writes_now (basis_of l p) (standing_of l p) acts writes can_read sure never t says
+            (λ e. write_part_as p.opts (IsTake inward) run.all acts writes (tells_as p.opts acts k0 run) (u.takes inward p.opts run.all run.run))
+            (λ e. taking_alone (mode_of can_read t) _ u.mode_is e)
+            (λ x e. taking_saying (mode_of can_read t) x _ u.mode_is e);
+      }
+
   -- the same, by what the link tells at another moment
-  pub writes_to : (can_read : Bool) (k0 k1 : Kept) (done : Written) (said said1 said' : Option (List ℕ)) (s s' : S) (i i' : Option I) → said1 ≡ said'
-      → WritesAtBy K can_read k0 done k1 said said1 s i s' i' → WritesAtBy K can_read k0 done k1 said said' s i s' i'
-  writes_to can_read k0 k1 done said said1 said' s s' i i' e w = subst (λ (x : Option (List ℕ)). WritesAtBy K can_read k0 done k1 said x s i s' i') e w
+  pub writes_to : (mode : WriteMode) (t t' : Option Topics) (k0 k1 : Kept) (done : Written) (said said1 said' : Option (List ℕ)) (s s' : S) (i i' : Option I) → said1 ≡ said'
+      → NextBy K mode t t' k0 done k1 said said1 s i s' i' → NextBy K mode t t' k0 done k1 said said' s i s' i'
+  writes_to mode t t' k0 k1 done said said1 said' s s' i i' e w = subst (λ (x : Option (List ℕ)). NextBy K mode t t' k0 done k1 said x s i s' i') e w
 
   pub reads_from : (how : ReadMode) (k0 k1 : Kept) (answer : Option LinkGot) (heard heard1 heard' : Option (List ℕ)) (s s' : S) (o o' : Option O) → heard1 ≡ heard
       → ReadsAtBy K how k0 answer k1 heard1 heard' s o s' o' → ReadsAtBy K how k0 answer k1 heard heard' s o s' o'

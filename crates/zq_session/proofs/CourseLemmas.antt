@@ -45,7 +45,9 @@ use Rattle.zq_session.specs.LifeSteps.{IsSame, LifeStep, LifeDoes, with_dues}
 use Rattle.zq_session.specs.Halves.{StepsRun, step_in, step_at}
 use Rattle.zq_session.specs.LifeView.{IsWritable}
 use Rattle.zq_session.specs.Doing.{EndsAs, IsOverNow, StandsNow, IsRefusal}
-use Rattle.zq_session.specs.BothParts.{SaysNoTopics, AreParts, PartsBy, LastBy}
+use Rattle.zq_session.specs.BothParts.{AreParts, PartsBy, LastBy}
+use Rattle.zq_session.specs.Noting.{IsFree, IsHeldOf, over_link}
+use Rattle.zq_session.proofs.NotingLemmas.{kept_free, held_free, topics_worked, topics_over, says_at}
 use Rattle.zq_session.specs.Courses.{HasStory, PeerStep, ShakeStep, ShakesBy, LinkedBy, act_at}
 use Rattle.zq_session.specs.Ending.{Asks, AsksBy, DialsLater}
 use Rattle.zq_session.proofs.HalfLemmas.{steps_on}
@@ -149,9 +151,6 @@ pub dials_on : (old new : Life) (p q : Story) (d d' : Option DiallerState) → I
 dials_on old new p q d d' same e o i m k =
     subst (λ (b : Bool). IsOfDials b q d') (sym same.dials_is) (subst (λ (x : Option DiallerState). IsOfDials old.dials q x) (sym e) (dials_same old.dials p q d o i m k))
 
-pub silent_on : (old new : Life) (opts : EngineOpts) → IsSame old new → SaysNoTopics old.dials opts → SaysNoTopics new.dials opts
-silent_on old new opts same e = subst (λ (b : Bool). SaysNoTopics b opts) (sym same.dials_is) e
-
 -- what holds with these acts at the link holds where they are those of the story
 pub by_link : (C : Story → Type 0) (p : Story) (acts : List LinkAct) → p.link ≡ Some acts → C (record p { link = Some acts }) → C p
 by_link C p acts e k = subst (λ (l : Option (List LinkAct)). C (record p { link = l })) (sym e) k
@@ -159,17 +158,25 @@ by_link C p acts e k = subst (λ (l : Option (List LinkAct)). C (record p { link
 the_side : (x y : Side) → Some x ≡ Some y → x ≡ y
 the_side x y e = cc
 
-pub link_some : (opts : EngineOpts) (link : Option (List LinkAct)) (side : Option Side) (sd : Side) → side ≡ Some sd → IsOfLink opts link side
-    → (acts : List LinkAct) × (link ≡ Some acts) × IsKeptOf opts acts sd.kept
-link_some opts None None sd e k = absurd cc
-link_some opts None (Some x) sd e k = absurd k
-link_some opts (Some acts) None sd e k = absurd k
-link_some opts (Some acts) (Some x) sd e k = (acts, refl, subst (λ (y : Side). IsKeptOf opts acts y.kept) (the_side x sd e) k)
+pub link_held : (opts : EngineOpts) (link : Option (List LinkAct)) (side : Option Side) (sd : Side) → side ≡ Some sd → IsOfLink opts link side
+    → (acts : List LinkAct) × (link ≡ Some acts) × IsHeldOf opts acts sd.behind sd.kept
+link_held opts None None sd e k = absurd cc
+link_held opts None (Some x) sd e k = absurd k
+link_held opts (Some acts) None sd e k = absurd k
+link_held opts (Some acts) (Some x) sd e k = (acts, refl, subst (λ (y : Side). IsHeldOf opts acts y.behind y.kept) (the_side x sd e) k)
 
-pub link_is : (opts : EngineOpts) (link : Option (List LinkAct)) (side : Option Side) (sd : Side) (acts : List LinkAct) → side ≡ Some sd → link ≡ Some acts → IsKeptOf opts acts sd.kept
+pub link_some : (opts : EngineOpts) (link : Option (List LinkAct)) (side : Option Side) (sd : Side) → side ≡ Some sd → IsFree sd.behind → IsOfLink opts link side
+    → (acts : List LinkAct) × (link ≡ Some acts) × IsKeptOf opts acts sd.kept
+link_some opts link side sd e free k = (let l = link_held opts link side sd e k in (l.0, l.1, kept_free opts l.0 sd.behind sd.kept free l.2))
+
+pub link_waits : (opts : EngineOpts) (link : Option (List LinkAct)) (side : Option Side) (sd : Side) (acts : List LinkAct) → side ≡ Some sd → link ≡ Some acts → IsHeldOf opts acts sd.behind sd.kept
     → IsOfLink opts link side
-link_is opts link side sd acts e d r =
+link_waits opts link side sd acts e d r =
     subst (λ (x : Option Side). IsOfLink opts link x) (sym e) (subst (λ (x : Option (List LinkAct)). IsOfLink opts x (Some sd)) (sym d) r)
+
+pub link_is : (opts : EngineOpts) (link : Option (List LinkAct)) (side : Option Side) (sd : Side) (acts : List LinkAct) → side ≡ Some sd → link ≡ Some acts → IsFree sd.behind → IsKeptOf opts acts sd.kept
+    → IsOfLink opts link side
+link_is opts link side sd acts e d free r = link_waits opts link side sd acts e d (held_free opts acts sd.behind sd.kept free r)
 
 pub link_none : (opts : EngineOpts) (link : Option (List LinkAct)) (side : Option Side) → side ≡ None → link ≡ None → IsOfLink opts link side
 link_none opts link side e d =
@@ -274,19 +281,19 @@ adds_on (Some l) told' told'' xs ys a b = subst (λ (t : Option (List ℕ)). Add
 module _ {S O I N : Type 0} (K : Known S O I N) where
   -- a turn whose link stands
   pub turn_stands : (now : ℕ) (old new : Course) (l1 : Life) (sd sd1 : Side) (done : Done) (met : Bool) (said said' heard heard' : Option (List ℕ)) (s s' : S) (i i' : Option I) (o o' : Option O)
-      → old.side ≡ Some sd → new.side ≡ Some sd1 → new.dialler ≡ old.dialler
+      → old.side ≡ Some sd → new.side ≡ Some sd1 → IsFree sd.behind → IsFree sd1.behind → new.dialler ≡ old.dialler
       → (met ≡ true → done.written.look ≡ Some fetched.Delimiter) → (met ≡ false → done.written.look ≡ Some fetched.Delimiter → ⊥)
-      → PartsBy K old.life sd.kept done sd1.kept said said' heard heard' s i o s' i' o'
+      → PartsBy K old.life old.topics new.topics sd.kept done sd1.kept said said' heard heard' s i o s' i' o'
       → LifeDoes old.life l1 (λ b s. DueOnce s (met ≡ true) (Delimiter b.end)) → ShakesBy l1 new.life old.peer new.peer sd1.kept → StandsNow done.written.put done.got sd1.kept
       → (p : Story) → HasStory old p → LinkedBy K now old new said said' heard heard' s i o s' i' o' p
-  turn_stands now old new l1 sd sd1 done met said said' heard heard' s s' i i' o o' es en ed sure never pb marks shakes st p keeps =
-      let link = link_some p.opts p.link old.side sd es keeps.link in
+  turn_stands now old new l1 sd sd1 done met said said' heard heard' s s' i i' o o' es en fr fr1 ed sure never pb marks shakes st p keeps =
+      let link = link_some p.opts p.link old.side sd es fr keeps.link in
       let acts = link.0 in
       by_link (λ q. HasStory old q → LinkedBy K now old new said said' heard heard' s i o s' i' o' q) p acts link.1 (λ k.
       let q = record p { link = Some acts } in
       let more = pb.writes ++ pb.reads in
       let b = basis_of old.life p in
-      let f = front_at old.life l1 new.life old.peer new.peer sd.kept sd1.kept pb.writes pb.reads met p acts k.due link.2 (pb.run p.opts k.kind_is) (pb.parts q acts k.kind_is k.silent link.2)
+      let f = front_at old.life l1 new.life old.peer new.peer sd.kept sd1.kept pb.writes pb.reads met p acts k.due link.2 (pb.run p.opts k.kind_is) (pb.parts q acts k.kind_is (says_at old.life.dials p.opts acts p.closed _ old.topics k.topics) link.2)
       (λ e. pb.met (sure e)) (λ c. met_is met (Contains pb.writes (Step (DelimiterLook (read_through old.life.end)))) (λ e. pb.unmet (never e)) c) marks shakes in
       let stands = stands_on p.opts b acts pb.writes pb.reads done.written.put done.got sd1.kept refl pb.ends f.run st in
       record {
@@ -317,10 +324,10 @@ module _ {S O I N : Type 0} (K : Known S O I N) where
           peer_is = f.peer_is;
           keeps = record {
             due = f.due;
-            link = link_is p.opts (Some (acts ++ more)) new.side sd1 (acts ++ more) en refl f.run;
+            link = link_is p.opts (Some (acts ++ more)) new.side sd1 (acts ++ more) en refl fr1 f.run;
             dial = dials_on old.life new.life q (record q { link = Some (acts ++ more); dues = f.dues }) old.dialler new.dialler f.same ed refl refl refl k.dial;
             kind_is = k.kind_is ∙ sym f.same.kind_is;
-            silent = silent_on old.life new.life p.opts f.same k.silent;
+            topics = topics_worked old.life.dials new.life.dials p.opts acts more p.closed old.side new.side sd sd1 old.topics new.topics es en f.same.dials_is fr fr1 pb.notes k.topics;
           };
         };
         steps = subst (λ (x : List PipeStep). StepsRun K x s i o s' i' o')
@@ -415,23 +422,23 @@ refused_only put got k cause r (inr e) other d = e.0 other d
 module _ {S O I N : Type 0} (K : Known S O I N) where
   -- a turn whose link is over
   pub turn_over : (now : ℕ) (old mid new : Course) (l1 : Life) (sd sd1 sd2 : Side) (done : Done) (cause : LinkEnd) (met refused puts : Bool) (said said1 said' heard heard' : Option (List ℕ)) (s s1 s' : S) (i i' : Option I) (o o1 o' : Option O)
-      → old.side ≡ Some sd → new.side ≡ None → mid.dialler ≡ old.dialler → new.peer ≡ mid.peer
+      → old.side ≡ Some sd → new.side ≡ None → IsFree sd.behind → new.topics ≡ over_link mid.topics → mid.dialler ≡ old.dialler → new.peer ≡ mid.peer
       → (met ≡ true → done.written.look ≡ Some fetched.Delimiter) → (met ≡ false → done.written.look ≡ Some fetched.Delimiter → ⊥)
       → (refused ≡ true → IsRefusal cause) → (refused ≡ false → IsRefusal cause → ⊥)
       → (puts ≡ true → IsWriteOver done.written.put × ((mid.life.kind ≡ Push → ⊥) × IsWritable mid.life.state)) → (puts ≡ false → IsWriteOver done.written.put → (mid.life.kind ≡ Push → ⊥) → IsWritable mid.life.state → ⊥)
-      → PartsBy K old.life sd.kept done sd1.kept said said1 heard heard' s i o s1 i' o1
+      → PartsBy K old.life old.topics mid.topics sd.kept done sd1.kept said said1 heard heard' s i o s1 i' o1
       → LifeDoes old.life l1 (λ b s. DueOnce s (met ≡ true) (Delimiter b.end)) → ShakesBy l1 mid.life old.peer mid.peer sd1.kept → IsOverNow done.written.put done.got sd1.kept cause
       → ((pipe : PipeId) → LastBy K refused puts pipe sd1.kept sd2.kept said1 said' s1 o1 s' o') → (refused ≡ true → puts ≡ false)
       → Asks mid.life new.life → DialsLater now mid new
       → (p : Story) → HasStory old p → LinkedBy K now old new said said' heard heard' s i o s' i' o' p
-  turn_over now old mid new l1 sd sd1 sd2 done cause met refused puts said said1 said' heard heard' s s1 s' i i' o o1 o' es en ed ep sure never ry rn py pn pb marks shakes ov lasts one asks dials p keeps =
-      let link = link_some p.opts p.link old.side sd es keeps.link in
+  turn_over now old mid new l1 sd sd1 sd2 done cause met refused puts said said1 said' heard heard' s s1 s' i i' o o1 o' es en fr et ed ep sure never ry rn py pn pb marks shakes ov lasts one asks dials p keeps =
+      let link = link_some p.opts p.link old.side sd es fr keeps.link in
       let acts = link.0 in
       by_link (λ q. HasStory old q → LinkedBy K now old new said said' heard heard' s i o s' i' o' q) p acts link.1 (λ k.
       let q = record p { link = Some acts } in
       let more = pb.writes ++ pb.reads in
       let b = basis_of old.life p in
-      let f = front_at old.life l1 mid.life old.peer mid.peer sd.kept sd1.kept pb.writes pb.reads met p acts k.due link.2 (pb.run p.opts k.kind_is) (pb.parts q acts k.kind_is k.silent link.2)
+      let f = front_at old.life l1 mid.life old.peer mid.peer sd.kept sd1.kept pb.writes pb.reads met p acts k.due link.2 (pb.run p.opts k.kind_is) (pb.parts q acts k.kind_is (says_at old.life.dials p.opts acts p.closed _ old.topics k.topics) link.2)
       (λ e. pb.met (sure e)) (λ c. met_is met (Contains pb.writes (Step (DelimiterLook (read_through old.life.end)))) (λ e. pb.unmet (never e)) c) marks shakes in
       let lb = lasts mid.life.end in
       let last = lb.put_last ++ lb.said_last in
@@ -513,7 +520,7 @@ module _ {S O I N : Type 0} (K : Known S O I N) where
                 (subst (λ (x : Bool). IsOfDials x (record q2 { dial_at = later now p.interval }) new.dialler) (sym a.same.dials_is)
                 (dials mid.life.dials q2 (dials_on old.life mid.life q q2 old.dialler mid.dialler f.same ed refl refl refl k.dial)));
             kind_is = kind ∙ sym a.same.kind_is;
-            silent = silent_on mid.life new.life p.opts a.same (silent_on old.life mid.life p.opts f.same k.silent);
+            topics = topics_over old.life.dials new.life.dials p.opts acts more last p.closed cause old.side new.side sd old.topics mid.topics new.topics es en (a.same.dials_is ∙ f.same.dials_is) fr pb.notes (record { takes = lb.takes; repeats = lb.repeats }) et k.topics;
           };
         };
         steps = subst (λ (x : List PipeStep). StepsRun K x s i o s' i' o')

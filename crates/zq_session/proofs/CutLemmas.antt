@@ -1,14 +1,16 @@
 -- What a turn that memory cut short did.
-use Rattle.std.proofs.Common.{◌≡◌, ℕ, Bool, true, false, List, [], ◌++◌, Option, Some, None, refl, sym, ap, subst, ◌∙◌, inl, inr}
-use Rattle.std.specs.Prelude.{Contains}
+use Rattle.std.proofs.Common.{◌≡◌, ℕ, Bool, true, false, List, [], ◌∷◌, ◌++◌, Option, Some, None, refl, sym, ap, subst, ◌∙◌, inl, inr, append_assoc}
+use Rattle.std.specs.Prelude.{Contains, IsSome, ◌&&◌}
 use Rattle.std.specs.List.{flat_map}
 use Rattle.std.proofs.lemmas.List.{append-nil}
 use Rattle.msg_pipe.specs.Known.{Known}
-use Rattle.spec_pattern.specs.PipeStep.{PipeStep, DelimiterLook, read_through}
+use Rattle.spec_pattern.specs.PipeStep.{PipeStep, Take, DelimiterLook, read_through}
 use Rattle.spec_link.specs.declared.due.Due.TheVariants.{Delimiter}
 use Rattle.spec_link.specs.LinkAct.{LinkAct, Step, said_of, heard_of}
 use Rattle.spec_link.specs.History.{Basis, SessionEvent, Standing, after_all}
-use Rattle.spec_link.specs.Turn.{DueOnce, Exactly, GivesUp, LingerIsOver}
+use Rattle.spec_link.specs.Turn.{DueOnce, Exactly, GivesUp, LingerIsOver, subscribes}
+use Rattle.spec_link.specs.Rows.{ClosedLink}
+use Rattle.zq_base.specs.declared.options.EngineOpts.{EngineOpts}
 use Rattle.zq_session.specs.declared.wire.Fetched.TheVariants as fetched
 use Rattle.zq_session.specs.declared.life.Life.{Life}
 use Rattle.zq_session.specs.declared.course.Course.{Course}
@@ -18,23 +20,27 @@ use Rattle.zq_session.specs.Calls.{Adds}
 use Rattle.zq_session.specs.Lives.{Story, AreDue, basis_of, standing_of}
 use Rattle.zq_session.specs.LifeSteps.{LifeDoes, with_dues}
 use Rattle.zq_session.specs.Halves.{StepsRun, step_in, step_at}
-use Rattle.zq_session.specs.BothParts.{PartsBy, CutBy}
+use Rattle.zq_session.specs.BothParts.{PartsBy, CutBy, UnnotedBy}
 use Rattle.zq_session.specs.Courses.{HasStory, CourseStep, act_at}
 use Rattle.zq_session.specs.Turns.{BeginsBy, IsToldBy}
 use Rattle.zq_session.specs.Cuts.{IsCutAt, IsCutAtLink, CutAtLinkBy, CutUnlinkedBy, CutsBy}
 use Rattle.zq_session.proofs.HalfLemmas.{no_steps}
 use Rattle.zq_session.proofs.UnlinkedLemmas.{same_by, link_gone}
-use Rattle.zq_session.proofs.CourseLemmas.{acted, after_on, after_acts, steps_of_acts, acts_of_acts, due_adds, no_due_acts, no_due_steps, more_of, link_some, link_is, dials_on, by_link, once_as, met_is, basis_is, silent_on}
+use Rattle.zq_session.proofs.CourseLemmas.{acted, after_on, after_acts, steps_of_acts, acts_of_acts, due_adds, no_due_acts, no_due_steps, more_of, link_some, link_waits, link_is, dials_on, by_link, once_as, met_is, basis_is}
+use Rattle.link_topics.specs.Topics.{Topics}
+use Rattle.zq_session.specs.declared.behind.Behind.{Behind}
+use Rattle.zq_session.specs.Noting.{IsFree, IsHeldOf, SaysAt}
+use Rattle.zq_session.proofs.NotingLemmas.{topics_worked, topics_waits, says_at}
 use Rattle.zq_session.proofs.TurnLemmas.{gives_none, first_adds, told_same, course_on, regroup_first}
 
 module _ {S O I N : Type 0} (K : Known S O I N) where
   -- the reading part was cut short
   pub cut_at_link : (old new : Course) (sd sd' : Side) (said said' heard heard' : Option (List ℕ)) (s s' : S) (i i' : Option I) (o o' : Option O)
-      → old.side ≡ Some sd → new.side ≡ Some sd' → new.dialler ≡ old.dialler → new.life ≡ old.life → new.peer ≡ old.peer
-      → CutBy K old.life sd.kept sd'.kept said said' heard heard' s i o s' i' o'
+      → old.side ≡ Some sd → new.side ≡ Some sd' → IsFree sd.behind → IsFree sd'.behind → new.dialler ≡ old.dialler → new.life ≡ old.life → new.peer ≡ old.peer
+      → CutBy K old.life old.topics new.topics sd.kept sd'.kept said said' heard heard' s i o s' i' o'
       → (p : Story) → HasStory old p → CutAtLinkBy K old new said said' heard heard' s i o s' i' o' p
-  cut_at_link old new sd sd' said said' heard heard' s s' i i' o o' es en ed el ep cb p keeps =
-      let link = link_some p.opts p.link old.side sd es keeps.link in
+  cut_at_link old new sd sd' said said' heard heard' s s' i i' o o' es en fr fr1 ed el ep cb p keeps =
+      let link = link_some p.opts p.link old.side sd es fr keeps.link in
       let acts = link.0 in
       by_link (λ q. HasStory old q → CutAtLinkBy K old new said said' heard heard' s i o s' i' o' q) p acts link.1 (λ k.
       let q = record p { link = Some acts } in
@@ -52,7 +58,7 @@ module _ {S O I N : Type 0} (K : Known S O I N) where
           reads = cb.reads;
           delimiter = [];
           all = refl;
-          parts = inl (cb.parts q acts k.kind_is k.silent link.2, refl);
+          parts = inl (cb.parts q acts k.kind_is (says_at old.life.dials p.opts acts p.closed _ old.topics k.topics) link.2, refl);
         };
         step = record {
           story = t;
@@ -65,10 +71,10 @@ module _ {S O I N : Type 0} (K : Known S O I N) where
           peer_is = inl (ap (λ (l : Life). l.asked.shaken) el, ep);
           keeps = record {
             due = subst (λ (l : Life). AreDue l l.asked p.dues) (sym el) k.due;
-            link = link_is p.opts (Some (acts ++ more)) new.side sd' (acts ++ more) en refl (cb.run p.opts k.kind_is acts link.2);
+            link = link_is p.opts (Some (acts ++ more)) new.side sd' (acts ++ more) en refl fr1 (cb.run p.opts k.kind_is acts link.2);
             dial = dials_on old.life new.life q t old.dialler new.dialler same ed refl refl refl k.dial;
             kind_is = k.kind_is ∙ sym same.kind_is;
-            silent = silent_on old.life new.life p.opts same k.silent;
+            topics = topics_worked old.life.dials new.life.dials p.opts acts more p.closed old.side new.side sd sd' old.topics new.topics es en same.dials_is fr fr1 cb.notes k.topics;
           };
         };
         steps = subst (λ (l : List SessionEvent). StepsRun K (flat_map step_at l) s i o s' i' o') (sym all) (subst (λ (x : List PipeStep). StepsRun K x s i o s' i' o') (sym (steps_of_acts more)) cb.steps);
@@ -78,13 +84,13 @@ module _ {S O I N : Type 0} (K : Known S O I N) where
 
   -- both parts were made, and the handshake couldn't be told
   pub cut_behind : (old new : Course) (sd sd1 : Side) (done : Done) (met : Bool) (said said' heard heard' : Option (List ℕ)) (s s' : S) (i i' : Option I) (o o' : Option O)
-      → old.side ≡ Some sd → new.side ≡ Some sd1 → new.dialler ≡ old.dialler → new.peer ≡ old.peer
+      → old.side ≡ Some sd → new.side ≡ Some sd1 → IsFree sd.behind → IsFree sd1.behind → new.dialler ≡ old.dialler → new.peer ≡ old.peer
       → (met ≡ true → done.written.look ≡ Some fetched.Delimiter) → (met ≡ false → done.written.look ≡ Some fetched.Delimiter → ⊥)
-      → PartsBy K old.life sd.kept done sd1.kept said said' heard heard' s i o s' i' o'
+      → PartsBy K old.life old.topics new.topics sd.kept done sd1.kept said said' heard heard' s i o s' i' o'
       → LifeDoes old.life new.life (λ b s. DueOnce s (met ≡ true) (Delimiter b.end))
       → (p : Story) → HasStory old p → CutAtLinkBy K old new said said' heard heard' s i o s' i' o' p
-  cut_behind old new sd sd1 done met said said' heard heard' s s' i i' o o' es en ed ep sure never pb marks p keeps =
-      let link = link_some p.opts p.link old.side sd es keeps.link in
+  cut_behind old new sd sd1 done met said said' heard heard' s s' i i' o o' es en fr fr1 ed ep sure never pb marks p keeps =
+      let link = link_some p.opts p.link old.side sd es fr keeps.link in
       let acts = link.0 in
       by_link (λ q. HasStory old q → CutAtLinkBy K old new said said' heard heard' s i o s' i' o' q) p acts link.1 (λ k.
       let q = record p { link = Some acts } in
@@ -107,7 +113,7 @@ module _ {S O I N : Type 0} (K : Known S O I N) where
           reads = pb.reads;
           delimiter = d.0;
           all = refl;
-          parts = inr (pb.parts q acts k.kind_is k.silent link.2, once_as st (met ≡ true) (Contains pb.writes delim) (Delimiter old.life.end) d.0 met_in in_met d.2);
+          parts = inr (inl (pb.parts q acts k.kind_is (says_at old.life.dials p.opts acts p.closed _ old.topics k.topics) link.2, once_as st (met ≡ true) (Contains pb.writes delim) (Delimiter old.life.end) d.0 met_in in_met d.2));
         };
         step = record {
           story = with_dues t d.1.dues;
@@ -120,15 +126,73 @@ module _ {S O I N : Type 0} (K : Known S O I N) where
           peer_is = inl (d.1.shaken_is, ep);
           keeps = record {
             due = d.1.due;
-            link = link_is p.opts (Some (acts ++ more)) new.side sd1 (acts ++ more) en refl (pb.run p.opts k.kind_is acts link.2);
+            link = link_is p.opts (Some (acts ++ more)) new.side sd1 (acts ++ more) en refl fr1 (pb.run p.opts k.kind_is acts link.2);
             dial = dials_on old.life new.life q (with_dues t d.1.dues) old.dialler new.dialler d.1.same ed refl refl refl k.dial;
             kind_is = k.kind_is ∙ sym d.1.same.kind_is;
-            silent = silent_on old.life new.life p.opts d.1.same k.silent;
+            topics = topics_worked old.life.dials new.life.dials p.opts acts more p.closed old.side new.side sd sd1 old.topics new.topics es en d.1.same.dials_is fr fr1 pb.notes k.topics;
           };
         };
         steps = subst (λ (x : List PipeStep). StepsRun K x s i o s' i' o') (sym all_steps) pb.steps;
         said_is = subst (λ (x : List LinkAct). Adds said (said_of x) said') (sym all_acts) pb.said_is;
         heard_is = subst (λ (x : List LinkAct). Adds heard (heard_of x) heard') (sym all_acts) pb.heard_is;
+      }) keeps
+
+says_some : (dials : Bool) (opts : EngineOpts) (closed : List ClosedLink) (acts : List LinkAct) (t : Option Topics) → IsSome t → SaysAt dials opts closed acts t → (dials && subscribes opts.kind) ≡ true
+says_some dials opts closed acts None some k = absurd cc
+says_some dials opts closed acts (Some t) some k = k.0
+
+module _ {S O I N : Type 0} (K : Known S O I N) where
+  -- the message that was taken couldn't be noted
+  pub cut_unnoted : (old new : Course) (sd sd' : Side) (said said' heard heard' : Option (List ℕ)) (s s' : S) (i i' : Option I) (o o' : Option O)
+      → old.side ≡ Some sd → new.side ≡ Some sd' → IsFree sd.behind → new.dialler ≡ old.dialler → new.life ≡ old.life → new.peer ≡ old.peer
+      → UnnotedBy K old.life old.topics new.topics sd.kept sd' said said' heard heard' s i o s' i' o'
+      → (p : Story) → HasStory old p → CutAtLinkBy K old new said said' heard heard' s i o s' i' o' p
+  cut_unnoted old new sd sd' said said' heard heard' s s' i i' o o' es en fr ed el ep ub p keeps =
+      let link = link_some p.opts p.link old.side sd es fr keeps.link in
+      let acts = link.0 in
+      by_link (λ q. HasStory old q → CutAtLinkBy K old new said said' heard heard' s i o s' i' o' q) p acts link.1 (λ k.
+      let q = record p { link = Some acts } in
+      let pipe = read_through old.life.end in
+      let writes = ub.before ++ Step (Take pipe ub.message) ∷ [] in
+      let b = basis_of old.life p in
+      let t = record p { link = Some (acts ++ writes) } in
+      let same = same_by old.life new.life el in
+      let says = says_at old.life.dials p.opts acts p.closed _ old.topics k.topics in
+      let none = append-nil writes in
+      let all : acted writes ≡ acted (writes ++ []) ++ [] = ap (λ (l : List LinkAct). acted l) (sym none) ∙ sym (append-nil (acted (writes ++ []))) in
+      record {
+        acts = acts;
+        is = refl;
+        events = acted writes;
+        cut = record {
+          writes = writes;
+          reads = [];
+          delimiter = [];
+          all = all;
+          parts = inr (inr (says_some old.life.dials p.opts p.closed acts old.topics ub.some says, (ub.parts q acts k.kind_is says link.2, (refl, refl))));
+        };
+        step = record {
+          story = t;
+          after_is = after_acts b (standing_of old.life q) acts writes ∙ ap (λ (l : Life). standing_of l t) (sym el);
+          same = same;
+          opts_is = refl;
+          interval_is = refl;
+          handed_is = refl;
+          grows = λ x c. c;
+          peer_is = inl (ap (λ (l : Life). l.asked.shaken) el, ep);
+          keeps = record {
+            due = subst (λ (l : Life). AreDue l l.asked p.dues) (sym el) k.due;
+            link = link_waits p.opts (Some (acts ++ writes)) new.side sd' (acts ++ writes) en refl
+                (subst (λ (w : Behind). IsHeldOf p.opts (acts ++ writes) w sd'.kept) (sym ub.left)
+                (acts ++ ub.before, pipe, sym (append_assoc acts ub.before (Step (Take pipe ub.message) ∷ [])), ub.run p.opts acts link.2));
+            dial = dials_on old.life new.life q t old.dialler new.dialler same ed refl refl refl k.dial;
+            kind_is = k.kind_is ∙ sym same.kind_is;
+            topics = topics_waits old.life.dials new.life.dials p.opts acts writes p.closed old.side new.side sd sd' ub.message old.topics new.topics es en same.dials_is fr ub.left ub.same ub.takes ub.repeats k.topics;
+          };
+        };
+        steps = subst (λ (x : List PipeStep). StepsRun K x s i o s' i' o') (sym (steps_of_acts writes)) ub.steps;
+        said_is = subst (λ (x : List LinkAct). Adds said (said_of x) said') (sym (acts_of_acts writes)) ub.said_is;
+        heard_is = subst (λ (x : List LinkAct). Adds heard (heard_of x) heard') (sym (acts_of_acts writes)) ub.heard_is;
       }) keeps
 
 cut_with_link : (b : Basis) (s : Standing) (link : Option (List LinkAct)) (acts : List LinkAct) (events : List SessionEvent) → link ≡ Some acts → IsCutAtLink b s acts events → IsCutAt b s link events

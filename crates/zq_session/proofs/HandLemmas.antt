@@ -18,6 +18,7 @@ use Rattle.zq_session.specs.Lives.{Story, AreDue, Tells, IsOfLink, basis_of, sta
 use Rattle.zq_session.specs.Courses.{HasStory}
 use Rattle.zq_session.specs.Sessions.{SessionState, HasLived}
 use Rattle.zq_session.specs.Handings.{Hands, HandsShaken, IsAllGiven}
+use Rattle.zq_session.specs.Noting.{IsFree}
 use Rattle.zq_session.proofs.LifeLemmas.{due_linger, due_link, due_over, due_output, due_delimiter, due_shaken}
 use Rattle.zq_session.proofs.UnlinkedLemmas.{link_gone}
 use Rattle.zq_session.proofs.UnputLemmas.{output_of}
@@ -67,7 +68,7 @@ true_false e = absurd cc
 
 pub hands_shaken : {O I : Type 0} (c d : Course) (g g' : Asked) (i : Option I) (o : Option O) (due : Due) → HandsShaken c d g g' due
     → (b : Basis) (history : List SessionEvent) → HasLived b history (the_state c g i o) → MayHand (standing b history) due × HasLived b (history ++ Handed due ∷ []) (the_state d g' i o)
-hands_shaken c d g g' i o due k = hands_one c d g g' i o due k.life_is k.side_is k.dialler_is (λ p keeps h.
+hands_shaken c d g g' i o due k = hands_one c d g g' i o due k.life_is k.side_is k.dialler_is k.topics_is (λ p keeps h.
     let x = Request (Shaken c.life.object k.peer) in
     let was = h.peer k.asked k.once in
     let same : was.0 ≡ k.peer = the_peer was.0 k.peer (sym was.1 ∙ k.was) in
@@ -86,7 +87,7 @@ pub hands_out : {O I : Type 0} (c d : Course) (g m g' : Asked) (i : Option I) (o
     → (b : Basis) (history : List SessionEvent) → HasLived b history (the_state c g i o) → MayHand (standing b history) due × HasLived b (history ++ Handed due ∷ []) (the_state d g' i o)
 hands_out c d g m g' i o due ed em hands shaken =
     let hands2 : Hands c.life g g' due = subst (λ (x : Course). Hands x.life g g' due) ed (subst (λ (a : Asked). Hands d.life a g' due) em hands) in
-    hands_one c d g g' i o due (ap (λ (x : Course). x.life) ed) (ap (λ (x : Course). x.side) ed) (ap (λ (x : Course). x.dialler) ed) (λ p keeps h.
+    hands_one c d g g' i o due (ap (λ (x : Course). x.life) ed) (ap (λ (x : Course). x.side) ed) (ap (λ (x : Course). x.dialler) ed) (ap (λ (x : Course). x.topics) ed) (λ p keeps h.
     let k = hands2 p.dues p.handed keeps.due h.given_is in
     ((k.0, k.1), (k.2, λ asked once. (sym (shaken ∙ ap (λ (a : Asked). a.shaken) em) ∙ once, ap (λ (x : Course). x.peer) ed))))
 
@@ -131,10 +132,10 @@ some_none o acts e d = absurd cc
 pub left_unlinked : (b : Basis) (s : Standing) (side : Option Side) → side ≡ None → IsOfLink b.opts s.link side → HasOutputLeft b s → ⊥
 left_unlinked b s side e k left = some_none s.link left.acts left.link (link_gone b.opts s.link side e k)
 
-pub left_written : (b : Basis) (s : Standing) (side : Option Side) (sd : Side) → side ≡ Some sd → HasNone sd.kept → IsOfLink b.opts s.link side → HasOutputLeft b s → ⊥
-left_written b s side sd e none k left = gone_written s.link b.opts side sd e none k left.acts left.link left.some
+pub left_written : (b : Basis) (s : Standing) (side : Option Side) (sd : Side) → side ≡ Some sd → IsFree sd.behind → HasNone sd.kept → IsOfLink b.opts s.link side → HasOutputLeft b s → ⊥
+left_written b s side sd e free none k left = gone_written s.link b.opts side sd e free none k left.acts left.link left.some
 
-pub left_some : (b : Basis) (s : Standing) (side : Option Side) (sd : Side) → side ≡ Some sd → HasOutput sd.kept → s.gave_up ≡ false → (b.linger ≡ Some 0 → ⊥) → IsOfLink b.opts s.link side → HasOutputLeft b s
-left_some b s side sd e some up lingers k =
-    let l = link_some b.opts s.link side sd e k in
+pub left_some : (b : Basis) (s : Standing) (side : Option Side) (sd : Side) → side ≡ Some sd → IsFree sd.behind → HasOutput sd.kept → s.gave_up ≡ false → (b.linger ≡ Some 0 → ⊥) → IsOfLink b.opts s.link side → HasOutputLeft b s
+left_some b s side sd e free some up lingers k =
+    let l = link_some b.opts s.link side sd e free k in
     record { up = up; lingers = lingers; acts = l.0; link = l.1; some = output_of b.opts l.0 sd.kept l.2 some }

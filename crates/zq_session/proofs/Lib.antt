@@ -11,7 +11,10 @@ pub mod BothLemmas
 pub mod AtLemmas
 pub mod CourseLemmas
 pub mod UnlinkedLemmas
+pub mod NextLemmas
 pub mod TurnLemmas
 pub mod CutLemmas
+pub mod SayLemmas
+pub mod NotingLemmas
 pub mod SessionLemmas
 pub mod HandLemmas

@@ -18,6 +18,8 @@ use Rattle.msg_pipe.specs.declared.pipes.Taken.{Taken}
 use Rattle.msg_pipe.specs.declared.pipes.Taken.TheVariants as taken
 use Rattle.spec_link.specs.LinkAct.{LinkAct, Step}
 use Rattle.spec_link.specs.Parts.{NothingToWrite, SomethingToWrite, MayTake, NothingHeld, SomethingHeld, IsTake, IsWriteOver, PutsAll, WriteFits, ReadFits, puts, write_acts, read_acts}
+use Rattle.zq_session.specs.declared.behind.Behind.{Behind}
+use Rattle.zq_session.specs.declared.behind.Behind.TheVariants.{Nothing, Unsaid}
 use Rattle.zq_session.specs.declared.wire.Fetched.{Fetched}
 use Rattle.zq_session.specs.declared.write_part.Written.{Written}
 use Rattle.zq_session.specs.Kept.{Kept, Side, HasRun, IsAlive, IsAtRest, Acts, whole}
@@ -54,7 +56,7 @@ on_err (Err e) X k = k
 abbrev pub WritesDue : Option LinkPut → Kept → Type 0
 WritesDue put k = (opts : EngineOpts) (acts : List LinkAct) → HasRun opts acts k → MatchOption put (NothingToWrite opts acts) (λ _. SomethingToWrite opts acts)
 
-is_take : (pipe : PipeId) (found : Taken) → IsTake pipe (Step (take_step pipe found))
+pub is_take : (pipe : PipeId) (found : Taken) → IsTake pipe (Step (take_step pipe found))
 is_take pipe (taken.Item m) = inl (m, refl)
 is_take pipe taken.Empty = inr (inl refl)
 is_take pipe taken.Delimiter = inr (inr refl)
@@ -223,17 +225,17 @@ pub reads_run : {S O I N : Type 0} (K : Known S O I N) (A : Type 0) (old new : K
 reads_run K A old new got heard heard' s s' o o' r = (read_acts got r.octets ++ put_acts some_pipe r.messages r.full, r.run some_pipe)
 
 -- the reading part, by the value of a side
-pub side_reads : {S O I N : Type 0} (K : Known S O I N) (side : Side) (old new : Kept) (behind : Bool) (got : Option LinkGot) (heard heard' : Option (List ℕ)) (s s' : S) (o o' : O)
-    → side ≡ record { kept = old; behind = behind } → (behind ≡ false → IsAtRest old)
-    → ReadsBy K (IsAtRest old) old got new heard heard' s o s' o' → ReadsBy K (side.behind ≡ false) side.kept got new heard heard' s o s' o'
+pub side_reads : {S O I N : Type 0} (K : Known S O I N) (side : Side) (old new : Kept) (behind : Behind) (got : Option LinkGot) (heard heard' : Option (List ℕ)) (s s' : S) (o o' : O)
+    → side ≡ record { kept = old; behind = behind } → (behind ≡ Nothing → IsAtRest old)
+    → ReadsBy K (IsAtRest old) old got new heard heard' s o s' o' → ReadsBy K (side.behind ≡ Nothing) side.kept got new heard heard' s o s' o'
 side_reads K side old new behind got heard heard' s s' o o' is rest r =
-    subst (λ (x : Side). ReadsBy K (x.behind ≡ false) x.kept got new heard heard' s o s' o') (sym is) (reads_for K (IsAtRest old) (behind ≡ false) old new got heard heard' s s' o o' rest r)
+    subst (λ (x : Side). ReadsBy K (x.behind ≡ Nothing) x.kept got new heard heard' s o s' o') (sym is) (reads_for K (IsAtRest old) (behind ≡ Nothing) old new got heard heard' s s' o o' rest r)
 
 -- the same of one that memory cut short
-pub side_wants : (side : Side) (old new : Kept) (behind : Bool) (heard heard' : Option (List ℕ)) (shown : Option LinkGot → Type 0) → side ≡ record { kept = old; behind = behind } → (behind ≡ false → IsAtRest old)
-    → WantsBy (IsAtRest old) old new heard heard' shown → WantsBy (side.behind ≡ false) side.kept new heard heard' shown
+pub side_wants : (side : Side) (old new : Kept) (behind : Behind) (heard heard' : Option (List ℕ)) (shown : Option LinkGot → Type 0) → side ≡ record { kept = old; behind = behind } → (behind ≡ Nothing → IsAtRest old)
+    → WantsBy (IsAtRest old) old new heard heard' shown → WantsBy (side.behind ≡ Nothing) side.kept new heard heard' shown
 side_wants side old new behind heard heard' shown is rest w =
-    subst (λ (x : Side). WantsBy (x.behind ≡ false) x.kept new heard heard' shown) (sym is) (record {
+    subst (λ (x : Side). WantsBy (x.behind ≡ Nothing) x.kept new heard heard' shown) (sym is) (record {
       answer = w.answer;
       octets = w.octets;
       fits = w.fits;
@@ -267,3 +269,7 @@ wants_run A old new heard heard' shown w = (read_acts w.answer w.octets, w.run)
 
 pub acts_alive : (old new : Kept) → ((more : List LinkAct) × Acts old more new) → IsAlive old → IsAlive new
 acts_alive old new k alive = stays_alive old new k.0 k.1 alive
+
+-- where nothing is undone, no message waits
+pub none_unsaid : (b : Behind) (m : Frames) (X : Type 0) → b ≡ Nothing → b ≡ Unsaid m → X
+none_unsaid b m X e d = absurd cc

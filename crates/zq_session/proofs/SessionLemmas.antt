@@ -20,7 +20,7 @@ use Rattle.zq_session.specs.declared.course.Course.{Course}
 use Rattle.zq_session.specs.Kept.{Side}
 use Rattle.zq_session.specs.Dials.{DiallerState}
 use Rattle.zq_session.specs.Lives.{Story, AreDue, Tells, IsOfLink, IsOfDials, basis_of, standing_of}
-use Rattle.zq_session.specs.BothParts.{SaysNoTopics}
+use Rattle.zq_session.proofs.NotingLemmas.{topics_as}
 use Rattle.zq_session.specs.Handings.{IsAllGiven}
 use Rattle.zq_session.specs.Courses.{HasStory, PeerStep, CourseStep}
 use Rattle.zq_session.specs.Turns.{TurnsBy}
@@ -139,7 +139,7 @@ state_is c state g i j o q = λ b history lived.
       p,
       lived.1,
       lived_on b history (EndIs state ∷ []) (standing_of l p) (ap (λ (x : Standing). after_all b x (EndIs state ∷ [])) lived.2),
-      record { due = due_on c.life l l.asked p.dues refl refl lived.3.due; link = lived.3.link; dial = lived.3.dial; kind_is = lived.3.kind_is; silent = lived.3.silent },
+      record { due = due_on c.life l l.asked p.dues refl refl lived.3.due; link = lived.3.link; dial = lived.3.dial; kind_is = lived.3.kind_is; topics = lived.3.topics },
       record { given_is = due_on c.life l g p.handed refl refl lived.4.given_is; peer = lived.4.peer },
     )
 
@@ -150,7 +150,7 @@ told_is c now g i o = λ b history lived.
       p,
       lived.1,
       lived_on b history (Told now ∷ []) (standing_of l p) (ap (λ (x : Standing). after_all b x (Told now ∷ [])) lived.2),
-      record { due = due_on c.life l l.asked p.dues refl refl lived.3.due; link = lived.3.link; dial = lived.3.dial; kind_is = lived.3.kind_is; silent = lived.3.silent },
+      record { due = due_on c.life l l.asked p.dues refl refl lived.3.due; link = lived.3.link; dial = lived.3.dial; kind_is = lived.3.kind_is; topics = lived.3.topics },
       record { given_is = due_on c.life l g p.handed refl refl lived.4.given_is; peer = lived.4.peer },
     )
 
@@ -161,7 +161,7 @@ tried_is c left g i o = λ b history lived.
       p,
       lived.1,
       lived_on b history (Tried left ∷ []) (standing_of l p) (ap (λ (x : Standing). after_all b x (Tried left ∷ [])) lived.2),
-      record { due = due_on c.life l l.asked p.dues refl refl lived.3.due; link = lived.3.link; dial = lived.3.dial; kind_is = lived.3.kind_is; silent = lived.3.silent },
+      record { due = due_on c.life l l.asked p.dues refl refl lived.3.due; link = lived.3.link; dial = lived.3.dial; kind_is = lived.3.kind_is; topics = lived.3.topics },
       record { given_is = due_on c.life l g p.handed refl refl lived.4.given_is; peer = lived.4.peer },
     )
 
@@ -222,20 +222,20 @@ dial_as : (l m : Life) (p : Story) (d d' : Option DiallerState) → m ≡ l → 
 dial_as l m p d d' el ed k = subst (λ (x : Life). IsOfDials x.dials p d') (sym el) (subst (λ (x : Option DiallerState). IsOfDials l.dials p x) (sym ed) k)
 
 -- the same of what is kept but for the peer
-story_as : (c d : Course) (p : Story) → d.life ≡ c.life → d.side ≡ c.side → d.dialler ≡ c.dialler → HasStory c p → HasStory d p
-story_as c d p el es ed k = record {
+story_as : (c d : Course) (p : Story) → d.life ≡ c.life → d.side ≡ c.side → d.dialler ≡ c.dialler → d.topics ≡ c.topics → HasStory c p → HasStory d p
+story_as c d p el es ed et k = record {
   due = subst (λ (l : Life). AreDue l l.asked p.dues) (sym el) k.due;
   link = subst (λ (x : Option Side). IsOfLink p.opts p.link x) (sym es) k.link;
   dial = dial_as c.life d.life p c.dialler d.dialler el ed k.dial;
   kind_is = k.kind_is ∙ ap (λ (l : Life). l.kind) (sym el);
-  silent = subst (λ (l : Life). SaysNoTopics l.dials p.opts) (sym el) k.silent;
+  topics = topics_as c.life.dials d.life.dials p.opts p.link p.closed c.side d.side c.topics d.topics (ap (λ (l : Life). l.dials) el) es et k.topics;
 }
 
 -- one thing is handed out
-pub hands_one : {O I : Type 0} (c d : Course) (g g' : Asked) (i : Option I) (o : Option O) (due : Due) → d.life ≡ c.life → d.side ≡ c.side → d.dialler ≡ c.dialler
+pub hands_one : {O I : Type 0} (c d : Course) (g g' : Asked) (i : Option I) (o : Option O) (due : Due) → d.life ≡ c.life → d.side ≡ c.side → d.dialler ≡ c.dialler → d.topics ≡ c.topics
     → ((p : Story) → HasStory c p → IsHanded c g p → (Contains p.dues due × (Contains p.handed due → ⊥)) × (AreDue c.life g' (p.handed ++ due ∷ []) × (c.life.asked.shaken ≡ true → g'.shaken ≡ false → (g.shaken ≡ false) × (d.peer ≡ c.peer))))
     → (b : Basis) (history : List SessionEvent) → HasLived b history (the_state c g i o) → MayHand (standing b history) due × HasLived b (history ++ Handed due ∷ []) (the_state d g' i o)
-hands_one c d g g' i o due el es ed f b history lived =
+hands_one c d g g' i o due el es ed et f b history lived =
     let p = lived.0 in
     let k = f p lived.3 lived.4 in
     let q = record p { handed = p.handed ++ due ∷ [] } in
@@ -245,7 +245,7 @@ hands_one c d g g' i o due el es ed f b history lived =
         q,
         ap (λ (l : Life). basis_of l p) el ∙ lived.1,
         lived_on b history (Handed due ∷ []) (standing_of d.life q) (ap (λ (x : Standing). after_all b x (Handed due ∷ [])) lived.2 ∙ ap (λ (l : Life). standing_of l q) (sym el)),
-        story_as c d q el es ed (record { due = lived.3.due; link = lived.3.link; dial = dials_same c.life.dials p q c.dialler refl refl refl lived.3.dial; kind_is = lived.3.kind_is; silent = lived.3.silent }),
+        story_as c d q el es ed et (record { due = lived.3.due; link = lived.3.link; dial = dials_same c.life.dials p q c.dialler refl refl refl lived.3.dial; kind_is = lived.3.kind_is; topics = lived.3.topics }),
         record {
           given_is = subst (λ (l : Life). AreDue l g' (p.handed ++ due ∷ [])) (sym el) k.1.0;
           peer = λ asked once.

@@ -1,6 +1,7 @@
 -- What a whole turn does, from its steps.
 use Rattle.std.proofs.Common.{◌≡◌, ℕ, Bool, true, false, List, [], ◌∷◌, ◌++◌, Option, Some, None, refl, sym, ap, subst, ◌∙◌, inl, inr, append_assoc}
-use Rattle.std.specs.Prelude.{◌⊎◌, IsSome, IfSome, is_some}
+use Rattle.std.specs.Prelude.{◌⊎◌, IsSome, IfSome, is_some, option_map}
+use Rattle.zq_base.specs.Message.{Frames}
 use Rattle.zq_base.specs.declared.ids.ObjId.{ObjId}
 use Rattle.spec_link.specs.declared.due.Due.{Due}
 use Rattle.std.specs.List.{flat_map}
@@ -9,19 +10,20 @@ use Rattle.std.proofs.lemmas.List.Concat.{flat_map-append}
 use Rattle.zq_base.specs.declared.options.EngineOpts.{EngineOpts}
 use Rattle.msg_pipe.specs.Known.{Known}
 use Rattle.zq_outer.specs.Host.{IsNew}
-use Rattle.spec_pattern.specs.PipeStep.{PipeStep}
+use Rattle.spec_pattern.specs.PipeStep.{PipeStep, Take}
+use Rattle.spec_link.specs.Rows.{ClosedLink}
 use Rattle.spec_control.specs.declared.end.EndState.{EndState}
 use Rattle.spec_control.specs.declared.end.EndState.TheVariants.{Gone, WaitDelimiter}
 use Rattle.spec_control.specs.declared.request.Req.TheVariants.{AskEnd, AskOver, OutputOver}
 use Rattle.spec_control.specs.declared.end.Reason.TheVariants.{Linger}
 use Rattle.spec_link.specs.declared.due.Due.TheVariants.{Request}
-use Rattle.spec_link.specs.LinkAct.{LinkAct}
+use Rattle.spec_link.specs.LinkAct.{LinkAct, Step}
 use Rattle.spec_link.specs.Parts.{SomethingToWrite}
 use Rattle.spec_link.specs.History.{Basis, SessionEvent, GaveUp, IsDue, Standing, after_all}
 use Rattle.spec_link.specs.Turn.{DueOnce, Exactly, GivesUp, LingerIsOver, HasNoOutput, IsTold, IsLinkedTurn, IsUnlinkedTurn, Works, WorksAt}
 use Rattle.zq_session.specs.declared.life.Life.{Life}
 use Rattle.zq_session.specs.declared.course.Course.{Course}
-use Rattle.zq_session.specs.Kept.{Side, Acts, IsKeptOf}
+use Rattle.zq_session.specs.Kept.{Kept, Side, Acts, IsKeptOf}
 use Rattle.zq_session.specs.Silent.{HasOutput, HasNone}
 use Rattle.zq_session.specs.Lives.{Story, IsOfLink, basis_of, standing_of}
 use Rattle.zq_session.specs.LifeSteps.{LifeStep, LifeDoes, with_dues}
@@ -33,7 +35,13 @@ use Rattle.zq_session.proofs.PartLemmas.{adds_none}
 use Rattle.zq_session.proofs.UnlinkedLemmas.{link_gone}
 use Rattle.zq_session.proofs.HalfLemmas.{no_steps}
 use Rattle.zq_session.proofs.LifeLemmas.{no_step, due_step, due_output, not_due, was_due, is_due}
-use Rattle.zq_session.proofs.CourseLemmas.{after_on, due_adds, no_due_acts, no_due_steps, dials_on, same_on, basis_is, link_some, link_is, silent_on, peer_on}
+use Rattle.zq_session.proofs.CourseLemmas.{after_on, due_adds, no_due_acts, no_due_steps, dials_on, same_on, basis_is, link_held, link_some, link_waits, link_is, peer_on}
+use Rattle.link_topics.specs.Topics.{Topics, with_again}
+use Rattle.zq_session.specs.declared.behind.Behind.{Behind}
+use Rattle.zq_session.specs.declared.behind.Behind.TheVariants.{Nothing, Octets, Unsaid}
+use Rattle.zq_session.specs.Says.{PassesOn}
+use Rattle.zq_session.specs.Noting.{IsFree, IsHeldOf, AreTopics, unsaid_by, unsaid_of}
+use Rattle.zq_session.proofs.NotingLemmas.{free_by, none_waits, held_free, topics_as, topics_passed, topics_ready}
 use Rattle.zq_session.proofs.UnputLemmas.{does_these, output_of, none_of}
 
 -- ---- a step of a session's life alone
@@ -44,8 +52,8 @@ link_same opts opts' link link' side side' eo el es k =
     subst (λ (x : EngineOpts). IsOfLink x link' side') (sym eo)
     (subst (λ (x : Option (List LinkAct)). IsOfLink opts x side') (sym el) (subst (λ (x : Option Side). IsOfLink opts link x) (sym es) k))
 
-abbrev pub course_step : (old new : Course) (p : Story) (events : List SessionEvent) → new.side ≡ old.side → new.dialler ≡ old.dialler → new.peer ≡ old.peer → LifeStep old.life new.life p events → HasStory old p → CourseStep old new p events
-course_step old new p events es ed ep step keeps = record {
+abbrev pub course_step : (old new : Course) (p : Story) (events : List SessionEvent) → new.side ≡ old.side → new.dialler ≡ old.dialler → new.peer ≡ old.peer → new.topics ≡ old.topics → LifeStep old.life new.life p events → HasStory old p → CourseStep old new p events
+course_step old new p events es ed ep et step keeps = record {
   story = with_dues p step.dues;
   after_is = step.after_is;
   same = step.same;
@@ -59,21 +67,98 @@ course_step old new p events es ed ep step keeps = record {
     link = link_same p.opts p.opts p.link p.link old.side new.side refl refl es keeps.link;
     dial = dials_on old.life new.life p (with_dues p step.dues) old.dialler new.dialler step.same ed refl refl refl keeps.dial;
     kind_is = keeps.kind_is ∙ sym step.same.kind_is;
-    silent = silent_on old.life new.life p.opts step.same keeps.silent;
+    topics = topics_as old.life.dials new.life.dials p.opts p.link p.closed old.side new.side old.topics new.topics step.same.dials_is es et keeps.topics;
   };
 }
 
 -- hearing what was read before is no act
-pub story_heard : (c : Course) (sd sd' : Side) → c.side ≡ Some sd → Acts sd.kept [] sd'.kept → (p : Story) → HasStory c p → HasStory (record c { side = Some sd' }) p
-story_heard c sd sd' e f p k =
-    let l = link_some p.opts p.link c.side sd e k.link in
+pub story_heard : (c : Course) (sd sd' : Side) → c.side ≡ Some sd → IsFree sd.behind → IsFree sd'.behind → Acts sd.kept [] sd'.kept → (p : Story) → HasStory c p → HasStory (record c { side = Some sd' }) p
+story_heard c sd sd' e free free' f p k =
+    let l = link_some p.opts p.link c.side sd e free k.link in
     record {
       due = k.due;
-      link = link_is p.opts p.link (Some sd') sd' l.0 refl l.1 (subst (λ (x : List LinkAct). IsKeptOf p.opts x sd'.kept) (append-nil l.0) (does_these p.opts sd.kept sd'.kept [] refl f l.0 l.2));
+      link = link_is p.opts p.link (Some sd') sd' l.0 refl l.1 free' (subst (λ (x : List LinkAct). IsKeptOf p.opts x sd'.kept) (append-nil l.0) (does_these p.opts sd.kept sd'.kept [] refl f l.0 l.2));
       dial = k.dial;
       kind_is = k.kind_is;
-      silent = k.silent;
+      topics = subst (λ (x : List Frames). AreTopics c.life.dials p.opts p.link p.closed x c.topics) (sym (none_waits sd'.behind free'))
+          (subst (λ (x : List Frames). AreTopics c.life.dials p.opts p.link p.closed x c.topics) (none_waits sd.behind free) (subst (λ (x : Option Side). AreTopics c.life.dials p.opts p.link p.closed (unsaid_of x) c.topics) e k.topics));
     }
+
+-- offering what was taken before is no act either
+passed : (opts : EngineOpts) (acts : List LinkAct) (dials : Bool) (link : Option (List LinkAct)) (closed : List ClosedLink) (b : Behind) (k : Kept) (t t' : Option Topics) (new : Side) → PassesOn b k t new t' → IsHeldOf opts acts b k → AreTopics dials opts link closed (unsaid_by b) t
+    → (IsHeldOf opts acts new.behind new.kept × IsFree new.behind) × AreTopics dials opts link closed (unsaid_by new.behind) t'
+passed opts acts dials link closed Nothing k t t' new p held topics = (
+  (subst (λ (x : Side). IsHeldOf opts acts x.behind x.kept) (sym p.0) held, subst (λ (x : Side). IsFree x.behind) (sym p.0) tt),
+  subst (λ (x : Side). AreTopics dials opts link closed (unsaid_by x.behind) t') (sym p.0) (subst (λ (x : Option Topics). AreTopics dials opts link closed [] x) (sym p.1) topics),
+)
+passed opts acts dials link closed Octets k t t' new p held topics = (
+  (subst (λ (x : Side). IsHeldOf opts acts x.behind x.kept) (sym p.0) held, subst (λ (x : Side). IsFree x.behind) (sym p.0) tt),
+  subst (λ (x : Side). AreTopics dials opts link closed (unsaid_by x.behind) t') (sym p.0) (subst (λ (x : Option Topics). AreTopics dials opts link closed [] x) (sym p.1) topics),
+)
+passed opts acts dials link closed (Unsaid m) k t t' new p held topics =
+    let free = free_by new.behind p.0 in
+    let take = Step (Take held.1 m) in (
+      (
+        held_free opts acts new.behind new.kept free (subst (λ (x : List LinkAct). IsKeptOf opts x new.kept) (sym held.2)
+            (does_these opts k new.kept (take ∷ []) refl (p.1.0 take (record { said = refl; heard = refl; offered = refl; put = refl })) held.0 held.3)),
+        free,
+      ),
+      subst (λ (l : List Frames). AreTopics dials opts link closed l t') (sym (none_waits new.behind free)) (subst (λ (x : Option Topics). AreTopics dials opts link closed [] x) (sym p.1.1) (topics_passed dials opts link closed m t topics)),
+    )
+
+pub free_passed : (b : Behind) (k : Kept) (t t' : Option Topics) (new : Side) → PassesOn b k t new t' → IsFree new.behind
+free_passed Nothing k t t' new p = subst (λ (x : Side). IsFree x.behind) (sym p.0) tt
+free_passed Octets k t t' new p = subst (λ (x : Side). IsFree x.behind) (sym p.0) tt
+free_passed (Unsaid m) k t t' new p = free_by new.behind p.0
+
+pub story_passed : (c : Course) (sd sd' : Side) (t : Option Topics) → c.side ≡ Some sd → PassesOn sd.behind sd.kept c.topics sd' t → (p : Story) → HasStory c p → HasStory (record c { side = Some sd'; topics = t }) p
+story_passed c sd sd' t e passes p k =
+    let l = link_held p.opts p.link c.side sd e k.link in
+    let x = passed p.opts l.0 c.life.dials p.link p.closed sd.behind sd.kept c.topics t sd' passes l.2 (subst (λ (o : Option Side). AreTopics c.life.dials p.opts p.link p.closed (unsaid_of o) c.topics) e k.topics) in
+    record {
+      due = k.due;
+      link = link_waits p.opts p.link (Some sd') sd' l.0 refl l.1 x.0.0;
+      dial = k.dial;
+      kind_is = k.kind_is;
+      topics = x.1;
+    }
+
+-- the messages for the next link are made
+pub story_ready : (c : Course) (t : Option Topics) → c.side ≡ None → t ≡ option_map (λ x. with_again x) c.topics → (p : Story) → HasStory c p → HasStory (record c { topics = t }) p
+story_ready c t none e p k =
+    let gone = link_gone p.opts p.link c.side none k.link in
+    record {
+      due = k.due;
+      link = k.link;
+      dial = k.dial;
+      kind_is = k.kind_is;
+      topics = subst (λ (x : Option Topics). AreTopics c.life.dials p.opts p.link p.closed (unsaid_of c.side) x) (sym e)
+          (subst (λ (o : Option Side). AreTopics c.life.dials p.opts p.link p.closed (unsaid_of o) (option_map (λ x. with_again x) c.topics)) (sym none)
+          (subst (λ (l : Option (List LinkAct)). AreTopics c.life.dials p.opts l p.closed [] (option_map (λ x. with_again x) c.topics)) (sym gone)
+          (topics_ready c.life.dials p.opts p.closed c.topics
+          (subst (λ (l : Option (List LinkAct)). AreTopics c.life.dials p.opts l p.closed [] c.topics) gone
+          (subst (λ (o : Option Side). AreTopics c.life.dials p.opts p.link p.closed (unsaid_of o) c.topics) none k.topics)))));
+    }
+
+-- nothing was done, or they were made
+pub story_kept : (c : Course) (sd sd' : Side) (t : Option Topics) → c.side ≡ Some sd → sd' ≡ sd → t ≡ c.topics → (p : Story) → HasStory c p → HasStory (record c { side = Some sd'; topics = t }) p
+story_kept c sd sd' t e same et p k = record {
+  due = k.due;
+  link = link_same p.opts p.opts p.link p.link c.side (Some sd') refl refl (ap (λ (x : Side). Some x) same ∙ sym e) k.link;
+  dial = k.dial;
+  kind_is = k.kind_is;
+  topics = topics_as c.life.dials c.life.dials p.opts p.link p.closed c.side (Some sd') c.topics t refl (ap (λ (x : Side). Some x) same ∙ sym e) et k.topics;
+}
+
+pub story_prepared : (c : Course) (t : Option Topics) → c.side ≡ None → (t ≡ c.topics) ⊎ (t ≡ option_map (λ x. with_again x) c.topics) → (p : Story) → HasStory c p → HasStory (record c { topics = t }) p
+story_prepared c t none (inr e) p k = story_ready c t none e p k
+story_prepared c t none (inl e) p k = record {
+  due = k.due;
+  link = k.link;
+  dial = k.dial;
+  kind_is = k.kind_is;
+  topics = topics_as c.life.dials c.life.dials p.opts p.link p.closed c.side c.side c.topics t refl refl e k.topics;
+}
 
 -- steps behind steps
 abbrev pub course_on : (a b c : Course) (p : Story) (xs ys : List SessionEvent) (x : CourseStep a b p xs) → CourseStep b c x.story ys → CourseStep a c p (xs ++ ys)
@@ -125,16 +210,16 @@ gone_none (Some a) opts (Some x) e k acts d some = absurd cc
 acts_eq : (x y : List LinkAct) → Some x ≡ Some y → x ≡ y
 acts_eq x y e = cc
 
-pub gone_written : (link : Option (List LinkAct)) (opts : EngineOpts) (side : Option Side) (sd : Side) → side ≡ Some sd → HasNone sd.kept → IsOfLink opts link side → (acts : List LinkAct) → link ≡ Some acts → SomethingToWrite opts acts → ⊥
-gone_written link opts side sd e none k acts d some =
-    let l = link_some opts link side sd e k in
+pub gone_written : (link : Option (List LinkAct)) (opts : EngineOpts) (side : Option Side) (sd : Side) → side ≡ Some sd → IsFree sd.behind → HasNone sd.kept → IsOfLink opts link side → (acts : List LinkAct) → link ≡ Some acts → SomethingToWrite opts acts → ⊥
+gone_written link opts side sd e free none k acts d some =
+    let l = link_some opts link side sd e free k in
     none_of opts l.0 sd.kept l.2 none (subst (λ (a : List LinkAct). SomethingToWrite opts a) (acts_eq acts l.0 (sym d ∙ l.1)) some)
 
-pub not_gone : (b : Basis) (s : Standing) (side : Option Side) (sd : Side) → side ≡ Some sd → HasOutput sd.kept → (s.gave_up ≡ false) → (b.linger ≡ Some 0 → ⊥) → IsOfLink b.opts s.link side → IsOutputGone b s → ⊥
-not_gone b s side sd e some up linger k (inl g) = (let u = up in absurd cc)
-not_gone b s side sd e some up linger k (inr (inl g)) = linger g
-not_gone b s side sd e some up linger k (inr (inr g)) =
-    let l = link_some b.opts s.link side sd e k in
+pub not_gone : (b : Basis) (s : Standing) (side : Option Side) (sd : Side) → side ≡ Some sd → IsFree sd.behind → HasOutput sd.kept → (s.gave_up ≡ false) → (b.linger ≡ Some 0 → ⊥) → IsOfLink b.opts s.link side → IsOutputGone b s → ⊥
+not_gone b s side sd e free some up linger k (inl g) = (let u = up in absurd cc)
+not_gone b s side sd e free some up linger k (inr (inl g)) = linger g
+not_gone b s side sd e free some up linger k (inr (inr g)) =
+    let l = link_some b.opts s.link side sd e free k in
     g l.0 l.1 (output_of b.opts l.0 sd.kept l.2 some)
 
 -- ---- the first answers
@@ -163,18 +248,18 @@ over_as s t told told' state state' object object' events es et ew eo k =
     (subst (λ (x : Option EndState). OverIs t told' x object events) ew
     (subst (λ (x : ObjId). OverIs t told' state' x events) eo k)))
 
-pub begins_by : (now : ℕ) (old mid1 mid2 mid3 new : Course) → mid1.side ≡ old.side → mid1.dialler ≡ old.dialler → mid1.peer ≡ old.peer
+pub begins_by : (now : ℕ) (old mid1 mid2 mid3 new : Course) → mid1.side ≡ old.side → mid1.dialler ≡ old.dialler → mid1.peer ≡ old.peer → mid1.topics ≡ old.topics
     → LifeDoes old.life mid1.life (λ b s. Exactly ((s.gave_up ≡ false) × LingerIsOver b.linger s.told now) (GivesUp b s))
     → ((p : Story) → HasStory mid1 p → HasStory mid2 p) → mid2.life ≡ mid1.life → mid2.peer ≡ mid1.peer → OutputBy mid2 mid3
-    → new.side ≡ mid3.side → new.dialler ≡ mid3.dialler → new.peer ≡ mid3.peer
+    → new.side ≡ mid3.side → new.dialler ≡ mid3.dialler → new.peer ≡ mid3.peer → new.topics ≡ mid3.topics
     → LifeDoes mid3.life new.life (λ b s. DueOnce s ((IsTold s → ⊥) × (s.state ≡ Some Gone)) (Request (AskOver b.object)))
     → (p : Story) → HasStory old p → BeginsBy now old new p
-begins_by now old mid1 mid2 mid3 new e1 d1 p1 f1 f2 e2 p2 f3 e4 d4 p4 f4 p keeps =
+begins_by now old mid1 mid2 mid3 new e1 d1 p1 t1 f1 f2 e2 p2 f3 e4 d4 p4 t4 f4 p keeps =
     let a = f1 p keeps.due in
     let b = basis_of old.life p in
     let s = standing_of old.life p in
     let q = with_dues p a.1.dues in
-    let c1 = course_step old mid1 p a.0 e1 d1 p1 a.1 keeps in
+    let c1 = course_step old mid1 p a.0 e1 d1 p1 t1 a.1 keeps in
     let keeps2 = f2 q c1.keeps in
     let o = f3 q keeps2 in
     let c2 = course_same mid1 mid2 q e2 p2 keeps2 in
@@ -182,7 +267,7 @@ begins_by now old mid1 mid2 mid3 new e1 d1 p1 f1 f2 e2 p2 f3 e4 d4 p4 f4 p keeps
     let c3 = o.2 in
     let q3 = c3.story in
     let v = f4 q3 c3.keeps.due in
-    let c4 = course_step mid3 new q3 v.0 e4 d4 p4 v.1 c3.keeps in
+    let c4 = course_step mid3 new q3 v.0 e4 d4 p4 t4 v.1 c3.keeps in
     let same2 = same_on old.life mid1.life mid2.life a.1.same c2.same in
     let basis2 = basis_is old.life mid2.life p q same2 refl refl in
     let standing2 : standing_of mid2.life q ≡ after_all b s a.0 = ap (λ (l : Life). standing_of l q) e2 ∙ sym a.1.after_is in
@@ -307,14 +392,14 @@ module _ {S O I N L : Type 0} (K : Known S O I N) (heard said : L → Option (Li
       (told_new (flat_map act_at w.events) link' fresh))
 
 -- memory cut the first answers short: it may have given up
-pub begins_cut : (now : ℕ) (old mid1 mid2 : Course) → mid1.side ≡ old.side → mid1.dialler ≡ old.dialler → mid1.peer ≡ old.peer
+pub begins_cut : (now : ℕ) (old mid1 mid2 : Course) → mid1.side ≡ old.side → mid1.dialler ≡ old.dialler → mid1.peer ≡ old.peer → mid1.topics ≡ old.topics
     → LifeDoes old.life mid1.life (λ b s. Exactly ((s.gave_up ≡ false) × LingerIsOver b.linger s.told now) (GivesUp b s))
     → ((p : Story) → HasStory mid1 p → HasStory mid2 p) → mid2.life ≡ mid1.life → mid2.peer ≡ mid1.peer
     → (p : Story) → HasStory old p → (gives : List SessionEvent) × Exactly ((old.life.gave_up ≡ false) × LingerIsOver old.life.linger old.life.told now) (GivesUp (basis_of old.life p) (standing_of old.life p)) gives × CourseStep old mid2 p gives
-begins_cut now old mid1 mid2 e1 d1 p1 f1 f2 e2 p2 p keeps =
+begins_cut now old mid1 mid2 e1 d1 p1 t1 f1 f2 e2 p2 p keeps =
     let a = f1 p keeps.due in
     let q = with_dues p a.1.dues in
-    let c1 = course_step old mid1 p a.0 e1 d1 p1 a.1 keeps in
+    let c1 = course_step old mid1 p a.0 e1 d1 p1 t1 a.1 keeps in
     let c2 = course_same mid1 mid2 q e2 p2 (f2 q c1.keeps) in
     (a.0, a.2, subst (λ (l : List SessionEvent). CourseStep old mid2 p l) (append-nil a.0) (course_on old mid1 mid2 p a.0 [] c1 c2))
 
@@ -332,14 +417,14 @@ pub output_none : (c : Course) → ((p : Story) → HasStory c p → OutputGone 
 output_none c never = λ p keeps. (
   [],
   not_due (standing_of c.life p) (OutputGone c p) (Request (OutputOver c.life.object)) (never p keeps),
-  course_step c c p [] refl refl refl (no_step c.life p keeps.due) keeps,
+  course_step c c p [] refl refl refl refl (no_step c.life p keeps.due) keeps,
 )
 
 pub output_again : (c : Course) → c.life.asked.output ≡ true → OutputBy c c
 output_again c e = λ p keeps. (
   [],
   was_due (standing_of c.life p) (OutputGone c p) (Request (OutputOver c.life.object)) c.life.asked.output e keeps.due.output,
-  course_step c c p [] refl refl refl (no_step c.life p keeps.due) keeps,
+  course_step c c p [] refl refl refl refl (no_step c.life p keeps.due) keeps,
 )
 
 pub output_now : (c : Course) → c.life.asked.output ≡ false → ((p : Story) → HasStory c p → OutputGone c p) → OutputBy c (record c { life = record c.life { asked = record c.life.asked { output = true } } })
@@ -348,5 +433,5 @@ output_now c e gone = λ p keeps.
     let x = Request (OutputOver c.life.object) in (
       IsDue x ∷ [],
       is_due (standing_of c.life p) (OutputGone c p) x c.life.asked.output e keeps.due.output (gone p keeps),
-      course_step c (record c { life = l2 }) p (IsDue x ∷ []) refl refl refl (due_step c.life (record c.life.asked { output = true }) p x refl (due_output c.life c.life.asked p.dues keeps.due)) keeps,
+      course_step c (record c { life = l2 }) p (IsDue x ∷ []) refl refl refl refl (due_step c.life (record c.life.asked { output = true }) p x refl (due_output c.life c.life.asked p.dues keeps.due)) keeps,
     )

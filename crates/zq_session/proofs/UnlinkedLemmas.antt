@@ -29,9 +29,11 @@ use Rattle.zq_session.specs.Halves.{StepsRun, step_at}
 use Rattle.zq_session.specs.Courses.{HasStory}
 use Rattle.zq_session.specs.Cuts.{CutUnlinkedBy}
 use Rattle.zq_session.specs.Unlinked.{DialsBy, IsDialDue, LooksBy, UnlinkedBy, dial_events}
+use Rattle.zq_session.specs.Noting.{IsFree, AreTopics, unsaid_of}
+use Rattle.zq_session.proofs.NotingLemmas.{topics_as}
 use Rattle.zq_session.proofs.HalfLemmas.{one_step, no_steps, steps_on}
 use Rattle.zq_session.proofs.ListLemmas.{in_either, in_one, in_none, the_one}
-use Rattle.zq_session.proofs.CourseLemmas.{after_on, due_adds, no_due_steps, dials_on, once_as, same_on, basis_is, link_none, link_is, silent_on, peer_on}
+use Rattle.zq_session.proofs.CourseLemmas.{after_on, due_adds, no_due_steps, dials_on, once_as, same_on, basis_is, link_none, link_is, peer_on}
 use Rattle.zq_session.proofs.UnputLemmas.{of_nothing}
 
 pub link_gone : (opts : EngineOpts) (link : Option (List LinkAct)) (side : Option Side) → side ≡ None → IsOfLink opts link side → link ≡ None
@@ -143,12 +145,12 @@ module _ (b c : Basis) (s t : Standing) (looks : List SessionEvent) (met : Bool)
   }
 
 module _ {S O I N : Type 0} (K : Known S O I N) where
-  dialled : (now : ℕ) (old mid new : Course) (met : Bool) (faults faults' stalls stalls' : ℕ) (s s' : S) (i i' : Option I) (o : Option O) → mid.side ≡ None → mid.dialler ≡ old.dialler → mid.peer ≡ old.peer
+  dialled : (now : ℕ) (old mid new : Course) (met : Bool) (faults faults' stalls stalls' : ℕ) (s s' : S) (i i' : Option I) (o : Option O) → old.side ≡ None → mid.side ≡ None → mid.dialler ≡ old.dialler → mid.peer ≡ old.peer → mid.topics ≡ old.topics
       → (looks : List SessionEvent) (p : Story) → p.link ≡ None → HasStory old p → (step : LifeStep old.life mid.life p looks)
       → Exactly (CanRead (standing_of old.life p)) (Looks (basis_of old.life p) (standing_of old.life p)) looks
       → (met ≡ true → Contains looks (Acted (Step (DelimiterLook (read_through old.life.end))))) → (Contains looks (Acted (Step (DelimiterLook (read_through old.life.end)))) → met ≡ true)
       → StepsRun K (flat_map step_at looks) s i o s' i' o → DialsBy now met mid new faults faults' stalls stalls' → UnlinkedBy K now old new s i o s' i' p
-  dialled now old mid new met faults faults' stalls stalls' s s' i i' o em ed ep looks p pl keeps step looked there back runs dials =
+  dialled now old mid new met faults faults' stalls stalls' s s' i i' o eo em ed ep et looks p pl keeps step looked there back runs dials =
       let q = with_dues p step.dues in
       let b = basis_of old.life p in
       let mid_keeps : HasStory mid q = record {
@@ -156,7 +158,7 @@ module _ {S O I N : Type 0} (K : Known S O I N) where
         link = link_none p.opts p.link mid.side em pl;
         dial = dials_on old.life mid.life p q old.dialler mid.dialler step.same ed refl refl refl keeps.dial;
         kind_is = keeps.kind_is ∙ sym step.same.kind_is;
-        silent = silent_on old.life mid.life p.opts step.same keeps.silent;
+        topics = topics_as old.life.dials mid.life.dials p.opts p.link p.closed old.side mid.side old.topics mid.topics step.same.dials_is (em ∙ sym eo) et keeps.topics;
       } in
       let d = dials.does q mid_keeps pl in
       let basis : basis_of mid.life q ≡ b = basis_is old.life mid.life p q step.same refl refl in
@@ -224,26 +226,26 @@ module _ {S O I N : Type 0} (K : Known S O I N) where
       (subst (λ (l : List PipeStep). StepsRun K l s' i' o s' i' o) (sym (due_adds step_at no_due_steps st (met ≡ true) (Delimiter old.life.end) d.0 d.2)) (no_steps K s' i' o)))
 
   pub unlinked_by : (now : ℕ) (old mid new : Course) (can_read met : Bool) (found : Option Front) (faults faults' stalls stalls' : ℕ) (s s' : S) (i i' : Option I) (o : Option O)
-      → old.side ≡ None → mid.side ≡ None → mid.dialler ≡ old.dialler → mid.peer ≡ old.peer
+      → old.side ≡ None → mid.side ≡ None → mid.dialler ≡ old.dialler → mid.peer ≡ old.peer → mid.topics ≡ old.topics
       → (can_read ≡ true → IsReadable old.life.state) → (can_read ≡ false → IsReadable old.life.state → ⊥)
       → (met ≡ true → found ≡ Some front.Delimiter) → (met ≡ false → found ≡ Some front.Delimiter → ⊥)
       → LooksBy K can_read found s i s' i' → LifeDoes old.life mid.life (λ b s. DueOnce s (met ≡ true) (Delimiter b.end))
       → DialsBy now met mid new faults faults' stalls stalls'
       → (p : Story) → HasStory old p → UnlinkedBy K now old new s i o s' i' p
-  unlinked_by now old mid new can_read met found faults faults' stalls stalls' s s' i i' o eo em ed ep sure never my mn looks marks dials p keeps =
+  unlinked_by now old mid new can_read met found faults faults' stalls stalls' s s' i i' o eo em ed ep et sure never my mn looks marks dials p keeps =
       by_none (λ q. HasStory old q → UnlinkedBy K now old new s i o s' i' q) p (link_gone p.opts p.link old.side eo keeps.link)
       (λ k. (let q = record p { link = None } in
       looked_at (UnlinkedBy K now old new s i o s' i' q) old mid can_read met found s s' i i' o sure never my mn looks marks q refl k (λ l step looked there back runs.
-      dialled now old mid new met faults faults' stalls stalls' s s' i i' o em ed ep l q refl k step looked there back runs dials))) keeps
+      dialled now old mid new met faults faults' stalls stalls' s s' i i' o eo em ed ep et l q refl k step looked there back runs dials))) keeps
 
   -- memory wanted behind the look
   pub cut_unlinked : (old mid new : Course) (can_read met : Bool) (found : Option Front) (s s' : S) (i i' : Option I) (o : Option O)
-      → old.side ≡ None → mid.side ≡ None → mid.dialler ≡ old.dialler → mid.peer ≡ old.peer → new ≡ mid
+      → old.side ≡ None → mid.side ≡ None → mid.dialler ≡ old.dialler → mid.peer ≡ old.peer → mid.topics ≡ old.topics → new ≡ mid
       → (can_read ≡ true → IsReadable old.life.state) → (can_read ≡ false → IsReadable old.life.state → ⊥)
       → (met ≡ true → found ≡ Some front.Delimiter) → (met ≡ false → found ≡ Some front.Delimiter → ⊥)
       → LooksBy K can_read found s i s' i' → LifeDoes old.life mid.life (λ b s. DueOnce s (met ≡ true) (Delimiter b.end))
       → (p : Story) → HasStory old p → CutUnlinkedBy K old new s i o s' i' p
-  cut_unlinked old mid new can_read met found s s' i i' o eo em ed ep same sure never my mn looks marks p keeps =
+  cut_unlinked old mid new can_read met found s s' i i' o eo em ed ep et same sure never my mn looks marks p keeps =
       subst (λ (c : Course). CutUnlinkedBy K old c s i o s' i' p) (sym same)
       (by_none (λ q. HasStory old q → CutUnlinkedBy K old mid s i o s' i' q) p (link_gone p.opts p.link old.side eo keeps.link)
       (λ k. (let q = record p { link = None } in
@@ -265,7 +267,7 @@ module _ {S O I N : Type 0} (K : Known S O I N) where
             link = link_none p.opts None mid.side em refl;
             dial = dials_on old.life mid.life q (with_dues q step.dues) old.dialler mid.dialler step.same ed refl refl refl k.dial;
             kind_is = k.kind_is ∙ sym step.same.kind_is;
-            silent = silent_on old.life mid.life p.opts step.same k.silent;
+            topics = topics_as old.life.dials mid.life.dials p.opts None p.closed old.side mid.side old.topics mid.topics step.same.dials_is (em ∙ sym eo) et k.topics;
           };
         };
         steps = runs;
@@ -296,9 +298,10 @@ is_dialled false p d e o i m = absurd cc
 pub dials_by : (now : ℕ) (met : Bool) (old new : Course) (d d' : DiallerState) (a : HostAnswer) (faults faults' stalls stalls' : ℕ) → HostCounts (Some a) faults faults' stalls stalls'
     → new.life ≡ old.life → new.peer ≡ old.peer → old.dialler ≡ Some d → new.dialler ≡ Some d' → d.dial_at ≤ now → d' ≡ record d { dial_at = dial_at_after d.interval now a d.dial_at }
     → ((IsSome old.life.told → ⊥) ⊎ (IsReadable old.life.state × (met ≡ false)))
-    → ((p : Story) → d.opts ≡ p.opts → p.link ≡ None → IsOfLink p.opts (link_after a p.link) new.side) → (IsSome new.side → Some a ≡ Some Linked)
+    → ((p : Story) → d.opts ≡ p.opts → p.link ≡ None → IsOfLink p.opts (link_after a p.link) new.side)
+    → ((p : Story) → p.link ≡ None → AreTopics old.life.dials p.opts p.link p.closed (unsaid_of old.side) old.topics → AreTopics old.life.dials p.opts (link_after a p.link) p.closed (unsaid_of new.side) new.topics) → (IsSome new.side → Some a ≡ Some Linked)
     → DialsBy now met old new faults faults' stalls stalls'
-dials_by now met old new d d' a faults faults' stalls stalls' counts el epeer eo en moment next wanted links linked = record {
+dials_by now met old new d d' a faults faults' stalls stalls' counts el epeer eo en moment next wanted links tops linked = record {
   answer = Some a;
   counts = counts;
   does = λ p keeps none.
@@ -322,15 +325,15 @@ dials_by now met old new d d' a faults faults' stalls stalls' counts el epeer eo
                 (ap (λ (x : DiallerState). x.opts) next ∙ k.1.0) (ap (λ (x : DiallerState). x.interval) next ∙ k.1.1.0)
                 (ap (λ (x : DiallerState). x.dial_at) next ∙ ap (λ (n : ℕ). dial_at_after n now a d.dial_at) k.1.1.0 ∙ ap (λ (n : ℕ). dial_at_after p.interval now a n) k.1.1.1));
             kind_is = keeps.kind_is ∙ sym same.kind_is;
-            silent = silent_on old.life new.life p.opts same keeps.silent;
+            topics = subst (λ (x : Bool). AreTopics x p.opts (link_after a p.link) p.closed (unsaid_of new.side) new.topics) (sym same.dials_is) (tops p none keeps.topics);
           };
         },
       );
   linked = linked;
 }
 
-pub links_fresh : (opts : EngineOpts) (link : Option (List LinkAct)) (side : Option Side) (sd : Side) (other : EngineOpts) → other ≡ opts → side ≡ Some sd → link ≡ Some [] → HasRun other [] sd.kept → IsOfLink opts link side
-links_fresh opts link side sd other e es el r = link_is opts link side sd [] es el (of_nothing opts sd.kept (subst (λ (x : EngineOpts). HasRun x [] sd.kept) e r))
+pub links_fresh : (opts : EngineOpts) (link : Option (List LinkAct)) (side : Option Side) (sd : Side) (other : EngineOpts) → other ≡ opts → side ≡ Some sd → link ≡ Some [] → IsFree sd.behind → HasRun other [] sd.kept → IsOfLink opts link side
+links_fresh opts link side sd other e es el free r = link_is opts link side sd [] es el free (of_nothing opts sd.kept (subst (λ (x : EngineOpts). HasRun x [] sd.kept) e r))
 
 some_never : (side : Option Side) (a : HostAnswer) → side ≡ None → IsSome side → Some a ≡ Some Linked
 some_never None a e k = absurd cc

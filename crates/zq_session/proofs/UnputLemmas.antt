@@ -19,7 +19,7 @@ use Rattle.spec_zmtp.specs.FrameEncoding.{encode_message}
 use Rattle.spec_zmtp.specs.declared.cause.Cause.{Cause}
 use Rattle.spec_zmtp.specs.declared.cause.Refusal.{Refusal}
 use Rattle.spec_zmtp.specs.DecodedStream.{Decoded, Decodes, Refused, octets_said}
-use Rattle.spec_link.specs.LinkAct.{LinkAct, Wire, Step, said_by, heard_by, offered_by, said_of, heard_of, offered_of, put_of}
+use Rattle.spec_link.specs.LinkAct.{LinkAct, Wire, Step, Repeats, said_by, heard_by, offered_by, said_of, heard_of, offered_of, put_of}
 use mathlib.Core.List.{IsPrefix}
 use Rattle.zmtp_engine.specs.Conversation.{unwritten}
 use Rattle.spec_link.specs.LinkRun.{IsAllSaid, IsLinkRun}
@@ -28,6 +28,7 @@ use Rattle.spec_link.specs.History.{Basis}
 use Rattle.spec_link.specs.Turn.{IsWriteOnly}
 use Rattle.zq_session.specs.Kept.{Kept, HasRun, Acts, IsAtRest, IsKeptOf, KeepsActs, unput_by, without_puts, whole}
 use Rattle.zq_session.specs.Works.{take_acts}
+use Rattle.zq_session.specs.Noting.{Next, Takes, Says, next_acts}
 use Rattle.zq_session.proofs.RestLemmas.{some_meaning, said_left, messages_left}
 use Rattle.zq_session.specs.Silent.{HasOutput, HasNone, IsRefusedNow, IsUnrefused, IsShaken, IsUnshaken}
 
@@ -45,7 +46,7 @@ unput_adds f none (Step (DelimiterLook pipe) ∷ acts) = ap (λ (l : List _). f 
 unput_adds f none (Step (WaitingLook pipe) ∷ acts) = ap (λ (l : List _). f (Step (WaitingLook pipe)) ++ l) (unput_adds f none acts)
 unput_adds f none (Step (Seal pipe) ∷ acts) = ap (λ (l : List _). f (Step (Seal pipe)) ++ l) (unput_adds f none acts)
 
-unput_write : (answer : Option LinkPut) (octets : List ℕ) → without_puts (write_acts answer octets) ≡ write_acts answer octets
+pub unput_write : (answer : Option LinkPut) (octets : List ℕ) → without_puts (write_acts answer octets) ≡ write_acts answer octets
 unput_write None octets = refl
 unput_write (Some a) octets = refl
 
@@ -72,6 +73,11 @@ unput_on xs ys a b e k = flat_map-append unput_by xs ys ∙ both (without_puts x
 
 pub unput_writing : (answer : Option LinkPut) (octets : List ℕ) (pipe : PipeId) (found : Option Taken) → without_puts (write_acts answer octets ++ take_acts pipe found) ≡ write_acts answer octets ++ take_acts pipe found
 unput_writing answer octets pipe found = unput_on (write_acts answer octets) (take_acts pipe found) (write_acts answer octets) (take_acts pipe found) (unput_write answer octets) (unput_take pipe found)
+
+pub unput_next : (answer : Option LinkPut) (octets : List ℕ) (pipe : PipeId) (next : Next) → without_puts (write_acts answer octets ++ next_acts pipe next) ≡ write_acts answer octets ++ next_acts pipe next
+unput_next answer octets pipe (Takes found) = unput_writing answer octets pipe found
+unput_next answer octets pipe (Says None) = unput_on (write_acts answer octets) [] (write_acts answer octets) [] (unput_write answer octets) refl
+unput_next answer octets pipe (Says (Some m)) = unput_on (write_acts answer octets) (Wire (Repeats m) ∷ []) (write_acts answer octets) (Wire (Repeats m) ∷ []) (unput_write answer octets) refl
 
 -- ---- acts more
 

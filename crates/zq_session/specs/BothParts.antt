@@ -1,29 +1,29 @@
 -- The two parts of a turn at a link one after another, and the last acts at a link that is over (own choice).
-use Rattle.std.specs.Prelude.{◌≡◌, ◌⊎◌, ℕ, Bool, true, false, ◌&&◌, List, [], ◌++◌, Option, Some, Contains}
+use Rattle.std.specs.Prelude.{◌≡◌, ◌⊎◌, ℕ, Bool, true, false, List, [], ◌∷◌, ◌++◌, Option, Some, IsSome, Contains}
 use Rattle.std.specs.List.{flat_map}
 use Rattle.zq_base.specs.Ends.{PipeId}
 use Rattle.zq_base.specs.declared.options.EngineOpts.{EngineOpts}
 use Rattle.zq_outer.specs.declared.link.LinkGot.{LinkGot}
 use Rattle.msg_pipe.specs.Known.{Known}
-use Rattle.spec_pattern.specs.PipeStep.{DelimiterLook, read_through}
+use Rattle.spec_pattern.specs.PipeStep.{DelimiterLook, Take, read_through}
 use Rattle.spec_link.specs.declared.row.LinkEnd.{LinkEnd}
-use Rattle.spec_link.specs.LinkAct.{LinkAct, Step, said_of, heard_of}
+use Rattle.spec_link.specs.LinkAct.{LinkAct, Step, said_of, heard_of, taken_of, repeated_of}
 use Rattle.spec_link.specs.Parts.{NothingHeld, SomethingHeld, PutsAll, ReadFits, IsWriteOver, read_acts}
 use Rattle.spec_link.specs.History.{Basis, Standing}
-use Rattle.spec_link.specs.Turn.{IsEnded, IsEndedBy, IsWriteOnly, WritesAt, ReadsAt, subscribes}
+use Rattle.spec_link.specs.Turn.{IsEnded, IsEndedBy, IsWriteOnly, WritesAt, ReadsAt}
 use Rattle.zq_session.specs.declared.wire.Fetched.TheVariants as fetched
 use Rattle.zq_session.specs.declared.life.Life.{Life}
 use Rattle.zq_session.specs.declared.life.ReadMode.{ReadMode}
 use Rattle.zq_session.specs.declared.parts.Done.{Done}
-use Rattle.zq_session.specs.Kept.{Kept, HasRun, Acts, IsKeptOf, KeepsActs}
+use Rattle.zq_base.specs.Message.{Frames}
+use Rattle.link_topics.specs.Topics.{Topics}
+use Rattle.zq_session.specs.declared.behind.Behind.TheVariants.{Unsaid}
+use Rattle.zq_session.specs.Kept.{Kept, Side, HasRun, Acts, IsKeptOf, KeepsActs}
+use Rattle.zq_session.specs.Noting.{SaysAt, behind_acts}
 use Rattle.zq_session.specs.Calls.{Adds}
 use Rattle.zq_session.specs.Lives.{Story, basis_of, standing_of}
 use Rattle.zq_session.specs.Halves.{StepsRun, step_in}
 use Rattle.zq_session.specs.Doing.{EndsAs, IsReading, ReadsOnce}
-
--- it has no topics to say again: it was accepted, or is of a kind that has none
-abbrev pub SaysNoTopics : (dials : Bool) → EngineOpts → Type 0
-SaysNoTopics dials opts = (dials && subscribes opts.kind) ≡ false
 
 -- one part behind the other, of one that stands so
 pub record AreParts (b : Basis) (s : Standing) (acts writes reads : List LinkAct) : Type 0 where
@@ -44,14 +44,15 @@ pub record AreCut (b : Basis) (s : Standing) (acts writes reads : List LinkAct) 
 
 module _ {S O I N : Type 0} (K : Known S O I N) where
   -- both parts, and what their answers tell of them
-  pub record PartsBy (l : Life) (old : Kept) (done : Done) (new : Kept) (said said' heard heard' : Option (List ℕ)) (s : S) (i : Option I) (o : Option O) (s' : S) (i' : Option I) (o' : Option O) : Type 0 where
+  pub record PartsBy (l : Life) (t t' : Option Topics) (old : Kept) (done : Done) (new : Kept) (said said' heard heard' : Option (List ℕ)) (s : S) (i : Option I) (o : Option O) (s' : S) (i' : Option I) (o' : Option O) : Type 0 where
     pub writes : List LinkAct
     pub reads : List LinkAct
     pub said_is : Adds said (said_of (writes ++ reads)) said'
     pub heard_is : Adds heard (heard_of (writes ++ reads)) heard'
     pub steps : StepsRun K (flat_map step_in (writes ++ reads)) s i o s' i' o'
     pub run : (opts : EngineOpts) → opts.kind ≡ l.kind → KeepsActs opts old (writes ++ reads) new
-    pub parts : (p : Story) (acts : List LinkAct) → p.opts.kind ≡ l.kind → SaysNoTopics l.dials p.opts → IsKeptOf p.opts acts old →
+    pub notes : t' ≡ behind_acts (writes ++ reads) t
+    pub parts : (p : Story) (acts : List LinkAct) → p.opts.kind ≡ l.kind → SaysAt l.dials p.opts p.closed acts t → IsKeptOf p.opts acts old →
         AreParts (basis_of l p) (standing_of l p) acts writes reads
     pub met : done.written.look ≡ Some fetched.Delimiter → Contains writes (Step (DelimiterLook (read_through l.end)))
     pub unmet : (done.written.look ≡ Some fetched.Delimiter → ⊥) → Contains writes (Step (DelimiterLook (read_through l.end))) → ⊥
@@ -61,15 +62,32 @@ module _ {S O I N : Type 0} (K : Known S O I N) where
     pub write_stands : (IsWriteOver done.written.put → ⊥) → IsEnded writes → ⊥
 
   -- the same where memory cut the second short
-  pub record CutBy (l : Life) (old new : Kept) (said said' heard heard' : Option (List ℕ)) (s : S) (i : Option I) (o : Option O) (s' : S) (i' : Option I) (o' : Option O) : Type 0 where
+  pub record CutBy (l : Life) (t t' : Option Topics) (old new : Kept) (said said' heard heard' : Option (List ℕ)) (s : S) (i : Option I) (o : Option O) (s' : S) (i' : Option I) (o' : Option O) : Type 0 where
     pub writes : List LinkAct
     pub reads : List LinkAct
     pub said_is : Adds said (said_of (writes ++ reads)) said'
     pub heard_is : Adds heard (heard_of (writes ++ reads)) heard'
     pub steps : StepsRun K (flat_map step_in (writes ++ reads)) s i o s' i' o'
     pub run : (opts : EngineOpts) → opts.kind ≡ l.kind → KeepsActs opts old (writes ++ reads) new
-    pub parts : (p : Story) (acts : List LinkAct) → p.opts.kind ≡ l.kind → SaysNoTopics l.dials p.opts → IsKeptOf p.opts acts old →
+    pub notes : t' ≡ behind_acts (writes ++ reads) t
+    pub parts : (p : Story) (acts : List LinkAct) → p.opts.kind ≡ l.kind → SaysAt l.dials p.opts p.closed acts t → IsKeptOf p.opts acts old →
         AreCut (basis_of l p) (standing_of l p) acts writes reads
+
+  -- the first alone, of one with topics, whose message that was taken couldn't be noted and isn't offered yet
+  pub record UnnotedBy (l : Life) (t t' : Option Topics) (old : Kept) (new : Side) (said said' heard heard' : Option (List ℕ)) (s : S) (i : Option I) (o : Option O) (s' : S) (i' : Option I) (o' : Option O) : Type 0 where
+    pub before : List LinkAct
+    pub message : Frames
+    pub some : IsSome t
+    pub said_is : Adds said (said_of (before ++ Step (Take (read_through l.end) message) ∷ [])) said'
+    pub heard_is : Adds heard (heard_of (before ++ Step (Take (read_through l.end) message) ∷ [])) heard'
+    pub steps : StepsRun K (flat_map step_in (before ++ Step (Take (read_through l.end) message) ∷ [])) s i o s' i' o'
+    pub left : new.behind ≡ Unsaid message
+    pub same : t' ≡ t
+    pub takes : taken_of (before ++ Step (Take (read_through l.end) message) ∷ []) ≡ message ∷ []
+    pub repeats : repeated_of (before ++ Step (Take (read_through l.end) message) ∷ []) ≡ []
+    pub run : (opts : EngineOpts) → KeepsActs opts old before new.kept
+    pub parts : (p : Story) (acts : List LinkAct) → p.opts.kind ≡ l.kind → SaysAt l.dials p.opts p.closed acts t → IsKeptOf p.opts acts old →
+        WritesAt (basis_of l p) (standing_of l p) acts (before ++ Step (Take (read_through l.end) message) ∷ [])
 
   -- the last acts: puts of all that is whole, or one write of what is left, or none
   pub record LastBy (refused puts : Bool) (pipe : PipeId) (old new : Kept) (said said' : Option (List ℕ)) (s : S) (o : Option O) (s' : S) (o' : Option O) : Type 0 where
@@ -77,6 +95,8 @@ module _ {S O I N : Type 0} (K : Known S O I N) where
     pub said_last : List LinkAct
     pub said_is : Adds said (said_of (put_last ++ said_last)) said'
     pub hears : heard_of (put_last ++ said_last) ≡ []
+    pub takes : taken_of (put_last ++ said_last) ≡ []
+    pub repeats : repeated_of (put_last ++ said_last) ≡ []
     pub steps : (i : Option I) → StepsRun K (flat_map step_in (put_last ++ said_last)) s i o s' i o'
     pub run : Acts old (put_last ++ said_last) new
     pub all : puts ≡ true → (opts : EngineOpts) (acts : List LinkAct) → HasRun opts acts old →

@@ -1,5 +1,5 @@
 -- What the steps of a turn do to what a session keeps, whatever happened before (own choice).
-use Rattle.std.specs.Prelude.{◌≡◌, ◌⊎◌, ℕ, false, List, [], ◌∷◌, Option, Some, IfSome, Contains}
+use Rattle.std.specs.Prelude.{◌≡◌, ◌⊎◌, ℕ, List, [], ◌∷◌, Option, Some, None, IsSome, IfSome, Contains}
 use Rattle.std.specs.List.{flat_map}
 use Rattle.zq_base.specs.declared.options.Peer.{Peer}
 use Rattle.msg_pipe.specs.Known.{Known}
@@ -11,11 +11,12 @@ use Rattle.spec_link.specs.History.{SessionEvent, Given, Dialled, Acted, Closed,
 use Rattle.spec_link.specs.Turn.{IsLinkedTurn, ShakenIsDue}
 use Rattle.zq_session.specs.declared.life.Life.{Life}
 use Rattle.zq_session.specs.declared.course.Course.{Course}
+use Rattle.zq_session.specs.declared.behind.Behind.TheVariants.{Nothing}
 use Rattle.zq_session.specs.Kept.{Kept, IsKeptOf}
 use Rattle.zq_session.specs.Calls.{Adds}
 use Rattle.zq_session.specs.Lives.{Story, AreDue, IsOfLink, IsOfDials, basis_of, standing_of}
 use Rattle.zq_session.specs.LifeSteps.{IsSame, with_dues}
-use Rattle.zq_session.specs.BothParts.{SaysNoTopics}
+use Rattle.zq_session.specs.Noting.{AreTopics, unsaid_of}
 use Rattle.zq_session.specs.Halves.{StepsRun, step_at}
 
 -- what a session keeps is of this story
@@ -24,11 +25,15 @@ pub record HasStory (c : Course) (p : Story) : Type 0 where
   pub link : IsOfLink p.opts p.link c.side
   pub dial : IsOfDials c.life.dials p c.dialler
   pub kind_is : p.opts.kind ≡ c.life.kind
-  pub silent : SaysNoTopics c.life.dials p.opts
+  pub topics : AreTopics c.life.dials p.opts p.link p.closed (unsaid_of c.side) c.topics
 
 -- where it has a link, all that was read is heard
 abbrev pub IsAtEase : Course → Type 0
-IsAtEase c = IfSome c.side (λ side. side.behind ≡ false)
+IsAtEase c = IfSome c.side (λ side. side.behind ≡ Nothing)
+
+-- without a link, the messages that say topics at the next one are made
+abbrev pub IsReady : Course → Type 0
+IsReady c = c.side ≡ None → IfSome c.topics (λ t. IsSome t.again)
 
 -- the peer whose handshake is to be told is as it was, or of one that became due just now
 abbrev pub PeerStep : (old new : Course) → List Due → Type 0

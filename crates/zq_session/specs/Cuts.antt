@@ -1,5 +1,5 @@
 -- A turn that memory cut short, whatever happened before (own choice).
-use Rattle.std.specs.Prelude.{◌≡◌, ◌⊎◌, ℕ, true, false, List, [], ◌++◌, Option, Some, None, map}
+use Rattle.std.specs.Prelude.{◌≡◌, ◌⊎◌, ◌&&◌, ℕ, true, false, List, [], ◌++◌, Option, Some, None, map}
 use Rattle.std.specs.List.{flat_map}
 use Rattle.msg_pipe.specs.Known.{Known}
 use Rattle.spec_control.specs.declared.end.EndState.TheVariants.{Gone}
@@ -7,7 +7,7 @@ use Rattle.spec_control.specs.declared.request.Req.TheVariants.{AskOver, OutputO
 use Rattle.spec_link.specs.declared.due.Due.TheVariants.{Request}
 use Rattle.spec_link.specs.LinkAct.{LinkAct, said_of, heard_of}
 use Rattle.spec_link.specs.History.{Basis, SessionEvent, Acted, Standing, after_all}
-use Rattle.spec_link.specs.Turn.{Exactly, DueOnce, GivesUp, LingerIsOver, HasNoOutput, IsTold, CanRead, Looks, DelimiterIsDue}
+use Rattle.spec_link.specs.Turn.{Exactly, DueOnce, GivesUp, LingerIsOver, HasNoOutput, IsTold, CanRead, Looks, DelimiterIsDue, WritesAt, subscribes}
 use Rattle.zq_session.specs.declared.course.Course.{Course}
 use Rattle.zq_session.specs.Calls.{Adds}
 use Rattle.zq_session.specs.Lives.{Story, basis_of, standing_of}
@@ -16,13 +16,15 @@ use Rattle.zq_session.specs.BothParts.{AreParts, AreCut}
 use Rattle.zq_session.specs.Courses.{CourseStep, act_at}
 use Rattle.zq_session.specs.Turns.{IsToldBy}
 
--- with a link: the writing part, and of the reading part the read alone; or all of both, with the delimiter where the take met it
+-- with a link: the writing part, and of the reading part the read alone; or all of both, with the delimiter where the take met it; or, of a session that says topics, the writing part alone
 pub record IsCutAtLink (b : Basis) (s : Standing) (acts : List LinkAct) (events : List SessionEvent) : Type 0 where
   pub writes : List LinkAct
   pub reads : List LinkAct
   pub delimiter : List SessionEvent
   pub all : events ≡ map (λ a. Acted a) (writes ++ reads) ++ delimiter
-  pub parts : (AreCut b s acts writes reads × (delimiter ≡ [])) ⊎ (AreParts b s acts writes reads × DelimiterIsDue b s writes delimiter)
+  pub parts : (AreCut b s acts writes reads × (delimiter ≡ []))
+      ⊎ ((AreParts b s acts writes reads × DelimiterIsDue b s writes delimiter)
+      ⊎ (((b.dials && subscribes b.opts.kind) ≡ true) × (WritesAt b s acts writes × ((reads ≡ []) × (delimiter ≡ [])))))
 
 -- without a link: the look
 abbrev pub IsCutAt : Basis → Standing → Option (List LinkAct) → List SessionEvent → Type 0

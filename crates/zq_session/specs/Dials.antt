@@ -1,5 +1,5 @@
 -- What a dial did, by the moment from which it was due (own choice).
-use Rattle.std.specs.Prelude.{◌≡◌, ℕ, ◌<◌, ◌≤◌, List, [], false, Option, Some, None}
+use Rattle.std.specs.Prelude.{◌≡◌, ℕ, ◌<◌, ◌≤◌, List, [], Option, Some, None}
 use Rattle.zq_base.specs.declared.ids.ObjId.{ObjId}
 use Rattle.zq_base.specs.declared.endpoint.Address.{Address}
 use Rattle.zq_base.specs.declared.options.EngineOpts.{EngineOpts}
@@ -7,6 +7,7 @@ use Rattle.zq_outer.specs.Count.{RoseIf}
 use Rattle.zq_outer.specs.Host.{IsNew}
 use Rattle.spec_link.specs.LinkAct.{HostAnswer, Linked, NotReady, Failed}
 use Rattle.spec_link.specs.History.{dial_at_after}
+use Rattle.zq_session.specs.declared.behind.Behind.TheVariants.{Nothing}
 use Rattle.zq_session.specs.Kept.{Side, HasRun}
 use Rattle.zq_session.specs.declared.dialler.Dial.{Dial}
 use Rattle.zq_session.specs.declared.dialler.Dial.TheVariants as dial
@@ -38,7 +39,7 @@ moment_after interval now (Some answer) dial_at = dial_at_after interval now ans
 
 -- a side of a link on which nothing was said or heard
 abbrev pub IsFresh : EngineOpts → Side → Type 0
-IsFresh opts side = HasRun opts [] side.kept × (side.behind ≡ false)
+IsFresh opts side = HasRun opts [] side.kept × (side.behind ≡ Nothing)
 
 -- where a link was given, its side is fresh, and it tells of no octets yet
 abbrev pub IfDialled : {L : Type 0} → Dial L → (Side → Type 0) → (heard said : L → Option (List ℕ)) → Type 0

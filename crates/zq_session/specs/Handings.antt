@@ -37,6 +37,7 @@ pub record HandsShaken (old new : Course) (given given' : Asked) (due : Due) : T
   pub life_is : new.life ≡ old.life
   pub side_is : new.side ≡ old.side
   pub dialler_is : new.dialler ≡ old.dialler
+  pub topics_is : new.topics ≡ old.topics
 
 module _ {S O I N : Type 0} (K : Known S O I N) where
   -- the delimiter was written behind all that was put

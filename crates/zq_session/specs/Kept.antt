@@ -1,5 +1,5 @@
 -- What a session keeps of one link, and the acts at the link that it is kept of (own choice).
-use Rattle.std.specs.Prelude.{◌≡◌, ℕ, Bool, List, [], ◌∷◌, ◌++◌, Option, None}
+use Rattle.std.specs.Prelude.{◌≡◌, ℕ, List, [], ◌∷◌, ◌++◌, Option, None}
 use Rattle.std.specs.List.{flat_map}
 use Rattle.std.specs.Option.{option_to_list}
 use Rattle.zq_base.specs.Message.{Frames}
@@ -7,6 +7,7 @@ use Rattle.zq_base.specs.declared.options.EngineOpts.{EngineOpts}
 use Rattle.zq_base.specs.declared.kind.Kind.TheVariants.{Push}
 use Rattle.spec_pattern.specs.PipeStep.{PipeStep, Commit, FullLook, Take, EmptyLook, DelimiterLook, WaitingLook, Seal}
 use Rattle.spec_zmtp.specs.Put.{Put, messages_in}
+use Rattle.zq_session.specs.declared.behind.Behind.{Behind}
 use Rattle.zmtp_engine.specs.Conversation.{Conversation, Past, Follows, IsCurrent, waiting}
 use Rattle.spec_link.specs.LinkAct.{LinkAct, Wire, Step, said_of, heard_of, offered_of, put_of}
 
@@ -80,7 +81,7 @@ KeepsActs opts old more new = (acts : List LinkAct) → IsKeptOf opts acts old �
 abbrev pub whole : Kept → List Frames
 whole k = option_to_list k.held ++ waiting k.engine
 
--- a side of a link: what is kept of it, and whether memory wanted last, so that it may not be at rest
+-- a side of a link: what is kept of it, and what memory left undone
 pub record Side : Type 0 where
   pub kept : Kept
-  pub behind : Bool
+  pub behind : Behind

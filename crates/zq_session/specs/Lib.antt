@@ -10,6 +10,8 @@ pub mod DiallerView
 pub mod Calls
 pub mod WireView
 pub mod Works
+pub mod Says
+pub mod Noting
 pub mod Silent
 pub mod Single
 pub mod SideView

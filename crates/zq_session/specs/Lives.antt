@@ -11,7 +11,8 @@ use Rattle.spec_link.specs.Rows.{ClosedLink}
 use Rattle.spec_link.specs.History.{Basis, Standing}
 use Rattle.zq_session.specs.declared.life.Asked.{Asked}
 use Rattle.zq_session.specs.declared.life.Life.{Life}
-use Rattle.zq_session.specs.Kept.{Side, IsKeptOf}
+use Rattle.zq_session.specs.Kept.{Side}
+use Rattle.zq_session.specs.Noting.{IsHeldOf}
 use Rattle.zq_session.specs.Dials.{DiallerState}
 
 -- what happened and isn't kept as it was: the options and the interval, the acts at the link and at those that are over, the moment from which a dial is due, all that became due, and all of it that was handed to the plane
@@ -49,7 +50,7 @@ abbrev pub IsOfLink : EngineOpts → Option (List LinkAct) → Option Side → T
 IsOfLink opts None None = Unit {0}
 IsOfLink opts None (Some side) = ⊥
 IsOfLink opts (Some acts) None = ⊥
-IsOfLink opts (Some acts) (Some side) = IsKeptOf opts acts side.kept
+IsOfLink opts (Some acts) (Some side) = IsHeldOf opts acts side.behind side.kept
 
 -- what dials is kept exactly of a connecting session
 abbrev pub IsOfDials : Bool → Story → Option DiallerState → Type 0

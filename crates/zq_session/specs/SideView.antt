@@ -1,15 +1,19 @@
 -- What a side's fields stand for.
-use Rattle.std.specs.Prelude.{◌≡◌, false}
+use Rattle.std.specs.Prelude.{◌≡◌}
+use Rattle.zq_base.specs.Message.{Frames}
+use Rattle.zmtp_engine.specs.Conversation.{CanOffer}
 use Rattle.zq_session.specs.declared.side.LinkSide.TheInside.{Inside}
+use Rattle.zq_session.specs.declared.behind.Behind.TheVariants.{Nothing, Unsaid}
 use Rattle.zq_session.specs.Kept.{Side, IsAlive, IsAtRest}
 use Rattle.zq_session.specs.WireView.{kept, IsSound}
 
--- what is kept of the link, and whether it is behind
+-- what is kept of the link, and what memory left undone
 abbrev pub side_of : Inside → Side
 side_of s = record { kept = kept s.wire; behind = s.behind }
 
--- what is kept is of some acts, and at rest where it isn't behind
+-- what is kept is of some acts, and at rest where nothing is undone; a message that isn't offered yet can be
 pub record IsSide (s : Inside) : Type 0 where
   pub sound : IsSound s.wire
   pub alive : IsAlive (kept s.wire)
-  pub rest : s.behind ≡ false → IsAtRest (kept s.wire)
+  pub rest : s.behind ≡ Nothing → IsAtRest (kept s.wire)
+  pub unsaid : (m : Frames) → s.behind ≡ Unsaid m → IsAtRest (kept s.wire) × CanOffer s.wire.engine

@@ -1,7 +1,9 @@
 ghost use Rattle.std.specs.Prelude.{◌≡◌, Bool, None, Some, Option, IsSome, is_some, true, false, OnOk, OnErr, IfOk, IfSome};
 ghost use Rattle.zq_base.specs.declared.kind.Kind.TheVariants.{Push};
+ghost use Rattle.zq_session.specs.declared.behind.Behind.TheVariants.{Nothing};
 ghost use Rattle.zq_outer.specs.Host.{IsNew};
-ghost use Rattle.zq_session.specs.Courses.{HasStory, IsAtEase, ShakesBy, LinkedBy};
+ghost use Rattle.zq_session.specs.Courses.{HasStory, IsAtEase, IsReady, ShakesBy, LinkedBy};
+ghost use Rattle.zq_session.specs.Noting.{over_link};
 ghost use Rattle.spec_link.specs.Parts.{IsWriteOver};
 ghost use Rattle.zq_session.specs.LifeView.{IsWritable, IsReadable};
 ghost use Rattle.zq_session.specs.Unlinked.{DialsBy, UnlinkedBy};
@@ -16,7 +18,9 @@ use crate::dialler::{Dial, Dialler};
 use crate::life::Life;
 use crate::parts::{both_parts, found_delimiter, last_acts, look_at, met_delimiter, over_by};
 use crate::side::LinkSide;
+use crate::topical::{pass_on, prepare, say_anew};
 use crate::write_part::is_over;
+use link_topics::LinkTopics;
 use msg_pipe::Pipes;
 use spec_link::LinkEnd;
 use std::alloc::{AllocError, Global};
@@ -29,6 +33,8 @@ pub(crate) struct Course {
     pub(crate) life: Life,
     /// Its side of a link, while it has one.
     pub(crate) side: Option<LinkSide>,
+    /// The topics that it took, of a session that says them again at each link.
+    pub(crate) topics: Option<LinkTopics>,
     /// What dials, of a connecting session.
     pub(crate) dialler: Option<Dialler>,
     /// The peer, where its handshake is to be told.
@@ -68,7 +74,7 @@ pub(crate) fn shaken_due(
     alloc: Global,
     side: &LinkSide,
 ) -> Result<(), AllocError>
-    requires rest { side.now.behind ≡ false }
+    requires rest { side.now.behind ≡ Nothing }
     ensures ok { OnOk result (ShakesBy life.old life.new peer.old peer.new side.now.kept) }
     ensures state { life.new.state ≡ life.old.state }
     ensures err { OnErr result ((life.new ≡ life.old) × (peer.new ≡ peer.old)) }
@@ -106,12 +112,14 @@ impl Course {
         ensures asks { Asks self.old.life self.new.life }
         ensures dials { DialsLater now self.old self.new }
         ensures gone { self.new.side ≡ None }
+        ensures topics { self.new.topics ≡ over_link self.old.topics }
         ensures peer { self.new.peer ≡ self.old.peer }
         ensures state { self.new.life.state ≡ self.old.life.state }
     {
         self.life.ask_link();
         self.life.ask_over();
         self.side = None;
+        say_anew(&mut self.topics);
         dials_later(&mut self.dialler, now);
     }
 
@@ -147,7 +155,16 @@ impl Course {
         match &mut self.side {
             None => unreachable!(),
             Some(side) => {
-                let done = both_parts(&self.life, alloc, side, pipes, input, out, link)?;
+                let done = both_parts(
+                    &self.life,
+                    &mut self.topics,
+                    alloc,
+                    side,
+                    pipes,
+                    input,
+                    out,
+                    link,
+                )?;
                 self.life.delimiter_due(met_delimiter(done.written.look));
                 shaken_due(&mut self.life, &mut self.peer, alloc, side)?;
                 match over_by(done.written.put, done.got, side) {
@@ -172,6 +189,7 @@ impl Course {
         now: u64,
     ) -> Result<Option<H::L>, AllocError>
         requires no_link { self.old.side ≡ None }
+        requires ready { IsReady self.old }
         ensures dials { OnOk result (DialsBy now met self.old self.new
             (H.faults host.old) (H.faults host.new) (H.stalls host.old) (H.stalls host.new)) }
         ensures fresh { IfOk result (λ o. IfSome o (λ link. IsNew (H.L.heard link) (H.L.said link))) }
@@ -208,6 +226,7 @@ impl Course {
         now: u64,
     ) -> Result<Option<H::L>, AllocError>
         requires no_link { self.old.side ≡ None }
+        requires ready { IsReady self.old }
         requires there { IsReadable self.old.life.state → ReadsThere P.known pipes.old input.old }
         ensures turn { OnOk result ((p : Story) (o : Option P.Out) → HasStory self.old p →
             UnlinkedBy P.known now self.old self.new
@@ -233,7 +252,7 @@ impl Course {
     ghost use Rattle.std.specs.Prelude.{◌≡◌, None, is_some, true, false, OnOk, OnErr};
     ghost use Rattle.spec_link.specs.Turn.{Exactly, GivesUp, LingerIsOver};
     ghost use Rattle.zq_session.specs.Lives.{Story, basis_of, standing_of};
-    ghost use Rattle.zq_session.specs.Courses.{HasStory, IsAtEase, CourseStep};
+    ghost use Rattle.zq_session.specs.Courses.{HasStory, IsAtEase, IsReady, CourseStep};
     ghost use Rattle.zq_session.specs.Halves.{AreThere};
     ghost use Rattle.zq_session.specs.Turns.{IsOutputGone, OutputBy, BeginsBy, TurnsBy};
     ghost use Rattle.zq_session.specs.Cuts.{CutsBy};
@@ -241,23 +260,28 @@ impl Course {
     ghost use Rattle.spec_link.specs.Handing.{HasOutputLeft};
     ghost use Rattle.std.specs.Prelude.{List};
 
-    // Hears what memory left of the octets that were read.
+    // Offers the message and hears the octets that memory left undone; without a link, makes the
+    // messages that say topics at the next one.
     fn catch_up(&mut self, alloc: Global) -> Result<(), AllocError>
         ensures story { (p : Story) → HasStory self.old p → HasStory self.new p }
         ensures life { (self.new.life ≡ self.old.life) × (self.new.peer ≡ self.old.peer) }
         ensures link { is_some self.new.side ≡ is_some self.old.side }
         ensures ease { OnOk result (self.new.life.gave_up ≡ false → IsAtEase self.new) }
+        ensures ready { OnOk result (self.new.life.gave_up ≡ false → IsReady self.new) }
     {
         let up = self.life.gave_up;
         if up {
             return Ok(());
         }
         match &mut self.side {
-            None => return Ok(()),
-            Some(side) => match side.catch_up(alloc) {
-                Ok(_) => return Ok(()),
-                Err(_) => return Err(AllocError),
-            },
+            None => return prepare(&mut self.topics, alloc),
+            Some(side) => {
+                pass_on(&mut self.topics, alloc, side)?;
+                match side.catch_up(alloc) {
+                    Ok(_) => return Ok(()),
+                    Err(_) => return Err(AllocError),
+                }
+            }
         }
     }
 
@@ -313,6 +337,7 @@ impl Course {
         ensures does { OutputBy self.old self.new }
         ensures state { self.new.life.state ≡ self.old.life.state }
         ensures side { self.new.side ≡ self.old.side }
+        ensures topics { self.new.topics ≡ self.old.topics }
         ensures gave_up { self.new.life.gave_up ≡ self.old.life.gave_up }
     {
         if !self.life.waits_for_output() {
@@ -339,6 +364,7 @@ impl Course {
         ensures link { is_some self.new.side ≡ is_some self.old.side }
         ensures state { self.new.life.state ≡ self.old.life.state }
         ensures ease { OnOk result (self.new.life.gave_up ≡ false → IsAtEase self.new) }
+        ensures ready { OnOk result (self.new.life.gave_up ≡ false → IsReady self.new) }
     {
         self.life.give_up_due(now);
         self.catch_up(alloc)?;

@@ -1,4 +1,5 @@
-ghost use Rattle.std.specs.Prelude.{◌≡◌, ◌+◌, ◌∷◌, [], List, length, IsSome, false};
+ghost use Rattle.std.specs.Prelude.{◌≡◌, ◌+◌, ◌∷◌, [], List, length, IsSome};
+ghost use Rattle.zq_session.specs.declared.behind.Behind.TheVariants.{Nothing};
 ghost use Rattle.zq_base.specs.Ends.{PipeId};
 ghost use Rattle.zq_base.specs.Message.{Frames};
 ghost use Rattle.spec_pattern.specs.PipeStep.{Commit};
@@ -47,9 +48,9 @@ impl Wire {
 impl LinkSide {
     /// Drops all that is whole.
     pub(crate) fn drop_whole(&mut self)
-        requires rest { self.old.behind ≡ false }
+        requires rest { self.old.behind ≡ Nothing }
         ensures drops { DropsBy self.old.kept self.new.kept }
-        ensures rest { self.new.behind ≡ false }
+        ensures rest { self.new.behind ≡ Nothing }
     {
         self.wire.drop_whole();
     }

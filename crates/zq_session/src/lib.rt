@@ -2,6 +2,7 @@
 //! pipes of its end.
 #![tactic(auto)]
 
+mod behind;
 mod catch_up;
 mod course;
 mod dialler;
@@ -16,9 +17,11 @@ mod read_part;
 mod session;
 mod side;
 mod side_calls;
+mod topical;
 mod wire;
 mod write_part;
 
+pub use behind::Behind;
 pub use dialler::{Dial, Dialler};
 pub use laws::what_is_kept_is_of_a_link_run;
 pub use listener::{Accepted, Listener};

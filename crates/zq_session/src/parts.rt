@@ -1,15 +1,21 @@
-ghost use Rattle.std.specs.Prelude.{◌≡◌, true, false, Some, IfOk, OnOk, OnErr, IfSome, IfNone};
+ghost use Rattle.std.specs.Prelude.{◌≡◌, ◌⊎◌, true, false, Some, IfOk, OnOk, OnErr, IfSome, IfNone};
 ghost use Rattle.zq_base.specs.Ends.{PipeId};
+ghost use Rattle.zq_session.specs.declared.behind.Behind.TheVariants.{Nothing};
 ghost use Rattle.zq_session.specs.Calls.{WriteCounts, ReadCounts};
 ghost use Rattle.zq_session.specs.Halves.{ReadsThere, WritesThere, AreThere};
 ghost use Rattle.zq_session.specs.Doing.{WritesAtBy, ReadsAtBy, WantsAtBy, EndsAs, IsOverNow, StandsNow};
 ghost use Rattle.zq_session.specs.Unlinked.{LooksBy};
-ghost use Rattle.zq_session.specs.BothParts.{PartsBy, CutBy, LastBy};
+ghost use Rattle.msg_pipe.specs.Known.{IsThere};
+ghost use Rattle.link_topics.specs.Topics.{IsLeft};
+ghost use Rattle.zq_session.specs.Noting.{IsFree, NextBy, UnsaidBy, NotesBy, NotesNotBy, SaysOn, mode_of};
+ghost use Rattle.zq_session.specs.BothParts.{PartsBy, CutBy, UnnotedBy, LastBy};
 
 use crate::life::{Life, ReadMode};
 use crate::side::LinkSide;
+use crate::topical::pass_on;
 use crate::wire::Fetched;
 use crate::write_part::{Written, is_over};
+use link_topics::LinkTopics;
 use msg_pipe::{Front, Pipes};
 use spec_link::LinkEnd;
 use std::alloc::{AllocError, Global};
@@ -23,11 +29,11 @@ pub(crate) fn write_at<P: Pipes, L: Link>(
     input: &mut Option<P::In>,
     link: &mut L,
 ) -> Written
-    requires rest { side.old.behind ≡ false }
+    requires rest { side.old.behind ≡ Nothing }
     requires here { can_read ≡ true → ReadsThere P.known pipes.old input.old }
     ensures writes { WritesAtBy P.known can_read side.old.kept result side.new.kept
         (L.said link.old) (L.said link.new) pipes.old input.old pipes.new input.new }
-    ensures rest { side.new.behind ≡ false }
+    ensures rest { side.new.behind ≡ Nothing }
     ensures others { L.heard link.new ≡ L.heard link.old }
     ensures counts { WriteCounts result.put (L.faults link.old) (L.faults link.new)
         (L.stalls link.old) (L.stalls link.new) (L.ends link.old) (L.ends link.new) }
@@ -42,6 +48,96 @@ pub(crate) fn write_at<P: Pipes, L: Link>(
     }
 }
 
+// The writing part of a turn of a session with topics, with a take: the message that is taken is
+// noted before it is offered to the link.
+fn take_at<P: Pipes, L: Link>(
+    topics: &mut Option<LinkTopics>,
+    alloc: Global,
+    side: &mut LinkSide,
+    pipes: &mut P,
+    half: &mut P::In,
+    link: &mut L,
+) -> Result<Written, AllocError>
+    requires rest { side.old.behind ≡ Nothing }
+    requires here { IsThere P.known pipes.old (P.known.in_name half.old) }
+    ensures ok { IfOk result (λ done. NotesBy P.known topics.old topics.new side.old.kept done
+        side.new (L.said link.old) (L.said link.new) pipes.old half.old pipes.new half.new) }
+    ensures rest { OnOk result (side.new.behind ≡ Nothing) }
+    ensures err { OnErr result (NotesNotBy P.known topics.old topics.new side.old.kept
+        side.new (L.said link.old) (L.said link.new) pipes.old half.old pipes.new half.new) }
+    ensures others { L.heard link.new ≡ L.heard link.old }
+{
+    let written = side.take_part(pipes, half, link);
+    pass_on(topics, alloc, side)?;
+    Ok(written)
+}
+
+// Says the next topic, where one is left.
+fn say_at<L: Link>(
+    topics: &mut Option<LinkTopics>,
+    side: &mut LinkSide,
+    link: &mut L,
+) -> Option<Written>
+    requires rest { side.old.behind ≡ Nothing }
+    ensures said { IfSome result (λ done. SaysOn topics.old topics.new side.old.kept done
+        side.new.kept (L.said link.old) (L.said link.new)) }
+    ensures none { IfNone result ((side.new ≡ side.old) × ((topics.new ≡ topics.old)
+        × ((link.new ≡ link.old) × IfSome topics.old (λ t. IsLeft false t.again)))) }
+    ensures rest { side.new.behind ≡ Nothing }
+    ensures others { L.heard link.new ≡ L.heard link.old }
+{
+    match topics {
+        None => return None,
+        Some(all) => {
+            if !all.is_left() {
+                return None;
+            }
+            let put = side.say_part(all, link);
+            return Some(Written { put, look: None });
+        }
+    }
+}
+
+/// The writing part of a turn: a topic is said again while one is left, and else it is with a take
+/// from the pipe where the end can be read.
+pub(crate) fn write_with<P: Pipes, L: Link>(
+    can_read: bool,
+    topics: &mut Option<LinkTopics>,
+    alloc: Global,
+    side: &mut LinkSide,
+    pipes: &mut P,
+    input: &mut Option<P::In>,
+    link: &mut L,
+) -> Result<Written, AllocError>
+    requires rest { side.old.behind ≡ Nothing }
+    requires here { can_read ≡ true → ReadsThere P.known pipes.old input.old }
+    ensures ok { IfOk result (λ done. NextBy P.known (mode_of can_read topics.old)
+        topics.old topics.new side.old.kept done side.new.kept
+        (L.said link.old) (L.said link.new) pipes.old input.old pipes.new input.new) }
+    ensures rest { OnOk result (side.new.behind ≡ Nothing) }
+    ensures err { OnErr result (UnsaidBy P.known (mode_of can_read topics.old)
+        topics.old topics.new side.old.kept side.new
+        (L.said link.old) (L.said link.new) pipes.old input.old pipes.new input.new) }
+    ensures others { L.heard link.new ≡ L.heard link.old }
+{
+    if topics.is_none() {
+        let written = write_at(can_read, side, pipes, input, link);
+        return Ok(written);
+    }
+    match say_at(topics, side, link) {
+        Some(written) => return Ok(written),
+        None => {}
+    }
+    if !can_read {
+        let put = side.write_only(link);
+        return Ok(Written { put, look: None });
+    }
+    match input {
+        Some(half) => return take_at(topics, alloc, side, pipes, half, link),
+        None => unreachable!(),
+    }
+}
+
 /// The reading part of a turn.
 pub(crate) fn read_at<P: Pipes, L: Link>(
     how: ReadMode,
@@ -51,11 +147,12 @@ pub(crate) fn read_at<P: Pipes, L: Link>(
     out: &mut Option<P::Out>,
     link: &mut L,
 ) -> Result<Option<LinkGot>, AllocError>
-    requires rest { side.old.behind ≡ false }
+    requires rest { side.old.behind ≡ Nothing }
     requires here { how ≡ ReadMode.Puts → WritesThere P.known pipes.old out.old }
     ensures ok { IfOk result (λ got. ReadsAtBy P.known how side.old.kept got side.new.kept
         (L.heard link.old) (L.heard link.new) pipes.old out.old pipes.new out.new) }
-    ensures rest { OnOk result (side.new.behind ≡ false) }
+    ensures rest { OnOk result (side.new.behind ≡ Nothing) }
+    ensures free { IsFree side.new.behind }
     ensures err { OnErr result ((pipes.new ≡ pipes.old) × (out.new ≡ out.old)
         × WantsAtBy how side.old.kept side.new.kept
         (L.heard link.old) (L.heard link.new) (λ got. ReadCounts got
@@ -178,7 +275,7 @@ pub(crate) fn over_by(
     got: Option<LinkGot>,
     side: &LinkSide,
 ) -> Option<LinkEnd>
-    requires rest { side.now.behind ≡ false }
+    requires rest { side.now.behind ≡ Nothing }
     ensures some { IfSome result (λ cause. IsOverNow put got side.now.kept cause) }
     ensures none { IfNone result (StandsNow put got side.now.kept) }
 {
@@ -197,6 +294,7 @@ pub(crate) fn over_by(
 /// The two parts of a turn at a link, the second where the link stands behind the first.
 pub(crate) fn both_parts<P: Pipes, L: Link>(
     life: &Life,
+    topics: &mut Option<LinkTopics>,
     alloc: Global,
     side: &mut LinkSide,
     pipes: &mut P,
@@ -204,17 +302,22 @@ pub(crate) fn both_parts<P: Pipes, L: Link>(
     out: &mut Option<P::Out>,
     link: &mut L,
 ) -> Result<Done, AllocError>
-    requires rest { side.old.behind ≡ false }
+    requires rest { side.old.behind ≡ Nothing }
     requires there { AreThere P.known life.now.state pipes.old input.old out.old }
-    ensures ok { IfOk result (λ done. PartsBy P.known life.now side.old.kept done side.new.kept
+    ensures ok { IfOk result (λ done. PartsBy P.known life.now topics.old topics.new
+        side.old.kept done side.new.kept
         (L.said link.old) (L.said link.new) (L.heard link.old) (L.heard link.new)
         pipes.old input.old out.old pipes.new input.new out.new) }
-    ensures rest { OnOk result (side.new.behind ≡ false) }
-    ensures err { OnErr result (CutBy P.known life.now side.old.kept side.new.kept
+    ensures rest { OnOk result (side.new.behind ≡ Nothing) }
+    ensures err { OnErr result ((IsFree side.new.behind
+        × CutBy P.known life.now topics.old topics.new side.old.kept side.new.kept
+        (L.said link.old) (L.said link.new) (L.heard link.old) (L.heard link.new)
+        pipes.old input.old out.old pipes.new input.new out.new)
+        ⊎ UnnotedBy P.known life.now topics.old topics.new side.old.kept side.new
         (L.said link.old) (L.said link.new) (L.heard link.old) (L.heard link.new)
         pipes.old input.old out.old pipes.new input.new out.new) }
 {
-    let written = write_at(life.can_read(), side, pipes, input, link);
+    let written = write_with(life.can_read(), topics, alloc, side, pipes, input, link)?;
     if is_over(written.put) {
         return Ok(Done { written, got: None });
     }
@@ -232,7 +335,7 @@ pub(crate) fn last_acts<P: Pipes, L: Link>(
     out: &mut Option<P::Out>,
     link: &mut L,
 )
-    requires rest { side.old.behind ≡ false }
+    requires rest { side.old.behind ≡ Nothing }
     requires one { refused ≡ true → puts ≡ false }
     requires here { puts ≡ true → WritesThere P.known pipes.old out.old }
     ensures last { (pipe : PipeId) → LastBy P.known refused puts pipe side.old.kept side.new.kept

@@ -2,13 +2,13 @@ ghost use Rattle.std.specs.Prelude.{◌≡◌, List, [], ◌∷◌, None, Some, 
 ghost use Rattle.spec_zmtp.specs.OwnCommands.{IsEngineOpts};
 ghost use Rattle.spec_control.specs.declared.end.EndState.TheVariants.{Active};
 ghost use Rattle.spec_link.specs.History.{Basis, SessionEvent, Given, EndIs, Told};
-ghost use Rattle.zq_session.specs.BothParts.{SaysNoTopics};
 ghost use Rattle.zq_session.specs.Sessions.{HasLived, Happens, TurnsOn, CutsOn, AreAt, has_link};
 
 use crate::course::Course;
 use crate::dialler::Dialler;
 use crate::life::{Asked, Life};
 use crate::side::LinkSide;
+use crate::topical::new_topics;
 use msg_pipe::Pipes;
 use spec_control::EndState;
 use std::alloc::{AllocError, Global};
@@ -44,8 +44,10 @@ impl<P: Pipes> Model for Session<P> {
 
 impl<P: Pipes> Session<P> {
     /// A session that dials this address, at once, and again after the interval. Interval and
-    /// linger are in milliseconds; no linger lingers for ever.
+    /// linger are in milliseconds; no linger lingers for ever. One of a SUB or XSUB says on each new
+    /// link first the topics that it took before, lost or not, in their order.
     pub fn connecting(
+        alloc: Global,
         object: ObjId,
         end: EndId,
         to: Address,
@@ -54,7 +56,6 @@ impl<P: Pipes> Session<P> {
         linger: Option<u32>,
     ) -> Session<P>
         requires opts { IsEngineOpts opts }
-        requires silent { SaysNoTopics true opts }
         ensures lived { HasLived (record {
           object = object;
           end = end;
@@ -81,6 +82,7 @@ impl<P: Pipes> Session<P> {
                     asked: Asked::none(),
                 },
                 side: None,
+                topics: new_topics(alloc, kind),
                 dialler: Some(Dialler::new(object, to, opts, interval)),
                 peer: None,
             },
@@ -126,6 +128,7 @@ impl<P: Pipes> Session<P> {
                     asked: Asked::none(),
                 },
                 side: Some(side),
+                topics: None,
                 dialler: None,
                 peer: None,
             },

@@ -1,11 +1,14 @@
-ghost use Rattle.std.specs.Prelude.{◌≡◌, List, [], IfOk, OnOk, OnErr, false};
+ghost use Rattle.std.specs.Prelude.{◌≡◌, List, [], IfOk, OnOk, OnErr, true, false};
 ghost use Rattle.spec_zmtp.specs.OwnCommands.{IsEngineOpts};
 ghost use Rattle.spec_link.specs.LinkAct.{LinkAct};
 ghost use Rattle.msg_pipe.specs.Known.{IsThere};
+ghost use Rattle.zq_session.specs.declared.behind.Behind.TheVariants.{Nothing};
 ghost use Rattle.zq_session.specs.Kept.{HasRun, Acts};
 ghost use Rattle.zq_session.specs.Calls.{WriteCounts, ReadCounts};
+ghost use Rattle.zq_session.specs.Noting.{IsFree};
 ghost use Rattle.zq_session.specs.Works.{WritesBy, ReadsBy, WantsBy};
 
+use crate::behind::Behind;
 use crate::wire::Wire;
 use crate::write_part::Written;
 use msg_pipe::Pipes;
@@ -22,7 +25,7 @@ use zq_outer::{Link, LinkGot};
 #[derive(Drop)]
 pub struct LinkSide {
     pub(crate) wire: Wire,
-    pub(crate) behind: bool,
+    pub(crate) behind: Behind,
 }
 
 impl Model for LinkSide {
@@ -41,19 +44,24 @@ impl LinkSide {
     pub fn new(alloc: Global, opts: EngineOpts) -> Result<LinkSide, AllocError>
         requires opts { IsEngineOpts opts }
         ensures run { IfOk result (λ s. HasRun opts [] s.kept) }
-        ensures rest { IfOk result (λ s. s.behind ≡ false) }
+        ensures rest { IfOk result (λ s. s.behind ≡ Nothing) }
     {
         Ok(LinkSide {
             wire: Wire::new(alloc, opts)?,
-            behind: false,
+            behind: Behind::Nothing,
         })
     }
 
     /// Whether memory wanted in the last reading part: what was read may not be heard yet.
     pub fn is_behind(&self) -> bool
-        ensures { result ≡ self.now.behind }
+        ensures yes { result ≡ true → self.now.behind ≡ Nothing → ⊥ }
+        ensures no { result ≡ false → self.now.behind ≡ Nothing }
     {
-        self.behind
+        match &self.behind {
+            Behind::Nothing => return false,
+            Behind::Octets => return true,
+            Behind::Unsaid(_) => return true,
+        }
     }
 
     /// The writing part of a turn: one write where something is to be written, and then one take
@@ -64,11 +72,11 @@ impl LinkSide {
         input: &mut P::In,
         link: &mut L,
     ) -> Written
-        requires rest { self.old.behind ≡ false }
+        requires rest { self.old.behind ≡ Nothing }
         requires here { IsThere P.known pipes.old (P.known.in_name input.old) }
         ensures writes { WritesBy P.known self.old.kept result self.new.kept
             (L.said link.old) (L.said link.new) pipes.old input.old pipes.new input.new }
-        ensures rest { self.new.behind ≡ false }
+        ensures rest { self.new.behind ≡ Nothing }
         ensures others { L.heard link.new ≡ L.heard link.old }
         ensures counts { WriteCounts result.put (L.faults link.old) (L.faults link.new)
             (L.stalls link.old) (L.stalls link.new) (L.ends link.old) (L.ends link.new) }
@@ -90,12 +98,13 @@ impl LinkSide {
     ) -> Result<Option<LinkGot>, OutOfMemory>
         requires here { IsThere P.known pipes.old (P.known.out_name out.old) }
         requires open { (P.known.writing pipes.old out.old).sealed ≡ false }
-        ensures ok { IfOk result (λ got. ReadsBy P.known (self.old.behind ≡ false)
+        ensures ok { IfOk result (λ got. ReadsBy P.known (self.old.behind ≡ Nothing)
             self.old.kept got self.new.kept (L.heard link.old) (L.heard link.new)
             pipes.old out.old pipes.new out.new) }
-        ensures rest { OnOk result (self.new.behind ≡ false) }
+        ensures rest { OnOk result (self.new.behind ≡ Nothing) }
+        ensures free { IsFree self.new.behind }
         ensures err { OnErr result ((pipes.new ≡ pipes.old) × (out.new ≡ out.old)
-            × WantsBy (self.old.behind ≡ false) self.old.kept self.new.kept
+            × WantsBy (self.old.behind ≡ Nothing) self.old.kept self.new.kept
             (L.heard link.old) (L.heard link.new) (λ got. ReadCounts got
             (L.faults link.old) (L.faults link.new) (L.stalls link.old) (L.stalls link.new)
             (L.ends link.old) (L.ends link.new))) }
@@ -103,9 +112,9 @@ impl LinkSide {
         ensures counts { IfOk result (λ got. ReadCounts got (L.faults link.old) (L.faults link.new)
             (L.stalls link.old) (L.stalls link.new) (L.ends link.old) (L.ends link.new)) }
     {
-        self.behind = true;
+        self.behind = Behind::Octets;
         let got = self.wire.read_part(alloc, pipes, out, link)?;
-        self.behind = false;
+        self.behind = Behind::Nothing;
         Ok(got)
     }
 }

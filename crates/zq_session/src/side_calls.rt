@@ -1,12 +1,15 @@
 ghost use Rattle.std.specs.Prelude.{◌≡◌, [], IfOk, OnOk, OnErr, IfSome, IfNone, true, false};
+ghost use Rattle.zq_session.specs.declared.behind.Behind.TheVariants.{Nothing};
 ghost use Rattle.spec_zmtp.specs.declared.cause.Refusal.{Refusal};
 ghost use Rattle.msg_pipe.specs.Known.{IsThere};
 ghost use Rattle.zq_session.specs.Kept.{Acts};
 ghost use Rattle.zq_session.specs.Calls.{WriteCounts, ReadCounts};
 ghost use Rattle.zq_session.specs.Works.{WantsBy};
 ghost use Rattle.zq_session.specs.Silent.{HearsBy, IsRefusedNow, IsUnrefused, IsShaken, IsUnshaken, HasOutput, HasNone};
+ghost use Rattle.zq_session.specs.Noting.{IsFree};
 ghost use Rattle.zq_session.specs.Single.{WritesAlone, PutsBy};
 
+use crate::behind::Behind;
 use crate::side::LinkSide;
 use msg_pipe::Pipes;
 use spec_zmtp::Cause;
@@ -19,20 +22,21 @@ impl LinkSide {
     /// Hears what memory left of the octets that were read.
     pub(crate) fn catch_up(&mut self, alloc: Global) -> Result<(), OutOfMemory>
         ensures run { Acts self.old.kept [] self.new.kept }
-        ensures rest { OnOk result (self.new.behind ≡ false) }
+        ensures rest { OnOk result (self.new.behind ≡ Nothing) }
+        ensures free { IsFree self.new.behind }
     {
-        self.behind = true;
+        self.behind = Behind::Octets;
         self.wire.catch_up(alloc)?;
-        self.behind = false;
+        self.behind = Behind::Nothing;
         Ok(())
     }
 
     /// Writes once where something is to be written.
     pub(crate) fn write_only<L: Link>(&mut self, link: &mut L) -> Option<LinkPut>
-        requires rest { self.old.behind ≡ false }
+        requires rest { self.old.behind ≡ Nothing }
         ensures writes { WritesAlone self.old.kept result self.new.kept
             (L.said link.old) (L.said link.new) }
-        ensures rest { self.new.behind ≡ false }
+        ensures rest { self.new.behind ≡ Nothing }
         ensures others { L.heard link.new ≡ L.heard link.old }
         ensures counts { WriteCounts result (L.faults link.old) (L.faults link.new)
             (L.stalls link.old) (L.stalls link.new) (L.ends link.old) (L.ends link.new) }
@@ -46,11 +50,12 @@ impl LinkSide {
         alloc: Global,
         link: &mut L,
     ) -> Result<Option<LinkGot>, OutOfMemory>
-        requires rest { self.old.behind ≡ false }
+        requires rest { self.old.behind ≡ Nothing }
         ensures ok { IfOk result (λ got. HearsBy self.old.kept got self.new.kept
             (L.heard link.old) (L.heard link.new)) }
-        ensures rest { OnOk result (self.new.behind ≡ false) }
-        ensures err { OnErr result (WantsBy (self.old.behind ≡ false) self.old.kept
+        ensures rest { OnOk result (self.new.behind ≡ Nothing) }
+        ensures free { IsFree self.new.behind }
+        ensures err { OnErr result (WantsBy (self.old.behind ≡ Nothing) self.old.kept
             self.new.kept (L.heard link.old) (L.heard link.new) (λ got. ReadCounts got
             (L.faults link.old) (L.faults link.new) (L.stalls link.old) (L.stalls link.new)
             (L.ends link.old) (L.ends link.new))) }
@@ -58,27 +63,27 @@ impl LinkSide {
         ensures counts { IfOk result (λ got. ReadCounts got (L.faults link.old) (L.faults link.new)
             (L.stalls link.old) (L.stalls link.new) (L.ends link.old) (L.ends link.new)) }
     {
-        self.behind = true;
+        self.behind = Behind::Octets;
         let got = self.wire.read_only(alloc, link)?;
-        self.behind = false;
+        self.behind = Behind::Nothing;
         Ok(got)
     }
 
     /// Puts all that is whole into the pipe, in order, until that is full.
     pub(crate) fn put_whole<P: Pipes>(&mut self, pipes: &mut P, out: &mut P::Out)
-        requires rest { self.old.behind ≡ false }
+        requires rest { self.old.behind ≡ Nothing }
         requires here { IsThere P.known pipes.old (P.known.out_name out.old) }
         requires open { (P.known.writing pipes.old out.old).sealed ≡ false }
         ensures puts { PutsBy P.known self.old.kept self.new.kept
             pipes.old out.old pipes.new out.new }
-        ensures rest { self.new.behind ≡ false }
+        ensures rest { self.new.behind ≡ Nothing }
     {
         let _ = self.wire.commit(pipes, out);
     }
 
     /// Whether something is to be written.
     pub(crate) fn has_output(&self) -> bool
-        requires rest { self.now.behind ≡ false }
+        requires rest { self.now.behind ≡ Nothing }
         ensures yes { result ≡ true → HasOutput self.now.kept }
         ensures no { result ≡ false → HasNone self.now.kept }
     {
@@ -87,7 +92,7 @@ impl LinkSide {
 
     /// Why the stream is refused, where it is.
     pub(crate) fn refusal(&self) -> Option<Cause>
-        requires rest { self.now.behind ≡ false }
+        requires rest { self.now.behind ≡ Nothing }
         ensures some { IfSome result (λ cause. IsRefusedNow cause self.now.kept) }
         ensures none { IfNone result (IsUnrefused self.now.kept) }
     {
@@ -96,7 +101,7 @@ impl LinkSide {
 
     /// A copy of the peer, where the handshake is done and nothing is refused.
     pub(crate) fn running_peer(&self, alloc: Global) -> Result<Option<Peer>, AllocError>
-        requires rest { self.now.behind ≡ false }
+        requires rest { self.now.behind ≡ Nothing }
         ensures some { IfOk result (λ o. IfSome o (λ peer. IsShaken peer self.now.kept)) }
         ensures none { IfOk result (λ o. IfNone o (IsUnshaken self.now.kept)) }
     {

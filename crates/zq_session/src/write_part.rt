@@ -62,8 +62,8 @@ impl Wire {
         Some(answer)
     }
 
-    // Whether a message may be taken from the pipe: the handshake is done, and all is written.
-    fn may_take(&self) -> bool
+    /// Whether a message may be offered: the handshake is done, and all is written.
+    pub(crate) fn may_take(&self) -> bool
         requires rest { IsAtRest (kept self.now) }
         ensures yes { result ≡ true → CanOffer self.now.engine }
         ensures due { result ≡ true → (opts : EngineOpts) (acts : List LinkAct) →

@@ -13,12 +13,12 @@ use zq_base::{Address, EndId, Frame, Message, ObjId, PairId};
 use zq_outer::{Dialled, Host, Listened, MemHost, MemLink, Plan};
 use zq_session::Session;
 
-const AT: Address = Address {
+pub const AT: Address = Address {
     octets: [127, 0, 0, 1],
     port: 5555,
 };
 
-const END: EndId = EndId {
+pub const END: EndId = EndId {
     pair: PairId(1),
     a: false,
 };
@@ -101,7 +101,7 @@ pub fn connecting(
     to: Feed,
 ) -> Result<Here, Fail> {
     let opts = pair(alloc, security, true)?;
-    let session = Session::connecting(ObjId(2), END, AT, opts, 10, None);
+    let session = Session::connecting(alloc, ObjId(2), END, AT, opts, 10, None);
     Ok(Seat::new(SharedPipes, session, None, input, to.out))
 }
 

@@ -2,6 +2,8 @@
 #![tactic(auto)]
 
 #[cfg(test)]
+mod calls;
+#[cfg(test)]
 mod cut_peer;
 #[cfg(test)]
 mod dials;
@@ -15,5 +17,7 @@ mod options;
 mod plans;
 #[cfg(test)]
 mod seat;
+#[cfg(test)]
+mod topics;
 #[cfg(test)]
 mod two_sessions;

@@ -1,7 +1,6 @@
-ghost use Rattle.std.specs.Prelude.{IfOk, true};
+ghost use Rattle.std.specs.Prelude.{IfOk};
 ghost use Rattle.spec_zmtp.specs.Metadata.{IsLogin};
 ghost use Rattle.spec_zmtp.specs.OwnCommands.{IsEngineOpts};
-ghost use Rattle.zq_session.specs.BothParts.{SaysNoTopics};
 
 use std::alloc::{AllocError, Global};
 use std::test::Fail;
@@ -26,7 +25,6 @@ fn login(alloc: Global) -> Result<Login, AllocError>
 /// Options of a PAIR with that login alone.
 fn plain(alloc: Global, role: Role) -> Result<EngineOpts, AllocError>
     ensures opts { IfOk result (λ o. IsEngineOpts o) }
-    ensures silent { IfOk result (λ o. SaysNoTopics true o) }
 {
     let list = Vec::from_array(alloc, [login(alloc)?])?;
     Ok(EngineOpts {
@@ -37,13 +35,12 @@ fn plain(alloc: Global, role: Role) -> Result<EngineOpts, AllocError>
     })
 }
 
-/// Options of a PAIR without security.
-fn null(alloc: Global) -> EngineOpts
+/// Options of a kind without security.
+pub fn of_kind(alloc: Global, kind: Kind) -> EngineOpts
     ensures opts { IsEngineOpts result }
-    ensures silent { SaysNoTopics true result }
 {
     EngineOpts {
-        kind: Kind::Pair,
+        kind,
         id: Octets::new(alloc),
         role: Role::Null,
         logins: Logins::new(alloc),
@@ -53,10 +50,9 @@ fn null(alloc: Global) -> EngineOpts
 /// Options of a PAIR, of the side that dials or of the one that accepts.
 pub fn pair(alloc: Global, security: Security, dials: bool) -> Result<EngineOpts, Fail>
     ensures opts { IfOk result (λ o. IsEngineOpts o) }
-    ensures silent { IfOk result (λ o. SaysNoTopics true o) }
 {
     match security {
-        Security::Null => Ok(null(alloc)),
+        Security::Null => Ok(of_kind(alloc, Kind::Pair)),
         Security::Plain if dials => Ok(plain(alloc, Role::PlainClient)?),
         Security::Plain => Ok(plain(alloc, Role::PlainServer)?),
     }

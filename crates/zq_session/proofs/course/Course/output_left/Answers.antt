@@ -1,4 +1,5 @@
 use Rattle.zq_session.specs.Lives.{basis_of, standing_of}
+use Rattle.zq_session.proofs.NotingLemmas.{free_by}
 use Rattle.zq_session.proofs.HandLemmas.{left_up, left_unlinked, left_written, left_some}
 use Rattle.zq_session.proofs.course.Course.output_left.Goals as goal
 
@@ -18,9 +19,9 @@ returns-in-None-clause-no c = λ e p keeps left.
 pub returns-in-Some-clause-no : goal.returns-in-Some-clause-no
 returns-in-Some-clause-no c = λ e p keeps left.
     let l = c.args.self.now.life in
-    left_written (basis_of l p) (standing_of l p) c.args.self.now.side c.in-Some.side c.in-Some.is (c.has_output.ensures.no e) keeps.link left
+    left_written (basis_of l p) (standing_of l p) c.args.self.now.side c.in-Some.side c.in-Some.is (free_by c.in-Some.side.behind (c.is_behind.ensures.no c.if-is_behind.false)) (c.has_output.ensures.no e) keeps.link left
 
 pub returns-in-Some-clause-yes : goal.returns-in-Some-clause-yes
 returns-in-Some-clause-yes c = λ e ease p keeps.
     let l = c.args.self.now.life in
-    left_some (basis_of l p) (standing_of l p) c.args.self.now.side c.in-Some.side c.in-Some.is (c.has_output.ensures.yes e) c.if-up.false (c.lingers_not.ensures.no c.if-lingers_not.false) keeps.link
+    left_some (basis_of l p) (standing_of l p) c.args.self.now.side c.in-Some.side c.in-Some.is (free_by c.in-Some.side.behind (c.is_behind.ensures.no c.if-is_behind.false)) (c.has_output.ensures.yes e) c.if-up.false (c.lingers_not.ensures.no c.if-lingers_not.false) keeps.link

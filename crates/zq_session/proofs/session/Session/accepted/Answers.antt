@@ -1,4 +1,5 @@
 use Rattle.std.proofs.Common.{[], Some, refl}
+use Rattle.zq_session.proofs.NotingLemmas.{free_by, held_free}
 use Rattle.zq_session.proofs.SessionLemmas.{nothing_due, shaken_none}
 use Rattle.zq_session.proofs.UnputLemmas.{of_nothing}
 use Rattle.zq_session.proofs.session.Session.accepted.Goals as goal
@@ -10,10 +11,10 @@ returns-clause-lived g c = (
   refl,
   record {
     due = nothing_due _ c.none.result c.none.ensures;
-    link = of_nothing c.args.opts _ c.in_ok-side.ensures.run;
+    link = held_free c.args.opts [] c.in_ok-side.side.behind c.in_ok-side.side.kept (free_by c.in_ok-side.side.behind c.in_ok-side.ensures.rest) (of_nothing c.args.opts _ c.in_ok-side.ensures.run);
     dial = tt;
     kind_is = refl;
-    silent = refl;
+    topics = refl;
   },
   record { given_is = nothing_due _ c.none-2.result c.none-2.ensures; peer = λ asked once. absurd (shaken_none c.none.result c.none.ensures asked) },
 )

@@ -1,5 +1,9 @@
-use Rattle.std.proofs.Common.{[], None, refl, ap}
+use Rattle.std.proofs.Common.{true, Option, [], None, refl, ap, sym, subst}
+use Rattle.spec_link.specs.Turn.{subscribes}
+use Rattle.link_topics.specs.Topics.{Topics}
 use Rattle.zq_session.specs.Dials.{DiallerState}
+use Rattle.zq_session.specs.Noting.{AreTopics}
+use Rattle.zq_session.proofs.NotingLemmas.{topics_begin}
 use Rattle.zq_session.proofs.SessionLemmas.{nothing_due, shaken_none}
 use Rattle.zq_session.proofs.session.Session.connecting.Goals as goal
 
@@ -14,7 +18,7 @@ returns-clause-lived g c =
         link = tt;
         dial = (ap (λ (x : DiallerState). x.opts) e, (ap (λ (x : DiallerState). x.interval) e, ap (λ (x : DiallerState). x.dial_at) e));
         kind_is = refl;
-        silent = c.requires.silent;
+        topics = subst (λ (t : Option Topics). AreTopics true c.args.opts None [] [] t) (sym c.new_topics.ensures) (topics_begin c.args.opts (subscribes c.args.opts.kind) refl);
       },
       record { given_is = nothing_due _ c.none-2.result c.none-2.ensures; peer = λ asked once. absurd (shaken_none c.none.result c.none.ensures asked) },
     )

@@ -8,4 +8,5 @@ invariant_of-self c = record {
   sound = c.catch_up.ensures.sound;
   alive = acts_alive (kept c.self.inside.wire) (kept c.catch_up.new.self) ([], c.catch_up.ensures.run) c.self.invariant.alive;
   rest = λ e. absurd cc;
+  unsaid = λ m e. absurd cc;
 }

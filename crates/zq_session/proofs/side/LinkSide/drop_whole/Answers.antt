@@ -3,7 +3,7 @@ use Rattle.spec_link.specs.Parts.{puts}
 use Rattle.zq_session.specs.Kept.{Side}
 use Rattle.zq_session.specs.Single.{DropsBy}
 use Rattle.zq_session.specs.WireView.{kept}
-use Rattle.zq_session.proofs.PartLemmas.{acts_alive, some_pipe}
+use Rattle.zq_session.proofs.PartLemmas.{acts_alive, some_pipe, none_unsaid}
 use Rattle.zq_session.proofs.DropLemmas.{drops_by, rest_dropped}
 use Rattle.zq_session.proofs.side.LinkSide.drop_whole.Goals as goal
 
@@ -15,6 +15,7 @@ invariant_of-self c =
       sound = c.drop_whole.ensures.sound;
       alive = acts_alive (kept c.self.inside.wire) (kept c.drop_whole.new.self) (puts some_pipe k.0, k.1 some_pipe) c.self.invariant.alive;
       rest = λ _. rest_dropped (kept c.drop_whole.new.self) (c.drop_whole.ensures.unfed ∙ was.fed) c.drop_whole.ensures.current c.drop_whole.ensures.all;
+      unsaid = λ m e. none_unsaid c.self.inside.behind m _ (ap (λ (x : Side). x.behind) c.self.view_is ∙ c.requires.rest) e;
     }
 
 pub returns-clause-drops : goal.returns-clause-drops

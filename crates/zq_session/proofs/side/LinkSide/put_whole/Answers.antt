@@ -3,7 +3,7 @@ use Rattle.zq_session.specs.Kept.{Side, IsAtRest}
 use Rattle.zq_session.specs.Calls.{put_acts}
 use Rattle.zq_session.specs.Single.{PutsBy}
 use Rattle.zq_session.specs.WireView.{kept}
-use Rattle.zq_session.proofs.PartLemmas.{acts_alive, drained_by, some_pipe}
+use Rattle.zq_session.proofs.PartLemmas.{acts_alive, drained_by, some_pipe, none_unsaid}
 use Rattle.zq_session.proofs.SilentLemmas.{puts_single}
 use Rattle.zq_session.proofs.side.LinkSide.put_whole.Goals as goal
 
@@ -19,6 +19,7 @@ invariant_of-self g c =
         current = c.commit.ensures.current;
         drained = drained_by (kept c.commit.new.self) c.commit.result c.commit.ensures.full c.commit.ensures.all;
       };
+      unsaid = λ m e. none_unsaid c.self.inside.behind m _ (ap (λ (x : Side). x.behind) c.self.view_is ∙ c.requires.rest) e;
     }
 
 pub returns-clause-puts : goal.returns-clause-puts

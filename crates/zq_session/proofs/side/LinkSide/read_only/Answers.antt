@@ -9,6 +9,7 @@ invariant_of-self g c = record {
   sound = c.read_only.ensures.sound;
   alive = acts_alive (kept c.self.inside.wire) (kept c.read_only.new.self) (wants_run _ (kept c.self.inside.wire) (kept c.read_only.new.self) _ _ _ c.in_err-got.ensures.err) c.self.invariant.alive;
   rest = λ e. absurd cc;
+  unsaid = λ m e. absurd cc;
 }
 
 pub returns-in_err-got-clause-err : goal.returns-in_err-got-clause-err
@@ -22,4 +23,5 @@ invariant_of-self-2 g c =
       sound = c.read_only.ensures.sound;
       alive = acts_alive (kept c.self.inside.wire) (kept c.read_only.new.self) (read_acts c.in_ok-got.got r.octets, r.run) c.self.invariant.alive;
       rest = λ _. c.in_ok-got.ensures.rest;
+      unsaid = λ m e. absurd cc;
     }

@@ -8,6 +8,7 @@ invariant_of-self g c = record {
   sound = c.read_part.ensures.sound;
   alive = acts_alive (kept c.self.inside.wire) (kept c.read_part.new.self) (wants_run _ (kept c.self.inside.wire) (kept c.read_part.new.self) _ _ _ (c.in_err-got.ensures.err).2) c.self.invariant.alive;
   rest = λ e. absurd cc;
+  unsaid = λ m e. absurd cc;
 }
 
 pub returns-in_err-got-clause-err : goal.returns-in_err-got-clause-err
@@ -20,6 +21,7 @@ invariant_of-self-2 g c = record {
   sound = c.read_part.ensures.sound;
   alive = acts_alive (kept c.self.inside.wire) (kept c.read_part.new.self) (reads_run g.P.Pipes.known _ (kept c.self.inside.wire) (kept c.read_part.new.self) c.in_ok-got.got _ _ _ _ _ _ c.in_ok-got.ensures.ok) c.self.invariant.alive;
   rest = λ _. c.in_ok-got.ensures.rest;
+  unsaid = λ m e. absurd cc;
 }
 
 pub returns-clause-ok : goal.returns-clause-ok

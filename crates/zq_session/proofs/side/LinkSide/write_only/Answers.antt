@@ -3,7 +3,7 @@ use Rattle.spec_link.specs.Parts.{write_acts}
 use Rattle.zq_session.specs.Kept.{Side}
 use Rattle.zq_session.specs.Single.{WritesAlone}
 use Rattle.zq_session.specs.WireView.{kept}
-use Rattle.zq_session.proofs.PartLemmas.{acts_alive}
+use Rattle.zq_session.proofs.PartLemmas.{acts_alive, none_unsaid}
 use Rattle.zq_session.proofs.SilentLemmas.{writes_single}
 use Rattle.zq_session.proofs.side.LinkSide.write_only.Goals as goal
 
@@ -14,6 +14,7 @@ invariant_of-self g c =
       sound = c.write_due.ensures.sound;
       alive = acts_alive (kept c.self.inside.wire) (kept c.write_due.new.self) (write_acts c.write_due.result f.0, f.1) c.self.invariant.alive;
       rest = λ _. c.write_due.ensures.rest;
+      unsaid = λ m e. none_unsaid c.self.inside.behind m _ (ap (λ (x : Side). x.behind) c.self.view_is ∙ c.requires.rest) e;
     }
 
 pub returns-clause-writes : goal.returns-clause-writes

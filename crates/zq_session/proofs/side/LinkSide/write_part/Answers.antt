@@ -1,5 +1,7 @@
 use Rattle.zq_session.specs.WireView.{kept}
-use Rattle.zq_session.proofs.PartLemmas.{writes_run, acts_alive}
+use Rattle.std.proofs.Common.{ap, ◌∙◌}
+use Rattle.zq_session.specs.Kept.{Side}
+use Rattle.zq_session.proofs.PartLemmas.{writes_run, acts_alive, none_unsaid}
 use Rattle.zq_session.proofs.side.LinkSide.write_part.Goals as goal
 
 pub invariant_of-self : goal.invariant_of-self
@@ -7,4 +9,5 @@ invariant_of-self g c = record {
   sound = c.write_part.ensures.sound;
   alive = acts_alive (kept c.self.inside.wire) (kept c.write_part.new.self) (writes_run g.P.Pipes.known (kept c.self.inside.wire) (kept c.write_part.new.self) c.write_part.result _ _ _ _ _ _ c.write_part.ensures.writes) c.self.invariant.alive;
   rest = λ _. c.write_part.ensures.rest;
+  unsaid = λ m e. none_unsaid c.self.inside.behind m _ (ap (λ (x : Side). x.behind) c.self.view_is ∙ c.requires.rest) e;
 }

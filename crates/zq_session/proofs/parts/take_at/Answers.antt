@@ -1,0 +1,24 @@
+use Rattle.std.proofs.Common.{ap, subst, sym, ◌∙◌}
+use Rattle.zq_session.specs.Kept.{Side}
+use Rattle.zq_session.specs.Says.{TakesBy}
+use Rattle.zq_session.specs.Noting.{NotesNotBy}
+use Rattle.zq_session.proofs.PartLemmas.{on_err}
+use Rattle.zq_session.proofs.parts.take_at.Goals as goal
+
+pub returns-clause-ok : goal.returns-clause-ok
+returns-clause-ok g c = record { mid = c.take_part-written.new.self; takes = c.take_part-written.ensures.takes; passes = c.in_ok-pass_on.ensures.ok }
+
+pub returns-in_err-pass_on-clause-err : goal.returns-in_err-pass_on-clause-err
+returns-in_err-pass_on-clause-err g c =
+    let e = c.in_err-pass_on.ensures.err in
+    let said = g.L.Link.said c.args.link.now in
+    let said' = g.L.Link.said c.take_part-written.new.link in
+    let k : NotesNotBy g.P.Pipes.known c.args.topics.now c.pass_on.new.topics c.args.side.now.kept c.pass_on.new.side said said' c.args.pipes.now c.args.half.now c.take_part-written.new.pipes c.take_part-written.new.input = record {
+      done = c.take_part-written.result;
+      message = e.1.1.1.0;
+      takes = subst (λ (x : Side). TakesBy g.P.Pipes.known c.args.side.now.kept c.take_part-written.result x said said' c.args.pipes.now c.args.half.now c.take_part-written.new.pipes c.take_part-written.new.input) (sym e.0) c.take_part-written.ensures.takes;
+      waits = ap (λ (x : Side). x.behind) e.0 ∙ e.1.1.1.1;
+      some = e.1.1.0;
+      same = e.1.0;
+    } in
+    on_err _ _ k
