@@ -2,3 +2,4 @@ pub mod MailLemmas
 pub mod HeldLemmas
 pub mod TurnLemmas
 pub mod SettleLemmas
+pub mod TurnedLemmas

@@ -25,10 +25,10 @@ use Rattle.spec_control.specs.Control.{Control, reason_in, met_in, happens, is_e
 use Rattle.control_held.specs.Held.{Held}
 use Rattle.control_rows.proofs.ListLemmas.{never, clash}
 use Rattle.control_laws.proofs.AskLemmas.{same_end, end_self}
-use Rattle.ctl_holder.specs.Holding.{Holding, Left, has_end, without_end}
+use Rattle.ctl_holder.specs.Holding.{Holding, Left, KeepsTurns, NoneWrites, has_end, without_end}
 use Rattle.ctl_holder.specs.Lent.{has_writer, here_ends, HasBothNames, HasEnds, HasAll}
 use Rattle.ctl_ends.specs.Turning.{yields, needs_writer, Turned}
-use Rattle.ctl_ends.proofs.TurnLemmas.{ends_same, now_at, else_at, same_owner, same_attached, reasons_now}
+use Rattle.ctl_ends.proofs.TurnLemmas.{ends_same, now_at, else_at, same_owner, same_attached, reasons_now, ToldAs, states_told}
 
 -- ---- the table
 pub ack_writer : (state : EndState) → comes AckCame state ≡ true → (if yields (commands_of (cell AckCame state)) then false else has_writer (At state)) ≡ false
@@ -49,7 +49,7 @@ ack_needed AskedOnce h = refl
 ack_needed AskedTwice h = absurd (never h)
 ack_needed Gone h = absurd (never h)
 
-ack_goes : (state : EndState) → comes AckCame state ≡ true → state_after (cell AckCame state) state ≡ Gone
+pub ack_goes : (state : EndState) → comes AckCame state ≡ true → state_after (cell AckCame state) state ≡ Gone
 ack_goes Active h = absurd (never h)
 ack_goes DelimiterGot h = absurd (never h)
 ack_goes WaitDelimiter h = absurd (never h)
@@ -138,6 +138,36 @@ end_sym d e = by (is_end d e) refl (is_end e d) refl
     by false h true k = absurd (clash (is_end d e) (ap (λ (z : EndId). is_end d z) (same_end e d k) ∙ end_self d) h)
     by false h false k = refl
 
+-- an end that is there once another left was there before
+pub left_had : {N : Type 0} (o : ℕ) (e : EndId) (m k : Holding N) → Left o e m k → (i : ℕ) (d : EndId) → has_end d (k.ends i) ≡ true → has_end d (m.ends i) ≡ true
+left_had o e m k gone i d here = by (cases_eq i o)
+  where
+    by : (i ≡ o) ⊎ (i ≡ o → ⊥) → has_end d (m.ends i) ≡ true
+    by (inl same) = had_without e d (m.ends i) (subst (λ (hs : List (Held _)). has_end d hs ≡ true) (ap k.ends same ∙ gone.now.ends ∙ ap (λ (n : ℕ). without_end e (m.ends n)) (sym same)) here)
+    by (inr other) = subst (λ (hs : List (Held _)). has_end d hs ≡ true) (gone.now.others i other) here
+
+-- what was told is told still
+pub told_less : {N : Type 0} (commands : EndCommands) (e : EndId) (state : EndState) (h m k : Holding N) → ToldAs commands e state h m → ((i : ℕ) (d : EndId) → has_end d (k.ends i) ≡ true → has_end d (m.ends i) ≡ true) → KeepsTurns m k →
+    ToldAs commands e state h k
+told_less commands e state h m k told had keeps = record {
+  states = λ i d here. keeps.states i d here ∙ told.states i d (had i d here);
+  turns = keeps.turns ∙ told.turns;
+  sealed = keeps.sealed ∙ told.sealed;
+}
+
+-- a holder that gave a writing half away has no more of them than before
+pub none_writes : {N : Type 0} (exact : Bool) (name : N) (o : ℕ) (e : EndId) (yielded : Bool) (h k : Holding N) → Turned o e yielded h k → NoneWrites exact name h → NoneWrites exact name k
+none_writes exact name o e yielded h k turned none is i =
+    subst (λ (hs : List (Held _)). All (λ x. k.writes x.end ≡ true → x.written ≡ name → ⊥) hs) (sym (ends_same o e h k yielded turned i))
+    (λ j x lt writes. none is i j x lt (was _ writes))
+  where
+    less : (b w : Bool) → (if b then false else w) ≡ true → w ≡ true
+    less true w is_so = absurd (never is_so)
+    less false w is_so = is_so
+
+    was : (d : EndId) → k.writes d ≡ true → h.writes d ≡ true
+    was d writes = less (yielded && is_end d e) (h.writes d) (sym (turned.writers d) ∙ writes)
+
 module _ (c : Control) (e : EndId) (state : EndState) (there : place_of c e ≡ At state) (within : e.pair.0 < length c.rows.pairs) (may_come : comes AckCame state ≡ true) where
   at_gone : (d : EndId) → is_end d e ≡ true → place_of (happens AckCame e c) d ≡ At Gone
   at_gone d same = now_at c AckCame e state there within d same ∙ ap At (ack_goes state may_come)
@@ -175,7 +205,8 @@ module _ (c : Control) (e : EndId) (state : EndState) (there : place_of c e ≡ 
           by true same = absurd (other (sym (eqb-true (owner_of c d) i own) ∙ ap (owner_of c) (sym (same_end e d same))))
           by false h = refl
 
-  module _ {N : Type 0} (names : EndId → Option N) (h m k : Holding N) (turned : Turned (owner_of c e) e (yields (commands_of (cell AckCame state))) h m) (gone : Left (owner_of c e) e m k) where
+  module _ {N : Type 0} (names : EndId → Option N) (h m k : Holding N) (turned : Turned (owner_of c e) e (yields (commands_of (cell AckCame state))) h m) (gone : Left (owner_of c e) e m k)
+      (told : ToldAs (commands_of (cell AckCame state)) e (state_after (cell AckCame state) state) h k) where
     lists : (i : ℕ) → m.ends i ≡ h.ends i
     lists i = ends_same (owner_of c e) e h m (yields (commands_of (cell AckCame state))) turned i
 
@@ -248,6 +279,7 @@ module _ (c : Control) (e : EndId) (state : EndState) (there : place_of c e ≡ 
               named = named_then i was.named;
               writes = writes_then i was;
               delimiters = met_then i was;
+              states = λ d here. states_told c AckCame e state there within names h k i was told d (subst (λ (hs : List (Held N)). has_end d hs ≡ true) (lists i) (had i d here)) here;
             }))
 
 -- ---- the room that is left

@@ -1,7 +1,8 @@
 -- An event of an end, in the control state and at its holder.
-use Rattle.std.specs.Prelude.{◌≡◌, ◌≢◌, ◌<◌, ◌⊎◌, ◌&&◌, ℕ, Bool, true, false, List, Option, Some, None, All, map, length, if◌then◌else◌, refl}
+use Rattle.std.specs.Prelude.{◌≡◌, ◌≢◌, ◌<◌, ◌⊎◌, ◌&&◌, ◌++◌, ◌∷◌, [], ℕ, Bool, true, false, List, Option, Some, None, All, map, length, if◌then◌else◌, refl}
 use Rattle.std.proofs.Common.{arith, sym, ap, ◌∙◌, subst, inl, inr}
 use Rattle.std.proofs.lemmas.Bool.{cases_eq}
+use Rattle.std.proofs.lemmas.List.{append-nil}
 use Rattle.zq_base.specs.Ends.{other_end}
 use Rattle.zq_base.specs.declared.ids.EndId.{EndId}
 use Rattle.zq_base.specs.declared.ids.ObjId.{ObjId}
@@ -25,7 +26,8 @@ use Rattle.control_laws.proofs.HearLemmas.{EndMoved, end_moved}
 use Rattle.ctl_holder.specs.declared.load.Load.{Load}
 use Rattle.ctl_holder.specs.Load.{Carries}
 use Rattle.spec_control.specs.declared.letter.Word.TheVariants.{PipeTermAck}
-use Rattle.ctl_holder.specs.Holding.{Holding, Stays, Yielded, has_end}
+use Rattle.ctl_holder.specs.Holding.{Holding, Stays, Yielded, TurnsTo, KeepsTurns, has_end, is_state}
+use Rattle.ctl_holder.specs.Turns.{state_before, turn_at, sealed_by, TurnsBy}
 use Rattle.ctl_holder.specs.Lent.{has_writer, HasBothNames, HasEnds, HasAll}
 use Rattle.ctl_state.specs.declared.command.Command.{Command}
 use Rattle.ctl_state.specs.declared.state.State.{State}
@@ -36,7 +38,7 @@ use Rattle.ctl_state.specs.Pairs.{owner_at as kept_owner_at}
 use Rattle.ctl_state.proofs.EndLemmas.{owner_stands}
 use Rattle.spec_control.specs.Row.{Row}
 use Rattle.ctl_state.proofs.CountLemmas.{here_stays}
-use Rattle.ctl_ends.specs.Turning.{yields, needs_writer, Turned, GivesFor, IsLoaded, PutsLoaded}
+use Rattle.ctl_ends.specs.Turning.{yields, needs_writer, seals_for, turn_of, SealsFor, Turned, GivesFor, IsLoaded, PutsLoaded}
 use Rattle.ctl_ends.proofs.MailLemmas.{puts_not, puts_sent}
 use Rattle.ctl_ends.proofs.HeldLemmas.{other_twice, written_is, here_same}
 
@@ -84,7 +86,79 @@ module _ {N : Type 0} where
           | inr other ↦ t.now.others i other
         ]
 
+  -- an end was told how far it is now, with its pipe to be sealed where that is wanted
+  pub record ToldAs (commands : EndCommands) (e : EndId) (state : EndState) (h k : Holding N) : Type 0 where
+    pub states : (i : ℕ) (d : EndId) → has_end d (k.ends i) ≡ true → k.state d ≡ (if is_end d e then state else h.state d)
+    pub turns : k.turns ≡ h.turns ++ (if is_state (h.state e) state then [] else (e, state) ∷ [])
+    pub sealed : k.sealed ≡ h.sealed ++ seals_for commands e
+
+  pub told_as : (commands : EndCommands) (e : EndId) (state : EndState) (h m k : Holding N) → TurnsTo e state h m → ((i : ℕ) → k.ends i ≡ m.ends i) → SealsFor commands e m k → ToldAs commands e state h k
+  told_as commands e state h m k turns same seals = record {
+    states = λ i d here. seals.states i d here ∙ turns.states i d (subst (λ (hs : List (Held N)). has_end d hs ≡ true) (same i) here);
+    turns = seals.turns ∙ turns.turns;
+    sealed = seals.sealed ∙ ap (λ (es : List EndId). es ++ seals_for commands e) turns.sealed;
+  }
+
+  -- nothing to be sealed
+  pub seals_none : (commands : EndCommands) (e : EndId) (h k : Holding N) → seals_for commands e ≡ [] → KeepsTurns h k → SealsFor commands e h k
+  seals_none commands e h k none keeps = record {
+    states = keeps.states;
+    turns = keeps.turns;
+    sealed = keeps.sealed ∙ sym (append-nil h.sealed) ∙ ap (λ (es : List EndId). h.sealed ++ es) (sym none);
+  }
+
+  pub keeps_same : (h : Holding N) → KeepsTurns h h
+  keeps_same h = record { states = λ i d here. refl; turns = refl; sealed = refl }
+
 -- ---- the table
+-- the pipe of an end is sealed where the end comes to be asked once
+seal_step : (e : EndId) (event : EndEvent) (state : EndState) → comes event state ≡ true → sealed_by (turn_at e (At state) (At (state_after (cell event state) state))) ≡ seals_for (commands_of (cell event state)) e
+seal_step e (Asked reason delay) Active h = refl
+seal_step e (Asked reason delay) DelimiterGot h = refl
+seal_step e (Asked reason true) WaitDelimiter h = refl
+seal_step e (Asked reason false) WaitDelimiter h = refl
+seal_step e (Asked reason delay) AckSent h = refl
+seal_step e (Asked reason delay) AskedOnce h = refl
+seal_step e (Asked reason delay) AskedTwice h = refl
+seal_step e (Asked reason delay) Gone h = absurd (never h)
+seal_step e TermCame Active h = refl
+seal_step e TermCame DelimiterGot h = refl
+seal_step e TermCame WaitDelimiter h = absurd (never h)
+seal_step e TermCame AckSent h = absurd (never h)
+seal_step e TermCame AskedOnce h = refl
+seal_step e TermCame AskedTwice h = absurd (never h)
+seal_step e TermCame Gone h = absurd (never h)
+seal_step e DelimiterSeen Active h = refl
+seal_step e DelimiterSeen DelimiterGot h = absurd (never h)
+seal_step e DelimiterSeen WaitDelimiter h = refl
+seal_step e DelimiterSeen AckSent h = absurd (never h)
+seal_step e DelimiterSeen AskedOnce h = absurd (never h)
+seal_step e DelimiterSeen AskedTwice h = absurd (never h)
+seal_step e DelimiterSeen Gone h = absurd (never h)
+seal_step e AckCame Active h = absurd (never h)
+seal_step e AckCame DelimiterGot h = absurd (never h)
+seal_step e AckCame WaitDelimiter h = absurd (never h)
+seal_step e AckCame AckSent h = refl
+seal_step e AckCame AskedOnce h = refl
+seal_step e AckCame AskedTwice h = refl
+seal_step e AckCame Gone h = absurd (never h)
+
+-- an end to which an event comes was so far
+before_is : (event : EndEvent) (state next : EndState) → comes event state ≡ true → state_before (At state) next ≡ state
+before_is event Active next h = refl
+before_is event DelimiterGot next h = refl
+before_is event WaitDelimiter next h = refl
+before_is event AckSent next h = refl
+before_is event AskedOnce next h = refl
+before_is event AskedTwice next h = refl
+before_is (Asked reason delay) Gone next h = absurd (never h)
+before_is TermCame Gone next h = absurd (never h)
+before_is DelimiterSeen Gone next h = absurd (never h)
+before_is AckCame Gone next h = absurd (never h)
+
+at_is : {s t : EndState} → At s ≡ At t → s ≡ t
+at_is f = grind arith
+
 -- the writing half is given away where the end acknowledges
 writer_step : (event : EndEvent) (state : EndState) → comes event state ≡ true → event ≢ AckCame →
     has_writer (At (state_after (cell event state) state)) ≡ (if yields (commands_of (cell event state)) then false else has_writer (At state))
@@ -244,6 +318,30 @@ module _ (c : Control) (event : EndEvent) (e : EndId) (state : EndState) (there 
   pub stepped_owner : (d : EndId) → owner_of (stepped event e c) d ≡ owner_of c d
   stepped_owner d = sym (ap (λ (r : Rows). end_owner (pair r d.pair.0) d.a) same_rows) ∙ same_owner d
 
+  -- how far each end is, once it was told
+  pub states_told : {N : Type 0} (names : EndId → Option N) (h k : Holding N) (i : ℕ) → HasEnds names c.rows.pairs c.attached c.reasons h i → ToldAs (commands_of (cell event state)) e (state_after (cell event state) state) h k →
+      (d : EndId) → has_end d (h.ends i) ≡ true → has_end d (k.ends i) ≡ true → place_of (happens event e c) d ≡ At (k.state d)
+  states_told names h k i has told d was here = by (is_end d e) refl
+    where
+      by : (b : Bool) → is_end d e ≡ b → place_of (happens event e c) d ≡ At (k.state d)
+      by true same = now_at d same ∙ ap At (sym (told.states i d here ∙ ap (λ (x : Bool). if x then state_after (cell event state) state else h.state d) same))
+      by false other = else_at d other ∙ has.states d was ∙ ap At (sym (told.states i d here ∙ ap (λ (x : Bool). if x then state_after (cell event state) state else h.state d) other))
+
+  -- that is the one change of this event
+  pub turns_told : {N : Type 0} (names : EndId → Option N) (h k : Holding N) (i : ℕ) → HasEnds names c.rows.pairs c.attached c.reasons h i → has_end e (h.ends i) ≡ true → comes event state ≡ true →
+      ToldAs (commands_of (cell event state)) e (state_after (cell event state) state) h k → TurnsBy (turn_of e c (happens event e c)) h k
+  turns_told names h k i has here may_come told = record {
+    turns = told.turns ∙ ap (λ (x : EndState). h.turns ++ (if is_state x (state_after (cell event state) state) then [] else (e, state_after (cell event state) state) ∷ [])) (sym same_state ∙ sym (before_is event state (state_after (cell event state) state) may_come))
+        ∙ ap (λ (ts : List (EndId × EndState)). h.turns ++ ts) (sym one);
+    sealed = told.sealed ∙ ap (λ (es : List EndId). h.sealed ++ es) (sym (ap sealed_by one ∙ seal_step e event state may_come));
+  }
+    where
+      same_state : state ≡ h.state e
+      same_state = at_is (sym there ∙ has.states e here)
+
+      one : turn_of e c (happens event e c) ≡ turn_at e (At state) (At (state_after (cell event state) state))
+      one = ap (λ (p : Place). turn_at e p (place_of (happens event e c) e)) there ∙ ap (λ (p : Place). turn_at e (At state) p) (now_at e (end_self e))
+
   module _ (may_come : comes event state ≡ true) (stays : event ≢ AckCame) where
     pub same_here : (d : EndId) → is_here (place_of (happens event e c) d) ≡ is_here (place_of c d)
     same_here d = by (is_end d e) refl
@@ -253,7 +351,7 @@ module _ (c : Control) (event : EndEvent) (e : EndId) (state : EndState) (there 
         by false other = ap is_here (else_at d other)
 
     module _ {N : Type 0} (names : EndId → Option N) (h k : Holding N) (turned : Turned (owner_of c e) e (yields (commands_of (cell event state))) h k)
-        (at : event ≡ DelimiterSeen → h.at_delimiter e ≡ true) where
+        (at : event ≡ DelimiterSeen → h.at_delimiter e ≡ true) (told : ToldAs (commands_of (cell event state)) e (state_after (cell event state) state) h k) where
       lists : (i : ℕ) → k.ends i ≡ h.ends i
       lists i = ends_same (owner_of c e) e h k (yields (commands_of (cell event state))) turned i
 
@@ -317,6 +415,7 @@ module _ (c : Control) (event : EndEvent) (e : EndId) (state : EndState) (there 
                 named = subst (λ (hs : List (Held N)). All (HasBothNames names) hs) (sym (lists i)) was.named;
                 writes = writes_now i was;
                 delimiters = met_now i was;
+                states = λ d here. states_told names h k i was told d (had i d here) here;
               }))
 
 -- ---- what is put

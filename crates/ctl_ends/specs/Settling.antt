@@ -18,7 +18,7 @@ use Rattle.ctl_holder.specs.Lent.{HasAll}
 use Rattle.ctl_state.specs.declared.state.State.{State}
 use Rattle.ctl_state.specs.Boxes.{mail_at}
 use Rattle.ctl_state.specs.Stands.{Stands, tells}
-use Rattle.ctl_ends.specs.Turning.{Leads}
+use Rattle.ctl_ends.specs.Turning.{Leads, turn_of}
 
 module _ {N O I : Type 0} (out_name : O → N) (in_name : I → N) where
   -- an acknowledgement may come to an end that a lent holder has, with the writing half of the pipe that it read
@@ -42,7 +42,7 @@ module _ {N O I : Type 0} (out_name : O → N) (in_name : I → N) where
 
   -- the end is gone, and its pipe was settled with these counts
   pub record SettlesEnd (names : EndId → Option N) (c : Control) (e : EndId) (counts : Settled) (s t : State (Load N O I)) (h k : Holding N) : Type 0 where
-    pub leads : Leads out_name in_name names (happens AckCame e c) s t h k
+    pub leads : Leads out_name in_name names (turn_of e c (happens AckCame e c)) (happens AckCame e c) s t h k
     pub settled : IsSettled (c.reasons e) counts
     -- one command at the most was put, for the other end's owner
     pub spare : (m : ℕ) → (mail_at s.boxes m).spare ≤ (mail_at t.boxes m).spare + cond (tells (commands_in AckCame (place_of c e)) && (obj c.rows (owner_of c (other_end e))).slot == m) 1 0

@@ -1,5 +1,5 @@
 -- What happens to an end with its holder, in one event of its life (own choice, after libzmq's `pipe_t`).
-use Rattle.std.specs.Prelude.{◌≡◌, ◌<◌, ◌+◌, ◌++◌, ◌&&◌, ℕ, Bool, true, false, List, Option, Some, None, All, length, if◌then◌else◌}
+use Rattle.std.specs.Prelude.{◌≡◌, ◌<◌, ◌+◌, ◌++◌, ◌∷◌, [], ◌&&◌, ℕ, Bool, true, false, List, Option, Some, None, All, length, if◌then◌else◌}
 use Rattle.std.specs.List.{list_any}
 use Rattle.zq_base.specs.Ends.{other_end}
 use Rattle.zq_base.specs.declared.ids.EndId.{EndId}
@@ -15,9 +15,11 @@ use Rattle.spec_control.specs.Rows.{obj}
 use Rattle.spec_control.specs.Control.{Control, commands_in, is_end, owner_of, place_of}
 use Rattle.ctl_holder.specs.declared.load.Load.{Load}
 use Rattle.ctl_holder.specs.declared.load.Load.TheVariants.{Writer}
-use Rattle.ctl_holder.specs.Holding.{Holding, HoldsNow, written_in}
+use Rattle.ctl_holder.specs.Holding.{Holding, HoldsNow, has_end, written_in}
 use Rattle.ctl_holder.specs.Lent.{HasAll}
 use Rattle.ctl_holder.specs.Load.{Carries, brings_ends}
+use Rattle.ctl_holder.specs.Turns.{TurnsBy, HasTurned, turn_at}
+use Rattle.control_attached.specs.Once.{AreOnce}
 use Rattle.ctl_state.specs.declared.command.Command.{Command}
 use Rattle.ctl_state.specs.declared.state.State.{State}
 use Rattle.ctl_state.specs.Boxes.{mail_at}
@@ -39,7 +41,21 @@ needs_writer Ack = true
 needs_writer Settle = false
 needs_writer SettleAndAck = true
 
+-- the end whose pipe is to be sealed
+abbrev pub seals_for : EndCommands → EndId → List EndId
+seals_for Nothing e = []
+seals_for TermAndSeal e = e ∷ []
+seals_for Ack e = []
+seals_for Settle e = []
+seals_for SettleAndAck e = []
+
 module _ {N : Type 0} where
+  -- the pipe of this end is to be sealed, or none, and no change of state was told
+  pub record SealsFor (commands : EndCommands) (e : EndId) (old new : Holding N) : Type 0 where
+    pub states : (i : ℕ) (d : EndId) → has_end d (new.ends i) ≡ true → new.state d ≡ old.state d
+    pub turns : new.turns ≡ old.turns
+    pub sealed : new.sealed ≡ old.sealed ++ seals_for commands e
+
   -- an object's ends are as before, and so are the writing halves, but for that of this end where it is given away
   pub record Turned (o : ℕ) (e : EndId) (yielded : Bool) (old new : Holding N) : Type 0 where
     pub now : HoldsNow o (old.ends o) old new
@@ -96,8 +112,8 @@ module _ {N O I : Type 0} (out_name : O → N) (in_name : I → N) where
     pub has : HasAll names control h
     pub turns : TurnsAt control s h e event
 
-  -- the state was changed so, with the holder, and commands were put
-  pub record Leads (names : EndId → Option N) (now : Control) (s t : State (Load N O I)) (h k : Holding N) : Type 0 where
+  -- the state was changed so, with the holder, which was told of these changes of its ends, and commands were put
+  pub record Leads (names : EndId → Option N) (turns : List (EndId × EndState)) (now : Control) (s t : State (Load N O I)) (h k : Holding N) : Type 0 where
     pub stands : Stands t now
     pub has : HasAll names now k
     pub puts : PutsLoaded names s.boxes t.boxes
@@ -105,6 +121,15 @@ module _ {N O I : Type 0} (out_name : O → N) (in_name : I → N) where
     pub holds : (i : ℕ) → k.holds i ≡ h.holds i
     pub kinds : (i : ℕ) → k.kind i ≡ h.kind i
     pub output : (i : ℕ) → k.output_left i ≡ h.output_left i
+    pub turned : TurnsBy turns h k
+
+-- where no end was attached twice before, a holder was told of each change of state of an event
+abbrev pub TurnsOnce : {N : Type 0} → (was now : Control) → (old new : Holding N) → Type 0
+TurnsOnce was now old new = AreOnce was.attached → HasTurned was now old new
+
+-- the change of state of one end
+abbrev pub turn_of : EndId → (was now : Control) → List (EndId × EndState)
+turn_of e was now = turn_at e (place_of was e) (place_of now e)
 
 -- an end is so far in its life
 pub record IsSoFar {L : Type 0} (s : State L) (e : EndId) : Type 0 where

@@ -1,4 +1,5 @@
 ghost use Rattle.std.specs.Prelude.{◌≡◌};
+ghost use Rattle.ctl_holder.specs.Holding.{NoneWrites};
 ghost use Rattle.ctl_ends.specs.Settling.{MaySettle, SettlesEnd};
 
 use crate::turning::give_for;
@@ -21,6 +22,7 @@ where
     P::Name: Drop,
     requires may { MaySettle P.known.out_name P.known.in_name
         state.old (H.holding holder.old) e writer }
+    requires apart { NoneWrites P.known.exact (P.known.out_name writer) (H.holding holder.old) }
     ensures { (w : MaySettle P.known.out_name P.known.in_name
         state.old (H.holding holder.old) e writer) →
         SettlesEnd P.known.out_name P.known.in_name w.names w.control e result

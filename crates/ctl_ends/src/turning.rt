@@ -1,8 +1,9 @@
 ghost use Rattle.std.specs.Prelude.{◌≡◌, ◌≢◌, true};
 ghost use Rattle.spec_control.specs.declared.end.EndEvent.TheVariants.{AckCame};
 ghost use Rattle.spec_control.specs.Control.{happens};
-ghost use Rattle.ctl_holder.specs.Holding.{has_end, Stays};
-ghost use Rattle.ctl_ends.specs.Turning.{yields, needs_writer, Turned, GivesFor, MayTurn, Leads, IsSoFar};
+ghost use Rattle.ctl_holder.specs.Holding.{has_end, Stays, TurnsTo};
+ghost use Rattle.ctl_ends.specs.Turning.{yields, needs_writer, Turned, SealsFor, GivesFor};
+ghost use Rattle.ctl_ends.specs.Turning.{MayTurn, Leads, IsSoFar, turn_of};
 
 use ctl_holder::{Holder, Load};
 use ctl_state::State;
@@ -24,6 +25,7 @@ where
     ensures given { GivesFor P.known.out_name P.known.in_name commands o.0 e result
         (H.holding holder.old) }
     ensures turned { Turned o.0 e (yields commands) (H.holding holder.old) (H.holding holder.new) }
+    ensures seals { SealsFor commands e (H.holding holder.old) (H.holding holder.new) }
 {
     match commands {
         EndCommands::Nothing | EndCommands::Settle => return None,
@@ -48,7 +50,9 @@ where
     P::Name: Drop,
     requires there { IsSoFar state.now e }
     requires here { has_end e ((H.holding holder.old).ends o.0) ≡ true }
-    ensures { Stays o.0 (H.holding holder.old) (H.holding holder.new) }
+    ensures stays { Stays o.0 (H.holding holder.old) (H.holding holder.new) }
+    ensures turns { (w : IsSoFar state.now e) →
+        TurnsTo e w.state (H.holding holder.old) (H.holding holder.new) }
 {
     match state.end_state(e) {
         Some(now) => {
@@ -72,7 +76,8 @@ where
     requires may { MayTurn P.known.out_name P.known.in_name state.old (H.holding holder.old) e event }
     requires stays { event ≢ AckCame }
     ensures { (w : MayTurn P.known.out_name P.known.in_name state.old (H.holding holder.old) e event) →
-        Leads P.known.out_name P.known.in_name w.names (happens event e w.control)
+        Leads P.known.out_name P.known.in_name w.names
+        (turn_of e w.control (happens event e w.control)) (happens event e w.control)
         state.old state.new (H.holding holder.old) (H.holding holder.new) }
 {
     state.needs();

@@ -20,7 +20,7 @@ use Rattle.ctl_holder.specs.declared.given.Given.{Given}
 use Rattle.ctl_holder.specs.Holding.{Holding}
 use Rattle.ctl_holder.specs.Lent.{HasAll}
 use Rattle.ctl_state.specs.declared.state.State.{State}
-use Rattle.ctl_ends.specs.Turning.{MayTurn, Leads}
+use Rattle.ctl_ends.specs.Turning.{MayTurn, Leads, turn_of}
 use Rattle.ctl_history.specs.Past.{Past, as_item, items_of, control_of, with_event, IsSilent}
 use Rattle.ctl_history.specs.Carried.{given_in, IsPlane}
 use Rattle.ctl_history.specs.Hearing.{HasWhat}
@@ -42,7 +42,7 @@ module _ {N O I S : Type 0} (out_name : O → N) (in_name : I → N) (s : State 
   }
 
   module _ (t : State (Load N O I)) (h k : Holding N) (a : Answered N S) (silent : IsSilent a) (held : is_between (obj (control_of p).rows (owner_of (control_of p) e)) ≡ false)
-      (leads : Leads out_name in_name (name_of (items_of p)) (happens DelimiterSeen e (control_of p)) s t h k) where
+      (leads : Leads out_name in_name (name_of (items_of p)) (turn_of e (control_of p) (happens DelimiterSeen e (control_of p))) (happens DelimiterSeen e (control_of p)) s t h k) where
     abbrev did : Did N S
     did = Delimited e a
 

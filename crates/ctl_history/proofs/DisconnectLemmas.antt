@@ -1,5 +1,5 @@
 -- What the striking of a connect does, in the control state and at the holder.
-use Rattle.std.specs.Prelude.{◌≡◌, ◌≤◌, ◌==◌, ◌&&◌, ℕ, Bool, true, false, List, [], Option, Some, None, find, length, slice_index_or, if◌then◌else◌, refl}
+use Rattle.std.specs.Prelude.{◌≡◌, ◌≤◌, ◌==◌, ℕ, Bool, true, false, List, [], Option, Some, None, find, slice_index_or, if◌then◌else◌, refl}
 use Rattle.std.proofs.Common.{arith, sym, ap, ◌∙◌, subst}
 use Rattle.std.proofs.lemmas.Bool.{eqb-true}
 use Rattle.zq_base.specs.declared.endpoint.Endpoint.{Endpoint}
@@ -13,9 +13,8 @@ use Rattle.spec_control.specs.Hold.{Hold, is_connect_to}
 use Rattle.spec_control.specs.Place.{is_away, is_here}
 use Rattle.spec_control.specs.Row.{Row, nobody}
 use Rattle.spec_control.specs.Rows.{obj, is_owner}
-use Rattle.spec_control.specs.Control.{Control, with_end, happens, ask, owner_of, place_of}
+use Rattle.spec_control.specs.Control.{Control, happens, ask, owner_of, place_of}
 use Rattle.spec_control.specs.After.{strike_end, tell_struck, strikes, strikes_first}
-use Rattle.control_laws.specs.Kept.{Kept}
 use Rattle.control_laws.proofs.AskLemmas.{ask_leaves}
 use Rattle.control_moves.specs.Move.{MovesTo}
 use Rattle.control_moves.proofs.GoLemmas.{either_free, stays, ask_goes}
@@ -31,7 +30,7 @@ use Rattle.ctl_state.specs.Boxes.{mail_at}
 use Rattle.ctl_state.specs.Lists.{belongings_at}
 use Rattle.ctl_state.specs.Parts.{Tells}
 use Rattle.ctl_state.specs.Stands.{Stands, struck_now, holds_by}
-use Rattle.ctl_ends.specs.Turning.{MayTurn, Leads, PutsLoaded}
+use Rattle.ctl_ends.specs.Turning.{MayTurn, Leads, PutsLoaded, turn_of}
 use Rattle.ctl_ends.proofs.MailLemmas.{puts_not, puts_on}
 use Rattle.ctl_history.specs.Bare.{Somewhere}
 use Rattle.ctl_history.specs.Hearing.{Led}
@@ -80,7 +79,7 @@ module _ (i : ℕ) (e : EndId) (c : Control) where
 pub not_seen : Asked Closed false ≡ DelimiterSeen → ⊥
 not_seen f = grind arith
 
-struck_ends : (i : ℕ) (child : Option ℕ) (c : Control) → SameEnds c (tell_struck i child c)
+pub struck_ends : (i : ℕ) (child : Option ℕ) (c : Control) → SameEnds c (tell_struck i child c)
 struck_ends i None c = ends_stay c
 struck_ends i (Some child) c = where_told (is_owner i (obj c.rows child).owner) child c
 
@@ -143,7 +142,7 @@ module _ {N O I : Type 0} (out_name : O → N) (in_name : I → N) where
         subst (λ (d : Control). Led out_name in_name w.names d s t h) (sym (strikes_away i e w.control away))
         (led_aside t (struck_now e w.control) stands (record { pairs = refl; attached = refl; reasons = refl }) boxes lists)
 
-    pub led_asked : (t : State (Load N O I)) (k : Holding N) (e : EndId) (now : Control) → now ≡ happens (Asked Closed false) e w.control → Leads out_name in_name w.names (happens (Asked Closed false) e w.control) s t h k → Led out_name in_name w.names now s t k
+    pub led_asked : (t : State (Load N O I)) (k : Holding N) (e : EndId) (now : Control) → now ≡ happens (Asked Closed false) e w.control → Leads out_name in_name w.names (turn_of e w.control (happens (Asked Closed false) e w.control)) (happens (Asked Closed false) e w.control) s t h k → Led out_name in_name w.names now s t k
     led_asked t k e now same leads = record {
       stands = subst (λ (d : Control). Stands t d) (sym same) leads.stands;
       has = subst (λ (d : Control). HasAll w.names d k) (sym same) leads.has;

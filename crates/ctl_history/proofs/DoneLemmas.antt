@@ -34,7 +34,7 @@ use Rattle.ctl_state.specs.Listed.{Listed, with_last, with_room}
 use Rattle.ctl_state.specs.Parts.{on_boxes, on_tree, sent_to, Tells}
 use Rattle.ctl_state.specs.Stands.{Stands, Updates, letter_for, slot_of}
 use Rattle.ctl_state.proofs.ReadLemmas.{read_kept}
-use Rattle.ctl_history.specs.Past.{Past, control_of, with_event, with_given, IsHistory, IsSilent}
+use Rattle.ctl_history.specs.Past.{Past, control_of, only_given, with_event, with_given, IsHistory, IsSilent}
 use Rattle.ctl_history.specs.Bare.{Hears}
 use Rattle.ctl_history.proofs.CapacityLemmas.{capacity, taken_spare, told_capacity, sent_capacity}
 use Rattle.ctl_history.proofs.EventLemmas.{MakesNothing, kept_past, one_foreseen, one_noted, has_entry}
@@ -81,6 +81,13 @@ module _ {G N S : Type 0} where
   event_now old workers l now given later did was is same =
       ap (λ (x : Listed (Did N S)). let y : Past G N S = record { workers = workers; events = x.items; given = later } in y) is
       ∙ ap (λ (gs : List G). let y : Past G N S = record { workers = workers; events = l.items ++ did ∷ []; given = gs } in y) same ∙ ap (with_event did) (sym was)
+
+  -- with whatever ends of closed sockets are on their way then
+  pub event_with : (old : Past G N S) (workers : ℕ) (l now : Listed (Did N S)) (given later : List G) (did : Did N S) → old ≡ record { workers = workers; events = l.items; given = given } → now ≡ with_last did l →
+      ◌≡◌ {A = Past G N S} (record { workers = workers; events = now.items; given = later }) (only_given later (with_event did old))
+  event_with old workers l now given later did was is =
+      ap (λ (x : Listed (Did N S)). let y : Past G N S = record { workers = workers; events = x.items; given = later } in y) is
+      ∙ ap (λ (y : Past G N S). only_given later (with_event did y)) (sym was)
 
   -- and the ends of a closed socket that are on their way then
   pub event_given : (old : Past G N S) (workers : ℕ) (l now : Listed (Did N S)) (given later gs : List G) (did : Did N S) → old ≡ record { workers = workers; events = l.items; given = given } → now ≡ with_last did l → later ≡ given ++ gs →

@@ -55,7 +55,7 @@ module _ (e : EndId) where
   binds_below c k [] h = tt
   binds_below c k (w ∷ ws) h = (omega (arith, h), binds_below c (k + 1) ws (omega (arith, h)))
 
-fulfils_draw : (c : Control) (i k : ℕ) (ws : List Waiting) → sum_by pairs_drawn (fulfil_moves c i k ws) ≡ length ws
+pub fulfils_draw : (c : Control) (i k : ℕ) (ws : List Waiting) → sum_by pairs_drawn (fulfil_moves c i k ws) ≡ length ws
 fulfils_draw c i k [] = refl
 fulfils_draw c i k (w ∷ ws) =
     let rest = fulfils_draw c i (k + 1) ws in

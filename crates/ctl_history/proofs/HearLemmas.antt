@@ -29,26 +29,33 @@ use Rattle.control_rows.proofs.RowLemmas.{pair_there}
 use Rattle.control_moves.proofs.MetLemmas.{meets_cell}
 use Rattle.control_bounds.specs.Room.{to_come}
 use Rattle.ctl_holder.specs.declared.load.Load.{Load}
-use Rattle.ctl_holder.specs.Holding.{Holding, IsTold, Stays}
+use Rattle.ctl_holder.specs.Holding.{Holding, IsTold, KeepsTurns, Stays}
 use Rattle.ctl_holder.specs.Lent.{HasAll}
 use Rattle.ctl_holder.specs.Load.{IsNamed}
 use Rattle.ctl_state.specs.declared.state.State.{State}
 use Rattle.ctl_state.specs.Boxes.{mail_at}
 use Rattle.ctl_state.specs.Parts.{Tells}
 use Rattle.ctl_state.specs.Stands.{Stands}
-use Rattle.ctl_ends.specs.Turning.{TurnsAt, Leads}
+use Rattle.ctl_ends.specs.Turning.{TurnsAt, Leads, turn_of}
 use Rattle.ctl_ends.proofs.TurnLemmas.{comes_here}
 use Rattle.ctl_terms.specs.Terming.{children_told, Turns}
 use Rattle.ctl_history.specs.Past.{IsSilent}
-use Rattle.ctl_history.specs.Hearing.{Led, AnswersTo, IsProcessed}
+use Rattle.ctl_history.specs.Attaching.{KeepsPlaces}
+use Rattle.ctl_history.specs.Hearing.{HasDone, AnswersTo, IsProcessed}
+use Rattle.ctl_state.specs.declared.belongings.Belongings.{Belongings}
+use Rattle.ctl_state.specs.Lists.{belongings_at}
 pub use Rattle.ctl_terms.proofs.HolderLemmas.{has_same, has_told, has_stayed, ended_has_none, bare_loaded}
 pub use Rattle.ctl_terms.proofs.PutLemmas.{told_is_put, room_for}
 pub use Rattle.control_others.proofs.StayLemmas.{SameEnds, ends_stay, ends_on, where_told, tried, link_ends_stay, own_ends_stay, ack_ends_stay}
 
 module _ {N O I : Type 0} (out_name : O → N) (in_name : I → N) (names : EndId → Option N) where
   -- objects were told, with a holder that has what it had
-  pub bare_led : (c now : Control) (s t : State (Load N O I)) (k : Holding N) → Stands t now → HasAll names now k → Tells s t → Led out_name in_name names now s t k
-  bare_led c now s t k stands has tells_them = record { stands = stands; has = has; puts = bare_loaded out_name in_name names s.boxes t.boxes tells_them.bare; lists = tells_them.lists }
+  pub bare_led : (c now : Control) (s t : State (Load N O I)) (k : Holding N) → Stands t now → HasAll names now k → Tells s t → HasDone out_name in_name names now s t k
+  bare_led c now s t k stands has tells_them = record { stands = stands; has = has; puts = bare_loaded out_name in_name names s.boxes t.boxes tells_them.bare }
+
+  -- lists that are as before have their places
+  pub same_places : (word : Word) (to : ℕ) (s t : State (Load N O I)) → t.objects.lists ≡ s.objects.lists → KeepsPlaces word to s.objects.lists t.objects.lists
+  same_places word to s t same i = let spare = ap (λ (ls : List Belongings). (belongings_at ls i).ends.spare) same in omega (arith, spare)
 
   -- a holder that had nothing to answer
   pub silent_answers : {S : Type 0} (c : Control) (letter : Letter) (a : Answered N S) → IsSilent a → word_joins c letter.word ≡ [] → Settles c letter.word None → AnswersTo out_name in_name names c letter a
@@ -69,6 +76,7 @@ module _ {N O I S : Type 0} (out_name : O → N) (in_name : I → N) (s t : Stat
   bare_done k word joins settles_none stands has tells_them = record {
     answers = silent_answers out_name in_name names c (record { to = to; word = word }) a silent joins settles_none;
     led = bare_led out_name in_name names c (processed to.0 word (answers_in a) c) s t k stands has tells_them;
+    places = same_places out_name in_name names word to.0 s t tells_them.lists;
   }
 
   of_word : (k : Holding N) (letter_word word : Word) → letter_word ≡ word → IsProcessed out_name in_name s t k names c (record { to = to; word = word }) a → IsProcessed out_name in_name s t k names c (record { to = to; word = letter_word }) a
@@ -98,19 +106,20 @@ module _ {N O I S : Type 0} (out_name : O → N) (in_name : I → N) (s t : Stat
       holder_has (inl zero_is) = subst (λ (x : Holding N). HasAll names (processed to.0 (TermAck child) (answers_in a) c) x) (sym (root zero_is)) has_then
       holder_has (inr above) = has_told names (processed to.0 (TermAck child) (answers_in a) c) h k to.0 (lent above) told has_then
 
-  pub stop_done : (k : Holding N) (word : Word) → word ≡ Stop → Stands t (link StopComes to.0 c) → Tells s t → HasAll names c h → Stays to.0 h k → IsProcessed out_name in_name s t k names c (record { to = to; word = word }) a
-  stop_done k word is stands tells_them has stays =
-      of_word k word Stop is (bare_done k Stop refl refl stands (has_stayed names (link StopComes to.0 c) h k to.0 stays has) tells_them)
+  pub stop_done : (k : Holding N) (word : Word) → word ≡ Stop → Stands t (link StopComes to.0 c) → Tells s t → HasAll names c h → Stays to.0 h k → KeepsTurns h k → IsProcessed out_name in_name s t k names c (record { to = to; word = word }) a
+  stop_done k word is stands tells_them has stays keeps =
+      of_word k word Stop is (bare_done k Stop refl refl stands (has_stayed names (link StopComes to.0 c) h k to.0 stays keeps has) tells_them)
 
-  pub turn_done : (k : Holding N) (word : Word) (e : EndId) → word ≡ PipeTerm e → Leads out_name in_name names (happens TermCame e c) s t h k → IsProcessed out_name in_name s t k names c (record { to = to; word = word }) a
+  pub turn_done : (k : Holding N) (word : Word) (e : EndId) → word ≡ PipeTerm e → Leads out_name in_name names (turn_of e c (happens TermCame e c)) (happens TermCame e c) s t h k → IsProcessed out_name in_name s t k names c (record { to = to; word = word }) a
   turn_done k word e is leads =
       of_word k word (PipeTerm e) is (record {
         answers = silent_answers out_name in_name names c (record { to = to; word = PipeTerm e }) a silent refl refl;
-        led = record { stands = leads.stands; has = leads.has; puts = leads.puts; lists = leads.lists };
+        led = record { stands = leads.stands; has = leads.has; puts = leads.puts };
+        places = same_places out_name in_name names (PipeTerm e) to.0 s t leads.lists;
       })
 
   -- the object did what its Term asks
-  pub term_done : (k : Holding N) (word : Word) → word ≡ Term → Turns out_name in_name names (try_end to.0 false (children_told to.0 c)) s t k → IsProcessed out_name in_name s t k names c (record { to = to; word = word }) a
+  pub term_done : (k : Holding N) (word : Word) → word ≡ Term → Turns out_name in_name names c (try_end to.0 false (children_told to.0 c)) s t h k → IsProcessed out_name in_name s t k names c (record { to = to; word = word }) a
   term_done k word is turns =
       of_word k word Term is (record {
         answers = silent_answers out_name in_name names c (record { to = to; word = Term }) a silent refl refl;
@@ -118,8 +127,8 @@ module _ {N O I S : Type 0} (out_name : O → N) (in_name : I → N) (s t : Stat
           stands = subst (λ (b : Bool). Stands t (try_end to.0 b (children_told to.0 c))) (sym silent.output) turns.stands;
           has = subst (λ (b : Bool). HasAll names (try_end to.0 b (children_told to.0 c)) k) (sym silent.output) turns.has;
           puts = turns.puts;
-          lists = turns.lists;
         };
+        places = same_places out_name in_name names Term to.0 s t turns.lists;
       })
 
 -- ---- an end that a command finds

@@ -1,7 +1,6 @@
 -- The event of a connect to the holder of a name: what it is, that it fits, and the names that it gives.
-use Rattle.std.specs.Prelude.{◌≡◌, ◌<◌, ◌≤◌, ◌+◌, ◌==◌, ◌&&◌, ◌++◌, ◌∷◌, [], ℕ, Bool, true, false, not, cond, List, Option, Some, None, All, flat_map, if◌then◌else◌, length, map, slice_index_or, refl}
+use Rattle.std.specs.Prelude.{◌≡◌, ◌==◌, ◌&&◌, ◌++◌, ◌∷◌, [], ℕ, Bool, true, false, List, Option, Some, None, All, flat_map, if◌then◌else◌, map, slice_index_or, refl}
 use Rattle.std.proofs.Common.{arith, sym, ap, ◌∙◌, subst}
-use Rattle.std.proofs.lemmas.Bool.{eq-eqb}
 use Rattle.std.proofs.lemmas.List.{append-nil}
 use Rattle.std.proofs.lemmas.List.Concat.{flat_map-append}
 use Rattle.std.proofs.lemmas.List.Elements.{All-cons, All-head, All-nil}
@@ -30,17 +29,14 @@ use Rattle.spec_control.specs.Rows.{obj}
 use Rattle.spec_control.specs.Stage.{was_asked}
 use Rattle.spec_control.specs.After.{after, answers_in, connects_to, kind_answer, with_hold}
 use Rattle.spec_control.specs.Control.{Control, begun, draws, end_of, greet, is_end, next_pair, open_pair, owner_of}
-use Rattle.spec_control.specs.ControlRun.{Joins, Fits, MayAnswer, MayAnswerAll, all_pipes, attaches as attaches_to, connect_joins, identity_of, opened_in, joins_in}
+use Rattle.spec_control.specs.ControlRun.{Joins, Fits, MayAnswerAll, all_pipes, attaches as attaches_to, connect_joins}
 use Rattle.spec_control.specs.Reply.{reply_of}
-use Rattle.control_laws.specs.Kept.{Kept, IsUnasked}
 use Rattle.control_laws.proofs.AskLemmas.{end_self}
-use Rattle.control_laws.proofs.JoinLemmas.{open_is}
 use Rattle.control_laws.proofs.RootLemmas.{begun_kept}
 use Rattle.ctl_holder.specs.Holding.{Holding, MayRefuse}
 use Rattle.ctl_holder.specs.declared.given.Given.{Given}
 use Rattle.ctl_holder.specs.declared.load.Load.{Load}
 use Rattle.ctl_state.specs.declared.state.State.{State}
-use Rattle.ctl_state.specs.Stands.{Stands}
 use Rattle.ctl_joins.specs.declared.notes.Notes.{Notes}
 use Rattle.ctl_joins.specs.declared.owners.Owners.{Owners}
 use Rattle.ctl_joins.specs.Connecting.{connected_now, Connects, MayConnect}
@@ -48,18 +44,17 @@ use Rattle.ctl_joins.specs.Joined.{Attaches}
 use Rattle.ctl_joins.specs.Noting.{joins_named, pipes_named}
 use Rattle.ctl_joins.specs.Room.{AreOwners}
 use Rattle.ctl_joins.proofs.ConnectingLemmas.{unstruck}
-use Rattle.ctl_joins.proofs.PairLemmas.{Greeted, drawn_owner, greeted, opened_binds, opened_mine, opened_there, opened_within, pair_attaches}
+use Rattle.ctl_joins.proofs.PairLemmas.{Greeted, drawn_owner, greeted, opened_mine, opened_there, opened_within, pair_attaches}
 use Rattle.ctl_history.specs.Carried.{IsPlane}
 use Rattle.ctl_history.specs.Joining.{IsNoted, Lends}
 use Rattle.ctl_history.specs.Past.{Past, as_item, control_of, items_of}
 use Rattle.ctl_history.specs.Refusals.{refusal_in}
-use Rattle.ctl_history.proofs.EventLemmas.{kept_past}
 use Rattle.ctl_history.proofs.FreshLemmas.{names_fresh}
 use Rattle.ctl_history.proofs.JoinHeldLemmas.{held_reply, may_answer}
 
 -- ---- names
 -- a name that is not among the first is found among the rest
-name_behind : {N : Type 0} (e : EndId) (xs ys : List (PipeName N)) → name_in e xs ≡ None → name_in e (xs ++ ys) ≡ name_in e ys
+pub name_behind : {N : Type 0} (e : EndId) (xs ys : List (PipeName N)) → name_in e xs ≡ None → name_in e (xs ++ ys) ≡ name_in e ys
 name_behind e [] ys none = refl
 name_behind e (x ∷ xs) ys none = by (is_end e x.pipe) (name_behind e xs ys) none
   where

@@ -1,7 +1,7 @@
 -- That a connect to the holder of a name leaves a control plane, with a holder that has what the events say.
-use Rattle.std.specs.Prelude.{◌≡◌, ◌<◌, ◌≤◌, ◌+◌, ◌-◌, ◌*◌, ◌==◌, ◌++◌, ◌∷◌, [], ℕ, Bool, true, false, cond, List, Option, Some, None, All, flat_map, is_some, length, map, slice_index_or, sum_by, refl}
+use Rattle.std.specs.Prelude.{◌≡◌, ◌<◌, ◌≤◌, ◌+◌, ◌-◌, ◌*◌, ◌==◌, ◌||◌, ◌++◌, ◌∷◌, [], ℕ, Bool, true, false, cond, List, Option, Some, None, All, flat_map, is_some, length, map, slice_index_or, sum_by, refl}
 use Rattle.std.proofs.Common.{arith, sym, ap, ◌∙◌, subst}
-use Rattle.std.proofs.lemmas.List.{length-set, map-append}
+use Rattle.std.proofs.lemmas.List.{get_or_past, length-set, map-append}
 use Rattle.std.proofs.lemmas.List.Elements.{All-cons, All-nil}
 use Rattle.mailbox.specs.Mail.{Mail, no_mail, with_spare}
 use Rattle.zq_base.specs.declared.endpoint.Endpoint.{Endpoint}
@@ -20,18 +20,22 @@ use Rattle.spec_control.specs.declared.request.Req.TheVariants.{Connect}
 use Rattle.spec_control.specs.declared.request.Reply.TheVariants.{Pair}
 use Rattle.spec_control.specs.Hold.{Joined as IsJoined}
 use Rattle.spec_control.specs.Names.{name_of}
+use Rattle.spec_control.specs.Place.{At}
 use Rattle.spec_control.specs.Row.{Row, nobody}
-use Rattle.spec_control.specs.Rows.{obj, of_ends, bind_waits}
+use Rattle.spec_control.specs.Rows.{PairRow, no_pair, end_place, obj, of_ends, bind_waits}
 use Rattle.spec_control.specs.After.{after, with_hold}
-use Rattle.spec_control.specs.Control.{Control, end_of}
+use Rattle.spec_control.specs.Control.{Control, end_of, is_end, place_of}
 use Rattle.spec_control.specs.ControlRun.{Fits}
 use Rattle.spec_control.specs.Reply.{reply_of}
 use Rattle.control_bounds.specs.Room.{move_room, reserved, slots_of, took_from}
 use Rattle.control_held.specs.Held.{Held, held_as}
 use Rattle.control_laws.specs.Kept.{Kept}
+use Rattle.control_laws.proofs.AskLemmas.{same_end}
+use Rattle.control_rows.proofs.ListLemmas.{never}
 use Rattle.control_held.proofs.NamedLemmas.{later}
 use Rattle.control_moves.specs.OwnMoves.{connect_moves}
 use Rattle.ctl_holder.specs.Holding.{Holding}
+use Rattle.ctl_holder.specs.Turns.{HasTurned}
 use Rattle.ctl_holder.specs.Lent.{HasAll, HasBothNames}
 use Rattle.ctl_holder.specs.declared.given.Given.{Given}
 use Rattle.ctl_holder.specs.declared.load.Load.{Load}
@@ -62,6 +66,7 @@ use Rattle.ctl_history.proofs.JoinHeldLemmas.{held_reply, one_pair}
 use Rattle.ctl_history.proofs.NamedPlaneLemmas.{plane_named}
 use Rattle.ctl_history.proofs.PlaneLemmas.{unplugged_made}
 use Rattle.ctl_history.proofs.ReapLemmas.{carried_later}
+use Rattle.ctl_history.proofs.ToldLemmas.{told_attached}
 
 module _ {L : Type 0} (s : State L) (o : Owners) (places : HavePlaces s o) where
   -- a pair's room, in each mailbox
@@ -199,16 +204,30 @@ module _ {N O I S : Type 0} (out_name : O → N) (in_name : I → N) (s : State 
       (has_more (with_hold owners.first.0 (IsJoined at pair.0 None) c) now owners.first.0 (end_of pair.0 true ∷ [])
       (pair_attached out_name in_name s p spare o name binding plane h lends held free owners are wakers w same_control at at_is pair notes t k connected a noted) plane.history.stands.lists.known
       (name_of items_then) (mine ∷ []) h k connected.gets refl (All-cons (HasBothNames (name_of items_then)) mine [] both (All-nil (HasBothNames (name_of items_then))))
+      (λ e here. stated e (is_end e (end_of pair.0 true)) refl here)
       (has_later (name_of (items_of p)) (name_of items_then) (later (items_of p) (as_item did ∷ [])) c h has))))
     where
       mine : Held N
       mine = record { end = end_of pair.0 true; written = connected.told.written; read = connected.told.read }
+
+      stated : (e : EndId) (b : Bool) → is_end e (end_of pair.0 true) ≡ b → (b || false) ≡ true → place_of (connected_now (control_of p) owners at pair.0 connected.answer) e ≡ At (k.state e)
+      stated e true same here = subst (λ (d : EndId). place_of (connected_now (control_of p) owners at pair.0 connected.answer) d ≡ At (k.state d)) (sym (same_end e (end_of pair.0 true) same)) connected.mine
+      stated e false same here = absurd (never here)
 
       both : HasBothNames (name_of (items_of p ++ as_item (Asked (Connect o (Inproc name)) (Pair pair) a) ∷ [])) mine
       both = record {
         written = names_written out_name in_name s p spare o name binding plane h lends held free owners are wakers w same_control at at_is pair notes t k connected a noted;
         read = names_read out_name in_name s p spare o name binding plane h lends held free owners are wakers w same_control at at_is pair notes t k connected a noted;
       }
+
+  -- and was told of its end
+  pub told_held : HasTurned (control_of p) (control_of (with_event (Asked (Connect o (Inproc name)) (Pair pair) a) p)) h k
+  told_held =
+      subst (λ (d : Control). HasTurned (control_of p) d h k) (sym (control_more p did))
+      (subst (λ (d : Control). HasTurned (control_of p) d h k) (sym leads)
+      (told_attached (with_hold owners.first.0 (IsJoined at pair.0 None) c) now owners.first.0 (end_of pair.0 true) h k
+      (pair_attached out_name in_name s p spare o name binding plane h lends held free owners are wakers w same_control at at_is pair notes t k connected a noted) plane.history.stands.lists.known
+      (ap (λ (r : PairRow). end_place r true) (get_or_past c.rows.pairs pair.0 no_pair (let number = connected.number in omega (arith, number)))) connected.turned))
 
   pub ends_held : k.ends o.0 ≡ h.ends o.0 ++ map held_as a.joined
   ends_held =

@@ -1,19 +1,12 @@
 -- That a connect to the holder of a name adds its event.
-use Rattle.std.specs.Prelude.{◌≡◌, ◌<◌, ◌≤◌, ◌+◌, ◌-◌, ◌==◌, ◌&&◌, ◌||◌, ◌++◌, ◌∷◌, [], ℕ, Bool, true, false, not, cond, List, Option, Some, None, All, flat_map, if◌then◌else◌, length, map, nat_lt, sum_by, refl}
+use Rattle.std.specs.Prelude.{◌≡◌, ◌<◌, ◌≤◌, ◌+◌, ◌||◌, ℕ, Bool, true, false, not, List, Option, Some, None, length, refl}
 use Rattle.std.proofs.Common.{arith, sym, ap, ◌∙◌, subst}
-use Rattle.std.proofs.lemmas.Bool.{eq-eqb}
 use Rattle.std.proofs.lemmas.Bool.Decides.{Decides-ltb}
-use Rattle.std.proofs.lemmas.List.{append-nil, map-append}
-use Rattle.std.proofs.lemmas.List.Concat.{flat_map-append}
-use Rattle.std.proofs.lemmas.List.Elements.{All-append, All-cons, All-nil}
 use Rattle.zq_base.specs.Kind.{fits}
 use Rattle.zq_base.specs.declared.attached.Attached.{Attached}
 use Rattle.zq_base.specs.declared.attached.Attached.TheVariants.{Yes, BadId, Second}
-use Rattle.zq_base.specs.declared.endpoint.Endpoint.{Endpoint}
 use Rattle.zq_base.specs.declared.endpoint.Endpoint.TheVariants.{Inproc}
-use Rattle.zq_base.specs.declared.ids.EndId.{EndId}
 use Rattle.zq_base.specs.declared.ids.ObjId.{ObjId}
-use Rattle.zq_base.specs.declared.ids.PairId.{PairId}
 use Rattle.zq_base.specs.declared.kind.Kind.{Kind}
 use Rattle.zq_base.specs.declared.kind.Kind.TheVariants.{Router, Pair as IsPair}
 use Rattle.spec_control.specs.declared.book.Binding.{Binding}
@@ -23,51 +16,33 @@ use Rattle.spec_control.specs.declared.request.Req.TheVariants.{Connect}
 use Rattle.spec_control.specs.declared.request.Refusal.TheVariants.{BadPair, TooMany}
 use Rattle.spec_control.specs.declared.request.Reply.{Reply}
 use Rattle.spec_control.specs.declared.request.Reply.TheVariants.{Pair}
-use Rattle.spec_control.specs.declared.stage.Use.{Use}
 use Rattle.spec_control.specs.declared.stage.Use.TheVariants.{Unused, Used}
-use Rattle.spec_control.specs.declared.entry.Answered.{Answered}
-use Rattle.spec_control.specs.declared.entry.Did.{Did}
-use Rattle.spec_control.specs.declared.entry.Did.TheVariants.{Asked}
-use Rattle.spec_control.specs.declared.entry.Item.{Item}
-use Rattle.spec_control.specs.declared.entry.Joining.{Joining}
-use Rattle.spec_control.specs.declared.entry.PipeName.{PipeName}
-use Rattle.spec_control.specs.declared.letter.Word.TheVariants.{PipeBind}
 use Rattle.spec_control.specs.EndpointBook.{is_object}
-use Rattle.spec_control.specs.Hold.{Joined as IsJoined}
 use Rattle.spec_control.specs.Stage.{was_asked}
-use Rattle.spec_control.specs.Names.{name_in, name_of, named_in, FitsNames, IsTold}
+use Rattle.spec_control.specs.Names.{name_of}
 use Rattle.spec_control.specs.Row.{Row, is_socket}
 use Rattle.spec_control.specs.Rows.{obj}
-use Rattle.spec_control.specs.After.{after, answers_in, connects_to, kind_answer, kind_of, with_hold}
-use Rattle.spec_control.specs.Control.{Control, begun, draws, end_of, greet, id, is_end, next_pair, open_pair, owner_of}
-use Rattle.spec_control.specs.ControlRun.{Joins, Fits, MayAnswer, all_pipes, connect_joins}
+use Rattle.spec_control.specs.After.{kind_of}
+use Rattle.spec_control.specs.Control.{Control, next_pair}
+use Rattle.spec_control.specs.ControlRun.{MayAnswer}
 use Rattle.spec_control.specs.Reply.{reply_of, unless, connect_reply_at, has_pairs, most_made_pairs}
-use Rattle.control_held.specs.Held.{held_as}
 use Rattle.control_laws.specs.Kept.{Kept, IsUnasked}
-use Rattle.control_laws.proofs.AskLemmas.{end_self}
 use Rattle.control_laws.proofs.JoinLemmas.{open_is}
 use Rattle.control_moves.proofs.SoundLemmas.{socket_there}
 use Rattle.control_rows.proofs.ListLemmas.{never}
 use Rattle.ctl_holder.specs.Holding.{Holding, MayRefuse}
-use Rattle.ctl_holder.specs.Lent.{HasAll}
 use Rattle.ctl_state.specs.declared.state.State.{State}
-use Rattle.ctl_state.specs.Boxes.{mail_at}
 use Rattle.ctl_state.specs.Needs.{AreMet}
-use Rattle.ctl_state.specs.Stands.{Stands}
 use Rattle.ctl_holder.specs.declared.load.Load.{Load}
 use Rattle.ctl_holder.specs.declared.given.Given.{Given}
-use Rattle.ctl_joins.specs.declared.notes.Notes.{Notes}
 use Rattle.ctl_joins.specs.declared.owners.Owners.{Owners}
-use Rattle.ctl_joins.specs.Connecting.{connected_now, Connects, MayConnect}
-use Rattle.ctl_joins.specs.Joined.{Attaches}
+use Rattle.ctl_joins.specs.Connecting.{MayConnect}
 use Rattle.ctl_joins.specs.Papers.{HasMarks}
-use Rattle.ctl_joins.specs.Room.{AreOwners, with_commands}
-use Rattle.ctl_joins.proofs.JoinedLemmas.{has_more}
-use Rattle.ctl_joins.proofs.PairLemmas.{Greeted, drawn_owner, greeted, opened_binds, opened_mine, opened_there, opened_within, pair_attaches}
+use Rattle.ctl_joins.specs.Room.{AreOwners}
 use Rattle.ctl_history.specs.Carried.{IsPlane}
 use Rattle.ctl_history.specs.Hearing.{HasWhat}
-use Rattle.ctl_history.specs.Joining.{IsNoted, Lends}
-use Rattle.ctl_history.specs.Past.{Past, as_item, control_of, items_of}
+use Rattle.ctl_history.specs.Joining.{Lends}
+use Rattle.ctl_history.specs.Past.{Past, control_of, items_of}
 use Rattle.ctl_history.specs.Refusals.{refusal_in}
 use Rattle.ctl_history.proofs.EventLemmas.{kept_past}
 use Rattle.ctl_history.proofs.OwnerLemmas.{box_there}

@@ -12,6 +12,9 @@ mod PlaneLemmas
 mod PlaneDoneLemmas
 mod HearLemmas
 mod SettledLemmas
+mod TakeOverLemmas
+mod BoundLemmas
+mod BindingLemmas
 mod DeliverLemmas
 mod DelimitLemmas
 mod MakingLemmas
@@ -28,3 +31,8 @@ mod NamedPlaneLemmas
 mod JoinHeldLemmas
 mod HeldEventLemmas
 mod HeldPlaneLemmas
+mod ToldLemmas
+mod GiveLemmas
+pub mod FulfilEventLemmas
+pub mod FulfilPlaneLemmas
+pub mod FulfillingLemmas

@@ -17,7 +17,7 @@ use Rattle.spec_control.specs.After.{after}
 use Rattle.spec_control.specs.ControlRun.{Fits}
 use Rattle.control_rows.proofs.ListLemmas.{never, pushed, is_old, is_new}
 use Rattle.control_laws.specs.Kept.{Kept}
-use Rattle.control_moves.specs.Move.{Move, LinkMoves, EndMoves, ObjectEnds, ObjectMade, PairDrawn, LetterPut, move_rows, move_boxes, is_named, Leads}
+use Rattle.control_moves.specs.Move.{Move, LinkMoves, EndMoves, ObjectEnds, ObjectMade, PairDrawn, LetterPut, move_rows, move_boxes, is_named, Leads, MovesTo}
 use Rattle.control_moves.specs.OwnMoves.{own_moves, word_moves, having_taken}
 use Rattle.control_moves.proofs.WeighLemmas.{gain_of_own, taken_rows}
 use Rattle.control_moves.proofs.EventGoLemmas.{event_goes}
@@ -134,6 +134,13 @@ binds_lead i (m ∷ ms) s boxes d h none =
     let one = move_less i m s (omega (arith, none, first)) in
     let rest = binds_lead i ms (move_rows m s) (move_boxes m s boxes) d h.1 (omega (arith, none, first)) in
     omega (arith, one, rest)
+
+-- moves that follow from others put none
+pub binds_go : (c d : Control) → MovesTo [] c d → (i : ℕ) → sum_by (of_ends bind_waits i) d.rows.pairs ≤ sum_by (of_ends bind_waits i) c.rows.pairs
+binds_go c d go i =
+    let of_all = gain_of_own (λ s. 0) (λ m. 0) binds_put binds_free (λ m s sound may. omega arith) go.moves in
+    let own = ap (sum_by binds_put) go.own_are in
+    binds_lead i go.moves c.rows c.boxes d go.leads (omega (arith, of_all, own))
 
 -- an event that makes no pair puts no bind
 pub binds_after : {N S : Type 0} (c : Control) (did : Did N S) → Kept c → Fits c did → sum_by binds_put (own_moves c did) ≡ 0 → (i : ℕ) → sum_by (of_ends bind_waits i) (after did c).rows.pairs ≤ sum_by (of_ends bind_waits i) c.rows.pairs

@@ -1,6 +1,6 @@
 -- That the mailbox of a socket which was not asked is there.
 use Rattle.std.specs.Prelude.{◌≡◌, ◌<◌, ◌≤◌, ◌∷◌, [], ℕ, Bool, true, false, not, cond, List, length, map, refl}
-use Rattle.std.proofs.Common.{arith, sym, ap, ◌∙◌, subst}
+use Rattle.std.proofs.Common.{arith, sym, ap, ◌∙◌}
 use Rattle.std.proofs.lemmas.Bool.{eq-eqb}
 use Rattle.mailbox.specs.Mail.{no_mail}
 use Rattle.spec_control.specs.declared.stage.Stage.{Stage}

@@ -150,7 +150,7 @@ module _ {N O I S : Type 0} (out_name : O → N) (in_name : I → N) where
     closes_plane a later history silent ends all lists =
         plane_more out_name in_name s t p (Asked (Close o) Done a) spare later h history (tells_no_names (items_of p) (Asked (Close o) Done a) silent)
         (subst (λ (b : List (Mail (Command (Load N O I)))). AreCarried out_name in_name (items_of p) now b) (sym boxes_are)
-        (sent_carried out_name in_name (items_of p) now 0 reap s.boxes room (record { carries = ends; reaps = record { between = closed_between c o.0 is_open; all = record { joined = all.joined; writers = all.writers } } }) others))
+        (sent_carried out_name in_name (items_of p) now 0 reap s.boxes room (record { carries = ends; reaps = record { between = closed_between c o.0 is_open; all = record { joined = all.joined; writers = all.writers; states = all.states } } }) others))
         (binds_fit c did (kept_past p h.history.run) (fits_last out_name in_name t p did later history) refl s.objects.lists t.objects.lists
         (same_lists s.objects.lists t.objects.lists (ap (λ (x : State (Load N O I)). x.objects.lists) is ∙ lists)) h.binds) refl
       where

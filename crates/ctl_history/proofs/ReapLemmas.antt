@@ -18,6 +18,7 @@ use Rattle.spec_control.specs.declared.object.ObjKind.TheVariants.{Root, Socket,
 use Rattle.spec_control.specs.declared.request.Req.{Req}
 use Rattle.spec_control.specs.declared.request.Req.TheVariants.{Socket as MakeSocket, AskTerm, Bind, Connect, Unbind, Disconnect, Close, Accepted, Shaken, AskEnd, AskOver, OutputOver}
 use Rattle.spec_control.specs.Names.{name_of}
+use Rattle.spec_control.specs.declared.end.EndState.{EndState}
 use Rattle.spec_control.specs.Place.{Place, Unmade, Away, At, is_here}
 use Rattle.spec_control.specs.Row.{Row, nobody, is_socket, is_session, is_listener, is_unowned}
 use Rattle.spec_control.specs.Rows.{Rows, obj}
@@ -167,6 +168,18 @@ ends_within c i (e ∷ es) known = by (owner_of c e == i) refl (ends_within c i 
         All-cons (IsEndOf c i) e (filter (λ x. owner_of c x == i) es) (record { within = All-head (λ x. x.pair.0 < next_pair c) e es known; owner = eqb-true (owner_of c e) i mine }) rest
     by false mine rest = rest
 
+-- an end that looks to be in a state is
+at_shown : (p : Place) (s : EndState) → shown p ≡ At s → p ≡ At s
+at_shown Unmade s h = absurd (away_at h)
+  where
+    away_at : Away ≡ At s → ⊥
+    away_at f = Prim.grind arith
+at_shown Away s h = absurd (away_at h)
+  where
+    away_at : Away ≡ At s → ⊥
+    away_at f = Prim.grind arith
+at_shown (At state) s h = h
+
 module _ (c d : Control) (i : ℕ) (known : Known c) (spared : Spared i c d) where
   mine : All (IsEndOf c i) (ends_of i c)
   mine = ends_within c i c.attached known
@@ -179,6 +192,9 @@ module _ (c d : Control) (i : ℕ) (known : Known c) (spared : Spared i c d) whe
       ap (λ (b : Bool). let x : Joins = record { end = e; peer = []; met = b } in x)
       (sym (met_shown (place_of d e) (d.reasons e)) ∙ ap (λ (p : Place). met_in p (d.reasons e)) (spared.places e of.within of.owner)
       ∙ met_shown (place_of c e) (d.reasons e) ∙ ap (λ (r : Option Reason). met_in (place_of c e) r) (spared.reasons e of.within of.owner))
+
+  at_same : (e : EndId) (s : EndState) → IsEndOf c i e → place_of c e ≡ At s → place_of d e ≡ At s
+  at_same e s of is = at_shown (place_of d e) s (spared.places e of.within of.owner ∙ ap shown is)
 
   writer_same : (e : EndId) → IsEndOf c i e → has_writer (place_of d e) ≡ has_writer (place_of c e)
   writer_same e of = sym (writer_shown (place_of d e)) ∙ ap has_writer (spared.places e of.within of.owner) ∙ writer_shown (place_of c e)
@@ -228,6 +244,7 @@ module _ {N O I : Type 0} (out_name : O → N) (in_name : I → N) where
   gives_later c d i p known spared listed all = record {
     joined = all.joined ∙ sym (reap_same c d i known spared);
     writers = λ k x lt. all.writers k x lt ∙ sym (writer_same c d i known spared _ (gives_own c i p known listed all k x lt));
+    states = λ k x lt. at_same c d i known spared _ _ (gives_own c i p known listed all k x lt) (all.states k x lt);
   }
 
   module _ (names : EndId → Option N) (c d : Control) (known : Known c) (spared : (i : ℕ) → is_between (obj c.rows i) ≡ true → Spared i c d) where

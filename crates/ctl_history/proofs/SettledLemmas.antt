@@ -1,5 +1,6 @@
 -- An acknowledgement that comes to an end of an object: what it needs, and what it does.
 use Rattle.std.specs.Prelude.{◌≡◌, ◌≢◌, ◌<◌, ◌≤◌, ◌+◌, ◌&&◌, ◌==◌, ℕ, Bool, true, false, cond, List, Option, Some, None, All, map, not, length, slice_index_or, sum_by, refl}
+use Rattle.std.specs.List.{list_any}
 use Rattle.std.proofs.Common.{arith, sym, ap, ◌∙◌, subst}
 use Rattle.std.proofs.lemmas.Bool.{eq-eqb, eqb-true}
 use Rattle.std.proofs.lemmas.List.Sums.{get_or-le-sum_by}
@@ -18,7 +19,7 @@ use Rattle.spec_control.specs.PairPhase.{Happens, may}
 use Rattle.spec_control.specs.Row.{Row, nobody, is_unowned}
 use Rattle.spec_control.specs.Rows.{no_pair, obj, pair, end_half, end_owner, end_place}
 use Rattle.spec_control.specs.Stage.{has_ended, is_unused}
-use Rattle.spec_control.specs.Control.{Control, commands_in, happens, owner_of, place_of, try_end}
+use Rattle.spec_control.specs.Control.{Control, commands_in, happens, is_end, owner_of, place_of, try_end}
 use Rattle.spec_control.specs.After.{answers_in, processed, settle, owner_or_root}
 use Rattle.spec_control.specs.ControlRun.{Joins, MayAnswerAll, Settles}
 use Rattle.control_laws.specs.Kept.{Kept}
@@ -30,6 +31,7 @@ use Rattle.control_bounds.proofs.RowRoomLemmas.{place_falls}
 use Rattle.ctl_holder.specs.declared.load.Load.{Load}
 use Rattle.ctl_holder.specs.declared.load.Load.TheVariants.{Halves, Writer, Ends}
 use Rattle.ctl_holder.specs.Holding.{Holding, IsTold}
+use Rattle.ctl_history.proofs.ToldLemmas.{told_kept, told_one}
 use Rattle.ctl_holder.specs.Load.{BringsWriterTo, IsNamed}
 use Rattle.ctl_state.specs.declared.state.State.{State}
 use Rattle.ctl_state.specs.Boxes.{mail_at}
@@ -39,9 +41,9 @@ use Rattle.ctl_state.specs.Objects.{kept_row}
 use Rattle.ctl_ends.specs.Settling.{SettlesEnd}
 use Rattle.ctl_ends.proofs.MailLemmas.{puts_on}
 use Rattle.ctl_ends.proofs.TurnLemmas.{comes_here}
-use Rattle.ctl_history.specs.Hearing.{IsAcknowledged, Led, Acknowledges, HasCounts, IsProcessed, BringsWriter}
+use Rattle.ctl_history.specs.Hearing.{HasDone, IsAcknowledged, Acknowledges, HasCounts, IsProcessed, BringsWriter}
 use Rattle.control_others.proofs.StayLemmas.{ends_on, tried}
-use Rattle.ctl_history.proofs.HearLemmas.{has_same, has_told, bare_loaded, finds_at, end_of_no_root, room_for, told_is_put}
+use Rattle.ctl_history.proofs.HearLemmas.{same_places, has_same, has_told, bare_loaded, finds_at, end_of_no_root, room_for, told_is_put}
 
 module _ {L : Type 0} where
   -- the settlements are not kept
@@ -157,8 +159,8 @@ module _ {N O I : Type 0} (out_name : O → N) (in_name : I → N) where
       one e = Prim.grind arith
 
   pub acknowledges : (names : EndId → Option N) (c : Control) (at : ObjId) (e : EndId) (counts : Settled) (s mid t : State (Load N O I)) (h m k : Holding N) → SettlesEnd out_name in_name names c e counts s mid h m →
-      Stands t (try_end at.0 false (settle e (Some counts) (happens AckCame e c))) → Tells mid t → (m.holds at.0 ≡ true) → IsTold at.0 m k → Acknowledges out_name in_name names c at.0 e counts s t k
-  acknowledges names c at e counts s mid t h m k done stands tells_them lent told = record {
+      Stands t (try_end at.0 false (settle e (Some counts) (happens AckCame e c))) → Tells mid t → (m.holds at.0 ≡ true) → IsTold at.0 m k → e.pair.0 < length c.rows.pairs → list_any (is_end e) c.attached ≡ true → Acknowledges out_name in_name names c at.0 e counts s t h k
+  acknowledges names c at e counts s mid t h m k done stands tells_them lent told within listed = record {
     led = record {
       stands = stands;
       has = has_told names (try_end at.0 false (settle e (Some counts) (happens AckCame e c))) m k at.0 lent told
@@ -169,6 +171,10 @@ module _ {N O I : Type 0} (out_name : O → N) (in_name : I → N) where
       lists = tells_them.lists ∙ done.leads.lists;
     };
     settled = done.settled;
+    turned = told_kept c (try_end at.0 false (settle e (Some counts) (happens AckCame e c))) h m k
+        (told_one c (try_end at.0 false (settle e (Some counts) (happens AckCame e c))) AckCame e h m
+        (ends_on (happens AckCame e c) (settle e (Some counts) (happens AckCame e c)) (try_end at.0 false (settle e (Some counts) (happens AckCame e c))) (record { pairs = refl; attached = refl; reasons = refl })
+        (tried at.0 false (settle e (Some counts) (happens AckCame e c)))) within listed done.leads.turned) told.turns;
   }
 
   -- the object lives still, and there is room for its own acknowledgement
@@ -186,9 +192,9 @@ module _ {N O I : Type 0} (out_name : O → N) (in_name : I → N) where
         subst (λ (n : ℕ). 0 < (mail_at mid.boxes n).spare) slot
         (let most = is.ack_room w owner in let less = done.spare (obj c.rows w).slot in omega (arith, most, less))
 
-  pub ack_processed : {S : Type 0} (s t : State (Load N O I)) (k : Holding N) (names : EndId → Option N) (c : Control) (to : ObjId) (word : Word) (e : EndId) (counts : Settled) (a : Answered N S) → word ≡ PipeTermAck e → HasCounts counts a →
-      Acknowledges out_name in_name names c to.0 e counts s t k → IsProcessed out_name in_name s t k names c (record { to = to; word = word }) a
-  ack_processed s t k names c to word e counts a is has done = subst (λ (x : Word). IsProcessed out_name in_name s t k names c (record { to = to; word = x }) a) (sym is) of
+  pub ack_processed : {S : Type 0} (s t : State (Load N O I)) (h k : Holding N) (names : EndId → Option N) (c : Control) (to : ObjId) (word : Word) (e : EndId) (counts : Settled) (a : Answered N S) → word ≡ PipeTermAck e → HasCounts counts a →
+      Acknowledges out_name in_name names c to.0 e counts s t h k → IsProcessed out_name in_name s t k names c (record { to = to; word = word }) a
+  ack_processed s t h k names c to word e counts a is has done = subst (λ (x : Word). IsProcessed out_name in_name s t k names c (record { to = to; word = x }) a) (sym is) of
     where
       after_is : processed to.0 (PipeTermAck e) (answers_in a) c ≡ try_end to.0 false (settle e (Some counts) (happens AckCame e c))
       after_is =
@@ -205,5 +211,6 @@ module _ {N O I : Type 0} (out_name : O → N) (in_name : I → N) where
           output = has.output;
           named = subst (λ (js : List (Joining N)). All (IsNamed out_name in_name names) js) (sym has.joined) (All-nil (IsNamed out_name in_name names));
         };
-        led = subst (λ (d : Control). Led out_name in_name names d s t k) (sym after_is) done.led;
+        led = subst (λ (d : Control). HasDone out_name in_name names d s t k) (sym after_is) (record { stands = done.led.stands; has = done.led.has; puts = done.led.puts });
+        places = same_places out_name in_name names (PipeTermAck e) to.0 s t done.led.lists;
       }

@@ -1,6 +1,6 @@
 -- That a disconnect adds its event, with the socket's holder.
 use Rattle.std.specs.Prelude.{◌≡◌, ◌++◌, ◌∷◌, [], ℕ, true, List, None, refl}
-use Rattle.std.proofs.Common.{arith, sym, ap, subst}
+use Rattle.std.proofs.Common.{arith, sym, subst}
 use Rattle.std.proofs.lemmas.List.{map-append}
 use Rattle.zq_base.specs.declared.endpoint.Endpoint.{Endpoint}
 use Rattle.zq_base.specs.declared.ids.ObjId.{ObjId}

@@ -8,3 +8,6 @@ pub mod Making
 pub mod Refusals
 pub mod Striking
 pub mod Joining
+pub mod Closing
+pub mod Attaching
+pub mod Fulfilling

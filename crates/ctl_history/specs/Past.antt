@@ -49,6 +49,10 @@ module _ {G N S : Type 0} where
   abbrev pub with_given : List G → Past G N S → Past G N S
   with_given gs p = record p { given = p.given ++ gs }
 
+  -- of the ends of closed sockets, these are on their way
+  abbrev pub only_given : List G → Past G N S → Past G N S
+  only_given gs p = record p { given = gs }
+
   -- each event fits the state that those before it led to
   abbrev pub IsPast : Past G N S → Type 0
   IsPast p = IsControlRun (begun p.workers) (items_of p)

@@ -4,6 +4,7 @@ ghost use Rattle.spec_control.specs.Rows.{obj};
 ghost use Rattle.spec_control.specs.Control.{Control, owner_of, place_of};
 ghost use Rattle.spec_control.specs.ControlRun.{is_between};
 ghost use Rattle.ctl_state.specs.Stands.{Stands};
+ghost use Rattle.ctl_holder.specs.Turns.{HasTurned};
 ghost use Rattle.ctl_history.specs.Past.{control_of};
 ghost use Rattle.ctl_history.specs.Hearing.{HasWhat, MeetsDelimiter};
 
@@ -43,6 +44,8 @@ where
         requires has { HasWhat self.old (H.holding holder.old) }
         ensures found { MeetsDelimiter e result self.old self.new }
         ensures keeps { HasWhat self.new (H.holding holder.new) }
+        ensures turned { HasTurned (control_of self.old) (control_of self.new)
+            (H.holding holder.old) (H.holding holder.new) }
     {
         if !is_looked_at(&self.state, e) {
             return false;

@@ -1,8 +1,12 @@
-ghost use Rattle.std.specs.Prelude.{◌≡◌, ◌<◌, ◌&&◌, ◌==◌, ℕ, true, false};
+ghost use Rattle.std.specs.Prelude.{◌≡◌, ◌<◌, ◌&&◌, ◌==◌, ℕ, true, false, IfOk, OnErr};
 ghost use Rattle.std.specs.List.{list_any};
 ghost use Rattle.spec_control.specs.ControlRun.{is_between};
+ghost use Rattle.ctl_holder.specs.Turns.{HasTurned};
 ghost use Rattle.ctl_history.specs.Past.{control_of};
-ghost use Rattle.ctl_history.specs.Hearing.{IsServed, HasWhat, FindsOldest};
+ghost use Rattle.ctl_holder.specs.Holding.{AreMet};
+ghost use Rattle.ctl_history.specs.Attaching.{StaysAll};
+ghost use Rattle.ctl_history.specs.Hearing.{AreApart, AreFree, AreOfKind, FindsOldest};
+ghost use Rattle.ctl_history.specs.Hearing.{FitBinds, HasWhat, IsServed};
 
 use crate::heard::Heard;
 use crate::hearing::process;
@@ -11,37 +15,56 @@ use ctl_holder::Holder;
 use ctl_state::Command;
 use msg_pipe::Pipes;
 use spec_control::Did;
-use std::alloc::Global;
+use std::alloc::{AllocError, Global};
 use zq_base::SlotId;
 
 impl<P: Pipes> History<P>
 where
     P::Name: Drop,
 {
-    /// Processes the oldest command of a mailbox with the holder of the objects that it serves, if
-    /// it is one that is heard; any other waits. It takes no memory.
-    pub fn deliver<H: Holder<P>>(&mut self, alloc: Global, slot: SlotId, holder: &mut H) -> Heard
+    /// Processes the oldest command of a mailbox with the holder of the objects that it serves. The
+    /// root's mailbox, 0, is the reaper's: its holder takes in the ends of closed sockets, which
+    /// nobody has on their way. A bind takes memory, in the time of copying an identity; where that
+    /// wants, the command stays. No other command takes any.
+    pub fn deliver<H: Holder<P>>(
+        &mut self,
+        alloc: Global,
+        slot: SlotId,
+        holder: &mut H,
+    ) -> Result<Heard, AllocError>
         requires there { slot.0 < (control_of self.old).slots }
         requires held { list_any (λ o. is_between o && o.slot == slot.0)
             (control_of self.old).rows.objects ≡ false }
         requires lent { (i : ℕ) → IsServed (control_of self.old) slot.0 i →
             (H.holding holder.old).holds i ≡ true }
         requires has { HasWhat self.old (H.holding holder.old) }
-        ensures found { FindsOldest slot result self.old self.new }
+        requires apart { AreApart P.known.exact self.old slot.0 (H.holding holder.old) }
+        requires kinds { AreOfKind (control_of self.old) slot.0 (H.holding holder.old) }
+        requires fits { FitBinds P.known.out_name P.known.in_name self.old slot.0
+            (H.fits holder.old) }
+        requires reaps { slot.0 ≡ 0 → H.reaps ≡ true }
+        requires free { slot.0 ≡ 0 → AreFree (control_of self.old) (H.holding holder.old) }
+        requires met { slot.0 ≡ 0 → AreMet (H.ended holder.old) self.old.given }
+        ensures ok { IfOk result (λ found.
+            FindsOldest P.known.out_name P.known.in_name slot found self.old self.new) }
+        ensures err { OnErr result ((self.new ≡ self.old)
+            × StaysAll (H.holding holder.old) (H.holding holder.new)) }
         ensures keeps { HasWhat self.new (H.holding holder.new) }
+        ensures turned { HasTurned (control_of self.old) (control_of self.new)
+            (H.holding holder.old) (H.holding holder.new) }
     {
         let Some(command) = self.state.take(slot) else {
-            return Heard::Empty;
+            return Ok(Heard::Empty);
         };
         let Command { letter, load } = command;
         match process(&mut self.state, alloc, holder, &letter, load) {
             Ok(answered) => {
                 self.events.push(Did::Delivered(slot, letter, answered));
-                return Heard::Done;
+                return Ok(Heard::Done);
             }
             Err(load) => {
                 self.state.put_back(slot, Command { letter, load });
-                return Heard::ForHolder;
+                return Err(AllocError);
             }
         }
     }

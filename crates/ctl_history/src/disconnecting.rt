@@ -5,6 +5,7 @@ ghost use Rattle.spec_control.specs.Control.{Control, owner_of};
 ghost use Rattle.spec_control.specs.After.{strike_end, strikes, strikes_first};
 ghost use Rattle.ctl_state.specs.Lists.{hold_at};
 ghost use Rattle.ctl_state.specs.Stands.{Stands};
+ghost use Rattle.ctl_ends.specs.Turning.{TurnsOnce};
 ghost use Rattle.ctl_history.specs.Hearing.{Led};
 ghost use Rattle.ctl_history.specs.Striking.{StrikesWith, IsStruck};
 
@@ -34,10 +35,14 @@ where
     P::Name: Drop,
     requires may { StrikesWith P.known.out_name P.known.in_name
         state.old (H.holding holder.old) socket.0 }
-    ensures { (w : StrikesWith P.known.out_name P.known.in_name
+    ensures led { (w : StrikesWith P.known.out_name P.known.in_name
         state.old (H.holding holder.old) socket.0) →
         Led P.known.out_name P.known.in_name w.names (strike_end socket.0 e w.control)
         state.old state.new (H.holding holder.new) }
+    ensures turned { (w : StrikesWith P.known.out_name P.known.in_name
+        state.old (H.holding holder.old) socket.0) →
+        TurnsOnce w.control (strike_end socket.0 e w.control)
+        (H.holding holder.old) (H.holding holder.new) }
 {
     if state.is_away(e) {
         state.strike(e);
@@ -64,12 +69,17 @@ where
     P::Name: Drop,
     requires may { StrikesWith P.known.out_name P.known.in_name
         state.old (H.holding holder.old) socket.0 }
-    ensures { (w : StrikesWith P.known.out_name P.known.in_name
+    ensures led { (w : StrikesWith P.known.out_name P.known.in_name
         state.old (H.holding holder.old) socket.0) →
         (at : Endpoint) → is_connect_to to.now (hold_at at held) ≡ true →
         Led P.known.out_name P.known.in_name w.names
         (strikes socket.0 to.now (Some (hold_at at held)) w.control)
         state.old state.new (H.holding holder.new) }
+    ensures turned { (w : StrikesWith P.known.out_name P.known.in_name
+        state.old (H.holding holder.old) socket.0) →
+        (at : Endpoint) → is_connect_to to.now (hold_at at held) ≡ true →
+        TurnsOnce w.control (strikes socket.0 to.now (Some (hold_at at held)) w.control)
+        (H.holding holder.old) (H.holding holder.new) }
 {
     match held {
         Held::Waits => {
@@ -97,11 +107,15 @@ where
     P::Name: Drop,
     requires may { StrikesWith P.known.out_name P.known.in_name
         state.old (H.holding holder.old) socket.0 }
-    ensures { (w : StrikesWith P.known.out_name P.known.in_name
+    ensures struck { (w : StrikesWith P.known.out_name P.known.in_name
         state.old (H.holding holder.old) socket.0) →
         IsStruck P.known.out_name P.known.in_name w.names
         (strikes_first socket.0 to.now (is_connect_to to.now) w.control)
         state.old state.new (H.holding holder.new) }
+    ensures turned { (w : StrikesWith P.known.out_name P.known.in_name
+        state.old (H.holding holder.old) socket.0) →
+        TurnsOnce w.control (strikes_first socket.0 to.now (is_connect_to to.now) w.control)
+        (H.holding holder.old) (H.holding holder.new) }
 {
     match state.strike_connect(socket, to) {
         Some(hold) => {

@@ -4,6 +4,7 @@ ghost use Rattle.spec_control.specs.declared.entry.Did.TheVariants.{Asked};
 ghost use Rattle.spec_control.specs.Rows.{obj};
 ghost use Rattle.spec_control.specs.ControlRun.{IsOpenSocket};
 ghost use Rattle.spec_control.specs.Reply.{reply_of};
+ghost use Rattle.ctl_holder.specs.Turns.{HasTurned};
 ghost use Rattle.ctl_history.specs.Past.{control_of, with_event, IsSilent};
 ghost use Rattle.ctl_history.specs.Hearing.{HasWhat};
 
@@ -41,6 +42,8 @@ where
         ensures reply { IfOk result (λ reply.
             reply ≡ reply_of (control_of self.old) (Disconnect socket at)) }
         ensures keeps { HasWhat self.new (H.holding holder.new) }
+        ensures turned { HasTurned (control_of self.old) (control_of self.new)
+            (H.holding holder.old) (H.holding holder.new) }
         ensures err { OnErr result ((self.new ≡ self.old)
             × (H.holding holder.new ≡ H.holding holder.old)) }
     {

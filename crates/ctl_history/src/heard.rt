@@ -5,6 +5,4 @@ pub enum Heard {
     Done,
     /// It is empty.
     Empty,
-    /// Its oldest command is a Term, a Plug, a PipeBind or a Reap, and waits.
-    ForHolder,
 }

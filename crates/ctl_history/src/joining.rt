@@ -4,6 +4,7 @@ ghost use Rattle.spec_control.specs.declared.book.Binding.{Binding};
 ghost use Rattle.spec_control.specs.declared.request.Req.TheVariants.{Connect};
 ghost use Rattle.spec_control.specs.Reply.{reply_of};
 ghost use Rattle.ctl_holder.specs.Holding.{Stays};
+ghost use Rattle.ctl_holder.specs.Turns.{HasTurned};
 ghost use Rattle.ctl_history.specs.Hearing.{HasWhat};
 ghost use Rattle.ctl_history.specs.Joining.{IsName, IsNoted, IsOfSame, Lends, NotesRequest};
 ghost use Rattle.ctl_history.specs.Past.{control_of};
@@ -19,8 +20,8 @@ use spec_control::{Answered, Binding, Did, Reply, Req};
 use std::alloc::{AllocError, Global};
 use zq_base::{Endpoint, ObjId, Octets, Seq};
 
-// What a holder answered for pairs that were made. It takes no memory.
-fn with_notes<N: Drop, S>(notes: Notes<N>) -> Answered<N, S>
+/// What a holder answered for pairs that were made. It takes no memory.
+pub(crate) fn with_notes<N: Drop, S>(notes: Notes<N>) -> Answered<N, S>
     ensures { IsNoted notes result }
 {
     let Notes { joined, opened } = notes;
@@ -33,8 +34,8 @@ fn with_notes<N: Drop, S>(notes: Notes<N>) -> Answered<N, S>
     }
 }
 
-// The name that an endpoint is.
-fn name_of(at: Endpoint) -> Octets
+/// The name that an endpoint is.
+pub(crate) fn name_of(at: Endpoint) -> Octets
     requires name { IsName at }
     ensures { at ≡ Inproc result }
 {
@@ -74,6 +75,8 @@ where
             × Stays socket.0 (H.holding holder.old) (H.holding holder.new)) }
         ensures same { IsOfSame (H.holding holder.old) (H.holding holder.new) }
         ensures keeps { HasWhat self.new (H.holding holder.new) }
+        ensures turned { HasTurned (control_of self.old) (control_of self.new)
+            (H.holding holder.old) (H.holding holder.new) }
     {
         let at = Endpoint::Inproc(name);
         match self.connect_refusal(socket, &at) {
@@ -107,6 +110,8 @@ where
             × Stays socket.0 (H.holding holder.old) (H.holding holder.new)) }
         ensures same { IsOfSame (H.holding holder.old) (H.holding holder.new) }
         ensures keeps { HasWhat self.new (H.holding holder.new) }
+        ensures turned { HasTurned (control_of self.old) (control_of self.new)
+            (H.holding holder.old) (H.holding holder.new) }
     {
         let found = self.state.find(&at);
         let name = name_of(at);
@@ -145,6 +150,8 @@ where
             × Stays socket.0 (H.holding holder.old) (H.holding holder.new)) }
         ensures same { IsOfSame (H.holding holder.old) (H.holding holder.new) }
         ensures keeps { HasWhat self.new (H.holding holder.new) }
+        ensures turned { HasTurned (control_of self.old) (control_of self.new)
+            (H.holding holder.old) (H.holding holder.new) }
     {
         let copy = Endpoint::Inproc(name.copy(alloc)?);
         let at = Endpoint::Inproc(name);

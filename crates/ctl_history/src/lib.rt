@@ -5,8 +5,9 @@
 #![tactic(auto)]
 
 mod asking;
+mod attaching;
 mod bare;
-mod binding;
+mod binds;
 mod closing;
 mod connecting;
 mod delimiters;
@@ -14,6 +15,7 @@ mod deliveries;
 mod disconnecting;
 mod disconnects;
 mod ending;
+mod fulfilling;
 mod heard;
 mod hearing;
 mod history;
@@ -22,6 +24,7 @@ mod making;
 mod naming;
 mod refusals;
 mod refused;
+mod soundness;
 mod stages;
 mod striking;
 mod unbinding;

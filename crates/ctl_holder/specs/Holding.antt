@@ -33,6 +33,8 @@ pub record Holding (N : Type 0) : Type 0 where
   pub state : EndId → EndState
   -- the changes of state that it was told so far, in order
   pub turns : List (EndId × EndState)
+  -- the ends whose pipes it was to seal so far, in order
+  pub sealed : List EndId
 
 -- a pipe's capacity
 pub record IsCapacity (capacity : ℕ) : Type 0 where
@@ -80,15 +82,17 @@ module _ {N : Type 0} where
   abbrev pub WritesAsBefore : (old new : Holding N) → Type 0
   WritesAsBefore old new = (d : EndId) → new.writes d ≡ old.writes d
 
-  -- how far each end is that is had stays, and nothing more was told
+  -- how far each end is that is had stays, and nothing more was told or sealed
   pub record KeepsTurns (old new : Holding N) : Type 0 where
     pub states : (i : ℕ) (d : EndId) → has_end d (new.ends i) ≡ true → new.state d ≡ old.state d
     pub turns : new.turns ≡ old.turns
+    pub sealed : new.sealed ≡ old.sealed
 
   -- ends that came begin in these states, and else all is as before
   pub record Begins (began : EndId → Option EndState) (old new : Holding N) : Type 0 where
     pub states : (i : ℕ) (d : EndId) → has_end d (new.ends i) ≡ true → new.state d ≡ unwrap_or (began d) (old.state d)
     pub turns : new.turns ≡ old.turns
+    pub sealed : new.sealed ≡ old.sealed
 
   -- an end that joined is Active
   abbrev pub BeginsActive : EndId → (old new : Holding N) → Type 0
@@ -98,6 +102,13 @@ module _ {N : Type 0} where
   pub record TurnsTo (e : EndId) (state : EndState) (old new : Holding N) : Type 0 where
     pub states : (i : ℕ) (d : EndId) → has_end d (new.ends i) ≡ true → new.state d ≡ (if is_end d e then state else old.state d)
     pub turns : new.turns ≡ old.turns ++ (if is_state (old.state e) state then [] else (e, state) ∷ [])
+    pub sealed : new.sealed ≡ old.sealed
+
+  -- the pipe that an end writes was to be sealed
+  pub record Seals (e : EndId) (old new : Holding N) : Type 0 where
+    pub states : (i : ℕ) (d : EndId) → has_end d (new.ends i) ≡ true → new.state d ≡ old.state d
+    pub turns : new.turns ≡ old.turns
+    pub sealed : new.sealed ≡ old.sealed ++ e ∷ []
 
   -- an object's ends are these now, and else all is as before; an end that was at its delimiter is there while it is held
   pub record HoldsNow (o : ℕ) (hs : List (Held N)) (old new : Holding N) : Type 0 where
@@ -155,6 +166,10 @@ module _ {N : Type 0} where
     pub writers : (i : ℕ) (e : EndId) → has_end e (new.ends i) ≡ true → new.writes e ≡ old.writes e
     pub delimiters : (i : ℕ) (e : EndId) → has_end e (new.ends i) ≡ true → old.at_delimiter e ≡ true → new.at_delimiter e ≡ true
     pub output : (i : ℕ) → i ≢ o → new.output_left i ≡ old.output_left i
+
+  -- no end that has its writing half still writes this pipe, wherever names tell pipes apart
+  abbrev pub NoneWrites : (exact : Bool) → (name : N) → Holding N → Type 0
+  NoneWrites exact name h = exact ≡ true → (i : ℕ) → All (λ x. h.writes x.end ≡ true → x.written ≢ name) (h.ends i)
 
   -- the last of these ends is this one
   pub record IsLast (e : EndId) (hs : List (Held N)) : Type 0 where

@@ -39,12 +39,13 @@ module _ {N : Type 0} (names : EndId → Option N) where
     pub written : names x.end ≡ Some x.written
     pub read : names (other_end x.end) ≡ Some x.read
 
-  -- of an object it has the ends that are there, with the writing halves that were not given away, and knows which read halves have met their delimiter
+  -- of an object it has the ends that are there, with the writing halves that were not given away, and knows which read halves have met their delimiter, and how far each end is
   pub record HasEnds (pairs : List PairRow) (attached : List EndId) (reasons : EndId → Option Reason) (h : Holding N) (i : ℕ) : Type 0 where
     pub ends : map (λ x. x.end) (h.ends i) ≡ here_ends pairs attached i
     pub named : All HasBothNames (h.ends i)
     pub writes : (e : EndId) → has_end e (h.ends i) ≡ true → h.writes e ≡ has_writer (place_by pairs e)
     pub delimiters : (e : EndId) → has_end e (h.ends i) ≡ true → met_in (place_by pairs e) (reasons e) ≡ true → h.at_delimiter e ≡ true
+    pub states : (e : EndId) → has_end e (h.ends i) ≡ true → place_by pairs e ≡ At (h.state e)
 
   -- of each object that it has
   abbrev pub HasAll : Control → Holding N → Type 0

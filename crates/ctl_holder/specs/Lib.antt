@@ -1,3 +1,4 @@
 pub mod Holding
 pub mod Load
 pub mod Lent
+pub mod Turns

@@ -6,6 +6,7 @@ use Rattle.spec_control.specs.declared.letter.Word.{Word}
 use Rattle.spec_control.specs.declared.letter.Word.TheVariants.{Own, Plug, TermReq, Term, TermAck, PipeBind, PipeTerm, PipeTermAck, Stop, Reap}
 use Rattle.ctl_holder.specs.declared.halves.NamedHalves.{NamedHalves}
 use Rattle.spec_control.specs.declared.entry.Joining.{Joining}
+use Rattle.spec_control.specs.Place.{At}
 use Rattle.spec_control.specs.Rows.{obj}
 use Rattle.spec_control.specs.Control.{Control, place_of}
 use Rattle.spec_control.specs.ControlRun.{Joins, is_between, reap_joins}
@@ -88,10 +89,11 @@ given_by (Some (Ends p)) = p.ends.items
 given_by None = []
 
 module _ {N O I : Type 0} where
-  -- a closed socket gives all of its ends that are there, as they are, each with its writing half but where it acknowledged
+  -- a closed socket gives all of its ends that are there, as they are, each with its writing half but where it acknowledged, and tells how far each is
   pub record GivesAll (c : Control) (socket : ℕ) (p : Parting N O I) : Type 0 where
     pub joined : map (λ j. let x : Joins = record { end = j.end; peer = j.peer; met = j.met } in x) p.joined ≡ reap_joins c socket
     pub writers : All (λ g. is_some g.out ≡ has_writer (place_of c g.end)) p.ends.items
+    pub states : All (λ g. place_of c g.end ≡ At g.state) p.ends.items
 
   -- they are those of a closed socket whose Reap is on its way
   pub record ComeToReaper (c : Control) (socket : ℕ) (p : Parting N O I) : Type 0 where

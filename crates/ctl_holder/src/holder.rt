@@ -15,12 +15,12 @@ use zq_base::{Address, Attached, EndId, Kind, ObjId, Options, Peer, Settled};
 pub trait Holder<P: Pipes> {
     ghost use Rattle.ctl_holder.specs.Holding.{Holding, IsCapacity, MayRefuse, has_end, written_in};
     ghost use Rattle.ctl_holder.specs.Holding.{read_in, Stays, Joined, Left, Yielded, HasGiven};
-    ghost use Rattle.ctl_holder.specs.Holding.{IsTold, IsPlugged, IsLast, held_with, AreCrossed};
+    ghost use Rattle.ctl_holder.specs.Holding.{IsTold, IsPlugged, IsLast, NoneWrites, held_with, AreCrossed};
     ghost use Rattle.ctl_holder.specs.Holding.{held_given, held_optional};
     ghost use Rattle.ctl_holder.specs.Holding.{AreMet, AllTold, AllWriting, AreAtDelimiter, AreGivenAs};
     ghost use Rattle.ctl_holder.specs.Holding.{writes_in};
     ghost use Rattle.zq_base.specs.declared.ids.EndId.{EndId};
-    ghost use Rattle.ctl_holder.specs.Holding.{KeepsTurns, BeginsActive, Begins, TurnsTo, AllStated};
+    ghost use Rattle.ctl_holder.specs.Holding.{KeepsTurns, BeginsActive, Begins, TurnsTo, Seals, AllStated};
     ghost use Rattle.ctl_holder.specs.Holding.{states_optional, states_given};
     ghost use Rattle.std.specs.Prelude.{Bool};
     ghost use Rattle.std.specs.Option.{ForSome};
@@ -78,7 +78,9 @@ pub trait Holder<P: Pipes> {
             (holding self.old) (holding self.new)) }
         ensures turns { OnOk result (BeginsActive end (holding self.old) (holding self.new)) }
         ensures refuses { IfOk result (λ a. MayRefuse ((holding self.old).kind o.0) a) }
-        ensures err { IfErr result (λ e. (e.value ≡ halves) × (self.new ≡ self.old)) };
+        ensures err { IfErr result (λ e. (e.value ≡ halves)
+            × Stays o.0 (holding self.old) (holding self.new)
+            × KeepsTurns (holding self.old) (holding self.new)) };
 
     /// Undoes the last attach that still stands.
     fn take_back(&mut self, o: ObjId, end: EndId) -> Halves<P::Out, P::In>
@@ -102,7 +104,7 @@ pub trait Holder<P: Pipes> {
         requires here { has_end end ((holding self.old).ends o.0) ≡ true }
         requires writer { (holding self.old).writes end ≡ true }
         ensures stays { Stays o.0 (holding self.old) (holding self.new) }
-        ensures turns { KeepsTurns (holding self.old) (holding self.new) };
+        ensures turns { Seals end (holding self.old) (holding self.new) };
 
     /// Gives away the writing half of an end that acknowledges; parts that were not committed are
     /// rolled back.
@@ -119,6 +121,7 @@ pub trait Holder<P: Pipes> {
     fn settle(&mut self, o: ObjId, end: EndId, writer: P::Out) -> Settled
         requires yielded { (holding self.old).writes end ≡ false }
         requires pipe { read_in ((holding self.old).ends o.0) end ≡ Some (P.known.out_name writer) }
+        requires apart { NoneWrites P.known.exact (P.known.out_name writer) (holding self.old) }
         ensures sum { result.sent ≡ result.got + result.rest }
         ensures read_out { (holding self.old).at_delimiter end ≡ true → result.rest ≡ 0 }
         ensures gone { Left o.0 end (holding self.old) (holding self.new) }
@@ -151,7 +154,9 @@ pub trait Holder<P: Pipes> {
             (holding self.old) (holding self.new)) }
         ensures turns { OnOk result (Begins (states_optional end)
             (holding self.old) (holding self.new)) }
-        ensures err { IfErr result (λ e. (e.value ≡ end) × (self.new ≡ self.old)) };
+        ensures err { IfErr result (λ e. (e.value ≡ end)
+            × Stays o.0 (holding self.old) (holding self.new)
+            × KeepsTurns (holding self.old) (holding self.new)) };
 
     /// An object's Term was processed.
     fn told(&mut self, o: ObjId)
@@ -180,15 +185,16 @@ pub trait Holder<P: Pipes> {
         ensures turns { KeepsTurns (holding self.old) (holding self.new) }
         ensures met { AreMet (ended self.new) result.ends.items };
 
-    /// Takes the ends of a closed socket. It needs no memory.
+    /// Takes the ends of a closed socket, where it is a reaper's. It needs no memory.
     fn take_ends(&mut self, o: ObjId, ends: Vec<Given<P::Name, P::Out, P::In>>)
-        requires reaps { reaps ≡ true }
         requires new { (holding self.old).holds o.0 ≡ false }
         requires met { AreMet (ended self.old) ends.items }
-        ensures all { IsPlugged o.0 (map (held_given P.known.out_name P.known.in_name) ends.items)
+        ensures all { reaps ≡ true → IsPlugged o.0
+            (map (held_given P.known.out_name P.known.in_name) ends.items)
             (holding self.old) (holding self.new) }
-        ensures at { AreAtDelimiter (holding self.new).at_delimiter ends.items }
-        ensures turns { Begins (states_given ends.items) (holding self.old) (holding self.new) }
-        ensures writing { (e : EndId) → (holding self.new).writes e
+        ensures at { reaps ≡ true → AreAtDelimiter (holding self.new).at_delimiter ends.items }
+        ensures turns { reaps ≡ true →
+            Begins (states_given ends.items) (holding self.old) (holding self.new) }
+        ensures writing { reaps ≡ true → (e : EndId) → (holding self.new).writes e
             ≡ writes_in ends.items e ((holding self.old).writes e) };
 }

@@ -11,16 +11,19 @@ use Rattle.zq_base.specs.declared.ids.PairId.{PairId}
 use Rattle.mailbox.specs.Mail.{Mail}
 use Rattle.spec_control.specs.declared.letter.Word.TheVariants.{PipeBind}
 use Rattle.spec_control.specs.Hold.{Joined as IsJoined}
-use Rattle.spec_control.specs.Place.{Unmade}
+use Rattle.spec_control.specs.Place.{Place, Unmade, At}
 use Rattle.spec_control.specs.Stage.{was_asked, has_ended}
 use Rattle.spec_control.specs.Rows.{PairRow, obj}
 use Rattle.spec_control.specs.After.{with_hold}
-use Rattle.spec_control.specs.Control.{Control, draws, end_of, greet, next_pair, open_pair, owner_of}
+use Rattle.spec_control.specs.Control.{Control, draws, end_of, greet, is_end, next_pair, open_pair, owner_of, place_of}
 use Rattle.control_held.specs.Held.{Held}
 use Rattle.control_laws.proofs.JoinLemmas.{unasked_lives}
+use Rattle.control_laws.proofs.AskLemmas.{same_end}
 use Rattle.ctl_holder.specs.declared.halves.NamedHalves.{NamedHalves}
 use Rattle.ctl_holder.specs.declared.load.Load.{Load}
 use Rattle.ctl_holder.specs.Holding.{Holding, has_end}
+use Rattle.ctl_holder.specs.Turns.{TurnsBy, turn_at}
+use Rattle.ctl_ends.proofs.TurnedLemmas.{turns_on}
 use Rattle.ctl_ends.specs.Turning.{PutsLoaded}
 use Rattle.ctl_state.specs.declared.belongings.Belongings.{Belongings}
 use Rattle.ctl_state.specs.declared.command.Command.{Command}
@@ -220,6 +223,7 @@ module _ {N O I : Type 0} (s : State (Load N O I)) (h : Holding N) (o : Owners) 
               (let three = more_spare (with_more o.first_slot.0 2 s) o.last_slot.0 3 (box_there s o.first_slot.0 2 o.last_slot.0 w.places.last_box) in omega (arith, three))));
           has = gets_has pair.0 o.first.0 (held_first (end_of pair.0 true) end) h k (attaches.gets pair.0 (omega arith));
           writes = gets_writes pair.0 o.first.0 (held_first (end_of pair.0 true) end) h k (attaches.gets pair.0 (omega arith));
+          state = attaches.active;
           halves = record { out = attaches.other_out; input = attaches.other_in };
         }
 
@@ -239,10 +243,17 @@ module _ {N O I : Type 0} (s : State (Load N O I)) (h : Holding N) (o : Owners) 
               identity_is j.stands;
           joined = joined ∙ ap (λ (x : List ℕ). joins_named (end_of pair.0 true) x end.answer end.told ∷ []) peer_is;
           opened = opened ∙ ap (pipes_named (end_of pair.0 true)) attaches.opened;
-          gets = gets_stays (next_pair w.control) o.first.0 (held_first (end_of pair.0 true) end ∷ []) h k last (attaches.gets (next_pair w.control) (omega (arith, number_is))) j.stays;
+          gets = gets_stays (next_pair w.control) o.first.0 (held_first (end_of pair.0 true) end ∷ []) h k last (attaches.gets (next_pair w.control) (omega (arith, number_is))) j.stays
+              (λ i e less here. j.moves.others i e here (another_pair e less (is_end e (end_of pair.0 true)) refl));
           puts = λ names written read.
               subst (λ (b : List (Mail (Command (Load N O I)))). PutsLoaded out_name in_name names b t.boxes) held_boxes
               (j.puts names (written ∙ ap Some (sym attaches.other_written)) (read ∙ ap Some (sym attaches.other_read)));
+          mine = subst (λ (id : List ℕ). place_of (greet end.answer (end_of pair.0 true) (open_pair (end_of pair.0 true) (PipeBind (end_of pair.0 false) id) (draws o.first.0 o.last.0 (with_hold o.first.0 (IsJoined at pair.0 None) w.control)))) (end_of pair.0 true) ≡ At (last.state (end_of pair.0 true)))
+              identity_is j.moves.mine;
+          turned = subst (λ (id : List ℕ). TurnsBy (turn_at (end_of pair.0 true) Unmade (place_of (greet end.answer (end_of pair.0 true) (open_pair (end_of pair.0 true) (PipeBind (end_of pair.0 false) id) (draws o.first.0 o.last.0 (with_hold o.first.0 (IsJoined at pair.0 None) w.control)))) (end_of pair.0 true))) h last)
+              identity_is (turns_on [] _ h k last attaches.turned
+              (subst (λ (p : Place). TurnsBy (turn_at (end_of pair.0 true) p (place_of (greet end.answer (end_of pair.0 true) (open_pair (end_of pair.0 true) (PipeBind (end_of pair.0 false) identity) (draws o.first.0 o.last.0 (with_hold o.first.0 (IsJoined at pair.0 None) w.control)))) (end_of pair.0 true))) k last)
+              may_join.mine j.moves.turned));
           places = λ i.
               (let now = ap (λ (l : List Belongings). ends_room l i) (j.lists ∙ ap (λ (n : ℕ). with_ends (with_last (end_of pair.0 true)) n held.objects.lists) mine) in
               let less = ends_shrink held.objects.lists o.first.0 i (end_of pair.0 true) first_there (some_there o.first.0 refl) in
@@ -250,6 +261,13 @@ module _ {N O I : Type 0} (s : State (Load N O I)) (h : Holding N) (o : Owners) 
               omega (arith, now, less, was));
         }
           where
+            another_pair : (e : EndId) → e.pair.0 < next_pair w.control → (b : Bool) → is_end e (end_of pair.0 true) ≡ b → is_end e (end_of pair.0 true) ≡ false
+            another_pair e less false is_so = is_so
+            another_pair e less true is_so = absurd (both (ap (λ (d : EndId). d.pair.0) (same_end e (end_of pair.0 true) is_so)))
+              where
+                both : e.pair.0 ≡ pair.0 → ⊥
+                both same = (let number = number_is in omega (arith, same, less, number))
+
             first_there : o.first.0 < length held.objects.lists
             first_there =
                 subst (λ (l : List Belongings). o.first.0 < length l) (sym held_lists)

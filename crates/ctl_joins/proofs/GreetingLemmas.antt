@@ -1,5 +1,5 @@
 -- That an end that was just attached stays or is asked.
-use Rattle.std.specs.Prelude.{◌≡◌, ◌≢◌, ◌<◌, ◌≤◌, ◌+◌, ◌==◌, ℕ, Bool, true, false, cond, List, None, length, if◌then◌else◌, refl}
+use Rattle.std.specs.Prelude.{◌≡◌, ◌≢◌, ◌<◌, ◌≤◌, ◌+◌, ◌==◌, ◌++◌, ◌∷◌, [], ℕ, Bool, true, false, cond, List, None, length, if◌then◌else◌, refl}
 use Rattle.std.proofs.Common.{arith, sym, ap, ◌∙◌, subst}
 use Rattle.zq_base.specs.Ends.{other_end}
 use Rattle.zq_base.specs.declared.ids.EndId.{EndId}
@@ -8,21 +8,25 @@ use Rattle.mailbox.specs.Mail.{Mail, no_mail, with_sent}
 use Rattle.spec_control.specs.declared.end.EndCommands.{EndCommands}
 use Rattle.spec_control.specs.declared.end.EndCommands.TheVariants.{TermAndSeal}
 use Rattle.spec_control.specs.declared.end.EndEvent.TheVariants.{Asked, AckCame}
-use Rattle.spec_control.specs.declared.end.EndState.TheVariants.{Active}
+use Rattle.spec_control.specs.declared.end.EndState.{EndState}
+use Rattle.spec_control.specs.declared.end.EndState.TheVariants.{Active, AskedOnce}
 use Rattle.spec_control.specs.declared.end.Reason.{Reason}
 use Rattle.spec_control.specs.declared.end.Reason.TheVariants.{Closed}
 use Rattle.spec_control.specs.declared.letter.Word.TheVariants.{PipeTerm}
-use Rattle.spec_control.specs.Place.{At, is_here}
+use Rattle.spec_control.specs.Place.{Place, At, is_here}
 use Rattle.spec_control.specs.Stage.{was_asked}
 use Rattle.spec_control.specs.Rows.{PairRow, no_pair, obj, end_place}
 use Rattle.spec_control.specs.Control.{Control, ask, commands_in, greet, happens, owner_of, place_of, tell_other}
 use Rattle.zq_base.specs.declared.attached.Attached.TheVariants.{Yes}
 use Rattle.control_rows.proofs.ListLemmas.{never}
+use Rattle.control_laws.proofs.AskLemmas.{end_self}
 use Rattle.ctl_holder.specs.declared.load.Load.{Load}
-use Rattle.ctl_holder.specs.Holding.{Holding, Stays, has_end}
+use Rattle.ctl_holder.specs.Holding.{Holding, Seals, Stays, TurnsTo, has_end, is_state}
+use Rattle.ctl_holder.specs.Turns.{TurnsBy, turn_at}
 use Rattle.ctl_ends.specs.Turning.{PutsLoaded}
 use Rattle.ctl_ends.proofs.MailLemmas.{puts_not, puts_sent}
-use Rattle.ctl_ends.proofs.TurnLemmas.{other_slot, turned_not, turned_stays, turned_told}
+use Rattle.ctl_ends.proofs.TurnLemmas.{ToldAs, ends_same, now_at, other_slot, told_as, turned_not, turned_stays, turned_told}
+use Rattle.ctl_ends.proofs.TurnedLemmas.{still_at, turns_same}
 use Rattle.ctl_state.specs.declared.command.Command.{Command}
 use Rattle.ctl_state.specs.declared.state.State.{State}
 use Rattle.ctl_state.specs.Boxes.{mail_at, with_mail}
@@ -64,18 +68,22 @@ module _ {N O I : Type 0} (s : State (Load N O I)) (h : Holding N) (o : ℕ) (fi
   may_come met reason = met.may_come first (Asked reason false) Active w.there refl
 
   -- it stays
-  pub welcomed : (out_name : O → N) (in_name : I → N) → Asks out_name in_name (greet Yes first w.control) o s s h h
-  welcomed out_name in_name = record {
-    stands = subst (λ (c : Control). Stands s c) (sym stays) w.stands;
-    stays = record { now = (turned_not o first h).now; writers = λ d. refl };
-    puts = λ names. puts_not out_name in_name names s.boxes s.boxes refl;
-    spare = λ m. omega arith;
-    lists = refl;
-  }
+  pub welcomed : (out_name : O → N) (in_name : I → N) → Asks out_name in_name w.control (greet Yes first w.control) o first s s h h
+  welcomed out_name in_name =
+      subst (λ (d : Control). Asks out_name in_name w.control d o first s s h h) (sym stays)
+      (record {
+        stands = w.stands;
+        stays = record { now = (turned_not o first h).now; writers = λ d. refl };
+        puts = λ names. puts_not out_name in_name names s.boxes s.boxes refl;
+        spare = λ m. omega arith;
+        lists = refl;
+        moves = record {
+          mine = w.there ∙ ap At (sym w.state);
+          others = λ i d here other. refl;
+          turned = subst (λ (ts : List (EndId × EndState)). TurnsBy ts h h) (sym (still_at first (place_of w.control first))) (turns_same h);
+        };
+      })
     where
-      c : Control
-      c = w.control
-
       stays : greet Yes first w.control ≡ w.control
       stays =
           ap (λ (b : Bool). if b then ask Closed false first w.control else (if w.control.struck first then ask Closed false first w.control else w.control)) w.unasked
@@ -96,11 +104,11 @@ module _ {N O I : Type 0} (s : State (Load N O I)) (h : Holding N) (o : ℕ) (fi
     pub tell_room : tells commands ≡ true → 0 < (mail_at mid.boxes (slot_of mid (owner_at mid.pairs (other_end first)).0)).spare
     tell_room is_told = subst (λ (b : List (Mail (Command (Load N O I)))). 0 < (mail_at b slot).spare) (sym boxes) room_there
 
-    pub asked : (out_name : O → N) (in_name : I → N) (m k : Holding N) (t : State (Load N O I)) → Stays o h m → Stays o m k → mid.objects.lists ≡ s.objects.lists →
+    pub asked : (out_name : O → N) (in_name : I → N) (m k : Holding N) (t : State (Load N O I)) → Stays o h m → TurnsTo first AskedOnce h m → Stays o m k → Seals first m k → mid.objects.lists ≡ s.objects.lists →
         Stands t (tell_other commands first (stepped (Asked reason false) first w.control)) →
         (tells commands ≡ true → t ≡ sent_to (slot_of mid (owner_at mid.pairs (other_end first)).0) (letter_for (owner_at mid.pairs (other_end first)) (told_word commands (other_end first)) None) mid) →
-        Asks out_name in_name (ask reason false first w.control) o s t h k
-    asked out_name in_name m k t set sealed lists now sent = record {
+        Asks out_name in_name w.control (ask reason false first w.control) o first s t h k
+    asked out_name in_name m k t set turns sealed seals lists now sent = record {
       stands = subst (λ (b : Bool). Stands t (if b then happens (Asked reason false) first w.control else w.control)) (sym (ap is_here w.there))
           (subst (λ (x : EndCommands). Stands t (tell_other x first (stepped (Asked reason false) first w.control))) told now);
       stays = (let both = turned_told o first h m k false set (turned_stays o first m k sealed) in record { now = both.now; writers = both.writers });
@@ -108,8 +116,29 @@ module _ {N O I : Type 0} (s : State (Load N O I)) (h : Holding N) (o : ℕ) (fi
           (puts_sent out_name in_name names s.boxes slot term (record { carries = refl; no_ends = refl }) room_there);
       spare = λ n. subst (λ (b : List (Mail (Command (Load N O I)))). (mail_at s.boxes n).spare ≤ (mail_at b n).spare + 1) (sym boxes_now) (sent_spare s.boxes slot term room_there n);
       lists = ap (λ (x : State (Load N O I)). x.objects.lists) is ∙ lists;
+      moves = record {
+        mine = place_is ∙ ap At (sym (moved.states o first here ∙ ap (λ (b : Bool). if b then AskedOnce else h.state first) (end_self first)));
+        others = λ i d is_here_d other. moved.states i d is_here_d ∙ ap (λ (b : Bool). if b then AskedOnce else h.state d) other;
+        turned = subst (λ (p : Place). TurnsBy (turn_at first p (place_of (ask reason false first w.control) first)) h k) (sym w.there)
+            (subst (λ (p : Place). TurnsBy (turn_at first (At Active) p) h k) (sym place_is)
+            (record { turns = moved.turns ∙ ap (λ (x : EndState). h.turns ++ (if is_state x AskedOnce then [] else (first, AskedOnce) ∷ [])) w.state; sealed = moved.sealed }));
+      };
     }
       where
+        place_is : place_of (ask reason false first w.control) first ≡ At AskedOnce
+        place_is =
+            ap (λ (b : Bool). place_of (if b then happens (Asked reason false) first w.control else w.control) first) (ap is_here w.there)
+            ∙ now_at w.control (Asked reason false) first Active w.there within first (end_self first)
+
+        same_lists : (i : ℕ) → k.ends i ≡ m.ends i
+        same_lists i = ends_same o first m k false (turned_stays o first m k sealed) i
+
+        here : has_end first (k.ends o) ≡ true
+        here = ap (has_end first) (sealed.now.ends ∙ set.now.ends) ∙ w.has
+
+        moved : ToldAs TermAndSeal first AskedOnce h k
+        moved = told_as TermAndSeal first AskedOnce h m k turns same_lists (record { states = seals.states; turns = seals.turns; sealed = seals.sealed })
+
         term : Command (Load N O I)
         term = letter_for (owner_at mid.pairs (other_end first)) (PipeTerm (other_end first)) None
 

@@ -1,5 +1,5 @@
 -- That a holder has the ends of its objects, once some more are attached.
-use Rattle.std.specs.Prelude.{◌≡◌, ◌≢◌, ◌<◌, ◌≤◌, ◌⊎◌, ◌==◌, ◌||◌, ◌++◌, ◌∷◌, [], ℕ, Bool, true, false, cond, List, Option, All, length, map, filter, if◌then◌else◌, refl}
+use Rattle.std.specs.Prelude.{◌≡◌, ◌≢◌, ◌<◌, ◌≤◌, ◌⊎◌, ◌==◌, ◌||◌, ◌++◌, ◌∷◌, [], ℕ, Bool, true, false, cond, List, Option, Some, None, All, length, map, filter, unwrap_or, if◌then◌else◌, refl}
 use Rattle.std.specs.List.{list_any}
 use Rattle.std.proofs.Common.{arith, sym, ap, ◌∙◌, subst, inl, inr}
 use Rattle.std.proofs.lemmas.Bool.{cases_eq, eq-eqb, ne_eqb}
@@ -8,12 +8,13 @@ use Rattle.std.proofs.lemmas.List.Elements.{All-append, All-cons, All-filter, Al
 use Rattle.std.proofs.lemmas.List.Folds.{list_any-append}
 use Rattle.zq_base.specs.declared.ids.EndId.{EndId}
 use Rattle.spec_control.specs.declared.end.Reason.{Reason}
-use Rattle.spec_control.specs.Place.{Place, is_here}
+use Rattle.spec_control.specs.declared.end.EndState.TheVariants.{Active}
+use Rattle.spec_control.specs.Place.{Place, At, is_here}
 use Rattle.spec_control.specs.Control.{Control, is_end, met_in, owner_of, place_of}
 use Rattle.control_held.specs.Held.{Held}
 use Rattle.control_rows.proofs.ListLemmas.{never}
 use Rattle.control_laws.proofs.AskLemmas.{end_self, same_end}
-use Rattle.ctl_holder.specs.Holding.{Holding, Joined, Stays, has_end}
+use Rattle.ctl_holder.specs.Holding.{Holding, Joined, KeepsTurns, BeginsActive, Stays, has_end}
 use Rattle.ctl_holder.specs.Lent.{has_writer, here_ends, place_by, owner_by, HasBothNames, HasEnds, HasAll}
 use Rattle.ctl_ends.proofs.HeldLemmas.{has_listed}
 use Rattle.ctl_joins.specs.Joined.{IsFresh, Attaches, Gets}
@@ -126,7 +127,8 @@ module _ (c d : Control) (o : ℕ) (es : List EndId) (a : Attaches c d o es) (kn
       (filter_none (λ e. owner_of d e == i) es (weaken (λ e. owner_of d e ≡ o) (λ e. (owner_of d e == i) ≡ false) (λ e is. ne_eqb (owner_of d e) i (λ same. other (sym same ∙ is))) es a.theirs))
       ∙ append-nil (here_ends c.rows.pairs c.attached i)
 
-  module _ {N : Type 0} (names : EndId → Option N) (hs : List (Held N)) (h k : Holding N) (g : Gets (length c.rows.pairs) o hs h k) (are : map (λ x. x.end) hs ≡ es) (named : All (HasBothNames names) hs) where
+  module _ {N : Type 0} (names : EndId → Option N) (hs : List (Held N)) (h k : Holding N) (g : Gets (length c.rows.pairs) o hs h k) (are : map (λ x. x.end) hs ≡ es) (named : All (HasBothNames names) hs)
+      (stated : (e : EndId) → has_end e hs ≡ true → place_of d e ≡ At (k.state e)) where
     new_among : (e : EndId) → has_end e hs ≡ true → list_any (is_end e) es ≡ true
     new_among e here = sym (ap (list_any (is_end e)) are) ∙ sym (has_listed e hs) ∙ here
 
@@ -190,10 +192,17 @@ module _ (c d : Control) (o : ℕ) (es : List EndId) (a : Attaches c d o es) (kn
           | inr new ↦ absurd (never (sym ((among_all (λ x. IsFresh (place_of d x)) e es a.fresh (new_among e new.1)).unmet (d.reasons e)) ∙ met))
         ]
 
+    states_now : (i : ℕ) → HasEnds names c.rows.pairs c.attached c.reasons h i → (e : EndId) → has_end e (k.ends i) ≡ true → place_of d e ≡ At (k.state e)
+    states_now i has e here =
+        elim (had_or_new i e here) [
+          | inl old ↦ let within = held_known names c h i known has e old in a.places e within ∙ has.states e old ∙ ap At (sym (g.states i e within here))
+          | inr new ↦ stated e new.1
+        ]
+
     pub has_more : HasAll names c h → HasAll names d k
     has_more has i holds =
         let was = has i (sym (g.objects i) ∙ holds) in
-        record { ends = ends_now i was; named = named_now i was; writes = writes_now i was; delimiters = met_now i was }
+        record { ends = ends_now i was; named = named_now i was; writes = writes_now i was; delimiters = met_now i was; states = states_now i was }
 
 -- ---- at the holder
 or_left : (a b : Bool) → a ≡ true → (a || b) ≡ true
@@ -205,7 +214,7 @@ or_right true b is = refl
 or_right false b is = is
 
 module _ {N : Type 0} where
-  stay_same : (o : ℕ) (m k : Holding N) → Stays o m k → (i : ℕ) → k.ends i ≡ m.ends i
+  pub stay_same : (o : ℕ) (m k : Holding N) → Stays o m k → (i : ℕ) → k.ends i ≡ m.ends i
   stay_same o m k stays i =
       elim (cases_eq i o) [
         | inl same ↦ subst (λ (n : ℕ). k.ends n ≡ m.ends n) (sym same) stays.now.ends
@@ -213,7 +222,7 @@ module _ {N : Type 0} where
       ]
 
   -- an end that was there stands before those that came
-  still_there : (o : ℕ) (hs : List (Held N)) (h k : Holding N) → k.ends o ≡ h.ends o ++ hs → ((i : ℕ) → i ≢ o → k.ends i ≡ h.ends i) → (i : ℕ) (e : EndId) → has_end e (h.ends i) ≡ true → has_end e (k.ends i) ≡ true
+  pub still_there : (o : ℕ) (hs : List (Held N)) (h k : Holding N) → k.ends o ≡ h.ends o ++ hs → ((i : ℕ) → i ≢ o → k.ends i ≡ h.ends i) → (i : ℕ) (e : EndId) → has_end e (h.ends i) ≡ true → has_end e (k.ends i) ≡ true
   still_there o hs h k ends others i e here =
       elim (cases_eq i o) [
         | inl same ↦
@@ -222,9 +231,31 @@ module _ {N : Type 0} where
         | inr other ↦ ap (has_end e) (others i other) ∙ here
       ]
 
+  -- an end that is there, and is not the one that joined, was there
+  was_there : (o : ℕ) (x : Held N) (m k : Holding N) → Joined o x m k → (i : ℕ) (e : EndId) → is_end e x.end ≡ false → has_end e (k.ends i) ≡ true → has_end e (m.ends i) ≡ true
+  was_there o x m k joined i e other here =
+      elim (cases_eq i o) [
+        | inl same ↦
+            subst (λ (n : ℕ). has_end e (m.ends n) ≡ true) (sym same)
+            (only (has_end e (m.ends o)) (is_end e x.end) other
+            (sym (list_any-append (λ y. is_end e y.end) (m.ends o) (x ∷ [])) ∙ sym (ap (has_end e) joined.now.ends) ∙ subst (λ (n : ℕ). has_end e (k.ends n) ≡ true) same here))
+        | inr elsewhere ↦ sym (ap (has_end e) (joined.now.others i elsewhere)) ∙ here
+      ]
+    where
+      only : (a b : Bool) → b ≡ false → (a || (b || false)) ≡ true → a ≡ true
+      only true b f g = refl
+      only false true f g = absurd (never (sym f))
+      only false false f g = g
+
+  -- an end that joins is Active
+  pub attach_active : (o : ℕ) (x : Held N) (m k : Holding N) → Joined o x m k → BeginsActive x.end m k → k.state x.end ≡ Active
+  attach_active o x m k joined begins =
+      begins.states o x.end (ap (has_end x.end) joined.now.ends ∙ list_any-append (λ y. is_end x.end y.end) (m.ends o) (x ∷ []) ∙ or_right (has_end x.end (m.ends o)) (is_end x.end x.end || false) (or_left (is_end x.end x.end) false (end_self x.end)))
+      ∙ ap (λ (b : Bool). unwrap_or (if b then Some Active else None) (m.state x.end)) (end_self x.end)
+
   -- all stayed, and an end joined
-  pub attach_gets : (o : ℕ) (x : Held N) (h m k : Holding N) → Stays o h m → Joined o x m k → (n : ℕ) → n ≤ x.end.pair.0 → Gets n o (x ∷ []) h k
-  attach_gets o x h m k stays joined n past = record {
+  pub attach_gets : (o : ℕ) (x : Held N) (h m k : Holding N) → Stays o h m → KeepsTurns h m → Joined o x m k → BeginsActive x.end m k → (n : ℕ) → n ≤ x.end.pair.0 → Gets n o (x ∷ []) h k
+  attach_gets o x h m k stays keeps joined begins n past = record {
     ends = joined.now.ends ∙ ap (λ (hs : List (Held N)). hs ++ x ∷ []) stays.now.ends;
     others = λ i other. joined.now.others i other ∙ stays.now.others i other;
     objects = λ i. joined.now.objects i ∙ stays.now.objects i;
@@ -235,6 +266,9 @@ module _ {N : Type 0} where
     delimiters = λ i e here at.
         (let mid = ap (has_end e) (stay_same o h m stays i) ∙ here in
         joined.now.delimiters i e (still_there o (x ∷ []) m k joined.now.ends joined.now.others i e mid) (stays.now.delimiters i e mid at));
+    states = λ i e less here.
+        (let other = another e less (is_end e x.end) refl in
+        begins.states i e here ∙ ap (λ (b : Bool). unwrap_or (if b then Some Active else None) (m.state e)) other ∙ keeps.states i e (was_there o x m k joined i e other here));
   }
     where
       another : (e : EndId) → e.pair.0 < n → (b : Bool) → is_end e x.end ≡ b → is_end e x.end ≡ false
@@ -245,8 +279,8 @@ module _ {N : Type 0} where
           both same = omega (arith, same, less, past)
 
   -- and then all stayed
-  pub gets_stays : (n o : ℕ) (hs : List (Held N)) (h m k : Holding N) → Gets n o hs h m → Stays o m k → Gets n o hs h k
-  gets_stays n o hs h m k gets stays = record {
+  pub gets_stays : (n o : ℕ) (hs : List (Held N)) (h m k : Holding N) → Gets n o hs h m → Stays o m k → ((i : ℕ) (e : EndId) → e.pair.0 < n → has_end e (k.ends i) ≡ true → k.state e ≡ m.state e) → Gets n o hs h k
+  gets_stays n o hs h m k gets stays same = record {
     ends = stays.now.ends ∙ gets.ends;
     others = λ i other. stays.now.others i other ∙ gets.others i other;
     objects = λ i. stays.now.objects i ∙ gets.objects i;
@@ -256,6 +290,7 @@ module _ {N : Type 0} where
     mine = λ j y lt. stays.writers _ ∙ gets.mine j y lt;
     delimiters = λ i e here at.
         stays.now.delimiters i e (ap (has_end e) (stay_same o m k stays i) ∙ still_there o hs h m gets.ends gets.others i e here) (gets.delimiters i e here at);
+    states = λ i e less here. same i e less here ∙ gets.states i e less (sym (ap (has_end e) (stay_same o m k stays i)) ∙ here);
   }
 
   module _ (n o : ℕ) (x : Held N) (h k : Holding N) (gets : Gets n o (x ∷ []) h k) where
@@ -269,8 +304,8 @@ module _ {N : Type 0} where
     gets_writes = All-head (λ y. k.writes y.end ≡ true) x [] gets.mine
 
   -- a holder whose ends stayed has what it had
-  pub has_stays : (names : EndId → Option N) (c : Control) (o : ℕ) (h k : Holding N) → Stays o h k → HasAll names c h → HasAll names c k
-  has_stays names c o h k stays has i holds =
+  pub has_stays : (names : EndId → Option N) (c : Control) (o : ℕ) (h k : Holding N) → Stays o h k → KeepsTurns h k → HasAll names c h → HasAll names c k
+  has_stays names c o h k stays keeps has i holds =
       let was = has i (sym (stays.now.objects i) ∙ holds) in
       let same = stay_same o h k stays i in
       record {
@@ -278,4 +313,5 @@ module _ {N : Type 0} where
         named = subst (λ (hs : List (Held N)). All (HasBothNames names) hs) (sym same) was.named;
         writes = λ e here. stays.writers e ∙ was.writes e (sym (ap (has_end e) same) ∙ here);
         delimiters = λ e here met. stays.now.delimiters i e here (was.delimiters e (sym (ap (has_end e) same) ∙ here) met);
+        states = λ e here. was.states e (sym (ap (has_end e) same) ∙ here) ∙ ap At (sym (keeps.states i e here));
       }

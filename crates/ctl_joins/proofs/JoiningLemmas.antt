@@ -6,11 +6,13 @@ use Rattle.zq_base.specs.declared.ids.EndId.{EndId}
 use Rattle.mailbox.specs.Mail.{Mail}
 use Rattle.spec_control.specs.declared.letter.Word.{Word}
 use Rattle.spec_control.specs.declared.letter.Word.TheVariants.{PipeBind}
-use Rattle.spec_control.specs.Place.{is_unmade}
+use Rattle.spec_control.specs.declared.end.EndState.{EndState}
+use Rattle.spec_control.specs.declared.end.EndState.TheVariants.{Active}
+use Rattle.spec_control.specs.Place.{Place, Unmade, Away, At, is_unmade}
 use Rattle.spec_control.specs.PairPhase.{Opens as IsOpened}
 use Rattle.spec_control.specs.Stage.{was_asked}
 use Rattle.spec_control.specs.Rows.{PairRow, no_pair, obj, end_place}
-use Rattle.spec_control.specs.Control.{Control, greet, open_pair, owner_of}
+use Rattle.spec_control.specs.Control.{Control, greet, open_pair, owner_of, place_of}
 use Rattle.zq_base.specs.declared.attached.Attached.{Attached}
 use Rattle.control_rows.proofs.ListLemmas.{never}
 use Rattle.control_laws.proofs.AttachLemmas.{attach_moved}
@@ -19,9 +21,11 @@ use Rattle.ctl_holder.specs.declared.halves.NamedHalves.{NamedHalves}
 use Rattle.ctl_holder.specs.declared.load.Load.{Load}
 use Rattle.ctl_holder.specs.declared.load.Load.TheVariants.{Halves}
 use Rattle.ctl_holder.specs.Holding.{Holding}
+use Rattle.ctl_holder.specs.Turns.{TurnsBy, turn_at}
 use Rattle.ctl_holder.specs.Load.{BringsHalvesOf, Carries, brings_ends}
 use Rattle.ctl_ends.specs.Turning.{IsLoaded, PutsLoaded}
 use Rattle.ctl_ends.proofs.HeldLemmas.{other_twice}
+use Rattle.ctl_ends.proofs.TurnedLemmas.{from_unmade}
 use Rattle.ctl_ends.proofs.MailLemmas.{puts_on, puts_sent}
 use Rattle.ctl_state.specs.declared.command.Command.{Command}
 use Rattle.ctl_state.specs.declared.state.State.{State}
@@ -90,12 +94,14 @@ module _ {N O I : Type 0} (out_name : O → N) (in_name : I → N) (s : State (L
       unstruck = w.unstruck;
       has = w.has;
       writes = w.writes;
+      state = w.state;
       room =
           subst (λ (n : ℕ). 0 < (mail_at mid.boxes (obj w.control.rows n).slot).spare) (sym (opened_owner w.control first (other_end first)))
           (let one = spare_bind (obj w.control.rows (owner_of w.control (other_end first))).slot in let two = w.room in omega (arith, one, two));
     }
 
-    pub joins_pair : (answer : Attached) (t : State (Load N O I)) (k : Holding N) → Asks out_name in_name (greet answer first (open_pair first (PipeBind (other_end first) identity) w.control)) o mid t h k →
+    pub joins_pair : (answer : Attached) (t : State (Load N O I)) (k : Holding N) →
+        Asks out_name in_name (open_pair first (PipeBind (other_end first) identity) w.control) (greet answer first (open_pair first (PipeBind (other_end first) identity) w.control)) o first mid t h k →
         JoinsPair out_name in_name w.control (greet answer first (open_pair first (PipeBind (other_end first) identity) w.control)) o first other s t h k
     joins_pair answer t k asks = record {
       stands = asks.stands;
@@ -103,4 +109,13 @@ module _ {N O I : Type 0} (out_name : O → N) (in_name : I → N) (s : State (L
       puts = λ names written read. puts_on out_name in_name names s.boxes mid.boxes t.boxes (puts_bind names written read) (asks.puts names);
       spare = λ m. (let one = spare_bind m in let more = asks.spare m in omega (arith, one, more));
       lists = asks.lists ∙ opened.lists;
+      moves = record {
+        mine = asks.moves.mine;
+        others = asks.moves.others;
+        turned = subst (λ (ts : List (EndId × EndState)). TurnsBy ts h k)
+            (ap (λ (p : Place). turn_at first p last) may_greet.there ∙ sym (from_unmade first last) ∙ sym (ap (λ (p : Place). turn_at first p last) w.mine)) asks.moves.turned;
+      };
     }
+      where
+        last : Place
+        last = place_of (greet answer first (open_pair first (PipeBind (other_end first) identity) w.control)) first

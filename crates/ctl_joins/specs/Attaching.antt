@@ -1,8 +1,10 @@
 -- The first end of a pair is attached at its holder (own choice, after libzmq's `pipe_t`).
 use Rattle.std.specs.Prelude.{◌≡◌, ◌≤◌, ◌∷◌, [], ℕ}
 use Rattle.zq_base.specs.declared.ids.EndId.{EndId}
+use Rattle.spec_control.specs.declared.end.EndState.TheVariants.{Active}
 use Rattle.control_held.specs.Held.{Held}
 use Rattle.ctl_holder.specs.Holding.{Holding, MayRefuse}
+use Rattle.ctl_holder.specs.Turns.{TurnsBy}
 use Rattle.ctl_joins.specs.declared.attaching.FirstEnd.{FirstEnd}
 use Rattle.ctl_joins.specs.Joined.{Gets}
 
@@ -20,3 +22,5 @@ module _ {N O I : Type 0} (out_name : O → N) (in_name : I → N) where
     pub other_read : f.other.read ≡ f.told.written
     pub other_out : out_name f.other.halves.out ≡ f.other.written
     pub other_in : in_name f.other.halves.input ≡ f.other.read
+    pub active : k.state end ≡ Active
+    pub turned : TurnsBy [] h k

@@ -5,14 +5,16 @@ use Rattle.zq_base.specs.declared.endpoint.Endpoint.{Endpoint}
 use Rattle.zq_base.specs.declared.ids.PairId.{PairId}
 use Rattle.spec_control.specs.declared.letter.Word.TheVariants.{PipeBind}
 use Rattle.spec_control.specs.Hold.{Joined as IsJoined}
+use Rattle.spec_control.specs.Place.{Unmade, At}
 use Rattle.spec_control.specs.Stage.{was_asked}
 use Rattle.spec_control.specs.Rows.{obj}
 use Rattle.spec_control.specs.After.{with_hold}
-use Rattle.spec_control.specs.Control.{Control, draws, end_of, greet, next_pair, open_pair}
+use Rattle.spec_control.specs.Control.{Control, draws, end_of, greet, next_pair, open_pair, place_of}
 use Rattle.zq_base.specs.declared.ids.EndId.{EndId}
 use Rattle.ctl_holder.specs.declared.load.Load.{Load}
 use Rattle.ctl_holder.specs.Holding.{Holding, MayRefuse}
 use Rattle.ctl_holder.specs.Lent.{HasAll}
+use Rattle.ctl_holder.specs.Turns.{TurnsBy, turn_at}
 use Rattle.ctl_ends.specs.Turning.{PutsLoaded}
 use Rattle.ctl_state.specs.declared.state.State.{State}
 use Rattle.ctl_state.specs.Listed.{with_room}
@@ -72,5 +74,7 @@ module _ {N O I : Type 0} where
     pub opened : notes.opened.items ≡ pipes_named (end_of pair.0 true) told
     pub gets : Gets (next_pair c) o.first.0 (record { end = end_of pair.0 true; written = told.written; read = told.read } ∷ []) h k
     pub puts : (names : EndId → Option N) → names (end_of pair.0 false) ≡ Some told.read → names (end_of pair.0 true) ≡ Some told.written → PutsLoaded out_name in_name names (with_commands o s).boxes t.boxes
+    pub mine : place_of (connected_now c o at pair.0 answer) (end_of pair.0 true) ≡ At (k.state (end_of pair.0 true))
+    pub turned : TurnsBy (turn_at (end_of pair.0 true) Unmade (place_of (connected_now c o at pair.0 answer) (end_of pair.0 true))) h k
     -- an end more fits into the other socket's list
     pub places : (i : ℕ) → (belongings_at s.objects.lists i).ends.spare + cond (o.last.0 == i) 1 0 ≤ (belongings_at t.objects.lists i).ends.spare

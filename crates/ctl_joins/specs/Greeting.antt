@@ -3,16 +3,24 @@ use Rattle.std.specs.Prelude.{◌≡◌, ◌<◌, ◌≤◌, ◌+◌, ℕ, true,
 use Rattle.zq_base.specs.Ends.{other_end}
 use Rattle.zq_base.specs.declared.ids.EndId.{EndId}
 use Rattle.spec_control.specs.declared.end.EndState.TheVariants.{Active}
-use Rattle.spec_control.specs.Place.{At}
+use Rattle.spec_control.specs.Place.{Place, At}
 use Rattle.spec_control.specs.Stage.{was_asked}
 use Rattle.spec_control.specs.Rows.{obj}
-use Rattle.spec_control.specs.Control.{Control, owner_of, place_of}
+use Rattle.spec_control.specs.Control.{Control, is_end, owner_of, place_of}
 use Rattle.ctl_holder.specs.declared.load.Load.{Load}
 use Rattle.ctl_holder.specs.Holding.{Holding, Stays, has_end}
+use Rattle.ctl_holder.specs.Turns.{TurnsBy, turn_at}
 use Rattle.ctl_ends.specs.Turning.{PutsLoaded}
 use Rattle.ctl_state.specs.declared.state.State.{State}
 use Rattle.ctl_state.specs.Boxes.{mail_at}
 use Rattle.ctl_state.specs.Stands.{Stands}
+
+module _ {N : Type 0} where
+  -- of its ends one went from one place to another, and it was told so
+  pub record MovesOne (e : EndId) (was now : Place) (h k : Holding N) : Type 0 where
+    pub mine : now ≡ At (k.state e)
+    pub others : (i : ℕ) (d : EndId) → has_end d (k.ends i) ≡ true → is_end d e ≡ false → k.state d ≡ h.state d
+    pub turned : TurnsBy (turn_at e was now) h k
 
 module _ {N O I : Type 0} where
   -- an end was just attached, its owner was not asked, its connect was not struck, and there is room for its asking at the other end's owner
@@ -24,12 +32,14 @@ module _ {N O I : Type 0} where
     pub unstruck : control.struck first ≡ false
     pub has : has_end first (h.ends o) ≡ true
     pub writes : h.writes first ≡ true
+    pub state : h.state first ≡ Active
     pub room : 0 < (mail_at s.boxes (obj control.rows (owner_of control (other_end first))).slot).spare
 
-  -- the state was changed so with the holder, which has the same ends, and a PipeTerm was put at the most
-  pub record Asks (out_name : O → N) (in_name : I → N) (now : Control) (o : ℕ) (s t : State (Load N O I)) (h k : Holding N) : Type 0 where
+  -- the state was changed so with the holder, which has the same ends and was told of the change of this one, and a PipeTerm was put at the most
+  pub record Asks (out_name : O → N) (in_name : I → N) (was now : Control) (o : ℕ) (first : EndId) (s t : State (Load N O I)) (h k : Holding N) : Type 0 where
     pub stands : Stands t now
     pub stays : Stays o h k
     pub puts : (names : EndId → Option N) → PutsLoaded out_name in_name names s.boxes t.boxes
     pub spare : (m : ℕ) → (mail_at s.boxes m).spare ≤ (mail_at t.boxes m).spare + 1
     pub lists : t.objects.lists ≡ s.objects.lists
+    pub moves : MovesOne first (place_of was first) (place_of now first) h k

@@ -35,3 +35,4 @@ module _ {N : Type 0} where
     pub writers : (e : EndId) → e.pair.0 < n → k.writes e ≡ h.writes e
     pub mine : All (λ x. k.writes x.end ≡ true) hs
     pub delimiters : (i : ℕ) (e : EndId) → has_end e (h.ends i) ≡ true → h.at_delimiter e ≡ true → k.at_delimiter e ≡ true
+    pub states : (i : ℕ) (e : EndId) → e.pair.0 < n → has_end e (k.ends i) ≡ true → k.state e ≡ h.state e

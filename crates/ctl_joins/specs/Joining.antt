@@ -3,6 +3,7 @@ use Rattle.std.specs.Prelude.{◌≡◌, ◌≤◌, ◌<◌, ◌+◌, ◌^◌, �
 use Rattle.zq_base.specs.Ends.{other_end}
 use Rattle.zq_base.specs.declared.ids.EndId.{EndId}
 use Rattle.spec_control.specs.Stage.{has_ended, was_asked}
+use Rattle.spec_control.specs.declared.end.EndState.TheVariants.{Active}
 use Rattle.spec_control.specs.Place.{Unmade}
 use Rattle.spec_control.specs.Rows.{obj}
 use Rattle.spec_control.specs.Control.{Control, owner_of, place_of}
@@ -15,6 +16,7 @@ use Rattle.ctl_state.specs.Boxes.{mail_at}
 use Rattle.ctl_state.specs.Listed.{with_last}
 use Rattle.ctl_state.specs.Lists.{belongings_at, with_ends}
 use Rattle.ctl_state.specs.Stands.{Stands}
+use Rattle.ctl_joins.specs.Greeting.{MovesOne}
 
 module _ {N O I : Type 0} (out_name : O → N) (in_name : I → N) where
   -- each half is of the pipe that is named
@@ -37,6 +39,7 @@ module _ {N O I : Type 0} (out_name : O → N) (in_name : I → N) where
     pub room : 2 ≤ (mail_at s.boxes (obj control.rows (owner_of control (other_end first))).slot).spare
     pub has : has_end first (h.ends o) ≡ true
     pub writes : h.writes first ≡ true
+    pub state : h.state first ≡ Active
     pub halves : AreNamedHalves other
 
   -- the state was changed so with the holder, which has the same ends; the other end's bind was put with its halves, and a PipeTerm at the most
@@ -46,3 +49,4 @@ module _ {N O I : Type 0} (out_name : O → N) (in_name : I → N) where
     pub puts : (names : EndId → Option N) → names (other_end first) ≡ Some other.written → names first ≡ Some other.read → PutsLoaded out_name in_name names s.boxes t.boxes
     pub spare : (m : ℕ) → (mail_at s.boxes m).spare ≤ (mail_at t.boxes m).spare + 2
     pub lists : t.objects.lists ≡ with_ends (with_last first) (owner_of c first) s.objects.lists
+    pub moves : MovesOne first (place_of c first) (place_of now first) h k

@@ -20,7 +20,7 @@ where
     P::Name: Drop,
     requires may { MayGreet state.old (H.holding holder.old) o.0 first }
     ensures { (w : MayGreet state.old (H.holding holder.old) o.0 first) →
-        Asks P.known.out_name P.known.in_name (ask reason false first w.control) o.0
+        Asks P.known.out_name P.known.in_name w.control (ask reason false first w.control) o.0 first
         state.old state.new (H.holding holder.old) (H.holding holder.new) }
 {
     state.needs();
@@ -42,7 +42,7 @@ where
     P::Name: Drop,
     requires may { MayGreet state.old (H.holding holder.old) o.0 first }
     ensures { (w : MayGreet state.old (H.holding holder.old) o.0 first) →
-        Asks P.known.out_name P.known.in_name (greet answer first w.control) o.0
+        Asks P.known.out_name P.known.in_name w.control (greet answer first w.control) o.0 first
         state.old state.new (H.holding holder.old) (H.holding holder.new) }
 {
     match answer {

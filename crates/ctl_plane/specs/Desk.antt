@@ -1,5 +1,5 @@
 -- What a caller's moments are after a call of its desk (own choice).
-use Rattle.std.specs.Prelude.{◌≡◌, ◌<◌, ◌==◌, ◌⊎◌, ℕ, Bool, true, false, List, [], ◌∷◌, ◌++◌, Some, Option, None, count_by}
+use Rattle.std.specs.Prelude.{◌≡◌, ◌<◌, ◌==◌, ◌⊎◌, ℕ, Bool, true, false, List, [], ◌∷◌, ◌++◌, Some, Option, None, count_by, flat_map}
 use Rattle.std.specs.List.{list_any}
 use Rattle.zq_base.specs.declared.ids.EndId.{EndId}
 use Rattle.zq_base.specs.declared.ids.SlotId.{SlotId}
@@ -14,17 +14,19 @@ use Rattle.spec_control.specs.declared.entry.SeenEmpty.TheVariants.{Nothing, Mai
 use Rattle.spec_control.specs.declared.entry.Sight.{Sight}
 use Rattle.spec_control.specs.declared.entry.Item.{Item}
 use Rattle.spec_control.specs.declared.entry.Item.TheVariants.{Event, Seen}
+use Rattle.spec_control.specs.Place.{At}
 use Rattle.spec_control.specs.Rows.{obj}
 use Rattle.spec_control.specs.Control.{Control, met_in, place_of}
 use Rattle.control_held.specs.Held.{ends_after}
 use Rattle.control_held.specs.Has.{has_after}
-use Rattle.control_held.specs.Moments.{Moment, items_in, left_after, first_waiting}
+use Rattle.control_held.specs.Moments.{Moment, items_in, left_after, left_by, first_waiting}
 use Rattle.ctl_plane.specs.declared.delivery.Delivery.{Delivery}
 use Rattle.ctl_plane.specs.declared.delivery.Delivery.TheVariants.{Done, Empty}
 use Rattle.ctl_plane.specs.declared.pumped.Pumped.{Pumped}
 use Rattle.ctl_plane.specs.declared.pumped.Pumped.TheVariants.{More, Drained}
 use Rattle.ctl_holder.specs.Holding.{Holding, has_end}
 use Rattle.ctl_holder.specs.Lent.{has_writer}
+use Rattle.ctl_holder.specs.Turns.{TurnsBy, turned_in}
 
 -- an end of an object that the holder has
 pub record HoldsEnd {N : Type 0} (e : EndId) (h : Holding N) : Type 0 where
@@ -50,6 +52,16 @@ module _ {N S : Type 0} where
     pub ends : (i : ℕ) → h.holds i ≡ true → h.ends i ≡ ends_after i (items_in moments)
     pub writes : (i : ℕ) (e : EndId) → h.holds i ≡ true → has_end e (h.ends i) ≡ true → h.writes e ≡ has_writer (place_of (left_after i moments) e)
     pub delimiters : (i : ℕ) (e : EndId) → h.holds i ≡ true → has_end e (h.ends i) ≡ true → met_in (place_of (left_after i moments) e) ((left_after i moments).reasons e) ≡ true → h.at_delimiter e ≡ true
+    pub states : (i : ℕ) (e : EndId) → h.holds i ≡ true → has_end e (h.ends i) ≡ true → place_of (left_after i moments) e ≡ At (h.state e)
+
+  -- in these moments more a holder was told of each change of state of its ends, each once, and to seal the pipes of those that were asked
+  abbrev pub TurnsWith : (old new : List (Moment N S)) → (before now : Holding N) → Type 0
+  TurnsWith old new before now = (more : List (Moment N S)) → new ≡ old ++ more → TurnsBy (flat_map (λ m. turned_in m.found (left_by m)) more) before now
+
+  -- it has what the moments say, once it was told of those that are new
+  pub record KeepsUp (by : ℕ) (old new : List (Moment N S)) (before now : Holding N) : Type 0 where
+    pub has : HasWhatTheySay by new now
+    pub turned : TurnsWith old new before now
 
   -- the mailbox of an object that the holder has
   pub record IsItsMailbox (slot : ℕ) (moments : List (Moment N S)) (h : Holding N) : Type 0 where

@@ -18,7 +18,7 @@ pub trait Calls<P: Pipes> {
     ghost use Rattle.control_held.specs.OwnAsks.{known_after};
     ghost use Rattle.ctl_holder.specs.Holding.{Holding};
     ghost use Rattle.control_held.specs.Moments.{items_in};
-    ghost use Rattle.ctl_plane.specs.Desk.{HasWhatTheySay, AsksOnce, GoesOn, Pumps};
+    ghost use Rattle.ctl_plane.specs.Desk.{HasWhatTheySay, KeepsUp, AsksOnce, GoesOn, Pumps};
 
     /// The number of the socket.
     ghost owner: { Self → ℕ };
@@ -39,8 +39,8 @@ pub trait Calls<P: Pipes> {
         ensures ok { IfOk result (λ reply. AsksOnce (D.number desk.old)
             (Bind (id (owner self.old)) at.now) reply (D.moments desk.old) (D.moments desk.new)) }
         ensures err { OnErr result (D.moments desk.new ≡ D.moments desk.old) }
-        ensures has_still { HasWhatTheySay (D.number desk.new) (D.moments desk.new)
-            (holding self.new) }
+        ensures has_still { KeepsUp (D.number desk.new) (D.moments desk.old) (D.moments desk.new)
+            (holding self.old) (holding self.new) }
         ensures same { (owner self.new ≡ owner self.old)
             × (D.number desk.new ≡ D.number desk.old) };
 
@@ -57,8 +57,8 @@ pub trait Calls<P: Pipes> {
         ensures ok { IfOk result (λ reply. AsksOnce (D.number desk.old)
             (Connect (id (owner self.old)) at.now) reply (D.moments desk.old) (D.moments desk.new)) }
         ensures err { OnErr result (D.moments desk.new ≡ D.moments desk.old) }
-        ensures has_still { HasWhatTheySay (D.number desk.new) (D.moments desk.new)
-            (holding self.new) }
+        ensures has_still { KeepsUp (D.number desk.new) (D.moments desk.old) (D.moments desk.new)
+            (holding self.old) (holding self.new) }
         ensures same { (owner self.new ≡ owner self.old)
             × (D.number desk.new ≡ D.number desk.old) };
 
@@ -75,8 +75,8 @@ pub trait Calls<P: Pipes> {
         ensures ok { IfOk result (λ reply. AsksOnce (D.number desk.old)
             (Unbind (id (owner self.old)) at.now) reply (D.moments desk.old) (D.moments desk.new)) }
         ensures err { OnErr result (D.moments desk.new ≡ D.moments desk.old) }
-        ensures has_still { HasWhatTheySay (D.number desk.new) (D.moments desk.new)
-            (holding self.new) }
+        ensures has_still { KeepsUp (D.number desk.new) (D.moments desk.old) (D.moments desk.new)
+            (holding self.old) (holding self.new) }
         ensures same { (owner self.new ≡ owner self.old)
             × (D.number desk.new ≡ D.number desk.old) };
 
@@ -93,8 +93,8 @@ pub trait Calls<P: Pipes> {
         ensures ok { IfOk result (λ reply. AsksOnce (D.number desk.old)
             (Disconnect (id (owner self.old)) at.now) reply (D.moments desk.old) (D.moments desk.new)) }
         ensures err { OnErr result (D.moments desk.new ≡ D.moments desk.old) }
-        ensures has_still { HasWhatTheySay (D.number desk.new) (D.moments desk.new)
-            (holding self.new) }
+        ensures has_still { KeepsUp (D.number desk.new) (D.moments desk.old) (D.moments desk.new)
+            (holding self.old) (holding self.new) }
         ensures same { (owner self.new ≡ owner self.old)
             × (D.number desk.new ≡ D.number desk.old) };
 
@@ -110,8 +110,8 @@ pub trait Calls<P: Pipes> {
         ensures ok { IfOk result (λ pumped.
             Pumps (owner self.old) pumped (D.moments desk.old) (D.moments desk.new)) }
         ensures err { OnErr result (GoesOn (D.moments desk.old) (D.moments desk.new)) }
-        ensures has_still { HasWhatTheySay (D.number desk.new) (D.moments desk.new)
-            (holding self.new) }
+        ensures has_still { KeepsUp (D.number desk.new) (D.moments desk.old) (D.moments desk.new)
+            (holding self.old) (holding self.new) }
         ensures same { (owner self.new ≡ owner self.old)
             × (D.number desk.new ≡ D.number desk.old) };
 }

@@ -18,7 +18,7 @@ pub trait Desk<P: Pipes> {
     ghost use Rattle.control_held.specs.Moments.{items_in, left_after};
     ghost use Rattle.control_held.specs.Has.{has_after};
     ghost use Rattle.spec_control.specs.Rows.{obj};
-    ghost use Rattle.ctl_plane.specs.Desk.{HasWhatTheySay, AsksOnce, GivesOrNot, DelimitsOrNot};
+    ghost use Rattle.ctl_plane.specs.Desk.{HasWhatTheySay, KeepsUp, AsksOnce, GivesOrNot, DelimitsOrNot};
     ghost use Rattle.ctl_plane.specs.Desk.{ReapsOrNot, LooksOrNot, MayTakeFrom, HoldsEnd};
 
     /// The caller's number.
@@ -53,7 +53,8 @@ pub trait Desk<P: Pipes> {
             AsksOnce (number self.old) request reply (moments self.old) (moments self.new)) }
         ensures err { OnErr result (moments self.new ≡ moments self.old) }
         ensures keeps { (number self.new ≡ number self.old)
-            × HasWhatTheySay (number self.new) (moments self.new) (H.holding holder.new) };
+            × KeepsUp (number self.new) (moments self.old) (moments self.new)
+            (H.holding holder.old) (H.holding holder.new) };
 
     /// Processes the oldest command of a mailbox, or finds it empty. Want of memory leaves the
     /// command where it was.
@@ -72,7 +73,8 @@ pub trait Desk<P: Pipes> {
             GivesOrNot (number self.old) slot found (moments self.old) (moments self.new)) }
         ensures err { OnErr result (moments self.new ≡ moments self.old) }
         ensures keeps { (number self.new ≡ number self.old)
-            × HasWhatTheySay (number self.new) (moments self.new) (H.holding holder.new) };
+            × KeepsUp (number self.new) (moments self.old) (moments self.new)
+            (H.holding holder.old) (H.holding holder.new) };
 
     /// Processes the oldest command of the first of the reaper's mailboxes that is not empty, in the
     /// order of the root's and those of the closed sockets that it took over, or finds all of them
@@ -89,7 +91,8 @@ pub trait Desk<P: Pipes> {
             ReapsOrNot (number self.old) found (moments self.old) (moments self.new)) }
         ensures err { OnErr result (moments self.new ≡ moments self.old) }
         ensures keeps { (number self.new ≡ number self.old)
-            × HasWhatTheySay (number self.new) (moments self.new) (H.holding holder.new) };
+            × KeepsUp (number self.new) (moments self.old) (moments self.new)
+            (H.holding holder.old) (H.holding holder.new) };
 
     /// Tells that an end is at the delimiter of the pipe that it reads. Answers whether its state
     /// is one in which that is looked at; else nothing happens.
@@ -100,7 +103,8 @@ pub trait Desk<P: Pipes> {
         ensures found { DelimitsOrNot (number self.old) end result
             (moments self.old) (moments self.new) }
         ensures keeps { (number self.new ≡ number self.old)
-            × HasWhatTheySay (number self.new) (moments self.new) (H.holding holder.new) };
+            × KeepsUp (number self.new) (moments self.old) (moments self.new)
+            (H.holding holder.old) (H.holding holder.new) };
 
     /// Looks at mailboxes, at the root's state, at how many objects live, and whether there is room
     /// for one session more.

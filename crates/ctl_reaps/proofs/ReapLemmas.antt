@@ -1,8 +1,9 @@
 -- What the reaper has once it has taken the ends of a closed socket.
-use Rattle.std.specs.Prelude.{◌≡◌, ◌≢◌, ◌<◌, ◌==◌, ◌&&◌, ◌||◌, ◌⊎◌, ◌∷◌, [], ℕ, Bool, true, false, List, None, All, filter, is_some, map, if◌then◌else◌, refl}
+use Rattle.std.specs.Prelude.{◌≡◌, ◌≢◌, ◌<◌, ◌==◌, ◌&&◌, ◌||◌, ◌⊎◌, ◌∷◌, [], ℕ, Bool, true, false, List, Some, None, All, filter, is_some, map, unwrap_or, if◌then◌else◌, refl}
 use Rattle.std.specs.List.{list_any}
 use Rattle.std.proofs.Common.{sym, ap, ◌∙◌, subst, inl, inr}
 use Rattle.std.proofs.lemmas.Bool.{cases_eq, eqb-true}
+use Rattle.std.proofs.lemmas.List.{append-nil}
 use Rattle.std.proofs.lemmas.List.Elements.{All-nil, All-cons, All-head, All-tail, All-weaker, All-map, All-filter, filter_passes}
 use Rattle.zq_base.specs.declared.ids.EndId.{EndId}
 use Rattle.zq_base.specs.declared.ids.ObjId.{ObjId}
@@ -13,7 +14,8 @@ use Rattle.spec_control.specs.declared.stage.Stage.TheVariants.{Alive, Told, End
 use Rattle.spec_control.specs.declared.stage.Use.{Use}
 use Rattle.spec_control.specs.declared.stage.Use.TheVariants.{Unused, OnItsWay, Used}
 use Rattle.spec_control.specs.Stage.{is_alive, is_coming}
-use Rattle.spec_control.specs.Place.{is_here}
+use Rattle.spec_control.specs.declared.end.EndState.{EndState}
+use Rattle.spec_control.specs.Place.{At, is_here}
 use Rattle.spec_control.specs.Row.{Row, is_socket, ReapComes}
 use Rattle.spec_control.specs.Rows.{obj}
 use Rattle.spec_control.specs.Control.{Control, ends_of, is_end, link, met_in, owner_of, place_of, put}
@@ -24,7 +26,8 @@ use Rattle.control_laws.proofs.AskLemmas.{same_end}
 use Rattle.ctl_holder.specs.declared.given.Given.{Given}
 use Rattle.ctl_holder.specs.declared.given.Parting.{Parting}
 use Rattle.ctl_holder.specs.declared.load.Load.{Load}
-use Rattle.ctl_holder.specs.Holding.{Holding, IsPlugged, AreAtDelimiter, given_as, held_given, has_end, writes_in}
+use Rattle.ctl_holder.specs.Holding.{Holding, IsPlugged, Begins, AreAtDelimiter, given_as, held_given, has_end, states_given, writes_in}
+use Rattle.ctl_holder.specs.Turns.{TurnsBy, HasTurned}
 use Rattle.ctl_holder.specs.Lent.{HasBothNames, HasEnds, HasAll, has_writer}
 use Rattle.ctl_holder.specs.Load.{IsNamed}
 use Rattle.ctl_state.specs.declared.state.State.{State}
@@ -39,6 +42,7 @@ use Rattle.ctl_state.specs.Parts.{on_tree, sent_to}
 use Rattle.ctl_ends.specs.Turning.{PutsLoaded}
 use Rattle.ctl_ends.proofs.HeldLemmas.{has_listed}
 use Rattle.ctl_ends.proofs.MailLemmas.{puts_sent}
+use Rattle.ctl_ends.proofs.TurnedLemmas.{in_none}
 use Rattle.ctl_terms.proofs.HolderLemmas.{has_same}
 use Rattle.ctl_reaps.specs.Reaping.{MayReap}
 
@@ -94,6 +98,25 @@ module _ {N O I : Type 0} where
           (All-head (λ x. x.met ≡ met_in (place_of c x.end) (c.reasons x.end)) g gs all ∙ sym (ap (λ (d : EndId). met_in (place_of c d) (c.reasons d)) (same_end e g.end same)) ∙ h)
       by later false other k = later k
 
+module _ {N O I : Type 0} where
+  -- and how far each is
+  state_here : (c : Control) (e : EndId) (was : EndState) (gs : List (Given N O I)) → All (λ g. place_of c g.end ≡ At g.state) gs → list_any (is_end e) (map (λ g. g.end) gs) ≡ true → place_of c e ≡ At (unwrap_or (states_given gs e) was)
+  state_here c e was [] all has = absurd (never has)
+  state_here c e was (g ∷ gs) all has = by (state_here c e was gs (All-tail (λ x. place_of c x.end ≡ At x.state) g gs all)) (is_end e g.end) refl has
+    where
+      by : (list_any (is_end e) (map (λ x. x.end) gs) ≡ true → place_of c e ≡ At (unwrap_or (states_given gs e) was)) → (b : Bool) → is_end e g.end ≡ b → (b || list_any (is_end e) (map (λ x. x.end) gs)) ≡ true →
+          place_of c e ≡ At (unwrap_or (if b then Some g.state else states_given gs e) was)
+      by later true same h = ap (place_of c) (same_end e g.end same) ∙ All-head (λ x. place_of c x.end ≡ At x.state) g gs all
+      by later false other h = later h
+
+  state_else : (e : EndId) (was : EndState) (gs : List (Given N O I)) → list_any (is_end e) (map (λ g. g.end) gs) ≡ false → unwrap_or (states_given gs e) was ≡ was
+  state_else e was [] none = refl
+  state_else e was (g ∷ gs) none = by (state_else e was gs) (is_end e g.end) none
+    where
+      by : (list_any (is_end e) (map (λ x. x.end) gs) ≡ false → unwrap_or (states_given gs e) was ≡ was) → (b : Bool) → (b || list_any (is_end e) (map (λ x. x.end) gs)) ≡ false → unwrap_or (if b then Some g.state else states_given gs e) was ≡ was
+      by later true h = absurd (never (sym h))
+      by later false h = later h
+
 module _ {N O I : Type 0} (out_name : O → N) (in_name : I → N) (s : State (Load N O I)) (h : Holding N) (socket : ObjId) (parting : Parting N O I) (w : MayReap out_name in_name s h socket.0 parting) where
   abbrev gs : List (Given N O I)
   gs = parting.ends.items
@@ -105,8 +128,8 @@ module _ {N O I : Type 0} (out_name : O → N) (in_name : I → N) (s : State (L
   as_joins : map (λ (g : Given N O I). let x : Joins = record { end = g.end; peer = []; met = g.met } in x) parting.ends.items ≡ reap_joins w.control socket.0
   as_joins =
       sym (map_of_map (λ (j : Joining N). let x : Joins = record { end = j.end; peer = j.peer; met = j.met } in x) (given_as out_name in_name) parting.ends.items)
-      ∙ ap (λ (js : List (Joining N)). map (λ (j : Joining N). let x : Joins = record { end = j.end; peer = j.peer; met = j.met } in x) js) (sym w.ends.listed)
-      ∙ w.all.joined
+      ∙ ap (λ (js : List (Joining N)). map (λ (j : Joining N). let x : Joins = record { end = j.end; peer = j.peer; met = j.met } in x) js) (sym w.reaps.ends.listed)
+      ∙ w.reaps.all.joined
 
   ends_are : map (λ (g : Given N O I). g.end) parting.ends.items ≡ here
   ends_are =
@@ -128,7 +151,8 @@ module _ {N O I : Type 0} (out_name : O → N) (in_name : I → N) (s : State (L
       All-filter (λ e. is_here (place_of w.control e)) (λ e. owner_of w.control e ≡ i) (ends_of i w.control)
       (All-weaker (λ e. (owner_of w.control e == i) ≡ true) (λ e. owner_of w.control e ≡ i) (λ e is. eqb-true (owner_of w.control e) i is) (ends_of i w.control) (filter_passes (λ e. owner_of w.control e == i) w.control.attached))
 
-  module _ (k : Holding N) (plugged : IsPlugged socket.0 (map (held_given out_name in_name) parting.ends.items) h k) (writing : (e : EndId) → k.writes e ≡ writes_in parting.ends.items e (h.writes e)) (at : AreAtDelimiter k.at_delimiter parting.ends.items) where
+  module _ (k : Holding N) (plugged : IsPlugged socket.0 (map (held_given out_name in_name) parting.ends.items) h k) (writing : (e : EndId) → k.writes e ≡ writes_in parting.ends.items e (h.writes e)) (at : AreAtDelimiter k.at_delimiter parting.ends.items)
+      (begins : Begins (states_given parting.ends.items) h k) where
     held_ends : map (λ (x : Held N). x.end) (k.ends socket.0) ≡ map (λ (g : Given N O I). g.end) parting.ends.items
     held_ends = ap (λ (hs : List (Held N)). map (λ (x : Held N). x.end) hs) plugged.ends ∙ map_of_map (λ (x : Held N). x.end) (held_given out_name in_name) parting.ends.items
 
@@ -141,9 +165,10 @@ module _ {N O I : Type 0} (out_name : O → N) (in_name : I → N) (s : State (L
       named = subst (λ (hs : List (Held N)). All (HasBothNames w.names) hs) (sym plugged.ends)
           (All-map (HasBothNames w.names) (held_given out_name in_name) parting.ends.items
           (All-weaker (λ (g : Given N O I). IsNamed out_name in_name w.names (given_as out_name in_name g)) (λ (g : Given N O I). HasBothNames w.names (held_given out_name in_name g)) (λ g is. record { written = is.written; read = is.read }) parting.ends.items
-          (all_of_map (IsNamed out_name in_name w.names) (given_as out_name in_name) parting.ends.items (subst (λ (js : List (Joining N)). All (IsNamed out_name in_name w.names) js) w.ends.listed w.ends.named))));
-      writes = λ e has. writing e ∙ writes_here w.control e (h.writes e) parting.ends.items w.all.writers (is_given e has);
+          (all_of_map (IsNamed out_name in_name w.names) (given_as out_name in_name) parting.ends.items (subst (λ (js : List (Joining N)). All (IsNamed out_name in_name w.names) js) w.reaps.ends.listed w.reaps.ends.named))));
+      writes = λ e has. writing e ∙ writes_here w.control e (h.writes e) parting.ends.items w.reaps.all.writers (is_given e has);
       delimiters = λ e has met. at_here w.control k.at_delimiter e parting.ends.items met_are at (is_given e has) met;
+      states = λ e has. state_here w.control e (h.state e) parting.ends.items w.reaps.all.states (is_given e has) ∙ ap At (sym (begins.states socket.0 e has));
     }
 
     theirs : (i : ℕ) → i ≢ socket.0 → k.holds i ≡ true → HasEnds w.names w.control.rows.pairs w.control.attached w.control.reasons k i
@@ -152,6 +177,7 @@ module _ {N O I : Type 0} (out_name : O → N) (in_name : I → N) (s : State (L
       named = subst (λ (hs : List (Held N)). All (HasBothNames w.names) hs) (sym same) was.named;
       writes = λ e has. writing e ∙ writes_else e (h.writes e) parting.ends.items (not_given e (held e has)) ∙ was.writes e (held e has);
       delimiters = λ e has met. plugged.delimiters i e (held e has) (was.delimiters e (held e has) met);
+      states = λ e has. was.states e (held e has) ∙ ap At (sym (begins.states i e has ∙ state_else e (h.state e) parting.ends.items (not_given e (held e has))));
     }
       where
         same : k.ends i ≡ h.ends i
@@ -171,6 +197,12 @@ module _ {N O I : Type 0} (out_name : O → N) (in_name : I → N) (s : State (L
                 absurd (other (sym (one_of w.control i e (filter (λ d. is_here (place_of w.control d)) (ends_of i w.control)) (own_ends i) (sym (has_listed e (h.ends i) ∙ ap (list_any (is_end e)) was.ends) ∙ has))
                 ∙ one_of w.control socket.0 e here (own_ends socket.0) (sym (ap (list_any (is_end e)) ends_are) ∙ given)))
             by false given = refl
+
+    -- nothing more is told of the ends
+    pub reaper_turned : HasTurned w.control (put socket.0 Term (link ReapComes socket.0 w.control)) h k
+    reaper_turned =
+        subst (λ (ts : List (EndId × EndState)). TurnsBy ts h k) (sym (in_none w.control (put socket.0 Term (link ReapComes socket.0 w.control)) (λ e. refl)))
+        (record { turns = begins.turns ∙ sym (append-nil h.turns); sealed = begins.sealed ∙ sym (append-nil h.sealed) })
 
     pub reaper_has : HasAll w.names (put socket.0 Term (link ReapComes socket.0 w.control)) k
     reaper_has = has_same w.names w.control (put socket.0 Term (link ReapComes socket.0 w.control)) k (record { pairs = refl; attached = refl; reasons = refl }) all
@@ -200,19 +232,19 @@ module _ {N O I : Type 0} (out_name : O → N) (in_name : I → N) (s : State (L
 
   pub living_child : AreMet s w.control → IsLivingChild s.objects (record { 0 = 0 }) socket
   living_child met = record {
-    unended = met.unended (record { 0 = 0 }) w.root;
-    owned = met.owned socket.0 (record { 0 = 0 }) w.owner;
+    unended = met.unended (record { 0 = 0 }) w.reaps.root;
+    owned = met.owned socket.0 (record { 0 = 0 }) w.reaps.owner;
     alive = alive_is (tree_row s.objects socket.0).stage
-        (sym (ap (λ (o : Row). is_alive o.stage) (w.stands.objects.each socket.0)) ∙ left (is_alive row.stage) (is_socket row.kind) (right (is_coming row.request) (is_alive row.stage && is_socket row.kind) w.comes));
+        (sym (ap (λ (o : Row). is_alive o.stage) (w.stands.objects.each socket.0)) ∙ left (is_alive row.stage) (is_socket row.kind) (right (is_coming row.request) (is_alive row.stage && is_socket row.kind) w.reaps.comes));
   }
 
   pub request_coming : (tree_row s.objects socket.0).request ≡ OnItsWay
   request_coming =
       coming_is (tree_row s.objects socket.0).request
-      (sym (ap (λ (o : Row). is_coming o.request) (w.stands.objects.each socket.0)) ∙ left (is_coming row.request) (is_alive row.stage && is_socket row.kind) w.comes)
+      (sym (ap (λ (o : Row). is_coming o.request) (w.stands.objects.each socket.0)) ∙ left (is_coming row.request) (is_alive row.stage && is_socket row.kind) w.reaps.comes)
 
   pub term_room : 0 < (mail_at s.boxes (slot_of s socket.0)).spare
-  term_room = subst (λ (n : ℕ). 0 < (mail_at s.boxes n).spare) (ap (λ (o : Row). o.slot) (w.stands.objects.each socket.0)) w.room
+  term_room = subst (λ (n : ℕ). 0 < (mail_at s.boxes n).spare) (ap (λ (o : Row). o.slot) (w.stands.objects.each socket.0)) w.reaps.room
 
   -- the socket's Term is put, with no load
   pub term_put : (t : State (Load N O I)) (f : List TreeRow → List TreeRow) → t ≡ sent_to (slot_of s socket.0) (letter_for socket Term None) (on_tree f s) → PutsLoaded out_name in_name w.names s.boxes t.boxes

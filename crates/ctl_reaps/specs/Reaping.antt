@@ -10,6 +10,7 @@ use Rattle.ctl_holder.specs.declared.given.Parting.{Parting}
 use Rattle.ctl_holder.specs.declared.load.Load.{Load}
 use Rattle.ctl_holder.specs.Holding.{Holding}
 use Rattle.ctl_holder.specs.Lent.{HasAll}
+use Rattle.ctl_holder.specs.Turns.{HasTurned}
 use Rattle.ctl_holder.specs.Load.{AreEndsOfClosed, GivesAll}
 use Rattle.ctl_state.specs.declared.state.State.{State}
 use Rattle.ctl_state.specs.Boxes.{mail_at}
@@ -17,23 +18,28 @@ use Rattle.ctl_state.specs.Stands.{Stands}
 use Rattle.ctl_ends.specs.Turning.{PutsLoaded}
 
 module _ {N O I : Type 0} (out_name : O → N) (in_name : I → N) where
-  -- a Reap came to the root with all ends of its socket, which nobody has, with room for the socket's Term
+  -- a Reap may come to the root with all ends of its socket, which nobody has, with room for the socket's Term
+  pub record ReapsAt (names : EndId → Option N) (c : Control) (s : State (Load N O I)) (h : Holding N) (socket : ℕ) (parting : Parting N O I) : Type 0 where
+    pub comes : link_may ReapComes (obj c.rows socket) ≡ true
+    pub owner : (obj c.rows socket).owner ≡ Some 0
+    pub root : has_ended (obj c.rows 0).stage ≡ false
+    pub free : h.holds socket ≡ false
+    pub ends : AreEndsOfClosed out_name in_name names parting
+    pub all : GivesAll c socket parting
+    pub room : 0 < (mail_at s.boxes (obj c.rows socket).slot).spare
+
+  -- and the reaper's holder has what the control state says
   pub record MayReap (s : State (Load N O I)) (h : Holding N) (socket : ℕ) (parting : Parting N O I) : Type 0 where
     pub control : Control
     pub names : EndId → Option N
     pub stands : Stands s control
     pub has : HasAll names control h
-    pub comes : link_may ReapComes (obj control.rows socket) ≡ true
-    pub owner : (obj control.rows socket).owner ≡ Some 0
-    pub root : has_ended (obj control.rows 0).stage ≡ false
-    pub free : h.holds socket ≡ false
-    pub ends : AreEndsOfClosed out_name in_name names parting
-    pub all : GivesAll control socket parting
-    pub room : 0 < (mail_at s.boxes (obj control.rows socket).slot).spare
+    pub reaps : ReapsAt names control s h socket parting
 
-  -- the socket is told, and its ends are the reaper's
-  pub record TakesOver (names : EndId → Option N) (c : Control) (socket : ℕ) (s t : State (Load N O I)) (k : Holding N) : Type 0 where
+  -- the socket is told, and its ends are the reaper's, each as far as it was
+  pub record TakesOver (names : EndId → Option N) (c : Control) (socket : ℕ) (s t : State (Load N O I)) (h k : Holding N) : Type 0 where
     pub stands : Stands t (put socket Term (link ReapComes socket c))
     pub has : HasAll names (put socket Term (link ReapComes socket c)) k
     pub puts : PutsLoaded out_name in_name names s.boxes t.boxes
     pub lists : t.objects.lists ≡ s.objects.lists
+    pub turned : HasTurned c (put socket Term (link ReapComes socket c)) h k

@@ -26,7 +26,7 @@ where
     ensures taken { (w : MayReap P.known.out_name P.known.in_name
         state.old (H.holding holder.old) socket.0 parting) →
         TakesOver P.known.out_name P.known.in_name w.names w.control socket.0
-        state.old state.new (H.holding holder.new) }
+        state.old state.new (H.holding holder.old) (H.holding holder.new) }
 {
     let Parting { ends, joined } = parting;
     holder.take_ends(socket, ends);

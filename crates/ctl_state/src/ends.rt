@@ -4,7 +4,7 @@ ghost use Rattle.spec_control.specs.declared.object.ObjState.TheVariants.{Ended 
 ghost use Rattle.spec_control.specs.declared.end.EndEvent.TheVariants.{AckCame};
 ghost use Rattle.spec_control.specs.Place.{is_away, is_here};
 ghost use Rattle.spec_control.specs.PairPhase.{Opens, BindCame};
-ghost use Rattle.spec_control.specs.Control.{Control, attach, commands_in, owner_of, place_of, tell_other};
+ghost use Rattle.spec_control.specs.Control.{Control, attach, commands_in, met_in, owner_of, place_of, tell_other};
 ghost use Rattle.own_tree.specs.Rows.{state_at};
 ghost use Rattle.ctl_state.specs.declared.pair.Spot.TheVariants.{Unmade, Away};
 ghost use Rattle.ctl_state.specs.Boxes.{mail_at};
@@ -53,6 +53,13 @@ impl<L: Drop> State<L> {
         ensures { (c : Control) → Stands self.now c → FitsAt (place_of c e) (c.reasons e) }
     {
         self.pairs.reason_fits(e);
+    }
+
+    /// Whether an end has met the delimiter of the pipe that it reads, and was asked for no reason.
+    pub fn has_met(&self, e: EndId) -> bool
+        ensures { (c : Control) → Stands self.now c → result ≡ met_in (place_of c e) (c.reasons e) }
+    {
+        self.pairs.has_met(e)
     }
 
     /// Whether the connect of an end was struck.

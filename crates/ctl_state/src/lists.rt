@@ -162,6 +162,8 @@ impl<L: Drop> State<L> {
     pub fn fulfil(&mut self, id: ObjId, at: &Endpoint, pair: PairId)
         ensures stands { Updates (holds_by (fulfil at.now pair.0) id.0) self.old self.new }
         ensures rest { self.new ≡ on_lists (λ _. self.new.objects.lists) self.old }
+        ensures ends { (i : ℕ) → (belongings_at self.new.objects.lists i).ends
+            ≡ (belongings_at self.old.objects.lists i).ends }
     {
         match self.waiting_place(id, at) {
             Some(place) => {

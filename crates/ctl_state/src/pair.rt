@@ -1,10 +1,11 @@
 ghost use Rattle.std.specs.Prelude.{◌≡◌, true};
-ghost use Rattle.spec_control.specs.EndLife.{comes, life_after, commands_at};
+ghost use Rattle.spec_control.specs.EndLife.{comes, has_met, life_after, commands_at};
+ghost use Rattle.spec_control.specs.Control.{met_in};
 ghost use Rattle.spec_control.specs.Place.{is_away, is_here};
 ghost use Rattle.ctl_state.specs.Pairs.{place_at, reason_at, state_in, FitsAt, spot_comes, spot_after, spot_commands, entry_with, spot_in, owner_in, struck_in};
 
 use pipe_term::End;
-use spec_control::{EndCommands, EndEvent, EndState};
+use spec_control::{EndCommands, EndEvent, EndState, Reason};
 use zq_base::ObjId;
 
 /// Where an end is.
@@ -140,6 +141,41 @@ pub(crate) fn fits_in(pair: &Entry, a: bool)
         return;
     }
     fits_there(&pair.b);
+}
+
+// Whether an end with this state and reason has met the delimiter of the pipe that it reads.
+fn has_met(state: EndState, reason: Option<Reason>) -> bool
+    ensures { result ≡ has_met state reason }
+{
+    match reason {
+        Some(_) => return false,
+        None => match state {
+            EndState::DelimiterGot | EndState::AckSent => return true,
+            EndState::Active | EndState::WaitDelimiter | EndState::AskedOnce => return false,
+            EndState::AskedTwice | EndState::Gone => return false,
+        },
+    }
+}
+
+// Whether an end there has met the delimiter of the pipe that it reads, and was asked for no reason.
+fn met_there(spot: &Spot) -> bool
+    ensures { result ≡ met_in (place_at spot.now) (reason_at spot.now) }
+{
+    match spot {
+        Spot::At(end) => return has_met(end.state(), end.reason()),
+        Spot::Unmade | Spot::Away | Spot::Over => return false,
+    }
+}
+
+/// Whether this end of the pair has met the delimiter of the pipe that it reads, and was asked for no
+/// reason.
+pub(crate) fn has_met_in(pair: &Entry, a: bool) -> bool
+    ensures { result ≡ met_in (place_at (spot_in pair.now a)) (reason_at (spot_in pair.now a)) }
+{
+    if a {
+        return met_there(&pair.a);
+    }
+    met_there(&pair.b)
 }
 
 /// Whose this end of the pair is.

@@ -2,10 +2,12 @@ ghost use Rattle.std.specs.Prelude.{◌≡◌, ◌<◌, ◌^◌, ◌++◌, ◌�
 ghost use Rattle.ctl_state.specs.declared.pair.Spot.TheVariants.{At};
 ghost use Rattle.spec_control.specs.EndLife.{new_life};
 ghost use Rattle.spec_control.specs.Place.{is_away, is_here};
+ghost use Rattle.spec_control.specs.Control.{met_in};
 ghost use Rattle.ctl_state.specs.Pairs.{state_in, reason_at, FitsAt, no_entry, entry_at, place_at, owner_at, struck_at, spot_at, with_spot, entry_struck, entry_open, entry_drawn, spot_comes, spot_after, spot_commands};
 
 use crate::pair::{
-    Entry, Spot, fits_in, is_away_in, is_here_in, owner_in, state_of, step_in, struck_in,
+    Entry, Spot, fits_in, has_met_in, is_away_in, is_here_in, owner_in, state_of, step_in,
+    struck_in,
 };
 use pipe_term::End;
 use spec_control::{EndCommands, EndEvent, EndState};
@@ -125,6 +127,16 @@ impl Pairs {
         match self.pairs.get(e.pair.0 as usize) {
             Some(pair) => fits_in(pair, e.a),
             None => return,
+        }
+    }
+
+    /// Whether an end has met the delimiter of the pipe that it reads, and was asked for no reason.
+    pub fn has_met(&self, e: EndId) -> bool
+        ensures { result ≡ met_in (place_at (spot_at self.now e)) (reason_at (spot_at self.now e)) }
+    {
+        match self.pairs.get(e.pair.0 as usize) {
+            Some(pair) => return has_met_in(pair, e.a),
+            None => return false,
         }
     }
 

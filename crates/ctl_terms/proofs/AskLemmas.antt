@@ -3,7 +3,7 @@ use Rattle.std.specs.Prelude.{◌≡◌, ◌≢◌, ◌<◌, ◌≤◌, ◌+◌,
 use Rattle.std.specs.List.{list_any}
 use Rattle.std.proofs.Common.{arith, sym, ap, ◌∙◌, subst}
 use Rattle.std.proofs.lemmas.Bool.{eqb-true}
-use Rattle.std.proofs.lemmas.List.{length-append, length-map, take_more, take_all}
+use Rattle.std.proofs.lemmas.List.{length-append, length-map, append-nil, take_more, take_all}
 use Rattle.std.proofs.lemmas.List.Elements.{All-nil, All-cons, All-tail, All-head, All-weaker, All-filter, All-get_or, filter_agree, filter_passes}
 use Rattle.zq_base.specs.declared.ids.EndId.{EndId}
 use Rattle.spec_control.specs.declared.end.EndEvent.TheVariants.{Asked, DelimiterSeen}
@@ -21,14 +21,17 @@ use Rattle.control_moves.proofs.GoLemmas.{ask_all_goes}
 use Rattle.control_bounds.specs.Room.{to_come}
 use Rattle.ctl_holder.specs.declared.load.Load.{Load}
 use Rattle.ctl_holder.specs.Holding.{Holding}
+use Rattle.ctl_holder.specs.Turns.{TurnsBy}
 use Rattle.ctl_state.specs.declared.command.Command.{Command}
 use Rattle.ctl_state.specs.declared.state.State.{State}
 use Rattle.ctl_state.specs.Boxes.{mail_at}
 use Rattle.ctl_state.specs.Stands.{Stands}
-use Rattle.ctl_ends.specs.Turning.{PutsLoaded, MayTurn, Leads}
+use Rattle.ctl_ends.specs.Turning.{PutsLoaded, MayTurn, Leads, turn_of}
 use Rattle.ctl_ends.proofs.MailLemmas.{puts_not, puts_on}
-use Rattle.ctl_terms.specs.Asking.{HasRoomOver, MayAskOne, MayAskAll}
+use Rattle.ctl_ends.proofs.TurnedLemmas.{still_at, turns_same, turns_on}
+use Rattle.ctl_terms.specs.Asking.{HasRoomOver, MayAskOne, MayAskAll, asked_turns}
 use Rattle.ctl_terms.proofs.PutLemmas.{room_for}
+use Rattle.ctl_terms.proofs.AskedLemmas.{turns_append, turns_gone}
 
 -- ---- one end
 -- an end that is there may be asked
@@ -76,9 +79,9 @@ module _ {N O I : Type 0} (out_name : O → N) (in_name : I → N) (s : State (L
   ask_by : (b : Bool) → is_here (place_of w.control e) ≡ b → ask reason delay e w.control ≡ (if b then happens (Asked reason delay) e w.control else w.control)
   ask_by b is = ap (λ (x : Bool). if x then happens (Asked reason delay) e w.control else w.control) is
 
-  pub asked_not : is_here (place_of w.control e) ≡ false → Leads out_name in_name w.names (ask reason delay e w.control) s s h h
+  pub asked_not : is_here (place_of w.control e) ≡ false → Leads out_name in_name w.names (turn_of e w.control (ask reason delay e w.control)) (ask reason delay e w.control) s s h h
   asked_not gone =
-      subst (λ (d : Control). Leads out_name in_name w.names d s s h h) (sym (ask_by false gone))
+      subst (λ (d : Control). Leads out_name in_name w.names (turn_of e w.control d) d s s h h) (sym (ask_by false gone))
       (record {
         stands = w.stands;
         has = w.has;
@@ -87,10 +90,12 @@ module _ {N O I : Type 0} (out_name : O → N) (in_name : I → N) (s : State (L
         holds = λ i. refl;
         kinds = λ i. refl;
         output = λ i. refl;
+        turned = subst (λ (ts : List (EndId × EndState)). TurnsBy ts h h) (sym (still_at e (place_of w.control e))) (turns_same h);
       })
 
-  pub asked_here : (t : State (Load N O I)) (k : Holding N) → is_here (place_of w.control e) ≡ true → Leads out_name in_name w.names (happens (Asked reason delay) e w.control) s t h k → Leads out_name in_name w.names (ask reason delay e w.control) s t h k
-  asked_here t k here leads = subst (λ (d : Control). Leads out_name in_name w.names d s t h k) (sym (ask_by true here)) leads
+  pub asked_here : (t : State (Load N O I)) (k : Holding N) → is_here (place_of w.control e) ≡ true → Leads out_name in_name w.names (turn_of e w.control (happens (Asked reason delay) e w.control)) (happens (Asked reason delay) e w.control) s t h k →
+      Leads out_name in_name w.names (turn_of e w.control (ask reason delay e w.control)) (ask reason delay e w.control) s t h k
+  asked_here t k here leads = subst (λ (d : Control). Leads out_name in_name w.names (turn_of e w.control d) d s t h k) (sym (ask_by true here)) leads
 
 -- ---- all of an object
 ask_all-append : (reason : Reason) (delay : Bool) (xs ys : List EndId) (c : Control) → ask_all reason delay (xs ++ ys) c ≡ ask_all reason delay ys (ask_all reason delay xs c)
@@ -131,7 +136,7 @@ module _ {N O I : Type 0} (out_name : O → N) (in_name : I → N) where
   module _ (s : State (Load N O I)) (h : Holding N) (at : ℕ) (reason : Reason) (delay : Bool) where
     -- so many of them were asked
     abbrev pub AskedSoFar : (t : State (Load N O I)) (k : Holding N) → ℕ → Type 0
-    AskedSoFar t k n = (w : MayAskAll s h at) → Leads out_name in_name w.names (ask_all reason delay (take n (ends_of at w.control)) w.control) s t h k
+    AskedSoFar t k n = (w : MayAskAll s h at) → Leads out_name in_name w.names (asked_turns reason delay (take n (ends_of at w.control)) w.control) (ask_all reason delay (take n (ends_of at w.control)) w.control) s t h k
 
     pub none_so_far : AskedSoFar s h 0
     none_so_far w = record {
@@ -142,15 +147,14 @@ module _ {N O I : Type 0} (out_name : O → N) (in_name : I → N) where
       holds = λ i. refl;
       kinds = λ i. refl;
       output = λ i. refl;
+      turned = turns_same h;
     }
 
     -- the root has none
-    pub root_asks_none : at ≡ 0 → (w : MayAskAll s h at) → Leads out_name in_name w.names (ask_all reason delay (ends_of at w.control) w.control) s s h h
+    pub root_asks_none : at ≡ 0 → (w : MayAskAll s h at) → Leads out_name in_name w.names (asked_turns reason delay (ends_of at w.control) w.control) (ask_all reason delay (ends_of at w.control) w.control) s s h h
     root_asks_none zero_is w =
-        subst (λ (d : Control). Leads out_name in_name w.names d s s h h)
-        (sym (none_asked reason delay (ends_of at w.control) w.control
-        (All-weaker (λ e. (owner_of w.control e == at) ≡ true) (λ e. is_here (place_of w.control e) ≡ false) gone (ends_of at w.control) (filter_passes (λ e. owner_of w.control e == at) w.control.attached))))
-        (none_so_far w)
+        subst (λ (d : Control). Leads out_name in_name w.names (asked_turns reason delay (ends_of at w.control) w.control) d s s h h) (sym (none_asked reason delay (ends_of at w.control) w.control all_gone))
+        (subst (λ (ts : List (EndId × EndState)). Leads out_name in_name w.names ts w.control s s h h) (sym (turns_gone reason delay (ends_of at w.control) w.control all_gone)) (none_so_far w))
       where
         gone : (e : EndId) → (owner_of w.control e == at) ≡ true → is_here (place_of w.control e) ≡ false
         gone e mine = by (is_here (place_of w.control e)) refl
@@ -159,11 +163,14 @@ module _ {N O I : Type 0} (out_name : O → N) (in_name : I → N) where
             by true here = absurd (w.rootless e here (eqb-true (owner_of w.control e) at mine ∙ zero_is))
             by false not_here = not_here
 
+        all_gone : All (λ e. is_here (place_of w.control e) ≡ false) (ends_of at w.control)
+        all_gone = All-weaker (λ e. (owner_of w.control e == at) ≡ true) (λ e. is_here (place_of w.control e) ≡ false) gone (ends_of at w.control) (filter_passes (λ e. owner_of w.control e == at) w.control.attached)
+
     module _ (t : State (Load N O I)) (k : Holding N) (n : ℕ) (far : AskedSoFar t k n) (w : MayAskAll s h at) where
       abbrev now : Control
       now = ask_all reason delay (take n (ends_of at w.control)) w.control
 
-      pub leads : Leads out_name in_name w.names now s t h k
+      pub leads : Leads out_name in_name w.names (asked_turns reason delay (take n (ends_of at w.control)) w.control) now s t h k
       leads = far w
 
       leaves : AskLeaves true w.control now
@@ -199,13 +206,15 @@ module _ {N O I : Type 0} (out_name : O → N) (in_name : I → N) where
         room = room_led [] w.names w.control now s t w.stands leads.stands leads.puts w.room (ask_all_goes reason delay (take n (ends_of at w.control)) w.control);
       }
 
-      pub asked_next : (xs : List EndId) → xs ≡ ends_of at now → (d : EndId) → n < length xs → (u : State (Load N O I)) (l : Holding N) → Leads out_name in_name w.names (ask reason delay (slice_index_or xs n d) now) t u k l →
-          Leads out_name in_name w.names (ask_all reason delay (take (n + 1) (ends_of at w.control)) w.control) s u h l
+      pub asked_next : (xs : List EndId) → xs ≡ ends_of at now → (d : EndId) → n < length xs → (u : State (Load N O I)) (l : Holding N) →
+          Leads out_name in_name w.names (turn_of (slice_index_or xs n d) now (ask reason delay (slice_index_or xs n d) now)) (ask reason delay (slice_index_or xs n d) now) t u k l →
+          Leads out_name in_name w.names (asked_turns reason delay (take (n + 1) (ends_of at w.control)) w.control) (ask_all reason delay (take (n + 1) (ends_of at w.control)) w.control) s u h l
       asked_next xs is d below u l step =
-          subst (λ (c : Control). Leads out_name in_name w.names c s u h l)
-          (sym (ap (λ (ys : List EndId). ask_all reason delay ys w.control)
-          (take_more (ends_of at w.control) n d (subst (λ (ys : List EndId). n < length ys) (is ∙ same_ends) below) ∙ ap (λ (ys : List EndId). take n (ends_of at w.control) ++ slice_index_or ys n d ∷ []) (sym (is ∙ same_ends)))
-          ∙ ask_all-append reason delay (take n (ends_of at w.control)) (slice_index_or xs n d ∷ []) w.control))
+          subst (λ (c : Control). Leads out_name in_name w.names (asked_turns reason delay (take (n + 1) (ends_of at w.control)) w.control) c s u h l)
+          (sym (ap (λ (ys : List EndId). ask_all reason delay ys w.control) one_more ∙ ask_all-append reason delay (take n (ends_of at w.control)) (slice_index_or xs n d ∷ []) w.control))
+          (subst (λ (ts : List (EndId × EndState)). Leads out_name in_name w.names ts (ask reason delay (slice_index_or xs n d) now) s u h l)
+          (sym (ap (λ (ys : List EndId). asked_turns reason delay ys w.control) one_more ∙ turns_append reason delay (take n (ends_of at w.control)) (slice_index_or xs n d ∷ []) w.control
+          ∙ ap (λ (ts : List (EndId × EndState)). asked_turns reason delay (take n (ends_of at w.control)) w.control ++ ts) (append-nil (turn_of (slice_index_or xs n d) now (ask reason delay (slice_index_or xs n d) now)))))
           (record {
             stands = step.stands;
             has = step.has;
@@ -214,7 +223,13 @@ module _ {N O I : Type 0} (out_name : O → N) (in_name : I → N) where
             holds = λ i. step.holds i ∙ leads.holds i;
             kinds = λ i. step.kinds i ∙ leads.kinds i;
             output = λ i. step.output i ∙ leads.output i;
-          })
+            turned = turns_on (asked_turns reason delay (take n (ends_of at w.control)) w.control) (turn_of (slice_index_or xs n d) now (ask reason delay (slice_index_or xs n d) now)) h k l leads.turned step.turned;
+          }))
+        where
+          one_more : take (n + 1) (ends_of at w.control) ≡ take n (ends_of at w.control) ++ slice_index_or xs n d ∷ []
+          one_more =
+              take_more (ends_of at w.control) n d (subst (λ (ys : List EndId). n < length ys) (is ∙ same_ends) below)
+              ∙ ap (λ (ys : List EndId). take n (ends_of at w.control) ++ slice_index_or ys n d ∷ []) (sym (is ∙ same_ends))
 
-      pub all_asked : length (ends_of at w.control) ≤ n → Leads out_name in_name w.names (ask_all reason delay (ends_of at w.control) w.control) s t h k
-      all_asked all = subst (λ (xs : List EndId). Leads out_name in_name w.names (ask_all reason delay xs w.control) s t h k) (take_all n (ends_of at w.control) all) leads
+      pub all_asked : length (ends_of at w.control) ≤ n → Leads out_name in_name w.names (asked_turns reason delay (ends_of at w.control) w.control) (ask_all reason delay (ends_of at w.control) w.control) s t h k
+      all_asked all = subst (λ (xs : List EndId). Leads out_name in_name w.names (asked_turns reason delay xs w.control) (ask_all reason delay xs w.control) s t h k) (take_all n (ends_of at w.control) all) leads

@@ -10,14 +10,14 @@ use Rattle.mailbox.specs.Mail.{Mail}
 use Rattle.spec_control.specs.declared.end.Reason.{Reason}
 use Rattle.spec_control.specs.declared.letter.Word.{Word}
 use Rattle.spec_control.specs.declared.letter.Word.TheVariants.{Own, Plug, TermReq, Term, TermAck, PipeBind, PipeTerm, PipeTermAck, Stop, Reap}
-use Rattle.spec_control.specs.Place.{is_here}
+use Rattle.spec_control.specs.Place.{At, is_here}
 use Rattle.spec_control.specs.Rows.{Rows, PairRow, no_pair, obj, pair, end_place, end_owner, may_end, owed, behind, living, of_ends, end_waits}
 use Rattle.spec_control.specs.Stage.{is_ending}
 use Rattle.spec_control.specs.Control.{Control}
 use Rattle.control_held.specs.Held.{Held}
 use Rattle.control_rows.proofs.ListLemmas.{never, left, right}
 use Rattle.ctl_holder.specs.declared.load.Load.{Load}
-use Rattle.ctl_holder.specs.Holding.{Holding, IsTold, Stays, has_end}
+use Rattle.ctl_holder.specs.Holding.{Holding, IsTold, Stays, KeepsTurns, has_end}
 use Rattle.ctl_holder.specs.Lent.{place_by, owner_by, HasBothNames, HasEnds, HasAll}
 use Rattle.ctl_holder.specs.Load.{Carries, brings_ends}
 use Rattle.ctl_state.specs.declared.command.Command.{Command}
@@ -32,13 +32,14 @@ module _ {N : Type 0} (names : EndId → Option N) where
       (subst (λ (es : List EndId). HasEnds names c.rows.pairs es d.reasons h i) (sym same.attached)
       (subst (λ (rs : EndId → Option Reason). HasEnds names c.rows.pairs c.attached rs h i) (sym same.reasons) (has i holds)))
 
-  ends_told : (c : Control) (h k : Holding N) (i : ℕ) → k.ends i ≡ h.ends i → ((d : EndId) → k.writes d ≡ h.writes d) → ((d : EndId) → has_end d (k.ends i) ≡ true → h.at_delimiter d ≡ true → k.at_delimiter d ≡ true) →
+  ends_told : (c : Control) (h k : Holding N) (i : ℕ) → k.ends i ≡ h.ends i → ((d : EndId) → k.writes d ≡ h.writes d) → ((d : EndId) → has_end d (k.ends i) ≡ true → h.at_delimiter d ≡ true → k.at_delimiter d ≡ true) → ((d : EndId) → has_end d (k.ends i) ≡ true → k.state d ≡ h.state d) →
       HasEnds names c.rows.pairs c.attached c.reasons h i → HasEnds names c.rows.pairs c.attached c.reasons k i
-  ends_told c h k i same writes at has = record {
+  ends_told c h k i same writes at states has = record {
     ends = ap (λ (hs : List (Held N)). map (λ x. x.end) hs) same ∙ has.ends;
     named = subst (λ (hs : List (Held N)). All (HasBothNames names) hs) (sym same) has.named;
     writes = λ d here. writes d ∙ has.writes d (was d here);
     delimiters = λ d here met. at d here (has.delimiters d (was d here) met);
+    states = λ d here. has.states d (was d here) ∙ ap At (sym (states d here));
   }
     where
       was : (d : EndId) → has_end d (k.ends i) ≡ true → has_end d (h.ends i) ≡ true
@@ -46,14 +47,14 @@ module _ {N : Type 0} (names : EndId → Option N) where
 
   -- the holder of an object was told something of it
   pub has_told : (c : Control) (h k : Holding N) (o : ℕ) → (h.holds o ≡ true) → IsTold o h k → HasAll names c h → HasAll names c k
-  has_told c h k o lent told has i holds = ends_told c h k i (told.ends i) told.writes (λ d here at. told.delimiters d at) (has i (held (cases_eq i o)))
+  has_told c h k o lent told has i holds = ends_told c h k i (told.ends i) told.writes (λ d here at. told.delimiters d at) (told.turns.states i) (has i (held (cases_eq i o)))
     where
       held : (i ≡ o) ⊎ (i ≡ o → ⊥) → h.holds i ≡ true
       held (inl same) = ap h.holds same ∙ lent
       held (inr other) = sym (told.objects i other) ∙ holds
 
-  pub has_stayed : (c : Control) (h k : Holding N) (o : ℕ) → Stays o h k → HasAll names c h → HasAll names c k
-  has_stayed c h k o stays has i holds = ends_told c h k i (lists (cases_eq i o)) stays.writers (stays.now.delimiters i) (has i (sym (stays.now.objects i) ∙ holds))
+  pub has_stayed : (c : Control) (h k : Holding N) (o : ℕ) → Stays o h k → KeepsTurns h k → HasAll names c h → HasAll names c k
+  has_stayed c h k o stays keeps has i holds = ends_told c h k i (lists (cases_eq i o)) stays.writers (stays.now.delimiters i) (keeps.states i) (has i (sym (stays.now.objects i) ∙ holds))
     where
       lists : (i ≡ o) ⊎ (i ≡ o → ⊥) → k.ends i ≡ h.ends i
       lists (inl same) = ap k.ends same ∙ stays.now.ends ∙ ap h.ends (sym same)

@@ -13,7 +13,7 @@ use Rattle.spec_control.specs.declared.stage.Stage.TheVariants.{Alive, Told, End
 use Rattle.spec_control.specs.Stage.{has_ended, is_alive, is_told, is_unused}
 use Rattle.spec_control.specs.Row.{Row, nobody, is_socket, is_unowned, TermComes, StopPut, IsTold as ChildTold, link_may, link_after}
 use Rattle.spec_control.specs.Rows.{obj, is_owner, may_end}
-use Rattle.spec_control.specs.Control.{Control, link, put, ask_all, ends_of, tell_where, tell_children, try_end}
+use Rattle.spec_control.specs.Control.{Control, link, put, ask_all, ends_of, tell_where, tell_children, try_end, owner_of, place_of}
 use Rattle.spec_control.specs.declared.letter.Word.TheVariants.{Term}
 use Rattle.spec_control.specs.After.{owner_or_root, term_reason, term_delay}
 use Rattle.control_rows.proofs.ListLemmas.{never, left, clash, placed}
@@ -27,6 +27,10 @@ use Rattle.own_tree.specs.Rows.{state_at, children_of, tree_of, may_be_asked, as
 use Rattle.ctl_holder.specs.declared.load.Load.{Load}
 use Rattle.ctl_holder.specs.Holding.{Holding, IsTold}
 use Rattle.ctl_holder.specs.Lent.{HasAll}
+use Rattle.ctl_holder.specs.Turns.{turned_in, turned_over, TurnsBy}
+use Rattle.control_attached.specs.Once.{AreOnce}
+use Rattle.zq_base.specs.declared.ids.EndId.{EndId}
+use Rattle.spec_control.specs.declared.end.EndState.{EndState}
 use Rattle.ctl_state.specs.declared.state.State.{State}
 use Rattle.ctl_state.specs.declared.command.Command.{Command}
 use Rattle.ctl_state.specs.Boxes.{mail_at}
@@ -37,9 +41,11 @@ use Rattle.ctl_state.specs.Parts.{Tells}
 use Rattle.ctl_state.specs.Stands.{Stands, HasRoomForAck}
 use Rattle.ctl_ends.specs.Turning.{PutsLoaded, Leads}
 use Rattle.ctl_ends.proofs.MailLemmas.{puts_on}
-use Rattle.ctl_terms.specs.Asking.{MayAskAll}
+use Rattle.ctl_ends.proofs.TurnedLemmas.{turns_kept, in_behind, place_same}
+use Rattle.ctl_terms.specs.Asking.{MayAskAll, asked_turns}
 use Rattle.ctl_terms.specs.Terming.{names_left, ends_asked, children_told, MayTerm, Turns}
 use Rattle.ctl_terms.proofs.AskLemmas.{room_led}
+use Rattle.ctl_terms.proofs.AskedLemmas.{asks_over}
 use Rattle.ctl_terms.proofs.HolderLemmas.{has_same, has_told, bare_loaded, ended_has_none}
 
 -- ---- who was told may be asked
@@ -130,10 +136,13 @@ module _ {N O I : Type 0} (out_name : O → N) (in_name : I → N) (s : State (L
 
   -- they were asked for the reason that its kind has
   pub asked_leads : (t u : State (Load N O I)) (k : Holding N) (reason : Reason) (delay : Bool) → reason ≡ term_reason (obj w.control.rows at.0).kind → delay ≡ term_delay (obj w.control.rows at.0) →
-      Leads out_name in_name w.names (ask_all reason delay (ends_of at.0 (names_left at.0 w.control)) (names_left at.0 w.control)) t u h k → Leads out_name in_name w.names (ends_asked at.0 w.control) t u h k
+      Leads out_name in_name w.names (asked_turns reason delay (ends_of at.0 (names_left at.0 w.control)) (names_left at.0 w.control)) (ask_all reason delay (ends_of at.0 (names_left at.0 w.control)) (names_left at.0 w.control)) t u h k →
+      Leads out_name in_name w.names (asked_turns (term_reason (obj w.control.rows at.0).kind) (term_delay (obj w.control.rows at.0)) (ends_of at.0 (names_left at.0 w.control)) (names_left at.0 w.control)) (ends_asked at.0 w.control) t u h k
   asked_leads t u k reason delay why how leads =
-      subst (λ (r : Reason). Leads out_name in_name w.names (ask_all r (term_delay (obj w.control.rows at.0)) (ends_of at.0 (names_left at.0 w.control)) (names_left at.0 w.control)) t u h k) why
-      (subst (λ (d : Bool). Leads out_name in_name w.names (ask_all reason d (ends_of at.0 (names_left at.0 w.control)) (names_left at.0 w.control)) t u h k) how leads)
+      subst (λ (r : Reason). Leads out_name in_name w.names (asked_turns r (term_delay (obj w.control.rows at.0)) (ends_of at.0 (names_left at.0 w.control)) (names_left at.0 w.control))
+      (ask_all r (term_delay (obj w.control.rows at.0)) (ends_of at.0 (names_left at.0 w.control)) (names_left at.0 w.control)) t u h k) why
+      (subst (λ (d : Bool). Leads out_name in_name w.names (asked_turns reason d (ends_of at.0 (names_left at.0 w.control)) (names_left at.0 w.control))
+      (ask_all reason d (ends_of at.0 (names_left at.0 w.control)) (names_left at.0 w.control)) t u h k) how leads)
 
   pub asked_puts : (t u : State (Load N O I)) → t.boxes ≡ s.boxes → PutsLoaded out_name in_name w.names t.boxes u.boxes → PutsLoaded out_name in_name w.names s.boxes u.boxes
   asked_puts t u same puts = subst (λ (b : List (Mail (Command (Load N O I)))). PutsLoaded out_name in_name w.names b u.boxes) same puts
@@ -198,16 +207,30 @@ module _ {N O I : Type 0} (out_name : O → N) (in_name : I → N) (s : State (L
 
       -- ---- behind the ending
       pub termed : (v : State (Load N O I)) (l : Holding N) → HasAll w.names (ends_asked at.0 w.control) k → (at.0 ≢ 0 → k.holds at.0 ≡ true) → t.objects.lists ≡ s.objects.lists → Tells u v → Stands v (try_end at.0 false (children_told at.0 w.control)) →
-          IsTold at.0 k l → (at.0 ≡ 0 → l ≡ k) → Turns out_name in_name w.names (try_end at.0 false (children_told at.0 w.control)) s v l
-      termed v l has lent lists ends now is_told root = record {
+          IsTold at.0 k l → (at.0 ≡ 0 → l ≡ k) →
+          TurnsBy (asked_turns (term_reason (obj w.control.rows at.0).kind) (term_delay (obj w.control.rows at.0)) (ends_of at.0 (names_left at.0 w.control)) (names_left at.0 w.control)) h k →
+          Turns out_name in_name w.names w.control (try_end at.0 false (children_told at.0 w.control)) s v h l
+      termed v l has lent lists ends now is_told root asked = record {
         stands = now;
         has = holder_has (cases_eq at.0 0);
         puts = puts_on out_name in_name w.names s.boxes u.boxes v.boxes told_puts (bare_loaded out_name in_name w.names u.boxes v.boxes ends.bare);
         lists = ends.lists ∙ tells.lists ∙ lists;
+        turned = λ once. turns_kept (turned_in w.control last) h k l (subst (λ (ts : List (EndId × EndState)). TurnsBy ts h k) (sym (they_are once)) asked) is_told.turns;
       }
         where
           last : Control
           last = try_end at.0 false (children_told at.0 w.control)
+
+          behind : SameEnds (ends_asked at.0 w.control) last
+          behind = ends_on (ends_asked at.0 w.control) (children_told at.0 w.control) _ told_ends (tried at.0 false (children_told at.0 w.control))
+
+          they_are : AreOnce w.control.attached →
+              turned_in w.control last ≡ asked_turns (term_reason (obj w.control.rows at.0).kind) (term_delay (obj w.control.rows at.0)) (ends_of at.0 (names_left at.0 w.control)) (names_left at.0 w.control)
+          they_are once =
+              in_behind w.control (ends_asked at.0 w.control) last behind.attached (place_same (ends_asked at.0 w.control) last behind.pairs)
+              ∙ ap (turned_over (place_of w.control) (place_of (ends_asked at.0 w.control)))
+              (ask_all_leaves (term_reason (obj w.control.rows at.0).kind) (term_delay (obj w.control.rows at.0)) true (λ e. refl) (ends_of at.0 (names_left at.0 w.control)) (names_left at.0 w.control)).attached
+              ∙ asks_over (term_reason (obj w.control.rows at.0).kind) (term_delay (obj w.control.rows at.0)) (λ e. owner_of (names_left at.0 w.control) e == at.0) w.control.attached once (names_left at.0 w.control)
 
           has_then : HasAll w.names (try_end at.0 false (children_told at.0 w.control)) k
           has_then = has_same w.names (ends_asked at.0 w.control) (try_end at.0 false (children_told at.0 w.control)) k (ends_on (ends_asked at.0 w.control) (children_told at.0 w.control) _ told_ends (tried at.0 false (children_told at.0 w.control))) has

@@ -12,7 +12,7 @@ use Rattle.ctl_holder.specs.Holding.{Holding}
 use Rattle.ctl_holder.specs.Lent.{HasAll}
 use Rattle.ctl_state.specs.declared.state.State.{State}
 use Rattle.ctl_state.specs.Stands.{Stands}
-use Rattle.ctl_ends.specs.Turning.{PutsLoaded}
+use Rattle.ctl_ends.specs.Turning.{PutsLoaded, TurnsOnce}
 use Rattle.ctl_terms.specs.Asking.{HasRoomOver}
 
 -- its names leave the book, its ends are asked, its noted children are told, and it ends if it can
@@ -38,13 +38,14 @@ module _ {N O I : Type 0} where
     pub room : HasRoomOver (LinkMoves at TermComes ∷ []) control s
 
 module _ {N O I : Type 0} (out_name : O → N) (in_name : I → N) where
-  -- the state was changed so, with the holder, and commands were put
-  pub record Turns (names : EndId → Option N) (now : Control) (s t : State (Load N O I)) (k : Holding N) : Type 0 where
+  -- the state was changed so, with the holder, which was told of each change of its ends, and commands were put
+  pub record Turns (names : EndId → Option N) (was now : Control) (s t : State (Load N O I)) (h k : Holding N) : Type 0 where
     pub stands : Stands t now
     pub has : HasAll names now k
     pub puts : PutsLoaded out_name in_name names s.boxes t.boxes
     pub lists : t.objects.lists ≡ s.objects.lists
+    pub turned : TurnsOnce was now h k
 
   -- the object has done what its Term asks of it
-  abbrev pub Terms : (names : EndId → Option N) → Control → ℕ → (s t : State (Load N O I)) → Holding N → Type 0
-  Terms names c at s t k = Turns names (try_end at false (children_told at c)) s t k
+  abbrev pub Terms : (names : EndId → Option N) → Control → ℕ → (s t : State (Load N O I)) → (h k : Holding N) → Type 0
+  Terms names c at s t h k = Turns names c (try_end at false (children_told at c)) s t h k

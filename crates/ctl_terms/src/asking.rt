@@ -1,7 +1,7 @@
 ghost use Rattle.std.specs.Prelude.{◌≡◌};
 ghost use Rattle.spec_control.specs.Control.{ask, ask_all, ends_of};
-ghost use Rattle.ctl_ends.specs.Turning.{Leads};
-ghost use Rattle.ctl_terms.specs.Asking.{MayAskOne, MayAskAll};
+ghost use Rattle.ctl_ends.specs.Turning.{Leads, turn_of};
+ghost use Rattle.ctl_terms.specs.Asking.{MayAskOne, MayAskAll, asked_turns};
 
 use ctl_ends::turn_end;
 use ctl_holder::{Holder, Load};
@@ -22,7 +22,8 @@ where
     P::Name: Drop,
     requires may { MayAskOne state.old (H.holding holder.old) e }
     ensures { (w : MayAskOne state.old (H.holding holder.old) e) →
-        Leads P.known.out_name P.known.in_name w.names (ask reason delay e w.control)
+        Leads P.known.out_name P.known.in_name w.names
+        (turn_of e w.control (ask reason delay e w.control)) (ask reason delay e w.control)
         state.old state.new (H.holding holder.old) (H.holding holder.new) }
 {
     if !state.is_here(e) {
@@ -44,6 +45,7 @@ where
     requires may { MayAskAll state.old (H.holding holder.old) at.0 }
     ensures { (w : MayAskAll state.old (H.holding holder.old) at.0) →
         Leads P.known.out_name P.known.in_name w.names
+        (asked_turns reason delay (ends_of at.0 w.control) w.control)
         (ask_all reason delay (ends_of at.0 w.control) w.control)
         state.old state.new (H.holding holder.old) (H.holding holder.new) }
 {

@@ -38,7 +38,7 @@ where
     requires may { MayTerm state.old (H.holding holder.old) at.0 }
     ensures { (w : MayTerm state.old (H.holding holder.old) at.0) →
         Terms P.known.out_name P.known.in_name w.names w.control at.0
-        state.old state.new (H.holding holder.new) }
+        state.old state.new (H.holding holder.old) (H.holding holder.new) }
 {
     let reason = term_reason(state, at);
     let delay = reads_on(state, at);

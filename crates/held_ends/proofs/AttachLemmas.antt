@@ -9,10 +9,9 @@ use Rattle.spec_control.specs.Control.{is_end}
 use Rattle.msg_pipe.specs.Known.{Known, IsElse}
 use Rattle.ends.specs.declared.row.EndRow.{EndRow}
 use Rattle.ends.specs.Rows.{Rows, row_at}
-use Rattle.ctl_holder.specs.declared.halves.Halves.{Halves}
 use Rattle.held_ends.specs.declared.table.Place.{Place}
 use Rattle.held_ends.specs.Places.{place_at, is_of}
-use Rattle.held_ends.specs.Attaching.{new_place}
+use Rattle.held_ends.specs.Attaching.{new_place, halves_of}
 use Rattle.held_ends.specs.Sound.{StandsSo, IsSound, Fits, AreApart}
 use Rattle.held_ends.proofs.PlaceLemmas.{place_within}
 use Rattle.held_ends.proofs.SoundLemmas.{one_some}
@@ -56,15 +55,14 @@ row_last : {O I : Type 0} (rows : Rows O I) (b : Box (EndRow O I) Global) → ro
 row_last [] b = refl
 row_last (r ∷ rs) b = row_last rs b
 
-module _ {S O I N : Type 0} (K : Known S O I N) (pipes : S) (rows : Rows O I) (places : List (Place N I)) (e : EndId) (h : Halves O I) (b : Box (EndRow O I) Global)
-    (sound : IsSound K pipes rows places) (fits : Fits K pipes places h) (new : list_any (is_of e) places ≡ false)
-    (value : b.value ≡ record { end = e; writable = true; out = h.out; input = h.input }) where
+module _ {S O I N : Type 0} (K : Known S O I N) (pipes : S) (rows : Rows O I) (places : List (Place N I)) (b : Box (EndRow O I) Global) (peer : Bool)
+    (sound : IsSound K pipes rows places) (fits : Fits K pipes places (halves_of b.value)) (new : list_any (is_of b.value.end) places ≡ false) (writable : b.value.writable ≡ true) where
   abbrev pub last : Place N I
-  last = new_place e (K.out_name h.out) (K.in_name h.input)
+  last = new_place b.value.end (K.out_name b.value.out) (K.in_name b.value.input) peer
 
-  other_end : (k : ℕ) (p : Place N I) → place_at places k ≡ Some p → p.held ≡ true → e ≢ p.end
+  other_end : (k : ℕ) (p : Place N I) → place_at places k ≡ Some p → p.held ≡ true → b.value.end ≢ p.end
   other_end k p at held same =
-      true≢false (sym (ap (λ (x : Bool). x && is_end e p.end) held ∙ ap (is_end e) (sym same) ∙ end_self e) ∙ none_passes (is_of e) places k p new at)
+      true≢false (sym (ap (λ (x : Bool). x && is_end b.value.end p.end) held ∙ ap (is_end b.value.end) (sym same) ∙ end_self b.value.end) ∙ none_passes (is_of b.value.end) places k p new at)
 
   apart_from : (k : ℕ) (p : Place N I) → place_at places k ≡ Some p → p.held ≡ true → AreApart K p last × AreApart K last p
   apart_from k p at held =
@@ -82,14 +80,14 @@ module _ {S O I N : Type 0} (K : Known S O I N) (pipes : S) (rows : Rows O I) (p
         subst (λ (x : Option (EndRow O I)). StandsSo K pipes x p p.held p.writes) (sym (row_before rows (Some b) k w)) (sound.stands k p was))
         (λ (is : (k ≡ length places) × (last ≡ p)).
         subst (λ (x : Place N I). StandsSo K pipes (row_at (rows ++ Some b ∷ []) k) x x.held x.writes) is.1 (
-          record { end = e; writable = true; out = h.out; input = h.input },
-          ap (row_at (rows ++ Some b ∷ [])) (is.0 ∙ sym sound.count) ∙ row_last rows b ∙ ap Some value,
+          b.value,
+          ap (row_at (rows ++ Some b ∷ [])) (is.0 ∙ sym sound.count) ∙ row_last rows b,
           record {
             end_is = refl;
             name_is = refl;
             there = fits.out_there;
             unsealed = λ _. fits.unsealed;
-            writable_is = refl;
+            writable_is = writable;
             reads = record { name_is = refl; there = fits.in_there; met = λ no. absurd (true≢false (sym no)) };
           },
         ))

@@ -14,21 +14,21 @@ row_within [] k row here = cc
 row_within (y ∷ ys) zero row here = omega arith
 row_within (y ∷ ys) (suc k) row here = let r = row_within ys k row here in omega (arith, r)
 
-some_place : {N I : Type 0} (ps : List (Place N I)) (k : ℕ) → k < length ps → (p : Place N I) × (place_at ps k ≡ Some p)
+pub some_place : {N I : Type 0} (ps : List (Place N I)) (k : ℕ) → k < length ps → (p : Place N I) × (place_at ps k ≡ Some p)
 some_place [] k lt = absurd (omega arith)
 some_place (x ∷ xs) zero lt = (x, refl)
 some_place (x ∷ xs) (suc k) lt = some_place xs k (omega arith)
 
 module _ {S O I N : Type 0} (K : Known S O I N) (pipes : S) (rows : Rows O I) (places : List (Place N I)) (sound : IsSound K pipes rows places) where
   -- the place of a row
-  record IsOfRow (k : ℕ) (row : EndRow O I) : Type 0 where
-    place : Place N I
-    at : place_at places k ≡ Some place
-    held : place.held ≡ true
-    writes : place.writes ≡ true
-    stands : WritesSo K pipes row place
+  pub record IsOfRow (k : ℕ) (row : EndRow O I) : Type 0 where
+    pub place : Place N I
+    pub at : place_at places k ≡ Some place
+    pub held : place.held ≡ true
+    pub writes : place.writes ≡ true
+    pub stands : WritesSo K pipes row place
 
-  of_row : (k : ℕ) (row : EndRow O I) → row_at rows k ≡ Some row → IsOfRow k row
+  pub of_row : (k : ℕ) (row : EndRow O I) → row_at rows k ≡ Some row → IsOfRow k row
   of_row k row here =
       let p = some_place places k (let w = row_within rows k row here in let c = sound.count in omega (arith, w, c)) in
       by p.0 p.1 p.0.held p.0.writes refl refl (sound.stands k p.0 p.1)

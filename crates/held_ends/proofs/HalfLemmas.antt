@@ -10,6 +10,7 @@ use Rattle.ends.specs.declared.row.EndRow.{EndRow}
 use Rattle.ends.specs.Rows.{Rows, unboxed, row_at}
 use Rattle.held_ends.specs.declared.table.Place.{Place}
 use Rattle.held_ends.specs.Places.{place_at}
+use Rattle.held_ends.specs.Giving.{GivenAt, given_of, gone_place}
 use Rattle.held_ends.specs.Sound.{is_active, ReadsSo, WritesSo, StandsSo, IsSound}
 use Rattle.held_ends.proofs.PlaceLemmas.{row_there, row_else, row_found, place_within}
 use Rattle.held_ends.proofs.SoundLemmas.{one_some, all_carried, updated, others_written, others_settled}
@@ -117,7 +118,7 @@ module _ {S O I N : Type 0} (K : Known S O I N) where
 
     pub yielded_sound : (pipes' : S) (r : EndRow O I) (o : O) → p.writes ≡ true → row_at rows k ≡ Some r → WritesSo K pipes r p
         → KeepsButOut K r.out o pipes pipes'
-        → IsSound K pipes' (set rows k None) (set places k (record p { writes = false; input = Some r.input }))
+        → IsSound K pipes' (set rows k None) (set places k (record p { writes = false; peer = false; input = Some r.input }))
     yielded_sound pipes' r o writes here stands keeps =
         updated K pipes pipes' rows (set rows k None) places k p after sound there
         (record { end_is = refl; written_is = refl; read_is = refl; held = λ h. h; writes = λ h. absurd (true≢false (sym h)) })
@@ -127,7 +128,7 @@ module _ {S O I N : Type 0} (K : Known S O I N) where
         (others_written K pipes pipes' rows places k p r.out o sound there held writes stands.name_is keeps)
       where
         after : Place N I
-        after = record p { writes = false; input = Some r.input }
+        after = record p { writes = false; peer = false; input = Some r.input }
 
         again : (h : Bool) → h ≡ true → StandsSo K pipes' (row_at (set rows k None) k) after h false
         again true eh = (
@@ -157,10 +158,10 @@ module _ {S O I N : Type 0} (K : Known S O I N) where
         (others_settled K pipes pipes' rows places k p n sound there held name keeps)
 
     -- an end goes to a state, and is written or not by it
-    pub stated_sound : (state : EndState) (r : EndRow O I) (b : Box (EndRow O I) Global) → p.writes ≡ true → row_at rows k ≡ Some r → WritesSo K pipes r p
+    pub stated_sound : (state : EndState) (peer : Bool) (r : EndRow O I) (b : Box (EndRow O I) Global) → p.writes ≡ true → row_at rows k ≡ Some r → WritesSo K pipes r p
         → b.value ≡ record r { writable = is_active state && not p.sealed }
-        → IsSound K pipes (set rows k (Some b)) (set places k (record p { state = state }))
-    stated_sound state r b writes here stands value =
+        → IsSound K pipes (set rows k (Some b)) (set places k (record p { state = state; peer = peer }))
+    stated_sound state peer r b writes here stands value =
         updated K pipes pipes rows (set rows k (Some b)) places k p after sound there
         (record { end_is = refl; written_is = refl; read_is = refl; held = λ h. h; writes = λ h. h })
         (length-set rows k (Some b))
@@ -169,7 +170,7 @@ module _ {S O I N : Type 0} (K : Known S O I N) where
         (λ j r ne at. all_carried K pipes r)
       where
         after : Place N I
-        after = record p { state = state }
+        after = record p { state = state; peer = peer }
 
         now : EndRow O I
         now = record r { writable = is_active state && not p.sealed }
@@ -191,8 +192,8 @@ module _ {S O I N : Type 0} (K : Known S O I N) where
         again false w eh ew = absurd (true≢false (sym eh))
 
     -- one without its writing half has no row
-    pub read_sound : (state : EndState) → p.writes ≡ false → IsSound K pipes rows (set places k (record p { state = state }))
-    read_sound state yielded =
+    pub read_sound : (state : EndState) (peer : Bool) → p.writes ≡ false → IsSound K pipes rows (set places k (record p { state = state; peer = peer }))
+    read_sound state peer yielded =
         updated K pipes pipes rows rows places k p after sound there
         (record { end_is = refl; written_is = refl; read_is = refl; held = λ h. h; writes = λ h. h })
         refl
@@ -201,7 +202,7 @@ module _ {S O I N : Type 0} (K : Known S O I N) where
         (λ j r ne at. all_carried K pipes r)
       where
         after : Place N I
-        after = record p { state = state }
+        after = record p { state = state; peer = peer }
 
         again : (h w : Bool) → h ≡ true → w ≡ false → StandsSo K pipes (row_at rows k) after h w
         again true true eh ew = absurd (true≢false ew)
@@ -228,3 +229,53 @@ module _ {S O I N : Type 0} (K : Known S O I N) where
         (row_there rows k None within)
         (λ j ne. row_else rows k j None ne)
         (λ j r ne at. all_carried K pipes r)
+
+    -- where a row is found the writing half is there, and else it is gone
+    pub row_writes : (x : Option (Box (EndRow O I) Global)) (b : Box (EndRow O I) Global) → x ≡ slice_index_or rows k x → x ≡ Some b → p.writes ≡ true
+    row_writes x b e is = by p.writes refl
+      where
+        by : (w : Bool) → p.writes ≡ w → w ≡ true
+        by true h = refl
+        by false h = absurd (never_row x b h e is)
+
+    pub none_yielded : (x : Option (Box (EndRow O I) Global)) → x ≡ slice_index_or rows k x → x ≡ None → p.writes ≡ false
+    none_yielded x e is = by p.writes refl
+      where
+        by : (w : Bool) → p.writes ≡ w → w ≡ false
+        by true h = absurd (never_none x h e is)
+        by false h = refl
+
+    -- an end that was given is gone with its halves
+    pub given_sound : (x : Option (Box (EndRow O I) Global)) → x ≡ None → IsSound K pipes (set rows k x) (set places k (gone_place p))
+    given_sound x none = subst (λ (y : Option (Box (EndRow O I) Global)). IsSound K pipes (set rows k y) (set places k (gone_place p))) (sym none) (
+        updated K pipes pipes rows (set rows k None) places k p (gone_place p) sound there
+        (record { end_is = refl; written_is = refl; read_is = refl; held = λ h. absurd (true≢false (sym h)); writes = λ h. absurd (true≢false (sym h)) })
+        (length-set rows k None)
+        (row_there rows k None within)
+        (λ j ne. row_else rows k j None ne)
+        (λ j r ne at. all_carried K pipes r)
+        )
+
+    -- with both halves, or the reading half alone
+    pub given_both : (r : EndRow O I) → p.writes ≡ true → WritesSo K pipes r p → GivenAt K pipes k (given_of p (Some r.out) r.input) places (set places k (gone_place p))
+    given_both r writes stands = record {
+      place = p;
+      there = there;
+      said = λ i. record { end = p.end; written = p.written; read = stands.reads.name_is i; writes = sym writes i; met = p.met; state = p.state };
+      out = λ o e. ap K.out_name (sym (one_some r.out o e)) ∙ stands.name_is;
+      met = stands.reads.met;
+      now = refl;
+    }
+
+    pub given_half : (i : I) → p.writes ≡ false → ReadsSo K pipes i p → GivenAt K pipes k (given_of {O = O} p None i) places (set places k (gone_place p))
+    given_half i yielded reads = record {
+      place = p;
+      there = there;
+      said = λ j. record { end = p.end; written = p.written; read = reads.name_is j; writes = sym yielded j; met = p.met; state = p.state };
+      out = λ o e. absurd (none_some o e);
+      met = reads.met;
+      now = refl;
+    }
+      where
+        none_some : (o : O) → None ≡ Some o → ⊥
+        none_some o f = grind arith

@@ -4,3 +4,5 @@ pub mod HalfLemmas
 pub mod AttachLemmas
 pub mod EndsLemmas
 pub mod MakeLemmas
+pub mod GivingLemmas
+pub mod CallLemmas

@@ -1,5 +1,5 @@
 -- What is done to the halves of an end at a place (own choice, after libzmq's `pipe_t`).
-use Rattle.std.specs.Prelude.{◌≡◌, ◌+◌, ℕ, true, false, List, Some, None, slice_set}
+use Rattle.std.specs.Prelude.{◌≡◌, ◌+◌, ℕ, Bool, true, false, List, Some, None, slice_set}
 use Rattle.zq_base.specs.declared.ids.Settled.{Settled}
 use Rattle.spec_control.specs.declared.end.EndState.{EndState}
 use Rattle.held_ends.specs.declared.table.Place.{Place}
@@ -29,11 +29,11 @@ module _ {N I : Type 0} where
     pub pipe : place.read ≡ read
 
 module _ {N O I : Type 0} where
-  -- the end at a place is in this state now
-  pub record StatedAt (k : ℕ) (state : EndState) (old new : EndTable N O I) : Type 0 where
+  -- the end at a place is in this state now, and a peer of its socket's kind or none
+  pub record StatedAt (k : ℕ) (state : EndState) (peer : Bool) (old new : EndTable N O I) : Type 0 where
     pub place : Place N I
     pub there : place_at old.places.items k ≡ Some place
-    pub now : new.places.items ≡ slice_set old.places.items k (record place { state = state })
+    pub now : new.places.items ≡ slice_set old.places.items k (record place { state = state; peer = peer })
 
   -- it was sealed, and all else of it and of the others is as it was
   pub record SealedAt (k : ℕ) (old new : EndTable N O I) : Type 0 where
@@ -47,7 +47,7 @@ module _ {N O I : Type 0} where
     pub input : I
     pub there : place_at old.places.items k ≡ Some place
     pub name_is : place.written ≡ written
-    pub now : new.places.items ≡ slice_set old.places.items k (record place { writes = false; input = Some input })
+    pub now : new.places.items ≡ slice_set old.places.items k (record place { writes = false; peer = false; input = Some input })
 
   -- its pipe was settled with these counts, and it is gone
   pub record SettledAt (k : ℕ) (counts : Settled) (old new : EndTable N O I) : Type 0 where

@@ -2,3 +2,5 @@ pub mod Places
 pub mod Sound
 pub mod Halving
 pub mod Attaching
+pub mod Giving
+pub mod Calls

@@ -1,9 +1,9 @@
-ghost use Rattle.std.specs.Prelude.{◌≡◌, false, OnOk, IfOk, IfErr};
+ghost use Rattle.std.specs.Prelude.{◌≡◌, true, false, OnOk, IfOk, IfErr};
 ghost use Rattle.std.specs.List.{list_any};
 ghost use Rattle.ctl_holder.specs.Holding.{IsCapacity, AreCrossed};
 ghost use Rattle.held_ends.specs.Places.{is_of};
 ghost use Rattle.held_ends.specs.Sound.{IsSound, Fits};
-ghost use Rattle.held_ends.specs.Attaching.{new_place, Attached, Unchanged, TakenBack};
+ghost use Rattle.held_ends.specs.Attaching.{new_place, new_row, halves_of, Attached, Unchanged, HasRoom, TakenBack};
 ghost use Rattle.held_ends.specs.Halving.{WritesAt};
 
 use crate::pipes::HeldPipes;
@@ -15,24 +15,19 @@ use spec_control::EndState;
 use std::alloc::{AllocError, AllocFailed, Global};
 use zq_base::EndId;
 
-/// An end is attached behind those before it, with halves of pipes that none of them has. Want of
-/// memory hands the halves back.
-pub fn attach<P: HeldPipes>(
+/// Room for one end more, with its halves in the box in which they are to stand: all of an attach
+/// that takes memory. Want of memory hands the halves back.
+pub fn prepare<N, O, I>(
     alloc: Global,
-    pipes: &P,
-    table: &mut EndTable<P::Name, P::Out, P::In>,
+    table: &mut EndTable<N, O, I>,
     end: EndId,
-    halves: Halves<P::Out, P::In>,
-) -> Result<(), AllocFailed<Halves<P::Out, P::In>>>
-    requires sound { IsSound P.known pipes.now table.old.rows.items table.old.places.items }
-    requires fits { Fits P.known pipes.now table.old.places.items halves }
-    requires new { list_any (is_of end) table.old.places.items ≡ false }
-    ensures sound { IsSound P.known pipes.now table.new.rows.items table.new.places.items }
-    ensures ok { OnOk result (Attached end (P.known.out_name halves.out)
-        (P.known.in_name halves.input) table.old table.new) }
-    ensures err { IfErr result (λ e. (e.value ≡ halves) × Unchanged table.old table.new) }
+    halves: Halves<O, I>,
+) -> Result<Box<EndRow<O, I>>, AllocFailed<Halves<O, I>>>
+    ensures kept { Unchanged table.old table.new }
+    ensures room { OnOk result (HasRoom table.new) }
+    ensures ok { IfOk result (λ row. row.value ≡ new_row end halves) }
+    ensures err { IfErr result (λ e. e.value ≡ halves) }
 {
-    let _unread = pipes;
     match make_room(table) {
         Ok(()) => {}
         Err(_) => return Err(AllocFailed { value: halves }),
@@ -44,39 +39,71 @@ pub fn attach<P: HeldPipes>(
         input: halves.input,
     };
     match Box::new(alloc, row) {
-        Ok(boxed) => {
-            let place = placed::<P>(&boxed);
-            table.rows.push_reserved(Some(boxed));
-            table.places.push_reserved(place);
-            return Ok(());
-        }
+        Ok(boxed) => return Ok(boxed),
         Err(refused) => {
-            let EndRow {
-                end: _,
-                writable: _,
-                out,
-                input,
-            } = refused.value;
             return Err(AllocFailed {
-                value: Halves { out, input },
+                value: undo(refused.value),
             });
         }
     }
 }
 
+// The halves of an end that is not attached.
+fn undo<O, I>(row: EndRow<O, I>) -> Halves<O, I>
+    ensures { result ≡ halves_of row }
+{
+    let EndRow {
+        end: _,
+        writable: _,
+        out,
+        input,
+    } = row;
+    Halves { out, input }
+}
+
+/// The halves of an end that was prepared and is not attached.
+pub fn give_back<O, I>(row: Box<EndRow<O, I>>) -> Halves<O, I>
+    ensures { result ≡ halves_of row.value }
+{
+    undo(Box::into_inner(row))
+}
+
+/// An end that was prepared is attached behind those before it, a peer of its socket's kind or none.
+/// It takes no memory.
+pub fn join<P: HeldPipes>(
+    pipes: &P,
+    table: &mut EndTable<P::Name, P::Out, P::In>,
+    row: Box<EndRow<P::Out, P::In>>,
+    peer: bool,
+)
+    requires sound { IsSound P.known pipes.now table.old.rows.items table.old.places.items }
+    requires room { HasRoom table.old }
+    requires writable { row.value.writable ≡ true }
+    requires fits { Fits P.known pipes.now table.old.places.items (halves_of row.value) }
+    requires new { list_any (is_of row.value.end) table.old.places.items ≡ false }
+    ensures sound { IsSound P.known pipes.now table.new.rows.items table.new.places.items }
+    ensures joined { Attached row.value.end (P.known.out_name row.value.out)
+        (P.known.in_name row.value.input) peer table.old table.new }
+{
+    let _unread = pipes;
+    let place = placed::<P>(&row, peer);
+    table.rows.push_reserved(Some(row));
+    table.places.push_reserved(place);
+}
+
 // Room for one end more.
 fn make_room<N, O, I>(table: &mut EndTable<N, O, I>) -> Result<(), AllocError>
     ensures kept { Unchanged table.old table.new }
-    ensures room { OnOk result (Rattle.held_ends.specs.Attaching.HasRoom table.new) }
+    ensures room { OnOk result (HasRoom table.new) }
 {
     table.rows.reserve(1)?;
     table.places.reserve(1)
 }
 
 // The place of an end that was just attached.
-fn placed<P: HeldPipes>(row: &EndRow<P::Out, P::In>) -> Place<P::Name, P::In>
+fn placed<P: HeldPipes>(row: &EndRow<P::Out, P::In>, peer: bool) -> Place<P::Name, P::In>
     ensures { result ≡ new_place row.now.end (P.known.out_name row.now.out)
-        (P.known.in_name row.now.input) }
+        (P.known.in_name row.now.input) peer }
 {
     Place {
         end: row.end,
@@ -87,6 +114,7 @@ fn placed<P: HeldPipes>(row: &EndRow<P::Out, P::In>) -> Place<P::Name, P::In>
         writes: true,
         sealed: false,
         met: false,
+        peer,
         dropped: 0,
         input: None,
     }

@@ -10,25 +10,26 @@ use msg_pipe::Pipes;
 use spec_control::EndState;
 use zq_base::Settled;
 
-/// The end at a place goes to a state of its life. It is written while it is Active, and its pipe
-/// has no delimiter.
+/// The end at a place goes to a state of its life, and is a peer of its socket's kind then or none.
+/// It is written while it is Active, and its pipe has no delimiter.
 pub fn set_state<P: Pipes>(
     pipes: &P,
     table: &mut EndTable<P::Name, P::Out, P::In>,
     place: usize,
     state: EndState,
+    peer: bool,
 )
     requires sound { IsSound P.known pipes.now table.old.rows.items table.old.places.items }
     requires there { StandsAt table.old.places.items place }
     ensures sound { IsSound P.known pipes.now table.new.rows.items table.new.places.items }
-    ensures stated { StatedAt place state table.old table.new }
+    ensures stated { StatedAt place state peer table.old table.new }
 {
     let _unread = pipes;
     if !table.places[place].writes {
-        turn(&mut table.places[place], state);
+        turn(&mut table.places[place], state, peer);
         return;
     }
-    let writable = turn(&mut table.places[place], state);
+    let writable = turn(&mut table.places[place], state, peer);
     match &mut table.rows[place] {
         Some(row) => {
             open_or_shut(row, writable);
@@ -39,11 +40,12 @@ pub fn set_state<P: Pipes>(
 }
 
 // The end goes to a state; whether it is written then.
-fn turn<N, I>(place: &mut Place<N, I>, state: EndState) -> bool
-    ensures turned { place.new ≡ record place.old { state = state } }
+fn turn<N, I>(place: &mut Place<N, I>, state: EndState, peer: bool) -> bool
+    ensures turned { place.new ≡ record place.old { state = state; peer = peer } }
     ensures writable { result ≡ can_write place.new }
 {
     place.state = state;
+    place.peer = peer;
     is_active(state) && !place.sealed
 }
 
@@ -100,8 +102,8 @@ fn seal_row<P: Pipes>(pipes: &mut P, row: &mut EndRow<P::Out, P::In>)
     row.writable = false;
 }
 
-/// Gives away the writing half of the end at a place; parts that were not committed are rolled
-/// back.
+/// Gives away the writing half of the end at a place, which is no peer then; parts that were not
+/// committed are rolled back.
 pub fn yield_writer<P: Pipes>(
     pipes: &mut P,
     table: &mut EndTable<P::Name, P::Out, P::In>,
@@ -130,9 +132,10 @@ pub fn yield_writer<P: Pipes>(
 
 // The writing half is gone, and the place has the reading half from now on.
 fn keep_reading<N, I: Drop>(place: &mut Place<N, I>, input: I)
-    ensures { place.new ≡ record place.old { writes = false; input = Some input } }
+    ensures { place.new ≡ record place.old { writes = false; peer = false; input = Some input } }
 {
     place.writes = false;
+    place.peer = false;
     place.input = Some(input);
 }
 

@@ -3,6 +3,7 @@ ghost use Rattle.ends.specs.Rows.{Rows, table};
 ghost use Rattle.ends.specs.Held.{IsHeld};
 ghost use Rattle.held_ends.specs.declared.table.Place.{Place};
 ghost use Rattle.held_ends.specs.Sound.{IsSound};
+ghost use Rattle.held_ends.specs.Calls.{KeepsSound};
 
 use msg_pipe::Pipes;
 
@@ -13,3 +14,8 @@ pub fn sound_ends_are_held<P: Pipes>(pipes: &P)
 {
     let _unread = pipes;
 }
+
+/// Calls on messages, which seal no pipe, leave all ends as they are known at their places.
+pub fn calls_keep_ends_sound<P: Pipes>(_pipes: &P)
+    ensures { KeepsSound P.known }
+{}

@@ -5,14 +5,17 @@
 
 mod attaching;
 mod finding;
+mod giving;
 mod halving;
 mod laws;
 mod pipes;
+mod plain;
 mod table;
 
-pub use attaching::{attach, make, take_back};
+pub use attaching::{give_back, join, make, prepare, take_back};
 pub use finding::find;
+pub use giving::give_ends;
 pub use halving::{seal, set_state, settle, yield_writer};
-pub use laws::sound_ends_are_held;
+pub use laws::{calls_keep_ends_sound, sound_ends_are_held};
 pub use pipes::HeldPipes;
 pub use table::{EndTable, Place};

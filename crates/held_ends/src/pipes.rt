@@ -8,6 +8,10 @@ pub trait HeldPipes: Pipes {
     fn reads(i: &Self::In) -> Self::Name
         ensures { result ≡ Self.known.in_name i.now };
 
+    /// The same name once more.
+    fn same_name(name: &Self::Name) -> Self::Name
+        ensures { result ≡ name.now };
+
     /// A waker of the same owner. Nothing is promised of it.
     fn same_waker(waker: &Self::Waker) -> Self::Waker;
 }

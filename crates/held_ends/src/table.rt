@@ -21,6 +21,8 @@ pub struct Place<N, I> {
     pub sealed: bool,
     /// Its reading half has met the delimiter of its pipe.
     pub met: bool,
+    /// It is a peer of its socket's kind: the kind took it, and it was in use since.
+    pub peer: bool,
     /// How many messages that it read were dropped.
     pub dropped: u64,
     /// The reading half, where the writing half is gone.

@@ -21,7 +21,7 @@ use Rattle.ctl_holder.specs.Holding.{Holding, has_end}
 use Rattle.ctl_holder.specs.Lent.{has_writer, here_ends, HasBothNames, HasEnds}
 use Rattle.ctl_plane.specs.Desk.{HasWhatTheySay}
 use Rattle.held_laws.specs.Laws.{LentHoldersHaveIt}
-use Rattle.held_laws.proofs.HereLemmas.{IsOld}
+use Rattle.control_attached.proofs.OnceLemmas.{IsOld}
 use Rattle.held_laws.proofs.MomentLemmas.{AsLeft, own_moments, left_snoc}
 use Rattle.held_laws.proofs.NobodyLemmas.{nobody_over}
 use Rattle.held_laws.proofs.OthersLemmas.{among}
@@ -74,6 +74,7 @@ module _ {N S : Type 0} (workers : ℕ) (items : List (Item N S)) (run : IsContr
     writes = λ e is. say.writes i e holds is ∙ ap has_writer (left e is).place;
     delimiters = λ e is met. say.delimiters i e holds is
         (ap (λ (p : Place). met_in p ((left_after i (moments_by k (moments_from (begun workers) items))).reasons e)) (left e is).place ∙ ap (met_in (place_of c e)) (left e is).reason ∙ met);
+    states = λ e is. sym (left e is).place ∙ say.states i e holds is;
   }
 
 pub lent_holders_have_it : (N S : Type 0) → LentHoldersHaveIt N S

@@ -15,18 +15,11 @@ use Rattle.control_laws.specs.Kept.{Kept}
 use Rattle.control_moves.specs.Move.{Move}
 use Rattle.control_moves.specs.OwnMoves.{own_moves}
 use Rattle.ctl_holder.specs.Lent.{here_ends}
-use Rattle.held_laws.proofs.MoveLemmas.{is_at}
-use Rattle.held_laws.proofs.LeadLemmas.{attached_by, goes_by, New, old_end, new_ends}
-use Rattle.held_laws.proofs.AttachedLemmas.{attached_after}
+use Rattle.control_attached.proofs.MoveLemmas.{is_at}
+use Rattle.control_attached.proofs.LeadLemmas.{attached_by, goes_by, New, old_end, new_ends}
+use Rattle.control_attached.proofs.AttachedLemmas.{attached_after}
+use Rattle.control_attached.proofs.OnceLemmas.{IsOld, AreOld}
 use Rattle.held_laws.proofs.OwnerLemmas.{mine_all}
-
--- an end that stands in the list has a pair, and was attached
-pub record IsOld (c : Control) (e : EndId) : Type 0 where
-  pub within : e.pair.0 < next_pair c
-  pub at : is_at (place_of c e) ≡ true
-
-abbrev pub AreOld : Control → Type 0
-AreOld c = All (IsOld c) c.attached
 
 -- ---- a list of which some are left
 module _ {X : Type 0} (od hd oc hc g : X → Bool) where
@@ -89,18 +82,6 @@ module _ {N S : Type 0} (c : Control) (did : Did N S) (kept : Kept c) (fits : Fi
 
   abbrev ms : List Move
   ms = own_moves c did
-
-  still : (e : EndId) → IsOld c e → IsOld d e
-  still e o = let s = old_end c did kept fits e o.within o.at in record { within = s.within; at = s.at }
-
-  fresh : (e : EndId) → New ms d e → IsOld d e
-  fresh e n = record { within = n.within; at = n.at }
-
-  -- the list goes on being so
-  pub old_after : AreOld d
-  old_after =
-      subst (λ (es : List EndId). All (IsOld d) es) (sym (attached_after c did))
-      (All-append (IsOld d) c.attached (attached_by ms) (All-weaker (IsOld c) (IsOld d) still c.attached old) (All-weaker (New ms d) (IsOld d) fresh (attached_by ms) (new_ends c did kept fits)))
 
   left_ones : (i : ℕ) → filter (λ e. is_here (place_of d e)) (filter (λ e. owner_of d e == i) c.attached) ≡ filter (λ e. not (goes_by e ms)) (here_ends c.rows.pairs c.attached i)
   left_ones i =

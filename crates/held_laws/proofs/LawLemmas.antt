@@ -33,8 +33,9 @@ use Rattle.control_laws.proofs.AskLemmas.{same_end}
 use Rattle.control_moves.specs.OwnMoves.{own_moves, word_moves}
 use Rattle.control_moves.proofs.GuardLemmas.{may_come}
 use Rattle.ctl_holder.specs.Lent.{here_ends}
-use Rattle.held_laws.proofs.LeadLemmas.{attached_by, goes_by}
-use Rattle.held_laws.proofs.HereLemmas.{AreOld, here_mine, here_others}
+use Rattle.control_attached.proofs.LeadLemmas.{attached_by, goes_by}
+use Rattle.held_laws.proofs.HereLemmas.{here_mine, here_others}
+use Rattle.control_attached.proofs.OnceLemmas.{AreOld}
 use Rattle.held_laws.proofs.BetweenLemmas.{between_back, between_on, made_between, asks_over, reap_comes}
 use Rattle.held_laws.proofs.EventLemmas.{of_held, keep_all, acked, asked_stay, asked_made, word_made, closes, asked_closes, asked_reaps, reaps, word_reaps, word_closes}
 

@@ -1,6 +1,3 @@
-mod MoveLemmas
-mod LeadLemmas
-mod AttachedLemmas
 mod OwnerLemmas
 mod HereLemmas
 mod BetweenLemmas

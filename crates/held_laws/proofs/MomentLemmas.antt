@@ -34,8 +34,8 @@ use Rattle.control_laws.specs.Kept.{Kept}
 use Rattle.control_laws.proofs.RunLemmas.{after_kept}
 use Rattle.control_others.specs.Spared.{shown, Known, Spared, touched_in}
 use Rattle.control_others.proofs.EventLemmas.{others_spared}
-use Rattle.held_laws.proofs.MoveLemmas.{is_at}
-use Rattle.held_laws.proofs.HereLemmas.{IsOld, AreOld, old_after}
+use Rattle.control_attached.proofs.MoveLemmas.{is_at}
+use Rattle.control_attached.proofs.OnceLemmas.{IsOld, AreOld, old_after}
 use Rattle.held_laws.proofs.OthersLemmas.{IsIts, its_ends}
 
 none_some : {y : ℕ} → None ≡ Some y → ⊥

@@ -1,10 +1,11 @@
 -- An event leaves what the holders of other objects have.
 use Rattle.std.specs.Prelude.{◌≡◌, ◌<◌, ◌==◌, ◌||◌, ℕ, Bool, true, false, cond, List, [], ◌∷◌, Option, All, map, filter, refl}
-use Rattle.std.proofs.Common.{sym, ap, ◌∙◌, subst}
+use Rattle.std.proofs.Common.{arith, sym, ap, ◌∙◌, subst}
 use Rattle.std.proofs.lemmas.Bool.{eqb-true}
 use Rattle.std.proofs.lemmas.List.Elements.{All-head, All-tail, All-weaker, All-filter, filter_passes}
 use Rattle.zq_base.specs.declared.ids.EndId.{EndId}
 use Rattle.spec_control.specs.declared.end.Reason.{Reason}
+use Rattle.spec_control.specs.declared.end.EndState.{EndState}
 use Rattle.spec_control.specs.Place.{Place, Unmade, Away, At, is_here}
 use Rattle.spec_control.specs.Control.{Control, begun, is_end, met_in, next_pair, owner_of, place_of, ends_of}
 use Rattle.spec_control.specs.After.{after}
@@ -65,6 +66,17 @@ module _ (c : Control) (i : ℕ) (known : Known c) where
   pub its_here : All (IsIts c i) (here_ends c.rows.pairs c.attached i)
   its_here = All-filter (λ e. is_here (place_of c e)) (IsIts c i) (ends_of i c) its_ends
 
+at_shown : (p : Place) (s : EndState) → shown p ≡ At s → p ≡ At s
+at_shown Unmade s h = absurd (away_at h)
+  where
+    away_at : Away ≡ At s → ⊥
+    away_at f = Prim.grind arith
+at_shown Away s h = absurd (away_at h)
+  where
+    away_at : Away ≡ At s → ⊥
+    away_at f = Prim.grind arith
+at_shown (At state) s h = h
+
 module _ {N : Type 0} (names : EndId → Option N) (c d : Control) (i : ℕ) (known : Known c) (spared : Spared i c d) where
   same_list : here_ends d.rows.pairs d.attached i ≡ here_ends c.rows.pairs c.attached i
   same_list =
@@ -80,6 +92,7 @@ module _ {N : Type 0} (names : EndId → Option N) (c d : Control) (i : ℕ) (kn
     named = has.named;
     writes = λ e here. has.writes e here ∙ writer e (its e here);
     delimiters = λ e here met. has.delimiters e here (sym (met_same e (its e here)) ∙ met);
+    states = λ e here. at_shown (place_of d e) (h.state e) (spared.places e (its e here).within (its e here).own ∙ ap shown (has.states e here));
   }
     where
       its : (e : EndId) → has_end e (h.ends i) ≡ true → IsIts c i e

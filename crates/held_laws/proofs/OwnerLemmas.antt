@@ -38,8 +38,8 @@ use Rattle.control_moves.specs.Coming.{ComesToEnd}
 use Rattle.control_moves.proofs.EventGoLemmas.{event_goes}
 use Rattle.control_moves.proofs.GuardLemmas.{may_come}
 use Rattle.control_moves.proofs.WeighLemmas.{taken_rows}
-use Rattle.held_laws.proofs.MoveLemmas.{owner_in, move_many, move_owner}
-use Rattle.held_laws.proofs.LeadLemmas.{attached_by}
+use Rattle.control_attached.proofs.MoveLemmas.{owner_in, move_many, move_owner}
+use Rattle.control_attached.proofs.LeadLemmas.{attached_by}
 
 -- ---- over moves
 leads_owner : (ms : List Move) (s : Rows) (boxes : ℕ → List Letter) (d : Control) → Leads ms s boxes d → (e : EndId) → e.pair.0 < length s.pairs → owner_of d e ≡ owner_in s e

@@ -5,7 +5,7 @@ use Rattle.std.proofs.lemmas.List.Elements.{All-nil, All-weaker, All-filter, All
 use Rattle.zq_base.specs.Ends.{other_end}
 use Rattle.zq_base.specs.declared.ids.EndId.{EndId}
 use Rattle.spec_control.specs.declared.entry.Item.{Item}
-use Rattle.spec_control.specs.Place.{Place, is_here}
+use Rattle.spec_control.specs.Place.{Place, At, is_here}
 use Rattle.spec_control.specs.Rows.{obj}
 use Rattle.spec_control.specs.Control.{Control, begun, met_in, place_of, ends_of}
 use Rattle.spec_control.specs.ControlRun.{after_all, is_between, IsControlRun}
@@ -22,7 +22,7 @@ use Rattle.ctl_holder.specs.Holding.{Holding, has_end}
 use Rattle.ctl_holder.specs.Lent.{has_writer, here_ends, HasBothNames, HasEnds, HasAll}
 use Rattle.ctl_plane.specs.Desk.{HasWhatTheySay}
 use Rattle.held_laws.specs.Laws.{HoldersHaveWhatIsSaid}
-use Rattle.held_laws.proofs.HereLemmas.{IsOld}
+use Rattle.control_attached.proofs.OnceLemmas.{IsOld}
 use Rattle.held_laws.proofs.MomentLemmas.{AsLeft, own_moments, left_snoc}
 use Rattle.held_laws.proofs.NobodyLemmas.{nobody_over}
 use Rattle.held_laws.proofs.OthersLemmas.{among}
@@ -104,6 +104,9 @@ module _ {N S : Type 0} (workers : ℕ) (items : List (Item N S)) (run : IsContr
   pub said_met : (e : EndId) → has_end e (h.ends i) ≡ true → met_in (place_of left_at e) (left_at.reasons e) ≡ true → h.at_delimiter e ≡ true
   said_met e is met = ends.delimiters e is (sym (ap (λ (p : Place). met_in p (left_at.reasons e)) (left e is).place ∙ ap (met_in (place_of c e)) (left e is).reason) ∙ met)
 
+  pub said_states : (e : EndId) → has_end e (h.ends i) ≡ true → place_of left_at e ≡ At (h.state e)
+  said_states e is = (left e is).place ∙ ends.states e is
+
 pub holders_have_what_is_said : (N S : Type 0) → HoldersHaveWhatIsSaid N S
 holders_have_what_is_said N S workers items run named may k h no_root has all = record {
   objects = λ i holds. said_object workers items run named may k h i (above i holds) (has i holds) (all i holds);
@@ -111,6 +114,7 @@ holders_have_what_is_said N S workers items run named may k h no_root has all = 
   ends = λ i holds. said_ends workers items run named may k h i (above i holds) (has i holds) (all i holds);
   writes = λ i e holds is. said_writes workers items run named may k h i (above i holds) (has i holds) (all i holds) e is;
   delimiters = λ i e holds is met. said_met workers items run named may k h i (above i holds) (has i holds) (all i holds) e is met;
+  states = λ i e holds is. said_states workers items run named may k h i (above i holds) (has i holds) (all i holds) e is;
 }
   where
     above : (i : ℕ) → h.holds i ≡ true → i ≢ 0

@@ -38,9 +38,10 @@ use Rattle.control_others.specs.Spared.{Known}
 use Rattle.ctl_holder.specs.Lent.{here_ends}
 use Rattle.held_laws.specs.Laws.{EndsAreHere}
 use Rattle.held_laws.proofs.LawLemmas.{Knows, owned_by, owns, no_and, no_socket, listener_is, session_is, open_not, heard_not, others_know, mine_know, not_closed}
-use Rattle.held_laws.proofs.LeadLemmas.{attached_by, goes_by}
-use Rattle.held_laws.proofs.AttachedLemmas.{ends_of_joins, asked_ends}
-use Rattle.held_laws.proofs.HereLemmas.{IsOld, AreOld, old_after, here_mine}
+use Rattle.control_attached.proofs.LeadLemmas.{attached_by, goes_by}
+use Rattle.control_attached.proofs.AttachedLemmas.{ends_of_joins, asked_ends}
+use Rattle.held_laws.proofs.HereLemmas.{here_mine}
+use Rattle.control_attached.proofs.OnceLemmas.{IsOld, AreOld, old_after, old_run}
 use Rattle.held_laws.proofs.BetweenLemmas.{asks_over}
 use Rattle.held_laws.proofs.EventLemmas.{of_held, ends_told, with_joins, without, keep_all, none_of, without_acked, asked_stay, closes, asked_closes, word_closes}
 
@@ -239,14 +240,6 @@ module _ {N S : Type 0} where
   over_knows (Event entry ∷ items) c kept old run i hs knows =
       over_knows items (after entry.did c) (after_kept c entry.did kept run.0) (old_after c entry.did kept run.0 old) run.1 i (ends_then i (Event entry) hs) (step_knows c kept old i hs knows entry.did run.0)
   over_knows (Seen sight ∷ items) c kept old run i hs knows = over_knows items c kept old run.1 i hs knows
-
-  old_over : (items : List (Item N S)) (c : Control) → Kept c → AreOld c → IsControlRun c items → AreOld (after_all items c)
-  old_over [] c kept old run = old
-  old_over (Event entry ∷ items) c kept old run = old_over items (after entry.did c) (after_kept c entry.did kept run.0) (old_after c entry.did kept run.0 old) run.1
-  old_over (Seen sight ∷ items) c kept old run = old_over items c kept old run.1
-
-  pub old_run : (workers : ℕ) (items : List (Item N S)) → IsControlRun (begun workers) items → AreOld (after_all items (begun workers))
-  old_run workers items run = old_over items (begun workers) (begun_kept workers) (All-nil (IsOld (begun workers))) run
 
   pub known_after : (workers : ℕ) (items : List (Item N S)) → IsControlRun (begun workers) items → Known (after_all items (begun workers))
   known_after workers items run =

@@ -5,3 +5,4 @@ mod StayLemmas
 mod OrderLemmas
 mod DoneLemmas
 mod TurnLemmas
+mod SealLemmas

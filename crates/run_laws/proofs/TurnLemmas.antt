@@ -5,7 +5,8 @@ use Rattle.std.proofs.Common.{arith, sym, ap, ◌∙◌, subst}
 use Rattle.std.proofs.lemmas.Bool.{eq-eqb}
 use Rattle.control_held.specs.OwnAsks.{is_none}
 use Rattle.control_held.specs.Moments.{Moment, reaper_slots}
-use Rattle.spec_run.specs.LineCall.{RunActor, RunScript}
+use Rattle.spec_run.specs.declared.line.RunActor.{RunActor}
+use Rattle.spec_run.specs.LineCall.{RunScript}
 use Rattle.spec_run.specs.Act.{Deed, Tries, Shuts, Fetches, Idles, Works, Looks, AsksRoot, Reads}
 use Rattle.spec_run.specs.Standing.{ActorStanding, standing_before, LocalRun}
 use Rattle.spec_run.specs.Worker.{Role, ActsBy, Reaps, Serves, Conducts, roles, ReapsSo, ConductsSo, EachDoes, IsWorkOf}

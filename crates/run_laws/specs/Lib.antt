@@ -1,3 +1,4 @@
 pub mod EndOrder
 pub mod DoneRuns
 pub mod TurnsLocal
+pub mod SealsTold

@@ -1,5 +1,6 @@
 ghost use Rattle.run_laws.specs.DoneRuns.{DoneRunsLeaveNothing};
 ghost use Rattle.run_laws.specs.EndOrder.{ObjectsEndInOrder};
+ghost use Rattle.run_laws.specs.SealsTold.{SealsAreTold};
 ghost use Rattle.run_laws.specs.TurnsLocal.{TurnsAreLocal};
 
 /// In a run, on one thread or on many, the objects in the order of their ending are those that have
@@ -17,4 +18,10 @@ pub fn done_runs_leave_nothing<N, S>()
 /// Where a run goes in turns, each worker does what its role asks, by its own deeds alone.
 pub fn turns_are_local<N, S>()
     ensures { TurnsAreLocal N S }
+{}
+
+/// The pipes that the holder of ends is told to seal in a moment are those that get their delimiters
+/// in it, in the same order.
+pub fn seals_are_told<N, S>()
+    ensures { SealsAreTold N S }
 {}

@@ -4,4 +4,6 @@
 
 mod laws;
 
-pub use laws::{done_runs_leave_nothing, objects_end_once_and_in_order, turns_are_local};
+pub use laws::{
+    done_runs_leave_nothing, objects_end_once_and_in_order, seals_are_told, turns_are_local,
+};

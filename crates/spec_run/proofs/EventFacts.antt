@@ -14,7 +14,7 @@ use Rattle.spec_journal.specs.declared.journal.Answer.TheVariants as answer
 use Rattle.spec_journal.specs.ExamplesPipeline.{options_with}
 use Rattle.control_held.specs.Moments.{moments_from}
 use Rattle.spec_run.specs.declared.journal.LineAnswer.TheVariants.{Plain}
-use Rattle.spec_run.specs.LineCall.{Asks, Closes}
+use Rattle.spec_run.specs.declared.line.LineCall.TheVariants.{Asks, Closes}
 use Rattle.spec_run.specs.Act.{Said}
 use Rattle.spec_run.specs.Event.{TakesLetter}
 use Rattle.spec_run.specs.Worker.{roles, AsksTheRoot}

@@ -17,7 +17,8 @@ use Rattle.control_held.proofs.TrialLemmas.{none, acts, takes, of_root, told}
 use Rattle.spec_journal.specs.ExamplesPipeline.{options_with, pair_nr, at_q}
 use Rattle.control_held.specs.Moments.{moments_from}
 use Rattle.spec_run.specs.ExampleParts.{moment, line_nr, over_at}
-use Rattle.spec_run.specs.LineCall.{Asks, Closes, RunLine}
+use Rattle.spec_run.specs.declared.line.LineCall.TheVariants.{Asks, Closes}
+use Rattle.spec_run.specs.declared.line.RunLine.{RunLine}
 use Rattle.spec_journal.specs.declared.journal.Answer.TheVariants as answer
 use Rattle.spec_run.specs.declared.journal.LineAnswer.TheVariants.{Plain}
 use Rattle.spec_run.specs.Act.{Step, Said}

@@ -17,7 +17,8 @@ use Rattle.spec_journal.specs.declared.journal.Answer.TheVariants as answer
 use Rattle.spec_run.specs.declared.journal.LineAnswer.{LineAnswer}
 use Rattle.spec_run.specs.declared.journal.LineAnswer.TheVariants.{Plain, Term}
 use Rattle.spec_run.specs.declared.journal.RunJournal.{RunJournal}
-use Rattle.spec_run.specs.LineCall.{Asks, RunLine}
+use Rattle.spec_run.specs.declared.line.LineCall.TheVariants.{Asks}
+use Rattle.spec_run.specs.declared.line.RunLine.{RunLine}
 use Rattle.spec_run.specs.Act.{Act, Try, moments_in}
 use Rattle.spec_run.specs.OpenSocket.{OpenSock}
 use Rattle.spec_run.specs.SocketCall.{leave_asked, ConnectsWhere}

@@ -3,7 +3,7 @@ use Rattle.std.specs.Prelude.{◌≡◌, ℕ, [], ◌∷◌, Some, refl}
 use Rattle.zq_base.specs.declared.kind.Kind.TheVariants.{Pull}
 use Rattle.spec_journal.specs.ExamplesPipeline.{options_with}
 use Rattle.control_held.specs.Moments.{moments_from}
-use Rattle.spec_run.specs.LineCall.{Closes}
+use Rattle.spec_run.specs.declared.line.LineCall.TheVariants.{Closes}
 use Rattle.spec_run.specs.OpenSocket.{new_open}
 use Rattle.spec_run.specs.Standing.{ActorStanding}
 use Rattle.std.proofs.Common.{inl, arith}

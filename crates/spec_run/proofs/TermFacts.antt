@@ -23,7 +23,8 @@ use Rattle.spec_journal.specs.ExamplesPipeline.{options_with, pair_nr, at_q}
 use Rattle.control_held.specs.Moments.{moments_from}
 use Rattle.spec_run.specs.declared.journal.LineAnswer.TheVariants.{Plain}
 use Rattle.spec_run.specs.ExampleParts.{moment, line_nr, over_at}
-use Rattle.spec_run.specs.LineCall.{Asks, Unbinds, Closes, Terms, RunLine}
+use Rattle.spec_run.specs.declared.line.LineCall.TheVariants.{Asks, Unbinds, Closes, Terms}
+use Rattle.spec_run.specs.declared.line.RunLine.{RunLine}
 use Rattle.spec_run.specs.Act.{Step, Said}
 use Rattle.spec_run.specs.OpenSocket.{OpenSock, new_open, sock_after}
 use Rattle.spec_run.specs.Event.{finds_end}

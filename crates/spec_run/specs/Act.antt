@@ -5,7 +5,7 @@ use Rattle.spec_pattern.specs.PipeStep.{PipeStep}
 use Rattle.spec_pattern.specs.declared.answers.Skip.{Skip}
 use Rattle.control_held.specs.Moments.{Moment}
 use Rattle.spec_run.specs.declared.journal.LineAnswer.{LineAnswer}
-use Rattle.spec_run.specs.LineCall.{RunLine}
+use Rattle.spec_run.specs.declared.line.RunLine.{RunLine}
 
 pub data Act (N S : Type 0) : Type 0 where
   Step : PipeStep → Act N S

@@ -15,7 +15,8 @@ use Rattle.spec_journal.specs.Run.{Schedule}
 use Rattle.spec_journal.specs.ExamplesPipeline.{options_with}
 use Rattle.spec_run.specs.declared.journal.LineAnswer.TheVariants.{Plain}
 use Rattle.spec_run.specs.declared.journal.RunJournal.{RunJournal}
-use Rattle.spec_run.specs.LineCall.{Asks, Closes, RunScript}
+use Rattle.spec_run.specs.declared.line.LineCall.TheVariants.{Asks, Closes}
+use Rattle.spec_run.specs.LineCall.{RunScript}
 use Rattle.zq_script.specs.declared.script.Call.TheVariants as call
 use Rattle.spec_run.specs.Act.{Said, Tries, Fetches, Idles, Looks, AsksRoot}
 use Rattle.spec_run.specs.OwnedRun.{OwnedRun}

@@ -20,7 +20,8 @@ use Rattle.spec_run.specs.declared.journal.LineAnswer.{LineAnswer}
 use Rattle.spec_run.specs.declared.journal.LineEntry.{LineEntry}
 use Rattle.spec_run.specs.declared.journal.ObjectLine.{ObjectLine}
 use Rattle.spec_run.specs.declared.journal.ObjectRow.{ObjectRow}
-use Rattle.spec_run.specs.LineCall.{LineCall, RunLine}
+use Rattle.spec_run.specs.declared.line.LineCall.{LineCall}
+use Rattle.spec_run.specs.declared.line.RunLine.{RunLine}
 use Rattle.spec_run.specs.Act.{Act, Try, Deed}
 use Rattle.spec_run.specs.InTurns.{OneTurn}
 

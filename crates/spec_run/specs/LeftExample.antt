@@ -18,7 +18,8 @@ use Rattle.spec_journal.specs.Run.{Schedule}
 use Rattle.spec_journal.specs.ExamplesPipeline.{options_with, pair_nr, at_q, row_given}
 use Rattle.spec_run.specs.declared.journal.LineAnswer.TheVariants.{Plain}
 use Rattle.spec_run.specs.declared.journal.RunJournal.{RunJournal}
-use Rattle.spec_run.specs.LineCall.{Asks, Closes, RunScript}
+use Rattle.spec_run.specs.declared.line.LineCall.TheVariants.{Asks, Closes}
+use Rattle.spec_run.specs.LineCall.{RunScript}
 use Rattle.spec_run.specs.Act.{Step, Said, Tries, Shuts, Fetches, Idles, Looks, AsksRoot}
 use Rattle.spec_run.specs.OwnedRun.{OwnedRun}
 use Rattle.spec_run.specs.InTurns.{Turned, workers_in}

@@ -1,33 +1,14 @@
 -- What a line of a script asks, where sockets are closed and a context ends, and when it is over (zmq_unbind(3), zmq_disconnect(3), zmq_close(3), zmq_ctx_term(3); tries are an own choice).
 use Rattle.std.specs.Prelude.{◌+◌, ◌||◌, ℕ, Bool, false, not, List, map, nat_le}
-use Rattle.zq_base.specs.declared.endpoint.Endpoint.{Endpoint}
-use Rattle.zq_script.specs.declared.script.Call.{Call}
 use Rattle.zq_script.specs.declared.script.Line.{Line}
 use Rattle.zq_script.specs.declared.script.Script.{Script}
 use Rattle.spec_journal.specs.Turn.{tries_of, asks_again}
+use Rattle.spec_run.specs.declared.line.LineCall.{LineCall}
+use Rattle.spec_run.specs.declared.line.LineCall.TheVariants.{Asks, Unbinds, Disconnects, Closes, Terms}
+use Rattle.spec_run.specs.declared.line.RunLine.{RunLine}
+use Rattle.spec_run.specs.declared.line.RunActor.{RunActor}
 use Rattle.spec_run.specs.declared.journal.LineAnswer.{LineAnswer}
 use Rattle.spec_run.specs.declared.journal.LineAnswer.TheVariants.{Plain, Both, NotBound, Term}
-
--- what a line asks; a place names a socket of the actor: 0 is that of its first socket line
-pub data LineCall : Type 0 where
-  -- what a script asks where sockets do not end
-  Asks : Call → LineCall
-  -- the first bind, or connect, to an endpoint is struck
-  Unbinds : (place : ℕ) → (at : Endpoint) → LineCall
-  Disconnects : (place : ℕ) → (at : Endpoint) → LineCall
-  Closes : (place : ℕ) → LineCall
-  -- the context is asked to end
-  Terms : LineCall
-
--- a line, by its number in the script
-pub record RunLine : Type 0 where
-  pub number : ℕ
-  pub call : LineCall
-
--- an actor and its lines
-pub record RunActor : Type 0 where
-  pub name : List ℕ
-  pub lines : List RunLine
 
 -- a script: its actors, in the order in which they begin
 abbrev pub RunScript : Type 0

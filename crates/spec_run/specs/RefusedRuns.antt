@@ -11,7 +11,7 @@ use Rattle.spec_control.specs.Control.{Settlement, end_of}
 use Rattle.spec_control.specs.ControlExamples.{Stories}
 use Rattle.spec_journal.specs.declared.journal.Answer.TheVariants as answer
 use Rattle.spec_run.specs.declared.journal.LineAnswer.TheVariants.{Plain}
-use Rattle.spec_run.specs.LineCall.{Asks}
+use Rattle.spec_run.specs.declared.line.LineCall.TheVariants.{Asks}
 use Rattle.spec_run.specs.Act.{Act, Try, moments_in}
 use Rattle.spec_run.specs.OpenSocket.{OpenSock}
 use Rattle.spec_run.specs.Pump.{EndsTaking}

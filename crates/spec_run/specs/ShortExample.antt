@@ -15,7 +15,7 @@ use Rattle.spec_journal.specs.Run.{Schedule}
 use Rattle.spec_journal.specs.ExamplesPipeline.{options_with}
 use Rattle.spec_run.specs.declared.journal.LineAnswer.TheVariants.{Plain}
 use Rattle.spec_run.specs.declared.journal.RunJournal.{RunJournal}
-use Rattle.spec_run.specs.LineCall.{Asks}
+use Rattle.spec_run.specs.declared.line.LineCall.TheVariants.{Asks}
 use Rattle.spec_run.specs.Act.{Said, Tries, Idles, Looks}
 use Rattle.spec_run.specs.OwnedRun.{OwnedRun}
 use Rattle.spec_run.specs.InTurns.{Turned, workers_in}

@@ -13,7 +13,11 @@ use Rattle.spec_control.specs.Control.{id}
 use Rattle.spec_journal.specs.declared.journal.Answer.TheVariants as answer
 use Rattle.control_held.specs.Moments.{Moment}
 use Rattle.spec_run.specs.declared.journal.LineAnswer.TheVariants.{Plain}
-use Rattle.spec_run.specs.LineCall.{LineCall, Asks, Unbinds, Disconnects, Closes, Terms, RunLine, RunActor, line_is_over}
+use Rattle.spec_run.specs.declared.line.LineCall.{LineCall}
+use Rattle.spec_run.specs.declared.line.LineCall.TheVariants.{Asks, Unbinds, Disconnects, Closes, Terms}
+use Rattle.spec_run.specs.declared.line.RunLine.{RunLine}
+use Rattle.spec_run.specs.declared.line.RunActor.{RunActor}
+use Rattle.spec_run.specs.LineCall.{line_is_over}
 use Rattle.spec_run.specs.ControlAnswer.{reply_answer}
 use Rattle.spec_run.specs.Act.{Act, Try, moments_in, Deed, Tries, Shuts, Fetches, Idles, Works, Looks, AsksRoot, Reads}
 use Rattle.spec_run.specs.OpenSocket.{OpenSock, PassesItems, new_open}

@@ -23,7 +23,8 @@ use Rattle.spec_journal.specs.Run.{Schedule}
 use Rattle.spec_journal.specs.ExamplesPipeline.{options_with, pair_nr, at_q, row_given}
 use Rattle.spec_run.specs.declared.journal.LineAnswer.TheVariants.{Plain}
 use Rattle.spec_run.specs.declared.journal.RunJournal.{RunJournal}
-use Rattle.spec_run.specs.LineCall.{Asks, Unbinds, Closes, Terms, RunScript}
+use Rattle.spec_run.specs.declared.line.LineCall.TheVariants.{Asks, Unbinds, Closes, Terms}
+use Rattle.spec_run.specs.LineCall.{RunScript}
 use Rattle.spec_run.specs.Act.{Step, Said, Tries, Shuts, Fetches, Idles, Looks}
 use Rattle.spec_run.specs.OwnedRun.{OwnedRun}
 use Rattle.spec_run.specs.InTurns.{Turned, workers_in}

@@ -4,6 +4,7 @@
 
 mod journal;
 mod laws;
+mod line;
 
 pub use journal::{
     ActorLines, LineAnswer, LineEntry, ObjectLine, ObjectRow, RunJournal, SettledRow,
@@ -12,3 +13,4 @@ pub use laws::{
     each_settled_message_has_one_fate, rows_of_runs_add_up, what_is_no_run_is_refused,
     worked_runs_of_scripts,
 };
+pub use line::{LineCall, RunActor, RunLine};

@@ -1,13 +1,14 @@
 use Rattle.std.specs.Prelude.{◌<◌, ◌≤◌, ◌+◌, ◌&&◌, ◌==◌, cond, ℕ, Bool, false, List, All, if◌then◌else◌, refl}
 use Rattle.std.proofs.Common.{ap, sym, ◌∙◌, subst}
+use Rattle.spec_control.specs.declared.end.EndState.{EndState}
 use Rattle.spec_control.specs.declared.end.EndCommands.{EndCommands}
 use Rattle.spec_control.specs.declared.end.EndEvent.TheVariants.{AckCame}
-use Rattle.spec_control.specs.EndLife.{cell, commands_of}
+use Rattle.spec_control.specs.EndLife.{cell, state_after, commands_of}
 use Rattle.spec_control.specs.Place.{is_here}
 use Rattle.spec_control.specs.Control.{commands_in, owner_of, place_of, tell_other}
 use Rattle.control_held.specs.Held.{Held}
 use Rattle.control_laws.proofs.AskLemmas.{end_self}
-use Rattle.ctl_holder.specs.Holding.{has_end, read_in, Left}
+use Rattle.ctl_holder.specs.Holding.{has_end, read_in, Left, TurnsTo}
 use Rattle.ctl_holder.specs.Lent.{has_writer, HasBothNames}
 use Rattle.ctl_holder.specs.declared.load.Load.{Load}
 use Rattle.ctl_state.specs.declared.state.State.{State}
@@ -15,10 +16,10 @@ use Rattle.ctl_state.specs.Boxes.{mail_at}
 use Rattle.ctl_state.specs.Stands.{Stands, slot_of, stepped, tells}
 use Rattle.ctl_state.specs.Pairs.{owner_at as kept_owner_at}
 use Rattle.zq_base.specs.Ends.{other_end}
-use Rattle.ctl_ends.specs.Turning.{yields, needs_writer, Turned}
+use Rattle.ctl_ends.specs.Turning.{yields, needs_writer, SealsFor, Turned}
 use Rattle.ctl_ends.proofs.HeldLemmas.{has_here, read_is}
-use Rattle.ctl_ends.proofs.TurnLemmas.{comes_here, turned_told, puts_told, lists_kept, other_slot}
-use Rattle.ctl_ends.proofs.SettleLemmas.{met_at_ack, told_spare, and_true, ack_writer, ack_needed, has_settled}
+use Rattle.ctl_ends.proofs.TurnLemmas.{comes_here, turned_told, told_as, ends_same, turns_told, puts_told, lists_kept, other_slot}
+use Rattle.ctl_ends.proofs.SettleLemmas.{met_at_ack, told_spare, and_true, ack_writer, ack_needed, ack_goes, left_had, told_less, none_writes, has_settled}
 use Rattle.ctl_ends.proofs.settling.settle_end.Goals as goal
 
 pub set_state-requires : goal.set_state-requires
@@ -75,6 +76,12 @@ settle-counts-requires-clause-pipe g c =
     (both.now.ends ∙ ap (g.H.Holder.holding c.args.holder.now).ends (sym (c.owner-owner.ensures.stands w.control w.stands)))
     ∙ read_is w.names c.args.e ((g.H.Holder.holding c.args.holder.now).ends (owner_of w.control c.args.e)) (g.P.Pipes.known.out_name c.args.writer) has.named here w.settles.pipe
 
+pub settle-counts-requires-clause-apart : goal.settle-counts-requires-clause-apart
+settle-counts-requires-clause-apart g c =
+    none_writes g.P.Pipes.known.exact (g.P.Pipes.known.out_name c.args.writer) c.owner-owner.result.0 c.args.e (yields c.end_goes-commands.result) (g.H.Holder.holding c.args.holder.now) (g.H.Holder.holding c.give_for-load.new.holder)
+    (turned_told c.owner-owner.result.0 c.args.e (g.H.Holder.holding c.args.holder.now) (g.H.Holder.holding c.set_state.new.self) (g.H.Holder.holding c.give_for-load.new.holder) (yields c.end_goes-commands.result)
+    c.set_state.ensures.stays c.give_for-load.ensures.turned) c.requires.apart
+
 pub returns : goal.returns
 returns g c = λ w.
     let h = g.H.Holder.holding c.args.holder.now in
@@ -93,11 +100,17 @@ returns g c = λ w.
     let turned = subst (λ (n : ℕ). Turned n c.args.e (yields (commands_of (cell AckCame w.settles.state))) h k) (sym owner)
     (subst (λ (x : EndCommands). Turned c.owner-owner.result.0 c.args.e (yields x) h k) commands both) in
     let gone = subst (λ (n : ℕ). Left n c.args.e k l) (sym owner) c.settle-counts.ensures.gone in
+    let told_one = told_less (commands_of (cell AckCame w.settles.state)) c.args.e (state_after (cell AckCame w.settles.state) w.settles.state) h k l
+    (told_as (commands_of (cell AckCame w.settles.state)) c.args.e (state_after (cell AckCame w.settles.state) w.settles.state) h m k
+    (subst (λ (x : EndState). TurnsTo c.args.e x h m) (sym (ack_goes w.settles.state w.settles.may_come)) c.set_state.ensures.turns)
+    (λ i. ends_same c.owner-owner.result.0 c.args.e m k (yields c.end_goes-commands.result) c.give_for-load.ensures.turned i)
+    (subst (λ (x : EndCommands). SealsFor x c.args.e m k) commands c.give_for-load.ensures.seals))
+    (left_had c.owner-owner.result.0 c.args.e k l c.settle-counts.ensures.gone) c.settle-counts.ensures.turns in
     record {
       leads = record {
         stands = subst (λ (x : EndCommands). Stands c.tell_other.new.self (tell_other x c.args.e (stepped AckCame c.args.e w.control))) told
             (c.tell_other.ensures.stands (stepped AckCame c.args.e w.control) stands);
-        has = has_settled w.control c.args.e w.settles.state w.settles.there w.settles.within w.settles.may_come w.names h k l turned gone w.has;
+        has = has_settled w.control c.args.e w.settles.state w.settles.there w.settles.within w.settles.may_come w.names h k l turned gone told_one w.has;
         puts = puts_told g.P.Pipes.known.out_name g.P.Pipes.known.in_name w.names c.args.state.now mid c.tell_other.new.self _ c.end_goes-commands.result c.owner-owner.result.0 c.args.e _ c.give_for-load.result m
             (subst (λ (hs : List (Held g.row.P-Name.Denot)). All (HasBothNames w.names) hs) (sym (c.set_state.ensures.stays.now.ends ∙ ap h.ends (sym owner))) has.named)
             c.give_for-load.ensures.given (ap (λ (x : State (Load g.row.P-Name.Denot g.row.P-Out.Denot g.row.P-In.Denot)). x.boxes) c.end_goes-commands.ensures.next)
@@ -108,6 +121,7 @@ returns g c = λ w.
         holds = λ i. gone.now.objects i ∙ turned.now.objects i;
         kinds = λ i. gone.now.kinds i ∙ turned.now.kinds i;
         output = λ i. gone.now.output i ∙ turned.now.output i;
+        turned = turns_told w.control AckCame c.args.e w.settles.state w.settles.there w.settles.within w.names h l (owner_of w.control c.args.e) has here w.settles.may_come told_one;
       };
       settled = record {
         adds_up = c.settle-counts.ensures.sum;

@@ -11,9 +11,9 @@ use Rattle.ctl_holder.specs.declared.load.Load.{Load}
 use Rattle.ctl_state.specs.declared.state.State.{State}
 use Rattle.ctl_state.specs.Stands.{Stands, stepped, tells}
 use Rattle.ctl_state.specs.Boxes.{mail_at}
-use Rattle.ctl_ends.specs.Turning.{yields, needs_writer, Turned}
+use Rattle.ctl_ends.specs.Turning.{yields, needs_writer, SealsFor, Turned}
 use Rattle.ctl_ends.proofs.HeldLemmas.{has_here}
-use Rattle.ctl_ends.proofs.TurnLemmas.{comes_here, stepped_at, writer_needed, turned_told, has_turned, puts_told, lists_kept, other_slot}
+use Rattle.ctl_ends.proofs.TurnLemmas.{comes_here, stepped_at, writer_needed, turned_told, told_as, ends_same, has_turned, turns_told, puts_told, lists_kept, other_slot}
 use Rattle.ctl_ends.proofs.turning.turn_end.Goals as goal
 
 pub tell_state-requires-clause-there : goal.tell_state-requires-clause-there
@@ -36,7 +36,7 @@ tell_state-requires-clause-here g c =
 pub give_for-load-requires-clause-here : goal.give_for-load-requires-clause-here
 give_for-load-requires-clause-here g c =
     let w = c.requires.may in
-    ap (has_end c.args.e) c.tell_state.ensures.now.ends
+    ap (has_end c.args.e) c.tell_state.ensures.stays.now.ends
     ∙ ap (λ (n : ℕ). has_end c.args.e ((g.H.Holder.holding c.args.holder.now).ends n)) (sym (c.owner-owner.ensures.stands w.control w.stands))
     ∙ has_here w.names w.control.rows.pairs w.control.attached w.control.reasons (g.H.Holder.holding c.args.holder.now) (owner_of w.control c.args.e) (w.has (owner_of w.control c.args.e) w.turns.lent) c.args.e refl
     (ap is_here w.turns.there ∙ comes_here c.args.event w.turns.state w.turns.may_come) w.turns.listed
@@ -48,7 +48,7 @@ give_for-load-requires-clause-writer g c = λ needs.
     let here = has_here w.names w.control.rows.pairs w.control.attached w.control.reasons (g.H.Holder.holding c.args.holder.now) (owner_of w.control c.args.e) has c.args.e refl
     (ap is_here w.turns.there ∙ comes_here c.args.event w.turns.state w.turns.may_come) w.turns.listed in
     let commands = c.step_end-commands.ensures.commands w.control w.stands ∙ ap (commands_in c.args.event) w.turns.there in
-    c.tell_state.ensures.writers c.args.e ∙ has.writes c.args.e here ∙ ap has_writer w.turns.there
+    c.tell_state.ensures.stays.writers c.args.e ∙ has.writes c.args.e here ∙ ap has_writer w.turns.there
     ∙ writer_needed c.args.event w.turns.state c.requires.stays (ap needs_writer (sym commands) ∙ needs)
 
 pub returns : goal.returns
@@ -61,15 +61,27 @@ returns g c = λ w.
     let told = c.step_end-commands.ensures.commands w.control w.stands in
     let commands = told ∙ ap (commands_in c.args.event) w.turns.there in
     let owner = c.owner-owner.ensures.stands w.control w.stands in
-    let both = turned_told c.owner-owner.result.0 c.args.e h m k (yields c.step_end-commands.result) c.tell_state.ensures c.give_for-load.ensures.turned in
+    let both = turned_told c.owner-owner.result.0 c.args.e h m k (yields c.step_end-commands.result) c.tell_state.ensures.stays c.give_for-load.ensures.turned in
     let turned = subst (λ (n : ℕ). Turned n c.args.e (yields (commands_of (cell c.args.event w.turns.state))) h k) (sym owner)
     (subst (λ (x : EndCommands). Turned c.owner-owner.result.0 c.args.e (yields x) h k) commands both) in
+    let has = w.has (owner_of w.control c.args.e) w.turns.lent in
+    let here = has_here w.names w.control.rows.pairs w.control.attached w.control.reasons h (owner_of w.control c.args.e) has c.args.e refl
+    (ap is_here w.turns.there ∙ comes_here c.args.event w.turns.state w.turns.may_come) w.turns.listed in
+    let told_one = told_as (commands_of (cell c.args.event w.turns.state)) c.args.e (state_after (cell c.args.event w.turns.state) w.turns.state) h m k
+    (c.tell_state.ensures.turns (record {
+      control = stepped c.args.event c.args.e w.control;
+      stands = stands;
+      state = state_after (cell c.args.event w.turns.state) w.turns.state;
+      there = stepped_at w.control c.args.event c.args.e w.turns.state w.turns.there w.turns.within;
+    }))
+    (λ i. ends_same c.owner-owner.result.0 c.args.e m k (yields c.step_end-commands.result) c.give_for-load.ensures.turned i)
+    (subst (λ (x : EndCommands). SealsFor x c.args.e m k) commands c.give_for-load.ensures.seals) in
     record {
       stands = subst (λ (x : EndCommands). Stands c.tell_other.new.self (tell_other x c.args.e (stepped c.args.event c.args.e w.control))) told
           (c.tell_other.ensures.stands (stepped c.args.event c.args.e w.control) stands);
-      has = has_turned w.control c.args.event c.args.e w.turns.state w.turns.there w.turns.within w.turns.may_come c.requires.stays w.names h k turned w.turns.delimiter w.has;
+      has = has_turned w.control c.args.event c.args.e w.turns.state w.turns.there w.turns.within w.turns.may_come c.requires.stays w.names h k turned w.turns.delimiter told_one w.has;
       puts = puts_told g.P.Pipes.known.out_name g.P.Pipes.known.in_name w.names c.args.state.now mid c.tell_other.new.self _ c.step_end-commands.result c.owner-owner.result.0 c.args.e _ c.give_for-load.result m
-          (subst (λ (hs : List (Held g.row.P-Name.Denot)). All (HasBothNames w.names) hs) (sym (c.tell_state.ensures.now.ends ∙ ap h.ends (sym owner))) (w.has (owner_of w.control c.args.e) w.turns.lent).named)
+          (subst (λ (hs : List (Held g.row.P-Name.Denot)). All (HasBothNames w.names) hs) (sym (c.tell_state.ensures.stays.now.ends ∙ ap h.ends (sym owner))) (w.has (owner_of w.control c.args.e) w.turns.lent).named)
           c.give_for-load.ensures.given (ap (λ (x : State (Load g.row.P-Name.Denot g.row.P-Out.Denot g.row.P-In.Denot)). x.boxes) c.step_end-commands.ensures.next)
           (λ t. subst (λ (n : ℕ). 0 < (mail_at c.args.state.now.boxes n).spare) (sym (other_slot c.args.state.now mid w.control c.args.event c.args.e w.turns.state w.turns.there w.turns.within stands)) (w.turns.room (ap tells (sym told) ∙ t)))
           c.tell_other.ensures.told c.tell_other.ensures.kept;
@@ -78,4 +90,5 @@ returns g c = λ w.
       holds = turned.now.objects;
       kinds = turned.now.kinds;
       output = turned.now.output;
+      turned = turns_told w.control c.args.event c.args.e w.turns.state w.turns.there w.turns.within w.names h k (owner_of w.control c.args.e) has here w.turns.may_come told_one;
     }

@@ -23,6 +23,7 @@ settle_end-counts-requires g c =
         settles = subst (λ (o : g.row.P-Out.Denot). SettlesAt g.P.Pipes.known.out_name g.P.Pipes.known.in_name w.names w.control c.args.state.now (g.H.Holder.holding c.args.holder.now) c.args.e o)
             (same_half g.P.Pipes.known.out_name g.P.Pipes.known.in_name c.args.load w.comes.half c.writer_of-writer.result w.comes.brings c.writer_of-writer.ensures) w.comes.settles;
       };
+      apart = c.requires.apart c.writer_of-writer.result c.writer_of-writer.ensures;
     }
 
 pub try_end-ended-requires : goal.try_end-ended-requires
@@ -74,4 +75,4 @@ returns g c = λ w.
     acknowledges g.P.Pipes.known.out_name g.P.Pipes.known.in_name w.names w.control c.args.at c.args.e c.settle_end-counts.result c.args.state.now c.settle_end-counts.new.state c.try_end-ended.new.self
     (g.H.Holder.holding c.args.holder.now) (g.H.Holder.holding c.settle_end-counts.new.holder) (g.H.Holder.holding c.tell_over.new.holder) done
     (c.try_end-ended.ensures.stands (settle c.args.e (Some c.settle_end-counts.result) now) (settled_aside c.settle_end-counts.new.state now c.args.e c.settle_end-counts.result done.leads.stands)) c.try_end-ended.ensures.only
-    (done.leads.holds c.args.at.0 ∙ ap (g.H.Holder.holding c.args.holder.now).holds (sym w.comes.owner) ∙ w.comes.settles.lent) c.tell_over.ensures.told
+    (done.leads.holds c.args.at.0 ∙ ap (g.H.Holder.holding c.args.holder.now).holds (sym w.comes.owner) ∙ w.comes.settles.lent) c.tell_over.ensures.told w.comes.settles.within w.comes.settles.listed

@@ -17,8 +17,8 @@ pub returns-then-not-index-clause-sound : goal.returns-then-not-index-clause-sou
 returns-then-not-index-clause-sound g c =
     let here = place_found c.args.table.now.places.items c.args.place c.requires.there.place c.index.result.now c.requires.there.there c.index.ensures in
     let same = place_found c.args.table.now.places.items c.args.place c.requires.there.place c.index_mut.result.now c.requires.there.there c.index_mut.ensures.value in
-    subst (λ (x : Place _ _). IsSound g.P.Pipes.known c.args.pipes.now c.args.table.now.rows.items (set c.args.table.now.places.items c.args.place x)) (sym (c.turn.ensures.turned ∙ ap (λ (x : Place _ _). record x { state = c.args.state }) same))
-    (read_sound g.P.Pipes.known c.args.pipes.now c.args.table.now.rows.items c.args.table.now.places.items c.args.place c.requires.there.place c.requires.sound c.requires.there.there c.requires.there.held c.args.state (sym (ap (λ (x : Place _ _). x.writes) here) ∙ c.if-not-index.true))
+    subst (λ (x : Place _ _). IsSound g.P.Pipes.known c.args.pipes.now c.args.table.now.rows.items (set c.args.table.now.places.items c.args.place x)) (sym (c.turn.ensures.turned ∙ ap (λ (x : Place _ _). record x { state = c.args.state; peer = c.args.peer }) same))
+    (read_sound g.P.Pipes.known c.args.pipes.now c.args.table.now.rows.items c.args.table.now.places.items c.args.place c.requires.there.place c.requires.sound c.requires.there.there c.requires.there.held c.args.state c.args.peer (sym (ap (λ (x : Place _ _). x.writes) here) ∙ c.if-not-index.true))
 
 pub returns-then-not-index-clause-stated : goal.returns-then-not-index-clause-stated
 returns-then-not-index-clause-stated g c =
@@ -26,7 +26,7 @@ returns-then-not-index-clause-stated g c =
     record {
       place = c.requires.there.place;
       there = c.requires.there.there;
-      now = ap (λ (x : Place _ _). set c.args.table.now.places.items c.args.place x) (c.turn.ensures.turned ∙ ap (λ (x : Place _ _). record x { state = c.args.state }) same);
+      now = ap (λ (x : Place _ _). set c.args.table.now.places.items c.args.place x) (c.turn.ensures.turned ∙ ap (λ (x : Place _ _). record x { state = c.args.state; peer = c.args.peer }) same);
     }
 
 pub index_mut-requires-2 : goal.index_mut-requires-2
@@ -41,10 +41,10 @@ returns-in-Some-clause-sound g c =
     let writes = sym (ap (λ (x : Place _ _). x.writes) here) ∙ c.if-not-index.false in
     let f = found_row g.P.Pipes.known c.args.pipes.now c.args.table.now.rows.items c.args.table.now.places.items c.args.place c.requires.there.place c.requires.sound c.requires.there.there c.requires.there.held c.index_mut-3.result.now c.in-Some.row c.deref_mut.result.now writes c.index_mut-3.ensures.value c.in-Some.is c.deref_mut.ensures.value in
     let same = place_found c.args.table.now.places.items c.args.place c.requires.there.place c.index_mut-2.result.now c.requires.there.there c.index_mut-2.ensures.value in
-    let now = c.turn-writable.ensures.turned ∙ ap (λ (x : Place _ _). record x { state = c.args.state }) same in
+    let now = c.turn-writable.ensures.turned ∙ ap (λ (x : Place _ _). record x { state = c.args.state; peer = c.args.peer }) same in
     let open_is = c.turn-writable.ensures.writable ∙ ap can_write now in
     subst (λ (x : Place _ _). IsSound g.P.Pipes.known c.args.pipes.now (set c.args.table.now.rows.items c.args.place (Some (with_value c.in-Some.row c.open_or_shut.new.row))) (set c.args.table.now.places.items c.args.place x)) (sym now)
-    (stated_sound g.P.Pipes.known c.args.pipes.now c.args.table.now.rows.items c.args.table.now.places.items c.args.place c.requires.there.place c.requires.sound c.requires.there.there c.requires.there.held c.args.state c.deref_mut.result.now (with_value c.in-Some.row c.open_or_shut.new.row) writes f.0 f.1
+    (stated_sound g.P.Pipes.known c.args.pipes.now c.args.table.now.rows.items c.args.table.now.places.items c.args.place c.requires.there.place c.requires.sound c.requires.there.there c.requires.there.held c.args.state c.args.peer c.deref_mut.result.now (with_value c.in-Some.row c.open_or_shut.new.row) writes f.0 f.1
     (c.open_or_shut.ensures ∙ ap (λ (b : Bool). let x : EndRow _ _ = record c.deref_mut.result.now { writable = b } in x) open_is))
 
 pub returns-in-Some-clause-stated : goal.returns-in-Some-clause-stated
@@ -53,7 +53,7 @@ returns-in-Some-clause-stated g c =
     record {
       place = c.requires.there.place;
       there = c.requires.there.there;
-      now = ap (λ (x : Place _ _). set c.args.table.now.places.items c.args.place x) (c.turn-writable.ensures.turned ∙ ap (λ (x : Place _ _). record x { state = c.args.state }) same);
+      now = ap (λ (x : Place _ _). set c.args.table.now.places.items c.args.place x) (c.turn-writable.ensures.turned ∙ ap (λ (x : Place _ _). record x { state = c.args.state; peer = c.args.peer }) same);
     }
 
 pub unreachable-requires : goal.unreachable-requires

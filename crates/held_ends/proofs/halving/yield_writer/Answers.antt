@@ -28,7 +28,7 @@ returns-in-Some-clause-sound g c =
     let same = place_found c.args.table.now.places.items c.args.place c.requires.writes.place c.index_mut-in-Some.result.now c.requires.writes.there c.index_mut-in-Some.ensures.value in
     subst (λ (x : Option (Box (EndRow _ _) Global)). IsSound g.P.Pipes.known c.rollback.new.self (set c.args.table.now.rows.items c.args.place x) (set c.args.table.now.places.items c.args.place c.keep_reading.new.place)) (sym c.take.ensures.after)
     (subst (λ (x : Place _ _). IsSound g.P.Pipes.known c.rollback.new.self (set c.args.table.now.rows.items c.args.place None) (set c.args.table.now.places.items c.args.place x))
-    (sym (c.keep_reading.ensures ∙ ap (λ (x : Place _ _). record x { writes = false; input = Some c.into_inner-out.result.input }) same))
+    (sym (c.keep_reading.ensures ∙ ap (λ (x : Place _ _). record x { writes = false; peer = false; input = Some c.into_inner-out.result.input }) same))
     (yielded_sound g.P.Pipes.known c.args.pipes.now c.args.table.now.rows.items c.args.table.now.places.items c.args.place c.requires.writes.place c.requires.sound c.requires.writes.there c.requires.writes.held c.rollback.new.self c.into_inner-out.result c.rollback.new.o c.requires.writes.writes f.0 f.1 c.rollback.ensures.keeps))
 
 pub returns-in-Some-clause-yielded : goal.returns-in-Some-clause-yielded
@@ -42,7 +42,7 @@ returns-in-Some-clause-yielded g c =
       there = c.requires.writes.there;
       name_is = sym (c.rollback.ensures.keeps.name_is ∙ f.1.name_is);
       now = ap (λ (x : Place _ _). set c.args.table.now.places.items c.args.place x)
-          (c.keep_reading.ensures ∙ ap (λ (x : Place _ _). record x { writes = false; input = Some c.into_inner-out.result.input }) same);
+          (c.keep_reading.ensures ∙ ap (λ (x : Place _ _). record x { writes = false; peer = false; input = Some c.into_inner-out.result.input }) same);
     }
 
 pub unreachable-requires : goal.unreachable-requires

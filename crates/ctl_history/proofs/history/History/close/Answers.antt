@@ -1,59 +1,61 @@
-use Rattle.std.proofs.Common.{ap, sym, ◌∙◌, subst}
-use Rattle.spec_control.specs.Rows.{obj}
-use Rattle.spec_control.specs.Row.{Row}
-use Rattle.spec_control.specs.ControlRun.{IsOpenSocket}
-use Rattle.spec_control.specs.declared.stage.Use.TheVariants.{OnItsWay}
-use Rattle.own_tree.specs.Changes.{change, with_request}
-use Rattle.ctl_holder.specs.declared.given.Given.{Given}
-use Rattle.ctl_history.specs.Past.{Past, control_of, items_of}
-use Rattle.ctl_history.proofs.BareLemmas.{tree_boxes}
-use Rattle.ctl_history.proofs.DoneLemmas.{reap_room, close_entry, closes, event_given}
-use Rattle.ctl_history.proofs.PlaneLemmas.{planed_now}
-use Rattle.ctl_history.proofs.PlaneDoneLemmas.{closes_plane, closes_given}
-use Rattle.ctl_holder.specs.Load.{AreEndsOfClosed, GivesAll}
-use Rattle.ctl_holder.specs.declared.load.Load.{Load}
-use Rattle.ctl_state.specs.declared.state.State.{State}
+use Rattle.std.specs.Prelude.{refl}
+use Rattle.std.proofs.Common.{sym, subst}
+use Rattle.spec_control.specs.declared.entry.Did.TheVariants.{Asked}
+use Rattle.spec_control.specs.declared.request.Req.TheVariants.{Close}
+use Rattle.spec_control.specs.declared.request.Reply.TheVariants.{Done}
+use Rattle.spec_control.specs.After.{after}
 use Rattle.spec_control.specs.Names.{name_of}
+use Rattle.ctl_holder.specs.declared.given.Given.{Given}
+use Rattle.ctl_holder.specs.Turns.{HasTurned}
+use Rattle.ctl_ends.proofs.TurnedLemmas.{turns_none}
+use Rattle.ctl_state.specs.Stands.{Stands}
+use Rattle.ctl_terms.proofs.HolderLemmas.{has_same}
+use Rattle.ctl_history.specs.Past.{Past, control_of, items_of, IsPast}
+use Rattle.ctl_history.specs.Hearing.{HasWhat}
+use Rattle.ctl_history.proofs.GiveLemmas.{given_ends, given_has, given_met, gives_all}
+use Rattle.ctl_history.proofs.StruckLemmas.{has_then}
+use Rattle.ctl_history.proofs.ToldLemmas.{event_told, told_none}
 use Rattle.ctl_history.proofs.history.History.close.Goals as goal
 
-pub asks_over-requires : goal.asks_over-requires
-asks_over-requires g c =
-    let h = c.self.invariant.history in
-    let is_open = subst (λ (p : Past (Given g.row.P-Name.Denot g.row.P-Out.Denot g.row.P-In.Denot) g.row.P-Name.Denot g.row.P-Story.Denot). IsOpenSocket (obj (control_of p).rows c.args.socket.0)) (sym c.self.view_is) c.requires.«open» in
-    let met = c.needs.ensures _ h.stands in
+pub give_over-requires-clause-ends : goal.give_over-requires-clause-ends
+give_over-requires-clause-ends g c =
+    let stands = subst (λ (p : Past (Given g.row.P-Name.Denot g.row.P-Out.Denot g.row.P-In.Denot) g.row.P-Name.Denot g.row.P-Story.Denot). Stands c.self.inside.state (control_of p)) c.self.view_is c.self.invariant.history.stands in
+    let has = c.requires.has c.args.socket.0 c.requires.lent in
+    given_ends g.P.Pipes.known.out_name g.P.Pipes.known.in_name (control_of c.args.self.now) c.args.socket.0 (name_of (items_of c.args.self.now)) (g.H.Holder.holding c.args.holder.now) has c.give_ends.result.ends.items c.give_ends.ensures.all c.give_ends.result.joined c.give_ends.ensures.joined c.note_met-parting.result (c.note_met-parting.ensures.ends _ stands) (c.note_met-parting.ensures.joined _ stands)
+
+pub give_over-requires-clause-all : goal.give_over-requires-clause-all
+give_over-requires-clause-all g c =
+    let stands = subst (λ (p : Past (Given g.row.P-Name.Denot g.row.P-Out.Denot g.row.P-In.Denot) g.row.P-Name.Denot g.row.P-Story.Denot). Stands c.self.inside.state (control_of p)) c.self.view_is c.self.invariant.history.stands in
+    let has = c.requires.has c.args.socket.0 c.requires.lent in
+    gives_all g.P.Pipes.known.out_name g.P.Pipes.known.in_name (control_of c.args.self.now) c.args.socket.0 (name_of (items_of c.args.self.now)) (g.H.Holder.holding c.args.holder.now) has c.give_ends.result.ends.items c.give_ends.ensures.all c.give_ends.result.joined c.give_ends.ensures.joined c.note_met-parting.result (c.note_met-parting.ensures.ends _ stands) (c.note_met-parting.ensures.joined _ stands)
+    c.give_ends.ensures.writing c.give_ends.ensures.states
+
+pub returns-clause-closes : goal.returns-clause-closes
+returns-clause-closes g c =
+    let stands = subst (λ (p : Past (Given g.row.P-Name.Denot g.row.P-Out.Denot g.row.P-In.Denot) g.row.P-Name.Denot g.row.P-Story.Denot). Stands c.self.inside.state (control_of p)) c.self.view_is c.self.invariant.history.stands in
+    let has = c.requires.has c.args.socket.0 c.requires.lent in
     record {
-      unended = met.unended c.args.socket is_open.lives;
-      unused = ap (λ (o : Row). o.request) (sym (met.row c.args.socket.0)) ∙ is_open.open_still;
+      ends = c.note_met-parting.result.ends.items;
+      answered = c.silent.result;
+      silent = c.silent.ensures;
+      met = given_met g.P.Pipes.known.out_name g.P.Pipes.known.in_name (control_of c.args.self.now) c.args.socket.0 (name_of (items_of c.args.self.now)) (g.H.Holder.holding c.args.holder.now) has c.give_ends.result.ends.items c.give_ends.ensures.all c.give_ends.result.joined c.give_ends.ensures.joined c.note_met-parting.result (c.note_met-parting.ensures.ends _ stands) (c.note_met-parting.ensures.joined _ stands)
+          (g.H.Holder.ended c.give_ends.new.self) c.give_ends.ensures.told c.give_ends.ensures.met;
+      step = c.give_over.ensures;
     }
 
-pub put-requires : goal.put-requires
-put-requires g c =
-    let h = c.self.invariant.history in
-    let is_open = subst (λ (p : Past (Given g.row.P-Name.Denot g.row.P-Out.Denot g.row.P-In.Denot) g.row.P-Name.Denot g.row.P-Story.Denot). IsOpenSocket (obj (control_of p).rows c.args.socket.0)) (sym c.self.view_is) c.requires.«open» in
-    record {
-      room = reap_room c.self.inside.state c.asks_over.new.self _ _ c.args.socket h is_open c.asks_over.ensures.stands (tree_boxes c.self.inside.state c.asks_over.new.self (change (with_request OnItsWay) c.args.socket) c.asks_over.ensures.next);
-    }
+pub returns-clause-keeps : goal.returns-clause-keeps
+returns-clause-keeps g c =
+    let was = control_of c.args.self.now in
+    let did = Asked (Close c.args.socket) Done c.silent.result in
+    subst (λ (p : Past (Given g.row.P-Name.Denot g.row.P-Out.Denot g.row.P-In.Denot) g.row.P-Name.Denot g.row.P-Story.Denot). HasWhat p (g.H.Holder.holding c.give_ends.new.self)) (sym c.give_over.ensures)
+    (has_then c.args.self.now did (after did was) (g.H.Holder.holding c.give_ends.new.self) refl
+    (has_same (name_of (items_of c.args.self.now)) was (after did was) (g.H.Holder.holding c.give_ends.new.self) (record { pairs = refl; attached = refl; reasons = refl })
+    (given_has (name_of (items_of c.args.self.now)) was c.args.socket.0 (g.H.Holder.holding c.args.holder.now) (g.H.Holder.holding c.give_ends.new.self) c.give_ends.ensures.none c.give_ends.ensures.turns c.requires.has)))
 
-pub push-requires : goal.push-requires
-push-requires g c =
-    let is_open = subst (λ (p : Past (Given g.row.P-Name.Denot g.row.P-Out.Denot g.row.P-In.Denot) g.row.P-Name.Denot g.row.P-Story.Denot). IsOpenSocket (obj (control_of p).rows c.args.socket.0)) (sym c.self.view_is) c.requires.«open» in
-    record { room = close_entry c.self.inside.state _ _ c.args.socket c.args.h c.self.invariant.history is_open c.requires.silent }
-
-pub invariant_of-self : goal.invariant_of-self
-invariant_of-self g c =
-    let is_open = subst (λ (p : Past (Given g.row.P-Name.Denot g.row.P-Out.Denot g.row.P-In.Denot) g.row.P-Name.Denot g.row.P-Story.Denot). IsOpenSocket (obj (control_of p).rows c.args.socket.0)) (sym c.self.view_is) c.requires.«open» in
-    let ends = subst (λ (p : Past (Given g.row.P-Name.Denot g.row.P-Out.Denot g.row.P-In.Denot) g.row.P-Name.Denot g.row.P-Story.Denot). AreEndsOfClosed g.P.Pipes.known.out_name g.P.Pipes.known.in_name (name_of (items_of p)) c.args.parting) (sym c.self.view_is) c.requires.ends in
-    planed_now g.P.Pipes.known.out_name g.P.Pipes.known.in_name c.put.new.self c.self.inside.workers c.self.inside.events c.push.new.self _ _ _ c.push.ensures
-    (closes_plane g.P.Pipes.known.out_name g.P.Pipes.known.in_name c.self.inside.state c.asks_over.new.self c.put.new.self _ _ c.args.socket c.args.parting c.self.invariant is_open c.asks_over.ensures.stands
-    (tree_boxes c.self.inside.state c.asks_over.new.self (change (with_request OnItsWay) c.args.socket) c.asks_over.ensures.next) c.put.ensures.next c.args.h _
-    (closes c.self.inside.state c.asks_over.new.self c.put.new.self _ _ c.args.socket _ c.args.h (change (with_request OnItsWay) c.args.socket) c.self.invariant.history is_open c.requires.silent
-    c.asks_over.ensures.stands c.asks_over.ensures.next c.put.ensures.stands c.put.ensures.next) c.requires.silent ends
-    (subst (λ (p : Past (Given g.row.P-Name.Denot g.row.P-Out.Denot g.row.P-In.Denot) g.row.P-Name.Denot g.row.P-Story.Denot). GivesAll (control_of p) c.args.socket.0 c.args.parting) (sym c.self.view_is) c.requires.all)
-    (ap (λ (x : State (Load g.row.P-Name.Denot g.row.P-Out.Denot g.row.P-In.Denot)). x.objects.lists) c.asks_over.ensures.next))
-
-pub returns : goal.returns
-returns g c =
-    let is_open = subst (λ (p : Past (Given g.row.P-Name.Denot g.row.P-Out.Denot g.row.P-In.Denot) g.row.P-Name.Denot g.row.P-Story.Denot). IsOpenSocket (obj (control_of p).rows c.args.socket.0)) (sym c.self.view_is) c.requires.«open» in
-    event_given c.args.self.now c.self.inside.workers c.self.inside.events c.push.new.self _ _ _ _ (sym c.self.view_is) c.push.ensures
-    (closes_given g.P.Pipes.known.out_name g.P.Pipes.known.in_name c.self.inside.state c.asks_over.new.self c.put.new.self _ _ c.args.socket c.args.parting c.self.invariant is_open c.asks_over.ensures.stands
-    (tree_boxes c.self.inside.state c.asks_over.new.self (change (with_request OnItsWay) c.args.socket) c.asks_over.ensures.next) c.put.ensures.next)
+pub returns-clause-turned : goal.returns-clause-turned
+returns-clause-turned g c =
+    let was = control_of c.args.self.now in
+    let did = Asked (Close c.args.socket) Done c.silent.result in
+    subst (λ (p : Past (Given g.row.P-Name.Denot g.row.P-Out.Denot g.row.P-In.Denot) g.row.P-Name.Denot g.row.P-Story.Denot). HasTurned was (control_of p) (g.H.Holder.holding c.args.holder.now) (g.H.Holder.holding c.give_ends.new.self)) (sym c.give_over.ensures)
+    (event_told c.args.self.now (subst (λ (p : Past (Given g.row.P-Name.Denot g.row.P-Out.Denot g.row.P-In.Denot) g.row.P-Name.Denot g.row.P-Story.Denot). IsPast p) c.self.view_is c.self.invariant.history.run) did (g.H.Holder.holding c.args.holder.now) (g.H.Holder.holding c.give_ends.new.self)
+    (told_none was (after did was) (g.H.Holder.holding c.args.holder.now) (g.H.Holder.holding c.give_ends.new.self) (λ e. refl) (turns_none (g.H.Holder.holding c.args.holder.now) (g.H.Holder.holding c.give_ends.new.self) c.give_ends.ensures.turns)))

@@ -7,6 +7,9 @@ use Rattle.ctl_history.specs.Hearing.{HasWhat}
 use Rattle.ctl_history.specs.Past.{Past, control_of}
 use Rattle.ctl_history.proofs.NamedPlaneLemmas.{keeps_refused}
 use Rattle.ctl_history.proofs.RefusalLemmas.{refusal_is}
+use Rattle.ctl_holder.specs.Turns.{HasTurned}
+use Rattle.ctl_ends.proofs.TurnedLemmas.{turns_same}
+use Rattle.ctl_history.proofs.ToldLemmas.{past_told, refused_told}
 use Rattle.ctl_history.proofs.history.History.connect.Goals as goal
 
 pub refuse-requires-clause-refused : goal.refuse-requires-clause-refused
@@ -19,3 +22,13 @@ pub returns-in-Some-clause-keeps : goal.returns-in-Some-clause-keeps
 returns-in-Some-clause-keeps g c =
     subst (λ (p : Past (Given g.row.P-Name.Denot g.row.P-Out.Denot g.row.P-In.Denot) g.row.P-Name.Denot g.row.P-Story.Denot). HasWhat p (g.H.Holder.holding c.args.holder.now)) (sym c.in_ok-refuse-in-Some.ensures.ok)
     (keeps_refused c.args.self.now (Connect c.args.socket (Inproc c.args.name)) c.in-Some.refusal c.silent.result (g.H.Holder.holding c.args.holder.now) c.requires.has)
+
+pub returns-in-Some-clause-turned : goal.returns-in-Some-clause-turned
+returns-in-Some-clause-turned g c =
+    subst (λ (p : Past (Given g.row.P-Name.Denot g.row.P-Out.Denot g.row.P-In.Denot) g.row.P-Name.Denot g.row.P-Story.Denot). HasTurned (control_of c.args.self.now) (control_of p) (g.H.Holder.holding c.args.holder.now) (g.H.Holder.holding c.args.holder.now)) (sym c.in_ok-refuse-in-Some.ensures.ok)
+    (refused_told c.args.self.now (Connect c.args.socket (Inproc c.args.name)) c.in-Some.refusal c.silent.result (g.H.Holder.holding c.args.holder.now))
+
+pub returns-in_err-refuse-in-Some-clause-turned : goal.returns-in_err-refuse-in-Some-clause-turned
+returns-in_err-refuse-in-Some-clause-turned g c =
+    subst (λ (p : Past (Given g.row.P-Name.Denot g.row.P-Out.Denot g.row.P-In.Denot) g.row.P-Name.Denot g.row.P-Story.Denot). HasTurned (control_of c.args.self.now) (control_of p) (g.H.Holder.holding c.args.holder.now) (g.H.Holder.holding c.args.holder.now)) (sym c.in_err-refuse-in-Some.ensures.err)
+    (past_told c.args.self.now (g.H.Holder.holding c.args.holder.now) (g.H.Holder.holding c.args.holder.now) (turns_same (g.H.Holder.holding c.args.holder.now)))

@@ -9,6 +9,9 @@ use Rattle.ctl_history.specs.Carried.{given_in}
 use Rattle.ctl_history.specs.Hearing.{HasWhat}
 use Rattle.ctl_history.specs.Past.{Past, control_of, with_event}
 use Rattle.ctl_history.proofs.NamedPlaneLemmas.{keeps_waiting, no_ends}
+use Rattle.ctl_holder.specs.Turns.{HasTurned}
+use Rattle.ctl_ends.proofs.TurnedLemmas.{turns_same}
+use Rattle.ctl_history.proofs.ToldLemmas.{past_told, waiting_told}
 use Rattle.ctl_history.proofs.history.History.connect_now.Goals as goal
 
 pub returns-in-None-clause-ok : goal.returns-in-None-clause-ok
@@ -26,3 +29,17 @@ returns-in-None-clause-keeps g c =
     (ap (control_of inner).names.held (sym c.name_of-name.ensures) ∙ none) in
     subst (λ (p : Past (Given g.row.P-Name.Denot g.row.P-Out.Denot g.row.P-In.Denot) g.row.P-Name.Denot g.row.P-Story.Denot). HasWhat p (g.H.Holder.holding c.args.holder.now)) (sym c.in_ok-reply-in-None.ensures.ok)
     (keeps_waiting c.args.self.now c.args.socket c.name_of-name.result c.silent.result (g.H.Holder.holding c.args.holder.now) free c.requires.has c.in_ok-reply-in-None.reply)
+
+pub returns-in-None-clause-turned : goal.returns-in-None-clause-turned
+returns-in-None-clause-turned g c =
+    let inner : Past (Given g.row.P-Name.Denot g.row.P-Out.Denot g.row.P-In.Denot) g.row.P-Name.Denot g.row.P-Story.Denot = record { workers = c.self.inside.workers; events = c.self.inside.events.items; given = given_in c.self.inside.state.boxes } in
+    let none = sym (c.find-found.ensures (control_of inner) c.self.invariant.history.stands) ∙ c.in-None.is in
+    let free = subst (λ (p : Past (Given g.row.P-Name.Denot g.row.P-Out.Denot g.row.P-In.Denot) g.row.P-Name.Denot g.row.P-Story.Denot). (control_of p).names.held (Inproc c.name_of-name.result) ≡ None) c.self.view_is
+    (ap (control_of inner).names.held (sym c.name_of-name.ensures) ∙ none) in
+    subst (λ (p : Past (Given g.row.P-Name.Denot g.row.P-Out.Denot g.row.P-In.Denot) g.row.P-Name.Denot g.row.P-Story.Denot). HasTurned (control_of c.args.self.now) (control_of p) (g.H.Holder.holding c.args.holder.now) (g.H.Holder.holding c.args.holder.now)) (sym c.in_ok-reply-in-None.ensures.ok)
+    (waiting_told c.args.self.now c.args.socket c.name_of-name.result c.silent.result (g.H.Holder.holding c.args.holder.now) free c.in_ok-reply-in-None.reply)
+
+pub returns-in_err-reply-in-None-clause-turned : goal.returns-in_err-reply-in-None-clause-turned
+returns-in_err-reply-in-None-clause-turned g c =
+    subst (λ (p : Past (Given g.row.P-Name.Denot g.row.P-Out.Denot g.row.P-In.Denot) g.row.P-Name.Denot g.row.P-Story.Denot). HasTurned (control_of c.args.self.now) (control_of p) (g.H.Holder.holding c.args.holder.now) (g.H.Holder.holding c.args.holder.now)) (sym c.in_err-reply-in-None.ensures.err)
+    (past_told c.args.self.now (g.H.Holder.holding c.args.holder.now) (g.H.Holder.holding c.args.holder.now) (turns_same (g.H.Holder.holding c.args.holder.now)))

@@ -2,10 +2,17 @@ use Rattle.std.specs.Prelude.{◌≡◌, true, refl}
 use Rattle.std.proofs.Common.{ap, sym, ◌∙◌, subst}
 use Rattle.spec_control.specs.Place.{looks}
 use Rattle.spec_control.specs.Rows.{obj}
-use Rattle.spec_control.specs.Control.{owner_of, place_of}
+use Rattle.spec_control.specs.Control.{happens, owner_of, place_of}
 use Rattle.spec_control.specs.ControlRun.{is_between}
 use Rattle.ctl_holder.specs.declared.given.Given.{Given}
-use Rattle.ctl_history.specs.Past.{Past, control_of}
+use Rattle.spec_control.specs.declared.entry.Did.TheVariants.{Delimited}
+use Rattle.spec_control.specs.declared.end.EndEvent.TheVariants.{DelimiterSeen}
+use Rattle.control_others.proofs.StayLemmas.{ends_stay}
+use Rattle.ctl_holder.specs.Turns.{HasTurned}
+use Rattle.ctl_ends.proofs.TurnedLemmas.{turns_same}
+use Rattle.ctl_history.specs.Carried.{given_in}
+use Rattle.ctl_history.specs.Past.{Past, control_of, with_event}
+use Rattle.ctl_history.proofs.ToldLemmas.{event_told, past_told, told_one}
 use Rattle.ctl_history.specs.Hearing.{HasWhat}
 use Rattle.ctl_history.proofs.DoneLemmas.{event_now}
 use Rattle.ctl_history.proofs.PlaneLemmas.{planed_now}
@@ -76,3 +83,23 @@ returns-clause-keeps g c =
     c.silent.result c.silent.ensures held (c.turn_end.ensures may) in
     subst (λ (p : Past (Given g.row.P-Name.Denot g.row.P-Out.Denot g.row.P-In.Denot) g.row.P-Name.Denot g.row.P-Story.Denot). HasWhat p (g.H.Holder.holding c.turn_end.new.holder))
     (sym (event_now (record { workers = c.self.inside.workers; events = c.self.inside.events.items; given = _ }) c.self.inside.workers c.self.inside.events c.push.new.self _ _ _ refl c.push.ensures given)) keeps
+
+pub returns-clause-turned : goal.returns-clause-turned
+returns-clause-turned g c =
+    let inner : Past (Given g.row.P-Name.Denot g.row.P-Out.Denot g.row.P-In.Denot) g.row.P-Name.Denot g.row.P-Story.Denot = record { workers = c.self.inside.workers; events = c.self.inside.events.items; given = given_in c.self.inside.state.boxes } in
+    let looked = sym (c.is_looked_at.ensures _ c.self.invariant.history.stands) ∙ c.if-not-is_looked_at.false in
+    let may = may_meet g.P.Pipes.known.out_name g.P.Pipes.known.in_name c.self.inside.state _ _ c.args.e c.self.invariant looked (g.H.Holder.holding c.args.holder.now)
+    (subst (λ (p : Past (Given g.row.P-Name.Denot g.row.P-Out.Denot g.row.P-In.Denot) g.row.P-Name.Denot g.row.P-Story.Denot). HasWhat p (g.H.Holder.holding c.args.holder.now)) (sym c.self.view_is) c.requires.has)
+    (subst (λ (p : Past (Given g.row.P-Name.Denot g.row.P-Out.Denot g.row.P-In.Denot) g.row.P-Name.Denot g.row.P-Story.Denot). (g.H.Holder.holding c.args.holder.now).holds (owner_of (control_of p) c.args.e) ≡ true) (sym c.self.view_is) c.requires.lent)
+    c.requires.at in
+    let held = ap (λ (p : Past (Given g.row.P-Name.Denot g.row.P-Out.Denot g.row.P-In.Denot) g.row.P-Name.Denot g.row.P-Story.Denot). is_between (obj (control_of p).rows (owner_of (control_of p) c.args.e))) c.self.view_is ∙ c.requires.held in
+    let step = event_now c.args.self.now c.self.inside.workers c.self.inside.events c.push.new.self _ _ _ (sym c.self.view_is) c.push.ensures
+    (meets_given g.P.Pipes.known.out_name g.P.Pipes.known.in_name c.self.inside.state _ _ c.args.e c.self.invariant looked c.turn_end.new.state (g.H.Holder.holding c.args.holder.now) (g.H.Holder.holding c.turn_end.new.holder)
+    c.silent.result c.silent.ensures held (c.turn_end.ensures may)) in
+    subst (λ (p : Past (Given g.row.P-Name.Denot g.row.P-Out.Denot g.row.P-In.Denot) g.row.P-Name.Denot g.row.P-Story.Denot). HasTurned (control_of c.args.self.now) (control_of p) (g.H.Holder.holding c.args.holder.now) (g.H.Holder.holding c.turn_end.new.holder)) (sym step)
+    (subst (λ (p : Past (Given g.row.P-Name.Denot g.row.P-Out.Denot g.row.P-In.Denot) g.row.P-Name.Denot g.row.P-Story.Denot). HasTurned (control_of p) (control_of (with_event (Delimited c.args.e c.silent.result) p)) (g.H.Holder.holding c.args.holder.now) (g.H.Holder.holding c.turn_end.new.holder)) c.self.view_is
+    (event_told inner c.self.invariant.history.run (Delimited c.args.e c.silent.result) (g.H.Holder.holding c.args.holder.now) (g.H.Holder.holding c.turn_end.new.holder)
+    (told_one (control_of inner) (happens DelimiterSeen c.args.e (control_of inner)) DelimiterSeen c.args.e (g.H.Holder.holding c.args.holder.now) (g.H.Holder.holding c.turn_end.new.holder) (ends_stay (happens DelimiterSeen c.args.e (control_of inner))) may.turns.within may.turns.listed (c.turn_end.ensures may).turned)))
+
+pub returns-then-not-is_looked_at-clause-turned : goal.returns-then-not-is_looked_at-clause-turned
+returns-then-not-is_looked_at-clause-turned g c = past_told c.args.self.now (g.H.Holder.holding c.args.holder.now) (g.H.Holder.holding c.args.holder.now) (turns_same (g.H.Holder.holding c.args.holder.now))

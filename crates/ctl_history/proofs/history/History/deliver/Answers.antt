@@ -1,38 +1,65 @@
-use Rattle.std.specs.Prelude.{◌≡◌, ◌&&◌, ◌==◌, ◌<◌, ℕ, true, Option, refl}
+use Rattle.std.specs.Prelude.{◌≡◌, ◌&&◌, ◌==◌, ◌<◌, ◌∷◌, ℕ, true, Option, refl}
 use Rattle.std.specs.List.{list_any}
 use Rattle.std.proofs.Common.{ap, sym, ◌∙◌, subst}
 use Rattle.mailbox.specs.Mail.{with_put_back}
 use Rattle.spec_control.specs.ControlRun.{is_between}
 use Rattle.ctl_holder.specs.declared.given.Given.{Given}
+use Rattle.ctl_holder.specs.Holding.{AreMet}
 use Rattle.ctl_holder.specs.declared.load.Load.{Load}
+use Rattle.ctl_state.specs.declared.state.State.{State}
 use Rattle.ctl_state.specs.Boxes.{mail_at, with_mail}
+use Rattle.ctl_state.specs.Listed.{Listed}
 use Rattle.ctl_state.specs.Parts.{on_boxes}
-use Rattle.ctl_history.specs.Past.{Past, control_of}
-use Rattle.ctl_history.specs.Hearing.{IsServed, HasWhat}
-use Rattle.ctl_history.proofs.DoneLemmas.{event_now}
+use Rattle.spec_control.specs.declared.entry.Did.{Did}
+use Rattle.spec_control.specs.declared.entry.Did.TheVariants.{Delivered}
+use Rattle.spec_control.specs.declared.letter.Word.{Word}
+use Rattle.spec_control.specs.After.{after, without_front}
+use Rattle.spec_control.specs.PairPhase.{behind_first}
+use Rattle.ctl_holder.specs.Turns.{HasTurned}
+use Rattle.ctl_ends.proofs.TurnedLemmas.{turns_none, turns_same}
+use Rattle.ctl_history.specs.Past.{Past, control_of, with_event}
+use Rattle.ctl_history.proofs.ToldLemmas.{event_told, past_told, told_before}
+use Rattle.ctl_history.specs.Carried.{given_in}
+use Rattle.ctl_history.specs.Hearing.{AreApart, AreFree, AreOfKind, BringsFirst, FitBinds, IsServed, HasWhat}
+use Rattle.ctl_history.proofs.DoneLemmas.{event_with, goes_back}
 use Rattle.ctl_history.proofs.PlaneLemmas.{planed_now}
-use Rattle.ctl_history.proofs.PlaneDoneLemmas.{took_lists, taken_there, back_given, stays_there}
-use Rattle.ctl_history.proofs.DeliverLemmas.{may_hear, delivers, delivers_entry, delivers_given, delivers_keeps}
+use Rattle.ctl_history.proofs.PlaneDoneLemmas.{took_lists, taken_there, back_given, back_plane, stays_there}
+use Rattle.ctl_history.proofs.DeliverLemmas.{may_hear, writer_named, reap_in_roots, met_first, fits_first, delivers, delivers_entry, delivers_brings, delivers_keeps}
 use Rattle.ctl_history.proofs.history.History.deliver.Goals as goal
 
-pub process-requires : goal.process-requires
-process-requires g c = record {
-  may = may_hear g.P.Pipes.known.out_name g.P.Pipes.known.in_name c.self.inside.state c.take.new.self _ _ c.args.slot c.in-Some.command c.self.invariant (took_lists c.self.inside.state c.take.new.self _ c.in-Some.ensures.rest) c.in-Some.ensures.boxes c.in-Some.ensures.stands
-      (c.in-Some.ensures.front _ c.self.invariant.history.stands) (g.H.Holder.holding c.args.holder.now)
-      (subst (λ (p : Past (Given g.row.P-Name.Denot g.row.P-Out.Denot g.row.P-In.Denot) g.row.P-Name.Denot g.row.P-Story.Denot). HasWhat p (g.H.Holder.holding c.args.holder.now)) (sym c.self.view_is) c.requires.has)
-      (subst (λ (p : Past (Given g.row.P-Name.Denot g.row.P-Out.Denot g.row.P-In.Denot) g.row.P-Name.Denot g.row.P-Story.Denot). (i : ℕ) → IsServed (control_of p) c.args.slot.0 i → (g.H.Holder.holding c.args.holder.now).holds i ≡ true) (sym c.self.view_is) c.requires.lent);
-}
+pub process-requires-clause-may : goal.process-requires-clause-may
+process-requires-clause-may g c =
+    may_hear g.P.Pipes.known.out_name g.P.Pipes.known.in_name c.self.inside.state c.take.new.self _ _ c.args.slot c.in-Some.command c.self.invariant (took_lists c.self.inside.state c.take.new.self _ c.in-Some.ensures.rest) c.in-Some.ensures.boxes c.in-Some.ensures.stands (c.in-Some.ensures.front _ c.self.invariant.history.stands) (g.H.Holder.holding c.args.holder.now)
+    (subst (λ (p : Past (Given g.row.P-Name.Denot g.row.P-Out.Denot g.row.P-In.Denot) g.row.P-Name.Denot g.row.P-Story.Denot). HasWhat p (g.H.Holder.holding c.args.holder.now)) (sym c.self.view_is) c.requires.has)
+    (subst (λ (p : Past (Given g.row.P-Name.Denot g.row.P-Out.Denot g.row.P-In.Denot) g.row.P-Name.Denot g.row.P-Story.Denot). (i : ℕ) → IsServed (control_of p) c.args.slot.0 i → (g.H.Holder.holding c.args.holder.now).holds i ≡ true) (sym c.self.view_is) c.requires.lent)
+    (subst (λ (p : Past (Given g.row.P-Name.Denot g.row.P-Out.Denot g.row.P-In.Denot) g.row.P-Name.Denot g.row.P-Story.Denot). c.args.slot.0 ≡ 0 → AreFree (control_of p) (g.H.Holder.holding c.args.holder.now)) (sym c.self.view_is) c.requires.free)
+    (subst (λ (p : Past (Given g.row.P-Name.Denot g.row.P-Out.Denot g.row.P-In.Denot) g.row.P-Name.Denot g.row.P-Story.Denot). AreOfKind (control_of p) c.args.slot.0 (g.H.Holder.holding c.args.holder.now)) (sym c.self.view_is) c.requires.kinds)
+
+pub process-requires-clause-reaps : goal.process-requires-clause-reaps
+process-requires-clause-reaps g c = λ brings. c.requires.reaps (reap_in_roots g.P.Pipes.known.out_name g.P.Pipes.known.in_name c.self.inside.state c.take.new.self _ _ c.args.slot c.in-Some.command c.self.invariant (took_lists c.self.inside.state c.take.new.self _ c.in-Some.ensures.rest) c.in-Some.ensures.boxes c.in-Some.ensures.stands (c.in-Some.ensures.front _ c.self.invariant.history.stands) brings)
+
+pub process-requires-clause-met : goal.process-requires-clause-met
+process-requires-clause-met g c =
+    met_first g.P.Pipes.known.out_name g.P.Pipes.known.in_name c.self.inside.state c.take.new.self _ _ c.args.slot c.in-Some.command c.self.invariant (took_lists c.self.inside.state c.take.new.self _ c.in-Some.ensures.rest) c.in-Some.ensures.boxes c.in-Some.ensures.stands (c.in-Some.ensures.front _ c.self.invariant.history.stands) (g.H.Holder.ended c.args.holder.now)
+    (subst (λ (p : Past (Given g.row.P-Name.Denot g.row.P-Out.Denot g.row.P-In.Denot) g.row.P-Name.Denot g.row.P-Story.Denot). c.args.slot.0 ≡ 0 → AreMet (g.H.Holder.ended c.args.holder.now) p.given) (sym c.self.view_is) c.requires.met)
+
+pub process-requires-clause-fits : goal.process-requires-clause-fits
+process-requires-clause-fits g c =
+    fits_first g.P.Pipes.known.out_name g.P.Pipes.known.in_name c.self.inside.state c.take.new.self _ _ c.args.slot c.in-Some.command c.self.invariant (took_lists c.self.inside.state c.take.new.self _ c.in-Some.ensures.rest) c.in-Some.ensures.boxes c.in-Some.ensures.stands (c.in-Some.ensures.front _ c.self.invariant.history.stands) (g.H.Holder.fits c.args.holder.now)
+    (subst (λ (p : Past (Given g.row.P-Name.Denot g.row.P-Out.Denot g.row.P-In.Denot) g.row.P-Name.Denot g.row.P-Story.Denot). FitBinds g.P.Pipes.known.out_name g.P.Pipes.known.in_name p c.args.slot.0 (g.H.Holder.fits c.args.holder.now)) (sym c.self.view_is) c.requires.fits)
 
 pub push-requires : goal.push-requires
 push-requires g c =
     let front = c.in-Some.ensures.front _ c.self.invariant.history.stands in
     let hear = may_hear g.P.Pipes.known.out_name g.P.Pipes.known.in_name c.self.inside.state c.take.new.self _ _ c.args.slot c.in-Some.command c.self.invariant (took_lists c.self.inside.state c.take.new.self _ c.in-Some.ensures.rest) c.in-Some.ensures.boxes c.in-Some.ensures.stands front (g.H.Holder.holding c.args.holder.now)
     (subst (λ (p : Past (Given g.row.P-Name.Denot g.row.P-Out.Denot g.row.P-In.Denot) g.row.P-Name.Denot g.row.P-Story.Denot). HasWhat p (g.H.Holder.holding c.args.holder.now)) (sym c.self.view_is) c.requires.has)
-    (subst (λ (p : Past (Given g.row.P-Name.Denot g.row.P-Out.Denot g.row.P-In.Denot) g.row.P-Name.Denot g.row.P-Story.Denot). (i : ℕ) → IsServed (control_of p) c.args.slot.0 i → (g.H.Holder.holding c.args.holder.now).holds i ≡ true) (sym c.self.view_is) c.requires.lent) in
+    (subst (λ (p : Past (Given g.row.P-Name.Denot g.row.P-Out.Denot g.row.P-In.Denot) g.row.P-Name.Denot g.row.P-Story.Denot). (i : ℕ) → IsServed (control_of p) c.args.slot.0 i → (g.H.Holder.holding c.args.holder.now).holds i ≡ true) (sym c.self.view_is) c.requires.lent)
+    (subst (λ (p : Past (Given g.row.P-Name.Denot g.row.P-Out.Denot g.row.P-In.Denot) g.row.P-Name.Denot g.row.P-Story.Denot). c.args.slot.0 ≡ 0 → AreFree (control_of p) (g.H.Holder.holding c.args.holder.now)) (sym c.self.view_is) c.requires.free)
+    (subst (λ (p : Past (Given g.row.P-Name.Denot g.row.P-Out.Denot g.row.P-In.Denot) g.row.P-Name.Denot g.row.P-Story.Denot). AreOfKind (control_of p) c.args.slot.0 (g.H.Holder.holding c.args.holder.now)) (sym c.self.view_is) c.requires.kinds) in
     let held = ap (λ (p : Past (Given g.row.P-Name.Denot g.row.P-Out.Denot g.row.P-In.Denot) g.row.P-Name.Denot g.row.P-Story.Denot). list_any (λ o. is_between o && o.slot == c.args.slot.0) (control_of p).rows.objects) c.self.view_is ∙ c.requires.held in
     record {
       room = delivers_entry g.P.Pipes.known.out_name g.P.Pipes.known.in_name c.self.inside.state c.take.new.self _ _ c.args.slot c.in-Some.command c.self.invariant (took_lists c.self.inside.state c.take.new.self _ c.in-Some.ensures.rest) c.in-Some.ensures.boxes c.in-Some.ensures.stands front
-          c.process.new.state (g.H.Holder.holding c.process.new.holder) c.in-Ok.answered held c.in-Ok.ensures.is_heard (c.in-Ok.ensures.heard hear);
+          c.process.new.state (g.H.Holder.holding c.process.new.holder) c.in-Ok.answered held (c.in-Ok.ensures.heard hear);
     }
 
 pub invariant_of-self-in-Ok : goal.invariant_of-self-in-Ok
@@ -40,28 +67,32 @@ invariant_of-self-in-Ok g c =
     let front = c.in-Some.ensures.front _ c.self.invariant.history.stands in
     let hear = may_hear g.P.Pipes.known.out_name g.P.Pipes.known.in_name c.self.inside.state c.take.new.self _ _ c.args.slot c.in-Some.command c.self.invariant (took_lists c.self.inside.state c.take.new.self _ c.in-Some.ensures.rest) c.in-Some.ensures.boxes c.in-Some.ensures.stands front (g.H.Holder.holding c.args.holder.now)
     (subst (λ (p : Past (Given g.row.P-Name.Denot g.row.P-Out.Denot g.row.P-In.Denot) g.row.P-Name.Denot g.row.P-Story.Denot). HasWhat p (g.H.Holder.holding c.args.holder.now)) (sym c.self.view_is) c.requires.has)
-    (subst (λ (p : Past (Given g.row.P-Name.Denot g.row.P-Out.Denot g.row.P-In.Denot) g.row.P-Name.Denot g.row.P-Story.Denot). (i : ℕ) → IsServed (control_of p) c.args.slot.0 i → (g.H.Holder.holding c.args.holder.now).holds i ≡ true) (sym c.self.view_is) c.requires.lent) in
+    (subst (λ (p : Past (Given g.row.P-Name.Denot g.row.P-Out.Denot g.row.P-In.Denot) g.row.P-Name.Denot g.row.P-Story.Denot). (i : ℕ) → IsServed (control_of p) c.args.slot.0 i → (g.H.Holder.holding c.args.holder.now).holds i ≡ true) (sym c.self.view_is) c.requires.lent)
+    (subst (λ (p : Past (Given g.row.P-Name.Denot g.row.P-Out.Denot g.row.P-In.Denot) g.row.P-Name.Denot g.row.P-Story.Denot). c.args.slot.0 ≡ 0 → AreFree (control_of p) (g.H.Holder.holding c.args.holder.now)) (sym c.self.view_is) c.requires.free)
+    (subst (λ (p : Past (Given g.row.P-Name.Denot g.row.P-Out.Denot g.row.P-In.Denot) g.row.P-Name.Denot g.row.P-Story.Denot). AreOfKind (control_of p) c.args.slot.0 (g.H.Holder.holding c.args.holder.now)) (sym c.self.view_is) c.requires.kinds) in
     let held = ap (λ (p : Past (Given g.row.P-Name.Denot g.row.P-Out.Denot g.row.P-In.Denot) g.row.P-Name.Denot g.row.P-Story.Denot). list_any (λ o. is_between o && o.slot == c.args.slot.0) (control_of p).rows.objects) c.self.view_is ∙ c.requires.held in
     planed_now g.P.Pipes.known.out_name g.P.Pipes.known.in_name c.process.new.state c.self.inside.workers c.self.inside.events c.push.new.self _ _ _ c.push.ensures
     (delivers g.P.Pipes.known.out_name g.P.Pipes.known.in_name c.self.inside.state c.take.new.self _ _ c.args.slot c.in-Some.command c.self.invariant (took_lists c.self.inside.state c.take.new.self _ c.in-Some.ensures.rest) c.in-Some.ensures.boxes c.in-Some.ensures.stands front
-    c.process.new.state (g.H.Holder.holding c.process.new.holder) c.in-Ok.answered held c.in-Ok.ensures.is_heard (c.in-Ok.ensures.heard hear))
+    c.process.new.state (g.H.Holder.holding c.process.new.holder) c.in-Ok.answered held (c.in-Ok.ensures.heard hear))
 
-pub returns-in-Ok-clause-found : goal.returns-in-Ok-clause-found
-returns-in-Ok-clause-found g c =
+pub returns-in-Ok-clause-ok : goal.returns-in-Ok-clause-ok
+returns-in-Ok-clause-ok g c =
     let front = c.in-Some.ensures.front _ c.self.invariant.history.stands in
     let hear = may_hear g.P.Pipes.known.out_name g.P.Pipes.known.in_name c.self.inside.state c.take.new.self _ _ c.args.slot c.in-Some.command c.self.invariant (took_lists c.self.inside.state c.take.new.self _ c.in-Some.ensures.rest) c.in-Some.ensures.boxes c.in-Some.ensures.stands front (g.H.Holder.holding c.args.holder.now)
     (subst (λ (p : Past (Given g.row.P-Name.Denot g.row.P-Out.Denot g.row.P-In.Denot) g.row.P-Name.Denot g.row.P-Story.Denot). HasWhat p (g.H.Holder.holding c.args.holder.now)) (sym c.self.view_is) c.requires.has)
-    (subst (λ (p : Past (Given g.row.P-Name.Denot g.row.P-Out.Denot g.row.P-In.Denot) g.row.P-Name.Denot g.row.P-Story.Denot). (i : ℕ) → IsServed (control_of p) c.args.slot.0 i → (g.H.Holder.holding c.args.holder.now).holds i ≡ true) (sym c.self.view_is) c.requires.lent) in
+    (subst (λ (p : Past (Given g.row.P-Name.Denot g.row.P-Out.Denot g.row.P-In.Denot) g.row.P-Name.Denot g.row.P-Story.Denot). (i : ℕ) → IsServed (control_of p) c.args.slot.0 i → (g.H.Holder.holding c.args.holder.now).holds i ≡ true) (sym c.self.view_is) c.requires.lent)
+    (subst (λ (p : Past (Given g.row.P-Name.Denot g.row.P-Out.Denot g.row.P-In.Denot) g.row.P-Name.Denot g.row.P-Story.Denot). c.args.slot.0 ≡ 0 → AreFree (control_of p) (g.H.Holder.holding c.args.holder.now)) (sym c.self.view_is) c.requires.free)
+    (subst (λ (p : Past (Given g.row.P-Name.Denot g.row.P-Out.Denot g.row.P-In.Denot) g.row.P-Name.Denot g.row.P-Story.Denot). AreOfKind (control_of p) c.args.slot.0 (g.H.Holder.holding c.args.holder.now)) (sym c.self.view_is) c.requires.kinds) in
     let held = ap (λ (p : Past (Given g.row.P-Name.Denot g.row.P-Out.Denot g.row.P-In.Denot) g.row.P-Name.Denot g.row.P-Story.Denot). list_any (λ o. is_between o && o.slot == c.args.slot.0) (control_of p).rows.objects) c.self.view_is ∙ c.requires.held in
     record {
       letter = c.in-Some.command.letter;
       behind = _;
       oldest = ap (λ (p : Past (Given g.row.P-Name.Denot g.row.P-Out.Denot g.row.P-In.Denot) g.row.P-Name.Denot g.row.P-Story.Denot). (control_of p).boxes c.args.slot.0) (sym c.self.view_is) ∙ front;
-      heard = c.in-Ok.ensures.is_heard;
       answered = c.in-Ok.answered;
-      step = event_now c.args.self.now c.self.inside.workers c.self.inside.events c.push.new.self _ _ _ (sym c.self.view_is) c.push.ensures
-          (delivers_given g.P.Pipes.known.out_name g.P.Pipes.known.in_name c.self.inside.state c.take.new.self _ _ c.args.slot c.in-Some.command c.self.invariant (took_lists c.self.inside.state c.take.new.self _ c.in-Some.ensures.rest) c.in-Some.ensures.boxes c.in-Some.ensures.stands front
-          c.process.new.state (g.H.Holder.holding c.process.new.holder) c.in-Ok.answered held c.in-Ok.ensures.is_heard (c.in-Ok.ensures.heard hear));
+      brings = subst (λ (p : Past (Given g.row.P-Name.Denot g.row.P-Out.Denot g.row.P-In.Denot) g.row.P-Name.Denot g.row.P-Story.Denot). BringsFirst g.P.Pipes.known.out_name g.P.Pipes.known.in_name c.in-Some.command.letter.word c.in-Ok.answered.joined p.given (given_in c.process.new.state.boxes)) c.self.view_is
+          (delivers_brings g.P.Pipes.known.out_name g.P.Pipes.known.in_name c.self.inside.state c.take.new.self _ _ c.args.slot c.in-Some.command c.self.invariant (took_lists c.self.inside.state c.take.new.self _ c.in-Some.ensures.rest) c.in-Some.ensures.boxes c.in-Some.ensures.stands front
+          c.process.new.state (g.H.Holder.holding c.process.new.holder) c.in-Ok.answered held (c.in-Ok.ensures.heard hear) c.in-Ok.ensures.brought);
+      step = event_with c.args.self.now c.self.inside.workers c.self.inside.events c.push.new.self _ _ _ (sym c.self.view_is) c.push.ensures;
     }
 
 pub returns-in-Ok-clause-keeps : goal.returns-in-Ok-clause-keeps
@@ -69,27 +100,71 @@ returns-in-Ok-clause-keeps g c =
     let front = c.in-Some.ensures.front _ c.self.invariant.history.stands in
     let hear = may_hear g.P.Pipes.known.out_name g.P.Pipes.known.in_name c.self.inside.state c.take.new.self _ _ c.args.slot c.in-Some.command c.self.invariant (took_lists c.self.inside.state c.take.new.self _ c.in-Some.ensures.rest) c.in-Some.ensures.boxes c.in-Some.ensures.stands front (g.H.Holder.holding c.args.holder.now)
     (subst (λ (p : Past (Given g.row.P-Name.Denot g.row.P-Out.Denot g.row.P-In.Denot) g.row.P-Name.Denot g.row.P-Story.Denot). HasWhat p (g.H.Holder.holding c.args.holder.now)) (sym c.self.view_is) c.requires.has)
-    (subst (λ (p : Past (Given g.row.P-Name.Denot g.row.P-Out.Denot g.row.P-In.Denot) g.row.P-Name.Denot g.row.P-Story.Denot). (i : ℕ) → IsServed (control_of p) c.args.slot.0 i → (g.H.Holder.holding c.args.holder.now).holds i ≡ true) (sym c.self.view_is) c.requires.lent) in
+    (subst (λ (p : Past (Given g.row.P-Name.Denot g.row.P-Out.Denot g.row.P-In.Denot) g.row.P-Name.Denot g.row.P-Story.Denot). (i : ℕ) → IsServed (control_of p) c.args.slot.0 i → (g.H.Holder.holding c.args.holder.now).holds i ≡ true) (sym c.self.view_is) c.requires.lent)
+    (subst (λ (p : Past (Given g.row.P-Name.Denot g.row.P-Out.Denot g.row.P-In.Denot) g.row.P-Name.Denot g.row.P-Story.Denot). c.args.slot.0 ≡ 0 → AreFree (control_of p) (g.H.Holder.holding c.args.holder.now)) (sym c.self.view_is) c.requires.free)
+    (subst (λ (p : Past (Given g.row.P-Name.Denot g.row.P-Out.Denot g.row.P-In.Denot) g.row.P-Name.Denot g.row.P-Story.Denot). AreOfKind (control_of p) c.args.slot.0 (g.H.Holder.holding c.args.holder.now)) (sym c.self.view_is) c.requires.kinds) in
     let held = ap (λ (p : Past (Given g.row.P-Name.Denot g.row.P-Out.Denot g.row.P-In.Denot) g.row.P-Name.Denot g.row.P-Story.Denot). list_any (λ o. is_between o && o.slot == c.args.slot.0) (control_of p).rows.objects) c.self.view_is ∙ c.requires.held in
     let keeps = delivers_keeps g.P.Pipes.known.out_name g.P.Pipes.known.in_name c.self.inside.state c.take.new.self _ _ c.args.slot c.in-Some.command c.self.invariant (took_lists c.self.inside.state c.take.new.self _ c.in-Some.ensures.rest) c.in-Some.ensures.boxes c.in-Some.ensures.stands front
-    c.process.new.state (g.H.Holder.holding c.process.new.holder) c.in-Ok.answered held c.in-Ok.ensures.is_heard (c.in-Ok.ensures.heard hear) in
-    let given = delivers_given g.P.Pipes.known.out_name g.P.Pipes.known.in_name c.self.inside.state c.take.new.self _ _ c.args.slot c.in-Some.command c.self.invariant (took_lists c.self.inside.state c.take.new.self _ c.in-Some.ensures.rest) c.in-Some.ensures.boxes c.in-Some.ensures.stands front
-    c.process.new.state (g.H.Holder.holding c.process.new.holder) c.in-Ok.answered held c.in-Ok.ensures.is_heard (c.in-Ok.ensures.heard hear) in
-    subst (λ (p : Past (Given g.row.P-Name.Denot g.row.P-Out.Denot g.row.P-In.Denot) g.row.P-Name.Denot g.row.P-Story.Denot). HasWhat p (g.H.Holder.holding c.process.new.holder))
-    (sym (event_now (record { workers = c.self.inside.workers; events = c.self.inside.events.items; given = _ }) c.self.inside.workers c.self.inside.events c.push.new.self _ _ _ refl c.push.ensures given)) keeps
+    c.process.new.state (g.H.Holder.holding c.process.new.holder) c.in-Ok.answered held (c.in-Ok.ensures.heard hear) in
+    subst (λ (l : Listed (Did g.row.P-Name.Denot g.row.P-Story.Denot)). HasWhat (let p : Past (Given g.row.P-Name.Denot g.row.P-Out.Denot g.row.P-In.Denot) g.row.P-Name.Denot g.row.P-Story.Denot = record { workers = c.self.inside.workers; events = l.items; given = given_in c.process.new.state.boxes } in p) (g.H.Holder.holding c.process.new.holder)) (sym c.push.ensures) keeps
 
-pub returns-in-Err-clause-found : goal.returns-in-Err-clause-found
-returns-in-Err-clause-found g c =
+pub invariant_of-self-in-Err : goal.invariant_of-self-in-Err
+invariant_of-self-in-Err g c =
     let there = taken_there c.self.inside.state c.take.new.self _ c.args.slot c.self.invariant.history.stands c.in-Some.ensures.boxes
     (subst (λ (p : Past (Given g.row.P-Name.Denot g.row.P-Out.Denot g.row.P-In.Denot) g.row.P-Name.Denot g.row.P-Story.Denot). c.args.slot.0 < (control_of p).slots) (sym c.self.view_is) c.requires.there) in
-    let left = c.in-Err.ensures.left in
-    let is = subst (λ (x : Option (Load g.row.P-Name.Denot g.row.P-Out.Denot g.row.P-In.Denot)). c.put_back.new.self ≡ on_boxes (with_mail c.args.slot.0 (with_put_back (record { letter = c.in-Some.command.letter; load = x }) (mail_at c.process.new.state.boxes c.args.slot.0))) c.process.new.state) left.0 c.put_back.ensures.next in (
-      record {
-        letter = c.in-Some.command.letter;
-        behind = _;
-        oldest = ap (λ (p : Past (Given g.row.P-Name.Denot g.row.P-Out.Denot g.row.P-In.Denot) g.row.P-Name.Denot g.row.P-Story.Denot). (control_of p).boxes c.args.slot.0) (sym c.self.view_is) ∙ c.in-Some.ensures.front _ c.self.invariant.history.stands;
-        left = c.in-Err.ensures.is_left;
-      },
+    let is = subst (λ (x : Option (Load g.row.P-Name.Denot g.row.P-Out.Denot g.row.P-In.Denot)). c.put_back.new.self ≡ on_boxes (with_mail c.args.slot.0 (with_put_back (record { letter = c.in-Some.command.letter; load = x }) (mail_at c.process.new.state.boxes c.args.slot.0))) c.process.new.state) c.in-Err.ensures.back c.put_back.ensures.next in
+    back_plane g.P.Pipes.known.out_name g.P.Pipes.known.in_name c.self.inside.state c.take.new.self c.process.new.state c.put_back.new.self c.self.inside.workers c.self.inside.events c.args.slot c.in-Some.command
+    (ap (λ (x : State (Load g.row.P-Name.Denot g.row.P-Out.Denot g.row.P-In.Denot)). x.objects.lists) is ∙ ap (λ (x : State (Load g.row.P-Name.Denot g.row.P-Out.Denot g.row.P-In.Denot)). x.objects.lists) c.in-Err.ensures.err.0 ∙ took_lists c.self.inside.state c.take.new.self _ c.in-Some.ensures.rest) c.self.invariant
+    (goes_back c.self.inside.state c.take.new.self c.process.new.state c.put_back.new.self _ _ c.args.slot c.in-Some.command c.self.invariant.history c.in-Some.ensures.boxes c.in-Err.ensures.err.0
+    (c.in-Some.ensures.stands _ c.self.invariant.history.stands) (c.in-Some.ensures.front _ c.self.invariant.history.stands) c.put_back.ensures.stands is)
+    c.in-Some.ensures.boxes there c.in-Err.ensures.err.0 is
+
+pub returns-in-Err-clause-err : goal.returns-in-Err-clause-err
+returns-in-Err-clause-err g c =
+    let there = taken_there c.self.inside.state c.take.new.self _ c.args.slot c.self.invariant.history.stands c.in-Some.ensures.boxes
+    (subst (λ (p : Past (Given g.row.P-Name.Denot g.row.P-Out.Denot g.row.P-In.Denot) g.row.P-Name.Denot g.row.P-Story.Denot). c.args.slot.0 < (control_of p).slots) (sym c.self.view_is) c.requires.there) in
+    let is = subst (λ (x : Option (Load g.row.P-Name.Denot g.row.P-Out.Denot g.row.P-In.Denot)). c.put_back.new.self ≡ on_boxes (with_mail c.args.slot.0 (with_put_back (record { letter = c.in-Some.command.letter; load = x }) (mail_at c.process.new.state.boxes c.args.slot.0))) c.process.new.state) c.in-Err.ensures.back c.put_back.ensures.next in (
       stays_there g.P.Pipes.known.out_name g.P.Pipes.known.in_name c.args.self.now c.self.inside.workers c.self.inside.events _ _ c.self.view_is
-          (back_given c.self.inside.state c.take.new.self c.process.new.state c.put_back.new.self c.args.slot c.in-Some.command c.in-Some.ensures.boxes there left.1.0 is),
+          (back_given c.self.inside.state c.take.new.self c.process.new.state c.put_back.new.self c.args.slot c.in-Some.command c.in-Some.ensures.boxes there c.in-Err.ensures.err.0 is),
+      c.in-Err.ensures.err.1,
     )
+
+pub process-requires-clause-apart : goal.process-requires-clause-apart
+process-requires-clause-apart g c = λ e writer word load.
+    let inner : Past (Given g.row.P-Name.Denot g.row.P-Out.Denot g.row.P-In.Denot) g.row.P-Name.Denot g.row.P-Story.Denot = record { workers = c.self.inside.workers; events = c.self.inside.events.items; given = given_in c.self.inside.state.boxes } in
+    let behind = behind_first ((control_of inner).boxes c.args.slot.0) in
+    subst (λ (p : Past (Given g.row.P-Name.Denot g.row.P-Out.Denot g.row.P-In.Denot) g.row.P-Name.Denot g.row.P-Story.Denot). AreApart g.P.Pipes.known.exact p c.args.slot.0 (g.H.Holder.holding c.args.holder.now)) (sym c.self.view_is) c.requires.apart c.in-Some.command.letter.to e behind (g.P.Pipes.known.out_name writer)
+    (c.in-Some.ensures.front _ c.self.invariant.history.stands ∙ ap (λ (w : Word). record { to = c.in-Some.command.letter.to; word = w } ∷ behind) word)
+    (writer_named g.P.Pipes.known.out_name g.P.Pipes.known.in_name c.self.inside.state c.take.new.self _ _ c.args.slot c.in-Some.command c.self.invariant (took_lists c.self.inside.state c.take.new.self _ c.in-Some.ensures.rest) c.in-Some.ensures.boxes c.in-Some.ensures.stands
+    (c.in-Some.ensures.front _ c.self.invariant.history.stands) e writer word load)
+
+pub returns-in-Ok-clause-turned : goal.returns-in-Ok-clause-turned
+returns-in-Ok-clause-turned g c =
+    let front = c.in-Some.ensures.front _ c.self.invariant.history.stands in
+    let hear = may_hear g.P.Pipes.known.out_name g.P.Pipes.known.in_name c.self.inside.state c.take.new.self _ _ c.args.slot c.in-Some.command c.self.invariant (took_lists c.self.inside.state c.take.new.self _ c.in-Some.ensures.rest) c.in-Some.ensures.boxes c.in-Some.ensures.stands front (g.H.Holder.holding c.args.holder.now)
+    (subst (λ (p : Past (Given g.row.P-Name.Denot g.row.P-Out.Denot g.row.P-In.Denot) g.row.P-Name.Denot g.row.P-Story.Denot). HasWhat p (g.H.Holder.holding c.args.holder.now)) (sym c.self.view_is) c.requires.has)
+    (subst (λ (p : Past (Given g.row.P-Name.Denot g.row.P-Out.Denot g.row.P-In.Denot) g.row.P-Name.Denot g.row.P-Story.Denot). (i : ℕ) → IsServed (control_of p) c.args.slot.0 i → (g.H.Holder.holding c.args.holder.now).holds i ≡ true) (sym c.self.view_is) c.requires.lent)
+    (subst (λ (p : Past (Given g.row.P-Name.Denot g.row.P-Out.Denot g.row.P-In.Denot) g.row.P-Name.Denot g.row.P-Story.Denot). c.args.slot.0 ≡ 0 → AreFree (control_of p) (g.H.Holder.holding c.args.holder.now)) (sym c.self.view_is) c.requires.free)
+    (subst (λ (p : Past (Given g.row.P-Name.Denot g.row.P-Out.Denot g.row.P-In.Denot) g.row.P-Name.Denot g.row.P-Story.Denot). AreOfKind (control_of p) c.args.slot.0 (g.H.Holder.holding c.args.holder.now)) (sym c.self.view_is) c.requires.kinds) in
+    let held = ap (λ (p : Past (Given g.row.P-Name.Denot g.row.P-Out.Denot g.row.P-In.Denot) g.row.P-Name.Denot g.row.P-Story.Denot). list_any (λ o. is_between o && o.slot == c.args.slot.0) (control_of p).rows.objects) c.self.view_is ∙ c.requires.held in
+    let step = event_with c.args.self.now c.self.inside.workers c.self.inside.events c.push.new.self (given_in c.self.inside.state.boxes) (given_in c.process.new.state.boxes) (Delivered c.args.slot c.in-Some.command.letter c.in-Ok.answered) (sym c.self.view_is) c.push.ensures in
+    let inner : Past (Given g.row.P-Name.Denot g.row.P-Out.Denot g.row.P-In.Denot) g.row.P-Name.Denot g.row.P-Story.Denot = record { workers = c.self.inside.workers; events = c.self.inside.events.items; given = given_in c.self.inside.state.boxes } in
+    let did = Delivered c.args.slot c.in-Some.command.letter c.in-Ok.answered in
+    subst (λ (p : Past (Given g.row.P-Name.Denot g.row.P-Out.Denot g.row.P-In.Denot) g.row.P-Name.Denot g.row.P-Story.Denot). HasTurned (control_of c.args.self.now) (control_of p) (g.H.Holder.holding c.args.holder.now) (g.H.Holder.holding c.process.new.holder)) (sym step)
+    (subst (λ (p : Past (Given g.row.P-Name.Denot g.row.P-Out.Denot g.row.P-In.Denot) g.row.P-Name.Denot g.row.P-Story.Denot). HasTurned (control_of p) (control_of (with_event did p)) (g.H.Holder.holding c.args.holder.now) (g.H.Holder.holding c.process.new.holder)) c.self.view_is
+    (event_told inner c.self.invariant.history.run did (g.H.Holder.holding c.args.holder.now) (g.H.Holder.holding c.process.new.holder)
+    (told_before (control_of inner) (without_front c.args.slot.0 (control_of inner)) (after did (control_of inner)) (g.H.Holder.holding c.args.holder.now) (g.H.Holder.holding c.process.new.holder) refl (λ e. refl) (c.in-Ok.ensures.turned hear))))
+
+pub returns-in-Err-clause-turned : goal.returns-in-Err-clause-turned
+returns-in-Err-clause-turned g c =
+    let there = taken_there c.self.inside.state c.take.new.self _ c.args.slot c.self.invariant.history.stands c.in-Some.ensures.boxes
+    (subst (λ (p : Past (Given g.row.P-Name.Denot g.row.P-Out.Denot g.row.P-In.Denot) g.row.P-Name.Denot g.row.P-Story.Denot). c.args.slot.0 < (control_of p).slots) (sym c.self.view_is) c.requires.there) in
+    let is = subst (λ (x : Option (Load g.row.P-Name.Denot g.row.P-Out.Denot g.row.P-In.Denot)). c.put_back.new.self ≡ on_boxes (with_mail c.args.slot.0 (with_put_back (record { letter = c.in-Some.command.letter; load = x }) (mail_at c.process.new.state.boxes c.args.slot.0))) c.process.new.state) c.in-Err.ensures.back c.put_back.ensures.next in
+    subst (λ (p : Past (Given g.row.P-Name.Denot g.row.P-Out.Denot g.row.P-In.Denot) g.row.P-Name.Denot g.row.P-Story.Denot). HasTurned (control_of c.args.self.now) (control_of p) (g.H.Holder.holding c.args.holder.now) (g.H.Holder.holding c.process.new.holder))
+    (sym (stays_there g.P.Pipes.known.out_name g.P.Pipes.known.in_name c.args.self.now c.self.inside.workers c.self.inside.events _ _ c.self.view_is
+    (back_given c.self.inside.state c.take.new.self c.process.new.state c.put_back.new.self c.args.slot c.in-Some.command c.in-Some.ensures.boxes there c.in-Err.ensures.err.0 is)))
+    (past_told c.args.self.now (g.H.Holder.holding c.args.holder.now) (g.H.Holder.holding c.process.new.holder) (turns_none (g.H.Holder.holding c.args.holder.now) (g.H.Holder.holding c.process.new.holder) c.in-Err.ensures.quiet))
+
+pub returns-in_default-clause-turned : goal.returns-in_default-clause-turned
+returns-in_default-clause-turned g c =
+    subst (λ (p : Past (Given g.row.P-Name.Denot g.row.P-Out.Denot g.row.P-In.Denot) g.row.P-Name.Denot g.row.P-Story.Denot). HasTurned (control_of c.args.self.now) (control_of p) (g.H.Holder.holding c.args.holder.now) (g.H.Holder.holding c.args.holder.now)) (sym c.self.view_is) (past_told c.args.self.now (g.H.Holder.holding c.args.holder.now) (g.H.Holder.holding c.args.holder.now) (turns_same (g.H.Holder.holding c.args.holder.now)))

@@ -1,9 +1,19 @@
-use Rattle.std.specs.Prelude.{refl}
+use Rattle.std.specs.Prelude.{◌≡◌, refl}
 use Rattle.std.proofs.Common.{sym, subst}
 use Rattle.spec_control.specs.Rows.{obj}
 use Rattle.spec_control.specs.ControlRun.{IsOpenSocket}
 use Rattle.ctl_holder.specs.declared.given.Given.{Given}
-use Rattle.ctl_history.specs.Past.{Past, control_of}
+use Rattle.spec_control.specs.declared.entry.Did.TheVariants.{Asked}
+use Rattle.spec_control.specs.declared.request.Req.TheVariants.{Disconnect}
+use Rattle.spec_control.specs.declared.request.Reply.TheVariants.{Done, Refused}
+use Rattle.spec_control.specs.Reply.{reply_of}
+use Rattle.ctl_holder.specs.Turns.{HasTurned}
+use Rattle.ctl_history.specs.Carried.{given_in}
+use Rattle.ctl_history.specs.Past.{Past, control_of, with_event}
+use Rattle.ctl_history.proofs.ToldLemmas.{event_told, past_told, refused_told}
+use Rattle.ctl_ends.proofs.TurnedLemmas.{turns_same}
+use Rattle.ctl_history.proofs.MakingLemmas.{viewed_back}
+use Rattle.ctl_history.proofs.RefusalLemmas.{refusal_is}
 use Rattle.ctl_history.specs.Hearing.{HasWhat}
 use Rattle.ctl_history.proofs.DoneLemmas.{noted_event}
 use Rattle.ctl_history.proofs.PlaneLemmas.{planed_noted}
@@ -28,7 +38,7 @@ invariant_of-self-in-None g c =
     let has = subst (λ (p : Past (Given g.row.P-Name.Denot g.row.P-Out.Denot g.row.P-In.Denot) g.row.P-Name.Denot g.row.P-Story.Denot). HasWhat p (g.H.Holder.holding c.args.holder.now)) (sym c.self.view_is) c.requires.has in
     planed_noted g.P.Pipes.known.out_name g.P.Pipes.known.in_name c.strike_connect.new.state c.self.inside.workers c.self.inside.events c.reserve.new.self c.push.new.self _ _ _ c.in_ok-reserve-in-None.ensures.ok c.push.ensures
     (disconnects g.P.Pipes.known.out_name g.P.Pipes.known.in_name c.self.inside.state _ _ c.args.socket c.args.at c.args.h c.self.invariant open_now c.requires.silent free c.strike_connect.new.state (g.H.Holder.holding c.strike_connect.new.holder)
-    (c.strike_connect.ensures (strikes_with g.P.Pipes.known.out_name g.P.Pipes.known.in_name c.self.inside.state _ _ c.args.socket c.args.at c.args.h c.self.invariant open_now c.requires.silent free (g.H.Holder.holding c.args.holder.now) has c.requires.lent)))
+    (c.strike_connect.ensures.struck (strikes_with g.P.Pipes.known.out_name g.P.Pipes.known.in_name c.self.inside.state _ _ c.args.socket c.args.at c.args.h c.self.invariant open_now c.requires.silent free (g.H.Holder.holding c.args.holder.now) has c.requires.lent)))
 
 pub returns-in-None-clause-ok : goal.returns-in-None-clause-ok
 returns-in-None-clause-ok g c =
@@ -37,15 +47,51 @@ returns-in-None-clause-ok g c =
     let has = subst (λ (p : Past (Given g.row.P-Name.Denot g.row.P-Out.Denot g.row.P-In.Denot) g.row.P-Name.Denot g.row.P-Story.Denot). HasWhat p (g.H.Holder.holding c.args.holder.now)) (sym c.self.view_is) c.requires.has in
     noted_event c.args.self.now c.self.inside.workers c.self.inside.events c.reserve.new.self c.push.new.self _ _ _ (sym c.self.view_is) c.in_ok-reserve-in-None.ensures.ok c.push.ensures
     (disconnects_given g.P.Pipes.known.out_name g.P.Pipes.known.in_name c.self.inside.state _ _ c.args.socket c.args.at c.args.h c.self.invariant open_now c.requires.silent free c.strike_connect.new.state (g.H.Holder.holding c.strike_connect.new.holder)
-    (c.strike_connect.ensures (strikes_with g.P.Pipes.known.out_name g.P.Pipes.known.in_name c.self.inside.state _ _ c.args.socket c.args.at c.args.h c.self.invariant open_now c.requires.silent free (g.H.Holder.holding c.args.holder.now) has c.requires.lent)))
+    (c.strike_connect.ensures.struck (strikes_with g.P.Pipes.known.out_name g.P.Pipes.known.in_name c.self.inside.state _ _ c.args.socket c.args.at c.args.h c.self.invariant open_now c.requires.silent free (g.H.Holder.holding c.args.holder.now) has c.requires.lent)))
 
 pub returns-in-None-clause-keeps : goal.returns-in-None-clause-keeps
 returns-in-None-clause-keeps g c =
     let open_now = subst (λ (p : Past (Given g.row.P-Name.Denot g.row.P-Out.Denot g.row.P-In.Denot) g.row.P-Name.Denot g.row.P-Story.Denot). IsOpenSocket (obj (control_of p).rows c.args.socket.0)) (sym c.self.view_is) c.requires.open in
     let free = sym (c.in-None.ensures _ c.self.invariant.history.stands) in
     let has = subst (λ (p : Past (Given g.row.P-Name.Denot g.row.P-Out.Denot g.row.P-In.Denot) g.row.P-Name.Denot g.row.P-Story.Denot). HasWhat p (g.H.Holder.holding c.args.holder.now)) (sym c.self.view_is) c.requires.has in
-    let struck = c.strike_connect.ensures (strikes_with g.P.Pipes.known.out_name g.P.Pipes.known.in_name c.self.inside.state _ _ c.args.socket c.args.at c.args.h c.self.invariant open_now c.requires.silent free (g.H.Holder.holding c.args.holder.now) has c.requires.lent) in
+    let struck = c.strike_connect.ensures.struck (strikes_with g.P.Pipes.known.out_name g.P.Pipes.known.in_name c.self.inside.state _ _ c.args.socket c.args.at c.args.h c.self.invariant open_now c.requires.silent free (g.H.Holder.holding c.args.holder.now) has c.requires.lent) in
     subst (λ (p : Past (Given g.row.P-Name.Denot g.row.P-Out.Denot g.row.P-In.Denot) g.row.P-Name.Denot g.row.P-Story.Denot). HasWhat p (g.H.Holder.holding c.strike_connect.new.holder))
     (sym (noted_event (record { workers = c.self.inside.workers; events = c.self.inside.events.items; given = _ }) c.self.inside.workers c.self.inside.events c.reserve.new.self c.push.new.self _ _ _ refl c.in_ok-reserve-in-None.ensures.ok c.push.ensures
     (disconnects_given g.P.Pipes.known.out_name g.P.Pipes.known.in_name c.self.inside.state _ _ c.args.socket c.args.at c.args.h c.self.invariant open_now c.requires.silent free c.strike_connect.new.state (g.H.Holder.holding c.strike_connect.new.holder) struck)))
     (disconnects_keeps g.P.Pipes.known.out_name g.P.Pipes.known.in_name c.self.inside.state _ _ c.args.socket c.args.at c.args.h c.self.invariant open_now c.requires.silent free c.strike_connect.new.state (g.H.Holder.holding c.strike_connect.new.holder) struck)
+
+pub returns-in-None-clause-turned : goal.returns-in-None-clause-turned
+returns-in-None-clause-turned g c =
+    let inner : Past (Given g.row.P-Name.Denot g.row.P-Out.Denot g.row.P-In.Denot) g.row.P-Name.Denot g.row.P-Story.Denot = record { workers = c.self.inside.workers; events = c.self.inside.events.items; given = given_in c.self.inside.state.boxes } in
+    let open_now = subst (λ (p : Past (Given g.row.P-Name.Denot g.row.P-Out.Denot g.row.P-In.Denot) g.row.P-Name.Denot g.row.P-Story.Denot). IsOpenSocket (obj (control_of p).rows c.args.socket.0)) (sym c.self.view_is) c.requires.open in
+    let free = sym (c.in-None.ensures _ c.self.invariant.history.stands) in
+    let has = subst (λ (p : Past (Given g.row.P-Name.Denot g.row.P-Out.Denot g.row.P-In.Denot) g.row.P-Name.Denot g.row.P-Story.Denot). HasWhat p (g.H.Holder.holding c.args.holder.now)) (sym c.self.view_is) c.requires.has in
+    let step = noted_event c.args.self.now c.self.inside.workers c.self.inside.events c.reserve.new.self c.push.new.self _ _ _ (sym c.self.view_is) c.in_ok-reserve-in-None.ensures.ok c.push.ensures
+    (disconnects_given g.P.Pipes.known.out_name g.P.Pipes.known.in_name c.self.inside.state _ _ c.args.socket c.args.at c.args.h c.self.invariant open_now c.requires.silent free c.strike_connect.new.state (g.H.Holder.holding c.strike_connect.new.holder)
+    (c.strike_connect.ensures.struck (strikes_with g.P.Pipes.known.out_name g.P.Pipes.known.in_name c.self.inside.state _ _ c.args.socket c.args.at c.args.h c.self.invariant open_now c.requires.silent free (g.H.Holder.holding c.args.holder.now) has c.requires.lent))) in
+    subst (λ (p : Past (Given g.row.P-Name.Denot g.row.P-Out.Denot g.row.P-In.Denot) g.row.P-Name.Denot g.row.P-Story.Denot). HasTurned (control_of c.args.self.now) (control_of p) (g.H.Holder.holding c.args.holder.now) (g.H.Holder.holding c.strike_connect.new.holder)) (sym step)
+    (subst (λ (p : Past (Given g.row.P-Name.Denot g.row.P-Out.Denot g.row.P-In.Denot) g.row.P-Name.Denot g.row.P-Story.Denot). HasTurned (control_of p) (control_of (with_event (Asked (Disconnect c.args.socket c.args.at) Done c.args.h) p)) (g.H.Holder.holding c.args.holder.now) (g.H.Holder.holding c.strike_connect.new.holder)) c.self.view_is
+    (event_told inner c.self.invariant.history.run (Asked (Disconnect c.args.socket c.args.at) Done c.args.h) (g.H.Holder.holding c.args.holder.now) (g.H.Holder.holding c.strike_connect.new.holder)
+    (c.strike_connect.ensures.turned (strikes_with g.P.Pipes.known.out_name g.P.Pipes.known.in_name c.self.inside.state _ _ c.args.socket c.args.at c.args.h c.self.invariant open_now c.requires.silent free (g.H.Holder.holding c.args.holder.now) has c.requires.lent))))
+
+pub returns-in-Some-clause-turned : goal.returns-in-Some-clause-turned
+returns-in-Some-clause-turned g c =
+    subst (λ (p : Past (Given g.row.P-Name.Denot g.row.P-Out.Denot g.row.P-In.Denot) g.row.P-Name.Denot g.row.P-Story.Denot). HasTurned (control_of c.args.self.now) (control_of p) (g.H.Holder.holding c.args.holder.now) (g.H.Holder.holding c.args.holder.now)) (sym c.in_ok-refuse-in-Some.ensures.ok)
+    (refused_told c.args.self.now _ _ _ (g.H.Holder.holding c.args.holder.now))
+
+pub returns-in_err-refuse-in-Some-clause-turned : goal.returns-in_err-refuse-in-Some-clause-turned
+returns-in_err-refuse-in-Some-clause-turned g c =
+    subst (λ (p : Past (Given g.row.P-Name.Denot g.row.P-Out.Denot g.row.P-In.Denot) g.row.P-Name.Denot g.row.P-Story.Denot). HasTurned (control_of c.args.self.now) (control_of p) (g.H.Holder.holding c.args.holder.now) (g.H.Holder.holding c.args.holder.now)) (sym c.in_err-refuse-in-Some.ensures.err)
+    (past_told c.args.self.now (g.H.Holder.holding c.args.holder.now) (g.H.Holder.holding c.args.holder.now) (turns_same (g.H.Holder.holding c.args.holder.now)))
+
+pub returns-in-Some-clause-reply : goal.returns-in-Some-clause-reply
+returns-in-Some-clause-reply g c =
+    let inner : Past (Given g.row.P-Name.Denot g.row.P-Out.Denot g.row.P-In.Denot) g.row.P-Name.Denot g.row.P-Story.Denot = record { workers = c.self.inside.workers; events = c.self.inside.events.items; given = given_in c.self.inside.state.boxes } in
+    subst (λ (p : Past (Given g.row.P-Name.Denot g.row.P-Out.Denot g.row.P-In.Denot) g.row.P-Name.Denot g.row.P-Story.Denot). Refused c.in-Some.refusal ≡ reply_of (control_of p) (Disconnect c.args.socket c.args.at)) c.self.view_is
+    (sym (refusal_is (reply_of (control_of inner) (Disconnect c.args.socket c.args.at)) c.in-Some.refusal (c.in-Some.ensures (control_of inner) c.self.invariant.history.stands)))
+
+pub returns-in_err-reserve-in-None-clause-turned : goal.returns-in_err-reserve-in-None-clause-turned
+returns-in_err-reserve-in-None-clause-turned g c =
+    subst (λ (p : Past (Given g.row.P-Name.Denot g.row.P-Out.Denot g.row.P-In.Denot) g.row.P-Name.Denot g.row.P-Story.Denot). HasTurned (control_of c.args.self.now) (control_of p) (g.H.Holder.holding c.args.holder.now) (g.H.Holder.holding c.args.holder.now))
+    (sym (viewed_back c.args.self.now c.self.inside.state c.self.inside.state c.self.inside.workers c.self.inside.events c.reserve.new.self refl c.in_err-reserve-in-None.ensures.err c.self.view_is))
+    (past_told c.args.self.now (g.H.Holder.holding c.args.holder.now) (g.H.Holder.holding c.args.holder.now) (turns_same (g.H.Holder.holding c.args.holder.now)))

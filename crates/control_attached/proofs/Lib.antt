@@ -1,0 +1,4 @@
+pub mod MoveLemmas
+pub mod LeadLemmas
+pub mod AttachedLemmas
+pub mod OnceLemmas

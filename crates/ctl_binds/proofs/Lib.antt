@@ -1,0 +1,11 @@
+pub mod BehindLemmas
+pub mod GrowLemmas
+pub mod JoinOneLemmas
+pub mod JoinAllLemmas
+pub mod TakenLemmas
+pub mod DrawLemmas
+pub mod UndrawLemmas
+pub mod FulfilLemmas
+pub mod AnswerLemmas
+pub mod ReadyLemmas
+pub mod DrawAllLemmas

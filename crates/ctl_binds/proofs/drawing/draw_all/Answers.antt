@@ -1,0 +1,51 @@
+use Rattle.std.specs.Prelude.{◌+◌, ◌-◌, length, slice_index_or}
+use Rattle.std.proofs.Common.{arith, ap}
+use Rattle.std.proofs.lemmas.List.{get_or_default}
+use Rattle.ctl_binds.specs.declared.batch.Batch.{Batch}
+use Rattle.ctl_binds.proofs.DrawAllLemmas.{all_drawn, may_draw_next, none_drawn, one_drawn, one_fits, were_taken}
+use Rattle.ctl_binds.proofs.drawing.draw_all.Goals as goal
+
+pub waiters-init : goal.waiters-init
+waiters-init g c = record {
+  draws = none_drawn g.P.Pipes.known.out_name g.P.Pipes.known.in_name c.args.state.now (g.H.Holder.holding c.args.holder.now) c.args.socket c.args.waiters.now (length c.args.wakers.now) c.in_ok-batch.batch c.in_ok-batch.ensures.drawn c.in_ok-batch.ensures.joined c.in_ok-batch.ensures.opened;
+  room =
+      (let fits = c.in_ok-batch.ensures.room in
+      let few = c.requires.may.few_pairs in
+      let drawn = fits.drawn in
+      let joined = fits.notes.joined in
+      let opened = fits.notes.opened in
+      record {
+        drawn = omega (arith, drawn, few);
+        notes = record { joined = omega (arith, joined, few); opened = omega (arith, opened, few) };
+      });
+}
+
+pub draw_one-requires : goal.draw_one-requires
+draw_one-requires g c = record {
+  may = may_draw_next g.P.Pipes.known.out_name g.P.Pipes.known.in_name c.args.state.now (g.H.Holder.holding c.args.holder.now) c.args.socket c.args.waiters.now (length c.args.wakers.now) c.waiters.place c.waiters-test.true c.waiters.state (g.H.Holder.holding c.waiters.holder) c.waiters.batch (slice_index_or c.args.waiters.now c.waiters.place (record { 0 = 0 })) (get_or_default c.args.waiters.now c.waiters.place (record { 0 = 0 }) (slice_index_or c.args.waiters.now c.waiters.place (record { 0 = 0 })) c.waiters-test.true) c.requires.may (c.waiters.invariant.draws c.requires.may) c.waiters.invariant.room;
+}
+
+pub undraw_all-requires : goal.undraw_all-requires
+undraw_all-requires g c = record {
+  taken = were_taken g.P.Pipes.known.out_name g.P.Pipes.known.in_name c.args.state.now (g.H.Holder.holding c.args.holder.now) c.args.socket c.args.waiters.now (length c.args.wakers.now) c.waiters.place c.waiters-test.true c.waiters.state (g.H.Holder.holding c.waiters.holder) c.waiters.batch (slice_index_or c.args.waiters.now c.waiters.place (record { 0 = 0 })) (get_or_default c.args.waiters.now c.waiters.place (record { 0 = 0 }) (slice_index_or c.args.waiters.now c.waiters.place (record { 0 = 0 })) c.waiters-test.true) c.requires.may (c.waiters.invariant.draws c.requires.may) c.draw_one.new.state (g.H.Holder.holding c.draw_one.new.holder) c.draw_one.new.batch.drawn.items c.in-Err.ensures.err.0
+      (ap (λ (b : Batch g.row.P-Name.Denot g.row.P-Out.Denot g.row.P-In.Denot). b.drawn.items) c.in-Err.ensures.err.1) c.in-Err.ensures.stays c.in-Err.ensures.quiet;
+}
+
+pub returns-in-Err-clause-err : goal.returns-in-Err-clause-err
+returns-in-Err-clause-err g c =
+    c.undraw_all.ensures.state (were_taken g.P.Pipes.known.out_name g.P.Pipes.known.in_name c.args.state.now (g.H.Holder.holding c.args.holder.now) c.args.socket c.args.waiters.now (length c.args.wakers.now) c.waiters.place c.waiters-test.true c.waiters.state (g.H.Holder.holding c.waiters.holder) c.waiters.batch (slice_index_or c.args.waiters.now c.waiters.place (record { 0 = 0 })) (get_or_default c.args.waiters.now c.waiters.place (record { 0 = 0 }) (slice_index_or c.args.waiters.now c.waiters.place (record { 0 = 0 })) c.waiters-test.true) c.requires.may (c.waiters.invariant.draws c.requires.may) c.draw_one.new.state (g.H.Holder.holding c.draw_one.new.holder) c.draw_one.new.batch.drawn.items c.in-Err.ensures.err.0
+    (ap (λ (b : Batch g.row.P-Name.Denot g.row.P-Out.Denot g.row.P-In.Denot). b.drawn.items) c.in-Err.ensures.err.1) c.in-Err.ensures.stays c.in-Err.ensures.quiet)
+
+pub returns-in-Err-clause-back : goal.returns-in-Err-clause-back
+returns-in-Err-clause-back g c =
+    c.undraw_all.ensures.back (were_taken g.P.Pipes.known.out_name g.P.Pipes.known.in_name c.args.state.now (g.H.Holder.holding c.args.holder.now) c.args.socket c.args.waiters.now (length c.args.wakers.now) c.waiters.place c.waiters-test.true c.waiters.state (g.H.Holder.holding c.waiters.holder) c.waiters.batch (slice_index_or c.args.waiters.now c.waiters.place (record { 0 = 0 })) (get_or_default c.args.waiters.now c.waiters.place (record { 0 = 0 }) (slice_index_or c.args.waiters.now c.waiters.place (record { 0 = 0 })) c.waiters-test.true) c.requires.may (c.waiters.invariant.draws c.requires.may) c.draw_one.new.state (g.H.Holder.holding c.draw_one.new.holder) c.draw_one.new.batch.drawn.items c.in-Err.ensures.err.0
+    (ap (λ (b : Batch g.row.P-Name.Denot g.row.P-Out.Denot g.row.P-In.Denot). b.drawn.items) c.in-Err.ensures.err.1) c.in-Err.ensures.stays c.in-Err.ensures.quiet)
+
+pub waiters-preserved : goal.waiters-preserved
+waiters-preserved g c = record {
+  draws = λ w. one_drawn g.P.Pipes.known.out_name g.P.Pipes.known.in_name c.args.state.now (g.H.Holder.holding c.args.holder.now) c.args.socket c.args.waiters.now (length c.args.wakers.now) c.waiters.place c.waiters-test.true c.waiters.state (g.H.Holder.holding c.waiters.holder) c.waiters.batch (slice_index_or c.args.waiters.now c.waiters.place (record { 0 = 0 })) (get_or_default c.args.waiters.now c.waiters.place (record { 0 = 0 }) (slice_index_or c.args.waiters.now c.waiters.place (record { 0 = 0 })) c.waiters-test.true) w (c.waiters.invariant.draws w) c.draw_one.new.batch c.draw_one.new.state (g.H.Holder.holding c.draw_one.new.holder) (c.in-Ok.ensures.ok (may_draw_next g.P.Pipes.known.out_name g.P.Pipes.known.in_name c.args.state.now (g.H.Holder.holding c.args.holder.now) c.args.socket c.args.waiters.now (length c.args.wakers.now) c.waiters.place c.waiters-test.true c.waiters.state (g.H.Holder.holding c.waiters.holder) c.waiters.batch (slice_index_or c.args.waiters.now c.waiters.place (record { 0 = 0 })) (get_or_default c.args.waiters.now c.waiters.place (record { 0 = 0 }) (slice_index_or c.args.waiters.now c.waiters.place (record { 0 = 0 })) c.waiters-test.true) w (c.waiters.invariant.draws w) c.waiters.invariant.room));
+  room = c.in-Ok.ensures.room (length c.args.waiters.now - (c.waiters.place + 1)) (one_fits g.P.Pipes.known.out_name g.P.Pipes.known.in_name c.args.state.now (g.H.Holder.holding c.args.holder.now) c.args.socket c.args.waiters.now (length c.args.wakers.now) c.waiters.place c.waiters-test.true c.waiters.state (g.H.Holder.holding c.waiters.holder) c.waiters.batch c.waiters.invariant.room);
+}
+
+pub returns-clause-ok : goal.returns-clause-ok
+returns-clause-ok g c = λ w. all_drawn g.P.Pipes.known.out_name g.P.Pipes.known.in_name c.args.state.now (g.H.Holder.holding c.args.holder.now) c.args.socket c.args.waiters.now (length c.args.wakers.now) c.waiters.place (let end = c.waiters.auto.place-end in omega arith) c.waiters.state (g.H.Holder.holding c.waiters.holder) c.waiters.batch w (c.waiters.invariant.draws w)

@@ -1,0 +1,120 @@
+ghost use Rattle.std.specs.Prelude.{◌≡◌, ◌+◌, ◌++◌, ◌∷◌, [], ℕ, length, IfOk, OnOk, OnErr};
+ghost use Rattle.spec_control.specs.Control.{next_pair};
+ghost use Rattle.ctl_holder.specs.Holding.{KeepsTurns, Stays};
+ghost use Rattle.ctl_binds.specs.Batch.{FitsMore};
+ghost use Rattle.ctl_binds.specs.Drawing.{Draws, IsBack, MayDraw, MayDrawNext};
+
+use crate::batch::{Batch, Drawn};
+use crate::undrawing::undraw_all;
+use ctl_holder::{Holder, Load};
+use ctl_joins::{
+    FirstEnd, Owners, Papers, attach_first, capacities_of, draw_pair, papers_of, undraw_pair,
+};
+use ctl_state::State;
+use msg_pipe::Pipes;
+use std::alloc::{AllocError, Global};
+use zq_base::{EndId, ObjId};
+
+// Draws the pair between a binding socket and one whose connect waits, and attaches the binding
+// socket's end. Where memory wants, all is as before.
+fn draw_one<P: Pipes, H: Holder<P>>(
+    state: &mut State<Load<P::Name, P::Out, P::In>>,
+    alloc: Global,
+    holder: &mut H,
+    batch: &mut Batch<P::Name, P::Out, P::In>,
+    socket: ObjId,
+    waiter: ObjId,
+    wakers: &[P::Waker],
+) -> Result<(), AllocError>
+where
+    P::Name: Drop,
+    requires may { MayDrawNext P.known.out_name P.known.in_name state.old (H.holding holder.old)
+        socket waiter batch.old (length wakers.now) }
+    ensures ok { OnOk result ((w : MayDrawNext P.known.out_name P.known.in_name
+        state.old (H.holding holder.old) socket waiter batch.old (length wakers.now)) →
+        Draws P.known.out_name P.known.in_name w.may.control socket (w.done ++ waiter ∷ [])
+        batch.new.drawn.items batch.new.notes w.before state.new w.had (H.holding holder.new)) }
+    ensures room { OnOk result ((n : ℕ) → FitsMore (n + 1) batch.old → FitsMore n batch.new) }
+    ensures err { OnErr result ((state.new ≡ state.old) × (batch.new ≡ batch.old)) }
+    ensures stays { OnErr result
+        (Stays socket.0 (H.holding holder.old) (H.holding holder.new)) }
+    ensures quiet { OnErr result
+        (KeepsTurns (H.holding holder.old) (H.holding holder.new)) }
+{
+    let o = Owners::of(state, socket, waiter);
+    let said = papers_of(state, alloc, o)?;
+    let sizes = capacities_of(state, o);
+    let Papers { identity, peer } = said;
+    let pair = draw_pair(state, o, false)?;
+    let first = EndId { pair, a: false };
+    let mine = &wakers[o.first_slot.0 as usize];
+    let theirs = &wakers[o.last_slot.0 as usize];
+    match attach_first(holder, alloc, socket, first, &peer, sizes, mine, theirs) {
+        Ok(end) => {
+            let FirstEnd {
+                answer,
+                told,
+                opened,
+                other,
+            } = end;
+            batch.notes.note(first, peer.identity, answer, told, opened);
+            batch.drawn.push_back_reserved(Drawn {
+                o,
+                pair,
+                identity,
+                answer,
+                other,
+            });
+            return Ok(());
+        }
+        Err(error) => {
+            undraw_pair(state, o, false, pair);
+            return Err(error);
+        }
+    }
+}
+
+/// Draws a pair between a binding socket and each of those whose connects wait, in their order: its
+/// number is drawn, all its room is kept, its pipes are made, and the binding socket's end, end b,
+/// is attached, whose kind answers. Where memory wants, all is undone, last first. It costs copies of
+/// two identities for each.
+pub fn draw_all<P: Pipes, H: Holder<P>>(
+    state: &mut State<Load<P::Name, P::Out, P::In>>,
+    alloc: Global,
+    holder: &mut H,
+    socket: ObjId,
+    waiters: &[ObjId],
+    wakers: &[P::Waker],
+) -> Result<Batch<P::Name, P::Out, P::In>, AllocError>
+where
+    P::Name: Drop,
+    requires may { MayDraw state.old (H.holding holder.old) socket waiters.now
+        (length wakers.now) }
+    ensures ok { IfOk result (λ b. (w : MayDraw state.old (H.holding holder.old) socket
+        waiters.now (length wakers.now)) → Draws P.known.out_name P.known.in_name w.control socket
+        waiters.now b.drawn.items b.notes state.old state.new (H.holding holder.old) (H.holding holder.new)) }
+    ensures err { OnErr result (state.new ≡ state.old) }
+    ensures back { OnErr result (IsBack (length state.old.pairs) socket.0
+        (H.holding holder.old) (H.holding holder.new)) }
+{
+    let mut batch = Batch::with_room(alloc, waiters.len() as u32)?;
+    'waiters: for place in 0..waiters.len() {
+        match draw_one(
+            state,
+            alloc,
+            holder,
+            &mut batch,
+            socket,
+            waiters[place],
+            wakers,
+        ) {
+            Ok(()) => {}
+            Err(error) => {
+                let Batch { drawn, notes: _ } = batch;
+                undraw_all(state, holder, socket, drawn);
+                return Err(error);
+            }
+        }
+    }
+    Ok(batch)
+}

@@ -1,0 +1,54 @@
+ghost use Rattle.std.specs.Prelude.{◌≡◌, length};
+ghost use Rattle.ctl_binds.specs.Drawing.{AreTaken, IsBack, WasTaken, WereTaken};
+
+use crate::batch::Drawn;
+use ctl_holder::{Holder, Load};
+use ctl_joins::undraw_pair;
+use ctl_state::State;
+use msg_pipe::Pipes;
+use std::alloc::Global;
+use std::collections::VecDeque;
+use zq_base::{EndId, ObjId};
+
+// Takes the pair back that was drawn last: its end leaves the holder, and its number and its room
+// are given back.
+fn undraw_one<P: Pipes, H: Holder<P>>(
+    state: &mut State<Load<P::Name, P::Out, P::In>>,
+    holder: &mut H,
+    socket: ObjId,
+    drawn: Drawn<P::Name, P::Out, P::In>,
+)
+where
+    P::Name: Drop,
+    requires taken { WasTaken state.old (H.holding holder.old) socket.0 drawn }
+    ensures { (w : WasTaken state.old (H.holding holder.old) socket.0 drawn) →
+        AreTaken socket.0 w.rest w.before state.new w.had (H.holding holder.new) }
+{
+    let first = EndId {
+        pair: drawn.pair,
+        a: false,
+    };
+    let _halves = holder.take_back(socket, first);
+    undraw_pair(state, drawn.o, false, drawn.pair);
+}
+
+/// Takes all pairs back that were drawn, last first.
+pub fn undraw_all<P: Pipes, H: Holder<P>>(
+    state: &mut State<Load<P::Name, P::Out, P::In>>,
+    holder: &mut H,
+    socket: ObjId,
+    drawn: VecDeque<Drawn<P::Name, P::Out, P::In>>,
+)
+where
+    P::Name: Drop,
+    requires taken { WereTaken state.old (H.holding holder.old) socket.0 drawn.items }
+    ensures state { (w : WereTaken state.old (H.holding holder.old) socket.0 drawn.items) →
+        state.new ≡ w.before }
+    ensures back { (w : WereTaken state.old (H.holding holder.old) socket.0 drawn.items) →
+        IsBack (length w.before.pairs) socket.0 w.had (H.holding holder.new) }
+{
+    let mut left = drawn;
+    'last: while let Some(pair) = left.pop_back() {
+        undraw_one(state, holder, socket, pair);
+    }
+}

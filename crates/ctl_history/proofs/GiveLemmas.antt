@@ -1,0 +1,141 @@
+-- What a closed socket's holder gives, and what it has then.
+use Rattle.std.specs.Prelude.{◌≡◌, ◌≢◌, ◌⊎◌, ◌||◌, ◌∷◌, [], zero, suc, ◌<◌, ◌≤◌, ◌+◌, ℕ, Bool, true, false, List, Option, All, is_some, length, map, slice_index_or, slice_set, refl}
+use Rattle.std.proofs.Common.{arith, sym, ap, ◌∙◌, subst, inl, inr}
+use Rattle.std.proofs.lemmas.Bool.{cases_eq}
+use Rattle.std.proofs.lemmas.List.{get_or_default}
+use Rattle.std.proofs.lemmas.List.Elements.{All-nil, All-cons, All-map, All-weaker}
+use Rattle.zq_base.specs.declared.ids.EndId.{EndId}
+use Rattle.spec_control.specs.declared.entry.Joining.{Joining}
+use Rattle.spec_control.specs.Place.{At}
+use Rattle.spec_control.specs.Control.{Control, is_end, met_in, place_of}
+use Rattle.spec_control.specs.ControlRun.{Joins, taken_over}
+use Rattle.control_held.specs.Held.{Held}
+use Rattle.control_laws.proofs.AskLemmas.{end_self}
+use Rattle.control_rows.proofs.ListLemmas.{never}
+use Rattle.ctl_holder.specs.declared.given.Given.{Given}
+use Rattle.ctl_holder.specs.declared.given.Parting.{Parting}
+use Rattle.ctl_holder.specs.Holding.{Holding, AllStated, AllTold, AllWriting, AreGivenAs, AreMet, HasGiven, KeepsTurns, given_as, has_end, held_given}
+use Rattle.ctl_holder.specs.Lent.{HasAll, HasBothNames, HasEnds, has_writer, here_ends}
+use Rattle.ctl_holder.specs.Load.{AreEndsOfClosed, GivesAll, IsNamed}
+use Rattle.ctl_history.specs.Closing.{noted_end, noted_join}
+use Rattle.ctl_history.proofs.ReapLemmas.{all_of_map}
+
+map_of_map : {X Y Z : Type 0} (f : Y → Z) (g : X → Y) (xs : List X) → map f (map g xs) ≡ map (λ x. f (g x)) xs
+map_of_map f g [] = refl
+map_of_map f g (x ∷ xs) = ap (λ (ys : List _). f (g x) ∷ ys) (map_of_map f g xs)
+
+-- ---- one after the other
+-- a list of which the first were changed
+abbrev pub first_mapped : {X : Type 0} → (X → X) → ℕ → List X → List X
+first_mapped f zero xs = xs
+first_mapped f (suc n) [] = []
+first_mapped f (suc n) (x ∷ xs) = f x ∷ first_mapped f n xs
+
+pub mapped_many : {X : Type 0} (f : X → X) (n : ℕ) (xs : List X) → length (first_mapped f n xs) ≡ length xs
+mapped_many f zero xs = refl
+mapped_many f (suc n) [] = refl
+mapped_many f (suc n) (x ∷ xs) = ap (λ (k : ℕ). suc k) (mapped_many f n xs)
+
+mapped_suc : {X : Type 0} (f : X → X) (n : ℕ) (xs : List X) (d : X) → n < length xs → slice_set (first_mapped f n xs) n (f (slice_index_or (first_mapped f n xs) n d)) ≡ first_mapped f (suc n) xs
+mapped_suc f n [] d lt = absurd (omega (arith, lt))
+mapped_suc f zero (x ∷ xs) d lt = refl
+mapped_suc f (suc n) (x ∷ xs) d lt = ap (λ (ys : List _). f x ∷ ys) (mapped_suc f n xs d (omega (arith, lt)))
+
+one_more : (n : ℕ) → suc n ≡ n + 1
+one_more n = omega arith
+
+pub mapped_next : {X : Type 0} (f : X → X) (n : ℕ) (xs : List X) (d : X) → n < length xs → slice_set (first_mapped f n xs) n (f (slice_index_or (first_mapped f n xs) n d)) ≡ first_mapped f (n + 1) xs
+mapped_next f n xs d lt = mapped_suc f n xs d lt ∙ ap (λ (k : ℕ). first_mapped f k xs) (one_more n)
+
+pub mapped_all : {X : Type 0} (f : X → X) (n : ℕ) (xs : List X) → length xs ≤ n → first_mapped f n xs ≡ map f xs
+mapped_all f zero [] all = refl
+mapped_all f zero (x ∷ xs) all = absurd (omega (arith, all))
+mapped_all f (suc n) [] all = refl
+mapped_all f (suc n) (x ∷ xs) all = ap (λ (ys : List _). f x ∷ ys) (mapped_all f n xs (omega (arith, all)))
+
+module _ (c : Control) (n : ℕ) where
+  pub end_noted : {N O I : Type 0} (xs ys : List (Given N O I)) (x y : Given N O I) (met : Bool) → n < length xs → length ys ≡ length xs → ys ≡ first_mapped (noted_end c) n xs → x ≡ slice_index_or ys n x → y ≡ slice_index_or ys n y →
+      met ≡ met_in (place_of c y.end) (c.reasons y.end) → slice_set ys n (record x { met = met }) ≡ first_mapped (noted_end c) (n + 1) xs
+  end_noted xs ys x y met less many are is also noted =
+      ap (λ (m : Bool). slice_set ys n (record x { met = m })) (noted ∙ ap (λ (z : Given _ _ _). met_in (place_of c z.end) (c.reasons z.end)) (also ∙ get_or_default ys n y x (subst (λ (k : ℕ). n < k) (sym many) less) ∙ sym is))
+      ∙ ap (λ (z : Given _ _ _). slice_set ys n (noted_end c z)) is ∙ ap (λ (zs : List (Given _ _ _)). slice_set zs n (noted_end c (slice_index_or zs n x))) are ∙ mapped_next (noted_end c) n xs x less
+
+  pub join_noted : {N : Type 0} (xs ys : List (Joining N)) (x y : Joining N) (met : Bool) → n < length xs → length ys ≡ length xs → ys ≡ first_mapped (noted_join c) n xs → x ≡ slice_index_or ys n x → y ≡ slice_index_or ys n y →
+      met ≡ met_in (place_of c y.end) (c.reasons y.end) → slice_set ys n (record x { met = met }) ≡ first_mapped (noted_join c) (n + 1) xs
+  join_noted xs ys x y met less many are is also noted =
+      ap (λ (m : Bool). slice_set ys n (record x { met = m })) (noted ∙ ap (λ (z : Joining _). met_in (place_of c z.end) (c.reasons z.end)) (also ∙ get_or_default ys n y x (subst (λ (k : ℕ). n < k) (sym many) less) ∙ sym is))
+      ∙ ap (λ (z : Joining _). slice_set ys n (noted_join c z)) is ∙ ap (λ (zs : List (Joining _)). slice_set zs n (noted_join c (slice_index_or zs n x))) are ∙ mapped_next (noted_join c) n xs x less
+
+-- ---- each of the ends that a holder has is among them
+self_has : {N : Type 0} (xs : List (Held N)) → All (λ x. has_end x.end xs ≡ true) xs
+self_has {N} [] = All-nil (λ (x : Held N). has_end {N = N} x.end [] ≡ true)
+self_has (x ∷ xs) =
+    All-cons (λ y. has_end y.end (x ∷ xs) ≡ true) x xs (ap (λ (b : Bool). b || has_end x.end xs) (end_self x.end))
+    (All-weaker (λ y. has_end y.end xs ≡ true) (λ y. has_end y.end (x ∷ xs) ≡ true) (λ y is. later (is_end y.end x.end) is) xs (self_has xs))
+  where
+    later : {c : Bool} (b : Bool) → c ≡ true → (b || c) ≡ true
+    later true is = refl
+    later false is = is
+
+module _ {N O I : Type 0} (out_name : O → N) (in_name : I → N) (c : Control) (socket : ℕ) (names : EndId → Option N) (h : Holding N) (has : HasEnds names c.rows.pairs c.attached c.reasons h socket)
+    (gs : List (Given N O I)) (all : map (held_given out_name in_name) gs ≡ h.ends socket) where
+  given_here : All (λ (g : Given N O I). has_end g.end (h.ends socket) ≡ true) gs
+  given_here =
+      all_of_map (λ (x : Held N). has_end x.end (h.ends socket) ≡ true) (held_given out_name in_name) gs
+      (subst (λ (xs : List (Held N)). All (λ (x : Held N). has_end x.end (h.ends socket) ≡ true) xs) (sym all) (self_has (h.ends socket)))
+
+  ends_are : map (λ (g : Given N O I). g.end) gs ≡ here_ends c.rows.pairs c.attached socket
+  ends_are = sym (map_of_map (λ (x : Held N). x.end) (held_given out_name in_name) gs) ∙ ap (λ (xs : List (Held N)). map (λ (x : Held N). x.end) xs) all ∙ has.ends
+
+  module _ (js : List (Joining N)) (listed : AreGivenAs out_name in_name gs js) (p : Parting N O I) (ends : p.ends.items ≡ map (noted_end c) gs) (joined : p.joined ≡ map (noted_join c) js) where
+    joined_as : p.joined ≡ map (λ (g : Given N O I). noted_join c (given_as out_name in_name g)) gs
+    joined_as = joined ∙ ap (map (noted_join c)) listed ∙ map_of_map (noted_join c) (given_as out_name in_name) gs
+
+    -- they are those of the closed socket, with the names of their pipes
+    pub given_ends : AreEndsOfClosed out_name in_name names p
+    given_ends = record {
+      listed = joined_as ∙ sym (ap (map (given_as out_name in_name)) ends ∙ map_of_map (given_as out_name in_name) (noted_end c) gs);
+      named = subst (λ (xs : List (Joining N)). All (IsNamed out_name in_name names) xs) (sym joined_as)
+          (All-map (IsNamed out_name in_name names) (λ (g : Given N O I). noted_join c (given_as out_name in_name g)) gs
+          (λ k g lt. (let both = all_of_map (HasBothNames names) (held_given out_name in_name) gs (subst (λ (xs : List (Held N)). All (HasBothNames names) xs) (sym all) has.named) k g lt in record { written = both.written; read = both.read })));
+    }
+
+    pub gives_all : AllWriting h.writes gs → AllStated h.state gs → GivesAll c socket p
+    gives_all writing stated = record {
+      joined =
+          ap (λ (xs : List (Joining N)). map (λ (j : Joining N). let x : Joins = record { end = j.end; peer = j.peer; met = j.met } in x) xs) joined_as
+          ∙ map_of_map (λ (j : Joining N). let x : Joins = record { end = j.end; peer = j.peer; met = j.met } in x) (λ (g : Given N O I). noted_join c (given_as out_name in_name g)) gs
+          ∙ sym (map_of_map (λ (e : EndId). taken_over c e) (λ (g : Given N O I). g.end) gs)
+          ∙ ap (λ (es : List EndId). map (λ (e : EndId). taken_over c e) es) ends_are;
+      writers = subst (λ (xs : List (Given N O I)). All (λ (g : Given N O I). is_some g.out ≡ has_writer (place_of c g.end)) xs) (sym ends)
+          (All-map (λ (g : Given N O I). is_some g.out ≡ has_writer (place_of c g.end)) (noted_end c) gs (λ k g lt. writing k g lt ∙ has.writes _ (given_here k g lt)));
+      states = subst (λ (xs : List (Given N O I)). All (λ (g : Given N O I). place_of c g.end ≡ At g.state) xs) (sym ends)
+          (All-map (λ (g : Given N O I). place_of c g.end ≡ At g.state) (noted_end c) gs (λ k g lt. has.states _ (given_here k g lt) ∙ ap At (sym (stated k g lt))));
+    }
+
+    -- an end whose delimiter was noted has met it
+    pub given_met : (ended : I → Bool) → AllTold h.at_delimiter gs → AreMet ended gs → AreMet ended p.ends.items
+    given_met ended told met =
+        subst (λ (xs : List (Given N O I)). AreMet ended xs) (sym ends)
+        (All-map (λ (g : Given N O I). g.met ≡ true → ended g.input ≡ true) (noted_end c) gs (λ k g lt noted. met k g lt (told k g lt ∙ has.delimiters _ (given_here k g lt) noted)))
+
+-- ---- what it has then
+module _ {N : Type 0} (names : EndId → Option N) (c : Control) (o : ℕ) (h k : Holding N) (gone : HasGiven o h k) (keeps : KeepsTurns h k) (has : HasAll names c h) where
+  pub given_has : HasAll names c k
+  given_has i holds = by (cases_eq i o)
+    where
+      theirs : i ≢ o → HasEnds names c.rows.pairs c.attached c.reasons k i
+      theirs other =
+          let was = has i (sym (gone.others i other).0 ∙ holds) in
+          let same = (gone.others i other).1.0 in
+          record {
+            ends = ap (λ (hs : List (Held N)). map (λ x. x.end) hs) same ∙ was.ends;
+            named = subst (λ (hs : List (Held N)). All (HasBothNames names) hs) (sym same) was.named;
+            writes = λ e here. gone.writers i e here ∙ was.writes e (sym (ap (has_end e) same) ∙ here);
+            delimiters = λ e here met. gone.delimiters i e here (was.delimiters e (sym (ap (has_end e) same) ∙ here) met);
+            states = λ e here. was.states e (sym (ap (has_end e) same) ∙ here) ∙ ap At (sym (keeps.states i e here));
+          }
+
+      by : (i ≡ o) ⊎ (i ≡ o → ⊥) → HasEnds names c.rows.pairs c.attached c.reasons k i
+      by (inl same) = absurd (never (sym gone.gone ∙ ap k.holds (sym same) ∙ holds))
+      by (inr other) = theirs other

@@ -1,0 +1,3 @@
+pub mod FitLemmas
+pub mod LentLemmas
+pub mod OrderLemmas

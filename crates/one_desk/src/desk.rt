@@ -1,0 +1,81 @@
+ghost use Rattle.std.specs.Prelude.{◌≡◌, [], IfOk, OnErr};
+ghost use Rattle.spec_control.specs.declared.request.Req.TheVariants.{AskTerm};
+ghost use Rattle.spec_control.specs.Reply.{reply_of};
+ghost use Rattle.ctl_history.specs.Past.{control_of};
+ghost use Rattle.one_desk.specs.Lent.{Asks};
+
+use crate::mark::Mark;
+use ctl_history::History;
+use http_server::Log;
+use msg_pipe::Pipes;
+use spec_control::{Answered, Reply};
+use std::alloc::{AllocError, Global};
+use std::marker::Model;
+use zq_base::Seq;
+
+/// The control plane of a context whose callers take turns, lent to one of them.
+#[derive(Drop)]
+pub struct OneDesk<P: Pipes> {
+    history: History<P>,
+    order: Log<Mark, ()>,
+    caller: u32,
+}
+
+impl<P: Pipes> Model for OneDesk<P> {
+    ghost use Rattle.std.specs.Prelude.{map};
+    ghost use Rattle.ctl_holder.specs.declared.given.Given.{Given};
+    ghost use Rattle.one_desk.specs.Lent.{Lent, IsLent, lent_to};
+
+    ghost Value = { Lent (Given P.Name P.Out P.In) P.Name P.Story };
+
+    ghost view = { λ d. lent_to d.caller (map (λ x. x.0) d.order.items) d.history };
+
+    ghost invariant = { λ d. IsLent (map (λ x. x.0) d.order.items) d.history };
+}
+
+impl<P: Pipes> OneDesk<P>
+where
+    P::Name: Drop,
+{
+    /// A context at its making, with one I/O worker.
+    pub fn new(alloc: Global) -> Result<OneDesk<P>, AllocError>
+        ensures { IfOk result (λ d. d ≡ record {
+          past = record { workers = 1; events = []; given = [] };
+          items = [];
+          caller = 0;
+        }) }
+    {
+        let history = History::new(alloc, 1)?;
+        Ok(OneDesk {
+            history,
+            order: Log::new(),
+            caller: 0,
+        })
+    }
+
+    /// The next calls are this caller's.
+    pub fn lend(&mut self, caller: u32)
+        ensures { self.new ≡ record self.old { caller = caller } }
+    {
+        self.caller = caller;
+    }
+
+    /// The caller asks the context to end.
+    pub fn ask_term(&mut self, alloc: Global) -> Result<Reply, AllocError>
+        ensures ok { IfOk result (λ reply. Asks AskTerm reply self.old self.new) }
+        ensures reply { IfOk result (λ reply. reply ≡ reply_of (control_of self.old.past) AskTerm) }
+        ensures err { OnErr result (self.new ≡ self.old) }
+    {
+        let answered = Answered {
+            joined: Seq::new(alloc),
+            opened: Seq::new(alloc),
+            settled: None,
+            output_left: false,
+            stories: Log::new(),
+        };
+        let reply = self.history.ask_term(answered)?;
+        self.history.is_run();
+        self.order = self.order.and(&Mark::Event(self.caller), &());
+        Ok(reply)
+    }
+}

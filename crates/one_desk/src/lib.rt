@@ -1,0 +1,14 @@
+//! The control plane of a context whose callers take turns, as each of them reaches it: the one
+//! order of their events and looks.
+#![tactic(auto)]
+
+mod desk;
+mod laws;
+mod mark;
+
+pub use desk::OneDesk;
+pub use laws::{
+    an_event_fits, its_names_fit, looks_change_nothing, one_event_more, one_look_more,
+    one_moment_more, order_goes_on, other_moments_stay,
+};
+pub use mark::Mark;

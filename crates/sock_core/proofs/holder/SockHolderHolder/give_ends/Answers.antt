@@ -1,0 +1,42 @@
+use Rattle.std.proofs.Common.{◌∙◌, ◌==◌, Bool, [], ap, sym, true≢false, if◌then◌else◌}
+use Rattle.held_ends.specs.Places.{held_in}
+use Rattle.sock_core.specs.Has.{told_in}
+use Rattle.sock_core.proofs.FormLemmas.{sound_of, are_sound}
+use Rattle.sock_core.proofs.JoinLemmas.{mine_of}
+use Rattle.sock_core.proofs.GiveLemmas.{told_of, writing_of, stated_of, ends_of, given_all, given_turns}
+use Rattle.sock_core.proofs.holder.SockHolderHolder.give_ends.Goals as goal
+
+pub give_ends-requires-clause-sound : goal.give_ends-requires-clause-sound
+give_ends-requires-clause-sound g c = sound_of g.P.Pipes.known c.args.self.now.pipes c.args.self.now.core.ends.rows.items c.args.self.now.core.ends.places.items c.args.self.now.sound
+
+pub invariant_of-self : goal.invariant_of-self
+invariant_of-self g c = record {
+  sound = are_sound g.P.Pipes.known c.args.self.now.pipes c.give_ends.new.table.rows.items c.give_ends.new.table.places.items c.give_ends.ensures.sound;
+  peers = λ is. absurd (true≢false (sym is));
+  room = record {
+    given = λ is. absurd (true≢false (sym is));
+    joined = λ is. absurd (true≢false (sym is));
+    none_given = c.hand_over-ends.ensures.left.0;
+    none_joined = c.hand_over-ends.ensures.left.1;
+  };
+}
+
+pub returns-clause-all : goal.returns-clause-all
+returns-clause-all g c =
+    ends_of g.P.Pipes.known c.args.self.now.pipes c.args.self.now.core.ends.rows.items c.args.self.now.core.ends.places.items (sound_of g.P.Pipes.known c.args.self.now.pipes c.args.self.now.core.ends.rows.items c.args.self.now.core.ends.places.items c.args.self.now.sound) c.give_ends.new.given.items c.give_ends.ensures.given.ends
+    ∙ sym (ap (λ (b : Bool). if b then held_in c.args.self.now.core.ends.places.items else []) (mine_of c.args.self.now.core.is_open (c.args.o.0 == c.args.self.now.core.number.0) c.requires.here))
+
+pub returns-clause-none : goal.returns-clause-none
+returns-clause-none g c = given_all c.args.self.now.core.number.0 c.args.o.0 c.args.self.now.core.is_open (g.C.Joins.kind c.args.self.now.core.kind) (told_in c.args.self.now.core.turns.items c.args.self.now.core.sealed.items) c.args.self.now.core.ends.places.items c.give_ends.new.table.places.items c.give_ends.ensures.gone (mine_of c.args.self.now.core.is_open (c.args.o.0 == c.args.self.now.core.number.0) c.requires.here)
+
+pub returns-clause-told : goal.returns-clause-told
+returns-clause-told g c = told_of g.P.Pipes.known c.args.self.now.pipes c.args.self.now.core.ends.rows.items c.args.self.now.core.ends.places.items (sound_of g.P.Pipes.known c.args.self.now.pipes c.args.self.now.core.ends.rows.items c.args.self.now.core.ends.places.items c.args.self.now.sound) c.give_ends.new.given.items c.give_ends.ensures.given.ends
+
+pub returns-clause-writing : goal.returns-clause-writing
+returns-clause-writing g c = writing_of g.P.Pipes.known c.args.self.now.pipes c.args.self.now.core.ends.rows.items c.args.self.now.core.ends.places.items (sound_of g.P.Pipes.known c.args.self.now.pipes c.args.self.now.core.ends.rows.items c.args.self.now.core.ends.places.items c.args.self.now.sound) c.give_ends.new.given.items c.give_ends.ensures.given.ends
+
+pub returns-clause-states : goal.returns-clause-states
+returns-clause-states g c = stated_of g.P.Pipes.known c.args.self.now.pipes c.args.self.now.core.ends.rows.items c.args.self.now.core.ends.places.items (sound_of g.P.Pipes.known c.args.self.now.pipes c.args.self.now.core.ends.rows.items c.args.self.now.core.ends.places.items c.args.self.now.sound) c.give_ends.new.given.items c.give_ends.ensures.given.ends
+
+pub returns-clause-turns : goal.returns-clause-turns
+returns-clause-turns g c = given_turns c.args.self.now.core.number.0 c.args.o.0 c.args.self.now.core.is_open (g.C.Joins.kind c.args.self.now.core.kind) (told_in c.args.self.now.core.turns.items c.args.self.now.core.sealed.items) c.args.self.now.core.ends.places.items c.give_ends.new.table.places.items c.give_ends.ensures.gone

@@ -1,0 +1,57 @@
+use Rattle.std.proofs.Common.{refl, sym, ap, ◌∙◌, subst, true, List, ◌==◌, set}
+use Rattle.std.specs.List.{position}
+use Rattle.held_ends.specs.declared.table.Place.{Place}
+use Rattle.ctl_holder.specs.Holding.{Stays, Seals}
+use Rattle.held_ends.specs.Places.{is_of}
+use Rattle.sock_core.specs.Has.{has, told_in}
+use Rattle.sock_core.proofs.FindLemmas.{found, not_found, alone_of, held_is, never}
+use Rattle.sock_core.proofs.SeenLemmas.{seen_same, stays_of}
+use Rattle.sock_core.proofs.FormLemmas.{sound_of, are_sound}
+use Rattle.sock_core.proofs.HolderLemmas.{owned, flag_at, seals_of}
+use Rattle.std.proofs.Common.{ℕ, length, length-set}
+use Rattle.sock_core.specs.Sound.{KeepsRoom}
+use Rattle.std.proofs.lemmas.List.Elements.{All-contains_itself}
+use Rattle.sock_core.specs.Peers.{ArePeers}
+use Rattle.sock_core.proofs.PeerLemmas.{kept_same}
+use Rattle.sock_core.proofs.holder.SockHolderHolder.seal.Goals as goal
+
+pub seal-requires-clause-sound : goal.seal-requires-clause-sound
+seal-requires-clause-sound g c = sound_of g.P.Pipes.known c.args.self.now.pipes c.args.self.now.core.ends.rows.items c.args.self.now.core.ends.places.items c.args.self.now.sound
+
+pub seal-requires-clause-writes : goal.seal-requires-clause-writes
+seal-requires-clause-writes g c =
+    let f = found (is_of c.args.end) c.args.self.now.core.ends.places.items c.in-Some.place (sym c.in-Some.is ∙ c.find.ensures ∙ ap (λ (l : List (Place _ _)). position (is_of c.args.end) l) c.deref.ensures.value) in
+    record {
+      place = f.0;
+      there = f.1;
+      held = held_is c.args.end f.0 f.2;
+      writes = flag_at c.args.self.now.core.ends.places.items c.in-Some.place f.0 c.args.end f.1 f.2 (alone_of g.P.Pipes.known c.args.self.now.pipes c.args.self.now.core.ends.rows.items c.args.self.now.core.ends.places.items c.in-Some.place f.0 c.args.end (sound_of g.P.Pipes.known c.args.self.now.pipes c.args.self.now.core.ends.rows.items c.args.self.now.core.ends.places.items c.args.self.now.sound) f.1 f.2) (λ (r : Place _ _). r.writes) c.requires.writer;
+    }
+
+pub invariant_of-self : goal.invariant_of-self
+invariant_of-self g c =
+    let s = c.seal.ensures.sealed in
+    let same = ap length s.now ∙ length-set c.args.self.now.core.ends.places.items c.in-Some.place _ in
+    record {
+      sound = are_sound g.P.Pipes.known c.seal.new.pipes c.seal.new.table.rows.items c.seal.new.table.places.items c.seal.ensures.sound;
+      peers = λ is. subst (λ (l : List (Place _ _)). ArePeers l (g.C.Joins.peers c.args.self.now.core.kind)) (sym s.now) (kept_same c.args.self.now.core.ends.places.items (g.C.Joins.peers c.args.self.now.core.kind) (c.args.self.now.peers is) c.in-Some.place s.place (record s.place { sealed = true }) (g.C.Joins.peers c.args.self.now.core.kind) s.there refl (All-contains_itself (g.C.Joins.peers c.args.self.now.core.kind)));
+      room = subst (λ (n : ℕ). KeepsRoom c.args.self.now.core.is_open n c.args.self.now.core.room) (sym same) c.args.self.now.room;
+    }
+
+pub unreachable-requires : goal.unreachable-requires
+unreachable-requires g c =
+    never (sym (owned (c.args.o.0 == c.args.self.now.core.number.0) c.args.end c.args.self.now.core.ends.places.items c.requires.here).1
+    ∙ not_found (is_of c.args.end) c.args.self.now.core.ends.places.items (sym c.in-None.is ∙ c.find.ensures ∙ ap (λ (l : List (Place _ _)). position (is_of c.args.end) l) c.deref.ensures.value))
+
+pub returns-in-Some-clause-stays : goal.returns-in-Some-clause-stays
+returns-in-Some-clause-stays g c =
+    let s = c.seal.ensures.sealed in
+    subst (λ (l : List (Place _ _)). Stays c.args.o.0 (has c.args.self.now.core.number.0 c.args.self.now.core.is_open (g.C.Joins.kind c.args.self.now.core.kind) (told_in c.args.self.now.core.turns.items c.args.self.now.core.sealed.items) c.args.self.now.core.ends.places.items) (has c.args.self.now.core.number.0 c.args.self.now.core.is_open (g.C.Joins.kind c.args.self.now.core.kind) (told_in c.args.self.now.core.turns.items c.note_seal.new.sealed.items) l)) (sym s.now)
+    (stays_of c.args.self.now.core.number.0 c.args.o.0 c.args.self.now.core.is_open (g.C.Joins.kind c.args.self.now.core.kind) (told_in c.args.self.now.core.turns.items c.args.self.now.core.sealed.items) (told_in c.args.self.now.core.turns.items c.note_seal.new.sealed.items) c.args.self.now.core.ends.places.items (set c.args.self.now.core.ends.places.items c.in-Some.place (record s.place { sealed = true }))
+    (seen_same c.args.self.now.core.ends.places.items c.in-Some.place s.place (record s.place { sealed = true }) s.there refl refl refl refl))
+
+pub returns-in-Some-clause-turns : goal.returns-in-Some-clause-turns
+returns-in-Some-clause-turns g c =
+    let s = c.seal.ensures.sealed in
+    subst (λ (l : List (Place _ _)). Seals c.args.end (has c.args.self.now.core.number.0 c.args.self.now.core.is_open (g.C.Joins.kind c.args.self.now.core.kind) (told_in c.args.self.now.core.turns.items c.args.self.now.core.sealed.items) c.args.self.now.core.ends.places.items) (has c.args.self.now.core.number.0 c.args.self.now.core.is_open (g.C.Joins.kind c.args.self.now.core.kind) (told_in c.args.self.now.core.turns.items c.note_seal.new.sealed.items) l)) (sym s.now)
+    (seals_of c.args.self.now.core.number.0 c.args.self.now.core.is_open (g.C.Joins.kind c.args.self.now.core.kind) (told_in c.args.self.now.core.turns.items c.args.self.now.core.sealed.items) (told_in c.args.self.now.core.turns.items c.note_seal.new.sealed.items) c.args.end c.args.self.now.core.ends.places.items c.in-Some.place s.place (record s.place { sealed = true }) s.there refl refl refl refl c.note_seal.ensures)

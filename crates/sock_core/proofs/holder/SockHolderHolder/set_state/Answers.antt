@@ -1,0 +1,62 @@
+use Rattle.std.proofs.Common.{refl, sym, ap, ◌∙◌, subst, List, [], ◌∷◌, ◌++◌, if◌then◌else◌, ◌==◌, set}
+use Rattle.std.specs.List.{position}
+use Rattle.held_ends.specs.declared.table.Place.{Place}
+use Rattle.ctl_holder.specs.Holding.{Stays, TurnsTo, is_state}
+use Rattle.held_ends.specs.Places.{is_of}
+use Rattle.sock_core.specs.Has.{has, told_in}
+use Rattle.sock_core.proofs.FindLemmas.{found, not_found, alone_of, held_is, never}
+use Rattle.sock_core.proofs.SeenLemmas.{seen_same, stays_of}
+use Rattle.sock_core.proofs.FormLemmas.{sound_of, are_sound}
+use Rattle.sock_core.proofs.HolderLemmas.{owned, turned_of}
+use Rattle.zq_base.specs.declared.kind.Kind.{Kind}
+use Rattle.held_ends.proofs.SoundLemmas.{one_some}
+use Rattle.held_ends.proofs.PlaceLemmas.{place_found}
+use Rattle.std.proofs.Common.{ℕ, length, length-set}
+use Rattle.sock_core.specs.Sound.{KeepsRoom}
+use Rattle.sock_core.specs.Peers.{ArePeers}
+use Rattle.sock_core.proofs.PeerLemmas.{kept_stated}
+use Rattle.sock_core.proofs.holder.SockHolderHolder.set_state.Goals as goal
+
+pub set_state-requires-clause-sound : goal.set_state-requires-clause-sound
+set_state-requires-clause-sound g c = sound_of g.P.Pipes.known c.args.self.now.pipes c.args.self.now.core.ends.rows.items c.args.self.now.core.ends.places.items c.args.self.now.sound
+
+pub set_state-requires-clause-there : goal.set_state-requires-clause-there
+set_state-requires-clause-there g c =
+    let f = found (is_of c.args.end) c.args.self.now.core.ends.places.items c.in-Some.place (sym c.in-Some.is ∙ c.find.ensures ∙ ap (λ (l : List (Place _ _)). position (is_of c.args.end) l) c.deref.ensures.value) in
+    record { place = f.0; there = f.1; held = held_is c.args.end f.0 f.2 }
+
+pub invariant_of-self : goal.invariant_of-self
+invariant_of-self g c =
+    let s = c.set_state.ensures.stated in
+    let same = ap length s.now ∙ length-set c.args.self.now.core.ends.places.items c.in-Some.place _ in
+    let peer = ap (λ (x : Place _ _). x.peer) (place_found c.args.self.now.core.ends.places.items c.in-Some.place s.place c.index-in-Some.result.now s.there c.index-in-Some.ensures) in
+    record {
+      sound = are_sound g.P.Pipes.known c.args.self.now.pipes c.set_state.new.table.rows.items c.set_state.new.table.places.items c.set_state.ensures.sound;
+      peers = λ is. subst (λ (l : List (Place _ _)). ArePeers l (g.C.Joins.peers c.stays-peer.new.kind)) (sym s.now)
+          (kept_stated c.args.self.now.core.ends.places.items (g.C.Joins.peers c.args.self.now.core.kind) (c.args.self.now.peers is) c.in-Some.place s.place s.there c.index-in-Some.result.now.peer c.stays-peer.result (record s.place { state = c.args.state; peer = c.stays-peer.result }) (g.C.Joins.peers c.stays-peer.new.kind) peer refl refl refl c.stays-peer.ensures.peers);
+      room = subst (λ (n : ℕ). KeepsRoom c.args.self.now.core.is_open n c.args.self.now.core.room) (sym same) c.args.self.now.room;
+    }
+
+pub returns-in-Some-clause-stays : goal.returns-in-Some-clause-stays
+returns-in-Some-clause-stays g c =
+    let s = c.set_state.ensures.stated in
+    subst (λ (l : List (Place _ _)). Stays c.args.o.0 (has c.args.self.now.core.number.0 c.args.self.now.core.is_open (g.C.Joins.kind c.args.self.now.core.kind) (told_in c.args.self.now.core.turns.items c.args.self.now.core.sealed.items) c.args.self.now.core.ends.places.items) (has c.args.self.now.core.number.0 c.args.self.now.core.is_open (g.C.Joins.kind c.stays-peer.new.kind) (told_in c.note.new.turns.items c.args.self.now.core.sealed.items) l)) (sym s.now)
+    (subst (λ (kind : Kind). Stays c.args.o.0 (has c.args.self.now.core.number.0 c.args.self.now.core.is_open (g.C.Joins.kind c.args.self.now.core.kind) (told_in c.args.self.now.core.turns.items c.args.self.now.core.sealed.items) c.args.self.now.core.ends.places.items) (has c.args.self.now.core.number.0 c.args.self.now.core.is_open kind (told_in c.note.new.turns.items c.args.self.now.core.sealed.items) (set c.args.self.now.core.ends.places.items c.in-Some.place (record s.place { state = c.args.state; peer = c.stays-peer.result })))) (sym c.stays-peer.ensures.kind)
+    (stays_of c.args.self.now.core.number.0 c.args.o.0 c.args.self.now.core.is_open (g.C.Joins.kind c.args.self.now.core.kind) (told_in c.args.self.now.core.turns.items c.args.self.now.core.sealed.items) (told_in c.note.new.turns.items c.args.self.now.core.sealed.items) c.args.self.now.core.ends.places.items (set c.args.self.now.core.ends.places.items c.in-Some.place (record s.place { state = c.args.state; peer = c.stays-peer.result }))
+    (seen_same c.args.self.now.core.ends.places.items c.in-Some.place s.place (record s.place { state = c.args.state; peer = c.stays-peer.result }) s.there refl refl refl refl)))
+
+pub returns-in-Some-clause-turns : goal.returns-in-Some-clause-turns
+returns-in-Some-clause-turns g c =
+    let f = found (is_of c.args.end) c.args.self.now.core.ends.places.items c.in-Some.place (sym c.in-Some.is ∙ c.find.ensures ∙ ap (λ (l : List (Place _ _)). position (is_of c.args.end) l) c.deref.ensures.value) in
+    let s = c.set_state.ensures.stated in
+    let same = one_some f.0 s.place (sym f.1 ∙ s.there) in
+    let was = place_found c.args.self.now.core.ends.places.items c.in-Some.place f.0 c.index.result.now f.1 c.index.ensures in
+    subst (λ (l : List (Place _ _)). TurnsTo c.args.end c.args.state (has c.args.self.now.core.number.0 c.args.self.now.core.is_open (g.C.Joins.kind c.args.self.now.core.kind) (told_in c.args.self.now.core.turns.items c.args.self.now.core.sealed.items) c.args.self.now.core.ends.places.items) (has c.args.self.now.core.number.0 c.args.self.now.core.is_open (g.C.Joins.kind c.stays-peer.new.kind) (told_in c.note.new.turns.items c.args.self.now.core.sealed.items) l))
+    (ap (λ (x : Place _ _). set c.args.self.now.core.ends.places.items c.in-Some.place (record x { state = c.args.state; peer = c.stays-peer.result })) same ∙ sym s.now)
+    (turned_of c.args.self.now.core.ends.places.items c.in-Some.place f.0 c.args.end f.1 f.2 (alone_of g.P.Pipes.known c.args.self.now.pipes c.args.self.now.core.ends.rows.items c.args.self.now.core.ends.places.items c.in-Some.place f.0 c.args.end (sound_of g.P.Pipes.known c.args.self.now.pipes c.args.self.now.core.ends.rows.items c.args.self.now.core.ends.places.items c.args.self.now.sound) f.1 f.2) c.args.self.now.core.number.0 c.args.self.now.core.is_open (g.C.Joins.kind c.args.self.now.core.kind) (g.C.Joins.kind c.stays-peer.new.kind) (told_in c.args.self.now.core.turns.items c.args.self.now.core.sealed.items) (told_in c.note.new.turns.items c.args.self.now.core.sealed.items) c.args.state c.stays-peer.result
+    (c.note.ensures ∙ ap (λ (x : Place _ _). c.args.self.now.core.turns.items ++ (if is_state x.state c.args.state then [] else (c.args.end, c.args.state) ∷ [])) was) refl)
+
+pub unreachable-requires : goal.unreachable-requires
+unreachable-requires g c =
+    never (sym (owned (c.args.o.0 == c.args.self.now.core.number.0) c.args.end c.args.self.now.core.ends.places.items c.requires.here).1
+    ∙ not_found (is_of c.args.end) c.args.self.now.core.ends.places.items (sym c.in-None.is ∙ c.find.ensures ∙ ap (λ (l : List (Place _ _)). position (is_of c.args.end) l) c.deref.ensures.value))

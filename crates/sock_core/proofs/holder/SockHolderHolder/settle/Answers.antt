@@ -1,0 +1,76 @@
+use Rattle.std.proofs.Common.{refl, sym, ap, ◌∙◌, subst, Bool, false, None, List, [], if◌then◌else◌, ◌==◌, set}
+use Rattle.std.specs.List.{position}
+use Rattle.held_ends.specs.declared.table.Place.{Place}
+use Rattle.ctl_holder.specs.Holding.{KeepsTurns, Left, read_in}
+use Rattle.held_ends.specs.Places.{is_of, held_in}
+use Rattle.sock_core.specs.Has.{has, told_in}
+use Rattle.held_ends.proofs.SoundLemmas.{one_some}
+use Rattle.sock_core.proofs.FindLemmas.{found, not_found, alone_of, held_is, never}
+use Rattle.sock_core.proofs.FormLemmas.{sound_of, are_sound}
+use Rattle.sock_core.proofs.HolderLemmas.{owned_read, reads_here, flag_at, flag_not, names_at, left_of, left_turns}
+use Rattle.std.proofs.Common.{ℕ, length, length-set}
+use Rattle.sock_core.specs.Sound.{KeepsRoom}
+use Rattle.sock_core.specs.Peers.{ArePeers}
+use Rattle.sock_core.proofs.PeerLemmas.{kept_settled}
+use Rattle.sock_core.proofs.holder.SockHolderHolder.settle.Goals as goal
+
+pub settle-requires-clause-sound : goal.settle-requires-clause-sound
+settle-requires-clause-sound g c = sound_of g.P.Pipes.known c.args.self.now.pipes c.args.self.now.core.ends.rows.items c.args.self.now.core.ends.places.items c.args.self.now.sound
+
+pub settle-requires-clause-reads : goal.settle-requires-clause-reads
+settle-requires-clause-reads g c =
+    let f = found (is_of c.args.end) c.args.self.now.core.ends.places.items c.in-Some.place (sym c.in-Some.is ∙ c.find.ensures ∙ ap (λ (l : List (Place _ _)). position (is_of c.args.end) l) c.deref.ensures.value) in
+    let mine = owned_read (c.args.o.0 == c.args.self.now.core.number.0) c.args.end c.args.self.now.core.ends.places.items (g.P.Pipes.known.out_name c.args.writer) c.requires.pipe in
+    record {
+      place = f.0;
+      there = f.1;
+      held = held_is c.args.end f.0 f.2;
+      yielded = flag_not c.args.self.now.core.ends.places.items c.in-Some.place f.0 c.args.end f.1 f.2 (alone_of g.P.Pipes.known c.args.self.now.pipes c.args.self.now.core.ends.rows.items c.args.self.now.core.ends.places.items c.in-Some.place f.0 c.args.end (sound_of g.P.Pipes.known c.args.self.now.pipes c.args.self.now.core.ends.rows.items c.args.self.now.core.ends.places.items c.args.self.now.sound) f.1 f.2) (λ (r : Place _ _). r.writes) c.requires.yielded;
+      pipe = one_some f.0.read (g.P.Pipes.known.out_name c.args.writer)
+          (sym (names_at c.args.self.now.core.ends.places.items c.in-Some.place f.0 c.args.end f.1 f.2 (alone_of g.P.Pipes.known c.args.self.now.pipes c.args.self.now.core.ends.rows.items c.args.self.now.core.ends.places.items c.in-Some.place f.0 c.args.end (sound_of g.P.Pipes.known c.args.self.now.pipes c.args.self.now.core.ends.rows.items c.args.self.now.core.ends.places.items c.args.self.now.sound) f.1 f.2)).1 ∙ sym (ap (λ (b : Bool). read_in (if b then held_in c.args.self.now.core.ends.places.items else []) c.args.end) mine) ∙ c.requires.pipe);
+    }
+
+pub invariant_of-self : goal.invariant_of-self
+invariant_of-self g c =
+    let f = found (is_of c.args.end) c.args.self.now.core.ends.places.items c.in-Some.place (sym c.in-Some.is ∙ c.find.ensures ∙ ap (λ (l : List (Place _ _)). position (is_of c.args.end) l) c.deref.ensures.value) in
+    let off = flag_not c.args.self.now.core.ends.places.items c.in-Some.place f.0 c.args.end f.1 f.2 (alone_of g.P.Pipes.known c.args.self.now.pipes c.args.self.now.core.ends.rows.items c.args.self.now.core.ends.places.items c.in-Some.place f.0 c.args.end (sound_of g.P.Pipes.known c.args.self.now.pipes c.args.self.now.core.ends.rows.items c.args.self.now.core.ends.places.items c.args.self.now.sound) f.1 f.2) (λ (r : Place _ _). r.writes) c.requires.yielded in
+    let s = c.settle.ensures.settled in
+    let same = ap length s.now ∙ length-set c.args.self.now.core.ends.places.items c.in-Some.place _ in
+    record {
+      sound = are_sound g.P.Pipes.known c.settle.new.pipes c.settle.new.table.rows.items c.settle.new.table.places.items c.settle.ensures.sound;
+      peers = λ is. subst (λ (l : List (Place _ _)). ArePeers l (g.C.Joins.peers c.args.self.now.core.kind)) (sym s.now) (kept_settled c.args.self.now.core.ends.places.items (g.C.Joins.peers c.args.self.now.core.kind) (c.args.self.now.peers is) c.in-Some.place f.0 f.1 (record s.place { held = false; input = None }) off);
+      room = subst (λ (n : ℕ). KeepsRoom c.args.self.now.core.is_open n c.args.self.now.core.room) (sym same) c.args.self.now.room;
+    }
+
+pub returns-in-Some-clause-read_out : goal.returns-in-Some-clause-read_out
+returns-in-Some-clause-read_out g c = λ met.
+    let f = found (is_of c.args.end) c.args.self.now.core.ends.places.items c.in-Some.place (sym c.in-Some.is ∙ c.find.ensures ∙ ap (λ (l : List (Place _ _)). position (is_of c.args.end) l) c.deref.ensures.value) in
+    let y = c.settle.ensures.settled in
+    let same = one_some f.0 y.place (sym f.1 ∙ y.there) in
+    y.read_out (sym (ap (λ (x : Place _ _). x.met) same) ∙ flag_at c.args.self.now.core.ends.places.items c.in-Some.place f.0 c.args.end f.1 f.2 (alone_of g.P.Pipes.known c.args.self.now.pipes c.args.self.now.core.ends.rows.items c.args.self.now.core.ends.places.items c.in-Some.place f.0 c.args.end (sound_of g.P.Pipes.known c.args.self.now.pipes c.args.self.now.core.ends.rows.items c.args.self.now.core.ends.places.items c.args.self.now.sound) f.1 f.2) (λ (r : Place _ _). r.met) met)
+
+pub returns-in-Some-clause-gone : goal.returns-in-Some-clause-gone
+returns-in-Some-clause-gone g c =
+    let f = found (is_of c.args.end) c.args.self.now.core.ends.places.items c.in-Some.place (sym c.in-Some.is ∙ c.find.ensures ∙ ap (λ (l : List (Place _ _)). position (is_of c.args.end) l) c.deref.ensures.value) in
+    let mine = owned_read (c.args.o.0 == c.args.self.now.core.number.0) c.args.end c.args.self.now.core.ends.places.items (g.P.Pipes.known.out_name c.args.writer) c.requires.pipe in
+    let y = c.settle.ensures.settled in
+    let same = one_some f.0 y.place (sym f.1 ∙ y.there) in
+    subst (λ (l : List (Place _ _)). Left c.args.o.0 c.args.end (has c.args.self.now.core.number.0 c.args.self.now.core.is_open (g.C.Joins.kind c.args.self.now.core.kind) (told_in c.args.self.now.core.turns.items c.args.self.now.core.sealed.items) c.args.self.now.core.ends.places.items) (has c.args.self.now.core.number.0 c.args.self.now.core.is_open (g.C.Joins.kind c.args.self.now.core.kind) (told_in c.args.self.now.core.turns.items c.args.self.now.core.sealed.items) l))
+    (ap (λ (x : Place _ _). set c.args.self.now.core.ends.places.items c.in-Some.place (record x { held = false; input = None })) same ∙ sym y.now)
+    (left_of c.args.self.now.core.ends.places.items c.in-Some.place f.0 c.args.end f.1 f.2 (alone_of g.P.Pipes.known c.args.self.now.pipes c.args.self.now.core.ends.rows.items c.args.self.now.core.ends.places.items c.in-Some.place f.0 c.args.end (sound_of g.P.Pipes.known c.args.self.now.pipes c.args.self.now.core.ends.rows.items c.args.self.now.core.ends.places.items c.args.self.now.sound) f.1 f.2) (record f.0 { held = false; input = None }) refl c.args.self.now.core.number.0 c.args.o.0 c.args.self.now.core.is_open (g.C.Joins.kind c.args.self.now.core.kind) (told_in c.args.self.now.core.turns.items c.args.self.now.core.sealed.items) mine)
+
+pub returns-in-Some-clause-turns : goal.returns-in-Some-clause-turns
+returns-in-Some-clause-turns g c =
+    let f = found (is_of c.args.end) c.args.self.now.core.ends.places.items c.in-Some.place (sym c.in-Some.is ∙ c.find.ensures ∙ ap (λ (l : List (Place _ _)). position (is_of c.args.end) l) c.deref.ensures.value) in
+    let y = c.settle.ensures.settled in
+    let same = one_some f.0 y.place (sym f.1 ∙ y.there) in
+    subst (λ (l : List (Place _ _)). KeepsTurns (has c.args.self.now.core.number.0 c.args.self.now.core.is_open (g.C.Joins.kind c.args.self.now.core.kind) (told_in c.args.self.now.core.turns.items c.args.self.now.core.sealed.items) c.args.self.now.core.ends.places.items) (has c.args.self.now.core.number.0 c.args.self.now.core.is_open (g.C.Joins.kind c.args.self.now.core.kind) (told_in c.args.self.now.core.turns.items c.args.self.now.core.sealed.items) l))
+    (ap (λ (x : Place _ _). set c.args.self.now.core.ends.places.items c.in-Some.place (record x { held = false; input = None })) same ∙ sym y.now)
+    (left_turns c.args.self.now.core.ends.places.items c.in-Some.place f.0 c.args.end f.1 f.2 (alone_of g.P.Pipes.known c.args.self.now.pipes c.args.self.now.core.ends.rows.items c.args.self.now.core.ends.places.items c.in-Some.place f.0 c.args.end (sound_of g.P.Pipes.known c.args.self.now.pipes c.args.self.now.core.ends.rows.items c.args.self.now.core.ends.places.items c.args.self.now.sound) f.1 f.2) (record f.0 { held = false; input = None }) refl c.args.self.now.core.number.0 c.args.self.now.core.is_open (g.C.Joins.kind c.args.self.now.core.kind) (told_in c.args.self.now.core.turns.items c.args.self.now.core.sealed.items))
+
+pub unreachable-requires : goal.unreachable-requires
+unreachable-requires g c =
+    let mine = owned_read (c.args.o.0 == c.args.self.now.core.number.0) c.args.end c.args.self.now.core.ends.places.items (g.P.Pipes.known.out_name c.args.writer) c.requires.pipe in
+    never (sym (reads_here c.args.end c.args.self.now.core.ends.places.items (g.P.Pipes.known.out_name c.args.writer)
+    (sym (ap (λ (b : Bool). read_in (if b then held_in c.args.self.now.core.ends.places.items else []) c.args.end) mine) ∙ c.requires.pipe))
+    ∙ not_found (is_of c.args.end) c.args.self.now.core.ends.places.items (sym c.in-None.is ∙ c.find.ensures ∙ ap (λ (l : List (Place _ _)). position (is_of c.args.end) l) c.deref.ensures.value))

@@ -1,0 +1,74 @@
+use Rattle.std.proofs.Common.{refl, sym, ap, ◌∙◌, subst, false, List, [], if◌then◌else◌, ◌==◌, set, Some}
+use Rattle.std.specs.List.{position}
+use Rattle.zq_base.specs.declared.kind.Kind.{Kind}
+use Rattle.held_ends.specs.declared.table.Place.{Place}
+use Rattle.ctl_holder.specs.Holding.{KeepsTurns, Yielded, written_in}
+use Rattle.held_ends.specs.Places.{is_of, held_in}
+use Rattle.sock_core.specs.Has.{has, told_in}
+use Rattle.held_ends.proofs.SoundLemmas.{one_some}
+use Rattle.sock_core.proofs.FindLemmas.{found, not_found, alone_of, held_is, never}
+use Rattle.sock_core.proofs.FormLemmas.{sound_of, are_sound}
+use Rattle.sock_core.proofs.HolderLemmas.{owned, flag_at, names_at, yielded_of, turns_kept}
+use Rattle.std.proofs.Common.{ℕ, length, length-set}
+use Rattle.sock_core.specs.Sound.{KeepsRoom}
+use Rattle.held_ends.proofs.PlaceLemmas.{place_found}
+use Rattle.sock_core.specs.Peers.{ArePeers}
+use Rattle.sock_core.proofs.PeerLemmas.{kept_parted}
+use Rattle.sock_core.proofs.holder.SockHolderHolder.yield_writer.Goals as goal
+
+pub yield_writer-requires-clause-sound : goal.yield_writer-requires-clause-sound
+yield_writer-requires-clause-sound g c = sound_of g.P.Pipes.known c.args.self.now.pipes c.args.self.now.core.ends.rows.items c.args.self.now.core.ends.places.items c.args.self.now.sound
+
+pub yield_writer-requires-clause-writes : goal.yield_writer-requires-clause-writes
+yield_writer-requires-clause-writes g c =
+    let f = found (is_of c.args.end) c.args.self.now.core.ends.places.items c.in-Some.place (sym c.in-Some.is ∙ c.find.ensures ∙ ap (λ (l : List (Place _ _)). position (is_of c.args.end) l) c.deref.ensures.value) in
+    record {
+      place = f.0;
+      there = f.1;
+      held = held_is c.args.end f.0 f.2;
+      writes = flag_at c.args.self.now.core.ends.places.items c.in-Some.place f.0 c.args.end f.1 f.2 (alone_of g.P.Pipes.known c.args.self.now.pipes c.args.self.now.core.ends.rows.items c.args.self.now.core.ends.places.items c.in-Some.place f.0 c.args.end (sound_of g.P.Pipes.known c.args.self.now.pipes c.args.self.now.core.ends.rows.items c.args.self.now.core.ends.places.items c.args.self.now.sound) f.1 f.2) (λ (r : Place _ _). r.writes) c.requires.writer;
+    }
+
+pub invariant_of-self : goal.invariant_of-self
+invariant_of-self g c =
+    let s = c.yield_writer.ensures.yielded in
+    let same = ap length s.now ∙ length-set c.args.self.now.core.ends.places.items c.in-Some.place _ in
+    let peer = ap (λ (x : Place _ _). x.peer) (place_found c.args.self.now.core.ends.places.items c.in-Some.place s.place c.index.result.now s.there c.index.ensures) in
+    record {
+      sound = are_sound g.P.Pipes.known c.yield_writer.new.pipes c.yield_writer.new.table.rows.items c.yield_writer.new.table.places.items c.yield_writer.ensures.sound;
+      peers = λ is. subst (λ (l : List (Place _ _)). ArePeers l (g.C.Joins.peers c.part.new.kind)) (sym s.now)
+          (kept_parted c.args.self.now.core.ends.places.items (g.C.Joins.peers c.args.self.now.core.kind) (c.args.self.now.peers is) c.in-Some.place s.place s.there c.index.result.now.peer (record s.place { writes = false; peer = false; input = Some s.input }) (g.C.Joins.peers c.part.new.kind) peer c.part.ensures.peers);
+      room = subst (λ (n : ℕ). KeepsRoom c.args.self.now.core.is_open n c.args.self.now.core.room) (sym same) c.args.self.now.room;
+    }
+
+pub unreachable-requires : goal.unreachable-requires
+unreachable-requires g c =
+    never (sym (owned (c.args.o.0 == c.args.self.now.core.number.0) c.args.end c.args.self.now.core.ends.places.items c.requires.here).1
+    ∙ not_found (is_of c.args.end) c.args.self.now.core.ends.places.items (sym c.in-None.is ∙ c.find.ensures ∙ ap (λ (l : List (Place _ _)). position (is_of c.args.end) l) c.deref.ensures.value))
+
+pub returns-in-Some-clause-name : goal.returns-in-Some-clause-name
+returns-in-Some-clause-name g c =
+    let f = found (is_of c.args.end) c.args.self.now.core.ends.places.items c.in-Some.place (sym c.in-Some.is ∙ c.find.ensures ∙ ap (λ (l : List (Place _ _)). position (is_of c.args.end) l) c.deref.ensures.value) in
+    let y = c.yield_writer.ensures.yielded in
+    let same = one_some f.0 y.place (sym f.1 ∙ y.there) in
+    let mine = (owned (c.args.o.0 == c.args.self.now.core.number.0) c.args.end c.args.self.now.core.ends.places.items c.requires.here).0 in
+    ap (λ (b : _). written_in (if b then held_in c.args.self.now.core.ends.places.items else []) c.args.end) mine
+    ∙ (names_at c.args.self.now.core.ends.places.items c.in-Some.place f.0 c.args.end f.1 f.2 (alone_of g.P.Pipes.known c.args.self.now.pipes c.args.self.now.core.ends.rows.items c.args.self.now.core.ends.places.items c.in-Some.place f.0 c.args.end (sound_of g.P.Pipes.known c.args.self.now.pipes c.args.self.now.core.ends.rows.items c.args.self.now.core.ends.places.items c.args.self.now.sound) f.1 f.2)).0
+    ∙ ap (λ (x : Place _ _). Some x.written) same ∙ ap Some y.name_is
+
+pub returns-in-Some-clause-yielded : goal.returns-in-Some-clause-yielded
+returns-in-Some-clause-yielded g c =
+    let f = found (is_of c.args.end) c.args.self.now.core.ends.places.items c.in-Some.place (sym c.in-Some.is ∙ c.find.ensures ∙ ap (λ (l : List (Place _ _)). position (is_of c.args.end) l) c.deref.ensures.value) in
+    let y = c.yield_writer.ensures.yielded in
+    let same = one_some f.0 y.place (sym f.1 ∙ y.there) in
+    subst (λ (kind : Kind). Yielded c.args.o.0 c.args.end (has c.args.self.now.core.number.0 c.args.self.now.core.is_open (g.C.Joins.kind c.args.self.now.core.kind) (told_in c.args.self.now.core.turns.items c.args.self.now.core.sealed.items) c.args.self.now.core.ends.places.items) (has c.args.self.now.core.number.0 c.args.self.now.core.is_open kind (told_in c.args.self.now.core.turns.items c.args.self.now.core.sealed.items) c.yield_writer.new.table.places.items)) (sym c.part.ensures.kind)
+    (subst (λ (l : List (Place _ _)). Yielded c.args.o.0 c.args.end (has c.args.self.now.core.number.0 c.args.self.now.core.is_open (g.C.Joins.kind c.args.self.now.core.kind) (told_in c.args.self.now.core.turns.items c.args.self.now.core.sealed.items) c.args.self.now.core.ends.places.items) (has c.args.self.now.core.number.0 c.args.self.now.core.is_open (g.C.Joins.kind c.args.self.now.core.kind) (told_in c.args.self.now.core.turns.items c.args.self.now.core.sealed.items) l))
+    (ap (λ (x : Place _ _). set c.args.self.now.core.ends.places.items c.in-Some.place (record x { writes = false; peer = false; input = Some y.input })) same ∙ sym y.now)
+    (yielded_of c.args.self.now.core.ends.places.items c.in-Some.place f.0 c.args.end f.1 f.2 (alone_of g.P.Pipes.known c.args.self.now.pipes c.args.self.now.core.ends.rows.items c.args.self.now.core.ends.places.items c.in-Some.place f.0 c.args.end (sound_of g.P.Pipes.known c.args.self.now.pipes c.args.self.now.core.ends.rows.items c.args.self.now.core.ends.places.items c.args.self.now.sound) f.1 f.2) c.args.self.now.core.number.0 c.args.o.0 c.args.self.now.core.is_open (g.C.Joins.kind c.args.self.now.core.kind) (told_in c.args.self.now.core.turns.items c.args.self.now.core.sealed.items) (Some y.input)))
+
+pub returns-in-Some-clause-turns : goal.returns-in-Some-clause-turns
+returns-in-Some-clause-turns g c =
+    let y = c.yield_writer.ensures.yielded in
+    subst (λ (kind : Kind). KeepsTurns (has c.args.self.now.core.number.0 c.args.self.now.core.is_open (g.C.Joins.kind c.args.self.now.core.kind) (told_in c.args.self.now.core.turns.items c.args.self.now.core.sealed.items) c.args.self.now.core.ends.places.items) (has c.args.self.now.core.number.0 c.args.self.now.core.is_open kind (told_in c.args.self.now.core.turns.items c.args.self.now.core.sealed.items) c.yield_writer.new.table.places.items)) (sym c.part.ensures.kind)
+    (subst (λ (l : List (Place _ _)). KeepsTurns (has c.args.self.now.core.number.0 c.args.self.now.core.is_open (g.C.Joins.kind c.args.self.now.core.kind) (told_in c.args.self.now.core.turns.items c.args.self.now.core.sealed.items) c.args.self.now.core.ends.places.items) (has c.args.self.now.core.number.0 c.args.self.now.core.is_open (g.C.Joins.kind c.args.self.now.core.kind) (told_in c.args.self.now.core.turns.items c.args.self.now.core.sealed.items) l)) (sym y.now)
+    (turns_kept c.args.self.now.core.number.0 c.args.self.now.core.is_open (g.C.Joins.kind c.args.self.now.core.kind) (told_in c.args.self.now.core.turns.items c.args.self.now.core.sealed.items) c.args.self.now.core.ends.places.items c.in-Some.place y.place (record y.place { writes = false; peer = false; input = Some y.input }) y.there refl refl refl))

@@ -1,0 +1,53 @@
+-- What a socket has, as the control plane is told (own choice, after libzmq's `socket_base_t`).
+use Rattle.std.specs.Prelude.{◌≡◌, ◌==◌, ◌&&◌, ℕ, Bool, true, false, List, [], ◌∷◌, Some, None, map, if◌then◌else◌}
+use Rattle.zq_base.specs.declared.ids.EndId.{EndId}
+use Rattle.zq_base.specs.declared.kind.Kind.{Kind}
+use Rattle.spec_control.specs.declared.end.EndState.{EndState}
+use Rattle.spec_control.specs.declared.end.EndState.TheVariants.{Gone}
+use Rattle.ctl_holder.specs.Holding.{Holding}
+use Rattle.held_ends.specs.declared.table.Place.{Place}
+use Rattle.held_ends.specs.Places.{held_in, is_of, writes_in, met_in}
+use Rattle.sock_core.specs.declared.sock.SockCore.{SockCore}
+
+-- what a socket was told of its ends: the changes of their states, and the ends whose pipes it was to seal
+pub record Told : Type 0 where
+  pub turns : List (EndId × EndState)
+  pub sealed : List EndId
+
+-- as its logs have it
+abbrev pub told_in : List (EndId × EndState) → List (EndId × Unit {0}) → Told
+told_in turns sealed = record { turns = turns; sealed = map (λ x. x.0) sealed }
+
+module _ {N I : Type 0} where
+  -- how far an end is; one that is not held is gone
+  abbrev pub state_in : List (Place N I) → EndId → EndState
+  state_in [] e = Gone
+  state_in (p ∷ ps) e = if is_of e p then p.state else state_in ps e
+
+  -- a socket of this number and kind with its ends by places, which was told this; it gives all away when it is closed
+  abbrev pub has : (number : ℕ) → (is_open : Bool) → Kind → Told → List (Place N I) → Holding N
+  has number is_open kind told ps = record {
+    holds = λ i. is_open && i == number;
+    ends = λ i. if i == number then held_in ps else [];
+    writes = writes_in ps;
+    at_delimiter = met_in ps;
+    kind = λ i. if is_open && i == number then Some kind else None;
+    output_left = λ i. false;
+    state = state_in ps;
+    turns = told.turns;
+    sealed = told.sealed;
+  }
+
+-- what a socket has, whose kind is this
+abbrev pub holding_in : {C W N O I : Type 0} → Kind → SockCore C W N O I → Holding N
+holding_in kind s = has s.number.0 s.is_open kind (told_in s.turns.items s.sealed.items) s.ends.places.items
+
+-- an open socket of this number and kind, without ends, that was told nothing
+pub record IsNew {C W N O I : Type 0} (number : ℕ) (kind : C) (s : SockCore C W N O I) : Type 0 where
+  pub number_is : s.number.0 ≡ number
+  pub is_open : s.is_open ≡ true
+  pub not_stopped : s.stopped ≡ false
+  pub kind_is : s.kind ≡ kind
+  pub no_ends : s.ends.places.items ≡ []
+  pub no_turns : s.turns.items ≡ []
+  pub no_seals : s.sealed.items ≡ []

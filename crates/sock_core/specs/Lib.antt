@@ -1,0 +1,5 @@
+pub mod Has
+pub mod Sound
+pub mod Turns
+pub mod Peers
+pub mod Kinds

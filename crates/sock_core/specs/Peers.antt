@@ -1,0 +1,51 @@
+-- The peers of a socket's kind, by the places of its ends (own choice, after libzmq's `socket_base_t`).
+use Rattle.std.specs.Prelude.{◌≡◌, ◌&&◌, ℕ, zero, suc, Bool, true, false, List, [], ◌∷◌, ◌++◌, All, Contains, nat_eq}
+use Rattle.zq_base.specs.declared.attached.Attached.{Attached}
+use Rattle.zq_base.specs.declared.attached.Attached.TheVariants.{Yes, BadId, Second}
+use Rattle.held_ends.specs.declared.table.Place.{Place}
+
+-- the kind took the end as a peer
+abbrev pub is_taken : Attached → Bool
+is_taken Yes = true
+is_taken BadId = false
+is_taken Second = false
+
+-- the peers after an attach at a place: one more, or as before where the end was refused
+abbrev pub AddsPeer : Attached → ℕ → (was now : List ℕ) → Type 0
+AddsPeer Yes place was now = All (Contains (was ++ place ∷ [])) now
+AddsPeer BadId place was now = now ≡ was
+AddsPeer Second place was now = now ≡ was
+
+-- no place of these is this one
+abbrev pub AreElse : ℕ → List ℕ → Type 0
+AreElse place ps = All (λ k. nat_eq place k ≡ false) ps
+
+-- no peer came, and the one at this place went
+pub record LosesPeer (place : ℕ) (was now : List ℕ) : Type 0 where
+  pub none_new : All (Contains was) now
+  pub gone : AreElse place now
+
+-- no peer came, and if there was one at this place it went
+pub record Parts (is_peer : Bool) (place : ℕ) (was now : List ℕ) : Type 0 where
+  pub none_new : All (Contains was) now
+  pub gone : is_peer ≡ true → AreElse place now
+
+-- or it went if it is none then; none comes
+pub record StaysPeer (is_peer stays : Bool) (place : ℕ) (was now : List ℕ) : Type 0 where
+  pub none_new : All (Contains was) now
+  pub gone : is_peer ≡ true → stays ≡ false → AreElse place now
+  pub none_back : stays ≡ true → is_peer ≡ true
+
+module _ {N I : Type 0} where
+  -- an end that has its writing half is a peer
+  abbrev pub peer_of : Place N I → Bool
+  peer_of p = p.held && (p.writes && p.peer)
+
+  abbrev pub peer_at : List (Place N I) → ℕ → Bool
+  peer_at [] k = false
+  peer_at (p ∷ ps) zero = peer_of p
+  peer_at (p ∷ ps) (suc k) = peer_at ps k
+
+  -- the peers of the kind are ends that have their writing halves, and that it took
+  abbrev pub ArePeers : List (Place N I) → List ℕ → Type 0
+  ArePeers ps peers = All (λ k. peer_at ps k ≡ true) peers

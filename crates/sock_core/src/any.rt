@@ -1,0 +1,26 @@
+use crate::joins::Joins;
+use any_sock::AnySock;
+use std::alloc::{AllocError, Global};
+use zq_base::{Attached, PairId, Peer};
+
+impl Joins for AnySock {
+    ghost use Rattle.pattern_laws.specs.Peers.{pattern_kind};
+    ghost use Rattle.any_sock.specs.Over.{over, peer_places};
+    ghost use Rattle.sock_core.specs.Kinds.{no_ends};
+
+    ghost kind = { λ s. pattern_kind (over no_ends s) };
+
+    ghost peers = { λ s. peer_places s };
+
+    // A peer whose identity can't be a name is refused, as one whose identity is another's is.
+    fn attach(&mut self, alloc: Global, place: usize, peer: &Peer) -> Result<Attached, AllocError> {
+        if !self.can_name(peer.identity.as_slice()) {
+            return Ok(Attached::BadId);
+        }
+        AnySock::attach(self, alloc, place, peer.identity.as_slice())
+    }
+
+    fn detach(&mut self, pair: PairId, place: usize) {
+        AnySock::detach(self, pair, place);
+    }
+}

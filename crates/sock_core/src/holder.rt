@@ -1,0 +1,301 @@
+ghost use Rattle.std.specs.Prelude.{◌≡◌, true, length};
+ghost use Rattle.sock_core.specs.Sound.{AreSound, KeepsRoom};
+ghost use Rattle.sock_core.specs.Peers.{ArePeers, is_taken};
+
+use crate::joins::Joins;
+use crate::sock::{Room, SockCore};
+use crate::turns::{note, note_seal, part, stays};
+use ctl_holder::{Given, Halves, Holder, Made, Parting};
+use held_ends::{EndTable, HeldPipes, find};
+use http_server::Log;
+use spec_control::EndState;
+use std::alloc::{AllocError, AllocFailed, Global};
+use zq_base::{Address, Attached, EndId, Kind, ObjId, Options, Peer, Seq, Settled};
+
+/// A socket with the pipes of its ends.
+#[derive(Drop)]
+pub struct SockHolder<P: HeldPipes, C: Joins> {
+    pub pipes: P,
+    pub core: SockCore<C, P::Waker, P::Name, P::Out, P::In>,
+    ghost sound: { AreSound P.known pipes core.ends.rows.items core.ends.places.items },
+    ghost peers: { core.is_open ≡ true → ArePeers core.ends.places.items (C.peers core.kind) },
+    ghost room: { KeepsRoom core.is_open (length core.ends.places.items) core.room },
+}
+
+impl<P: HeldPipes, C: Joins> SockHolder<P, C> {
+    ghost use Rattle.std.specs.Prelude.{◌≡◌, []};
+    ghost use Rattle.sock_core.specs.Has.{IsNew};
+
+    /// An open socket without ends, of this number, with the pipes that its ends come to have. It
+    /// wakes its owner by the waker.
+    pub fn new(alloc: Global, pipes: P, number: ObjId, kind: C, waker: P::Waker) -> SockHolder<P, C>
+        requires none { C.peers kind ≡ [] }
+        ensures socket { IsNew number.0 kind result.core }
+        ensures pipes { result.pipes ≡ pipes }
+    {
+        SockHolder {
+            pipes,
+            core: SockCore {
+                number,
+                is_open: true,
+                stopped: false,
+                kind,
+                waker,
+                ends: EndTable {
+                    rows: Vec::new(alloc),
+                    places: Vec::new(alloc),
+                },
+                room: Room {
+                    given: Vec::new(alloc),
+                    joined: Vec::new(alloc),
+                },
+                turns: Log::new(),
+                sealed: Log::new(),
+            },
+        }
+    }
+}
+
+/// A socket has ends of its own alone, and takes in none of another owner's.
+impl<P: HeldPipes, C: Joins> Holder<P> for SockHolder<P, C>
+where
+    P::Name: Drop,
+{
+    ghost use Rattle.std.specs.Prelude.{◌≡◌, true, false, map, OnOk, IfOk, IfErr};
+    ghost use Rattle.zq_base.specs.declared.ids.EndId.{EndId};
+    ghost use Rattle.ctl_holder.specs.Holding.{has_end, held_with, held_optional, held_given};
+    ghost use Rattle.ctl_holder.specs.Holding.{Joined, BeginsActive, MayRefuse, Stays, KeepsTurns};
+    ghost use Rattle.ctl_holder.specs.Holding.{IsPlugged, Begins, AreAtDelimiter, writes_in};
+    ghost use Rattle.ctl_holder.specs.Holding.{states_optional, states_given};
+    ghost use Rattle.held_ends.specs.Sound.{Fits};
+    ghost use Rattle.sock_core.specs.Has.{holding_in};
+
+    ghost holding = { λ s. holding_in (C.kind s.core.kind) s.core };
+
+    ghost ended = { λ s i. (P.known.reading s.pipes i).ended };
+
+    ghost fits = { λ s h. Fits P.known s.pipes s.core.ends.places.items h };
+
+    ghost serves = { false };
+
+    ghost reaps = { false };
+
+    fn make(
+        &mut self,
+        alloc: Global,
+        o: ObjId,
+        written: u32,
+        read: u32,
+        mine: &P::Waker,
+        other: &P::Waker,
+    ) -> Result<Made<P::Out, P::In>, AllocError> {
+        let _object = o;
+        held_ends::make(
+            alloc,
+            &mut self.pipes,
+            &self.core.ends,
+            (written, read),
+            mine,
+            other,
+        )
+    }
+
+    fn attach(
+        &mut self,
+        alloc: Global,
+        o: ObjId,
+        end: EndId,
+        peer: &Peer,
+        halves: Halves<P::Out, P::In>,
+    ) -> Result<Attached, AllocFailed<Halves<P::Out, P::In>>>
+        requires here { (holding_in (C.kind self.old.core.kind) self.old.core).holds o.0 ≡ true }
+        requires new { has_end end
+            ((holding_in (C.kind self.old.core.kind) self.old.core).ends o.0) ≡ false }
+        requires fits { Fits P.known self.old.pipes self.old.core.ends.places.items halves }
+        ensures ok { OnOk result (Joined o.0 (held_with P.known.out_name P.known.in_name end halves)
+            (holding_in (C.kind self.old.core.kind) self.old.core)
+            (holding_in (C.kind self.new.core.kind) self.new.core)) }
+        ensures turns { OnOk result (BeginsActive end
+            (holding_in (C.kind self.old.core.kind) self.old.core)
+            (holding_in (C.kind self.new.core.kind) self.new.core)) }
+        ensures refuses { IfOk result (λ a. MayRefuse
+            ((holding_in (C.kind self.old.core.kind) self.old.core).kind o.0) a) }
+        ensures err { IfErr result (λ e. (e.value ≡ halves)
+            × Stays o.0 (holding_in (C.kind self.old.core.kind) self.old.core)
+            (holding_in (C.kind self.new.core.kind) self.new.core)
+            × KeepsTurns (holding_in (C.kind self.old.core.kind) self.old.core)
+            (holding_in (C.kind self.new.core.kind) self.new.core)) }
+    {
+        let _object = o;
+        let place = self.core.ends.places.len();
+        match self.core.room.keep(place) {
+            Ok(()) => {}
+            Err(_) => return Err(AllocFailed { value: halves }),
+        }
+        match held_ends::prepare(alloc, &mut self.core.ends, end, halves) {
+            Ok(row) => match self.core.kind.attach(alloc, place, peer) {
+                Ok(answer) => {
+                    held_ends::join(&self.pipes, &mut self.core.ends, row, is_taken(answer));
+                    return Ok(answer);
+                }
+                Err(_) => {
+                    return Err(AllocFailed {
+                        value: held_ends::give_back(row),
+                    });
+                }
+            },
+            Err(refused) => return Err(refused),
+        }
+    }
+
+    fn take_back(&mut self, o: ObjId, end: EndId) -> Halves<P::Out, P::In> {
+        let _object = o;
+        match find(&self.core.ends.places, end) {
+            Some(place) => {
+                let is_peer = self.core.ends.places[place].peer;
+                part(&mut self.core.kind, end.pair, place, is_peer);
+                return held_ends::take_back(&self.pipes, &mut self.core.ends, place);
+            }
+            None => unreachable!(),
+        }
+    }
+
+    // One that is neither written nor read any more is a peer no longer.
+    fn set_state(&mut self, o: ObjId, end: EndId, state: EndState) {
+        let _object = o;
+        match find(&self.core.ends.places, end) {
+            Some(place) => {
+                let was = self.core.ends.places[place].state;
+                note(&mut self.core.turns, end, was, state);
+                let is_peer = self.core.ends.places[place].peer;
+                let peer = stays(&mut self.core.kind, end.pair, place, is_peer, state);
+                held_ends::set_state(&self.pipes, &mut self.core.ends, place, state, peer);
+                return;
+            }
+            None => unreachable!(),
+        }
+    }
+
+    fn seal(&mut self, o: ObjId, end: EndId) {
+        let _object = o;
+        match find(&self.core.ends.places, end) {
+            Some(place) => {
+                held_ends::seal(&mut self.pipes, &mut self.core.ends, place);
+                note_seal(&mut self.core.sealed, end);
+                return;
+            }
+            None => unreachable!(),
+        }
+    }
+
+    fn yield_writer(&mut self, o: ObjId, end: EndId) -> P::Out {
+        let _object = o;
+        match find(&self.core.ends.places, end) {
+            Some(place) => {
+                let is_peer = self.core.ends.places[place].peer;
+                part(&mut self.core.kind, end.pair, place, is_peer);
+                return held_ends::yield_writer(&mut self.pipes, &mut self.core.ends, place);
+            }
+            None => unreachable!(),
+        }
+    }
+
+    fn settle(&mut self, o: ObjId, end: EndId, writer: P::Out) -> Settled {
+        let _object = o;
+        match find(&self.core.ends.places, end) {
+            Some(place) => {
+                return held_ends::settle(&mut self.pipes, &mut self.core.ends, place, writer);
+            }
+            None => unreachable!(),
+        }
+    }
+
+    fn stop(&mut self, o: ObjId) {
+        let _object = o;
+        self.core.stopped = true;
+    }
+
+    fn waker(&self) -> P::Waker {
+        P::same_waker(&self.core.waker)
+    }
+
+    // No listener and no session is ever a socket's.
+    fn plug(
+        &mut self,
+        _alloc: Global,
+        o: ObjId,
+        _kind: Kind,
+        _at: &Address,
+        _options: &Options,
+        end: Option<(EndId, Halves<P::Out, P::In>)>,
+    ) -> Result<(), AllocFailed<Option<(EndId, Halves<P::Out, P::In>)>>>
+        ensures ok { OnOk result (IsPlugged o.0
+            (held_optional P.known.out_name P.known.in_name end)
+            (holding_in (C.kind self.old.core.kind) self.old.core)
+            (holding_in (C.kind self.new.core.kind) self.new.core)) }
+        ensures turns { OnOk result (Begins (states_optional end)
+            (holding_in (C.kind self.old.core.kind) self.old.core)
+            (holding_in (C.kind self.new.core.kind) self.new.core)) }
+        ensures err { IfErr result (λ e. (e.value ≡ end)
+            × Stays o.0 (holding_in (C.kind self.old.core.kind) self.old.core)
+            (holding_in (C.kind self.new.core.kind) self.new.core)
+            × KeepsTurns (holding_in (C.kind self.old.core.kind) self.old.core)
+            (holding_in (C.kind self.new.core.kind) self.new.core)) }
+    {
+        let _object = o;
+        Err(AllocFailed { value: end })
+    }
+
+    fn told(&mut self, o: ObjId) {
+        let _object = o;
+    }
+
+    fn output_left(&self, o: ObjId) -> bool {
+        let _object = o;
+        false
+    }
+
+    fn over(&mut self, o: ObjId) {
+        let _object = o;
+    }
+
+    fn give_ends(&mut self, o: ObjId) -> Parting<P::Name, P::Out, P::In> {
+        let _object = o;
+        self.core.is_open = false;
+        let (mut ends, mut joined) = self.core.room.hand_over();
+        held_ends::give_ends(&self.pipes, &mut self.core.ends, &mut ends, &mut joined);
+        Parting {
+            ends,
+            joined: Seq::of_vec(joined),
+        }
+    }
+
+    // No end of another owner is ever a socket's.
+    fn take_ends(&mut self, o: ObjId, ends: Vec<Given<P::Name, P::Out, P::In>>)
+        ensures all { false ≡ true → IsPlugged o.0
+            (map (held_given P.known.out_name P.known.in_name) ends.items)
+            (holding_in (C.kind self.old.core.kind) self.old.core)
+            (holding_in (C.kind self.new.core.kind) self.new.core) }
+        ensures at { false ≡ true → AreAtDelimiter
+            (holding_in (C.kind self.new.core.kind) self.new.core).at_delimiter ends.items }
+        ensures turns { false ≡ true → Begins (states_given ends.items)
+            (holding_in (C.kind self.old.core.kind) self.old.core)
+            (holding_in (C.kind self.new.core.kind) self.new.core) }
+        ensures writing { false ≡ true → (e : EndId) →
+            (holding_in (C.kind self.new.core.kind) self.new.core).writes e
+            ≡ writes_in ends.items e
+            ((holding_in (C.kind self.old.core.kind) self.old.core).writes e) }
+    {
+        let _unread = (o, ends);
+    }
+}
+
+// Whether the kind took the end as a peer.
+fn is_taken(answer: Attached) -> bool
+    ensures { result ≡ is_taken answer }
+{
+    match answer {
+        Attached::Yes => return true,
+        Attached::BadId | Attached::Second => return false,
+    }
+}

@@ -1,0 +1,12 @@
+//! A socket with its ends, over any pipes: what the control plane asks of it.
+#![tactic(auto)]
+
+mod any;
+mod holder;
+mod joins;
+mod sock;
+mod turns;
+
+pub use holder::SockHolder;
+pub use joins::Joins;
+pub use sock::{Room, SockCore};

@@ -1,0 +1,62 @@
+use ctl_holder::Given;
+use held_ends::EndTable;
+use http_server::Log;
+use spec_control::{EndState, Joining};
+use std::alloc::AllocError;
+use std::mem;
+use zq_base::{EndId, ObjId};
+
+/// A socket: its kind and its ends by places.
+#[derive(Drop)]
+pub struct SockCore<C, W, N, O, I> {
+    pub number: ObjId,
+    /// It was not closed yet.
+    pub is_open: bool,
+    /// It processed its Stop.
+    pub stopped: bool,
+    pub kind: C,
+    /// Wakes its owner.
+    pub waker: W,
+    pub ends: EndTable<N, O, I>,
+    pub room: Room<N, O, I>,
+    /// The changes of state that it was told, for proofs alone: it takes no memory.
+    pub turns: Log<EndId, EndState>,
+    /// The ends whose pipes it was to seal, for proofs alone.
+    pub sealed: Log<EndId, ()>,
+}
+
+/// Room for the ends of a socket when it is closed, kept from their attachment on: giving them away
+/// takes no memory.
+#[derive(Drop)]
+pub struct Room<N, O, I> {
+    pub given: Vec<Given<N, O, I>>,
+    pub joined: Vec<Joining<N>>,
+}
+
+impl<N, O, I> Room<N, O, I> {
+    ghost use Rattle.std.specs.Prelude.{◌≡◌, ◌≤◌, ◌<◌, ◌+◌, ◌^◌, [], true, length, OnOk, vec_capacity};
+    ghost use Rattle.sock_core.specs.Sound.{KeepsRoom};
+
+    /// Makes room for an end beside so many.
+    pub(crate) fn keep(&mut self, many: usize) -> Result<(), AllocError>
+        requires few { many < 2 ^ 63 }
+        requires room { KeepsRoom true many self.old }
+        ensures ok { OnOk result (KeepsRoom true (many + 1) self.new) }
+        ensures err { KeepsRoom true many self.new }
+    {
+        self.given.reserve(many + 1)?;
+        self.joined.reserve(many + 1)
+    }
+
+    /// The room itself; none is left.
+    pub(crate) fn hand_over(&mut self) -> (Vec<Given<N, O, I>>, Vec<Joining<N>>)
+        ensures given { result.0 ≡ self.old.given }
+        ensures joined { result.1 ≡ self.old.joined }
+        ensures left { (self.new.given.items ≡ []) × (self.new.joined.items ≡ []) }
+    {
+        let alloc = *self.given.allocator();
+        let given = mem::replace(&mut self.given, Vec::new(alloc));
+        let joined = mem::replace(&mut self.joined, Vec::new(alloc));
+        (given, joined)
+    }
+}

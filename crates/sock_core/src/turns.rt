@@ -1,0 +1,84 @@
+ghost use Rattle.std.specs.Prelude.{◌≡◌, map, ◌++◌, ◌∷◌, [], if◌then◌else◌};
+ghost use Rattle.ctl_holder.specs.Holding.{is_state};
+ghost use Rattle.sock_core.specs.Turns.{state_number};
+ghost use Rattle.sock_core.specs.Peers.{Parts, StaysPeer};
+
+use crate::joins::Joins;
+use http_server::Log;
+use spec_control::EndState;
+use zq_base::{EndId, PairId};
+
+/// Notes that an end goes from one state to another, if they are two.
+pub(crate) fn note(turns: &mut Log<EndId, EndState>, end: EndId, was: EndState, state: EndState)
+    ensures { turns.new.items
+        ≡ turns.old.items ++ (if is_state was state then [] else (end, state) ∷ []) }
+{
+    if is_same(was, state) {
+        return;
+    }
+    *turns = turns.and(&end, &state);
+}
+
+/// Notes that the pipe of an end was to be sealed.
+pub(crate) fn note_seal(sealed: &mut Log<EndId, ()>, end: EndId)
+    ensures { map (λ x. x.0) sealed.new.items ≡ map (λ x. x.0) sealed.old.items ++ end ∷ [] }
+{
+    *sealed = sealed.and(&end, &());
+}
+
+// Whether the two are one state.
+fn is_same(one: EndState, other: EndState) -> bool
+    ensures { result ≡ is_state one other }
+{
+    number(one) == number(other)
+}
+
+fn number(state: EndState) -> u8
+    ensures { result ≡ state_number state }
+{
+    match state {
+        EndState::Active => return 0,
+        EndState::DelimiterGot => return 1,
+        EndState::WaitDelimiter => return 2,
+        EndState::AckSent => return 3,
+        EndState::AskedOnce => return 4,
+        EndState::AskedTwice => return 5,
+        EndState::Gone => return 6,
+    }
+}
+
+/// Whether an end that is a peer or none is one in this state: one that is neither written nor read
+/// any more is none.
+pub(crate) fn stays<C: Joins>(
+    kind: &mut C,
+    pair: PairId,
+    place: usize,
+    is_peer: bool,
+    state: EndState,
+) -> bool
+    ensures kind { C.kind kind.new ≡ C.kind kind.old }
+    ensures peers { StaysPeer is_peer result place (C.peers kind.old) (C.peers kind.new) }
+{
+    match state {
+        EndState::Active | EndState::WaitDelimiter => return is_peer,
+        EndState::DelimiterGot
+        | EndState::AckSent
+        | EndState::AskedOnce
+        | EndState::AskedTwice
+        | EndState::Gone => {
+            part(kind, pair, place, is_peer);
+            return false;
+        }
+    }
+}
+
+/// The end at a place is a peer no longer, if it is one.
+pub(crate) fn part<C: Joins>(kind: &mut C, pair: PairId, place: usize, is_peer: bool)
+    ensures kind { C.kind kind.new ≡ C.kind kind.old }
+    ensures peers { Parts is_peer place (C.peers kind.old) (C.peers kind.new) }
+{
+    if !is_peer {
+        return;
+    }
+    kind.detach(pair, place);
+}

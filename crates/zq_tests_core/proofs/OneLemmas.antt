@@ -1,0 +1,27 @@
+-- A socket that had no end has the one that joined.
+use Rattle.std.proofs.Common.{◌≡◌, ◌∙◌, ℕ, true, List, [], ◌∷◌, ◌++◌, ap}
+use Rattle.zq_base.specs.declared.ids.EndId.{EndId}
+use Rattle.spec_control.specs.Control.{is_end}
+use Rattle.control_held.specs.Held.{Held}
+use Rattle.ctl_holder.specs.Holding.{Holding, Joined, IsLast}
+use Rattle.zq_tests_core.specs.Ends.{the_end, HasOne}
+
+module _ (x : Held ℕ) (m k : Holding ℕ) (joined : Joined 1 x m k) (same : x.end ≡ the_end) where
+  pub one_of : (written read : ℕ) → x.written ≡ written → x.read ≡ read → m.holds 1 ≡ true → m.ends 1 ≡ [] → HasOne written read k
+  one_of written read w r holds none = record {
+    holds = joined.now.objects 1 ∙ holds;
+    ends =
+        joined.now.ends ∙ ap (λ (l : List (Held ℕ)). l ++ x ∷ []) none
+        ∙ ap (λ (e : EndId). let y : Held ℕ = record { end = e; written = x.written; read = x.read } in y ∷ []) same
+        ∙ ap (λ (n : ℕ). let y : Held ℕ = record { end = the_end; written = n; read = x.read } in y ∷ []) w
+        ∙ ap (λ (n : ℕ). let y : Held ℕ = record { end = the_end; written = written; read = n } in y ∷ []) r;
+  }
+
+-- it is the last
+pub last_of : (written read : ℕ) (h : Holding ℕ) → HasOne written read h → (e : EndId) → e ≡ the_end → IsLast e (h.ends 1)
+last_of written read h one e same = record {
+  before = [];
+  last = record { end = the_end; written = written; read = read };
+  are = one.ends;
+  end = ap (λ (d : EndId). is_end d the_end) same;
+}

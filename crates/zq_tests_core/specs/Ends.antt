@@ -1,0 +1,13 @@
+-- A socket of number 1 with one end (own choice).
+use Rattle.std.specs.Prelude.{◌≡◌, ℕ, true, [], ◌∷◌}
+use Rattle.zq_base.specs.declared.ids.EndId.{EndId}
+use Rattle.ctl_holder.specs.Holding.{Holding}
+
+-- the end a of pair 7
+abbrev pub the_end : EndId
+the_end = record { pair = record { 0 = 7 }; a = true }
+
+-- it is the only one, and writes and reads pipes of these names
+pub record HasOne (written read : ℕ) (h : Holding ℕ) : Type 0 where
+  pub holds : h.holds 1 ≡ true
+  pub ends : h.ends 1 ≡ record { end = the_end; written = written; read = read } ∷ []

@@ -1,0 +1,7 @@
+//! Tests of a socket with its ends.
+#![tactic(auto)]
+
+#[cfg(test)]
+mod holder_tests;
+#[cfg(test)]
+mod sockets;
