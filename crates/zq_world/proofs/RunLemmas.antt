@@ -1,0 +1,298 @@
+-- How a run goes on by a turn, and how it ends.
+use Rattle.std.proofs.Common.{◌≡◌, ◌≤◌, ◌<◌, ◌+◌, ◌-◌, ℕ, zero, suc, List, [], ◌∷◌, ◌++◌, Bool, true, false, Option, Some, length, map, refl, sym, ap, subst, ◌∙◌, arith, append-nil, append_assoc, length-append}
+use Rattle.std.specs.Prelude.{◌&&◌, flat_map, slice_get, slice_index_or, if◌then◌else◌}
+use Rattle.std.specs.List.{list_all, range_with_len}
+use Rattle.std.proofs.lemmas.Grind.{flat_map-append}
+use Rattle.std.proofs.lemmas.List.{map-append}
+use Rattle.std.proofs.lemmas.Option.{slice_get_within, slice_get-get_or}
+use Rattle.spec_control.specs.declared.object.ObjState.{ObjState}
+use Rattle.spec_control.specs.declared.object.ObjState.TheVariants.{Live, Asked, Ended}
+use Rattle.spec_journal.specs.Turn.{IsOrder}
+use Rattle.spec_run.specs.declared.journal.LineEntry.{LineEntry}
+use Rattle.spec_run.specs.Act.{Act, Said, Deed, Tries, Shuts, Fetches, Idles, Works, Looks, AsksRoot, Reads, all_acts}
+use Rattle.spec_run.specs.OpenSocket.{OpenSock}
+use Rattle.spec_run.specs.Standing.{ActorStanding, has_finished}
+use Rattle.spec_run.specs.OwnedRun.{deeds_in}
+use Rattle.spec_run.specs.InTurns.{AllStep, OneTurn, AsksIf, Begins, TurnsGo, NeverFall, Draws, is_ended, is_live, turn_step, turn_sequence, turns_sequence}
+use Rattle.spec_run.specs.RunJournal.{entries_shown, entry_shown}
+use Rattle.script_actor.specs.Way.{AreActsBy}
+use Rattle.script_actor.specs.Stepping.{standing_of, entries_of}
+use Rattle.script_actor.specs.declared.actor.Actor.{Actor}
+use Rattle.zq_world.specs.CoreCalls.{LooksOnce, AsksOnce}
+use Rattle.zq_world.specs.Turning.{standings, ActorDoes, HasStepped, acted, reaped, served, TurnSteps, DrawsUpTo, NeverReads, TurnBy, TurnsBy, EndsHere, BeginsTurn, HasSaid, HasCome, RunsSo}
+use Rattle.zq_world.proofs.OrderLemmas.{each_once}
+use Rattle.zq_world.proofs.StepLemmas.{all_acts-append}
+use Rattle.zq_world.proofs.TurnLemmas.{whole_turn, turn_deeds, turn_of, step_of}
+
+shown_tries : (b : Bool) (e : LineEntry) (xs ys : List LineEntry) → (if b then e ∷ (xs ++ ys) else (xs ++ ys)) ≡ (if b then e ∷ xs else xs) ++ ys
+shown_tries true e xs ys = refl
+shown_tries false e xs ys = refl
+
+and_false : (a b : Bool) → b ≡ false → (a && b) ≡ false
+and_false true b e = e
+and_false false b e = refl
+
+-- the first that has not finished
+pub one_unfinished : {O : Type 0} (as_open : O → OpenSock) (actors : List (Actor O)) (i : ℕ) (a : Actor O) → slice_get actors i ≡ Some a → has_finished (standing_of as_open a) ≡ false
+    → list_all has_finished (standings as_open actors) ≡ false
+one_unfinished {O} as_open [] i a e h = cc
+one_unfinished {O} as_open (x ∷ actors) zero a e h = ap (λ b. b && list_all has_finished (standings as_open actors)) (ap (λ y. has_finished (standing_of as_open y)) (same e) ∙ h)
+  where
+    same : ◌≡◌ {A = Option (Actor O)} (Some x) (Some a) → x ≡ a
+    same f = cc
+one_unfinished {O} as_open (x ∷ actors) (suc i) a e h = and_false (has_finished (standing_of as_open x)) (list_all has_finished (standings as_open actors)) (one_unfinished as_open actors i a e h)
+
+module _ (N S : Type 0) where
+  asks_none : (b : Bool) → b ≡ false → AsksIf {N = N} {S = S} b []
+  asks_none true e = cc
+  asks_none false e = refl
+
+module _ {N S : Type 0} where
+  -- a turn behind turns
+  turns_more : (old mid new : List ActorStanding) (ts : List (OneTurn N S)) (t : OneTurn N S) → TurnsGo 1 old ts mid → Begins mid t.begins → AllStep 1 mid t.steps new → TurnsGo 1 old (ts ++ t ∷ []) new
+  turns_more old mid new [] t same begins all = subst (λ (st : List ActorStanding). TurnsGo 1 st (t ∷ []) new) same (begins, (new, all, refl))
+  turns_more old mid new (u ∷ ts) t go begins all = (go.0, (go.1.0, go.1.1, turns_more go.1.0 mid new ts t go.1.2 begins all))
+
+  draws_more : (seed : ℕ) (workers : List ℕ) (x now next : ℕ) (ts : List (OneTurn N S)) (os : List (List ℕ)) (t : OneTurn N S) (order : List ℕ) → DrawsUpTo seed workers x ts os now
+      → IsOrder seed now workers order next → DrawsUpTo seed workers x (ts ++ t ∷ []) (os ++ order ∷ []) next
+  draws_more seed workers x now next [] [] t order h is = (next, subst (λ y. IsOrder seed y workers order next) h.1 is, (refl, refl))
+  draws_more seed workers x now next [] (o ∷ os) t order h is = cc
+  draws_more seed workers x now next (u ∷ ts) [] t order h is = elim h [ ]
+  draws_more seed workers x now next (u ∷ ts) (o ∷ os) t order h is = (h.0, h.1, draws_more seed workers h.0 now next ts os t order h.2 is)
+
+  draws_so : (seed : ℕ) (workers : List ℕ) (x now : ℕ) (ts : List (OneTurn N S)) (os : List (List ℕ)) → DrawsUpTo seed workers x ts os now → Draws seed workers x ts os
+  draws_so seed workers x now [] os h = h.0
+  draws_so seed workers x now (u ∷ ts) [] h = elim h [ ]
+  draws_so seed workers x now (u ∷ ts) (o ∷ os) h = (h.0, h.1, draws_so seed workers h.0 now ts os h.2)
+
+  sequence_more : (seed : ℕ) (workers : List ℕ) (x now : ℕ) (ts : List (OneTurn N S)) (os : List (List ℕ)) (t : OneTurn N S) (order : List ℕ) → DrawsUpTo seed workers x ts os now
+      → turns_sequence (os ++ order ∷ []) (ts ++ t ∷ []) ≡ turns_sequence os ts ++ turn_sequence order t
+  sequence_more seed workers x now [] [] t order h = append-nil (turn_sequence order t)
+  sequence_more seed workers x now [] (o ∷ os) t order h = cc
+  sequence_more seed workers x now (u ∷ ts) [] t order h = elim h [ ]
+  sequence_more seed workers x now (u ∷ ts) (o ∷ os) t order h =
+      ap (λ l. turn_sequence o u ++ l) (sequence_more seed workers h.0 now ts os t order h.2) ∙ sym (append_assoc (turn_sequence o u) (turns_sequence os ts) (turn_sequence order t))
+
+  quiet_more : (ts : List (OneTurn N S)) (t : OneTurn N S) → NeverReads ts → t.reading ≡ 0 → NeverReads (ts ++ t ∷ [])
+  quiet_more [] t quiet first = (first, tt)
+  quiet_more (u ∷ ts) t quiet first = (quiet.0, quiet_more ts t quiet.1 first)
+
+  by_more : (conductor : ℕ) (ts : List (OneTurn N S)) (t : OneTurn N S) → TurnsBy conductor ts → TurnBy conductor t → TurnsBy conductor (ts ++ t ∷ [])
+  by_more conductor [] t by one = (one, tt)
+  by_more conductor (u ∷ ts) t by one = (by.0, by_more conductor ts t by.1 one)
+
+  never_fall : (ts : List (OneTurn N S)) → NeverReads ts → NeverFall 0 (map (λ turn. turn.reading) ts)
+  never_fall [] quiet = tt
+  never_fall (t ∷ ts) quiet = (let e = quiet.0 in omega (arith, e), subst (λ n. NeverFall n (map (λ turn. turn.reading) ts)) (sym quiet.0) (never_fall ts quiet.1))
+
+  shown_more : (ds es : List (Deed N S)) → entries_shown (ds ++ es) ≡ entries_shown ds ++ entries_shown es
+  shown_more [] es = refl
+  shown_more (Tries t ∷ ds) es = ap (λ l. if t.over then entry_shown t ∷ l else l) (shown_more ds es) ∙ shown_tries t.over (entry_shown t) (entries_shown ds) (entries_shown es)
+  shown_more (Shuts acts ∷ ds) es = shown_more ds es
+  shown_more (Fetches slot acts ∷ ds) es = shown_more ds es
+  shown_more (Idles m ∷ ds) es = shown_more ds es
+  shown_more (Works acts ∷ ds) es = shown_more ds es
+  shown_more (Looks m ∷ ds) es = shown_more ds es
+  shown_more (AsksRoot acts ∷ ds) es = shown_more ds es
+  shown_more (Reads now ∷ ds) es = shown_more ds es
+
+  -- the acts of a turn
+  turn_acts : (order : List ℕ) (t : OneTurn N S) (deeds : List (Deed N S)) → flat_map (λ w. turn_step w t) order ≡ deeds → all_acts (turn_sequence order t) ≡ all_acts t.begins ++ all_acts deeds
+  turn_acts order t deeds same =
+      all_acts-append t.begins (flat_map (λ w. turn_step w t) order ++ Reads t.reading ∷ [])
+      ∙ ap (λ l. all_acts t.begins ++ l) (all_acts-append (flat_map (λ w. turn_step w t) order) (Reads t.reading ∷ []) ∙ append-nil (all_acts (flat_map (λ w. turn_step w t) order)) ∙ ap all_acts same)
+
+  -- ---- a turn begins
+
+  pub ends_here : (conductor : ℕ) (standing : List ActorStanding) (root : ObjState) (before after : List (Act N S)) → root ≡ Ended → LooksOnce conductor root before after
+      → EndsHere conductor before after
+  ends_here conductor standing root before after is h = record { seen = h.seen; look = h.look; ended = ap is_ended (h.root_is ∙ is); adds = h.adds }
+
+  asks_some : (b : Bool) (acts : List (Act N S)) → b ≡ true → (h : AsksIf {N = N} {S = S} true (AsksRoot acts ∷ [])) → AsksIf b (AsksRoot acts ∷ [])
+  asks_some true acts e h = h
+  asks_some false acts e h = cc
+
+  pub begins_on : (conductor : ℕ) (standing : List ActorStanding) (root : ObjState) (before after : List (Act N S)) → is_ended root ≡ false → (list_all has_finished standing && is_live root) ≡ false
+      → LooksOnce conductor root before after → BeginsTurn conductor standing before after
+  begins_on conductor standing root before after goes none h = record {
+    begins = Looks h.seen ∷ [];
+    so = record {
+      look = h.look;
+      goes_on = ap is_ended h.root_is ∙ goes;
+      asks_if = asks_none N S (list_all has_finished standing && is_live h.look.sight.root) (ap (λ r. list_all has_finished standing && is_live r) h.root_is ∙ none);
+    };
+    adds = h.adds;
+  }
+
+  pub begins_asked : (conductor : ℕ) (standing : List ActorStanding) (root : ObjState) (before after : List (Act N S)) → root ≡ Asked → LooksOnce conductor root before after
+      → BeginsTurn conductor standing before after
+  begins_asked conductor standing root before after is h =
+      begins_on conductor standing root before after (ap is_ended is) (ap (λ r. list_all has_finished standing && is_live r) is ∙ and_false (list_all has_finished standing) false refl) h
+
+  pub begins_busy : (conductor : ℕ) (standing : List ActorStanding) (root : ObjState) (before after : List (Act N S)) → root ≡ Live → list_all has_finished standing ≡ false → LooksOnce conductor root before after
+      → BeginsTurn conductor standing before after
+  begins_busy conductor standing root before after is busy h =
+      begins_on conductor standing root before after (ap is_ended is) (ap (λ b. b && is_live root) busy) h
+
+  pub begins_asking : (conductor : ℕ) (standing : List ActorStanding) (root : ObjState) (before between after : List (Act N S)) → root ≡ Live → list_all has_finished standing ≡ true
+      → LooksOnce conductor root before between → AsksOnce conductor between after → BeginsTurn conductor standing before after
+  begins_asking conductor standing root before between after is all h a = record {
+    begins = Looks h.seen ∷ AsksRoot a.acts ∷ [];
+    so = record {
+      look = h.look;
+      goes_on = ap is_ended (h.root_is ∙ is);
+      asks_if = asks_some (list_all has_finished standing && is_live h.look.sight.root) a.acts
+          (ap (λ r. list_all has_finished standing && is_live r) (h.root_is ∙ is) ∙ ap (λ b. b && true) all) (a.acts, a.asks, refl);
+    };
+    adds = record {
+      added = a.adds.added ∙ ap (λ l. l ++ a.acts) h.adds.added ∙ append_assoc before (Said h.seen ∷ []) a.acts ∙ ap (λ l. before ++ Said h.seen ∷ l) (sym (append-nil a.acts));
+      by = (h.adds.by.0, subst (λ l. AreActsBy conductor l) (sym (append-nil a.acts)) a.adds.by);
+    };
+  }
+
+module _ {O N S : Type 0} (as_open : O → OpenSock) where
+  pub come_first : (seed : ℕ) (old : List (Actor O)) (acts : List (Act N S)) → HasCome as_open seed seed [] [] old old acts acts
+  come_first seed old acts = record {
+    go = refl;
+    draws = (refl, refl);
+    count = refl;
+    quiet = tt;
+    by = tt;
+    says = λ i a b was now. record { says = says_none a b (same a b (sym was ∙ now)); name = ap (λ (x : Actor O). x.name) (sym (same a b (sym was ∙ now))) };
+    acts_are = sym (append-nil acts);
+  }
+    where
+      same : (a b : Actor O) → ◌≡◌ {A = Option (Actor O)} (Some a) (Some b) → a ≡ b
+      same a b e = cc
+
+      says_none : (a b : Actor O) → a ≡ b → entries_of b ≡ entries_of a ++ []
+      says_none a b e = ap entries_of (sym e) ∙ sym (append-nil (entries_of a))
+
+  actor_did : (i : ℕ) (mid new : List (Actor O)) (deeds : List (Deed N S)) (a b : Actor O) → i < length mid → HasStepped as_open i mid new deeds → slice_get mid i ≡ Some a → slice_get new i ≡ Some b → ActorDoes as_open a deeds b
+  actor_did i mid new deeds a b lt (acted x y was now does) is after =
+      subst (λ (z : Actor O). ActorDoes as_open z deeds b) (same x a (sym was ∙ is)) (subst (λ (z : Actor O). ActorDoes as_open x deeds z) (same y b (sym now ∙ after)) does)
+    where
+      same : (p q : Actor O) → ◌≡◌ {A = Option (Actor O)} (Some p) (Some q) → p ≡ q
+      same p q e = cc
+  actor_did i mid new deeds a b lt (reaped at step) is after = elim (never at) [ ]
+    where
+      never : i ≡ length mid → ⊥
+      never e = omega (arith, e, lt)
+  actor_did i mid new deeds a b lt (served past none) is after = elim (never past) [ ]
+    where
+      never : length mid < i → ⊥
+      never e = omega (arith, e, lt)
+
+  -- a turn more
+  pub come_more : (seed drawn next conductor : ℕ) (ts : List (OneTurn N S)) (os : List (List ℕ)) (old mid new : List (Actor O)) (first before between after : List (Act N S))
+      → conductor ≡ length old + 2 → HasCome as_open seed drawn ts os old mid first before → BeginsTurn conductor (standings as_open mid) before between → TurnSteps as_open seed drawn next mid new between after
+      → (t : OneTurn N S) × (order : List ℕ) × HasCome as_open seed next (ts ++ t ∷ []) (os ++ order ∷ []) old new first after
+  come_more seed drawn next conductor ts os old mid new first before between after place come begins t = (
+    turn,
+    t.order,
+    record {
+      go = turns_more (standings as_open old) (standings as_open mid) (standings as_open new) ts turn come.go begins.so
+          (whole_turn as_open seed drawn next mid new between after t);
+      draws = draws_more seed (range_with_len 0 (length old + 2)) seed drawn next ts os turn t.order come.draws
+          (subst (λ n. IsOrder seed drawn (range_with_len 0 (n + 2)) t.order next) come.count t.is_order);
+      count = t.have.count ∙ come.count;
+      quiet = quiet_more ts turn come.quiet refl;
+      by = by_more (length old + 2) ts turn come.by (record {
+        conducted = subst (λ n. AreActsBy n (all_acts begins.begins)) place begins.adds.by;
+        stepped = λ w lt. subst (λ (ds : List (Deed N S)). AreActsBy w (all_acts ds))
+            (sym (step_of as_open begins.begins t.have.steps (length mid + 2) w (let c = come.count in omega (arith, lt, c)))) (t.have.by w);
+      });
+      says = says_then;
+      acts_are = acts_then;
+    },
+  )
+    where
+      turn : OneTurn N S
+      turn = turn_of as_open begins.begins t.have.steps (length mid + 2)
+
+      acts_then : after ≡ first ++ all_acts (turns_sequence (os ++ t.order ∷ []) (ts ++ turn ∷ []))
+      acts_then =
+          t.have.adds ∙ ap (λ l. l ++ all_acts (flat_map t.have.steps t.order)) (begins.adds.added ∙ ap (λ l. l ++ all_acts begins.begins) come.acts_are)
+          ∙ append_assoc (first ++ all_acts (turns_sequence os ts)) (all_acts begins.begins) (all_acts (flat_map t.have.steps t.order))
+          ∙ append_assoc first (all_acts (turns_sequence os ts)) (all_acts begins.begins ++ all_acts (flat_map t.have.steps t.order))
+          ∙ ap (λ l. first ++ (all_acts (turns_sequence os ts) ++ l)) (sym (turn_acts t.order turn (flat_map t.have.steps t.order) (turn_deeds as_open seed drawn next begins.begins mid new between after t)))
+          ∙ ap (λ l. first ++ l) (sym (all_acts-append (turns_sequence os ts) (turn_sequence t.order turn)))
+          ∙ ap (λ l. first ++ all_acts l) (sym (sequence_more seed (range_with_len 0 (length old + 2)) seed drawn ts os turn t.order come.draws))
+
+      says_then : (i : ℕ) (a b : Actor O) → slice_get old i ≡ Some a → slice_get new i ≡ Some b → HasSaid i (ts ++ turn ∷ []) a b
+      says_then i a b was now =
+          let lt_new : i < length new = slice_get_within new i b now in
+          let lt : i < length mid = (let c = t.have.count in omega (arith, lt_new, c)) in
+          let m = slice_index_or mid i b in
+          let there : slice_get mid i ≡ Some m = slice_get-get_or mid i b lt in
+          let said = come.says i a m was there in
+          let once = t.have.stepped i (each_once i (length mid + 2) seed drawn t.order next t.is_order (omega (arith, lt))) in
+          let did = actor_did i mid new (t.have.steps i) m b lt once there now in
+          record {
+            says = did.says ∙ ap (λ l. l ++ entries_shown (t.have.steps i)) said.says
+                ∙ append_assoc (entries_of a) (entries_shown (deeds_in (map (turn_step i) ts))) (entries_shown (t.have.steps i))
+                ∙ ap (λ l. entries_of a ++ l) (sym (shown_then i (step_of as_open begins.begins t.have.steps (length mid + 2) i (omega (arith, lt)))));
+            name = did.name ∙ said.name;
+          }
+        where
+          shown_then : (j : ℕ) → turn_step j turn ≡ t.have.steps j → entries_shown (deeds_in (map (turn_step j) (ts ++ turn ∷ []))) ≡ entries_shown (deeds_in (map (turn_step j) ts)) ++ entries_shown (t.have.steps j)
+          shown_then j e =
+              ap (λ l. entries_shown (deeds_in l)) (map-append (turn_step j) ts (turn ∷ []))
+              ∙ ap entries_shown (flat_map-append (λ (step : List (Deed N S)). step) (map (turn_step j) ts) (turn_step j turn ∷ []))
+              ∙ shown_more (deeds_in (map (turn_step j) ts)) (turn_step j turn ++ [])
+              ∙ ap (λ l. entries_shown (deeds_in (map (turn_step j) ts)) ++ entries_shown l) (append-nil (turn_step j turn) ∙ e)
+
+  -- the last look
+  pub ends_so : (seed drawn limit conductor : ℕ) (root : ObjState) (done : Bool) (ts : List (OneTurn N S)) (os : List (List ℕ)) (old new : List (Actor O)) (first before after : List (Act N S))
+      → conductor ≡ length old + 2 → HasCome as_open seed drawn ts os old new first before → LooksOnce conductor root before after → done ≡ is_ended root → length ts ≤ limit → (is_ended root ≡ false → length ts ≡ limit)
+      → RunsSo as_open seed limit done old new first after
+  ends_so seed drawn limit conductor root done ts os old new first before after place come h is few over = record {
+    turned = record { first = 0; turns = ts; last = h.seen };
+    orders = os;
+    go = come.go;
+    few = few;
+    rising = never_fall ts come.quiet;
+    last = h.look;
+    over = λ e. over (ap is_ended (sym h.root_is) ∙ e);
+    done_is = is ∙ ap is_ended (sym h.root_is);
+    drawn = draws_so seed (range_with_len 0 (length old + 2)) seed drawn ts os come.draws;
+    count = come.count;
+    says = come.says;
+    by = come.by;
+    last_by = subst (λ n. AreActsBy n (Said h.seen ∷ [])) place h.adds.by;
+    acts_are = h.adds.added ∙ ap (λ l. l ++ Said h.seen ∷ []) come.acts_are ∙ append_assoc first (all_acts (turns_sequence os ts)) (Said h.seen ∷ [])
+        ∙ ap (λ l. first ++ l) (sym (all_acts-append (turns_sequence os ts) (Looks h.seen ∷ [])));
+  }
+
+  pub ends_early : (seed drawn limit conductor : ℕ) (ts : List (OneTurn N S)) (os : List (List ℕ)) (old new : List (Actor O)) (first before after : List (Act N S))
+      → conductor ≡ length old + 2 → HasCome as_open seed drawn ts os old new first before → EndsHere conductor before after → length ts ≤ limit → RunsSo as_open seed limit true old new first after
+  ends_early seed drawn limit conductor ts os old new first before after place come h few =
+      ends_so seed drawn limit conductor h.look.sight.root true ts os old new first before after place come
+      (record { seen = h.seen; look = h.look; root_is = refl; adds = h.adds }) (sym h.ended) few (λ e. elim (never (sym h.ended ∙ e)) [ ])
+    where
+      never : true ≡ false → ⊥
+      never e = cc
+
+  -- so far within the turns that it may take
+  abbrev pub Within : (seed limit drawn left : ℕ) (old now : List (Actor O)) (first before : List (Act N S)) → Type 0
+  Within seed limit drawn left old now first before =
+      (ts : List (OneTurn N S)) × (os : List (List ℕ)) × HasCome as_open seed drawn ts os old now first before × (length ts + left ≡ limit)
+
+  pub within_first : (seed limit drawn : ℕ) (old : List (Actor O)) (acts : List (Act N S)) → drawn ≡ seed → Within seed limit drawn limit old old acts acts
+  within_first seed limit drawn old acts same = ([], [], subst (λ d. HasCome as_open seed d [] [] old old acts acts) (sym same) (come_first seed old acts), omega arith)
+
+  pub within_more : (seed limit drawn next conductor left : ℕ) (old mid new : List (Actor O)) (first before between after : List (Act N S)) → 0 < left → conductor ≡ length old + 2 → Within seed limit drawn left old mid first before
+      → BeginsTurn conductor (standings as_open mid) before between → TurnSteps as_open seed drawn next mid new between after → Within seed limit next (left - 1) old new first after
+  within_more seed limit drawn next conductor left old mid new first before between after some place w begins turn =
+      let more = come_more seed drawn next conductor w.0 w.1 old mid new first before between after place w.2 begins turn in
+      (w.0 ++ more.0 ∷ [], w.1 ++ more.1 ∷ [], more.2, (let l = length-append w.0 (more.0 ∷ []) in let one : length (more.0 ∷ []) ≡ 1 = refl in let all = w.3 in omega (arith, l, one, all, some)))
+
+  pub over_early : (seed limit drawn conductor left : ℕ) (old now : List (Actor O)) (first before after : List (Act N S)) → conductor ≡ length old + 2 → Within seed limit drawn left old now first before → EndsHere conductor before after
+      → RunsSo as_open seed limit true old now first after
+  over_early seed limit drawn conductor left old now first before after place w h =
+      ends_early seed drawn limit conductor w.0 w.1 old now first before after place w.2 h (let all = w.3 in omega (arith, all))
+
+  pub over_late : (seed limit drawn conductor left : ℕ) (root : ObjState) (done : Bool) (old now : List (Actor O)) (first before after : List (Act N S)) → left ≤ 0 → conductor ≡ length old + 2 → Within seed limit drawn left old now first before
+      → LooksOnce conductor root before after → done ≡ is_ended root → RunsSo as_open seed limit done old now first after
+  over_late seed limit drawn conductor left root done old now first before after none place w h is =
+      ends_so seed drawn limit conductor root done w.0 w.1 old now first before after place w.2 h is (let all = w.3 in omega (arith, all)) (λ e. (let all = w.3 in omega (arith, all, none)))

@@ -1,0 +1,30 @@
+-- What a run on one thread asks of its core beside sockets (own choice, after libzmq's `reaper_t` and zmq_ctx_term(3)).
+use Rattle.std.specs.Prelude.{◌≡◌, ℕ, List, [], ◌∷◌}
+use Rattle.spec_control.specs.declared.object.ObjState.{ObjState}
+use Rattle.spec_control.specs.declared.entry.SeenEmpty.TheVariants.{Nothing}
+use Rattle.control_held.specs.Moments.{Moment}
+use Rattle.spec_run.specs.Act.{Act, Said, Deed, acts_of}
+use Rattle.spec_run.specs.Event.{IsLookAt}
+use Rattle.spec_run.specs.Worker.{AsksTheRoot}
+use Rattle.spec_run.specs.InTurns.{ReaperStep}
+use Rattle.script_actor.specs.Way.{AddsActs}
+
+module _ {N S : Type 0} where
+  -- the reaper's step
+  pub record ReapsOne (caller : ℕ) (before after : List (Act N S)) : Type 0 where
+    pub deed : Deed N S
+    pub step : ReaperStep (deed ∷ [])
+    pub adds : AddsActs caller (acts_of deed) before after
+
+  -- a look at the root
+  pub record LooksOnce (caller : ℕ) (root : ObjState) (before after : List (Act N S)) : Type 0 where
+    pub seen : Moment N S
+    pub look : IsLookAt Nothing seen
+    pub root_is : look.sight.root ≡ root
+    pub adds : AddsActs caller (Said seen ∷ []) before after
+
+  -- the root is asked
+  pub record AsksOnce (caller : ℕ) (before after : List (Act N S)) : Type 0 where
+    pub acts : List (Act N S)
+    pub asks : AsksTheRoot acts
+    pub adds : AddsActs caller acts before after

@@ -1,0 +1,4 @@
+pub mod CoreCalls
+pub mod Turning
+pub mod GoesInTurns
+pub mod Played

@@ -1,0 +1,23 @@
+ghost use Rattle.zq_world.specs.GoesInTurns.{RunsGoInTurns, RunsAreOnOneThread, RunsAreTold};
+ghost use Rattle.zq_world.specs.GoesInTurns.{NobodyElseHasItems};
+
+/// What was run of a script's actors goes in turns, whatever the order is that the control plane
+/// gives its items.
+pub fn runs_go_in_turns<O, N, S>()
+    ensures { RunsGoInTurns O N S }
+{}
+
+/// And it is a run on one thread, where each of its pipe steps follows from those before it.
+pub fn runs_are_on_one_thread<O, N, S>()
+    ensures { RunsAreOnOneThread O N S }
+{}
+
+/// And each worker's items are those that the control plane has by its number.
+pub fn items_of_runs_are_the_workers<O, N, S>()
+    ensures { RunsAreTold O N S }
+{}
+
+/// And it has no others.
+pub fn nobody_else_has_items<O, N, S>()
+    ensures { NobodyElseHasItems O N S }
+{}
