@@ -20,6 +20,8 @@ use Rattle.ctl_binds.specs.declared.batch.Drawn.{Drawn}
 use Rattle.ctl_binds.specs.declared.batch.Batch.{Batch}
 use Rattle.ctl_binds.specs.Batch.{FitsMore, held_of}
 use Rattle.ctl_binds.specs.Drawing.{AreTaken, Draws, HasPlace, IsDrawn, MayDraw, MayDrawNext, WereTaken}
+use Rattle.spec_control.specs.declared.entry.Joining.{Joining}
+use Rattle.ctl_binds.proofs.CameLemmas.{came_still}
 use Rattle.ctl_binds.proofs.TakenLemmas.{or_right}
 
 gets_nothing : {N : Type 0} (n o : ℕ) (h : Holding N) → Gets n o [] h h
@@ -50,6 +52,7 @@ module _ {N O I : Type 0} where
         ∙ taken.active e here;
     turns = keeps.turns ∙ taken.turns;
     sealed = keeps.sealed ∙ taken.sealed;
+    came = came_still h k l (length ds) taken.came keeps.joined;
   }
 
   module _ (out_name : O → N) (in_name : I → N) (s : State (Load N O I)) (h : Holding N) (i : ObjId) (ws : List ObjId) (wakers : ℕ) where
@@ -64,11 +67,13 @@ module _ {N O I : Type 0} where
         active = λ e here. absurd (never here);
         turns = refl;
         sealed = refl;
+        came = record { more = []; joined = sym (append-nil h.joined); count = refl };
       };
       stands = subst (λ (ps : List PairRow). Stands s (record w.control { rows = record w.control.rows { pairs = ps } })) (sym (append-nil w.control.rows.pairs)) w.stands;
       waiters = refl;
       drawn = All-nil (IsDrawn out_name in_name w.control i (h.kind i.0));
       joined = joined;
+      came = sym (ap (λ (js : List (Joining N)). h.joined ++ js) joined ∙ append-nil h.joined);
       opened = opened;
     })
 

@@ -30,7 +30,8 @@ use Rattle.ctl_joins.specs.Room.{AreOwners, HasDrawn, HavePlaces, with_drawn}
 use Rattle.ctl_binds.specs.declared.batch.Drawn.{Drawn}
 use Rattle.ctl_binds.specs.declared.batch.Batch.{Batch}
 use Rattle.ctl_binds.specs.Batch.{behind, held_of, joins_of, opened_of, row_of}
-use Rattle.ctl_binds.specs.Drawing.{AreTaken, Draws, HasPlace, IsDrawn, MayDrawNext}
+use Rattle.ctl_binds.specs.Drawing.{AreTaken, Draws, HasJoinedMore, HasPlace, IsDrawn, MayDrawNext}
+use Rattle.ctl_binds.proofs.CameLemmas.{came_more}
 use Rattle.ctl_binds.proofs.TakenLemmas.{active_more, all_below, drawn_boxes, drawn_last, drawn_pairs, drawn_places, gets_more, not_among, numbered_push}
 
 module _ {N O I : Type 0} (out_name : O → N) (in_name : I → N) (s : State (Load N O I)) (k : Holding N) (i x : ObjId) (b : Batch N O I) (wakers : ℕ) (m : MayDrawNext out_name in_name s k i x b wakers) where
@@ -115,7 +116,7 @@ module _ {N O I : Type 0} (out_name : O → N) (in_name : I → N) (s : State (L
         last_number = let all = ap (λ (y : State (Load N O I)). length y.pairs) is in let push = length_push s.pairs (entry_drawn o.last o.first) in omega (arith, all, push, number)
 
         module _ (stands : Stands t (draws o.last.0 o.first.0 (behind (map row_of b.drawn.items) m.may.control))) (said : Papers) (papers : ArePapers (behind (map row_of b.drawn.items) m.may.control) o said)
-            (end : FirstEnd N O I) (l : Holding N) (attaches : AttachesFirst out_name in_name i.0 (end_of pair.0 false) end k l) where
+            (end : FirstEnd N O I) (l : Holding N) (attaches : AttachesFirst out_name in_name i.0 (end_of pair.0 false) said.peer.identity end k l) where
           abbrev d : Drawn N O I
           d = record { o = o; pair = pair; identity = said.identity; answer = end.answer; other = end.other }
 
@@ -145,6 +146,7 @@ module _ {N O I : Type 0} (out_name : O → N) (in_name : I → N) (s : State (L
                 active_more (length m.before.pairs) i.0 (map held_of ds) (held_of d) had k l below m.draws.taken.gets gets_one m.draws.taken.active attaches.active e (sym (ap (has_end e) (map-append held_of ds (d ∷ []))) ∙ here);
             turns = attaches.turned.turns ∙ append-nil k.turns ∙ m.draws.taken.turns;
             sealed = attaches.turned.sealed ∙ append-nil k.sealed ∙ m.draws.taken.sealed;
+            came = subst (λ (n : ℕ). HasJoinedMore n had l) (sym (length_push ds d)) (came_more had k l (length ds) (joins_named (end_of pair.0 false) said.peer.identity end.answer end.told) m.draws.taken.came attaches.came);
           }
 
           pub draws_now : (e : Batch N O I) → e.drawn.items ≡ b.drawn.items ++ record { o = o; pair = pair; identity = said.identity; answer = end.answer; other = end.other } ∷ [] →
@@ -155,6 +157,8 @@ module _ {N O I : Type 0} (out_name : O → N) (in_name : I → N) (s : State (L
             stands = stands_now;
             waiters = map-append (λ (y : Drawn N O I). y.o.last) ds (d ∷ []) ∙ ap (λ (ws : List ObjId). ws ++ o.last ∷ []) m.draws.waiters ∙ ap (λ (y : ObjId). m.done ++ y ∷ []) are.last;
             drawn = All-push (IsDrawn out_name in_name c i (had.kind i.0)) ds d m.draws.drawn drawn_is;
+            came = attaches.came ∙ ap (λ (js : List (Joining N)). js ++ joins_named (end_of pair.0 false) said.peer.identity end.answer end.told ∷ []) m.draws.came
+                ∙ append_assoc had.joined b.notes.joined.items (joins_named (end_of pair.0 false) said.peer.identity end.answer end.told ∷ []) ∙ ap (λ (js : List (Joining N)). had.joined ++ js) (sym joined);
             joined = joined ∙ ap (λ (js : List (Joining N)). js ++ joins_named (end_of pair.0 false) said.peer.identity end.answer end.told ∷ []) m.draws.joined
                 ∙ ap (λ (n : Names N). map (joins_of c) ds ++ joins_named (end_of pair.0 false) said.peer.identity end.answer n ∷ []) told_is
                 ∙ ap (λ (p : List ℕ). map (joins_of c) ds ++ joins_named (end_of pair.0 false) p end.answer (record { written = end.other.read; read = end.other.written }) ∷ []) papers.peer

@@ -84,7 +84,7 @@ module _ {N O I : Type 0} (out_name : O → N) (in_name : I → N) where
       done = [];
       parts = refl;
       more = omega arith;
-      moved = record { mine = All-nil (λ (d : Drawn N O I). place_of c (first_of d) ≡ At (h.state (first_of d))); others = λ j e less here. refl; turned = turns_same h };
+      moved = record { mine = All-nil (λ (d : Drawn N O I). place_of c (first_of d) ≡ At (h.state (first_of d))); others = λ j e less here. refl; turned = turns_same h; joined = refl };
       here = All-nil (λ (d : Drawn N O I). has_end (first_of d) (h.ends i.0) ≡ true);
       within = All-nil (λ (d : Drawn N O I). d.pair.0 < next_pair c);
       places = λ j. omega arith;
@@ -118,6 +118,7 @@ module _ {N O I : Type 0} (out_name : O → N) (in_name : I → N) where
               ∙ so_far.moved.others j e less (sym (ap (has_end e) (stay_same i.0 k l next.joins.stays j)) ∙ here);
           turned = subst (λ (ts : List (EndId × EndState)). TurnsBy ts h l) turns_are
               (turns_on (turned_over (λ e. Unmade) (place_of so_far.control) (map first_of so_far.done)) (turn_at first Unmade (place_of now first)) h k l so_far.moved.turned next.moves.turned);
+          joined = next.moves.joined ∙ so_far.moved.joined;
         };
         here = All-push (λ (x : Drawn N O I). has_end (first_of x) (l.ends i.0) ≡ true) so_far.done d here_now
             (ap (has_end first) next.joins.stays.now.ends ∙ All-head (λ (x : Drawn N O I). has_end (first_of x) (k.ends i.0) ≡ true) d rest so_far.can.has);

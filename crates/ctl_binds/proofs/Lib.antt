@@ -1,3 +1,4 @@
+pub mod CameLemmas
 pub mod BehindLemmas
 pub mod GrowLemmas
 pub mod JoinOneLemmas

@@ -11,7 +11,7 @@ use Rattle.spec_control.specs.Control.{is_end, same_side}
 use Rattle.control_held.specs.Held.{Held}
 use Rattle.control_laws.proofs.AskLemmas.{end_self, same_end}
 use Rattle.control_rows.proofs.ListLemmas.{never}
-use Rattle.ctl_holder.specs.Holding.{Holding, KeepsTurns, Left, has_end, without_end}
+use Rattle.ctl_holder.specs.Holding.{BeginsNone, Holding, Left, has_end, without_end}
 use Rattle.ctl_state.specs.declared.state.State.{State}
 use Rattle.ctl_state.specs.Pairs.{entry_drawn}
 use Rattle.ctl_joins.specs.declared.owners.Owners.{Owners}
@@ -157,7 +157,7 @@ module _ {N : Type 0} where
       by false more h = ap (λ (ys : List (Held N)). x ∷ ys) (more h)
 
   pub gets_less : (n o : ℕ) (hs : List (Held N)) (x : Held N) (h k l : Holding N) → n ≤ x.end.pair.0 → All (λ (y : Held N). y.end.pair.0 < x.end.pair.0) hs → has_end x.end (h.ends o) ≡ false →
-      Gets n o (hs ++ x ∷ []) h k → Left o x.end k l → KeepsTurns k l → Gets n o hs h l
+      Gets n o (hs ++ x ∷ []) h k → Left o x.end k l → BeginsNone k l → Gets n o hs h l
   gets_less n o hs x h k l past below fresh gets left keeps = record {
     ends = ends_are;
     others = λ i other. left.now.others i other ∙ gets.others i other;
@@ -187,8 +187,8 @@ module _ {N : Type 0} where
       mine_before = (All-pop (λ (y : Held N). k.writes y.end ≡ true) (hs ++ x ∷ []) hs (Some x) refl gets.mine).0
 
   -- all were taken back
-  pub gets_none : (n o : ℕ) (h k : Holding N) → Gets n o [] h k → k.turns ≡ h.turns → k.sealed ≡ h.sealed → IsBack n o h k
-  gets_none n o h k gets turns sealed = record {
+  pub gets_none : (n o : ℕ) (h k : Holding N) → Gets n o [] h k → k.turns ≡ h.turns → k.sealed ≡ h.sealed → k.joined ≡ h.joined → IsBack n o h k
+  gets_none n o h k gets turns sealed joined = record {
     now = record {
       ends = ends_are;
       others = gets.others;
@@ -201,6 +201,7 @@ module _ {N : Type 0} where
     states = gets.states;
     turns = turns;
     sealed = sealed;
+    joined = joined;
   }
     where
       ends_are : k.ends o ≡ h.ends o

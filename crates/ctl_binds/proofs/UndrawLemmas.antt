@@ -4,19 +4,19 @@ use Rattle.std.proofs.Common.{arith, sym, ap, ◌∙◌, subst}
 use Rattle.std.proofs.lemmas.List.{append_assoc, length_push, map-append}
 use Rattle.std.proofs.lemmas.List.Folds.{list_any-append}
 use Rattle.std.proofs.lemmas.List.Elements.{All-pop}
-use Rattle.zq_base.specs.declared.ids.EndId.{EndId}
 use Rattle.spec_control.specs.Control.{is_end}
 use Rattle.control_held.specs.Held.{Held}
 use Rattle.control_rows.proofs.ListLemmas.{never}
 use Rattle.control_laws.proofs.AskLemmas.{end_self}
 use Rattle.ctl_holder.specs.declared.load.Load.{Load}
-use Rattle.ctl_holder.specs.Holding.{Holding, IsLast, KeepsTurns, Left, has_end}
+use Rattle.ctl_holder.specs.Holding.{BeginsNone, Holding, IsLast, Left, TakesBack, has_end}
 use Rattle.ctl_state.specs.declared.state.State.{State}
 use Rattle.ctl_joins.specs.Joined.{Gets}
 use Rattle.ctl_joins.specs.Room.{HasDrawn, HavePlaces}
 use Rattle.ctl_binds.specs.declared.batch.Drawn.{Drawn}
 use Rattle.ctl_binds.specs.Batch.{drawn_all, first_of, held_of}
-use Rattle.ctl_binds.specs.Drawing.{AreTaken, WasTaken}
+use Rattle.ctl_binds.specs.Drawing.{AreTaken, HasJoinedMore, WasTaken}
+use Rattle.ctl_binds.proofs.CameLemmas.{came_less}
 use Rattle.ctl_binds.proofs.TakenLemmas.{all_below, drawn_last, drawn_pairs, drawn_places, gets_less, numbered_first, numbered_last, or_right}
 
 module _ {N O I : Type 0} (s : State (Load N O I)) (k : Holding N) (i : ℕ) (d : Drawn N O I) (w : WasTaken s k i d) where
@@ -55,8 +55,8 @@ module _ {N O I : Type 0} (s : State (Load N O I)) (k : Holding N) (i : ℕ) (d 
       let is = number in
       omega (arith, all, drawn, push, is)
 
-  pub taken_less : (t : State (Load N O I)) (l : Holding N) → t ≡ drawn_all w.rest w.before → Left i (first_of d) k l → KeepsTurns k l → AreTaken i w.rest w.before t w.had l
-  taken_less t l is left keeps = record {
+  pub taken_less : (t : State (Load N O I)) (l : Holding N) → t ≡ drawn_all w.rest w.before → Left i (first_of d) k l → BeginsNone k l → TakesBack k l → AreTaken i w.rest w.before t w.had l
+  taken_less t l is left keeps back = record {
     is = is;
     places = (All-pop (λ (y : Drawn N O I). HavePlaces w.before y.o) (w.rest ++ d ∷ []) w.rest (Some d) refl w.taken.places).0;
     numbers = numbered_first n w.rest d w.taken.numbers;
@@ -68,6 +68,7 @@ module _ {N O I : Type 0} (s : State (Load N O I)) (k : Holding N) (i : ℕ) (d 
         (ap (has_end e) (map-append held_of w.rest (d ∷ [])) ∙ list_any-append (λ (y : Held N). is_end e y.end) (map held_of w.rest) (held_of d ∷ []) ∙ or_left (has_end e (map held_of w.rest)) (has_end e (held_of d ∷ [])) here);
     turns = keeps.turns ∙ w.taken.turns;
     sealed = keeps.sealed ∙ w.taken.sealed;
+    came = came_less w.had k l (length w.rest) (subst (λ (m : ℕ). HasJoinedMore m w.had k) (length_push w.rest d) w.taken.came) back;
   }
     where
       gets_then : Gets n i (map held_of w.rest) w.had l

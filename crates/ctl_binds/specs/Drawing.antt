@@ -4,10 +4,11 @@ use Rattle.zq_base.specs.declared.ids.EndId.{EndId}
 use Rattle.zq_base.specs.declared.ids.ObjId.{ObjId}
 use Rattle.zq_base.specs.declared.kind.Kind.{Kind}
 use Rattle.spec_control.specs.declared.end.EndState.TheVariants.{Active}
+use Rattle.spec_control.specs.declared.entry.Joining.{Joining}
 use Rattle.spec_control.specs.Rows.{obj}
 use Rattle.spec_control.specs.Control.{Control}
 use Rattle.ctl_holder.specs.declared.load.Load.{Load}
-use Rattle.ctl_holder.specs.Holding.{Holding, HoldsNow, MayRefuse, has_end}
+use Rattle.ctl_holder.specs.Holding.{Holding, HoldsNow, JoinsBy, MayRefuse, has_end}
 use Rattle.ctl_holder.specs.Lent.{HasAll}
 use Rattle.ctl_state.specs.declared.state.State.{State}
 use Rattle.ctl_state.specs.Stands.{Stands}
@@ -27,13 +28,20 @@ pub record HasPlace {L : Type 0} (s : State L) (c : Control) (i : ObjId) : Type 
   pub marks : HasMarks (obj c.rows i.0)
 
 module _ {N : Type 0} where
-  -- an object's ends are as before, and the writing halves of the ends of all pairs below this number
+  -- so many ends more joined
+  pub record HasJoinedMore (n : ℕ) (h k : Holding N) : Type 0 where
+    pub more : List (Joining N)
+    pub joined : JoinsBy more h k
+    pub count : length more ≡ n
+
+  -- an object's ends are as before, and the writing halves of the ends of all pairs below this number; the ends that joined are those that had
   pub record IsBack (n o : ℕ) (h k : Holding N) : Type 0 where
     pub now : HoldsNow o (h.ends o) h k
     pub writers : (e : EndId) → e.pair.0 < n → k.writes e ≡ h.writes e
     pub states : (i : ℕ) (e : EndId) → e.pair.0 < n → has_end e (k.ends i) ≡ true → k.state e ≡ h.state e
     pub turns : k.turns ≡ h.turns
     pub sealed : k.sealed ≡ h.sealed
+    pub joined : k.joined ≡ h.joined
 
 module _ {N O I : Type 0} where
   -- pairs may be drawn between a socket whose holder is lent and each of these, and there is a waker for each mailbox
@@ -58,6 +66,7 @@ module _ {N O I : Type 0} where
     pub active : (e : EndId) → has_end e (map held_of ds) ≡ true → k.state e ≡ Active
     pub turns : k.turns ≡ h.turns
     pub sealed : k.sealed ≡ h.sealed
+    pub came : HasJoinedMore (length ds) h k
 
   module _ (out_name : O → N) (in_name : I → N) where
     -- a pair drawn between these sockets, of which the kind has answered
@@ -67,13 +76,14 @@ module _ {N O I : Type 0} where
       pub refuses : MayRefuse kind d.answer
       pub halves : AreNamedHalves out_name in_name d.other
 
-    -- a pair was drawn with each of these sockets, and noted
+    -- a pair was drawn with each of these sockets, and noted as its first end joined
     pub record Draws (c : Control) (i : ObjId) (ws : List ObjId) (ds : List (Drawn N O I)) (notes : Notes N) (s t : State (Load N O I)) (h k : Holding N) : Type 0 where
       pub taken : AreTaken i.0 ds s t h k
       pub stands : Stands t (behind (map row_of ds) c)
       pub waiters : map (λ d. d.o.last) ds ≡ ws
       pub drawn : All (IsDrawn c i (h.kind i.0)) ds
       pub joined : notes.joined.items ≡ map (joins_of c) ds
+      pub came : JoinsBy notes.joined.items h k
       pub opened : notes.opened.items ≡ flat_map opened_of ds
 
     -- some were, and there is one more to be drawn

@@ -44,11 +44,12 @@ module _ {N O I : Type 0} where
   abbrev pub bind_for : ℕ → Drawn N O I → ℕ
   bind_for j d = cond (d.o.last.0 == j) 1 0
 
-  -- the first ends of these pairs are where the control state has them, and the holder was told so; else of the ends that it had before none moved
+  -- the first ends of these pairs are where the control state has them, and the holder was told so; else of the ends that it had before none moved, and none joined
   pub record MovesAll (n : ℕ) (f : Control) (ds : List (Drawn N O I)) (h k : Holding N) : Type 0 where
     pub mine : All (λ d. place_of f (first_of d) ≡ At (k.state (first_of d))) ds
     pub others : (j : ℕ) (e : EndId) → e.pair.0 < n → has_end e (k.ends j) ≡ true → k.state e ≡ h.state e
     pub turned : TurnsBy (turned_over (λ e. Unmade) (place_of f) (map first_of ds)) h k
+    pub joined : k.joined ≡ h.joined
 
   module _ (out_name : O → N) (in_name : I → N) where
     -- the numbers of these pairs were drawn, all room for them is kept, and the first ends are at the holder; neither the binding socket was asked nor has a waiting one ended

@@ -153,6 +153,7 @@ told_less commands e state h m k told had keeps = record {
   states = λ i d here. keeps.states i d here ∙ told.states i d (had i d here);
   turns = keeps.turns ∙ told.turns;
   sealed = keeps.sealed ∙ told.sealed;
+  joined = keeps.joined ∙ told.joined;
 }
 
 -- a holder that gave a writing half away has no more of them than before

@@ -91,12 +91,14 @@ module _ {N : Type 0} where
     pub states : (i : ℕ) (d : EndId) → has_end d (k.ends i) ≡ true → k.state d ≡ (if is_end d e then state else h.state d)
     pub turns : k.turns ≡ h.turns ++ (if is_state (h.state e) state then [] else (e, state) ∷ [])
     pub sealed : k.sealed ≡ h.sealed ++ seals_for commands e
+    pub joined : k.joined ≡ h.joined
 
   pub told_as : (commands : EndCommands) (e : EndId) (state : EndState) (h m k : Holding N) → TurnsTo e state h m → ((i : ℕ) → k.ends i ≡ m.ends i) → SealsFor commands e m k → ToldAs commands e state h k
   told_as commands e state h m k turns same seals = record {
     states = λ i d here. seals.states i d here ∙ turns.states i d (subst (λ (hs : List (Held N)). has_end d hs ≡ true) (same i) here);
     turns = seals.turns ∙ turns.turns;
     sealed = seals.sealed ∙ ap (λ (es : List EndId). es ++ seals_for commands e) turns.sealed;
+    joined = seals.joined ∙ turns.joined;
   }
 
   -- nothing to be sealed
@@ -105,10 +107,11 @@ module _ {N : Type 0} where
     states = keeps.states;
     turns = keeps.turns;
     sealed = keeps.sealed ∙ sym (append-nil h.sealed) ∙ ap (λ (es : List EndId). h.sealed ++ es) (sym none);
+    joined = keeps.joined;
   }
 
   pub keeps_same : (h : Holding N) → KeepsTurns h h
-  keeps_same h = record { states = λ i d here. refl; turns = refl; sealed = refl }
+  keeps_same h = record { states = λ i d here. refl; turns = refl; sealed = refl; joined = refl }
 
 -- ---- the table
 -- the pipe of an end is sealed where the end comes to be asked once

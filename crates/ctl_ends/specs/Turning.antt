@@ -50,11 +50,12 @@ seals_for Settle e = []
 seals_for SettleAndAck e = []
 
 module _ {N : Type 0} where
-  -- the pipe of this end is to be sealed, or none, and no change of state was told
+  -- the pipe of this end is to be sealed, or none, no change of state was told, and no end joined
   pub record SealsFor (commands : EndCommands) (e : EndId) (old new : Holding N) : Type 0 where
     pub states : (i : ℕ) (d : EndId) → has_end d (new.ends i) ≡ true → new.state d ≡ old.state d
     pub turns : new.turns ≡ old.turns
     pub sealed : new.sealed ≡ old.sealed ++ seals_for commands e
+    pub joined : new.joined ≡ old.joined
 
   -- an object's ends are as before, and so are the writing halves, but for that of this end where it is given away
   pub record Turned (o : ℕ) (e : EndId) (yielded : Bool) (old new : Holding N) : Type 0 where
@@ -112,7 +113,7 @@ module _ {N O I : Type 0} (out_name : O → N) (in_name : I → N) where
     pub has : HasAll names control h
     pub turns : TurnsAt control s h e event
 
-  -- the state was changed so, with the holder, which was told of these changes of its ends, and commands were put
+  -- the state was changed so, with the holder, which was told of these changes of its ends, and commands were put; no end joined
   pub record Leads (names : EndId → Option N) (turns : List (EndId × EndState)) (now : Control) (s t : State (Load N O I)) (h k : Holding N) : Type 0 where
     pub stands : Stands t now
     pub has : HasAll names now k
@@ -122,6 +123,7 @@ module _ {N O I : Type 0} (out_name : O → N) (in_name : I → N) where
     pub kinds : (i : ℕ) → k.kind i ≡ h.kind i
     pub output : (i : ℕ) → k.output_left i ≡ h.output_left i
     pub turned : TurnsBy turns h k
+    pub joined : k.joined ≡ h.joined
 
 -- where no end was attached twice before, a holder was told of each change of state of an event
 abbrev pub TurnsOnce : {N : Type 0} → (was now : Control) → (old new : Holding N) → Type 0

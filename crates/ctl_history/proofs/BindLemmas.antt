@@ -1,29 +1,19 @@
 -- That a bind adds its event.
-use Rattle.std.specs.Prelude.{◌≡◌, ◌≤◌, ◌+◌, ℕ, Bool, true, false, List, Option, Some, None, filter, length, not, is_some, refl}
+use Rattle.std.specs.Prelude.{◌≡◌, ◌≤◌, ◌+◌, ℕ, Bool, true, false, List, Option, Some, None, length, not, is_some, refl}
 use Rattle.std.proofs.Common.{arith, sym, ap, ◌∙◌}
 use Rattle.std.proofs.lemmas.Bool.Decides.{Decides-ltb}
-use Rattle.zq_base.specs.declared.endpoint.Endpoint.{Endpoint}
 use Rattle.zq_base.specs.declared.endpoint.Endpoint.TheVariants.{Inproc}
 use Rattle.zq_base.specs.declared.ids.ObjId.{ObjId}
 use Rattle.spec_control.specs.declared.request.Req.TheVariants.{Bind}
 use Rattle.spec_control.specs.declared.request.Refusal.TheVariants.{InUse, TooMany}
 use Rattle.spec_control.specs.declared.request.Reply.TheVariants.{Done}
-use Rattle.spec_control.specs.Register.{fulfilled_by, waiting_now}
-use Rattle.spec_control.specs.declared.book.Binding.{Binding}
-use Rattle.spec_control.specs.EndpointBook.{is_fulfilled}
-use Rattle.spec_control.specs.Hold.{Bound}
+use Rattle.spec_control.specs.Register.{fulfilled_by}
 use Rattle.spec_control.specs.Control.{Control, next_pair}
-use Rattle.spec_control.specs.After.{binding_by, named, with_hold}
+use Rattle.spec_control.specs.After.{binding_by}
 use Rattle.spec_control.specs.Reply.{reply_of, unless, bind_reply, has_pairs, most_made_pairs}
 use Rattle.control_rows.proofs.ListLemmas.{never}
-use Rattle.ctl_history.specs.Refusals.{refusal_in}
+use Rattle.ctl_asks.specs.Refusals.{refusal_in}
 use Rattle.ctl_history.proofs.RefusalLemmas.{is_behind, passed}
-
--- the name is held by this binding, and the hold is of a copy of it
-abbrev pub bound_with : ℕ → (at copy : Endpoint) → Binding → Control → Control
-bound_with i at copy binding c =
-    let held : Control = with_hold i (Bound copy None) (named i at binding c) in
-    record held { names = waiting_now (filter (λ w. not (is_fulfilled at binding w)) held.names.waiting) held.names }
 
 module _ (c : Control) (o : ObjId) (name : List ℕ) (allowed : refusal_in (reply_of c (Bind o (Inproc name))) ≡ None) where
   abbrev too_many : Bool

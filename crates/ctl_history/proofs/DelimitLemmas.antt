@@ -21,15 +21,16 @@ use Rattle.ctl_holder.specs.Holding.{Holding}
 use Rattle.ctl_holder.specs.Lent.{HasAll}
 use Rattle.ctl_state.specs.declared.state.State.{State}
 use Rattle.ctl_ends.specs.Turning.{MayTurn, Leads, turn_of}
-use Rattle.ctl_history.specs.Past.{Past, as_item, items_of, control_of, with_event, IsSilent}
+use Rattle.ctl_history.specs.Past.{Past, as_item, items_of, control_of, with_event}
+use Rattle.ctl_hears.specs.Processing.{IsSilent}
 use Rattle.ctl_history.specs.Carried.{given_in, IsPlane}
 use Rattle.ctl_history.specs.Hearing.{HasWhat}
 use Rattle.ctl_history.proofs.EventLemmas.{MakesNothing, kept_past, control_more, one_foreseen, has_entry}
-use Rattle.ctl_history.proofs.BareLemmas.{silent_answered}
+use Rattle.ctl_history.proofs.SilentLemmas.{silent_answered}
 use Rattle.ctl_history.proofs.PlaneLemmas.{one_plane, tells_no_names}
-use Rattle.ctl_history.proofs.HearLemmas.{turns_at}
-use Rattle.ctl_history.proofs.OwedLemmas.{same_lists}
-use Rattle.ctl_history.proofs.DeliverLemmas.{loaded_capacity, loaded_given, loaded_carried, has_later}
+use Rattle.ctl_strikes.proofs.FindLemmas.{turns_at, loaded_capacity}
+use Rattle.ctl_strikes.proofs.NameLemmas.{same_lists}
+use Rattle.ctl_history.proofs.DeliverLemmas.{loaded_given, loaded_carried, has_later}
 
 module _ {N O I S : Type 0} (out_name : O → N) (in_name : I → N) (s : State (Load N O I)) (p : Past (Given N O I) N S) (spare : ℕ) (e : EndId) (plane : IsPlane out_name in_name s p spare) (looked_at : looks (place_of (control_of p) e) ≡ true) where
   abbrev pub may_meet : (h : Holding N) → HasWhat p h → h.holds (owner_of (control_of p) e) ≡ true → h.at_delimiter e ≡ true → MayTurn out_name in_name s h e DelimiterSeen

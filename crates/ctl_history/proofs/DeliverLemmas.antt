@@ -1,9 +1,9 @@
 -- That a delivery with a holder adds its event.
-use Rattle.std.specs.Prelude.{◌≡◌, ◌≢◌, ◌<◌, ◌≤◌, ◌&&◌, ◌==◌, ◌-◌, ◌++◌, ◌∷◌, [], ℕ, Bool, true, false, not, List, Option, Some, None, All, map, flat_map, length, refl}
+use Rattle.std.specs.Prelude.{◌≡◌, ◌≢◌, ◌<◌, ◌≤◌, ◌&&◌, ◌==◌, ◌-◌, ◌++◌, ◌∷◌, [], ℕ, Bool, true, false, not, List, Option, Some, None, All, map, flat_map, refl}
 use Rattle.std.specs.List.{list_any}
 use Rattle.std.proofs.Common.{arith, sym, ap, ◌∙◌, subst, inl, inr}
 use Rattle.std.proofs.lemmas.Bool.{cases_eq}
-use Rattle.std.proofs.lemmas.List.{append-nil, map-append, length-append}
+use Rattle.std.proofs.lemmas.List.{append-nil, map-append}
 use Rattle.std.proofs.lemmas.List.Concat.{flat_map-append}
 use Rattle.std.proofs.lemmas.List.Elements.{All-nil, All-cons, All-head, All-tail, All-weaker, All-append}
 use Rattle.zq_base.specs.Ends.{other_end}
@@ -25,7 +25,7 @@ use Rattle.spec_control.specs.declared.letter.Word.{Word}
 use Rattle.spec_control.specs.declared.letter.Word.TheVariants.{Own, Plug, TermReq, Term, TermAck, PipeBind, PipeTerm, PipeTermAck, Stop, Reap}
 use Rattle.spec_control.specs.PairPhase.{behind_first}
 use Rattle.spec_control.specs.Names.{name_of, IsTold, FitsNames}
-use Rattle.spec_control.specs.Row.{Row, nobody}
+use Rattle.spec_control.specs.Row.{Row, nobody, TermComes}
 use Rattle.spec_control.specs.Stage.{has_ended}
 use Rattle.spec_control.specs.Control.{Control}
 use Rattle.spec_control.specs.After.{after, without_front}
@@ -50,38 +50,31 @@ use Rattle.ctl_state.specs.Stands.{Updates}
 use Rattle.ctl_ends.specs.Turning.{IsLoaded, PutsLoaded, TurnsAt}
 use Rattle.ctl_history.specs.Past.{Past, as_item, items_of, control_of, with_event, IsHistory}
 use Rattle.ctl_history.specs.Carried.{given_in, BindsFit, IsCarried, AreCarried, IsPlane}
-use Rattle.ctl_history.specs.Hearing.{is_heard, AreFree, AreOfKind, BringsFirst, FitBinds, IsServed, IsAcknowledged, IsReaped, HearsEnd, MayHear, IsProcessed, HasWhat}
-use Rattle.ctl_history.proofs.CapacityLemmas.{capacity, taken_capacity, taken_spare}
+use Rattle.ctl_hears.specs.Processing.{is_heard, AreFree, IsAcknowledged, IsReaped, HearsEnd, MayHear, IsProcessed}
+use Rattle.ctl_history.specs.Hearing.{AreOfKind, BringsFirst, FitBinds, IsServed, HasWhat}
+use Rattle.ctl_asks.proofs.CapacityLemmas.{taken_capacity, taken_spare}
 use Rattle.ctl_history.proofs.EventLemmas.{MakesNothing, kept_past, control_more, one_foreseen, has_entry, objects_made, pairs_drawn}
 use Rattle.ctl_history.proofs.CarryLemmas.{brings_none, no_reap, taken_carried, taken_carries, taken_given}
 use Rattle.ctl_history.proofs.PlaneLemmas.{carried_last, plane_more, unplugged_made}
 use Rattle.ctl_history.proofs.PlaneDoneLemmas.{word_makes}
 use Rattle.ctl_history.proofs.DoneLemmas.{taken_hears}
-use Rattle.ctl_history.proofs.HearLemmas.{turns_at, end_of_no_root}
+use Rattle.ctl_strikes.proofs.FindLemmas.{turns_at, end_of_no_root}
 use Rattle.control_bounds.proofs.RoomLemmas.{goes_room}
 use Rattle.control_moves.specs.Move.{LinkMoves}
 use Rattle.control_moves.proofs.SoundLemmas.{sound_of}
-use Rattle.spec_control.specs.Row.{TermComes}
-use Rattle.ctl_history.proofs.SettledLemmas.{acknowledged_at}
-use Rattle.ctl_history.proofs.TakeOverLemmas.{at_root, reaped_at}
-use Rattle.ctl_history.proofs.BindingLemmas.{bind_at, bind_taken, binds_fit_left, bound_by, fits_brought, fits_ends, fits_none, fits_writer, is_served, on_its_way, owner_is}
-use Rattle.ctl_history.specs.Attaching.{FitsLoad}
+use Rattle.ctl_hears.proofs.SettledLemmas.{acknowledged_at}
+use Rattle.ctl_hears.proofs.TakeOverLemmas.{at_root, reaped_at}
+use Rattle.ctl_history.proofs.OldestBindLemmas.{bind_at, bind_taken, binds_fit_left, bound_by, fits_brought, fits_ends, fits_none, fits_writer, is_served, on_its_way, owner_is}
+use Rattle.ctl_hears.specs.Attaching.{FitsLoad}
 use Rattle.ctl_holder.specs.declared.halves.Halves.{Halves}
 use Rattle.control_attached.proofs.OnceLemmas.{old_run}
 use Rattle.ctl_state.specs.declared.belongings.Belongings.{Belongings}
 use Rattle.spec_control.specs.Rows.{obj}
+use Rattle.ctl_strikes.proofs.FindLemmas.{loaded_capacity}
 
 -- ---- commands that were put with what they bring
 module _ {N O I : Type 0} (out_name : O → N) (in_name : I → N) where
   module _ (names : EndId → Option N) (old new : List (Mail (Command (Load N O I)))) (puts : PutsLoaded out_name in_name names old new) where
-    pub loaded_capacity : (m : ℕ) → capacity new m ≡ capacity old m
-    loaded_capacity m =
-        let g = puts.grows m in
-        let all = ap (λ (xs : List (Command (Load N O I))). length xs) g.commands in
-        let parts = length-append (mail_at old m).commands g.more in
-        let spare = g.spare in
-        omega (arith, all, parts, spare)
-
     no_given : (more : List (Command (Load N O I))) → All (λ command. IsLoaded out_name in_name names command) more → flat_map (λ (x : Command (Load N O I)). given_by x.load) more ≡ []
     no_given [] all = refl
     no_given (x ∷ xs) all =

@@ -42,12 +42,12 @@ use Rattle.ctl_binds.proofs.TakenLemmas.{all_from}
 use Rattle.ctl_binds.proofs.AnswerLemmas.{answers_are, joins_are, names_are, pipes_are}
 use Rattle.ctl_binds.proofs.FulfilLemmas.{AreFor, AreMade, all_made, are_for, fulfil_is}
 use Rattle.ctl_binds.proofs.ReadyLemmas.{all_of}
-use Rattle.ctl_history.specs.Binding.{bound_now}
+use Rattle.ctl_strikes.specs.Naming.{bound_now}
 use Rattle.ctl_history.specs.Carried.{IsPlane}
 use Rattle.ctl_history.specs.Fulfilling.{Fulfils}
 use Rattle.ctl_history.specs.Joining.{IsNoted, Lends}
 use Rattle.ctl_history.specs.Past.{Past, as_item, control_of, items_of}
-use Rattle.ctl_history.specs.Refusals.{refusal_in}
+use Rattle.ctl_asks.specs.Refusals.{refusal_in}
 use Rattle.ctl_history.proofs.BindLemmas.{bind_done}
 use Rattle.ctl_history.proofs.EventLemmas.{kept_past}
 use Rattle.ctl_history.proofs.FreshLemmas.{names_fresh}

@@ -55,24 +55,25 @@ use Rattle.ctl_binds.proofs.AnswerLemmas.{ends_held, held_joined}
 use Rattle.ctl_binds.proofs.FulfilLemmas.{AreFor}
 use Rattle.ctl_binds.proofs.ReadyLemmas.{drawn_commands, drawn_spare, room_in}
 use Rattle.ctl_binds.proofs.TakenLemmas.{all_from, drawn_boxes}
-use Rattle.ctl_history.specs.Binding.{bound_now}
+use Rattle.ctl_strikes.specs.Naming.{bound_now}
 use Rattle.ctl_history.specs.Carried.{given_in, AreCarried, BindsFit, IsCarried, IsPlane}
 use Rattle.ctl_history.specs.Fulfilling.{Fulfils}
 use Rattle.ctl_history.specs.Hearing.{HasWhat}
 use Rattle.ctl_history.specs.Joining.{IsNoted, Lends}
 use Rattle.ctl_history.specs.Past.{Past, as_item, control_of, items_of, with_event, IsHistory}
-use Rattle.ctl_history.specs.Refusals.{refusal_in}
+use Rattle.ctl_asks.specs.Refusals.{refusal_in}
 use Rattle.ctl_history.proofs.BindLemmas.{enough_pairs}
-use Rattle.ctl_history.proofs.CapacityLemmas.{capacity}
+use Rattle.ctl_asks.proofs.CapacityLemmas.{capacity}
 use Rattle.ctl_history.proofs.CarryLemmas.{carries_later}
-use Rattle.ctl_history.proofs.DeliverLemmas.{has_later, loaded_capacity, loaded_carried, loaded_given}
+use Rattle.ctl_history.proofs.DeliverLemmas.{has_later, loaded_carried, loaded_given}
+use Rattle.ctl_strikes.proofs.FindLemmas.{loaded_capacity}
 use Rattle.ctl_history.proofs.EventLemmas.{control_more, kept_past, one_more, objects_made}
 use Rattle.ctl_history.proofs.FreshLemmas.{fulfils_draw}
 use Rattle.ctl_history.proofs.FulfilEventLemmas.{are, event_fits, leads_to, made, names_fit, names_then, objects_stay, waits_for_it}
 use Rattle.ctl_history.proofs.NamedPlaneLemmas.{plane_named}
 use Rattle.ctl_history.proofs.PlaneLemmas.{unplugged_made}
 use Rattle.ctl_history.proofs.ReapLemmas.{carried_later}
-use Rattle.ctl_history.proofs.ToldLemmas.{told_more}
+use Rattle.ctl_strikes.proofs.OnceLemmas.{told_more}
 
 -- ends of pairs that had no number yet begin Active
 over_new : (p q : EndId → Place) (es : List EndId) → All (λ e. p e ≡ At Gone) es → All (λ e. is_here (q e) ≡ true) es → turned_over p q es ≡ turned_over (λ e. Unmade) q es

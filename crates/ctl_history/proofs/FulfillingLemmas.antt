@@ -41,13 +41,13 @@ use Rattle.ctl_binds.specs.Batch.{behind, first_of, held_of, row_of}
 use Rattle.ctl_binds.specs.Drawing.{Draws, HasPlace}
 use Rattle.ctl_binds.specs.Joining.{JoinsAll, MayJoinAll, MovesAll, fulfilled_all}
 use Rattle.ctl_binds.proofs.ReadyLemmas.{can_join, none_struck, numbers_are, places_left}
-use Rattle.ctl_history.specs.Binding.{bound_now}
-use Rattle.ctl_history.specs.Carried.{IsPlane, SameEndLists}
+use Rattle.ctl_strikes.specs.Naming.{bound_now, SameEndLists}
+use Rattle.ctl_history.specs.Carried.{IsPlane}
 use Rattle.ctl_history.specs.Fulfilling.{Fulfils, MayFulfil}
 use Rattle.ctl_history.specs.Hearing.{HasWhat}
 use Rattle.ctl_history.specs.Joining.{Lends}
 use Rattle.ctl_history.specs.Past.{Past, control_of, items_of}
-use Rattle.ctl_history.specs.Refusals.{refusal_in}
+use Rattle.ctl_asks.specs.Refusals.{refusal_in}
 use Rattle.ctl_history.proofs.BindLemmas.{enough_pairs, name_is_free}
 use Rattle.ctl_history.proofs.EventLemmas.{kept_past}
 use Rattle.ctl_history.proofs.FulfilEventLemmas.{waits_for_it}
@@ -91,6 +91,7 @@ module _ {N O I : Type 0} (out_name : O → N) (in_name : I → N) (s : State (L
     each = draws.drawn;
     unstruck = none_struck out_name in_name c now i ws ds notes s t u h k draws w.draw.stands stands refl (λ e. refl) boxes ends;
     joined = draws.joined;
+    came = moves.joined ∙ draws.came;
     opened = draws.opened;
     stands = stand;
     gets = subst (λ (n : ℕ). Gets n i.0 (map held_of ds) h l) (sym w.draw.stands.pairs.many) (gets_stays (length s.pairs) i.0 (map held_of ds) h k l draws.taken.gets joins.stays

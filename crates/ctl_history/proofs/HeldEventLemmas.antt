@@ -48,7 +48,7 @@ use Rattle.ctl_joins.proofs.PairLemmas.{Greeted, drawn_owner, greeted, opened_mi
 use Rattle.ctl_history.specs.Carried.{IsPlane}
 use Rattle.ctl_history.specs.Joining.{IsNoted, Lends}
 use Rattle.ctl_history.specs.Past.{Past, as_item, control_of, items_of}
-use Rattle.ctl_history.specs.Refusals.{refusal_in}
+use Rattle.ctl_asks.specs.Refusals.{refusal_in}
 use Rattle.ctl_history.proofs.FreshLemmas.{names_fresh}
 use Rattle.ctl_history.proofs.JoinHeldLemmas.{held_reply, may_answer}
 

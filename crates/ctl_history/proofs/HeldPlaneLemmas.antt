@@ -56,10 +56,11 @@ use Rattle.ctl_history.specs.Carried.{given_in, AreCarried, BindsFit, IsCarried,
 use Rattle.ctl_history.specs.Hearing.{HasWhat}
 use Rattle.ctl_history.specs.Joining.{IsNoted, Lends}
 use Rattle.ctl_history.specs.Past.{Past, as_item, control_of, items_of, with_event, IsHistory}
-use Rattle.ctl_history.specs.Refusals.{refusal_in}
-use Rattle.ctl_history.proofs.CapacityLemmas.{capacity, set_capacity}
+use Rattle.ctl_asks.specs.Refusals.{refusal_in}
+use Rattle.ctl_asks.proofs.CapacityLemmas.{capacity, set_capacity}
 use Rattle.ctl_history.proofs.CarryLemmas.{carries_later}
-use Rattle.ctl_history.proofs.DeliverLemmas.{has_later, loaded_capacity, loaded_carried, loaded_given}
+use Rattle.ctl_history.proofs.DeliverLemmas.{has_later, loaded_carried, loaded_given}
+use Rattle.ctl_strikes.proofs.FindLemmas.{loaded_capacity}
 use Rattle.ctl_history.proofs.EventLemmas.{control_more, kept_past, one_more, objects_made, pairs_drawn}
 use Rattle.ctl_history.proofs.HeldEventLemmas.{event_fits, leads_to, names_fit, names_read, names_written, objects_stay, pair_attached, was_greeted}
 use Rattle.ctl_history.proofs.JoinHeldLemmas.{held_reply, one_pair}

@@ -43,7 +43,7 @@ use Rattle.ctl_history.specs.Carried.{IsPlane}
 use Rattle.ctl_history.specs.Hearing.{HasWhat}
 use Rattle.ctl_history.specs.Joining.{Lends}
 use Rattle.ctl_history.specs.Past.{Past, control_of, items_of}
-use Rattle.ctl_history.specs.Refusals.{refusal_in}
+use Rattle.ctl_asks.specs.Refusals.{refusal_in}
 use Rattle.ctl_history.proofs.EventLemmas.{kept_past}
 use Rattle.ctl_history.proofs.OwnerLemmas.{box_there}
 use Rattle.ctl_history.proofs.RefusalLemmas.{is_behind, passed}

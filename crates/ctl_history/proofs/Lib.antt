@@ -1,28 +1,20 @@
-mod CapacityLemmas
+mod SilentLemmas
 mod EventLemmas
-mod BareLemmas
 mod BeginLemmas
 mod DoneLemmas
-mod AskLemmas
 mod CarryLemmas
 mod OwedLemmas
 mod ReapLemmas
 mod CloseLemmas
 mod PlaneLemmas
 mod PlaneDoneLemmas
-mod HearLemmas
-mod SettledLemmas
-mod TakeOverLemmas
-mod BoundLemmas
-mod BindingLemmas
+mod OldestBindLemmas
 mod DeliverLemmas
 mod DelimitLemmas
 mod MakingLemmas
 mod RefusalLemmas
 mod StrikeLemmas
-mod DisconnectLemmas
 mod StruckLemmas
-mod WaitLemmas
 mod BindLemmas
 mod ConnectLemmas
 mod FreshLemmas
@@ -36,3 +28,4 @@ mod GiveLemmas
 pub mod FulfilEventLemmas
 pub mod FulfilPlaneLemmas
 pub mod FulfillingLemmas
+pub mod ComeLemmas

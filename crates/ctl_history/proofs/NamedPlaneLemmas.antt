@@ -30,7 +30,8 @@ use Rattle.ctl_holder.specs.Lent.{HasAll, HasEnds}
 use Rattle.ctl_holder.specs.declared.load.Load.{Load}
 use Rattle.ctl_state.specs.declared.state.State.{State}
 use Rattle.ctl_history.specs.Carried.{AreCarried, BindsFit, IsPlane}
-use Rattle.ctl_history.specs.Past.{Past, as_item, items_of, control_of, with_event, IsHistory, IsSilent}
+use Rattle.ctl_history.specs.Past.{Past, as_item, items_of, control_of, with_event, IsHistory}
+use Rattle.ctl_hears.specs.Processing.{IsSilent}
 use Rattle.ctl_history.specs.Hearing.{HasWhat}
 use Rattle.ctl_history.specs.Joining.{IsOfSame}
 use Rattle.ctl_history.proofs.DeliverLemmas.{has_later}

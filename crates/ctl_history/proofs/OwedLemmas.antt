@@ -1,6 +1,6 @@
 -- The ends on their way to an object, through the moves of an event.
 use Rattle.std.specs.Prelude.{◌≡◌, ◌≤◌, ◌==◌, ◌∷◌, ◌++◌, [], ℕ, Bool, true, false, cond, List, Some, None, sum_by, length, refl}
-use Rattle.std.proofs.Common.{arith, sym, ap, ◌∙◌, subst, inl, inr}
+use Rattle.std.proofs.Common.{arith, sym, ap, ◌∙◌, inl, inr}
 use Rattle.std.proofs.lemmas.Bool.{cases_lt}
 use Rattle.std.proofs.lemmas.List.{set_past}
 use Rattle.std.proofs.lemmas.List.Sums.{sum_by-cons, sum_by-set, sum_by_push}
@@ -22,13 +22,10 @@ use Rattle.control_moves.specs.OwnMoves.{own_moves, word_moves, having_taken}
 use Rattle.control_moves.proofs.WeighLemmas.{gain_of_own, taken_rows}
 use Rattle.control_moves.proofs.EventGoLemmas.{event_goes}
 use Rattle.ctl_state.specs.declared.belongings.Belongings.{Belongings}
-use Rattle.ctl_state.specs.declared.state.State.{State}
-use Rattle.ctl_state.specs.Parts.{on_lists}
 use Rattle.ctl_state.specs.Listed.{Listed}
-use Rattle.ctl_state.specs.declared.hold.Hold.{Hold}
-use Rattle.ctl_state.specs.Lists.{belongings_at, no_belongings, with_holds}
-use Rattle.ctl_state.proofs.ReadLemmas.{read_kept}
-use Rattle.ctl_history.specs.Carried.{BindsFit, SameEndLists}
+use Rattle.ctl_state.specs.Lists.{no_belongings}
+use Rattle.ctl_history.specs.Carried.{BindsFit}
+use Rattle.ctl_strikes.specs.Naming.{SameEndLists}
 
 -- a bind is put where a pair is made, and nowhere else
 abbrev pub bind_put : PairEvent → ℕ
@@ -159,16 +156,6 @@ binds_fit c did kept fits none old new same fit i =
     let spare = ap (λ (l : Listed EndId). l.spare) (same i) in
     omega (arith, less, most, spare)
 
-pub same_lists : (old new : List Belongings) → new ≡ old → SameEndLists old new
-same_lists old new same i = ap (λ (ls : List Belongings). (belongings_at ls i).ends) same
-
-pub lists_on : (a b c : List Belongings) → SameEndLists a b → SameEndLists b c → SameEndLists a c
-lists_on a b c h k i = k i ∙ h i
-
--- what a socket holds is aside
-pub holds_aside : (f : Listed Hold → Listed Hold) (i : ℕ) (lists : List Belongings) → SameEndLists lists (with_holds f i lists)
-holds_aside f i lists j = read_kept (λ (b : Belongings). b.ends) lists i j (record (belongings_at lists i) { holds = f (belongings_at lists i).holds }) no_belongings refl
-
 -- an object more, to which nothing belongs
 pub made_aside : (lists : List Belongings) → SameEndLists lists (lists ++ no_belongings ∷ [])
 made_aside lists j =
@@ -176,11 +163,3 @@ made_aside lists j =
       | is_old same ↦ ap (λ (b : Belongings). b.ends) same
       | is_new at now was ↦ ap (λ (b : Belongings). b.ends) (now ∙ sym was)
     ]
-
--- a socket holds more, in room that was kept for it
-pub held_aside : {L : Type 0} (s a b t : State L) (f g : Listed Hold → Listed Hold) (i : ℕ) → a ≡ on_lists (with_holds f i) s → b.objects.lists ≡ a.objects.lists → t ≡ on_lists (with_holds g i) b → SameEndLists s.objects.lists t.objects.lists
-held_aside {L} s a b t f g i first same last =
-    lists_on s.objects.lists b.objects.lists t.objects.lists
-    (lists_on s.objects.lists a.objects.lists b.objects.lists
-    (subst (λ (ls : List Belongings). SameEndLists s.objects.lists ls) (sym (ap (λ (x : State L). x.objects.lists) first)) (holds_aside f i s.objects.lists)) (same_lists a.objects.lists b.objects.lists same))
-    (subst (λ (ls : List Belongings). SameEndLists b.objects.lists ls) (sym (ap (λ (x : State L). x.objects.lists) last)) (holds_aside g i b.objects.lists))

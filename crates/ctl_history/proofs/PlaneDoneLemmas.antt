@@ -1,9 +1,8 @@
 -- That each call of a control plane leaves it one.
 use Rattle.std.specs.Prelude.{◌≡◌, ◌<◌, ◌++◌, ◌∷◌, [], ℕ, List, Some, None, All, length, map, refl, sum_by, flat_map}
 use Rattle.std.proofs.Common.{arith, sym, ap, ◌∙◌, subst}
-use Rattle.std.proofs.lemmas.List.{append-nil}
+use Rattle.std.proofs.lemmas.List.{append-nil, get_or-set_same}
 use Rattle.std.proofs.lemmas.List.Concat.{flat_map-append}
-use Rattle.std.proofs.lemmas.List.{get_or-set_same}
 use Rattle.mailbox.specs.Mail.{Mail, no_mail, with_sent, with_put_back}
 use Rattle.zq_base.specs.declared.ids.EndId.{EndId}
 use Rattle.zq_base.specs.declared.ids.ObjId.{ObjId}
@@ -41,10 +40,12 @@ use Rattle.ctl_state.specs.Parts.{on_boxes, sent_to, Tells}
 use Rattle.ctl_state.specs.Stands.{Stands, Updates, letter_for, slot_of}
 use Rattle.ctl_state.proofs.ReadLemmas.{read_kept}
 use Rattle.ctl_state.proofs.StandLemmas.{roomy}
-use Rattle.ctl_history.specs.Past.{Past, as_item, items_of, control_of, with_event, IsHistory, IsSilent}
+use Rattle.ctl_history.specs.Past.{Past, as_item, items_of, control_of, with_event, IsHistory}
+use Rattle.ctl_hears.specs.Processing.{IsSilent}
 use Rattle.ctl_state.specs.declared.belongings.Belongings.{Belongings}
 use Rattle.ctl_history.specs.Carried.{given_in, IsCarried, AreCarried, BindsFit, IsPlane}
-use Rattle.ctl_history.proofs.OwedLemmas.{binds_put, binds_fit, same_lists}
+use Rattle.ctl_history.proofs.OwedLemmas.{binds_put, binds_fit}
+use Rattle.ctl_strikes.proofs.NameLemmas.{same_lists}
 use Rattle.ctl_history.proofs.ReapLemmas.{ReapBetween, all_of_map, reaps_between, reaps_later, untouched}
 use Rattle.ctl_history.proofs.CloseLemmas.{closed_between, close_between}
 use Rattle.ctl_history.proofs.EventLemmas.{kept_past}

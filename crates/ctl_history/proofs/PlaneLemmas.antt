@@ -31,9 +31,11 @@ use Rattle.ctl_state.specs.declared.state.State.{State}
 use Rattle.ctl_state.specs.Boxes.{mail_at, with_mail}
 use Rattle.ctl_state.specs.Listed.{Listed, with_last, with_room, no_list}
 use Rattle.ctl_state.proofs.ReadLemmas.{read_kept}
-use Rattle.ctl_history.specs.Past.{Past, as_item, items_of, control_of, with_event, IsHistory, IsSilent}
+use Rattle.ctl_history.specs.Past.{Past, as_item, items_of, control_of, with_event, IsHistory}
+use Rattle.ctl_hears.specs.Processing.{IsSilent}
 use Rattle.ctl_state.specs.Stands.{Stands}
-use Rattle.ctl_history.specs.Carried.{given_in, IsCarried, AreCarried, BindsFit, SameEndLists, IsPlane}
+use Rattle.ctl_history.specs.Carried.{given_in, IsCarried, AreCarried, BindsFit, IsPlane}
+use Rattle.ctl_strikes.specs.Naming.{SameEndLists}
 use Rattle.ctl_history.proofs.EventLemmas.{control_more, kept_past, roomier}
 use Rattle.ctl_history.proofs.CarryLemmas.{carries_later}
 use Rattle.ctl_history.proofs.OwedLemmas.{binds_put, binds_fit}

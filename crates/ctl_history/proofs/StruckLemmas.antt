@@ -25,16 +25,18 @@ use Rattle.ctl_holder.specs.declared.given.Given.{Given}
 use Rattle.ctl_holder.specs.Holding.{Holding}
 use Rattle.ctl_holder.specs.Lent.{HasAll}
 use Rattle.ctl_state.specs.declared.state.State.{State}
-use Rattle.ctl_history.specs.Past.{Past, as_item, items_of, control_of, with_event, IsSilent}
+use Rattle.ctl_history.specs.Past.{Past, as_item, items_of, control_of, with_event}
+use Rattle.ctl_hears.specs.Processing.{IsSilent}
 use Rattle.ctl_history.specs.Carried.{given_in, IsPlane}
 use Rattle.ctl_history.specs.Hearing.{HasWhat}
-use Rattle.ctl_history.specs.Refusals.{refusal_in}
-use Rattle.ctl_history.specs.Striking.{StrikesWith, IsStruck}
+use Rattle.ctl_asks.specs.Refusals.{refusal_in}
+use Rattle.ctl_strikes.specs.Striking.{StrikesWith, IsStruck}
 use Rattle.ctl_history.proofs.EventLemmas.{kept_past, control_more, one_more}
-use Rattle.ctl_history.proofs.BareLemmas.{silent_answered}
+use Rattle.ctl_history.proofs.SilentLemmas.{silent_answered}
 use Rattle.ctl_history.proofs.RefusalLemmas.{done_behind}
 use Rattle.ctl_history.proofs.PlaneLemmas.{one_plane, tells_no_names}
-use Rattle.ctl_history.proofs.DeliverLemmas.{loaded_capacity, loaded_given, loaded_carried, has_later}
+use Rattle.ctl_strikes.proofs.FindLemmas.{loaded_capacity}
+use Rattle.ctl_history.proofs.DeliverLemmas.{loaded_given, loaded_carried, has_later}
 
 -- a disconnect that is not refused
 pub disconnect_done : (c : Control) (o : ObjId) (at : Endpoint) → refusal_in (reply_of c (Disconnect o at)) ≡ None → reply_of c (Disconnect o at) ≡ Done

@@ -19,10 +19,6 @@ use Rattle.ctl_history.specs.Past.{Past, items_of, control_of, IsHistory}
 abbrev pub BindsFit : Control → List Belongings → Type 0
 BindsFit c lists = (i : ℕ) → sum_by (of_ends bind_waits i) c.rows.pairs ≤ (belongings_at lists i).ends.spare
 
--- the list of an object's ends is as before, and so is the room in it
-abbrev pub SameEndLists : (old new : List Belongings) → Type 0
-SameEndLists old new = (i : ℕ) → (belongings_at new i).ends ≡ (belongings_at old i).ends
-
 module _ {N O I : Type 0} where
   -- the ends of closed sockets that are on their way to the reaper: what is in the root's mailbox brings them
   abbrev pub given_in : List (Mail (Command (Load N O I))) → List (Given N O I)

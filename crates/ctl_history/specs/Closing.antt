@@ -3,22 +3,12 @@ use Rattle.std.specs.Prelude.{◌≡◌, Bool, List}
 use Rattle.zq_base.specs.declared.ids.ObjId.{ObjId}
 use Rattle.spec_control.specs.declared.entry.Answered.{Answered}
 use Rattle.spec_control.specs.declared.entry.Did.TheVariants.{Asked}
-use Rattle.spec_control.specs.declared.entry.Joining.{Joining}
 use Rattle.spec_control.specs.declared.request.Req.TheVariants.{Close}
 use Rattle.spec_control.specs.declared.request.Reply.TheVariants.{Done}
-use Rattle.spec_control.specs.Control.{Control, met_in, place_of}
 use Rattle.ctl_holder.specs.declared.given.Given.{Given}
 use Rattle.ctl_holder.specs.Holding.{AreMet}
-use Rattle.ctl_history.specs.Past.{Past, with_event, with_given, IsSilent}
-
-module _ {N O I : Type 0} where
-  -- an end is said to have met its delimiter where the control state has noted it
-  abbrev pub noted_end : Control → Given N O I → Given N O I
-  noted_end c g = record g { met = met_in (place_of c g.end) (c.reasons g.end) }
-
--- and so in the list of those that the reaper takes over
-abbrev pub noted_join : {N : Type 0} → Control → Joining N → Joining N
-noted_join c j = record j { met = met_in (place_of c j.end) (c.reasons j.end) }
+use Rattle.ctl_history.specs.Past.{Past, with_event, with_given}
+use Rattle.ctl_hears.specs.Processing.{IsSilent}
 
 module _ {N O I S : Type 0} where
   -- the close was noted, and the ends that the holder gave are on their way; those that are said to have met their delimiters have met them

@@ -8,7 +8,7 @@ use Rattle.spec_control.specs.Rows.{obj}
 use Rattle.spec_control.specs.Place.{At, Unmade}
 use Rattle.spec_control.specs.Control.{Control, next_pair, place_of}
 use Rattle.ctl_holder.specs.declared.load.Load.{Load}
-use Rattle.ctl_holder.specs.Holding.{Holding, has_end}
+use Rattle.ctl_holder.specs.Holding.{Holding, JoinsBy, has_end}
 use Rattle.ctl_holder.specs.Turns.{TurnsBy, turned_over}
 use Rattle.ctl_ends.specs.Turning.{PutsLoaded}
 use Rattle.ctl_state.specs.declared.state.State.{State}
@@ -21,7 +21,7 @@ use Rattle.ctl_binds.specs.declared.batch.Drawn.{Drawn}
 use Rattle.ctl_binds.specs.Batch.{AreNames, AreNumbered, drawn_all, first_of, held_of, joins_of, opened_of}
 use Rattle.ctl_binds.specs.Drawing.{IsDrawn, MayDraw}
 use Rattle.ctl_binds.specs.Joining.{bind_for, fulfilled_all}
-use Rattle.ctl_history.specs.Binding.{bound_now}
+use Rattle.ctl_strikes.specs.Naming.{bound_now}
 
 module _ {N O I : Type 0} where
   -- nobody holds the name, neither its new holder nor any of these sockets was asked or has ended, and pairs may be drawn between them
@@ -41,6 +41,7 @@ module _ {N O I : Type 0} where
     pub each : All (IsDrawn out_name in_name c i (h.kind i.0)) drawn
     pub unstruck : (e : EndId) → next_pair c ≤ e.pair.0 → c.struck e ≡ false
     pub joined : notes.joined.items ≡ map (joins_of c) drawn
+    pub came : JoinsBy notes.joined.items h k
     pub opened : notes.opened.items ≡ flat_map opened_of drawn
     pub stands : Stands t (fulfilled_all at drawn (bound_now i.0 at c))
     pub gets : Gets (next_pair c) i.0 (map held_of drawn) h k

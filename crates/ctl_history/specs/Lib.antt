@@ -1,13 +1,8 @@
 pub mod Past
 pub mod Carried
-pub mod Bare
 pub mod Hearing
-pub mod Binding
 pub mod Connecting
-pub mod Making
-pub mod Refusals
-pub mod Striking
 pub mod Joining
 pub mod Closing
-pub mod Attaching
 pub mod Fulfilling
+pub mod Coming

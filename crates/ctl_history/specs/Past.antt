@@ -1,6 +1,5 @@
 -- The events of a control plane in their order, and the control state that they led to (own choice).
-use Rattle.std.specs.Prelude.{◌≡◌, ◌<◌, ◌≤◌, ◌+◌, ◌^◌, ℕ, false, List, [], ◌∷◌, ◌++◌, None, length, map}
-use Rattle.spec_control.specs.declared.entry.Answered.{Answered}
+use Rattle.std.specs.Prelude.{◌≡◌, ◌<◌, ◌≤◌, ◌+◌, ◌^◌, ℕ, List, [], ◌∷◌, ◌++◌, length, map, replicate}
 use Rattle.spec_control.specs.declared.entry.Did.{Did}
 use Rattle.spec_control.specs.declared.entry.Item.{Item}
 use Rattle.spec_control.specs.declared.entry.Item.TheVariants.{Event}
@@ -10,8 +9,10 @@ use Rattle.spec_control.specs.ControlRun.{after_all, IsControlRun}
 use Rattle.spec_control.specs.Reply.{most_objects, most_made_pairs}
 use Rattle.control_bounds.specs.Room.{to_come}
 use Rattle.control_bounds.specs.History.{entries_left}
+use Rattle.mailbox.specs.Mail.{Mail, no_mail, with_spare}
+use Rattle.ctl_state.specs.declared.command.Command.{Command}
 use Rattle.ctl_state.specs.declared.state.State.{State}
-use Rattle.ctl_state.specs.Boxes.{mail_at}
+use Rattle.ctl_state.specs.Boxes.{mail_at, with_mail}
 use Rattle.ctl_state.specs.Stands.{Stands}
 
 -- how many I/O workers a context has, its control events so far, in order, and the ends of closed sockets that are on their way to the reaper
@@ -24,13 +25,6 @@ module _ {N S : Type 0} where
   -- an event as an item of the one order; whose it is stands there
   abbrev pub as_item : Did N S → Item N S
   as_item did = Event (record { by = 0; did = did })
-
-  -- a holder that had no end to answer for
-  pub record IsSilent (h : Answered N S) : Type 0 where
-    pub joined : h.joined ≡ []
-    pub opened : h.opened ≡ []
-    pub settled : h.settled ≡ None
-    pub output : h.output_left ≡ false
 
 module _ {G N S : Type 0} where
   -- the events in their one order
@@ -56,6 +50,11 @@ module _ {G N S : Type 0} where
   -- each event fits the state that those before it led to
   abbrev pub IsPast : Past G N S → Type 0
   IsPast p = IsControlRun (begun p.workers) (items_of p)
+
+module _ {L : Type 0} where
+  -- the mailboxes of a context at its making: all are empty, and that of the root has room for its Term
+  abbrev pub first_boxes : ℕ → List (Mail (Command L))
+  first_boxes workers = let empty : List (Mail (Command L)) = replicate (workers + 1) no_mail in with_mail 0 (with_spare ((mail_at empty 0).spare + 1) (mail_at empty 0)) empty
 
 -- what is kept stands for the state that these events led to, with room for all that may still come into each mailbox, and into the history
 pub record IsHistory {L G N S : Type 0} (s : State L) (p : Past G N S) (spare : ℕ) : Type 0 where

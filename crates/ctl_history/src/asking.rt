@@ -4,11 +4,11 @@ ghost use Rattle.spec_control.specs.declared.request.Reply.TheVariants.{Refused}
 ghost use Rattle.spec_control.specs.declared.entry.Did.TheVariants.{Asked};
 ghost use Rattle.spec_control.specs.ControlRun.{MayAsk};
 ghost use Rattle.spec_control.specs.Reply.{reply_of, root_asked};
-ghost use Rattle.ctl_history.specs.Past.{control_of, with_event, IsSilent};
+ghost use Rattle.ctl_history.specs.Past.{control_of, with_event};
+ghost use Rattle.ctl_hears.specs.Processing.{IsSilent};
 
-use crate::ending::ask_root;
 use crate::history::History;
-use crate::stages::root_lives;
+use ctl_asks::{ask_root, root_lives};
 use msg_pipe::Pipes;
 use spec_control::{Answered, Did, Refusal, Reply, Req};
 use std::alloc::AllocError;

@@ -5,16 +5,17 @@ ghost use Rattle.spec_control.specs.Control.{next_pair};
 ghost use Rattle.spec_control.specs.Reply.{reply_of};
 ghost use Rattle.ctl_holder.specs.Turns.{HasTurned};
 ghost use Rattle.ctl_binds.specs.Drawing.{IsBack};
+ghost use Rattle.ctl_history.specs.Coming.{ComesWith};
 ghost use Rattle.ctl_history.specs.Hearing.{HasWhat};
 ghost use Rattle.ctl_history.specs.Joining.{IsOfSame, Lends, NotesRequest};
 ghost use Rattle.ctl_history.specs.Past.{control_of};
-ghost use Rattle.ctl_history.specs.Refusals.{refusal_in};
+ghost use Rattle.ctl_asks.specs.Refusals.{refusal_in};
 
 use crate::fulfilling::fulfil_all;
-use crate::hearing::silent;
 use crate::history::History;
 use crate::joining::{name_of, with_notes};
-use crate::refusals::binding_by;
+use ctl_asks::binding_by;
+use ctl_hears::silent;
 use ctl_holder::Holder;
 use msg_pipe::Pipes;
 use spec_control::{Did, Reply, Req};
@@ -56,6 +57,7 @@ where
         ensures keeps { HasWhat self.new (H.holding holder.new) }
         ensures turned { HasTurned (control_of self.old) (control_of self.new)
             (H.holding holder.old) (H.holding holder.new) }
+        ensures joins { ComesWith self.old self.new (H.holding holder.old) (H.holding holder.new) }
     {
         let at = Endpoint::Inproc(name);
         match self.bind_refusal(socket, &at) {
@@ -92,6 +94,7 @@ where
         ensures keeps { HasWhat self.new (H.holding holder.new) }
         ensures turned { HasTurned (control_of self.old) (control_of self.new)
             (H.holding holder.old) (H.holding holder.new) }
+        ensures joins { ComesWith self.old self.new (H.holding holder.old) (H.holding holder.new) }
     {
         let copy = Endpoint::Inproc(name.copy(alloc)?);
         let at = Endpoint::Inproc(name);

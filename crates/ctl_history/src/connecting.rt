@@ -4,10 +4,11 @@ ghost use Rattle.spec_control.specs.declared.request.Req.TheVariants.{Connect};
 ghost use Rattle.spec_control.specs.declared.entry.Did.TheVariants.{Asked};
 ghost use Rattle.spec_control.specs.Reply.{reply_of};
 ghost use Rattle.ctl_history.specs.Connecting.{MayWait};
-ghost use Rattle.ctl_history.specs.Past.{control_of, with_event, IsSilent};
+ghost use Rattle.ctl_history.specs.Past.{control_of, with_event};
+ghost use Rattle.ctl_hears.specs.Processing.{IsSilent};
 
 use crate::history::History;
-use crate::waiting::wait;
+use ctl_strikes::wait;
 use msg_pipe::Pipes;
 use spec_control::{Answered, Did, Reply, Req};
 use std::alloc::{AllocError, Global};

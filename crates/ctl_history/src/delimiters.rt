@@ -1,33 +1,21 @@
 ghost use Rattle.std.specs.Prelude.{◌≡◌, true, false};
-ghost use Rattle.spec_control.specs.Place.{looks};
 ghost use Rattle.spec_control.specs.Rows.{obj};
-ghost use Rattle.spec_control.specs.Control.{Control, owner_of, place_of};
+ghost use Rattle.spec_control.specs.Control.{owner_of};
 ghost use Rattle.spec_control.specs.ControlRun.{is_between};
-ghost use Rattle.ctl_state.specs.Stands.{Stands};
 ghost use Rattle.ctl_holder.specs.Turns.{HasTurned};
+ghost use Rattle.ctl_history.specs.Coming.{ComesWith};
 ghost use Rattle.ctl_history.specs.Past.{control_of};
 ghost use Rattle.ctl_history.specs.Hearing.{HasWhat, MeetsDelimiter};
 
-use crate::hearing::silent;
 use crate::history::History;
+use ctl_asks::is_looked_at;
 use ctl_ends::turn_end;
+use ctl_hears::silent;
 use ctl_holder::Holder;
-use ctl_state::State;
 use msg_pipe::Pipes;
-use spec_control::{Did, EndEvent, EndState};
+use spec_control::{Did, EndEvent};
 use std::alloc::Global;
 use zq_base::EndId;
-
-// Whether the front of the pipe that an end reads is looked at.
-fn is_looked_at<L: Drop>(state: &State<L>, e: EndId) -> bool
-    ensures { (c : Control) → Stands state.now c → result ≡ looks (place_of c e) }
-{
-    match state.end_state(e) {
-        Some(EndState::Active | EndState::WaitDelimiter) => return true,
-        Some(EndState::DelimiterGot | EndState::AckSent | EndState::AskedOnce) => return false,
-        Some(EndState::AskedTwice | EndState::Gone) | None => return false,
-    }
-}
 
 impl<P: Pipes> History<P>
 where
@@ -46,6 +34,7 @@ where
         ensures keeps { HasWhat self.new (H.holding holder.new) }
         ensures turned { HasTurned (control_of self.old) (control_of self.new)
             (H.holding holder.old) (H.holding holder.new) }
+        ensures joins { ComesWith self.old self.new (H.holding holder.old) (H.holding holder.new) }
     {
         if !is_looked_at(&self.state, e) {
             return false;

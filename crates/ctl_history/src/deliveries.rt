@@ -2,15 +2,17 @@ ghost use Rattle.std.specs.Prelude.{◌≡◌, ◌<◌, ◌&&◌, ◌==◌, ℕ,
 ghost use Rattle.std.specs.List.{list_any};
 ghost use Rattle.spec_control.specs.ControlRun.{is_between};
 ghost use Rattle.ctl_holder.specs.Turns.{HasTurned};
+ghost use Rattle.ctl_history.specs.Coming.{ComesWith};
 ghost use Rattle.ctl_history.specs.Past.{control_of};
 ghost use Rattle.ctl_holder.specs.Holding.{AreMet};
-ghost use Rattle.ctl_history.specs.Attaching.{StaysAll};
-ghost use Rattle.ctl_history.specs.Hearing.{AreApart, AreFree, AreOfKind, FindsOldest};
+ghost use Rattle.ctl_hears.specs.Attaching.{StaysAll};
+ghost use Rattle.ctl_history.specs.Hearing.{AreApart, AreOfKind, FindsOldest};
+ghost use Rattle.ctl_hears.specs.Processing.{AreFree};
 ghost use Rattle.ctl_history.specs.Hearing.{FitBinds, HasWhat, IsServed};
 
 use crate::heard::Heard;
-use crate::hearing::process;
 use crate::history::History;
+use ctl_hears::process;
 use ctl_holder::Holder;
 use ctl_state::Command;
 use msg_pipe::Pipes;
@@ -52,6 +54,7 @@ where
         ensures keeps { HasWhat self.new (H.holding holder.new) }
         ensures turned { HasTurned (control_of self.old) (control_of self.new)
             (H.holding holder.old) (H.holding holder.new) }
+        ensures joins { ComesWith self.old self.new (H.holding holder.old) (H.holding holder.new) }
     {
         let Some(command) = self.state.take(slot) else {
             return Ok(Heard::Empty);

@@ -5,13 +5,15 @@ ghost use Rattle.spec_control.specs.Rows.{obj};
 ghost use Rattle.spec_control.specs.ControlRun.{IsOpenSocket};
 ghost use Rattle.spec_control.specs.Reply.{reply_of};
 ghost use Rattle.ctl_holder.specs.Turns.{HasTurned};
-ghost use Rattle.ctl_history.specs.Past.{control_of, with_event, IsSilent};
+ghost use Rattle.ctl_history.specs.Coming.{ComesWith};
+ghost use Rattle.ctl_history.specs.Past.{control_of, with_event};
+ghost use Rattle.ctl_hears.specs.Processing.{IsSilent};
 ghost use Rattle.ctl_history.specs.Hearing.{HasWhat};
 
-use crate::disconnecting::strike_connect;
 use crate::history::History;
-use crate::refusals::disconnect_refusal;
+use ctl_asks::disconnect_refusal;
 use ctl_holder::Holder;
+use ctl_strikes::strike_connect;
 use msg_pipe::Pipes;
 use spec_control::{Answered, Did, Reply, Req};
 use std::alloc::AllocError;
@@ -44,6 +46,7 @@ where
         ensures keeps { HasWhat self.new (H.holding holder.new) }
         ensures turned { HasTurned (control_of self.old) (control_of self.new)
             (H.holding holder.old) (H.holding holder.new) }
+        ensures joins { ComesWith self.old self.new (H.holding holder.old) (H.holding holder.new) }
         ensures err { OnErr result ((self.new ≡ self.old)
             × (H.holding holder.new ≡ H.holding holder.old)) }
     {

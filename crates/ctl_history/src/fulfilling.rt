@@ -2,11 +2,11 @@ ghost use Rattle.std.specs.Prelude.{◌≡◌, length, IfOk, OnErr};
 ghost use Rattle.ctl_binds.specs.Drawing.{IsBack};
 ghost use Rattle.ctl_history.specs.Fulfilling.{Fulfils, MayFulfil};
 
-use crate::naming::take_name;
 use ctl_binds::{Batch, draw_all, join_all, undraw_all};
 use ctl_holder::{Holder, Load};
 use ctl_joins::Notes;
 use ctl_state::State;
+use ctl_strikes::take_name;
 use msg_pipe::Pipes;
 use std::alloc::{AllocError, Global};
 use zq_base::{Endpoint, ObjId};

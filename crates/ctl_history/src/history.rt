@@ -1,7 +1,10 @@
 ghost use Rattle.std.specs.Prelude.{◌≡◌, ◌<◌, ◌^◌, [], IfOk};
 ghost use Rattle.spec_control.specs.Rows.{obj};
 ghost use Rattle.spec_control.specs.Reply.{root_state, live_count, has_room};
-ghost use Rattle.ctl_history.specs.Past.{control_of};
+ghost use Rattle.spec_control.specs.Control.{begun};
+ghost use Rattle.ctl_state.specs.Listed.{no_list, with_room};
+ghost use Rattle.ctl_state.specs.Stands.{Stands};
+ghost use Rattle.ctl_history.specs.Past.{control_of, first_boxes};
 
 use ctl_holder::Load;
 use ctl_state::{RoomList, State};
@@ -40,6 +43,25 @@ impl<P: Pipes> Model for History<P> {
         h.events.spare };
 }
 
+// What is kept of a context at its making, with room for the root's Term.
+fn first_state<L: Drop>(alloc: Global, workers: u32) -> Result<State<L>, AllocError>
+    ensures stands { IfOk result (λ s. Stands s (begun workers)) }
+    ensures boxes { IfOk result (λ s. s.boxes ≡ first_boxes workers) }
+{
+    let mut state = State::new(alloc, workers)?;
+    state.reserve(SlotId(0), 1)?;
+    Ok(state)
+}
+
+// No event, with room for the root's asking and its end.
+fn first_room<D: Drop>(alloc: Global) -> Result<RoomList<D>, AllocError>
+    ensures { IfOk result (λ l. l ≡ with_room 2 no_list) }
+{
+    let mut events = RoomList::new(alloc);
+    events.reserve(2)?;
+    Ok(events)
+}
+
 impl<P: Pipes> History<P>
 where
     P::Name: Drop,
@@ -49,10 +71,8 @@ where
         requires few { workers < 2 ^ 31 }
         ensures { IfOk result (λ h. h ≡ record { workers = workers; events = []; given = [] }) }
     {
-        let mut state = State::new(alloc, workers)?;
-        state.reserve(SlotId(0), 1)?;
-        let mut events = RoomList::new(alloc);
-        events.reserve(2)?;
+        let events = first_room(alloc)?;
+        let state = first_state(alloc, workers)?;
         Ok(History {
             workers,
             state,

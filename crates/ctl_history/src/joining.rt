@@ -5,13 +5,14 @@ ghost use Rattle.spec_control.specs.declared.request.Req.TheVariants.{Connect};
 ghost use Rattle.spec_control.specs.Reply.{reply_of};
 ghost use Rattle.ctl_holder.specs.Holding.{Stays};
 ghost use Rattle.ctl_holder.specs.Turns.{HasTurned};
+ghost use Rattle.ctl_history.specs.Coming.{ComesWith};
 ghost use Rattle.ctl_history.specs.Hearing.{HasWhat};
 ghost use Rattle.ctl_history.specs.Joining.{IsName, IsNoted, IsOfSame, Lends, NotesRequest};
 ghost use Rattle.ctl_history.specs.Past.{control_of};
-ghost use Rattle.ctl_history.specs.Refusals.{refusal_in};
+ghost use Rattle.ctl_asks.specs.Refusals.{refusal_in};
 
-use crate::hearing::silent;
 use crate::history::History;
+use ctl_hears::silent;
 use ctl_holder::Holder;
 use ctl_joins::{Notes, Owners, connect_pair};
 use http_server::Log;
@@ -77,6 +78,7 @@ where
         ensures keeps { HasWhat self.new (H.holding holder.new) }
         ensures turned { HasTurned (control_of self.old) (control_of self.new)
             (H.holding holder.old) (H.holding holder.new) }
+        ensures joins { ComesWith self.old self.new (H.holding holder.old) (H.holding holder.new) }
     {
         let at = Endpoint::Inproc(name);
         match self.connect_refusal(socket, &at) {
@@ -112,6 +114,7 @@ where
         ensures keeps { HasWhat self.new (H.holding holder.new) }
         ensures turned { HasTurned (control_of self.old) (control_of self.new)
             (H.holding holder.old) (H.holding holder.new) }
+        ensures joins { ComesWith self.old self.new (H.holding holder.old) (H.holding holder.new) }
     {
         let found = self.state.find(&at);
         let name = name_of(at);
@@ -152,6 +155,7 @@ where
         ensures keeps { HasWhat self.new (H.holding holder.new) }
         ensures turned { HasTurned (control_of self.old) (control_of self.new)
             (H.holding holder.old) (H.holding holder.new) }
+        ensures joins { ComesWith self.old self.new (H.holding holder.old) (H.holding holder.new) }
     {
         let copy = Endpoint::Inproc(name.copy(alloc)?);
         let at = Endpoint::Inproc(name);

@@ -5,30 +5,21 @@
 #![tactic(auto)]
 
 mod asking;
-mod attaching;
-mod bare;
 mod binds;
 mod closing;
 mod connecting;
 mod delimiters;
 mod deliveries;
-mod disconnecting;
 mod disconnects;
-mod ending;
 mod fulfilling;
 mod heard;
-mod hearing;
 mod history;
 mod joining;
+mod mailboxes;
 mod making;
-mod naming;
-mod refusals;
 mod refused;
 mod soundness;
-mod stages;
-mod striking;
 mod unbinding;
-mod waiting;
 
 pub use heard::Heard;
 pub use history::History;

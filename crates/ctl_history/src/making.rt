@@ -1,60 +1,41 @@
-ghost use Rattle.std.specs.Prelude.{◌≡◌, ◌<◌, ◌^◌, length, None, IfOk, OnOk, OnErr};
+ghost use Rattle.std.specs.Prelude.{◌≡◌, length, None, IfOk, OnOk, OnErr};
 ghost use Rattle.spec_control.specs.declared.request.Req.TheVariants.{Socket as MakeSocket};
 ghost use Rattle.spec_control.specs.declared.entry.Did.TheVariants.{Asked};
-ghost use Rattle.spec_control.specs.After.{socket_row};
-ghost use Rattle.spec_control.specs.Control.{Control};
 ghost use Rattle.spec_control.specs.Reply.{reply_of};
-ghost use Rattle.ctl_state.specs.Objects.{row_made};
-ghost use Rattle.ctl_state.specs.Stands.{Stands};
-ghost use Rattle.ctl_history.specs.Bare.{Somewhere};
-ghost use Rattle.ctl_history.specs.Making.{TakesSocket, MakesSocket};
-ghost use Rattle.ctl_history.specs.Past.{control_of, with_event, IsSilent};
-ghost use Rattle.ctl_history.specs.Refusals.{refusal_in};
+ghost use Rattle.ctl_state.specs.Listed.{with_room};
+ghost use Rattle.ctl_asks.specs.Making.{MakesSocket, TakesSocket};
+ghost use Rattle.ctl_history.specs.Past.{control_of, with_event};
+ghost use Rattle.ctl_hears.specs.Processing.{IsSilent};
+ghost use Rattle.ctl_asks.specs.Refusals.{refusal_in};
 
 use crate::history::History;
-use crate::refusals::socket_refusal;
-use ctl_state::{Detail, Made, State};
+use ctl_asks::{make, socket_made, socket_refusal};
+use ctl_state::{Made, RoomList, State};
 use msg_pipe::Pipes;
-use spec_control::{Answered, Did, ObjKind, Reply, Req, Use};
+use spec_control::{Answered, Did, Reply, Req};
 use std::alloc::{AllocError, Global};
-use zq_base::{Kind, ObjId, Options, SlotId};
+use zq_base::{Kind, ObjId, Options};
 
-// What a socket is made with.
-fn socket_made<L: Drop>(state: &State<L>, kind: Kind, options: Options) -> Made
-    requires few { Somewhere state.now (λ c. c.slots < 2 ^ 32) }
-    ensures { (c : Control) → Stands state.now c →
-        row_made (record { 0 = 0 }) result ≡ socket_row kind options c }
-{
-    let slot = SlotId(state.boxes() as u32);
-    let detail = Detail {
-        options,
-        pair: None,
-        accepted: false,
-        stop: Use::Unused,
-        asked_link: true,
-        asked_linger: true,
-    };
-    Made {
-        kind: ObjKind::Socket(kind),
-        slot,
-        plug: false,
-        detail,
-    }
-}
-
-// Makes a socket, with room for all that may come for it and about it. Where memory wants, the
-// room is given back.
-fn make<L: Drop>(state: &mut State<L>, alloc: Global, made: Made) -> Result<ObjId, AllocError>
+// Makes a socket, with room for the events that it brings: its entry, and those of its closing, of
+// its Reap, Stop, Term and TermAck.
+fn make_with_room<L: Drop, D>(
+    state: &mut State<L>,
+    alloc: Global,
+    made: Made,
+    events: &mut RoomList<D>,
+) -> Result<ObjId, AllocError>
     requires takes { TakesSocket state.old }
     ensures number { IfOk result (λ id. id.0 ≡ length state.old.objects.tree) }
     ensures ok { OnOk result (MakesSocket made state.old state.new) }
+    ensures room { OnOk result (events.new ≡ with_room 6 events.old) }
     ensures err { OnErr result (state.new ≡ state.old) }
+    ensures back { OnErr result (events.new ≡ events.old) }
 {
-    state.reserve(SlotId(0), 2)?;
-    match state.make_socket(alloc, made, 2) {
+    events.reserve(6)?;
+    match make(state, alloc, made) {
         Ok(id) => return Ok(id),
         Err(error) => {
-            state.release(SlotId(0), 2);
+            events.release(6);
             return Err(error);
         }
     }
@@ -109,18 +90,11 @@ where
         ensures err { OnErr result (self.new ≡ self.old) }
     {
         let made = socket_made(&self.state, kind, options.copy(alloc)?);
-        // Its entry, and those of its closing, of its Reap, Stop, Term and TermAck.
-        self.events.reserve(6)?;
         self.state.needs();
-        match make(&mut self.state, alloc, made) {
-            Ok(socket) => {
-                self.events.push(Did::Asked(Req::Socket(kind, options), Reply::Object(socket), h));
-                return Ok(Reply::Object(socket));
-            }
-            Err(error) => {
-                self.events.release(6);
-                return Err(error);
-            }
-        }
+        let socket = make_with_room(&mut self.state, alloc, made, &mut self.events)?;
+        let reply = Reply::Object(socket);
+        self.events
+            .push(Did::Asked(Req::Socket(kind, options), reply, h));
+        Ok(reply)
     }
 }

@@ -4,11 +4,12 @@ ghost use Rattle.spec_control.specs.declared.entry.Did.TheVariants.{Asked};
 ghost use Rattle.spec_control.specs.Rows.{obj};
 ghost use Rattle.spec_control.specs.ControlRun.{IsOpenSocket};
 ghost use Rattle.spec_control.specs.Reply.{reply_of};
-ghost use Rattle.ctl_history.specs.Past.{control_of, with_event, IsSilent};
+ghost use Rattle.ctl_history.specs.Past.{control_of, with_event};
+ghost use Rattle.ctl_hears.specs.Processing.{IsSilent};
 
 use crate::history::History;
-use crate::refusals::unbind_refusal;
-use crate::striking::strike_bind;
+use ctl_asks::unbind_refusal;
+use ctl_strikes::strike_bind;
 use msg_pipe::Pipes;
 use spec_control::{Answered, Did, Reply, Req};
 use std::alloc::AllocError;

@@ -35,6 +35,8 @@ pub record Holding (N : Type 0) : Type 0 where
   pub turns : List (EndId × EndState)
   -- the ends whose pipes it was to seal so far, in order
   pub sealed : List EndId
+  -- the ends that joined so far, but those that were taken back, in order, each with its kind's answer
+  pub joined : List (Joining N)
 
 -- a pipe's capacity
 pub record IsCapacity (capacity : ℕ) : Type 0 where
@@ -82,13 +84,14 @@ module _ {N : Type 0} where
   abbrev pub WritesAsBefore : (old new : Holding N) → Type 0
   WritesAsBefore old new = (d : EndId) → new.writes d ≡ old.writes d
 
-  -- how far each end is that is had stays, and nothing more was told or sealed
+  -- how far each end is that is had stays, nothing more was told or sealed, and no end joined
   pub record KeepsTurns (old new : Holding N) : Type 0 where
     pub states : (i : ℕ) (d : EndId) → has_end d (new.ends i) ≡ true → new.state d ≡ old.state d
     pub turns : new.turns ≡ old.turns
     pub sealed : new.sealed ≡ old.sealed
+    pub joined : new.joined ≡ old.joined
 
-  -- ends that came begin in these states, and else all is as before
+  -- ends that came begin in these states, and else how far each is stays; nothing more was told or sealed
   pub record Begins (began : EndId → Option EndState) (old new : Holding N) : Type 0 where
     pub states : (i : ℕ) (d : EndId) → has_end d (new.ends i) ≡ true → new.state d ≡ unwrap_or (began d) (old.state d)
     pub turns : new.turns ≡ old.turns
@@ -98,17 +101,31 @@ module _ {N : Type 0} where
   abbrev pub BeginsActive : EndId → (old new : Holding N) → Type 0
   BeginsActive e old new = Begins (λ d. if is_end d e then Some Active else None) old new
 
+  -- no end came
+  abbrev pub BeginsNone : (old new : Holding N) → Type 0
+  BeginsNone old new = Begins (λ d. None) old new
+
+  -- these ends joined, behind those before
+  abbrev pub JoinsBy : List (Joining N) → (old new : Holding N) → Type 0
+  JoinsBy js old new = new.joined ≡ old.joined ++ js
+
+  -- the end that joined last is taken back
+  abbrev pub TakesBack : (old new : Holding N) → Type 0
+  TakesBack old new = (before : List (Joining N)) (last : Joining N) → old.joined ≡ before ++ last ∷ [] → new.joined ≡ before
+
   -- an end is told that it is in this state now, which is a change unless it was in it
   pub record TurnsTo (e : EndId) (state : EndState) (old new : Holding N) : Type 0 where
     pub states : (i : ℕ) (d : EndId) → has_end d (new.ends i) ≡ true → new.state d ≡ (if is_end d e then state else old.state d)
     pub turns : new.turns ≡ old.turns ++ (if is_state (old.state e) state then [] else (e, state) ∷ [])
     pub sealed : new.sealed ≡ old.sealed
+    pub joined : new.joined ≡ old.joined
 
   -- the pipe that an end writes was to be sealed
   pub record Seals (e : EndId) (old new : Holding N) : Type 0 where
     pub states : (i : ℕ) (d : EndId) → has_end d (new.ends i) ≡ true → new.state d ≡ old.state d
     pub turns : new.turns ≡ old.turns
     pub sealed : new.sealed ≡ old.sealed ++ e ∷ []
+    pub joined : new.joined ≡ old.joined
 
   -- an object's ends are these now, and else all is as before; an end that was at its delimiter is there while it is held
   pub record HoldsNow (o : ℕ) (hs : List (Held N)) (old new : Holding N) : Type 0 where
@@ -218,6 +235,10 @@ module _ {N O I : Type 0} (out_name : O → N) (in_name : I → N) where
   -- an end with these halves
   abbrev pub held_with : EndId → Halves O I → Held N
   held_with e halves = record { end = e; written = out_name halves.out; read = in_name halves.input }
+
+  -- an end that joins with these halves, whose peer has this identity, and what its kind answers
+  abbrev pub joining_with : EndId → (peer : List ℕ) → Halves O I → Attached → Joining N
+  joining_with e peer halves answer = record { end = e; peer = peer; written = out_name halves.out; read = in_name halves.input; answer = answer; met = false }
 
   -- of the two halves of each of two pipes, each end has one
   pub record AreCrossed (mine other : Halves O I) : Type 0 where

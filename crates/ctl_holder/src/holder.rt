@@ -1,4 +1,4 @@
-ghost use Rattle.std.specs.Prelude.{◌≡◌, ◌+◌, [], true, false, Some, IfOk, IfErr, OnOk, map};
+ghost use Rattle.std.specs.Prelude.{◌≡◌, ◌+◌, ◌∷◌, [], true, false, Some, IfOk, IfErr, OnOk, map};
 
 use crate::given::{Given, Parting};
 use crate::halves::Halves;
@@ -21,6 +21,7 @@ pub trait Holder<P: Pipes> {
     ghost use Rattle.ctl_holder.specs.Holding.{writes_in};
     ghost use Rattle.zq_base.specs.declared.ids.EndId.{EndId};
     ghost use Rattle.ctl_holder.specs.Holding.{KeepsTurns, BeginsActive, Begins, TurnsTo, Seals, AllStated};
+    ghost use Rattle.ctl_holder.specs.Holding.{BeginsNone, JoinsBy, TakesBack, joining_with};
     ghost use Rattle.ctl_holder.specs.Holding.{states_optional, states_given};
     ghost use Rattle.std.specs.Prelude.{Bool};
     ghost use Rattle.std.specs.Option.{ForSome};
@@ -62,7 +63,8 @@ pub trait Holder<P: Pipes> {
         ensures turns { KeepsTurns (holding self.old) (holding self.new) };
 
     /// An end joins an object, whose kind answers. It keeps the halves of an end that its kind
-    /// refuses too; the end is then no peer. Want of memory hands them back.
+    /// refuses too; the end is then no peer. The answer is kept with the end among those that joined.
+    /// Want of memory hands the halves back.
     fn attach(
         &mut self,
         alloc: Global,
@@ -77,6 +79,8 @@ pub trait Holder<P: Pipes> {
         ensures ok { OnOk result (Joined o.0 (held_with P.known.out_name P.known.in_name end halves)
             (holding self.old) (holding self.new)) }
         ensures turns { OnOk result (BeginsActive end (holding self.old) (holding self.new)) }
+        ensures joins { IfOk result (λ a. JoinsBy (joining_with P.known.out_name P.known.in_name
+            end peer.now.identity halves a ∷ []) (holding self.old) (holding self.new)) }
         ensures refuses { IfOk result (λ a. MayRefuse ((holding self.old).kind o.0) a) }
         ensures err { IfErr result (λ e. (e.value ≡ halves)
             × Stays o.0 (holding self.old) (holding self.new)
@@ -91,7 +95,8 @@ pub trait Holder<P: Pipes> {
             ≡ Some (P.known.out_name result.out) }
         ensures read { read_in ((holding self.old).ends o.0) end
             ≡ Some (P.known.in_name result.input) }
-        ensures turns { KeepsTurns (holding self.old) (holding self.new) };
+        ensures turns { BeginsNone (holding self.old) (holding self.new) }
+        ensures joins { TakesBack (holding self.old) (holding self.new) };
 
     /// An end goes to a state of its life.
     fn set_state(&mut self, o: ObjId, end: EndId, state: EndState)
@@ -154,19 +159,21 @@ pub trait Holder<P: Pipes> {
             (holding self.old) (holding self.new)) }
         ensures turns { OnOk result (Begins (states_optional end)
             (holding self.old) (holding self.new)) }
+        ensures joins { (holding self.new).joined ≡ (holding self.old).joined }
         ensures err { IfErr result (λ e. (e.value ≡ end)
             × Stays o.0 (holding self.old) (holding self.new)
             × KeepsTurns (holding self.old) (holding self.new)) };
 
-    /// An object's Term was processed.
+    /// An object's Term was processed. It is kept.
     fn told(&mut self, o: ObjId)
-        ensures { IsTold o.0 (holding self.old) (holding self.new) };
+        ensures told { IsTold o.0 (holding self.old) (holding self.new) }
+        ensures holds { (holding self.new).holds o.0 ≡ (holding self.old).holds o.0 };
 
     /// Whether a session has output left to write within its linger.
     fn output_left(&self, o: ObjId) -> bool
         ensures { result ≡ (holding self.now).output_left o.0 };
 
-    /// An object has ended.
+    /// An object has ended. It may be let go.
     fn over(&mut self, o: ObjId)
         requires { (holding self.old).ends o.0 ≡ [] }
         ensures { IsTold o.0 (holding self.old) (holding self.new) };
@@ -185,7 +192,8 @@ pub trait Holder<P: Pipes> {
         ensures turns { KeepsTurns (holding self.old) (holding self.new) }
         ensures met { AreMet (ended self.new) result.ends.items };
 
-    /// Takes the ends of a closed socket, where it is a reaper's. It needs no memory.
+    /// Takes the ends of a closed socket, where it is a reaper's. They joined their socket before, and
+    /// join nothing now. It needs no memory.
     fn take_ends(&mut self, o: ObjId, ends: Vec<Given<P::Name, P::Out, P::In>>)
         requires new { (holding self.old).holds o.0 ≡ false }
         requires met { AreMet (ended self.old) ends.items }
@@ -195,6 +203,7 @@ pub trait Holder<P: Pipes> {
         ensures at { reaps ≡ true → AreAtDelimiter (holding self.new).at_delimiter ends.items }
         ensures turns { reaps ≡ true →
             Begins (states_given ends.items) (holding self.old) (holding self.new) }
+        ensures joins { (holding self.new).joined ≡ (holding self.old).joined }
         ensures writing { reaps ≡ true → (e : EndId) → (holding self.new).writes e
             ≡ writes_in ends.items e ((holding self.old).writes e) };
 }

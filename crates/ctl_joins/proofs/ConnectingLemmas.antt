@@ -1,10 +1,9 @@
 -- That a connect makes its pair.
-use Rattle.std.specs.Prelude.{◌≡◌, ◌<◌, ◌≤◌, ◌+◌, ◌-◌, ◌^◌, ◌==◌, ◌++◌, ◌∷◌, [], ℕ, Bool, true, false, not, cond, List, Option, Some, None, length, slice_set, refl}
+use Rattle.std.specs.Prelude.{◌≡◌, ◌<◌, ◌≤◌, ◌+◌, ◌-◌, ◌^◌, ◌==◌, ◌++◌, ◌∷◌, [], ℕ, Bool, true, false, cond, List, Some, None, length, slice_set, refl}
 use Rattle.std.proofs.Common.{arith, sym, ap, ◌∙◌, subst}
 use Rattle.std.proofs.lemmas.List.{length-set, length_push, get_or_past, get_or-set_same, set-set, set-get_or}
 use Rattle.std.proofs.lemmas.Bool.{eq-eqb}
 use Rattle.zq_base.specs.Ends.{other_end}
-use Rattle.zq_base.specs.declared.attached.Attached.{Attached}
 use Rattle.zq_base.specs.declared.endpoint.Endpoint.{Endpoint}
 use Rattle.zq_base.specs.declared.ids.EndId.{EndId}
 use Rattle.zq_base.specs.declared.ids.PairId.{PairId}
@@ -16,10 +15,8 @@ use Rattle.spec_control.specs.Stage.{was_asked, has_ended}
 use Rattle.spec_control.specs.Rows.{PairRow, obj}
 use Rattle.spec_control.specs.After.{with_hold}
 use Rattle.spec_control.specs.Control.{Control, draws, end_of, greet, is_end, next_pair, open_pair, owner_of, place_of}
-use Rattle.control_held.specs.Held.{Held}
 use Rattle.control_laws.proofs.JoinLemmas.{unasked_lives}
 use Rattle.control_laws.proofs.AskLemmas.{same_end}
-use Rattle.ctl_holder.specs.declared.halves.NamedHalves.{NamedHalves}
 use Rattle.ctl_holder.specs.declared.load.Load.{Load}
 use Rattle.ctl_holder.specs.Holding.{Holding, has_end}
 use Rattle.ctl_holder.specs.Turns.{TurnsBy, turn_at}
@@ -40,8 +37,9 @@ use Rattle.ctl_state.proofs.ReadLemmas.{read_kept, read_less, read_more}
 use Rattle.ctl_joins.specs.declared.attaching.FirstEnd.{FirstEnd}
 use Rattle.ctl_joins.specs.declared.notes.Notes.{Notes}
 use Rattle.ctl_joins.specs.declared.owners.Owners.{Owners}
+use Rattle.spec_control.specs.declared.entry.Joining.{Joining}
 use Rattle.ctl_joins.specs.Attaching.{AttachesFirst, held_first}
-use Rattle.ctl_joins.specs.Connecting.{connected_now, with_hold_room, HasDrawnHeld, MayConnect, Connects}
+use Rattle.ctl_joins.specs.Connecting.{with_hold_room, MayConnect, Connects}
 use Rattle.ctl_joins.specs.Joining.{JoinsPair, MayJoin}
 use Rattle.ctl_joins.specs.Noting.{joins_named, pipes_named}
 use Rattle.ctl_joins.specs.Papers.{AreMarked}
@@ -190,7 +188,7 @@ module _ {N O I : Type 0} (s : State (Load N O I)) (h : Holding N) (o : Owners) 
           let on = ap {B = ℕ} (λ (b : Bool). cond b 1 0) (eq-eqb o.first.0 n (sym same)) in
           omega (arith, all, on)
 
-      module _ (out_name : O → N) (in_name : I → N) (end : FirstEnd N O I) (k : Holding N) (attaches : AttachesFirst out_name in_name o.first.0 (end_of pair.0 true) end h k)
+      module _ (out_name : O → N) (in_name : I → N) (end : FirstEnd N O I) (peer : List ℕ) (k : Holding N) (attaches : AttachesFirst out_name in_name o.first.0 (end_of pair.0 true) peer end h k)
           (stands : Stands held (draws o.first.0 o.last.0 (with_hold o.first.0 (IsJoined at pair.0 None) w.control))) where
         abbrev row : PairRow
         row = record { a_owner = o.first.0; b_owner = o.last.0; a = Unmade; b = Unmade }
@@ -227,13 +225,13 @@ module _ {N O I : Type 0} (s : State (Load N O I)) (h : Holding N) (o : Owners) 
           halves = record { out = attaches.other_out; input = attaches.other_in };
         }
 
-        pub connects : (identity : List ℕ) → identity ≡ (obj w.control.rows o.first.0).options.id → (peer : List ℕ) → peer ≡ (obj w.control.rows o.last.0).options.id → (t : State (Load N O I)) (last : Holding N) (notes : Notes N) →
+        pub connects : (identity : List ℕ) → identity ≡ (obj w.control.rows o.first.0).options.id → peer ≡ (obj w.control.rows o.last.0).options.id → (t : State (Load N O I)) (last : Holding N) (notes : Notes N) →
             JoinsPair out_name in_name (draws o.first.0 o.last.0 (with_hold o.first.0 (IsJoined at pair.0 None) w.control))
             (greet end.answer (end_of pair.0 true) (open_pair (end_of pair.0 true) (PipeBind (other_end (end_of pair.0 true)) identity) (draws o.first.0 o.last.0 (with_hold o.first.0 (IsJoined at pair.0 None) w.control))))
             o.first.0 (end_of pair.0 true) end.other held t k last →
             notes.joined.items ≡ joins_named (end_of pair.0 true) peer end.answer end.told ∷ [] → notes.opened.items ≡ pipes_named (end_of pair.0 true) end.opened →
             Connects out_name in_name w.control o at pair notes s t h last
-        connects identity identity_is peer peer_is t last notes j joined opened = record {
+        connects identity identity_is peer_is t last notes j joined opened = record {
           number = number_is;
           answer = end.answer;
           told = end.told;
@@ -254,6 +252,7 @@ module _ {N O I : Type 0} (s : State (Load N O I)) (h : Holding N) (o : Owners) 
               identity_is (turns_on [] _ h k last attaches.turned
               (subst (λ (p : Place). TurnsBy (turn_at (end_of pair.0 true) p (place_of (greet end.answer (end_of pair.0 true) (open_pair (end_of pair.0 true) (PipeBind (end_of pair.0 false) identity) (draws o.first.0 o.last.0 (with_hold o.first.0 (IsJoined at pair.0 None) w.control)))) (end_of pair.0 true))) k last)
               may_join.mine j.moves.turned));
+          came = j.moves.joined ∙ attaches.came ∙ ap (λ (js : List (Joining N)). h.joined ++ js) (sym joined);
           places = λ i.
               (let now = ap (λ (l : List Belongings). ends_room l i) (j.lists ∙ ap (λ (n : ℕ). with_ends (with_last (end_of pair.0 true)) n held.objects.lists) mine) in
               let less = ends_shrink held.objects.lists o.first.0 i (end_of pair.0 true) first_there (some_there o.first.0 refl) in

@@ -3,7 +3,6 @@ use Rattle.std.specs.Prelude.{◌≡◌, ◌≢◌, ◌<◌, ◌≤◌, ◌+◌,
 use Rattle.std.proofs.Common.{arith, sym, ap, ◌∙◌, subst}
 use Rattle.zq_base.specs.Ends.{other_end}
 use Rattle.zq_base.specs.declared.ids.EndId.{EndId}
-use Rattle.zq_base.specs.declared.ids.ObjId.{ObjId}
 use Rattle.mailbox.specs.Mail.{Mail, no_mail, with_sent}
 use Rattle.spec_control.specs.declared.end.EndCommands.{EndCommands}
 use Rattle.spec_control.specs.declared.end.EndCommands.TheVariants.{TermAndSeal}
@@ -14,9 +13,8 @@ use Rattle.spec_control.specs.declared.end.Reason.{Reason}
 use Rattle.spec_control.specs.declared.end.Reason.TheVariants.{Closed}
 use Rattle.spec_control.specs.declared.letter.Word.TheVariants.{PipeTerm}
 use Rattle.spec_control.specs.Place.{Place, At, is_here}
-use Rattle.spec_control.specs.Stage.{was_asked}
-use Rattle.spec_control.specs.Rows.{PairRow, no_pair, obj, end_place}
-use Rattle.spec_control.specs.Control.{Control, ask, commands_in, greet, happens, owner_of, place_of, tell_other}
+use Rattle.spec_control.specs.Rows.{PairRow, no_pair, end_place}
+use Rattle.spec_control.specs.Control.{Control, ask, commands_in, greet, happens, place_of, tell_other}
 use Rattle.zq_base.specs.declared.attached.Attached.TheVariants.{Yes}
 use Rattle.control_rows.proofs.ListLemmas.{never}
 use Rattle.control_laws.proofs.AskLemmas.{end_self}
@@ -81,6 +79,7 @@ module _ {N O I : Type 0} (s : State (Load N O I)) (h : Holding N) (o : ℕ) (fi
           mine = w.there ∙ ap At (sym w.state);
           others = λ i d here other. refl;
           turned = subst (λ (ts : List (EndId × EndState)). TurnsBy ts h h) (sym (still_at first (place_of w.control first))) (turns_same h);
+          joined = refl;
         };
       })
     where
@@ -122,6 +121,7 @@ module _ {N O I : Type 0} (s : State (Load N O I)) (h : Holding N) (o : ℕ) (fi
         turned = subst (λ (p : Place). TurnsBy (turn_at first p (place_of (ask reason false first w.control) first)) h k) (sym w.there)
             (subst (λ (p : Place). TurnsBy (turn_at first (At Active) p) h k) (sym place_is)
             (record { turns = moved.turns ∙ ap (λ (x : EndState). h.turns ++ (if is_state x AskedOnce then [] else (first, AskedOnce) ∷ [])) w.state; sealed = moved.sealed }));
+        joined = moved.joined;
       };
     }
       where
@@ -137,7 +137,7 @@ module _ {N O I : Type 0} (s : State (Load N O I)) (h : Holding N) (o : ℕ) (fi
         here = ap (has_end first) (sealed.now.ends ∙ set.now.ends) ∙ w.has
 
         moved : ToldAs TermAndSeal first AskedOnce h k
-        moved = told_as TermAndSeal first AskedOnce h m k turns same_lists (record { states = seals.states; turns = seals.turns; sealed = seals.sealed })
+        moved = told_as TermAndSeal first AskedOnce h m k turns same_lists (record { states = seals.states; turns = seals.turns; sealed = seals.sealed; joined = seals.joined })
 
         term : Command (Load N O I)
         term = letter_for (owner_at mid.pairs (other_end first)) (PipeTerm (other_end first)) None

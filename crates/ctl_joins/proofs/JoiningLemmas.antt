@@ -7,8 +7,7 @@ use Rattle.mailbox.specs.Mail.{Mail}
 use Rattle.spec_control.specs.declared.letter.Word.{Word}
 use Rattle.spec_control.specs.declared.letter.Word.TheVariants.{PipeBind}
 use Rattle.spec_control.specs.declared.end.EndState.{EndState}
-use Rattle.spec_control.specs.declared.end.EndState.TheVariants.{Active}
-use Rattle.spec_control.specs.Place.{Place, Unmade, Away, At, is_unmade}
+use Rattle.spec_control.specs.Place.{Place, is_unmade}
 use Rattle.spec_control.specs.PairPhase.{Opens as IsOpened}
 use Rattle.spec_control.specs.Stage.{was_asked}
 use Rattle.spec_control.specs.Rows.{PairRow, no_pair, obj, end_place}
@@ -114,6 +113,7 @@ module _ {N O I : Type 0} (out_name : O → N) (in_name : I → N) (s : State (L
         others = asks.moves.others;
         turned = subst (λ (ts : List (EndId × EndState)). TurnsBy ts h k)
             (ap (λ (p : Place). turn_at first p last) may_greet.there ∙ sym (from_unmade first last) ∙ sym (ap (λ (p : Place). turn_at first p last) w.mine)) asks.moves.turned;
+        joined = asks.moves.joined;
       };
     }
       where

@@ -1,22 +1,18 @@
 -- That a pair's room is kept, and given back.
-use Rattle.std.specs.Prelude.{◌≡◌, ◌<◌, ◌≤◌, ◌+◌, ◌-◌, ◌++◌, ◌∷◌, [], ℕ, Bool, List, length, slice_set, take, refl}
+use Rattle.std.specs.Prelude.{◌≡◌, ◌<◌, ◌≤◌, ◌+◌, ◌-◌, ◌++◌, ◌∷◌, [], ℕ, List, length, slice_set, take, refl}
 use Rattle.std.proofs.Common.{arith, sym, ap, ◌∙◌, subst}
 use Rattle.std.proofs.lemmas.List.{length-set, length_push, set-set, set-get_or, get_or-set_same, take_at}
-use Rattle.zq_base.specs.declared.ids.EndId.{EndId}
-use Rattle.zq_base.specs.declared.ids.ObjId.{ObjId}
 use Rattle.mailbox.specs.Mail.{Mail, no_mail, with_spare}
 use Rattle.ctl_state.specs.declared.belongings.Belongings.{Belongings}
 use Rattle.ctl_state.specs.declared.command.Command.{Command}
 use Rattle.ctl_state.specs.declared.pair.Entry.{Entry}
 use Rattle.ctl_state.specs.declared.state.State.{State}
 use Rattle.ctl_state.specs.Boxes.{mail_at, with_mail}
-use Rattle.ctl_state.specs.Listed.{Listed, with_room, without_room}
+use Rattle.ctl_state.specs.Listed.{with_room, without_room}
 use Rattle.ctl_state.specs.Lists.{no_belongings, belongings_at, with_ends}
-use Rattle.ctl_state.specs.Objects.{ObjectRows, with_lists}
-use Rattle.ctl_state.specs.Pairs.{entry_drawn}
 use Rattle.ctl_state.specs.Parts.{on_boxes, on_lists, on_pairs}
 use Rattle.ctl_joins.specs.declared.owners.Owners.{Owners}
-use Rattle.ctl_joins.specs.Room.{connecting, bound, with_more, with_commands, with_places, with_pair_room, with_drawn, HavePlaces, KeepsCommands, KeepsRoom, HasDrawn}
+use Rattle.ctl_joins.specs.Room.{with_more, with_commands, KeepsRoom}
 
 module _ {L : Type 0} where
   -- ---- commands

@@ -1,20 +1,21 @@
 -- The first end of a pair is attached at its holder (own choice, after libzmq's `pipe_t`).
-use Rattle.std.specs.Prelude.{◌≡◌, ◌≤◌, ◌∷◌, [], ℕ}
+use Rattle.std.specs.Prelude.{◌≡◌, ◌≤◌, ◌∷◌, [], ℕ, List}
 use Rattle.zq_base.specs.declared.ids.EndId.{EndId}
 use Rattle.spec_control.specs.declared.end.EndState.TheVariants.{Active}
 use Rattle.control_held.specs.Held.{Held}
-use Rattle.ctl_holder.specs.Holding.{Holding, MayRefuse}
+use Rattle.ctl_holder.specs.Holding.{Holding, JoinsBy, MayRefuse}
 use Rattle.ctl_holder.specs.Turns.{TurnsBy}
 use Rattle.ctl_joins.specs.declared.attaching.FirstEnd.{FirstEnd}
 use Rattle.ctl_joins.specs.Joined.{Gets}
+use Rattle.ctl_joins.specs.Noting.{joins_named}
 
 -- an end with these names of its pipes
 abbrev pub held_first : {N O I : Type 0} → EndId → FirstEnd N O I → Held N
 held_first end f = record { end = end; written = f.told.written; read = f.told.read }
 
 module _ {N O I : Type 0} (out_name : O → N) (in_name : I → N) where
-  -- the holder has the end; the halves of the other end are of the same two pipes, crossed
-  pub record AttachesFirst (o : ℕ) (end : EndId) (f : FirstEnd N O I) (h k : Holding N) : Type 0 where
+  -- the holder has the end, which joined with its kind's answer to a peer of this identity; the halves of the other end are of the same two pipes, crossed
+  pub record AttachesFirst (o : ℕ) (end : EndId) (peer : List ℕ) (f : FirstEnd N O I) (h k : Holding N) : Type 0 where
     pub gets : (n : ℕ) → n ≤ end.pair.0 → Gets n o (held_first end f ∷ []) h k
     pub refuses : MayRefuse (h.kind o) f.answer
     pub opened : f.opened ≡ f.told
@@ -24,3 +25,4 @@ module _ {N O I : Type 0} (out_name : O → N) (in_name : I → N) where
     pub other_in : in_name f.other.halves.input ≡ f.other.read
     pub active : k.state end ≡ Active
     pub turned : TurnsBy [] h k
+    pub came : JoinsBy (joins_named end peer f.answer f.told ∷ []) h k

@@ -12,7 +12,7 @@ use Rattle.spec_control.specs.After.{with_hold}
 use Rattle.spec_control.specs.Control.{Control, draws, end_of, greet, next_pair, open_pair, place_of}
 use Rattle.zq_base.specs.declared.ids.EndId.{EndId}
 use Rattle.ctl_holder.specs.declared.load.Load.{Load}
-use Rattle.ctl_holder.specs.Holding.{Holding, MayRefuse}
+use Rattle.ctl_holder.specs.Holding.{Holding, JoinsBy, MayRefuse}
 use Rattle.ctl_holder.specs.Lent.{HasAll}
 use Rattle.ctl_holder.specs.Turns.{TurnsBy, turn_at}
 use Rattle.ctl_ends.specs.Turning.{PutsLoaded}
@@ -76,5 +76,6 @@ module _ {N O I : Type 0} where
     pub puts : (names : EndId → Option N) → names (end_of pair.0 false) ≡ Some told.read → names (end_of pair.0 true) ≡ Some told.written → PutsLoaded out_name in_name names (with_commands o s).boxes t.boxes
     pub mine : place_of (connected_now c o at pair.0 answer) (end_of pair.0 true) ≡ At (k.state (end_of pair.0 true))
     pub turned : TurnsBy (turn_at (end_of pair.0 true) Unmade (place_of (connected_now c o at pair.0 answer) (end_of pair.0 true))) h k
+    pub came : JoinsBy notes.joined.items h k
     -- an end more fits into the other socket's list
     pub places : (i : ℕ) → (belongings_at s.objects.lists i).ends.spare + cond (o.last.0 == i) 1 0 ≤ (belongings_at t.objects.lists i).ends.spare

@@ -16,11 +16,12 @@ use Rattle.ctl_state.specs.Boxes.{mail_at}
 use Rattle.ctl_state.specs.Stands.{Stands}
 
 module _ {N : Type 0} where
-  -- of its ends one went from one place to another, and it was told so
+  -- of its ends one went from one place to another, and it was told so; none joined
   pub record MovesOne (e : EndId) (was now : Place) (h k : Holding N) : Type 0 where
     pub mine : now ≡ At (k.state e)
     pub others : (i : ℕ) (d : EndId) → has_end d (k.ends i) ≡ true → is_end d e ≡ false → k.state d ≡ h.state d
     pub turned : TurnsBy (turn_at e was now) h k
+    pub joined : k.joined ≡ h.joined
 
 module _ {N O I : Type 0} where
   -- an end was just attached, its owner was not asked, its connect was not struck, and there is room for its asking at the other end's owner

@@ -1,5 +1,5 @@
 -- What is noted of the pairs that a request makes (own choice).
-use Rattle.std.specs.Prelude.{◌≡◌, ◌≤◌, ◌+◌, ◌*◌, ◌∷◌, [], ℕ, Bool, true, false, List}
+use Rattle.std.specs.Prelude.{◌≤◌, ◌+◌, ◌*◌, ◌∷◌, [], ℕ, Bool, true, false, List}
 use Rattle.std.specs.Vec.{vec_len, vec_capacity}
 use Rattle.zq_base.specs.declared.ids.EndId.{EndId}
 use Rattle.zq_base.specs.declared.attached.Attached.{Attached}

@@ -1,5 +1,5 @@
 -- What two sockets tell each other of themselves, and the capacities of the pipes between them (zmq_setsockopt(3): ZMQ_ROUTING_ID, ZMQ_SNDHWM, ZMQ_RCVHWM).
-use Rattle.std.specs.Prelude.{◌≡◌, ◌≤◌, ◌+◌, ℕ}
+use Rattle.std.specs.Prelude.{◌≡◌, ◌≤◌, ◌+◌}
 use Rattle.spec_control.specs.Row.{Row}
 use Rattle.spec_control.specs.Rows.{obj}
 use Rattle.spec_control.specs.After.{kind_of}

@@ -64,7 +64,8 @@ where
     requires new { has_end end ((H.holding holder.old).ends o.0) ≡ false }
     requires written { IsCapacity capacities.written }
     requires read { IsCapacity capacities.read }
-    ensures ok { IfOk result (λ f. AttachesFirst P.known.out_name P.known.in_name o.0 end f
+    ensures ok { IfOk result (λ f. AttachesFirst P.known.out_name P.known.in_name o.0 end
+        peer.now.identity f
         (H.holding holder.old) (H.holding holder.new)) }
     ensures err { OnErr result (Stays o.0 (H.holding holder.old) (H.holding holder.new)) }
     ensures keeps { OnErr result (KeepsTurns (H.holding holder.old) (H.holding holder.new)) }

@@ -20,6 +20,7 @@ use Rattle.spec_control.specs.Control.{Control, met_in, place_of}
 use Rattle.control_held.specs.Held.{ends_after}
 use Rattle.control_held.specs.Has.{has_after}
 use Rattle.control_held.specs.Moments.{Moment, items_in, left_after, left_by, first_waiting}
+use Rattle.ctl_plane.specs.Kinds.{kind_after}
 use Rattle.ctl_plane.specs.declared.delivery.Delivery.{Delivery}
 use Rattle.ctl_plane.specs.declared.delivery.Delivery.TheVariants.{Done, Empty}
 use Rattle.ctl_plane.specs.declared.pumped.Pumped.{Pumped}
@@ -45,7 +46,7 @@ abbrev pub pump_limit : ℕ
 pump_limit = 64
 
 module _ {N S : Type 0} where
-  -- a holder that is lent has of its objects what the moments of its caller say: the ends that joined, each as the last moment of its object left it
+  -- a holder that is lent has of its objects what the moments of its caller say: the ends that joined, each as the last moment of its object left it, and the kind of a socket that its caller made and did not close
   pub record HasWhatTheySay (by : ℕ) (moments : List (Moment N S)) (h : Holding N) : Type 0 where
     pub objects : (i : ℕ) → h.holds i ≡ true → has_after i (items_in moments) ≡ Some by
     pub no_root : h.holds 0 ≡ false
@@ -53,6 +54,7 @@ module _ {N S : Type 0} where
     pub writes : (i : ℕ) (e : EndId) → h.holds i ≡ true → has_end e (h.ends i) ≡ true → h.writes e ≡ has_writer (place_of (left_after i moments) e)
     pub delimiters : (i : ℕ) (e : EndId) → h.holds i ≡ true → has_end e (h.ends i) ≡ true → met_in (place_of (left_after i moments) e) ((left_after i moments).reasons e) ≡ true → h.at_delimiter e ≡ true
     pub states : (i : ℕ) (e : EndId) → h.holds i ≡ true → has_end e (h.ends i) ≡ true → place_of (left_after i moments) e ≡ At (h.state e)
+    pub kinds : (i : ℕ) → h.holds i ≡ true → h.kind i ≡ kind_after i (items_in moments)
 
   -- in these moments more a holder was told of each change of state of its ends, each once, and to seal the pipes of those that were asked
   abbrev pub TurnsWith : (old new : List (Moment N S)) → (before now : Holding N) → Type 0

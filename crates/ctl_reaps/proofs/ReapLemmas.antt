@@ -1,9 +1,9 @@
 -- What the reaper has once it has taken the ends of a closed socket.
-use Rattle.std.specs.Prelude.{◌≡◌, ◌≢◌, ◌<◌, ◌==◌, ◌&&◌, ◌||◌, ◌⊎◌, ◌∷◌, [], ℕ, Bool, true, false, List, Some, None, All, filter, is_some, map, unwrap_or, if◌then◌else◌, refl}
+use Rattle.std.specs.Prelude.{◌≡◌, ◌≢◌, ◌<◌, ◌==◌, ◌&&◌, ◌||◌, ◌⊎◌, ◌∷◌, [], ℕ, Bool, true, false, List, Some, None, All, filter, is_some, map, unwrap_or, if◌then◌else◌, length, not, refl}
 use Rattle.std.specs.List.{list_any}
 use Rattle.std.proofs.Common.{sym, ap, ◌∙◌, subst, inl, inr}
 use Rattle.std.proofs.lemmas.Bool.{cases_eq, eqb-true}
-use Rattle.std.proofs.lemmas.List.{append-nil}
+use Rattle.std.proofs.lemmas.List.{append-nil, get_or-set_same}
 use Rattle.std.proofs.lemmas.List.Elements.{All-nil, All-cons, All-head, All-tail, All-weaker, All-map, All-filter, filter_passes}
 use Rattle.zq_base.specs.declared.ids.EndId.{EndId}
 use Rattle.zq_base.specs.declared.ids.ObjId.{ObjId}
@@ -16,17 +16,18 @@ use Rattle.spec_control.specs.declared.stage.Use.TheVariants.{Unused, OnItsWay, 
 use Rattle.spec_control.specs.Stage.{is_alive, is_coming}
 use Rattle.spec_control.specs.declared.end.EndState.{EndState}
 use Rattle.spec_control.specs.Place.{At, is_here}
-use Rattle.spec_control.specs.Row.{Row, is_socket, ReapComes}
+use Rattle.spec_control.specs.Row.{Row, is_socket, link_after, nobody, ReapComes}
 use Rattle.spec_control.specs.Rows.{obj}
 use Rattle.spec_control.specs.Control.{Control, ends_of, is_end, link, met_in, owner_of, place_of, put}
-use Rattle.spec_control.specs.ControlRun.{Joins, reap_joins, taken_over}
+use Rattle.spec_control.specs.ControlRun.{Joins, is_between, reap_joins, taken_over}
 use Rattle.control_held.specs.Held.{Held}
-use Rattle.control_rows.proofs.ListLemmas.{never, left, right}
+use Rattle.control_rows.proofs.ListLemmas.{never, left, placed, right}
 use Rattle.control_laws.proofs.AskLemmas.{same_end}
 use Rattle.ctl_holder.specs.declared.given.Given.{Given}
 use Rattle.ctl_holder.specs.declared.given.Parting.{Parting}
 use Rattle.ctl_holder.specs.declared.load.Load.{Load}
 use Rattle.ctl_holder.specs.Holding.{Holding, IsPlugged, Begins, AreAtDelimiter, given_as, held_given, has_end, states_given, writes_in}
+use Rattle.ctl_holder.specs.Joins.{KeepsObjects}
 use Rattle.ctl_holder.specs.Turns.{TurnsBy, HasTurned}
 use Rattle.ctl_holder.specs.Lent.{HasBothNames, HasEnds, HasAll, has_writer}
 use Rattle.ctl_holder.specs.Load.{IsNamed}
@@ -203,6 +204,37 @@ module _ {N O I : Type 0} (out_name : O → N) (in_name : I → N) (s : State (L
     reaper_turned =
         subst (λ (ts : List (EndId × EndState)). TurnsBy ts h k) (sym (in_none w.control (put socket.0 Term (link ReapComes socket.0 w.control)) (λ e. refl)))
         (record { turns = begins.turns ∙ sym (append-nil h.turns); sealed = begins.sealed ∙ sym (append-nil h.sealed) })
+
+    -- the objects that it had are there
+    pub reaper_objects : KeepsObjects w.control (put socket.0 Term (link ReapComes socket.0 w.control)) h k
+    reaper_objects = record {
+      holds = λ i stays. other i stays.way {Q = λ n. k.holds n ≡ h.holds n} (λ n ne. (plugged.others n ne).0);
+      kinds = λ i stays. other i stays.way {Q = λ n. k.kind n ≡ h.kind n} (λ n ne. (plugged.others n ne).1.1);
+    }
+      where
+        was : Row
+        was = obj w.control.rows socket.0
+
+        came : is_between was ≡ true
+        came = ap (λ (b : Bool). is_socket was.kind && b) (left (is_coming was.request) (is_alive was.stage && is_socket was.kind) w.reaps.comes) ∙ ap (λ (b : Bool). b && true) (right (is_alive was.stage) (is_socket was.kind) (right (is_coming was.request) (is_alive was.stage && is_socket was.kind) w.reaps.comes))
+
+        there : socket.0 < length w.control.rows.objects
+        there = placed (λ (o : Row). not (is_coming o.request)) w.control.rows.objects nobody socket.0 refl (ap not (left (is_coming was.request) (is_alive was.stage && is_socket was.kind) w.reaps.comes))
+
+        gone : is_between (obj (put socket.0 Term (link ReapComes socket.0 w.control)).rows socket.0) ≡ false
+        gone = ap is_between (get_or-set_same w.control.rows.objects socket.0 (link_after ReapComes was) nobody there) ∙ none (is_socket was.kind)
+          where
+            none : (b : Bool) → (b && false) ≡ false
+            none true = refl
+            none false = refl
+
+        other : (i : ℕ) → is_between (obj (put socket.0 Term (link ReapComes socket.0 w.control)).rows i) ≡ is_between (obj w.control.rows i) →
+            {Q : ℕ → Type 0} → ((n : ℕ) → n ≢ socket.0 → Q n) → Q i
+        other i way rest =
+            elim (cases_eq i socket.0) [
+              | inl same ↦ absurd (never (sym (sym came ∙ subst (λ (n : ℕ). is_between (obj w.control.rows n) ≡ false) same (sym way ∙ subst (λ (n : ℕ). is_between (obj (put socket.0 Term (link ReapComes socket.0 w.control)).rows n) ≡ false) (sym same) gone))))
+              | inr ne ↦ rest i ne
+            ]
 
     pub reaper_has : HasAll w.names (put socket.0 Term (link ReapComes socket.0 w.control)) k
     reaper_has = has_same w.names w.control (put socket.0 Term (link ReapComes socket.0 w.control)) k (record { pairs = refl; attached = refl; reasons = refl }) all

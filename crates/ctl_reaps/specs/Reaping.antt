@@ -9,6 +9,7 @@ use Rattle.spec_control.specs.Control.{Control, link, put}
 use Rattle.ctl_holder.specs.declared.given.Parting.{Parting}
 use Rattle.ctl_holder.specs.declared.load.Load.{Load}
 use Rattle.ctl_holder.specs.Holding.{Holding}
+use Rattle.ctl_holder.specs.Joins.{KeepsObjects}
 use Rattle.ctl_holder.specs.Lent.{HasAll}
 use Rattle.ctl_holder.specs.Turns.{HasTurned}
 use Rattle.ctl_holder.specs.Load.{AreEndsOfClosed, GivesAll}
@@ -36,10 +37,12 @@ module _ {N O I : Type 0} (out_name : O → N) (in_name : I → N) where
     pub has : HasAll names control h
     pub reaps : ReapsAt names control s h socket parting
 
-  -- the socket is told, and its ends are the reaper's, each as far as it was
+  -- the socket is told, and its ends are the reaper's, each as far as it was; they joined before, and its other objects are as before
   pub record TakesOver (names : EndId → Option N) (c : Control) (socket : ℕ) (s t : State (Load N O I)) (h k : Holding N) : Type 0 where
     pub stands : Stands t (put socket Term (link ReapComes socket c))
     pub has : HasAll names (put socket Term (link ReapComes socket c)) k
     pub puts : PutsLoaded out_name in_name names s.boxes t.boxes
     pub lists : t.objects.lists ≡ s.objects.lists
     pub turned : HasTurned c (put socket Term (link ReapComes socket c)) h k
+    pub joined : k.joined ≡ h.joined
+    pub objects : KeepsObjects c (put socket Term (link ReapComes socket c)) h k

@@ -1,4 +1,4 @@
-ghost use Rattle.std.specs.Prelude.{◌≡◌, ◌≢◌, ◌+◌, ◌-◌, ◌<◌, ◌≤◌, ◌++◌, ◌∷◌, [], length, replicate, take, true, IfOk, OnOk, OnErr, IfSome, IfNone};
+ghost use Rattle.std.specs.Prelude.{◌≡◌, ◌≢◌, ◌↔◌, ◌+◌, ◌-◌, ◌<◌, ◌≤◌, ◌++◌, ◌∷◌, [], length, replicate, take, true, IsTrue, IfOk, OnOk, OnErr, IfSome, IfNone};
 ghost use Rattle.mailbox.specs.Mail.{no_mail, with_spare, with_sent, with_put_back};
 ghost use Rattle.ctl_state.specs.Boxes.{mail_at, with_mail, Takes};
 
@@ -88,6 +88,14 @@ impl<L: Drop> Boxes<L> {
         ensures { self.new ≡ with_mail slot.0 (with_sent command (mail_at self.old slot.0)) self.old }
     {
         self.boxes[slot.0 as usize].send(command);
+    }
+
+    /// Whether no command waits in a mailbox.
+    pub fn is_empty(&self, slot: SlotId) -> bool
+        requires there { slot.0 < length self.now }
+        ensures { IsTrue result ↔ ((mail_at self.now slot.0).commands ≡ []) }
+    {
+        self.boxes[slot.0 as usize].is_empty()
     }
 
     /// Takes the oldest command of a mailbox out.

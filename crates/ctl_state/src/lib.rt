@@ -10,6 +10,7 @@ mod boxes;
 mod children;
 mod command;
 mod detail;
+mod empty;
 mod ending;
 mod ends;
 mod hold;

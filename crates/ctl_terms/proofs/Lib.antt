@@ -1,5 +1,6 @@
 pub mod HolderLemmas
 pub mod PutLemmas
 pub mod AskLemmas
+pub mod KeepLemmas
 pub mod TermLemmas
 pub mod AskedLemmas

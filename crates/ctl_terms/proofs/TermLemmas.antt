@@ -46,6 +46,7 @@ use Rattle.ctl_terms.specs.Asking.{MayAskAll, asked_turns}
 use Rattle.ctl_terms.specs.Terming.{names_left, ends_asked, children_told, MayTerm, Turns}
 use Rattle.ctl_terms.proofs.AskLemmas.{room_led}
 use Rattle.ctl_terms.proofs.AskedLemmas.{asks_over}
+use Rattle.ctl_terms.proofs.KeepLemmas.{ended_now, told_kept, told_lives}
 use Rattle.ctl_terms.proofs.HolderLemmas.{has_same, has_told, bare_loaded, ended_has_none}
 
 -- ---- who was told may be asked
@@ -207,15 +208,18 @@ module _ {N O I : Type 0} (out_name : O → N) (in_name : I → N) (s : State (L
 
       -- ---- behind the ending
       pub termed : (v : State (Load N O I)) (l : Holding N) → HasAll w.names (ends_asked at.0 w.control) k → (at.0 ≢ 0 → k.holds at.0 ≡ true) → t.objects.lists ≡ s.objects.lists → Tells u v → Stands v (try_end at.0 false (children_told at.0 w.control)) →
-          IsTold at.0 k l → (at.0 ≡ 0 → l ≡ k) →
+          IsTold at.0 k l → (at.0 ≡ 0 → l ≡ k) → (ended : Bool) → (ended ≡ false → l.holds at.0 ≡ k.holds at.0) → (ended ≡ true → may_end (children_told at.0 w.control).rows at.0 ≡ true) →
+          k.joined ≡ h.joined → ((i : ℕ) → k.holds i ≡ h.holds i) → ((i : ℕ) → k.kind i ≡ h.kind i) →
           TurnsBy (asked_turns (term_reason (obj w.control.rows at.0).kind) (term_delay (obj w.control.rows at.0)) (ends_of at.0 (names_left at.0 w.control)) (names_left at.0 w.control)) h k →
           Turns out_name in_name w.names w.control (try_end at.0 false (children_told at.0 w.control)) s v h l
-      termed v l has lent lists ends now is_told root asked = record {
+      termed v l has lent lists ends now is_told root ended kept gone joined holds kinds asked = record {
         stands = now;
         has = holder_has (cases_eq at.0 0);
         puts = puts_on out_name in_name w.names s.boxes u.boxes v.boxes told_puts (bare_loaded out_name in_name w.names u.boxes v.boxes ends.bare);
         lists = ends.lists ∙ tells.lists ∙ lists;
         turned = λ once. turns_kept (turned_in w.control last) h k l (subst (λ (ts : List (EndId × EndState)). TurnsBy ts h k) (sym (they_are once)) asked) is_told.turns;
+        joined = is_told.turns.joined ∙ joined;
+        objects = told_kept w.control last at.0 ended h k l holds kinds is_told kept (told_lives (obj w.control.rows at.0).stage _ w.comes) (λ is. ended_now at.0 (children_told at.0 w.control) (gone is));
       }
         where
           last : Control

@@ -9,6 +9,7 @@ use Rattle.spec_control.specs.After.{term_reason, term_delay, without_names}
 use Rattle.control_moves.specs.Move.{LinkMoves}
 use Rattle.ctl_holder.specs.declared.load.Load.{Load}
 use Rattle.ctl_holder.specs.Holding.{Holding}
+use Rattle.ctl_holder.specs.Joins.{KeepsObjects}
 use Rattle.ctl_holder.specs.Lent.{HasAll}
 use Rattle.ctl_state.specs.declared.state.State.{State}
 use Rattle.ctl_state.specs.Stands.{Stands}
@@ -38,13 +39,15 @@ module _ {N O I : Type 0} where
     pub room : HasRoomOver (LinkMoves at TermComes ∷ []) control s
 
 module _ {N O I : Type 0} (out_name : O → N) (in_name : I → N) where
-  -- the state was changed so, with the holder, which was told of each change of its ends, and commands were put
+  -- the state was changed so, with the holder, which was told of each change of its ends and lets no object go but one that ended, and commands were put; no end joined
   pub record Turns (names : EndId → Option N) (was now : Control) (s t : State (Load N O I)) (h k : Holding N) : Type 0 where
     pub stands : Stands t now
     pub has : HasAll names now k
     pub puts : PutsLoaded out_name in_name names s.boxes t.boxes
     pub lists : t.objects.lists ≡ s.objects.lists
     pub turned : TurnsOnce was now h k
+    pub joined : k.joined ≡ h.joined
+    pub objects : KeepsObjects was now h k
 
   -- the object has done what its Term asks of it
   abbrev pub Terms : (names : EndId → Option N) → Control → ℕ → (s t : State (Load N O I)) → (h k : Holding N) → Type 0

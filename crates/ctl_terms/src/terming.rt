@@ -1,4 +1,4 @@
-ghost use Rattle.std.specs.Prelude.{◌≡◌, ◌≢◌, [], true};
+ghost use Rattle.std.specs.Prelude.{◌≡◌, ◌≢◌, [], true, false};
 ghost use Rattle.ctl_holder.specs.Holding.{IsTold};
 ghost use Rattle.ctl_terms.specs.Terming.{MayTerm, Terms};
 
@@ -14,6 +14,8 @@ use zq_base::ObjId;
 fn tell_holder<P: Pipes, H: Holder<P>>(holder: &mut H, at: ObjId, ended: bool)
     requires none { ended ≡ true → at.0 ≢ 0 → (H.holding holder.old).ends at.0 ≡ [] }
     ensures told { IsTold at.0 (H.holding holder.old) (H.holding holder.new) }
+    ensures kept { ended ≡ false →
+        (H.holding holder.new).holds at.0 ≡ (H.holding holder.old).holds at.0 }
     ensures root { at.0 ≡ 0 → H.holding holder.new ≡ H.holding holder.old }
 {
     if at.0 == 0 {

@@ -6,18 +6,17 @@ use Rattle.zq_base.specs.Ends.{PipeId}
 use Rattle.msg_pipe.specs.Known.{Known, IsThere, KeepsButIn}
 use Rattle.ends.specs.declared.row.EndRow.{EndRow}
 use Rattle.ends.specs.Rows.{Rows, Table, row_at}
-use Rattle.ends.specs.Runs.{OutDoes, InDoes, CallsAt, OutCall, InCall, DoesAll}
+use Rattle.ends.specs.Runs.{OutDoes, InDoes, CallsAt, OutCall, InCall, DoesAll, is_seal, seals}
 use Rattle.held_ends.specs.declared.table.Place.{Place}
 use Rattle.held_ends.specs.Places.{place_at}
 use Rattle.held_ends.specs.Sound.{WritesSo, StandsSo, IsSound}
-use Rattle.held_ends.specs.Calls.{is_seal, seals}
 use Rattle.held_ends.proofs.PlaceLemmas.{row_there, row_else}
 use Rattle.held_ends.proofs.SoundLemmas.{one_some, Carries, updated, others_written}
 use Rattle.held_ends.proofs.HalfLemmas.{within}
 use Rattle.held_ends.proofs.EndsLemmas.{of_row}
 
 -- a place that stays
-same_place : {N I : Type 0} (ps : List (Place N I)) (k : ℕ) (p : Place N I) → place_at ps k ≡ Some p → set ps k p ≡ ps
+pub same_place : {N I : Type 0} (ps : List (Place N I)) (k : ℕ) (p : Place N I) → place_at ps k ≡ Some p → set ps k p ≡ ps
 same_place [] k p at = refl
 same_place (x ∷ xs) zero p at = ap (λ (y : Place _ _). y ∷ xs) (sym (one_some x p at))
 same_place (x ∷ xs) (suc k) p at = ap (λ (l : List (Place _ _)). x ∷ l) (same_place xs k p at)

@@ -6,3 +6,4 @@ pub mod EndsLemmas
 pub mod MakeLemmas
 pub mod GivingLemmas
 pub mod CallLemmas
+pub mod LookLemmas

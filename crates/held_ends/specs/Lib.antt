@@ -4,3 +4,4 @@ pub mod Halving
 pub mod Attaching
 pub mod Giving
 pub mod Calls
+pub mod Looking

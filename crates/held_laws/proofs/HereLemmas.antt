@@ -1,13 +1,13 @@
 -- Which ends of an object are there behind an event.
-use Rattle.std.specs.Prelude.{◌≡◌, ◌<◌, ◌==◌, ◌&&◌, ℕ, Bool, true, false, not, cond, List, [], ◌∷◌, ◌++◌, Some, All, filter, refl}
-use Rattle.std.proofs.Common.{arith, sym, ap, ◌∙◌, subst}
+use Rattle.std.specs.Prelude.{◌≡◌, ◌==◌, ◌&&◌, ℕ, Bool, true, false, not, cond, List, [], ◌∷◌, ◌++◌, Some, All, filter, refl}
+use Rattle.std.proofs.Common.{arith, sym, ap, ◌∙◌}
 use Rattle.std.proofs.lemmas.Bool.{eq-eqb, ne_eqb}
 use Rattle.std.proofs.lemmas.List.{append-nil}
-use Rattle.std.proofs.lemmas.List.Elements.{All-head, All-tail, All-append, All-weaker, All-nil, All-cons, filter-append}
+use Rattle.std.proofs.lemmas.List.Elements.{All-head, All-tail, All-weaker, All-nil, All-cons, filter-append}
 use Rattle.zq_base.specs.declared.ids.EndId.{EndId}
 use Rattle.spec_control.specs.declared.entry.Did.{Did}
 use Rattle.spec_control.specs.Place.{is_here}
-use Rattle.spec_control.specs.Control.{Control, next_pair, owner_of, place_of}
+use Rattle.spec_control.specs.Control.{Control, owner_of, place_of}
 use Rattle.spec_control.specs.After.{after}
 use Rattle.spec_control.specs.ControlRun.{Fits}
 use Rattle.control_held.specs.Held.{subject_of}
@@ -15,7 +15,6 @@ use Rattle.control_laws.specs.Kept.{Kept}
 use Rattle.control_moves.specs.Move.{Move}
 use Rattle.control_moves.specs.OwnMoves.{own_moves}
 use Rattle.ctl_holder.specs.Lent.{here_ends}
-use Rattle.control_attached.proofs.MoveLemmas.{is_at}
 use Rattle.control_attached.proofs.LeadLemmas.{attached_by, goes_by, New, old_end, new_ends}
 use Rattle.control_attached.proofs.AttachedLemmas.{attached_after}
 use Rattle.control_attached.proofs.OnceLemmas.{IsOld, AreOld}

@@ -1,11 +1,11 @@
 mod OwnerLemmas
 mod HereLemmas
-mod BetweenLemmas
-mod EventLemmas
+pub mod BetweenLemmas
+pub mod EventLemmas
 mod LawLemmas
 mod StepLemmas
 mod OthersLemmas
-mod MomentLemmas
+pub mod MomentLemmas
 mod NobodyLemmas
-mod HaveLemmas
-mod SayLemmas
+pub mod HaveLemmas
+pub mod SayLemmas

@@ -19,8 +19,8 @@ use Rattle.control_held.proofs.OwnLemmas.{own_items_are_whole}
 use Rattle.control_rows.proofs.ListLemmas.{never}
 use Rattle.control_laws.proofs.RootLemmas.{begun_kept}
 use Rattle.ctl_holder.specs.Holding.{Holding, has_end}
-use Rattle.ctl_holder.specs.Lent.{has_writer, here_ends, HasBothNames, HasEnds, HasAll}
-use Rattle.ctl_plane.specs.Desk.{HasWhatTheySay}
+use Rattle.ctl_holder.specs.Lent.{has_writer, HasBothNames, HasEnds}
+use Rattle.ctl_plane.specs.Kinds.{kind_after}
 use Rattle.held_laws.specs.Laws.{HoldersHaveWhatIsSaid}
 use Rattle.control_attached.proofs.OnceLemmas.{IsOld}
 use Rattle.held_laws.proofs.MomentLemmas.{AsLeft, own_moments, left_snoc}
@@ -108,13 +108,14 @@ module _ {N S : Type 0} (workers : ℕ) (items : List (Item N S)) (run : IsContr
   said_states e is = (left e is).place ∙ ends.states e is
 
 pub holders_have_what_is_said : (N S : Type 0) → HoldersHaveWhatIsSaid N S
-holders_have_what_is_said N S workers items run named may k h no_root has all = record {
+holders_have_what_is_said N S workers items run named may k h no_root has kinds all = record {
   objects = λ i holds. said_object workers items run named may k h i (above i holds) (has i holds) (all i holds);
   no_root = no_root;
   ends = λ i holds. said_ends workers items run named may k h i (above i holds) (has i holds) (all i holds);
   writes = λ i e holds is. said_writes workers items run named may k h i (above i holds) (has i holds) (all i holds) e is;
   delimiters = λ i e holds is met. said_met workers items run named may k h i (above i holds) (has i holds) (all i holds) e is met;
   states = λ i e holds is. said_states workers items run named may k h i (above i holds) (has i holds) (all i holds) e is;
+  kinds = λ i holds. kinds i holds ∙ ap (kind_after i) (sym (own_moments k items (begun workers)));
 }
   where
     above : (i : ℕ) → h.holds i ≡ true → i ≢ 0

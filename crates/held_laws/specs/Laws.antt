@@ -8,13 +8,14 @@ use Rattle.spec_control.specs.Control.{begun}
 use Rattle.spec_control.specs.After.{after}
 use Rattle.spec_control.specs.ControlRun.{Fits, after_all, is_between, IsControlRun}
 use Rattle.spec_control.specs.Names.{name_of, AreNamed}
-use Rattle.control_held.specs.Held.{ends_after}
+use Rattle.control_held.specs.Held.{ends_after, items_by}
 use Rattle.control_held.specs.Has.{has_after, AreBy}
 use Rattle.control_held.specs.Moments.{moments_from, moments_by}
 use Rattle.control_others.specs.Spared.{touched_in}
 use Rattle.ctl_holder.specs.Holding.{Holding}
 use Rattle.ctl_holder.specs.Lent.{here_ends, HasAll}
 use Rattle.ctl_plane.specs.Desk.{HasWhatTheySay}
+use Rattle.ctl_plane.specs.Kinds.{kind_after}
 
 -- of an object that somebody has: between a socket's close and its Reap nobody does
 abbrev pub EndsAreHere : (N S : Type 0) → Type 0
@@ -33,8 +34,9 @@ abbrev pub LentHoldersHaveIt : (N S : Type 0) → Type 0
 LentHoldersHaveIt N S = (workers : ℕ) (items : List (Item N S)) → IsControlRun (begun workers) items → AreNamed [] items → AreBy [] (begun workers) items →
     (k : ℕ) (h : Holding N) → HasWhatTheySay k (moments_by k (moments_from (begun workers) items)) h → HasAll (name_of items) (after_all items (begun workers)) h
 
--- and the other way round, of the objects that this caller has: what a call leaves a holder with is what the moments say, with that of the call
+-- and the other way round, of the objects that this caller has, with the kinds that its items say: what a call leaves a holder with is what the moments say, with that of the call
 abbrev pub HoldersHaveWhatIsSaid : (N S : Type 0) → Type 0
 HoldersHaveWhatIsSaid N S = (workers : ℕ) (items : List (Item N S)) → IsControlRun (begun workers) items → AreNamed [] items → AreBy [] (begun workers) items →
     (k : ℕ) (h : Holding N) → h.holds 0 ≡ false → ((i : ℕ) → h.holds i ≡ true → has_after i items ≡ Some k) →
+    ((i : ℕ) → h.holds i ≡ true → h.kind i ≡ kind_after i (items_by k items)) →
     HasAll (name_of items) (after_all items (begun workers)) h → HasWhatTheySay k (moments_by k (moments_from (begun workers) items)) h

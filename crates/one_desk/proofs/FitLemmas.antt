@@ -22,7 +22,7 @@ module _ {N S : Type 0} where
   alone did = IsEvent (record { by = 0; did = did })
 
   -- ---- the last event
-  last_fits : (dids : List (Did N S)) (did : Did N S) (c : Control) → IsControlRun c (map alone (dids ++ did ∷ [])) → Fits (after_all (map alone dids) c) did
+  pub last_fits : (dids : List (Did N S)) (did : Did N S) (c : Control) → IsControlRun c (map alone (dids ++ did ∷ [])) → Fits (after_all (map alone dids) c) did
   last_fits [] did c run = run.0
   last_fits (d ∷ dids) did c run = last_fits dids did (after d c) run.1
 
@@ -36,6 +36,13 @@ module _ {N S : Type 0} where
   last_named past [] did are = subst (λ (xs : List (Item N S)). FitsNames xs (alone did)) (sym (append-nil past)) are.0
   last_named past (d ∷ dids) did are =
       subst (λ (xs : List (Item N S)). FitsNames xs (alone did)) (append_assoc past (alone d ∷ []) (map alone dids)) (last_named (past ++ alone d ∷ []) dids did are.1)
+
+  pub order_names : (ms : List Mark) (dids : List (Did N S)) → AreMarked ms dids → flat_map named_in (order_of ms dids) ≡ flat_map named_in (map alone dids)
+  order_names [] [] marked = refl
+  order_names [] (d ∷ dids) marked = let none : 1 + length dids ≡ 0 = omega (arith, marked) in none_of (length dids) none
+  order_names (Event k ∷ ms) [] marked = none_of (events_in ms) marked
+  order_names (Event k ∷ ms) (d ∷ dids) marked = ap (λ (ns : List (PipeName N)). (answer_of d).opened ++ ns) (order_names ms dids (omega (arith, marked)))
+  order_names (Seen sight ∷ ms) dids marked = order_names ms dids marked
 
   names_same : (ms : List Mark) (dids : List (Did N S)) (by : ℕ) (did : Did N S) → AreMarked ms dids →
       flat_map named_in (map alone dids ++ alone did ∷ []) ≡ flat_map named_in (order_of ms dids ++ IsEvent (record { by = by; did = did }) ∷ [])

@@ -49,7 +49,7 @@ module _ {N S : Type 0} where
   looks_nothing (Seen sight ∷ ms) dids c marked = looks_nothing ms dids c marked
 
   -- ---- an item more
-  after_more : (items : List (Item N S)) (item : Item N S) (c : Control) → after_all (items ++ item ∷ []) c ≡ after_item item (after_all items c)
+  pub after_more : (items : List (Item N S)) (item : Item N S) (c : Control) → after_all (items ++ item ∷ []) c ≡ after_item item (after_all items c)
   after_more [] item c = refl
   after_more (x ∷ items) item c = after_more items item (after_item x c)
 

@@ -2,6 +2,7 @@ ghost use Rattle.std.specs.Prelude.{◌≡◌, [], IfOk, OnErr};
 ghost use Rattle.spec_control.specs.declared.request.Req.TheVariants.{AskTerm};
 ghost use Rattle.spec_control.specs.Reply.{reply_of};
 ghost use Rattle.ctl_history.specs.Past.{control_of};
+ghost use Rattle.ctl_hears.specs.Processing.{IsSilent};
 ghost use Rattle.one_desk.specs.Lent.{Asks};
 
 use crate::mark::Mark;
@@ -13,16 +14,31 @@ use std::alloc::{AllocError, Global};
 use std::marker::Model;
 use zq_base::Seq;
 
+/// A holder that had no end to answer for. It takes no memory.
+pub(crate) fn silent<N, S>(alloc: Global) -> Answered<N, S>
+    ensures { IsSilent result }
+{
+    Answered {
+        joined: Seq::new(alloc),
+        opened: Seq::new(alloc),
+        settled: None,
+        output_left: false,
+        stories: Log::new(),
+    }
+}
+
 /// The control plane of a context whose callers take turns, lent to one of them.
 #[derive(Drop)]
 pub struct OneDesk<P: Pipes> {
-    history: History<P>,
-    order: Log<Mark, ()>,
-    caller: u32,
+    pub(crate) history: History<P>,
+    pub(crate) order: Log<Mark, ()>,
+    pub(crate) caller: u32,
+    // One for each mailbox.
+    pub(crate) wakers: Vec<P::Waker>,
 }
 
 impl<P: Pipes> Model for OneDesk<P> {
-    ghost use Rattle.std.specs.Prelude.{map};
+    ghost use Rattle.std.specs.Prelude.{map, length};
     ghost use Rattle.ctl_holder.specs.declared.given.Given.{Given};
     ghost use Rattle.one_desk.specs.Lent.{Lent, IsLent, lent_to};
 
@@ -30,26 +46,32 @@ impl<P: Pipes> Model for OneDesk<P> {
 
     ghost view = { λ d. lent_to d.caller (map (λ x. x.0) d.order.items) d.history };
 
-    ghost invariant = { λ d. IsLent (map (λ x. x.0) d.order.items) d.history };
+    ghost invariant = { λ d. IsLent (map (λ x. x.0) d.order.items) d.history (length d.wakers.items) };
 }
 
 impl<P: Pipes> OneDesk<P>
 where
     P::Name: Drop,
+    P::Waker: Drop,
 {
-    /// A context at its making, with one I/O worker.
-    pub fn new(alloc: Global) -> Result<OneDesk<P>, AllocError>
+    /// A context at its making, with one I/O worker. The reaper and the I/O worker are woken by
+    /// these.
+    pub fn new(alloc: Global, reaper: P::Waker, worker: P::Waker) -> Result<OneDesk<P>, AllocError>
         ensures { IfOk result (λ d. d ≡ record {
           past = record { workers = 1; events = []; given = [] };
           items = [];
           caller = 0;
         }) }
     {
+        let mut wakers = Vec::new(alloc);
+        wakers.push(reaper)?;
+        wakers.push(worker)?;
         let history = History::new(alloc, 1)?;
         Ok(OneDesk {
             history,
             order: Log::new(),
             caller: 0,
+            wakers,
         })
     }
 
@@ -66,14 +88,7 @@ where
         ensures reply { IfOk result (λ reply. reply ≡ reply_of (control_of self.old.past) AskTerm) }
         ensures err { OnErr result (self.new ≡ self.old) }
     {
-        let answered = Answered {
-            joined: Seq::new(alloc),
-            opened: Seq::new(alloc),
-            settled: None,
-            output_left: false,
-            stories: Log::new(),
-        };
-        let reply = self.history.ask_term(answered)?;
+        let reply = self.history.ask_term(silent(alloc))?;
         self.history.is_run();
         self.order = self.order.and(&Mark::Event(self.caller), &());
         Ok(reply)

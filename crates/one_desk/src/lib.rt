@@ -2,9 +2,13 @@
 //! order of their events and looks.
 #![tactic(auto)]
 
+mod closing;
 mod desk;
 mod laws;
+mod looks;
 mod mark;
+mod pairs;
+mod requests;
 
 pub use desk::OneDesk;
 pub use laws::{

@@ -91,7 +91,7 @@ module _ {S O I N : Type 0} (K : Known S O I N) (pipes : S) (rows : Rows O I) (p
         twice [] = refl
         twice (g ∷ gs) = ap (λ (l : List (Held N)). held_given K.out_name K.in_name g ∷ l) (twice gs)
 
-module _ {N I : Type 0} (n o : ℕ) (is_open : Bool) (kind : Kind) (t : Told) (ps qs : List (Place N I)) (gone : AreGone qs) where
+module _ {N I : Type 0} (n o : ℕ) (is_open : Bool) (kind : Kind) (t : Told N) (ps qs : List (Place N I)) (gone : AreGone qs) where
   none_there : (b : Bool) → (if b then held_in qs else []) ≡ []
   none_there true = held_none qs gone
   none_there false = refl
@@ -123,4 +123,5 @@ module _ {N I : Type 0} (n o : ℕ) (is_open : Bool) (kind : Kind) (t : Told) (p
     states = λ i d here. absurd (never_there (i == n) d here);
     turns = refl;
     sealed = refl;
+    joined = refl;
   }

@@ -7,7 +7,7 @@ use Rattle.zq_base.specs.declared.kind.Kind.{Kind}
 use Rattle.spec_control.specs.declared.end.EndState.{EndState}
 use Rattle.spec_control.specs.Control.{is_end}
 use Rattle.control_held.specs.Held.{Held}
-use Rattle.ctl_holder.specs.Holding.{Yielded, Left, KeepsTurns, TurnsTo, Seals, IsLast, is_state, has_end, without_end, read_in, written_in}
+use Rattle.ctl_holder.specs.Holding.{BeginsNone, Yielded, Left, KeepsTurns, TurnsTo, Seals, IsLast, is_state, has_end, without_end, read_in, written_in}
 use Rattle.held_ends.specs.declared.table.Place.{Place}
 use Rattle.held_ends.specs.Places.{place_at, held_of, held_in, is_of, writes_of, writes_in, met_of}
 use Rattle.held_ends.proofs.SoundLemmas.{one_some}
@@ -123,7 +123,7 @@ module _ {N I : Type 0} where
               (cases_eq j k))
 
     -- the end gave its writing half away
-    pub yielded_of : (n o : ℕ) (is_open : Bool) (kind : Kind) (t : Told) (i : Option I)
+    pub yielded_of : (n o : ℕ) (is_open : Bool) (kind : Kind) (t : Told N) (i : Option I)
         → Yielded o e (has n is_open kind t ps) (has n is_open kind t (set ps k (record p { writes = false; peer = false; input = i })))
     yielded_of n o is_open kind t i = record {
       now = record {
@@ -143,21 +143,23 @@ module _ {N I : Type 0} where
         held : held_in (set ps k (record p { writes = false; peer = false; input = i })) ≡ held_in ps
         held = held_same ps k p (record p { writes = false; peer = false; input = i }) there refl refl
 
-  pub turns_kept : (n : ℕ) (is_open : Bool) (kind : Kind) (t : Told) (ps : List (Place N I)) (k : ℕ) (p q : Place N I) → place_at ps k ≡ Some p → q.held ≡ p.held → q.end ≡ p.end → q.state ≡ p.state
+  pub turns_kept : (n : ℕ) (is_open : Bool) (kind : Kind) (t : Told N) (ps : List (Place N I)) (k : ℕ) (p q : Place N I) → place_at ps k ≡ Some p → q.held ≡ p.held → q.end ≡ p.end → q.state ≡ p.state
       → KeepsTurns (has n is_open kind t ps) (has n is_open kind t (set ps k q))
   turns_kept n is_open kind t ps k p q there held end state = record {
     states = λ i d here. state_same ps k p q d there (ap (λ (b : Bool). b && is_end d q.end) held ∙ ap (λ (x : EndId). p.held && is_end d x) end) state;
     turns = refl;
     sealed = refl;
+    joined = refl;
   }
 
   -- the pipe of an end was to be sealed
-  pub seals_of : (n : ℕ) (is_open : Bool) (kind : Kind) (t u : Told) (e : EndId) (ps : List (Place N I)) (k : ℕ) (p q : Place N I) → place_at ps k ≡ Some p → q.held ≡ p.held → q.end ≡ p.end → q.state ≡ p.state
-      → u.turns ≡ t.turns → u.sealed ≡ t.sealed ++ e ∷ [] → Seals e (has n is_open kind t ps) (has n is_open kind u (set ps k q))
-  seals_of n is_open kind t u e ps k p q there held end state same more = record {
+  pub seals_of : (n : ℕ) (is_open : Bool) (kind : Kind) (t u : Told N) (e : EndId) (ps : List (Place N I)) (k : ℕ) (p q : Place N I) → place_at ps k ≡ Some p → q.held ≡ p.held → q.end ≡ p.end → q.state ≡ p.state
+      → u.turns ≡ t.turns → u.sealed ≡ t.sealed ++ e ∷ [] → u.joined ≡ t.joined → Seals e (has n is_open kind t ps) (has n is_open kind u (set ps k q))
+  seals_of n is_open kind t u e ps k p q there held end state same more joined = record {
     states = λ i d here. state_same ps k p q d there (ap (λ (b : Bool). b && is_end d q.end) held ∙ ap (λ (x : EndId). p.held && is_end d x) end) state;
     turns = same;
     sealed = more;
+    joined = joined;
   }
 
   module _ (ps : List (Place N I)) (k : ℕ) (p : Place N I) (e : EndId) (there : place_at ps k ≡ Some p) (is : is_of e p ≡ true)
@@ -226,8 +228,8 @@ module _ {N I : Type 0} where
             by rest false eb = rest
 
     -- the end left
-    pub left_of : (n o : ℕ) (is_open : Bool) (kind : Kind) (t : Told) → (o == n) ≡ true → Left o e (has n is_open kind t ps) (has n is_open kind t (set ps k q))
-    left_of n o is_open kind t mine = record {
+    pub left_of : (n o : ℕ) (is_open : Bool) (kind : Kind) (t u : Told N) → (o == n) ≡ true → Left o e (has n is_open kind t ps) (has n is_open kind u (set ps k q))
+    left_of n o is_open kind t u mine = record {
       now = record {
         ends = ap (λ (b : Bool). if b then held_in (set ps k q) else []) mine ∙ less_left ∙ sym (ap (λ (b : Bool). without_end e (if b then held_in ps else [])) mine);
         others = λ i ne. other i ne (i == n) refl;
@@ -247,11 +249,12 @@ module _ {N I : Type 0} where
         other i ne true same = absurd (ne (eqb-true i n same ∙ sym (eqb-true o n mine)))
         other i ne false off = refl
 
-    pub left_turns : (n : ℕ) (is_open : Bool) (kind : Kind) (t : Told) → KeepsTurns (has n is_open kind t ps) (has n is_open kind t (set ps k q))
-    left_turns n is_open kind t = record {
+    -- and was taken back
+    pub left_begins : (n : ℕ) (is_open : Bool) (kind : Kind) (t u : Told N) → u.turns ≡ t.turns → u.sealed ≡ t.sealed → BeginsNone (has n is_open kind t ps) (has n is_open kind u (set ps k q))
+    left_begins n is_open kind t u turns sealed = record {
       states = λ i d here. gone_state ps k p q d there (same_of d (is_other (i == n) d here)) (else_of ps k p e there is alone d (is_other (i == n) d here));
-      turns = refl;
-      sealed = refl;
+      turns = turns;
+      sealed = sealed;
     }
       where
         gone_state : (xs : List (Place N I)) (m : ℕ) (x y : Place N I) (d : EndId) → place_at xs m ≡ Some x → is_of d y ≡ is_of d x → is_of d x ≡ false → state_in (set xs m y) d ≡ state_in xs d
@@ -260,6 +263,9 @@ module _ {N I : Type 0} where
             ap (λ (b : Bool). if b then y.state else state_in zs d) (same ∙ off)
             ∙ sym (ap (λ (b : Bool). if b then z.state else state_in zs d) (ap (is_of d) (one_some z x at) ∙ off))
         gone_state (z ∷ zs) (suc m) x y d at same off = ap (λ (s : EndState). if is_of d z then z.state else s) (gone_state zs m x y d at same off)
+
+    pub left_turns : (n : ℕ) (is_open : Bool) (kind : Kind) (t : Told N) → KeepsTurns (has n is_open kind t ps) (has n is_open kind t (set ps k q))
+    left_turns n is_open kind t = record { states = (left_begins n is_open kind t t refl refl).states; turns = refl; sealed = refl; joined = refl }
 
   -- how far an end is, by its place
   pub state_at : (xs : List (Place N I)) (m : ℕ) (x : Place N I) (e : EndId) → place_at xs m ≡ Some x → is_of e x ≡ true
@@ -281,10 +287,11 @@ module _ {N I : Type 0} where
   -- an end was told of a state
   pub turned_of : (ps : List (Place N I)) (k : ℕ) (p : Place N I) (e : EndId) → place_at ps k ≡ Some p → is_of e p ≡ true
       → ((j : ℕ) (r : Place N I) → j ≢ k → place_at ps j ≡ Some r → is_of e r ≡ false)
-      → (n : ℕ) (is_open : Bool) (kind now : Kind) (t u : Told) (state : EndState) (peer : Bool) → u.turns ≡ t.turns ++ (if is_state p.state state then [] else (e, state) ∷ []) → u.sealed ≡ t.sealed
+      → (n : ℕ) (is_open : Bool) (kind now : Kind) (t u : Told N) (state : EndState) (peer : Bool) → u.turns ≡ t.turns ++ (if is_state p.state state then [] else (e, state) ∷ []) → u.sealed ≡ t.sealed → u.joined ≡ t.joined
       → TurnsTo e state (has n is_open kind t ps) (has n is_open now u (set ps k (record p { state = state; peer = peer })))
-  turned_of ps k p e there is alone n is_open kind now t u state peer more kept = record {
+  turned_of ps k p e there is alone n is_open kind now t u state peer more kept joined = record {
     sealed = kept;
+    joined = joined;
     states = λ i d here. by d (is_end d e) refl;
     turns = more ∙ ap (λ (s : EndState). t.turns ++ (if is_state s state then [] else (e, state) ∷ [])) (sym (state_at ps k p e there is alone));
   }

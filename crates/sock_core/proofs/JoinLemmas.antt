@@ -83,12 +83,12 @@ module _ {N I : Type 0} where
   state_before [] q d off = ap (λ (b : Bool). if b then q.state else state_in {N = N} {I = I} [] d) off
   state_before (x ∷ xs) q d off = ap (λ (s : EndState). if is_of d x then x.state else s) (state_before xs q d off)
 
-  module _ (ps : List (Place N I)) (e : EndId) (written read : N) (n o : ℕ) (is_open : Bool) (kind : Kind) (t : Told) (peer : Bool) where
+  module _ (ps : List (Place N I)) (e : EndId) (written read : N) (n o : ℕ) (is_open : Bool) (kind : Kind) (t u : Told N) (peer : Bool) where
     abbrev pub last : Place N I
     last = new_place e written read peer
 
     -- the end joined
-    pub joined_of : (o == n) ≡ true → Joined o (record { end = e; written = written; read = read }) (has n is_open kind t ps) (has n is_open kind t (ps ++ last ∷ []))
+    pub joined_of : (o == n) ≡ true → Joined o (record { end = e; written = written; read = read }) (has n is_open kind t ps) (has n is_open kind u (ps ++ last ∷ []))
     joined_of mine = record {
       now = record {
         ends =
@@ -111,11 +111,11 @@ module _ {N I : Type 0} where
         by true w = or_true w
         by false w = or_false w
 
-    pub begins_of : list_any (is_of e) ps ≡ false → BeginsActive e (has n is_open kind t ps) (has n is_open kind t (ps ++ last ∷ []))
-    begins_of none = record {
+    pub begins_of : u.turns ≡ t.turns → u.sealed ≡ t.sealed → list_any (is_of e) ps ≡ false → BeginsActive e (has n is_open kind t ps) (has n is_open kind u (ps ++ last ∷ []))
+    begins_of turns sealed none = record {
       states = λ i d here. by d (is_end d e) refl;
-      turns = refl;
-      sealed = refl;
+      turns = turns;
+      sealed = sealed;
     }
       where
         by : (d : EndId) (b : Bool) → is_end d e ≡ b → state_in (ps ++ last ∷ []) d ≡ unwrap_or (if b then Some Active else None) (state_in ps d)

@@ -3,6 +3,7 @@ pub mod SeenLemmas
 pub mod FormLemmas
 pub mod HolderLemmas
 pub mod TurnLemmas
-mod PeerLemmas
+pub mod PeerLemmas
 pub mod JoinLemmas
 pub mod GiveLemmas
+pub mod StandingLemmas

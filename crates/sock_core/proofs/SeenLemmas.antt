@@ -49,7 +49,7 @@ module _ {N I : Type 0} where
       }
 
   -- then all stays for the control plane
-  pub stays_of : (n : ℕ) (o : ℕ) (is_open : Bool) (kind : Kind) (t u : Told) (ps qs : List (Place N I)) → SameSeen ps qs → Stays o (has n is_open kind t ps) (has n is_open kind u qs)
+  pub stays_of : (n : ℕ) (o : ℕ) (is_open : Bool) (kind : Kind) (t u : Told N) (ps qs : List (Place N I)) → SameSeen ps qs → Stays o (has n is_open kind t ps) (has n is_open kind u qs)
   stays_of n o is_open kind t u ps qs same = record {
     now = record {
       ends = ap (λ (l : List (Held N)). if o == n then l else []) same.ends;

@@ -7,16 +7,20 @@ use Rattle.spec_control.specs.declared.end.EndState.TheVariants.{Gone}
 use Rattle.ctl_holder.specs.Holding.{Holding}
 use Rattle.held_ends.specs.declared.table.Place.{Place}
 use Rattle.held_ends.specs.Places.{held_in, is_of, writes_in, met_in}
+use Rattle.spec_control.specs.declared.entry.Joining.{Joining}
+use Rattle.sock_core.specs.declared.joint.JoinNote.{JoinNote}
 use Rattle.sock_core.specs.declared.sock.SockCore.{SockCore}
+use Rattle.sock_core.specs.Standing.{standing_joins}
 
--- what a socket was told of its ends: the changes of their states, and the ends whose pipes it was to seal
-pub record Told : Type 0 where
+-- what a socket was told of its ends: the changes of their states, the ends whose pipes it was to seal, and those that joined
+pub record Told (N : Type 0) : Type 0 where
   pub turns : List (EndId × EndState)
   pub sealed : List EndId
+  pub joined : List (Joining N)
 
 -- as its logs have it
-abbrev pub told_in : List (EndId × EndState) → List (EndId × Unit {0}) → Told
-told_in turns sealed = record { turns = turns; sealed = map (λ x. x.0) sealed }
+abbrev pub told_in : {N : Type 0} → List (EndId × EndState) → List (EndId × Unit {0}) → List (JoinNote N × List ℕ) → Told N
+told_in turns sealed joins = record { turns = turns; sealed = map (λ x. x.0) sealed; joined = standing_joins joins }
 
 module _ {N I : Type 0} where
   -- how far an end is; one that is not held is gone
@@ -25,7 +29,7 @@ module _ {N I : Type 0} where
   state_in (p ∷ ps) e = if is_of e p then p.state else state_in ps e
 
   -- a socket of this number and kind with its ends by places, which was told this; it gives all away when it is closed
-  abbrev pub has : (number : ℕ) → (is_open : Bool) → Kind → Told → List (Place N I) → Holding N
+  abbrev pub has : (number : ℕ) → (is_open : Bool) → Kind → Told N → List (Place N I) → Holding N
   has number is_open kind told ps = record {
     holds = λ i. is_open && i == number;
     ends = λ i. if i == number then held_in ps else [];
@@ -36,11 +40,12 @@ module _ {N I : Type 0} where
     state = state_in ps;
     turns = told.turns;
     sealed = told.sealed;
+    joined = told.joined;
   }
 
 -- what a socket has, whose kind is this
 abbrev pub holding_in : {C W N O I : Type 0} → Kind → SockCore C W N O I → Holding N
-holding_in kind s = has s.number.0 s.is_open kind (told_in s.turns.items s.sealed.items) s.ends.places.items
+holding_in kind s = has s.number.0 s.is_open kind (told_in s.turns.items s.sealed.items s.joins.items) s.ends.places.items
 
 -- an open socket of this number and kind, without ends, that was told nothing
 pub record IsNew {C W N O I : Type 0} (number : ℕ) (kind : C) (s : SockCore C W N O I) : Type 0 where
@@ -51,3 +56,4 @@ pub record IsNew {C W N O I : Type 0} (number : ℕ) (kind : C) (s : SockCore C 
   pub no_ends : s.ends.places.items ≡ []
   pub no_turns : s.turns.items ≡ []
   pub no_seals : s.sealed.items ≡ []
+  pub no_joins : s.joins.items ≡ []

@@ -1,4 +1,5 @@
 pub mod Has
+pub mod Standing
 pub mod Sound
 pub mod Turns
 pub mod Peers

@@ -3,6 +3,7 @@ ghost use Rattle.sock_core.specs.Sound.{AreSound, KeepsRoom};
 ghost use Rattle.sock_core.specs.Peers.{ArePeers, is_taken};
 
 use crate::joins::Joins;
+use crate::joint::{joint_of, note_back, note_join};
 use crate::sock::{Room, SockCore};
 use crate::turns::{note, note_seal, part, stays};
 use ctl_holder::{Given, Halves, Holder, Made, Parting};
@@ -51,6 +52,7 @@ impl<P: HeldPipes, C: Joins> SockHolder<P, C> {
                 },
                 turns: Log::new(),
                 sealed: Log::new(),
+                joins: Log::new(),
             },
         }
     }
@@ -61,10 +63,11 @@ impl<P: HeldPipes, C: Joins> Holder<P> for SockHolder<P, C>
 where
     P::Name: Drop,
 {
-    ghost use Rattle.std.specs.Prelude.{◌≡◌, true, false, map, OnOk, IfOk, IfErr};
+    ghost use Rattle.std.specs.Prelude.{◌≡◌, ◌∷◌, [], true, false, map, OnOk, IfOk, IfErr};
     ghost use Rattle.zq_base.specs.declared.ids.EndId.{EndId};
     ghost use Rattle.ctl_holder.specs.Holding.{has_end, held_with, held_optional, held_given};
     ghost use Rattle.ctl_holder.specs.Holding.{Joined, BeginsActive, MayRefuse, Stays, KeepsTurns};
+    ghost use Rattle.ctl_holder.specs.Holding.{JoinsBy, joining_with};
     ghost use Rattle.ctl_holder.specs.Holding.{IsPlugged, Begins, AreAtDelimiter, writes_in};
     ghost use Rattle.ctl_holder.specs.Holding.{states_optional, states_given};
     ghost use Rattle.held_ends.specs.Sound.{Fits};
@@ -118,6 +121,10 @@ where
         ensures turns { OnOk result (BeginsActive end
             (holding_in (C.kind self.old.core.kind) self.old.core)
             (holding_in (C.kind self.new.core.kind) self.new.core)) }
+        ensures joins { IfOk result (λ a. JoinsBy (joining_with P.known.out_name P.known.in_name
+            end peer.now.identity halves a ∷ [])
+            (holding_in (C.kind self.old.core.kind) self.old.core)
+            (holding_in (C.kind self.new.core.kind) self.new.core)) }
         ensures refuses { IfOk result (λ a. MayRefuse
             ((holding_in (C.kind self.old.core.kind) self.old.core).kind o.0) a) }
         ensures err { IfErr result (λ e. (e.value ≡ halves)
@@ -128,6 +135,7 @@ where
     {
         let _object = o;
         let place = self.core.ends.places.len();
+        let joint = joint_of::<P>(end, &halves);
         match self.core.room.keep(place) {
             Ok(()) => {}
             Err(_) => return Err(AllocFailed { value: halves }),
@@ -136,6 +144,7 @@ where
             Ok(row) => match self.core.kind.attach(alloc, place, peer) {
                 Ok(answer) => {
                     held_ends::join(&self.pipes, &mut self.core.ends, row, is_taken(answer));
+                    note_join(&mut self.core.joins, joint, &peer.identity, answer);
                     return Ok(answer);
                 }
                 Err(_) => {
@@ -154,6 +163,8 @@ where
             Some(place) => {
                 let is_peer = self.core.ends.places[place].peer;
                 part(&mut self.core.kind, end.pair, place, is_peer);
+                let alloc = *self.core.ends.places.allocator();
+                note_back(&mut self.core.joins, alloc);
                 return held_ends::take_back(&self.pipes, &mut self.core.ends, place);
             }
             None => unreachable!(),
@@ -236,6 +247,8 @@ where
         ensures turns { OnOk result (Begins (states_optional end)
             (holding_in (C.kind self.old.core.kind) self.old.core)
             (holding_in (C.kind self.new.core.kind) self.new.core)) }
+        ensures joins { (holding_in (C.kind self.new.core.kind) self.new.core).joined
+            ≡ (holding_in (C.kind self.old.core.kind) self.old.core).joined }
         ensures err { IfErr result (λ e. (e.value ≡ end)
             × Stays o.0 (holding_in (C.kind self.old.core.kind) self.old.core)
             (holding_in (C.kind self.new.core.kind) self.new.core)
@@ -281,6 +294,8 @@ where
         ensures turns { false ≡ true → Begins (states_given ends.items)
             (holding_in (C.kind self.old.core.kind) self.old.core)
             (holding_in (C.kind self.new.core.kind) self.new.core) }
+        ensures joins { (holding_in (C.kind self.new.core.kind) self.new.core).joined
+            ≡ (holding_in (C.kind self.old.core.kind) self.old.core).joined }
         ensures writing { false ≡ true → (e : EndId) →
             (holding_in (C.kind self.new.core.kind) self.new.core).writes e
             ≡ writes_in ends.items e

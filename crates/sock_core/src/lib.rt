@@ -4,9 +4,11 @@
 mod any;
 mod holder;
 mod joins;
+mod joint;
 mod sock;
 mod turns;
 
 pub use holder::SockHolder;
 pub use joins::Joins;
+pub use joint::{JoinNote, Joint};
 pub use sock::{Room, SockCore};

@@ -1,10 +1,11 @@
+use crate::joint::JoinNote;
 use ctl_holder::Given;
 use held_ends::EndTable;
 use http_server::Log;
 use spec_control::{EndState, Joining};
 use std::alloc::AllocError;
 use std::mem;
-use zq_base::{EndId, ObjId};
+use zq_base::{EndId, ObjId, Octets};
 
 /// A socket: its kind and its ends by places.
 #[derive(Drop)]
@@ -23,6 +24,9 @@ pub struct SockCore<C, W, N, O, I> {
     pub turns: Log<EndId, EndState>,
     /// The ends whose pipes it was to seal, for proofs alone.
     pub sealed: Log<EndId, ()>,
+    /// The ends that joined and those that were taken back, each with its peer's identity, for proofs
+    /// alone.
+    pub joins: Log<JoinNote<N>, Octets>,
 }
 
 /// Room for the ends of a socket when it is closed, kept from their attachment on: giving them away

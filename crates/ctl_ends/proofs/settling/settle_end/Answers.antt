@@ -121,6 +121,7 @@ returns g c = λ w.
         holds = λ i. gone.now.objects i ∙ turned.now.objects i;
         kinds = λ i. gone.now.kinds i ∙ turned.now.kinds i;
         output = λ i. gone.now.output i ∙ turned.now.output i;
+        joined = told_one.joined;
         turned = turns_told w.control AckCame c.args.e w.settles.state w.settles.there w.settles.within w.names h l (owner_of w.control c.args.e) has here w.settles.may_come told_one;
       };
       settled = record {

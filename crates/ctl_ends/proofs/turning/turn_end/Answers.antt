@@ -90,5 +90,6 @@ returns g c = λ w.
       holds = turned.now.objects;
       kinds = turned.now.kinds;
       output = turned.now.output;
+      joined = told_one.joined;
       turned = turns_told w.control c.args.event c.args.e w.turns.state w.turns.there w.turns.within w.names h k (owner_of w.control c.args.e) has here w.turns.may_come told_one;
     }

@@ -35,7 +35,7 @@ join_pair-requires g c =
     record {
       may = may_join c.args.state.now (g.H.Holder.holding c.args.holder.now) c.args.o (length c.args.wakers.now) w c.in_ok-pair.pair c.in_ok-pair.ensures.number
           c.draw_held.new.state c.hold.new.self c.args.at (record { at = c.args.at; held = Joined c.in_ok-pair.pair None }) c.in_ok-pair.ensures.next c.hold.ensures.next
-          g.P.Pipes.known.out_name g.P.Pipes.known.in_name c.in-Ok.end (g.H.Holder.holding c.attach_first.new.holder) c.in-Ok.ensures.ok
+          g.P.Pipes.known.out_name g.P.Pipes.known.in_name c.in-Ok.end c.in_ok-said.said.peer.identity (g.H.Holder.holding c.attach_first.new.holder) c.in-Ok.ensures.ok
           (c.hold.ensures.stands (draws c.args.o.first.0 c.args.o.last.0 w.control) (c.in_ok-pair.ensures.ok w.control w.stands));
     }
 
@@ -45,12 +45,12 @@ returns-in-Ok-clause-ok g c = λ w.
     let first = end_of c.in_ok-pair.pair.0 true in
     connects c.args.state.now (g.H.Holder.holding c.args.holder.now) c.args.o (length c.args.wakers.now) w c.in_ok-pair.pair c.in_ok-pair.ensures.number
     c.draw_held.new.state c.hold.new.self c.args.at (record { at = c.args.at; held = Joined c.in_ok-pair.pair None }) c.in_ok-pair.ensures.next c.hold.ensures.next
-    g.P.Pipes.known.out_name g.P.Pipes.known.in_name c.in-Ok.end (g.H.Holder.holding c.attach_first.new.holder) c.in-Ok.ensures.ok
+    g.P.Pipes.known.out_name g.P.Pipes.known.in_name c.in-Ok.end c.in_ok-said.said.peer.identity (g.H.Holder.holding c.attach_first.new.holder) c.in-Ok.ensures.ok
     (c.hold.ensures.stands (draws c.args.o.first.0 c.args.o.last.0 w.control) (c.in_ok-pair.ensures.ok w.control w.stands))
-    c.in_ok-said.said.identity said.identity c.in_ok-said.said.peer.identity said.peer c.join_pair.new.state (g.H.Holder.holding c.join_pair.new.holder) c.note.new.self
+    c.in_ok-said.said.identity said.identity said.peer c.join_pair.new.state (g.H.Holder.holding c.join_pair.new.holder) c.note.new.self
     (c.join_pair.ensures (may_join c.args.state.now (g.H.Holder.holding c.args.holder.now) c.args.o (length c.args.wakers.now) w c.in_ok-pair.pair c.in_ok-pair.ensures.number
     c.draw_held.new.state c.hold.new.self c.args.at (record { at = c.args.at; held = Joined c.in_ok-pair.pair None }) c.in_ok-pair.ensures.next c.hold.ensures.next
-    g.P.Pipes.known.out_name g.P.Pipes.known.in_name c.in-Ok.end (g.H.Holder.holding c.attach_first.new.holder) c.in-Ok.ensures.ok
+    g.P.Pipes.known.out_name g.P.Pipes.known.in_name c.in-Ok.end c.in_ok-said.said.peer.identity (g.H.Holder.holding c.attach_first.new.holder) c.in-Ok.ensures.ok
     (c.hold.ensures.stands (draws c.args.o.first.0 c.args.o.last.0 w.control) (c.in_ok-pair.ensures.ok w.control w.stands))))
     (c.note.ensures.joined ∙ ap (λ (xs : List (Joining g.row.P-Name.Denot)). xs ++ joins_named first c.in_ok-said.said.peer.identity c.in-Ok.end.answer c.in-Ok.end.told ∷ []) c.in_ok-notes.ensures.joined)
     (c.note.ensures.opened ∙ ap (λ (xs : List (PipeName g.row.P-Name.Denot)). xs ++ pipes_named first c.in-Ok.end.opened) c.in_ok-notes.ensures.opened)

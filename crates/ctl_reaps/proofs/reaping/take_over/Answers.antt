@@ -3,7 +3,7 @@ use Rattle.spec_control.specs.declared.stage.Use.TheVariants.{Used}
 use Rattle.own_tree.specs.Changes.{change, with_request, with_told}
 use Rattle.ctl_holder.specs.declared.load.Load.{Load}
 use Rattle.ctl_state.specs.declared.state.State.{State}
-use Rattle.ctl_reaps.proofs.ReapLemmas.{reaper_has, reaper_turned, living_child, request_coming, term_room, term_put}
+use Rattle.ctl_reaps.proofs.ReapLemmas.{reaper_has, reaper_objects, reaper_turned, living_child, request_coming, term_room, term_put}
 use Rattle.ctl_reaps.proofs.reaping.take_over.Goals as goal
 
 pub reap_comes-requires-clause-child : goal.reap_comes-requires-clause-child
@@ -26,4 +26,6 @@ returns-clause-taken g c = λ w. record {
   puts = term_put g.P.Pipes.known.out_name g.P.Pipes.known.in_name c.args.state.now (g.H.Holder.holding c.args.holder.now) c.args.socket c.args.parting w c.reap_comes.new.self (λ t. with_told (record { 0 = 0 }) c.args.socket (change (with_request Used) c.args.socket t)) c.reap_comes.ensures.next;
   lists = ap (λ (x : State (Load g.row.P-Name.Denot g.row.P-Out.Denot g.row.P-In.Denot)). x.objects.lists) c.reap_comes.ensures.next;
   turned = reaper_turned g.P.Pipes.known.out_name g.P.Pipes.known.in_name c.args.state.now (g.H.Holder.holding c.args.holder.now) c.args.socket c.args.parting w (g.H.Holder.holding c.take_ends.new.self) (c.take_ends.ensures.all c.requires.reaps) (c.take_ends.ensures.writing c.requires.reaps) (c.take_ends.ensures.at c.requires.reaps) (c.take_ends.ensures.turns c.requires.reaps);
+  joined = c.take_ends.ensures.joins;
+  objects = reaper_objects g.P.Pipes.known.out_name g.P.Pipes.known.in_name c.args.state.now (g.H.Holder.holding c.args.holder.now) c.args.socket c.args.parting w (g.H.Holder.holding c.take_ends.new.self) (c.take_ends.ensures.all c.requires.reaps) (c.take_ends.ensures.writing c.requires.reaps) (c.take_ends.ensures.at c.requires.reaps) (c.take_ends.ensures.turns c.requires.reaps);
 }

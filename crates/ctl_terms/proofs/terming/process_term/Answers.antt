@@ -57,4 +57,5 @@ returns g c = λ w.
     (c.ask_ends.ensures (asks_its_ends g.P.Pipes.known.out_name g.P.Pipes.known.in_name c.args.state.now (g.H.Holder.holding c.args.holder.now) c.args.at w c.drop_names.new.self (c.drop_names.ensures.stands _ (c.term_comes.ensures.stands w.control w.stands)) (ap (λ (x : State (Load g.row.P-Name.Denot g.row.P-Out.Denot g.row.P-In.Denot)). x.boxes) c.drop_names.ensures.rest ∙ ap (λ (x : State (Load g.row.P-Name.Denot g.row.P-Out.Denot g.row.P-In.Denot)). x.boxes) c.term_comes.ensures.next))) in
     let told = c.tell_children.ensures.stands _ asked.stands in
     termed g.P.Pipes.known.out_name g.P.Pipes.known.in_name c.args.state.now (g.H.Holder.holding c.args.holder.now) c.args.at w c.ask_ends.new.state (g.H.Holder.holding c.ask_ends.new.holder) (asked_puts g.P.Pipes.known.out_name g.P.Pipes.known.in_name c.args.state.now (g.H.Holder.holding c.args.holder.now) c.args.at w c.drop_names.new.self c.ask_ends.new.state (ap (λ (x : State (Load g.row.P-Name.Denot g.row.P-Out.Denot g.row.P-In.Denot)). x.boxes) c.drop_names.ensures.rest ∙ ap (λ (x : State (Load g.row.P-Name.Denot g.row.P-Out.Denot g.row.P-In.Denot)). x.boxes) c.term_comes.ensures.next) asked.puts) asked.stands c.tell_children.new.self c.tell_children.ensures.only told c.try_end-ended.new.self (g.H.Holder.holding c.tell_holder.new.holder) asked.has
-    (λ up. asked.holds c.args.at.0 ∙ w.lent up) (asked.lists ∙ (ap (λ (x : State (Load g.row.P-Name.Denot g.row.P-Out.Denot g.row.P-In.Denot)). x.objects.lists) c.drop_names.ensures.rest ∙ ap (λ (x : State (Load g.row.P-Name.Denot g.row.P-Out.Denot g.row.P-In.Denot)). x.objects.lists) c.term_comes.ensures.next)) c.try_end-ended.ensures.only (c.try_end-ended.ensures.stands _ told) c.tell_holder.ensures.told c.tell_holder.ensures.root asked.turned
+    (λ up. asked.holds c.args.at.0 ∙ w.lent up) (asked.lists ∙ (ap (λ (x : State (Load g.row.P-Name.Denot g.row.P-Out.Denot g.row.P-In.Denot)). x.objects.lists) c.drop_names.ensures.rest ∙ ap (λ (x : State (Load g.row.P-Name.Denot g.row.P-Out.Denot g.row.P-In.Denot)). x.objects.lists) c.term_comes.ensures.next)) c.try_end-ended.ensures.only (c.try_end-ended.ensures.stands _ told) c.tell_holder.ensures.told c.tell_holder.ensures.root
+    c.try_end-ended.result c.tell_holder.ensures.kept (λ is. sym (c.try_end-ended.ensures.answer _ told) ∙ is) asked.joined asked.holds asked.kinds asked.turned

@@ -1,5 +1,6 @@
-use Rattle.std.specs.Prelude.{refl}
-use Rattle.std.proofs.Common.{sym, subst}
+use Rattle.std.proofs.lemmas.List.{append-nil}
+use Rattle.std.specs.Prelude.{refl, List, ◌++◌}
+use Rattle.std.proofs.Common.{sym, subst, ap, ◌∙◌}
 use Rattle.spec_control.specs.declared.entry.Did.TheVariants.{Asked}
 use Rattle.spec_control.specs.declared.request.Req.TheVariants.{Close}
 use Rattle.spec_control.specs.declared.request.Reply.TheVariants.{Done}
@@ -14,7 +15,11 @@ use Rattle.ctl_history.specs.Past.{Past, control_of, items_of, IsPast}
 use Rattle.ctl_history.specs.Hearing.{HasWhat}
 use Rattle.ctl_history.proofs.GiveLemmas.{given_ends, given_has, given_met, gives_all}
 use Rattle.ctl_history.proofs.StruckLemmas.{has_then}
-use Rattle.ctl_history.proofs.ToldLemmas.{event_told, told_none}
+use Rattle.ctl_history.proofs.ToldLemmas.{event_told}
+use Rattle.ctl_strikes.proofs.OnceLemmas.{told_none}
+use Rattle.ctl_history.specs.Coming.{ComesWith}
+use Rattle.ctl_history.proofs.ComeLemmas.{close_keeps, objects_come}
+use Rattle.spec_control.specs.declared.entry.Joining.{Joining}
 use Rattle.ctl_history.proofs.history.History.close.Goals as goal
 
 pub give_over-requires-clause-ends : goal.give_over-requires-clause-ends
@@ -59,3 +64,11 @@ returns-clause-turned g c =
     subst (λ (p : Past (Given g.row.P-Name.Denot g.row.P-Out.Denot g.row.P-In.Denot) g.row.P-Name.Denot g.row.P-Story.Denot). HasTurned was (control_of p) (g.H.Holder.holding c.args.holder.now) (g.H.Holder.holding c.give_ends.new.self)) (sym c.give_over.ensures)
     (event_told c.args.self.now (subst (λ (p : Past (Given g.row.P-Name.Denot g.row.P-Out.Denot g.row.P-In.Denot) g.row.P-Name.Denot g.row.P-Story.Denot). IsPast p) c.self.view_is c.self.invariant.history.run) did (g.H.Holder.holding c.args.holder.now) (g.H.Holder.holding c.give_ends.new.self)
     (told_none was (after did was) (g.H.Holder.holding c.args.holder.now) (g.H.Holder.holding c.give_ends.new.self) (λ e. refl) (turns_none (g.H.Holder.holding c.args.holder.now) (g.H.Holder.holding c.give_ends.new.self) c.give_ends.ensures.turns)))
+
+pub returns-clause-joins : goal.returns-clause-joins
+returns-clause-joins g c =
+    let was = control_of c.args.self.now in
+    let did = Asked (Close c.args.socket) Done c.silent.result in
+    subst (λ (p : Past (Given g.row.P-Name.Denot g.row.P-Out.Denot g.row.P-In.Denot) g.row.P-Name.Denot g.row.P-Story.Denot). ComesWith c.args.self.now p (g.H.Holder.holding c.args.holder.now) (g.H.Holder.holding c.give_ends.new.self)) (sym c.give_over.ensures)
+    (objects_come c.args.self.now did (g.H.Holder.holding c.args.holder.now) (g.H.Holder.holding c.give_ends.new.self) (c.give_ends.ensures.turns.joined ∙ sym (ap (λ (js : List (Joining g.row.P-Name.Denot)). (g.H.Holder.holding c.args.holder.now).joined ++ js) c.silent.ensures.joined ∙ append-nil (g.H.Holder.holding c.args.holder.now).joined))
+    (close_keeps was (after did was) c.args.socket.0 (g.H.Holder.holding c.args.holder.now) (g.H.Holder.holding c.give_ends.new.self) refl c.requires.open c.give_ends.ensures.none))

@@ -1,4 +1,4 @@
-use Rattle.std.specs.Prelude.{◌≡◌, ◌≤◌, Some, None, length, refl}
+use Rattle.std.specs.Prelude.{◌≡◌, ◌≤◌, Some, None, length, refl, ◌++◌, List}
 use Rattle.std.proofs.Common.{ap, sym, ◌∙◌, subst}
 use Rattle.zq_base.specs.declared.endpoint.Endpoint.TheVariants.{Inproc}
 use Rattle.spec_control.specs.declared.request.Req.TheVariants.{Connect}
@@ -12,7 +12,7 @@ use Rattle.ctl_history.specs.Past.{Past, control_of, items_of, with_event}
 use Rattle.spec_control.specs.declared.entry.Did.TheVariants.{Asked}
 use Rattle.ctl_history.specs.Hearing.{HasWhat}
 use Rattle.ctl_history.specs.Joining.{Lends}
-use Rattle.ctl_history.specs.Refusals.{refusal_in}
+use Rattle.ctl_asks.specs.Refusals.{refusal_in}
 use Rattle.ctl_history.proofs.DoneLemmas.{event_now}
 use Rattle.ctl_history.proofs.HeldPlaneLemmas.{ends_held, given_held, keeps_held, told_held, plane_held, reply_held}
 use Rattle.ctl_history.proofs.JoinHeldLemmas.{may_connect}
@@ -21,6 +21,9 @@ use Rattle.ctl_history.proofs.PlaneLemmas.{planed_now}
 use Rattle.ctl_holder.specs.Turns.{HasTurned}
 use Rattle.ctl_ends.proofs.TurnedLemmas.{turns_none, turns_same}
 use Rattle.ctl_history.proofs.ToldLemmas.{past_told}
+use Rattle.ctl_history.specs.Coming.{ComesWith}
+use Rattle.ctl_history.proofs.ComeLemmas.{event_comes, past_comes}
+use Rattle.spec_control.specs.declared.entry.Joining.{Joining}
 use Rattle.ctl_history.proofs.history.History.connect_held.Goals as goal
 
 pub connect_pair-requires : goal.connect_pair-requires
@@ -155,3 +158,35 @@ pub returns-in_err-reserve-clause-turned : goal.returns-in_err-reserve-clause-tu
 returns-in_err-reserve-clause-turned g c =
     subst (λ (p : Past (Given g.row.P-Name.Denot g.row.P-Out.Denot g.row.P-In.Denot) g.row.P-Name.Denot g.row.P-Story.Denot). HasTurned (control_of c.args.self.now) (control_of p) (g.H.Holder.holding c.args.holder.now) (g.H.Holder.holding c.args.holder.now)) (sym (viewed_back c.args.self.now c.self.inside.state c.self.inside.state c.self.inside.workers c.self.inside.events c.reserve.new.self refl c.in_err-reserve.ensures.err c.self.view_is))
     (past_told c.args.self.now (g.H.Holder.holding c.args.holder.now) (g.H.Holder.holding c.args.holder.now) (turns_same (g.H.Holder.holding c.args.holder.now)))
+
+pub returns-in-Ok-clause-joins : goal.returns-in-Ok-clause-joins
+returns-in-Ok-clause-joins g c =
+    let lends = (subst (λ (p : Past (Given g.row.P-Name.Denot g.row.P-Out.Denot g.row.P-In.Denot) g.row.P-Name.Denot g.row.P-Story.Denot). Lends (control_of p) c.args.socket.0 (g.H.Holder.holding c.args.holder.now)) (sym c.self.view_is) c.requires.lends) in
+    let held = (subst (λ (p : Past (Given g.row.P-Name.Denot g.row.P-Out.Denot g.row.P-In.Denot) g.row.P-Name.Denot g.row.P-Story.Denot). (control_of p).names.held (Inproc c.args.name) ≡ Some c.args.binding) (sym c.self.view_is) c.requires.held) in
+    let free = (subst (λ (p : Past (Given g.row.P-Name.Denot g.row.P-Out.Denot g.row.P-In.Denot) g.row.P-Name.Denot g.row.P-Story.Denot). refusal_in (reply_of (control_of p) (Connect c.args.socket (Inproc c.args.name))) ≡ None) (sym c.self.view_is) c.requires.free) in
+    let stands = c.self.invariant.history.stands in
+    let are = c.of-owners.ensures _ stands in
+    let has = (subst (λ (p : Past (Given g.row.P-Name.Denot g.row.P-Out.Denot g.row.P-In.Denot) g.row.P-Name.Denot g.row.P-Story.Denot). HasWhat p (g.H.Holder.holding c.args.holder.now)) (sym c.self.view_is) c.requires.has) in
+    let may = may_connect g.P.Pipes.known.out_name g.P.Pipes.known.in_name c.self.inside.state _ _ c.args.socket c.args.name c.args.binding c.self.invariant (g.H.Holder.holding c.args.holder.now) lends held free (c.needs.ensures _ stands) c.of-owners.result are (length c.args.wakers.now) (subst (λ (p : Past (Given g.row.P-Name.Denot g.row.P-Out.Denot g.row.P-In.Denot) g.row.P-Name.Denot g.row.P-Story.Denot). (control_of p).slots ≤ length c.args.wakers.now) (sym c.self.view_is) c.requires.wakers) has in
+    let connected = c.in-Ok.ensures.ok may in
+    let step = event_now c.args.self.now c.self.inside.workers (with_room 9 c.self.inside.events) c.push.new.self _ _ _ (sym c.self.view_is)
+    (c.push.ensures ∙ ap (with_last _) c.in_ok-reserve.ensures.ok) (given_held g.P.Pipes.known.out_name g.P.Pipes.known.in_name c.self.inside.state _ _ c.args.socket c.args.name c.args.binding c.self.invariant (g.H.Holder.holding c.args.holder.now) lends held free c.of-owners.result are (length c.args.wakers.now) may refl
+    (Inproc c.in_ok-copy.field-0) (ap Inproc c.in_ok-copy.ensures) c.in-Ok.pair c.in-Ok.notes c.connect_pair.new.state (g.H.Holder.holding c.connect_pair.new.holder) connected c.with_notes.result c.with_notes.ensures) in
+    subst (λ (p : Past (Given g.row.P-Name.Denot g.row.P-Out.Denot g.row.P-In.Denot) g.row.P-Name.Denot g.row.P-Story.Denot). ComesWith c.args.self.now p (g.H.Holder.holding c.args.holder.now) (g.H.Holder.holding c.connect_pair.new.holder)) (sym step)
+    (event_comes c.args.self.now (Asked (Connect c.args.socket (Inproc c.args.name)) (Pair c.in-Ok.pair) c.with_notes.result) (g.H.Holder.holding c.args.holder.now) (g.H.Holder.holding c.connect_pair.new.holder)
+    (connected.came ∙ ap (λ (js : List (Joining g.row.P-Name.Denot)). (g.H.Holder.holding c.args.holder.now).joined ++ js) (sym c.with_notes.ensures.joined)) connected.gets.objects connected.gets.kinds)
+
+pub returns-in-Err-clause-joins : goal.returns-in-Err-clause-joins
+returns-in-Err-clause-joins g c =
+    subst (λ (p : Past (Given g.row.P-Name.Denot g.row.P-Out.Denot g.row.P-In.Denot) g.row.P-Name.Denot g.row.P-Story.Denot). ComesWith c.args.self.now p (g.H.Holder.holding c.args.holder.now) (g.H.Holder.holding c.connect_pair.new.holder))
+    (sym (viewed_back c.args.self.now c.self.inside.state c.connect_pair.new.state c.self.inside.workers c.self.inside.events c.release.new.self c.in-Err.ensures.err
+    (listed_back c.self.inside.events c.reserve.new.self c.release.new.self 9 c.in_ok-reserve.ensures.ok c.release.ensures) c.self.view_is))
+    (past_comes c.args.self.now (g.H.Holder.holding c.args.holder.now) (g.H.Holder.holding c.connect_pair.new.holder) c.in-Err.ensures.keeps.joined c.in-Err.ensures.stays.now.objects c.in-Err.ensures.stays.now.kinds)
+
+pub returns-in_err-copy-clause-joins : goal.returns-in_err-copy-clause-joins
+returns-in_err-copy-clause-joins g c = past_comes c.args.self.now (g.H.Holder.holding c.args.holder.now) (g.H.Holder.holding c.args.holder.now) refl (λ i. refl) (λ i. refl)
+
+pub returns-in_err-reserve-clause-joins : goal.returns-in_err-reserve-clause-joins
+returns-in_err-reserve-clause-joins g c =
+    subst (λ (p : Past (Given g.row.P-Name.Denot g.row.P-Out.Denot g.row.P-In.Denot) g.row.P-Name.Denot g.row.P-Story.Denot). ComesWith c.args.self.now p (g.H.Holder.holding c.args.holder.now) (g.H.Holder.holding c.args.holder.now)) (sym (viewed_back c.args.self.now c.self.inside.state c.self.inside.state c.self.inside.workers c.self.inside.events c.reserve.new.self refl c.in_err-reserve.ensures.err c.self.view_is))
+    (past_comes c.args.self.now (g.H.Holder.holding c.args.holder.now) (g.H.Holder.holding c.args.holder.now) refl (λ i. refl) (λ i. refl))

@@ -1,4 +1,4 @@
-use Rattle.std.specs.Prelude.{◌≡◌, None}
+use Rattle.std.specs.Prelude.{◌≡◌, None, refl}
 use Rattle.std.proofs.Common.{ap, sym, ◌∙◌, subst}
 use Rattle.zq_base.specs.declared.endpoint.Endpoint.{Endpoint}
 use Rattle.zq_base.specs.declared.endpoint.Endpoint.TheVariants.{Inproc}
@@ -12,6 +12,8 @@ use Rattle.ctl_history.proofs.NamedPlaneLemmas.{keeps_waiting, no_ends}
 use Rattle.ctl_holder.specs.Turns.{HasTurned}
 use Rattle.ctl_ends.proofs.TurnedLemmas.{turns_same}
 use Rattle.ctl_history.proofs.ToldLemmas.{past_told, waiting_told}
+use Rattle.ctl_history.specs.Coming.{ComesWith}
+use Rattle.ctl_history.proofs.ComeLemmas.{aside_comes, past_comes}
 use Rattle.ctl_history.proofs.history.History.connect_now.Goals as goal
 
 pub returns-in-None-clause-ok : goal.returns-in-None-clause-ok
@@ -43,3 +45,13 @@ pub returns-in_err-reply-in-None-clause-turned : goal.returns-in_err-reply-in-No
 returns-in_err-reply-in-None-clause-turned g c =
     subst (λ (p : Past (Given g.row.P-Name.Denot g.row.P-Out.Denot g.row.P-In.Denot) g.row.P-Name.Denot g.row.P-Story.Denot). HasTurned (control_of c.args.self.now) (control_of p) (g.H.Holder.holding c.args.holder.now) (g.H.Holder.holding c.args.holder.now)) (sym c.in_err-reply-in-None.ensures.err)
     (past_told c.args.self.now (g.H.Holder.holding c.args.holder.now) (g.H.Holder.holding c.args.holder.now) (turns_same (g.H.Holder.holding c.args.holder.now)))
+
+pub returns-in-None-clause-joins : goal.returns-in-None-clause-joins
+returns-in-None-clause-joins g c =
+    subst (λ (p : Past (Given g.row.P-Name.Denot g.row.P-Out.Denot g.row.P-In.Denot) g.row.P-Name.Denot g.row.P-Story.Denot). ComesWith c.args.self.now p (g.H.Holder.holding c.args.holder.now) (g.H.Holder.holding c.args.holder.now)) (sym c.in_ok-reply-in-None.ensures.ok)
+    (aside_comes c.args.self.now (Asked (Connect c.args.socket (Inproc c.name_of-name.result)) c.in_ok-reply-in-None.reply c.silent.result) (g.H.Holder.holding c.args.holder.now) (g.H.Holder.holding c.args.holder.now) c.silent.ensures.joined refl (λ i. refl) (λ i. refl))
+
+pub returns-in_err-reply-in-None-clause-joins : goal.returns-in_err-reply-in-None-clause-joins
+returns-in_err-reply-in-None-clause-joins g c =
+    subst (λ (p : Past (Given g.row.P-Name.Denot g.row.P-Out.Denot g.row.P-In.Denot) g.row.P-Name.Denot g.row.P-Story.Denot). ComesWith c.args.self.now p (g.H.Holder.holding c.args.holder.now) (g.H.Holder.holding c.args.holder.now)) (sym c.in_err-reply-in-None.ensures.err)
+    (past_comes c.args.self.now (g.H.Holder.holding c.args.holder.now) (g.H.Holder.holding c.args.holder.now) refl (λ i. refl) (λ i. refl))

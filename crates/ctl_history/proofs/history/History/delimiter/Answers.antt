@@ -12,11 +12,14 @@ use Rattle.ctl_holder.specs.Turns.{HasTurned}
 use Rattle.ctl_ends.proofs.TurnedLemmas.{turns_same}
 use Rattle.ctl_history.specs.Carried.{given_in}
 use Rattle.ctl_history.specs.Past.{Past, control_of, with_event}
-use Rattle.ctl_history.proofs.ToldLemmas.{event_told, past_told, told_one}
+use Rattle.ctl_history.proofs.ToldLemmas.{event_told, past_told}
+use Rattle.ctl_strikes.proofs.OnceLemmas.{told_one}
 use Rattle.ctl_history.specs.Hearing.{HasWhat}
 use Rattle.ctl_history.proofs.DoneLemmas.{event_now}
 use Rattle.ctl_history.proofs.PlaneLemmas.{planed_now}
 use Rattle.ctl_history.proofs.DelimitLemmas.{may_meet, meets, meets_entry, meets_given, meets_keeps}
+use Rattle.ctl_history.specs.Coming.{ComesWith}
+use Rattle.ctl_history.proofs.ComeLemmas.{aside_comes, past_comes}
 use Rattle.ctl_history.proofs.history.History.delimiter.Goals as goal
 
 pub turn_end-requires-clause-may : goal.turn_end-requires-clause-may
@@ -103,3 +106,22 @@ returns-clause-turned g c =
 
 pub returns-then-not-is_looked_at-clause-turned : goal.returns-then-not-is_looked_at-clause-turned
 returns-then-not-is_looked_at-clause-turned g c = past_told c.args.self.now (g.H.Holder.holding c.args.holder.now) (g.H.Holder.holding c.args.holder.now) (turns_same (g.H.Holder.holding c.args.holder.now))
+
+pub returns-clause-joins : goal.returns-clause-joins
+returns-clause-joins g c =
+    let inner : Past (Given g.row.P-Name.Denot g.row.P-Out.Denot g.row.P-In.Denot) g.row.P-Name.Denot g.row.P-Story.Denot = record { workers = c.self.inside.workers; events = c.self.inside.events.items; given = given_in c.self.inside.state.boxes } in
+    let looked = sym (c.is_looked_at.ensures _ c.self.invariant.history.stands) ∙ c.if-not-is_looked_at.false in
+    let may = may_meet g.P.Pipes.known.out_name g.P.Pipes.known.in_name c.self.inside.state _ _ c.args.e c.self.invariant looked (g.H.Holder.holding c.args.holder.now)
+    (subst (λ (p : Past (Given g.row.P-Name.Denot g.row.P-Out.Denot g.row.P-In.Denot) g.row.P-Name.Denot g.row.P-Story.Denot). HasWhat p (g.H.Holder.holding c.args.holder.now)) (sym c.self.view_is) c.requires.has)
+    (subst (λ (p : Past (Given g.row.P-Name.Denot g.row.P-Out.Denot g.row.P-In.Denot) g.row.P-Name.Denot g.row.P-Story.Denot). (g.H.Holder.holding c.args.holder.now).holds (owner_of (control_of p) c.args.e) ≡ true) (sym c.self.view_is) c.requires.lent)
+    c.requires.at in
+    let held = ap (λ (p : Past (Given g.row.P-Name.Denot g.row.P-Out.Denot g.row.P-In.Denot) g.row.P-Name.Denot g.row.P-Story.Denot). is_between (obj (control_of p).rows (owner_of (control_of p) c.args.e))) c.self.view_is ∙ c.requires.held in
+    let step = event_now c.args.self.now c.self.inside.workers c.self.inside.events c.push.new.self _ _ _ (sym c.self.view_is) c.push.ensures
+    (meets_given g.P.Pipes.known.out_name g.P.Pipes.known.in_name c.self.inside.state _ _ c.args.e c.self.invariant looked c.turn_end.new.state (g.H.Holder.holding c.args.holder.now) (g.H.Holder.holding c.turn_end.new.holder)
+    c.silent.result c.silent.ensures held (c.turn_end.ensures may)) in
+    subst (λ (p : Past (Given g.row.P-Name.Denot g.row.P-Out.Denot g.row.P-In.Denot) g.row.P-Name.Denot g.row.P-Story.Denot). ComesWith c.args.self.now p (g.H.Holder.holding c.args.holder.now) (g.H.Holder.holding c.turn_end.new.holder)) (sym step)
+    (subst (λ (p : Past (Given g.row.P-Name.Denot g.row.P-Out.Denot g.row.P-In.Denot) g.row.P-Name.Denot g.row.P-Story.Denot). ComesWith p (with_event (Delimited c.args.e c.silent.result) p) (g.H.Holder.holding c.args.holder.now) (g.H.Holder.holding c.turn_end.new.holder)) c.self.view_is
+    (aside_comes inner (Delimited c.args.e c.silent.result) (g.H.Holder.holding c.args.holder.now) (g.H.Holder.holding c.turn_end.new.holder) c.silent.ensures.joined (c.turn_end.ensures may).joined (c.turn_end.ensures may).holds (c.turn_end.ensures may).kinds))
+
+pub returns-then-not-is_looked_at-clause-joins : goal.returns-then-not-is_looked_at-clause-joins
+returns-then-not-is_looked_at-clause-joins g c = past_comes c.args.self.now (g.H.Holder.holding c.args.holder.now) (g.H.Holder.holding c.args.holder.now) refl (λ i. refl) (λ i. refl)

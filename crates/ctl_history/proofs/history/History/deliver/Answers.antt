@@ -18,13 +18,17 @@ use Rattle.spec_control.specs.PairPhase.{behind_first}
 use Rattle.ctl_holder.specs.Turns.{HasTurned}
 use Rattle.ctl_ends.proofs.TurnedLemmas.{turns_none, turns_same}
 use Rattle.ctl_history.specs.Past.{Past, control_of, with_event}
-use Rattle.ctl_history.proofs.ToldLemmas.{event_told, past_told, told_before}
+use Rattle.ctl_history.proofs.ToldLemmas.{event_told, past_told}
+use Rattle.ctl_strikes.proofs.OnceLemmas.{told_before}
 use Rattle.ctl_history.specs.Carried.{given_in}
-use Rattle.ctl_history.specs.Hearing.{AreApart, AreFree, AreOfKind, BringsFirst, FitBinds, IsServed, HasWhat}
+use Rattle.ctl_history.specs.Hearing.{AreApart, AreOfKind, BringsFirst, FitBinds, IsServed, HasWhat}
+use Rattle.ctl_hears.specs.Processing.{AreFree}
 use Rattle.ctl_history.proofs.DoneLemmas.{event_with, goes_back}
 use Rattle.ctl_history.proofs.PlaneLemmas.{planed_now}
 use Rattle.ctl_history.proofs.PlaneDoneLemmas.{took_lists, taken_there, back_given, back_plane, stays_there}
 use Rattle.ctl_history.proofs.DeliverLemmas.{may_hear, writer_named, reap_in_roots, met_first, fits_first, delivers, delivers_entry, delivers_brings, delivers_keeps}
+use Rattle.ctl_history.specs.Coming.{ComesWith}
+use Rattle.ctl_history.proofs.ComeLemmas.{objects_come, past_comes}
 use Rattle.ctl_history.proofs.history.History.deliver.Goals as goal
 
 pub process-requires-clause-may : goal.process-requires-clause-may
@@ -168,3 +172,33 @@ returns-in-Err-clause-turned g c =
 pub returns-in_default-clause-turned : goal.returns-in_default-clause-turned
 returns-in_default-clause-turned g c =
     subst (λ (p : Past (Given g.row.P-Name.Denot g.row.P-Out.Denot g.row.P-In.Denot) g.row.P-Name.Denot g.row.P-Story.Denot). HasTurned (control_of c.args.self.now) (control_of p) (g.H.Holder.holding c.args.holder.now) (g.H.Holder.holding c.args.holder.now)) (sym c.self.view_is) (past_told c.args.self.now (g.H.Holder.holding c.args.holder.now) (g.H.Holder.holding c.args.holder.now) (turns_same (g.H.Holder.holding c.args.holder.now)))
+
+pub returns-in-Ok-clause-joins : goal.returns-in-Ok-clause-joins
+returns-in-Ok-clause-joins g c =
+    let front = c.in-Some.ensures.front _ c.self.invariant.history.stands in
+    let hear = may_hear g.P.Pipes.known.out_name g.P.Pipes.known.in_name c.self.inside.state c.take.new.self _ _ c.args.slot c.in-Some.command c.self.invariant (took_lists c.self.inside.state c.take.new.self _ c.in-Some.ensures.rest) c.in-Some.ensures.boxes c.in-Some.ensures.stands front (g.H.Holder.holding c.args.holder.now)
+    (subst (λ (p : Past (Given g.row.P-Name.Denot g.row.P-Out.Denot g.row.P-In.Denot) g.row.P-Name.Denot g.row.P-Story.Denot). HasWhat p (g.H.Holder.holding c.args.holder.now)) (sym c.self.view_is) c.requires.has)
+    (subst (λ (p : Past (Given g.row.P-Name.Denot g.row.P-Out.Denot g.row.P-In.Denot) g.row.P-Name.Denot g.row.P-Story.Denot). (i : ℕ) → IsServed (control_of p) c.args.slot.0 i → (g.H.Holder.holding c.args.holder.now).holds i ≡ true) (sym c.self.view_is) c.requires.lent)
+    (subst (λ (p : Past (Given g.row.P-Name.Denot g.row.P-Out.Denot g.row.P-In.Denot) g.row.P-Name.Denot g.row.P-Story.Denot). c.args.slot.0 ≡ 0 → AreFree (control_of p) (g.H.Holder.holding c.args.holder.now)) (sym c.self.view_is) c.requires.free)
+    (subst (λ (p : Past (Given g.row.P-Name.Denot g.row.P-Out.Denot g.row.P-In.Denot) g.row.P-Name.Denot g.row.P-Story.Denot). AreOfKind (control_of p) c.args.slot.0 (g.H.Holder.holding c.args.holder.now)) (sym c.self.view_is) c.requires.kinds) in
+    let held = ap (λ (p : Past (Given g.row.P-Name.Denot g.row.P-Out.Denot g.row.P-In.Denot) g.row.P-Name.Denot g.row.P-Story.Denot). list_any (λ o. is_between o && o.slot == c.args.slot.0) (control_of p).rows.objects) c.self.view_is ∙ c.requires.held in
+    let step = event_with c.args.self.now c.self.inside.workers c.self.inside.events c.push.new.self (given_in c.self.inside.state.boxes) (given_in c.process.new.state.boxes) (Delivered c.args.slot c.in-Some.command.letter c.in-Ok.answered) (sym c.self.view_is) c.push.ensures in
+    let inner : Past (Given g.row.P-Name.Denot g.row.P-Out.Denot g.row.P-In.Denot) g.row.P-Name.Denot g.row.P-Story.Denot = record { workers = c.self.inside.workers; events = c.self.inside.events.items; given = given_in c.self.inside.state.boxes } in
+    let did = Delivered c.args.slot c.in-Some.command.letter c.in-Ok.answered in
+    subst (λ (p : Past (Given g.row.P-Name.Denot g.row.P-Out.Denot g.row.P-In.Denot) g.row.P-Name.Denot g.row.P-Story.Denot). ComesWith c.args.self.now p (g.H.Holder.holding c.args.holder.now) (g.H.Holder.holding c.process.new.holder)) (sym step)
+    (subst (λ (p : Past (Given g.row.P-Name.Denot g.row.P-Out.Denot g.row.P-In.Denot) g.row.P-Name.Denot g.row.P-Story.Denot). ComesWith p (with_event did p) (g.H.Holder.holding c.args.holder.now) (g.H.Holder.holding c.process.new.holder)) c.self.view_is
+    (objects_come inner did (g.H.Holder.holding c.args.holder.now) (g.H.Holder.holding c.process.new.holder) (c.in-Ok.ensures.joins hear).came (record { holds = λ i stays. (c.in-Ok.ensures.joins hear).objects.holds i (record { ended = stays.ended; way = stays.way }); kinds = λ i stays. (c.in-Ok.ensures.joins hear).objects.kinds i (record { ended = stays.ended; way = stays.way }) })))
+
+pub returns-in-Err-clause-joins : goal.returns-in-Err-clause-joins
+returns-in-Err-clause-joins g c =
+    let there = taken_there c.self.inside.state c.take.new.self _ c.args.slot c.self.invariant.history.stands c.in-Some.ensures.boxes
+    (subst (λ (p : Past (Given g.row.P-Name.Denot g.row.P-Out.Denot g.row.P-In.Denot) g.row.P-Name.Denot g.row.P-Story.Denot). c.args.slot.0 < (control_of p).slots) (sym c.self.view_is) c.requires.there) in
+    let is = subst (λ (x : Option (Load g.row.P-Name.Denot g.row.P-Out.Denot g.row.P-In.Denot)). c.put_back.new.self ≡ on_boxes (with_mail c.args.slot.0 (with_put_back (record { letter = c.in-Some.command.letter; load = x }) (mail_at c.process.new.state.boxes c.args.slot.0))) c.process.new.state) c.in-Err.ensures.back c.put_back.ensures.next in
+    subst (λ (p : Past (Given g.row.P-Name.Denot g.row.P-Out.Denot g.row.P-In.Denot) g.row.P-Name.Denot g.row.P-Story.Denot). ComesWith c.args.self.now p (g.H.Holder.holding c.args.holder.now) (g.H.Holder.holding c.process.new.holder))
+    (sym (stays_there g.P.Pipes.known.out_name g.P.Pipes.known.in_name c.args.self.now c.self.inside.workers c.self.inside.events _ _ c.self.view_is
+    (back_given c.self.inside.state c.take.new.self c.process.new.state c.put_back.new.self c.args.slot c.in-Some.command c.in-Some.ensures.boxes there c.in-Err.ensures.err.0 is)))
+    (past_comes c.args.self.now (g.H.Holder.holding c.args.holder.now) (g.H.Holder.holding c.process.new.holder) c.in-Err.ensures.quiet.joined (c.in-Err.ensures.err.1 0).now.objects (c.in-Err.ensures.err.1 0).now.kinds)
+
+pub returns-in_default-clause-joins : goal.returns-in_default-clause-joins
+returns-in_default-clause-joins g c =
+    subst (λ (p : Past (Given g.row.P-Name.Denot g.row.P-Out.Denot g.row.P-In.Denot) g.row.P-Name.Denot g.row.P-Story.Denot). ComesWith c.args.self.now p (g.H.Holder.holding c.args.holder.now) (g.H.Holder.holding c.args.holder.now)) (sym c.self.view_is) (past_comes c.args.self.now (g.H.Holder.holding c.args.holder.now) (g.H.Holder.holding c.args.holder.now) refl (λ i. refl) (λ i. refl))

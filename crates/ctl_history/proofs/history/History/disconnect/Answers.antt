@@ -18,6 +18,8 @@ use Rattle.ctl_history.specs.Hearing.{HasWhat}
 use Rattle.ctl_history.proofs.DoneLemmas.{noted_event}
 use Rattle.ctl_history.proofs.PlaneLemmas.{planed_noted}
 use Rattle.ctl_history.proofs.StruckLemmas.{refused_has, strikes_with, disconnects, disconnects_given, disconnects_keeps}
+use Rattle.ctl_history.specs.Coming.{ComesWith}
+use Rattle.ctl_history.proofs.ComeLemmas.{aside_comes, past_comes}
 use Rattle.ctl_history.proofs.history.History.disconnect.Goals as goal
 
 pub returns-in-Some-clause-keeps : goal.returns-in-Some-clause-keeps
@@ -95,3 +97,31 @@ returns-in_err-reserve-in-None-clause-turned g c =
     subst (λ (p : Past (Given g.row.P-Name.Denot g.row.P-Out.Denot g.row.P-In.Denot) g.row.P-Name.Denot g.row.P-Story.Denot). HasTurned (control_of c.args.self.now) (control_of p) (g.H.Holder.holding c.args.holder.now) (g.H.Holder.holding c.args.holder.now))
     (sym (viewed_back c.args.self.now c.self.inside.state c.self.inside.state c.self.inside.workers c.self.inside.events c.reserve.new.self refl c.in_err-reserve-in-None.ensures.err c.self.view_is))
     (past_told c.args.self.now (g.H.Holder.holding c.args.holder.now) (g.H.Holder.holding c.args.holder.now) (turns_same (g.H.Holder.holding c.args.holder.now)))
+
+pub returns-in-None-clause-joins : goal.returns-in-None-clause-joins
+returns-in-None-clause-joins g c =
+    let inner : Past (Given g.row.P-Name.Denot g.row.P-Out.Denot g.row.P-In.Denot) g.row.P-Name.Denot g.row.P-Story.Denot = record { workers = c.self.inside.workers; events = c.self.inside.events.items; given = given_in c.self.inside.state.boxes } in
+    let open_now = subst (λ (p : Past (Given g.row.P-Name.Denot g.row.P-Out.Denot g.row.P-In.Denot) g.row.P-Name.Denot g.row.P-Story.Denot). IsOpenSocket (obj (control_of p).rows c.args.socket.0)) (sym c.self.view_is) c.requires.open in
+    let free = sym (c.in-None.ensures _ c.self.invariant.history.stands) in
+    let has = subst (λ (p : Past (Given g.row.P-Name.Denot g.row.P-Out.Denot g.row.P-In.Denot) g.row.P-Name.Denot g.row.P-Story.Denot). HasWhat p (g.H.Holder.holding c.args.holder.now)) (sym c.self.view_is) c.requires.has in
+    let step = noted_event c.args.self.now c.self.inside.workers c.self.inside.events c.reserve.new.self c.push.new.self _ _ _ (sym c.self.view_is) c.in_ok-reserve-in-None.ensures.ok c.push.ensures
+    (disconnects_given g.P.Pipes.known.out_name g.P.Pipes.known.in_name c.self.inside.state _ _ c.args.socket c.args.at c.args.h c.self.invariant open_now c.requires.silent free c.strike_connect.new.state (g.H.Holder.holding c.strike_connect.new.holder)
+    (c.strike_connect.ensures.struck (strikes_with g.P.Pipes.known.out_name g.P.Pipes.known.in_name c.self.inside.state _ _ c.args.socket c.args.at c.args.h c.self.invariant open_now c.requires.silent free (g.H.Holder.holding c.args.holder.now) has c.requires.lent))) in
+    subst (λ (p : Past (Given g.row.P-Name.Denot g.row.P-Out.Denot g.row.P-In.Denot) g.row.P-Name.Denot g.row.P-Story.Denot). ComesWith c.args.self.now p (g.H.Holder.holding c.args.holder.now) (g.H.Holder.holding c.strike_connect.new.holder)) (sym step)
+    (aside_comes c.args.self.now (Asked (Disconnect c.args.socket c.args.at) Done c.args.h) (g.H.Holder.holding c.args.holder.now) (g.H.Holder.holding c.strike_connect.new.holder) c.requires.silent.joined c.strike_connect.ensures.joins.joined c.strike_connect.ensures.joins.holds c.strike_connect.ensures.joins.kinds)
+
+pub returns-in-Some-clause-joins : goal.returns-in-Some-clause-joins
+returns-in-Some-clause-joins g c =
+    subst (λ (p : Past (Given g.row.P-Name.Denot g.row.P-Out.Denot g.row.P-In.Denot) g.row.P-Name.Denot g.row.P-Story.Denot). ComesWith c.args.self.now p (g.H.Holder.holding c.args.holder.now) (g.H.Holder.holding c.args.holder.now)) (sym c.in_ok-refuse-in-Some.ensures.ok)
+    (aside_comes c.args.self.now (Asked (Disconnect c.args.socket c.args.at) (Refused c.in-Some.refusal) c.args.h) (g.H.Holder.holding c.args.holder.now) (g.H.Holder.holding c.args.holder.now) c.requires.silent.joined refl (λ i. refl) (λ i. refl))
+
+pub returns-in_err-refuse-in-Some-clause-joins : goal.returns-in_err-refuse-in-Some-clause-joins
+returns-in_err-refuse-in-Some-clause-joins g c =
+    subst (λ (p : Past (Given g.row.P-Name.Denot g.row.P-Out.Denot g.row.P-In.Denot) g.row.P-Name.Denot g.row.P-Story.Denot). ComesWith c.args.self.now p (g.H.Holder.holding c.args.holder.now) (g.H.Holder.holding c.args.holder.now)) (sym c.in_err-refuse-in-Some.ensures.err)
+    (past_comes c.args.self.now (g.H.Holder.holding c.args.holder.now) (g.H.Holder.holding c.args.holder.now) refl (λ i. refl) (λ i. refl))
+
+pub returns-in_err-reserve-in-None-clause-joins : goal.returns-in_err-reserve-in-None-clause-joins
+returns-in_err-reserve-in-None-clause-joins g c =
+    subst (λ (p : Past (Given g.row.P-Name.Denot g.row.P-Out.Denot g.row.P-In.Denot) g.row.P-Name.Denot g.row.P-Story.Denot). ComesWith c.args.self.now p (g.H.Holder.holding c.args.holder.now) (g.H.Holder.holding c.args.holder.now))
+    (sym (viewed_back c.args.self.now c.self.inside.state c.self.inside.state c.self.inside.workers c.self.inside.events c.reserve.new.self refl c.in_err-reserve-in-None.ensures.err c.self.view_is))
+    (past_comes c.args.self.now (g.H.Holder.holding c.args.holder.now) (g.H.Holder.holding c.args.holder.now) refl (λ i. refl) (λ i. refl))

@@ -6,7 +6,7 @@ use Rattle.spec_control.specs.declared.stage.Use.TheVariants.{OnItsWay}
 use Rattle.own_tree.specs.Changes.{change, with_request}
 use Rattle.ctl_holder.specs.declared.given.Given.{Given}
 use Rattle.ctl_history.specs.Past.{Past, control_of, items_of}
-use Rattle.ctl_history.proofs.BareLemmas.{tree_boxes}
+use Rattle.ctl_asks.proofs.BareLemmas.{tree_boxes}
 use Rattle.ctl_history.proofs.DoneLemmas.{reap_room, close_entry, closes, event_given}
 use Rattle.ctl_history.proofs.PlaneLemmas.{planed_now}
 use Rattle.ctl_history.proofs.PlaneDoneLemmas.{closes_plane, closes_given}

@@ -6,7 +6,7 @@ use Rattle.spec_control.specs.ControlRun.{IsOpenSocket}
 use Rattle.spec_control.specs.Reply.{reply_of}
 use Rattle.ctl_holder.specs.declared.given.Given.{Given}
 use Rattle.ctl_history.specs.Past.{Past, control_of}
-use Rattle.ctl_history.specs.Refusals.{refusal_in}
+use Rattle.ctl_asks.specs.Refusals.{refusal_in}
 use Rattle.ctl_history.proofs.CarryLemmas.{told_given}
 use Rattle.ctl_history.proofs.DoneLemmas.{noted_event}
 use Rattle.ctl_history.proofs.PlaneLemmas.{planed_noted}

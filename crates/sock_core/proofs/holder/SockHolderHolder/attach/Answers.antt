@@ -13,6 +13,8 @@ use Rattle.sock_core.proofs.FormLemmas.{sound_of, are_sound}
 use Rattle.sock_core.proofs.JoinLemmas.{open_of, mine_of, none_of, room_of, joined_of, begins_of}
 use Rattle.sock_core.specs.Peers.{ArePeers, AddsPeer}
 use Rattle.sock_core.proofs.PeerLemmas.{below, kept_more}
+use Rattle.zq_base.specs.declared.ids.EndId.{EndId}
+use Rattle.sock_core.specs.Standing.{joining_as, standing_joins}
 use Rattle.sock_core.proofs.holder.SockHolderHolder.attach.Goals as goal
 
 pub join-requires-clause-sound : goal.join-requires-clause-sound
@@ -51,9 +53,9 @@ returns-in-Ok-attach-clause-ok g c =
     let K = g.P.Pipes.known in
     let places = c.join.ensures.joined ∙ ap (λ (l : List (Place _ _)). l ++ new_place c.in-Ok-prepare.row.value.end (g.P.Pipes.known.out_name c.in-Ok-prepare.row.value.out) (g.P.Pipes.known.in_name c.in-Ok-prepare.row.value.input) c.is_taken.result ∷ []) c.prepare.ensures.kept.places
     ∙ ap (λ (r : EndRow _ _). c.args.self.now.core.ends.places.items ++ new_place r.end (K.out_name r.out) (K.in_name r.input) c.is_taken.result ∷ []) c.in-Ok-prepare.ensures.ok in
-    subst (λ (kind : Kind). Joined c.args.o.0 (held_with K.out_name K.in_name c.args.end c.args.halves) (has c.args.self.now.core.number.0 c.args.self.now.core.is_open (g.C.Joins.kind c.args.self.now.core.kind) (told_in c.args.self.now.core.turns.items c.args.self.now.core.sealed.items) c.args.self.now.core.ends.places.items) (has c.args.self.now.core.number.0 c.args.self.now.core.is_open kind (told_in c.args.self.now.core.turns.items c.args.self.now.core.sealed.items) c.join.new.table.places.items)) (sym c.attach.ensures.kind)
-    (subst (λ (l : List (Place _ _)). Joined c.args.o.0 (held_with K.out_name K.in_name c.args.end c.args.halves) (has c.args.self.now.core.number.0 c.args.self.now.core.is_open (g.C.Joins.kind c.args.self.now.core.kind) (told_in c.args.self.now.core.turns.items c.args.self.now.core.sealed.items) c.args.self.now.core.ends.places.items) (has c.args.self.now.core.number.0 c.args.self.now.core.is_open (g.C.Joins.kind c.args.self.now.core.kind) (told_in c.args.self.now.core.turns.items c.args.self.now.core.sealed.items) l)) (sym places)
-    (joined_of c.args.self.now.core.ends.places.items c.args.end (K.out_name c.args.halves.out) (K.in_name c.args.halves.input) c.args.self.now.core.number.0 c.args.o.0 c.args.self.now.core.is_open (g.C.Joins.kind c.args.self.now.core.kind) (told_in c.args.self.now.core.turns.items c.args.self.now.core.sealed.items) c.is_taken.result (mine_of c.args.self.now.core.is_open (c.args.o.0 == c.args.self.now.core.number.0) c.requires.here)))
+    subst (λ (kind : Kind). Joined c.args.o.0 (held_with K.out_name K.in_name c.args.end c.args.halves) (has c.args.self.now.core.number.0 c.args.self.now.core.is_open (g.C.Joins.kind c.args.self.now.core.kind) (told_in c.args.self.now.core.turns.items c.args.self.now.core.sealed.items c.args.self.now.core.joins.items) c.args.self.now.core.ends.places.items) (has c.args.self.now.core.number.0 c.args.self.now.core.is_open kind (told_in c.args.self.now.core.turns.items c.args.self.now.core.sealed.items c.note_join.new.joins.items) c.join.new.table.places.items)) (sym c.attach.ensures.kind)
+    (subst (λ (l : List (Place _ _)). Joined c.args.o.0 (held_with K.out_name K.in_name c.args.end c.args.halves) (has c.args.self.now.core.number.0 c.args.self.now.core.is_open (g.C.Joins.kind c.args.self.now.core.kind) (told_in c.args.self.now.core.turns.items c.args.self.now.core.sealed.items c.args.self.now.core.joins.items) c.args.self.now.core.ends.places.items) (has c.args.self.now.core.number.0 c.args.self.now.core.is_open (g.C.Joins.kind c.args.self.now.core.kind) (told_in c.args.self.now.core.turns.items c.args.self.now.core.sealed.items c.note_join.new.joins.items) l)) (sym places)
+    (joined_of c.args.self.now.core.ends.places.items c.args.end (K.out_name c.args.halves.out) (K.in_name c.args.halves.input) c.args.self.now.core.number.0 c.args.o.0 c.args.self.now.core.is_open (g.C.Joins.kind c.args.self.now.core.kind) (told_in c.args.self.now.core.turns.items c.args.self.now.core.sealed.items c.args.self.now.core.joins.items) (told_in c.args.self.now.core.turns.items c.args.self.now.core.sealed.items c.note_join.new.joins.items) c.is_taken.result (mine_of c.args.self.now.core.is_open (c.args.o.0 == c.args.self.now.core.number.0) c.requires.here)))
 
 pub returns-in-Ok-attach-clause-turns : goal.returns-in-Ok-attach-clause-turns
 returns-in-Ok-attach-clause-turns g c =
@@ -61,6 +63,15 @@ returns-in-Ok-attach-clause-turns g c =
     let places = c.join.ensures.joined ∙ ap (λ (l : List (Place _ _)). l ++ new_place c.in-Ok-prepare.row.value.end (g.P.Pipes.known.out_name c.in-Ok-prepare.row.value.out) (g.P.Pipes.known.in_name c.in-Ok-prepare.row.value.input) c.is_taken.result ∷ []) c.prepare.ensures.kept.places
     ∙ ap (λ (r : EndRow _ _). c.args.self.now.core.ends.places.items ++ new_place r.end (K.out_name r.out) (K.in_name r.input) c.is_taken.result ∷ []) c.in-Ok-prepare.ensures.ok in
     let mine = mine_of c.args.self.now.core.is_open (c.args.o.0 == c.args.self.now.core.number.0) c.requires.here in
-    subst (λ (kind : Kind). BeginsActive c.args.end (has c.args.self.now.core.number.0 c.args.self.now.core.is_open (g.C.Joins.kind c.args.self.now.core.kind) (told_in c.args.self.now.core.turns.items c.args.self.now.core.sealed.items) c.args.self.now.core.ends.places.items) (has c.args.self.now.core.number.0 c.args.self.now.core.is_open kind (told_in c.args.self.now.core.turns.items c.args.self.now.core.sealed.items) c.join.new.table.places.items)) (sym c.attach.ensures.kind)
-    (subst (λ (l : List (Place _ _)). BeginsActive c.args.end (has c.args.self.now.core.number.0 c.args.self.now.core.is_open (g.C.Joins.kind c.args.self.now.core.kind) (told_in c.args.self.now.core.turns.items c.args.self.now.core.sealed.items) c.args.self.now.core.ends.places.items) (has c.args.self.now.core.number.0 c.args.self.now.core.is_open (g.C.Joins.kind c.args.self.now.core.kind) (told_in c.args.self.now.core.turns.items c.args.self.now.core.sealed.items) l)) (sym places)
-    (begins_of c.args.self.now.core.ends.places.items c.args.end (K.out_name c.args.halves.out) (K.in_name c.args.halves.input) c.args.self.now.core.number.0 c.args.o.0 c.args.self.now.core.is_open (g.C.Joins.kind c.args.self.now.core.kind) (told_in c.args.self.now.core.turns.items c.args.self.now.core.sealed.items) c.is_taken.result (none_of (c.args.o.0 == c.args.self.now.core.number.0) c.args.end c.args.self.now.core.ends.places.items mine c.requires.new)))
+    subst (λ (kind : Kind). BeginsActive c.args.end (has c.args.self.now.core.number.0 c.args.self.now.core.is_open (g.C.Joins.kind c.args.self.now.core.kind) (told_in c.args.self.now.core.turns.items c.args.self.now.core.sealed.items c.args.self.now.core.joins.items) c.args.self.now.core.ends.places.items) (has c.args.self.now.core.number.0 c.args.self.now.core.is_open kind (told_in c.args.self.now.core.turns.items c.args.self.now.core.sealed.items c.note_join.new.joins.items) c.join.new.table.places.items)) (sym c.attach.ensures.kind)
+    (subst (λ (l : List (Place _ _)). BeginsActive c.args.end (has c.args.self.now.core.number.0 c.args.self.now.core.is_open (g.C.Joins.kind c.args.self.now.core.kind) (told_in c.args.self.now.core.turns.items c.args.self.now.core.sealed.items c.args.self.now.core.joins.items) c.args.self.now.core.ends.places.items) (has c.args.self.now.core.number.0 c.args.self.now.core.is_open (g.C.Joins.kind c.args.self.now.core.kind) (told_in c.args.self.now.core.turns.items c.args.self.now.core.sealed.items c.note_join.new.joins.items) l)) (sym places)
+    (begins_of c.args.self.now.core.ends.places.items c.args.end (K.out_name c.args.halves.out) (K.in_name c.args.halves.input) c.args.self.now.core.number.0 c.args.o.0 c.args.self.now.core.is_open (g.C.Joins.kind c.args.self.now.core.kind) (told_in c.args.self.now.core.turns.items c.args.self.now.core.sealed.items c.args.self.now.core.joins.items) (told_in c.args.self.now.core.turns.items c.args.self.now.core.sealed.items c.note_join.new.joins.items) c.is_taken.result refl refl (none_of (c.args.o.0 == c.args.self.now.core.number.0) c.args.end c.args.self.now.core.ends.places.items mine c.requires.new)))
+
+pub returns-in-Ok-attach-clause-joins : goal.returns-in-Ok-attach-clause-joins
+returns-in-Ok-attach-clause-joins g c =
+    let K = g.P.Pipes.known in
+    let was = standing_joins c.args.self.now.core.joins.items in
+    c.note_join.ensures
+    ∙ ap (λ (x : EndId). was ++ joining_as (record { end = x; written = c.joint_of-joint.result.written; read = c.joint_of-joint.result.read }) c.args.peer.now.identity c.in-Ok-attach.answer ∷ []) c.joint_of-joint.ensures.end
+    ∙ ap (λ (x : g.row.P-Name.Denot). was ++ joining_as (record { end = c.args.end; written = x; read = c.joint_of-joint.result.read }) c.args.peer.now.identity c.in-Ok-attach.answer ∷ []) c.joint_of-joint.ensures.written
+    ∙ ap (λ (x : g.row.P-Name.Denot). was ++ joining_as (record { end = c.args.end; written = K.out_name c.args.halves.out; read = x }) c.args.peer.now.identity c.in-Ok-attach.answer ∷ []) c.joint_of-joint.ensures.read

@@ -27,7 +27,7 @@ returns-clause-all g c =
     ∙ sym (ap (λ (b : Bool). if b then held_in c.args.self.now.core.ends.places.items else []) (mine_of c.args.self.now.core.is_open (c.args.o.0 == c.args.self.now.core.number.0) c.requires.here))
 
 pub returns-clause-none : goal.returns-clause-none
-returns-clause-none g c = given_all c.args.self.now.core.number.0 c.args.o.0 c.args.self.now.core.is_open (g.C.Joins.kind c.args.self.now.core.kind) (told_in c.args.self.now.core.turns.items c.args.self.now.core.sealed.items) c.args.self.now.core.ends.places.items c.give_ends.new.table.places.items c.give_ends.ensures.gone (mine_of c.args.self.now.core.is_open (c.args.o.0 == c.args.self.now.core.number.0) c.requires.here)
+returns-clause-none g c = given_all c.args.self.now.core.number.0 c.args.o.0 c.args.self.now.core.is_open (g.C.Joins.kind c.args.self.now.core.kind) (told_in c.args.self.now.core.turns.items c.args.self.now.core.sealed.items c.args.self.now.core.joins.items) c.args.self.now.core.ends.places.items c.give_ends.new.table.places.items c.give_ends.ensures.gone (mine_of c.args.self.now.core.is_open (c.args.o.0 == c.args.self.now.core.number.0) c.requires.here)
 
 pub returns-clause-told : goal.returns-clause-told
 returns-clause-told g c = told_of g.P.Pipes.known c.args.self.now.pipes c.args.self.now.core.ends.rows.items c.args.self.now.core.ends.places.items (sound_of g.P.Pipes.known c.args.self.now.pipes c.args.self.now.core.ends.rows.items c.args.self.now.core.ends.places.items c.args.self.now.sound) c.give_ends.new.given.items c.give_ends.ensures.given.ends
@@ -39,4 +39,4 @@ pub returns-clause-states : goal.returns-clause-states
 returns-clause-states g c = stated_of g.P.Pipes.known c.args.self.now.pipes c.args.self.now.core.ends.rows.items c.args.self.now.core.ends.places.items (sound_of g.P.Pipes.known c.args.self.now.pipes c.args.self.now.core.ends.rows.items c.args.self.now.core.ends.places.items c.args.self.now.sound) c.give_ends.new.given.items c.give_ends.ensures.given.ends
 
 pub returns-clause-turns : goal.returns-clause-turns
-returns-clause-turns g c = given_turns c.args.self.now.core.number.0 c.args.o.0 c.args.self.now.core.is_open (g.C.Joins.kind c.args.self.now.core.kind) (told_in c.args.self.now.core.turns.items c.args.self.now.core.sealed.items) c.args.self.now.core.ends.places.items c.give_ends.new.table.places.items c.give_ends.ensures.gone
+returns-clause-turns g c = given_turns c.args.self.now.core.number.0 c.args.o.0 c.args.self.now.core.is_open (g.C.Joins.kind c.args.self.now.core.kind) (told_in c.args.self.now.core.turns.items c.args.self.now.core.sealed.items c.args.self.now.core.joins.items) c.args.self.now.core.ends.places.items c.give_ends.new.table.places.items c.give_ends.ensures.gone

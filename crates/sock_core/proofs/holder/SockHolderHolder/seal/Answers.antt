@@ -46,12 +46,12 @@ unreachable-requires g c =
 pub returns-in-Some-clause-stays : goal.returns-in-Some-clause-stays
 returns-in-Some-clause-stays g c =
     let s = c.seal.ensures.sealed in
-    subst (λ (l : List (Place _ _)). Stays c.args.o.0 (has c.args.self.now.core.number.0 c.args.self.now.core.is_open (g.C.Joins.kind c.args.self.now.core.kind) (told_in c.args.self.now.core.turns.items c.args.self.now.core.sealed.items) c.args.self.now.core.ends.places.items) (has c.args.self.now.core.number.0 c.args.self.now.core.is_open (g.C.Joins.kind c.args.self.now.core.kind) (told_in c.args.self.now.core.turns.items c.note_seal.new.sealed.items) l)) (sym s.now)
-    (stays_of c.args.self.now.core.number.0 c.args.o.0 c.args.self.now.core.is_open (g.C.Joins.kind c.args.self.now.core.kind) (told_in c.args.self.now.core.turns.items c.args.self.now.core.sealed.items) (told_in c.args.self.now.core.turns.items c.note_seal.new.sealed.items) c.args.self.now.core.ends.places.items (set c.args.self.now.core.ends.places.items c.in-Some.place (record s.place { sealed = true }))
+    subst (λ (l : List (Place _ _)). Stays c.args.o.0 (has c.args.self.now.core.number.0 c.args.self.now.core.is_open (g.C.Joins.kind c.args.self.now.core.kind) (told_in c.args.self.now.core.turns.items c.args.self.now.core.sealed.items c.args.self.now.core.joins.items) c.args.self.now.core.ends.places.items) (has c.args.self.now.core.number.0 c.args.self.now.core.is_open (g.C.Joins.kind c.args.self.now.core.kind) (told_in c.args.self.now.core.turns.items c.note_seal.new.sealed.items c.args.self.now.core.joins.items) l)) (sym s.now)
+    (stays_of c.args.self.now.core.number.0 c.args.o.0 c.args.self.now.core.is_open (g.C.Joins.kind c.args.self.now.core.kind) (told_in c.args.self.now.core.turns.items c.args.self.now.core.sealed.items c.args.self.now.core.joins.items) (told_in c.args.self.now.core.turns.items c.note_seal.new.sealed.items c.args.self.now.core.joins.items) c.args.self.now.core.ends.places.items (set c.args.self.now.core.ends.places.items c.in-Some.place (record s.place { sealed = true }))
     (seen_same c.args.self.now.core.ends.places.items c.in-Some.place s.place (record s.place { sealed = true }) s.there refl refl refl refl))
 
 pub returns-in-Some-clause-turns : goal.returns-in-Some-clause-turns
 returns-in-Some-clause-turns g c =
     let s = c.seal.ensures.sealed in
-    subst (λ (l : List (Place _ _)). Seals c.args.end (has c.args.self.now.core.number.0 c.args.self.now.core.is_open (g.C.Joins.kind c.args.self.now.core.kind) (told_in c.args.self.now.core.turns.items c.args.self.now.core.sealed.items) c.args.self.now.core.ends.places.items) (has c.args.self.now.core.number.0 c.args.self.now.core.is_open (g.C.Joins.kind c.args.self.now.core.kind) (told_in c.args.self.now.core.turns.items c.note_seal.new.sealed.items) l)) (sym s.now)
-    (seals_of c.args.self.now.core.number.0 c.args.self.now.core.is_open (g.C.Joins.kind c.args.self.now.core.kind) (told_in c.args.self.now.core.turns.items c.args.self.now.core.sealed.items) (told_in c.args.self.now.core.turns.items c.note_seal.new.sealed.items) c.args.end c.args.self.now.core.ends.places.items c.in-Some.place s.place (record s.place { sealed = true }) s.there refl refl refl refl c.note_seal.ensures)
+    subst (λ (l : List (Place _ _)). Seals c.args.end (has c.args.self.now.core.number.0 c.args.self.now.core.is_open (g.C.Joins.kind c.args.self.now.core.kind) (told_in c.args.self.now.core.turns.items c.args.self.now.core.sealed.items c.args.self.now.core.joins.items) c.args.self.now.core.ends.places.items) (has c.args.self.now.core.number.0 c.args.self.now.core.is_open (g.C.Joins.kind c.args.self.now.core.kind) (told_in c.args.self.now.core.turns.items c.note_seal.new.sealed.items c.args.self.now.core.joins.items) l)) (sym s.now)
+    (seals_of c.args.self.now.core.number.0 c.args.self.now.core.is_open (g.C.Joins.kind c.args.self.now.core.kind) (told_in c.args.self.now.core.turns.items c.args.self.now.core.sealed.items c.args.self.now.core.joins.items) (told_in c.args.self.now.core.turns.items c.note_seal.new.sealed.items c.args.self.now.core.joins.items) c.args.end c.args.self.now.core.ends.places.items c.in-Some.place s.place (record s.place { sealed = true }) s.there refl refl refl refl c.note_seal.ensures refl)

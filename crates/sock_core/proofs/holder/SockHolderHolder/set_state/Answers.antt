@@ -40,9 +40,9 @@ invariant_of-self g c =
 pub returns-in-Some-clause-stays : goal.returns-in-Some-clause-stays
 returns-in-Some-clause-stays g c =
     let s = c.set_state.ensures.stated in
-    subst (λ (l : List (Place _ _)). Stays c.args.o.0 (has c.args.self.now.core.number.0 c.args.self.now.core.is_open (g.C.Joins.kind c.args.self.now.core.kind) (told_in c.args.self.now.core.turns.items c.args.self.now.core.sealed.items) c.args.self.now.core.ends.places.items) (has c.args.self.now.core.number.0 c.args.self.now.core.is_open (g.C.Joins.kind c.stays-peer.new.kind) (told_in c.note.new.turns.items c.args.self.now.core.sealed.items) l)) (sym s.now)
-    (subst (λ (kind : Kind). Stays c.args.o.0 (has c.args.self.now.core.number.0 c.args.self.now.core.is_open (g.C.Joins.kind c.args.self.now.core.kind) (told_in c.args.self.now.core.turns.items c.args.self.now.core.sealed.items) c.args.self.now.core.ends.places.items) (has c.args.self.now.core.number.0 c.args.self.now.core.is_open kind (told_in c.note.new.turns.items c.args.self.now.core.sealed.items) (set c.args.self.now.core.ends.places.items c.in-Some.place (record s.place { state = c.args.state; peer = c.stays-peer.result })))) (sym c.stays-peer.ensures.kind)
-    (stays_of c.args.self.now.core.number.0 c.args.o.0 c.args.self.now.core.is_open (g.C.Joins.kind c.args.self.now.core.kind) (told_in c.args.self.now.core.turns.items c.args.self.now.core.sealed.items) (told_in c.note.new.turns.items c.args.self.now.core.sealed.items) c.args.self.now.core.ends.places.items (set c.args.self.now.core.ends.places.items c.in-Some.place (record s.place { state = c.args.state; peer = c.stays-peer.result }))
+    subst (λ (l : List (Place _ _)). Stays c.args.o.0 (has c.args.self.now.core.number.0 c.args.self.now.core.is_open (g.C.Joins.kind c.args.self.now.core.kind) (told_in c.args.self.now.core.turns.items c.args.self.now.core.sealed.items c.args.self.now.core.joins.items) c.args.self.now.core.ends.places.items) (has c.args.self.now.core.number.0 c.args.self.now.core.is_open (g.C.Joins.kind c.stays-peer.new.kind) (told_in c.note.new.turns.items c.args.self.now.core.sealed.items c.args.self.now.core.joins.items) l)) (sym s.now)
+    (subst (λ (kind : Kind). Stays c.args.o.0 (has c.args.self.now.core.number.0 c.args.self.now.core.is_open (g.C.Joins.kind c.args.self.now.core.kind) (told_in c.args.self.now.core.turns.items c.args.self.now.core.sealed.items c.args.self.now.core.joins.items) c.args.self.now.core.ends.places.items) (has c.args.self.now.core.number.0 c.args.self.now.core.is_open kind (told_in c.note.new.turns.items c.args.self.now.core.sealed.items c.args.self.now.core.joins.items) (set c.args.self.now.core.ends.places.items c.in-Some.place (record s.place { state = c.args.state; peer = c.stays-peer.result })))) (sym c.stays-peer.ensures.kind)
+    (stays_of c.args.self.now.core.number.0 c.args.o.0 c.args.self.now.core.is_open (g.C.Joins.kind c.args.self.now.core.kind) (told_in c.args.self.now.core.turns.items c.args.self.now.core.sealed.items c.args.self.now.core.joins.items) (told_in c.note.new.turns.items c.args.self.now.core.sealed.items c.args.self.now.core.joins.items) c.args.self.now.core.ends.places.items (set c.args.self.now.core.ends.places.items c.in-Some.place (record s.place { state = c.args.state; peer = c.stays-peer.result }))
     (seen_same c.args.self.now.core.ends.places.items c.in-Some.place s.place (record s.place { state = c.args.state; peer = c.stays-peer.result }) s.there refl refl refl refl)))
 
 pub returns-in-Some-clause-turns : goal.returns-in-Some-clause-turns
@@ -51,10 +51,10 @@ returns-in-Some-clause-turns g c =
     let s = c.set_state.ensures.stated in
     let same = one_some f.0 s.place (sym f.1 ∙ s.there) in
     let was = place_found c.args.self.now.core.ends.places.items c.in-Some.place f.0 c.index.result.now f.1 c.index.ensures in
-    subst (λ (l : List (Place _ _)). TurnsTo c.args.end c.args.state (has c.args.self.now.core.number.0 c.args.self.now.core.is_open (g.C.Joins.kind c.args.self.now.core.kind) (told_in c.args.self.now.core.turns.items c.args.self.now.core.sealed.items) c.args.self.now.core.ends.places.items) (has c.args.self.now.core.number.0 c.args.self.now.core.is_open (g.C.Joins.kind c.stays-peer.new.kind) (told_in c.note.new.turns.items c.args.self.now.core.sealed.items) l))
+    subst (λ (l : List (Place _ _)). TurnsTo c.args.end c.args.state (has c.args.self.now.core.number.0 c.args.self.now.core.is_open (g.C.Joins.kind c.args.self.now.core.kind) (told_in c.args.self.now.core.turns.items c.args.self.now.core.sealed.items c.args.self.now.core.joins.items) c.args.self.now.core.ends.places.items) (has c.args.self.now.core.number.0 c.args.self.now.core.is_open (g.C.Joins.kind c.stays-peer.new.kind) (told_in c.note.new.turns.items c.args.self.now.core.sealed.items c.args.self.now.core.joins.items) l))
     (ap (λ (x : Place _ _). set c.args.self.now.core.ends.places.items c.in-Some.place (record x { state = c.args.state; peer = c.stays-peer.result })) same ∙ sym s.now)
-    (turned_of c.args.self.now.core.ends.places.items c.in-Some.place f.0 c.args.end f.1 f.2 (alone_of g.P.Pipes.known c.args.self.now.pipes c.args.self.now.core.ends.rows.items c.args.self.now.core.ends.places.items c.in-Some.place f.0 c.args.end (sound_of g.P.Pipes.known c.args.self.now.pipes c.args.self.now.core.ends.rows.items c.args.self.now.core.ends.places.items c.args.self.now.sound) f.1 f.2) c.args.self.now.core.number.0 c.args.self.now.core.is_open (g.C.Joins.kind c.args.self.now.core.kind) (g.C.Joins.kind c.stays-peer.new.kind) (told_in c.args.self.now.core.turns.items c.args.self.now.core.sealed.items) (told_in c.note.new.turns.items c.args.self.now.core.sealed.items) c.args.state c.stays-peer.result
-    (c.note.ensures ∙ ap (λ (x : Place _ _). c.args.self.now.core.turns.items ++ (if is_state x.state c.args.state then [] else (c.args.end, c.args.state) ∷ [])) was) refl)
+    (turned_of c.args.self.now.core.ends.places.items c.in-Some.place f.0 c.args.end f.1 f.2 (alone_of g.P.Pipes.known c.args.self.now.pipes c.args.self.now.core.ends.rows.items c.args.self.now.core.ends.places.items c.in-Some.place f.0 c.args.end (sound_of g.P.Pipes.known c.args.self.now.pipes c.args.self.now.core.ends.rows.items c.args.self.now.core.ends.places.items c.args.self.now.sound) f.1 f.2) c.args.self.now.core.number.0 c.args.self.now.core.is_open (g.C.Joins.kind c.args.self.now.core.kind) (g.C.Joins.kind c.stays-peer.new.kind) (told_in c.args.self.now.core.turns.items c.args.self.now.core.sealed.items c.args.self.now.core.joins.items) (told_in c.note.new.turns.items c.args.self.now.core.sealed.items c.args.self.now.core.joins.items) c.args.state c.stays-peer.result
+    (c.note.ensures ∙ ap (λ (x : Place _ _). c.args.self.now.core.turns.items ++ (if is_state x.state c.args.state then [] else (c.args.end, c.args.state) ∷ [])) was) refl refl)
 
 pub unreachable-requires : goal.unreachable-requires
 unreachable-requires g c =

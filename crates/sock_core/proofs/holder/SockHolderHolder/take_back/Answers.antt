@@ -1,19 +1,22 @@
 use Rattle.std.proofs.Common.{refl, sym, ap, ◌∙◌, subst, Bool, false, List, [], if◌then◌else◌, ◌==◌, set, Some}
 use Rattle.std.specs.List.{position}
 use Rattle.held_ends.specs.declared.table.Place.{Place}
-use Rattle.ctl_holder.specs.Holding.{KeepsTurns, Left, read_in, written_in}
+use Rattle.ctl_holder.specs.Holding.{BeginsNone, Left, read_in, written_in}
 use Rattle.held_ends.specs.Places.{is_of, held_in}
 use Rattle.sock_core.specs.Has.{has, told_in}
 use Rattle.held_ends.proofs.SoundLemmas.{one_some}
 use Rattle.sock_core.proofs.FindLemmas.{found, not_found, alone_of, held_is, never}
 use Rattle.sock_core.proofs.FormLemmas.{sound_of, are_sound}
-use Rattle.sock_core.proofs.HolderLemmas.{owned_last, flag_at, names_at, left_of, left_turns}
+use Rattle.sock_core.proofs.HolderLemmas.{owned_last, flag_at, names_at, left_begins, left_of}
 use Rattle.zq_base.specs.declared.kind.Kind.{Kind}
 use Rattle.std.proofs.Common.{ℕ, length, length-set}
 use Rattle.sock_core.specs.Sound.{KeepsRoom}
 use Rattle.held_ends.proofs.PlaceLemmas.{place_found}
 use Rattle.sock_core.specs.Peers.{ArePeers}
 use Rattle.sock_core.proofs.PeerLemmas.{kept_parted}
+use Rattle.spec_control.specs.declared.entry.Joining.{Joining}
+use Rattle.sock_core.specs.Standing.{without_last}
+use Rattle.sock_core.proofs.StandingLemmas.{last_off}
 use Rattle.sock_core.proofs.holder.SockHolderHolder.take_back.Goals as goal
 
 pub take_back-requires-clause-sound : goal.take_back-requires-clause-sound
@@ -47,10 +50,10 @@ returns-in-Some-clause-left g c =
     let mine = (owned_last (c.args.o.0 == c.args.self.now.core.number.0) c.args.end c.args.self.now.core.ends.places.items c.requires.last).0 in
     let y = c.take_back.ensures.back in
     let same = one_some f.0 y.place (sym f.1 ∙ y.there) in
-    subst (λ (kind : Kind). Left c.args.o.0 c.args.end (has c.args.self.now.core.number.0 c.args.self.now.core.is_open (g.C.Joins.kind c.args.self.now.core.kind) (told_in c.args.self.now.core.turns.items c.args.self.now.core.sealed.items) c.args.self.now.core.ends.places.items) (has c.args.self.now.core.number.0 c.args.self.now.core.is_open kind (told_in c.args.self.now.core.turns.items c.args.self.now.core.sealed.items) c.take_back.new.table.places.items)) (sym c.part.ensures.kind)
-    (subst (λ (l : List (Place _ _)). Left c.args.o.0 c.args.end (has c.args.self.now.core.number.0 c.args.self.now.core.is_open (g.C.Joins.kind c.args.self.now.core.kind) (told_in c.args.self.now.core.turns.items c.args.self.now.core.sealed.items) c.args.self.now.core.ends.places.items) (has c.args.self.now.core.number.0 c.args.self.now.core.is_open (g.C.Joins.kind c.args.self.now.core.kind) (told_in c.args.self.now.core.turns.items c.args.self.now.core.sealed.items) l))
+    subst (λ (kind : Kind). Left c.args.o.0 c.args.end (has c.args.self.now.core.number.0 c.args.self.now.core.is_open (g.C.Joins.kind c.args.self.now.core.kind) (told_in c.args.self.now.core.turns.items c.args.self.now.core.sealed.items c.args.self.now.core.joins.items) c.args.self.now.core.ends.places.items) (has c.args.self.now.core.number.0 c.args.self.now.core.is_open kind (told_in c.args.self.now.core.turns.items c.args.self.now.core.sealed.items c.note_back.new.joins.items) c.take_back.new.table.places.items)) (sym c.part.ensures.kind)
+    (subst (λ (l : List (Place _ _)). Left c.args.o.0 c.args.end (has c.args.self.now.core.number.0 c.args.self.now.core.is_open (g.C.Joins.kind c.args.self.now.core.kind) (told_in c.args.self.now.core.turns.items c.args.self.now.core.sealed.items c.args.self.now.core.joins.items) c.args.self.now.core.ends.places.items) (has c.args.self.now.core.number.0 c.args.self.now.core.is_open (g.C.Joins.kind c.args.self.now.core.kind) (told_in c.args.self.now.core.turns.items c.args.self.now.core.sealed.items c.note_back.new.joins.items) l))
     (ap (λ (x : Place _ _). set c.args.self.now.core.ends.places.items c.in-Some.place (record x { held = false; writes = false })) same ∙ sym y.now)
-    (left_of c.args.self.now.core.ends.places.items c.in-Some.place f.0 c.args.end f.1 f.2 (alone_of g.P.Pipes.known c.args.self.now.pipes c.args.self.now.core.ends.rows.items c.args.self.now.core.ends.places.items c.in-Some.place f.0 c.args.end (sound_of g.P.Pipes.known c.args.self.now.pipes c.args.self.now.core.ends.rows.items c.args.self.now.core.ends.places.items c.args.self.now.sound) f.1 f.2) (record f.0 { held = false; writes = false }) refl c.args.self.now.core.number.0 c.args.o.0 c.args.self.now.core.is_open (g.C.Joins.kind c.args.self.now.core.kind) (told_in c.args.self.now.core.turns.items c.args.self.now.core.sealed.items) mine))
+    (left_of c.args.self.now.core.ends.places.items c.in-Some.place f.0 c.args.end f.1 f.2 (alone_of g.P.Pipes.known c.args.self.now.pipes c.args.self.now.core.ends.rows.items c.args.self.now.core.ends.places.items c.in-Some.place f.0 c.args.end (sound_of g.P.Pipes.known c.args.self.now.pipes c.args.self.now.core.ends.rows.items c.args.self.now.core.ends.places.items c.args.self.now.sound) f.1 f.2) (record f.0 { held = false; writes = false }) refl c.args.self.now.core.number.0 c.args.o.0 c.args.self.now.core.is_open (g.C.Joins.kind c.args.self.now.core.kind) (told_in c.args.self.now.core.turns.items c.args.self.now.core.sealed.items c.args.self.now.core.joins.items) (told_in c.args.self.now.core.turns.items c.args.self.now.core.sealed.items c.note_back.new.joins.items) mine))
 
 pub returns-in-Some-clause-written : goal.returns-in-Some-clause-written
 returns-in-Some-clause-written g c =
@@ -73,12 +76,15 @@ returns-in-Some-clause-turns g c =
     let f = found (is_of c.args.end) c.args.self.now.core.ends.places.items c.in-Some.place (sym c.in-Some.is ∙ c.find.ensures ∙ ap (λ (l : List (Place _ _)). position (is_of c.args.end) l) c.deref.ensures.value) in
     let y = c.take_back.ensures.back in
     let same = one_some f.0 y.place (sym f.1 ∙ y.there) in
-    subst (λ (kind : Kind). KeepsTurns (has c.args.self.now.core.number.0 c.args.self.now.core.is_open (g.C.Joins.kind c.args.self.now.core.kind) (told_in c.args.self.now.core.turns.items c.args.self.now.core.sealed.items) c.args.self.now.core.ends.places.items) (has c.args.self.now.core.number.0 c.args.self.now.core.is_open kind (told_in c.args.self.now.core.turns.items c.args.self.now.core.sealed.items) c.take_back.new.table.places.items)) (sym c.part.ensures.kind)
-    (subst (λ (l : List (Place _ _)). KeepsTurns (has c.args.self.now.core.number.0 c.args.self.now.core.is_open (g.C.Joins.kind c.args.self.now.core.kind) (told_in c.args.self.now.core.turns.items c.args.self.now.core.sealed.items) c.args.self.now.core.ends.places.items) (has c.args.self.now.core.number.0 c.args.self.now.core.is_open (g.C.Joins.kind c.args.self.now.core.kind) (told_in c.args.self.now.core.turns.items c.args.self.now.core.sealed.items) l))
+    subst (λ (kind : Kind). BeginsNone (has c.args.self.now.core.number.0 c.args.self.now.core.is_open (g.C.Joins.kind c.args.self.now.core.kind) (told_in c.args.self.now.core.turns.items c.args.self.now.core.sealed.items c.args.self.now.core.joins.items) c.args.self.now.core.ends.places.items) (has c.args.self.now.core.number.0 c.args.self.now.core.is_open kind (told_in c.args.self.now.core.turns.items c.args.self.now.core.sealed.items c.note_back.new.joins.items) c.take_back.new.table.places.items)) (sym c.part.ensures.kind)
+    (subst (λ (l : List (Place _ _)). BeginsNone (has c.args.self.now.core.number.0 c.args.self.now.core.is_open (g.C.Joins.kind c.args.self.now.core.kind) (told_in c.args.self.now.core.turns.items c.args.self.now.core.sealed.items c.args.self.now.core.joins.items) c.args.self.now.core.ends.places.items) (has c.args.self.now.core.number.0 c.args.self.now.core.is_open (g.C.Joins.kind c.args.self.now.core.kind) (told_in c.args.self.now.core.turns.items c.args.self.now.core.sealed.items c.note_back.new.joins.items) l))
     (ap (λ (x : Place _ _). set c.args.self.now.core.ends.places.items c.in-Some.place (record x { held = false; writes = false })) same ∙ sym y.now)
-    (left_turns c.args.self.now.core.ends.places.items c.in-Some.place f.0 c.args.end f.1 f.2 (alone_of g.P.Pipes.known c.args.self.now.pipes c.args.self.now.core.ends.rows.items c.args.self.now.core.ends.places.items c.in-Some.place f.0 c.args.end (sound_of g.P.Pipes.known c.args.self.now.pipes c.args.self.now.core.ends.rows.items c.args.self.now.core.ends.places.items c.args.self.now.sound) f.1 f.2) (record f.0 { held = false; writes = false }) refl c.args.self.now.core.number.0 c.args.self.now.core.is_open (g.C.Joins.kind c.args.self.now.core.kind) (told_in c.args.self.now.core.turns.items c.args.self.now.core.sealed.items)))
+    (left_begins c.args.self.now.core.ends.places.items c.in-Some.place f.0 c.args.end f.1 f.2 (alone_of g.P.Pipes.known c.args.self.now.pipes c.args.self.now.core.ends.rows.items c.args.self.now.core.ends.places.items c.in-Some.place f.0 c.args.end (sound_of g.P.Pipes.known c.args.self.now.pipes c.args.self.now.core.ends.rows.items c.args.self.now.core.ends.places.items c.args.self.now.sound) f.1 f.2) (record f.0 { held = false; writes = false }) refl c.args.self.now.core.number.0 c.args.self.now.core.is_open (g.C.Joins.kind c.args.self.now.core.kind) (told_in c.args.self.now.core.turns.items c.args.self.now.core.sealed.items c.args.self.now.core.joins.items) (told_in c.args.self.now.core.turns.items c.args.self.now.core.sealed.items c.note_back.new.joins.items) refl refl))
 
 pub unreachable-requires : goal.unreachable-requires
 unreachable-requires g c =
     never (sym (owned_last (c.args.o.0 == c.args.self.now.core.number.0) c.args.end c.args.self.now.core.ends.places.items c.requires.last).1
     ∙ not_found (is_of c.args.end) c.args.self.now.core.ends.places.items (sym c.in-None.is ∙ c.find.ensures ∙ ap (λ (l : List (Place _ _)). position (is_of c.args.end) l) c.deref.ensures.value))
+
+pub returns-in-Some-clause-joins : goal.returns-in-Some-clause-joins
+returns-in-Some-clause-joins g c = λ before last are. c.note_back.ensures ∙ ap (λ (js : List (Joining _)). without_last js) are ∙ last_off before last

@@ -1,0 +1,73 @@
+-- The ends that join in an event, and the objects that their holder has behind it.
+use Rattle.std.specs.Prelude.{◌≡◌, ◌≢◌, ◌&&◌, ◌++◌, ◌∷◌, [], ℕ, Bool, true, false, List, flat_map, refl}
+use Rattle.std.proofs.Common.{sym, ap, ◌∙◌, subst, inl, inr}
+use Rattle.std.proofs.lemmas.Bool.{cases_eq}
+use Rattle.std.proofs.lemmas.List.{append-nil, append_cancel_left}
+use Rattle.spec_control.specs.declared.entry.Did.{Did}
+use Rattle.spec_control.specs.declared.entry.Joining.{Joining}
+use Rattle.spec_control.specs.declared.stage.Use.{Use}
+use Rattle.spec_control.specs.Stage.{is_coming}
+use Rattle.spec_control.specs.Row.{is_socket, AsksOver, link_after}
+use Rattle.spec_control.specs.Rows.{Rows, obj, with_object}
+use Rattle.spec_control.specs.Control.{Control}
+use Rattle.spec_control.specs.ControlRun.{IsOpenSocket, is_between}
+use Rattle.spec_control.specs.After.{after}
+use Rattle.control_rows.proofs.ListLemmas.{never}
+use Rattle.ctl_holder.specs.Holding.{HasGiven, Holding, JoinsBy}
+use Rattle.ctl_holder.specs.Joins.{JoinsIn, KeepsObjects, came_in}
+use Rattle.ctl_terms.proofs.KeepLemmas.{all_kept}
+use Rattle.ctl_history.specs.Coming.{ComesWith}
+use Rattle.ctl_history.specs.Past.{Past, control_of, with_event}
+use Rattle.ctl_history.proofs.CloseLemmas.{closed_between}
+use Rattle.ctl_history.proofs.EventLemmas.{control_more}
+
+module _ {N S : Type 0} where
+  one_comes : (before : List (Did N S)) (did : Did N S) (h k : Holding N) → JoinsBy (came_in did) h k → JoinsIn before (before ++ did ∷ []) h k
+  one_comes before did h k came more is =
+      subst (λ (ds : List (Did N S)). JoinsBy (flat_map came_in ds) h k) (append_cancel_left before (did ∷ []) more is)
+      (came ∙ ap (λ (js : List (Joining N)). h.joined ++ js) (sym (append-nil (came_in did))))
+
+  none_comes : (before : List (Did N S)) (h k : Holding N) → k.joined ≡ h.joined → JoinsIn before before h k
+  none_comes before h k same more is =
+      subst (λ (ds : List (Did N S)). JoinsBy (flat_map came_in ds) h k) (append_cancel_left before [] more (append-nil before ∙ is)) (same ∙ sym (append-nil h.joined))
+
+module _ {G N S : Type 0} (p : Past G N S) where
+  -- nothing happened
+  pub past_comes : (h k : Holding N) → k.joined ≡ h.joined → ((i : ℕ) → k.holds i ≡ h.holds i) → ((i : ℕ) → k.kind i ≡ h.kind i) → ComesWith p p h k
+  past_comes h k joined holds kinds = (none_comes p.events h k joined, all_kept (control_of p) (control_of p) h k holds kinds)
+
+  -- an event in which the holder's objects stay
+  pub event_comes : (did : Did N S) (h k : Holding N) → JoinsBy (came_in did) h k → ((i : ℕ) → k.holds i ≡ h.holds i) → ((i : ℕ) → k.kind i ≡ h.kind i) → ComesWith p (with_event did p) h k
+  event_comes did h k came holds kinds = (one_comes p.events did h k came, all_kept (control_of p) (control_of (with_event did p)) h k holds kinds)
+
+  -- an event of which the holder was told nothing
+  pub aside_comes : (did : Did N S) (h k : Holding N) → came_in did ≡ [] → k.joined ≡ h.joined → ((i : ℕ) → k.holds i ≡ h.holds i) → ((i : ℕ) → k.kind i ≡ h.kind i) → ComesWith p (with_event did p) h k
+  aside_comes did h k none same holds kinds = event_comes did h k (same ∙ sym (ap (λ (js : List (Joining N)). h.joined ++ js) none ∙ append-nil h.joined)) holds kinds
+
+  -- an event in which objects may have gone or come
+  pub objects_come : (did : Did N S) (h k : Holding N) → JoinsBy (came_in did) h k → KeepsObjects (control_of p) (after did (control_of p)) h k → ComesWith p (with_event did p) h k
+  objects_come did h k came keeps = (one_comes p.events did h k came, subst (λ (d : Control). KeepsObjects (control_of p) d h k) (sym (control_more p did)) keeps)
+
+-- a socket that is closed goes with its ends
+pub close_keeps : {N : Type 0} (c d : Control) (o : ℕ) (h k : Holding N) → d.rows ≡ with_object o (link_after AsksOver (obj c.rows o)) c.rows → IsOpenSocket (obj c.rows o) → HasGiven o h k → KeepsObjects c d h k
+close_keeps c d o h k rows is_open gone = record {
+  holds = λ i stays. other i stays.way {Q = λ n. k.holds n ≡ h.holds n} (λ n ne. (gone.others n ne).0);
+  kinds = λ i stays. other i stays.way {Q = λ n. k.kind n ≡ h.kind n} (λ n ne. (gone.others n ne).1.1);
+}
+  where
+    none : (b : Bool) → (b && false) ≡ false
+    none true = refl
+    none false = refl
+
+    was_not : is_between (obj c.rows o) ≡ false
+    was_not = ap (λ (u : Use). is_socket (obj c.rows o).kind && is_coming u) is_open.open_still ∙ none (is_socket (obj c.rows o).kind)
+
+    between : is_between (obj d.rows o) ≡ true
+    between = subst (λ (s : Rows). is_between (obj s o) ≡ true) (sym rows) (closed_between c o is_open)
+
+    other : (i : ℕ) → is_between (obj d.rows i) ≡ is_between (obj c.rows i) → {Q : ℕ → Type 0} → ((n : ℕ) → n ≢ o → Q n) → Q i
+    other i way rest =
+        elim (cases_eq i o) [
+          | inl same ↦ absurd (never (sym (subst (λ (n : ℕ). is_between (obj c.rows n) ≡ false) (sym same) was_not) ∙ sym way ∙ subst (λ (n : ℕ). is_between (obj d.rows n) ≡ true) (sym same) between))
+          | inr ne ↦ rest i ne
+        ]

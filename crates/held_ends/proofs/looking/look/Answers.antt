@@ -1,0 +1,52 @@
+use Rattle.std.proofs.Common.{◌∷◌, [], set, sym, ap, ◌∙◌, subst, arith}
+use Rattle.spec_pattern.specs.PipeStep.{read_through}
+use Rattle.msg_pipe.specs.Told.{front_step}
+use Rattle.zq_base.specs.Ends.{PipeId}
+use Rattle.ends.specs.Rows.{table, end_of}
+use Rattle.ends.specs.Runs.{DoesAll}
+use Rattle.held_ends.specs.declared.table.Place.{Place}
+use Rattle.held_ends.specs.Sound.{IsSound}
+use Rattle.held_ends.specs.Looking.{met_after}
+use Rattle.held_ends.proofs.PlaceLemmas.{place_within, place_found}
+use Rattle.held_ends.proofs.EndsLemmas.{ends_held}
+use Rattle.held_ends.proofs.LookLemmas.{row_of, look_sound}
+use Rattle.held_ends.proofs.looking.look.Goals as goal
+
+pub front_at-found-requires-clause-held : goal.front_at-found-requires-clause-held
+front_at-found-requires-clause-held g c = ends_held g.P.Pipes.known c.args.pipes.now c.args.table.now.rows.items c.args.table.now.places.items c.requires.sound
+
+pub front_at-found-requires-clause-there : goal.front_at-found-requires-clause-there
+front_at-found-requires-clause-there g c =
+    let w = c.requires.writes in
+    let r = row_of g.P.Pipes.known c.args.pipes.now c.args.table.now.rows.items c.args.table.now.places.items c.args.place w.place c.requires.sound w.there w.held w.writes in
+    (r.0, r.1)
+
+pub index_mut-requires : goal.index_mut-requires
+index_mut-requires g c = let w = place_within c.args.table.now.places.items c.args.place c.requires.writes.place c.requires.writes.there in omega (arith, w)
+
+pub returns-clause-sound : goal.returns-clause-sound
+returns-clause-sound g c =
+    let t = c.args.table.now in
+    let w = c.requires.writes in
+    let r = row_of g.P.Pipes.known c.args.pipes.now t.rows.items t.places.items c.args.place w.place c.requires.sound w.there w.held w.writes in
+    let found = c.front_at-found.result in
+    let does : DoesAll g.P.Pipes.known (table c.args.pipes.now t.rows.items) (front_step (read_through w.place.end) found ∷ []) (table c.front_at-found.new.pipes c.front_at-found.new.rows.items) =
+    subst (λ (e : PipeId). DoesAll g.P.Pipes.known (table c.args.pipes.now t.rows.items) (front_step (read_through e) found ∷ []) (table c.front_at-found.new.pipes c.front_at-found.new.rows.items))
+    (ap end_of r.1 ∙ r.2.end_is) c.front_at-found.ensures in
+    let same = place_found t.places.items c.args.place w.place c.index_mut.result.now w.there c.index_mut.ensures.value in
+    let now = c.meet.ensures ∙ ap (λ (p : Place _ _). record p { met = met_after found p.met }) same in
+    subst (λ (p : Place _ _). IsSound g.P.Pipes.known c.front_at-found.new.pipes c.front_at-found.new.rows.items (set t.places.items c.args.place p)) (sym now)
+    (look_sound g.P.Pipes.known c.args.pipes.now c.front_at-found.new.pipes t.rows.items c.front_at-found.new.rows.items t.places.items c.args.place w.place c.requires.sound w.there w.held w.writes found does)
+
+pub returns-clause-looked : goal.returns-clause-looked
+returns-clause-looked g c =
+    let t = c.args.table.now in
+    let w = c.requires.writes in
+    let r = row_of g.P.Pipes.known c.args.pipes.now t.rows.items t.places.items c.args.place w.place c.requires.sound w.there w.held w.writes in
+    let found = c.front_at-found.result in
+    let does : DoesAll g.P.Pipes.known (table c.args.pipes.now t.rows.items) (front_step (read_through w.place.end) found ∷ []) (table c.front_at-found.new.pipes c.front_at-found.new.rows.items) =
+    subst (λ (e : PipeId). DoesAll g.P.Pipes.known (table c.args.pipes.now t.rows.items) (front_step (read_through e) found ∷ []) (table c.front_at-found.new.pipes c.front_at-found.new.rows.items))
+    (ap end_of r.1 ∙ r.2.end_is) c.front_at-found.ensures in
+    let same = place_found t.places.items c.args.place w.place c.index_mut.result.now w.there c.index_mut.ensures.value in
+    let now = c.meet.ensures ∙ ap (λ (p : Place _ _). record p { met = met_after found p.met }) same in
+    record { place = w.place; there = w.there; does = does; now = ap (set t.places.items c.args.place) now }

@@ -1,0 +1,63 @@
+-- A socket is closed, and its ends are on their way.
+use Rattle.std.specs.Prelude.{◌≡◌, ◌≢◌, ◌==◌, ◌++◌, ◌∷◌, [], ℕ, Bool, true, false, List, None, if◌then◌else◌, refl}
+use Rattle.std.specs.List.{list_any}
+use Rattle.std.proofs.Common.{sym, ap, ◌∙◌, subst}
+use Rattle.std.proofs.lemmas.Bool.{ne_eqb}
+use Rattle.zq_base.specs.declared.ids.ObjId.{ObjId}
+use Rattle.spec_control.specs.declared.entry.Answered.{Answered}
+use Rattle.spec_control.specs.declared.entry.Did.{Did}
+use Rattle.spec_control.specs.declared.entry.Did.TheVariants.{Asked}
+use Rattle.spec_control.specs.declared.request.Req.TheVariants.{Close}
+use Rattle.spec_control.specs.declared.request.Reply.TheVariants.{Done}
+use Rattle.spec_control.specs.Control.{begun}
+use Rattle.spec_control.specs.ControlRun.{after_all}
+use Rattle.spec_control.specs.Names.{AreNamed}
+use Rattle.control_held.specs.Has.{IsBy}
+use Rattle.control_moves.specs.OwnMoves.{own_moves}
+use Rattle.control_rows.proofs.ListLemmas.{never}
+use Rattle.ctl_holder.specs.declared.given.Given.{Given}
+use Rattle.ctl_holder.specs.Holding.{HasGiven, Holding}
+use Rattle.ctl_history.specs.Closing.{Closes}
+use Rattle.ctl_history.specs.Past.{Past, control_of, items_of, with_event, with_given, IsPast}
+use Rattle.socket_laws.proofs.RowLemmas.{makes_object}
+use Rattle.one_desk.specs.declared.mark.Mark.{Mark}
+use Rattle.one_desk.specs.declared.mark.Mark.TheVariants.{Event}
+use Rattle.one_desk.specs.Order.{order_of, AreMarked}
+use Rattle.one_desk.specs.Lent.{lent_to, ClosesOnce, IsLent}
+use Rattle.one_desk.proofs.HoldLemmas.{Leaves}
+use Rattle.one_desk.proofs.LentLemmas.{lent_more}
+use Rattle.one_desk.proofs.OrderLemmas.{event_more}
+
+module _ {G N S : Type 0} (ms ms' : List Mark) (by wakers : ℕ) (old new : Past G N S) (gs : List G) (did : Did N S) (marks : ms' ≡ ms ++ Event by ∷ []) (step : new ≡ with_given gs (with_event did old)) where
+  pub lent_closed : IsLent ms old wakers → IsPast new → AreNamed [] (items_of new) →
+      IsBy (order_of ms old.events) (after_all (order_of ms old.events) (begun old.workers)) did by → list_any makes_object (own_moves (control_of old) did) ≡ false → IsLent ms' new wakers
+  lent_closed lent run named is none =
+      let mid = lent_more ms ms' by wakers old (with_event did old) did marks refl lent (subst (λ (p : Past G N S). IsPast p) step run) (subst (λ (p : Past G N S). AreNamed [] (items_of p)) step named) is none in
+      subst (λ (p : Past G N S). IsLent ms' p wakers) (sym step) (record { marked = mid.marked; order = mid.order; options = mid.options; wakers = mid.wakers })
+
+-- the holder of the socket has no more of it
+pub leaves_closed : {N S : Type 0} (socket : ObjId) (a : Answered N S) (h k : Holding N) → HasGiven socket.0 h k → Leaves (Asked (Close socket) Done a) h k
+leaves_closed socket a h k gives = record {
+  objects = λ i e. sym (gives.others i (other i e)).0 ∙ e;
+  kinds = λ i e. (gives.others i (other i e)).1.1;
+  same = λ i e x. ap (λ (b : Bool). if b then None else x) (apart i e);
+  stays = λ i e. apart i e;
+}
+  where
+    other : (i : ℕ) → k.holds i ≡ true → i ≢ socket.0
+    other i e same = never (sym gives.gone ∙ ap k.holds (sym same) ∙ e)
+
+    apart : (i : ℕ) → k.holds i ≡ true → (socket.0 == i) ≡ false
+    apart i e = ne_eqb socket.0 i (λ same. other i e (sym same))
+
+module _ {N O I S : Type 0} (ms ms' : List Mark) (by : ℕ) (old new : Past (Given N O I) N S) (ended : I → Bool) (socket : ObjId) (marks : ms' ≡ ms ++ Event by ∷ []) (closes : Closes ended socket old new) (marked : AreMarked ms old.events) where
+  pub closes_more : ClosesOnce ended socket (lent_to by ms old) (lent_to by ms' new)
+  closes_more = record {
+    ends = closes.ends;
+    met = closes.met;
+    answered = closes.answered;
+    past = closes.step;
+    items = ap (λ (xs : List Mark). order_of xs new.events) marks ∙ ap (λ (p : Past (Given N O I) N S). order_of (ms ++ Event by ∷ []) p.events) closes.step
+        ∙ event_more ms old.events by (Asked (Close socket) Done closes.answered) marked;
+    caller = refl;
+  }

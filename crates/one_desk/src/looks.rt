@@ -1,0 +1,69 @@
+ghost use Rattle.std.specs.Prelude.{◌≡◌, ◌≢◌, ◌<◌, [], IfSome, IfNone};
+ghost use Rattle.spec_control.specs.declared.entry.SeenEmpty.TheVariants.{Nothing, Mailbox};
+ghost use Rattle.spec_control.specs.ControlRun.{AreEmpty, IsSeen};
+ghost use Rattle.ctl_history.specs.Past.{control_of};
+ghost use Rattle.one_desk.specs.Lent.{Sees};
+
+use crate::desk::OneDesk;
+use crate::mark::Mark;
+use ctl_history::History;
+use msg_pipe::Pipes;
+use spec_control::{SeenEmpty, Sight};
+use zq_base::SlotId;
+
+// What there is to see, where these mailboxes are empty.
+fn sight_of<P: Pipes>(history: &History<P>, by: u32, empty: SeenEmpty) -> Sight
+where
+    P::Name: Drop,
+    requires empty { AreEmpty (control_of history.now) empty }
+    ensures seen { IsSeen (control_of history.now) result }
+    ensures by { result.by ≡ by }
+    ensures looked_at { result.empty ≡ empty }
+{
+    history.are_few();
+    Sight {
+        by,
+        empty,
+        root: history.root(),
+        live: history.live() as u32,
+        room: history.room(),
+    }
+}
+
+impl<P: Pipes> OneDesk<P>
+where
+    P::Name: Drop,
+    P::Waker: Drop,
+{
+    // The caller looks, and these mailboxes are empty.
+    fn note_look(&mut self, empty: SeenEmpty) -> Sight
+        requires empty { AreEmpty (control_of self.old.past) empty }
+        ensures { Sees empty result self.old self.new }
+    {
+        let sight = sight_of(&self.history, self.caller, empty);
+        self.order = self.order.and(&Mark::Seen(sight), &());
+        sight
+    }
+
+    /// The caller looks at the root's state, at how many objects live, and whether there is room for
+    /// one session more.
+    pub fn look_around(&mut self) -> Sight
+        ensures { Sees Nothing result self.old self.new }
+    {
+        self.note_look(SeenEmpty::Nothing)
+    }
+
+    /// The caller looks into a mailbox, and around where it is empty. A look that finds a command is
+    /// not noted.
+    pub fn look_into(&mut self, slot: SlotId) -> Option<Sight>
+        requires there { slot.0 < (control_of self.old.past).slots }
+        ensures empty { IfSome result (λ sight. Sees (Mailbox slot) sight self.old self.new) }
+        ensures waits { IfNone result ((self.new ≡ self.old)
+            × ((control_of self.old.past).boxes slot.0 ≢ [])) }
+    {
+        if !self.history.is_empty(slot) {
+            return None;
+        }
+        Some(self.note_look(SeenEmpty::Mailbox(slot)))
+    }
+}

@@ -1,0 +1,4 @@
+pub mod KnownLemmas
+pub mod OpenLemmas
+pub mod RowLemmas
+pub mod ThereLemmas
