@@ -6,3 +6,4 @@ pub mod AttachLemmas
 pub mod DetachLemmas
 pub mod FreshLemmas
 pub mod ChangeLemmas
+mod ToldLemmas

@@ -3,3 +3,4 @@ pub mod Stopped
 pub mod Calls
 pub mod Peers
 pub mod Fresh
+pub mod Told

@@ -5,6 +5,7 @@
 mod any_sock;
 mod calls;
 mod change_fault;
+mod laws;
 mod topics;
 
 pub use any_sock::AnySock;

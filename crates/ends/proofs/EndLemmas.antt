@@ -1,5 +1,5 @@
 -- A put and a take at the end of a place, as the code makes them.
-use Rattle.std.proofs.Common.{◌≡◌, ℕ, set, Option, Some, refl, sym, ap, ◌∙◌, subst, false, true≢false}
+use Rattle.std.proofs.Common.{◌≡◌, ℕ, set, [], ◌∷◌, Option, Some, refl, sym, ap, ◌∙◌, subst, false, true≢false}
 use Rattle.std.specs.Prelude.{Box, slice_index_or}
 use Rattle.std.specs.declared.alloc.Global.{Global}
 use Rattle.std.specs.Box.{with_value}
@@ -17,7 +17,7 @@ use Rattle.msg_pipe.specs.Told.{Puts, Finds, FrontFinds, front_of, put_step, tak
 use Rattle.msg_pipe.specs.Known.{Known, SeesTakes, SeesCommits, KeepsButOut, KeepsButIn}
 use Rattle.ends.specs.declared.row.EndRow.{EndRow}
 use Rattle.ends.specs.Rows.{Rows, unboxed, table, row_at, IsRow, end_of}
-use Rattle.ends.specs.Runs.{OutDoes, InDoes, front_at, OutCall, InCall}
+use Rattle.ends.specs.Runs.{OutDoes, InDoes, front_at, OutCall, InCall, seals}
 use Rattle.ends.proofs.RowLemmas.{found_at}
 
 -- the row that the code finds at a place
@@ -32,6 +32,16 @@ out_of_put p m (put.Full back) v w unsealed h = (refl, h.1)
 put_sealed : (m : Frames) (answer : PutIn) (v w : Writing) → Puts v m answer w → w.sealed ≡ v.sealed
 put_sealed m put.Ok v w h = h.sealed
 put_sealed m (put.Full back) v w h = h.1.sealed
+
+-- neither writes a delimiter
+pub put_unsealing : (p : PipeId) (m : Frames) (answer : PutIn) → seals (put_step p m answer ∷ []) ≡ false
+put_unsealing p m put.Ok = refl
+put_unsealing p m (put.Full back) = refl
+
+pub take_unsealing : (p : PipeId) (found : Taken) → seals (take_step p found ∷ []) ≡ false
+take_unsealing p (Item m) = refl
+take_unsealing p Empty = refl
+take_unsealing p Delimiter = refl
 
 in_of_take : (p : PipeId) (found : Taken) (v w : Reading) → Finds v found w → InDoes p (take_step p found) v w
 in_of_take p (Item m) v w h = (refl, h)

@@ -1,5 +1,6 @@
 -- What calls at the ends of a socket did: one call of the pipes after another, each with what it says (own choice).
 use Rattle.std.specs.Prelude.{◌≡◌, ◌⊎◌, ℕ, Bool, true, false, List, [], ◌∷◌, Some, Box, slice_set}
+use Rattle.std.specs.List.{list_any}
 use Rattle.std.specs.declared.alloc.Global.{Global}
 use Rattle.zq_base.specs.Ends.{PipeId}
 use Rattle.spec_pattern.specs.PipeStep.{PipeStep, Commit, FullLook, Take, EmptyLook, DelimiterLook, WaitingLook, Seal, read_through}
@@ -49,6 +50,20 @@ front_at (WaitingLook q) = Message
 front_at (Commit q m) = Message
 front_at (FullLook q) = Message
 front_at (Seal q) = Message
+
+-- a delimiter is written
+abbrev pub is_seal : PipeStep → Bool
+is_seal (Commit p m) = false
+is_seal (FullLook p) = false
+is_seal (Take p m) = false
+is_seal (EmptyLook p) = false
+is_seal (DelimiterLook p) = false
+is_seal (WaitingLook p) = false
+is_seal (Seal p) = true
+
+-- by one of these steps
+abbrev pub seals : List PipeStep → Bool
+seals steps = list_any is_seal steps
 
 module _ {S O I N : Type 0} (K : Known S O I N) where
   -- the row of a place was lent and came back, of the same end; all other rows are as they were

@@ -10,12 +10,12 @@ pub struct Ends<'p, 'r, P: Pipes> {
 }
 
 impl<P: Pipes> Peers for Ends<'_, '_, P> {
-    ghost use Rattle.std.specs.Prelude.{◌≡◌};
+    ghost use Rattle.std.specs.Prelude.{◌≡◌, false};
     ghost use Rattle.std.proofs.Common.{refl, ◌∙◌};
     ghost use Rattle.ends.specs.Rows.{table, row_at, IsRow, end_of, can_write_of};
     ghost use Rattle.ends.specs.Held.{IsHeld};
-    ghost use Rattle.ends.specs.Runs.{DoesAll};
-    ghost use Rattle.ends.specs.RunsOwed.{does_on};
+    ghost use Rattle.ends.specs.Runs.{DoesAll, seals};
+    ghost use Rattle.ends.specs.RunsOwed.{does_on, seals_on};
 
     ghost here = { λ s k. IsHeld P.known (table s.pipes.now s.rows.now.items)
         × IsRow s.rows.now.items k };
@@ -26,14 +26,16 @@ impl<P: Pipes> Peers for Ends<'_, '_, P> {
 
     ghost runs = { λ s steps t.
         DoesAll P.known (table s.pipes.now s.rows.now.items) steps (table t.pipes.now t.rows.now.items)
-        × (t.pipes.ghost_name ≡ s.pipes.ghost_name) × (t.rows.ghost_name ≡ s.rows.ghost_name) };
+        × (t.pipes.ghost_name ≡ s.pipes.ghost_name) × (t.rows.ghost_name ≡ s.rows.ghost_name)
+        × (seals steps ≡ false) };
 
-    ghost runs_none = { λ _. (refl, refl, refl) };
+    ghost runs_none = { λ _. (refl, refl, refl, refl) };
 
     ghost runs_on = { λ s t u before after first then. (
       does_on P.known _ _ _ before after first.0 then.0,
       then.1 ∙ first.1,
       then.2 ∙ first.2,
+      seals_on before after first.3 then.3,
     ) };
 
     fn pair(&self, place: usize) -> PairId {

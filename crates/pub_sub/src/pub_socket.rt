@@ -3,6 +3,7 @@ ghost use Rattle.std.specs.Map.{keys_of};
 ghost use Rattle.spec_pattern.specs.TurnList.{End};
 ghost use Rattle.spec_pattern.specs.Results.{MatchSend, IfBack};
 ghost use Rattle.msg_pipe.specs.Places.{KeepsPlaces};
+ghost use Rattle.pub_sub.specs.Known.{AreKnown};
 ghost use Rattle.pub_sub.specs.Publishers.{with_subscriber_at, Attaches, KeepsPeers, Publishes};
 ghost use Rattle.pub_sub.specs.Hearing.{HearsPeers, StopsHearing};
 
@@ -42,6 +43,13 @@ impl<K: Extent> PubSocket<K> {
         ensures err { OnErr result (self.new ≡ self.old) }
     {
         self.publisher.attach(alloc, place)
+    }
+
+    /// Its turns, and what is kept, are its peers'. It costs nothing.
+    pub fn hears_its_peers(&self)
+        ensures { AreKnown self.now }
+    {
+        self.publisher.hears_its_peers();
     }
 
     /// Hears its peers by turn, until none has a message, 256 were heard, or 1,000 messages wait

@@ -2,6 +2,7 @@ ghost use Rattle.std.specs.Prelude.{◌≡◌, ◌<◌, ◌++◌, ℕ, All, filt
 ghost use Rattle.std.specs.Map.{keys_of};
 ghost use Rattle.spec_pattern.specs.Results.{MatchSend, IfBack};
 ghost use Rattle.msg_pipe.specs.Places.{KeepsPlaces};
+ghost use Rattle.pub_sub.specs.Known.{AreKnown};
 ghost use Rattle.pub_sub.specs.Places.{AreOthers};
 ghost use Rattle.pub_sub.specs.Publishers.{no_subscribers, with_subscriber_at, without_subscriber_at, without_and_told, kept_without, Detaches, Publishes};
 ghost use Rattle.spec_pattern.specs.TurnList.{End};
@@ -65,6 +66,13 @@ impl Publisher {
             },
             kept: None,
         }
+    }
+
+    // Its turns, and what is kept, are its peers'.
+    pub(crate) fn hears_its_peers(&self)
+        ensures { AreKnown self.now }
+    {
+        let _ = &self.kept;
     }
 
     // The end at this place is attached, behind the others.

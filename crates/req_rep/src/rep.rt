@@ -73,6 +73,13 @@ impl Rep {
         self.owed = self.owed.without(place);
     }
 
+    /// The peer that a reply is owed to is one of its peers. It costs nothing.
+    pub fn owes_a_peer(&self)
+        ensures { IsAt (Contains self.now.ins) self.now.owed }
+    {
+        let _ = &self.owed;
+    }
+
     /// Receives a request from the first peer in turn that has one: `Fsm` where a reply is owed,
     /// `Again` where no peer has one. A message without an envelope is dropped and told, and where
     /// one call has dropped 256 it answers `Busy`.

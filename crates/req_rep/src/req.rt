@@ -72,6 +72,13 @@ impl Req {
         self.asked = self.asked.without(place);
     }
 
+    /// The peer that was asked is one of its peers. It costs nothing.
+    pub fn has_asked_a_peer(&self)
+        ensures { IsAt (Contains self.now.ins) self.now.asked }
+    {
+        let _ = &self.asked;
+    }
+
     /// Sends a request to the first peer in turn that has room, behind an empty frame: `Fsm` where
     /// a reply is awaited, `TooLarge` from 1,023 frames on, `Again` where no peer has room. The peer
     /// that was asked is one of its peers.

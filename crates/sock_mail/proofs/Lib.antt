@@ -1,0 +1,3 @@
+pub mod LentLemmas
+pub mod StopLemmas
+pub mod CallLemmas
