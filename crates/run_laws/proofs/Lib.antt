@@ -4,5 +4,6 @@ mod EventLemmas
 mod StayLemmas
 mod OrderLemmas
 mod DoneLemmas
-mod TurnLemmas
+pub mod TurnLemmas
 mod SealLemmas
+mod CapacityLemmas

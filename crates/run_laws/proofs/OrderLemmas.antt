@@ -178,11 +178,11 @@ ends_order c d b k lives stays children inv = record {
 
 -- ---- a run
 
-more_run : {N S : Type 0} (past : List (Item N S)) (item : Item N S) (c : Control) → IsControlRun c past → FitsItem (after_all past c) item → IsControlRun c (past ++ item ∷ [])
+pub more_run : {N S : Type 0} (past : List (Item N S)) (item : Item N S) (c : Control) → IsControlRun c past → FitsItem (after_all past c) item → IsControlRun c (past ++ item ∷ [])
 more_run [] item c run fits = (fits, tt)
 more_run (x ∷ past) item c run fits = (run.0, more_run past item (after_item x c) run.1 fits)
 
-more_state : {N S : Type 0} (past : List (Item N S)) (item : Item N S) (c : Control) → after_all (past ++ item ∷ []) c ≡ after_item item (after_all past c)
+pub more_state : {N S : Type 0} (past : List (Item N S)) (item : Item N S) (c : Control) → after_all (past ++ item ∷ []) c ≡ after_item item (after_all past c)
 more_state [] item c = refl
 more_state (x ∷ past) item c = more_state past item (after_item x c)
 

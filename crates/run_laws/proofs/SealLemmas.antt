@@ -1,6 +1,6 @@
 -- That an end is told to be sealed where its pipe gets its delimiter.
 use Rattle.std.specs.Prelude.{◌≡◌, ◌&&◌, ◌++◌, ◌∷◌, [], Bool, true, false, not, cond, List, filter, if◌then◌else◌, refl}
-use Rattle.std.proofs.Common.{sym, ap, ◌∙◌}
+use Rattle.std.proofs.Common.{ap, ◌∙◌}
 use Rattle.zq_base.specs.declared.ids.EndId.{EndId}
 use Rattle.spec_control.specs.declared.end.EndState.{EndState}
 use Rattle.spec_control.specs.declared.end.EndState.TheVariants.{Active, DelimiterGot, WaitDelimiter, AckSent, AskedOnce, AskedTwice, Gone}

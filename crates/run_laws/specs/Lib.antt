@@ -2,3 +2,4 @@ pub mod EndOrder
 pub mod DoneRuns
 pub mod TurnsLocal
 pub mod SealsTold
+pub mod CapacitiesStay

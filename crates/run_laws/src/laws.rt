@@ -1,3 +1,4 @@
+ghost use Rattle.run_laws.specs.CapacitiesStay.{CapacitiesStay, StepsStayExact};
 ghost use Rattle.run_laws.specs.DoneRuns.{DoneRunsLeaveNothing};
 ghost use Rattle.run_laws.specs.EndOrder.{ObjectsEndInOrder};
 ghost use Rattle.run_laws.specs.SealsTold.{SealsAreTold};
@@ -24,4 +25,14 @@ pub fn turns_are_local<N, S>()
 /// in it, in the same order.
 pub fn seals_are_told<N, S>()
     ensures { SealsAreTold N S }
+{}
+
+/// Once a pair has its number, the capacities of its pipes stay, whatever comes.
+pub fn capacities_stay<N, S>()
+    ensures { CapacitiesStay N S }
+{}
+
+/// So steps at pipes of such pairs that were exact stay exact, whatever comes.
+pub fn steps_stay_exact<N, S>()
+    ensures { StepsStayExact N S }
 {}

@@ -19,12 +19,13 @@ use Rattle.spec_run.specs.declared.line.LineCall.{LineCall}
 use Rattle.spec_run.specs.declared.line.LineCall.TheVariants.{Asks, Unbinds, Disconnects, Closes, Terms}
 use Rattle.spec_run.specs.declared.line.RunLine.{RunLine}
 use Rattle.spec_run.specs.ControlAnswer.{refusal_answer}
-use Rattle.spec_run.specs.Act.{Act, Try}
+use Rattle.spec_run.specs.Act.{Try}
 use Rattle.spec_run.specs.OpenSocket.{OpenSock}
 use Rattle.spec_run.specs.Pump.{Pumps}
 use Rattle.spec_run.specs.SocketCall.{SendsCall, ReceivesCall, ChangesCall, BindsCall, ConnectsCall, UnbindsCall, DisconnectsCall}
 use Rattle.spec_run.specs.Standing.{Sockets, open_at, with_open, without_open, CallsOpen, ClosesLine, OnFound, DoesLine}
-use Rattle.script_actor.specs.Way.{AddsActs, AsksOpen, CallsOne, ClosesSo, AsksToEnd, MakesOne, KeepsOthers, KeepsLent, KeepsAll, IsNew}
+use Rattle.script_actor.specs.Piece.{Piece, AddsActs}
+use Rattle.script_actor.specs.Way.{AsksOpen, CallsOne, ClosesSo, AsksToEnd, MakesOne, KeepsOthers, KeepsLent, KeepsAll, IsNew}
 use Rattle.script_actor.specs.Seats.{name_of, is_open_in, is_open_at, has_open, AreApart, socks_in, sockets_of, AllAgree}
 use Rattle.script_actor.specs.Stepping.{called_place, at_seats, DoesAsked, ShutsAt}
 use Rattle.script_actor.specs.declared.made.Made.TheVariants as made
@@ -73,12 +74,12 @@ module _ {N S : Type 0} where
   calls_open (Closes p) place mine s pumped called t is found pumps does = elim (no_place place is) [ ]
   calls_open Terms place mine s pumped called t is found pumps does = elim (no_place place is) [ ]
 
-  adds_none : (caller : ℕ) (acts : List (Act N S)) → AddsActs caller [] acts acts
-  adds_none caller acts = record { added = sym (append-nil acts); by = tt }
+  adds_none : (caller : ℕ) (pieces : List (Piece N S)) → AddsActs caller [] [] pieces pieces
+  adds_none caller pieces = record { added = sym (append-nil pieces); by = tt }
 
   -- a caller asks the context to end
-  pub asked_term : (caller : ℕ) (said : LineAnswer) (mine : Sockets) (told : List Skip) (before after : List (Act N S)) → AsksToEnd caller said before after
-      → DoesAsked caller Terms said (record { mine = mine; told = told; acts = before }) (record { mine = mine; told = told; acts = after })
+  pub asked_term : (caller : ℕ) (said : LineAnswer) (mine : Sockets) (told : List Skip) (before after : List (Piece N S)) → AsksToEnd caller said before after
+      → DoesAsked caller Terms said (record { mine = mine; told = told; pieces = before }) (record { mine = mine; told = told; pieces = after })
   asked_term caller said mine told before after h = record {
     pump = [];
     acts = _;
@@ -141,32 +142,32 @@ module _ {O : Type 0} (as_open : O → OpenSock) where
 
 module _ {O N S : Type 0} (as_open : O → OpenSock) where
   -- a line calls a seat that is not open
-  pub asked_none : (caller place : ℕ) (asks : LineCall) (seats : List (Seat O)) (told : List Skip) (acts : List (Act N S)) → called_place asks ≡ Some place → is_open_at seats place ≡ false
+  pub asked_none : (caller place : ℕ) (asks : LineCall) (seats : List (Seat O)) (told : List Skip) (pieces : List (Piece N S)) → called_place asks ≡ Some place → is_open_at seats place ≡ false
       → AllByRecursion (Fits as_open) seats → AreApart (map name_of seats)
-      → DoesAsked caller asks (Plain answer.NoSocket) (at_seats as_open seats told acts) (at_seats as_open seats told acts)
-  asked_none caller place asks seats told acts is shut fit apart = record {
+      → DoesAsked caller asks (Plain answer.NoSocket) (at_seats as_open seats told pieces) (at_seats as_open seats told pieces)
+  asked_none caller place asks seats told pieces is shut fit apart = record {
     pump = [];
     acts = [];
     skips = [];
     does = λ line all over. calls_none N S asks place (sockets_of as_open seats) line all over is (open_found as_open seats place fit apart ∙ none_in as_open (slice_get seats place) shut);
     tells = sym (append-nil told);
-    adds = adds_none caller acts;
+    adds = adds_none caller pieces;
   }
 
-  pub closes_none : (caller place : ℕ) (seats : List (Seat O)) (told : List Skip) (acts : List (Act N S)) → is_open_at seats place ≡ false
+  pub closes_none : (caller place : ℕ) (seats : List (Seat O)) (told : List Skip) (pieces : List (Piece N S)) → is_open_at seats place ≡ false
       → AllByRecursion (Fits as_open) seats → AreApart (map name_of seats)
-      → DoesAsked caller (Closes place) (Plain answer.NoSocket) (at_seats as_open seats told acts) (at_seats as_open seats told acts)
-  closes_none caller place seats told acts shut fit apart = record {
+      → DoesAsked caller (Closes place) (Plain answer.NoSocket) (at_seats as_open seats told pieces) (at_seats as_open seats told pieces)
+  closes_none caller place seats told pieces shut fit apart = record {
     pump = [];
     acts = [];
     skips = [];
     does = λ line all over. on_none ClosesLine (open_at (sockets_of as_open seats) place) (sockets_of as_open seats) line all over (open_found as_open seats place fit apart ∙ none_in as_open (slice_get seats place) shut);
     tells = sym (append-nil told);
-    adds = adds_none caller acts;
+    adds = adds_none caller pieces;
   }
 
   -- a line calls the socket of an open seat
-  pub asked_open : (caller place : ℕ) (asks : LineCall) (said : LineAnswer) (seats : List (Seat O)) (object : ObjId) (s t : O) (told told_now : List Skip) (before after : List (Act N S))
+  pub asked_open : (caller place : ℕ) (asks : LineCall) (said : LineAnswer) (seats : List (Seat O)) (object : ObjId) (s t : O) (told told_now : List Skip) (before after : List (Piece N S))
       → called_place asks ≡ Some place → slice_get seats place ≡ Some (seat.Open object s) → AllByRecursion (Fits as_open) seats → AreApart (map name_of seats) → (as_open t).object ≡ object.0
       → CallsOne caller asks (as_open s) (as_open t) said told told_now before after
       → DoesAsked caller asks said (at_seats as_open seats told before) (at_seats as_open (slice_set seats place (seat.Open object t)) told_now after)
@@ -185,7 +186,7 @@ module _ {O N S : Type 0} (as_open : O → OpenSock) where
   }
 
   -- the socket of an open seat is closed
-  pub shuts_at : (caller place : ℕ) (seats : List (Seat O)) (object : ObjId) (s : O) (before after : List (Act N S)) → slice_get seats place ≡ Some (seat.Open object s)
+  pub shuts_at : (caller place : ℕ) (seats : List (Seat O)) (object : ObjId) (s : O) (before after : List (Piece N S)) → slice_get seats place ≡ Some (seat.Open object s)
       → AllByRecursion (Fits as_open) seats → AreApart (map name_of seats) → ClosesSo caller (as_open s).object before after
       → ShutsAt as_open caller place seats (slice_set seats place (seat.Closed object)) before after
   shuts_at caller place seats object s before after here fit apart h = record {
@@ -198,7 +199,7 @@ module _ {O N S : Type 0} (as_open : O → OpenSock) where
   }
 
   -- a line closes the socket of an open seat
-  pub closes_open : (caller place : ℕ) (seats new : List (Seat O)) (told : List Skip) (before after : List (Act N S)) → AllByRecursion (Fits as_open) seats → AreApart (map name_of seats)
+  pub closes_open : (caller place : ℕ) (seats new : List (Seat O)) (told : List Skip) (before after : List (Piece N S)) → AllByRecursion (Fits as_open) seats → AreApart (map name_of seats)
       → ShutsAt as_open caller place seats new before after → DoesAsked caller (Closes place) (Plain answer.Done) (at_seats as_open seats told before) (at_seats as_open new told after)
   closes_open caller place seats new told before after fit apart h = record {
     pump = [];
@@ -213,7 +214,7 @@ module _ {O N S : Type 0} (as_open : O → OpenSock) where
   }
 
   -- a line makes a socket, or is refused
-  pub asked_socket : (caller : ℕ) (kind : Kind) (options : Options) (seats : List (Seat O)) (object : ObjId) (s : O) (told : List Skip) (before after : List (Act N S))
+  pub asked_socket : (caller : ℕ) (kind : Kind) (options : Options) (seats : List (Seat O)) (object : ObjId) (s : O) (told : List Skip) (before after : List (Piece N S))
       → MakesOne as_open caller kind options (made.Socket object s) before after
       → DoesAsked caller (Asks (call.Socket kind options)) (Plain (answer.Object object)) (at_seats as_open seats told before) (at_seats as_open (seats ++ seat.Open object s ∷ []) told after)
   asked_socket caller kind options seats object s told before after h = record {
@@ -234,7 +235,7 @@ module _ {O N S : Type 0} (as_open : O → OpenSock) where
     adds = h.adds;
   }
 
-  pub asked_refused : (caller : ℕ) (kind : Kind) (options : Options) (seats : List (Seat O)) (refusal : Refusal) (told : List Skip) (before after : List (Act N S))
+  pub asked_refused : (caller : ℕ) (kind : Kind) (options : Options) (seats : List (Seat O)) (refusal : Refusal) (told : List Skip) (before after : List (Piece N S))
       → MakesOne as_open caller kind options (made.Refused refusal) before after
       → DoesAsked caller (Asks (call.Socket kind options)) (refusal_answer refusal) (at_seats as_open seats told before) (at_seats as_open (seats ++ seat.Refused ∷ []) told after)
   asked_refused caller kind options seats refusal told before after h = record {
@@ -256,7 +257,7 @@ module _ {O N S : Type 0} (as_open : O → OpenSock) where
 
 module _ {W O N S : Type 0} (as_open : O → OpenSock) (agrees : W → ℕ → O → Type 0) (was_made : W → ℕ → Type 0) where
   -- a call goes to the socket of an open seat, as the code reads and writes the seat
-  pub calls_in : (caller place : ℕ) (asks : LineCall) (said : LineAnswer) (items seats : List (Seat O)) (x : Seat O) (object : ObjId) (s t : O) (way : W) (told told_now : List Skip) (before after : List (Act N S))
+  pub calls_in : (caller place : ℕ) (asks : LineCall) (said : LineAnswer) (items seats : List (Seat O)) (x : Seat O) (object : ObjId) (s t : O) (way : W) (told told_now : List Skip) (before after : List (Piece N S))
       → items ≡ seats → is_open_at seats place ≡ true → x ≡ slice_index_or items place x → x ≡ seat.Open object s → called_place asks ≡ Some place → AllAgree as_open agrees was_made way caller seats
       → (as_open t).object ≡ (as_open s).object → CallsOne caller asks (as_open s) (as_open t) said told told_now before after
       → DoesAsked caller asks said (at_seats as_open seats told before) (at_seats as_open (slice_set items place (seat.Open object t)) told_now after)
@@ -268,7 +269,7 @@ module _ {W O N S : Type 0} (as_open : O → OpenSock) (agrees : W → ℕ → O
       (asked_open as_open caller place asks said seats object s t told told_now before after named here fit all.apart (same ∙ fit_at as_open seats place object s here fit) h)
 
   -- the socket of an open seat is closed, as the code takes it out
-  pub shuts_in : (caller place : ℕ) (items seats : List (Seat O)) (x : Seat O) (object : ObjId) (s : O) (way : W) (before after : List (Act N S))
+  pub shuts_in : (caller place : ℕ) (items seats : List (Seat O)) (x : Seat O) (object : ObjId) (s : O) (way : W) (before after : List (Piece N S))
       → items ≡ seats → is_open_at seats place ≡ true → x ≡ slice_index_or items place x → x ≡ seat.Open object s → AllAgree as_open agrees was_made way caller seats
       → ClosesSo caller (as_open s).object before after → ShutsAt as_open caller place seats (slice_set items place (seat.Closed object)) before after
   shuts_in caller place items seats x object s way before after whole opened read is all h =
@@ -306,7 +307,7 @@ module _ {W O : Type 0} (as_open : O → OpenSock) (agrees : W → ℕ → O →
 
 module _ {W O N S : Type 0} (as_open : O → OpenSock) (agrees : W → ℕ → O → Type 0) (was_made : W → ℕ → Type 0) where
   -- the seats agree behind the making of a socket
-  pub made_agrees : (caller : ℕ) (kind : Kind) (options : Options) (seats : List (Seat O)) (object : ObjId) (s : O) (old new : W) (before after : List (Act N S))
+  pub made_agrees : (caller : ℕ) (kind : Kind) (options : Options) (seats : List (Seat O)) (object : ObjId) (s : O) (old new : W) (before after : List (Piece N S))
       → MakesOne as_open caller kind options (made.Socket object s) before after → IsNew as_open agrees was_made caller (made.Socket object s) old new → KeepsAll agrees was_made old new
       → AllAgree as_open agrees was_made old caller seats → AllAgree as_open agrees was_made new caller (seats ++ seat.Open object s ∷ [])
   made_agrees caller kind options seats object s old new before after h fresh keeps all =

@@ -7,11 +7,12 @@ use Rattle.spec_run.specs.declared.journal.LineAnswer.{LineAnswer}
 use Rattle.spec_run.specs.declared.journal.LineEntry.{LineEntry}
 use Rattle.spec_run.specs.declared.line.RunLine.{RunLine}
 use Rattle.spec_run.specs.LineCall.{line_is_over}
-use Rattle.spec_run.specs.Act.{Act, Tries, Shuts}
+use Rattle.spec_run.specs.Act.{Act, Deed, Tries, Shuts, acts_of}
 use Rattle.spec_run.specs.OpenSocket.{OpenSock}
+use Rattle.spec_run.specs.Fate.{skips_of}
 use Rattle.spec_run.specs.RunJournal.{entries_shown}
 use Rattle.spec_run.specs.Standing.{Sockets, ActorStanding, standing_after}
-use Rattle.script_actor.specs.Way.{AddsActs}
+use Rattle.script_actor.specs.Piece.{Piece, AreActsBy, AddsPiece, AddsDeeds, piece_of}
 use Rattle.script_actor.specs.Seats.{has_open, shut_before, socks_in, sockets_of}
 use Rattle.script_actor.specs.Stepping.{standing_of, entries_of, at_seats, DoesAsked, ShutsAt, AnswersOne, StepsSo}
 use Rattle.script_actor.specs.declared.seats.Seat.{Seat}
@@ -27,11 +28,14 @@ standings_are : (ls ms : List RunLine) (t u : ℕ) (a b : List Skip) (p q : Sock
 standings_are ls ms t u a b p q e f g h = cc
 
 module _ {N S : Type 0} where
-  adds_nothing : (caller : ℕ) (acts : List (Act N S)) → AddsActs caller [] acts acts
-  adds_nothing caller acts = record { added = sym (append-nil acts); by = tt }
+  adds_nothing : (caller : ℕ) (pieces : List (Piece N S)) → AddsDeeds caller false [] pieces pieces
+  adds_nothing caller pieces = record { added = sym (append-nil pieces); by = tt }
 
-  adds_one : (caller : ℕ) (acts before after : List (Act N S)) → AddsActs caller acts before after → AddsActs caller (acts ++ []) before after
-  adds_one caller acts before after h = subst (λ l. AddsActs caller l before after) (sym (append-nil acts)) h
+  pub adds_one : (caller : ℕ) (reaps : Bool) (d : Deed N S) (before after : List (Piece N S)) → AddsPiece caller reaps (acts_of d) (skips_of d) before after → AddsDeeds caller reaps (d ∷ []) before after
+  adds_one caller reaps d before after h = record {
+    added = h.added ∙ ap (λ l. before ++ l) (sym (append-nil (piece_of caller reaps (acts_of d) (skips_of d))));
+    by = subst (AreActsBy caller) (sym (append-nil (acts_of d))) h.by;
+  }
 
 module _ {O : Type 0} (as_open : O → OpenSock) where
   finished_here : {X : Type 0} (lines : List X) (seats : List (Seat O)) → lines ≡ [] → has_open seats ≡ false → (is_none lines && is_none (socks_in as_open seats)) ≡ true
@@ -46,17 +50,17 @@ module _ {O : Type 0} (as_open : O → OpenSock) where
 
 module _ {O N S : Type 0} (as_open : O → OpenSock) where
   -- an actor that has finished does nothing
-  pub steps_not : (number : ℕ) (old : Actor O) (acts : List (Act N S)) → length old.lines.now ≡ 0 → has_open old.seats ≡ false → StepsSo as_open number old old acts acts
-  steps_not number old acts none shut = record {
+  pub steps_not : (number : ℕ) (old : Actor O) (pieces : List (Piece N S)) → length old.lines.now ≡ 0 → has_open old.seats ≡ false → StepsSo as_open number old old pieces pieces
+  steps_not number old pieces none shut = record {
     deeds = [];
     step = (finished_here as_open old.lines.now old.seats (empty_is old.lines.now none) shut, refl);
-    adds = adds_nothing number acts;
+    adds = adds_nothing number pieces;
     says = sym (append-nil (entries_of old));
     name = refl;
   }
 
   -- it closes its first socket
-  pub steps_shut : (number : ℕ) (old : Actor O) (new : List (Seat O)) (before after : List (Act N S)) → length old.lines.now ≡ 0 → ShutsAt as_open number (shut_before old.seats) old.seats new before after
+  pub steps_shut : (number : ℕ) (old : Actor O) (new : List (Seat O)) (before after : List (Piece N S)) → length old.lines.now ≡ 0 → ShutsAt as_open number (shut_before old.seats) old.seats new before after
       → StepsSo as_open number old (record old { seats = new }) before after
   steps_shut number old new before after none h =
       let first = first_sock as_open old.seats h.object h.socket h.here in
@@ -71,7 +75,7 @@ module _ {O N S : Type 0} (as_open : O → OpenSock) where
           closes = h.closes;
           new_is = refl;
         };
-        adds = adds_one number h.acts before after h.adds;
+        adds = adds_one number false (Shuts h.acts) before after h.adds;
         says = sym (append-nil (entries_of old));
         name = refl;
       }
@@ -83,7 +87,7 @@ module _ {O N S : Type 0} (as_open : O → OpenSock) where
   says_so false line pump acts skips told said old new h = h ∙ sym (append-nil old)
 
   -- it tries its first line
-  pub steps_try : (number : ℕ) (old mid new : Actor O) (line : RunLine) (rest : List RunLine) (said : LineAnswer) (before after : List (Act N S))
+  pub steps_try : (number : ℕ) (old mid new : Actor O) (line : RunLine) (rest : List RunLine) (said : LineAnswer) (before after : List (Piece N S))
       → old.lines.now ≡ line ∷ rest → mid.lines ≡ old.lines → mid.tried ≡ old.tried → mid.entries ≡ old.entries → mid.name ≡ old.name
       → DoesAsked number line.call said (at_seats as_open old.seats old.told.items before) (at_seats as_open mid.seats mid.told.items after)
       → AnswersOne line rest said mid new → new.seats ≡ mid.seats → StepsSo as_open number old new before after
@@ -100,7 +104,7 @@ module _ {O N S : Type 0} (as_open : O → OpenSock) where
           (subst (λ (l : List RunLine). new.lines.now ≡ (if a.over then rest else l)) (ap (λ l. l.now) lines) a.lines)
           (subst (λ n. new.tried ≡ (if a.over then 0 else n + 1)) tried a.tried) a.told seats;
     };
-    adds = adds_one number (h.pump ++ h.acts) before after h.adds;
+    adds = adds_one number false (Tries (record { line = line; pump = h.pump; call = h.acts; skips = h.skips; told = mid.told.items; answer = said; over = a.over })) before after h.adds;
     says = says_so a.over line h.pump h.acts h.skips mid.told.items said (entries_of old) (entries_of new)
         (subst (λ (l : List LineEntry). new.entries.items ≡ (if a.over then l ++ record { line = line.number; answer = said; skips = mid.told.items } ∷ [] else l)) (ap (λ e. e.items) entries) a.says);
     name = a.name ∙ name;

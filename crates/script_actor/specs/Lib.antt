@@ -1,3 +1,4 @@
+pub mod Piece
 pub mod Way
 pub mod Seats
 pub mod Stepping

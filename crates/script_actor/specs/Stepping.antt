@@ -1,5 +1,5 @@
 -- What an actor's step does (own choice).
-use Rattle.std.specs.Prelude.{◌≡◌, ◌+◌, ℕ, Bool, List, [], ◌∷◌, ◌++◌, Option, Some, None, if◌then◌else◌, slice_get}
+use Rattle.std.specs.Prelude.{◌≡◌, ◌+◌, ℕ, Bool, false, List, [], ◌∷◌, ◌++◌, Option, Some, None, if◌then◌else◌, slice_get}
 use Rattle.zq_base.specs.declared.ids.ObjId.{ObjId}
 use Rattle.zq_script.specs.declared.script.Call.TheVariants as call
 use Rattle.spec_pattern.specs.declared.answers.Skip.{Skip}
@@ -10,12 +10,12 @@ use Rattle.spec_run.specs.declared.line.LineCall.{LineCall}
 use Rattle.spec_run.specs.declared.line.LineCall.TheVariants.{Asks, Unbinds, Disconnects, Closes, Terms}
 use Rattle.spec_run.specs.declared.line.RunLine.{RunLine}
 use Rattle.spec_run.specs.LineCall.{line_is_over}
-use Rattle.spec_run.specs.Act.{Act, Deed, all_acts}
+use Rattle.spec_run.specs.Act.{Act, Deed}
 use Rattle.spec_run.specs.OpenSocket.{OpenSock}
 use Rattle.spec_run.specs.Standing.{Sockets, ActorStanding, DoesLine, ClosesOne}
 use Rattle.spec_run.specs.InTurns.{ActorStep}
 use Rattle.spec_run.specs.RunJournal.{entries_shown}
-use Rattle.script_actor.specs.Way.{AddsActs}
+use Rattle.script_actor.specs.Piece.{Piece, AddsActs, AddsDeeds}
 use Rattle.script_actor.specs.Seats.{sockets_of, AllAgree}
 use Rattle.script_actor.specs.declared.seats.Seat.{Seat}
 use Rattle.script_actor.specs.declared.seats.Seat.TheVariants as seat
@@ -35,11 +35,11 @@ called_place (Disconnects place at) = Some place
 called_place (Closes place) = None
 called_place Terms = None
 
--- a caller's sockets, what the tries of its line dropped so far, and all acts so far
+-- a caller's sockets, what the tries of its line dropped so far, and all that was done so far
 pub record Midway (N S : Type 0) : Type 0 where
   pub mine : Sockets
   pub told : List Skip
-  pub acts : List (Act N S)
+  pub pieces : List (Piece N S)
 
 module _ {N S : Type 0} where
   -- what this line asks is done, as a try of any line that asks it
@@ -50,7 +50,7 @@ module _ {N S : Type 0} where
     pub does : (line : RunLine) (all : List Skip) (over : Bool) →
         DoesLine asks old.mine (record { line = line; pump = pump; call = acts; skips = skips; told = all; answer = answer; over = over }) new.mine
     pub tells : new.told ≡ old.told ++ skips
-    pub adds : AddsActs caller (pump ++ acts) old.acts new.acts
+    pub adds : AddsActs caller (pump ++ acts) skips old.pieces new.pieces
 
 module _ {O : Type 0} where
   -- what an actor has said
@@ -71,18 +71,18 @@ module _ {O : Type 0} (as_open : O → OpenSock) where
   }
 
 module _ {O N S : Type 0} (as_open : O → OpenSock) where
-  -- with these seats, so many messages told, and these acts
-  abbrev pub at_seats : List (Seat O) → List Skip → List (Act N S) → Midway N S
-  at_seats seats told acts = record { mine = sockets_of as_open seats; told = told; acts = acts }
+  -- with these seats, so many messages told, and so much done
+  abbrev pub at_seats : List (Seat O) → List Skip → List (Piece N S) → Midway N S
+  at_seats seats told pieces = record { mine = sockets_of as_open seats; told = told; pieces = pieces }
 
   -- the socket of a seat was open, and is closed
-  pub record ShutsAt (caller place : ℕ) (old new : List (Seat O)) (before after : List (Act N S)) : Type 0 where
+  pub record ShutsAt (caller place : ℕ) (old new : List (Seat O)) (before after : List (Piece N S)) : Type 0 where
     pub object : ObjId
     pub socket : O
     pub here : slice_get old place ≡ Some (seat.Open object socket)
     pub acts : List (Act N S)
     pub closes : ClosesOne (as_open socket) acts (sockets_of as_open old) (sockets_of as_open new)
-    pub adds : AddsActs caller acts before after
+    pub adds : AddsActs caller acts [] before after
 
 module _ {O : Type 0} where
   -- a try of a line was answered so: with that the line is over and said, or else it stays
@@ -102,10 +102,10 @@ module _ {W O : Type 0} (as_open : O → OpenSock) (agrees : W → ℕ → O →
 
 module _ {O N S : Type 0} (as_open : O → OpenSock) where
   -- an actor's step: what it does, and what it says then
-  pub record StepsSo (number : ℕ) (old new : Actor O) (before after : List (Act N S)) : Type 0 where
+  pub record StepsSo (number : ℕ) (old new : Actor O) (before after : List (Piece N S)) : Type 0 where
     pub deeds : List (Deed N S)
     pub step : ActorStep (standing_of as_open old) deeds (standing_of as_open new)
-    pub adds : AddsActs number (all_acts deeds) before after
+    pub adds : AddsDeeds number false deeds before after
     pub says : entries_of new ≡ entries_of old ++ entries_shown deeds
     pub name : new.name ≡ old.name
 

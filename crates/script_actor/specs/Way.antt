@@ -1,5 +1,5 @@
 -- What the calls do by which actors make, call and close sockets (zmq_socket(3), zmq_close(3), zmq_ctx_term(3); own choice).
-use Rattle.std.specs.Prelude.{◌≡◌, ◌≢◌, ℕ, Bool, List, [], ◌∷◌, ◌++◌}
+use Rattle.std.specs.Prelude.{◌≡◌, ◌≢◌, ℕ, Bool, List, [], ◌++◌}
 use Rattle.zq_base.specs.declared.kind.Kind.{Kind}
 use Rattle.zq_base.specs.declared.options.Options.{Options}
 use Rattle.zq_script.specs.declared.script.Call.TheVariants as call
@@ -9,18 +9,18 @@ use Rattle.spec_control.specs.declared.request.Req.TheVariants.{Socket as MakeSo
 use Rattle.spec_control.specs.declared.request.Reply.{Reply}
 use Rattle.spec_control.specs.declared.request.Reply.TheVariants as reply
 use Rattle.spec_control.specs.Control.{id}
-use Rattle.control_held.specs.Held.{caller_of}
 use Rattle.control_held.specs.Moments.{Moment}
 use Rattle.spec_run.specs.declared.journal.LineAnswer.{LineAnswer}
 use Rattle.spec_run.specs.declared.line.LineCall.{LineCall}
 use Rattle.spec_run.specs.declared.line.LineCall.TheVariants.{Asks, Unbinds, Disconnects, Closes, Terms}
 use Rattle.spec_run.specs.declared.line.RunLine.{RunLine}
 use Rattle.spec_run.specs.ControlAnswer.{reply_answer}
-use Rattle.spec_run.specs.Act.{Act, Step, Said, Try}
+use Rattle.spec_run.specs.Act.{Act, Try}
 use Rattle.spec_run.specs.OpenSocket.{OpenSock, new_open}
 use Rattle.spec_run.specs.Event.{IsRequest, acts_said}
 use Rattle.spec_run.specs.Pump.{Pumps}
 use Rattle.spec_run.specs.SocketCall.{SendsCall, ReceivesCall, ChangesCall, BindsCall, ConnectsCall, UnbindsCall, DisconnectsCall}
+use Rattle.script_actor.specs.Piece.{Piece, AddsActs}
 use Rattle.script_actor.specs.declared.made.Made.{Made}
 use Rattle.script_actor.specs.declared.made.Made.TheVariants as made
 
@@ -39,17 +39,6 @@ AsksSocket (Closes place) = ⊥
 AsksSocket Terms = ⊥
 
 module _ {N S : Type 0} where
-  -- each item among these acts is by this caller
-  abbrev pub AreActsBy : (caller : ℕ) → List (Act N S) → Type 0
-  AreActsBy k [] = Unit {0}
-  AreActsBy k (Step step ∷ acts) = AreActsBy k acts
-  AreActsBy k (Said m ∷ acts) = (caller_of m.item ≡ k) × AreActsBy k acts
-
-  -- a caller did this behind what was done before
-  pub record AddsActs (caller : ℕ) (acts old new : List (Act N S)) : Type 0 where
-    pub added : new ≡ old ++ acts
-    pub by : AreActsBy caller acts
-
   -- what a line's call does to the socket that was pumped before it
   abbrev pub AsksOpen : LineCall → OpenSock → Try N S → OpenSock → Type 0
   AsksOpen (Asks (call.Socket kind options)) old t new = ⊥
@@ -65,7 +54,7 @@ module _ {N S : Type 0} where
   AsksOpen Terms old t new = ⊥
 
   -- a socket is pumped and called, as the try of any line that makes this call
-  pub record CallsOne (caller : ℕ) (asks : LineCall) (old new : OpenSock) (answer : LineAnswer) (told told_now : List Skip) (before after : List (Act N S)) : Type 0 where
+  pub record CallsOne (caller : ℕ) (asks : LineCall) (old new : OpenSock) (answer : LineAnswer) (told told_now : List Skip) (before after : List (Piece N S)) : Type 0 where
     pub pump : List (Act N S)
     pub acts : List (Act N S)
     pub skips : List Skip
@@ -74,21 +63,21 @@ module _ {N S : Type 0} where
     pub does : (line : RunLine) (all : List Skip) (over : Bool) →
         AsksOpen asks pumped (record { line = line; pump = pump; call = acts; skips = skips; told = all; answer = answer; over = over }) new
     pub tells : told_now ≡ told ++ skips
-    pub adds : AddsActs caller (pump ++ acts) before after
+    pub adds : AddsActs caller (pump ++ acts) skips before after
 
   -- a socket is closed: one request, which gives its ends away
-  pub record ClosesSo (caller object : ℕ) (before after : List (Act N S)) : Type 0 where
+  pub record ClosesSo (caller object : ℕ) (before after : List (Piece N S)) : Type 0 where
     pub closed : Moment N S
     pub request : IsRequest (Close (id object)) reply.Done closed
-    pub adds : AddsActs caller (acts_said closed) before after
+    pub adds : AddsActs caller (acts_said closed) [] before after
 
   -- the context is asked to end
-  pub record AsksToEnd (caller : ℕ) (answer : LineAnswer) (before after : List (Act N S)) : Type 0 where
+  pub record AsksToEnd (caller : ℕ) (answer : LineAnswer) (before after : List (Piece N S)) : Type 0 where
     pub replied : Reply
     pub asked : Moment N S
     pub request : IsRequest AskTerm replied asked
     pub answer_is : answer ≡ reply_answer replied
-    pub adds : AddsActs caller (acts_said asked) before after
+    pub adds : AddsActs caller (acts_said asked) [] before after
 
 module _ {O : Type 0} where
   -- the reply to the making of a socket
@@ -103,11 +92,11 @@ module _ {O N S : Type 0} (as_open : O → OpenSock) where
   IsAtMaking m kind options (made.Refused refusal) = Unit {0}
 
   -- a socket is asked for: one request, which makes it or is refused
-  pub record MakesOne (caller : ℕ) (kind : Kind) (options : Options) (result : Made O) (before after : List (Act N S)) : Type 0 where
+  pub record MakesOne (caller : ℕ) (kind : Kind) (options : Options) (result : Made O) (before after : List (Piece N S)) : Type 0 where
     pub asked : Moment N S
     pub request : IsRequest (MakeSocket kind options) (made_reply result) asked
     pub at_making : IsAtMaking asked kind options result
-    pub adds : AddsActs caller (acts_said asked) before after
+    pub adds : AddsActs caller (acts_said asked) [] before after
 
 module _ {W O : Type 0} (as_open : O → OpenSock) (agrees : W → ℕ → O → Type 0) (was_made : W → ℕ → Type 0) where
   -- a socket that was made is its caller's, under a number that no object had

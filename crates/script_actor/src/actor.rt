@@ -39,8 +39,8 @@ fn ask<P: Pipes, W: Sockets<P>>(
 ) -> Result<LineAnswer, AllocError>
     requires agree { AllAgree W.as_open W.agrees W.was_made way.old caller seats.old }
     ensures ok { IfOk result (λ answer. DoesAsked caller line.now answer
-        (at_seats W.as_open seats.old told.old.items (W.acts way.old))
-        (at_seats W.as_open seats.new told.new.items (W.acts way.new))) }
+        (at_seats W.as_open seats.old told.old.items (W.pieces way.old))
+        (at_seats W.as_open seats.new told.new.items (W.pieces way.new))) }
     ensures agree { AllAgree W.as_open W.agrees W.was_made way.new caller seats.new }
     ensures others { LeavesOthers W.agrees W.was_made caller way.old way.new }
 {
@@ -95,7 +95,7 @@ impl<'a, O: Drop> Actor<'a, O> {
     ) -> Result<(), AllocError>
         requires agrees { ActorAgrees W.as_open W.agrees W.was_made way.old number self.old }
         ensures ok { OnOk result (StepsSo W.as_open number self.old self.new
-            (W.acts way.old) (W.acts way.new)) }
+            (W.pieces way.old) (W.pieces way.new)) }
         ensures agrees { ActorAgrees W.as_open W.agrees W.was_made way.new number self.new }
         ensures others { LeavesOthers W.agrees W.was_made number way.old way.new }
     {

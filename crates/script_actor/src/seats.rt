@@ -116,8 +116,8 @@ impl<O: Drop> Seats<O> {
         requires agree { AllAgree W.as_open W.agrees W.was_made way.old caller self.old }
         ensures ok { IfOk result (λ answer. (told : List Skip) →
             DoesAsked caller (Asks (script_call.Socket kind options.now)) answer
-            (at_seats W.as_open self.old told (W.acts way.old))
-            (at_seats W.as_open self.new told (W.acts way.new))) }
+            (at_seats W.as_open self.old told (W.pieces way.old))
+            (at_seats W.as_open self.new told (W.pieces way.new))) }
         ensures agree { AllAgree W.as_open W.agrees W.was_made way.new caller self.new }
         ensures others { LeavesOthers W.agrees W.was_made caller way.old way.new }
     {
@@ -148,8 +148,8 @@ impl<O: Drop> Seats<O> {
         requires agree { AllAgree W.as_open W.agrees W.was_made way.old caller self.old }
         requires place { called_place line.now ≡ Some place }
         ensures ok { IfOk result (λ answer. DoesAsked caller line.now answer
-            (at_seats W.as_open self.old told.old.items (W.acts way.old))
-            (at_seats W.as_open self.new told.new.items (W.acts way.new))) }
+            (at_seats W.as_open self.old told.old.items (W.pieces way.old))
+            (at_seats W.as_open self.new told.new.items (W.pieces way.new))) }
         ensures agree { AllAgree W.as_open W.agrees W.was_made way.new caller self.new }
         ensures others { LeavesOthers W.agrees W.was_made caller way.old way.new }
     {
@@ -173,8 +173,8 @@ impl<O: Drop> Seats<O> {
         requires agree { AllAgree W.as_open W.agrees W.was_made way.old caller self.old }
         ensures ok { IfOk result (λ answer. (told : List Skip) →
             DoesAsked caller (Closes place) answer
-            (at_seats W.as_open self.old told (W.acts way.old))
-            (at_seats W.as_open self.new told (W.acts way.new))) }
+            (at_seats W.as_open self.old told (W.pieces way.old))
+            (at_seats W.as_open self.new told (W.pieces way.new))) }
         ensures agree { AllAgree W.as_open W.agrees W.was_made way.new caller self.new }
         ensures others { LeavesOthers W.agrees W.was_made caller way.old way.new }
     {
@@ -195,7 +195,7 @@ impl<O: Drop> Seats<O> {
         requires agree { AllAgree W.as_open W.agrees W.was_made way.old caller self.old }
         requires some { has_open self.old ≡ true }
         ensures ok { OnOk result (ShutsAt W.as_open caller (shut_before self.old) self.old self.new
-            (W.acts way.old) (W.acts way.new)) }
+            (W.pieces way.old) (W.pieces way.new)) }
         ensures agree { AllAgree W.as_open W.agrees W.was_made way.new caller self.new }
         ensures others { LeavesOthers W.agrees W.was_made caller way.old way.new }
     {
@@ -214,7 +214,7 @@ impl<O: Drop> Seats<O> {
         requires agree { AllAgree W.as_open W.agrees W.was_made way.old caller self.old }
         requires here { is_open_at self.old place ≡ true }
         ensures ok { OnOk result (ShutsAt W.as_open caller place self.old self.new
-            (W.acts way.old) (W.acts way.new)) }
+            (W.pieces way.old) (W.pieces way.new)) }
         ensures agree { AllAgree W.as_open W.agrees W.was_made way.new caller self.new }
         ensures others { LeavesOthers W.agrees W.was_made caller way.old way.new }
     {

@@ -1,6 +1,6 @@
 ghost use Rattle.std.specs.Prelude.{◌≡◌, ℕ, true, List, ◌++◌, IfOk, IfErr};
-ghost use Rattle.spec_run.specs.Act.{Act};
 ghost use Rattle.spec_run.specs.OpenSocket.{OpenSock};
+ghost use Rattle.script_actor.specs.Piece.{Piece};
 
 use crate::made::Made;
 use msg_pipe::Pipes;
@@ -9,8 +9,8 @@ use spec_run::{LineAnswer, LineCall};
 use std::alloc::{AllocError, AllocFailed, Global};
 use zq_base::{Kind, Options};
 
-/// The way by which actors make, call and close sockets. What is done through it is told as acts, in
-/// their order.
+/// The way by which actors make, call and close sockets. What is done through it is told piece by
+/// piece, one a call, in their order.
 ///
 /// A call is made for a caller, by its number, and is lent one of the caller's sockets at the most.
 /// Want of memory leaves each socket as what was done so far left it.
@@ -21,9 +21,9 @@ pub trait Sockets<P: Pipes> {
     /// An open socket.
     type Open: Drop;
 
-    /// What was done so far through this way: by all callers where they share it, and else by its one
-    /// caller.
-    ghost acts: { Self → List (Act P.Name P.Story) };
+    /// What was done so far through this way, one piece for each call that did anything: by all
+    /// callers where they share it, and else by its one caller.
+    ghost pieces: { Self → List (Piece P.Name P.Story) };
 
     /// An open socket, as it is told.
     ghost as_open: { Self.Open → OpenSock };
@@ -43,7 +43,7 @@ pub trait Sockets<P: Pipes> {
         options: &Options,
     ) -> Result<Made<Self::Open>, AllocError>
         ensures ok { IfOk result (λ made. MakesOne as_open caller kind options.now made
-            (acts self.old) (acts self.new)) }
+            (pieces self.old) (pieces self.new)) }
         ensures is_new { IfOk result (λ made. IsNew as_open agrees was_made caller made
             self.old self.new) }
         ensures keeps { KeepsAll agrees was_made self.old self.new };
@@ -62,7 +62,7 @@ pub trait Sockets<P: Pipes> {
         requires asks { AsksSocket line.now }
         ensures ok { IfOk result (λ answer. CallsOne caller line.now
             (as_open socket.old) (as_open socket.new) answer told.old.items told.new.items
-            (acts self.old) (acts self.new)) }
+            (pieces self.old) (pieces self.new)) }
         ensures lent { KeepsLent as_open agrees caller socket.old socket.new self.new }
         ensures keeps { KeepsOthers as_open agrees was_made caller (as_open socket.old).object
             self.old self.new };
@@ -76,7 +76,7 @@ pub trait Sockets<P: Pipes> {
     ) -> Result<(), AllocFailed<Self::Open>>
         requires agrees { agrees self.old caller socket }
         ensures ok { IfOk result (λ _. ClosesSo caller (as_open socket).object
-            (acts self.old) (acts self.new)) }
+            (pieces self.old) (pieces self.new)) }
         ensures back { IfErr result (λ e. KeepsLent as_open agrees caller socket e.value self.new) }
         ensures keeps { KeepsOthers as_open agrees was_made caller (as_open socket).object
             self.old self.new };
@@ -84,6 +84,6 @@ pub trait Sockets<P: Pipes> {
     /// Asks the context to end (zmq_ctx_term(3)).
     fn term(&mut self, alloc: Global, caller: usize) -> Result<LineAnswer, AllocError>
         ensures ok { IfOk result (λ answer. AsksToEnd caller answer
-            (acts self.old) (acts self.new)) }
+            (pieces self.old) (pieces self.new)) }
         ensures keeps { KeepsAll agrees was_made self.old self.new };
 }

@@ -1,7 +1,7 @@
 mod PlainLemmas
 mod CapacityLemmas
 mod FateLemmas
-mod JournalLemmas
+pub mod JournalLemmas
 mod RowLemmas
 mod ClosingFacts
 mod LeftFacts

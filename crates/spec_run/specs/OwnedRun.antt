@@ -51,6 +51,18 @@ every_pipe p = true
 abbrev pub settlement_of : Control → PipeId → Option Settlement
 settlement_of c p = find (λ s. is_end (other_end p) s.end) c.settlements
 
+-- a pipe's counts are those of what these steps committed to it and took from it, and what is left has its reason
+pub record IsCountedBy (steps : List PipeStep) (s : Settlement) : Type 0 where
+  pub sent : s.counts.sent ≡ length (committed_to (other_end s.end) steps)
+  pub got : s.counts.got ≡ length (taken_from (other_end s.end) steps)
+  pub sum : s.counts.sent ≡ s.counts.got + s.counts.rest
+  pub reason : 0 < s.counts.rest → IsSome s.reason
+
+-- and so those of all settlements
+abbrev pub AreCountedBy : List PipeStep → List Settlement → Type 0
+AreCountedBy steps [] = Unit {0}
+AreCountedBy steps (s ∷ more) = IsCountedBy steps s × AreCountedBy steps more
+
 -- the deeds of each worker by its steps, and the items of the control plane in their one order
 pub record OwnedRun (N S : Type 0) : Type 0 where
   pub workers : List (List (List (Deed N S)))
@@ -83,16 +95,12 @@ module _ {N S : Type 0} where
   AreTold k moments [] = Unit {0}
   AreTold k moments (steps ∷ more) = (moments_in (all_acts (deeds_in steps)) ≡ moments_by k moments) × AreTold (k + 1) moments more
 
-  -- a pipe's counts are those of what was committed to it and taken from it, and what is left has its reason
-  pub record IsSettledSo (run : OwnedRun N S) (s : Settlement) : Type 0 where
-    pub sent : s.counts.sent ≡ length (committed_to (other_end s.end) (all_steps run))
-    pub got : s.counts.got ≡ length (taken_from (other_end s.end) (all_steps run))
-    pub sum : s.counts.sent ≡ s.counts.got + s.counts.rest
-    pub reason : 0 < s.counts.rest → IsSome s.reason
+  -- a settlement counts the steps of all workers
+  abbrev pub IsSettledSo : OwnedRun N S → Settlement → Type 0
+  IsSettledSo run s = IsCountedBy (all_steps run) s
 
   abbrev pub AllSettledSo : OwnedRun N S → List Settlement → Type 0
-  AllSettledSo run [] = Unit {0}
-  AllSettledSo run (s ∷ more) = IsSettledSo run s × AllSettledSo run more
+  AllSettledSo run settlements = AreCountedBy (all_steps run) settlements
 
   -- what a link is in a run; there are none yet
   abbrev pub HasLinkRun : ObjId → OwnedRun N S → Type 0

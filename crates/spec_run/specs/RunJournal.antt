@@ -37,6 +37,11 @@ abbrev pub row_if : Option Settlement → SettledRow → Option SettledRow
 row_if None row = None
 row_if (Some s) row = Some row
 
+-- the rows of the pairs from this number on: of each pair the pipe written by end a, then the other
+abbrev pub rows_by : (PipeId → Option SettledRow) → ℕ → List PairRow → List (Option SettledRow)
+rows_by row n [] = []
+rows_by row n (p ∷ ps) = row (end_of n true) ∷ row (end_of n false) ∷ rows_by row (n + 1) ps
+
 -- a pipe was settled
 abbrev pub WasSettled : Control → PipeId → Type 0
 WasSettled c p = IsSome (settlement_of c p)
@@ -68,10 +73,9 @@ module _ {N S : Type 0} where
   abbrev pub row_shown : Control → OwnedRun N S → PipeId → Option SettledRow
   row_shown c run p = row_if (settlement_of c p) (settled_row c run p)
 
-  -- the rows of the pairs from this number on: of each pair the pipe written by end a, then the other
+  -- the rows of the pairs from this number on
   abbrev pub rows_shown : Control → OwnedRun N S → ℕ → List PairRow → List (Option SettledRow)
-  rows_shown c run n [] = []
-  rows_shown c run n (p ∷ ps) = row_shown c run (end_of n true) ∷ row_shown c run (end_of n false) ∷ rows_shown c run (n + 1) ps
+  rows_shown c run n pairs = rows_by (row_shown c run) n pairs
 
   -- the journal, by the state of the control plane at the end
   abbrev pub journal_at : Control → RunScript → OwnedRun N S → RunJournal

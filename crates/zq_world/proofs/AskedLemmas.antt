@@ -21,12 +21,13 @@ use Rattle.spec_run.specs.LineCall.{RunScript}
 use Rattle.spec_run.specs.OpenSocket.{OpenSock}
 use Rattle.spec_run.specs.Standing.{ActorStanding, standing_before, has_finished}
 use Rattle.spec_run.specs.InTurns.{ActorStep, AllStep, OneTurn, AsksIf, Begins, Turned, TurnsGo, IsInTurns, worker_count, sequence, asks_root_in, asks_root_by, asks_last, is_live, turn_step, turn_sequence, turns_sequence}
-use Rattle.script_actor.specs.Way.{AreActsBy}
+use Rattle.script_actor.specs.Piece.{Piece, AreActsBy, acts_in}
 use Rattle.script_actor.specs.Stepping.{standing_of}
 use Rattle.script_actor.specs.declared.actor.Actor.{Actor}
 use Rattle.zq_world.specs.Turning.{standings, TurnBy, TurnsBy, RunsSo}
 use Rattle.zq_world.specs.GoesInTurns.{run_of}
 use Rattle.zq_world.proofs.StepLemmas.{all_acts-append}
+use Rattle.zq_world.proofs.PieceLemmas.{runs_acts}
 
 and_left : (a b : Bool) → (a && b) ≡ true → a ≡ true
 and_left true b e = refl
@@ -268,9 +269,9 @@ module _ {O : Type 0} (as_open : O → OpenSock) where
   as_scripted script old same = sym (length-map old (standing_of as_open)) ∙ ap length same ∙ length-map script standing_before
 
 module _ {O N S : Type 0} (as_open : O → OpenSock) where
-  pub in_turns : (script : RunScript) (seed limit : ℕ) (done : Bool) (old new : List (Actor O)) (acts : List (Act N S)) (order : List (Item N S)) → standings as_open old ≡ map standing_before script
-      → (runs : RunsSo as_open seed limit done old new [] acts) → moments_in acts ≡ moments_from (begun 1) order → IsInTurns script 1 limit runs.turned (run_of script runs.turned order)
-  in_turns script seed limit done old new acts order same runs one = record {
+  pub in_turns : (script : RunScript) (seed limit : ℕ) (done : Bool) (old new : List (Actor O)) (pieces : List (Piece N S)) (order : List (Item N S)) → standings as_open old ≡ map standing_before script
+      → (runs : RunsSo as_open seed limit done old new [] pieces) → moments_in (acts_in pieces) ≡ moments_from (begun 1) order → IsInTurns script 1 limit runs.turned (run_of script runs.turned order)
+  in_turns script seed limit done old new pieces order same runs one = record {
     workers_are = refl;
     standings = standings as_open new;
     go = subst (λ (sts : List ActorStanding). TurnsGo 1 sts runs.turned.turns (standings as_open new)) same runs.go;
@@ -294,7 +295,7 @@ module _ {O N S : Type 0} (as_open : O → OpenSock) where
       last_by = subst (λ k. AreActsBy (k + 2) (Said runs.turned.last ∷ [])) count runs.last_by
 
       whole : order ≡ items_of (all_acts (turns_sequence runs.orders runs.turned.turns)) ++ items_of (Said runs.turned.last ∷ [])
-      whole = sym (items_from (begun 1) order) ∙ ap (map (λ m. m.item)) (sym one) ∙ ap items_of runs.acts_are ∙ whole_items runs.orders runs.turned
+      whole = sym (items_from (begun 1) order) ∙ ap (map (λ m. m.item)) (sym one) ∙ ap items_of (runs_acts as_open seed limit done old new pieces runs) ∙ whole_items runs.orders runs.turned
 
       two : length script + 2 ≡ length script + 1 + 1
       two = omega arith

@@ -2,6 +2,13 @@ pub mod OrderLemmas
 pub mod StepLemmas
 pub mod TurnLemmas
 pub mod RunLemmas
+pub mod PieceLemmas
 pub mod AskedLemmas
 pub mod ToldLemmas
+pub mod CallerLemmas
+pub mod RiseLemmas
+pub mod WorkerLemmas
+pub mod ReaperLemmas
+pub mod LookLemmas
+pub mod WholeLemmas
 pub mod PlayLemmas

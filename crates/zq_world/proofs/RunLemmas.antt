@@ -1,6 +1,6 @@
 -- How a run goes on by a turn, and how it ends.
 use Rattle.std.proofs.Common.{◌≡◌, ◌≤◌, ◌<◌, ◌+◌, ◌-◌, ℕ, zero, suc, List, [], ◌∷◌, ◌++◌, Bool, true, false, Option, Some, length, map, refl, sym, ap, subst, ◌∙◌, arith, append-nil, append_assoc, length-append}
-use Rattle.std.specs.Prelude.{◌&&◌, flat_map, slice_get, slice_index_or, if◌then◌else◌}
+use Rattle.std.specs.Prelude.{◌&&◌, ◌==◌, flat_map, slice_get, slice_index_or, if◌then◌else◌}
 use Rattle.std.specs.List.{list_all, range_with_len}
 use Rattle.std.proofs.lemmas.Grind.{flat_map-append}
 use Rattle.std.proofs.lemmas.List.{map-append}
@@ -13,16 +13,16 @@ use Rattle.spec_run.specs.Act.{Act, Said, Deed, Tries, Shuts, Fetches, Idles, Wo
 use Rattle.spec_run.specs.OpenSocket.{OpenSock}
 use Rattle.spec_run.specs.Standing.{ActorStanding, has_finished}
 use Rattle.spec_run.specs.OwnedRun.{deeds_in}
-use Rattle.spec_run.specs.InTurns.{AllStep, OneTurn, AsksIf, Begins, TurnsGo, NeverFall, Draws, is_ended, is_live, turn_step, turn_sequence, turns_sequence}
+use Rattle.spec_run.specs.InTurns.{AllStep, OneTurn, AsksIf, Begins, TurnsGo, NeverFall, Draws, is_ended, is_live, turn_step}
 use Rattle.spec_run.specs.RunJournal.{entries_shown, entry_shown}
-use Rattle.script_actor.specs.Way.{AreActsBy}
+use Rattle.script_actor.specs.Piece.{Piece, AreActsBy, piece_of, deed_pieces}
 use Rattle.script_actor.specs.Stepping.{standing_of, entries_of}
 use Rattle.script_actor.specs.declared.actor.Actor.{Actor}
+use Rattle.script_actor.proofs.StepLemmas.{adds_one}
 use Rattle.zq_world.specs.CoreCalls.{LooksOnce, AsksOnce}
-use Rattle.zq_world.specs.Turning.{standings, ActorDoes, HasStepped, acted, reaped, served, TurnSteps, DrawsUpTo, NeverReads, TurnBy, TurnsBy, EndsHere, BeginsTurn, HasSaid, HasCome, RunsSo}
+use Rattle.zq_world.specs.Turning.{standings, ActorDoes, HasStepped, acted, reaped, served, TurnSteps, DrawsUpTo, NeverReads, TurnBy, TurnsBy, EndsHere, BeginsTurn, HasSaid, HasCome, RunsSo, turn_pieces, turns_pieces}
 use Rattle.zq_world.proofs.OrderLemmas.{each_once}
-use Rattle.zq_world.proofs.StepLemmas.{all_acts-append}
-use Rattle.zq_world.proofs.TurnLemmas.{whole_turn, turn_deeds, turn_of, step_of}
+use Rattle.zq_world.proofs.TurnLemmas.{whole_turn, turn_told, turn_of, step_of}
 
 shown_tries : (b : Bool) (e : LineEntry) (xs ys : List LineEntry) → (if b then e ∷ (xs ++ ys) else (xs ++ ys)) ≡ (if b then e ∷ xs else xs) ++ ys
 shown_tries true e xs ys = refl
@@ -65,13 +65,13 @@ module _ {N S : Type 0} where
   draws_so seed workers x now (u ∷ ts) [] h = elim h [ ]
   draws_so seed workers x now (u ∷ ts) (o ∷ os) h = (h.0, h.1, draws_so seed workers h.0 now ts os h.2)
 
-  sequence_more : (seed : ℕ) (workers : List ℕ) (x now : ℕ) (ts : List (OneTurn N S)) (os : List (List ℕ)) (t : OneTurn N S) (order : List ℕ) → DrawsUpTo seed workers x ts os now
-      → turns_sequence (os ++ order ∷ []) (ts ++ t ∷ []) ≡ turns_sequence os ts ++ turn_sequence order t
-  sequence_more seed workers x now [] [] t order h = append-nil (turn_sequence order t)
-  sequence_more seed workers x now [] (o ∷ os) t order h = cc
-  sequence_more seed workers x now (u ∷ ts) [] t order h = elim h [ ]
-  sequence_more seed workers x now (u ∷ ts) (o ∷ os) t order h =
-      ap (λ l. turn_sequence o u ++ l) (sequence_more seed workers h.0 now ts os t order h.2) ∙ sym (append_assoc (turn_sequence o u) (turns_sequence os ts) (turn_sequence order t))
+  pieces_more : (n seed : ℕ) (workers : List ℕ) (x now : ℕ) (ts : List (OneTurn N S)) (os : List (List ℕ)) (t : OneTurn N S) (order : List ℕ) → DrawsUpTo seed workers x ts os now
+      → turns_pieces n (os ++ order ∷ []) (ts ++ t ∷ []) ≡ turns_pieces n os ts ++ turn_pieces n order t
+  pieces_more n seed workers x now [] [] t order h = append-nil (turn_pieces n order t)
+  pieces_more n seed workers x now [] (o ∷ os) t order h = cc
+  pieces_more n seed workers x now (u ∷ ts) [] t order h = elim h [ ]
+  pieces_more n seed workers x now (u ∷ ts) (o ∷ os) t order h =
+      ap (λ l. turn_pieces n o u ++ l) (pieces_more n seed workers h.0 now ts os t order h.2) ∙ sym (append_assoc (turn_pieces n o u) (turns_pieces n os ts) (turn_pieces n order t))
 
   quiet_more : (ts : List (OneTurn N S)) (t : OneTurn N S) → NeverReads ts → t.reading ≡ 0 → NeverReads (ts ++ t ∷ [])
   quiet_more [] t quiet first = (first, tt)
@@ -96,15 +96,9 @@ module _ {N S : Type 0} where
   shown_more (AsksRoot acts ∷ ds) es = shown_more ds es
   shown_more (Reads now ∷ ds) es = shown_more ds es
 
-  -- the acts of a turn
-  turn_acts : (order : List ℕ) (t : OneTurn N S) (deeds : List (Deed N S)) → flat_map (λ w. turn_step w t) order ≡ deeds → all_acts (turn_sequence order t) ≡ all_acts t.begins ++ all_acts deeds
-  turn_acts order t deeds same =
-      all_acts-append t.begins (flat_map (λ w. turn_step w t) order ++ Reads t.reading ∷ [])
-      ∙ ap (λ l. all_acts t.begins ++ l) (all_acts-append (flat_map (λ w. turn_step w t) order) (Reads t.reading ∷ []) ∙ append-nil (all_acts (flat_map (λ w. turn_step w t) order)) ∙ ap all_acts same)
-
   -- ---- a turn begins
 
-  pub ends_here : (conductor : ℕ) (standing : List ActorStanding) (root : ObjState) (before after : List (Act N S)) → root ≡ Ended → LooksOnce conductor root before after
+  pub ends_here : (conductor : ℕ) (standing : List ActorStanding) (root : ObjState) (before after : List (Piece N S)) → root ≡ Ended → LooksOnce conductor root before after
       → EndsHere conductor before after
   ends_here conductor standing root before after is h = record { seen = h.seen; look = h.look; ended = ap is_ended (h.root_is ∙ is); adds = h.adds }
 
@@ -112,7 +106,7 @@ module _ {N S : Type 0} where
   asks_some true acts e h = h
   asks_some false acts e h = cc
 
-  pub begins_on : (conductor : ℕ) (standing : List ActorStanding) (root : ObjState) (before after : List (Act N S)) → is_ended root ≡ false → (list_all has_finished standing && is_live root) ≡ false
+  pub begins_on : (conductor : ℕ) (standing : List ActorStanding) (root : ObjState) (before after : List (Piece N S)) → is_ended root ≡ false → (list_all has_finished standing && is_live root) ≡ false
       → LooksOnce conductor root before after → BeginsTurn conductor standing before after
   begins_on conductor standing root before after goes none h = record {
     begins = Looks h.seen ∷ [];
@@ -121,20 +115,20 @@ module _ {N S : Type 0} where
       goes_on = ap is_ended h.root_is ∙ goes;
       asks_if = asks_none N S (list_all has_finished standing && is_live h.look.sight.root) (ap (λ r. list_all has_finished standing && is_live r) h.root_is ∙ none);
     };
-    adds = h.adds;
+    adds = adds_one conductor false (Looks h.seen) before after h.adds;
   }
 
-  pub begins_asked : (conductor : ℕ) (standing : List ActorStanding) (root : ObjState) (before after : List (Act N S)) → root ≡ Asked → LooksOnce conductor root before after
+  pub begins_asked : (conductor : ℕ) (standing : List ActorStanding) (root : ObjState) (before after : List (Piece N S)) → root ≡ Asked → LooksOnce conductor root before after
       → BeginsTurn conductor standing before after
   begins_asked conductor standing root before after is h =
       begins_on conductor standing root before after (ap is_ended is) (ap (λ r. list_all has_finished standing && is_live r) is ∙ and_false (list_all has_finished standing) false refl) h
 
-  pub begins_busy : (conductor : ℕ) (standing : List ActorStanding) (root : ObjState) (before after : List (Act N S)) → root ≡ Live → list_all has_finished standing ≡ false → LooksOnce conductor root before after
+  pub begins_busy : (conductor : ℕ) (standing : List ActorStanding) (root : ObjState) (before after : List (Piece N S)) → root ≡ Live → list_all has_finished standing ≡ false → LooksOnce conductor root before after
       → BeginsTurn conductor standing before after
   begins_busy conductor standing root before after is busy h =
       begins_on conductor standing root before after (ap is_ended is) (ap (λ b. b && is_live root) busy) h
 
-  pub begins_asking : (conductor : ℕ) (standing : List ActorStanding) (root : ObjState) (before between after : List (Act N S)) → root ≡ Live → list_all has_finished standing ≡ true
+  pub begins_asking : (conductor : ℕ) (standing : List ActorStanding) (root : ObjState) (before between after : List (Piece N S)) → root ≡ Live → list_all has_finished standing ≡ true
       → LooksOnce conductor root before between → AsksOnce conductor between after → BeginsTurn conductor standing before after
   begins_asking conductor standing root before between after is all h a = record {
     begins = Looks h.seen ∷ AsksRoot a.acts ∷ [];
@@ -145,21 +139,22 @@ module _ {N S : Type 0} where
           (ap (λ r. list_all has_finished standing && is_live r) (h.root_is ∙ is) ∙ ap (λ b. b && true) all) (a.acts, a.asks, refl);
     };
     adds = record {
-      added = a.adds.added ∙ ap (λ l. l ++ a.acts) h.adds.added ∙ append_assoc before (Said h.seen ∷ []) a.acts ∙ ap (λ l. before ++ Said h.seen ∷ l) (sym (append-nil a.acts));
+      added = a.adds.added ∙ ap (λ l. l ++ piece_of conductor false a.acts []) h.adds.added ∙ append_assoc before (piece_of conductor false (Said h.seen ∷ []) []) (piece_of conductor false a.acts [])
+          ∙ ap (λ l. before ++ (piece_of conductor false (Said h.seen ∷ []) [] ++ l)) (sym (append-nil (piece_of conductor false a.acts [])));
       by = (h.adds.by.0, subst (λ l. AreActsBy conductor l) (sym (append-nil a.acts)) a.adds.by);
     };
   }
 
 module _ {O N S : Type 0} (as_open : O → OpenSock) where
-  pub come_first : (seed : ℕ) (old : List (Actor O)) (acts : List (Act N S)) → HasCome as_open seed seed [] [] old old acts acts
-  come_first seed old acts = record {
+  pub come_first : (seed : ℕ) (old : List (Actor O)) (pieces : List (Piece N S)) → HasCome as_open seed seed [] [] old old pieces pieces
+  come_first seed old pieces = record {
     go = refl;
     draws = (refl, refl);
     count = refl;
     quiet = tt;
     by = tt;
     says = λ i a b was now. record { says = says_none a b (same a b (sym was ∙ now)); name = ap (λ (x : Actor O). x.name) (sym (same a b (sym was ∙ now))) };
-    acts_are = sym (append-nil acts);
+    pieces_are = sym (append-nil pieces);
   }
     where
       same : (a b : Actor O) → ◌≡◌ {A = Option (Actor O)} (Some a) (Some b) → a ≡ b
@@ -184,7 +179,7 @@ module _ {O N S : Type 0} (as_open : O → OpenSock) where
       never e = omega (arith, e, lt)
 
   -- a turn more
-  pub come_more : (seed drawn next conductor : ℕ) (ts : List (OneTurn N S)) (os : List (List ℕ)) (old mid new : List (Actor O)) (first before between after : List (Act N S))
+  pub come_more : (seed drawn next conductor : ℕ) (ts : List (OneTurn N S)) (os : List (List ℕ)) (old mid new : List (Actor O)) (first before between after : List (Piece N S))
       → conductor ≡ length old + 2 → HasCome as_open seed drawn ts os old mid first before → BeginsTurn conductor (standings as_open mid) before between → TurnSteps as_open seed drawn next mid new between after
       → (t : OneTurn N S) × (order : List ℕ) × HasCome as_open seed next (ts ++ t ∷ []) (os ++ order ∷ []) old new first after
   come_more seed drawn next conductor ts os old mid new first before between after place come begins t = (
@@ -203,21 +198,28 @@ module _ {O N S : Type 0} (as_open : O → OpenSock) where
             (sym (step_of as_open begins.begins t.have.steps (length mid + 2) w (let c = come.count in omega (arith, lt, c)))) (t.have.by w);
       });
       says = says_then;
-      acts_are = acts_then;
+      pieces_are = pieces_then;
     },
   )
     where
       turn : OneTurn N S
       turn = turn_of as_open begins.begins t.have.steps (length mid + 2)
 
-      acts_then : after ≡ first ++ all_acts (turns_sequence (os ++ t.order ∷ []) (ts ++ turn ∷ []))
-      acts_then =
-          t.have.adds ∙ ap (λ l. l ++ all_acts (flat_map t.have.steps t.order)) (begins.adds.added ∙ ap (λ l. l ++ all_acts begins.begins) come.acts_are)
-          ∙ append_assoc (first ++ all_acts (turns_sequence os ts)) (all_acts begins.begins) (all_acts (flat_map t.have.steps t.order))
-          ∙ append_assoc first (all_acts (turns_sequence os ts)) (all_acts begins.begins ++ all_acts (flat_map t.have.steps t.order))
-          ∙ ap (λ l. first ++ (all_acts (turns_sequence os ts) ++ l)) (sym (turn_acts t.order turn (flat_map t.have.steps t.order) (turn_deeds as_open seed drawn next begins.begins mid new between after t)))
-          ∙ ap (λ l. first ++ l) (sym (all_acts-append (turns_sequence os ts) (turn_sequence t.order turn)))
-          ∙ ap (λ l. first ++ all_acts l) (sym (sequence_more seed (range_with_len 0 (length old + 2)) seed drawn ts os turn t.order come.draws))
+      stepped : List (Piece N S)
+      stepped = flat_map (λ w. deed_pieces w (w == length mid) (t.have.steps w)) t.order
+
+      turn_is : deed_pieces conductor false begins.begins ++ stepped ≡ turn_pieces (length old) t.order turn
+      turn_is = ap (λ k. deed_pieces k false begins.begins ++ stepped) place
+          ∙ ap (λ l. deed_pieces (length old + 2) false begins.begins ++ l) (ap (λ n. flat_map (λ w. deed_pieces w (w == n) (t.have.steps w)) t.order) come.count
+          ∙ sym (turn_told as_open (λ w. deed_pieces w (w == length old)) seed drawn next begins.begins mid new between after t))
+
+      pieces_then : after ≡ first ++ turns_pieces (length old) (os ++ t.order ∷ []) (ts ++ turn ∷ [])
+      pieces_then =
+          t.have.adds ∙ ap (λ l. l ++ stepped) (begins.adds.added ∙ ap (λ l. l ++ deed_pieces conductor false begins.begins) come.pieces_are)
+          ∙ append_assoc (first ++ turns_pieces (length old) os ts) (deed_pieces conductor false begins.begins) stepped
+          ∙ append_assoc first (turns_pieces (length old) os ts) (deed_pieces conductor false begins.begins ++ stepped)
+          ∙ ap (λ l. first ++ (turns_pieces (length old) os ts ++ l)) turn_is
+          ∙ ap (λ l. first ++ l) (sym (pieces_more (length old) seed (range_with_len 0 (length old + 2)) seed drawn ts os turn t.order come.draws))
 
       says_then : (i : ℕ) (a b : Actor O) → slice_get old i ≡ Some a → slice_get new i ≡ Some b → HasSaid i (ts ++ turn ∷ []) a b
       says_then i a b was now =
@@ -243,7 +245,7 @@ module _ {O N S : Type 0} (as_open : O → OpenSock) where
               ∙ ap (λ l. entries_shown (deeds_in (map (turn_step j) ts)) ++ entries_shown l) (append-nil (turn_step j turn) ∙ e)
 
   -- the last look
-  pub ends_so : (seed drawn limit conductor : ℕ) (root : ObjState) (done : Bool) (ts : List (OneTurn N S)) (os : List (List ℕ)) (old new : List (Actor O)) (first before after : List (Act N S))
+  pub ends_so : (seed drawn limit conductor : ℕ) (root : ObjState) (done : Bool) (ts : List (OneTurn N S)) (os : List (List ℕ)) (old new : List (Actor O)) (first before after : List (Piece N S))
       → conductor ≡ length old + 2 → HasCome as_open seed drawn ts os old new first before → LooksOnce conductor root before after → done ≡ is_ended root → length ts ≤ limit → (is_ended root ≡ false → length ts ≡ limit)
       → RunsSo as_open seed limit done old new first after
   ends_so seed drawn limit conductor root done ts os old new first before after place come h is few over = record {
@@ -260,11 +262,12 @@ module _ {O N S : Type 0} (as_open : O → OpenSock) where
     says = come.says;
     by = come.by;
     last_by = subst (λ n. AreActsBy n (Said h.seen ∷ [])) place h.adds.by;
-    acts_are = h.adds.added ∙ ap (λ l. l ++ Said h.seen ∷ []) come.acts_are ∙ append_assoc first (all_acts (turns_sequence os ts)) (Said h.seen ∷ [])
-        ∙ ap (λ l. first ++ l) (sym (all_acts-append (turns_sequence os ts) (Looks h.seen ∷ [])));
+    pieces_are = h.adds.added ∙ ap (λ l. l ++ piece_of conductor false (Said h.seen ∷ []) []) come.pieces_are
+        ∙ append_assoc first (turns_pieces (length old) os ts) (piece_of conductor false (Said h.seen ∷ []) [])
+        ∙ ap (λ k. first ++ (turns_pieces (length old) os ts ++ piece_of k false (Said h.seen ∷ []) [])) place;
   }
 
-  pub ends_early : (seed drawn limit conductor : ℕ) (ts : List (OneTurn N S)) (os : List (List ℕ)) (old new : List (Actor O)) (first before after : List (Act N S))
+  pub ends_early : (seed drawn limit conductor : ℕ) (ts : List (OneTurn N S)) (os : List (List ℕ)) (old new : List (Actor O)) (first before after : List (Piece N S))
       → conductor ≡ length old + 2 → HasCome as_open seed drawn ts os old new first before → EndsHere conductor before after → length ts ≤ limit → RunsSo as_open seed limit true old new first after
   ends_early seed drawn limit conductor ts os old new first before after place come h few =
       ends_so seed drawn limit conductor h.look.sight.root true ts os old new first before after place come
@@ -274,25 +277,25 @@ module _ {O N S : Type 0} (as_open : O → OpenSock) where
       never e = cc
 
   -- so far within the turns that it may take
-  abbrev pub Within : (seed limit drawn left : ℕ) (old now : List (Actor O)) (first before : List (Act N S)) → Type 0
+  abbrev pub Within : (seed limit drawn left : ℕ) (old now : List (Actor O)) (first before : List (Piece N S)) → Type 0
   Within seed limit drawn left old now first before =
       (ts : List (OneTurn N S)) × (os : List (List ℕ)) × HasCome as_open seed drawn ts os old now first before × (length ts + left ≡ limit)
 
-  pub within_first : (seed limit drawn : ℕ) (old : List (Actor O)) (acts : List (Act N S)) → drawn ≡ seed → Within seed limit drawn limit old old acts acts
-  within_first seed limit drawn old acts same = ([], [], subst (λ d. HasCome as_open seed d [] [] old old acts acts) (sym same) (come_first seed old acts), omega arith)
+  pub within_first : (seed limit drawn : ℕ) (old : List (Actor O)) (pieces : List (Piece N S)) → drawn ≡ seed → Within seed limit drawn limit old old pieces pieces
+  within_first seed limit drawn old pieces same = ([], [], subst (λ d. HasCome as_open seed d [] [] old old pieces pieces) (sym same) (come_first seed old pieces), omega arith)
 
-  pub within_more : (seed limit drawn next conductor left : ℕ) (old mid new : List (Actor O)) (first before between after : List (Act N S)) → 0 < left → conductor ≡ length old + 2 → Within seed limit drawn left old mid first before
+  pub within_more : (seed limit drawn next conductor left : ℕ) (old mid new : List (Actor O)) (first before between after : List (Piece N S)) → 0 < left → conductor ≡ length old + 2 → Within seed limit drawn left old mid first before
       → BeginsTurn conductor (standings as_open mid) before between → TurnSteps as_open seed drawn next mid new between after → Within seed limit next (left - 1) old new first after
   within_more seed limit drawn next conductor left old mid new first before between after some place w begins turn =
       let more = come_more seed drawn next conductor w.0 w.1 old mid new first before between after place w.2 begins turn in
       (w.0 ++ more.0 ∷ [], w.1 ++ more.1 ∷ [], more.2, (let l = length-append w.0 (more.0 ∷ []) in let one : length (more.0 ∷ []) ≡ 1 = refl in let all = w.3 in omega (arith, l, one, all, some)))
 
-  pub over_early : (seed limit drawn conductor left : ℕ) (old now : List (Actor O)) (first before after : List (Act N S)) → conductor ≡ length old + 2 → Within seed limit drawn left old now first before → EndsHere conductor before after
+  pub over_early : (seed limit drawn conductor left : ℕ) (old now : List (Actor O)) (first before after : List (Piece N S)) → conductor ≡ length old + 2 → Within seed limit drawn left old now first before → EndsHere conductor before after
       → RunsSo as_open seed limit true old now first after
   over_early seed limit drawn conductor left old now first before after place w h =
       ends_early seed drawn limit conductor w.0 w.1 old now first before after place w.2 h (let all = w.3 in omega (arith, all))
 
-  pub over_late : (seed limit drawn conductor left : ℕ) (root : ObjState) (done : Bool) (old now : List (Actor O)) (first before after : List (Act N S)) → left ≤ 0 → conductor ≡ length old + 2 → Within seed limit drawn left old now first before
+  pub over_late : (seed limit drawn conductor left : ℕ) (root : ObjState) (done : Bool) (old now : List (Actor O)) (first before after : List (Piece N S)) → left ≤ 0 → conductor ≡ length old + 2 → Within seed limit drawn left old now first before
       → LooksOnce conductor root before after → done ≡ is_ended root → RunsSo as_open seed limit done old now first after
   over_late seed limit drawn conductor left root done old now first before after none place w h is =
       ends_so seed drawn limit conductor root done w.0 w.1 old now first before after place w.2 h is (let all = w.3 in omega (arith, all)) (λ e. (let all = w.3 in omega (arith, all, none)))

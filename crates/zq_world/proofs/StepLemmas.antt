@@ -4,15 +4,20 @@ use Rattle.std.specs.Prelude.{◌==◌, flat_map, slice_get, slice_set, slice_in
 use Rattle.std.proofs.lemmas.Bool.{eq-eqb, ne_eqb, eqb-true, eqb-false}
 use Rattle.std.proofs.lemmas.Grind.{flat_map-append}
 use Rattle.std.proofs.lemmas.Option.{slice_get_read}
-use Rattle.spec_run.specs.Act.{Act, Deed, acts_of, all_acts}
+use Rattle.spec_run.specs.Act.{Deed, Tries, Shuts, Fetches, Idles, Works, Looks, AsksRoot, Reads, acts_of, all_acts}
+use Rattle.spec_run.specs.Fate.{skips_of}
+use Rattle.spec_run.specs.InTurns.{ReaperStep}
 use Rattle.spec_run.specs.OpenSocket.{OpenSock}
-use Rattle.script_actor.specs.Way.{AddsActs, AreActsBy, KeepsAll}
+use Rattle.script_actor.specs.Piece.{Piece, AreActsBy, AddsPiece, AddsDeeds, deed_pieces}
+use Rattle.script_actor.specs.Way.{KeepsAll}
 use Rattle.script_actor.specs.Stepping.{ActorAgrees, StepsSo, LeavesOthers}
 use Rattle.script_actor.specs.declared.actor.Actor.{Actor}
 use Rattle.script_actor.proofs.SeatLemmas.{all_kept, all_left}
+use Rattle.script_actor.proofs.StepLemmas.{adds_one}
 use Rattle.zq_world.specs.CoreCalls.{ReapsOne}
 use Rattle.zq_world.specs.Turning.{times, ActorsAgree, WorkerDoes, acts_so, reaps_so, serves_so, WorkerSteps, HasStepped, acted, reaped, served, HaveStepped}
 use Rattle.zq_world.proofs.OrderLemmas.{times-append, times_it, times_not}
+use Rattle.zq_world.proofs.TurnLemmas.{flat_same}
 
 -- a list after one of its elements was set
 get_set_here : {X : Type 0} (xs : List X) (i : ℕ) (x y : X) → slice_get xs i ≡ Some x → slice_get (slice_set xs i y) i ≡ Some y
@@ -49,22 +54,20 @@ put_here f w x = ap (λ (b : Bool). if b then x else f w) (eq-eqb w w refl)
 put_else : {X : Type 0} (f : ℕ → X) (w : ℕ) (x : X) (v : ℕ) → v ≢ w → put_for f w x v ≡ f v
 put_else f w x v ne = ap (λ (b : Bool). if b then x else f v) (ne_eqb v w ne)
 
-flat_else : {X : Type 0} (f : ℕ → List X) (w : ℕ) (x : List X) (done : List ℕ) → times w done ≡ 0 → flat_map (put_for f w x) done ≡ flat_map f done
-flat_else f w x [] none = refl
-flat_else f w x (v ∷ done) none = by (v == w) refl (λ rest. flat_else f w x done rest)
-  where
-    by : (b : Bool) → (v == w) ≡ b → (times w done ≡ 0 → flat_map (put_for f w x) done ≡ flat_map f done) → flat_map (put_for f w x) (v ∷ done) ≡ flat_map f (v ∷ done)
-    by true e rest = elim (some (times_it w v done (eqb-true v w e))) [ ]
-      where
-        some : times w (v ∷ done) ≡ times w done + 1 → ⊥
-        some h = omega (arith, h, none)
-    by false e rest =
-        let h = times_not w v done (eqb-false v w e) in
-        ap (λ l. l ++ flat_map (put_for f w x) done) (put_else f w x v (eqb-false v w e)) ∙ ap (λ l. f v ++ l) (rest (omega (arith, h, none)))
-
 module _ {N S : Type 0} where
   pub all_acts-append : (ds es : List (Deed N S)) → all_acts (ds ++ es) ≡ all_acts ds ++ all_acts es
   all_acts-append ds es = flat_map-append acts_of ds es
+
+  -- the reaper drops no message
+  reaps_whole : (d : Deed N S) → ReaperStep (d ∷ []) → skips_of d ≡ []
+  reaps_whole (Tries t) step = elim step [ ]
+  reaps_whole (Shuts acts) step = refl
+  reaps_whole (Fetches slot acts) step = refl
+  reaps_whole (Idles m) step = refl
+  reaps_whole (Works acts) step = refl
+  reaps_whole (Looks m) step = refl
+  reaps_whole (AsksRoot acts) step = refl
+  reaps_whole (Reads now) step = refl
 
 module _ {O N S : Type 0} (as_open : O → OpenSock) where
   -- a worker steps behind these
@@ -89,20 +92,20 @@ module _ {O N S : Type 0} (as_open : O → OpenSock) where
   stays_stepped v old mid new deeds same (reaped at step) = reaped at step
   stays_stepped v old mid new deeds same (served past none) = served past none
 
-  pub have_none : (old : List (Actor O)) (acts : List (Act N S)) → HaveStepped as_open [] old old acts acts
-  have_none old acts = record {
+  pub have_none : (old : List (Actor O)) (pieces : List (Piece N S)) → HaveStepped as_open [] old old pieces pieces
+  have_none old pieces = record {
     steps = λ w. [];
     count = refl;
     not_yet = λ w none. refl;
     stepped = λ w e. elim (never e) [ ];
     by = λ w. tt;
-    adds = sym (append-nil acts);
+    adds = sym (append-nil pieces);
   }
     where
       never : ◌≡◌ {A = ℕ} 0 1 → ⊥
       never e = omega (arith, e)
 
-  pub have_more : (w : ℕ) (done : List ℕ) (old mid new : List (Actor O)) (before between after : List (Act N S)) → times w done ≡ 0
+  pub have_more : (w : ℕ) (done : List ℕ) (old mid new : List (Actor O)) (before between after : List (Piece N S)) → times w done ≡ 0
       → HaveStepped as_open done old mid before between → WorkerSteps as_open w mid new between after → HaveStepped as_open (done ++ w ∷ []) old new before after
   have_more w done old mid new before between after fresh h one = record {
     steps = put_for h.steps w one.deeds;
@@ -110,14 +113,20 @@ module _ {O N S : Type 0} (as_open : O → OpenSock) where
     not_yet = λ v none. not_yet_then v none;
     stepped = λ v once. stepped_then v once;
     by = λ v. by_then v (v == w) refl;
-    adds = one.adds.added ∙ ap (λ l. l ++ all_acts one.deeds) h.adds ∙ append_assoc before (all_acts (flat_map h.steps done)) (all_acts one.deeds)
-        ∙ ap (λ l. before ++ l) (sym (all_acts-append (flat_map h.steps done) one.deeds) ∙ ap all_acts (sym flat_then));
+    adds = one.adds.added ∙ ap (λ l. l ++ deed_pieces w (w == length mid) one.deeds) h.adds ∙ append_assoc before (flat_map (told h.steps) done) (deed_pieces w (w == length mid) one.deeds)
+        ∙ ap (λ l. before ++ l) (ap (λ n. flat_map (told h.steps) done ++ deed_pieces w (w == n) one.deeds) h.count ∙ sym told_then);
   }
     where
-      flat_then : flat_map (put_for h.steps w one.deeds) (done ++ w ∷ []) ≡ flat_map h.steps done ++ one.deeds
-      flat_then = flat_map-append (put_for h.steps w one.deeds) done (w ∷ [])
-          ∙ ap (λ l. l ++ (put_for h.steps w one.deeds w ++ [])) (flat_else h.steps w one.deeds done fresh)
-          ∙ ap (λ l. flat_map h.steps done ++ l) (append-nil (put_for h.steps w one.deeds w) ∙ put_here h.steps w one.deeds)
+      told : (ℕ → List (Deed N S)) → ℕ → List (Piece N S)
+      told steps v = deed_pieces v (v == length old) (steps v)
+
+      earlier : (v : ℕ) → (times v done ≡ 0 → ⊥) → told (put_for h.steps w one.deeds) v ≡ told h.steps v
+      earlier v some = ap (deed_pieces v (v == length old)) (put_else h.steps w one.deeds v (λ same. some (ap (λ u. times u done) same ∙ fresh)))
+
+      told_then : flat_map (told (put_for h.steps w one.deeds)) (done ++ w ∷ []) ≡ flat_map (told h.steps) done ++ deed_pieces w (w == length old) one.deeds
+      told_then = flat_map-append (told (put_for h.steps w one.deeds)) done (w ∷ [])
+          ∙ ap (λ l. l ++ (told (put_for h.steps w one.deeds) w ++ [])) (flat_same (told (put_for h.steps w one.deeds)) (told h.steps) done earlier)
+          ∙ ap (λ l. flat_map (told h.steps) done ++ l) (append-nil (told (put_for h.steps w one.deeds) w) ∙ ap (deed_pieces w (w == length old)) (put_here h.steps w one.deeds))
 
       other : (v : ℕ) → times v (done ++ w ∷ []) ≡ 0 → v ≢ w
       other v none same = (let e = subst (λ (u : ℕ). times u (done ++ w ∷ []) ≡ 0) same none in let f = times_here w done in omega (arith, e, f))
@@ -144,23 +153,24 @@ module _ {O N S : Type 0} (as_open : O → OpenSock) where
       by_then v false e = subst (λ (ds : List (Deed N S)). AreActsBy v (all_acts ds)) (sym (put_else h.steps w one.deeds v (eqb-false v w e))) (h.by v)
 
   -- an actor's step is a worker's
-  pub actor_is : (w : ℕ) (actors : List (Actor O)) (a b : Actor O) (before after : List (Act N S)) → w < length actors → a ≡ slice_index_or actors w a → StepsSo as_open w a b before after
+  pub actor_is : (w : ℕ) (actors : List (Actor O)) (a b : Actor O) (before after : List (Piece N S)) → w < length actors → a ≡ slice_index_or actors w a → StepsSo as_open w a b before after
       → WorkerSteps as_open w actors (slice_set actors w b) before after
   actor_is w actors a b before after lt is h = record {
     deeds = h.deeds;
     does = acts_so a b (slice_get_read actors (length actors) w a refl lt is) refl (record { step = h.step; says = h.says; name = h.name });
-    adds = h.adds;
+    adds = subst (λ b. AddsDeeds w b h.deeds before after) (sym (ne_eqb w (length actors) (λ e. omega (arith, e, lt)))) h.adds;
   }
 
-  pub reaper_is : (w : ℕ) (actors : List (Actor O)) (before after : List (Act N S)) → w ≡ length actors → ReapsOne w before after → WorkerSteps as_open w actors actors before after
+  pub reaper_is : (w : ℕ) (actors : List (Actor O)) (before after : List (Piece N S)) → w ≡ length actors → ReapsOne w before after → WorkerSteps as_open w actors actors before after
   reaper_is w actors before after at h = record {
     deeds = h.deed ∷ [];
     does = reaps_so at refl h.step;
-    adds = subst (λ (l : List (Act N S)). AddsActs w l before after) (sym (append-nil (acts_of h.deed))) h.adds;
+    adds = subst (λ b. AddsDeeds w b (h.deed ∷ []) before after) (sym (eq-eqb w (length actors) at))
+        (adds_one w true h.deed before after (subst (λ skips. AddsPiece w true (acts_of h.deed) skips before after) (sym (reaps_whole h.deed h.step)) h.adds));
   }
 
-  pub server_is : (w : ℕ) (actors : List (Actor O)) (acts : List (Act N S)) → length actors < w → WorkerSteps as_open w actors actors acts acts
-  server_is w actors acts past = record { deeds = []; does = serves_so past refl refl; adds = record { added = sym (append-nil acts); by = tt } }
+  pub server_is : (w : ℕ) (actors : List (Actor O)) (pieces : List (Piece N S)) → length actors < w → WorkerSteps as_open w actors actors pieces pieces
+  server_is w actors pieces past = record { deeds = []; does = serves_so past refl refl; adds = record { added = sym (append-nil pieces); by = tt } }
 
 module _ {W O : Type 0} (as_open : O → OpenSock) (agrees : W → ℕ → O → Type 0) (was_made : W → ℕ → Type 0) where
   -- all actors' sockets agree behind one actor's step

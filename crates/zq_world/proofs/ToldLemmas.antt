@@ -16,13 +16,14 @@ use Rattle.spec_run.specs.OpenSocket.{OpenSock}
 use Rattle.spec_run.specs.Standing.{ActorStanding, standing_before}
 use Rattle.spec_run.specs.OwnedRun.{deeds_in, AreTold}
 use Rattle.spec_run.specs.InTurns.{AllStep, OneTurn, TurnsGo, Draws, turn_step, turn_sequence, turns_sequence, conductor_steps}
-use Rattle.script_actor.specs.Way.{AreActsBy}
+use Rattle.script_actor.specs.Piece.{Piece, AreActsBy, acts_in}
 use Rattle.script_actor.specs.Stepping.{standing_of}
 use Rattle.script_actor.specs.declared.actor.Actor.{Actor}
 use Rattle.zq_world.specs.Turning.{times, standings, TurnBy, TurnsBy, RunsSo}
 use Rattle.zq_world.specs.GoesInTurns.{run_of}
 use Rattle.zq_world.proofs.OrderLemmas.{times_it, times_not, each_once}
 use Rattle.zq_world.proofs.StepLemmas.{all_acts-append}
+use Rattle.zq_world.proofs.PieceLemmas.{runs_acts}
 use Rattle.zq_world.proofs.AskedLemmas.{and_both, all-append, past_steps, as_many, as_scripted, items_of, items_of-append, turn_items, items_from, whole_items}
 
 module _ {N S : Type 0} where
@@ -193,10 +194,10 @@ module _ {N S : Type 0} where
       (of_turns n m go.1.0 news ts os items (same ∙ sym (as_many olds go.1.0 t.steps go.1.1)) lt go.1.2 by.1 rest)))
 
 module _ {O N S : Type 0} (as_open : O → OpenSock) where
-  pub are_told : (script : RunScript) (seed limit : ℕ) (done : Bool) (old new : List (Actor O)) (acts : List (Act N S)) (order : List (Item N S)) → standings as_open old ≡ map standing_before script
-      → (runs : RunsSo as_open seed limit done old new [] acts) → moments_in acts ≡ moments_from (begun 1) order → AreTold 0 (moments_from (begun 1) order) (run_of script runs.turned order).workers
-  are_told script seed limit done old new acts order same runs one =
-      subst (λ (ms : List (Moment N S)). AreTold 0 ms (run_of script runs.turned order).workers) (sym (ap moments_in runs.acts_are) ∙ one)
+  pub are_told : (script : RunScript) (seed limit : ℕ) (done : Bool) (old new : List (Actor O)) (pieces : List (Piece N S)) (order : List (Item N S)) → standings as_open old ≡ map standing_before script
+      → (runs : RunsSo as_open seed limit done old new [] pieces) → moments_in (acts_in pieces) ≡ moments_from (begun 1) order → AreTold 0 (moments_from (begun 1) order) (run_of script runs.turned order).workers
+  are_told script seed limit done old new pieces order same runs one =
+      subst (λ (ms : List (Moment N S)). AreTold 0 ms (run_of script runs.turned order).workers) (sym (ap moments_in (runs_acts as_open seed limit done old new pieces runs)) ∙ one)
       (all_told (λ w. map (turn_step w) runs.turned.turns) (conductor_steps runs.turned) (moments_in (all_acts (turns_sequence runs.orders runs.turned.turns ++ Looks runs.turned.last ∷ []))) (length script + 1 + 1) 0
       (λ i w e lt. told_turns (length script) w seed seed (standings as_open old) (standings as_open new) runs.turned.turns runs.orders (Looks runs.turned.last ∷ []) many runs.go by drawn (omega (arith, e, lt)) last_by)
       (λ w e. told_conductor (length script) (standings as_open old) (standings as_open new) runs.turned.turns runs.orders seed seed runs.turned.last many runs.go by drawn last_by
@@ -220,10 +221,10 @@ module _ {O N S : Type 0} (as_open : O → OpenSock) where
       two : (w : ℕ) → w ≡ 0 + (length script + 1 + 1) → length script + 2 ≡ w
       two w e = omega (arith, e)
 
-  pub nobody_else : (script : RunScript) (seed limit : ℕ) (done : Bool) (old new : List (Actor O)) (acts : List (Act N S)) (order : List (Item N S)) → standings as_open old ≡ map standing_before script
-      → (runs : RunsSo as_open seed limit done old new [] acts) → moments_in acts ≡ moments_from (begun 1) order
+  pub nobody_else : (script : RunScript) (seed limit : ℕ) (done : Bool) (old new : List (Actor O)) (pieces : List (Piece N S)) (order : List (Item N S)) → standings as_open old ≡ map standing_before script
+      → (runs : RunsSo as_open seed limit done old new [] pieces) → moments_in (acts_in pieces) ≡ moments_from (begun 1) order
       → list_all (λ item. nat_lt (caller_of item) (length (run_of script runs.turned order).workers)) order ≡ true
-  nobody_else script seed limit done old new acts order same runs one =
+  nobody_else script seed limit done old new pieces order same runs one =
       subst (λ m. list_all (λ item. nat_lt (caller_of item) m) order ≡ true) size
       (ap (list_all (λ item. nat_lt (caller_of item) (length script + 3))) whole
       ∙ of_turns (length script) (length script + 3) (standings as_open old) (standings as_open new) runs.turned.turns runs.orders (items_of (Said runs.turned.last ∷ []))
@@ -234,7 +235,7 @@ module _ {O N S : Type 0} (as_open : O → OpenSock) where
       count = as_scripted as_open script old same
 
       whole : order ≡ items_of (all_acts (turns_sequence runs.orders runs.turned.turns)) ++ items_of (Said runs.turned.last ∷ [])
-      whole = sym (items_from (begun 1) order) ∙ ap (map (λ m. m.item)) (sym one) ∙ ap items_of runs.acts_are ∙ whole_items runs.orders runs.turned
+      whole = sym (items_from (begun 1) order) ∙ ap (map (λ m. m.item)) (sym one) ∙ ap items_of (runs_acts as_open seed limit done old new pieces runs) ∙ whole_items runs.orders runs.turned
 
       size : length script + 3 ≡ length (run_of script runs.turned order).workers
       size =

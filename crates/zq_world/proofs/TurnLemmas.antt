@@ -4,9 +4,10 @@ use Rattle.std.specs.Prelude.{◌==◌, flat_map, nat_lt}
 use Rattle.std.specs.List.{range_with_len}
 use Rattle.std.proofs.lemmas.Bool.{ltb-true, ltb-false, eqb-true, eqb-false}
 use Rattle.std.proofs.lemmas.List.FromFn.{get_or-map-range_with_len}
-use Rattle.spec_run.specs.Act.{Act, Deed}
+use Rattle.spec_run.specs.Act.{Deed}
 use Rattle.spec_run.specs.OpenSocket.{OpenSock}
 use Rattle.spec_run.specs.InTurns.{ActorStep, ReaperStep, AllStep, OneTurn, turn_step}
+use Rattle.script_actor.specs.Piece.{Piece}
 use Rattle.script_actor.specs.Stepping.{standing_of}
 use Rattle.script_actor.specs.declared.actor.Actor.{Actor}
 use Rattle.zq_world.specs.Turning.{times, standings, HasStepped, acted, reaped, served, TurnSteps}
@@ -104,18 +105,18 @@ module _ {O N S : Type 0} (as_open : O → OpenSock) where
   pub step_of : (begins : List (Deed N S)) (f : ℕ → List (Deed N S)) (m w : ℕ) → w < m → turn_step w (turn_of begins f m) ≡ f w
   step_of begins f m w lt = get_or-map-range_with_len f 0 m w w [] lt (omega arith)
 
-  pub whole_turn : (seed drawn next : ℕ) (mid new : List (Actor O)) (before after : List (Act N S)) (t : TurnSteps as_open seed drawn next mid new before after)
+  pub whole_turn : (seed drawn next : ℕ) (mid new : List (Actor O)) (before after : List (Piece N S)) (t : TurnSteps as_open seed drawn next mid new before after)
       → AllStep 1 (standings as_open mid) (map t.have.steps (range_with_len 0 (length mid + 2))) (standings as_open new)
   whole_turn seed drawn next mid new before after t =
       all_step (length mid + 2) 0 mid new t.have.steps refl t.have.count
       (λ i j is lt. subst (λ (n : ℕ). HasStepped as_open i mid new (t.have.steps n)) (omega (arith, is)) (t.have.stepped i (each_once i (length mid + 2) seed drawn t.order next t.is_order lt)))
 
-  -- its deeds, as its order has them
-  pub turn_deeds : (seed drawn next : ℕ) (begins : List (Deed N S)) (mid new : List (Actor O)) (before after : List (Act N S)) (t : TurnSteps as_open seed drawn next mid new before after)
-      → flat_map (λ w. turn_step w (turn_of begins t.have.steps (length mid + 2))) t.order ≡ flat_map t.have.steps t.order
-  turn_deeds seed drawn next begins mid new before after t =
-      flat_same (λ w. turn_step w (turn_of begins t.have.steps (length mid + 2))) t.have.steps t.order
-      (λ w some. step_of begins t.have.steps (length mid + 2) w (within w some (nat_lt w (length mid + 2)) refl))
+  -- what its steps tell, as its order has them
+  pub turn_told : {X : Type 0} (tells : ℕ → List (Deed N S) → List X) (seed drawn next : ℕ) (begins : List (Deed N S)) (mid new : List (Actor O)) (before after : List (Piece N S)) (t : TurnSteps as_open seed drawn next mid new before after)
+      → flat_map (λ w. tells w (turn_step w (turn_of begins t.have.steps (length mid + 2)))) t.order ≡ flat_map (λ w. tells w (t.have.steps w)) t.order
+  turn_told tells seed drawn next begins mid new before after t =
+      flat_same (λ w. tells w (turn_step w (turn_of begins t.have.steps (length mid + 2)))) (λ w. tells w (t.have.steps w)) t.order
+      (λ w some. ap (tells w) (step_of begins t.have.steps (length mid + 2) w (within w some (nat_lt w (length mid + 2)) refl)))
     where
       within : (w : ℕ) → (times w t.order ≡ 0 → ⊥) → (b : Bool) → nat_lt w (length mid + 2) ≡ b → w < length mid + 2
       within w some true e = ltb-true w (length mid + 2) e

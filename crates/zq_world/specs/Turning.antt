@@ -4,14 +4,14 @@ use Rattle.std.specs.List.{range_with_len}
 use Rattle.spec_journal.specs.Turn.{IsOrder}
 use Rattle.spec_control.specs.declared.entry.SeenEmpty.TheVariants.{Nothing}
 use Rattle.control_held.specs.Moments.{Moment}
-use Rattle.spec_run.specs.Act.{Act, Said, Deed, all_acts}
+use Rattle.spec_run.specs.Act.{Said, Deed, Looks, all_acts}
 use Rattle.spec_run.specs.OpenSocket.{OpenSock}
 use Rattle.spec_run.specs.Event.{IsLookAt}
 use Rattle.spec_run.specs.Standing.{ActorStanding}
 use Rattle.spec_run.specs.OwnedRun.{deeds_in}
-use Rattle.spec_run.specs.InTurns.{ActorStep, ReaperStep, OneTurn, Turned, Begins, TurnsGo, NeverFall, Draws, is_ended, turn_step, turns_sequence, sequence}
+use Rattle.spec_run.specs.InTurns.{ActorStep, ReaperStep, OneTurn, Turned, Begins, TurnsGo, NeverFall, Draws, is_ended, turn_step}
 use Rattle.spec_run.specs.RunJournal.{entries_shown}
-use Rattle.script_actor.specs.Way.{AddsActs, AreActsBy}
+use Rattle.script_actor.specs.Piece.{Piece, AreActsBy, AddsActs, AddsDeeds, deed_pieces}
 use Rattle.script_actor.specs.Stepping.{standing_of, entries_of, ActorAgrees}
 use Rattle.script_actor.specs.declared.actor.Actor.{Actor}
 
@@ -42,10 +42,10 @@ module _ {O N S : Type 0} (as_open : O → OpenSock) where
     reaps_so : w ≡ length old → new ≡ old → ReaperStep deeds → WorkerDoes w old new deeds
     serves_so : length old < w → new ≡ old → deeds ≡ [] → WorkerDoes w old new deeds
 
-  pub record WorkerSteps (w : ℕ) (old new : List (Actor O)) (before after : List (Act N S)) : Type 0 where
+  pub record WorkerSteps (w : ℕ) (old new : List (Actor O)) (before after : List (Piece N S)) : Type 0 where
     pub deeds : List (Deed N S)
     pub does : WorkerDoes w old new deeds
-    pub adds : AddsActs w (all_acts deeds) before after
+    pub adds : AddsDeeds w (w == length old) deeds before after
 
   -- a worker has made its step of a turn
   pub data HasStepped (w : ℕ) (old now : List (Actor O)) (deeds : List (Deed N S)) : Type 0 where
@@ -54,16 +54,16 @@ module _ {O N S : Type 0} (as_open : O → OpenSock) where
     served : length old < w → deeds ≡ [] → HasStepped w old now deeds
 
   -- these workers have made their steps, one after another
-  pub record HaveStepped (done : List ℕ) (old now : List (Actor O)) (before after : List (Act N S)) : Type 0 where
+  pub record HaveStepped (done : List ℕ) (old now : List (Actor O)) (before after : List (Piece N S)) : Type 0 where
     pub steps : ℕ → List (Deed N S)
     pub count : length now ≡ length old
     pub not_yet : (w : ℕ) → times w done ≡ 0 → slice_get now w ≡ slice_get old w
     pub stepped : (w : ℕ) → times w done ≡ 1 → HasStepped w old now (steps w)
     pub by : (w : ℕ) → AreActsBy w (all_acts (steps w))
-    pub adds : after ≡ before ++ all_acts (flat_map steps done)
+    pub adds : after ≡ before ++ flat_map (λ w. deed_pieces w (w == length old) (steps w)) done
 
   -- each worker has made its step, in the order that is drawn
-  pub record TurnSteps (seed drawn after_drawn : ℕ) (old new : List (Actor O)) (before after : List (Act N S)) : Type 0 where
+  pub record TurnSteps (seed drawn after_drawn : ℕ) (old new : List (Actor O)) (before after : List (Piece N S)) : Type 0 where
     pub order : List ℕ
     pub is_order : IsOrder seed drawn (range_with_len 0 (length old + 2)) order after_drawn
     pub have : HaveStepped order old new before after
@@ -90,19 +90,31 @@ module _ {N S : Type 0} where
   TurnsBy conductor [] = Unit {0}
   TurnsBy conductor (turn ∷ turns) = TurnBy conductor turn × TurnsBy conductor turns
 
+  -- the pieces of a turn whose workers step in this order, where the reaper has this number and the conductor the next but one; and of turns
+  abbrev pub turn_pieces : (reaper : ℕ) → List ℕ → OneTurn N S → List (Piece N S)
+  turn_pieces reaper order turn = deed_pieces (reaper + 2) false turn.begins ++ flat_map (λ w. deed_pieces w (w == reaper) (turn_step w turn)) order
+
+  abbrev pub turns_pieces : (reaper : ℕ) → List (List ℕ) → List (OneTurn N S) → List (Piece N S)
+  turns_pieces reaper [] turns = []
+  turns_pieces reaper (order ∷ orders) [] = []
+  turns_pieces reaper (order ∷ orders) (turn ∷ turns) = turn_pieces reaper order turn ++ turns_pieces reaper orders turns
+
+  abbrev pub sequence_pieces : (reaper : ℕ) → List (List ℕ) → Turned N S → List (Piece N S)
+  sequence_pieces reaper orders t = turns_pieces reaper orders t.turns ++ deed_pieces (reaper + 2) false (Looks t.last ∷ [])
+
   -- a turn begins: the root has ended, or else it is asked where that is due
-  pub record EndsHere (conductor : ℕ) (before after : List (Act N S)) : Type 0 where
+  pub record EndsHere (conductor : ℕ) (before after : List (Piece N S)) : Type 0 where
     pub seen : Moment N S
     pub look : IsLookAt Nothing seen
     pub ended : is_ended look.sight.root ≡ true
-    pub adds : AddsActs conductor (Said seen ∷ []) before after
+    pub adds : AddsActs conductor (Said seen ∷ []) [] before after
 
-  pub record BeginsTurn (conductor : ℕ) (standing : List ActorStanding) (before after : List (Act N S)) : Type 0 where
+  pub record BeginsTurn (conductor : ℕ) (standing : List ActorStanding) (before after : List (Piece N S)) : Type 0 where
     pub begins : List (Deed N S)
     pub so : Begins standing begins
-    pub adds : AddsActs conductor (all_acts begins) before after
+    pub adds : AddsDeeds conductor false begins before after
 
-  abbrev pub BeginsOrEnds : Bool → (conductor : ℕ) → List ActorStanding → (before after : List (Act N S)) → Type 0
+  abbrev pub BeginsOrEnds : Bool → (conductor : ℕ) → List ActorStanding → (before after : List (Piece N S)) → Type 0
   BeginsOrEnds true conductor standing before after = BeginsTurn conductor standing before after
   BeginsOrEnds false conductor standing before after = EndsHere conductor before after
 
@@ -114,17 +126,17 @@ module _ {O N S : Type 0} where
 
 module _ {O N S : Type 0} (as_open : O → OpenSock) where
   -- the run has come so far by these turns, each in its order; drawn was the last number drawn
-  pub record HasCome (seed drawn : ℕ) (turns : List (OneTurn N S)) (orders : List (List ℕ)) (old now : List (Actor O)) (before after : List (Act N S)) : Type 0 where
+  pub record HasCome (seed drawn : ℕ) (turns : List (OneTurn N S)) (orders : List (List ℕ)) (old now : List (Actor O)) (before after : List (Piece N S)) : Type 0 where
     pub go : TurnsGo 1 (standings as_open old) turns (standings as_open now)
     pub draws : DrawsUpTo seed (range_with_len 0 (length old + 2)) seed turns orders drawn
     pub count : length now ≡ length old
     pub quiet : NeverReads turns
     pub by : TurnsBy (length old + 2) turns
     pub says : (i : ℕ) (a b : Actor O) → slice_get old i ≡ Some a → slice_get now i ≡ Some b → HasSaid i turns a b
-    pub acts_are : after ≡ before ++ all_acts (turns_sequence orders turns)
+    pub pieces_are : after ≡ before ++ turns_pieces (length old) orders turns
 
   -- the run is over: the root has ended, or all turns were taken
-  pub record RunsSo (seed limit : ℕ) (done : Bool) (old new : List (Actor O)) (before after : List (Act N S)) : Type 0 where
+  pub record RunsSo (seed limit : ℕ) (done : Bool) (old new : List (Actor O)) (before after : List (Piece N S)) : Type 0 where
     pub turned : Turned N S
     pub orders : List (List ℕ)
     pub go : TurnsGo 1 (standings as_open old) turned.turns (standings as_open new)
@@ -138,4 +150,4 @@ module _ {O N S : Type 0} (as_open : O → OpenSock) where
     pub says : (i : ℕ) (a b : Actor O) → slice_get old i ≡ Some a → slice_get new i ≡ Some b → HasSaid i turned.turns a b
     pub by : TurnsBy (length old + 2) turned.turns
     pub last_by : AreActsBy (length old + 2) (Said turned.last ∷ [])
-    pub acts_are : after ≡ before ++ all_acts (sequence orders turned)
+    pub pieces_are : after ≡ before ++ sequence_pieces (length old) orders turned

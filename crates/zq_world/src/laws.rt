@@ -1,5 +1,6 @@
 ghost use Rattle.zq_world.specs.GoesInTurns.{RunsGoInTurns, RunsAreOnOneThread, RunsAreTold};
 ghost use Rattle.zq_world.specs.GoesInTurns.{NobodyElseHasItems};
+ghost use Rattle.zq_world.specs.OneSided.{SidesGoOn};
 
 /// What was run of a script's actors goes in turns, whatever the order is that the control plane
 /// gives its items.
@@ -20,4 +21,10 @@ pub fn items_of_runs_are_the_workers<O, N, S>()
 /// And it has no others.
 pub fn nobody_else_has_items<O, N, S>()
     ensures { NobodyElseHasItems O N S }
+{}
+
+/// The steps at a side stay one caller's, and behind them the reaper's, by a further call that may come
+/// behind each before it.
+pub fn sides_go_on<N, S>()
+    ensures { SidesGoOn N S }
 {}

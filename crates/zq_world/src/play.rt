@@ -1,9 +1,10 @@
-ghost use Rattle.std.specs.Prelude.{◌≡◌, ◌≤◌, ℕ, OnOk, IfOk};
+ghost use Rattle.std.specs.Prelude.{◌≡◌, ◌≤◌, ℕ, length, OnOk, IfOk};
 ghost use Rattle.std.specs.List.{list_all};
 ghost use Rattle.spec_run.specs.OpenSocket.{OpenSock};
 ghost use Rattle.spec_run.specs.Standing.{has_finished};
 ghost use Rattle.spec_run.specs.InTurns.{is_ended};
 ghost use Rattle.script_actor.specs.Way.{KeepsAll};
+ghost use Rattle.zq_world.specs.CoreCalls.{IsOnlyReaper};
 ghost use Rattle.zq_world.specs.Turning.{ActorsAgree, WorkerSteps, HaveStepped, TurnSteps, times};
 ghost use Rattle.zq_world.specs.Turning.{standings, BeginsOrEnds, RunsSo};
 
@@ -25,8 +26,9 @@ fn step<P: Pipes, W: Core<P>>(
     worker: usize,
 ) -> Result<(), AllocError>
     requires agree { ActorsAgree W.as_open W.agrees W.was_made way.old actors.old }
+    requires alone { IsOnlyReaper (length actors.old) (W.pieces way.old) }
     ensures ok { OnOk result (WorkerSteps W.as_open worker actors.old actors.new
-        (W.acts way.old) (W.acts way.new)) }
+        (W.pieces way.old) (W.pieces way.new)) }
     ensures agree { ActorsAgree W.as_open W.agrees W.was_made way.new actors.new }
 {
     if worker < actors.len() {
@@ -46,9 +48,10 @@ fn steps<P: Pipes, W: Core<P>>(
     order: &[usize],
 ) -> Result<(), AllocError>
     requires agree { ActorsAgree W.as_open W.agrees W.was_made way.old actors.old }
+    requires alone { IsOnlyReaper (length actors.old) (W.pieces way.old) }
     requires once { (w : ℕ) → times w order.now ≤ 1 }
     ensures ok { OnOk result (HaveStepped W.as_open order.now actors.old actors.new
-        (W.acts way.old) (W.acts way.new)) }
+        (W.pieces way.old) (W.pieces way.new)) }
     ensures agree { ActorsAgree W.as_open W.agrees W.was_made way.new actors.new }
 {
     'workers: for worker in order {
@@ -65,8 +68,9 @@ fn turn<P: Pipes, W: Core<P>>(
     order: &mut Order,
 ) -> Result<(), AllocError>
     requires agree { ActorsAgree W.as_open W.agrees W.was_made way.old actors.old }
+    requires alone { IsOnlyReaper (length actors.old) (W.pieces way.old) }
     ensures ok { OnOk result (TurnSteps W.as_open order.old.seed order.old.drawn order.new.drawn
-        actors.old actors.new (W.acts way.old) (W.acts way.new)) }
+        actors.old actors.new (W.pieces way.old) (W.pieces way.new)) }
     ensures agree { ActorsAgree W.as_open W.agrees W.was_made way.new actors.new }
     ensures seed { order.new.seed ≡ order.old.seed }
 {
@@ -108,7 +112,7 @@ fn begin<P: Pipes, W: Core<P>>(
     conductor: usize,
 ) -> Result<bool, AllocError>
     ensures ok { IfOk result (λ goes_on. BeginsOrEnds goes_on conductor
-        (standings W.as_open actors.now) (W.acts way.old) (W.acts way.new)) }
+        (standings W.as_open actors.now) (W.pieces way.old) (W.pieces way.new)) }
     ensures keeps { KeepsAll W.agrees W.was_made way.old way.new }
 {
     match way.look(alloc, conductor)? {
@@ -133,8 +137,9 @@ pub fn run<P: Pipes, W: Core<P>>(
     turns: u32,
 ) -> Result<bool, AllocError>
     requires agree { ActorsAgree W.as_open W.agrees W.was_made way.old actors.old }
+    requires alone { IsOnlyReaper (length actors.old) (W.pieces way.old) }
     ensures ok { IfOk result (λ done. RunsSo W.as_open seed turns done actors.old actors.new
-        (W.acts way.old) (W.acts way.new)) }
+        (W.pieces way.old) (W.pieces way.new)) }
     ensures agree { ActorsAgree W.as_open W.agrees W.was_made way.new actors.new }
 {
     let conductor = actors.len().saturating_add(OTHER_WORKERS);

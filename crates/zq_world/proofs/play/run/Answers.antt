@@ -2,11 +2,12 @@ use Rattle.std.proofs.Common.{rules, subst, ap, ◌∙◌}
 use Rattle.zq_world.specs.Turning.{BeginsOrEnds, TurnSteps, standings}
 use Rattle.zq_world.proofs.StepLemmas.{agree_still}
 use Rattle.zq_world.proofs.RunLemmas.{within_first, within_more, over_early, over_late}
+use Rattle.zq_world.proofs.ReaperLemmas.{alone_begun}
 use Rattle.zq_world.proofs.play.run.Goals as goal
 
 pub turns-init : goal.turns-init
 turns-init g c = record {
-  come = within_first g.W.Sockets.as_open c.args.seed c.args.turns c.new-order.result.drawn c.args.actors.now (g.W.Sockets.acts c.args.way.now) (ap (λ o. o.drawn) c.new-order.ensures);
+  come = within_first g.W.Sockets.as_open c.args.seed c.args.turns c.new-order.result.drawn c.args.actors.now (g.W.Sockets.pieces c.args.way.now) (ap (λ o. o.drawn) c.new-order.ensures);
   seed = ap (λ o. o.seed) c.new-order.ensures;
   conductor = (search rules);
   agree = c.requires.agree;
@@ -18,21 +19,27 @@ returns-in_err-begin-clause-agree g c = agree_still g.W.Sockets.as_open g.W.Sock
 pub returns-then-not-branch-clause-ok : goal.returns-then-not-branch-clause-ok
 returns-then-not-branch-clause-ok g c =
     over_early g.W.Sockets.as_open c.args.seed c.args.turns c.turns.order.drawn c.saturating_add-conductor.result c.turns.left c.args.actors.now c.turns.actors
-    (g.W.Sockets.acts c.args.way.now) (g.W.Sockets.acts c.turns.way) (g.W.Sockets.acts c.begin.new.way) c.turns.invariant.conductor c.turns.invariant.come
-    (subst (λ b. BeginsOrEnds b c.saturating_add-conductor.result (standings g.W.Sockets.as_open c.turns.actors) (g.W.Sockets.acts c.turns.way) (g.W.Sockets.acts c.begin.new.way)) c.if-not-branch.true c.in_ok-begin.ensures.ok)
+    (g.W.Sockets.pieces c.args.way.now) (g.W.Sockets.pieces c.turns.way) (g.W.Sockets.pieces c.begin.new.way) c.turns.invariant.conductor c.turns.invariant.come
+    (subst (λ b. BeginsOrEnds b c.saturating_add-conductor.result (standings g.W.Sockets.as_open c.turns.actors) (g.W.Sockets.pieces c.turns.way) (g.W.Sockets.pieces c.begin.new.way)) c.if-not-branch.true c.in_ok-begin.ensures.ok)
 
 pub returns-then-not-branch-clause-agree : goal.returns-then-not-branch-clause-agree
 returns-then-not-branch-clause-agree g c = agree_still g.W.Sockets.as_open g.W.Sockets.agrees g.W.Sockets.was_made c.turns.way c.begin.new.way c.turns.actors c.begin.ensures.keeps c.turns.invariant.agree
 
 pub turn-requires : goal.turn-requires
-turn-requires g c = record { agree = agree_still g.W.Sockets.as_open g.W.Sockets.agrees g.W.Sockets.was_made c.turns.way c.begin.new.way c.turns.actors c.begin.ensures.keeps c.turns.invariant.agree }
+turn-requires g c = record {
+  agree = agree_still g.W.Sockets.as_open g.W.Sockets.agrees g.W.Sockets.was_made c.turns.way c.begin.new.way c.turns.actors c.begin.ensures.keeps c.turns.invariant.agree;
+  alone = alone_begun g.W.Sockets.as_open c.args.seed c.args.turns c.turns.order.drawn c.turns.left c.saturating_add-conductor.result c.args.actors.now c.turns.actors (g.W.Sockets.pieces c.args.way.now) (g.W.Sockets.pieces c.turns.way) (g.W.Sockets.pieces c.begin.new.way)
+      c.turns.invariant.come
+      (subst (λ b. BeginsOrEnds b c.saturating_add-conductor.result (standings g.W.Sockets.as_open c.turns.actors) (g.W.Sockets.pieces c.turns.way) (g.W.Sockets.pieces c.begin.new.way)) c.if-not-branch.false c.in_ok-begin.ensures.ok)
+      c.requires.alone;
+}
 
 pub turns-preserved : goal.turns-preserved
 turns-preserved g c = record {
   come = within_more g.W.Sockets.as_open c.args.seed c.args.turns c.turns.order.drawn c.turn.new.order.drawn c.saturating_add-conductor.result c.turns.left c.args.actors.now c.turns.actors c.turn.new.actors
-      (g.W.Sockets.acts c.args.way.now) (g.W.Sockets.acts c.turns.way) (g.W.Sockets.acts c.begin.new.way) (g.W.Sockets.acts c.turn.new.way) c.turns-test.true c.turns.invariant.conductor c.turns.invariant.come
-      (subst (λ b. BeginsOrEnds b c.saturating_add-conductor.result (standings g.W.Sockets.as_open c.turns.actors) (g.W.Sockets.acts c.turns.way) (g.W.Sockets.acts c.begin.new.way)) c.if-not-branch.false c.in_ok-begin.ensures.ok)
-      (subst (λ s. TurnSteps g.W.Sockets.as_open s c.turns.order.drawn c.turn.new.order.drawn c.turns.actors c.turn.new.actors (g.W.Sockets.acts c.begin.new.way) (g.W.Sockets.acts c.turn.new.way)) c.turns.invariant.seed c.in_ok-turn.ensures.ok);
+      (g.W.Sockets.pieces c.args.way.now) (g.W.Sockets.pieces c.turns.way) (g.W.Sockets.pieces c.begin.new.way) (g.W.Sockets.pieces c.turn.new.way) c.turns-test.true c.turns.invariant.conductor c.turns.invariant.come
+      (subst (λ b. BeginsOrEnds b c.saturating_add-conductor.result (standings g.W.Sockets.as_open c.turns.actors) (g.W.Sockets.pieces c.turns.way) (g.W.Sockets.pieces c.begin.new.way)) c.if-not-branch.false c.in_ok-begin.ensures.ok)
+      (subst (λ s. TurnSteps g.W.Sockets.as_open s c.turns.order.drawn c.turn.new.order.drawn c.turns.actors c.turn.new.actors (g.W.Sockets.pieces c.begin.new.way) (g.W.Sockets.pieces c.turn.new.way)) c.turns.invariant.seed c.in_ok-turn.ensures.ok);
   seed = c.turn.ensures.seed ∙ c.turns.invariant.seed;
   conductor = c.turns.invariant.conductor;
   agree = c.turn.ensures.agree;
@@ -44,7 +51,7 @@ returns-in_err-root-clause-agree g c = agree_still g.W.Sockets.as_open g.W.Socke
 pub returns-clause-ok : goal.returns-clause-ok
 returns-clause-ok g c =
     over_late g.W.Sockets.as_open c.args.seed c.args.turns c.turns.order.drawn c.saturating_add-conductor.result c.turns.left c.in_ok-root.root c.has_ended.result c.args.actors.now c.turns.actors
-    (g.W.Sockets.acts c.args.way.now) (g.W.Sockets.acts c.turns.way) (g.W.Sockets.acts c.look.new.self) c.turns-test.false c.turns.invariant.conductor c.turns.invariant.come c.in_ok-root.ensures.ok c.has_ended.ensures
+    (g.W.Sockets.pieces c.args.way.now) (g.W.Sockets.pieces c.turns.way) (g.W.Sockets.pieces c.look.new.self) c.turns-test.false c.turns.invariant.conductor c.turns.invariant.come c.in_ok-root.ensures.ok c.has_ended.ensures
 
 pub returns-clause-agree : goal.returns-clause-agree
 returns-clause-agree g c = agree_still g.W.Sockets.as_open g.W.Sockets.agrees g.W.Sockets.was_made c.turns.way c.look.new.self c.turns.actors c.look.ensures.keeps c.turns.invariant.agree

@@ -7,7 +7,7 @@ use Rattle.zq_world.proofs.play.run.Given as goal
 abbrev pub invariant-turns : goal.invariant-turns
 invariant-turns g l = record {
   come : (ts : List (OneTurn g.row.P-Name.Denot g.row.P-Story.Denot)) × (os : List (List ℕ))
-      × HasCome g.W.Sockets.as_open l.fn.seed l.order.drawn ts os l.fn.actors l.actors (g.W.Sockets.acts l.fn.way) (g.W.Sockets.acts l.way) × (length ts + l.left ≡ l.fn.turns);
+      × HasCome g.W.Sockets.as_open l.fn.seed l.order.drawn ts os l.fn.actors l.actors (g.W.Sockets.pieces l.fn.way) (g.W.Sockets.pieces l.way) × (length ts + l.left ≡ l.fn.turns);
   seed : l.order.seed ≡ l.fn.seed;
   conductor : l.conductor ≡ length l.fn.actors + 2;
   agree : ActorsAgree g.W.Sockets.as_open g.W.Sockets.agrees g.W.Sockets.was_made l.way l.actors;

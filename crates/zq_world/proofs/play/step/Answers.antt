@@ -1,14 +1,15 @@
 use Rattle.std.proofs.Common.{sym, subst, arith}
 use Rattle.std.proofs.lemmas.Result.{on_ok_weaker}
 use Rattle.script_actor.specs.Stepping.{StepsSo}
+use Rattle.zq_world.specs.CoreCalls.{IsOnlyReaper}
 use Rattle.zq_world.proofs.StepLemmas.{actor_is, reaper_is, server_is, agree_then, agree_still, read_here}
 use Rattle.zq_world.proofs.play.step.Goals as goal
 
 pub returns-then-worker-actors-clause-ok : goal.returns-then-worker-actors-clause-ok
 returns-then-worker-actors-clause-ok g c =
     on_ok_weaker c.step.result
-    (λ h. actor_is g.W.Sockets.as_open c.args.worker c.args.actors.now c.index-actors-worker.result c.step.new.self (g.W.Sockets.acts c.args.way.now) (g.W.Sockets.acts c.step.new.way) c.if-worker-actors.true c.index-actors-worker.is
-    (subst (λ a. StepsSo g.W.Sockets.as_open c.args.worker a c.step.new.self (g.W.Sockets.acts c.args.way.now) (g.W.Sockets.acts c.step.new.way)) (sym c.index-actors-worker.is) h))
+    (λ h. actor_is g.W.Sockets.as_open c.args.worker c.args.actors.now c.index-actors-worker.result c.step.new.self (g.W.Sockets.pieces c.args.way.now) (g.W.Sockets.pieces c.step.new.way) c.if-worker-actors.true c.index-actors-worker.is
+    (subst (λ a. StepsSo g.W.Sockets.as_open c.args.worker a c.step.new.self (g.W.Sockets.pieces c.args.way.now) (g.W.Sockets.pieces c.step.new.way)) (sym c.index-actors-worker.is) h))
     c.step.ensures.ok
 
 pub returns-then-worker-actors-clause-agree : goal.returns-then-worker-actors-clause-agree
@@ -19,7 +20,7 @@ returns-then-worker-actors-clause-agree g c =
 pub returns-then-worker-actors-2-clause-ok : goal.returns-then-worker-actors-2-clause-ok
 returns-then-worker-actors-2-clause-ok g c =
     on_ok_weaker c.reap_one.result
-    (λ h. reaper_is g.W.Sockets.as_open c.args.worker c.args.actors.now (g.W.Sockets.acts c.args.way.now) (g.W.Sockets.acts c.reap_one.new.self) c.if-worker-actors-2.true h)
+    (λ h. reaper_is g.W.Sockets.as_open c.args.worker c.args.actors.now (g.W.Sockets.pieces c.args.way.now) (g.W.Sockets.pieces c.reap_one.new.self) c.if-worker-actors-2.true h)
     c.reap_one.ensures.ok
 
 pub returns-then-worker-actors-2-clause-agree : goal.returns-then-worker-actors-2-clause-agree
@@ -28,4 +29,7 @@ returns-then-worker-actors-2-clause-agree g c =
 
 pub returns-clause-ok : goal.returns-clause-ok
 returns-clause-ok g c =
-    server_is g.W.Sockets.as_open c.args.worker c.args.actors.now (g.W.Sockets.acts c.args.way.now) (omega (arith, c.if-worker-actors.false, c.if-worker-actors-2.false))
+    server_is g.W.Sockets.as_open c.args.worker c.args.actors.now (g.W.Sockets.pieces c.args.way.now) (omega (arith, c.if-worker-actors.false, c.if-worker-actors-2.false))
+
+pub reap_one-requires : goal.reap_one-requires
+reap_one-requires g c = record { alone = subst (λ n. IsOnlyReaper n (g.W.Sockets.pieces c.args.way.now)) (sym c.if-worker-actors-2.true) c.requires.alone }

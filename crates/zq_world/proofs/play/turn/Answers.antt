@@ -12,5 +12,5 @@ pub returns-clause-ok : goal.returns-clause-ok
 returns-clause-ok g c = record {
   order = c.in_ok-workers.workers.items;
   is_order = (search rules);
-  have = subst (λ l. HaveStepped g.W.Sockets.as_open l c.args.actors.now c.steps.new.actors (g.W.Sockets.acts c.args.way.now) (g.W.Sockets.acts c.steps.new.way)) c.deref.ensures.value c.in_ok-steps.ensures.ok;
+  have = subst (λ l. HaveStepped g.W.Sockets.as_open l c.args.actors.now c.steps.new.actors (g.W.Sockets.pieces c.args.way.now) (g.W.Sockets.pieces c.steps.new.way)) c.deref.ensures.value c.in_ok-steps.ensures.ok;
 }

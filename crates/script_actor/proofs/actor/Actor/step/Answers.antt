@@ -5,17 +5,17 @@ use Rattle.script_actor.proofs.actor.Actor.step.Goals as goal
 
 pub returns-then-not-has_open-clause-ok : goal.returns-then-not-has_open-clause-ok
 returns-then-not-has_open-clause-ok g c =
-    steps_not g.W.Sockets.as_open c.args.number c.args.self.now (g.W.Sockets.acts c.args.way.now) c.in_default.ensures.cases (sym c.has_open.ensures ∙ c.if-not-has_open.true)
+    steps_not g.W.Sockets.as_open c.args.number c.args.self.now (g.W.Sockets.pieces c.args.way.now) c.in_default.ensures.cases (sym c.has_open.ensures ∙ c.if-not-has_open.true)
 
 pub returns-in_default-clause-ok : goal.returns-in_default-clause-ok
 returns-in_default-clause-ok g c =
-    on_ok_weaker c.shut_first.result (λ h. steps_shut g.W.Sockets.as_open c.args.number c.args.self.now c.shut_first.new.self (g.W.Sockets.acts c.args.way.now) (g.W.Sockets.acts c.shut_first.new.way) c.in_default.ensures.cases h) c.shut_first.ensures.ok
+    on_ok_weaker c.shut_first.result (λ h. steps_shut g.W.Sockets.as_open c.args.number c.args.self.now c.shut_first.new.self (g.W.Sockets.pieces c.args.way.now) (g.W.Sockets.pieces c.shut_first.new.way) c.in_default.ensures.cases h) c.shut_first.ensures.ok
 
 pub returns-clause-ok : goal.returns-clause-ok
 returns-clause-ok g c =
     on_ok_weaker c.end_try.result
     (λ h. steps_try g.W.Sockets.as_open c.args.number c.args.self.now
     (record { name = c.args.self.now.name; lines = c.args.self.now.lines; tried = c.args.self.now.tried; told = c.ask.new.told; entries = c.args.self.now.entries; seats = c.ask.new.seats })
-    c.end_try.new.self c.in-Some.line.now c.in-Some.rest.now c.in_ok-answer.answer (g.W.Sockets.acts c.args.way.now) (g.W.Sockets.acts c.ask.new.way)
+    c.end_try.new.self c.in-Some.line.now c.in-Some.rest.now c.in_ok-answer.answer (g.W.Sockets.pieces c.args.way.now) (g.W.Sockets.pieces c.ask.new.way)
     (search rules) refl refl refl refl c.in_ok-answer.ensures.ok h c.end_try.ensures.seats)
     c.end_try.ensures.ok

@@ -7,7 +7,7 @@ use Rattle.script_actor.proofs.seats.Seats.call.Goals as goal
 
 pub returns-then-not-is_open_at-clause-ok : goal.returns-then-not-is_open_at-clause-ok
 returns-then-not-is_open_at-clause-ok g c =
-    asked_none g.W.Sockets.as_open c.args.caller c.args.place c.args.line.now c.args.self.now c.args.told.now.items (g.W.Sockets.acts c.args.way.now)
+    asked_none g.W.Sockets.as_open c.args.caller c.args.place c.args.line.now c.args.self.now c.args.told.now.items (g.W.Sockets.pieces c.args.way.now)
     c.requires.place (sym c.is_open_at.ensures ∙ c.if-not-is_open_at.true) (all_fit g.W.Sockets.as_open g.W.Sockets.agrees g.W.Sockets.was_made c.args.way.now c.args.caller c.args.self.now c.requires.agree.agree) c.requires.agree.apart
 
 pub invariant_of-self : goal.invariant_of-self
@@ -20,7 +20,7 @@ pub returns-in-Open-clause-ok : goal.returns-in-Open-clause-ok
 returns-in-Open-clause-ok g c =
     IfOk-weaker c.call.result _ _
     (λ answer h. calls_in g.W.Sockets.as_open g.W.Sockets.agrees g.W.Sockets.was_made c.args.caller c.args.place c.args.line.now answer c.self.inside.seats.items c.args.self.now c.index_mut.result.now
-    c.in-Open.field-0 c.in-Open.socket c.call.new.socket c.args.way.now c.args.told.now.items c.call.new.told.items (g.W.Sockets.acts c.args.way.now) (g.W.Sockets.acts c.call.new.self)
+    c.in-Open.field-0 c.in-Open.socket c.call.new.socket c.args.way.now c.args.told.now.items c.call.new.told.items (g.W.Sockets.pieces c.args.way.now) (g.W.Sockets.pieces c.call.new.self)
     c.self.view_is (sym c.is_open_at.ensures ∙ c.if-not-is_open_at.false) c.index_mut.ensures.value c.in-Open.is c.requires.place c.requires.agree c.call.ensures.lent.same h)
     c.call.ensures.ok
 

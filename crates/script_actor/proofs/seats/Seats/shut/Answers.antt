@@ -10,7 +10,7 @@ next_open-self-inside-requires g c = rw (c.self.invariant, c.deref.ensures.value
 pub returns-in-Ok-clause-ok : goal.returns-in-Ok-clause-ok
 returns-in-Ok-clause-ok g c =
     shuts_in g.W.Sockets.as_open g.W.Sockets.agrees g.W.Sockets.was_made c.args.caller c.args.place c.self.inside.seats.items c.args.self.now c.index_mut-seat.result.now
-    c.in-Open.object c.in-Open.socket c.args.way.now (g.W.Sockets.acts c.args.way.now) (g.W.Sockets.acts c.close.new.self)
+    c.in-Open.object c.in-Open.socket c.args.way.now (g.W.Sockets.pieces c.args.way.now) (g.W.Sockets.pieces c.close.new.self)
     c.self.view_is c.requires.here c.index_mut-seat.ensures.value (sym c.replace.ensures.value ∙ c.in-Open.is) c.requires.agree c.in-Ok.ensures.ok
 
 pub returns-in-Ok-clause-agree : goal.returns-in-Ok-clause-agree
