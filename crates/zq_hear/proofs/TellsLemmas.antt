@@ -1,6 +1,6 @@
 -- What an engine that only hears tells, step by step.
-use Rattle.std.proofs.Common.{◌≡◌, ℕ, ◌<◌, true, List, [], ◌∷◌, ◌++◌, length, take, Option, Some, None, refl, sym, ap, subst, ◌∙◌, append_assoc, arith, inl, inr}
-use Rattle.std.specs.Prelude.{◌⊎◌, Result, Ok, Err, MatchResult, OnOk}
+use Rattle.std.proofs.Common.{◌≡◌, ℕ, ◌<◌, true, List, [], ◌∷◌, ◌++◌, length, take, Option, Some, None, refl, sym, ap, subst, ◌∙◌, append_assoc, arith}
+use Rattle.std.specs.Prelude.{Result, Ok, Err, MatchResult, OnOk}
 use Rattle.std.specs.Result.{is_ok}
 use Rattle.std.specs.List.{flat_map}
 use Rattle.std.proofs.lemmas.List.{append-nil, length-append}
@@ -172,6 +172,6 @@ unfinished_is t c rest is g k =
 -- ---- the text
 
 -- the lines one behind the other
-pub in_order : (o1 o2 o3 o4 said peer messages outcome : List ℕ) → o1 ≡ [] ++ said → o2 ≡ o1 ++ peer → o3 ≡ o2 ++ messages → o4 ≡ o3 ++ outcome
-    → o4 ≡ said ++ peer ++ messages ++ outcome
-in_order o1 o2 o3 o4 said peer messages outcome e1 e2 e3 e4 = rw (e4, e3, e2, e1) (simp append_assoc)
+pub in_order : (o0 o1 o2 o3 o4 said peer messages outcome : List ℕ) → o1 ≡ o0 ++ said → o2 ≡ o1 ++ peer → o3 ≡ o2 ++ messages → o4 ≡ o3 ++ outcome
+    → o4 ≡ o0 ++ (said ++ peer ++ messages ++ outcome)
+in_order o0 o1 o2 o3 o4 said peer messages outcome e1 e2 e3 e4 = rw (e4, e3, e2, e1) (simp append_assoc)

@@ -1,5 +1,5 @@
 -- Worked examples of what is told of a peer's octets (own format), so that a wrong rule in the definitions does not check.
-use Rattle.std.specs.Prelude.{◌≡◌, List, [], ◌∷◌, None, Some, codes}
+use Rattle.std.specs.Prelude.{◌≡◌, [], ◌∷◌, None, Some, codes}
 use Rattle.zq_base.specs.declared.kind.Kind.TheVariants.{Pull, Push, Router}
 use Rattle.spec_zmtp.specs.declared.cause.Cause.TheVariants.{BadFlags}
 use Rattle.spec_zmtp.specs.DecodedStream.{Unfinished, Refused}

@@ -1,5 +1,5 @@
 -- How far an engine that only hears has told what it heard.
-use Rattle.std.specs.Prelude.{ℕ, List, [], ◌++◌}
+use Rattle.std.specs.Prelude.{◌≡◌, ℕ, List, [], ◌++◌}
 use Rattle.zq_base.specs.declared.options.EngineOpts.{EngineOpts}
 use Rattle.spec_zmtp.specs.Put.{says}
 use Rattle.spec_zmtp.specs.DecodedStream.{Decoded, Decodes}
@@ -17,6 +17,10 @@ pub record Told : Type 0 where
 -- what these octets mean, before any of it was told
 abbrev pub untold : EngineOpts → List ℕ → Decoded → Told
 untold opts octets d = record { opts = opts; heard = octets; means = d; given = []; written = [] }
+
+-- nothing was given or written yet
+abbrev pub IsUntold : Told → Type 0
+IsUntold t = (t.given ≡ []) × (t.written ≡ [])
 
 -- what the engine went through, where it was offered nothing
 abbrev pub past_of : Told → Past

@@ -1,10 +1,13 @@
-ghost use Rattle.std.specs.Prelude.{◌≡◌, IfOk, IfSome};
+ghost use Rattle.std.specs.Prelude.{◌≡◌, ◌++◌, [], IfOk, OnOk, IfSome};
 ghost use Rattle.spec_zmtp.specs.Metadata.{IsLogin};
-ghost use Rattle.zq_hear.specs.HearText.{hear_opts, IsHeard};
+ghost use Rattle.spec_zmtp.specs.DecodedStream.{octets_said};
+ghost use Rattle.zq_hear.specs.HearText.{hear_opts, hear_text, is_refused, said_text, IsHeard};
+ghost use Rattle.zq_hear.specs.Told.{OnlyHears, Told, Tells, IsUntold, with_written};
 
 use crate::lines::{push_peer, push_said};
 use crate::speech::{listen, push_messages, push_outcome, take_said};
 use std::alloc::{AllocError, Global};
+use zmtp_engine::Engine;
 use zq_base::{EngineOpts, Kind, Login, Logins, Octets, Role};
 
 /// What is told of a peer's octets.
@@ -38,6 +41,34 @@ fn options(alloc: Global, kind: Kind, login: Option<Login>) -> Result<EngineOpts
     })
 }
 
+// Appends all that an engine says in return.
+fn push_all_said(alloc: Global, out: &mut Vec<u8>, engine: &mut Engine) -> Result<(), AllocError>
+    requires hears { OnlyHears engine.old }
+    ensures text { OnOk result ((t : Told) → Tells t engine.old → t.written ≡ [] →
+        out.new.items ≡ out.old.items ++ said_text (octets_said t.opts t.means)) }
+    ensures tells { OnOk result ((t : Told) → Tells t engine.old → t.written ≡ [] →
+        Tells (with_written (octets_said t.opts t.means) t) engine.new) }
+{
+    let said = take_said(alloc, engine)?;
+    push_said(alloc, out, said.as_slice())?;
+    Ok(())
+}
+
+// Appends all that is told of an engine of which nothing was told, and tells whether it is refused.
+fn push_heard(alloc: Global, out: &mut Vec<u8>, engine: &mut Engine) -> Result<bool, AllocError>
+    requires hears { (t : Told) × Tells t engine.old × IsUntold t }
+    ensures text { OnOk result ((t : Told) → Tells t engine.old → IsUntold t →
+        out.new.items ≡ out.old.items ++ hear_text t.opts t.means) }
+    ensures refused { IfOk result (λ refused. (t : Told) → Tells t engine.old → IsUntold t →
+        refused ≡ is_refused t.means.outcome) }
+{
+    push_all_said(alloc, out, engine)?;
+    push_peer(alloc, out, engine.peer())?;
+    push_messages(alloc, out, engine)?;
+    let refused = push_outcome(out, engine)?;
+    Ok(refused)
+}
+
 /// Hears all octets of a peer as a socket of this kind: without security (RFC 23, NULL), or as a PLAIN server (RFC 24)
 /// that accepts this one login, of at most 255 octets each. Fails for want of memory alone.
 pub fn hear(
@@ -51,12 +82,8 @@ pub fn hear(
 {
     let opts = options(alloc, kind, login)?;
     let mut engine = listen(alloc, opts, octets)?;
-    let said = take_said(alloc, &mut engine)?;
     let mut text = Vec::new(alloc);
-    push_said(alloc, &mut text, said.as_slice())?;
-    push_peer(alloc, &mut text, engine.peer())?;
-    push_messages(alloc, &mut text, &mut engine)?;
-    let refused = push_outcome(&mut text, &engine)?;
+    let refused = push_heard(alloc, &mut text, &mut engine)?;
     Ok(Heard {
         text: Octets::of_vec(text),
         refused,

@@ -1,4 +1,4 @@
-ghost use Rattle.std.specs.Prelude.{◌≡◌, map};
+ghost use Rattle.std.specs.Prelude.{◌≡◌, Ok, Err, MatchResult, map};
 ghost use Rattle.zq_script.specs.Answer.{Gives};
 ghost use Rattle.zq_script.specs.SocketOption.{default_options, is_identity, identity_of, mark_of, with_option, with_options};
 
@@ -55,34 +55,32 @@ fn read_identity(alloc: Global, word: &[u8]) -> Result<Octets, LineError>
     Ok(id)
 }
 
-// The options with the one that the word gives.
+// Sets the option that the word gives.
 #[tactic(auto, unfolding(crate::specs::SocketOption::with_option))]
-fn with_option(alloc: Global, options: Options, word: &[u8]) -> Result<Options, LineError>
-    ensures { Gives result (with_option word.now options) }
+fn set_option(alloc: Global, options: &mut Options, word: &[u8]) -> Result<(), LineError>
+    ensures { MatchResult result
+        (λ _. with_option word.now options.old ≡ Ok options.new)
+        (λ error. Gives (Err error) (with_option word.now options.old)) }
 {
     if word.starts_with(b"hwm=") {
-        let hwm = read_mark(&word[4..])?;
-        return Ok(Options { hwm, ..options });
+        options.hwm = read_mark(&word[4..])?;
+        return Ok(());
     }
     if word.starts_with(b"rcvhwm=") {
-        let rcvhwm = read_mark(&word[7..])?;
-        return Ok(Options { rcvhwm, ..options });
+        options.rcvhwm = read_mark(&word[7..])?;
+        return Ok(());
     }
     if word.starts_with(b"id=") {
-        let id = read_identity(alloc, &word[3..])?;
-        return Ok(Options { id, ..options });
+        options.id = read_identity(alloc, &word[3..])?;
+        return Ok(());
     }
     if same_text(word, b"mandatory") {
-        return Ok(Options {
-            mandatory: true,
-            ..options
-        });
+        options.mandatory = true;
+        return Ok(());
     }
     if same_text(word, b"verbose") {
-        return Ok(Options {
-            verbose: true,
-            ..options
-        });
+        options.verbose = true;
+        return Ok(());
     }
     Err(LineError::Fault(Cause::BadWord))
 }
@@ -93,7 +91,7 @@ pub(crate) fn read_options(alloc: Global, words: &[&[u8]]) -> Result<Options, Li
 {
     let mut options = default_options(alloc);
     for word in words {
-        options = with_option(alloc, options, word)?;
+        set_option(alloc, &mut options, word)?;
     }
     Ok(options)
 }

@@ -45,6 +45,20 @@ fn run_over(alloc: Global, words: &[String], source: &mut MemSource, sink: &mut 
     )
 }
 
+/// The same over a sink whose writes move so many octets in turn, and of which those of these numbers fail.
+fn call_over(
+    alloc: Global,
+    words: &[String],
+    source: &mut MemSource,
+    failing_writes: &[u64],
+    sizes: &[usize],
+) -> Result<Called, Fail> {
+    let mut sink = sink(alloc, failing_writes, sizes)?;
+    let status = run_over(alloc, words, source, &mut sink);
+    let text = Vec::from_slice(alloc, sink.octets())?;
+    Ok(Called { status, text })
+}
+
 /// The program's call over memory: reads and writes move so many octets in turn, and those of these numbers fail.
 pub fn call(
     alloc: Global,
@@ -56,10 +70,7 @@ pub fn call(
 ) -> Result<Called, Fail> {
     let words = list(alloc, words)?;
     let mut source = source(alloc, octets, failing_reads, sizes)?;
-    let mut sink = sink(alloc, failing_writes, sizes)?;
-    let status = run_over(alloc, &words, &mut source, &mut sink);
-    let text = Vec::from_slice(alloc, sink.octets())?;
-    Ok(Called { status, text })
+    call_over(alloc, &words, &mut source, failing_writes, sizes)
 }
 
 /// Whether a call over a source and a sink that never fail gives this status and text.
@@ -86,16 +97,30 @@ pub fn fails_to_read(
     Ok(called.status == Status::ReadFault && called.text.as_slice() == b"read fault\n".as_slice())
 }
 
-/// How many octets the source has left behind a run of a script of so many `#`: at most 64.
-pub fn left_behind(alloc: Global, words: &[&str], count: usize) -> Result<usize, Fail> {
-    let words = list(alloc, words)?;
-    let octets = Vec::from_elem(alloc, b'#', count)?;
-    let mut source = source(alloc, &octets, &[], &[65_536])?;
-    let mut sink = sink(alloc, &[], &[65_536])?;
-    let _status = run_over(alloc, &words, &mut source, &mut sink);
+/// How many octets a source has left: at most 64.
+fn left_in(source: &mut MemSource) -> usize {
     let mut rest = [0u8; 64];
     match source.read(&mut rest) {
-        Got::Bytes(count) => Ok(count),
-        Got::End | Got::Failed => Ok(0),
+        Got::Bytes(count) => count,
+        Got::End | Got::Failed => 0,
     }
+}
+
+/// A script of so many `#`.
+fn long_script(alloc: Global, count: usize) -> Result<MemSource, Fail> {
+    let octets = Vec::from_elem(alloc, b'#', count)?;
+    source(alloc, &octets, &[], &[65_536])
+}
+
+/// Calls over this source, and a sink that never fails.
+fn call_through(alloc: Global, words: &[&str], source: &mut MemSource) -> Result<Called, Fail> {
+    let words = list(alloc, words)?;
+    call_over(alloc, &words, source, &[], &[65_536])
+}
+
+/// How many octets the source has left behind a run of a script of so many `#`: at most 64.
+pub fn left_behind(alloc: Global, words: &[&str], count: usize) -> Result<usize, Fail> {
+    let mut source = long_script(alloc, count)?;
+    call_through(alloc, words, &mut source)?;
+    Ok(left_in(&mut source))
 }

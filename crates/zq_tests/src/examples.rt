@@ -75,10 +75,8 @@ const EXAMPLES: [(&[&str], &[u8], &[u8]); 13] = [
 
 #[test]
 fn each_example_has_its_text(rt: HostRuntime) -> Result<(), Fail> {
-    let alloc = rt.alloc();
-    for (words, input, text) in EXAMPLES {
-        let told = answers(alloc, words, input, Status::Done, text)?;
-        assert!(rt; told);
+    for (words, input, text) in &EXAMPLES {
+        assert!(rt; answers(rt.alloc(), words, input, Status::Done, text)?);
     }
     Ok(())
 }

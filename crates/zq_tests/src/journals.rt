@@ -27,20 +27,30 @@ fn text_of(alloc: Global, name: &[u8], line: u32, answer: Answer) -> Result<Octe
     )
 }
 
-fn text_of_entry(alloc: Global, name: &[u8], entry: Entry) -> Result<Octets, Fail> {
+/// The part of an actor of this name that was answered once.
+fn part_of(alloc: Global, name: &[u8], entry: Entry) -> Result<ActorPart, Fail> {
     let mut entries = Vec::new(alloc);
     entries.push(entry)?;
-    let mut actors = Vec::new(alloc);
-    actors.push(ActorPart {
+    Ok(ActorPart {
         name: Octets::of_slice(alloc, name)?,
         entries: Seq::of_vec(entries),
-    })?;
+    })
+}
+
+fn text_of_entry(alloc: Global, name: &[u8], entry: Entry) -> Result<Octets, Fail> {
+    let mut actors = Vec::new(alloc);
+    actors.push(part_of(alloc, name, entry)?)?;
     let journal = Journal {
         actors: Seq::of_vec(actors),
         pipes: Seq::new(alloc),
         done: true,
     };
     Ok(print(alloc, &journal)?)
+}
+
+/// Whether an answer is told so.
+fn is_told(alloc: Global, answer: Answer, text: &[u8]) -> Result<bool, Fail> {
+    Ok(text_of(alloc, b"a", 4, answer)?.as_slice() == text)
 }
 
 #[test]
@@ -79,30 +89,42 @@ fn answers_have_their_texts(rt: HostRuntime) -> Result<(), Fail> {
         (Answer::NotReceived(RecvRefusal::Busy), b"a 4 busy\ndone\n"),
     ];
     for (answer, text) in cases {
-        let printed = text_of(alloc, b"a", 4, answer)?;
-        assert_eq!(rt; printed.as_slice(), text);
+        assert!(rt; is_told(alloc, answer, text)?);
     }
     Ok(())
 }
 
-#[test]
-fn drops_are_told_behind_the_answer(rt: HostRuntime) -> Result<(), Fail> {
-    let alloc = rt.alloc();
-    let mut skips = Vec::new(alloc);
-    for (rule, pair) in [(Rule::BadEnv, 1), (Rule::Stray, 20), (Rule::Filtered, 3)] {
-        skips.push(Skip {
-            rule,
-            pair: PairId(pair),
-        })?;
-    }
+/// A message of each rule that was dropped, and its pair.
+const SKIPS: [Skip; 3] = [
+    Skip {
+        rule: Rule::BadEnv,
+        pair: PairId(1),
+    },
+    Skip {
+        rule: Rule::Stray,
+        pair: PairId(20),
+    },
+    Skip {
+        rule: Rule::Filtered,
+        pair: PairId(3),
+    },
+];
+
+/// What is told of a receive that gave nothing and dropped these.
+fn text_of_skips(alloc: Global, skips: &[Skip]) -> Result<Octets, Fail> {
+    let skips = Vec::from_slice(alloc, skips)?;
     let entry = Entry {
         line: 7,
         answer: Answer::NotReceived(RecvRefusal::Busy),
         skips: Seq::of_vec(skips),
     };
-    let printed = text_of_entry(alloc, b"a", entry)?;
+    text_of_entry(alloc, b"a", entry)
+}
+
+#[test]
+fn drops_are_told_behind_the_answer(rt: HostRuntime) -> Result<(), Fail> {
     let text: &[u8] = b"a 7 busy !badenv@p1 !stray@p20 !filtered@p3\ndone\n";
-    assert_eq!(rt; printed.as_slice(), text);
+    assert!(rt; text_of_skips(rt.alloc(), &SKIPS)?.as_slice() == text);
     Ok(())
 }
 
@@ -130,32 +152,36 @@ fn copies_are_told_by_their_pairs(rt: HostRuntime) -> Result<(), Fail> {
     Ok(())
 }
 
+/// The parts of a message, and what is told of it.
+const PARTS: [(&[&[u8]], &[u8]); 9] = [
+    (&[b"a"], b"w1 10 msg p2 a\ndone\n"),
+    (&[b"a", b"", b"~!"], b"w1 10 msg p2 a - ~!\ndone\n"),
+    (&[b"-"], b"w1 10 msg p2 0x2d\ndone\n"),
+    (&[b"--"], b"w1 10 msg p2 --\ndone\n"),
+    (&[b"0x61"], b"w1 10 msg p2 0x30783631\ndone\n"),
+    (&[b"0X61"], b"w1 10 msg p2 0X61\ndone\n"),
+    (&[b"a b"], b"w1 10 msg p2 0x612062\ndone\n"),
+    (&[b"\x7f"], b"w1 10 msg p2 0x7f\ndone\n"),
+    (&[b"\xff\xab\x0a"], b"w1 10 msg p2 0xffab0a\ndone\n"),
+];
+
+/// Whether a message of these parts is told so.
+fn message_is_told(alloc: Global, parts: &[&[u8]], text: &[u8]) -> Result<bool, Fail> {
+    let answer = Answer::Got(PairId(2), message(alloc, parts)?);
+    Ok(text_of(alloc, b"w1", 10, answer)?.as_slice() == text)
+}
+
 #[test]
 fn parts_are_themselves_or_hex(rt: HostRuntime) -> Result<(), Fail> {
-    let alloc = rt.alloc();
-    let cases: [(&[&[u8]], &[u8]); 9] = [
-        (&[b"a"], b"w1 10 msg p2 a\ndone\n"),
-        (&[b"a", b"", b"~!"], b"w1 10 msg p2 a - ~!\ndone\n"),
-        (&[b"-"], b"w1 10 msg p2 0x2d\ndone\n"),
-        (&[b"--"], b"w1 10 msg p2 --\ndone\n"),
-        (&[b"0x61"], b"w1 10 msg p2 0x30783631\ndone\n"),
-        (&[b"0X61"], b"w1 10 msg p2 0X61\ndone\n"),
-        (&[b"a b"], b"w1 10 msg p2 0x612062\ndone\n"),
-        (&[b"\x7f"], b"w1 10 msg p2 0x7f\ndone\n"),
-        (&[b"\xff\xab\x0a"], b"w1 10 msg p2 0xffab0a\ndone\n"),
-    ];
-    for (parts, text) in cases {
-        let answer = Answer::Got(PairId(2), message(alloc, parts)?);
-        let printed = text_of(alloc, b"w1", 10, answer)?;
-        assert_eq!(rt; printed.as_slice(), text);
+    for (parts, text) in &PARTS {
+        assert!(rt; message_is_told(rt.alloc(), parts, text)?);
     }
     Ok(())
 }
 
-#[test]
-fn rows_tell_why_messages_are_left(rt: HostRuntime) -> Result<(), Fail> {
-    let alloc = rt.alloc();
-    let mut row = PipeRow {
+/// The rows of a pair, with a number in each place and the greatest that is sent.
+const ROWS: [PipeRow; 2] = [
+    PipeRow {
         pipe: PipeId {
             pair: PairId(1),
             a: true,
@@ -167,36 +193,44 @@ fn rows_tell_why_messages_are_left(rt: HostRuntime) -> Result<(), Fail> {
         written: 0,
         lost: 0,
         rest: 0,
-    };
-    let mut pipes = Vec::new(alloc);
-    pipes.push(row)?;
-    row.pipe.a = false;
-    row.sent = 18446744073709551615;
-    row.written = 4;
-    row.lost = 5;
-    row.rest = 7;
-    pipes.push(row)?;
+    },
+    PipeRow {
+        pipe: PipeId {
+            pair: PairId(1),
+            a: false,
+        },
+        sent: 18446744073709551615,
+        given: 1,
+        heard: 2,
+        dropped: 3,
+        written: 4,
+        lost: 5,
+        rest: 7,
+    },
+];
+
+/// What is told of these rows without actors.
+fn text_of_rows(alloc: Global, rows: &[PipeRow], done: bool) -> Result<Octets, Fail> {
+    let pipes = Vec::from_slice(alloc, rows)?;
     let journal = Journal {
         actors: Seq::new(alloc),
         pipes: Seq::of_vec(pipes),
-        done: true,
+        done,
     };
-    let printed = print(alloc, &journal)?;
+    Ok(print(alloc, &journal)?)
+}
+
+#[test]
+fn rows_tell_why_messages_are_left(rt: HostRuntime) -> Result<(), Fail> {
     let text: &[u8] =
         b"pipe p1a sent 6 given 1 heard 2 dropped 3 written 0 lost 0 rest 0 -\npipe p1b sent 18446744073709551615 given 1 heard 2 dropped 3 written 4 lost 5 rest 7 closed\ndone\n";
-    assert_eq!(rt; printed.as_slice(), text);
+    assert!(rt; text_of_rows(rt.alloc(), &ROWS, true)?.as_slice() == text);
     Ok(())
 }
 
 #[test]
 fn an_unfinished_run_is_told(rt: HostRuntime) -> Result<(), Fail> {
-    let alloc = rt.alloc();
-    let journal = Journal {
-        actors: Seq::new(alloc),
-        pipes: Seq::new(alloc),
-        done: false,
-    };
-    let printed = print(alloc, &journal)?;
-    assert_eq!(rt; printed.as_slice(), b"unfinished\n".as_slice());
+    let text: &[u8] = b"unfinished\n";
+    assert!(rt; text_of_rows(rt.alloc(), &[], false)?.as_slice() == text);
     Ok(())
 }

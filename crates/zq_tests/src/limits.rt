@@ -216,7 +216,7 @@ fn ends_so(alloc: Global, script: Pieces, end: Pieces) -> Result<bool, Fail> {
 
 #[test]
 fn limits_are_met(rt: HostRuntime) -> Result<(), Fail> {
-    for (script, end) in LIMITS {
+    for (script, end) in &LIMITS {
         assert!(rt; ends_so(rt.alloc(), script, end)?);
     }
     Ok(())

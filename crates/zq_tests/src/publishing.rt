@@ -33,7 +33,7 @@ const PUBLISHING: [(&[u8], &[u8]); 5] = [
 
 #[test]
 fn copies_go_to_those_that_subscribed(rt: HostRuntime) -> Result<(), Fail> {
-    for (script, text) in PUBLISHING {
+    for (script, text) in &PUBLISHING {
         assert!(rt; answers(rt.alloc(), &["zbus", "run"], script, Status::Done, text)?);
     }
     Ok(())

@@ -58,7 +58,7 @@ const CASES: [(&[u8], &[u8]); 10] = [
 
 #[test]
 fn requests_and_replies_are_told(rt: HostRuntime) -> Result<(), Fail> {
-    for (script, text) in CASES {
+    for (script, text) in &CASES {
         assert!(rt; answers(rt.alloc(), &["zbus", "run"], script, Status::Done, text)?);
     }
     Ok(())

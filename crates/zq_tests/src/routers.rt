@@ -53,7 +53,7 @@ const ROUTERS: [(&[u8], &[u8]); 9] = [
 
 #[test]
 fn peers_are_named(rt: HostRuntime) -> Result<(), Fail> {
-    for (script, text) in ROUTERS {
+    for (script, text) in &ROUTERS {
         assert!(rt; answers(rt.alloc(), &["zbus", "run"], script, Status::Done, text)?);
     }
     Ok(())

@@ -211,17 +211,19 @@ fn a_longer_source_is_read_no_further(rt: HostRuntime) -> Result<(), Fail> {
     Ok(())
 }
 
+/// A line, how often it stands, and how a script of that is answered.
+const LONG: [(&[u8], usize, Status, &[u8]); 5] = [
+    (b"\n", 10_000, Status::Done, b"done\n"),
+    (b"\n", 10_001, Status::Script, b"script 0 TooLong\n"),
+    (b"#", 1_048_576, Status::Done, b"done\n"),
+    (b"#", 1_048_577, Status::Script, b"script 0 TooLong\n"),
+    (b"#", 1_058_577, Status::Script, b"script 0 TooLong\n"),
+];
+
 #[test]
 fn scripts_at_the_limits_are_read(rt: HostRuntime) -> Result<(), Fail> {
-    let cases: [(&[u8], usize, Status, &[u8]); 5] = [
-        (b"\n", 10_000, Status::Done, b"done\n"),
-        (b"\n", 10_001, Status::Script, b"script 0 TooLong\n"),
-        (b"#", 1_048_576, Status::Done, b"done\n"),
-        (b"#", 1_048_577, Status::Script, b"script 0 TooLong\n"),
-        (b"#", 1_058_577, Status::Script, b"script 0 TooLong\n"),
-    ];
-    for (line, count, status, text) in cases {
-        assert!(rt; repeated_answers(rt.alloc(), line, count, status, text)?);
+    for (line, count, status, text) in &LONG {
+        assert!(rt; repeated_answers(rt.alloc(), line, *count, *status, text)?);
     }
     Ok(())
 }
@@ -274,17 +276,19 @@ fn no_more_than_1023_sockets_live(rt: HostRuntime) -> Result<(), Fail> {
     Ok(())
 }
 
+/// Words that ask for nothing.
+const OTHER_WORDS: [&[&str]; 5] = [
+    &["zbus", "sing"],
+    &[],
+    &["zbus", "hear", "PULLS"],
+    &["zbus", "hear", "PULL", "--user", "u"],
+    &["zbus", "run", "--threads", "1"],
+];
+
 #[test]
 fn other_words_are_refused(rt: HostRuntime) -> Result<(), Fail> {
-    let words: [&[&str]; 5] = [
-        &["zbus", "sing"],
-        &[],
-        &["zbus", "hear", "PULLS"],
-        &["zbus", "hear", "PULL", "--user", "u"],
-        &["zbus", "run", "--threads", "1"],
-    ];
     let text: &[u8] = b"usage: zbus run|soak|hear|forward\n";
-    for words in words {
+    for words in &OTHER_WORDS {
         assert!(rt; answers(rt.alloc(), words, b"", Status::Usage, text)?);
     }
     Ok(())

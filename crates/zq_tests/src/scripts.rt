@@ -103,49 +103,75 @@ fn asks(line: &Line) -> bool {
     }
 }
 
+// The lines of the first actor, if there is one.
+fn first_lines(script: &Script) -> &[Line] {
+    match script.actors.as_slice().first() {
+        Some(actor) => actor.lines.as_slice(),
+        None => &[],
+    }
+}
+
+// Whether there are seven lines, and each asks what it should.
+fn ask_all(lines: &[Line]) -> bool {
+    for line in lines {
+        if !asks(line) {
+            return false;
+        }
+    }
+    lines.len() == 7
+}
+
 #[test]
 fn lines_ask_what_their_words_say(rt: HostRuntime) -> Result<(), Fail> {
     let text = b"actor a\nsocket r PULL rcvhwm=5 hwm=2 rcvhwm=10000\nsocket s PUSH\n\
         bind r inproc://q\nconnect s inproc://q\nsend s - 0x00fF 0xf x\n\
         recv r tries=100000\nrecv r";
-    let script = script(rt.alloc(), text)?;
-    let Some(actor) = script.actors.as_slice().first() else {
-        return Err("an actor")?;
-    };
-    for line in actor.lines.as_slice() {
-        assert!(rt; asks(line));
+    assert!(rt; ask_all(first_lines(&script(rt.alloc(), text)?)));
+    Ok(())
+}
+
+/// Scripts, and the line and the cause of their first fault.
+const FIRST_FAULTS: [(&str, u32, Cause); 13] = [
+    ("x", 1, Cause::BadWord),
+    ("bind s inproc://x", 1, Cause::BadWord),
+    ("\n#\n socket s PUSH", 3, Cause::BadWord),
+    ("actor", 1, Cause::BadWord),
+    ("actor a b", 1, Cause::BadWord),
+    ("actor a.", 1, Cause::BadWord),
+    ("actor\ta", 1, Cause::BadWord),
+    ("actor a\r\n", 1, Cause::BadWord),
+    ("actor abcdefghijklmnopqrstuvwxyz0123456", 1, Cause::BadWord),
+    ("actor a\n\nactor b\n#\nactor a", 5, Cause::DoubleName),
+    ("actor a\nactor a b", 2, Cause::DoubleName),
+    ("actor a\nterm", 2, Cause::BadWord),
+    ("actor a\nSOCKET s PUSH", 2, Cause::BadWord),
+];
+
+#[test]
+fn the_first_fault_is_told_with_its_line(rt: HostRuntime) -> Result<(), Fail> {
+    for (text, line, cause) in &FIRST_FAULTS {
+        let wanted = Some(ScriptFault {
+            line: *line,
+            cause: *cause,
+        });
+        assert!(rt; has_fault(rt.alloc(), text.as_bytes(), wanted)?);
     }
     Ok(())
 }
 
+/// Scripts without a fault.
+const FAULTLESS: [&str; 5] = [
+    "",
+    "\n",
+    "#",
+    "  \n # any \u{e9}\t\n",
+    "actor abcdefghijklmnopqrstuvwxyz012345",
+];
+
 #[test]
-fn the_first_fault_is_told_with_its_line(rt: HostRuntime) -> Result<(), Fail> {
-    for (text, line, cause) in [
-        ("x", 1, Cause::BadWord),
-        ("bind s inproc://x", 1, Cause::BadWord),
-        ("\n#\n socket s PUSH", 3, Cause::BadWord),
-        ("actor", 1, Cause::BadWord),
-        ("actor a b", 1, Cause::BadWord),
-        ("actor a.", 1, Cause::BadWord),
-        ("actor\ta", 1, Cause::BadWord),
-        ("actor a\r\n", 1, Cause::BadWord),
-        ("actor abcdefghijklmnopqrstuvwxyz0123456", 1, Cause::BadWord),
-        ("actor a\n\nactor b\n#\nactor a", 5, Cause::DoubleName),
-        ("actor a\nactor a b", 2, Cause::DoubleName),
-        ("actor a\nterm", 2, Cause::BadWord),
-        ("actor a\nSOCKET s PUSH", 2, Cause::BadWord),
-    ] {
-        let wanted = Some(ScriptFault { line, cause });
-        assert!(rt; has_fault(rt.alloc(), text.as_bytes(), wanted)?, "{text}");
-    }
-    for text in [
-        "",
-        "\n",
-        "#",
-        "  \n # any \u{e9}\t\n",
-        "actor abcdefghijklmnopqrstuvwxyz012345",
-    ] {
-        assert!(rt; has_fault(rt.alloc(), text.as_bytes(), None)?, "{text}");
+fn scripts_without_a_fault_are_read(rt: HostRuntime) -> Result<(), Fail> {
+    for text in &FAULTLESS {
+        assert!(rt; has_fault(rt.alloc(), text.as_bytes(), None)?);
     }
     Ok(())
 }
@@ -158,45 +184,48 @@ fn line_has(alloc: Global, line: &str, cause: Cause) -> Result<bool, Fail> {
     has_fault(alloc, text.as_slice(), Some(ScriptFault { line: 3, cause }))
 }
 
+/// Lines behind one that makes the socket `s`, and the cause of their leftmost fault.
+const LINE_FAULTS: [(&str, Cause); 34] = [
+    ("socket", Cause::BadWord),
+    ("socket t", Cause::BadWord),
+    ("socket t- PUSH", Cause::BadWord),
+    ("socket s", Cause::DoubleName),
+    ("socket s PUSSH", Cause::DoubleName),
+    ("socket t ROUTERS", Cause::BadWord),
+    ("socket t push", Cause::BadWord),
+    ("socket t PUSH hwm=0", Cause::BadWord),
+    ("socket t PUSH hwm=10001", Cause::BadWord),
+    ("socket t PUSH rcvhwm=007", Cause::BadWord),
+    ("socket t PUSH hwm=+5", Cause::BadWord),
+    ("socket t PUSH hwm=", Cause::BadWord),
+    ("socket t PUSH hwm=1 linger=0", Cause::BadWord),
+    ("bind", Cause::BadWord),
+    ("bind t", Cause::UnknownSocket),
+    ("bind t? inproc://q", Cause::BadWord),
+    ("bind s", Cause::BadWord),
+    ("bind s inproc:q", Cause::BadEndpoint),
+    ("bind s inproc:// q", Cause::BadEndpoint),
+    ("bind s inproc://q q", Cause::BadWord),
+    ("connect s tcp://1.2.3.4:5", Cause::BadEndpoint),
+    ("connect t tcp:", Cause::UnknownSocket),
+    ("send s", Cause::BadWord),
+    ("send t", Cause::UnknownSocket),
+    ("send t \u{1}", Cause::UnknownSocket),
+    ("send s a b\tc", Cause::BadPart),
+    ("send s \u{7f}", Cause::BadPart),
+    ("recv", Cause::BadWord),
+    ("recv s tries=0", Cause::BadWord),
+    ("recv s tries=100001", Cause::BadWord),
+    ("recv s 1", Cause::BadWord),
+    ("recv s tries=1 tries=1", Cause::BadWord),
+    ("unbind s inproc://q", Cause::BadWord),
+    ("close s", Cause::BadWord),
+];
+
 #[test]
 fn the_leftmost_fault_of_a_line_is_told(rt: HostRuntime) -> Result<(), Fail> {
-    for (line, cause) in [
-        ("socket", Cause::BadWord),
-        ("socket t", Cause::BadWord),
-        ("socket t- PUSH", Cause::BadWord),
-        ("socket s", Cause::DoubleName),
-        ("socket s PUSSH", Cause::DoubleName),
-        ("socket t ROUTERS", Cause::BadWord),
-        ("socket t push", Cause::BadWord),
-        ("socket t PUSH hwm=0", Cause::BadWord),
-        ("socket t PUSH hwm=10001", Cause::BadWord),
-        ("socket t PUSH rcvhwm=007", Cause::BadWord),
-        ("socket t PUSH hwm=+5", Cause::BadWord),
-        ("socket t PUSH hwm=", Cause::BadWord),
-        ("socket t PUSH hwm=1 linger=0", Cause::BadWord),
-        ("bind", Cause::BadWord),
-        ("bind t", Cause::UnknownSocket),
-        ("bind t? inproc://q", Cause::BadWord),
-        ("bind s", Cause::BadWord),
-        ("bind s inproc:q", Cause::BadEndpoint),
-        ("bind s inproc:// q", Cause::BadEndpoint),
-        ("bind s inproc://q q", Cause::BadWord),
-        ("connect s tcp://1.2.3.4:5", Cause::BadEndpoint),
-        ("connect t tcp:", Cause::UnknownSocket),
-        ("send s", Cause::BadWord),
-        ("send t", Cause::UnknownSocket),
-        ("send t \u{1}", Cause::UnknownSocket),
-        ("send s a b\tc", Cause::BadPart),
-        ("send s \u{7f}", Cause::BadPart),
-        ("recv", Cause::BadWord),
-        ("recv s tries=0", Cause::BadWord),
-        ("recv s tries=100001", Cause::BadWord),
-        ("recv s 1", Cause::BadWord),
-        ("recv s tries=1 tries=1", Cause::BadWord),
-        ("unbind s inproc://q", Cause::BadWord),
-        ("close s", Cause::BadWord),
-    ] {
-        assert!(rt; line_has(rt.alloc(), line, cause)?, "{line}");
+    for (line, cause) in &LINE_FAULTS {
+        assert!(rt; line_has(rt.alloc(), line, *cause)?);
     }
     Ok(())
 }
@@ -216,37 +245,44 @@ fn asks_topics(line: &Line) -> bool {
     }
 }
 
-#[test]
-fn topics_and_options_are_read(rt: HostRuntime) -> Result<(), Fail> {
-    let text = b"actor a\nsocket t XPUB id=0x0100 verbose mandatory\nsub t ab\nunsub t -";
-    let script = script(rt.alloc(), text)?;
-    let Some(actor) = script.actors.as_slice().first() else {
-        return Err("an actor")?;
-    };
-    for line in actor.lines.as_slice() {
-        assert!(rt; asks_topics(line));
+// Whether there are three such lines.
+fn ask_topics(lines: &[Line]) -> bool {
+    for line in lines {
+        if !asks_topics(line) {
+            return false;
+        }
     }
-    Ok(())
+    lines.len() == 3
 }
 
 #[test]
+fn topics_and_options_are_read(rt: HostRuntime) -> Result<(), Fail> {
+    let text = b"actor a\nsocket t XPUB id=0x0100 verbose mandatory\nsub t ab\nunsub t -";
+    assert!(rt; ask_topics(first_lines(&script(rt.alloc(), text)?)));
+    Ok(())
+}
+
+/// The same of topics and of further options.
+const OPTION_FAULTS: [(&str, Cause); 13] = [
+    ("socket t PUB id=", Cause::BadPart),
+    ("socket t PUB id=-", Cause::BadPart),
+    ("socket t PUB id=0x00ff", Cause::BadPart),
+    ("socket t PUB id=\u{7f}", Cause::BadPart),
+    ("socket t PUB id", Cause::BadWord),
+    ("socket t ROUTER mandatory=1", Cause::BadWord),
+    ("socket t XPUB verbose verbos", Cause::BadWord),
+    ("sub", Cause::BadWord),
+    ("sub s", Cause::BadWord),
+    ("sub t a", Cause::UnknownSocket),
+    ("sub s a b", Cause::BadWord),
+    ("unsub s \u{1}", Cause::BadPart),
+    ("unsub s - -", Cause::BadWord),
+];
+
+#[test]
 fn topics_and_options_have_their_faults(rt: HostRuntime) -> Result<(), Fail> {
-    for (line, cause) in [
-        ("socket t PUB id=", Cause::BadPart),
-        ("socket t PUB id=-", Cause::BadPart),
-        ("socket t PUB id=0x00ff", Cause::BadPart),
-        ("socket t PUB id=\u{7f}", Cause::BadPart),
-        ("socket t PUB id", Cause::BadWord),
-        ("socket t ROUTER mandatory=1", Cause::BadWord),
-        ("socket t XPUB verbose verbos", Cause::BadWord),
-        ("sub", Cause::BadWord),
-        ("sub s", Cause::BadWord),
-        ("sub t a", Cause::UnknownSocket),
-        ("sub s a b", Cause::BadWord),
-        ("unsub s \u{1}", Cause::BadPart),
-        ("unsub s - -", Cause::BadWord),
-    ] {
-        assert!(rt; line_has(rt.alloc(), line, cause)?, "{line}");
+    for (line, cause) in &OPTION_FAULTS {
+        assert!(rt; line_has(rt.alloc(), line, *cause)?);
     }
     Ok(())
 }
@@ -355,13 +391,14 @@ fn are_all(lines: &[Line]) -> bool {
     }
 }
 
+// Whether an actor with so many sockets is read.
+fn reads_many_sockets(alloc: Global) -> Result<bool, Fail> {
+    let text = many_sockets(alloc)?;
+    Ok(are_all(first_lines(&script(alloc, text.as_slice())?)))
+}
+
 #[test]
 fn many_sockets_are_read(rt: HostRuntime) -> Result<(), Fail> {
-    let text = many_sockets(rt.alloc())?;
-    let script = script(rt.alloc(), text.as_slice())?;
-    let Some(actor) = script.actors.as_slice().first() else {
-        return Err("an actor")?;
-    };
-    assert!(rt; are_all(actor.lines.as_slice()));
+    assert!(rt; reads_many_sockets(rt.alloc())?);
     Ok(())
 }

@@ -48,7 +48,7 @@ const SUBSCRIPTIONS: [(&[u8], &[u8]); 8] = [
 
 #[test]
 fn subscriptions_are_told_and_heard(rt: HostRuntime) -> Result<(), Fail> {
-    for (script, text) in SUBSCRIPTIONS {
+    for (script, text) in &SUBSCRIPTIONS {
         assert!(rt; answers(rt.alloc(), &["zbus", "run"], script, Status::Done, text)?);
     }
     Ok(())

@@ -49,6 +49,19 @@ fn frames_hold_their_octets(rt: HostRuntime) -> Result<(), Fail> {
     Ok(())
 }
 
+// Whether so many octets are a frame.
+fn is_a_frame(alloc: Global, octets: usize) -> Result<bool, AllocError> {
+    let body = Vec::from_elem(alloc, b'a', octets)?;
+    Ok(Frame::of_slice(alloc, &body).is_ok())
+}
+
+#[test]
+fn a_frame_has_16_mebibytes_at_the_most(rt: HostRuntime) -> Result<(), Fail> {
+    assert!(rt; is_a_frame(rt.alloc(), 16_777_216)?);
+    assert!(rt; !is_a_frame(rt.alloc(), 16_777_217)?);
+    Ok(())
+}
+
 // A message of the frames b and c, and a in front of them.
 fn with_front(alloc: Global) -> Result<Message, Fail> {
     let mut message = message(alloc, &[b"b", b"c"])?;
@@ -84,6 +97,24 @@ fn messages_keep_their_frames_in_order(rt: HostRuntime) -> Result<(), Fail> {
     let message = with_front(rt.alloc())?;
     assert!(rt; has(&message.copy(rt.alloc())?, &[b"a", b"b", b"c"]));
     assert!(rt; leaves_two(message));
+    Ok(())
+}
+
+// Whether so many frames are a message.
+fn is_a_message(alloc: Global, count: usize) -> Result<bool, Fail> {
+    let mut frames = Vec::new(alloc);
+    for _ in 0..count {
+        frames
+            .push(Frame::of_slice(alloc, b"")?)
+            .map_err(|_| "room")?;
+    }
+    Ok(Message::of_parts(frames).is_ok())
+}
+
+#[test]
+fn a_message_has_1024_frames_at_the_most(rt: HostRuntime) -> Result<(), Fail> {
+    assert!(rt; is_a_message(rt.alloc(), 1_024)?);
+    assert!(rt; !is_a_message(rt.alloc(), 1_025)?);
     Ok(())
 }
 

@@ -34,7 +34,7 @@ fn heads_are_written_short_up_to_255_octets(rt: HostRuntime) -> Result<(), Fail>
 }
 
 /// Octets that begin a frame, and the step that they end in.
-const READ: [(&[u8], Step); 7] = [
+const READ: [(&[u8], Step); 8] = [
     (b"\x00\x05", Step::Head(FrameKind::Last, 5)),
     (
         b"\x02\x00\x00\x00\x00\x00\x00\x00\x03",
@@ -50,46 +50,82 @@ const READ: [(&[u8], Step); 7] = [
         b"\x02\x00\x00\x00\x00\x01\x00\x00\x01",
         Step::TooLong(16_777_217),
     ),
+    (
+        b"\x06\x00\x00\x00\x00\x00\x01\x00\x01",
+        Step::TooLong(65_537),
+    ),
     (b"\x02\x00\x00", Step::NeedMore),
 ];
+
+// Whether the reader takes so many octets of the piece, and tells this.
+fn tells(reader: &mut FrameReader, piece: &[u8], count: usize, told: Step) -> bool {
+    let (taken, step) = reader.feed(piece);
+    taken == count && step == told
+}
+
+// Whether two pieces are taken whole, and this is told with the last octet.
+fn ends_so(front: &[u8], back: &[u8], end: Step) -> bool {
+    let mut reader = FrameReader::new();
+    let begun = tells(&mut reader, front, front.len(), Step::NeedMore);
+    begun && tells(&mut reader, back, back.len(), end)
+}
 
 #[test]
 fn heads_are_read_in_any_two_pieces(rt: HostRuntime) -> Result<(), Fail> {
     for (octets, end) in &READ {
         for cut in 0..octets.len() {
             let (front, back) = octets.split_at(cut);
-            let mut reader = FrameReader::new();
-            let (taken, step) = reader.feed(front);
-            assert!(rt; taken == cut);
-            assert!(rt; step == Step::NeedMore);
-            let (taken, step) = reader.feed(back);
-            assert!(rt; taken == back.len());
-            assert!(rt; step == *end);
+            assert!(rt; ends_so(front, back, *end));
         }
     }
     Ok(())
 }
 
+// Whether behind these octets no further one is taken, and the refusal is told again.
+fn is_told_again(octets: &[u8], refusal: Step) -> bool {
+    let mut reader = FrameReader::new();
+    let refused = tells(&mut reader, octets, octets.len(), refusal);
+    refused && tells(&mut reader, b"\x00\x00", 0, refusal)
+}
+
+#[test]
+fn a_refusal_is_told_again(rt: HostRuntime) {
+    assert!(rt; is_told_again(b"\x08", Step::BadFlags(8)));
+    let long: &[u8] = b"\x02\x00\x00\x00\x00\x01\x00\x00\x01";
+    assert!(rt; is_told_again(long, Step::TooLong(16_777_217)));
+}
+
+/// Pieces of two frames, how many octets of each are taken, and what is told.
+const PIECES: [(&[u8], usize, Step); 5] = [
+    (b"\x01\x03ab", 2, Step::Head(FrameKind::More, 3)),
+    (b"ab", 2, Step::Piece(0, 2)),
+    (b"", 0, Step::NeedMore),
+    (b"c\x00", 1, Step::Piece(0, 1)),
+    (b"\x00", 0, Step::FrameEnd),
+];
+
 #[test]
 fn a_body_is_told_by_its_parts_and_its_end(rt: HostRuntime) -> Result<(), Fail> {
     let mut reader = FrameReader::new();
-    let (taken, step) = reader.feed(b"\x01\x03ab");
-    assert!(rt; taken == 2 && step == Step::Head(FrameKind::More, 3));
-    assert!(rt; reader.left() == Some(3));
-    let (taken, step) = reader.feed(b"ab");
-    assert!(rt; taken == 2 && step == Step::Piece(0, 2));
-    let (taken, step) = reader.feed(b"");
-    assert!(rt; taken == 0 && step == Step::NeedMore);
-    let (taken, step) = reader.feed(b"c\x00");
-    assert!(rt; taken == 1 && step == Step::Piece(0, 1));
-    let (taken, step) = reader.feed(b"\x00");
-    assert!(rt; taken == 0 && step == Step::FrameEnd);
-    assert!(rt;
-        read_flags(1)
-            == Some(Flags {
-                kind: FrameKind::More,
-                long: false
-            })
-    );
+    for (piece, count, told) in &PIECES {
+        assert!(rt; tells(&mut reader, piece, *count, *told));
+    }
     Ok(())
+}
+
+// What is left of a body of three octets, of which none came.
+fn left_of_three() -> Option<u64> {
+    let mut reader = FrameReader::new();
+    reader.feed(b"\x01\x03");
+    reader.left()
+}
+
+#[test]
+fn what_is_left_is_told(rt: HostRuntime) {
+    let more = Flags {
+        kind: FrameKind::More,
+        long: false,
+    };
+    assert!(rt; left_of_three() == Some(3));
+    assert!(rt; read_flags(1) == Some(more));
 }

@@ -1,7 +1,7 @@
 ghost use Rattle.std.specs.Prelude.{◌≡◌, IfOk};
 ghost use Rattle.spec_zmtp.specs.OwnCommands.{IsEngineOpts};
 
-use spec_zmtp::{Awaited, Command, Stage};
+use spec_zmtp::{Awaited, Cause, Command, Stage};
 use std::alloc::Global;
 use std::test::Fail;
 use zmtp_mech::{Answer, Mech};
@@ -39,6 +39,30 @@ fn a_null_side_says_ready_and_hears_it(rt: HostRuntime) -> Result<(), Fail> {
     let mut mech = null(rt.alloc(), Kind::Dealer)?;
     assert!(rt; first(rt.alloc(), &mut mech)?.is_some());
     assert!(rt; hears_ready(rt.alloc(), &mut mech)?);
+    Ok(())
+}
+
+// Whether a frame of a message that comes before the READY is refused for good.
+fn refuses_a_message(mech: &mut Mech) -> bool {
+    let refused = matches!(
+        mech.hear_message_frame(),
+        Answer::Refused(Cause::OutOfOrder, None)
+    );
+    refused && mech.stage() == Stage::Refused(Cause::OutOfOrder)
+}
+
+// Whether a READY without a Socket-Type is refused.
+fn refuses_nobody(alloc: Global, mech: &mut Mech) -> Result<bool, Fail> {
+    hear(alloc, mech, b"READY", b"\x08Identity\0\0\0\x01q")?;
+    Ok(mech.stage() == Stage::Refused(Cause::NoKind))
+}
+
+#[test]
+fn a_handshake_has_its_order_and_its_kind(rt: HostRuntime) -> Result<(), Fail> {
+    let mut mech = null(rt.alloc(), Kind::Dealer)?;
+    assert!(rt; refuses_a_message(&mut mech));
+    let mut mech = null(rt.alloc(), Kind::Rep)?;
+    assert!(rt; refuses_nobody(rt.alloc(), &mut mech)?);
     Ok(())
 }
 

@@ -4,5 +4,4 @@ pub use Rattle.spec_journal.specs.Text
 pub use Rattle.spec_zmtp.specs.DecodedStream
 pub use Rattle.zq_hear.specs.HearText
 pub mod ExitCode
-pub mod Playing
 pub mod Headline

@@ -1,10 +1,8 @@
 //! The top call: from the words of the command line and a script to the text that is written.
 #![tactic(auto)]
 
-mod actor;
 mod fault;
 mod laws;
-mod play;
 mod status;
 mod streams;
 mod top;

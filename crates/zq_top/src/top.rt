@@ -1,20 +1,39 @@
-ghost use Rattle.std.specs.Prelude.{◌≡◌, ◌≤◌, ℕ, Bool, List, map, string_bytes, codes, IfOk, IfSome};
+ghost use Rattle.std.specs.Prelude.{◌≡◌, ◌≤◌, ℕ, Bool, List, map, string_bytes, codes, Ok, IfOk, IfSome};
 ghost use Rattle.spec_journal.specs.Run.{Schedule};
 ghost use Rattle.spec_zmtp.specs.Metadata.{IsLogin};
 ghost use Rattle.zq_hear.specs.HearText.{IsHeard, hear_opts};
+ghost use Rattle.zq_script.specs.Script.{script_of};
 ghost use Rattle.zq_top.specs.Headline.{AsksRun, AsksHear, SaysText, SaysOf, AnswersCall, IsSound, IsDue, outside, source_at, heard_status};
 
 use crate::fault::fault_text;
-use crate::play::play;
 use crate::status::Status;
 use crate::streams::{ReadError, read_all, read_script_text, write_all};
+use flat_play::play_script;
 use std::alloc::{AllocError, Global};
 use zq_base::{Kind, Login};
 use zq_hear::hear;
 use zq_journal::print;
 use zq_outer::{Clock, Gate, Host, Sink, Source};
-use zq_script::{ReadScript, read_script};
+use zq_script::{ReadScript, Script, read_script};
 use zq_words::{Request, WordsError, read_words};
+
+/// The text of a run of the script, and its status.
+fn text_of_run(
+    alloc: Global,
+    script: &Script,
+    seed: u64,
+    turns: u32,
+) -> Result<(Status, Vec<u8>), AllocError>
+    ensures { IfOk result (λ said. (octets : List ℕ) → script_of octets ≡ Ok script.now
+        → SaysOf (record { seed = seed; turns = turns }) said.0 octets said.1.items) }
+{
+    let journal = play_script(alloc, script, seed, turns)?;
+    let text = print(alloc, &journal)?;
+    if journal.done {
+        return Ok((Status::Done, text.into_vec()));
+    }
+    Ok((Status::Unfinished, text.into_vec()))
+}
 
 /// The text of a run of the script that the octets are, or of the script's fault, and the status.
 fn text_of(
@@ -27,12 +46,8 @@ fn text_of(
 {
     match read_script(alloc, octets) {
         Ok(script) => {
-            let journal = play(alloc, &script, seed, turns)?;
-            let text = print(alloc, &journal)?;
-            if journal.done {
-                return Ok((Status::Done, text.into_vec()));
-            }
-            return Ok((Status::Unfinished, text.into_vec()));
+            let said = text_of_run(alloc, &script, seed, turns)?;
+            return Ok(said);
         }
         Err(ReadScript::Fault(fault)) => return Ok((Status::Script, fault_text(alloc, fault)?)),
         Err(ReadScript::OutOfMemory) => return Err(AllocError),

@@ -1,7 +1,6 @@
 use Rattle.std.proofs.Common.{◌++◌, ◌∷◌, [], List, ℕ, sym, ap, ◌∙◌, append-nil}
 use Rattle.std.specs.Prelude.{flat_map}
 use Rattle.zq_hear.specs.HearText.{message_text}
-use Rattle.zq_hear.specs.Told.{Told, Tells, with_given}
 use Rattle.zq_hear.proofs.TellsLemmas.{message_given, fewer_left, all_given, none_given, all_told, one_more_text}
 use Rattle.zq_hear.proofs.speech.push_messages.Goals as goal
 

@@ -1,8 +1,8 @@
-use Rattle.std.proofs.Common.{◌≡◌, ◌++◌, sym, ap, subst, ◌∙◌}
+use Rattle.std.proofs.Common.{◌++◌, sym, ap, subst, ◌∙◌}
 use Rattle.spec_zmtp.specs.DecodedStream.{Outcome}
 use Rattle.zmtp_engine.specs.Answers.{Standing, standing_of}
 use Rattle.zq_hear.specs.HearText.{outcome_text, is_refused}
-use Rattle.zq_hear.specs.Told.{Told, Tells, IsOpen}
+use Rattle.zq_hear.specs.Told.{IsOpen}
 use Rattle.zq_hear.proofs.TellsLemmas.{refused_is}
 use Rattle.zq_hear.proofs.speech.push_outcome.Goals as goal
 

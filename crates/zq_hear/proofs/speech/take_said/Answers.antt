@@ -1,4 +1,4 @@
-use Rattle.std.proofs.Common.{◌++◌, ◌≤◌, [], List, ℕ, length, eqb-true, sym, ap, subst, ◌∙◌, append-nil, arith}
+use Rattle.std.proofs.Common.{◌++◌, ◌≤◌, List, ℕ, length, eqb-true, sym, ap, subst, ◌∙◌, append-nil, arith}
 use Rattle.std.proofs.lemmas.List.{nil_from_length}
 use Rattle.spec_zmtp.proofs.MetadataLemmas.{not_zero}
 use Rattle.spec_zmtp.specs.Put.{says}

@@ -1,0 +1,4 @@
+pub mod PlayLemmas
+mod Receives
+pub mod Given
+pub mod JournalLemmas

@@ -1,0 +1,2 @@
+pub use Rattle.spec_journal.specs.Printed
+pub mod Playing
