@@ -38,7 +38,13 @@ pub record IsCutAtWork (b : Basis) (s : Standing) (gives output over works : Lis
   pub works_as : ((after_all b s (gives ++ (output ++ over))).gave_up ≡ false)
       × IsCutAt b (after_all b s (gives ++ (output ++ over))) (after_all b s (gives ++ (output ++ over))).link works
 
--- A turn that memory cut short: it gave up where its linger is over, and then did nothing, since what it read before can't be heard, or a part of its work.
+-- A turn that memory cut short: it gave up where its linger is over, which wants no memory, and then did what stands before the place where memory wanted. There are five such places, and each leaves a case of its own:
+-- what memory left undone before is to be heard or offered, or the messages that say topics are to be made: nothing more (the first case of `rest`; the others are `IsCutAtWork`);
+-- the side of the link that it would dial: the look at the front of its pipe alone (`IsCutAt` without a link);
+-- the topic of a message that it took: the writing part alone (the last case of `IsCutAtLink`);
+-- the octets that it read: the writing part and the read, without a put, since a message that isn't heard can't be put (`AreCut`);
+-- the peer whose handshake it would tell: both parts, with the delimiter where the take met it (`AreParts`).
+-- What is due first, a take, a write, a put and the end of a link want none. So the events are those of a turn, up to that place, and the next turn is one like any other.
 pub record IsCutTurn (b : Basis) (s : Standing) (now : ℕ) (more : List SessionEvent) : Type 0 where
   pub gives : List SessionEvent
   pub output : List SessionEvent

@@ -1,4 +1,4 @@
-ghost use Rattle.std.specs.Prelude.{◌≡◌, None, IfOk, OnErr};
+ghost use Rattle.std.specs.Prelude.{◌≡◌, ◌≤◌, None, IfOk, OnErr};
 ghost use Rattle.spec_zmtp.specs.OwnCommands.{IsEngineOpts};
 ghost use Rattle.spec_link.specs.History.{later, dial_at_after};
 ghost use Rattle.zq_session.specs.Dials.{IsDial, IfDialled, HostCounts, IsFresh};
@@ -107,16 +107,40 @@ impl Dialler {
             return Ok(Dial::Early);
         }
         let side = self.next_side(alloc)?;
+        Ok(self.ask(host, side, now))
+    }
+
+    // Keeps a side for the next link.
+    fn keep(&mut self, side: LinkSide)
+        requires fresh { IsFresh self.old.opts side }
+        ensures keeps { self.new ≡ self.old }
+    {
+        self.spare = Some(side);
+    }
+
+    // Asks the host for a link, and keeps its side where there is none.
+    fn ask<H: Host>(&mut self, host: &mut H, side: LinkSide, now: u64) -> Dial<H::L>
+        requires fresh { IsFresh self.old.opts side }
+        requires moment { self.old.dial_at ≤ now }
+        ensures due { IsDial self.old.dial_at now (answer_of result) }
+        ensures next { self.new ≡ record self.old {
+          dial_at = moment_after self.old.interval now (answer_of result) self.old.dial_at;
+        } }
+        ensures linked { IfDialled result (IsFresh self.old.opts) H.L.heard H.L.said }
+        ensures counts { HostCounts (answer_of result)
+            (H.faults host.old) (H.faults host.new) (H.stalls host.old) (H.stalls host.new) }
+        ensures asked { answer_of result ≡ None → ⊥ }
+    {
         match host.connect(self.object.0, &self.to) {
-            Dialled::Linked(link) => return Ok(Dial::Linked(link, side)),
+            Dialled::Linked(link) => return Dial::Linked(link, side),
             Dialled::NotReady => {
-                self.spare = Some(side);
-                return Ok(Dial::NotReady);
+                self.keep(side);
+                return Dial::NotReady;
             }
             Dialled::Failed => {
-                self.spare = Some(side);
+                self.keep(side);
                 self.link_over(now);
-                return Ok(Dial::Failed);
+                return Dial::Failed;
             }
         }
     }
