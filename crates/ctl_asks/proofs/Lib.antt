@@ -1,0 +1,4 @@
+pub mod CapacityLemmas
+pub mod BareLemmas
+pub mod AskLemmas
+pub mod NotedLemmas

@@ -1,0 +1,4 @@
+pub mod Bare
+pub mod Refusals
+pub mod Making
+pub mod Noting

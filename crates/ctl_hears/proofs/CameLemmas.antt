@@ -1,0 +1,83 @@
+-- Which ends each command makes join, and which objects its holder has then.
+use Rattle.std.specs.Prelude.{◌≡◌, ◌++◌, [], ℕ, Bool, true, false, List, Option, Some, refl}
+use Rattle.std.proofs.Common.{sym, ap, ◌∙◌, subst}
+use Rattle.std.proofs.lemmas.List.{append-nil}
+use Rattle.zq_base.specs.declared.ids.EndId.{EndId}
+use Rattle.zq_base.specs.declared.ids.ObjId.{ObjId}
+use Rattle.zq_base.specs.declared.ids.Settled.{Settled}
+use Rattle.spec_control.specs.declared.end.EndEvent.TheVariants.{AckCame}
+use Rattle.spec_control.specs.declared.letter.Word.{Word}
+use Rattle.spec_control.specs.declared.letter.Word.TheVariants.{Own, Plug, TermReq, Term, TermAck, PipeBind, PipeTerm, PipeTermAck, Stop, Reap}
+use Rattle.spec_control.specs.declared.entry.Answered.{Answered}
+use Rattle.spec_control.specs.declared.entry.Joining.{Joining}
+use Rattle.spec_control.specs.Row.{AckComes, ReapComes}
+use Rattle.spec_control.specs.Rows.{obj, may_end}
+use Rattle.spec_control.specs.Stage.{has_ended}
+use Rattle.spec_control.specs.Control.{Control, happens, link, put, try_end}
+use Rattle.spec_control.specs.After.{answers_in, processed, settle}
+use Rattle.ctl_holder.specs.Holding.{Holding, IsTold, JoinsBy}
+use Rattle.ctl_holder.specs.Joins.{KeepsObjects, come_by}
+use Rattle.ctl_terms.specs.Terming.{children_told}
+use Rattle.ctl_terms.proofs.KeepLemmas.{all_kept, ended_now, told_kept}
+use Rattle.ctl_hears.specs.Processing.{HasCounts, HasJoined, IsSilent, JoinsFor}
+
+-- none come by a command that tells none
+come_none : {N : Type 0} (word : Word) → come_by {N = N} word [] ≡ []
+come_none (Own child) = refl
+come_none (Plug end) = refl
+come_none (TermReq child) = refl
+come_none Term = refl
+come_none (TermAck child) = refl
+come_none (PipeBind e peer) = refl
+come_none (PipeTerm e) = refl
+come_none (PipeTermAck e) = refl
+come_none Stop = refl
+come_none (Reap socket) = refl
+
+module _ {N S : Type 0} (to : ObjId) (a : Answered N S) (c : Control) (h k : Holding N) where
+  abbrev Came : Word → Type 0
+  Came word = JoinsFor c (record { to = to; word = word }) a h k
+
+  none_by : (word : Word) → a.joined ≡ [] → k.joined ≡ h.joined → JoinsBy (come_by word a.joined) h k
+  none_by word none same = same ∙ sym (ap (λ (js : List (Joining N)). h.joined ++ come_by word js) none ∙ ap (λ (js : List (Joining N)). h.joined ++ js) (come_none word) ∙ append-nil h.joined)
+
+  -- nothing joined, and all objects are as before
+  pub none_came : (word : Word) → a.joined ≡ [] → k.joined ≡ h.joined → ((i : ℕ) → k.holds i ≡ h.holds i) → ((i : ℕ) → k.kind i ≡ h.kind i) → Came word
+  none_came word none same holds kinds = record { came = none_by word none same; objects = all_kept c (processed to.0 word (answers_in a) c) h k holds kinds }
+
+  -- these ends joined
+  pub bind_came : (word : Word) (e : EndId) (peer : List ℕ) (joined : List (Joining N)) → word ≡ PipeBind e peer → HasJoined joined a → JoinsBy joined h k → ((i : ℕ) → k.holds i ≡ h.holds i) → ((i : ℕ) → k.kind i ≡ h.kind i) → Came word
+  bind_came word e peer joined is has came holds kinds = record {
+    came = came ∙ ap (λ (js : List (Joining N)). h.joined ++ js) (sym (ap (λ (w : Word). come_by w a.joined) is ∙ has.are));
+    objects = all_kept c (processed to.0 word (answers_in a) c) h k holds kinds;
+  }
+
+  -- the object may have ended
+  pub ack_came : (word : Word) (child : ObjId) → word ≡ TermAck child → IsSilent a → (ended : Bool) → IsTold to.0 h k → (ended ≡ false → k.holds to.0 ≡ h.holds to.0) → has_ended (obj c.rows to.0).stage ≡ false → (ended ≡ true → may_end (link AckComes child.0 c).rows to.0 ≡ true) → Came word
+  ack_came word child is silent ended told kept lives gone = record {
+    came = none_by word silent.joined told.turns.joined;
+    objects = told_kept c (processed to.0 word (answers_in a) c) to.0 ended h h k (λ i. refl) (λ i. refl) told kept lives
+        (λ yes. subst (λ (w : Word). has_ended (obj (processed to.0 w (answers_in a) c).rows to.0).stage ≡ true) (sym is)
+        (subst (λ (b : Bool). has_ended (obj (try_end to.0 b (link AckComes child.0 c)).rows to.0).stage ≡ true) (sym silent.output) (ended_now to.0 (link AckComes child.0 c) (gone yes))));
+  }
+
+  pub term_came : (word : Word) → word ≡ Term → IsSilent a → k.joined ≡ h.joined → KeepsObjects c (try_end to.0 false (children_told to.0 c)) h k → Came word
+  term_came word is silent same objects = record {
+    came = none_by word silent.joined same;
+    objects = subst (λ (w : Word). KeepsObjects c (processed to.0 w (answers_in a) c) h k) (sym is) (subst (λ (b : Bool). KeepsObjects c (try_end to.0 b (children_told to.0 c)) h k) (sym silent.output) objects);
+  }
+
+  pub acked_came : (word : Word) (e : EndId) (counts : Settled) → word ≡ PipeTermAck e → HasCounts counts a → k.joined ≡ h.joined → KeepsObjects c (try_end to.0 false (settle e (Some counts) (happens AckCame e c))) h k → Came word
+  acked_came word e counts is has same objects = record {
+    came = none_by word has.joined same;
+    objects = subst (λ (w : Word). KeepsObjects c (processed to.0 w (answers_in a) c) h k) (sym is)
+        (subst (λ (x : Option Settled). KeepsObjects c (try_end to.0 a.output_left (settle e x (happens AckCame e c))) h k) (sym has.settled)
+        (subst (λ (b : Bool). KeepsObjects c (try_end to.0 b (settle e (Some counts) (happens AckCame e c))) h k) (sym has.output) objects));
+  }
+
+  -- what a Reap brings had joined before
+  pub reap_came : (word : Word) (socket : ObjId) → word ≡ Reap socket → k.joined ≡ h.joined → KeepsObjects c (put socket.0 Term (link ReapComes socket.0 c)) h k → Came word
+  reap_came word socket is same objects = record {
+    came = same ∙ sym (ap (λ (w : Word). h.joined ++ come_by w a.joined) is ∙ append-nil h.joined);
+    objects = subst (λ (w : Word). KeepsObjects c (processed to.0 w (answers_in a) c) h k) (sym is) objects;
+  }

@@ -1,0 +1,212 @@
+ghost use Rattle.zq_base.specs.declared.ids.EndId.{EndId};
+ghost use Rattle.spec_control.specs.declared.letter.Word.TheVariants.{PipeTermAck};
+ghost use Rattle.spec_control.specs.After.{answers_in, processed};
+ghost use Rattle.ctl_ends.specs.Turning.{TurnsOnce};
+ghost use Rattle.std.specs.Prelude.{◌≡◌, ◌≢◌, [], true, false, Some, IfOk, IfErr, map};
+ghost use Rattle.ctl_holder.specs.Holding.{AreMet, IsTold, KeepsTurns, NoneWrites, given_as};
+ghost use Rattle.ctl_holder.specs.Load.{brings_ends, given_by};
+ghost use Rattle.ctl_holder.specs.declared.load.Load.TheVariants.{Ends, Writer};
+ghost use Rattle.ctl_hears.specs.Processing.{IsSilent};
+ghost use Rattle.ctl_hears.specs.Attaching.{FitsLoad, StaysAll};
+ghost use Rattle.ctl_hears.specs.Processing.{JoinsFor, MayHear, IsProcessed, HasCounts, HasJoined};
+ghost use Rattle.ctl_hears.specs.Processing.{MayAcknowledge, Acknowledges, BringsWriter, BringsParting};
+
+use crate::attaching::bind_comes;
+use ctl_asks::{acknowledgement, own, request};
+use ctl_ends::{settle_end, turn_end};
+use ctl_holder::{Holder, Load, Parting};
+use ctl_reaps::take_over;
+use ctl_state::State;
+use ctl_terms::process_term;
+use http_server::Log;
+use msg_pipe::Pipes;
+use spec_control::{Answered, EndEvent, Joining, Letter, Word};
+use std::alloc::Global;
+use zq_base::{EndId, ObjId, Seq, Settled};
+
+/// A holder that had no end to answer for. It takes no memory.
+pub fn silent<N, S>(alloc: Global) -> Answered<N, S>
+    ensures { IsSilent result }
+{
+    Answered {
+        joined: Seq::new(alloc),
+        opened: Seq::new(alloc),
+        settled: None,
+        output_left: false,
+        stories: Log::new(),
+    }
+}
+
+// The holder of an object hears that it has ended, which nobody has of the root.
+fn tell_over<P: Pipes, H: Holder<P>>(holder: &mut H, o: ObjId, ended: bool)
+    requires none { ended ≡ true → o.0 ≢ 0 → (H.holding holder.old).ends o.0 ≡ [] }
+    ensures told { IsTold o.0 (H.holding holder.old) (H.holding holder.new) }
+    ensures kept { ended ≡ false →
+        (H.holding holder.new).holds o.0 ≡ (H.holding holder.old).holds o.0 }
+    ensures root { o.0 ≡ 0 → H.holding holder.new ≡ H.holding holder.old }
+{
+    if !ended {
+        return;
+    }
+    if o.0 == 0 {
+        return;
+    }
+    holder.over(o);
+}
+
+// A pipe was settled, and else there was nothing to answer for. It takes no memory.
+fn with_counts<N, S>(alloc: Global, counts: Settled) -> Answered<N, S>
+    ensures { HasCounts counts result }
+{
+    Answered {
+        joined: Seq::new(alloc),
+        opened: Seq::new(alloc),
+        settled: Some(counts),
+        output_left: false,
+        stories: Log::new(),
+    }
+}
+
+// These ends joined, and else there was nothing to answer for. It takes no memory.
+fn with_joined<N, S>(alloc: Global, joined: Seq<Joining<N>>) -> Answered<N, S>
+    ensures { HasJoined joined result }
+{
+    Answered {
+        joined,
+        opened: Seq::new(alloc),
+        settled: None,
+        output_left: false,
+        stories: Log::new(),
+    }
+}
+
+// The ends of a closed socket that a Reap brings.
+fn parting_of<N: Drop, O: Drop, I: Drop>(load: Option<Load<N, O, I>>) -> Parting<N, O, I>
+    requires { BringsParting load }
+    ensures { load ≡ Some (Ends result) }
+{
+    match load {
+        Some(Load::Ends(parting)) => return parting,
+        Some(Load::Halves(_) | Load::Writer(_)) | None => unreachable!(),
+    }
+}
+
+// The writing half that an acknowledgement brings.
+fn writer_of<N: Drop, O: Drop, I: Drop>(load: Option<Load<N, O, I>>) -> O
+    requires { BringsWriter load }
+    ensures { load ≡ Some (Writer result) }
+{
+    match load {
+        Some(Load::Writer(writer)) => return writer,
+        Some(Load::Halves(_) | Load::Ends(_)) | None => unreachable!(),
+    }
+}
+
+// The other end's acknowledgement comes to an end of an object: the pipe is settled, the end is
+// gone, and the object ends if it can. The counts are the answer.
+fn acknowledged<P: Pipes, H: Holder<P>>(
+    state: &mut State<Load<P::Name, P::Out, P::In>>,
+    holder: &mut H,
+    at: ObjId,
+    e: EndId,
+    load: Option<Load<P::Name, P::Out, P::In>>,
+) -> Settled
+where
+    P::Name: Drop,
+    requires may { MayAcknowledge P.known.out_name P.known.in_name
+        state.old (H.holding holder.old) at.0 e load }
+    requires apart { (writer : P.Out) → load ≡ Some (Writer writer) →
+        NoneWrites P.known.exact (P.known.out_name writer) (H.holding holder.old) }
+    ensures { (w : MayAcknowledge P.known.out_name P.known.in_name
+        state.old (H.holding holder.old) at.0 e load) →
+        Acknowledges P.known.out_name P.known.in_name w.names w.control at.0 e result
+        state.old state.new (H.holding holder.old) (H.holding holder.new) }
+{
+    let writer = writer_of(load);
+    let counts = settle_end(state, holder, e, writer);
+    state.needs();
+    let ended = state.try_end(at, false);
+    tell_over(holder, at, ended);
+    counts
+}
+
+/// An object hears a command, with the holder of its ends. What the holder answered is the answer.
+/// Where memory wants, which only a bind takes, what it brought is given back, and all is as it was.
+pub fn process<P: Pipes, H: Holder<P>>(
+    state: &mut State<Load<P::Name, P::Out, P::In>>,
+    alloc: Global,
+    holder: &mut H,
+    letter: &Letter,
+    load: Option<Load<P::Name, P::Out, P::In>>,
+) -> Result<Answered<P::Name, P::Story>, Option<Load<P::Name, P::Out, P::In>>>
+where
+    P::Name: Drop,
+    requires may { MayHear P.known.out_name P.known.in_name state.old (H.holding holder.old) letter.now load }
+    requires apart { (e : EndId) (writer : P.Out) → letter.now.word ≡ PipeTermAck e →
+        load ≡ Some (Writer writer) →
+        NoneWrites P.known.exact (P.known.out_name writer) (H.holding holder.old) }
+    requires reaps { brings_ends letter.now.word ≡ true → H.reaps ≡ true }
+    requires met { AreMet (H.ended holder.old) (given_by load) }
+    requires fits { FitsLoad (H.fits holder.old) load }
+    ensures heard { IfOk result (λ a.
+        (w : MayHear P.known.out_name P.known.in_name state.old (H.holding holder.old) letter.now load) →
+        IsProcessed P.known.out_name P.known.in_name state.old state.new (H.holding holder.new)
+        w.names w.control letter.now a) }
+    ensures turned { IfOk result (λ a.
+        (w : MayHear P.known.out_name P.known.in_name state.old (H.holding holder.old) letter.now load) →
+        TurnsOnce w.control (processed letter.now.to.0 letter.now.word (answers_in a) w.control)
+        (H.holding holder.old) (H.holding holder.new)) }
+    ensures joins { IfOk result (λ a.
+        (w : MayHear P.known.out_name P.known.in_name state.old (H.holding holder.old) letter.now load) →
+        JoinsFor w.control letter.now a (H.holding holder.old) (H.holding holder.new)) }
+    ensures brought { IfOk result (λ a. brings_ends letter.now.word ≡ true →
+        a.joined ≡ map (given_as P.known.out_name P.known.in_name) (given_by load)) }
+    ensures back { IfErr result (λ back. back ≡ load) }
+    ensures err { IfErr result (λ back. (state.new ≡ state.old)
+        × StaysAll (H.holding holder.old) (H.holding holder.new)) }
+    ensures quiet { IfErr result (λ back.
+        KeepsTurns (H.holding holder.old) (H.holding holder.new)) }
+{
+    match letter.word {
+        Word::Own(child) => {
+            own(state, letter.to, child);
+            return Ok(silent(alloc));
+        }
+        Word::TermReq(child) => {
+            request(state, letter.to, child);
+            return Ok(silent(alloc));
+        }
+        Word::TermAck(child) => {
+            let ended = acknowledgement(state, letter.to, child);
+            tell_over(holder, letter.to, ended);
+            return Ok(silent(alloc));
+        }
+        Word::PipeTerm(e) => {
+            turn_end(state, holder, e, EndEvent::TermCame);
+            return Ok(silent(alloc));
+        }
+        Word::Stop => {
+            state.needs();
+            state.stop_comes(letter.to);
+            holder.stop(letter.to);
+            return Ok(silent(alloc));
+        }
+        Word::PipeTermAck(e) => {
+            let counts = acknowledged(state, holder, letter.to, e, load);
+            return Ok(with_counts(alloc, counts));
+        }
+        Word::Term => {
+            process_term(state, holder, letter.to);
+            return Ok(silent(alloc));
+        }
+        Word::Reap(socket) => {
+            let joined = take_over(state, holder, socket, parting_of(load));
+            return Ok(with_joined(alloc, joined));
+        }
+        Word::PipeBind(e, _) => match bind_comes(state, alloc, holder, letter, e, load) {
+            Ok(joined) => return Ok(with_joined(alloc, joined)),
+            Err(load) => return Err(load),
+        },
+        Word::Plug(_) => unreachable!(),
+    }
+}

@@ -1,0 +1,6 @@
+pub mod NameLemmas
+mod WaitLemmas
+pub mod StrikeLemmas
+pub mod OnceLemmas
+pub mod FindLemmas
+mod DisconnectLemmas
