@@ -4,4 +4,8 @@
 #[cfg(test)]
 mod holder_tests;
 #[cfg(test)]
+mod lanes;
+#[cfg(test)]
+mod mail_tests;
+#[cfg(test)]
 mod sockets;

@@ -24,7 +24,8 @@ pub fn the_end() -> EndId
     }
 }
 
-fn options(alloc: Global) -> Options {
+/// Marks of two messages, and nothing else set.
+pub fn options(alloc: Global) -> Options {
     Options {
         hwm: 2,
         rcvhwm: 2,
