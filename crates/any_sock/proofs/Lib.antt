@@ -7,3 +7,6 @@ pub mod DetachLemmas
 pub mod FreshLemmas
 pub mod ChangeLemmas
 mod ToldLemmas
+pub mod NamingLemmas
+pub mod TakeBackLemmas
+pub mod RouterBackLemmas

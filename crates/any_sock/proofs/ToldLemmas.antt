@@ -87,25 +87,25 @@ module _ (f g : ℕ → End) where
 
 module _ (turns : List ℕ) where
   pub told_push : IsToldByPeers (sock.Push turns)
-  told_push = record { state = e; received = e; caught = e; partner = All-nil (Contains turns) }
+  told_push = record { state = e; received = e; caught = e; partner = All-nil (Contains turns); heard = All-nil (Contains turns) }
     where
       e : (f g : ℕ → End) → Agree f g turns → by_kind.Push (map f turns) ≡ by_kind.Push (map g turns)
       e f g all = ap by_kind.Push (same_ends f g turns all)
 
   pub told_pull : IsToldByPeers (sock.Pull turns)
-  told_pull = record { state = e; received = e; caught = e; partner = All-nil (Contains turns) }
+  told_pull = record { state = e; received = e; caught = e; partner = All-nil (Contains turns); heard = All-nil (Contains turns) }
     where
       e : (f g : ℕ → End) → Agree f g turns → by_kind.Pull (map f turns) ≡ by_kind.Pull (map g turns)
       e f g all = ap by_kind.Pull (same_ends f g turns all)
 
   pub told_pair : IsToldByPeers (sock.Pair turns)
-  told_pair = record { state = e; received = e; caught = e; partner = All-nil (Contains turns) }
+  told_pair = record { state = e; received = e; caught = e; partner = All-nil (Contains turns); heard = All-nil (Contains turns) }
     where
       e : (f g : ℕ → End) → Agree f g turns → by_kind.Pair (both_at f turns turns) ≡ by_kind.Pair (both_at g turns turns)
       e f g all = ap by_kind.Pair (same_both f g turns turns all all)
 
 pub told_dealer : (t : Both) → IsToldByPeers (sock.Dealer t)
-told_dealer t = record { state = e; received = e; caught = e; partner = All-nil (Contains (t.outs ++ t.ins)) }
+told_dealer t = record { state = e; received = e; caught = e; partner = All-nil (Contains (t.outs ++ t.ins)); heard = All-nil (Contains (t.outs ++ t.ins)) }
   where
     e : (f g : ℕ → End) → Agree f g (t.outs ++ t.ins) → by_kind.Dealer (both_at f t.outs t.ins) ≡ by_kind.Dealer (both_at g t.outs t.ins)
     e f g all = ap by_kind.Dealer (same_both f g t.outs t.ins (all_front (λ n. f n ≡ g n) t.outs t.ins all) (all_behind (λ n. f n ≡ g n) t.outs t.ins all))
@@ -116,6 +116,7 @@ told_req r at = record {
   received = e;
   caught = e;
   partner = partner_among (r.outs ++ r.ins) r.ins r.asked (All-weaker (Contains r.ins) (Contains (r.outs ++ r.ins)) (Contains-append_right r.outs r.ins) r.ins (All-contains_itself r.ins)) at;
+  heard = All-nil (Contains (r.outs ++ r.ins));
 }
   where
     e : (f g : ℕ → End) → Agree f g (r.outs ++ r.ins) → over f (sock.Req r) ≡ over g (sock.Req r)
@@ -125,7 +126,7 @@ told_req r at = record {
         ∙ ap (by_kind.Req (both_at g r.outs r.ins)) (same_asked f g r.ins r.asked ins at)
 
 pub told_rep : (r : RepState) → IsAt (Contains r.ins) r.owed → IsToldByPeers (sock.Rep r)
-told_rep r at = record { state = e; received = e; caught = e; partner = partner_among r.ins r.ins r.owed (All-contains_itself r.ins) at }
+told_rep r at = record { state = e; received = e; caught = e; partner = partner_among r.ins r.ins r.owed (All-contains_itself r.ins) at; heard = All-nil (Contains r.ins) }
   where
     e : (f g : ℕ → End) → Agree f g r.ins → over f (sock.Rep r) ≡ over g (sock.Rep r)
     e f g all =
@@ -133,7 +134,7 @@ told_rep r at = record { state = e; received = e; caught = e; partner = partner_
         ∙ ap (by_kind.Rep (map g r.ins)) (same_owed f g r.ins r.owed r.envelope all at)
 
 pub told_router : (r : RouterState) → IsToldByPeers (sock.Router r)
-told_router r = record { state = e; received = e; caught = e; partner = All-nil (Contains (r.ins ++ map (λ n. n.place) r.names)) }
+told_router r = record { state = e; received = e; caught = e; partner = All-nil (Contains (r.ins ++ map (λ n. n.place) r.names)); heard = All-nil (Contains (r.ins ++ map (λ n. n.place) r.names)) }
   where
     e : (f g : ℕ → End) → Agree f g (r.ins ++ map (λ n. n.place) r.names) → over f (sock.Router r) ≡ over g (sock.Router r)
     e f g all =
@@ -152,6 +153,7 @@ module _ (p : PubState) (known : AreKnown p) where
     received = λ f g all. ap by_kind.Pub (same_heard f g all);
     caught = λ f g all. ap by_kind.Pub (same_meant f g p known all);
     partner = All-nil (Contains (keys_of p.subs));
+    heard = all_heard (Contains (keys_of p.subs)) p known (All-contains_itself (keys_of p.subs));
   }
 
   pub told_xpub : IsToldByPeers (sock.XPub p)
@@ -160,17 +162,18 @@ module _ (p : PubState) (known : AreKnown p) where
     received = λ f g all. ap by_kind.XPub (same_meant f g p known all);
     caught = λ f g all. ap by_kind.XPub (same_meant f g p known all);
     partner = All-nil (Contains (keys_of p.subs));
+    heard = all_heard (Contains (keys_of p.subs)) p known (All-contains_itself (keys_of p.subs));
   }
 
 module _ (u : SubState) where
   pub told_sub : IsToldByPeers (sock.Sub u)
-  told_sub = record { state = e; received = e; caught = e; partner = All-nil (Contains (u.ins ++ keys_of u.followers)) }
+  told_sub = record { state = e; received = e; caught = e; partner = All-nil (Contains (u.ins ++ keys_of u.followers)); heard = All-nil (Contains (u.ins ++ keys_of u.followers)) }
     where
       e : (f g : ℕ → End) → Agree f g (u.ins ++ keys_of u.followers) → over f (sock.Sub u) ≡ over g (sock.Sub u)
       e f g all = ap by_kind.Sub (same_subscriber f g u all)
 
   pub told_xsub : IsToldByPeers (sock.XSub u)
-  told_xsub = record { state = e; received = e; caught = e; partner = All-nil (Contains (u.ins ++ keys_of u.followers)) }
+  told_xsub = record { state = e; received = e; caught = e; partner = All-nil (Contains (u.ins ++ keys_of u.followers)); heard = All-nil (Contains (u.ins ++ keys_of u.followers)) }
     where
       e : (f g : ℕ → End) → Agree f g (u.ins ++ keys_of u.followers) → over f (sock.XSub u) ≡ over g (sock.XSub u)
       e f g all = ap by_kind.XSub (same_subscriber f g u all)

@@ -52,6 +52,39 @@ pub record DetachedOver (pair : PairId) (place : ℕ) (s s' : AnySock) : Type 0 
   pub left_is : left_of s' ≡ left_without place (left_of s)
   pub kind_is : (ends : ℕ → End) → pattern_kind (over ends s') ≡ pattern_kind (over ends s)
 
+-- the places of the turns in which a publisher hears its peers
+abbrev pub heard_places : AnySock → List ℕ
+heard_places (sock.Pub p) = p.ins
+heard_places (sock.XPub p) = p.ins
+heard_places _ = []
+
+-- the place is none that the socket keeps: no peer's, no partner's, and none that is heard
+pub record IsNoPlace (place : ℕ) (s : AnySock) : Type 0 where
+  pub peers : AreOthers place (peer_places s)
+  pub partner : AreOthers place (partner_places s)
+  pub heard : AreOthers place (heard_places s)
+
+-- an attach of the end at the place, which the socket didn't keep, led from the one state to the other, whatever it answered
+pub record CameOver (place : ℕ) (before now : AnySock) : Type 0 where
+  pub no_place : IsNoPlace place before
+  pub identity : List ℕ
+  pub can_name : CanName before identity
+  pub attached : (ends : ℕ → End) → over ends now ≡ attach (ends place) identity (over ends before)
+
+-- all is as it was before, whatever ends are there
+pub record IsAsBefore (before s : AnySock) : Type 0 where
+  pub state_is : (ends : ℕ → End) → over ends s ≡ over ends before
+  pub places_are : peer_places s ≡ peer_places before
+
+-- the end at the place is a peer no longer, and where it was attached last, or refused, all is as it was before that; of what was left it goes as with a detach
+pub record TakenBackOver (place : ℕ) (s s' : AnySock) : Type 0 where
+  pub undone : (before : AnySock) → CameOver place before s → IsAsBefore before s'
+  pub places : All (Contains (peer_places s)) (peer_places s')
+  pub peers_gone : AreOthers place (peer_places s')
+  pub partner_gone : AreOthers place (partner_places s')
+  pub left_is : left_of s' ≡ left_without place (left_of s)
+  pub kind_is : (ends : ℕ → End) → pattern_kind (over ends s') ≡ pattern_kind (over ends s)
+
 -- an attach that refuses no peer
 abbrev pub as_taken : {E : Type 0} → Result (Unit {0}) E → Result Attached E
 as_taken (Ok done) = Ok Yes

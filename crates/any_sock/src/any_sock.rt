@@ -2,7 +2,7 @@ ghost use Rattle.std.specs.Prelude.{◌≡◌, ◌<◌, ◌↔◌, ℕ, All, IsT
 ghost use Rattle.spec_pattern.specs.TurnList.{End};
 ghost use Rattle.pattern_laws.specs.Peers.{pattern_kind};
 ghost use Rattle.any_sock.specs.Over.{peer_places, over};
-ghost use Rattle.any_sock.specs.Peers.{CanName, AttachedOver, DetachedOver, as_taken};
+ghost use Rattle.any_sock.specs.Peers.{CanName, AttachedOver, DetachedOver, TakenBackOver, as_taken};
 ghost use Rattle.any_sock.specs.Fresh.{IsWithoutPeers};
 
 use pub_sub::{Pub, Sub, XPub, XSub};
@@ -126,6 +126,26 @@ impl AnySock {
             AnySock::Router(router) => router.detach(place),
             AnySock::Pub(publisher) => publisher.detach(place),
             AnySock::XPub(publisher) => publisher.detach(pair, place),
+            AnySock::Sub(subscriber) => subscriber.detach(place),
+            AnySock::XSub(subscriber) => subscriber.detach(place),
+        }
+    }
+
+    /// The end at this place, which is of this pair, is a peer no longer. Where it is the one that was
+    /// attached last, or refused, all is as before that: a ROUTER will draw its name again.
+    pub fn take_back(&mut self, pair: PairId, place: usize)
+        ensures { TakenBackOver place self.old self.new }
+    {
+        match self {
+            AnySock::Push(push) => push.detach(place),
+            AnySock::Pull(pull) => pull.detach(place),
+            AnySock::Pair(peer) => peer.detach(place),
+            AnySock::Dealer(dealer) => dealer.detach(place),
+            AnySock::Req(req) => req.detach(place),
+            AnySock::Rep(rep) => rep.detach(place),
+            AnySock::Router(router) => router.take_back(place),
+            AnySock::Pub(publisher) => publisher.detach(place),
+            AnySock::XPub(xpub) => xpub.detach(pair, place),
             AnySock::Sub(subscriber) => subscriber.detach(place),
             AnySock::XSub(subscriber) => subscriber.detach(place),
         }

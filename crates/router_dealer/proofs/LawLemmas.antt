@@ -30,7 +30,7 @@ module _ (ends : ℕ → End) (place : ℕ) where
       → names_at ends (names ++ record { name = name; place = place } ∷ []) ≡ names_at ends names ++ record { name = name; peer = ends place } ∷ []
   names_at-push names name = map-append (λ (n : PlaceName). record { name = n.name; peer = ends n.place }) names (record { name = name; place = place } ∷ [])
 
-  taken_in_at : (identity : List ℕ) (r : RouterState)
+  pub taken_in_at : (identity : List ℕ) (r : RouterState)
       → router_at ends (attached_state identity place r) ≡ attach_as Yes (ends place) identity (router_at ends r)
   taken_in_at [] r = same_router _ _ _ _ (r.drawn + 1) r.mandatory (map-append ends r.ins (place ∷ [])) (names_at-push r.names (drawn_name (r.drawn + 1)))
   taken_in_at (octet ∷ octets) r = same_router _ _ _ _ r.drawn r.mandatory (map-append ends r.ins (place ∷ [])) (names_at-push r.names (octet ∷ octets))

@@ -4,3 +4,4 @@ pub mod RouterLemmas
 pub mod SendLemmas
 pub mod RecvLemmas
 pub mod LawLemmas
+pub mod TakeBackLemmas

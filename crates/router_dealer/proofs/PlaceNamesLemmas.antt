@@ -25,7 +25,7 @@ same_name a = (bytes_decides a a).1 refl
 places_equal : (a b : ℕ) → nat_eq a b ≡ true → a ≡ b
 places_equal a b e = (Decides-eqb a b).0 e
 
-same_place : (a : ℕ) → nat_eq a a ≡ true
+pub same_place : (a : ℕ) → nat_eq a a ≡ true
 same_place a = (Decides-eqb a a).1 refl
 
 -- the test of places is the same the other way round
@@ -39,7 +39,7 @@ turned a b = by (nat_eq a b) (nat_eq b a) refl refl
     by false true e f = absurd (true≢false (sym (same_place a) ∙ ap (nat_eq a) (sym (places_equal b a f)) ∙ e))
 
 -- a search that found nothing failed at the first, and behind it
-failed : {A : Type 0} (b : Bool) (x : A) (o : Option A) → cond b (Some x) o ≡ None → (b ≡ false) × (o ≡ None)
+pub failed : {A : Type 0} (b : Bool) (x : A) (o : Option A) → cond b (Some x) o ≡ None → (b ≡ false) × (o ≡ None)
 failed true x o h = absurd (no_some (sym h))
 failed false x o h = (refl, h)
 

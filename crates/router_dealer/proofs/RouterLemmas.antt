@@ -132,7 +132,7 @@ left_some place (Some other) p h = by (nat_eq place other) h
     by false e = e
 
 -- it stands for another place
-left_apart : (place : ℕ) (o : Option ℕ) (p : ℕ) → kept_at place o ≡ Some p → (p == place) ≡ false
+pub left_apart : (place : ℕ) (o : Option ℕ) (p : ℕ) → kept_at place o ≡ Some p → (p == place) ≡ false
 left_apart place None p h = absurd (no_some h)
 left_apart place (Some other) p h = by (nat_eq place other) refl h
   where
@@ -161,7 +161,7 @@ named_left m m' place without (k ∷ places) all =
         (h.0, without h.0 ∙ left_other place k e (place_named m h.0) h.1) rest
 
 module _ (r r' : RouterState) (place : ℕ) (is_router : IsRouter r) (names_are : r'.names ≡ without_name_at place r.names) where
-  without : IsWithout place r.names r'.names
+  pub without : IsWithout place r.names r'.names
   without q = ap (λ m. place_named m q) names_are ∙ place_named-without place r.names is_router.apart q
 
   -- a router with an end fewer

@@ -1,5 +1,5 @@
 -- A ROUTER over its attached ends, by their places (RFC 28, "The ROUTER Socket Type").
-use Rattle.std.specs.Prelude.{◌≡◌, ◌≢◌, ◌≤◌, ◌⊎◌, ◌+◌, ℕ, Bool, true, false, List, [], ◌∷◌, ◌++◌, length, drop, Option, Some, None, IsSome, Result, Ok, Err, All, Contains, map}
+use Rattle.std.specs.Prelude.{◌≡◌, ◌≢◌, ◌≤◌, ◌⊎◌, ◌+◌, ℕ, Bool, true, false, List, [], ◌∷◌, ◌++◌, length, drop, nat_eq, Option, Some, None, IsSome, Result, Ok, Err, All, Contains, map}
 use Rattle.zq_base.specs.Message.{Frames}
 use Rattle.zq_base.specs.declared.ids.PairId.{PairId}
 use Rattle.msg_pipe.specs.Turns.{without_place}
@@ -109,6 +109,19 @@ Attaches identity place old (Ok attached.Yes) new = new ≡ attached_state ident
 Attaches identity place old (Ok attached.BadId) new = new ≡ old
 Attaches identity place old (Ok attached.Second) new = ⊥
 Attaches identity place old (Err e) new = new ≡ old
+
+-- the end at the place is no peer: it has neither turns nor a name
+pub record IsNoPeer (place : ℕ) (r : RouterState) : Type 0 where
+  pub no_turn : All (λ k. nat_eq place k ≡ false) r.ins
+  pub no_name : IsNew place r
+
+-- an attach of the end at the place, which was no peer, led from the one state to the other, whatever it answered
+pub record CameByAttach (place : ℕ) (before now : RouterState) : Type 0 where
+  pub no_peer : IsNoPeer place before
+  pub identity : List ℕ
+  pub may_be : IsIdentity identity
+  pub answer : Attached
+  pub attached : Attaches {E = Unit {0}} identity place before (Ok answer) now
 
 -- a message whose peer isn't there: it is handed back, or given up
 abbrev pub where_missing : Bool → Frames → Result Sent SendFault

@@ -1,7 +1,8 @@
-ghost use Rattle.std.specs.Prelude.{is_some, IsTrue, ◌≡◌, ◌≢◌, ◌⊎◌, ◌<◌, ◌≤◌, ◌↔◌, ◌++◌, ◌∷◌, [], ℕ, List, All, None, Some, Ok, length, OnOk, OnErr, IsPermutation};
+ghost use Rattle.std.specs.Prelude.{is_some, IsTrue, true, ◌≡◌, ◌≢◌, ◌⊎◌, ◌<◌, ◌≤◌, ◌↔◌, ◌++◌, ◌∷◌, [], ℕ, List, All, None, Some, Ok, length, OnOk, OnErr, IsPermutation};
 ghost use Rattle.msg_pipe.specs.Places.{KeepsPlaces};
+ghost use Rattle.spec_pattern.specs.Routing.{drawn_name};
 ghost use Rattle.router_dealer.specs.PlaceNames.{place_named, name_placed};
-ghost use Rattle.router_dealer.specs.Named.{most_drawn, no_ends, IsNew, IsIdentity, IsTaken, IsOwn, IsDrawn, named_state, detached_state, Attaches, SendsNamed, TakesNamed, ReceivesNamed, HasName, GivesNamed};
+ghost use Rattle.router_dealer.specs.Named.{most_drawn, no_ends, IsNew, IsIdentity, IsTaken, IsOwn, IsDrawn, named_state, detached_state, Attaches, SendsNamed, TakesNamed, ReceivesNamed, HasName, GivesNamed, RouterState, IsRouter, CameByAttach};
 
 use crate::held::Held;
 use crate::names::Names;
@@ -141,6 +142,33 @@ impl Router {
     {
         self.ins.remove(place);
         self.names.forget(place);
+    }
+
+    /// The end at this place is a peer no longer. Where it is the one that was attached last, or
+    /// refused, all is as before that: the name that was drawn for it will be drawn again.
+    pub fn take_back(&mut self, place: usize)
+        ensures leaves { self.new ≡ record (detached_state place self.old) {
+          drawn = self.new.drawn;
+        } }
+        ensures undone { (before : RouterState) → CameByAttach place before self.old →
+            self.new ≡ before }
+    {
+        let drawn = self.is_drawn_last(place);
+        self.detach(place);
+        if drawn {
+            self.drawn -= 1;
+        }
+    }
+
+    // Whether the end at this place has the name that was drawn last.
+    fn is_drawn_last(&self, place: usize) -> bool
+        ensures drawn { (result ≡ true) ↔
+            (place_named self.now.names (drawn_name self.now.drawn) ≡ Some place) }
+        ensures sound { IsRouter self.now }
+    {
+        let octets = self.drawn.to_be_bytes();
+        let name = [0, octets[0], octets[1], octets[2], octets[3]];
+        self.names.find(&name) == Some(place)
     }
 
     /// Sends a message without its first frame to the peer that this frame names. One that can't
