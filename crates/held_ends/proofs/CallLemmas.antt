@@ -6,7 +6,7 @@ use Rattle.zq_base.specs.Ends.{PipeId}
 use Rattle.msg_pipe.specs.Known.{Known, IsThere, KeepsButIn}
 use Rattle.ends.specs.declared.row.EndRow.{EndRow}
 use Rattle.ends.specs.Rows.{Rows, Table, row_at}
-use Rattle.ends.specs.Runs.{OutDoes, InDoes, CallsAt, OutCall, InCall, DoesAll, is_seal, seals}
+use Rattle.ends.specs.Runs.{OutDoes, InDoes, CallsAt, OutCall, InCall, DoesOne, DoesAll, is_seal, seals}
 use Rattle.held_ends.specs.declared.table.Place.{Place}
 use Rattle.held_ends.specs.Places.{place_at}
 use Rattle.held_ends.specs.Sound.{WritesSo, StandsSo, IsSound}
@@ -14,6 +14,9 @@ use Rattle.held_ends.proofs.PlaceLemmas.{row_there, row_else}
 use Rattle.held_ends.proofs.SoundLemmas.{one_some, Carries, updated, others_written}
 use Rattle.held_ends.proofs.HalfLemmas.{within}
 use Rattle.held_ends.proofs.EndsLemmas.{of_row}
+use Rattle.held_ends.specs.declared.table.EndTable.{EndTable}
+use Rattle.held_ends.specs.Others.{KeepsPlaces, Leaves, LeavesBySteps}
+use Rattle.held_ends.proofs.OthersLemmas.{places_stay, leaves_on, leaves_pipes, leaves_out, leaves_in}
 
 -- a place that stays
 pub same_place : {N I : Type 0} (ps : List (Place N I)) (k : ℕ) (p : Place N I) → place_at ps k ≡ Some p → set ps k p ≡ ps
@@ -132,3 +135,34 @@ module _ {S O I N : Type 0} (K : Known S O I N) where
       (λ (out : OutCall K old step does.0). out_sound old does.0 places step out (first_not (is_seal step) (seals steps) none) sound)
       (λ (input : InCall K old step does.0). in_sound old does.0 places step input sound)
       does.1)
+
+  -- what one of them leaves to other owners
+  one_leaves : (old new : Table S O I) (from : EndTable N O I) (step : PipeStep) → DoesOne K old step new → IsSound K old.pipes old.rows from.places.items → Leaves K old.pipes from new.pipes from
+  one_leaves old new from step does sound = ⊎_elim out input does
+    where
+      stay : KeepsPlaces from.places.items from.places.items
+      stay = places_stay from.places.items from.places.items refl
+
+      out : OutCall K old step new → Leaves K old.pipes from new.pipes from
+      out call =
+          let r = of_row K old.pipes old.rows from.places.items sound call.place call.row call.at.here in
+          leaves_out K old.pipes new.pipes from from call.place r.place r.at r.held stay call.row.out call.back.out r.writes r.stands.name_is call.keeps refl
+
+      input : InCall K old step new → Leaves K old.pipes from new.pipes from
+      input call =
+          let r = of_row K old.pipes old.rows from.places.items sound call.place call.row call.at.here in
+          leaves_in K old.pipes new.pipes from from call.place r.place r.at r.held stay call.row.input call.back.input r.stands.reads.name_is call.keeps refl
+
+  pub calls_leave : LeavesBySteps K
+  calls_leave [] old new from to does none sound places settled =
+      subst (λ (t : Table S O I). Leaves K old.pipes from t.pipes to) (sym does) (leaves_pipes K old.pipes from to (places_stay from.places.items to.places.items places) settled)
+  calls_leave (step ∷ steps) old new from to does none sound places settled =
+      leaves_on K old.pipes does.0.pipes new.pipes from from to
+      (one_leaves old does.0 from step does.1 sound)
+      (calls_leave steps does.0 new from to does.2 (later_not (is_seal step) (seals steps) none)
+      (calls_sound (step ∷ []) old does.0 from.places.items (does.0, does.1, refl) (one_not (is_seal step) (first_not (is_seal step) (seals steps) none)) sound)
+      places settled)
+    where
+      one_not : (b : Bool) → b ≡ false → (b || false) ≡ false
+      one_not true e = absurd (true≢false e)
+      one_not false e = refl

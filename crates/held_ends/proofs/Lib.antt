@@ -7,3 +7,4 @@ pub mod MakeLemmas
 pub mod GivingLemmas
 pub mod CallLemmas
 pub mod LookLemmas
+pub mod OthersLemmas

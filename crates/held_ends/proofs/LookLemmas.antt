@@ -9,7 +9,7 @@ use Rattle.msg_pipe.specs.declared.pipes.Front.{Front}
 use Rattle.msg_pipe.specs.declared.pipes.Front.TheVariants.{Message, Empty, Delimiter}
 use Rattle.ends.specs.declared.row.EndRow.{EndRow}
 use Rattle.ends.specs.Rows.{Rows, Table, table, row_at}
-use Rattle.ends.specs.Runs.{OutCall, InCall, DoesAll}
+use Rattle.ends.specs.Runs.{OutCall, InCall, DoesAll, seals}
 use Rattle.held_ends.specs.declared.table.Place.{Place}
 use Rattle.held_ends.specs.Places.{place_at}
 use Rattle.held_ends.specs.Sound.{WritesSo, StandsSo, IsSound}
@@ -30,6 +30,12 @@ back_again e = ap (λ (b : Bool). record { pair = e.pair; a = b }) (by e.a)
 
 one_end : (p q : PipeId) → read_through p ≡ read_through q → p ≡ q
 one_end p q e = sym (back_again p) ∙ ap other_end e ∙ back_again q
+
+-- a look at the front writes no delimiter
+pub front_unsealed : (p : PipeId) (found : Front) → seals (front_step p found ∷ []) ≡ false
+front_unsealed p Message = refl
+front_unsealed p Empty = refl
+front_unsealed p Delimiter = refl
 
 module _ {S O I N : Type 0} (K : Known S O I N) where
   -- the row of an end whose writing half is there

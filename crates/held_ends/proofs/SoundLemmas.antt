@@ -8,6 +8,7 @@ use Rattle.ends.specs.Rows.{Rows, row_at}
 use Rattle.held_ends.specs.declared.table.Place.{Place}
 use Rattle.held_ends.specs.Places.{place_at}
 use Rattle.held_ends.specs.Sound.{ReadsSo, StandsSo, IsSound}
+use Rattle.held_ends.specs.Others.{IsLess}
 use Rattle.held_ends.proofs.PlaceLemmas.{place_there, place_else}
 
 some_or : {A : Type 0} → A → Option A → A
@@ -17,14 +18,6 @@ some_or d None = d
 pub one_some : {A : Type 0} (a b : A) → Some a ≡ Some b → a ≡ b
 unfolding some_or
 one_some a b e = ap (some_or a) e
-
--- the place of the same end, of which no more is there
-pub record IsLess {N I : Type 0} (p q : Place N I) : Type 0 where
-  pub end_is : q.end ≡ p.end
-  pub written_is : q.written ≡ p.written
-  pub read_is : q.read ≡ p.read
-  pub held : q.held ≡ true → p.held ≡ true
-  pub writes : q.writes ≡ true → p.writes ≡ true
 
 module _ {S O I N : Type 0} (K : Known S O I N) where
   -- pipes changed, and what is known of the halves at a place did not
@@ -44,7 +37,7 @@ module _ {S O I N : Type 0} (K : Known S O I N) where
     met = λ m. ap (λ (x : Reading). x.ended) (c.ins held i s.name_is s.there) ∙ s.met m;
   }
 
-  carried : (pipes pipes' : S) (row : Option (EndRow O I)) (r : Place N I) → Carries pipes pipes' r → (h w : Bool) → r.held ≡ h → r.writes ≡ w → StandsSo K pipes row r h w → StandsSo K pipes' row r h w
+  pub carried : (pipes pipes' : S) (row : Option (EndRow O I)) (r : Place N I) → Carries pipes pipes' r → (h w : Bool) → r.held ≡ h → r.writes ≡ w → StandsSo K pipes row r h w → StandsSo K pipes' row r h w
   carried pipes pipes' row r c false w eh ew s = s
   carried pipes pipes' row r c true true eh ew s = (
     s.0,

@@ -37,6 +37,7 @@ module _ {N O I : Type 0} where
   pub record Unchanged (old new : EndTable N O I) : Type 0 where
     pub rows : new.rows.items ≡ old.rows.items
     pub places : new.places.items ≡ old.places.items
+    pub settled : new.settled.items ≡ old.settled.items
 
   -- there is room for one end more
   pub record HasRoom (t : EndTable N O I) : Type 0 where

@@ -1,5 +1,6 @@
 pub mod Places
 pub mod Sound
+pub mod Others
 pub mod Halving
 pub mod Attaching
 pub mod Giving

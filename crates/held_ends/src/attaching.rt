@@ -5,6 +5,7 @@ ghost use Rattle.held_ends.specs.Places.{is_of};
 ghost use Rattle.held_ends.specs.Sound.{IsSound, Fits};
 ghost use Rattle.held_ends.specs.Attaching.{new_place, new_row, halves_of, Attached, Unchanged, HasRoom, TakenBack};
 ghost use Rattle.held_ends.specs.Halving.{WritesAt};
+ghost use Rattle.held_ends.specs.Others.{Leaves};
 
 use crate::pipes::HeldPipes;
 use crate::table::{EndTable, Place};
@@ -84,6 +85,7 @@ pub fn join<P: HeldPipes>(
     ensures sound { IsSound P.known pipes.now table.new.rows.items table.new.places.items }
     ensures joined { Attached row.value.end (P.known.out_name row.value.out)
         (P.known.in_name row.value.input) peer table.old table.new }
+    ensures others { Leaves P.known pipes.now table.old pipes.now table.new }
 {
     let _unread = pipes;
     let place = placed::<P>(&row, peer);
@@ -136,6 +138,7 @@ pub fn make<P: Pipes>(
     ensures sound { IsSound P.known pipes.new table.now.rows.items table.now.places.items }
     ensures pair { IfOk result (λ m. AreCrossed P.known.out_name P.known.in_name m.mine m.other) }
     ensures fits { IfOk result (λ m. Fits P.known pipes.new table.now.places.items m.mine) }
+    ensures others { Leaves P.known pipes.old table.now pipes.new table.now }
 {
     let _unread = table;
     let (out, away) = pipes.make(alloc, capacities.0, mine, other)?;
@@ -160,6 +163,7 @@ pub fn take_back<P: HeldPipes>(
     ensures sound { IsSound P.known pipes.now table.new.rows.items table.new.places.items }
     ensures back { TakenBack place (P.known.out_name result.out) (P.known.in_name result.input)
         table.old table.new }
+    ensures others { Leaves P.known pipes.now table.old pipes.now table.new }
 {
     let _unread = pipes;
     match table.rows[place].take() {

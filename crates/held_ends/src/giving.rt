@@ -2,6 +2,7 @@ ghost use Rattle.std.specs.Prelude.{◌≡◌, ◌≤◌, [], false, true, Some,
 ghost use Rattle.ctl_holder.specs.Holding.{given_as};
 ghost use Rattle.held_ends.specs.Sound.{IsSound};
 ghost use Rattle.held_ends.specs.Halving.{StandsAt};
+ghost use Rattle.held_ends.specs.Others.{Leaves};
 ghost use Rattle.held_ends.specs.Giving.{AreGone, AreGiven, GivenAt, said_in, given_of, gone_place};
 
 use crate::pipes::HeldPipes;
@@ -30,6 +31,7 @@ pub fn give_ends<P: HeldPipes>(
     ensures gone { AreGone table.new.places.items }
     ensures given { AreGiven P.known pipes.now (said_in table.old.places.items)
         given.new.items joined.new.items }
+    ensures others { Leaves P.known pipes.now table.old pipes.now table.new }
 {
     let alloc = *table.places.allocator();
     let many = table.places.len();
@@ -54,6 +56,7 @@ fn give_end<P: HeldPipes>(
     ensures sound { IsSound P.known pipes.now table.new.rows.items table.new.places.items }
     ensures given { GivenAt P.known pipes.now place result
         table.old.places.items table.new.places.items }
+    ensures others { Leaves P.known pipes.now table.old pipes.now table.new }
 {
     let _unread = pipes;
     match table.rows[place].take() {

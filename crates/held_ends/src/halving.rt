@@ -2,6 +2,7 @@ ghost use Rattle.std.specs.Prelude.{◌≡◌, false, Some, None};
 ghost use Rattle.spec_pattern.specs.Half.{with_delimiter};
 ghost use Rattle.msg_pipe.specs.Known.{IsThere, KeepsButOut};
 ghost use Rattle.held_ends.specs.Sound.{IsSound, is_active, can_write};
+ghost use Rattle.held_ends.specs.Others.{Leaves};
 ghost use Rattle.held_ends.specs.Halving.{StandsAt, WritesAt, ReadsAt, StatedAt, SealedAt, YieldedAt, SettledAt};
 
 use crate::table::{EndTable, Place};
@@ -23,6 +24,7 @@ pub fn set_state<P: Pipes>(
     requires there { StandsAt table.old.places.items place }
     ensures sound { IsSound P.known pipes.now table.new.rows.items table.new.places.items }
     ensures stated { StatedAt place state peer table.old table.new }
+    ensures others { Leaves P.known pipes.now table.old pipes.now table.new }
 {
     let _unread = pipes;
     if !table.places[place].writes {
@@ -78,6 +80,7 @@ pub fn seal<P: Pipes>(pipes: &mut P, table: &mut EndTable<P::Name, P::Out, P::In
     requires writes { WritesAt table.old.places.items place }
     ensures sound { IsSound P.known pipes.new table.new.rows.items table.new.places.items }
     ensures sealed { SealedAt place table.old table.new }
+    ensures others { Leaves P.known pipes.old table.old pipes.new table.new }
 {
     if table.places[place].sealed {
         return;
@@ -113,6 +116,7 @@ pub fn yield_writer<P: Pipes>(
     requires writes { WritesAt table.old.places.items place }
     ensures sound { IsSound P.known pipes.new table.new.rows.items table.new.places.items }
     ensures yielded { YieldedAt place (P.known.out_name result) table.old table.new }
+    ensures others { Leaves P.known pipes.old table.old pipes.new table.new }
 {
     match table.rows[place].take() {
         Some(row) => {
@@ -147,11 +151,16 @@ pub fn settle<P: Pipes>(
     place: usize,
     writer: P::Out,
 ) -> Settled
+where
+    P::Name: Drop,
     requires sound { IsSound P.known pipes.old table.old.rows.items table.old.places.items }
     requires reads { ReadsAt table.old.places.items place (P.known.out_name writer) }
     ensures sound { IsSound P.known pipes.new table.new.rows.items table.new.places.items }
     ensures settled { SettledAt place result table.old table.new }
+    ensures others { Leaves P.known pipes.old table.old pipes.new table.new }
 {
+    let name = P::name(&writer);
+    table.settled = table.settled.and(&name, &());
     match give_reading(&mut table.places[place]) {
         Some(input) => return pipes.settle(input, writer),
         None => unreachable!(),

@@ -17,7 +17,10 @@ pub use attaching::{give_back, join, make, prepare, take_back};
 pub use finding::find;
 pub use giving::give_ends;
 pub use halving::{seal, set_state, settle, yield_writer};
-pub use laws::{calls_keep_ends_sound, sound_ends_are_held};
+pub use laws::{
+    calls_keep_ends_sound, calls_leave_others, halves_fit_still, others_stay_sound,
+    sound_ends_are_held, stretches_leave_others,
+};
 pub use looking::look;
 pub use pipes::HeldPipes;
 pub use table::{EndTable, Place};

@@ -6,6 +6,7 @@ ghost use Rattle.ends.specs.Held.{IsHeld};
 ghost use Rattle.ends.specs.Runs.{DoesAll};
 ghost use Rattle.held_ends.specs.Sound.{IsSound};
 ghost use Rattle.held_ends.specs.Halving.{WritesAt};
+ghost use Rattle.held_ends.specs.Others.{Leaves};
 ghost use Rattle.held_ends.specs.Looking.{met_after, LooksAt};
 
 use crate::table::{EndTable, Place};
@@ -23,6 +24,7 @@ pub fn look<P: Pipes>(
     requires writes { WritesAt table.old.places.items place }
     ensures sound { IsSound P.known pipes.new table.new.rows.items table.new.places.items }
     ensures looked { LooksAt P.known pipes.old pipes.new place result table.old table.new }
+    ensures others { Leaves P.known pipes.old table.old pipes.new table.new }
 {
     let found = front_at(pipes, &mut table.rows, place);
     meet(&mut table.places[place], found);

@@ -1,8 +1,12 @@
 use msg_pipe::Pipes;
+use std::alloc::Global;
 
 /// Pipes that an owner of ends can name by either half, and whose owner it can tell others.
 pub trait HeldPipes: Pipes {
     ghost use Rattle.std.specs.Prelude.{◌≡◌};
+
+    /// No pipes.
+    fn none(alloc: Global) -> Self;
 
     /// The pipe of a reading half.
     fn reads(i: &Self::In) -> Self::Name

@@ -1,4 +1,5 @@
 use ends::EndRow;
+use http_server::Log;
 use spec_control::EndState;
 use zq_base::EndId;
 
@@ -34,4 +35,6 @@ pub struct Place<N, I> {
 pub struct EndTable<N, O, I> {
     pub rows: Vec<Option<Box<EndRow<O, I>>>>,
     pub places: Vec<Place<N, I>>,
+    /// The pipes that were settled, for proofs alone: it takes no memory.
+    pub settled: Log<N, ()>,
 }

@@ -7,3 +7,5 @@ pub mod PeerLemmas
 pub mod JoinLemmas
 pub mod GiveLemmas
 pub mod StandingLemmas
+pub mod GoneLemmas
+pub mod AnyLemmas

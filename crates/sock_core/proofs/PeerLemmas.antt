@@ -11,7 +11,7 @@ use Rattle.held_ends.proofs.SoundLemmas.{one_some}
 use Rattle.sock_core.specs.Peers.{AddsPeer, AreElse, Parts, StaysPeer, ArePeers, peer_of, peer_at, is_taken}
 
 -- what holds of each of these holds of those among them
-all_of : {X : Type 0} (P : X → Type 0) (was now : List X) → All (Contains was) now → All P was → All P now
+pub all_of : {X : Type 0} (P : X → Type 0) (was now : List X) → All (Contains was) now → All P was → All P now
 all_of P was now from all = λ k d lt. All-contains P was (slice_index_or now k d) all (from k d lt)
 
 and_false : (b : Bool) → (b && false) ≡ false

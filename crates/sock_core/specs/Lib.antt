@@ -4,3 +4,4 @@ pub mod Sound
 pub mod Turns
 pub mod Peers
 pub mod Kinds
+pub mod Patterns

@@ -6,11 +6,23 @@ use zq_base::{Attached, PairId, Peer};
 impl Joins for AnySock {
     ghost use Rattle.pattern_laws.specs.Peers.{pattern_kind};
     ghost use Rattle.any_sock.specs.Over.{over, peer_places};
+    ghost use Rattle.any_sock.specs.Peers.{CanName};
+    ghost use Rattle.any_sock.specs.Told.{IsToldByPeers};
     ghost use Rattle.sock_core.specs.Kinds.{no_ends};
 
     ghost kind = { λ s. pattern_kind (over no_ends s) };
 
     ghost peers = { λ s. peer_places s };
+
+    ghost pattern = { λ ends s. over ends s };
+
+    ghost names = { λ s identity. CanName s identity };
+
+    ghost sound = { λ s. IsToldByPeers s };
+
+    fn is_sound(&self) {
+        self.is_told_by_its_peers();
+    }
 
     // A peer whose identity can't be a name is refused, as one whose identity is another's is.
     fn attach(&mut self, alloc: Global, place: usize, peer: &Peer) -> Result<Attached, AllocError> {
@@ -21,6 +33,11 @@ impl Joins for AnySock {
     }
 
     fn detach(&mut self, pair: PairId, place: usize) {
+        self.is_told_by_its_peers();
         AnySock::detach(self, pair, place);
+    }
+
+    fn take_back(&mut self, pair: PairId, place: usize) {
+        AnySock::take_back(self, pair, place);
     }
 }

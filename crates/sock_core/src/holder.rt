@@ -1,26 +1,41 @@
-ghost use Rattle.std.specs.Prelude.{◌≡◌, true, length};
+ghost use Rattle.std.specs.Prelude.{◌≡◌, true, false, length};
+ghost use Rattle.held_ends.specs.declared.table.EndTable.{EndTable};
+ghost use Rattle.held_ends.specs.Giving.{AreGone};
+ghost use Rattle.held_ends.specs.Others.{Leaves};
 ghost use Rattle.sock_core.specs.Sound.{AreSound, KeepsRoom};
 ghost use Rattle.sock_core.specs.Peers.{ArePeers, is_taken};
 
 use crate::joins::Joins;
 use crate::joint::{joint_of, note_back, note_join};
+use crate::since::Since;
 use crate::sock::{Room, SockCore};
-use crate::turns::{note, note_seal, part, stays};
+use crate::turns::{note, note_seal, part, stays, unjoin};
 use ctl_holder::{Given, Halves, Holder, Made, Parting};
 use held_ends::{EndTable, HeldPipes, find};
 use http_server::Log;
 use spec_control::EndState;
 use std::alloc::{AllocError, AllocFailed, Global};
+use std::marker::{Brand, PhantomData};
 use zq_base::{Address, Attached, EndId, Kind, ObjId, Options, Peer, Seq, Settled};
 
-/// A socket with the pipes of its ends.
+/// A socket with the pipes of its ends, for a stretch of calls.
 #[derive(Drop)]
-pub struct SockHolder<P: HeldPipes, C: Joins> {
+pub struct SockHolder<
+    P: HeldPipes,
+    C: Joins,
+    F: Since<P, EndTable<P::Name, P::Out, P::In>> = Brand,
+> {
     pub pipes: P,
     pub core: SockCore<C, P::Waker, P::Name, P::Out, P::In>,
+    pub since: PhantomData<F>,
     ghost sound: { AreSound P.known pipes core.ends.rows.items core.ends.places.items },
     ghost peers: { core.is_open ≡ true → ArePeers core.ends.places.items (C.peers core.kind) },
     ghost room: { KeepsRoom core.is_open (length core.ends.places.items) core.room },
+    ghost gone: { core.is_open ≡ false → AreGone core.ends.places.items },
+    ghost others: { (s : P) (t : EndTable P.Name P.Out P.In) → F.began s t →
+        Leaves P.known s t pipes core.ends },
+    ghost number: { (s : P) (t : EndTable P.Name P.Out P.In) → F.began s t →
+        core.number.0 ≡ F.object },
 }
 
 impl<P: HeldPipes, C: Joins> SockHolder<P, C> {
@@ -36,6 +51,7 @@ impl<P: HeldPipes, C: Joins> SockHolder<P, C> {
     {
         SockHolder {
             pipes,
+            since: PhantomData,
             core: SockCore {
                 number,
                 is_open: true,
@@ -45,6 +61,7 @@ impl<P: HeldPipes, C: Joins> SockHolder<P, C> {
                 ends: EndTable {
                     rows: Vec::new(alloc),
                     places: Vec::new(alloc),
+                    settled: Log::new(),
                 },
                 room: Room {
                     given: Vec::new(alloc),
@@ -59,7 +76,8 @@ impl<P: HeldPipes, C: Joins> SockHolder<P, C> {
 }
 
 /// A socket has ends of its own alone, and takes in none of another owner's.
-impl<P: HeldPipes, C: Joins> Holder<P> for SockHolder<P, C>
+impl<P: HeldPipes, C: Joins, F: Since<P, EndTable<P::Name, P::Out, P::In>>> Holder<P>
+    for SockHolder<P, C, F>
 where
     P::Name: Drop,
 {
@@ -162,7 +180,7 @@ where
         match find(&self.core.ends.places, end) {
             Some(place) => {
                 let is_peer = self.core.ends.places[place].peer;
-                part(&mut self.core.kind, end.pair, place, is_peer);
+                unjoin(&mut self.core.kind, end.pair, place, is_peer);
                 let alloc = *self.core.ends.places.allocator();
                 note_back(&mut self.core.joins, alloc);
                 return held_ends::take_back(&self.pipes, &mut self.core.ends, place);

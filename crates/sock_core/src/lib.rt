@@ -5,10 +5,12 @@ mod any;
 mod holder;
 mod joins;
 mod joint;
+mod since;
 mod sock;
 mod turns;
 
 pub use holder::SockHolder;
 pub use joins::Joins;
 pub use joint::{JoinNote, Joint};
+pub use since::Since;
 pub use sock::{Room, SockCore};

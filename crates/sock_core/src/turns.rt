@@ -82,3 +82,13 @@ pub(crate) fn part<C: Joins>(kind: &mut C, pair: PairId, place: usize, is_peer: 
     }
     kind.detach(pair, place);
 }
+
+/// The attach of the end at a place is taken back, if the kind took it as a peer.
+pub(crate) fn unjoin<C: Joins>(kind: &mut C, pair: PairId, place: usize, is_peer: bool)
+    ensures kind { C.kind kind.new ≡ C.kind kind.old }
+    ensures peers { Parts is_peer place (C.peers kind.old) (C.peers kind.new) }
+{
+    if is_peer {
+        kind.take_back(pair, place);
+    }
+}

@@ -1,5 +1,5 @@
 -- A call on messages of a socket of any kind is one over its own ends.
-use Rattle.std.proofs.Common.{◌≡◌, ◌∙◌, ℕ, Bool, true, List, All, Contains, Option, Some, None, refl, sym, ap, subst}
+use Rattle.std.proofs.Common.{◌≡◌, ◌∙◌, ℕ, Bool, true, List, [], All, Contains, Option, Some, None, refl, sym, ap, subst}
 use Rattle.std.specs.Prelude.{Result, Ok, Err, OnOk, OnErr}
 use Rattle.std.specs.declared.alloc.AllocError.{AllocError}
 use Rattle.std.proofs.lemmas.List.Elements.{All-contains, All-weaker}
@@ -35,12 +35,12 @@ use Rattle.any_sock.specs.Over.{Leftover, IsReadingOf, HaveSamePlaces, peer_plac
 use Rattle.any_sock.specs.Calls.{SendUndone, ChangeUndone, RecvDone, MatchChanged, SentOver, SaidUntold, GotOver, RecvStopped, PumpedOver, PumpStopped, ChangedOver, ChangeUntold}
 use Rattle.any_sock.specs.Stopped.{StopsSend, StopsReceive, StopsPump, StopsChange}
 use Rattle.any_sock.specs.Told.{Agree, IsToldByPeers}
-use Rattle.ends.specs.Rows.{Rows}
+use Rattle.ends.specs.Rows.{Rows, table}
 use Rattle.held_ends.specs.declared.table.Place.{Place}
 use Rattle.held_ends.specs.Sound.{IsSound}
 use Rattle.held_ends.proofs.CallLemmas.{calls_sound}
 use Rattle.sock_core.specs.Peers.{ArePeers, peer_at}
-use Rattle.sock_mail.specs.Lent.{Lent, IsWhole, Makes, IsNaming, IsTest, table_of}
+use Rattle.sock_mail.specs.Lent.{Lent, IsWhole, Makes, MakesSome, IsNaming, IsTest, table_of}
 use Rattle.sock_mail.specs.Mails.{SendUndoneHere, ChangeUndoneHere, ReceiveDone, GivesHere, SendsHere, SaysHere, ReceivesHere, StopsHere, PumpsHere, PumpStopsHere, ChangesHere, ChangeUntoldHere}
 use Rattle.sock_mail.proofs.LentLemmas.{row_end, row_open, names_agree, tests_agree, rows_apart}
 use Rattle.sock_mail.proofs.StopLemmas.{send_stops_so, pump_stops_so, change_stops_so}
@@ -53,11 +53,12 @@ among P was now from all = All-weaker (Contains was) P (λ k there. All-contains
 both_named : (P : Pattern → Pattern → Type 0) (p p' q q' : Pattern) → p ≡ q → p' ≡ q' → P q q' → P p p'
 both_named P p p' q q' e e' h = subst (λ (x : Pattern). P x p') (sym e) (subst (P q) (sym e') h)
 
--- pipes and rows that were lent came back, as these names say, the ends are whole, and the call is one over them
-pub record CameBack (A B Whole Step : Type 0) : Type 0 where
+-- pipes and rows that were lent came back, as these names say, the ends are whole, steps were made, and the call is one over them
+pub record CameBack (A B Whole Made Step : Type 0) : Type 0 where
   pub pipes : A
   pub rows : B
   pub whole : Whole
+  pub made : Made
   pub step : Step
 
 -- what is left where this is to be obeyed
@@ -220,13 +221,13 @@ module _ {S N O I : Type 0} (K : Known S O I N) (old new : Lent S N O I) (whole 
 
       module _ (A B : Type 0) (names : (steps : List PipeStep) → runs from steps to → A × B) (still : to ≡ from → (new.pipes ≡ old.pipes) × (new.rows ≡ old.rows) × A × B) where
         abbrev Came : Type 0 → Type 0
-        Came Step = CameBack A B (IsWhole K new) Step
+        Came Step = CameBack A B (IsWhole K new) (MakesSome K old new) Step
 
         done : (Step : Type 0) (steps : List PipeStep) → runs from steps to → Step → Came Step
-        done Step steps r step = record { pipes = (names steps r).0; rows = (names steps r).1; whole = still_whole steps (makes steps r); step = step }
+        done Step steps r step = record { pipes = (names steps r).0; rows = (names steps r).1; whole = still_whole steps (makes steps r); made = record { steps = steps; makes = makes steps r }; step = step }
 
         undone : (Step : Type 0) → to ≡ from → Step → Came Step
-        undone Step e step = let x = still e in record { pipes = x.2; rows = x.3; whole = whole_same x.0 x.1; step = step }
+        undone Step e step = let x = still e in record { pipes = x.2; rows = x.3; whole = whole_same x.0 x.1; made = record { steps = []; makes = record { does = ap (λ (q : S). table q new.rows) x.0 ∙ ap (λ (l : Rows O I). table old.pipes l) x.1; unsealing = refl } }; step = step }
 
         pub sent : (m : Frames) (r : Result Sent XSendFault)
             → MatchXSend r (SendUndone from to old.kind new.kind) (SaidUntold runs (row_end old.rows) (row_open old.rows) m from to old.kind new.kind) (λ a. SentOver runs (row_end old.rows) (row_open old.rows) m from to old.kind a new.kind)

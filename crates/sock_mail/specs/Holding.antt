@@ -18,6 +18,7 @@ module _ {S W N O I : Type 0} where
 -- its ends stay where they are, and all else of it but its kind's state
 pub record KeepsElse {C W N O I : Type 0} (old new : SockCore C W N O I) : Type 0 where
   pub places : new.ends.places ≡ old.ends.places
+  pub settled : new.ends.settled ≡ old.ends.settled
   pub number : new.number ≡ old.number
   pub is_open : new.is_open ≡ old.is_open
   pub stopped : new.stopped ≡ old.stopped
@@ -25,6 +26,7 @@ pub record KeepsElse {C W N O I : Type 0} (old new : SockCore C W N O I) : Type 
   pub room : new.room ≡ old.room
   pub turns : new.turns ≡ old.turns
   pub sealed : new.sealed ≡ old.sealed
+  pub joins : new.joins ≡ old.joins
 
 -- one look at the front of the pipe that this end reads found this, and all else of the end and of the others is as it was
 pub record LooksHere {S N O I : Type 0} (K : Known S O I N) (e : EndId) (found : Front) (old_pipes : S) (old : EndTable N O I) (new_pipes : S) (new : EndTable N O I) : Type 0 where
@@ -42,3 +44,4 @@ pub record KeepsButEnds {C W N O I : Type 0} (old new : SockCore C W N O I) : Ty
   pub room : new.room ≡ old.room
   pub turns : new.turns ≡ old.turns
   pub sealed : new.sealed ≡ old.sealed
+  pub joins : new.joins ≡ old.joins

@@ -35,6 +35,10 @@ pub record Makes {S N O I : Type 0} (K : Known S O I N) (old : Lent S N O I) (st
   pub does : DoesAll K (table_of old) steps (table_of new)
   pub unsealing : seals steps ≡ false
 
+pub record MakesSome {S N O I : Type 0} (K : Known S O I N) (old new : Lent S N O I) : Type 0 where
+  pub steps : List PipeStep
+  pub makes : Makes K old steps new
+
 module _ {N I : Type 0} where
   -- the peers among the ends go by these names
   abbrev pub IsNaming : (ends : ℕ → EndId) → List (Place N I) → Type 0

@@ -1,5 +1,6 @@
 ghost use Rattle.std.specs.Prelude.{◌≡◌, true};
 ghost use Rattle.held_ends.specs.Places.{writes_in};
+ghost use Rattle.held_ends.specs.Others.{Leaves};
 ghost use Rattle.sock_mail.specs.Holding.{LooksHere, KeepsButEnds};
 
 use held_ends::{HeldPipes, find};
@@ -14,6 +15,8 @@ pub fn look<P: HeldPipes, C: Joins>(holder: &mut SockHolder<P, C>, end: EndId) -
     ensures looked { LooksHere P.known end result holder.old.pipes holder.old.core.ends
         holder.new.pipes holder.new.core.ends }
     ensures keeps { KeepsButEnds holder.old.core holder.new.core }
+    ensures others { Leaves P.known holder.old.pipes holder.old.core.ends
+        holder.new.pipes holder.new.core.ends }
 {
     match find(&holder.core.ends.places, end) {
         Some(place) => {

@@ -1,6 +1,7 @@
 ghost use Rattle.std.specs.Prelude.{◌≡◌, ◌<◌, true, length, OnOk, OnErr};
 ghost use Rattle.zq_base.specs.Message.{max_octets};
 ghost use Rattle.spec_pattern.specs.PatternCalls.{Subscribe, Unsubscribe};
+ghost use Rattle.held_ends.specs.Others.{Leaves};
 ghost use Rattle.any_sock.specs.Over.{left_of};
 ghost use Rattle.any_sock.specs.Calls.{MatchChanged};
 ghost use Rattle.pub_sub.specs.XSubs.{MatchXSend, IfXBack};
@@ -32,6 +33,7 @@ pub fn send<P: HeldPipes>(
     ensures back { IfXBack result (λ back. back ≡ message) }
     ensures left { left_of holder.new.core.kind ≡ left_of holder.old.core.kind }
     ensures keeps { KeepsElse holder.old.core holder.new.core }
+    ensures others { Leaves P.known holder.old.pipes holder.old.core.ends holder.new.pipes holder.new.core.ends }
 {
     let core = &mut holder.core;
     send_over(
@@ -55,6 +57,7 @@ pub fn recv<P: HeldPipes>(
     ensures step { ReceiveDone P.known (left_of holder.old.core.kind).to_give
         skips.old.items skips.new.items (lent_in holder.old.pipes holder.old.core) result (lent_in holder.new.pipes holder.new.core) }
     ensures keeps { KeepsElse holder.old.core holder.new.core }
+    ensures others { Leaves P.known holder.old.pipes holder.old.core.ends holder.new.pipes holder.new.core.ends }
 {
     let core = &mut holder.core;
     recv_over(
@@ -78,6 +81,7 @@ pub fn pump<P: HeldPipes>(
     ensures ok { OnOk result (PumpsHere P.known (lent_in holder.old.pipes holder.old.core) (lent_in holder.new.pipes holder.new.core)) }
     ensures err { OnErr result (PumpStopsHere P.known (lent_in holder.old.pipes holder.old.core) (lent_in holder.new.pipes holder.new.core)) }
     ensures keeps { KeepsElse holder.old.core holder.new.core }
+    ensures others { Leaves P.known holder.old.pipes holder.old.core.ends holder.new.pipes holder.new.core.ends }
 {
     let core = &mut holder.core;
     pump_over(
@@ -104,6 +108,7 @@ pub fn subscribe<P: HeldPipes>(
         (λ answer. ChangesHere P.known Subscribe topic.now (lent_in holder.old.pipes holder.old.core) answer (lent_in holder.new.pipes holder.new.core)) }
     ensures left { left_of holder.new.core.kind ≡ left_of holder.old.core.kind }
     ensures keeps { KeepsElse holder.old.core holder.new.core }
+    ensures others { Leaves P.known holder.old.pipes holder.old.core.ends holder.new.pipes holder.new.core.ends }
 {
     let core = &mut holder.core;
     subscribe_over(
@@ -130,6 +135,7 @@ pub fn unsubscribe<P: HeldPipes>(
         (λ answer. ChangesHere P.known Unsubscribe topic.now (lent_in holder.old.pipes holder.old.core) answer (lent_in holder.new.pipes holder.new.core)) }
     ensures left { left_of holder.new.core.kind ≡ left_of holder.old.core.kind }
     ensures keeps { KeepsElse holder.old.core holder.new.core }
+    ensures others { Leaves P.known holder.old.pipes holder.old.core.ends holder.new.pipes holder.new.core.ends }
 {
     let core = &mut holder.core;
     unsubscribe_over(

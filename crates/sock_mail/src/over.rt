@@ -4,7 +4,7 @@ ghost use Rattle.spec_pattern.specs.PatternCalls.{Subscribe, Unsubscribe};
 ghost use Rattle.any_sock.specs.Over.{left_of};
 ghost use Rattle.any_sock.specs.Calls.{MatchChanged};
 ghost use Rattle.pub_sub.specs.XSubs.{MatchXSend, IfXBack};
-ghost use Rattle.sock_mail.specs.Lent.{IsWhole, lent};
+ghost use Rattle.sock_mail.specs.Lent.{IsWhole, MakesSome, lent};
 ghost use Rattle.sock_mail.specs.Mails.{SendsHere, SaysHere, SendUndoneHere, ReceiveDone, PumpsHere, PumpStopsHere};
 ghost use Rattle.sock_mail.specs.Mails.{ChangesHere, ChangeUntoldHere, ChangeUndoneHere};
 
@@ -28,6 +28,7 @@ pub(crate) fn send_over<P: Pipes>(
 ) -> Result<Sent, XSendFault>
     requires whole { IsWhole P.known (lent pipes.old rows.old.items places.now kind.old) }
     ensures whole { IsWhole P.known (lent pipes.new rows.new.items places.now kind.new) }
+    ensures made { MakesSome P.known (lent pipes.old rows.old.items places.now kind.old) (lent pipes.new rows.new.items places.now kind.new) }
     ensures step { MatchXSend result (SendUndoneHere (lent pipes.old rows.old.items places.now kind.old) (lent pipes.new rows.new.items places.now kind.new))
         (SaysHere P.known message (lent pipes.old rows.old.items places.now kind.old) (lent pipes.new rows.new.items places.now kind.new))
         (λ answer. SendsHere P.known message (lent pipes.old rows.old.items places.now kind.old) answer (lent pipes.new rows.new.items places.now kind.new)) }
@@ -53,6 +54,7 @@ pub(crate) fn recv_over<P: Pipes>(
 ) -> Result<(PairId, Message), RecvFault>
     requires whole { IsWhole P.known (lent pipes.old rows.old.items places.now kind.old) }
     ensures whole { IsWhole P.known (lent pipes.new rows.new.items places.now kind.new) }
+    ensures made { MakesSome P.known (lent pipes.old rows.old.items places.now kind.old) (lent pipes.new rows.new.items places.now kind.new) }
     ensures step { ReceiveDone P.known (left_of kind.old).to_give skips.old.items skips.new.items (lent pipes.old rows.old.items places.now kind.old) result (lent pipes.new rows.new.items places.now kind.new) }
 {
     let _unread = places;
@@ -73,6 +75,7 @@ pub(crate) fn pump_over<P: Pipes>(
 ) -> Result<(), AllocError>
     requires whole { IsWhole P.known (lent pipes.old rows.old.items places.now kind.old) }
     ensures whole { IsWhole P.known (lent pipes.new rows.new.items places.now kind.new) }
+    ensures made { MakesSome P.known (lent pipes.old rows.old.items places.now kind.old) (lent pipes.new rows.new.items places.now kind.new) }
     ensures ok { OnOk result (PumpsHere P.known (lent pipes.old rows.old.items places.now kind.old) (lent pipes.new rows.new.items places.now kind.new)) }
     ensures err { OnErr result (PumpStopsHere P.known (lent pipes.old rows.old.items places.now kind.old) (lent pipes.new rows.new.items places.now kind.new)) }
 {
@@ -96,6 +99,7 @@ pub(crate) fn subscribe_over<P: Pipes>(
     requires whole { IsWhole P.known (lent pipes.old rows.old.items places.now kind.old) }
     requires short { length topic.now < max_octets }
     ensures whole { IsWhole P.known (lent pipes.new rows.new.items places.now kind.new) }
+    ensures made { MakesSome P.known (lent pipes.old rows.old.items places.now kind.old) (lent pipes.new rows.new.items places.now kind.new) }
     ensures step { MatchChanged result (ChangeUndoneHere (lent pipes.old rows.old.items places.now kind.old) (lent pipes.new rows.new.items places.now kind.new))
         (ChangeUntoldHere P.known Subscribe topic.now (lent pipes.old rows.old.items places.now kind.old) (lent pipes.new rows.new.items places.now kind.new))
         (λ answer. ChangesHere P.known Subscribe topic.now (lent pipes.old rows.old.items places.now kind.old) answer (lent pipes.new rows.new.items places.now kind.new)) }
@@ -120,6 +124,7 @@ pub(crate) fn unsubscribe_over<P: Pipes>(
 ) -> Result<(), ChangeFault>
     requires whole { IsWhole P.known (lent pipes.old rows.old.items places.now kind.old) }
     ensures whole { IsWhole P.known (lent pipes.new rows.new.items places.now kind.new) }
+    ensures made { MakesSome P.known (lent pipes.old rows.old.items places.now kind.old) (lent pipes.new rows.new.items places.now kind.new) }
     ensures step { MatchChanged result (ChangeUndoneHere (lent pipes.old rows.old.items places.now kind.old) (lent pipes.new rows.new.items places.now kind.new))
         (ChangeUntoldHere P.known Unsubscribe topic.now (lent pipes.old rows.old.items places.now kind.old) (lent pipes.new rows.new.items places.now kind.new))
         (λ answer. ChangesHere P.known Unsubscribe topic.now (lent pipes.old rows.old.items places.now kind.old) answer (lent pipes.new rows.new.items places.now kind.new)) }

@@ -1,10 +1,12 @@
-use Rattle.std.proofs.Common.{sym, ap, ◌∙◌, ◌++◌, ◌∷◌, [], List, subst, Some}
+use Rattle.std.proofs.Common.{sym, ap, ◌∙◌, ◌++◌, ◌∷◌, [], List, subst, Some, refl}
 use Rattle.ends.specs.Rows.{Rows}
 use Rattle.ends.specs.declared.row.EndRow.{EndRow}
 use Rattle.held_ends.specs.declared.table.Place.{Place}
 use Rattle.held_ends.specs.Attaching.{new_place}
 use Rattle.held_ends.specs.Sound.{IsSound}
 use Rattle.held_ends.proofs.AttachLemmas.{attached_sound}
+use Rattle.held_ends.specs.Others.{KeepsPlaces}
+use Rattle.held_ends.proofs.OthersLemmas.{place_comes, leaves_pipes}
 use Rattle.held_ends.proofs.attaching.join.Goals as goal
 
 pub returns-clause-sound : goal.returns-clause-sound
@@ -16,3 +18,9 @@ returns-clause-sound g c =
     (subst (λ (l : List (Place _ _)). IsSound K c.args.pipes.now (c.args.table.now.rows.items ++ Some c.args.row ∷ []) l) (sym places)
     (attached_sound K c.args.pipes.now c.args.table.now.rows.items c.args.table.now.places.items c.args.row c.args.peer
     c.requires.sound c.requires.fits c.requires.new c.requires.writable))
+
+pub returns-clause-others : goal.returns-clause-others
+returns-clause-others g c =
+    leaves_pipes g.P.Pipes.known c.args.pipes.now c.args.table.now _
+    (subst (KeepsPlaces c.args.table.now.places.items) (sym c.push_reserved-2.ensures.items) (place_comes c.args.table.now.places.items c.placed-place.result))
+    refl

@@ -1,4 +1,4 @@
-use Rattle.std.proofs.Common.{sym, ap, ◌∙◌, subst, arith, set, Option, None, false}
+use Rattle.std.proofs.Common.{sym, ap, ◌∙◌, subst, arith, set, Option, None, false, refl, true≢false}
 use Rattle.std.specs.Prelude.{Box}
 use Rattle.std.specs.declared.alloc.Global.{Global}
 use Rattle.ends.specs.declared.row.EndRow.{EndRow}
@@ -6,6 +6,7 @@ use Rattle.held_ends.specs.declared.table.Place.{Place}
 use Rattle.held_ends.specs.Sound.{IsSound}
 use Rattle.held_ends.proofs.PlaceLemmas.{place_within, place_found}
 use Rattle.held_ends.proofs.HalfLemmas.{found_row, never_none, within, taken_sound}
+use Rattle.held_ends.proofs.OthersLemmas.{leaves_changed}
 use Rattle.held_ends.proofs.attaching.take_back.Goals as goal
 
 pub index_mut-requires : goal.index_mut-requires
@@ -39,3 +40,11 @@ returns-in-Some-clause-back g c =
 pub unreachable-requires : goal.unreachable-requires
 unreachable-requires g c =
     never_none g.P.Pipes.known c.args.pipes.now c.args.table.now.rows.items c.args.table.now.places.items c.args.place c.requires.writes.place c.requires.sound c.requires.writes.there c.requires.writes.held c.index_mut.result.now c.requires.writes.writes c.index_mut.ensures.value (sym c.take.ensures.value ∙ c.in-None.is)
+
+pub returns-in-Some-clause-others : goal.returns-in-Some-clause-others
+returns-in-Some-clause-others g c =
+    let p = c.requires.writes.place in
+    let same = place_found c.args.table.now.places.items c.args.place p c.index_mut-in-Some.result.now c.requires.writes.there c.index_mut-in-Some.ensures.value in
+    leaves_changed g.P.Pipes.known c.args.pipes.now c.args.table.now _ c.args.place p (record p { held = false; writes = false }) c.requires.writes.there
+    (record { end_is = refl; written_is = refl; read_is = refl; held = λ h. absurd (true≢false (sym h)); writes = λ w. absurd (true≢false (sym w)) })
+    (ap (set c.args.table.now.places.items c.args.place) (c.forget.ensures ∙ ap (λ (x : Place _ _). record x { held = false; writes = false }) same)) refl

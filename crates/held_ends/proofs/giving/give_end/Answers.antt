@@ -1,4 +1,4 @@
-use Rattle.std.proofs.Common.{sym, ap, ◌∙◌, subst, arith, set, Some, None, ◌≡◌}
+use Rattle.std.proofs.Common.{sym, ap, ◌∙◌, subst, arith, set, Some, None, ◌≡◌, refl, true≢false}
 use Rattle.ctl_holder.specs.declared.given.Given.{Given}
 use Rattle.held_ends.specs.declared.table.Place.{Place}
 use Rattle.held_ends.specs.Sound.{IsSound}
@@ -6,6 +6,7 @@ use Rattle.held_ends.specs.Giving.{GivenAt, given_of, gone_place}
 use Rattle.held_ends.proofs.PlaceLemmas.{place_within, place_found}
 use Rattle.held_ends.proofs.SoundLemmas.{one_some}
 use Rattle.held_ends.proofs.HalfLemmas.{within, found_row, row_writes, none_yielded, reading_there, given_sound, given_both, given_half}
+use Rattle.held_ends.proofs.OthersLemmas.{leaves_changed}
 use Rattle.held_ends.proofs.giving.give_end.Goals as goal
 
 pub index_mut-requires : goal.index_mut-requires
@@ -63,3 +64,22 @@ unreachable-requires g c =
   where
     none_some : {X : Type 0} (x : X) → None ≡ Some x → ⊥
     none_some x f = grind arith
+
+pub returns-in-Some-clause-others : goal.returns-in-Some-clause-others
+returns-in-Some-clause-others g c =
+    let p = c.requires.there.place in
+    let same = place_found c.args.table.now.places.items c.args.place p c.index_mut-in-Some.result.now c.requires.there.there c.index_mut-in-Some.ensures.value in
+    leaves_changed g.P.Pipes.known c.args.pipes.now c.args.table.now _ c.args.place p (gone_place p) c.requires.there.there
+    (record { end_is = refl; written_is = refl; read_is = refl; held = λ h. absurd (true≢false (sym h)); writes = λ w. absurd (true≢false (sym w)) })
+    (ap (set c.args.table.now.places.items c.args.place) (c.part_with.ensures.gone ∙ ap gone_place same)) refl
+
+pub returns-in-Some-part_reading-clause-others : goal.returns-in-Some-part_reading-clause-others
+returns-in-Some-part_reading-clause-others g c =
+    let p = c.requires.there.place in
+    let same = place_found c.args.table.now.places.items c.args.place p c.index_mut-in-None.result.now c.requires.there.there c.index_mut-in-None.ensures.value in
+    let yielded = none_yielded g.P.Pipes.known c.args.pipes.now c.args.table.now.rows.items c.args.table.now.places.items c.args.place p c.requires.sound c.requires.there.there c.requires.there.held c.index_mut.result.now c.index_mut.ensures.value (sym c.take.ensures.value ∙ c.in-None.is) in
+    let s = reading_there g.P.Pipes.known c.args.pipes.now c.args.table.now.rows.items c.args.table.now.places.items c.args.place p c.requires.sound c.requires.there.there c.requires.there.held yielded in
+    let e = c.part_reading.ensures s.0 (ap (λ (x : Place _ _). x.input) same ∙ s.2) in
+    leaves_changed g.P.Pipes.known c.args.pipes.now c.args.table.now _ c.args.place p (gone_place p) c.requires.there.there
+    (record { end_is = refl; written_is = refl; read_is = refl; held = λ h. absurd (true≢false (sym h)); writes = λ w. absurd (true≢false (sym w)) })
+    (ap (set c.args.table.now.places.items c.args.place) (e.1 ∙ ap gone_place same)) refl

@@ -5,6 +5,7 @@ use Rattle.held_ends.specs.declared.table.Place.{Place}
 use Rattle.held_ends.proofs.PlaceLemmas.{place_found}
 use Rattle.held_ends.proofs.EndsLemmas.{some_place}
 use Rattle.held_ends.proofs.GivingLemmas.{Giving, gives_not, gives_one, all_given}
+use Rattle.held_ends.proofs.OthersLemmas.{leaves_on}
 use Rattle.held_ends.proofs.giving.give_ends.Goals as goal
 
 pub each-preserved-then-not-index : goal.each-preserved-then-not-index
@@ -16,6 +17,7 @@ each-preserved-then-not-index g c =
           c.each.invariant.so_far p.1 (sym (ap (λ (x : Place _ _). x.held) (place_found c.each.table.places.items c.each.place p.0 c.index.result.now p.1 c.index.ensures)) ∙ c.if-not-index.true);
       given = c.each.invariant.given;
       joined = c.each.invariant.joined;
+      others = c.each.invariant.others;
     }
 
 pub give_end-end-requires-clause-there : goal.give_end-end-requires-clause-there
@@ -42,6 +44,7 @@ each-preserved g c =
           c.each.invariant.so_far p.1 (sym (ap (λ (x : Place _ _). x.held) (place_found c.each.table.places.items c.each.place p.0 c.index.result.now p.1 c.index.ensures)) ∙ c.if-not-index.false) c.give_end-end.ensures.sound c.give_end-end.ensures.given));
       given = c.push_reserved-in-each.ensures.capacity ∙ c.each.invariant.given;
       joined = c.push_reserved.ensures.capacity ∙ c.each.invariant.joined;
+      others = leaves_on K c.args.pipes.now c.args.pipes.now c.args.pipes.now c.args.table.now c.each.table c.give_end-end.new.table c.each.invariant.others c.give_end-end.ensures.others;
     }
 
 pub returns-clause-gone : goal.returns-clause-gone
@@ -53,3 +56,6 @@ pub returns-clause-given : goal.returns-clause-given
 returns-clause-given g c =
     (all_given g.P.Pipes.known c.args.pipes.now c.args.table.now.places.items c.each.place c.each.table.rows.items c.each.table.places.items c.each.given.items c.each.joined.items
     c.each.invariant.so_far (let t = c.each-test.false in let n = c.len-many.ensures in omega (arith, t, n))).1
+
+pub returns-clause-others : goal.returns-clause-others
+returns-clause-others g c = c.each.invariant.others

@@ -1,5 +1,6 @@
 use Rattle.std.proofs.Common.{◌≡◌}
 use Rattle.std.specs.Prelude.{vec_capacity}
+use Rattle.held_ends.specs.Others.{Leaves}
 use Rattle.held_ends.proofs.GivingLemmas.{Giving}
 use Rattle.held_ends.proofs.giving.give_ends.Given as goal
 
@@ -9,4 +10,5 @@ invariant-each g l = record {
   so_far : Giving g.P.Pipes.known l.pipes l.fn.table.places.items l.place l.table.rows.items l.table.places.items l.given.items l.joined.items;
   given : vec_capacity l.given ≡ vec_capacity l.fn.given;
   joined : vec_capacity l.joined ≡ vec_capacity l.fn.joined;
+  others : Leaves g.P.Pipes.known l.pipes l.fn.table l.pipes l.table;
 }

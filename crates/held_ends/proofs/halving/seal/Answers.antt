@@ -1,10 +1,11 @@
-use Rattle.std.proofs.Common.{sym, ap, ◌∙◌, subst, arith, set, Some, true}
+use Rattle.std.proofs.Common.{sym, ap, ◌∙◌, subst, arith, set, Some, true, refl}
 use Rattle.std.specs.Box.{with_value}
 use Rattle.msg_pipe.specs.Known.{IsThere}
 use Rattle.held_ends.specs.declared.table.Place.{Place}
 use Rattle.held_ends.specs.Sound.{IsSound}
 use Rattle.held_ends.proofs.PlaceLemmas.{place_within, place_found}
 use Rattle.held_ends.proofs.HalfLemmas.{found_row, never_none, within, sealed_sound, sealed_already}
+use Rattle.held_ends.proofs.OthersLemmas.{place_now, leaves_out}
 use Rattle.held_ends.proofs.halving.seal.Goals as goal
 
 pub index-requires : goal.index-requires
@@ -65,3 +66,15 @@ returns-clause-sealed g c =
       there = c.requires.writes.there;
       now = ap (λ (x : Place _ _). set c.args.table.now.places.items c.args.place (record x { sealed = true })) same;
     }
+
+pub returns-clause-others : goal.returns-clause-others
+returns-clause-others g c =
+    let p = c.requires.writes.place in
+    let f = found_row g.P.Pipes.known c.args.pipes.now c.args.table.now.rows.items c.args.table.now.places.items c.args.place p c.requires.sound c.requires.writes.there c.requires.writes.held
+    c.index_mut.result.now c.in-Some.row c.deref_mut.result.now c.requires.writes.writes c.index_mut.ensures.value c.in-Some.is c.deref_mut.ensures.value in
+    let same = place_found c.args.table.now.places.items c.args.place p c.index_mut-2.result.now c.requires.writes.there c.index_mut-2.ensures.value in
+    leaves_out g.P.Pipes.known c.args.pipes.now c.seal_row.new.pipes c.args.table.now _ c.args.place p c.requires.writes.there c.requires.writes.held
+    (place_now c.args.table.now.places.items _ c.args.place p (record p { sealed = true }) c.requires.writes.there
+    (record { end_is = refl; written_is = refl; read_is = refl; held = λ h. h; writes = λ w. w })
+    (ap (λ (x : Place _ _). set c.args.table.now.places.items c.args.place (record x { sealed = true })) same))
+    c.deref_mut.result.now.out c.seal_row.new.row.out c.requires.writes.writes f.1.name_is c.seal_row.ensures.keeps refl

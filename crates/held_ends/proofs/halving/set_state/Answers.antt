@@ -1,10 +1,11 @@
-use Rattle.std.proofs.Common.{sym, ap, ◌∙◌, subst, arith, set, Some, Bool}
+use Rattle.std.proofs.Common.{sym, ap, ◌∙◌, subst, arith, set, Some, Bool, refl}
 use Rattle.std.specs.Box.{with_value}
 use Rattle.ends.specs.declared.row.EndRow.{EndRow}
 use Rattle.held_ends.specs.declared.table.Place.{Place}
 use Rattle.held_ends.specs.Sound.{IsSound, can_write}
 use Rattle.held_ends.proofs.PlaceLemmas.{place_within, place_found}
 use Rattle.held_ends.proofs.HalfLemmas.{within, found_row, never_none, stated_sound, read_sound}
+use Rattle.held_ends.proofs.OthersLemmas.{leaves_changed}
 use Rattle.held_ends.proofs.halving.set_state.Goals as goal
 
 pub index-requires : goal.index-requires
@@ -61,3 +62,19 @@ unreachable-requires g c =
     let here = place_found c.args.table.now.places.items c.args.place c.requires.there.place c.index.result.now c.requires.there.there c.index.ensures in
     let writes = sym (ap (λ (x : Place _ _). x.writes) here) ∙ c.if-not-index.false in
     never_none g.P.Pipes.known c.args.pipes.now c.args.table.now.rows.items c.args.table.now.places.items c.args.place c.requires.there.place c.requires.sound c.requires.there.there c.requires.there.held c.index_mut-3.result.now writes c.index_mut-3.ensures.value c.in-None.is
+
+pub returns-then-not-index-clause-others : goal.returns-then-not-index-clause-others
+returns-then-not-index-clause-others g c =
+    let p = c.requires.there.place in
+    let same = place_found c.args.table.now.places.items c.args.place p c.index_mut.result.now c.requires.there.there c.index_mut.ensures.value in
+    leaves_changed g.P.Pipes.known c.args.pipes.now c.args.table.now _ c.args.place p (record p { state = c.args.state; peer = c.args.peer }) c.requires.there.there
+    (record { end_is = refl; written_is = refl; read_is = refl; held = λ h. h; writes = λ w. w })
+    (ap (set c.args.table.now.places.items c.args.place) (c.turn.ensures.turned ∙ ap (λ (x : Place _ _). record x { state = c.args.state; peer = c.args.peer }) same)) refl
+
+pub returns-in-Some-clause-others : goal.returns-in-Some-clause-others
+returns-in-Some-clause-others g c =
+    let p = c.requires.there.place in
+    let same = place_found c.args.table.now.places.items c.args.place p c.index_mut-2.result.now c.requires.there.there c.index_mut-2.ensures.value in
+    leaves_changed g.P.Pipes.known c.args.pipes.now c.args.table.now _ c.args.place p (record p { state = c.args.state; peer = c.args.peer }) c.requires.there.there
+    (record { end_is = refl; written_is = refl; read_is = refl; held = λ h. h; writes = λ w. w })
+    (ap (set c.args.table.now.places.items c.args.place) (c.turn-writable.ensures.turned ∙ ap (λ (x : Place _ _). record x { state = c.args.state; peer = c.args.peer }) same)) refl

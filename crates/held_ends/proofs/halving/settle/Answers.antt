@@ -1,10 +1,11 @@
-use Rattle.std.proofs.Common.{sym, ap, ◌∙◌, subst, arith, set, None, false}
+use Rattle.std.proofs.Common.{sym, ap, ◌∙◌, subst, arith, set, None, false, refl, true≢false, ◌++◌, ◌∷◌, []}
 use Rattle.msg_pipe.specs.Known.{IsThere}
 use Rattle.held_ends.specs.declared.table.Place.{Place}
 use Rattle.held_ends.specs.Sound.{IsSound}
 use Rattle.held_ends.proofs.PlaceLemmas.{place_within, place_found}
 use Rattle.held_ends.proofs.SoundLemmas.{one_some}
 use Rattle.held_ends.proofs.HalfLemmas.{reading_there, settled_sound, adds_up, nothing_left, no_input}
+use Rattle.held_ends.proofs.OthersLemmas.{place_now, leaves_settled}
 use Rattle.held_ends.proofs.halving.settle.Goals as goal
 
 pub index_mut-requires : goal.index_mut-requires
@@ -50,3 +51,14 @@ unreachable-requires g c =
     let s = reading_there g.P.Pipes.known c.args.pipes.now c.args.table.now.rows.items c.args.table.now.places.items c.args.place c.requires.reads.place c.requires.sound c.requires.reads.there c.requires.reads.held c.requires.reads.yielded in
     let same = place_found c.args.table.now.places.items c.args.place c.requires.reads.place c.index_mut.result.now c.requires.reads.there c.index_mut.ensures.value in
     no_input s.0 c.give_reading.result c.in-None.is (c.give_reading.ensures.half ∙ ap (λ (x : Place _ _). x.input) same ∙ s.2)
+
+pub returns-in-Some-clause-others : goal.returns-in-Some-clause-others
+returns-in-Some-clause-others g c =
+    let p = c.requires.reads.place in
+    let same = place_found c.args.table.now.places.items c.args.place p c.index_mut.result.now c.requires.reads.there c.index_mut.ensures.value in
+    leaves_settled g.P.Pipes.known c.args.pipes.now c.settle.new.self c.args.table.now _ c.args.place p c.requires.reads.there c.requires.reads.held
+    (place_now c.args.table.now.places.items _ c.args.place p (record p { held = false; input = None }) c.requires.reads.there
+    (record { end_is = refl; written_is = refl; read_is = refl; held = λ h. absurd (true≢false (sym h)); writes = λ w. w })
+    (ap (set c.args.table.now.places.items c.args.place) (c.give_reading.ensures.gone ∙ ap (λ (x : Place _ _). record x { held = false; input = None }) same)))
+    (g.P.Pipes.known.out_name c.args.writer) (sym c.requires.reads.pipe) c.settle.ensures.keeps
+    (c.and-table.ensures ∙ ap (λ (n : _). c.args.table.now.settled.items ++ (n, tt) ∷ []) c.name-name.ensures)

@@ -1,4 +1,4 @@
-use Rattle.std.proofs.Common.{sym, ap, ◌∙◌, subst, arith, set, Option, Some, None, false}
+use Rattle.std.proofs.Common.{sym, ap, ◌∙◌, subst, arith, set, Option, Some, None, false, refl, true≢false}
 use Rattle.std.specs.Prelude.{Box}
 use Rattle.std.specs.declared.alloc.Global.{Global}
 use Rattle.ends.specs.declared.row.EndRow.{EndRow}
@@ -7,6 +7,7 @@ use Rattle.held_ends.specs.declared.table.Place.{Place}
 use Rattle.held_ends.specs.Sound.{IsSound}
 use Rattle.held_ends.proofs.PlaceLemmas.{place_within, place_found}
 use Rattle.held_ends.proofs.HalfLemmas.{found_row, never_none, within, yielded_sound}
+use Rattle.held_ends.proofs.OthersLemmas.{place_now, leaves_out}
 use Rattle.held_ends.proofs.halving.yield_writer.Goals as goal
 
 pub index_mut-requires : goal.index_mut-requires
@@ -48,3 +49,16 @@ returns-in-Some-clause-yielded g c =
 pub unreachable-requires : goal.unreachable-requires
 unreachable-requires g c =
     never_none g.P.Pipes.known c.args.pipes.now c.args.table.now.rows.items c.args.table.now.places.items c.args.place c.requires.writes.place c.requires.sound c.requires.writes.there c.requires.writes.held c.index_mut.result.now c.requires.writes.writes c.index_mut.ensures.value (sym c.take.ensures.value ∙ c.in-None.is)
+
+pub returns-in-Some-clause-others : goal.returns-in-Some-clause-others
+returns-in-Some-clause-others g c =
+    let p = c.requires.writes.place in
+    let r = c.into_inner-out.result in
+    let f = found_row g.P.Pipes.known c.args.pipes.now c.args.table.now.rows.items c.args.table.now.places.items c.args.place p c.requires.sound c.requires.writes.there c.requires.writes.held
+    c.index_mut.result.now c.in-Some.row r c.requires.writes.writes c.index_mut.ensures.value (sym c.take.ensures.value ∙ c.in-Some.is) c.into_inner-out.ensures in
+    let same = place_found c.args.table.now.places.items c.args.place p c.index_mut-in-Some.result.now c.requires.writes.there c.index_mut-in-Some.ensures.value in
+    leaves_out g.P.Pipes.known c.args.pipes.now c.rollback.new.self c.args.table.now _ c.args.place p c.requires.writes.there c.requires.writes.held
+    (place_now c.args.table.now.places.items _ c.args.place p (record p { writes = false; peer = false; input = Some r.input }) c.requires.writes.there
+    (record { end_is = refl; written_is = refl; read_is = refl; held = λ h. h; writes = λ w. absurd (true≢false (sym w)) })
+    (ap (set c.args.table.now.places.items c.args.place) (c.keep_reading.ensures ∙ ap (λ (x : Place _ _). record x { writes = false; peer = false; input = Some r.input }) same)))
+    r.out c.rollback.new.o c.requires.writes.writes f.1.name_is c.rollback.ensures.keeps refl

@@ -1,15 +1,17 @@
-use Rattle.std.proofs.Common.{◌∷◌, [], set, sym, ap, ◌∙◌, subst, arith}
+use Rattle.std.proofs.Common.{◌∷◌, [], set, sym, ap, ◌∙◌, subst, arith, refl}
 use Rattle.spec_pattern.specs.PipeStep.{read_through}
 use Rattle.msg_pipe.specs.Told.{front_step}
 use Rattle.zq_base.specs.Ends.{PipeId}
-use Rattle.ends.specs.Rows.{table, end_of}
+use Rattle.ends.specs.Rows.{table, row_at, end_of}
 use Rattle.ends.specs.Runs.{DoesAll}
 use Rattle.held_ends.specs.declared.table.Place.{Place}
 use Rattle.held_ends.specs.Sound.{IsSound}
 use Rattle.held_ends.specs.Looking.{met_after}
 use Rattle.held_ends.proofs.PlaceLemmas.{place_within, place_found}
 use Rattle.held_ends.proofs.EndsLemmas.{ends_held}
-use Rattle.held_ends.proofs.LookLemmas.{row_of, look_sound}
+use Rattle.held_ends.proofs.LookLemmas.{row_of, look_sound, front_unsealed}
+use Rattle.held_ends.proofs.CallLemmas.{calls_leave}
+use Rattle.held_ends.proofs.OthersLemmas.{leaves_on, leaves_changed}
 use Rattle.held_ends.proofs.looking.look.Goals as goal
 
 pub front_at-found-requires-clause-held : goal.front_at-found-requires-clause-held
@@ -50,3 +52,15 @@ returns-clause-looked g c =
     let same = place_found t.places.items c.args.place w.place c.index_mut.result.now w.there c.index_mut.ensures.value in
     let now = c.meet.ensures ∙ ap (λ (p : Place _ _). record p { met = met_after found p.met }) same in
     record { place = w.place; there = w.there; does = does; now = ap (set t.places.items c.args.place) now }
+
+pub returns-clause-others : goal.returns-clause-others
+returns-clause-others g c =
+    let t = c.args.table.now in
+    let w = c.requires.writes in
+    let found = c.front_at-found.result in
+    let same = place_found t.places.items c.args.place w.place c.index_mut.result.now w.there c.index_mut.ensures.value in
+    leaves_on g.P.Pipes.known c.args.pipes.now c.front_at-found.new.pipes c.front_at-found.new.pipes t t _
+    (calls_leave g.P.Pipes.known (front_step (read_through (end_of (row_at t.rows.items c.args.place))) found ∷ []) (table c.args.pipes.now t.rows.items) (table c.front_at-found.new.pipes c.front_at-found.new.rows.items) t t c.front_at-found.ensures (front_unsealed (read_through (end_of (row_at t.rows.items c.args.place))) found) c.requires.sound refl refl)
+    (leaves_changed g.P.Pipes.known c.front_at-found.new.pipes t _ c.args.place w.place (record w.place { met = met_after found w.place.met }) w.there
+    (record { end_is = refl; written_is = refl; read_is = refl; held = λ h. h; writes = λ w. w })
+    (ap (set t.places.items c.args.place) (c.meet.ensures ∙ ap (λ (p : Place _ _). record p { met = met_after found p.met }) same)) refl)

@@ -8,6 +8,7 @@ use Rattle.sock_core.specs.Sound.{KeepsRoom}
 use Rattle.sock_core.specs.Peers.{ArePeers}
 use Rattle.sock_core.proofs.FindLemmas.{found, not_found, alone_of, held_is, never}
 use Rattle.sock_core.proofs.FormLemmas.{sound_of, are_sound}
+use Rattle.sock_core.proofs.GoneLemmas.{never_gone}
 use Rattle.sock_core.proofs.HolderLemmas.{flag_at}
 use Rattle.sock_core.proofs.PeerLemmas.{kept_same}
 use Rattle.sock_mail.proofs.LentLemmas.{writer_held}
@@ -37,6 +38,9 @@ invariant_of-holder g c =
       peers = λ is. subst (λ (l : List (Place _ _)). ArePeers l (g.C.Joins.peers s.core.kind)) (sym x.now)
           (kept_same s.core.ends.places.items (g.C.Joins.peers s.core.kind) (s.peers is) c.in-Some.place x.place q (g.C.Joins.peers s.core.kind) x.there refl (All-contains_itself (g.C.Joins.peers s.core.kind)));
       room = subst (λ (n : ℕ). KeepsRoom s.core.is_open n s.core.room) (sym (ap length x.now ∙ length-set s.core.ends.places.items c.in-Some.place q)) s.room;
+      gone = λ is. let f = found (is_of c.args.end) s.core.ends.places.items c.in-Some.place (sym c.in-Some.is ∙ c.find.ensures ∙ ap (λ (l : List (Place _ _)). position (is_of c.args.end) l) c.deref.ensures.value) in never_gone c.args.end s.core.ends.places.items c.in-Some.place f.0 (s.gone is) f.1 f.2;
+      others = λ a t b. absurd b;
+      number = λ a t b. absurd b;
     }
 
 pub unreachable-requires : goal.unreachable-requires

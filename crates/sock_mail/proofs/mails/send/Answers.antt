@@ -1,7 +1,9 @@
-use Rattle.std.proofs.Common.{List, sym, subst}
+use Rattle.std.proofs.Common.{List, refl, sym, subst}
 use Rattle.held_ends.specs.declared.table.Place.{Place}
 use Rattle.sock_core.proofs.FormLemmas.{sound_of, are_sound}
-use Rattle.sock_mail.specs.Lent.{lent, IsWhole}
+use Rattle.ends.specs.Rows.{table}
+use Rattle.held_ends.proofs.CallLemmas.{calls_leave}
+use Rattle.sock_mail.specs.Lent.{lent, IsWhole, MakesSome}
 use Rattle.sock_mail.proofs.mails.send.Goals as goal
 
 pub send_over-requires : goal.send_over-requires
@@ -18,4 +20,17 @@ invariant_of-holder g c =
       sound = are_sound g.P.Pipes.known c.send_over.new.pipes c.send_over.new.rows.items c.args.holder.now.core.ends.places.items w.sound;
       peers = λ is. w.peers;
       room = c.args.holder.now.room;
+      gone = c.args.holder.now.gone;
+      others = λ s t b. absurd b;
+      number = λ s t b. absurd b;
     }
+
+pub returns-clause-others : goal.returns-clause-others
+returns-clause-others g c =
+    let K = g.P.Pipes.known in
+    let s = c.args.holder.now in
+    let t = s.core.ends in
+    let made : MakesSome K (lent s.pipes t.rows.items t.places.items s.core.kind) (lent c.send_over.new.pipes c.send_over.new.rows.items t.places.items c.send_over.new.kind) =
+    subst (λ (l : List (Place _ _)). MakesSome K (lent s.pipes t.rows.items l s.core.kind) (lent c.send_over.new.pipes c.send_over.new.rows.items l c.send_over.new.kind)) c.deref.ensures.value c.send_over.ensures.made in
+    calls_leave K made.steps (table s.pipes t.rows.items) (table c.send_over.new.pipes c.send_over.new.rows.items) t _ made.makes.does made.makes.unsealing
+    (sound_of K s.pipes t.rows.items t.places.items s.sound) refl refl

@@ -1,4 +1,4 @@
-use Rattle.std.proofs.Common.{refl, ◌≡◌, ◌+◌, ◌∙◌, ◌==◌, ◌++◌, ◌∷◌, [], ℕ, List, length, length-append, sym, ap, subst, arith}
+use Rattle.std.proofs.Common.{refl, ◌≡◌, ◌+◌, ◌∙◌, ◌==◌, ◌++◌, ◌∷◌, [], ℕ, List, length, length-append, sym, ap, subst, arith, true≢false}
 use Rattle.std.specs.List.{list_any}
 use Rattle.zq_base.specs.declared.kind.Kind.{Kind}
 use Rattle.ends.specs.Rows.{Rows}
@@ -15,6 +15,7 @@ use Rattle.sock_core.specs.Peers.{ArePeers, AddsPeer}
 use Rattle.sock_core.proofs.PeerLemmas.{below, kept_more}
 use Rattle.zq_base.specs.declared.ids.EndId.{EndId}
 use Rattle.sock_core.specs.Standing.{joining_as, standing_joins}
+use Rattle.held_ends.proofs.OthersLemmas.{leaves_on, leaves_unchanged}
 use Rattle.sock_core.proofs.holder.SockHolderHolder.attach.Goals as goal
 
 pub join-requires-clause-sound : goal.join-requires-clause-sound
@@ -46,6 +47,12 @@ invariant_of-self-in-Ok-attach g c =
           (kept_more c.args.self.now.core.ends.places.items (g.C.Joins.peers c.args.self.now.core.kind) (c.args.self.now.peers is) c.in-Ok-attach.answer (new_place c.in-Ok-prepare.row.value.end (g.P.Pipes.known.out_name c.in-Ok-prepare.row.value.out) (g.P.Pipes.known.in_name c.in-Ok-prepare.row.value.input) c.is_taken.result) (g.C.Joins.peers c.attach.new.self) refl refl c.is_taken.ensures
           (subst (λ (n : ℕ). AddsPeer c.in-Ok-attach.answer n (g.C.Joins.peers c.args.self.now.core.kind) (g.C.Joins.peers c.attach.new.self)) place c.in-Ok-attach.ensures.peers));
       room = room_of c.args.self.now.core.is_open (c.len-place.result + 1) (length c.join.new.table.places.items) c.keep.new.self (omega (arith, place, long)) c.in-Ok.ensures.ok;
+      gone = λ is. absurd (true≢false (sym (open_of c.args.self.now.core.is_open (c.args.o.0 == c.args.self.now.core.number.0) c.requires.here) ∙ is));
+      others = λ s t b. leaves_on g.P.Pipes.known s c.args.self.now.pipes c.args.self.now.pipes t c.prepare.new.table c.join.new.table
+          (leaves_on g.P.Pipes.known s c.args.self.now.pipes c.args.self.now.pipes t c.args.self.now.core.ends c.prepare.new.table (c.args.self.now.others s t b)
+          (leaves_unchanged g.P.Pipes.known c.args.self.now.pipes c.args.self.now.core.ends c.prepare.new.table c.prepare.ensures.kept))
+          c.join.ensures.others;
+      number = c.args.self.now.number;
     }
 
 pub returns-in-Ok-attach-clause-ok : goal.returns-in-Ok-attach-clause-ok

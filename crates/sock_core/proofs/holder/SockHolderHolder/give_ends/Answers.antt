@@ -4,6 +4,7 @@ use Rattle.sock_core.specs.Has.{told_in}
 use Rattle.sock_core.proofs.FormLemmas.{sound_of, are_sound}
 use Rattle.sock_core.proofs.JoinLemmas.{mine_of}
 use Rattle.sock_core.proofs.GiveLemmas.{told_of, writing_of, stated_of, ends_of, given_all, given_turns}
+use Rattle.held_ends.proofs.OthersLemmas.{leaves_on}
 use Rattle.sock_core.proofs.holder.SockHolderHolder.give_ends.Goals as goal
 
 pub give_ends-requires-clause-sound : goal.give_ends-requires-clause-sound
@@ -19,6 +20,9 @@ invariant_of-self g c = record {
     none_given = c.hand_over-ends.ensures.left.0;
     none_joined = c.hand_over-ends.ensures.left.1;
   };
+  gone = λ is. c.give_ends.ensures.gone;
+  others = λ s t b. leaves_on g.P.Pipes.known s c.args.self.now.pipes c.args.self.now.pipes t c.args.self.now.core.ends c.give_ends.new.table (c.args.self.now.others s t b) c.give_ends.ensures.others;
+  number = c.args.self.now.number;
 }
 
 pub returns-clause-all : goal.returns-clause-all

@@ -1,8 +1,9 @@
 use Rattle.sock_core.proofs.FormLemmas.{sound_of, are_sound}
+use Rattle.held_ends.proofs.OthersLemmas.{leaves_on}
 use Rattle.sock_core.proofs.holder.SockHolderHolder.make.Goals as goal
 
 pub make-requires-clause-sound : goal.make-requires-clause-sound
 make-requires-clause-sound g c = sound_of g.P.Pipes.known c.args.self.now.pipes c.args.self.now.core.ends.rows.items c.args.self.now.core.ends.places.items c.args.self.now.sound
 
 pub invariant_of-self : goal.invariant_of-self
-invariant_of-self g c = record { sound = are_sound g.P.Pipes.known c.make.new.pipes c.args.self.now.core.ends.rows.items c.args.self.now.core.ends.places.items c.make.ensures.sound; peers = c.args.self.now.peers; room = c.args.self.now.room }
+invariant_of-self g c = record { sound = are_sound g.P.Pipes.known c.make.new.pipes c.args.self.now.core.ends.rows.items c.args.self.now.core.ends.places.items c.make.ensures.sound; peers = c.args.self.now.peers; room = c.args.self.now.room; gone = c.args.self.now.gone; others = λ s t b. leaves_on g.P.Pipes.known s c.args.self.now.pipes c.make.new.pipes t c.args.self.now.core.ends c.args.self.now.core.ends (c.args.self.now.others s t b) c.make.ensures.others; number = c.args.self.now.number }

@@ -13,6 +13,8 @@ use Rattle.sock_core.specs.Sound.{KeepsRoom}
 use Rattle.std.proofs.lemmas.List.Elements.{All-contains_itself}
 use Rattle.sock_core.specs.Peers.{ArePeers}
 use Rattle.sock_core.proofs.PeerLemmas.{kept_same}
+use Rattle.held_ends.proofs.OthersLemmas.{leaves_on}
+use Rattle.sock_core.proofs.GoneLemmas.{never_gone}
 use Rattle.sock_core.proofs.holder.SockHolderHolder.seal.Goals as goal
 
 pub seal-requires-clause-sound : goal.seal-requires-clause-sound
@@ -30,12 +32,16 @@ seal-requires-clause-writes g c =
 
 pub invariant_of-self : goal.invariant_of-self
 invariant_of-self g c =
+    let f = found (is_of c.args.end) c.args.self.now.core.ends.places.items c.in-Some.place (sym c.in-Some.is ∙ c.find.ensures ∙ ap (λ (l : List (Place _ _)). position (is_of c.args.end) l) c.deref.ensures.value) in
     let s = c.seal.ensures.sealed in
     let same = ap length s.now ∙ length-set c.args.self.now.core.ends.places.items c.in-Some.place _ in
     record {
       sound = are_sound g.P.Pipes.known c.seal.new.pipes c.seal.new.table.rows.items c.seal.new.table.places.items c.seal.ensures.sound;
       peers = λ is. subst (λ (l : List (Place _ _)). ArePeers l (g.C.Joins.peers c.args.self.now.core.kind)) (sym s.now) (kept_same c.args.self.now.core.ends.places.items (g.C.Joins.peers c.args.self.now.core.kind) (c.args.self.now.peers is) c.in-Some.place s.place (record s.place { sealed = true }) (g.C.Joins.peers c.args.self.now.core.kind) s.there refl (All-contains_itself (g.C.Joins.peers c.args.self.now.core.kind)));
       room = subst (λ (n : ℕ). KeepsRoom c.args.self.now.core.is_open n c.args.self.now.core.room) (sym same) c.args.self.now.room;
+      gone = λ is. never_gone c.args.end c.args.self.now.core.ends.places.items c.in-Some.place f.0 (c.args.self.now.gone is) f.1 f.2;
+      others = λ s t b. leaves_on g.P.Pipes.known s c.args.self.now.pipes c.seal.new.pipes t c.args.self.now.core.ends c.seal.new.table (c.args.self.now.others s t b) c.seal.ensures.others;
+      number = c.args.self.now.number;
     }
 
 pub unreachable-requires : goal.unreachable-requires

@@ -15,6 +15,8 @@ use Rattle.std.proofs.Common.{ℕ, length, length-set}
 use Rattle.sock_core.specs.Sound.{KeepsRoom}
 use Rattle.sock_core.specs.Peers.{ArePeers}
 use Rattle.sock_core.proofs.PeerLemmas.{kept_stated}
+use Rattle.held_ends.proofs.OthersLemmas.{leaves_on}
+use Rattle.sock_core.proofs.GoneLemmas.{never_gone}
 use Rattle.sock_core.proofs.holder.SockHolderHolder.set_state.Goals as goal
 
 pub set_state-requires-clause-sound : goal.set_state-requires-clause-sound
@@ -27,6 +29,7 @@ set_state-requires-clause-there g c =
 
 pub invariant_of-self : goal.invariant_of-self
 invariant_of-self g c =
+    let f = found (is_of c.args.end) c.args.self.now.core.ends.places.items c.in-Some.place (sym c.in-Some.is ∙ c.find.ensures ∙ ap (λ (l : List (Place _ _)). position (is_of c.args.end) l) c.deref.ensures.value) in
     let s = c.set_state.ensures.stated in
     let same = ap length s.now ∙ length-set c.args.self.now.core.ends.places.items c.in-Some.place _ in
     let peer = ap (λ (x : Place _ _). x.peer) (place_found c.args.self.now.core.ends.places.items c.in-Some.place s.place c.index-in-Some.result.now s.there c.index-in-Some.ensures) in
@@ -35,6 +38,9 @@ invariant_of-self g c =
       peers = λ is. subst (λ (l : List (Place _ _)). ArePeers l (g.C.Joins.peers c.stays-peer.new.kind)) (sym s.now)
           (kept_stated c.args.self.now.core.ends.places.items (g.C.Joins.peers c.args.self.now.core.kind) (c.args.self.now.peers is) c.in-Some.place s.place s.there c.index-in-Some.result.now.peer c.stays-peer.result (record s.place { state = c.args.state; peer = c.stays-peer.result }) (g.C.Joins.peers c.stays-peer.new.kind) peer refl refl refl c.stays-peer.ensures.peers);
       room = subst (λ (n : ℕ). KeepsRoom c.args.self.now.core.is_open n c.args.self.now.core.room) (sym same) c.args.self.now.room;
+      gone = λ is. never_gone c.args.end c.args.self.now.core.ends.places.items c.in-Some.place f.0 (c.args.self.now.gone is) f.1 f.2;
+      others = λ s t b. leaves_on g.P.Pipes.known s c.args.self.now.pipes c.args.self.now.pipes t c.args.self.now.core.ends c.set_state.new.table (c.args.self.now.others s t b) c.set_state.ensures.others;
+      number = c.args.self.now.number;
     }
 
 pub returns-in-Some-clause-stays : goal.returns-in-Some-clause-stays

@@ -12,6 +12,8 @@ use Rattle.std.proofs.Common.{ℕ, length, length-set}
 use Rattle.sock_core.specs.Sound.{KeepsRoom}
 use Rattle.sock_core.specs.Peers.{ArePeers}
 use Rattle.sock_core.proofs.PeerLemmas.{kept_settled}
+use Rattle.held_ends.proofs.OthersLemmas.{leaves_on}
+use Rattle.sock_core.proofs.GoneLemmas.{never_gone}
 use Rattle.sock_core.proofs.holder.SockHolderHolder.settle.Goals as goal
 
 pub settle-requires-clause-sound : goal.settle-requires-clause-sound
@@ -40,6 +42,9 @@ invariant_of-self g c =
       sound = are_sound g.P.Pipes.known c.settle.new.pipes c.settle.new.table.rows.items c.settle.new.table.places.items c.settle.ensures.sound;
       peers = λ is. subst (λ (l : List (Place _ _)). ArePeers l (g.C.Joins.peers c.args.self.now.core.kind)) (sym s.now) (kept_settled c.args.self.now.core.ends.places.items (g.C.Joins.peers c.args.self.now.core.kind) (c.args.self.now.peers is) c.in-Some.place f.0 f.1 (record s.place { held = false; input = None }) off);
       room = subst (λ (n : ℕ). KeepsRoom c.args.self.now.core.is_open n c.args.self.now.core.room) (sym same) c.args.self.now.room;
+      gone = λ is. never_gone c.args.end c.args.self.now.core.ends.places.items c.in-Some.place f.0 (c.args.self.now.gone is) f.1 f.2;
+      others = λ s t b. leaves_on g.P.Pipes.known s c.args.self.now.pipes c.settle.new.pipes t c.args.self.now.core.ends c.settle.new.table (c.args.self.now.others s t b) c.settle.ensures.others;
+      number = c.args.self.now.number;
     }
 
 pub returns-in-Some-clause-read_out : goal.returns-in-Some-clause-read_out

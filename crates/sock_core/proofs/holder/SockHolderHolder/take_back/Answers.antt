@@ -17,6 +17,8 @@ use Rattle.sock_core.proofs.PeerLemmas.{kept_parted}
 use Rattle.spec_control.specs.declared.entry.Joining.{Joining}
 use Rattle.sock_core.specs.Standing.{without_last}
 use Rattle.sock_core.proofs.StandingLemmas.{last_off}
+use Rattle.held_ends.proofs.OthersLemmas.{leaves_on}
+use Rattle.sock_core.proofs.GoneLemmas.{never_gone}
 use Rattle.sock_core.proofs.holder.SockHolderHolder.take_back.Goals as goal
 
 pub take_back-requires-clause-sound : goal.take_back-requires-clause-sound
@@ -34,14 +36,18 @@ take_back-requires-clause-writes g c =
 
 pub invariant_of-self : goal.invariant_of-self
 invariant_of-self g c =
+    let f = found (is_of c.args.end) c.args.self.now.core.ends.places.items c.in-Some.place (sym c.in-Some.is ∙ c.find.ensures ∙ ap (λ (l : List (Place _ _)). position (is_of c.args.end) l) c.deref.ensures.value) in
     let s = c.take_back.ensures.back in
     let same = ap length s.now ∙ length-set c.args.self.now.core.ends.places.items c.in-Some.place _ in
     let peer = ap (λ (x : Place _ _). x.peer) (place_found c.args.self.now.core.ends.places.items c.in-Some.place s.place c.index.result.now s.there c.index.ensures) in
     record {
       sound = are_sound g.P.Pipes.known c.args.self.now.pipes c.take_back.new.table.rows.items c.take_back.new.table.places.items c.take_back.ensures.sound;
-      peers = λ is. subst (λ (l : List (Place _ _)). ArePeers l (g.C.Joins.peers c.part.new.kind)) (sym s.now)
-          (kept_parted c.args.self.now.core.ends.places.items (g.C.Joins.peers c.args.self.now.core.kind) (c.args.self.now.peers is) c.in-Some.place s.place s.there c.index.result.now.peer (record s.place { held = false; writes = false }) (g.C.Joins.peers c.part.new.kind) peer c.part.ensures.peers);
+      peers = λ is. subst (λ (l : List (Place _ _)). ArePeers l (g.C.Joins.peers c.unjoin.new.kind)) (sym s.now)
+          (kept_parted c.args.self.now.core.ends.places.items (g.C.Joins.peers c.args.self.now.core.kind) (c.args.self.now.peers is) c.in-Some.place s.place s.there c.index.result.now.peer (record s.place { held = false; writes = false }) (g.C.Joins.peers c.unjoin.new.kind) peer c.unjoin.ensures.peers);
       room = subst (λ (n : ℕ). KeepsRoom c.args.self.now.core.is_open n c.args.self.now.core.room) (sym same) c.args.self.now.room;
+      gone = λ is. never_gone c.args.end c.args.self.now.core.ends.places.items c.in-Some.place f.0 (c.args.self.now.gone is) f.1 f.2;
+      others = λ s t b. leaves_on g.P.Pipes.known s c.args.self.now.pipes c.args.self.now.pipes t c.args.self.now.core.ends c.take_back.new.table (c.args.self.now.others s t b) c.take_back.ensures.others;
+      number = c.args.self.now.number;
     }
 
 pub returns-in-Some-clause-left : goal.returns-in-Some-clause-left
@@ -50,7 +56,7 @@ returns-in-Some-clause-left g c =
     let mine = (owned_last (c.args.o.0 == c.args.self.now.core.number.0) c.args.end c.args.self.now.core.ends.places.items c.requires.last).0 in
     let y = c.take_back.ensures.back in
     let same = one_some f.0 y.place (sym f.1 ∙ y.there) in
-    subst (λ (kind : Kind). Left c.args.o.0 c.args.end (has c.args.self.now.core.number.0 c.args.self.now.core.is_open (g.C.Joins.kind c.args.self.now.core.kind) (told_in c.args.self.now.core.turns.items c.args.self.now.core.sealed.items c.args.self.now.core.joins.items) c.args.self.now.core.ends.places.items) (has c.args.self.now.core.number.0 c.args.self.now.core.is_open kind (told_in c.args.self.now.core.turns.items c.args.self.now.core.sealed.items c.note_back.new.joins.items) c.take_back.new.table.places.items)) (sym c.part.ensures.kind)
+    subst (λ (kind : Kind). Left c.args.o.0 c.args.end (has c.args.self.now.core.number.0 c.args.self.now.core.is_open (g.C.Joins.kind c.args.self.now.core.kind) (told_in c.args.self.now.core.turns.items c.args.self.now.core.sealed.items c.args.self.now.core.joins.items) c.args.self.now.core.ends.places.items) (has c.args.self.now.core.number.0 c.args.self.now.core.is_open kind (told_in c.args.self.now.core.turns.items c.args.self.now.core.sealed.items c.note_back.new.joins.items) c.take_back.new.table.places.items)) (sym c.unjoin.ensures.kind)
     (subst (λ (l : List (Place _ _)). Left c.args.o.0 c.args.end (has c.args.self.now.core.number.0 c.args.self.now.core.is_open (g.C.Joins.kind c.args.self.now.core.kind) (told_in c.args.self.now.core.turns.items c.args.self.now.core.sealed.items c.args.self.now.core.joins.items) c.args.self.now.core.ends.places.items) (has c.args.self.now.core.number.0 c.args.self.now.core.is_open (g.C.Joins.kind c.args.self.now.core.kind) (told_in c.args.self.now.core.turns.items c.args.self.now.core.sealed.items c.note_back.new.joins.items) l))
     (ap (λ (x : Place _ _). set c.args.self.now.core.ends.places.items c.in-Some.place (record x { held = false; writes = false })) same ∙ sym y.now)
     (left_of c.args.self.now.core.ends.places.items c.in-Some.place f.0 c.args.end f.1 f.2 (alone_of g.P.Pipes.known c.args.self.now.pipes c.args.self.now.core.ends.rows.items c.args.self.now.core.ends.places.items c.in-Some.place f.0 c.args.end (sound_of g.P.Pipes.known c.args.self.now.pipes c.args.self.now.core.ends.rows.items c.args.self.now.core.ends.places.items c.args.self.now.sound) f.1 f.2) (record f.0 { held = false; writes = false }) refl c.args.self.now.core.number.0 c.args.o.0 c.args.self.now.core.is_open (g.C.Joins.kind c.args.self.now.core.kind) (told_in c.args.self.now.core.turns.items c.args.self.now.core.sealed.items c.args.self.now.core.joins.items) (told_in c.args.self.now.core.turns.items c.args.self.now.core.sealed.items c.note_back.new.joins.items) mine))
@@ -76,7 +82,7 @@ returns-in-Some-clause-turns g c =
     let f = found (is_of c.args.end) c.args.self.now.core.ends.places.items c.in-Some.place (sym c.in-Some.is ∙ c.find.ensures ∙ ap (λ (l : List (Place _ _)). position (is_of c.args.end) l) c.deref.ensures.value) in
     let y = c.take_back.ensures.back in
     let same = one_some f.0 y.place (sym f.1 ∙ y.there) in
-    subst (λ (kind : Kind). BeginsNone (has c.args.self.now.core.number.0 c.args.self.now.core.is_open (g.C.Joins.kind c.args.self.now.core.kind) (told_in c.args.self.now.core.turns.items c.args.self.now.core.sealed.items c.args.self.now.core.joins.items) c.args.self.now.core.ends.places.items) (has c.args.self.now.core.number.0 c.args.self.now.core.is_open kind (told_in c.args.self.now.core.turns.items c.args.self.now.core.sealed.items c.note_back.new.joins.items) c.take_back.new.table.places.items)) (sym c.part.ensures.kind)
+    subst (λ (kind : Kind). BeginsNone (has c.args.self.now.core.number.0 c.args.self.now.core.is_open (g.C.Joins.kind c.args.self.now.core.kind) (told_in c.args.self.now.core.turns.items c.args.self.now.core.sealed.items c.args.self.now.core.joins.items) c.args.self.now.core.ends.places.items) (has c.args.self.now.core.number.0 c.args.self.now.core.is_open kind (told_in c.args.self.now.core.turns.items c.args.self.now.core.sealed.items c.note_back.new.joins.items) c.take_back.new.table.places.items)) (sym c.unjoin.ensures.kind)
     (subst (λ (l : List (Place _ _)). BeginsNone (has c.args.self.now.core.number.0 c.args.self.now.core.is_open (g.C.Joins.kind c.args.self.now.core.kind) (told_in c.args.self.now.core.turns.items c.args.self.now.core.sealed.items c.args.self.now.core.joins.items) c.args.self.now.core.ends.places.items) (has c.args.self.now.core.number.0 c.args.self.now.core.is_open (g.C.Joins.kind c.args.self.now.core.kind) (told_in c.args.self.now.core.turns.items c.args.self.now.core.sealed.items c.note_back.new.joins.items) l))
     (ap (λ (x : Place _ _). set c.args.self.now.core.ends.places.items c.in-Some.place (record x { held = false; writes = false })) same ∙ sym y.now)
     (left_begins c.args.self.now.core.ends.places.items c.in-Some.place f.0 c.args.end f.1 f.2 (alone_of g.P.Pipes.known c.args.self.now.pipes c.args.self.now.core.ends.rows.items c.args.self.now.core.ends.places.items c.in-Some.place f.0 c.args.end (sound_of g.P.Pipes.known c.args.self.now.pipes c.args.self.now.core.ends.rows.items c.args.self.now.core.ends.places.items c.args.self.now.sound) f.1 f.2) (record f.0 { held = false; writes = false }) refl c.args.self.now.core.number.0 c.args.self.now.core.is_open (g.C.Joins.kind c.args.self.now.core.kind) (told_in c.args.self.now.core.turns.items c.args.self.now.core.sealed.items c.args.self.now.core.joins.items) (told_in c.args.self.now.core.turns.items c.args.self.now.core.sealed.items c.note_back.new.joins.items) refl refl))

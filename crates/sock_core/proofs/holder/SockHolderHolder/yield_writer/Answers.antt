@@ -14,6 +14,8 @@ use Rattle.sock_core.specs.Sound.{KeepsRoom}
 use Rattle.held_ends.proofs.PlaceLemmas.{place_found}
 use Rattle.sock_core.specs.Peers.{ArePeers}
 use Rattle.sock_core.proofs.PeerLemmas.{kept_parted}
+use Rattle.held_ends.proofs.OthersLemmas.{leaves_on}
+use Rattle.sock_core.proofs.GoneLemmas.{never_gone}
 use Rattle.sock_core.proofs.holder.SockHolderHolder.yield_writer.Goals as goal
 
 pub yield_writer-requires-clause-sound : goal.yield_writer-requires-clause-sound
@@ -31,6 +33,7 @@ yield_writer-requires-clause-writes g c =
 
 pub invariant_of-self : goal.invariant_of-self
 invariant_of-self g c =
+    let f = found (is_of c.args.end) c.args.self.now.core.ends.places.items c.in-Some.place (sym c.in-Some.is ∙ c.find.ensures ∙ ap (λ (l : List (Place _ _)). position (is_of c.args.end) l) c.deref.ensures.value) in
     let s = c.yield_writer.ensures.yielded in
     let same = ap length s.now ∙ length-set c.args.self.now.core.ends.places.items c.in-Some.place _ in
     let peer = ap (λ (x : Place _ _). x.peer) (place_found c.args.self.now.core.ends.places.items c.in-Some.place s.place c.index.result.now s.there c.index.ensures) in
@@ -39,6 +42,9 @@ invariant_of-self g c =
       peers = λ is. subst (λ (l : List (Place _ _)). ArePeers l (g.C.Joins.peers c.part.new.kind)) (sym s.now)
           (kept_parted c.args.self.now.core.ends.places.items (g.C.Joins.peers c.args.self.now.core.kind) (c.args.self.now.peers is) c.in-Some.place s.place s.there c.index.result.now.peer (record s.place { writes = false; peer = false; input = Some s.input }) (g.C.Joins.peers c.part.new.kind) peer c.part.ensures.peers);
       room = subst (λ (n : ℕ). KeepsRoom c.args.self.now.core.is_open n c.args.self.now.core.room) (sym same) c.args.self.now.room;
+      gone = λ is. never_gone c.args.end c.args.self.now.core.ends.places.items c.in-Some.place f.0 (c.args.self.now.gone is) f.1 f.2;
+      others = λ s t b. leaves_on g.P.Pipes.known s c.args.self.now.pipes c.yield_writer.new.pipes t c.args.self.now.core.ends c.yield_writer.new.table (c.args.self.now.others s t b) c.yield_writer.ensures.others;
+      number = c.args.self.now.number;
     }
 
 pub unreachable-requires : goal.unreachable-requires

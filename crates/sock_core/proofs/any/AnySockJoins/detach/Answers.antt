@@ -1,0 +1,5 @@
+use Rattle.sock_core.proofs.AnyLemmas.{detaches_as}
+use Rattle.sock_core.proofs.any.AnySockJoins.detach.Goals as goal
+
+pub returns-clause-detaches : goal.returns-clause-detaches
+returns-clause-detaches c = detaches_as c.args.pair c.args.place c.args.self.now c.detach.new.self c.is_told_by_its_peers.ensures c.detach.ensures
