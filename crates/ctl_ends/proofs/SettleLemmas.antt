@@ -158,9 +158,9 @@ told_less commands e state h m k told had keeps = record {
 
 -- a holder that gave a writing half away has no more of them than before
 pub none_writes : {N : Type 0} (exact : Bool) (name : N) (o : ℕ) (e : EndId) (yielded : Bool) (h k : Holding N) → Turned o e yielded h k → NoneWrites exact name h → NoneWrites exact name k
-none_writes exact name o e yielded h k turned none is i =
+none_writes exact name o e yielded h k turned none is i holds =
     subst (λ (hs : List (Held _)). All (λ x. k.writes x.end ≡ true → x.written ≡ name → ⊥) hs) (sym (ends_same o e h k yielded turned i))
-    (λ j x lt writes. none is i j x lt (was _ writes))
+    (λ j x lt writes. none is i (sym (turned.now.objects i) ∙ holds) j x lt (was _ writes))
   where
     less : (b w : Bool) → (if b then false else w) ≡ true → w ≡ true
     less true w is_so = absurd (never is_so)

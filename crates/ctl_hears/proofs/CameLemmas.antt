@@ -1,5 +1,5 @@
 -- Which ends each command makes join, and which objects its holder has then.
-use Rattle.std.specs.Prelude.{◌≡◌, ◌++◌, [], ℕ, Bool, true, false, List, Option, Some, refl}
+use Rattle.std.specs.Prelude.{◌≡◌, ◌≢◌, ◌++◌, [], ℕ, Bool, true, false, List, Option, Some, refl}
 use Rattle.std.proofs.Common.{sym, ap, ◌∙◌, subst}
 use Rattle.std.proofs.lemmas.List.{append-nil}
 use Rattle.zq_base.specs.declared.ids.EndId.{EndId}
@@ -53,10 +53,10 @@ module _ {N S : Type 0} (to : ObjId) (a : Answered N S) (c : Control) (h k : Hol
   }
 
   -- the object may have ended
-  pub ack_came : (word : Word) (child : ObjId) → word ≡ TermAck child → IsSilent a → (ended : Bool) → IsTold to.0 h k → (ended ≡ false → k.holds to.0 ≡ h.holds to.0) → has_ended (obj c.rows to.0).stage ≡ false → (ended ≡ true → may_end (link AckComes child.0 c).rows to.0 ≡ true) → Came word
-  ack_came word child is silent ended told kept lives gone = record {
+  pub ack_came : (word : Word) (child : ObjId) → word ≡ TermAck child → IsSilent a → (ended : Bool) → IsTold to.0 h k → (to.0 ≡ 0 → k ≡ h) → (to.0 ≢ 0 → h.holds to.0 ≡ true) → (ended ≡ false → k.holds to.0 ≡ h.holds to.0) → has_ended (obj c.rows to.0).stage ≡ false → (ended ≡ true → may_end (link AckComes child.0 c).rows to.0 ≡ true) → Came word
+  ack_came word child is silent ended told root lent kept lives gone = record {
     came = none_by word silent.joined told.turns.joined;
-    objects = told_kept c (processed to.0 word (answers_in a) c) to.0 ended h h k (λ i. refl) (λ i. refl) told kept lives
+    objects = told_kept c (processed to.0 word (answers_in a) c) to.0 ended h h k (λ i. refl) (λ i. refl) told root lent kept lives
         (λ yes. subst (λ (w : Word). has_ended (obj (processed to.0 w (answers_in a) c).rows to.0).stage ≡ true) (sym is)
         (subst (λ (b : Bool). has_ended (obj (try_end to.0 b (link AckComes child.0 c)).rows to.0).stage ≡ true) (sym silent.output) (ended_now to.0 (link AckComes child.0 c) (gone yes))));
   }

@@ -10,7 +10,7 @@ use Rattle.spec_control.specs.declared.entry.Answered.{Answered}
 use Rattle.spec_control.specs.declared.entry.Joining.{Joining}
 use Rattle.spec_control.specs.declared.letter.Letter.{Letter}
 use Rattle.spec_control.specs.declared.letter.Word.{Word}
-use Rattle.spec_control.specs.declared.letter.Word.TheVariants.{Own, TermReq, Term, TermAck, PipeTerm, Stop}
+use Rattle.spec_control.specs.declared.letter.Word.TheVariants.{Own, Plug, TermReq, Term, TermAck, PipeBind, PipeTerm, PipeTermAck, Stop, Reap}
 use Rattle.zq_base.specs.declared.ids.Settled.{Settled}
 use Rattle.spec_control.specs.Row.{OwnComes, RequestComes, AckComes, StopComes}
 use Rattle.spec_control.specs.Rows.{obj}
@@ -18,16 +18,17 @@ use Rattle.spec_control.specs.Stage.{was_asked}
 use Rattle.spec_control.specs.Control.{Control, link, try_end, happens}
 use Rattle.spec_control.specs.After.{answers_in, processed}
 use Rattle.spec_control.specs.ControlRun.{Joins, word_joins, MayAnswerAll, Settles}
+use Rattle.control_rows.proofs.ListLemmas.{never}
 use Rattle.ctl_holder.specs.declared.load.Load.{Load}
 use Rattle.ctl_holder.specs.Holding.{Holding, IsTold, KeepsTurns, Stays}
 use Rattle.ctl_holder.specs.Lent.{HasAll}
-use Rattle.ctl_holder.specs.Load.{IsNamed}
+use Rattle.ctl_holder.specs.Load.{IsNamed, brings_ends}
 use Rattle.ctl_state.specs.declared.state.State.{State}
 use Rattle.ctl_state.specs.Parts.{Tells}
 use Rattle.ctl_state.specs.Stands.{Stands}
 use Rattle.ctl_ends.specs.Turning.{Leads, turn_of}
 use Rattle.ctl_terms.specs.Terming.{children_told, Turns}
-use Rattle.ctl_hears.specs.Processing.{IsSilent, HasDone, AnswersTo, IsProcessed}
+use Rattle.ctl_hears.specs.Processing.{IsSilent, HasDone, AnswersTo, IsProcessed, HearsEnd, MayHear, is_bare}
 use Rattle.ctl_hears.specs.Attaching.{KeepsPlaces}
 use Rattle.ctl_state.specs.declared.belongings.Belongings.{Belongings}
 use Rattle.ctl_state.specs.Lists.{belongings_at}
@@ -117,3 +118,42 @@ module _ {N O I S : Type 0} (out_name : O → N) (in_name : I → N) (s t : Stat
         };
         places = same_places out_name in_name names Term to.0 s t turns.lists;
       })
+
+-- ---- a command that brings nothing
+module _ {N O I : Type 0} (out_name : O → N) (in_name : I → N) where
+  -- whatever is said that it brings
+  pub bare_ends : (names : EndId → Option N) (c : Control) (s : State (Load N O I)) (h : Holding N) (at : ℕ) (word : Word) (load : Option (Load N O I)) → is_bare word ≡ true → HearsEnd out_name in_name names c s h at word load → HearsEnd out_name in_name names c s h at word None
+  bare_ends names c s h at (Own child) load bare is = is
+  bare_ends names c s h at (Plug end) load bare is = is
+  bare_ends names c s h at (TermReq child) load bare is = is
+  bare_ends names c s h at Term load bare is = is
+  bare_ends names c s h at (TermAck child) load bare is = is
+  bare_ends names c s h at (PipeBind e peer) load bare is = absurd (never bare)
+  bare_ends names c s h at (PipeTerm e) load bare is = is
+  bare_ends names c s h at (PipeTermAck e) load bare is = absurd (never bare)
+  bare_ends names c s h at Stop load bare is = is
+  bare_ends names c s h at (Reap socket) load bare is = absurd (never bare)
+
+  abbrev pub bare_may : (s : State (Load N O I)) (h : Holding N) (letter : Letter) (load : Option (Load N O I)) → is_bare letter.word ≡ true → MayHear out_name in_name s h letter load → MayHear out_name in_name s h letter None
+  bare_may s h letter load bare w = record {
+    control = w.control;
+    names = w.names;
+    stands = w.stands;
+    has = w.has;
+    lent = w.lent;
+    heard = w.heard;
+    hears = w.hears;
+    ends = bare_ends w.names w.control s h letter.to.0 letter.word load bare w.ends;
+  }
+
+pub bare_brings_none : (word : Word) → is_bare word ≡ true → brings_ends word ≡ true → ⊥
+bare_brings_none (Own child) bare brings = never brings
+bare_brings_none (Plug end) bare brings = never brings
+bare_brings_none (TermReq child) bare brings = never brings
+bare_brings_none Term bare brings = never brings
+bare_brings_none (TermAck child) bare brings = never brings
+bare_brings_none (PipeBind e peer) bare brings = never bare
+bare_brings_none (PipeTerm e) bare brings = never brings
+bare_brings_none (PipeTermAck e) bare brings = never bare
+bare_brings_none Stop bare brings = never brings
+bare_brings_none (Reap socket) bare brings = never bare

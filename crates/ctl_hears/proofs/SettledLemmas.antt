@@ -163,9 +163,9 @@ module _ {N O I : Type 0} (out_name : O → N) (in_name : I → N) where
       one e = Prim.grind arith
 
   pub acknowledges : (names : EndId → Option N) (c : Control) (at : ObjId) (e : EndId) (counts : Settled) (s mid t : State (Load N O I)) (h m k : Holding N) → SettlesEnd out_name in_name names c e counts s mid h m →
-      Stands t (try_end at.0 false (settle e (Some counts) (happens AckCame e c))) → Tells mid t → (m.holds at.0 ≡ true) → IsTold at.0 m k → e.pair.0 < length c.rows.pairs → list_any (is_end e) c.attached ≡ true →
+      Stands t (try_end at.0 false (settle e (Some counts) (happens AckCame e c))) → Tells mid t → (m.holds at.0 ≡ true) → IsTold at.0 m k → (at.0 ≡ 0 → k ≡ m) → e.pair.0 < length c.rows.pairs → list_any (is_end e) c.attached ≡ true →
       (ended : Bool) → (ended ≡ false → k.holds at.0 ≡ m.holds at.0) → has_ended (obj c.rows at.0).stage ≡ false → (ended ≡ true → may_end (happens AckCame e c).rows at.0 ≡ true) → Acknowledges out_name in_name names c at.0 e counts s t h k
-  acknowledges names c at e counts s mid t h m k done stands tells_them lent told within listed ended kept lives gone = record {
+  acknowledges names c at e counts s mid t h m k done stands tells_them lent told root within listed ended kept lives gone = record {
     led = record {
       stands = stands;
       has = has_told names (try_end at.0 false (settle e (Some counts) (happens AckCame e c))) m k at.0 lent told
@@ -181,7 +181,7 @@ module _ {N O I : Type 0} (out_name : O → N) (in_name : I → N) where
         (ends_on (happens AckCame e c) (settle e (Some counts) (happens AckCame e c)) (try_end at.0 false (settle e (Some counts) (happens AckCame e c))) (record { pairs = refl; attached = refl; reasons = refl })
         (tried at.0 false (settle e (Some counts) (happens AckCame e c)))) within listed done.leads.turned) told.turns;
     joined = told.turns.joined ∙ done.leads.joined;
-    objects = one_kept c (try_end at.0 false (settle e (Some counts) (happens AckCame e c))) at.0 ended h m k done.leads.holds done.leads.kinds told kept lives (λ is. ended_now at.0 (settle e (Some counts) (happens AckCame e c)) (gone is));
+    objects = one_kept c (try_end at.0 false (settle e (Some counts) (happens AckCame e c))) at.0 ended h m k done.leads.holds done.leads.kinds told root (λ above. sym (done.leads.holds at.0) ∙ lent) kept lives (λ is. ended_now at.0 (settle e (Some counts) (happens AckCame e c)) (gone is));
   }
 
   -- the object lives still, and there is room for its own acknowledgement

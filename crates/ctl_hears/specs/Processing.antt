@@ -47,6 +47,19 @@ is_heard (PipeTermAck e) = true
 is_heard Stop = true
 is_heard (Reap socket) = true
 
+-- the commands that bring nothing
+abbrev pub is_bare : Word → Bool
+is_bare (Own child) = true
+is_bare (Plug end) = true
+is_bare (TermReq child) = true
+is_bare Term = true
+is_bare (TermAck child) = true
+is_bare (PipeBind e peer) = false
+is_bare (PipeTerm e) = true
+is_bare (PipeTermAck e) = false
+is_bare Stop = true
+is_bare (Reap socket) = false
+
 -- a load is a writing half
 abbrev pub BringsWriter : {N O I : Type 0} → Option (Load N O I) → Type 0
 BringsWriter (Some (BringsHalves h)) = ⊥

@@ -2,13 +2,14 @@ ghost use Rattle.zq_base.specs.declared.ids.EndId.{EndId};
 ghost use Rattle.spec_control.specs.declared.letter.Word.TheVariants.{PipeTermAck};
 ghost use Rattle.spec_control.specs.After.{answers_in, processed};
 ghost use Rattle.ctl_ends.specs.Turning.{TurnsOnce};
-ghost use Rattle.std.specs.Prelude.{◌≡◌, ◌≢◌, [], true, false, Some, IfOk, IfErr, map};
+ghost use Rattle.std.specs.Prelude.{◌≡◌, ◌≢◌, [], true, false, None, Some, IfOk, IfErr, map};
 ghost use Rattle.ctl_holder.specs.Holding.{AreMet, IsTold, KeepsTurns, NoneWrites, given_as};
 ghost use Rattle.ctl_holder.specs.Load.{brings_ends, given_by};
 ghost use Rattle.ctl_holder.specs.declared.load.Load.TheVariants.{Ends, Writer};
 ghost use Rattle.ctl_hears.specs.Processing.{IsSilent};
 ghost use Rattle.ctl_hears.specs.Attaching.{FitsLoad, StaysAll};
-ghost use Rattle.ctl_hears.specs.Processing.{JoinsFor, MayHear, IsProcessed, HasCounts, HasJoined};
+ghost use Rattle.spec_control.specs.declared.entry.Answered.{Answered};
+ghost use Rattle.ctl_hears.specs.Processing.{is_bare, JoinsFor, MayHear, IsProcessed, HasCounts, HasJoined};
 ghost use Rattle.ctl_hears.specs.Processing.{MayAcknowledge, Acknowledges, BringsWriter, BringsParting};
 
 use crate::attaching::bind_comes;
@@ -130,6 +131,79 @@ where
     counts
 }
 
+// Whether a command brings nothing.
+fn is_bare(word: &Word) -> bool
+    ensures { result ≡ is_bare word.now }
+{
+    match word {
+        Word::PipeBind(_, _) | Word::PipeTermAck(_) | Word::Reap(_) => return false,
+        Word::Own(_)
+        | Word::Plug(_)
+        | Word::TermReq(_)
+        | Word::TermAck(_)
+        | Word::PipeTerm(_)
+        | Word::Stop
+        | Word::Term => return true,
+    }
+}
+
+// An object hears a command that brings nothing: the holder has nothing to answer for.
+fn hear_bare<P: Pipes, H: Holder<P>>(
+    state: &mut State<Load<P::Name, P::Out, P::In>>,
+    holder: &mut H,
+    letter: &Letter,
+)
+where
+    P::Name: Drop,
+    requires bare { is_bare letter.now.word ≡ true }
+    requires may { MayHear P.known.out_name P.known.in_name
+        state.old (H.holding holder.old) letter.now None }
+    ensures heard { (a : Answered P.Name P.Story) → IsSilent a →
+        (w : MayHear P.known.out_name P.known.in_name state.old (H.holding holder.old) letter.now None) →
+        IsProcessed P.known.out_name P.known.in_name state.old state.new (H.holding holder.new)
+        w.names w.control letter.now a }
+    ensures turned { (a : Answered P.Name P.Story) → IsSilent a →
+        (w : MayHear P.known.out_name P.known.in_name state.old (H.holding holder.old) letter.now None) →
+        TurnsOnce w.control (processed letter.now.to.0 letter.now.word (answers_in a) w.control)
+        (H.holding holder.old) (H.holding holder.new) }
+    ensures joins { (a : Answered P.Name P.Story) → IsSilent a →
+        (w : MayHear P.known.out_name P.known.in_name state.old (H.holding holder.old) letter.now None) →
+        JoinsFor w.control letter.now a (H.holding holder.old) (H.holding holder.new) }
+{
+    match letter.word {
+        Word::Own(child) => {
+            own(state, letter.to, child);
+            return;
+        }
+        Word::TermReq(child) => {
+            request(state, letter.to, child);
+            return;
+        }
+        Word::TermAck(child) => {
+            let ended = acknowledgement(state, letter.to, child);
+            tell_over(holder, letter.to, ended);
+            return;
+        }
+        Word::PipeTerm(e) => {
+            turn_end(state, holder, e, EndEvent::TermCame);
+            return;
+        }
+        Word::Stop => {
+            state.needs();
+            state.stop_comes(letter.to);
+            holder.stop(letter.to);
+            return;
+        }
+        Word::Term => {
+            process_term(state, holder, letter.to);
+            return;
+        }
+        Word::PipeTermAck(_) | Word::Reap(_) | Word::PipeBind(_, _) | Word::Plug(_) => {
+            unreachable!()
+        }
+    }
+}
+
 /// An object hears a command, with the holder of its ends. What the holder answered is the answer.
 /// Where memory wants, which only a bind takes, what it brought is given back, and all is as it was.
 pub fn process<P: Pipes, H: Holder<P>>(
@@ -167,37 +241,15 @@ where
     ensures quiet { IfErr result (λ back.
         KeepsTurns (H.holding holder.old) (H.holding holder.new)) }
 {
+    if is_bare(&letter.word) {
+        hear_bare(state, holder, letter);
+        drop(load);
+        return Ok(silent(alloc));
+    }
     match letter.word {
-        Word::Own(child) => {
-            own(state, letter.to, child);
-            return Ok(silent(alloc));
-        }
-        Word::TermReq(child) => {
-            request(state, letter.to, child);
-            return Ok(silent(alloc));
-        }
-        Word::TermAck(child) => {
-            let ended = acknowledgement(state, letter.to, child);
-            tell_over(holder, letter.to, ended);
-            return Ok(silent(alloc));
-        }
-        Word::PipeTerm(e) => {
-            turn_end(state, holder, e, EndEvent::TermCame);
-            return Ok(silent(alloc));
-        }
-        Word::Stop => {
-            state.needs();
-            state.stop_comes(letter.to);
-            holder.stop(letter.to);
-            return Ok(silent(alloc));
-        }
         Word::PipeTermAck(e) => {
             let counts = acknowledged(state, holder, letter.to, e, load);
             return Ok(with_counts(alloc, counts));
-        }
-        Word::Term => {
-            process_term(state, holder, letter.to);
-            return Ok(silent(alloc));
         }
         Word::Reap(socket) => {
             let joined = take_over(state, holder, socket, parting_of(load));
@@ -207,6 +259,12 @@ where
             Ok(joined) => return Ok(with_joined(alloc, joined)),
             Err(load) => return Err(load),
         },
-        Word::Plug(_) => unreachable!(),
+        Word::Own(_)
+        | Word::Plug(_)
+        | Word::TermReq(_)
+        | Word::TermAck(_)
+        | Word::PipeTerm(_)
+        | Word::Stop
+        | Word::Term => unreachable!(),
     }
 }

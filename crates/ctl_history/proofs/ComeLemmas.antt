@@ -1,5 +1,5 @@
 -- The ends that join in an event, and the objects that their holder has behind it.
-use Rattle.std.specs.Prelude.{◌≡◌, ◌≢◌, ◌&&◌, ◌++◌, ◌∷◌, [], ℕ, Bool, true, false, List, flat_map, refl}
+use Rattle.std.specs.Prelude.{◌≡◌, ◌≢◌, ◌⊎◌, ◌&&◌, ◌++◌, ◌∷◌, [], ℕ, Bool, true, false, List, flat_map, refl}
 use Rattle.std.proofs.Common.{sym, ap, ◌∙◌, subst, inl, inr}
 use Rattle.std.proofs.lemmas.Bool.{cases_eq}
 use Rattle.std.proofs.lemmas.List.{append-nil, append_cancel_left}
@@ -14,7 +14,7 @@ use Rattle.spec_control.specs.ControlRun.{IsOpenSocket, is_between}
 use Rattle.spec_control.specs.After.{after}
 use Rattle.control_rows.proofs.ListLemmas.{never}
 use Rattle.ctl_holder.specs.Holding.{HasGiven, Holding, JoinsBy}
-use Rattle.ctl_holder.specs.Joins.{JoinsIn, KeepsObjects, came_in}
+use Rattle.ctl_holder.specs.Joins.{IsReaped, JoinsIn, KeepsObjects, came_in}
 use Rattle.ctl_terms.proofs.KeepLemmas.{all_kept}
 use Rattle.ctl_history.specs.Coming.{ComesWith}
 use Rattle.ctl_history.specs.Past.{Past, control_of, with_event}
@@ -53,8 +53,13 @@ pub close_keeps : {N : Type 0} (c d : Control) (o : ℕ) (h k : Holding N) → d
 close_keeps c d o h k rows is_open gone = record {
   holds = λ i stays. other i stays.way {Q = λ n. k.holds n ≡ h.holds n} (λ n ne. (gone.others n ne).0);
   kinds = λ i stays. other i stays.way {Q = λ n. k.kind n ≡ h.kind n} (λ n ne. (gone.others n ne).1.1);
+  had = λ i has. before i has (cases_eq i o);
 }
   where
+    before : (i : ℕ) → k.holds i ≡ true → (i ≡ o) ⊎ (i ≡ o → ⊥) → ((h.holds i ≡ true) × (k.kind i ≡ h.kind i)) ⊎ IsReaped (obj c.rows i) (obj d.rows i) (k.kind i)
+    before i has (inl same) = absurd (never (sym gone.gone ∙ ap k.holds (sym same) ∙ has))
+    before i has (inr ne) = inl (sym (gone.others i ne).0 ∙ has, (gone.others i ne).1.1)
+
     none : (b : Bool) → (b && false) ≡ false
     none true = refl
     none false = refl

@@ -43,7 +43,7 @@ use Rattle.ctl_binds.specs.Joining.{JoinsAll, MayJoinAll, MovesAll, fulfilled_al
 use Rattle.ctl_binds.proofs.ReadyLemmas.{can_join, none_struck, numbers_are, places_left}
 use Rattle.ctl_strikes.specs.Naming.{bound_now, SameEndLists}
 use Rattle.ctl_history.specs.Carried.{IsPlane}
-use Rattle.ctl_history.specs.Fulfilling.{Fulfils, MayFulfil}
+use Rattle.ctl_history.specs.Fulfilling.{Fulfils, MayFulfil, MayFulfilAll}
 use Rattle.ctl_history.specs.Hearing.{HasWhat}
 use Rattle.ctl_history.specs.Joining.{Lends}
 use Rattle.ctl_history.specs.Past.{Past, control_of, items_of}
@@ -105,6 +105,12 @@ module _ {N O I : Type 0} (out_name : O → N) (in_name : I → N) (s : State (L
     fits = places_left out_name in_name c now i ws ds notes s t u h k draws w.draw.stands stands refl (λ e. refl) boxes ends v joins.places;
   }
 
+-- these are all that are to be fulfilled
+module _ {N O I : Type 0} (out_name : O → N) (in_name : I → N) (s t : State (Load N O I)) (h k : Holding N) (i : ObjId) (at : Endpoint) (wakers : ℕ) (notes : Notes N) (w : MayFulfilAll s h i at wakers) where
+  pub all_fulfilled : (ws : List ObjId) → ws ≡ w.waiters → ((v : MayFulfil s h i at ws wakers) → Fulfils out_name in_name v.draw.control i at ws notes s t h k) → Fulfils out_name in_name w.may.draw.control i at w.waiters notes s t h k
+  all_fulfilled ws same =
+      subst (λ (xs : List ObjId). ((v : MayFulfil s h i at xs wakers) → Fulfils out_name in_name v.draw.control i at xs notes s t h k) → Fulfils out_name in_name w.may.draw.control i at w.waiters notes s t h k) (sym same) (λ f. f w.may)
+
 -- ---- what a bind needs that is not refused
 module _ {N O I S : Type 0} (out_name : O → N) (in_name : I → N) (s : State (Load N O I)) (p : Past (Given N O I) N S) (spare : ℕ) (o : ObjId) (name : List ℕ) (plane : IsPlane out_name in_name s p spare) (h : Holding N)
     (lends : Lends (control_of p) o.0 h) (allowed : refusal_in (reply_of (control_of p) (Bind o (Inproc name))) ≡ None) (met : AreMet s (control_of p)) where
@@ -153,4 +159,11 @@ module _ {N O I S : Type 0} (out_name : O → N) (in_name : I → N) (s : State 
     lives = subst (λ (xs : List ObjId). All (λ (x : ObjId). has_ended (obj q.rows x.0).stage ≡ false) xs) (sym are) (All-map (λ (x : ObjId). has_ended (obj q.rows x.0).stage ≡ false) (λ (w : Waiting). w.waiter) (waits_for_it q o name)
         (All-weaker (λ (w : Waiting). IsUnasked q.rows w.waiter.0) (λ (w : Waiting). has_ended (obj q.rows w.waiter.0).stage ≡ false) (λ w is. unasked_lives (obj q.rows w.waiter.0).stage is.unasked) (waits_for_it q o name) theirs));
     few_objects = (let few = plane.history.objects in omega (arith, few));
+  }
+
+  abbrev pub may_fulfil_all : (wakers : ℕ) → (control_of p).slots ≤ wakers → HasWhat p h → MayFulfilAll s h o (Inproc name) wakers
+  may_fulfil_all wakers all has = record {
+    waiters = waiters (waits_for_it (control_of p) o name);
+    may = may_fulfil wakers all has (waiters (waits_for_it (control_of p) o name)) refl;
+    all = refl;
   }

@@ -3,6 +3,9 @@ use Rattle.std.specs.Prelude.{◌≡◌, ◌≤◌, ◌<◌, ◌+◌, ◌^◌, �
 use Rattle.zq_base.specs.declared.endpoint.Endpoint.{Endpoint}
 use Rattle.zq_base.specs.declared.ids.EndId.{EndId}
 use Rattle.zq_base.specs.declared.ids.ObjId.{ObjId}
+use Rattle.spec_control.specs.EndpointBook.{waiters as waiters_of}
+use Rattle.spec_control.specs.Register.{fulfilled_by}
+use Rattle.spec_control.specs.After.{binding_by}
 use Rattle.spec_control.specs.Stage.{has_ended, was_asked}
 use Rattle.spec_control.specs.Rows.{obj}
 use Rattle.spec_control.specs.Place.{At, Unmade}
@@ -31,6 +34,12 @@ module _ {N O I : Type 0} where
     pub unasked : was_asked (obj draw.control.rows i.0).stage ≡ false
     pub lives : All (λ w. has_ended (obj draw.control.rows w.0).stage ≡ false) ws
     pub few_objects : length draw.control.rows.objects < 2 ^ 62
+
+  -- and these are all whose connects a bind of the name fulfils, the longest waiting first
+  pub record MayFulfilAll (s : State (Load N O I)) (h : Holding N) (i : ObjId) (at : Endpoint) (wakers : ℕ) : Type 0 where
+    pub waiters : List ObjId
+    pub may : MayFulfil s h i at waiters wakers
+    pub all : waiters ≡ waiters_of (fulfilled_by at (binding_by i.0 may.draw.control) may.draw.control.names)
 
   -- the socket holds the name, and a pair was made with each of these sockets, in this order; each is noted with the names that its holder has
   pub record Fulfils (out_name : O → N) (in_name : I → N) (c : Control) (i : ObjId) (at : Endpoint) (ws : List ObjId) (notes : Notes N) (s t : State (Load N O I)) (h k : Holding N) : Type 0 where

@@ -1,11 +1,13 @@
-ghost use Rattle.std.specs.Prelude.{◌≡◌, ◌≤◌, length, None, IfOk, OnErr};
+ghost use Rattle.std.specs.Prelude.{◌≡◌, ◌≤◌, ◌+◌, ◌*◌, length, None, IfOk, OnOk, OnErr};
 ghost use Rattle.zq_base.specs.declared.endpoint.Endpoint.TheVariants.{Inproc};
 ghost use Rattle.spec_control.specs.declared.request.Req.TheVariants.{Bind};
 ghost use Rattle.spec_control.specs.Control.{next_pair};
 ghost use Rattle.spec_control.specs.Reply.{reply_of};
 ghost use Rattle.ctl_holder.specs.Turns.{HasTurned};
+ghost use Rattle.ctl_state.specs.Listed.{with_room};
 ghost use Rattle.ctl_binds.specs.Drawing.{IsBack};
 ghost use Rattle.ctl_history.specs.Coming.{ComesWith};
+ghost use Rattle.ctl_history.specs.Fulfilling.{Fulfils, MayFulfilAll};
 ghost use Rattle.ctl_history.specs.Hearing.{HasWhat};
 ghost use Rattle.ctl_history.specs.Joining.{IsOfSame, Lends, NotesRequest};
 ghost use Rattle.ctl_history.specs.Past.{control_of};
@@ -16,11 +18,54 @@ use crate::history::History;
 use crate::joining::{name_of, with_notes};
 use ctl_asks::binding_by;
 use ctl_hears::silent;
-use ctl_holder::Holder;
+use ctl_holder::{Holder, Load};
+use ctl_joins::Notes;
+use ctl_state::{RoomList, State};
 use msg_pipe::Pipes;
 use spec_control::{Did, Reply, Req};
 use std::alloc::{AllocError, Global};
 use zq_base::{Endpoint, ObjId, Octets};
+
+// A socket gets a name that nobody holds, and all connects that wait for it are fulfilled, with room
+// for the events that it brings: its entry, and eight of what comes of each pair.
+fn bind_with_room<P: Pipes, H: Holder<P>, D>(
+    state: &mut State<Load<P::Name, P::Out, P::In>>,
+    events: &mut RoomList<D>,
+    alloc: Global,
+    holder: &mut H,
+    socket: ObjId,
+    at: &Endpoint,
+    copy: Endpoint,
+    wakers: &[P::Waker],
+) -> Result<Notes<P::Name>, AllocError>
+where
+    P::Name: Drop,
+    requires copy { copy ≡ at.now }
+    requires may { MayFulfilAll state.old (H.holding holder.old) socket at.now
+        (length wakers.now) }
+    ensures ok { IfOk result (λ notes. (w : MayFulfilAll state.old (H.holding holder.old) socket
+        at.now (length wakers.now)) → Fulfils P.known.out_name P.known.in_name
+        w.may.draw.control socket at.now w.waiters notes
+        state.old state.new (H.holding holder.old) (H.holding holder.new)) }
+    ensures room { OnOk result ((w : MayFulfilAll state.old (H.holding holder.old) socket
+        at.now (length wakers.now)) →
+        events.new ≡ with_room (8 * length w.waiters + 1) events.old) }
+    ensures err { OnErr result (state.new ≡ state.old) }
+    ensures kept { OnErr result (events.new ≡ events.old) }
+    ensures back { OnErr result (IsBack (length state.old.pairs) socket.0
+        (H.holding holder.old) (H.holding holder.new)) }
+{
+    let waiters = state.waiting(alloc, at, binding_by(state, socket))?;
+    let room = 8 * waiters.len() + 1;
+    events.reserve(room)?;
+    match fulfil_all(state, alloc, holder, socket, at, copy, &waiters, wakers) {
+        Ok(notes) => return Ok(notes),
+        Err(error) => {
+            events.release(room);
+            return Err(error);
+        }
+    }
+}
 
 impl<P: Pipes> History<P>
 where
@@ -98,30 +143,11 @@ where
     {
         let copy = Endpoint::Inproc(name.copy(alloc)?);
         let at = Endpoint::Inproc(name);
-        let binding = binding_by(&self.state, socket);
-        let waiters = self.state.waiting(alloc, &at, binding)?;
-        // Its entry, and eight of what comes of each pair.
-        let room = 8 * waiters.len() + 1;
-        self.events.reserve(room)?;
         self.state.needs();
-        match fulfil_all(
-            &mut self.state,
-            alloc,
-            holder,
-            socket,
-            &at,
-            copy,
-            &waiters,
-            wakers,
-        ) {
-            Ok(notes) => {
-                self.events.push(Did::Asked(Req::Bind(socket, at), Reply::Done, with_notes(notes)));
-                return Ok(Reply::Done);
-            }
-            Err(error) => {
-                self.events.release(room);
-                return Err(error);
-            }
-        }
+        let state = &mut self.state;
+        let events = &mut self.events;
+        let notes = bind_with_room(state, events, alloc, holder, socket, &at, copy, wakers)?;
+        self.events.push(Did::Asked(Req::Bind(socket, at), Reply::Done, with_notes(notes)));
+        Ok(Reply::Done)
     }
 }

@@ -1,10 +1,12 @@
-ghost use Rattle.std.specs.Prelude.{◌≡◌, ◌≤◌, length, Some, None, IfOk, OnErr};
+ghost use Rattle.std.specs.Prelude.{◌≡◌, ◌≤◌, length, Some, None, IfOk, OnOk, OnErr};
 ghost use Rattle.zq_base.specs.declared.endpoint.Endpoint.TheVariants.{Inproc};
 ghost use Rattle.spec_control.specs.declared.book.Binding.{Binding};
 ghost use Rattle.spec_control.specs.declared.request.Req.TheVariants.{Connect};
 ghost use Rattle.spec_control.specs.Reply.{reply_of};
-ghost use Rattle.ctl_holder.specs.Holding.{Stays};
+ghost use Rattle.ctl_holder.specs.Holding.{KeepsTurns, Stays};
 ghost use Rattle.ctl_holder.specs.Turns.{HasTurned};
+ghost use Rattle.ctl_state.specs.Listed.{with_room};
+ghost use Rattle.ctl_joins.specs.Connecting.{Connects, MayConnect};
 ghost use Rattle.ctl_history.specs.Coming.{ComesWith};
 ghost use Rattle.ctl_history.specs.Hearing.{HasWhat};
 ghost use Rattle.ctl_history.specs.Joining.{IsName, IsNoted, IsOfSame, Lends, NotesRequest};
@@ -13,13 +15,14 @@ ghost use Rattle.ctl_asks.specs.Refusals.{refusal_in};
 
 use crate::history::History;
 use ctl_hears::silent;
-use ctl_holder::Holder;
+use ctl_holder::{Holder, Load};
 use ctl_joins::{Notes, Owners, connect_pair};
+use ctl_state::{RoomList, State};
 use http_server::Log;
 use msg_pipe::Pipes;
 use spec_control::{Answered, Binding, Did, Reply, Req};
 use std::alloc::{AllocError, Global};
-use zq_base::{Endpoint, ObjId, Octets, Seq};
+use zq_base::{Endpoint, ObjId, Octets, PairId, Seq};
 
 /// What a holder answered for pairs that were made. It takes no memory.
 pub(crate) fn with_notes<N: Drop, S>(notes: Notes<N>) -> Answered<N, S>
@@ -43,6 +46,40 @@ pub(crate) fn name_of(at: Endpoint) -> Octets
     match at {
         Endpoint::Inproc(name) => return name,
         Endpoint::Tcp(_) => unreachable!(),
+    }
+}
+
+// Makes the pair of a connect to the holder of its name, with room for the events that it brings: its
+// entry, and eight of what comes of the pair.
+fn connect_with_room<P: Pipes, H: Holder<P>, D>(
+    state: &mut State<Load<P::Name, P::Out, P::In>>,
+    events: &mut RoomList<D>,
+    alloc: Global,
+    holder: &mut H,
+    o: Owners,
+    at: Endpoint,
+    wakers: &[P::Waker],
+) -> Result<(PairId, Notes<P::Name>), AllocError>
+where
+    P::Name: Drop,
+    requires may { MayConnect state.old (H.holding holder.old) o (length wakers.now) }
+    ensures ok { IfOk result (λ r. (w : MayConnect state.old (H.holding holder.old) o
+        (length wakers.now)) → Connects P.known.out_name P.known.in_name w.control o at r.0 r.1
+        state.old state.new (H.holding holder.old) (H.holding holder.new)) }
+    ensures room { OnOk result (events.new ≡ with_room 9 events.old) }
+    ensures err { OnErr result (state.new ≡ state.old) }
+    ensures kept { OnErr result (events.new ≡ events.old) }
+    ensures stays { OnErr result
+        (Stays o.first.0 (H.holding holder.old) (H.holding holder.new)) }
+    ensures keeps { OnErr result (KeepsTurns (H.holding holder.old) (H.holding holder.new)) }
+{
+    events.reserve(9)?;
+    match connect_pair(state, alloc, holder, o, at, wakers) {
+        Ok(made) => return Ok(made),
+        Err(error) => {
+            events.release(9);
+            return Err(error);
+        }
     }
 }
 
@@ -159,20 +196,14 @@ where
     {
         let copy = Endpoint::Inproc(name.copy(alloc)?);
         let at = Endpoint::Inproc(name);
-        // Its entry, and eight of what comes of the pair.
-        self.events.reserve(9)?;
         self.state.needs();
         let owners = Owners::of(&self.state, socket, binding.holder);
-        match connect_pair(&mut self.state, alloc, holder, owners, copy, wakers) {
-            Ok((pair, notes)) => {
-                let reply = Reply::Pair(pair);
-                self.events.push(Did::Asked(Req::Connect(socket, at), reply, with_notes(notes)));
-                return Ok(reply);
-            }
-            Err(error) => {
-                self.events.release(9);
-                return Err(error);
-            }
-        }
+        let state = &mut self.state;
+        let events = &mut self.events;
+        let made = connect_with_room(state, events, alloc, holder, owners, copy, wakers)?;
+        let (pair, notes) = made;
+        let reply = Reply::Pair(pair);
+        self.events.push(Did::Asked(Req::Connect(socket, at), reply, with_notes(notes)));
+        Ok(reply)
     }
 }

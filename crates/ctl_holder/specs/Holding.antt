@@ -184,9 +184,9 @@ module _ {N : Type 0} where
     pub delimiters : (i : ℕ) (e : EndId) → has_end e (new.ends i) ≡ true → old.at_delimiter e ≡ true → new.at_delimiter e ≡ true
     pub output : (i : ℕ) → i ≢ o → new.output_left i ≡ old.output_left i
 
-  -- no end that has its writing half still writes this pipe, wherever names tell pipes apart
+  -- no end of its objects that has its writing half still writes this pipe, wherever names tell pipes apart
   abbrev pub NoneWrites : (exact : Bool) → (name : N) → Holding N → Type 0
-  NoneWrites exact name h = exact ≡ true → (i : ℕ) → All (λ x. h.writes x.end ≡ true → x.written ≢ name) (h.ends i)
+  NoneWrites exact name h = exact ≡ true → (i : ℕ) → h.holds i ≡ true → All (λ x. h.writes x.end ≡ true → x.written ≢ name) (h.ends i)
 
   -- the last of these ends is this one
   pub record IsLast (e : EndId) (hs : List (Held N)) : Type 0 where

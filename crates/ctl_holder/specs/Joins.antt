@@ -1,5 +1,6 @@
 -- Which ends join a holder in an event, and of which objects it is behind it (own choice, after libzmq's `socket_base_t`).
-use Rattle.std.specs.Prelude.{◌≡◌, ◌++◌, ℕ, true, List, [], flat_map}
+use Rattle.std.specs.Prelude.{◌≡◌, ◌⊎◌, ◌++◌, ℕ, true, false, List, [], Option, None, flat_map}
+use Rattle.zq_base.specs.declared.kind.Kind.{Kind}
 use Rattle.spec_control.specs.declared.letter.Word.{Word}
 use Rattle.spec_control.specs.declared.letter.Word.TheVariants.{Own, Plug, TermReq, Term, TermAck, PipeBind, PipeTerm, PipeTermAck, Stop, Reap}
 use Rattle.spec_control.specs.declared.entry.Joining.{Joining}
@@ -42,7 +43,14 @@ pub record StaysHad (was now : Row) : Type 0 where
   pub ended : has_ended now.stage ≡ true → has_ended was.stage ≡ true
   pub way : is_between now ≡ is_between was
 
--- such objects are held as before, with their kinds
+-- a closed socket came with its Reap, and has no kind that ends join
+pub record IsReaped (was now : Row) (kind : Option Kind) : Type 0 where
+  pub between : is_between was ≡ true
+  pub taken : is_between now ≡ false
+  pub none : kind ≡ None
+
+-- such objects are held as before, with their kinds; what is held was held before, with its kind, or came with its Reap
 pub record KeepsObjects {N : Type 0} (before now : Control) (old new : Holding N) : Type 0 where
   pub holds : (i : ℕ) → StaysHad (obj before.rows i) (obj now.rows i) → new.holds i ≡ old.holds i
   pub kinds : (i : ℕ) → StaysHad (obj before.rows i) (obj now.rows i) → new.kind i ≡ old.kind i
+  pub had : (i : ℕ) → new.holds i ≡ true → ((old.holds i ≡ true) × (new.kind i ≡ old.kind i)) ⊎ IsReaped (obj before.rows i) (obj now.rows i) (new.kind i)

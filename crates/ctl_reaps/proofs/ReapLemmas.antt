@@ -27,7 +27,7 @@ use Rattle.ctl_holder.specs.declared.given.Given.{Given}
 use Rattle.ctl_holder.specs.declared.given.Parting.{Parting}
 use Rattle.ctl_holder.specs.declared.load.Load.{Load}
 use Rattle.ctl_holder.specs.Holding.{Holding, IsPlugged, Begins, AreAtDelimiter, given_as, held_given, has_end, states_given, writes_in}
-use Rattle.ctl_holder.specs.Joins.{KeepsObjects}
+use Rattle.ctl_holder.specs.Joins.{IsReaped, KeepsObjects}
 use Rattle.ctl_holder.specs.Turns.{TurnsBy, HasTurned}
 use Rattle.ctl_holder.specs.Lent.{HasBothNames, HasEnds, HasAll, has_writer}
 use Rattle.ctl_holder.specs.Load.{IsNamed}
@@ -210,6 +210,7 @@ module _ {N O I : Type 0} (out_name : O → N) (in_name : I → N) (s : State (L
     reaper_objects = record {
       holds = λ i stays. other i stays.way {Q = λ n. k.holds n ≡ h.holds n} (λ n ne. (plugged.others n ne).0);
       kinds = λ i stays. other i stays.way {Q = λ n. k.kind n ≡ h.kind n} (λ n ne. (plugged.others n ne).1.1);
+      had = λ i has. before i has;
     }
       where
         was : Row
@@ -227,6 +228,17 @@ module _ {N O I : Type 0} (out_name : O → N) (in_name : I → N) (s : State (L
             none : (b : Bool) → (b && false) ≡ false
             none true = refl
             none false = refl
+
+        before : (i : ℕ) → k.holds i ≡ true → ((h.holds i ≡ true) × (k.kind i ≡ h.kind i)) ⊎ IsReaped (obj w.control.rows i) (obj (put socket.0 Term (link ReapComes socket.0 w.control)).rows i) (k.kind i)
+        before i has =
+            elim (cases_eq i socket.0) [
+              | inl same ↦ inr (record {
+                between = ap (λ (n : ℕ). is_between (obj w.control.rows n)) same ∙ came;
+                taken = ap (λ (n : ℕ). is_between (obj (put socket.0 Term (link ReapComes socket.0 w.control)).rows n)) same ∙ gone;
+                none = ap k.kind same ∙ plugged.no_kind;
+              })
+              | inr ne ↦ inl (sym (plugged.others i ne).0 ∙ has, (plugged.others i ne).1.1)
+            ]
 
         other : (i : ℕ) → is_between (obj (put socket.0 Term (link ReapComes socket.0 w.control)).rows i) ≡ is_between (obj w.control.rows i) →
             {Q : ℕ → Type 0} → ((n : ℕ) → n ≢ socket.0 → Q n) → Q i

@@ -1,5 +1,5 @@
 -- A holder keeps its objects, but one that ended.
-use Rattle.std.specs.Prelude.{◌≡◌, ◌<◌, ◌&&◌, ◌⊎◌, ◌++◌, ◌∷◌, [], ℕ, Bool, true, false, Option, None, Some, length, if◌then◌else◌, refl}
+use Rattle.std.specs.Prelude.{◌≡◌, ◌≢◌, ◌<◌, ◌&&◌, ◌⊎◌, ◌++◌, ◌∷◌, [], ℕ, Bool, true, false, Option, None, Some, length, if◌then◌else◌, refl}
 use Rattle.std.proofs.Common.{sym, ap, ◌∙◌, subst, inl, inr}
 use Rattle.std.proofs.lemmas.Bool.{cases_eq}
 use Rattle.std.proofs.lemmas.List.{get_or-set_same}
@@ -56,16 +56,25 @@ ended_now i c may_it =
 module _ {N : Type 0} (was now : Control) where
   -- nothing was told of any
   pub all_kept : (h k : Holding N) → ((i : ℕ) → k.holds i ≡ h.holds i) → ((i : ℕ) → k.kind i ≡ h.kind i) → KeepsObjects was now h k
-  all_kept h k holds kinds = record { holds = λ i stays. holds i; kinds = λ i stays. kinds i }
+  all_kept h k holds kinds = record { holds = λ i stays. holds i; kinds = λ i stays. kinds i; had = λ i has. inl (sym (holds i) ∙ has, kinds i) }
 
   -- the holder was told of one, and let it go only if it ended
-  pub told_kept : (o : ℕ) (ended : Bool) (h k l : Holding N) → ((i : ℕ) → k.holds i ≡ h.holds i) → ((i : ℕ) → k.kind i ≡ h.kind i) → IsTold o k l → (ended ≡ false → l.holds o ≡ k.holds o) →
+  pub told_kept : (o : ℕ) (ended : Bool) (h k l : Holding N) → ((i : ℕ) → k.holds i ≡ h.holds i) → ((i : ℕ) → k.kind i ≡ h.kind i) → IsTold o k l → (o ≡ 0 → l ≡ k) → (o ≢ 0 → h.holds o ≡ true) → (ended ≡ false → l.holds o ≡ k.holds o) →
       has_ended (obj was.rows o).stage ≡ false → (ended ≡ true → has_ended (obj now.rows o).stage ≡ true) → KeepsObjects was now h l
-  told_kept o ended h k l holds kinds told kept lived ends = record {
+  told_kept o ended h k l holds kinds told root lent kept lived ends = record {
     holds = λ i stays. here i stays.ended (cases_eq i o);
     kinds = λ i stays. told.kinds i ∙ kinds i;
+    had = λ i has. inl (had i has (cases_eq i o), told.kinds i ∙ kinds i);
   }
     where
+      had : (i : ℕ) → l.holds i ≡ true → (i ≡ o) ⊎ (i ≡ o → ⊥) → h.holds i ≡ true
+      had i has (inr other) = sym (told.objects i other ∙ holds i) ∙ has
+      had i has (inl same) =
+          elim (cases_eq o 0) [
+            | inl is ↦ sym (holds i) ∙ ap (λ (x : Holding N). x.holds i) (sym (root is)) ∙ has
+            | inr above ↦ ap h.holds same ∙ lent above
+          ]
+
       mine : (b : Bool) → (b ≡ false → l.holds o ≡ k.holds o) → (b ≡ true → has_ended (obj now.rows o).stage ≡ true) → (has_ended (obj now.rows o).stage ≡ true → has_ended (obj was.rows o).stage ≡ true) → l.holds o ≡ k.holds o
       mine false same gone stays = same refl
       mine true same gone stays = absurd (never (sym lived ∙ stays (gone refl)))

@@ -219,7 +219,7 @@ module _ {N O I : Type 0} (out_name : O → N) (in_name : I → N) (s : State (L
         lists = ends.lists ∙ tells.lists ∙ lists;
         turned = λ once. turns_kept (turned_in w.control last) h k l (subst (λ (ts : List (EndId × EndState)). TurnsBy ts h k) (sym (they_are once)) asked) is_told.turns;
         joined = is_told.turns.joined ∙ joined;
-        objects = told_kept w.control last at.0 ended h k l holds kinds is_told kept (told_lives (obj w.control.rows at.0).stage _ w.comes) (λ is. ended_now at.0 (children_told at.0 w.control) (gone is));
+        objects = told_kept w.control last at.0 ended h k l holds kinds is_told root w.lent kept (told_lives (obj w.control.rows at.0).stage _ w.comes) (λ is. ended_now at.0 (children_told at.0 w.control) (gone is));
       }
         where
           last : Control

@@ -77,5 +77,5 @@ returns g c = λ w.
     acknowledges g.P.Pipes.known.out_name g.P.Pipes.known.in_name w.names w.control c.args.at c.args.e c.settle_end-counts.result c.args.state.now c.settle_end-counts.new.state c.try_end-ended.new.self
     (g.H.Holder.holding c.args.holder.now) (g.H.Holder.holding c.settle_end-counts.new.holder) (g.H.Holder.holding c.tell_over.new.holder) done
     (c.try_end-ended.ensures.stands (settle c.args.e (Some c.settle_end-counts.result) now) (settled_aside c.settle_end-counts.new.state now c.args.e c.settle_end-counts.result done.leads.stands)) c.try_end-ended.ensures.only
-    (done.leads.holds c.args.at.0 ∙ ap (g.H.Holder.holding c.args.holder.now).holds (sym w.comes.owner) ∙ w.comes.settles.lent) c.tell_over.ensures.told w.comes.settles.within w.comes.settles.listed
+    (done.leads.holds c.args.at.0 ∙ ap (g.H.Holder.holding c.args.holder.now).holds (sym w.comes.owner) ∙ w.comes.settles.lent) c.tell_over.ensures.told c.tell_over.ensures.root w.comes.settles.within w.comes.settles.listed
     c.try_end-ended.result c.tell_over.ensures.kept (ap (λ (n : ℕ). has_ended (obj w.control.rows n).stage) (sym w.comes.owner) ∙ w.comes.settles.unended) (λ is. sym (c.try_end-ended.ensures.answer now done.leads.stands) ∙ is)

@@ -2,19 +2,15 @@ use Rattle.std.specs.Prelude.{◌≡◌, ◌≤◌, ◌+◌, ◌-◌, ◌*◌, �
 use Rattle.std.proofs.Common.{arith, ap, sym, ◌∙◌, subst}
 use Rattle.std.proofs.lemmas.List.{length-map}
 use Rattle.zq_base.specs.declared.endpoint.Endpoint.TheVariants.{Inproc}
-use Rattle.zq_base.specs.declared.ids.ObjId.{ObjId}
-use Rattle.spec_control.specs.declared.book.Binding.{Binding}
 use Rattle.spec_control.specs.declared.book.Waiting.{Waiting}
 use Rattle.spec_control.specs.declared.request.Req.TheVariants.{Bind}
-use Rattle.spec_control.specs.EndpointBook.{waiters}
-use Rattle.spec_control.specs.Register.{fulfilled_by}
 use Rattle.spec_control.specs.Names.{name_of}
 use Rattle.spec_control.specs.Reply.{reply_of}
 use Rattle.ctl_binds.specs.Drawing.{IsBack}
 use Rattle.ctl_holder.specs.declared.given.Given.{Given}
-use Rattle.ctl_state.specs.Listed.{with_last, with_room}
+use Rattle.ctl_state.specs.Listed.{Listed, with_last, with_room}
+use Rattle.spec_control.specs.declared.entry.Did.{Did}
 use Rattle.ctl_history.specs.Carried.{given_in}
-use Rattle.ctl_history.specs.Fulfilling.{Fulfils}
 use Rattle.ctl_history.proofs.FulfilEventLemmas.{waits_for_it}
 use Rattle.ctl_history.specs.Past.{Past, control_of, items_of, with_event}
 use Rattle.ctl_history.specs.Hearing.{HasWhat}
@@ -23,8 +19,8 @@ use Rattle.ctl_asks.specs.Refusals.{refusal_in}
 use Rattle.ctl_history.proofs.BindLemmas.{bind_done}
 use Rattle.ctl_history.proofs.DoneLemmas.{event_now}
 use Rattle.ctl_history.proofs.FulfilPlaneLemmas.{ends_bound, given_bound, back_told, has_back, keeps_bound, plane_bound, told_fulfilled}
-use Rattle.ctl_history.proofs.FulfillingLemmas.{may_fulfil}
-use Rattle.ctl_history.proofs.MakingLemmas.{listed_back, planed_back, viewed_back}
+use Rattle.ctl_history.proofs.FulfillingLemmas.{may_fulfil_all}
+use Rattle.ctl_history.proofs.MakingLemmas.{planed_back, viewed_back}
 use Rattle.ctl_history.proofs.PlaneLemmas.{planed_now}
 use Rattle.ctl_holder.specs.Turns.{HasTurned}
 use Rattle.ctl_ends.proofs.TurnedLemmas.{turns_same}
@@ -36,167 +32,154 @@ use Rattle.ctl_history.proofs.ComeLemmas.{event_comes, past_comes}
 use Rattle.spec_control.specs.declared.entry.Joining.{Joining}
 use Rattle.ctl_history.proofs.history.History.bind_now.Goals as goal
 
-pub fulfil_all-requires : goal.fulfil_all-requires
-fulfil_all-requires g c =
+pub bind_with_room-requires-clause-may : goal.bind_with_room-requires-clause-may
+bind_with_room-requires-clause-may g c =
     let inner : Past (Given g.row.P-Name.Denot g.row.P-Out.Denot g.row.P-In.Denot) g.row.P-Name.Denot g.row.P-Story.Denot = record { workers = c.self.inside.workers; events = c.self.inside.events.items; given = given_in c.self.inside.state.boxes } in
     let lends = subst (λ (p : Past (Given g.row.P-Name.Denot g.row.P-Out.Denot g.row.P-In.Denot) g.row.P-Name.Denot g.row.P-Story.Denot). Lends (control_of p) c.args.socket.0 (g.H.Holder.holding c.args.holder.now)) (sym c.self.view_is) c.requires.lends in
     let allowed = subst (λ (p : Past (Given g.row.P-Name.Denot g.row.P-Out.Denot g.row.P-In.Denot) g.row.P-Name.Denot g.row.P-Story.Denot). refusal_in (reply_of (control_of p) (Bind c.args.socket (Inproc c.args.name))) ≡ None) (sym c.self.view_is) c.requires.free in
     let stands = c.self.invariant.history.stands in
-    let ids = c.deref.ensures.value ∙ c.in_ok-waiters.ensures (control_of inner) stands ∙ ap (λ (b : Binding). waiters (fulfilled_by (Inproc c.args.name) b (control_of inner).names)) (c.binding_by-binding.ensures (control_of inner) stands) in
     let has = subst (λ (p : Past (Given g.row.P-Name.Denot g.row.P-Out.Denot g.row.P-In.Denot) g.row.P-Name.Denot g.row.P-Story.Denot). HasWhat p (g.H.Holder.holding c.args.holder.now)) (sym c.self.view_is) c.requires.has in
     let wakers = subst (λ (p : Past (Given g.row.P-Name.Denot g.row.P-Out.Denot g.row.P-In.Denot) g.row.P-Name.Denot g.row.P-Story.Denot). (control_of p).slots ≤ length c.args.wakers.now) (sym c.self.view_is) c.requires.wakers in
-    let may = may_fulfil g.P.Pipes.known.out_name g.P.Pipes.known.in_name c.self.inside.state _ _ c.args.socket c.args.name c.self.invariant (g.H.Holder.holding c.args.holder.now) lends allowed (c.needs.ensures _ stands) (length c.args.wakers.now) wakers has c.deref.result.now ids in
-    record { copy = ap Inproc c.in_ok-copy.ensures; may = may }
+    let all = may_fulfil_all g.P.Pipes.known.out_name g.P.Pipes.known.in_name c.self.inside.state _ _ c.args.socket c.args.name c.self.invariant (g.H.Holder.holding c.args.holder.now) lends allowed (c.needs.ensures _ stands) (length c.args.wakers.now) wakers has in
+    all
 
-pub invariant_of-self-in-Ok : goal.invariant_of-self-in-Ok
-invariant_of-self-in-Ok g c =
+pub push-requires : goal.push-requires
+push-requires g c =
     let inner : Past (Given g.row.P-Name.Denot g.row.P-Out.Denot g.row.P-In.Denot) g.row.P-Name.Denot g.row.P-Story.Denot = record { workers = c.self.inside.workers; events = c.self.inside.events.items; given = given_in c.self.inside.state.boxes } in
     let lends = subst (λ (p : Past (Given g.row.P-Name.Denot g.row.P-Out.Denot g.row.P-In.Denot) g.row.P-Name.Denot g.row.P-Story.Denot). Lends (control_of p) c.args.socket.0 (g.H.Holder.holding c.args.holder.now)) (sym c.self.view_is) c.requires.lends in
     let allowed = subst (λ (p : Past (Given g.row.P-Name.Denot g.row.P-Out.Denot g.row.P-In.Denot) g.row.P-Name.Denot g.row.P-Story.Denot). refusal_in (reply_of (control_of p) (Bind c.args.socket (Inproc c.args.name))) ≡ None) (sym c.self.view_is) c.requires.free in
     let stands = c.self.invariant.history.stands in
-    let ids = c.deref.ensures.value ∙ c.in_ok-waiters.ensures (control_of inner) stands ∙ ap (λ (b : Binding). waiters (fulfilled_by (Inproc c.args.name) b (control_of inner).names)) (c.binding_by-binding.ensures (control_of inner) stands) in
     let has = subst (λ (p : Past (Given g.row.P-Name.Denot g.row.P-Out.Denot g.row.P-In.Denot) g.row.P-Name.Denot g.row.P-Story.Denot). HasWhat p (g.H.Holder.holding c.args.holder.now)) (sym c.self.view_is) c.requires.has in
     let wakers = subst (λ (p : Past (Given g.row.P-Name.Denot g.row.P-Out.Denot g.row.P-In.Denot) g.row.P-Name.Denot g.row.P-Story.Denot). (control_of p).slots ≤ length c.args.wakers.now) (sym c.self.view_is) c.requires.wakers in
-    let may = may_fulfil g.P.Pipes.known.out_name g.P.Pipes.known.in_name c.self.inside.state _ _ c.args.socket c.args.name c.self.invariant (g.H.Holder.holding c.args.holder.now) lends allowed (c.needs.ensures _ stands) (length c.args.wakers.now) wakers has c.deref.result.now ids in
-    let fulfils = subst (λ (xs : List ObjId). Fulfils g.P.Pipes.known.out_name g.P.Pipes.known.in_name (control_of inner) c.args.socket (Inproc c.args.name) xs c.in-Ok.notes c.self.inside.state c.fulfil_all.new.state (g.H.Holder.holding c.args.holder.now) (g.H.Holder.holding c.fulfil_all.new.holder)) ids (c.in-Ok.ensures.ok may) in
-    planed_now g.P.Pipes.known.out_name g.P.Pipes.known.in_name c.fulfil_all.new.state c.self.inside.workers (with_room (8 * c.len.result + 1) c.self.inside.events) c.push.new.self _ _ _
-    (c.push.ensures ∙ ap (with_last _) c.in_ok-reserve.ensures.ok)
-    (plane_bound g.P.Pipes.known.out_name g.P.Pipes.known.in_name c.self.inside.state _ _ c.args.socket c.args.name c.self.invariant (g.H.Holder.holding c.args.holder.now) lends allowed c.in-Ok.notes c.fulfil_all.new.state (g.H.Holder.holding c.fulfil_all.new.holder) fulfils c.with_notes.result c.with_notes.ensures (c.self.inside.events.spare + (8 * c.len.result + 1) - 1) (let many = ap (λ (xs : List ObjId). length xs) ids ∙ length-map (waits_for_it (control_of inner) c.args.socket c.args.name) (λ (w : Waiting). w.waiter) in let len = c.len.ensures in let same = ap (λ (xs : List ObjId). length xs) c.deref.ensures.value in omega (arith, many, len, same)))
+    let all = may_fulfil_all g.P.Pipes.known.out_name g.P.Pipes.known.in_name c.self.inside.state _ _ c.args.socket c.args.name c.self.invariant (g.H.Holder.holding c.args.holder.now) lends allowed (c.needs.ensures _ stands) (length c.args.wakers.now) wakers has in
+    let more = ap (λ (l : Listed (Did g.row.P-Name.Denot g.row.P-Story.Denot)). l.spare) (c.in_ok-notes.ensures.room all) in
+    record { room = omega (arith, more) }
 
-pub returns-in-Ok-clause-ok : goal.returns-in-Ok-clause-ok
-returns-in-Ok-clause-ok g c =
+pub invariant_of-self-2 : goal.invariant_of-self-2
+invariant_of-self-2 g c =
     let inner : Past (Given g.row.P-Name.Denot g.row.P-Out.Denot g.row.P-In.Denot) g.row.P-Name.Denot g.row.P-Story.Denot = record { workers = c.self.inside.workers; events = c.self.inside.events.items; given = given_in c.self.inside.state.boxes } in
     let lends = subst (λ (p : Past (Given g.row.P-Name.Denot g.row.P-Out.Denot g.row.P-In.Denot) g.row.P-Name.Denot g.row.P-Story.Denot). Lends (control_of p) c.args.socket.0 (g.H.Holder.holding c.args.holder.now)) (sym c.self.view_is) c.requires.lends in
     let allowed = subst (λ (p : Past (Given g.row.P-Name.Denot g.row.P-Out.Denot g.row.P-In.Denot) g.row.P-Name.Denot g.row.P-Story.Denot). refusal_in (reply_of (control_of p) (Bind c.args.socket (Inproc c.args.name))) ≡ None) (sym c.self.view_is) c.requires.free in
     let stands = c.self.invariant.history.stands in
-    let ids = c.deref.ensures.value ∙ c.in_ok-waiters.ensures (control_of inner) stands ∙ ap (λ (b : Binding). waiters (fulfilled_by (Inproc c.args.name) b (control_of inner).names)) (c.binding_by-binding.ensures (control_of inner) stands) in
     let has = subst (λ (p : Past (Given g.row.P-Name.Denot g.row.P-Out.Denot g.row.P-In.Denot) g.row.P-Name.Denot g.row.P-Story.Denot). HasWhat p (g.H.Holder.holding c.args.holder.now)) (sym c.self.view_is) c.requires.has in
     let wakers = subst (λ (p : Past (Given g.row.P-Name.Denot g.row.P-Out.Denot g.row.P-In.Denot) g.row.P-Name.Denot g.row.P-Story.Denot). (control_of p).slots ≤ length c.args.wakers.now) (sym c.self.view_is) c.requires.wakers in
-    let may = may_fulfil g.P.Pipes.known.out_name g.P.Pipes.known.in_name c.self.inside.state _ _ c.args.socket c.args.name c.self.invariant (g.H.Holder.holding c.args.holder.now) lends allowed (c.needs.ensures _ stands) (length c.args.wakers.now) wakers has c.deref.result.now ids in
-    let fulfils = subst (λ (xs : List ObjId). Fulfils g.P.Pipes.known.out_name g.P.Pipes.known.in_name (control_of inner) c.args.socket (Inproc c.args.name) xs c.in-Ok.notes c.self.inside.state c.fulfil_all.new.state (g.H.Holder.holding c.args.holder.now) (g.H.Holder.holding c.fulfil_all.new.holder)) ids (c.in-Ok.ensures.ok may) in
+    let all = may_fulfil_all g.P.Pipes.known.out_name g.P.Pipes.known.in_name c.self.inside.state _ _ c.args.socket c.args.name c.self.invariant (g.H.Holder.holding c.args.holder.now) lends allowed (c.needs.ensures _ stands) (length c.args.wakers.now) wakers has in
+    let fulfils = c.in_ok-notes.ensures.ok all in
+    planed_now g.P.Pipes.known.out_name g.P.Pipes.known.in_name c.bind_with_room.new.state c.self.inside.workers (with_room (8 * length all.waiters + 1) c.self.inside.events) c.push.new.self _ _ _
+    (c.push.ensures ∙ ap (with_last _) (c.in_ok-notes.ensures.room all))
+    (plane_bound g.P.Pipes.known.out_name g.P.Pipes.known.in_name c.self.inside.state _ _ c.args.socket c.args.name c.self.invariant (g.H.Holder.holding c.args.holder.now) lends allowed c.in_ok-notes.notes c.bind_with_room.new.state (g.H.Holder.holding c.bind_with_room.new.holder) fulfils c.with_notes.result c.with_notes.ensures (c.self.inside.events.spare + (8 * length all.waiters + 1) - 1) (let many = length-map (waits_for_it (control_of inner) c.args.socket c.args.name) (λ (w : Waiting). w.waiter) in omega (arith, many)))
+
+pub returns-clause-ok : goal.returns-clause-ok
+returns-clause-ok g c =
+    let inner : Past (Given g.row.P-Name.Denot g.row.P-Out.Denot g.row.P-In.Denot) g.row.P-Name.Denot g.row.P-Story.Denot = record { workers = c.self.inside.workers; events = c.self.inside.events.items; given = given_in c.self.inside.state.boxes } in
+    let lends = subst (λ (p : Past (Given g.row.P-Name.Denot g.row.P-Out.Denot g.row.P-In.Denot) g.row.P-Name.Denot g.row.P-Story.Denot). Lends (control_of p) c.args.socket.0 (g.H.Holder.holding c.args.holder.now)) (sym c.self.view_is) c.requires.lends in
+    let allowed = subst (λ (p : Past (Given g.row.P-Name.Denot g.row.P-Out.Denot g.row.P-In.Denot) g.row.P-Name.Denot g.row.P-Story.Denot). refusal_in (reply_of (control_of p) (Bind c.args.socket (Inproc c.args.name))) ≡ None) (sym c.self.view_is) c.requires.free in
+    let stands = c.self.invariant.history.stands in
+    let has = subst (λ (p : Past (Given g.row.P-Name.Denot g.row.P-Out.Denot g.row.P-In.Denot) g.row.P-Name.Denot g.row.P-Story.Denot). HasWhat p (g.H.Holder.holding c.args.holder.now)) (sym c.self.view_is) c.requires.has in
+    let wakers = subst (λ (p : Past (Given g.row.P-Name.Denot g.row.P-Out.Denot g.row.P-In.Denot) g.row.P-Name.Denot g.row.P-Story.Denot). (control_of p).slots ≤ length c.args.wakers.now) (sym c.self.view_is) c.requires.wakers in
+    let all = may_fulfil_all g.P.Pipes.known.out_name g.P.Pipes.known.in_name c.self.inside.state _ _ c.args.socket c.args.name c.self.invariant (g.H.Holder.holding c.args.holder.now) lends allowed (c.needs.ensures _ stands) (length c.args.wakers.now) wakers has in
+    let fulfils = c.in_ok-notes.ensures.ok all in
     record {
       answered = c.with_notes.result;
-      step = event_now c.args.self.now c.self.inside.workers (with_room (8 * c.len.result + 1) c.self.inside.events) c.push.new.self _ _ _ (sym c.self.view_is)
-          (c.push.ensures ∙ ap (with_last _) c.in_ok-reserve.ensures.ok) (given_bound g.P.Pipes.known.out_name g.P.Pipes.known.in_name c.self.inside.state _ _ c.args.socket c.args.name c.self.invariant (g.H.Holder.holding c.args.holder.now) lends allowed c.in-Ok.notes c.fulfil_all.new.state (g.H.Holder.holding c.fulfil_all.new.holder) fulfils c.with_notes.result c.with_notes.ensures);
-      ends = ends_bound g.P.Pipes.known.out_name g.P.Pipes.known.in_name c.self.inside.state _ _ c.args.socket c.args.name c.self.invariant (g.H.Holder.holding c.args.holder.now) lends allowed c.in-Ok.notes c.fulfil_all.new.state (g.H.Holder.holding c.fulfil_all.new.holder) fulfils c.with_notes.result c.with_notes.ensures;
+      step = event_now c.args.self.now c.self.inside.workers (with_room (8 * length all.waiters + 1) c.self.inside.events) c.push.new.self _ _ _ (sym c.self.view_is)
+          (c.push.ensures ∙ ap (with_last _) (c.in_ok-notes.ensures.room all)) (given_bound g.P.Pipes.known.out_name g.P.Pipes.known.in_name c.self.inside.state _ _ c.args.socket c.args.name c.self.invariant (g.H.Holder.holding c.args.holder.now) lends allowed c.in_ok-notes.notes c.bind_with_room.new.state (g.H.Holder.holding c.bind_with_room.new.holder) fulfils c.with_notes.result c.with_notes.ensures);
+      ends = ends_bound g.P.Pipes.known.out_name g.P.Pipes.known.in_name c.self.inside.state _ _ c.args.socket c.args.name c.self.invariant (g.H.Holder.holding c.args.holder.now) lends allowed c.in_ok-notes.notes c.bind_with_room.new.state (g.H.Holder.holding c.bind_with_room.new.holder) fulfils c.with_notes.result c.with_notes.ensures;
     }
 
-pub returns-in-Ok-clause-reply : goal.returns-in-Ok-clause-reply
-returns-in-Ok-clause-reply g c = sym (bind_done (control_of c.args.self.now) c.args.socket c.args.name c.requires.free)
+pub returns-clause-reply : goal.returns-clause-reply
+returns-clause-reply g c = sym (bind_done (control_of c.args.self.now) c.args.socket c.args.name c.requires.free)
 
-pub returns-in-Ok-clause-same : goal.returns-in-Ok-clause-same
-returns-in-Ok-clause-same g c =
+pub returns-clause-same : goal.returns-clause-same
+returns-clause-same g c =
     let inner : Past (Given g.row.P-Name.Denot g.row.P-Out.Denot g.row.P-In.Denot) g.row.P-Name.Denot g.row.P-Story.Denot = record { workers = c.self.inside.workers; events = c.self.inside.events.items; given = given_in c.self.inside.state.boxes } in
     let lends = subst (λ (p : Past (Given g.row.P-Name.Denot g.row.P-Out.Denot g.row.P-In.Denot) g.row.P-Name.Denot g.row.P-Story.Denot). Lends (control_of p) c.args.socket.0 (g.H.Holder.holding c.args.holder.now)) (sym c.self.view_is) c.requires.lends in
     let allowed = subst (λ (p : Past (Given g.row.P-Name.Denot g.row.P-Out.Denot g.row.P-In.Denot) g.row.P-Name.Denot g.row.P-Story.Denot). refusal_in (reply_of (control_of p) (Bind c.args.socket (Inproc c.args.name))) ≡ None) (sym c.self.view_is) c.requires.free in
     let stands = c.self.invariant.history.stands in
-    let ids = c.deref.ensures.value ∙ c.in_ok-waiters.ensures (control_of inner) stands ∙ ap (λ (b : Binding). waiters (fulfilled_by (Inproc c.args.name) b (control_of inner).names)) (c.binding_by-binding.ensures (control_of inner) stands) in
     let has = subst (λ (p : Past (Given g.row.P-Name.Denot g.row.P-Out.Denot g.row.P-In.Denot) g.row.P-Name.Denot g.row.P-Story.Denot). HasWhat p (g.H.Holder.holding c.args.holder.now)) (sym c.self.view_is) c.requires.has in
     let wakers = subst (λ (p : Past (Given g.row.P-Name.Denot g.row.P-Out.Denot g.row.P-In.Denot) g.row.P-Name.Denot g.row.P-Story.Denot). (control_of p).slots ≤ length c.args.wakers.now) (sym c.self.view_is) c.requires.wakers in
-    let may = may_fulfil g.P.Pipes.known.out_name g.P.Pipes.known.in_name c.self.inside.state _ _ c.args.socket c.args.name c.self.invariant (g.H.Holder.holding c.args.holder.now) lends allowed (c.needs.ensures _ stands) (length c.args.wakers.now) wakers has c.deref.result.now ids in
-    let fulfils = subst (λ (xs : List ObjId). Fulfils g.P.Pipes.known.out_name g.P.Pipes.known.in_name (control_of inner) c.args.socket (Inproc c.args.name) xs c.in-Ok.notes c.self.inside.state c.fulfil_all.new.state (g.H.Holder.holding c.args.holder.now) (g.H.Holder.holding c.fulfil_all.new.holder)) ids (c.in-Ok.ensures.ok may) in
+    let all = may_fulfil_all g.P.Pipes.known.out_name g.P.Pipes.known.in_name c.self.inside.state _ _ c.args.socket c.args.name c.self.invariant (g.H.Holder.holding c.args.holder.now) lends allowed (c.needs.ensures _ stands) (length c.args.wakers.now) wakers has in
+    let fulfils = c.in_ok-notes.ensures.ok all in
     record { objects = fulfils.gets.objects; kinds = fulfils.gets.kinds; output = fulfils.gets.output }
 
-pub returns-in-Ok-clause-keeps : goal.returns-in-Ok-clause-keeps
-returns-in-Ok-clause-keeps g c =
+pub returns-clause-keeps : goal.returns-clause-keeps
+returns-clause-keeps g c =
     let inner : Past (Given g.row.P-Name.Denot g.row.P-Out.Denot g.row.P-In.Denot) g.row.P-Name.Denot g.row.P-Story.Denot = record { workers = c.self.inside.workers; events = c.self.inside.events.items; given = given_in c.self.inside.state.boxes } in
     let lends = subst (λ (p : Past (Given g.row.P-Name.Denot g.row.P-Out.Denot g.row.P-In.Denot) g.row.P-Name.Denot g.row.P-Story.Denot). Lends (control_of p) c.args.socket.0 (g.H.Holder.holding c.args.holder.now)) (sym c.self.view_is) c.requires.lends in
     let allowed = subst (λ (p : Past (Given g.row.P-Name.Denot g.row.P-Out.Denot g.row.P-In.Denot) g.row.P-Name.Denot g.row.P-Story.Denot). refusal_in (reply_of (control_of p) (Bind c.args.socket (Inproc c.args.name))) ≡ None) (sym c.self.view_is) c.requires.free in
     let stands = c.self.invariant.history.stands in
-    let ids = c.deref.ensures.value ∙ c.in_ok-waiters.ensures (control_of inner) stands ∙ ap (λ (b : Binding). waiters (fulfilled_by (Inproc c.args.name) b (control_of inner).names)) (c.binding_by-binding.ensures (control_of inner) stands) in
     let has = subst (λ (p : Past (Given g.row.P-Name.Denot g.row.P-Out.Denot g.row.P-In.Denot) g.row.P-Name.Denot g.row.P-Story.Denot). HasWhat p (g.H.Holder.holding c.args.holder.now)) (sym c.self.view_is) c.requires.has in
     let wakers = subst (λ (p : Past (Given g.row.P-Name.Denot g.row.P-Out.Denot g.row.P-In.Denot) g.row.P-Name.Denot g.row.P-Story.Denot). (control_of p).slots ≤ length c.args.wakers.now) (sym c.self.view_is) c.requires.wakers in
-    let may = may_fulfil g.P.Pipes.known.out_name g.P.Pipes.known.in_name c.self.inside.state _ _ c.args.socket c.args.name c.self.invariant (g.H.Holder.holding c.args.holder.now) lends allowed (c.needs.ensures _ stands) (length c.args.wakers.now) wakers has c.deref.result.now ids in
-    let fulfils = subst (λ (xs : List ObjId). Fulfils g.P.Pipes.known.out_name g.P.Pipes.known.in_name (control_of inner) c.args.socket (Inproc c.args.name) xs c.in-Ok.notes c.self.inside.state c.fulfil_all.new.state (g.H.Holder.holding c.args.holder.now) (g.H.Holder.holding c.fulfil_all.new.holder)) ids (c.in-Ok.ensures.ok may) in
-    subst (λ (p : Past (Given g.row.P-Name.Denot g.row.P-Out.Denot g.row.P-In.Denot) g.row.P-Name.Denot g.row.P-Story.Denot). HasWhat p (g.H.Holder.holding c.fulfil_all.new.holder))
-    (sym (event_now (record { workers = c.self.inside.workers; events = c.self.inside.events.items; given = _ }) c.self.inside.workers (with_room (8 * c.len.result + 1) c.self.inside.events) c.push.new.self _ _ _ refl
-    (c.push.ensures ∙ ap (with_last _) c.in_ok-reserve.ensures.ok) (given_bound g.P.Pipes.known.out_name g.P.Pipes.known.in_name c.self.inside.state _ _ c.args.socket c.args.name c.self.invariant (g.H.Holder.holding c.args.holder.now) lends allowed c.in-Ok.notes c.fulfil_all.new.state (g.H.Holder.holding c.fulfil_all.new.holder) fulfils c.with_notes.result c.with_notes.ensures)))
-    (keeps_bound g.P.Pipes.known.out_name g.P.Pipes.known.in_name c.self.inside.state _ _ c.args.socket c.args.name c.self.invariant (g.H.Holder.holding c.args.holder.now) lends allowed c.in-Ok.notes c.fulfil_all.new.state (g.H.Holder.holding c.fulfil_all.new.holder) fulfils c.with_notes.result c.with_notes.ensures has)
+    let all = may_fulfil_all g.P.Pipes.known.out_name g.P.Pipes.known.in_name c.self.inside.state _ _ c.args.socket c.args.name c.self.invariant (g.H.Holder.holding c.args.holder.now) lends allowed (c.needs.ensures _ stands) (length c.args.wakers.now) wakers has in
+    let fulfils = c.in_ok-notes.ensures.ok all in
+    subst (λ (p : Past (Given g.row.P-Name.Denot g.row.P-Out.Denot g.row.P-In.Denot) g.row.P-Name.Denot g.row.P-Story.Denot). HasWhat p (g.H.Holder.holding c.bind_with_room.new.holder))
+    (sym (event_now (record { workers = c.self.inside.workers; events = c.self.inside.events.items; given = _ }) c.self.inside.workers (with_room (8 * length all.waiters + 1) c.self.inside.events) c.push.new.self _ _ _ refl
+    (c.push.ensures ∙ ap (with_last _) (c.in_ok-notes.ensures.room all)) (given_bound g.P.Pipes.known.out_name g.P.Pipes.known.in_name c.self.inside.state _ _ c.args.socket c.args.name c.self.invariant (g.H.Holder.holding c.args.holder.now) lends allowed c.in_ok-notes.notes c.bind_with_room.new.state (g.H.Holder.holding c.bind_with_room.new.holder) fulfils c.with_notes.result c.with_notes.ensures)))
+    (keeps_bound g.P.Pipes.known.out_name g.P.Pipes.known.in_name c.self.inside.state _ _ c.args.socket c.args.name c.self.invariant (g.H.Holder.holding c.args.holder.now) lends allowed c.in_ok-notes.notes c.bind_with_room.new.state (g.H.Holder.holding c.bind_with_room.new.holder) fulfils c.with_notes.result c.with_notes.ensures has)
 
-pub invariant_of-self-in-Err : goal.invariant_of-self-in-Err
-invariant_of-self-in-Err g c =
-    planed_back g.P.Pipes.known.out_name g.P.Pipes.known.in_name c.self.inside.state c.fulfil_all.new.state c.self.inside.workers c.self.inside.events c.release.new.self c.in-Err.ensures.err
-    (listed_back c.self.inside.events c.reserve.new.self c.release.new.self (8 * c.len.result + 1) c.in_ok-reserve.ensures.ok c.release.ensures) c.self.invariant
+pub invariant_of-self : goal.invariant_of-self
+invariant_of-self g c =
+    planed_back g.P.Pipes.known.out_name g.P.Pipes.known.in_name c.self.inside.state c.bind_with_room.new.state c.self.inside.workers c.self.inside.events c.bind_with_room.new.events c.in_err-notes.ensures.err
+    c.in_err-notes.ensures.kept c.self.invariant
 
-pub returns-in-Err-clause-keeps : goal.returns-in-Err-clause-keeps
-returns-in-Err-clause-keeps g c =
+pub returns-in_err-notes-clause-keeps : goal.returns-in_err-notes-clause-keeps
+returns-in_err-notes-clause-keeps g c =
     let inner : Past (Given g.row.P-Name.Denot g.row.P-Out.Denot g.row.P-In.Denot) g.row.P-Name.Denot g.row.P-Story.Denot = record { workers = c.self.inside.workers; events = c.self.inside.events.items; given = given_in c.self.inside.state.boxes } in
     let has = subst (λ (p : Past (Given g.row.P-Name.Denot g.row.P-Out.Denot g.row.P-In.Denot) g.row.P-Name.Denot g.row.P-Story.Denot). HasWhat p (g.H.Holder.holding c.args.holder.now)) (sym c.self.view_is) c.requires.has in
     let stands = c.self.invariant.history.stands in
-    let back = subst (λ (n : ℕ). IsBack n c.args.socket.0 (g.H.Holder.holding c.args.holder.now) (g.H.Holder.holding c.fulfil_all.new.holder)) (sym stands.pairs.many) c.in-Err.ensures.back in
-    subst (λ (p : Past (Given g.row.P-Name.Denot g.row.P-Out.Denot g.row.P-In.Denot) g.row.P-Name.Denot g.row.P-Story.Denot). HasWhat p (g.H.Holder.holding c.fulfil_all.new.holder))
-    (sym (viewed_back inner c.self.inside.state c.fulfil_all.new.state c.self.inside.workers c.self.inside.events c.release.new.self c.in-Err.ensures.err
-    (listed_back c.self.inside.events c.reserve.new.self c.release.new.self (8 * c.len.result + 1) c.in_ok-reserve.ensures.ok c.release.ensures) refl))
-    (has_back (name_of (items_of inner)) (control_of inner) c.args.socket.0 (g.H.Holder.holding c.args.holder.now) (g.H.Holder.holding c.fulfil_all.new.holder) stands.lists.known back has)
+    let back = subst (λ (n : ℕ). IsBack n c.args.socket.0 (g.H.Holder.holding c.args.holder.now) (g.H.Holder.holding c.bind_with_room.new.holder)) (sym stands.pairs.many) c.in_err-notes.ensures.back in
+    subst (λ (p : Past (Given g.row.P-Name.Denot g.row.P-Out.Denot g.row.P-In.Denot) g.row.P-Name.Denot g.row.P-Story.Denot). HasWhat p (g.H.Holder.holding c.bind_with_room.new.holder))
+    (sym (viewed_back inner c.self.inside.state c.bind_with_room.new.state c.self.inside.workers c.self.inside.events c.bind_with_room.new.events c.in_err-notes.ensures.err
+    c.in_err-notes.ensures.kept refl))
+    (has_back (name_of (items_of inner)) (control_of inner) c.args.socket.0 (g.H.Holder.holding c.args.holder.now) (g.H.Holder.holding c.bind_with_room.new.holder) stands.lists.known back has)
 
-pub returns-in-Ok-clause-turned : goal.returns-in-Ok-clause-turned
-returns-in-Ok-clause-turned g c =
+pub returns-clause-turned : goal.returns-clause-turned
+returns-clause-turned g c =
     let inner : Past (Given g.row.P-Name.Denot g.row.P-Out.Denot g.row.P-In.Denot) g.row.P-Name.Denot g.row.P-Story.Denot = record { workers = c.self.inside.workers; events = c.self.inside.events.items; given = given_in c.self.inside.state.boxes } in
     let lends = subst (λ (p : Past (Given g.row.P-Name.Denot g.row.P-Out.Denot g.row.P-In.Denot) g.row.P-Name.Denot g.row.P-Story.Denot). Lends (control_of p) c.args.socket.0 (g.H.Holder.holding c.args.holder.now)) (sym c.self.view_is) c.requires.lends in
     let allowed = subst (λ (p : Past (Given g.row.P-Name.Denot g.row.P-Out.Denot g.row.P-In.Denot) g.row.P-Name.Denot g.row.P-Story.Denot). refusal_in (reply_of (control_of p) (Bind c.args.socket (Inproc c.args.name))) ≡ None) (sym c.self.view_is) c.requires.free in
     let stands = c.self.invariant.history.stands in
-    let ids = c.deref.ensures.value ∙ c.in_ok-waiters.ensures (control_of inner) stands ∙ ap (λ (b : Binding). waiters (fulfilled_by (Inproc c.args.name) b (control_of inner).names)) (c.binding_by-binding.ensures (control_of inner) stands) in
     let has = subst (λ (p : Past (Given g.row.P-Name.Denot g.row.P-Out.Denot g.row.P-In.Denot) g.row.P-Name.Denot g.row.P-Story.Denot). HasWhat p (g.H.Holder.holding c.args.holder.now)) (sym c.self.view_is) c.requires.has in
     let wakers = subst (λ (p : Past (Given g.row.P-Name.Denot g.row.P-Out.Denot g.row.P-In.Denot) g.row.P-Name.Denot g.row.P-Story.Denot). (control_of p).slots ≤ length c.args.wakers.now) (sym c.self.view_is) c.requires.wakers in
-    let may = may_fulfil g.P.Pipes.known.out_name g.P.Pipes.known.in_name c.self.inside.state _ _ c.args.socket c.args.name c.self.invariant (g.H.Holder.holding c.args.holder.now) lends allowed (c.needs.ensures _ stands) (length c.args.wakers.now) wakers has c.deref.result.now ids in
-    let fulfils = subst (λ (xs : List ObjId). Fulfils g.P.Pipes.known.out_name g.P.Pipes.known.in_name (control_of inner) c.args.socket (Inproc c.args.name) xs c.in-Ok.notes c.self.inside.state c.fulfil_all.new.state (g.H.Holder.holding c.args.holder.now) (g.H.Holder.holding c.fulfil_all.new.holder)) ids (c.in-Ok.ensures.ok may) in
-    let step = event_now c.args.self.now c.self.inside.workers (with_room (8 * c.len.result + 1) c.self.inside.events) c.push.new.self _ _ _ (sym c.self.view_is)
-    (c.push.ensures ∙ ap (with_last _) c.in_ok-reserve.ensures.ok) (given_bound g.P.Pipes.known.out_name g.P.Pipes.known.in_name c.self.inside.state _ _ c.args.socket c.args.name c.self.invariant (g.H.Holder.holding c.args.holder.now) lends allowed c.in-Ok.notes c.fulfil_all.new.state (g.H.Holder.holding c.fulfil_all.new.holder) fulfils c.with_notes.result c.with_notes.ensures) in
-    subst (λ (p : Past (Given g.row.P-Name.Denot g.row.P-Out.Denot g.row.P-In.Denot) g.row.P-Name.Denot g.row.P-Story.Denot). HasTurned (control_of c.args.self.now) (control_of p) (g.H.Holder.holding c.args.holder.now) (g.H.Holder.holding c.fulfil_all.new.holder)) (sym step)
-    (subst (λ (p : Past (Given g.row.P-Name.Denot g.row.P-Out.Denot g.row.P-In.Denot) g.row.P-Name.Denot g.row.P-Story.Denot). HasTurned (control_of p) (control_of (with_event (Asked (Bind c.args.socket (Inproc c.args.name)) Done c.with_notes.result) p)) (g.H.Holder.holding c.args.holder.now) (g.H.Holder.holding c.fulfil_all.new.holder)) c.self.view_is
-    (told_fulfilled g.P.Pipes.known.out_name g.P.Pipes.known.in_name c.self.inside.state _ _ c.args.socket c.args.name c.self.invariant (g.H.Holder.holding c.args.holder.now) lends allowed c.in-Ok.notes c.fulfil_all.new.state (g.H.Holder.holding c.fulfil_all.new.holder) fulfils c.with_notes.result c.with_notes.ensures))
+    let all = may_fulfil_all g.P.Pipes.known.out_name g.P.Pipes.known.in_name c.self.inside.state _ _ c.args.socket c.args.name c.self.invariant (g.H.Holder.holding c.args.holder.now) lends allowed (c.needs.ensures _ stands) (length c.args.wakers.now) wakers has in
+    let fulfils = c.in_ok-notes.ensures.ok all in
+    let step = event_now c.args.self.now c.self.inside.workers (with_room (8 * length all.waiters + 1) c.self.inside.events) c.push.new.self _ _ _ (sym c.self.view_is)
+    (c.push.ensures ∙ ap (with_last _) (c.in_ok-notes.ensures.room all)) (given_bound g.P.Pipes.known.out_name g.P.Pipes.known.in_name c.self.inside.state _ _ c.args.socket c.args.name c.self.invariant (g.H.Holder.holding c.args.holder.now) lends allowed c.in_ok-notes.notes c.bind_with_room.new.state (g.H.Holder.holding c.bind_with_room.new.holder) fulfils c.with_notes.result c.with_notes.ensures) in
+    subst (λ (p : Past (Given g.row.P-Name.Denot g.row.P-Out.Denot g.row.P-In.Denot) g.row.P-Name.Denot g.row.P-Story.Denot). HasTurned (control_of c.args.self.now) (control_of p) (g.H.Holder.holding c.args.holder.now) (g.H.Holder.holding c.bind_with_room.new.holder)) (sym step)
+    (subst (λ (p : Past (Given g.row.P-Name.Denot g.row.P-Out.Denot g.row.P-In.Denot) g.row.P-Name.Denot g.row.P-Story.Denot). HasTurned (control_of p) (control_of (with_event (Asked (Bind c.args.socket (Inproc c.args.name)) Done c.with_notes.result) p)) (g.H.Holder.holding c.args.holder.now) (g.H.Holder.holding c.bind_with_room.new.holder)) c.self.view_is
+    (told_fulfilled g.P.Pipes.known.out_name g.P.Pipes.known.in_name c.self.inside.state _ _ c.args.socket c.args.name c.self.invariant (g.H.Holder.holding c.args.holder.now) lends allowed c.in_ok-notes.notes c.bind_with_room.new.state (g.H.Holder.holding c.bind_with_room.new.holder) fulfils c.with_notes.result c.with_notes.ensures))
 
-pub returns-in-Err-clause-turned : goal.returns-in-Err-clause-turned
-returns-in-Err-clause-turned g c =
-    subst (λ (p : Past (Given g.row.P-Name.Denot g.row.P-Out.Denot g.row.P-In.Denot) g.row.P-Name.Denot g.row.P-Story.Denot). HasTurned (control_of c.args.self.now) (control_of p) (g.H.Holder.holding c.args.holder.now) (g.H.Holder.holding c.fulfil_all.new.holder))
-    (sym (viewed_back c.args.self.now c.self.inside.state c.fulfil_all.new.state c.self.inside.workers c.self.inside.events c.release.new.self c.in-Err.ensures.err
-    (listed_back c.self.inside.events c.reserve.new.self c.release.new.self (8 * c.len.result + 1) c.in_ok-reserve.ensures.ok c.release.ensures) c.self.view_is))
-    (past_told c.args.self.now (g.H.Holder.holding c.args.holder.now) (g.H.Holder.holding c.fulfil_all.new.holder) (back_told (length c.self.inside.state.pairs) c.args.socket.0 (g.H.Holder.holding c.args.holder.now) (g.H.Holder.holding c.fulfil_all.new.holder) c.in-Err.ensures.back))
+pub returns-in_err-notes-clause-turned : goal.returns-in_err-notes-clause-turned
+returns-in_err-notes-clause-turned g c =
+    subst (λ (p : Past (Given g.row.P-Name.Denot g.row.P-Out.Denot g.row.P-In.Denot) g.row.P-Name.Denot g.row.P-Story.Denot). HasTurned (control_of c.args.self.now) (control_of p) (g.H.Holder.holding c.args.holder.now) (g.H.Holder.holding c.bind_with_room.new.holder))
+    (sym (viewed_back c.args.self.now c.self.inside.state c.bind_with_room.new.state c.self.inside.workers c.self.inside.events c.bind_with_room.new.events c.in_err-notes.ensures.err
+    c.in_err-notes.ensures.kept c.self.view_is))
+    (past_told c.args.self.now (g.H.Holder.holding c.args.holder.now) (g.H.Holder.holding c.bind_with_room.new.holder) (back_told (length c.self.inside.state.pairs) c.args.socket.0 (g.H.Holder.holding c.args.holder.now) (g.H.Holder.holding c.bind_with_room.new.holder) c.in_err-notes.ensures.back))
 
 pub returns-in_err-copy-clause-turned : goal.returns-in_err-copy-clause-turned
 returns-in_err-copy-clause-turned g c = past_told c.args.self.now (g.H.Holder.holding c.args.holder.now) (g.H.Holder.holding c.args.holder.now) (turns_same (g.H.Holder.holding c.args.holder.now))
 
-pub returns-in_err-waiters-clause-turned : goal.returns-in_err-waiters-clause-turned
-returns-in_err-waiters-clause-turned g c =
-    past_told c.args.self.now (g.H.Holder.holding c.args.holder.now) (g.H.Holder.holding c.args.holder.now) (turns_same (g.H.Holder.holding c.args.holder.now))
-
-pub returns-in_err-reserve-clause-turned : goal.returns-in_err-reserve-clause-turned
-returns-in_err-reserve-clause-turned g c =
-    subst (λ (p : Past (Given g.row.P-Name.Denot g.row.P-Out.Denot g.row.P-In.Denot) g.row.P-Name.Denot g.row.P-Story.Denot). HasTurned (control_of c.args.self.now) (control_of p) (g.H.Holder.holding c.args.holder.now) (g.H.Holder.holding c.args.holder.now)) (sym (viewed_back c.args.self.now c.self.inside.state c.self.inside.state c.self.inside.workers c.self.inside.events c.reserve.new.self refl c.in_err-reserve.ensures.err c.self.view_is))
-    (past_told c.args.self.now (g.H.Holder.holding c.args.holder.now) (g.H.Holder.holding c.args.holder.now) (turns_same (g.H.Holder.holding c.args.holder.now)))
-
-pub returns-in-Ok-clause-joins : goal.returns-in-Ok-clause-joins
-returns-in-Ok-clause-joins g c =
+pub returns-clause-joins : goal.returns-clause-joins
+returns-clause-joins g c =
     let inner : Past (Given g.row.P-Name.Denot g.row.P-Out.Denot g.row.P-In.Denot) g.row.P-Name.Denot g.row.P-Story.Denot = record { workers = c.self.inside.workers; events = c.self.inside.events.items; given = given_in c.self.inside.state.boxes } in
     let lends = subst (λ (p : Past (Given g.row.P-Name.Denot g.row.P-Out.Denot g.row.P-In.Denot) g.row.P-Name.Denot g.row.P-Story.Denot). Lends (control_of p) c.args.socket.0 (g.H.Holder.holding c.args.holder.now)) (sym c.self.view_is) c.requires.lends in
     let allowed = subst (λ (p : Past (Given g.row.P-Name.Denot g.row.P-Out.Denot g.row.P-In.Denot) g.row.P-Name.Denot g.row.P-Story.Denot). refusal_in (reply_of (control_of p) (Bind c.args.socket (Inproc c.args.name))) ≡ None) (sym c.self.view_is) c.requires.free in
     let stands = c.self.invariant.history.stands in
-    let ids = c.deref.ensures.value ∙ c.in_ok-waiters.ensures (control_of inner) stands ∙ ap (λ (b : Binding). waiters (fulfilled_by (Inproc c.args.name) b (control_of inner).names)) (c.binding_by-binding.ensures (control_of inner) stands) in
     let has = subst (λ (p : Past (Given g.row.P-Name.Denot g.row.P-Out.Denot g.row.P-In.Denot) g.row.P-Name.Denot g.row.P-Story.Denot). HasWhat p (g.H.Holder.holding c.args.holder.now)) (sym c.self.view_is) c.requires.has in
     let wakers = subst (λ (p : Past (Given g.row.P-Name.Denot g.row.P-Out.Denot g.row.P-In.Denot) g.row.P-Name.Denot g.row.P-Story.Denot). (control_of p).slots ≤ length c.args.wakers.now) (sym c.self.view_is) c.requires.wakers in
-    let may = may_fulfil g.P.Pipes.known.out_name g.P.Pipes.known.in_name c.self.inside.state _ _ c.args.socket c.args.name c.self.invariant (g.H.Holder.holding c.args.holder.now) lends allowed (c.needs.ensures _ stands) (length c.args.wakers.now) wakers has c.deref.result.now ids in
-    let fulfils = subst (λ (xs : List ObjId). Fulfils g.P.Pipes.known.out_name g.P.Pipes.known.in_name (control_of inner) c.args.socket (Inproc c.args.name) xs c.in-Ok.notes c.self.inside.state c.fulfil_all.new.state (g.H.Holder.holding c.args.holder.now) (g.H.Holder.holding c.fulfil_all.new.holder)) ids (c.in-Ok.ensures.ok may) in
-    let step = event_now c.args.self.now c.self.inside.workers (with_room (8 * c.len.result + 1) c.self.inside.events) c.push.new.self _ _ _ (sym c.self.view_is)
-    (c.push.ensures ∙ ap (with_last _) c.in_ok-reserve.ensures.ok) (given_bound g.P.Pipes.known.out_name g.P.Pipes.known.in_name c.self.inside.state _ _ c.args.socket c.args.name c.self.invariant (g.H.Holder.holding c.args.holder.now) lends allowed c.in-Ok.notes c.fulfil_all.new.state (g.H.Holder.holding c.fulfil_all.new.holder) fulfils c.with_notes.result c.with_notes.ensures) in
-    subst (λ (p : Past (Given g.row.P-Name.Denot g.row.P-Out.Denot g.row.P-In.Denot) g.row.P-Name.Denot g.row.P-Story.Denot). ComesWith c.args.self.now p (g.H.Holder.holding c.args.holder.now) (g.H.Holder.holding c.fulfil_all.new.holder)) (sym step)
-    (event_comes c.args.self.now (Asked (Bind c.args.socket (Inproc c.args.name)) Done c.with_notes.result) (g.H.Holder.holding c.args.holder.now) (g.H.Holder.holding c.fulfil_all.new.holder)
+    let all = may_fulfil_all g.P.Pipes.known.out_name g.P.Pipes.known.in_name c.self.inside.state _ _ c.args.socket c.args.name c.self.invariant (g.H.Holder.holding c.args.holder.now) lends allowed (c.needs.ensures _ stands) (length c.args.wakers.now) wakers has in
+    let fulfils = c.in_ok-notes.ensures.ok all in
+    let step = event_now c.args.self.now c.self.inside.workers (with_room (8 * length all.waiters + 1) c.self.inside.events) c.push.new.self _ _ _ (sym c.self.view_is)
+    (c.push.ensures ∙ ap (with_last _) (c.in_ok-notes.ensures.room all)) (given_bound g.P.Pipes.known.out_name g.P.Pipes.known.in_name c.self.inside.state _ _ c.args.socket c.args.name c.self.invariant (g.H.Holder.holding c.args.holder.now) lends allowed c.in_ok-notes.notes c.bind_with_room.new.state (g.H.Holder.holding c.bind_with_room.new.holder) fulfils c.with_notes.result c.with_notes.ensures) in
+    subst (λ (p : Past (Given g.row.P-Name.Denot g.row.P-Out.Denot g.row.P-In.Denot) g.row.P-Name.Denot g.row.P-Story.Denot). ComesWith c.args.self.now p (g.H.Holder.holding c.args.holder.now) (g.H.Holder.holding c.bind_with_room.new.holder)) (sym step)
+    (event_comes c.args.self.now (Asked (Bind c.args.socket (Inproc c.args.name)) Done c.with_notes.result) (g.H.Holder.holding c.args.holder.now) (g.H.Holder.holding c.bind_with_room.new.holder)
     (fulfils.came ∙ ap (λ (js : List (Joining g.row.P-Name.Denot)). (g.H.Holder.holding c.args.holder.now).joined ++ js) (sym c.with_notes.ensures.joined)) fulfils.gets.objects fulfils.gets.kinds)
 
-pub returns-in-Err-clause-joins : goal.returns-in-Err-clause-joins
-returns-in-Err-clause-joins g c =
-    subst (λ (p : Past (Given g.row.P-Name.Denot g.row.P-Out.Denot g.row.P-In.Denot) g.row.P-Name.Denot g.row.P-Story.Denot). ComesWith c.args.self.now p (g.H.Holder.holding c.args.holder.now) (g.H.Holder.holding c.fulfil_all.new.holder))
-    (sym (viewed_back c.args.self.now c.self.inside.state c.fulfil_all.new.state c.self.inside.workers c.self.inside.events c.release.new.self c.in-Err.ensures.err
-    (listed_back c.self.inside.events c.reserve.new.self c.release.new.self (8 * c.len.result + 1) c.in_ok-reserve.ensures.ok c.release.ensures) c.self.view_is))
-    (past_comes c.args.self.now (g.H.Holder.holding c.args.holder.now) (g.H.Holder.holding c.fulfil_all.new.holder) c.in-Err.ensures.back.joined c.in-Err.ensures.back.now.objects c.in-Err.ensures.back.now.kinds)
+pub returns-in_err-notes-clause-joins : goal.returns-in_err-notes-clause-joins
+returns-in_err-notes-clause-joins g c =
+    subst (λ (p : Past (Given g.row.P-Name.Denot g.row.P-Out.Denot g.row.P-In.Denot) g.row.P-Name.Denot g.row.P-Story.Denot). ComesWith c.args.self.now p (g.H.Holder.holding c.args.holder.now) (g.H.Holder.holding c.bind_with_room.new.holder))
+    (sym (viewed_back c.args.self.now c.self.inside.state c.bind_with_room.new.state c.self.inside.workers c.self.inside.events c.bind_with_room.new.events c.in_err-notes.ensures.err
+    c.in_err-notes.ensures.kept c.self.view_is))
+    (past_comes c.args.self.now (g.H.Holder.holding c.args.holder.now) (g.H.Holder.holding c.bind_with_room.new.holder) c.in_err-notes.ensures.back.joined c.in_err-notes.ensures.back.now.objects c.in_err-notes.ensures.back.now.kinds)
 
 pub returns-in_err-copy-clause-joins : goal.returns-in_err-copy-clause-joins
 returns-in_err-copy-clause-joins g c = past_comes c.args.self.now (g.H.Holder.holding c.args.holder.now) (g.H.Holder.holding c.args.holder.now) refl (λ i. refl) (λ i. refl)
-
-pub returns-in_err-waiters-clause-joins : goal.returns-in_err-waiters-clause-joins
-returns-in_err-waiters-clause-joins g c =
-    past_comes c.args.self.now (g.H.Holder.holding c.args.holder.now) (g.H.Holder.holding c.args.holder.now) refl (λ i. refl) (λ i. refl)
-
-pub returns-in_err-reserve-clause-joins : goal.returns-in_err-reserve-clause-joins
-returns-in_err-reserve-clause-joins g c =
-    subst (λ (p : Past (Given g.row.P-Name.Denot g.row.P-Out.Denot g.row.P-In.Denot) g.row.P-Name.Denot g.row.P-Story.Denot). ComesWith c.args.self.now p (g.H.Holder.holding c.args.holder.now) (g.H.Holder.holding c.args.holder.now)) (sym (viewed_back c.args.self.now c.self.inside.state c.self.inside.state c.self.inside.workers c.self.inside.events c.reserve.new.self refl c.in_err-reserve.ensures.err c.self.view_is))
-    (past_comes c.args.self.now (g.H.Holder.holding c.args.holder.now) (g.H.Holder.holding c.args.holder.now) refl (λ i. refl) (λ i. refl))

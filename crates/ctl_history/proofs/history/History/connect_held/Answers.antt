@@ -1,6 +1,8 @@
 use Rattle.std.specs.Prelude.{◌≡◌, ◌≤◌, Some, None, length, refl, ◌++◌, List}
 use Rattle.std.proofs.Common.{ap, sym, ◌∙◌, subst}
 use Rattle.zq_base.specs.declared.endpoint.Endpoint.TheVariants.{Inproc}
+use Rattle.zq_base.specs.declared.ids.ObjId.{ObjId}
+use Rattle.ctl_holder.specs.Holding.{Stays}
 use Rattle.spec_control.specs.declared.request.Req.TheVariants.{Connect}
 use Rattle.spec_control.specs.declared.request.Reply.TheVariants.{Pair}
 use Rattle.spec_control.specs.Reply.{reply_of}
@@ -16,7 +18,7 @@ use Rattle.ctl_asks.specs.Refusals.{refusal_in}
 use Rattle.ctl_history.proofs.DoneLemmas.{event_now}
 use Rattle.ctl_history.proofs.HeldPlaneLemmas.{ends_held, given_held, keeps_held, told_held, plane_held, reply_held}
 use Rattle.ctl_history.proofs.JoinHeldLemmas.{may_connect}
-use Rattle.ctl_history.proofs.MakingLemmas.{listed_back, planed_back, viewed_back}
+use Rattle.ctl_history.proofs.MakingLemmas.{planed_back, so_on_err, viewed_back}
 use Rattle.ctl_history.proofs.PlaneLemmas.{planed_now}
 use Rattle.ctl_holder.specs.Turns.{HasTurned}
 use Rattle.ctl_ends.proofs.TurnedLemmas.{turns_none, turns_same}
@@ -26,8 +28,8 @@ use Rattle.ctl_history.proofs.ComeLemmas.{event_comes, past_comes}
 use Rattle.spec_control.specs.declared.entry.Joining.{Joining}
 use Rattle.ctl_history.proofs.history.History.connect_held.Goals as goal
 
-pub connect_pair-requires : goal.connect_pair-requires
-connect_pair-requires g c =
+pub connect_with_room-requires : goal.connect_with_room-requires
+connect_with_room-requires g c =
     let lends = (subst (λ (p : Past (Given g.row.P-Name.Denot g.row.P-Out.Denot g.row.P-In.Denot) g.row.P-Name.Denot g.row.P-Story.Denot). Lends (control_of p) c.args.socket.0 (g.H.Holder.holding c.args.holder.now)) (sym c.self.view_is) c.requires.lends) in
     let held = (subst (λ (p : Past (Given g.row.P-Name.Denot g.row.P-Out.Denot g.row.P-In.Denot) g.row.P-Name.Denot g.row.P-Story.Denot). (control_of p).names.held (Inproc c.args.name) ≡ Some c.args.binding) (sym c.self.view_is) c.requires.held) in
     let free = (subst (λ (p : Past (Given g.row.P-Name.Denot g.row.P-Out.Denot g.row.P-In.Denot) g.row.P-Name.Denot g.row.P-Story.Denot). refusal_in (reply_of (control_of p) (Connect c.args.socket (Inproc c.args.name))) ≡ None) (sym c.self.view_is) c.requires.free) in
@@ -37,8 +39,8 @@ connect_pair-requires g c =
     let may = may_connect g.P.Pipes.known.out_name g.P.Pipes.known.in_name c.self.inside.state _ _ c.args.socket c.args.name c.args.binding c.self.invariant (g.H.Holder.holding c.args.holder.now) lends held free (c.needs.ensures _ stands) c.of-owners.result are (length c.args.wakers.now) (subst (λ (p : Past (Given g.row.P-Name.Denot g.row.P-Out.Denot g.row.P-In.Denot) g.row.P-Name.Denot g.row.P-Story.Denot). (control_of p).slots ≤ length c.args.wakers.now) (sym c.self.view_is) c.requires.wakers) has in
     record { may = may }
 
-pub invariant_of-self-in-Ok : goal.invariant_of-self-in-Ok
-invariant_of-self-in-Ok g c =
+pub invariant_of-self-2 : goal.invariant_of-self-2
+invariant_of-self-2 g c =
     let lends = (subst (λ (p : Past (Given g.row.P-Name.Denot g.row.P-Out.Denot g.row.P-In.Denot) g.row.P-Name.Denot g.row.P-Story.Denot). Lends (control_of p) c.args.socket.0 (g.H.Holder.holding c.args.holder.now)) (sym c.self.view_is) c.requires.lends) in
     let held = (subst (λ (p : Past (Given g.row.P-Name.Denot g.row.P-Out.Denot g.row.P-In.Denot) g.row.P-Name.Denot g.row.P-Story.Denot). (control_of p).names.held (Inproc c.args.name) ≡ Some c.args.binding) (sym c.self.view_is) c.requires.held) in
     let free = (subst (λ (p : Past (Given g.row.P-Name.Denot g.row.P-Out.Denot g.row.P-In.Denot) g.row.P-Name.Denot g.row.P-Story.Denot). refusal_in (reply_of (control_of p) (Connect c.args.socket (Inproc c.args.name))) ≡ None) (sym c.self.view_is) c.requires.free) in
@@ -46,14 +48,14 @@ invariant_of-self-in-Ok g c =
     let are = c.of-owners.ensures _ stands in
     let has = (subst (λ (p : Past (Given g.row.P-Name.Denot g.row.P-Out.Denot g.row.P-In.Denot) g.row.P-Name.Denot g.row.P-Story.Denot). HasWhat p (g.H.Holder.holding c.args.holder.now)) (sym c.self.view_is) c.requires.has) in
     let may = may_connect g.P.Pipes.known.out_name g.P.Pipes.known.in_name c.self.inside.state _ _ c.args.socket c.args.name c.args.binding c.self.invariant (g.H.Holder.holding c.args.holder.now) lends held free (c.needs.ensures _ stands) c.of-owners.result are (length c.args.wakers.now) (subst (λ (p : Past (Given g.row.P-Name.Denot g.row.P-Out.Denot g.row.P-In.Denot) g.row.P-Name.Denot g.row.P-Story.Denot). (control_of p).slots ≤ length c.args.wakers.now) (sym c.self.view_is) c.requires.wakers) has in
-    let connected = c.in-Ok.ensures.ok may in
-    planed_now g.P.Pipes.known.out_name g.P.Pipes.known.in_name c.connect_pair.new.state c.self.inside.workers (with_room 9 c.self.inside.events) c.push.new.self _ _ _
-    (c.push.ensures ∙ ap (with_last _) c.in_ok-reserve.ensures.ok)
+    let connected = c.in_ok-made.ensures.ok may in
+    planed_now g.P.Pipes.known.out_name g.P.Pipes.known.in_name c.connect_with_room.new.state c.self.inside.workers (with_room 9 c.self.inside.events) c.push.new.self _ _ _
+    (c.push.ensures ∙ ap (with_last _) c.in_ok-made.ensures.room)
     (plane_held g.P.Pipes.known.out_name g.P.Pipes.known.in_name c.self.inside.state _ _ c.args.socket c.args.name c.args.binding c.self.invariant (g.H.Holder.holding c.args.holder.now) lends held free c.of-owners.result are (length c.args.wakers.now) may refl
-    (Inproc c.in_ok-copy.field-0) (ap Inproc c.in_ok-copy.ensures) c.in-Ok.pair c.in-Ok.notes c.connect_pair.new.state (g.H.Holder.holding c.connect_pair.new.holder) connected c.with_notes.result c.with_notes.ensures)
+    (Inproc c.in_ok-copy.field-0) (ap Inproc c.in_ok-copy.ensures) c.in_ok-made.made.0 c.in_ok-made.made.1 c.connect_with_room.new.state (g.H.Holder.holding c.connect_with_room.new.holder) connected c.with_notes.result c.with_notes.ensures)
 
-pub returns-in-Ok-clause-ok : goal.returns-in-Ok-clause-ok
-returns-in-Ok-clause-ok g c =
+pub returns-clause-ok : goal.returns-clause-ok
+returns-clause-ok g c =
     let lends = (subst (λ (p : Past (Given g.row.P-Name.Denot g.row.P-Out.Denot g.row.P-In.Denot) g.row.P-Name.Denot g.row.P-Story.Denot). Lends (control_of p) c.args.socket.0 (g.H.Holder.holding c.args.holder.now)) (sym c.self.view_is) c.requires.lends) in
     let held = (subst (λ (p : Past (Given g.row.P-Name.Denot g.row.P-Out.Denot g.row.P-In.Denot) g.row.P-Name.Denot g.row.P-Story.Denot). (control_of p).names.held (Inproc c.args.name) ≡ Some c.args.binding) (sym c.self.view_is) c.requires.held) in
     let free = (subst (λ (p : Past (Given g.row.P-Name.Denot g.row.P-Out.Denot g.row.P-In.Denot) g.row.P-Name.Denot g.row.P-Story.Denot). refusal_in (reply_of (control_of p) (Connect c.args.socket (Inproc c.args.name))) ≡ None) (sym c.self.view_is) c.requires.free) in
@@ -61,18 +63,18 @@ returns-in-Ok-clause-ok g c =
     let are = c.of-owners.ensures _ stands in
     let has = (subst (λ (p : Past (Given g.row.P-Name.Denot g.row.P-Out.Denot g.row.P-In.Denot) g.row.P-Name.Denot g.row.P-Story.Denot). HasWhat p (g.H.Holder.holding c.args.holder.now)) (sym c.self.view_is) c.requires.has) in
     let may = may_connect g.P.Pipes.known.out_name g.P.Pipes.known.in_name c.self.inside.state _ _ c.args.socket c.args.name c.args.binding c.self.invariant (g.H.Holder.holding c.args.holder.now) lends held free (c.needs.ensures _ stands) c.of-owners.result are (length c.args.wakers.now) (subst (λ (p : Past (Given g.row.P-Name.Denot g.row.P-Out.Denot g.row.P-In.Denot) g.row.P-Name.Denot g.row.P-Story.Denot). (control_of p).slots ≤ length c.args.wakers.now) (sym c.self.view_is) c.requires.wakers) has in
-    let connected = c.in-Ok.ensures.ok may in
+    let connected = c.in_ok-made.ensures.ok may in
     record {
       answered = c.with_notes.result;
       step = event_now c.args.self.now c.self.inside.workers (with_room 9 c.self.inside.events) c.push.new.self _ _ _ (sym c.self.view_is)
-          (c.push.ensures ∙ ap (with_last _) c.in_ok-reserve.ensures.ok) (given_held g.P.Pipes.known.out_name g.P.Pipes.known.in_name c.self.inside.state _ _ c.args.socket c.args.name c.args.binding c.self.invariant (g.H.Holder.holding c.args.holder.now) lends held free c.of-owners.result are (length c.args.wakers.now) may refl
-          (Inproc c.in_ok-copy.field-0) (ap Inproc c.in_ok-copy.ensures) c.in-Ok.pair c.in-Ok.notes c.connect_pair.new.state (g.H.Holder.holding c.connect_pair.new.holder) connected c.with_notes.result c.with_notes.ensures);
+          (c.push.ensures ∙ ap (with_last _) c.in_ok-made.ensures.room) (given_held g.P.Pipes.known.out_name g.P.Pipes.known.in_name c.self.inside.state _ _ c.args.socket c.args.name c.args.binding c.self.invariant (g.H.Holder.holding c.args.holder.now) lends held free c.of-owners.result are (length c.args.wakers.now) may refl
+          (Inproc c.in_ok-copy.field-0) (ap Inproc c.in_ok-copy.ensures) c.in_ok-made.made.0 c.in_ok-made.made.1 c.connect_with_room.new.state (g.H.Holder.holding c.connect_with_room.new.holder) connected c.with_notes.result c.with_notes.ensures);
       ends = ends_held g.P.Pipes.known.out_name g.P.Pipes.known.in_name c.self.inside.state _ _ c.args.socket c.args.name c.args.binding c.self.invariant (g.H.Holder.holding c.args.holder.now) lends held free c.of-owners.result are (length c.args.wakers.now) may refl
-          (Inproc c.in_ok-copy.field-0) (ap Inproc c.in_ok-copy.ensures) c.in-Ok.pair c.in-Ok.notes c.connect_pair.new.state (g.H.Holder.holding c.connect_pair.new.holder) connected c.with_notes.result c.with_notes.ensures;
+          (Inproc c.in_ok-copy.field-0) (ap Inproc c.in_ok-copy.ensures) c.in_ok-made.made.0 c.in_ok-made.made.1 c.connect_with_room.new.state (g.H.Holder.holding c.connect_with_room.new.holder) connected c.with_notes.result c.with_notes.ensures;
     }
 
-pub returns-in-Ok-clause-reply : goal.returns-in-Ok-clause-reply
-returns-in-Ok-clause-reply g c =
+pub returns-clause-reply : goal.returns-clause-reply
+returns-clause-reply g c =
     let lends = (subst (λ (p : Past (Given g.row.P-Name.Denot g.row.P-Out.Denot g.row.P-In.Denot) g.row.P-Name.Denot g.row.P-Story.Denot). Lends (control_of p) c.args.socket.0 (g.H.Holder.holding c.args.holder.now)) (sym c.self.view_is) c.requires.lends) in
     let held = (subst (λ (p : Past (Given g.row.P-Name.Denot g.row.P-Out.Denot g.row.P-In.Denot) g.row.P-Name.Denot g.row.P-Story.Denot). (control_of p).names.held (Inproc c.args.name) ≡ Some c.args.binding) (sym c.self.view_is) c.requires.held) in
     let free = (subst (λ (p : Past (Given g.row.P-Name.Denot g.row.P-Out.Denot g.row.P-In.Denot) g.row.P-Name.Denot g.row.P-Story.Denot). refusal_in (reply_of (control_of p) (Connect c.args.socket (Inproc c.args.name))) ≡ None) (sym c.self.view_is) c.requires.free) in
@@ -80,13 +82,13 @@ returns-in-Ok-clause-reply g c =
     let are = c.of-owners.ensures _ stands in
     let has = (subst (λ (p : Past (Given g.row.P-Name.Denot g.row.P-Out.Denot g.row.P-In.Denot) g.row.P-Name.Denot g.row.P-Story.Denot). HasWhat p (g.H.Holder.holding c.args.holder.now)) (sym c.self.view_is) c.requires.has) in
     let may = may_connect g.P.Pipes.known.out_name g.P.Pipes.known.in_name c.self.inside.state _ _ c.args.socket c.args.name c.args.binding c.self.invariant (g.H.Holder.holding c.args.holder.now) lends held free (c.needs.ensures _ stands) c.of-owners.result are (length c.args.wakers.now) (subst (λ (p : Past (Given g.row.P-Name.Denot g.row.P-Out.Denot g.row.P-In.Denot) g.row.P-Name.Denot g.row.P-Story.Denot). (control_of p).slots ≤ length c.args.wakers.now) (sym c.self.view_is) c.requires.wakers) has in
-    let connected = c.in-Ok.ensures.ok may in
-    subst (λ (p : Past (Given g.row.P-Name.Denot g.row.P-Out.Denot g.row.P-In.Denot) g.row.P-Name.Denot g.row.P-Story.Denot). Pair c.in-Ok.pair ≡ reply_of (control_of p) (Connect c.args.socket (Inproc c.args.name))) c.self.view_is
+    let connected = c.in_ok-made.ensures.ok may in
+    subst (λ (p : Past (Given g.row.P-Name.Denot g.row.P-Out.Denot g.row.P-In.Denot) g.row.P-Name.Denot g.row.P-Story.Denot). Pair c.in_ok-made.made.0 ≡ reply_of (control_of p) (Connect c.args.socket (Inproc c.args.name))) c.self.view_is
     (reply_held g.P.Pipes.known.out_name g.P.Pipes.known.in_name c.self.inside.state _ _ c.args.socket c.args.name c.args.binding c.self.invariant (g.H.Holder.holding c.args.holder.now) lends held free c.of-owners.result are (length c.args.wakers.now) may refl
-    (Inproc c.in_ok-copy.field-0) (ap Inproc c.in_ok-copy.ensures) c.in-Ok.pair c.in-Ok.notes c.connect_pair.new.state (g.H.Holder.holding c.connect_pair.new.holder) connected c.with_notes.result c.with_notes.ensures)
+    (Inproc c.in_ok-copy.field-0) (ap Inproc c.in_ok-copy.ensures) c.in_ok-made.made.0 c.in_ok-made.made.1 c.connect_with_room.new.state (g.H.Holder.holding c.connect_with_room.new.holder) connected c.with_notes.result c.with_notes.ensures)
 
-pub returns-in-Ok-clause-same : goal.returns-in-Ok-clause-same
-returns-in-Ok-clause-same g c =
+pub returns-clause-same : goal.returns-clause-same
+returns-clause-same g c =
     let lends = (subst (λ (p : Past (Given g.row.P-Name.Denot g.row.P-Out.Denot g.row.P-In.Denot) g.row.P-Name.Denot g.row.P-Story.Denot). Lends (control_of p) c.args.socket.0 (g.H.Holder.holding c.args.holder.now)) (sym c.self.view_is) c.requires.lends) in
     let held = (subst (λ (p : Past (Given g.row.P-Name.Denot g.row.P-Out.Denot g.row.P-In.Denot) g.row.P-Name.Denot g.row.P-Story.Denot). (control_of p).names.held (Inproc c.args.name) ≡ Some c.args.binding) (sym c.self.view_is) c.requires.held) in
     let free = (subst (λ (p : Past (Given g.row.P-Name.Denot g.row.P-Out.Denot g.row.P-In.Denot) g.row.P-Name.Denot g.row.P-Story.Denot). refusal_in (reply_of (control_of p) (Connect c.args.socket (Inproc c.args.name))) ≡ None) (sym c.self.view_is) c.requires.free) in
@@ -94,11 +96,11 @@ returns-in-Ok-clause-same g c =
     let are = c.of-owners.ensures _ stands in
     let has = (subst (λ (p : Past (Given g.row.P-Name.Denot g.row.P-Out.Denot g.row.P-In.Denot) g.row.P-Name.Denot g.row.P-Story.Denot). HasWhat p (g.H.Holder.holding c.args.holder.now)) (sym c.self.view_is) c.requires.has) in
     let may = may_connect g.P.Pipes.known.out_name g.P.Pipes.known.in_name c.self.inside.state _ _ c.args.socket c.args.name c.args.binding c.self.invariant (g.H.Holder.holding c.args.holder.now) lends held free (c.needs.ensures _ stands) c.of-owners.result are (length c.args.wakers.now) (subst (λ (p : Past (Given g.row.P-Name.Denot g.row.P-Out.Denot g.row.P-In.Denot) g.row.P-Name.Denot g.row.P-Story.Denot). (control_of p).slots ≤ length c.args.wakers.now) (sym c.self.view_is) c.requires.wakers) has in
-    let connected = c.in-Ok.ensures.ok may in
+    let connected = c.in_ok-made.ensures.ok may in
     record { objects = connected.gets.objects; kinds = connected.gets.kinds; output = connected.gets.output }
 
-pub returns-in-Ok-clause-keeps : goal.returns-in-Ok-clause-keeps
-returns-in-Ok-clause-keeps g c =
+pub returns-clause-keeps : goal.returns-clause-keeps
+returns-clause-keeps g c =
     let lends = (subst (λ (p : Past (Given g.row.P-Name.Denot g.row.P-Out.Denot g.row.P-In.Denot) g.row.P-Name.Denot g.row.P-Story.Denot). Lends (control_of p) c.args.socket.0 (g.H.Holder.holding c.args.holder.now)) (sym c.self.view_is) c.requires.lends) in
     let held = (subst (λ (p : Past (Given g.row.P-Name.Denot g.row.P-Out.Denot g.row.P-In.Denot) g.row.P-Name.Denot g.row.P-Story.Denot). (control_of p).names.held (Inproc c.args.name) ≡ Some c.args.binding) (sym c.self.view_is) c.requires.held) in
     let free = (subst (λ (p : Past (Given g.row.P-Name.Denot g.row.P-Out.Denot g.row.P-In.Denot) g.row.P-Name.Denot g.row.P-Story.Denot). refusal_in (reply_of (control_of p) (Connect c.args.socket (Inproc c.args.name))) ≡ None) (sym c.self.view_is) c.requires.free) in
@@ -106,28 +108,28 @@ returns-in-Ok-clause-keeps g c =
     let are = c.of-owners.ensures _ stands in
     let has = (subst (λ (p : Past (Given g.row.P-Name.Denot g.row.P-Out.Denot g.row.P-In.Denot) g.row.P-Name.Denot g.row.P-Story.Denot). HasWhat p (g.H.Holder.holding c.args.holder.now)) (sym c.self.view_is) c.requires.has) in
     let may = may_connect g.P.Pipes.known.out_name g.P.Pipes.known.in_name c.self.inside.state _ _ c.args.socket c.args.name c.args.binding c.self.invariant (g.H.Holder.holding c.args.holder.now) lends held free (c.needs.ensures _ stands) c.of-owners.result are (length c.args.wakers.now) (subst (λ (p : Past (Given g.row.P-Name.Denot g.row.P-Out.Denot g.row.P-In.Denot) g.row.P-Name.Denot g.row.P-Story.Denot). (control_of p).slots ≤ length c.args.wakers.now) (sym c.self.view_is) c.requires.wakers) has in
-    let connected = c.in-Ok.ensures.ok may in
-    subst (λ (p : Past (Given g.row.P-Name.Denot g.row.P-Out.Denot g.row.P-In.Denot) g.row.P-Name.Denot g.row.P-Story.Denot). HasWhat p (g.H.Holder.holding c.connect_pair.new.holder))
+    let connected = c.in_ok-made.ensures.ok may in
+    subst (λ (p : Past (Given g.row.P-Name.Denot g.row.P-Out.Denot g.row.P-In.Denot) g.row.P-Name.Denot g.row.P-Story.Denot). HasWhat p (g.H.Holder.holding c.connect_with_room.new.holder))
     (sym (event_now (record { workers = c.self.inside.workers; events = c.self.inside.events.items; given = _ }) c.self.inside.workers (with_room 9 c.self.inside.events) c.push.new.self _ _ _ refl
-    (c.push.ensures ∙ ap (with_last _) c.in_ok-reserve.ensures.ok) (given_held g.P.Pipes.known.out_name g.P.Pipes.known.in_name c.self.inside.state _ _ c.args.socket c.args.name c.args.binding c.self.invariant (g.H.Holder.holding c.args.holder.now) lends held free c.of-owners.result are (length c.args.wakers.now) may refl
-    (Inproc c.in_ok-copy.field-0) (ap Inproc c.in_ok-copy.ensures) c.in-Ok.pair c.in-Ok.notes c.connect_pair.new.state (g.H.Holder.holding c.connect_pair.new.holder) connected c.with_notes.result c.with_notes.ensures)))
+    (c.push.ensures ∙ ap (with_last _) c.in_ok-made.ensures.room) (given_held g.P.Pipes.known.out_name g.P.Pipes.known.in_name c.self.inside.state _ _ c.args.socket c.args.name c.args.binding c.self.invariant (g.H.Holder.holding c.args.holder.now) lends held free c.of-owners.result are (length c.args.wakers.now) may refl
+    (Inproc c.in_ok-copy.field-0) (ap Inproc c.in_ok-copy.ensures) c.in_ok-made.made.0 c.in_ok-made.made.1 c.connect_with_room.new.state (g.H.Holder.holding c.connect_with_room.new.holder) connected c.with_notes.result c.with_notes.ensures)))
     (keeps_held g.P.Pipes.known.out_name g.P.Pipes.known.in_name c.self.inside.state _ _ c.args.socket c.args.name c.args.binding c.self.invariant (g.H.Holder.holding c.args.holder.now) lends held free c.of-owners.result are (length c.args.wakers.now) may refl
-    (Inproc c.in_ok-copy.field-0) (ap Inproc c.in_ok-copy.ensures) c.in-Ok.pair c.in-Ok.notes c.connect_pair.new.state (g.H.Holder.holding c.connect_pair.new.holder) connected c.with_notes.result c.with_notes.ensures has)
+    (Inproc c.in_ok-copy.field-0) (ap Inproc c.in_ok-copy.ensures) c.in_ok-made.made.0 c.in_ok-made.made.1 c.connect_with_room.new.state (g.H.Holder.holding c.connect_with_room.new.holder) connected c.with_notes.result c.with_notes.ensures has)
 
-pub invariant_of-self-in-Err : goal.invariant_of-self-in-Err
-invariant_of-self-in-Err g c =
-    planed_back g.P.Pipes.known.out_name g.P.Pipes.known.in_name c.self.inside.state c.connect_pair.new.state c.self.inside.workers c.self.inside.events c.release.new.self c.in-Err.ensures.err
-    (listed_back c.self.inside.events c.reserve.new.self c.release.new.self 9 c.in_ok-reserve.ensures.ok c.release.ensures) c.self.invariant
+pub invariant_of-self : goal.invariant_of-self
+invariant_of-self g c =
+    planed_back g.P.Pipes.known.out_name g.P.Pipes.known.in_name c.self.inside.state c.connect_with_room.new.state c.self.inside.workers c.self.inside.events c.connect_with_room.new.events c.in_err-made.ensures.err
+    c.in_err-made.ensures.kept c.self.invariant
 
-pub returns-in-Err-clause-keeps : goal.returns-in-Err-clause-keeps
-returns-in-Err-clause-keeps g c =
-    subst (λ (p : Past (Given g.row.P-Name.Denot g.row.P-Out.Denot g.row.P-In.Denot) g.row.P-Name.Denot g.row.P-Story.Denot). HasWhat p (g.H.Holder.holding c.connect_pair.new.holder))
-    (sym (viewed_back c.args.self.now c.self.inside.state c.connect_pair.new.state c.self.inside.workers c.self.inside.events c.release.new.self c.in-Err.ensures.err
-    (listed_back c.self.inside.events c.reserve.new.self c.release.new.self 9 c.in_ok-reserve.ensures.ok c.release.ensures) c.self.view_is))
-    (has_stays (name_of (items_of c.args.self.now)) (control_of c.args.self.now) c.of-owners.result.first.0 (g.H.Holder.holding c.args.holder.now) (g.H.Holder.holding c.connect_pair.new.holder) c.in-Err.ensures.stays c.in-Err.ensures.keeps c.requires.has)
+pub returns-in_err-made-clause-keeps : goal.returns-in_err-made-clause-keeps
+returns-in_err-made-clause-keeps g c =
+    subst (λ (p : Past (Given g.row.P-Name.Denot g.row.P-Out.Denot g.row.P-In.Denot) g.row.P-Name.Denot g.row.P-Story.Denot). HasWhat p (g.H.Holder.holding c.connect_with_room.new.holder))
+    (sym (viewed_back c.args.self.now c.self.inside.state c.connect_with_room.new.state c.self.inside.workers c.self.inside.events c.connect_with_room.new.events c.in_err-made.ensures.err
+    c.in_err-made.ensures.kept c.self.view_is))
+    (has_stays (name_of (items_of c.args.self.now)) (control_of c.args.self.now) c.of-owners.result.first.0 (g.H.Holder.holding c.args.holder.now) (g.H.Holder.holding c.connect_with_room.new.holder) c.in_err-made.ensures.stays c.in_err-made.ensures.keeps c.requires.has)
 
-pub returns-in-Ok-clause-turned : goal.returns-in-Ok-clause-turned
-returns-in-Ok-clause-turned g c =
+pub returns-clause-turned : goal.returns-clause-turned
+returns-clause-turned g c =
     let lends = (subst (λ (p : Past (Given g.row.P-Name.Denot g.row.P-Out.Denot g.row.P-In.Denot) g.row.P-Name.Denot g.row.P-Story.Denot). Lends (control_of p) c.args.socket.0 (g.H.Holder.holding c.args.holder.now)) (sym c.self.view_is) c.requires.lends) in
     let held = (subst (λ (p : Past (Given g.row.P-Name.Denot g.row.P-Out.Denot g.row.P-In.Denot) g.row.P-Name.Denot g.row.P-Story.Denot). (control_of p).names.held (Inproc c.args.name) ≡ Some c.args.binding) (sym c.self.view_is) c.requires.held) in
     let free = (subst (λ (p : Past (Given g.row.P-Name.Denot g.row.P-Out.Denot g.row.P-In.Denot) g.row.P-Name.Denot g.row.P-Story.Denot). refusal_in (reply_of (control_of p) (Connect c.args.socket (Inproc c.args.name))) ≡ None) (sym c.self.view_is) c.requires.free) in
@@ -135,32 +137,27 @@ returns-in-Ok-clause-turned g c =
     let are = c.of-owners.ensures _ stands in
     let has = (subst (λ (p : Past (Given g.row.P-Name.Denot g.row.P-Out.Denot g.row.P-In.Denot) g.row.P-Name.Denot g.row.P-Story.Denot). HasWhat p (g.H.Holder.holding c.args.holder.now)) (sym c.self.view_is) c.requires.has) in
     let may = may_connect g.P.Pipes.known.out_name g.P.Pipes.known.in_name c.self.inside.state _ _ c.args.socket c.args.name c.args.binding c.self.invariant (g.H.Holder.holding c.args.holder.now) lends held free (c.needs.ensures _ stands) c.of-owners.result are (length c.args.wakers.now) (subst (λ (p : Past (Given g.row.P-Name.Denot g.row.P-Out.Denot g.row.P-In.Denot) g.row.P-Name.Denot g.row.P-Story.Denot). (control_of p).slots ≤ length c.args.wakers.now) (sym c.self.view_is) c.requires.wakers) has in
-    let connected = c.in-Ok.ensures.ok may in
+    let connected = c.in_ok-made.ensures.ok may in
     let step = event_now c.args.self.now c.self.inside.workers (with_room 9 c.self.inside.events) c.push.new.self _ _ _ (sym c.self.view_is)
-    (c.push.ensures ∙ ap (with_last _) c.in_ok-reserve.ensures.ok) (given_held g.P.Pipes.known.out_name g.P.Pipes.known.in_name c.self.inside.state _ _ c.args.socket c.args.name c.args.binding c.self.invariant (g.H.Holder.holding c.args.holder.now) lends held free c.of-owners.result are (length c.args.wakers.now) may refl
-    (Inproc c.in_ok-copy.field-0) (ap Inproc c.in_ok-copy.ensures) c.in-Ok.pair c.in-Ok.notes c.connect_pair.new.state (g.H.Holder.holding c.connect_pair.new.holder) connected c.with_notes.result c.with_notes.ensures) in
-    subst (λ (p : Past (Given g.row.P-Name.Denot g.row.P-Out.Denot g.row.P-In.Denot) g.row.P-Name.Denot g.row.P-Story.Denot). HasTurned (control_of c.args.self.now) (control_of p) (g.H.Holder.holding c.args.holder.now) (g.H.Holder.holding c.connect_pair.new.holder)) (sym step)
-    (subst (λ (p : Past (Given g.row.P-Name.Denot g.row.P-Out.Denot g.row.P-In.Denot) g.row.P-Name.Denot g.row.P-Story.Denot). HasTurned (control_of p) (control_of (with_event (Asked (Connect c.args.socket (Inproc c.args.name)) (Pair c.in-Ok.pair) c.with_notes.result) p)) (g.H.Holder.holding c.args.holder.now) (g.H.Holder.holding c.connect_pair.new.holder)) c.self.view_is
+    (c.push.ensures ∙ ap (with_last _) c.in_ok-made.ensures.room) (given_held g.P.Pipes.known.out_name g.P.Pipes.known.in_name c.self.inside.state _ _ c.args.socket c.args.name c.args.binding c.self.invariant (g.H.Holder.holding c.args.holder.now) lends held free c.of-owners.result are (length c.args.wakers.now) may refl
+    (Inproc c.in_ok-copy.field-0) (ap Inproc c.in_ok-copy.ensures) c.in_ok-made.made.0 c.in_ok-made.made.1 c.connect_with_room.new.state (g.H.Holder.holding c.connect_with_room.new.holder) connected c.with_notes.result c.with_notes.ensures) in
+    subst (λ (p : Past (Given g.row.P-Name.Denot g.row.P-Out.Denot g.row.P-In.Denot) g.row.P-Name.Denot g.row.P-Story.Denot). HasTurned (control_of c.args.self.now) (control_of p) (g.H.Holder.holding c.args.holder.now) (g.H.Holder.holding c.connect_with_room.new.holder)) (sym step)
+    (subst (λ (p : Past (Given g.row.P-Name.Denot g.row.P-Out.Denot g.row.P-In.Denot) g.row.P-Name.Denot g.row.P-Story.Denot). HasTurned (control_of p) (control_of (with_event (Asked (Connect c.args.socket (Inproc c.args.name)) (Pair c.in_ok-made.made.0) c.with_notes.result) p)) (g.H.Holder.holding c.args.holder.now) (g.H.Holder.holding c.connect_with_room.new.holder)) c.self.view_is
     (told_held g.P.Pipes.known.out_name g.P.Pipes.known.in_name c.self.inside.state _ _ c.args.socket c.args.name c.args.binding c.self.invariant (g.H.Holder.holding c.args.holder.now) lends held free c.of-owners.result are (length c.args.wakers.now) may refl
-    (Inproc c.in_ok-copy.field-0) (ap Inproc c.in_ok-copy.ensures) c.in-Ok.pair c.in-Ok.notes c.connect_pair.new.state (g.H.Holder.holding c.connect_pair.new.holder) connected c.with_notes.result c.with_notes.ensures))
+    (Inproc c.in_ok-copy.field-0) (ap Inproc c.in_ok-copy.ensures) c.in_ok-made.made.0 c.in_ok-made.made.1 c.connect_with_room.new.state (g.H.Holder.holding c.connect_with_room.new.holder) connected c.with_notes.result c.with_notes.ensures))
 
-pub returns-in-Err-clause-turned : goal.returns-in-Err-clause-turned
-returns-in-Err-clause-turned g c =
-    subst (λ (p : Past (Given g.row.P-Name.Denot g.row.P-Out.Denot g.row.P-In.Denot) g.row.P-Name.Denot g.row.P-Story.Denot). HasTurned (control_of c.args.self.now) (control_of p) (g.H.Holder.holding c.args.holder.now) (g.H.Holder.holding c.connect_pair.new.holder))
-    (sym (viewed_back c.args.self.now c.self.inside.state c.connect_pair.new.state c.self.inside.workers c.self.inside.events c.release.new.self c.in-Err.ensures.err
-    (listed_back c.self.inside.events c.reserve.new.self c.release.new.self 9 c.in_ok-reserve.ensures.ok c.release.ensures) c.self.view_is))
-    (past_told c.args.self.now (g.H.Holder.holding c.args.holder.now) (g.H.Holder.holding c.connect_pair.new.holder) (turns_none (g.H.Holder.holding c.args.holder.now) (g.H.Holder.holding c.connect_pair.new.holder) c.in-Err.ensures.keeps))
+pub returns-in_err-made-clause-turned : goal.returns-in_err-made-clause-turned
+returns-in_err-made-clause-turned g c =
+    subst (λ (p : Past (Given g.row.P-Name.Denot g.row.P-Out.Denot g.row.P-In.Denot) g.row.P-Name.Denot g.row.P-Story.Denot). HasTurned (control_of c.args.self.now) (control_of p) (g.H.Holder.holding c.args.holder.now) (g.H.Holder.holding c.connect_with_room.new.holder))
+    (sym (viewed_back c.args.self.now c.self.inside.state c.connect_with_room.new.state c.self.inside.workers c.self.inside.events c.connect_with_room.new.events c.in_err-made.ensures.err
+    c.in_err-made.ensures.kept c.self.view_is))
+    (past_told c.args.self.now (g.H.Holder.holding c.args.holder.now) (g.H.Holder.holding c.connect_with_room.new.holder) (turns_none (g.H.Holder.holding c.args.holder.now) (g.H.Holder.holding c.connect_with_room.new.holder) c.in_err-made.ensures.keeps))
 
 pub returns-in_err-copy-clause-turned : goal.returns-in_err-copy-clause-turned
 returns-in_err-copy-clause-turned g c = past_told c.args.self.now (g.H.Holder.holding c.args.holder.now) (g.H.Holder.holding c.args.holder.now) (turns_same (g.H.Holder.holding c.args.holder.now))
 
-pub returns-in_err-reserve-clause-turned : goal.returns-in_err-reserve-clause-turned
-returns-in_err-reserve-clause-turned g c =
-    subst (λ (p : Past (Given g.row.P-Name.Denot g.row.P-Out.Denot g.row.P-In.Denot) g.row.P-Name.Denot g.row.P-Story.Denot). HasTurned (control_of c.args.self.now) (control_of p) (g.H.Holder.holding c.args.holder.now) (g.H.Holder.holding c.args.holder.now)) (sym (viewed_back c.args.self.now c.self.inside.state c.self.inside.state c.self.inside.workers c.self.inside.events c.reserve.new.self refl c.in_err-reserve.ensures.err c.self.view_is))
-    (past_told c.args.self.now (g.H.Holder.holding c.args.holder.now) (g.H.Holder.holding c.args.holder.now) (turns_same (g.H.Holder.holding c.args.holder.now)))
-
-pub returns-in-Ok-clause-joins : goal.returns-in-Ok-clause-joins
-returns-in-Ok-clause-joins g c =
+pub returns-clause-joins : goal.returns-clause-joins
+returns-clause-joins g c =
     let lends = (subst (λ (p : Past (Given g.row.P-Name.Denot g.row.P-Out.Denot g.row.P-In.Denot) g.row.P-Name.Denot g.row.P-Story.Denot). Lends (control_of p) c.args.socket.0 (g.H.Holder.holding c.args.holder.now)) (sym c.self.view_is) c.requires.lends) in
     let held = (subst (λ (p : Past (Given g.row.P-Name.Denot g.row.P-Out.Denot g.row.P-In.Denot) g.row.P-Name.Denot g.row.P-Story.Denot). (control_of p).names.held (Inproc c.args.name) ≡ Some c.args.binding) (sym c.self.view_is) c.requires.held) in
     let free = (subst (λ (p : Past (Given g.row.P-Name.Denot g.row.P-Out.Denot g.row.P-In.Denot) g.row.P-Name.Denot g.row.P-Story.Denot). refusal_in (reply_of (control_of p) (Connect c.args.socket (Inproc c.args.name))) ≡ None) (sym c.self.view_is) c.requires.free) in
@@ -168,25 +165,28 @@ returns-in-Ok-clause-joins g c =
     let are = c.of-owners.ensures _ stands in
     let has = (subst (λ (p : Past (Given g.row.P-Name.Denot g.row.P-Out.Denot g.row.P-In.Denot) g.row.P-Name.Denot g.row.P-Story.Denot). HasWhat p (g.H.Holder.holding c.args.holder.now)) (sym c.self.view_is) c.requires.has) in
     let may = may_connect g.P.Pipes.known.out_name g.P.Pipes.known.in_name c.self.inside.state _ _ c.args.socket c.args.name c.args.binding c.self.invariant (g.H.Holder.holding c.args.holder.now) lends held free (c.needs.ensures _ stands) c.of-owners.result are (length c.args.wakers.now) (subst (λ (p : Past (Given g.row.P-Name.Denot g.row.P-Out.Denot g.row.P-In.Denot) g.row.P-Name.Denot g.row.P-Story.Denot). (control_of p).slots ≤ length c.args.wakers.now) (sym c.self.view_is) c.requires.wakers) has in
-    let connected = c.in-Ok.ensures.ok may in
+    let connected = c.in_ok-made.ensures.ok may in
     let step = event_now c.args.self.now c.self.inside.workers (with_room 9 c.self.inside.events) c.push.new.self _ _ _ (sym c.self.view_is)
-    (c.push.ensures ∙ ap (with_last _) c.in_ok-reserve.ensures.ok) (given_held g.P.Pipes.known.out_name g.P.Pipes.known.in_name c.self.inside.state _ _ c.args.socket c.args.name c.args.binding c.self.invariant (g.H.Holder.holding c.args.holder.now) lends held free c.of-owners.result are (length c.args.wakers.now) may refl
-    (Inproc c.in_ok-copy.field-0) (ap Inproc c.in_ok-copy.ensures) c.in-Ok.pair c.in-Ok.notes c.connect_pair.new.state (g.H.Holder.holding c.connect_pair.new.holder) connected c.with_notes.result c.with_notes.ensures) in
-    subst (λ (p : Past (Given g.row.P-Name.Denot g.row.P-Out.Denot g.row.P-In.Denot) g.row.P-Name.Denot g.row.P-Story.Denot). ComesWith c.args.self.now p (g.H.Holder.holding c.args.holder.now) (g.H.Holder.holding c.connect_pair.new.holder)) (sym step)
-    (event_comes c.args.self.now (Asked (Connect c.args.socket (Inproc c.args.name)) (Pair c.in-Ok.pair) c.with_notes.result) (g.H.Holder.holding c.args.holder.now) (g.H.Holder.holding c.connect_pair.new.holder)
+    (c.push.ensures ∙ ap (with_last _) c.in_ok-made.ensures.room) (given_held g.P.Pipes.known.out_name g.P.Pipes.known.in_name c.self.inside.state _ _ c.args.socket c.args.name c.args.binding c.self.invariant (g.H.Holder.holding c.args.holder.now) lends held free c.of-owners.result are (length c.args.wakers.now) may refl
+    (Inproc c.in_ok-copy.field-0) (ap Inproc c.in_ok-copy.ensures) c.in_ok-made.made.0 c.in_ok-made.made.1 c.connect_with_room.new.state (g.H.Holder.holding c.connect_with_room.new.holder) connected c.with_notes.result c.with_notes.ensures) in
+    subst (λ (p : Past (Given g.row.P-Name.Denot g.row.P-Out.Denot g.row.P-In.Denot) g.row.P-Name.Denot g.row.P-Story.Denot). ComesWith c.args.self.now p (g.H.Holder.holding c.args.holder.now) (g.H.Holder.holding c.connect_with_room.new.holder)) (sym step)
+    (event_comes c.args.self.now (Asked (Connect c.args.socket (Inproc c.args.name)) (Pair c.in_ok-made.made.0) c.with_notes.result) (g.H.Holder.holding c.args.holder.now) (g.H.Holder.holding c.connect_with_room.new.holder)
     (connected.came ∙ ap (λ (js : List (Joining g.row.P-Name.Denot)). (g.H.Holder.holding c.args.holder.now).joined ++ js) (sym c.with_notes.ensures.joined)) connected.gets.objects connected.gets.kinds)
 
-pub returns-in-Err-clause-joins : goal.returns-in-Err-clause-joins
-returns-in-Err-clause-joins g c =
-    subst (λ (p : Past (Given g.row.P-Name.Denot g.row.P-Out.Denot g.row.P-In.Denot) g.row.P-Name.Denot g.row.P-Story.Denot). ComesWith c.args.self.now p (g.H.Holder.holding c.args.holder.now) (g.H.Holder.holding c.connect_pair.new.holder))
-    (sym (viewed_back c.args.self.now c.self.inside.state c.connect_pair.new.state c.self.inside.workers c.self.inside.events c.release.new.self c.in-Err.ensures.err
-    (listed_back c.self.inside.events c.reserve.new.self c.release.new.self 9 c.in_ok-reserve.ensures.ok c.release.ensures) c.self.view_is))
-    (past_comes c.args.self.now (g.H.Holder.holding c.args.holder.now) (g.H.Holder.holding c.connect_pair.new.holder) c.in-Err.ensures.keeps.joined c.in-Err.ensures.stays.now.objects c.in-Err.ensures.stays.now.kinds)
+pub returns-in_err-made-clause-joins : goal.returns-in_err-made-clause-joins
+returns-in_err-made-clause-joins g c =
+    subst (λ (p : Past (Given g.row.P-Name.Denot g.row.P-Out.Denot g.row.P-In.Denot) g.row.P-Name.Denot g.row.P-Story.Denot). ComesWith c.args.self.now p (g.H.Holder.holding c.args.holder.now) (g.H.Holder.holding c.connect_with_room.new.holder))
+    (sym (viewed_back c.args.self.now c.self.inside.state c.connect_with_room.new.state c.self.inside.workers c.self.inside.events c.connect_with_room.new.events c.in_err-made.ensures.err
+    c.in_err-made.ensures.kept c.self.view_is))
+    (past_comes c.args.self.now (g.H.Holder.holding c.args.holder.now) (g.H.Holder.holding c.connect_with_room.new.holder) c.in_err-made.ensures.keeps.joined c.in_err-made.ensures.stays.now.objects c.in_err-made.ensures.stays.now.kinds)
 
 pub returns-in_err-copy-clause-joins : goal.returns-in_err-copy-clause-joins
 returns-in_err-copy-clause-joins g c = past_comes c.args.self.now (g.H.Holder.holding c.args.holder.now) (g.H.Holder.holding c.args.holder.now) refl (λ i. refl) (λ i. refl)
 
-pub returns-in_err-reserve-clause-joins : goal.returns-in_err-reserve-clause-joins
-returns-in_err-reserve-clause-joins g c =
-    subst (λ (p : Past (Given g.row.P-Name.Denot g.row.P-Out.Denot g.row.P-In.Denot) g.row.P-Name.Denot g.row.P-Story.Denot). ComesWith c.args.self.now p (g.H.Holder.holding c.args.holder.now) (g.H.Holder.holding c.args.holder.now)) (sym (viewed_back c.args.self.now c.self.inside.state c.self.inside.state c.self.inside.workers c.self.inside.events c.reserve.new.self refl c.in_err-reserve.ensures.err c.self.view_is))
-    (past_comes c.args.self.now (g.H.Holder.holding c.args.holder.now) (g.H.Holder.holding c.args.holder.now) refl (λ i. refl) (λ i. refl))
+pub returns-in_err-made-clause-err : goal.returns-in_err-made-clause-err
+returns-in_err-made-clause-err g c =
+    let are = c.of-owners.ensures _ c.self.invariant.history.stands in
+    so_on_err _ c.from_residual-in_err-made.result (
+      viewed_back c.args.self.now c.self.inside.state c.connect_with_room.new.state c.self.inside.workers c.self.inside.events c.connect_with_room.new.events c.in_err-made.ensures.err c.in_err-made.ensures.kept c.self.view_is,
+      subst (λ (o : ObjId). Stays o.0 (g.H.Holder.holding c.args.holder.now) (g.H.Holder.holding c.connect_with_room.new.holder)) are.first c.in_err-made.ensures.stays,
+    )

@@ -5,33 +5,34 @@ use Rattle.ctl_history.specs.Connecting.{MayWait}
 use Rattle.ctl_history.specs.Past.{Past, control_of}
 use Rattle.ctl_history.proofs.ConnectLemmas.{wait_listed, wait_reply, waits_plane}
 use Rattle.ctl_history.proofs.DoneLemmas.{noted_event}
-use Rattle.ctl_history.proofs.MakingLemmas.{listed_back, planed_back, viewed_back}
+use Rattle.ctl_history.proofs.MakingLemmas.{planed_back, so_on_err, viewed_back}
 use Rattle.ctl_history.proofs.PlaneLemmas.{planed_noted}
 use Rattle.ctl_history.proofs.history.History.connect_waits.Goals as goal
 
-pub wait-requires-clause-there : goal.wait-requires-clause-there
-wait-requires-clause-there g c =
+pub wait_with_room-requires-clause-there : goal.wait_with_room-requires-clause-there
+wait_with_room-requires-clause-there g c =
     wait_listed _ c.args.socket c.args.name (subst (λ (p : Past (Given g.row.P-Name.Denot g.row.P-Out.Denot g.row.P-In.Denot) g.row.P-Name.Denot g.row.P-Story.Denot). MayWait (control_of p) c.args.socket.0 c.args.name) (sym c.self.view_is) c.requires.may) c.self.inside.state (c.needs.ensures _ c.self.invariant.history.stands)
 
-pub invariant_of-self-in-Ok : goal.invariant_of-self-in-Ok
-invariant_of-self-in-Ok g c =
-    planed_noted g.P.Pipes.known.out_name g.P.Pipes.known.in_name c.wait.new.state c.self.inside.workers c.self.inside.events c.reserve.new.self c.push.new.self _ _ _ c.in_ok-reserve.ensures.ok c.push.ensures
-    (waits_plane g.P.Pipes.known.out_name g.P.Pipes.known.in_name c.self.inside.state c.wait.new.state _ _ c.args.socket c.args.name c.args.h c.self.invariant (subst (λ (p : Past (Given g.row.P-Name.Denot g.row.P-Out.Denot g.row.P-In.Denot) g.row.P-Name.Denot g.row.P-Story.Denot). MayWait (control_of p) c.args.socket.0 c.args.name) (sym c.self.view_is) c.requires.may) c.requires.silent c.in-Ok.ensures.ok c.wait.ensures.boxes c.in-Ok.ensures.ends)
+pub invariant_of-self-2 : goal.invariant_of-self-2
+invariant_of-self-2 g c =
+    planed_noted g.P.Pipes.known.out_name g.P.Pipes.known.in_name c.wait_with_room.new.state c.self.inside.workers c.self.inside.events c.wait_with_room.new.events c.push.new.self _ _ _ c.in_ok-wait_with_room.ensures.room c.push.ensures
+    (waits_plane g.P.Pipes.known.out_name g.P.Pipes.known.in_name c.self.inside.state c.wait_with_room.new.state _ _ c.args.socket c.args.name c.args.h c.self.invariant (subst (λ (p : Past (Given g.row.P-Name.Denot g.row.P-Out.Denot g.row.P-In.Denot) g.row.P-Name.Denot g.row.P-Story.Denot). MayWait (control_of p) c.args.socket.0 c.args.name) (sym c.self.view_is) c.requires.may) c.requires.silent c.in_ok-wait_with_room.ensures.ok c.wait_with_room.ensures.boxes c.in_ok-wait_with_room.ensures.ends)
 
-pub invariant_of-self-in-Err : goal.invariant_of-self-in-Err
-invariant_of-self-in-Err g c =
-    planed_back g.P.Pipes.known.out_name g.P.Pipes.known.in_name c.self.inside.state c.wait.new.state c.self.inside.workers c.self.inside.events c.release.new.self c.in-Err.ensures.err
-    (listed_back c.self.inside.events c.reserve.new.self c.release.new.self 1 c.in_ok-reserve.ensures.ok c.release.ensures) c.self.invariant
+pub invariant_of-self : goal.invariant_of-self
+invariant_of-self g c =
+    planed_back g.P.Pipes.known.out_name g.P.Pipes.known.in_name c.self.inside.state c.wait_with_room.new.state c.self.inside.workers c.self.inside.events c.wait_with_room.new.events c.in_err-wait_with_room.ensures.err
+    c.in_err-wait_with_room.ensures.kept c.self.invariant
 
-pub returns-in-Ok-clause-ok : goal.returns-in-Ok-clause-ok
-returns-in-Ok-clause-ok g c =
-    noted_event c.args.self.now c.self.inside.workers c.self.inside.events c.reserve.new.self c.push.new.self _ _ _ (sym c.self.view_is) c.in_ok-reserve.ensures.ok c.push.ensures
-    (ap given_in c.wait.ensures.boxes)
+pub returns-clause-ok : goal.returns-clause-ok
+returns-clause-ok g c =
+    noted_event c.args.self.now c.self.inside.workers c.self.inside.events c.wait_with_room.new.events c.push.new.self _ _ _ (sym c.self.view_is) c.in_ok-wait_with_room.ensures.room c.push.ensures
+    (ap given_in c.wait_with_room.ensures.boxes)
 
-pub returns-in-Ok-clause-reply : goal.returns-in-Ok-clause-reply
-returns-in-Ok-clause-reply g c = sym (wait_reply (control_of c.args.self.now) c.args.socket c.args.name c.requires.may)
+pub returns-clause-reply : goal.returns-clause-reply
+returns-clause-reply g c = sym (wait_reply (control_of c.args.self.now) c.args.socket c.args.name c.requires.may)
 
-pub returns-in-Err-clause-err : goal.returns-in-Err-clause-err
-returns-in-Err-clause-err g c =
-    viewed_back c.args.self.now c.self.inside.state c.wait.new.state c.self.inside.workers c.self.inside.events c.release.new.self c.in-Err.ensures.err
-    (listed_back c.self.inside.events c.reserve.new.self c.release.new.self 1 c.in_ok-reserve.ensures.ok c.release.ensures) c.self.view_is
+pub returns-in_err-wait_with_room-clause-err : goal.returns-in_err-wait_with_room-clause-err
+returns-in_err-wait_with_room-clause-err g c =
+    so_on_err _ c.from_residual-in_err-wait_with_room.result
+    (viewed_back c.args.self.now c.self.inside.state c.wait_with_room.new.state c.self.inside.workers c.self.inside.events c.wait_with_room.new.events c.in_err-wait_with_room.ensures.err
+    c.in_err-wait_with_room.ensures.kept c.self.view_is)

@@ -187,7 +187,7 @@ returns-in-Ok-clause-joins g c =
     let did = Delivered c.args.slot c.in-Some.command.letter c.in-Ok.answered in
     subst (λ (p : Past (Given g.row.P-Name.Denot g.row.P-Out.Denot g.row.P-In.Denot) g.row.P-Name.Denot g.row.P-Story.Denot). ComesWith c.args.self.now p (g.H.Holder.holding c.args.holder.now) (g.H.Holder.holding c.process.new.holder)) (sym step)
     (subst (λ (p : Past (Given g.row.P-Name.Denot g.row.P-Out.Denot g.row.P-In.Denot) g.row.P-Name.Denot g.row.P-Story.Denot). ComesWith p (with_event did p) (g.H.Holder.holding c.args.holder.now) (g.H.Holder.holding c.process.new.holder)) c.self.view_is
-    (objects_come inner did (g.H.Holder.holding c.args.holder.now) (g.H.Holder.holding c.process.new.holder) (c.in-Ok.ensures.joins hear).came (record { holds = λ i stays. (c.in-Ok.ensures.joins hear).objects.holds i (record { ended = stays.ended; way = stays.way }); kinds = λ i stays. (c.in-Ok.ensures.joins hear).objects.kinds i (record { ended = stays.ended; way = stays.way }) })))
+    (objects_come inner did (g.H.Holder.holding c.args.holder.now) (g.H.Holder.holding c.process.new.holder) (c.in-Ok.ensures.joins hear).came (record { holds = λ i stays. (c.in-Ok.ensures.joins hear).objects.holds i (record { ended = stays.ended; way = stays.way }); kinds = λ i stays. (c.in-Ok.ensures.joins hear).objects.kinds i (record { ended = stays.ended; way = stays.way }); had = λ i has. (c.in-Ok.ensures.joins hear).objects.had i has })))
 
 pub returns-in-Err-clause-joins : goal.returns-in-Err-clause-joins
 returns-in-Err-clause-joins g c =

@@ -1,8 +1,9 @@
-use Rattle.std.specs.Prelude.{[]}
+use Rattle.std.specs.Prelude.{◌≡◌, ℕ, true, []}
 use Rattle.std.proofs.Common.{subst}
 use Rattle.spec_control.specs.Names.{AreNamed}
+use Rattle.spec_control.specs.Rows.{obj}
 use Rattle.ctl_holder.specs.declared.given.Given.{Given}
-use Rattle.ctl_history.specs.Past.{Past, IsPast, items_of}
+use Rattle.ctl_history.specs.Past.{Past, IsPast, control_of, items_of}
 use Rattle.ctl_history.proofs.history.History.is_run.Goals as goal
 
 pub returns-clause-run : goal.returns-clause-run
@@ -10,3 +11,6 @@ returns-clause-run g c = subst (λ (p : Past (Given g.row.P-Name.Denot g.row.P-O
 
 pub returns-clause-named : goal.returns-clause-named
 returns-clause-named g c = subst (λ (p : Past (Given g.row.P-Name.Denot g.row.P-Out.Denot g.row.P-In.Denot) g.row.P-Name.Denot g.row.P-Story.Denot). AreNamed [] (items_of p)) c.self.view_is c.self.invariant.named
+
+pub returns-clause-plugged : goal.returns-clause-plugged
+returns-clause-plugged g c = subst (λ (p : Past (Given g.row.P-Name.Denot g.row.P-Out.Denot g.row.P-In.Denot) g.row.P-Name.Denot g.row.P-Story.Denot). (i : ℕ) → (obj (control_of p).rows i).plugged ≡ true) c.self.view_is c.self.invariant.plugged

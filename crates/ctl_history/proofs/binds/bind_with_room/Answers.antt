@@ -1,0 +1,36 @@
+use Rattle.std.specs.Prelude.{◌≡◌, ◌+◌, ◌*◌, ℕ, List, length}
+use Rattle.std.proofs.Common.{arith, ap, sym, ◌∙◌, subst}
+use Rattle.zq_base.specs.declared.ids.ObjId.{ObjId}
+use Rattle.spec_control.specs.declared.book.Binding.{Binding}
+use Rattle.spec_control.specs.EndpointBook.{waiters}
+use Rattle.spec_control.specs.Register.{fulfilled_by}
+use Rattle.ctl_state.specs.Listed.{with_room}
+use Rattle.ctl_history.specs.Fulfilling.{MayFulfil}
+use Rattle.ctl_history.proofs.FulfillingLemmas.{all_fulfilled}
+use Rattle.ctl_history.proofs.MakingLemmas.{listed_back}
+use Rattle.ctl_history.proofs.binds.bind_with_room.Goals as goal
+
+pub fulfil_all-requires-clause-may : goal.fulfil_all-requires-clause-may
+fulfil_all-requires-clause-may g c =
+    let w = c.requires.may in
+    let c0 = w.may.draw.control in
+    let ids = c.deref.ensures.value ∙ c.in_ok-waiters.ensures c0 w.may.draw.stands ∙ ap (λ (b : Binding). waiters (fulfilled_by c.args.at.now b c0.names)) (c.binding_by.ensures c0 w.may.draw.stands) ∙ sym w.all in
+    subst (λ (xs : List ObjId). MayFulfil c.args.state.now (g.H.Holder.holding c.args.holder.now) c.args.socket c.args.at.now xs (length c.args.wakers.now)) (sym ids) w.may
+
+pub returns-in-Ok-clause-ok : goal.returns-in-Ok-clause-ok
+returns-in-Ok-clause-ok g c = λ w.
+    let c0 = w.may.draw.control in
+    let ids = c.deref.ensures.value ∙ c.in_ok-waiters.ensures c0 w.may.draw.stands ∙ ap (λ (b : Binding). waiters (fulfilled_by c.args.at.now b c0.names)) (c.binding_by.ensures c0 w.may.draw.stands) ∙ sym w.all in
+    all_fulfilled g.P.Pipes.known.out_name g.P.Pipes.known.in_name c.args.state.now c.fulfil_all.new.state (g.H.Holder.holding c.args.holder.now) (g.H.Holder.holding c.fulfil_all.new.holder) c.args.socket c.args.at.now (length c.args.wakers.now) c.in-Ok.notes w c.deref.result.now ids c.in-Ok.ensures.ok
+
+pub returns-in-Ok-clause-room : goal.returns-in-Ok-clause-room
+returns-in-Ok-clause-room g c = λ w.
+    let c0 = w.may.draw.control in
+    let ids = c.in_ok-waiters.ensures c0 w.may.draw.stands ∙ ap (λ (b : Binding). waiters (fulfilled_by c.args.at.now b c0.names)) (c.binding_by.ensures c0 w.may.draw.stands) ∙ sym w.all in
+    let len = c.len.ensures in
+    let same = ap (λ (xs : List ObjId). length xs) ids in
+    let many : c.len.result ≡ length w.waiters = omega (arith, len, same) in
+    c.in_ok-reserve.ensures.ok ∙ ap (λ (n : ℕ). with_room (8 * n + 1) c.args.events.now) many
+
+pub returns-in-Err-clause-kept : goal.returns-in-Err-clause-kept
+returns-in-Err-clause-kept g c = listed_back c.args.events.now c.reserve.new.self c.release.new.self (8 * c.len.result + 1) c.in_ok-reserve.ensures.ok c.release.ensures
