@@ -1,6 +1,5 @@
 -- What a caller's moments are after a call of its desk (own choice).
-use Rattle.std.specs.Prelude.{◌≡◌, ◌<◌, ◌==◌, ◌⊎◌, ℕ, Bool, true, false, List, [], ◌∷◌, ◌++◌, Some, Option, None, count_by, flat_map}
-use Rattle.std.specs.List.{list_any}
+use Rattle.std.specs.Prelude.{◌≡◌, ◌⊎◌, ℕ, Bool, true, false, List, [], ◌∷◌, ◌++◌, Some, Option, None, flat_map}
 use Rattle.zq_base.specs.declared.ids.EndId.{EndId}
 use Rattle.zq_base.specs.declared.ids.SlotId.{SlotId}
 use Rattle.spec_control.specs.declared.letter.Letter.{Letter}
@@ -13,6 +12,7 @@ use Rattle.spec_control.specs.declared.entry.SeenEmpty.{SeenEmpty}
 use Rattle.spec_control.specs.declared.entry.SeenEmpty.TheVariants.{Nothing, Mailbox, Reapers}
 use Rattle.spec_control.specs.declared.entry.Sight.{Sight}
 use Rattle.spec_control.specs.declared.entry.Item.{Item}
+use Rattle.spec_control.specs.declared.entry.Joining.{Joining}
 use Rattle.spec_control.specs.declared.entry.Item.TheVariants.{Event, Seen}
 use Rattle.spec_control.specs.Place.{At}
 use Rattle.spec_control.specs.Rows.{obj}
@@ -23,9 +23,8 @@ use Rattle.control_held.specs.Moments.{Moment, items_in, left_after, left_by, fi
 use Rattle.ctl_plane.specs.Kinds.{kind_after}
 use Rattle.ctl_plane.specs.declared.delivery.Delivery.{Delivery}
 use Rattle.ctl_plane.specs.declared.delivery.Delivery.TheVariants.{Done, Empty}
-use Rattle.ctl_plane.specs.declared.pumped.Pumped.{Pumped}
-use Rattle.ctl_plane.specs.declared.pumped.Pumped.TheVariants.{More, Drained}
-use Rattle.ctl_holder.specs.Holding.{Holding, has_end}
+use Rattle.ctl_holder.specs.Holding.{Holding, JoinsBy, has_end}
+use Rattle.ctl_holder.specs.Joins.{KeepsObjects, came_in}
 use Rattle.ctl_holder.specs.Lent.{has_writer}
 use Rattle.ctl_holder.specs.Turns.{TurnsBy, turned_in}
 
@@ -34,16 +33,6 @@ pub record HoldsEnd {N : Type 0} (e : EndId) (h : Holding N) : Type 0 where
   pub object : ℕ
   pub has : h.holds object ≡ true
   pub here : has_end e (h.ends object) ≡ true
-
--- it is the mailbox of this object that was looked at
-abbrev pub is_mailbox_of : ℕ → Control → SeenEmpty → Bool
-is_mailbox_of i c Nothing = false
-is_mailbox_of i c (Mailbox slot) = slot.0 == (obj c.rows i).slot
-is_mailbox_of i c Reapers = false
-
--- how many commands a pump takes at once
-abbrev pub pump_limit : ℕ
-pump_limit = 64
 
 module _ {N S : Type 0} where
   -- a holder that is lent has of its objects what the moments of its caller say: the ends that joined, each as the last moment of its object left it, and the kind of a socket that its caller made and did not close
@@ -60,10 +49,30 @@ module _ {N S : Type 0} where
   abbrev pub TurnsWith : (old new : List (Moment N S)) → (before now : Holding N) → Type 0
   TurnsWith old new before now = (more : List (Moment N S)) → new ≡ old ++ more → TurnsBy (flat_map (λ m. turned_in m.found (left_by m)) more) before now
 
+  -- the ends that join in an item
+  abbrev pub came_with : Item N S → List (Joining N)
+  came_with (Event entry) = came_in entry.did
+  came_with (Seen sight) = []
+
+  -- in these moments more the ends that they tell joined it, each with its kind's answer
+  abbrev pub JoinsWith : (old new : List (Moment N S)) → (before now : Holding N) → Type 0
+  JoinsWith old new before now = (more : List (Moment N S)) → new ≡ old ++ more → JoinsBy (flat_map (λ m. came_with m.item) more) before now
+
+  -- behind a moment more it has the objects that it had, with their kinds, but those that ended, were closed, or came with a Reap; and all of them behind none
+  pub record KeepsObjectsIn (old new : List (Moment N S)) (before now : Holding N) : Type 0 where
+    pub one : (m : Moment N S) → new ≡ old ++ m ∷ [] → KeepsObjects m.found (left_by m) before now
+    pub none : new ≡ old → (i : ℕ) → (now.holds i ≡ before.holds i) × (now.kind i ≡ before.kind i)
+
   -- it has what the moments say, once it was told of those that are new
   pub record KeepsUp (by : ℕ) (old new : List (Moment N S)) (before now : Holding N) : Type 0 where
     pub has : HasWhatTheySay by new now
     pub turned : TurnsWith old new before now
+    pub came : JoinsWith old new before now
+    pub objects : KeepsObjectsIn old new before now
+
+  -- the mailbox of an object, as the moments left it
+  abbrev pub slot_after : ℕ → List (Moment N S) → SlotId
+  slot_after i moments = record { 0 = (obj (left_after i moments).rows i).slot }
 
   -- the mailbox of an object that the holder has
   pub record IsItsMailbox (slot : ℕ) (moments : List (Moment N S)) (h : Holding N) : Type 0 where
@@ -139,39 +148,3 @@ module _ {N S : Type 0} where
   abbrev pub LooksOrNot : (by : ℕ) → SeenEmpty → Option Sight → (old new : List (Moment N S)) → Type 0
   LooksOrNot by empty (Some sight) old new = Looks by empty sight old new
   LooksOrNot by empty None old new = new ≡ old
-
-  -- some moments more
-  pub record GoesOn (old new : List (Moment N S)) : Type 0 where
-    pub more : List (Moment N S)
-    pub behind : new ≡ old ++ more
-
-  -- a command was taken, and a look found the mailbox of this object empty
-  abbrev pub takes_letter : Item N S → Bool
-  takes_letter (Event entry) = is_delivery entry.did
-    where
-      is_delivery : Did N S → Bool
-      is_delivery (Asked req reply h) = false
-      is_delivery (Delivered slot letter h) = true
-      is_delivery (Delimited e h) = false
-  takes_letter (Seen sight) = false
-
-  abbrev pub finds_empty : ℕ → Moment N S → Bool
-  finds_empty i m = sees_empty m.item
-    where
-      sees_empty : Item N S → Bool
-      sees_empty (Event entry) = false
-      sees_empty (Seen sight) = is_mailbox_of i m.found sight.empty
-
-  -- how many commands were taken
-  abbrev pub letters_taken : List (Moment N S) → ℕ
-  letters_taken moments = count_by (λ m. takes_letter m.item) moments
-
-  -- a pump takes so many commands at the most, and no fewer but where a look of it found the mailbox empty
-  abbrev pub StopsAt : (i : ℕ) → Pumped → List (Moment N S) → Type 0
-  StopsAt i More moments = letters_taken moments ≡ pump_limit
-  StopsAt i Drained moments = (letters_taken moments < pump_limit) × (list_any (finds_empty i) moments ≡ true)
-
-  pub record Pumps (i : ℕ) (pumped : Pumped) (old new : List (Moment N S)) : Type 0 where
-    pub more : List (Moment N S)
-    pub behind : new ≡ old ++ more
-    pub stops : StopsAt i pumped more

@@ -1,16 +1,18 @@
 ghost use Rattle.std.specs.Prelude.{◌≡◌, ℕ, true, IfOk, OnErr};
+ghost use Rattle.ctl_holder.specs.declared.halves.Halves.{Halves};
 
+use crate::delivery::Delivery;
 use crate::desk::Desk;
-use crate::pumped::Pumped;
 use msg_pipe::Pipes;
 use spec_control::Reply;
 use std::alloc::{AllocError, Global};
-use zq_base::Endpoint;
+use zq_base::{EndId, Endpoint};
 
 /// The calls of one socket that change its bindings and connections or process its commands, over
 /// any desk. They leave the socket's number, and its ends are what its caller's moments say.
 ///
-/// Want of memory leaves the moments as they were, but for those of a pump.
+/// A call is lent the pipes of all ends, its socket's among them; what it leaves of the others'
+/// is told. Want of memory leaves the moments as they were.
 pub trait Calls<P: Pipes> {
     ghost use Rattle.spec_control.specs.declared.request.Req.TheVariants.{Bind, Connect, Unbind};
     ghost use Rattle.spec_control.specs.declared.request.Req.TheVariants.{Disconnect};
@@ -18,13 +20,25 @@ pub trait Calls<P: Pipes> {
     ghost use Rattle.control_held.specs.OwnAsks.{known_after};
     ghost use Rattle.ctl_holder.specs.Holding.{Holding};
     ghost use Rattle.control_held.specs.Moments.{items_in};
-    ghost use Rattle.ctl_plane.specs.Desk.{HasWhatTheySay, KeepsUp, AsksOnce, GoesOn, Pumps};
+    ghost use Rattle.ctl_holder.specs.Holding.{has_end};
+    ghost use Rattle.ctl_plane.specs.Coming.{AreDistinct, BindsFit, KeepsNames};
+    ghost use Rattle.ctl_plane.specs.Desk.{HasWhatTheySay, KeepsUp, AsksOnce, GivesOrNot, DelimitsOrNot};
+    ghost use Rattle.ctl_plane.specs.Desk.{slot_after};
 
     /// The number of the socket.
     ghost owner: { Self → ℕ };
 
     /// Its ends.
     ghost holding: { Self → Holding P.Name };
+
+    /// The pipes that its calls are lent are those of its ends, and others.
+    ghost fits: { Self → P → Type 0 };
+
+    /// Halves that may join its ends.
+    ghost may_join: { Self → P → Halves P.Out P.In → Type 0 };
+
+    /// What a call leaves of the pipes of others.
+    ghost leaves: { Self → Self → P → P → Type 0 };
 
     /// Binds a name (zmq_bind(3)).
     fn bind<D: Desk<P>>(
@@ -35,14 +49,20 @@ pub trait Calls<P: Pipes> {
         at: &Endpoint,
     ) -> Result<Reply, AllocError>
         requires open { (known_after (owner self.old) (items_in (D.moments desk.old))).open_socket ≡ true }
+        requires held { (holding self.old).holds (owner self.old) ≡ true }
         requires has { HasWhatTheySay (D.number desk.old) (D.moments desk.old) (holding self.old) }
+        requires fits { fits self.old pipes.old }
         ensures ok { IfOk result (λ reply. AsksOnce (D.number desk.old)
             (Bind (id (owner self.old)) at.now) reply (D.moments desk.old) (D.moments desk.new)) }
         ensures err { OnErr result (D.moments desk.new ≡ D.moments desk.old) }
+        ensures given { D.given desk.new ≡ D.given desk.old }
+        ensures names { KeepsNames (D.named desk.old) (D.named desk.new) }
         ensures has_still { KeepsUp (D.number desk.new) (D.moments desk.old) (D.moments desk.new)
             (holding self.old) (holding self.new) }
         ensures same { (owner self.new ≡ owner self.old)
-            × (D.number desk.new ≡ D.number desk.old) };
+            × (D.number desk.new ≡ D.number desk.old) }
+        ensures fits { fits self.new pipes.new }
+        ensures others { leaves self.old self.new pipes.old pipes.new };
 
     /// Connects to a name (zmq_connect(3)).
     fn connect<D: Desk<P>>(
@@ -53,14 +73,20 @@ pub trait Calls<P: Pipes> {
         at: &Endpoint,
     ) -> Result<Reply, AllocError>
         requires open { (known_after (owner self.old) (items_in (D.moments desk.old))).open_socket ≡ true }
+        requires held { (holding self.old).holds (owner self.old) ≡ true }
         requires has { HasWhatTheySay (D.number desk.old) (D.moments desk.old) (holding self.old) }
+        requires fits { fits self.old pipes.old }
         ensures ok { IfOk result (λ reply. AsksOnce (D.number desk.old)
             (Connect (id (owner self.old)) at.now) reply (D.moments desk.old) (D.moments desk.new)) }
         ensures err { OnErr result (D.moments desk.new ≡ D.moments desk.old) }
+        ensures given { D.given desk.new ≡ D.given desk.old }
+        ensures names { KeepsNames (D.named desk.old) (D.named desk.new) }
         ensures has_still { KeepsUp (D.number desk.new) (D.moments desk.old) (D.moments desk.new)
             (holding self.old) (holding self.new) }
         ensures same { (owner self.new ≡ owner self.old)
-            × (D.number desk.new ≡ D.number desk.old) };
+            × (D.number desk.new ≡ D.number desk.old) }
+        ensures fits { fits self.new pipes.new }
+        ensures others { leaves self.old self.new pipes.old pipes.new };
 
     /// Strikes the first bind to a name (zmq_unbind(3)).
     fn unbind<D: Desk<P>>(
@@ -71,14 +97,20 @@ pub trait Calls<P: Pipes> {
         at: &Endpoint,
     ) -> Result<Reply, AllocError>
         requires open { (known_after (owner self.old) (items_in (D.moments desk.old))).open_socket ≡ true }
+        requires held { (holding self.old).holds (owner self.old) ≡ true }
         requires has { HasWhatTheySay (D.number desk.old) (D.moments desk.old) (holding self.old) }
+        requires fits { fits self.old pipes.old }
         ensures ok { IfOk result (λ reply. AsksOnce (D.number desk.old)
             (Unbind (id (owner self.old)) at.now) reply (D.moments desk.old) (D.moments desk.new)) }
         ensures err { OnErr result (D.moments desk.new ≡ D.moments desk.old) }
+        ensures given { D.given desk.new ≡ D.given desk.old }
+        ensures names { KeepsNames (D.named desk.old) (D.named desk.new) }
         ensures has_still { KeepsUp (D.number desk.new) (D.moments desk.old) (D.moments desk.new)
             (holding self.old) (holding self.new) }
         ensures same { (owner self.new ≡ owner self.old)
-            × (D.number desk.new ≡ D.number desk.old) };
+            × (D.number desk.new ≡ D.number desk.old) }
+        ensures fits { fits self.new pipes.new }
+        ensures others { leaves self.old self.new pipes.old pipes.new };
 
     /// Strikes the first connect to a name (zmq_disconnect(3)).
     fn disconnect<D: Desk<P>>(
@@ -89,29 +121,69 @@ pub trait Calls<P: Pipes> {
         at: &Endpoint,
     ) -> Result<Reply, AllocError>
         requires open { (known_after (owner self.old) (items_in (D.moments desk.old))).open_socket ≡ true }
+        requires held { (holding self.old).holds (owner self.old) ≡ true }
         requires has { HasWhatTheySay (D.number desk.old) (D.moments desk.old) (holding self.old) }
+        requires fits { fits self.old pipes.old }
         ensures ok { IfOk result (λ reply. AsksOnce (D.number desk.old)
             (Disconnect (id (owner self.old)) at.now) reply (D.moments desk.old) (D.moments desk.new)) }
         ensures err { OnErr result (D.moments desk.new ≡ D.moments desk.old) }
+        ensures given { D.given desk.new ≡ D.given desk.old }
+        ensures names { KeepsNames (D.named desk.old) (D.named desk.new) }
         ensures has_still { KeepsUp (D.number desk.new) (D.moments desk.old) (D.moments desk.new)
             (holding self.old) (holding self.new) }
         ensures same { (owner self.new ≡ owner self.old)
-            × (D.number desk.new ≡ D.number desk.old) };
+            × (D.number desk.new ≡ D.number desk.old) }
+        ensures fits { fits self.new pipes.new }
+        ensures others { leaves self.old self.new pipes.old pipes.new };
 
-    /// Processes commands of the socket, until it took 64 or found the socket's mailbox empty; which
-    /// of the two is the answer. Want of memory leaves the commands that were not processed.
-    fn pump<D: Desk<P>>(
+    /// Processes the oldest command of the socket, or finds its mailbox empty. Want of memory leaves
+    /// the command where it was.
+    fn take<D: Desk<P>>(
         &mut self,
         alloc: Global,
         pipes: &mut P,
         desk: &mut D,
-    ) -> Result<Pumped, AllocError>
+    ) -> Result<Delivery, AllocError>
+        requires open { (known_after (owner self.old) (items_in (D.moments desk.old))).open_socket ≡ true }
+        requires held { (holding self.old).holds (owner self.old) ≡ true }
         requires has { HasWhatTheySay (D.number desk.old) (D.moments desk.old) (holding self.old) }
-        ensures ok { IfOk result (λ pumped.
-            Pumps (owner self.old) pumped (D.moments desk.old) (D.moments desk.new)) }
-        ensures err { OnErr result (GoesOn (D.moments desk.old) (D.moments desk.new)) }
+        requires fits { fits self.old pipes.old }
+        requires alone { (i : ℕ) → D.served desk.old
+            (slot_after (owner self.old) (D.moments desk.old)).0 i ≡ true → i ≡ owner self.old }
+        requires distinct { AreDistinct P.known.exact (D.named desk.old) }
+        requires binds { BindsFit P.known.out_name P.known.in_name (D.named desk.old)
+            (D.coming desk.old (slot_after (owner self.old) (D.moments desk.old)).0)
+            (may_join self.old pipes.old) }
+        ensures ok { IfOk result (λ found. GivesOrNot (D.number desk.old)
+            (slot_after (owner self.old) (D.moments desk.old)) found
+            (D.moments desk.old) (D.moments desk.new)) }
+        ensures err { OnErr result (D.moments desk.new ≡ D.moments desk.old) }
+        ensures given { D.given desk.new ≡ D.given desk.old }
+        ensures names { KeepsNames (D.named desk.old) (D.named desk.new) }
         ensures has_still { KeepsUp (D.number desk.new) (D.moments desk.old) (D.moments desk.new)
             (holding self.old) (holding self.new) }
         ensures same { (owner self.new ≡ owner self.old)
-            × (D.number desk.new ≡ D.number desk.old) };
+            × (D.number desk.new ≡ D.number desk.old) }
+        ensures fits { fits self.new pipes.new }
+        ensures others { leaves self.old self.new pipes.old pipes.new };
+
+    /// Tells that one of its ends is at the delimiter of the pipe that it reads. Answers whether the
+    /// end's state is one in which that is looked at; else nothing happens.
+    fn meet<D: Desk<P>>(&mut self, alloc: Global, pipes: &mut P, desk: &mut D, end: EndId) -> bool
+        requires open { (known_after (owner self.old) (items_in (D.moments desk.old))).open_socket ≡ true }
+        requires held { (holding self.old).holds (owner self.old) ≡ true }
+        requires here { has_end end ((holding self.old).ends (owner self.old)) ≡ true }
+        requires at { (holding self.old).at_delimiter end ≡ true }
+        requires has { HasWhatTheySay (D.number desk.old) (D.moments desk.old) (holding self.old) }
+        requires fits { fits self.old pipes.old }
+        ensures found { DelimitsOrNot (D.number desk.old) end result
+            (D.moments desk.old) (D.moments desk.new) }
+        ensures given { D.given desk.new ≡ D.given desk.old }
+        ensures names { KeepsNames (D.named desk.old) (D.named desk.new) }
+        ensures has_still { KeepsUp (D.number desk.new) (D.moments desk.old) (D.moments desk.new)
+            (holding self.old) (holding self.new) }
+        ensures same { (owner self.new ≡ owner self.old)
+            × (D.number desk.new ≡ D.number desk.old) }
+        ensures fits { fits self.new pipes.new }
+        ensures others { leaves self.old self.new pipes.old pipes.new };
 }

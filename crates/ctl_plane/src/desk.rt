@@ -1,5 +1,7 @@
-ghost use Rattle.std.specs.Prelude.{◌≡◌, ℕ, Bool, true, List, Some, OnErr, IfOk};
+ghost use Rattle.std.specs.Prelude.{◌≡◌, ℕ, Bool, true, List, Option, Some, OnErr, IfOk};
 ghost use Rattle.control_held.specs.Moments.{Moment};
+ghost use Rattle.zq_base.specs.declared.ids.EndId.{EndId};
+ghost use Rattle.ctl_holder.specs.declared.given.Given.{Given};
 
 use crate::delivery::Delivery;
 use ctl_holder::Holder;
@@ -18,6 +20,8 @@ pub trait Desk<P: Pipes> {
     ghost use Rattle.control_held.specs.Moments.{items_in, left_after};
     ghost use Rattle.control_held.specs.Has.{has_after};
     ghost use Rattle.spec_control.specs.Rows.{obj};
+    ghost use Rattle.ctl_holder.specs.Holding.{AreMet};
+    ghost use Rattle.ctl_plane.specs.Coming.{AreDistinct, BindsFit, KeepsNames, SendsEnds, TakesEnds};
     ghost use Rattle.ctl_plane.specs.Desk.{HasWhatTheySay, KeepsUp, AsksOnce, GivesOrNot, DelimitsOrNot};
     ghost use Rattle.ctl_plane.specs.Desk.{ReapsOrNot, LooksOrNot, MayTakeFrom, HoldsEnd};
 
@@ -33,6 +37,15 @@ pub trait Desk<P: Pipes> {
     /// The objects that this caller has and whose commands come to one of its mailboxes, by the
     /// mailbox's number.
     ghost served: { Self → ℕ → ℕ → Bool };
+
+    /// The names that pipes were given at their making, each by the end that writes it.
+    ghost named: { Self → EndId → Option P.Name };
+
+    /// The ends whose halves are on their way to this mailbox.
+    ghost coming: { Self → ℕ → EndId → Bool };
+
+    /// The ends of closed sockets that are on their way to the reaper.
+    ghost given: { Self → List (Given P.Name P.Out P.In) };
 
     /// The mailbox of an object that this caller has.
     fn slot(&self, object: ObjId) -> SlotId
@@ -51,13 +64,17 @@ pub trait Desk<P: Pipes> {
         requires has { HasWhatTheySay (number self.old) (moments self.old) (H.holding holder.old) }
         ensures ok { IfOk result (λ reply.
             AsksOnce (number self.old) request reply (moments self.old) (moments self.new)) }
-        ensures err { OnErr result (moments self.new ≡ moments self.old) }
+        ensures given { IfOk result (λ _. SendsEnds (H.ended holder.new) request
+            (given self.old) (given self.new)) }
+        ensures err { OnErr result ((moments self.new ≡ moments self.old)
+            × (given self.new ≡ given self.old)) }
+        ensures names { KeepsNames (named self.old) (named self.new) }
         ensures keeps { (number self.new ≡ number self.old)
             × KeepsUp (number self.new) (moments self.old) (moments self.new)
             (H.holding holder.old) (H.holding holder.new) };
 
-    /// Processes the oldest command of a mailbox, or finds it empty. Want of memory leaves the
-    /// command where it was.
+    /// Processes the oldest command of a mailbox, or finds it empty. The halves of ends that are on
+    /// their way to it may join what the holder has. Want of memory leaves the command where it was.
     fn deliver<H: Holder<P>>(
         &mut self,
         alloc: Global,
@@ -69,39 +86,56 @@ pub trait Desk<P: Pipes> {
         requires lent { (i : ℕ) → served self.old slot.0 i ≡ true →
             (H.holding holder.old).holds i ≡ true }
         requires has { HasWhatTheySay (number self.old) (moments self.old) (H.holding holder.old) }
+        requires distinct { AreDistinct P.known.exact (named self.old) }
+        requires fits { BindsFit P.known.out_name P.known.in_name (named self.old)
+            (coming self.old slot.0) (H.fits holder.old) }
         ensures ok { IfOk result (λ found.
             GivesOrNot (number self.old) slot found (moments self.old) (moments self.new)) }
         ensures err { OnErr result (moments self.new ≡ moments self.old) }
+        ensures given { given self.new ≡ given self.old }
+        ensures names { KeepsNames (named self.old) (named self.new) }
         ensures keeps { (number self.new ≡ number self.old)
             × KeepsUp (number self.new) (moments self.old) (moments self.new)
             (H.holding holder.old) (H.holding holder.new) };
 
     /// Processes the oldest command of the first of the reaper's mailboxes that is not empty, in the
     /// order of the root's and those of the closed sockets that it took over, or finds all of them
-    /// empty. Want of memory leaves the command where it was.
+    /// empty. The reaper's holder takes in the ends of closed sockets. Want of memory leaves the
+    /// command where it was.
     fn deliver_first<H: Holder<P>>(
         &mut self,
         alloc: Global,
         holder: &mut H,
     ) -> Result<Delivery, AllocError>
+        requires reaps { H.reaps ≡ true }
         requires lent { (m i : ℕ) → served self.old m i ≡ true →
             (H.holding holder.old).holds i ≡ true }
         requires has { HasWhatTheySay (number self.old) (moments self.old) (H.holding holder.old) }
+        requires distinct { AreDistinct P.known.exact (named self.old) }
+        requires fits { (m i : ℕ) → served self.old m i ≡ true →
+            BindsFit P.known.out_name P.known.in_name (named self.old) (coming self.old m)
+            (H.fits holder.old) }
+        requires met { AreMet (H.ended holder.old) (given self.old) }
         ensures ok { IfOk result (λ found.
             ReapsOrNot (number self.old) found (moments self.old) (moments self.new)) }
-        ensures err { OnErr result (moments self.new ≡ moments self.old) }
+        ensures err { OnErr result ((moments self.new ≡ moments self.old)
+            × (given self.new ≡ given self.old)) }
+        ensures given { TakesEnds (given self.old) (given self.new) }
+        ensures names { KeepsNames (named self.old) (named self.new) }
         ensures keeps { (number self.new ≡ number self.old)
             × KeepsUp (number self.new) (moments self.old) (moments self.new)
             (H.holding holder.old) (H.holding holder.new) };
 
     /// Tells that an end is at the delimiter of the pipe that it reads. Answers whether its state
     /// is one in which that is looked at; else nothing happens.
-    fn delimiter<H: Holder<P>>(&mut self, end: EndId, holder: &mut H) -> bool
+    fn delimiter<H: Holder<P>>(&mut self, alloc: Global, end: EndId, holder: &mut H) -> bool
         requires mine { HoldsEnd end (H.holding holder.old) }
         requires at { (H.holding holder.old).at_delimiter end ≡ true }
         requires has { HasWhatTheySay (number self.old) (moments self.old) (H.holding holder.old) }
         ensures found { DelimitsOrNot (number self.old) end result
             (moments self.old) (moments self.new) }
+        ensures given { given self.new ≡ given self.old }
+        ensures names { KeepsNames (named self.old) (named self.new) }
         ensures keeps { (number self.new ≡ number self.old)
             × KeepsUp (number self.new) (moments self.old) (moments self.new)
             (H.holding holder.old) (H.holding holder.new) };
@@ -111,5 +145,7 @@ pub trait Desk<P: Pipes> {
     fn look(&mut self, empty: SeenEmpty) -> Option<Sight>
         ensures found { LooksOrNot (number self.old) empty result
             (moments self.old) (moments self.new) }
+        ensures given { given self.new ≡ given self.old }
+        ensures names { KeepsNames (named self.old) (named self.new) }
         ensures number { number self.new ≡ number self.old };
 }

@@ -4,10 +4,8 @@
 mod calls;
 mod delivery;
 mod desk;
-mod pumped;
 
 pub use calls::Calls;
 pub use ctl_holder::{Given, Halves, Holder, Made};
 pub use delivery::Delivery;
 pub use desk::Desk;
-pub use pumped::Pumped;

@@ -1,7 +1,7 @@
 -- A socket is closed, and its ends are on their way.
 use Rattle.std.specs.Prelude.{◌≡◌, ◌≢◌, ◌==◌, ◌++◌, ◌∷◌, [], ℕ, Bool, true, false, List, None, if◌then◌else◌, refl}
 use Rattle.std.specs.List.{list_any}
-use Rattle.std.proofs.Common.{sym, ap, ◌∙◌, subst}
+use Rattle.std.proofs.Common.{sym, ap, ◌∙◌, subst, inl}
 use Rattle.std.proofs.lemmas.Bool.{ne_eqb}
 use Rattle.zq_base.specs.declared.ids.ObjId.{ObjId}
 use Rattle.spec_control.specs.declared.entry.Answered.{Answered}
@@ -9,7 +9,7 @@ use Rattle.spec_control.specs.declared.entry.Did.{Did}
 use Rattle.spec_control.specs.declared.entry.Did.TheVariants.{Asked}
 use Rattle.spec_control.specs.declared.request.Req.TheVariants.{Close}
 use Rattle.spec_control.specs.declared.request.Reply.TheVariants.{Done}
-use Rattle.spec_control.specs.Control.{begun}
+use Rattle.spec_control.specs.Control.{Control, begun}
 use Rattle.spec_control.specs.ControlRun.{after_all}
 use Rattle.spec_control.specs.Names.{AreNamed}
 use Rattle.control_held.specs.Has.{IsBy}
@@ -33,13 +33,12 @@ module _ {G N S : Type 0} (ms ms' : List Mark) (by wakers : ℕ) (old new : Past
       IsBy (order_of ms old.events) (after_all (order_of ms old.events) (begun old.workers)) did by → list_any makes_object (own_moves (control_of old) did) ≡ false → IsLent ms' new wakers
   lent_closed lent run named is none =
       let mid = lent_more ms ms' by wakers old (with_event did old) did marks refl lent (subst (λ (p : Past G N S). IsPast p) step run) (subst (λ (p : Past G N S). AreNamed [] (items_of p)) step named) is none in
-      subst (λ (p : Past G N S). IsLent ms' p wakers) (sym step) (record { marked = mid.marked; order = mid.order; options = mid.options; wakers = mid.wakers })
+      subst (λ (p : Past G N S). IsLent ms' p wakers) (sym step) (record { marked = mid.marked; order = mid.order; options = mid.options; wakers = mid.wakers; boxes = mid.boxes })
 
 -- the holder of the socket has no more of it
-pub leaves_closed : {N S : Type 0} (socket : ObjId) (a : Answered N S) (h k : Holding N) → HasGiven socket.0 h k → Leaves (Asked (Close socket) Done a) h k
-leaves_closed socket a h k gives = record {
-  objects = λ i e. sym (gives.others i (other i e)).0 ∙ e;
-  kinds = λ i e. (gives.others i (other i e)).1.1;
+pub leaves_closed : {N S : Type 0} (c : Control) (socket : ObjId) (a : Answered N S) (h k : Holding N) → HasGiven socket.0 h k → Leaves c (Asked (Close socket) Done a) h k
+leaves_closed c socket a h k gives = record {
+  objects = λ i e. inl (sym (gives.others i (other i e)).0 ∙ e, (gives.others i (other i e)).1.1);
   same = λ i e x. ap (λ (b : Bool). if b then None else x) (apart i e);
   stays = λ i e. apart i e;
 }

@@ -41,9 +41,10 @@ use Rattle.ctl_history.specs.Past.{as_item, control_of, items_of, with_event, Is
 use Rattle.one_desk.specs.declared.mark.Mark.{Mark}
 use Rattle.one_desk.specs.declared.mark.Mark.TheVariants.{Event, Seen}
 use Rattle.one_desk.specs.Order.{events_in, order_of, AreMarked, IsOrder}
-use Rattle.one_desk.specs.Lent.{Lent, lent_to, moments_of, Asks, IsLent, MayHave, made_at_most}
+use Rattle.one_desk.specs.Lent.{Lent, lent_to, moments_of, Asks, HaveOwnBoxes, IsLent, MayHave, made_at_most}
 use Rattle.one_desk.proofs.OrderLemmas.{after_more, event_more, goes_on, looks_nothing}
 use Rattle.one_desk.proofs.FitLemmas.{event_fits, last_fits, names_fit}
+use Rattle.one_desk.proofs.BoxLemmas.{boxes_begin, boxes_more, boxes_stay}
 use Rattle.one_desk.proofs.MakeLemmas.{marks_stay, socket_marks}
 
 some_is : {X : Type 0} {x y : X} → Some x ≡ Some y → x ≡ y
@@ -69,8 +70,8 @@ events_more (Event k ∷ ms) by = let more = events_more ms by in omega (arith, 
 events_more (Seen sight ∷ ms) by = events_more ms by
 
 module _ {G N S : Type 0} where
-  pub lent_begins : (workers wakers : ℕ) → workers + 1 ≤ wakers → IsLent {G = G} {N = N} {S = S} [] (record { workers = workers; events = []; given = [] }) wakers
-  lent_begins workers wakers many = record { marked = refl; order = record { run = tt; named = tt; by = tt }; options = none; wakers = many }
+  pub lent_begins : (workers wakers : ℕ) → workers + 1 ≤ wakers → 1 ≤ workers → IsLent {G = G} {N = N} {S = S} [] (record { workers = workers; events = []; given = [] }) wakers
+  lent_begins workers wakers many some = record { marked = refl; order = record { run = tt; named = tt; by = tt }; options = none; wakers = many; boxes = boxes_begin workers some }
     where
       none : AllMarked (begun workers)
       none zero is = absurd (never is)
@@ -92,8 +93,8 @@ module _ {G N S : Type 0} where
 
   -- ---- an event more
   more : (ms : List Mark) (by wakers many : ℕ) (old : Past G N S) (did : Did N S) → IsLent ms old wakers → IsPast (with_event did old) → AreNamed [] (items_of (with_event did old)) →
-      IsBy (order_of ms old.events) (after_all (order_of ms old.events) (begun old.workers)) did by → AllMarked (after did (control_of old)) → old.workers + next_object (after did (control_of old)) ≤ many → IsLent (ms ++ Event by ∷ []) (with_event did old) many
-  more ms by wakers many old did lent run named is options enough = record {
+      IsBy (order_of ms old.events) (after_all (order_of ms old.events) (begun old.workers)) did by → AllMarked (after did (control_of old)) → old.workers + next_object (after did (control_of old)) ≤ many → HaveOwnBoxes old.workers (after did (control_of old)) → IsLent (ms ++ Event by ∷ []) (with_event did old) many
+  more ms by wakers many old did lent run named is options enough boxes = record {
     marked =
         let marks = events_more ms by in
         let events : length (old.events ++ did ∷ []) ≡ length old.events + 1 = length-append old.events (did ∷ []) in
@@ -107,14 +108,15 @@ module _ {G N S : Type 0} where
         }));
     options = subst AllMarked (sym (control_next old did)) options;
     wakers = subst (λ (c : Control). old.workers + next_object c ≤ many) (sym (control_next old did)) enough;
+    boxes = subst (HaveOwnBoxes old.workers) (sym (control_next old did)) boxes;
   }
 
   module _ (ms ms' : List Mark) (by wakers : ℕ) (old new : Past G N S) (did : Did N S) (marks : ms' ≡ ms ++ Event by ∷ []) (step : new ≡ with_event did old) where
     stands : (many : ℕ) → IsLent ms old wakers → IsPast new → AreNamed [] (items_of new) →
-        IsBy (order_of ms old.events) (after_all (order_of ms old.events) (begun old.workers)) did by → AllMarked (after did (control_of old)) → old.workers + next_object (after did (control_of old)) ≤ many → IsLent ms' new many
-    stands many lent run named is options enough =
+        IsBy (order_of ms old.events) (after_all (order_of ms old.events) (begun old.workers)) did by → AllMarked (after did (control_of old)) → old.workers + next_object (after did (control_of old)) ≤ many → HaveOwnBoxes old.workers (after did (control_of old)) → IsLent ms' new many
+    stands many lent run named is options enough boxes =
         subst (λ (xs : List Mark). IsLent xs new many) (sym marks) (subst (λ (p : Past G N S). IsLent (ms ++ Event by ∷ []) p many) (sym step)
-        (more ms by wakers many old did lent (subst (λ (p : Past G N S). IsPast p) step run) (subst (λ (p : Past G N S). AreNamed [] (items_of p)) step named) is options enough))
+        (more ms by wakers many old did lent (subst (λ (p : Past G N S). IsPast p) step run) (subst (λ (p : Past G N S). AreNamed [] (items_of p)) step named) is options enough boxes))
 
     -- one that makes no object
     pub lent_more : IsLent ms old wakers → IsPast new → AreNamed [] (items_of new) →
@@ -124,7 +126,7 @@ module _ {G N S : Type 0} where
         let fits = last_fits old.events did (begun old.workers) (subst (λ (p : Past G N S). IsPast p) step run) in
         let count = event_count (control_of old) did kept fits none in
         let enough = lent.wakers in
-        stands wakers lent run named is (marks_stay (control_of old) did kept fits none lent.options) (omega (arith, count, enough))
+        stands wakers lent run named is (marks_stay (control_of old) did kept fits none lent.options) (omega (arith, count, enough)) (boxes_stay old.workers (control_of old) did kept fits none lent.boxes)
 
     -- a socket that is made
     pub lent_made : (many : ℕ) (kind : Kind) (options : Options) (reply : Reply) (h : Answered N S) → did ≡ Asked (MakeSocket kind options) reply h → MayHave options → IsLent ms old wakers → IsPast new → AreNamed [] (items_of new) →
@@ -132,6 +134,7 @@ module _ {G N S : Type 0} where
     lent_made many kind options reply h is_so may lent run named is count =
         let enough = lent.wakers in
         stands many lent run named is (subst (λ (d : Did N S). AllMarked (after d (control_of old))) (sym is_so) (socket_marks (control_of old) kind options h reply may lent.options)) (omega (arith, count, enough))
+        (subst (λ (d : Did N S). HaveOwnBoxes old.workers (after d (control_of old))) (sym is_so) (boxes_more old.workers (control_of old) (kept_of ms old wakers lent) lent.boxes kind options h reply))
 
   module _ (ms ms' : List Mark) (by : ℕ) (old new : Past G N S) (req : Req) (reply : Reply) (h : Answered N S) (marks : ms' ≡ ms ++ Event by ∷ []) (step : new ≡ with_event (Asked req reply h) old) where
     pub asks_more : AreMarked ms old.events → Asks req reply (lent_to by ms old) (lent_to by ms' new)

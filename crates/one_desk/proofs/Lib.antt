@@ -1,4 +1,7 @@
+pub mod AckLemmas
+pub mod BoxLemmas
 pub mod CloseLemmas
+pub mod DeliverLemmas
 pub mod FitLemmas
 pub mod HoldLemmas
 pub mod LentLemmas

@@ -33,6 +33,7 @@ module _ {G N S : Type 0} (ms ms' : List Mark) (past : Past G N S) (wakers : ℕ
         }));
     options = lent.options;
     wakers = lent.wakers;
+    boxes = lent.boxes;
   })
 
   pub sees_more : (by : ℕ) (empty : SeenEmpty) (l : Lent G N S) → lent_to by ms past ≡ l → sight.empty ≡ empty → sight.by ≡ by → Sees empty sight l (lent_to by ms' past)

@@ -1,19 +1,27 @@
 -- The control plane as it is lent to one of its callers: the events, their order with the looks, and whose call comes next (own choice).
-use Rattle.std.specs.Prelude.{◌≡◌, ◌≤◌, ◌+◌, ◌++◌, ℕ, Bool, true, List, [], ◌∷◌}
+use Rattle.std.specs.Prelude.{◌≡◌, ◌≤◌, ◌<◌, ◌+◌, ◌==◌, ◌&&◌, ◌++◌, ℕ, Bool, true, false, List, [], ◌∷◌}
+use Rattle.zq_base.specs.declared.ids.EndId.{EndId}
 use Rattle.zq_base.specs.declared.ids.ObjId.{ObjId}
+use Rattle.zq_base.specs.declared.ids.SlotId.{SlotId}
+use Rattle.spec_control.specs.declared.letter.Letter.{Letter}
 use Rattle.zq_base.specs.declared.options.Options.{Options}
 use Rattle.spec_control.specs.declared.entry.Answered.{Answered}
-use Rattle.spec_control.specs.declared.entry.Did.TheVariants.{Asked as DidAsk}
+use Rattle.spec_control.specs.declared.entry.Did.TheVariants.{Asked as DidAsk, Delivered, Delimited}
 use Rattle.spec_control.specs.declared.entry.Item.{Item}
 use Rattle.spec_control.specs.declared.entry.Item.TheVariants.{Event as IsEvent, Seen as IsLook}
 use Rattle.spec_control.specs.declared.entry.SeenEmpty.{SeenEmpty}
+use Rattle.spec_control.specs.declared.entry.SeenEmpty.TheVariants.{Mailbox}
 use Rattle.spec_control.specs.declared.entry.Sight.{Sight}
 use Rattle.spec_control.specs.ControlRun.{IsSeen}
 use Rattle.spec_control.specs.declared.request.Req.{Req}
 use Rattle.spec_control.specs.declared.request.Req.TheVariants.{Close}
 use Rattle.spec_control.specs.declared.request.Reply.{Reply}
-use Rattle.spec_control.specs.declared.request.Reply.TheVariants.{Done, Object, Pair, Both, Wait, Asked, Before, Refused}
-use Rattle.spec_control.specs.Control.{begun, next_object}
+use Rattle.ctl_plane.specs.declared.delivery.Delivery.{Delivery}
+use Rattle.ctl_plane.specs.declared.delivery.Delivery.TheVariants.{Done, Empty}
+use Rattle.spec_control.specs.declared.request.Reply.TheVariants.{Done as IsDone, Object, Pair, Both, Wait, Asked, Before, Refused}
+use Rattle.spec_control.specs.Place.{is_away, looks}
+use Rattle.spec_control.specs.Rows.{obj}
+use Rattle.spec_control.specs.Control.{Control, begun, next_object, owner_of, place_of}
 use Rattle.control_held.specs.OwnAsks.{known_after}
 use Rattle.control_held.specs.Moments.{Moment, items_in, moments_by, moments_from}
 use Rattle.ctl_holder.specs.declared.given.Given.{Given}
@@ -37,7 +45,7 @@ pub record MayHave (options : Options) : Type 0 where
 
 -- how many objects a request for a socket may have made, by its answer
 abbrev pub made_at_most : Reply → ℕ
-made_at_most Done = 1
+made_at_most IsDone = 1
 made_at_most (Object o) = 1
 made_at_most (Pair p) = 1
 made_at_most (Both o p) = 1
@@ -46,17 +54,25 @@ made_at_most Asked = 1
 made_at_most Before = 1
 made_at_most (Refused refusal) = 0
 
+-- each object but the root has a mailbox of its own, behind the root's and the workers'
+pub record HaveOwnBoxes (workers : ℕ) (c : Control) : Type 0 where
+  pub some_worker : 1 ≤ workers
+  pub root : (obj c.rows 0).slot ≡ 0
+  pub many : c.slots ≡ workers + next_object c
+  pub own : (i : ℕ) → 0 < i → i < next_object c → (obj c.rows i).slot ≡ workers + i
+
 module _ {G N S : Type 0} where
   -- with these marks of its events and looks, and this caller
   abbrev pub lent_to : ℕ → List Mark → Past G N S → Lent G N S
   lent_to caller ms past = record { past = past; items = order_of ms past.events; caller = caller }
 
-  -- the marks are those of its events, and its order is one; each socket has the options that a socket may have, and there is a waker for each mailbox
+  -- the marks are those of its events, and its order is one; each socket has the options that a socket may have and a mailbox of its own, and there is a waker for each mailbox
   pub record IsLent (ms : List Mark) (past : Past G N S) (many : ℕ) : Type 0 where
     pub marked : AreMarked ms past.events
     pub order : IsOrder past.workers (order_of {N = N} {S = S} ms past.events)
     pub options : AllMarked (control_of past)
     pub wakers : past.workers + next_object (control_of past) ≤ many
+    pub boxes : HaveOwnBoxes past.workers (control_of past)
 
   -- what its caller did and saw so far, each item with the control plane as it found it
   abbrev pub moments_of : Lent G N S → List (Moment N S)
@@ -73,13 +89,40 @@ module _ {G N S : Type 0} where
     pub items : new.items ≡ old.items ++ IsEvent (record { by = old.caller; did = DidAsk req reply answered }) ∷ []
     pub caller : new.caller ≡ old.caller
 
+-- its caller's end met its delimiter
+pub record Meets {G N S : Type 0} (e : EndId) (old new : Lent G N S) : Type 0 where
+  pub looked_at : looks (place_of (control_of old.past) e) ≡ true
+  pub answered : Answered N S
+  pub past : new.past ≡ with_event (Delimited e answered) old.past
+  pub items : new.items ≡ old.items ++ IsEvent (record { by = old.caller; did = Delimited e answered }) ∷ []
+  pub caller : new.caller ≡ old.caller
+
+-- the ends whose halves are on their way to a mailbox
+abbrev pub coming_to : {G N S : Type 0} → Lent G N S → ℕ → EndId → Bool
+coming_to d slot e = let c : Control = control_of d.past in is_away (place_of c e) && slot == d.past.workers + owner_of c e
+
+-- the oldest command of a mailbox was processed for its caller, and the ends of closed sockets stay on their way
+pub record Hears {G N S : Type 0} (slot : SlotId) (old new : Lent G N S) : Type 0 where
+  pub letter : Letter
+  pub behind : List Letter
+  pub oldest : (control_of old.past).boxes slot.0 ≡ letter ∷ behind
+  pub answered : Answered N S
+  pub past : new.past ≡ with_event (Delivered slot letter answered) old.past
+  pub items : new.items ≡ old.items ++ IsEvent (record { by = old.caller; did = Delivered slot letter answered }) ∷ []
+  pub caller : new.caller ≡ old.caller
+
+-- a delimiter counts where it is looked at
+abbrev pub MeetsOrNot : {G N S : Type 0} → EndId → Bool → (old new : Lent G N S) → Type 0
+MeetsOrNot e true old new = Meets e old new
+MeetsOrNot e false old new = (looks (place_of (control_of old.past) e) ≡ false) × (new ≡ old)
+
 -- its caller closed this socket, and the ends that the socket's holder gave are on their way; those that are said to have met their delimiters have met them
 pub record ClosesOnce {N O I S : Type 0} (ended : I → Bool) (socket : ObjId) (old new : Lent (Given N O I) N S) : Type 0 where
   pub ends : List (Given N O I)
   pub met : AreMet ended ends
   pub answered : Answered N S
-  pub past : new.past ≡ with_given ends (with_event (DidAsk (Close socket) Done answered) old.past)
-  pub items : new.items ≡ old.items ++ IsEvent (record { by = old.caller; did = DidAsk (Close socket) Done answered }) ∷ []
+  pub past : new.past ≡ with_given ends (with_event (DidAsk (Close socket) IsDone answered) old.past)
+  pub items : new.items ≡ old.items ++ IsEvent (record { by = old.caller; did = DidAsk (Close socket) IsDone answered }) ∷ []
   pub caller : new.caller ≡ old.caller
 
 -- its caller looked, found these mailboxes empty, and saw what there is
@@ -90,3 +133,13 @@ pub record Sees {G N S : Type 0} (empty : SeenEmpty) (sight : Sight) (old new : 
   pub past : new.past ≡ old.past
   pub items : new.items ≡ old.items ++ IsLook sight ∷ []
   pub caller : new.caller ≡ old.caller
+
+-- it looked, and found a mailbox empty
+pub record SeesNone {G N S : Type 0} (slot : SlotId) (old new : Lent G N S) : Type 0 where
+  pub sight : Sight
+  pub sees : Sees (Mailbox slot) sight old new
+
+-- what a delivery found
+abbrev pub FindsIn : {G N S : Type 0} → SlotId → Delivery → (old new : Lent G N S) → Type 0
+FindsIn slot Done old new = Hears slot old new
+FindsIn slot Empty old new = SeesNone slot old new

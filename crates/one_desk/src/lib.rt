@@ -3,6 +3,7 @@
 #![tactic(auto)]
 
 mod closing;
+mod deliveries;
 mod desk;
 mod laws;
 mod looks;

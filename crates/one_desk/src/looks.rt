@@ -1,18 +1,21 @@
-ghost use Rattle.std.specs.Prelude.{◌≡◌, ◌≢◌, ◌<◌, [], IfSome, IfNone};
+ghost use Rattle.std.specs.Prelude.{◌≡◌, ◌≢◌, ◌<◌, [], Some, IfSome, IfNone};
 ghost use Rattle.spec_control.specs.declared.entry.SeenEmpty.TheVariants.{Nothing, Mailbox};
 ghost use Rattle.spec_control.specs.ControlRun.{AreEmpty, IsSeen};
+ghost use Rattle.spec_control.specs.Rows.{obj};
+ghost use Rattle.control_held.specs.Has.{has_after};
+ghost use Rattle.control_held.specs.Moments.{items_in, left_after};
 ghost use Rattle.ctl_history.specs.Past.{control_of};
-ghost use Rattle.one_desk.specs.Lent.{Sees};
+ghost use Rattle.one_desk.specs.Lent.{moments_of, Sees};
 
 use crate::desk::OneDesk;
 use crate::mark::Mark;
 use ctl_history::History;
 use msg_pipe::Pipes;
 use spec_control::{SeenEmpty, Sight};
-use zq_base::SlotId;
+use zq_base::{ObjId, SlotId};
 
-// What there is to see, where these mailboxes are empty.
-fn sight_of<P: Pipes>(history: &History<P>, by: u32, empty: SeenEmpty) -> Sight
+/// What there is to see, where these mailboxes are empty.
+pub(crate) fn sight_of<P: Pipes>(history: &History<P>, by: u32, empty: SeenEmpty) -> Sight
 where
     P::Name: Drop,
     requires empty { AreEmpty (control_of history.now) empty }
@@ -43,6 +46,15 @@ where
         let sight = sight_of(&self.history, self.caller, empty);
         self.order = self.order.and(&Mark::Seen(sight), &());
         sight
+    }
+
+    /// The mailbox of an object that the caller has.
+    pub fn slot(&self, object: ObjId) -> SlotId
+        requires has { has_after object.0 (items_in (moments_of self.now)) ≡ Some self.now.caller }
+        ensures { result.0
+            ≡ (obj (left_after object.0 (moments_of self.now)).rows object.0).slot }
+    {
+        self.history.slot(object)
     }
 
     /// The caller looks at the root's state, at how many objects live, and whether there is room for

@@ -2,3 +2,4 @@ pub mod KnownLemmas
 pub mod OpenLemmas
 pub mod RowLemmas
 pub mod ThereLemmas
+pub mod SlotLemmas

@@ -40,7 +40,7 @@ both_new n k true i e = absurd (none_some e)
 both_new n k false i e = some_is e
 
 -- an event takes no object away
-event_there : {N S : Type 0} (c : Control) (did : Did N S) → Kept c → Fits c did → (i : ℕ) → i < next_object c → i < next_object (after did c)
+pub event_there : {N S : Type 0} (c : Control) (did : Did N S) → Kept c → Fits c did → (i : ℕ) → i < next_object c → i < next_object (after did c)
 event_there c did kept fits i there =
     let g = event_goes c did kept fits in
     (leads_stay g.moves (having_taken did c).rows (having_taken did c).boxes (after did c) i g.leads (subst (λ (r : Rows). i < length r.objects) (sym (taken_rows did c)) there)).there

@@ -41,5 +41,5 @@ returns-clause-keeps g c =
     (ap (λ (p : Past (Given g.row.P-Name.Denot g.row.P-Out.Denot g.row.P-In.Denot) g.row.P-Name.Denot g.row.P-Story.Denot). p.workers) c.close.ensures.closes.step)
     (ap (λ (p : Past (Given g.row.P-Name.Denot g.row.P-Out.Denot g.row.P-In.Denot) g.row.P-Name.Denot g.row.P-Story.Denot). p.events) c.close.ensures.closes.step)
     now
-    (leaves_closed c.args.socket _ _ _ c.close.ensures.gives)
-    c.close.ensures.keeps c.close.ensures.turned
+    (leaves_closed _ c.args.socket _ _ _ c.close.ensures.gives)
+    c.close.ensures.keeps c.close.ensures.turned c.close.ensures.joins

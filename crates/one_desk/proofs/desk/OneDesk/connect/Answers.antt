@@ -22,7 +22,7 @@ connect-requires-clause-has g c = desk_has (map (λ x. x.0) c.self.inside.order.
 pub returns-in_err-reply-clause-keeps : goal.returns-in_err-reply-clause-keeps
 returns-in_err-reply-clause-keeps g c =
     desk_still (map (λ x. x.0) c.self.inside.order.items) c.self.inside.history (length c.self.inside.wakers.items) c.self.inside.caller c.args.self.now c.self.view_is c.self.invariant (g.H.Holder.holding c.args.holder.now) c.requires.has _ _
-    c.in_err-reply.ensures.err.0 c.in_err-reply.ensures.same c.in_err-reply.ensures.keeps c.in_err-reply.ensures.turned
+    c.in_err-reply.ensures.err.0 c.in_err-reply.ensures.keeps c.in_err-reply.ensures.turned c.in_err-reply.ensures.joins
 
 pub invariant_of-self-2 : goal.invariant_of-self-2
 invariant_of-self-2 g c =
@@ -51,5 +51,5 @@ returns-clause-keeps g c =
     (ap (λ (p : Past (Given g.row.P-Name.Denot g.row.P-Out.Denot g.row.P-In.Denot) g.row.P-Name.Denot g.row.P-Story.Denot). p.workers) c.in_ok-reply.ensures.ok.step)
     (ap (λ (p : Past (Given g.row.P-Name.Denot g.row.P-Out.Denot g.row.P-In.Denot) g.row.P-Name.Denot g.row.P-Story.Denot). p.events) c.in_ok-reply.ensures.ok.step)
     now
-    (leaves_same _ _ _ c.in_ok-reply.ensures.same (λ i x. refl) (λ i. refl))
-    c.in_ok-reply.ensures.keeps c.in_ok-reply.ensures.turned
+    (leaves_same _ _ _ _ c.in_ok-reply.ensures.same (λ i x. refl) (λ i. refl))
+    c.in_ok-reply.ensures.keeps c.in_ok-reply.ensures.turned c.in_ok-reply.ensures.joins

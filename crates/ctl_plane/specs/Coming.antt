@@ -1,0 +1,50 @@
+-- What is on its way to a caller's objects, by the names of pipes (own choice).
+use Rattle.std.specs.Prelude.{◌≡◌, ◌++◌, Bool, true, List, [], Some, Option, false}
+use Rattle.zq_base.specs.Ends.{other_end}
+use Rattle.zq_base.specs.declared.ids.EndId.{EndId}
+use Rattle.spec_control.specs.declared.request.Req.{Req}
+use Rattle.spec_control.specs.declared.request.Req.TheVariants.{Socket as MakeSocket, AskTerm, Bind, Connect, Unbind, Disconnect, Close, Accepted, Shaken, AskEnd, AskOver, OutputOver}
+use Rattle.ctl_holder.specs.declared.given.Given.{Given}
+use Rattle.ctl_holder.specs.declared.halves.Halves.{Halves}
+use Rattle.ctl_holder.specs.Holding.{AreMet}
+
+module _ {N : Type 0} where
+  -- each pipe has a name of its own, wherever names tell pipes apart; a pipe is known by the end that writes it
+  abbrev pub AreDistinct : (exact : Bool) → (named : EndId → Option N) → Type 0
+  AreDistinct exact named = exact ≡ true → (d e : EndId) (n : N) → named d ≡ Some n → named e ≡ Some n → d ≡ e
+
+  -- a pipe that has a name keeps it
+  abbrev pub KeepsNames : (old new : EndId → Option N) → Type 0
+  KeepsNames old new = (e : EndId) (n : N) → old e ≡ Some n → new e ≡ Some n
+
+  -- halves of ends that are on their way, known by the names of their pipes, may join
+  abbrev pub BindsFit : {O I : Type 0} → (out_name : O → N) → (in_name : I → N) → (named : EndId → Option N) → (coming : EndId → Bool) → (fits : Halves O I → Type 0) → Type 0
+  BindsFit {O = O} {I = I} out_name in_name named coming fits = (e : EndId) (x : Halves O I) → coming e ≡ true → named e ≡ Some (out_name x.out) → named (other_end e) ≡ Some (in_name x.input) → fits x
+
+-- the request closes a socket
+abbrev pub is_close : Req → Bool
+is_close (MakeSocket kind options) = false
+is_close AskTerm = false
+is_close (Bind o at) = false
+is_close (Connect o at) = false
+is_close (Unbind o at) = false
+is_close (Disconnect o at) = false
+is_close (Close o) = true
+is_close (Accepted o) = false
+is_close (Shaken o peer) = false
+is_close (AskEnd e reason) = false
+is_close (AskOver o) = false
+is_close (OutputOver o) = false
+
+module _ {N O I : Type 0} where
+  -- of ends of closed sockets that are on their way, a close sends those of its socket behind the others; those that are said to have met their delimiters have met them
+  pub record SendsEnds (ended : I → Bool) (request : Req) (old new : List (Given N O I)) : Type 0 where
+    pub ends : List (Given N O I)
+    pub behind : new ≡ old ++ ends
+    pub met : AreMet ended ends
+    pub others : is_close request ≡ false → ends ≡ []
+
+  -- the first of them were taken over
+  pub record TakesEnds (old new : List (Given N O I)) : Type 0 where
+    pub ends : List (Given N O I)
+    pub first : old ≡ ends ++ new

@@ -1,0 +1,82 @@
+ghost use Rattle.std.specs.Prelude.{◌≡◌, true, IfOk, OnErr};
+ghost use Rattle.spec_control.specs.Names.{name_of};
+ghost use Rattle.ctl_plane.specs.Coming.{AreDistinct, BindsFit};
+ghost use Rattle.ctl_plane.specs.Desk.{HasWhatTheySay, HoldsEnd, IsItsMailbox, KeepsUp};
+ghost use Rattle.one_desk.specs.Lent.{coming_to, moments_of, FindsIn, MeetsOrNot};
+
+use crate::desk::OneDesk;
+use crate::looks::sight_of;
+use crate::mark::Mark;
+use ctl_history::Heard;
+use ctl_holder::Holder;
+use ctl_plane::Delivery;
+use msg_pipe::Pipes;
+use spec_control::SeenEmpty;
+use std::alloc::{AllocError, Global};
+use zq_base::{EndId, SlotId};
+
+impl<P: Pipes> OneDesk<P>
+where
+    P::Name: Drop,
+    P::Waker: Drop,
+{
+    /// Tells that an end is at the delimiter of the pipe that it reads, with its holder. Answers
+    /// whether its state is one in which that is looked at; else nothing happens.
+    pub fn delimiter<H: Holder<P>>(&mut self, alloc: Global, end: EndId, holder: &mut H) -> bool
+        requires mine { HoldsEnd end (H.holding holder.old) }
+        requires at { (H.holding holder.old).at_delimiter end ≡ true }
+        requires has { HasWhatTheySay self.old.caller (moments_of self.old)
+            (H.holding holder.old) }
+        ensures found { MeetsOrNot end result self.old self.new }
+        ensures keeps { KeepsUp self.new.caller (moments_of self.old) (moments_of self.new)
+            (H.holding holder.old) (H.holding holder.new) }
+    {
+        let looked = self.history.delimiter(alloc, end, holder);
+        match looked {
+            true => {
+                self.history.is_run();
+                self.order = self.order.and(&Mark::Event(self.caller), &());
+                return true;
+            }
+            false => return false,
+        }
+    }
+
+    /// Processes the oldest command of the mailbox of an object, with the object's holder, or finds
+    /// it empty. The halves of ends that are on their way to it may join what the holder has. Want of
+    /// memory leaves the command where it was.
+    pub fn deliver<H: Holder<P>>(
+        &mut self,
+        alloc: Global,
+        slot: SlotId,
+        holder: &mut H,
+    ) -> Result<Delivery, AllocError>
+        requires mine { IsItsMailbox slot.0 (moments_of self.old) (H.holding holder.old) }
+        requires has { HasWhatTheySay self.old.caller (moments_of self.old)
+            (H.holding holder.old) }
+        requires distinct { AreDistinct P.known.exact (name_of self.old.items) }
+        requires fits { BindsFit P.known.out_name P.known.in_name (name_of self.old.items)
+            (coming_to self.old slot.0) (H.fits holder.old) }
+        ensures ok { IfOk result (λ found. FindsIn slot found self.old self.new) }
+        ensures err { OnErr result (self.new ≡ self.old) }
+        ensures keeps { KeepsUp self.new.caller (moments_of self.old) (moments_of self.new)
+            (H.holding holder.old) (H.holding holder.new) }
+    {
+        self.history.is_run();
+        let found = self.history.deliver(alloc, slot, holder)?;
+        match found {
+            Heard::Done => {
+                self.history.is_run();
+                let heard = self.order.and(&Mark::Event(self.caller), &());
+                self.order = heard;
+                return Ok(Delivery::Done);
+            }
+            Heard::Empty => {
+                let sight = sight_of(&self.history, self.caller, SeenEmpty::Mailbox(slot));
+                let looked = self.order.and(&Mark::Seen(sight), &());
+                self.order = looked;
+                return Ok(Delivery::Empty);
+            }
+        }
+    }
+}
