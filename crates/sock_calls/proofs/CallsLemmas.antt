@@ -1,0 +1,115 @@
+-- A socket that is moved for a call, a call that does nothing, and a close.
+use Rattle.std.proofs.Common.{◌≡◌, ℕ, Bool, true, false, List, [], ◌∷◌, ◌++◌, length, length-append, get_or, Option, Some, None, refl, sym, ap, ◌∙◌, subst, arith}
+use Rattle.std.specs.Prelude.{◌==◌, ◌&&◌, is_some, flat_map, if◌then◌else◌}
+use Rattle.std.proofs.lemmas.Bool.{eq-eqb}
+use Rattle.std.proofs.lemmas.List.{append-nil}
+use Rattle.zq_base.specs.declared.ids.ObjId.{ObjId}
+use Rattle.zq_base.specs.declared.kind.Kind.{Kind}
+use Rattle.spec_control.specs.declared.entry.Answered.{Answered}
+use Rattle.spec_control.specs.declared.entry.Did.TheVariants.{Asked}
+use Rattle.spec_control.specs.declared.request.Reply.{Reply}
+use Rattle.spec_control.specs.declared.request.Req.TheVariants.{Close}
+use Rattle.spec_control.specs.Control.{Control}
+use Rattle.control_held.specs.Has.{has_then, has_over, has_after}
+use Rattle.control_held.specs.Moments.{Moment, items_in, left_by}
+use Rattle.msg_pipe.specs.Known.{Known}
+use Rattle.ctl_holder.specs.Holding.{Holding}
+use Rattle.ctl_holder.specs.Turns.{TurnsBy, turned_in}
+use Rattle.ctl_plane.specs.Desk.{HasWhatTheySay, KeepsUp, AsksOnce, by_caller, came_with}
+use Rattle.spec_pattern.specs.Half.{Reading}
+use Rattle.held_ends.proofs.OthersLemmas.{places_stay, leaves_pipes, others_sound, halves_fitting}
+use Rattle.sock_core.proofs.FormLemmas.{sound_of, are_sound}
+use Rattle.sock_core.specs.declared.sock.SockCore.{SockCore}
+use Rattle.sock_calls.specs.Calls.{owner_of, holding_of, FitsPipes, LeavesOthers, HasNone}
+use Rattle.sock_calls.specs.Others.{LeavesFit, LeavesJoining, LeavesMet}
+
+never : false ≡ true → ⊥
+never f = Prim.grind arith
+
+none_some : {X : Type 0} {x : X} → None ≡ Some x → ⊥
+none_some e = Prim.grind arith
+
+left_of : (b c : Bool) → c ≡ true → b && c ≡ false → b ≡ false
+left_of false c is e = refl
+left_of true c is e = absurd (never (sym e ∙ is))
+
+-- a list with more behind it that is the same has none
+none_more : {A : Type 0} (xs ys : List A) → xs ≡ xs ++ ys → ys ≡ []
+none_more xs [] e = refl
+none_more xs (y ∷ ys) e = absurd (let n = ap length e in let a = length-append xs (y ∷ ys) in omega (arith, n, a))
+
+turned_none : {N : Type 0} (h : Holding N) → TurnsBy [] h h
+turned_none h = record { turns = sym (append-nil h.turns); sealed = sym (append-nil h.sealed) }
+
+module _ {N S : Type 0} where
+  -- nothing was done
+  pub keeps_up_none : (by : ℕ) (moments : List (Moment N S)) (h : Holding N) → HasWhatTheySay by moments h → KeepsUp by moments moments h h
+  keeps_up_none by moments h has = record {
+    has = has;
+    turned = λ more e. subst (λ (l : List (Moment N S)). TurnsBy (flat_map (λ m. turned_in m.found (left_by m)) l) h h) (sym (none_more moments more e)) (turned_none h);
+    came = λ more e. subst (λ (l : List (Moment N S)). h.joined ≡ h.joined ++ flat_map (λ m. came_with m.item) l) (sym (none_more moments more e)) (sym (append-nil h.joined));
+    objects = record {
+      one = λ m e. absurd (let n = ap length e in let a = length-append moments (m ∷ []) in omega (arith, n, a));
+      none = λ e i. (refl, refl);
+    };
+  }
+
+  -- nobody has a socket behind its close
+  closed_over : (by : ℕ) (o : ObjId) (reply : Reply) (answered : Answered N S) (found : Control) (had : Option ℕ) (past : List (Moment N S)) → has_over o.0 had (items_in (past ++ record { found = found; item = by_caller by (Asked (Close o) reply answered) } ∷ [])) ≡ None
+  closed_over by o reply answered found had [] = ap (λ (b : Bool). if b then None else had) (eq-eqb o.0 o.0 refl)
+  closed_over by o reply answered found had (m ∷ past) = closed_over by o reply answered found (has_then o.0 m.item had) past
+
+  pub closed_not_held : (by now : ℕ) (o : ObjId) (reply : Reply) (old new : List (Moment N S)) (h : Holding N) → AsksOnce by (Close o) reply old new → HasWhatTheySay now new h → h.holds o.0 ≡ false
+  closed_not_held by now o reply old new h asks has = held (h.holds o.0) refl where
+    nobody : has_after o.0 (items_in new) ≡ None
+    nobody = subst (λ (l : List (Moment N S)). has_after o.0 (items_in l) ≡ None) (sym asks.one_more) (closed_over by o reply asks.answered asks.found None old)
+
+    held : (b : Bool) → h.holds o.0 ≡ b → h.holds o.0 ≡ false
+    held false e = e
+    held true e = absurd (none_some (sym nobody ∙ has.objects o.0 e))
+
+module _ {C W N O I S : Type 0} (K : Known S O I N) where
+  -- a socket that is not held was closed, and has no end
+  pub has_none : (kind : C → Kind) (peers : C → List ℕ) (pipes : S) (s : Option (SockCore C W N O I)) (i : ℕ) → FitsPipes K peers pipes s → owner_of s ≡ i → (holding_of kind s).holds i ≡ false → HasNone s
+  has_none kind peers pipes None i fits is free = absurd fits
+  has_none kind peers pipes (Some s) i fits is free = (closed, fits.gone closed) where
+    closed : s.is_open ≡ false
+    closed = left_of s.is_open (i == s.number.0) (eq-eqb i s.number.0 (sym is)) free
+
+  -- a socket that fits is there
+  pub is_there : (peers : C → List ℕ) (pipes : S) (s : Option (SockCore C W N O I)) → FitsPipes K peers pipes s → is_some s ≡ true
+  is_there peers pipes None fits = absurd fits
+  is_there peers pipes (Some s) fits = refl
+
+  -- nothing was done to it
+  pub leaves_none : (peers : C → List ℕ) (pipes : S) (s : Option (SockCore C W N O I)) → FitsPipes K peers pipes s → LeavesOthers K s s pipes pipes
+  leaves_none peers pipes None fits = absurd fits
+  leaves_none peers pipes (Some s) fits = leaves_pipes K pipes s.ends s.ends (places_stay s.ends.places.items s.ends.places.items refl) refl
+
+  -- ---- the others
+
+  pub others_fit : (peers : C → List ℕ) → LeavesFit C W K peers
+  others_fit peers None new other before now leaves apart fits = absurd leaves
+  others_fit peers (Some a) None other before now leaves apart fits = absurd leaves
+  others_fit peers (Some a) (Some b) None before now leaves apart fits = absurd apart
+  others_fit peers (Some a) (Some b) (Some s) before now leaves apart fits = record {
+    sound = are_sound K now s.ends.rows.items s.ends.places.items
+        (others_sound K before now a.ends b.ends s.ends.rows.items s.ends.places.items leaves apart (sound_of K before s.ends.rows.items s.ends.places.items fits.sound));
+    peers_are = fits.peers_are;
+    room = fits.room;
+    gone = fits.gone;
+  }
+
+  pub others_join : LeavesJoining C W K
+  others_join None new was other before now h leaves apart may = absurd leaves
+  others_join (Some a) None was other before now h leaves apart may = absurd leaves
+  others_join (Some a) (Some b) was None before now h leaves apart may = absurd apart
+  others_join (Some a) (Some b) None (Some s) before now h leaves apart may = absurd may
+  others_join (Some a) (Some b) (Some w) (Some s) before now h leaves apart may =
+      halves_fitting K before now a.ends b.ends w.ends.places.items s.ends.places.items h leaves apart.0 apart.1 may
+
+  pub others_met : LeavesMet C W K
+  others_met None new before now gs leaves apart met = absurd leaves
+  others_met (Some a) None before now gs leaves apart met = absurd leaves
+  others_met (Some a) (Some b) before now gs leaves apart met =
+      λ k d lt m. ap (λ (r : Reading). r.ended) (leaves.ins (get_or gs k d).input (apart k d lt).0 (apart k d lt).1) ∙ met k d lt m

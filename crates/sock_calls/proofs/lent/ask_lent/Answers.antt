@@ -1,0 +1,25 @@
+use Rattle.std.proofs.Common.{refl, sym, subst}
+use Rattle.held_ends.specs.declared.table.EndTable.{EndTable}
+use Rattle.held_ends.specs.Others.{Leaves}
+use Rattle.held_ends.proofs.OthersLemmas.{places_stay, leaves_pipes}
+use Rattle.sock_calls.proofs.lent.ask_lent.Goals as goal
+
+pub invariant_of-holder : goal.invariant_of-holder
+invariant_of-holder g c =
+    let K = g.P.Pipes.known in
+    let t = c.args.core.ends in
+    let f = c.requires.fits in
+    record {
+      sound = f.sound;
+      peers = f.peers_are;
+      room = f.room;
+      gone = f.gone;
+      others = λ s u b.
+          let e = c.requires.began s u b in
+          subst (λ (x : g.row.P.Denot). Leaves K x u c.args.pipes t) (sym e.0)
+          (subst (λ (y : EndTable _ _ _). Leaves K c.args.pipes y c.args.pipes t) (sym e.1) (leaves_pipes K c.args.pipes t t (places_stay t.places.items t.places.items refl) refl));
+      number = λ s u b. (c.requires.began s u b).2;
+    }
+
+pub returns-clause-others : goal.returns-clause-others
+returns-clause-others g c = λ s t b. (c.request-answer.new.holder.others s t b, c.request-answer.new.holder.number s t b)

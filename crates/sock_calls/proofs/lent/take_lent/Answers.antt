@@ -1,0 +1,48 @@
+use Rattle.std.proofs.Common.{◌≡◌, ℕ, true, refl, sym, ap, subst}
+use Rattle.held_ends.specs.declared.table.EndTable.{EndTable}
+use Rattle.held_ends.specs.Others.{Leaves}
+use Rattle.held_ends.proofs.OthersLemmas.{places_stay, leaves_pipes}
+use Rattle.std.specs.Prelude.{IfOk}
+use Rattle.zq_base.specs.declared.ids.SlotId.{SlotId}
+use Rattle.held_ends.specs.Sound.{Fits}
+use Rattle.sock_core.specs.Has.{holding_in}
+use Rattle.ctl_plane.specs.Coming.{BindsFit}
+use Rattle.ctl_plane.specs.Desk.{GivesOrNot}
+use Rattle.sock_calls.proofs.lent.take_lent.Goals as goal
+
+pub invariant_of-holder : goal.invariant_of-holder
+invariant_of-holder g c =
+    let K = g.P.Pipes.known in
+    let t = c.args.core.ends in
+    let f = c.requires.fits in
+    record {
+      sound = f.sound;
+      peers = f.peers_are;
+      room = f.room;
+      gone = f.gone;
+      others = λ s u b.
+          let e = c.requires.began s u b in
+          subst (λ (x : g.row.P.Denot). Leaves K x u c.args.pipes t) (sym e.0)
+          (subst (λ (y : EndTable _ _ _). Leaves K c.args.pipes y c.args.pipes t) (sym e.1) (leaves_pipes K c.args.pipes t t (places_stay t.places.items t.places.items refl) refl));
+      number = λ s u b. (c.requires.began s u b).2;
+    }
+
+pub returns-clause-others : goal.returns-clause-others
+returns-clause-others g c = λ s t b. (c.deliver-answer.new.holder.others s t b, c.deliver-answer.new.holder.number s t b)
+
+pub slot-slot-requires : goal.slot-slot-requires
+slot-slot-requires g c = record { has = c.requires.has.objects c.args.core.number.0 c.requires.held }
+
+pub deliver-answer-requires-clause-lent : goal.deliver-answer-requires-clause-lent
+deliver-answer-requires-clause-lent g c = λ i served.
+    let mine = c.requires.alone i (subst (λ (n : ℕ). g.D.Desk.served c.args.desk.now n i ≡ true) c.slot-slot.ensures served) in
+    subst (λ (j : ℕ). (holding_in (g.C.Joins.kind c.args.core.kind) c.args.core).holds j ≡ true) (sym mine) c.requires.held
+
+pub deliver-answer-requires-clause-fits : goal.deliver-answer-requires-clause-fits
+deliver-answer-requires-clause-fits g c =
+    subst (λ (n : ℕ). BindsFit g.P.Pipes.known.out_name g.P.Pipes.known.in_name (g.D.Desk.named c.args.desk.now) (g.D.Desk.coming c.args.desk.now n) (λ h. Fits g.P.Pipes.known c.args.pipes c.args.core.ends.places.items h)) (sym c.slot-slot.ensures) c.requires.binds
+
+pub returns-clause-ok : goal.returns-clause-ok
+returns-clause-ok g c =
+    subst (λ (slot : SlotId). IfOk c.deliver-answer.result (λ found. GivesOrNot (g.D.Desk.number c.args.desk.now) slot found (g.D.Desk.moments c.args.desk.now) (g.D.Desk.moments c.deliver-answer.new.self)))
+    (ap (λ (n : ℕ). let x : SlotId = record { 0 = n } in x) c.slot-slot.ensures) c.deliver-answer.ensures.ok

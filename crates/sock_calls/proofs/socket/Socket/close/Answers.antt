@@ -1,0 +1,19 @@
+use Rattle.std.proofs.Common.{sym, ◌∙◌}
+use Rattle.std.proofs.lemmas.Result.{IfOk-weaker}
+use Rattle.ctl_plane.specs.Desk.{AsksOnce}
+use Rattle.spec_control.specs.declared.request.Req.TheVariants.{Close}
+use Rattle.sock_calls.specs.Calls.{holding_of, HasNone}
+use Rattle.sock_calls.proofs.CallsLemmas.{closed_not_held, has_none}
+use Rattle.sock_calls.proofs.socket.Socket.close.Goals as goal
+
+pub returns-clause-none : goal.returns-clause-none
+returns-clause-none g c =
+    let x = c.ask in
+    let o = c.number_of.result in
+    let by = g.D.Desk.number c.args.desk.now in
+    let old = g.D.Desk.moments c.args.desk.now in
+    let new = g.D.Desk.moments x.new.desk in
+    IfOk-weaker x.result (λ reply. AsksOnce by (Close o) reply old new) (λ reply. HasNone x.new.socket)
+    (λ reply asks. has_none g.P.Pipes.known g.C.Joins.kind g.C.Joins.peers x.new.pipes x.new.socket o.0 x.ensures.fits (x.ensures.owner ∙ sym c.number_of.ensures)
+    (closed_not_held by (g.D.Desk.number x.new.desk) o reply old new (holding_of g.C.Joins.kind x.new.socket) asks x.ensures.keeps.1.has))
+    x.ensures.ok

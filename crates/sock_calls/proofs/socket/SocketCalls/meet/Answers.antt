@@ -1,0 +1,26 @@
+use Rattle.std.proofs.Common.{◌≡◌, Option, Some, refl, sym, ap, ◌∙◌, subst}
+use Rattle.held_ends.specs.Others.{Leaves}
+use Rattle.sock_core.specs.Has.{holding_in}
+use Rattle.sock_core.specs.declared.sock.SockCore.{SockCore}
+use Rattle.sock_calls.specs.Calls.{owner_of, holding_of, LeavesOthers}
+use Rattle.ctl_plane.specs.Desk.{KeepsUp}
+use Rattle.sock_calls.proofs.socket.SocketCalls.meet.Goals as goal
+
+pub returns-in-Some-clause-has_still : goal.returns-in-Some-clause-has_still
+returns-in-Some-clause-has_still g c =
+    let e : c.args.self.now.core ≡ Some c.in-Some.core = sym c.take.ensures.value ∙ c.in-Some.is in
+    let x = c.meet_lent-answer in
+    subst (λ (s : Option (SockCore _ _ _ _ _)). KeepsUp (g.D.Desk.number x.new.desk) (g.D.Desk.moments c.args.desk.now) (g.D.Desk.moments x.new.desk) (holding_of g.C.Joins.kind s) (holding_in (g.C.Joins.kind x.result.core.kind) x.result.core)) (sym e) x.ensures.keeps.1
+
+pub returns-in-Some-clause-same : goal.returns-in-Some-clause-same
+returns-in-Some-clause-same g c =
+    let e : c.args.self.now.core ≡ Some c.in-Some.core = sym c.take.ensures.value ∙ c.in-Some.is in
+    (◌∙◌ {b = c.in-Some.core.number.0} (c.meet_lent-answer.ensures.others c.replace-lent.result c.in-Some.core.ends (refl, refl)).1 (sym (ap owner_of e)), c.meet_lent-answer.ensures.keeps.0)
+
+pub returns-in-Some-clause-others : goal.returns-in-Some-clause-others
+returns-in-Some-clause-others g c =
+    let e : c.args.self.now.core ≡ Some c.in-Some.core = sym c.take.ensures.value ∙ c.in-Some.is in
+    let x = c.meet_lent-answer.result in
+    subst (λ (s : Option (SockCore _ _ _ _ _)). LeavesOthers g.P.Pipes.known s (Some x.core) c.args.pipes.now x.pipes) (sym e)
+    (subst (λ (p : g.row.P.Denot). Leaves g.P.Pipes.known p c.in-Some.core.ends x.pipes x.core.ends) c.replace-lent.ensures.value
+    (c.meet_lent-answer.ensures.others c.replace-lent.result c.in-Some.core.ends (refl, refl)).0)

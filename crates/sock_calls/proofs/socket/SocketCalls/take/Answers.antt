@@ -1,0 +1,41 @@
+use Rattle.std.proofs.Common.{◌≡◌, Option, Some, refl, sym, ap, ◌∙◌, subst}
+use Rattle.held_ends.specs.Others.{Leaves}
+use Rattle.sock_core.specs.Has.{holding_in}
+use Rattle.sock_core.specs.declared.sock.SockCore.{SockCore}
+use Rattle.sock_calls.specs.Calls.{owner_of, holding_of, MayJoin, LeavesOthers}
+use Rattle.std.specs.Prelude.{IfOk}
+use Rattle.held_ends.specs.Sound.{Fits}
+use Rattle.ctl_plane.specs.Coming.{BindsFit}
+use Rattle.ctl_plane.specs.Desk.{KeepsUp, GivesOrNot, slot_after}
+use Rattle.sock_calls.proofs.socket.SocketCalls.take.Goals as goal
+
+pub take_lent-answer-requires-clause-binds : goal.take_lent-answer-requires-clause-binds
+take_lent-answer-requires-clause-binds g c =
+    let e : c.args.self.now.core ≡ Some c.in-Some.core = sym c.take.ensures.value ∙ c.in-Some.is in
+    subst (λ (p : g.row.P.Denot). BindsFit g.P.Pipes.known.out_name g.P.Pipes.known.in_name (g.D.Desk.named c.args.desk.now) (g.D.Desk.coming c.args.desk.now (slot_after c.in-Some.core.number.0 (g.D.Desk.moments c.args.desk.now)).0) (λ h. Fits g.P.Pipes.known p c.in-Some.core.ends.places.items h)) (sym c.replace-lent.ensures.value)
+    (subst (λ (s : Option (SockCore _ _ _ _ _)). BindsFit g.P.Pipes.known.out_name g.P.Pipes.known.in_name (g.D.Desk.named c.args.desk.now) (g.D.Desk.coming c.args.desk.now (slot_after (owner_of s) (g.D.Desk.moments c.args.desk.now)).0) (MayJoin g.P.Pipes.known c.args.pipes.now s)) e c.requires.binds)
+
+pub returns-in-Some-clause-ok : goal.returns-in-Some-clause-ok
+returns-in-Some-clause-ok g c =
+    let e : c.args.self.now.core ≡ Some c.in-Some.core = sym c.take.ensures.value ∙ c.in-Some.is in
+    let x = c.take_lent-answer in
+    subst (λ (s : Option (SockCore _ _ _ _ _)). IfOk x.result.answer (λ found. GivesOrNot (g.D.Desk.number c.args.desk.now) (slot_after (owner_of s) (g.D.Desk.moments c.args.desk.now)) found (g.D.Desk.moments c.args.desk.now) (g.D.Desk.moments x.new.desk))) (sym e) x.ensures.ok
+
+pub returns-in-Some-clause-has_still : goal.returns-in-Some-clause-has_still
+returns-in-Some-clause-has_still g c =
+    let e : c.args.self.now.core ≡ Some c.in-Some.core = sym c.take.ensures.value ∙ c.in-Some.is in
+    let x = c.take_lent-answer in
+    subst (λ (s : Option (SockCore _ _ _ _ _)). KeepsUp (g.D.Desk.number x.new.desk) (g.D.Desk.moments c.args.desk.now) (g.D.Desk.moments x.new.desk) (holding_of g.C.Joins.kind s) (holding_in (g.C.Joins.kind x.result.core.kind) x.result.core)) (sym e) x.ensures.keeps.1
+
+pub returns-in-Some-clause-same : goal.returns-in-Some-clause-same
+returns-in-Some-clause-same g c =
+    let e : c.args.self.now.core ≡ Some c.in-Some.core = sym c.take.ensures.value ∙ c.in-Some.is in
+    (◌∙◌ {b = c.in-Some.core.number.0} (c.take_lent-answer.ensures.others c.replace-lent.result c.in-Some.core.ends (refl, refl)).1 (sym (ap owner_of e)), c.take_lent-answer.ensures.keeps.0)
+
+pub returns-in-Some-clause-others : goal.returns-in-Some-clause-others
+returns-in-Some-clause-others g c =
+    let e : c.args.self.now.core ≡ Some c.in-Some.core = sym c.take.ensures.value ∙ c.in-Some.is in
+    let x = c.take_lent-answer.result in
+    subst (λ (s : Option (SockCore _ _ _ _ _)). LeavesOthers g.P.Pipes.known s (Some x.core) c.args.pipes.now x.pipes) (sym e)
+    (subst (λ (p : g.row.P.Denot). Leaves g.P.Pipes.known p c.in-Some.core.ends x.pipes x.core.ends) c.replace-lent.ensures.value
+    (c.take_lent-answer.ensures.others c.replace-lent.result c.in-Some.core.ends (refl, refl)).0)

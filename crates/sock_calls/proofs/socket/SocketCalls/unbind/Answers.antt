@@ -1,0 +1,22 @@
+use Rattle.std.proofs.Common.{◌≡◌, ℕ, ap, ◌∙◌, subst}
+use Rattle.std.specs.Prelude.{IfOk}
+use Rattle.std.proofs.lemmas.Result.{IfOk-at_ok}
+use Rattle.zq_base.specs.declared.endpoint.Endpoint.{Endpoint}
+use Rattle.spec_control.specs.declared.request.Req.{Req}
+use Rattle.spec_control.specs.declared.request.Req.TheVariants.{Unbind}
+use Rattle.spec_control.specs.Control.{id}
+use Rattle.ctl_plane.specs.Desk.{AsksOnce}
+use Rattle.sock_calls.specs.Calls.{owner_of, holding_of}
+use Rattle.sock_calls.proofs.CallsLemmas.{keeps_up_none}
+use Rattle.sock_calls.proofs.socket.SocketCalls.unbind.Goals as goal
+
+pub returns-in-Ok-clause-ok : goal.returns-in-Ok-clause-ok
+returns-in-Ok-clause-ok g c =
+    let x = c.ask in
+    let copied : c.in-Ok.copy ≡ c.args.at.now = IfOk-at_ok (λ a. a ≡ c.args.at.now) c.in-Ok.is c.endpoint_of.ensures in
+    subst (λ (request : Req). IfOk x.result (λ reply. AsksOnce (g.D.Desk.number c.args.desk.now) request reply (g.D.Desk.moments c.args.desk.now) (g.D.Desk.moments x.new.desk)))
+    (ap (λ (n : ℕ). Unbind (id n) c.in-Ok.copy) c.number_of.ensures ∙ ap (λ (a : Endpoint). Unbind (id (owner_of c.args.self.now.core)) a) copied)
+    x.ensures.ok
+
+pub returns-in-Err-clause-has_still : goal.returns-in-Err-clause-has_still
+returns-in-Err-clause-has_still g c = keeps_up_none (g.D.Desk.number c.args.desk.now) (g.D.Desk.moments c.args.desk.now) (holding_of g.C.Joins.kind c.args.self.now.core) c.requires.has

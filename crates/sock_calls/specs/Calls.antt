@@ -1,0 +1,69 @@
+-- A socket between its calls, without the pipes of its ends (own choice).
+use Rattle.std.specs.Prelude.{◌≡◌, ℕ, true, false, List, [], Option, Some, None, length}
+use Rattle.zq_base.specs.declared.kind.Kind.{Kind}
+use Rattle.spec_control.specs.declared.end.EndState.TheVariants.{Gone}
+use Rattle.msg_pipe.specs.Known.{Known}
+use Rattle.ctl_holder.specs.declared.halves.Halves.{Halves}
+use Rattle.ctl_holder.specs.Holding.{Holding}
+use Rattle.held_ends.specs.Sound.{Fits}
+use Rattle.held_ends.specs.Giving.{AreGone}
+use Rattle.held_ends.specs.Others.{Leaves}
+use Rattle.sock_core.specs.declared.sock.SockCore.{SockCore}
+use Rattle.sock_core.specs.Has.{holding_in}
+use Rattle.sock_core.specs.Sound.{AreSound, KeepsRoom}
+use Rattle.sock_core.specs.Peers.{ArePeers}
+
+-- nothing is had
+abbrev pub nothing : {N : Type 0} → Holding N
+nothing = record {
+  holds = λ i. false;
+  ends = λ i. [];
+  writes = λ e. false;
+  at_delimiter = λ e. false;
+  kind = λ i. None;
+  output_left = λ i. false;
+  state = λ e. Gone;
+  turns = [];
+  sealed = [];
+  joined = [];
+}
+
+module _ {C W N O I : Type 0} where
+  -- the number of the socket that is there
+  abbrev pub owner_of : Option (SockCore C W N O I) → ℕ
+  owner_of None = 0
+  owner_of (Some s) = s.number.0
+
+  -- what it has, whose kind's states are of these kinds
+  abbrev pub holding_of : (kind : C → Kind) → Option (SockCore C W N O I) → Holding N
+  holding_of kind None = nothing
+  holding_of kind (Some s) = holding_in (kind s.kind) s
+
+  -- the socket that is there was closed, and has no end
+  abbrev pub HasNone : Option (SockCore C W N O I) → Type 0
+  HasNone None = ⊥
+  HasNone (Some s) = (s.is_open ≡ false) × AreGone s.ends.places.items
+
+  module _ {S : Type 0} (K : Known S O I N) where
+    -- its ends are of these pipes, those at the places of its kind's peers are its peers, it has room to give them away, and none where it was closed
+    pub record FitsCore (peers : C → List ℕ) (pipes : S) (s : SockCore C W N O I) : Type 0 where
+      pub sound : AreSound K pipes s.ends.rows.items s.ends.places.items
+      pub peers_are : s.is_open ≡ true → ArePeers s.ends.places.items (peers s.kind)
+      pub room : KeepsRoom s.is_open (length s.ends.places.items) s.room
+      pub gone : s.is_open ≡ false → AreGone s.ends.places.items
+
+    -- a socket is there, and fits
+    abbrev pub FitsPipes : (peers : C → List ℕ) → S → Option (SockCore C W N O I) → Type 0
+    FitsPipes peers pipes None = ⊥
+    FitsPipes peers pipes (Some s) = FitsCore peers pipes s
+
+    -- halves may join its ends
+    abbrev pub MayJoin : S → Option (SockCore C W N O I) → Halves O I → Type 0
+    MayJoin pipes None h = ⊥
+    MayJoin pipes (Some s) h = Fits K pipes s.ends.places.items h
+
+    -- its calls left the pipes of others
+    abbrev pub LeavesOthers : (old new : Option (SockCore C W N O I)) → (before now : S) → Type 0
+    LeavesOthers None new before now = ⊥
+    LeavesOthers (Some a) None before now = ⊥
+    LeavesOthers (Some a) (Some b) before now = Leaves K before a.ends now b.ends

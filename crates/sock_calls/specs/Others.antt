@@ -1,0 +1,50 @@
+-- What a call on one socket leaves of the others of a run (own choice).
+use Rattle.std.specs.Prelude.{◌≡◌, ℕ, true, List, Option, Some, None, All}
+use Rattle.msg_pipe.specs.Known.{Known, IsThere}
+use Rattle.ctl_holder.specs.declared.given.Given.{Given}
+use Rattle.ctl_holder.specs.declared.halves.Halves.{Halves}
+use Rattle.ctl_holder.specs.Holding.{AreMet}
+use Rattle.held_ends.specs.declared.table.Place.{Place}
+use Rattle.held_ends.specs.Places.{place_at}
+use Rattle.held_ends.specs.Sound.{IsElseOf}
+use Rattle.held_ends.specs.Others.{IsApartFrom, IsNoneRead, AreElseFrom}
+use Rattle.sock_core.specs.declared.sock.SockCore.{SockCore}
+use Rattle.sock_calls.specs.Calls.{FitsPipes, MayJoin, LeavesOthers}
+
+module _ {C W N O I S : Type 0} (K : Known S O I N) where
+  -- the ends that a socket has are of other pipes than those of one that was called
+  abbrev pub IsApart : (old new other : Option (SockCore C W N O I)) → Type 0
+  IsApart None new other = ⊥
+  IsApart (Some a) None other = ⊥
+  IsApart (Some a) (Some b) None = ⊥
+  IsApart (Some a) (Some b) (Some s) = (k : ℕ) (p : Place N I) → place_at s.ends.places.items k ≡ Some p → p.held ≡ true → IsApartFrom K a.ends b.ends p
+
+  -- halves on their way to a socket are of other pipes than those of one that was called, and than those of its own ends now
+  abbrev pub AreElse : (old new other : Option (SockCore C W N O I)) → Halves O I → Type 0
+  AreElse None new other h = ⊥
+  AreElse (Some a) None other h = ⊥
+  AreElse (Some a) (Some b) None h = ⊥
+  AreElse (Some a) (Some b) (Some s) h = AreElseFrom K a.ends b.ends h × ((k : ℕ) (p : Place N I) → place_at s.ends.places.items k ≡ Some p → p.held ≡ true → IsElseOf K p h)
+
+  -- the reading half of an end that was given away is of a pipe that is there, and another than those of a socket that was called
+  abbrev pub IsGivenApart : (old new : Option (SockCore C W N O I)) → S → Given N O I → Type 0
+  IsGivenApart None new pipes g = ⊥
+  IsGivenApart (Some a) None pipes g = ⊥
+  IsGivenApart (Some a) (Some b) pipes g = IsThere K pipes (K.in_name g.input) × IsNoneRead K a.ends b.ends (K.in_name g.input)
+
+module _ (C W : Type 0) {N O I S : Type 0} (K : Known S O I N) where
+  -- a socket whose ends are of other pipes than those of one that was called fits still
+  abbrev pub LeavesFit : (peers : C → List ℕ) → Type 0
+  LeavesFit peers = (old new other : Option (SockCore C W N O I)) (before now : S) →
+      LeavesOthers K old new before now → IsApart K old new other → FitsPipes K peers before other → FitsPipes K peers now other
+
+  -- halves that are of other pipes may join a socket still; it may be the socket that was called
+  abbrev pub LeavesJoining : Type 0
+  LeavesJoining = (old new was other : Option (SockCore C W N O I)) (before now : S) (h : Halves O I) →
+      LeavesOthers K old new before now → AreElse K old new other h → MayJoin K before was h → MayJoin K now other h
+
+  -- ends of other pipes that were given away have met their delimiters still
+  abbrev pub LeavesMet : Type 0
+  LeavesMet = (old new : Option (SockCore C W N O I)) (before now : S) (gs : List (Given N O I)) →
+      LeavesOthers K old new before now → All (IsGivenApart K old new before) gs →
+      AreMet (λ i. (K.reading before i).ended) gs → AreMet (λ i. (K.reading now i).ended) gs

@@ -1,0 +1,67 @@
+ghost use Rattle.std.specs.Prelude.{◌≡◌, true, Some, IfOk, OnErr};
+ghost use Rattle.control_held.specs.Held.{asker};
+ghost use Rattle.control_held.specs.OwnAsks.{MayAskOwn};
+ghost use Rattle.control_held.specs.Moments.{items_in};
+ghost use Rattle.ctl_plane.specs.Coming.{KeepsNames, SendsEnds};
+ghost use Rattle.ctl_plane.specs.Desk.{HasWhatTheySay, KeepsUp, AsksOnce};
+ghost use Rattle.sock_calls.specs.Calls.{owner_of, holding_of, FitsPipes, LeavesOthers};
+
+use crate::lent::ask_lent;
+use crate::moving::Back;
+use ctl_plane::Desk;
+use held_ends::HeldPipes;
+use sock_core::{Joins, SockCore};
+use spec_control::{Reply, Req};
+use std::alloc::{AllocError, Global};
+use std::marker::Brand;
+use std::mem;
+
+/// A request of a socket, which is moved with its pipes for it and back.
+pub(crate) fn ask<P, C, D>(
+    alloc: Global,
+    pipes: &mut P,
+    socket: &mut Option<SockCore<C, P::Waker, P::Name, P::Out, P::In>>,
+    desk: &mut D,
+    request: Req,
+) -> Result<Reply, AllocError>
+where
+    P: HeldPipes + Drop,
+    P::Name: Drop,
+    P::Waker: Drop,
+    C: Joins + Drop,
+    D: Desk<P>,
+    requires fits { FitsPipes P.known C.peers pipes.old socket.old }
+    requires may { MayAskOwn (items_in (D.moments desk.old)) request }
+    requires asks { asker request ≡ Some (owner_of socket.old) }
+    requires held { (holding_of C.kind socket.old).holds (owner_of socket.old) ≡ true }
+    requires has { HasWhatTheySay (D.number desk.old) (D.moments desk.old)
+        (holding_of C.kind socket.old) }
+    ensures ok { IfOk result (λ reply. AsksOnce (D.number desk.old) request reply
+        (D.moments desk.old) (D.moments desk.new)) }
+    ensures given { IfOk result (λ _. SendsEnds (λ i. (P.known.reading pipes.new i).ended) request
+        (D.given desk.old) (D.given desk.new)) }
+    ensures err { OnErr result ((D.moments desk.new ≡ D.moments desk.old)
+        × (D.given desk.new ≡ D.given desk.old)) }
+    ensures names { KeepsNames (D.named desk.old) (D.named desk.new) }
+    ensures keeps { (D.number desk.new ≡ D.number desk.old)
+        × KeepsUp (D.number desk.new) (D.moments desk.old) (D.moments desk.new)
+        (holding_of C.kind socket.old) (holding_of C.kind socket.new) }
+    ensures owner { owner_of socket.new ≡ owner_of socket.old }
+    ensures fits { FitsPipes P.known C.peers pipes.new socket.new }
+    ensures others { LeavesOthers P.known socket.old socket.new pipes.old pipes.new }
+{
+    match socket.take() {
+        Some(core) => {
+            let lent = mem::replace(pipes, P::none(alloc));
+            let Back {
+                answer,
+                pipes: lent,
+                core,
+            } = ask_lent::<Brand, P, C, D>(alloc, lent, core, desk, request);
+            *pipes = lent;
+            *socket = Some(core);
+            return answer;
+        }
+        None => unreachable!(),
+    }
+}

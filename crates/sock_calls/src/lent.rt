@@ -1,0 +1,189 @@
+ghost use Rattle.std.specs.Prelude.{◌≡◌, ℕ, true, Some, IfOk, OnErr};
+ghost use Rattle.control_held.specs.Held.{asker};
+ghost use Rattle.control_held.specs.OwnAsks.{MayAskOwn};
+ghost use Rattle.control_held.specs.Moments.{items_in};
+ghost use Rattle.ctl_holder.specs.Holding.{has_end};
+ghost use Rattle.ctl_plane.specs.Coming.{AreDistinct, BindsFit, KeepsNames, SendsEnds};
+ghost use Rattle.ctl_plane.specs.Desk.{HasWhatTheySay, KeepsUp, AsksOnce, GivesOrNot, DelimitsOrNot, slot_after};
+ghost use Rattle.held_ends.specs.declared.table.EndTable.{EndTable};
+ghost use Rattle.held_ends.specs.Others.{Leaves};
+ghost use Rattle.held_ends.specs.Sound.{Fits};
+ghost use Rattle.sock_core.specs.Has.{holding_in};
+ghost use Rattle.sock_calls.specs.Calls.{FitsCore};
+
+use crate::moving::Back;
+use ctl_plane::{Delivery, Desk};
+use held_ends::{EndTable, HeldPipes};
+use sock_core::{Joins, Since, SockCore, SockHolder};
+use spec_control::{Reply, Req};
+use std::alloc::{AllocError, Global};
+use std::marker::PhantomData;
+use zq_base::EndId;
+
+/// A request of a socket that was moved together with its pipes. The stretch begins with it.
+pub(crate) fn ask_lent<F, P, C, D>(
+    alloc: Global,
+    pipes: P,
+    core: SockCore<C, P::Waker, P::Name, P::Out, P::In>,
+    desk: &mut D,
+    request: Req,
+) -> Back<Result<Reply, AllocError>, P, SockCore<C, P::Waker, P::Name, P::Out, P::In>>
+where
+    F: Since<P, EndTable<P::Name, P::Out, P::In>>,
+    P: HeldPipes,
+    P::Name: Drop,
+    C: Joins,
+    D: Desk<P>,
+    requires began { (s : P) (t : EndTable P.Name P.Out P.In) → F.began s t →
+        (s ≡ pipes) × (t ≡ core.ends) × (core.number.0 ≡ F.object) }
+    requires fits { FitsCore P.known C.peers pipes core }
+    requires may { MayAskOwn (items_in (D.moments desk.old)) request }
+    requires lent { (i : ℕ) → asker request ≡ Some i →
+        (holding_in (C.kind core.kind) core).holds i ≡ true }
+    requires has { HasWhatTheySay (D.number desk.old) (D.moments desk.old)
+        (holding_in (C.kind core.kind) core) }
+    ensures ok { IfOk result.answer (λ reply. AsksOnce (D.number desk.old) request reply
+        (D.moments desk.old) (D.moments desk.new)) }
+    ensures given { IfOk result.answer (λ _. SendsEnds
+        (λ i. (P.known.reading result.pipes i).ended) request
+        (D.given desk.old) (D.given desk.new)) }
+    ensures err { OnErr result.answer ((D.moments desk.new ≡ D.moments desk.old)
+        × (D.given desk.new ≡ D.given desk.old)) }
+    ensures names { KeepsNames (D.named desk.old) (D.named desk.new) }
+    ensures keeps { (D.number desk.new ≡ D.number desk.old)
+        × KeepsUp (D.number desk.new) (D.moments desk.old) (D.moments desk.new)
+        (holding_in (C.kind core.kind) core)
+        (holding_in (C.kind result.core.kind) result.core) }
+    ensures fits { FitsCore P.known C.peers result.pipes result.core }
+    ensures others { (s : P) (t : EndTable P.Name P.Out P.In) → F.began s t →
+        Leaves P.known s t result.pipes result.core.ends × (result.core.number.0 ≡ F.object) }
+{
+    let mut holder: SockHolder<P, C, F> = SockHolder {
+        pipes,
+        core,
+        since: PhantomData,
+    };
+    let answer = desk.request::<SockHolder<P, C, F>>(alloc, request, &mut holder);
+    let SockHolder {
+        pipes,
+        core,
+        since: _,
+    } = holder;
+    Back {
+        answer,
+        pipes,
+        core,
+    }
+}
+
+/// A command of a socket that was moved together with its pipes, or none.
+pub(crate) fn take_lent<F, P, C, D>(
+    alloc: Global,
+    pipes: P,
+    core: SockCore<C, P::Waker, P::Name, P::Out, P::In>,
+    desk: &mut D,
+) -> Back<Result<Delivery, AllocError>, P, SockCore<C, P::Waker, P::Name, P::Out, P::In>>
+where
+    F: Since<P, EndTable<P::Name, P::Out, P::In>>,
+    P: HeldPipes,
+    P::Name: Drop,
+    C: Joins,
+    D: Desk<P>,
+    requires began { (s : P) (t : EndTable P.Name P.Out P.In) → F.began s t →
+        (s ≡ pipes) × (t ≡ core.ends) × (core.number.0 ≡ F.object) }
+    requires fits { FitsCore P.known C.peers pipes core }
+    requires held { (holding_in (C.kind core.kind) core).holds core.number.0 ≡ true }
+    requires has { HasWhatTheySay (D.number desk.old) (D.moments desk.old)
+        (holding_in (C.kind core.kind) core) }
+    requires alone { (i : ℕ) → D.served desk.old
+        (slot_after core.number.0 (D.moments desk.old)).0 i ≡ true → i ≡ core.number.0 }
+    requires distinct { AreDistinct P.known.exact (D.named desk.old) }
+    requires binds { BindsFit P.known.out_name P.known.in_name (D.named desk.old)
+        (D.coming desk.old (slot_after core.number.0 (D.moments desk.old)).0)
+        (λ h. Fits P.known pipes core.ends.places.items h) }
+    ensures ok { IfOk result.answer (λ found. GivesOrNot (D.number desk.old)
+        (slot_after core.number.0 (D.moments desk.old)) found
+        (D.moments desk.old) (D.moments desk.new)) }
+    ensures err { OnErr result.answer (D.moments desk.new ≡ D.moments desk.old) }
+    ensures given { D.given desk.new ≡ D.given desk.old }
+    ensures names { KeepsNames (D.named desk.old) (D.named desk.new) }
+    ensures keeps { (D.number desk.new ≡ D.number desk.old)
+        × KeepsUp (D.number desk.new) (D.moments desk.old) (D.moments desk.new)
+        (holding_in (C.kind core.kind) core)
+        (holding_in (C.kind result.core.kind) result.core) }
+    ensures fits { FitsCore P.known C.peers result.pipes result.core }
+    ensures others { (s : P) (t : EndTable P.Name P.Out P.In) → F.began s t →
+        Leaves P.known s t result.pipes result.core.ends × (result.core.number.0 ≡ F.object) }
+{
+    let slot = desk.slot(core.number);
+    let mut holder: SockHolder<P, C, F> = SockHolder {
+        pipes,
+        core,
+        since: PhantomData,
+    };
+    let answer = desk.deliver::<SockHolder<P, C, F>>(alloc, slot, &mut holder);
+    let SockHolder {
+        pipes,
+        core,
+        since: _,
+    } = holder;
+    Back {
+        answer,
+        pipes,
+        core,
+    }
+}
+
+/// An end of a socket that was moved together with its pipes is at the delimiter of the pipe that it
+/// reads.
+pub(crate) fn meet_lent<F, P, C, D>(
+    alloc: Global,
+    pipes: P,
+    core: SockCore<C, P::Waker, P::Name, P::Out, P::In>,
+    desk: &mut D,
+    end: EndId,
+) -> Back<bool, P, SockCore<C, P::Waker, P::Name, P::Out, P::In>>
+where
+    F: Since<P, EndTable<P::Name, P::Out, P::In>>,
+    P: HeldPipes,
+    P::Name: Drop,
+    C: Joins,
+    D: Desk<P>,
+    requires began { (s : P) (t : EndTable P.Name P.Out P.In) → F.began s t →
+        (s ≡ pipes) × (t ≡ core.ends) × (core.number.0 ≡ F.object) }
+    requires fits { FitsCore P.known C.peers pipes core }
+    requires held { (holding_in (C.kind core.kind) core).holds core.number.0 ≡ true }
+    requires here { has_end end
+        ((holding_in (C.kind core.kind) core).ends core.number.0) ≡ true }
+    requires at { (holding_in (C.kind core.kind) core).at_delimiter end ≡ true }
+    requires has { HasWhatTheySay (D.number desk.old) (D.moments desk.old)
+        (holding_in (C.kind core.kind) core) }
+    ensures found { DelimitsOrNot (D.number desk.old) end result.answer
+        (D.moments desk.old) (D.moments desk.new) }
+    ensures given { D.given desk.new ≡ D.given desk.old }
+    ensures names { KeepsNames (D.named desk.old) (D.named desk.new) }
+    ensures keeps { (D.number desk.new ≡ D.number desk.old)
+        × KeepsUp (D.number desk.new) (D.moments desk.old) (D.moments desk.new)
+        (holding_in (C.kind core.kind) core)
+        (holding_in (C.kind result.core.kind) result.core) }
+    ensures fits { FitsCore P.known C.peers result.pipes result.core }
+    ensures others { (s : P) (t : EndTable P.Name P.Out P.In) → F.began s t →
+        Leaves P.known s t result.pipes result.core.ends × (result.core.number.0 ≡ F.object) }
+{
+    let mut holder: SockHolder<P, C, F> = SockHolder {
+        pipes,
+        core,
+        since: PhantomData,
+    };
+    let answer = desk.delimiter::<SockHolder<P, C, F>>(alloc, end, &mut holder);
+    let SockHolder {
+        pipes,
+        core,
+        since: _,
+    } = holder;
+    Back {
+        answer,
+        pipes,
+        core,
+    }
+}
