@@ -1,0 +1,5 @@
+pub mod Blank
+pub mod Mailboxes
+pub mod OneJournal
+pub mod InTime
+pub mod Local

@@ -1,0 +1,10 @@
+-- That a run is replayed by its script, its seed and the most turns that it may take (own choice).
+use Rattle.std.specs.Prelude.{◌≡◌}
+use Rattle.spec_journal.specs.Run.{Schedule}
+use Rattle.spec_run.specs.declared.journal.RunJournal.{RunJournal}
+use Rattle.spec_run.specs.LineCall.{RunScript}
+use Rattle.spec_run.specs.RunJournal.{IsRunJournal}
+
+-- two journals of one script on one thread by one schedule are equal, whatever the clock reads
+abbrev pub RunsHaveOneJournal : (N S : Type 0) → Type 0
+RunsHaveOneJournal N S = (script : RunScript) (schedule : Schedule) (j k : RunJournal) → IsRunJournal N S script schedule j → IsRunJournal N S script schedule k → j ≡ k

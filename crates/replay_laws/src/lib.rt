@@ -1,0 +1,7 @@
+//! Laws of how a run is replayed: by its script, its seed and the most turns that it may take, and by
+//! nothing else.
+#![tactic(auto)]
+
+mod laws;
+
+pub use laws::{a_script_has_one_run_journal, counts_are_not_read, sockets_have_their_mailboxes};
