@@ -1,5 +1,5 @@
 -- Lemmas on several writes to a sink.
-use Rattle.std.proofs.Common.{◌∙◌, ℕ, List, [], ◌++◌, take, Option, Some, None, refl, sym, ap, subst, append_assoc}
+use Rattle.std.proofs.Common.{◌∙◌, ℕ, List, [], ◌++◌, take, Option, Some, None, sym, ap, subst, append_assoc}
 use Rattle.std.proofs.lemmas.List.{append-nil}
 use Rattle.zq_outer.specs.declared.sink.Put.TheVariants as put
 use Rattle.zq_outer.specs.Sink.{Writes, Appends, AppendsFront}

@@ -8,4 +8,5 @@ pub mod Memory
 pub mod Pace
 pub mod Plan
 pub mod Mates
+pub mod Reads
 pub mod Circle

@@ -1,6 +1,8 @@
 -- The plan of a host in memory: which calls fail or stall, when a link is cut, and what peers say (own choice).
 use Rattle.std.specs.Prelude.{ℕ, ◌+◌, ◌-◌, ◌^◌, List, min, Option, option_map, ◌==◌, Contains}
 use Rattle.std.specs.List.{find}
+use Rattle.zq_outer.specs.declared.host.Dialled.{Dialled}
+use Rattle.zq_outer.specs.declared.host.Dialled.TheVariants as dial
 use Rattle.zq_outer.specs.declared.plan.CallKind.{CallKind}
 use Rattle.zq_outer.specs.declared.plan.PlannedCall.{PlannedCall}
 use Rattle.zq_outer.specs.declared.plan.Cut.{Cut}
@@ -12,6 +14,12 @@ IsListed calls kind number = Contains calls (record { kind = kind; number = numb
 -- the number of the call behind so many, from 1 (a number that reaches 2^64 - 1 stays there)
 abbrev pub number_after : ℕ → ℕ
 number_after made = min (made + 1) (2 ^ 64 - 1)
+
+-- how many connects gave a link, behind one that answered so
+abbrev pub links_after : {L : Type 0} → Dialled L → ℕ → ℕ
+links_after (dial.Linked link) links = number_after links
+links_after dial.NotReady links = links
+links_after dial.Failed links = links
 
 -- after how many octets this link is cut: the first that is listed for it
 abbrev pub cut_of : List Cut → ℕ → Option ℕ

@@ -15,6 +15,7 @@ mod mem_link;
 mod mem_peer;
 mod mem_sink;
 mod mem_source;
+mod most;
 mod pace;
 mod pieces;
 mod plan;

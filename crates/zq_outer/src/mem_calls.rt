@@ -1,4 +1,4 @@
-ghost use Rattle.std.specs.Prelude.{◌≡◌, ◌↔◌};
+ghost use Rattle.std.specs.Prelude.{◌≡◌, ◌↔◌, ℕ};
 ghost use Rattle.zq_outer.specs.Plan.{IsListed};
 
 use crate::plan::{CallKind, PlannedCall, is_listed};
@@ -54,7 +54,10 @@ impl MemCalls {
     }
 
     /// What is to become of the next read.
-    pub fn next_read(&self) -> Planned {
+    pub fn next_read(&self) -> Planned
+        ensures fails { result ≡ Planned.Fails → (n : ℕ) × IsListed self.now.fails CallKind.Read n }
+        ensures stalls { result ≡ Planned.Stalls → (n : ℕ) × IsListed self.now.stalls CallKind.Read n }
+    {
         let before = self.reads.fetch_add(1, SeqCst);
         self.planned(CallKind::Read, before.saturating_add(1))
     }

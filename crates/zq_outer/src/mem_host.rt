@@ -78,7 +78,7 @@ impl MemHost {
     ghost use Rattle.std.specs.Prelude.{◌≡◌, ◌↔◌, ◌<◌, [], None, Some, IfOk, IfSome};
     ghost use Rattle.zq_outer.specs.Count.{RoseIf};
     ghost use Rattle.zq_outer.specs.Host.{IfLinked, IsNew};
-    ghost use Rattle.zq_outer.specs.Plan.{number_after, cut_of};
+    ghost use Rattle.zq_outer.specs.Plan.{number_after, links_after, cut_of};
     ghost use Rattle.zq_outer.specs.Mates.{heard_at, said_at, cut_at};
     ghost use Rattle.zq_outer.specs.declared.host.Dialled.TheVariants as dial;
 
@@ -202,7 +202,7 @@ impl MemHost {
         ensures stalls { RoseIf self.old.stalled self.new.stalled (result ≡ dial.NotReady) }
         ensures fresh { IfLinked result (λ l. IsNew (Some (heard_at l)) (Some (said_at l))) }
         ensures cut { IfLinked result (λ l. cut_at l ≡ cut_of self.old.cuts (number_after self.old.links)) }
-        ensures others { self.new ≡ record self.old { failed = self.new.failed; links = self.new.links } }
+        ensures others { self.new ≡ record self.old { failed = self.new.failed; links = links_after result self.old.links } }
     {
         match self.dialled(to) {
             Ok(Some(mut link)) => {
@@ -247,7 +247,7 @@ impl Host for MemHost {
     ghost use Rattle.std.specs.Prelude.{◌≡◌, ◌≤◌};
     ghost use Rattle.zq_outer.specs.Count.{RoseIf};
     ghost use Rattle.zq_outer.specs.Host.{IfLinked, IsNew};
-    ghost use Rattle.zq_outer.specs.Plan.{number_after, cut_of, GoesByPlan};
+    ghost use Rattle.zq_outer.specs.Plan.{number_after, links_after, cut_of, GoesByPlan};
     ghost use Rattle.zq_outer.specs.Mates.{heard_at, said_at, cut_at};
 
     type L = MemLink;
@@ -291,7 +291,7 @@ impl Host for MemHost {
         ensures stalls { RoseIf self.old.stalled self.new.stalled (result ≡ Dialled.NotReady) }
         ensures fresh { IfLinked result (λ l. IsNew (Some (heard_at l)) (Some (said_at l))) }
         ensures planned { GoesByPlan self.old CallKind.Connect self.old.connects (result ≡ Dialled.Failed) (result ≡ Dialled.NotReady) }
-        ensures numbered { self.new.connects ≡ number_after self.old.connects }
+        ensures numbered { (self.new.connects ≡ number_after self.old.connects) × (self.new.links ≡ links_after result self.old.links) }
         ensures cut { IfLinked result (λ l. cut_at l ≡ cut_of self.old.cuts (number_after self.old.links)) }
     {
         self.connects = self.connects.saturating_add(1);

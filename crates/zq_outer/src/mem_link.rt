@@ -1,10 +1,14 @@
-ghost use Rattle.std.specs.Prelude.{◌≡◌, ◌≤◌, ◌<◌, ◌-◌, ◌++◌, [], ℕ, length, take, option_map, None, Some, IfOk, IfSome};
+ghost use Rattle.std.specs.Prelude.{◌≡◌, ◌≤◌, ◌<◌, ◌-◌, ◌++◌, ◌↔◌, ◌⊎◌, [], ℕ, length, take, IsTrue, option_map, None, Some, IfOk, IfSome};
 ghost use mathlib.Core.List.{IsPrefix};
+ghost use Rattle.rtrb.specs.Ring.{ConsumerLooked};
 ghost use Rattle.zq_outer.specs.Link.{IsHeard, Hears, IsSaid, Says};
-ghost use Rattle.zq_outer.specs.Mates.{AreMates, heard_at, said_at, cut_at, IsSameEnd};
+ghost use Rattle.zq_outer.specs.Mates.{AreMates, heard_at, said_at, waiting_at, cut_at, IsSameEnd};
+ghost use Rattle.zq_outer.specs.Pace.{after_read, after_given};
+ghost use Rattle.zq_outer.specs.Reads.{ListsAFault, ListsAStall, IsCutOff, HoldsBack, read_most, IsReadAt};
 
 use crate::link::{Link, LinkGot, LinkPut};
 use crate::mem_calls::{MemCalls, Planned};
+use crate::most::Most;
 use crate::pace::Pace;
 use rtrb::{Consumer, Producer, RingBuffer};
 use std::alloc::{AllocError, Global};
@@ -17,7 +21,7 @@ use std::sync::atomic::Ordering::SeqCst;
 pub struct MemLink {
     to: Producer<u8, Global>,
     from: Consumer<u8, Global>,
-    most: usize,
+    most: Most,
     left: Option<u64>,
     is_cut: Arc<AtomicBool>,
     pace: Option<Pace>,
@@ -51,6 +55,7 @@ impl MemLink {
         most: usize,
         is_cut: Arc<AtomicBool>,
     ) -> MemLink
+        requires { 0 < most }
         ensures rings { (result.to ≡ to) × (result.from ≡ from) }
         ensures uncut { result.left ≡ None }
         ensures most { result.most ≡ most }
@@ -58,7 +63,7 @@ impl MemLink {
         MemLink {
             to,
             from,
-            most,
+            most: Most::new(most),
             left: None,
             is_cut,
             pace: None,
@@ -69,11 +74,12 @@ impl MemLink {
         }
     }
 
-    /// What the one read is a front of what the other wrote.
+    /// What the one read is a front of what the other wrote, and the rest of that waits for it.
     pub fn tell(reader: &mut MemLink, writer: &mut MemLink)
         requires mates { AreMates writer.old reader.old }
         ensures mates { AreMates writer.new reader.new }
         ensures front { IsPrefix (heard_at reader.new) (said_at writer.new) }
+        ensures waits { heard_at reader.new ++ waiting_at reader.new ≡ said_at writer.new }
         ensures reader { (heard_at reader.new ≡ heard_at reader.old) × (said_at reader.new ≡ said_at reader.old) }
         ensures writer { (heard_at writer.new ≡ heard_at writer.old) × (said_at writer.new ≡ said_at writer.old) }
     {
@@ -116,6 +122,7 @@ impl MemLink {
         requires { 0 < length buf.old }
         ensures counted { IsHeard result (length buf.old) }
         ensures bytes { Hears (Some (heard_at self.old)) (Some (heard_at self.new)) result buf.new }
+        ensures answer { IsReadAt result (length buf.old) self.old self.new }
         ensures others { (said_at self.new ≡ said_at self.old) × (cut_at self.new ≡ cut_at self.old) }
         ensures counts { (self.new.faults ≡ self.old.faults) × (self.new.stalls ≡ self.old.stalls) × (self.new.ends ≡ self.old.ends) }
         ensures same { IsSameEnd self.old self.new }
@@ -125,13 +132,53 @@ impl MemLink {
             Planned::Stalls => return LinkGot::NotReady,
             Planned::Fails => return LinkGot::Failed,
         }
-        if self.left == Some(0) {
+        if self.is_cut_off() {
             return LinkGot::Ended;
         }
+        self.pop(buf)
+    }
+
+    // Whether it has written all up to its cut.
+    fn is_cut_off(&self) -> bool
+        ensures { IsTrue result ↔ IsCutOff self.now }
+    {
+        self.left == Some(0)
+    }
+
+    // Whether the link is cut or the other end gone, so that nothing more is written to it.
+    fn is_closing(&mut self) -> bool
+        ensures looked { ConsumerLooked self.old.from self.new.from }
+        ensures others { self.new ≡ record self.old { from = self.new.from } }
+    {
+        self.is_cut.load(SeqCst) || self.from.is_abandoned()
+    }
+
+    // Moves what waits to the front of the buffer: how many octets, and whether no more will come.
+    fn take_waiting(&mut self, buf: &mut [u8]) -> (usize, bool)
+        ensures count { result.0 ≤ length buf.old }
+        ensures heard { heard_at self.new ≡ heard_at self.old ++ take result.0 buf.new }
+        ensures all { (result.0 ≡ length buf.old) ⊎ (waiting_at self.new ≡ []) }
+        ensures others { self.new ≡ record self.old { from = self.new.from } }
+        ensures same { IsSameEnd self.old self.new }
+    {
         // Looked at before the read, so that no octet is missed.
-        let over = self.is_cut.load(SeqCst) || self.from.is_abandoned();
+        let over = self.is_closing();
+        let count = self.from.pop_partial_slice(buf);
+        (count, over)
+    }
+
+    // Reads what waits, as the pieces let it.
+    fn pop(&mut self, buf: &mut [u8]) -> LinkGot
+        requires some { 0 < length buf.old }
+        requires uncut { IsCutOff self.old → ⊥ }
+        ensures counted { IsHeard result (length buf.old) }
+        ensures bytes { Hears (Some (heard_at self.old)) (Some (heard_at self.new)) result buf.new }
+        ensures answer { IsReadAt result (length buf.old) self.old self.new }
+        ensures others { self.new ≡ record self.old { from = self.new.from; pace = self.new.pace } }
+        ensures same { IsSameEnd self.old self.new }
+    {
         let most = self.room(buf.len());
-        let count = self.from.pop_partial_slice(&mut buf[..most]);
+        let (count, over) = self.take_waiting(&mut buf[..most]);
         if count > 0 {
             self.gave(count);
             return LinkGot::Bytes(count);
@@ -147,7 +194,7 @@ impl MemLink {
         requires { 0 < length piece.now }
         ensures counted { IsSaid result (length piece.now) }
         ensures bytes { Says (Some (said_at self.old)) (Some (said_at self.new)) result piece.now }
-        ensures others { (heard_at self.new ≡ heard_at self.old) × (cut_at self.new ≡ cut_at self.old) }
+        ensures others { (heard_at self.new ≡ heard_at self.old) × (cut_at self.new ≡ cut_at self.old) × (self.new.pace ≡ self.old.pace) }
         ensures counts { (self.new.faults ≡ self.old.faults) × (self.new.stalls ≡ self.old.stalls) × (self.new.ends ≡ self.old.ends) }
         ensures same { IsSameEnd self.old self.new }
     {
@@ -156,7 +203,7 @@ impl MemLink {
             Planned::Stalls => return LinkPut::NotReady,
             Planned::Fails => return LinkPut::Failed,
         }
-        if self.left == Some(0) || self.is_over() {
+        if self.is_cut_off() || self.is_over() {
             return LinkPut::Ended;
         }
         let count = self.push(piece);
@@ -169,7 +216,7 @@ impl MemLink {
     // Whether the other end is gone, or the link is cut and all is read that it wrote.
     fn is_over(&mut self) -> bool
         ensures octets { (heard_at self.new ≡ heard_at self.old) × (said_at self.new ≡ said_at self.old) }
-        ensures left { self.new.left ≡ self.old.left }
+        ensures others { (self.new.left ≡ self.old.left) × (self.new.pace ≡ self.old.pace) }
         ensures counts { (self.new.faults ≡ self.old.faults) × (self.new.stalls ≡ self.old.stalls) × (self.new.ends ≡ self.old.ends) }
         ensures same { IsSameEnd self.old self.new }
     {
@@ -181,7 +228,7 @@ impl MemLink {
         ensures within { result ≤ len }
         ensures uncut { IfSome self.now.left (λ left. result ≤ left) }
     {
-        let most = len.min(self.most);
+        let most = self.most.of(len);
         match self.left {
             Some(left) if left < most as u64 => left as usize,
             _ => most,
@@ -193,7 +240,7 @@ impl MemLink {
     fn push(&mut self, piece: &[u8]) -> usize
         ensures count { result ≤ length piece.now }
         ensures pushed { said_at self.new ≡ said_at self.old ++ take result piece.now }
-        ensures others { (heard_at self.new ≡ heard_at self.old) × (cut_at self.new ≡ cut_at self.old) }
+        ensures others { (heard_at self.new ≡ heard_at self.old) × (cut_at self.new ≡ cut_at self.old) × (self.new.pace ≡ self.old.pace) }
         ensures counts { (self.new.faults ≡ self.old.faults) × (self.new.stalls ≡ self.old.stalls) × (self.new.ends ≡ self.old.ends) }
         ensures same { IsSameEnd self.old self.new }
     {
@@ -220,11 +267,13 @@ impl MemLink {
 
     // How many octets of so much room a read may give.
     fn room(&mut self, len: usize) -> usize
-        ensures within { result ≤ len }
+        requires { 0 < len }
+        ensures value { result ≡ read_most self.old len }
+        ensures held { (result ≡ 0) ↔ HoldsBack self.old.pace }
         ensures paced { IfSome self.new.pace (λ p. result ≤ p.first.octets) }
-        ensures others { self.new ≡ record self.old { pace = self.new.pace } }
+        ensures others { self.new ≡ record self.old { pace = option_map after_read self.old.pace } }
     {
-        let most = len.min(self.most);
+        let most = self.most.of(len);
         match &mut self.pace {
             Some(pace) => most.min(pace.next_read()),
             None => most,
@@ -234,7 +283,7 @@ impl MemLink {
     // So many octets were read.
     fn gave(&mut self, count: usize)
         requires { IfSome self.old.pace (λ p. count ≤ p.first.octets) }
-        ensures others { self.new ≡ record self.old { pace = self.new.pace } }
+        ensures { self.new ≡ record self.old { pace = option_map (after_given count) self.old.pace } }
     {
         if let Some(pace) = &mut self.pace {
             pace.gave(count);
@@ -242,7 +291,10 @@ impl MemLink {
     }
 
     // What is to become of the next read.
-    fn planned_read(&self) -> Planned {
+    fn planned_read(&self) -> Planned
+        ensures fails { result ≡ Planned.Fails → ListsAFault self.now.calls }
+        ensures stalls { result ≡ Planned.Stalls → ListsAStall self.now.calls }
+    {
         match &self.calls {
             Some(calls) => calls.next_read(),
             None => Planned::Goes,
@@ -263,6 +315,7 @@ impl Link for MemLink {
     ghost use Rattle.zq_outer.specs.Count.{RoseIf};
     ghost use Rattle.zq_outer.specs.Link.{IsHeard, Hears, IsSaid, Says};
     ghost use Rattle.zq_outer.specs.Mates.{heard_at, said_at, cut_at, IsSameEnd};
+    ghost use Rattle.zq_outer.specs.Reads.{IsReadAt};
 
     ghost heard = { λ l. Some (heard_at l) };
 
@@ -282,6 +335,7 @@ impl Link for MemLink {
         ensures faults { RoseIf self.old.faults self.new.faults (result ≡ LinkGot.Failed) }
         ensures stalls { RoseIf self.old.stalls self.new.stalls (result ≡ LinkGot.NotReady) }
         ensures ends { RoseIf self.old.ends self.new.ends (result ≡ LinkGot.Ended) }
+        ensures answer { IsReadAt result (length buf.old) self.old self.new }
         ensures cut { cut_at self.new ≡ cut_at self.old }
         ensures same { IsSameEnd self.old self.new }
     {
@@ -304,6 +358,7 @@ impl Link for MemLink {
         ensures stalls { RoseIf self.old.stalls self.new.stalls (result ≡ LinkPut.NotReady) }
         ensures ends { RoseIf self.old.ends self.new.ends (result ≡ LinkPut.Ended) }
         ensures cut { cut_at self.new ≡ cut_at self.old }
+        ensures paced { self.new.pace ≡ self.old.pace }
         ensures same { IsSameEnd self.old self.new }
     {
         let put = self.try_write(piece);

@@ -157,7 +157,13 @@ fn links_fail_and_stall_by_their_calls_numbers(rt: HostRuntime) -> Result<(), Fa
 fn is_cut<L: Link>(near: &mut L, far: &mut L) -> bool {
     let written = near.write(b"abcdef") == LinkPut::Took(4);
     let is_over = near.write(b"ef") == LinkPut::Ended && has_ended(near);
-    written && is_over && reads(far, b"abcd") && has_ended(far) && far.write(b"z") == LinkPut::Ended
+    written && is_over && ends_behind(far, b"abcd")
+}
+
+// Whether an end still writes while these octets wait, and has ended once they are read.
+fn ends_behind<L: Link>(far: &mut L, octets: &[u8]) -> bool {
+    let is_open = far.write(b"y") == LinkPut::Took(1) && reads(far, octets);
+    is_open && has_ended(far) && far.write(b"z") == LinkPut::Ended
 }
 
 // Whether the next link of a host is cut.
@@ -236,6 +242,24 @@ fn talks_with_the_peer(host: &mut MemHost) -> bool {
 fn a_peer_speaks_piece_by_piece(rt: HostRuntime) -> Result<(), Fail> {
     let mut host = MemHost::make(rt.alloc(), one_peer(rt.alloc())?, 8)?;
     assert!(rt; talks_with_the_peer(&mut host));
+    Ok(())
+}
+
+// Whether a dial elsewhere finds nobody, and the next one the peer, which goes before a listener.
+fn finds_the_peer<H: Host>(host: &mut H) -> bool {
+    if !matches!(host.connect(2, &ELSEWHERE), Dialled::Failed) {
+        return false;
+    }
+    match host.connect(2, &AT) {
+        Dialled::Linked(mut link) => hears_the_peer(&mut link),
+        _ => false,
+    }
+}
+
+#[test]
+fn a_peer_goes_before_a_listener(rt: HostRuntime) -> Result<(), Fail> {
+    let mut host = MemHost::make(rt.alloc(), one_peer(rt.alloc())?, 8)?;
+    assert!(rt; listens(&mut host) && finds_the_peer(&mut host));
     Ok(())
 }
 

@@ -1,10 +1,76 @@
-use crate::lane::END;
-use crate::options::{Security, pair};
+ghost use Rattle.std.specs.Prelude.{◌≡◌, false, Some};
+ghost use Rattle.spec_control.specs.declared.end.EndState.TheVariants.{Gone};
+ghost use Rattle.zq_session.specs.Sessions.{has_link};
+
+use crate::lane::{AT, END, listening};
+use crate::options::{Security, of_kind, pair};
+use crate::plans::cut_behind;
 use shared_pipe::SharedPipes;
-use std::alloc::Global;
+use spec_control::{EndState, Req};
+use spec_link::Due;
+use std::alloc::{AllocError, Global};
 use std::test::Fail;
-use zq_base::ObjId;
+use zq_base::{Kind, ObjId};
+use zq_outer::Host;
 use zq_session::Session;
+
+/// Whether it is the request of session 2 to end.
+fn is_over(due: Option<Due>) -> bool {
+    match due {
+        Some(Due::Request(Req::AskOver(object))) => object.0 == 2,
+        _ => false,
+    }
+}
+
+/// Whether it asks to end, once.
+fn asks_over(session: &mut Session<SharedPipes>) -> bool {
+    is_over(session.due()) && session.due().is_none()
+}
+
+/// A connecting session whose end is gone.
+fn gone_session(alloc: Global) -> Session<SharedPipes>
+    ensures state { result.course.life.state ≡ Some Gone }
+    ensures link { has_link result ≡ false }
+{
+    let opts = of_kind(alloc, Kind::Pair);
+    let mut session = Session::connecting(alloc, ObjId(2), END, AT, opts, 10, None);
+    session.set_state(EndState::Gone);
+    session
+}
+
+/// A turn of such a session.
+#[tactic(auto, using(crate::proofs::CallLemmas::gone_at))]
+fn gone_turn<H: Host>(
+    alloc: Global,
+    session: &mut Session<SharedPipes>,
+    host: &mut H,
+) -> Result<(), AllocError>
+    requires state { session.old.course.life.state ≡ Some Gone }
+    requires link { has_link session.old ≡ false }
+{
+    session.turn(alloc, &mut SharedPipes, host, &mut None, 0)
+}
+
+/// Whether a connecting session whose end is gone asks to end, once.
+fn asks_once<H: Host>(alloc: Global, host: &mut H) -> Result<bool, AllocError> {
+    let mut session = gone_session(alloc);
+    gone_turn(alloc, &mut session, host)?;
+    Ok(asks_over(&mut session))
+}
+
+/// The same over a host in memory.
+fn asks_here(alloc: Global) -> Result<bool, Fail> {
+    let plan = cut_behind(alloc, 1000)?;
+    let mut host = listening(alloc, plan, 8192)?;
+    Ok(asks_once(alloc, &mut host)?)
+}
+
+#[test]
+fn a_session_whose_end_is_gone_asks_to_end_once(rt: HostRuntime) -> Result<(), Fail> {
+    let right = asks_here(rt.alloc())?;
+    assert!(rt; right);
+    Ok(())
+}
 
 /// Whether a session that is told to end has output left; it hears the answer, too.
 fn has_left(session: &mut Session<SharedPipes>) -> bool {
