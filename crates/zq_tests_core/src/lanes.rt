@@ -79,6 +79,9 @@ fn joined(
     };
     match socket.attach(alloc, ObjId(1), the_end(), &peer, halves) {
         Ok(_) => return Ok(socket),
-        Err(_) => return Err(Fail::new("memory")),
+        Err(_) => {
+            drop(socket);
+            return Err(Fail::new("memory"));
+        }
     }
 }

@@ -14,6 +14,14 @@ use zq_base::{EndId, Kind, ObjId, Octets, Options, PairId, Peer, Role, Seq};
 /// A socket of any kind over plain pipes.
 pub type Socket = SockHolder<PlainPipes, AnySock>;
 
+/// Fails a test of which this doesn't hold.
+pub fn check(holds: bool) -> Result<(), Fail> {
+    if holds {
+        return Ok(());
+    }
+    Err(Fail::new("it doesn't hold"))
+}
+
 /// The end a of pair 7.
 pub fn the_end() -> EndId
     ensures { result ≡ the_end }
@@ -67,7 +75,10 @@ pub fn with_one_end(alloc: Global) -> Result<OneEnd, Fail>
     let mut socket = push(alloc);
     match join(alloc, &mut socket) {
         Ok(other) => return Ok(OneEnd { socket, other }),
-        Err(fail) => return Err(fail),
+        Err(fail) => {
+            drop(socket);
+            return Err(fail);
+        }
     }
 }
 

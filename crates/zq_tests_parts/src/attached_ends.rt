@@ -4,7 +4,7 @@ ghost use Rattle.ends.specs.declared.row.EndRow.{EndRow};
 ghost use Rattle.ends.specs.Rows.{table, row_at, IsRow, can_write_of};
 ghost use Rattle.ends.specs.Held.{IsHeld, IsReady};
 
-use crate::messages::message;
+use crate::messages::{check, message};
 use crate::push_pull_tests::{Told, told_got, told_sent};
 use ends::{EndRow, Ends, attach};
 use msg_pipe::{Front, Pipes, PlainIn, PlainOut, PlainPipes};
@@ -84,20 +84,25 @@ fn push_of_one(alloc: Global) -> Result<Push, Fail>
     Ok(push)
 }
 
+// Whether a PUSH sends one message over the ends of a socket, and a second is refused.
+fn sends_one<P: Pipes>(
+    alloc: Global,
+    pipes: &mut P,
+    rows: &mut Vec<Option<Box<EndRow<P::Out, P::In>>>>,
+    push: &mut Push,
+) -> Result<bool, Fail>
+    requires { IsReady P.known (table pipes.old rows.old.items) push.old }
+{
+    let first = told_sent(push_over(pipes, rows, push, message(alloc, b"a")?));
+    let second = told_sent(push_over(pipes, rows, push, message(alloc, b"b")?));
+    Ok(first == Told::Sent(7) && second == Told::NotSent(SendRefusal::Again))
+}
+
 #[test]
 fn a_push_sends_over_its_end(rt: HostRuntime) -> Result<(), Fail> {
-    let first = message(rt.alloc(), b"a")?;
-    let second = message(rt.alloc(), b"b")?;
     let mut socket = with_one_end(rt.alloc(), true)?;
     let mut push = push_of_one(rt.alloc())?;
-    assert!(rt;
-        told_sent(push_over(&mut socket.pipes, &mut socket.rows, &mut push, first)) == Told::Sent(7)
-    );
-    assert!(rt;
-        told_sent(push_over(&mut socket.pipes, &mut socket.rows, &mut push, second))
-            == Told::NotSent(SendRefusal::Again)
-    );
-    Ok(())
+    check(sends_one(rt.alloc(), &mut socket.pipes, &mut socket.rows, &mut push)?)
 }
 
 // A PULL with the end at place 0.
@@ -113,11 +118,8 @@ fn pull_of_one(alloc: Global) -> Result<Pull, Fail>
 fn a_pull_finds_its_end_empty(rt: HostRuntime) -> Result<(), Fail> {
     let mut socket = with_one_end(rt.alloc(), true)?;
     let mut pull = pull_of_one(rt.alloc())?;
-    assert!(rt;
-        told_got(pull_over(&mut socket.pipes, &mut socket.rows, &mut pull))
-            == Told::NotGot(RecvRefusal::Again)
-    );
-    Ok(())
+    let got = pull_over(&mut socket.pipes, &mut socket.rows, &mut pull);
+    check(told_got(got) == Told::NotGot(RecvRefusal::Again))
 }
 
 #[test]
@@ -128,8 +130,7 @@ fn an_end_is_looked_at_without_a_take(rt: HostRuntime) -> Result<(), Fail> {
         pipes: &mut socket.pipes,
         rows: &mut socket.rows,
     };
-    assert!(rt; ends.front(0) == Front::Empty);
-    Ok(())
+    check(ends.front(0) == Front::Empty)
 }
 
 #[test]

@@ -1,6 +1,6 @@
 ghost use Rattle.std.specs.Prelude.{◌≡◌, All, true};
 
-use crate::messages::message;
+use crate::messages::{check, message};
 use crate::peers::TestPeers;
 use dist::{Report, send_to};
 use msg_pipe::{Peers, Taken};
@@ -56,8 +56,7 @@ fn far_copies(peers: &mut TestPeers, place: usize) -> Result<usize, Fail> {
 
 // Three pairs, of which the second has room for one message and the others for two.
 fn three(alloc: Global) -> Result<TestPeers, Fail> {
-    let mut peers = TestPeers::new(alloc);
-    peers.attach(alloc, 2)?;
+    let mut peers = TestPeers::with_pairs(alloc, 1, 2)?;
     peers.attach(alloc, 1)?;
     peers.attach(alloc, 2)?;
     Ok(peers)
@@ -75,13 +74,25 @@ fn tells(
     Ok(report.put.as_slice() == put && report.full.as_slice() == full)
 }
 
-// How many messages come out at the far end of each place.
-fn copies(peers: &mut TestPeers) -> Result<[usize; 3], Fail> {
-    Ok([
-        far_copies(peers, 0)?,
-        far_copies(peers, 1)?,
-        far_copies(peers, 2)?,
-    ])
+// Whether two, one and one messages come out at the far ends of the three places.
+fn copies_come_out(peers: &mut TestPeers) -> Result<bool, Fail> {
+    let first = far_copies(peers, 0)? == 2;
+    let second = far_copies(peers, 1)? == 1;
+    Ok(far_copies(peers, 2)? == 1 && first && second)
+}
+
+// Whether sends to places tell that the second got a copy, and the third was full.
+fn each_tells(
+    alloc: Global,
+    peers: &mut TestPeers,
+    cases: &[(&[usize], &[usize], &[usize])],
+) -> Result<bool, Fail> {
+    for (places, put, full) in cases {
+        if !tells(alloc, peers, places, put, full)? {
+            return Ok(false);
+        }
+    }
+    Ok(true)
 }
 
 #[test]
@@ -93,9 +104,6 @@ fn a_copy_goes_to_each_place_with_room(rt: HostRuntime) -> Result<(), Fail> {
         (&[2, 1, 0], &[2, 0], &[1]),
         (&[0, 1], &[0], &[1]),
     ];
-    for (places, put, full) in cases {
-        assert!(rt; tells(rt.alloc(), &mut peers, places, put, full)?);
-    }
-    assert!(rt; copies(&mut peers)? == [2, 1, 1]);
-    Ok(())
+    let tells = each_tells(rt.alloc(), &mut peers, &cases)?;
+    check(copies_come_out(&mut peers)? && tells)
 }

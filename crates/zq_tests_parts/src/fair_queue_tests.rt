@@ -1,6 +1,6 @@
 ghost use Rattle.std.specs.Prelude.{◌≡◌, length, ◌<◌, ◌∷◌, [], ℕ, All, IfOk};
 
-use crate::messages::message;
+use crate::messages::{check, message};
 use crate::peers::TestPeers;
 use fair_queue::{NextIn, Turns, next_in, no_peer_with_messages_is_passed_over};
 use std::alloc::Global;
@@ -10,11 +10,7 @@ use std::test::Fail;
 fn three(alloc: Global) -> Result<TestPeers, Fail>
     ensures { IfOk result (λ p. length p ≡ 3) }
 {
-    let mut peers = TestPeers::new(alloc);
-    peers.attach(alloc, 2)?;
-    peers.attach(alloc, 2)?;
-    peers.attach(alloc, 2)?;
-    Ok(peers)
+    TestPeers::with_pairs(alloc, 3, 2)
 }
 
 // The places 0, 1, 2 in turn.
@@ -67,8 +63,7 @@ fn peers_with_messages_serve_by_turn(rt: HostRuntime) -> Result<(), Fail> {
     let mut peers = three_with_messages(rt.alloc())?;
     let mut turns = in_turn(rt.alloc())?;
     let wanted = [Some(0), Some(1), Some(2), Some(0), Some(2), None];
-    assert!(rt; serve(&mut turns, &mut peers, &wanted));
-    Ok(())
+    check(serve(&mut turns, &mut peers, &wanted))
 }
 
 #[test]
@@ -76,7 +71,6 @@ fn where_no_peer_has_a_message_none_serves(rt: HostRuntime) -> Result<(), Fail> 
     let alloc = rt.alloc();
     let mut peers = three(alloc)?;
     let mut turns = in_turn(alloc)?;
-    assert!(rt; receive(&mut turns, &mut peers) == None);
     no_peer_with_messages_is_passed_over();
-    Ok(())
+    check(receive(&mut turns, &mut peers) == None)
 }

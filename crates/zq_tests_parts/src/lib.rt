@@ -2,6 +2,8 @@
 #![tactic(auto)]
 
 #[cfg(test)]
+mod any_sock_tests;
+#[cfg(test)]
 mod attached_ends;
 #[cfg(test)]
 mod dist_tests;

@@ -1,7 +1,7 @@
 ghost use Rattle.std.specs.Prelude.{◌≡◌, length, ◌<◌, All, IfOk};
 ghost use Rattle.spec_pattern.specs.Pipe.{IsCommittable};
 
-use crate::messages::message;
+use crate::messages::{check, message};
 use crate::peers::TestPeers;
 use load_balancer::{NextOut, Turns, next_out};
 use std::alloc::Global;
@@ -12,11 +12,7 @@ use zq_base::Message;
 fn three(alloc: Global) -> Result<TestPeers, Fail>
     ensures { IfOk result (λ p. length p ≡ 3) }
 {
-    let mut peers = TestPeers::new(alloc);
-    peers.attach(alloc, 2)?;
-    peers.attach(alloc, 2)?;
-    peers.attach(alloc, 2)?;
-    Ok(peers)
+    TestPeers::with_pairs(alloc, 3, 2)
 }
 
 // The places 0, 1, 2 in turn.
@@ -31,7 +27,7 @@ fn in_turn(alloc: Global) -> Result<Turns, Fail>
 }
 
 /// What a send by turn told.
-#[derive(Clone, Copy, Debug, PartialEq, Eq)]
+#[derive(Clone, Copy, PartialEq)]
 enum Told {
     Put(usize),
     AllFull,
@@ -77,10 +73,11 @@ fn take_two(peers: &mut TestPeers) -> Result<(), Fail>
     Ok(())
 }
 
-#[test]
-fn messages_go_to_peers_with_room_by_turn(rt: HostRuntime) -> Result<(), Fail> {
-    let mut peers = three(rt.alloc())?;
-    let mut turns = in_turn(rt.alloc())?;
+// Whether two messages go to each place by turn.
+fn fills(alloc: Global, turns: &mut Turns, peers: &mut TestPeers) -> Result<bool, Fail>
+    requires there { All (λ place. place < length peers.old) turns.old }
+    ensures there { All (λ place. place < length peers.new) turns.new }
+{
     let filled = [
         Told::Put(0),
         Told::Put(1),
@@ -89,11 +86,31 @@ fn messages_go_to_peers_with_room_by_turn(rt: HostRuntime) -> Result<(), Fail> {
         Told::Put(1),
         Told::Put(2),
     ];
-    assert!(rt; sends(rt.alloc(), &mut turns, &mut peers, &filled)?);
-    take_two(&mut peers)?;
+    sends(alloc, turns, peers, &filled)
+}
+
+// Whether messages go on to the two places that have room then.
+fn sends_on(alloc: Global, turns: &mut Turns, peers: &mut TestPeers) -> Result<bool, Fail>
+    requires there { All (λ place. place < length peers.old) turns.old }
+{
+    take_two(peers)?;
     let further = [Told::Put(0), Told::Put(2), Told::AllFull];
-    assert!(rt; sends(rt.alloc(), &mut turns, &mut peers, &further)?);
-    Ok(())
+    sends(alloc, turns, peers, &further)
+}
+
+// Whether messages go to the places by turn, as far as they have room.
+fn sends_by_turn(alloc: Global, turns: &mut Turns, peers: &mut TestPeers) -> Result<bool, Fail>
+    requires there { All (λ place. place < length peers.old) turns.old }
+{
+    let fills = fills(alloc, turns, peers)?;
+    Ok(sends_on(alloc, turns, peers)? && fills)
+}
+
+#[test]
+fn messages_go_to_peers_with_room_by_turn(rt: HostRuntime) -> Result<(), Fail> {
+    let mut peers = three(rt.alloc())?;
+    let mut turns = in_turn(rt.alloc())?;
+    check(sends_by_turn(rt.alloc(), &mut turns, &mut peers)?)
 }
 
 #[test]
@@ -102,6 +119,5 @@ fn a_place_that_cannot_be_written_gets_none(rt: HostRuntime) -> Result<(), Fail>
     let mut peers = three(alloc)?;
     let mut turns = in_turn(alloc)?;
     peers.set_writable(0, false)?;
-    assert!(rt; send(&mut turns, &mut peers, message(alloc, b"x")?) == Told::Put(1));
-    Ok(())
+    check(sends(alloc, &mut turns, &mut peers, &[Told::Put(1)])?)
 }

@@ -1,7 +1,7 @@
 ghost use Rattle.std.specs.Prelude.{◌≡◌, []};
 ghost use Rattle.std.specs.Map.{keys_of};
 
-use crate::messages::one_frame;
+use crate::messages::{check, one_frame};
 use crate::peers::TestPeers;
 use pub_sub::{ChangeFault, Sub, XSendFault, XSub};
 use spec_pattern::{SendRefusal, Sent};
@@ -9,7 +9,7 @@ use std::alloc::Global;
 use std::test::Fail;
 
 /// What a subscription was answered.
-#[derive(Clone, Copy, Debug, PartialEq, Eq)]
+#[derive(Clone, Copy, PartialEq)]
 pub enum Answer {
     Done,
     Limit,
@@ -65,14 +65,26 @@ fn subscribes_to_all(alloc: Global, sub: &mut Sub, peers: &mut TestPeers) -> boo
     true
 }
 
+// Whether a further number is one too many, and a known one is not.
+fn is_full(alloc: Global, sub: &mut Sub, peers: &mut TestPeers) -> bool
+    requires { keys_of sub.old.followers ≡ [] }
+{
+    let further = subscribe(alloc, sub, peers, 65_536) == Answer::Limit;
+    subscribe(alloc, sub, peers, 9) == Answer::Done && further
+}
+
+// Whether it wants 65,536 numbers, and no more.
+fn wants_as_many(alloc: Global, sub: &mut Sub, peers: &mut TestPeers) -> bool
+    requires { keys_of sub.old.followers ≡ [] }
+{
+    subscribes_to_all(alloc, sub, peers) && is_full(alloc, sub, peers)
+}
+
 #[test]
 fn a_sub_wants_65_536_topics_and_no_more(rt: HostRuntime) -> Result<(), Fail> {
     let mut peers = TestPeers::new(rt.alloc());
     let mut sub = Sub::new(rt.alloc());
-    assert!(rt; subscribes_to_all(rt.alloc(), &mut sub, &mut peers));
-    assert!(rt; subscribe(rt.alloc(), &mut sub, &mut peers, 65_536) == Answer::Limit);
-    assert!(rt; subscribe(rt.alloc(), &mut sub, &mut peers, 9) == Answer::Done);
-    Ok(())
+    check(wants_as_many(rt.alloc(), &mut sub, &mut peers))
 }
 
 // Whether an XSUB without peers sends subscriptions to 65,536 numbers.
@@ -88,12 +100,25 @@ fn sends_all(alloc: Global, xsub: &mut XSub, peers: &mut TestPeers) -> Result<bo
     Ok(true)
 }
 
+// Whether a further number is one too many, and a known one is not.
+fn sends_no_more(alloc: Global, xsub: &mut XSub, peers: &mut TestPeers) -> Result<bool, Fail>
+    requires { keys_of xsub.old.followers ≡ [] }
+{
+    let further = send(alloc, xsub, peers, 65_536)? == Answer::Limit;
+    Ok(send(alloc, xsub, peers, 9)? == Answer::Done && further)
+}
+
+// Whether it sends as many, and no more.
+fn sends_as_many(alloc: Global, xsub: &mut XSub, peers: &mut TestPeers) -> Result<bool, Fail>
+    requires { keys_of xsub.old.followers ≡ [] }
+{
+    let sends = sends_all(alloc, xsub, peers)?;
+    Ok(sends_no_more(alloc, xsub, peers)? && sends)
+}
+
 #[test]
 fn an_xsub_wants_65_536_topics_and_no_more(rt: HostRuntime) -> Result<(), Fail> {
     let mut peers = TestPeers::new(rt.alloc());
     let mut xsub = XSub::new(rt.alloc());
-    assert!(rt; sends_all(rt.alloc(), &mut xsub, &mut peers)?);
-    assert!(rt; send(rt.alloc(), &mut xsub, &mut peers, 65_536)? == Answer::Limit);
-    assert!(rt; send(rt.alloc(), &mut xsub, &mut peers, 9)? == Answer::Done);
-    Ok(())
+    check(sends_as_many(rt.alloc(), &mut xsub, &mut peers)?)
 }

@@ -4,7 +4,15 @@ ghost use Rattle.spec_pattern.specs.Pipe.{IsCommittable};
 use msg_pipe::Taken;
 use std::alloc::Global;
 use std::test::Fail;
-use zq_base::{Frame, Message};
+use zq_base::{Frame, Message, PartsRefused};
+
+/// Fails a test of which this doesn't hold.
+pub fn check(holds: bool) -> Result<(), Fail> {
+    if holds {
+        return Ok(());
+    }
+    Err(Fail::new("it doesn't hold"))
+}
 
 /// A message of one frame of each of these octets, which fits a pipe.
 pub fn message(alloc: Global, octets: &[u8]) -> Result<Message, Fail>
@@ -12,10 +20,17 @@ pub fn message(alloc: Global, octets: &[u8]) -> Result<Message, Fail>
 {
     let mut frames = Vec::new(alloc);
     for octet in octets {
-        let frame = Frame::of_slice(alloc, &[*octet])?;
-        frames.push(frame).map_err(|_| "room")?;
+        frames.reserve(1)?;
+        frames.push_reserved(Frame::of_slice(alloc, &[*octet])?);
     }
-    match Message::of_parts(frames) {
+    fits(Message::of_parts(frames))
+}
+
+// A message that fits a pipe.
+fn fits(made: Result<Message, PartsRefused>) -> Result<Message, Fail>
+    ensures { IfOk result (λ m. IsCommittable m) }
+{
+    match made {
         Ok(message) => {
             if message.len() > Message::MAX_COMMITTED {
                 Err("it fits no pipe")?;
@@ -30,24 +45,13 @@ pub fn message(alloc: Global, octets: &[u8]) -> Result<Message, Fail>
 pub fn frames(alloc: Global, count: usize) -> Result<Message, Fail> {
     let mut frames = Vec::new(alloc);
     for _ in 0..count {
-        let frame = Frame::of_slice(alloc, b"x")?;
-        frames.push(frame).map_err(|_| "room")?;
+        frames.reserve(1)?;
+        frames.push_reserved(Frame::of_slice(alloc, b"x")?);
     }
     match Message::of_parts(frames) {
         Ok(message) => Ok(message),
         Err(_refused) => Err("1 to 1,024 frames")?,
     }
-}
-
-/// The octets of a message's frames.
-pub fn octets(alloc: Global, message: &Message) -> Result<Vec<u8>, Fail> {
-    let mut octets = Vec::new(alloc);
-    for frame in message.frames() {
-        for octet in frame.as_slice() {
-            octets.push(*octet).map_err(|_| "room")?;
-        }
-    }
-    Ok(octets)
 }
 
 /// A message of one frame of these octets, which fits a pipe.
@@ -56,6 +60,16 @@ pub fn one_frame(alloc: Global, octets: &[u8]) -> Result<Message, Fail>
 {
     let mut frames = Vec::with_capacity(alloc, 1)?;
     frames.push_reserved(Frame::of_slice(alloc, octets)?);
+    Ok(Message::of_frames(frames))
+}
+
+/// A message of two frames of these octets, which fits a pipe.
+pub fn two_frames(alloc: Global, first: &[u8], second: &[u8]) -> Result<Message, Fail>
+    ensures { IfOk result (λ m. IsCommittable m) }
+{
+    let mut frames = Vec::with_capacity(alloc, 2)?;
+    frames.push_reserved(Frame::of_slice(alloc, first)?);
+    frames.push_reserved(Frame::of_slice(alloc, second)?);
     Ok(Message::of_frames(frames))
 }
 

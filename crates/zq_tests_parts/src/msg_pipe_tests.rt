@@ -1,7 +1,8 @@
 ghost use Rattle.std.specs.Prelude.{◌≡◌, ◌<◌, ◌≤◌, length, IfOk, false, true};
 ghost use Rattle.spec_pattern.specs.Pipe.{IsCommittable, max_capacity};
+ghost use Rattle.msg_pipe.specs.Known.{IsThere};
 
-use crate::messages::{holds, is_item, message};
+use crate::messages::{check, holds, is_item, message};
 use crate::peers::TestPeers;
 use msg_pipe::{
     Committed, Front, Peers, Pipes, PlainPipe, PlainPipes, PutIn, Taken, Turns, halves_are_a_pipe,
@@ -68,8 +69,7 @@ fn messages_come_out_whole_in_the_order_committed(rt: HostRuntime) -> Result<(),
     let mut pipes = PlainPipes::new(rt.alloc());
     let first = message(rt.alloc(), b"abc")?;
     let (taken, told) = pass(rt.alloc(), &mut pipes, &(), first)?;
-    assert!(rt; is_item(taken, b"abc") && told == settled(1, 1, 0));
-    Ok(())
+    check(is_item(taken, b"abc") && told == settled(1, 1, 0))
 }
 
 #[test]
@@ -78,10 +78,9 @@ fn a_full_pipe_hands_the_message_back(rt: HostRuntime) -> Result<(), Fail> {
     let second = message(rt.alloc(), b"bc")?;
     let mut pipes = PlainPipes::new(rt.alloc());
     let (mut o, i) = pipes.make(rt.alloc(), 1, &(), &())?;
-    assert!(rt; is_put(pipes.put(&mut o, first)));
-    assert!(rt; is_back(pipes.put(&mut o, second), b"bc"));
-    assert!(rt; pipes.settle(i, o) == settled(1, 0, 1));
-    Ok(())
+    let goes = is_put(pipes.put(&mut o, first));
+    let back = is_back(pipes.put(&mut o, second), b"bc");
+    check(pipes.settle(i, o) == settled(1, 0, 1) && goes && back)
 }
 
 #[test]
@@ -89,15 +88,25 @@ fn parts_are_seen_at_their_commit_alone(rt: HostRuntime) -> Result<(), Fail> {
     let alloc = rt.alloc();
     let mut pipes = PlainPipes::new(alloc);
     let (mut o, mut i) = pipes.make(alloc, 1, &(), &())?;
-    let forgotten = Frame::of_slice(alloc, b"x")?;
-    pipes.part(alloc, &mut o, forgotten).map_err(|_| "room")?;
+    let forgotten = pipes
+        .part(alloc, &mut o, Frame::of_slice(alloc, b"x")?)
+        .is_ok();
     pipes.rollback(&mut o);
-    let only = Frame::of_slice(alloc, b"a")?;
-    pipes.part(alloc, &mut o, only).map_err(|_| "room")?;
-    assert!(rt; pipes.front(&mut i) == Front::Empty);
-    assert!(rt; pipes.commit(&mut o) == Committed::Ok);
-    assert!(rt; is_item(pipes.take(&mut i), b"a"));
-    Ok(())
+    let Ok(()) = pipes.part(alloc, &mut o, Frame::of_slice(alloc, b"a")?) else {
+        return Err(Fail::new("room"));
+    };
+    let before = pipes.front(&mut i) == Front::Empty;
+    let commits = pipes.commit(&mut o) == Committed::Ok;
+    check(is_item(pipes.take(&mut i), b"a") && forgotten && before && commits)
+}
+
+// Whether the delimiter stands behind one message.
+fn takes_to_the_delimiter<P: Pipes>(pipes: &mut P, i: &mut P::In) -> bool
+    requires { IsThere P.known pipes.old (P.known.in_name i.old) }
+{
+    let before = pipes.front(i) == Front::Message;
+    let _taken = pipes.take(i);
+    pipes.front(i) == Front::Delimiter && before
 }
 
 #[test]
@@ -107,10 +116,7 @@ fn the_delimiter_stands_behind_all(rt: HostRuntime) -> Result<(), Fail> {
     let (mut o, mut i) = pipes.make(alloc, 1, &(), &())?;
     let _put = pipes.put(&mut o, message(alloc, b"a")?);
     pipes.seal(&mut o);
-    assert!(rt; pipes.front(&mut i) == Front::Message);
-    let _taken = pipes.take(&mut i);
-    assert!(rt; pipes.front(&mut i) == Front::Delimiter);
-    Ok(())
+    check(takes_to_the_delimiter(&mut pipes, &mut i))
 }
 
 #[test]
@@ -122,33 +128,33 @@ fn what_halves_did_is_told(rt: HostRuntime) -> Result<(), Fail> {
     let _committed = pipes.story_out(&o);
     let _taken = pipes.story_in(&i);
     halves_are_a_pipe(&pipes, &o, &i);
-    assert!(rt; PlainPipes::name(&o) == 0 && pipes.counts(&o).sent == 1);
-    Ok(())
+    check(PlainPipes::name(&o) == 0 && pipes.counts(&o).sent == 1)
 }
 
 // Two pairs, of which the second has a message, `back`, and is sealed behind it.
 fn two_pairs(alloc: Global) -> Result<TestPeers, Fail>
     ensures { IfOk result (λ p. length p ≡ 2) }
 {
-    let mut peers = TestPeers::new(alloc);
-    peers.attach(alloc, 1)?;
-    peers.attach(alloc, 1)?;
+    let mut peers = TestPeers::with_pairs(alloc, 2, 1)?;
     peers.far_put(1, message(alloc, b"back")?)?;
     peers.far_seal(1)?;
     Ok(peers)
+}
+
+// Whether what goes out at the second place is put in, and what waits there is taken.
+fn passes(alloc: Global, peers: &mut TestPeers) -> Result<bool, Fail> {
+    if peers.count() != 2 || peers.pair(1).0 != 2 || !peers.can_write(1) {
+        return Ok(false);
+    }
+    Ok(is_item(exchange(peers, 1, message(alloc, b"there")?), b"back"))
 }
 
 #[test]
 fn peers_put_and_take_at_their_place(rt: HostRuntime) -> Result<(), Fail> {
     let alloc = rt.alloc();
     let mut peers = two_pairs(alloc)?;
-    assert!(rt; peers.count() == 2 && peers.pair(1).0 == 2);
-    if !peers.can_write(1) {
-        Err("it can be written")?;
-    }
-    assert!(rt; is_item(exchange(&mut peers, 1, message(alloc, b"there")?), b"back"));
-    assert!(rt; is_item(peers.far_take(1)?, b"there"));
-    Ok(())
+    let exchanges = passes(alloc, &mut peers)?;
+    check(exchanges && is_item(peers.far_take(1)?, b"there"))
 }
 
 #[test]
@@ -156,12 +162,10 @@ fn a_pipe_by_itself_tells_its_counts(rt: HostRuntime) -> Result<(), Fail> {
     let first = message(rt.alloc(), b"ab")?;
     let second = message(rt.alloc(), b"c")?;
     let mut pipe = PlainPipe::new(rt.alloc(), 2)?;
-    assert!(rt; is_put(pipe.put(first)));
-    assert!(rt; is_put(pipe.put(second)));
+    let put = is_put(pipe.put(first)) && is_put(pipe.put(second));
     pipe.seal();
-    assert!(rt; is_item(pipe.take(), b"ab"));
-    assert!(rt; pipe.settle() == settled(2, 1, 1));
-    Ok(())
+    let taken = is_item(pipe.take(), b"ab");
+    check(pipe.settle() == settled(2, 1, 1) && put && taken)
 }
 
 // Whether these places are in turn.
@@ -186,14 +190,20 @@ fn four(alloc: Global) -> Result<Turns, AllocError>
     Ok(turns)
 }
 
+// Whether the first two go to the back, and those that leave are gone.
+fn serve_and_leave(turns: &mut Turns) -> bool
+    requires { length turns.old ≡ 4 }
+{
+    turns.serve(1);
+    let served = are(turns, &[7, 9, 3, 5]);
+    turns.remove(9);
+    let removed = are(turns, &[7, 3, 5]);
+    turns.take_back();
+    are(turns, &[7, 3]) && served && removed
+}
+
 #[test]
 fn those_that_served_go_to_the_back(rt: HostRuntime) -> Result<(), Fail> {
     let mut turns = four(rt.alloc())?;
-    turns.serve(1);
-    assert!(rt; are(&turns, &[7, 9, 3, 5]));
-    turns.remove(9);
-    assert!(rt; are(&turns, &[7, 3, 5]));
-    turns.take_back();
-    assert!(rt; are(&turns, &[7, 3]));
-    Ok(())
+    check(serve_and_leave(&mut turns))
 }

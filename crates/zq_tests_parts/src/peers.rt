@@ -83,7 +83,7 @@ impl Far {
 }
 
 impl TestPeers {
-    ghost use Rattle.std.specs.Prelude.{◌≡◌, ◌+◌, [], length, OnOk};
+    ghost use Rattle.std.specs.Prelude.{◌≡◌, ◌+◌, [], length, IfOk, OnOk};
     ghost use Rattle.spec_pattern.specs.Pipe.{IsCommittable};
 
     pub fn new(alloc: Global) -> TestPeers
@@ -94,6 +94,17 @@ impl TestPeers {
             far: Vec::new(alloc),
             writable: Vec::new(alloc),
         }
+    }
+
+    /// So many pairs, whose pipes hold so many messages each.
+    pub fn with_pairs(alloc: Global, count: usize, capacity: usize) -> Result<TestPeers, Fail>
+        ensures { IfOk result (λ p. length p ≡ count) }
+    {
+        let mut peers = TestPeers::new(alloc);
+        'pairs: for _ in 0..count {
+            peers.attach(alloc, capacity)?;
+        }
+        Ok(peers)
     }
 
     pub fn count(&self) -> usize
@@ -163,6 +174,17 @@ impl TestPeers {
             Err("no such place")?;
         }
         Ok(self.near[place].pipe.take())
+    }
+
+    /// How many frames the oldest message at the far end of a pair has, which is taken; 0 where
+    /// there is none.
+    pub fn far_frames(&mut self, place: usize) -> Result<usize, Fail>
+        ensures { length self.new ≡ length self.old }
+    {
+        match self.far_take(place)? {
+            Taken::Item(message) => return Ok(message.len()),
+            _other => return Ok(0),
+        }
     }
 }
 

@@ -1,7 +1,7 @@
 ghost use Rattle.std.specs.Prelude.{◌≡◌, ◌<◌, All, length, IfOk};
 ghost use Rattle.std.specs.Map.{keys_of};
 
-use crate::messages::{frames, one_frame};
+use crate::messages::{check, frames, one_frame};
 use crate::peers::TestPeers;
 use msg_pipe::{Peers, Taken};
 use pub_sub::{Pub, XPub};
@@ -11,7 +11,7 @@ use std::test::Fail;
 use zq_base::{Message, PairId};
 
 /// What a call told.
-#[derive(Clone, Copy, Debug, PartialEq, Eq)]
+#[derive(Clone, Copy, PartialEq)]
 pub enum Told {
     /// How many ends a message went to, and how many were full.
     Went(usize, usize),
@@ -207,20 +207,39 @@ fn hears_often(alloc: Global, publisher: &mut XPub, peers: &mut TestPeers, times
     true
 }
 
-#[test]
-fn a_pub_sends_to_the_peers_that_match(rt: HostRuntime) -> Result<(), Fail> {
-    let alloc = rt.alloc();
-    let mut peers = two(alloc, &[1], &[1, b'a'])?;
-    let mut publisher = pub_of_two(alloc, &mut peers)?;
+// Whether a PUB sends to those that match until one is full, and to none once that is gone.
+fn sends_to_those_that_match(
+    alloc: Global,
+    publisher: &mut Pub,
+    peers: &mut TestPeers,
+) -> Result<bool, Fail>
+    requires there { All (λ place. place < length peers.old) (keys_of publisher.old.subs) }
+{
     let wanted: [(&[u8], Told); 3] = [
         (b"ab", Told::Went(2, 0)),
         (b"a", Told::Went(1, 1)),
         (b"b", Told::Dropped(Rule::PubFull)),
     ];
-    assert!(rt; sends(alloc, &publisher, &mut peers, &wanted)?);
-    leave(&mut publisher, &peers);
-    assert!(rt; send(alloc, &publisher, &mut peers, b"b")? == Told::Dropped(Rule::NoMatch));
-    Ok(())
+    let sends = sends(alloc, publisher, peers, &wanted)?;
+    leave(publisher, peers);
+    Ok(send(alloc, publisher, peers, b"b")? == Told::Dropped(Rule::NoMatch) && sends)
+}
+
+#[test]
+fn a_pub_sends_to_the_peers_that_match(rt: HostRuntime) -> Result<(), Fail> {
+    let alloc = rt.alloc();
+    let mut peers = two(alloc, &[1], &[1, b'a'])?;
+    let mut publisher = pub_of_two(alloc, &mut peers)?;
+    check(sends_to_those_that_match(alloc, &mut publisher, &mut peers)?)
+}
+
+// Whether a PUB refuses a message of 1,024 frames, and a receive.
+fn refuses_both(alloc: Global, publisher: &Pub, peers: &mut TestPeers) -> Result<bool, Fail>
+    requires there { All (λ place. place < length peers.old) (keys_of publisher.now.subs) }
+{
+    let sent = told_sent(publisher.send(alloc, peers, frames(alloc, 1024)?));
+    let never = told_given(publisher.recv(peers)) == Told::NotGiven(RecvRefusal::NotSupported);
+    Ok(never && sent == Told::NotSent(SendRefusal::TooLarge))
 }
 
 #[test]
@@ -228,12 +247,28 @@ fn a_pub_never_receives_and_sends_1_023_frames(rt: HostRuntime) -> Result<(), Fa
     let alloc = rt.alloc();
     let mut peers = two(alloc, &[1], &[1])?;
     let publisher = pub_of_two(alloc, &mut peers)?;
-    let sent = told_sent(publisher.send(alloc, &mut peers, frames(alloc, 1024)?));
-    assert!(rt; sent == Told::NotSent(SendRefusal::TooLarge));
-    assert!(rt;
-        told_given(publisher.recv(&mut peers)) == Told::NotGiven(RecvRefusal::NotSupported)
-    );
-    Ok(())
+    check(refuses_both(alloc, &publisher, &mut peers)?)
+}
+
+// Whether an XPUB tells of a topic's first subscriber, not of a cancel while one is left.
+fn tells_the_first(alloc: Global, publisher: &mut XPub, peers: &mut TestPeers) -> Result<bool, Fail>
+    requires there { All (λ place. place < length peers.old) (keys_of publisher.old.subs) }
+    ensures there { All (λ place. place < length peers.new) (keys_of publisher.new.subs) }
+{
+    let wanted = [Told::Gave(1, 3), Told::NotGiven(RecvRefusal::Again)];
+    let first = receives(alloc, publisher, peers, &wanted);
+    peers.far_put(1, one_frame(alloc, &[0, b'a', b'b'])?)?;
+    Ok(receives(alloc, publisher, peers, &wanted[1..]) && first)
+}
+
+// Whether an XPUB then sends to the one that is left, and tells of its end.
+fn tells_news(alloc: Global, publisher: &mut XPub, peers: &mut TestPeers) -> Result<bool, Fail>
+    requires there { All (λ place. place < length peers.old) (keys_of publisher.old.subs) }
+{
+    let first = tells_the_first(alloc, publisher, peers)?;
+    let sent = send_told(alloc, publisher, peers, b"abc")? == Told::Went(1, 0);
+    leave_told(publisher, peers);
+    Ok(receive(alloc, publisher, peers) == Told::Gave(1, 3) && first && sent)
 }
 
 #[test]
@@ -241,14 +276,9 @@ fn an_xpub_tells_its_user_what_is_news(rt: HostRuntime) -> Result<(), Fail> {
     let alloc = rt.alloc();
     let mut peers = two(alloc, &[1, b'a', b'b'], &[1, b'a', b'b'])?;
     let mut publisher = xpub_of_two(alloc, &peers, false)?;
-    let wanted = [Told::Gave(1, 3), Told::NotGiven(RecvRefusal::Again)];
-    assert!(rt; receives(alloc, &mut publisher, &mut peers, &wanted));
-    peers.far_put(1, one_frame(alloc, &[0, b'a', b'b'])?)?;
-    assert!(rt; receives(alloc, &mut publisher, &mut peers, &wanted[1..]));
-    assert!(rt; send_told(alloc, &publisher, &mut peers, b"abc")? == Told::Went(1, 0));
-    leave_told(&mut publisher, &peers);
-    assert!(rt; receive(alloc, &mut publisher, &mut peers) == Told::Gave(1, 3));
-    Ok(())
+    let tells = tells_news(alloc, &mut publisher, &mut peers);
+    drop((publisher, peers));
+    check(tells?)
 }
 
 #[test]
@@ -258,8 +288,22 @@ fn a_verbose_xpub_tells_of_each_add_and_of_all_else(rt: HostRuntime) -> Result<(
     peers.far_put(1, one_frame(alloc, b"else")?)?;
     let mut publisher = xpub_of_two(alloc, &peers, true)?;
     let wanted = [Told::Gave(1, 2), Told::Gave(2, 2), Told::Gave(2, 4)];
-    assert!(rt; receives(alloc, &mut publisher, &mut peers, &wanted));
-    Ok(())
+    check(receives(alloc, &mut publisher, &mut peers, &wanted))
+}
+
+// Whether one message is left.
+fn has_one_message(peers: &mut TestPeers) -> Result<bool, Fail> {
+    let first = has_message(peers)?;
+    let second = has_message(peers)?;
+    Ok(first && !second)
+}
+
+// Whether an XPUB that hears again and again leaves the message behind 1,000.
+fn stops_hearing(alloc: Global, publisher: &mut XPub, peers: &mut TestPeers) -> Result<bool, Fail>
+    requires there { All (λ place. place < length peers.old) (keys_of publisher.old.subs) }
+{
+    let hears = hears_often(alloc, publisher, peers, 5);
+    Ok(has_one_message(peers)? && hears)
 }
 
 #[test]
@@ -267,7 +311,7 @@ fn an_xpub_stops_hearing_where_1_000_wait(rt: HostRuntime) -> Result<(), Fail> {
     let alloc = rt.alloc();
     let mut peers = one_full(alloc)?;
     let mut publisher = xpub_of_one(alloc, &peers)?;
-    assert!(rt; hears_often(alloc, &mut publisher, &mut peers, 5));
-    assert!(rt; has_message(&mut peers)? && !has_message(&mut peers)?);
-    Ok(())
+    let stops = stops_hearing(alloc, &mut publisher, &mut peers);
+    drop((publisher, peers));
+    check(stops?)
 }

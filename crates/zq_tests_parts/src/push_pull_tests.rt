@@ -1,8 +1,7 @@
 ghost use Rattle.std.specs.Prelude.{◌≡◌, length, ◌<◌, ℕ, All, IfOk};
 
-use crate::messages::{frames, message};
+use crate::messages::{check, frames, message};
 use crate::peers::TestPeers;
-use msg_pipe::Taken;
 use push_pull::{PairSock, Pull, Push};
 use spec_pattern::{Attached, RecvFault, RecvRefusal, Rule, SendFault, SendRefusal, Sent};
 use std::alloc::Global;
@@ -10,7 +9,7 @@ use std::test::Fail;
 use zq_base::{Message, PairId};
 
 /// What a call told: the number of a pair, the rule of a drop, or a refusal.
-#[derive(Clone, Copy, Debug, PartialEq, Eq)]
+#[derive(Clone, Copy, PartialEq)]
 pub enum Told {
     Sent(u32),
     Got(u32),
@@ -43,10 +42,7 @@ pub fn told_got(answer: Result<(PairId, Message), RecvFault>) -> Told {
 pub fn two(alloc: Global) -> Result<TestPeers, Fail>
     ensures { IfOk result (λ p. length p ≡ 2) }
 {
-    let mut peers = TestPeers::new(alloc);
-    peers.attach(alloc, 1)?;
-    peers.attach(alloc, 1)?;
-    Ok(peers)
+    TestPeers::with_pairs(alloc, 2, 1)
 }
 
 // Sends a message of so many frames from a PUSH.
@@ -122,16 +118,6 @@ fn pair_sends(
     Ok(true)
 }
 
-// How many frames the next message at the far end of a pair has.
-fn count_taken(peers: &mut TestPeers, place: usize) -> Result<usize, Fail>
-    ensures { length peers.new ≡ length peers.old }
-{
-    match peers.far_take(place)? {
-        Taken::Item(message) => Ok(message.len()),
-        _other => Err("a message is there")?,
-    }
-}
-
 // A PUSH with the ends at places 0 and 1.
 fn push_of_two(alloc: Global) -> Result<Push, Fail>
     ensures { IfOk result (λ push. All (λ place. place < 2) push) }
@@ -147,24 +133,31 @@ fn sends_on(alloc: Global, push: &mut Push, peers: &mut TestPeers) -> Result<boo
     requires there { All (λ place. place < length peers.old) push.old }
 {
     let never = told_got(push.recv(peers)) == Told::NotGot(RecvRefusal::NotSupported);
-    let taken = count_taken(peers, 1)? == 1023;
-    Ok(never && taken && send(alloc, push, peers, 1)? == Told::Sent(2))
+    let taken = peers.far_frames(1)? == 1023;
+    let on = send(alloc, push, peers, 1)? == Told::Sent(2);
+    push.detach(0);
+    Ok(never && taken && on)
 }
 
-#[test]
-fn a_push_sends_by_turn_and_never_receives(rt: HostRuntime) -> Result<(), Fail> {
-    let mut peers = two(rt.alloc())?;
-    let mut push = push_of_two(rt.alloc())?;
+// Whether a PUSH fills both pipes by turn, and sends on once there is room.
+fn sends_by_turn(alloc: Global, push: &mut Push, peers: &mut TestPeers) -> Result<bool, Fail>
+    requires there { All (λ place. place < length peers.old) push.old }
+{
     let wanted = [
         (1, Told::Sent(1)),
         (1023, Told::Sent(2)),
         (1, Told::NotSent(SendRefusal::Again)),
         (1024, Told::NotSent(SendRefusal::TooLarge)),
     ];
-    assert!(rt; sends(rt.alloc(), &mut push, &mut peers, &wanted)?);
-    assert!(rt; sends_on(rt.alloc(), &mut push, &mut peers)?);
-    push.detach(0);
-    Ok(())
+    let filled = sends(alloc, push, peers, &wanted)?;
+    Ok(sends_on(alloc, push, peers)? && filled)
+}
+
+#[test]
+fn a_push_sends_by_turn_and_never_receives(rt: HostRuntime) -> Result<(), Fail> {
+    let mut peers = two(rt.alloc())?;
+    let mut push = push_of_two(rt.alloc())?;
+    check(sends_by_turn(rt.alloc(), &mut push, &mut peers)?)
 }
 
 // Whether a PULL hands a message of three frames back.
@@ -175,8 +168,8 @@ fn hands_back(answer: Result<Sent, SendFault>) -> bool {
     }
 }
 
-// Two pairs, of which the second has a message.
-fn two_and_a_message(alloc: Global) -> Result<TestPeers, Fail>
+/// Two pairs, of which the second has a message.
+pub fn two_and_a_message(alloc: Global) -> Result<TestPeers, Fail>
     ensures { IfOk result (λ p. length p ≡ 2) }
 {
     let mut peers = two(alloc)?;
@@ -203,22 +196,29 @@ fn receives_once(pull: &mut Pull, peers: &mut TestPeers) -> bool
     first && receive(pull, peers) == Told::NotGot(RecvRefusal::Again)
 }
 
+// Whether a PULL receives the one message that is there, and hands back what it is to send.
+fn only_receives(alloc: Global, pull: &mut Pull, peers: &mut TestPeers) -> Result<bool, Fail>
+    requires there { All (λ place. place < length peers.old) pull.old }
+{
+    let once = receives_once(pull, peers);
+    let back = hands_back(pull.send(peers, frames(alloc, 3)?));
+    pull.detach(1);
+    Ok(once && back)
+}
+
 #[test]
 fn a_pull_receives_by_turn_and_never_sends(rt: HostRuntime) -> Result<(), Fail> {
     let mut peers = two_and_a_message(rt.alloc())?;
     let mut pull = pull_of_two(rt.alloc())?;
-    assert!(rt; receives_once(&mut pull, &mut peers));
-    assert!(rt; hands_back(pull.send(&mut peers, frames(rt.alloc(), 3)?)));
-    pull.detach(1);
-    Ok(())
+    check(only_receives(rt.alloc(), &mut pull, &mut peers)?)
 }
 
-// Whether a PAIR takes a second peer once the first is gone.
+// Whether a PAIR whose peer is at place 1 takes another once that is gone.
 fn changes_its_peer(pair: &mut PairSock) -> Result<bool, Fail> {
     pair.detach(0);
     let second = pair.attach(0)? == Attached::Second;
     pair.detach(1);
-    Ok(second && pair.attach(0)? == Attached::Yes)
+    Ok(pair.attach(0)? == Attached::Yes && second)
 }
 
 // A PAIR whose peer is at place 1, and whether it takes a second one.
@@ -239,24 +239,29 @@ fn pair_receives_once(pair: &mut PairSock, peers: &mut TestPeers) -> bool
     first && pair_receive(pair, peers) == Told::NotGot(RecvRefusal::Again)
 }
 
-#[test]
-fn a_pair_has_one_peer(rt: HostRuntime) -> Result<(), Fail> {
-    let mut peers = two_and_a_message(rt.alloc())?;
-    let (mut pair, has_one_peer) = pair_of_one(rt.alloc())?;
+// Whether a PAIR fills the pipe to its peer, and receives the one message that is there.
+fn exchanges(alloc: Global, pair: &mut PairSock, peers: &mut TestPeers) -> Result<bool, Fail>
+    requires there { All (λ place. place < length peers.old) pair.old }
+{
     let wanted = [
         (1, Told::Sent(2)),
         (1, Told::NotSent(SendRefusal::Again)),
         (1024, Told::NotSent(SendRefusal::TooLarge)),
     ];
-    assert!(rt; has_one_peer && pair_sends(rt.alloc(), &mut pair, &mut peers, &wanted)?);
-    assert!(rt; pair_receives_once(&mut pair, &mut peers));
-    Ok(())
+    let filled = pair_sends(alloc, pair, peers, &wanted)?;
+    Ok(pair_receives_once(pair, peers) && filled)
+}
+
+#[test]
+fn a_pair_has_one_peer(rt: HostRuntime) -> Result<(), Fail> {
+    let mut peers = two_and_a_message(rt.alloc())?;
+    let (mut pair, has_one_peer) = pair_of_one(rt.alloc())?;
+    check(has_one_peer)?;
+    check(exchanges(rt.alloc(), &mut pair, &mut peers)?)
 }
 
 #[test]
 fn a_pair_takes_another_peer_once_the_first_is_gone(rt: HostRuntime) -> Result<(), Fail> {
-    let mut pair = PairSock::new(rt.alloc());
-    assert!(rt; pair.attach(1)? == Attached::Yes);
-    assert!(rt; changes_its_peer(&mut pair)?);
-    Ok(())
+    let (mut pair, has_one_peer) = pair_of_one(rt.alloc())?;
+    check(has_one_peer && changes_its_peer(&mut pair)?)
 }

@@ -1,36 +1,20 @@
 ghost use Rattle.std.specs.Prelude.{◌≡◌, length, ◌<◌, All, IfOk};
 ghost use Rattle.spec_pattern.specs.Pipe.{IsCommittable};
 
-use crate::messages::{frames, message};
+use crate::messages::{check, frames, message, two_frames};
 use crate::peers::TestPeers;
 use crate::push_pull_tests::{Told, told_got, told_sent};
-use msg_pipe::Taken;
 use req_rep::{Rep, Req};
-use spec_pattern::{RecvRefusal, SendRefusal, Skip};
+use spec_pattern::{RecvRefusal, Rule, SendRefusal, Skip};
 use std::alloc::Global;
 use std::test::Fail;
-use zq_base::{Frame, Message};
+use zq_base::Message;
 
 // A message of one frame behind an empty one.
 fn delimited(alloc: Global) -> Result<Message, Fail>
     ensures { IfOk result (λ m. IsCommittable m) }
 {
-    let mut frames = Vec::new(alloc);
-    frames
-        .push(Frame::of_slice(alloc, b"")?)
-        .map_err(|_| "room")?;
-    frames
-        .push(Frame::of_slice(alloc, b"x")?)
-        .map_err(|_| "room")?;
-    match Message::of_parts(frames) {
-        Ok(message) => {
-            if message.len() > Message::MAX_COMMITTED {
-                Err("it fits no pipe")?;
-            }
-            Ok(message)
-        }
-        Err(_refused) => Err("1 to 1,024 frames")?,
-    }
+    two_frames(alloc, b"", b"x")
 }
 
 // Sends a request of so many frames.
@@ -69,20 +53,11 @@ fn answer(alloc: Global, rep: &mut Rep, peers: &mut TestPeers, count: usize) -> 
     Ok(told_sent(rep.send(peers, frames(alloc, count)?)))
 }
 
-// How many frames the next message at the far end of the first pair has.
-fn count_taken(peers: &mut TestPeers) -> Result<usize, Fail> {
-    match peers.far_take(0)? {
-        Taken::Item(message) => Ok(message.len()),
-        _other => Err("a message is there")?,
-    }
-}
-
 // A pair whose far end has said `x`, and a reply behind it.
 fn with_reply(alloc: Global) -> Result<TestPeers, Fail>
     ensures { IfOk result (λ p. length p ≡ 1) }
 {
-    let mut peers = TestPeers::new(alloc);
-    peers.attach(alloc, 2)?;
+    let mut peers = TestPeers::with_pairs(alloc, 1, 2)?;
     peers.far_put(0, message(alloc, b"x")?)?;
     peers.far_put(0, delimited(alloc)?)?;
     Ok(peers)
@@ -119,23 +94,29 @@ fn hears_behind_a_drop(alloc: Global, req: &mut Req, peers: &mut TestPeers) -> b
     hear(req, peers, &mut skips) == Told::Got(1) && skips.len() == 1
 }
 
+// Whether a REQ asks once, with an empty frame in front, and hears the reply.
+fn asks_and_hears(alloc: Global, req: &mut Req, peers: &mut TestPeers) -> Result<bool, Fail>
+    requires outs { All (λ place. place < length peers.old) req.old.outs }
+    requires ins { All (λ place. place < length peers.old) req.old.ins }
+{
+    let asks = asks_once(alloc, req, peers)?;
+    let hears = hears_behind_a_drop(alloc, req, peers);
+    req.detach(0);
+    Ok(peers.far_frames(0)? == 1023 && asks && hears)
+}
+
 #[test]
 fn a_req_asks_and_hears_the_reply(rt: HostRuntime) -> Result<(), Fail> {
     let mut peers = with_reply(rt.alloc())?;
     let mut req = req_of_one(rt.alloc())?;
-    assert!(rt; asks_once(rt.alloc(), &mut req, &mut peers)?);
-    assert!(rt; hears_behind_a_drop(rt.alloc(), &mut req, &mut peers));
-    req.detach(0);
-    assert!(rt; count_taken(&mut peers)? == 1023);
-    Ok(())
+    check(asks_and_hears(rt.alloc(), &mut req, &mut peers)?)
 }
 
 // A pair whose far end has said a request.
 fn with_request(alloc: Global) -> Result<TestPeers, Fail>
     ensures { IfOk result (λ p. length p ≡ 1) }
 {
-    let mut peers = TestPeers::new(alloc);
-    peers.attach(alloc, 2)?;
+    let mut peers = TestPeers::with_pairs(alloc, 1, 2)?;
     peers.far_put(0, delimited(alloc)?)?;
     Ok(peers)
 }
@@ -159,13 +140,43 @@ fn serves_once(alloc: Global, rep: &mut Rep, peers: &mut TestPeers) -> bool
     first && serve(rep, peers, &mut skips) == Told::NotGot(RecvRefusal::Fsm)
 }
 
+// Whether a REP receives once, and answers behind the empty frame.
+fn serves_and_answers(alloc: Global, rep: &mut Rep, peers: &mut TestPeers) -> Result<bool, Fail>
+    requires ins { All (λ place. place < length peers.old) rep.old.ins }
+{
+    let serves = serves_once(alloc, rep, peers);
+    let answers = answer(alloc, rep, peers, 1)? == Told::Sent(1);
+    rep.detach(0);
+    Ok(peers.far_frames(0)? == 2 && serves && answers)
+}
+
 #[test]
 fn a_rep_answers_behind_the_envelope(rt: HostRuntime) -> Result<(), Fail> {
     let mut peers = with_request(rt.alloc())?;
     let mut rep = rep_of_one(rt.alloc())?;
-    assert!(rt; serves_once(rt.alloc(), &mut rep, &mut peers));
-    assert!(rt; answer(rt.alloc(), &mut rep, &mut peers, 1)? == Told::Sent(1));
+    check(serves_and_answers(rt.alloc(), &mut rep, &mut peers)?)
+}
+
+// The peer at place 0 of a REP goes.
+fn leave(rep: &mut Rep, peers: &TestPeers)
+    requires ins { All (λ place. place < length peers.now) rep.old.ins }
+    ensures ins { All (λ place. place < length peers.now) rep.new.ins }
+{
     rep.detach(0);
-    assert!(rt; count_taken(&mut peers)? == 2);
-    Ok(())
+}
+
+// Whether a REP drops the reply to a peer that went.
+fn drops_a_late_reply(alloc: Global, rep: &mut Rep, peers: &mut TestPeers) -> Result<bool, Fail>
+    requires ins { All (λ place. place < length peers.old) rep.old.ins }
+{
+    let serves = serves_once(alloc, rep, peers);
+    leave(rep, peers);
+    Ok(answer(alloc, rep, peers, 1)? == Told::Dropped(Rule::ReplyGone) && serves)
+}
+
+#[test]
+fn a_reply_to_a_peer_that_is_gone_is_dropped(rt: HostRuntime) -> Result<(), Fail> {
+    let mut peers = with_request(rt.alloc())?;
+    let mut rep = rep_of_one(rt.alloc())?;
+    check(drops_a_late_reply(rt.alloc(), &mut rep, &mut peers)?)
 }

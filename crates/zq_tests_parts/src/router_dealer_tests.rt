@@ -1,8 +1,8 @@
 ghost use Rattle.std.specs.Prelude.{◌≡◌, length, ◌<◌, All, IfOk};
 
-use crate::messages::{frames, message};
+use crate::messages::{check, frames};
 use crate::peers::TestPeers;
-use crate::push_pull_tests::{Told, told_got, told_sent, two};
+use crate::push_pull_tests::{Told, told_got, told_sent, two_and_a_message};
 use router_dealer::Dealer;
 use spec_pattern::RecvRefusal;
 use std::alloc::Global;
@@ -31,15 +31,6 @@ fn receive(dealer: &mut Dealer, peers: &mut TestPeers) -> Told
     ensures ins { All (λ place. place < length peers.new) dealer.new.ins }
 {
     told_got(dealer.recv(peers))
-}
-
-// Two pairs, of which the second has a message.
-fn two_and_a_message(alloc: Global) -> Result<TestPeers, Fail>
-    ensures { IfOk result (λ p. length p ≡ 2) }
-{
-    let mut peers = two(alloc)?;
-    peers.far_put(1, message(alloc, b"x")?)?;
-    Ok(peers)
 }
 
 // A DEALER with the ends at places 0 and 1.
@@ -74,12 +65,24 @@ fn receives_once(dealer: &mut Dealer, peers: &mut TestPeers) -> bool
     first && receive(dealer, peers) == Told::NotGot(RecvRefusal::Again)
 }
 
+// Whether a DEALER sends by turn, and receives the one message that is there.
+fn sends_and_receives(
+    alloc: Global,
+    dealer: &mut Dealer,
+    peers: &mut TestPeers,
+) -> Result<bool, Fail>
+    requires outs { All (λ place. place < length peers.old) dealer.old.outs }
+    requires ins { All (λ place. place < length peers.old) dealer.old.ins }
+{
+    let sends = sends_by_turn(alloc, dealer, peers)?;
+    let receives = receives_once(dealer, peers);
+    dealer.detach(0);
+    Ok(sends && receives)
+}
+
 #[test]
 fn a_dealer_sends_and_receives_by_turn(rt: HostRuntime) -> Result<(), Fail> {
     let mut peers = two_and_a_message(rt.alloc())?;
     let mut dealer = dealer_of_two(rt.alloc())?;
-    assert!(rt; sends_by_turn(rt.alloc(), &mut dealer, &mut peers)?);
-    assert!(rt; receives_once(&mut dealer, &mut peers));
-    dealer.detach(0);
-    Ok(())
+    check(sends_and_receives(rt.alloc(), &mut dealer, &mut peers)?)
 }

@@ -1,14 +1,13 @@
 ghost use Rattle.std.specs.Prelude.{length, ◌≡◌, ◌<◌, All, IfOk};
 
-use crate::messages::{frames, message, octets};
+use crate::messages::{check, frames, message, two_frames};
 use crate::peers::TestPeers;
 use crate::push_pull_tests::{Told, told_sent};
-use msg_pipe::Taken;
 use router_dealer::{Router, is_identity};
-use spec_pattern::{Attached, RecvFault, RecvRefusal, Rule, SendFault, SendRefusal};
+use spec_pattern::{Attached, RecvFault, RecvRefusal, Rule, SendFault, SendRefusal, Sent};
 use std::alloc::Global;
 use std::test::Fail;
-use zq_base::{Frame, Message, PairId};
+use zq_base::{Message, PairId};
 
 // A ROUTER without peers.
 fn fresh(alloc: Global, mandatory: bool, peers: &TestPeers) -> Router
@@ -30,16 +29,16 @@ fn join(
     ensures there { All (λ k. k < length peers.now) router.new.ins }
 {
     if place >= peers.count() {
-        Err("no such place")?;
+        return Err(Fail::new("no such place"));
     }
     if router.is_attached(place) {
-        Err("the end is attached")?;
+        return Err(Fail::new("the end is attached"));
     }
     if !is_identity(identity) {
-        Err("no identity")?;
+        return Err(Fail::new("no identity"));
     }
     if !router.can_draw() {
-        Err("all names are drawn")?;
+        return Err(Fail::new("all names are drawn"));
     }
     Ok(router.attach(alloc, place, identity)?)
 }
@@ -54,9 +53,16 @@ fn with_peer(
     ensures { IfOk result (λ router. All (λ k. k < length peers.now) router.ins) }
 {
     let mut router = fresh(alloc, mandatory, peers);
-    match join(alloc, &mut router, peers, 0, identity)? {
-        Attached::Yes => Ok(router),
-        _other => Err("the first peer is taken")?,
+    match join(alloc, &mut router, peers, 0, identity) {
+        Ok(Attached::Yes) => return Ok(router),
+        Ok(_other) => {
+            drop(router);
+            return Err(Fail::new("the first peer is taken"));
+        }
+        Err(fail) => {
+            drop(router);
+            return Err(fail);
+        }
     }
 }
 
@@ -84,56 +90,26 @@ fn receive(router: &mut Router, peers: &mut TestPeers) -> Result<(PairId, Messag
     router.recv(peers)
 }
 
-// What was received: the number of the pair and the octets of the frames, or nothing for now.
-fn heard(
-    alloc: Global,
-    answer: Result<(PairId, Message), RecvFault>,
-) -> Result<Option<(u32, Vec<u8>)>, Fail> {
+// Whether the message `x` came from this pair behind this name.
+fn is_heard(answer: Result<(PairId, Message), RecvFault>, pair: u32, name: &[u8]) -> bool {
     match answer {
-        Ok((pair, message)) => Ok(Some((pair.0, octets(alloc, &message)?))),
-        Err(RecvFault::Refused(RecvRefusal::Again)) => Ok(None),
-        Err(_fault) => Err("a message or none")?,
+        Ok((from, message)) => from.0 == pair && is_named(&message, name),
+        Err(_fault) => false,
     }
 }
 
-// Whether the next message comes from this pair with these octets.
-fn hears(
-    alloc: Global,
-    router: &mut Router,
-    peers: &mut TestPeers,
-    pair: u32,
-    said: &[u8],
-) -> Result<bool, Fail>
-    requires there { All (λ k. k < length peers.old) router.old.ins }
-{
-    match heard(alloc, receive(router, peers))? {
-        Some((from, octets)) => Ok(from == pair && octets.as_slice() == said),
-        None => Ok(false),
-    }
+// Whether a message is `x` behind this name.
+fn is_named(message: &Message, name: &[u8]) -> bool {
+    message.len() == 2
+        && message.frame(0).as_slice() == name
+        && message.frame(1).as_slice() == b"x".as_slice()
 }
 
-// A message of a name and one frame more.
-fn named(alloc: Global, name: &[u8]) -> Result<Message, Fail> {
-    let mut frames = Vec::new(alloc);
-    frames
-        .push(Frame::of_slice(alloc, name)?)
-        .map_err(|_| "room")?;
-    frames
-        .push(Frame::of_slice(alloc, b"x")?)
-        .map_err(|_| "room")?;
-    match Message::of_parts(frames) {
-        Ok(message) => Ok(message),
-        Err(_refused) => Err("two frames")?,
-    }
-}
-
-// How many frames the next message at the far end of a pair has.
-fn count_taken(peers: &mut TestPeers, place: usize) -> Result<usize, Fail>
-    ensures { length peers.new ≡ length peers.old }
-{
-    match peers.far_take(place)? {
-        Taken::Item(message) => Ok(message.len()),
-        _other => Err("a message is there")?,
+// Whether nothing was received for now.
+fn is_none(answer: Result<(PairId, Message), RecvFault>) -> bool {
+    match answer {
+        Err(RecvFault::Refused(RecvRefusal::Again)) => true,
+        _other => false,
     }
 }
 
@@ -141,141 +117,255 @@ fn count_taken(peers: &mut TestPeers, place: usize) -> Result<usize, Fail>
 fn three(alloc: Global) -> Result<TestPeers, Fail>
     ensures { IfOk result (λ p. length p ≡ 3) }
 {
-    let mut peers = TestPeers::new(alloc);
-    peers.attach(alloc, 1)?;
-    peers.attach(alloc, 1)?;
-    peers.attach(alloc, 1)?;
-    Ok(peers)
+    TestPeers::with_pairs(alloc, 3, 1)
+}
+
+// Whether the next message comes behind the drawn name of its peer.
+fn comes_behind_a_drawn_name(
+    alloc: Global,
+    router: &mut Router,
+    peers: &mut TestPeers,
+) -> Result<bool, Fail>
+    requires there { All (λ k. k < length peers.old) router.old.ins }
+{
+    peers.far_put(0, message(alloc, b"x")?)?;
+    Ok(is_heard(receive(router, peers), 1, b"\0\0\0\0\x01"))
+}
+
+// What a message to a name was answered.
+fn sent_to(
+    alloc: Global,
+    router: &mut Router,
+    peers: &mut TestPeers,
+    name: &[u8],
+) -> Result<Told, Fail>
+    requires there { All (λ k. k < length peers.old) router.old.ins }
+    ensures there { All (λ k. k < length peers.new) router.new.ins }
+{
+    Ok(send(router, peers, two_frames(alloc, name, b"x")?))
+}
+
+// Whether a message to a name is answered so.
+fn is_told(
+    alloc: Global,
+    router: &mut Router,
+    peers: &mut TestPeers,
+    name: &[u8],
+    told: Told,
+) -> Result<bool, Fail>
+    requires there { All (λ k. k < length peers.old) router.old.ins }
+{
+    Ok(sent_to(alloc, router, peers, name)? == told)
+}
+
+// Whether a name alone is refused.
+fn has_no_body(alloc: Global, router: &mut Router, peers: &mut TestPeers) -> Result<bool, Fail>
+    requires there { All (λ k. k < length peers.old) router.old.ins }
+{
+    Ok(send(router, peers, frames(alloc, 1)?) == Told::NotSent(SendRefusal::NoBody))
+}
+
+// Whether a name in use is refused.
+fn is_refused(alloc: Global, router: &mut Router, peers: &TestPeers) -> Result<bool, Fail>
+    requires there { All (λ k. k < length peers.now) router.old.ins }
+{
+    let refused = join(alloc, router, peers, 1, b"k")? == Attached::BadId;
+    Ok(!router.is_attached(1) && refused)
+}
+
+// Whether a name is given again once its peer is gone.
+fn is_free_again(alloc: Global, router: &mut Router, peers: &TestPeers) -> Result<bool, Fail>
+    requires there { All (λ k. k < length peers.now) router.old.ins }
+{
+    leave(router, peers, 0);
+    Ok(join(alloc, router, peers, 1, b"k")? == Attached::Yes)
+}
+
+// Whether a message of 1,024 frames goes without its name, and fills the pipe.
+fn sends_the_longest(
+    alloc: Global,
+    router: &mut Router,
+    peers: &mut TestPeers,
+) -> Result<bool, Fail>
+    requires there { All (λ k. k < length peers.old) router.old.ins }
+{
+    let goes = send(router, peers, frames(alloc, 1024)?) == Told::Sent(1);
+    let fills = sent_to(alloc, router, peers, b"x")? == Told::Dropped(Rule::RouteFull);
+    Ok(peers.far_frames(0)? == 1023 && goes && fills)
+}
+
+// Whether a message of three frames comes back whole, since the pipe is full.
+fn is_back(answer: Result<Sent, SendFault>) -> bool {
+    match answer {
+        Err(SendFault::Refused(SendRefusal::Again, back)) => return back.len() == 3,
+        _other => return false,
+    }
+}
+
+// Whether a first message goes, and a second comes back.
+fn hands_back_a_second(
+    alloc: Global,
+    router: &mut Router,
+    peers: &mut TestPeers,
+) -> Result<bool, Fail>
+    requires there { All (λ k. k < length peers.old) router.old.ins }
+{
+    let goes = sent_to(alloc, router, peers, b"x")? == Told::Sent(1);
+    Ok(is_back(router.send(peers, frames(alloc, 3)?)) && goes)
+}
+
+/// What is tried of a ROUTER with one peer.
+#[derive(Clone, Copy)]
+enum Case {
+    ComesBehindADrawnName,
+    GoesToADrawnName,
+    NothingComes,
+    IsInUse,
+    IsFreeAgain,
+    IsGivenUp,
+    HasNoBody,
+    FillsThePipe,
+    IsRefused,
+    IsHandedBack,
+}
+
+// Whether it holds.
+fn holds(
+    case: Case,
+    alloc: Global,
+    router: &mut Router,
+    peers: &mut TestPeers,
+) -> Result<bool, Fail>
+    requires there { All (λ k. k < length peers.old) router.old.ins }
+{
+    let unroutable = Told::Dropped(Rule::Unroutable);
+    let unreachable = Told::NotSent(SendRefusal::Unreachable);
+    match case {
+        Case::ComesBehindADrawnName => comes_behind_a_drawn_name(alloc, router, peers),
+        Case::GoesToADrawnName => { is_told(alloc, router, peers, b"\0\0\0\0\x01", Told::Sent(1)) }
+        Case::NothingComes => Ok(is_none(receive(router, peers))),
+        Case::IsInUse => is_refused(alloc, router, peers),
+        Case::IsFreeAgain => is_free_again(alloc, router, peers),
+        Case::IsGivenUp => is_told(alloc, router, peers, b"k", unroutable),
+        Case::HasNoBody => has_no_body(alloc, router, peers),
+        Case::FillsThePipe => sends_the_longest(alloc, router, peers),
+        Case::IsRefused => is_told(alloc, router, peers, b"k", unreachable),
+        Case::IsHandedBack => hands_back_a_second(alloc, router, peers),
+    }
+}
+
+// Whether it holds of a ROUTER over these pairs whose peer has this name.
+fn holds_with(
+    alloc: Global,
+    mandatory: bool,
+    name: &[u8],
+    case: Case,
+    peers: &mut TestPeers,
+) -> Result<bool, Fail> {
+    let mut router = with_peer(alloc, mandatory, peers, name)?;
+    let holds = holds(case, alloc, &mut router, peers);
+    drop(router);
+    holds
+}
+
+// Tries it over three pairs.
+fn try_with(alloc: Global, mandatory: bool, name: &[u8], case: Case) -> Result<(), Fail> {
+    let mut peers = three(alloc)?;
+    let holds = holds_with(alloc, mandatory, name, case, &mut peers);
+    drop(peers);
+    check(holds?)
 }
 
 #[test]
 fn a_message_comes_behind_a_drawn_name(rt: HostRuntime) -> Result<(), Fail> {
-    let alloc = rt.alloc();
-    let mut peers = three(alloc)?;
-    let mut router = with_peer(alloc, false, &peers, b"")?;
-    peers.far_put(0, message(alloc, b"x")?)?;
-    assert!(rt; hears(alloc, &mut router, &mut peers, 1, b"\0\0\0\0\x01x")?);
-    Ok(())
+    try_with(rt.alloc(), false, b"", Case::ComesBehindADrawnName)
 }
 
 #[test]
 fn a_message_goes_to_a_drawn_name(rt: HostRuntime) -> Result<(), Fail> {
-    let alloc = rt.alloc();
-    let mut peers = three(alloc)?;
-    let mut router = with_peer(alloc, false, &peers, b"")?;
-    let back = named(alloc, b"\0\0\0\0\x01")?;
-    assert!(rt; send(&mut router, &mut peers, back) == Told::Sent(1));
-    Ok(())
+    try_with(rt.alloc(), false, b"", Case::GoesToADrawnName)
 }
 
 #[test]
 fn nothing_is_received_where_no_message_is(rt: HostRuntime) -> Result<(), Fail> {
-    let alloc = rt.alloc();
-    let mut peers = three(alloc)?;
-    let mut router = with_peer(alloc, false, &peers, b"k")?;
-    assert!(rt; heard(alloc, receive(&mut router, &mut peers))?.is_none());
-    Ok(())
+    try_with(rt.alloc(), false, b"k", Case::NothingComes)
 }
 
 #[test]
 fn a_name_in_use_is_refused(rt: HostRuntime) -> Result<(), Fail> {
-    let alloc = rt.alloc();
-    let peers = three(alloc)?;
-    let mut router = with_peer(alloc, false, &peers, b"k")?;
-    assert!(rt; join(alloc, &mut router, &peers, 1, b"k")? == Attached::BadId);
-    assert!(rt; !router.is_attached(1));
-    Ok(())
+    try_with(rt.alloc(), false, b"k", Case::IsInUse)
 }
 
 #[test]
 fn a_name_is_free_once_its_peer_is_gone(rt: HostRuntime) -> Result<(), Fail> {
-    let alloc = rt.alloc();
-    let peers = three(alloc)?;
-    let mut router = with_peer(alloc, false, &peers, b"k")?;
-    leave(&mut router, &peers, 0);
-    assert!(rt; join(alloc, &mut router, &peers, 1, b"k")? == Attached::Yes);
-    Ok(())
+    try_with(rt.alloc(), false, b"k", Case::IsFreeAgain)
+}
+
+// Whether a name can be drawn before the first peer, and behind it.
+fn draws_twice(alloc: Global, router: &mut Router, peers: &TestPeers) -> Result<bool, Fail>
+    requires there { All (λ k. k < length peers.now) router.old.ins }
+{
+    let before = router.can_draw();
+    let drawn = join(alloc, router, peers, 0, b"")? == Attached::Yes;
+    Ok(router.can_draw() && before && drawn)
+}
+
+// The same of a ROUTER over these pairs.
+fn draws(alloc: Global, peers: &TestPeers) -> Result<bool, Fail> {
+    let mut router = fresh(alloc, false, peers);
+    let draws = draws_twice(alloc, &mut router, peers);
+    drop(router);
+    draws
 }
 
 #[test]
 fn a_name_can_be_drawn(rt: HostRuntime) -> Result<(), Fail> {
     let peers = three(rt.alloc())?;
-    let mut router = fresh(rt.alloc(), false, &peers);
-    let before = router.can_draw();
-    let answer = join(rt.alloc(), &mut router, &peers, 0, b"")?;
-    let after = router.can_draw();
-    assert!(rt; (before, answer, after) == (true, Attached::Yes, true));
-    Ok(())
+    check(draws(rt.alloc(), &peers)?)
+}
+
+// Whether a name may be an identity, and the empty one.
+fn may_be_short() -> bool {
+    is_identity(b"") && is_identity(b"k") && is_identity(b"k\0")
+}
+
+// Whether a name that begins with 0 may not be one.
+fn may_not_begin_with_0() -> bool {
+    !is_identity(b"\0") && !is_identity(b"\0k")
+}
+
+// Whether one of 255 octets may be an identity, and none of 256.
+fn may_have_255_octets() -> bool {
+    let octets = [1; 256];
+    is_identity(&octets[..255]) && !is_identity(&octets)
 }
 
 #[test]
-fn what_may_be_an_identity(rt: HostRuntime) -> Result<(), Fail> {
-    assert!(rt; is_identity(b""));
-    assert!(rt; is_identity(b"k"));
-    assert!(rt; is_identity(b"k\0"));
-    assert!(rt; is_identity(&[1; 255]));
-    assert!(rt; !is_identity(&[1; 256]));
-    assert!(rt; !is_identity(b"\0"));
-    assert!(rt; !is_identity(b"\0k"));
-    Ok(())
+fn what_may_be_an_identity() -> Result<(), Fail> {
+    check(may_be_short() && may_not_begin_with_0() && may_have_255_octets())
 }
 
 #[test]
 fn a_message_to_nobody_is_given_up(rt: HostRuntime) -> Result<(), Fail> {
-    let alloc = rt.alloc();
-    let mut peers = three(alloc)?;
-    let mut router = with_peer(alloc, false, &peers, b"x")?;
-    let unknown = named(alloc, b"k")?;
-    assert!(rt; send(&mut router, &mut peers, unknown) == Told::Dropped(Rule::Unroutable));
-    Ok(())
+    try_with(rt.alloc(), false, b"x", Case::IsGivenUp)
 }
 
 #[test]
 fn a_name_alone_has_no_body(rt: HostRuntime) -> Result<(), Fail> {
-    let alloc = rt.alloc();
-    let mut peers = three(alloc)?;
-    let mut router = with_peer(alloc, false, &peers, b"x")?;
-    let alone = frames(alloc, 1)?;
-    assert!(rt; send(&mut router, &mut peers, alone) == Told::NotSent(SendRefusal::NoBody));
-    Ok(())
+    try_with(rt.alloc(), false, b"x", Case::HasNoBody)
 }
 
 #[test]
 fn a_message_goes_without_its_name_until_the_pipe_is_full(rt: HostRuntime) -> Result<(), Fail> {
-    let alloc = rt.alloc();
-    let mut peers = three(alloc)?;
-    let mut router = with_peer(alloc, false, &peers, b"x")?;
-    let longest = frames(alloc, 1024)?;
-    assert!(rt; send(&mut router, &mut peers, longest) == Told::Sent(1));
-    let more = named(alloc, b"x")?;
-    assert!(rt; send(&mut router, &mut peers, more) == Told::Dropped(Rule::RouteFull));
-    assert!(rt; count_taken(&mut peers, 0)? == 1023);
-    Ok(())
+    try_with(rt.alloc(), false, b"x", Case::FillsThePipe)
 }
 
 #[test]
 fn a_message_to_nobody_is_refused_where_it_must_be_routed(rt: HostRuntime) -> Result<(), Fail> {
-    let alloc = rt.alloc();
-    let mut peers = three(alloc)?;
-    let mut router = with_peer(alloc, true, &peers, b"x")?;
-    let unknown = named(alloc, b"k")?;
-    assert!(rt; send(&mut router, &mut peers, unknown) == Told::NotSent(SendRefusal::Unreachable));
-    Ok(())
+    try_with(rt.alloc(), true, b"x", Case::IsRefused)
 }
 
 #[test]
 fn a_full_pipe_hands_the_message_back(rt: HostRuntime) -> Result<(), Fail> {
-    let alloc = rt.alloc();
-    let mut peers = three(alloc)?;
-    let mut router = with_peer(alloc, true, &peers, b"x")?;
-    let first = named(alloc, b"x")?;
-    assert!(rt; send(&mut router, &mut peers, first) == Told::Sent(1));
-    match router.send(&mut peers, frames(alloc, 3)?) {
-        Err(SendFault::Refused(refusal, back)) => {
-            assert!(rt; refusal == SendRefusal::Again);
-            assert!(rt; back.len() == 3);
-        }
-        _other => Err("its pipe is full")?,
-    }
-    Ok(())
+    try_with(rt.alloc(), true, b"x", Case::IsHandedBack)
 }

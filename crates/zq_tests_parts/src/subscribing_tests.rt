@@ -2,17 +2,17 @@ ghost use Rattle.std.specs.Prelude.{◌≡◌, ◌<◌, All, length, IfOk};
 ghost use Rattle.std.specs.Map.{keys_of};
 ghost use Rattle.zq_base.specs.Message.{max_octets};
 
-use crate::messages::one_frame;
+use crate::messages::{check, one_frame};
 use crate::peers::TestPeers;
 use msg_pipe::{Peers, Taken};
 use pub_sub::{ChangeFault, Sub};
-use spec_pattern::{RecvFault, RecvRefusal, SendFault, SendRefusal, Skip};
+use spec_pattern::{RecvFault, RecvRefusal, SendFault, SendRefusal, Sent, Skip};
 use std::alloc::Global;
 use std::test::Fail;
 use zq_base::{Message, PairId};
 
 /// What a call answered.
-#[derive(Clone, Copy, Debug, PartialEq, Eq)]
+#[derive(Clone, Copy, PartialEq)]
 pub enum Answer {
     Done,
     NotDone(ChangeFault),
@@ -20,7 +20,6 @@ pub enum Answer {
     /// since the start.
     Gave(usize, usize),
     NotGiven(RecvRefusal),
-    NotSent(SendRefusal),
     /// The octet before the topic that the peer was told, and how many octets it has.
     Told(u8, usize),
     Untold,
@@ -31,9 +30,7 @@ pub enum Answer {
 fn one(alloc: Global, capacity: usize) -> Result<TestPeers, Fail>
     ensures { IfOk result (λ p. length p ≡ 1) }
 {
-    let mut peers = TestPeers::new(alloc);
-    peers.attach(alloc, capacity)?;
-    Ok(peers)
+    TestPeers::with_pairs(alloc, 1, capacity)
 }
 
 // A SUB with one peer.
@@ -144,13 +141,20 @@ fn receives_behind_a_drop(alloc: Global, sub: &mut Sub, peers: &mut TestPeers) -
     Ok(receive(sub, peers, &mut skips) == Answer::Gave(3, 1))
 }
 
+// Whether a SUB subscribes, and gives what it wants.
+fn follows(alloc: Global, sub: &mut Sub, peers: &mut TestPeers) -> Result<bool, Fail>
+    requires ins { All (λ place. place < length peers.old) sub.old.ins }
+    requires there { All (λ place. place < length peers.old) (keys_of sub.old.followers) }
+{
+    let subscribes = subscribes(alloc, sub, peers)?;
+    Ok(receives_behind_a_drop(alloc, sub, peers)? && subscribes)
+}
+
 #[test]
 fn a_sub_tells_what_it_wants_and_receives_that(rt: HostRuntime) -> Result<(), Fail> {
     let mut peers = one(rt.alloc(), 4)?;
     let mut sub = sub_of_one(rt.alloc(), &peers)?;
-    assert!(rt; subscribes(rt.alloc(), &mut sub, &mut peers)?);
-    assert!(rt; receives_behind_a_drop(rt.alloc(), &mut sub, &mut peers)?);
-    Ok(())
+    check(follows(rt.alloc(), &mut sub, &mut peers)?)
 }
 
 // Whether a SUB subscribes and cancels, of which the peer has room for the first alone.
@@ -175,14 +179,30 @@ fn receives_nothing(alloc: Global, sub: &mut Sub, peers: &mut TestPeers) -> Resu
     Ok(receive(sub, peers, &mut skips) == Answer::NotGiven(RecvRefusal::Again))
 }
 
+// Whether a SUB tells its cancel once there is room, and gives nothing then.
+fn cancels_late(alloc: Global, sub: &mut Sub, peers: &mut TestPeers) -> Result<bool, Fail>
+    requires ins { All (λ place. place < length peers.old) sub.old.ins }
+    requires there { All (λ place. place < length peers.old) (keys_of sub.old.followers) }
+{
+    let changes = changes_twice(alloc, sub, peers)?;
+    let tells = tells(alloc, sub, peers);
+    let cancel = told(peers)? == Answer::Told(0, 1);
+    Ok(receives_nothing(alloc, sub, peers)? && changes && tells && cancel)
+}
+
 #[test]
 fn a_cancel_is_told_once_there_is_room(rt: HostRuntime) -> Result<(), Fail> {
     let mut peers = one(rt.alloc(), 1)?;
     let mut sub = sub_of_one(rt.alloc(), &peers)?;
-    assert!(rt; changes_twice(rt.alloc(), &mut sub, &mut peers)?);
-    assert!(rt; tells(rt.alloc(), &mut sub, &mut peers) && told(&mut peers)? == Answer::Told(0, 1));
-    assert!(rt; receives_nothing(rt.alloc(), &mut sub, &mut peers)?);
-    Ok(())
+    check(cancels_late(rt.alloc(), &mut sub, &mut peers)?)
+}
+
+// Whether a message is refused since its kind doesn't send.
+fn is_never_sent(answer: Result<Sent, SendFault>) -> bool {
+    match answer {
+        Err(SendFault::Refused(SendRefusal::NotSupported, _back)) => return true,
+        _other => return false,
+    }
 }
 
 #[test]
@@ -191,11 +211,5 @@ fn a_sub_never_sends(rt: HostRuntime) -> Result<(), Fail> {
     let mut peers = one(alloc, 1)?;
     let mut sub = sub_of_one(alloc, &peers)?;
     sub.detach(0);
-    match sub.send(&mut peers, one_frame(alloc, b"a")?) {
-        Err(SendFault::Refused(refusal, _back)) => {
-            assert!(rt; refusal == SendRefusal::NotSupported);
-        }
-        _other => Err("it was taken")?,
-    }
-    Ok(())
+    check(is_never_sent(sub.send(&mut peers, one_frame(alloc, b"a")?)))
 }

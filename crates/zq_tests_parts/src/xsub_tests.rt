@@ -1,7 +1,7 @@
 ghost use Rattle.std.specs.Prelude.{◌≡◌, ◌<◌, All, length, IfOk};
 ghost use Rattle.std.specs.Map.{keys_of};
 
-use crate::messages::one_frame;
+use crate::messages::{check, one_frame};
 use crate::peers::TestPeers;
 use msg_pipe::{Peers, Taken};
 use pub_sub::{XSendFault, XSub};
@@ -11,7 +11,7 @@ use std::test::Fail;
 use zq_base::{Message, PairId};
 
 /// What a call answered.
-#[derive(Clone, Copy, Debug, PartialEq, Eq)]
+#[derive(Clone, Copy, PartialEq)]
 pub enum Answer {
     Subscribed,
     /// How many peers the message went to, and how many were full.
@@ -117,14 +117,31 @@ fn gives(alloc: Global, xsub: &mut XSub, peers: &mut TestPeers) -> Result<bool, 
     Ok(receive(xsub, peers) == Answer::Gave(10))
 }
 
+// Whether an XSUB subscribes, sends what else there is to all, and gives what comes.
+fn follows(alloc: Global, xsub: &mut XSub, peers: &mut TestPeers) -> Result<bool, Fail>
+    requires ins { All (λ place. place < length peers.old) xsub.old.ins }
+    requires there { All (λ place. place < length peers.old) (keys_of xsub.old.followers) }
+{
+    let subscribes = subscribes(alloc, xsub, peers)?;
+    let sends = sends_else(alloc, xsub, peers)?;
+    Ok(gives(alloc, xsub, peers)? && subscribes && sends)
+}
+
+// Whether what is no subscription goes to the peer with room.
+fn sends_else(alloc: Global, xsub: &mut XSub, peers: &mut TestPeers) -> Result<bool, Fail>
+    requires ins { All (λ place. place < length peers.old) xsub.old.ins }
+    requires there { All (λ place. place < length peers.old) (keys_of xsub.old.followers) }
+    ensures ins { All (λ place. place < length peers.new) xsub.new.ins }
+    ensures there { All (λ place. place < length peers.new) (keys_of xsub.new.followers) }
+{
+    let sent = send(alloc, xsub, peers, b"else")? == Answer::Went(1, 1);
+    Ok(taken(peers)? == 4 && sent)
+}
+
 #[test]
 fn an_xsub_subscribes_by_what_it_sends(rt: HostRuntime) -> Result<(), Fail> {
     let alloc = rt.alloc();
     let mut peers = two(alloc)?;
     let mut xsub = xsub_of_two(alloc, &peers)?;
-    assert!(rt; subscribes(alloc, &mut xsub, &mut peers)?);
-    assert!(rt; send(alloc, &mut xsub, &mut peers, b"else")? == Answer::Went(1, 1));
-    assert!(rt; taken(&mut peers)? == 4);
-    assert!(rt; gives(alloc, &mut xsub, &mut peers)?);
-    Ok(())
+    check(follows(alloc, &mut xsub, &mut peers)?)
 }
