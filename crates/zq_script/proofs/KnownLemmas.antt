@@ -1,6 +1,6 @@
 -- What is kept, as lines are read: sockets by name in a map, actors in a list.
 use Rattle.std.proofs.Common.{◌≡◌, ap, sym, subst, ◌∙◌, ◌+◌, ◌++◌, List, [], ◌∷◌, ℕ, Bool, true, false, ⊎_elim}
-use Rattle.std.specs.Prelude.{Option, Some, if◌then◌else◌}
+use Rattle.std.specs.Prelude.{Option, Some, None, if◌then◌else◌}
 use Rattle.std.specs.BTreeMap.{BTreeMap, get_by, UpdatesBy, IsEmpty}
 use Rattle.std.specs.Cmp.{eq_by_cmp_equiv}
 use Rattle.std.specs.Cmp.Lexicographic.{slice_cmp, bytes_decides, nat_list_cmp_total, nat_list_eq_equiv}
@@ -10,11 +10,8 @@ use Rattle.std.specs.Str.{bytes_eq}
 use Rattle.std.proofs.lemmas.Bool.{cases_Bool, cond-true, cond-false}
 use Rattle.std.proofs.lemmas.Map.Text.{is_eq-slice_cmp}
 use Rattle.zq_script.specs.declared.known.Known.{Known}
-use Rattle.zq_script.specs.declared.script.Line.{Line}
-use Rattle.zq_script.specs.declared.statement.Statement.{Statement}
-use Rattle.zq_script.specs.declared.statement.Statement.TheVariants.{Actor, Socket, Other}
 use Rattle.zq_script.specs.Known.{HasLearned, kept_socket}
-use Rattle.zq_script.specs.Statement.{actor_names, socket_count, socket_of}
+use Rattle.zq_script.specs.Statement.{Learned, nothing_learned, with_actor, with_socket, without_socket}
 
 apart : (bs cs ks : List ℕ) → bytes_eq bs cs ≡ false → bytes_eq bs ks ≡ true → bytes_eq cs ks ≡ false
 apart bs cs ks n y = nat_list_eq_equiv.symm cs ks ∙ sym (nat_list_eq_equiv.congr bs ks cs y) ∙ n
@@ -43,28 +40,35 @@ get_by-after items bs m n w h =
     (λ cs e. other_entries _ _ _ _ h.3 _ (λ x y. (eq_by_cmp_equiv nat_list_cmp_total).congr cs (items x) (items y)) (λ k. apart_in_order bs cs (items k) e))
 
 -- nothing is known before the first line
-pub knows_nothing : (known : Known) → known.actors.items ≡ [] → IsEmpty known.sockets → known.count ≡ 0 → HasLearned known []
-unfolding actor_names socket_count socket_of
+pub knows_nothing : (known : Known) → known.actors.items ≡ [] → IsEmpty known.sockets → known.count ≡ 0 → HasLearned known nothing_learned
+unfolding nothing_learned
 knows_nothing known a s n = record { actors = a; sockets = λ word. ap (lookup _) s; count = n }
 
--- a new actor begins, with no socket
-pub knows_actor : (old new : Known) (name : List ℕ) → new.actors.items ≡ old.actors.items ++ name ∷ [] → IsEmpty new.sockets → new.count ≡ 0
-    → (earlier : List Statement) → HasLearned old earlier → HasLearned new (Actor name ∷ earlier)
-unfolding actor_names socket_count socket_of
-knows_actor old new name a s n earlier h = record { actors = a ∙ ap (λ l. l ++ name ∷ []) h.actors; sockets = λ word. ap (lookup _) s; count = n }
+module _ (old new : Known) (name : List ℕ) where
+  -- a new actor begins, with no socket
+  pub knows_actor : new.actors.items ≡ old.actors.items ++ name ∷ [] → IsEmpty new.sockets → new.count ≡ 0
+      → (learned : Learned) → HasLearned old learned → HasLearned new (with_actor name learned)
+  unfolding with_actor
+  knows_actor a s n learned h = record { actors = a ∙ ap (λ l. l ++ name ∷ []) h.actors; sockets = λ word. ap (lookup _) s; count = n }
 
--- the last actor has one more socket
-pub knows_socket : (old new : Known) (name key : List ℕ) → key ≡ name → new.actors.items ≡ old.actors.items
-    → ((word : List ℕ) → kept_socket new word ≡ (if bytes_eq key word then Some old.count else kept_socket old word)) → new.count ≡ old.count + 1
-    → (earlier : List Statement) (line : Line) → HasLearned old earlier → HasLearned new (Socket name line ∷ earlier)
-unfolding actor_names socket_count socket_of
-knows_socket old new name key k a s n earlier line h = record {
-  actors = a ∙ h.actors;
-  sockets = λ word. s word ∙ ap (λ key. if bytes_eq key word then Some old.count else kept_socket old word) k ∙ ap (λ c. if bytes_eq name word then Some c else kept_socket old word) h.count ∙ ap (λ o. if bytes_eq name word then Some (socket_count earlier) else o) (h.sockets word);
-  count = n ∙ ap (λ c. c + 1) h.count;
-}
+  -- the last actor has one more socket
+  pub knows_socket : (key : List ℕ) → key ≡ name → new.actors.items ≡ old.actors.items
+      → ((word : List ℕ) → kept_socket new word ≡ (if bytes_eq key word then Some old.count else kept_socket old word)) → new.count ≡ old.count + 1
+      → (learned : Learned) → HasLearned old learned → HasLearned new (with_socket name learned)
+  unfolding with_socket
+  knows_socket key k a s n learned h = record {
+    actors = a ∙ h.actors;
+    sockets = λ word. s word ∙ ap (λ key. if bytes_eq key word then Some old.count else kept_socket old word) k ∙ ap (λ c. if bytes_eq name word then Some c else kept_socket old word) h.count ∙ ap (λ o. if bytes_eq name word then Some learned.count else o) (h.sockets word);
+    count = n ∙ ap (λ c. c + 1) h.count;
+  }
 
--- other lines make nothing known
-pub knows_other : (known : Known) (line : Line) (earlier : List Statement) → HasLearned known earlier → HasLearned known (Other line ∷ earlier)
-unfolding actor_names socket_count socket_of
-knows_other known line earlier h = record { actors = h.actors; sockets = h.sockets; count = h.count }
+  -- a socket is closed
+  pub knows_closed : new.actors.items ≡ old.actors.items
+      → ((word : List ℕ) → kept_socket new word ≡ (if bytes_eq name word then None else kept_socket old word)) → new.count ≡ old.count
+      → (learned : Learned) → HasLearned old learned → HasLearned new (without_socket name learned)
+  unfolding without_socket
+  knows_closed a s n learned h = record {
+    actors = a ∙ h.actors;
+    sockets = λ word. s word ∙ ap (λ (o : Option ℕ). if bytes_eq name word then None else o) (h.sockets word);
+    count = n ∙ h.count;
+  }

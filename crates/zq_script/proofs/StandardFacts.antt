@@ -13,9 +13,9 @@ use Rattle.zq_script.specs.Name.{is_name}
 use Rattle.zq_base.specs.Number.{is_number, number_in}
 use Rattle.zq_script.specs.Part.{hex_part, plain_part, part_of, parts_of, parts_message}
 use Rattle.zq_script.specs.Place.{is_inproc_name, endpoint_of}
-use Rattle.zq_script.specs.Script.{at_line, line_statement, statements_from, leading_lines, actors_of, script_of}
+use Rattle.zq_script.specs.Script.{at_line, line_statement, statements_from, leading_lines, actors_of, actors_read, script_of}
 use Rattle.zq_script.specs.SocketOption.{default_options, identity_of, mark_of, with_option, with_options}
-use Rattle.zq_script.specs.Statement.{actor_names, socket_count, socket_of}
+use Rattle.zq_script.specs.Statement.{nothing_learned, with_actor, with_socket, without_socket}
 use Rattle.zq_script.specs.Words.{without_empty_end, lines_of, words_of, is_skipped}
 
 -- lines, each but the last ended by LF
@@ -56,7 +56,7 @@ grammar_on_literals = tt
 
 -- what computes a whole script on a literal
 unfoldable pub script_on_literals : ⊤
-unfolding actor_line socket_line call_line statement_by statement_of actor_names socket_count socket_of
+unfolding actor_line socket_line call_line statement_by statement_of nothing_learned with_actor with_socket without_socket statements_from line_statement at_line actors_read
 script_on_literals = tt
 
 -- a script of one actor with two sockets
@@ -74,17 +74,17 @@ script : script_of (text (codes "actor a" ∷ codes "socket r PULL" ∷ codes "s
             ∷ record { number = 7; call = Recv 0 1 } ∷ [];
       } ∷ [];
     })
-unfolding words_on_literals values_on_literals grammar_on_literals script_on_literals script_of statements_from line_statement at_line actors_of leading_lines
+unfolding words_on_literals values_on_literals grammar_on_literals script_on_literals script_of actors_of leading_lines
 script = refl
 
 -- a socket that isn't known, at line 2
 unknown : script_of (text (codes "actor a" ∷ codes "send s x" ∷ [])) ≡ Err (record { line = 2; cause = UnknownSocket })
-unfolding words_on_literals values_on_literals grammar_on_literals script_on_literals script_of statements_from line_statement at_line
+unfolding words_on_literals values_on_literals grammar_on_literals script_on_literals script_of
 unknown = refl
 
 -- a line before the first actor, behind two that are skipped
 early : script_of (text ([] ∷ codes " # x" ∷ codes "recv s" ∷ codes "y" ∷ [])) ≡ Err (record { line = 3; cause = BadWord })
-unfolding words_on_literals values_on_literals grammar_on_literals script_on_literals script_of statements_from line_statement at_line
+unfolding words_on_literals values_on_literals grammar_on_literals script_on_literals script_of
 early = refl
 
 -- of two options for one thing the last counts

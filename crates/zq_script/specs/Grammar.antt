@@ -1,4 +1,4 @@
--- What a line says, behind earlier lines, or the cause of its leftmost fault (own choice).
+-- What a line says, by what the lines before it made known, or the cause of its leftmost fault (own choice).
 use Rattle.std.specs.Prelude.{ℕ, Bool, List, [], ◌∷◌, Result, Ok, Err, ok_or, nat_eq, nat_lt, not, is_some, codes, drop, length, if◌then◌else◌}
 use Rattle.std.specs.List.{starts_with}
 use Rattle.std.specs.Str.{bytes_eq}
@@ -9,6 +9,7 @@ use Rattle.zq_script.specs.declared.fault.Cause.TheVariants.{BadWord, UnknownSoc
 use Rattle.zq_base.specs.declared.endpoint.Endpoint.{Endpoint}
 use Rattle.zq_script.specs.declared.script.Call.{Call}
 use Rattle.zq_script.specs.declared.script.Call.TheVariants as call
+use Rattle.zq_script.specs.declared.script.Line.{Line}
 use Rattle.zq_script.specs.declared.statement.Statement.{Statement}
 use Rattle.zq_script.specs.declared.statement.Statement.TheVariants as says
 use Rattle.zq_script.specs.declared.verb.SocketVerb.{SocketVerb}
@@ -21,7 +22,7 @@ use Rattle.zq_base.specs.Number.{number_in}
 use Rattle.zq_script.specs.Part.{part_of, parts_message}
 use Rattle.zq_script.specs.Place.{endpoint_of}
 use Rattle.zq_script.specs.SocketOption.{default_options, with_options}
-use Rattle.zq_script.specs.Statement.{actor_names, is_actor, socket_of}
+use Rattle.zq_script.specs.Statement.{Learned, is_actor}
 use Rattle.zq_script.specs.Words.{Words}
 
 -- the first word and those behind it
@@ -42,9 +43,9 @@ new_name is_taken word =
     else Ok word
 
 -- the socket that the word names
-unfoldable pub known_socket : List Statement → List ℕ → Result ℕ Cause
-known_socket earlier word =
-    if is_name word then ok_or (socket_of word earlier) UnknownSocket else Err BadWord
+unfoldable pub known_socket : Learned → List ℕ → Result ℕ Cause
+known_socket learned word =
+    if is_name word then ok_or (learned.sockets word) UnknownSocket else Err BadWord
 
 -- the kind that the word names
 unfoldable pub kind_word : List ℕ → Result Kind Cause
@@ -76,13 +77,13 @@ verb_of word =
     else Err BadWord
 
 -- one more actor may begin: there are 64 at most
-unfoldable pub room_for_actor : List Statement → Result Unit Cause
-room_for_actor earlier =
-    if nat_lt (length (actor_names earlier)) 64 then Ok tt else Err TooManyActors
+unfoldable pub room_for_actor : Learned → Result Unit Cause
+room_for_actor learned =
+    if nat_lt (length learned.actors) 64 then Ok tt else Err TooManyActors
 
 -- an actor has begun
-unfoldable pub some_actor : List Statement → Result Unit Cause
-some_actor earlier = if nat_eq (length (actor_names earlier)) 0 then Err BadWord else Ok tt
+unfoldable pub some_actor : Learned → Result Unit Cause
+some_actor learned = if nat_eq (length learned.actors) 0 then Err BadWord else Ok tt
 
 -- the endpoint that ends a line
 unfoldable pub last_endpoint : Words → Result Endpoint Cause
@@ -125,43 +126,43 @@ call_of on.Subscribe socket words = last_part words >>= λ topic. Ok (call.Subsc
 call_of on.Unsubscribe socket words = last_part words >>= λ topic. Ok (call.Unsubscribe socket topic)
 
 -- `actor A`, by the words behind the first
-unfoldable pub actor_line : List Statement → Words → Result Statement Cause
-actor_line earlier words = do
-  _ ← room_for_actor earlier
+unfoldable pub actor_line : Learned → Words → Result (Statement Line) Cause
+actor_line learned words = do
+  _ ← room_for_actor learned
   first ← first_word words
-  name ← new_name (is_actor first.0 earlier) first.0
+  name ← new_name (is_actor first.0 learned) first.0
   _ ← line_end first.1
   Ok (says.Actor name)
 
 -- `socket S KIND OPT..`, by the words behind the first
-unfoldable pub socket_line : ℕ → List Statement → Words → Result Statement Cause
-socket_line number earlier words = do
-  _ ← some_actor earlier
+unfoldable pub socket_line : ℕ → Learned → Words → Result (Statement Line) Cause
+socket_line number learned words = do
+  _ ← some_actor learned
   first ← first_word words
-  name ← new_name (is_some (socket_of first.0 earlier)) first.0
+  name ← new_name (is_some (learned.sockets first.0)) first.0
   second ← first_word first.1
   kind ← kind_word second.0
   options ← with_options second.1 default_options
   Ok (says.Socket name (record { number = number; call = call.Socket kind options }))
 
 -- a line that asks something of a socket, by the words behind the first
-unfoldable pub call_line : ℕ → List Statement → SocketVerb → Words → Result Statement Cause
-call_line number earlier verb words = do
-  _ ← some_actor earlier
+unfoldable pub call_line : ℕ → Learned → SocketVerb → Words → Result (Statement Line) Cause
+call_line number learned verb words = do
+  _ ← some_actor learned
   first ← first_word words
-  socket ← known_socket earlier first.0
+  socket ← known_socket learned first.0
   asked ← call_of verb socket first.1
   Ok (says.Other (record { number = number; call = asked }))
 
 -- what a line says whose first word is this verb
-unfoldable pub statement_by : ℕ → List Statement → Verb → Words → Result Statement Cause
-statement_by number earlier verb.Actor words = actor_line earlier words
-statement_by number earlier verb.Socket words = socket_line number earlier words
-statement_by number earlier (verb.On asked) words = call_line number earlier asked words
+unfoldable pub statement_by : ℕ → Learned → Verb → Words → Result (Statement Line) Cause
+statement_by number learned verb.Actor words = actor_line learned words
+statement_by number learned verb.Socket words = socket_line number learned words
+statement_by number learned (verb.On asked) words = call_line number learned asked words
 
--- what the line of this number and these words says, behind the earlier ones
-unfoldable pub statement_of : ℕ → List Statement → Words → Result Statement Cause
-statement_of number earlier words = do
+-- what the line of this number and these words says, where so much is known
+unfoldable pub statement_of : ℕ → Learned → Words → Result (Statement Line) Cause
+statement_of number learned words = do
   first ← first_word words
   verb ← verb_of first.0
-  statement_by number earlier verb first.1
+  statement_by number learned verb first.1

@@ -1,32 +1,48 @@
--- What earlier lines have made known, the last of them first (own choice).
+-- What the lines so far have made known, and what one more adds (own choice).
 use Rattle.std.specs.Prelude.{◌+◌, ◌++◌, ℕ, Bool, List, [], ◌∷◌, Option, Some, None, if◌then◌else◌}
 use Rattle.std.specs.List.{list_any}
 use Rattle.std.specs.Str.{bytes_eq}
 use Rattle.zq_script.specs.declared.statement.Statement.{Statement}
-use Rattle.zq_script.specs.declared.statement.Statement.TheVariants.{Actor, Socket, Other}
+use Rattle.zq_script.specs.declared.statement.Statement.TheVariants.{Actor, Socket, Closed, Other}
 
--- the names of the actors that have begun, in order
-unfoldable pub actor_names : List Statement → List (List ℕ)
-actor_names [] = []
-actor_names (Actor name ∷ earlier) = actor_names earlier ++ name ∷ []
-actor_names (Socket name line ∷ earlier) = actor_names earlier
-actor_names (Other line ∷ earlier) = actor_names earlier
+-- the names of the actors that have begun, in order; which socket of the last actor has a name, counted from 0, if it isn't closed; and how many sockets that actor has named
+pub record Learned : Type 0 where
+  pub actors : List (List ℕ)
+  pub sockets : List ℕ → Option ℕ
+  pub count : ℕ
 
--- how many sockets the last actor has named
-unfoldable pub socket_count : List Statement → ℕ
-socket_count [] = 0
-socket_count (Actor name ∷ earlier) = 0
-socket_count (Socket name line ∷ earlier) = socket_count earlier + 1
-socket_count (Other line ∷ earlier) = socket_count earlier
+-- before the first line
+unfoldable pub nothing_learned : Learned
+nothing_learned = record { actors = []; sockets = λ word. None; count = 0 }
 
--- which socket of the last actor has this name, counted from 0
-unfoldable pub socket_of : List ℕ → List Statement → Option ℕ
-socket_of word [] = None
-socket_of word (Actor name ∷ earlier) = None
-socket_of word (Socket name line ∷ earlier) =
-    if bytes_eq name word then Some (socket_count earlier) else socket_of word earlier
-socket_of word (Other line ∷ earlier) = socket_of word earlier
+-- an actor of this name begins, with no socket
+unfoldable pub with_actor : List ℕ → Learned → Learned
+with_actor name learned = record { actors = learned.actors ++ name ∷ []; sockets = λ word. None; count = 0 }
+
+-- the last actor names one more socket
+unfoldable pub with_socket : List ℕ → Learned → Learned
+with_socket name learned = record learned {
+  sockets = λ word. if bytes_eq name word then Some learned.count else learned.sockets word;
+  count = learned.count + 1;
+}
+
+-- the socket of this name is closed, and has it no longer
+unfoldable pub without_socket : List ℕ → Learned → Learned
+without_socket name learned = record learned { sockets = λ word. if bytes_eq name word then None else learned.sockets word }
+
+module _ {L : Type 0} where
+  -- behind what a line says
+  abbrev pub learned_with : Statement L → Learned → Learned
+  learned_with (Actor name) learned = with_actor name learned
+  learned_with (Socket name line) learned = with_socket name learned
+  learned_with (Closed name line) learned = without_socket name learned
+  learned_with (Other line) learned = learned
+
+  -- behind a line that may be skipped
+  abbrev pub learned_behind : Option (Statement L) → Learned → Learned
+  learned_behind None learned = learned
+  learned_behind (Some statement) learned = learned_with statement learned
 
 -- an actor of this name has begun
-abbrev pub is_actor : List ℕ → List Statement → Bool
-is_actor word earlier = list_any (λ name. bytes_eq name word) (actor_names earlier)
+abbrev pub is_actor : List ℕ → Learned → Bool
+is_actor word learned = list_any (λ name. bytes_eq name word) learned.actors

@@ -12,9 +12,9 @@ use crate::words::{first_word, line_end};
 use std::alloc::Global;
 use zq_base::{Endpoint, number_in};
 
-// The endpoint that ends a line.
+/// The endpoint that ends a line.
 #[tactic(auto, unfolding(crate::specs::Grammar::last_endpoint))]
-fn read_last_endpoint(alloc: Global, words: &[&[u8]]) -> Result<Endpoint, LineError>
+pub fn read_last_endpoint(alloc: Global, words: &[&[u8]]) -> Result<Endpoint, LineError>
     ensures { Gives result (last_endpoint (map (λ x. x.now) words.now)) }
 {
     let (word, rest) = first_word(words)?;

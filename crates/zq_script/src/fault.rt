@@ -40,7 +40,7 @@ impl From<AllocError> for ReadScript {
 
 /// Why a line says nothing.
 #[derive(Clone, Copy, Debug)]
-pub(crate) enum LineError {
+pub enum LineError {
     Fault(Cause),
     OutOfMemory,
 }

@@ -2,6 +2,7 @@
 #![tactic(auto)]
 
 mod call;
+mod dialect;
 mod endpoint;
 mod fault;
 mod group;
@@ -18,8 +19,14 @@ mod topic;
 mod verb;
 mod words;
 
-pub use fault::{Cause, ReadScript, ScriptFault};
+pub use call::read_last_endpoint;
+pub use dialect::Dialect;
+pub use fault::{Cause, LineError, ReadScript, ScriptFault};
+pub use known::Known;
 pub use laws::a_printed_part_is_read_back;
-pub use read::read_script;
+pub use line::{read_line, read_socket, some_actor};
+pub use read::{read_actors, read_script};
 pub use script::{ActorScript, Call, Line, Script};
+pub use statement::Statement;
 pub use topic::Topic;
+pub use words::{first_word, line_end, same_text};

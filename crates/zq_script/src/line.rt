@@ -1,8 +1,8 @@
-ghost use Rattle.std.specs.Prelude.{◌≡◌, List, map};
+ghost use Rattle.std.specs.Prelude.{◌≡◌, map};
 ghost use Rattle.zq_script.specs.Answer.{Gives};
 ghost use Rattle.zq_script.specs.Grammar.{new_name, known_socket, kind_word, room_for_actor, some_actor, actor_line, socket_line, call_line, statement_by, statement_of};
 ghost use Rattle.zq_script.specs.Known.{HasLearned};
-ghost use Rattle.zq_script.specs.declared.statement.Statement.{Statement};
+ghost use Rattle.zq_script.specs.Statement.{Learned};
 
 use crate::call::read_call;
 use crate::fault::{Cause, LineError};
@@ -30,11 +30,11 @@ fn read_new_name(alloc: Global, is_taken: bool, word: &[u8]) -> Result<Octets, L
     Ok(Octets::of_slice(alloc, word)?)
 }
 
-// The socket that the word names.
+/// The socket that the word names.
 #[tactic(auto, unfolding(crate::specs::Grammar::known_socket))]
-fn read_socket(known: &Known, word: &[u8]) -> Result<u32, LineError>
-    ensures { (earlier : List Statement) → HasLearned known.now earlier
-        → Gives result (known_socket earlier word.now) }
+pub fn read_socket(known: &Known, word: &[u8]) -> Result<u32, LineError>
+    ensures { (learned : Learned) → HasLearned known.now learned
+        → Gives result (known_socket learned word.now) }
 {
     if !is_name(word) {
         return Err(LineError::Fault(Cause::BadWord));
@@ -58,8 +58,8 @@ fn read_kind(word: &[u8]) -> Result<Kind, LineError>
 // Nothing, where one more actor may begin.
 #[tactic(auto, unfolding(crate::specs::Grammar::room_for_actor))]
 fn room_for_actor(known: &Known) -> Result<(), LineError>
-    ensures { (earlier : List Statement) → HasLearned known.now earlier
-        → Gives result (room_for_actor earlier) }
+    ensures { (learned : Learned) → HasLearned known.now learned
+        → Gives result (room_for_actor learned) }
 {
     if known.actors() < 64 {
         Ok(())
@@ -68,11 +68,11 @@ fn room_for_actor(known: &Known) -> Result<(), LineError>
     }
 }
 
-// Nothing, where an actor has begun.
+/// Nothing, where an actor has begun.
 #[tactic(auto, unfolding(crate::specs::Grammar::some_actor))]
-fn some_actor(known: &Known) -> Result<(), LineError>
-    ensures { (earlier : List Statement) → HasLearned known.now earlier
-        → Gives result (some_actor earlier) }
+pub fn some_actor(known: &Known) -> Result<(), LineError>
+    ensures { (learned : Learned) → HasLearned known.now learned
+        → Gives result (some_actor learned) }
 {
     if known.actors() == 0 {
         Err(LineError::Fault(Cause::BadWord))
@@ -83,9 +83,9 @@ fn some_actor(known: &Known) -> Result<(), LineError>
 
 // `actor A`
 #[tactic(auto, unfolding(crate::specs::Grammar::actor_line))]
-fn read_actor(alloc: Global, known: &Known, words: &[&[u8]]) -> Result<Statement, LineError>
-    ensures { (earlier : List Statement) → HasLearned known.now earlier
-        → Gives result (actor_line earlier (map (λ x. x.now) words.now)) }
+fn read_actor(alloc: Global, known: &Known, words: &[&[u8]]) -> Result<Statement<Line>, LineError>
+    ensures { (learned : Learned) → HasLearned known.now learned
+        → Gives result (actor_line learned (map (λ x. x.now) words.now)) }
 {
     room_for_actor(known)?;
     let (word, rest) = first_word(words)?;
@@ -101,9 +101,9 @@ fn read_new_socket(
     number: u32,
     known: &Known,
     words: &[&[u8]],
-) -> Result<Statement, LineError>
-    ensures { (earlier : List Statement) → HasLearned known.now earlier
-        → Gives result (socket_line number earlier (map (λ x. x.now) words.now)) }
+) -> Result<Statement<Line>, LineError>
+    ensures { (learned : Learned) → HasLearned known.now learned
+        → Gives result (socket_line number learned (map (λ x. x.now) words.now)) }
 {
     some_actor(known)?;
     let (word, rest) = first_word(words)?;
@@ -123,9 +123,9 @@ fn read_call_line(
     known: &Known,
     verb: SocketVerb,
     words: &[&[u8]],
-) -> Result<Statement, LineError>
-    ensures { (earlier : List Statement) → HasLearned known.now earlier
-        → Gives result (call_line number earlier verb (map (λ x. x.now) words.now)) }
+) -> Result<Statement<Line>, LineError>
+    ensures { (learned : Learned) → HasLearned known.now learned
+        → Gives result (call_line number learned verb (map (λ x. x.now) words.now)) }
 {
     some_actor(known)?;
     let (word, rest) = first_word(words)?;
@@ -136,14 +136,14 @@ fn read_call_line(
 
 /// What the line of this number and these words says.
 #[tactic(auto, unfolding(crate::specs::Grammar::statement_of, crate::specs::Grammar::statement_by))]
-pub(crate) fn read_line(
+pub fn read_line(
     alloc: Global,
     number: u32,
     known: &Known,
     words: &[&[u8]],
-) -> Result<Statement, LineError>
-    ensures { (earlier : List Statement) → HasLearned known.now earlier
-        → Gives result (statement_of number earlier (map (λ x. x.now) words.now)) }
+) -> Result<Statement<Line>, LineError>
+    ensures { (learned : Learned) → HasLearned known.now learned
+        → Gives result (statement_of number learned (map (λ x. x.now) words.now)) }
 {
     let (word, rest) = first_word(words)?;
     match Verb::read(word)? {

@@ -1,10 +1,11 @@
-use crate::script::Line;
 use zq_base::Octets;
 
-/// What a line says: an actor begins, a socket gets a name and is made, or anything else.
+/// What a line says: an actor begins, a socket gets a name and is made, the socket of a name is
+/// closed, or anything else.
 #[derive(Drop)]
-pub(crate) enum Statement {
+pub enum Statement<L> {
     Actor(Octets),
-    Socket(Octets, Line),
-    Other(Line),
+    Socket(Octets, L),
+    Closed(Octets, L),
+    Other(L),
 }

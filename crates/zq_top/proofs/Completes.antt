@@ -3,7 +3,7 @@ use Rattle.std.proofs.Common.{◌≡◌, ◌<◌, ◌+◌, ℕ, List, ◌++◌, 
 use Rattle.std.specs.Prelude.{Ok, Err, nat_lt}
 use Rattle.std.proofs.lemmas.Bool.{lt-ltb}
 use Rattle.zq_outer.specs.Count.{Rose}
-use Rattle.zq_script.specs.Script.{script_of}
+use Rattle.zq_script.specs.Script.{actors_read, script_of}
 use Rattle.zq_script.specs.declared.script.Script.{Script}
 use Rattle.zq_script.specs.declared.fault.ScriptFault.{ScriptFault}
 use Rattle.spec_journal.specs.declared.journal.Journal.{Journal}
@@ -33,7 +33,7 @@ says_read status.Heard words before after schedule octets text asks read says = 
 
 -- octets past the limit are no script
 too_long : (octets : List ℕ) (script : Script) → 1048576 < length octets → script_of octets ≡ Ok script → ⊥
-unfolding script_of
+unfolding script_of actors_read
 too_long octets script long is = let test : nat_lt 1048576 (length octets) ≡ true = lt-ltb 1048576 (length octets) long in
     let clash = rw test at is in cc
 
