@@ -1,4 +1,4 @@
-ghost use Rattle.std.specs.Prelude.{◌≡◌, ◌++◌, OnOk, decimal, flat_map};
+ghost use Rattle.std.specs.Prelude.{◌≡◌, ◌++◌, OnOk, codes, decimal, flat_map};
 ghost use Rattle.spec_journal.specs.Text.{answer_text, entry_text, actor_text, send_refusal_text, recv_refusal_text, rule_text, skip_text, skips_text};
 
 use crate::part::push_parts;
@@ -59,7 +59,8 @@ fn rule_name(rule: Rule) -> &'static [u8]
     }
 }
 
-fn push_answer(alloc: Global, out: &mut Vec<u8>, answer: &Answer) -> Result<(), AllocError>
+/// Appends what a line was answered.
+pub fn push_answer(alloc: Global, out: &mut Vec<u8>, answer: &Answer) -> Result<(), AllocError>
     ensures { OnOk result (out.new.items ≡ out.old.items ++ answer_text answer.now) }
 {
     match answer {
@@ -105,8 +106,8 @@ fn push_skip(out: &mut Vec<u8>, skip: &Skip) -> Result<(), AllocError>
     push_number(out, u64::from(skip.pair.0))
 }
 
-// Appends the messages that were dropped.
-fn push_skips(out: &mut Vec<u8>, skips: &[Skip]) -> Result<(), AllocError>
+/// Appends the messages that were dropped, each behind a space.
+pub fn push_skips(out: &mut Vec<u8>, skips: &[Skip]) -> Result<(), AllocError>
     ensures { OnOk result (out.new.items ≡ out.old.items ++ skips_text skips.now) }
 {
     for skip in skips {
@@ -124,6 +125,17 @@ fn push_outcome(alloc: Global, out: &mut Vec<u8>, entry: &Entry) -> Result<(), A
     push_skips(out, entry.skips.as_slice())
 }
 
+/// Appends an actor's name and the number of its line, each with a space behind it.
+pub fn push_place(out: &mut Vec<u8>, name: &[u8], line: u32) -> Result<(), AllocError>
+    ensures { OnOk result (out.new.items ≡
+        out.old.items ++ name.now ++ codes " " ++ decimal line ++ codes " ") }
+{
+    out.extend_from_slice(name)?;
+    out.extend_from_slice(b" ")?;
+    push_number(out, u64::from(line))?;
+    out.extend_from_slice(b" ")
+}
+
 fn push_entry(
     alloc: Global,
     out: &mut Vec<u8>,
@@ -132,10 +144,7 @@ fn push_entry(
 ) -> Result<(), AllocError>
     ensures { OnOk result (out.new.items ≡ out.old.items ++ entry_text name.now entry.now) }
 {
-    out.extend_from_slice(name)?;
-    out.extend_from_slice(b" ")?;
-    push_number(out, u64::from(entry.line))?;
-    out.extend_from_slice(b" ")?;
+    push_place(out, name, entry.line)?;
     push_outcome(alloc, out, entry)?;
     out.extend_from_slice(b"\n")
 }

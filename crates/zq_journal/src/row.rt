@@ -6,7 +6,8 @@ use spec_journal::PipeRow;
 use spec_pattern::PipeId;
 use std::alloc::AllocError;
 
-fn push_pipe(out: &mut Vec<u8>, pipe: &PipeId) -> Result<(), AllocError>
+/// Appends a pipe: its pair and the end that writes it.
+pub fn push_pipe(out: &mut Vec<u8>, pipe: &PipeId) -> Result<(), AllocError>
     ensures { OnOk result (out.new.items ≡ out.old.items ++ pipe_text pipe.now) }
 {
     out.extend_from_slice(b"p")?;
@@ -21,15 +22,15 @@ fn push_reason(out: &mut Vec<u8>, rest: u64) -> Result<(), AllocError>
 }
 
 /// Appends a count behind its name.
-fn push_count(out: &mut Vec<u8>, name: &[u8], count: u64) -> Result<(), AllocError>
+pub fn push_count(out: &mut Vec<u8>, name: &[u8], count: u64) -> Result<(), AllocError>
     ensures { OnOk result (out.new.items ≡ out.old.items ++ name.now ++ decimal count) }
 {
     out.extend_from_slice(name)?;
     push_number(out, count)
 }
 
-/// Appends what became of the messages that were taken.
-fn push_taken(out: &mut Vec<u8>, row: &PipeRow) -> Result<(), AllocError>
+/// Appends what became of the messages that were taken from a pipe.
+pub fn push_taken(out: &mut Vec<u8>, row: &PipeRow) -> Result<(), AllocError>
     ensures { OnOk result (out.new.items ≡ out.old.items
         ++ codes " given " ++ decimal row.now.given
         ++ codes " heard " ++ decimal row.now.heard

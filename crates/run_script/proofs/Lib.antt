@@ -1,0 +1,2 @@
+pub mod RunFacts
+mod FlatLemmas

@@ -1,0 +1,125 @@
+use run_script::{Cause, LineCall, ReadScript, RunActor, RunLine, ScriptFault, read_run_script};
+use std::alloc::Global;
+use std::test::Fail;
+use zq_base::{Endpoint, Kind, Seq};
+use zq_script::Call;
+
+// Whether an inproc endpoint has this name.
+fn is_named(at: &Endpoint, wanted: &[u8]) -> bool {
+    match at {
+        Endpoint::Inproc(name) => name.as_slice() == wanted,
+        Endpoint::Tcp(_) => false,
+    }
+}
+
+// Whether a line asks what it should.
+fn asks(line: &RunLine) -> bool {
+    match (line.number, &line.call) {
+        (2, LineCall::Asks(Call::Socket(Kind::Pull, _))) => true,
+        (3, LineCall::Unbinds(0, at)) => is_named(at, b"q"),
+        (4, LineCall::Disconnects(0, at)) => is_named(at, b"r"),
+        (5, LineCall::Closes(0)) => true,
+        (6, LineCall::Asks(Call::Socket(Kind::Push, _))) => true,
+        (7, LineCall::Closes(1)) => true,
+        (8, LineCall::Terms) => true,
+        (_, _) => false,
+    }
+}
+
+// Whether there are seven lines, and each asks what it should.
+fn ask_all(lines: &[RunLine]) -> bool {
+    for line in lines {
+        if !asks(line) {
+            return false;
+        }
+    }
+    lines.len() == 7
+}
+
+// Whether there is one actor, whose lines ask what they should.
+fn asks_to_end(script: &Seq<RunActor>) -> bool {
+    match script.as_slice() {
+        [actor] => ask_all(actor.lines.as_slice()),
+        _ => false,
+    }
+}
+
+// Whether the text is read so.
+fn is_read(alloc: Global, text: &[u8]) -> Result<bool, Fail> {
+    match read_run_script(alloc, text) {
+        Ok(script) => Ok(asks_to_end(&script)),
+        Err(_) => Ok(false),
+    }
+}
+
+#[test]
+fn lines_that_end_are_read(rt: HostRuntime) -> Result<(), Fail> {
+    let text = b"actor a\nsocket s PULL\nunbind s inproc://q\ndisconnect s inproc://r\n\
+        close s\nsocket s PUSH\nclose s\nterm";
+    assert!(rt; is_read(rt.alloc(), text)?);
+    Ok(())
+}
+
+// Whether the first fault of the text is this one.
+fn has_fault(alloc: Global, text: &[u8], line: u32, cause: Cause) -> bool {
+    match read_run_script(alloc, text) {
+        Err(ReadScript::Fault(fault)) => fault == ScriptFault { line, cause },
+        _ => false,
+    }
+}
+
+/// Scripts, and the line and the cause of their first fault.
+const FIRST_FAULTS: [(&str, u32, Cause); 5] = [
+    ("term", 1, Cause::BadWord),
+    ("close s", 1, Cause::BadWord),
+    ("unbind s inproc://q\nx", 1, Cause::BadWord),
+    ("actor a\nterm\nterm a\nx", 3, Cause::BadWord),
+    (
+        "actor a\nsocket s PULL\nactor b\nclose s",
+        4,
+        Cause::UnknownSocket,
+    ),
+];
+
+#[test]
+fn lines_that_end_belong_to_an_actor(rt: HostRuntime) -> Result<(), Fail> {
+    for (text, line, cause) in &FIRST_FAULTS {
+        assert!(rt; has_fault(rt.alloc(), text.as_bytes(), *line, *cause));
+    }
+    Ok(())
+}
+
+// Whether lines behind two that make the sockets `s` and `t` have this fault in their second one.
+fn second_has(alloc: Global, lines: &str, cause: Cause) -> Result<bool, Fail> {
+    let mut text = Vec::from_slice(alloc, b"actor a\nsocket s PUSH\nsocket t PULL\n")?;
+    text.extend_from_slice(lines.as_bytes())?;
+    Ok(has_fault(alloc, text.as_slice(), 5, cause))
+}
+
+/// Pairs of lines behind two that make the sockets `s` and `t`, and the cause of the second's
+/// leftmost fault.
+const LINE_FAULTS: [(&str, Cause); 15] = [
+    ("term\nclose", Cause::BadWord),
+    ("term\nclose s.", Cause::BadWord),
+    ("term\nclose u v", Cause::UnknownSocket),
+    ("term\nclose s t", Cause::BadWord),
+    ("term\nunbind s", Cause::BadWord),
+    ("term\nunbind u q", Cause::UnknownSocket),
+    ("term\nunbind s q r", Cause::BadEndpoint),
+    ("term\ndisconnect t inproc://q r", Cause::BadWord),
+    ("term\ndisconnect t inproc://", Cause::BadEndpoint),
+    ("term\nCLOSE s", Cause::BadWord),
+    ("close s\nclose s", Cause::UnknownSocket),
+    ("close s\nsend s x", Cause::UnknownSocket),
+    ("close s\nunbind s inproc://q", Cause::UnknownSocket),
+    ("close s\nsocket t PULL", Cause::DoubleName),
+    ("close s\nactor a", Cause::DoubleName),
+];
+
+#[test]
+fn lines_that_end_have_their_faults(rt: HostRuntime) -> Result<(), Fail> {
+    for (lines, cause) in &LINE_FAULTS {
+        assert!(rt; second_has(rt.alloc(), lines, *cause)?);
+    }
+    Ok(())
+}
