@@ -60,7 +60,7 @@ counted_same steps (x ∷ xs) (y ∷ ys) f g e =
 whole_again : (c d : Control) → blank c ≡ blank d → c.settlements ≡ d.settlements → c ≡ d
 whole_again c d p e = λ i. record (p i) { settlements = e i }
 
-none_open : (script : RunScript) (w : ℕ) → (at_place (map standing_before script) w).mine.socks ≡ []
+pub none_open : (script : RunScript) (w : ℕ) → (at_place (map standing_before script) w).mine.socks ≡ []
 none_open [] w = refl
 none_open (actor ∷ script) zero = refl
 none_open (actor ∷ script) (suc w) = none_open script w
@@ -194,7 +194,7 @@ module _ {N S : Type 0} where
       split t ∙ (λ i. others i ++ conductor i ∷ []) ∙ sym (split u)
 
   -- ---- the whole of a run as one walk
-  walks_from : (cap : PipeId → ℕ) (acts : List (Act N S)) (c : Control) (past : List PipeStep) (order : List (Item N S)) → moments_in acts ≡ moments_from c order → IsControlRun c order → AreExact cap past (steps_in acts)
+  pub walks_from : (cap : PipeId → ℕ) (acts : List (Act N S)) (c : Control) (past : List PipeStep) (order : List (Item N S)) → moments_in acts ≡ moments_from c order → IsControlRun c order → AreExact cap past (steps_in acts)
       → Walks cap c past acts × (leaves c acts ≡ after_all order c)
   walks_from cap [] c past [] e run exact = (tt, refl)
   walks_from cap [] c past (item ∷ items) e run exact = absurd (nope e)
@@ -214,10 +214,10 @@ module _ {N S : Type 0} where
       let rest = walks_from cap acts (after_item item c) past items tail run.1 exact in
       ((found, subst (FitsItem c) (sym is) run.0, subst (λ z. Walks cap (after_item z c) past acts) (sym is) rest.0), ap (λ z. leaves (after_item z c) acts) is ∙ rest.1)
 
-  abbrev acts_of_run : List (List ℕ) → Turned N S → List (Act N S)
+  abbrev pub acts_of_run : List (List ℕ) → Turned N S → List (Act N S)
   acts_of_run orders t = all_acts (turns_sequence orders t.turns) ++ Said t.last ∷ []
 
-  sequence_acts : (orders : List (List ℕ)) (t : Turned N S) → all_acts (sequence orders t) ≡ acts_of_run orders t
+  pub sequence_acts : (orders : List (List ℕ)) (t : Turned N S) → all_acts (sequence orders t) ≡ acts_of_run orders t
   sequence_acts orders t = acts_on (turns_sequence orders t.turns) (Looks t.last ∷ [])
 
 -- two journals of a script by one schedule are one

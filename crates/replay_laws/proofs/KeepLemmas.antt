@@ -84,7 +84,7 @@ no_names_yet kinds.XSub options = refl
 none_once : HaveOneName []
 none_once = λ i j a b e. cc
 
-made_number : (a b : Bool) (n : ℕ) (o : ObjId) → ◌≡◌ {A = Reply} (Object o) (unless a RefusesTerm (unless b TooMany (Object (id n)))) → o.0 ≡ n
+pub made_number : (a b : Bool) (n : ℕ) (o : ObjId) → ◌≡◌ {A = Reply} (Object o) (unless a RefusesTerm (unless b TooMany (Object (id n)))) → o.0 ≡ n
 made_number true b n o e = absurd (nope e)
   where
     nope : ◌≡◌ {A = Reply} (Object o) (Refused RefusesTerm) → ⊥

@@ -130,8 +130,7 @@ abbrev sock_from : OpenSock → Control → Bool → Pattern → OpenSock
 sock_from s c stopped p = record s {
   stopped = s.stopped || stopped;
   pattern = detach_all (filter (λ e. is_out (place_of c e) && not (had_out s e)) (ends_of s.object c)) p;
-  ends = ends_of s.object c;
-  places = place_of c;
+  ends = map (λ e. record { end = e; place = place_of c e }) (ends_of s.object c);
 }
 
 module _ {N S : Type 0} where

@@ -14,7 +14,7 @@ use Rattle.spec_control.specs.declared.request.Reply.TheVariants.{Done, Object, 
 use Rattle.spec_control.specs.declared.entry.Did.TheVariants.{Asked}
 use Rattle.spec_control.specs.declared.entry.Item.{Item}
 use Rattle.spec_control.specs.Rows.{obj}
-use Rattle.spec_control.specs.Control.{Control, id, place_of}
+use Rattle.spec_control.specs.Control.{Control, id}
 use Rattle.spec_journal.specs.Net.{new_pattern}
 use Rattle.spec_control.specs.After.{after}
 use Rattle.spec_control.specs.ControlRun.{Joins, Fits, FitsItem, request_joins, unless_refused, after_item}
@@ -78,7 +78,6 @@ new_from c object kind options = record {
   stopped = false;
   pattern = new_pattern kind options;
   ends = [];
-  places = place_of c;
 }
 
 module _ {N S : Type 0} where

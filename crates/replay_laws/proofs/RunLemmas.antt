@@ -57,7 +57,7 @@ same_places (x ∷ xs) (y ∷ ys) e f =
     let rest = same_places xs ys (omega (arith, e)) (λ w lt. f (suc w) (omega (arith, lt))) in
     λ i. first i ∷ rest i
 
-past_end : (xs : List ActorStanding) (w : ℕ) → length xs ≤ w → at_place xs w ≡ no_actor
+pub past_end : (xs : List ActorStanding) (w : ℕ) → length xs ≤ w → at_place xs w ≡ no_actor
 past_end [] w le = refl
 past_end (x ∷ xs) zero le = absurd (omega (arith, le))
 past_end (x ∷ xs) (suc w) le = past_end xs w (omega (arith, le))
@@ -72,7 +72,7 @@ module _ {N S : Type 0} where
     pub begins : map bare t.begins ≡ map bare u.begins
     pub workers : (w : ℕ) → w < count → map bare (turn_step w t) ≡ map bare (turn_step w u)
 
-  turn_acts : (order : List ℕ) (t : OneTurn N S) → all_acts (turn_sequence order t) ≡ all_acts t.begins ++ all_acts (flat_map (λ w. turn_step w t) order)
+  pub turn_acts : (order : List ℕ) (t : OneTurn N S) → all_acts (turn_sequence order t) ≡ all_acts t.begins ++ all_acts (flat_map (λ w. turn_step w t) order)
   turn_acts order t =
       acts_on t.begins (flat_map (λ w. turn_step w t) order ++ Reads t.reading ∷ [])
       ∙ ap (λ l. all_acts t.begins ++ l) (acts_on (flat_map (λ w. turn_step w t) order) (Reads t.reading ∷ []) ∙ append-nil (all_acts (flat_map (λ w. turn_step w t) order)))
@@ -135,7 +135,7 @@ module _ {N S : Type 0} where
     pub workers : (w : ℕ) → w < count → map (λ turn. map bare (turn_step w turn)) ts ≡ map (λ turn. map bare (turn_step w turn)) us
 
   -- a turn that begins finds that the root has not ended
-  goes_on : (cap : PipeId → ℕ) (c : Control) (past : List PipeStep) (olds : List ActorStanding) (ds : List (Deed N S)) → Begins olds ds → Walks cap c past (all_acts ds) → is_ended (root_state c) ≡ false
+  pub goes_on : (cap : PipeId → ℕ) (c : Control) (past : List PipeStep) (olds : List ActorStanding) (ds : List (Deed N S)) → Begins olds ds → Walks cap c past (all_acts ds) → is_ended (root_state c) ≡ false
   goes_on cap c past olds (Looks m ∷ asks) f w =
       let seen : IsSeen c f.look.sight = subst (FitsItem c) f.look.item_is w.1 in
       ap is_ended (sym seen.root) ∙ f.goes_on

@@ -19,7 +19,7 @@ use Rattle.spec_run.specs.declared.line.RunLine.{RunLine}
 use Rattle.spec_run.specs.LineCall.{RunScript, line_tries, is_tried_again}
 use Rattle.spec_run.specs.Act.{Act, Try, Deed, Tries, Shuts, Fetches, Idles, Works, Looks, AsksRoot, Reads}
 use Rattle.spec_run.specs.OpenSocket.{OpenSock, new_open}
-use Rattle.spec_run.specs.Standing.{Sockets, ActorStanding, standing_before, open_at, with_open, without_open, made_so, CallsOpen, ClosesLine, OnFound, DoesLine, DoesTry, ShutsFirst, standing_after, has_finished}
+use Rattle.spec_run.specs.Standing.{Sockets, ActorStanding, standing_before, open_at, with_open, made_so, CallsOpen, ClosesLine, OnFound, DoesLine, DoesTry, ShutsFirst, standing_after, has_finished}
 use Rattle.spec_run.specs.InTurns.{OneTurn, ActorStep, AllStep, TurnsGo}
 use Rattle.replay_laws.specs.InTime.{line_sockets, line_steps, actor_steps, ActorsFinishInTime}
 
@@ -66,7 +66,7 @@ module _ {N S : Type 0} where
   made_few Before m kind options old = omega arith
   made_few (Refused refusal) m kind options old = omega arith
 
-  line_few : (line : LineCall) (old new : Sockets) (t : Try N S) → DoesLine line old t new → length new.socks ≤ length old.socks + line_sockets line
+  pub line_few : (line : LineCall) (old new : Sockets) (t : Try N S) → DoesLine line old t new → length new.socks ≤ length old.socks + line_sockets line
   line_few (Asks (call.Socket kind options)) old new t f =
       let same = ap (λ (x : Sockets). length x.socks) f.new_is in
       let few = made_few f.reply f.made kind options old in
@@ -84,7 +84,7 @@ module _ {N S : Type 0} where
 
 -- ---- what an actor has still to do
 -- the first line was tried less often than it may be
-abbrev TriedFew : List RunLine → ℕ → Type 0
+abbrev pub TriedFew : List RunLine → ℕ → Type 0
 TriedFew [] tried = tried ≡ 0
 TriedFew (line ∷ lines) tried = tried ≤ line_tries line.call - 1
 
@@ -99,11 +99,11 @@ all_lines (line ∷ lines) = ap (λ n. line_steps line.call + n) (all_lines line
 abbrev work_left : ActorStanding → ℕ
 work_left st = (lines_left st.lines - st.tried) + length st.mine.socks
 
-record Few (k : ℕ) (st : ActorStanding) : Type 0 where
+pub record Few (k : ℕ) (st : ActorStanding) : Type 0 where
   tried : TriedFew st.lines st.tried
   left : work_left st ≤ k
 
-untried : (lines : List RunLine) → TriedFew lines 0
+pub untried : (lines : List RunLine) → TriedFew lines 0
 untried [] = refl
 untried (line ∷ lines) = omega arith
 
@@ -121,7 +121,7 @@ once_socket (Disconnects place at) = inl refl
 once_socket (Closes place) = inl refl
 once_socket Terms = inl refl
 
-not_over : (a b : Bool) → (not a || b) ≡ false → b ≡ false
+pub not_over : (a b : Bool) → (not a || b) ≡ false → b ≡ false
 not_over true b e = e
 not_over false b e = absurd (never (sym e))
 
@@ -167,22 +167,23 @@ module _ {N S : Type 0} where
             left = subst (λ l. (lines_left l - (old.tried + 1)) + length f.mine.socks ≤ k) (sym f.lines_are) (omega (arith, tried, left, socks, none, again));
           }
 
+  -- the socket that is closed is open no more
+  pub shut_fewer : (old new : ActorStanding) (acts : List (Act N S)) (f : ShutsFirst old acts new) → length f.mine.socks ≤ length f.others
+  shut_fewer old new acts f =
+      let same = ap (λ (x : Sockets). length x.socks) f.closes.new_is ∙ ap (λ (l : List OpenSock). length (filter (λ (s : OpenSock). not (s.object == f.first.object)) l)) f.socks_are in
+      let first = ap (λ (b : Bool). length (cond (not b) (f.first ∷ filter (λ (s : OpenSock). not (s.object == f.first.object)) f.others) (filter (λ (s : OpenSock). not (s.object == f.first.object)) f.others))) (itself f.first.object) in
+      let rest = filter_few (λ (s : OpenSock). not (s.object == f.first.object)) f.others in
+      omega (arith, same, first, rest)
+    where
+      itself : (n : ℕ) → (n == n) ≡ true
+      itself n = grind arith
+
   shut_few : (k : ℕ) (old new : ActorStanding) (acts : List (Act N S)) → ShutsFirst old acts new → Few (suc k) old → Few k new
   shut_few k old new acts f few =
-      let fewer : length f.mine.socks ≤ length f.others = ap_le f.closes.new_is in
+      let fewer = shut_fewer old new acts f in
       let had = ap length f.socks_are in
       let none = ap lines_left f.no_lines in
       subst (Few k) (sym f.new_is) (record { tried = few.tried; left = (let left = few.left in omega (arith, left, fewer, had)) })
-    where
-      ap_le : f.mine ≡ without_open f.first.object old.mine → length f.mine.socks ≤ length f.others
-      ap_le e =
-          let same = ap (λ (x : Sockets). length x.socks) e ∙ ap (λ (l : List OpenSock). length (filter (λ (s : OpenSock). not (s.object == f.first.object)) l)) f.socks_are in
-          let first = ap (λ (b : Bool). length (cond (not b) (f.first ∷ filter (λ (s : OpenSock). not (s.object == f.first.object)) f.others) (filter (λ (s : OpenSock). not (s.object == f.first.object)) f.others))) (itself f.first.object) in
-          let rest = filter_few (λ (s : OpenSock). not (s.object == f.first.object)) f.others in
-          omega (arith, same, first, rest)
-        where
-          itself : (n : ℕ) → (n == n) ≡ true
-          itself n = grind arith
 
   actor_few : (k : ℕ) (old new : ActorStanding) (ds : List (Deed N S)) → ActorStep old ds new → Few (suc k) old → Few k new
   actor_few k old new [] f few = subst (Few k) (sym f.1) (record { tried = few.tried; left = finished_few k old f.0 few.tried })
@@ -196,7 +197,7 @@ module _ {N S : Type 0} where
   actor_few k old new (Reads now ∷ []) f few = absurd f
   actor_few k old new (d ∷ e ∷ ds) f few = elim f [ ]
 
-  step_few : (k io : ℕ) (olds news : List ActorStanding) (steps : List (List (Deed N S))) → AllStep io olds steps news → AllByRecursion (Few (suc k)) olds → AllByRecursion (Few k) news
+  pub step_few : (k io : ℕ) (olds news : List ActorStanding) (steps : List (List (Deed N S))) → AllStep io olds steps news → AllByRecursion (Few (suc k)) olds → AllByRecursion (Few k) news
   step_few k io [] news [] f few = absurd f
   step_few k io [] news (reaper ∷ serving) f few = subst (AllByRecursion (Few k)) (sym f.2) tt
   step_few k io (old ∷ olds) news [] f few = absurd f
@@ -207,14 +208,14 @@ module _ {N S : Type 0} where
   turns_few io olds news [] f few = subst (AllByRecursion (Few 0)) (sym f) few
   turns_few io olds news (turn ∷ turns) (begins, (mid, step, go)) few = turns_few io mid news turns go (step_few (length turns) io olds mid turn.steps step few)
 
-all_finished : (standings : List ActorStanding) → AllByRecursion (Few 0) standings → list_all has_finished standings ≡ true
+pub all_finished : (standings : List ActorStanding) → AllByRecursion (Few 0) standings → list_all has_finished standings ≡ true
 all_finished [] few = refl
 all_finished (st ∷ standings) few = both (none_finished st few.0.tried few.0.left) (all_finished standings few.1)
   where
     both : {a b : Bool} → a ≡ true → b ≡ true → (a && b) ≡ true
     both p q = grind arith
 
-begun_few : (n : ℕ) (script : RunScript) → AllByRecursion (λ actor. actor_steps actor ≤ n) script → AllByRecursion (Few n) (map standing_before script)
+pub begun_few : (n : ℕ) (script : RunScript) → AllByRecursion (λ actor. actor_steps actor ≤ n) script → AllByRecursion (Few n) (map standing_before script)
 begun_few n [] few = tt
 begun_few n (actor ∷ script) few = (record { tried = untried actor.lines; left = (let le = few.0 in let all = all_lines actor.lines in omega (arith, le, all)) }, begun_few n script few.1)
 

@@ -13,11 +13,11 @@ use Rattle.spec_run.specs.Event.{is_asked_once, seals_in, acts_said}
 use Rattle.replay_laws.specs.Blank.{blank}
 
 module _ {N S : Type 0} where
-  run_more : (items : List (Item N S)) (item : Item N S) (c : Control) → IsControlRun c items → FitsItem (after_all items c) item → IsControlRun c (items ++ item ∷ [])
+  pub run_more : (items : List (Item N S)) (item : Item N S) (c : Control) → IsControlRun c items → FitsItem (after_all items c) item → IsControlRun c (items ++ item ∷ [])
   run_more [] item c run fits = (fits, tt)
   run_more (x ∷ items) item c run fits = (run.0, run_more items item (after_item x c) run.1 fits)
 
-  all_more : (items : List (Item N S)) (item : Item N S) (c : Control) → after_all (items ++ item ∷ []) c ≡ after_item item (after_all items c)
+  pub all_more : (items : List (Item N S)) (item : Item N S) (c : Control) → after_all (items ++ item ∷ []) c ≡ after_item item (after_all items c)
   all_more [] item c = refl
   all_more (x ∷ items) item c = all_more items item (after_item x c)
 

@@ -4,4 +4,7 @@
 
 mod laws;
 
-pub use laws::{a_script_has_one_run_journal, counts_are_not_read, sockets_have_their_mailboxes};
+pub use laws::{
+    a_script_has_one_run_journal, actors_finish_in_time, counts_are_not_read,
+    local_runs_have_sockets_alone, sockets_have_their_mailboxes,
+};

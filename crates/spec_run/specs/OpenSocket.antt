@@ -1,6 +1,5 @@
 -- An open socket: its mailbox, its kind's state, and its ends with their places as the control plane had them at its last item (zmq_socket(3); own choice, after libzmq's `socket_base_t`).
-use Rattle.std.specs.Prelude.{◌≡◌, ◌==◌, ◌&&◌, ◌||◌, ℕ, Bool, true, false, not, List, [], ◌∷◌, filter}
-use Rattle.std.specs.List.{list_any}
+use Rattle.std.specs.Prelude.{◌≡◌, ◌==◌, ◌&&◌, ◌||◌, ℕ, Bool, true, false, not, List, [], ◌∷◌, filter, if◌then◌else◌, map}
 use Rattle.zq_base.specs.declared.kind.Kind.{Kind}
 use Rattle.zq_base.specs.declared.options.Options.{Options}
 use Rattle.zq_base.specs.declared.ids.EndId.{EndId}
@@ -20,15 +19,24 @@ use Rattle.spec_control.specs.Names.{joined_in}
 use Rattle.spec_journal.specs.Net.{new_pattern}
 use Rattle.control_held.specs.Moments.{Moment, left_by}
 
+-- an end of a socket, and where it is
+pub record SockEnd : Type 0 where
+  pub end : EndId
+  pub place : Place
+
 pub record OpenSock : Type 0 where
   pub object : ℕ
   pub slot : ℕ
   -- it processed its Stop
   pub stopped : Bool
   pub pattern : Pattern
-  -- its ends in the order of their attachment, and where each end is
-  pub ends : List EndId
-  pub places : EndId → Place
+  -- its ends in the order of their attachment
+  pub ends : List SockEnd
+
+-- where an end is, if it is one of these
+abbrev pub place_in : List SockEnd → EndId → Place
+place_in [] e = Unmade
+place_in (x ∷ xs) e = if is_end e x.end then x.place else place_in xs e
 
 -- an end can be written
 abbrev pub is_active : Place → Bool
@@ -61,14 +69,14 @@ is_out Away = false
 is_out (At state) = not (looks (At state))
 
 abbrev pub can_write : OpenSock → EndId → Bool
-can_write s e = is_active (s.places e)
+can_write s e = is_active (place_in s.ends e)
 
 -- an end that the socket has is out of use
 abbrev pub had_out : OpenSock → EndId → Bool
-had_out s e = list_any (is_end e) s.ends && is_out (s.places e)
+had_out s e = is_out (place_in s.ends e)
 
 abbrev pub waiting_ends : OpenSock → List EndId
-waiting_ends s = filter (λ e. awaits_delimiter (s.places e)) s.ends
+waiting_ends s = map (λ x. x.end) (filter (λ x. awaits_delimiter x.place) s.ends)
 
 -- a command is a socket's Stop
 abbrev pub is_stop_word : Word → Bool
@@ -118,13 +126,16 @@ module _ {N S : Type 0} where
   abbrev pub leaves_in : Moment N S → OpenSock → List EndId
   leaves_in m s = filter (λ e. is_out (place_of (left_by m) e) && not (had_out s e)) (ends_of s.object (left_by m))
 
+  -- the ends of a socket behind an item
+  abbrev pub ends_left : ℕ → Moment N S → List SockEnd
+  ends_left o m = map (λ e. record { end = e; place = place_of (left_by m) e }) (ends_of o (left_by m))
+
   -- a socket after an item
   abbrev pub sock_after : Moment N S → OpenSock → OpenSock
   sock_after m s = record s {
     stopped = s.stopped || stops s.object m.item;
     pattern = detach_all (leaves_in m s) (attach_all (joins_of s.object m) s.pattern);
-    ends = ends_of s.object (left_by m);
-    places = place_of (left_by m);
+    ends = ends_left s.object m;
   }
 
   -- a socket goes through these items
@@ -140,5 +151,4 @@ module _ {N S : Type 0} where
     stopped = false;
     pattern = new_pattern kind options;
     ends = [];
-    places = place_of (left_by m);
   }
