@@ -1,0 +1,8 @@
+mod StayLemmas
+mod RestLemmas
+mod ItemLemmas
+mod HoldLemmas
+mod RoundLemmas
+mod PayLemmas
+mod MadeLemmas
+mod DoneLemmas

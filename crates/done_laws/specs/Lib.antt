@@ -1,0 +1,4 @@
+pub mod LocalScript
+pub mod Resting
+pub mod DoneInTime
+pub mod WorkedTimes

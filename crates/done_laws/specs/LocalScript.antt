@@ -1,0 +1,40 @@
+-- A script without tcp (own choice): its sockets bind and connect over inproc alone.
+use Rattle.std.specs.Prelude.{◌≡◌, ℕ, Bool, true, List}
+use Rattle.std.specs.List.{list_all}
+use Rattle.zq_script.specs.declared.script.Call.{Call}
+use Rattle.zq_script.specs.declared.script.Call.TheVariants as call
+use Rattle.spec_run.specs.declared.line.LineCall.{LineCall}
+use Rattle.spec_run.specs.declared.line.LineCall.TheVariants.{Asks, Unbinds, Disconnects, Closes, Terms}
+use Rattle.spec_run.specs.declared.line.RunLine.{RunLine}
+use Rattle.spec_run.specs.LineCall.{RunScript}
+use Rattle.spec_run.specs.OwnedRun.{OwnedRun}
+use Rattle.spec_run.specs.InTurns.{Turned, IsInTurns, IsOneThread}
+use Rattle.replay_laws.specs.Local.{is_inproc, is_local_item}
+
+-- a bind and a connect are over inproc; to strike one over tcp makes nothing
+abbrev pub is_local_call : Call → Bool
+is_local_call (call.Socket kind options) = true
+is_local_call (call.Bind place at) = is_inproc at
+is_local_call (call.Connect place to) = is_inproc to
+is_local_call (call.Send place m) = true
+is_local_call (call.Recv place tries) = true
+is_local_call (call.Subscribe place topic) = true
+is_local_call (call.Unsubscribe place topic) = true
+
+abbrev pub is_local_line : LineCall → Bool
+is_local_line (Asks call) = is_local_call call
+is_local_line (Unbinds place at) = true
+is_local_line (Disconnects place at) = true
+is_local_line (Closes place) = true
+is_local_line Terms = true
+
+abbrev pub are_local_lines : List RunLine → Bool
+are_local_lines lines = list_all (λ line. is_local_line line.call) lines
+
+abbrev pub is_local_script : RunScript → Bool
+is_local_script script = list_all (λ actor. are_local_lines actor.lines) script
+
+-- in a run on one thread, whatever the seed and the turns, such a script asks nothing over tcp
+abbrev pub LocalScriptsRunLocally : (N S : Type 0) → Type 0
+LocalScriptsRunLocally N S = (script : RunScript) (io limit seed : ℕ) (t : Turned N S) (run : OwnedRun N S) →
+    IsInTurns script io limit t run → IsOneThread seed script io t run → is_local_script script ≡ true → list_all is_local_item run.order ≡ true
