@@ -1,0 +1,7 @@
+mod CountedLemmas
+mod GivenLemmas
+mod SideLemmas
+mod PastLemmas
+mod ReceiveLemmas
+mod CallLemmas
+mod RowLemmas
