@@ -45,8 +45,8 @@ pub fn acknowledgement<L: Drop>(state: &mut State<L>, at: ObjId, child: ObjId) -
     ensures stands { Updates (λ c. try_end at.0 false (link AckComes child.0 c))
         state.old state.new }
     ensures only { Tells state.old state.new }
-    ensures ended { (c : Control) → Stands state.old c → result ≡ true →
-        may_end (link AckComes child.0 c).rows at.0 ≡ true }
+    ensures ended { (c : Control) → Stands state.old c →
+        result ≡ may_end (link AckComes child.0 c).rows at.0 }
 {
     state.needs();
     state.ack_comes(at, child);

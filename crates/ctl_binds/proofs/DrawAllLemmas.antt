@@ -10,7 +10,7 @@ use Rattle.spec_control.specs.Rows.{PairRow}
 use Rattle.control_held.specs.Held.{Held}
 use Rattle.control_rows.proofs.ListLemmas.{never}
 use Rattle.ctl_holder.specs.declared.load.Load.{Load}
-use Rattle.ctl_holder.specs.Holding.{Holding, KeepsTurns, Stays, has_end}
+use Rattle.ctl_holder.specs.Holding.{HearsNone, Holding, KeepsTurns, Stays, has_end}
 use Rattle.ctl_state.specs.declared.state.State.{State}
 use Rattle.ctl_state.specs.Stands.{Stands}
 use Rattle.ctl_joins.specs.Joined.{Gets}
@@ -39,8 +39,8 @@ gets_nothing n o h = record {
 
 module _ {N O I : Type 0} where
   -- taken, though the holder did something else since
-  pub taken_stays : (i : ℕ) (ds : List (Drawn N O I)) (s t : State (Load N O I)) (h k l : Holding N) → AreTaken i ds s t h k → Stays i k l → KeepsTurns k l → AreTaken i ds s t h l
-  taken_stays i ds s t h k l taken stays keeps = record {
+  pub taken_stays : (i : ℕ) (ds : List (Drawn N O I)) (s t : State (Load N O I)) (h k l : Holding N) → AreTaken i ds s t h k → Stays i k l → KeepsTurns k l → HearsNone k l → AreTaken i ds s t h l
+  taken_stays i ds s t h k l taken stays keeps heard = record {
     is = taken.is;
     places = taken.places;
     numbers = taken.numbers;
@@ -53,6 +53,7 @@ module _ {N O I : Type 0} where
     turns = keeps.turns ∙ taken.turns;
     sealed = keeps.sealed ∙ taken.sealed;
     came = came_still h k l (length ds) taken.came keeps.joined;
+    heard = heard ∙ taken.heard;
   }
 
   module _ (out_name : O → N) (in_name : I → N) (s : State (Load N O I)) (h : Holding N) (i : ObjId) (ws : List ObjId) (wakers : ℕ) where
@@ -68,6 +69,7 @@ module _ {N O I : Type 0} where
         turns = refl;
         sealed = refl;
         came = record { more = []; joined = sym (append-nil h.joined); count = refl };
+        heard = refl;
       };
       stands = subst (λ (ps : List PairRow). Stands s (record w.control { rows = record w.control.rows { pairs = ps } })) (sym (append-nil w.control.rows.pairs)) w.stands;
       waiters = refl;
@@ -116,11 +118,11 @@ module _ {N O I : Type 0} where
         one_drawn e u l now = subst (λ (xs : List ObjId). Draws out_name in_name w.control i xs e.drawn.items e.notes s u h l) (sym more_is) now
 
         -- no memory for one more
-        abbrev pub were_taken : (u : State (Load N O I)) (l : Holding N) (ds : List (Drawn N O I)) → u ≡ t → ds ≡ b.drawn.items → Stays i.0 k l → KeepsTurns k l → WereTaken u l i.0 ds
-        were_taken u l ds same still stays keeps = record {
+        abbrev pub were_taken : (u : State (Load N O I)) (l : Holding N) (ds : List (Drawn N O I)) → u ≡ t → ds ≡ b.drawn.items → Stays i.0 k l → KeepsTurns k l → HearsNone k l → WereTaken u l i.0 ds
+        were_taken u l ds same still stays keeps heard = record {
           before = s;
           had = h;
-          taken = subst (λ (y : State (Load N O I)). AreTaken i.0 ds s y h l) (sym same) (subst (λ (ys : List (Drawn N O I)). AreTaken i.0 ys s t h l) (sym still) (taken_stays i.0 b.drawn.items s t h k l draws.taken stays keeps));
+          taken = subst (λ (y : State (Load N O I)). AreTaken i.0 ds s y h l) (sym same) (subst (λ (ys : List (Drawn N O I)). AreTaken i.0 ys s t h l) (sym still) (taken_stays i.0 b.drawn.items s t h k l draws.taken stays keeps heard));
         }
 
     pub all_drawn : (n : ℕ) → length ws ≤ n → (t : State (Load N O I)) (k : Holding N) (b : Batch N O I) (w : MayDraw s h i ws wakers) → Draws out_name in_name w.control i (take n ws) b.drawn.items b.notes s t h k →

@@ -147,6 +147,7 @@ module _ {N O I : Type 0} (out_name : O → N) (in_name : I → N) (s : State (L
             turns = attaches.turned.turns ∙ append-nil k.turns ∙ m.draws.taken.turns;
             sealed = attaches.turned.sealed ∙ append-nil k.sealed ∙ m.draws.taken.sealed;
             came = subst (λ (n : ℕ). HasJoinedMore n had l) (sym (length_push ds d)) (came_more had k l (length ds) (joins_named (end_of pair.0 false) said.peer.identity end.answer end.told) m.draws.taken.came attaches.came);
+            heard = attaches.heard ∙ m.draws.taken.heard;
           }
 
           pub draws_now : (e : Batch N O I) → e.drawn.items ≡ b.drawn.items ++ record { o = o; pair = pair; identity = said.identity; answer = end.answer; other = end.other } ∷ [] →

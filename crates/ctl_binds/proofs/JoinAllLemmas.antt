@@ -84,7 +84,7 @@ module _ {N O I : Type 0} (out_name : O → N) (in_name : I → N) where
       done = [];
       parts = refl;
       more = omega arith;
-      moved = record { mine = All-nil (λ (d : Drawn N O I). place_of c (first_of d) ≡ At (h.state (first_of d))); others = λ j e less here. refl; turned = turns_same h; joined = refl };
+      moved = record { mine = All-nil (λ (d : Drawn N O I). place_of c (first_of d) ≡ At (h.state (first_of d))); others = λ j e less here. refl; turned = turns_same h; joined = refl; heard = refl };
       here = All-nil (λ (d : Drawn N O I). has_end (first_of d) (h.ends i.0) ≡ true);
       within = All-nil (λ (d : Drawn N O I). d.pair.0 < next_pair c);
       places = λ j. omega arith;
@@ -119,6 +119,7 @@ module _ {N O I : Type 0} (out_name : O → N) (in_name : I → N) where
           turned = subst (λ (ts : List (EndId × EndState)). TurnsBy ts h l) turns_are
               (turns_on (turned_over (λ e. Unmade) (place_of so_far.control) (map first_of so_far.done)) (turn_at first Unmade (place_of now first)) h k l so_far.moved.turned next.moves.turned);
           joined = next.moves.joined ∙ so_far.moved.joined;
+          heard = next.moves.heard ∙ so_far.moved.heard;
         };
         here = All-push (λ (x : Drawn N O I). has_end (first_of x) (l.ends i.0) ≡ true) so_far.done d here_now
             (ap (has_end first) next.joins.stays.now.ends ∙ All-head (λ (x : Drawn N O I). has_end (first_of x) (k.ends i.0) ≡ true) d rest so_far.can.has);

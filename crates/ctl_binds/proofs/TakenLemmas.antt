@@ -11,7 +11,7 @@ use Rattle.spec_control.specs.Control.{is_end, same_side}
 use Rattle.control_held.specs.Held.{Held}
 use Rattle.control_laws.proofs.AskLemmas.{end_self, same_end}
 use Rattle.control_rows.proofs.ListLemmas.{never}
-use Rattle.ctl_holder.specs.Holding.{BeginsNone, Holding, Left, has_end, without_end}
+use Rattle.ctl_holder.specs.Holding.{HearsNone, BeginsNone, Holding, Left, has_end, without_end}
 use Rattle.ctl_state.specs.declared.state.State.{State}
 use Rattle.ctl_state.specs.Pairs.{entry_drawn}
 use Rattle.ctl_joins.specs.declared.owners.Owners.{Owners}
@@ -187,8 +187,8 @@ module _ {N : Type 0} where
       mine_before = (All-pop (λ (y : Held N). k.writes y.end ≡ true) (hs ++ x ∷ []) hs (Some x) refl gets.mine).0
 
   -- all were taken back
-  pub gets_none : (n o : ℕ) (h k : Holding N) → Gets n o [] h k → k.turns ≡ h.turns → k.sealed ≡ h.sealed → k.joined ≡ h.joined → IsBack n o h k
-  gets_none n o h k gets turns sealed joined = record {
+  pub gets_none : (n o : ℕ) (h k : Holding N) → Gets n o [] h k → k.turns ≡ h.turns → k.sealed ≡ h.sealed → k.joined ≡ h.joined → HearsNone h k → IsBack n o h k
+  gets_none n o h k gets turns sealed joined heard = record {
     now = record {
       ends = ends_are;
       others = gets.others;
@@ -202,6 +202,7 @@ module _ {N : Type 0} where
     turns = turns;
     sealed = sealed;
     joined = joined;
+    heard = heard;
   }
     where
       ends_are : k.ends o ≡ h.ends o

@@ -9,7 +9,7 @@ use Rattle.control_held.specs.Held.{Held}
 use Rattle.control_rows.proofs.ListLemmas.{never}
 use Rattle.control_laws.proofs.AskLemmas.{end_self}
 use Rattle.ctl_holder.specs.declared.load.Load.{Load}
-use Rattle.ctl_holder.specs.Holding.{BeginsNone, Holding, IsLast, Left, TakesBack, has_end}
+use Rattle.ctl_holder.specs.Holding.{HearsNone, BeginsNone, Holding, IsLast, Left, TakesBack, has_end}
 use Rattle.ctl_state.specs.declared.state.State.{State}
 use Rattle.ctl_joins.specs.Joined.{Gets}
 use Rattle.ctl_joins.specs.Room.{HasDrawn, HavePlaces}
@@ -55,8 +55,8 @@ module _ {N O I : Type 0} (s : State (Load N O I)) (k : Holding N) (i : ℕ) (d 
       let is = number in
       omega (arith, all, drawn, push, is)
 
-  pub taken_less : (t : State (Load N O I)) (l : Holding N) → t ≡ drawn_all w.rest w.before → Left i (first_of d) k l → BeginsNone k l → TakesBack k l → AreTaken i w.rest w.before t w.had l
-  taken_less t l is left keeps back = record {
+  pub taken_less : (t : State (Load N O I)) (l : Holding N) → t ≡ drawn_all w.rest w.before → Left i (first_of d) k l → BeginsNone k l → TakesBack k l → HearsNone k l → AreTaken i w.rest w.before t w.had l
+  taken_less t l is left keeps back heard = record {
     is = is;
     places = (All-pop (λ (y : Drawn N O I). HavePlaces w.before y.o) (w.rest ++ d ∷ []) w.rest (Some d) refl w.taken.places).0;
     numbers = numbered_first n w.rest d w.taken.numbers;
@@ -69,6 +69,7 @@ module _ {N O I : Type 0} (s : State (Load N O I)) (k : Holding N) (i : ℕ) (d 
     turns = keeps.turns ∙ w.taken.turns;
     sealed = keeps.sealed ∙ w.taken.sealed;
     came = came_less w.had k l (length w.rest) (subst (λ (m : ℕ). HasJoinedMore m w.had k) (length_push w.rest d) w.taken.came) back;
+    heard = heard ∙ w.taken.heard;
   }
     where
       gets_then : Gets n i (map held_of w.rest) w.had l

@@ -8,7 +8,7 @@ use Rattle.spec_control.specs.declared.entry.Joining.{Joining}
 use Rattle.spec_control.specs.Rows.{obj}
 use Rattle.spec_control.specs.Control.{Control}
 use Rattle.ctl_holder.specs.declared.load.Load.{Load}
-use Rattle.ctl_holder.specs.Holding.{Holding, HoldsNow, JoinsBy, MayRefuse, has_end}
+use Rattle.ctl_holder.specs.Holding.{HearsNone, Holding, HoldsNow, JoinsBy, MayRefuse, has_end}
 use Rattle.ctl_holder.specs.Lent.{HasAll}
 use Rattle.ctl_state.specs.declared.state.State.{State}
 use Rattle.ctl_state.specs.Stands.{Stands}
@@ -42,6 +42,7 @@ module _ {N : Type 0} where
     pub turns : k.turns ≡ h.turns
     pub sealed : k.sealed ≡ h.sealed
     pub joined : k.joined ≡ h.joined
+    pub heard : HearsNone h k
 
 module _ {N O I : Type 0} where
   -- pairs may be drawn between a socket whose holder is lent and each of these, and there is a waker for each mailbox
@@ -67,6 +68,7 @@ module _ {N O I : Type 0} where
     pub turns : k.turns ≡ h.turns
     pub sealed : k.sealed ≡ h.sealed
     pub came : HasJoinedMore (length ds) h k
+    pub heard : HearsNone h k
 
   module _ (out_name : O → N) (in_name : I → N) where
     -- a pair drawn between these sockets, of which the kind has answered

@@ -11,7 +11,7 @@ use Rattle.spec_control.specs.Stage.{has_ended, was_asked}
 use Rattle.spec_control.specs.Rows.{obj}
 use Rattle.spec_control.specs.Control.{Control, draws, end_of, greet, next_pair, open_pair, place_of}
 use Rattle.ctl_holder.specs.declared.load.Load.{Load}
-use Rattle.ctl_holder.specs.Holding.{Holding, Stays, has_end}
+use Rattle.ctl_holder.specs.Holding.{HearsNone, Holding, Stays, has_end}
 use Rattle.ctl_holder.specs.Turns.{TurnsBy, turned_over}
 use Rattle.ctl_ends.specs.Turning.{PutsLoaded}
 use Rattle.ctl_state.specs.declared.state.State.{State}
@@ -50,6 +50,7 @@ module _ {N O I : Type 0} where
     pub others : (j : ℕ) (e : EndId) → e.pair.0 < n → has_end e (k.ends j) ≡ true → k.state e ≡ h.state e
     pub turned : TurnsBy (turned_over (λ e. Unmade) (place_of f) (map first_of ds)) h k
     pub joined : k.joined ≡ h.joined
+    pub heard : HearsNone h k
 
   module _ (out_name : O → N) (in_name : I → N) where
     -- the numbers of these pairs were drawn, all room for them is kept, and the first ends are at the holder; neither the binding socket was asked nor has a waiting one ended

@@ -1,6 +1,6 @@
 ghost use Rattle.std.specs.Prelude.{◌≡◌, ◌+◌, ◌++◌, ◌∷◌, [], ℕ, length, IfOk, OnOk, OnErr};
 ghost use Rattle.spec_control.specs.Control.{next_pair};
-ghost use Rattle.ctl_holder.specs.Holding.{KeepsTurns, Stays};
+ghost use Rattle.ctl_holder.specs.Holding.{HearsNone, KeepsTurns, Stays};
 ghost use Rattle.ctl_binds.specs.Batch.{FitsMore};
 ghost use Rattle.ctl_binds.specs.Drawing.{Draws, IsBack, MayDraw, MayDrawNext};
 
@@ -40,6 +40,8 @@ where
         (Stays socket.0 (H.holding holder.old) (H.holding holder.new)) }
     ensures quiet { OnErr result
         (KeepsTurns (H.holding holder.old) (H.holding holder.new)) }
+    ensures heard { OnErr result
+        (HearsNone (H.holding holder.old) (H.holding holder.new)) }
 {
     let o = Owners::of(state, socket, waiter);
     let said = papers_of(state, alloc, o)?;

@@ -27,7 +27,7 @@ use Rattle.control_rows.proofs.ListLemmas.{never, clash}
 use Rattle.control_laws.proofs.AskLemmas.{same_end, end_self}
 use Rattle.ctl_holder.specs.Holding.{Holding, Left, KeepsTurns, NoneWrites, has_end, without_end}
 use Rattle.ctl_holder.specs.Lent.{has_writer, here_ends, HasBothNames, HasEnds, HasAll}
-use Rattle.ctl_ends.specs.Turning.{yields, needs_writer, Turned}
+use Rattle.ctl_ends.specs.Turning.{yields, needs_writer, seals_for, Turned}
 use Rattle.ctl_ends.proofs.TurnLemmas.{ends_same, now_at, else_at, same_owner, same_attached, reasons_now, ToldAs, states_told}
 
 -- ---- the table
@@ -48,6 +48,16 @@ ack_needed AckSent h = absurd (never h)
 ack_needed AskedOnce h = refl
 ack_needed AskedTwice h = absurd (never h)
 ack_needed Gone h = absurd (never h)
+
+-- its pipe was sealed before
+pub ack_seals : (state : EndState) (e : EndId) → comes AckCame state ≡ true → seals_for (commands_of (cell AckCame state)) e ≡ []
+ack_seals Active e h = absurd (never h)
+ack_seals DelimiterGot e h = absurd (never h)
+ack_seals WaitDelimiter e h = absurd (never h)
+ack_seals AckSent e h = refl
+ack_seals AskedOnce e h = refl
+ack_seals AskedTwice e h = refl
+ack_seals Gone e h = absurd (never h)
 
 pub ack_goes : (state : EndState) → comes AckCame state ≡ true → state_after (cell AckCame state) state ≡ Gone
 ack_goes Active h = absurd (never h)

@@ -15,7 +15,7 @@ use Rattle.spec_control.specs.Rows.{obj}
 use Rattle.spec_control.specs.Control.{Control, commands_in, is_end, owner_of, place_of}
 use Rattle.ctl_holder.specs.declared.load.Load.{Load}
 use Rattle.ctl_holder.specs.declared.load.Load.TheVariants.{Writer}
-use Rattle.ctl_holder.specs.Holding.{Holding, HoldsNow, has_end, written_in}
+use Rattle.ctl_holder.specs.Holding.{Holding, HearsNone, HoldsNow, has_end, written_in}
 use Rattle.ctl_holder.specs.Lent.{HasAll}
 use Rattle.ctl_holder.specs.Load.{Carries, brings_ends}
 use Rattle.ctl_holder.specs.Turns.{TurnsBy, HasTurned, turn_at}
@@ -113,7 +113,7 @@ module _ {N O I : Type 0} (out_name : O → N) (in_name : I → N) where
     pub has : HasAll names control h
     pub turns : TurnsAt control s h e event
 
-  -- the state was changed so, with the holder, which was told of these changes of its ends, and commands were put; no end joined
+  -- the state was changed so, with the holder, which was told of these changes of its ends, and commands were put; no end joined, and of objects it was told nothing
   pub record Leads (names : EndId → Option N) (turns : List (EndId × EndState)) (now : Control) (s t : State (Load N O I)) (h k : Holding N) : Type 0 where
     pub stands : Stands t now
     pub has : HasAll names now k
@@ -124,6 +124,7 @@ module _ {N O I : Type 0} (out_name : O → N) (in_name : I → N) where
     pub output : (i : ℕ) → k.output_left i ≡ h.output_left i
     pub turned : TurnsBy turns h k
     pub joined : k.joined ≡ h.joined
+    pub heard : HearsNone h k
 
 -- where no end was attached twice before, a holder was told of each change of state of an event
 abbrev pub TurnsOnce : {N : Type 0} → (was now : Control) → (old new : Holding N) → Type 0

@@ -23,10 +23,11 @@ where
     requires may { MaySettle P.known.out_name P.known.in_name
         state.old (H.holding holder.old) e writer }
     requires apart { NoneWrites P.known.exact (P.known.out_name writer) (H.holding holder.old) }
-    ensures { (w : MaySettle P.known.out_name P.known.in_name
+    ensures settles { (w : MaySettle P.known.out_name P.known.in_name
         state.old (H.holding holder.old) e writer) →
         SettlesEnd P.known.out_name P.known.in_name w.names w.control e result
         state.old state.new (H.holding holder.old) (H.holding holder.new) }
+    ensures counts { result ≡ H.counts holder.old e writer }
 {
     state.needs();
     state.reason_fits(e);

@@ -1,9 +1,10 @@
-ghost use Rattle.std.specs.Prelude.{◌≡◌, ◌≢◌, true};
+ghost use Rattle.std.specs.Prelude.{◌≡◌, ◌≢◌, [], true};
 ghost use Rattle.spec_control.specs.declared.end.EndEvent.TheVariants.{AckCame};
 ghost use Rattle.spec_control.specs.Control.{happens};
-ghost use Rattle.ctl_holder.specs.Holding.{has_end, Stays, TurnsTo};
+ghost use Rattle.ctl_holder.specs.Holding.{has_end, HearsNone, Stays, TurnsTo};
+ghost use Rattle.ctl_holder.specs.Counts.{KeepsCounts};
 ghost use Rattle.ctl_ends.specs.Turning.{yields, needs_writer, Turned, SealsFor, GivesFor};
-ghost use Rattle.ctl_ends.specs.Turning.{MayTurn, Leads, IsSoFar, turn_of};
+ghost use Rattle.ctl_ends.specs.Turning.{MayTurn, Leads, IsSoFar, seals_for, turn_of};
 
 use ctl_holder::{Holder, Load};
 use ctl_state::State;
@@ -26,6 +27,9 @@ where
         (H.holding holder.old) }
     ensures turned { Turned o.0 e (yields commands) (H.holding holder.old) (H.holding holder.new) }
     ensures seals { SealsFor commands e (H.holding holder.old) (H.holding holder.new) }
+    ensures counts { seals_for commands e ≡ [] → KeepsCounts P.known.out_name o.0 e
+        (H.holding holder.old) (H.counts holder.old) (H.counts holder.new) }
+    ensures heard { HearsNone (H.holding holder.old) (H.holding holder.new) }
 {
     match commands {
         EndCommands::Nothing | EndCommands::Settle => return None,
@@ -53,6 +57,7 @@ where
     ensures stays { Stays o.0 (H.holding holder.old) (H.holding holder.new) }
     ensures turns { (w : IsSoFar state.now e) →
         TurnsTo e w.state (H.holding holder.old) (H.holding holder.new) }
+    ensures heard { HearsNone (H.holding holder.old) (H.holding holder.new) }
 {
     match state.end_state(e) {
         Some(now) => {

@@ -32,7 +32,7 @@ use Rattle.ctl_holder.specs.declared.halves.Halves.{Halves}
 use Rattle.ctl_holder.specs.declared.halves.NamedHalves.{NamedHalves}
 use Rattle.ctl_holder.specs.declared.load.Load.{Load}
 use Rattle.ctl_holder.specs.declared.load.Load.TheVariants.{Halves as IsHalves}
-use Rattle.ctl_holder.specs.Holding.{BeginsActive, Holding, Joined, JoinsBy, MayRefuse, Stays, has_end, held_with, joining_with}
+use Rattle.ctl_holder.specs.Holding.{HearsNone, BeginsActive, Holding, Joined, JoinsBy, MayRefuse, Stays, has_end, held_with, joining_with}
 use Rattle.ctl_holder.specs.Turns.{HasTurned, TurnsBy, turn_at}
 use Rattle.ctl_holder.specs.Load.{AreHalvesOf, IsNamed}
 use Rattle.ctl_ends.specs.Turning.{Leads, PutsLoaded, TurnsOnce, turn_of}
@@ -173,6 +173,7 @@ module _ {N O I : Type 0} (out_name : O → N) (in_name : I → N) where
         output = λ i. refl;
         turned = subst (λ (ts : List (EndId × EndState)). TurnsBy ts h h) (sym (still_at e (place_of w.control e))) (turns_same h);
         joined = refl;
+        heard = refl;
       })
 
 -- ---- with what a load brings
@@ -207,8 +208,8 @@ module _ {N O I : Type 0} (out_name : O → N) (in_name : I → N) (s : State (L
   -- it joined, and was asked where that is wanted
   pub attached : (mid t : State (Load N O I)) (m k : Holding N) (answer : Attached) (peer : List ℕ) (joined : List (Joining N)) → BindsEnd w.names w.control at.0 e answer s mid h m →
       Leads out_name in_name w.names (turn_of e (attach BindCame e w.control) (greet answer e (attach BindCame e w.control))) (greet answer e (attach BindCame e w.control)) mid t m k → joined ≡ record { end = e; peer = peer; written = half.written; read = half.read; answer = answer; met = false } ∷ [] →
-      JoinsBy (joining_with out_name in_name e peer half.halves answer ∷ []) h m → IsAttached out_name in_name w.names w.control at.0 e peer joined s t h k
-  attached mid t m k answer peer joined b leads one came = record {
+      JoinsBy (joining_with out_name in_name e peer half.halves answer ∷ []) h m → HearsNone h m → IsAttached out_name in_name w.names w.control at.0 e peer joined s t h k
+  attached mid t m k answer peer joined b leads one came heard = record {
     answer = answer;
     written = half.written;
     read = half.read;
@@ -223,6 +224,7 @@ module _ {N O I : Type 0} (out_name : O → N) (in_name : I → N) (s : State (L
     turned = turns_on [] _ h m k (record { turns = b.begins.turns ∙ sym (append-nil h.turns); sealed = b.begins.sealed ∙ sym (append-nil h.sealed) })
         (subst (λ (p : Place). TurnsBy (turn_at e p (place_of (greet answer e (attach BindCame e w.control)) e)) m k) (now_active w.control e w.comes.binds.within) leads.turned);
     came = leads.joined ∙ came ∙ ap (λ (js : List (Joining N)). h.joined ++ js) (names_are ∙ sym one);
+    heard = leads.heard ∙ heard;
     holds = λ i. leads.holds i ∙ b.holds i;
     kinds = λ i. leads.kinds i ∙ b.kinds i;
   }

@@ -30,7 +30,8 @@ use Rattle.control_bounds.specs.Room.{pair_to_come, row_to_come, up_to_come, for
 use Rattle.control_bounds.proofs.RowRoomLemmas.{place_falls}
 use Rattle.ctl_holder.specs.declared.load.Load.{Load}
 use Rattle.ctl_holder.specs.declared.load.Load.TheVariants.{Halves, Writer, Ends}
-use Rattle.ctl_holder.specs.Holding.{Holding, IsTold}
+use Rattle.ctl_holder.specs.Holding.{Holding, IsTold, read_in}
+use Rattle.ctl_holder.specs.Lent.{HasAll}
 use Rattle.ctl_strikes.proofs.OnceLemmas.{told_kept, told_one}
 use Rattle.ctl_terms.proofs.KeepLemmas.{ended_now, told_kept as one_kept}
 use Rattle.ctl_holder.specs.Load.{BringsWriterTo, IsNamed}
@@ -41,6 +42,7 @@ use Rattle.ctl_state.specs.Stands.{Stands, HasRoomForAck, tells}
 use Rattle.ctl_state.specs.Objects.{kept_row}
 use Rattle.ctl_ends.specs.Settling.{SettlesEnd}
 use Rattle.ctl_ends.proofs.MailLemmas.{puts_on}
+use Rattle.ctl_ends.proofs.HeldLemmas.{has_here, read_is}
 use Rattle.ctl_ends.proofs.TurnLemmas.{comes_here}
 use Rattle.ctl_hears.specs.Processing.{HasDone, IsAcknowledged, Acknowledges, HasCounts, IsProcessed, BringsWriter}
 use Rattle.control_others.proofs.StayLemmas.{ends_on, tried}
@@ -161,6 +163,22 @@ module _ {N O I : Type 0} (out_name : O → N) (in_name : I → N) where
     where
       one : {a b : O} → ◌≡◌ {A = Option (Load N O I)} (Some (Writer a)) (Some (Writer b)) → a ≡ b
       one e = Prim.grind arith
+
+  -- the end reads the pipe whose writing half comes
+  pub reads_half : (names : EndId → Option N) (c : Control) (s : State (Load N O I)) (h : Holding N) (at : ℕ) (e : EndId) (load : Option (Load N O I)) → HasAll names c h → (is : IsAcknowledged out_name in_name names c s h at e load) →
+      read_in (h.ends at) e ≡ Some (out_name is.half)
+  reads_half names c s h at e load has is =
+      let mine = has (owner_of c e) is.settles.lent in
+      ap (λ (n : ℕ). read_in (h.ends n) e) (sym is.owner)
+      ∙ read_is names e (h.ends (owner_of c e)) (out_name is.half) mine.named
+      (has_here names c.rows.pairs c.attached c.reasons h (owner_of c e) mine e refl (ap is_here is.settles.there ∙ comes_here AckCame is.settles.state is.settles.may_come) is.settles.listed) is.settles.pipe
+
+  -- a word is the acknowledgement of one end alone
+  pub one_acked : (word : Word) (d e : EndId) → word ≡ PipeTermAck d → word ≡ PipeTermAck e → d ≡ e
+  one_acked word d e at_d at_e = one (sym at_d ∙ at_e)
+    where
+      one : {d e : EndId} → ◌≡◌ {A = Word} (PipeTermAck d) (PipeTermAck e) → d ≡ e
+      one f = Prim.grind arith
 
   pub acknowledges : (names : EndId → Option N) (c : Control) (at : ObjId) (e : EndId) (counts : Settled) (s mid t : State (Load N O I)) (h m k : Holding N) → SettlesEnd out_name in_name names c e counts s mid h m →
       Stands t (try_end at.0 false (settle e (Some counts) (happens AckCame e c))) → Tells mid t → (m.holds at.0 ≡ true) → IsTold at.0 m k → (at.0 ≡ 0 → k ≡ m) → e.pair.0 < length c.rows.pairs → list_any (is_end e) c.attached ≡ true →

@@ -1,5 +1,5 @@
 -- What a Reap needs that is the oldest command of a mailbox, and what it does.
-use Rattle.std.specs.Prelude.{◌≡◌, ◌≤◌, ◌∷◌, [], ℕ, true, false, List, Option, Some, None, All, map, refl}
+use Rattle.std.specs.Prelude.{◌≡◌, ◌≤◌, ◌∷◌, [], ℕ, Bool, true, false, List, Option, Some, None, All, map, refl}
 use Rattle.std.proofs.Common.{arith, sym, ap, ◌∙◌, subst}
 use Rattle.zq_base.specs.declared.ids.EndId.{EndId}
 use Rattle.zq_base.specs.declared.ids.ObjId.{ObjId}
@@ -7,7 +7,7 @@ use Rattle.spec_control.specs.declared.entry.Answered.{Answered}
 use Rattle.spec_control.specs.declared.entry.Joining.{Joining}
 use Rattle.spec_control.specs.declared.letter.Letter.{Letter}
 use Rattle.spec_control.specs.declared.letter.Word.{Word}
-use Rattle.spec_control.specs.declared.letter.Word.TheVariants.{Reap}
+use Rattle.spec_control.specs.declared.letter.Word.TheVariants.{Own, Plug, TermReq, Term, TermAck, PipeBind, PipeTerm, PipeTermAck, Stop, Reap}
 use Rattle.spec_control.specs.declared.stage.Stage.{Stage}
 use Rattle.spec_control.specs.declared.stage.Stage.TheVariants.{Alive, Told, Ending, Finished, Cleared}
 use Rattle.spec_control.specs.Stage.{has_ended, is_alive, is_coming, was_asked}
@@ -25,17 +25,22 @@ use Rattle.control_laws.proofs.RootLemmas.{oldest_lives}
 use Rattle.control_laws.proofs.TellLemmas.{rows_of}
 use Rattle.control_moves.proofs.GuardLemmas.{may_come}
 use Rattle.control_moves.proofs.SoundLemmas.{socket_there}
+use Rattle.control_attached.specs.Once.{AreOnce}
 use Rattle.control_bounds.specs.Room.{to_come}
 use Rattle.ctl_holder.specs.declared.given.Given.{Given}
 use Rattle.ctl_holder.specs.declared.given.Parting.{Parting}
 use Rattle.ctl_holder.specs.declared.load.Load.{Load}
 use Rattle.ctl_holder.specs.declared.load.Load.TheVariants.{Halves, Writer, Ends}
-use Rattle.ctl_holder.specs.Holding.{Holding, given_as}
-use Rattle.ctl_holder.specs.Load.{AreEndsOfClosed, BringsAll, BringsEnds, GivesAll, IsNamed}
+use Rattle.ctl_holder.specs.Holding.{Holding, given_as, held_given}
+use Rattle.ctl_holder.specs.Lent.{HasAll}
+use Rattle.ctl_holder.specs.TakingOver.{AreDistinct, ComeApart}
+use Rattle.ctl_holder.specs.Load.{AreEndsOfClosed, BringsAll, BringsEnds, GivesAll, IsNamed, brings_ends, given_by}
 use Rattle.ctl_reaps.specs.Reaping.{TakesOver}
+use Rattle.ctl_reaps.proofs.ApartLemmas.{reaped_apart}
 use Rattle.ctl_state.specs.declared.state.State.{State}
 use Rattle.ctl_state.specs.Boxes.{mail_at}
-use Rattle.ctl_hears.specs.Processing.{AreFree, BringsParting, HasJoined, IsProcessed, IsReaped}
+use Rattle.ctl_state.specs.Stands.{Stands}
+use Rattle.ctl_hears.specs.Processing.{AreFree, BringsParting, HasJoined, HearsEnd, IsProcessed, IsReaped}
 use Rattle.ctl_asks.proofs.BareLemmas.{term_to_come}
 use Rattle.ctl_hears.proofs.HearLemmas.{same_places}
 
@@ -127,3 +132,20 @@ module _ {N O I : Type 0} (out_name : O → N) (in_name : I → N) where
     led = record { stands = taken.stands; has = taken.has; puts = taken.puts };
     places = same_places out_name in_name names (Reap socket) to.0 s t taken.lists;
   })
+
+-- ---- the ends that it brings are apart from those that the reaper has
+module _ {N O I : Type 0} (out_name : O → N) (in_name : I → N) (exact : Bool) (names : EndId → Option N) (c : Control) (s : State (Load N O I)) (h : Holding N)
+    (stands : Stands s c) (has : HasAll names c h) (once : AreOnce c.attached) (distinct : AreDistinct exact names) where
+  pub heard_apart : (to : ℕ) (word : Word) (load : Option (Load N O I)) → brings_ends word ≡ true → HearsEnd out_name in_name names c s h to word load → ComeApart exact (map (held_given out_name in_name) (given_by load)) h
+  heard_apart to (Own child) load brings ends = absurd (never brings)
+  heard_apart to (Plug end) load brings ends = absurd (never brings)
+  heard_apart to (TermReq child) load brings ends = absurd (never brings)
+  heard_apart to Term load brings ends = absurd (never brings)
+  heard_apart to (TermAck child) load brings ends = absurd (never brings)
+  heard_apart to (PipeBind e peer) load brings ends = absurd (never brings)
+  heard_apart to (PipeTerm e) load brings ends = absurd (never brings)
+  heard_apart to (PipeTermAck e) load brings ends = absurd (never brings)
+  heard_apart to Stop load brings ends = absurd (never brings)
+  heard_apart to (Reap socket) load brings ends =
+      subst (λ (l : Option (Load N O I)). ComeApart exact (map (held_given out_name in_name) (given_by l)) h) (sym ends.brings)
+      (reaped_apart out_name in_name s h socket ends.parting (record { control = c; names = names; stands = stands; has = has; reaps = ends.reaps }) exact once distinct)

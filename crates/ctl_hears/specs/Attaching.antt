@@ -22,7 +22,7 @@ use Rattle.ctl_holder.specs.declared.halves.Halves.{Halves}
 use Rattle.ctl_holder.specs.declared.halves.NamedHalves.{NamedHalves}
 use Rattle.ctl_holder.specs.declared.load.Load.{Load}
 use Rattle.ctl_holder.specs.declared.load.Load.TheVariants.{Halves as IsHalves, Writer, Ends}
-use Rattle.ctl_holder.specs.Holding.{BeginsActive, Holding, JoinsBy, MayRefuse, Stays}
+use Rattle.ctl_holder.specs.Holding.{HearsNone, BeginsActive, Holding, JoinsBy, MayRefuse, Stays}
 use Rattle.ctl_holder.specs.Turns.{TurnsBy, turn_at}
 use Rattle.ctl_holder.specs.Lent.{HasAll}
 use Rattle.ctl_holder.specs.Load.{AreHalvesOf}
@@ -145,5 +145,6 @@ module _ {N O I : Type 0} (out_name : O → N) (in_name : I → N) where
     pub lists : t.objects.lists ≡ with_ends (with_last e) at s.objects.lists
     pub turned : TurnsBy (turn_at e (At Active) (place_of (greet answer e (attach BindCame e c)) e)) h k
     pub came : JoinsBy joined h k
+    pub heard : HearsNone h k
     pub holds : (i : ℕ) → k.holds i ≡ h.holds i
     pub kinds : (i : ℕ) → k.kind i ≡ h.kind i

@@ -20,7 +20,7 @@ use Rattle.zq_base.specs.declared.ids.Settled.{Settled}
 use Rattle.ctl_holder.specs.declared.load.Load.{Load}
 use Rattle.ctl_holder.specs.declared.load.Load.TheVariants.{Halves as BringsHalves, Writer, Ends}
 use Rattle.ctl_holder.specs.declared.given.Parting.{Parting}
-use Rattle.ctl_holder.specs.Holding.{Holding, JoinsBy}
+use Rattle.ctl_holder.specs.Holding.{HearsMore, Holding, JoinsBy}
 use Rattle.ctl_holder.specs.Joins.{KeepsObjects, come_by}
 use Rattle.ctl_holder.specs.Lent.{HasAll}
 use Rattle.ctl_holder.specs.Load.{IsNamed}
@@ -32,6 +32,7 @@ use Rattle.ctl_ends.specs.Turning.{PutsLoaded, TurnsAt, TurnsOnce}
 use Rattle.ctl_ends.specs.Settling.{SettlesAt}
 use Rattle.ctl_asks.specs.Bare.{Hears}
 use Rattle.ctl_hears.specs.Attaching.{IsBound, KeepsPlaces}
+use Rattle.ctl_holder.specs.Heard.{heard_by}
 use Rattle.ctl_strikes.specs.Striking.{Led}
 
 -- the commands that come: no object waits to be taken in
@@ -96,10 +97,11 @@ module _ {N S : Type 0} where
     pub settled : a.settled ≡ None
     pub output : a.output_left ≡ false
 
--- the ends that a command tells joined the holder, but those of a Reap, which had joined before; it has its objects, but one that ended or came with a Reap
+-- the ends that a command tells joined the holder, but those of a Reap, which had joined before; it has its objects, but one that ended or came with a Reap, and heard what the command tells it of the object
 pub record JoinsFor {N S : Type 0} (c : Control) (letter : Letter) (a : Answered N S) (h k : Holding N) : Type 0 where
   pub came : JoinsBy (come_by letter.word a.joined) h k
   pub objects : KeepsObjects c (processed letter.to.0 letter.word (answers_in a) c) h k
+  pub heard : HearsMore (heard_by letter.to letter.word c (processed letter.to.0 letter.word (answers_in a) c)) h k
 
 -- nobody has a closed socket whose Reap is on its way
 abbrev pub AreFree : {N : Type 0} → Control → Holding N → Type 0

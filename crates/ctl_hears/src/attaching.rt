@@ -3,7 +3,7 @@ ghost use Rattle.std.specs.Vec.{vec_len, vec_capacity};
 ghost use Rattle.spec_control.specs.declared.letter.Word.TheVariants.{PipeBind};
 ghost use Rattle.spec_control.specs.Control.{Control, greet};
 ghost use Rattle.ctl_holder.specs.declared.load.Load.TheVariants.{Halves};
-ghost use Rattle.ctl_holder.specs.Holding.{JoinsBy, KeepsTurns, joining_with};
+ghost use Rattle.ctl_holder.specs.Holding.{HearsNone, JoinsBy, KeepsTurns, joining_with};
 ghost use Rattle.ctl_ends.specs.Turning.{Leads, turn_of};
 ghost use Rattle.ctl_state.specs.Stands.{Stands};
 ghost use Rattle.ctl_terms.specs.Asking.{MayAskOne};
@@ -90,6 +90,7 @@ where
         × StaysAll (H.holding holder.old) (H.holding holder.new)) }
     ensures quiet { IfErr result (λ back.
         KeepsTurns (H.holding holder.old) (H.holding holder.new)) }
+    ensures heard { HearsNone (H.holding holder.old) (H.holding holder.new) }
 {
     match holder.attach(alloc, o, e, peer, halves) {
         Ok(answer) => {
@@ -169,6 +170,8 @@ where
         × StaysAll (H.holding holder.old) (H.holding holder.new)) }
     ensures quiet { IfErr result (λ back.
         KeepsTurns (H.holding holder.old) (H.holding holder.new)) }
+    ensures unheard { IfErr result (λ back.
+        HearsNone (H.holding holder.old) (H.holding holder.new)) }
 {
     let identity = match identity_in(letter, alloc) {
         Ok(identity) => identity,

@@ -1,9 +1,15 @@
 ghost use Rattle.zq_base.specs.declared.ids.EndId.{EndId};
 ghost use Rattle.spec_control.specs.declared.letter.Word.TheVariants.{PipeTermAck};
-ghost use Rattle.spec_control.specs.After.{answers_in, processed};
+ghost use Rattle.spec_control.specs.declared.end.EndEvent.TheVariants.{AckCame};
+ghost use Rattle.spec_control.specs.Control.{happens, try_end};
+ghost use Rattle.spec_control.specs.After.{answers_in, processed, settle};
 ghost use Rattle.ctl_ends.specs.Turning.{TurnsOnce};
-ghost use Rattle.std.specs.Prelude.{◌≡◌, ◌≢◌, [], true, false, None, Some, IfOk, IfErr, map};
-ghost use Rattle.ctl_holder.specs.Holding.{AreMet, IsTold, KeepsTurns, NoneWrites, given_as};
+ghost use Rattle.std.specs.Prelude.{◌≡◌, ◌≢◌, ◌∷◌, [], true, false, None, Some, IfOk, IfErr, map};
+ghost use Rattle.ctl_holder.specs.Holding.{HearsMore, HearsNone, IsTold, KeepsTurns, NoneWrites, Stays, given_as, held_given};
+ghost use Rattle.ctl_holder.specs.TakingOver.{ComeApart};
+ghost use Rattle.ctl_holder.specs.declared.notice.Notice.TheVariants.{Stop};
+ghost use Rattle.ctl_holder.specs.Heard.{over_if, over_in};
+ghost use Rattle.ctl_holder.specs.Counts.{CountsAs, IsCounted};
 ghost use Rattle.ctl_holder.specs.Load.{brings_ends, given_by};
 ghost use Rattle.ctl_holder.specs.declared.load.Load.TheVariants.{Ends, Writer};
 ghost use Rattle.ctl_hears.specs.Processing.{IsSilent};
@@ -45,6 +51,7 @@ fn tell_over<P: Pipes, H: Holder<P>>(holder: &mut H, o: ObjId, ended: bool)
     ensures kept { ended ≡ false →
         (H.holding holder.new).holds o.0 ≡ (H.holding holder.old).holds o.0 }
     ensures root { o.0 ≡ 0 → H.holding holder.new ≡ H.holding holder.old }
+    ensures heard { HearsMore (over_if o ended) (H.holding holder.old) (H.holding holder.new) }
 {
     if !ended {
         return;
@@ -53,6 +60,15 @@ fn tell_over<P: Pipes, H: Holder<P>>(holder: &mut H, o: ObjId, ended: bool)
         return;
     }
     holder.over(o);
+}
+
+// The holder of a socket hears that its Stop was processed.
+fn tell_stop<P: Pipes, H: Holder<P>>(holder: &mut H, o: ObjId)
+    ensures stays { Stays o.0 (H.holding holder.old) (H.holding holder.new) }
+    ensures turns { KeepsTurns (H.holding holder.old) (H.holding holder.new) }
+    ensures heard { HearsMore (Stop o ∷ []) (H.holding holder.old) (H.holding holder.new) }
+{
+    holder.stop(o);
 }
 
 // A pipe was settled, and else there was nothing to answer for. It takes no memory.
@@ -118,10 +134,17 @@ where
         state.old (H.holding holder.old) at.0 e load }
     requires apart { (writer : P.Out) → load ≡ Some (Writer writer) →
         NoneWrites P.known.exact (P.known.out_name writer) (H.holding holder.old) }
-    ensures { (w : MayAcknowledge P.known.out_name P.known.in_name
+    ensures acknowledges { (w : MayAcknowledge P.known.out_name P.known.in_name
         state.old (H.holding holder.old) at.0 e load) →
         Acknowledges P.known.out_name P.known.in_name w.names w.control at.0 e result
         state.old state.new (H.holding holder.old) (H.holding holder.new) }
+    ensures counts { IsCounted P.known.out_name (H.counts holder.old) (H.holding holder.old)
+        at.0 e (Some result) }
+    ensures heard { (w : MayAcknowledge P.known.out_name P.known.in_name
+        state.old (H.holding holder.old) at.0 e load) →
+        HearsMore (over_in at w.control
+        (try_end at.0 false (settle e (Some result) (happens AckCame e w.control))))
+        (H.holding holder.old) (H.holding holder.new) }
 {
     let writer = writer_of(load);
     let counts = settle_end(state, holder, e, writer);
@@ -191,7 +214,7 @@ where
         Word::Stop => {
             state.needs();
             state.stop_comes(letter.to);
-            holder.stop(letter.to);
+            tell_stop(holder, letter.to);
             return;
         }
         Word::Term => {
@@ -220,7 +243,9 @@ where
         load ≡ Some (Writer writer) →
         NoneWrites P.known.exact (P.known.out_name writer) (H.holding holder.old) }
     requires reaps { brings_ends letter.now.word ≡ true → H.reaps ≡ true }
-    requires met { AreMet (H.ended holder.old) (given_by load) }
+    requires takes { brings_ends letter.now.word ≡ true → H.may_take holder.old (given_by load) }
+    requires come { brings_ends letter.now.word ≡ true → ComeApart P.known.exact
+        (map (held_given P.known.out_name P.known.in_name) (given_by load)) (H.holding holder.old) }
     requires fits { FitsLoad (H.fits holder.old) load }
     ensures heard { IfOk result (λ a.
         (w : MayHear P.known.out_name P.known.in_name state.old (H.holding holder.old) letter.now load) →
@@ -233,6 +258,8 @@ where
     ensures joins { IfOk result (λ a.
         (w : MayHear P.known.out_name P.known.in_name state.old (H.holding holder.old) letter.now load) →
         JoinsFor w.control letter.now a (H.holding holder.old) (H.holding holder.new)) }
+    ensures counts { IfOk result (λ a. CountsAs P.known.out_name (H.counts holder.old)
+        (H.holding holder.old) letter.now a.settled) }
     ensures brought { IfOk result (λ a. brings_ends letter.now.word ≡ true →
         a.joined ≡ map (given_as P.known.out_name P.known.in_name) (given_by load)) }
     ensures back { IfErr result (λ back. back ≡ load) }
@@ -240,6 +267,8 @@ where
         × StaysAll (H.holding holder.old) (H.holding holder.new)) }
     ensures quiet { IfErr result (λ back.
         KeepsTurns (H.holding holder.old) (H.holding holder.new)) }
+    ensures unheard { IfErr result (λ back.
+        HearsNone (H.holding holder.old) (H.holding holder.new)) }
 {
     if is_bare(&letter.word) {
         hear_bare(state, holder, letter);

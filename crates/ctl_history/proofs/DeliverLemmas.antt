@@ -39,7 +39,8 @@ use Rattle.control_moves.proofs.GuardLemmas.{may_come}
 use Rattle.control_bounds.specs.Room.{to_come, move_room, slots_of}
 use Rattle.ctl_holder.specs.declared.load.Load.{Load}
 use Rattle.ctl_holder.specs.declared.given.Given.{Given}
-use Rattle.ctl_holder.specs.Holding.{AreMet, Holding, given_as}
+use Rattle.ctl_holder.specs.Holding.{Holding, given_as}
+use Rattle.ctl_holder.specs.TakingOver.{MayTakeFirst}
 use Rattle.ctl_holder.specs.Lent.{HasBothNames, HasAll}
 use Rattle.ctl_holder.specs.Load.{BringsWriterTo, Carries, IsNamed, ReapsAll, brings_ends, given_by}
 use Rattle.ctl_holder.specs.declared.load.Load.TheVariants.{Writer}
@@ -94,11 +95,6 @@ module _ {N O I : Type 0} (out_name : O → N) (in_name : I → N) where
       subst (λ (xs : List (Command (Load N O I))). All (IsCarried out_name in_name items c) xs) (sym g.commands)
       (All-append (IsCarried out_name in_name items c) (mail_at old m).commands g.more (all m)
       (All-weaker (IsLoaded out_name in_name (name_of items)) (IsCarried out_name in_name items c) (λ x is. record { carries = is.carries; reaps = no_reap out_name in_name c x.letter.word x.load is.no_ends }) g.more g.loaded))
-
--- ---- what comes first
-all_front : {X : Type 0} (P : X → Type 0) (xs ys : List X) → All P (xs ++ ys) → All P xs
-all_front P [] ys all = All-nil P
-all_front P (x ∷ xs) ys all = All-cons P x xs (All-head P x (xs ++ ys) all) (all_front P xs ys (All-tail P x (xs ++ ys) all))
 
 -- ---- names that are known later
 module _ {N : Type 0} (early late : EndId → Option N) (more : (e : EndId) (n : N) → early e ≡ Some n → late e ≡ Some n) where
@@ -198,13 +194,9 @@ module _ {N O I S : Type 0} (out_name : O → N) (in_name : I → N) (s mid : St
             sym (taken_given slot.0 command s.boxes mid.boxes took (brings_nothing other)) ∙ ap (λ (gs : List (Given N O I)). gs ++ given_in mid.boxes) (sym (brings_nothing other))
       ]
 
-  -- and so the reaper has met what they say
-  pub met_first : (ended : I → Bool) → (slot.0 ≡ 0 → AreMet ended (given_in s.boxes)) → AreMet ended (given_by command.load)
-  met_first ended met =
-      elim (cases_eq slot.0 0) [
-        | inl root ↦ all_front (λ (g : Given N O I). g.met ≡ true → ended g.input ≡ true) (given_by command.load) (given_in mid.boxes) (subst (λ (gs : List (Given N O I)). AreMet ended gs) taken_first (met root))
-        | inr other ↦ subst (λ (gs : List (Given N O I)). AreMet ended gs) (sym (brings_nothing other)) (All-nil (λ (g : Given N O I). g.met ≡ true → ended g.input ≡ true))
-      ]
+  -- and so the reaper may take them over
+  pub take_first : (may : List (Given N O I) → Type 0) → (slot.0 ≡ 0 → MayTakeFirst may (given_in s.boxes)) → brings_ends command.letter.word ≡ true → may (given_by command.load)
+  take_first may takes brings = takes (reap_in_roots brings) (given_by command.load) (given_in mid.boxes) taken_first
 
   reaps_taken : (h : Holding N) (socket : ObjId) → IsReaped out_name in_name (name_of (items_of p)) (control_of p) mid h socket.0 command.load → IsReaped out_name in_name (name_of (items_of p)) (without_front slot.0 (control_of p)) mid h socket.0 command.load
   reaps_taken h socket t = record {

@@ -92,6 +92,7 @@ module _ {N O I : Type 0} (out_name : O → N) (in_name : I → N) (s : State (L
     unstruck = none_struck out_name in_name c now i ws ds notes s t u h k draws w.draw.stands stands refl (λ e. refl) boxes ends;
     joined = draws.joined;
     came = moves.joined ∙ draws.came;
+    heard = moves.heard ∙ draws.taken.heard;
     opened = draws.opened;
     stands = stand;
     gets = subst (λ (n : ℕ). Gets n i.0 (map held_of ds) h l) (sym w.draw.stands.pairs.many) (gets_stays (length s.pairs) i.0 (map held_of ds) h k l draws.taken.gets joins.stays

@@ -13,9 +13,11 @@ use Rattle.control_laws.proofs.AskLemmas.{end_self}
 use Rattle.control_rows.proofs.ListLemmas.{never}
 use Rattle.ctl_holder.specs.declared.given.Given.{Given}
 use Rattle.ctl_holder.specs.declared.given.Parting.{Parting}
-use Rattle.ctl_holder.specs.Holding.{Holding, AllStated, AllTold, AllWriting, AreGivenAs, AreMet, HasGiven, KeepsTurns, given_as, has_end, held_given}
+use Rattle.ctl_holder.specs.Holding.{Holding, AllStated, AllTold, AllWriting, AreGivenAs, HasGiven, KeepsTurns, given_as, has_end, held_given}
 use Rattle.ctl_holder.specs.Lent.{HasAll, HasBothNames, HasEnds, has_writer, here_ends}
 use Rattle.ctl_holder.specs.Load.{AreEndsOfClosed, GivesAll, IsNamed}
+use Rattle.ctl_holder.specs.TakingOver.{AreGivenWith, IsGivenWith}
+use Rattle.msg_pipe.specs.Known.{Known}
 use Rattle.ctl_asks.specs.Noting.{noted_end, noted_join}
 use Rattle.ctl_history.proofs.ReapLemmas.{all_of_map}
 
@@ -71,10 +73,18 @@ module _ {N O I : Type 0} (out_name : O → N) (in_name : I → N) (c : Control)
     }
 
     -- an end whose delimiter was noted has met it
-    pub given_met : (ended : I → Bool) → AllTold h.at_delimiter gs → AreMet ended gs → AreMet ended p.ends.items
-    given_met ended told met =
-        subst (λ (xs : List (Given N O I)). AreMet ended xs) (sym ends)
-        (All-map (λ (g : Given N O I). g.met ≡ true → ended g.input ≡ true) (noted_end c) gs (λ k g lt noted. met k g lt (told k g lt ∙ has.delimiters _ (given_here k g lt) noted)))
+    pub given_halves : {P : Type 0} (K : Known P O I N) (pipes : P) → AllTold h.at_delimiter gs → AreGivenWith K pipes gs → AreGivenWith K pipes p.ends.items
+    given_halves K pipes told given =
+        subst (λ (xs : List (Given N O I)). AreGivenWith K pipes xs) (sym ends)
+        (All-map (IsGivenWith K pipes) (noted_end c) gs (λ k g lt.
+        let is = given k g lt in
+        record {
+          read_there = is.read_there;
+          met = λ noted. is.met (told k g lt ∙ has.delimiters _ (given_here k g lt) noted);
+          out_is = is.out_is;
+          written_there = is.written_there;
+          unsealed = is.unsealed;
+        }))
 
 -- ---- what it has then
 module _ {N : Type 0} (names : EndId → Option N) (c : Control) (o : ℕ) (h k : Holding N) (gone : HasGiven o h k) (keeps : KeepsTurns h k) (has : HasAll names c h) where

@@ -11,7 +11,7 @@ use Rattle.spec_control.specs.Rows.{obj}
 use Rattle.spec_control.specs.Place.{At, Unmade}
 use Rattle.spec_control.specs.Control.{Control, next_pair, place_of}
 use Rattle.ctl_holder.specs.declared.load.Load.{Load}
-use Rattle.ctl_holder.specs.Holding.{Holding, JoinsBy, has_end}
+use Rattle.ctl_holder.specs.Holding.{HearsNone, Holding, JoinsBy, has_end}
 use Rattle.ctl_holder.specs.Turns.{TurnsBy, turned_over}
 use Rattle.ctl_ends.specs.Turning.{PutsLoaded}
 use Rattle.ctl_state.specs.declared.state.State.{State}
@@ -51,6 +51,7 @@ module _ {N O I : Type 0} where
     pub unstruck : (e : EndId) → next_pair c ≤ e.pair.0 → c.struck e ≡ false
     pub joined : notes.joined.items ≡ map (joins_of c) drawn
     pub came : JoinsBy notes.joined.items h k
+    pub heard : HearsNone h k
     pub opened : notes.opened.items ≡ flat_map opened_of drawn
     pub stands : Stands t (fulfilled_all at drawn (bound_now i.0 at c))
     pub gets : Gets (next_pair c) i.0 (map held_of drawn) h k

@@ -30,10 +30,11 @@ where
     /// Closes a socket with its holder (zmq_close(3)): the holder gives all ends of it, and the reaper
     /// is to take them. It takes no memory, and costs a walk over the ends.
     pub fn close<H: Holder<P>>(&mut self, alloc: Global, socket: ObjId, holder: &mut H)
+        requires gives { H.gives ≡ true }
         requires open { IsOpenSocket (obj (control_of self.old).rows socket.0) }
         requires lent { (H.holding holder.old).holds socket.0 ≡ true }
         requires has { HasWhat self.old (H.holding holder.old) }
-        ensures closes { Closes (H.ended holder.new) socket self.old self.new }
+        ensures closes { Closes P.known (H.pipes holder.new) socket self.old self.new }
         ensures gives { HasGiven socket.0 (H.holding holder.old) (H.holding holder.new) }
         ensures keeps { HasWhat self.new (H.holding holder.new) }
         ensures turned { HasTurned (control_of self.old) (control_of self.new)

@@ -1,10 +1,12 @@
 ghost use Rattle.std.specs.Prelude.{◌≡◌, ◌<◌, ◌&&◌, ◌==◌, ℕ, true, false, IfOk, OnErr};
 ghost use Rattle.std.specs.List.{list_any};
 ghost use Rattle.spec_control.specs.ControlRun.{is_between};
+ghost use Rattle.ctl_holder.specs.Counts.{CountsOnce};
 ghost use Rattle.ctl_holder.specs.Turns.{HasTurned};
 ghost use Rattle.ctl_history.specs.Coming.{ComesWith};
-ghost use Rattle.ctl_history.specs.Past.{control_of};
-ghost use Rattle.ctl_holder.specs.Holding.{AreMet};
+ghost use Rattle.ctl_history.specs.Past.{control_of, items_of};
+ghost use Rattle.spec_control.specs.Names.{name_of};
+ghost use Rattle.ctl_holder.specs.TakingOver.{AreDistinct, MayTakeFirst};
 ghost use Rattle.ctl_hears.specs.Attaching.{StaysAll};
 ghost use Rattle.ctl_history.specs.Hearing.{AreApart, AreOfKind, FindsOldest};
 ghost use Rattle.ctl_hears.specs.Processing.{AreFree};
@@ -46,7 +48,8 @@ where
             (H.fits holder.old) }
         requires reaps { slot.0 ≡ 0 → H.reaps ≡ true }
         requires free { slot.0 ≡ 0 → AreFree (control_of self.old) (H.holding holder.old) }
-        requires met { slot.0 ≡ 0 → AreMet (H.ended holder.old) self.old.given }
+        requires takes { slot.0 ≡ 0 → MayTakeFirst (H.may_take holder.old) self.old.given }
+        requires distinct { slot.0 ≡ 0 → AreDistinct P.known.exact (name_of (items_of self.old)) }
         ensures ok { IfOk result (λ found.
             FindsOldest P.known.out_name P.known.in_name slot found self.old self.new) }
         ensures err { OnErr result ((self.new ≡ self.old)
@@ -55,6 +58,8 @@ where
         ensures turned { HasTurned (control_of self.old) (control_of self.new)
             (H.holding holder.old) (H.holding holder.new) }
         ensures joins { ComesWith self.old self.new (H.holding holder.old) (H.holding holder.new) }
+        ensures counts { CountsOnce P.known.out_name (H.counts holder.old)
+            self.old.events self.new.events (H.holding holder.old) }
     {
         let Some(command) = self.state.take(slot) else {
             return Ok(Heard::Empty);

@@ -3,7 +3,7 @@ ghost use Rattle.zq_base.specs.declared.endpoint.Endpoint.TheVariants.{Inproc};
 ghost use Rattle.spec_control.specs.declared.book.Binding.{Binding};
 ghost use Rattle.spec_control.specs.declared.request.Req.TheVariants.{Connect};
 ghost use Rattle.spec_control.specs.Reply.{reply_of};
-ghost use Rattle.ctl_holder.specs.Holding.{KeepsTurns, Stays};
+ghost use Rattle.ctl_holder.specs.Holding.{HearsNone, KeepsTurns, Stays};
 ghost use Rattle.ctl_holder.specs.Turns.{HasTurned};
 ghost use Rattle.ctl_state.specs.Listed.{with_room};
 ghost use Rattle.ctl_joins.specs.Connecting.{Connects, MayConnect};
@@ -72,6 +72,7 @@ where
     ensures stays { OnErr result
         (Stays o.first.0 (H.holding holder.old) (H.holding holder.new)) }
     ensures keeps { OnErr result (KeepsTurns (H.holding holder.old) (H.holding holder.new)) }
+    ensures heard { OnErr result (HearsNone (H.holding holder.old) (H.holding holder.new)) }
 {
     events.reserve(9)?;
     match connect_pair(state, alloc, holder, o, at, wakers) {

@@ -6,6 +6,7 @@
 
 mod asking;
 mod binds;
+mod closed;
 mod closing;
 mod connecting;
 mod delimiters;

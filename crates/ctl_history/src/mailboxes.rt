@@ -11,6 +11,13 @@ impl<P: Pipes> History<P>
 where
     P::Name: Drop,
 {
+    /// How many mailboxes there are. It costs nothing.
+    pub fn mailboxes(&self) -> usize
+        ensures { result ≡ (control_of self.now).slots }
+    {
+        self.state.boxes()
+    }
+
     /// Whether no command waits in a mailbox. It costs a look at it.
     pub fn is_empty(&self, slot: SlotId) -> bool
         requires there { slot.0 < (control_of self.now).slots }

@@ -14,6 +14,7 @@ use Rattle.spec_control.specs.Control.{is_end}
 use Rattle.control_held.specs.Held.{Held}
 use Rattle.ctl_holder.specs.declared.halves.Halves.{Halves}
 use Rattle.ctl_holder.specs.declared.given.Given.{Given}
+use Rattle.ctl_holder.specs.declared.notice.Notice.{Notice}
 
 -- what a holder has
 pub record Holding (N : Type 0) : Type 0 where
@@ -37,6 +38,8 @@ pub record Holding (N : Type 0) : Type 0 where
   pub sealed : List EndId
   -- the ends that joined so far, but those that were taken back, in order, each with its kind's answer
   pub joined : List (Joining N)
+  -- what it was told of its objects so far, in order
+  pub heard : List Notice
 
 -- a pipe's capacity
 pub record IsCapacity (capacity : ℕ) : Type 0 where
@@ -112,6 +115,13 @@ module _ {N : Type 0} where
   -- the end that joined last is taken back
   abbrev pub TakesBack : (old new : Holding N) → Type 0
   TakesBack old new = (before : List (Joining N)) (last : Joining N) → old.joined ≡ before ++ last ∷ [] → new.joined ≡ before
+
+  -- nothing was told of an object, or this, behind what was before
+  abbrev pub HearsNone : (old new : Holding N) → Type 0
+  HearsNone old new = new.heard ≡ old.heard
+
+  abbrev pub HearsMore : List Notice → (old new : Holding N) → Type 0
+  HearsMore ns old new = new.heard ≡ old.heard ++ ns
 
   -- an end is told that it is in this state now, which is a change unless it was in it
   pub record TurnsTo (e : EndId) (state : EndState) (old new : Holding N) : Type 0 where
@@ -201,11 +211,7 @@ states_optional None d = None
 states_optional (Some x) d = if is_end d x.0 then Some Active else None
 
 module _ {N O I : Type 0} where
-  -- of the ends that a closed socket gives, those that are said to have met their delimiter have met it
-  abbrev pub AreMet : (ended : I → Bool) → List (Given N O I) → Type 0
-  AreMet ended gs = All (λ g. g.met ≡ true → ended g.input ≡ true) gs
-
-  -- and the holder that takes them says so
+  -- of the ends that a closed socket gives, the holder that takes them says which have met their delimiters
   abbrev pub AreAtDelimiter : (EndId → Bool) → List (Given N O I) → Type 0
   AreAtDelimiter at gs = All (λ g. g.met ≡ true → at g.end ≡ true) gs
 

@@ -12,6 +12,8 @@ pub struct Given<N, O, I> {
     pub input: I,
     /// Whether the reading half has met the other end's delimiter.
     pub met: bool,
+    /// Whether the pipe that it writes has its delimiter.
+    pub sealed: bool,
     /// How far the end is in its life.
     pub state: EndState,
 }

@@ -17,21 +17,30 @@ pub trait Holder<P: Pipes> {
     ghost use Rattle.ctl_holder.specs.Holding.{read_in, Stays, Joined, Left, Yielded, HasGiven};
     ghost use Rattle.ctl_holder.specs.Holding.{IsTold, IsPlugged, IsLast, NoneWrites, held_with, AreCrossed};
     ghost use Rattle.ctl_holder.specs.Holding.{held_given, held_optional};
-    ghost use Rattle.ctl_holder.specs.Holding.{AreMet, AllTold, AllWriting, AreAtDelimiter, AreGivenAs};
+    ghost use Rattle.ctl_holder.specs.Holding.{AllTold, AllWriting, AreAtDelimiter, AreGivenAs};
+    ghost use Rattle.ctl_holder.specs.TakingOver.{AreGivenWith, ComeApart};
+    ghost use Rattle.ctl_holder.specs.declared.given.Given.{Given};
     ghost use Rattle.ctl_holder.specs.Holding.{writes_in};
     ghost use Rattle.zq_base.specs.declared.ids.EndId.{EndId};
     ghost use Rattle.ctl_holder.specs.Holding.{KeepsTurns, BeginsActive, Begins, TurnsTo, Seals, AllStated};
     ghost use Rattle.ctl_holder.specs.Holding.{BeginsNone, JoinsBy, TakesBack, joining_with};
     ghost use Rattle.ctl_holder.specs.Holding.{states_optional, states_given};
-    ghost use Rattle.std.specs.Prelude.{Bool};
+    ghost use Rattle.std.specs.Prelude.{Bool, List};
     ghost use Rattle.std.specs.Option.{ForSome};
     ghost use Rattle.ctl_holder.specs.declared.halves.Halves.{Halves};
+    ghost use Rattle.ctl_holder.specs.Counts.{KeepsCounts};
+    ghost use Rattle.ctl_holder.specs.Holding.{HearsNone, HearsMore};
+    ghost use Rattle.ctl_holder.specs.declared.notice.Notice.TheVariants.{Stop, Term, Over};
+    ghost use Rattle.zq_base.specs.declared.ids.Settled.{Settled};
 
     /// What it has.
     ghost holding: { Self → Holding P.Name };
 
-    /// A reading half has met its delimiter, as its pipes know it.
-    ghost ended: { Self → P.In → Bool };
+    /// The pipes of its ends.
+    ghost pipes: { Self → P };
+
+    /// What joining the half by which an end reads with this writing half of its pipe tells.
+    ghost counts: { Self → EndId → P.Out → Settled };
 
     /// Halves that may join what it has: their pipes are among its own, nothing was sealed in them,
     /// and none of its ends has a half of one of them.
@@ -42,6 +51,13 @@ pub trait Holder<P: Pipes> {
 
     /// Whether it takes in the ends of closed sockets.
     ghost reaps: { Bool };
+
+    /// Whether it has sockets, whose ends it gives away when they are closed.
+    ghost gives: { Bool };
+
+    /// Ends that a closed socket gave and that it may take in: it has room for them, and their halves
+    /// are those of its pipes.
+    ghost may_take: { Self → List (Given P.Name P.Out P.In) → Type 0 };
 
     /// Makes the pipes of a pair: this holder's end writes the first, of this many messages, and
     /// reads the second.
@@ -60,7 +76,8 @@ pub trait Holder<P: Pipes> {
             AreCrossed P.known.out_name P.known.in_name m.mine m.other) }
         ensures fits { IfOk result (λ m. fits self.new m.mine) }
         ensures stays { Stays o.0 (holding self.old) (holding self.new) }
-        ensures turns { KeepsTurns (holding self.old) (holding self.new) };
+        ensures turns { KeepsTurns (holding self.old) (holding self.new) }
+        ensures heard { HearsNone (holding self.old) (holding self.new) };
 
     /// An end joins an object, whose kind answers. It keeps the halves of an end that its kind
     /// refuses too; the end is then no peer. The answer is kept with the end among those that joined.
@@ -84,7 +101,8 @@ pub trait Holder<P: Pipes> {
         ensures refuses { IfOk result (λ a. MayRefuse ((holding self.old).kind o.0) a) }
         ensures err { IfErr result (λ e. (e.value ≡ halves)
             × Stays o.0 (holding self.old) (holding self.new)
-            × KeepsTurns (holding self.old) (holding self.new)) };
+            × KeepsTurns (holding self.old) (holding self.new)) }
+        ensures heard { HearsNone (holding self.old) (holding self.new) };
 
     /// Undoes the last attach that still stands.
     fn take_back(&mut self, o: ObjId, end: EndId) -> Halves<P::Out, P::In>
@@ -96,20 +114,25 @@ pub trait Holder<P: Pipes> {
         ensures read { read_in ((holding self.old).ends o.0) end
             ≡ Some (P.known.in_name result.input) }
         ensures turns { BeginsNone (holding self.old) (holding self.new) }
-        ensures joins { TakesBack (holding self.old) (holding self.new) };
+        ensures joins { TakesBack (holding self.old) (holding self.new) }
+        ensures heard { HearsNone (holding self.old) (holding self.new) };
 
     /// An end goes to a state of its life.
     fn set_state(&mut self, o: ObjId, end: EndId, state: EndState)
         requires here { has_end end ((holding self.old).ends o.0) ≡ true }
         ensures stays { Stays o.0 (holding self.old) (holding self.new) }
-        ensures turns { TurnsTo end state (holding self.old) (holding self.new) };
+        ensures turns { TurnsTo end state (holding self.old) (holding self.new) }
+        ensures counts { KeepsCounts P.known.out_name o.0 end (holding self.old)
+            (counts self.old) (counts self.new) }
+        ensures heard { HearsNone (holding self.old) (holding self.new) };
 
     /// The pipe that an end writes gets its delimiter.
     fn seal(&mut self, o: ObjId, end: EndId)
         requires here { has_end end ((holding self.old).ends o.0) ≡ true }
         requires writer { (holding self.old).writes end ≡ true }
         ensures stays { Stays o.0 (holding self.old) (holding self.new) }
-        ensures turns { Seals end (holding self.old) (holding self.new) };
+        ensures turns { Seals end (holding self.old) (holding self.new) }
+        ensures heard { HearsNone (holding self.old) (holding self.new) };
 
     /// Gives away the writing half of an end that acknowledges; parts that were not committed are
     /// rolled back.
@@ -119,7 +142,10 @@ pub trait Holder<P: Pipes> {
         ensures name { written_in ((holding self.old).ends o.0) end
             ≡ Some (P.known.out_name result) }
         ensures yielded { Yielded o.0 end (holding self.old) (holding self.new) }
-        ensures turns { KeepsTurns (holding self.old) (holding self.new) };
+        ensures turns { KeepsTurns (holding self.old) (holding self.new) }
+        ensures counts { KeepsCounts P.known.out_name o.0 end (holding self.old)
+            (counts self.old) (counts self.new) }
+        ensures heard { HearsNone (holding self.old) (holding self.new) };
 
     /// Joins the two halves of the pipe that an end read, which is gone then. What is left in a
     /// pipe that was read to its delimiter is nothing.
@@ -127,15 +153,18 @@ pub trait Holder<P: Pipes> {
         requires yielded { (holding self.old).writes end ≡ false }
         requires pipe { read_in ((holding self.old).ends o.0) end ≡ Some (P.known.out_name writer) }
         requires apart { NoneWrites P.known.exact (P.known.out_name writer) (holding self.old) }
+        ensures counts { result ≡ counts self.old end writer }
         ensures sum { result.sent ≡ result.got + result.rest }
         ensures read_out { (holding self.old).at_delimiter end ≡ true → result.rest ≡ 0 }
         ensures gone { Left o.0 end (holding self.old) (holding self.new) }
-        ensures turns { KeepsTurns (holding self.old) (holding self.new) };
+        ensures turns { KeepsTurns (holding self.old) (holding self.new) }
+        ensures heard { HearsNone (holding self.old) (holding self.new) };
 
     /// Calls of the socket other than close are refused from now on.
     fn stop(&mut self, o: ObjId)
         ensures stays { Stays o.0 (holding self.old) (holding self.new) }
-        ensures turns { KeepsTurns (holding self.old) (holding self.new) };
+        ensures turns { KeepsTurns (holding self.old) (holding self.new) }
+        ensures heard { HearsMore (Stop o ∷ []) (holding self.old) (holding self.new) };
 
     /// A waker of this holder. Nothing is promised of it.
     fn waker(&self) -> P::Waker;
@@ -162,12 +191,14 @@ pub trait Holder<P: Pipes> {
         ensures joins { (holding self.new).joined ≡ (holding self.old).joined }
         ensures err { IfErr result (λ e. (e.value ≡ end)
             × Stays o.0 (holding self.old) (holding self.new)
-            × KeepsTurns (holding self.old) (holding self.new)) };
+            × KeepsTurns (holding self.old) (holding self.new)) }
+        ensures heard { HearsNone (holding self.old) (holding self.new) };
 
     /// An object's Term was processed. It is kept.
     fn told(&mut self, o: ObjId)
         ensures told { IsTold o.0 (holding self.old) (holding self.new) }
-        ensures holds { (holding self.new).holds o.0 ≡ (holding self.old).holds o.0 };
+        ensures holds { (holding self.new).holds o.0 ≡ (holding self.old).holds o.0 }
+        ensures heard { HearsMore (Term o ∷ []) (holding self.old) (holding self.new) };
 
     /// Whether a session has output left to write within its linger.
     fn output_left(&self, o: ObjId) -> bool
@@ -175,11 +206,13 @@ pub trait Holder<P: Pipes> {
 
     /// An object has ended. It may be let go.
     fn over(&mut self, o: ObjId)
-        requires { (holding self.old).ends o.0 ≡ [] }
-        ensures { IsTold o.0 (holding self.old) (holding self.new) };
+        requires none { (holding self.old).ends o.0 ≡ [] }
+        ensures told { IsTold o.0 (holding self.old) (holding self.new) }
+        ensures heard { HearsMore (Over o ∷ []) (holding self.old) (holding self.new) };
 
     /// Gives all ends of a socket that is closed.
     fn give_ends(&mut self, o: ObjId) -> Parting<P::Name, P::Out, P::In>
+        requires gives { gives ≡ true }
         requires here { (holding self.old).holds o.0 ≡ true }
         ensures all { map (held_given P.known.out_name P.known.in_name) result.ends.items
             ≡ (holding self.old).ends o.0 }
@@ -190,13 +223,16 @@ pub trait Holder<P: Pipes> {
         ensures writing { AllWriting (holding self.old).writes result.ends.items }
         ensures states { AllStated (holding self.old).state result.ends.items }
         ensures turns { KeepsTurns (holding self.old) (holding self.new) }
-        ensures met { AreMet (ended self.new) result.ends.items };
+        ensures given { AreGivenWith P.known (pipes self.new) result.ends.items }
+        ensures heard { HearsNone (holding self.old) (holding self.new) };
 
     /// Takes the ends of a closed socket, where it is a reaper's. They joined their socket before, and
     /// join nothing now. It needs no memory.
     fn take_ends(&mut self, o: ObjId, ends: Vec<Given<P::Name, P::Out, P::In>>)
         requires new { (holding self.old).holds o.0 ≡ false }
-        requires met { AreMet (ended self.old) ends.items }
+        requires may { may_take self.old ends.items }
+        requires apart { ComeApart P.known.exact
+            (map (held_given P.known.out_name P.known.in_name) ends.items) (holding self.old) }
         ensures all { reaps ≡ true → IsPlugged o.0
             (map (held_given P.known.out_name P.known.in_name) ends.items)
             (holding self.old) (holding self.new) }
@@ -205,5 +241,6 @@ pub trait Holder<P: Pipes> {
             Begins (states_given ends.items) (holding self.old) (holding self.new) }
         ensures joins { (holding self.new).joined ≡ (holding self.old).joined }
         ensures writing { reaps ≡ true → (e : EndId) → (holding self.new).writes e
-            ≡ writes_in ends.items e ((holding self.old).writes e) };
+            ≡ writes_in ends.items e ((holding self.old).writes e) }
+        ensures heard { HearsNone (holding self.old) (holding self.new) };
 }

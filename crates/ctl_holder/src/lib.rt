@@ -6,9 +6,11 @@ mod halves;
 mod holder;
 mod load;
 mod made;
+mod notice;
 
 pub use given::{Given, Parting};
 pub use halves::{Halves, NamedHalves};
 pub use holder::Holder;
 pub use load::Load;
 pub use made::Made;
+pub use notice::Notice;

@@ -7,7 +7,7 @@ use Rattle.zq_base.specs.declared.ids.EndId.{EndId}
 use Rattle.zq_base.specs.declared.kind.Kind.{Kind}
 use Rattle.control_held.specs.Held.{Held}
 use Rattle.ctl_holder.specs.declared.halves.Halves.{Halves}
-use Rattle.ctl_holder.specs.Holding.{AreCrossed, Holding, Joined, JoinsBy, KeepsTurns, BeginsActive, MayRefuse, Stays, has_end, held_with, joining_with}
+use Rattle.ctl_holder.specs.Holding.{HearsNone, AreCrossed, Holding, Joined, JoinsBy, KeepsTurns, BeginsActive, MayRefuse, Stays, has_end, held_with, joining_with}
 use Rattle.ctl_joins.specs.declared.attaching.FirstEnd.{FirstEnd}
 use Rattle.ctl_joins.specs.declared.attaching.Names.{Names}
 use Rattle.ctl_joins.specs.Attaching.{AttachesFirst, held_first}
@@ -22,9 +22,9 @@ module _ {N O I : Type 0} (out_name : O → N) (in_name : I → N) (o : ℕ) (en
   result = record { answer = answer; told = told; opened = opened; other = record { halves = other; written = theirs.written; read = theirs.read } }
 
   pub attaches_first : AreCrossed out_name in_name mine other → Stays o h m → KeepsTurns h m → Joined o (held_with out_name in_name end mine) m k → BeginsActive end m k → MayRefuse (m.kind o) answer → JoinsBy (joining_with out_name in_name end peer mine answer ∷ []) m k →
-      told.written ≡ out_name mine.out → told.read ≡ out_name other.out → opened.written ≡ out_name mine.out → opened.read ≡ out_name other.out → theirs.written ≡ out_name other.out → theirs.read ≡ out_name mine.out →
+      HearsNone h k → told.written ≡ out_name mine.out → told.read ≡ out_name other.out → opened.written ≡ out_name mine.out → opened.read ≡ out_name other.out → theirs.written ≡ out_name other.out → theirs.read ≡ out_name mine.out →
       AttachesFirst out_name in_name o end peer (record { answer = answer; told = told; opened = opened; other = record { halves = other; written = theirs.written; read = theirs.read } }) h k
-  attaches_first crossed stays keeps joined begins refuses came tw tr ow or yw yr = record {
+  attaches_first crossed stays keeps joined begins refuses came heard tw tr ow or yw yr = record {
     gets = λ n past. subst (λ (x : Held N). Gets n o (x ∷ []) h k) held_is (attach_gets o (held_with out_name in_name end mine) h m k stays keeps joined begins n past);
     refuses = subst (λ (kind : Option Kind). MayRefuse kind answer) (stays.now.kinds o) refuses;
     opened = ap (λ (x : N). let y : Names N = record { written = x; read = opened.read } in y) (ow ∙ sym tw) ∙ ap (λ (x : N). let y : Names N = record { written = told.written; read = x } in y) (or ∙ sym tr);
@@ -35,6 +35,7 @@ module _ {N O I : Type 0} (out_name : O → N) (in_name : I → N) (o : ℕ) (en
     active = attach_active o (held_with out_name in_name end mine) m k joined begins;
     turned = record { turns = begins.turns ∙ keeps.turns ∙ sym (append-nil h.turns); sealed = begins.sealed ∙ keeps.sealed ∙ sym (append-nil h.sealed) };
     came = came ∙ ap (λ (js : List (Joining N)). js ++ joining_with out_name in_name end peer mine answer ∷ []) keeps.joined ∙ ap (λ (j : Joining N). h.joined ++ j ∷ []) joins_is;
+    heard = heard;
   }
     where
       held_is : held_with out_name in_name end mine ≡ held_first end result

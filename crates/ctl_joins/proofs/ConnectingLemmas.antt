@@ -252,6 +252,7 @@ module _ {N O I : Type 0} (s : State (Load N O I)) (h : Holding N) (o : Owners) 
               identity_is (turns_on [] _ h k last attaches.turned
               (subst (λ (p : Place). TurnsBy (turn_at (end_of pair.0 true) p (place_of (greet end.answer (end_of pair.0 true) (open_pair (end_of pair.0 true) (PipeBind (end_of pair.0 false) identity) (draws o.first.0 o.last.0 (with_hold o.first.0 (IsJoined at pair.0 None) w.control)))) (end_of pair.0 true))) k last)
               may_join.mine j.moves.turned));
+          heard = j.moves.heard ∙ attaches.heard;
           came = j.moves.joined ∙ attaches.came ∙ ap (λ (js : List (Joining N)). h.joined ++ js) (sym joined);
           places = λ i.
               (let now = ap (λ (l : List Belongings). ends_room l i) (j.lists ∙ ap (λ (n : ℕ). with_ends (with_last (end_of pair.0 true)) n held.objects.lists) mine) in

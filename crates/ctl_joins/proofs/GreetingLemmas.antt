@@ -19,7 +19,7 @@ use Rattle.zq_base.specs.declared.attached.Attached.TheVariants.{Yes}
 use Rattle.control_rows.proofs.ListLemmas.{never}
 use Rattle.control_laws.proofs.AskLemmas.{end_self}
 use Rattle.ctl_holder.specs.declared.load.Load.{Load}
-use Rattle.ctl_holder.specs.Holding.{Holding, Seals, Stays, TurnsTo, has_end, is_state}
+use Rattle.ctl_holder.specs.Holding.{HearsNone, Holding, Seals, Stays, TurnsTo, has_end, is_state}
 use Rattle.ctl_holder.specs.Turns.{TurnsBy, turn_at}
 use Rattle.ctl_ends.specs.Turning.{PutsLoaded}
 use Rattle.ctl_ends.proofs.MailLemmas.{puts_not, puts_sent}
@@ -80,6 +80,7 @@ module _ {N O I : Type 0} (s : State (Load N O I)) (h : Holding N) (o : ℕ) (fi
           others = λ i d here other. refl;
           turned = subst (λ (ts : List (EndId × EndState)). TurnsBy ts h h) (sym (still_at first (place_of w.control first))) (turns_same h);
           joined = refl;
+          heard = refl;
         };
       })
     where
@@ -103,11 +104,11 @@ module _ {N O I : Type 0} (s : State (Load N O I)) (h : Holding N) (o : ℕ) (fi
     pub tell_room : tells commands ≡ true → 0 < (mail_at mid.boxes (slot_of mid (owner_at mid.pairs (other_end first)).0)).spare
     tell_room is_told = subst (λ (b : List (Mail (Command (Load N O I)))). 0 < (mail_at b slot).spare) (sym boxes) room_there
 
-    pub asked : (out_name : O → N) (in_name : I → N) (m k : Holding N) (t : State (Load N O I)) → Stays o h m → TurnsTo first AskedOnce h m → Stays o m k → Seals first m k → mid.objects.lists ≡ s.objects.lists →
+    pub asked : (out_name : O → N) (in_name : I → N) (m k : Holding N) (t : State (Load N O I)) → Stays o h m → TurnsTo first AskedOnce h m → Stays o m k → Seals first m k → HearsNone h k → mid.objects.lists ≡ s.objects.lists →
         Stands t (tell_other commands first (stepped (Asked reason false) first w.control)) →
         (tells commands ≡ true → t ≡ sent_to (slot_of mid (owner_at mid.pairs (other_end first)).0) (letter_for (owner_at mid.pairs (other_end first)) (told_word commands (other_end first)) None) mid) →
         Asks out_name in_name w.control (ask reason false first w.control) o first s t h k
-    asked out_name in_name m k t set turns sealed seals lists now sent = record {
+    asked out_name in_name m k t set turns sealed seals heard lists now sent = record {
       stands = subst (λ (b : Bool). Stands t (if b then happens (Asked reason false) first w.control else w.control)) (sym (ap is_here w.there))
           (subst (λ (x : EndCommands). Stands t (tell_other x first (stepped (Asked reason false) first w.control))) told now);
       stays = (let both = turned_told o first h m k false set (turned_stays o first m k sealed) in record { now = both.now; writers = both.writers });
@@ -122,6 +123,7 @@ module _ {N O I : Type 0} (s : State (Load N O I)) (h : Holding N) (o : ℕ) (fi
             (subst (λ (p : Place). TurnsBy (turn_at first (At Active) p) h k) (sym place_is)
             (record { turns = moved.turns ∙ ap (λ (x : EndState). h.turns ++ (if is_state x AskedOnce then [] else (first, AskedOnce) ∷ [])) w.state; sealed = moved.sealed }));
         joined = moved.joined;
+        heard = heard;
       };
     }
       where

@@ -114,6 +114,7 @@ module _ {N O I : Type 0} (out_name : O → N) (in_name : I → N) (s : State (L
         turned = subst (λ (ts : List (EndId × EndState)). TurnsBy ts h k)
             (ap (λ (p : Place). turn_at first p last) may_greet.there ∙ sym (from_unmade first last) ∙ sym (ap (λ (p : Place). turn_at first p last) w.mine)) asks.moves.turned;
         joined = asks.moves.joined;
+        heard = asks.moves.heard;
       };
     }
       where

@@ -3,7 +3,7 @@ use Rattle.std.specs.Prelude.{◌≡◌, ◌≤◌, ◌∷◌, [], ℕ, List}
 use Rattle.zq_base.specs.declared.ids.EndId.{EndId}
 use Rattle.spec_control.specs.declared.end.EndState.TheVariants.{Active}
 use Rattle.control_held.specs.Held.{Held}
-use Rattle.ctl_holder.specs.Holding.{Holding, JoinsBy, MayRefuse}
+use Rattle.ctl_holder.specs.Holding.{HearsNone, Holding, JoinsBy, MayRefuse}
 use Rattle.ctl_holder.specs.Turns.{TurnsBy}
 use Rattle.ctl_joins.specs.declared.attaching.FirstEnd.{FirstEnd}
 use Rattle.ctl_joins.specs.Joined.{Gets}
@@ -26,3 +26,4 @@ module _ {N O I : Type 0} (out_name : O → N) (in_name : I → N) where
     pub active : k.state end ≡ Active
     pub turned : TurnsBy [] h k
     pub came : JoinsBy (joins_named end peer f.answer f.told ∷ []) h k
+    pub heard : HearsNone h k

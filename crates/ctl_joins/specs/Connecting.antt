@@ -12,7 +12,7 @@ use Rattle.spec_control.specs.After.{with_hold}
 use Rattle.spec_control.specs.Control.{Control, draws, end_of, greet, next_pair, open_pair, place_of}
 use Rattle.zq_base.specs.declared.ids.EndId.{EndId}
 use Rattle.ctl_holder.specs.declared.load.Load.{Load}
-use Rattle.ctl_holder.specs.Holding.{Holding, JoinsBy, MayRefuse}
+use Rattle.ctl_holder.specs.Holding.{HearsNone, Holding, JoinsBy, MayRefuse}
 use Rattle.ctl_holder.specs.Lent.{HasAll}
 use Rattle.ctl_holder.specs.Turns.{TurnsBy, turn_at}
 use Rattle.ctl_ends.specs.Turning.{PutsLoaded}
@@ -77,5 +77,6 @@ module _ {N O I : Type 0} where
     pub mine : place_of (connected_now c o at pair.0 answer) (end_of pair.0 true) ≡ At (k.state (end_of pair.0 true))
     pub turned : TurnsBy (turn_at (end_of pair.0 true) Unmade (place_of (connected_now c o at pair.0 answer) (end_of pair.0 true))) h k
     pub came : JoinsBy notes.joined.items h k
+    pub heard : HearsNone h k
     -- an end more fits into the other socket's list
     pub places : (i : ℕ) → (belongings_at s.objects.lists i).ends.spare + cond (o.last.0 == i) 1 0 ≤ (belongings_at t.objects.lists i).ends.spare

@@ -8,7 +8,7 @@ use Rattle.spec_control.specs.Stage.{was_asked}
 use Rattle.spec_control.specs.Rows.{obj}
 use Rattle.spec_control.specs.Control.{Control, is_end, owner_of, place_of}
 use Rattle.ctl_holder.specs.declared.load.Load.{Load}
-use Rattle.ctl_holder.specs.Holding.{Holding, Stays, has_end}
+use Rattle.ctl_holder.specs.Holding.{HearsNone, Holding, Stays, has_end}
 use Rattle.ctl_holder.specs.Turns.{TurnsBy, turn_at}
 use Rattle.ctl_ends.specs.Turning.{PutsLoaded}
 use Rattle.ctl_state.specs.declared.state.State.{State}
@@ -16,12 +16,13 @@ use Rattle.ctl_state.specs.Boxes.{mail_at}
 use Rattle.ctl_state.specs.Stands.{Stands}
 
 module _ {N : Type 0} where
-  -- of its ends one went from one place to another, and it was told so; none joined
+  -- of its ends one went from one place to another, and it was told so; none joined, and of objects it was told nothing
   pub record MovesOne (e : EndId) (was now : Place) (h k : Holding N) : Type 0 where
     pub mine : now ≡ At (k.state e)
     pub others : (i : ℕ) (d : EndId) → has_end d (k.ends i) ≡ true → is_end d e ≡ false → k.state d ≡ h.state d
     pub turned : TurnsBy (turn_at e was now) h k
     pub joined : k.joined ≡ h.joined
+    pub heard : HearsNone h k
 
 module _ {N O I : Type 0} where
   -- an end was just attached, its owner was not asked, its connect was not struck, and there is room for its asking at the other end's owner

@@ -1,5 +1,5 @@
 ghost use Rattle.std.specs.Prelude.{◌≡◌, true, false, IfOk, OnErr};
-ghost use Rattle.ctl_holder.specs.Holding.{has_end, IsCapacity, KeepsTurns, Stays};
+ghost use Rattle.ctl_holder.specs.Holding.{HearsNone, has_end, IsCapacity, KeepsTurns, Stays};
 ghost use Rattle.ctl_joins.specs.Attaching.{AttachesFirst};
 
 use ctl_holder::{Holder, Made, NamedHalves};
@@ -69,6 +69,7 @@ where
         (H.holding holder.old) (H.holding holder.new)) }
     ensures err { OnErr result (Stays o.0 (H.holding holder.old) (H.holding holder.new)) }
     ensures keeps { OnErr result (KeepsTurns (H.holding holder.old) (H.holding holder.new)) }
+    ensures heard { OnErr result (HearsNone (H.holding holder.old) (H.holding holder.new)) }
 {
     let made = holder.make(alloc, o, capacities.written, capacities.read, mine, other)?;
     let Made { mine, other } = made;

@@ -1,6 +1,6 @@
 ghost use Rattle.std.specs.Prelude.{◌≡◌, ◌<◌, ◌+◌, ◌^◌, length, true, OnOk, OnErr, IfOk};
 ghost use Rattle.spec_control.specs.Control.{draws};
-ghost use Rattle.ctl_holder.specs.Holding.{KeepsTurns, Stays};
+ghost use Rattle.ctl_holder.specs.Holding.{HearsNone, KeepsTurns, Stays};
 ghost use Rattle.ctl_state.specs.Stands.{Updates};
 ghost use Rattle.ctl_joins.specs.Connecting.{Connects, HasDrawnHeld, MayConnect, with_hold_room};
 ghost use Rattle.ctl_joins.specs.Room.{HavePlaces, with_drawn};
@@ -68,6 +68,7 @@ where
     ensures stays { OnErr result
         (Stays o.first.0 (H.holding holder.old) (H.holding holder.new)) }
     ensures keeps { OnErr result (KeepsTurns (H.holding holder.old) (H.holding holder.new)) }
+    ensures heard { OnErr result (HearsNone (H.holding holder.old) (H.holding holder.new)) }
 {
     let said = papers_of(state, alloc, o)?;
     let sizes = capacities_of(state, o);

@@ -6,13 +6,11 @@ use Rattle.spec_control.specs.declared.request.Req.{Req}
 use Rattle.spec_control.specs.declared.request.Req.TheVariants.{Socket as MakeSocket, AskTerm, Bind, Connect, Unbind, Disconnect, Close, Accepted, Shaken, AskEnd, AskOver, OutputOver}
 use Rattle.ctl_holder.specs.declared.given.Given.{Given}
 use Rattle.ctl_holder.specs.declared.halves.Halves.{Halves}
-use Rattle.ctl_holder.specs.Holding.{AreMet}
+pub use Rattle.ctl_holder.specs.TakingOver.{AreDistinct}
+use Rattle.ctl_holder.specs.TakingOver.{AreGivenWith}
+use Rattle.msg_pipe.specs.Known.{Known}
 
 module _ {N : Type 0} where
-  -- each pipe has a name of its own, wherever names tell pipes apart; a pipe is known by the end that writes it
-  abbrev pub AreDistinct : (exact : Bool) → (named : EndId → Option N) → Type 0
-  AreDistinct exact named = exact ≡ true → (d e : EndId) (n : N) → named d ≡ Some n → named e ≡ Some n → d ≡ e
-
   -- a pipe that has a name keeps it
   abbrev pub KeepsNames : (old new : EndId → Option N) → Type 0
   KeepsNames old new = (e : EndId) (n : N) → old e ≡ Some n → new e ≡ Some n
@@ -36,14 +34,15 @@ is_close (AskEnd e reason) = false
 is_close (AskOver o) = false
 is_close (OutputOver o) = false
 
-module _ {N O I : Type 0} where
-  -- of ends of closed sockets that are on their way, a close sends those of its socket behind the others; those that are said to have met their delimiters have met them
-  pub record SendsEnds (ended : I → Bool) (request : Req) (old new : List (Given N O I)) : Type 0 where
+module _ {P N O I : Type 0} (K : Known P O I N) where
+  -- of ends of closed sockets that are on their way, a close sends those of its socket behind the others, with halves of these pipes
+  pub record SendsEnds (pipes : P) (request : Req) (old new : List (Given N O I)) : Type 0 where
     pub ends : List (Given N O I)
     pub behind : new ≡ old ++ ends
-    pub met : AreMet ended ends
+    pub given : AreGivenWith K pipes ends
     pub others : is_close request ≡ false → ends ≡ []
 
+module _ {N O I : Type 0} where
   -- the first of them were taken over
   pub record TakesEnds (old new : List (Given N O I)) : Type 0 where
     pub ends : List (Given N O I)

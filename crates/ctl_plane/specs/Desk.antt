@@ -1,6 +1,7 @@
 -- What a caller's moments are after a call of its desk (own choice).
 use Rattle.std.specs.Prelude.{◌≡◌, ◌⊎◌, ℕ, Bool, true, false, List, [], ◌∷◌, ◌++◌, Some, Option, None, flat_map}
 use Rattle.zq_base.specs.declared.ids.EndId.{EndId}
+use Rattle.zq_base.specs.declared.ids.Settled.{Settled}
 use Rattle.zq_base.specs.declared.ids.SlotId.{SlotId}
 use Rattle.spec_control.specs.declared.letter.Letter.{Letter}
 use Rattle.spec_control.specs.declared.request.Req.{Req}
@@ -23,9 +24,12 @@ use Rattle.control_held.specs.Moments.{Moment, items_in, left_after, left_by, fi
 use Rattle.ctl_plane.specs.Kinds.{kind_after}
 use Rattle.ctl_plane.specs.declared.delivery.Delivery.{Delivery}
 use Rattle.ctl_plane.specs.declared.delivery.Delivery.TheVariants.{Done, Empty}
-use Rattle.ctl_holder.specs.Holding.{Holding, JoinsBy, has_end}
+use Rattle.ctl_holder.specs.Counts.{CountsIn}
+use Rattle.ctl_holder.specs.Holding.{HearsMore, Holding, JoinsBy, has_end}
 use Rattle.ctl_holder.specs.Joins.{KeepsObjects, came_in}
 use Rattle.ctl_holder.specs.Lent.{has_writer}
+use Rattle.ctl_holder.specs.Heard.{heard_in}
+use Rattle.ctl_holder.specs.declared.notice.Notice.{Notice}
 use Rattle.ctl_holder.specs.Turns.{TurnsBy, turned_in}
 
 -- an end of an object that the holder has
@@ -63,12 +67,31 @@ module _ {N S : Type 0} where
     pub one : (m : Moment N S) → new ≡ old ++ m ∷ [] → KeepsObjects m.found (left_by m) before now
     pub none : new ≡ old → (i : ℕ) → (now.holds i ≡ before.holds i) × (now.kind i ≡ before.kind i)
 
+  -- what the holder of an object is told of it in an item
+  abbrev pub heard_with : Item N S → (before now : Control) → List Notice
+  heard_with (Event entry) before now = heard_in entry.did before now
+  heard_with (Seen sight) before now = []
+
+  -- in these moments more it heard what they tell of its objects: their Stops, their Terms, and that they have ended
+  abbrev pub HearsWith : (old new : List (Moment N S)) → (before now : Holding N) → Type 0
+  HearsWith old new before now = (more : List (Moment N S)) → new ≡ old ++ more → HearsMore (flat_map (λ m. heard_with m.item m.found (left_by m)) more) before now
+
   -- it has what the moments say, once it was told of those that are new
   pub record KeepsUp (by : ℕ) (old new : List (Moment N S)) (before now : Holding N) : Type 0 where
     pub has : HasWhatTheySay by new now
     pub turned : TurnsWith old new before now
     pub came : JoinsWith old new before now
     pub objects : KeepsObjectsIn old new before now
+    pub heard : HearsWith old new before now
+
+  -- by a holder that had this, an item that delivers an acknowledgement tells the counts of the pipe that its end read
+  abbrev pub counts_with : {O : Type 0} → (out_name : O → N) → (counts : EndId → O → Settled) → Holding N → Item N S → Type 0
+  counts_with out_name counts h (Event entry) = CountsIn out_name counts h entry.did
+  counts_with out_name counts h (Seen sight) = Unit {0}
+
+  -- the same of the item of a moment more
+  abbrev pub CountsWith : {O : Type 0} → (out_name : O → N) → (counts : EndId → O → Settled) → (old new : List (Moment N S)) → Holding N → Type 0
+  CountsWith out_name counts old new h = (m : Moment N S) → new ≡ old ++ m ∷ [] → counts_with out_name counts h m.item
 
   -- the mailbox of an object, as the moments left it
   abbrev pub slot_after : ℕ → List (Moment N S) → SlotId

@@ -1,3 +1,4 @@
 pub mod Kinds
 pub mod Coming
+pub mod Asking
 pub mod Desk

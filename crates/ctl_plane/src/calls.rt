@@ -1,4 +1,5 @@
-ghost use Rattle.std.specs.Prelude.{◌≡◌, ℕ, true, IfOk, OnErr};
+ghost use Rattle.std.specs.Prelude.{◌≡◌, ◌++◌, ℕ, List, true, false, IfOk, OnErr};
+ghost use Rattle.control_held.specs.Moments.{Moment};
 ghost use Rattle.ctl_holder.specs.declared.halves.Halves.{Halves};
 
 use crate::delivery::Delivery;
@@ -21,9 +22,12 @@ pub trait Calls<P: Pipes> {
     ghost use Rattle.ctl_holder.specs.Holding.{Holding};
     ghost use Rattle.control_held.specs.Moments.{items_in};
     ghost use Rattle.ctl_holder.specs.Holding.{has_end};
+    ghost use Rattle.ctl_plane.specs.Asking.{IsInproc};
     ghost use Rattle.ctl_plane.specs.Coming.{AreDistinct, BindsFit, KeepsNames};
     ghost use Rattle.ctl_plane.specs.Desk.{HasWhatTheySay, KeepsUp, AsksOnce, GivesOrNot, DelimitsOrNot};
-    ghost use Rattle.ctl_plane.specs.Desk.{slot_after};
+    ghost use Rattle.ctl_plane.specs.Desk.{CountsWith, slot_after};
+    ghost use Rattle.zq_base.specs.declared.ids.EndId.{EndId};
+    ghost use Rattle.zq_base.specs.declared.ids.Settled.{Settled};
 
     /// The number of the socket.
     ghost owner: { Self → ℕ };
@@ -37,8 +41,14 @@ pub trait Calls<P: Pipes> {
     /// Halves that may join its ends.
     ghost may_join: { Self → P → Halves P.Out P.In → Type 0 };
 
+    /// What joining the half by which an end reads with this writing half of its pipe tells.
+    ghost counts: { Self → P → EndId → P.Out → Settled };
+
     /// What a call leaves of the pipes of others.
     ghost leaves: { Self → Self → P → P → Type 0 };
+
+    /// What these moments more did to the state of its kind.
+    ghost passes: { Self → Self → List (Moment P.Name P.Story) → Type 0 };
 
     /// Binds a name (zmq_bind(3)).
     fn bind<D: Desk<P>>(
@@ -52,6 +62,7 @@ pub trait Calls<P: Pipes> {
         requires held { (holding self.old).holds (owner self.old) ≡ true }
         requires has { HasWhatTheySay (D.number desk.old) (D.moments desk.old) (holding self.old) }
         requires fits { fits self.old pipes.old }
+        requires inproc { D.serves ≡ false → IsInproc at.now }
         ensures ok { IfOk result (λ reply. AsksOnce (D.number desk.old)
             (Bind (id (owner self.old)) at.now) reply (D.moments desk.old) (D.moments desk.new)) }
         ensures err { OnErr result (D.moments desk.new ≡ D.moments desk.old) }
@@ -62,7 +73,9 @@ pub trait Calls<P: Pipes> {
         ensures same { (owner self.new ≡ owner self.old)
             × (D.number desk.new ≡ D.number desk.old) }
         ensures fits { fits self.new pipes.new }
-        ensures others { leaves self.old self.new pipes.old pipes.new };
+        ensures others { leaves self.old self.new pipes.old pipes.new }
+        ensures passes { (more : List (Moment P.Name P.Story)) →
+            D.moments desk.new ≡ D.moments desk.old ++ more → passes self.old self.new more };
 
     /// Connects to a name (zmq_connect(3)).
     fn connect<D: Desk<P>>(
@@ -76,6 +89,7 @@ pub trait Calls<P: Pipes> {
         requires held { (holding self.old).holds (owner self.old) ≡ true }
         requires has { HasWhatTheySay (D.number desk.old) (D.moments desk.old) (holding self.old) }
         requires fits { fits self.old pipes.old }
+        requires inproc { D.serves ≡ false → IsInproc at.now }
         ensures ok { IfOk result (λ reply. AsksOnce (D.number desk.old)
             (Connect (id (owner self.old)) at.now) reply (D.moments desk.old) (D.moments desk.new)) }
         ensures err { OnErr result (D.moments desk.new ≡ D.moments desk.old) }
@@ -86,7 +100,9 @@ pub trait Calls<P: Pipes> {
         ensures same { (owner self.new ≡ owner self.old)
             × (D.number desk.new ≡ D.number desk.old) }
         ensures fits { fits self.new pipes.new }
-        ensures others { leaves self.old self.new pipes.old pipes.new };
+        ensures others { leaves self.old self.new pipes.old pipes.new }
+        ensures passes { (more : List (Moment P.Name P.Story)) →
+            D.moments desk.new ≡ D.moments desk.old ++ more → passes self.old self.new more };
 
     /// Strikes the first bind to a name (zmq_unbind(3)).
     fn unbind<D: Desk<P>>(
@@ -110,7 +126,9 @@ pub trait Calls<P: Pipes> {
         ensures same { (owner self.new ≡ owner self.old)
             × (D.number desk.new ≡ D.number desk.old) }
         ensures fits { fits self.new pipes.new }
-        ensures others { leaves self.old self.new pipes.old pipes.new };
+        ensures others { leaves self.old self.new pipes.old pipes.new }
+        ensures passes { (more : List (Moment P.Name P.Story)) →
+            D.moments desk.new ≡ D.moments desk.old ++ more → passes self.old self.new more };
 
     /// Strikes the first connect to a name (zmq_disconnect(3)).
     fn disconnect<D: Desk<P>>(
@@ -134,7 +152,9 @@ pub trait Calls<P: Pipes> {
         ensures same { (owner self.new ≡ owner self.old)
             × (D.number desk.new ≡ D.number desk.old) }
         ensures fits { fits self.new pipes.new }
-        ensures others { leaves self.old self.new pipes.old pipes.new };
+        ensures others { leaves self.old self.new pipes.old pipes.new }
+        ensures passes { (more : List (Moment P.Name P.Story)) →
+            D.moments desk.new ≡ D.moments desk.old ++ more → passes self.old self.new more };
 
     /// Processes the oldest command of the socket, or finds its mailbox empty. Want of memory leaves
     /// the command where it was.
@@ -157,6 +177,8 @@ pub trait Calls<P: Pipes> {
         ensures ok { IfOk result (λ found. GivesOrNot (D.number desk.old)
             (slot_after (owner self.old) (D.moments desk.old)) found
             (D.moments desk.old) (D.moments desk.new)) }
+        ensures counts { CountsWith P.known.out_name (counts self.old pipes.old)
+            (D.moments desk.old) (D.moments desk.new) (holding self.old) }
         ensures err { OnErr result (D.moments desk.new ≡ D.moments desk.old) }
         ensures given { D.given desk.new ≡ D.given desk.old }
         ensures names { KeepsNames (D.named desk.old) (D.named desk.new) }
@@ -165,7 +187,9 @@ pub trait Calls<P: Pipes> {
         ensures same { (owner self.new ≡ owner self.old)
             × (D.number desk.new ≡ D.number desk.old) }
         ensures fits { fits self.new pipes.new }
-        ensures others { leaves self.old self.new pipes.old pipes.new };
+        ensures others { leaves self.old self.new pipes.old pipes.new }
+        ensures passes { (more : List (Moment P.Name P.Story)) →
+            D.moments desk.new ≡ D.moments desk.old ++ more → passes self.old self.new more };
 
     /// Tells that one of its ends is at the delimiter of the pipe that it reads. Answers whether the
     /// end's state is one in which that is looked at; else nothing happens.
@@ -185,5 +209,7 @@ pub trait Calls<P: Pipes> {
         ensures same { (owner self.new ≡ owner self.old)
             × (D.number desk.new ≡ D.number desk.old) }
         ensures fits { fits self.new pipes.new }
-        ensures others { leaves self.old self.new pipes.old pipes.new };
+        ensures others { leaves self.old self.new pipes.old pipes.new }
+        ensures passes { (more : List (Moment P.Name P.Story)) →
+            D.moments desk.new ≡ D.moments desk.old ++ more → passes self.old self.new more };
 }

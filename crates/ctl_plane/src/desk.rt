@@ -1,4 +1,4 @@
-ghost use Rattle.std.specs.Prelude.{◌≡◌, ℕ, Bool, true, List, Option, Some, OnErr, IfOk};
+ghost use Rattle.std.specs.Prelude.{◌≡◌, ℕ, Bool, true, false, List, Option, Some, OnErr, IfOk};
 ghost use Rattle.control_held.specs.Moments.{Moment};
 ghost use Rattle.zq_base.specs.declared.ids.EndId.{EndId};
 ghost use Rattle.ctl_holder.specs.declared.given.Given.{Given};
@@ -20,10 +20,11 @@ pub trait Desk<P: Pipes> {
     ghost use Rattle.control_held.specs.Moments.{items_in, left_after};
     ghost use Rattle.control_held.specs.Has.{has_after};
     ghost use Rattle.spec_control.specs.Rows.{obj};
-    ghost use Rattle.ctl_holder.specs.Holding.{AreMet};
-    ghost use Rattle.ctl_plane.specs.Coming.{AreDistinct, BindsFit, KeepsNames, SendsEnds, TakesEnds};
+    ghost use Rattle.ctl_holder.specs.TakingOver.{AreDistinct, MayTakeFirst};
+    ghost use Rattle.ctl_plane.specs.Asking.{HasMarks, IsOfSockets};
+    ghost use Rattle.ctl_plane.specs.Coming.{BindsFit, KeepsNames, SendsEnds, TakesEnds, is_close};
     ghost use Rattle.ctl_plane.specs.Desk.{HasWhatTheySay, KeepsUp, AsksOnce, GivesOrNot, DelimitsOrNot};
-    ghost use Rattle.ctl_plane.specs.Desk.{ReapsOrNot, LooksOrNot, MayTakeFrom, HoldsEnd};
+    ghost use Rattle.ctl_plane.specs.Desk.{CountsWith, ReapsOrNot, LooksOrNot, MayTakeFrom, HoldsEnd};
 
     /// The caller's number.
     ghost number: { Self → ℕ };
@@ -47,6 +48,9 @@ pub trait Desk<P: Pipes> {
     /// The ends of closed sockets that are on their way to the reaper.
     ghost given: { Self → List (Given P.Name P.Out P.In) };
 
+    /// Whether listeners and sessions may ask it, and sockets may bind and connect over tcp.
+    ghost serves: { Bool };
+
     /// The mailbox of an object that this caller has.
     fn slot(&self, object: ObjId) -> SlotId
         requires has { has_after object.0 (items_in (moments self.now)) ≡ Some (number self.now) }
@@ -60,11 +64,14 @@ pub trait Desk<P: Pipes> {
         holder: &mut H,
     ) -> Result<Reply, AllocError>
         requires may { MayAskOwn (items_in (moments self.old)) request }
+        requires gives { is_close request ≡ true → H.gives ≡ true }
+        requires options { HasMarks request }
+        requires sockets { serves ≡ false → IsOfSockets request }
         requires lent { (i : ℕ) → asker request ≡ Some i → (H.holding holder.old).holds i ≡ true }
         requires has { HasWhatTheySay (number self.old) (moments self.old) (H.holding holder.old) }
         ensures ok { IfOk result (λ reply.
             AsksOnce (number self.old) request reply (moments self.old) (moments self.new)) }
-        ensures given { IfOk result (λ _. SendsEnds (H.ended holder.new) request
+        ensures given { IfOk result (λ _. SendsEnds P.known (H.pipes holder.new) request
             (given self.old) (given self.new)) }
         ensures err { OnErr result ((moments self.new ≡ moments self.old)
             × (given self.new ≡ given self.old)) }
@@ -91,6 +98,8 @@ pub trait Desk<P: Pipes> {
             (coming self.old slot.0) (H.fits holder.old) }
         ensures ok { IfOk result (λ found.
             GivesOrNot (number self.old) slot found (moments self.old) (moments self.new)) }
+        ensures counts { CountsWith P.known.out_name (H.counts holder.old)
+            (moments self.old) (moments self.new) (H.holding holder.old) }
         ensures err { OnErr result (moments self.new ≡ moments self.old) }
         ensures given { given self.new ≡ given self.old }
         ensures names { KeepsNames (named self.old) (named self.new) }
@@ -115,9 +124,11 @@ pub trait Desk<P: Pipes> {
         requires fits { (m i : ℕ) → served self.old m i ≡ true →
             BindsFit P.known.out_name P.known.in_name (named self.old) (coming self.old m)
             (H.fits holder.old) }
-        requires met { AreMet (H.ended holder.old) (given self.old) }
+        requires takes { MayTakeFirst (H.may_take holder.old) (given self.old) }
         ensures ok { IfOk result (λ found.
             ReapsOrNot (number self.old) found (moments self.old) (moments self.new)) }
+        ensures counts { CountsWith P.known.out_name (H.counts holder.old)
+            (moments self.old) (moments self.new) (H.holding holder.old) }
         ensures err { OnErr result ((moments self.new ≡ moments self.old)
             × (given self.new ≡ given self.old)) }
         ensures given { TakesEnds (given self.old) (given self.new) }

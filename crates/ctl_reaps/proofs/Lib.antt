@@ -1,1 +1,2 @@
 pub mod ReapLemmas
+pub mod ApartLemmas

@@ -47,11 +47,11 @@ use Rattle.ctl_ends.proofs.TurnedLemmas.{in_none}
 use Rattle.ctl_terms.proofs.HolderLemmas.{has_same}
 use Rattle.ctl_reaps.specs.Reaping.{MayReap}
 
-all_of_map : {X Y : Type 0} (P : Y → Type 0) (f : X → Y) (xs : List X) → All P (map f xs) → All (λ x. P (f x)) xs
+pub all_of_map : {X Y : Type 0} (P : Y → Type 0) (f : X → Y) (xs : List X) → All P (map f xs) → All (λ x. P (f x)) xs
 all_of_map P f [] all = All-nil (λ x. P (f x))
 all_of_map P f (x ∷ xs) all = All-cons (λ y. P (f y)) x xs (All-head P (f x) (map f xs) all) (all_of_map P f xs (All-tail P (f x) (map f xs) all))
 
-map_of_map : {X Y Z : Type 0} (f : Y → Z) (g : X → Y) (xs : List X) → map f (map g xs) ≡ map (λ x. f (g x)) xs
+pub map_of_map : {X Y Z : Type 0} (f : Y → Z) (g : X → Y) (xs : List X) → map f (map g xs) ≡ map (λ x. f (g x)) xs
 map_of_map f g [] = refl
 map_of_map f g (x ∷ xs) = ap (λ ys. f (g x) ∷ ys) (map_of_map f g xs)
 
@@ -132,7 +132,7 @@ module _ {N O I : Type 0} (out_name : O → N) (in_name : I → N) (s : State (L
       ∙ ap (λ (js : List (Joining N)). map (λ (j : Joining N). let x : Joins = record { end = j.end; peer = j.peer; met = j.met } in x) js) (sym w.reaps.ends.listed)
       ∙ w.reaps.all.joined
 
-  ends_are : map (λ (g : Given N O I). g.end) parting.ends.items ≡ here
+  pub ends_are : map (λ (g : Given N O I). g.end) parting.ends.items ≡ here
   ends_are =
       sym (map_of_map (λ (x : Joins). x.end) (λ (g : Given N O I). let x : Joins = record { end = g.end; peer = []; met = g.met } in x) parting.ends.items)
       ∙ ap (λ (xs : List Joins). map (λ (x : Joins). x.end) xs) as_joins
@@ -147,7 +147,7 @@ module _ {N O I : Type 0} (out_name : O → N) (in_name : I → N) (s : State (L
       of [] = All-nil (λ (x : Joins). x.met ≡ met_in (place_of w.control x.end) (w.control.reasons x.end))
       of (e ∷ es) = All-cons (λ (x : Joins). x.met ≡ met_in (place_of w.control x.end) (w.control.reasons x.end)) (taken_over w.control e) (map (λ d. taken_over w.control d) es) refl (of es)
 
-  own_ends : (i : ℕ) → All (λ e. owner_of w.control e ≡ i) (filter (λ e. is_here (place_of w.control e)) (ends_of i w.control))
+  pub own_ends : (i : ℕ) → All (λ e. owner_of w.control e ≡ i) (filter (λ e. is_here (place_of w.control e)) (ends_of i w.control))
   own_ends i =
       All-filter (λ e. is_here (place_of w.control e)) (λ e. owner_of w.control e ≡ i) (ends_of i w.control)
       (All-weaker (λ e. (owner_of w.control e == i) ≡ true) (λ e. owner_of w.control e ≡ i) (λ e is. eqb-true (owner_of w.control e) i is) (ends_of i w.control) (filter_passes (λ e. owner_of w.control e == i) w.control.attached))

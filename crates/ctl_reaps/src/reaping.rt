@@ -1,5 +1,6 @@
-ghost use Rattle.std.specs.Prelude.{◌≡◌, true};
-ghost use Rattle.ctl_holder.specs.Holding.{AreMet};
+ghost use Rattle.std.specs.Prelude.{◌≡◌, true, map};
+ghost use Rattle.ctl_holder.specs.Holding.{HearsNone, held_given};
+ghost use Rattle.ctl_holder.specs.TakingOver.{ComeApart};
 ghost use Rattle.ctl_reaps.specs.Reaping.{MayReap, TakesOver};
 
 use ctl_holder::{Holder, Load, Parting};
@@ -21,12 +22,16 @@ where
     requires may { MayReap P.known.out_name P.known.in_name
         state.old (H.holding holder.old) socket.0 parting }
     requires reaps { H.reaps ≡ true }
-    requires met { AreMet (H.ended holder.old) parting.ends.items }
+    requires takes { H.may_take holder.old parting.ends.items }
+    requires apart { ComeApart P.known.exact
+        (map (held_given P.known.out_name P.known.in_name) parting.ends.items)
+        (H.holding holder.old) }
     ensures joined { result ≡ parting.joined }
     ensures taken { (w : MayReap P.known.out_name P.known.in_name
         state.old (H.holding holder.old) socket.0 parting) →
         TakesOver P.known.out_name P.known.in_name w.names w.control socket.0
         state.old state.new (H.holding holder.old) (H.holding holder.new) }
+    ensures heard { HearsNone (H.holding holder.old) (H.holding holder.new) }
 {
     let Parting { ends, joined } = parting;
     holder.take_ends(socket, ends);

@@ -7,7 +7,7 @@ use Rattle.spec_control.specs.Control.{Control}
 use Rattle.control_laws.specs.Kept.{Kept}
 use Rattle.control_bounds.specs.Room.{to_come}
 use Rattle.ctl_holder.specs.declared.load.Load.{Load}
-use Rattle.ctl_holder.specs.Holding.{Holding}
+use Rattle.ctl_holder.specs.Holding.{HearsNone, Holding}
 use Rattle.ctl_holder.specs.Lent.{HasAll}
 use Rattle.ctl_state.specs.declared.state.State.{State}
 use Rattle.ctl_state.specs.Boxes.{mail_at}
@@ -15,11 +15,12 @@ use Rattle.ctl_state.specs.Lists.{belongings_at}
 use Rattle.ctl_state.specs.Stands.{Stands}
 use Rattle.ctl_ends.specs.Turning.{PutsLoaded}
 
--- no end joined a holder, and it has the objects that it had, with their kinds
+-- no end joined a holder, it has the objects that it had, with their kinds, and was told nothing of them
 pub record JoinsNone {N : Type 0} (old new : Holding N) : Type 0 where
   pub joined : new.joined ≡ old.joined
   pub holds : (i : ℕ) → new.holds i ≡ old.holds i
   pub kinds : (i : ℕ) → new.kind i ≡ old.kind i
+  pub heard : HearsNone old new
 
 -- an object has not ended, and there is room for all that may still come
 pub record MayStrike {L : Type 0} (s : State L) (i : ℕ) (c : Control) : Type 0 where

@@ -92,6 +92,7 @@ module _ {N O I : Type 0} (out_name : O → N) (in_name : I → N) (s : State (L
         output = λ i. refl;
         turned = subst (λ (ts : List (EndId × EndState)). TurnsBy ts h h) (sym (still_at e (place_of w.control e))) (turns_same h);
         joined = refl;
+        heard = refl;
       })
 
   pub asked_here : (t : State (Load N O I)) (k : Holding N) → is_here (place_of w.control e) ≡ true → Leads out_name in_name w.names (turn_of e w.control (happens (Asked reason delay) e w.control)) (happens (Asked reason delay) e w.control) s t h k →
@@ -150,6 +151,7 @@ module _ {N O I : Type 0} (out_name : O → N) (in_name : I → N) where
       output = λ i. refl;
       turned = turns_same h;
       joined = refl;
+      heard = refl;
     }
 
     -- the root has none
@@ -227,6 +229,7 @@ module _ {N O I : Type 0} (out_name : O → N) (in_name : I → N) where
             output = λ i. step.output i ∙ leads.output i;
             turned = turns_on (asked_turns reason delay (take n (ends_of at w.control)) w.control) (turn_of (slice_index_or xs n d) now (ask reason delay (slice_index_or xs n d) now)) h k l leads.turned step.turned;
             joined = step.joined ∙ leads.joined;
+            heard = step.heard ∙ leads.heard;
           }))
         where
           one_more : take (n + 1) (ends_of at w.control) ≡ take n (ends_of at w.control) ++ slice_index_or xs n d ∷ []

@@ -4,3 +4,4 @@ pub mod AskLemmas
 pub mod KeepLemmas
 pub mod TermLemmas
 pub mod AskedLemmas
+pub mod HeardLemmas

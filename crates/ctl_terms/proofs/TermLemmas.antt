@@ -1,5 +1,5 @@
 -- What an object needs to process its Term, one step after the other.
-use Rattle.std.specs.Prelude.{◌≡◌, ◌≢◌, ◌<◌, ◌≤◌, ◌+◌, ◌&&◌, ◌==◌, ◌⊎◌, ◌∷◌, [], ℕ, zero, suc, Bool, true, false, not, cond, List, Option, Some, IsTrue, length, slice_index_or, sum_by, if◌then◌else◌, refl}
+use Rattle.std.specs.Prelude.{◌≡◌, ◌≢◌, ◌<◌, ◌≤◌, ◌+◌, ◌&&◌, ◌==◌, ◌⊎◌, ◌++◌, ◌∷◌, [], ℕ, zero, suc, Bool, true, false, not, cond, List, Option, Some, IsTrue, length, slice_index_or, sum_by, if◌then◌else◌, refl}
 use Rattle.std.proofs.Common.{arith, sym, ap, ◌∙◌, subst, inl, inr}
 use Rattle.std.proofs.lemmas.Bool.{cases_eq, eq-eqb}
 use Rattle.std.proofs.lemmas.List.{get_or-set_same, get_or-set_other}
@@ -25,7 +25,9 @@ use Rattle.control_bounds.specs.Room.{up_to_come, row_to_come, for_slot, slots_o
 use Rattle.control_others.proofs.StayLemmas.{SameEnds, ends_on, children_told as children_stay, tried}
 use Rattle.own_tree.specs.Rows.{state_at, children_of, tree_of, may_be_asked, asked_from}
 use Rattle.ctl_holder.specs.declared.load.Load.{Load}
-use Rattle.ctl_holder.specs.Holding.{Holding, IsTold}
+use Rattle.ctl_holder.specs.declared.notice.Notice.{Notice}
+use Rattle.ctl_holder.specs.Holding.{HearsMore, HearsNone, Holding, IsTold}
+use Rattle.ctl_holder.specs.Heard.{heard_by, term_with}
 use Rattle.ctl_holder.specs.Lent.{HasAll}
 use Rattle.ctl_holder.specs.Turns.{turned_in, turned_over, TurnsBy}
 use Rattle.control_attached.specs.Once.{AreOnce}
@@ -46,6 +48,7 @@ use Rattle.ctl_terms.specs.Asking.{MayAskAll, asked_turns}
 use Rattle.ctl_terms.specs.Terming.{names_left, ends_asked, children_told, MayTerm, Turns}
 use Rattle.ctl_terms.proofs.AskLemmas.{room_led}
 use Rattle.ctl_terms.proofs.AskedLemmas.{asks_over}
+use Rattle.ctl_terms.proofs.HeardLemmas.{end_between}
 use Rattle.ctl_terms.proofs.KeepLemmas.{ended_now, told_kept, told_lives}
 use Rattle.ctl_terms.proofs.HolderLemmas.{has_same, has_told, bare_loaded, ended_has_none}
 
@@ -205,6 +208,14 @@ module _ {N O I : Type 0} (out_name : O → N) (in_name : I → N) (s : State (L
       ends_with_none has lent may_it above =
           let c3 = children_told at.0 w.control in
           ended_has_none w.names c3.rows c3.attached c3.reasons k at.0 may_it (has_same w.names (ends_asked at.0 w.control) c3 k told_ends has at.0 (lent above))
+
+      -- the holder hears of the Term, and whether the object ended
+      pub term_heard : (l : Holding N) (ended : Bool) → ended ≡ may_end (children_told at.0 w.control).rows at.0 → HearsNone h k → HearsMore (term_with at ended) k l →
+          HearsMore (heard_by at Term w.control (try_end at.0 false (children_told at.0 w.control))) h l
+      term_heard l ended is asked told =
+          told ∙ ap (λ (ns : List Notice). ns ++ term_with at ended) asked
+          ∙ ap (λ (b : Bool). h.heard ++ term_with at b)
+          (is ∙ sym (end_between at.0 (obj w.control.rows at.0) (children_told at.0 w.control) (told_lives (obj w.control.rows at.0).stage _ w.comes) (ap (λ (o : Row). has_ended o.stage) told_row)))
 
       -- ---- behind the ending
       pub termed : (v : State (Load N O I)) (l : Holding N) → HasAll w.names (ends_asked at.0 w.control) k → (at.0 ≢ 0 → k.holds at.0 ≡ true) → t.objects.lists ≡ s.objects.lists → Tells u v → Stands v (try_end at.0 false (children_told at.0 w.control)) →

@@ -1,6 +1,9 @@
 ghost use Rattle.std.specs.Prelude.{◌≡◌, ◌≢◌, [], true, false};
-ghost use Rattle.ctl_holder.specs.Holding.{IsTold};
-ghost use Rattle.ctl_terms.specs.Terming.{MayTerm, Terms};
+ghost use Rattle.spec_control.specs.declared.letter.Word.TheVariants.{Term};
+ghost use Rattle.spec_control.specs.Control.{try_end};
+ghost use Rattle.ctl_holder.specs.Holding.{HearsMore, IsTold};
+ghost use Rattle.ctl_holder.specs.Heard.{heard_by, term_with};
+ghost use Rattle.ctl_terms.specs.Terming.{children_told, MayTerm, Terms};
 
 use crate::asking::ask_ends;
 use crate::reasons::{reads_on, term_reason};
@@ -17,6 +20,7 @@ fn tell_holder<P: Pipes, H: Holder<P>>(holder: &mut H, at: ObjId, ended: bool)
     ensures kept { ended ≡ false →
         (H.holding holder.new).holds at.0 ≡ (H.holding holder.old).holds at.0 }
     ensures root { at.0 ≡ 0 → H.holding holder.new ≡ H.holding holder.old }
+    ensures heard { HearsMore (term_with at ended) (H.holding holder.old) (H.holding holder.new) }
 {
     if at.0 == 0 {
         return;
@@ -38,9 +42,12 @@ pub fn process_term<P: Pipes, H: Holder<P>>(
 where
     P::Name: Drop,
     requires may { MayTerm state.old (H.holding holder.old) at.0 }
-    ensures { (w : MayTerm state.old (H.holding holder.old) at.0) →
+    ensures terms { (w : MayTerm state.old (H.holding holder.old) at.0) →
         Terms P.known.out_name P.known.in_name w.names w.control at.0
         state.old state.new (H.holding holder.old) (H.holding holder.new) }
+    ensures heard { (w : MayTerm state.old (H.holding holder.old) at.0) →
+        HearsMore (heard_by at Term w.control (try_end at.0 false (children_told at.0 w.control)))
+        (H.holding holder.old) (H.holding holder.new) }
 {
     let reason = term_reason(state, at);
     let delay = reads_on(state, at);

@@ -6,7 +6,8 @@ use Rattle.spec_control.specs.declared.entry.Joining.{Joining}
 use Rattle.msg_pipe.specs.Known.{Known}
 use Rattle.ends.specs.Rows.{Rows}
 use Rattle.ctl_holder.specs.declared.given.Given.{Given}
-use Rattle.ctl_holder.specs.Holding.{AreMet, given_as}
+use Rattle.ctl_holder.specs.Holding.{given_as}
+use Rattle.ctl_holder.specs.TakingOver.{IsGivenWith, AreGivenWith}
 use Rattle.held_ends.specs.declared.table.Place.{Place}
 use Rattle.held_ends.specs.Places.{place_at}
 use Rattle.held_ends.specs.Sound.{IsSound}
@@ -64,9 +65,8 @@ module _ {S O I N : Type 0} (K : Known S O I N) (pipes : S) (first : List (Place
     pub before : NoneBefore k places
     pub said : map (said_by K.in_name) given ++ said_in places ≡ said_in first
     pub few : length given ≤ k
-    pub outs : All (λ g. (o : O) → g.out ≡ Some o → K.out_name o ≡ g.written) given
+    pub halves : AreGivenWith K pipes given
     pub listed : joined ≡ map (given_as K.out_name K.in_name) given
-    pub met : AreMet (λ i. (K.reading pipes i).ended) given
 
   pub gives_none : (rows : Rows O I) → IsSound K pipes rows first → Giving 0 rows first [] []
   gives_none rows sound = record {
@@ -75,9 +75,8 @@ module _ {S O I N : Type 0} (K : Known S O I N) (pipes : S) (first : List (Place
     before = λ j p lt at. absurd (omega (arith, lt));
     said = refl;
     few = omega arith;
-    outs = All-nil (λ (g : Given N O I). (o : O) → g.out ≡ Some o → K.out_name o ≡ g.written);
+    halves = All-nil (IsGivenWith K pipes);
     listed = refl;
-    met = All-nil (λ (g : Given N O I). g.met ≡ true → (K.reading pipes g.input).ended ≡ true);
   }
 
   none_now : (k : ℕ) (places : List (Place N I)) (q : Place N I) → NoneBefore k places → place_at places k ≡ Some q → q.held ≡ false → NoneBefore (k + 1) places
@@ -94,9 +93,8 @@ module _ {S O I N : Type 0} (K : Known S O I N) (pipes : S) (first : List (Place
     before = none_now k places p so_far.before here gone;
     said = so_far.said;
     few = let f = so_far.few in omega (arith, f);
-    outs = so_far.outs;
+    halves = so_far.halves;
     listed = so_far.listed;
-    met = so_far.met;
   }
 
   pub gives_one : (k : ℕ) (rows rows' : Rows O I) (places places' : List (Place N I)) (given : List (Given N O I)) (joined : List (Joining N)) (g : Given N O I) (p : Place N I)
@@ -118,9 +116,8 @@ module _ {S O I N : Type 0} (K : Known S O I N) (pipes : S) (first : List (Place
             ∙ ap (λ (l : List (Said N)). map (said_by K.in_name) given ++ l) (sym (said_first places k p (gone_place p) here held refl so_far.before))
             ∙ so_far.said;
         few = let f = so_far.few in let a = length-append given (g ∷ []) in omega (arith, f, a);
-        outs = all_more (λ (x : Given N O I). (o : O) → x.out ≡ Some o → K.out_name o ≡ x.written) given g so_far.outs gives.out;
+        halves = all_more (IsGivenWith K pipes) given g so_far.halves gives.halves;
         listed = ap (λ l. l ++ given_as K.out_name K.in_name g ∷ []) so_far.listed ∙ sym (map_more (given_as K.out_name K.in_name) given g);
-        met = all_more (λ (x : Given N O I). x.met ≡ true → (K.reading pipes x.input).ended ≡ true) given g so_far.met gives.met;
       }
 
   gone_at : (k : ℕ) (rows : Rows O I) (places : List (Place N I)) (given : List (Given N O I)) (joined : List (Joining N)) → Giving k rows places given joined → length first ≤ k
@@ -138,8 +135,7 @@ module _ {S O I N : Type 0} (K : Known S O I N) (pipes : S) (first : List (Place
               sym (none_behind (map (said_by K.in_name) given))
               ∙ ap (λ (l : List (Said N)). map (said_by K.in_name) given ++ l) (sym (said_none places gone))
               ∙ so_far.said;
-          outs = so_far.outs;
+          halves = so_far.halves;
           listed = so_far.listed;
-          met = so_far.met;
         },
       )

@@ -262,8 +262,13 @@ module _ {S O I N : Type 0} (K : Known S O I N) where
       place = p;
       there = there;
       said = λ i. record { end = p.end; written = p.written; read = stands.reads.name_is i; writes = sym writes i; met = p.met; state = p.state };
-      out = λ o e. ap K.out_name (sym (one_some r.out o e)) ∙ stands.name_is;
-      met = stands.reads.met;
+      halves = record {
+        read_there = subst (IsThere K pipes) (sym stands.reads.name_is) stands.reads.there;
+        met = stands.reads.met;
+        out_is = λ o e. ap K.out_name (sym (one_some r.out o e)) ∙ stands.name_is;
+        written_there = λ o e. stands.there;
+        unsealed = λ o e s. ap (λ (x : O). (K.writing pipes x).sealed) (sym (one_some r.out o e)) ∙ stands.unsealed s;
+      };
       now = refl;
     }
 
@@ -272,8 +277,13 @@ module _ {S O I N : Type 0} (K : Known S O I N) where
       place = p;
       there = there;
       said = λ j. record { end = p.end; written = p.written; read = reads.name_is j; writes = sym yielded j; met = p.met; state = p.state };
-      out = λ o e. absurd (none_some o e);
-      met = reads.met;
+      halves = record {
+        read_there = subst (IsThere K pipes) (sym reads.name_is) reads.there;
+        met = reads.met;
+        out_is = λ o e. absurd (none_some o e);
+        written_there = λ o e. absurd (none_some o e);
+        unsealed = λ o e s. absurd (none_some o e);
+      };
       now = refl;
     }
       where

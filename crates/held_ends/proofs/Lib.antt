@@ -8,3 +8,4 @@ pub mod GivingLemmas
 pub mod CallLemmas
 pub mod LookLemmas
 pub mod OthersLemmas
+pub mod CountLemmas

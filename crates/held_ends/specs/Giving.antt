@@ -5,7 +5,8 @@ use Rattle.spec_control.specs.declared.end.EndState.{EndState}
 use Rattle.spec_control.specs.declared.entry.Joining.{Joining}
 use Rattle.msg_pipe.specs.Known.{Known}
 use Rattle.ctl_holder.specs.declared.given.Given.{Given}
-use Rattle.ctl_holder.specs.Holding.{AreMet, given_as}
+use Rattle.ctl_holder.specs.Holding.{given_as}
+use Rattle.ctl_holder.specs.TakingOver.{IsGivenWith, AreGivenWith}
 use Rattle.held_ends.specs.declared.table.Place.{Place}
 use Rattle.held_ends.specs.Places.{place_at}
 
@@ -38,7 +39,7 @@ module _ {N I : Type 0} where
 module _ {N O I : Type 0} where
   -- the end at a place with these halves, as it is given
   abbrev pub given_of : Place N I → Option O → I → Given N O I
-  given_of p out input = record { end = p.end; written = p.written; out = out; input = input; met = p.met; state = p.state }
+  given_of p out input = record { end = p.end; written = p.written; out = out; input = input; met = p.met; sealed = p.sealed; state = p.state }
 
 module _ {N O I : Type 0} (in_name : I → N) where
   -- of an end that is given
@@ -51,13 +52,11 @@ module _ {S O I N : Type 0} (K : Known S O I N) where
     pub place : Place N I
     pub there : place_at old k ≡ Some place
     pub said : said_by K.in_name g ≡ said_of place
-    pub out : (o : O) → g.out ≡ Some o → K.out_name o ≡ g.written
-    pub met : g.met ≡ true → (K.reading pipes g.input).ended ≡ true
+    pub halves : IsGivenWith K pipes g
     pub now : new ≡ slice_set old k (gone_place place)
 
   -- these are the ends, as it is said of them, with the list of them that the control plane notes
   pub record AreGiven (pipes : S) (said : List (Said N)) (given : List (Given N O I)) (joined : List (Joining N)) : Type 0 where
     pub ends : map (said_by K.in_name) given ≡ said
-    pub outs : All (λ g. (o : O) → g.out ≡ Some o → K.out_name o ≡ g.written) given
+    pub halves : AreGivenWith K pipes given
     pub listed : joined ≡ map (given_as K.out_name K.in_name) given
-    pub met : AreMet (λ i. (K.reading pipes i).ended) given

@@ -6,3 +6,4 @@ pub mod Attaching
 pub mod Giving
 pub mod Calls
 pub mod Looking
+pub mod Counting

@@ -107,6 +107,7 @@ fn part_with<P: HeldPipes>(
         out,
         input,
         met: place.met,
+        sealed: place.sealed,
         state: place.state,
     }
 }

@@ -3,6 +3,7 @@ ghost use Rattle.spec_pattern.specs.Half.{with_delimiter};
 ghost use Rattle.msg_pipe.specs.Known.{IsThere, KeepsButOut};
 ghost use Rattle.held_ends.specs.Sound.{IsSound, is_active, can_write};
 ghost use Rattle.held_ends.specs.Others.{Leaves};
+ghost use Rattle.held_ends.specs.Counting.{counts_in, half_in, KeepsCountsIn};
 ghost use Rattle.held_ends.specs.Halving.{StandsAt, WritesAt, ReadsAt, StatedAt, SealedAt, YieldedAt, SettledAt};
 
 use crate::table::{EndTable, Place};
@@ -24,6 +25,7 @@ pub fn set_state<P: Pipes>(
     requires there { StandsAt table.old.places.items place }
     ensures sound { IsSound P.known pipes.now table.new.rows.items table.new.places.items }
     ensures stated { StatedAt place state peer table.old table.new }
+    ensures half { half_in table.new place ≡ half_in table.old place }
     ensures others { Leaves P.known pipes.now table.old pipes.now table.new }
 {
     let _unread = pipes;
@@ -116,6 +118,7 @@ pub fn yield_writer<P: Pipes>(
     requires writes { WritesAt table.old.places.items place }
     ensures sound { IsSound P.known pipes.new table.new.rows.items table.new.places.items }
     ensures yielded { YieldedAt place (P.known.out_name result) table.old table.new }
+    ensures counts { KeepsCountsIn P.known place pipes.old table.old pipes.new table.new }
     ensures others { Leaves P.known pipes.old table.old pipes.new table.new }
 {
     match table.rows[place].take() {
@@ -157,6 +160,7 @@ where
     requires reads { ReadsAt table.old.places.items place (P.known.out_name writer) }
     ensures sound { IsSound P.known pipes.new table.new.rows.items table.new.places.items }
     ensures settled { SettledAt place result table.old table.new }
+    ensures counts { result ≡ counts_in P.known pipes.old table.old place writer }
     ensures others { Leaves P.known pipes.old table.old pipes.new table.new }
 {
     let name = P::name(&writer);

@@ -212,7 +212,7 @@ any_named f free (m ∷ ms) = by (is_named m) refl (any_named f free ms)
     by true e rest = ap (λ (b : Bool). f m || b) rest
     by false e rest = rest ∙ ap (λ (b : Bool). b || list_any f ms) (sym (free m e))
 
-free_asks : (i : ℕ) (m : Move) → is_named m ≡ false → asks_over i m ≡ false
+pub free_asks : (i : ℕ) (m : Move) → is_named m ≡ false → asks_over i m ≡ false
 free_asks i (LinkMoves j OwnComes) h = refl
 free_asks i (LinkMoves j PlugComes) h = refl
 free_asks i (LinkMoves j IsTold) h = refl

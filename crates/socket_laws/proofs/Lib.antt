@@ -3,3 +3,5 @@ pub mod OpenLemmas
 pub mod RowLemmas
 pub mod ThereLemmas
 pub mod SlotLemmas
+pub mod ClosedLemmas
+pub mod ReapLemmas

@@ -1,13 +1,14 @@
 -- An object keeps its mailbox, and each socket has one of its own.
 use Rattle.std.specs.Prelude.{◌≡◌, ◌<◌, ◌==◌, ◌&&◌, ◌||◌, ◌++◌, ◌∷◌, [], ℕ, zero, suc, Bool, true, false, cond, not, List, Option, Some, None, if◌then◌else◌, find, length, refl}
 use Rattle.std.specs.List.{list_any}
-use Rattle.std.proofs.Common.{arith, sym, ap, ◌∙◌, subst}
+use Rattle.std.proofs.Common.{sym, ap, ◌∙◌, subst}
 use Rattle.std.proofs.lemmas.Bool.{eqb-true}
 use Rattle.zq_base.specs.declared.attached.Attached.{Attached}
 use Rattle.zq_base.specs.declared.attached.Attached.TheVariants.{Yes, BadId, Second}
 use Rattle.zq_base.specs.declared.endpoint.Endpoint.{Endpoint}
 use Rattle.zq_base.specs.declared.endpoint.Endpoint.TheVariants.{Inproc, Tcp}
 use Rattle.zq_base.specs.declared.ids.EndId.{EndId}
+use Rattle.zq_base.specs.declared.ids.ObjId.{ObjId}
 use Rattle.zq_base.specs.declared.ids.Settled.{Settled}
 use Rattle.spec_control.specs.declared.book.Binding.{Binding}
 use Rattle.spec_control.specs.declared.book.Waiting.{Waiting}
@@ -25,7 +26,6 @@ use Rattle.spec_control.specs.declared.entry.Item.{Item}
 use Rattle.spec_control.specs.declared.entry.Item.TheVariants.{Event, Seen}
 use Rattle.spec_control.specs.declared.request.Req.{Req}
 use Rattle.spec_control.specs.declared.request.Req.TheVariants.{Socket as MakeSocket, AskTerm, Bind, Connect, Unbind, Disconnect, Close, Accepted, Shaken, AskEnd, AskOver, OutputOver}
-use Rattle.spec_control.specs.declared.request.Reply.{Reply}
 use Rattle.spec_control.specs.declared.request.Reply.TheVariants.{Done, Object, Pair, Both, Wait, Asked as WasAsked, Before, Refused}
 use Rattle.spec_control.specs.Register.{fulfilled_by, without_holder}
 use Rattle.spec_control.specs.Hold.{Hold, Bound, Waits, Joined, fulfil, is_bind_to, is_connect_to}
@@ -112,65 +112,72 @@ module _ {N S : Type 0} (k i : ℕ) where
           (λ x. behind c kept entry.did run.0 had l so (ap (λ (n : ℕ). has_then i (Event (record { by = n; did = entry.did })) had) (sym (eqb-true entry.by k is)) ∙ x)) e
       step false is next e = next l had (λ x. passes c kept entry.did run.0 had l (so x)) e
 
--- ---- how many mailboxes there are
-if_slots : (b : Bool) (x y c : Control) → x.slots ≡ c.slots → y.slots ≡ c.slots → (if b then x else y).slots ≡ c.slots
+-- ---- how many mailboxes there are, and which sockets were closed
+record Aside : Type 0 where
+  pub slots : ℕ
+  pub closed : List ObjId
+
+abbrev aside : Control → Aside
+aside c = record { slots = c.slots; closed = c.closed }
+
+if_slots : (b : Bool) (x y c : Control) → aside x ≡ aside c → aside y ≡ aside c → aside (if b then x else y) ≡ aside c
 if_slots true x y c one other = one
 if_slots false x y c one other = other
 
-where_slots : (wanted : Bool) (child : ℕ) (c : Control) → (tell_where wanted child c).slots ≡ c.slots
+where_slots : (wanted : Bool) (child : ℕ) (c : Control) → aside (tell_where wanted child c) ≡ aside c
 where_slots wanted child c = if_slots (wanted && link_may IsTold (obj c.rows child)) (put child Term (link IsTold child c)) c c refl refl
 
-children_slots : (n owner : ℕ) (c : Control) → (tell_children n owner c).slots ≡ c.slots
+children_slots : (n owner : ℕ) (c : Control) → aside (tell_children n owner c) ≡ aside c
 children_slots zero owner c = refl
 children_slots (suc n) owner c =
     let before : Control = tell_children n owner c in
     where_slots (is_owner owner (obj before.rows n).owner && (obj before.rows n).noted) n before ∙ children_slots n owner c
 
-stop_slots : (n : ℕ) (c : Control) → (stop_sockets n c).slots ≡ c.slots
+stop_slots : (n : ℕ) (c : Control) → aside (stop_sockets n c) ≡ aside c
 stop_slots zero c = refl
 stop_slots (suc n) c =
     let before : Control = stop_sockets n c in
     if_slots (link_may StopPut (obj before.rows n)) (put n Stop (link StopPut n before)) before before refl refl ∙ stop_slots n c
 
-other_slots : (commands : EndCommands) (e : EndId) (c : Control) → (tell_other commands e c).slots ≡ c.slots
+other_slots : (commands : EndCommands) (e : EndId) (c : Control) → aside (tell_other commands e c) ≡ aside c
 other_slots Nothing e c = refl
 other_slots TermAndSeal e c = refl
 other_slots Ack e c = refl
 other_slots Settle e c = refl
 other_slots SettleAndAck e c = refl
 
-happens_slots : (event : EndEvent) (e : EndId) (c : Control) → (happens event e c).slots ≡ c.slots
+happens_slots : (event : EndEvent) (e : EndId) (c : Control) → aside (happens event e c) ≡ aside c
 happens_slots event e c = other_slots (commands_in event (place_of c e)) e (record (moved (Happens event) e c) { reasons = with_end e (reason_in event (place_of c e) (c.reasons e)) c.reasons })
 
-ask_slots : (why : Reason) (delay : Bool) (e : EndId) (c : Control) → (ask why delay e c).slots ≡ c.slots
+ask_slots : (why : Reason) (delay : Bool) (e : EndId) (c : Control) → aside (ask why delay e c) ≡ aside c
 ask_slots why delay e c = if_slots (is_here (place_of c e)) (happens (IsAsked why delay) e c) c c (happens_slots (IsAsked why delay) e c) refl
 
-all_slots : (why : Reason) (delay : Bool) (es : List EndId) (c : Control) → (ask_all why delay es c).slots ≡ c.slots
+all_slots : (why : Reason) (delay : Bool) (es : List EndId) (c : Control) → aside (ask_all why delay es c) ≡ aside c
 all_slots why delay [] c = refl
 all_slots why delay (e ∷ es) c = all_slots why delay es (ask why delay e c) ∙ ask_slots why delay e c
 
-greet_slots : (answer : Attached) (e : EndId) (c : Control) → (greet answer e c).slots ≡ c.slots
+greet_slots : (answer : Attached) (e : EndId) (c : Control) → aside (greet answer e c) ≡ aside c
 greet_slots Yes e c =
     if_slots (was_asked (obj c.rows (owner_of c e)).stage) (ask Closed false e c) (if c.struck e then ask Closed false e c else c) c (ask_slots Closed false e c)
     (if_slots (c.struck e) (ask Closed false e c) c c (ask_slots Closed false e c) refl)
 greet_slots BadId e c = ask_slots ForId false e c
 greet_slots Second e c = ask_slots ForSecond false e c
 
-owner_slots : (owner : Option ℕ) (i : ℕ) (c : Control) → (tell_owner owner i c).slots ≡ c.slots
+owner_slots : (owner : Option ℕ) (i : ℕ) (c : Control) → aside (tell_owner owner i c) ≡ aside c
 owner_slots None i c = refl
 owner_slots (Some owner) i c = refl
 
-try_slots : (i : ℕ) (left : Bool) (c : Control) → (try_end i left c).slots ≡ c.slots
+try_slots : (i : ℕ) (left : Bool) (c : Control) → aside (try_end i left c) ≡ aside c
 try_slots i left c =
     let now : Control = record c { output_left = with_value i left c.output_left } in
     if_slots (may_end c.rows i) (if left then now else finish i now) now c
     (if_slots left now (finish i now) c refl (owner_slots (obj now.rows i).owner i (record now { rows = with_object i (record (obj now.rows i) { stage = Finished }) now.rows; ended = now.ended ++ id i ∷ [] }))) refl
 
-settle_slots : (e : EndId) (counts : Option Settled) (c : Control) → (settle e counts c).slots ≡ c.slots
+settle_slots : (e : EndId) (counts : Option Settled) (c : Control) → aside (settle e counts c) ≡ aside c
 settle_slots e None c = refl
 settle_slots e (Some counts) c = refl
 
-word_slots : (at : ℕ) (word : Word) (h : Answers) (c : Control) → (processed at word h c).slots ≡ c.slots
+word_slots : (at : ℕ) (word : Word) (h : Answers) (c : Control) → aside (processed at word h c) ≡ aside c
 word_slots at (Own child) h c = where_slots (was_asked (obj c.rows at).stage) child.0 (link OwnComes child.0 c)
 word_slots at (Plug None) h c = refl
 word_slots at (Plug (Some e)) h c = greet_slots (h.kind e) e (attach BindCame e (link PlugComes at c))
@@ -187,45 +194,72 @@ word_slots at (PipeTermAck e) h c = try_slots at h.left (settle e h.counts (happ
 word_slots at Stop h c = refl
 word_slots at (Reap socket) h c = refl
 
-joins_slots : (connecting bound : ℕ) (a_first : Bool) (h : Answers) (c : Control) → (joins connecting bound a_first h c).slots ≡ c.slots
+joins_slots : (connecting bound : ℕ) (a_first : Bool) (h : Answers) (c : Control) → aside (joins connecting bound a_first h c) ≡ aside c
 joins_slots connecting bound a_first h c =
     let first : EndId = end_of (next_pair c) a_first in
     let drawn : Control = draws connecting bound c in
     greet_slots (h.kind first) first (open_pair first (PipeBind (end_of (next_pair c) (not a_first)) (obj c.rows (owner_of drawn first)).options.id) drawn)
 
-fulfil_slots : (i : ℕ) (at : Endpoint) (ws : List Waiting) (h : Answers) (c : Control) → (fulfil_all i at ws h c).slots ≡ c.slots
+fulfil_slots : (i : ℕ) (at : Endpoint) (ws : List Waiting) (h : Answers) (c : Control) → aside (fulfil_all i at ws h c) ≡ aside c
 fulfil_slots i at [] h c = refl
 fulfil_slots i at (w ∷ ws) h c =
     let joined : Control = joins w.waiter.0 i false h c in
     fulfil_slots i at ws h (record joined { holds = with_value w.waiter.0 (fulfil at (next_pair c) (joined.holds w.waiter.0)) joined.holds }) ∙ joins_slots w.waiter.0 i false h c
 
-to_slots : (i : ℕ) (at : Endpoint) (held : Option Binding) (h : Answers) (c : Control) → (connects_to i at held h c).slots ≡ c.slots
+to_slots : (i : ℕ) (at : Endpoint) (held : Option Binding) (h : Answers) (c : Control) → aside (connects_to i at held h c) ≡ aside c
 to_slots i at None h c = refl
 to_slots i at (Some binding) h c = joins_slots i binding.holder.0 true h (with_hold i (Joined at (next_pair c) None) c)
 
-struck_slots : (i : ℕ) (session : Option ℕ) (c : Control) → (tell_struck i session c).slots ≡ c.slots
+struck_slots : (i : ℕ) (session : Option ℕ) (c : Control) → aside (tell_struck i session c) ≡ aside c
 struck_slots i None c = refl
 struck_slots i (Some child) c = where_slots (is_owner i (obj c.rows child).owner) child c
 
-end_slots : (i : ℕ) (e : EndId) (c : Control) → (strike_end i e c).slots ≡ c.slots
+end_slots : (i : ℕ) (e : EndId) (c : Control) → aside (strike_end i e c) ≡ aside c
 end_slots i e c =
     if_slots (is_away (place_of c e)) (record c { struck = with_end e true c.struck }) (if owner_of c e == i then ask Closed false e c else c) c refl
     (if_slots (owner_of c e == i) (ask Closed false e c) c c (ask_slots Closed false e c) refl)
 
-strikes_slots : (i : ℕ) (to : Endpoint) (hold : Option Hold) (c : Control) → (strikes i to hold c).slots ≡ c.slots
+strikes_slots : (i : ℕ) (to : Endpoint) (hold : Option Hold) (c : Control) → aside (strikes i to hold c) ≡ aside c
 strikes_slots i to None c = refl
 strikes_slots i to (Some (Bound at listener)) c = struck_slots i listener (record c { names = without_holder to c.names })
 strikes_slots i to (Some (Waits at)) c = refl
 strikes_slots i to (Some (Joined at k session)) c = struck_slots i session (strike_end i (end_of k true) c) ∙ end_slots i (end_of k true) c
 
-reason_slots : (reason : Reason) (i : ℕ) (c : Control) → (uses_reason reason i c).slots ≡ c.slots
+reason_slots : (reason : Reason) (i : ℕ) (c : Control) → aside (uses_reason reason i c) ≡ aside c
 reason_slots Closed i c = refl
 reason_slots ForId i c = refl
 reason_slots ForSecond i c = refl
 reason_slots Linger i c = refl
 reason_slots Link i c = refl
 
-request_slots : (req : Req) (h : Answers) (c : Control) → list_any makes_object (request_moves c req) ≡ false → (requested req h c).slots ≡ c.slots
+-- the sockets that are closed behind a request, and behind an event
+abbrev pub close_of : Req → List ObjId → List ObjId
+close_of (MakeSocket kind options) closed = closed
+close_of AskTerm closed = closed
+close_of (Bind o at) closed = closed
+close_of (Connect o at) closed = closed
+close_of (Unbind o at) closed = closed
+close_of (Disconnect o at) closed = closed
+close_of (Close o) closed = closed ++ o ∷ []
+close_of (Accepted o) closed = closed
+close_of (Shaken o peer) closed = closed
+close_of (AskEnd e reason) closed = closed
+close_of (AskOver o) closed = closed
+close_of (OutputOver o) closed = closed
+
+abbrev pub closed_in : {N S : Type 0} → Did N S → List ObjId → List ObjId
+closed_in (Asked req Done h) closed = close_of req closed
+closed_in (Asked req (Object o) h) closed = close_of req closed
+closed_in (Asked req (Pair p) h) closed = close_of req closed
+closed_in (Asked req (Both o p) h) closed = close_of req closed
+closed_in (Asked req Wait h) closed = close_of req closed
+closed_in (Asked req WasAsked h) closed = close_of req closed
+closed_in (Asked req Before h) closed = closed
+closed_in (Asked req (Refused refusal) h) closed = closed
+closed_in (Delivered slot letter h) closed = closed
+closed_in (Delimited e h) closed = closed
+
+request_slots : (req : Req) (h : Answers) (c : Control) → list_any makes_object (request_moves c req) ≡ false → aside (requested req h c) ≡ record { slots = c.slots; closed = close_of req c.closed }
 request_slots (MakeSocket kind options) h c none = absurd (never (sym none))
 request_slots AskTerm h c none = try_slots 0 h.left (stop_sockets (length c.rows.objects) (link RootAsked 0 c)) ∙ stop_slots (length c.rows.objects) (link RootAsked 0 c)
 request_slots (Bind o (Inproc name)) h c none = fulfil_slots o.0 (Inproc name) (fulfilled_by (Inproc name) (binding_by o.0 c) c.names) h _
@@ -243,15 +277,22 @@ request_slots (AskEnd e reason) h c none = ask_slots reason false e (uses_reason
 request_slots (AskOver o) h c none = refl
 request_slots (OutputOver o) h c none = try_slots o.0 h.left c
 
+event_aside : {N S : Type 0} (c : Control) (did : Did N S) → list_any makes_object (own_moves c did) ≡ false → aside (after did c) ≡ record { slots = c.slots; closed = closed_in did c.closed }
+event_aside c (Asked req Done h) none = request_slots req (answers_in h) c none
+event_aside c (Asked req (Object o) h) none = request_slots req (answers_in h) c none
+event_aside c (Asked req (Pair p) h) none = request_slots req (answers_in h) c none
+event_aside c (Asked req (Both o p) h) none = request_slots req (answers_in h) c none
+event_aside c (Asked req Wait h) none = request_slots req (answers_in h) c none
+event_aside c (Asked req WasAsked h) none = request_slots req (answers_in h) c none
+event_aside c (Asked req Before h) none = refl
+event_aside c (Asked req (Refused refusal) h) none = refl
+event_aside c (Delivered slot letter h) none = word_slots letter.to.0 letter.word (answers_in h) (without_front slot.0 c)
+event_aside c (Delimited e h) none = happens_slots DelimiterSeen e c
+
 -- an event that makes no object makes no mailbox
 pub event_slots : {N S : Type 0} (c : Control) (did : Did N S) → list_any makes_object (own_moves c did) ≡ false → (after did c).slots ≡ c.slots
-event_slots c (Asked req Done h) none = request_slots req (answers_in h) c none
-event_slots c (Asked req (Object o) h) none = request_slots req (answers_in h) c none
-event_slots c (Asked req (Pair p) h) none = request_slots req (answers_in h) c none
-event_slots c (Asked req (Both o p) h) none = request_slots req (answers_in h) c none
-event_slots c (Asked req Wait h) none = request_slots req (answers_in h) c none
-event_slots c (Asked req WasAsked h) none = request_slots req (answers_in h) c none
-event_slots c (Asked req Before h) none = refl
-event_slots c (Asked req (Refused refusal) h) none = refl
-event_slots c (Delivered slot letter h) none = word_slots letter.to.0 letter.word (answers_in h) (without_front slot.0 c)
-event_slots c (Delimited e h) none = happens_slots DelimiterSeen e c
+event_slots c did none = ap (λ (a : Aside). a.slots) (event_aside c did none)
+
+-- and closes the socket of a close alone
+pub event_closed : {N S : Type 0} (c : Control) (did : Did N S) → list_any makes_object (own_moves c did) ≡ false → (after did c).closed ≡ closed_in did c.closed
+event_closed c did none = ap (λ (a : Aside). a.closed) (event_aside c did none)

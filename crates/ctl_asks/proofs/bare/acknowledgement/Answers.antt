@@ -38,4 +38,4 @@ returns-clause-only g c =
     tells_on c.args.state.now c.ack_comes.new.self c.try_end.new.self (tree_tells c.args.state.now c.ack_comes.new.self (with_cleared c.args.at c.args.child) c.ack_comes.ensures.next) c.try_end.ensures.only
 
 pub returns-clause-ended : goal.returns-clause-ended
-returns-clause-ended g c = λ k h ended. sym (c.try_end.ensures.answer (link AckComes c.args.child.0 k) (c.ack_comes.ensures.stands k h)) ∙ ended
+returns-clause-ended g c = λ k h. c.try_end.ensures.answer (link AckComes c.args.child.0 k) (c.ack_comes.ensures.stands k h)

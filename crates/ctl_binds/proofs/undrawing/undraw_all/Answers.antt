@@ -19,4 +19,4 @@ pub returns-clause-back : goal.returns-clause-back
 returns-clause-back g c = λ w.
     let none : c.last.left.items ≡ [] = search rules in
     let taken = subst (λ (xs : List (Drawn g.row.P-Name.Denot g.row.P-Out.Denot g.row.P-In.Denot)). AreTaken c.args.socket.0 xs w.before c.last.state w.had (g.H.Holder.holding c.last.holder)) none (c.last.invariant w) in
-    gets_none (length w.before.pairs) c.args.socket.0 w.had (g.H.Holder.holding c.last.holder) taken.gets taken.turns taken.sealed (came_none w.had (g.H.Holder.holding c.last.holder) taken.came)
+    gets_none (length w.before.pairs) c.args.socket.0 w.had (g.H.Holder.holding c.last.holder) taken.gets taken.turns taken.sealed (came_none w.had (g.H.Holder.holding c.last.holder) taken.came) taken.heard

@@ -16,10 +16,10 @@ use Rattle.ctl_state.specs.Boxes.{mail_at}
 use Rattle.ctl_state.specs.Stands.{Stands, slot_of, stepped, tells}
 use Rattle.ctl_state.specs.Pairs.{owner_at as kept_owner_at}
 use Rattle.zq_base.specs.Ends.{other_end}
-use Rattle.ctl_ends.specs.Turning.{yields, needs_writer, SealsFor, Turned}
+use Rattle.ctl_ends.specs.Turning.{yields, needs_writer, seals_for, SealsFor, Turned}
 use Rattle.ctl_ends.proofs.HeldLemmas.{has_here, read_is}
 use Rattle.ctl_ends.proofs.TurnLemmas.{comes_here, turned_told, told_as, ends_same, turns_told, puts_told, lists_kept, other_slot}
-use Rattle.ctl_ends.proofs.SettleLemmas.{met_at_ack, told_spare, and_true, ack_writer, ack_needed, ack_goes, left_had, told_less, none_writes, has_settled}
+use Rattle.ctl_ends.proofs.SettleLemmas.{met_at_ack, told_spare, and_true, ack_writer, ack_needed, ack_goes, ack_seals, left_had, told_less, none_writes, has_settled}
 use Rattle.ctl_ends.proofs.settling.settle_end.Goals as goal
 
 pub set_state-requires : goal.set_state-requires
@@ -82,8 +82,22 @@ settle-counts-requires-clause-apart g c =
     (turned_told c.owner-owner.result.0 c.args.e (g.H.Holder.holding c.args.holder.now) (g.H.Holder.holding c.set_state.new.self) (g.H.Holder.holding c.give_for-load.new.holder) (yields c.end_goes-commands.result)
     c.set_state.ensures.stays c.give_for-load.ensures.turned) c.requires.apart
 
-pub returns : goal.returns
-returns g c = λ w.
+pub returns-clause-counts : goal.returns-clause-counts
+returns-clause-counts g c =
+    let w = c.requires.may in
+    let has = w.has (owner_of w.control c.args.e) w.settles.lent in
+    let here = has_here w.names w.control.rows.pairs w.control.attached w.control.reasons (g.H.Holder.holding c.args.holder.now) (owner_of w.control c.args.e) has c.args.e refl
+    (ap is_here w.settles.there ∙ comes_here AckCame w.settles.state w.settles.may_come) w.settles.listed in
+    let commands = c.end_goes-commands.ensures.commands w.control w.stands ∙ ap (commands_in AckCame) w.settles.there in
+    let reads = ap (λ (hs : List (Held g.row.P-Name.Denot)). read_in hs c.args.e) (ap (g.H.Holder.holding c.args.holder.now).ends (sym (c.owner-owner.ensures.stands w.control w.stands)))
+    ∙ read_is w.names c.args.e ((g.H.Holder.holding c.args.holder.now).ends (owner_of w.control c.args.e)) (g.P.Pipes.known.out_name c.args.writer) has.named here w.settles.pipe in
+    c.settle-counts.ensures.counts
+    ∙ c.give_for-load.ensures.counts (ap (λ (x : EndCommands). seals_for x c.args.e) commands ∙ ack_seals w.settles.state c.args.e w.settles.may_come) c.args.writer
+    (ap (λ (hs : List (Held g.row.P-Name.Denot)). read_in hs c.args.e) c.set_state.ensures.stays.now.ends ∙ reads)
+    ∙ c.set_state.ensures.counts c.args.writer reads
+
+pub returns-clause-settles : goal.returns-clause-settles
+returns-clause-settles g c = λ w.
     let h = g.H.Holder.holding c.args.holder.now in
     let m = g.H.Holder.holding c.set_state.new.self in
     let k = g.H.Holder.holding c.give_for-load.new.holder in
@@ -122,6 +136,7 @@ returns g c = λ w.
         kinds = λ i. gone.now.kinds i ∙ turned.now.kinds i;
         output = λ i. gone.now.output i ∙ turned.now.output i;
         joined = told_one.joined;
+        heard = c.settle-counts.ensures.heard ∙ c.give_for-load.ensures.heard ∙ c.set_state.ensures.heard;
         turned = turns_told w.control AckCame c.args.e w.settles.state w.settles.there w.settles.within w.names h l (owner_of w.control c.args.e) has here w.settles.may_come told_one;
       };
       settled = record {

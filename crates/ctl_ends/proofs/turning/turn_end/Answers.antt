@@ -91,5 +91,6 @@ returns g c = λ w.
       kinds = turned.now.kinds;
       output = turned.now.output;
       joined = told_one.joined;
+      heard = c.give_for-load.ensures.heard ∙ c.tell_state.ensures.heard;
       turned = turns_told w.control c.args.event c.args.e w.turns.state w.turns.there w.turns.within w.names h k (owner_of w.control c.args.e) has here w.turns.may_come told_one;
     }

@@ -35,4 +35,4 @@ returns-in-Ok-attach_end-clause-ok g c = λ w peer is.
     ∙ ap (λ (p : List ℕ). let j : Joining g.row.P-Name.Denot = record { end = c.args.e; peer = p; written = c.halves_of-halves.result.written; read = c.halves_of-halves.result.read; answer = c.in-Ok-attach_end.answer; met = false } in j ∷ [])
     (c.in-Ok.ensures c.args.e peer is))
     (subst (λ (p : List ℕ). JoinsBy (joining_with g.P.Pipes.known.out_name g.P.Pipes.known.in_name c.args.e p c.halves_of-halves.result.halves c.in-Ok-attach_end.answer ∷ []) (g.H.Holder.holding c.args.holder.now) (g.H.Holder.holding c.attach_end.new.holder))
-    (c.in-Ok.ensures c.args.e peer is) c.in-Ok-attach_end.ensures.joins)
+    (c.in-Ok.ensures c.args.e peer is) c.in-Ok-attach_end.ensures.joins) c.attach_end.ensures.heard

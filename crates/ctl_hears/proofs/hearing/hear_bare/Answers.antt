@@ -1,5 +1,5 @@
 use Rattle.std.specs.Prelude.{None, refl}
-use Rattle.std.proofs.Common.{ap, subst}
+use Rattle.std.proofs.Common.{ap, sym, subst, ◌∙◌}
 use Rattle.spec_control.specs.declared.letter.Word.{Word}
 use Rattle.spec_control.specs.Row.{AckComes}
 use Rattle.spec_control.specs.Control.{link}
@@ -12,7 +12,10 @@ use Rattle.control_others.proofs.StayLemmas.{link_ends_stay}
 use Rattle.ctl_ends.proofs.TurnedLemmas.{turns_none, turns_same}
 use Rattle.ctl_hears.proofs.ToldLemmas.{own_told, request_told, ack_told, stop_told, turn_told, term_told}
 use Rattle.ctl_asks.specs.Bare.{Hears}
-use Rattle.ctl_hears.proofs.CameLemmas.{ack_came, none_came, term_came}
+use Rattle.control_rows.proofs.ListLemmas.{left}
+use Rattle.ctl_asks.proofs.BareLemmas.{finished_is, not_ended}
+use Rattle.ctl_holder.specs.Heard.{heard_by}
+use Rattle.ctl_hears.proofs.CameLemmas.{ack_came, none_came, parent_lives, stop_heard, term_came, unheard}
 use Rattle.ctl_hears.specs.Processing.{HearsEnd}
 use Rattle.ctl_hears.proofs.hearing.hear_bare.Goals as goal
 
@@ -37,13 +40,13 @@ returns-in-Term-clause-heard g c = λ a silent w.
     let hears = subst (λ (x : Word). HearsEnd g.P.Pipes.known.out_name g.P.Pipes.known.in_name w.names w.control c.args.state.now (g.H.Holder.holding c.args.holder.now) c.args.letter.now.to.0 x None) c.in-Term.is w.ends in
     term_done g.P.Pipes.known.out_name g.P.Pipes.known.in_name c.args.state.now c.process_term.new.state (g.H.Holder.holding c.args.holder.now) c.args.letter.now.to a silent w.control w.names
     (g.H.Holder.holding c.process_term.new.holder) c.args.letter.now.word c.in-Term.is
-    (c.process_term.ensures (record { control = w.control; names = w.names; stands = w.stands; has = w.has; lent = w.lent; rootless = hears.rootless; comes = hears.comes; room = hears.room }))
+    (c.process_term.ensures.terms (record { control = w.control; names = w.names; stands = w.stands; has = w.has; lent = w.lent; rootless = hears.rootless; comes = hears.comes; room = hears.room }))
 
 pub tell_over-requires : goal.tell_over-requires
 tell_over-requires g c = record {
   none = λ ended above. (let w = c.requires.may in
       let now = link AckComes c.in-TermAck.child.0 w.control in
-      ended_has_none w.names now.rows now.attached now.reasons (g.H.Holder.holding c.args.holder.now) c.args.letter.now.to.0 (c.acknowledgement-ended.ensures.ended w.control w.stands ended)
+      ended_has_none w.names now.rows now.attached now.reasons (g.H.Holder.holding c.args.holder.now) c.args.letter.now.to.0 (sym (c.acknowledgement-ended.ensures.ended w.control w.stands) ∙ ended)
       (has_same w.names w.control now (g.H.Holder.holding c.args.holder.now) (link_ends_stay AckComes c.in-TermAck.child.0 w.control) w.has c.args.letter.now.to.0 (w.lent above)));
 }
 
@@ -67,9 +70,9 @@ returns-in-PipeTerm-clause-heard g c = λ a silent w.
 pub returns-in-Stop-clause-heard : goal.returns-in-Stop-clause-heard
 returns-in-Stop-clause-heard g c = λ a silent w.
     stop_done g.P.Pipes.known.out_name g.P.Pipes.known.in_name c.args.state.now c.stop_comes.new.self (g.H.Holder.holding c.args.holder.now) c.args.letter.now.to a silent w.control w.names
-    (g.H.Holder.holding c.stop.new.self) c.args.letter.now.word c.in-Stop.is (c.stop_comes.ensures.stands w.control w.stands)
+    (g.H.Holder.holding c.tell_stop.new.holder) c.args.letter.now.word c.in-Stop.is (c.stop_comes.ensures.stands w.control w.stands)
     (tells_not c.args.state.now c.stop_comes.new.self (ap (λ (x : State (Load g.row.P-Name.Denot g.row.P-Out.Denot g.row.P-In.Denot)). x.boxes) c.stop_comes.ensures.next)
-    (ap (λ (x : State (Load g.row.P-Name.Denot g.row.P-Out.Denot g.row.P-In.Denot)). x.objects.lists) c.stop_comes.ensures.next)) w.has c.stop.ensures.stays c.stop.ensures.turns
+    (ap (λ (x : State (Load g.row.P-Name.Denot g.row.P-Out.Denot g.row.P-In.Denot)). x.objects.lists) c.stop_comes.ensures.next)) w.has c.tell_stop.ensures.stays c.tell_stop.ensures.turns
 
 pub returns-in-Own-clause-turned : goal.returns-in-Own-clause-turned
 returns-in-Own-clause-turned g c = λ a silent w.
@@ -86,7 +89,7 @@ returns-in-TermAck-clause-turned g c = λ a silent w.
 
 pub returns-in-Stop-clause-turned : goal.returns-in-Stop-clause-turned
 returns-in-Stop-clause-turned g c = λ a silent w.
-    stop_told c.args.letter.now.to a w.control (g.H.Holder.holding c.args.holder.now) (g.H.Holder.holding c.stop.new.self) c.args.letter.now.word c.in-Stop.is (turns_none (g.H.Holder.holding c.args.holder.now) (g.H.Holder.holding c.stop.new.self) c.stop.ensures.turns)
+    stop_told c.args.letter.now.to a w.control (g.H.Holder.holding c.args.holder.now) (g.H.Holder.holding c.tell_stop.new.holder) c.args.letter.now.word c.in-Stop.is (turns_none (g.H.Holder.holding c.args.holder.now) (g.H.Holder.holding c.tell_stop.new.holder) c.tell_stop.ensures.turns)
 
 pub returns-in-PipeTerm-clause-turned : goal.returns-in-PipeTerm-clause-turned
 returns-in-PipeTerm-clause-turned g c = λ a silent w.
@@ -98,34 +101,40 @@ pub returns-in-Term-clause-turned : goal.returns-in-Term-clause-turned
 returns-in-Term-clause-turned g c = λ a silent w.
     let hears = subst (λ (x : Word). HearsEnd g.P.Pipes.known.out_name g.P.Pipes.known.in_name w.names w.control c.args.state.now (g.H.Holder.holding c.args.holder.now) c.args.letter.now.to.0 x None) c.in-Term.is w.ends in
     term_told c.args.letter.now.to a w.control (g.H.Holder.holding c.args.holder.now) (g.H.Holder.holding c.process_term.new.holder) c.args.letter.now.word c.in-Term.is silent
-    (c.process_term.ensures (record { control = w.control; names = w.names; stands = w.stands; has = w.has; lent = w.lent; rootless = hears.rootless; comes = hears.comes; room = hears.room })).turned
+    (c.process_term.ensures.terms (record { control = w.control; names = w.names; stands = w.stands; has = w.has; lent = w.lent; rootless = hears.rootless; comes = hears.comes; room = hears.room })).turned
 
 pub returns-in-Own-clause-joins : goal.returns-in-Own-clause-joins
 returns-in-Own-clause-joins g c = λ a silent w.
     none_came c.args.letter.now.to a w.control (g.H.Holder.holding c.args.holder.now) (g.H.Holder.holding c.args.holder.now) c.args.letter.now.word silent.joined refl (λ i. refl) (λ i. refl)
+    (unheard c.args.letter.now.to a w.control (g.H.Holder.holding c.args.holder.now) (g.H.Holder.holding c.args.holder.now) c.args.letter.now.word (λ d. ap (λ (x : Word). heard_by c.args.letter.now.to x w.control d) c.in-Own.is) refl)
 
 pub returns-in-TermReq-clause-joins : goal.returns-in-TermReq-clause-joins
 returns-in-TermReq-clause-joins g c = λ a silent w.
     none_came c.args.letter.now.to a w.control (g.H.Holder.holding c.args.holder.now) (g.H.Holder.holding c.args.holder.now) c.args.letter.now.word silent.joined refl (λ i. refl) (λ i. refl)
+    (unheard c.args.letter.now.to a w.control (g.H.Holder.holding c.args.holder.now) (g.H.Holder.holding c.args.holder.now) c.args.letter.now.word (λ d. ap (λ (x : Word). heard_by c.args.letter.now.to x w.control d) c.in-TermReq.is) refl)
 
 pub returns-in-Stop-clause-joins : goal.returns-in-Stop-clause-joins
 returns-in-Stop-clause-joins g c = λ a silent w.
-    none_came c.args.letter.now.to a w.control (g.H.Holder.holding c.args.holder.now) (g.H.Holder.holding c.stop.new.self) c.args.letter.now.word silent.joined c.stop.ensures.turns.joined c.stop.ensures.stays.now.objects c.stop.ensures.stays.now.kinds
+    none_came c.args.letter.now.to a w.control (g.H.Holder.holding c.args.holder.now) (g.H.Holder.holding c.tell_stop.new.holder) c.args.letter.now.word silent.joined c.tell_stop.ensures.turns.joined c.tell_stop.ensures.stays.now.objects c.tell_stop.ensures.stays.now.kinds
+    (stop_heard c.args.letter.now.to a w.control (g.H.Holder.holding c.args.holder.now) (g.H.Holder.holding c.tell_stop.new.holder) c.args.letter.now.word c.in-Stop.is c.tell_stop.ensures.heard)
 
 pub returns-in-PipeTerm-clause-joins : goal.returns-in-PipeTerm-clause-joins
 returns-in-PipeTerm-clause-joins g c = λ a silent w.
     let ends = subst (λ (x : Word). HearsEnd g.P.Pipes.known.out_name g.P.Pipes.known.in_name w.names w.control c.args.state.now (g.H.Holder.holding c.args.holder.now) c.args.letter.now.to.0 x None) c.in-PipeTerm.is w.ends in
     let leads = c.turn_end.ensures (record { control = w.control; names = w.names; stands = w.stands; has = w.has; turns = ends }) in
     none_came c.args.letter.now.to a w.control (g.H.Holder.holding c.args.holder.now) (g.H.Holder.holding c.turn_end.new.holder) c.args.letter.now.word silent.joined leads.joined leads.holds leads.kinds
+    (unheard c.args.letter.now.to a w.control (g.H.Holder.holding c.args.holder.now) (g.H.Holder.holding c.turn_end.new.holder) c.args.letter.now.word (λ d. ap (λ (x : Word). heard_by c.args.letter.now.to x w.control d) c.in-PipeTerm.is) leads.heard)
 
 pub returns-in-TermAck-clause-joins : goal.returns-in-TermAck-clause-joins
 returns-in-TermAck-clause-joins g c = λ a silent w.
     let hears = subst (λ (x : Word). Hears c.args.state.now c.args.letter.now.to.0 x w.control) c.in-TermAck.is w.hears in
     ack_came c.args.letter.now.to a w.control (g.H.Holder.holding c.args.holder.now) (g.H.Holder.holding c.tell_over.new.holder) c.args.letter.now.word c.in-TermAck.child c.in-TermAck.is silent
-    c.acknowledgement-ended.result c.tell_over.ensures.told c.tell_over.ensures.root w.lent c.tell_over.ensures.kept hears.lives (c.acknowledgement-ended.ensures.ended w.control w.stands)
+    c.acknowledgement-ended.result c.tell_over.ensures.told c.tell_over.ensures.root w.lent c.tell_over.ensures.kept hears.lives
+    (parent_lives w.control c.in-TermAck.child.0 c.args.letter.now.to.0 (not_ended w.control c.in-TermAck.child.0 c.args.letter.now.to.0 (finished_is _ (left _ _ hears.comes.comes)) hears.lives) hears.lives)
+    (c.acknowledgement-ended.ensures.ended w.control w.stands) c.tell_over.ensures.heard
 
 pub returns-in-Term-clause-joins : goal.returns-in-Term-clause-joins
 returns-in-Term-clause-joins g c = λ a silent w.
     let hears = subst (λ (x : Word). HearsEnd g.P.Pipes.known.out_name g.P.Pipes.known.in_name w.names w.control c.args.state.now (g.H.Holder.holding c.args.holder.now) c.args.letter.now.to.0 x None) c.in-Term.is w.ends in
-    let done = c.process_term.ensures (record { control = w.control; names = w.names; stands = w.stands; has = w.has; lent = w.lent; rootless = hears.rootless; comes = hears.comes; room = hears.room }) in
-    term_came c.args.letter.now.to a w.control (g.H.Holder.holding c.args.holder.now) (g.H.Holder.holding c.process_term.new.holder) c.args.letter.now.word c.in-Term.is silent done.joined done.objects
+    let done = c.process_term.ensures.terms (record { control = w.control; names = w.names; stands = w.stands; has = w.has; lent = w.lent; rootless = hears.rootless; comes = hears.comes; room = hears.room }) in
+    term_came c.args.letter.now.to a w.control (g.H.Holder.holding c.args.holder.now) (g.H.Holder.holding c.process_term.new.holder) c.args.letter.now.word c.in-Term.is silent done.joined done.objects (c.process_term.ensures.heard (record { control = w.control; names = w.names; stands = w.stands; has = w.has; lent = w.lent; rootless = hears.rootless; comes = hears.comes; room = hears.room }))

@@ -2,14 +2,20 @@ use Rattle.std.specs.Prelude.{List, Option, map}
 use Rattle.std.proofs.Common.{ap, ◌∙◌, subst, sym}
 use Rattle.spec_control.specs.declared.entry.Joining.{Joining}
 use Rattle.ctl_holder.specs.declared.given.Parting.{Parting}
-use Rattle.ctl_holder.specs.Holding.{AreMet, given_as}
+use Rattle.ctl_holder.specs.Holding.{given_as, held_given}
+use Rattle.ctl_holder.specs.TakingOver.{ComeApart}
 use Rattle.ctl_holder.specs.Load.{brings_ends, given_by}
 use Rattle.ctl_reaps.specs.Reaping.{ReapsAt}
 use Rattle.spec_control.specs.declared.letter.Word.{Word}
 use Rattle.ctl_holder.specs.declared.load.Load.{Load}
 use Rattle.ctl_hears.specs.Processing.{HasJoined, HearsEnd}
 use Rattle.ctl_hears.proofs.HearLemmas.{bare_may}
-use Rattle.ctl_hears.proofs.SettledLemmas.{ack_processed}
+use Rattle.control_rows.proofs.ListLemmas.{never}
+use Rattle.zq_base.specs.declared.ids.EndId.{EndId}
+use Rattle.ctl_holder.specs.Counts.{IsCounted}
+use Rattle.ctl_hears.specs.Attaching.{binds_end}
+use Rattle.ctl_hears.specs.Processing.{is_bare}
+use Rattle.ctl_hears.proofs.SettledLemmas.{ack_processed, one_acked}
 use Rattle.ctl_hears.proofs.CameLemmas.{acked_came, bind_came, reap_came}
 use Rattle.ctl_hears.proofs.ToldLemmas.{acked_told, reap_told}
 use Rattle.ctl_hears.proofs.BindingLemmas.{bind_processed, bind_told}
@@ -46,7 +52,7 @@ pub returns-in-PipeTermAck-clause-heard : goal.returns-in-PipeTermAck-clause-hea
 returns-in-PipeTermAck-clause-heard g c = λ w.
     ack_processed g.P.Pipes.known.out_name g.P.Pipes.known.in_name c.args.state.now c.acknowledged-counts.new.state (g.H.Holder.holding c.args.holder.now) (g.H.Holder.holding c.acknowledged-counts.new.holder) w.names w.control c.args.letter.now.to c.args.letter.now.word
     c.in-PipeTermAck.e c.acknowledged-counts.result c.with_counts.result c.in-PipeTermAck.is c.with_counts.ensures
-    (c.acknowledged-counts.ensures (record {
+    (c.acknowledged-counts.ensures.acknowledges (record {
       control = w.control;
       names = w.names;
       stands = w.stands;
@@ -76,8 +82,14 @@ take_over-joined-requires-clause-may g c =
 pub take_over-joined-requires-clause-reaps : goal.take_over-joined-requires-clause-reaps
 take_over-joined-requires-clause-reaps g c = c.requires.reaps (ap brings_ends c.in-Reap.is)
 
-pub take_over-joined-requires-clause-met : goal.take_over-joined-requires-clause-met
-take_over-joined-requires-clause-met g c = subst (λ (l : Option (Load g.row.P-Name.Denot g.row.P-Out.Denot g.row.P-In.Denot)). AreMet (g.H.Holder.ended c.args.holder.now) (given_by l)) c.parting_of.ensures c.requires.met
+pub take_over-joined-requires-clause-takes : goal.take_over-joined-requires-clause-takes
+take_over-joined-requires-clause-takes g c =
+    subst (λ (l : Option (Load g.row.P-Name.Denot g.row.P-Out.Denot g.row.P-In.Denot)). g.H.Holder.may_take c.args.holder.now (given_by l)) c.parting_of.ensures (c.requires.takes (ap brings_ends c.in-Reap.is))
+
+pub take_over-joined-requires-clause-apart : goal.take_over-joined-requires-clause-apart
+take_over-joined-requires-clause-apart g c =
+    subst (λ (l : Option (Load g.row.P-Name.Denot g.row.P-Out.Denot g.row.P-In.Denot)). ComeApart g.P.Pipes.known.exact (map (held_given g.P.Pipes.known.out_name g.P.Pipes.known.in_name) (given_by l)) (g.H.Holder.holding c.args.holder.now)) c.parting_of.ensures
+    (c.requires.come (ap brings_ends c.in-Reap.is))
 
 pub returns-in-Reap-clause-heard : goal.returns-in-Reap-clause-heard
 returns-in-Reap-clause-heard g c = λ w.
@@ -118,7 +130,7 @@ returns-in-Ok-clause-heard g c = λ w.
 pub returns-in-PipeTermAck-clause-turned : goal.returns-in-PipeTermAck-clause-turned
 returns-in-PipeTermAck-clause-turned g c = λ w.
     acked_told c.args.letter.now.to c.with_counts.result w.control (g.H.Holder.holding c.args.holder.now) (g.H.Holder.holding c.acknowledged-counts.new.holder) c.args.letter.now.word c.in-PipeTermAck.e c.acknowledged-counts.result c.in-PipeTermAck.is c.with_counts.ensures
-    (c.acknowledged-counts.ensures (record {
+    (c.acknowledged-counts.ensures.acknowledges (record {
       control = w.control;
       names = w.names;
       stands = w.stands;
@@ -144,8 +156,8 @@ returns-in-Ok-clause-turned g c = λ w.
 pub returns-in-PipeTermAck-clause-joins : goal.returns-in-PipeTermAck-clause-joins
 returns-in-PipeTermAck-clause-joins g c = λ w.
     let hears = subst (λ (x : Word). HearsEnd g.P.Pipes.known.out_name g.P.Pipes.known.in_name w.names w.control c.args.state.now (g.H.Holder.holding c.args.holder.now) c.args.letter.now.to.0 x c.args.load) c.in-PipeTermAck.is w.ends in
-    let done = c.acknowledged-counts.ensures (record { control = w.control; names = w.names; stands = w.stands; has = w.has; comes = hears }) in
-    acked_came c.args.letter.now.to c.with_counts.result w.control (g.H.Holder.holding c.args.holder.now) (g.H.Holder.holding c.acknowledged-counts.new.holder) c.args.letter.now.word c.in-PipeTermAck.e c.acknowledged-counts.result c.in-PipeTermAck.is c.with_counts.ensures done.joined done.objects
+    let done = c.acknowledged-counts.ensures.acknowledges (record { control = w.control; names = w.names; stands = w.stands; has = w.has; comes = hears }) in
+    acked_came c.args.letter.now.to c.with_counts.result w.control (g.H.Holder.holding c.args.holder.now) (g.H.Holder.holding c.acknowledged-counts.new.holder) c.args.letter.now.word c.in-PipeTermAck.e c.acknowledged-counts.result c.in-PipeTermAck.is c.with_counts.ensures done.joined done.objects (c.acknowledged-counts.ensures.heard (record { control = w.control; names = w.names; stands = w.stands; has = w.has; comes = hears }))
 
 pub returns-in-Reap-clause-joins : goal.returns-in-Reap-clause-joins
 returns-in-Reap-clause-joins g c = λ w.
@@ -153,10 +165,26 @@ returns-in-Reap-clause-joins g c = λ w.
     let reaps = subst (λ (x : Parting g.row.P-Name.Denot g.row.P-Out.Denot g.row.P-In.Denot). ReapsAt g.P.Pipes.known.out_name g.P.Pipes.known.in_name w.names w.control c.args.state.now (g.H.Holder.holding c.args.holder.now) c.in-Reap.socket.0 x)
     (same_parting c.args.load hears.parting c.parting_of.result hears.brings c.parting_of.ensures) hears.reaps in
     let taken = c.take_over-joined.ensures.taken (record { control = w.control; names = w.names; stands = w.stands; has = w.has; reaps = reaps }) in
-    reap_came c.args.letter.now.to c.with_joined.result w.control (g.H.Holder.holding c.args.holder.now) (g.H.Holder.holding c.take_over-joined.new.holder) c.args.letter.now.word c.in-Reap.socket c.in-Reap.is taken.joined taken.objects
+    reap_came c.args.letter.now.to c.with_joined.result w.control (g.H.Holder.holding c.args.holder.now) (g.H.Holder.holding c.take_over-joined.new.holder) c.args.letter.now.word c.in-Reap.socket c.in-Reap.is taken.joined taken.objects c.take_over-joined.ensures.heard
 
 pub returns-in-Ok-clause-joins : goal.returns-in-Ok-clause-joins
 returns-in-Ok-clause-joins g c = λ w.
     let hears = subst (λ (x : Word). HearsEnd g.P.Pipes.known.out_name g.P.Pipes.known.in_name w.names w.control c.args.state.now (g.H.Holder.holding c.args.holder.now) c.args.letter.now.to.0 x c.args.load) c.in-PipeBind.is w.ends in
     let done = c.in-Ok.ensures.ok (record { control = w.control; names = w.names; stands = w.stands; has = w.has; comes = hears }) _ c.in-PipeBind.is in
-    bind_came c.args.letter.now.to c.with_joined-in-Ok.result w.control (g.H.Holder.holding c.args.holder.now) (g.H.Holder.holding c.bind_comes.new.holder) c.args.letter.now.word c.in-PipeBind.e _ c.in-Ok.joined c.in-PipeBind.is c.with_joined-in-Ok.ensures done.came done.holds done.kinds
+    bind_came c.args.letter.now.to c.with_joined-in-Ok.result w.control (g.H.Holder.holding c.args.holder.now) (g.H.Holder.holding c.bind_comes.new.holder) c.args.letter.now.word c.in-PipeBind.e _ c.in-Ok.joined c.in-PipeBind.is c.with_joined-in-Ok.ensures done.came done.holds done.kinds done.heard
+
+pub returns-then-is_bare-clause-counts : goal.returns-then-is_bare-clause-counts
+returns-then-is_bare-clause-counts g c = λ e is. absurd (never (sym (ap is_bare is) ∙ sym c.is_bare.ensures ∙ c.if-is_bare.true))
+
+pub returns-in-PipeTermAck-clause-counts : goal.returns-in-PipeTermAck-clause-counts
+returns-in-PipeTermAck-clause-counts g c = λ e is.
+    let told = c.acknowledged-counts.ensures.counts in
+    subst (λ (d : EndId). IsCounted g.P.Pipes.known.out_name (g.H.Holder.counts c.args.holder.now) (g.H.Holder.holding c.args.holder.now) c.args.letter.now.to.0 d c.with_counts.result.settled)
+    (one_acked g.P.Pipes.known.out_name g.P.Pipes.known.in_name c.args.letter.now.word c.in-PipeTermAck.e e c.in-PipeTermAck.is is)
+    (record { writer = told.writer; pipe = told.pipe; told_is = c.with_counts.ensures.settled ∙ told.told_is })
+
+pub returns-in-Reap-clause-counts : goal.returns-in-Reap-clause-counts
+returns-in-Reap-clause-counts g c = λ e is. absurd (never (sym (ap brings_ends is) ∙ ap brings_ends c.in-Reap.is))
+
+pub returns-in-Ok-clause-counts : goal.returns-in-Ok-clause-counts
+returns-in-Ok-clause-counts g c = λ e is. absurd (never (sym (ap binds_end is) ∙ ap binds_end c.in-PipeBind.is))

@@ -1,5 +1,5 @@
 use Rattle.std.specs.Prelude.{false}
-use Rattle.std.proofs.Common.{ap}
+use Rattle.std.proofs.Common.{ap, ◌∙◌}
 use Rattle.spec_control.specs.declared.end.EndEvent.TheVariants.{Asked}
 use Rattle.ctl_holder.specs.declared.load.Load.{Load}
 use Rattle.ctl_state.specs.declared.state.State.{State}
@@ -21,6 +21,6 @@ returns g c = λ w.
     let stands = c.step_end-commands.ensures.stands w.control w.stands in
     asked c.args.state.now (g.H.Holder.holding c.args.holder.now) c.args.o.0 c.args.first w c.args.reason c.step_end-commands.new.self c.step_end-commands.result stands
     (c.step_end-commands.ensures.commands w.control w.stands) (ap (λ (x : State (Load g.row.P-Name.Denot g.row.P-Out.Denot g.row.P-In.Denot)). x.boxes) c.step_end-commands.ensures.next)
-    g.P.Pipes.known.out_name g.P.Pipes.known.in_name (g.H.Holder.holding c.set_state.new.self) (g.H.Holder.holding c.seal.new.self) c.tell_other.new.self c.set_state.ensures.stays c.set_state.ensures.turns c.seal.ensures.stays c.seal.ensures.turns
+    g.P.Pipes.known.out_name g.P.Pipes.known.in_name (g.H.Holder.holding c.set_state.new.self) (g.H.Holder.holding c.seal.new.self) c.tell_other.new.self c.set_state.ensures.stays c.set_state.ensures.turns c.seal.ensures.stays c.seal.ensures.turns (c.seal.ensures.heard ∙ c.set_state.ensures.heard)
     (ap (λ (x : State (Load g.row.P-Name.Denot g.row.P-Out.Denot g.row.P-In.Denot)). x.objects.lists) c.step_end-commands.ensures.next)
     (c.tell_other.ensures.stands (stepped (Asked c.args.reason false) c.args.first w.control) stands) c.tell_other.ensures.told

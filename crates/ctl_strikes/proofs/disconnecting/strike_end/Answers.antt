@@ -77,4 +77,4 @@ returns-clause-joins g c =
     let mine = sym (c.is_of.ensures w.control w.stands) ∙ c.if-not-is_of.false in
     let here = sym (c.is_here.ensures w.control w.stands) ∙ c.if-not-is_here.false in
     let leads = c.turn_end.ensures (asks_at g.P.Pipes.known.out_name g.P.Pipes.known.in_name c.args.state.now (g.H.Holder.holding c.args.holder.now) c.args.socket.0 w c.args.e mine here) in
-    record { joined = leads.joined; holds = leads.holds; kinds = leads.kinds }
+    record { joined = leads.joined; holds = leads.holds; kinds = leads.kinds; heard = leads.heard }

@@ -6,6 +6,11 @@ use Rattle.held_ends.specs.Sound.{IsSound, can_write}
 use Rattle.held_ends.proofs.PlaceLemmas.{place_within, place_found}
 use Rattle.held_ends.proofs.HalfLemmas.{within, found_row, never_none, stated_sound, read_sound}
 use Rattle.held_ends.proofs.OthersLemmas.{leaves_changed}
+use Rattle.held_ends.specs.Counting.{half_at}
+use Rattle.ends.specs.Rows.{row_at}
+use Rattle.held_ends.specs.Places.{place_at}
+use Rattle.held_ends.proofs.HalfLemmas.{reading_there}
+use Rattle.held_ends.proofs.CountLemmas.{half_in_row, half_in_place}
 use Rattle.held_ends.proofs.halving.set_state.Goals as goal
 
 pub index-requires : goal.index-requires
@@ -78,3 +83,22 @@ returns-in-Some-clause-others g c =
     leaves_changed g.P.Pipes.known c.args.pipes.now c.args.table.now _ c.args.place p (record p { state = c.args.state; peer = c.args.peer }) c.requires.there.there
     (record { end_is = refl; written_is = refl; read_is = refl; held = λ h. h; writes = λ w. w })
     (ap (set c.args.table.now.places.items c.args.place) (c.turn-writable.ensures.turned ∙ ap (λ (x : Place _ _). record x { state = c.args.state; peer = c.args.peer }) same)) refl
+
+pub returns-then-not-index-clause-half : goal.returns-then-not-index-clause-half
+returns-then-not-index-clause-half g c =
+    let p = c.requires.there.place in
+    let here = place_found c.args.table.now.places.items c.args.place p c.index.result.now c.requires.there.there c.index.ensures in
+    let same = place_found c.args.table.now.places.items c.args.place p c.index_mut.result.now c.requires.there.there c.index_mut.ensures.value in
+    let none = (reading_there g.P.Pipes.known c.args.pipes.now c.args.table.now.rows.items c.args.table.now.places.items c.args.place p c.requires.sound c.requires.there.there c.requires.there.held (sym (ap (λ (x : Place _ _). x.writes) here) ∙ c.if-not-index.true)).1 in
+    ap (λ (x : Place _ _). half_at (row_at c.args.table.now.rows.items c.args.place) (place_at (set c.args.table.now.places.items c.args.place x) c.args.place))
+    (c.turn.ensures.turned ∙ ap (λ (x : Place _ _). record x { state = c.args.state; peer = c.args.peer }) same)
+    ∙ half_in_place g.P.Pipes.known c.args.pipes.now c.args.table.now.rows.items c.args.table.now.places.items c.args.place p c.requires.sound c.requires.there.there c.requires.there.held (record p { state = c.args.state; peer = c.args.peer }) none refl
+
+pub returns-in-Some-clause-half : goal.returns-in-Some-clause-half
+returns-in-Some-clause-half g c =
+    let p = c.requires.there.place in
+    let here = place_found c.args.table.now.places.items c.args.place p c.index.result.now c.requires.there.there c.index.ensures in
+    let writes = sym (ap (λ (x : Place _ _). x.writes) here) ∙ c.if-not-index.false in
+    let f = found_row g.P.Pipes.known c.args.pipes.now c.args.table.now.rows.items c.args.table.now.places.items c.args.place p c.requires.sound c.requires.there.there c.requires.there.held c.index_mut-3.result.now c.in-Some.row c.deref_mut.result.now writes c.index_mut-3.ensures.value c.in-Some.is c.deref_mut.ensures.value in
+    half_in_row g.P.Pipes.known c.args.pipes.now c.args.table.now.rows.items c.args.table.now.places.items c.args.place p c.requires.sound c.requires.there.there c.requires.there.held c.deref_mut.result.now (with_value c.in-Some.row c.open_or_shut.new.row) _ f.0
+    (ap (λ (r : EndRow _ _). r.input) c.open_or_shut.ensures)

@@ -6,6 +6,8 @@ use Rattle.held_ends.proofs.PlaceLemmas.{place_within, place_found}
 use Rattle.held_ends.proofs.SoundLemmas.{one_some}
 use Rattle.held_ends.proofs.HalfLemmas.{reading_there, settled_sound, adds_up, nothing_left, no_input}
 use Rattle.held_ends.proofs.OthersLemmas.{place_now, leaves_settled}
+use Rattle.held_ends.specs.Counting.{counts_with}
+use Rattle.held_ends.proofs.CountLemmas.{half_read, told_counts}
 use Rattle.held_ends.proofs.halving.settle.Goals as goal
 
 pub index_mut-requires : goal.index_mut-requires
@@ -62,3 +64,12 @@ returns-in-Some-clause-others g c =
     (ap (set c.args.table.now.places.items c.args.place) (c.give_reading.ensures.gone ∙ ap (λ (x : Place _ _). record x { held = false; input = None }) same)))
     (g.P.Pipes.known.out_name c.args.writer) (sym c.requires.reads.pipe) c.settle.ensures.keeps
     (c.and-table.ensures ∙ ap (λ (n : _). c.args.table.now.settled.items ++ (n, tt) ∷ []) c.name-name.ensures)
+
+pub returns-in-Some-clause-counts : goal.returns-in-Some-clause-counts
+returns-in-Some-clause-counts g c =
+    let s = reading_there g.P.Pipes.known c.args.pipes.now c.args.table.now.rows.items c.args.table.now.places.items c.args.place c.requires.reads.place c.requires.sound c.requires.reads.there c.requires.reads.held c.requires.reads.yielded in
+    let same = place_found c.args.table.now.places.items c.args.place c.requires.reads.place c.index_mut.result.now c.requires.reads.there c.index_mut.ensures.value in
+    told_counts (g.P.Pipes.known.writing c.args.pipes.now c.args.writer) (g.P.Pipes.known.reading c.args.pipes.now c.in-Some.input) c.settle.result c.settle.ensures.sent c.settle.ensures.got c.settle.ensures.rest
+    ∙ ap (counts_with g.P.Pipes.known c.args.pipes.now c.args.writer)
+    (sym c.in-Some.is ∙ c.give_reading.ensures.half ∙ ap (λ (x : Place _ _). x.input) same
+    ∙ sym (half_read g.P.Pipes.known c.args.pipes.now c.args.table.now.rows.items c.args.table.now.places.items c.args.place c.requires.reads.place c.requires.sound c.requires.reads.there c.requires.reads.held s.1))

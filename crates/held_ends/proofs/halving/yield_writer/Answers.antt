@@ -8,6 +8,11 @@ use Rattle.held_ends.specs.Sound.{IsSound}
 use Rattle.held_ends.proofs.PlaceLemmas.{place_within, place_found}
 use Rattle.held_ends.proofs.HalfLemmas.{found_row, never_none, within, yielded_sound}
 use Rattle.held_ends.proofs.OthersLemmas.{place_now, leaves_out}
+use Rattle.held_ends.specs.Counting.{half_at}
+use Rattle.ends.specs.Rows.{row_at}
+use Rattle.held_ends.specs.Places.{place_at}
+use Rattle.held_ends.proofs.CountLemmas.{half_moves, yields_counts}
+use Rattle.held_ends.proofs.SoundLemmas.{one_some}
 use Rattle.held_ends.proofs.halving.yield_writer.Goals as goal
 
 pub index_mut-requires : goal.index_mut-requires
@@ -62,3 +67,15 @@ returns-in-Some-clause-others g c =
     (record { end_is = refl; written_is = refl; read_is = refl; held = λ h. h; writes = λ w. absurd (true≢false (sym w)) })
     (ap (set c.args.table.now.places.items c.args.place) (c.keep_reading.ensures ∙ ap (λ (x : Place _ _). record x { writes = false; peer = false; input = Some r.input }) same)))
     r.out c.rollback.new.o c.requires.writes.writes f.1.name_is c.rollback.ensures.keeps refl
+
+pub returns-in-Some-clause-counts : goal.returns-in-Some-clause-counts
+returns-in-Some-clause-counts g c = λ writer q at name.
+    let p = c.requires.writes.place in
+    let r = c.into_inner-out.result in
+    let f = found_row g.P.Pipes.known c.args.pipes.now c.args.table.now.rows.items c.args.table.now.places.items c.args.place p c.requires.sound c.requires.writes.there c.requires.writes.held
+    c.index_mut.result.now c.in-Some.row r c.requires.writes.writes c.index_mut.ensures.value (sym c.take.ensures.value ∙ c.in-Some.is) c.into_inner-out.ensures in
+    let same = place_found c.args.table.now.places.items c.args.place p c.index_mut-in-Some.result.now c.requires.writes.there c.index_mut-in-Some.ensures.value in
+    yields_counts g.P.Pipes.known c.args.pipes.now c.args.table.now.rows.items c.args.table.now.places.items c.args.place p c.requires.sound c.requires.writes.there c.requires.writes.held c.rollback.new.self r c.rollback.new.o _ writer c.requires.writes.writes f.0 f.1 c.rollback.ensures.keeps
+    (ap (λ (x : Option (Box (EndRow _ _) Global)). half_at (row_at (set c.args.table.now.rows.items c.args.place x) c.args.place) (place_at (set c.args.table.now.places.items c.args.place c.keep_reading.new.place) c.args.place)) c.take.ensures.after
+    ∙ half_moves g.P.Pipes.known c.args.pipes.now c.args.table.now.rows.items c.args.table.now.places.items c.args.place p c.requires.sound c.requires.writes.there c.requires.writes.held r c.keep_reading.new.place f.0 (ap (λ (x : Place _ _). x.input) c.keep_reading.ensures))
+    (name ∙ ap (λ (x : Place _ _). x.read) (one_some q p (sym at ∙ c.requires.writes.there)))

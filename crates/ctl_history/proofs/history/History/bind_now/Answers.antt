@@ -172,14 +172,14 @@ returns-clause-joins g c =
     (c.push.ensures ∙ ap (with_last _) (c.in_ok-notes.ensures.room all)) (given_bound g.P.Pipes.known.out_name g.P.Pipes.known.in_name c.self.inside.state _ _ c.args.socket c.args.name c.self.invariant (g.H.Holder.holding c.args.holder.now) lends allowed c.in_ok-notes.notes c.bind_with_room.new.state (g.H.Holder.holding c.bind_with_room.new.holder) fulfils c.with_notes.result c.with_notes.ensures) in
     subst (λ (p : Past (Given g.row.P-Name.Denot g.row.P-Out.Denot g.row.P-In.Denot) g.row.P-Name.Denot g.row.P-Story.Denot). ComesWith c.args.self.now p (g.H.Holder.holding c.args.holder.now) (g.H.Holder.holding c.bind_with_room.new.holder)) (sym step)
     (event_comes c.args.self.now (Asked (Bind c.args.socket (Inproc c.args.name)) Done c.with_notes.result) (g.H.Holder.holding c.args.holder.now) (g.H.Holder.holding c.bind_with_room.new.holder)
-    (fulfils.came ∙ ap (λ (js : List (Joining g.row.P-Name.Denot)). (g.H.Holder.holding c.args.holder.now).joined ++ js) (sym c.with_notes.ensures.joined)) fulfils.gets.objects fulfils.gets.kinds)
+    (fulfils.came ∙ ap (λ (js : List (Joining g.row.P-Name.Denot)). (g.H.Holder.holding c.args.holder.now).joined ++ js) (sym c.with_notes.ensures.joined)) fulfils.gets.objects fulfils.gets.kinds (λ b n. refl) fulfils.heard)
 
 pub returns-in_err-notes-clause-joins : goal.returns-in_err-notes-clause-joins
 returns-in_err-notes-clause-joins g c =
     subst (λ (p : Past (Given g.row.P-Name.Denot g.row.P-Out.Denot g.row.P-In.Denot) g.row.P-Name.Denot g.row.P-Story.Denot). ComesWith c.args.self.now p (g.H.Holder.holding c.args.holder.now) (g.H.Holder.holding c.bind_with_room.new.holder))
     (sym (viewed_back c.args.self.now c.self.inside.state c.bind_with_room.new.state c.self.inside.workers c.self.inside.events c.bind_with_room.new.events c.in_err-notes.ensures.err
     c.in_err-notes.ensures.kept c.self.view_is))
-    (past_comes c.args.self.now (g.H.Holder.holding c.args.holder.now) (g.H.Holder.holding c.bind_with_room.new.holder) c.in_err-notes.ensures.back.joined c.in_err-notes.ensures.back.now.objects c.in_err-notes.ensures.back.now.kinds)
+    (past_comes c.args.self.now (g.H.Holder.holding c.args.holder.now) (g.H.Holder.holding c.bind_with_room.new.holder) c.in_err-notes.ensures.back.joined c.in_err-notes.ensures.back.now.objects c.in_err-notes.ensures.back.now.kinds c.in_err-notes.ensures.back.heard)
 
 pub returns-in_err-copy-clause-joins : goal.returns-in_err-copy-clause-joins
-returns-in_err-copy-clause-joins g c = past_comes c.args.self.now (g.H.Holder.holding c.args.holder.now) (g.H.Holder.holding c.args.holder.now) refl (λ i. refl) (λ i. refl)
+returns-in_err-copy-clause-joins g c = past_comes c.args.self.now (g.H.Holder.holding c.args.holder.now) (g.H.Holder.holding c.args.holder.now) refl (λ i. refl) (λ i. refl) refl

@@ -13,7 +13,7 @@ use Rattle.ctl_state.specs.Stands.{Stands}
 use Rattle.ctl_terms.proofs.HolderLemmas.{has_same}
 use Rattle.ctl_history.specs.Past.{Past, control_of, items_of, IsPast}
 use Rattle.ctl_history.specs.Hearing.{HasWhat}
-use Rattle.ctl_history.proofs.GiveLemmas.{given_ends, given_has, given_met, gives_all}
+use Rattle.ctl_history.proofs.GiveLemmas.{given_ends, given_halves, given_has, gives_all}
 use Rattle.ctl_history.proofs.StruckLemmas.{has_then}
 use Rattle.ctl_history.proofs.ToldLemmas.{event_told}
 use Rattle.ctl_strikes.proofs.OnceLemmas.{told_none}
@@ -43,8 +43,8 @@ returns-clause-closes g c =
       ends = c.note_met-parting.result.ends.items;
       answered = c.silent.result;
       silent = c.silent.ensures;
-      met = given_met g.P.Pipes.known.out_name g.P.Pipes.known.in_name (control_of c.args.self.now) c.args.socket.0 (name_of (items_of c.args.self.now)) (g.H.Holder.holding c.args.holder.now) has c.give_ends.result.ends.items c.give_ends.ensures.all c.give_ends.result.joined c.give_ends.ensures.joined c.note_met-parting.result (c.note_met-parting.ensures.ends _ stands) (c.note_met-parting.ensures.joined _ stands)
-          (g.H.Holder.ended c.give_ends.new.self) c.give_ends.ensures.told c.give_ends.ensures.met;
+      given = given_halves g.P.Pipes.known.out_name g.P.Pipes.known.in_name (control_of c.args.self.now) c.args.socket.0 (name_of (items_of c.args.self.now)) (g.H.Holder.holding c.args.holder.now) has c.give_ends.result.ends.items c.give_ends.ensures.all c.give_ends.result.joined c.give_ends.ensures.joined c.note_met-parting.result (c.note_met-parting.ensures.ends _ stands) (c.note_met-parting.ensures.joined _ stands)
+          g.P.Pipes.known (g.H.Holder.pipes c.give_ends.new.self) c.give_ends.ensures.told c.give_ends.ensures.given;
       step = c.give_over.ensures;
     }
 
@@ -71,4 +71,5 @@ returns-clause-joins g c =
     let did = Asked (Close c.args.socket) Done c.silent.result in
     subst (λ (p : Past (Given g.row.P-Name.Denot g.row.P-Out.Denot g.row.P-In.Denot) g.row.P-Name.Denot g.row.P-Story.Denot). ComesWith c.args.self.now p (g.H.Holder.holding c.args.holder.now) (g.H.Holder.holding c.give_ends.new.self)) (sym c.give_over.ensures)
     (objects_come c.args.self.now did (g.H.Holder.holding c.args.holder.now) (g.H.Holder.holding c.give_ends.new.self) (c.give_ends.ensures.turns.joined ∙ sym (ap (λ (js : List (Joining g.row.P-Name.Denot)). (g.H.Holder.holding c.args.holder.now).joined ++ js) c.silent.ensures.joined ∙ append-nil (g.H.Holder.holding c.args.holder.now).joined))
-    (close_keeps was (after did was) c.args.socket.0 (g.H.Holder.holding c.args.holder.now) (g.H.Holder.holding c.give_ends.new.self) refl c.requires.open c.give_ends.ensures.none))
+    (close_keeps was (after did was) c.args.socket.0 (g.H.Holder.holding c.args.holder.now) (g.H.Holder.holding c.give_ends.new.self) refl c.requires.open c.give_ends.ensures.none)
+    (c.give_ends.ensures.heard ∙ sym (append-nil (g.H.Holder.holding c.args.holder.now).heard)))

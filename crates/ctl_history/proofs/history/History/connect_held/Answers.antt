@@ -171,17 +171,17 @@ returns-clause-joins g c =
     (Inproc c.in_ok-copy.field-0) (ap Inproc c.in_ok-copy.ensures) c.in_ok-made.made.0 c.in_ok-made.made.1 c.connect_with_room.new.state (g.H.Holder.holding c.connect_with_room.new.holder) connected c.with_notes.result c.with_notes.ensures) in
     subst (λ (p : Past (Given g.row.P-Name.Denot g.row.P-Out.Denot g.row.P-In.Denot) g.row.P-Name.Denot g.row.P-Story.Denot). ComesWith c.args.self.now p (g.H.Holder.holding c.args.holder.now) (g.H.Holder.holding c.connect_with_room.new.holder)) (sym step)
     (event_comes c.args.self.now (Asked (Connect c.args.socket (Inproc c.args.name)) (Pair c.in_ok-made.made.0) c.with_notes.result) (g.H.Holder.holding c.args.holder.now) (g.H.Holder.holding c.connect_with_room.new.holder)
-    (connected.came ∙ ap (λ (js : List (Joining g.row.P-Name.Denot)). (g.H.Holder.holding c.args.holder.now).joined ++ js) (sym c.with_notes.ensures.joined)) connected.gets.objects connected.gets.kinds)
+    (connected.came ∙ ap (λ (js : List (Joining g.row.P-Name.Denot)). (g.H.Holder.holding c.args.holder.now).joined ++ js) (sym c.with_notes.ensures.joined)) connected.gets.objects connected.gets.kinds (λ b n. refl) connected.heard)
 
 pub returns-in_err-made-clause-joins : goal.returns-in_err-made-clause-joins
 returns-in_err-made-clause-joins g c =
     subst (λ (p : Past (Given g.row.P-Name.Denot g.row.P-Out.Denot g.row.P-In.Denot) g.row.P-Name.Denot g.row.P-Story.Denot). ComesWith c.args.self.now p (g.H.Holder.holding c.args.holder.now) (g.H.Holder.holding c.connect_with_room.new.holder))
     (sym (viewed_back c.args.self.now c.self.inside.state c.connect_with_room.new.state c.self.inside.workers c.self.inside.events c.connect_with_room.new.events c.in_err-made.ensures.err
     c.in_err-made.ensures.kept c.self.view_is))
-    (past_comes c.args.self.now (g.H.Holder.holding c.args.holder.now) (g.H.Holder.holding c.connect_with_room.new.holder) c.in_err-made.ensures.keeps.joined c.in_err-made.ensures.stays.now.objects c.in_err-made.ensures.stays.now.kinds)
+    (past_comes c.args.self.now (g.H.Holder.holding c.args.holder.now) (g.H.Holder.holding c.connect_with_room.new.holder) c.in_err-made.ensures.keeps.joined c.in_err-made.ensures.stays.now.objects c.in_err-made.ensures.stays.now.kinds c.in_err-made.ensures.heard)
 
 pub returns-in_err-copy-clause-joins : goal.returns-in_err-copy-clause-joins
-returns-in_err-copy-clause-joins g c = past_comes c.args.self.now (g.H.Holder.holding c.args.holder.now) (g.H.Holder.holding c.args.holder.now) refl (λ i. refl) (λ i. refl)
+returns-in_err-copy-clause-joins g c = past_comes c.args.self.now (g.H.Holder.holding c.args.holder.now) (g.H.Holder.holding c.args.holder.now) refl (λ i. refl) (λ i. refl) refl
 
 pub returns-in_err-made-clause-err : goal.returns-in_err-made-clause-err
 returns-in_err-made-clause-err g c =

@@ -121,7 +121,7 @@ returns-clause-joins g c =
     c.silent.result c.silent.ensures held (c.turn_end.ensures may)) in
     subst (λ (p : Past (Given g.row.P-Name.Denot g.row.P-Out.Denot g.row.P-In.Denot) g.row.P-Name.Denot g.row.P-Story.Denot). ComesWith c.args.self.now p (g.H.Holder.holding c.args.holder.now) (g.H.Holder.holding c.turn_end.new.holder)) (sym step)
     (subst (λ (p : Past (Given g.row.P-Name.Denot g.row.P-Out.Denot g.row.P-In.Denot) g.row.P-Name.Denot g.row.P-Story.Denot). ComesWith p (with_event (Delimited c.args.e c.silent.result) p) (g.H.Holder.holding c.args.holder.now) (g.H.Holder.holding c.turn_end.new.holder)) c.self.view_is
-    (aside_comes inner (Delimited c.args.e c.silent.result) (g.H.Holder.holding c.args.holder.now) (g.H.Holder.holding c.turn_end.new.holder) c.silent.ensures.joined (c.turn_end.ensures may).joined (c.turn_end.ensures may).holds (c.turn_end.ensures may).kinds))
+    (aside_comes inner (Delimited c.args.e c.silent.result) (g.H.Holder.holding c.args.holder.now) (g.H.Holder.holding c.turn_end.new.holder) c.silent.ensures.joined (c.turn_end.ensures may).joined (c.turn_end.ensures may).holds (c.turn_end.ensures may).kinds (λ b n. refl) (c.turn_end.ensures may).heard))
 
 pub returns-then-not-is_looked_at-clause-joins : goal.returns-then-not-is_looked_at-clause-joins
-returns-then-not-is_looked_at-clause-joins g c = past_comes c.args.self.now (g.H.Holder.holding c.args.holder.now) (g.H.Holder.holding c.args.holder.now) refl (λ i. refl) (λ i. refl)
+returns-then-not-is_looked_at-clause-joins g c = past_comes c.args.self.now (g.H.Holder.holding c.args.holder.now) (g.H.Holder.holding c.args.holder.now) refl (λ i. refl) (λ i. refl) refl

@@ -1,10 +1,12 @@
-use Rattle.std.specs.Prelude.{◌≡◌, ◌&&◌, ◌==◌, ◌<◌, ◌∷◌, ℕ, true, Option, refl}
+use Rattle.std.specs.Prelude.{◌≡◌, ◌&&◌, ◌==◌, ◌<◌, ◌++◌, ◌∷◌, ℕ, true, List, Option, refl}
 use Rattle.std.specs.List.{list_any}
 use Rattle.std.proofs.Common.{ap, sym, ◌∙◌, subst}
 use Rattle.mailbox.specs.Mail.{with_put_back}
 use Rattle.spec_control.specs.ControlRun.{is_between}
 use Rattle.ctl_holder.specs.declared.given.Given.{Given}
-use Rattle.ctl_holder.specs.Holding.{AreMet}
+use Rattle.ctl_holder.specs.TakingOver.{AreDistinct, MayTakeFirst}
+use Rattle.ctl_hears.proofs.TakeOverLemmas.{heard_apart}
+use Rattle.spec_control.specs.Names.{name_of}
 use Rattle.ctl_holder.specs.declared.load.Load.{Load}
 use Rattle.ctl_state.specs.declared.state.State.{State}
 use Rattle.ctl_state.specs.Boxes.{mail_at, with_mail}
@@ -17,8 +19,8 @@ use Rattle.spec_control.specs.After.{after, without_front}
 use Rattle.spec_control.specs.PairPhase.{behind_first}
 use Rattle.ctl_holder.specs.Turns.{HasTurned}
 use Rattle.ctl_ends.proofs.TurnedLemmas.{turns_none, turns_same}
-use Rattle.ctl_history.specs.Past.{Past, control_of, with_event}
-use Rattle.ctl_history.proofs.ToldLemmas.{event_told, past_told}
+use Rattle.ctl_history.specs.Past.{Past, control_of, items_of, with_event}
+use Rattle.ctl_history.proofs.ToldLemmas.{event_told, once_attached, past_told}
 use Rattle.ctl_strikes.proofs.OnceLemmas.{told_before}
 use Rattle.ctl_history.specs.Carried.{given_in}
 use Rattle.ctl_history.specs.Hearing.{AreApart, AreOfKind, BringsFirst, FitBinds, IsServed, HasWhat}
@@ -26,9 +28,11 @@ use Rattle.ctl_hears.specs.Processing.{AreFree}
 use Rattle.ctl_history.proofs.DoneLemmas.{event_with, goes_back}
 use Rattle.ctl_history.proofs.PlaneLemmas.{planed_now}
 use Rattle.ctl_history.proofs.PlaneDoneLemmas.{took_lists, taken_there, back_given, back_plane, stays_there}
-use Rattle.ctl_history.proofs.DeliverLemmas.{may_hear, writer_named, reap_in_roots, met_first, fits_first, delivers, delivers_entry, delivers_brings, delivers_keeps}
+use Rattle.ctl_history.proofs.DeliverLemmas.{may_hear, writer_named, reap_in_roots, take_first, fits_first, delivers, delivers_entry, delivers_brings, delivers_keeps}
 use Rattle.ctl_history.specs.Coming.{ComesWith}
-use Rattle.ctl_history.proofs.ComeLemmas.{objects_come, past_comes}
+use Rattle.ctl_holder.specs.Counts.{CountsOnce}
+use Rattle.ctl_holder.specs.declared.notice.Notice.{Notice}
+use Rattle.ctl_history.proofs.ComeLemmas.{heard_rows, objects_come, past_comes, none_counts, one_counts}
 use Rattle.ctl_history.proofs.history.History.deliver.Goals as goal
 
 pub process-requires-clause-may : goal.process-requires-clause-may
@@ -42,10 +46,25 @@ process-requires-clause-may g c =
 pub process-requires-clause-reaps : goal.process-requires-clause-reaps
 process-requires-clause-reaps g c = λ brings. c.requires.reaps (reap_in_roots g.P.Pipes.known.out_name g.P.Pipes.known.in_name c.self.inside.state c.take.new.self _ _ c.args.slot c.in-Some.command c.self.invariant (took_lists c.self.inside.state c.take.new.self _ c.in-Some.ensures.rest) c.in-Some.ensures.boxes c.in-Some.ensures.stands (c.in-Some.ensures.front _ c.self.invariant.history.stands) brings)
 
-pub process-requires-clause-met : goal.process-requires-clause-met
-process-requires-clause-met g c =
-    met_first g.P.Pipes.known.out_name g.P.Pipes.known.in_name c.self.inside.state c.take.new.self _ _ c.args.slot c.in-Some.command c.self.invariant (took_lists c.self.inside.state c.take.new.self _ c.in-Some.ensures.rest) c.in-Some.ensures.boxes c.in-Some.ensures.stands (c.in-Some.ensures.front _ c.self.invariant.history.stands) (g.H.Holder.ended c.args.holder.now)
-    (subst (λ (p : Past (Given g.row.P-Name.Denot g.row.P-Out.Denot g.row.P-In.Denot) g.row.P-Name.Denot g.row.P-Story.Denot). c.args.slot.0 ≡ 0 → AreMet (g.H.Holder.ended c.args.holder.now) p.given) (sym c.self.view_is) c.requires.met)
+pub process-requires-clause-takes : goal.process-requires-clause-takes
+process-requires-clause-takes g c =
+    take_first g.P.Pipes.known.out_name g.P.Pipes.known.in_name c.self.inside.state c.take.new.self _ _ c.args.slot c.in-Some.command c.self.invariant (took_lists c.self.inside.state c.take.new.self _ c.in-Some.ensures.rest) c.in-Some.ensures.boxes c.in-Some.ensures.stands (c.in-Some.ensures.front _ c.self.invariant.history.stands) (g.H.Holder.may_take c.args.holder.now)
+    (subst (λ (p : Past (Given g.row.P-Name.Denot g.row.P-Out.Denot g.row.P-In.Denot) g.row.P-Name.Denot g.row.P-Story.Denot). c.args.slot.0 ≡ 0 → MayTakeFirst (g.H.Holder.may_take c.args.holder.now) p.given) (sym c.self.view_is) c.requires.takes)
+
+pub process-requires-clause-come : goal.process-requires-clause-come
+process-requires-clause-come g c = λ brings.
+    let lists = took_lists c.self.inside.state c.take.new.self _ c.in-Some.ensures.rest in
+    let front = c.in-Some.ensures.front _ c.self.invariant.history.stands in
+    let hear = may_hear g.P.Pipes.known.out_name g.P.Pipes.known.in_name c.self.inside.state c.take.new.self _ _ c.args.slot c.in-Some.command c.self.invariant lists c.in-Some.ensures.boxes c.in-Some.ensures.stands front (g.H.Holder.holding c.args.holder.now)
+    (subst (λ (p : Past (Given g.row.P-Name.Denot g.row.P-Out.Denot g.row.P-In.Denot) g.row.P-Name.Denot g.row.P-Story.Denot). HasWhat p (g.H.Holder.holding c.args.holder.now)) (sym c.self.view_is) c.requires.has)
+    (subst (λ (p : Past (Given g.row.P-Name.Denot g.row.P-Out.Denot g.row.P-In.Denot) g.row.P-Name.Denot g.row.P-Story.Denot). (i : ℕ) → IsServed (control_of p) c.args.slot.0 i → (g.H.Holder.holding c.args.holder.now).holds i ≡ true) (sym c.self.view_is) c.requires.lent)
+    (subst (λ (p : Past (Given g.row.P-Name.Denot g.row.P-Out.Denot g.row.P-In.Denot) g.row.P-Name.Denot g.row.P-Story.Denot). c.args.slot.0 ≡ 0 → AreFree (control_of p) (g.H.Holder.holding c.args.holder.now)) (sym c.self.view_is) c.requires.free)
+    (subst (λ (p : Past (Given g.row.P-Name.Denot g.row.P-Out.Denot g.row.P-In.Denot) g.row.P-Name.Denot g.row.P-Story.Denot). AreOfKind (control_of p) c.args.slot.0 (g.H.Holder.holding c.args.holder.now)) (sym c.self.view_is) c.requires.kinds) in
+    let root = reap_in_roots g.P.Pipes.known.out_name g.P.Pipes.known.in_name c.self.inside.state c.take.new.self _ _ c.args.slot c.in-Some.command c.self.invariant lists c.in-Some.ensures.boxes c.in-Some.ensures.stands front brings in
+    heard_apart g.P.Pipes.known.out_name g.P.Pipes.known.in_name g.P.Pipes.known.exact hear.names hear.control c.take.new.self (g.H.Holder.holding c.args.holder.now) hear.stands hear.has
+    (once_attached (let p : Past (Given g.row.P-Name.Denot g.row.P-Out.Denot g.row.P-In.Denot) g.row.P-Name.Denot g.row.P-Story.Denot = record { workers = c.self.inside.workers; events = c.self.inside.events.items; given = given_in c.self.inside.state.boxes } in p) c.self.invariant.history.run)
+    (subst (λ (p : Past (Given g.row.P-Name.Denot g.row.P-Out.Denot g.row.P-In.Denot) g.row.P-Name.Denot g.row.P-Story.Denot). AreDistinct g.P.Pipes.known.exact (name_of (items_of p))) (sym c.self.view_is) (c.requires.distinct root))
+    c.in-Some.command.letter.to.0 c.in-Some.command.letter.word c.in-Some.command.load brings hear.ends
 
 pub process-requires-clause-fits : goal.process-requires-clause-fits
 process-requires-clause-fits g c =
@@ -187,7 +206,8 @@ returns-in-Ok-clause-joins g c =
     let did = Delivered c.args.slot c.in-Some.command.letter c.in-Ok.answered in
     subst (λ (p : Past (Given g.row.P-Name.Denot g.row.P-Out.Denot g.row.P-In.Denot) g.row.P-Name.Denot g.row.P-Story.Denot). ComesWith c.args.self.now p (g.H.Holder.holding c.args.holder.now) (g.H.Holder.holding c.process.new.holder)) (sym step)
     (subst (λ (p : Past (Given g.row.P-Name.Denot g.row.P-Out.Denot g.row.P-In.Denot) g.row.P-Name.Denot g.row.P-Story.Denot). ComesWith p (with_event did p) (g.H.Holder.holding c.args.holder.now) (g.H.Holder.holding c.process.new.holder)) c.self.view_is
-    (objects_come inner did (g.H.Holder.holding c.args.holder.now) (g.H.Holder.holding c.process.new.holder) (c.in-Ok.ensures.joins hear).came (record { holds = λ i stays. (c.in-Ok.ensures.joins hear).objects.holds i (record { ended = stays.ended; way = stays.way }); kinds = λ i stays. (c.in-Ok.ensures.joins hear).objects.kinds i (record { ended = stays.ended; way = stays.way }); had = λ i has. (c.in-Ok.ensures.joins hear).objects.had i has })))
+    (objects_come inner did (g.H.Holder.holding c.args.holder.now) (g.H.Holder.holding c.process.new.holder) (c.in-Ok.ensures.joins hear).came (record { holds = λ i stays. (c.in-Ok.ensures.joins hear).objects.holds i (record { ended = stays.ended; way = stays.way }); kinds = λ i stays. (c.in-Ok.ensures.joins hear).objects.kinds i (record { ended = stays.ended; way = stays.way }); had = λ i has. (c.in-Ok.ensures.joins hear).objects.had i has })
+    ((c.in-Ok.ensures.joins hear).heard ∙ ap (λ (ns : List Notice). (g.H.Holder.holding c.args.holder.now).heard ++ ns) (heard_rows c.in-Some.command.letter.to c.in-Some.command.letter.word (control_of inner) (without_front c.args.slot.0 (control_of inner)) (after did (control_of inner)) refl))))
 
 pub returns-in-Err-clause-joins : goal.returns-in-Err-clause-joins
 returns-in-Err-clause-joins g c =
@@ -197,8 +217,30 @@ returns-in-Err-clause-joins g c =
     subst (λ (p : Past (Given g.row.P-Name.Denot g.row.P-Out.Denot g.row.P-In.Denot) g.row.P-Name.Denot g.row.P-Story.Denot). ComesWith c.args.self.now p (g.H.Holder.holding c.args.holder.now) (g.H.Holder.holding c.process.new.holder))
     (sym (stays_there g.P.Pipes.known.out_name g.P.Pipes.known.in_name c.args.self.now c.self.inside.workers c.self.inside.events _ _ c.self.view_is
     (back_given c.self.inside.state c.take.new.self c.process.new.state c.put_back.new.self c.args.slot c.in-Some.command c.in-Some.ensures.boxes there c.in-Err.ensures.err.0 is)))
-    (past_comes c.args.self.now (g.H.Holder.holding c.args.holder.now) (g.H.Holder.holding c.process.new.holder) c.in-Err.ensures.quiet.joined (c.in-Err.ensures.err.1 0).now.objects (c.in-Err.ensures.err.1 0).now.kinds)
+    (past_comes c.args.self.now (g.H.Holder.holding c.args.holder.now) (g.H.Holder.holding c.process.new.holder) c.in-Err.ensures.quiet.joined (c.in-Err.ensures.err.1 0).now.objects (c.in-Err.ensures.err.1 0).now.kinds c.in-Err.ensures.unheard)
 
 pub returns-in_default-clause-joins : goal.returns-in_default-clause-joins
 returns-in_default-clause-joins g c =
-    subst (λ (p : Past (Given g.row.P-Name.Denot g.row.P-Out.Denot g.row.P-In.Denot) g.row.P-Name.Denot g.row.P-Story.Denot). ComesWith c.args.self.now p (g.H.Holder.holding c.args.holder.now) (g.H.Holder.holding c.args.holder.now)) (sym c.self.view_is) (past_comes c.args.self.now (g.H.Holder.holding c.args.holder.now) (g.H.Holder.holding c.args.holder.now) refl (λ i. refl) (λ i. refl))
+    subst (λ (p : Past (Given g.row.P-Name.Denot g.row.P-Out.Denot g.row.P-In.Denot) g.row.P-Name.Denot g.row.P-Story.Denot). ComesWith c.args.self.now p (g.H.Holder.holding c.args.holder.now) (g.H.Holder.holding c.args.holder.now)) (sym c.self.view_is) (past_comes c.args.self.now (g.H.Holder.holding c.args.holder.now) (g.H.Holder.holding c.args.holder.now) refl (λ i. refl) (λ i. refl) refl)
+
+pub returns-in-Ok-clause-counts : goal.returns-in-Ok-clause-counts
+returns-in-Ok-clause-counts g c =
+    let step = event_with c.args.self.now c.self.inside.workers c.self.inside.events c.push.new.self (given_in c.self.inside.state.boxes) (given_in c.process.new.state.boxes) (Delivered c.args.slot c.in-Some.command.letter c.in-Ok.answered) (sym c.self.view_is) c.push.ensures in
+    let did = Delivered c.args.slot c.in-Some.command.letter c.in-Ok.answered in
+    subst (λ (p : Past (Given g.row.P-Name.Denot g.row.P-Out.Denot g.row.P-In.Denot) g.row.P-Name.Denot g.row.P-Story.Denot). CountsOnce g.P.Pipes.known.out_name (g.H.Holder.counts c.args.holder.now) c.args.self.now.events p.events (g.H.Holder.holding c.args.holder.now)) (sym step)
+    (one_counts g.P.Pipes.known.out_name (g.H.Holder.counts c.args.holder.now) c.args.self.now.events (g.H.Holder.holding c.args.holder.now) did c.in-Ok.ensures.counts)
+
+pub returns-in-Err-clause-counts : goal.returns-in-Err-clause-counts
+returns-in-Err-clause-counts g c =
+    let there = taken_there c.self.inside.state c.take.new.self _ c.args.slot c.self.invariant.history.stands c.in-Some.ensures.boxes
+    (subst (λ (p : Past (Given g.row.P-Name.Denot g.row.P-Out.Denot g.row.P-In.Denot) g.row.P-Name.Denot g.row.P-Story.Denot). c.args.slot.0 < (control_of p).slots) (sym c.self.view_is) c.requires.there) in
+    let is = subst (λ (x : Option (Load g.row.P-Name.Denot g.row.P-Out.Denot g.row.P-In.Denot)). c.put_back.new.self ≡ on_boxes (with_mail c.args.slot.0 (with_put_back (record { letter = c.in-Some.command.letter; load = x }) (mail_at c.process.new.state.boxes c.args.slot.0))) c.process.new.state) c.in-Err.ensures.back c.put_back.ensures.next in
+    subst (λ (p : Past (Given g.row.P-Name.Denot g.row.P-Out.Denot g.row.P-In.Denot) g.row.P-Name.Denot g.row.P-Story.Denot). CountsOnce g.P.Pipes.known.out_name (g.H.Holder.counts c.args.holder.now) c.args.self.now.events p.events (g.H.Holder.holding c.args.holder.now))
+    (sym (stays_there g.P.Pipes.known.out_name g.P.Pipes.known.in_name c.args.self.now c.self.inside.workers c.self.inside.events _ _ c.self.view_is
+    (back_given c.self.inside.state c.take.new.self c.process.new.state c.put_back.new.self c.args.slot c.in-Some.command c.in-Some.ensures.boxes there c.in-Err.ensures.err.0 is)))
+    (none_counts g.P.Pipes.known.out_name (g.H.Holder.counts c.args.holder.now) c.args.self.now.events (g.H.Holder.holding c.args.holder.now))
+
+pub returns-in_default-clause-counts : goal.returns-in_default-clause-counts
+returns-in_default-clause-counts g c =
+    subst (λ (p : Past (Given g.row.P-Name.Denot g.row.P-Out.Denot g.row.P-In.Denot) g.row.P-Name.Denot g.row.P-Story.Denot). CountsOnce g.P.Pipes.known.out_name (g.H.Holder.counts c.args.holder.now) c.args.self.now.events p.events (g.H.Holder.holding c.args.holder.now)) (sym c.self.view_is)
+    (none_counts g.P.Pipes.known.out_name (g.H.Holder.counts c.args.holder.now) c.args.self.now.events (g.H.Holder.holding c.args.holder.now))

@@ -108,20 +108,20 @@ returns-in-None-clause-joins g c =
     (disconnects_given g.P.Pipes.known.out_name g.P.Pipes.known.in_name c.self.inside.state _ _ c.args.socket c.args.at c.args.h c.self.invariant open_now c.requires.silent free c.strike_connect.new.state (g.H.Holder.holding c.strike_connect.new.holder)
     (c.strike_connect.ensures.struck (strikes_with g.P.Pipes.known.out_name g.P.Pipes.known.in_name c.self.inside.state _ _ c.args.socket c.args.at c.args.h c.self.invariant open_now c.requires.silent free (g.H.Holder.holding c.args.holder.now) has c.requires.lent))) in
     subst (λ (p : Past (Given g.row.P-Name.Denot g.row.P-Out.Denot g.row.P-In.Denot) g.row.P-Name.Denot g.row.P-Story.Denot). ComesWith c.args.self.now p (g.H.Holder.holding c.args.holder.now) (g.H.Holder.holding c.strike_connect.new.holder)) (sym step)
-    (aside_comes c.args.self.now (Asked (Disconnect c.args.socket c.args.at) Done c.args.h) (g.H.Holder.holding c.args.holder.now) (g.H.Holder.holding c.strike_connect.new.holder) c.requires.silent.joined c.strike_connect.ensures.joins.joined c.strike_connect.ensures.joins.holds c.strike_connect.ensures.joins.kinds)
+    (aside_comes c.args.self.now (Asked (Disconnect c.args.socket c.args.at) Done c.args.h) (g.H.Holder.holding c.args.holder.now) (g.H.Holder.holding c.strike_connect.new.holder) c.requires.silent.joined c.strike_connect.ensures.joins.joined c.strike_connect.ensures.joins.holds c.strike_connect.ensures.joins.kinds (λ b n. refl) c.strike_connect.ensures.joins.heard)
 
 pub returns-in-Some-clause-joins : goal.returns-in-Some-clause-joins
 returns-in-Some-clause-joins g c =
     subst (λ (p : Past (Given g.row.P-Name.Denot g.row.P-Out.Denot g.row.P-In.Denot) g.row.P-Name.Denot g.row.P-Story.Denot). ComesWith c.args.self.now p (g.H.Holder.holding c.args.holder.now) (g.H.Holder.holding c.args.holder.now)) (sym c.in_ok-refuse-in-Some.ensures.ok)
-    (aside_comes c.args.self.now (Asked (Disconnect c.args.socket c.args.at) (Refused c.in-Some.refusal) c.args.h) (g.H.Holder.holding c.args.holder.now) (g.H.Holder.holding c.args.holder.now) c.requires.silent.joined refl (λ i. refl) (λ i. refl))
+    (aside_comes c.args.self.now (Asked (Disconnect c.args.socket c.args.at) (Refused c.in-Some.refusal) c.args.h) (g.H.Holder.holding c.args.holder.now) (g.H.Holder.holding c.args.holder.now) c.requires.silent.joined refl (λ i. refl) (λ i. refl) (λ b n. refl) refl)
 
 pub returns-in_err-refuse-in-Some-clause-joins : goal.returns-in_err-refuse-in-Some-clause-joins
 returns-in_err-refuse-in-Some-clause-joins g c =
     subst (λ (p : Past (Given g.row.P-Name.Denot g.row.P-Out.Denot g.row.P-In.Denot) g.row.P-Name.Denot g.row.P-Story.Denot). ComesWith c.args.self.now p (g.H.Holder.holding c.args.holder.now) (g.H.Holder.holding c.args.holder.now)) (sym c.in_err-refuse-in-Some.ensures.err)
-    (past_comes c.args.self.now (g.H.Holder.holding c.args.holder.now) (g.H.Holder.holding c.args.holder.now) refl (λ i. refl) (λ i. refl))
+    (past_comes c.args.self.now (g.H.Holder.holding c.args.holder.now) (g.H.Holder.holding c.args.holder.now) refl (λ i. refl) (λ i. refl) refl)
 
 pub returns-in_err-reserve-in-None-clause-joins : goal.returns-in_err-reserve-in-None-clause-joins
 returns-in_err-reserve-in-None-clause-joins g c =
     subst (λ (p : Past (Given g.row.P-Name.Denot g.row.P-Out.Denot g.row.P-In.Denot) g.row.P-Name.Denot g.row.P-Story.Denot). ComesWith c.args.self.now p (g.H.Holder.holding c.args.holder.now) (g.H.Holder.holding c.args.holder.now))
     (sym (viewed_back c.args.self.now c.self.inside.state c.self.inside.state c.self.inside.workers c.self.inside.events c.reserve.new.self refl c.in_err-reserve-in-None.ensures.err c.self.view_is))
-    (past_comes c.args.self.now (g.H.Holder.holding c.args.holder.now) (g.H.Holder.holding c.args.holder.now) refl (λ i. refl) (λ i. refl))
+    (past_comes c.args.self.now (g.H.Holder.holding c.args.holder.now) (g.H.Holder.holding c.args.holder.now) refl (λ i. refl) (λ i. refl) refl)
