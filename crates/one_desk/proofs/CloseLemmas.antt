@@ -17,6 +17,7 @@ use Rattle.control_moves.specs.OwnMoves.{own_moves}
 use Rattle.control_rows.proofs.ListLemmas.{never}
 use Rattle.ctl_holder.specs.declared.given.Given.{Given}
 use Rattle.ctl_holder.specs.Holding.{HasGiven, Holding}
+use Rattle.msg_pipe.specs.Known.{Known}
 use Rattle.ctl_history.specs.Closing.{Closes}
 use Rattle.ctl_history.specs.Past.{Past, control_of, items_of, with_event, with_given, IsPast}
 use Rattle.socket_laws.proofs.RowLemmas.{makes_object}
@@ -49,11 +50,11 @@ leaves_closed c socket a h k gives = record {
     apart : (i : ℕ) → k.holds i ≡ true → (socket.0 == i) ≡ false
     apart i e = ne_eqb socket.0 i (λ same. other i e (sym same))
 
-module _ {N O I S : Type 0} (ms ms' : List Mark) (by : ℕ) (old new : Past (Given N O I) N S) (ended : I → Bool) (socket : ObjId) (marks : ms' ≡ ms ++ Event by ∷ []) (closes : Closes ended socket old new) (marked : AreMarked ms old.events) where
-  pub closes_more : ClosesOnce ended socket (lent_to by ms old) (lent_to by ms' new)
+module _ {P N O I S : Type 0} (K : Known P O I N) (ms ms' : List Mark) (by : ℕ) (old new : Past (Given N O I) N S) (pipes : P) (socket : ObjId) (marks : ms' ≡ ms ++ Event by ∷ []) (closes : Closes K pipes socket old new) (marked : AreMarked ms old.events) where
+  pub closes_more : ClosesOnce K pipes socket (lent_to by ms old) (lent_to by ms' new)
   closes_more = record {
     ends = closes.ends;
-    met = closes.met;
+    given = closes.given;
     answered = closes.answered;
     past = closes.step;
     items = ap (λ (xs : List Mark). order_of xs new.events) marks ∙ ap (λ (p : Past (Given N O I) N S). order_of (ms ++ Event by ∷ []) p.events) closes.step

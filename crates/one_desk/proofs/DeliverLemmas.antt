@@ -76,7 +76,7 @@ true_and : (a b : Bool) → a ≡ true → b ≡ true → (a && b) ≡ true
 true_and true b h k = k
 true_and false b h k = absurd (never h)
 
-and_false : (a b : Bool) → (b ≡ true → a ≡ false) → (a && b) ≡ false
+pub and_false : (a b : Bool) → (b ≡ true → a ≡ false) → (a && b) ≡ false
 and_false true true h = h refl
 and_false true false h = refl
 and_false false b h = refl
@@ -141,7 +141,7 @@ reap_root c kept slot rest to socket is =
     some_is (sym comes.owner ∙ owner)
 
 -- and a Plug to an object that was not taken in
-plug_not : (c : Control) → Kept c → (slot : ℕ) (rest : List Letter) (to : ℕ) (end : Option EndId) → c.boxes slot ≡ record { to = id to; word = Plug end } ∷ rest → (obj c.rows to).plugged ≡ true → ⊥
+pub plug_not : (c : Control) → Kept c → (slot : ℕ) (rest : List Letter) (to : ℕ) (end : Option EndId) → c.boxes slot ≡ record { to = id to; word = Plug end } ∷ rest → (obj c.rows to).plugged ≡ true → ⊥
 plug_not c kept slot rest to None is plugged = never (sym (ap not plugged) ∙ may_come c kept slot rest to (Plug None) is)
 plug_not c kept slot rest to (Some e) is plugged = never (sym (ap not plugged) ∙ (may_come c kept slot rest to (Plug (Some e)) is).0)
 
@@ -157,6 +157,19 @@ module _ {G N S : Type 0} (ms : List Mark) (past : Past G N S) (wakers by : ℕ)
 
   pub desk_slot_is : (caller : ℕ) → caller ≡ by → (i : ℕ) → has_after i (items_in (moments_of l)) ≡ Some caller → (obj (left_after i (moments_of l)).rows i).slot ≡ (obj (control_of past).rows i).slot
   desk_slot_is caller same i has = desk_slot i (has ∙ ap (λ (n : ℕ). Some n) same)
+
+-- ---- names, and whose writing half an acknowledgement brings
+module _ {G N S : Type 0} (ms : List Mark) (past : Past G N S) (wakers by : ℕ) (l : Lent G N S) (seen : lent_to by ms past ≡ l) (lent : IsLent ms past wakers) where
+  pub named_same : (e : EndId) → name_of (items_of past) e ≡ name_of l.items e
+  named_same e = ap (name_in e) (sym (order_names ms past.events lent.marked)) ∙ ap (λ (d : Lent G N S). name_of d.items e) seen
+
+  module _ (h : Holding N) (say : HasWhatTheySay l.caller (moments_of l) h) (slot : ℕ) where
+    pub deliver_apart : (exact : Bool) → AreDistinct exact (name_of l.items) → AreApart exact past slot h
+    deliver_apart exact distinct to e behind n oldest name is i holds k d within = λ writes same.
+        let ends = desk_has ms past wakers by l seen lent h say i holds in
+        let both = ends.named k d within in
+        let mine_is = distinct is _ (other_end e) n (sym (named_same _) ∙ both.written ∙ ap (λ (x : N). Some x) same) (sym (named_same (other_end e)) ∙ name) in
+        never (sym (acked_gave (control_of past) (kept_of ms past wakers lent) slot behind to.0 e oldest) ∙ ap (λ (x : EndId). has_writer (place_of (control_of past) x)) (sym mine_is) ∙ sym (ends.writes _ (each_in (h.ends i) k d within)) ∙ writes)
 
 -- ---- what a delivery needs
 module _ {G N S : Type 0} (ms : List Mark) (past : Past G N S) (wakers by : ℕ) (l : Lent G N S) (seen : lent_to by ms past ≡ l) (lent : IsLent ms past wakers) (h : Holding N) (say : HasWhatTheySay l.caller (moments_of l) h)
@@ -249,23 +262,13 @@ module _ {G N S : Type 0} (ms : List Mark) (past : Past G N S) (wakers by : ℕ)
           )
 
   -- ---- names
-  named_same : (e : EndId) → name_of (items_of past) e ≡ name_of l.items e
-  named_same e = ap (name_in e) (sym (order_names ms past.events lent.marked)) ∙ ap (λ (d : Lent G N S). name_of d.items e) seen
-
   pub deliver_fits : {O I : Type 0} (out_name : O → N) (in_name : I → N) (fits : Halves O I → Type 0) → BindsFit out_name in_name (name_of l.items) (coming_to l slot) fits → FitBinds out_name in_name past slot fits
   deliver_fits out_name in_name fits all e x away served written read =
       all e x (subst (λ (d : Lent G N S). coming_to d slot e ≡ true) seen (true_and (is_away (place_of c e)) (slot == past.workers + owner_of c e) (ap is_away away) (eq-eqb slot (past.workers + owner_of c e) at)))
-      (sym (named_same e) ∙ written) (sym (named_same (other_end e)) ∙ read)
+      (sym (named_same ms past wakers by l seen lent e) ∙ written) (sym (named_same ms past wakers by l seen lent (other_end e)) ∙ read)
     where
       at : slot ≡ past.workers + owner_of c e
       at = slot_is ∙ ap (λ (n : ℕ). past.workers + n) (sym (only (owner_of c e) served.there served.here))
-
-  pub deliver_apart : (exact : Bool) → AreDistinct exact (name_of l.items) → AreApart exact past slot h
-  deliver_apart exact distinct to e behind n oldest name is i holds k d within = λ writes same.
-      let ends = desk_has ms past wakers by l seen lent h say i holds in
-      let both = ends.named k d within in
-      let mine_is = distinct is _ (other_end e) n (sym (named_same _) ∙ both.written ∙ ap (λ (x : N). Some x) same) (sym (named_same (other_end e)) ∙ name) in
-      never (sym (acked_gave c kept slot behind to.0 e oldest) ∙ ap (λ (x : EndId). has_writer (place_of c x)) (sym mine_is) ∙ sym (ends.writes _ (each_in (h.ends i) k d within)) ∙ writes)
 
   -- ---- who may take it
   module _ (plugged : (i : ℕ) → (obj c.rows i).plugged ≡ true) (letter : Letter) (behind : List Letter) (oldest : c.boxes slot ≡ letter ∷ behind) where

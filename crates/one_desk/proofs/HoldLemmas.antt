@@ -38,12 +38,12 @@ use Rattle.control_laws.proofs.RootLemmas.{begun_kept}
 use Rattle.control_laws.proofs.TellLemmas.{rows_of}
 use Rattle.control_moves.specs.OwnMoves.{own_moves}
 use Rattle.control_others.specs.Spared.{Known}
-use Rattle.ctl_holder.specs.Holding.{Holding, JoinsBy, has_end}
+use Rattle.ctl_holder.specs.Holding.{HearsMore, Holding, JoinsBy, has_end}
 use Rattle.ctl_holder.specs.Joins.{IsReaped, KeepsObjects}
 use Rattle.ctl_holder.specs.Lent.{HasAll}
 use Rattle.ctl_holder.specs.Turns.{HasTurned, TurnsBy, turned_in}
 use Rattle.ctl_ends.proofs.TurnedLemmas.{in_none}
-use Rattle.ctl_plane.specs.Desk.{HasWhatTheySay, KeepsUp, came_with}
+use Rattle.ctl_plane.specs.Desk.{heard_with, HasWhatTheySay, KeepsUp, came_with}
 use Rattle.ctl_plane.specs.Kinds.{kind_after, kind_in, kind_over}
 use Rattle.ctl_history.specs.Coming.{ComesWith}
 use Rattle.ctl_history.specs.Hearing.{HasWhat}
@@ -65,6 +65,8 @@ use Rattle.one_desk.specs.Order.{order_of}
 use Rattle.one_desk.specs.Lent.{lent_to, moments_of, IsLent, Lent}
 use Rattle.one_desk.proofs.FitLemmas.{last_fits, order_names}
 use Rattle.one_desk.proofs.LentLemmas.{control_is, control_next, kept_of, opens}
+use Rattle.ctl_holder.specs.Heard.{heard_in}
+use Rattle.ctl_holder.specs.declared.notice.Notice.{Notice}
 use Rattle.one_desk.proofs.OrderLemmas.{event_more, look_more, own_more}
 
 none_more : {X : Type 0} {x : X} {xs : List X} → [] ≡ x ∷ xs → ⊥
@@ -89,7 +91,7 @@ module _ {N S : Type 0} where
       ∙ ap (λ (b : Bool). items_by by items ++ cond b (IsEvent (record { by = by; did = did }) ∷ []) []) (eq-eqb by by refl)
 
 -- the root is no socket
-root_free : (c : Control) → Kept c → is_between (obj c.rows 0) ≡ false
+pub root_free : (c : Control) → Kept c → is_between (obj c.rows 0) ≡ false
 root_free c kept = by_case (is_between (obj c.rows 0)) refl
   where
     none_some : {n : ℕ} → None ≡ Some n → ⊥
@@ -195,6 +197,8 @@ module _ {G N S : Type 0} (ms : List Mark) (by wakers : ℕ) (past : Past G N S)
         one = λ m e. absurd (none_more (empty (m ∷ []) e));
         none = λ e i. (stay_holds i, stay_kinds i);
       };
+      heard = λ more e. subst (λ (xs : List (Moment N S)). HearsMore (flat_map (λ m. heard_with m.item m.found (left_by m)) xs) h k) (empty more e)
+          (comes.2.none refl ∙ sym (append-nil h.heard));
     }
       where
         empty : (more : List (Moment N S)) → moments_of (lent_to by ms past) ≡ moments_of (lent_to by ms past) ++ more → [] ≡ more
@@ -242,6 +246,8 @@ module _ {G N S : Type 0} (ms ms' : List Mark) (by wakers : ℕ) (past : Past G 
           (subst (λ (c : Control). KeepsObjects c c h k) (sym (control_is ms past wakers lent)) comes.1);
       none = λ e. absurd (none_more (sym (one [] (e ∙ sym (append-nil (moments_of (lent_to by ms past)))))));
     };
+    heard = λ more e. subst (λ (xs : List (Moment N S)). HearsMore (flat_map (λ m. heard_with m.item m.found (left_by m)) xs) h k) (one more e)
+        (comes.2.none refl ∙ sym (append-nil h.heard));
   }
     where
       one : (more : List (Moment N S)) → moments_of (lent_to by ms' past) ≡ moments_of (lent_to by ms past) ++ more → look ∷ [] ≡ more
@@ -317,6 +323,8 @@ module _ {G N S : Type 0} (ms ms' : List Mark) (by wakers many : ℕ) (old new :
           (subst (λ (c : Control). KeepsObjects c (after did c) h k) (sym (control_is ms old wakers lent)) (subst (λ (c : Control). KeepsObjects (control_of old) c h k) (sym control_then) comes.1));
       none = λ e. absurd (none_more (sym (one [] (e ∙ sym (append-nil (moments_of (lent_to by ms old)))))));
     };
+    heard = λ more e. subst (λ (xs : List (Moment N S)). HearsMore (flat_map (λ m. heard_with m.item m.found (left_by m)) xs) h k) (one more e)
+        (comes.2.one did events ∙ ap (λ (ns : List Notice). h.heard ++ ns) told);
   }
     where
       one : (more : List (Moment N S)) → moments_of (lent_to by ms' new) ≡ moments_of (lent_to by ms old) ++ more → moment ∷ [] ≡ more
@@ -325,6 +333,12 @@ module _ {G N S : Type 0} (ms ms' : List Mark) (by wakers many : ℕ) (old new :
       root_had : ((h.holds 0 ≡ true) × (k.kind 0 ≡ h.kind 0)) ⊎ Takes (control_of old) did 0 (k.kind 0) → (h.holds 0 ≡ true) ⊎ (is_between (obj (control_of old).rows 0) ≡ true)
       root_had (inl had) = inl had.0
       root_had (inr takes) = inr takes.between
+
+      told : heard_in did (control_of old) (control_of new) ≡ heard_with moment.item moment.found (left_by moment) ++ []
+      told =
+          ap (heard_in did (control_of old)) (sym control_then)
+          ∙ ap (λ (c : Control). heard_in did c (after did c)) (sym (control_is ms old wakers lent))
+          ∙ sym (append-nil (heard_with moment.item moment.found (left_by moment)))
 
       same : turned_in (control_of old) (control_of new) ≡ turned_in moment.found (left_by moment) ++ []
       same =

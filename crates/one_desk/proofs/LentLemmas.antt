@@ -41,7 +41,8 @@ use Rattle.ctl_history.specs.Past.{as_item, control_of, items_of, with_event, Is
 use Rattle.one_desk.specs.declared.mark.Mark.{Mark}
 use Rattle.one_desk.specs.declared.mark.Mark.TheVariants.{Event, Seen}
 use Rattle.one_desk.specs.Order.{events_in, order_of, AreMarked, IsOrder}
-use Rattle.one_desk.specs.Lent.{Lent, lent_to, moments_of, Asks, HaveOwnBoxes, IsLent, MayHave, made_at_most}
+use Rattle.one_desk.specs.Lent.{Lent, lent_to, moments_of, Asks, HaveOwnBoxes, IsLent, made_at_most}
+use Rattle.ctl_plane.specs.Asking.{MayHave}
 use Rattle.one_desk.proofs.OrderLemmas.{after_more, event_more, goes_on, looks_nothing}
 use Rattle.one_desk.proofs.FitLemmas.{event_fits, last_fits, names_fit}
 use Rattle.one_desk.proofs.BoxLemmas.{boxes_begin, boxes_more, boxes_stay}

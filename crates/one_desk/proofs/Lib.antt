@@ -1,10 +1,17 @@
 pub mod AckLemmas
+pub mod AsideLemmas
+pub mod AskLemmas
 pub mod BoxLemmas
 pub mod CloseLemmas
 pub mod DeliverLemmas
+pub mod FirstLemmas
 pub mod FitLemmas
 pub mod HoldLemmas
 pub mod LentLemmas
 pub mod LookLemmas
 pub mod MakeLemmas
 pub mod OrderLemmas
+pub mod CountLemmas
+pub mod PlaneLemmas
+pub mod ReapingLemmas
+pub mod RootLemmas

@@ -27,7 +27,7 @@ use Rattle.control_moves.proofs.SoundLemmas.{socket_there}
 use Rattle.ctl_joins.specs.Papers.{HasMarks}
 use Rattle.ctl_history.specs.Joining.{AllMarked}
 use Rattle.socket_laws.proofs.RowLemmas.{KeepsMaking, event_count, event_keeps, makes_object}
-use Rattle.one_desk.specs.Lent.{MayHave}
+use Rattle.ctl_plane.specs.Asking.{MayHave}
 
 -- ---- requests that make none
 pub unless_none : (reply : Reply) (ms : List Move) → list_any makes_object ms ≡ false → list_any makes_object (unless_refused reply ms) ≡ false

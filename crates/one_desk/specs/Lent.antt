@@ -4,7 +4,6 @@ use Rattle.zq_base.specs.declared.ids.EndId.{EndId}
 use Rattle.zq_base.specs.declared.ids.ObjId.{ObjId}
 use Rattle.zq_base.specs.declared.ids.SlotId.{SlotId}
 use Rattle.spec_control.specs.declared.letter.Letter.{Letter}
-use Rattle.zq_base.specs.declared.options.Options.{Options}
 use Rattle.spec_control.specs.declared.entry.Answered.{Answered}
 use Rattle.spec_control.specs.declared.entry.Did.TheVariants.{Asked as DidAsk, Delivered, Delimited}
 use Rattle.spec_control.specs.declared.entry.Item.{Item}
@@ -25,7 +24,10 @@ use Rattle.spec_control.specs.Control.{Control, begun, next_object, owner_of, pl
 use Rattle.control_held.specs.OwnAsks.{known_after}
 use Rattle.control_held.specs.Moments.{Moment, items_in, moments_by, moments_from}
 use Rattle.ctl_holder.specs.declared.given.Given.{Given}
-use Rattle.ctl_holder.specs.Holding.{AreMet}
+use Rattle.msg_pipe.specs.Known.{Known}
+use Rattle.ctl_holder.specs.Holding.{Holding}
+use Rattle.ctl_holder.specs.TakingOver.{AreGivenWith}
+use Rattle.ctl_plane.specs.Desk.{HasWhatTheySay, KeepsUp}
 use Rattle.ctl_history.specs.Joining.{AllMarked}
 use Rattle.ctl_history.specs.Past.{Past, control_of, with_event, with_given}
 use Rattle.one_desk.specs.declared.mark.Mark.{Mark}
@@ -35,13 +37,6 @@ pub record Lent (G N S : Type 0) : Type 0 where
   pub past : Past G N S
   pub items : List (Item N S)
   pub caller : ℕ
-
--- the options that a socket may be made with: its marks are from 1 to 10000 (zmq_setsockopt(3), ZMQ_SNDHWM and ZMQ_RCVHWM; the bound is our own choice)
-pub record MayHave (options : Options) : Type 0 where
-  pub some_out : 1 ≤ options.hwm
-  pub few_out : options.hwm ≤ 10000
-  pub some_in : 1 ≤ options.rcvhwm
-  pub few_in : options.rcvhwm ≤ 10000
 
 -- how many objects a request for a socket may have made, by its answer
 abbrev pub made_at_most : Reply → ℕ
@@ -77,6 +72,10 @@ module _ {G N S : Type 0} where
   -- what its caller did and saw so far, each item with the control plane as it found it
   abbrev pub moments_of : Lent G N S → List (Moment N S)
   moments_of d = moments_by d.caller (moments_from (begun d.past.workers) d.items)
+
+  -- a holder that is not lent has what the moments say still
+  abbrev pub KeepsAside : (old new : Lent G N S) → Type 0
+  KeepsAside old new = (h : Holding N) → HasWhatTheySay old.caller (moments_of old) h → KeepsUp new.caller (moments_of old) (moments_of new) h h
 
   -- a socket that its caller made and did not close
   abbrev pub HasSocket : Lent G N S → ObjId → Type 0
@@ -116,10 +115,10 @@ abbrev pub MeetsOrNot : {G N S : Type 0} → EndId → Bool → (old new : Lent 
 MeetsOrNot e true old new = Meets e old new
 MeetsOrNot e false old new = (looks (place_of (control_of old.past) e) ≡ false) × (new ≡ old)
 
--- its caller closed this socket, and the ends that the socket's holder gave are on their way; those that are said to have met their delimiters have met them
-pub record ClosesOnce {N O I S : Type 0} (ended : I → Bool) (socket : ObjId) (old new : Lent (Given N O I) N S) : Type 0 where
+-- its caller closed this socket, and the ends that the socket's holder gave are on their way, with halves of its pipes
+pub record ClosesOnce {P N O I S : Type 0} (K : Known P O I N) (pipes : P) (socket : ObjId) (old new : Lent (Given N O I) N S) : Type 0 where
   pub ends : List (Given N O I)
-  pub met : AreMet ended ends
+  pub given : AreGivenWith K pipes ends
   pub answered : Answered N S
   pub past : new.past ≡ with_given ends (with_event (DidAsk (Close socket) IsDone answered) old.past)
   pub items : new.items ≡ old.items ++ IsEvent (record { by = old.caller; did = DidAsk (Close socket) IsDone answered }) ∷ []

@@ -18,17 +18,19 @@ where
     /// The caller closes its socket (zmq_close(3)): the socket's holder gives all ends of it, and the
     /// reaper is to take them. It takes no memory.
     pub fn close<H: Holder<P>>(&mut self, alloc: Global, socket: ObjId, holder: &mut H)
+        requires gives { H.gives ≡ true }
         requires open { HasSocket self.old socket }
         requires lent { (H.holding holder.old).holds socket.0 ≡ true }
         requires has { HasWhatTheySay self.old.caller (moments_of self.old)
             (H.holding holder.old) }
-        ensures closes { ClosesOnce (H.ended holder.new) socket self.old self.new }
+        ensures closes { ClosesOnce P.known (H.pipes holder.new) socket self.old self.new }
         ensures gives { HasGiven socket.0 (H.holding holder.old) (H.holding holder.new) }
         ensures keeps { KeepsUp self.new.caller (moments_of self.old) (moments_of self.new)
             (H.holding holder.old) (H.holding holder.new) }
     {
         self.history.close(alloc, socket, holder);
         self.history.is_run();
+        self.closed.push(socket);
         self.order = self.order.and(&Mark::Event(self.caller), &());
     }
 }

@@ -1,7 +1,7 @@
 ghost use Rattle.std.specs.Prelude.{◌≡◌, true, IfOk, OnErr};
 ghost use Rattle.spec_control.specs.Names.{name_of};
 ghost use Rattle.ctl_plane.specs.Coming.{AreDistinct, BindsFit};
-ghost use Rattle.ctl_plane.specs.Desk.{HasWhatTheySay, HoldsEnd, IsItsMailbox, KeepsUp};
+ghost use Rattle.ctl_plane.specs.Desk.{CountsWith, HasWhatTheySay, HoldsEnd, IsItsMailbox, KeepsUp};
 ghost use Rattle.one_desk.specs.Lent.{coming_to, moments_of, FindsIn, MeetsOrNot};
 
 use crate::desk::OneDesk;
@@ -58,6 +58,8 @@ where
         requires fits { BindsFit P.known.out_name P.known.in_name (name_of self.old.items)
             (coming_to self.old slot.0) (H.fits holder.old) }
         ensures ok { IfOk result (λ found. FindsIn slot found self.old self.new) }
+        ensures counts { CountsWith P.known.out_name (H.counts holder.old)
+            (moments_of self.old) (moments_of self.new) (H.holding holder.old) }
         ensures err { OnErr result (self.new ≡ self.old) }
         ensures keeps { KeepsUp self.new.caller (moments_of self.old) (moments_of self.new)
             (H.holding holder.old) (H.holding holder.new) }

@@ -3,16 +3,17 @@ ghost use Rattle.spec_control.specs.declared.request.Req.TheVariants.{AskTerm};
 ghost use Rattle.spec_control.specs.Reply.{reply_of};
 ghost use Rattle.ctl_history.specs.Past.{control_of};
 ghost use Rattle.ctl_hears.specs.Processing.{IsSilent};
-ghost use Rattle.one_desk.specs.Lent.{Asks};
+ghost use Rattle.one_desk.specs.Lent.{Asks, KeepsAside};
 
 use crate::mark::Mark;
 use ctl_history::History;
+use ctl_state::RoomList;
 use http_server::Log;
 use msg_pipe::Pipes;
 use spec_control::{Answered, Reply};
 use std::alloc::{AllocError, Global};
 use std::marker::Model;
-use zq_base::Seq;
+use zq_base::{ObjId, Seq};
 
 /// A holder that had no end to answer for. It takes no memory.
 pub(crate) fn silent<N, S>(alloc: Global) -> Answered<N, S>
@@ -35,18 +36,24 @@ pub struct OneDesk<P: Pipes> {
     pub(crate) caller: u32,
     // One for each mailbox.
     pub(crate) wakers: Vec<P::Waker>,
+    // The closed sockets, but for such that have ended, in the order of their closing, with room for
+    // those that may still be closed.
+    pub(crate) closed: RoomList<ObjId>,
 }
 
 impl<P: Pipes> Model for OneDesk<P> {
     ghost use Rattle.std.specs.Prelude.{map, length};
     ghost use Rattle.ctl_holder.specs.declared.given.Given.{Given};
+    ghost use Rattle.ctl_history.specs.Past.{control_of};
     ghost use Rattle.one_desk.specs.Lent.{Lent, IsLent, lent_to};
+    ghost use Rattle.one_desk.specs.Reaping.{IsReaping};
 
     ghost Value = { Lent (Given P.Name P.Out P.In) P.Name P.Story };
 
     ghost view = { λ d. lent_to d.caller (map (λ x. x.0) d.order.items) d.history };
 
-    ghost invariant = { λ d. IsLent (map (λ x. x.0) d.order.items) d.history (length d.wakers.items) };
+    ghost invariant = { λ d. IsLent (map (λ x. x.0) d.order.items) d.history (length d.wakers.items)
+        × IsReaping (control_of d.history) d.closed };
 }
 
 impl<P: Pipes> OneDesk<P>
@@ -72,6 +79,7 @@ where
             order: Log::new(),
             caller: 0,
             wakers,
+            closed: RoomList::new(alloc),
         })
     }
 
@@ -87,6 +95,7 @@ where
         ensures ok { IfOk result (λ reply. Asks AskTerm reply self.old self.new) }
         ensures reply { IfOk result (λ reply. reply ≡ reply_of (control_of self.old.past) AskTerm) }
         ensures err { OnErr result (self.new ≡ self.old) }
+        ensures keeps { KeepsAside self.old self.new }
     {
         let reply = self.history.ask_term(silent(alloc))?;
         self.history.is_run();

@@ -2,6 +2,7 @@
 //! order of their events and looks.
 #![tactic(auto)]
 
+mod asking;
 mod closing;
 mod deliveries;
 mod desk;
@@ -9,6 +10,8 @@ mod laws;
 mod looks;
 mod mark;
 mod pairs;
+mod plane;
+mod reaping;
 mod requests;
 
 pub use desk::OneDesk;

@@ -1,11 +1,11 @@
-ghost use Rattle.std.specs.Prelude.{◌≡◌, ◌≢◌, ◌<◌, [], Some, IfSome, IfNone};
-ghost use Rattle.spec_control.specs.declared.entry.SeenEmpty.TheVariants.{Nothing, Mailbox};
+ghost use Rattle.std.specs.Prelude.{◌≡◌, ◌≢◌, ◌↔◌, [], Some, IfSome, IfNone, IsTrue};
+ghost use Rattle.spec_control.specs.declared.entry.SeenEmpty.TheVariants.{Nothing, Mailbox, Reapers};
 ghost use Rattle.spec_control.specs.ControlRun.{AreEmpty, IsSeen};
 ghost use Rattle.spec_control.specs.Rows.{obj};
 ghost use Rattle.control_held.specs.Has.{has_after};
 ghost use Rattle.control_held.specs.Moments.{items_in, left_after};
 ghost use Rattle.ctl_history.specs.Past.{control_of};
-ghost use Rattle.one_desk.specs.Lent.{moments_of, Sees};
+ghost use Rattle.one_desk.specs.Lent.{moments_of, KeepsAside, Sees};
 
 use crate::desk::OneDesk;
 use crate::mark::Mark;
@@ -39,9 +39,10 @@ where
     P::Waker: Drop,
 {
     // The caller looks, and these mailboxes are empty.
-    fn note_look(&mut self, empty: SeenEmpty) -> Sight
+    pub(crate) fn note_look(&mut self, empty: SeenEmpty) -> Sight
         requires empty { AreEmpty (control_of self.old.past) empty }
-        ensures { Sees empty result self.old self.new }
+        ensures sees { Sees empty result self.old self.new }
+        ensures keeps { KeepsAside self.old self.new }
     {
         let sight = sight_of(&self.history, self.caller, empty);
         self.order = self.order.and(&Mark::Seen(sight), &());
@@ -68,14 +69,51 @@ where
     /// The caller looks into a mailbox, and around where it is empty. A look that finds a command is
     /// not noted.
     pub fn look_into(&mut self, slot: SlotId) -> Option<Sight>
-        requires there { slot.0 < (control_of self.old.past).slots }
         ensures empty { IfSome result (λ sight. Sees (Mailbox slot) sight self.old self.new) }
         ensures waits { IfNone result ((self.new ≡ self.old)
             × ((control_of self.old.past).boxes slot.0 ≢ [])) }
     {
-        if !self.history.is_empty(slot) {
+        if !self.is_empty(slot) {
             return None;
         }
         Some(self.note_look(SeenEmpty::Mailbox(slot)))
+    }
+
+    // Whether no command waits in a mailbox, as in one that there is not.
+    fn is_empty(&self, slot: SlotId) -> bool
+        ensures { IsTrue result ↔ ((control_of self.now.past).boxes slot.0 ≡ []) }
+    {
+        if slot.0 as usize >= self.history.mailboxes() {
+            return true;
+        }
+        self.history.is_empty(slot)
+    }
+
+    // The caller looks into the reaper's mailboxes, and around where all are empty.
+    fn look_at_reapers(&mut self) -> Option<Sight>
+        ensures empty { IfSome result (λ sight. Sees Reapers sight self.old self.new) }
+        ensures waits { IfNone result ((self.new ≡ self.old)
+            × (AreEmpty (control_of self.old.past) Reapers → ⊥)) }
+    {
+        self.forget_ended();
+        match self.first_slot() {
+            Some(_) => return None,
+            None => return Some(self.note_look(SeenEmpty::Reapers)),
+        }
+    }
+
+    /// The caller looks at these mailboxes, and around where all of them are empty. A look that finds
+    /// a command is not noted. One at the reaper's mailboxes costs two looks at each closed socket
+    /// that has not ended, or did since the last call that looked at them.
+    pub fn look_at(&mut self, empty: SeenEmpty) -> Option<Sight>
+        ensures empty { IfSome result (λ sight. Sees empty sight self.old self.new) }
+        ensures waits { IfNone result ((self.new ≡ self.old)
+            × (AreEmpty (control_of self.old.past) empty → ⊥)) }
+    {
+        match empty {
+            SeenEmpty::Nothing => return Some(self.look_around()),
+            SeenEmpty::Mailbox(slot) => return self.look_into(slot),
+            SeenEmpty::Reapers => return self.look_at_reapers(),
+        }
     }
 }

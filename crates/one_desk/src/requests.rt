@@ -1,13 +1,16 @@
-ghost use Rattle.std.specs.Prelude.{◌≡◌, ◌<◌, ◌+◌, length, IfOk, OnErr};
+ghost use Rattle.std.specs.Prelude.{◌≡◌, ◌≤◌, ◌<◌, ◌+◌, ◌-◌, length, IfOk, OnErr};
 ghost use Rattle.std.specs.Vec.{vec_len, vec_capacity};
 ghost use Rattle.spec_control.specs.declared.request.Req.TheVariants.{Socket as MakeSocket, Unbind};
 ghost use Rattle.spec_control.specs.Reply.{reply_of};
 ghost use Rattle.ctl_history.specs.Past.{control_of};
-ghost use Rattle.one_desk.specs.Lent.{made_at_most, Asks, HasSocket, MayHave};
+ghost use Rattle.ctl_state.specs.Listed.{without_room};
+ghost use Rattle.one_desk.specs.Lent.{made_at_most, Asks, HasSocket, KeepsAside};
+ghost use Rattle.ctl_plane.specs.Asking.{MayHave};
 
 use crate::desk::{OneDesk, silent};
 use crate::mark::Mark;
 use ctl_holder::Holder;
+use ctl_state::RoomList;
 use msg_pipe::Pipes;
 use spec_control::Reply;
 use std::alloc::{AllocError, Global};
@@ -21,6 +24,17 @@ fn add_waker<W: Drop>(wakers: &mut Vec<W>, reply: Reply, waker: W)
     match reply {
         Reply::Refused(_) => {}
         _ => wakers.push_reserved(waker),
+    }
+}
+
+// The room for a socket's close is kept where the socket was made.
+fn keep_room(closed: &mut RoomList<ObjId>, reply: Reply)
+    requires one { 1 ≤ closed.old.spare }
+    ensures { closed.new ≡ without_room (1 - made_at_most reply) closed.old }
+{
+    match reply {
+        Reply::Refused(_) => closed.release(1),
+        _ => {}
     }
 }
 
@@ -42,15 +56,26 @@ where
         ensures reply { IfOk result (λ reply.
             reply ≡ reply_of (control_of self.old.past) (MakeSocket kind options)) }
         ensures err { OnErr result (self.new ≡ self.old) }
+        ensures keeps { KeepsAside self.old self.new }
     {
         self.wakers.reserve(1)?;
-        let reply = self
+        self.closed.reserve(1)?;
+        match self
             .history
-            .make_socket(alloc, kind, options, silent(alloc))?;
-        self.history.is_run();
-        add_waker(&mut self.wakers, reply, holder.waker());
-        self.order = self.order.and(&Mark::Event(self.caller), &());
-        Ok(reply)
+            .make_socket(alloc, kind, options, silent(alloc))
+        {
+            Ok(reply) => {
+                self.history.is_run();
+                add_waker(&mut self.wakers, reply, holder.waker());
+                keep_room(&mut self.closed, reply);
+                self.order = self.order.and(&Mark::Event(self.caller), &());
+                return Ok(reply);
+            }
+            Err(want) => {
+                self.closed.release(1);
+                return Err(want);
+            }
+        }
     }
 
     /// The caller strikes the first bind of its socket to the endpoint (zmq_unbind(3)).
@@ -65,6 +90,7 @@ where
         ensures reply { IfOk result (λ reply.
             reply ≡ reply_of (control_of self.old.past) (Unbind socket at)) }
         ensures err { OnErr result (self.new ≡ self.old) }
+        ensures keeps { KeepsAside self.old self.new }
     {
         let reply = self.history.unbind(socket, at, silent(alloc))?;
         self.history.is_run();

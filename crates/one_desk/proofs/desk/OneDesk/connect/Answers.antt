@@ -10,43 +10,46 @@ use Rattle.one_desk.specs.Lent.{lent_to, Asks, Lent}
 use Rattle.one_desk.proofs.HoldLemmas.{desk_has, desk_keeps, desk_lends, desk_still, leaves_same}
 use Rattle.one_desk.proofs.MakeLemmas.{connect_none}
 use Rattle.one_desk.proofs.LentLemmas.{asks_more, lent_more, lent_open, socket_by}
+use Rattle.one_desk.proofs.ReapingLemmas.{reaps_asked}
 use Rattle.one_desk.proofs.desk.OneDesk.connect.Goals as goal
 
 pub connect-requires-clause-lends : goal.connect-requires-clause-lends
 connect-requires-clause-lends g c =
-    desk_lends (map (λ x. x.0) c.self.inside.order.items) c.self.inside.history (length c.self.inside.wakers.items) c.self.inside.caller c.args.self.now c.self.view_is c.self.invariant (g.H.Holder.holding c.args.holder.now) c.requires.has c.args.socket.0 c.requires.open c.requires.lent
+    desk_lends (map (λ x. x.0) c.self.inside.order.items) c.self.inside.history (length c.self.inside.wakers.items) c.self.inside.caller c.args.self.now c.self.view_is c.self.invariant.0 (g.H.Holder.holding c.args.holder.now) c.requires.has c.args.socket.0 c.requires.open c.requires.lent
 
 pub connect-requires-clause-has : goal.connect-requires-clause-has
-connect-requires-clause-has g c = desk_has (map (λ x. x.0) c.self.inside.order.items) c.self.inside.history (length c.self.inside.wakers.items) c.self.inside.caller c.args.self.now c.self.view_is c.self.invariant (g.H.Holder.holding c.args.holder.now) c.requires.has
+connect-requires-clause-has g c = desk_has (map (λ x. x.0) c.self.inside.order.items) c.self.inside.history (length c.self.inside.wakers.items) c.self.inside.caller c.args.self.now c.self.view_is c.self.invariant.0 (g.H.Holder.holding c.args.holder.now) c.requires.has
 
 pub returns-in_err-reply-clause-keeps : goal.returns-in_err-reply-clause-keeps
 returns-in_err-reply-clause-keeps g c =
-    desk_still (map (λ x. x.0) c.self.inside.order.items) c.self.inside.history (length c.self.inside.wakers.items) c.self.inside.caller c.args.self.now c.self.view_is c.self.invariant (g.H.Holder.holding c.args.holder.now) c.requires.has _ _
+    desk_still (map (λ x. x.0) c.self.inside.order.items) c.self.inside.history (length c.self.inside.wakers.items) c.self.inside.caller c.args.self.now c.self.view_is c.self.invariant.0 (g.H.Holder.holding c.args.holder.now) c.requires.has _ _
     c.in_err-reply.ensures.err.0 c.in_err-reply.ensures.keeps c.in_err-reply.ensures.turned c.in_err-reply.ensures.joins
 
 pub invariant_of-self-2 : goal.invariant_of-self-2
-invariant_of-self-2 g c =
-    lent_more _ _ c.self.inside.caller _ _ _ _
-    (ap (λ (xs : List (Mark × Unit {0})). map (λ x. x.0) xs) c.and-self-inside.ensures ∙ map-append (λ x. x.0) c.self.inside.order.items (_ ∷ []))
-    c.in_ok-reply.ensures.ok.step c.self.invariant c.is_run.ensures.run c.is_run.ensures.named
-    (socket_by _ _ _ c.args.socket.0 c.self.inside.caller refl refl (lent_open (map (λ x. x.0) c.self.inside.order.items) c.self.inside.history (length c.self.inside.wakers.items) c.self.inside.caller c.args.socket.0 c.args.self.now c.self.view_is c.self.invariant c.requires.open).has)
-    (connect_none (control_of c.self.inside.history) c.args.socket.0 c.args.name c.in_ok-reply.reply)
+invariant_of-self-2 g c = (
+  lent_more _ _ c.self.inside.caller _ _ _ _
+      (ap (λ (xs : List (Mark × Unit {0})). map (λ x. x.0) xs) c.and-self-inside.ensures ∙ map-append (λ x. x.0) c.self.inside.order.items (_ ∷ []))
+      c.in_ok-reply.ensures.ok.step c.self.invariant.0 c.is_run.ensures.run c.is_run.ensures.named
+      (socket_by _ _ _ c.args.socket.0 c.self.inside.caller refl refl (lent_open (map (λ x. x.0) c.self.inside.order.items) c.self.inside.history (length c.self.inside.wakers.items) c.self.inside.caller c.args.socket.0 c.args.self.now c.self.view_is c.self.invariant.0 c.requires.open).has)
+      (connect_none (control_of c.self.inside.history) c.args.socket.0 c.args.name c.in_ok-reply.reply),
+  reaps_asked (map (λ x. x.0) c.self.inside.order.items) c.self.inside.history c.connect.new.self (length c.self.inside.wakers.items) c.self.invariant.0 c.self.inside.closed c.self.invariant.1 c.is_run.ensures.run (Connect c.args.socket (Inproc c.args.name)) c.in_ok-reply.reply _ c.in_ok-reply.ensures.ok.step (connect_none (control_of c.self.inside.history) c.args.socket.0 c.args.name c.in_ok-reply.reply) (λ i. refl) refl,
+)
 
 pub returns-clause-ok : goal.returns-clause-ok
 returns-clause-ok g c =
     subst (λ (l : Lent (Given g.row.P-Name.Denot g.row.P-Out.Denot g.row.P-In.Denot) g.row.P-Name.Denot g.row.P-Story.Denot). Asks (Connect c.args.socket (Inproc c.args.name)) c.in_ok-reply.reply l (lent_to c.self.inside.caller (map (λ x. x.0) c.and-self-inside.result.items) c.connect.new.self)) c.self.view_is
     (asks_more _ _ c.self.inside.caller _ _ _ _ _
     (ap (λ (xs : List (Mark × Unit {0})). map (λ x. x.0) xs) c.and-self-inside.ensures ∙ map-append (λ x. x.0) c.self.inside.order.items (_ ∷ []))
-    c.in_ok-reply.ensures.ok.step c.self.invariant.marked)
+    c.in_ok-reply.ensures.ok.step c.self.invariant.0.marked)
 
 pub returns-clause-keeps : goal.returns-clause-keeps
 returns-clause-keeps g c =
     let now = lent_more _ _ c.self.inside.caller _ _ _ _
     (ap (λ (xs : List (Mark × Unit {0})). map (λ x. x.0) xs) c.and-self-inside.ensures ∙ map-append (λ x. x.0) c.self.inside.order.items (_ ∷ []))
-    c.in_ok-reply.ensures.ok.step c.self.invariant c.is_run.ensures.run c.is_run.ensures.named
-    (socket_by _ _ _ c.args.socket.0 c.self.inside.caller refl refl (lent_open (map (λ x. x.0) c.self.inside.order.items) c.self.inside.history (length c.self.inside.wakers.items) c.self.inside.caller c.args.socket.0 c.args.self.now c.self.view_is c.self.invariant c.requires.open).has)
+    c.in_ok-reply.ensures.ok.step c.self.invariant.0 c.is_run.ensures.run c.is_run.ensures.named
+    (socket_by _ _ _ c.args.socket.0 c.self.inside.caller refl refl (lent_open (map (λ x. x.0) c.self.inside.order.items) c.self.inside.history (length c.self.inside.wakers.items) c.self.inside.caller c.args.socket.0 c.args.self.now c.self.view_is c.self.invariant.0 c.requires.open).has)
     (connect_none (control_of c.self.inside.history) c.args.socket.0 c.args.name c.in_ok-reply.reply) in
-    desk_keeps (map (λ x. x.0) c.self.inside.order.items) c.self.inside.history (length c.self.inside.wakers.items) c.self.inside.caller c.args.self.now c.self.view_is c.self.invariant (g.H.Holder.holding c.args.holder.now) c.requires.has _ _ _ _ _
+    desk_keeps (map (λ x. x.0) c.self.inside.order.items) c.self.inside.history (length c.self.inside.wakers.items) c.self.inside.caller c.args.self.now c.self.view_is c.self.invariant.0 (g.H.Holder.holding c.args.holder.now) c.requires.has _ _ _ _ _
     (ap (λ (xs : List (Mark × Unit {0})). map (λ x. x.0) xs) c.and-self-inside.ensures ∙ map-append (λ x. x.0) c.self.inside.order.items (_ ∷ []))
     (ap (λ (p : Past (Given g.row.P-Name.Denot g.row.P-Out.Denot g.row.P-In.Denot) g.row.P-Name.Denot g.row.P-Story.Denot). p.workers) c.in_ok-reply.ensures.ok.step)
     (ap (λ (p : Past (Given g.row.P-Name.Denot g.row.P-Out.Denot g.row.P-In.Denot) g.row.P-Name.Denot g.row.P-Story.Denot). p.events) c.in_ok-reply.ensures.ok.step)

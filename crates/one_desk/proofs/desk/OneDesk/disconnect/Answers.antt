@@ -9,42 +9,45 @@ use Rattle.one_desk.specs.Lent.{lent_to, Asks, Lent}
 use Rattle.one_desk.proofs.HoldLemmas.{desk_happens, desk_has, desk_still}
 use Rattle.one_desk.proofs.MakeLemmas.{unless_none}
 use Rattle.one_desk.proofs.LentLemmas.{asks_more, lent_more, lent_open, socket_by}
+use Rattle.one_desk.proofs.ReapingLemmas.{reaps_asked}
 use Rattle.one_desk.proofs.desk.OneDesk.disconnect.Goals as goal
 
 pub disconnect-requires-clause-open : goal.disconnect-requires-clause-open
-disconnect-requires-clause-open g c = (lent_open (map (λ x. x.0) c.self.inside.order.items) c.self.inside.history (length c.self.inside.wakers.items) c.self.inside.caller c.args.socket.0 c.args.self.now c.self.view_is c.self.invariant c.requires.open).open_now
+disconnect-requires-clause-open g c = (lent_open (map (λ x. x.0) c.self.inside.order.items) c.self.inside.history (length c.self.inside.wakers.items) c.self.inside.caller c.args.socket.0 c.args.self.now c.self.view_is c.self.invariant.0 c.requires.open).open_now
 
 pub disconnect-requires-clause-has : goal.disconnect-requires-clause-has
-disconnect-requires-clause-has g c = desk_has (map (λ x. x.0) c.self.inside.order.items) c.self.inside.history (length c.self.inside.wakers.items) c.self.inside.caller c.args.self.now c.self.view_is c.self.invariant (g.H.Holder.holding c.args.holder.now) c.requires.has
+disconnect-requires-clause-has g c = desk_has (map (λ x. x.0) c.self.inside.order.items) c.self.inside.history (length c.self.inside.wakers.items) c.self.inside.caller c.args.self.now c.self.view_is c.self.invariant.0 (g.H.Holder.holding c.args.holder.now) c.requires.has
 
 pub returns-in_err-reply-clause-keeps : goal.returns-in_err-reply-clause-keeps
 returns-in_err-reply-clause-keeps g c =
-    desk_still (map (λ x. x.0) c.self.inside.order.items) c.self.inside.history (length c.self.inside.wakers.items) c.self.inside.caller c.args.self.now c.self.view_is c.self.invariant (g.H.Holder.holding c.args.holder.now) c.requires.has _ _
+    desk_still (map (λ x. x.0) c.self.inside.order.items) c.self.inside.history (length c.self.inside.wakers.items) c.self.inside.caller c.args.self.now c.self.view_is c.self.invariant.0 (g.H.Holder.holding c.args.holder.now) c.requires.has _ _
     c.in_err-reply.ensures.err.0 c.in_err-reply.ensures.keeps c.in_err-reply.ensures.turned c.in_err-reply.ensures.joins
 
 pub invariant_of-self-2 : goal.invariant_of-self-2
-invariant_of-self-2 g c =
-    lent_more _ _ c.self.inside.caller _ _ _ _
-    (ap (λ (xs : List (Mark × Unit {0})). map (λ x. x.0) xs) c.and-self-inside.ensures ∙ map-append (λ x. x.0) c.self.inside.order.items (_ ∷ []))
-    c.in_ok-reply.ensures.ok c.self.invariant c.is_run.ensures.run c.is_run.ensures.named
-    (socket_by _ _ _ c.args.socket.0 c.self.inside.caller refl refl (lent_open (map (λ x. x.0) c.self.inside.order.items) c.self.inside.history (length c.self.inside.wakers.items) c.self.inside.caller c.args.socket.0 c.args.self.now c.self.view_is c.self.invariant c.requires.open).has)
-    (unless_none c.in_ok-reply.reply [] refl)
+invariant_of-self-2 g c = (
+  lent_more _ _ c.self.inside.caller _ _ _ _
+      (ap (λ (xs : List (Mark × Unit {0})). map (λ x. x.0) xs) c.and-self-inside.ensures ∙ map-append (λ x. x.0) c.self.inside.order.items (_ ∷ []))
+      c.in_ok-reply.ensures.ok c.self.invariant.0 c.is_run.ensures.run c.is_run.ensures.named
+      (socket_by _ _ _ c.args.socket.0 c.self.inside.caller refl refl (lent_open (map (λ x. x.0) c.self.inside.order.items) c.self.inside.history (length c.self.inside.wakers.items) c.self.inside.caller c.args.socket.0 c.args.self.now c.self.view_is c.self.invariant.0 c.requires.open).has)
+      (unless_none c.in_ok-reply.reply [] refl),
+  reaps_asked (map (λ x. x.0) c.self.inside.order.items) c.self.inside.history c.disconnect.new.self (length c.self.inside.wakers.items) c.self.invariant.0 c.self.inside.closed c.self.invariant.1 c.is_run.ensures.run (Disconnect c.args.socket c.args.at) c.in_ok-reply.reply _ c.in_ok-reply.ensures.ok (unless_none c.in_ok-reply.reply [] refl) (λ i. refl) refl,
+)
 
 pub returns-clause-ok : goal.returns-clause-ok
 returns-clause-ok g c =
     subst (λ (l : Lent (Given g.row.P-Name.Denot g.row.P-Out.Denot g.row.P-In.Denot) g.row.P-Name.Denot g.row.P-Story.Denot). Asks (Disconnect c.args.socket c.args.at) c.in_ok-reply.reply l (lent_to c.self.inside.caller (map (λ x. x.0) c.and-self-inside.result.items) c.disconnect.new.self)) c.self.view_is
     (asks_more _ _ c.self.inside.caller _ _ _ _ _
     (ap (λ (xs : List (Mark × Unit {0})). map (λ x. x.0) xs) c.and-self-inside.ensures ∙ map-append (λ x. x.0) c.self.inside.order.items (_ ∷ []))
-    c.in_ok-reply.ensures.ok c.self.invariant.marked)
+    c.in_ok-reply.ensures.ok c.self.invariant.0.marked)
 
 pub returns-clause-keeps : goal.returns-clause-keeps
 returns-clause-keeps g c =
     let now = lent_more _ _ c.self.inside.caller _ _ _ _
     (ap (λ (xs : List (Mark × Unit {0})). map (λ x. x.0) xs) c.and-self-inside.ensures ∙ map-append (λ x. x.0) c.self.inside.order.items (_ ∷ []))
-    c.in_ok-reply.ensures.ok c.self.invariant c.is_run.ensures.run c.is_run.ensures.named
-    (socket_by _ _ _ c.args.socket.0 c.self.inside.caller refl refl (lent_open (map (λ x. x.0) c.self.inside.order.items) c.self.inside.history (length c.self.inside.wakers.items) c.self.inside.caller c.args.socket.0 c.args.self.now c.self.view_is c.self.invariant c.requires.open).has)
+    c.in_ok-reply.ensures.ok c.self.invariant.0 c.is_run.ensures.run c.is_run.ensures.named
+    (socket_by _ _ _ c.args.socket.0 c.self.inside.caller refl refl (lent_open (map (λ x. x.0) c.self.inside.order.items) c.self.inside.history (length c.self.inside.wakers.items) c.self.inside.caller c.args.socket.0 c.args.self.now c.self.view_is c.self.invariant.0 c.requires.open).has)
     (unless_none c.in_ok-reply.reply [] refl) in
-    desk_happens (map (λ x. x.0) c.self.inside.order.items) c.self.inside.history (length c.self.inside.wakers.items) c.self.inside.caller c.args.self.now c.self.view_is c.self.invariant (g.H.Holder.holding c.args.holder.now) c.requires.has _ _ _ _ _
+    desk_happens (map (λ x. x.0) c.self.inside.order.items) c.self.inside.history (length c.self.inside.wakers.items) c.self.inside.caller c.args.self.now c.self.view_is c.self.invariant.0 (g.H.Holder.holding c.args.holder.now) c.requires.has _ _ _ _ _
     (ap (λ (xs : List (Mark × Unit {0})). map (λ x. x.0) xs) c.and-self-inside.ensures ∙ map-append (λ x. x.0) c.self.inside.order.items (_ ∷ []))
     (ap (λ (p : Past (Given g.row.P-Name.Denot g.row.P-Out.Denot g.row.P-In.Denot) g.row.P-Name.Denot g.row.P-Story.Denot). p.workers) c.in_ok-reply.ensures.ok)
     (ap (λ (p : Past (Given g.row.P-Name.Denot g.row.P-Out.Denot g.row.P-In.Denot) g.row.P-Name.Denot g.row.P-Story.Denot). p.events) c.in_ok-reply.ensures.ok)

@@ -1,0 +1,31 @@
+use Rattle.std.specs.Prelude.{◌≡◌, ◌≢◌, ℕ, [], OnOk}
+use Rattle.std.proofs.Common.{sym, ap, ◌∙◌, subst}
+use Rattle.zq_base.specs.declared.ids.SlotId.{SlotId}
+use Rattle.ctl_history.specs.Past.{control_of}
+use Rattle.one_desk.specs.Reaping.{HearsFrom}
+use Rattle.one_desk.proofs.PlaneLemmas.{takes_same}
+use Rattle.one_desk.proofs.ReapingLemmas.{its_mailbox}
+use Rattle.one_desk.proofs.desk.OneDesk.hear_first.Goals as goal
+
+pub hear_root-requires-clause-waits : goal.hear_root-requires-clause-waits
+hear_root-requires-clause-waits g c =
+    subst (λ (n : ℕ). (control_of c.args.self.now.past).boxes n ≢ []) c.if-slot-eq0.true c.requires.first.some
+
+pub returns-then-slot-eq0-clause-ok : goal.returns-then-slot-eq0-clause-ok
+returns-then-slot-eq0-clause-ok g c =
+    subst (λ (n : ℕ). OnOk c.hear_root.result (HearsFrom (record { 0 = n }) c.args.self.now c.hear_root.new.self)) (sym c.if-slot-eq0.true) c.hear_root.ensures.ok
+
+pub hear_closed-requires-clause-waits : goal.hear_closed-requires-clause-waits
+hear_closed-requires-clause-waits g c = c.requires.first.some
+
+pub hear_closed-requires-clause-mine : goal.hear_closed-requires-clause-mine
+hear_closed-requires-clause-mine g c =
+    its_mailbox c.args.slot.0 c.args.self.now (c.requires.first.whose c.if-slot-eq0.false) (g.H.Holder.holding c.args.holder.now) c.requires.has c.requires.lent
+
+pub hear_closed-requires-clause-fits : goal.hear_closed-requires-clause-fits
+hear_closed-requires-clause-fits g c =
+    let whose = c.requires.first.whose c.if-slot-eq0.false in
+    c.requires.fits c.args.slot.0 whose.socket whose.serves
+
+pub returns-clause-given : goal.returns-clause-given
+returns-clause-given g c = takes_same _ _ c.hear_closed.ensures.given

@@ -1,0 +1,14 @@
+use Rattle.one_desk.proofs.PlaneLemmas.{err_both, reaped_caller, reaped_names, reaped_ok}
+use Rattle.one_desk.proofs.plane.OneDeskDesk.deliver_first.Goals as goal
+
+pub returns-clause-ok : goal.returns-clause-ok
+returns-clause-ok g c = reaped_ok c.args.self.now c.deliver_first.new.self c.deliver_first.result c.deliver_first.ensures.err c.deliver_first.ensures.ok
+
+pub returns-clause-err : goal.returns-clause-err
+returns-clause-err g c = err_both c.deliver_first.result c.args.self.now c.deliver_first.new.self c.deliver_first.ensures.err
+
+pub returns-clause-names : goal.returns-clause-names
+returns-clause-names g c = reaped_names c.args.self.now c.deliver_first.new.self c.deliver_first.result c.deliver_first.ensures.err c.deliver_first.ensures.ok
+
+pub returns-clause-keeps : goal.returns-clause-keeps
+returns-clause-keeps g c = (reaped_caller c.args.self.now c.deliver_first.new.self c.deliver_first.result c.deliver_first.ensures.err c.deliver_first.ensures.ok, c.deliver_first.ensures.keeps)

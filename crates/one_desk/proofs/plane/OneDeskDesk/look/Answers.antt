@@ -1,0 +1,14 @@
+use Rattle.one_desk.proofs.PlaneLemmas.{looked_caller, looked_given, looked_names, looks_or}
+use Rattle.one_desk.proofs.plane.OneDeskDesk.look.Goals as goal
+
+pub returns-clause-found : goal.returns-clause-found
+returns-clause-found g c = looks_or _ c.args.empty c.args.self.now c.look_at.new.self c.look_at.result c.look_at.ensures.empty c.look_at.ensures.waits
+
+pub returns-clause-given : goal.returns-clause-given
+returns-clause-given g c = looked_given _ c.args.empty c.args.self.now c.look_at.new.self c.look_at.result c.look_at.ensures.empty c.look_at.ensures.waits
+
+pub returns-clause-names : goal.returns-clause-names
+returns-clause-names g c = looked_names _ c.args.empty c.args.self.now c.look_at.new.self c.look_at.result c.look_at.ensures.empty c.look_at.ensures.waits
+
+pub returns-clause-number : goal.returns-clause-number
+returns-clause-number g c = looked_caller _ c.args.empty c.args.self.now c.look_at.new.self c.look_at.result c.look_at.ensures.empty c.look_at.ensures.waits

@@ -1,0 +1,8 @@
+use Rattle.std.specs.Prelude.{◌≡◌, None, find, take}
+use Rattle.ctl_history.specs.Past.{control_of}
+use Rattle.socket_laws.specs.Closed.{waits}
+use Rattle.one_desk.proofs.reaping.first_of.Given as goal
+
+-- nothing waits for those so far
+abbrev pub invariant-each : goal.invariant-each
+invariant-each g l = find (waits (control_of l.history)) (take l.place l.closed) ≡ None

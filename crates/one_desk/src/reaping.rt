@@ -1,0 +1,234 @@
+ghost use Rattle.std.specs.Prelude.{◌≡◌, ◌≢◌, ◌<◌, ℕ, All, find, filter, [], true, IfSome, IfNone, IfOk, OnOk, OnErr};
+ghost use Rattle.spec_control.specs.declared.entry.SeenEmpty.TheVariants.{Reapers};
+ghost use Rattle.spec_control.specs.ControlRun.{AreEmpty};
+ghost use Rattle.spec_control.specs.Names.{name_of};
+ghost use Rattle.spec_control.specs.Rows.{obj};
+ghost use Rattle.ctl_holder.specs.TakingOver.{MayTakeFirst};
+ghost use Rattle.ctl_history.specs.Past.{control_of};
+ghost use Rattle.ctl_plane.specs.Coming.{AreDistinct, BindsFit, TakesEnds};
+ghost use Rattle.ctl_plane.specs.Desk.{CountsWith, HasWhatTheySay, IsItsMailbox, KeepsUp};
+ghost use Rattle.socket_laws.specs.Closed.{lives, waits};
+ghost use Rattle.one_desk.specs.Lent.{coming_to, moments_of};
+ghost use Rattle.one_desk.specs.Reaping.{served_by, FindsFirst, HearsFrom, WaitsFirst};
+
+use crate::desk::OneDesk;
+use crate::mark::Mark;
+use ctl_history::{Heard, History};
+use ctl_holder::Holder;
+use ctl_plane::Delivery;
+use ctl_state::RoomList;
+use msg_pipe::Pipes;
+use spec_control::SeenEmpty;
+use std::alloc::{AllocError, Global};
+use zq_base::{ObjId, SlotId};
+
+// Whether a command waits for a closed socket that the reaper took over.
+fn is_waiting<P: Pipes>(history: &History<P>, socket: ObjId) -> bool
+where
+    P::Name: Drop,
+    requires there { (obj (control_of history.now).rows socket.0).slot
+        < (control_of history.now).slots }
+    ensures { result ≡ waits (control_of history.now) socket }
+{
+    if !history.is_taken_over(socket) {
+        return false;
+    }
+    let slot = history.slot(socket);
+    !history.is_empty(slot)
+}
+
+// The first of these closed sockets for which a command waits.
+fn first_of<P: Pipes>(history: &History<P>, closed: &[ObjId]) -> Option<ObjId>
+where
+    P::Name: Drop,
+    requires there { All (λ o. (obj (control_of history.now).rows o.0).slot
+        < (control_of history.now).slots) closed.now }
+    ensures { result ≡ find (waits (control_of history.now)) closed.now }
+{
+    let many = closed.len();
+    'each: for place in 0..many {
+        let socket = closed[place];
+        if is_waiting(history, socket) {
+            return Some(socket);
+        }
+    }
+    None
+}
+
+// Of closed sockets those go that have ended.
+fn forget<P: Pipes>(history: &History<P>, closed: &mut RoomList<ObjId>)
+where
+    P::Name: Drop,
+    ensures living { filter (lives (control_of history.now)) closed.new.items
+        ≡ filter (lives (control_of history.now)) closed.old.items }
+    ensures some { (n : ℕ) → All (λ o. o.0 < n) closed.old.items →
+        All (λ o. o.0 < n) closed.new.items }
+    ensures spare { closed.new.spare ≡ closed.old.spare }
+{
+    let many = closed.as_slice().len();
+    'each: for looked_at in 0..many {
+        let place = many - looked_at - 1;
+        let socket = closed.as_slice()[place];
+        if history.has_ended(socket) {
+            closed.remove(place);
+        }
+    }
+}
+
+impl<P: Pipes> OneDesk<P>
+where
+    P::Name: Drop,
+    P::Waker: Drop,
+{
+    // Of the closed sockets that are kept for the reaper those go that have ended.
+    pub(crate) fn forget_ended(&mut self)
+        ensures { self.new ≡ self.old }
+    {
+        forget(&self.history, &mut self.closed);
+    }
+
+    // The first of the reaper's mailboxes in which a command waits: the root's, or that of a closed
+    // socket. It costs a look at each that is kept.
+    pub(crate) fn first_slot(&self) -> Option<SlotId>
+        ensures some { IfSome result (λ slot. WaitsFirst slot self.now) }
+        ensures none { IfNone result (AreEmpty (control_of self.now.past) Reapers) }
+    {
+        if !self.history.is_empty(SlotId(0)) {
+            return Some(SlotId(0));
+        }
+        match first_of(&self.history, self.closed.as_slice()) {
+            Some(socket) => return Some(self.history.slot(socket)),
+            None => return None,
+        }
+    }
+
+    // Processes the oldest command of the root, with the reaper's holder.
+    fn hear_root<H: Holder<P>>(&mut self, alloc: Global, holder: &mut H) -> Result<(), AllocError>
+        requires waits { (control_of self.old.past).boxes 0 ≢ [] }
+        requires reaps { H.reaps ≡ true }
+        requires has { HasWhatTheySay self.old.caller (moments_of self.old)
+            (H.holding holder.old) }
+        requires distinct { AreDistinct P.known.exact (name_of self.old.items) }
+        requires takes { MayTakeFirst (H.may_take holder.old) self.old.past.given }
+        ensures ok { OnOk result (HearsFrom (record { 0 = 0 }) self.old self.new) }
+        ensures counts { CountsWith P.known.out_name (H.counts holder.old)
+            (moments_of self.old) (moments_of self.new) (H.holding holder.old) }
+        ensures err { OnErr result (self.new ≡ self.old) }
+        ensures given { TakesEnds self.old.past.given self.new.past.given }
+        ensures keeps { KeepsUp self.new.caller (moments_of self.old) (moments_of self.new)
+            (H.holding holder.old) (H.holding holder.new) }
+    {
+        self.history.is_run();
+        let found = self.history.deliver(alloc, SlotId(0), holder)?;
+        match found {
+            Heard::Done => {
+                self.history.is_run();
+                let heard = self.order.and(&Mark::Event(self.caller), &());
+                self.order = heard;
+                return Ok(());
+            }
+            Heard::Empty => unreachable!(),
+        }
+    }
+
+    // Processes the oldest command of a closed socket, with the reaper's holder.
+    fn hear_closed<H: Holder<P>>(
+        &mut self,
+        alloc: Global,
+        slot: SlotId,
+        holder: &mut H,
+    ) -> Result<(), AllocError>
+        requires waits { (control_of self.old.past).boxes slot.0 ≢ [] }
+        requires mine { IsItsMailbox slot.0 (moments_of self.old) (H.holding holder.old) }
+        requires has { HasWhatTheySay self.old.caller (moments_of self.old)
+            (H.holding holder.old) }
+        requires distinct { AreDistinct P.known.exact (name_of self.old.items) }
+        requires fits { BindsFit P.known.out_name P.known.in_name (name_of self.old.items)
+            (coming_to self.old slot.0) (H.fits holder.old) }
+        ensures ok { OnOk result (HearsFrom slot self.old self.new) }
+        ensures counts { CountsWith P.known.out_name (H.counts holder.old)
+            (moments_of self.old) (moments_of self.new) (H.holding holder.old) }
+        ensures err { OnErr result (self.new ≡ self.old) }
+        ensures given { self.new.past.given ≡ self.old.past.given }
+        ensures keeps { KeepsUp self.new.caller (moments_of self.old) (moments_of self.new)
+            (H.holding holder.old) (H.holding holder.new) }
+    {
+        let found = self.deliver(alloc, slot, holder)?;
+        match found {
+            Delivery::Done => return Ok(()),
+            Delivery::Empty => unreachable!(),
+        }
+    }
+
+    // Processes the oldest command of the first of the reaper's mailboxes that is not empty.
+    fn hear_first<H: Holder<P>>(
+        &mut self,
+        alloc: Global,
+        slot: SlotId,
+        holder: &mut H,
+    ) -> Result<(), AllocError>
+        requires first { WaitsFirst slot self.old }
+        requires reaps { H.reaps ≡ true }
+        requires lent { (m i : ℕ) → served_by self.old m i ≡ true →
+            (H.holding holder.old).holds i ≡ true }
+        requires has { HasWhatTheySay self.old.caller (moments_of self.old)
+            (H.holding holder.old) }
+        requires distinct { AreDistinct P.known.exact (name_of self.old.items) }
+        requires fits { (m i : ℕ) → served_by self.old m i ≡ true →
+            BindsFit P.known.out_name P.known.in_name (name_of self.old.items)
+            (coming_to self.old m) (H.fits holder.old) }
+        requires takes { MayTakeFirst (H.may_take holder.old) self.old.past.given }
+        ensures ok { OnOk result (HearsFrom slot self.old self.new) }
+        ensures counts { CountsWith P.known.out_name (H.counts holder.old)
+            (moments_of self.old) (moments_of self.new) (H.holding holder.old) }
+        ensures err { OnErr result (self.new ≡ self.old) }
+        ensures given { TakesEnds self.old.past.given self.new.past.given }
+        ensures keeps { KeepsUp self.new.caller (moments_of self.old) (moments_of self.new)
+            (H.holding holder.old) (H.holding holder.new) }
+    {
+        if slot.0 == 0 {
+            return self.hear_root(alloc, holder);
+        }
+        self.hear_closed(alloc, slot, holder)
+    }
+
+    /// Processes the oldest command of the first of the reaper's mailboxes that is not empty, in the
+    /// order of the root's and those of the closed sockets, or finds all of them empty. The reaper's
+    /// holder takes in the ends of closed sockets. Want of memory leaves the command where it was. It
+    /// costs two looks at each closed socket that has not ended, or did since the last call.
+    pub fn deliver_first<H: Holder<P>>(
+        &mut self,
+        alloc: Global,
+        holder: &mut H,
+    ) -> Result<Delivery, AllocError>
+        requires reaps { H.reaps ≡ true }
+        requires lent { (m i : ℕ) → served_by self.old m i ≡ true →
+            (H.holding holder.old).holds i ≡ true }
+        requires has { HasWhatTheySay self.old.caller (moments_of self.old)
+            (H.holding holder.old) }
+        requires distinct { AreDistinct P.known.exact (name_of self.old.items) }
+        requires fits { (m i : ℕ) → served_by self.old m i ≡ true →
+            BindsFit P.known.out_name P.known.in_name (name_of self.old.items)
+            (coming_to self.old m) (H.fits holder.old) }
+        requires takes { MayTakeFirst (H.may_take holder.old) self.old.past.given }
+        ensures ok { IfOk result (λ found. FindsFirst found self.old self.new) }
+        ensures counts { CountsWith P.known.out_name (H.counts holder.old)
+            (moments_of self.old) (moments_of self.new) (H.holding holder.old) }
+        ensures err { OnErr result (self.new ≡ self.old) }
+        ensures given { TakesEnds self.old.past.given self.new.past.given }
+        ensures keeps { KeepsUp self.new.caller (moments_of self.old) (moments_of self.new)
+            (H.holding holder.old) (H.holding holder.new) }
+    {
+        self.forget_ended();
+        match self.first_slot() {
+            Some(slot) => {
+                self.hear_first(alloc, slot, holder)?;
+                return Ok(Delivery::Done);
+            }
+            None => {
+                self.note_look(SeenEmpty::Reapers);
+                return Ok(Delivery::Empty);
+            }
+        }
+    }
+}
