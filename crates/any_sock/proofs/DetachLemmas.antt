@@ -35,6 +35,7 @@ use Rattle.any_sock.specs.Peers.{DetachedOver}
 use Rattle.any_sock.specs.declared.any_sock.AnySock.{AnySock}
 use Rattle.any_sock.specs.declared.any_sock.AnySock.TheVariants as sock
 use Rattle.any_sock.proofs.PlaceLemmas.{all_front, all_behind}
+use Rattle.any_sock.proofs.StayLemmas.{stays_in, stays_named, stays_listed, stays_both}
 
 -- a filter leaves no place that wasn't there
 fewer : (f : ℕ → Bool) (xs : List ℕ) → All (Contains xs) (filter f xs)
@@ -105,6 +106,7 @@ module _ (pair : PairId) (place : ℕ) (s : AnySock) where
   push_left turns turns' is e = subst (λ (u : AnySock × List ℕ). DetachedOver pair place u.0 (sock.Push u.1)) (λ i. (sym is i, sym e i)) (record {
     detaches = λ ends one. ap by_kind.Push (turns_without ends place turns (no_other ends place turns one.apart one.known));
     places = fewer (λ other. not (other == place)) turns;
+    stay = λ k ne. stays_in place k ne turns;
     peers_gone = others_turns place turns;
     partner_gone = All-nil (λ k. nat_eq place k ≡ false);
     left_is = refl;
@@ -115,6 +117,7 @@ module _ (pair : PairId) (place : ℕ) (s : AnySock) where
   pull_left turns turns' is e = subst (λ (u : AnySock × List ℕ). DetachedOver pair place u.0 (sock.Pull u.1)) (λ i. (sym is i, sym e i)) (record {
     detaches = λ ends one. ap by_kind.Pull (turns_without ends place turns (no_other ends place turns one.apart one.known));
     places = fewer (λ other. not (other == place)) turns;
+    stay = λ k ne. stays_in place k ne turns;
     peers_gone = others_turns place turns;
     partner_gone = All-nil (λ k. nat_eq place k ≡ false);
     left_is = refl;
@@ -125,6 +128,7 @@ module _ (pair : PairId) (place : ℕ) (s : AnySock) where
   pair_left turns turns' is e = subst (λ (u : AnySock × List ℕ). DetachedOver pair place u.0 (sock.Pair u.1)) (λ i. (sym is i, sym e i)) (record {
     detaches = λ ends one. ap (λ l. by_kind.Pair (record { outs = l; ins = l })) (turns_without ends place turns (no_other ends place turns one.apart one.known));
     places = fewer (λ other. not (other == place)) turns;
+    stay = λ k ne. stays_in place k ne turns;
     peers_gone = others_turns place turns;
     partner_gone = All-nil (λ k. nat_eq place k ≡ false);
     left_is = refl;
@@ -140,6 +144,7 @@ module _ (pair : PairId) (place : ℕ) (s : AnySock) where
         let ins = turns_without ends place t.ins (all_behind P t.outs t.ins all) in
         λ i. by_kind.Dealer (record { outs = outs i; ins = ins i });
     places = fewer_both (λ other. not (other == place)) t.outs t.ins;
+    stay = λ k ne. stays_both place k ne t.outs _ t.ins _ (stays_in place k ne t.outs) (stays_in place k ne t.ins);
     peers_gone = others_both place t.outs t.ins;
     partner_gone = All-nil (λ k. nat_eq place k ≡ false);
     left_is = refl;
@@ -157,6 +162,7 @@ module _ (pair : PairId) (place : ℕ) (s : AnySock) where
         let duty = partner_goes ends place q.asked one.partner in
         λ i. by_kind.Req (record { outs = outs i; ins = ins i }) (duty i);
     places = fewer_both (λ other. not (other == place)) q.outs q.ins;
+    stay = λ k ne. stays_both place k ne q.outs _ q.ins _ (stays_in place k ne q.outs) (stays_in place k ne q.ins);
     peers_gone = others_both place q.outs q.ins;
     partner_gone = others_partner place q.asked;
     left_is = refl;
@@ -171,6 +177,7 @@ module _ (pair : PairId) (place : ℕ) (s : AnySock) where
         let duty = owed_goes ends place q.owed q.envelope one.partner in
         λ i. by_kind.Rep (ins i) (duty i);
     places = fewer (λ other. not (other == place)) q.ins;
+    stay = λ k ne. stays_in place k ne q.ins;
     peers_gone = others_turns place q.ins;
     partner_gone = others_partner place q.owed;
     left_is = refl;
@@ -191,6 +198,7 @@ module _ (pair : PairId) (place : ℕ) (s : AnySock) where
         All-append C (without_place place q.ins) _
         (All-filter (λ other. not (other == place)) C q.ins (all_front C q.ins names all))
         (All-map C (λ (n : PlaceName). n.place) _ (All-filter (λ n. not (nat_eq place n.place)) (λ n. C n.place) q.names (names_all C q.names (all_behind C q.ins names all))));
+    stay = λ k ne. stays_both place k ne q.ins _ (map (λ (n : PlaceName). n.place) q.names) _ (stays_in place k ne q.ins) (stays_named place k ne q.names);
     peers_gone = All-append (λ k. nat_eq place k ≡ false) (without_place place q.ins) _ (others_turns place q.ins) (others_named place q.names);
     partner_gone = All-nil (λ k. nat_eq place k ≡ false);
     left_is = refl;
@@ -207,6 +215,7 @@ module _ (pair : PairId) (place : ℕ) (s : AnySock) where
     detaches = λ ends one. ap by_kind.Pub (defined ends one.apart one.known);
     places = subst (λ (z : PubState). All (Contains (keys_of p.subs)) (keys_of z.subs)) (sym e)
         (All-map-remove_entry (nat_eq place) (λ (x : ℕ × List Topic). x.0) (Contains (keys_of p.subs)) p.subs (All-contains_itself (keys_of p.subs)));
+    stay = λ k ne here. subst (λ (z : PubState). is_place (keys_of z.subs) k ≡ true) (sym e) (stays_listed place k ne p.subs here);
     peers_gone = all_behind (λ k. nat_eq place k ≡ false) p'.ins (keys_of p'.subs) others;
     partner_gone = All-nil (λ k. nat_eq place k ≡ false);
     left_is = ap (λ z. left_of (sock.Pub z)) e;
@@ -219,6 +228,7 @@ module _ (pair : PairId) (place : ℕ) (s : AnySock) where
     detaches = λ ends one. ap by_kind.XPub (defined ends one.pair_is one.apart one.known);
     places = subst (λ (z : PubState). All (Contains (keys_of p.subs)) (keys_of z.subs)) (sym e)
         (All-map-remove_entry (nat_eq place) (λ (x : ℕ × List Topic). x.0) (Contains (keys_of p.subs)) p.subs (All-contains_itself (keys_of p.subs)));
+    stay = λ k ne here. subst (λ (z : PubState). is_place (keys_of z.subs) k ≡ true) (sym e) (stays_listed place k ne p.subs here);
     peers_gone = all_behind (λ k. nat_eq place k ≡ false) p'.ins (keys_of p'.subs) others;
     partner_gone = All-nil (λ k. nat_eq place k ≡ false);
     left_is = ap (λ z. left_of (sock.XPub z)) e;
@@ -239,6 +249,8 @@ module _ (pair : PairId) (place : ℕ) (s : AnySock) where
   sub_left u u' is e defined others = subst (λ (t : AnySock). DetachedOver pair place t (sock.Sub u')) (sym is) (record {
     detaches = λ ends one. ap by_kind.Sub (defined ends one.apart one.known);
     places = subst (λ (z : SubState). All (Contains (u.ins ++ keys_of u.followers)) (z.ins ++ keys_of z.followers)) (sym e) (sub_fewer u);
+    stay = λ k ne here. subst (λ (z : SubState). is_place (z.ins ++ keys_of z.followers) k ≡ true) (sym e)
+        (stays_both place k ne u.ins _ (keys_of u.followers) _ (stays_in place k ne u.ins) (stays_listed place k ne u.followers) here);
     peers_gone = others;
     partner_gone = All-nil (λ k. nat_eq place k ≡ false);
     left_is = refl;
@@ -250,6 +262,8 @@ module _ (pair : PairId) (place : ℕ) (s : AnySock) where
   xsub_left u u' is e defined others = subst (λ (t : AnySock). DetachedOver pair place t (sock.XSub u')) (sym is) (record {
     detaches = λ ends one. ap by_kind.XSub (defined ends one.apart one.known);
     places = subst (λ (z : SubState). All (Contains (u.ins ++ keys_of u.followers)) (z.ins ++ keys_of z.followers)) (sym e) (sub_fewer u);
+    stay = λ k ne here. subst (λ (z : SubState). is_place (z.ins ++ keys_of z.followers) k ≡ true) (sym e)
+        (stays_both place k ne u.ins _ (keys_of u.followers) _ (stays_in place k ne u.ins) (stays_listed place k ne u.followers) here);
     peers_gone = others;
     partner_gone = All-nil (λ k. nat_eq place k ≡ false);
     left_is = refl;

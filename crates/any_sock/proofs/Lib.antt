@@ -3,6 +3,7 @@ pub mod SendLemmas
 pub mod RecvLemmas
 pub mod PumpLemmas
 pub mod AttachLemmas
+mod StayLemmas
 pub mod DetachLemmas
 pub mod FreshLemmas
 pub mod ChangeLemmas

@@ -15,7 +15,7 @@ use Rattle.router_dealer.specs.Named as router
 use Rattle.router_dealer.specs.Laws.{router_at}
 use Rattle.router_dealer.proofs.LawLemmas.{taken_in_at}
 use Rattle.router_dealer.proofs.RouterLemmas.{same_state}
-use Rattle.pub_sub.specs.Places.{AreOthers}
+use Rattle.pub_sub.specs.Places.{is_place, AreOthers}
 use Rattle.any_sock.specs.Over.{peer_places, left_of}
 use Rattle.any_sock.specs.Peers.{DetachedOver, CameOver, IsAsBefore, TakenBackOver, left_without}
 use Rattle.any_sock.specs.declared.any_sock.AnySock.{AnySock}
@@ -120,6 +120,7 @@ module _ (pair : PairId) (place : ℕ) where
   router_back s r r' is leaves undone = subst (λ (t : AnySock). TakenBackOver place t (sock.Router r')) (sym is) (record {
     undone = undone_router r r' undone;
     places = subst (λ (q : RouterState). All (Contains (peer_places (sock.Router r))) (peer_places (sock.Router q))) (sym leaves) left.places;
+    stay = λ k ne here. subst (λ (q : RouterState). is_place (peer_places (sock.Router q)) k ≡ true) (sym leaves) (left.stay k ne here);
     peers_gone = subst (λ (q : RouterState). AreOthers place (peer_places (sock.Router q))) (sym leaves) left.peers_gone;
     partner_gone = All-nil (λ k. nat_eq place k ≡ false);
     left_is = subst (λ (q : RouterState). left_of (sock.Router q) ≡ left_without place (left_of (sock.Router r))) (sym leaves) left.left_is;

@@ -256,6 +256,7 @@ module _ (pair : PairId) (place : ℕ) where
   detached_back s t new is all gone = record {
     undone = λ before came. by before came (attach_answer came.identity (over at_places before)) refl;
     places = gone.places;
+    stay = gone.stay;
     peers_gone = gone.peers_gone;
     partner_gone = gone.partner_gone;
     left_is = gone.left_is;
@@ -286,6 +287,7 @@ module _ (pair : PairId) (place : ℕ) where
   pair_back s turns turns' is e gone = record {
     undone = λ before came. by before came (attach_answer came.identity (over at_places before)) refl;
     places = gone.places;
+    stay = gone.stay;
     peers_gone = gone.peers_gone;
     partner_gone = gone.partner_gone;
     left_is = gone.left_is;

@@ -1,5 +1,5 @@
 -- A peer comes to a socket of any kind, or goes, by its place (zmq_connect(3), zmq_disconnect(3)).
-use Rattle.std.specs.Prelude.{◌≡◌, ◌<◌, ℕ, true, List, [], ◌∷◌, ◌++◌, All, Contains, nat_eq, Result, Ok, Err}
+use Rattle.std.specs.Prelude.{◌≡◌, ◌<◌, ℕ, true, false, List, [], ◌∷◌, ◌++◌, All, Contains, nat_eq, Result, Ok, Err}
 use Rattle.zq_base.specs.declared.attached.Attached.{Attached}
 use Rattle.zq_base.specs.declared.attached.Attached.TheVariants.{Yes, BadId, Second}
 use Rattle.zq_base.specs.declared.ids.PairId.{PairId}
@@ -43,10 +43,11 @@ pub record IsOneEnd (ends : ℕ → End) (pair : PairId) (place : ℕ) (s : AnyS
 abbrev pub left_without : ℕ → Leftover → Leftover
 left_without place left = record left { to_obey = kept_without place left.to_obey }
 
--- the end at the place, of this pair, is a peer no longer: no other place is a peer's then than before, and neither a peer nor a partner has this one
+-- the end at the place, of this pair, is a peer no longer: no other place is a peer's then than before, each other peer's stays, and neither a peer nor a partner has this one
 pub record DetachedOver (pair : PairId) (place : ℕ) (s s' : AnySock) : Type 0 where
   pub detaches : (ends : ℕ → End) → IsOneEnd ends pair place s → over ends s' ≡ detach (ends place) (over ends s)
   pub places : All (Contains (peer_places s)) (peer_places s')
+  pub stay : (k : ℕ) → nat_eq place k ≡ false → is_place (peer_places s) k ≡ true → is_place (peer_places s') k ≡ true
   pub peers_gone : AreOthers place (peer_places s')
   pub partner_gone : AreOthers place (partner_places s')
   pub left_is : left_of s' ≡ left_without place (left_of s)
@@ -80,6 +81,7 @@ pub record IsAsBefore (before s : AnySock) : Type 0 where
 pub record TakenBackOver (place : ℕ) (s s' : AnySock) : Type 0 where
   pub undone : (before : AnySock) → CameOver place before s → IsAsBefore before s'
   pub places : All (Contains (peer_places s)) (peer_places s')
+  pub stay : (k : ℕ) → nat_eq place k ≡ false → is_place (peer_places s) k ≡ true → is_place (peer_places s') k ≡ true
   pub peers_gone : AreOthers place (peer_places s')
   pub partner_gone : AreOthers place (partner_places s')
   pub left_is : left_of s' ≡ left_without place (left_of s)

@@ -12,16 +12,19 @@ use Rattle.spec_control.specs.declared.request.Req.TheVariants.{Close}
 use Rattle.spec_control.specs.Control.{Control}
 use Rattle.control_held.specs.Has.{has_then, has_over, has_after}
 use Rattle.control_held.specs.Moments.{Moment, items_in, left_by}
-use Rattle.msg_pipe.specs.Known.{Known}
+use Rattle.msg_pipe.specs.Known.{Known, IsThere}
+use Rattle.ctl_holder.specs.declared.given.Given.{Given}
+use Rattle.ctl_holder.specs.TakingOver.{IsGivenWith}
+use Rattle.held_ends.specs.Others.{IsNoneWritten, IsUnsettled}
 use Rattle.ctl_holder.specs.Holding.{Holding}
 use Rattle.ctl_holder.specs.Turns.{TurnsBy, turned_in}
-use Rattle.ctl_plane.specs.Desk.{HasWhatTheySay, KeepsUp, AsksOnce, by_caller, came_with}
-use Rattle.spec_pattern.specs.Half.{Reading}
+use Rattle.ctl_plane.specs.Desk.{heard_with, HasWhatTheySay, KeepsUp, AsksOnce, by_caller, came_with}
+use Rattle.spec_pattern.specs.Half.{Writing, Reading}
 use Rattle.held_ends.proofs.OthersLemmas.{places_stay, leaves_pipes, others_sound, halves_fitting}
 use Rattle.sock_core.proofs.FormLemmas.{sound_of, are_sound}
 use Rattle.sock_core.specs.declared.sock.SockCore.{SockCore}
 use Rattle.sock_calls.specs.Calls.{owner_of, holding_of, FitsPipes, LeavesOthers, HasNone}
-use Rattle.sock_calls.specs.Others.{LeavesFit, LeavesJoining, LeavesMet}
+use Rattle.sock_calls.specs.Others.{IsGivenElse, LeavesFit, LeavesJoining, LeavesGiven}
 
 never : false ≡ true → ⊥
 never f = Prim.grind arith
@@ -34,7 +37,7 @@ left_of false c is e = refl
 left_of true c is e = absurd (never (sym e ∙ is))
 
 -- a list with more behind it that is the same has none
-none_more : {A : Type 0} (xs ys : List A) → xs ≡ xs ++ ys → ys ≡ []
+pub none_more : {A : Type 0} (xs ys : List A) → xs ≡ xs ++ ys → ys ≡ []
 none_more xs [] e = refl
 none_more xs (y ∷ ys) e = absurd (let n = ap length e in let a = length-append xs (y ∷ ys) in omega (arith, n, a))
 
@@ -52,6 +55,7 @@ module _ {N S : Type 0} where
       one = λ m e. absurd (let n = ap length e in let a = length-append moments (m ∷ []) in omega (arith, n, a));
       none = λ e i. (refl, refl);
     };
+    heard = λ more e. subst (λ (l : List (Moment N S)). h.heard ≡ h.heard ++ flat_map (λ m. heard_with m.item m.found (left_by m)) l) (sym (none_more moments more e)) (sym (append-nil h.heard));
   }
 
   -- nobody has a socket behind its close
@@ -98,6 +102,9 @@ module _ {C W N O I S : Type 0} (K : Known S O I N) where
     peers_are = fits.peers_are;
     room = fits.room;
     gone = fits.gone;
+    stopped_is = fits.stopped_is;
+    flagged = fits.flagged;
+    in_use = fits.in_use;
   }
 
   pub others_join : LeavesJoining C W K
@@ -108,8 +115,19 @@ module _ {C W N O I S : Type 0} (K : Known S O I N) where
   others_join (Some a) (Some b) (Some w) (Some s) before now h leaves apart may =
       halves_fitting K before now a.ends b.ends w.ends.places.items s.ends.places.items h leaves apart.0 apart.1 may
 
-  pub others_met : LeavesMet C W K
-  others_met None new before now gs leaves apart met = absurd leaves
-  others_met (Some a) None before now gs leaves apart met = absurd leaves
-  others_met (Some a) (Some b) before now gs leaves apart met =
-      λ k d lt m. ap (λ (r : Reading). r.ended) (leaves.ins (get_or gs k d).input (apart k d lt).0 (apart k d lt).1) ∙ met k d lt m
+  pub others_given : LeavesGiven C W K
+  others_given None new before now gs leaves apart given = absurd leaves
+  others_given (Some a) None before now gs leaves apart given = absurd leaves
+  others_given (Some a) (Some b) before now gs leaves apart given = λ k d lt. one (get_or gs k d) (apart k d lt) (given k d lt)
+    where
+      one : (g : Given N O I) → IsGivenElse K a.ends b.ends g → IsGivenWith K before g → IsGivenWith K now g
+      one g other is = record {
+        read_there = leaves.read (K.in_name g.input) other.ins is.read_there;
+        met = λ m. ap (λ (r : Reading). r.ended) (leaves.ins g.input is.read_there other.ins) ∙ is.met m;
+        out_is = is.out_is;
+        written_there = λ o e. leaves.written g.written (other.unsettled (ap is_some e)) (is.written_there o e);
+        unsealed = λ o e s.
+            ap (λ (v : Writing). v.sealed) (leaves.outs o (subst (IsThere K before) (sym (is.out_is o e)) (is.written_there o e))
+            (subst (IsNoneWritten K a.ends b.ends) (sym (is.out_is o e)) (other.outs (ap is_some e))) (subst (IsUnsettled K b.ends) (sym (is.out_is o e)) (other.unsettled (ap is_some e))))
+            ∙ is.unsealed o e s;
+      }

@@ -1,17 +1,20 @@
 -- A socket between its calls, without the pipes of its ends (own choice).
 use Rattle.std.specs.Prelude.{◌≡◌, ℕ, true, false, List, [], Option, Some, None, length}
+use Rattle.zq_base.specs.declared.ids.EndId.{EndId}
+use Rattle.zq_base.specs.declared.ids.Settled.{Settled}
 use Rattle.zq_base.specs.declared.kind.Kind.{Kind}
 use Rattle.spec_control.specs.declared.end.EndState.TheVariants.{Gone}
 use Rattle.msg_pipe.specs.Known.{Known}
 use Rattle.ctl_holder.specs.declared.halves.Halves.{Halves}
 use Rattle.ctl_holder.specs.Holding.{Holding}
+use Rattle.held_ends.specs.Counting.{counts_of}
 use Rattle.held_ends.specs.Sound.{Fits}
 use Rattle.held_ends.specs.Giving.{AreGone}
 use Rattle.held_ends.specs.Others.{Leaves}
 use Rattle.sock_core.specs.declared.sock.SockCore.{SockCore}
-use Rattle.sock_core.specs.Has.{holding_in}
+use Rattle.sock_core.specs.Has.{IsStopped, holding_in}
 use Rattle.sock_core.specs.Sound.{AreSound, KeepsRoom}
-use Rattle.sock_core.specs.Peers.{ArePeers}
+use Rattle.sock_core.specs.Peers.{ArePeers, AreFlagged, AreInUse}
 
 -- nothing is had
 abbrev pub nothing : {N : Type 0} → Holding N
@@ -26,6 +29,7 @@ nothing = record {
   turns = [];
   sealed = [];
   joined = [];
+  heard = [];
 }
 
 module _ {C W N O I : Type 0} where
@@ -45,12 +49,15 @@ module _ {C W N O I : Type 0} where
   HasNone (Some s) = (s.is_open ≡ false) × AreGone s.ends.places.items
 
   module _ {S : Type 0} (K : Known S O I N) where
-    -- its ends are of these pipes, those at the places of its kind's peers are its peers, it has room to give them away, and none where it was closed
+    -- its ends are of these pipes, those at the places of its kind's peers are its peers and no others, which are in use, it has room to give them away, and none where it was closed; it is stopped where it was told so
     pub record FitsCore (peers : C → List ℕ) (pipes : S) (s : SockCore C W N O I) : Type 0 where
       pub sound : AreSound K pipes s.ends.rows.items s.ends.places.items
       pub peers_are : s.is_open ≡ true → ArePeers s.ends.places.items (peers s.kind)
       pub room : KeepsRoom s.is_open (length s.ends.places.items) s.room
       pub gone : s.is_open ≡ false → AreGone s.ends.places.items
+      pub stopped_is : IsStopped s.stopped s.heard.items
+      pub flagged : AreFlagged s.ends.places.items (peers s.kind)
+      pub in_use : AreInUse s.ends.places.items
 
     -- a socket is there, and fits
     abbrev pub FitsPipes : (peers : C → List ℕ) → S → Option (SockCore C W N O I) → Type 0
@@ -61,6 +68,11 @@ module _ {C W N O I : Type 0} where
     abbrev pub MayJoin : S → Option (SockCore C W N O I) → Halves O I → Type 0
     MayJoin pipes None h = ⊥
     MayJoin pipes (Some s) h = Fits K pipes s.ends.places.items h
+
+    -- what joining the half by which one of its ends reads with a writing half of its pipe tells
+    abbrev pub counts_by : S → Option (SockCore C W N O I) → EndId → O → Settled
+    counts_by pipes None e writer = record { sent = 0; got = 0; rest = 0 }
+    counts_by pipes (Some s) e writer = counts_of K pipes s.ends e writer
 
     -- its calls left the pipes of others
     abbrev pub LeavesOthers : (old new : Option (SockCore C W N O I)) → (before now : S) → Type 0

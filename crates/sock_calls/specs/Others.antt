@@ -1,15 +1,23 @@
 -- What a call on one socket leaves of the others of a run (own choice).
-use Rattle.std.specs.Prelude.{◌≡◌, ℕ, true, List, Option, Some, None, All}
-use Rattle.msg_pipe.specs.Known.{Known, IsThere}
+use Rattle.std.specs.Prelude.{◌≡◌, ℕ, true, List, Option, Some, None, All, is_some}
+use Rattle.msg_pipe.specs.Known.{Known}
 use Rattle.ctl_holder.specs.declared.given.Given.{Given}
 use Rattle.ctl_holder.specs.declared.halves.Halves.{Halves}
-use Rattle.ctl_holder.specs.Holding.{AreMet}
+use Rattle.ctl_holder.specs.TakingOver.{AreGivenWith}
 use Rattle.held_ends.specs.declared.table.Place.{Place}
 use Rattle.held_ends.specs.Places.{place_at}
 use Rattle.held_ends.specs.Sound.{IsElseOf}
-use Rattle.held_ends.specs.Others.{IsApartFrom, IsNoneRead, AreElseFrom}
+use Rattle.held_ends.specs.declared.table.EndTable.{EndTable}
+use Rattle.held_ends.specs.Others.{IsApartFrom, IsNoneWritten, IsNoneRead, IsUnsettled, AreElseFrom}
 use Rattle.sock_core.specs.declared.sock.SockCore.{SockCore}
 use Rattle.sock_calls.specs.Calls.{FitsPipes, MayJoin, LeavesOthers}
+
+module _ {N O I S : Type 0} (K : Known S O I N) where
+  -- the halves of an end that was given away are of other pipes than those of one owner's ends
+  pub record IsGivenElse (from to : EndTable N O I) (g : Given N O I) : Type 0 where
+    pub outs : is_some g.out ≡ true → IsNoneWritten K from to g.written
+    pub unsettled : is_some g.out ≡ true → IsUnsettled K to g.written
+    pub ins : IsNoneRead K from to (K.in_name g.input)
 
 module _ {C W N O I S : Type 0} (K : Known S O I N) where
   -- the ends that a socket has are of other pipes than those of one that was called
@@ -26,11 +34,11 @@ module _ {C W N O I S : Type 0} (K : Known S O I N) where
   AreElse (Some a) (Some b) None h = ⊥
   AreElse (Some a) (Some b) (Some s) h = AreElseFrom K a.ends b.ends h × ((k : ℕ) (p : Place N I) → place_at s.ends.places.items k ≡ Some p → p.held ≡ true → IsElseOf K p h)
 
-  -- the reading half of an end that was given away is of a pipe that is there, and another than those of a socket that was called
-  abbrev pub IsGivenApart : (old new : Option (SockCore C W N O I)) → S → Given N O I → Type 0
-  IsGivenApart None new pipes g = ⊥
-  IsGivenApart (Some a) None pipes g = ⊥
-  IsGivenApart (Some a) (Some b) pipes g = IsThere K pipes (K.in_name g.input) × IsNoneRead K a.ends b.ends (K.in_name g.input)
+  -- and than those of a socket that was called
+  abbrev pub IsGivenApart : (old new : Option (SockCore C W N O I)) → Given N O I → Type 0
+  IsGivenApart None new g = ⊥
+  IsGivenApart (Some a) None g = ⊥
+  IsGivenApart (Some a) (Some b) g = IsGivenElse K a.ends b.ends g
 
 module _ (C W : Type 0) {N O I S : Type 0} (K : Known S O I N) where
   -- a socket whose ends are of other pipes than those of one that was called fits still
@@ -43,8 +51,7 @@ module _ (C W : Type 0) {N O I S : Type 0} (K : Known S O I N) where
   LeavesJoining = (old new was other : Option (SockCore C W N O I)) (before now : S) (h : Halves O I) →
       LeavesOthers K old new before now → AreElse K old new other h → MayJoin K before was h → MayJoin K now other h
 
-  -- ends of other pipes that were given away have met their delimiters still
-  abbrev pub LeavesMet : Type 0
-  LeavesMet = (old new : Option (SockCore C W N O I)) (before now : S) (gs : List (Given N O I)) →
-      LeavesOthers K old new before now → All (IsGivenApart K old new before) gs →
-      AreMet (λ i. (K.reading before i).ended) gs → AreMet (λ i. (K.reading now i).ended) gs
+  -- ends of other pipes that were given away are with their halves still
+  abbrev pub LeavesGiven : Type 0
+  LeavesGiven = (old new : Option (SockCore C W N O I)) (before now : S) (gs : List (Given N O I)) →
+      LeavesOthers K old new before now → All (IsGivenApart K old new) gs → AreGivenWith K before gs → AreGivenWith K now gs

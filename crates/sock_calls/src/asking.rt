@@ -1,10 +1,13 @@
-ghost use Rattle.std.specs.Prelude.{◌≡◌, true, Some, IfOk, OnErr};
+ghost use Rattle.std.specs.Prelude.{◌≡◌, ◌++◌, true, false, List, Some, IfOk, OnErr};
 ghost use Rattle.control_held.specs.Held.{asker};
 ghost use Rattle.control_held.specs.OwnAsks.{MayAskOwn};
 ghost use Rattle.control_held.specs.Moments.{items_in};
+ghost use Rattle.ctl_plane.specs.Asking.{HasMarks, IsOfSockets};
 ghost use Rattle.ctl_plane.specs.Coming.{KeepsNames, SendsEnds};
 ghost use Rattle.ctl_plane.specs.Desk.{HasWhatTheySay, KeepsUp, AsksOnce};
 ghost use Rattle.sock_calls.specs.Calls.{owner_of, holding_of, FitsPipes, LeavesOthers};
+ghost use Rattle.control_held.specs.Moments.{Moment};
+ghost use Rattle.sock_calls.specs.Passing.{Passes};
 
 use crate::lent::ask_lent;
 use crate::moving::Back;
@@ -32,13 +35,15 @@ where
     D: Desk<P>,
     requires fits { FitsPipes P.known C.peers pipes.old socket.old }
     requires may { MayAskOwn (items_in (D.moments desk.old)) request }
+    requires options { HasMarks request }
+    requires sockets { D.serves ≡ false → IsOfSockets request }
     requires asks { asker request ≡ Some (owner_of socket.old) }
     requires held { (holding_of C.kind socket.old).holds (owner_of socket.old) ≡ true }
     requires has { HasWhatTheySay (D.number desk.old) (D.moments desk.old)
         (holding_of C.kind socket.old) }
     ensures ok { IfOk result (λ reply. AsksOnce (D.number desk.old) request reply
         (D.moments desk.old) (D.moments desk.new)) }
-    ensures given { IfOk result (λ _. SendsEnds (λ i. (P.known.reading pipes.new i).ended) request
+    ensures given { IfOk result (λ _. SendsEnds P.known pipes.new request
         (D.given desk.old) (D.given desk.new)) }
     ensures err { OnErr result ((D.moments desk.new ≡ D.moments desk.old)
         × (D.given desk.new ≡ D.given desk.old)) }
@@ -49,6 +54,9 @@ where
     ensures owner { owner_of socket.new ≡ owner_of socket.old }
     ensures fits { FitsPipes P.known C.peers pipes.new socket.new }
     ensures others { LeavesOthers P.known socket.old socket.new pipes.old pipes.new }
+    ensures passes { (more : List (Moment P.Name P.Story)) →
+        D.moments desk.new ≡ D.moments desk.old ++ more →
+        Passes C.pattern socket.old socket.new more }
 {
     match socket.take() {
         Some(core) => {

@@ -1,4 +1,4 @@
-ghost use Rattle.sock_calls.specs.Others.{LeavesFit, LeavesJoining, LeavesMet};
+ghost use Rattle.sock_calls.specs.Others.{LeavesFit, LeavesJoining, LeavesGiven};
 
 use held_ends::HeldPipes;
 use sock_core::Joins;
@@ -13,7 +13,7 @@ pub fn halves_may_join<P: HeldPipes, C: Joins>(_pipes: &P, _kind: &C)
     ensures { LeavesJoining C P.Waker P.known }
 {}
 
-/// The ends of closed sockets have met their delimiters still.
-pub fn given_ends_stay_met<P: HeldPipes, C: Joins>(_pipes: &P, _kind: &C)
-    ensures { LeavesMet C P.Waker P.known }
+/// The ends of closed sockets are with their halves still.
+pub fn given_ends_stay<P: HeldPipes, C: Joins>(_pipes: &P, _kind: &C)
+    ensures { LeavesGiven C P.Waker P.known }
 {}

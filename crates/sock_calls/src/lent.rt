@@ -1,19 +1,24 @@
-ghost use Rattle.std.specs.Prelude.{◌≡◌, ℕ, true, Some, IfOk, OnErr};
+ghost use Rattle.std.specs.Prelude.{◌≡◌, ℕ, true, false, Some, IfOk, OnErr};
 ghost use Rattle.control_held.specs.Held.{asker};
 ghost use Rattle.control_held.specs.OwnAsks.{MayAskOwn};
 ghost use Rattle.control_held.specs.Moments.{items_in};
 ghost use Rattle.ctl_holder.specs.Holding.{has_end};
+ghost use Rattle.ctl_plane.specs.Asking.{HasMarks, IsOfSockets};
 ghost use Rattle.ctl_plane.specs.Coming.{AreDistinct, BindsFit, KeepsNames, SendsEnds};
 ghost use Rattle.ctl_plane.specs.Desk.{HasWhatTheySay, KeepsUp, AsksOnce, GivesOrNot, DelimitsOrNot, slot_after};
-ghost use Rattle.held_ends.specs.declared.table.EndTable.{EndTable};
+ghost use Rattle.ctl_plane.specs.Desk.{CountsWith};
+ghost use Rattle.held_ends.specs.Counting.{counts_of};
 ghost use Rattle.held_ends.specs.Others.{Leaves};
 ghost use Rattle.held_ends.specs.Sound.{Fits};
 ghost use Rattle.sock_core.specs.Has.{holding_in};
+ghost use Rattle.sock_core.specs.Way.{KindWayOf};
+ghost use Rattle.sock_core.specs.declared.sock.SockCore.{SockCore};
 ghost use Rattle.sock_calls.specs.Calls.{FitsCore};
 
 use crate::moving::Back;
 use ctl_plane::{Delivery, Desk};
-use held_ends::{EndTable, HeldPipes};
+use held_ends::HeldPipes;
+use http_server::Log;
 use sock_core::{Joins, Since, SockCore, SockHolder};
 use spec_control::{Reply, Req};
 use std::alloc::{AllocError, Global};
@@ -29,23 +34,24 @@ pub(crate) fn ask_lent<F, P, C, D>(
     request: Req,
 ) -> Back<Result<Reply, AllocError>, P, SockCore<C, P::Waker, P::Name, P::Out, P::In>>
 where
-    F: Since<P, EndTable<P::Name, P::Out, P::In>>,
+    F: Since<P, SockCore<C, P::Waker, P::Name, P::Out, P::In>>,
     P: HeldPipes,
     P::Name: Drop,
     C: Joins,
     D: Desk<P>,
-    requires began { (s : P) (t : EndTable P.Name P.Out P.In) → F.began s t →
-        (s ≡ pipes) × (t ≡ core.ends) × (core.number.0 ≡ F.object) }
+    requires began { (s : P) (t : SockCore C P.Waker P.Name P.Out P.In) → F.began s t →
+        (s ≡ pipes) × (t ≡ core) × (core.number.0 ≡ F.object) }
     requires fits { FitsCore P.known C.peers pipes core }
     requires may { MayAskOwn (items_in (D.moments desk.old)) request }
+    requires options { HasMarks request }
+    requires sockets { D.serves ≡ false → IsOfSockets request }
     requires lent { (i : ℕ) → asker request ≡ Some i →
         (holding_in (C.kind core.kind) core).holds i ≡ true }
     requires has { HasWhatTheySay (D.number desk.old) (D.moments desk.old)
         (holding_in (C.kind core.kind) core) }
     ensures ok { IfOk result.answer (λ reply. AsksOnce (D.number desk.old) request reply
         (D.moments desk.old) (D.moments desk.new)) }
-    ensures given { IfOk result.answer (λ _. SendsEnds
-        (λ i. (P.known.reading result.pipes i).ended) request
+    ensures given { IfOk result.answer (λ _. SendsEnds P.known result.pipes request
         (D.given desk.old) (D.given desk.new)) }
     ensures err { OnErr result.answer ((D.moments desk.new ≡ D.moments desk.old)
         × (D.given desk.new ≡ D.given desk.old)) }
@@ -55,9 +61,13 @@ where
         (holding_in (C.kind core.kind) core)
         (holding_in (C.kind result.core.kind) result.core) }
     ensures fits { FitsCore P.known C.peers result.pipes result.core }
-    ensures others { (s : P) (t : EndTable P.Name P.Out P.In) → F.began s t →
-        Leaves P.known s t result.pipes result.core.ends × (result.core.number.0 ≡ F.object) }
+    ensures others { (s : P) (t : SockCore C P.Waker P.Name P.Out P.In) → F.began s t →
+        Leaves P.known s t.ends result.pipes result.core.ends × (result.core.number.0 ≡ F.object) }
+    ensures way { (s : P) (t : SockCore C P.Waker P.Name P.Out P.In) → F.began s t →
+        ∥ KindWayOf C.pattern C.names C.sound C.peers t result.core ∥₁ }
 {
+    let mut core = core;
+    core.way = Log::new();
     let mut holder: SockHolder<P, C, F> = SockHolder {
         pipes,
         core,
@@ -84,13 +94,13 @@ pub(crate) fn take_lent<F, P, C, D>(
     desk: &mut D,
 ) -> Back<Result<Delivery, AllocError>, P, SockCore<C, P::Waker, P::Name, P::Out, P::In>>
 where
-    F: Since<P, EndTable<P::Name, P::Out, P::In>>,
+    F: Since<P, SockCore<C, P::Waker, P::Name, P::Out, P::In>>,
     P: HeldPipes,
     P::Name: Drop,
     C: Joins,
     D: Desk<P>,
-    requires began { (s : P) (t : EndTable P.Name P.Out P.In) → F.began s t →
-        (s ≡ pipes) × (t ≡ core.ends) × (core.number.0 ≡ F.object) }
+    requires began { (s : P) (t : SockCore C P.Waker P.Name P.Out P.In) → F.began s t →
+        (s ≡ pipes) × (t ≡ core) × (core.number.0 ≡ F.object) }
     requires fits { FitsCore P.known C.peers pipes core }
     requires held { (holding_in (C.kind core.kind) core).holds core.number.0 ≡ true }
     requires has { HasWhatTheySay (D.number desk.old) (D.moments desk.old)
@@ -104,6 +114,9 @@ where
     ensures ok { IfOk result.answer (λ found. GivesOrNot (D.number desk.old)
         (slot_after core.number.0 (D.moments desk.old)) found
         (D.moments desk.old) (D.moments desk.new)) }
+    ensures counts { CountsWith P.known.out_name
+        (λ e writer. counts_of P.known pipes core.ends e writer)
+        (D.moments desk.old) (D.moments desk.new) (holding_in (C.kind core.kind) core) }
     ensures err { OnErr result.answer (D.moments desk.new ≡ D.moments desk.old) }
     ensures given { D.given desk.new ≡ D.given desk.old }
     ensures names { KeepsNames (D.named desk.old) (D.named desk.new) }
@@ -112,10 +125,14 @@ where
         (holding_in (C.kind core.kind) core)
         (holding_in (C.kind result.core.kind) result.core) }
     ensures fits { FitsCore P.known C.peers result.pipes result.core }
-    ensures others { (s : P) (t : EndTable P.Name P.Out P.In) → F.began s t →
-        Leaves P.known s t result.pipes result.core.ends × (result.core.number.0 ≡ F.object) }
+    ensures others { (s : P) (t : SockCore C P.Waker P.Name P.Out P.In) → F.began s t →
+        Leaves P.known s t.ends result.pipes result.core.ends × (result.core.number.0 ≡ F.object) }
+    ensures way { (s : P) (t : SockCore C P.Waker P.Name P.Out P.In) → F.began s t →
+        ∥ KindWayOf C.pattern C.names C.sound C.peers t result.core ∥₁ }
 {
     let slot = desk.slot(core.number);
+    let mut core = core;
+    core.way = Log::new();
     let mut holder: SockHolder<P, C, F> = SockHolder {
         pipes,
         core,
@@ -144,13 +161,13 @@ pub(crate) fn meet_lent<F, P, C, D>(
     end: EndId,
 ) -> Back<bool, P, SockCore<C, P::Waker, P::Name, P::Out, P::In>>
 where
-    F: Since<P, EndTable<P::Name, P::Out, P::In>>,
+    F: Since<P, SockCore<C, P::Waker, P::Name, P::Out, P::In>>,
     P: HeldPipes,
     P::Name: Drop,
     C: Joins,
     D: Desk<P>,
-    requires began { (s : P) (t : EndTable P.Name P.Out P.In) → F.began s t →
-        (s ≡ pipes) × (t ≡ core.ends) × (core.number.0 ≡ F.object) }
+    requires began { (s : P) (t : SockCore C P.Waker P.Name P.Out P.In) → F.began s t →
+        (s ≡ pipes) × (t ≡ core) × (core.number.0 ≡ F.object) }
     requires fits { FitsCore P.known C.peers pipes core }
     requires held { (holding_in (C.kind core.kind) core).holds core.number.0 ≡ true }
     requires here { has_end end
@@ -167,9 +184,13 @@ where
         (holding_in (C.kind core.kind) core)
         (holding_in (C.kind result.core.kind) result.core) }
     ensures fits { FitsCore P.known C.peers result.pipes result.core }
-    ensures others { (s : P) (t : EndTable P.Name P.Out P.In) → F.began s t →
-        Leaves P.known s t result.pipes result.core.ends × (result.core.number.0 ≡ F.object) }
+    ensures others { (s : P) (t : SockCore C P.Waker P.Name P.Out P.In) → F.began s t →
+        Leaves P.known s t.ends result.pipes result.core.ends × (result.core.number.0 ≡ F.object) }
+    ensures way { (s : P) (t : SockCore C P.Waker P.Name P.Out P.In) → F.began s t →
+        ∥ KindWayOf C.pattern C.names C.sound C.peers t result.core ∥₁ }
 {
+    let mut core = core;
+    core.way = Log::new();
     let mut holder: SockHolder<P, C, F> = SockHolder {
         pipes,
         core,

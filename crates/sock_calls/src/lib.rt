@@ -10,5 +10,5 @@ mod lent;
 mod moving;
 mod socket;
 
-pub use laws::{given_ends_stay_met, halves_may_join, other_sockets_fit};
+pub use laws::{given_ends_stay, halves_may_join, other_sockets_fit};
 pub use socket::Socket;

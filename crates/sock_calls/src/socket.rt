@@ -24,6 +24,8 @@ where
     C: Joins + Drop,
 {
     ghost use Rattle.sock_calls.specs.Calls.{owner_of, holding_of, FitsPipes, MayJoin, LeavesOthers};
+    ghost use Rattle.sock_calls.specs.Calls.{counts_by};
+    ghost use Rattle.sock_calls.specs.Passing.{Passes};
 
     ghost owner = { λ s. owner_of s.core };
 
@@ -33,7 +35,11 @@ where
 
     ghost may_join = { λ s pipes h. MayJoin P.known pipes s.core h };
 
+    ghost counts = { λ s pipes e writer. counts_by P.known pipes s.core e writer };
+
     ghost leaves = { λ old new before now. LeavesOthers P.known old.core new.core before now };
+
+    ghost passes = { λ old new more. Passes C.pattern old.core new.core more };
 
     fn bind<D: Desk<P>>(
         &mut self,
@@ -173,7 +179,7 @@ where
             (Close (id (owner_of self.old.core))) reply
             (D.moments desk.old) (D.moments desk.new)) }
         ensures none { IfOk result (λ _. HasNone self.new.core) }
-        ensures given { IfOk result (λ _. SendsEnds (λ i. (P.known.reading pipes.new i).ended)
+        ensures given { IfOk result (λ _. SendsEnds P.known pipes.new
             (Close (id (owner_of self.old.core))) (D.given desk.old) (D.given desk.new)) }
         ensures err { OnErr result ((D.moments desk.new ≡ D.moments desk.old)
             × (D.given desk.new ≡ D.given desk.old)) }

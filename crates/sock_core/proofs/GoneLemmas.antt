@@ -1,5 +1,5 @@
 -- A closed socket has no end.
-use Rattle.std.proofs.Common.{◌≡◌, ℕ, zero, suc, Bool, true, false, List, [], ◌∷◌, Some, sym, ap, ◌∙◌, true≢false}
+use Rattle.std.proofs.Common.{◌≡◌, ℕ, zero, suc, true, false, List, [], ◌∷◌, Some, sym, ap, ◌∙◌, true≢false}
 use Rattle.std.proofs.lemmas.List.Elements.{All-head, All-tail}
 use Rattle.zq_base.specs.declared.ids.EndId.{EndId}
 use Rattle.held_ends.specs.declared.table.Place.{Place}
@@ -9,7 +9,7 @@ use Rattle.held_ends.proofs.SoundLemmas.{one_some}
 use Rattle.sock_core.proofs.FindLemmas.{held_is}
 
 module _ {N I : Type 0} where
-  gone_at : (ps : List (Place N I)) (k : ℕ) (p : Place N I) → AreGone ps → place_at ps k ≡ Some p → p.held ≡ false
+  pub gone_at : (ps : List (Place N I)) (k : ℕ) (p : Place N I) → AreGone ps → place_at ps k ≡ Some p → p.held ≡ false
   gone_at [] k p gone at = cc
   gone_at (x ∷ xs) zero p gone at = ap (λ (y : Place N I). y.held) (sym (one_some x p at)) ∙ All-head (λ (y : Place N I). y.held ≡ false) x xs gone
   gone_at (x ∷ xs) (suc k) p gone at = gone_at xs k p (All-tail (λ (y : Place N I). y.held ≡ false) x xs gone) at

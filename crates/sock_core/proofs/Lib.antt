@@ -9,3 +9,7 @@ pub mod GiveLemmas
 pub mod StandingLemmas
 pub mod GoneLemmas
 pub mod AnyLemmas
+pub mod NoneLemmas
+pub mod FlagLemmas
+pub mod WayLemmas
+pub mod GoingLemmas

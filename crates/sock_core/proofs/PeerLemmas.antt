@@ -48,6 +48,10 @@ module _ {N I : Type 0} where
   peer_before (x ∷ xs) q zero h = h
   peer_before (x ∷ xs) q (suc k) h = peer_before xs q k h
 
+  pub peer_none : (ps : List (Place N I)) → peer_at ps (length ps) ≡ false
+  peer_none [] = refl
+  peer_none (x ∷ xs) = peer_none xs
+
   peer_last : (ps : List (Place N I)) (q : Place N I) → peer_at (ps ++ q ∷ []) (length ps) ≡ peer_of q
   peer_last [] q = refl
   peer_last (x ∷ xs) q = peer_last xs q
@@ -70,7 +74,7 @@ module _ {N I : Type 0} where
     below = λ k d lt. peer_within ps (slice_index_or was k d) (all k d lt)
 
     -- a place that is no peer's is none of them
-    none_at : (k : ℕ) → peer_at ps k ≡ false → AreElse k was
+    pub none_at : (k : ℕ) → peer_at ps k ≡ false → AreElse k was
     none_at k off = λ j d lt. by (slice_index_or was j d) (nat_eq k (slice_index_or was j d)) refl (all j d lt)
       where
         by : (n : ℕ) (b : Bool) → nat_eq k n ≡ b → peer_at ps n ≡ true → b ≡ false
@@ -112,7 +116,7 @@ module _ {N I : Type 0} where
         is_peer p = ap (λ (b : Bool). b && (q.writes && q.peer)) held ∙ ap (λ (b : Bool). b && q.peer) writes ∙ p
 
         by : (b : Attached) → q.peer ≡ is_taken b → AddsPeer b (length ps) was now → ArePeers (ps ++ q ∷ []) now
-        by Yes p from = all_of (λ k. peer_at (ps ++ q ∷ []) k ≡ true) (was ++ length ps ∷ []) now from
+        by Yes p from = all_of (λ k. peer_at (ps ++ q ∷ []) k ≡ true) (was ++ length ps ∷ []) now from.none_new
             (All-append (λ k. peer_at (ps ++ q ∷ []) k ≡ true) was (length ps ∷ []) before
             (All-cons (λ k. peer_at (ps ++ q ∷ []) k ≡ true) (length ps) [] (peer_last ps q ∙ is_peer p) (All-nil (λ k. peer_at (ps ++ q ∷ []) k ≡ true))))
         by BadId p same = subst (ArePeers (ps ++ q ∷ [])) (sym same) before

@@ -10,17 +10,21 @@ use Rattle.held_ends.specs.Places.{held_in, is_of, writes_in, met_in}
 use Rattle.spec_control.specs.declared.entry.Joining.{Joining}
 use Rattle.sock_core.specs.declared.joint.JoinNote.{JoinNote}
 use Rattle.sock_core.specs.declared.sock.SockCore.{SockCore}
+use Rattle.ctl_holder.specs.declared.notice.Notice.{Notice}
+use Rattle.ctl_holder.specs.declared.notice.Notice.TheVariants.{Stop, Term, Over}
+use Rattle.std.specs.List.{list_any}
 use Rattle.sock_core.specs.Standing.{standing_joins}
 
--- what a socket was told of its ends: the changes of their states, the ends whose pipes it was to seal, and those that joined
+-- what a socket was told: the changes of its ends' states, the ends whose pipes it was to seal, those that joined, and its Stop, its Term and its end
 pub record Told (N : Type 0) : Type 0 where
   pub turns : List (EndId × EndState)
   pub sealed : List EndId
   pub joined : List (Joining N)
+  pub heard : List Notice
 
 -- as its logs have it
-abbrev pub told_in : {N : Type 0} → List (EndId × EndState) → List (EndId × Unit {0}) → List (JoinNote N × List ℕ) → Told N
-told_in turns sealed joins = record { turns = turns; sealed = map (λ x. x.0) sealed; joined = standing_joins joins }
+abbrev pub told_in : {N : Type 0} → List (EndId × EndState) → List (EndId × Unit {0}) → List (JoinNote N × List ℕ) → List (Notice × Unit {0}) → Told N
+told_in turns sealed joins heard = record { turns = turns; sealed = map (λ x. x.0) sealed; joined = standing_joins joins; heard = map (λ x. x.0) heard }
 
 module _ {N I : Type 0} where
   -- how far an end is; one that is not held is gone
@@ -41,11 +45,12 @@ module _ {N I : Type 0} where
     turns = told.turns;
     sealed = told.sealed;
     joined = told.joined;
+    heard = told.heard;
   }
 
 -- what a socket has, whose kind is this
 abbrev pub holding_in : {C W N O I : Type 0} → Kind → SockCore C W N O I → Holding N
-holding_in kind s = has s.number.0 s.is_open kind (told_in s.turns.items s.sealed.items s.joins.items) s.ends.places.items
+holding_in kind s = has s.number.0 s.is_open kind (told_in s.turns.items s.sealed.items s.joins.items s.heard.items) s.ends.places.items
 
 -- an open socket of this number and kind, without ends, that was told nothing
 pub record IsNew {C W N O I : Type 0} (number : ℕ) (kind : C) (s : SockCore C W N O I) : Type 0 where
@@ -57,3 +62,14 @@ pub record IsNew {C W N O I : Type 0} (number : ℕ) (kind : C) (s : SockCore C 
   pub no_turns : s.turns.items ≡ []
   pub no_seals : s.sealed.items ≡ []
   pub no_joins : s.joins.items ≡ []
+  pub no_notices : s.heard.items ≡ []
+
+-- a Stop was processed
+abbrev pub is_stop : Notice → Bool
+is_stop (Stop o) = true
+is_stop (Term o) = false
+is_stop (Over o) = false
+
+-- it is said of a socket that it processed its Stop where it was told of one
+abbrev pub IsStopped : (stopped : Bool) → List (Notice × Unit {0}) → Type 0
+IsStopped stopped heard = stopped ≡ list_any (λ x. is_stop x.0) heard

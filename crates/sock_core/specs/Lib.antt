@@ -5,3 +5,4 @@ pub mod Turns
 pub mod Peers
 pub mod Kinds
 pub mod Patterns
+pub mod Way

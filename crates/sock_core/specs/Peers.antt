@@ -1,8 +1,13 @@
 -- The peers of a socket's kind, by the places of its ends (own choice, after libzmq's `socket_base_t`).
-use Rattle.std.specs.Prelude.{◌≡◌, ◌&&◌, ℕ, zero, suc, Bool, true, false, List, [], ◌∷◌, ◌++◌, All, Contains, nat_eq}
+use Rattle.std.specs.Prelude.{◌≡◌, ◌&&◌, ℕ, zero, suc, Bool, true, false, List, [], ◌∷◌, ◌++◌, Some, All, Contains, nat_eq}
 use Rattle.zq_base.specs.declared.attached.Attached.{Attached}
 use Rattle.zq_base.specs.declared.attached.Attached.TheVariants.{Yes, BadId, Second}
+use Rattle.spec_control.specs.Place.{At}
+use Rattle.spec_run.specs.OpenSocket.{is_out}
+use Rattle.pub_sub.specs.Places.{is_place}
+use Rattle.any_sock.specs.Over.{HaveSamePlaces}
 use Rattle.held_ends.specs.declared.table.Place.{Place}
+use Rattle.held_ends.specs.Places.{place_at}
 
 -- the kind took the end as a peer
 abbrev pub is_taken : Attached → Bool
@@ -12,7 +17,7 @@ is_taken Second = false
 
 -- the peers after an attach at a place: one more, or as before where the end was refused
 abbrev pub AddsPeer : Attached → ℕ → (was now : List ℕ) → Type 0
-AddsPeer Yes place was now = All (Contains (was ++ place ∷ [])) now
+AddsPeer Yes place was now = HaveSamePlaces (was ++ place ∷ []) now
 AddsPeer BadId place was now = now ≡ was
 AddsPeer Second place was now = now ≡ was
 
@@ -20,21 +25,29 @@ AddsPeer Second place was now = now ≡ was
 abbrev pub AreElse : ℕ → List ℕ → Type 0
 AreElse place ps = All (λ k. nat_eq place k ≡ false) ps
 
+-- each peer at another place stays
+abbrev pub OthersStay : ℕ → (was now : List ℕ) → Type 0
+OthersStay place was now = (k : ℕ) → nat_eq place k ≡ false → is_place was k ≡ true → is_place now k ≡ true
+
 -- no peer came, and the one at this place went
 pub record LosesPeer (place : ℕ) (was now : List ℕ) : Type 0 where
   pub none_new : All (Contains was) now
   pub gone : AreElse place now
+  pub stay : OthersStay place was now
 
 -- no peer came, and if there was one at this place it went
 pub record Parts (is_peer : Bool) (place : ℕ) (was now : List ℕ) : Type 0 where
   pub none_new : All (Contains was) now
   pub gone : is_peer ≡ true → AreElse place now
+  pub stay : OthersStay place was now
 
 -- or it went if it is none then; none comes
 pub record StaysPeer (is_peer stays : Bool) (place : ℕ) (was now : List ℕ) : Type 0 where
   pub none_new : All (Contains was) now
   pub gone : is_peer ≡ true → stays ≡ false → AreElse place now
   pub none_back : stays ≡ true → is_peer ≡ true
+  pub stay : OthersStay place was now
+  pub stays_too : stays ≡ true → is_place was place ≡ true → is_place now place ≡ true
 
 module _ {N I : Type 0} where
   -- an end that has its writing half is a peer
@@ -49,3 +62,11 @@ module _ {N I : Type 0} where
   -- the peers of the kind are ends that have their writing halves, and that it took
   abbrev pub ArePeers : List (Place N I) → List ℕ → Type 0
   ArePeers ps peers = All (λ k. peer_at ps k ≡ true) peers
+
+  -- each end that the kind took, and that is held, is among its peers
+  abbrev pub AreFlagged : List (Place N I) → List ℕ → Type 0
+  AreFlagged ps peers = (k : ℕ) (p : Place N I) → place_at ps k ≡ Some p → p.held ≡ true → p.peer ≡ true → is_place peers k ≡ true
+
+  -- and is in use
+  abbrev pub AreInUse : List (Place N I) → Type 0
+  AreInUse ps = (k : ℕ) (p : Place N I) → place_at ps k ≡ Some p → p.held ≡ true → p.peer ≡ true → is_out (At p.state) ≡ false

@@ -1,16 +1,18 @@
 ghost use Rattle.std.specs.Prelude.{◌≡◌, true, false, length};
-ghost use Rattle.held_ends.specs.declared.table.EndTable.{EndTable};
 ghost use Rattle.held_ends.specs.Giving.{AreGone};
 ghost use Rattle.held_ends.specs.Others.{Leaves};
 ghost use Rattle.sock_core.specs.Sound.{AreSound, KeepsRoom};
-ghost use Rattle.sock_core.specs.Peers.{ArePeers, is_taken};
+ghost use Rattle.sock_core.specs.Has.{IsStopped};
+ghost use Rattle.sock_core.specs.Peers.{ArePeers, AreFlagged, AreInUse, is_taken};
+ghost use Rattle.sock_core.specs.Way.{KindWayOf};
+ghost use Rattle.sock_core.specs.declared.sock.SockCore.{SockCore};
 
 use crate::joins::Joins;
-use crate::joint::{joint_of, note_back, note_join};
+use crate::joint::{joint_of, note_back, note_join, note_part, note_turn};
 use crate::since::Since;
 use crate::sock::{Room, SockCore};
-use crate::turns::{note, note_seal, part, stays, unjoin};
-use ctl_holder::{Given, Halves, Holder, Made, Parting};
+use crate::turns::{note, note_heard, note_seal, part, stays, unjoin};
+use ctl_holder::{Given, Halves, Holder, Made, Notice, Parting};
 use held_ends::{EndTable, HeldPipes, find};
 use http_server::Log;
 use spec_control::EndState;
@@ -23,7 +25,7 @@ use zq_base::{Address, Attached, EndId, Kind, ObjId, Options, Peer, Seq, Settled
 pub struct SockHolder<
     P: HeldPipes,
     C: Joins,
-    F: Since<P, EndTable<P::Name, P::Out, P::In>> = Brand,
+    F: Since<P, SockCore<C, P::Waker, P::Name, P::Out, P::In>> = Brand,
 > {
     pub pipes: P,
     pub core: SockCore<C, P::Waker, P::Name, P::Out, P::In>,
@@ -32,10 +34,15 @@ pub struct SockHolder<
     ghost peers: { core.is_open ≡ true → ArePeers core.ends.places.items (C.peers core.kind) },
     ghost room: { KeepsRoom core.is_open (length core.ends.places.items) core.room },
     ghost gone: { core.is_open ≡ false → AreGone core.ends.places.items },
-    ghost others: { (s : P) (t : EndTable P.Name P.Out P.In) → F.began s t →
-        Leaves P.known s t pipes core.ends },
-    ghost number: { (s : P) (t : EndTable P.Name P.Out P.In) → F.began s t →
+    ghost flagged: { AreFlagged core.ends.places.items (C.peers core.kind) },
+    ghost in_use: { AreInUse core.ends.places.items },
+    ghost others: { (s : P) (t : SockCore C P.Waker P.Name P.Out P.In) → F.began s t →
+        Leaves P.known s t.ends pipes core.ends },
+    ghost stopped: { IsStopped core.stopped core.heard.items },
+    ghost number: { (s : P) (t : SockCore C P.Waker P.Name P.Out P.In) → F.began s t →
         core.number.0 ≡ F.object },
+    ghost way: { (s : P) (t : SockCore C P.Waker P.Name P.Out P.In) → F.began s t →
+        ∥ KindWayOf C.pattern C.names C.sound C.peers t core ∥₁ },
 }
 
 impl<P: HeldPipes, C: Joins> SockHolder<P, C> {
@@ -70,36 +77,47 @@ impl<P: HeldPipes, C: Joins> SockHolder<P, C> {
                 turns: Log::new(),
                 sealed: Log::new(),
                 joins: Log::new(),
+                heard: Log::new(),
+                way: Log::new(),
             },
         }
     }
 }
 
 /// A socket has ends of its own alone, and takes in none of another owner's.
-impl<P: HeldPipes, C: Joins, F: Since<P, EndTable<P::Name, P::Out, P::In>>> Holder<P>
-    for SockHolder<P, C, F>
+impl<P, C, F> Holder<P> for SockHolder<P, C, F>
 where
+    P: HeldPipes,
     P::Name: Drop,
+    C: Joins,
+    F: Since<P, SockCore<C, P::Waker, P::Name, P::Out, P::In>>,
 {
     ghost use Rattle.std.specs.Prelude.{◌≡◌, ◌∷◌, [], true, false, map, OnOk, IfOk, IfErr};
     ghost use Rattle.zq_base.specs.declared.ids.EndId.{EndId};
     ghost use Rattle.ctl_holder.specs.Holding.{has_end, held_with, held_optional, held_given};
     ghost use Rattle.ctl_holder.specs.Holding.{Joined, BeginsActive, MayRefuse, Stays, KeepsTurns};
-    ghost use Rattle.ctl_holder.specs.Holding.{JoinsBy, joining_with};
+    ghost use Rattle.ctl_holder.specs.Holding.{HearsNone, JoinsBy, joining_with};
     ghost use Rattle.ctl_holder.specs.Holding.{IsPlugged, Begins, AreAtDelimiter, writes_in};
     ghost use Rattle.ctl_holder.specs.Holding.{states_optional, states_given};
+    ghost use Rattle.held_ends.specs.Counting.{counts_of};
     ghost use Rattle.held_ends.specs.Sound.{Fits};
     ghost use Rattle.sock_core.specs.Has.{holding_in};
 
     ghost holding = { λ s. holding_in (C.kind s.core.kind) s.core };
 
-    ghost ended = { λ s i. (P.known.reading s.pipes i).ended };
+    ghost pipes = { λ s. s.pipes };
+
+    ghost counts = { λ s e writer. counts_of P.known s.pipes s.core.ends e writer };
 
     ghost fits = { λ s h. Fits P.known s.pipes s.core.ends.places.items h };
 
     ghost serves = { false };
 
     ghost reaps = { false };
+
+    ghost gives = { true };
+
+    ghost may_take = { λ s gs. Unit {0} };
 
     fn make(
         &mut self,
@@ -150,19 +168,30 @@ where
             (holding_in (C.kind self.new.core.kind) self.new.core)
             × KeepsTurns (holding_in (C.kind self.old.core.kind) self.old.core)
             (holding_in (C.kind self.new.core.kind) self.new.core)) }
+        ensures heard { HearsNone
+            (holding_in (C.kind self.old.core.kind) self.old.core)
+            (holding_in (C.kind self.new.core.kind) self.new.core) }
     {
         let _object = o;
         let place = self.core.ends.places.len();
-        let joint = joint_of::<P>(end, &halves);
+        let joint = joint_of::<P>(end, place, &halves);
         match self.core.room.keep(place) {
             Ok(()) => {}
             Err(_) => return Err(AllocFailed { value: halves }),
         }
+        self.core.kind.is_sound();
         match held_ends::prepare(alloc, &mut self.core.ends, end, halves) {
             Ok(row) => match self.core.kind.attach(alloc, place, peer) {
                 Ok(answer) => {
                     held_ends::join(&self.pipes, &mut self.core.ends, row, is_taken(answer));
-                    note_join(&mut self.core.joins, joint, &peer.identity, answer);
+                    let core = &mut self.core;
+                    note_join(
+                        &mut core.joins,
+                        &mut core.way,
+                        joint,
+                        &peer.identity,
+                        answer,
+                    );
                     return Ok(answer);
                 }
                 Err(_) => {
@@ -182,7 +211,8 @@ where
                 let is_peer = self.core.ends.places[place].peer;
                 unjoin(&mut self.core.kind, end.pair, place, is_peer);
                 let alloc = *self.core.ends.places.allocator();
-                note_back(&mut self.core.joins, alloc);
+                let core = &mut self.core;
+                note_back(&mut core.joins, &mut core.way, place, alloc);
                 return held_ends::take_back(&self.pipes, &mut self.core.ends, place);
             }
             None => unreachable!(),
@@ -196,6 +226,8 @@ where
             Some(place) => {
                 let was = self.core.ends.places[place].state;
                 note(&mut self.core.turns, end, was, state);
+                let alloc = *self.core.ends.places.allocator();
+                note_turn(&mut self.core.way, alloc, end, was, state);
                 let is_peer = self.core.ends.places[place].peer;
                 let peer = stays(&mut self.core.kind, end.pair, place, is_peer, state);
                 held_ends::set_state(&self.pipes, &mut self.core.ends, place, state, peer);
@@ -223,6 +255,8 @@ where
             Some(place) => {
                 let is_peer = self.core.ends.places[place].peer;
                 part(&mut self.core.kind, end.pair, place, is_peer);
+                let alloc = *self.core.ends.places.allocator();
+                note_part(&mut self.core.way, alloc, end, is_peer);
                 return held_ends::yield_writer(&mut self.pipes, &mut self.core.ends, place);
             }
             None => unreachable!(),
@@ -240,7 +274,7 @@ where
     }
 
     fn stop(&mut self, o: ObjId) {
-        let _object = o;
+        note_heard(&mut self.core.heard, Notice::Stop(o));
         self.core.stopped = true;
     }
 
@@ -272,13 +306,16 @@ where
             (holding_in (C.kind self.new.core.kind) self.new.core)
             × KeepsTurns (holding_in (C.kind self.old.core.kind) self.old.core)
             (holding_in (C.kind self.new.core.kind) self.new.core)) }
+        ensures heard { HearsNone
+            (holding_in (C.kind self.old.core.kind) self.old.core)
+            (holding_in (C.kind self.new.core.kind) self.new.core) }
     {
         let _object = o;
         Err(AllocFailed { value: end })
     }
 
     fn told(&mut self, o: ObjId) {
-        let _object = o;
+        note_heard(&mut self.core.heard, Notice::Term(o));
     }
 
     fn output_left(&self, o: ObjId) -> bool {
@@ -287,7 +324,7 @@ where
     }
 
     fn over(&mut self, o: ObjId) {
-        let _object = o;
+        note_heard(&mut self.core.heard, Notice::Over(o));
     }
 
     fn give_ends(&mut self, o: ObjId) -> Parting<P::Name, P::Out, P::In> {
@@ -318,6 +355,9 @@ where
             (holding_in (C.kind self.new.core.kind) self.new.core).writes e
             ≡ writes_in ends.items e
             ((holding_in (C.kind self.old.core.kind) self.old.core).writes e) }
+        ensures heard { HearsNone
+            (holding_in (C.kind self.old.core.kind) self.old.core)
+            (holding_in (C.kind self.new.core.kind) self.new.core) }
     {
         let _unread = (o, ends);
     }

@@ -6,6 +6,8 @@ pub trait Joins {
     ghost use Rattle.std.specs.Prelude.{◌≡◌, ◌<◌, ℕ, List, Some, IfOk, OnErr, All};
     ghost use Rattle.sock_core.specs.Peers.{AddsPeer, LosesPeer};
     ghost use Rattle.sock_core.specs.Patterns.{IsAlike, AnswersAs, AttachesAs, DetachesAs, CameBy};
+    ghost use Rattle.sock_core.specs.Patterns.{KnowsItsPeers, NamesWhere};
+    ghost use Rattle.zq_base.specs.declared.attached.Attached.TheVariants.{Yes};
     ghost use Rattle.spec_pattern.specs.Pattern.{Pattern};
     ghost use Rattle.zq_base.specs.declared.ids.EndId.{EndId};
     ghost use Rattle.zq_base.specs.declared.kind.Kind.{Kind};
@@ -28,7 +30,9 @@ pub trait Joins {
 
     /// What is always so of it is so. It costs nothing.
     fn is_sound(&self)
-        ensures { sound self.now };
+        ensures sound { sound self.now }
+        ensures peers { KnowsItsPeers pattern (peers self.now) self.now }
+        ensures names { NamesWhere pattern names self.now };
 
     /// An end is attached at a place behind the others, or refused.
     fn attach(&mut self, alloc: Global, place: usize, peer: &Peer) -> Result<Attached, AllocError>
@@ -37,6 +41,7 @@ pub trait Joins {
         ensures kind { kind self.new ≡ kind self.old }
         ensures peers { IfOk result (λ a. AddsPeer a place (peers self.old) (peers self.new)) }
         ensures answers { IfOk result (AnswersAs pattern names peer.now.identity self.old) }
+        ensures named { IfOk result (λ a. a ≡ Yes → names self.old peer.now.identity) }
         ensures attaches { IfOk result (λ a.
             AttachesAs pattern place peer.now.identity a self.old self.new) }
         ensures err { OnErr result (peers self.new ≡ peers self.old) }

@@ -1,9 +1,14 @@
 ghost use Rattle.std.specs.Prelude.{◌≡◌, ◌++◌, ◌∷◌, []};
+ghost use Rattle.std.specs.Prelude.{if◌then◌else◌};
+ghost use Rattle.ctl_holder.specs.Holding.{is_state};
 ghost use Rattle.sock_core.specs.Standing.{joining_as, standing_joins, without_last};
+ghost use Rattle.sock_core.specs.Way.{way_in, with_came, with_undone, with_turned, with_parted};
 
+use crate::turns::is_same;
 use ctl_holder::Halves;
 use held_ends::HeldPipes;
 use http_server::Log;
+use spec_control::EndState;
 use std::alloc::Global;
 use zq_base::{Attached, EndId, Octets};
 
@@ -11,29 +16,41 @@ use zq_base::{Attached, EndId, Octets};
 #[derive(Drop)]
 pub struct Joint<N> {
     pub end: EndId,
+    /// Where it is attached.
+    pub place: usize,
     /// The pipe that it writes.
     pub written: N,
     /// The pipe that it reads.
     pub read: N,
 }
 
-/// What is noted of the ends that join, beside the identity of the peer.
+/// What is noted of the ends of a socket, beside the identity of a peer that comes.
 #[derive(Drop)]
 pub enum JoinNote<N> {
     /// It joined, and its kind gave this answer.
     Joined(Joint<N>, Attached),
-    /// The one that joined last of those that still stand was taken back.
-    TakenBack,
+    /// The one that joined last of those that still stand was taken back, from this place.
+    TakenBack(usize),
+    /// It came to this state.
+    Turned(EndId, EndState),
+    /// A peer gave its writing half away.
+    Parted(EndId),
 }
 
-/// An end with the names of the pipes of its halves.
-pub(crate) fn joint_of<P: HeldPipes>(end: EndId, halves: &Halves<P::Out, P::In>) -> Joint<P::Name>
+/// An end at its place, with the names of the pipes of its halves.
+pub(crate) fn joint_of<P: HeldPipes>(
+    end: EndId,
+    place: usize,
+    halves: &Halves<P::Out, P::In>,
+) -> Joint<P::Name>
     ensures end { result.end ≡ end }
+    ensures place { result.place ≡ place }
     ensures written { result.written ≡ P.known.out_name halves.now.out }
     ensures read { result.read ≡ P.known.in_name halves.now.input }
 {
     Joint {
         end,
+        place,
         written: P::name(&halves.out),
         read: P::reads(&halves.input),
     }
@@ -42,21 +59,67 @@ pub(crate) fn joint_of<P: HeldPipes>(end: EndId, halves: &Halves<P::Out, P::In>)
 /// Notes that an end joined, with its kind's answer to its peer's identity.
 pub(crate) fn note_join<N: Drop>(
     joins: &mut Log<JoinNote<N>, Octets>,
+    way: &mut Log<JoinNote<N>, Octets>,
     joint: Joint<N>,
     peer: &Octets,
     answer: Attached,
 )
-    ensures { standing_joins joins.new.items
+    ensures joins { standing_joins joins.new.items
         ≡ standing_joins joins.old.items ++ joining_as joint peer.now answer ∷ [] }
+    ensures way { way_in way.new.items
+        ≡ with_came (joining_as joint peer.now answer) joint.place (way_in way.old.items) }
 {
     let note = JoinNote::Joined(joint, answer);
     *joins = joins.and(&note, peer);
+    *way = way.and(&note, peer);
 }
 
-/// Notes that the end that joined last was taken back.
-pub(crate) fn note_back<N: Drop>(joins: &mut Log<JoinNote<N>, Octets>, alloc: Global)
-    ensures { standing_joins joins.new.items ≡ without_last (standing_joins joins.old.items) }
+/// Notes that the end that joined last was taken back, from this place.
+pub(crate) fn note_back<N: Drop>(
+    joins: &mut Log<JoinNote<N>, Octets>,
+    way: &mut Log<JoinNote<N>, Octets>,
+    place: usize,
+    alloc: Global,
+)
+    ensures joins { standing_joins joins.new.items ≡ without_last (standing_joins joins.old.items) }
+    ensures way { way_in way.new.items ≡ with_undone place (way_in way.old.items) }
 {
-    let note: JoinNote<N> = JoinNote::TakenBack;
+    let note: JoinNote<N> = JoinNote::TakenBack(place);
     *joins = joins.and(&note, &Octets::new(alloc));
+    *way = way.and(&note, &Octets::new(alloc));
+}
+
+/// Notes that an end goes from one state to another, if they are two.
+pub(crate) fn note_turn<N: Drop>(
+    way: &mut Log<JoinNote<N>, Octets>,
+    alloc: Global,
+    end: EndId,
+    was: EndState,
+    state: EndState,
+)
+    ensures { way_in way.new.items ≡ (if is_state was state then way_in way.old.items
+        else with_turned end state (way_in way.old.items)) }
+{
+    if is_same(was, state) {
+        return;
+    }
+    let note: JoinNote<N> = JoinNote::Turned(end, state);
+    *way = way.and(&note, &Octets::new(alloc));
+}
+
+/// Notes that an end gave its writing half away, if it was a peer.
+pub(crate) fn note_part<N: Drop>(
+    way: &mut Log<JoinNote<N>, Octets>,
+    alloc: Global,
+    end: EndId,
+    is_peer: bool,
+)
+    ensures { way_in way.new.items
+        ≡ (if is_peer then with_parted (way_in way.old.items) else way_in way.old.items) }
+{
+    if !is_peer {
+        return;
+    }
+    let note: JoinNote<N> = JoinNote::Parted(end);
+    *way = way.and(&note, &Octets::new(alloc));
 }

@@ -14,3 +14,4 @@ pub use joins::Joins;
 pub use joint::{JoinNote, Joint};
 pub use since::Since;
 pub use sock::{Room, SockCore};
+pub use turns::{note, note_seal};

@@ -1,5 +1,5 @@
 use crate::joint::JoinNote;
-use ctl_holder::Given;
+use ctl_holder::{Given, Notice};
 use held_ends::EndTable;
 use http_server::Log;
 use spec_control::{EndState, Joining};
@@ -27,6 +27,10 @@ pub struct SockCore<C, W, N, O, I> {
     /// The ends that joined and those that were taken back, each with its peer's identity, for proofs
     /// alone.
     pub joins: Log<JoinNote<N>, Octets>,
+    /// Its Stop, its Term and its end, as it was told of them, for proofs alone.
+    pub heard: Log<Notice, ()>,
+    /// What its last call of the control plane did to its ends, in order, for proofs alone.
+    pub way: Log<JoinNote<N>, Octets>,
 }
 
 /// Room for the ends of a socket when it is closed, kept from their attachment on: giving them away

@@ -1,15 +1,21 @@
-ghost use Rattle.std.specs.Prelude.{◌≡◌, map, ◌++◌, ◌∷◌, [], if◌then◌else◌};
+ghost use Rattle.std.specs.Prelude.{◌≡◌, ◌++◌, ◌∷◌, [], true, false, map, if◌then◌else◌};
+ghost use Rattle.spec_control.specs.Place.{At};
+ghost use Rattle.spec_run.specs.OpenSocket.{is_out};
 ghost use Rattle.ctl_holder.specs.Holding.{is_state};
+ghost use Rattle.std.specs.List.{list_any};
+ghost use Rattle.sock_core.specs.Has.{is_stop};
 ghost use Rattle.sock_core.specs.Turns.{state_number};
 ghost use Rattle.sock_core.specs.Peers.{Parts, StaysPeer};
+ghost use Rattle.sock_core.specs.Patterns.{GoesAs, StaysAs, UndoesAs};
 
 use crate::joins::Joins;
+use ctl_holder::Notice;
 use http_server::Log;
 use spec_control::EndState;
 use zq_base::{EndId, PairId};
 
 /// Notes that an end goes from one state to another, if they are two.
-pub(crate) fn note(turns: &mut Log<EndId, EndState>, end: EndId, was: EndState, state: EndState)
+pub fn note(turns: &mut Log<EndId, EndState>, end: EndId, was: EndState, state: EndState)
     ensures { turns.new.items
         ≡ turns.old.items ++ (if is_state was state then [] else (end, state) ∷ []) }
 {
@@ -20,14 +26,24 @@ pub(crate) fn note(turns: &mut Log<EndId, EndState>, end: EndId, was: EndState, 
 }
 
 /// Notes that the pipe of an end was to be sealed.
-pub(crate) fn note_seal(sealed: &mut Log<EndId, ()>, end: EndId)
+pub fn note_seal(sealed: &mut Log<EndId, ()>, end: EndId)
     ensures { map (λ x. x.0) sealed.new.items ≡ map (λ x. x.0) sealed.old.items ++ end ∷ [] }
 {
     *sealed = sealed.and(&end, &());
 }
 
-// Whether the two are one state.
-fn is_same(one: EndState, other: EndState) -> bool
+/// Notes what the socket is told of itself.
+pub(crate) fn note_heard(heard: &mut Log<Notice, ()>, notice: Notice)
+    ensures noted { map (λ x. x.0) heard.new.items
+        ≡ map (λ x. x.0) heard.old.items ++ notice ∷ [] }
+    ensures stopped { list_any (λ x. is_stop x.0) heard.new.items
+        ≡ (if is_stop notice then true else list_any (λ x. is_stop x.0) heard.old.items) }
+{
+    *heard = heard.and(&notice, &());
+}
+
+/// Whether the two are one state.
+pub(crate) fn is_same(one: EndState, other: EndState) -> bool
     ensures { result ≡ is_state one other }
 {
     number(one) == number(other)
@@ -58,6 +74,9 @@ pub(crate) fn stays<C: Joins>(
 ) -> bool
     ensures kind { C.kind kind.new ≡ C.kind kind.old }
     ensures peers { StaysPeer is_peer result place (C.peers kind.old) (C.peers kind.new) }
+    ensures stays { is_out (At state) ≡ false → StaysAs is_peer result kind.old kind.new }
+    ensures goes { is_out (At state) ≡ true → (result ≡ false)
+        × GoesAs C.pattern is_peer pair place (C.peers kind.old) kind.old kind.new }
 {
     match state {
         EndState::Active | EndState::WaitDelimiter => return is_peer,
@@ -76,7 +95,9 @@ pub(crate) fn stays<C: Joins>(
 pub(crate) fn part<C: Joins>(kind: &mut C, pair: PairId, place: usize, is_peer: bool)
     ensures kind { C.kind kind.new ≡ C.kind kind.old }
     ensures peers { Parts is_peer place (C.peers kind.old) (C.peers kind.new) }
+    ensures goes { GoesAs C.pattern is_peer pair place (C.peers kind.old) kind.old kind.new }
 {
+    kind.is_sound();
     if !is_peer {
         return;
     }
@@ -87,6 +108,7 @@ pub(crate) fn part<C: Joins>(kind: &mut C, pair: PairId, place: usize, is_peer: 
 pub(crate) fn unjoin<C: Joins>(kind: &mut C, pair: PairId, place: usize, is_peer: bool)
     ensures kind { C.kind kind.new ≡ C.kind kind.old }
     ensures peers { Parts is_peer place (C.peers kind.old) (C.peers kind.new) }
+    ensures undoes { UndoesAs C.pattern C.names C.sound C.peers is_peer place kind.old kind.new }
 {
     if is_peer {
         kind.take_back(pair, place);

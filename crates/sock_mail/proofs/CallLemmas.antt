@@ -1,8 +1,10 @@
 -- A call on messages of a socket of any kind is one over its own ends.
-use Rattle.std.proofs.Common.{◌≡◌, ◌∙◌, ℕ, Bool, true, List, [], All, Contains, Option, Some, None, refl, sym, ap, subst}
+use Rattle.std.proofs.Common.{◌≡◌, ◌∙◌, ℕ, Bool, true, List, [], All, Contains, Option, Some, None, refl, sym, ap, subst, eqb-true}
 use Rattle.std.specs.Prelude.{Result, Ok, Err, OnOk, OnErr}
 use Rattle.std.specs.declared.alloc.AllocError.{AllocError}
+use Rattle.std.specs.Cmp.{nat_eq_equiv}
 use Rattle.std.proofs.lemmas.List.Elements.{All-contains, All-weaker}
+use Rattle.std.proofs.lemmas.Map.Views.{list_any-from_Contains, Contains-from_any}
 use Rattle.zq_base.specs.Message.{Frames}
 use Rattle.zq_base.specs.declared.ids.EndId.{EndId}
 use Rattle.spec_pattern.specs.PipeStep.{PipeStep}
@@ -39,7 +41,7 @@ use Rattle.ends.specs.Rows.{Rows, table}
 use Rattle.held_ends.specs.declared.table.Place.{Place}
 use Rattle.held_ends.specs.Sound.{IsSound}
 use Rattle.held_ends.proofs.CallLemmas.{calls_sound}
-use Rattle.sock_core.specs.Peers.{ArePeers, peer_at}
+use Rattle.sock_core.specs.Peers.{ArePeers, AreFlagged, peer_at}
 use Rattle.sock_mail.specs.Lent.{Lent, IsWhole, Makes, MakesSome, IsNaming, IsTest, table_of}
 use Rattle.sock_mail.specs.Mails.{SendUndoneHere, ChangeUndoneHere, ReceiveDone, GivesHere, SendsHere, SaysHere, ReceivesHere, StopsHere, PumpsHere, PumpStopsHere, ChangesHere, ChangeUntoldHere}
 use Rattle.sock_mail.proofs.LentLemmas.{row_end, row_open, names_agree, tests_agree, rows_apart}
@@ -97,12 +99,18 @@ module _ (f g : ℕ → EndId) where
   left_caught (sock.Sub x) = refl
   left_caught (sock.XSub x) = refl
 
+-- each end that the kind took is a peer of it still
+flagged_still : {N I : Type 0} (ps : List (Place N I)) (was now : List ℕ) → AreFlagged ps was → All (Contains now) was → AreFlagged ps now
+flagged_still ps was now flagged stay = λ k p at held peer.
+    list_any-from_Contains nat_eq_equiv k now (All-contains (Contains now) was k stay (Contains-from_any (λ x y t. eqb-true x y t) k was (flagged k p at held peer)))
+
 module _ {S N O I : Type 0} (K : Known S O I N) (old new : Lent S N O I) (whole : IsWhole K old) (stay : new.places ≡ old.places) (same : HaveSamePlaces (peer_places old.kind) (peer_places new.kind)) where
   -- the ends stay whole
   pub still_whole : (steps : List PipeStep) → Makes K old steps new → IsWhole K new
   still_whole steps makes = record {
     sound = subst (IsSound K new.pipes new.rows) (sym stay) (calls_sound K steps (table_of old) (table_of new) old.places makes.does makes.unsealing whole.sound);
     peers = subst (λ (l : List (Place N I)). ArePeers l (peer_places new.kind)) (sym stay) (among (λ k. peer_at old.places k ≡ true) (peer_places old.kind) (peer_places new.kind) same.none_new whole.peers);
+    flagged = subst (λ (l : List (Place N I)). AreFlagged l (peer_places new.kind)) (sym stay) (flagged_still old.places (peer_places old.kind) (peer_places new.kind) whole.flagged same.none_gone);
   }
 
   -- they do where nothing was done
@@ -110,6 +118,7 @@ module _ {S N O I : Type 0} (K : Known S O I N) (old new : Lent S N O I) (whole 
   whole_same pipes rows = record {
     sound = subst (λ (s : S). IsSound K s new.rows new.places) (sym pipes) (subst (λ (l : Rows O I). IsSound K old.pipes l new.places) (sym rows) (subst (IsSound K old.pipes old.rows) (sym stay) whole.sound));
     peers = subst (λ (l : List (Place N I)). ArePeers l (peer_places new.kind)) (sym stay) (among (λ k. peer_at old.places k ≡ true) (peer_places old.kind) (peer_places new.kind) same.none_new whole.peers);
+    flagged = subst (λ (l : List (Place N I)). AreFlagged l (peer_places new.kind)) (sym stay) (flagged_still old.places (peer_places old.kind) (peer_places new.kind) whole.flagged same.none_gone);
   }
 
   module _ (was : IsToldByPeers old.kind) (now : IsToldByPeers new.kind) where

@@ -10,7 +10,7 @@ use Rattle.any_sock.specs.declared.any_sock.AnySock.{AnySock}
 use Rattle.held_ends.specs.declared.table.Place.{Place}
 use Rattle.held_ends.specs.Places.{place_at}
 use Rattle.held_ends.specs.Sound.{IsSound, can_write}
-use Rattle.sock_core.specs.Peers.{ArePeers, peer_of}
+use Rattle.sock_core.specs.Peers.{ArePeers, AreFlagged, peer_of}
 
 pub record Lent (S N O I : Type 0) : Type 0 where
   pub pipes : S
@@ -25,10 +25,11 @@ module _ {S N O I : Type 0} where
   abbrev pub table_of : Lent S N O I → Table S O I
   table_of l = table l.pipes l.rows
 
--- the ends are sound, and those at the places of the kind's peers are its peers
+-- the ends are sound, and those at the places of the kind's peers are its peers and no others
 pub record IsWhole {S N O I : Type 0} (K : Known S O I N) (l : Lent S N O I) : Type 0 where
   pub sound : IsSound K l.pipes l.rows l.places
   pub peers : ArePeers l.places (peer_places l.kind)
+  pub flagged : AreFlagged l.places (peer_places l.kind)
 
 -- calls at the ends made these steps, and no delimiter was written
 pub record Makes {S N O I : Type 0} (K : Known S O I N) (old : Lent S N O I) (steps : List PipeStep) (new : Lent S N O I) : Type 0 where

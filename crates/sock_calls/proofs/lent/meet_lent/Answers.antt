@@ -1,5 +1,6 @@
 use Rattle.std.proofs.Common.{refl, sym, subst}
-use Rattle.held_ends.specs.declared.table.EndTable.{EndTable}
+use Rattle.sock_core.specs.declared.sock.SockCore.{SockCore}
+use Rattle.sock_calls.proofs.PassingLemmas.{way_fresh}
 use Rattle.held_ends.specs.Others.{Leaves}
 use Rattle.held_ends.proofs.OthersLemmas.{places_stay, leaves_pipes}
 use Rattle.sock_calls.proofs.lent.meet_lent.Goals as goal
@@ -14,12 +15,21 @@ invariant_of-holder g c =
       peers = f.peers_are;
       room = f.room;
       gone = f.gone;
+      stopped = f.stopped_is;
+      flagged = f.flagged;
+      in_use = f.in_use;
       others = λ s u b.
           let e = c.requires.began s u b in
-          subst (λ (x : g.row.P.Denot). Leaves K x u c.args.pipes t) (sym e.0)
-          (subst (λ (y : EndTable _ _ _). Leaves K c.args.pipes y c.args.pipes t) (sym e.1) (leaves_pipes K c.args.pipes t t (places_stay t.places.items t.places.items refl) refl));
+          subst (λ (x : g.row.P.Denot). Leaves K x u.ends c.args.pipes t) (sym e.0)
+          (subst (λ (y : SockCore _ _ _ _ _). Leaves K c.args.pipes y.ends c.args.pipes t) (sym e.1) (leaves_pipes K c.args.pipes t t (places_stay t.places.items t.places.items refl) refl));
       number = λ s u b. (c.requires.began s u b).2;
+      way = λ s u b.
+          let J = g.C.Joins in
+          way_fresh J.pattern J.names J.sound J.peers u c.args.core (record c.args.core { way = c.new-core.result }) (c.requires.began s u b).1 c.new-core.ensures refl refl refl refl;
     }
 
 pub returns-clause-others : goal.returns-clause-others
 returns-clause-others g c = λ s t b. (c.delimiter-answer.new.holder.others s t b, c.delimiter-answer.new.holder.number s t b)
+
+pub returns-clause-way : goal.returns-clause-way
+returns-clause-way g c = λ s t b. c.delimiter-answer.new.holder.way s t b

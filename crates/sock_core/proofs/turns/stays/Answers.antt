@@ -7,4 +7,6 @@ returns-in-Active-clause-peers g c = record {
   none_new = All-contains_itself (g.C.Joins.peers c.args.kind.now);
   gone = λ is off. absurd (true≢false (sym is ∙ off));
   none_back = λ is. is;
+  stay = λ k ne here. here;
+  stays_too = λ is here. here;
 }

@@ -5,7 +5,8 @@ use Rattle.held_ends.specs.declared.table.Place.{Place}
 use Rattle.held_ends.specs.Places.{is_of}
 use Rattle.held_ends.specs.Looking.{met_after}
 use Rattle.sock_core.specs.Sound.{KeepsRoom}
-use Rattle.sock_core.specs.Peers.{ArePeers}
+use Rattle.sock_core.specs.Peers.{ArePeers, AreFlagged, AreInUse}
+use Rattle.sock_core.proofs.FlagLemmas.{flagged_set, in_use_set}
 use Rattle.sock_core.proofs.FindLemmas.{found, not_found, alone_of, held_is, never}
 use Rattle.sock_core.proofs.FormLemmas.{sound_of, are_sound}
 use Rattle.sock_core.proofs.GoneLemmas.{never_gone}
@@ -39,8 +40,13 @@ invariant_of-holder g c =
           (kept_same s.core.ends.places.items (g.C.Joins.peers s.core.kind) (s.peers is) c.in-Some.place x.place q (g.C.Joins.peers s.core.kind) x.there refl (All-contains_itself (g.C.Joins.peers s.core.kind)));
       room = subst (λ (n : ℕ). KeepsRoom s.core.is_open n s.core.room) (sym (ap length x.now ∙ length-set s.core.ends.places.items c.in-Some.place q)) s.room;
       gone = λ is. let f = found (is_of c.args.end) s.core.ends.places.items c.in-Some.place (sym c.in-Some.is ∙ c.find.ensures ∙ ap (λ (l : List (Place _ _)). position (is_of c.args.end) l) c.deref.ensures.value) in never_gone c.args.end s.core.ends.places.items c.in-Some.place f.0 (s.gone is) f.1 f.2;
+      flagged = subst (λ (l : List (Place _ _)). AreFlagged l (g.C.Joins.peers s.core.kind)) (sym x.now)
+          (flagged_set s.core.ends.places.items (g.C.Joins.peers s.core.kind) (g.C.Joins.peers s.core.kind) c.in-Some.place x.place q s.flagged x.there (λ j ne here. here) (λ held flag. s.flagged c.in-Some.place x.place x.there held flag));
+      in_use = subst (λ (l : List (Place _ _)). AreInUse l) (sym x.now) (in_use_set s.core.ends.places.items c.in-Some.place x.place q s.in_use x.there (λ held flag. s.in_use c.in-Some.place x.place x.there held flag));
       others = λ a t b. absurd b;
       number = λ a t b. absurd b;
+      stopped = s.stopped;
+      way = λ a t b. absurd b;
     }
 
 pub unreachable-requires : goal.unreachable-requires

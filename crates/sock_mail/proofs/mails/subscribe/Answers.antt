@@ -9,7 +9,7 @@ use Rattle.sock_mail.proofs.mails.subscribe.Goals as goal
 pub subscribe_over-requires-clause-whole : goal.subscribe_over-requires-clause-whole
 subscribe_over-requires-clause-whole g c =
     subst (λ (l : List (Place _ _)). IsWhole g.P.Pipes.known (lent c.args.holder.now.pipes c.args.holder.now.core.ends.rows.items l c.args.holder.now.core.kind)) (sym c.deref.ensures.value)
-    (record { sound = sound_of g.P.Pipes.known c.args.holder.now.pipes c.args.holder.now.core.ends.rows.items c.args.holder.now.core.ends.places.items c.args.holder.now.sound; peers = c.args.holder.now.peers c.requires.open })
+    (record { sound = sound_of g.P.Pipes.known c.args.holder.now.pipes c.args.holder.now.core.ends.rows.items c.args.holder.now.core.ends.places.items c.args.holder.now.sound; peers = c.args.holder.now.peers c.requires.open; flagged = c.args.holder.now.flagged })
 
 pub invariant_of-holder : goal.invariant_of-holder
 invariant_of-holder g c =
@@ -20,8 +20,12 @@ invariant_of-holder g c =
       peers = λ is. w.peers;
       room = c.args.holder.now.room;
       gone = c.args.holder.now.gone;
+      stopped = c.args.holder.now.stopped;
+      flagged = w.flagged;
+      in_use = c.args.holder.now.in_use;
       others = λ s t b. absurd b;
       number = λ s t b. absurd b;
+      way = λ s t b. absurd b;
     }
 
 pub returns-clause-others : goal.returns-clause-others

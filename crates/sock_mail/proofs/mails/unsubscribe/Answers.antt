@@ -9,7 +9,7 @@ use Rattle.sock_mail.proofs.mails.unsubscribe.Goals as goal
 pub unsubscribe_over-requires : goal.unsubscribe_over-requires
 unsubscribe_over-requires g c =
     let w : IsWhole g.P.Pipes.known (lent c.args.holder.now.pipes c.args.holder.now.core.ends.rows.items c.deref.result.now c.args.holder.now.core.kind) = subst (λ (l : List (Place _ _)). IsWhole g.P.Pipes.known (lent c.args.holder.now.pipes c.args.holder.now.core.ends.rows.items l c.args.holder.now.core.kind)) (sym c.deref.ensures.value)
-    (record { sound = sound_of g.P.Pipes.known c.args.holder.now.pipes c.args.holder.now.core.ends.rows.items c.args.holder.now.core.ends.places.items c.args.holder.now.sound; peers = c.args.holder.now.peers c.requires.open }) in
+    (record { sound = sound_of g.P.Pipes.known c.args.holder.now.pipes c.args.holder.now.core.ends.rows.items c.args.holder.now.core.ends.places.items c.args.holder.now.sound; peers = c.args.holder.now.peers c.requires.open; flagged = c.args.holder.now.flagged }) in
     record { whole = w }
 
 pub invariant_of-holder : goal.invariant_of-holder
@@ -21,8 +21,12 @@ invariant_of-holder g c =
       peers = λ is. w.peers;
       room = c.args.holder.now.room;
       gone = c.args.holder.now.gone;
+      stopped = c.args.holder.now.stopped;
+      flagged = w.flagged;
+      in_use = c.args.holder.now.in_use;
       others = λ s t b. absurd b;
       number = λ s t b. absurd b;
+      way = λ s t b. absurd b;
     }
 
 pub returns-clause-others : goal.returns-clause-others

@@ -1,3 +1,4 @@
+use Rattle.std.proofs.Common.{refl}
 use Rattle.std.proofs.Common.{◌≡◌, ℕ, ap, ◌∙◌, subst}
 use Rattle.std.specs.Prelude.{IfOk}
 use Rattle.std.proofs.lemmas.Result.{IfOk-at_ok}
@@ -8,6 +9,7 @@ use Rattle.spec_control.specs.Control.{id}
 use Rattle.ctl_plane.specs.Desk.{AsksOnce}
 use Rattle.sock_calls.specs.Calls.{owner_of, holding_of}
 use Rattle.sock_calls.proofs.CallsLemmas.{keeps_up_none}
+use Rattle.sock_calls.proofs.PassingLemmas.{passes_none}
 use Rattle.sock_calls.proofs.socket.SocketCalls.disconnect.Goals as goal
 
 pub returns-in-Ok-clause-ok : goal.returns-in-Ok-clause-ok
@@ -20,3 +22,8 @@ returns-in-Ok-clause-ok g c =
 
 pub returns-in-Err-clause-has_still : goal.returns-in-Err-clause-has_still
 returns-in-Err-clause-has_still g c = keeps_up_none (g.D.Desk.number c.args.desk.now) (g.D.Desk.moments c.args.desk.now) (holding_of g.C.Joins.kind c.args.self.now.core) c.requires.has
+
+pub returns-in-Err-clause-passes : goal.returns-in-Err-clause-passes
+returns-in-Err-clause-passes g c = λ more is.
+    let J = g.C.Joins in
+    passes_none J.pattern J.names J.sound J.peers c.args.self.now.core (g.D.Desk.moments c.args.desk.now) (g.D.Desk.moments c.args.desk.now) more refl is

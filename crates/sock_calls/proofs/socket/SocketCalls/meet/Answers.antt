@@ -4,6 +4,8 @@ use Rattle.sock_core.specs.Has.{holding_in}
 use Rattle.sock_core.specs.declared.sock.SockCore.{SockCore}
 use Rattle.sock_calls.specs.Calls.{owner_of, holding_of, LeavesOthers}
 use Rattle.ctl_plane.specs.Desk.{KeepsUp}
+use Rattle.sock_calls.specs.Passing.{Passes}
+use Rattle.sock_calls.proofs.PassingLemmas.{passes_by}
 use Rattle.sock_calls.proofs.socket.SocketCalls.meet.Goals as goal
 
 pub returns-in-Some-clause-has_still : goal.returns-in-Some-clause-has_still
@@ -15,7 +17,7 @@ returns-in-Some-clause-has_still g c =
 pub returns-in-Some-clause-same : goal.returns-in-Some-clause-same
 returns-in-Some-clause-same g c =
     let e : c.args.self.now.core ≡ Some c.in-Some.core = sym c.take.ensures.value ∙ c.in-Some.is in
-    (◌∙◌ {b = c.in-Some.core.number.0} (c.meet_lent-answer.ensures.others c.replace-lent.result c.in-Some.core.ends (refl, refl)).1 (sym (ap owner_of e)), c.meet_lent-answer.ensures.keeps.0)
+    (◌∙◌ {b = c.in-Some.core.number.0} (c.meet_lent-answer.ensures.others c.replace-lent.result c.in-Some.core (refl, refl)).1 (sym (ap owner_of e)), c.meet_lent-answer.ensures.keeps.0)
 
 pub returns-in-Some-clause-others : goal.returns-in-Some-clause-others
 returns-in-Some-clause-others g c =
@@ -23,4 +25,13 @@ returns-in-Some-clause-others g c =
     let x = c.meet_lent-answer.result in
     subst (λ (s : Option (SockCore _ _ _ _ _)). LeavesOthers g.P.Pipes.known s (Some x.core) c.args.pipes.now x.pipes) (sym e)
     (subst (λ (p : g.row.P.Denot). Leaves g.P.Pipes.known p c.in-Some.core.ends x.pipes x.core.ends) c.replace-lent.ensures.value
-    (c.meet_lent-answer.ensures.others c.replace-lent.result c.in-Some.core.ends (refl, refl)).0)
+    (c.meet_lent-answer.ensures.others c.replace-lent.result c.in-Some.core (refl, refl)).0)
+
+pub returns-in-Some-clause-passes : goal.returns-in-Some-clause-passes
+returns-in-Some-clause-passes g c = λ more is.
+    let e : c.args.self.now.core ≡ Some c.in-Some.core = sym c.take.ensures.value ∙ c.in-Some.is in
+    let x = c.meet_lent-answer in
+    let J = g.C.Joins in
+    subst (λ (s : Option (SockCore _ _ _ _ _)). Passes J.pattern s (Some x.result.core) more) (sym e)
+    (passes_by J.pattern J.names J.sound J.peers c.in-Some.core x.result.core more (x.ensures.others c.replace-lent.result c.in-Some.core (refl, refl)).0.places
+    (x.ensures.keeps.1.came more is) (x.ensures.keeps.1.turned more is).turns (x.ensures.way c.replace-lent.result c.in-Some.core (refl, refl)))

@@ -2,11 +2,14 @@ use Rattle.std.proofs.Common.{◌≡◌, Option, Some, refl, sym, ap, ◌∙◌,
 use Rattle.held_ends.specs.Others.{Leaves}
 use Rattle.sock_core.specs.Has.{holding_in}
 use Rattle.sock_core.specs.declared.sock.SockCore.{SockCore}
-use Rattle.sock_calls.specs.Calls.{owner_of, holding_of, MayJoin, LeavesOthers}
+use Rattle.sock_calls.specs.Calls.{owner_of, holding_of, counts_by, MayJoin, LeavesOthers}
 use Rattle.std.specs.Prelude.{IfOk}
 use Rattle.held_ends.specs.Sound.{Fits}
 use Rattle.ctl_plane.specs.Coming.{BindsFit}
-use Rattle.ctl_plane.specs.Desk.{KeepsUp, GivesOrNot, slot_after}
+use Rattle.ctl_plane.specs.Desk.{CountsWith, KeepsUp, GivesOrNot, slot_after}
+use Rattle.held_ends.specs.Counting.{counts_of}
+use Rattle.sock_calls.specs.Passing.{Passes}
+use Rattle.sock_calls.proofs.PassingLemmas.{passes_by}
 use Rattle.sock_calls.proofs.socket.SocketCalls.take.Goals as goal
 
 pub take_lent-answer-requires-clause-binds : goal.take_lent-answer-requires-clause-binds
@@ -30,7 +33,7 @@ returns-in-Some-clause-has_still g c =
 pub returns-in-Some-clause-same : goal.returns-in-Some-clause-same
 returns-in-Some-clause-same g c =
     let e : c.args.self.now.core ≡ Some c.in-Some.core = sym c.take.ensures.value ∙ c.in-Some.is in
-    (◌∙◌ {b = c.in-Some.core.number.0} (c.take_lent-answer.ensures.others c.replace-lent.result c.in-Some.core.ends (refl, refl)).1 (sym (ap owner_of e)), c.take_lent-answer.ensures.keeps.0)
+    (◌∙◌ {b = c.in-Some.core.number.0} (c.take_lent-answer.ensures.others c.replace-lent.result c.in-Some.core (refl, refl)).1 (sym (ap owner_of e)), c.take_lent-answer.ensures.keeps.0)
 
 pub returns-in-Some-clause-others : goal.returns-in-Some-clause-others
 returns-in-Some-clause-others g c =
@@ -38,4 +41,20 @@ returns-in-Some-clause-others g c =
     let x = c.take_lent-answer.result in
     subst (λ (s : Option (SockCore _ _ _ _ _)). LeavesOthers g.P.Pipes.known s (Some x.core) c.args.pipes.now x.pipes) (sym e)
     (subst (λ (p : g.row.P.Denot). Leaves g.P.Pipes.known p c.in-Some.core.ends x.pipes x.core.ends) c.replace-lent.ensures.value
-    (c.take_lent-answer.ensures.others c.replace-lent.result c.in-Some.core.ends (refl, refl)).0)
+    (c.take_lent-answer.ensures.others c.replace-lent.result c.in-Some.core (refl, refl)).0)
+
+pub returns-in-Some-clause-counts : goal.returns-in-Some-clause-counts
+returns-in-Some-clause-counts g c =
+    let e : c.args.self.now.core ≡ Some c.in-Some.core = sym c.take.ensures.value ∙ c.in-Some.is in
+    let x = c.take_lent-answer in
+    subst (λ (s : Option (SockCore _ _ _ _ _)). CountsWith g.P.Pipes.known.out_name (counts_by g.P.Pipes.known c.args.pipes.now s) (g.D.Desk.moments c.args.desk.now) (g.D.Desk.moments x.new.desk) (holding_of g.C.Joins.kind s)) (sym e)
+    (subst (λ (p : g.row.P.Denot). CountsWith g.P.Pipes.known.out_name (λ d writer. counts_of g.P.Pipes.known p c.in-Some.core.ends d writer) (g.D.Desk.moments c.args.desk.now) (g.D.Desk.moments x.new.desk) (holding_in (g.C.Joins.kind c.in-Some.core.kind) c.in-Some.core)) c.replace-lent.ensures.value x.ensures.counts)
+
+pub returns-in-Some-clause-passes : goal.returns-in-Some-clause-passes
+returns-in-Some-clause-passes g c = λ more is.
+    let e : c.args.self.now.core ≡ Some c.in-Some.core = sym c.take.ensures.value ∙ c.in-Some.is in
+    let x = c.take_lent-answer in
+    let J = g.C.Joins in
+    subst (λ (s : Option (SockCore _ _ _ _ _)). Passes J.pattern s (Some x.result.core) more) (sym e)
+    (passes_by J.pattern J.names J.sound J.peers c.in-Some.core x.result.core more (x.ensures.others c.replace-lent.result c.in-Some.core (refl, refl)).0.places
+    (x.ensures.keeps.1.came more is) (x.ensures.keeps.1.turned more is).turns (x.ensures.way c.replace-lent.result c.in-Some.core (refl, refl)))

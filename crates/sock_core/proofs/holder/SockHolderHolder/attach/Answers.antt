@@ -14,8 +14,16 @@ use Rattle.sock_core.proofs.JoinLemmas.{open_of, mine_of, none_of, room_of, join
 use Rattle.sock_core.specs.Peers.{ArePeers, AddsPeer}
 use Rattle.sock_core.proofs.PeerLemmas.{below, kept_more}
 use Rattle.zq_base.specs.declared.ids.EndId.{EndId}
+use Rattle.sock_core.specs.Sound.{AreSound}
 use Rattle.sock_core.specs.Standing.{joining_as, standing_joins}
 use Rattle.held_ends.proofs.OthersLemmas.{leaves_on, leaves_unchanged}
+use Rattle.std.proofs.Math.Logic.{∥∥₁_map}
+use Rattle.sock_core.specs.Way.{way_in, KindWay}
+use Rattle.sock_core.specs.Peers.{AreFlagged, AreInUse, AreElse}
+use Rattle.sock_core.specs.Patterns.{AttachesAs}
+use Rattle.sock_core.proofs.FlagLemmas.{flagged_more, in_use_more}
+use Rattle.sock_core.proofs.WayLemmas.{came_as, noted_came, way_kept, all_still}
+use Rattle.sock_core.proofs.PeerLemmas.{none_at, peer_none}
 use Rattle.sock_core.proofs.holder.SockHolderHolder.attach.Goals as goal
 
 pub join-requires-clause-sound : goal.join-requires-clause-sound
@@ -39,6 +47,7 @@ attach-requires g c =
 pub invariant_of-self-in-Ok-attach : goal.invariant_of-self-in-Ok-attach
 invariant_of-self-in-Ok-attach g c =
     let place : c.len-place.result ≡ length c.args.self.now.core.ends.places.items = (let n = c.len-place.ensures in omega (arith, n)) in
+    let more = c.join.ensures.joined ∙ ap (λ (l : List (Place _ _)). l ++ new_place c.in-Ok-prepare.row.value.end (g.P.Pipes.known.out_name c.in-Ok-prepare.row.value.out) (g.P.Pipes.known.in_name c.in-Ok-prepare.row.value.input) c.is_taken.result ∷ []) c.prepare.ensures.kept.places in
     let long : length c.join.new.table.places.items ≡ length c.args.self.now.core.ends.places.items + 1 =
     ap length (c.join.ensures.joined ∙ ap (λ (l : List (Place _ _)). l ++ new_place c.in-Ok-prepare.row.value.end (g.P.Pipes.known.out_name c.in-Ok-prepare.row.value.out) (g.P.Pipes.known.in_name c.in-Ok-prepare.row.value.input) c.is_taken.result ∷ []) c.prepare.ensures.kept.places) ∙ length-append c.args.self.now.core.ends.places.items (new_place c.in-Ok-prepare.row.value.end (g.P.Pipes.known.out_name c.in-Ok-prepare.row.value.out) (g.P.Pipes.known.in_name c.in-Ok-prepare.row.value.input) c.is_taken.result ∷ []) in
     record {
@@ -48,11 +57,25 @@ invariant_of-self-in-Ok-attach g c =
           (subst (λ (n : ℕ). AddsPeer c.in-Ok-attach.answer n (g.C.Joins.peers c.args.self.now.core.kind) (g.C.Joins.peers c.attach.new.self)) place c.in-Ok-attach.ensures.peers));
       room = room_of c.args.self.now.core.is_open (c.len-place.result + 1) (length c.join.new.table.places.items) c.keep.new.self (omega (arith, place, long)) c.in-Ok.ensures.ok;
       gone = λ is. absurd (true≢false (sym (open_of c.args.self.now.core.is_open (c.args.o.0 == c.args.self.now.core.number.0) c.requires.here) ∙ is));
-      others = λ s t b. leaves_on g.P.Pipes.known s c.args.self.now.pipes c.args.self.now.pipes t c.prepare.new.table c.join.new.table
-          (leaves_on g.P.Pipes.known s c.args.self.now.pipes c.args.self.now.pipes t c.args.self.now.core.ends c.prepare.new.table (c.args.self.now.others s t b)
+      flagged = subst (λ (l : List (Place _ _)). AreFlagged l (g.C.Joins.peers c.attach.new.self)) (sym more)
+          (flagged_more c.args.self.now.core.ends.places.items (g.C.Joins.peers c.args.self.now.core.kind) (g.C.Joins.peers c.attach.new.self) (new_place c.in-Ok-prepare.row.value.end (g.P.Pipes.known.out_name c.in-Ok-prepare.row.value.out) (g.P.Pipes.known.in_name c.in-Ok-prepare.row.value.input) c.is_taken.result) c.in-Ok-attach.answer c.args.self.now.flagged c.is_taken.ensures
+          (subst (λ (n : ℕ). AddsPeer c.in-Ok-attach.answer n (g.C.Joins.peers c.args.self.now.core.kind) (g.C.Joins.peers c.attach.new.self)) place c.in-Ok-attach.ensures.peers));
+      in_use = subst (λ (l : List (Place _ _)). AreInUse l) (sym more) (in_use_more c.args.self.now.core.ends.places.items (new_place c.in-Ok-prepare.row.value.end (g.P.Pipes.known.out_name c.in-Ok-prepare.row.value.out) (g.P.Pipes.known.in_name c.in-Ok-prepare.row.value.input) c.is_taken.result) c.args.self.now.in_use refl);
+      way = λ p t b. ∥∥₁_map (c.args.self.now.way p t b) (λ k is order.
+          let last = c.joint_of-joint.ensures.place ∙ place in
+          noted_came g.C.Joins.pattern g.C.Joins.names g.C.Joins.sound g.C.Joins.peers (way_in c.args.self.now.core.way.items) (way_in c.note_join.new.way.items) c.args.self.now.core.ends.places.items c.join.new.table.places.items (standing_joins t.joins.items) (standing_joins c.args.self.now.core.joins.items) (standing_joins c.note_join.new.joins.items) t.turns.items c.args.self.now.core.turns.items t.kind c.args.self.now.core.kind c.attach.new.self (joining_as c.joint_of-joint.result c.args.peer.now.identity c.in-Ok-attach.answer) c.joint_of-joint.result.place (new_place c.in-Ok-prepare.row.value.end (g.P.Pipes.known.out_name c.in-Ok-prepare.row.value.out) (g.P.Pipes.known.in_name c.in-Ok-prepare.row.value.input) c.is_taken.result)
+          c.note_join.ensures.way more last (ap (λ (r : EndRow _ _). r.end) c.in-Ok-prepare.ensures.ok ∙ sym c.joint_of-joint.ensures.end) c.is_taken.ensures c.note_join.ensures.joins
+          (came_as g.C.Joins.pattern g.C.Joins.names g.C.Joins.sound g.C.Joins.peers c.args.self.now.core.kind c.attach.new.self (joining_as c.joint_of-joint.result c.args.peer.now.identity c.in-Ok-attach.answer) c.joint_of-joint.result.place c.is_sound.ensures.sound c.is_sound.ensures.names
+          (subst (λ (n : ℕ). AreElse n (g.C.Joins.peers c.args.self.now.core.kind)) (sym last) (none_at c.args.self.now.core.ends.places.items (g.C.Joins.peers c.args.self.now.core.kind) (c.args.self.now.peers is) (length c.args.self.now.core.ends.places.items) (peer_none c.args.self.now.core.ends.places.items)))
+          c.in-Ok-attach.ensures.named c.in-Ok-attach.ensures.answers
+          (subst (λ (n : ℕ). AttachesAs g.C.Joins.pattern n c.args.peer.now.identity c.in-Ok-attach.answer c.args.self.now.core.kind c.attach.new.self) (sym c.joint_of-joint.ensures.place) c.in-Ok-attach.ensures.attaches))
+          (k is) order);
+      others = λ s t b. leaves_on g.P.Pipes.known s c.args.self.now.pipes c.args.self.now.pipes t.ends c.prepare.new.table c.join.new.table
+          (leaves_on g.P.Pipes.known s c.args.self.now.pipes c.args.self.now.pipes t.ends c.args.self.now.core.ends c.prepare.new.table (c.args.self.now.others s t b)
           (leaves_unchanged g.P.Pipes.known c.args.self.now.pipes c.args.self.now.core.ends c.prepare.new.table c.prepare.ensures.kept))
           c.join.ensures.others;
       number = c.args.self.now.number;
+      stopped = c.args.self.now.stopped;
     }
 
 pub returns-in-Ok-attach-clause-ok : goal.returns-in-Ok-attach-clause-ok
@@ -60,9 +83,9 @@ returns-in-Ok-attach-clause-ok g c =
     let K = g.P.Pipes.known in
     let places = c.join.ensures.joined ∙ ap (λ (l : List (Place _ _)). l ++ new_place c.in-Ok-prepare.row.value.end (g.P.Pipes.known.out_name c.in-Ok-prepare.row.value.out) (g.P.Pipes.known.in_name c.in-Ok-prepare.row.value.input) c.is_taken.result ∷ []) c.prepare.ensures.kept.places
     ∙ ap (λ (r : EndRow _ _). c.args.self.now.core.ends.places.items ++ new_place r.end (K.out_name r.out) (K.in_name r.input) c.is_taken.result ∷ []) c.in-Ok-prepare.ensures.ok in
-    subst (λ (kind : Kind). Joined c.args.o.0 (held_with K.out_name K.in_name c.args.end c.args.halves) (has c.args.self.now.core.number.0 c.args.self.now.core.is_open (g.C.Joins.kind c.args.self.now.core.kind) (told_in c.args.self.now.core.turns.items c.args.self.now.core.sealed.items c.args.self.now.core.joins.items) c.args.self.now.core.ends.places.items) (has c.args.self.now.core.number.0 c.args.self.now.core.is_open kind (told_in c.args.self.now.core.turns.items c.args.self.now.core.sealed.items c.note_join.new.joins.items) c.join.new.table.places.items)) (sym c.attach.ensures.kind)
-    (subst (λ (l : List (Place _ _)). Joined c.args.o.0 (held_with K.out_name K.in_name c.args.end c.args.halves) (has c.args.self.now.core.number.0 c.args.self.now.core.is_open (g.C.Joins.kind c.args.self.now.core.kind) (told_in c.args.self.now.core.turns.items c.args.self.now.core.sealed.items c.args.self.now.core.joins.items) c.args.self.now.core.ends.places.items) (has c.args.self.now.core.number.0 c.args.self.now.core.is_open (g.C.Joins.kind c.args.self.now.core.kind) (told_in c.args.self.now.core.turns.items c.args.self.now.core.sealed.items c.note_join.new.joins.items) l)) (sym places)
-    (joined_of c.args.self.now.core.ends.places.items c.args.end (K.out_name c.args.halves.out) (K.in_name c.args.halves.input) c.args.self.now.core.number.0 c.args.o.0 c.args.self.now.core.is_open (g.C.Joins.kind c.args.self.now.core.kind) (told_in c.args.self.now.core.turns.items c.args.self.now.core.sealed.items c.args.self.now.core.joins.items) (told_in c.args.self.now.core.turns.items c.args.self.now.core.sealed.items c.note_join.new.joins.items) c.is_taken.result (mine_of c.args.self.now.core.is_open (c.args.o.0 == c.args.self.now.core.number.0) c.requires.here)))
+    subst (λ (kind : Kind). Joined c.args.o.0 (held_with K.out_name K.in_name c.args.end c.args.halves) (has c.args.self.now.core.number.0 c.args.self.now.core.is_open (g.C.Joins.kind c.args.self.now.core.kind) (told_in c.args.self.now.core.turns.items c.args.self.now.core.sealed.items c.args.self.now.core.joins.items c.args.self.now.core.heard.items) c.args.self.now.core.ends.places.items) (has c.args.self.now.core.number.0 c.args.self.now.core.is_open kind (told_in c.args.self.now.core.turns.items c.args.self.now.core.sealed.items c.note_join.new.joins.items c.args.self.now.core.heard.items) c.join.new.table.places.items)) (sym c.attach.ensures.kind)
+    (subst (λ (l : List (Place _ _)). Joined c.args.o.0 (held_with K.out_name K.in_name c.args.end c.args.halves) (has c.args.self.now.core.number.0 c.args.self.now.core.is_open (g.C.Joins.kind c.args.self.now.core.kind) (told_in c.args.self.now.core.turns.items c.args.self.now.core.sealed.items c.args.self.now.core.joins.items c.args.self.now.core.heard.items) c.args.self.now.core.ends.places.items) (has c.args.self.now.core.number.0 c.args.self.now.core.is_open (g.C.Joins.kind c.args.self.now.core.kind) (told_in c.args.self.now.core.turns.items c.args.self.now.core.sealed.items c.note_join.new.joins.items c.args.self.now.core.heard.items) l)) (sym places)
+    (joined_of c.args.self.now.core.ends.places.items c.args.end (K.out_name c.args.halves.out) (K.in_name c.args.halves.input) c.args.self.now.core.number.0 c.args.o.0 c.args.self.now.core.is_open (g.C.Joins.kind c.args.self.now.core.kind) (told_in c.args.self.now.core.turns.items c.args.self.now.core.sealed.items c.args.self.now.core.joins.items c.args.self.now.core.heard.items) (told_in c.args.self.now.core.turns.items c.args.self.now.core.sealed.items c.note_join.new.joins.items c.args.self.now.core.heard.items) c.is_taken.result (mine_of c.args.self.now.core.is_open (c.args.o.0 == c.args.self.now.core.number.0) c.requires.here)))
 
 pub returns-in-Ok-attach-clause-turns : goal.returns-in-Ok-attach-clause-turns
 returns-in-Ok-attach-clause-turns g c =
@@ -70,15 +93,59 @@ returns-in-Ok-attach-clause-turns g c =
     let places = c.join.ensures.joined ∙ ap (λ (l : List (Place _ _)). l ++ new_place c.in-Ok-prepare.row.value.end (g.P.Pipes.known.out_name c.in-Ok-prepare.row.value.out) (g.P.Pipes.known.in_name c.in-Ok-prepare.row.value.input) c.is_taken.result ∷ []) c.prepare.ensures.kept.places
     ∙ ap (λ (r : EndRow _ _). c.args.self.now.core.ends.places.items ++ new_place r.end (K.out_name r.out) (K.in_name r.input) c.is_taken.result ∷ []) c.in-Ok-prepare.ensures.ok in
     let mine = mine_of c.args.self.now.core.is_open (c.args.o.0 == c.args.self.now.core.number.0) c.requires.here in
-    subst (λ (kind : Kind). BeginsActive c.args.end (has c.args.self.now.core.number.0 c.args.self.now.core.is_open (g.C.Joins.kind c.args.self.now.core.kind) (told_in c.args.self.now.core.turns.items c.args.self.now.core.sealed.items c.args.self.now.core.joins.items) c.args.self.now.core.ends.places.items) (has c.args.self.now.core.number.0 c.args.self.now.core.is_open kind (told_in c.args.self.now.core.turns.items c.args.self.now.core.sealed.items c.note_join.new.joins.items) c.join.new.table.places.items)) (sym c.attach.ensures.kind)
-    (subst (λ (l : List (Place _ _)). BeginsActive c.args.end (has c.args.self.now.core.number.0 c.args.self.now.core.is_open (g.C.Joins.kind c.args.self.now.core.kind) (told_in c.args.self.now.core.turns.items c.args.self.now.core.sealed.items c.args.self.now.core.joins.items) c.args.self.now.core.ends.places.items) (has c.args.self.now.core.number.0 c.args.self.now.core.is_open (g.C.Joins.kind c.args.self.now.core.kind) (told_in c.args.self.now.core.turns.items c.args.self.now.core.sealed.items c.note_join.new.joins.items) l)) (sym places)
-    (begins_of c.args.self.now.core.ends.places.items c.args.end (K.out_name c.args.halves.out) (K.in_name c.args.halves.input) c.args.self.now.core.number.0 c.args.o.0 c.args.self.now.core.is_open (g.C.Joins.kind c.args.self.now.core.kind) (told_in c.args.self.now.core.turns.items c.args.self.now.core.sealed.items c.args.self.now.core.joins.items) (told_in c.args.self.now.core.turns.items c.args.self.now.core.sealed.items c.note_join.new.joins.items) c.is_taken.result refl refl (none_of (c.args.o.0 == c.args.self.now.core.number.0) c.args.end c.args.self.now.core.ends.places.items mine c.requires.new)))
+    subst (λ (kind : Kind). BeginsActive c.args.end (has c.args.self.now.core.number.0 c.args.self.now.core.is_open (g.C.Joins.kind c.args.self.now.core.kind) (told_in c.args.self.now.core.turns.items c.args.self.now.core.sealed.items c.args.self.now.core.joins.items c.args.self.now.core.heard.items) c.args.self.now.core.ends.places.items) (has c.args.self.now.core.number.0 c.args.self.now.core.is_open kind (told_in c.args.self.now.core.turns.items c.args.self.now.core.sealed.items c.note_join.new.joins.items c.args.self.now.core.heard.items) c.join.new.table.places.items)) (sym c.attach.ensures.kind)
+    (subst (λ (l : List (Place _ _)). BeginsActive c.args.end (has c.args.self.now.core.number.0 c.args.self.now.core.is_open (g.C.Joins.kind c.args.self.now.core.kind) (told_in c.args.self.now.core.turns.items c.args.self.now.core.sealed.items c.args.self.now.core.joins.items c.args.self.now.core.heard.items) c.args.self.now.core.ends.places.items) (has c.args.self.now.core.number.0 c.args.self.now.core.is_open (g.C.Joins.kind c.args.self.now.core.kind) (told_in c.args.self.now.core.turns.items c.args.self.now.core.sealed.items c.note_join.new.joins.items c.args.self.now.core.heard.items) l)) (sym places)
+    (begins_of c.args.self.now.core.ends.places.items c.args.end (K.out_name c.args.halves.out) (K.in_name c.args.halves.input) c.args.self.now.core.number.0 c.args.o.0 c.args.self.now.core.is_open (g.C.Joins.kind c.args.self.now.core.kind) (told_in c.args.self.now.core.turns.items c.args.self.now.core.sealed.items c.args.self.now.core.joins.items c.args.self.now.core.heard.items) (told_in c.args.self.now.core.turns.items c.args.self.now.core.sealed.items c.note_join.new.joins.items c.args.self.now.core.heard.items) c.is_taken.result refl refl (none_of (c.args.o.0 == c.args.self.now.core.number.0) c.args.end c.args.self.now.core.ends.places.items mine c.requires.new)))
 
 pub returns-in-Ok-attach-clause-joins : goal.returns-in-Ok-attach-clause-joins
 returns-in-Ok-attach-clause-joins g c =
     let K = g.P.Pipes.known in
     let was = standing_joins c.args.self.now.core.joins.items in
-    c.note_join.ensures
-    ∙ ap (λ (x : EndId). was ++ joining_as (record { end = x; written = c.joint_of-joint.result.written; read = c.joint_of-joint.result.read }) c.args.peer.now.identity c.in-Ok-attach.answer ∷ []) c.joint_of-joint.ensures.end
-    ∙ ap (λ (x : g.row.P-Name.Denot). was ++ joining_as (record { end = c.args.end; written = x; read = c.joint_of-joint.result.read }) c.args.peer.now.identity c.in-Ok-attach.answer ∷ []) c.joint_of-joint.ensures.written
-    ∙ ap (λ (x : g.row.P-Name.Denot). was ++ joining_as (record { end = c.args.end; written = K.out_name c.args.halves.out; read = x }) c.args.peer.now.identity c.in-Ok-attach.answer ∷ []) c.joint_of-joint.ensures.read
+    c.note_join.ensures.joins
+    ∙ ap (λ (x : EndId). was ++ joining_as (record { end = x; place = c.joint_of-joint.result.place; written = c.joint_of-joint.result.written; read = c.joint_of-joint.result.read }) c.args.peer.now.identity c.in-Ok-attach.answer ∷ []) c.joint_of-joint.ensures.end
+    ∙ ap (λ (x : g.row.P-Name.Denot). was ++ joining_as (record { end = c.args.end; place = c.joint_of-joint.result.place; written = x; read = c.joint_of-joint.result.read }) c.args.peer.now.identity c.in-Ok-attach.answer ∷ []) c.joint_of-joint.ensures.written
+    ∙ ap (λ (x : g.row.P-Name.Denot). was ++ joining_as (record { end = c.args.end; place = c.joint_of-joint.result.place; written = K.out_name c.args.halves.out; read = x }) c.args.peer.now.identity c.in-Ok-attach.answer ∷ []) c.joint_of-joint.ensures.read
+
+pub invariant_of-self-in-Err-attach : goal.invariant_of-self-in-Err-attach
+invariant_of-self-in-Err-attach g c =
+    let places = c.prepare.ensures.kept.places in
+    let place : c.len-place.result ≡ length c.args.self.now.core.ends.places.items = (let n = c.len-place.ensures in omega (arith, n)) in
+    let long = ap length places in
+    record {
+      sound = subst (λ (l : Rows _ _). AreSound g.P.Pipes.known c.args.self.now.pipes l c.prepare.new.table.places.items) (sym c.prepare.ensures.kept.rows)
+          (subst (λ (l : List (Place _ _)). AreSound g.P.Pipes.known c.args.self.now.pipes c.args.self.now.core.ends.rows.items l) (sym places) c.args.self.now.sound);
+      peers = λ is. subst (λ (l : List (Place _ _)). ArePeers l (g.C.Joins.peers c.attach.new.self)) (sym places) (subst (λ (l : List ℕ). ArePeers c.args.self.now.core.ends.places.items l) (sym c.in-Err-attach.ensures.err) (c.args.self.now.peers is));
+      room = room_of c.args.self.now.core.is_open (c.len-place.result + 1) (length c.prepare.new.table.places.items) c.keep.new.self (omega (arith, place, long)) c.in-Ok.ensures.ok;
+      gone = λ is. absurd (true≢false (sym (open_of c.args.self.now.core.is_open (c.args.o.0 == c.args.self.now.core.number.0) c.requires.here) ∙ is));
+      flagged = subst (λ (l : List (Place _ _)). AreFlagged l (g.C.Joins.peers c.attach.new.self)) (sym places) (subst (λ (l : List ℕ). AreFlagged c.args.self.now.core.ends.places.items l) (sym c.in-Err-attach.ensures.err) c.args.self.now.flagged);
+      in_use = subst (λ (l : List (Place _ _)). AreInUse l) (sym places) c.args.self.now.in_use;
+      others = λ s t b. leaves_on g.P.Pipes.known s c.args.self.now.pipes c.args.self.now.pipes t.ends c.args.self.now.core.ends c.prepare.new.table (c.args.self.now.others s t b)
+          (leaves_unchanged g.P.Pipes.known c.args.self.now.pipes c.args.self.now.core.ends c.prepare.new.table c.prepare.ensures.kept);
+      number = c.args.self.now.number;
+      stopped = c.args.self.now.stopped;
+      way = λ p t b. ∥∥₁_map (c.args.self.now.way p t b) (λ k is order.
+          subst (λ (l : List (Place _ _)). KindWay g.C.Joins.pattern g.C.Joins.names g.C.Joins.sound g.C.Joins.peers (way_in c.args.self.now.core.way.items) l (standing_joins t.joins.items) (standing_joins c.args.self.now.core.joins.items) t.turns.items c.args.self.now.core.turns.items t.kind c.attach.new.self) (sym places)
+          (way_kept g.C.Joins.pattern g.C.Joins.names g.C.Joins.sound g.C.Joins.peers (way_in c.args.self.now.core.way.items) c.args.self.now.core.ends.places.items c.args.self.now.core.ends.places.items (standing_joins t.joins.items) (standing_joins c.args.self.now.core.joins.items) t.turns.items c.args.self.now.core.turns.items t.kind c.args.self.now.core.kind c.attach.new.self (all_still ((way_in c.args.self.now.core.way.items).turns ≡ []) c.args.self.now.core.ends.places.items) c.in-Err-attach.ensures.same (k is order)));
+    }
+
+pub invariant_of-self-in-Err-prepare : goal.invariant_of-self-in-Err-prepare
+invariant_of-self-in-Err-prepare g c =
+    let places = c.prepare.ensures.kept.places in
+    let place : c.len-place.result ≡ length c.args.self.now.core.ends.places.items = (let n = c.len-place.ensures in omega (arith, n)) in
+    let long = ap length places in
+    record {
+      sound = subst (λ (l : Rows _ _). AreSound g.P.Pipes.known c.args.self.now.pipes l c.prepare.new.table.places.items) (sym c.prepare.ensures.kept.rows)
+          (subst (λ (l : List (Place _ _)). AreSound g.P.Pipes.known c.args.self.now.pipes c.args.self.now.core.ends.rows.items l) (sym places) c.args.self.now.sound);
+      peers = λ is. subst (λ (l : List (Place _ _)). ArePeers l (g.C.Joins.peers c.args.self.now.core.kind)) (sym places) (c.args.self.now.peers is);
+      room = room_of c.args.self.now.core.is_open (c.len-place.result + 1) (length c.prepare.new.table.places.items) c.keep.new.self (omega (arith, place, long)) c.in-Ok.ensures.ok;
+      gone = λ is. absurd (true≢false (sym (open_of c.args.self.now.core.is_open (c.args.o.0 == c.args.self.now.core.number.0) c.requires.here) ∙ is));
+      flagged = subst (λ (l : List (Place _ _)). AreFlagged l (g.C.Joins.peers c.args.self.now.core.kind)) (sym places) c.args.self.now.flagged;
+      in_use = subst (λ (l : List (Place _ _)). AreInUse l) (sym places) c.args.self.now.in_use;
+      others = λ s t b. leaves_on g.P.Pipes.known s c.args.self.now.pipes c.args.self.now.pipes t.ends c.args.self.now.core.ends c.prepare.new.table (c.args.self.now.others s t b)
+          (leaves_unchanged g.P.Pipes.known c.args.self.now.pipes c.args.self.now.core.ends c.prepare.new.table c.prepare.ensures.kept);
+      number = c.args.self.now.number;
+      stopped = c.args.self.now.stopped;
+      way = λ p t b. ∥∥₁_map (c.args.self.now.way p t b) (λ k is order.
+          subst (λ (l : List (Place _ _)). KindWay g.C.Joins.pattern g.C.Joins.names g.C.Joins.sound g.C.Joins.peers (way_in c.args.self.now.core.way.items) l (standing_joins t.joins.items) (standing_joins c.args.self.now.core.joins.items) t.turns.items c.args.self.now.core.turns.items t.kind c.args.self.now.core.kind) (sym places)
+          (k is order));
+    }

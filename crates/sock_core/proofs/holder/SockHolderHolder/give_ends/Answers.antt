@@ -5,6 +5,8 @@ use Rattle.sock_core.proofs.FormLemmas.{sound_of, are_sound}
 use Rattle.sock_core.proofs.JoinLemmas.{mine_of}
 use Rattle.sock_core.proofs.GiveLemmas.{told_of, writing_of, stated_of, ends_of, given_all, given_turns}
 use Rattle.held_ends.proofs.OthersLemmas.{leaves_on}
+use Rattle.std.proofs.Math.Logic.{∥∥₁_map}
+use Rattle.sock_core.proofs.FlagLemmas.{flagged_gone, in_use_gone}
 use Rattle.sock_core.proofs.holder.SockHolderHolder.give_ends.Goals as goal
 
 pub give_ends-requires-clause-sound : goal.give_ends-requires-clause-sound
@@ -21,8 +23,12 @@ invariant_of-self g c = record {
     none_joined = c.hand_over-ends.ensures.left.1;
   };
   gone = λ is. c.give_ends.ensures.gone;
-  others = λ s t b. leaves_on g.P.Pipes.known s c.args.self.now.pipes c.args.self.now.pipes t c.args.self.now.core.ends c.give_ends.new.table (c.args.self.now.others s t b) c.give_ends.ensures.others;
+  flagged = flagged_gone c.give_ends.new.table.places.items (g.C.Joins.peers c.args.self.now.core.kind) c.give_ends.ensures.gone;
+  in_use = in_use_gone c.give_ends.new.table.places.items c.give_ends.ensures.gone;
+  way = λ p t b. ∥∥₁_map (c.args.self.now.way p t b) (λ k is order. absurd (true≢false (sym is)));
+  others = λ s t b. leaves_on g.P.Pipes.known s c.args.self.now.pipes c.args.self.now.pipes t.ends c.args.self.now.core.ends c.give_ends.new.table (c.args.self.now.others s t b) c.give_ends.ensures.others;
   number = c.args.self.now.number;
+  stopped = c.args.self.now.stopped;
 }
 
 pub returns-clause-all : goal.returns-clause-all
@@ -31,7 +37,7 @@ returns-clause-all g c =
     ∙ sym (ap (λ (b : Bool). if b then held_in c.args.self.now.core.ends.places.items else []) (mine_of c.args.self.now.core.is_open (c.args.o.0 == c.args.self.now.core.number.0) c.requires.here))
 
 pub returns-clause-none : goal.returns-clause-none
-returns-clause-none g c = given_all c.args.self.now.core.number.0 c.args.o.0 c.args.self.now.core.is_open (g.C.Joins.kind c.args.self.now.core.kind) (told_in c.args.self.now.core.turns.items c.args.self.now.core.sealed.items c.args.self.now.core.joins.items) c.args.self.now.core.ends.places.items c.give_ends.new.table.places.items c.give_ends.ensures.gone (mine_of c.args.self.now.core.is_open (c.args.o.0 == c.args.self.now.core.number.0) c.requires.here)
+returns-clause-none g c = given_all c.args.self.now.core.number.0 c.args.o.0 c.args.self.now.core.is_open (g.C.Joins.kind c.args.self.now.core.kind) (told_in c.args.self.now.core.turns.items c.args.self.now.core.sealed.items c.args.self.now.core.joins.items c.args.self.now.core.heard.items) c.args.self.now.core.ends.places.items c.give_ends.new.table.places.items c.give_ends.ensures.gone (mine_of c.args.self.now.core.is_open (c.args.o.0 == c.args.self.now.core.number.0) c.requires.here)
 
 pub returns-clause-told : goal.returns-clause-told
 returns-clause-told g c = told_of g.P.Pipes.known c.args.self.now.pipes c.args.self.now.core.ends.rows.items c.args.self.now.core.ends.places.items (sound_of g.P.Pipes.known c.args.self.now.pipes c.args.self.now.core.ends.rows.items c.args.self.now.core.ends.places.items c.args.self.now.sound) c.give_ends.new.given.items c.give_ends.ensures.given.ends
@@ -43,4 +49,4 @@ pub returns-clause-states : goal.returns-clause-states
 returns-clause-states g c = stated_of g.P.Pipes.known c.args.self.now.pipes c.args.self.now.core.ends.rows.items c.args.self.now.core.ends.places.items (sound_of g.P.Pipes.known c.args.self.now.pipes c.args.self.now.core.ends.rows.items c.args.self.now.core.ends.places.items c.args.self.now.sound) c.give_ends.new.given.items c.give_ends.ensures.given.ends
 
 pub returns-clause-turns : goal.returns-clause-turns
-returns-clause-turns g c = given_turns c.args.self.now.core.number.0 c.args.o.0 c.args.self.now.core.is_open (g.C.Joins.kind c.args.self.now.core.kind) (told_in c.args.self.now.core.turns.items c.args.self.now.core.sealed.items c.args.self.now.core.joins.items) c.args.self.now.core.ends.places.items c.give_ends.new.table.places.items c.give_ends.ensures.gone
+returns-clause-turns g c = given_turns c.args.self.now.core.number.0 c.args.o.0 c.args.self.now.core.is_open (g.C.Joins.kind c.args.self.now.core.kind) (told_in c.args.self.now.core.turns.items c.args.self.now.core.sealed.items c.args.self.now.core.joins.items c.args.self.now.core.heard.items) c.args.self.now.core.ends.places.items c.give_ends.new.table.places.items c.give_ends.ensures.gone

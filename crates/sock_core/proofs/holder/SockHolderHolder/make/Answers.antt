@@ -6,4 +6,4 @@ pub make-requires-clause-sound : goal.make-requires-clause-sound
 make-requires-clause-sound g c = sound_of g.P.Pipes.known c.args.self.now.pipes c.args.self.now.core.ends.rows.items c.args.self.now.core.ends.places.items c.args.self.now.sound
 
 pub invariant_of-self : goal.invariant_of-self
-invariant_of-self g c = record { sound = are_sound g.P.Pipes.known c.make.new.pipes c.args.self.now.core.ends.rows.items c.args.self.now.core.ends.places.items c.make.ensures.sound; peers = c.args.self.now.peers; room = c.args.self.now.room; gone = c.args.self.now.gone; others = λ s t b. leaves_on g.P.Pipes.known s c.args.self.now.pipes c.make.new.pipes t c.args.self.now.core.ends c.args.self.now.core.ends (c.args.self.now.others s t b) c.make.ensures.others; number = c.args.self.now.number }
+invariant_of-self g c = record { sound = are_sound g.P.Pipes.known c.make.new.pipes c.args.self.now.core.ends.rows.items c.args.self.now.core.ends.places.items c.make.ensures.sound; peers = c.args.self.now.peers; room = c.args.self.now.room; gone = c.args.self.now.gone; flagged = c.args.self.now.flagged; in_use = c.args.self.now.in_use; way = c.args.self.now.way; others = λ s t b. leaves_on g.P.Pipes.known s c.args.self.now.pipes c.make.new.pipes t.ends c.args.self.now.core.ends c.args.self.now.core.ends (c.args.self.now.others s t b) c.make.ensures.others; number = c.args.self.now.number; stopped = c.args.self.now.stopped }

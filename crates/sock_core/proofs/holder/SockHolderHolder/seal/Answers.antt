@@ -15,6 +15,12 @@ use Rattle.sock_core.specs.Peers.{ArePeers}
 use Rattle.sock_core.proofs.PeerLemmas.{kept_same}
 use Rattle.held_ends.proofs.OthersLemmas.{leaves_on}
 use Rattle.sock_core.proofs.GoneLemmas.{never_gone}
+use Rattle.std.proofs.Math.Logic.{∥∥₁_map}
+use Rattle.sock_core.specs.Standing.{standing_joins}
+use Rattle.sock_core.specs.Way.{way_in, KindWay}
+use Rattle.sock_core.specs.Peers.{AreFlagged, AreInUse}
+use Rattle.sock_core.proofs.FlagLemmas.{flagged_set, in_use_set}
+use Rattle.sock_core.proofs.WayLemmas.{way_set}
 use Rattle.sock_core.proofs.holder.SockHolderHolder.seal.Goals as goal
 
 pub seal-requires-clause-sound : goal.seal-requires-clause-sound
@@ -40,8 +46,15 @@ invariant_of-self g c =
       peers = λ is. subst (λ (l : List (Place _ _)). ArePeers l (g.C.Joins.peers c.args.self.now.core.kind)) (sym s.now) (kept_same c.args.self.now.core.ends.places.items (g.C.Joins.peers c.args.self.now.core.kind) (c.args.self.now.peers is) c.in-Some.place s.place (record s.place { sealed = true }) (g.C.Joins.peers c.args.self.now.core.kind) s.there refl (All-contains_itself (g.C.Joins.peers c.args.self.now.core.kind)));
       room = subst (λ (n : ℕ). KeepsRoom c.args.self.now.core.is_open n c.args.self.now.core.room) (sym same) c.args.self.now.room;
       gone = λ is. never_gone c.args.end c.args.self.now.core.ends.places.items c.in-Some.place f.0 (c.args.self.now.gone is) f.1 f.2;
-      others = λ s t b. leaves_on g.P.Pipes.known s c.args.self.now.pipes c.seal.new.pipes t c.args.self.now.core.ends c.seal.new.table (c.args.self.now.others s t b) c.seal.ensures.others;
+      flagged = subst (λ (l : List (Place _ _)). AreFlagged l (g.C.Joins.peers c.args.self.now.core.kind)) (sym s.now)
+          (flagged_set c.args.self.now.core.ends.places.items (g.C.Joins.peers c.args.self.now.core.kind) (g.C.Joins.peers c.args.self.now.core.kind) c.in-Some.place s.place (record s.place { sealed = true }) c.args.self.now.flagged s.there (λ j ne here. here) (λ held flag. c.args.self.now.flagged c.in-Some.place s.place s.there held flag));
+      in_use = subst (λ (l : List (Place _ _)). AreInUse l) (sym s.now) (in_use_set c.args.self.now.core.ends.places.items c.in-Some.place s.place (record s.place { sealed = true }) c.args.self.now.in_use s.there (λ held flag. c.args.self.now.in_use c.in-Some.place s.place s.there held flag));
+      way = λ p t b. ∥∥₁_map (c.args.self.now.way p t b) (λ k is order.
+          subst (λ (l : List (Place _ _)). KindWay g.C.Joins.pattern g.C.Joins.names g.C.Joins.sound g.C.Joins.peers (way_in c.args.self.now.core.way.items) l (standing_joins t.joins.items) (standing_joins c.args.self.now.core.joins.items) t.turns.items c.args.self.now.core.turns.items t.kind c.args.self.now.core.kind) (sym s.now)
+          (way_set g.C.Joins.pattern g.C.Joins.names g.C.Joins.sound g.C.Joins.peers (way_in c.args.self.now.core.way.items) c.args.self.now.core.ends.places.items (standing_joins t.joins.items) (standing_joins c.args.self.now.core.joins.items) t.turns.items c.args.self.now.core.turns.items t.kind c.args.self.now.core.kind c.in-Some.place s.place (record s.place { sealed = true }) s.there refl refl (k is order)));
+      others = λ s t b. leaves_on g.P.Pipes.known s c.args.self.now.pipes c.seal.new.pipes t.ends c.args.self.now.core.ends c.seal.new.table (c.args.self.now.others s t b) c.seal.ensures.others;
       number = c.args.self.now.number;
+      stopped = c.args.self.now.stopped;
     }
 
 pub unreachable-requires : goal.unreachable-requires
@@ -52,12 +65,12 @@ unreachable-requires g c =
 pub returns-in-Some-clause-stays : goal.returns-in-Some-clause-stays
 returns-in-Some-clause-stays g c =
     let s = c.seal.ensures.sealed in
-    subst (λ (l : List (Place _ _)). Stays c.args.o.0 (has c.args.self.now.core.number.0 c.args.self.now.core.is_open (g.C.Joins.kind c.args.self.now.core.kind) (told_in c.args.self.now.core.turns.items c.args.self.now.core.sealed.items c.args.self.now.core.joins.items) c.args.self.now.core.ends.places.items) (has c.args.self.now.core.number.0 c.args.self.now.core.is_open (g.C.Joins.kind c.args.self.now.core.kind) (told_in c.args.self.now.core.turns.items c.note_seal.new.sealed.items c.args.self.now.core.joins.items) l)) (sym s.now)
-    (stays_of c.args.self.now.core.number.0 c.args.o.0 c.args.self.now.core.is_open (g.C.Joins.kind c.args.self.now.core.kind) (told_in c.args.self.now.core.turns.items c.args.self.now.core.sealed.items c.args.self.now.core.joins.items) (told_in c.args.self.now.core.turns.items c.note_seal.new.sealed.items c.args.self.now.core.joins.items) c.args.self.now.core.ends.places.items (set c.args.self.now.core.ends.places.items c.in-Some.place (record s.place { sealed = true }))
+    subst (λ (l : List (Place _ _)). Stays c.args.o.0 (has c.args.self.now.core.number.0 c.args.self.now.core.is_open (g.C.Joins.kind c.args.self.now.core.kind) (told_in c.args.self.now.core.turns.items c.args.self.now.core.sealed.items c.args.self.now.core.joins.items c.args.self.now.core.heard.items) c.args.self.now.core.ends.places.items) (has c.args.self.now.core.number.0 c.args.self.now.core.is_open (g.C.Joins.kind c.args.self.now.core.kind) (told_in c.args.self.now.core.turns.items c.note_seal.new.sealed.items c.args.self.now.core.joins.items c.args.self.now.core.heard.items) l)) (sym s.now)
+    (stays_of c.args.self.now.core.number.0 c.args.o.0 c.args.self.now.core.is_open (g.C.Joins.kind c.args.self.now.core.kind) (told_in c.args.self.now.core.turns.items c.args.self.now.core.sealed.items c.args.self.now.core.joins.items c.args.self.now.core.heard.items) (told_in c.args.self.now.core.turns.items c.note_seal.new.sealed.items c.args.self.now.core.joins.items c.args.self.now.core.heard.items) c.args.self.now.core.ends.places.items (set c.args.self.now.core.ends.places.items c.in-Some.place (record s.place { sealed = true }))
     (seen_same c.args.self.now.core.ends.places.items c.in-Some.place s.place (record s.place { sealed = true }) s.there refl refl refl refl))
 
 pub returns-in-Some-clause-turns : goal.returns-in-Some-clause-turns
 returns-in-Some-clause-turns g c =
     let s = c.seal.ensures.sealed in
-    subst (λ (l : List (Place _ _)). Seals c.args.end (has c.args.self.now.core.number.0 c.args.self.now.core.is_open (g.C.Joins.kind c.args.self.now.core.kind) (told_in c.args.self.now.core.turns.items c.args.self.now.core.sealed.items c.args.self.now.core.joins.items) c.args.self.now.core.ends.places.items) (has c.args.self.now.core.number.0 c.args.self.now.core.is_open (g.C.Joins.kind c.args.self.now.core.kind) (told_in c.args.self.now.core.turns.items c.note_seal.new.sealed.items c.args.self.now.core.joins.items) l)) (sym s.now)
-    (seals_of c.args.self.now.core.number.0 c.args.self.now.core.is_open (g.C.Joins.kind c.args.self.now.core.kind) (told_in c.args.self.now.core.turns.items c.args.self.now.core.sealed.items c.args.self.now.core.joins.items) (told_in c.args.self.now.core.turns.items c.note_seal.new.sealed.items c.args.self.now.core.joins.items) c.args.end c.args.self.now.core.ends.places.items c.in-Some.place s.place (record s.place { sealed = true }) s.there refl refl refl refl c.note_seal.ensures refl)
+    subst (λ (l : List (Place _ _)). Seals c.args.end (has c.args.self.now.core.number.0 c.args.self.now.core.is_open (g.C.Joins.kind c.args.self.now.core.kind) (told_in c.args.self.now.core.turns.items c.args.self.now.core.sealed.items c.args.self.now.core.joins.items c.args.self.now.core.heard.items) c.args.self.now.core.ends.places.items) (has c.args.self.now.core.number.0 c.args.self.now.core.is_open (g.C.Joins.kind c.args.self.now.core.kind) (told_in c.args.self.now.core.turns.items c.note_seal.new.sealed.items c.args.self.now.core.joins.items c.args.self.now.core.heard.items) l)) (sym s.now)
+    (seals_of c.args.self.now.core.number.0 c.args.self.now.core.is_open (g.C.Joins.kind c.args.self.now.core.kind) (told_in c.args.self.now.core.turns.items c.args.self.now.core.sealed.items c.args.self.now.core.joins.items c.args.self.now.core.heard.items) (told_in c.args.self.now.core.turns.items c.note_seal.new.sealed.items c.args.self.now.core.joins.items c.args.self.now.core.heard.items) c.args.end c.args.self.now.core.ends.places.items c.in-Some.place s.place (record s.place { sealed = true }) s.there refl refl refl refl c.note_seal.ensures refl)

@@ -1,10 +1,15 @@
-use Rattle.std.proofs.Common.{refl, sym, ap, ◌∙◌, subst, List, [], ◌∷◌, ◌++◌, if◌then◌else◌, ◌==◌, set}
+use Rattle.std.proofs.Common.{◌≡◌, refl, sym, ap, ◌∙◌, subst, Bool, true, false, List, [], ◌∷◌, ◌++◌, if◌then◌else◌, ◌==◌, set}
+use Rattle.std.proofs.Math.Logic.{∥∥₁_map}
+use Rattle.spec_control.specs.Place.{At}
+use Rattle.spec_run.specs.OpenSocket.{is_out}
+use Rattle.sock_core.specs.Standing.{standing_joins}
+use Rattle.sock_core.specs.Way.{way_in, with_turned, KindWay}
 use Rattle.std.specs.List.{position}
 use Rattle.held_ends.specs.declared.table.Place.{Place}
 use Rattle.ctl_holder.specs.Holding.{Stays, TurnsTo, is_state}
 use Rattle.held_ends.specs.Places.{is_of}
 use Rattle.sock_core.specs.Has.{has, told_in}
-use Rattle.sock_core.proofs.FindLemmas.{found, not_found, alone_of, held_is, never}
+use Rattle.sock_core.proofs.FindLemmas.{found, not_found, alone_of, held_is, end_is, never}
 use Rattle.sock_core.proofs.SeenLemmas.{seen_same, stays_of}
 use Rattle.sock_core.proofs.FormLemmas.{sound_of, are_sound}
 use Rattle.sock_core.proofs.HolderLemmas.{owned, turned_of}
@@ -13,10 +18,15 @@ use Rattle.held_ends.proofs.SoundLemmas.{one_some}
 use Rattle.held_ends.proofs.PlaceLemmas.{place_found}
 use Rattle.std.proofs.Common.{ℕ, length, length-set}
 use Rattle.sock_core.specs.Sound.{KeepsRoom}
-use Rattle.sock_core.specs.Peers.{ArePeers}
+use Rattle.sock_core.specs.Peers.{ArePeers, AreFlagged, AreInUse}
+use Rattle.sock_core.proofs.FlagLemmas.{flagged_set, in_use_set}
+use Rattle.sock_core.proofs.GoingLemmas.{noted_turned}
 use Rattle.sock_core.proofs.PeerLemmas.{kept_stated}
 use Rattle.held_ends.proofs.OthersLemmas.{leaves_on}
 use Rattle.sock_core.proofs.GoneLemmas.{never_gone}
+use Rattle.std.specs.Prelude.{Option}
+use Rattle.held_ends.specs.Counting.{counts_at, counts_with}
+use Rattle.held_ends.proofs.CountLemmas.{position_same}
 use Rattle.sock_core.proofs.holder.SockHolderHolder.set_state.Goals as goal
 
 pub set_state-requires-clause-sound : goal.set_state-requires-clause-sound
@@ -26,6 +36,10 @@ pub set_state-requires-clause-there : goal.set_state-requires-clause-there
 set_state-requires-clause-there g c =
     let f = found (is_of c.args.end) c.args.self.now.core.ends.places.items c.in-Some.place (sym c.in-Some.is ∙ c.find.ensures ∙ ap (λ (l : List (Place _ _)). position (is_of c.args.end) l) c.deref.ensures.value) in
     record { place = f.0; there = f.1; held = held_is c.args.end f.0 f.2 }
+
+not_out : (b r : Bool) → (b ≡ true → r ≡ false) → r ≡ true → b ≡ false
+not_out true r off on = never (sym on ∙ off refl)
+not_out false r off on = refl
 
 pub invariant_of-self : goal.invariant_of-self
 invariant_of-self g c =
@@ -39,16 +53,37 @@ invariant_of-self g c =
           (kept_stated c.args.self.now.core.ends.places.items (g.C.Joins.peers c.args.self.now.core.kind) (c.args.self.now.peers is) c.in-Some.place s.place s.there c.index-in-Some.result.now.peer c.stays-peer.result (record s.place { state = c.args.state; peer = c.stays-peer.result }) (g.C.Joins.peers c.stays-peer.new.kind) peer refl refl refl c.stays-peer.ensures.peers);
       room = subst (λ (n : ℕ). KeepsRoom c.args.self.now.core.is_open n c.args.self.now.core.room) (sym same) c.args.self.now.room;
       gone = λ is. never_gone c.args.end c.args.self.now.core.ends.places.items c.in-Some.place f.0 (c.args.self.now.gone is) f.1 f.2;
-      others = λ s t b. leaves_on g.P.Pipes.known s c.args.self.now.pipes c.args.self.now.pipes t c.args.self.now.core.ends c.set_state.new.table (c.args.self.now.others s t b) c.set_state.ensures.others;
+      flagged = subst (λ (l : List (Place _ _)). AreFlagged l (g.C.Joins.peers c.stays-peer.new.kind)) (sym s.now)
+          (flagged_set c.args.self.now.core.ends.places.items (g.C.Joins.peers c.args.self.now.core.kind) (g.C.Joins.peers c.stays-peer.new.kind) c.in-Some.place s.place (record s.place { state = c.args.state; peer = c.stays-peer.result }) c.args.self.now.flagged s.there c.stays-peer.ensures.peers.stay
+          (λ held flag. c.stays-peer.ensures.peers.stays_too flag (c.args.self.now.flagged c.in-Some.place s.place s.there held (sym peer ∙ c.stays-peer.ensures.peers.none_back flag))));
+      in_use = subst (λ (l : List (Place _ _)). AreInUse l) (sym s.now)
+          (in_use_set c.args.self.now.core.ends.places.items c.in-Some.place s.place (record s.place { state = c.args.state; peer = c.stays-peer.result }) c.args.self.now.in_use s.there
+          (λ held flag. not_out (is_out (At c.args.state)) c.stays-peer.result (λ out. (c.stays-peer.ensures.goes out).0) flag));
+      way = λ p t b. ∥∥₁_map (c.args.self.now.way p t b) (λ k is order.
+          let old = c.args.self.now.core in
+          let one = one_some f.0 s.place (sym f.1 ∙ s.there) in
+          let was = place_found old.ends.places.items c.in-Some.place s.place c.index.result.now s.there c.index.ensures in
+          let w = way_in old.way.items in
+          subst (λ (l : List (Place _ _)). KindWay g.C.Joins.pattern g.C.Joins.names g.C.Joins.sound g.C.Joins.peers (way_in c.note_turn.new.way.items) l (standing_joins t.joins.items) (standing_joins old.joins.items) t.turns.items c.note.new.turns.items t.kind c.stays-peer.new.kind) (sym s.now)
+          (noted_turned g.P.Pipes.known c.args.self.now.pipes old.ends.rows.items old.ends.places.items (sound_of g.P.Pipes.known c.args.self.now.pipes old.ends.rows.items old.ends.places.items c.args.self.now.sound) (g.C.Joins.peers old.kind) (c.args.self.now.peers is)
+          g.C.Joins.pattern c.args.self.now.flagged g.C.Joins.names g.C.Joins.sound g.C.Joins.peers w (way_in c.note_turn.new.way.items) c.in-Some.place s.place (record s.place { state = c.args.state; peer = c.stays-peer.result }) c.args.end c.args.state c.index-in-Some.result.now.peer c.stays-peer.result
+          (standing_joins t.joins.items) (standing_joins old.joins.items) t.turns.items old.turns.items c.note.new.turns.items t.kind old.kind c.stays-peer.new.kind
+          s.there (ap (λ (x : Place _ _). x.held) (sym one) ∙ held_is c.args.end f.0 f.2) (end_is c.args.end f.0 f.2 ∙ ap (λ (x : Place _ _). x.end) one) peer refl refl
+          (c.args.self.now.in_use c.in-Some.place s.place s.there (ap (λ (x : Place _ _). x.held) (sym one) ∙ held_is c.args.end f.0 f.2))
+          (c.note_turn.ensures ∙ ap (λ (x : Place _ _). if is_state x.state c.args.state then w else with_turned c.args.end c.args.state w) was)
+          (c.note.ensures ∙ ap (λ (x : Place _ _). old.turns.items ++ (if is_state x.state c.args.state then [] else (c.args.end, c.args.state) ∷ [])) was)
+          c.stays-peer.ensures.stays c.stays-peer.ensures.goes (k is) order));
+      others = λ s t b. leaves_on g.P.Pipes.known s c.args.self.now.pipes c.args.self.now.pipes t.ends c.args.self.now.core.ends c.set_state.new.table (c.args.self.now.others s t b) c.set_state.ensures.others;
       number = c.args.self.now.number;
+      stopped = c.args.self.now.stopped;
     }
 
 pub returns-in-Some-clause-stays : goal.returns-in-Some-clause-stays
 returns-in-Some-clause-stays g c =
     let s = c.set_state.ensures.stated in
-    subst (λ (l : List (Place _ _)). Stays c.args.o.0 (has c.args.self.now.core.number.0 c.args.self.now.core.is_open (g.C.Joins.kind c.args.self.now.core.kind) (told_in c.args.self.now.core.turns.items c.args.self.now.core.sealed.items c.args.self.now.core.joins.items) c.args.self.now.core.ends.places.items) (has c.args.self.now.core.number.0 c.args.self.now.core.is_open (g.C.Joins.kind c.stays-peer.new.kind) (told_in c.note.new.turns.items c.args.self.now.core.sealed.items c.args.self.now.core.joins.items) l)) (sym s.now)
-    (subst (λ (kind : Kind). Stays c.args.o.0 (has c.args.self.now.core.number.0 c.args.self.now.core.is_open (g.C.Joins.kind c.args.self.now.core.kind) (told_in c.args.self.now.core.turns.items c.args.self.now.core.sealed.items c.args.self.now.core.joins.items) c.args.self.now.core.ends.places.items) (has c.args.self.now.core.number.0 c.args.self.now.core.is_open kind (told_in c.note.new.turns.items c.args.self.now.core.sealed.items c.args.self.now.core.joins.items) (set c.args.self.now.core.ends.places.items c.in-Some.place (record s.place { state = c.args.state; peer = c.stays-peer.result })))) (sym c.stays-peer.ensures.kind)
-    (stays_of c.args.self.now.core.number.0 c.args.o.0 c.args.self.now.core.is_open (g.C.Joins.kind c.args.self.now.core.kind) (told_in c.args.self.now.core.turns.items c.args.self.now.core.sealed.items c.args.self.now.core.joins.items) (told_in c.note.new.turns.items c.args.self.now.core.sealed.items c.args.self.now.core.joins.items) c.args.self.now.core.ends.places.items (set c.args.self.now.core.ends.places.items c.in-Some.place (record s.place { state = c.args.state; peer = c.stays-peer.result }))
+    subst (λ (l : List (Place _ _)). Stays c.args.o.0 (has c.args.self.now.core.number.0 c.args.self.now.core.is_open (g.C.Joins.kind c.args.self.now.core.kind) (told_in c.args.self.now.core.turns.items c.args.self.now.core.sealed.items c.args.self.now.core.joins.items c.args.self.now.core.heard.items) c.args.self.now.core.ends.places.items) (has c.args.self.now.core.number.0 c.args.self.now.core.is_open (g.C.Joins.kind c.stays-peer.new.kind) (told_in c.note.new.turns.items c.args.self.now.core.sealed.items c.args.self.now.core.joins.items c.args.self.now.core.heard.items) l)) (sym s.now)
+    (subst (λ (kind : Kind). Stays c.args.o.0 (has c.args.self.now.core.number.0 c.args.self.now.core.is_open (g.C.Joins.kind c.args.self.now.core.kind) (told_in c.args.self.now.core.turns.items c.args.self.now.core.sealed.items c.args.self.now.core.joins.items c.args.self.now.core.heard.items) c.args.self.now.core.ends.places.items) (has c.args.self.now.core.number.0 c.args.self.now.core.is_open kind (told_in c.note.new.turns.items c.args.self.now.core.sealed.items c.args.self.now.core.joins.items c.args.self.now.core.heard.items) (set c.args.self.now.core.ends.places.items c.in-Some.place (record s.place { state = c.args.state; peer = c.stays-peer.result })))) (sym c.stays-peer.ensures.kind)
+    (stays_of c.args.self.now.core.number.0 c.args.o.0 c.args.self.now.core.is_open (g.C.Joins.kind c.args.self.now.core.kind) (told_in c.args.self.now.core.turns.items c.args.self.now.core.sealed.items c.args.self.now.core.joins.items c.args.self.now.core.heard.items) (told_in c.note.new.turns.items c.args.self.now.core.sealed.items c.args.self.now.core.joins.items c.args.self.now.core.heard.items) c.args.self.now.core.ends.places.items (set c.args.self.now.core.ends.places.items c.in-Some.place (record s.place { state = c.args.state; peer = c.stays-peer.result }))
     (seen_same c.args.self.now.core.ends.places.items c.in-Some.place s.place (record s.place { state = c.args.state; peer = c.stays-peer.result }) s.there refl refl refl refl)))
 
 pub returns-in-Some-clause-turns : goal.returns-in-Some-clause-turns
@@ -57,12 +92,21 @@ returns-in-Some-clause-turns g c =
     let s = c.set_state.ensures.stated in
     let same = one_some f.0 s.place (sym f.1 ∙ s.there) in
     let was = place_found c.args.self.now.core.ends.places.items c.in-Some.place f.0 c.index.result.now f.1 c.index.ensures in
-    subst (λ (l : List (Place _ _)). TurnsTo c.args.end c.args.state (has c.args.self.now.core.number.0 c.args.self.now.core.is_open (g.C.Joins.kind c.args.self.now.core.kind) (told_in c.args.self.now.core.turns.items c.args.self.now.core.sealed.items c.args.self.now.core.joins.items) c.args.self.now.core.ends.places.items) (has c.args.self.now.core.number.0 c.args.self.now.core.is_open (g.C.Joins.kind c.stays-peer.new.kind) (told_in c.note.new.turns.items c.args.self.now.core.sealed.items c.args.self.now.core.joins.items) l))
+    subst (λ (l : List (Place _ _)). TurnsTo c.args.end c.args.state (has c.args.self.now.core.number.0 c.args.self.now.core.is_open (g.C.Joins.kind c.args.self.now.core.kind) (told_in c.args.self.now.core.turns.items c.args.self.now.core.sealed.items c.args.self.now.core.joins.items c.args.self.now.core.heard.items) c.args.self.now.core.ends.places.items) (has c.args.self.now.core.number.0 c.args.self.now.core.is_open (g.C.Joins.kind c.stays-peer.new.kind) (told_in c.note.new.turns.items c.args.self.now.core.sealed.items c.args.self.now.core.joins.items c.args.self.now.core.heard.items) l))
     (ap (λ (x : Place _ _). set c.args.self.now.core.ends.places.items c.in-Some.place (record x { state = c.args.state; peer = c.stays-peer.result })) same ∙ sym s.now)
-    (turned_of c.args.self.now.core.ends.places.items c.in-Some.place f.0 c.args.end f.1 f.2 (alone_of g.P.Pipes.known c.args.self.now.pipes c.args.self.now.core.ends.rows.items c.args.self.now.core.ends.places.items c.in-Some.place f.0 c.args.end (sound_of g.P.Pipes.known c.args.self.now.pipes c.args.self.now.core.ends.rows.items c.args.self.now.core.ends.places.items c.args.self.now.sound) f.1 f.2) c.args.self.now.core.number.0 c.args.self.now.core.is_open (g.C.Joins.kind c.args.self.now.core.kind) (g.C.Joins.kind c.stays-peer.new.kind) (told_in c.args.self.now.core.turns.items c.args.self.now.core.sealed.items c.args.self.now.core.joins.items) (told_in c.note.new.turns.items c.args.self.now.core.sealed.items c.args.self.now.core.joins.items) c.args.state c.stays-peer.result
+    (turned_of c.args.self.now.core.ends.places.items c.in-Some.place f.0 c.args.end f.1 f.2 (alone_of g.P.Pipes.known c.args.self.now.pipes c.args.self.now.core.ends.rows.items c.args.self.now.core.ends.places.items c.in-Some.place f.0 c.args.end (sound_of g.P.Pipes.known c.args.self.now.pipes c.args.self.now.core.ends.rows.items c.args.self.now.core.ends.places.items c.args.self.now.sound) f.1 f.2) c.args.self.now.core.number.0 c.args.self.now.core.is_open (g.C.Joins.kind c.args.self.now.core.kind) (g.C.Joins.kind c.stays-peer.new.kind) (told_in c.args.self.now.core.turns.items c.args.self.now.core.sealed.items c.args.self.now.core.joins.items c.args.self.now.core.heard.items) (told_in c.note.new.turns.items c.args.self.now.core.sealed.items c.args.self.now.core.joins.items c.args.self.now.core.heard.items) c.args.state c.stays-peer.result
     (c.note.ensures ∙ ap (λ (x : Place _ _). c.args.self.now.core.turns.items ++ (if is_state x.state c.args.state then [] else (c.args.end, c.args.state) ∷ [])) was) refl refl)
 
 pub unreachable-requires : goal.unreachable-requires
 unreachable-requires g c =
     never (sym (owned (c.args.o.0 == c.args.self.now.core.number.0) c.args.end c.args.self.now.core.ends.places.items c.requires.here).1
     ∙ not_found (is_of c.args.end) c.args.self.now.core.ends.places.items (sym c.in-None.is ∙ c.find.ensures ∙ ap (λ (l : List (Place _ _)). position (is_of c.args.end) l) c.deref.ensures.value))
+
+pub returns-in-Some-clause-counts : goal.returns-in-Some-clause-counts
+returns-in-Some-clause-counts g c = λ writer reads.
+    let s = c.set_state.ensures.stated in
+    let at = sym (sym c.in-Some.is ∙ c.find.ensures ∙ ap (λ (l : List (Place _ _)). position (is_of c.args.end) l) c.deref.ensures.value) in
+    ap (λ (p : Option ℕ). counts_at g.P.Pipes.known c.args.self.now.pipes c.set_state.new.table p writer)
+    (ap (position (is_of c.args.end)) s.now ∙ position_same (is_of c.args.end) c.args.self.now.core.ends.places.items c.in-Some.place s.place (record s.place { state = c.args.state; peer = c.stays-peer.result }) s.there refl ∙ at)
+    ∙ ap (counts_with g.P.Pipes.known c.args.self.now.pipes writer) c.set_state.ensures.half
+    ∙ sym (ap (λ (p : Option ℕ). counts_at g.P.Pipes.known c.args.self.now.pipes c.args.self.now.core.ends p writer) at)

@@ -19,6 +19,12 @@ use Rattle.sock_core.specs.Standing.{without_last}
 use Rattle.sock_core.proofs.StandingLemmas.{last_off}
 use Rattle.held_ends.proofs.OthersLemmas.{leaves_on}
 use Rattle.sock_core.proofs.GoneLemmas.{never_gone}
+use Rattle.std.proofs.Math.Logic.{∥∥₁_map}
+use Rattle.sock_core.specs.Standing.{standing_joins}
+use Rattle.sock_core.specs.Way.{way_in, KindWay}
+use Rattle.sock_core.specs.Peers.{AreFlagged, AreInUse}
+use Rattle.sock_core.proofs.FlagLemmas.{flagged_set, in_use_set}
+use Rattle.sock_core.proofs.WayLemmas.{noted_undone}
 use Rattle.sock_core.proofs.holder.SockHolderHolder.take_back.Goals as goal
 
 pub take_back-requires-clause-sound : goal.take_back-requires-clause-sound
@@ -46,8 +52,16 @@ invariant_of-self g c =
           (kept_parted c.args.self.now.core.ends.places.items (g.C.Joins.peers c.args.self.now.core.kind) (c.args.self.now.peers is) c.in-Some.place s.place s.there c.index.result.now.peer (record s.place { held = false; writes = false }) (g.C.Joins.peers c.unjoin.new.kind) peer c.unjoin.ensures.peers);
       room = subst (λ (n : ℕ). KeepsRoom c.args.self.now.core.is_open n c.args.self.now.core.room) (sym same) c.args.self.now.room;
       gone = λ is. never_gone c.args.end c.args.self.now.core.ends.places.items c.in-Some.place f.0 (c.args.self.now.gone is) f.1 f.2;
-      others = λ s t b. leaves_on g.P.Pipes.known s c.args.self.now.pipes c.args.self.now.pipes t c.args.self.now.core.ends c.take_back.new.table (c.args.self.now.others s t b) c.take_back.ensures.others;
+      flagged = subst (λ (l : List (Place _ _)). AreFlagged l (g.C.Joins.peers c.unjoin.new.kind)) (sym s.now)
+          (flagged_set c.args.self.now.core.ends.places.items (g.C.Joins.peers c.args.self.now.core.kind) (g.C.Joins.peers c.unjoin.new.kind) c.in-Some.place s.place (record s.place { held = false; writes = false }) c.args.self.now.flagged s.there c.unjoin.ensures.peers.stay (λ held flag. never (sym held)));
+      in_use = subst (λ (l : List (Place _ _)). AreInUse l) (sym s.now) (in_use_set c.args.self.now.core.ends.places.items c.in-Some.place s.place (record s.place { held = false; writes = false }) c.args.self.now.in_use s.there (λ held flag. never (sym held)));
+      way = λ p t b. ∥∥₁_map (c.args.self.now.way p t b) (λ k is order.
+          subst (λ (l : List (Place _ _)). KindWay g.C.Joins.pattern g.C.Joins.names g.C.Joins.sound g.C.Joins.peers (way_in c.note_back.new.way.items) l (standing_joins t.joins.items) (standing_joins c.note_back.new.joins.items) t.turns.items c.args.self.now.core.turns.items t.kind c.unjoin.new.kind) (sym s.now)
+          (noted_undone g.C.Joins.pattern g.C.Joins.names g.C.Joins.sound g.C.Joins.peers (way_in c.args.self.now.core.way.items) (way_in c.note_back.new.way.items) c.index.result.now.peer c.args.self.now.core.ends.places.items (standing_joins t.joins.items) (standing_joins c.args.self.now.core.joins.items) (standing_joins c.note_back.new.joins.items) t.turns.items c.args.self.now.core.turns.items t.kind c.args.self.now.core.kind c.unjoin.new.kind c.in-Some.place s.place (record s.place { held = false; writes = false })
+          c.note_back.ensures.way s.there refl refl peer c.note_back.ensures.joins c.unjoin.ensures.undoes (k is) order));
+      others = λ s t b. leaves_on g.P.Pipes.known s c.args.self.now.pipes c.args.self.now.pipes t.ends c.args.self.now.core.ends c.take_back.new.table (c.args.self.now.others s t b) c.take_back.ensures.others;
       number = c.args.self.now.number;
+      stopped = c.args.self.now.stopped;
     }
 
 pub returns-in-Some-clause-left : goal.returns-in-Some-clause-left
@@ -56,10 +70,10 @@ returns-in-Some-clause-left g c =
     let mine = (owned_last (c.args.o.0 == c.args.self.now.core.number.0) c.args.end c.args.self.now.core.ends.places.items c.requires.last).0 in
     let y = c.take_back.ensures.back in
     let same = one_some f.0 y.place (sym f.1 ∙ y.there) in
-    subst (λ (kind : Kind). Left c.args.o.0 c.args.end (has c.args.self.now.core.number.0 c.args.self.now.core.is_open (g.C.Joins.kind c.args.self.now.core.kind) (told_in c.args.self.now.core.turns.items c.args.self.now.core.sealed.items c.args.self.now.core.joins.items) c.args.self.now.core.ends.places.items) (has c.args.self.now.core.number.0 c.args.self.now.core.is_open kind (told_in c.args.self.now.core.turns.items c.args.self.now.core.sealed.items c.note_back.new.joins.items) c.take_back.new.table.places.items)) (sym c.unjoin.ensures.kind)
-    (subst (λ (l : List (Place _ _)). Left c.args.o.0 c.args.end (has c.args.self.now.core.number.0 c.args.self.now.core.is_open (g.C.Joins.kind c.args.self.now.core.kind) (told_in c.args.self.now.core.turns.items c.args.self.now.core.sealed.items c.args.self.now.core.joins.items) c.args.self.now.core.ends.places.items) (has c.args.self.now.core.number.0 c.args.self.now.core.is_open (g.C.Joins.kind c.args.self.now.core.kind) (told_in c.args.self.now.core.turns.items c.args.self.now.core.sealed.items c.note_back.new.joins.items) l))
+    subst (λ (kind : Kind). Left c.args.o.0 c.args.end (has c.args.self.now.core.number.0 c.args.self.now.core.is_open (g.C.Joins.kind c.args.self.now.core.kind) (told_in c.args.self.now.core.turns.items c.args.self.now.core.sealed.items c.args.self.now.core.joins.items c.args.self.now.core.heard.items) c.args.self.now.core.ends.places.items) (has c.args.self.now.core.number.0 c.args.self.now.core.is_open kind (told_in c.args.self.now.core.turns.items c.args.self.now.core.sealed.items c.note_back.new.joins.items c.args.self.now.core.heard.items) c.take_back.new.table.places.items)) (sym c.unjoin.ensures.kind)
+    (subst (λ (l : List (Place _ _)). Left c.args.o.0 c.args.end (has c.args.self.now.core.number.0 c.args.self.now.core.is_open (g.C.Joins.kind c.args.self.now.core.kind) (told_in c.args.self.now.core.turns.items c.args.self.now.core.sealed.items c.args.self.now.core.joins.items c.args.self.now.core.heard.items) c.args.self.now.core.ends.places.items) (has c.args.self.now.core.number.0 c.args.self.now.core.is_open (g.C.Joins.kind c.args.self.now.core.kind) (told_in c.args.self.now.core.turns.items c.args.self.now.core.sealed.items c.note_back.new.joins.items c.args.self.now.core.heard.items) l))
     (ap (λ (x : Place _ _). set c.args.self.now.core.ends.places.items c.in-Some.place (record x { held = false; writes = false })) same ∙ sym y.now)
-    (left_of c.args.self.now.core.ends.places.items c.in-Some.place f.0 c.args.end f.1 f.2 (alone_of g.P.Pipes.known c.args.self.now.pipes c.args.self.now.core.ends.rows.items c.args.self.now.core.ends.places.items c.in-Some.place f.0 c.args.end (sound_of g.P.Pipes.known c.args.self.now.pipes c.args.self.now.core.ends.rows.items c.args.self.now.core.ends.places.items c.args.self.now.sound) f.1 f.2) (record f.0 { held = false; writes = false }) refl c.args.self.now.core.number.0 c.args.o.0 c.args.self.now.core.is_open (g.C.Joins.kind c.args.self.now.core.kind) (told_in c.args.self.now.core.turns.items c.args.self.now.core.sealed.items c.args.self.now.core.joins.items) (told_in c.args.self.now.core.turns.items c.args.self.now.core.sealed.items c.note_back.new.joins.items) mine))
+    (left_of c.args.self.now.core.ends.places.items c.in-Some.place f.0 c.args.end f.1 f.2 (alone_of g.P.Pipes.known c.args.self.now.pipes c.args.self.now.core.ends.rows.items c.args.self.now.core.ends.places.items c.in-Some.place f.0 c.args.end (sound_of g.P.Pipes.known c.args.self.now.pipes c.args.self.now.core.ends.rows.items c.args.self.now.core.ends.places.items c.args.self.now.sound) f.1 f.2) (record f.0 { held = false; writes = false }) refl c.args.self.now.core.number.0 c.args.o.0 c.args.self.now.core.is_open (g.C.Joins.kind c.args.self.now.core.kind) (told_in c.args.self.now.core.turns.items c.args.self.now.core.sealed.items c.args.self.now.core.joins.items c.args.self.now.core.heard.items) (told_in c.args.self.now.core.turns.items c.args.self.now.core.sealed.items c.note_back.new.joins.items c.args.self.now.core.heard.items) mine))
 
 pub returns-in-Some-clause-written : goal.returns-in-Some-clause-written
 returns-in-Some-clause-written g c =
@@ -82,10 +96,10 @@ returns-in-Some-clause-turns g c =
     let f = found (is_of c.args.end) c.args.self.now.core.ends.places.items c.in-Some.place (sym c.in-Some.is ∙ c.find.ensures ∙ ap (λ (l : List (Place _ _)). position (is_of c.args.end) l) c.deref.ensures.value) in
     let y = c.take_back.ensures.back in
     let same = one_some f.0 y.place (sym f.1 ∙ y.there) in
-    subst (λ (kind : Kind). BeginsNone (has c.args.self.now.core.number.0 c.args.self.now.core.is_open (g.C.Joins.kind c.args.self.now.core.kind) (told_in c.args.self.now.core.turns.items c.args.self.now.core.sealed.items c.args.self.now.core.joins.items) c.args.self.now.core.ends.places.items) (has c.args.self.now.core.number.0 c.args.self.now.core.is_open kind (told_in c.args.self.now.core.turns.items c.args.self.now.core.sealed.items c.note_back.new.joins.items) c.take_back.new.table.places.items)) (sym c.unjoin.ensures.kind)
-    (subst (λ (l : List (Place _ _)). BeginsNone (has c.args.self.now.core.number.0 c.args.self.now.core.is_open (g.C.Joins.kind c.args.self.now.core.kind) (told_in c.args.self.now.core.turns.items c.args.self.now.core.sealed.items c.args.self.now.core.joins.items) c.args.self.now.core.ends.places.items) (has c.args.self.now.core.number.0 c.args.self.now.core.is_open (g.C.Joins.kind c.args.self.now.core.kind) (told_in c.args.self.now.core.turns.items c.args.self.now.core.sealed.items c.note_back.new.joins.items) l))
+    subst (λ (kind : Kind). BeginsNone (has c.args.self.now.core.number.0 c.args.self.now.core.is_open (g.C.Joins.kind c.args.self.now.core.kind) (told_in c.args.self.now.core.turns.items c.args.self.now.core.sealed.items c.args.self.now.core.joins.items c.args.self.now.core.heard.items) c.args.self.now.core.ends.places.items) (has c.args.self.now.core.number.0 c.args.self.now.core.is_open kind (told_in c.args.self.now.core.turns.items c.args.self.now.core.sealed.items c.note_back.new.joins.items c.args.self.now.core.heard.items) c.take_back.new.table.places.items)) (sym c.unjoin.ensures.kind)
+    (subst (λ (l : List (Place _ _)). BeginsNone (has c.args.self.now.core.number.0 c.args.self.now.core.is_open (g.C.Joins.kind c.args.self.now.core.kind) (told_in c.args.self.now.core.turns.items c.args.self.now.core.sealed.items c.args.self.now.core.joins.items c.args.self.now.core.heard.items) c.args.self.now.core.ends.places.items) (has c.args.self.now.core.number.0 c.args.self.now.core.is_open (g.C.Joins.kind c.args.self.now.core.kind) (told_in c.args.self.now.core.turns.items c.args.self.now.core.sealed.items c.note_back.new.joins.items c.args.self.now.core.heard.items) l))
     (ap (λ (x : Place _ _). set c.args.self.now.core.ends.places.items c.in-Some.place (record x { held = false; writes = false })) same ∙ sym y.now)
-    (left_begins c.args.self.now.core.ends.places.items c.in-Some.place f.0 c.args.end f.1 f.2 (alone_of g.P.Pipes.known c.args.self.now.pipes c.args.self.now.core.ends.rows.items c.args.self.now.core.ends.places.items c.in-Some.place f.0 c.args.end (sound_of g.P.Pipes.known c.args.self.now.pipes c.args.self.now.core.ends.rows.items c.args.self.now.core.ends.places.items c.args.self.now.sound) f.1 f.2) (record f.0 { held = false; writes = false }) refl c.args.self.now.core.number.0 c.args.self.now.core.is_open (g.C.Joins.kind c.args.self.now.core.kind) (told_in c.args.self.now.core.turns.items c.args.self.now.core.sealed.items c.args.self.now.core.joins.items) (told_in c.args.self.now.core.turns.items c.args.self.now.core.sealed.items c.note_back.new.joins.items) refl refl))
+    (left_begins c.args.self.now.core.ends.places.items c.in-Some.place f.0 c.args.end f.1 f.2 (alone_of g.P.Pipes.known c.args.self.now.pipes c.args.self.now.core.ends.rows.items c.args.self.now.core.ends.places.items c.in-Some.place f.0 c.args.end (sound_of g.P.Pipes.known c.args.self.now.pipes c.args.self.now.core.ends.rows.items c.args.self.now.core.ends.places.items c.args.self.now.sound) f.1 f.2) (record f.0 { held = false; writes = false }) refl c.args.self.now.core.number.0 c.args.self.now.core.is_open (g.C.Joins.kind c.args.self.now.core.kind) (told_in c.args.self.now.core.turns.items c.args.self.now.core.sealed.items c.args.self.now.core.joins.items c.args.self.now.core.heard.items) (told_in c.args.self.now.core.turns.items c.args.self.now.core.sealed.items c.note_back.new.joins.items c.args.self.now.core.heard.items) refl refl))
 
 pub unreachable-requires : goal.unreachable-requires
 unreachable-requires g c =
@@ -93,4 +107,4 @@ unreachable-requires g c =
     ∙ not_found (is_of c.args.end) c.args.self.now.core.ends.places.items (sym c.in-None.is ∙ c.find.ensures ∙ ap (λ (l : List (Place _ _)). position (is_of c.args.end) l) c.deref.ensures.value))
 
 pub returns-in-Some-clause-joins : goal.returns-in-Some-clause-joins
-returns-in-Some-clause-joins g c = λ before last are. c.note_back.ensures ∙ ap (λ (js : List (Joining _)). without_last js) are ∙ last_off before last
+returns-in-Some-clause-joins g c = λ before last are. c.note_back.ensures.joins ∙ ap (λ (js : List (Joining _)). without_last js) are ∙ last_off before last

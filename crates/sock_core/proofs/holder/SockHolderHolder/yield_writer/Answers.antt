@@ -16,6 +16,17 @@ use Rattle.sock_core.specs.Peers.{ArePeers}
 use Rattle.sock_core.proofs.PeerLemmas.{kept_parted}
 use Rattle.held_ends.proofs.OthersLemmas.{leaves_on}
 use Rattle.sock_core.proofs.GoneLemmas.{never_gone}
+use Rattle.std.specs.Prelude.{Option}
+use Rattle.ctl_holder.specs.Holding.{read_in}
+use Rattle.held_ends.specs.Counting.{counts_at}
+use Rattle.held_ends.proofs.CountLemmas.{position_same}
+use Rattle.sock_core.proofs.HolderLemmas.{owned_read}
+use Rattle.std.proofs.Math.Logic.{∥∥₁_map}
+use Rattle.sock_core.specs.Standing.{standing_joins}
+use Rattle.sock_core.specs.Way.{way_in, KindWay}
+use Rattle.sock_core.specs.Peers.{AreFlagged, AreInUse}
+use Rattle.sock_core.proofs.FlagLemmas.{flagged_set, in_use_set}
+use Rattle.sock_core.proofs.WayLemmas.{noted_parted}
 use Rattle.sock_core.proofs.holder.SockHolderHolder.yield_writer.Goals as goal
 
 pub yield_writer-requires-clause-sound : goal.yield_writer-requires-clause-sound
@@ -43,8 +54,16 @@ invariant_of-self g c =
           (kept_parted c.args.self.now.core.ends.places.items (g.C.Joins.peers c.args.self.now.core.kind) (c.args.self.now.peers is) c.in-Some.place s.place s.there c.index.result.now.peer (record s.place { writes = false; peer = false; input = Some s.input }) (g.C.Joins.peers c.part.new.kind) peer c.part.ensures.peers);
       room = subst (λ (n : ℕ). KeepsRoom c.args.self.now.core.is_open n c.args.self.now.core.room) (sym same) c.args.self.now.room;
       gone = λ is. never_gone c.args.end c.args.self.now.core.ends.places.items c.in-Some.place f.0 (c.args.self.now.gone is) f.1 f.2;
-      others = λ s t b. leaves_on g.P.Pipes.known s c.args.self.now.pipes c.yield_writer.new.pipes t c.args.self.now.core.ends c.yield_writer.new.table (c.args.self.now.others s t b) c.yield_writer.ensures.others;
+      flagged = subst (λ (l : List (Place _ _)). AreFlagged l (g.C.Joins.peers c.part.new.kind)) (sym s.now)
+          (flagged_set c.args.self.now.core.ends.places.items (g.C.Joins.peers c.args.self.now.core.kind) (g.C.Joins.peers c.part.new.kind) c.in-Some.place s.place (record s.place { writes = false; peer = false; input = Some s.input }) c.args.self.now.flagged s.there c.part.ensures.peers.stay (λ held flag. never (sym flag)));
+      in_use = subst (λ (l : List (Place _ _)). AreInUse l) (sym s.now) (in_use_set c.args.self.now.core.ends.places.items c.in-Some.place s.place (record s.place { writes = false; peer = false; input = Some s.input }) c.args.self.now.in_use s.there (λ held flag. never (sym flag)));
+      way = λ p t b. ∥∥₁_map (c.args.self.now.way p t b) (λ k is order.
+          subst (λ (l : List (Place _ _)). KindWay g.C.Joins.pattern g.C.Joins.names g.C.Joins.sound g.C.Joins.peers (way_in c.note_part.new.way.items) l (standing_joins t.joins.items) (standing_joins c.args.self.now.core.joins.items) t.turns.items c.args.self.now.core.turns.items t.kind c.part.new.kind) (sym s.now)
+          (noted_parted g.C.Joins.pattern g.C.Joins.names g.C.Joins.sound g.C.Joins.peers (way_in c.args.self.now.core.way.items) (way_in c.note_part.new.way.items) c.index.result.now.peer c.args.self.now.core.ends.places.items (standing_joins t.joins.items) (standing_joins c.args.self.now.core.joins.items) t.turns.items c.args.self.now.core.turns.items t.kind c.args.self.now.core.kind c.part.new.kind c.in-Some.place s.place (record s.place { writes = false; peer = false; input = Some s.input })
+          c.note_part.ensures s.there refl refl peer c.part.ensures.goes.none (k is) order));
+      others = λ s t b. leaves_on g.P.Pipes.known s c.args.self.now.pipes c.yield_writer.new.pipes t.ends c.args.self.now.core.ends c.yield_writer.new.table (c.args.self.now.others s t b) c.yield_writer.ensures.others;
       number = c.args.self.now.number;
+      stopped = c.args.self.now.stopped;
     }
 
 pub unreachable-requires : goal.unreachable-requires
@@ -67,14 +86,28 @@ returns-in-Some-clause-yielded g c =
     let f = found (is_of c.args.end) c.args.self.now.core.ends.places.items c.in-Some.place (sym c.in-Some.is ∙ c.find.ensures ∙ ap (λ (l : List (Place _ _)). position (is_of c.args.end) l) c.deref.ensures.value) in
     let y = c.yield_writer.ensures.yielded in
     let same = one_some f.0 y.place (sym f.1 ∙ y.there) in
-    subst (λ (kind : Kind). Yielded c.args.o.0 c.args.end (has c.args.self.now.core.number.0 c.args.self.now.core.is_open (g.C.Joins.kind c.args.self.now.core.kind) (told_in c.args.self.now.core.turns.items c.args.self.now.core.sealed.items c.args.self.now.core.joins.items) c.args.self.now.core.ends.places.items) (has c.args.self.now.core.number.0 c.args.self.now.core.is_open kind (told_in c.args.self.now.core.turns.items c.args.self.now.core.sealed.items c.args.self.now.core.joins.items) c.yield_writer.new.table.places.items)) (sym c.part.ensures.kind)
-    (subst (λ (l : List (Place _ _)). Yielded c.args.o.0 c.args.end (has c.args.self.now.core.number.0 c.args.self.now.core.is_open (g.C.Joins.kind c.args.self.now.core.kind) (told_in c.args.self.now.core.turns.items c.args.self.now.core.sealed.items c.args.self.now.core.joins.items) c.args.self.now.core.ends.places.items) (has c.args.self.now.core.number.0 c.args.self.now.core.is_open (g.C.Joins.kind c.args.self.now.core.kind) (told_in c.args.self.now.core.turns.items c.args.self.now.core.sealed.items c.args.self.now.core.joins.items) l))
+    subst (λ (kind : Kind). Yielded c.args.o.0 c.args.end (has c.args.self.now.core.number.0 c.args.self.now.core.is_open (g.C.Joins.kind c.args.self.now.core.kind) (told_in c.args.self.now.core.turns.items c.args.self.now.core.sealed.items c.args.self.now.core.joins.items c.args.self.now.core.heard.items) c.args.self.now.core.ends.places.items) (has c.args.self.now.core.number.0 c.args.self.now.core.is_open kind (told_in c.args.self.now.core.turns.items c.args.self.now.core.sealed.items c.args.self.now.core.joins.items c.args.self.now.core.heard.items) c.yield_writer.new.table.places.items)) (sym c.part.ensures.kind)
+    (subst (λ (l : List (Place _ _)). Yielded c.args.o.0 c.args.end (has c.args.self.now.core.number.0 c.args.self.now.core.is_open (g.C.Joins.kind c.args.self.now.core.kind) (told_in c.args.self.now.core.turns.items c.args.self.now.core.sealed.items c.args.self.now.core.joins.items c.args.self.now.core.heard.items) c.args.self.now.core.ends.places.items) (has c.args.self.now.core.number.0 c.args.self.now.core.is_open (g.C.Joins.kind c.args.self.now.core.kind) (told_in c.args.self.now.core.turns.items c.args.self.now.core.sealed.items c.args.self.now.core.joins.items c.args.self.now.core.heard.items) l))
     (ap (λ (x : Place _ _). set c.args.self.now.core.ends.places.items c.in-Some.place (record x { writes = false; peer = false; input = Some y.input })) same ∙ sym y.now)
-    (yielded_of c.args.self.now.core.ends.places.items c.in-Some.place f.0 c.args.end f.1 f.2 (alone_of g.P.Pipes.known c.args.self.now.pipes c.args.self.now.core.ends.rows.items c.args.self.now.core.ends.places.items c.in-Some.place f.0 c.args.end (sound_of g.P.Pipes.known c.args.self.now.pipes c.args.self.now.core.ends.rows.items c.args.self.now.core.ends.places.items c.args.self.now.sound) f.1 f.2) c.args.self.now.core.number.0 c.args.o.0 c.args.self.now.core.is_open (g.C.Joins.kind c.args.self.now.core.kind) (told_in c.args.self.now.core.turns.items c.args.self.now.core.sealed.items c.args.self.now.core.joins.items) (Some y.input)))
+    (yielded_of c.args.self.now.core.ends.places.items c.in-Some.place f.0 c.args.end f.1 f.2 (alone_of g.P.Pipes.known c.args.self.now.pipes c.args.self.now.core.ends.rows.items c.args.self.now.core.ends.places.items c.in-Some.place f.0 c.args.end (sound_of g.P.Pipes.known c.args.self.now.pipes c.args.self.now.core.ends.rows.items c.args.self.now.core.ends.places.items c.args.self.now.sound) f.1 f.2) c.args.self.now.core.number.0 c.args.o.0 c.args.self.now.core.is_open (g.C.Joins.kind c.args.self.now.core.kind) (told_in c.args.self.now.core.turns.items c.args.self.now.core.sealed.items c.args.self.now.core.joins.items c.args.self.now.core.heard.items) (Some y.input)))
 
 pub returns-in-Some-clause-turns : goal.returns-in-Some-clause-turns
 returns-in-Some-clause-turns g c =
     let y = c.yield_writer.ensures.yielded in
-    subst (λ (kind : Kind). KeepsTurns (has c.args.self.now.core.number.0 c.args.self.now.core.is_open (g.C.Joins.kind c.args.self.now.core.kind) (told_in c.args.self.now.core.turns.items c.args.self.now.core.sealed.items c.args.self.now.core.joins.items) c.args.self.now.core.ends.places.items) (has c.args.self.now.core.number.0 c.args.self.now.core.is_open kind (told_in c.args.self.now.core.turns.items c.args.self.now.core.sealed.items c.args.self.now.core.joins.items) c.yield_writer.new.table.places.items)) (sym c.part.ensures.kind)
-    (subst (λ (l : List (Place _ _)). KeepsTurns (has c.args.self.now.core.number.0 c.args.self.now.core.is_open (g.C.Joins.kind c.args.self.now.core.kind) (told_in c.args.self.now.core.turns.items c.args.self.now.core.sealed.items c.args.self.now.core.joins.items) c.args.self.now.core.ends.places.items) (has c.args.self.now.core.number.0 c.args.self.now.core.is_open (g.C.Joins.kind c.args.self.now.core.kind) (told_in c.args.self.now.core.turns.items c.args.self.now.core.sealed.items c.args.self.now.core.joins.items) l)) (sym y.now)
-    (turns_kept c.args.self.now.core.number.0 c.args.self.now.core.is_open (g.C.Joins.kind c.args.self.now.core.kind) (told_in c.args.self.now.core.turns.items c.args.self.now.core.sealed.items c.args.self.now.core.joins.items) c.args.self.now.core.ends.places.items c.in-Some.place y.place (record y.place { writes = false; peer = false; input = Some y.input }) y.there refl refl refl))
+    subst (λ (kind : Kind). KeepsTurns (has c.args.self.now.core.number.0 c.args.self.now.core.is_open (g.C.Joins.kind c.args.self.now.core.kind) (told_in c.args.self.now.core.turns.items c.args.self.now.core.sealed.items c.args.self.now.core.joins.items c.args.self.now.core.heard.items) c.args.self.now.core.ends.places.items) (has c.args.self.now.core.number.0 c.args.self.now.core.is_open kind (told_in c.args.self.now.core.turns.items c.args.self.now.core.sealed.items c.args.self.now.core.joins.items c.args.self.now.core.heard.items) c.yield_writer.new.table.places.items)) (sym c.part.ensures.kind)
+    (subst (λ (l : List (Place _ _)). KeepsTurns (has c.args.self.now.core.number.0 c.args.self.now.core.is_open (g.C.Joins.kind c.args.self.now.core.kind) (told_in c.args.self.now.core.turns.items c.args.self.now.core.sealed.items c.args.self.now.core.joins.items c.args.self.now.core.heard.items) c.args.self.now.core.ends.places.items) (has c.args.self.now.core.number.0 c.args.self.now.core.is_open (g.C.Joins.kind c.args.self.now.core.kind) (told_in c.args.self.now.core.turns.items c.args.self.now.core.sealed.items c.args.self.now.core.joins.items c.args.self.now.core.heard.items) l)) (sym y.now)
+    (turns_kept c.args.self.now.core.number.0 c.args.self.now.core.is_open (g.C.Joins.kind c.args.self.now.core.kind) (told_in c.args.self.now.core.turns.items c.args.self.now.core.sealed.items c.args.self.now.core.joins.items c.args.self.now.core.heard.items) c.args.self.now.core.ends.places.items c.in-Some.place y.place (record y.place { writes = false; peer = false; input = Some y.input }) y.there refl refl refl))
+
+pub returns-in-Some-clause-counts : goal.returns-in-Some-clause-counts
+returns-in-Some-clause-counts g c = λ writer reads.
+    let f = found (is_of c.args.end) c.args.self.now.core.ends.places.items c.in-Some.place (sym c.in-Some.is ∙ c.find.ensures ∙ ap (λ (l : List (Place _ _)). position (is_of c.args.end) l) c.deref.ensures.value) in
+    let y = c.yield_writer.ensures.yielded in
+    let at = sym (sym c.in-Some.is ∙ c.find.ensures ∙ ap (λ (l : List (Place _ _)). position (is_of c.args.end) l) c.deref.ensures.value) in
+    let mine = owned_read (c.args.o.0 == c.args.self.now.core.number.0) c.args.end c.args.self.now.core.ends.places.items (g.P.Pipes.known.out_name writer) reads in
+    let name = one_some f.0.read (g.P.Pipes.known.out_name writer)
+    (sym (names_at c.args.self.now.core.ends.places.items c.in-Some.place f.0 c.args.end f.1 f.2 (alone_of g.P.Pipes.known c.args.self.now.pipes c.args.self.now.core.ends.rows.items c.args.self.now.core.ends.places.items c.in-Some.place f.0 c.args.end (sound_of g.P.Pipes.known c.args.self.now.pipes c.args.self.now.core.ends.rows.items c.args.self.now.core.ends.places.items c.args.self.now.sound) f.1 f.2)).1
+    ∙ sym (ap (λ (b : _). read_in (if b then held_in c.args.self.now.core.ends.places.items else []) c.args.end) mine) ∙ reads) in
+    ap (λ (p : Option ℕ). counts_at g.P.Pipes.known c.yield_writer.new.pipes c.yield_writer.new.table p writer)
+    (ap (position (is_of c.args.end)) y.now ∙ position_same (is_of c.args.end) c.args.self.now.core.ends.places.items c.in-Some.place y.place (record y.place { writes = false; peer = false; input = Some y.input }) y.there refl ∙ at)
+    ∙ c.yield_writer.ensures.counts writer f.0 f.1 (sym name)
+    ∙ sym (ap (λ (p : Option ℕ). counts_at g.P.Pipes.known c.args.self.now.pipes c.args.self.now.core.ends p writer) at)

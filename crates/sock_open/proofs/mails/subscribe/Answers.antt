@@ -1,0 +1,24 @@
+use Rattle.std.proofs.Common.{Option, Some, subst}
+use Rattle.spec_pattern.specs.PatternCalls.{Subscribe}
+use Rattle.any_sock.specs.declared.any_sock.AnySock.{AnySock}
+use Rattle.sock_core.specs.declared.sock.SockCore.{SockCore}
+use Rattle.sock_open.specs.Standing.{IsStanding, IsWhole}
+use Rattle.sock_open.specs.Doing.{MakesSome, ChangesSo}
+use Rattle.sock_open.proofs.ViewLemmas.{changed_more, stands_lent, came, changes_so, untold_so, unchanged_so}
+use Rattle.sock_open.proofs.mails.subscribe.Goals as goal
+
+pub returns-clause-step : goal.returns-clause-step
+returns-clause-step g c =
+    let K = g.P.Pipes.known in
+    let s = c.lend-holder.result in
+    let t = c.subscribe-done.new.holder in
+    let stand : IsStanding K s.pipes s.core = stands_lent K c.args.pipes.now s.pipes c.args.socket.now s.core c.lend-holder.ensures.pipes c.lend-holder.ensures.core c.requires.stands in
+    let whole : IsWhole (Some s.core) = subst (λ (x : Option (SockCore AnySock _ _ _ _)). IsWhole x) c.lend-holder.ensures.core c.requires.whole in
+    changed_more c.subscribe-done.result
+    (λ h. came K (MakesSome K) c.args.pipes.now s.pipes c.give_back.new.pipes t.pipes c.args.socket.now c.give_back.new.socket s.core t.core c.lend-holder.ensures.pipes c.lend-holder.ensures.core c.give_back.ensures.pipes c.give_back.ensures.core
+    (unchanged_so K 0 s.pipes t.pipes s.core t.core stand c.subscribe-done.ensures.keeps h))
+    (λ h. came K (MakesSome K) c.args.pipes.now s.pipes c.give_back.new.pipes t.pipes c.args.socket.now c.give_back.new.socket s.core t.core c.lend-holder.ensures.pipes c.lend-holder.ensures.core c.give_back.ensures.pipes c.give_back.ensures.core
+    (untold_so K 0 s.pipes t.pipes s.core t.core stand c.subscribe-done.ensures.keeps Subscribe c.args.topic.now h))
+    (λ a h slot. came K (ChangesSo K slot Subscribe c.args.topic.now a) c.args.pipes.now s.pipes c.give_back.new.pipes t.pipes c.args.socket.now c.give_back.new.socket s.core t.core c.lend-holder.ensures.pipes c.lend-holder.ensures.core c.give_back.ensures.pipes c.give_back.ensures.core
+    (changes_so K slot s.pipes t.pipes s.core t.core stand c.subscribe-done.ensures.keeps Subscribe c.args.topic.now a whole c.subscribe-done.ensures.left h))
+    c.subscribe-done.ensures.step

@@ -1,0 +1,33 @@
+-- What holds of an open socket and its pipes between its calls (own choice).
+use Rattle.std.specs.Prelude.{◌≡◌, ℕ, true, false, Option, Some, None}
+use Rattle.spec_control.specs.Place.{At}
+use Rattle.msg_pipe.specs.Known.{Known}
+use Rattle.any_sock.specs.declared.any_sock.AnySock.{AnySock}
+use Rattle.any_sock.specs.Over.{peer_places, left_of, nothing_left}
+use Rattle.held_ends.specs.declared.table.Place.{Place}
+use Rattle.held_ends.specs.Places.{place_at}
+use Rattle.held_ends.specs.Sound.{is_active}
+use Rattle.sock_core.specs.declared.sock.SockCore.{SockCore}
+use Rattle.sock_core.specs.Standing.{standing_joins}
+use Rattle.sock_calls.specs.Calls.{FitsCore}
+use Rattle.spec_run.specs.OpenSocket.{place_in}
+use Rattle.sock_open.specs.View.{ends_told}
+
+module _ {W N O I S : Type 0} (K : Known S O I N) where
+  -- it fits the pipes and was not closed; each end that it has joined it, and is told where it is; one that is Active was not sealed
+  pub record IsStanding (pipes : S) (s : SockCore AnySock W N O I) : Type 0 where
+    pub fits : FitsCore K peer_places pipes s
+    pub is_open : s.is_open ≡ true
+    pub told : (k : ℕ) (p : Place N I) → place_at s.ends.places.items k ≡ Some p → p.held ≡ true → place_in (ends_told (standing_joins s.joins.items) s.ends.places.items) p.end ≡ At p.state
+    pub unsealed : (k : ℕ) (p : Place N I) → place_at s.ends.places.items k ≡ Some p → p.held ≡ true → is_active p.state ≡ true → p.sealed ≡ false
+
+  -- a socket is there, and stands
+  abbrev pub Stands : S → Option (SockCore AnySock W N O I) → Type 0
+  Stands pipes None = ⊥
+  Stands pipes (Some s) = IsStanding pipes s
+
+module _ {W N O I : Type 0} where
+  -- want of memory has left nothing of it to do
+  abbrev pub IsWhole : Option (SockCore AnySock W N O I) → Type 0
+  IsWhole None = ⊥
+  IsWhole (Some s) = left_of s.kind ≡ nothing_left
