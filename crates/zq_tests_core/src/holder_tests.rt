@@ -57,6 +57,7 @@ fn an_end_goes_through_its_life(rt: HostRuntime) -> Result<(), Fail> {
 
 // Whether a socket gives its one end once it is closed.
 fn gives_one<H: Holder<PlainPipes>>(socket: &mut H) -> bool
+    requires gives { H.gives ≡ true }
     requires holds { (H.holding socket.old).holds 1 ≡ true }
 {
     socket.stop(ObjId(1));

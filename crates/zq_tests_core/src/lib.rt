@@ -1,4 +1,4 @@
-//! Tests of a socket with its ends.
+//! Tests of a socket with its ends, and of the ends of closed sockets.
 #![tactic(auto)]
 
 #[cfg(test)]
@@ -7,5 +7,7 @@ mod holder_tests;
 mod lanes;
 #[cfg(test)]
 mod mail_tests;
+#[cfg(test)]
+mod reaper_tests;
 #[cfg(test)]
 mod sockets;

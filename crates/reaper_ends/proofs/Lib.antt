@@ -1,0 +1,11 @@
+pub mod ListLemmas
+pub mod FormLemmas
+pub mod ChangeLemmas
+pub mod HasLemmas
+pub mod SoundLemmas
+pub mod AddLemmas
+pub mod TakeLemmas
+pub mod CountLemmas
+pub mod PlaceLemmas
+pub mod IndexLemmas
+pub mod LawLemmas

@@ -1,0 +1,13 @@
+use Rattle.std.proofs.Common.{sym, subst}
+use Rattle.reaper_ends.specs.Sound.{AreSound}
+use Rattle.reaper_ends.proofs.SoundLemmas.{leaves_on, leaves_none}
+use Rattle.reaper_ends.proofs.closed.Closed.keep.Goals as goal
+
+pub invariant_of-self : goal.invariant_of-self
+invariant_of-self g c =
+    record {
+      indexed = c.make_room.ensures.indexed;
+      sound = subst (λ l. AreSound g.P.Pipes.known c.args.self.now.pipes l) (sym c.make_room.ensures.kept.sockets) c.args.self.now.sound;
+      others = λ s t b. leaves_on g.P.Pipes.known s c.args.self.now.pipes c.args.self.now.pipes t c.args.self.now.closed c.make_room.new.closed (c.args.self.now.others s t b)
+          (leaves_none g.P.Pipes.known c.args.self.now.pipes c.args.self.now.closed c.make_room.new.closed c.make_room.ensures.kept.sockets c.make_room.ensures.kept.came c.make_room.ensures.kept.settled);
+    }

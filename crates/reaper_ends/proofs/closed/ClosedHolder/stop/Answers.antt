@@ -1,0 +1,12 @@
+use Rattle.std.proofs.Common.{refl}
+use Rattle.reaper_ends.proofs.SoundLemmas.{leaves_on, leaves_none}
+use Rattle.reaper_ends.proofs.closed.ClosedHolder.stop.Goals as goal
+
+pub invariant_of-self : goal.invariant_of-self
+invariant_of-self g c =
+    record {
+      indexed = c.args.self.now.indexed;
+      sound = c.args.self.now.sound;
+      others = λ s t b. leaves_on g.P.Pipes.known s c.args.self.now.pipes c.args.self.now.pipes t c.args.self.now.closed _ (c.args.self.now.others s t b)
+          (leaves_none g.P.Pipes.known c.args.self.now.pipes c.args.self.now.closed _ refl refl refl);
+    }

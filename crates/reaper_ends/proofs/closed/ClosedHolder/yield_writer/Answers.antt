@@ -1,0 +1,61 @@
+use Rattle.std.proofs.Common.{◌∙◌, ◌∷◌, [], Some, refl, sym, ap, set, map, is_some}
+use Rattle.ctl_holder.specs.declared.given.Given.{Given}
+use Rattle.held_ends.specs.Counting.{counts_with}
+use Rattle.held_ends.proofs.SoundLemmas.{one_some}
+use Rattle.reaper_ends.specs.Has.{ends_of}
+use Rattle.reaper_ends.proofs.ListLemmas.{never}
+use Rattle.reaper_ends.proofs.FormLemmas.{are_sound, sound_of}
+use Rattle.reaper_ends.proofs.ChangeLemmas.{has_listed}
+use Rattle.reaper_ends.proofs.PlaceLemmas.{at_stays, at_changed, alone_at, with_end}
+use Rattle.reaper_ends.proofs.SoundLemmas.{its_halves, changed_sound, leaves_on, leaves_changed}
+use Rattle.reaper_ends.proofs.HasLemmas.{writes_is, written_is, read_is, yielded, keeps_turns, input_is, input_now}
+use Rattle.reaper_ends.proofs.closed.ClosedHolder.yield_writer.Goals as goal
+
+pub yield_out-requires : goal.yield_out-requires
+yield_out-requires g c =
+    record { given = (its_halves g.P.Pipes.known c.args.o.0 c.args.end c.args.self.now.closed.sockets.items c.args.self.now.closed.sockets.items c.index_mut-in-Some.result.now c.args.self.now.pipes c.args.self.now.pipes (sound_of g.P.Pipes.known c.args.self.now.pipes c.args.self.now.closed.sockets.items c.args.self.now.sound) (c.index_mut-in-Some.result.now ∷ []) (at_stays c.args.o.0 c.args.end c.args.self.now.closed.sockets.items c.in-Some.socket c.in-Some.place c.in-Some.ensures.found c.index_mut.result.now c.index_mut.ensures.value c.index_mut-in-Some.result.now c.index_mut-in-Some.ensures.value)) }
+
+pub invariant_of-self : goal.invariant_of-self
+invariant_of-self g c =
+    let r = at_changed c.args.o.0 c.args.end c.args.self.now.closed.sockets.items c.in-Some.socket c.in-Some.place c.in-Some.ensures.found c.index_mut.result.now c.index_mut.ensures.value c.index_mut-in-Some.result.now c.index_mut-in-Some.ensures.value c.yield_out.new.end in
+    let one = c.yield_out.ensures.one in
+    record {
+      indexed = λ n. c.args.self.now.indexed n ∙ sym (r.places n);
+      sound = are_sound g.P.Pipes.known c.yield_out.new.pipes (set c.args.self.now.closed.sockets.items c.in-Some.socket (with_end c.index_mut.result.now c.in-Some.place c.yield_out.new.end))
+          (changed_sound g.P.Pipes.known c.args.o.0 c.args.end c.args.self.now.closed.sockets.items (set c.args.self.now.closed.sockets.items c.in-Some.socket (with_end c.index_mut.result.now c.in-Some.place c.yield_out.new.end)) c.index_mut-in-Some.result.now c.args.self.now.pipes c.yield_out.new.pipes (sound_of g.P.Pipes.known c.args.self.now.pipes c.args.self.now.closed.sockets.items c.args.self.now.sound) c.yield_out.new.end r one (alone_at c.args.o.0 c.args.end c.args.self.now.closed.sockets.items c.in-Some.socket c.in-Some.place c.in-Some.ensures.found c.index_mut.result.now c.index_mut.ensures.value (with_end c.index_mut.result.now c.in-Some.place c.yield_out.new.end) refl (sound_of g.P.Pipes.known c.args.self.now.pipes c.args.self.now.closed.sockets.items c.args.self.now.sound).alone));
+      others = λ s t b. leaves_on g.P.Pipes.known s c.args.self.now.pipes c.yield_out.new.pipes t c.args.self.now.closed _ (c.args.self.now.others s t b) (leaves_changed g.P.Pipes.known c.args.o.0 c.args.end c.args.self.now.closed _ c.index_mut-in-Some.result.now c.args.self.now.pipes c.yield_out.new.pipes refl c.yield_out.new.end r one refl);
+    }
+
+pub returns-in-Some-yield_out-clause-name : goal.returns-in-Some-yield_out-clause-name
+returns-in-Some-yield_out-clause-name g c =
+    written_is g.P.Pipes.known.out_name g.P.Pipes.known.in_name g.P.Pipes.known.exact c.args.o.0 c.args.end c.args.self.now.closed.sockets.items c.args.self.now.closed.sockets.items c.index_mut-in-Some.result.now (sound_of g.P.Pipes.known c.args.self.now.pipes c.args.self.now.closed.sockets.items c.args.self.now.sound).apart (c.index_mut-in-Some.result.now ∷ []) (at_stays c.args.o.0 c.args.end c.args.self.now.closed.sockets.items c.in-Some.socket c.in-Some.place c.in-Some.ensures.found c.index_mut.result.now c.index_mut.ensures.value c.index_mut-in-Some.result.now c.index_mut-in-Some.ensures.value) ∙ ap (λ n. Some n) (sym (c.yield_out.ensures.name c.in-Some-yield_out.out c.in-Some-yield_out.is))
+
+pub returns-in-Some-yield_out-clause-yielded : goal.returns-in-Some-yield_out-clause-yielded
+returns-in-Some-yield_out-clause-yielded g c =
+    yielded g.P.Pipes.known.out_name g.P.Pipes.known.in_name g.P.Pipes.known.exact c.args.o.0 c.args.end c.args.self.now.closed.sockets.items (set c.args.self.now.closed.sockets.items c.in-Some.socket (with_end c.index_mut.result.now c.in-Some.place c.yield_out.new.end)) c.index_mut-in-Some.result.now (sound_of g.P.Pipes.known c.args.self.now.pipes c.args.self.now.closed.sockets.items c.args.self.now.sound).apart c.yield_out.new.end (at_changed c.args.o.0 c.args.end c.args.self.now.closed.sockets.items c.in-Some.socket c.in-Some.place c.in-Some.ensures.found c.index_mut.result.now c.index_mut.ensures.value c.index_mut-in-Some.result.now c.index_mut-in-Some.ensures.value c.yield_out.new.end) c.yield_out.ensures.one.held c.args.self.now.closed.turns.items c.args.self.now.closed.turns.items (map (λ x. x.0) c.args.self.now.closed.sealed.items) (map (λ x. x.0) c.args.self.now.closed.sealed.items) (map (λ x. x.0) c.args.self.now.closed.heard.items) (λ m. ap (λ (y : Given _ _ _). y.met) c.yield_out.ensures.yielded ∙ m) (ap (λ (y : Given _ _ _). is_some y.out) c.yield_out.ensures.yielded)
+
+pub returns-in-Some-yield_out-clause-turns : goal.returns-in-Some-yield_out-clause-turns
+returns-in-Some-yield_out-clause-turns g c =
+    keeps_turns g.P.Pipes.known.out_name g.P.Pipes.known.in_name g.P.Pipes.known.exact c.args.o.0 c.args.end c.args.self.now.closed.sockets.items (set c.args.self.now.closed.sockets.items c.in-Some.socket (with_end c.index_mut.result.now c.in-Some.place c.yield_out.new.end)) c.index_mut-in-Some.result.now (sound_of g.P.Pipes.known c.args.self.now.pipes c.args.self.now.closed.sockets.items c.args.self.now.sound).apart c.yield_out.new.end (at_changed c.args.o.0 c.args.end c.args.self.now.closed.sockets.items c.in-Some.socket c.in-Some.place c.in-Some.ensures.found c.index_mut.result.now c.index_mut.ensures.value c.index_mut-in-Some.result.now c.index_mut-in-Some.ensures.value c.yield_out.new.end) c.yield_out.ensures.one.held c.args.self.now.closed.turns.items (map (λ x. x.0) c.args.self.now.closed.sealed.items) (map (λ x. x.0) c.args.self.now.closed.heard.items) (ap (λ (y : Given _ _ _). y.state) c.yield_out.ensures.yielded)
+
+pub unreachable-requires : goal.unreachable-requires
+unreachable-requires g c =
+    never (sym c.requires.writer ∙ writes_is g.P.Pipes.known.out_name g.P.Pipes.known.in_name g.P.Pipes.known.exact c.args.o.0 c.args.end c.args.self.now.closed.sockets.items c.args.self.now.closed.sockets.items c.index_mut-in-Some.result.now (sound_of g.P.Pipes.known c.args.self.now.pipes c.args.self.now.closed.sockets.items c.args.self.now.sound).apart (c.index_mut-in-Some.result.now ∷ []) (at_stays c.args.o.0 c.args.end c.args.self.now.closed.sockets.items c.in-Some.socket c.in-Some.place c.in-Some.ensures.found c.index_mut.result.now c.index_mut.ensures.value c.index_mut-in-Some.result.now c.index_mut-in-Some.ensures.value) ∙ sym c.yield_out.ensures.there ∙ ap is_some c.in-None-yield_out.is)
+
+pub unreachable-requires-in-None : goal.unreachable-requires-in-None
+unreachable-requires-in-None g c =
+    never (sym c.requires.here ∙ has_listed g.P.Pipes.known.out_name g.P.Pipes.known.in_name g.P.Pipes.known.exact c.args.end (ends_of c.args.self.now.closed.sockets.items c.args.o.0) ∙ c.in-None.ensures.none)
+
+pub returns-in-Some-yield_out-clause-counts : goal.returns-in-Some-yield_out-clause-counts
+returns-in-Some-yield_out-clause-counts g c = λ writer reads.
+    let apart = (sound_of g.P.Pipes.known c.args.self.now.pipes c.args.self.now.closed.sockets.items c.args.self.now.sound).apart in
+    let r = at_stays c.args.o.0 c.args.end c.args.self.now.closed.sockets.items c.in-Some.socket c.in-Some.place c.in-Some.ensures.found c.index_mut.result.now c.index_mut.ensures.value c.index_mut-in-Some.result.now c.index_mut-in-Some.ensures.value in
+    ap (counts_with g.P.Pipes.known c.yield_out.new.pipes writer)
+    (input_now g.P.Pipes.known.out_name g.P.Pipes.known.in_name g.P.Pipes.known.exact c.args.o.0 c.args.end c.args.self.now.closed.sockets.items (set c.args.self.now.closed.sockets.items c.in-Some.socket (with_end c.index_mut.result.now c.in-Some.place c.yield_out.new.end)) c.index_mut-in-Some.result.now apart c.yield_out.new.end
+    (at_changed c.args.o.0 c.args.end c.args.self.now.closed.sockets.items c.in-Some.socket c.in-Some.place c.in-Some.ensures.found c.index_mut.result.now c.index_mut.ensures.value c.index_mut-in-Some.result.now c.index_mut-in-Some.ensures.value c.yield_out.new.end) c.yield_out.ensures.one.held
+    ∙ ap (λ (y : Given _ _ _). Some y.input) c.yield_out.ensures.yielded)
+    ∙ c.yield_out.ensures.counts writer
+    (sym (one_some (g.P.Pipes.known.in_name c.index_mut-in-Some.result.now.input) (g.P.Pipes.known.out_name writer)
+    (sym (read_is g.P.Pipes.known.out_name g.P.Pipes.known.in_name g.P.Pipes.known.exact c.args.o.0 c.args.end c.args.self.now.closed.sockets.items c.args.self.now.closed.sockets.items c.index_mut-in-Some.result.now apart (c.index_mut-in-Some.result.now ∷ []) r) ∙ reads)))
+    ∙ sym (ap (counts_with g.P.Pipes.known c.args.self.now.pipes writer)
+    (input_is g.P.Pipes.known.out_name g.P.Pipes.known.in_name g.P.Pipes.known.exact c.args.o.0 c.args.end c.args.self.now.closed.sockets.items c.args.self.now.closed.sockets.items c.index_mut-in-Some.result.now apart (c.index_mut-in-Some.result.now ∷ []) r))

@@ -1,0 +1,13 @@
+//! The ends of closed sockets, as the reaper has them, over any pipes.
+//!
+//! They come by the sockets' closing, with their halves, and are kept to their end.
+#![tactic(auto)]
+
+mod closed;
+mod ending;
+mod laws;
+mod sockets;
+
+pub use closed::Closed;
+pub use laws::{closed_ends_stay, given_ends_stay, halves_join_still, sockets_stay_sound};
+pub use sockets::{ClosedSocket, ClosedSockets};
