@@ -91,25 +91,33 @@ impl<'r, R: Net> NetHost<'r, R> {
         let Some(listener) = self.listeners.get(&key) else {
             return Err(io::Error::from(ErrorKind::NotFound));
         };
-        if !listener.ready.take_read() {
-            self.watch.look_if_due()?;
-            if !listener.ready.take_read() {
-                return Ok(None);
-            }
+        if !may_read(&mut self.watch, &listener.ready)? {
+            return Ok(None);
         }
-        let got = listener.socket.accept();
-        if !is_drained(&got) {
-            listener.ready.read_goes_on();
-        }
+        let got = accepted(listener);
+        self.link_of(got)
+    }
+
+    // The link that an accept gave, unless none waits any more.
+    fn link_of(&mut self, got: io::Result<(TcpStream, SocketAddr)>) -> io::Result<Option<NetLink>>
+        ensures counts { self.new ≡ self.old }
+    {
         match got {
-            Ok((mut stream, _)) => {
-                let ready = self.watch.add(&mut stream, both_ways())?;
-                let link = self.link(stream, ready)?;
+            Ok((stream, _)) => {
+                let link = self.watched_link(stream)?;
                 Ok(Some(link))
             }
             Err(error) if meaning(error.kind()) == Trouble::Failed => Err(error),
             Err(_) => Ok(None),
         }
+    }
+
+    // A link over a stream that is connected, watched from now on.
+    fn watched_link(&mut self, mut stream: TcpStream) -> io::Result<NetLink>
+        ensures counts { self.new ≡ self.old }
+    {
+        let ready = self.watch.add(&mut stream, both_ways())?;
+        self.link(stream, ready)
     }
 
     // The link of a dial, which is begun where it isn't there, unless it isn't known to be connected.
@@ -119,24 +127,35 @@ impl<'r, R: Net> NetHost<'r, R> {
         if !self.dials.contains_key(&key) {
             self.begin_dialling(key, to)?;
         }
+        if !self.is_done(key)? {
+            return Ok(None);
+        }
+        let link = self.take_dial(key)?;
+        Ok(Some(link))
+    }
+
+    // Whether a dial is known to be connected.
+    fn is_done(&mut self, key: u32) -> io::Result<bool>
+        ensures counts { self.new ≡ self.old }
+    {
         let Some(dial) = self.dials.get(&key) else {
             return Err(io::Error::from(ErrorKind::NotFound));
         };
-        if !dial.ready.take_write() {
-            self.watch.look_if_due()?;
-            if !dial.ready.take_write() {
-                return Ok(None);
-            }
+        if !may_write(&mut self.watch, &dial.ready)? {
+            return Ok(false);
         }
-        if !is_connected(&dial.socket)? {
-            return Ok(None);
-        }
+        is_connected(&dial.socket)
+    }
+
+    // The link of a dial that is connected, which is no dial any more.
+    fn take_dial(&mut self, key: u32) -> io::Result<NetLink>
+        ensures counts { self.new ≡ self.old }
+    {
         let Some(dial) = self.dials.swap_remove(&key) else {
             return Err(io::Error::from(ErrorKind::NotFound));
         };
         dial.ready.write_goes_on();
-        let link = self.link(dial.socket, dial.ready)?;
-        Ok(Some(link))
+        self.link(dial.socket, dial.ready)
     }
 
     // A link over a stream that is connected and watched.
@@ -221,6 +240,33 @@ fn socket_addr(at: &Address) -> SocketAddrV4
 {
     let [a, b, c, d] = at.octets;
     SocketAddrV4::new(Ipv4Addr::new(a, b, c, d), at.port)
+}
+
+// Whether a socket may be read, behind a look where none was known.
+fn may_read(watch: &mut Watch, ready: &Ready) -> io::Result<bool> {
+    if ready.take_read() {
+        return Ok(true);
+    }
+    watch.look_if_due()?;
+    Ok(ready.take_read())
+}
+
+// Whether a socket may be written, behind a look where none was known.
+fn may_write(watch: &mut Watch, ready: &Ready) -> io::Result<bool> {
+    if ready.take_write() {
+        return Ok(true);
+    }
+    watch.look_if_due()?;
+    Ok(ready.take_write())
+}
+
+// What a listener's accept gives. It may be read again, unless it has nothing more to give.
+fn accepted(listener: &Watched<TcpListener>) -> io::Result<(TcpStream, SocketAddr)> {
+    let got = listener.socket.accept();
+    if !is_drained(&got) {
+        listener.ready.read_goes_on();
+    }
+    got
 }
 
 // What a link is watched for.

@@ -1,5 +1,7 @@
 ghost use Rattle.std.specs.Prelude.{◌≡◌};
+ghost use Rattle.ctl_state.specs.Parts.{new_state};
 
+use crate::checks::check;
 use ctl_state::{Detail, Made, State};
 use endpoint_book::Binding;
 use spec_control::{ObjKind, ObjState, Use};
@@ -49,8 +51,9 @@ fn name(alloc: Global) -> Result<Endpoint, AllocError> {
 }
 
 // Whether a socket is made under the root, and a mailbox for it.
-fn makes_a_socket(alloc: Global) -> Result<bool, AllocError> {
-    let mut state: State<u8> = State::new(alloc, 1)?;
+fn makes_a_socket(alloc: Global, state: &mut State<u8>) -> Result<bool, AllocError>
+    requires { state.old ≡ new_state 1 }
+{
     let socket = state.make(alloc, ROOT, made(alloc, PAIR, SlotId(2), false))?;
     let slot = state.add_box(alloc, 4)?;
     let is_made = socket == ObjId(1) && slot == SlotId(2);
@@ -59,36 +62,57 @@ fn makes_a_socket(alloc: Global) -> Result<bool, AllocError> {
 
 #[test]
 fn a_socket_is_made(rt: HostRuntime) -> Result<(), Fail> {
-    assert!(rt; makes_a_socket(rt.alloc())?);
-    Ok(())
+    let mut state: State<u8> = State::new(rt.alloc(), 1)?;
+    let makes = makes_a_socket(rt.alloc(), &mut state);
+    drop(state);
+    check(makes?)
 }
 
 // Whether a pair is drawn behind the blank one.
-fn draws(alloc: Global) -> Result<bool, AllocError> {
-    let mut state: State<u8> = State::new(alloc, 0)?;
+fn draws(state: &mut State<u8>) -> Result<bool, AllocError>
+    requires { state.old ≡ new_state 0 }
+{
     let pair = state.draw(ROOT, ROOT)?;
     Ok(pair == PairId(1) && state.pairs() == 2)
 }
 
 // Keeps room for ends and holds of the root.
-fn keep_room(alloc: Global) -> Result<(), AllocError> {
-    let mut state: State<u8> = State::new(alloc, 0)?;
+fn keep_room(state: &mut State<u8>) -> Result<(), AllocError>
+    requires { state.old ≡ new_state 0 }
+{
     state.reserve_ends(ROOT, 2)?;
     state.reserve_holds(ROOT, 1)
 }
 
 // Keeps room in the root's mailbox.
-fn keep_letters(alloc: Global) -> Result<(), AllocError> {
-    let mut state: State<u8> = State::new(alloc, 0)?;
+fn keep_letters(state: &mut State<u8>) -> Result<(), AllocError>
+    requires { state.old ≡ new_state 0 }
+{
     state.reserve(SlotId(0), 4)
 }
 
 #[test]
+fn a_pair_is_drawn(rt: HostRuntime) -> Result<(), Fail> {
+    let mut state: State<u8> = State::new(rt.alloc(), 0)?;
+    let draws = draws(&mut state);
+    drop(state);
+    check(draws?)
+}
+
+#[test]
 fn room_is_kept_for_a_pair(rt: HostRuntime) -> Result<(), Fail> {
-    keep_room(rt.alloc())?;
-    keep_letters(rt.alloc())?;
-    assert!(rt; draws(rt.alloc())?);
-    Ok(())
+    let mut state: State<u8> = State::new(rt.alloc(), 0)?;
+    let kept = keep_room(&mut state);
+    drop(state);
+    Ok(kept?)
+}
+
+#[test]
+fn room_is_kept_for_letters(rt: HostRuntime) -> Result<(), Fail> {
+    let mut state: State<u8> = State::new(rt.alloc(), 0)?;
+    let kept = keep_letters(&mut state);
+    drop(state);
+    Ok(kept?)
 }
 
 /// The socket that holds a name.
@@ -118,13 +142,23 @@ fn is_let_go(state: &mut State<u8>, at: &Endpoint) -> bool {
     is_taken && state.find(at).is_none()
 }
 
+// Whether a name is held, waited for and let go.
+fn goes_through_its_life(
+    alloc: Global,
+    state: &mut State<u8>,
+    at: &Endpoint,
+) -> Result<bool, AllocError> {
+    let held = is_held(alloc, state, at);
+    Ok(held && is_waited_for(alloc, state, at)? && is_let_go(state, at))
+}
+
 #[test]
 fn a_name_is_held_and_waited_for(rt: HostRuntime) -> Result<(), Fail> {
     let at = name(rt.alloc())?;
     let mut state: State<u8> = State::new(rt.alloc(), 0)?;
-    assert!(rt; is_held(rt.alloc(), &mut state, &at));
-    assert!(rt; is_waited_for(rt.alloc(), &mut state, &at)? && is_let_go(&mut state, &at));
-    Ok(())
+    let lives = goes_through_its_life(rt.alloc(), &mut state, &at);
+    drop(state);
+    check(lives?)
 }
 
 // Whether an object has used its asking to end and its Stop.
@@ -135,16 +169,23 @@ fn is_over(state: &State<u8>, id: ObjId) -> bool {
     }
 }
 
-#[test]
-fn what_comes_for_a_socket_is_seen(rt: HostRuntime) -> Result<(), Fail> {
-    let alloc = rt.alloc();
-    let mut state: State<u8> = State::new(alloc, 0)?;
+// Whether what comes for a new socket is seen.
+fn sees_what_comes(alloc: Global, state: &mut State<u8>) -> Result<bool, AllocError>
+    requires { state.old ≡ new_state 0 }
+{
     let socket = state.make(alloc, ROOT, made(alloc, PAIR, SlotId(0), false))?;
     state.asks_over(socket);
     state.request_comes(socket);
     state.stop_comes(socket);
-    assert!(rt; is_over(&state, socket));
-    Ok(())
+    Ok(is_over(state, socket))
+}
+
+#[test]
+fn what_comes_for_a_socket_is_seen(rt: HostRuntime) -> Result<(), Fail> {
+    let mut state: State<u8> = State::new(rt.alloc(), 0)?;
+    let sees = sees_what_comes(rt.alloc(), &mut state);
+    drop(state);
+    check(sees?)
 }
 
 // Whether an end is here so, and struck so.
@@ -152,17 +193,26 @@ fn stands(state: &State<u8>, e: EndId, here: bool, struck: bool) -> bool {
     state.is_here(e) == here && state.is_struck(e) == struck
 }
 
-#[test]
-fn a_pair_is_made_end_by_end(rt: HostRuntime) -> Result<(), Fail> {
-    let mut state: State<u8> = State::new(rt.alloc(), 0)?;
+// Whether a pair is made end by end.
+fn makes_a_pair(state: &mut State<u8>) -> Result<bool, AllocError>
+    requires { state.old ≡ new_state 0 }
+{
     let pair = state.draw(ROOT, ROOT)?;
     let (near, far) = (EndId { pair, a: true }, EndId { pair, a: false });
     state.reserve_ends(ROOT, 2)?;
     state.open(near);
     state.strike(far);
-    assert!(rt; stands(&state, near, true, false) && stands(&state, far, false, true));
-    assert!(rt; state.is_away(far));
+    let opened = stands(state, near, true, false) && stands(state, far, false, true);
+    let is_away = state.is_away(far);
     state.bind(far);
-    assert!(rt; stands(&state, near, true, false) && stands(&state, far, true, true));
-    Ok(())
+    let bound = stands(state, near, true, false) && stands(state, far, true, true);
+    Ok(opened && is_away && bound)
+}
+
+#[test]
+fn a_pair_is_made_end_by_end(rt: HostRuntime) -> Result<(), Fail> {
+    let mut state: State<u8> = State::new(rt.alloc(), 0)?;
+    let makes = makes_a_pair(&mut state);
+    drop(state);
+    check(makes?)
 }

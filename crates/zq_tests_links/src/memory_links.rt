@@ -1,3 +1,4 @@
+use crate::checks::check;
 use std::alloc::{AllocError, Global};
 use std::test::Fail;
 use zq_base::{Address, Octets, Seq};
@@ -50,6 +51,11 @@ fn call(kind: CallKind, number: u64) -> PlannedCall {
     PlannedCall { kind, number }
 }
 
+// A host by this plan, whose links hold 8 octets.
+fn host(alloc: Global, plan: Plan) -> Result<MemHost, AllocError> {
+    MemHost::make(alloc, plan, 8)
+}
+
 // Both ends of a dial that is accepted.
 fn linked<H: Host>(host: &mut H) -> Option<(H::L, H::L)> {
     let Dialled::Linked(near) = host.connect(2, &AT) else {
@@ -79,15 +85,18 @@ fn gives_the_rest<L: Link>(far: &mut L) -> bool {
     is_gone && reads(far, b"def") && reads(far, b"g") && has_ended(far)
 }
 
+// Whether what one end writes is read at the other, before the first end is gone and behind that.
+fn passes_all(mut near: MemLink, far: &mut MemLink) -> bool {
+    let passes = takes_what_fits(&mut near) && has_room_behind_a_read(&mut near, far);
+    drop(near);
+    passes && gives_the_rest(far)
+}
+
 #[test]
 fn one_end_reads_what_the_other_wrote(rt: HostRuntime) -> Result<(), Fail> {
     let (mut near, mut far) = MemLink::pair(rt.alloc(), 5, 3)?;
     MemLink::tell(&mut far, &mut near);
-    assert!(rt; takes_what_fits(&mut near));
-    assert!(rt; has_room_behind_a_read(&mut near, &mut far));
-    drop(near);
-    assert!(rt; gives_the_rest(&mut far));
-    Ok(())
+    check(passes_all(near, &mut far))
 }
 
 // Whether a host's first listen fails, and its second does not.
@@ -114,15 +123,18 @@ fn links_once<H: Host>(host: &mut H) -> bool {
     linked(host).is_some() && nobody_dials(host)
 }
 
+// Whether the first calls of a host fail or stall, and those behind them do not.
+fn fails_and_stalls<H: Host>(host: &mut H) -> bool {
+    let first = listens_at_last(host) && dials_stall_and_fail(host);
+    first && nobody_dials(host) && links_once(host)
+}
+
 #[test]
 fn a_host_fails_and_stalls_by_its_calls_numbers(rt: HostRuntime) -> Result<(), Fail> {
     let fails = [call(CallKind::Listen, 1), call(CallKind::Connect, 2)];
     let stalls = [call(CallKind::Connect, 1), call(CallKind::Accept, 1)];
-    let plan = plan(rt.alloc(), &fails, &stalls, &[])?;
-    let mut host = MemHost::make(rt.alloc(), plan, 8)?;
-    assert!(rt; listens_at_last(&mut host) && dials_stall_and_fail(&mut host));
-    assert!(rt; nobody_dials(&mut host) && links_once(&mut host));
-    Ok(())
+    let mut host = host(rt.alloc(), plan(rt.alloc(), &fails, &stalls, &[])?)?;
+    check(fails_and_stalls(&mut host))
 }
 
 // Whether a host listens at once.
@@ -147,10 +159,9 @@ fn links_fail_and_stall<H: Host>(host: &mut H) -> bool {
 #[test]
 fn links_fail_and_stall_by_their_calls_numbers(rt: HostRuntime) -> Result<(), Fail> {
     let fails = [call(CallKind::Write, 2)];
-    let plan = plan(rt.alloc(), &fails, &[call(CallKind::Read, 2)], &[])?;
-    let mut host = MemHost::make(rt.alloc(), plan, 8)?;
-    assert!(rt; listens(&mut host) && links_fail_and_stall(&mut host));
-    Ok(())
+    let stalls = [call(CallKind::Read, 2)];
+    let mut host = host(rt.alloc(), plan(rt.alloc(), &fails, &stalls, &[])?)?;
+    check(listens(&mut host) && links_fail_and_stall(&mut host))
 }
 
 // Whether a link is cut behind 4 octets, for both sides.
@@ -186,10 +197,9 @@ fn second_is_cut<H: Host>(host: &mut H) -> bool {
 
 #[test]
 fn a_cut_link_ends_for_both_sides(rt: HostRuntime) -> Result<(), Fail> {
-    let plan = plan(rt.alloc(), &[], &[], &[Cut { link: 2, octets: 4 }])?;
-    let mut host = MemHost::make(rt.alloc(), plan, 8)?;
-    assert!(rt; listens(&mut host) && second_is_cut(&mut host));
-    Ok(())
+    let cuts = [Cut { link: 2, octets: 4 }];
+    let mut host = host(rt.alloc(), plan(rt.alloc(), &[], &[], &cuts)?)?;
+    check(listens(&mut host) && second_is_cut(&mut host))
 }
 
 fn piece(alloc: Global, stalls: u64, octets: &[u8]) -> Result<Piece, AllocError> {
@@ -240,9 +250,8 @@ fn talks_with_the_peer(host: &mut MemHost) -> bool {
 
 #[test]
 fn a_peer_speaks_piece_by_piece(rt: HostRuntime) -> Result<(), Fail> {
-    let mut host = MemHost::make(rt.alloc(), one_peer(rt.alloc())?, 8)?;
-    assert!(rt; talks_with_the_peer(&mut host));
-    Ok(())
+    let mut host = host(rt.alloc(), one_peer(rt.alloc())?)?;
+    check(talks_with_the_peer(&mut host))
 }
 
 // Whether a dial elsewhere finds nobody, and the next one the peer, which goes before a listener.
@@ -258,9 +267,8 @@ fn finds_the_peer<H: Host>(host: &mut H) -> bool {
 
 #[test]
 fn a_peer_goes_before_a_listener(rt: HostRuntime) -> Result<(), Fail> {
-    let mut host = MemHost::make(rt.alloc(), one_peer(rt.alloc())?, 8)?;
-    assert!(rt; listens(&mut host) && finds_the_peer(&mut host));
-    Ok(())
+    let mut host = host(rt.alloc(), one_peer(rt.alloc())?)?;
+    check(listens(&mut host) && finds_the_peer(&mut host))
 }
 
 // Whether a link takes all that is written, and gives these octets over and over.

@@ -1,8 +1,9 @@
 ghost use Rattle.std.specs.Prelude.{◌<◌, length};
 
+use crate::checks::check;
 use std::alloc::{AllocError, Global};
 use std::io;
-use std::io::{ErrorKind, Read, Write};
+use std::io::{Read, Write};
 use std::net::{Shutdown, TcpListener, TcpStream};
 use std::test::Fail;
 use std::time::{Duration, Instant};
@@ -59,16 +60,44 @@ fn read_in_time<H: Host>(host: &mut H, link: &mut H::L, buf: &mut [u8; 8]) -> Li
     LinkGot::NotReady
 }
 
+// A host with a link to a listener.
+fn link_to<'r>(
+    rt: &'r HostRuntime,
+    at: &Address,
+) -> Result<(NetHost<'r, HostRuntime>, NetLink), Fail> {
+    let mut host = NetHost::new(rt, rt.alloc())?;
+    match dialled(&mut host, 7, at) {
+        Some(link) => return Ok((host, link)),
+        None => {
+            drop(host);
+            return Err(Fail::new("a link"));
+        }
+    }
+}
+
+// The peer that a listener accepts.
+fn peer_of(listener: &TcpListener) -> Result<TcpStream, Fail> {
+    let (peer, _) = listener.accept()?;
+    Ok(peer)
+}
+
+// A link to a listener, and the peer that this accepts.
+fn linked<'r>(
+    rt: &'r HostRuntime,
+    listener: &TcpListener,
+) -> Result<(NetHost<'r, HostRuntime>, NetLink, TcpStream), Fail> {
+    let at = address_of(listener)?;
+    let (host, link) = link_to(rt, &at)?;
+    let peer = peer_of(listener)?;
+    Ok((host, link, peer))
+}
+
 // A link to a peer of the system's own.
 fn link_and_peer<'r>(
     rt: &'r HostRuntime,
 ) -> Result<(NetHost<'r, HostRuntime>, NetLink, TcpStream), Fail> {
     let listener = TcpListener::bind(rt, "127.0.0.1:0")?;
-    let at = address_of(&listener)?;
-    let mut host = NetHost::new(rt, rt.alloc())?;
-    let link = dialled(&mut host, 7, &at).ok_or(io::Error::from(ErrorKind::NotConnected))?;
-    let (peer, _) = listener.accept()?;
-    Ok((host, link, peer))
+    linked(rt, &listener)
 }
 
 // Whether what is written at one end is read at the other.
@@ -143,13 +172,25 @@ fn serves_200<H: Host>(
     Ok(links.len() == 200 && all_carry(client, server, &mut links))
 }
 
+// The same of links from a host of their own.
+fn serves_200_of<'r>(
+    rt: &'r HostRuntime,
+    server: &mut NetHost<'r, HostRuntime>,
+    at: &Address,
+) -> Result<bool, Fail> {
+    let mut client = NetHost::new(rt, rt.alloc())?;
+    let serves = serves_200(rt.alloc(), &mut client, server, at);
+    drop(client);
+    serves
+}
+
 #[test]
 fn a_listener_serves_200_links(rt: HostRuntime) -> Result<(), Fail> {
     let at = free_address(&rt)?;
     let mut server = NetHost::new(&rt, rt.alloc())?;
-    let mut client = NetHost::new(&rt, rt.alloc())?;
-    assert!(rt; serves_200(rt.alloc(), &mut client, &mut server, &at)?);
-    Ok(())
+    let serves = serves_200_of(&rt, &mut server, &at);
+    drop(server);
+    check(serves?)
 }
 
 // Whether an address has one listener at a time.
@@ -164,16 +205,18 @@ fn has_one_listener<H: Host>(host: &mut H, at: &Address) -> bool {
 fn a_second_listener_at_one_address_fails(rt: HostRuntime) -> Result<(), Fail> {
     let at = free_address(&rt)?;
     let mut host = NetHost::new(&rt, rt.alloc())?;
-    assert!(rt; has_one_listener(&mut host, &at));
-    Ok(())
+    let has_one = has_one_listener(&mut host, &at);
+    drop(host);
+    check(has_one)
 }
 
 #[test]
 fn a_dial_where_nobody_listens_fails(rt: HostRuntime) -> Result<(), Fail> {
     let at = free_address(&rt)?;
     let mut host = NetHost::new(&rt, rt.alloc())?;
-    assert!(rt; dialled(&mut host, 7, &at).is_none());
-    Ok(())
+    let is_refused = dialled(&mut host, 7, &at).is_none();
+    drop(host);
+    check(is_refused)
 }
 
 // The key of the first of 1,000 dials that isn't ready; the links of those before it are kept.
@@ -212,14 +255,20 @@ fn waits<H: Host>(alloc: Global, host: &mut H, at: &Address) -> Result<bool, All
     }
 }
 
+// The same of a listener that accepts nobody.
+fn waits_at(rt: &HostRuntime, listener: &TcpListener) -> Result<bool, Fail> {
+    let at = address_of(listener)?;
+    let mut host = NetHost::new(rt, rt.alloc())?;
+    let waits = waits(rt.alloc(), &mut host, &at);
+    drop(host);
+    Ok(waits?)
+}
+
 #[test]
 fn a_dial_that_nobody_answers_isnt_ready(rt: HostRuntime) -> Result<(), Fail> {
     // Nobody accepts here, so that its queue fills up.
     let listener = TcpListener::bind(&rt, "127.0.0.1:0")?;
-    let at = address_of(&listener)?;
-    let mut host = NetHost::new(&rt, rt.alloc())?;
-    assert!(rt; waits(rt.alloc(), &mut host, &at)?);
-    Ok(())
+    check(waits_at(&rt, &listener)?)
 }
 
 // Whether a link ends, for reads and for writes.
@@ -235,14 +284,19 @@ fn has_octets(peer: &TcpStream) -> io::Result<bool> {
     Ok(peer.peek(&mut [0; 8])? > 0)
 }
 
+// Whether a peer that closes with octets unread, which resets the connection, ends the link.
+fn is_reset<H: Host>(host: &mut H, link: &mut H::L, peer: TcpStream) -> io::Result<bool> {
+    let written = link.write(b"abc") == LinkPut::Took(3) && has_octets(&peer)?;
+    drop(peer);
+    Ok(written && ends(host, link))
+}
+
 #[test]
 fn a_peer_that_resets_ends_the_link(rt: HostRuntime) -> Result<(), Fail> {
     let (mut host, mut link, peer) = link_and_peer(&rt)?;
-    // A peer that closes with octets unread resets the connection.
-    assert!(rt; link.write(b"abc") == LinkPut::Took(3) && has_octets(&peer)?);
-    drop(peer);
-    assert!(rt; ends(&mut host, &mut link));
-    Ok(())
+    let is_reset = is_reset(&mut host, &mut link, peer);
+    drop((host, link));
+    check(is_reset?)
 }
 
 // Says `bye` and no more.
@@ -280,8 +334,9 @@ fn reads_half_closed<H: Host>(
 #[test]
 fn a_half_closed_peer_still_reads(rt: HostRuntime) -> Result<(), Fail> {
     let (mut host, mut link, mut peer) = link_and_peer(&rt)?;
-    assert!(rt; reads_half_closed(&mut host, &mut link, &mut peer)?);
-    Ok(())
+    let reads = reads_half_closed(&mut host, &mut link, &mut peer);
+    drop((host, link, peer));
+    check(reads?)
 }
 
 // How many octets a link takes until it isn't ready.
@@ -326,8 +381,9 @@ fn stalls_until_read<H: Host, R: Read>(
 #[test]
 fn a_full_buffer_stalls_until_the_peer_reads(rt: HostRuntime) -> Result<(), Fail> {
     let (mut host, mut link, mut peer) = link_and_peer(&rt)?;
-    assert!(rt; stalls_until_read(&mut host, &mut link, &mut peer)?);
-    Ok(())
+    let stalls = stalls_until_read(&mut host, &mut link, &mut peer);
+    drop((host, link, peer));
+    check(stalls?)
 }
 
 // Whether nothing is there to be read.
@@ -368,12 +424,23 @@ fn wakes<H: Host, W: Write>(
     Ok(rested < Duration::from_millis(15_000) && has_one(link))
 }
 
+// Whether a rest ends at its time, and at readiness.
+fn rests_and_wakes<H: Host, W: Write>(
+    rt: &HostRuntime,
+    host: &mut H,
+    link: &mut H::L,
+    peer: &mut W,
+) -> Result<bool, Fail> {
+    let rested = rests(rt, host, link)?;
+    Ok(wakes(rt, host, link, peer)? && rested)
+}
+
 #[test]
 fn rest_wakes_at_its_time_and_at_readiness(rt: HostRuntime) -> Result<(), Fail> {
     let (mut host, mut link, mut peer) = link_and_peer(&rt)?;
-    let rested = rests(&rt, &mut host, &mut link)?;
-    assert!(rt; rested && wakes(&rt, &mut host, &mut link, &mut peer)?);
-    Ok(())
+    let rests_and_wakes = rests_and_wakes(&rt, &mut host, &mut link, &mut peer);
+    drop((host, link, peer));
+    check(rests_and_wakes?)
 }
 
 // Whether a link with an octet isn't ready for 31 calls, and gives it at the next.
@@ -395,7 +462,8 @@ fn is_asked_in_time<L: Link, W: Write>(link: &mut L, peer: &mut W) -> io::Result
 
 #[test]
 fn a_link_that_isnt_ready_is_left_alone_for_31_calls(rt: HostRuntime) -> Result<(), Fail> {
-    let (_host, mut link, mut peer) = link_and_peer(&rt)?;
-    assert!(rt; is_asked_in_time(&mut link, &mut peer)?);
-    Ok(())
+    let (host, mut link, mut peer) = link_and_peer(&rt)?;
+    let is_asked = is_asked_in_time(&mut link, &mut peer);
+    drop((host, link, peer));
+    check(is_asked?)
 }
