@@ -2,9 +2,18 @@
 use Rattle.std.specs.Prelude.{◌≡◌, ◌+◌, ◌++◌, ◌∷◌, [], ℕ, suc, List, length, refl}
 use Rattle.std.proofs.Common.{arith, sym, ap, ◌∙◌}
 use Rattle.std.proofs.lemmas.List.{append-nil, append_assoc, length_push}
+use Rattle.zq_base.specs.declared.ids.EndId.{EndId}
 use Rattle.spec_control.specs.declared.entry.Joining.{Joining}
 use Rattle.ctl_holder.specs.Holding.{Holding, JoinsBy, TakesBack}
+use Rattle.ctl_binds.specs.declared.batch.Drawn.{Drawn}
+use Rattle.ctl_binds.specs.Batch.{drawn_ends, first_of}
 use Rattle.ctl_binds.specs.Drawing.{HasJoinedMore}
+
+module _ {N O I : Type 0} where
+  -- a pair more was drawn
+  pub drawn_more : (ds : List (Drawn N O I)) (d : Drawn N O I) → drawn_ends (ds ++ d ∷ []) ≡ first_of d ∷ drawn_ends ds
+  drawn_more [] d = refl
+  drawn_more (x ∷ ds) d = ap (λ (es : List EndId). es ++ first_of x ∷ []) (drawn_more ds d)
 
 -- these before a last one
 record EndsWith {A : Type 0} (xs : List A) : Type 0 where

@@ -29,6 +29,11 @@ module _ {N O I : Type 0} where
   abbrev pub first_of : Drawn N O I → EndId
   first_of d = end_of d.pair.0 false
 
+  -- of such pairs, the last first
+  abbrev pub drawn_ends : List (Drawn N O I) → List EndId
+  drawn_ends [] = []
+  drawn_ends (d ∷ ds) = drawn_ends ds ++ first_of d ∷ []
+
   -- the names of its pipes, for its owner: it writes what the other end reads
   abbrev pub names_for : Drawn N O I → Names N
   names_for d = record { written = d.other.read; read = d.other.written }

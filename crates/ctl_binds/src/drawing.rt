@@ -1,7 +1,7 @@
 ghost use Rattle.std.specs.Prelude.{◌≡◌, ◌+◌, ◌++◌, ◌∷◌, [], ℕ, length, IfOk, OnOk, OnErr};
 ghost use Rattle.spec_control.specs.Control.{next_pair};
 ghost use Rattle.ctl_holder.specs.Holding.{HearsNone, KeepsTurns, Stays};
-ghost use Rattle.ctl_binds.specs.Batch.{FitsMore};
+ghost use Rattle.ctl_binds.specs.Batch.{FitsMore, drawn_ends};
 ghost use Rattle.ctl_binds.specs.Drawing.{Draws, IsBack, MayDraw, MayDrawNext};
 
 use crate::batch::{Batch, Drawn};
@@ -30,6 +30,7 @@ where
     P::Name: Drop,
     requires may { MayDrawNext P.known.out_name P.known.in_name state.old (H.holding holder.old)
         socket waiter batch.old (length wakers.now) }
+    requires calm { H.calm holder.old (drawn_ends batch.old.drawn.items) }
     ensures ok { OnOk result ((w : MayDrawNext P.known.out_name P.known.in_name
         state.old (H.holding holder.old) socket waiter batch.old (length wakers.now)) →
         Draws P.known.out_name P.known.in_name w.may.control socket (w.done ++ waiter ∷ [])
@@ -42,6 +43,7 @@ where
         (KeepsTurns (H.holding holder.old) (H.holding holder.new)) }
     ensures heard { OnErr result
         (HearsNone (H.holding holder.old) (H.holding holder.new)) }
+    ensures calm { H.calm holder.new (drawn_ends batch.new.drawn.items) }
 {
     let o = Owners::of(state, socket, waiter);
     let said = papers_of(state, alloc, o)?;
@@ -92,12 +94,14 @@ where
     P::Name: Drop,
     requires may { MayDraw state.old (H.holding holder.old) socket waiters.now
         (length wakers.now) }
+    requires calm { H.calm holder.old [] }
     ensures ok { IfOk result (λ b. (w : MayDraw state.old (H.holding holder.old) socket
         waiters.now (length wakers.now)) → Draws P.known.out_name P.known.in_name w.control socket
         waiters.now b.drawn.items b.notes state.old state.new (H.holding holder.old) (H.holding holder.new)) }
     ensures err { OnErr result (state.new ≡ state.old) }
     ensures back { OnErr result (IsBack (length state.old.pairs) socket.0
         (H.holding holder.old) (H.holding holder.new)) }
+    ensures calm { IfOk result (λ b. H.calm holder.new (drawn_ends b.drawn.items)) }
 {
     let mut batch = Batch::with_room(alloc, waiters.len() as u32)?;
     'waiters: for place in 0..waiters.len() {

@@ -1,4 +1,6 @@
-ghost use Rattle.std.specs.Prelude.{◌≡◌, length};
+ghost use Rattle.std.specs.Prelude.{◌≡◌, ◌∷◌, List, length};
+ghost use Rattle.zq_base.specs.declared.ids.EndId.{EndId};
+ghost use Rattle.ctl_binds.specs.Batch.{drawn_ends, first_of};
 ghost use Rattle.ctl_binds.specs.Drawing.{AreTaken, IsBack, WasTaken, WereTaken};
 
 use crate::batch::Drawn;
@@ -21,8 +23,11 @@ fn undraw_one<P: Pipes, H: Holder<P>>(
 where
     P::Name: Drop,
     requires taken { WasTaken state.old (H.holding holder.old) socket.0 drawn }
-    ensures { (w : WasTaken state.old (H.holding holder.old) socket.0 drawn) →
+    requires calm { (came : List EndId) × H.calm holder.old (first_of drawn ∷ came) }
+    ensures back { (w : WasTaken state.old (H.holding holder.old) socket.0 drawn) →
         AreTaken socket.0 w.rest w.before state.new w.had (H.holding holder.new) }
+    ensures calm { (came : List EndId) →
+        H.calm holder.old (first_of drawn ∷ came) → H.calm holder.new came }
 {
     let first = EndId {
         pair: drawn.pair,
@@ -42,6 +47,7 @@ pub fn undraw_all<P: Pipes, H: Holder<P>>(
 where
     P::Name: Drop,
     requires taken { WereTaken state.old (H.holding holder.old) socket.0 drawn.items }
+    requires calm { H.calm holder.old (drawn_ends drawn.items) }
     ensures state { (w : WereTaken state.old (H.holding holder.old) socket.0 drawn.items) →
         state.new ≡ w.before }
     ensures back { (w : WereTaken state.old (H.holding holder.old) socket.0 drawn.items) →

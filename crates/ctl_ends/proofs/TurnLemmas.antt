@@ -163,7 +163,7 @@ at_is : {s t : EndState} → At s ≡ At t → s ≡ t
 at_is f = grind arith
 
 -- the writing half is given away where the end acknowledges
-writer_step : (event : EndEvent) (state : EndState) → comes event state ≡ true → event ≢ AckCame →
+pub writer_step : (event : EndEvent) (state : EndState) → comes event state ≡ true → event ≢ AckCame →
     has_writer (At (state_after (cell event state) state)) ≡ (if yields (commands_of (cell event state)) then false else has_writer (At state))
 writer_step (Asked reason delay) Active h n = refl
 writer_step (Asked reason delay) DelimiterGot h n = refl

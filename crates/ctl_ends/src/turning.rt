@@ -1,8 +1,10 @@
-ghost use Rattle.std.specs.Prelude.{◌≡◌, ◌≢◌, [], true};
+ghost use Rattle.std.specs.Prelude.{◌≡◌, ◌≢◌, [], true, false};
 ghost use Rattle.spec_control.specs.declared.end.EndEvent.TheVariants.{AckCame};
+ghost use Rattle.spec_control.specs.Place.{At};
 ghost use Rattle.spec_control.specs.Control.{happens};
 ghost use Rattle.ctl_holder.specs.Holding.{has_end, HearsNone, Stays, TurnsTo};
 ghost use Rattle.ctl_holder.specs.Counts.{KeepsCounts};
+ghost use Rattle.ctl_holder.specs.Lent.{has_writer};
 ghost use Rattle.ctl_ends.specs.Turning.{yields, needs_writer, Turned, SealsFor, GivesFor};
 ghost use Rattle.ctl_ends.specs.Turning.{MayTurn, Leads, IsSoFar, seals_for, turn_of};
 
@@ -23,6 +25,8 @@ where
     P::Name: Drop,
     requires here { has_end e ((H.holding holder.old).ends o.0) ≡ true }
     requires writer { needs_writer commands ≡ true → (H.holding holder.old).writes e ≡ true }
+    requires out { yields commands ≡ true →
+        has_writer (At ((H.holding holder.old).state e)) ≡ false }
     ensures given { GivesFor P.known.out_name P.known.in_name commands o.0 e result
         (H.holding holder.old) }
     ensures turned { Turned o.0 e (yields commands) (H.holding holder.old) (H.holding holder.new) }

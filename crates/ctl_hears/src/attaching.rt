@@ -79,6 +79,7 @@ where
     requires may { MayBind P.known.out_name P.known.in_name
         state.old (H.holding holder.old) o.0 e halves }
     requires fits { H.fits holder.old halves }
+    requires calm { H.calm holder.old [] }
     ensures ok { IfOk result (λ answer. (w : MayBind P.known.out_name P.known.in_name
         state.old (H.holding holder.old) o.0 e halves) →
         BindsEnd w.names w.control o.0 e answer
@@ -160,6 +161,7 @@ where
     requires may { MayComeBound P.known.out_name P.known.in_name
         state.old (H.holding holder.old) letter.now.to.0 e load }
     requires fits { FitsLoad (H.fits holder.old) load }
+    requires calm { H.calm holder.old [] }
     ensures ok { IfOk result (λ joined. (w : MayComeBound P.known.out_name P.known.in_name
         state.old (H.holding holder.old) letter.now.to.0 e load) → (peer : List ℕ) →
         letter.now.word ≡ PipeBind e peer →

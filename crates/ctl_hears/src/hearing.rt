@@ -247,6 +247,7 @@ where
     requires come { brings_ends letter.now.word ≡ true → ComeApart P.known.exact
         (map (held_given P.known.out_name P.known.in_name) (given_by load)) (H.holding holder.old) }
     requires fits { FitsLoad (H.fits holder.old) load }
+    requires calm { H.calm holder.old [] }
     ensures heard { IfOk result (λ a.
         (w : MayHear P.known.out_name P.known.in_name state.old (H.holding holder.old) letter.now load) →
         IsProcessed P.known.out_name P.known.in_name state.old state.new (H.holding holder.new)

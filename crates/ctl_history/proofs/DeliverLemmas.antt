@@ -5,7 +5,7 @@ use Rattle.std.proofs.Common.{arith, sym, ap, ◌∙◌, subst, inl, inr}
 use Rattle.std.proofs.lemmas.Bool.{cases_eq}
 use Rattle.std.proofs.lemmas.List.{append-nil, map-append}
 use Rattle.std.proofs.lemmas.List.Concat.{flat_map-append}
-use Rattle.std.proofs.lemmas.List.Elements.{All-nil, All-cons, All-head, All-tail, All-weaker, All-append}
+use Rattle.std.proofs.lemmas.List.Elements.{All-head, All-tail, All-weaker, All-append}
 use Rattle.zq_base.specs.Ends.{other_end}
 use Rattle.zq_base.specs.declared.ids.EndId.{EndId}
 use Rattle.zq_base.specs.declared.ids.ObjId.{ObjId}

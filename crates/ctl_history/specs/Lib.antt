@@ -6,3 +6,4 @@ pub mod Joining
 pub mod Closing
 pub mod Fulfilling
 pub mod Coming
+pub mod Addressee

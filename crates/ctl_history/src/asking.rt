@@ -36,6 +36,13 @@ where
         Ok(Reply::Asked)
     }
 
+    /// Whether the root was asked. It costs a look at one row.
+    pub fn is_asked(&self) -> bool
+        ensures { result ≡ root_asked (control_of self.now) }
+    {
+        !root_lives(&self.state)
+    }
+
     /// Notes a request that is refused, and so changes nothing.
     pub fn refuse(
         &mut self,

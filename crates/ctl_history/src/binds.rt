@@ -1,4 +1,4 @@
-ghost use Rattle.std.specs.Prelude.{◌≡◌, ◌≤◌, ◌+◌, ◌*◌, length, None, IfOk, OnOk, OnErr};
+ghost use Rattle.std.specs.Prelude.{◌≡◌, ◌≤◌, ◌+◌, ◌*◌, [], length, None, IfOk, OnOk, OnErr};
 ghost use Rattle.zq_base.specs.declared.endpoint.Endpoint.TheVariants.{Inproc};
 ghost use Rattle.spec_control.specs.declared.request.Req.TheVariants.{Bind};
 ghost use Rattle.spec_control.specs.Control.{next_pair};
@@ -43,6 +43,7 @@ where
     requires copy { copy ≡ at.now }
     requires may { MayFulfilAll state.old (H.holding holder.old) socket at.now
         (length wakers.now) }
+    requires calm { H.calm holder.old [] }
     ensures ok { IfOk result (λ notes. (w : MayFulfilAll state.old (H.holding holder.old) socket
         at.now (length wakers.now)) → Fulfils P.known.out_name P.known.in_name
         w.may.draw.control socket at.now w.waiters notes
@@ -91,6 +92,7 @@ where
         requires lends { Lends (control_of self.old) socket.0 (H.holding holder.old) }
         requires wakers { (control_of self.old).slots ≤ length wakers.now }
         requires has { HasWhat self.old (H.holding holder.old) }
+        requires calm { H.calm holder.old [] }
         ensures ok { IfOk result (λ reply. NotesRequest socket (Bind socket (Inproc name)) reply
             self.old self.new (H.holding holder.old) (H.holding holder.new)) }
         ensures reply { IfOk result (λ reply.
@@ -128,6 +130,7 @@ where
         requires lends { Lends (control_of self.old) socket.0 (H.holding holder.old) }
         requires wakers { (control_of self.old).slots ≤ length wakers.now }
         requires has { HasWhat self.old (H.holding holder.old) }
+        requires calm { H.calm holder.old [] }
         ensures ok { IfOk result (λ reply. NotesRequest socket (Bind socket (Inproc name)) reply
             self.old self.new (H.holding holder.old) (H.holding holder.new)) }
         ensures reply { IfOk result (λ reply.

@@ -1,4 +1,4 @@
-ghost use Rattle.std.specs.Prelude.{◌≡◌, ◌<◌, ◌&&◌, ◌==◌, ℕ, true, false, IfOk, OnErr};
+ghost use Rattle.std.specs.Prelude.{◌≡◌, ◌<◌, ◌&&◌, ◌==◌, [], ℕ, true, false, IfOk, OnErr};
 ghost use Rattle.std.specs.List.{list_any};
 ghost use Rattle.spec_control.specs.ControlRun.{is_between};
 ghost use Rattle.ctl_holder.specs.Counts.{CountsOnce};
@@ -50,6 +50,7 @@ where
         requires free { slot.0 ≡ 0 → AreFree (control_of self.old) (H.holding holder.old) }
         requires takes { slot.0 ≡ 0 → MayTakeFirst (H.may_take holder.old) self.old.given }
         requires distinct { slot.0 ≡ 0 → AreDistinct P.known.exact (name_of (items_of self.old)) }
+        requires calm { H.calm holder.old [] }
         ensures ok { IfOk result (λ found.
             FindsOldest P.known.out_name P.known.in_name slot found self.old self.new) }
         ensures err { OnErr result ((self.new ≡ self.old)

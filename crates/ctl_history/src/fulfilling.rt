@@ -1,4 +1,4 @@
-ghost use Rattle.std.specs.Prelude.{◌≡◌, length, IfOk, OnErr};
+ghost use Rattle.std.specs.Prelude.{◌≡◌, [], length, IfOk, OnErr};
 ghost use Rattle.ctl_binds.specs.Drawing.{IsBack};
 ghost use Rattle.ctl_history.specs.Fulfilling.{Fulfils, MayFulfil};
 
@@ -29,6 +29,7 @@ where
     requires copy { copy ≡ at.now }
     requires may { MayFulfil state.old (H.holding holder.old) socket at.now waiters.now
         (length wakers.now) }
+    requires calm { H.calm holder.old [] }
     ensures ok { IfOk result (λ notes. (w : MayFulfil state.old (H.holding holder.old) socket
         at.now waiters.now (length wakers.now)) → Fulfils P.known.out_name P.known.in_name
         w.draw.control socket at.now waiters.now notes

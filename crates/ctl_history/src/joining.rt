@@ -1,4 +1,4 @@
-ghost use Rattle.std.specs.Prelude.{◌≡◌, ◌≤◌, length, Some, None, IfOk, OnOk, OnErr};
+ghost use Rattle.std.specs.Prelude.{◌≡◌, ◌≤◌, [], length, Some, None, IfOk, OnOk, OnErr};
 ghost use Rattle.zq_base.specs.declared.endpoint.Endpoint.TheVariants.{Inproc};
 ghost use Rattle.spec_control.specs.declared.book.Binding.{Binding};
 ghost use Rattle.spec_control.specs.declared.request.Req.TheVariants.{Connect};
@@ -63,6 +63,7 @@ fn connect_with_room<P: Pipes, H: Holder<P>, D>(
 where
     P::Name: Drop,
     requires may { MayConnect state.old (H.holding holder.old) o (length wakers.now) }
+    requires calm { H.calm holder.old [] }
     ensures ok { IfOk result (λ r. (w : MayConnect state.old (H.holding holder.old) o
         (length wakers.now)) → Connects P.known.out_name P.known.in_name w.control o at r.0 r.1
         state.old state.new (H.holding holder.old) (H.holding holder.new)) }
@@ -106,6 +107,7 @@ where
         requires lends { Lends (control_of self.old) socket.0 (H.holding holder.old) }
         requires wakers { (control_of self.old).slots ≤ length wakers.now }
         requires has { HasWhat self.old (H.holding holder.old) }
+        requires calm { H.calm holder.old [] }
         ensures ok { IfOk result (λ reply. NotesRequest socket (Connect socket (Inproc name)) reply
             self.old self.new (H.holding holder.old) (H.holding holder.new)) }
         ensures reply { IfOk result (λ reply.
@@ -142,6 +144,7 @@ where
         requires lends { Lends (control_of self.old) socket.0 (H.holding holder.old) }
         requires wakers { (control_of self.old).slots ≤ length wakers.now }
         requires has { HasWhat self.old (H.holding holder.old) }
+        requires calm { H.calm holder.old [] }
         ensures ok { IfOk result (λ reply. NotesRequest socket (Connect socket at) reply
             self.old self.new (H.holding holder.old) (H.holding holder.new)) }
         ensures reply { IfOk result (λ reply.
@@ -183,6 +186,7 @@ where
         requires lends { Lends (control_of self.old) socket.0 (H.holding holder.old) }
         requires wakers { (control_of self.old).slots ≤ length wakers.now }
         requires has { HasWhat self.old (H.holding holder.old) }
+        requires calm { H.calm holder.old [] }
         ensures ok { IfOk result (λ reply. NotesRequest socket (Connect socket (Inproc name)) reply
             self.old self.new (H.holding holder.old) (H.holding holder.new)) }
         ensures reply { IfOk result (λ reply.

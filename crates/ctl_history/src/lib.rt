@@ -19,6 +19,7 @@ mod joining;
 mod mailboxes;
 mod making;
 mod refused;
+mod shows;
 mod soundness;
 mod unbinding;
 

@@ -1,4 +1,4 @@
-ghost use Rattle.std.specs.Prelude.{◌≡◌, ◌+◌, ◌∷◌, [], true, false, Some, IfOk, IfErr, OnOk, map};
+ghost use Rattle.std.specs.Prelude.{◌≡◌, ◌+◌, ◌∷◌, [], true, false, Some, IfOk, IfErr, OnOk, OnErr, map};
 
 use crate::given::{Given, Parting};
 use crate::halves::Halves;
@@ -24,6 +24,8 @@ pub trait Holder<P: Pipes> {
     ghost use Rattle.zq_base.specs.declared.ids.EndId.{EndId};
     ghost use Rattle.ctl_holder.specs.Holding.{KeepsTurns, BeginsActive, Begins, TurnsTo, Seals, AllStated};
     ghost use Rattle.ctl_holder.specs.Holding.{BeginsNone, JoinsBy, TakesBack, joining_with};
+    ghost use Rattle.ctl_holder.specs.Lent.{has_writer};
+    ghost use Rattle.spec_control.specs.Place.{At};
     ghost use Rattle.ctl_holder.specs.Holding.{states_optional, states_given};
     ghost use Rattle.std.specs.Prelude.{Bool, List};
     ghost use Rattle.std.specs.Option.{ForSome};
@@ -59,6 +61,9 @@ pub trait Holder<P: Pipes> {
     /// are those of its pipes.
     ghost may_take: { Self → List (Given P.Name P.Out P.In) → Type 0 };
 
+    /// It is lent for an event in which no end was turned yet, and these joined, the last first.
+    ghost calm: { Self → List EndId → Type 0 };
+
     /// Makes the pipes of a pair: this holder's end writes the first, of this many messages, and
     /// reads the second.
     fn make(
@@ -77,7 +82,8 @@ pub trait Holder<P: Pipes> {
         ensures fits { IfOk result (λ m. fits self.new m.mine) }
         ensures stays { Stays o.0 (holding self.old) (holding self.new) }
         ensures turns { KeepsTurns (holding self.old) (holding self.new) }
-        ensures heard { HearsNone (holding self.old) (holding self.new) };
+        ensures heard { HearsNone (holding self.old) (holding self.new) }
+        ensures calm { (came : List EndId) → calm self.old came → calm self.new came };
 
     /// An end joins an object, whose kind answers. It keeps the halves of an end that its kind
     /// refuses too; the end is then no peer. The answer is kept with the end among those that joined.
@@ -93,6 +99,7 @@ pub trait Holder<P: Pipes> {
         requires here { (holding self.old).holds o.0 ≡ true }
         requires new { has_end end ((holding self.old).ends o.0) ≡ false }
         requires fits { fits self.old halves }
+        requires calm { (came : List EndId) × calm self.old came }
         ensures ok { OnOk result (Joined o.0 (held_with P.known.out_name P.known.in_name end halves)
             (holding self.old) (holding self.new)) }
         ensures turns { OnOk result (BeginsActive end (holding self.old) (holding self.new)) }
@@ -102,12 +109,17 @@ pub trait Holder<P: Pipes> {
         ensures err { IfErr result (λ e. (e.value ≡ halves)
             × Stays o.0 (holding self.old) (holding self.new)
             × KeepsTurns (holding self.old) (holding self.new)) }
-        ensures heard { HearsNone (holding self.old) (holding self.new) };
+        ensures heard { HearsNone (holding self.old) (holding self.new) }
+        ensures calm { OnOk result ((came : List EndId) →
+            calm self.old came → calm self.new (end ∷ came)) }
+        ensures still { OnErr result ((came : List EndId) →
+            calm self.old came → calm self.new came) };
 
     /// Undoes the last attach that still stands.
     fn take_back(&mut self, o: ObjId, end: EndId) -> Halves<P::Out, P::In>
         requires last { IsLast end ((holding self.old).ends o.0) }
         requires writer { (holding self.old).writes end ≡ true }
+        requires calm { (came : List EndId) × calm self.old (end ∷ came) }
         ensures left { Left o.0 end (holding self.old) (holding self.new) }
         ensures written { written_in ((holding self.old).ends o.0) end
             ≡ Some (P.known.out_name result.out) }
@@ -115,7 +127,8 @@ pub trait Holder<P: Pipes> {
             ≡ Some (P.known.in_name result.input) }
         ensures turns { BeginsNone (holding self.old) (holding self.new) }
         ensures joins { TakesBack (holding self.old) (holding self.new) }
-        ensures heard { HearsNone (holding self.old) (holding self.new) };
+        ensures heard { HearsNone (holding self.old) (holding self.new) }
+        ensures calm { (came : List EndId) → calm self.old (end ∷ came) → calm self.new came };
 
     /// An end goes to a state of its life.
     fn set_state(&mut self, o: ObjId, end: EndId, state: EndState)
@@ -139,6 +152,7 @@ pub trait Holder<P: Pipes> {
     fn yield_writer(&mut self, o: ObjId, end: EndId) -> P::Out
         requires here { has_end end ((holding self.old).ends o.0) ≡ true }
         requires writer { (holding self.old).writes end ≡ true }
+        requires out { has_writer (At ((holding self.old).state end)) ≡ false }
         ensures name { written_in ((holding self.old).ends o.0) end
             ≡ Some (P.known.out_name result) }
         ensures yielded { Yielded o.0 end (holding self.old) (holding self.new) }

@@ -1,4 +1,5 @@
-ghost use Rattle.std.specs.Prelude.{◌≡◌, true, false, IfOk, OnErr};
+ghost use Rattle.std.specs.Prelude.{◌≡◌, ◌∷◌, true, false, List, IfOk, OnOk, OnErr};
+ghost use Rattle.zq_base.specs.declared.ids.EndId.{EndId};
 ghost use Rattle.ctl_holder.specs.Holding.{HearsNone, has_end, IsCapacity, KeepsTurns, Stays};
 ghost use Rattle.ctl_joins.specs.Attaching.{AttachesFirst};
 
@@ -64,12 +65,17 @@ where
     requires new { has_end end ((H.holding holder.old).ends o.0) ≡ false }
     requires written { IsCapacity capacities.written }
     requires read { IsCapacity capacities.read }
+    requires calm { (came : List EndId) × H.calm holder.old came }
     ensures ok { IfOk result (λ f. AttachesFirst P.known.out_name P.known.in_name o.0 end
         peer.now.identity f
         (H.holding holder.old) (H.holding holder.new)) }
     ensures err { OnErr result (Stays o.0 (H.holding holder.old) (H.holding holder.new)) }
     ensures keeps { OnErr result (KeepsTurns (H.holding holder.old) (H.holding holder.new)) }
     ensures heard { OnErr result (HearsNone (H.holding holder.old) (H.holding holder.new)) }
+    ensures calm { OnOk result ((came : List EndId) →
+        H.calm holder.old came → H.calm holder.new (end ∷ came)) }
+    ensures still { OnErr result ((came : List EndId) →
+        H.calm holder.old came → H.calm holder.new came) }
 {
     let made = holder.make(alloc, o, capacities.written, capacities.read, mine, other)?;
     let Made { mine, other } = made;

@@ -1,4 +1,4 @@
-ghost use Rattle.std.specs.Prelude.{◌≡◌, ◌<◌, ◌+◌, ◌^◌, length, true, OnOk, OnErr, IfOk};
+ghost use Rattle.std.specs.Prelude.{◌≡◌, ◌<◌, ◌+◌, ◌^◌, [], length, true, OnOk, OnErr, IfOk};
 ghost use Rattle.spec_control.specs.Control.{draws};
 ghost use Rattle.ctl_holder.specs.Holding.{HearsNone, KeepsTurns, Stays};
 ghost use Rattle.ctl_state.specs.Stands.{Updates};
@@ -61,6 +61,7 @@ pub fn connect_pair<P: Pipes, H: Holder<P>>(
 where
     P::Name: Drop,
     requires may { MayConnect state.old (H.holding holder.old) o (length wakers.now) }
+    requires calm { H.calm holder.old [] }
     ensures ok { IfOk result (λ r. (w : MayConnect state.old (H.holding holder.old) o
         (length wakers.now)) → Connects P.known.out_name P.known.in_name w.control o at r.0 r.1
         state.old state.new (H.holding holder.old) (H.holding holder.new)) }

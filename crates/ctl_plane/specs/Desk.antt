@@ -10,12 +10,12 @@ use Rattle.spec_control.specs.declared.entry.Answered.{Answered}
 use Rattle.spec_control.specs.declared.entry.Did.{Did}
 use Rattle.spec_control.specs.declared.entry.Did.TheVariants.{Asked, Delivered, Delimited}
 use Rattle.spec_control.specs.declared.entry.SeenEmpty.{SeenEmpty}
-use Rattle.spec_control.specs.declared.entry.SeenEmpty.TheVariants.{Nothing, Mailbox, Reapers}
+use Rattle.spec_control.specs.declared.entry.SeenEmpty.TheVariants.{Mailbox, Reapers}
 use Rattle.spec_control.specs.declared.entry.Sight.{Sight}
 use Rattle.spec_control.specs.declared.entry.Item.{Item}
 use Rattle.spec_control.specs.declared.entry.Joining.{Joining}
 use Rattle.spec_control.specs.declared.entry.Item.TheVariants.{Event, Seen}
-use Rattle.spec_control.specs.Place.{At}
+use Rattle.spec_control.specs.Place.{At, looks}
 use Rattle.spec_control.specs.Rows.{obj}
 use Rattle.spec_control.specs.Control.{Control, met_in, place_of}
 use Rattle.control_held.specs.Held.{ends_after}
@@ -166,6 +166,10 @@ module _ {N S : Type 0} where
   abbrev pub DelimitsOrNot : (by : ℕ) → EndId → Bool → (old new : List (Moment N S)) → Type 0
   DelimitsOrNot by e true old new = Delimits by e old new
   DelimitsOrNot by e false old new = new ≡ old
+
+  -- where it is not, the end is at none that is looked at, by whatever object of the holder's it is had
+  abbrev pub IsNotLooked : EndId → Bool → List (Moment N S) → Holding N → Type 0
+  IsNotLooked e found moments h = found ≡ false → (i : ℕ) → h.holds i ≡ true → has_end e (h.ends i) ≡ true → looks (place_of (left_after i moments) e) ≡ false
 
   -- a look, which sees nothing where a mailbox that it asks for is not empty
   abbrev pub LooksOrNot : (by : ℕ) → SeenEmpty → Option Sight → (old new : List (Moment N S)) → Type 0

@@ -17,10 +17,11 @@ use zq_base::{EndId, Endpoint};
 pub trait Calls<P: Pipes> {
     ghost use Rattle.spec_control.specs.declared.request.Req.TheVariants.{Bind, Connect, Unbind};
     ghost use Rattle.spec_control.specs.declared.request.Req.TheVariants.{Disconnect};
-    ghost use Rattle.spec_control.specs.Control.{id};
+    ghost use Rattle.spec_control.specs.Control.{id, place_of};
+    ghost use Rattle.spec_control.specs.Place.{looks};
     ghost use Rattle.control_held.specs.OwnAsks.{known_after};
     ghost use Rattle.ctl_holder.specs.Holding.{Holding};
-    ghost use Rattle.control_held.specs.Moments.{items_in};
+    ghost use Rattle.control_held.specs.Moments.{items_in, left_after};
     ghost use Rattle.ctl_holder.specs.Holding.{has_end};
     ghost use Rattle.ctl_plane.specs.Asking.{IsInproc};
     ghost use Rattle.ctl_plane.specs.Coming.{AreDistinct, BindsFit, KeepsNames};
@@ -47,6 +48,12 @@ pub trait Calls<P: Pipes> {
     /// What a call leaves of the pipes of others.
     ghost leaves: { Self → Self → P → P → Type 0 };
 
+    /// What a call did to the pipes, those of its ends among them.
+    ghost does: { Self → Self → P → P → Type 0 };
+
+    /// Want of memory left its kind nothing to do.
+    ghost rests: { Self → Type 0 };
+
     /// What these moments more did to the state of its kind.
     ghost passes: { Self → Self → List (Moment P.Name P.Story) → Type 0 };
 
@@ -67,6 +74,7 @@ pub trait Calls<P: Pipes> {
             (Bind (id (owner self.old)) at.now) reply (D.moments desk.old) (D.moments desk.new)) }
         ensures err { OnErr result (D.moments desk.new ≡ D.moments desk.old) }
         ensures given { D.given desk.new ≡ D.given desk.old }
+        ensures grows { D.grows desk.old desk.new }
         ensures names { KeepsNames (D.named desk.old) (D.named desk.new) }
         ensures has_still { KeepsUp (D.number desk.new) (D.moments desk.old) (D.moments desk.new)
             (holding self.old) (holding self.new) }
@@ -74,6 +82,8 @@ pub trait Calls<P: Pipes> {
             × (D.number desk.new ≡ D.number desk.old) }
         ensures fits { fits self.new pipes.new }
         ensures others { leaves self.old self.new pipes.old pipes.new }
+        ensures does { does self.old self.new pipes.old pipes.new }
+        ensures rests { rests self.old → rests self.new }
         ensures passes { (more : List (Moment P.Name P.Story)) →
             D.moments desk.new ≡ D.moments desk.old ++ more → passes self.old self.new more };
 
@@ -94,6 +104,7 @@ pub trait Calls<P: Pipes> {
             (Connect (id (owner self.old)) at.now) reply (D.moments desk.old) (D.moments desk.new)) }
         ensures err { OnErr result (D.moments desk.new ≡ D.moments desk.old) }
         ensures given { D.given desk.new ≡ D.given desk.old }
+        ensures grows { D.grows desk.old desk.new }
         ensures names { KeepsNames (D.named desk.old) (D.named desk.new) }
         ensures has_still { KeepsUp (D.number desk.new) (D.moments desk.old) (D.moments desk.new)
             (holding self.old) (holding self.new) }
@@ -101,6 +112,8 @@ pub trait Calls<P: Pipes> {
             × (D.number desk.new ≡ D.number desk.old) }
         ensures fits { fits self.new pipes.new }
         ensures others { leaves self.old self.new pipes.old pipes.new }
+        ensures does { does self.old self.new pipes.old pipes.new }
+        ensures rests { rests self.old → rests self.new }
         ensures passes { (more : List (Moment P.Name P.Story)) →
             D.moments desk.new ≡ D.moments desk.old ++ more → passes self.old self.new more };
 
@@ -120,6 +133,7 @@ pub trait Calls<P: Pipes> {
             (Unbind (id (owner self.old)) at.now) reply (D.moments desk.old) (D.moments desk.new)) }
         ensures err { OnErr result (D.moments desk.new ≡ D.moments desk.old) }
         ensures given { D.given desk.new ≡ D.given desk.old }
+        ensures grows { D.grows desk.old desk.new }
         ensures names { KeepsNames (D.named desk.old) (D.named desk.new) }
         ensures has_still { KeepsUp (D.number desk.new) (D.moments desk.old) (D.moments desk.new)
             (holding self.old) (holding self.new) }
@@ -127,6 +141,8 @@ pub trait Calls<P: Pipes> {
             × (D.number desk.new ≡ D.number desk.old) }
         ensures fits { fits self.new pipes.new }
         ensures others { leaves self.old self.new pipes.old pipes.new }
+        ensures does { does self.old self.new pipes.old pipes.new }
+        ensures rests { rests self.old → rests self.new }
         ensures passes { (more : List (Moment P.Name P.Story)) →
             D.moments desk.new ≡ D.moments desk.old ++ more → passes self.old self.new more };
 
@@ -146,6 +162,7 @@ pub trait Calls<P: Pipes> {
             (Disconnect (id (owner self.old)) at.now) reply (D.moments desk.old) (D.moments desk.new)) }
         ensures err { OnErr result (D.moments desk.new ≡ D.moments desk.old) }
         ensures given { D.given desk.new ≡ D.given desk.old }
+        ensures grows { D.grows desk.old desk.new }
         ensures names { KeepsNames (D.named desk.old) (D.named desk.new) }
         ensures has_still { KeepsUp (D.number desk.new) (D.moments desk.old) (D.moments desk.new)
             (holding self.old) (holding self.new) }
@@ -153,6 +170,8 @@ pub trait Calls<P: Pipes> {
             × (D.number desk.new ≡ D.number desk.old) }
         ensures fits { fits self.new pipes.new }
         ensures others { leaves self.old self.new pipes.old pipes.new }
+        ensures does { does self.old self.new pipes.old pipes.new }
+        ensures rests { rests self.old → rests self.new }
         ensures passes { (more : List (Moment P.Name P.Story)) →
             D.moments desk.new ≡ D.moments desk.old ++ more → passes self.old self.new more };
 
@@ -181,6 +200,7 @@ pub trait Calls<P: Pipes> {
             (D.moments desk.old) (D.moments desk.new) (holding self.old) }
         ensures err { OnErr result (D.moments desk.new ≡ D.moments desk.old) }
         ensures given { D.given desk.new ≡ D.given desk.old }
+        ensures grows { D.grows desk.old desk.new }
         ensures names { KeepsNames (D.named desk.old) (D.named desk.new) }
         ensures has_still { KeepsUp (D.number desk.new) (D.moments desk.old) (D.moments desk.new)
             (holding self.old) (holding self.new) }
@@ -188,6 +208,8 @@ pub trait Calls<P: Pipes> {
             × (D.number desk.new ≡ D.number desk.old) }
         ensures fits { fits self.new pipes.new }
         ensures others { leaves self.old self.new pipes.old pipes.new }
+        ensures does { does self.old self.new pipes.old pipes.new }
+        ensures rests { rests self.old → rests self.new }
         ensures passes { (more : List (Moment P.Name P.Story)) →
             D.moments desk.new ≡ D.moments desk.old ++ more → passes self.old self.new more };
 
@@ -202,7 +224,10 @@ pub trait Calls<P: Pipes> {
         requires fits { fits self.old pipes.old }
         ensures found { DelimitsOrNot (D.number desk.old) end result
             (D.moments desk.old) (D.moments desk.new) }
+        ensures not_looked { result ≡ false →
+            looks (place_of (left_after (owner self.old) (D.moments desk.old)) end) ≡ false }
         ensures given { D.given desk.new ≡ D.given desk.old }
+        ensures grows { D.grows desk.old desk.new }
         ensures names { KeepsNames (D.named desk.old) (D.named desk.new) }
         ensures has_still { KeepsUp (D.number desk.new) (D.moments desk.old) (D.moments desk.new)
             (holding self.old) (holding self.new) }
@@ -210,6 +235,8 @@ pub trait Calls<P: Pipes> {
             × (D.number desk.new ≡ D.number desk.old) }
         ensures fits { fits self.new pipes.new }
         ensures others { leaves self.old self.new pipes.old pipes.new }
+        ensures does { does self.old self.new pipes.old pipes.new }
+        ensures rests { rests self.old → rests self.new }
         ensures passes { (more : List (Moment P.Name P.Story)) →
             D.moments desk.new ≡ D.moments desk.old ++ more → passes self.old self.new more };
 }

@@ -1,4 +1,4 @@
-ghost use Rattle.std.specs.Prelude.{◌≡◌, ℕ, Bool, true, false, List, Option, Some, OnErr, IfOk};
+ghost use Rattle.std.specs.Prelude.{◌≡◌, [], ℕ, Bool, true, false, List, Option, Some, OnErr, IfOk};
 ghost use Rattle.control_held.specs.Moments.{Moment};
 ghost use Rattle.zq_base.specs.declared.ids.EndId.{EndId};
 ghost use Rattle.ctl_holder.specs.declared.given.Given.{Given};
@@ -24,7 +24,7 @@ pub trait Desk<P: Pipes> {
     ghost use Rattle.ctl_plane.specs.Asking.{HasMarks, IsOfSockets};
     ghost use Rattle.ctl_plane.specs.Coming.{BindsFit, KeepsNames, SendsEnds, TakesEnds, is_close};
     ghost use Rattle.ctl_plane.specs.Desk.{HasWhatTheySay, KeepsUp, AsksOnce, GivesOrNot, DelimitsOrNot};
-    ghost use Rattle.ctl_plane.specs.Desk.{CountsWith, ReapsOrNot, LooksOrNot, MayTakeFrom, HoldsEnd};
+    ghost use Rattle.ctl_plane.specs.Desk.{CountsWith, ReapsOrNot, LooksOrNot, MayTakeFrom, HoldsEnd, IsNotLooked};
 
     /// The caller's number.
     ghost number: { Self → ℕ };
@@ -48,6 +48,9 @@ pub trait Desk<P: Pipes> {
     /// The ends of closed sockets that are on their way to the reaper.
     ghost given: { Self → List (Given P.Name P.Out P.In) };
 
+    /// How a call leaves all that its way leads to, also what is not its caller's.
+    ghost grows: { Self → Self → Type 0 };
+
     /// Whether listeners and sessions may ask it, and sockets may bind and connect over tcp.
     ghost serves: { Bool };
 
@@ -69,12 +72,14 @@ pub trait Desk<P: Pipes> {
         requires sockets { serves ≡ false → IsOfSockets request }
         requires lent { (i : ℕ) → asker request ≡ Some i → (H.holding holder.old).holds i ≡ true }
         requires has { HasWhatTheySay (number self.old) (moments self.old) (H.holding holder.old) }
+        requires calm { H.calm holder.old [] }
         ensures ok { IfOk result (λ reply.
             AsksOnce (number self.old) request reply (moments self.old) (moments self.new)) }
         ensures given { IfOk result (λ _. SendsEnds P.known (H.pipes holder.new) request
             (given self.old) (given self.new)) }
         ensures err { OnErr result ((moments self.new ≡ moments self.old)
             × (given self.new ≡ given self.old)) }
+        ensures grows { grows self.old self.new }
         ensures names { KeepsNames (named self.old) (named self.new) }
         ensures keeps { (number self.new ≡ number self.old)
             × KeepsUp (number self.new) (moments self.old) (moments self.new)
@@ -96,12 +101,14 @@ pub trait Desk<P: Pipes> {
         requires distinct { AreDistinct P.known.exact (named self.old) }
         requires fits { BindsFit P.known.out_name P.known.in_name (named self.old)
             (coming self.old slot.0) (H.fits holder.old) }
+        requires calm { H.calm holder.old [] }
         ensures ok { IfOk result (λ found.
             GivesOrNot (number self.old) slot found (moments self.old) (moments self.new)) }
         ensures counts { CountsWith P.known.out_name (H.counts holder.old)
             (moments self.old) (moments self.new) (H.holding holder.old) }
         ensures err { OnErr result (moments self.new ≡ moments self.old) }
         ensures given { given self.new ≡ given self.old }
+        ensures grows { grows self.old self.new }
         ensures names { KeepsNames (named self.old) (named self.new) }
         ensures keeps { (number self.new ≡ number self.old)
             × KeepsUp (number self.new) (moments self.old) (moments self.new)
@@ -125,6 +132,7 @@ pub trait Desk<P: Pipes> {
             BindsFit P.known.out_name P.known.in_name (named self.old) (coming self.old m)
             (H.fits holder.old) }
         requires takes { MayTakeFirst (H.may_take holder.old) (given self.old) }
+        requires calm { H.calm holder.old [] }
         ensures ok { IfOk result (λ found.
             ReapsOrNot (number self.old) found (moments self.old) (moments self.new)) }
         ensures counts { CountsWith P.known.out_name (H.counts holder.old)
@@ -132,6 +140,7 @@ pub trait Desk<P: Pipes> {
         ensures err { OnErr result ((moments self.new ≡ moments self.old)
             × (given self.new ≡ given self.old)) }
         ensures given { TakesEnds (given self.old) (given self.new) }
+        ensures grows { grows self.old self.new }
         ensures names { KeepsNames (named self.old) (named self.new) }
         ensures keeps { (number self.new ≡ number self.old)
             × KeepsUp (number self.new) (moments self.old) (moments self.new)
@@ -145,7 +154,9 @@ pub trait Desk<P: Pipes> {
         requires has { HasWhatTheySay (number self.old) (moments self.old) (H.holding holder.old) }
         ensures found { DelimitsOrNot (number self.old) end result
             (moments self.old) (moments self.new) }
+        ensures not_looked { IsNotLooked end result (moments self.old) (H.holding holder.old) }
         ensures given { given self.new ≡ given self.old }
+        ensures grows { grows self.old self.new }
         ensures names { KeepsNames (named self.old) (named self.new) }
         ensures keeps { (number self.new ≡ number self.old)
             × KeepsUp (number self.new) (moments self.old) (moments self.new)
@@ -157,6 +168,10 @@ pub trait Desk<P: Pipes> {
         ensures found { LooksOrNot (number self.old) empty result
             (moments self.old) (moments self.new) }
         ensures given { given self.new ≡ given self.old }
+        ensures grows { grows self.old self.new }
         ensures names { KeepsNames (named self.old) (named self.new) }
         ensures number { number self.new ≡ number self.old };
+
+    /// Where nothing is called, all is left.
+    ghost grows_none: { (d : Self) → grows d d };
 }

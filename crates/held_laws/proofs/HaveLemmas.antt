@@ -62,7 +62,7 @@ module _ {N S : Type 0} (workers : ℕ) (items : List (Item N S)) (run : IsContr
       among (AsLeft (left_after i (moments_by k (moments_from (begun workers) items))) c) (h.ends i)
       (subst (λ (es : List EndId). All (AsLeft (left_after i (moments_by k (moments_from (begun workers) items))) c) es) (sym here)
       (All-filter (λ d. is_here (place_of c d)) (AsLeft (left_after i (moments_by k (moments_from (begun workers) items))) c) (ends_of i c)
-      (left_snoc k i no_root items [] (begun workers) (begun 0) (begun_kept workers) (All-nil (IsOld (begun workers))) run may (λ e. absurd (none_some e)) has))) e is
+      (left_snoc k i no_root items [] (begun workers) (begun 0) (begun_kept workers) (All-nil (IsOld (begun workers))) run may (λ e. absurd (none_some e)) has).each)) e is
 
   named_so : (x : Held N) → HasNames items x → HasBothNames (name_of items) x
   named_so x is = record { written = is.written; read = is.read }

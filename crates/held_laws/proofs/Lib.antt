@@ -1,4 +1,4 @@
-mod OwnerLemmas
+pub mod OwnerLemmas
 mod HereLemmas
 pub mod BetweenLemmas
 pub mod EventLemmas

@@ -74,7 +74,7 @@ word_acts i to (Reap socket) other e root = absurd (other (sym (some_is e) ∙ r
 
 module _ {N S : Type 0} (c : Control) (kept : Kept c) where
   -- a Reap comes to the root
-  reap_root : (slot : SlotId) (to socket : ObjId) (h : Answered N S) → Fits c (Delivered slot (record { to = to; word = Reap socket }) h) → to.0 ≡ 0
+  pub reap_root : (slot : SlotId) (to socket : ObjId) (h : Answered N S) → Fits c (Delivered slot (record { to = to; word = Reap socket }) h) → to.0 ≡ 0
   reap_root slot to socket h fits =
       let comes = may_come c kept slot.0 fits.may.behind to.0 (Reap socket) fits.may.oldest in
       let o = obj c.rows socket.0 in
@@ -97,13 +97,15 @@ pub record AsLeft (l c : Control) (e : EndId) : Type 0 where
   pub place : place_of l e ≡ place_of c e
   pub reason : l.reasons e ≡ c.reasons e
 
-abbrev pub AreLeft : Control → Control → ℕ → Type 0
-AreLeft l c i = All (AsLeft l c) (ends_of i c)
+-- they are those that it had then
+pub record AreLeft (l c : Control) (i : ℕ) : Type 0 where
+  pub each : All (AsLeft l c) (ends_of i c)
+  pub ends : ends_of i l ≡ ends_of i c
 
 left_now : (c : Control) (i : ℕ) → AreLeft c c i
-left_now c i k d lt = record { place = refl; reason = refl }
+left_now c i = record { each = λ k d lt. record { place = refl; reason = refl }; ends = refl }
 
-shown_at : (p q : Place) → is_at q ≡ true → shown p ≡ shown q → p ≡ q
+pub shown_at : (p q : Place) → is_at q ≡ true → shown p ≡ shown q → p ≡ q
 shown_at p Unmade h e = absurd (never h)
 shown_at p Away h e = absurd (never h)
 shown_at Unmade (At state) h e = absurd (away e)
@@ -118,8 +120,10 @@ shown_at (At x) (At state) h e = e
 
 -- an event that is of no concern to it leaves that so
 left_spared : (l c d : Control) (i : ℕ) → AreOld c → Spared i c d → AreLeft l c i → AreLeft l d i
-left_spared l c d i old spared all =
-    subst (λ (es : List EndId). All (AsLeft l d) es) (sym spared.attached) (both (ends_of i c) all (All-filter (λ e. owner_of c e == i) (IsOld c) c.attached old) (its_ends c i known))
+left_spared l c d i old spared was = record {
+  each = subst (λ (es : List EndId). All (AsLeft l d) es) (sym spared.attached) (both (ends_of i c) was.each (All-filter (λ e. owner_of c e == i) (IsOld c) c.attached old) (its_ends c i known));
+  ends = was.ends ∙ sym spared.attached;
+}
   where
     known : Known c
     known = All-weaker (IsOld c) (λ e. e.pair.0 < next_pair c) (λ e o. o.within) c.attached old

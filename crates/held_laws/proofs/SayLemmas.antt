@@ -96,7 +96,7 @@ module _ {N S : Type 0} (workers : ℕ) (items : List (Item N S)) (run : IsContr
       among (AsLeft left_at c) (h.ends i)
       (subst (λ (es : List EndId). All (AsLeft left_at c) es) (sym ends.ends)
       (All-filter (λ d. is_here (place_of c d)) (AsLeft left_at c) (ends_of i c)
-      (left_snoc k i other items [] (begun workers) (begun 0) (begun_kept workers) (All-nil (IsOld (begun workers))) run may (λ e. absurd (none_some e)) has))) e is
+      (left_snoc k i other items [] (begun workers) (begun 0) (begun_kept workers) (All-nil (IsOld (begun workers))) run may (λ e. absurd (none_some e)) has).each)) e is
 
   pub said_writes : (e : EndId) → has_end e (h.ends i) ≡ true → h.writes e ≡ has_writer (place_of left_at e)
   said_writes e is = ends.writes e is ∙ ap has_writer (sym (left e is).place)

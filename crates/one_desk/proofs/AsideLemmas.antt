@@ -1,5 +1,5 @@
 -- Events of which no holder is told leave what it has.
-use Rattle.std.specs.Prelude.{◌≡◌, ◌<◌, ◌==◌, ◌++◌, ◌∷◌, [], ℕ, Bool, true, false, cond, List, Option, Some, None, if◌then◌else◌, All, find, flat_map, length, map, refl}
+use Rattle.std.specs.Prelude.{◌≡◌, ◌++◌, ◌∷◌, [], ℕ, Bool, true, false, List, Option, Some, None, if◌then◌else◌, find, flat_map, length, map, refl}
 use Rattle.std.proofs.Common.{arith, sym, ap, ◌∙◌, subst, inl}
 use Rattle.std.proofs.lemmas.Grind.{flat_map-append}
 use Rattle.std.proofs.lemmas.List.{append-nil, append_cancel_left, map-append}
@@ -20,21 +20,19 @@ use Rattle.spec_control.specs.declared.request.Req.TheVariants.{Socket as MakeSo
 use Rattle.spec_control.specs.declared.request.Reply.{Reply}
 use Rattle.spec_control.specs.declared.request.Reply.TheVariants.{Done, Object, Pair, Both, Wait, Asked as WasAsked, Before, Refused}
 use Rattle.spec_control.specs.Hold.{Hold, Bound, Waits, Joined, is_bind_to}
-use Rattle.spec_control.specs.Place.{Place}
 use Rattle.spec_control.specs.Register.{without_holder}
 use Rattle.spec_control.specs.Row.{RootAsked}
-use Rattle.spec_control.specs.Rows.{PairRow, Rows, is_owner, no_pair, obj}
-use Rattle.spec_control.specs.Control.{Control, begun, is_end, link, next_object, place_of, stop_sockets, try_end}
+use Rattle.spec_control.specs.Rows.{PairRow, is_owner, obj}
+use Rattle.spec_control.specs.Control.{Control, begun, is_end, link, place_of, stop_sockets, try_end}
 use Rattle.spec_control.specs.After.{after, strikes, tell_struck}
-use Rattle.spec_control.specs.ControlRun.{answer_of, Fits}
+use Rattle.spec_control.specs.ControlRun.{Fits}
 use Rattle.spec_control.specs.Names.{name_in, name_of, named_in}
-use Rattle.control_held.specs.Held.{Held}
 use Rattle.control_held.specs.Has.{given_up, made_by}
 use Rattle.control_others.proofs.StayLemmas.{SameEnds, ends_on, ends_stay, link_ends_stay, sockets_stopped, tried, where_told}
 use Rattle.control_rows.proofs.ListLemmas.{never}
 use Rattle.ctl_holder.specs.Holding.{HearsMore, Holding, JoinsBy}
 use Rattle.ctl_holder.specs.Heard.{heard_in}
-use Rattle.ctl_holder.specs.Joins.{KeepsObjects, came_in}
+use Rattle.ctl_holder.specs.Joins.{came_in}
 use Rattle.ctl_holder.specs.Lent.{HasAll, HasBothNames, HasEnds}
 use Rattle.ctl_holder.specs.Turns.{HasTurned, TurnsBy}
 use Rattle.ctl_ends.proofs.TurnedLemmas.{in_none}
@@ -48,7 +46,7 @@ use Rattle.held_laws.proofs.LawLemmas.{owned_by}
 use Rattle.one_desk.specs.Lent.{IsLent, KeepsAside, Lent, lent_to, moments_of}
 use Rattle.one_desk.proofs.CountLemmas.{none_more, same_one}
 use Rattle.one_desk.proofs.FitLemmas.{last_fits}
-use Rattle.one_desk.proofs.HoldLemmas.{Leaves, desk_had, desk_has, desk_keeps, desk_looks, desk_still}
+use Rattle.one_desk.proofs.HoldLemmas.{desk_had, desk_has, desk_keeps, desk_looks, desk_still}
 use Rattle.one_desk.proofs.LentLemmas.{control_next, made_by_one}
 
 -- ---- the ends stay

@@ -1,10 +1,9 @@
 -- A request more among its caller's moments.
-use Rattle.std.specs.Prelude.{◌≡◌, ◌++◌, ◌∷◌, [], ℕ, Bool, true, false, List, Some, flat_map, refl}
+use Rattle.std.specs.Prelude.{◌≡◌, ◌++◌, ◌∷◌, [], ℕ, List, flat_map, refl}
 use Rattle.std.proofs.Common.{sym, ap, ◌∙◌}
 use Rattle.std.proofs.lemmas.Grind.{flat_map-append}
 use Rattle.std.proofs.lemmas.List.{append-nil}
 use Rattle.std.proofs.lemmas.List.Elements.{All-nil}
-use Rattle.zq_base.specs.declared.ids.EndId.{EndId}
 use Rattle.zq_base.specs.declared.ids.ObjId.{ObjId}
 use Rattle.spec_control.specs.declared.entry.Did.TheVariants.{Asked as DidAsk}
 use Rattle.spec_control.specs.declared.entry.Item.{Item}
@@ -17,7 +16,7 @@ use Rattle.spec_control.specs.Control.{begun}
 use Rattle.spec_control.specs.ControlRun.{after_all}
 use Rattle.spec_control.specs.Names.{name_in, name_of, named_in}
 use Rattle.control_held.specs.Held.{caller_of}
-use Rattle.control_held.specs.Moments.{Moment, moments_by, moments_from}
+use Rattle.control_held.specs.Moments.{moments_by, moments_from}
 use Rattle.control_rows.proofs.ListLemmas.{never}
 use Rattle.msg_pipe.specs.Known.{Known}
 use Rattle.ctl_holder.specs.declared.given.Given.{Given}

@@ -5,7 +5,6 @@ use Rattle.std.proofs.lemmas.List.{append-nil, append_cancel_left}
 use Rattle.zq_base.specs.declared.ids.EndId.{EndId}
 use Rattle.zq_base.specs.declared.ids.Settled.{Settled}
 use Rattle.zq_base.specs.declared.ids.SlotId.{SlotId}
-use Rattle.spec_control.specs.declared.entry.Did.{Did}
 use Rattle.spec_control.specs.declared.entry.Did.TheVariants.{Delivered}
 use Rattle.spec_control.specs.declared.entry.Item.{Item}
 use Rattle.spec_control.specs.declared.entry.Item.TheVariants.{Event, Seen}

@@ -1,5 +1,5 @@
 -- The first of the reaper's mailboxes in which a command waits.
-use Rattle.std.specs.Prelude.{◌≡◌, ◌≢◌, ◌≤◌, ◌<◌, ◌+◌, ◌==◌, ◌&&◌, ◌||◌, ◌⊎◌, ◌∷◌, [], ℕ, zero, suc, Bool, true, false, not, List, Option, Some, None, All, filter, find, refl}
+use Rattle.std.specs.Prelude.{◌≡◌, ◌≢◌, ◌≤◌, ◌<◌, ◌+◌, ◌==◌, ◌&&◌, ◌||◌, ◌∷◌, [], ℕ, zero, suc, Bool, true, false, not, List, Some, None, All, find, refl}
 use Rattle.std.proofs.Common.{arith, sym, ap, ◌∙◌, subst, inl, inr}
 use Rattle.std.proofs.lemmas.Bool.{cases_order, eq-eqb, ne_eqb}
 use Rattle.std.proofs.lemmas.List.{get_or_past}
@@ -12,10 +12,10 @@ use Rattle.spec_control.specs.declared.stage.Use.TheVariants.{Unused, OnItsWay, 
 use Rattle.spec_control.specs.Stage.{has_ended, is_used}
 use Rattle.spec_control.specs.Row.{Row, nobody}
 use Rattle.spec_control.specs.Rows.{is_owner, obj}
-use Rattle.spec_control.specs.Control.{Control, begun, id, next_object}
+use Rattle.spec_control.specs.Control.{Control, begun, next_object}
 use Rattle.spec_control.specs.ControlRun.{AreEmpty, after_all}
 use Rattle.control_held.specs.Has.{has_after}
-use Rattle.control_held.specs.Moments.{first_waiting, items_in, left_after}
+use Rattle.control_held.specs.Moments.{first_waiting}
 use Rattle.control_held.specs.OwnAsks.{is_none}
 use Rattle.control_rows.proofs.ListLemmas.{left, never, placed, right}
 use Rattle.control_laws.specs.Kept.{Kept}
@@ -25,9 +25,9 @@ use Rattle.ctl_history.specs.Past.{Past, control_of}
 use Rattle.socket_laws.specs.Closed.{lives, waits}
 use Rattle.socket_laws.proofs.ReapLemmas.{all_empty, find_within, found_stands, root_waits, socket_waits}
 use Rattle.one_desk.specs.declared.mark.Mark.{Mark}
-use Rattle.one_desk.specs.Lent.{HaveOwnBoxes, IsLent, Lent, lent_to, moments_of}
+use Rattle.one_desk.specs.Lent.{HaveOwnBoxes, IsLent, Lent, lent_to}
 use Rattle.one_desk.specs.Order.{order_of}
-use Rattle.one_desk.specs.Reaping.{IsOfClosed, IsReaping, WaitsFirst, served_by}
+use Rattle.one_desk.specs.Reaping.{IsOfClosed, IsReaping, WaitsFirst}
 use Rattle.one_desk.proofs.DeliverLemmas.{desk_slot_is}
 use Rattle.one_desk.proofs.LentLemmas.{control_is, kept_of}
 

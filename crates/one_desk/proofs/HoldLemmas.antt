@@ -1,5 +1,5 @@
 -- A holder that is lent for an event of a caller has what the caller's moments say, before it and behind it.
-use Rattle.std.specs.Prelude.{◌≡◌, ◌==◌, ◌⊎◌, ◌&&◌, ◌++◌, ◌∷◌, [], ℕ, Bool, true, false, cond, List, Option, Some, None, if◌then◌else◌, All, flat_map, map, refl}
+use Rattle.std.specs.Prelude.{◌≡◌, ◌==◌, ◌⊎◌, ◌++◌, ◌∷◌, [], ℕ, Bool, true, false, cond, List, Option, Some, None, if◌then◌else◌, All, flat_map, map, refl}
 use Rattle.std.specs.List.{list_any}
 use Rattle.std.proofs.Common.{arith, sym, ap, ◌∙◌, subst, inl, inr}
 use Rattle.std.proofs.lemmas.Bool.{eq-eqb, eqb-true}
@@ -20,14 +20,14 @@ use Rattle.spec_control.specs.declared.object.ObjKind.{ObjKind}
 use Rattle.spec_control.specs.Stage.{is_alive, is_coming, is_unused, is_used}
 use Rattle.spec_control.specs.Row.{is_socket, owner_fits, socket_fits, stage_fits}
 use Rattle.spec_control.specs.Rows.{is_owner, obj}
-use Rattle.spec_control.specs.Control.{Control, begun, owner_of}
+use Rattle.spec_control.specs.Control.{Control, begun, owner_of, place_of}
 use Rattle.spec_control.specs.After.{after, kind_of}
 use Rattle.spec_control.specs.ControlRun.{Fits, IsControlRun, IsOpenSocket, after_all, is_between}
 use Rattle.spec_control.specs.Names.{name_in, name_of}
 use Rattle.control_held.specs.Held.{caller_of, items_by}
 use Rattle.control_held.specs.Has.{given_up, has_after, has_over, has_then, taken_by_word, taken_in}
 use Rattle.control_held.specs.OwnAsks.{known_after}
-use Rattle.control_held.specs.Moments.{Moment, items_in, left_by, moments_by, moments_from}
+use Rattle.control_held.specs.Moments.{Moment, items_in, left_after, left_by, moments_by, moments_from}
 use Rattle.control_held.proofs.OwnLemmas.{own_has}
 use Rattle.control_rows.proofs.ListLemmas.{never, left, right}
 use Rattle.control_rows.proofs.QuietLemmas.{socket_owner}
@@ -460,6 +460,10 @@ module _ {G N S : Type 0} (ms : List Mark) (past : Past G N S) (wakers by : ℕ)
       let known = subst Known (control_is ms past wakers lent) (known_now past.workers (order_of ms past.events) order.run) in
       let ends = desk_has i holds in
       (among (IsIts (control_of past) i) (h.ends i) (subst (λ (es : List EndId). All (IsIts (control_of past) i) es) (sym ends.ends) (its_here (control_of past) i known)) e is).own
+
+  -- it is where the holder's moments left it
+  pub desk_place : (e : EndId) (i : ℕ) → h.holds i ≡ true → has_end e (h.ends i) ≡ true → place_of (left_after i (moments_of l)) e ≡ place_of (control_of past) e
+  desk_place e i holds is = (let ends = desk_has i holds in say.states i e holds is ∙ sym (ends.states e is))
 
   pub desk_had : (i : ℕ) → h.holds i ≡ true → has_after i (order_of ms past.events) ≡ Some by
   desk_had = said_has ms by wakers past lent h here

@@ -1,5 +1,5 @@
 -- A request more is noted in the order, and in the history.
-use Rattle.std.specs.Prelude.{◌≡◌, ◌<◌, ◌≤◌, ◌+◌, ◌++◌, ℕ, zero, suc, true, false, List, [], ◌∷◌, Option, None, Some, is_some, length, map, refl}
+use Rattle.std.specs.Prelude.{◌≡◌, ◌<◌, ◌≤◌, ◌+◌, ◌++◌, ℕ, zero, suc, true, false, All, List, [], ◌∷◌, Option, None, Some, is_some, length, map, refl}
 use Rattle.std.specs.List.{list_any}
 use Rattle.std.proofs.Common.{arith, sym, ap, ◌∙◌, subst}
 use Rattle.std.proofs.lemmas.List.{length-append, map-append}
@@ -41,7 +41,7 @@ use Rattle.ctl_history.specs.Past.{as_item, control_of, items_of, with_event, Is
 use Rattle.one_desk.specs.declared.mark.Mark.{Mark}
 use Rattle.one_desk.specs.declared.mark.Mark.TheVariants.{Event, Seen}
 use Rattle.one_desk.specs.Order.{events_in, order_of, AreMarked, IsOrder}
-use Rattle.one_desk.specs.Lent.{Lent, lent_to, moments_of, Asks, HaveOwnBoxes, IsLent, made_at_most}
+use Rattle.one_desk.specs.Lent.{Lent, lent_to, moments_of, Asks, HaveOwnBoxes, IsLent, IsOneOrder, made_at_most}
 use Rattle.ctl_plane.specs.Asking.{MayHave}
 use Rattle.one_desk.proofs.OrderLemmas.{after_more, event_more, goes_on, looks_nothing}
 use Rattle.one_desk.proofs.FitLemmas.{event_fits, last_fits, names_fit}
@@ -91,6 +91,15 @@ module _ {G N S : Type 0} where
   kept_of ms old wakers lent =
       let order = lent.order in
       subst Kept (control_is ms old wakers lent) (run_kept (order_of ms old.events) (begun old.workers) (begun_kept old.workers) order.run)
+
+  pub one_order : (ms : List Mark) (old : Past G N S) (wakers by : ℕ) → IsLent ms old wakers → All (λ o. o.0 < next_object (control_of old)) (control_of old).closed → IsOneOrder (lent_to by ms old)
+  one_order ms old wakers by lent closed = record {
+    order = lent.order;
+    control = sym (control_is ms old wakers lent);
+    boxes = lent.boxes;
+    options = lent.options;
+    closed = closed;
+  }
 
   -- ---- an event more
   more : (ms : List Mark) (by wakers many : ℕ) (old : Past G N S) (did : Did N S) → IsLent ms old wakers → IsPast (with_event did old) → AreNamed [] (items_of (with_event did old)) →

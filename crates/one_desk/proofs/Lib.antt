@@ -6,6 +6,7 @@ pub mod CloseLemmas
 pub mod DeliverLemmas
 pub mod FirstLemmas
 pub mod FitLemmas
+pub mod GrowLemmas
 pub mod HoldLemmas
 pub mod LentLemmas
 pub mod LookLemmas

@@ -1,5 +1,5 @@
 -- What the calls of a desk leave, as its caller's moments say it.
-use Rattle.std.specs.Prelude.{◌≡◌, ◌⊎◌, ◌++◌, ◌∷◌, [], ℕ, Bool, true, false, List, Option, Some, None, Result, Ok, Err, IfNone, IfOk, IfSome, OnErr, refl}
+use Rattle.std.specs.Prelude.{◌≡◌, ◌⊎◌, [], Bool, true, false, List, Option, Some, None, Result, Ok, Err, IfNone, IfOk, IfSome, OnErr, refl}
 use Rattle.std.proofs.Common.{sym, ap, ◌∙◌, subst, inl, inr}
 use Rattle.std.proofs.lemmas.Result.{IfOk-weaker}
 use Rattle.zq_base.specs.declared.ids.EndId.{EndId}
@@ -22,8 +22,8 @@ use Rattle.ctl_holder.specs.declared.given.Given.{Given}
 use Rattle.ctl_plane.specs.Coming.{KeepsNames, SendsEnds, TakesEnds}
 use Rattle.ctl_plane.specs.Desk.{AsksOnce, DelimitsOrNot, GivesOrNot, Looks, LooksOrNot, ReapsOrNot}
 use Rattle.ctl_history.specs.Past.{Past, control_of, only_given, with_event}
-use Rattle.one_desk.specs.Lent.{Asks, FindsIn, Hears, Lent, Meets, MeetsOrNot, Sees, SeesNone, moments_of}
-use Rattle.one_desk.specs.Reaping.{FindsFirst, HearsFirst, HearsFrom, SeesNoneWaiting}
+use Rattle.one_desk.specs.Lent.{Asks, FindsIn, Hears, Lent, MeetsOrNot, Sees, SeesNone, moments_of}
+use Rattle.one_desk.specs.Reaping.{FindsFirst, HearsFrom}
 use Rattle.one_desk.proofs.AskLemmas.{asked_names, asked_sends, asks_once, moment_more, names_stay}
 
 pub either_way : {X E Q : Type 0} (r : Result X E) (P : X → Type 0) (R : Type 0) → ((x : X) → P x → Q) → (R → Q) → IfOk r P → OnErr r R → Q

@@ -19,10 +19,8 @@ use Rattle.spec_control.specs.declared.request.Req.{Req}
 use Rattle.spec_control.specs.declared.request.Req.TheVariants.{Close, Socket as MakeSocket}
 use Rattle.spec_control.specs.declared.request.Reply.{Reply}
 use Rattle.spec_control.specs.declared.request.Reply.TheVariants.{Done, Object, Pair, Both, Wait, Asked as WasAsked, Before, Refused}
-use Rattle.spec_control.specs.declared.stage.Use.{Use}
-use Rattle.spec_control.specs.declared.stage.Use.TheVariants.{Unused}
 use Rattle.spec_control.specs.Stage.{has_ended, is_unused}
-use Rattle.spec_control.specs.Row.{Row, is_socket, nobody}
+use Rattle.spec_control.specs.Row.{Row, nobody}
 use Rattle.spec_control.specs.Rows.{obj}
 use Rattle.spec_control.specs.Control.{Control, begun, makes, next_object}
 use Rattle.spec_control.specs.After.{after, socket_row}
@@ -36,7 +34,7 @@ use Rattle.ctl_plane.specs.Desk.{HasWhatTheySay, IsItsMailbox}
 use Rattle.ctl_state.specs.Listed.{Listed, with_last, with_room, without_room}
 use Rattle.ctl_history.specs.Past.{IsPast, Past, as_item, control_of, with_event}
 use Rattle.held_laws.proofs.BetweenLemmas.{asks_over}
-use Rattle.socket_laws.specs.Closed.{is_unclosed, lives, unclosed}
+use Rattle.socket_laws.specs.Closed.{is_unclosed, lives}
 use Rattle.socket_laws.proofs.ReapLemmas.{closed_one, event_lives, event_unclosed, lives_on, made_one, some_unclosed}
 use Rattle.socket_laws.proofs.RowLemmas.{event_count, makes_object}
 use Rattle.held_laws.proofs.EventLemmas.{closes, word_closes}

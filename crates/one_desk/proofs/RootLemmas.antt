@@ -1,5 +1,5 @@
 -- The oldest command of the root, with the reaper's holder.
-use Rattle.std.specs.Prelude.{◌≡◌, ◌≢◌, ◌≤◌, ◌<◌, ◌+◌, ◌==◌, ◌&&◌, ◌++◌, ◌∷◌, [], ℕ, zero, suc, Bool, true, false, List, Option, Some, None, refl}
+use Rattle.std.specs.Prelude.{◌≡◌, ◌<◌, ◌==◌, ◌&&◌, ◌++◌, ◌∷◌, [], ℕ, zero, suc, Bool, true, false, List, Some, None, refl}
 use Rattle.std.specs.List.{list_any}
 use Rattle.std.proofs.Common.{arith, sym, ap, ◌∙◌, subst}
 use Rattle.std.proofs.lemmas.Bool.{eqb-true}
@@ -7,7 +7,6 @@ use Rattle.std.proofs.lemmas.List.{get_or_default}
 use Rattle.std.proofs.lemmas.List.Folds.{list_any_none}
 use Rattle.zq_base.specs.declared.ids.EndId.{EndId}
 use Rattle.zq_base.specs.declared.ids.ObjId.{ObjId}
-use Rattle.zq_base.specs.declared.ids.SlotId.{SlotId}
 use Rattle.spec_control.specs.declared.letter.Letter.{Letter}
 use Rattle.spec_control.specs.declared.letter.Word.{Word}
 use Rattle.spec_control.specs.declared.letter.Word.TheVariants.{Own, Plug, TermReq, Term, TermAck, PipeBind, PipeTerm, PipeTermAck, Stop, Reap}
@@ -24,7 +23,6 @@ use Rattle.control_held.specs.Has.{IsBy, acts_at_word, has_after, taken_by_word}
 use Rattle.control_rows.proofs.ListLemmas.{left, never, placed, right}
 use Rattle.control_laws.specs.Kept.{Kept}
 use Rattle.control_laws.proofs.RootLemmas.{begun_kept, oldest_lives}
-use Rattle.control_rows.proofs.StepLemmas.{some_object}
 use Rattle.control_moves.proofs.GuardLemmas.{may_come}
 use Rattle.ctl_holder.specs.declared.given.Given.{Given}
 use Rattle.ctl_holder.specs.Holding.{Holding}
@@ -34,7 +32,7 @@ use Rattle.ctl_plane.specs.Coming.{AreDistinct, TakesEnds}
 use Rattle.ctl_plane.specs.Desk.{HasWhatTheySay, KeepsUp}
 use Rattle.ctl_history.specs.Coming.{ComesWith}
 use Rattle.ctl_history.specs.Hearing.{HasWhat, IsServed, TakesOldest}
-use Rattle.ctl_history.specs.Past.{IsPast, Past, control_of, items_of, only_given, with_event}
+use Rattle.ctl_history.specs.Past.{IsPast, Past, control_of, items_of, with_event}
 use Rattle.held_laws.proofs.NobodyLemmas.{nobody_over}
 use Rattle.one_desk.specs.declared.mark.Mark.{Mark}
 use Rattle.one_desk.specs.declared.mark.Mark.TheVariants.{Event}

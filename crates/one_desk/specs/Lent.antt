@@ -1,5 +1,5 @@
 -- The control plane as it is lent to one of its callers: the events, their order with the looks, and whose call comes next (own choice).
-use Rattle.std.specs.Prelude.{◌≡◌, ◌≤◌, ◌<◌, ◌+◌, ◌==◌, ◌&&◌, ◌++◌, ℕ, Bool, true, false, List, [], ◌∷◌}
+use Rattle.std.specs.Prelude.{◌≡◌, ◌≤◌, ◌<◌, ◌+◌, ◌==◌, ◌&&◌, ◌++◌, ℕ, Bool, true, false, All, List, [], ◌∷◌}
 use Rattle.zq_base.specs.declared.ids.EndId.{EndId}
 use Rattle.zq_base.specs.declared.ids.ObjId.{ObjId}
 use Rattle.zq_base.specs.declared.ids.SlotId.{SlotId}
@@ -11,7 +11,7 @@ use Rattle.spec_control.specs.declared.entry.Item.TheVariants.{Event as IsEvent,
 use Rattle.spec_control.specs.declared.entry.SeenEmpty.{SeenEmpty}
 use Rattle.spec_control.specs.declared.entry.SeenEmpty.TheVariants.{Mailbox}
 use Rattle.spec_control.specs.declared.entry.Sight.{Sight}
-use Rattle.spec_control.specs.ControlRun.{IsSeen}
+use Rattle.spec_control.specs.ControlRun.{IsSeen, after_all}
 use Rattle.spec_control.specs.declared.request.Req.{Req}
 use Rattle.spec_control.specs.declared.request.Req.TheVariants.{Close}
 use Rattle.spec_control.specs.declared.request.Reply.{Reply}
@@ -21,6 +21,7 @@ use Rattle.spec_control.specs.declared.request.Reply.TheVariants.{Done as IsDone
 use Rattle.spec_control.specs.Place.{is_away, looks}
 use Rattle.spec_control.specs.Rows.{obj}
 use Rattle.spec_control.specs.Control.{Control, begun, next_object, owner_of, place_of}
+use Rattle.control_held.specs.Held.{caller_of}
 use Rattle.control_held.specs.OwnAsks.{known_after}
 use Rattle.control_held.specs.Moments.{Moment, items_in, moments_by, moments_from}
 use Rattle.ctl_holder.specs.declared.given.Given.{Given}
@@ -72,6 +73,22 @@ module _ {G N S : Type 0} where
   -- what its caller did and saw so far, each item with the control plane as it found it
   abbrev pub moments_of : Lent G N S → List (Moment N S)
   moments_of d = moments_by d.caller (moments_from (begun d.past.workers) d.items)
+
+  -- what is so of the order, whoever is called next: it is one, its events led to the control state, each object but the root has a mailbox of its own, each socket has the options that a socket may have, and each closed socket was made
+  pub record IsOneOrder (d : Lent G N S) : Type 0 where
+    pub order : IsOrder d.past.workers d.items
+    pub control : control_of d.past ≡ after_all d.items (begun d.past.workers)
+    pub boxes : HaveOwnBoxes d.past.workers (control_of d.past)
+    pub options : AllMarked (control_of d.past)
+    pub closed : All (λ o. o.0 < next_object (control_of d.past)) (control_of d.past).closed
+
+  -- the caller added items of its own at the end of the order, and no others
+  pub record GrowsBy (old new : Lent G N S) : Type 0 where
+    pub caller : new.caller ≡ old.caller
+    pub workers : new.past.workers ≡ old.past.workers
+    pub more : List (Item N S)
+    pub items : new.items ≡ old.items ++ more
+    pub by : All (λ item. caller_of item ≡ old.caller) more
 
   -- a holder that is not lent has what the moments say still
   abbrev pub KeepsAside : (old new : Lent G N S) → Type 0

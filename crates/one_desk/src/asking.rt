@@ -1,4 +1,4 @@
-ghost use Rattle.std.specs.Prelude.{◌≡◌, ℕ, true, Some, IfOk, OnErr};
+ghost use Rattle.std.specs.Prelude.{◌≡◌, [], ℕ, true, Some, IfOk, OnErr};
 ghost use Rattle.spec_control.specs.declared.request.Req.TheVariants.{Bind, Connect};
 ghost use Rattle.spec_control.specs.Names.{name_of};
 ghost use Rattle.control_held.specs.Held.{asker};
@@ -7,7 +7,7 @@ ghost use Rattle.control_held.specs.Moments.{items_in};
 ghost use Rattle.ctl_plane.specs.Asking.{HasMarks, IsInproc, IsOfSockets};
 ghost use Rattle.ctl_plane.specs.Coming.{is_close, KeepsNames, SendsEnds};
 ghost use Rattle.ctl_plane.specs.Desk.{AsksOnce, HasWhatTheySay, KeepsUp};
-ghost use Rattle.one_desk.specs.Lent.{moments_of, Asks, HasSocket};
+ghost use Rattle.one_desk.specs.Lent.{moments_of, Asks, GrowsBy, HasSocket};
 
 use crate::desk::OneDesk;
 use ctl_holder::Holder;
@@ -34,6 +34,7 @@ where
         requires lent { (H.holding holder.old).holds socket.0 ≡ true }
         requires has { HasWhatTheySay self.old.caller (moments_of self.old)
             (H.holding holder.old) }
+        requires calm { H.calm holder.old [] }
         ensures ok { IfOk result (λ reply. Asks (Bind socket at) reply self.old self.new) }
         ensures err { OnErr result (self.new ≡ self.old) }
         ensures keeps { KeepsUp self.new.caller (moments_of self.old) (moments_of self.new)
@@ -58,6 +59,7 @@ where
         requires lent { (H.holding holder.old).holds socket.0 ≡ true }
         requires has { HasWhatTheySay self.old.caller (moments_of self.old)
             (H.holding holder.old) }
+        requires calm { H.calm holder.old [] }
         ensures ok { IfOk result (λ reply. Asks (Connect socket at) reply self.old self.new) }
         ensures err { OnErr result (self.new ≡ self.old) }
         ensures keeps { KeepsUp self.new.caller (moments_of self.old) (moments_of self.new)
@@ -84,11 +86,13 @@ where
         requires lent { (i : ℕ) → asker request ≡ Some i → (H.holding holder.old).holds i ≡ true }
         requires has { HasWhatTheySay self.old.caller (moments_of self.old)
             (H.holding holder.old) }
+        requires calm { H.calm holder.old [] }
         ensures ok { IfOk result (λ reply. AsksOnce self.old.caller request reply
             (moments_of self.old) (moments_of self.new)) }
         ensures given { IfOk result (λ _. SendsEnds P.known (H.pipes holder.new) request
             self.old.past.given self.new.past.given) }
         ensures err { OnErr result (self.new ≡ self.old) }
+        ensures grows { GrowsBy self.old self.new }
         ensures names { KeepsNames (name_of self.old.items) (name_of self.new.items) }
         ensures keeps { (self.new.caller ≡ self.old.caller)
             × KeepsUp self.new.caller (moments_of self.old) (moments_of self.new)

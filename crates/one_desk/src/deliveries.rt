@@ -1,7 +1,7 @@
-ghost use Rattle.std.specs.Prelude.{◌≡◌, true, IfOk, OnErr};
+ghost use Rattle.std.specs.Prelude.{◌≡◌, [], true, IfOk, OnErr};
 ghost use Rattle.spec_control.specs.Names.{name_of};
 ghost use Rattle.ctl_plane.specs.Coming.{AreDistinct, BindsFit};
-ghost use Rattle.ctl_plane.specs.Desk.{CountsWith, HasWhatTheySay, HoldsEnd, IsItsMailbox, KeepsUp};
+ghost use Rattle.ctl_plane.specs.Desk.{CountsWith, HasWhatTheySay, HoldsEnd, IsItsMailbox, IsNotLooked, KeepsUp};
 ghost use Rattle.one_desk.specs.Lent.{coming_to, moments_of, FindsIn, MeetsOrNot};
 
 use crate::desk::OneDesk;
@@ -28,6 +28,7 @@ where
         requires has { HasWhatTheySay self.old.caller (moments_of self.old)
             (H.holding holder.old) }
         ensures found { MeetsOrNot end result self.old self.new }
+        ensures not_looked { IsNotLooked end result (moments_of self.old) (H.holding holder.old) }
         ensures keeps { KeepsUp self.new.caller (moments_of self.old) (moments_of self.new)
             (H.holding holder.old) (H.holding holder.new) }
     {
@@ -57,6 +58,7 @@ where
         requires distinct { AreDistinct P.known.exact (name_of self.old.items) }
         requires fits { BindsFit P.known.out_name P.known.in_name (name_of self.old.items)
             (coming_to self.old slot.0) (H.fits holder.old) }
+        requires calm { H.calm holder.old [] }
         ensures ok { IfOk result (λ found. FindsIn slot found self.old self.new) }
         ensures counts { CountsWith P.known.out_name (H.counts holder.old)
             (moments_of self.old) (moments_of self.new) (H.holding holder.old) }

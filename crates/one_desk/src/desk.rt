@@ -3,7 +3,7 @@ ghost use Rattle.spec_control.specs.declared.request.Req.TheVariants.{AskTerm};
 ghost use Rattle.spec_control.specs.Reply.{reply_of};
 ghost use Rattle.ctl_history.specs.Past.{control_of};
 ghost use Rattle.ctl_hears.specs.Processing.{IsSilent};
-ghost use Rattle.one_desk.specs.Lent.{Asks, KeepsAside};
+ghost use Rattle.one_desk.specs.Lent.{Asks, GrowsBy, KeepsAside};
 
 use crate::mark::Mark;
 use ctl_history::History;
@@ -95,6 +95,7 @@ where
         ensures ok { IfOk result (λ reply. Asks AskTerm reply self.old self.new) }
         ensures reply { IfOk result (λ reply. reply ≡ reply_of (control_of self.old.past) AskTerm) }
         ensures err { OnErr result (self.new ≡ self.old) }
+        ensures grows { GrowsBy self.old self.new }
         ensures keeps { KeepsAside self.old self.new }
     {
         let reply = self.history.ask_term(silent(alloc))?;

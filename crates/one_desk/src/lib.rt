@@ -13,6 +13,8 @@ mod pairs;
 mod plane;
 mod reaping;
 mod requests;
+mod shows;
+mod standing;
 
 pub use desk::OneDesk;
 pub use laws::{

@@ -61,7 +61,8 @@ where
     /// The caller looks at the root's state, at how many objects live, and whether there is room for
     /// one session more.
     pub fn look_around(&mut self) -> Sight
-        ensures { Sees Nothing result self.old self.new }
+        ensures sees { Sees Nothing result self.old self.new }
+        ensures keeps { KeepsAside self.old self.new }
     {
         self.note_look(SeenEmpty::Nothing)
     }

@@ -1,4 +1,4 @@
-ghost use Rattle.std.specs.Prelude.{◌≡◌, true, IfOk, OnErr};
+ghost use Rattle.std.specs.Prelude.{◌≡◌, [], true, IfOk, OnErr};
 ghost use Rattle.zq_base.specs.declared.endpoint.Endpoint.TheVariants.{Inproc};
 ghost use Rattle.spec_control.specs.declared.request.Req.TheVariants.{Bind, Connect, Disconnect};
 ghost use Rattle.spec_control.specs.Reply.{reply_of};
@@ -32,6 +32,7 @@ where
         requires lent { (H.holding holder.old).holds socket.0 ≡ true }
         requires has { HasWhatTheySay self.old.caller (moments_of self.old)
             (H.holding holder.old) }
+        requires calm { H.calm holder.old [] }
         ensures ok { IfOk result (λ reply.
             Asks (Bind socket (Inproc name)) reply self.old self.new) }
         ensures reply { IfOk result (λ reply.
@@ -62,6 +63,7 @@ where
         requires lent { (H.holding holder.old).holds socket.0 ≡ true }
         requires has { HasWhatTheySay self.old.caller (moments_of self.old)
             (H.holding holder.old) }
+        requires calm { H.calm holder.old [] }
         ensures ok { IfOk result (λ reply.
             Asks (Connect socket (Inproc name)) reply self.old self.new) }
         ensures reply { IfOk result (λ reply.

@@ -15,7 +15,8 @@ where
 {
     ghost use Rattle.std.specs.Prelude.{false};
     ghost use Rattle.spec_control.specs.Names.{name_of};
-    ghost use Rattle.one_desk.specs.Lent.{coming_to, moments_of};
+    ghost use Rattle.one_desk.specs.GrowsOwed.{grows_none};
+    ghost use Rattle.one_desk.specs.Lent.{coming_to, moments_of, GrowsBy};
     ghost use Rattle.one_desk.specs.Reaping.{served_by};
 
     ghost number = { λ d. d.caller };
@@ -32,7 +33,11 @@ where
 
     ghost given = { λ d. d.past.given };
 
+    ghost grows = { λ old new. GrowsBy old new };
+
     ghost serves = { false };
+
+    ghost grows_none = { λ d. grows_none d };
 
     fn slot(&self, object: ObjId) -> SlotId {
         OneDesk::slot(self, object)

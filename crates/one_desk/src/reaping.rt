@@ -110,6 +110,7 @@ where
             (H.holding holder.old) }
         requires distinct { AreDistinct P.known.exact (name_of self.old.items) }
         requires takes { MayTakeFirst (H.may_take holder.old) self.old.past.given }
+        requires calm { H.calm holder.old [] }
         ensures ok { OnOk result (HearsFrom (record { 0 = 0 }) self.old self.new) }
         ensures counts { CountsWith P.known.out_name (H.counts holder.old)
             (moments_of self.old) (moments_of self.new) (H.holding holder.old) }
@@ -145,6 +146,7 @@ where
         requires distinct { AreDistinct P.known.exact (name_of self.old.items) }
         requires fits { BindsFit P.known.out_name P.known.in_name (name_of self.old.items)
             (coming_to self.old slot.0) (H.fits holder.old) }
+        requires calm { H.calm holder.old [] }
         ensures ok { OnOk result (HearsFrom slot self.old self.new) }
         ensures counts { CountsWith P.known.out_name (H.counts holder.old)
             (moments_of self.old) (moments_of self.new) (H.holding holder.old) }
@@ -178,6 +180,7 @@ where
             BindsFit P.known.out_name P.known.in_name (name_of self.old.items)
             (coming_to self.old m) (H.fits holder.old) }
         requires takes { MayTakeFirst (H.may_take holder.old) self.old.past.given }
+        requires calm { H.calm holder.old [] }
         ensures ok { OnOk result (HearsFrom slot self.old self.new) }
         ensures counts { CountsWith P.known.out_name (H.counts holder.old)
             (moments_of self.old) (moments_of self.new) (H.holding holder.old) }
@@ -211,6 +214,7 @@ where
             BindsFit P.known.out_name P.known.in_name (name_of self.old.items)
             (coming_to self.old m) (H.fits holder.old) }
         requires takes { MayTakeFirst (H.may_take holder.old) self.old.past.given }
+        requires calm { H.calm holder.old [] }
         ensures ok { IfOk result (λ found. FindsFirst found self.old self.new) }
         ensures counts { CountsWith P.known.out_name (H.counts holder.old)
             (moments_of self.old) (moments_of self.new) (H.holding holder.old) }

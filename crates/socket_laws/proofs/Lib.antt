@@ -5,3 +5,4 @@ pub mod ThereLemmas
 pub mod SlotLemmas
 pub mod ClosedLemmas
 pub mod ReapLemmas
+pub mod AwayLemmas

@@ -1,7 +1,9 @@
-use Rattle.std.specs.Prelude.{◌+◌, ◌-◌, length, slice_index_or}
-use Rattle.std.proofs.Common.{arith, ap}
+use Rattle.std.specs.Prelude.{◌+◌, ◌-◌, List, length, slice_index_or}
+use Rattle.std.proofs.Common.{arith, ap, sym, subst}
 use Rattle.std.proofs.lemmas.List.{get_or_default}
+use Rattle.ctl_binds.specs.declared.batch.Drawn.{Drawn}
 use Rattle.ctl_binds.specs.declared.batch.Batch.{Batch}
+use Rattle.ctl_binds.specs.Batch.{drawn_ends}
 use Rattle.ctl_binds.proofs.DrawAllLemmas.{all_drawn, may_draw_next, none_drawn, one_drawn, one_fits, were_taken}
 use Rattle.ctl_binds.proofs.drawing.draw_all.Goals as goal
 
@@ -18,17 +20,20 @@ waiters-init g c = record {
         drawn = omega (arith, drawn, few);
         notes = record { joined = omega (arith, joined, few); opened = omega (arith, opened, few) };
       });
+  calm = subst (λ (ds : List (Drawn g.row.P-Name.Denot g.row.P-Out.Denot g.row.P-In.Denot)). g.H.Holder.calm c.args.holder.now (drawn_ends ds)) (sym c.in_ok-batch.ensures.drawn) c.requires.calm;
 }
 
 pub draw_one-requires : goal.draw_one-requires
 draw_one-requires g c = record {
   may = may_draw_next g.P.Pipes.known.out_name g.P.Pipes.known.in_name c.args.state.now (g.H.Holder.holding c.args.holder.now) c.args.socket c.args.waiters.now (length c.args.wakers.now) c.waiters.place c.waiters-test.true c.waiters.state (g.H.Holder.holding c.waiters.holder) c.waiters.batch (slice_index_or c.args.waiters.now c.waiters.place (record { 0 = 0 })) (get_or_default c.args.waiters.now c.waiters.place (record { 0 = 0 }) (slice_index_or c.args.waiters.now c.waiters.place (record { 0 = 0 })) c.waiters-test.true) c.requires.may (c.waiters.invariant.draws c.requires.may) c.waiters.invariant.room;
+  calm = c.waiters.invariant.calm;
 }
 
 pub undraw_all-requires : goal.undraw_all-requires
 undraw_all-requires g c = record {
   taken = were_taken g.P.Pipes.known.out_name g.P.Pipes.known.in_name c.args.state.now (g.H.Holder.holding c.args.holder.now) c.args.socket c.args.waiters.now (length c.args.wakers.now) c.waiters.place c.waiters-test.true c.waiters.state (g.H.Holder.holding c.waiters.holder) c.waiters.batch (slice_index_or c.args.waiters.now c.waiters.place (record { 0 = 0 })) (get_or_default c.args.waiters.now c.waiters.place (record { 0 = 0 }) (slice_index_or c.args.waiters.now c.waiters.place (record { 0 = 0 })) c.waiters-test.true) c.requires.may (c.waiters.invariant.draws c.requires.may) c.draw_one.new.state (g.H.Holder.holding c.draw_one.new.holder) c.draw_one.new.batch.drawn.items c.in-Err.ensures.err.0
       (ap (λ (b : Batch g.row.P-Name.Denot g.row.P-Out.Denot g.row.P-In.Denot). b.drawn.items) c.in-Err.ensures.err.1) c.in-Err.ensures.stays c.in-Err.ensures.quiet c.in-Err.ensures.heard;
+  calm = c.draw_one.ensures.calm;
 }
 
 pub returns-in-Err-clause-err : goal.returns-in-Err-clause-err
@@ -45,6 +50,7 @@ pub waiters-preserved : goal.waiters-preserved
 waiters-preserved g c = record {
   draws = λ w. one_drawn g.P.Pipes.known.out_name g.P.Pipes.known.in_name c.args.state.now (g.H.Holder.holding c.args.holder.now) c.args.socket c.args.waiters.now (length c.args.wakers.now) c.waiters.place c.waiters-test.true c.waiters.state (g.H.Holder.holding c.waiters.holder) c.waiters.batch (slice_index_or c.args.waiters.now c.waiters.place (record { 0 = 0 })) (get_or_default c.args.waiters.now c.waiters.place (record { 0 = 0 }) (slice_index_or c.args.waiters.now c.waiters.place (record { 0 = 0 })) c.waiters-test.true) w (c.waiters.invariant.draws w) c.draw_one.new.batch c.draw_one.new.state (g.H.Holder.holding c.draw_one.new.holder) (c.in-Ok.ensures.ok (may_draw_next g.P.Pipes.known.out_name g.P.Pipes.known.in_name c.args.state.now (g.H.Holder.holding c.args.holder.now) c.args.socket c.args.waiters.now (length c.args.wakers.now) c.waiters.place c.waiters-test.true c.waiters.state (g.H.Holder.holding c.waiters.holder) c.waiters.batch (slice_index_or c.args.waiters.now c.waiters.place (record { 0 = 0 })) (get_or_default c.args.waiters.now c.waiters.place (record { 0 = 0 }) (slice_index_or c.args.waiters.now c.waiters.place (record { 0 = 0 })) c.waiters-test.true) w (c.waiters.invariant.draws w) c.waiters.invariant.room));
   room = c.in-Ok.ensures.room (length c.args.waiters.now - (c.waiters.place + 1)) (one_fits g.P.Pipes.known.out_name g.P.Pipes.known.in_name c.args.state.now (g.H.Holder.holding c.args.holder.now) c.args.socket c.args.waiters.now (length c.args.wakers.now) c.waiters.place c.waiters-test.true c.waiters.state (g.H.Holder.holding c.waiters.holder) c.waiters.batch c.waiters.invariant.room);
+  calm = c.draw_one.ensures.calm;
 }
 
 pub returns-clause-ok : goal.returns-clause-ok

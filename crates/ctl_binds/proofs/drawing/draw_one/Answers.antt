@@ -1,5 +1,8 @@
-use Rattle.std.specs.Prelude.{length, refl}
-use Rattle.std.proofs.Common.{arith}
+use Rattle.std.specs.Prelude.{List, length, refl}
+use Rattle.zq_base.specs.declared.ids.EndId.{EndId}
+use Rattle.ctl_binds.specs.Batch.{drawn_ends}
+use Rattle.ctl_binds.proofs.CameLemmas.{drawn_more}
+use Rattle.std.proofs.Common.{arith, ap, sym, ◌∙◌, subst}
 use Rattle.ctl_binds.proofs.DrawLemmas.{draws_now, drawn_now, first_waker, last_waker, marked, not_there, places_now}
 use Rattle.ctl_binds.proofs.drawing.draw_one.Goals as goal
 
@@ -49,3 +52,9 @@ returns-in-Ok-clause-room g c = λ n fits. record {
 pub returns-in-Err-clause-err : goal.returns-in-Err-clause-err
 returns-in-Err-clause-err g c =
     (c.undraw_pair.ensures (drawn_now g.P.Pipes.known.out_name g.P.Pipes.known.in_name c.args.state.now (g.H.Holder.holding c.args.holder.now) c.args.socket c.args.waiter c.args.batch.now (length c.args.wakers.now) c.requires.may c.of-o.result (c.of-o.ensures _ c.requires.may.draws.stands) c.in_ok-pair.pair c.in_ok-pair.ensures.number c.draw_pair.new.state c.in_ok-pair.ensures.next), refl)
+
+pub returns-in-Ok-clause-calm : goal.returns-in-Ok-clause-calm
+returns-in-Ok-clause-calm g c =
+    subst (λ (es : List EndId). g.H.Holder.calm c.attach_first.new.holder es)
+    (sym (ap drawn_ends c.push_back_reserved.ensures.items ∙ drawn_more c.args.batch.now.drawn.items _))
+    (c.in-Ok.ensures.calm (drawn_ends c.args.batch.now.drawn.items) c.requires.calm)

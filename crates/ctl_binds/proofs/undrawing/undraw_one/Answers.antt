@@ -13,5 +13,5 @@ undraw_pair-requires-clause-drawn g c = was_drawn c.args.state.now (g.H.Holder.h
 pub undraw_pair-requires-clause-last : goal.undraw_pair-requires-clause-last
 undraw_pair-requires-clause-last g c = last_number c.args.state.now (g.H.Holder.holding c.args.holder.now) c.args.socket.0 c.args.drawn c.requires.taken
 
-pub returns : goal.returns
-returns g c = λ w. taken_less c.args.state.now (g.H.Holder.holding c.args.holder.now) c.args.socket.0 c.args.drawn w c.undraw_pair.new.state (g.H.Holder.holding c.take_back-halves.new.self) (c.undraw_pair.ensures (was_drawn c.args.state.now (g.H.Holder.holding c.args.holder.now) c.args.socket.0 c.args.drawn w)) c.take_back-halves.ensures.left c.take_back-halves.ensures.turns c.take_back-halves.ensures.joins c.take_back-halves.ensures.heard
+pub returns-clause-back : goal.returns-clause-back
+returns-clause-back g c = λ w. taken_less c.args.state.now (g.H.Holder.holding c.args.holder.now) c.args.socket.0 c.args.drawn w c.undraw_pair.new.state (g.H.Holder.holding c.take_back-halves.new.self) (c.undraw_pair.ensures (was_drawn c.args.state.now (g.H.Holder.holding c.args.holder.now) c.args.socket.0 c.args.drawn w)) c.take_back-halves.ensures.left c.take_back-halves.ensures.turns c.take_back-halves.ensures.joins c.take_back-halves.ensures.heard

@@ -1,10 +1,11 @@
 use Rattle.std.specs.Prelude.{◌<◌, ◌≤◌, ◌+◌, ◌&&◌, ◌==◌, cond, ℕ, Bool, false, List, All, if◌then◌else◌, refl}
 use Rattle.std.proofs.Common.{ap, sym, ◌∙◌, subst}
 use Rattle.spec_control.specs.declared.end.EndState.{EndState}
+use Rattle.spec_control.specs.declared.end.EndState.TheVariants.{Gone}
 use Rattle.spec_control.specs.declared.end.EndCommands.{EndCommands}
 use Rattle.spec_control.specs.declared.end.EndEvent.TheVariants.{AckCame}
 use Rattle.spec_control.specs.EndLife.{cell, state_after, commands_of}
-use Rattle.spec_control.specs.Place.{is_here}
+use Rattle.spec_control.specs.Place.{is_here, At}
 use Rattle.spec_control.specs.Control.{commands_in, owner_of, place_of, tell_other}
 use Rattle.control_held.specs.Held.{Held}
 use Rattle.control_laws.proofs.AskLemmas.{end_self}
@@ -48,6 +49,16 @@ give_for-load-requires-clause-writer g c = λ needs.
     let commands = c.end_goes-commands.ensures.commands w.control w.stands ∙ ap (commands_in AckCame) w.settles.there in
     c.set_state.ensures.stays.writers c.args.e ∙ has.writes c.args.e here ∙ ap has_writer w.settles.there
     ∙ ack_needed w.settles.state (ap needs_writer (sym commands) ∙ needs)
+
+pub give_for-load-requires-clause-out : goal.give_for-load-requires-clause-out
+give_for-load-requires-clause-out g c = λ gives.
+    let w = c.requires.may in
+    let here = ap (λ (n : ℕ). has_end c.args.e ((g.H.Holder.holding c.args.holder.now).ends n)) (sym (c.owner-owner.ensures.stands w.control w.stands))
+    ∙ has_here w.names w.control.rows.pairs w.control.attached w.control.reasons (g.H.Holder.holding c.args.holder.now) (owner_of w.control c.args.e) (w.has (owner_of w.control c.args.e) w.settles.lent) c.args.e refl
+    (ap is_here w.settles.there ∙ comes_here AckCame w.settles.state w.settles.may_come) w.settles.listed in
+    ap (λ (s : EndState). has_writer (At s))
+    (c.set_state.ensures.turns.states c.owner-owner.result.0 c.args.e (ap (has_end c.args.e) c.set_state.ensures.stays.now.ends ∙ here)
+    ∙ ap (λ (b : Bool). if b then Gone else (g.H.Holder.holding c.args.holder.now).state c.args.e) (end_self c.args.e))
 
 pub settle-counts-requires-clause-yielded : goal.settle-counts-requires-clause-yielded
 settle-counts-requires-clause-yielded g c =

@@ -1,10 +1,12 @@
-use Rattle.std.specs.Prelude.{◌<◌, ℕ, List, All, refl}
+use Rattle.std.specs.Prelude.{◌<◌, ℕ, Bool, false, List, All, refl, if◌then◌else◌}
 use Rattle.std.proofs.Common.{ap, sym, ◌∙◌, subst}
 use Rattle.spec_control.specs.declared.end.EndCommands.{EndCommands}
 use Rattle.spec_control.specs.EndLife.{cell, state_after, commands_of}
-use Rattle.spec_control.specs.Place.{is_here}
+use Rattle.spec_control.specs.declared.end.EndState.{EndState}
+use Rattle.spec_control.specs.Place.{is_here, At}
 use Rattle.spec_control.specs.Control.{commands_in, owner_of, tell_other}
 use Rattle.control_held.specs.Held.{Held}
+use Rattle.control_laws.proofs.AskLemmas.{end_self}
 use Rattle.ctl_holder.specs.Holding.{has_end}
 use Rattle.ctl_holder.specs.Lent.{has_writer, HasBothNames}
 use Rattle.ctl_holder.specs.declared.load.Load.{Load}
@@ -13,7 +15,7 @@ use Rattle.ctl_state.specs.Stands.{Stands, stepped, tells}
 use Rattle.ctl_state.specs.Boxes.{mail_at}
 use Rattle.ctl_ends.specs.Turning.{yields, needs_writer, SealsFor, Turned}
 use Rattle.ctl_ends.proofs.HeldLemmas.{has_here}
-use Rattle.ctl_ends.proofs.TurnLemmas.{comes_here, stepped_at, writer_needed, turned_told, told_as, ends_same, has_turned, turns_told, puts_told, lists_kept, other_slot}
+use Rattle.ctl_ends.proofs.TurnLemmas.{comes_here, stepped_at, writer_needed, writer_step, turned_told, told_as, ends_same, has_turned, turns_told, puts_told, lists_kept, other_slot}
 use Rattle.ctl_ends.proofs.turning.turn_end.Goals as goal
 
 pub tell_state-requires-clause-there : goal.tell_state-requires-clause-there
@@ -50,6 +52,27 @@ give_for-load-requires-clause-writer g c = λ needs.
     let commands = c.step_end-commands.ensures.commands w.control w.stands ∙ ap (commands_in c.args.event) w.turns.there in
     c.tell_state.ensures.stays.writers c.args.e ∙ has.writes c.args.e here ∙ ap has_writer w.turns.there
     ∙ writer_needed c.args.event w.turns.state c.requires.stays (ap needs_writer (sym commands) ∙ needs)
+
+-- it gives its writing half away in a state that has none
+pub give_for-load-requires-clause-out : goal.give_for-load-requires-clause-out
+give_for-load-requires-clause-out g c = λ gives.
+    let w = c.requires.may in
+    let now = state_after (cell c.args.event w.turns.state) w.turns.state in
+    let here = ap (λ (n : ℕ). has_end c.args.e ((g.H.Holder.holding c.args.holder.now).ends n)) (sym (c.owner-owner.ensures.stands w.control w.stands))
+    ∙ has_here w.names w.control.rows.pairs w.control.attached w.control.reasons (g.H.Holder.holding c.args.holder.now) (owner_of w.control c.args.e) (w.has (owner_of w.control c.args.e) w.turns.lent) c.args.e refl
+    (ap is_here w.turns.there ∙ comes_here c.args.event w.turns.state w.turns.may_come) w.turns.listed in
+    let commands = c.step_end-commands.ensures.commands w.control w.stands ∙ ap (commands_in c.args.event) w.turns.there in
+    let told = c.tell_state.ensures.turns (record {
+      control = stepped c.args.event c.args.e w.control;
+      stands = c.step_end-commands.ensures.stands w.control w.stands;
+      state = now;
+      there = stepped_at w.control c.args.event c.args.e w.turns.state w.turns.there w.turns.within;
+    }) in
+    ap (λ (s : EndState). has_writer (At s))
+    (told.states c.owner-owner.result.0 c.args.e (ap (has_end c.args.e) c.tell_state.ensures.stays.now.ends ∙ here)
+    ∙ ap (λ (b : Bool). if b then now else (g.H.Holder.holding c.args.holder.now).state c.args.e) (end_self c.args.e))
+    ∙ writer_step c.args.event w.turns.state w.turns.may_come c.requires.stays
+    ∙ ap (λ (b : Bool). if b then false else has_writer (At w.turns.state)) (ap yields (sym commands) ∙ gives)
 
 pub returns : goal.returns
 returns g c = λ w.

@@ -37,7 +37,7 @@ connect_with_room-requires g c =
     let are = c.of-owners.ensures _ stands in
     let has = (subst (λ (p : Past (Given g.row.P-Name.Denot g.row.P-Out.Denot g.row.P-In.Denot) g.row.P-Name.Denot g.row.P-Story.Denot). HasWhat p (g.H.Holder.holding c.args.holder.now)) (sym c.self.view_is) c.requires.has) in
     let may = may_connect g.P.Pipes.known.out_name g.P.Pipes.known.in_name c.self.inside.state _ _ c.args.socket c.args.name c.args.binding c.self.invariant (g.H.Holder.holding c.args.holder.now) lends held free (c.needs.ensures _ stands) c.of-owners.result are (length c.args.wakers.now) (subst (λ (p : Past (Given g.row.P-Name.Denot g.row.P-Out.Denot g.row.P-In.Denot) g.row.P-Name.Denot g.row.P-Story.Denot). (control_of p).slots ≤ length c.args.wakers.now) (sym c.self.view_is) c.requires.wakers) has in
-    record { may = may }
+    record { may = may; calm = c.requires.calm }
 
 pub invariant_of-self-2 : goal.invariant_of-self-2
 invariant_of-self-2 g c =

@@ -1,7 +1,6 @@
-use Rattle.std.specs.Prelude.{Some}
-use Rattle.std.proofs.Common.{sym, ap, ◌∙◌, subst}
+use Rattle.std.proofs.Common.{sym, ap, subst}
 use Rattle.spec_control.specs.declared.request.Req.{Req}
-use Rattle.spec_control.specs.declared.request.Req.TheVariants.{Socket as MakeSocket, AskTerm, Bind, Connect, Unbind, Disconnect, Close}
+use Rattle.spec_control.specs.declared.request.Req.TheVariants.{Socket as MakeSocket, AskTerm, Bind, Connect, Unbind, Disconnect}
 use Rattle.spec_control.specs.declared.request.Reply.TheVariants.{Done as IsDone}
 use Rattle.control_held.specs.Held.{asker}
 use Rattle.control_held.specs.OwnAsks.{MayAskOwn}
@@ -11,6 +10,7 @@ use Rattle.ctl_plane.specs.Coming.{is_close, SendsEnds}
 use Rattle.ctl_plane.specs.Desk.{AsksOnce}
 use Rattle.one_desk.specs.Lent.{moments_of}
 use Rattle.one_desk.proofs.AskLemmas.{closed_names, closed_sends, closes_once}
+use Rattle.one_desk.proofs.GrowLemmas.{asked_grow, close_grows}
 use Rattle.one_desk.proofs.PlaneLemmas.{ask_caller, ask_given, ask_names, ask_ok}
 use Rattle.one_desk.proofs.desk.OneDesk.ask.Goals as goal
 
@@ -136,3 +136,21 @@ returns-in-Close-clause-names g c = closed_names g.P.Pipes.known (g.H.Holder.pip
 
 pub returns-in-Close-clause-keeps : goal.returns-in-Close-clause-keeps
 returns-in-Close-clause-keeps g c = (c.close.ensures.closes.caller, c.close.ensures.keeps)
+
+pub returns-in-Socket-clause-grows : goal.returns-in-Socket-clause-grows
+returns-in-Socket-clause-grows g c = asked_grow c.args.self.now c.make_socket.new.self (MakeSocket c.in-Socket.kind c.in-Socket.options) c.make_socket.result c.make_socket.ensures.ok c.make_socket.ensures.err
+
+pub returns-in-Bind-clause-grows : goal.returns-in-Bind-clause-grows
+returns-in-Bind-clause-grows g c = asked_grow c.args.self.now c.bind_at.new.self (Bind c.in-Bind.socket c.in-Bind.at) c.bind_at.result c.bind_at.ensures.ok c.bind_at.ensures.err
+
+pub returns-in-Connect-clause-grows : goal.returns-in-Connect-clause-grows
+returns-in-Connect-clause-grows g c = asked_grow c.args.self.now c.connect_at.new.self (Connect c.in-Connect.socket c.in-Connect.at) c.connect_at.result c.connect_at.ensures.ok c.connect_at.ensures.err
+
+pub returns-in-Unbind-clause-grows : goal.returns-in-Unbind-clause-grows
+returns-in-Unbind-clause-grows g c = asked_grow c.args.self.now c.unbind.new.self (Unbind c.in-Unbind.socket c.in-Unbind.at) c.unbind.result c.unbind.ensures.ok c.unbind.ensures.err
+
+pub returns-in-Disconnect-clause-grows : goal.returns-in-Disconnect-clause-grows
+returns-in-Disconnect-clause-grows g c = asked_grow c.args.self.now c.disconnect.new.self (Disconnect c.in-Disconnect.socket c.in-Disconnect.at) c.disconnect.result c.disconnect.ensures.ok c.disconnect.ensures.err
+
+pub returns-in-Close-clause-grows : goal.returns-in-Close-clause-grows
+returns-in-Close-clause-grows g c = close_grows g.P.Pipes.known (g.H.Holder.pipes c.close.new.holder) c.in-Close.socket c.args.self.now c.close.new.self c.close.ensures.closes

@@ -8,6 +8,8 @@ use Rattle.ctl_holder.specs.declared.given.Given.{Given}
 use Rattle.one_desk.specs.declared.mark.Mark.{Mark}
 use Rattle.one_desk.specs.Lent.{lent_to, Asks, Lent}
 use Rattle.one_desk.proofs.AsideLemmas.{desk_asked, desk_same}
+use Rattle.ctl_history.specs.Past.{Past}
+use Rattle.one_desk.proofs.GrowLemmas.{asks_grow, same_grows}
 use Rattle.one_desk.proofs.MakeLemmas.{unless_none}
 use Rattle.one_desk.proofs.LentLemmas.{asks_more, lent_more, term_by}
 use Rattle.one_desk.proofs.ReapingLemmas.{reaps_asked}
@@ -38,3 +40,16 @@ returns-clause-keeps g c =
     desk_asked (map (λ x. x.0) c.self.inside.order.items) c.self.inside.history (length c.self.inside.wakers.items) c.self.inside.caller c.args.self.now c.self.view_is c.self.invariant.0 _ (length c.self.inside.wakers.items) _ c.in_ok-reply.reply _ marks c.in_ok-reply.ensures.ok
     (lent_more _ _ c.self.inside.caller _ _ _ _ marks c.in_ok-reply.ensures.ok c.self.invariant.0 c.is_run.ensures.run c.is_run.ensures.named (term_by _ _ _ _ _) (unless_none c.in_ok-reply.reply (LinkMoves 0 RootAsked ∷ []) refl))
     c.silent.ensures
+
+pub returns-in_err-reply-clause-grows : goal.returns-in_err-reply-clause-grows
+returns-in_err-reply-clause-grows g c =
+    same_grows c.args.self.now _
+    (ap (λ (p : Past (Given g.row.P-Name.Denot g.row.P-Out.Denot g.row.P-In.Denot) g.row.P-Name.Denot g.row.P-Story.Denot). lent_to c.self.inside.caller (map (λ x. x.0) c.self.inside.order.items) p) c.in_err-reply.ensures.err ∙ c.self.view_is)
+
+pub returns-clause-grows : goal.returns-clause-grows
+returns-clause-grows g c =
+    asks_grow c.args.self.now _ AskTerm c.in_ok-reply.reply
+    (subst (λ (l : Lent (Given g.row.P-Name.Denot g.row.P-Out.Denot g.row.P-In.Denot) g.row.P-Name.Denot g.row.P-Story.Denot). Asks AskTerm c.in_ok-reply.reply l (lent_to c.self.inside.caller (map (λ x. x.0) c.and-self-inside.result.items) c.ask_term.new.self)) c.self.view_is
+    (asks_more _ _ c.self.inside.caller _ _ _ _ _
+    (ap (λ (xs : List (Mark × Unit {0})). map (λ x. x.0) xs) c.and-self-inside.ensures ∙ map-append (λ x. x.0) c.self.inside.order.items (_ ∷ []))
+    c.in_ok-reply.ensures.ok c.self.invariant.0.marked))

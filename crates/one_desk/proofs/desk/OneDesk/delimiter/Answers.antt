@@ -1,13 +1,14 @@
 use Rattle.std.specs.Prelude.{ℕ, Some, List, [], ◌∷◌, length, map, refl}
 use Rattle.std.proofs.Common.{ap, ◌∙◌}
 use Rattle.std.proofs.lemmas.List.{map-append}
+use Rattle.spec_control.specs.Place.{looks}
 use Rattle.spec_control.specs.Rows.{obj}
 use Rattle.spec_control.specs.Control.{Control, owner_of}
 use Rattle.spec_control.specs.ControlRun.{is_between}
 use Rattle.ctl_holder.specs.declared.given.Given.{Given}
 use Rattle.ctl_history.specs.Past.{Past, control_of}
 use Rattle.one_desk.specs.declared.mark.Mark.{Mark}
-use Rattle.one_desk.proofs.HoldLemmas.{desk_free, desk_had, desk_happens, desk_has, desk_owner, desk_still}
+use Rattle.one_desk.proofs.HoldLemmas.{desk_free, desk_had, desk_happens, desk_has, desk_owner, desk_place, desk_still}
 use Rattle.one_desk.proofs.LentLemmas.{control_is, lent_more, socket_by}
 use Rattle.one_desk.proofs.DeliverLemmas.{meets_more}
 use Rattle.one_desk.proofs.ReapingLemmas.{reaps_met}
@@ -62,3 +63,8 @@ pub returns-in-false-clause-keeps : goal.returns-in-false-clause-keeps
 returns-in-false-clause-keeps g c =
     desk_still (map (λ x. x.0) c.self.inside.order.items) c.self.inside.history (length c.self.inside.wakers.items) c.self.inside.caller c.args.self.now c.self.view_is c.self.invariant.0 (g.H.Holder.holding c.args.holder.now) c.requires.has _ _
     c.in-false.ensures.found.1 c.in-false.ensures.keeps c.in-false.ensures.turned c.in-false.ensures.joins
+
+pub returns-in-false-clause-not_looked : goal.returns-in-false-clause-not_looked
+returns-in-false-clause-not_looked g c = λ none i holds is.
+    ap looks (desk_place (map (λ x. x.0) c.self.inside.order.items) c.self.inside.history (length c.self.inside.wakers.items) c.self.inside.caller c.args.self.now c.self.view_is c.self.invariant.0 (g.H.Holder.holding c.args.holder.now) c.requires.has c.args.end i holds is)
+    ∙ c.in-false.ensures.found.0

@@ -7,7 +7,7 @@ use Rattle.ctl_holder.specs.TakingOver.{MayTakeFirst}
 use Rattle.ctl_plane.specs.Coming.{AreDistinct, BindsFit, TakesEnds}
 use Rattle.ctl_plane.specs.Desk.{CountsWith, HasWhatTheySay, KeepsUp}
 use Rattle.one_desk.specs.Lent.{Lent, coming_to, moments_of}
-use Rattle.one_desk.specs.Reaping.{FindsFirst, HearsFirst, SeesNoneWaiting, served_by}
+use Rattle.one_desk.specs.Reaping.{HearsFirst, SeesNoneWaiting, served_by}
 use Rattle.one_desk.proofs.CountLemmas.{look_counts}
 use Rattle.one_desk.proofs.PlaneLemmas.{takes_none}
 use Rattle.one_desk.proofs.desk.OneDesk.deliver_first.Goals as goal

@@ -1,4 +1,4 @@
-use Rattle.std.specs.Prelude.{◌≡◌, ◌≤◌, ◌<◌, ℕ}
+use Rattle.std.specs.Prelude.{◌≤◌, ℕ}
 use Rattle.std.proofs.Common.{sym, ◌∙◌, subst}
 use Rattle.spec_control.specs.Control.{next_object}
 use Rattle.ctl_history.specs.Past.{control_of}

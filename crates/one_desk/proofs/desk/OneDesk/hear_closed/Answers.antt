@@ -1,7 +1,7 @@
-use Rattle.std.proofs.Common.{sym, ap, ◌∙◌, subst}
+use Rattle.std.proofs.Common.{subst}
 use Rattle.ctl_plane.specs.declared.delivery.Delivery.{Delivery}
 use Rattle.one_desk.specs.Lent.{FindsIn}
-use Rattle.one_desk.proofs.PlaneLemmas.{either_way, found_empty, gives_given, hears_from, same_given}
+use Rattle.one_desk.proofs.PlaneLemmas.{found_empty, gives_given, hears_from, same_given}
 use Rattle.one_desk.proofs.desk.OneDesk.hear_closed.Goals as goal
 
 pub returns-in_err-found-clause-given : goal.returns-in_err-found-clause-given

@@ -1,6 +1,5 @@
-use Rattle.std.specs.Prelude.{◌≡◌, ◌≢◌, ℕ, [], OnOk}
-use Rattle.std.proofs.Common.{sym, ap, ◌∙◌, subst}
-use Rattle.zq_base.specs.declared.ids.SlotId.{SlotId}
+use Rattle.std.specs.Prelude.{◌≢◌, ℕ, [], OnOk}
+use Rattle.std.proofs.Common.{sym, subst}
 use Rattle.ctl_history.specs.Past.{control_of}
 use Rattle.one_desk.specs.Reaping.{HearsFrom}
 use Rattle.one_desk.proofs.PlaneLemmas.{takes_same}

@@ -1,7 +1,6 @@
 use Rattle.std.specs.Prelude.{List, [], ◌∷◌, length, map}
 use Rattle.std.proofs.Common.{sym, ap, ◌∙◌, subst}
 use Rattle.std.proofs.lemmas.List.{map-append}
-use Rattle.spec_control.specs.declared.letter.Letter.{Letter}
 use Rattle.ctl_holder.specs.declared.given.Given.{Given}
 use Rattle.ctl_holder.specs.Counts.{CountsOnce}
 use Rattle.ctl_holder.specs.TakingOver.{MayTakeFirst}

@@ -7,7 +7,7 @@ use Rattle.one_desk.specs.Lent.{Sees}
 use Rattle.one_desk.proofs.desk.OneDesk.look_at.Goals as goal
 
 pub returns-in-Nothing-clause-empty : goal.returns-in-Nothing-clause-empty
-returns-in-Nothing-clause-empty g c = subst (λ (e : SeenEmpty). Sees e c.look_around.result c.args.self.now c.look_around.new.self) (sym c.in-Nothing.is) c.look_around.ensures
+returns-in-Nothing-clause-empty g c = subst (λ (e : SeenEmpty). Sees e c.look_around.result c.args.self.now c.look_around.new.self) (sym c.in-Nothing.is) c.look_around.ensures.sees
 
 pub returns-in-Mailbox-clause-empty : goal.returns-in-Mailbox-clause-empty
 returns-in-Mailbox-clause-empty g c = subst (λ (e : SeenEmpty). IfSome c.look_into.result (λ sight. Sees e sight c.args.self.now c.look_into.new.self)) (sym c.in-Mailbox.is) c.look_into.ensures.empty

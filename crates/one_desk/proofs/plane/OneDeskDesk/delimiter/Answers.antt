@@ -1,3 +1,4 @@
+use Rattle.one_desk.proofs.GrowLemmas.{meets_grow}
 use Rattle.one_desk.proofs.PlaneLemmas.{delimits, delimits_caller, delimits_given, delimits_names}
 use Rattle.one_desk.proofs.plane.OneDeskDesk.delimiter.Goals as goal
 
@@ -12,3 +13,6 @@ returns-clause-names g c = delimits_names c.args.self.now c.delimiter.new.self c
 
 pub returns-clause-keeps : goal.returns-clause-keeps
 returns-clause-keeps g c = (delimits_caller c.args.self.now c.delimiter.new.self c.args.end c.delimiter.result c.delimiter.ensures.found, c.delimiter.ensures.keeps)
+
+pub returns-clause-grows : goal.returns-clause-grows
+returns-clause-grows g c = meets_grow c.args.self.now c.delimiter.new.self c.args.end c.delimiter.result c.delimiter.ensures.found

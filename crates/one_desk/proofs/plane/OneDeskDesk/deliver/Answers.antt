@@ -1,3 +1,4 @@
+use Rattle.one_desk.proofs.GrowLemmas.{delivered_grow}
 use Rattle.one_desk.proofs.PlaneLemmas.{delivered_caller, delivered_given, delivered_names, delivered_ok, err_moments, mine_is}
 use Rattle.one_desk.proofs.plane.OneDeskDesk.deliver.Goals as goal
 
@@ -18,3 +19,6 @@ returns-clause-names g c = delivered_names c.args.self.now c.deliver.new.self c.
 
 pub returns-clause-keeps : goal.returns-clause-keeps
 returns-clause-keeps g c = (delivered_caller c.args.self.now c.deliver.new.self c.deliver.result c.deliver.ensures.err c.args.slot c.deliver.ensures.ok, c.deliver.ensures.keeps)
+
+pub returns-clause-grows : goal.returns-clause-grows
+returns-clause-grows g c = delivered_grow c.args.self.now c.deliver.new.self c.args.slot c.deliver.result c.deliver.ensures.ok c.deliver.ensures.err

@@ -1,3 +1,4 @@
+use Rattle.one_desk.proofs.GrowLemmas.{reaped_grow}
 use Rattle.one_desk.proofs.PlaneLemmas.{err_both, reaped_caller, reaped_names, reaped_ok}
 use Rattle.one_desk.proofs.plane.OneDeskDesk.deliver_first.Goals as goal
 
@@ -12,3 +13,6 @@ returns-clause-names g c = reaped_names c.args.self.now c.deliver_first.new.self
 
 pub returns-clause-keeps : goal.returns-clause-keeps
 returns-clause-keeps g c = (reaped_caller c.args.self.now c.deliver_first.new.self c.deliver_first.result c.deliver_first.ensures.err c.deliver_first.ensures.ok, c.deliver_first.ensures.keeps)
+
+pub returns-clause-grows : goal.returns-clause-grows
+returns-clause-grows g c = reaped_grow c.args.self.now c.deliver_first.new.self c.deliver_first.result c.deliver_first.ensures.ok c.deliver_first.ensures.err

@@ -1,3 +1,4 @@
+use Rattle.one_desk.proofs.GrowLemmas.{looked_grow}
 use Rattle.one_desk.proofs.PlaneLemmas.{looked_caller, looked_given, looked_names, looks_or}
 use Rattle.one_desk.proofs.plane.OneDeskDesk.look.Goals as goal
 
@@ -12,3 +13,6 @@ returns-clause-names g c = looked_names _ c.args.empty c.args.self.now c.look_at
 
 pub returns-clause-number : goal.returns-clause-number
 returns-clause-number g c = looked_caller _ c.args.empty c.args.self.now c.look_at.new.self c.look_at.result c.look_at.ensures.empty c.look_at.ensures.waits
+
+pub returns-clause-grows : goal.returns-clause-grows
+returns-clause-grows g c = looked_grow c.args.self.now c.look_at.new.self _ c.args.empty c.look_at.result c.look_at.ensures.empty c.look_at.ensures.waits

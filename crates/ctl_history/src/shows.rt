@@ -1,0 +1,68 @@
+ghost use Rattle.std.specs.Prelude.{◌≡◌};
+ghost use Rattle.spec_control.specs.Control.{next_object, next_pair};
+ghost use Rattle.spec_control.specs.Rows.{obj};
+ghost use Rattle.ctl_history.specs.Addressee.{addressee_of, last_addressee};
+ghost use Rattle.ctl_history.specs.Past.{control_of};
+
+use crate::history::History;
+use msg_pipe::Pipes;
+use spec_control::{Did, ObjKind};
+use zq_base::ObjId;
+
+// Who gets the command of an event.
+fn addressee<N, S>(did: &Did<N, S>) -> Option<ObjId>
+    ensures { result ≡ addressee_of did.now }
+{
+    match did {
+        Did::Delivered(_, letter, _) => return Some(letter.to),
+        Did::Asked(_, _, _) | Did::Delimited(_, _) => return None,
+    }
+}
+
+// Who got the command of the last of these events.
+fn last_of<N, S>(events: &[Did<N, S>]) -> Option<ObjId>
+    ensures { result ≡ last_addressee events.now }
+{
+    match events.last() {
+        Some(did) => return addressee(did),
+        None => return None,
+    }
+}
+
+impl<P: Pipes> History<P>
+where
+    P::Name: Drop,
+{
+    /// How many objects were made, the root among them. This is the next one's number. It costs
+    /// nothing.
+    pub fn objects(&self) -> usize
+        ensures { result ≡ next_object (control_of self.now) }
+    {
+        self.state.objects()
+    }
+
+    /// How many numbers of pairs were drawn, number 0 among them. This is the next pair's number. It
+    /// costs nothing.
+    pub fn pairs(&self) -> usize
+        ensures { result ≡ next_pair (control_of self.now) }
+    {
+        self.state.pairs()
+    }
+
+    /// What an object is. It costs a look at one row.
+    pub fn kind(&self, id: ObjId) -> ObjKind
+        ensures { result ≡ (obj (control_of self.now).rows id.0).kind }
+    {
+        match self.state.row(id) {
+            Some(row) => return row.kind,
+            None => return ObjKind::Root,
+        }
+    }
+
+    /// Who got the command of the last event, if that was a delivery. It costs a look at one event.
+    pub fn last_addressee(&self) -> Option<ObjId>
+        ensures { result ≡ last_addressee self.now.events }
+    {
+        last_of(self.events.as_slice())
+    }
+}
