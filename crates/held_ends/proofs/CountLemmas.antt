@@ -1,21 +1,20 @@
 -- What joining the halves of a pipe tells, where its end stays.
-use Rattle.std.proofs.Common.{◌≡◌, ◌∙◌, ◌+◌, ◌-◌, ℕ, zero, suc, Bool, true, cond, not, List, [], ◌∷◌, length, length-set, set, Option, Some, None, refl, sym, ap, subst, nat_lt, arith}
+use Rattle.std.proofs.Common.{◌≡◌, ◌∙◌, ◌+◌, ◌-◌, ℕ, zero, suc, Bool, true, cond, not, List, [], ◌∷◌, length, length-set, set, Option, Some, None, refl, sym, ap, subst, nat_lt}
 use Rattle.std.specs.Prelude.{Box, position}
 use Rattle.std.specs.List.{position_or_len}
 use Rattle.std.specs.declared.alloc.Global.{Global}
 use Rattle.zq_base.specs.declared.ids.Settled.{Settled}
 use Rattle.spec_pattern.specs.Half.{Writing, Reading}
-use Rattle.msg_pipe.specs.Known.{Known, IsThere, IsElse, KeepsButOut}
+use Rattle.msg_pipe.specs.Known.{Known, IsThere, KeepsButOut}
 use Rattle.ends.specs.declared.row.EndRow.{EndRow}
 use Rattle.ends.specs.Rows.{Rows, row_at}
 use Rattle.held_ends.specs.declared.table.Place.{Place}
-use Rattle.held_ends.specs.declared.table.EndTable.{EndTable}
 use Rattle.held_ends.specs.Places.{place_at}
 use Rattle.held_ends.specs.Sound.{WritesSo, IsSound}
 use Rattle.held_ends.specs.Counting.{counted, half_at, counts_with}
 use Rattle.held_ends.proofs.PlaceLemmas.{row_there, place_there}
 use Rattle.held_ends.proofs.SoundLemmas.{one_some}
-use Rattle.held_ends.proofs.HalfLemmas.{within, reading_there}
+use Rattle.held_ends.proofs.HalfLemmas.{within}
 
 module _ {N I : Type 0} (test : Place N I → Bool) where
   -- the first place that passes a test is where it was

@@ -9,3 +9,5 @@ pub mod CallLemmas
 pub mod LookLemmas
 pub mod OthersLemmas
 pub mod CountLemmas
+pub mod ChangeLemmas
+pub mod ChangeProps

@@ -1,19 +1,16 @@
 -- What the calls of one owner leave to the others.
-use Rattle.std.proofs.Common.{◌≡◌, ◌≢◌, ⊎_elim, ◌&&◌, ℕ, zero, suc, ◌<◌, ◌≤◌, Bool, true, false, List, [], ◌∷◌, ◌++◌, All, length, length-append, set, length-set, Some, refl, sym, ap, ◌∙◌, subst, arith, true≢false}
+use Rattle.std.proofs.Common.{◌≡◌, ◌≢◌, ⊎_elim, ◌&&◌, ℕ, zero, suc, Bool, true, false, List, [], ◌∷◌, ◌++◌, All, length, length-append, set, length-set, Some, refl, sym, ap, ◌∙◌, subst, arith, true≢false}
 use Rattle.std.proofs.lemmas.Bool.{cases_eq}
 use Rattle.std.proofs.lemmas.List.Elements.{All-nil, All-cons, All-head, All-tail}
-use Rattle.spec_pattern.specs.PipeStep.{PipeStep}
-use Rattle.spec_pattern.specs.Half.{Writing, Reading}
+use Rattle.spec_pattern.specs.Half.{Writing}
 use Rattle.msg_pipe.specs.Known.{Known, IsThere, IsElse, KeepsAll, KeepsButOut, KeepsButIn, KeepsButPipe}
-use Rattle.ends.specs.Rows.{Rows, Table, row_at}
-use Rattle.ends.specs.Runs.{OutCall, InCall, DoesAll}
-use Rattle.ctl_holder.specs.declared.halves.Halves.{Halves}
+use Rattle.ends.specs.Rows.{row_at}
 use Rattle.held_ends.specs.declared.table.Place.{Place}
 use Rattle.held_ends.specs.declared.table.EndTable.{EndTable}
 use Rattle.held_ends.specs.Places.{place_at}
-use Rattle.held_ends.specs.Sound.{StandsSo, IsSound, IsElseOf, Fits}
+use Rattle.held_ends.specs.Sound.{StandsSo}
 use Rattle.held_ends.specs.Attaching.{Unchanged}
-use Rattle.held_ends.specs.Others.{had_at, wrote_at, IsLess, KeepsPlaces, IsNoneWritten, IsNoneRead, IsUnsettled, Leaves, IsApartFrom, AreElseFrom, LeavesSound, LeavesFitting, LeavesOn}
+use Rattle.held_ends.specs.Others.{had_at, wrote_at, IsLess, KeepsPlaces, IsNoneWritten, IsNoneRead, IsUnsettled, Leaves, LeavesSound, LeavesFitting, LeavesOn}
 use Rattle.held_ends.proofs.PlaceLemmas.{place_there, place_else, place_within}
 use Rattle.held_ends.proofs.SoundLemmas.{one_some, Carries, carried}
 use Rattle.held_ends.proofs.EndsLemmas.{some_place}

@@ -7,3 +7,4 @@ pub mod Giving
 pub mod Calls
 pub mod Looking
 pub mod Counting
+pub mod Changes

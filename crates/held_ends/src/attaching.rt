@@ -1,16 +1,21 @@
-ghost use Rattle.std.specs.Prelude.{◌≡◌, true, false, OnOk, IfOk, IfErr};
+ghost use Rattle.std.specs.Prelude.{◌≡◌, [], List, true, false, OnOk, IfOk, IfErr};
 ghost use Rattle.std.specs.List.{list_any};
 ghost use Rattle.ctl_holder.specs.Holding.{IsCapacity, AreCrossed};
 ghost use Rattle.held_ends.specs.Places.{is_of};
 ghost use Rattle.held_ends.specs.Sound.{IsSound, Fits};
 ghost use Rattle.held_ends.specs.Attaching.{new_place, new_row, halves_of, Attached, Unchanged, HasRoom, TakenBack};
 ghost use Rattle.held_ends.specs.Halving.{WritesAt};
+ghost use Rattle.msg_pipe.specs.Known.{KeepsAll, MakesPipe};
+ghost use Rattle.held_ends.specs.declared.table.Place.{Place};
+ghost use Rattle.held_ends.specs.Changes.{DoesMore};
 ghost use Rattle.held_ends.specs.Others.{Leaves};
 
+use crate::changes::PipeChange;
 use crate::pipes::HeldPipes;
 use crate::table::{EndTable, Place};
 use ctl_holder::{Halves, Made};
 use ends::EndRow;
+use http_server::Log;
 use msg_pipe::Pipes;
 use spec_control::EndState;
 use std::alloc::{AllocError, AllocFailed, Global};
@@ -85,6 +90,7 @@ pub fn join<P: HeldPipes>(
     ensures sound { IsSound P.known pipes.now table.new.rows.items table.new.places.items }
     ensures joined { Attached row.value.end (P.known.out_name row.value.out)
         (P.known.in_name row.value.input) peer table.old table.new }
+    ensures settled { table.new.settled ≡ table.old.settled }
     ensures others { Leaves P.known pipes.now table.old pipes.now table.new }
 {
     let _unread = pipes;
@@ -123,11 +129,12 @@ fn placed<P: HeldPipes>(row: &EndRow<P::Out, P::In>, peer: bool) -> Place<P::Nam
 }
 
 /// Makes the pipes of a pair: the owner's end writes the first, of this many messages, and reads the
-/// second. Its halves may join the ends that it has.
+/// second. Its halves may join the ends that it has. What was done is noted.
 pub fn make<P: Pipes>(
     alloc: Global,
     pipes: &mut P,
     table: &EndTable<P::Name, P::Out, P::In>,
+    did: &mut Log<PipeChange<P::Out, P::In>, P>,
     capacities: (u32, u32),
     mine: &P::Waker,
     other: &P::Waker,
@@ -138,11 +145,13 @@ pub fn make<P: Pipes>(
     ensures sound { IsSound P.known pipes.new table.now.rows.items table.now.places.items }
     ensures pair { IfOk result (λ m. AreCrossed P.known.out_name P.known.in_name m.mine m.other) }
     ensures fits { IfOk result (λ m. Fits P.known pipes.new table.now.places.items m.mine) }
+    ensures changes { DoesMore P.known table.now.places.items []
+        did.old.items pipes.old did.new.items pipes.new }
     ensures others { Leaves P.known pipes.old table.now pipes.new table.now }
 {
     let _unread = table;
-    let (out, away) = pipes.make(alloc, capacities.0, mine, other)?;
-    let (back, input) = pipes.make(alloc, capacities.1, other, mine)?;
+    let (out, away) = make_noted(alloc, pipes, did, capacities.0, mine, other)?;
+    let (back, input) = make_noted(alloc, pipes, did, capacities.1, other, mine)?;
     Ok(Made {
         mine: Halves { out, input },
         other: Halves {
@@ -150,6 +159,36 @@ pub fn make<P: Pipes>(
             input: away,
         },
     })
+}
+
+// Makes a pipe, and notes that or that there was no memory.
+fn make_noted<P: Pipes>(
+    alloc: Global,
+    pipes: &mut P,
+    did: &mut Log<PipeChange<P::Out, P::In>, P>,
+    capacity: u32,
+    writer: &P::Waker,
+    reader: &P::Waker,
+) -> Result<(P::Out, P::In), AllocError>
+    requires some { IsCapacity capacity }
+    ensures made { IfOk result (λ r. MakesPipe P.known capacity r.0 r.1 pipes.old pipes.new) }
+    ensures keeps { KeepsAll P.known pipes.old pipes.new }
+    ensures changes { (places : List (Place P.Name P.In)) →
+        DoesMore P.known places [] did.old.items pipes.old did.new.items pipes.new }
+{
+    match pipes.make(alloc, capacity, writer, reader) {
+        Ok((out, input)) => {
+            let halves: Log<P::Out, P::In> = Log::new();
+            let made = PipeChange::Made(capacity, halves.and(&out, &input));
+            *did = did.and(&made, pipes);
+            return Ok((out, input));
+        }
+        Err(want) => {
+            let kept: PipeChange<P::Out, P::In> = PipeChange::Kept;
+            *did = did.and(&kept, pipes);
+            return Err(want);
+        }
+    }
 }
 
 /// Takes back the halves of the end at a place, which is gone then.
@@ -163,6 +202,7 @@ pub fn take_back<P: HeldPipes>(
     ensures sound { IsSound P.known pipes.now table.new.rows.items table.new.places.items }
     ensures back { TakenBack place (P.known.out_name result.out) (P.known.in_name result.input)
         table.old table.new }
+    ensures settled { table.new.settled ≡ table.old.settled }
     ensures others { Leaves P.known pipes.now table.old pipes.now table.new }
 {
     let _unread = pipes;

@@ -31,6 +31,7 @@ pub fn give_ends<P: HeldPipes>(
     ensures gone { AreGone table.new.places.items }
     ensures given { AreGiven P.known pipes.now (said_in table.old.places.items)
         given.new.items joined.new.items }
+    ensures settled { table.new.settled ≡ table.old.settled }
     ensures others { Leaves P.known pipes.now table.old pipes.now table.new }
 {
     let alloc = *table.places.allocator();
@@ -56,6 +57,7 @@ fn give_end<P: HeldPipes>(
     ensures sound { IsSound P.known pipes.now table.new.rows.items table.new.places.items }
     ensures given { GivenAt P.known pipes.now place result
         table.old.places.items table.new.places.items }
+    ensures settled { table.new.settled ≡ table.old.settled }
     ensures others { Leaves P.known pipes.now table.old pipes.now table.new }
 {
     let _unread = pipes;

@@ -4,6 +4,7 @@
 #![tactic(auto)]
 
 mod attaching;
+mod changes;
 mod finding;
 mod giving;
 mod halving;
@@ -14,6 +15,7 @@ mod plain;
 mod table;
 
 pub use attaching::{give_back, join, make, prepare, take_back};
+pub use changes::PipeChange;
 pub use finding::find;
 pub use giving::give_ends;
 pub use halving::{seal, set_state, settle, yield_writer};

@@ -24,6 +24,7 @@ pub fn look<P: Pipes>(
     requires writes { WritesAt table.old.places.items place }
     ensures sound { IsSound P.known pipes.new table.new.rows.items table.new.places.items }
     ensures looked { LooksAt P.known pipes.old pipes.new place result table.old table.new }
+    ensures settled { table.new.settled ≡ table.old.settled }
     ensures others { Leaves P.known pipes.old table.old pipes.new table.new }
 {
     let found = front_at(pipes, &mut table.rows, place);

@@ -136,6 +136,8 @@ where
 
     ghost may_take = { λ s gs. MayTake P.known s.pipes s.closed gs };
 
+    ghost calm = { λ s came. Unit {0} };
+
     fn make(
         &mut self,
         _alloc: Global,

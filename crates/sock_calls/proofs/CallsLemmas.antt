@@ -1,6 +1,11 @@
 -- A socket that is moved for a call, a call that does nothing, and a close.
 use Rattle.std.proofs.Common.{◌≡◌, ℕ, Bool, true, false, List, [], ◌∷◌, ◌++◌, length, length-append, get_or, Option, Some, None, refl, sym, ap, ◌∙◌, subst, arith}
-use Rattle.std.specs.Prelude.{◌==◌, ◌&&◌, is_some, flat_map, if◌then◌else◌}
+use Rattle.std.specs.Prelude.{◌==◌, ◌&&◌, is_some, flat_map, map, if◌then◌else◌}
+use Rattle.std.proofs.Math.Logic.{∥∥₁_elim}
+use Rattle.held_ends.specs.declared.changes.PipeChange.{PipeChange}
+use Rattle.held_ends.proofs.ChangeProps.{changes_prop}
+use Rattle.sock_core.specs.Noted.{HasDone}
+use Rattle.sock_core.proofs.DoneLemmas.{tells_none}
 use Rattle.std.proofs.lemmas.Bool.{eq-eqb}
 use Rattle.std.proofs.lemmas.List.{append-nil}
 use Rattle.zq_base.specs.declared.ids.ObjId.{ObjId}
@@ -23,7 +28,7 @@ use Rattle.spec_pattern.specs.Half.{Writing, Reading}
 use Rattle.held_ends.proofs.OthersLemmas.{places_stay, leaves_pipes, others_sound, halves_fitting}
 use Rattle.sock_core.proofs.FormLemmas.{sound_of, are_sound}
 use Rattle.sock_core.specs.declared.sock.SockCore.{SockCore}
-use Rattle.sock_calls.specs.Calls.{owner_of, holding_of, FitsPipes, LeavesOthers, HasNone}
+use Rattle.sock_calls.specs.Calls.{owner_of, holding_of, FitsPipes, LeavesOthers, HaveDone, HasNone}
 use Rattle.sock_calls.specs.Others.{IsGivenElse, LeavesFit, LeavesJoining, LeavesGiven}
 
 never : false ≡ true → ⊥
@@ -105,6 +110,8 @@ module _ {C W N O I S : Type 0} (K : Known S O I N) where
     stopped_is = fits.stopped_is;
     flagged = fits.flagged;
     in_use = fits.in_use;
+    settled_are = fits.settled_are;
+    sealed_are = fits.sealed_are;
   }
 
   pub others_join : LeavesJoining C W K
@@ -131,3 +138,17 @@ module _ {C W N O I S : Type 0} (K : Known S O I N) where
             (subst (IsNoneWritten K a.ends b.ends) (sym (is.out_is o e)) (other.outs (ap is_some e))) (subst (IsUnsettled K b.ends) (sym (is.out_is o e)) (other.unsettled (ap is_some e))))
             ∙ is.unsealed o e s;
       }
+
+-- what was done is told in one way
+pub done_so : {C W N O I S : Type 0} → IsSet N → IsSet S → (K : Known S O I N) (before now : S) (a b : SockCore C W N O I) (xs : List (PipeChange O I × S))
+    → HasDone K before (map (λ x. x.0) a.sealed.items) xs now b.ends.places.items (map (λ x. x.0) b.sealed.items) → HaveDone K (Some a) (Some b) before now
+done_so n_set s_set K before now a b xs h = record {
+  changes = xs;
+  does = ∥∥₁_elim h.does (changes_prop K n_set s_set b.ends.places.items before xs now) (λ d. d);
+  seals = h.seals;
+}
+
+-- nothing was done
+pub done_nothing : {C W N O I S : Type 0} (K : Known S O I N) (pipes : S) (s : Option (SockCore C W N O I)) → is_some s ≡ true → HaveDone K s s pipes pipes
+done_nothing K pipes None there = absurd (never there)
+done_nothing K pipes (Some s) there = record { changes = []; does = refl; seals = tells_none (map (λ x. x.0) s.sealed.items) }

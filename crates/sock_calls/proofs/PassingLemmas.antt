@@ -1,6 +1,5 @@
 -- What was done to a socket's ends, as the moments more tell it.
-use Rattle.std.proofs.Common.{◌≡◌, ◌≤◌, ◌<◌, ◌∙◌, ℕ, zero, suc, true, List, [], ◌∷◌, ◌++◌, length, Option, Some, None, refl, sym, ap, subst, arith}
-use Rattle.std.specs.Prelude.{flat_map}
+use Rattle.std.proofs.Common.{◌≡◌, ◌<◌, ◌∙◌, ℕ, zero, suc, List, [], ◌∷◌, ◌++◌, length, Option, Some, refl, sym, ap, subst, arith}
 use Rattle.std.specs.Coded.{codes, ×_prop, Unit-prop}
 use Rattle.std.proofs.Math.Logic.{∥∥₁_elim}
 use Rattle.std.proofs.lemmas.List.{append_cancel_left}
@@ -11,7 +10,6 @@ use Rattle.spec_pattern.specs.Pattern.{Pattern, attach_answer, attach_as}
 use Rattle.spec_control.specs.declared.end.EndState.{EndState}
 use Rattle.spec_control.specs.declared.entry.Joining.{Joining}
 use Rattle.control_held.specs.Moments.{Moment}
-use Rattle.msg_pipe.specs.Known.{Known}
 use Rattle.spec_run.specs.OpenSocket.{attach_all, detach_all, AreAnswered}
 use Rattle.held_ends.specs.declared.table.Place.{Place}
 use Rattle.held_ends.specs.Places.{place_at}
@@ -22,8 +20,8 @@ use Rattle.sock_core.specs.declared.sock.SockCore.{SockCore}
 use Rattle.sock_core.specs.Kinds.{no_ends}
 use Rattle.sock_core.specs.Standing.{standing_joins}
 use Rattle.sock_core.proofs.WayLemmas.{way_begun}
-use Rattle.sock_core.specs.Way.{Way, no_way, way_in, outs_of, oldest_first, CanJoinAll, IsNaming, KindWay, KindWayOf}
-use Rattle.sock_calls.specs.Passing.{CameInOrder, IsPatternOf, GoesOn, Passes, came_with_all, turned_with}
+use Rattle.sock_core.specs.Way.{no_way, way_in, outs_of, oldest_first, CanJoinAll, IsNaming, KindWay, KindWayOf, IsCalm}
+use Rattle.sock_calls.specs.Passing.{IsStillOpen, IsPatternOf, GoesOn, Passes, came_with_all, turned_with}
 use Rattle.sock_calls.proofs.CallsLemmas.{none_more}
 
 pattern_set : IsSet Pattern
@@ -88,10 +86,10 @@ module _ {C W N O I : Type 0} (pattern : (ℕ → End) → C → Pattern) (names
         (subst (λ (q : Pattern). AreAnswered (oldest_first (way_in new.way.items).joined) q) same
         (k.answered ends right (subst (λ (q : Pattern). CanJoinAll (oldest_first (way_in new.way.items).joined) q) (sym same) (subst (λ (l : List (Joining N)). CanJoinAll l p) (sym (joins_are k)) can))))
 
-    goes_on : ∥ KindWayOf pattern names sound peers old new ∥₁ → CameInOrder (Some new) → (p : Pattern) → IsPatternOf pattern p (Some old) → GoesOn pattern js ts p (Some new)
-    goes_on way came p is = record {
-      pattern_is = λ ends right. ∥∥₁_elim way (pattern_set (pattern ends new.kind) (detach_all (outs_of ts) (attach_all js p))) (λ k. pattern_goes (k came.0 came.1) p is ends right);
-      answered = λ can. ∥∥₁_elim way (answered_prop js p) (λ k. answers_go (k came.0 came.1) p is can);
+    goes_on : ∥ KindWayOf pattern names sound peers old new ∥₁ → IsStillOpen (Some new) → (p : Pattern) → IsPatternOf pattern p (Some old) → GoesOn pattern js ts p (Some new)
+    goes_on way still p is = record {
+      pattern_is = λ ends right. ∥∥₁_elim way (pattern_set (pattern ends new.kind) (detach_all (outs_of ts) (attach_all js p))) (λ k. pattern_goes (k still) p is ends right);
+      answered = λ can. ∥∥₁_elim way (answered_prop js p) (λ k. answers_go (k still) p is can);
     }
 
   pub passes_by : {S : Type 0} (old new : SockCore C W N O I) (more : List (Moment N S)) → KeepsPlaces old.ends.places.items new.ends.places.items
@@ -105,13 +103,17 @@ module _ {C W N O I : Type 0} (pattern : (ℕ → End) → C → Pattern) (names
   way_fresh first t s same fresh places joins turns kind = subst (λ (f : SockCore C W N O I). ∥ KindWayOf pattern names sound peers f s ∥₁) (sym same) ∣ begun ∣₁
     where
       begun : KindWayOf pattern names sound peers t s
-      begun = λ open_still order.
+      begun = λ still.
           subst (λ (l : _). KindWay pattern names sound peers (way_in l) s.ends.places.items (standing_joins t.joins.items) (standing_joins s.joins.items) t.turns.items s.turns.items t.kind s.kind) (sym fresh)
           (subst (λ (l : _). KindWay pattern names sound peers no_way s.ends.places.items (standing_joins t.joins.items) (standing_joins l) t.turns.items s.turns.items t.kind s.kind) (sym joins)
           (subst (λ (l : List (EndId × EndState)). KindWay pattern names sound peers no_way s.ends.places.items (standing_joins t.joins.items) (standing_joins t.joins.items) t.turns.items l t.kind s.kind) (sym turns)
           (subst (λ (k : C). KindWay pattern names sound peers no_way s.ends.places.items (standing_joins t.joins.items) (standing_joins t.joins.items) t.turns.items t.turns.items t.kind k) (sym kind)
           (way_begun pattern names sound peers s.ends.places.items (standing_joins t.joins.items) t.turns.items t.kind))))
 
+  -- nor did an end change its state
+  pub calm_fresh : (s : SockCore C W N O I) → s.way.items ≡ [] → IsCalm (way_in s.way.items) s.ends.places.items []
+  calm_fresh s fresh = subst (λ (l : _). IsCalm (way_in l) s.ends.places.items []) (sym fresh) (record { quiet = refl; ends = refl; held = tt })
+
   -- nothing was done
   pub passes_none : {S : Type 0} (s : Option (SockCore C W N O I)) (before now more : List (Moment N S)) → now ≡ before → now ≡ before ++ more → Passes pattern s s more
-  passes_none {S = S} s before now more same is = subst (λ (l : List (Moment N S)). Passes pattern s s l) (sym (none_more before more (sym same ∙ is))) (λ came p is_p. record { pattern_is = is_p; answered = λ can. tt })
+  passes_none {S = S} s before now more same is = subst (λ (l : List (Moment N S)). Passes pattern s s l) (sym (none_more before more (sym same ∙ is))) (λ still p is_p. record { pattern_is = is_p; answered = λ can. tt })

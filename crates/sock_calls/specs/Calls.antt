@@ -1,5 +1,5 @@
 -- A socket between its calls, without the pipes of its ends (own choice).
-use Rattle.std.specs.Prelude.{◌≡◌, ℕ, true, false, List, [], Option, Some, None, length}
+use Rattle.std.specs.Prelude.{◌≡◌, ℕ, true, false, List, [], Option, Some, None, length, map}
 use Rattle.zq_base.specs.declared.ids.EndId.{EndId}
 use Rattle.zq_base.specs.declared.ids.Settled.{Settled}
 use Rattle.zq_base.specs.declared.kind.Kind.{Kind}
@@ -13,6 +13,9 @@ use Rattle.held_ends.specs.Giving.{AreGone}
 use Rattle.held_ends.specs.Others.{Leaves}
 use Rattle.sock_core.specs.declared.sock.SockCore.{SockCore}
 use Rattle.sock_core.specs.Has.{IsStopped, holding_in}
+use Rattle.held_ends.specs.declared.changes.PipeChange.{PipeChange}
+use Rattle.held_ends.specs.Changes.{sealings_in, DoesChanges}
+use Rattle.sock_core.specs.Noted.{WereRead, AreSealed, TellsSeals}
 use Rattle.sock_core.specs.Sound.{AreSound, KeepsRoom}
 use Rattle.sock_core.specs.Peers.{ArePeers, AreFlagged, AreInUse}
 
@@ -43,6 +46,11 @@ module _ {C W N O I : Type 0} where
   holding_of kind None = nothing
   holding_of kind (Some s) = holding_in (kind s.kind) s
 
+  -- want of memory left the kind of the socket that is there nothing to do
+  abbrev pub RestsThere : (rests : C → Type 0) → Option (SockCore C W N O I) → Type 0
+  RestsThere rests None = ⊥
+  RestsThere rests (Some s) = rests s.kind
+
   -- the socket that is there was closed, and has no end
   abbrev pub HasNone : Option (SockCore C W N O I) → Type 0
   HasNone None = ⊥
@@ -58,6 +66,9 @@ module _ {C W N O I : Type 0} where
       pub stopped_is : IsStopped s.stopped s.heard.items
       pub flagged : AreFlagged s.ends.places.items (peers s.kind)
       pub in_use : AreInUse s.ends.places.items
+      -- each pipe that was settled was read by an end that is held no more, and each end that is held and sealed was told to seal its pipe
+      pub settled_are : WereRead s.ends.places.items s.ends.settled.items
+      pub sealed_are : AreSealed s.ends.places.items (map (λ x. x.0) s.sealed.items)
 
     -- a socket is there, and fits
     abbrev pub FitsPipes : (peers : C → List ℕ) → S → Option (SockCore C W N O I) → Type 0
@@ -79,3 +90,14 @@ module _ {C W N O I : Type 0} where
     LeavesOthers None new before now = ⊥
     LeavesOthers (Some a) None before now = ⊥
     LeavesOthers (Some a) (Some b) before now = Leaves K before a.ends now b.ends
+
+    -- what its calls did to the pipes, change by change, and the ends that they told it to seal
+    pub record DoesSo (before : S) (a : SockCore C W N O I) (now : S) (b : SockCore C W N O I) : Type 0 where
+      pub changes : List (PipeChange O I × S)
+      pub does : DoesChanges K b.ends.places.items before changes now
+      pub seals : TellsSeals (map (λ x. x.0) a.sealed.items) (sealings_in changes) (map (λ x. x.0) b.sealed.items)
+
+    abbrev pub HaveDone : (old new : Option (SockCore C W N O I)) → (before now : S) → Type 0
+    HaveDone None new before now = ⊥
+    HaveDone (Some a) None before now = ⊥
+    HaveDone (Some a) (Some b) before now = DoesSo before a now b

@@ -10,7 +10,7 @@ use Rattle.ctl_holder.specs.Turns.{turned_in}
 use Rattle.ctl_plane.specs.Desk.{came_with}
 use Rattle.spec_run.specs.OpenSocket.{attach_all, detach_all, AreAnswered}
 use Rattle.sock_core.specs.declared.sock.SockCore.{SockCore}
-use Rattle.sock_core.specs.Way.{way_in, outs_of, CanJoinAll, IsNaming}
+use Rattle.sock_core.specs.Way.{outs_of, CanJoinAll, IsNaming}
 
 -- the ends that join in these moments, and the changes of state
 abbrev pub came_with_all : {N S : Type 0} → List (Moment N S) → List (Joining N)
@@ -20,10 +20,10 @@ abbrev pub turned_with : {N S : Type 0} → List (Moment N S) → List (EndId ×
 turned_with more = flat_map (λ m. turned_in m.found (left_by m)) more
 
 module _ {C W N O I : Type 0} where
-  -- the socket is open still, and its last call came to its ends in order: no end joined or was taken back behind one that changed its state, what was taken back had joined last, and no peer gave its writing half away
-  abbrev pub CameInOrder : Option (SockCore C W N O I) → Type 0
-  CameInOrder None = ⊥
-  CameInOrder (Some s) = (s.is_open ≡ true) × ((way_in s.way.items).in_order ≡ true)
+  -- the socket is there, and open
+  abbrev pub IsStillOpen : Option (SockCore C W N O I) → Type 0
+  IsStillOpen None = ⊥
+  IsStillOpen (Some s) = s.is_open ≡ true
 
   module _ (pattern : (ℕ → End) → C → Pattern) where
     -- the state of the kind of the socket that is there, however its places are named by their ends
@@ -36,6 +36,6 @@ module _ {C W N O I : Type 0} where
       pub pattern_is : IsPatternOf (detach_all (outs_of ts) (attach_all js p)) new
       pub answered : CanJoinAll js p → AreAnswered js p
 
-    -- where all came in order, the moments more lead the state of the kind on
+    -- while it is open, the moments more lead the state of the kind on
     abbrev pub Passes : {S : Type 0} → (old new : Option (SockCore C W N O I)) → List (Moment N S) → Type 0
-    Passes old new more = CameInOrder new → (p : Pattern) → IsPatternOf p old → GoesOn (came_with_all more) (turned_with more) p new
+    Passes old new more = IsStillOpen new → (p : Pattern) → IsPatternOf p old → GoesOn (came_with_all more) (turned_with more) p new

@@ -5,7 +5,7 @@ ghost use Rattle.control_held.specs.Moments.{items_in};
 ghost use Rattle.ctl_plane.specs.Asking.{HasMarks, IsOfSockets};
 ghost use Rattle.ctl_plane.specs.Coming.{KeepsNames, SendsEnds};
 ghost use Rattle.ctl_plane.specs.Desk.{HasWhatTheySay, KeepsUp, AsksOnce};
-ghost use Rattle.sock_calls.specs.Calls.{owner_of, holding_of, FitsPipes, LeavesOthers};
+ghost use Rattle.sock_calls.specs.Calls.{owner_of, holding_of, FitsPipes, LeavesOthers, HaveDone, RestsThere};
 ghost use Rattle.control_held.specs.Moments.{Moment};
 ghost use Rattle.sock_calls.specs.Passing.{Passes};
 
@@ -47,6 +47,7 @@ where
         (D.given desk.old) (D.given desk.new)) }
     ensures err { OnErr result ((D.moments desk.new ≡ D.moments desk.old)
         × (D.given desk.new ≡ D.given desk.old)) }
+    ensures grows { D.grows desk.old desk.new }
     ensures names { KeepsNames (D.named desk.old) (D.named desk.new) }
     ensures keeps { (D.number desk.new ≡ D.number desk.old)
         × KeepsUp (D.number desk.new) (D.moments desk.old) (D.moments desk.new)
@@ -54,6 +55,8 @@ where
     ensures owner { owner_of socket.new ≡ owner_of socket.old }
     ensures fits { FitsPipes P.known C.peers pipes.new socket.new }
     ensures others { LeavesOthers P.known socket.old socket.new pipes.old pipes.new }
+    ensures does { HaveDone P.known socket.old socket.new pipes.old pipes.new }
+    ensures rests { RestsThere C.rests socket.old → RestsThere C.rests socket.new }
     ensures passes { (more : List (Moment P.Name P.Story)) →
         D.moments desk.new ≡ D.moments desk.old ++ more →
         Passes C.pattern socket.old socket.new more }
@@ -65,6 +68,7 @@ where
                 answer,
                 pipes: lent,
                 core,
+                did: _,
             } = ask_lent::<Brand, P, C, D>(alloc, lent, core, desk, request);
             *pipes = lent;
             *socket = Some(core);

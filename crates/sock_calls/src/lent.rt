@@ -1,7 +1,9 @@
-ghost use Rattle.std.specs.Prelude.{◌≡◌, ℕ, true, false, Some, IfOk, OnErr};
+ghost use Rattle.std.specs.Prelude.{◌≡◌, ℕ, true, false, Some, IfOk, OnErr, map};
 ghost use Rattle.control_held.specs.Held.{asker};
 ghost use Rattle.control_held.specs.OwnAsks.{MayAskOwn};
-ghost use Rattle.control_held.specs.Moments.{items_in};
+ghost use Rattle.control_held.specs.Moments.{items_in, left_after};
+ghost use Rattle.spec_control.specs.Control.{place_of};
+ghost use Rattle.spec_control.specs.Place.{looks};
 ghost use Rattle.ctl_holder.specs.Holding.{has_end};
 ghost use Rattle.ctl_plane.specs.Asking.{HasMarks, IsOfSockets};
 ghost use Rattle.ctl_plane.specs.Coming.{AreDistinct, BindsFit, KeepsNames, SendsEnds};
@@ -11,13 +13,14 @@ ghost use Rattle.held_ends.specs.Counting.{counts_of};
 ghost use Rattle.held_ends.specs.Others.{Leaves};
 ghost use Rattle.held_ends.specs.Sound.{Fits};
 ghost use Rattle.sock_core.specs.Has.{holding_in};
+ghost use Rattle.sock_core.specs.Noted.{HasDone};
 ghost use Rattle.sock_core.specs.Way.{KindWayOf};
 ghost use Rattle.sock_core.specs.declared.sock.SockCore.{SockCore};
 ghost use Rattle.sock_calls.specs.Calls.{FitsCore};
 
 use crate::moving::Back;
 use ctl_plane::{Delivery, Desk};
-use held_ends::HeldPipes;
+use held_ends::{HeldPipes, PipeChange};
 use http_server::Log;
 use sock_core::{Joins, Since, SockCore, SockHolder};
 use spec_control::{Reply, Req};
@@ -32,7 +35,12 @@ pub(crate) fn ask_lent<F, P, C, D>(
     core: SockCore<C, P::Waker, P::Name, P::Out, P::In>,
     desk: &mut D,
     request: Req,
-) -> Back<Result<Reply, AllocError>, P, SockCore<C, P::Waker, P::Name, P::Out, P::In>>
+) -> Back<
+    Result<Reply, AllocError>,
+    P,
+    SockCore<C, P::Waker, P::Name, P::Out, P::In>,
+    Log<PipeChange<P::Out, P::In>, P>,
+>
 where
     F: Since<P, SockCore<C, P::Waker, P::Name, P::Out, P::In>>,
     P: HeldPipes,
@@ -55,6 +63,7 @@ where
         (D.given desk.old) (D.given desk.new)) }
     ensures err { OnErr result.answer ((D.moments desk.new ≡ D.moments desk.old)
         × (D.given desk.new ≡ D.given desk.old)) }
+    ensures grows { D.grows desk.old desk.new }
     ensures names { KeepsNames (D.named desk.old) (D.named desk.new) }
     ensures keeps { (D.number desk.new ≡ D.number desk.old)
         × KeepsUp (D.number desk.new) (D.moments desk.old) (D.moments desk.new)
@@ -63,26 +72,34 @@ where
     ensures fits { FitsCore P.known C.peers result.pipes result.core }
     ensures others { (s : P) (t : SockCore C P.Waker P.Name P.Out P.In) → F.began s t →
         Leaves P.known s t.ends result.pipes result.core.ends × (result.core.number.0 ≡ F.object) }
+    ensures does { (s : P) (t : SockCore C P.Waker P.Name P.Out P.In) → F.began s t →
+        HasDone P.known s (map (λ x. x.0) t.sealed.items) result.did.items result.pipes
+        result.core.ends.places.items (map (λ x. x.0) result.core.sealed.items) }
     ensures way { (s : P) (t : SockCore C P.Waker P.Name P.Out P.In) → F.began s t →
         ∥ KindWayOf C.pattern C.names C.sound C.peers t result.core ∥₁ }
+    ensures rest { (s : P) (t : SockCore C P.Waker P.Name P.Out P.In) → F.began s t →
+        C.rests t.kind → C.rests result.core.kind }
 {
     let mut core = core;
     core.way = Log::new();
     let mut holder: SockHolder<P, C, F> = SockHolder {
         pipes,
         core,
+        did: Log::new(),
         since: PhantomData,
     };
     let answer = desk.request::<SockHolder<P, C, F>>(alloc, request, &mut holder);
     let SockHolder {
         pipes,
         core,
+        did,
         since: _,
     } = holder;
     Back {
         answer,
         pipes,
         core,
+        did,
     }
 }
 
@@ -92,7 +109,12 @@ pub(crate) fn take_lent<F, P, C, D>(
     pipes: P,
     core: SockCore<C, P::Waker, P::Name, P::Out, P::In>,
     desk: &mut D,
-) -> Back<Result<Delivery, AllocError>, P, SockCore<C, P::Waker, P::Name, P::Out, P::In>>
+) -> Back<
+    Result<Delivery, AllocError>,
+    P,
+    SockCore<C, P::Waker, P::Name, P::Out, P::In>,
+    Log<PipeChange<P::Out, P::In>, P>,
+>
 where
     F: Since<P, SockCore<C, P::Waker, P::Name, P::Out, P::In>>,
     P: HeldPipes,
@@ -119,6 +141,7 @@ where
         (D.moments desk.old) (D.moments desk.new) (holding_in (C.kind core.kind) core) }
     ensures err { OnErr result.answer (D.moments desk.new ≡ D.moments desk.old) }
     ensures given { D.given desk.new ≡ D.given desk.old }
+    ensures grows { D.grows desk.old desk.new }
     ensures names { KeepsNames (D.named desk.old) (D.named desk.new) }
     ensures keeps { (D.number desk.new ≡ D.number desk.old)
         × KeepsUp (D.number desk.new) (D.moments desk.old) (D.moments desk.new)
@@ -127,8 +150,13 @@ where
     ensures fits { FitsCore P.known C.peers result.pipes result.core }
     ensures others { (s : P) (t : SockCore C P.Waker P.Name P.Out P.In) → F.began s t →
         Leaves P.known s t.ends result.pipes result.core.ends × (result.core.number.0 ≡ F.object) }
+    ensures does { (s : P) (t : SockCore C P.Waker P.Name P.Out P.In) → F.began s t →
+        HasDone P.known s (map (λ x. x.0) t.sealed.items) result.did.items result.pipes
+        result.core.ends.places.items (map (λ x. x.0) result.core.sealed.items) }
     ensures way { (s : P) (t : SockCore C P.Waker P.Name P.Out P.In) → F.began s t →
         ∥ KindWayOf C.pattern C.names C.sound C.peers t result.core ∥₁ }
+    ensures rest { (s : P) (t : SockCore C P.Waker P.Name P.Out P.In) → F.began s t →
+        C.rests t.kind → C.rests result.core.kind }
 {
     let slot = desk.slot(core.number);
     let mut core = core;
@@ -136,18 +164,21 @@ where
     let mut holder: SockHolder<P, C, F> = SockHolder {
         pipes,
         core,
+        did: Log::new(),
         since: PhantomData,
     };
     let answer = desk.deliver::<SockHolder<P, C, F>>(alloc, slot, &mut holder);
     let SockHolder {
         pipes,
         core,
+        did,
         since: _,
     } = holder;
     Back {
         answer,
         pipes,
         core,
+        did,
     }
 }
 
@@ -159,7 +190,7 @@ pub(crate) fn meet_lent<F, P, C, D>(
     core: SockCore<C, P::Waker, P::Name, P::Out, P::In>,
     desk: &mut D,
     end: EndId,
-) -> Back<bool, P, SockCore<C, P::Waker, P::Name, P::Out, P::In>>
+) -> Back<bool, P, SockCore<C, P::Waker, P::Name, P::Out, P::In>, Log<PipeChange<P::Out, P::In>, P>>
 where
     F: Since<P, SockCore<C, P::Waker, P::Name, P::Out, P::In>>,
     P: HeldPipes,
@@ -177,7 +208,10 @@ where
         (holding_in (C.kind core.kind) core) }
     ensures found { DelimitsOrNot (D.number desk.old) end result.answer
         (D.moments desk.old) (D.moments desk.new) }
+    ensures not_looked { result.answer ≡ false →
+        looks (place_of (left_after core.number.0 (D.moments desk.old)) end) ≡ false }
     ensures given { D.given desk.new ≡ D.given desk.old }
+    ensures grows { D.grows desk.old desk.new }
     ensures names { KeepsNames (D.named desk.old) (D.named desk.new) }
     ensures keeps { (D.number desk.new ≡ D.number desk.old)
         × KeepsUp (D.number desk.new) (D.moments desk.old) (D.moments desk.new)
@@ -186,25 +220,33 @@ where
     ensures fits { FitsCore P.known C.peers result.pipes result.core }
     ensures others { (s : P) (t : SockCore C P.Waker P.Name P.Out P.In) → F.began s t →
         Leaves P.known s t.ends result.pipes result.core.ends × (result.core.number.0 ≡ F.object) }
+    ensures does { (s : P) (t : SockCore C P.Waker P.Name P.Out P.In) → F.began s t →
+        HasDone P.known s (map (λ x. x.0) t.sealed.items) result.did.items result.pipes
+        result.core.ends.places.items (map (λ x. x.0) result.core.sealed.items) }
     ensures way { (s : P) (t : SockCore C P.Waker P.Name P.Out P.In) → F.began s t →
         ∥ KindWayOf C.pattern C.names C.sound C.peers t result.core ∥₁ }
+    ensures rest { (s : P) (t : SockCore C P.Waker P.Name P.Out P.In) → F.began s t →
+        C.rests t.kind → C.rests result.core.kind }
 {
     let mut core = core;
     core.way = Log::new();
     let mut holder: SockHolder<P, C, F> = SockHolder {
         pipes,
         core,
+        did: Log::new(),
         since: PhantomData,
     };
     let answer = desk.delimiter::<SockHolder<P, C, F>>(alloc, end, &mut holder);
     let SockHolder {
         pipes,
         core,
+        did,
         since: _,
     } = holder;
     Back {
         answer,
         pipes,
         core,
+        did,
     }
 }

@@ -5,11 +5,13 @@ use sock_core::SockCore;
 use std::alloc::{AllocError, Global};
 use zq_base::{Endpoint, ObjId};
 
-/// What a call on a socket that was moved answers, with the socket and its pipes.
-pub(crate) struct Back<A, P, S> {
+/// What a call on a socket that was moved answers, with the socket and its pipes, and what was done
+/// to them, for proofs alone.
+pub(crate) struct Back<A, P, S, D> {
     pub(crate) answer: A,
     pub(crate) pipes: P,
     pub(crate) core: S,
+    pub(crate) did: D,
 }
 
 /// The same endpoint once more.

@@ -24,7 +24,7 @@ where
     C: Joins + Drop,
 {
     ghost use Rattle.sock_calls.specs.Calls.{owner_of, holding_of, FitsPipes, MayJoin, LeavesOthers};
-    ghost use Rattle.sock_calls.specs.Calls.{counts_by};
+    ghost use Rattle.sock_calls.specs.Calls.{counts_by, HaveDone, RestsThere};
     ghost use Rattle.sock_calls.specs.Passing.{Passes};
 
     ghost owner = { λ s. owner_of s.core };
@@ -38,6 +38,10 @@ where
     ghost counts = { λ s pipes e writer. counts_by P.known pipes s.core e writer };
 
     ghost leaves = { λ old new before now. LeavesOthers P.known old.core new.core before now };
+
+    ghost does = { λ old new before now. HaveDone P.known old.core new.core before now };
+
+    ghost rests = { λ s. RestsThere C.rests s.core };
 
     ghost passes = { λ old new more. Passes C.pattern old.core new.core more };
 
@@ -118,6 +122,7 @@ where
                     answer,
                     pipes: lent,
                     core,
+                    did: _,
                 } = take_lent::<Brand, P, C, D>(alloc, lent, core, desk);
                 *pipes = lent;
                 self.core = Some(core);
@@ -135,6 +140,7 @@ where
                     answer,
                     pipes: lent,
                     core,
+                    did: _,
                 } = meet_lent::<Brand, P, C, D>(alloc, lent, core, desk, end);
                 *pipes = lent;
                 self.core = Some(core);
@@ -159,7 +165,7 @@ where
     ghost use Rattle.spec_control.specs.declared.request.Req.TheVariants.{Close};
     ghost use Rattle.ctl_plane.specs.Coming.{KeepsNames, SendsEnds};
     ghost use Rattle.ctl_plane.specs.Desk.{HasWhatTheySay, KeepsUp, AsksOnce};
-    ghost use Rattle.sock_calls.specs.Calls.{owner_of, holding_of, FitsPipes, LeavesOthers, HasNone};
+    ghost use Rattle.sock_calls.specs.Calls.{owner_of, holding_of, FitsPipes, LeavesOthers, HaveDone, HasNone};
 
     /// Closes the socket (zmq_close(3)): its ends are on their way to the reaper, and it has none.
     pub fn close<D: Desk<P>>(
@@ -183,6 +189,7 @@ where
             (Close (id (owner_of self.old.core))) (D.given desk.old) (D.given desk.new)) }
         ensures err { OnErr result ((D.moments desk.new ≡ D.moments desk.old)
             × (D.given desk.new ≡ D.given desk.old)) }
+        ensures grows { D.grows desk.old desk.new }
         ensures names { KeepsNames (D.named desk.old) (D.named desk.new) }
         ensures has_still { KeepsUp (D.number desk.new) (D.moments desk.old) (D.moments desk.new)
             (holding_of C.kind self.old.core) (holding_of C.kind self.new.core) }
@@ -190,6 +197,7 @@ where
             × (D.number desk.new ≡ D.number desk.old) }
         ensures fits { FitsPipes P.known C.peers pipes.new self.new.core }
         ensures others { LeavesOthers P.known self.old.core self.new.core pipes.old pipes.new }
+        ensures does { HaveDone P.known self.old.core self.new.core pipes.old pipes.new }
     {
         let request = Req::Close(number_of(&self.core));
         ask(alloc, pipes, &mut self.core, desk, request)

@@ -1,12 +1,12 @@
 -- What a socket of any kind does at a detach and an undo is what ends that join it ask for.
-use Rattle.std.proofs.Common.{◌≡◌, ℕ, Contains, nat_eq, false}
+use Rattle.std.proofs.Common.{◌≡◌, ℕ, Contains, nat_eq, false, ap, ◌∙◌}
 use Rattle.std.specs.Cmp.{nat_eq_equiv}
 use Rattle.std.proofs.lemmas.List.Elements.{All-weaker}
 use Rattle.std.proofs.lemmas.Map.Views.{list_any-from_Contains}
 use Rattle.zq_base.specs.declared.ids.PairId.{PairId}
 use Rattle.spec_pattern.specs.PipeStep.{same_pipe}
-use Rattle.any_sock.specs.Over.{over, peer_places, partner_places}
-use Rattle.any_sock.specs.Peers.{heard_places, CanName, DetachedOver, TakenBackOver}
+use Rattle.any_sock.specs.Over.{over, peer_places, partner_places, left_of, nothing_left}
+use Rattle.any_sock.specs.Peers.{heard_places, CanName, DetachedOver, TakenBackOver, left_without}
 use Rattle.any_sock.specs.Told.{IsToldByPeers}
 use Rattle.any_sock.specs.declared.any_sock.AnySock.{AnySock}
 use Rattle.sock_core.specs.Patterns.{IsAlike, DetachesAs, CameBy}
@@ -35,3 +35,7 @@ undoes_as place before s s' back came =
       attached = came.attached;
     }) in
     was.state_is
+
+-- nothing is left without the end, where nothing was
+pub without_rests : (place : ℕ) (s s' : AnySock) → left_of s' ≡ left_without place (left_of s) → left_of s ≡ nothing_left → left_of s' ≡ nothing_left
+without_rests place s s' gone rests = gone ∙ ap (left_without place) rests

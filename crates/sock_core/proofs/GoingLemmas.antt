@@ -92,10 +92,10 @@ module _ {S O I N : Type 0} (K : Known S O I N) (pipes : S) (rows : Rows O I) (p
         → w' ≡ (if is_state p.state state then w else with_turned e state w) → turns' ≡ turns ++ (if is_state p.state state then [] else (e, state) ∷ [])
         → (is_out (At state) ≡ false → StaysAs is_peer stays old new)
         → (is_out (At state) ≡ true → (stays ≡ false) × GoesAs pattern is_peer e.pair place peers old new)
-        → (w.in_order ≡ true → KindWay pattern names sure peers_of w ps joins0 joins turns0 turns first old)
-        → w'.in_order ≡ true → KindWay pattern names sure peers_of w' (set ps place q) joins0 joins turns0 turns' first new
-    noted_turned names sure peers_of w w' place p q e state is_peer stays joins0 joins turns0 turns turns' first old new at held is flag same_end kept used noted more stay go k order =
-        by (is_state p.state state) refl w' noted turns' more order
+        → KindWay pattern names sure peers_of w ps joins0 joins turns0 turns first old
+        → KindWay pattern names sure peers_of w' (set ps place q) joins0 joins turns0 turns' first new
+    noted_turned names sure peers_of w w' place p q e state is_peer stays joins0 joins turns0 turns turns' first old new at held is flag same_end kept used noted more stay go k =
+        by (is_state p.state state) refl w' noted turns' more
       where
         no_peer : p.state ≡ state → is_out (At state) ≡ true → (b : Bool) → p.peer ≡ b → p.peer ≡ false
         no_peer was gone true on = absurd (true≢false (sym gone ∙ ap (λ (s : EndState). is_out (At s)) (sym was) ∙ used on))
@@ -113,16 +113,16 @@ module _ {S O I N : Type 0} (K : Known S O I N) (pipes : S) (rows : Rows O I) (p
         moved ends right false stays_in = ap (pattern ends) (stay stays_in).1
         moved ends right true gone = gone_as ends right pattern flagged is_peer place p e old new at held is flag (go gone).1
 
-        by : (b : Bool) → is_state p.state state ≡ b → (v : Way N) → v ≡ (if b then w else with_turned e state w) → (ts : List (EndId × EndState)) → ts ≡ turns ++ (if b then [] else (e, state) ∷ []) → v.in_order ≡ true
+        by : (b : Bool) → is_state p.state state ≡ b → (v : Way N) → v ≡ (if b then w else with_turned e state w) → (ts : List (EndId × EndState)) → ts ≡ turns ++ (if b then [] else (e, state) ∷ [])
             → KindWay pattern names sure peers_of v (set ps place q) joins0 joins turns0 ts first new
-        by true same v is_v ts is_ts order =
+        by true same v is_v ts is_ts =
             let u = unmoved (state_is p.state state same) (is_out (At state)) refl in
             subst (λ (x : Way N). KindWay pattern names sure peers_of x (set ps place q) joins0 joins turns0 ts first new) (sym is_v)
             (subst (λ (l : List (EndId × EndState)). KindWay pattern names sure peers_of w (set ps place q) joins0 joins turns0 l first new) (sym (is_ts ∙ append-nil turns))
             (way_kept pattern names sure peers_of w ps (set ps place q) joins0 joins turns0 turns first old new (still_set (w.turns ≡ []) ps place p q at same_end (λ _. kept ∙ u.1)) (λ ends. ap (pattern ends) u.0)
-            (k (ap (λ (x : Way N). x.in_order) (sym is_v) ∙ order))))
-        by false changed v is_v ts is_ts order =
+            k))
+        by false changed v is_v ts is_ts =
             subst (λ (x : Way N). KindWay pattern names sure peers_of x (set ps place q) joins0 joins turns0 ts first new) (sym is_v)
             (way_turned pattern names sure peers_of w ps (set ps place q) joins0 joins turns0 turns ts first old new e state
             (still_set (w.turns ++ (e, state) ∷ [] ≡ []) ps place p q at same_end (λ none. absurd (some_last w.turns (e, state) none))) is_ts (λ ends right. moved ends right (is_out (At state)) refl)
-            (k (ap (λ (x : Way N). x.in_order) (sym is_v) ∙ order)))
+            k)

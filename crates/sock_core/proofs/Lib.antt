@@ -12,4 +12,7 @@ pub mod AnyLemmas
 pub mod NoneLemmas
 pub mod FlagLemmas
 pub mod WayLemmas
+pub mod CalmLemmas
 pub mod GoingLemmas
+pub mod NotedLemmas
+pub mod DoneLemmas

@@ -1,5 +1,5 @@
 -- What was done to a socket's ends, with one note more, and what it did to its kind's state.
-use Rattle.std.proofs.Common.{◌≡◌, ◌∙◌, ◌&&◌, ℕ, zero, suc, Bool, true, false, List, [], ◌∷◌, ◌++◌, Some, length, refl, sym, ap, subst, set, nat_eq, eqb-true, true≢false, if◌then◌else◌}
+use Rattle.std.proofs.Common.{◌≡◌, ◌==◌, ◌∙◌, ℕ, zero, suc, Bool, true, false, List, [], ◌∷◌, ◌++◌, Some, length, refl, sym, ap, subst, set, nat_eq, eqb-true, true≢false, if◌then◌else◌}
 use Rattle.std.proofs.lemmas.Bool.{eq-eqb}
 use Rattle.std.proofs.lemmas.List.{append-nil, append_assoc}
 use Rattle.zq_base.specs.declared.attached.Attached.{Attached}
@@ -20,7 +20,7 @@ use Rattle.sock_core.specs.declared.joint.JoinNote.{JoinNote}
 use Rattle.sock_core.specs.Peers.{AreElse, is_taken}
 use Rattle.sock_core.specs.Patterns.{IsAlike, CameBy, CanJoin, UndoesAs, AnswersAs, AttachesAs, NamesWhere}
 use Rattle.sock_core.specs.Standing.{without_last}
-use Rattle.sock_core.specs.Way.{Way, outs_of, stood_last, without_first, with_came, with_undone, with_parted, then_noted, way_from, oldest_first, CanJoinAll, IsNaming, StandsAs, AllStand, CameAs, HaveCome, KindWay}
+use Rattle.sock_core.specs.Way.{Way, outs_of, without_first, with_came, with_undone, then_noted, way_from, oldest_first, CanJoinAll, IsNaming, StandsAs, AllStand, CameAs, HaveCome, KindWay}
 use Rattle.sock_core.proofs.StandingLemmas.{last_off}
 
 -- ---- notes and lists
@@ -28,10 +28,6 @@ use Rattle.sock_core.proofs.StandingLemmas.{last_off}
 pub way_more : {N : Type 0} (w : Way N) (notes : List (JoinNote N × List ℕ)) (note : JoinNote N × List ℕ) → way_from w (notes ++ note ∷ []) ≡ then_noted (way_from w notes) note.0 note.1
 way_more w [] note = refl
 way_more w (n ∷ notes) note = way_more (then_noted w n.0 n.1) notes note
-
-pub none_in : {A : Type 0} (xs : List A) → is_none xs ≡ true → xs ≡ []
-none_in [] h = refl
-none_in (x ∷ xs) h = absurd (true≢false (sym h))
 
 pub some_last : {A : Type 0} (xs : List A) (x : A) → xs ++ x ∷ [] ≡ [] → ⊥
 some_last [] x e = absurd (true≢false (sym (ap is_none e)))
@@ -51,6 +47,11 @@ detach_last [] e p = refl
 detach_last (x ∷ es) e p = detach_last es e (detach x p)
 
 module _ {N : Type 0} where
+  -- the end that joined last stands at this place
+  abbrev pub stood_last : ℕ → List (Joining N × ℕ) → Bool
+  stood_last place [] = false
+  stood_last place (x ∷ xs) = x.1 == place
+
   attach_last : (js : List (Joining N)) (j : Joining N) (p : Pattern) → attach_all (js ++ j ∷ []) p ≡ attach_as j.answer j.end j.peer (attach_all js p)
   attach_last [] j p = refl
   attach_last (x ∷ js) j p = attach_last js j (attach_as x.answer x.end x.peer p)
@@ -67,14 +68,6 @@ module _ {N : Type 0} where
   abbrev AreNamed : (ℕ → EndId) → List (Joining N × ℕ) → Type 0
   AreNamed ends [] = Unit {0}
   AreNamed ends (x ∷ xs) = (ends x.1 ≡ x.0.end) × AreNamed ends xs
-
-both_left : (a b : Bool) → (a && b) ≡ true → a ≡ true
-both_left true b h = refl
-both_left false b h = absurd (true≢false (sym h))
-
-both_right : (a b : Bool) → (a && b) ≡ true → b ≡ true
-both_right true b h = h
-both_right false b h = absurd (true≢false (sym h))
 
 -- ---- places
 
@@ -113,12 +106,12 @@ module _ {N I : Type 0} where
         flag = λ quiet. refl;
       }
 
-  at_before : (ps : List (Place N I)) (q r : Place N I) (j : ℕ) → place_at ps j ≡ Some r → place_at (ps ++ q ∷ []) j ≡ Some r
+  pub at_before : (ps : List (Place N I)) (q r : Place N I) (j : ℕ) → place_at ps j ≡ Some r → place_at (ps ++ q ∷ []) j ≡ Some r
   at_before [] q r j at = cc
   at_before (x ∷ ps) q r zero at = at
   at_before (x ∷ ps) q r (suc j) at = at_before ps q r j at
 
-  at_last : (ps : List (Place N I)) (q : Place N I) → place_at (ps ++ q ∷ []) (length ps) ≡ Some q
+  pub at_last : (ps : List (Place N I)) (q : Place N I) → place_at (ps ++ q ∷ []) (length ps) ≡ Some q
   at_last [] q = refl
   at_last (x ∷ ps) q = at_last ps q
 
@@ -208,9 +201,9 @@ module _ {N C : Type 0} (pattern : (ℕ → End) → C → Pattern) (names : C �
     }
 
     -- nothing was done yet
-    pub way_begun : (ps : List (Place N I)) (joins : List (Joining N)) (turns : List (EndId × EndState)) (first : C) → Goes (record { joined = []; turns = []; in_order = true }) ps joins joins turns turns first first
+    pub way_begun : (ps : List (Place N I)) (joins : List (Joining N)) (turns : List (EndId × EndState)) (first : C) → Goes (record { joined = []; turns = [] }) ps joins joins turns turns first first
     way_begun ps joins turns first =
-        way_of_come (record { joined = []; turns = []; in_order = true }) ps joins joins turns turns first first refl (sym (append-nil joins)) (sym (append-nil turns)) (λ ends. refl) tt
+        way_of_come (record { joined = []; turns = [] }) ps joins joins turns turns first first refl (sym (append-nil joins)) (sym (append-nil turns)) (λ ends. refl) tt
 
     -- the same ends, and a state that is alike
     pub way_kept : (w : Way N) (ps qs : List (Place N I)) (joins0 joins : List (Joining N)) (turns0 turns : List (EndId × EndState)) (first now now' : C)
@@ -225,20 +218,20 @@ module _ {N C : Type 0} (pattern : (ℕ → End) → C → Pattern) (names : C �
     }
 
     -- an end joined, behind the others
-    pub way_came : (w : Way N) (b : Bool) (ps qs : List (Place N I)) (joins0 joins joins' : List (Joining N)) (turns0 turns : List (EndId × EndState)) (first now new : C) (j : Joining N) (place : ℕ)
+    pub way_came : (w : Way N) (ps qs : List (Place N I)) (joins0 joins joins' : List (Joining N)) (turns0 turns : List (EndId × EndState)) (first now new : C) (j : Joining N) (place : ℕ)
         → w.turns ≡ [] → AllStandStill (w.turns ≡ []) ps qs → StandsAs qs w.turns (j, place) → joins' ≡ joins ++ j ∷ [] → CameAs pattern names sound peers (j, place) now new
-        → Goes w ps joins0 joins turns0 turns first now → Goes (record { joined = (j, place) ∷ w.joined; turns = w.turns; in_order = b }) qs joins0 joins' turns0 turns first new
-    way_came w b ps qs joins0 joins joins' turns0 turns first now new j place none still here more came k =
-        way_of_come (record { joined = (j, place) ∷ w.joined; turns = w.turns; in_order = b }) qs joins0 joins' turns0 turns first new none
+        → Goes w ps joins0 joins turns0 turns first now → Goes (record { joined = (j, place) ∷ w.joined; turns = w.turns }) qs joins0 joins' turns0 turns first new
+    way_came w ps qs joins0 joins joins' turns0 turns first now new j place none still here more came k =
+        way_of_come (record { joined = (j, place) ∷ w.joined; turns = w.turns }) qs joins0 joins' turns0 turns first new none
         (more ∙ ap (λ (l : List (Joining N)). l ++ j ∷ []) k.joins_are ∙ append_assoc joins0 (oldest_first w.joined) (j ∷ [])) k.turns_are
         (now, came, k.come none) (here, stand_kept ps qs w.turns w.turns w.joined (λ e. e) still k.stand)
 
     -- the one that joined last was taken back
-    pub way_undone : (w : Way N) (b is_peer : Bool) (ps qs : List (Place N I)) (joins0 joins joins' : List (Joining N)) (turns0 turns : List (EndId × EndState)) (first now new : C) (place : ℕ) (p : Place N I)
+    pub way_undone : (w : Way N) (is_peer : Bool) (ps qs : List (Place N I)) (joins0 joins joins' : List (Joining N)) (turns0 turns : List (EndId × EndState)) (first now new : C) (place : ℕ) (p : Place N I)
         → w.turns ≡ [] → stood_last place w.joined ≡ true → AllStandStill (w.turns ≡ []) ps qs → place_at ps place ≡ Some p → is_peer ≡ p.peer → joins' ≡ without_last joins
         → UndoesAs pattern names sound peers is_peer place now new
-        → Goes w ps joins0 joins turns0 turns first now → Goes (record { joined = without_first w.joined; turns = w.turns; in_order = b }) qs joins0 joins' turns0 turns first new
-    way_undone w b is_peer ps qs joins0 joins joins' turns0 turns first now new place p none last still at flag less undoes k = by w.joined last k.joins_are k.stand (k.come none)
+        → Goes w ps joins0 joins turns0 turns first now → Goes (record { joined = without_first w.joined; turns = w.turns }) qs joins0 joins' turns0 turns first new
+    way_undone w is_peer ps qs joins0 joins joins' turns0 turns first now new place p none last still at flag less undoes k = by w.joined last k.joins_are k.stand (k.come none)
       where
         alike : (x : Joining N × ℕ) (before : C) → x.1 ≡ place → is_peer ≡ is_taken x.0.answer → CameAs pattern names sound peers x before now → IsAlike pattern before new
         alike x before same taken came = answer x.0.answer refl
@@ -257,12 +250,12 @@ module _ {N C : Type 0} (pattern : (ℕ → End) → C → Pattern) (names : C �
             one_of x y e = cc
 
         by : (xs : List (Joining N × ℕ)) → stood_last place xs ≡ true → joins ≡ joins0 ++ oldest_first xs → AllStand ps w.turns xs → Come xs first now
-            → Goes (record { joined = without_first xs; turns = w.turns; in_order = b }) qs joins0 joins' turns0 turns first new
+            → Goes (record { joined = without_first xs; turns = w.turns }) qs joins0 joins' turns0 turns first new
         by [] last are stand come = absurd (true≢false (sym last))
         by (x ∷ xs) last are stand come =
             let same = eqb-true x.1 place last in
             let is = one_place stand.0.place (subst (λ (n : ℕ). place_at ps n ≡ Some stand.0.place) same stand.0.there) in
-            way_of_come (record { joined = xs; turns = w.turns; in_order = b }) qs joins0 joins' turns0 turns first new none
+            way_of_come (record { joined = xs; turns = w.turns }) qs joins0 joins' turns0 turns first new none
             (less ∙ ap (λ (l : List (Joining N)). without_last l) (are ∙ sym (append_assoc joins0 (oldest_first xs) (x.0 ∷ []))) ∙ last_off (joins0 ++ oldest_first xs) x.0) k.turns_are
             (come_alike xs first come.0 new (alike x come.0 same (flag ∙ ap (λ (y : Place N I). y.peer) is ∙ stand.0.flag none) come.1) come.2)
             (stand_kept ps qs w.turns w.turns xs (λ e. e) still stand.1)
@@ -271,7 +264,7 @@ module _ {N C : Type 0} (pattern : (ℕ → End) → C → Pattern) (names : C �
     pub way_turned : (w : Way N) (ps qs : List (Place N I)) (joins0 joins : List (Joining N)) (turns0 turns turns' : List (EndId × EndState)) (first now new : C) (e : EndId) (state : EndState)
         → AllStandStill (w.turns ++ (e, state) ∷ [] ≡ []) ps qs → turns' ≡ turns ++ (e, state) ∷ []
         → ((ends : ℕ → EndId) → IsNaming ps ends → pattern ends new ≡ (if is_out (At state) then detach e (pattern ends now) else pattern ends now))
-        → Goes w ps joins0 joins turns0 turns first now → Goes (record { joined = w.joined; turns = w.turns ++ (e, state) ∷ []; in_order = w.in_order }) qs joins0 joins turns0 turns' first new
+        → Goes w ps joins0 joins turns0 turns first now → Goes (record { joined = w.joined; turns = w.turns ++ (e, state) ∷ [] }) qs joins0 joins turns0 turns' first new
     way_turned w ps qs joins0 joins turns0 turns turns' first now new e state still more moved k = record {
       joins_are = k.joins_are;
       turns_are = more ∙ ap (λ (l : List (EndId × EndState)). l ++ (e, state) ∷ []) k.turns_are ∙ append_assoc turns0 w.turns ((e, state) ∷ []);
@@ -291,37 +284,20 @@ module _ {N C : Type 0} (pattern : (ℕ → End) → C → Pattern) (names : C �
     -- ---- by the notes
 
     pub noted_came : (w w' : Way N) (ps qs : List (Place N I)) (joins0 joins joins' : List (Joining N)) (turns0 turns : List (EndId × EndState)) (first old new : C) (j : Joining N) (place : ℕ) (q : Place N I)
-        → w' ≡ with_came j place w → qs ≡ ps ++ q ∷ [] → place ≡ length ps → q.end ≡ j.end → q.peer ≡ is_taken j.answer → joins' ≡ joins ++ j ∷ [] → CameAs pattern names sound peers (j, place) old new
-        → (w.in_order ≡ true → Goes w ps joins0 joins turns0 turns first old) → w'.in_order ≡ true → Goes w' qs joins0 joins' turns0 turns first new
-    noted_came w w' ps qs joins0 joins joins' turns0 turns first old new j place q noted behind last same flag more came k order =
-        let both = ap (λ (x : Way N). x.in_order) (sym noted) ∙ order in
-        let none = none_in w.turns (both_right w.in_order (is_none w.turns) both) in
+        → w' ≡ with_came j place w → w.turns ≡ [] → qs ≡ ps ++ q ∷ [] → place ≡ length ps → q.end ≡ j.end → q.peer ≡ is_taken j.answer → joins' ≡ joins ++ j ∷ [] → CameAs pattern names sound peers (j, place) old new
+        → Goes w ps joins0 joins turns0 turns first old → Goes w' qs joins0 joins' turns0 turns first new
+    noted_came w w' ps qs joins0 joins joins' turns0 turns first old new j place q noted quiet behind last same flag more came k =
         subst (λ (x : Way N). Goes x qs joins0 joins' turns0 turns first new) (sym noted)
         (subst (λ (l : List (Place N I)). Goes (with_came j place w) l joins0 joins' turns0 turns first new) (sym behind)
-        (way_came w (w.in_order && is_none w.turns) ps (ps ++ q ∷ []) joins0 joins joins' turns0 turns first old new j place none (still_more (w.turns ≡ []) ps q)
-        (record { place = q; there = ap (place_at (ps ++ q ∷ [])) last ∙ at_last ps q; end_is = same; flag = λ _. flag }) more came (k (both_left w.in_order (is_none w.turns) both))))
+        (way_came w ps (ps ++ q ∷ []) joins0 joins joins' turns0 turns first old new j place quiet (still_more (w.turns ≡ []) ps q)
+        (record { place = q; there = ap (place_at (ps ++ q ∷ [])) last ∙ at_last ps q; end_is = same; flag = λ _. flag }) more came k))
 
     pub noted_undone : (w w' : Way N) (is_peer : Bool) (ps : List (Place N I)) (joins0 joins joins' : List (Joining N)) (turns0 turns : List (EndId × EndState)) (first old new : C) (place : ℕ) (p q : Place N I)
-        → w' ≡ with_undone place w → place_at ps place ≡ Some p → q.end ≡ p.end → q.peer ≡ p.peer → is_peer ≡ p.peer → joins' ≡ without_last joins → UndoesAs pattern names sound peers is_peer place old new
-        → (w.in_order ≡ true → Goes w ps joins0 joins turns0 turns first old) → w'.in_order ≡ true → Goes w' (set ps place q) joins0 joins' turns0 turns first new
-    noted_undone w w' is_peer ps joins0 joins joins' turns0 turns first old new place p q noted at same kept flag less undoes k order =
-        let both = ap (λ (x : Way N). x.in_order) (sym noted) ∙ order in
-        let two = both_right w.in_order (is_none w.turns && stood_last place w.joined) both in
-        let none = none_in w.turns (both_left (is_none w.turns) (stood_last place w.joined) two) in
+        → w' ≡ with_undone w → w.turns ≡ [] → stood_last place w.joined ≡ true → place_at ps place ≡ Some p → q.end ≡ p.end → q.peer ≡ p.peer → is_peer ≡ p.peer → joins' ≡ without_last joins → UndoesAs pattern names sound peers is_peer place old new
+        → Goes w ps joins0 joins turns0 turns first old → Goes w' (set ps place q) joins0 joins' turns0 turns first new
+    noted_undone w w' is_peer ps joins0 joins joins' turns0 turns first old new place p q noted quiet last at same kept flag less undoes k =
         subst (λ (x : Way N). Goes x (set ps place q) joins0 joins' turns0 turns first new) (sym noted)
-        (way_undone w (w.in_order && (is_none w.turns && stood_last place w.joined)) is_peer ps (set ps place q) joins0 joins joins' turns0 turns first old new place p none
-        (both_right (is_none w.turns) (stood_last place w.joined) two) (still_set (w.turns ≡ []) ps place p q at same (λ _. kept)) at flag less undoes
-        (k (both_left w.in_order (is_none w.turns && stood_last place w.joined) both)))
-
-    -- an end that was no peer gives its writing half away
-    pub noted_parted : (w w' : Way N) (is_peer : Bool) (ps : List (Place N I)) (joins0 joins : List (Joining N)) (turns0 turns : List (EndId × EndState)) (first old new : C) (place : ℕ) (p q : Place N I)
-        → w' ≡ (if is_peer then with_parted w else w) → place_at ps place ≡ Some p → q.end ≡ p.end → q.peer ≡ false → is_peer ≡ p.peer → (is_peer ≡ false → new ≡ old)
-        → (w.in_order ≡ true → Goes w ps joins0 joins turns0 turns first old) → w'.in_order ≡ true → Goes w' (set ps place q) joins0 joins turns0 turns first new
-    noted_parted w w' true ps joins0 joins turns0 turns first old new place p q noted at same off flag none k order = absurd (true≢false (sym order ∙ ap (λ (x : Way N). x.in_order) noted))
-    noted_parted w w' false ps joins0 joins turns0 turns first old new place p q noted at same off flag none k order =
-        subst (λ (x : Way N). Goes x (set ps place q) joins0 joins turns0 turns first new) (sym noted)
-        (way_kept w ps (set ps place q) joins0 joins turns0 turns first old new (still_set (w.turns ≡ []) ps place p q at same (λ _. off ∙ flag)) (λ ends. ap (pattern ends) (none refl))
-        (k (ap (λ (x : Way N). x.in_order) (sym noted) ∙ order)))
+        (way_undone w is_peer ps (set ps place q) joins0 joins joins' turns0 turns first old new place p quiet last (still_set (w.turns ≡ []) ps place p q at same (λ _. kept)) at flag less undoes k)
 
     -- a place changed, and neither its end nor whether that is a peer
     pub way_set : (w : Way N) (ps : List (Place N I)) (joins0 joins : List (Joining N)) (turns0 turns : List (EndId × EndState)) (first now : C) (place : ℕ) (p q : Place N I)

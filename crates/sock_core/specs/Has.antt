@@ -63,6 +63,7 @@ pub record IsNew {C W N O I : Type 0} (number : ℕ) (kind : C) (s : SockCore C 
   pub no_seals : s.sealed.items ≡ []
   pub no_joins : s.joins.items ≡ []
   pub no_notices : s.heard.items ≡ []
+  pub no_way : s.way.items ≡ []
 
 -- a Stop was processed
 abbrev pub is_stop : Notice → Bool

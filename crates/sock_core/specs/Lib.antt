@@ -6,3 +6,4 @@ pub mod Peers
 pub mod Kinds
 pub mod Patterns
 pub mod Way
+pub mod Noted

@@ -4,7 +4,7 @@ use Rattle.zq_base.specs.declared.attached.Attached.{Attached}
 use Rattle.spec_control.specs.declared.entry.Joining.{Joining}
 use Rattle.sock_core.specs.declared.joint.Joint.{Joint}
 use Rattle.sock_core.specs.declared.joint.JoinNote.{JoinNote}
-use Rattle.sock_core.specs.declared.joint.JoinNote.TheVariants.{Joined, TakenBack, Turned, Parted}
+use Rattle.sock_core.specs.declared.joint.JoinNote.TheVariants.{Joined, TakenBack, Turned}
 
 -- all but the last
 abbrev pub without_last : {A : Type 0} → List A → List A
@@ -20,9 +20,8 @@ module _ {N : Type 0} where
   -- one note more
   abbrev pub noted_in : List (Joining N) → JoinNote N → (peer : List ℕ) → List (Joining N)
   noted_in js (Joined joint answer) peer = js ++ joining_as joint peer answer ∷ []
-  noted_in js (TakenBack place) peer = without_last js
+  noted_in js TakenBack peer = without_last js
   noted_in js (Turned e state) peer = js
-  noted_in js (Parted e) peer = js
 
   abbrev pub standing_from : List (Joining N) → List (JoinNote N × List ℕ) → List (Joining N)
   standing_from js [] = js

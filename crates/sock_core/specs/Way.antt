@@ -1,5 +1,5 @@
 -- What a call of the control plane did to the ends of a socket, in order, and to its kind's state by it (zmq_socket(3); own choice).
-use Rattle.std.specs.Prelude.{◌≡◌, ◌==◌, ◌&&◌, ℕ, Bool, true, false, List, [], ◌∷◌, ◌++◌, Some, if◌then◌else◌}
+use Rattle.std.specs.Prelude.{◌≡◌, ◌≢◌, ℕ, true, List, [], ◌∷◌, ◌++◌, Some, map, if◌then◌else◌}
 use Rattle.zq_base.specs.declared.attached.Attached.TheVariants.{Yes}
 use Rattle.zq_base.specs.declared.ids.EndId.{EndId}
 use Rattle.spec_pattern.specs.TurnList.{End}
@@ -7,22 +7,20 @@ use Rattle.spec_pattern.specs.Pattern.{Pattern, attach_answer, attach_as}
 use Rattle.spec_control.specs.declared.end.EndState.{EndState}
 use Rattle.spec_control.specs.declared.entry.Joining.{Joining}
 use Rattle.spec_control.specs.Place.{At}
-use Rattle.control_held.specs.OwnAsks.{is_none}
 use Rattle.spec_run.specs.OpenSocket.{is_out, attach_all, detach_all, AreAnswered}
 use Rattle.held_ends.specs.declared.table.Place.{Place}
 use Rattle.held_ends.specs.Places.{place_at}
 use Rattle.sock_core.specs.declared.joint.JoinNote.{JoinNote}
-use Rattle.sock_core.specs.declared.joint.JoinNote.TheVariants.{Joined, TakenBack, Turned, Parted}
+use Rattle.sock_core.specs.declared.joint.JoinNote.TheVariants.{Joined, TakenBack, Turned}
 use Rattle.sock_core.specs.declared.sock.SockCore.{SockCore}
 use Rattle.sock_core.specs.Peers.{is_taken}
 use Rattle.sock_core.specs.Patterns.{IsAlike, CameBy, CanJoin}
 use Rattle.sock_core.specs.Standing.{joining_as, standing_joins}
 
--- the ends that joined and were not taken back, the last first, each with its place; the changes of state; and whether all came in order: no end joined or was taken back behind a change of state, what was taken back had joined last, and no peer gave its writing half away
+-- the ends that joined and were not taken back, the last first, each with its place, and the changes of state
 pub record Way (N : Type 0) : Type 0 where
   pub joined : List (Joining N × ℕ)
   pub turns : List (EndId × EndState)
-  pub in_order : Bool
 
 abbrev pub without_first : {A : Type 0} → List A → List A
 without_first [] = []
@@ -34,31 +32,23 @@ outs_of [] = []
 outs_of (t ∷ ts) = if is_out (At t.1) then t.0 ∷ outs_of ts else outs_of ts
 
 module _ {N : Type 0} where
-  abbrev pub stood_last : ℕ → List (Joining N × ℕ) → Bool
-  stood_last place [] = false
-  stood_last place (x ∷ xs) = x.1 == place
-
   abbrev pub no_way : Way N
-  no_way = record { joined = []; turns = []; in_order = true }
+  no_way = record { joined = []; turns = [] }
 
-  -- an end joined at a place; the one that joined last was taken back; an end changed its state; a peer gave its writing half away
+  -- an end joined at a place; the one that joined last was taken back; an end changed its state
   abbrev pub with_came : Joining N → ℕ → Way N → Way N
-  with_came j place w = record { joined = (j, place) ∷ w.joined; turns = w.turns; in_order = w.in_order && is_none w.turns }
+  with_came j place w = record { joined = (j, place) ∷ w.joined; turns = w.turns }
 
-  abbrev pub with_undone : ℕ → Way N → Way N
-  with_undone place w = record { joined = without_first w.joined; turns = w.turns; in_order = w.in_order && (is_none w.turns && stood_last place w.joined) }
+  abbrev pub with_undone : Way N → Way N
+  with_undone w = record { joined = without_first w.joined; turns = w.turns }
 
   abbrev pub with_turned : EndId → EndState → Way N → Way N
-  with_turned e state w = record { joined = w.joined; turns = w.turns ++ (e, state) ∷ []; in_order = w.in_order }
-
-  abbrev pub with_parted : Way N → Way N
-  with_parted w = record { joined = w.joined; turns = w.turns; in_order = false }
+  with_turned e state w = record { joined = w.joined; turns = w.turns ++ (e, state) ∷ [] }
 
   abbrev pub then_noted : Way N → JoinNote N → (peer : List ℕ) → Way N
   then_noted w (Joined joint answer) peer = with_came (joining_as joint peer answer) joint.place w
-  then_noted w (TakenBack place) peer = with_undone place w
+  then_noted w TakenBack peer = with_undone w
   then_noted w (Turned e state) peer = with_turned e state w
-  then_noted w (Parted e) peer = with_parted w
 
   abbrev pub way_from : Way N → List (JoinNote N × List ℕ) → Way N
   way_from w [] = w
@@ -71,6 +61,11 @@ module _ {N : Type 0} where
   abbrev pub oldest_first : List (Joining N × ℕ) → List (Joining N)
   oldest_first [] = []
   oldest_first (x ∷ xs) = oldest_first xs ++ x.0 ∷ []
+
+  -- none of these stands at this place
+  abbrev pub IsElse : ℕ → List (Joining N × ℕ) → Type 0
+  IsElse place [] = Unit {0}
+  IsElse place (x ∷ xs) = (x.1 ≢ place) × IsElse place xs
 
   -- each of these can be named when it joins
   abbrev pub CanJoinAll : List (Joining N) → Pattern → Type 0
@@ -93,6 +88,24 @@ module _ {N I : Type 0} where
   AllStand ps turns [] = Unit {0}
   AllStand ps turns (x ∷ xs) = StandsAs ps turns x × AllStand ps turns xs
 
+  -- an end that joined is held at its place
+  pub record IsHeldAt (ps : List (Place N I)) (x : Joining N × ℕ) : Type 0 where
+    pub place : Place N I
+    pub there : place_at ps x.1 ≡ Some place
+    pub end_is : place.end ≡ x.0.end
+    pub held : place.held ≡ true
+
+  -- so is each of these, at a place of its own
+  abbrev pub AreHeld : List (Place N I) → List (Joining N × ℕ) → Type 0
+  AreHeld ps [] = Unit {0}
+  AreHeld ps (x ∷ xs) = IsHeldAt ps x × (IsElse x.1 xs × AreHeld ps xs)
+
+  -- no end changed its state yet, and these joined, the last first, which are held at their places
+  pub record IsCalm (w : Way N) (ps : List (Place N I)) (came : List EndId) : Type 0 where
+    pub quiet : w.turns ≡ []
+    pub ends : map (λ x. x.0.end) w.joined ≡ came
+    pub held : AreHeld ps w.joined
+
 module _ {C : Type 0} (pattern : (ℕ → End) → C → Pattern) (names : C → List ℕ → Type 0) (sound : C → Type 0) (peers : C → List ℕ) where
   -- this end joined between two states of the kind
   pub record CameAs {N : Type 0} (x : Joining N × ℕ) (before now : C) : Type 0 where
@@ -114,8 +127,8 @@ module _ {C : Type 0} (pattern : (ℕ → End) → C → Pattern) (names : C →
     pub goes : (ends : ℕ → End) → IsNaming ps ends → pattern ends now ≡ detach_all (outs_of w.turns) (attach_all (oldest_first w.joined) (pattern ends first))
     pub answered : (ends : ℕ → End) → IsNaming ps ends → CanJoinAll (oldest_first w.joined) (pattern ends first) → AreAnswered (oldest_first w.joined) (pattern ends first)
 
-  -- where all came in order, and it is open still, it did so to a socket that was so before
+  -- while it is open still, it did so to a socket that was so before
   abbrev pub KindWayOf : {W N O I : Type 0} → (old new : SockCore C W N O I) → Type 0
   KindWayOf old new =
-      new.is_open ≡ true → (way_in new.way.items).in_order ≡ true
+      new.is_open ≡ true
       → KindWay (way_in new.way.items) new.ends.places.items (standing_joins old.joins.items) (standing_joins new.joins.items) old.turns.items new.turns.items old.kind new.kind

@@ -4,8 +4,10 @@ use std::alloc::{AllocError, Global};
 use zq_base::{Attached, PairId, Peer};
 
 impl Joins for AnySock {
+    ghost use Rattle.std.specs.Prelude.{◌≡◌};
+    ghost use Rattle.std.specs.Coded.{codes};
     ghost use Rattle.pattern_laws.specs.Peers.{pattern_kind};
-    ghost use Rattle.any_sock.specs.Over.{over, peer_places};
+    ghost use Rattle.any_sock.specs.Over.{over, peer_places, left_of, nothing_left};
     ghost use Rattle.any_sock.specs.Peers.{CanName};
     ghost use Rattle.any_sock.specs.Told.{IsToldByPeers};
     ghost use Rattle.sock_core.specs.Kinds.{no_ends};
@@ -19,6 +21,10 @@ impl Joins for AnySock {
     ghost names = { λ s identity. CanName s identity };
 
     ghost sound = { λ s. IsToldByPeers s };
+
+    ghost rests = { λ s. left_of s ≡ nothing_left };
+
+    ghost rests_once = { λ s. Prim.hlevel codes };
 
     fn is_sound(&self) {
         self.is_told_by_its_peers();

@@ -1,19 +1,20 @@
-ghost use Rattle.std.specs.Prelude.{◌≡◌, true, false, length};
+ghost use Rattle.std.specs.Prelude.{◌≡◌, true, false, length, map};
 ghost use Rattle.held_ends.specs.Giving.{AreGone};
 ghost use Rattle.held_ends.specs.Others.{Leaves};
 ghost use Rattle.sock_core.specs.Sound.{AreSound, KeepsRoom};
 ghost use Rattle.sock_core.specs.Has.{IsStopped};
 ghost use Rattle.sock_core.specs.Peers.{ArePeers, AreFlagged, AreInUse, is_taken};
+ghost use Rattle.sock_core.specs.Noted.{WereRead, AreSealed, HasDone};
 ghost use Rattle.sock_core.specs.Way.{KindWayOf};
 ghost use Rattle.sock_core.specs.declared.sock.SockCore.{SockCore};
 
 use crate::joins::Joins;
-use crate::joint::{joint_of, note_back, note_join, note_part, note_turn};
+use crate::joint::{joint_of, note_back, note_join, note_turn};
 use crate::since::Since;
 use crate::sock::{Room, SockCore};
-use crate::turns::{note, note_heard, note_seal, part, stays, unjoin};
+use crate::turns::{note, note_heard, note_seal, stays, unjoin};
 use ctl_holder::{Given, Halves, Holder, Made, Notice, Parting};
-use held_ends::{EndTable, HeldPipes, find};
+use held_ends::{EndTable, HeldPipes, PipeChange, find};
 use http_server::Log;
 use spec_control::EndState;
 use std::alloc::{AllocError, AllocFailed, Global};
@@ -29,6 +30,8 @@ pub struct SockHolder<
 > {
     pub pipes: P,
     pub core: SockCore<C, P::Waker, P::Name, P::Out, P::In>,
+    /// What was done to the pipes, for proofs alone: it takes no memory.
+    pub did: Log<PipeChange<P::Out, P::In>, P>,
     pub since: PhantomData<F>,
     ghost sound: { AreSound P.known pipes core.ends.rows.items core.ends.places.items },
     ghost peers: { core.is_open ≡ true → ArePeers core.ends.places.items (C.peers core.kind) },
@@ -36,13 +39,20 @@ pub struct SockHolder<
     ghost gone: { core.is_open ≡ false → AreGone core.ends.places.items },
     ghost flagged: { AreFlagged core.ends.places.items (C.peers core.kind) },
     ghost in_use: { AreInUse core.ends.places.items },
+    ghost settled_are: { WereRead core.ends.places.items core.ends.settled.items },
+    ghost sealed_are: { AreSealed core.ends.places.items (map (λ x. x.0) core.sealed.items) },
     ghost others: { (s : P) (t : SockCore C P.Waker P.Name P.Out P.In) → F.began s t →
         Leaves P.known s t.ends pipes core.ends },
     ghost stopped: { IsStopped core.stopped core.heard.items },
     ghost number: { (s : P) (t : SockCore C P.Waker P.Name P.Out P.In) → F.began s t →
         core.number.0 ≡ F.object },
+    ghost done: { (s : P) (t : SockCore C P.Waker P.Name P.Out P.In) → F.began s t →
+        HasDone P.known s (map (λ x. x.0) t.sealed.items) did.items pipes
+        core.ends.places.items (map (λ x. x.0) core.sealed.items) },
     ghost way: { (s : P) (t : SockCore C P.Waker P.Name P.Out P.In) → F.began s t →
         ∥ KindWayOf C.pattern C.names C.sound C.peers t core ∥₁ },
+    ghost rest: { (s : P) (t : SockCore C P.Waker P.Name P.Out P.In) → F.began s t →
+        C.rests t.kind → C.rests core.kind } by { Prim.hlevel C.rests_once },
 }
 
 impl<P: HeldPipes, C: Joins> SockHolder<P, C> {
@@ -80,6 +90,7 @@ impl<P: HeldPipes, C: Joins> SockHolder<P, C> {
                 heard: Log::new(),
                 way: Log::new(),
             },
+            did: Log::new(),
         }
     }
 }
@@ -92,7 +103,7 @@ where
     C: Joins,
     F: Since<P, SockCore<C, P::Waker, P::Name, P::Out, P::In>>,
 {
-    ghost use Rattle.std.specs.Prelude.{◌≡◌, ◌∷◌, [], true, false, map, OnOk, IfOk, IfErr};
+    ghost use Rattle.std.specs.Prelude.{◌≡◌, ◌∷◌, [], true, false, List, map, OnOk, OnErr, IfOk, IfErr};
     ghost use Rattle.zq_base.specs.declared.ids.EndId.{EndId};
     ghost use Rattle.ctl_holder.specs.Holding.{has_end, held_with, held_optional, held_given};
     ghost use Rattle.ctl_holder.specs.Holding.{Joined, BeginsActive, MayRefuse, Stays, KeepsTurns};
@@ -102,6 +113,7 @@ where
     ghost use Rattle.held_ends.specs.Counting.{counts_of};
     ghost use Rattle.held_ends.specs.Sound.{Fits};
     ghost use Rattle.sock_core.specs.Has.{holding_in};
+    ghost use Rattle.sock_core.specs.Way.{way_in, IsCalm};
 
     ghost holding = { λ s. holding_in (C.kind s.core.kind) s.core };
 
@@ -119,6 +131,8 @@ where
 
     ghost may_take = { λ s gs. Unit {0} };
 
+    ghost calm = { λ s came. IsCalm (way_in s.core.way.items) s.core.ends.places.items came };
+
     fn make(
         &mut self,
         alloc: Global,
@@ -133,6 +147,7 @@ where
             alloc,
             &mut self.pipes,
             &self.core.ends,
+            &mut self.did,
             (written, read),
             mine,
             other,
@@ -151,6 +166,8 @@ where
         requires new { has_end end
             ((holding_in (C.kind self.old.core.kind) self.old.core).ends o.0) ≡ false }
         requires fits { Fits P.known self.old.pipes self.old.core.ends.places.items halves }
+        requires calm { (came : List EndId) ×
+            IsCalm (way_in self.old.core.way.items) self.old.core.ends.places.items came }
         ensures ok { OnOk result (Joined o.0 (held_with P.known.out_name P.known.in_name end halves)
             (holding_in (C.kind self.old.core.kind) self.old.core)
             (holding_in (C.kind self.new.core.kind) self.new.core)) }
@@ -171,6 +188,13 @@ where
         ensures heard { HearsNone
             (holding_in (C.kind self.old.core.kind) self.old.core)
             (holding_in (C.kind self.new.core.kind) self.new.core) }
+        ensures calm { OnOk result ((came : List EndId) →
+            IsCalm (way_in self.old.core.way.items) self.old.core.ends.places.items came →
+            IsCalm (way_in self.new.core.way.items) self.new.core.ends.places.items
+            (end ∷ came)) }
+        ensures still { OnErr result ((came : List EndId) →
+            IsCalm (way_in self.old.core.way.items) self.old.core.ends.places.items came →
+            IsCalm (way_in self.new.core.way.items) self.new.core.ends.places.items came) }
     {
         let _object = o;
         let place = self.core.ends.places.len();
@@ -212,7 +236,7 @@ where
                 unjoin(&mut self.core.kind, end.pair, place, is_peer);
                 let alloc = *self.core.ends.places.allocator();
                 let core = &mut self.core;
-                note_back(&mut core.joins, &mut core.way, place, alloc);
+                note_back(&mut core.joins, &mut core.way, alloc);
                 return held_ends::take_back(&self.pipes, &mut self.core.ends, place);
             }
             None => unreachable!(),
@@ -241,7 +265,7 @@ where
         let _object = o;
         match find(&self.core.ends.places, end) {
             Some(place) => {
-                held_ends::seal(&mut self.pipes, &mut self.core.ends, place);
+                held_ends::seal(&mut self.pipes, &mut self.core.ends, &mut self.did, place);
                 note_seal(&mut self.core.sealed, end);
                 return;
             }
@@ -249,15 +273,17 @@ where
         }
     }
 
+    // It is no peer any more.
     fn yield_writer(&mut self, o: ObjId, end: EndId) -> P::Out {
         let _object = o;
         match find(&self.core.ends.places, end) {
             Some(place) => {
-                let is_peer = self.core.ends.places[place].peer;
-                part(&mut self.core.kind, end.pair, place, is_peer);
-                let alloc = *self.core.ends.places.allocator();
-                note_part(&mut self.core.way, alloc, end, is_peer);
-                return held_ends::yield_writer(&mut self.pipes, &mut self.core.ends, place);
+                return held_ends::yield_writer(
+                    &mut self.pipes,
+                    &mut self.core.ends,
+                    &mut self.did,
+                    place,
+                );
             }
             None => unreachable!(),
         }
@@ -267,7 +293,13 @@ where
         let _object = o;
         match find(&self.core.ends.places, end) {
             Some(place) => {
-                return held_ends::settle(&mut self.pipes, &mut self.core.ends, place, writer);
+                return held_ends::settle(
+                    &mut self.pipes,
+                    &mut self.core.ends,
+                    &mut self.did,
+                    place,
+                    writer,
+                );
             }
             None => unreachable!(),
         }

@@ -28,6 +28,12 @@ pub trait Joins {
     /// What is always so of it.
     ghost sound: { Self → Type 0 };
 
+    /// Want of memory left it nothing to do.
+    ghost rests: { Self → Type 0 };
+
+    /// That is so in one way at the most.
+    ghost rests_once: { (s : Self) → IsProp (rests s) };
+
     /// What is always so of it is so. It costs nothing.
     fn is_sound(&self)
         ensures sound { sound self.now }
@@ -45,13 +51,15 @@ pub trait Joins {
         ensures attaches { IfOk result (λ a.
             AttachesAs pattern place peer.now.identity a self.old self.new) }
         ensures err { OnErr result (peers self.new ≡ peers self.old) }
-        ensures same { OnErr result (IsAlike pattern self.old self.new) };
+        ensures same { OnErr result (IsAlike pattern self.old self.new) }
+        ensures rests { rests self.old → rests self.new };
 
     /// The end at a place, of this pair, is a peer no longer.
     fn detach(&mut self, pair: PairId, place: usize)
         ensures kind { kind self.new ≡ kind self.old }
         ensures peers { LosesPeer place (peers self.old) (peers self.new) }
-        ensures detaches { DetachesAs pattern pair place (peers self.old) self.old self.new };
+        ensures detaches { DetachesAs pattern pair place (peers self.old) self.old self.new }
+        ensures rests { rests self.old → rests self.new };
 
     /// The end at a place, of this pair, is a peer no longer. Where it is the one that was attached
     /// last, all is as before that.
@@ -59,5 +67,6 @@ pub trait Joins {
         ensures kind { kind self.new ≡ kind self.old }
         ensures peers { LosesPeer place (peers self.old) (peers self.new) }
         ensures undoes { (before : Self) → CameBy pattern names sound peers place before self.old →
-            IsAlike pattern before self.new };
+            IsAlike pattern before self.new }
+        ensures rests { rests self.old → rests self.new };
 }

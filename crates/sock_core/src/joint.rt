@@ -2,7 +2,7 @@ ghost use Rattle.std.specs.Prelude.{◌≡◌, ◌++◌, ◌∷◌, []};
 ghost use Rattle.std.specs.Prelude.{if◌then◌else◌};
 ghost use Rattle.ctl_holder.specs.Holding.{is_state};
 ghost use Rattle.sock_core.specs.Standing.{joining_as, standing_joins, without_last};
-ghost use Rattle.sock_core.specs.Way.{way_in, with_came, with_undone, with_turned, with_parted};
+ghost use Rattle.sock_core.specs.Way.{way_in, with_came, with_undone, with_turned};
 
 use crate::turns::is_same;
 use ctl_holder::Halves;
@@ -29,12 +29,10 @@ pub struct Joint<N> {
 pub enum JoinNote<N> {
     /// It joined, and its kind gave this answer.
     Joined(Joint<N>, Attached),
-    /// The one that joined last of those that still stand was taken back, from this place.
-    TakenBack(usize),
+    /// The one that joined last of those that still stand was taken back.
+    TakenBack,
     /// It came to this state.
     Turned(EndId, EndState),
-    /// A peer gave its writing half away.
-    Parted(EndId),
 }
 
 /// An end at its place, with the names of the pipes of its halves.
@@ -74,17 +72,16 @@ pub(crate) fn note_join<N: Drop>(
     *way = way.and(&note, peer);
 }
 
-/// Notes that the end that joined last was taken back, from this place.
+/// Notes that the end that joined last was taken back.
 pub(crate) fn note_back<N: Drop>(
     joins: &mut Log<JoinNote<N>, Octets>,
     way: &mut Log<JoinNote<N>, Octets>,
-    place: usize,
     alloc: Global,
 )
     ensures joins { standing_joins joins.new.items ≡ without_last (standing_joins joins.old.items) }
-    ensures way { way_in way.new.items ≡ with_undone place (way_in way.old.items) }
+    ensures way { way_in way.new.items ≡ with_undone (way_in way.old.items) }
 {
-    let note: JoinNote<N> = JoinNote::TakenBack(place);
+    let note: JoinNote<N> = JoinNote::TakenBack;
     *joins = joins.and(&note, &Octets::new(alloc));
     *way = way.and(&note, &Octets::new(alloc));
 }
@@ -104,22 +101,5 @@ pub(crate) fn note_turn<N: Drop>(
         return;
     }
     let note: JoinNote<N> = JoinNote::Turned(end, state);
-    *way = way.and(&note, &Octets::new(alloc));
-}
-
-/// Notes that an end gave its writing half away, if it was a peer.
-pub(crate) fn note_part<N: Drop>(
-    way: &mut Log<JoinNote<N>, Octets>,
-    alloc: Global,
-    end: EndId,
-    is_peer: bool,
-)
-    ensures { way_in way.new.items
-        ≡ (if is_peer then with_parted (way_in way.old.items) else way_in way.old.items) }
-{
-    if !is_peer {
-        return;
-    }
-    let note: JoinNote<N> = JoinNote::Parted(end);
     *way = way.and(&note, &Octets::new(alloc));
 }

@@ -77,6 +77,7 @@ pub(crate) fn stays<C: Joins>(
     ensures stays { is_out (At state) ≡ false → StaysAs is_peer result kind.old kind.new }
     ensures goes { is_out (At state) ≡ true → (result ≡ false)
         × GoesAs C.pattern is_peer pair place (C.peers kind.old) kind.old kind.new }
+    ensures rests { C.rests kind.old → C.rests kind.new }
 {
     match state {
         EndState::Active | EndState::WaitDelimiter => return is_peer,
@@ -96,6 +97,7 @@ pub(crate) fn part<C: Joins>(kind: &mut C, pair: PairId, place: usize, is_peer: 
     ensures kind { C.kind kind.new ≡ C.kind kind.old }
     ensures peers { Parts is_peer place (C.peers kind.old) (C.peers kind.new) }
     ensures goes { GoesAs C.pattern is_peer pair place (C.peers kind.old) kind.old kind.new }
+    ensures rests { C.rests kind.old → C.rests kind.new }
 {
     kind.is_sound();
     if !is_peer {
@@ -109,6 +111,7 @@ pub(crate) fn unjoin<C: Joins>(kind: &mut C, pair: PairId, place: usize, is_peer
     ensures kind { C.kind kind.new ≡ C.kind kind.old }
     ensures peers { Parts is_peer place (C.peers kind.old) (C.peers kind.new) }
     ensures undoes { UndoesAs C.pattern C.names C.sound C.peers is_peer place kind.old kind.new }
+    ensures rests { C.rests kind.old → C.rests kind.new }
 {
     if is_peer {
         kind.take_back(pair, place);

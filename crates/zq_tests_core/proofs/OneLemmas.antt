@@ -1,9 +1,13 @@
 -- A socket that had no end has the one that joined.
-use Rattle.std.proofs.Common.{◌≡◌, ◌∙◌, ℕ, true, List, [], ◌∷◌, ◌++◌, ap}
+use Rattle.std.proofs.Common.{◌≡◌, ◌∙◌, ℕ, Bool, true, false, List, [], ◌∷◌, ◌++◌, ap, if◌then◌else◌}
 use Rattle.zq_base.specs.declared.ids.EndId.{EndId}
+use Rattle.spec_control.specs.declared.end.EndState.{EndState}
+use Rattle.spec_control.specs.declared.end.EndState.TheVariants.{AckSent}
 use Rattle.spec_control.specs.Control.{is_end}
+use Rattle.spec_control.specs.Place.{At}
 use Rattle.control_held.specs.Held.{Held}
-use Rattle.ctl_holder.specs.Holding.{Holding, Joined, IsLast}
+use Rattle.ctl_holder.specs.Holding.{Holding, Joined, IsLast, Seals, Stays, TurnsTo, has_end}
+use Rattle.ctl_holder.specs.Lent.{has_writer}
 use Rattle.zq_tests_core.specs.Ends.{the_end, HasOne}
 
 module _ (x : Held ℕ) (m k : Holding ℕ) (joined : Joined 1 x m k) (same : x.end ≡ the_end) where
@@ -25,3 +29,12 @@ last_of written read h one e same = record {
   are = one.ends;
   end = ap (λ (d : EndId). is_end d the_end) same;
 }
+
+-- one that acknowledged has no writing half in its state, and its pipe was sealed
+pub acked : (written read : ℕ) (h m k : Holding ℕ) → HasOne written read h → (e d f : EndId) → e ≡ the_end → f ≡ the_end → Stays 1 h m → TurnsTo e AckSent h m → Stays 1 m k → Seals d m k → has_writer (At (k.state f)) ≡ false
+acked written read h m k one e d f is is_too first turns second seals =
+    ap (λ (x : EndId). has_writer (At (k.state x))) is_too
+    ∙ ap (λ (s : EndState). has_writer (At s))
+    (seals.states 1 the_end (ap (has_end the_end) (second.now.ends ∙ first.now.ends ∙ one.ends))
+    ∙ turns.states 1 the_end (ap (has_end the_end) (first.now.ends ∙ one.ends))
+    ∙ ap (λ (b : Bool). if b then AckSent else h.state the_end) (ap (is_end the_end) is))

@@ -1,4 +1,4 @@
-ghost use Rattle.std.specs.Prelude.{◌≡◌, true};
+ghost use Rattle.std.specs.Prelude.{◌≡◌, ◌∷◌, [], true};
 ghost use Rattle.zq_tests_core.specs.Ends.{the_end, HasOne};
 
 use crate::sockets::{Socket, check, the_end, with_one_end};
@@ -14,6 +14,7 @@ fn undo<H: Holder<PlainPipes>>(socket: &mut H, other: &Halves<PlainOut, PlainIn>
     requires one { HasOne (⟦<PlainPipes as Pipes>⟧.known.in_name other.now.input)
         (⟦<PlainPipes as Pipes>⟧.known.out_name other.now.out) (H.holding socket.old) }
     requires writes { (H.holding socket.old).writes the_end ≡ true }
+    requires calm { H.calm socket.old (the_end ∷ []) }
 {
     let _other = other;
     let _halves = socket.take_back(ObjId(1), the_end());
@@ -40,7 +41,7 @@ fn lives(socket: &mut Socket, other: Halves<PlainOut, PlainIn>) -> bool
         (⟦<Socket as Holder<PlainPipes>>⟧.holding socket.old) }
     requires writes { (⟦<Socket as Holder<PlainPipes>>⟧.holding socket.old).writes the_end ≡ true }
 {
-    socket.set_state(ObjId(1), the_end(), EndState::WaitDelimiter);
+    socket.set_state(ObjId(1), the_end(), EndState::AckSent);
     socket.seal(ObjId(1), the_end());
     let _out = socket.yield_writer(ObjId(1), the_end());
     let counts = socket.settle(ObjId(1), the_end(), other.out);

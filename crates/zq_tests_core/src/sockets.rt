@@ -1,5 +1,5 @@
 //! A socket over plain pipes with one end.
-ghost use Rattle.std.specs.Prelude.{◌≡◌, [], true, IfOk};
+ghost use Rattle.std.specs.Prelude.{◌≡◌, ◌∷◌, [], true, IfOk};
 ghost use Rattle.ctl_holder.specs.Holding.{AreCrossed};
 ghost use Rattle.zq_tests_core.specs.Ends.{the_end, HasOne};
 
@@ -51,6 +51,7 @@ pub fn options(alloc: Global) -> Options {
 pub fn push(alloc: Global) -> Socket
     ensures holds { (⟦<Socket as Holder<PlainPipes>>⟧.holding result).holds 1 ≡ true }
     ensures none { (⟦<Socket as Holder<PlainPipes>>⟧.holding result).ends 1 ≡ [] }
+    ensures calm { ⟦<Socket as Holder<PlainPipes>>⟧.calm result [] }
 {
     let kind = AnySock::new(alloc, Kind::Push, &options(alloc));
     SockHolder::new(alloc, PlainPipes::new(alloc), ObjId(1), kind, ())
@@ -71,6 +72,8 @@ pub fn with_one_end(alloc: Global) -> Result<OneEnd, Fail>
         (⟦<Socket as Holder<PlainPipes>>⟧.holding r.socket)) }
     ensures writes { IfOk result (λ r.
         (⟦<Socket as Holder<PlainPipes>>⟧.holding r.socket).writes the_end ≡ true) }
+    ensures calm { IfOk result (λ r.
+        ⟦<Socket as Holder<PlainPipes>>⟧.calm r.socket (the_end ∷ [])) }
 {
     let mut socket = push(alloc);
     match join(alloc, &mut socket) {
@@ -86,12 +89,15 @@ pub fn with_one_end(alloc: Global) -> Result<OneEnd, Fail>
 fn join(alloc: Global, socket: &mut Socket) -> Result<Halves<PlainOut, PlainIn>, Fail>
     requires holds { (⟦<Socket as Holder<PlainPipes>>⟧.holding socket.old).holds 1 ≡ true }
     requires none { (⟦<Socket as Holder<PlainPipes>>⟧.holding socket.old).ends 1 ≡ [] }
+    requires calm { ⟦<Socket as Holder<PlainPipes>>⟧.calm socket.old [] }
     ensures one { IfOk result (λ other. HasOne
         (⟦<PlainPipes as Pipes>⟧.known.in_name other.input)
         (⟦<PlainPipes as Pipes>⟧.known.out_name other.out)
         (⟦<Socket as Holder<PlainPipes>>⟧.holding socket.new)) }
     ensures writes { IfOk result (λ _.
         (⟦<Socket as Holder<PlainPipes>>⟧.holding socket.new).writes the_end ≡ true) }
+    ensures calm { IfOk result (λ _.
+        ⟦<Socket as Holder<PlainPipes>>⟧.calm socket.new (the_end ∷ [])) }
 {
     match socket.make(alloc, ObjId(1), 2, 2, &(), &()) {
         Ok(made) => return attach(alloc, socket, made),
@@ -107,6 +113,7 @@ fn attach(
 ) -> Result<Halves<PlainOut, PlainIn>, Fail>
     requires holds { (⟦<Socket as Holder<PlainPipes>>⟧.holding socket.old).holds 1 ≡ true }
     requires none { (⟦<Socket as Holder<PlainPipes>>⟧.holding socket.old).ends 1 ≡ [] }
+    requires calm { ⟦<Socket as Holder<PlainPipes>>⟧.calm socket.old [] }
     requires fits { ⟦<Socket as Holder<PlainPipes>>⟧.fits socket.old made.mine }
     requires crossed { AreCrossed ⟦<PlainPipes as Pipes>⟧.known.out_name
         ⟦<PlainPipes as Pipes>⟧.known.in_name made.mine made.other }
@@ -116,6 +123,8 @@ fn attach(
         (⟦<Socket as Holder<PlainPipes>>⟧.holding socket.new)) }
     ensures writes { IfOk result (λ _.
         (⟦<Socket as Holder<PlainPipes>>⟧.holding socket.new).writes the_end ≡ true) }
+    ensures calm { IfOk result (λ _.
+        ⟦<Socket as Holder<PlainPipes>>⟧.calm socket.new (the_end ∷ [])) }
 {
     let peer = Peer {
         kind: Kind::Pull,

@@ -17,6 +17,7 @@ each-preserved-then-not-index g c =
           c.each.invariant.so_far p.1 (sym (ap (λ (x : Place _ _). x.held) (place_found c.each.table.places.items c.each.place p.0 c.index.result.now p.1 c.index.ensures)) ∙ c.if-not-index.true);
       given = c.each.invariant.given;
       joined = c.each.invariant.joined;
+      settled = c.each.invariant.settled;
       others = c.each.invariant.others;
     }
 
@@ -44,6 +45,7 @@ each-preserved g c =
           c.each.invariant.so_far p.1 (sym (ap (λ (x : Place _ _). x.held) (place_found c.each.table.places.items c.each.place p.0 c.index.result.now p.1 c.index.ensures)) ∙ c.if-not-index.false) c.give_end-end.ensures.sound c.give_end-end.ensures.given));
       given = c.push_reserved-in-each.ensures.capacity ∙ c.each.invariant.given;
       joined = c.push_reserved.ensures.capacity ∙ c.each.invariant.joined;
+      settled = c.give_end-end.ensures.settled ∙ c.each.invariant.settled;
       others = leaves_on K c.args.pipes.now c.args.pipes.now c.args.pipes.now c.args.table.now c.each.table c.give_end-end.new.table c.each.invariant.others c.give_end-end.ensures.others;
     }
 
@@ -59,3 +61,6 @@ returns-clause-given g c =
 
 pub returns-clause-others : goal.returns-clause-others
 returns-clause-others g c = c.each.invariant.others
+
+pub returns-clause-settled : goal.returns-clause-settled
+returns-clause-settled g c = c.each.invariant.settled

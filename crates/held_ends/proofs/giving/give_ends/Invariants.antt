@@ -10,5 +10,6 @@ invariant-each g l = record {
   so_far : Giving g.P.Pipes.known l.pipes l.fn.table.places.items l.place l.table.rows.items l.table.places.items l.given.items l.joined.items;
   given : vec_capacity l.given ≡ vec_capacity l.fn.given;
   joined : vec_capacity l.joined ≡ vec_capacity l.fn.joined;
+  settled : l.table.settled ≡ l.fn.table.settled;
   others : Leaves g.P.Pipes.known l.pipes l.fn.table l.pipes l.table;
 }

@@ -6,6 +6,8 @@ use Rattle.held_ends.specs.Sound.{IsSound}
 use Rattle.held_ends.proofs.PlaceLemmas.{place_within, place_found}
 use Rattle.held_ends.proofs.HalfLemmas.{found_row, never_none, within, sealed_sound, sealed_already}
 use Rattle.held_ends.proofs.OthersLemmas.{place_now, leaves_out}
+use Rattle.held_ends.proofs.OthersLemmas.{places_stay}
+use Rattle.held_ends.proofs.ChangeLemmas.{seals_again, seals_first}
 use Rattle.held_ends.proofs.halving.seal.Goals as goal
 
 pub index-requires : goal.index-requires
@@ -14,7 +16,7 @@ index-requires g c = let w = place_within c.args.table.now.places.items c.args.p
 pub returns-then-index-clause-sealed : goal.returns-then-index-clause-sealed
 returns-then-index-clause-sealed g c =
     let p = c.requires.writes.place in
-    let same = place_found c.args.table.now.places.items c.args.place p c.index.result.now c.requires.writes.there c.index.ensures in
+    let same = place_found c.args.table.now.places.items c.args.place p c.index-2.result.now c.requires.writes.there c.index-2.ensures in
     record {
       place = p;
       there = c.requires.writes.there;
@@ -36,7 +38,7 @@ seal_row-requires-clause-unsealed g c =
     let p = c.requires.writes.place in
     let f = found_row g.P.Pipes.known c.args.pipes.now c.args.table.now.rows.items c.args.table.now.places.items c.args.place p c.requires.sound c.requires.writes.there c.requires.writes.held
     c.index_mut.result.now c.in-Some.row c.deref_mut.result.now c.requires.writes.writes c.index_mut.ensures.value c.in-Some.is c.deref_mut.ensures.value in
-    let same = place_found c.args.table.now.places.items c.args.place p c.index.result.now c.requires.writes.there c.index.ensures in
+    let same = place_found c.args.table.now.places.items c.args.place p c.index-2.result.now c.requires.writes.there c.index-2.ensures in
     f.1.unsealed (sym (ap (λ (x : Place _ _). x.sealed) same) ∙ c.if-index.false)
 
 pub unreachable-requires : goal.unreachable-requires
@@ -78,3 +80,30 @@ returns-clause-others g c =
     (record { end_is = refl; written_is = refl; read_is = refl; held = λ h. h; writes = λ w. w })
     (ap (λ (x : Place _ _). set c.args.table.now.places.items c.args.place (record x { sealed = true })) same))
     c.deref_mut.result.now.out c.seal_row.new.row.out c.requires.writes.writes f.1.name_is c.seal_row.ensures.keeps refl
+
+pub index-requires-2 : goal.index-requires-2
+index-requires-2 g c = let w = place_within c.args.table.now.places.items c.args.place c.requires.writes.place c.requires.writes.there in omega (arith, w)
+
+pub returns-then-index-clause-changes : goal.returns-then-index-clause-changes
+returns-then-index-clause-changes g c =
+    let p = c.requires.writes.place in
+    let here = place_found c.args.table.now.places.items c.args.place p c.index.result.now c.requires.writes.there c.index.ensures in
+    let same = place_found c.args.table.now.places.items c.args.place p c.index-2.result.now c.requires.writes.there c.index-2.ensures in
+    seals_again g.P.Pipes.known c.args.table.now.places.items c.args.table.now.places.items (places_stay c.args.table.now.places.items c.args.table.now.places.items refl) c.args.place p c.requires.writes.there c.index.result.now.end (ap (λ (x : Place _ _). x.end) (sym here))
+    c.args.did.now.items c.and.result.items c.args.pipes.now c.args.pipes.now (sym (ap (λ (x : Place _ _). x.sealed) same) ∙ c.if-index.true) refl c.and.ensures
+
+pub returns-clause-changes : goal.returns-clause-changes
+returns-clause-changes g c =
+    let p = c.requires.writes.place in
+    let here = place_found c.args.table.now.places.items c.args.place p c.index.result.now c.requires.writes.there c.index.ensures in
+    let first = place_found c.args.table.now.places.items c.args.place p c.index-2.result.now c.requires.writes.there c.index-2.ensures in
+    let f = found_row g.P.Pipes.known c.args.pipes.now c.args.table.now.rows.items c.args.table.now.places.items c.args.place p c.requires.sound c.requires.writes.there c.requires.writes.held
+    c.index_mut.result.now c.in-Some.row c.deref_mut.result.now c.requires.writes.writes c.index_mut.ensures.value c.in-Some.is c.deref_mut.ensures.value in
+    let same = place_found c.args.table.now.places.items c.args.place p c.index_mut-2.result.now c.requires.writes.there c.index_mut-2.ensures.value in
+    let open_still = sym (ap (λ (x : Place _ _). x.sealed) first) ∙ c.if-index.false in
+    seals_first g.P.Pipes.known c.args.table.now.places.items _
+    (place_now c.args.table.now.places.items _ c.args.place p (record p { sealed = true }) c.requires.writes.there
+    (record { end_is = refl; written_is = refl; read_is = refl; held = λ h. h; writes = λ w. w })
+    (ap (λ (x : Place _ _). set c.args.table.now.places.items c.args.place (record x { sealed = true })) same))
+    c.args.place p c.requires.writes.there c.index.result.now.end (ap (λ (x : Place _ _). x.end) (sym here)) c.args.did.now.items c.seal_row.new.did.items c.args.pipes.now c.seal_row.new.pipes
+    c.deref_mut.result.now.out c.seal_row.new.row.out open_still c.seal_row.ensures.noted f.1.name_is (f.1.unsealed open_still) c.seal_row.ensures.seals c.seal_row.ensures.keeps

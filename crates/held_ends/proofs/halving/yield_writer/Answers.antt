@@ -13,13 +13,14 @@ use Rattle.ends.specs.Rows.{row_at}
 use Rattle.held_ends.specs.Places.{place_at}
 use Rattle.held_ends.proofs.CountLemmas.{half_moves, yields_counts}
 use Rattle.held_ends.proofs.SoundLemmas.{one_some}
+use Rattle.held_ends.proofs.ChangeLemmas.{parts_once}
 use Rattle.held_ends.proofs.halving.yield_writer.Goals as goal
 
 pub index_mut-requires : goal.index_mut-requires
 index_mut-requires g c = let w = within g.P.Pipes.known c.args.pipes.now c.args.table.now.rows.items c.args.table.now.places.items c.args.place c.requires.writes.place c.requires.sound c.requires.writes.there c.requires.writes.held in omega (arith, w)
 
-pub rollback-requires : goal.rollback-requires
-rollback-requires g c =
+pub forget_parts-requires : goal.forget_parts-requires
+forget_parts-requires g c =
     let f = found_row g.P.Pipes.known c.args.pipes.now c.args.table.now.rows.items c.args.table.now.places.items c.args.place c.requires.writes.place c.requires.sound c.requires.writes.there c.requires.writes.held
     c.index_mut.result.now c.in-Some.row c.into_inner-out.result c.requires.writes.writes c.index_mut.ensures.value (sym c.take.ensures.value ∙ c.in-Some.is) c.into_inner-out.ensures in
     record { here = subst (IsThere g.P.Pipes.known c.args.pipes.now) (sym f.1.name_is) f.1.there }
@@ -32,10 +33,10 @@ returns-in-Some-clause-sound g c =
     let f = found_row g.P.Pipes.known c.args.pipes.now c.args.table.now.rows.items c.args.table.now.places.items c.args.place c.requires.writes.place c.requires.sound c.requires.writes.there c.requires.writes.held
     c.index_mut.result.now c.in-Some.row c.into_inner-out.result c.requires.writes.writes c.index_mut.ensures.value (sym c.take.ensures.value ∙ c.in-Some.is) c.into_inner-out.ensures in
     let same = place_found c.args.table.now.places.items c.args.place c.requires.writes.place c.index_mut-in-Some.result.now c.requires.writes.there c.index_mut-in-Some.ensures.value in
-    subst (λ (x : Option (Box (EndRow _ _) Global)). IsSound g.P.Pipes.known c.rollback.new.self (set c.args.table.now.rows.items c.args.place x) (set c.args.table.now.places.items c.args.place c.keep_reading.new.place)) (sym c.take.ensures.after)
-    (subst (λ (x : Place _ _). IsSound g.P.Pipes.known c.rollback.new.self (set c.args.table.now.rows.items c.args.place None) (set c.args.table.now.places.items c.args.place x))
+    subst (λ (x : Option (Box (EndRow _ _) Global)). IsSound g.P.Pipes.known c.forget_parts.new.pipes (set c.args.table.now.rows.items c.args.place x) (set c.args.table.now.places.items c.args.place c.keep_reading.new.place)) (sym c.take.ensures.after)
+    (subst (λ (x : Place _ _). IsSound g.P.Pipes.known c.forget_parts.new.pipes (set c.args.table.now.rows.items c.args.place None) (set c.args.table.now.places.items c.args.place x))
     (sym (c.keep_reading.ensures ∙ ap (λ (x : Place _ _). record x { writes = false; peer = false; input = Some c.into_inner-out.result.input }) same))
-    (yielded_sound g.P.Pipes.known c.args.pipes.now c.args.table.now.rows.items c.args.table.now.places.items c.args.place c.requires.writes.place c.requires.sound c.requires.writes.there c.requires.writes.held c.rollback.new.self c.into_inner-out.result c.rollback.new.o c.requires.writes.writes f.0 f.1 c.rollback.ensures.keeps))
+    (yielded_sound g.P.Pipes.known c.args.pipes.now c.args.table.now.rows.items c.args.table.now.places.items c.args.place c.requires.writes.place c.requires.sound c.requires.writes.there c.requires.writes.held c.forget_parts.new.pipes c.into_inner-out.result c.forget_parts.new.out c.requires.writes.writes f.0 f.1 c.forget_parts.ensures.keeps))
 
 pub returns-in-Some-clause-yielded : goal.returns-in-Some-clause-yielded
 returns-in-Some-clause-yielded g c =
@@ -46,7 +47,7 @@ returns-in-Some-clause-yielded g c =
       place = c.requires.writes.place;
       input = c.into_inner-out.result.input;
       there = c.requires.writes.there;
-      name_is = sym (c.rollback.ensures.keeps.name_is ∙ f.1.name_is);
+      name_is = sym (c.forget_parts.ensures.keeps.name_is ∙ f.1.name_is);
       now = ap (λ (x : Place _ _). set c.args.table.now.places.items c.args.place x)
           (c.keep_reading.ensures ∙ ap (λ (x : Place _ _). record x { writes = false; peer = false; input = Some c.into_inner-out.result.input }) same);
     }
@@ -62,11 +63,11 @@ returns-in-Some-clause-others g c =
     let f = found_row g.P.Pipes.known c.args.pipes.now c.args.table.now.rows.items c.args.table.now.places.items c.args.place p c.requires.sound c.requires.writes.there c.requires.writes.held
     c.index_mut.result.now c.in-Some.row r c.requires.writes.writes c.index_mut.ensures.value (sym c.take.ensures.value ∙ c.in-Some.is) c.into_inner-out.ensures in
     let same = place_found c.args.table.now.places.items c.args.place p c.index_mut-in-Some.result.now c.requires.writes.there c.index_mut-in-Some.ensures.value in
-    leaves_out g.P.Pipes.known c.args.pipes.now c.rollback.new.self c.args.table.now _ c.args.place p c.requires.writes.there c.requires.writes.held
+    leaves_out g.P.Pipes.known c.args.pipes.now c.forget_parts.new.pipes c.args.table.now _ c.args.place p c.requires.writes.there c.requires.writes.held
     (place_now c.args.table.now.places.items _ c.args.place p (record p { writes = false; peer = false; input = Some r.input }) c.requires.writes.there
     (record { end_is = refl; written_is = refl; read_is = refl; held = λ h. h; writes = λ w. absurd (true≢false (sym w)) })
     (ap (set c.args.table.now.places.items c.args.place) (c.keep_reading.ensures ∙ ap (λ (x : Place _ _). record x { writes = false; peer = false; input = Some r.input }) same)))
-    r.out c.rollback.new.o c.requires.writes.writes f.1.name_is c.rollback.ensures.keeps refl
+    r.out c.forget_parts.new.out c.requires.writes.writes f.1.name_is c.forget_parts.ensures.keeps refl
 
 pub returns-in-Some-clause-counts : goal.returns-in-Some-clause-counts
 returns-in-Some-clause-counts g c = λ writer q at name.
@@ -75,7 +76,21 @@ returns-in-Some-clause-counts g c = λ writer q at name.
     let f = found_row g.P.Pipes.known c.args.pipes.now c.args.table.now.rows.items c.args.table.now.places.items c.args.place p c.requires.sound c.requires.writes.there c.requires.writes.held
     c.index_mut.result.now c.in-Some.row r c.requires.writes.writes c.index_mut.ensures.value (sym c.take.ensures.value ∙ c.in-Some.is) c.into_inner-out.ensures in
     let same = place_found c.args.table.now.places.items c.args.place p c.index_mut-in-Some.result.now c.requires.writes.there c.index_mut-in-Some.ensures.value in
-    yields_counts g.P.Pipes.known c.args.pipes.now c.args.table.now.rows.items c.args.table.now.places.items c.args.place p c.requires.sound c.requires.writes.there c.requires.writes.held c.rollback.new.self r c.rollback.new.o _ writer c.requires.writes.writes f.0 f.1 c.rollback.ensures.keeps
+    yields_counts g.P.Pipes.known c.args.pipes.now c.args.table.now.rows.items c.args.table.now.places.items c.args.place p c.requires.sound c.requires.writes.there c.requires.writes.held c.forget_parts.new.pipes r c.forget_parts.new.out _ writer c.requires.writes.writes f.0 f.1 c.forget_parts.ensures.keeps
     (ap (λ (x : Option (Box (EndRow _ _) Global)). half_at (row_at (set c.args.table.now.rows.items c.args.place x) c.args.place) (place_at (set c.args.table.now.places.items c.args.place c.keep_reading.new.place) c.args.place)) c.take.ensures.after
     ∙ half_moves g.P.Pipes.known c.args.pipes.now c.args.table.now.rows.items c.args.table.now.places.items c.args.place p c.requires.sound c.requires.writes.there c.requires.writes.held r c.keep_reading.new.place f.0 (ap (λ (x : Place _ _). x.input) c.keep_reading.ensures))
     (name ∙ ap (λ (x : Place _ _). x.read) (one_some q p (sym at ∙ c.requires.writes.there)))
+
+pub returns-in-Some-clause-changes : goal.returns-in-Some-clause-changes
+returns-in-Some-clause-changes g c =
+    let p = c.requires.writes.place in
+    let r = c.into_inner-out.result in
+    let f = found_row g.P.Pipes.known c.args.pipes.now c.args.table.now.rows.items c.args.table.now.places.items c.args.place p c.requires.sound c.requires.writes.there c.requires.writes.held
+    c.index_mut.result.now c.in-Some.row r c.requires.writes.writes c.index_mut.ensures.value (sym c.take.ensures.value ∙ c.in-Some.is) c.into_inner-out.ensures in
+    let same = place_found c.args.table.now.places.items c.args.place p c.index_mut-in-Some.result.now c.requires.writes.there c.index_mut-in-Some.ensures.value in
+    parts_once g.P.Pipes.known c.args.table.now.places.items _
+    (place_now c.args.table.now.places.items _ c.args.place p (record p { writes = false; peer = false; input = Some r.input }) c.requires.writes.there
+    (record { end_is = refl; written_is = refl; read_is = refl; held = λ h. h; writes = λ w. absurd (true≢false (sym w)) })
+    (ap (set c.args.table.now.places.items c.args.place) (c.keep_reading.ensures ∙ ap (λ (x : Place _ _). record x { writes = false; peer = false; input = Some r.input }) same)))
+    c.args.place p c.requires.writes.there r.end (sym f.1.end_is) c.args.did.now.items c.forget_parts.new.did.items c.args.pipes.now c.forget_parts.new.pipes r.out c.forget_parts.new.out
+    c.forget_parts.ensures.noted f.1.name_is c.forget_parts.ensures.forgets c.forget_parts.ensures.keeps

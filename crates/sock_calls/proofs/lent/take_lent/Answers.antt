@@ -1,6 +1,6 @@
 use Rattle.std.proofs.Common.{◌≡◌, ℕ, true, refl, sym, ap, subst}
 use Rattle.sock_core.specs.declared.sock.SockCore.{SockCore}
-use Rattle.sock_calls.proofs.PassingLemmas.{way_fresh}
+use Rattle.sock_calls.proofs.PassingLemmas.{calm_fresh, way_fresh}
 use Rattle.held_ends.specs.Others.{Leaves}
 use Rattle.held_ends.proofs.OthersLemmas.{places_stay, leaves_pipes}
 use Rattle.std.specs.Prelude.{IfOk}
@@ -9,6 +9,10 @@ use Rattle.held_ends.specs.Sound.{Fits}
 use Rattle.sock_core.specs.Has.{holding_in}
 use Rattle.ctl_plane.specs.Coming.{BindsFit}
 use Rattle.ctl_plane.specs.Desk.{GivesOrNot}
+use Rattle.std.specs.Prelude.{map}
+use Rattle.zq_base.specs.declared.ids.EndId.{EndId}
+use Rattle.sock_core.specs.Noted.{HasDone}
+use Rattle.sock_core.proofs.DoneLemmas.{done_none}
 use Rattle.sock_calls.proofs.lent.take_lent.Goals as goal
 
 pub invariant_of-holder : goal.invariant_of-holder
@@ -24,15 +28,27 @@ invariant_of-holder g c =
       stopped = f.stopped_is;
       flagged = f.flagged;
       in_use = f.in_use;
+      settled_are = f.settled_are;
+      sealed_are = f.sealed_are;
       others = λ s u b.
           let e = c.requires.began s u b in
           subst (λ (x : g.row.P.Denot). Leaves K x u.ends c.args.pipes t) (sym e.0)
           (subst (λ (y : SockCore _ _ _ _ _). Leaves K c.args.pipes y.ends c.args.pipes t) (sym e.1) (leaves_pipes K c.args.pipes t t (places_stay t.places.items t.places.items refl) refl));
       number = λ s u b. (c.requires.began s u b).2;
+      done = λ s u b.
+          let e = c.requires.began s u b in
+          subst (λ (y : SockCore _ _ _ _ _). HasDone K s (map (λ (x : EndId × Unit {0}). x.0) y.sealed.items) c.new.result.items c.args.pipes t.places.items (map (λ (x : EndId × Unit {0}). x.0) c.args.core.sealed.items)) (sym e.1)
+          (done_none K s (map (λ (x : EndId × Unit {0}). x.0) c.args.core.sealed.items) c.args.pipes c.new.result.items t.places.items e.0 c.new.ensures);
+      rest = λ s u b r. subst (λ (y : SockCore _ _ _ _ _). g.C.Joins.rests y.kind) (c.requires.began s u b).1 r;
       way = λ s u b.
           let J = g.C.Joins in
           way_fresh J.pattern J.names J.sound J.peers u c.args.core (record c.args.core { way = c.new-core.result }) (c.requires.began s u b).1 c.new-core.ensures refl refl refl refl;
     }
+
+pub deliver-answer-requires-clause-calm : goal.deliver-answer-requires-clause-calm
+deliver-answer-requires-clause-calm g c =
+    let J = g.C.Joins in
+    calm_fresh J.pattern J.names J.sound J.peers (record c.args.core { way = c.new-core.result }) c.new-core.ensures
 
 pub returns-clause-others : goal.returns-clause-others
 returns-clause-others g c = λ s t b. (c.deliver-answer.new.holder.others s t b, c.deliver-answer.new.holder.number s t b)
@@ -56,3 +72,9 @@ returns-clause-ok g c =
 
 pub returns-clause-way : goal.returns-clause-way
 returns-clause-way g c = λ s t b. c.deliver-answer.new.holder.way s t b
+
+pub returns-clause-does : goal.returns-clause-does
+returns-clause-does g c = λ s t b. c.deliver-answer.new.holder.done s t b
+
+pub returns-clause-rest : goal.returns-clause-rest
+returns-clause-rest g c = λ s t b. c.deliver-answer.new.holder.rest s t b

@@ -7,6 +7,10 @@ use Rattle.held_ends.specs.Looking.{met_after}
 use Rattle.sock_core.specs.Sound.{KeepsRoom}
 use Rattle.sock_core.specs.Peers.{ArePeers, AreFlagged, AreInUse}
 use Rattle.sock_core.proofs.FlagLemmas.{flagged_set, in_use_set}
+use Rattle.std.specs.Prelude.{map}
+use Rattle.zq_base.specs.declared.ids.EndId.{EndId}
+use Rattle.sock_core.specs.Noted.{AreSealed}
+use Rattle.sock_core.proofs.NotedLemmas.{were_read_on, sealed_set}
 use Rattle.sock_core.proofs.FindLemmas.{found, not_found, alone_of, held_is, never}
 use Rattle.sock_core.proofs.FormLemmas.{sound_of, are_sound}
 use Rattle.sock_core.proofs.GoneLemmas.{never_gone}
@@ -43,10 +47,15 @@ invariant_of-holder g c =
       flagged = subst (λ (l : List (Place _ _)). AreFlagged l (g.C.Joins.peers s.core.kind)) (sym x.now)
           (flagged_set s.core.ends.places.items (g.C.Joins.peers s.core.kind) (g.C.Joins.peers s.core.kind) c.in-Some.place x.place q s.flagged x.there (λ j ne here. here) (λ held flag. s.flagged c.in-Some.place x.place x.there held flag));
       in_use = subst (λ (l : List (Place _ _)). AreInUse l) (sym x.now) (in_use_set s.core.ends.places.items c.in-Some.place x.place q s.in_use x.there (λ held flag. s.in_use c.in-Some.place x.place x.there held flag));
+      settled_are = were_read_on s.core.ends.places.items c.look.new.table.places.items s.core.ends.settled.items c.look.new.table.settled.items c.look.ensures.others.places (ap (λ l. l.items) c.look.ensures.settled) s.settled_are;
+      sealed_are = subst (λ (l : List (Place _ _)). AreSealed l (map (λ (x : EndId × Unit {0}). x.0) s.core.sealed.items)) (sym x.now)
+          (sealed_set s.core.ends.places.items c.in-Some.place x.place q (map (λ (x : EndId × Unit {0}). x.0) s.core.sealed.items) s.sealed_are x.there (λ h. h) refl refl);
       others = λ a t b. absurd b;
       number = λ a t b. absurd b;
       stopped = s.stopped;
+      done = λ a t b. absurd b;
       way = λ a t b. absurd b;
+      rest = λ a t b. absurd b;
     }
 
 pub unreachable-requires : goal.unreachable-requires

@@ -24,9 +24,13 @@ invariant_of-holder g c =
       stopped = c.args.holder.now.stopped;
       flagged = w.flagged;
       in_use = c.args.holder.now.in_use;
+      settled_are = c.args.holder.now.settled_are;
+      sealed_are = c.args.holder.now.sealed_are;
       others = λ s t b. absurd b;
       number = λ s t b. absurd b;
+      done = λ s t b. absurd b;
       way = λ s t b. absurd b;
+      rest = λ s t b. absurd b;
     }
 
 pub returns-clause-others : goal.returns-clause-others

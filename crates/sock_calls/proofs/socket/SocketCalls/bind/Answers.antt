@@ -3,7 +3,7 @@ use Rattle.std.proofs.lemmas.Result.{IfOk-at_ok}
 use Rattle.zq_base.specs.declared.endpoint.Endpoint.{Endpoint}
 use Rattle.ctl_plane.specs.Asking.{IsInproc}
 use Rattle.sock_calls.specs.Calls.{holding_of}
-use Rattle.sock_calls.proofs.CallsLemmas.{keeps_up_none}
+use Rattle.sock_calls.proofs.CallsLemmas.{keeps_up_none, done_nothing, is_there}
 use Rattle.sock_calls.proofs.PassingLemmas.{passes_none}
 use Rattle.sock_calls.proofs.socket.SocketCalls.bind.Goals as goal
 
@@ -17,3 +17,9 @@ pub returns-in-Err-clause-passes : goal.returns-in-Err-clause-passes
 returns-in-Err-clause-passes g c = λ more is.
     let J = g.C.Joins in
     passes_none J.pattern J.names J.sound J.peers c.args.self.now.core (g.D.Desk.moments c.args.desk.now) (g.D.Desk.moments c.args.desk.now) more refl is
+
+pub returns-in-Err-clause-grows : goal.returns-in-Err-clause-grows
+returns-in-Err-clause-grows g c = g.met.D.Desk.grows_none c.args.desk.now
+
+pub returns-in-Err-clause-does : goal.returns-in-Err-clause-does
+returns-in-Err-clause-does g c = done_nothing g.P.Pipes.known c.args.pipes.now c.args.self.now.core (is_there g.P.Pipes.known g.C.Joins.peers c.args.pipes.now c.args.self.now.core c.requires.fits)

@@ -8,7 +8,7 @@ use Rattle.spec_control.specs.Control.{id}
 use Rattle.ctl_plane.specs.Asking.{IsInproc}
 use Rattle.ctl_plane.specs.Desk.{AsksOnce}
 use Rattle.sock_calls.specs.Calls.{owner_of, holding_of}
-use Rattle.sock_calls.proofs.CallsLemmas.{keeps_up_none}
+use Rattle.sock_calls.proofs.CallsLemmas.{keeps_up_none, done_nothing, is_there}
 use Rattle.sock_calls.proofs.PassingLemmas.{passes_none}
 use Rattle.sock_calls.proofs.socket.SocketCalls.connect.Goals as goal
 
@@ -30,3 +30,9 @@ pub returns-in-Err-clause-passes : goal.returns-in-Err-clause-passes
 returns-in-Err-clause-passes g c = λ more is.
     let J = g.C.Joins in
     passes_none J.pattern J.names J.sound J.peers c.args.self.now.core (g.D.Desk.moments c.args.desk.now) (g.D.Desk.moments c.args.desk.now) more refl is
+
+pub returns-in-Err-clause-grows : goal.returns-in-Err-clause-grows
+returns-in-Err-clause-grows g c = g.met.D.Desk.grows_none c.args.desk.now
+
+pub returns-in-Err-clause-does : goal.returns-in-Err-clause-does
+returns-in-Err-clause-does g c = done_nothing g.P.Pipes.known c.args.pipes.now c.args.self.now.core (is_there g.P.Pipes.known g.C.Joins.peers c.args.pipes.now c.args.self.now.core c.requires.fits)

@@ -1,11 +1,16 @@
-use Rattle.std.proofs.Common.{◌≡◌, Option, Some, refl, sym, ap, ◌∙◌, subst}
+use Rattle.std.proofs.Common.{◌≡◌, false, Option, Some, refl, sym, ap, ◌∙◌, subst}
+use Rattle.control_held.specs.Moments.{left_after}
+use Rattle.spec_control.specs.Control.{place_of}
+use Rattle.spec_control.specs.Place.{looks}
 use Rattle.held_ends.specs.Others.{Leaves}
 use Rattle.sock_core.specs.Has.{holding_in}
 use Rattle.sock_core.specs.declared.sock.SockCore.{SockCore}
-use Rattle.sock_calls.specs.Calls.{owner_of, holding_of, LeavesOthers}
+use Rattle.sock_calls.specs.Calls.{owner_of, holding_of, LeavesOthers, HaveDone, RestsThere}
 use Rattle.ctl_plane.specs.Desk.{KeepsUp}
 use Rattle.sock_calls.specs.Passing.{Passes}
 use Rattle.sock_calls.proofs.PassingLemmas.{passes_by}
+use Rattle.std.specs.Coded.{Coded-set}
+use Rattle.sock_calls.proofs.CallsLemmas.{done_so}
 use Rattle.sock_calls.proofs.socket.SocketCalls.meet.Goals as goal
 
 pub returns-in-Some-clause-has_still : goal.returns-in-Some-clause-has_still
@@ -35,3 +40,22 @@ returns-in-Some-clause-passes g c = λ more is.
     subst (λ (s : Option (SockCore _ _ _ _ _)). Passes J.pattern s (Some x.result.core) more) (sym e)
     (passes_by J.pattern J.names J.sound J.peers c.in-Some.core x.result.core more (x.ensures.others c.replace-lent.result c.in-Some.core (refl, refl)).0.places
     (x.ensures.keeps.1.came more is) (x.ensures.keeps.1.turned more is).turns (x.ensures.way c.replace-lent.result c.in-Some.core (refl, refl)))
+
+pub returns-in-Some-clause-not_looked : goal.returns-in-Some-clause-not_looked
+returns-in-Some-clause-not_looked g c = λ none.
+    let e : c.args.self.now.core ≡ Some c.in-Some.core = sym c.take.ensures.value ∙ c.in-Some.is in
+    subst (λ (s : Option (SockCore _ _ _ _ _)). looks (place_of (left_after (owner_of s) (g.D.Desk.moments c.args.desk.now)) c.args.end) ≡ false) (sym e) (c.meet_lent-answer.ensures.not_looked none)
+
+pub returns-in-Some-clause-does : goal.returns-in-Some-clause-does
+returns-in-Some-clause-does g c =
+    let e : c.args.self.now.core ≡ Some c.in-Some.core = sym c.take.ensures.value ∙ c.in-Some.is in
+    let x = c.meet_lent-answer in
+    subst (λ (s : Option (SockCore _ _ _ _ _)). HaveDone g.P.Pipes.known s (Some x.result.core) c.args.pipes.now x.result.pipes) (sym e)
+    (subst (λ (p : g.row.P.Denot). HaveDone g.P.Pipes.known (Some c.in-Some.core) (Some x.result.core) p x.result.pipes) c.replace-lent.ensures.value
+    (done_so (Coded-set g.row.P-Name.coded) (Coded-set g.row.P.coded) g.P.Pipes.known c.replace-lent.result x.result.pipes c.in-Some.core x.result.core x.result.did.items (x.ensures.does c.replace-lent.result c.in-Some.core (refl, refl))))
+
+pub returns-in-Some-clause-rests : goal.returns-in-Some-clause-rests
+returns-in-Some-clause-rests g c =
+    let e : c.args.self.now.core ≡ Some c.in-Some.core = sym c.take.ensures.value ∙ c.in-Some.is in
+    let x = c.meet_lent-answer in
+    subst (λ (s : Option (SockCore _ _ _ _ _)). RestsThere g.C.Joins.rests s → g.C.Joins.rests x.result.core.kind) (sym e) (x.ensures.rest c.replace-lent.result c.in-Some.core (refl, refl))

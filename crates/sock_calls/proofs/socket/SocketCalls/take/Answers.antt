@@ -2,7 +2,7 @@ use Rattle.std.proofs.Common.{◌≡◌, Option, Some, refl, sym, ap, ◌∙◌,
 use Rattle.held_ends.specs.Others.{Leaves}
 use Rattle.sock_core.specs.Has.{holding_in}
 use Rattle.sock_core.specs.declared.sock.SockCore.{SockCore}
-use Rattle.sock_calls.specs.Calls.{owner_of, holding_of, counts_by, MayJoin, LeavesOthers}
+use Rattle.sock_calls.specs.Calls.{owner_of, holding_of, counts_by, MayJoin, LeavesOthers, HaveDone, RestsThere}
 use Rattle.std.specs.Prelude.{IfOk}
 use Rattle.held_ends.specs.Sound.{Fits}
 use Rattle.ctl_plane.specs.Coming.{BindsFit}
@@ -10,6 +10,8 @@ use Rattle.ctl_plane.specs.Desk.{CountsWith, KeepsUp, GivesOrNot, slot_after}
 use Rattle.held_ends.specs.Counting.{counts_of}
 use Rattle.sock_calls.specs.Passing.{Passes}
 use Rattle.sock_calls.proofs.PassingLemmas.{passes_by}
+use Rattle.std.specs.Coded.{Coded-set}
+use Rattle.sock_calls.proofs.CallsLemmas.{done_so}
 use Rattle.sock_calls.proofs.socket.SocketCalls.take.Goals as goal
 
 pub take_lent-answer-requires-clause-binds : goal.take_lent-answer-requires-clause-binds
@@ -58,3 +60,17 @@ returns-in-Some-clause-passes g c = λ more is.
     subst (λ (s : Option (SockCore _ _ _ _ _)). Passes J.pattern s (Some x.result.core) more) (sym e)
     (passes_by J.pattern J.names J.sound J.peers c.in-Some.core x.result.core more (x.ensures.others c.replace-lent.result c.in-Some.core (refl, refl)).0.places
     (x.ensures.keeps.1.came more is) (x.ensures.keeps.1.turned more is).turns (x.ensures.way c.replace-lent.result c.in-Some.core (refl, refl)))
+
+pub returns-in-Some-clause-does : goal.returns-in-Some-clause-does
+returns-in-Some-clause-does g c =
+    let e : c.args.self.now.core ≡ Some c.in-Some.core = sym c.take.ensures.value ∙ c.in-Some.is in
+    let x = c.take_lent-answer in
+    subst (λ (s : Option (SockCore _ _ _ _ _)). HaveDone g.P.Pipes.known s (Some x.result.core) c.args.pipes.now x.result.pipes) (sym e)
+    (subst (λ (p : g.row.P.Denot). HaveDone g.P.Pipes.known (Some c.in-Some.core) (Some x.result.core) p x.result.pipes) c.replace-lent.ensures.value
+    (done_so (Coded-set g.row.P-Name.coded) (Coded-set g.row.P.coded) g.P.Pipes.known c.replace-lent.result x.result.pipes c.in-Some.core x.result.core x.result.did.items (x.ensures.does c.replace-lent.result c.in-Some.core (refl, refl))))
+
+pub returns-in-Some-clause-rests : goal.returns-in-Some-clause-rests
+returns-in-Some-clause-rests g c =
+    let e : c.args.self.now.core ≡ Some c.in-Some.core = sym c.take.ensures.value ∙ c.in-Some.is in
+    let x = c.take_lent-answer in
+    subst (λ (s : Option (SockCore _ _ _ _ _)). RestsThere g.C.Joins.rests s → g.C.Joins.rests x.result.core.kind) (sym e) (x.ensures.rest c.replace-lent.result c.in-Some.core (refl, refl))

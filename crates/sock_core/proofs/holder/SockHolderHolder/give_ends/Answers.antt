@@ -7,6 +7,10 @@ use Rattle.sock_core.proofs.GiveLemmas.{told_of, writing_of, stated_of, ends_of,
 use Rattle.held_ends.proofs.OthersLemmas.{leaves_on}
 use Rattle.std.proofs.Math.Logic.{∥∥₁_map}
 use Rattle.sock_core.proofs.FlagLemmas.{flagged_gone, in_use_gone}
+use Rattle.zq_base.specs.declared.ids.EndId.{EndId}
+use Rattle.std.specs.Prelude.{map}
+use Rattle.sock_core.proofs.NotedLemmas.{were_read_on, sealed_gone}
+use Rattle.sock_core.proofs.DoneLemmas.{done_still}
 use Rattle.sock_core.proofs.holder.SockHolderHolder.give_ends.Goals as goal
 
 pub give_ends-requires-clause-sound : goal.give_ends-requires-clause-sound
@@ -25,9 +29,13 @@ invariant_of-self g c = record {
   gone = λ is. c.give_ends.ensures.gone;
   flagged = flagged_gone c.give_ends.new.table.places.items (g.C.Joins.peers c.args.self.now.core.kind) c.give_ends.ensures.gone;
   in_use = in_use_gone c.give_ends.new.table.places.items c.give_ends.ensures.gone;
-  way = λ p t b. ∥∥₁_map (c.args.self.now.way p t b) (λ k is order. absurd (true≢false (sym is)));
+  way = λ p t b. ∥∥₁_map (c.args.self.now.way p t b) (λ k is. absurd (true≢false (sym is)));
   others = λ s t b. leaves_on g.P.Pipes.known s c.args.self.now.pipes c.args.self.now.pipes t.ends c.args.self.now.core.ends c.give_ends.new.table (c.args.self.now.others s t b) c.give_ends.ensures.others;
+  settled_are = were_read_on c.args.self.now.core.ends.places.items c.give_ends.new.table.places.items c.args.self.now.core.ends.settled.items c.give_ends.new.table.settled.items c.give_ends.ensures.others.places (ap (λ l. l.items) c.give_ends.ensures.settled) c.args.self.now.settled_are;
+  sealed_are = sealed_gone c.give_ends.new.table.places.items (map (λ (x : EndId × Unit {0}). x.0) c.args.self.now.core.sealed.items) c.give_ends.ensures.gone;
+  done = λ s t b. done_still g.P.Pipes.known s (map (λ (x : EndId × Unit {0}). x.0) t.sealed.items) c.args.self.now.pipes c.args.self.now.did.items c.args.self.now.core.ends.places.items c.give_ends.new.table.places.items (map (λ (x : EndId × Unit {0}). x.0) c.args.self.now.core.sealed.items) (c.give_ends.ensures.others.places) (c.args.self.now.done s t b);
   number = c.args.self.now.number;
+  rest = c.args.self.now.rest;
   stopped = c.args.self.now.stopped;
 }
 

@@ -21,6 +21,14 @@ use Rattle.sock_core.specs.Way.{way_in, KindWay}
 use Rattle.sock_core.specs.Peers.{AreFlagged, AreInUse}
 use Rattle.sock_core.proofs.FlagLemmas.{flagged_set, in_use_set}
 use Rattle.sock_core.proofs.WayLemmas.{way_set}
+use Rattle.zq_base.specs.declared.ids.EndId.{EndId}
+use Rattle.std.specs.Prelude.{map}
+use Rattle.sock_core.specs.Noted.{AreSealed}
+use Rattle.sock_core.proofs.NotedLemmas.{were_read_on, sealed_one, end_same}
+use Rattle.spec_control.specs.Control.{is_end}
+use Rattle.held_ends.proofs.SoundLemmas.{one_some}
+use Rattle.sock_core.proofs.DoneLemmas.{done_seal}
+use Rattle.sock_core.proofs.FindLemmas.{end_is}
 use Rattle.sock_core.proofs.holder.SockHolderHolder.seal.Goals as goal
 
 pub seal-requires-clause-sound : goal.seal-requires-clause-sound
@@ -49,11 +57,18 @@ invariant_of-self g c =
       flagged = subst (λ (l : List (Place _ _)). AreFlagged l (g.C.Joins.peers c.args.self.now.core.kind)) (sym s.now)
           (flagged_set c.args.self.now.core.ends.places.items (g.C.Joins.peers c.args.self.now.core.kind) (g.C.Joins.peers c.args.self.now.core.kind) c.in-Some.place s.place (record s.place { sealed = true }) c.args.self.now.flagged s.there (λ j ne here. here) (λ held flag. c.args.self.now.flagged c.in-Some.place s.place s.there held flag));
       in_use = subst (λ (l : List (Place _ _)). AreInUse l) (sym s.now) (in_use_set c.args.self.now.core.ends.places.items c.in-Some.place s.place (record s.place { sealed = true }) c.args.self.now.in_use s.there (λ held flag. c.args.self.now.in_use c.in-Some.place s.place s.there held flag));
-      way = λ p t b. ∥∥₁_map (c.args.self.now.way p t b) (λ k is order.
+      way = λ p t b. ∥∥₁_map (c.args.self.now.way p t b) (λ k is.
           subst (λ (l : List (Place _ _)). KindWay g.C.Joins.pattern g.C.Joins.names g.C.Joins.sound g.C.Joins.peers (way_in c.args.self.now.core.way.items) l (standing_joins t.joins.items) (standing_joins c.args.self.now.core.joins.items) t.turns.items c.args.self.now.core.turns.items t.kind c.args.self.now.core.kind) (sym s.now)
-          (way_set g.C.Joins.pattern g.C.Joins.names g.C.Joins.sound g.C.Joins.peers (way_in c.args.self.now.core.way.items) c.args.self.now.core.ends.places.items (standing_joins t.joins.items) (standing_joins c.args.self.now.core.joins.items) t.turns.items c.args.self.now.core.turns.items t.kind c.args.self.now.core.kind c.in-Some.place s.place (record s.place { sealed = true }) s.there refl refl (k is order)));
+          (way_set g.C.Joins.pattern g.C.Joins.names g.C.Joins.sound g.C.Joins.peers (way_in c.args.self.now.core.way.items) c.args.self.now.core.ends.places.items (standing_joins t.joins.items) (standing_joins c.args.self.now.core.joins.items) t.turns.items c.args.self.now.core.turns.items t.kind c.args.self.now.core.kind c.in-Some.place s.place (record s.place { sealed = true }) s.there refl refl (k is)));
       others = λ s t b. leaves_on g.P.Pipes.known s c.args.self.now.pipes c.seal.new.pipes t.ends c.args.self.now.core.ends c.seal.new.table (c.args.self.now.others s t b) c.seal.ensures.others;
+      settled_are = were_read_on c.args.self.now.core.ends.places.items c.seal.new.table.places.items c.args.self.now.core.ends.settled.items c.seal.new.table.settled.items c.seal.ensures.others.places (ap (λ l. l.items) c.seal.ensures.settled) c.args.self.now.settled_are;
+      sealed_are = subst (λ (l : List (Place _ _)). AreSealed l (map (λ (x : EndId × Unit {0}). x.0) c.note_seal.new.sealed.items)) (sym s.now)
+          (sealed_one c.args.self.now.core.ends.places.items c.in-Some.place s.place (record s.place { sealed = true }) c.args.end (map (λ (x : EndId × Unit {0}). x.0) c.args.self.now.core.sealed.items) (map (λ (x : EndId × Unit {0}). x.0) c.note_seal.new.sealed.items) c.args.self.now.sealed_are s.there
+          (ap (λ (x : Place _ _). is_end x.end c.args.end) (one_some s.place f.0 (sym s.there ∙ f.1)) ∙ end_same c.args.end f.0 f.2) c.note_seal.ensures);
+      done = λ s t b. done_seal g.P.Pipes.known s (map (λ (x : EndId × Unit {0}). x.0) t.sealed.items) c.args.self.now.pipes c.seal.new.pipes c.args.self.now.did.items c.seal.new.did.items c.args.self.now.core.ends.places.items c.seal.new.table.places.items c.seal.ensures.others.places (map (λ (x : EndId × Unit {0}). x.0) c.args.self.now.core.sealed.items) c.in-Some.place f.0 c.args.end
+          (map (λ (x : EndId × Unit {0}). x.0) c.note_seal.new.sealed.items) c.seal.ensures.changes f.1 (held_is c.args.end f.0 f.2) (sym (end_is c.args.end f.0 f.2)) c.args.self.now.sealed_are c.note_seal.ensures (c.args.self.now.done s t b);
       number = c.args.self.now.number;
+      rest = c.args.self.now.rest;
       stopped = c.args.self.now.stopped;
     }
 

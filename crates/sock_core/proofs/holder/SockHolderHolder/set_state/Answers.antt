@@ -27,6 +27,11 @@ use Rattle.sock_core.proofs.GoneLemmas.{never_gone}
 use Rattle.std.specs.Prelude.{Option}
 use Rattle.held_ends.specs.Counting.{counts_at, counts_with}
 use Rattle.held_ends.proofs.CountLemmas.{position_same}
+use Rattle.zq_base.specs.declared.ids.EndId.{EndId}
+use Rattle.std.specs.Prelude.{map}
+use Rattle.sock_core.specs.Noted.{AreSealed}
+use Rattle.sock_core.proofs.NotedLemmas.{were_read_on, sealed_set}
+use Rattle.sock_core.proofs.DoneLemmas.{done_still}
 use Rattle.sock_core.proofs.holder.SockHolderHolder.set_state.Goals as goal
 
 pub set_state-requires-clause-sound : goal.set_state-requires-clause-sound
@@ -59,7 +64,7 @@ invariant_of-self g c =
       in_use = subst (λ (l : List (Place _ _)). AreInUse l) (sym s.now)
           (in_use_set c.args.self.now.core.ends.places.items c.in-Some.place s.place (record s.place { state = c.args.state; peer = c.stays-peer.result }) c.args.self.now.in_use s.there
           (λ held flag. not_out (is_out (At c.args.state)) c.stays-peer.result (λ out. (c.stays-peer.ensures.goes out).0) flag));
-      way = λ p t b. ∥∥₁_map (c.args.self.now.way p t b) (λ k is order.
+      way = λ p t b. ∥∥₁_map (c.args.self.now.way p t b) (λ k is.
           let old = c.args.self.now.core in
           let one = one_some f.0 s.place (sym f.1 ∙ s.there) in
           let was = place_found old.ends.places.items c.in-Some.place s.place c.index.result.now s.there c.index.ensures in
@@ -72,9 +77,13 @@ invariant_of-self g c =
           (c.args.self.now.in_use c.in-Some.place s.place s.there (ap (λ (x : Place _ _). x.held) (sym one) ∙ held_is c.args.end f.0 f.2))
           (c.note_turn.ensures ∙ ap (λ (x : Place _ _). if is_state x.state c.args.state then w else with_turned c.args.end c.args.state w) was)
           (c.note.ensures ∙ ap (λ (x : Place _ _). old.turns.items ++ (if is_state x.state c.args.state then [] else (c.args.end, c.args.state) ∷ [])) was)
-          c.stays-peer.ensures.stays c.stays-peer.ensures.goes (k is) order));
+          c.stays-peer.ensures.stays c.stays-peer.ensures.goes (k is)));
       others = λ s t b. leaves_on g.P.Pipes.known s c.args.self.now.pipes c.args.self.now.pipes t.ends c.args.self.now.core.ends c.set_state.new.table (c.args.self.now.others s t b) c.set_state.ensures.others;
+      settled_are = were_read_on c.args.self.now.core.ends.places.items c.set_state.new.table.places.items c.args.self.now.core.ends.settled.items c.set_state.new.table.settled.items c.set_state.ensures.others.places (ap (λ l. l.items) c.set_state.ensures.settled) c.args.self.now.settled_are;
+      sealed_are = subst (λ (l : List (Place _ _)). AreSealed l (map (λ (x : EndId × Unit {0}). x.0) c.args.self.now.core.sealed.items)) (sym s.now) (sealed_set c.args.self.now.core.ends.places.items c.in-Some.place s.place (record s.place { state = c.args.state; peer = c.stays-peer.result }) (map (λ (x : EndId × Unit {0}). x.0) c.args.self.now.core.sealed.items) c.args.self.now.sealed_are s.there (λ h. h) refl refl);
+      done = λ s t b. done_still g.P.Pipes.known s (map (λ (x : EndId × Unit {0}). x.0) t.sealed.items) c.args.self.now.pipes c.args.self.now.did.items c.args.self.now.core.ends.places.items c.set_state.new.table.places.items (map (λ (x : EndId × Unit {0}). x.0) c.args.self.now.core.sealed.items) (c.set_state.ensures.others.places) (c.args.self.now.done s t b);
       number = c.args.self.now.number;
+      rest = λ p t b r. c.stays-peer.ensures.rests (c.args.self.now.rest p t b r);
       stopped = c.args.self.now.stopped;
     }
 

@@ -22,6 +22,13 @@ use Rattle.sock_core.specs.Way.{way_in, KindWay}
 use Rattle.sock_core.specs.Peers.{AreFlagged, AreInUse}
 use Rattle.sock_core.proofs.FlagLemmas.{flagged_set, in_use_set}
 use Rattle.sock_core.proofs.WayLemmas.{way_set}
+use Rattle.zq_base.specs.declared.ids.EndId.{EndId}
+use Rattle.std.specs.Prelude.{map}
+use Rattle.sock_core.specs.Noted.{AreSealed}
+use Rattle.sock_core.proofs.NotedLemmas.{were_read_more, sealed_set}
+use Rattle.held_ends.specs.Places.{place_at}
+use Rattle.held_ends.proofs.PlaceLemmas.{place_there}
+use Rattle.sock_core.proofs.DoneLemmas.{done_more}
 use Rattle.sock_core.proofs.holder.SockHolderHolder.settle.Goals as goal
 
 pub settle-requires-clause-sound : goal.settle-requires-clause-sound
@@ -54,11 +61,25 @@ invariant_of-self g c =
       flagged = subst (λ (l : List (Place _ _)). AreFlagged l (g.C.Joins.peers c.args.self.now.core.kind)) (sym s.now)
           (flagged_set c.args.self.now.core.ends.places.items (g.C.Joins.peers c.args.self.now.core.kind) (g.C.Joins.peers c.args.self.now.core.kind) c.in-Some.place s.place (record s.place { held = false; input = None }) c.args.self.now.flagged s.there (λ j ne here. here) (λ held flag. never (sym held)));
       in_use = subst (λ (l : List (Place _ _)). AreInUse l) (sym s.now) (in_use_set c.args.self.now.core.ends.places.items c.in-Some.place s.place (record s.place { held = false; input = None }) c.args.self.now.in_use s.there (λ held flag. never (sym held)));
-      way = λ p t b. ∥∥₁_map (c.args.self.now.way p t b) (λ k is order.
+      way = λ p t b. ∥∥₁_map (c.args.self.now.way p t b) (λ k is.
           subst (λ (l : List (Place _ _)). KindWay g.C.Joins.pattern g.C.Joins.names g.C.Joins.sound g.C.Joins.peers (way_in c.args.self.now.core.way.items) l (standing_joins t.joins.items) (standing_joins c.args.self.now.core.joins.items) t.turns.items c.args.self.now.core.turns.items t.kind c.args.self.now.core.kind) (sym s.now)
-          (way_set g.C.Joins.pattern g.C.Joins.names g.C.Joins.sound g.C.Joins.peers (way_in c.args.self.now.core.way.items) c.args.self.now.core.ends.places.items (standing_joins t.joins.items) (standing_joins c.args.self.now.core.joins.items) t.turns.items c.args.self.now.core.turns.items t.kind c.args.self.now.core.kind c.in-Some.place s.place (record s.place { held = false; input = None }) s.there refl refl (k is order)));
+          (way_set g.C.Joins.pattern g.C.Joins.names g.C.Joins.sound g.C.Joins.peers (way_in c.args.self.now.core.way.items) c.args.self.now.core.ends.places.items (standing_joins t.joins.items) (standing_joins c.args.self.now.core.joins.items) t.turns.items c.args.self.now.core.turns.items t.kind c.args.self.now.core.kind c.in-Some.place s.place (record s.place { held = false; input = None }) s.there refl refl (k is)));
       others = λ s t b. leaves_on g.P.Pipes.known s c.args.self.now.pipes c.settle.new.pipes t.ends c.args.self.now.core.ends c.settle.new.table (c.args.self.now.others s t b) c.settle.ensures.others;
+      settled_are = were_read_more c.args.self.now.core.ends.places.items c.settle.new.table.places.items c.args.self.now.core.ends.settled.items c.settle.new.table.settled.items (g.P.Pipes.known.out_name c.args.writer) c.settle.ensures.others.places c.settle.ensures.noted
+          (let mine = owned_read (c.args.o.0 == c.args.self.now.core.number.0) c.args.end c.args.self.now.core.ends.places.items (g.P.Pipes.known.out_name c.args.writer) c.requires.pipe in
+          record {
+            at = c.in-Some.place;
+            place = record s.place { held = false; input = None };
+            there = ap (λ (l : List (Place _ _)). place_at l c.in-Some.place) s.now ∙ place_there c.args.self.now.core.ends.places.items c.in-Some.place s.place (record s.place { held = false; input = None }) s.there;
+            gone = refl;
+            name_is = ap (λ (x : Place _ _). x.read) (one_some s.place f.0 (sym s.there ∙ f.1))
+                ∙ one_some f.0.read (g.P.Pipes.known.out_name c.args.writer) (sym (names_at c.args.self.now.core.ends.places.items c.in-Some.place f.0 c.args.end f.1 f.2 (alone_of g.P.Pipes.known c.args.self.now.pipes c.args.self.now.core.ends.rows.items c.args.self.now.core.ends.places.items c.in-Some.place f.0 c.args.end (sound_of g.P.Pipes.known c.args.self.now.pipes c.args.self.now.core.ends.rows.items c.args.self.now.core.ends.places.items c.args.self.now.sound) f.1 f.2)).1 ∙ sym (ap (λ (b : Bool). read_in (if b then held_in c.args.self.now.core.ends.places.items else []) c.args.end) mine) ∙ c.requires.pipe);
+          })
+          c.args.self.now.settled_are;
+      sealed_are = subst (λ (l : List (Place _ _)). AreSealed l (map (λ (x : EndId × Unit {0}). x.0) c.args.self.now.core.sealed.items)) (sym s.now) (sealed_set c.args.self.now.core.ends.places.items c.in-Some.place s.place (record s.place { held = false; input = None }) (map (λ (x : EndId × Unit {0}). x.0) c.args.self.now.core.sealed.items) c.args.self.now.sealed_are s.there (λ h. never (sym h)) refl refl);
+      done = λ s t b. done_more g.P.Pipes.known s (map (λ (x : EndId × Unit {0}). x.0) t.sealed.items) c.args.self.now.pipes c.settle.new.pipes c.args.self.now.did.items c.settle.new.did.items c.args.self.now.core.ends.places.items c.settle.new.table.places.items c.settle.ensures.others.places (map (λ (x : EndId × Unit {0}). x.0) c.args.self.now.core.sealed.items) c.settle.ensures.changes (c.args.self.now.done s t b);
       number = c.args.self.now.number;
+      rest = c.args.self.now.rest;
       stopped = c.args.self.now.stopped;
     }
 

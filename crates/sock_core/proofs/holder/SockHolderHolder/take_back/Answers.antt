@@ -25,6 +25,12 @@ use Rattle.sock_core.specs.Way.{way_in, KindWay}
 use Rattle.sock_core.specs.Peers.{AreFlagged, AreInUse}
 use Rattle.sock_core.proofs.FlagLemmas.{flagged_set, in_use_set}
 use Rattle.sock_core.proofs.WayLemmas.{noted_undone}
+use Rattle.sock_core.proofs.CalmLemmas.{calm_last, calm_undone}
+use Rattle.zq_base.specs.declared.ids.EndId.{EndId}
+use Rattle.std.specs.Prelude.{map}
+use Rattle.sock_core.specs.Noted.{AreSealed}
+use Rattle.sock_core.proofs.NotedLemmas.{were_read_on, sealed_set}
+use Rattle.sock_core.proofs.DoneLemmas.{done_still}
 use Rattle.sock_core.proofs.holder.SockHolderHolder.take_back.Goals as goal
 
 pub take_back-requires-clause-sound : goal.take_back-requires-clause-sound
@@ -55,12 +61,19 @@ invariant_of-self g c =
       flagged = subst (λ (l : List (Place _ _)). AreFlagged l (g.C.Joins.peers c.unjoin.new.kind)) (sym s.now)
           (flagged_set c.args.self.now.core.ends.places.items (g.C.Joins.peers c.args.self.now.core.kind) (g.C.Joins.peers c.unjoin.new.kind) c.in-Some.place s.place (record s.place { held = false; writes = false }) c.args.self.now.flagged s.there c.unjoin.ensures.peers.stay (λ held flag. never (sym held)));
       in_use = subst (λ (l : List (Place _ _)). AreInUse l) (sym s.now) (in_use_set c.args.self.now.core.ends.places.items c.in-Some.place s.place (record s.place { held = false; writes = false }) c.args.self.now.in_use s.there (λ held flag. never (sym held)));
-      way = λ p t b. ∥∥₁_map (c.args.self.now.way p t b) (λ k is order.
+      way = λ p t b. ∥∥₁_map (c.args.self.now.way p t b) (λ k is.
           subst (λ (l : List (Place _ _)). KindWay g.C.Joins.pattern g.C.Joins.names g.C.Joins.sound g.C.Joins.peers (way_in c.note_back.new.way.items) l (standing_joins t.joins.items) (standing_joins c.note_back.new.joins.items) t.turns.items c.args.self.now.core.turns.items t.kind c.unjoin.new.kind) (sym s.now)
           (noted_undone g.C.Joins.pattern g.C.Joins.names g.C.Joins.sound g.C.Joins.peers (way_in c.args.self.now.core.way.items) (way_in c.note_back.new.way.items) c.index.result.now.peer c.args.self.now.core.ends.places.items (standing_joins t.joins.items) (standing_joins c.args.self.now.core.joins.items) (standing_joins c.note_back.new.joins.items) t.turns.items c.args.self.now.core.turns.items t.kind c.args.self.now.core.kind c.unjoin.new.kind c.in-Some.place s.place (record s.place { held = false; writes = false })
-          c.note_back.ensures.way s.there refl refl peer c.note_back.ensures.joins c.unjoin.ensures.undoes (k is) order));
+          c.note_back.ensures.way c.requires.calm.1.quiet
+          (calm_last g.P.Pipes.known c.args.self.now.pipes c.args.self.now.core.ends.rows.items (way_in c.args.self.now.core.way.items) c.args.self.now.core.ends.places.items c.in-Some.place f.0 c.args.end c.requires.calm.0
+          (sound_of g.P.Pipes.known c.args.self.now.pipes c.args.self.now.core.ends.rows.items c.args.self.now.core.ends.places.items c.args.self.now.sound) f.1 f.2 c.requires.calm.1)
+          s.there refl refl peer c.note_back.ensures.joins c.unjoin.ensures.undoes (k is)));
       others = λ s t b. leaves_on g.P.Pipes.known s c.args.self.now.pipes c.args.self.now.pipes t.ends c.args.self.now.core.ends c.take_back.new.table (c.args.self.now.others s t b) c.take_back.ensures.others;
+      settled_are = were_read_on c.args.self.now.core.ends.places.items c.take_back.new.table.places.items c.args.self.now.core.ends.settled.items c.take_back.new.table.settled.items c.take_back.ensures.others.places (ap (λ l. l.items) c.take_back.ensures.settled) c.args.self.now.settled_are;
+      sealed_are = subst (λ (l : List (Place _ _)). AreSealed l (map (λ (x : EndId × Unit {0}). x.0) c.args.self.now.core.sealed.items)) (sym s.now) (sealed_set c.args.self.now.core.ends.places.items c.in-Some.place s.place (record s.place { held = false; writes = false }) (map (λ (x : EndId × Unit {0}). x.0) c.args.self.now.core.sealed.items) c.args.self.now.sealed_are s.there (λ h. never (sym h)) refl refl);
+      done = λ s t b. done_still g.P.Pipes.known s (map (λ (x : EndId × Unit {0}). x.0) t.sealed.items) c.args.self.now.pipes c.args.self.now.did.items c.args.self.now.core.ends.places.items c.take_back.new.table.places.items (map (λ (x : EndId × Unit {0}). x.0) c.args.self.now.core.sealed.items) (c.take_back.ensures.others.places) (c.args.self.now.done s t b);
       number = c.args.self.now.number;
+      rest = λ p t b r. c.unjoin.ensures.rests (c.args.self.now.rest p t b r);
       stopped = c.args.self.now.stopped;
     }
 
@@ -108,3 +121,11 @@ unreachable-requires g c =
 
 pub returns-in-Some-clause-joins : goal.returns-in-Some-clause-joins
 returns-in-Some-clause-joins g c = λ before last are. c.note_back.ensures.joins ∙ ap (λ (js : List (Joining _)). without_last js) are ∙ last_off before last
+
+pub returns-in-Some-clause-calm : goal.returns-in-Some-clause-calm
+returns-in-Some-clause-calm g c = λ came calm.
+    let f = found (is_of c.args.end) c.args.self.now.core.ends.places.items c.in-Some.place (sym c.in-Some.is ∙ c.find.ensures ∙ ap (λ (l : List (Place _ _)). position (is_of c.args.end) l) c.deref.ensures.value) in
+    let s = c.take_back.ensures.back in
+    calm_undone (way_in c.args.self.now.core.way.items) (way_in c.note_back.new.way.items) c.args.self.now.core.ends.places.items c.take_back.new.table.places.items (record s.place { held = false; writes = false }) c.in-Some.place c.args.end came c.note_back.ensures.way s.now
+    (calm_last g.P.Pipes.known c.args.self.now.pipes c.args.self.now.core.ends.rows.items (way_in c.args.self.now.core.way.items) c.args.self.now.core.ends.places.items c.in-Some.place f.0 c.args.end came
+    (sound_of g.P.Pipes.known c.args.self.now.pipes c.args.self.now.core.ends.rows.items c.args.self.now.core.ends.places.items c.args.self.now.sound) f.1 f.2 calm) calm

@@ -1,0 +1,83 @@
+-- What was done to the pipes is told in one way, so that a proof of it may be taken out of a truncation.
+use Rattle.std.proofs.Common.{ℕ, Bool, List, [], ◌∷◌}
+use Rattle.std.specs.Coded.{codes, ×_prop}
+use Rattle.zq_base.specs.declared.ids.EndId.{EndId}
+use Rattle.spec_pattern.specs.Half.{Writing, Reading}
+use Rattle.msg_pipe.specs.Known.{Known, KeepsAll, KeepsButOut, KeepsButPipe, MakesPipe}
+use Rattle.held_ends.specs.declared.changes.PipeChange.{PipeChange}
+use Rattle.held_ends.specs.declared.changes.PipeChange.TheVariants.{Kept, Made, Sealed, SealedAgain, Parted, Settled}
+use Rattle.held_ends.specs.declared.table.Place.{Place}
+use Rattle.held_ends.specs.Changes.{IsPlaced, MadeWith, PutsDelimiter, ForgetsParts, SealedBy, PartedBy, StaysSealed, SettlesPipe, DoesChange, DoesChanges}
+use native.Mathlib.Bridge.{le_prop}
+
+writing_set : IsSet Writing
+writing_set = Prim.hlevel codes
+
+reading_set : IsSet Reading
+reading_set = Prim.hlevel codes
+
+bool_set : IsSet Bool
+bool_set = Prim.hlevel codes
+
+end_set : IsSet EndId
+end_set = Prim.hlevel codes
+
+nothing_prop : IsProp ⊥
+nothing_prop = Prim.hlevel
+
+module _ {S O I N : Type 0} (K : Known S O I N) (n_set : IsSet N) (s_set : IsSet S) where
+  kept_prop : (old new : S) → IsProp (KeepsAll K old new)
+  kept_prop old new = Prim.hlevel (writing_set, reading_set, bool_set)
+
+  makes_prop : (capacity : ℕ) (o : O) (i : I) (old new : S) → IsProp (MakesPipe K capacity o i old new)
+  makes_prop capacity o i old new = Prim.hlevel (writing_set, reading_set, bool_set, n_set)
+
+  but_out_prop : (lent back : O) (old new : S) → IsProp (KeepsButOut K lent back old new)
+  but_out_prop lent back old new = Prim.hlevel (writing_set, reading_set, bool_set, n_set)
+
+  but_pipe_prop : (n : N) (old new : S) → IsProp (KeepsButPipe K n old new)
+  but_pipe_prop n old new = Prim.hlevel (writing_set, reading_set, bool_set, n_set)
+
+  module _ (ps : List (Place N I)) where
+    placed_prop : (k : ℕ) (e : EndId) → IsProp (IsPlaced ps k e)
+    placed_prop k e = Prim.hlevel (le_prop, end_set)
+
+    made_prop : (capacity : ℕ) (hs : List (O × I)) (old new : S) → IsProp (MadeWith K capacity hs old new)
+    made_prop capacity [] old new = nothing_prop
+    made_prop capacity (h ∷ hs) old new = ×_prop (makes_prop capacity h.0 h.1 old new) (kept_prop old new)
+
+    puts_prop : (k : ℕ) (e : EndId) (lent back : O) (old new : S) → IsProp (PutsDelimiter K ps k e lent back old new)
+    puts_prop k e lent back old new = Prim.hlevel (placed_prop, but_out_prop, writing_set, bool_set, n_set)
+
+    forgets_prop : (k : ℕ) (e : EndId) (lent back : O) (old new : S) → IsProp (ForgetsParts K ps k e lent back old new)
+    forgets_prop k e lent back old new = Prim.hlevel (placed_prop, but_out_prop, writing_set, n_set)
+
+    settles_prop : (k : ℕ) (e : EndId) (old new : S) → IsProp (SettlesPipe K ps k e old new)
+    settles_prop k e old new = Prim.hlevel (placed_prop, but_pipe_prop, bool_set)
+
+    stays_prop : (k : ℕ) (e : EndId) (old new : S) → IsProp (StaysSealed K ps k e old new)
+    stays_prop k e old new = Prim.hlevel (placed_prop, s_set)
+
+    sealed_prop : (k : ℕ) (e : EndId) (hs : List (O × Unit {0})) (old new : S) → IsProp (SealedBy K ps k e hs old new)
+    sealed_prop k e [] old new = nothing_prop
+    sealed_prop k e (a ∷ []) old new = nothing_prop
+    sealed_prop k e (a ∷ b ∷ []) old new = puts_prop k e a.0 b.0 old new
+    sealed_prop k e (a ∷ b ∷ c ∷ cs) old new = nothing_prop
+
+    parted_prop : (k : ℕ) (e : EndId) (hs : List (O × Unit {0})) (old new : S) → IsProp (PartedBy K ps k e hs old new)
+    parted_prop k e [] old new = nothing_prop
+    parted_prop k e (a ∷ []) old new = nothing_prop
+    parted_prop k e (a ∷ b ∷ []) old new = forgets_prop k e a.0 b.0 old new
+    parted_prop k e (a ∷ b ∷ c ∷ cs) old new = nothing_prop
+
+    change_prop : (d : PipeChange O I) (old new : S) → IsProp (DoesChange K ps d old new)
+    change_prop Kept old new = kept_prop old new
+    change_prop (Made capacity halves) old new = made_prop capacity halves.items old new
+    change_prop (Sealed k e half) old new = sealed_prop k e half.items old new
+    change_prop (SealedAgain k e) old new = stays_prop k e old new
+    change_prop (Parted k e half) old new = parted_prop k e half.items old new
+    change_prop (Settled k e) old new = settles_prop k e old new
+
+    pub changes_prop : (old : S) (xs : List (PipeChange O I × S)) (new : S) → IsProp (DoesChanges K ps old xs new)
+    changes_prop old [] new = s_set new old
+    changes_prop old (x ∷ xs) new = ×_prop (change_prop x.0 old x.1) (changes_prop x.1 xs new)
