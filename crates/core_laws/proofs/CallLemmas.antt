@@ -120,7 +120,7 @@ module _ {N S : Type 0} where
   ends_none slot taken acts (found_empty m few look is) = ap (λ (l : List (Act N S)). pipes_taken (steps_in l)) is
 
   -- and so in items
-  passed_kind : (ms : List (Moment N S)) (old new : OpenSock) → PassesItems ms old new → pattern_kind new.pattern ≡ pattern_kind old.pattern
+  pub passed_kind : (ms : List (Moment N S)) (old new : OpenSock) → PassesItems ms old new → pattern_kind new.pattern ≡ pattern_kind old.pattern
   passed_kind [] old new is = ap (λ (s : OpenSock). pattern_kind s.pattern) is
   passed_kind (m ∷ ms) old new is =
       passed_kind ms (sock_after m old) new is.1
@@ -128,7 +128,7 @@ module _ {N S : Type 0} where
       ∙ joined_kind (joins_of old.object m) old.pattern
 
   -- what is done before a call takes nothing
-  pumped_none : (old : OpenSock) (acts : List (Act N S)) (new : OpenSock) → is_publisher_kind (pattern_kind old.pattern) ≡ false → Pumps old acts new → TakeNone acts × (pattern_kind new.pattern ≡ pattern_kind old.pattern)
+  pub pumped_none : (old : OpenSock) (acts : List (Act N S)) (new : OpenSock) → is_publisher_kind (pattern_kind old.pattern) ≡ false → Pumps old acts new → TakeNone acts × (pattern_kind new.pattern ≡ pattern_kind old.pattern)
   pumped_none old acts new plain u =
       let heard = passed_kind (moments_in (flat_map (λ x. x) u.letters ++ u.last)) old u.heard u.hears in
       let pumps = pump_none (can_write u.heard) u.heard.pattern u.steps u.pattern (ap is_publisher_kind heard ∙ plain) u.pumps in (

@@ -147,7 +147,7 @@ module _ {N S : Type 0} where
   abbrev fates_by : Bool → PipeId → List (Piece N S) → List Fate
   fates_by hears p pieces = flat_map (λ (x : Piece N S). fates_taken hears p (steps_in x.acts) x.skips) pieces
 
-  taken_more : (p : PipeId) (x : Piece N S) (pieces : List (Piece N S)) → length (taken_from p (pipe_steps (x ∷ pieces))) ≡ length (taken_from p (steps_in x.acts)) + length (taken_from p (pipe_steps pieces))
+  pub taken_more : (p : PipeId) (x : Piece N S) (pieces : List (Piece N S)) → length (taken_from p (pipe_steps (x ∷ pieces))) ≡ length (taken_from p (steps_in x.acts)) + length (taken_from p (pipe_steps pieces))
   taken_more p x pieces =
       ap (λ (l : List PipeStep). length (taken_from p l)) (filter_map-append pipe_step_of x.acts (acts_in pieces))
       ∙ ap length (filter_map-append (taken_by p) (steps_in x.acts) (pipe_steps pieces))
@@ -184,6 +184,10 @@ settled_is (x ∷ ss) p s e = by (is_end (other_end p) x.end) refl e (settled_is
         → (find (λ y. is_end (other_end p) y.end) ss ≡ Some s → is_end (other_end p) s.end ≡ true) → is_end (other_end p) s.end ≡ true
     by true h f rest = subst (λ (y : Settlement). is_end (other_end p) y.end ≡ true) (some_is f) h
     by false h f rest = rest f
+
+-- a settlement of a pipe is of the end that reads it
+pub settled_at : (c : Control) (p : PipeId) (s : Settlement) → settlement_of c p ≡ Some s → other_end s.end ≡ p
+settled_at c p s e = ap other_end (sym (same_end (other_end p) s.end (settled_is c.settlements p s e))) ∙ other_twice p
 
 rows_same : (p : PipeId) (reason : Option Reason) (a b c d e f g t u v w x y z : ℕ) → a ≡ t → b ≡ u → c ≡ v → d ≡ w → e ≡ x → f ≡ y → g ≡ z
     → ◌≡◌ {A = SettledRow} (record { counts = record { pipe = p; sent = a; given = b; heard = c; dropped = d; written = e; lost = f; rest = g }; reason = reason })
@@ -234,7 +238,7 @@ module _ {N S : Type 0} where
   settled_row : (c : Control) (pieces : List (Piece N S)) (p : PipeId) (s : Settlement) → settlement_of c p ≡ Some s → IsCountedBy (pipe_steps pieces) s
       → row_in_pieces c pieces p ≡ Some (row_counted (is_heard_at c p) p (given_at p pieces) s)
   settled_row c pieces p s e counts =
-      let same : other_end s.end ≡ p = ap other_end (sym (same_end (other_end p) s.end (settled_is c.settlements p s e))) ∙ other_twice p in
+      let same = settled_at c p s e in
       let sent : s.counts.sent ≡ length (committed_to p (pipe_steps pieces)) = counts.sent ∙ ap (λ (q : PipeId). length (committed_to q (pipe_steps pieces))) same in
       let got : s.counts.got ≡ length (taken_from p (pipe_steps pieces)) = counts.got ∙ ap (λ (q : PipeId). length (taken_from q (pipe_steps pieces))) same in
       ap (λ (o : Option Settlement). row_if o (row_of_fates p (length (committed_to p (pipe_steps pieces))) (fates_by (is_heard_at c p) p pieces ++ fates_left o) (reason_left o))) e

@@ -1,7 +1,7 @@
-mod CountedLemmas
-mod GivenLemmas
-mod SideLemmas
+pub mod CountedLemmas
+pub mod GivenLemmas
+pub mod SideLemmas
 mod PastLemmas
-mod ReceiveLemmas
-mod CallLemmas
+pub mod ReceiveLemmas
+pub mod CallLemmas
 mod RowLemmas

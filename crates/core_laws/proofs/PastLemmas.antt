@@ -6,7 +6,7 @@ use Rattle.std.proofs.lemmas.List.Folds.{list_any-append}
 use Rattle.zq_base.specs.declared.ids.EndId.{EndId}
 use Rattle.zq_base.specs.Ends.{PipeId}
 use Rattle.spec_pattern.specs.PipeStep.{PipeStep, Commit, FullLook, Take, EmptyLook, DelimiterLook, WaitingLook, Seal, same_pipe, committed_by, taken_by, sealed_by, committed_to, taken_from, sealed_in, AreExact}
-use Rattle.spec_pattern.specs.Half.{Writing, Reading, with_delimiter}
+use Rattle.spec_pattern.specs.Half.{Writing, Reading, with_delimiter, without_parts}
 use Rattle.spec_pattern.proofs.Exact.{same_pipes}
 use Rattle.msg_pipe.specs.Known.{Known, IsThere, KeepsAll, KeepsButOut, KeepsButPipe, MakesPipe}
 use Rattle.ends.specs.Past.{OneName, Stands, IsPast}
@@ -55,6 +55,12 @@ module _ {N : Type 0} where
       by (here e f) (else_where g h) = absurd (new r n h f)
       by (else_where e f) (here g h) = absurd (new q n f h)
       by (else_where e f) (else_where g h) = one q r n f h
+
+  -- another pipe goes by another name
+  other_name : (goes : PipeId → Option N) (p : PipeId) (n : N) → OneName goes → goes p ≡ Some n → (q : PipeId) (m : N) → same_pipe q p ≡ false → goes q ≡ Some m → m ≢ n
+  other_name goes p n one named q m apart gq same =
+      let is_p : q ≡ p = one q p m gq (named ∙ ap Some (sym same)) in
+      absurd (true≢false (sym (own_pipe p) ∙ ap (λ (x : PipeId). same_pipe x p) (sym is_p) ∙ apart))
 
 -- ---- no step was made at a pipe that is new
 
@@ -196,11 +202,6 @@ module _ {S O I N : Type 0} (K : Known S O I N) where
           sealed_is = sealed ∙ ap (λ (b : Bool). b || same_pipe q p) was.sealed_is ∙ ap (λ (b : Bool). sealed_in q past || b) (sym (or_false (same_pipe q p))) ∙ sym (list_any-append (sealed_by q) past (Seal p ∷ []));
         }
 
-        other : (r : PipeId) (m : N) → same_pipe r p ≡ false → goes r ≡ Some m → m ≢ K.out_name lent
-        other r m apart gr same =
-            let is_p : r ≡ p = one r p m gr (named ∙ ap Some (sym same)) in
-            absurd (true≢false (sym (own_pipe p) ∙ ap (λ (x : PipeId). same_pipe x p) (sym is_p) ∙ apart))
-
         or_true : (b : Bool) → (b || true) ≡ true
         or_true true = refl
         or_true false = refl
@@ -216,9 +217,43 @@ module _ {S O I N : Type 0} (K : Known S O I N) where
             (ap (λ (w : Writing). w.sealed) now ∙ sym (or_true (K.writing old was.out).sealed) ∙ ap (λ (b : Bool). (K.writing old was.out).sealed || b) (sym h))
         stands q n false h g =
             let was = is.stands q n g in
-            let writes = keeps.outs was.out (out_there goes capacity old past q n was) (λ exact same. other q n h g (sym was.out_is ∙ same)) in
+            let writes = keeps.outs was.out (out_there goes capacity old past q n was) (λ exact same. other_name goes p (K.out_name lent) one named q n h g (sym was.out_is ∙ same)) in
             goes_on q n was (ap (λ (w : Writing). w.committed) writes) (ap (λ (w : Writing). w.capacity) writes) (keeps.ins was.input (in_there goes capacity old past q n was))
             (ap (λ (w : Writing). w.sealed) writes ∙ sym (or_false (K.writing old was.out).sealed) ∙ ap (λ (b : Bool). (K.writing old was.out).sealed || b) (sym h))
+
+    past_parted : (one_out : (s : S) (o p : O) → K.out_name o ≡ K.out_name p → K.writing s o ≡ K.writing s p)
+        → (goes : PipeId → Option N) (capacity : PipeId → ℕ) (old new : S) (past : List PipeStep) (p : PipeId) (lent back : O) → OneName goes → goes p ≡ Some (K.out_name lent)
+        → K.writing new back ≡ without_parts (K.writing old lent) → KeepsButOut K lent back old new
+        → IsPast K goes capacity old past → IsPast K goes capacity new past
+    past_parted one_out goes capacity old new past p lent back one named parts keeps is = record { stands = λ q n g. stands q n (same_pipe q p) refl g; exact = is.exact }
+      where
+        -- but for its parts, a writing half knows what it knew
+        goes_on : (q : PipeId) (n : N) (was : Stands K goes capacity old past q n) → (K.writing new was.out).committed ≡ (K.writing old was.out).committed → (K.writing new was.out).capacity ≡ (K.writing old was.out).capacity
+            → (K.writing new was.out).sealed ≡ (K.writing old was.out).sealed → Stands K goes capacity new past q n
+        goes_on q n was commits fits sealed = record {
+          out = was.out;
+          input = was.input;
+          out_is = was.out_is;
+          in_is = was.in_is;
+          there = keeps.there n was.there;
+          committed = commits ∙ was.committed;
+          taken = ap (λ (r : Reading). r.taken) (keeps.ins was.input (in_there goes capacity old past q n was)) ∙ was.taken;
+          capacity_is = fits ∙ was.capacity_is;
+          sealed_is = sealed ∙ was.sealed_is;
+        }
+
+        stands : (q : PipeId) (n : N) (b : Bool) → same_pipe q p ≡ b → goes q ≡ Some n → Stands K goes capacity new past q n
+        stands q n true h g =
+            let was = is.stands q n g in
+            let name : n ≡ K.out_name lent = some_same n (K.out_name lent) (sym g ∙ ap goes (same_pipes q p h) ∙ named) in
+            let before : K.writing old was.out ≡ K.writing old lent = one_out old was.out lent (was.out_is ∙ name) in
+            let now : K.writing new was.out ≡ without_parts (K.writing old lent) = one_out new was.out back (was.out_is ∙ name ∙ sym keeps.name_is) ∙ parts in
+            goes_on q n was (ap (λ (w : Writing). w.committed) now ∙ ap (λ (w : Writing). w.committed) (sym before)) (ap (λ (w : Writing). w.capacity) now ∙ ap (λ (w : Writing). w.capacity) (sym before))
+            (ap (λ (w : Writing). w.sealed) now ∙ ap (λ (w : Writing). w.sealed) (sym before))
+        stands q n false h g =
+            let was = is.stands q n g in
+            let writes = keeps.outs was.out (out_there goes capacity old past q n was) (λ exact same. other_name goes p (K.out_name lent) one named q n h g (sym was.out_is ∙ same)) in
+            goes_on q n was (ap (λ (w : Writing). w.committed) writes) (ap (λ (w : Writing). w.capacity) writes) (ap (λ (w : Writing). w.sealed) writes)
 
     pub past_goes_on : ((s : S) (o p : O) → K.out_name o ≡ K.out_name p → K.writing s o ≡ K.writing s p) → PastGoesOn K
     past_goes_on one_out = record {
@@ -227,6 +262,7 @@ module _ {S O I N : Type 0} (K : Known S O I N) where
       fewer = past_fewer;
       made = past_made;
       sealed = past_sealed one_out;
+      parted = past_parted one_out;
       pair = past_pair;
       capacities = past_capacities;
     }

@@ -50,7 +50,7 @@ each_none : (es : List End) (looks : List PipeStep) → EachGivesNone es looks �
 each_none [] looks all = ap pipes_taken all
 each_none (e ∷ es) looks (look, rest, is, gives, all) = ap pipes_taken is ∙ look_none e look rest gives (each_none es rest all)
 
-one_taken : (turns : List End) (steps : List PipeStep) (m : Frames) (from_ : PairId) (new : List End) (c : ComesIn turns steps m from_ new) → pipes_taken steps ≡ read_through c.peer ∷ []
+pub one_taken : (turns : List End) (steps : List PipeStep) (m : Frames) (from_ : PairId) (new : List End) (c : ComesIn turns steps m from_ new) → pipes_taken steps ≡ read_through c.peer ∷ []
 one_taken turns steps m from_ new c =
     ap pipes_taken c.steps_are ∙ taken_both c.looks (Take (read_through c.peer) m ∷ [])
     ∙ ap (λ (l : List PipeId). l ++ read_through c.peer ∷ []) (each_none c.before c.looks c.looks_are)

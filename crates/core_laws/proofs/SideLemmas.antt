@@ -40,9 +40,9 @@ none_some e = Prim.grind arith
 -- ---- pairs that have their numbers keep their owners
 
 -- what stays of pairs from one state to another
-record Grows (c d : Control) : Type 0 where
-  pairs : next_pair c ≤ next_pair d
-  owners : (e : EndId) → e.pair.0 < next_pair c → owner_of d e ≡ owner_of c e
+pub record Grows (c d : Control) : Type 0 where
+  pub pairs : next_pair c ≤ next_pair d
+  pub owners : (e : EndId) → e.pair.0 < next_pair c → owner_of d e ≡ owner_of c e
 
 -- some object is none of those that an event touches
 abbrev number_or : Option ℕ → ℕ
@@ -54,15 +54,15 @@ untouched None h = Prim.grind arith
 untouched (Some n) h = (let same : n ≡ suc n = ap number_or h in omega (arith, same))
 
 -- a state that a run leads to
-record IsKept (c : Control) : Type 0 where
-  kept : Kept c
-  known : Known c
+pub record IsKept (c : Control) : Type 0 where
+  pub kept : Kept c
+  pub known : Known c
 
-begun_is : (io : ℕ) → IsKept (begun io)
+pub begun_is : (io : ℕ) → IsKept (begun io)
 begun_is io = record { kept = begun_kept io; known = All-nil (λ x. x.pair.0 < next_pair (begun io)) }
 
 module _ {N S : Type 0} where
-  grows : (items : List (Item N S)) (c : Control) → IsKept c → IsControlRun c items → Grows c (after_all items c) × IsKept (after_all items c)
+  pub grows : (items : List (Item N S)) (c : Control) → IsKept c → IsControlRun c items → Grows c (after_all items c) × IsKept (after_all items c)
   grows [] c is run = (record { pairs = omega arith; owners = λ e lt. refl }, is)
   grows (Event entry ∷ items) c is run =
       let t = touched_in c entry.did in

@@ -3,7 +3,7 @@ use Rattle.std.specs.Prelude.{◌≡◌, ◌≢◌, ◌<◌, ℕ, false, List, [
 use Rattle.std.specs.List.{AllByRecursion}
 use Rattle.zq_base.specs.Ends.{PipeId}
 use Rattle.spec_pattern.specs.PipeStep.{PipeStep, Seal, AreExact, same_pipe}
-use Rattle.spec_pattern.specs.Half.{with_delimiter}
+use Rattle.spec_pattern.specs.Half.{with_delimiter, without_parts}
 use Rattle.msg_pipe.specs.Known.{Known, KeepsAll, KeepsButOut, KeepsButPipe, MakesPipe}
 use Rattle.ends.specs.Past.{OneName, IsPast}
 use Rattle.spec_control.specs.declared.entry.Item.{Item}
@@ -49,6 +49,9 @@ module _ {S O I N : Type 0} (K : Known S O I N) where
     pub sealed : (goes : PipeId → Option N) (capacity : PipeId → ℕ) (old new : S) (past : List PipeStep) (p : PipeId) (lent back : O) →
         OneName goes → goes p ≡ Some (K.out_name lent) → (K.writing old lent).sealed ≡ false → K.writing new back ≡ with_delimiter (K.writing old lent) →
         KeepsButOut K lent back old new → IsPast K goes capacity old past → IsPast K goes capacity new (past ++ Seal p ∷ [])
+    -- parts that were not committed to a pipe are rolled back
+    pub parted : (goes : PipeId → Option N) (capacity : PipeId → ℕ) (old new : S) (past : List PipeStep) (p : PipeId) (lent back : O) →
+        OneName goes → goes p ≡ Some (K.out_name lent) → K.writing new back ≡ without_parts (K.writing old lent) → KeepsButOut K lent back old new → IsPast K goes capacity old past → IsPast K goes capacity new past
     -- the two pipes of a pair are made, one after the other
     pub pair : (goes : PipeId → Option N) (capacity : PipeId → ℕ) (old mid new : S) (past : List PipeStep) (p q : PipeId) (o u : O) (i j : I) →
         OneName goes → MakesPipe K (capacity p) o i old mid → KeepsAll K old mid → MakesPipe K (capacity q) u j mid new → KeepsAll K mid new →

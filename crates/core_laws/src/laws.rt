@@ -46,8 +46,8 @@ pub fn open_sockets_change()
     ensures { OpensChange }
 {}
 
-/// Where looks are exact, the steps past stand still where all pipes are kept, and go on where one is
-/// made, sealed or settled.
+/// Where looks are exact, the steps past stand still where all pipes are kept or parts are rolled back,
+/// and go on where a pipe is made, sealed or settled.
 pub fn past_goes_on<P: Pipes>(_pipes: &P)
     requires { P.known.exact ≡ true }
     ensures { PastGoesOn P.known }

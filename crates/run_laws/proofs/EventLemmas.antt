@@ -34,6 +34,7 @@ use Rattle.spec_control.specs.After.{answers_in, without_front, after}
 use Rattle.spec_control.specs.Reply.{reply_of, root_asked}
 use Rattle.spec_control.specs.ControlRun.{MayAsk, MayDeliver, Fits}
 use Rattle.control_moves.specs.Coming.{MayCome}
+use Rattle.run_laws.specs.EndOrder.{actor_of, asker_of}
 use Rattle.run_laws.proofs.KeepLemmas.{Keeps, EndsOne, Out, keeps, ends, of_same, itself, keeps_more, out_more, link_keeps, makes_keeps, try_end_out, tell_where_keeps, tell_children_keeps, stop_sockets_keeps, happens_keeps, ask_keeps, ask_all_keeps, greeted, fulfil_all_keeps, strikes_keeps, connects_to_keeps, uses_reason_keeps}
 
 plain_link : {e : LinkEvent} → (e ≡ AckComes → ⊥) → (i : ℕ) (c : Control) → Keeps c (link e i c)
@@ -102,14 +103,14 @@ processed_out at Stop h c may = keeps (plain_link stop_no_ack at c)
 processed_out at (Reap socket) h c may =
     keeps (keeps_more (plain_link reap_no_ack socket.0 c) (of_same (link ReapComes socket.0 c) (put socket.0 Term (link ReapComes socket.0 c)) refl refl))
 
--- none ends in an event, or one that lived until then
-pub data EventOut (c d : Control) : Type 0 where
-  none_ends : Keeps c d → EventOut c d
-  one_ends : (b : ℕ) → EndsOne b c d → has_ended (obj c.rows b).stage ≡ false → EventOut c d
+-- none ends in an event, or this one that lived until then
+pub data EventOut (b : ℕ) (c d : Control) : Type 0 where
+  none_ends : Keeps c d → EventOut b c d
+  one_ends : EndsOne b c d → has_ended (obj c.rows b).stage ≡ false → EventOut b c d
 
-with_living : (b : ℕ) (c d : Control) → Out b c d → has_ended (obj c.rows b).stage ≡ false → EventOut c d
+with_living : (b : ℕ) (c d : Control) → Out b c d → has_ended (obj c.rows b).stage ≡ false → EventOut b c d
 with_living b c d (keeps k) lives = none_ends k
-with_living b c d (ends e) lives = one_ends b e lives
+with_living b c d (ends e) lives = one_ends e lives
 
 alive_lives : (s : Stage) → not (is_alive s) ≡ false → has_ended s ≡ false
 alive_lives Alive h = refl
@@ -126,7 +127,7 @@ ending_lives Finished h = absurd (never h)
 ending_lives Cleared h = absurd (never h)
 
 -- a request that is not refused and was not made before
-requested_event : (req : Req) (h : Answers) (c : Control) → MayAsk c req → (req ≡ AskTerm → root_asked c ≡ false) → EventOut c (requested req h c)
+requested_event : (req : Req) (h : Answers) (c : Control) → MayAsk c req → (req ≡ AskTerm → root_asked c ≡ false) → EventOut (asker_of req) c (requested req h c)
 requested_event (MakeSocket kind options) h c may unasked = none_ends (keeps_more (makes_keeps (socket_row kind options c) c refl) (of_same (makes (socket_row kind options c) c) _ refl refl))
 requested_event AskTerm h c may unasked =
     with_living 0 c _ (out_more (keeps_more (plain_link root_no_ack 0 c) (stop_sockets_keeps (length c.rows.objects) (link RootAsked 0 c)))
@@ -196,7 +197,7 @@ unasked_by req reply c e other same = by (root_asked c) refl (e ∙ ap (reply_of
     by true h f = absurd (other (f ∙ ap (λ (b : Bool). if b then Before else WasAsked) h))
 
 -- an answer names no refusal, and of the root's asking not that it was asked before
-answered_event : (req : Req) (reply : Reply) (h : Answers) (c : Control) → MayAsk c req → reply ≡ reply_of c req → EventOut c (answered req reply h c)
+answered_event : (req : Req) (reply : Reply) (h : Answers) (c : Control) → MayAsk c req → reply ≡ reply_of c req → EventOut (asker_of req) c (answered req reply h c)
 answered_event req Done h c may e = requested_event req h c may (unasked_by req Done c e (λ f. done_before f))
 answered_event req (Object o) h c may e = requested_event req h c may (unasked_by req (Object o) c e (λ f. object_before f))
 answered_event req (PairMade p) h c may e = requested_event req h c may (unasked_by req (PairMade p) c e (λ f. pair_before f))
@@ -225,8 +226,8 @@ pub record MayBeTaken (c : Control) (letter : Letter) : Type 0 where
   pub comes : MayCome c letter.to.0 letter.word
   pub lives : has_ended (obj c.rows letter.to.0).stage ≡ false
 
--- none ends in an event that fits, or one that lived
-pub event_out : {N S : Type 0} (c : Control) (did : Did N S) → Fits c did → ((slot : ℕ) (letter : Letter) → MayDeliver c slot letter → MayBeTaken c letter) → EventOut c (after did c)
+-- none ends in an event that fits, or its object that lived
+pub event_out : {N S : Type 0} (c : Control) (did : Did N S) → Fits c did → ((slot : ℕ) (letter : Letter) → MayDeliver c slot letter → MayBeTaken c letter) → EventOut (actor_of did) c (after did c)
 event_out c (DidAsk req reply h) fits taken = answered_event req reply (answers_in h) c fits.may.0 fits.may.1
 event_out c (Delivered slot letter h) fits taken =
     let t = taken slot.0 letter fits.may in

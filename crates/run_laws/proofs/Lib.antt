@@ -1,8 +1,8 @@
-mod OverLemmas
-mod KeepLemmas
-mod EventLemmas
-mod StayLemmas
-mod OrderLemmas
+pub mod OverLemmas
+pub mod KeepLemmas
+pub mod EventLemmas
+pub mod StayLemmas
+pub mod OrderLemmas
 mod DoneLemmas
 pub mod TurnLemmas
 mod SealLemmas

@@ -6,6 +6,7 @@ use Rattle.std.proofs.lemmas.Bool.{eqb-true, eq-eqb}
 use Rattle.std.proofs.lemmas.List.Folds.{list_any-append}
 use Rattle.std.proofs.lemmas.List.Sums.{sum_by-append}
 use Rattle.zq_base.specs.declared.ids.ObjId.{ObjId}
+use Rattle.spec_control.specs.declared.entry.Did.{Did}
 use Rattle.spec_control.specs.declared.entry.Item.{Item}
 use Rattle.spec_control.specs.declared.entry.Item.TheVariants.{Event, Seen}
 use Rattle.spec_control.specs.Stage.{has_ended}
@@ -13,14 +14,14 @@ use Rattle.spec_control.specs.Row.{Row, nobody}
 use Rattle.spec_control.specs.Rows.{obj}
 use Rattle.spec_control.specs.Control.{Control, begun, id}
 use Rattle.spec_control.specs.After.{after}
-use Rattle.spec_control.specs.ControlRun.{FitsItem, after_item, after_all, IsControlRun}
+use Rattle.spec_control.specs.ControlRun.{Fits, FitsItem, after_item, after_all, IsControlRun}
 use Rattle.control_rows.proofs.ListLemmas.{never}
 use Rattle.control_rows.proofs.RowLemmas.{all_is_over}
 use Rattle.control_laws.specs.Kept.{Kept}
 use Rattle.control_laws.proofs.RootLemmas.{runs_are_kept, delivered_to_living}
 use Rattle.control_moves.proofs.GuardLemmas.{oldest_may_come}
 use Rattle.control_moves.proofs.StepsLemmas.{events_are_steps}
-use Rattle.run_laws.specs.EndOrder.{is_numbered, EndInOrder}
+use Rattle.run_laws.specs.EndOrder.{actor_of, is_numbered, EndInOrder}
 use Rattle.run_laws.proofs.OverLemmas.{row_in, over, is_over, ended_is, over_there, living_there, there_row}
 use Rattle.run_laws.proofs.KeepLemmas.{Keeps, EndsOne}
 use Rattle.run_laws.proofs.EventLemmas.{EventOut, none_ends, one_ends, event_out}
@@ -186,17 +187,23 @@ pub more_state : {N S : Type 0} (past : List (Item N S)) (item : Item N S) (c : 
 more_state [] item c = refl
 more_state (x ∷ past) item c = more_state past item (after_item x c)
 
-out_order : (c d : Control) → EventOut c d → Stays c d → ((i : ℕ) → has_ended (obj c.rows i).stage ≡ true → (x : ℕ) → (obj c.rows x).owner ≡ Some i → has_ended (obj c.rows x).stage ≡ true) → InOrder c → InOrder d
-out_order c d (none_ends k) stays children inv = keeps_order c d k stays inv
-out_order c d (one_ends b k lives) stays children inv = ends_order c d b k lives stays children inv
+out_order : (b : ℕ) (c d : Control) → EventOut b c d → Stays c d → ((i : ℕ) → has_ended (obj c.rows i).stage ≡ true → (x : ℕ) → (obj c.rows x).owner ≡ Some i → has_ended (obj c.rows x).stage ≡ true) → InOrder c → InOrder d
+out_order b c d (none_ends k) stays children inv = keeps_order c d k stays inv
+out_order b c d (one_ends k lives) stays children inv = ends_order c d b k lives stays children inv
+
+-- none ends in an event of a run, or its object that lived
+pub run_event_out : {N S : Type 0} (workers : ℕ) (past : List (Item N S)) (did : Did N S) → IsControlRun (begun workers) past → let c = after_all past (begun workers) in Fits c did → EventOut (actor_of did) c (after did c)
+run_event_out workers past did run fits =
+    event_out (after_all past (begun workers)) did fits
+    (λ slot letter may. record { comes = oldest_may_come _ _ workers past run slot letter may; lives = (delivered_to_living _ _ workers past run slot letter may).lives })
 
 item_order : {N S : Type 0} (workers : ℕ) (past : List (Item N S)) (item : Item N S) → IsControlRun (begun workers) past → FitsItem (after_all past (begun workers)) item
     → InOrder (after_all past (begun workers)) → InOrder (after_item item (after_all past (begun workers)))
 item_order workers past (Event entry) run fits inv =
     let c = after_all past (begun workers) in
     let kept = runs_are_kept _ _ workers past run in
-    out_order c (after entry.did c)
-    (event_out c entry.did fits (λ slot letter may. record { comes = oldest_may_come _ _ workers past run slot letter may; lives = (delivered_to_living _ _ workers past run slot letter may).lives }))
+    out_order (actor_of entry.did) c (after entry.did c)
+    (run_event_out workers past entry.did run fits)
     (steps_stay c.rows (after entry.did c).rows (events_are_steps _ _ workers past run entry.did fits))
     (λ i ended x owner. (all_is_over c.rows i kept.reached ended).children x owner) inv
 item_order workers past (Seen sight) run fits inv = inv

@@ -3,11 +3,36 @@ use Rattle.std.specs.Prelude.{◌≡◌, ◌<◌, ◌≤◌, ◌==◌, ℕ, Bool
 use Rattle.std.specs.List.{list_any}
 use Rattle.zq_base.specs.Ends.{PipeId}
 use Rattle.zq_base.specs.declared.ids.ObjId.{ObjId}
+use Rattle.spec_control.specs.declared.entry.Did.{Did}
+use Rattle.spec_control.specs.declared.entry.Did.TheVariants.{Asked, Delivered, Delimited}
+use Rattle.spec_control.specs.declared.request.Req.{Req}
+use Rattle.spec_control.specs.declared.request.Req.TheVariants.{Socket, AskTerm, Bind, Connect, Unbind, Disconnect, Close, Accepted, Shaken, AskEnd, AskOver, OutputOver}
 use Rattle.spec_control.specs.Stage.{has_ended}
 use Rattle.spec_control.specs.Rows.{obj}
 use Rattle.spec_control.specs.Control.{Control, next_object}
 use Rattle.spec_run.specs.LineCall.{RunScript}
 use Rattle.spec_run.specs.OwnedRun.{OwnedRun, IsRun, control_at_end}
+
+-- the object that a request may end: whose output is over, and else the root
+abbrev pub asker_of : Req → ℕ
+asker_of (Socket kind options) = 0
+asker_of AskTerm = 0
+asker_of (Bind o at) = 0
+asker_of (Connect o at) = 0
+asker_of (Unbind o at) = 0
+asker_of (Disconnect o at) = 0
+asker_of (Close o) = 0
+asker_of (Accepted o) = 0
+asker_of (Shaken o peer) = 0
+asker_of (AskEnd e reason) = 0
+asker_of (AskOver o) = 0
+asker_of (OutputOver o) = o.0
+
+-- the object that an event may end
+abbrev pub actor_of : {N S : Type 0} → Did N S → ℕ
+actor_of (Asked req reply h) = asker_of req
+actor_of (Delivered slot letter h) = letter.to.0
+actor_of (Delimited e h) = 0
 
 -- the object has this number
 abbrev pub is_numbered : ℕ → ObjId → Bool

@@ -1,0 +1,20 @@
+ghost use Rattle.core_rows.specs.Drops.{CallsTellDrops, DropsGoOn};
+ghost use Rattle.core_rows.specs.Ended.{EndedGoesOn};
+
+/// What was taken from a pipe was given or dropped, how the drops go on by further calls, and the row
+/// of a settled pipe by them.
+pub fn drops_go_on<N, S>()
+    ensures { DropsGoOn N S }
+{}
+
+/// A call at the ends of its socket drops, of each pipe that the socket reads, as many messages as it
+/// tells of the pipe's pair.
+pub fn calls_tell_drops<N, S>()
+    ensures { CallsTellDrops N S }
+{}
+
+/// In each item that object may end alone that gets a command, and in a request the root or a session
+/// whose output is over: those that end stand behind those that ended before.
+pub fn ended_goes_on<N, S>()
+    ensures { EndedGoesOn N S }
+{}

@@ -1,0 +1,4 @@
+pub mod LastLemmas
+pub mod SocketLemmas
+pub mod SendLemmas
+pub mod NewLemmas

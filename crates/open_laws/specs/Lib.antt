@@ -1,0 +1,11 @@
+pub mod Open
+pub mod Ends
+pub mod Stops
+pub mod Ways
+pub mod Peers
+pub mod Passes
+pub mod Answers
+pub mod Bounds
+pub mod Told
+pub mod Wants
+pub mod Worked

@@ -1,0 +1,9 @@
+mod SettledLemmas
+mod ChangeLemmas
+mod SealLemmas
+mod MessageLemmas
+mod SaidLemmas
+mod AskedLemmas
+mod CallLemmas
+mod GoneLemmas
+mod UnsettledLemmas

@@ -1,0 +1,90 @@
+ghost use Rattle.std.specs.Prelude.{◌≡◌, true};
+ghost use Rattle.past_laws.specs.Asked.{EndsAreSealedOnce};
+ghost use Rattle.past_laws.specs.Calls.{SocketCallsGoOn};
+ghost use Rattle.past_laws.specs.Changes.{ChangesGoOn, SealsAreNew};
+ghost use Rattle.past_laws.specs.Messages.{MessagesGoOn};
+ghost use Rattle.past_laws.specs.Said.{StepsAreSaid};
+ghost use Rattle.past_laws.specs.Settled.{PipesAreSettled, SettledEndsAreGone};
+
+use control_attached::ends_are_attached_once;
+use control_counts::commands_come_once;
+use control_moves::{each_event_is_made_of_steps, no_never_cell_is_met};
+use control_rows::each_step_moves_ends_by_the_table;
+use core_laws::{past_goes_on, past_stays_over_control, steps_are_at_rows};
+use ends::calls_are_read_exactly;
+use msg_pipe::Pipes;
+use run_laws::seals_are_told;
+
+/// Where looks are exact, the steps past go on over calls of a socket on the control plane that made no
+/// pipe, with a step for each delimiter that was written.
+pub fn changes_go_on<P: Pipes, T>(pipes: &P)
+    requires { P.known.exact ≡ true }
+    ensures { ChangesGoOn P.known T }
+{
+    past_goes_on(pipes);
+    past_stays_over_control::<P, P::Name, T>(pipes);
+}
+
+/// The ends that a socket is told to seal for the first time are those whose pipes got their delimiters.
+pub fn seals_are_new<S, O, I>()
+    ensures { SealsAreNew S O I }
+{}
+
+/// So the delimiters that are told with the items of its calls are those that were written.
+pub fn steps_are_said<S, O, I, N, T>()
+    ensures { StepsAreSaid S O I N T }
+{
+    seals_are_told::<N, T>();
+    seals_are_new::<S, O, I>();
+}
+
+/// And an end is told to be sealed once.
+pub fn ends_are_sealed_once<N, T>()
+    ensures { EndsAreSealedOnce N T }
+{
+    each_step_moves_ends_by_the_table();
+    each_event_is_made_of_steps::<N, T>();
+    ends_are_attached_once::<N, T>();
+    seals_are_told::<N, T>();
+}
+
+/// So, where looks are exact, the steps past go on over calls of a socket on the control plane that made
+/// no pipe, with the steps of their items.
+pub fn socket_calls_go_on<P: Pipes, T>(pipes: &P)
+    requires { P.known.exact ≡ true }
+    ensures { SocketCallsGoOn P.known T }
+{
+    changes_go_on::<P, T>(pipes);
+    steps_are_said::<P, P::Out, P::In, P::Name, T>();
+    ends_are_sealed_once::<P::Name, T>();
+}
+
+/// Where looks are exact, the steps past go on by the steps of a socket's calls on messages, each of
+/// which is at an end of the socket.
+pub fn messages_go_on<P: Pipes, T>(pipes: &P)
+    requires { P.known.exact ≡ true }
+    ensures { MessagesGoOn P.known T }
+{
+    calls_are_read_exactly(pipes);
+    steps_are_at_rows::<P, P::Name, T>(pipes);
+}
+
+/// The end that read a settled pipe is gone.
+pub fn settled_ends_are_gone<N, T>()
+    ensures { SettledEndsAreGone N T }
+{
+    each_step_moves_ends_by_the_table();
+    each_event_is_made_of_steps::<N, T>();
+    ends_are_attached_once::<N, T>();
+    seals_are_told::<N, T>();
+    no_never_cell_is_met::<N, T>();
+}
+
+/// So a pipe is not settled while its writer writes on, nor while its reader is there, and is so where
+/// its reader is gone.
+pub fn pipes_are_settled<N, T>()
+    ensures { PipesAreSettled N T }
+{
+    settled_ends_are_gone::<N, T>();
+    commands_come_once::<N, T>();
+}

@@ -1,0 +1,10 @@
+//! What the calls of a socket leave of the steps past: those on the control plane, by what they did to
+//! the pipes, and those on messages, by their steps.
+#![tactic(auto)]
+
+mod laws;
+
+pub use laws::{
+    changes_go_on, ends_are_sealed_once, messages_go_on, pipes_are_settled, seals_are_new,
+    settled_ends_are_gone, socket_calls_go_on, steps_are_said,
+};
