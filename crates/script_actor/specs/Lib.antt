@@ -1,4 +1,5 @@
 pub mod Piece
+pub mod MayAsk
 pub mod Way
 pub mod Seats
 pub mod Stepping

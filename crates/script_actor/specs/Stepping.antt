@@ -17,6 +17,7 @@ use Rattle.spec_run.specs.InTurns.{ActorStep}
 use Rattle.spec_run.specs.RunJournal.{entries_shown}
 use Rattle.script_actor.specs.Piece.{Piece, AddsActs, AddsDeeds}
 use Rattle.script_actor.specs.Seats.{sockets_of, AllAgree}
+use Rattle.script_actor.specs.MayAsk.{MayAskLines}
 use Rattle.script_actor.specs.declared.seats.Seat.{Seat}
 use Rattle.script_actor.specs.declared.seats.Seat.TheVariants as seat
 use Rattle.script_actor.specs.declared.actor.Actor.{Actor}
@@ -96,9 +97,10 @@ module _ {O : Type 0} where
     pub name : new.name ≡ old.name
 
 module _ {W O : Type 0} (as_open : O → OpenSock) (agrees : W → ℕ → O → Type 0) (was_made : W → ℕ → Type 0) where
-  -- the sockets of an actor agree with what was done
-  abbrev pub ActorAgrees : W → (number : ℕ) → Actor O → Type 0
-  ActorAgrees way number actor = AllAgree as_open agrees was_made way number actor.seats
+  -- the sockets of an actor agree with what was done, and each of its lines may be asked
+  pub record ActorAgrees (way : W) (number : ℕ) (actor : Actor O) : Type 0 where
+    pub sockets : AllAgree as_open agrees was_made way number actor.seats
+    pub may : MayAskLines actor.lines.now
 
 module _ {O N S : Type 0} (as_open : O → OpenSock) where
   -- an actor's step: what it does, and what it says then

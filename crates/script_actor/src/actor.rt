@@ -4,6 +4,7 @@ ghost use Rattle.spec_run.specs.Standing.{standing_before, has_finished};
 ghost use Rattle.script_actor.specs.Seats.{AllAgree};
 ghost use Rattle.script_actor.specs.Stepping.{standing_of, entries_of, lines_of, at_seats, DoesAsked};
 ghost use Rattle.script_actor.specs.Stepping.{StepsSo, ActorAgrees, LeavesOthers, AnswersOne};
+ghost use Rattle.script_actor.specs.MayAsk.{MayAskLine, MayAskLines};
 
 use crate::lines::is_over;
 use crate::seats::Seats;
@@ -38,6 +39,7 @@ fn ask<P: Pipes, W: Sockets<P>>(
     told: &mut Vec<Skip>,
 ) -> Result<LineAnswer, AllocError>
     requires agree { AllAgree W.as_open W.agrees W.was_made way.old caller seats.old }
+    requires may { MayAskLine line.now }
     ensures ok { IfOk result (λ answer. DoesAsked caller line.now answer
         (at_seats W.as_open seats.old told.old.items (W.pieces way.old))
         (at_seats W.as_open seats.new told.new.items (W.pieces way.new))) }
@@ -124,8 +126,11 @@ impl<'a, O: Drop> Actor<'a, O> {
         rest: &'a [RunLine],
         answer: LineAnswer,
     ) -> Result<(), AllocError>
+        requires lines { MayAskLines self.old.lines.now }
+        requires rest { MayAskLines rest.now }
         ensures ok { OnOk result (AnswersOne line.now rest.now answer self.old self.new) }
         ensures seats { self.new.seats ≡ self.old.seats }
+        ensures may { MayAskLines self.new.lines.now }
     {
         if !is_over(self.tried, &line.call, &answer) {
             self.tried += 1;

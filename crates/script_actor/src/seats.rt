@@ -66,6 +66,7 @@ impl<O: Drop> Seats<O> {
     ghost use Rattle.spec_run.specs.declared.line.LineCall.TheVariants.{Asks, Closes};
     ghost use Rattle.script_actor.specs.Seats.{shut_before, has_open, is_open_at, AllAgree};
     ghost use Rattle.script_actor.specs.Stepping.{at_seats, called_place, DoesAsked, ShutsAt, LeavesOthers};
+    ghost use Rattle.script_actor.specs.MayAsk.{MayMake, MayAskLine};
 
     /// No seats.
     pub(crate) fn new(alloc: Global) -> Seats<O>
@@ -114,6 +115,7 @@ impl<O: Drop> Seats<O> {
         options: &Options,
     ) -> Result<LineAnswer, AllocError>
         requires agree { AllAgree W.as_open W.agrees W.was_made way.old caller self.old }
+        requires may { MayMake options.now }
         ensures ok { IfOk result (λ answer. (told : List Skip) →
             DoesAsked caller (Asks (script_call.Socket kind options.now)) answer
             (at_seats W.as_open self.old told (W.pieces way.old))
@@ -147,6 +149,7 @@ impl<O: Drop> Seats<O> {
     ) -> Result<LineAnswer, AllocError>
         requires agree { AllAgree W.as_open W.agrees W.was_made way.old caller self.old }
         requires place { called_place line.now ≡ Some place }
+        requires may { MayAskLine line.now }
         ensures ok { IfOk result (λ answer. DoesAsked caller line.now answer
             (at_seats W.as_open self.old told.old.items (W.pieces way.old))
             (at_seats W.as_open self.new told.new.items (W.pieces way.new))) }

@@ -17,6 +17,7 @@ use zq_base::{Kind, Options};
 pub trait Sockets<P: Pipes> {
     ghost use Rattle.script_actor.specs.Way.{AsksSocket, MakesOne, IsNew, CallsOne, ClosesSo};
     ghost use Rattle.script_actor.specs.Way.{AsksToEnd, KeepsAll, KeepsLent, KeepsOthers};
+    ghost use Rattle.script_actor.specs.MayAsk.{MayMake, MayAskLine};
 
     /// An open socket.
     type Open: Drop;
@@ -42,6 +43,7 @@ pub trait Sockets<P: Pipes> {
         kind: Kind,
         options: &Options,
     ) -> Result<Made<Self::Open>, AllocError>
+        requires may { MayMake options.now }
         ensures ok { IfOk result (λ made. MakesOne as_open caller kind options.now made
             (pieces self.old) (pieces self.new)) }
         ensures is_new { IfOk result (λ made. IsNew as_open agrees was_made caller made
@@ -60,6 +62,7 @@ pub trait Sockets<P: Pipes> {
     ) -> Result<LineAnswer, AllocError>
         requires agrees { agrees self.old caller socket.old }
         requires asks { AsksSocket line.now }
+        requires may { MayAskLine line.now }
         ensures ok { IfOk result (λ answer. CallsOne caller line.now
             (as_open socket.old) (as_open socket.new) answer told.old.items told.new.items
             (pieces self.old) (pieces self.new)) }

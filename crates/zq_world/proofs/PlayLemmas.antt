@@ -22,7 +22,7 @@ use Rattle.spec_run.specs.declared.line.RunActor.{RunActor}
 use Rattle.spec_run.specs.LineCall.{RunScript}
 use Rattle.spec_run.specs.Act.{Act, Deed, moments_in, steps_in}
 use Rattle.spec_run.specs.OpenSocket.{OpenSock}
-use Rattle.spec_run.specs.Standing.{standing_before}
+use Rattle.spec_run.specs.Standing.{ActorStanding, standing_before}
 use Rattle.spec_run.specs.OwnedRun.{IsRun, all_steps, deeds_in, every_pipe, pipe_capacity, settlement_of}
 use Rattle.spec_run.specs.InTurns.{Draws, IsOneThread, conductor_steps, turn_step}
 use Rattle.spec_run.specs.Fate.{count_sent, fates_left, is_heard_at, reason_left, row_of_fates}
@@ -30,6 +30,7 @@ use Rattle.spec_run.specs.RunJournal.{IsRunJournal, actors_shown, entries_shown,
 use Rattle.spec_run.proofs.JournalLemmas.{all_fates}
 use Rattle.run_laws.proofs.TurnLemmas.{turns_local}
 use Rattle.script_actor.specs.Piece.{Piece, acts_in, pipe_steps}
+use Rattle.script_actor.specs.MayAsk.{MayAskLines, MayAskScript}
 use Rattle.script_actor.specs.Seats.{AllAgree}
 use Rattle.script_actor.specs.Stepping.{standing_of, entries_of, lines_of}
 use Rattle.script_actor.specs.declared.seats.Seat.{Seat}
@@ -72,11 +73,29 @@ module _ {O : Type 0} where
       same f = cc
   new_at (x ∷ actors) (suc i) a all e = new_at actors i a all.1 e
 
+module _ {O : Type 0} (as_open : O → OpenSock) where
+  -- actors before the first lines of a script that may be asked
+  may_at : (script : RunScript) (actors : List (Actor O)) → standings as_open actors ≡ map standing_before script → MayAskScript script
+      → (i : ℕ) (a : Actor O) → slice_get actors i ≡ Some a → MayAskLines a.lines.now
+  may_at script [] stand may i a e = cc
+  may_at [] (x ∷ actors) stand may i a e = cc
+  may_at (actor ∷ script) (x ∷ actors) stand may zero a e =
+      let first : standing_of as_open x ≡ standing_before actor = cc in
+      subst (λ (y : Actor O). MayAskLines y.lines.now) (same e) (subst MayAskLines (sym (ap (λ (s : ActorStanding). s.lines) first)) may.0)
+    where
+      same : ◌≡◌ {A = Option (Actor O)} (Some x) (Some a) → x ≡ a
+      same f = cc
+  may_at (actor ∷ script) (x ∷ actors) stand may (suc i) a e =
+      let others : standings as_open actors ≡ map standing_before script = cc in
+      may_at script actors others may.1 i a e
+
 module _ {W O : Type 0} (as_open : O → OpenSock) (agrees : W → ℕ → O → Type 0) (was_made : W → ℕ → Type 0) where
-  -- new actors have nothing to agree with
-  pub new_agree : (way : W) (script : RunScript) (actors : List (Actor O)) → AreNew script actors → ActorsAgree as_open agrees was_made way actors
-  new_agree way script actors new i a e =
-      subst (λ (seats : List (Seat O)). AllAgree as_open agrees was_made way i seats) (sym (new_at actors i a new.each e)) (record { agree = tt; apart = tt })
+  -- new actors have nothing to agree with, and the lines of a script that may be asked
+  pub new_agree : (way : W) (script : RunScript) (actors : List (Actor O)) → MayAskScript script → AreNew script actors → ActorsAgree as_open agrees was_made way actors
+  new_agree way script actors may new i a e = record {
+    sockets = subst (λ (seats : List (Seat O)). AllAgree as_open agrees was_made way i seats) (sym (new_at actors i a new.each e)) (record { agree = tt; apart = tt });
+    may = may_at as_open script actors (new.stand as_open) may i a e;
+  }
 
 lines_same : (m n : List ℕ) (es fs : List LineEntry) → m ≡ n → es ≡ fs → ◌≡◌ {A = ActorLines} (record { name = m; entries = es }) (record { name = n; entries = fs })
 lines_same m n es fs e f = cc

@@ -189,7 +189,9 @@ module _ {W O : Type 0} (as_open : O → OpenSock) (agrees : W → ℕ → O →
           one_is y z f = cc
       by false e =
           let ne : i ≢ w = eqb-false i w e in
-          all_left as_open agrees was_made w i old new x.seats ne others (all i x (sym (get_set_else actors w i b ne) ∙ at))
+          let before : ActorAgrees as_open agrees was_made old i x = all i x (sym (get_set_else actors w i b ne) ∙ at) in
+          record { sockets = all_left as_open agrees was_made w i old new x.seats ne others before.sockets; may = before.may }
 
   pub agree_still : (old new : W) (actors : List (Actor O)) → KeepsAll agrees was_made old new → ActorsAgree as_open agrees was_made old actors → ActorsAgree as_open agrees was_made new actors
-  agree_still old new actors keeps all i x at = all_kept as_open agrees was_made i old new x.seats keeps (all i x at)
+  agree_still old new actors keeps all i x at =
+      record { sockets = all_kept as_open agrees was_made i old new x.seats keeps (all i x at).sockets; may = (all i x at).may }

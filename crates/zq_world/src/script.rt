@@ -1,5 +1,6 @@
 ghost use Rattle.std.specs.Prelude.{◌≡◌, [], IfOk, map};
 ghost use Rattle.spec_run.specs.RunJournal.{IsRunJournal};
+ghost use Rattle.script_actor.specs.MayAsk.{MayAskScript};
 ghost use Rattle.script_actor.specs.Stepping.{lines_of};
 ghost use Rattle.zq_world.specs.Played.{AreNew, PlaysSo};
 
@@ -45,6 +46,7 @@ fn play<P: Pipes, W: Core<P>>(
     turns: u32,
 ) -> Result<Seq<ActorLines>, AllocError>
     requires new { W.pieces way.old ≡ [] }
+    requires may { MayAskScript script.now }
     ensures ok { IfOk result (λ lines. PlaysSo script.now seed turns lines
         (W.pieces way.new) (W.order way.new)) }
 {
@@ -64,6 +66,7 @@ pub fn play_script<P: Pipes, W: Core<P>>(
     turns: u32,
 ) -> Result<RunJournal, AllocError>
     requires new { W.pieces way.old ≡ [] }
+    requires may { MayAskScript script.now }
     ensures ok { IfOk result (IsRunJournal P.Name P.Story script.now
         (record { seed = seed; turns = turns })) }
 {

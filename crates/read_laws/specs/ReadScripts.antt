@@ -1,0 +1,9 @@
+-- Scripts that are read (own choice).
+use Rattle.std.specs.Prelude.{◌≡◌, ℕ, List, Ok}
+use Rattle.spec_run.specs.LineCall.{RunScript}
+use Rattle.run_script.specs.RunGrammar.{run_script_of}
+use Rattle.script_actor.specs.MayAsk.{MayAskScript}
+
+-- each line of a script that is read may be asked
+abbrev pub ScriptsMayBeAsked : Type 0
+ScriptsMayBeAsked = (octets : List ℕ) (script : RunScript) → run_script_of octets ≡ Ok script → MayAskScript script
