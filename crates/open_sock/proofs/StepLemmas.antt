@@ -33,7 +33,7 @@ module _ {N S : Type 0} where
   slot_stays [] o p goes = ap (λ (s : OpenSock). s.slot) goes
   slot_stays (m ∷ ms) o p goes = slot_stays ms (sock_after m o) p goes.1
 
-  moments_more : (xs ys : List (Act N S)) → moments_in (xs ++ ys) ≡ moments_in xs ++ moments_in ys
+  pub moments_more : (xs ys : List (Act N S)) → moments_in (xs ++ ys) ≡ moments_in xs ++ moments_in ys
   moments_more xs ys = filter_map-append moment_of xs ys
 
   -- of steps none is an item

@@ -1,5 +1,6 @@
 ghost use Rattle.std.specs.Prelude.{◌<◌, IfOk, OnOk, OnErr, length};
 ghost use Rattle.spec_run.specs.declared.line.LineCall.TheVariants.{Asks};
+ghost use Rattle.script_actor.specs.MayAsk.{MayAskLine};
 ghost use Rattle.script_actor.specs.Way.{AsksSocket, AsksOpen};
 ghost use Rattle.open_sock.specs.Steps.{LeadsSome, CallsSo};
 ghost use Rattle.open_sock.specs.Lines.{CallsLine};
@@ -24,6 +25,7 @@ fn ask<M: OpenSteps>(
     requires whole { M.whole socket.old }
     requires some { 0 < length (M.moments socket.old) }
     requires asks { AsksSocket (Asks call.now) }
+    requires allowed { MayAskLine (Asks call.now) }
     ensures ok { IfOk result (λ answer.
         CallsSo M.leads M.as_open M.moments (AsksOpen (Asks call.now)) answer
         told.old.items told.new.items socket.old socket.new) }
@@ -53,6 +55,7 @@ fn ask_line<M: OpenSteps>(
     requires whole { M.whole socket.old }
     requires some { 0 < length (M.moments socket.old) }
     requires asks { AsksSocket line.now }
+    requires allowed { MayAskLine line.now }
     ensures ok { IfOk result (λ answer.
         CallsSo M.leads M.as_open M.moments (AsksOpen line.now) answer
         told.old.items told.new.items socket.old socket.new) }
@@ -81,6 +84,7 @@ pub fn call<M: OpenSteps>(
     requires may { M.may_take socket.old }
     requires whole { M.whole socket.old }
     requires asks { AsksSocket line.now }
+    requires allowed { MayAskLine line.now }
     ensures ok { IfOk result (λ answer. CallsLine M.leads M.as_open line.now answer
         told.old.items told.new.items socket.old socket.new) }
     ensures err { OnErr result (LeadsSome M.leads socket.old socket.new) }

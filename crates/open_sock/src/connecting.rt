@@ -1,6 +1,7 @@
 ghost use Rattle.std.specs.Prelude.{◌≡◌, ◌<◌, ◌||◌, List, IfOk, OnErr, length};
 ghost use Rattle.spec_pattern.specs.declared.answers.Skip.{Skip};
 ghost use Rattle.spec_run.specs.SocketCall.{leave_asked, ConnectsCall};
+ghost use Rattle.script_actor.specs.MayAsk.{IsLocal};
 ghost use Rattle.open_sock.specs.Steps.{LeadsSome, CallsSo};
 
 use crate::steps::OpenSteps;
@@ -25,12 +26,14 @@ pub(crate) fn connects<M: OpenSteps>(
     to: &Endpoint,
 ) -> Result<LineAnswer, AllocError>
     requires agrees { M.agrees socket.old }
+    requires whole { M.whole socket.old }
     requires some { 0 < length (M.moments socket.old) }
+    requires inproc { IsLocal to.now }
     ensures ok { IfOk result (λ answer. (told : List Skip) →
         CallsSo M.leads M.as_open M.moments (ConnectsCall to.now) answer told told
         socket.old socket.new) }
     ensures err { OnErr result (LeadsSome M.leads socket.old socket.new) }
-    ensures whole { M.whole socket.old → M.whole socket.new }
+    ensures whole { M.whole socket.new }
     ensures agrees { M.agrees socket.new }
 {
     if socket.takes_connect(to) {

@@ -11,15 +11,16 @@ use std::alloc::Global;
 /// stands there.
 pub(crate) fn look_front<M: OpenSteps>(alloc: Global, socket: &mut M, reader: Reader)
     requires agrees { M.agrees socket.old }
+    requires whole { M.whole socket.old }
     requires reads { ReadsOnAt (M.reading socket.old) reader }
     ensures looks { LooksOne M.leads M.as_open reader.end socket.old socket.new }
     ensures behind { M.reading socket.new (reader.place + 1)
         ≡ M.reading socket.old (reader.place + 1) }
-    ensures whole { M.whole socket.old → M.whole socket.new }
+    ensures whole { M.whole socket.new }
     ensures agrees { M.agrees socket.new }
     ensures may { M.may_take socket.old → M.may_take socket.new }
 {
-    match socket.look(reader) {
+    match socket.look(alloc, reader) {
         Front::Delimiter => {
             socket.meet(alloc, reader);
             return;
@@ -32,8 +33,9 @@ pub(crate) fn look_front<M: OpenSteps>(alloc: Global, socket: &mut M, reader: Re
 /// Looks at the front of each end that reads on, in the order of attachment.
 pub(crate) fn look_fronts<M: OpenSteps>(alloc: Global, socket: &mut M)
     requires agrees { M.agrees socket.old }
+    requires whole { M.whole socket.old }
     ensures looks { LooksAll M.leads M.as_open (M.reading socket.old 0) socket.old socket.new }
-    ensures whole { M.whole socket.old → M.whole socket.new }
+    ensures whole { M.whole socket.new }
     ensures agrees { M.agrees socket.new }
 {
     let mut place = 0;

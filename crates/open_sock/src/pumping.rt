@@ -11,10 +11,11 @@ use std::alloc::{AllocError, Global};
 /// most, hears or tells its peers, and looks at each end that reads on to its delimiter.
 pub fn pump<M: OpenSteps>(alloc: Global, socket: &mut M) -> Result<(), AllocError>
     requires agrees { M.agrees socket.old }
+    requires whole { M.whole socket.old }
     requires may { M.may_take socket.old }
     ensures ok { OnOk result (PumpsSo M.leads M.as_open socket.old socket.new) }
     ensures err { OnErr result (LeadsSome M.leads socket.old socket.new) }
-    ensures whole { OnOk result (M.whole socket.old → M.whole socket.new) }
+    ensures whole { OnOk result (M.whole socket.new) }
     ensures agrees { M.agrees socket.new }
 {
     match take_letters(alloc, socket) {

@@ -28,6 +28,7 @@ pub trait OpenSteps {
     ghost use Rattle.spec_run.specs.SocketCall.{SendsOpen, ReceivesOpen, ChangesOpen};
     ghost use Rattle.spec_run.specs.SocketCall.{takes_connect, leave_asked};
     ghost use Rattle.msg_pipe.specs.declared.pipes.Front.TheVariants.{Delimiter};
+    ghost use Rattle.script_actor.specs.MayAsk.{IsLocal};
     ghost use Rattle.open_sock.specs.Reading.{ReadsOnAt, IsNextReader, LeavesReader, ReadingStays};
     ghost use Rattle.open_sock.specs.Steps.{LeadsSome, Takes, LooksAtFront, MeetsEnd, PumpsKind};
     ghost use Rattle.open_sock.specs.Steps.{CallsSo, RequestsSo, ClosesOpen};
@@ -87,16 +88,17 @@ pub trait OpenSteps {
     /// where it was.
     fn take(&mut self, alloc: Global) -> Result<Found, AllocError>
         requires agrees { agrees self.old }
+        requires whole { whole self.old }
         requires may { may_take self.old }
         ensures ok { IfOk result (λ found. Takes leads as_open found self.old self.new) }
         ensures reader { IfOk result (LeavesReader (reading self.new)) }
         ensures err { OnErr result (LeadsSome leads self.old self.new) }
-        ensures whole { whole self.old → whole self.new }
+        ensures whole { whole self.new }
         ensures agrees { agrees self.new }
         ensures may { may_take self.new };
 
     /// Looks at the front of the pipe that an end reads which reads on, and takes nothing.
-    fn look(&mut self, reader: Reader) -> Front
+    fn look(&mut self, alloc: Global, reader: Reader) -> Front
         requires agrees { agrees self.old }
         requires reads { ReadsOnAt (reading self.old) reader }
         ensures looked { LooksAtFront leads as_open reader.end result self.old self.new }
@@ -109,11 +111,12 @@ pub trait OpenSteps {
     /// Tells that an end which reads on is at its delimiter.
     fn meet(&mut self, alloc: Global, reader: Reader)
         requires agrees { agrees self.old }
+        requires whole { whole self.old }
         requires reads { ReadsOnAt (reading self.old) reader }
         requires met { at_end self.old reader.end }
         ensures meets { MeetsEnd leads as_open reader.end self.old self.new }
         ensures behind { reading self.new (reader.place + 1) ≡ reading self.old (reader.place + 1) }
-        ensures whole { whole self.old → whole self.new }
+        ensures whole { whole self.new }
         ensures agrees { agrees self.new }
         ensures may { may_take self.old → may_take self.new };
 
@@ -175,41 +178,47 @@ pub trait OpenSteps {
     /// Binds an endpoint (zmq_bind(3)).
     fn bind(&mut self, alloc: Global, to: &Endpoint) -> Result<LineAnswer, AllocError>
         requires agrees { agrees self.old }
+        requires whole { whole self.old }
+        requires inproc { IsLocal to.now }
         ensures ok { IfOk result (λ answer. (told : List Skip) →
             RequestsSo leads as_open moments (λ o. Bind (id o) to.now) answer told
             self.old self.new) }
         ensures err { OnErr result (LeadsSome leads self.old self.new) }
-        ensures whole { whole self.old → whole self.new }
+        ensures whole { whole self.new }
         ensures agrees { agrees self.new };
 
     /// Connects to an endpoint that its kind takes a connect to (zmq_connect(3)).
     fn connect(&mut self, alloc: Global, to: &Endpoint) -> Result<LineAnswer, AllocError>
         requires agrees { agrees self.old }
+        requires whole { whole self.old }
+        requires inproc { IsLocal to.now }
         ensures ok { IfOk result (λ answer. (told : List Skip) →
             RequestsSo leads as_open moments (λ o. Connect (id o) to.now) answer told
             self.old self.new) }
         ensures err { OnErr result (LeadsSome leads self.old self.new) }
-        ensures whole { whole self.old → whole self.new }
+        ensures whole { whole self.new }
         ensures agrees { agrees self.new };
 
     /// Strikes the first bind to an endpoint (zmq_unbind(3)).
     fn unbind(&mut self, alloc: Global, to: &Endpoint) -> Result<LineAnswer, AllocError>
         requires agrees { agrees self.old }
+        requires whole { whole self.old }
         ensures ok { IfOk result (λ answer. (told : List Skip) →
             RequestsSo leads as_open moments (λ o. Unbind (id o) to.now) answer told
             self.old self.new) }
         ensures err { OnErr result (LeadsSome leads self.old self.new) }
-        ensures whole { whole self.old → whole self.new }
+        ensures whole { whole self.new }
         ensures agrees { agrees self.new };
 
     /// Strikes the first connect to an endpoint (zmq_disconnect(3)).
     fn disconnect(&mut self, alloc: Global, to: &Endpoint) -> Result<LineAnswer, AllocError>
         requires agrees { agrees self.old }
+        requires whole { whole self.old }
         ensures ok { IfOk result (λ answer. (told : List Skip) →
             RequestsSo leads as_open moments (λ o. Disconnect (id o) to.now) answer told
             self.old self.new) }
         ensures err { OnErr result (LeadsSome leads self.old self.new) }
-        ensures whole { whole self.old → whole self.new }
+        ensures whole { whole self.new }
         ensures agrees { agrees self.new };
 
     /// Closes it (zmq_close(3)): its ends are on their way to the reaper. Want of memory leaves it

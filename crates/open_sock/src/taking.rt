@@ -14,11 +14,12 @@ const MOST_LETTERS: usize = 64;
 /// to read on. Answers whether there was a letter.
 pub(crate) fn take_letter<M: OpenSteps>(alloc: Global, socket: &mut M) -> Result<bool, AllocError>
     requires agrees { M.agrees socket.old }
+    requires whole { M.whole socket.old }
     requires may { M.may_take socket.old }
     ensures ok { IfOk result (λ taken.
         TakesOrNot M.leads M.as_open taken socket.old socket.new) }
     ensures err { OnErr result (LeadsSome M.leads socket.old socket.new) }
-    ensures whole { M.whole socket.old → M.whole socket.new }
+    ensures whole { M.whole socket.new }
     ensures agrees { M.agrees socket.new }
     ensures may { M.may_take socket.new }
 {
@@ -36,10 +37,11 @@ pub(crate) fn take_letter<M: OpenSteps>(alloc: Global, socket: &mut M) -> Result
 /// Takes the letters of the socket's mailbox, up to as many as one pump takes.
 pub(crate) fn take_letters<M: OpenSteps>(alloc: Global, socket: &mut M) -> Result<(), AllocError>
     requires agrees { M.agrees socket.old }
+    requires whole { M.whole socket.old }
     requires may { M.may_take socket.old }
     ensures ok { OnOk result (TakesAll M.leads M.as_open socket.old socket.new) }
     ensures err { OnErr result (LeadsSome M.leads socket.old socket.new) }
-    ensures whole { M.whole socket.old → M.whole socket.new }
+    ensures whole { M.whole socket.new }
     ensures agrees { M.agrees socket.new }
 {
     'each: for _taken in 0..MOST_LETTERS {

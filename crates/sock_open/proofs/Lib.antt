@@ -1,1 +1,3 @@
 pub mod ViewLemmas
+pub mod KindLemmas
+pub mod LookLemmas

@@ -40,8 +40,10 @@ use Rattle.sock_mail.specs.Mails.{SendsHere, SaysHere, SendUndoneHere, PumpsHere
 use Rattle.sock_calls.specs.Calls.{FitsCore, FitsPipes}
 use Rattle.spec_run.specs.OpenSocket.{SockEnd, OpenSock, is_active, place_in, can_write}
 use Rattle.sock_open.specs.View.{end_at, ends_told, pattern_told, open_view}
-use Rattle.sock_open.specs.Standing.{IsStanding, Stands, IsWhole}
+use Rattle.sock_open.specs.Standing.{IsStanding, Stands, IsWhole, kind_told, KeepsAllElse, KeepsSocket}
 use Rattle.sock_open.specs.Doing.{MakesSome, PumpsOpen, SendsSo, ReceivesSo, ChangesSo}
+use Rattle.sock_core.specs.Kinds.{no_ends}
+use Rattle.sock_open.proofs.KindLemmas.{sends_kind, says_kind, receives_kind, stops_kind, pumps_kind, pump_stops_kind, changes_kind, untold_kind, any_ends, caught_kind, received_kind}
 
 pub ok_more : {A : Type 0} (r : Result A AllocError) {P Q : Type 0} → (P → Q) → OnOk r P → OnOk r Q
 ok_more (Ok x) f h = f h
@@ -94,7 +96,7 @@ publisher_as_is : (ends : ℕ → EndId) (p : PubState) → p.kept ≡ None → 
 publisher_as_is ends p none = ap (λ k. resumed ends k p) none
 
 -- and then it is as it is
-caught_as_is : (ends : ℕ → EndId) (s : AnySock) → (left_of s).to_obey ≡ None → caught_up ends s ≡ s
+pub caught_as_is : (ends : ℕ → EndId) (s : AnySock) → (left_of s).to_obey ≡ None → caught_up ends s ≡ s
 caught_as_is ends (sock.Push x) none = refl
 caught_as_is ends (sock.Pull x) none = refl
 caught_as_is ends (sock.Pair x) none = refl
@@ -123,7 +125,7 @@ received_as_is ends (sock.XSub x) none = refl
 
 -- ---- its ends
 
-same_active : (s : EndState) → is_active (At s) ≡ held.is_active s
+pub same_active : (s : EndState) → is_active (At s) ≡ held.is_active s
 same_active Active = refl
 same_active DelimiterGot = refl
 same_active WaitDelimiter = refl
@@ -141,7 +143,7 @@ open_so false sealed f = refl
 open_so true sealed f = ap not (sym (f refl))
 
 module _ {N I : Type 0} where
-  end_found : (ps : List (Place N I)) (k : ℕ) (p : Place N I) → place_at ps k ≡ Some p → end_at ps k ≡ p.end
+  pub end_found : (ps : List (Place N I)) (k : ℕ) (p : Place N I) → place_at ps k ≡ Some p → end_at ps k ≡ p.end
   end_found [] k p at = Prim.grind arith
   end_found (q ∷ ps) zero p at = Prim.grind arith
   end_found (q ∷ ps) (suc k) p at = end_found ps k p at
@@ -149,7 +151,7 @@ module _ {N I : Type 0} where
   names_so : (ps : List (Place N I)) → IsNaming (end_at ps) ps
   names_so ps k p at peer = end_found ps k p at
 
-opens_are : (o o' slot : ℕ) (st st' : Bool) (p p' : Pattern) (es es' : List SockEnd) → o ≡ o' → st ≡ st' → p ≡ p' → es ≡ es'
+pub opens_are : (o o' slot : ℕ) (st st' : Bool) (p p' : Pattern) (es es' : List SockEnd) → o ≡ o' → st ≡ st' → p ≡ p' → es ≡ es'
     → ◌≡◌ {A = OpenSock} (record { object = o; slot = slot; stopped = st; pattern = p; ends = es }) (record { object = o'; slot = slot; stopped = st'; pattern = p'; ends = es' })
 opens_are o o' slot st st' p p' es es' a b c d = cc
 
@@ -166,6 +168,9 @@ module _ {W N O I S : Type 0} (K : Known S O I N) where
 
   pub stands_back : (now q : S) (o : Option (SockCore AnySock W N O I)) (t : SockCore AnySock W N O I) → now ≡ q → o ≡ Some t → IsStanding K q t → Stands K now o
   stands_back now q o t eq eo h = subst (λ (x : S). Stands K x o) (sym eq) (subst (λ (x : Option (SockCore AnySock W N O I)). Stands K q x) (sym eo) h)
+
+  pub keeps_back : (old new : Option (SockCore AnySock W N O I)) (s t : SockCore AnySock W N O I) → old ≡ Some s → new ≡ Some t → KeepsAllElse s t → KeepsSocket old new
+  keeps_back old new s t eo en h = subst (λ (x : Option (SockCore AnySock W N O I)). KeepsSocket x new) (sym eo) (subst (λ (x : Option (SockCore AnySock W N O I)). KeepsSocket (Some s) x) (sym en) h)
 
   -- a relation of a socket that was moved and its pipes is one of the socket that is there
   pub came : (R : S → Option (SockCore AnySock W N O I) → S → Option (SockCore AnySock W N O I) → Type 0) (before p now q : S) (old new : Option (SockCore AnySock W N O I)) (s t : SockCore AnySock W N O I)
@@ -218,6 +223,62 @@ module _ {W N O I S : Type 0} (K : Known S O I N) where
 
     pub pump_whole : PumpsHere K (lent_in p s) (lent_in q t) → IsWhole (Some s) → IsWhole (Some t)
     pump_whole h whole = let f = end_at s.ends.places.items in h.left_is f ∙ ap left_of (caught_as_is f s.kind (ap (λ (l : Leftover). l.to_obey) whole)) ∙ whole
+
+    pub pump_kind : (r : Result (Unit {0}) AllocError) → OnOk r (PumpsHere K (lent_in p s) (lent_in q t)) → OnErr r (PumpStopsHere K (lent_in p s) (lent_in q t)) → KeepsAllElse s t
+    pump_kind (Ok x) h e = let f = end_at s.ends.places.items in record {
+      rest = keeps;
+      kind = any_ends no_ends f t.kind ∙ pumps_kind (can_write (open_view slot (Some s))) (over f (caught_up f s.kind)) h.steps (over f t.kind) (h.pumps f (can_write (open_view slot (Some s))) (names_so s.ends.places.items) test_so) ∙ caught_kind f no_ends s.kind;
+    }
+    pump_kind (Err x) h e = let f = end_at s.ends.places.items in record {
+      rest = keeps;
+      kind = sym (caught_kind f no_ends t.kind) ∙ pump_stops_kind _ (over f (caught_up f s.kind)) e.steps (over f (caught_up f t.kind)) (e.stops f (names_so s.ends.places.items)) ∙ caught_kind f no_ends s.kind;
+    }
+
+    sent_kind : (m : Frames) (a : SendAnswer) → SendsHere K m (lent_in p s) a (lent_in q t) → KeepsAllElse s t
+    sent_kind m a h = let f = end_at s.ends.places.items in record {
+      rest = keeps;
+      kind = any_ends no_ends f t.kind ∙ sends_kind (can_write (open_view slot (Some s))) m (over f s.kind) h.steps a (over f t.kind) (h.sends f (can_write (open_view slot (Some s))) (names_so s.ends.places.items) test_so) ∙ any_ends f no_ends s.kind;
+    }
+
+    pub send_kind : (m : Frames) (r : Result Sent XSendFault) → MatchXSend r (SendUndoneHere (lent_in p s) (lent_in q t)) (SaysHere K m (lent_in p s) (lent_in q t)) (λ a. SendsHere K m (lent_in p s) a (lent_in q t)) → KeepsAllElse s t
+    send_kind m (Ok a) h = sent_kind m _ h
+    send_kind m (Err (xfault.Refused refusal back)) h = sent_kind m _ h
+    send_kind m (Err (xfault.OutOfMemory back)) h = record { rest = keeps; kind = ap kind_told h.stays.kind_stays }
+    send_kind m (Err xfault.Untold) h = let f = end_at s.ends.places.items in record {
+      rest = keeps;
+      kind = any_ends no_ends f t.kind ∙ says_kind _ m (over f s.kind) h.steps (over f t.kind) (h.says f (names_so s.ends.places.items)) ∙ any_ends f no_ends s.kind;
+    }
+
+    got_kind : (told told_now : List Skip) (a : RecvAnswer) → ReceivesHere K told told_now (lent_in p s) a (lent_in q t) → KeepsAllElse s t
+    got_kind told told_now a h = let f = end_at s.ends.places.items in record {
+      rest = keeps;
+      kind = any_ends no_ends f t.kind ∙ receives_kind (over f (as_received f s.kind)) h.steps h.skips a (over f t.kind) (h.receives f (names_so s.ends.places.items)) ∙ received_kind f no_ends s.kind;
+    }
+
+    pub recv_kind : (told told_now : List Skip) (r : RecvResult) → MatchRecv r (StopsHere K told told_now (lent_in p s) (lent_in q t)) (λ a. ReceivesHere K told told_now (lent_in p s) a (lent_in q t)) → KeepsAllElse s t
+    recv_kind told told_now (Ok item) h = got_kind told told_now _ h
+    recv_kind told told_now (Err (rfault.Refused refusal)) h = got_kind told told_now _ h
+    recv_kind told told_now (Err rfault.OutOfMemory) h = let f = end_at s.ends.places.items in record {
+      rest = keeps;
+      kind = sym (received_kind f no_ends t.kind) ∙ stops_kind (over f (as_received f s.kind)) h.steps h.skips (left_of t.kind).to_give (over f (as_received f t.kind)) (h.stops f (names_so s.ends.places.items)) ∙ received_kind f no_ends s.kind;
+    }
+
+    changed_kind : (change : Change) (topic : Topic) (a : ChangeAnswer) → ChangesHere K change topic (lent_in p s) a (lent_in q t) → KeepsAllElse s t
+    changed_kind change topic a h = let f = end_at s.ends.places.items in record {
+      rest = keeps;
+      kind = any_ends no_ends f t.kind ∙ changes_kind change (can_write (open_view slot (Some s))) topic (over f s.kind) h.steps a (over f t.kind) (h.changes f (can_write (open_view slot (Some s))) (names_so s.ends.places.items) test_so) ∙ any_ends f no_ends s.kind;
+    }
+
+    pub change_kind : (change : Change) (topic : Topic) (r : Result (Unit {0}) ChangeFault) → MatchChanged r (ChangeUndoneHere (lent_in p s) (lent_in q t)) (ChangeUntoldHere K change topic (lent_in p s) (lent_in q t)) (λ a. ChangesHere K change topic (lent_in p s) a (lent_in q t)) → KeepsAllElse s t
+    change_kind change topic (Ok done) h = changed_kind change topic _ h
+    change_kind change topic (Err cfault.NoTopics) h = changed_kind change topic _ h
+    change_kind change topic (Err cfault.SubLimit) h = changed_kind change topic _ h
+    change_kind change topic (Err cfault.NotSub) h = changed_kind change topic _ h
+    change_kind change topic (Err cfault.OutOfMemory) h = record { rest = keeps; kind = ap kind_told h.stays.kind_stays }
+    change_kind change topic (Err cfault.Untold) h = let f = end_at s.ends.places.items in record {
+      rest = keeps;
+      kind = any_ends no_ends f t.kind ∙ untold_kind _ change topic (over f s.kind) h.steps (over f t.kind) (h.says f (names_so s.ends.places.items)) ∙ any_ends f no_ends s.kind;
+    }
 
     -- ---- a send
 

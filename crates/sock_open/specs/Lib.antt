@@ -1,3 +1,4 @@
 pub mod View
 pub mod Standing
 pub mod Doing
+pub mod Looking

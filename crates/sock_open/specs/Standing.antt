@@ -1,14 +1,18 @@
 -- What holds of an open socket and its pipes between its calls (own choice).
 use Rattle.std.specs.Prelude.{◌≡◌, ℕ, true, false, Option, Some, None}
+use Rattle.zq_base.specs.declared.kind.Kind.{Kind}
 use Rattle.spec_control.specs.Place.{At}
+use Rattle.pattern_laws.specs.Peers.{pattern_kind}
 use Rattle.msg_pipe.specs.Known.{Known}
 use Rattle.any_sock.specs.declared.any_sock.AnySock.{AnySock}
-use Rattle.any_sock.specs.Over.{peer_places, left_of, nothing_left}
+use Rattle.any_sock.specs.Over.{over, peer_places, left_of, nothing_left}
 use Rattle.held_ends.specs.declared.table.Place.{Place}
 use Rattle.held_ends.specs.Places.{place_at}
 use Rattle.held_ends.specs.Sound.{is_active}
 use Rattle.sock_core.specs.declared.sock.SockCore.{SockCore}
+use Rattle.sock_core.specs.Kinds.{no_ends}
 use Rattle.sock_core.specs.Standing.{standing_joins}
+use Rattle.sock_mail.specs.Holding.{KeepsElse}
 use Rattle.sock_calls.specs.Calls.{FitsCore}
 use Rattle.spec_run.specs.OpenSocket.{place_in}
 use Rattle.sock_open.specs.View.{ends_told}
@@ -31,3 +35,19 @@ module _ {W N O I : Type 0} where
   abbrev pub IsWhole : Option (SockCore AnySock W N O I) → Type 0
   IsWhole None = ⊥
   IsWhole (Some s) = left_of s.kind ≡ nothing_left
+
+-- the kind of a socket
+abbrev pub kind_told : AnySock → Kind
+kind_told s = pattern_kind (over no_ends s)
+
+module _ {W N O I : Type 0} where
+  -- its ends stay where they are, and all else of it, its kind too, but that kind's state
+  pub record KeepsAllElse (old new : SockCore AnySock W N O I) : Type 0 where
+    pub rest : KeepsElse old new
+    pub kind : kind_told new.kind ≡ kind_told old.kind
+
+  -- the same of a socket that is there
+  abbrev pub KeepsSocket : (old new : Option (SockCore AnySock W N O I)) → Type 0
+  KeepsSocket None new = ⊥
+  KeepsSocket (Some s) None = ⊥
+  KeepsSocket (Some s) (Some t) = KeepsAllElse s t

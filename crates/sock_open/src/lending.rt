@@ -4,6 +4,7 @@ ghost use Rattle.sock_calls.specs.Calls.{FitsCore, FitsPipes};
 
 use any_sock::AnySock;
 use held_ends::HeldPipes;
+use http_server::Log;
 use sock_core::{SockCore, SockHolder};
 use std::alloc::Global;
 use std::marker::PhantomData;
@@ -28,6 +29,7 @@ where
             return SockHolder {
                 pipes,
                 core,
+                did: Log::new(),
                 since: PhantomData,
             };
         }
@@ -51,6 +53,7 @@ where
     let SockHolder {
         pipes: lent,
         core,
+        did: _,
         since: _,
     } = holder;
     *pipes = lent;

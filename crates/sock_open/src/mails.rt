@@ -5,7 +5,7 @@ ghost use Rattle.spec_pattern.specs.Results.{MatchRecv};
 ghost use Rattle.any_sock.specs.Calls.{MatchChanged};
 ghost use Rattle.pub_sub.specs.XSubs.{MatchXSend, IfXBack};
 ghost use Rattle.sock_calls.specs.Calls.{LeavesOthers};
-ghost use Rattle.sock_open.specs.Standing.{Stands, IsWhole};
+ghost use Rattle.sock_open.specs.Standing.{Stands, IsWhole, KeepsSocket};
 ghost use Rattle.sock_open.specs.Doing.{MakesSome, PumpsOpen, SendsSo, ReceivesSo, ChangesSo};
 
 use crate::lending::{give_back, lend};
@@ -35,6 +35,7 @@ where
     ensures whole { OnOk result (IsWhole socket.old → IsWhole socket.new) }
     ensures stands { Stands P.known pipes.new socket.new }
     ensures others { LeavesOthers P.known socket.old socket.new pipes.old pipes.new }
+    ensures keeps { KeepsSocket socket.old socket.new }
 {
     let mut holder = lend(alloc, pipes, socket);
     let done = sock_mail::pump(&mut holder, alloc);
@@ -64,6 +65,7 @@ where
     ensures whole { IsWhole socket.new }
     ensures stands { Stands P.known pipes.new socket.new }
     ensures others { LeavesOthers P.known socket.old socket.new pipes.old pipes.new }
+    ensures keeps { KeepsSocket socket.old socket.new }
 {
     let mut holder = lend(alloc, pipes, socket);
     let done = sock_mail::send(&mut holder, alloc, message);
@@ -91,6 +93,7 @@ where
     ensures whole { MatchRecv result (Unit {0}) (λ _. IsWhole socket.new) }
     ensures stands { Stands P.known pipes.new socket.new }
     ensures others { LeavesOthers P.known socket.old socket.new pipes.old pipes.new }
+    ensures keeps { KeepsSocket socket.old socket.new }
 {
     let mut holder = lend(alloc, pipes, socket);
     let done = sock_mail::recv(&mut holder, alloc, told);
@@ -120,6 +123,7 @@ where
     ensures whole { IsWhole socket.new }
     ensures stands { Stands P.known pipes.new socket.new }
     ensures others { LeavesOthers P.known socket.old socket.new pipes.old pipes.new }
+    ensures keeps { KeepsSocket socket.old socket.new }
 {
     let mut holder = lend(alloc, pipes, socket);
     let done = sock_mail::subscribe(&mut holder, alloc, topic);
@@ -149,6 +153,7 @@ where
     ensures whole { IsWhole socket.new }
     ensures stands { Stands P.known pipes.new socket.new }
     ensures others { LeavesOthers P.known socket.old socket.new pipes.old pipes.new }
+    ensures keeps { KeepsSocket socket.old socket.new }
 {
     let mut holder = lend(alloc, pipes, socket);
     let done = sock_mail::unsubscribe(&mut holder, alloc, topic);

@@ -6,7 +6,7 @@ use Rattle.open_sock.proofs.fronts.look_fronts.Given as goal
 abbrev pub invariant-each : goal.invariant-each
 invariant-each g l = record {
   looks : LooksSoFar g.M.OpenSteps.leads g.met.M.OpenSteps.led_none g.met.M.OpenSteps.led_more g.M.OpenSteps.as_open (g.M.OpenSteps.reading l.fn.socket 0) (g.M.OpenSteps.reading l.socket l.place) l.fn.socket l.socket;
-  whole : g.M.OpenSteps.whole l.fn.socket → g.M.OpenSteps.whole l.socket;
+  whole : g.M.OpenSteps.whole l.socket;
   agrees : g.M.OpenSteps.agrees l.socket;
 }
 

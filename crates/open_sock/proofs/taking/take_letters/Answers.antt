@@ -16,7 +16,7 @@ pub each-preserved : goal.each-preserved
 each-preserved g c = record {
   takes = takes_on g.M.OpenSteps.leads g.met.M.OpenSteps.led_none g.met.M.OpenSteps.led_more g.M.OpenSteps.as_open c.each._taken _ _ _ c.each.invariant.takes
       (subst (λ (b : Bool). TakesOrNot g.M.OpenSteps.leads g.M.OpenSteps.as_open b c.each.socket c.take_letter.new.socket) c.in-Ok-true.field-0-test c.in-Ok-true.ensures.ok);
-  whole = λ w. c.take_letter.ensures.whole (c.each.invariant.whole w);
+  whole = c.take_letter.ensures.whole;
   agrees = c.take_letter.ensures.agrees;
   may = c.take_letter.ensures.may;
 }

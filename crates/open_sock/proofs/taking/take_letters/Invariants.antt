@@ -5,7 +5,7 @@ use Rattle.open_sock.proofs.taking.take_letters.Given as goal
 abbrev pub invariant-each : goal.invariant-each
 invariant-each g l = record {
   takes : TakesSoFar g.M.OpenSteps.leads g.met.M.OpenSteps.led_none g.met.M.OpenSteps.led_more g.M.OpenSteps.as_open l._taken l.fn.socket l.socket;
-  whole : g.M.OpenSteps.whole l.fn.socket → g.M.OpenSteps.whole l.socket;
+  whole : g.M.OpenSteps.whole l.socket;
   agrees : g.M.OpenSteps.agrees l.socket;
   may : g.M.OpenSteps.may_take l.socket;
 }

@@ -1,0 +1,9 @@
+pub mod SettledLemmas
+pub mod SilentLemmas
+pub mod ApartLemmas
+pub mod OwnedLemmas
+pub mod JoinLemmas
+pub mod PlacesLemmas
+pub mod AgreeLemmas
+pub mod SendLemmas
+pub mod ClosedLemmas

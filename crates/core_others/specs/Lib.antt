@@ -1,0 +1,5 @@
+pub mod Calls
+pub mod Apart
+pub mod Laws
+pub mod Coming
+pub mod Agrees

@@ -1,0 +1,58 @@
+ghost use Rattle.core_others.specs.Laws.{CallsSendNone, ClosedAreApart, ComingJoinStill, HeldPlacesAreApart, OtherPlacesStay, OthersAgree, OthersSayTheSame, OthersStayOwned, OwnedAreApart, SendsNoneAtAll, SettledWereRead};
+
+use held_ends::HeldPipes;
+
+/// A pipe that no end read that is held no more was not settled.
+pub fn pipes_settled_were_read<P: HeldPipes>(_pipes: &P)
+    ensures { SettledWereRead P.known }
+{}
+
+/// Calls on one socket leave what the moments of the caller of another say of it.
+pub fn others_say_the_same<G, N, S>()
+    ensures { OthersSayTheSame G N S }
+{}
+
+/// The ends that one socket holds are of other pipes than those of another, at each time of its calls.
+pub fn held_places_are_apart<P: HeldPipes, G, S>(_pipes: &P)
+    ensures { HeldPlacesAreApart P.known G S }
+{}
+
+/// The ends of a socket that its caller has open are of other pipes than those of another open socket.
+pub fn owned_are_apart<P: HeldPipes, W, T>(_pipes: &P)
+    ensures { OwnedAreApart W T P.known }
+{}
+
+/// A socket that its caller has open stays so behind calls on another.
+pub fn others_stay_owned<P: HeldPipes, W, T>(_pipes: &P)
+    ensures { OthersStayOwned W T P.known }
+{}
+
+/// Halves on their way to an open socket may join it still, behind calls on another that sent it none.
+pub fn coming_join_still<P: HeldPipes, C, W, G, S>(_pipes: &P)
+    ensures { ComingJoinStill C W P.known G S }
+{}
+
+/// The places of an open socket are of its ends still, behind calls on another.
+pub fn other_places_stay<G, N, S, I>()
+    ensures { OtherPlacesStay G N S I }
+{}
+
+/// A socket of a core that its caller has open agrees still, behind calls on another that sent it none.
+pub fn others_agree<P: HeldPipes, W, T>(_pipes: &P)
+    ensures { OthersAgree W T P.known }
+{}
+
+/// Calls of a socket that are no requests make no pipe, and put no end on its way.
+pub fn calls_send_none<G, N, S>()
+    ensures { CallsSendNone G N S }
+{}
+
+/// Where no end was put on its way, none was to any mailbox.
+pub fn sends_none_at_all<G, N, S>()
+    ensures { SendsNoneAtAll G N S }
+{}
+
+/// Calls that attach no end and settle no pipe leave the ends of others apart.
+pub fn closed_are_apart<P: HeldPipes>(_pipes: &P)
+    ensures { ClosedAreApart P.known }
+{}

@@ -1,0 +1,17 @@
+pub mod MailLemmas
+pub mod ReadingLemmas
+pub mod MomentLemmas
+pub mod MovesLemmas
+pub mod StandingLemmas
+pub mod PassingLemmas
+pub mod ThereLemmas
+pub mod MovedLemmas
+pub mod SealedLemmas
+pub mod StillLemmas
+pub mod RequestLemmas
+pub mod NamingLemmas
+pub mod ReadyLemmas
+pub mod BehindLemmas
+pub mod StayedLemmas
+pub mod AskLemmas
+pub mod KeepLemmas

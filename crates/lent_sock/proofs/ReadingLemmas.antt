@@ -1,0 +1,197 @@
+-- The ends of a lent socket that read on, and a look at one of them.
+use Rattle.std.specs.Prelude.{slice_index_or}
+use Rattle.std.proofs.Common.{◌≡◌, ◌<◌, ◌≤◌, ◌∙◌, ◌+◌, ◌||◌, inl, inr, ℕ, zero, suc, Bool, true, false, List, [], ◌∷◌, drop, length, Option, Some, None, refl, sym, ap, subst, true≢false, if◌then◌else◌, arith}
+use Rattle.zq_base.specs.declared.ids.EndId.{EndId}
+use Rattle.spec_pattern.specs.PipeStep.{read_through}
+use Rattle.spec_control.specs.declared.end.EndState.{EndState}
+use Rattle.spec_control.specs.declared.end.EndState.TheVariants.{Active, DelimiterGot, WaitDelimiter, AckSent, AskedOnce, AskedTwice, Gone}
+use Rattle.spec_control.specs.Place.{At}
+use Rattle.spec_control.specs.Control.{is_end, place_of, ends_of}
+use Rattle.control_laws.proofs.AskLemmas.{end_self}
+use Rattle.control_held.specs.Moments.{left_after}
+use Rattle.ctl_holder.specs.Holding.{has_end}
+use Rattle.ctl_holder.specs.Lent.{has_writer}
+use Rattle.ctl_holder.specs.declared.given.Given.{Given}
+use Rattle.ctl_holder.specs.declared.halves.Halves.{Halves}
+use Rattle.msg_pipe.specs.Known.{Known, IsThere}
+use Rattle.msg_pipe.specs.Told.{front_step}
+use Rattle.msg_pipe.specs.declared.pipes.Front.{Front}
+use Rattle.msg_pipe.specs.declared.pipes.Front.TheVariants.{Message, Empty, Delimiter}
+use Rattle.ends.specs.Rows.{Table, table}
+use Rattle.ends.specs.Runs.{DoesOne}
+use Rattle.any_sock.specs.declared.any_sock.AnySock.{AnySock}
+use Rattle.held_ends.specs.declared.table.Place.{Place}
+use Rattle.held_ends.specs.Places.{place_at, held_of, held_in, writes_in}
+use Rattle.held_ends.specs.Sound.{Fits, IsElseOf}
+use Rattle.sock_core.specs.declared.sock.SockCore.{SockCore}
+use Rattle.sock_core.specs.Has.{holding_in}
+use Rattle.sock_calls.specs.Calls.{MayJoin}
+use Rattle.spec_run.specs.OpenSocket.{SockEnd, awaits_delimiter, place_in}
+use Rattle.open_sock.specs.Reading.{ReadsOnAt}
+use Rattle.open_sock.specs.declared.found.Reader.{Reader}
+use Rattle.sock_open.specs.Standing.{kind_told}
+use Rattle.sock_open.specs.Looking.{AreButMet, HasWhole, LooksSo}
+use Rattle.sock_open.proofs.LookLemmas.{front_of, back_of, held_so, place_met}
+use Rattle.one_desk.specs.Lent.{Lent, coming_to, moments_of}
+use Rattle.lent_sock.specs.Owned.{IsLentTo, IsThereFor, MayTakeEnds, has_met_in}
+use Rattle.lent_sock.specs.Readers.{reads_on, readers_in, readers_from}
+use Rattle.lent_sock.specs.ReadersOwed.{is_there, own_ends}
+use Rattle.lent_sock.proofs.MailLemmas.{box_on, looks_on}
+
+more_than : {X : Type 0} (xs : List X) (x : X) → xs ≡ x ∷ xs → ⊥
+more_than xs x e = let n = ap length e in omega (arith, n)
+
+no_cons : {X : Type 0} (xs : List X) (x : X) → [] ≡ x ∷ xs → ⊥
+no_cons xs x e = let n = ap length e in omega (arith, n)
+
+module _ {N I : Type 0} where
+  -- what stands where an end reads on
+  pub reads_at : (ps : List (Place N I)) (k : ℕ) (e : EndId) → readers_in (drop k ps) ≡ e ∷ readers_in (drop (k + 1) ps) → (p : Place N I) × (place_at ps k ≡ Some p) × (reads_on p ≡ true) × (p.end ≡ e)
+  reads_at [] zero e h = absurd (no_cons _ e h)
+  reads_at [] (suc k) e h = absurd (no_cons _ e h)
+  reads_at (x ∷ xs) zero e h = by (reads_on x) refl where
+    by : (b : Bool) → reads_on x ≡ b → (p : Place N I) × (Some x ≡ Some p) × (reads_on p ≡ true) × (p.end ≡ e)
+    by true is =
+        let f = sym (ap (λ (b : Bool). if b then x.end ∷ readers_in xs else readers_in xs) is) ∙ h in
+        (x, refl, is, head_eq f)
+      where
+        head_eq : {xs ys : List EndId} {d : EndId} → d ∷ xs ≡ e ∷ ys → d ≡ e
+        head_eq g = Prim.grind arith
+    by false is = absurd (more_than (readers_in xs) e (sym (ap (λ (b : Bool). if b then x.end ∷ readers_in xs else readers_in xs) is) ∙ h))
+  reads_at (x ∷ xs) (suc k) e h = let q : suc k + 1 ≡ suc (k + 1) = omega arith in reads_at xs k e (h ∙ ap (λ (m : ℕ). e ∷ readers_in (drop m (x ∷ xs))) q)
+
+  readers_met : (ps qs : List (Place N I)) → AreButMet ps qs → readers_in qs ≡ readers_in ps
+  readers_met [] [] are = refl
+  readers_met [] (q ∷ qs) are = absurd are
+  readers_met (p ∷ ps) [] are = absurd are
+  readers_met (p ∷ ps) (q ∷ qs) are =
+      ap (λ (y : Place N I). if reads_on y then y.end ∷ readers_in qs else readers_in qs) are.0.same
+      ∙ ap (λ (l : List EndId). if reads_on p then p.end ∷ l else l) (readers_met ps qs are.1)
+
+  pub reading_met : (ps qs : List (Place N I)) → AreButMet ps qs → (n : ℕ) → readers_in (drop n qs) ≡ readers_in (drop n ps)
+  reading_met ps qs are zero = readers_met ps qs are
+  reading_met [] [] are (suc n) = refl
+  reading_met [] (q ∷ qs) are (suc n) = absurd are
+  reading_met (p ∷ ps) [] are (suc n) = absurd are
+  reading_met (p ∷ ps) (q ∷ qs) are (suc n) = reading_met ps qs are.1 n
+
+  -- an end that stands at a place and is held is among those held
+  pub has_held : (ps : List (Place N I)) (k : ℕ) (p : Place N I) → place_at ps k ≡ Some p → p.held ≡ true → has_end p.end (held_in ps) ≡ true
+  has_held [] k p at h = absurd (none_some at) where
+    none_some : {x : Place N I} → None ≡ Some x → ⊥
+    none_some e = Prim.grind arith
+  has_held (x ∷ xs) zero p at h =
+      let e : x ≡ p = some_eq at in
+      ap (λ (b : Bool). has_end p.end (if b then held_of x ∷ held_in xs else held_in xs)) (ap (λ (y : Place N I). y.held) e ∙ h)
+      ∙ ap (λ (y : Place N I). has_end p.end (held_of y ∷ held_in xs)) e ∙ or_true (is_end p.end p.end) (has_end p.end (held_in xs)) (end_self p.end)
+    where
+      some_eq : {x y : Place N I} → Some x ≡ Some y → x ≡ y
+      some_eq e = Prim.grind arith
+
+      or_true : (b c : Bool) → b ≡ true → b || c ≡ true
+      or_true true c h = refl
+      or_true false c h = absurd (true≢false (sym h))
+  has_held (x ∷ xs) (suc k) p at h = by (has_held xs k p at h) x.held refl where
+    by : has_end p.end (held_in xs) ≡ true → (b : Bool) → x.held ≡ b → has_end p.end (if x.held then held_of x ∷ held_in xs else held_in xs) ≡ true
+    by rest true is = ap (λ (b : Bool). has_end p.end (if b then held_of x ∷ held_in xs else held_in xs)) is ∙ or_second (is_end p.end x.end) (has_end p.end (held_in xs)) rest where
+      or_second : (b c : Bool) → c ≡ true → b || c ≡ true
+      or_second true c h = refl
+      or_second false c h = h
+    by rest false is = ap (λ (b : Bool). has_end p.end (if b then held_of x ∷ held_in xs else held_in xs)) is ∙ rest
+
+-- an end that reads on has its writing half
+reader_writes : (s : EndState) → awaits_delimiter (At s) ≡ true → has_writer (At s) ≡ true
+reader_writes Active h = refl
+reader_writes DelimiterGot h = refl
+reader_writes WaitDelimiter h = refl
+reader_writes AckSent h = absurd (true≢false (sym h))
+reader_writes AskedOnce h = refl
+reader_writes AskedTwice h = absurd (true≢false (sym h))
+reader_writes Gone h = absurd (true≢false (sym h))
+
+module _ {W N O I S T : Type 0} (K : Known S O I N) (before : S) (d : Lent (Given N O I) N T) (n : ℕ) where
+  whole_at : (s : SockCore AnySock W N O I) → IsLentTo K before d n s → (reader : Reader) → readers_in (drop reader.place s.ends.places.items) ≡ reader.end ∷ readers_in (drop (reader.place + 1) s.ends.places.items)
+      → writes_in s.ends.places.items reader.end ≡ true
+  whole_at s is reader reads =
+      let ps = s.ends.places.items in
+      let o = s.number.0 in
+      let left = left_after o (moments_of d) in
+      let r = reads_at ps reader.place reader.end reads in
+      let p = r.0 in
+      let held = front_of p.held (awaits_delimiter (At p.state)) r.2 in
+      let awaits = back_of p.held (awaits_delimiter (At p.state)) r.2 in
+      let here : has_end p.end ((holding_in (kind_told s.kind) s).ends o) ≡ true = ap (has_end p.end) (own_ends K before d n s is) ∙ has_held ps reader.place p r.1 held in
+      let at : place_of left p.end ≡ At p.state = is_there left (ends_of o left) p.end p.state (ap (λ (l : List SockEnd). place_in l p.end) (sym is.owned.ends_are) ∙ is.owned.stands.told reader.place p r.1 held) in
+      ap (writes_in ps) (sym r.3) ∙ is.owned.has.writes o p.end is.owned.held here ∙ ap has_writer at ∙ reader_writes p.state awaits
+
+  pub has_whole : (s : Option (SockCore AnySock W N O I)) → IsThereFor K before d n s → (reader : Reader) → ReadsOnAt (readers_from s) reader → HasWhole reader.end s
+  has_whole None is reader reads = absurd is
+  has_whole (Some s) is reader reads = whole_at s is reader reads
+
+module _ {W N O I S : Type 0} (K : Known S O I N) (e : EndId) (found : Front) (before now : S) where
+  pub readings_stay : (old new : Option (SockCore AnySock W N O I)) → LooksSo K e found before old now new → (k : ℕ) → readers_from new k ≡ readers_from old k
+  readings_stay None new h k = absurd h
+  readings_stay (Some s) None h k = absurd h
+  readings_stay (Some s) (Some t) h k = reading_met s.ends.places.items t.ends.places.items h.places k
+
+  pub met_so : (old new : Option (SockCore AnySock W N O I)) → LooksSo K e found before old now new → found ≡ Delimiter → has_met_in new e ≡ true
+  met_so None new h is = absurd h
+  met_so (Some s) None h is = absurd h
+  met_so (Some s) (Some t) h is = h.met is
+
+-- ---- halves on their way may join still
+
+module _ {N O I S : Type 0} (K : Known S O I N) where
+  step_keeps : (q : EndId) (f : Front) (a b : Table S O I) → DoesOne K a (front_step q f) b → ((m : N) → IsThere K a.pipes m → IsThere K b.pipes m) × ((h : O) → IsThere K a.pipes (K.out_name h) → K.writing b.pipes h ≡ K.writing a.pipes h)
+  step_keeps q Message a b (inl out) = absurd out.does
+  step_keeps q Empty a b (inl out) = absurd out.does
+  step_keeps q Delimiter a b (inl out) = absurd out.does
+  step_keeps q f a b (inr in_) = (in_.keeps.there, in_.keeps.outs)
+
+module _ {W N O I S : Type 0} (K : Known S O I N) (e : EndId) (found : Front) (before now : S) where
+  fits_still : (s t : SockCore AnySock W N O I) → LooksSo K e found before (Some s) now (Some t) → (h : Halves O I) → Fits K before s.ends.places.items h → Fits K now t.ends.places.items h
+  fits_still s t looks h fits =
+      let x = looks.does in
+      let k = step_keeps K (read_through e) found (table before s.ends.rows.items) x.0 x.1 in
+      let same : now ≡ x.0.pipes = ap (λ (y : Table S O I). y.pipes) x.2 in
+      record {
+        out_there = subst (λ (y : S). IsThere K y (K.out_name h.out)) (sym same) (k.0 (K.out_name h.out) fits.out_there);
+        in_there = subst (λ (y : S). IsThere K y (K.in_name h.input)) (sym same) (k.0 (K.in_name h.input) fits.in_there);
+        unsealed = ap (λ (y : S). (K.writing y h.out).sealed) same ∙ ap (λ v. v.sealed) (k.1 h.out fits.out_there) ∙ fits.unsealed;
+        crossed = fits.crossed;
+        others = λ j y at held.
+            let o = place_met s.ends.places.items t.ends.places.items looks.places j y at in
+            subst (λ (z : Place N I). IsElseOf K z h) (sym o.2.same) (else_of o.0 y.met (fits.others j o.0 o.1 (sym (held_so o.0 y o.2) ∙ held)));
+      }
+    where
+      else_of : (p : Place N I) (b : Bool) → IsElseOf K p h → IsElseOf K (record p { met = b }) h
+      else_of p b is = record { outs = is.outs; ins = is.ins; reads = is.reads; writes = is.writes }
+
+  joins_still : (old new : Option (SockCore AnySock W N O I)) → LooksSo K e found before old now new → (h : Halves O I) → MayJoin K before old h → MayJoin K now new h
+  joins_still None new looks h may = absurd looks
+  joins_still (Some s) None looks h may = absurd looks
+  joins_still (Some s) (Some t) looks h may = fits_still s t looks h may
+
+module _ {W N O I S T : Type 0} (K : Known S O I N) (e : EndId) (found : Front) (before now : S) where
+  pub may_still : (d : Lent (Given N O I) N T) (n : ℕ) (old new : Option (SockCore AnySock W N O I)) → LooksSo K e found before old now new
+      → MayTakeEnds K (record { pipes = before; desk = d; socket = old; since = n }) → MayTakeEnds K (record { pipes = now; desk = d; socket = new; since = n })
+  may_still d n old new looks may = record {
+    distinct = may.distinct;
+    binds = λ x h coming out input. joins_still K e found before now old new looks h (may.binds x h (subst (λ (b : ℕ). coming_to d b x ≡ true) (box_on K d n before now old new (looks_on K e found before now old new looks)) coming) out input);
+  }
+
+module _ {N I : Type 0} where
+  -- a walk over the places finds none from here on
+  pub none_from : (ps : List (Place N I)) (k : ℕ) → length ps ≤ k → readers_in (drop k ps) ≡ []
+  none_from [] zero le = refl
+  none_from [] (suc k) le = refl
+  none_from (x ∷ xs) zero le = absurd (omega (arith, le))
+  none_from (x ∷ xs) (suc k) le = none_from xs k (omega (arith, le))
+
+  -- what the walk does at a place
+  pub at_place : (ps : List (Place N I)) (k : ℕ) (p : Place N I) → k < length ps → p ≡ slice_index_or ps k p → readers_in (drop k ps) ≡ (if reads_on p then p.end ∷ readers_in (drop (k + 1) ps) else readers_in (drop (k + 1) ps))
+  at_place [] k p lt e = absurd (omega (arith, lt))
+  at_place (x ∷ xs) zero p lt e = ap (λ (y : Place N I). if reads_on y then y.end ∷ readers_in xs else readers_in xs) (sym e)
+  at_place (x ∷ xs) (suc k) p lt e =
+      let q : suc (k + 1) ≡ suc k + 1 = omega arith in
+      at_place xs k p (omega (arith, lt)) e ∙ ap (λ (m : ℕ). if reads_on p then p.end ∷ readers_in (drop m (x ∷ xs)) else readers_in (drop m (x ∷ xs))) q

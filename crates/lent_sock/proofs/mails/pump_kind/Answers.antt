@@ -1,0 +1,41 @@
+use Rattle.std.proofs.Common.{◌∙◌, length, ap}
+use Rattle.open_sock.proofs.StepLemmas.{no_moments}
+use Rattle.spec_run.specs.SocketCall.{step_acts}
+use Rattle.sock_open.specs.View.{open_view}
+use Rattle.sock_open.proofs.ViewLemmas.{ok_more, err_more}
+use Rattle.lent_sock.specs.Owned.{parts, box_of}
+use Rattle.lent_sock.proofs.MailLemmas.{keeps_on, leads_on, there_on, box_on}
+use Rattle.lent_sock.proofs.mails.pump_kind.Goals as goal
+
+pub returns-clause-ok : goal.returns-clause-ok
+returns-clause-ok g c =
+    let K = g.P.Pipes.known in
+    let l = c.args.lent.now in
+    let m = c.pump.new in
+    let n = length l.since.items in
+    let on = keeps_on l.socket.core m.socket c.pump.ensures.keeps in
+    ok_more c.pump.result (λ h. let x = h (box_of (parts l.pipes l.desk l.socket.core l.since.items)) in record {
+      steps = x.steps;
+      pattern = x.pattern;
+      pumps = x.pumps;
+      led = leads_on K l.desk n l.pipes m.pipes l.socket.core m.socket (step_acts x.steps) (no_moments x.steps) c.requires.agrees c.pump.ensures.others on;
+      new_is = ap (λ b. open_view b m.socket) (box_on K l.desk n l.pipes m.pipes l.socket.core m.socket on) ∙ x.new_is;
+    }) c.pump.ensures.ok
+
+pub returns-clause-err : goal.returns-clause-err
+returns-clause-err g c =
+    let K = g.P.Pipes.known in
+    let l = c.args.lent.now in
+    let m = c.pump.new in
+    let n = length l.since.items in
+    let on = keeps_on l.socket.core m.socket c.pump.ensures.keeps in
+    err_more c.pump.result (λ h. record { acts = step_acts h.steps; led = leads_on K l.desk n l.pipes m.pipes l.socket.core m.socket (step_acts h.steps) (no_moments h.steps) c.requires.agrees c.pump.ensures.others on }) c.pump.ensures.err
+
+pub returns-clause-agrees : goal.returns-clause-agrees
+returns-clause-agrees g c =
+    let K = g.P.Pipes.known in
+    let l = c.args.lent.now in
+    let m = c.pump.new in
+    let n = length l.since.items in
+    let on = keeps_on l.socket.core m.socket c.pump.ensures.keeps in
+    there_on K l.desk n l.pipes m.pipes l.socket.core m.socket c.requires.agrees c.pump.ensures.stands on

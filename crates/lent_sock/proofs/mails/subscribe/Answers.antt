@@ -1,0 +1,48 @@
+use Rattle.std.proofs.Common.{◌∙◌, List, [], append-nil, length, refl, sym, ap}
+use Rattle.spec_pattern.specs.PatternCalls.{Subscribe}
+use Rattle.spec_pattern.specs.declared.answers.Skip.{Skip}
+use Rattle.spec_run.specs.SocketCall.{step_acts, ChangesOpen}
+use Rattle.open_sock.specs.Steps.{CallsSo, LeadsSome}
+use Rattle.open_sock.proofs.StepLemmas.{no_moments}
+use Rattle.sock_open.specs.View.{open_view}
+use Rattle.lent_sock.specs.Owned.{parts, box_of, view_of, moments_since}
+use Rattle.lent_sock.specs.Leads.{Leads}
+use Rattle.lent_sock.proofs.MailLemmas.{keeps_on, leads_on, there_on, box_on, changed_ok, changed_err}
+use Rattle.lent_sock.proofs.mails.subscribe.Goals as goal
+
+pub returns-clause-ok : goal.returns-clause-ok
+returns-clause-ok g c =
+    let K = g.P.Pipes.known in
+    let l = c.args.lent.now in
+    let m = c.subscribe.new in
+    let n = length l.since.items in
+    let on = keeps_on l.socket.core m.socket c.subscribe.ensures.keeps in
+    changed_ok c.subscribe.result c.changed_reply.result _ _ _
+    (λ answer. (told : List Skip) → CallsSo (Leads K) view_of moments_since (ChangesOpen Subscribe c.args.topic.now) answer told told (parts l.pipes l.desk l.socket.core l.since.items) (parts m.pipes l.desk m.socket l.since.items))
+    c.subscribe.ensures.step c.changed_reply.ensures
+    (λ a h told. let x = h (box_of (parts l.pipes l.desk l.socket.core l.since.items)) in record {
+      acts = step_acts x.steps;
+      skips = [];
+      does = λ line pump all over ends. record { steps = x.steps; changed = a; pattern = x.pattern; changes = x.changes; call_is = refl; skips_are = refl; answer_is = refl; new_is = ap (λ b. open_view b m.socket) (box_on K l.desk n l.pipes m.pipes l.socket.core m.socket on) ∙ x.new_is };
+      tells = sym (append-nil told);
+      led = leads_on K l.desk n l.pipes m.pipes l.socket.core m.socket (step_acts x.steps) (no_moments x.steps) c.requires.agrees c.subscribe.ensures.others on;
+    })
+
+pub returns-clause-err : goal.returns-clause-err
+returns-clause-err g c =
+    let K = g.P.Pipes.known in
+    let l = c.args.lent.now in
+    let m = c.subscribe.new in
+    let n = length l.since.items in
+    let on = keeps_on l.socket.core m.socket c.subscribe.ensures.keeps in
+    changed_err c.subscribe.result c.changed_reply.result _ _ _ (LeadsSome (Leads K) (parts l.pipes l.desk l.socket.core l.since.items) (parts m.pipes l.desk m.socket l.since.items)) c.subscribe.ensures.step c.changed_reply.ensures
+    (λ h. record { acts = step_acts h.steps; led = leads_on K l.desk n l.pipes m.pipes l.socket.core m.socket (step_acts h.steps) (no_moments h.steps) c.requires.agrees c.subscribe.ensures.others on }) (λ h. record { acts = step_acts h.steps; led = leads_on K l.desk n l.pipes m.pipes l.socket.core m.socket (step_acts h.steps) (no_moments h.steps) c.requires.agrees c.subscribe.ensures.others on })
+
+pub returns-clause-agrees : goal.returns-clause-agrees
+returns-clause-agrees g c =
+    let K = g.P.Pipes.known in
+    let l = c.args.lent.now in
+    let m = c.subscribe.new in
+    let n = length l.since.items in
+    let on = keeps_on l.socket.core m.socket c.subscribe.ensures.keeps in
+    there_on K l.desk n l.pipes m.pipes l.socket.core m.socket c.requires.agrees c.subscribe.ensures.stands on

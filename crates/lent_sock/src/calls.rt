@@ -1,0 +1,206 @@
+ghost use Rattle.std.specs.Prelude.{◌≡◌, ◌++◌, true, false, List, IfOk, OnErr};
+ghost use Rattle.spec_control.specs.Place.{looks};
+ghost use Rattle.spec_control.specs.Control.{id, place_of};
+ghost use Rattle.spec_control.specs.declared.request.Req.TheVariants.{Bind, Connect, Unbind};
+ghost use Rattle.spec_control.specs.declared.request.Req.TheVariants.{Disconnect, Close};
+ghost use Rattle.control_held.specs.Moments.{Moment, left_after};
+ghost use Rattle.ctl_holder.specs.Holding.{has_end};
+ghost use Rattle.ctl_plane.specs.Asking.{IsInproc};
+ghost use Rattle.ctl_plane.specs.Coming.{SendsEnds};
+ghost use Rattle.ctl_plane.specs.Desk.{AsksOnce, DelimitsOrNot};
+ghost use Rattle.any_sock.specs.Over.{over};
+ghost use Rattle.sock_calls.specs.Calls.{owner_of, holding_of, HasNone};
+ghost use Rattle.sock_calls.specs.Passing.{Passes};
+ghost use Rattle.sock_open.specs.Standing.{IsWhole, kind_told};
+ghost use Rattle.one_desk.specs.Lent.{moments_of};
+ghost use Rattle.lent_sock.specs.Owned.{parts, Agrees};
+ghost use Rattle.lent_sock.specs.Called.{IsCalled};
+
+use crate::sock::LentSock;
+use ctl_plane::Calls;
+use held_ends::HeldPipes;
+use spec_control::Reply;
+use std::alloc::{AllocError, Global};
+use zq_base::{EndId, Endpoint};
+
+/// Binds a name.
+pub(crate) fn call_bind<P: HeldPipes + Drop>(
+    alloc: Global,
+    lent: &mut LentSock<P>,
+    at: &Endpoint,
+) -> Result<Reply, AllocError>
+where
+    P::Name: Drop,
+    P::Waker: Drop,
+    requires agrees { Agrees P.known (parts lent.old.pipes lent.old.desk lent.old.socket.core lent.old.since.items) }
+    requires inproc { IsInproc at.now }
+    ensures ok { IfOk result (λ reply. AsksOnce lent.old.desk.caller
+        (Bind (id (owner_of lent.old.socket.core)) at.now) reply
+        (moments_of lent.old.desk) (moments_of lent.new.desk)) }
+    ensures err { OnErr result (moments_of lent.new.desk ≡ moments_of lent.old.desk) }
+    ensures given { lent.new.desk.past.given ≡ lent.old.desk.past.given }
+    ensures since { lent.new.since ≡ lent.old.since }
+    ensures called { IsCalled P.known lent.old.pipes lent.old.desk lent.old.socket.core
+        lent.new.pipes lent.new.desk lent.new.socket.core }
+    ensures whole { IsWhole lent.old.socket.core → IsWhole lent.new.socket.core }
+    ensures passes { (more : List (Moment P.Name P.Story)) →
+        moments_of lent.new.desk ≡ moments_of lent.old.desk ++ more →
+        Passes over lent.old.socket.core lent.new.socket.core more }
+{
+    let done = lent.socket.bind(alloc, &mut lent.pipes, &mut lent.desk, at);
+    lent.desk.is_of_one_order();
+    done
+}
+
+/// Connects to a name.
+pub(crate) fn call_connect<P: HeldPipes + Drop>(
+    alloc: Global,
+    lent: &mut LentSock<P>,
+    at: &Endpoint,
+) -> Result<Reply, AllocError>
+where
+    P::Name: Drop,
+    P::Waker: Drop,
+    requires agrees { Agrees P.known (parts lent.old.pipes lent.old.desk lent.old.socket.core lent.old.since.items) }
+    requires inproc { IsInproc at.now }
+    ensures ok { IfOk result (λ reply. AsksOnce lent.old.desk.caller
+        (Connect (id (owner_of lent.old.socket.core)) at.now) reply
+        (moments_of lent.old.desk) (moments_of lent.new.desk)) }
+    ensures err { OnErr result (moments_of lent.new.desk ≡ moments_of lent.old.desk) }
+    ensures given { lent.new.desk.past.given ≡ lent.old.desk.past.given }
+    ensures since { lent.new.since ≡ lent.old.since }
+    ensures called { IsCalled P.known lent.old.pipes lent.old.desk lent.old.socket.core
+        lent.new.pipes lent.new.desk lent.new.socket.core }
+    ensures whole { IsWhole lent.old.socket.core → IsWhole lent.new.socket.core }
+    ensures passes { (more : List (Moment P.Name P.Story)) →
+        moments_of lent.new.desk ≡ moments_of lent.old.desk ++ more →
+        Passes over lent.old.socket.core lent.new.socket.core more }
+{
+    let done = lent
+        .socket
+        .connect(alloc, &mut lent.pipes, &mut lent.desk, at);
+    lent.desk.is_of_one_order();
+    done
+}
+
+/// Strikes the first bind to an endpoint.
+pub(crate) fn call_unbind<P: HeldPipes + Drop>(
+    alloc: Global,
+    lent: &mut LentSock<P>,
+    at: &Endpoint,
+) -> Result<Reply, AllocError>
+where
+    P::Name: Drop,
+    P::Waker: Drop,
+    requires agrees { Agrees P.known (parts lent.old.pipes lent.old.desk lent.old.socket.core lent.old.since.items) }
+    ensures ok { IfOk result (λ reply. AsksOnce lent.old.desk.caller
+        (Unbind (id (owner_of lent.old.socket.core)) at.now) reply
+        (moments_of lent.old.desk) (moments_of lent.new.desk)) }
+    ensures err { OnErr result (moments_of lent.new.desk ≡ moments_of lent.old.desk) }
+    ensures given { lent.new.desk.past.given ≡ lent.old.desk.past.given }
+    ensures since { lent.new.since ≡ lent.old.since }
+    ensures called { IsCalled P.known lent.old.pipes lent.old.desk lent.old.socket.core
+        lent.new.pipes lent.new.desk lent.new.socket.core }
+    ensures whole { IsWhole lent.old.socket.core → IsWhole lent.new.socket.core }
+    ensures passes { (more : List (Moment P.Name P.Story)) →
+        moments_of lent.new.desk ≡ moments_of lent.old.desk ++ more →
+        Passes over lent.old.socket.core lent.new.socket.core more }
+{
+    let done = lent
+        .socket
+        .unbind(alloc, &mut lent.pipes, &mut lent.desk, at);
+    lent.desk.is_of_one_order();
+    done
+}
+
+/// Strikes the first connect to an endpoint.
+pub(crate) fn call_disconnect<P: HeldPipes + Drop>(
+    alloc: Global,
+    lent: &mut LentSock<P>,
+    at: &Endpoint,
+) -> Result<Reply, AllocError>
+where
+    P::Name: Drop,
+    P::Waker: Drop,
+    requires agrees { Agrees P.known (parts lent.old.pipes lent.old.desk lent.old.socket.core lent.old.since.items) }
+    ensures ok { IfOk result (λ reply. AsksOnce lent.old.desk.caller
+        (Disconnect (id (owner_of lent.old.socket.core)) at.now) reply
+        (moments_of lent.old.desk) (moments_of lent.new.desk)) }
+    ensures err { OnErr result (moments_of lent.new.desk ≡ moments_of lent.old.desk) }
+    ensures given { lent.new.desk.past.given ≡ lent.old.desk.past.given }
+    ensures since { lent.new.since ≡ lent.old.since }
+    ensures called { IsCalled P.known lent.old.pipes lent.old.desk lent.old.socket.core
+        lent.new.pipes lent.new.desk lent.new.socket.core }
+    ensures whole { IsWhole lent.old.socket.core → IsWhole lent.new.socket.core }
+    ensures passes { (more : List (Moment P.Name P.Story)) →
+        moments_of lent.new.desk ≡ moments_of lent.old.desk ++ more →
+        Passes over lent.old.socket.core lent.new.socket.core more }
+{
+    let done = lent
+        .socket
+        .disconnect(alloc, &mut lent.pipes, &mut lent.desk, at);
+    lent.desk.is_of_one_order();
+    done
+}
+
+/// Tells that an end is at the delimiter of the pipe that it reads. Answers whether its state is one in
+/// which that is looked at; else nothing happens.
+pub(crate) fn call_meet<P: HeldPipes + Drop>(
+    alloc: Global,
+    lent: &mut LentSock<P>,
+    end: EndId,
+) -> bool
+where
+    P::Name: Drop,
+    P::Waker: Drop,
+    requires agrees { Agrees P.known (parts lent.old.pipes lent.old.desk lent.old.socket.core lent.old.since.items) }
+    requires here { has_end end ((holding_of kind_told lent.old.socket.core).ends
+        (owner_of lent.old.socket.core)) ≡ true }
+    requires at { (holding_of kind_told lent.old.socket.core).at_delimiter end ≡ true }
+    ensures found { DelimitsOrNot lent.old.desk.caller end result
+        (moments_of lent.old.desk) (moments_of lent.new.desk) }
+    ensures not_looked { result ≡ false →
+        looks (place_of (left_after (owner_of lent.old.socket.core)
+        (moments_of lent.old.desk)) end) ≡ false }
+    ensures given { lent.new.desk.past.given ≡ lent.old.desk.past.given }
+    ensures since { lent.new.since ≡ lent.old.since }
+    ensures called { IsCalled P.known lent.old.pipes lent.old.desk lent.old.socket.core
+        lent.new.pipes lent.new.desk lent.new.socket.core }
+    ensures whole { IsWhole lent.old.socket.core → IsWhole lent.new.socket.core }
+    ensures passes { (more : List (Moment P.Name P.Story)) →
+        moments_of lent.new.desk ≡ moments_of lent.old.desk ++ more →
+        Passes over lent.old.socket.core lent.new.socket.core more }
+{
+    let done = lent
+        .socket
+        .meet(alloc, &mut lent.pipes, &mut lent.desk, end);
+    lent.desk.is_of_one_order();
+    done
+}
+
+/// Closes the socket: its ends are on their way to the reaper.
+pub(crate) fn call_close<P: HeldPipes + Drop>(
+    alloc: Global,
+    lent: &mut LentSock<P>,
+) -> Result<Reply, AllocError>
+where
+    P::Name: Drop,
+    P::Waker: Drop,
+    requires agrees { Agrees P.known (parts lent.old.pipes lent.old.desk lent.old.socket.core lent.old.since.items) }
+    ensures ok { IfOk result (λ reply. AsksOnce lent.old.desk.caller
+        (Close (id (owner_of lent.old.socket.core))) reply
+        (moments_of lent.old.desk) (moments_of lent.new.desk)) }
+    ensures none { IfOk result (λ _. HasNone lent.new.socket.core) }
+    ensures given { IfOk result (λ _. SendsEnds P.known lent.new.pipes
+        (Close (id (owner_of lent.old.socket.core)))
+        lent.old.desk.past.given lent.new.desk.past.given) }
+    ensures err { OnErr result ((moments_of lent.new.desk ≡ moments_of lent.old.desk)
+        × (lent.new.desk.past.given ≡ lent.old.desk.past.given)) }
+    ensures since { lent.new.since ≡ lent.old.since }
+    ensures called { IsCalled P.known lent.old.pipes lent.old.desk lent.old.socket.core
+        lent.new.pipes lent.new.desk lent.new.socket.core }
+{
+    let done = lent.socket.close(alloc, &mut lent.pipes, &mut lent.desk);
+    lent.desk.is_of_one_order();
+    done
+}

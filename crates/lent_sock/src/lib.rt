@@ -1,0 +1,14 @@
+//! A socket that is lent to its caller for a line, with the pipes of its ends, over the control plane
+//! whose callers take turns.
+#![tactic(auto)]
+
+mod answers;
+mod asks;
+mod calls;
+mod kinds;
+mod looks;
+mod mails;
+mod readers;
+mod sock;
+
+pub use sock::LentSock;

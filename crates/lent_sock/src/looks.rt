@@ -1,0 +1,38 @@
+ghost use Rattle.std.specs.Prelude.{◌≡◌, true};
+ghost use Rattle.msg_pipe.specs.declared.pipes.Front.TheVariants.{Delimiter};
+ghost use Rattle.open_sock.specs.Reading.{ReadsOnAt, ReadingStays};
+ghost use Rattle.open_sock.specs.Steps.{LooksAtFront};
+ghost use Rattle.sock_open.specs.Standing.{IsWhole};
+ghost use Rattle.lent_sock.specs.Owned.{parts, view_of, has_met_in, Agrees, MayTakeEnds};
+ghost use Rattle.lent_sock.specs.Leads.{Leads};
+ghost use Rattle.lent_sock.specs.Readers.{readers_from};
+
+use crate::sock::LentSock;
+use held_ends::HeldPipes;
+use msg_pipe::Front;
+use open_sock::Reader;
+use std::alloc::Global;
+
+/// Looks at the front of the pipe that an end reads which reads on, and takes nothing.
+pub(crate) fn look<P: HeldPipes + Drop>(
+    alloc: Global,
+    lent: &mut LentSock<P>,
+    reader: Reader,
+) -> Front
+where
+    P::Name: Drop,
+    P::Waker: Drop,
+    requires agrees { Agrees P.known (parts lent.old.pipes lent.old.desk lent.old.socket.core lent.old.since.items) }
+    requires reads { ReadsOnAt (readers_from lent.old.socket.core) reader }
+    ensures looked { LooksAtFront (Leads P.known) view_of reader.end result
+        (parts lent.old.pipes lent.old.desk lent.old.socket.core lent.old.since.items)
+        (parts lent.new.pipes lent.new.desk lent.new.socket.core lent.new.since.items) }
+    ensures met { result ≡ Delimiter → has_met_in lent.new.socket.core reader.end ≡ true }
+    ensures reading { ReadingStays (readers_from lent.old.socket.core) (readers_from lent.new.socket.core) }
+    ensures whole { IsWhole lent.old.socket.core → IsWhole lent.new.socket.core }
+    ensures agrees { Agrees P.known (parts lent.new.pipes lent.new.desk lent.new.socket.core lent.new.since.items) }
+    ensures may { MayTakeEnds P.known (parts lent.old.pipes lent.old.desk lent.old.socket.core lent.old.since.items)
+        → MayTakeEnds P.known (parts lent.new.pipes lent.new.desk lent.new.socket.core lent.new.since.items) }
+{
+    sock_open::look(alloc, &mut lent.pipes, &mut lent.socket.core, reader.end)
+}

@@ -1,0 +1,15 @@
+use any_sock::AnySock;
+use held_ends::HeldPipes;
+use http_server::Log;
+use one_desk::OneDesk;
+use sock_calls::Socket;
+
+/// A socket that its caller has open, lent with the pipes of all ends and the control plane for one
+/// call.
+pub struct LentSock<P: HeldPipes> {
+    pub pipes: P,
+    pub desk: OneDesk<P>,
+    pub socket: Socket<P, AnySock>,
+    /// A note for each moment of its caller since it was lent, for proofs alone: it takes no memory.
+    pub since: Log<(), ()>,
+}

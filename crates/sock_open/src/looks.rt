@@ -1,0 +1,38 @@
+ghost use Rattle.std.specs.Prelude.{◌≡◌, ℕ};
+ghost use Rattle.sock_calls.specs.Calls.{LeavesOthers};
+ghost use Rattle.sock_open.specs.View.{open_view};
+ghost use Rattle.sock_open.specs.Standing.{Stands, IsWhole};
+ghost use Rattle.sock_open.specs.Looking.{HasWhole, LooksSo};
+
+use crate::lending::{give_back, lend};
+use any_sock::AnySock;
+use held_ends::HeldPipes;
+use msg_pipe::Front;
+use sock_core::SockCore;
+use std::alloc::Global;
+use zq_base::EndId;
+
+/// Looks at the front of the pipe that an end reads, which is held with its writing half, and takes
+/// nothing. An end that finds the delimiter has met it.
+pub fn look<P: HeldPipes + Drop>(
+    alloc: Global,
+    pipes: &mut P,
+    socket: &mut Option<SockCore<AnySock, P::Waker, P::Name, P::Out, P::In>>,
+    end: EndId,
+) -> Front
+where
+    P::Name: Drop,
+    P::Waker: Drop,
+    requires stands { Stands P.known pipes.old socket.old }
+    requires held { HasWhole end socket.old }
+    ensures looks { LooksSo P.known end result pipes.old socket.old pipes.new socket.new }
+    ensures view { (slot : ℕ) → open_view slot socket.new ≡ open_view slot socket.old }
+    ensures whole { IsWhole socket.old → IsWhole socket.new }
+    ensures stands { Stands P.known pipes.new socket.new }
+    ensures others { LeavesOthers P.known socket.old socket.new pipes.old pipes.new }
+{
+    let mut holder = lend(alloc, pipes, socket);
+    let found = sock_mail::look(&mut holder, end);
+    give_back(holder, pipes, socket);
+    found
+}
