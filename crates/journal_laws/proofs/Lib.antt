@@ -1,0 +1,5 @@
+mod ObjectLemmas
+mod LivingLemmas
+mod RowLemmas
+mod MadeLemmas
+mod DoneLemmas

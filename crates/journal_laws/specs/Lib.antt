@@ -1,0 +1,3 @@
+pub mod ObjectsListed
+pub mod RowsListed
+pub mod JournalLaws

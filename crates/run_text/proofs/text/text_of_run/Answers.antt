@@ -1,0 +1,19 @@
+use Rattle.std.proofs.Common.{subst, sym}
+use Rattle.std.specs.Prelude.{IfOk}
+use Rattle.spec_run.specs.LineCall.{RunScript}
+use Rattle.script_actor.specs.MayAsk.{MayAskScript}
+use Rattle.run_text.specs.RunText.{TellsPlay}
+use Rattle.run_text.proofs.ToldLemmas.{tells_if, due_if}
+use Rattle.run_text.proofs.text.text_of_run.Goals as goal
+
+pub play-said-requires-clause-may : goal.play-said-requires-clause-may
+play-said-requires-clause-may g c =
+    subst MayAskScript (sym c.as_slice.ensures) (c.scripts_that_are_read_may_be_asked.ensures c.args.octets.now c.in-Ok.script c.in-Ok.ensures.ok)
+
+pub returns-in-Ok-clause-tells : goal.returns-in-Ok-clause-tells
+returns-in-Ok-clause-tells g c = tells_if _ _ c.a_script_has_one_run_journal.ensures _ c.args.octets.now c.in-Ok.script c.play-said.result c.in-Ok.ensures.ok
+    (subst (λ (x : RunScript). IfOk c.play-said.result (TellsPlay _ _ x (record { seed = c.args.seed; turns = c.args.turns }))) c.as_slice.ensures c.play-said.ensures)
+
+pub returns-in-Ok-clause-due : goal.returns-in-Ok-clause-due
+returns-in-Ok-clause-due g c = due_if _ _ c.a_script_has_one_run_journal.ensures c.scripts_are_done_in_time.ensures _ c.args.octets.now c.in-Ok.script c.play-said.result c.in-Ok.ensures.ok
+    (subst (λ (x : RunScript). IfOk c.play-said.result (TellsPlay _ _ x (record { seed = c.args.seed; turns = c.args.turns }))) c.as_slice.ensures c.play-said.ensures)

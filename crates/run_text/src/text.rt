@@ -1,0 +1,76 @@
+ghost use Rattle.std.specs.Prelude.{◌≡◌, [], IfOk};
+ghost use Rattle.script_actor.specs.MayAsk.{MayAskScript};
+ghost use Rattle.run_text.specs.RunText.{told_of, TellsPlay, TellsRun, IsRunDue};
+
+use crate::said::RunText;
+use msg_pipe::Pipes;
+use read_laws::scripts_that_are_read_may_be_asked;
+use replay_laws::a_script_has_one_run_journal;
+use run_journal::print;
+use run_script::read_run_script;
+use script_bounds::scripts_are_done_in_time;
+use spec_run::{RunActor, RunJournal};
+use std::alloc::{AllocError, Global};
+use zq_script::ReadScript;
+use zq_world::{Core, play_script};
+
+/// What is told of a journal.
+fn tell(alloc: Global, journal: &RunJournal) -> Result<RunText, AllocError>
+    ensures { IfOk result (λ said. said ≡ told_of journal.now) }
+{
+    let text = print(alloc, journal)?;
+    if journal.done {
+        return Ok(RunText::Done(text));
+    }
+    Ok(RunText::Unfinished(text))
+}
+
+/// Plays a script over a new core, and tells the journal.
+fn play<P: Pipes, W: Core<P>>(
+    alloc: Global,
+    script: &[RunActor],
+    core: &mut W,
+    seed: u64,
+    turns: u32,
+) -> Result<RunText, AllocError>
+    requires new { W.pieces core.old ≡ [] }
+    requires may { MayAskScript script.now }
+    ensures { IfOk result (TellsPlay P.Name P.Story script.now
+        (record { seed = seed; turns = turns })) }
+{
+    let journal = play_script(alloc, script, core, seed, turns)?;
+    let said = tell(alloc, &journal);
+    drop(journal);
+    said
+}
+
+/// Reads a script, plays it on one thread over a new core, in the orders that the seed draws and with
+/// so many turns at the most, and prints its journal. Want of memory alone is an error.
+pub fn text_of_run<P: Pipes, W: Core<P>>(
+    alloc: Global,
+    octets: &[u8],
+    core: &mut W,
+    seed: u64,
+    turns: u32,
+) -> Result<RunText, AllocError>
+    requires new { W.pieces core.old ≡ [] }
+    // The text is that of the script's one journal; a fault is that of octets that are no script.
+    ensures tells { IfOk result (TellsRun P.Name P.Story
+        (record { seed = seed; turns = turns }) octets.now) }
+    // And which of them is told is settled by the octets, the seed and the turns.
+    ensures due { IfOk result (IsRunDue P.Name P.Story
+        (record { seed = seed; turns = turns }) octets.now) }
+{
+    a_script_has_one_run_journal::<P::Name, P::Story>();
+    scripts_are_done_in_time::<P::Name, P::Story>();
+    scripts_that_are_read_may_be_asked();
+    match read_run_script(alloc, octets) {
+        Ok(script) => {
+            let said = play(alloc, script.as_slice(), core, seed, turns);
+            drop(script);
+            return said;
+        }
+        Err(ReadScript::Fault(fault)) => return Ok(RunText::Fault(fault)),
+        Err(ReadScript::OutOfMemory) => return Err(AllocError),
+    }
+}

@@ -1,0 +1,5 @@
+mod AskLemmas
+mod CountLemmas
+mod NameLemmas
+mod MakeLemmas
+mod BoundLemmas

@@ -1,0 +1,2 @@
+pub use Rattle.zq_world.specs.Played
+pub mod NoCore

@@ -1,0 +1,7 @@
+//! Tests of the text of a run over sockets that end.
+#![tactic(auto)]
+
+#[cfg(test)]
+mod no_core;
+#[cfg(test)]
+mod run_texts;

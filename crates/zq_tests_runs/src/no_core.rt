@@ -1,0 +1,90 @@
+//! A core that does nothing: each call of it wants memory.
+use msg_pipe::PlainPipes;
+use script_actor::{Made, Sockets};
+use spec_control::ObjState;
+use spec_pattern::Skip;
+use spec_run::{LineAnswer, LineCall};
+use std::alloc::{AllocError, AllocFailed, Global};
+use zq_base::{Kind, Options};
+use zq_world::{Core, Shown};
+
+/// A socket of it, of which none is ever made.
+#[derive(Drop)]
+pub struct NoSocket;
+
+/// The core.
+#[derive(Drop)]
+pub struct NoCore;
+
+impl Sockets<PlainPipes> for NoCore {
+    ghost use Rattle.std.specs.Prelude.{[]};
+    ghost use Rattle.zq_tests_runs.specs.NoCore.{no_socket};
+
+    type Open = NoSocket;
+
+    ghost pieces = { λ _. [] };
+
+    ghost as_open = { λ _. no_socket };
+
+    ghost agrees = { λ _ _ _. Unit {0} };
+
+    ghost was_made = { λ _ _. Unit {0} };
+
+    fn make(
+        &mut self,
+        _: Global,
+        _: usize,
+        _: Kind,
+        _: &Options,
+    ) -> Result<Made<NoSocket>, AllocError> {
+        Err(AllocError)
+    }
+
+    fn call(
+        &mut self,
+        _: Global,
+        _: usize,
+        _: &mut NoSocket,
+        _: &LineCall,
+        _: &mut Vec<Skip>,
+    ) -> Result<LineAnswer, AllocError> {
+        Err(AllocError)
+    }
+
+    fn close(
+        &mut self,
+        _: Global,
+        _: usize,
+        socket: NoSocket,
+    ) -> Result<(), AllocFailed<NoSocket>> {
+        Err(AllocFailed { value: socket })
+    }
+
+    fn term(&mut self, _: Global, _: usize) -> Result<LineAnswer, AllocError> {
+        Err(AllocError)
+    }
+}
+
+impl Core<PlainPipes> for NoCore {
+    ghost use Rattle.std.specs.Prelude.{[]};
+
+    ghost order = { λ _. [] };
+
+    fn reap_one(&mut self, _: Global, _: usize) -> Result<(), AllocError> {
+        Err(AllocError)
+    }
+
+    fn look(&mut self, _: Global, _: usize) -> Result<ObjState, AllocError> {
+        Err(AllocError)
+    }
+
+    fn ask_root(&mut self, _: Global, _: usize) -> Result<(), AllocError> {
+        Err(AllocError)
+    }
+
+    fn known(&self) {}
+
+    fn show(&self, _: Global) -> Result<Shown, AllocError> {
+        Err(AllocError)
+    }
+}
