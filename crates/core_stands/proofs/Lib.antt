@@ -1,0 +1,3 @@
+pub mod AsideLemmas
+mod CallLemmas
+mod OrderLemmas

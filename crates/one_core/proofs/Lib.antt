@@ -1,0 +1,5 @@
+mod FreshLemmas
+mod LeaveLemmas
+mod NextLemmas
+mod SmallLemmas
+mod SoundLemmas

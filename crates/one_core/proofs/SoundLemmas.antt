@@ -1,0 +1,191 @@
+-- A core goes on over an item that leaves pipes aside.
+use Rattle.std.specs.Prelude.{◌≡◌, ◌≤◌, ◌++◌, ℕ, false, List, [], ◌∷◌, length, refl}
+use Rattle.std.proofs.Common.{arith, sym, ap, ◌∙◌, subst}
+use Rattle.zq_base.specs.Ends.{PipeId}
+use Rattle.msg_pipe.specs.Known.{Known}
+use Rattle.spec_pattern.specs.PipeStep.{most_commits}
+use Rattle.spec_control.specs.declared.entry.Did.TheVariants.{Asked as DidAsk}
+use Rattle.spec_control.specs.declared.entry.Item.{Item}
+use Rattle.spec_control.specs.declared.entry.Item.TheVariants.{Event, Seen}
+use Rattle.spec_control.specs.declared.entry.SeenEmpty.TheVariants.{Nothing}
+use Rattle.spec_control.specs.declared.entry.Sight.{Sight}
+use Rattle.spec_control.specs.declared.request.Req.{Req}
+use Rattle.spec_control.specs.declared.request.Reply.{Reply}
+use Rattle.spec_control.specs.Control.{Control, begun}
+use Rattle.spec_control.specs.ControlRun.{after_all, after_item, Fits, FitsItem, IsControlRun}
+use Rattle.control_held.specs.Moments.{Moment, moments_from}
+use Rattle.spec_run.specs.Act.{Act, Said}
+use Rattle.spec_run.specs.Event.{acts_said}
+use Rattle.spec_run.specs.OwnedRun.{pipe_capacity}
+use Rattle.script_actor.specs.Piece.{Piece, piece_of, AreActsBy}
+use Rattle.zq_world.specs.CoreCalls.{LooksOnce}
+use Rattle.zq_world.specs.Played.{IsOrderly}
+use Rattle.control_held.specs.Has.{AreBy}
+use Rattle.core_tale.specs.declared.marks.PieceMark.{PieceMark}
+use Rattle.core_tale.specs.Marks.{all_told, pieces_told, TalesGoOn}
+use Rattle.core_stands.specs.Standing.{CoreStands, CoresAreOrderly}
+use Rattle.core_stands.specs.Aside.{next_moment, IsAside, AsidesGoOn, LooksAreAsides}
+use Rattle.core_stands.proofs.AsideLemmas.{moments_more, said_alone}
+use Rattle.one_desk.specs.Lent.{Lent, Asks, IsOneOrder, KeepsAside, Sees}
+use Rattle.one_core.specs.Telling.{item_marks}
+use Rattle.one_core.specs.Sound.{Core, pieces_in, HasClosed, IsCore, Requests}
+use Rattle.std.specs.Prelude.{◌==◌, Bool, true, false, refl}
+use Rattle.std.proofs.Common.{true≢false}
+use Rattle.std.proofs.lemmas.Bool.{eq-eqb, eqb-true}
+use Rattle.ctl_plane.specs.Desk.{HasWhatTheySay}
+use Rattle.zq_world.specs.CoreCalls.{IsOnlyReaper}
+use Rattle.reaper_ends.specs.declared.sockets.ClosedSockets.{ClosedSockets}
+use Rattle.reaper_ends.specs.Has.{holding_in}
+use Rattle.one_core.specs.Leaving.{moments_at, LeavesSockets}
+use Rattle.one_core.proofs.NextLemmas.{Next, last_fits, next_ask, next_look}
+use Rattle.one_core.proofs.LeaveLemmas.{look_leaves}
+use Rattle.one_core.proofs.SmallLemmas.{small_pipes}
+
+-- who is the only reaper of more calls is that of the first
+first_only : {N T : Type 0} (j : ℕ) (xs ys : List (Piece N T)) → IsOnlyReaper j (xs ++ ys) → IsOnlyReaper j xs
+first_only j [] ys only = tt
+first_only j (x ∷ xs) ys only = (only.0, first_only j xs ys only.1)
+
+-- what was told, and stands, with items in order
+record GoesOn {S O I N T : Type 0} (K : Known S O I N) (pipes : S) (pieces : List (Piece N T)) (marks : List PieceMark) (items : List (Item N T)) : Type 0 where
+  all : all_told marks ≡ length items
+  stands : CoreStands K items pipes (pieces_told marks (moments_from (begun 1) items))
+  are : pieces_told marks (moments_from (begun 1) items) ≡ pieces
+
+module _ {S O I G N T : Type 0} (K : Known S O I N) (asides : AsidesGoOn K T) (tales : TalesGoOn N T) (v : Core S G N T) (item : Item N T) (k : ℕ) (is : IsCore K v)
+    (run : IsControlRun (begun 1) (v.desk.items ++ item ∷ [])) (aside : FitsItem (after_all v.desk.items (begun 1)) item → IsAside v.desk.items item) where
+  abbrev items : List (Item N T)
+  items = v.desk.items
+
+  abbrev m : Moment N T
+  m = next_moment items item
+
+  abbrev pieces : List (Piece N T)
+  pieces = pieces_in v ++ piece_of k false (acts_said m) []
+
+  left_aside : IsAside items item
+  left_aside = aside (last_fits items item (begun 1) run).1
+
+  many : (is : List (Item N T)) (c : Control) → length (moments_from c is) ≡ length is
+  many [] c = refl
+  many (x ∷ is) c = omega (arith, many is (after_item x c))
+
+  goes_on : GoesOn K v.pipes pieces (v.marks ++ item_marks k) (items ++ item ∷ [])
+  goes_on =
+      let moments = moments_from (begun 1) items in
+      let told : all_told v.marks ≡ length moments = is.all ∙ sym (many items (begun 1)) in
+      let tale = tales v.marks moments k false (Said m ∷ []) [] told in
+      let same = moments_more items item (begun 1) in
+      let alone = said_alone m left_aside.pairs in
+      let piece : piece_of k false (Said m ∷ []) [] ≡ piece_of k false (acts_said m) [] = ap (λ (acts : List (Act N T)). piece_of k false acts []) (sym alone) in
+      let are : pieces_told (v.marks ++ item_marks k) (moments_from (begun 1) (items ++ item ∷ [])) ≡ pieces =
+      ap (λ (ms : List (Moment N T)). pieces_told (v.marks ++ item_marks k) ms) same ∙ tale.0 ∙ ap (λ (ps : List (Piece N T)). pieces_in v ++ ps) piece in
+      let stands = asides items item k v.pipes (pieces_in v) (last_fits items item (begun 1) run).0 (last_fits items item (begun 1) run).1 left_aside is.stands in record {
+        all = tale.1 ∙ ap length (sym same) ∙ many (items ++ item ∷ []) (begun 1);
+        stands = subst (λ (ps : List (Piece N T)). CoreStands K (items ++ item ∷ []) v.pipes ps) (sym are) stands;
+        are = are;
+      }
+
+  -- the core with another desk and what is told more
+  module _ (d : Lent G N T) (marks : List PieceMark) (one : d.past.workers ≡ 1) (order : d.items ≡ v.desk.items ++ item ∷ []) (told : marks ≡ v.marks ++ item_marks k) where
+    there : GoesOn K v.pipes pieces marks d.items
+    there =
+        subst (λ (ms : List PieceMark). GoesOn K v.pipes pieces ms d.items) (sym told)
+        (subst (λ (is : List (Item N T)). GoesOn K v.pipes pieces (v.marks ++ item_marks k) is) (sym order) goes_on)
+
+    pub core_goes_on : IsCore K (record { desk = d; pipes = v.pipes; marks = marks })
+    core_goes_on = record { one = one; all = there.all; stands = there.stands }
+
+    module _ (closed : ClosedSockets N O I) (were : HasClosed K v closed) (leaves : LeavesSockets k v.desk d) where
+      reaps_still : (j : ℕ) → IsOnlyReaper j (pieces_told marks (moments_from (begun 1) d.items)) → HasWhatTheySay j (moments_at j d) (holding_in K.out_name K.in_name closed)
+      reaps_still j only = by (k == j) refl
+        where
+          before : IsOnlyReaper j (pieces_in v)
+          before = first_only j (pieces_in v) (piece_of k false (acts_said m) []) (subst (λ (ps : List (Piece N T)). IsOnlyReaper j ps) there.are only)
+
+          by : (b : Bool) → (k == j) ≡ b → HasWhatTheySay j (moments_at j d) (holding_in K.out_name K.in_name closed)
+          by true e =
+              let same : k ≡ j = eqb-true k j e in
+              subst (λ (n : ℕ). HasWhatTheySay n (moments_at n d) (holding_in K.out_name K.in_name closed)) same
+              (leaves.has (holding_in K.out_name K.in_name closed) (subst (λ (n : ℕ). HasWhatTheySay n (moments_at n v.desk) (holding_in K.out_name K.in_name closed)) (sym same) (were.reaper j before)))
+          by false e =
+              subst (λ (ms : List (Moment N T)). HasWhatTheySay j ms (holding_in K.out_name K.in_name closed)) (sym (leaves.others j (λ same. true≢false (sym (eq-eqb k j same) ∙ e)))) (were.reaper j before)
+
+      pub closed_goes_on : HasClosed K (record { desk = d; pipes = v.pipes; marks = marks }) closed
+      closed_goes_on = record { reaper = reaps_still; sound = were.sound; indexed = were.indexed }
+
+    pub pieces_more : pieces_told marks (moments_from (begun 1) d.items) ≡ pieces_in v ++ piece_of k false (acts_said m) []
+    pieces_more = there.are
+
+    pub one_said : acts_said m ≡ Said m ∷ []
+    one_said = said_alone m left_aside.pairs
+
+-- ---- what they are to the run
+
+module _ {S O I G N T : Type 0} (K : Known S O I N) (asides : AsidesGoOn K T) (tales : TalesGoOn N T) (v : Core S G N T) (lent d : Lent G N T) (by : ℕ) (is : IsCore K v) (is_lent : lent ≡ record v.desk { caller = by })
+    (order : IsOneOrder d) (was : IsOneOrder v.desk) (keeps : KeepsAside lent d) (marks : List PieceMark) (told : marks ≡ v.marks ++ item_marks by) where
+  module _ (looks : LooksAreAsides N T) (sight : Sight) (sees : Sees Nothing sight lent d) where
+    at : Next v d (Seen sight)
+    at = next_look v lent d by is.one is_lent order sight sees
+
+    aside : FitsItem {N = N} {S = T} (after_all v.desk.items (begun 1)) (Seen sight) → IsAside v.desk.items (Seen sight)
+    aside fits = looks v.desk.items sight
+
+    pub look_core : IsCore K (record { desk = d; pipes = v.pipes; marks = marks })
+    look_core = core_goes_on K asides tales v (Seen sight) by is at.run aside d marks at.one at.order told
+
+    pub look_closed : (closed : ClosedSockets N O I) → HasClosed K v closed → HasClosed K (record { desk = d; pipes = v.pipes; marks = marks }) closed
+    look_closed closed were = closed_goes_on K asides tales v (Seen sight) by is at.run aside d marks at.one at.order told closed were (look_leaves v lent d by is.one is_lent was order keeps looks sight sees)
+
+    pub look_once : LooksOnce by sight.root (pieces_in v) (pieces_told marks (moments_from (begun 1) d.items))
+    look_once = record {
+      seen = next_moment v.desk.items (Seen sight);
+      look = record { sight = sight; empty_is = sees.looked_at; item_is = refl };
+      root_is = refl;
+      adds = record {
+        added = pieces_more K asides tales v (Seen sight) by is at.run aside d marks at.one at.order told
+            ∙ ap (λ (acts : List (Act N T)). pieces_in v ++ piece_of by false acts []) (one_said K asides tales v (Seen sight) by is at.run aside d marks at.one at.order told);
+        by = (sees.by ∙ ap (λ (l : Lent G N T). l.caller) is_lent, tt);
+      };
+    }
+
+  module _ (req : Req) (reply : Reply) (asks : Asks req reply lent d) (aside_of : Fits (after_all v.desk.items (begun 1)) (DidAsk req reply asks.answered) → IsAside v.desk.items (Event (record { by = lent.caller; did = DidAsk req reply asks.answered }))) where
+    abbrev asked : Item N T
+    asked = Event (record { by = lent.caller; did = DidAsk req reply asks.answered })
+
+    at_ask : Next v d asked
+    at_ask = next_ask v lent d by is.one is_lent order req reply asks
+
+    pub ask_core : IsCore K (record { desk = d; pipes = v.pipes; marks = marks })
+    ask_core = core_goes_on K asides tales v asked by is at_ask.run aside_of d marks at_ask.one at_ask.order told
+
+    pub ask_closed : LeavesSockets by v.desk d → (closed : ClosedSockets N O I) → HasClosed K v closed → HasClosed K (record { desk = d; pipes = v.pipes; marks = marks }) closed
+    ask_closed leaves closed were = closed_goes_on K asides tales v asked by is at_ask.run aside_of d marks at_ask.one at_ask.order told closed were leaves
+
+    pub ask_once : Requests by req reply (pieces_in v) (pieces_told marks (moments_from (begun 1) d.items))
+    ask_once = record {
+      asked = next_moment v.desk.items asked;
+      request = record { by = lent.caller; answered = asks.answered; item_is = refl };
+      adds = record {
+        added = pieces_more K asides tales v asked by is at_ask.run aside_of d marks at_ask.one at_ask.order told;
+        by = subst (λ (acts : List (Act N T)). AreActsBy by acts) (sym (one_said K asides tales v asked by is at_ask.run aside_of d marks at_ask.one at_ask.order told)) (ap (λ (l : Lent G N T). l.caller) is_lent, tt);
+      };
+    }
+
+-- ---- what stands
+
+pub core_known : {S O I G N T : Type 0} (K : Known S O I N) (v : Core S G N T) → IsCore K v → IsOneOrder v.desk → CoresAreOrderly K T → IsOrderly (pieces_in v) v.desk.items
+core_known {N = N} {T = T} K v is order law =
+    law v.desk.items v.pipes (pieces_in v)
+    (subst (λ (n : ℕ). IsControlRun (begun n) v.desk.items) is.one order.order.run)
+    order.order.named
+    (subst (λ (n : ℕ). AreBy [] (begun n) v.desk.items) is.one order.order.by)
+    (subst (λ (n : ℕ). (p : PipeId) → pipe_capacity (after_all v.desk.items (begun n)) p ≤ most_commits) is.one (small_pipes v.desk order)) is.stands
+
+-- ---- a core that is lent to another caller
+
+pub lent_core : {S O I G N T : Type 0} (K : Known S O I N) (v : Core S G N T) (closed : ClosedSockets N O I) (d : Lent G N T) (k : ℕ) → d ≡ record v.desk { caller = k } → IsCore K v → HasClosed K v closed →
+    IsCore K (record { desk = d; pipes = v.pipes; marks = v.marks }) × HasClosed K (record { desk = d; pipes = v.pipes; marks = v.marks }) closed
+lent_core {G = G} {N = N} {T = T} K v closed d k lent is has =
+    subst (λ (l : Lent G N T). IsCore K (record { desk = l; pipes = v.pipes; marks = v.marks }) × HasClosed K (record { desk = l; pipes = v.pipes; marks = v.marks }) closed) (sym lent)
+    (record { one = is.one; all = is.all; stands = is.stands }, record { reaper = has.reaper; sound = has.sound; indexed = has.indexed })

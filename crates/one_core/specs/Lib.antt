@@ -1,0 +1,4 @@
+pub mod Telling
+pub mod Leaving
+pub mod Sound
+pub mod Fresh

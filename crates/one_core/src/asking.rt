@@ -1,0 +1,70 @@
+ghost use Rattle.std.specs.Prelude.{◌≡◌, IfOk, OnOk, OnErr};
+ghost use Rattle.spec_control.specs.declared.request.Req.TheVariants.{AskTerm};
+ghost use Rattle.script_actor.specs.Way.{AsksToEnd};
+ghost use Rattle.zq_world.specs.CoreCalls.{AsksOnce};
+ghost use Rattle.one_core.specs.Leaving.{LeavesSockets};
+ghost use Rattle.one_core.specs.Sound.{pieces_in, IsLentOn, Requests};
+
+use crate::answers::{number_of, reply_answer};
+use crate::context::OneCore;
+use crate::telling::OneItem;
+use core_stands::{asides_go_on, root_asks_are_asides};
+use core_tale::tales_go_on;
+use msg_pipe::Pipes;
+use spec_control::Reply;
+use spec_run::LineAnswer;
+use std::alloc::{AllocError, Global};
+
+impl<P: Pipes> OneCore<P>
+where
+    P::Name: Drop,
+    P::Waker: Drop,
+{
+    // The context is asked to end, and replies.
+    fn ask(&mut self, alloc: Global, caller: usize) -> Result<Reply, AllocError>
+        ensures ok { IfOk result (λ reply.
+            Requests caller AskTerm reply (pieces_in self.old) (pieces_in self.new)) }
+        ensures err { OnErr result (IsLentOn self.old self.new) }
+        ensures pipes { self.new.pipes ≡ self.old.pipes }
+        ensures keeps { IfOk result (λ _. LeavesSockets caller self.old.desk self.new.desk) }
+    {
+        let by = number_of(caller)?;
+        asides_go_on::<P, P::Story>(&self.pipes);
+        root_asks_are_asides::<P::Name, P::Story>();
+        tales_go_on::<P::Name, P::Story>();
+        self.desk.is_of_one_order();
+        self.desk.lend(by);
+        match self.desk.ask_term(alloc) {
+            Ok(reply) => {
+                self.desk.is_of_one_order();
+                self.tale = self.tale.and(&OneItem { by: caller });
+                return Ok(reply);
+            }
+            Err(want) => return Err(want),
+        }
+    }
+
+    /// Asks the context to end (zmq_ctx_term(3)).
+    pub fn term(&mut self, alloc: Global, caller: usize) -> Result<LineAnswer, AllocError>
+        ensures ok { IfOk result (λ answer.
+            AsksToEnd caller answer (pieces_in self.old) (pieces_in self.new)) }
+        ensures err { OnErr result (IsLentOn self.old self.new) }
+        ensures pipes { self.new.pipes ≡ self.old.pipes }
+        ensures keeps { IfOk result (λ _. LeavesSockets caller self.old.desk self.new.desk) }
+    {
+        let reply = self.ask(alloc, caller)?;
+        Ok(reply_answer(reply))
+    }
+
+    /// Asks the root to end.
+    pub fn ask_root(&mut self, alloc: Global, caller: usize) -> Result<(), AllocError>
+        ensures ok { OnOk result
+            (AsksOnce caller (pieces_in self.old) (pieces_in self.new)) }
+        ensures err { OnErr result (IsLentOn self.old self.new) }
+        ensures pipes { self.new.pipes ≡ self.old.pipes }
+        ensures keeps { OnOk result (LeavesSockets caller self.old.desk self.new.desk) }
+    {
+        self.ask(alloc, caller)?;
+        Ok(())
+    }
+}

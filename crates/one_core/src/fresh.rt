@@ -1,0 +1,38 @@
+ghost use Rattle.std.specs.Prelude.{◌≡◌, ℕ, Some};
+ghost use Rattle.sock_open.specs.Standing.{IsStanding};
+ghost use Rattle.sock_open.specs.View.{open_view};
+ghost use Rattle.one_core.specs.Fresh.{open_at, IsFresh};
+
+use any_sock::AnySock;
+use held_ends::HeldPipes;
+use sock_core::{SockCore, SockHolder};
+use std::alloc::Global;
+use zq_base::{Kind, ObjId, Options};
+
+/// A socket at its making, which wakes its owner by the waker.
+pub(crate) fn fresh_socket<P>(
+    alloc: Global,
+    kind: Kind,
+    options: &Options,
+    number: ObjId,
+    waker: P::Waker,
+) -> SockCore<AnySock, P::Waker, P::Name, P::Out, P::In>
+where
+    P: HeldPipes + Drop,
+    P::Name: Drop,
+    P::Waker: Drop,
+    ensures fresh { IsFresh number.0 kind options.now result }
+    ensures stands { (pipes : P) → IsStanding P.known pipes result }
+    ensures view { (slot : ℕ) →
+        open_view slot (Some result) ≡ open_at slot number.0 kind options.now }
+{
+    let sock = AnySock::new(alloc, kind, options);
+    let holder = SockHolder::new(alloc, P::none(alloc), number, sock, waker);
+    let SockHolder {
+        pipes: _,
+        core,
+        did: _,
+        since: _,
+    } = holder;
+    core
+}

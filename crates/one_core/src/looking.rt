@@ -1,0 +1,48 @@
+ghost use Rattle.std.specs.Prelude.{◌≡◌, IfOk, OnErr};
+ghost use Rattle.zq_world.specs.CoreCalls.{LooksOnce};
+ghost use Rattle.zq_world.specs.Played.{IsOrderly};
+ghost use Rattle.one_core.specs.Leaving.{LeavesSockets};
+ghost use Rattle.one_core.specs.Sound.{pieces_in};
+
+use crate::answers::number_of;
+use crate::context::OneCore;
+use crate::telling::OneItem;
+use core_stands::{asides_go_on, cores_are_orderly, looks_are_asides};
+use core_tale::tales_go_on;
+use msg_pipe::Pipes;
+use spec_control::ObjState;
+use std::alloc::AllocError;
+
+impl<P: Pipes> OneCore<P>
+where
+    P::Name: Drop,
+    P::Waker: Drop,
+{
+    /// Looks at the root.
+    pub fn look(&mut self, caller: usize) -> Result<ObjState, AllocError>
+        ensures ok { IfOk result (λ root.
+            LooksOnce caller root (pieces_in self.old) (pieces_in self.new)) }
+        ensures err { OnErr result (self.new ≡ self.old) }
+        ensures pipes { self.new.pipes ≡ self.old.pipes }
+        ensures keeps { IfOk result (λ _. LeavesSockets caller self.old.desk self.new.desk) }
+    {
+        let by = number_of(caller)?;
+        asides_go_on::<P, P::Story>(&self.pipes);
+        looks_are_asides::<P::Name, P::Story>();
+        tales_go_on::<P::Name, P::Story>();
+        self.desk.is_of_one_order();
+        self.desk.lend(by);
+        let sight = self.desk.look_around();
+        self.desk.is_of_one_order();
+        self.tale = self.tale.and(&OneItem { by: caller });
+        Ok(sight.root)
+    }
+
+    /// What stands of it, whatever was done through it.
+    pub fn known(&self)
+        ensures { IsOrderly (pieces_in self.now) self.now.desk.items }
+    {
+        self.desk.is_of_one_order();
+        cores_are_orderly::<P, P::Story>(&self.pipes);
+    }
+}
