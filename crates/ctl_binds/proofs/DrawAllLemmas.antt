@@ -1,24 +1,28 @@
 -- That a bind draws a pair with each of the sockets that wait, or none.
-use Rattle.std.specs.Prelude.{◌≡◌, ◌<◌, ◌≤◌, ◌+◌, ◌-◌, ◌++◌, ◌∷◌, [], ℕ, true, List, All, length, map, slice_index_or, take, refl}
+use Rattle.std.specs.Prelude.{◌≡◌, ◌<◌, ◌≤◌, ◌+◌, ◌-◌, ◌++◌, ◌∷◌, [], ℕ, true, false, List, Some, All, length, map, slice_get, slice_index_or, take, refl}
 use Rattle.std.proofs.Common.{arith, sym, ap, ◌∙◌, subst}
-use Rattle.std.proofs.lemmas.List.{append-nil, length-take-le, take_all, take_more}
+use Rattle.std.proofs.lemmas.List.{append-nil, length-append, length-map, length-take-le, take_all, take_more}
+use Rattle.std.proofs.lemmas.Option.{slice_get_read}
 use Rattle.std.proofs.lemmas.List.Folds.{list_any-append}
-use Rattle.std.proofs.lemmas.List.Elements.{All-nil, All-take}
+use Rattle.std.proofs.lemmas.List.Elements.{All-nil, All-pop, All-take}
+use Rattle.zq_base.specs.declared.ids.EndId.{EndId}
 use Rattle.zq_base.specs.declared.ids.ObjId.{ObjId}
-use Rattle.spec_control.specs.Control.{is_end}
+use Rattle.spec_control.specs.Control.{end_of, is_end, next_pair}
 use Rattle.spec_control.specs.Rows.{PairRow}
 use Rattle.control_held.specs.Held.{Held}
 use Rattle.control_rows.proofs.ListLemmas.{never}
 use Rattle.ctl_holder.specs.declared.load.Load.{Load}
 use Rattle.ctl_holder.specs.Holding.{HearsNone, Holding, KeepsTurns, Stays, has_end}
+use Rattle.ctl_holder.specs.Making.{capacity_between}
 use Rattle.ctl_state.specs.declared.state.State.{State}
 use Rattle.ctl_state.specs.Stands.{Stands}
 use Rattle.ctl_joins.specs.Joined.{Gets}
+use Rattle.ctl_joins.specs.Papers.{MayMake}
 use Rattle.ctl_joins.specs.Room.{HavePlaces}
 use Rattle.ctl_joins.proofs.JoinedLemmas.{gets_stays, not_held}
 use Rattle.ctl_binds.specs.declared.batch.Drawn.{Drawn}
 use Rattle.ctl_binds.specs.declared.batch.Batch.{Batch}
-use Rattle.ctl_binds.specs.Batch.{FitsMore, held_of}
+use Rattle.ctl_binds.specs.Batch.{FitsMore, behind, held_of, row_of}
 use Rattle.ctl_binds.specs.Drawing.{AreTaken, Draws, HasPlace, IsDrawn, MayDraw, MayDrawNext, WereTaken}
 use Rattle.spec_control.specs.declared.entry.Joining.{Joining}
 use Rattle.ctl_binds.proofs.CameLemmas.{came_still}
@@ -112,6 +116,25 @@ module _ {N O I : Type 0} where
             drawn = (let room = fits.drawn in omega (arith, room, below));
             notes = record { joined = (let room = fits.notes.joined in omega (arith, room, below)); opened = (let room = fits.notes.opened in omega (arith, room, below)) };
           };
+        }
+
+        -- as many numbers were drawn as sockets were gone over
+        next_is : length t.pairs ≡ next_pair w.control + n
+        next_is =
+            let many = draws.stands.pairs.many in
+            let rows = length-append w.control.rows.pairs (map row_of b.drawn.items) in
+            let each = length-map b.drawn.items row_of in
+            let over = sym (length-map b.drawn.items (λ (d : Drawn N O I). d.o.last)) ∙ ap (λ (xs : List ObjId). length xs) draws.waiters ∙ length-take-le n ws (omega (arith, below)) in
+            omega (arith, many, rows, each, over)
+
+        pub may_make_next : (may_make : EndId → ℕ → ℕ → Type 0) → ((k : ℕ) (j : ObjId) → slice_get ws k ≡ Some j → may_make (end_of (next_pair w.control + k) false) (capacity_between w.control i.0 j.0) (capacity_between w.control j.0 i.0)) →
+            MayMake t i x (end_of (length t.pairs) false) may_make
+        may_make_next may_make makes = record {
+          control = behind (map row_of b.drawn.items) w.control;
+          stands = draws.stands;
+          first_marks = w.mine.marks;
+          last_marks = (All-pop (HasPlace s w.control) (take n ws ++ x ∷ []) (take n ws) (Some x) refl (subst (λ (xs : List ObjId). All (HasPlace s w.control) xs) more_is (All-take (HasPlace s w.control) (n + 1) ws w.theirs))).1.marks;
+          makes = subst (λ (m : ℕ). may_make (end_of m false) (capacity_between w.control i.0 x.0) (capacity_between w.control x.0 i.0)) (sym next_is) (makes n x (slice_get_read ws (length ws) n x refl below is));
         }
 
         pub one_drawn : (e : Batch N O I) (u : State (Load N O I)) (l : Holding N) → Draws out_name in_name w.control i (take n ws ++ x ∷ []) e.drawn.items e.notes s u h l → Draws out_name in_name w.control i (take (n + 1) ws) e.drawn.items e.notes s u h l

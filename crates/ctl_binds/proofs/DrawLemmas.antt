@@ -5,6 +5,7 @@ use Rattle.std.proofs.lemmas.List.{append-nil, append_assoc, length-map, length_
 use Rattle.std.proofs.lemmas.List.Concat.{flat_map-append}
 use Rattle.std.proofs.lemmas.List.Elements.{All-pop, All-push}
 use Rattle.std.proofs.lemmas.List.Folds.{list_any-append}
+use Rattle.zq_base.specs.declared.ids.EndId.{EndId}
 use Rattle.zq_base.specs.declared.ids.ObjId.{ObjId}
 use Rattle.zq_base.specs.declared.ids.PairId.{PairId}
 use Rattle.zq_base.specs.declared.kind.Kind.{Kind}
@@ -25,7 +26,7 @@ use Rattle.ctl_joins.specs.declared.papers.Papers.{Papers}
 use Rattle.ctl_joins.specs.Attaching.{AttachesFirst, held_first}
 use Rattle.ctl_joins.specs.Joined.{Gets}
 use Rattle.ctl_joins.specs.Noting.{joins_named, pipes_named}
-use Rattle.ctl_joins.specs.Papers.{AreMarked, ArePapers, HasMarks}
+use Rattle.ctl_joins.specs.Papers.{AreMarked, ArePapers, HasMarks, MayMake}
 use Rattle.ctl_joins.specs.Room.{AreOwners, HasDrawn, HavePlaces, with_drawn}
 use Rattle.ctl_binds.specs.declared.batch.Drawn.{Drawn}
 use Rattle.ctl_binds.specs.declared.batch.Batch.{Batch}
@@ -78,6 +79,10 @@ module _ {N O I : Type 0} (out_name : O → N) (in_name : I → N) (s : State (L
       last = subst (λ (y : ObjId). HasMarks (obj c.rows y.0)) (sym are.last) theirs.marks;
     }
 
+    -- what may be made for the two sockets
+    pub makes_now : (end : EndId) (may_make : EndId → ℕ → ℕ → Type 0) → MayMake s i x end may_make → MayMake s o.first o.last end may_make
+    makes_now end may_make makes = subst (λ (y : ObjId). MayMake s y o.last end may_make) (sym are.first) (subst (λ (y : ObjId). MayMake s i y end may_make) (sym are.last) makes)
+
     places_before : HavePlaces m.before o
     places_before = record {
       first_box = subst (λ (n : ℕ). n < length m.before.boxes) are.first_slot m.may.mine.box;
@@ -116,7 +121,7 @@ module _ {N O I : Type 0} (out_name : O → N) (in_name : I → N) (s : State (L
         last_number = let all = ap (λ (y : State (Load N O I)). length y.pairs) is in let push = length_push s.pairs (entry_drawn o.last o.first) in omega (arith, all, push, number)
 
         module _ (stands : Stands t (draws o.last.0 o.first.0 (behind (map row_of b.drawn.items) m.may.control))) (said : Papers) (papers : ArePapers (behind (map row_of b.drawn.items) m.may.control) o said)
-            (end : FirstEnd N O I) (l : Holding N) (attaches : AttachesFirst out_name in_name i.0 (end_of pair.0 false) said.peer.identity end k l) where
+            (end : FirstEnd N O I) (l : Holding N) (attaches : AttachesFirst out_name in_name i.0 (end_of pair.0 false) said.peer end k l) where
           abbrev d : Drawn N O I
           d = record { o = o; pair = pair; identity = said.identity; answer = end.answer; other = end.other }
 
@@ -146,22 +151,22 @@ module _ {N O I : Type 0} (out_name : O → N) (in_name : I → N) (s : State (L
                 active_more (length m.before.pairs) i.0 (map held_of ds) (held_of d) had k l below m.draws.taken.gets gets_one m.draws.taken.active attaches.active e (sym (ap (has_end e) (map-append held_of ds (d ∷ []))) ∙ here);
             turns = attaches.turned.turns ∙ append-nil k.turns ∙ m.draws.taken.turns;
             sealed = attaches.turned.sealed ∙ append-nil k.sealed ∙ m.draws.taken.sealed;
-            came = subst (λ (n : ℕ). HasJoinedMore n had l) (sym (length_push ds d)) (came_more had k l (length ds) (joins_named (end_of pair.0 false) said.peer.identity end.answer end.told) m.draws.taken.came attaches.came);
+            came = subst (λ (n : ℕ). HasJoinedMore n had l) (sym (length_push ds d)) (came_more had k l (length ds) (joins_named (end_of pair.0 false) said.peer end.answer end.told) m.draws.taken.came attaches.came);
             heard = attaches.heard ∙ m.draws.taken.heard;
           }
 
           pub draws_now : (e : Batch N O I) → e.drawn.items ≡ b.drawn.items ++ record { o = o; pair = pair; identity = said.identity; answer = end.answer; other = end.other } ∷ [] →
-              e.notes.joined.items ≡ b.notes.joined.items ++ joins_named (end_of pair.0 false) said.peer.identity end.answer end.told ∷ [] → e.notes.opened.items ≡ b.notes.opened.items ++ pipes_named (end_of pair.0 false) end.opened →
+              e.notes.joined.items ≡ b.notes.joined.items ++ joins_named (end_of pair.0 false) said.peer end.answer end.told ∷ [] → e.notes.opened.items ≡ b.notes.opened.items ++ pipes_named (end_of pair.0 false) end.opened →
               Draws out_name in_name m.may.control i (m.done ++ x ∷ []) e.drawn.items e.notes m.before t m.had l
           draws_now e items joined opened = subst (λ (ys : List (Drawn N O I)). Draws out_name in_name m.may.control i (m.done ++ x ∷ []) ys e.notes m.before t m.had l) (sym items) (record {
             taken = taken_now;
             stands = stands_now;
             waiters = map-append (λ (y : Drawn N O I). y.o.last) ds (d ∷ []) ∙ ap (λ (ws : List ObjId). ws ++ o.last ∷ []) m.draws.waiters ∙ ap (λ (y : ObjId). m.done ++ y ∷ []) are.last;
             drawn = All-push (IsDrawn out_name in_name c i (had.kind i.0)) ds d m.draws.drawn drawn_is;
-            came = attaches.came ∙ ap (λ (js : List (Joining N)). js ++ joins_named (end_of pair.0 false) said.peer.identity end.answer end.told ∷ []) m.draws.came
-                ∙ append_assoc had.joined b.notes.joined.items (joins_named (end_of pair.0 false) said.peer.identity end.answer end.told ∷ []) ∙ ap (λ (js : List (Joining N)). had.joined ++ js) (sym joined);
-            joined = joined ∙ ap (λ (js : List (Joining N)). js ++ joins_named (end_of pair.0 false) said.peer.identity end.answer end.told ∷ []) m.draws.joined
-                ∙ ap (λ (n : Names N). map (joins_of c) ds ++ joins_named (end_of pair.0 false) said.peer.identity end.answer n ∷ []) told_is
+            came = attaches.came ∙ ap (λ (js : List (Joining N)). js ++ joins_named (end_of pair.0 false) said.peer end.answer end.told ∷ []) m.draws.came
+                ∙ append_assoc had.joined b.notes.joined.items (joins_named (end_of pair.0 false) said.peer end.answer end.told ∷ []) ∙ ap (λ (js : List (Joining N)). had.joined ++ js) (sym joined);
+            joined = joined ∙ ap (λ (js : List (Joining N)). js ++ joins_named (end_of pair.0 false) said.peer end.answer end.told ∷ []) m.draws.joined
+                ∙ ap (λ (n : Names N). map (joins_of c) ds ++ joins_named (end_of pair.0 false) said.peer end.answer n ∷ []) told_is
                 ∙ ap (λ (p : List ℕ). map (joins_of c) ds ++ joins_named (end_of pair.0 false) p end.answer (record { written = end.other.read; read = end.other.written }) ∷ []) papers.peer
                 ∙ sym (map-append (joins_of c) ds (d ∷ []));
             opened = opened ∙ ap (λ (ns : List (PipeName N)). ns ++ pipes_named (end_of pair.0 false) end.opened) m.draws.opened

@@ -1,15 +1,16 @@
 -- The drawing of a bind's pairs with the holder of its ends, and that it is undone (own choice, after zmq_inproc(7)).
-use Rattle.std.specs.Prelude.{◌≡◌, ◌≤◌, ◌<◌, ◌+◌, ◌^◌, ◌++◌, ◌∷◌, [], ℕ, true, false, List, Option, All, flat_map, map, length}
+use Rattle.std.specs.Prelude.{◌≡◌, ◌≤◌, ◌<◌, ◌+◌, ◌^◌, ◌++◌, ◌∷◌, [], ℕ, true, false, List, Option, Some, All, flat_map, map, length, slice_get}
 use Rattle.zq_base.specs.declared.ids.EndId.{EndId}
 use Rattle.zq_base.specs.declared.ids.ObjId.{ObjId}
 use Rattle.zq_base.specs.declared.kind.Kind.{Kind}
 use Rattle.spec_control.specs.declared.end.EndState.TheVariants.{Active}
 use Rattle.spec_control.specs.declared.entry.Joining.{Joining}
 use Rattle.spec_control.specs.Rows.{obj}
-use Rattle.spec_control.specs.Control.{Control}
+use Rattle.spec_control.specs.Control.{Control, end_of, next_pair}
 use Rattle.ctl_holder.specs.declared.load.Load.{Load}
 use Rattle.ctl_holder.specs.Holding.{HearsNone, Holding, HoldsNow, JoinsBy, MayRefuse, has_end}
 use Rattle.ctl_holder.specs.Lent.{HasAll}
+use Rattle.ctl_holder.specs.Making.{capacity_between}
 use Rattle.ctl_state.specs.declared.state.State.{State}
 use Rattle.ctl_state.specs.Stands.{Stands}
 use Rattle.ctl_joins.specs.declared.notes.Notes.{Notes}
@@ -56,6 +57,11 @@ module _ {N O I : Type 0} where
     pub theirs : All (HasPlace s control) ws
     pub few_pairs : length control.rows.pairs + length ws < 2 ^ 30
     pub wakers_there : length s.boxes ≤ wakers
+
+  -- the socket's end of each pair, whose numbers go on from the next one, may be made with pipes that hold what the marks of the two sockets say
+  pub record MayMakeAll (s : State (Load N O I)) (h : Holding N) (i : ObjId) (ws : List ObjId) (wakers : ℕ) (may_make : EndId → ℕ → ℕ → Type 0) : Type 0 where
+    pub may : MayDraw s h i ws wakers
+    pub makes : (k : ℕ) (j : ObjId) → slice_get ws k ≡ Some j → may_make (end_of (next_pair may.control + k) false) (capacity_between may.control i.0 j.0) (capacity_between may.control j.0 i.0)
 
   -- from a state and a holder these pairs were drawn, and each first end is at the holder and Active, which was told of no change
   pub record AreTaken (i : ℕ) (ds : List (Drawn N O I)) (s t : State (Load N O I)) (h k : Holding N) : Type 0 where

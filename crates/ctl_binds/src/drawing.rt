@@ -1,8 +1,9 @@
-ghost use Rattle.std.specs.Prelude.{◌≡◌, ◌+◌, ◌++◌, ◌∷◌, [], ℕ, length, IfOk, OnOk, OnErr};
-ghost use Rattle.spec_control.specs.Control.{next_pair};
+ghost use Rattle.std.specs.Prelude.{◌≡◌, ◌+◌, ◌++◌, ◌∷◌, [], ℕ, length, false, IfOk, OnOk, OnErr};
+ghost use Rattle.spec_control.specs.Control.{end_of, next_pair};
 ghost use Rattle.ctl_holder.specs.Holding.{HearsNone, KeepsTurns, Stays};
 ghost use Rattle.ctl_binds.specs.Batch.{FitsMore, drawn_ends};
-ghost use Rattle.ctl_binds.specs.Drawing.{Draws, IsBack, MayDraw, MayDrawNext};
+ghost use Rattle.ctl_binds.specs.Drawing.{Draws, IsBack, MayDraw, MayDrawNext, MayMakeAll};
+ghost use Rattle.ctl_joins.specs.Papers.{MayMake};
 
 use crate::batch::{Batch, Drawn};
 use crate::undrawing::undraw_all;
@@ -31,6 +32,8 @@ where
     requires may { MayDrawNext P.known.out_name P.known.in_name state.old (H.holding holder.old)
         socket waiter batch.old (length wakers.now) }
     requires calm { H.calm holder.old (drawn_ends batch.old.drawn.items) }
+    requires makes { MayMake state.old socket waiter (end_of (length state.old.pairs) false)
+        H.may_make }
     ensures ok { OnOk result ((w : MayDrawNext P.known.out_name P.known.in_name
         state.old (H.holding holder.old) socket waiter batch.old (length wakers.now)) →
         Draws P.known.out_name P.known.in_name w.may.control socket (w.done ++ waiter ∷ [])
@@ -61,7 +64,7 @@ where
                 opened,
                 other,
             } = end;
-            batch.notes.note(first, peer.identity, answer, told, opened);
+            batch.notes.note(first, peer, answer, told, opened);
             batch.drawn.push_back_reserved(Drawn {
                 o,
                 pair,
@@ -95,6 +98,8 @@ where
     requires may { MayDraw state.old (H.holding holder.old) socket waiters.now
         (length wakers.now) }
     requires calm { H.calm holder.old [] }
+    requires makes { MayMakeAll state.old (H.holding holder.old) socket waiters.now
+        (length wakers.now) H.may_make }
     ensures ok { IfOk result (λ b. (w : MayDraw state.old (H.holding holder.old) socket
         waiters.now (length wakers.now)) → Draws P.known.out_name P.known.in_name w.control socket
         waiters.now b.drawn.items b.notes state.old state.new (H.holding holder.old) (H.holding holder.new)) }

@@ -10,14 +10,14 @@ ghost use Rattle.ctl_terms.specs.Asking.{MayAskOne};
 ghost use Rattle.ctl_hears.specs.Attaching.{asked_for, BringsHalves, FitsLoad, StaysAll};
 ghost use Rattle.ctl_hears.specs.Attaching.{BindsEnd, MayBind, MayComeBound, IsAttached};
 
-use ctl_asks::{binding_by, is_asked};
+use ctl_asks::is_asked;
 use ctl_holder::{Halves as PipeHalves, Holder, Load, NamedHalves};
 use ctl_state::State;
 use ctl_terms::ask_end;
 use msg_pipe::Pipes;
 use spec_control::{Joining, Letter, Reason, Word};
 use std::alloc::{AllocError, Global};
-use zq_base::{Attached, EndId, ObjId, Octets, Peer, Seq};
+use zq_base::{Attached, EndId, ObjId, Octets, Seq};
 
 // Why an end that was just attached is asked at once, if it is.
 fn reason_for<L: Drop>(state: &State<L>, e: EndId, answer: Attached) -> Option<Reason>
@@ -71,21 +71,21 @@ fn attach_end<P: Pipes, H: Holder<P>>(
     holder: &mut H,
     o: ObjId,
     e: EndId,
-    peer: &Peer,
+    identity: &Octets,
     halves: PipeHalves<P::Out, P::In>,
 ) -> Result<Attached, PipeHalves<P::Out, P::In>>
 where
     P::Name: Drop,
     requires may { MayBind P.known.out_name P.known.in_name
         state.old (H.holding holder.old) o.0 e halves }
-    requires fits { H.fits holder.old halves }
+    requires fits { H.fits holder.old e halves }
     requires calm { H.calm holder.old [] }
     ensures ok { IfOk result (λ answer. (w : MayBind P.known.out_name P.known.in_name
         state.old (H.holding holder.old) o.0 e halves) →
         BindsEnd w.names w.control o.0 e answer
         state.old state.new (H.holding holder.old) (H.holding holder.new)) }
     ensures joins { IfOk result (λ answer. JoinsBy (joining_with P.known.out_name P.known.in_name
-        e peer.now.identity halves answer ∷ []) (H.holding holder.old) (H.holding holder.new)) }
+        e identity.now halves answer ∷ []) (H.holding holder.old) (H.holding holder.new)) }
     ensures back { IfErr result (λ back. back ≡ halves) }
     ensures err { IfErr result (λ back. (state.new ≡ state.old)
         × StaysAll (H.holding holder.old) (H.holding holder.new)) }
@@ -93,7 +93,7 @@ where
         KeepsTurns (H.holding holder.old) (H.holding holder.new)) }
     ensures heard { HearsNone (H.holding holder.old) (H.holding holder.new) }
 {
-    match holder.attach(alloc, o, e, peer, halves) {
+    match holder.attach(alloc, o, e, identity, halves) {
         Ok(answer) => {
             state.needs();
             state.bind(e);
@@ -160,7 +160,7 @@ where
     P::Name: Drop,
     requires may { MayComeBound P.known.out_name P.known.in_name
         state.old (H.holding holder.old) letter.now.to.0 e load }
-    requires fits { FitsLoad (H.fits holder.old) load }
+    requires fits { FitsLoad (λ h. (d : EndId) → H.fits holder.old d h) load }
     requires calm { H.calm holder.old [] }
     ensures ok { IfOk result (λ joined. (w : MayComeBound P.known.out_name P.known.in_name
         state.old (H.holding holder.old) letter.now.to.0 e load) → (peer : List ℕ) →
@@ -183,19 +183,17 @@ where
         Ok(room) => room,
         Err(_) => return Err(load),
     };
-    let kind = binding_by(state, state.owner(e.other())).kind;
-    let peer = Peer { kind, identity };
     let NamedHalves {
         halves,
         written,
         read,
     } = halves_of(load);
-    match attach_end(state, alloc, holder, letter.to, e, &peer, halves) {
+    match attach_end(state, alloc, holder, letter.to, e, &identity, halves) {
         Ok(answer) => {
             greet_end(state, holder, e, answer);
             let joining = Joining {
                 end: e,
-                peer: peer.identity,
+                peer: identity,
                 written,
                 read,
                 answer,

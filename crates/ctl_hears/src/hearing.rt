@@ -246,7 +246,7 @@ where
     requires takes { brings_ends letter.now.word ≡ true → H.may_take holder.old (given_by load) }
     requires come { brings_ends letter.now.word ≡ true → ComeApart P.known.exact
         (map (held_given P.known.out_name P.known.in_name) (given_by load)) (H.holding holder.old) }
-    requires fits { FitsLoad (H.fits holder.old) load }
+    requires fits { FitsLoad (λ h. (e : EndId) → H.fits holder.old e h) load }
     requires calm { H.calm holder.old [] }
     ensures heard { IfOk result (λ a.
         (w : MayHear P.known.out_name P.known.in_name state.old (H.holding holder.old) letter.now load) →

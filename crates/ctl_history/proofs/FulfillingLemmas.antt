@@ -1,5 +1,5 @@
 -- That a bind gets its name and its pairs.
-use Rattle.std.specs.Prelude.{◌≡◌, ◌<◌, ◌≤◌, ◌+◌, ◌^◌, ◌||◌, ◌++◌, ◌∷◌, [], ℕ, Bool, true, false, List, None, All, length, map, refl}
+use Rattle.std.specs.Prelude.{◌≡◌, ◌<◌, ◌≤◌, ◌+◌, ◌^◌, ◌||◌, ◌++◌, ◌∷◌, [], ℕ, zero, suc, Bool, true, false, List, Option, Some, None, All, length, map, slice_get, refl}
 use Rattle.std.proofs.Common.{arith, sym, ap, ◌∙◌, subst}
 use Rattle.std.proofs.lemmas.List.{length-map}
 use Rattle.std.proofs.lemmas.List.Elements.{All-filter, All-head, All-map, All-tail, All-weaker}
@@ -16,7 +16,7 @@ use Rattle.spec_control.specs.Rows.{obj}
 use Rattle.spec_control.specs.After.{binding_by}
 use Rattle.spec_control.specs.declared.end.EndState.{EndState}
 use Rattle.spec_control.specs.Place.{At, Unmade}
-use Rattle.spec_control.specs.Control.{Control, is_end, next_pair, place_of}
+use Rattle.spec_control.specs.Control.{Control, end_of, is_end, next_pair, place_of}
 use Rattle.spec_control.specs.Reply.{reply_of}
 use Rattle.control_laws.specs.Kept.{Kept, IsUnasked}
 use Rattle.control_laws.proofs.JoinLemmas.{open_is, unasked_lives}
@@ -24,6 +24,7 @@ use Rattle.control_moves.proofs.SoundLemmas.{socket_there}
 use Rattle.ctl_holder.specs.declared.given.Given.{Given}
 use Rattle.ctl_holder.specs.declared.load.Load.{Load}
 use Rattle.ctl_holder.specs.Holding.{Holding, has_end}
+use Rattle.ctl_holder.specs.Making.{MakesSo, bind_makes}
 use Rattle.ctl_holder.specs.Turns.{sealed_by, turned_over}
 use Rattle.control_rows.proofs.ListLemmas.{never}
 use Rattle.control_laws.proofs.AskLemmas.{same_end}
@@ -43,7 +44,7 @@ use Rattle.ctl_binds.specs.Joining.{JoinsAll, MayJoinAll, MovesAll, fulfilled_al
 use Rattle.ctl_binds.proofs.ReadyLemmas.{can_join, none_struck, numbers_are, places_left}
 use Rattle.ctl_strikes.specs.Naming.{bound_now, SameEndLists}
 use Rattle.ctl_history.specs.Carried.{IsPlane}
-use Rattle.ctl_history.specs.Fulfilling.{Fulfils, MayFulfil, MayFulfilAll}
+use Rattle.ctl_history.specs.Fulfilling.{Fulfils, MayFulfil, MayFulfilAll, MayMakeFor}
 use Rattle.ctl_history.specs.Hearing.{HasWhat}
 use Rattle.ctl_history.specs.Joining.{Lends}
 use Rattle.ctl_history.specs.Past.{Past, control_of, items_of}
@@ -112,6 +113,26 @@ module _ {N O I : Type 0} (out_name : O → N) (in_name : I → N) (s t : State 
   all_fulfilled ws same =
       subst (λ (xs : List ObjId). ((v : MayFulfil s h i at xs wakers) → Fulfils out_name in_name v.draw.control i at xs notes s t h k) → Fulfils out_name in_name w.may.draw.control i at w.waiters notes s t h k) (sym same) (λ f. f w.may)
 
+-- ---- the ends that a bind makes
+some_none : {X : Type 0} {x : X} → None ≡ Some x → ⊥
+some_none e = grind arith
+
+same_waiter : {w j : ObjId} → Some w ≡ Some j → w ≡ j
+same_waiter e = cc
+
+-- for the connect at a place, one with a number so much further
+makes_at : (n : ℕ) (ws : List Waiting) (k : ℕ) (j : ObjId) → slice_get (waiters ws) k ≡ Some j → ◌≡◌ {A = Option (EndId × ℕ)} (slice_get (bind_makes n ws) k) (Some (end_of (n + k) false, j.0))
+makes_at n [] k j is = absurd (some_none is)
+makes_at n (w ∷ ws) zero j is =
+    ap (λ (x : ObjId). let y : Option (EndId × ℕ) = Some (end_of n false, x.0) in y) (same_waiter is) ∙ ap (λ (m : ℕ). let y : Option (EndId × ℕ) = Some (end_of m false, j.0) in y) none_more
+  where
+    none_more : n ≡ n + 0
+    none_more = omega arith
+makes_at n (w ∷ ws) (suc k) j is = makes_at (n + 1) ws k j is ∙ ap (λ (m : ℕ). let y : Option (EndId × ℕ) = Some (end_of m false, j.0) in y) one_more
+  where
+    one_more : n + 1 + k ≡ n + suc k
+    one_more = omega arith
+
 -- ---- what a bind needs that is not refused
 module _ {N O I S : Type 0} (out_name : O → N) (in_name : I → N) (s : State (Load N O I)) (p : Past (Given N O I) N S) (spare : ℕ) (o : ObjId) (name : List ℕ) (plane : IsPlane out_name in_name s p spare) (h : Holding N)
     (lends : Lends (control_of p) o.0 h) (allowed : refusal_in (reply_of (control_of p) (Bind o (Inproc name))) ≡ None) (met : AreMet s (control_of p)) where
@@ -167,4 +188,11 @@ module _ {N O I S : Type 0} (out_name : O → N) (in_name : I → N) (s : State 
     waiters = waiters (waits_for_it (control_of p) o name);
     may = may_fulfil wakers all has (waiters (waits_for_it (control_of p) o name)) refl;
     all = refl;
+  }
+
+  -- and what it makes
+  pub may_make_for : (wakers : ℕ) (all : (control_of p).slots ≤ wakers) (has : HasWhat p h) (may_make : EndId → ℕ → ℕ → Type 0) → MakesSo (control_of p) (Bind o (Inproc name)) may_make → MayMakeFor s h o (Inproc name) wakers may_make
+  may_make_for wakers all has may_make makes = record {
+    all = may_fulfil_all wakers all has;
+    makes = λ k j is. makes o.0 refl (end_of (next_pair q + k) false) _ _ (record { place = k; peer = j.0; among = makes_at (next_pair q) (waits_for_it q o name) k j is; written_is = refl; read_is = refl });
   }

@@ -1,11 +1,12 @@
 -- That a connect to the holder of a name adds its event.
-use Rattle.std.specs.Prelude.{◌≡◌, ◌<◌, ◌≤◌, ◌+◌, ◌||◌, ℕ, Bool, true, false, not, List, Option, Some, None, length, refl}
+use Rattle.std.specs.Prelude.{◌≡◌, ◌<◌, ◌≤◌, ◌+◌, ◌||◌, ℕ, Bool, true, false, not, List, Option, Some, None, length, slice_get, refl}
 use Rattle.std.proofs.Common.{arith, sym, ap, ◌∙◌, subst}
 use Rattle.std.proofs.lemmas.Bool.Decides.{Decides-ltb}
 use Rattle.zq_base.specs.Kind.{fits}
 use Rattle.zq_base.specs.declared.attached.Attached.{Attached}
 use Rattle.zq_base.specs.declared.attached.Attached.TheVariants.{Yes, BadId, Second}
 use Rattle.zq_base.specs.declared.endpoint.Endpoint.TheVariants.{Inproc}
+use Rattle.zq_base.specs.declared.ids.EndId.{EndId}
 use Rattle.zq_base.specs.declared.ids.ObjId.{ObjId}
 use Rattle.zq_base.specs.declared.kind.Kind.{Kind}
 use Rattle.zq_base.specs.declared.kind.Kind.TheVariants.{Router, Pair as IsPair}
@@ -23,7 +24,7 @@ use Rattle.spec_control.specs.Names.{name_of}
 use Rattle.spec_control.specs.Row.{Row, is_socket}
 use Rattle.spec_control.specs.Rows.{obj}
 use Rattle.spec_control.specs.After.{kind_of}
-use Rattle.spec_control.specs.Control.{Control, next_pair}
+use Rattle.spec_control.specs.Control.{Control, end_of, next_pair}
 use Rattle.spec_control.specs.ControlRun.{MayAnswer}
 use Rattle.spec_control.specs.Reply.{reply_of, unless, connect_reply_at, has_pairs, most_made_pairs}
 use Rattle.control_laws.specs.Kept.{Kept, IsUnasked}
@@ -31,13 +32,14 @@ use Rattle.control_laws.proofs.JoinLemmas.{open_is}
 use Rattle.control_moves.proofs.SoundLemmas.{socket_there}
 use Rattle.control_rows.proofs.ListLemmas.{never}
 use Rattle.ctl_holder.specs.Holding.{Holding, MayRefuse}
+use Rattle.ctl_holder.specs.Making.{MakesSo, capacity_between, connect_makes}
 use Rattle.ctl_state.specs.declared.state.State.{State}
 use Rattle.ctl_state.specs.Needs.{AreMet}
 use Rattle.ctl_holder.specs.declared.load.Load.{Load}
 use Rattle.ctl_holder.specs.declared.given.Given.{Given}
 use Rattle.ctl_joins.specs.declared.owners.Owners.{Owners}
 use Rattle.ctl_joins.specs.Connecting.{MayConnect}
-use Rattle.ctl_joins.specs.Papers.{HasMarks}
+use Rattle.ctl_joins.specs.Papers.{HasMarks, MayMake}
 use Rattle.ctl_joins.specs.Room.{AreOwners}
 use Rattle.ctl_history.specs.Carried.{IsPlane}
 use Rattle.ctl_history.specs.Hearing.{HasWhat}
@@ -139,4 +141,19 @@ module _ {N O I S : Type 0} (out_name : O → N) (in_name : I → N) (s : State 
     few_objects = (let few_made = plane.history.objects in omega (arith, few_made));
     few_pairs = (let few_drawn = plane.history.pairs in omega (arith, few_drawn));
     wakers_there = (let there = plane.history.stands.slots in omega (arith, there, all));
+  }
+
+  -- the connecting socket's end may be made
+  pub may_make_held : (owners : Owners) → AreOwners (control_of p) o binding.holder owners → (may_make : EndId → ℕ → ℕ → Type 0) → MakesSo (control_of p) (Connect o (Inproc name)) may_make →
+      MayMake s owners.first owners.last (end_of (length s.pairs) true) may_make
+  may_make_held owners are may_make makes = record {
+    control = control_of p;
+    stands = plane.history.stands;
+    first_marks = subst (λ (x : ObjId). HasMarks (obj (control_of p).rows x.0)) (sym are.first) (lends.marked o.0 mine.socket);
+    last_marks = subst (λ (x : ObjId). HasMarks (obj (control_of p).rows x.0)) (sym are.last) (lends.marked binding.holder.0 theirs.socket);
+    makes =
+        subst (λ (x : ObjId). may_make (end_of (length s.pairs) true) (capacity_between (control_of p) x.0 owners.last.0) (capacity_between (control_of p) owners.last.0 x.0)) (sym are.first)
+        (subst (λ (x : ObjId). may_make (end_of (length s.pairs) true) (capacity_between (control_of p) o.0 x.0) (capacity_between (control_of p) x.0 o.0)) (sym are.last)
+        (subst (λ (n : ℕ). may_make (end_of n true) (capacity_between (control_of p) o.0 binding.holder.0) (capacity_between (control_of p) binding.holder.0 o.0)) plane.history.stands.pairs.many
+        (makes o.0 refl (end_of (next_pair (control_of p)) true) _ _ (record { place = 0; peer = binding.holder.0; among = ap (λ (b : Option Binding). slice_get (connect_makes (control_of p) b) 0) held; written_is = refl; read_is = refl }))));
   }

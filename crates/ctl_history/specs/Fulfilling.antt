@@ -1,5 +1,5 @@
 -- A bind that fulfils the connects that wait for its name, with the holder of its socket's ends (zmq_bind(3), zmq_inproc(7)).
-use Rattle.std.specs.Prelude.{◌≡◌, ◌≤◌, ◌<◌, ◌+◌, ◌^◌, ℕ, true, false, List, Option, None, All, flat_map, map, length, sum_by}
+use Rattle.std.specs.Prelude.{◌≡◌, ◌≤◌, ◌<◌, ◌+◌, ◌^◌, ℕ, true, false, List, Option, Some, None, All, flat_map, map, length, slice_get, sum_by}
 use Rattle.zq_base.specs.declared.endpoint.Endpoint.{Endpoint}
 use Rattle.zq_base.specs.declared.ids.EndId.{EndId}
 use Rattle.zq_base.specs.declared.ids.ObjId.{ObjId}
@@ -9,9 +9,10 @@ use Rattle.spec_control.specs.After.{binding_by}
 use Rattle.spec_control.specs.Stage.{has_ended, was_asked}
 use Rattle.spec_control.specs.Rows.{obj}
 use Rattle.spec_control.specs.Place.{At, Unmade}
-use Rattle.spec_control.specs.Control.{Control, next_pair, place_of}
+use Rattle.spec_control.specs.Control.{Control, end_of, next_pair, place_of}
 use Rattle.ctl_holder.specs.declared.load.Load.{Load}
 use Rattle.ctl_holder.specs.Holding.{HearsNone, Holding, JoinsBy, has_end}
+use Rattle.ctl_holder.specs.Making.{capacity_between}
 use Rattle.ctl_holder.specs.Turns.{TurnsBy, turned_over}
 use Rattle.ctl_ends.specs.Turning.{PutsLoaded}
 use Rattle.ctl_state.specs.declared.state.State.{State}
@@ -40,6 +41,11 @@ module _ {N O I : Type 0} where
     pub waiters : List ObjId
     pub may : MayFulfil s h i at waiters wakers
     pub all : waiters ≡ waiters_of (fulfilled_by at (binding_by i.0 may.draw.control) may.draw.control.names)
+
+  -- the socket's end of each of these pairs may be made with pipes that hold what the marks of the two sockets say
+  pub record MayMakeFor (s : State (Load N O I)) (h : Holding N) (i : ObjId) (at : Endpoint) (wakers : ℕ) (may_make : EndId → ℕ → ℕ → Type 0) : Type 0 where
+    pub all : MayFulfilAll s h i at wakers
+    pub makes : (k : ℕ) (j : ObjId) → slice_get all.waiters k ≡ Some j → may_make (end_of (next_pair all.may.draw.control + k) false) (capacity_between all.may.draw.control i.0 j.0) (capacity_between all.may.draw.control j.0 i.0)
 
   -- the socket holds the name, and a pair was made with each of these sockets, in this order; each is noted with the names that its holder has
   pub record Fulfils (out_name : O → N) (in_name : I → N) (c : Control) (i : ObjId) (at : Endpoint) (ws : List ObjId) (notes : Notes N) (s t : State (Load N O I)) (h k : Holding N) : Type 0 where

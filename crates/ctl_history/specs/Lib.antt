@@ -7,3 +7,4 @@ pub mod Closing
 pub mod Fulfilling
 pub mod Coming
 pub mod Addressee
+pub mod Settled

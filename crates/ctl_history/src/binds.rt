@@ -3,11 +3,12 @@ ghost use Rattle.zq_base.specs.declared.endpoint.Endpoint.TheVariants.{Inproc};
 ghost use Rattle.spec_control.specs.declared.request.Req.TheVariants.{Bind};
 ghost use Rattle.spec_control.specs.Control.{next_pair};
 ghost use Rattle.spec_control.specs.Reply.{reply_of};
+ghost use Rattle.ctl_holder.specs.Making.{MakesSo};
 ghost use Rattle.ctl_holder.specs.Turns.{HasTurned};
 ghost use Rattle.ctl_state.specs.Listed.{with_room};
 ghost use Rattle.ctl_binds.specs.Drawing.{IsBack};
 ghost use Rattle.ctl_history.specs.Coming.{ComesWith};
-ghost use Rattle.ctl_history.specs.Fulfilling.{Fulfils, MayFulfilAll};
+ghost use Rattle.ctl_history.specs.Fulfilling.{Fulfils, MayFulfilAll, MayMakeFor};
 ghost use Rattle.ctl_history.specs.Hearing.{HasWhat};
 ghost use Rattle.ctl_history.specs.Joining.{IsOfSame, Lends, NotesRequest};
 ghost use Rattle.ctl_history.specs.Past.{control_of};
@@ -44,6 +45,8 @@ where
     requires may { MayFulfilAll state.old (H.holding holder.old) socket at.now
         (length wakers.now) }
     requires calm { H.calm holder.old [] }
+    requires makes { MayMakeFor state.old (H.holding holder.old) socket at.now
+        (length wakers.now) H.may_make }
     ensures ok { IfOk result (λ notes. (w : MayFulfilAll state.old (H.holding holder.old) socket
         at.now (length wakers.now)) → Fulfils P.known.out_name P.known.in_name
         w.may.draw.control socket at.now w.waiters notes
@@ -79,7 +82,8 @@ where
     /// made, of which the binding socket has end b, which joins its holder at once, and the bind of
     /// the other end is on its way. Room for all that may come of the pairs is kept, so that their
     /// ending takes no memory. Where memory wants, the ends that joined have left again, last first.
-    /// There is a waker for each mailbox, by its number. It costs two look-ups, a walk over the
+    /// The holder may make each of the pairs' ends, with pipes that hold what the marks of the two
+    /// sockets say. There is a waker for each mailbox, by its number. It costs two look-ups, a walk over the
     /// connects that wait for this name, and copies of the name and of two identities for each pair.
     pub fn bind<H: Holder<P>>(
         &mut self,
@@ -93,6 +97,7 @@ where
         requires wakers { (control_of self.old).slots ≤ length wakers.now }
         requires has { HasWhat self.old (H.holding holder.old) }
         requires calm { H.calm holder.old [] }
+        requires makes { MakesSo (control_of self.old) (Bind socket (Inproc name)) H.may_make }
         ensures ok { IfOk result (λ reply. NotesRequest socket (Bind socket (Inproc name)) reply
             self.old self.new (H.holding holder.old) (H.holding holder.new)) }
         ensures reply { IfOk result (λ reply.
@@ -131,6 +136,7 @@ where
         requires wakers { (control_of self.old).slots ≤ length wakers.now }
         requires has { HasWhat self.old (H.holding holder.old) }
         requires calm { H.calm holder.old [] }
+        requires makes { MakesSo (control_of self.old) (Bind socket (Inproc name)) H.may_make }
         ensures ok { IfOk result (λ reply. NotesRequest socket (Bind socket (Inproc name)) reply
             self.old self.new (H.holding holder.old) (H.holding holder.new)) }
         ensures reply { IfOk result (λ reply.

@@ -1,5 +1,6 @@
 ghost use Rattle.std.specs.Prelude.{◌≡◌, ◌<◌, ◌&&◌, ◌==◌, [], ℕ, true, false, IfOk, OnErr};
 ghost use Rattle.std.specs.List.{list_any};
+ghost use Rattle.zq_base.specs.declared.ids.EndId.{EndId};
 ghost use Rattle.spec_control.specs.ControlRun.{is_between};
 ghost use Rattle.ctl_holder.specs.Counts.{CountsOnce};
 ghost use Rattle.ctl_holder.specs.Turns.{HasTurned};
@@ -45,7 +46,7 @@ where
         requires apart { AreApart P.known.exact self.old slot.0 (H.holding holder.old) }
         requires kinds { AreOfKind (control_of self.old) slot.0 (H.holding holder.old) }
         requires fits { FitBinds P.known.out_name P.known.in_name self.old slot.0
-            (H.fits holder.old) }
+            (λ h. (e : EndId) → H.fits holder.old e h) }
         requires reaps { slot.0 ≡ 0 → H.reaps ≡ true }
         requires free { slot.0 ≡ 0 → AreFree (control_of self.old) (H.holding holder.old) }
         requires takes { slot.0 ≡ 0 → MayTakeFirst (H.may_take holder.old) self.old.given }

@@ -1,5 +1,5 @@
 ghost use Rattle.std.specs.Prelude.{◌≡◌, [], length, IfOk, OnErr};
-ghost use Rattle.ctl_binds.specs.Drawing.{IsBack};
+ghost use Rattle.ctl_binds.specs.Drawing.{IsBack, MayMakeAll};
 ghost use Rattle.ctl_history.specs.Fulfilling.{Fulfils, MayFulfil};
 
 use ctl_binds::{Batch, draw_all, join_all, undraw_all};
@@ -30,6 +30,8 @@ where
     requires may { MayFulfil state.old (H.holding holder.old) socket at.now waiters.now
         (length wakers.now) }
     requires calm { H.calm holder.old [] }
+    requires makes { MayMakeAll state.old (H.holding holder.old) socket waiters.now
+        (length wakers.now) H.may_make }
     ensures ok { IfOk result (λ notes. (w : MayFulfil state.old (H.holding holder.old) socket
         at.now waiters.now (length wakers.now)) → Fulfils P.known.out_name P.known.in_name
         w.draw.control socket at.now waiters.now notes

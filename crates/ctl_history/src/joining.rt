@@ -1,12 +1,15 @@
-ghost use Rattle.std.specs.Prelude.{◌≡◌, ◌≤◌, [], length, Some, None, IfOk, OnOk, OnErr};
+ghost use Rattle.std.specs.Prelude.{◌≡◌, ◌≤◌, [], length, true, Some, None, IfOk, OnOk, OnErr};
 ghost use Rattle.zq_base.specs.declared.endpoint.Endpoint.TheVariants.{Inproc};
 ghost use Rattle.spec_control.specs.declared.book.Binding.{Binding};
 ghost use Rattle.spec_control.specs.declared.request.Req.TheVariants.{Connect};
+ghost use Rattle.spec_control.specs.Control.{end_of};
 ghost use Rattle.spec_control.specs.Reply.{reply_of};
 ghost use Rattle.ctl_holder.specs.Holding.{HearsNone, KeepsTurns, Stays};
+ghost use Rattle.ctl_holder.specs.Making.{MakesSo};
 ghost use Rattle.ctl_holder.specs.Turns.{HasTurned};
 ghost use Rattle.ctl_state.specs.Listed.{with_room};
 ghost use Rattle.ctl_joins.specs.Connecting.{Connects, MayConnect};
+ghost use Rattle.ctl_joins.specs.Papers.{MayMake};
 ghost use Rattle.ctl_history.specs.Coming.{ComesWith};
 ghost use Rattle.ctl_history.specs.Hearing.{HasWhat};
 ghost use Rattle.ctl_history.specs.Joining.{IsName, IsNoted, IsOfSame, Lends, NotesRequest};
@@ -64,6 +67,8 @@ where
     P::Name: Drop,
     requires may { MayConnect state.old (H.holding holder.old) o (length wakers.now) }
     requires calm { H.calm holder.old [] }
+    requires makes { MayMake state.old o.first o.last (end_of (length state.old.pairs) true)
+        H.may_make }
     ensures ok { IfOk result (λ r. (w : MayConnect state.old (H.holding holder.old) o
         (length wakers.now)) → Connects P.known.out_name P.known.in_name w.control o at r.0 r.1
         state.old state.new (H.holding holder.old) (H.holding holder.new)) }
@@ -94,8 +99,9 @@ where
     /// does not fit, and where too many pairs were made. A name that nobody holds is waited for. To
     /// the holder of a name a pair is made: the connecting socket has end a, which joins its holder
     /// at once, and the bind of the other end is on its way. Room for all that may come of the pair
-    /// is kept, so that its ending takes no memory. There is a waker for each mailbox, by its number.
-    /// It costs a look-up, and copies of the name and of two identities.
+    /// is kept, so that its ending takes no memory. The holder may make the end, with pipes that hold
+    /// what the marks of the two sockets say. There is a waker for each mailbox, by its number. It
+    /// costs a look-up, and copies of the name and of two identities.
     pub fn connect<H: Holder<P>>(
         &mut self,
         alloc: Global,
@@ -108,6 +114,7 @@ where
         requires wakers { (control_of self.old).slots ≤ length wakers.now }
         requires has { HasWhat self.old (H.holding holder.old) }
         requires calm { H.calm holder.old [] }
+        requires makes { MakesSo (control_of self.old) (Connect socket (Inproc name)) H.may_make }
         ensures ok { IfOk result (λ reply. NotesRequest socket (Connect socket (Inproc name)) reply
             self.old self.new (H.holding holder.old) (H.holding holder.new)) }
         ensures reply { IfOk result (λ reply.
@@ -145,6 +152,7 @@ where
         requires wakers { (control_of self.old).slots ≤ length wakers.now }
         requires has { HasWhat self.old (H.holding holder.old) }
         requires calm { H.calm holder.old [] }
+        requires makes { MakesSo (control_of self.old) (Connect socket at) H.may_make }
         ensures ok { IfOk result (λ reply. NotesRequest socket (Connect socket at) reply
             self.old self.new (H.holding holder.old) (H.holding holder.new)) }
         ensures reply { IfOk result (λ reply.
@@ -187,6 +195,7 @@ where
         requires wakers { (control_of self.old).slots ≤ length wakers.now }
         requires has { HasWhat self.old (H.holding holder.old) }
         requires calm { H.calm holder.old [] }
+        requires makes { MakesSo (control_of self.old) (Connect socket (Inproc name)) H.may_make }
         ensures ok { IfOk result (λ reply. NotesRequest socket (Connect socket (Inproc name)) reply
             self.old self.new (H.holding holder.old) (H.holding holder.new)) }
         ensures reply { IfOk result (λ reply.

@@ -19,9 +19,11 @@ mod joining;
 mod mailboxes;
 mod making;
 mod refused;
+mod settled;
 mod shows;
 mod soundness;
 mod unbinding;
 
 pub use heard::Heard;
 pub use history::History;
+pub use settled::PipeCounts;

@@ -6,3 +6,4 @@ pub mod Turns
 pub mod Joins
 pub mod Counts
 pub mod Heard
+pub mod Making

@@ -6,7 +6,7 @@ use crate::made::Made;
 use msg_pipe::Pipes;
 use spec_control::EndState;
 use std::alloc::{AllocError, AllocFailed, Global};
-use zq_base::{Address, Attached, EndId, Kind, ObjId, Options, Peer, Settled};
+use zq_base::{Address, Attached, EndId, Kind, ObjId, Octets, Options, Settled};
 
 /// The owner of ends, lent to the control plane for one event, with its pipes.
 ///
@@ -27,7 +27,7 @@ pub trait Holder<P: Pipes> {
     ghost use Rattle.ctl_holder.specs.Lent.{has_writer};
     ghost use Rattle.spec_control.specs.Place.{At};
     ghost use Rattle.ctl_holder.specs.Holding.{states_optional, states_given};
-    ghost use Rattle.std.specs.Prelude.{Bool, List};
+    ghost use Rattle.std.specs.Prelude.{Bool, List, ℕ};
     ghost use Rattle.std.specs.Option.{ForSome};
     ghost use Rattle.ctl_holder.specs.declared.halves.Halves.{Halves};
     ghost use Rattle.ctl_holder.specs.Counts.{KeepsCounts};
@@ -44,9 +44,13 @@ pub trait Holder<P: Pipes> {
     /// What joining the half by which an end reads with this writing half of its pipe tells.
     ghost counts: { Self → EndId → P.Out → Settled };
 
-    /// Halves that may join what it has: their pipes are among its own, nothing was sealed in them,
-    /// and none of its ends has a half of one of them.
-    ghost fits: { Self → Halves P.Out P.In → Type 0 };
+    /// An end may be made whose pipes hold so many messages: the one that it writes, and the one that
+    /// it reads.
+    ghost may_make: { EndId → ℕ → ℕ → Type 0 };
+
+    /// Halves that may join what it has as this end: their pipes are among its own, nothing was sealed
+    /// in them, and none of its ends has a half of one of them.
+    ghost fits: { Self → EndId → Halves P.Out P.In → Type 0 };
 
     /// Whether it takes in listeners and sessions.
     ghost serves: { Bool };
@@ -64,47 +68,51 @@ pub trait Holder<P: Pipes> {
     /// It is lent for an event in which no end was turned yet, and these joined, the last first.
     ghost calm: { Self → List EndId → Type 0 };
 
-    /// Makes the pipes of a pair: this holder's end writes the first, of this many messages, and
-    /// reads the second.
+    /// Makes the pipes of a pair for an end of this holder's: it writes the first, of this many
+    /// messages, and reads the second.
     fn make(
         &mut self,
         alloc: Global,
         o: ObjId,
+        end: EndId,
         written: u32,
         read: u32,
         mine: &P::Waker,
         other: &P::Waker,
     ) -> Result<Made<P::Out, P::In>, AllocError>
+        requires here { (holding self.old).holds o.0 ≡ true }
+        requires new { has_end end ((holding self.old).ends o.0) ≡ false }
         requires written { IsCapacity written }
         requires read { IsCapacity read }
+        requires may { may_make end written read }
         ensures pair { IfOk result (λ m.
             AreCrossed P.known.out_name P.known.in_name m.mine m.other) }
-        ensures fits { IfOk result (λ m. fits self.new m.mine) }
+        ensures fits { IfOk result (λ m. fits self.new end m.mine) }
         ensures stays { Stays o.0 (holding self.old) (holding self.new) }
         ensures turns { KeepsTurns (holding self.old) (holding self.new) }
         ensures heard { HearsNone (holding self.old) (holding self.new) }
         ensures calm { (came : List EndId) → calm self.old came → calm self.new came };
 
-    /// An end joins an object, whose kind answers. It keeps the halves of an end that its kind
-    /// refuses too; the end is then no peer. The answer is kept with the end among those that joined.
-    /// Want of memory hands the halves back.
+    /// An end joins an object, whose kind answers to its peer's identity. It keeps the halves of an
+    /// end that its kind refuses too; the end is then no peer. The answer is kept with the end among
+    /// those that joined. Want of memory hands the halves back.
     fn attach(
         &mut self,
         alloc: Global,
         o: ObjId,
         end: EndId,
-        peer: &Peer,
+        identity: &Octets,
         halves: Halves<P::Out, P::In>,
     ) -> Result<Attached, AllocFailed<Halves<P::Out, P::In>>>
         requires here { (holding self.old).holds o.0 ≡ true }
         requires new { has_end end ((holding self.old).ends o.0) ≡ false }
-        requires fits { fits self.old halves }
+        requires fits { fits self.old end halves }
         requires calm { (came : List EndId) × calm self.old came }
         ensures ok { OnOk result (Joined o.0 (held_with P.known.out_name P.known.in_name end halves)
             (holding self.old) (holding self.new)) }
         ensures turns { OnOk result (BeginsActive end (holding self.old) (holding self.new)) }
         ensures joins { IfOk result (λ a. JoinsBy (joining_with P.known.out_name P.known.in_name
-            end peer.now.identity halves a ∷ []) (holding self.old) (holding self.new)) }
+            end identity.now halves a ∷ []) (holding self.old) (holding self.new)) }
         ensures refuses { IfOk result (λ a. MayRefuse ((holding self.old).kind o.0) a) }
         ensures err { IfErr result (λ e. (e.value ≡ halves)
             × Stays o.0 (holding self.old) (holding self.new)
@@ -196,7 +204,7 @@ pub trait Holder<P: Pipes> {
     ) -> Result<(), AllocFailed<Option<(EndId, Halves<P::Out, P::In>)>>>
         requires serves { serves ≡ true }
         requires new { (holding self.old).holds o.0 ≡ false }
-        requires fits { ForSome end (λ x. fits self.old x.1) }
+        requires fits { ForSome end (λ x. fits self.old x.0 x.1) }
         ensures ok { OnOk result (IsPlugged o.0
             (held_optional P.known.out_name P.known.in_name end)
             (holding self.old) (holding self.new)) }

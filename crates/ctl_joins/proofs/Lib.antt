@@ -6,3 +6,4 @@ pub mod PairLemmas
 pub mod JoiningLemmas
 pub mod ConnectingLemmas
 pub mod AttachingLemmas
+pub mod PapersLemmas

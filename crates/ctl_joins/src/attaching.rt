@@ -6,7 +6,7 @@ ghost use Rattle.ctl_joins.specs.Attaching.{AttachesFirst};
 use ctl_holder::{Holder, Made, NamedHalves};
 use msg_pipe::Pipes;
 use std::alloc::{AllocError, Global};
-use zq_base::{Attached, EndId, ObjId, Peer};
+use zq_base::{Attached, EndId, ObjId, Octets};
 
 /// The names of the pipe that an end writes, and of the one that it reads.
 #[derive(Drop)]
@@ -47,14 +47,14 @@ fn names_of<P: Pipes>(written: &P::Out, read: &P::Out) -> Names<P::Name>
     }
 }
 
-/// Makes the pipes of a pair and attaches its first end, for whose owner the kind answers. Want of
-/// memory leaves the holder's ends as they were.
+/// Makes the pipes of a pair and attaches its first end, to whose peer's identity the kind of its
+/// owner answers. Want of memory leaves the holder's ends as they were.
 pub fn attach_first<P: Pipes, H: Holder<P>>(
     holder: &mut H,
     alloc: Global,
     o: ObjId,
     end: EndId,
-    peer: &Peer,
+    identity: &Octets,
     capacities: Capacities,
     mine: &P::Waker,
     other: &P::Waker,
@@ -65,9 +65,10 @@ where
     requires new { has_end end ((H.holding holder.old).ends o.0) ≡ false }
     requires written { IsCapacity capacities.written }
     requires read { IsCapacity capacities.read }
+    requires may { H.may_make end capacities.written capacities.read }
     requires calm { (came : List EndId) × H.calm holder.old came }
     ensures ok { IfOk result (λ f. AttachesFirst P.known.out_name P.known.in_name o.0 end
-        peer.now.identity f
+        identity.now f
         (H.holding holder.old) (H.holding holder.new)) }
     ensures err { OnErr result (Stays o.0 (H.holding holder.old) (H.holding holder.new)) }
     ensures keeps { OnErr result (KeepsTurns (H.holding holder.old) (H.holding holder.new)) }
@@ -77,12 +78,13 @@ where
     ensures still { OnErr result ((came : List EndId) →
         H.calm holder.old came → H.calm holder.new came) }
 {
-    let made = holder.make(alloc, o, capacities.written, capacities.read, mine, other)?;
+    let Capacities { written, read } = capacities;
+    let made = holder.make(alloc, o, end, written, read, mine, other)?;
     let Made { mine, other } = made;
     let told = names_of::<P>(&mine.out, &other.out);
     let opened = names_of::<P>(&mine.out, &other.out);
     let theirs = names_of::<P>(&other.out, &mine.out);
-    match holder.attach(alloc, o, end, peer, mine) {
+    match holder.attach(alloc, o, end, identity, mine) {
         Ok(answer) => {
             let other = NamedHalves {
                 halves: other,

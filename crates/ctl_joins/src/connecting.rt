@@ -1,8 +1,9 @@
 ghost use Rattle.std.specs.Prelude.{◌≡◌, ◌<◌, ◌+◌, ◌^◌, [], length, true, OnOk, OnErr, IfOk};
-ghost use Rattle.spec_control.specs.Control.{draws};
+ghost use Rattle.spec_control.specs.Control.{draws, end_of};
 ghost use Rattle.ctl_holder.specs.Holding.{HearsNone, KeepsTurns, Stays};
 ghost use Rattle.ctl_state.specs.Stands.{Updates};
 ghost use Rattle.ctl_joins.specs.Connecting.{Connects, HasDrawnHeld, MayConnect, with_hold_room};
+ghost use Rattle.ctl_joins.specs.Papers.{MayMake};
 ghost use Rattle.ctl_joins.specs.Room.{HavePlaces, with_drawn};
 
 use crate::attaching::{FirstEnd, attach_first};
@@ -62,6 +63,7 @@ where
     P::Name: Drop,
     requires may { MayConnect state.old (H.holding holder.old) o (length wakers.now) }
     requires calm { H.calm holder.old [] }
+    requires makes { MayMake state.old o.first o.last (end_of (length state.old.pairs) true) H.may_make }
     ensures ok { IfOk result (λ r. (w : MayConnect state.old (H.holding holder.old) o
         (length wakers.now)) → Connects P.known.out_name P.known.in_name w.control o at r.0 r.1
         state.old state.new (H.holding holder.old) (H.holding holder.new)) }
@@ -90,7 +92,7 @@ where
             let held = Held::Joined(pair, None);
             state.hold(o.first, Hold { at, held });
             join_pair(state, holder, o.first, first, identity, answer, other);
-            notes.note(first, peer.identity, answer, told, opened);
+            notes.note(first, peer, answer, told, opened);
             return Ok((pair, notes));
         }
         Err(error) => {

@@ -1,5 +1,4 @@
 ghost use Rattle.std.specs.Prelude.{◌≡◌, IfOk};
-ghost use Rattle.spec_control.specs.After.{kind_of};
 ghost use Rattle.spec_control.specs.Rows.{obj};
 ghost use Rattle.spec_control.specs.Control.{Control};
 ghost use Rattle.ctl_state.specs.Stands.{Stands};
@@ -8,9 +7,8 @@ ghost use Rattle.ctl_joins.specs.Papers.{AreCapacities, AreMarked, ArePapers, Ma
 use crate::attaching::Capacities;
 use crate::owners::Owners;
 use ctl_state::State;
-use spec_control::ObjKind;
 use std::alloc::{AllocError, Global};
-use zq_base::{Kind, ObjId, Octets, Peer};
+use zq_base::{ObjId, Octets};
 
 /// How many messages a socket may send ahead, and how many may wait for it.
 #[derive(Clone, Copy, Debug, Drop)]
@@ -19,13 +17,13 @@ pub struct Marks {
     pub input: u32,
 }
 
-/// What the owners of a pair's ends tell each other.
+/// What the owners of a pair's ends tell each other: their identities.
 #[derive(Debug, Drop)]
 pub struct Papers {
-    /// The identity of the first end's owner.
+    /// That of the first end's owner.
     pub identity: Octets,
-    /// What the first end's peer is.
-    pub peer: Peer,
+    /// That of the last one's.
+    pub peer: Octets,
 }
 
 // The marks of an object.
@@ -54,26 +52,6 @@ fn identity_of<L: Drop>(state: &State<L>, alloc: Global, id: ObjId) -> Result<Oc
     }
 }
 
-// The kind of a socket.
-fn kind_in(kind: ObjKind) -> Kind
-    ensures { result ≡ kind_of kind }
-{
-    match kind {
-        ObjKind::Socket(kind) => return kind,
-        ObjKind::Root | ObjKind::Listener | ObjKind::Session => return Kind::Pair,
-    }
-}
-
-// The kind of an object, if it is a socket.
-fn kind_of<L: Drop>(state: &State<L>, id: ObjId) -> Kind
-    ensures { (c : Control) → Stands state.now c → result ≡ kind_of (obj c.rows id.0).kind }
-{
-    match state.row(id) {
-        Some(row) => return kind_in(row.kind),
-        None => return Kind::Pair,
-    }
-}
-
 /// The capacities of the pipes between two sockets.
 pub fn capacities_of<L: Drop>(state: &State<L>, o: Owners) -> Capacities
     requires marked { AreMarked state.now o }
@@ -92,12 +70,6 @@ pub fn papers_of<L: Drop>(state: &State<L>, alloc: Global, o: Owners) -> Result<
     ensures { IfOk result (λ x. (c : Control) → Stands state.now c → ArePapers c o x) }
 {
     let identity = identity_of(state, alloc, o.first)?;
-    let theirs = identity_of(state, alloc, o.last)?;
-    Ok(Papers {
-        identity,
-        peer: Peer {
-            kind: kind_of(state, o.last),
-            identity: theirs,
-        },
-    })
+    let peer = identity_of(state, alloc, o.last)?;
+    Ok(Papers { identity, peer })
 }

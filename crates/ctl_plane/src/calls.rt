@@ -1,4 +1,4 @@
-ghost use Rattle.std.specs.Prelude.{◌≡◌, ◌++◌, ℕ, List, true, false, IfOk, OnErr};
+ghost use Rattle.std.specs.Prelude.{◌≡◌, ◌++◌, ℕ, Bool, List, true, false, IfOk, OnErr};
 ghost use Rattle.control_held.specs.Moments.{Moment};
 ghost use Rattle.ctl_holder.specs.declared.halves.Halves.{Halves};
 
@@ -17,10 +17,11 @@ use zq_base::{EndId, Endpoint};
 pub trait Calls<P: Pipes> {
     ghost use Rattle.spec_control.specs.declared.request.Req.TheVariants.{Bind, Connect, Unbind};
     ghost use Rattle.spec_control.specs.declared.request.Req.TheVariants.{Disconnect};
-    ghost use Rattle.spec_control.specs.Control.{id, place_of};
+    ghost use Rattle.spec_control.specs.Control.{Control, id, place_of};
     ghost use Rattle.spec_control.specs.Place.{looks};
     ghost use Rattle.control_held.specs.OwnAsks.{known_after};
     ghost use Rattle.ctl_holder.specs.Holding.{Holding};
+    ghost use Rattle.ctl_holder.specs.Making.{IsMadeFor};
     ghost use Rattle.control_held.specs.Moments.{items_in, left_after};
     ghost use Rattle.ctl_holder.specs.Holding.{has_end};
     ghost use Rattle.ctl_plane.specs.Asking.{IsInproc};
@@ -48,8 +49,9 @@ pub trait Calls<P: Pipes> {
     /// What a call leaves of the pipes of others.
     ghost leaves: { Self → Self → P → P → Type 0 };
 
-    /// What a call did to the pipes, those of its ends among them.
-    ghost does: { Self → Self → P → P → Type 0 };
+    /// What a call did to the pipes, those of its ends among them; each end that joined has pipes that
+    /// were made for it, where that is told.
+    ghost does: { Self → Self → P → P → (made : Bool) → (EndId → ℕ → ℕ → Type 0) → Type 0 };
 
     /// Want of memory left its kind nothing to do.
     ghost rests: { Self → Type 0 };
@@ -82,7 +84,9 @@ pub trait Calls<P: Pipes> {
             × (D.number desk.new ≡ D.number desk.old) }
         ensures fits { fits self.new pipes.new }
         ensures others { leaves self.old self.new pipes.old pipes.new }
-        ensures does { does self.old self.new pipes.old pipes.new }
+        ensures does { does self.old self.new pipes.old pipes.new true (λ e written read.
+            (c : Control) × D.finds desk.old c × IsMadeFor c (owner self.old)
+            (Bind (id (owner self.old)) at.now) e written read) }
         ensures rests { rests self.old → rests self.new }
         ensures passes { (more : List (Moment P.Name P.Story)) →
             D.moments desk.new ≡ D.moments desk.old ++ more → passes self.old self.new more };
@@ -112,7 +116,9 @@ pub trait Calls<P: Pipes> {
             × (D.number desk.new ≡ D.number desk.old) }
         ensures fits { fits self.new pipes.new }
         ensures others { leaves self.old self.new pipes.old pipes.new }
-        ensures does { does self.old self.new pipes.old pipes.new }
+        ensures does { does self.old self.new pipes.old pipes.new true (λ e written read.
+            (c : Control) × D.finds desk.old c × IsMadeFor c (owner self.old)
+            (Connect (id (owner self.old)) at.now) e written read) }
         ensures rests { rests self.old → rests self.new }
         ensures passes { (more : List (Moment P.Name P.Story)) →
             D.moments desk.new ≡ D.moments desk.old ++ more → passes self.old self.new more };
@@ -141,7 +147,7 @@ pub trait Calls<P: Pipes> {
             × (D.number desk.new ≡ D.number desk.old) }
         ensures fits { fits self.new pipes.new }
         ensures others { leaves self.old self.new pipes.old pipes.new }
-        ensures does { does self.old self.new pipes.old pipes.new }
+        ensures does { does self.old self.new pipes.old pipes.new true (λ e written read. ⊥) }
         ensures rests { rests self.old → rests self.new }
         ensures passes { (more : List (Moment P.Name P.Story)) →
             D.moments desk.new ≡ D.moments desk.old ++ more → passes self.old self.new more };
@@ -170,7 +176,7 @@ pub trait Calls<P: Pipes> {
             × (D.number desk.new ≡ D.number desk.old) }
         ensures fits { fits self.new pipes.new }
         ensures others { leaves self.old self.new pipes.old pipes.new }
-        ensures does { does self.old self.new pipes.old pipes.new }
+        ensures does { does self.old self.new pipes.old pipes.new true (λ e written read. ⊥) }
         ensures rests { rests self.old → rests self.new }
         ensures passes { (more : List (Moment P.Name P.Story)) →
             D.moments desk.new ≡ D.moments desk.old ++ more → passes self.old self.new more };
@@ -208,7 +214,7 @@ pub trait Calls<P: Pipes> {
             × (D.number desk.new ≡ D.number desk.old) }
         ensures fits { fits self.new pipes.new }
         ensures others { leaves self.old self.new pipes.old pipes.new }
-        ensures does { does self.old self.new pipes.old pipes.new }
+        ensures does { does self.old self.new pipes.old pipes.new false (λ e written read. ⊥) }
         ensures rests { rests self.old → rests self.new }
         ensures passes { (more : List (Moment P.Name P.Story)) →
             D.moments desk.new ≡ D.moments desk.old ++ more → passes self.old self.new more };
@@ -235,7 +241,7 @@ pub trait Calls<P: Pipes> {
             × (D.number desk.new ≡ D.number desk.old) }
         ensures fits { fits self.new pipes.new }
         ensures others { leaves self.old self.new pipes.old pipes.new }
-        ensures does { does self.old self.new pipes.old pipes.new }
+        ensures does { does self.old self.new pipes.old pipes.new false (λ e written read. ⊥) }
         ensures rests { rests self.old → rests self.new }
         ensures passes { (more : List (Moment P.Name P.Story)) →
             D.moments desk.new ≡ D.moments desk.old ++ more → passes self.old self.new more };

@@ -19,7 +19,9 @@ pub trait Desk<P: Pipes> {
     ghost use Rattle.control_held.specs.OwnAsks.{MayAskOwn};
     ghost use Rattle.control_held.specs.Moments.{items_in, left_after};
     ghost use Rattle.control_held.specs.Has.{has_after};
+    ghost use Rattle.spec_control.specs.Control.{Control};
     ghost use Rattle.spec_control.specs.Rows.{obj};
+    ghost use Rattle.ctl_holder.specs.Making.{MakesSo};
     ghost use Rattle.ctl_holder.specs.TakingOver.{AreDistinct, MayTakeFirst};
     ghost use Rattle.ctl_plane.specs.Asking.{HasMarks, IsOfSockets};
     ghost use Rattle.ctl_plane.specs.Coming.{BindsFit, KeepsNames, SendsEnds, TakesEnds, is_close};
@@ -48,6 +50,9 @@ pub trait Desk<P: Pipes> {
     /// The ends of closed sockets that are on their way to the reaper.
     ghost given: { Self → List (Given P.Name P.Out P.In) };
 
+    /// What the control plane may be as a call finds it.
+    ghost finds: { Self → Control → Type 0 };
+
     /// How a call leaves all that its way leads to, also what is not its caller's.
     ghost grows: { Self → Self → Type 0 };
 
@@ -59,7 +64,7 @@ pub trait Desk<P: Pipes> {
         requires has { has_after object.0 (items_in (moments self.now)) ≡ Some (number self.now) }
         ensures { result.0 ≡ (obj (left_after object.0 (moments self.now)).rows object.0).slot };
 
-    /// Makes a request. Want of memory leaves all as it was.
+    /// Makes a request, of whose pipes the holder may make each. Want of memory leaves all as it was.
     fn request<H: Holder<P>>(
         &mut self,
         alloc: Global,
@@ -73,6 +78,7 @@ pub trait Desk<P: Pipes> {
         requires lent { (i : ℕ) → asker request ≡ Some i → (H.holding holder.old).holds i ≡ true }
         requires has { HasWhatTheySay (number self.old) (moments self.old) (H.holding holder.old) }
         requires calm { H.calm holder.old [] }
+        requires makes { (c : Control) → finds self.old c → MakesSo c request H.may_make }
         ensures ok { IfOk result (λ reply.
             AsksOnce (number self.old) request reply (moments self.old) (moments self.new)) }
         ensures given { IfOk result (λ _. SendsEnds P.known (H.pipes holder.new) request
@@ -100,7 +106,7 @@ pub trait Desk<P: Pipes> {
         requires has { HasWhatTheySay (number self.old) (moments self.old) (H.holding holder.old) }
         requires distinct { AreDistinct P.known.exact (named self.old) }
         requires fits { BindsFit P.known.out_name P.known.in_name (named self.old)
-            (coming self.old slot.0) (H.fits holder.old) }
+            (coming self.old slot.0) (λ h. (e : EndId) → H.fits holder.old e h) }
         requires calm { H.calm holder.old [] }
         ensures ok { IfOk result (λ found.
             GivesOrNot (number self.old) slot found (moments self.old) (moments self.new)) }
@@ -130,7 +136,7 @@ pub trait Desk<P: Pipes> {
         requires distinct { AreDistinct P.known.exact (named self.old) }
         requires fits { (m i : ℕ) → served self.old m i ≡ true →
             BindsFit P.known.out_name P.known.in_name (named self.old) (coming self.old m)
-            (H.fits holder.old) }
+            (λ h. (e : EndId) → H.fits holder.old e h) }
         requires takes { MayTakeFirst (H.may_take holder.old) (given self.old) }
         requires calm { H.calm holder.old [] }
         ensures ok { IfOk result (λ found.

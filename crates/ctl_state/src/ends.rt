@@ -15,7 +15,7 @@ ghost use Rattle.ctl_state.specs.Parts.{bound, on_pairs, on_tree, opened, sent_t
 ghost use Rattle.ctl_state.specs.Stands.{Stands, Updates, letter_for, slot_of, stepped, struck_now, tells, told_word};
 
 use crate::state::State;
-use spec_control::{EndCommands, EndEvent, EndState, Word};
+use spec_control::{EndCommands, EndEvent, EndState, Reason, Word};
 use zq_base::{EndId, ObjId};
 
 impl<L: Drop> State<L> {
@@ -46,6 +46,13 @@ impl<L: Drop> State<L> {
         ensures { (c : Control) → Stands self.now c → result ≡ state_in (place_of c e) }
     {
         self.pairs.end_state(e)
+    }
+
+    /// Why an end was asked, if it was.
+    pub fn reason(&self, e: EndId) -> Option<Reason>
+        ensures { (c : Control) → Stands self.now c → result ≡ c.reasons e }
+    {
+        self.pairs.reason(e)
     }
 
     /// The reason of an end fits how far it is in its life. It costs nothing.

@@ -132,6 +132,26 @@ fn fits_there(spot: &Spot)
     }
 }
 
+// Why an end there was asked, if it was.
+fn reason_there(spot: &Spot) -> Option<Reason>
+    ensures { result ≡ reason_at spot.now }
+{
+    match spot {
+        Spot::At(end) => return end.reason(),
+        Spot::Unmade | Spot::Away | Spot::Over => return None,
+    }
+}
+
+/// Why this end of the pair was asked, if it was.
+pub(crate) fn reason_of(pair: &Entry, a: bool) -> Option<Reason>
+    ensures { result ≡ reason_at (spot_in pair.now a) }
+{
+    if a {
+        return reason_there(&pair.a);
+    }
+    reason_there(&pair.b)
+}
+
 /// The reason of this end of the pair fits its state. It costs nothing.
 pub(crate) fn fits_in(pair: &Entry, a: bool)
     ensures { FitsAt (place_at (spot_in pair.now a)) (reason_at (spot_in pair.now a)) }

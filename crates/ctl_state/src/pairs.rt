@@ -6,11 +6,11 @@ ghost use Rattle.spec_control.specs.Control.{met_in};
 ghost use Rattle.ctl_state.specs.Pairs.{state_in, reason_at, FitsAt, no_entry, entry_at, place_at, owner_at, struck_at, spot_at, with_spot, entry_struck, entry_open, entry_drawn, spot_comes, spot_after, spot_commands};
 
 use crate::pair::{
-    Entry, Spot, fits_in, has_met_in, is_away_in, is_here_in, owner_in, state_of, step_in,
-    struck_in,
+    Entry, Spot, fits_in, has_met_in, is_away_in, is_here_in, owner_in, reason_of, state_of,
+    step_in, struck_in,
 };
 use pipe_term::End;
-use spec_control::{EndCommands, EndEvent, EndState};
+use spec_control::{EndCommands, EndEvent, EndState, Reason};
 use std::alloc::{AllocError, Global};
 use std::marker::Model;
 use zq_base::{EndId, ObjId, PairId};
@@ -117,6 +117,16 @@ impl Pairs {
         match self.pairs.get(e.pair.0 as usize) {
             Some(pair) => return state_of(pair, e.a),
             None => return Some(EndState::Gone),
+        }
+    }
+
+    /// Why an end was asked, if it was.
+    pub fn reason(&self, e: EndId) -> Option<Reason>
+        ensures { result ≡ reason_at (spot_at self.now e) }
+    {
+        match self.pairs.get(e.pair.0 as usize) {
+            Some(pair) => return reason_of(pair, e.a),
+            None => return None,
         }
     }
 

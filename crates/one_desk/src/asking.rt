@@ -4,6 +4,8 @@ ghost use Rattle.spec_control.specs.Names.{name_of};
 ghost use Rattle.control_held.specs.Held.{asker};
 ghost use Rattle.control_held.specs.OwnAsks.{MayAskOwn};
 ghost use Rattle.control_held.specs.Moments.{items_in};
+ghost use Rattle.ctl_history.specs.Past.{control_of};
+ghost use Rattle.ctl_holder.specs.Making.{MakesSo};
 ghost use Rattle.ctl_plane.specs.Asking.{HasMarks, IsInproc, IsOfSockets};
 ghost use Rattle.ctl_plane.specs.Coming.{is_close, KeepsNames, SendsEnds};
 ghost use Rattle.ctl_plane.specs.Desk.{AsksOnce, HasWhatTheySay, KeepsUp};
@@ -35,6 +37,7 @@ where
         requires has { HasWhatTheySay self.old.caller (moments_of self.old)
             (H.holding holder.old) }
         requires calm { H.calm holder.old [] }
+        requires makes { MakesSo (control_of self.old.past) (Bind socket at) H.may_make }
         ensures ok { IfOk result (λ reply. Asks (Bind socket at) reply self.old self.new) }
         ensures err { OnErr result (self.new ≡ self.old) }
         ensures keeps { KeepsUp self.new.caller (moments_of self.old) (moments_of self.new)
@@ -60,6 +63,7 @@ where
         requires has { HasWhatTheySay self.old.caller (moments_of self.old)
             (H.holding holder.old) }
         requires calm { H.calm holder.old [] }
+        requires makes { MakesSo (control_of self.old.past) (Connect socket at) H.may_make }
         ensures ok { IfOk result (λ reply. Asks (Connect socket at) reply self.old self.new) }
         ensures err { OnErr result (self.new ≡ self.old) }
         ensures keeps { KeepsUp self.new.caller (moments_of self.old) (moments_of self.new)
@@ -87,6 +91,7 @@ where
         requires has { HasWhatTheySay self.old.caller (moments_of self.old)
             (H.holding holder.old) }
         requires calm { H.calm holder.old [] }
+        requires makes { MakesSo (control_of self.old.past) request H.may_make }
         ensures ok { IfOk result (λ reply. AsksOnce self.old.caller request reply
             (moments_of self.old) (moments_of self.new)) }
         ensures given { IfOk result (λ _. SendsEnds P.known (H.pipes holder.new) request

@@ -1,4 +1,5 @@
 ghost use Rattle.std.specs.Prelude.{◌≡◌, [], true, IfOk, OnErr};
+ghost use Rattle.zq_base.specs.declared.ids.EndId.{EndId};
 ghost use Rattle.spec_control.specs.Names.{name_of};
 ghost use Rattle.ctl_plane.specs.Coming.{AreDistinct, BindsFit};
 ghost use Rattle.ctl_plane.specs.Desk.{CountsWith, HasWhatTheySay, HoldsEnd, IsItsMailbox, IsNotLooked, KeepsUp};
@@ -57,7 +58,7 @@ where
             (H.holding holder.old) }
         requires distinct { AreDistinct P.known.exact (name_of self.old.items) }
         requires fits { BindsFit P.known.out_name P.known.in_name (name_of self.old.items)
-            (coming_to self.old slot.0) (H.fits holder.old) }
+            (coming_to self.old slot.0) (λ h. (e : EndId) → H.fits holder.old e h) }
         requires calm { H.calm holder.old [] }
         ensures ok { IfOk result (λ found. FindsIn slot found self.old self.new) }
         ensures counts { CountsWith P.known.out_name (H.counts holder.old)

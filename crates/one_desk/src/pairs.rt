@@ -3,6 +3,7 @@ ghost use Rattle.zq_base.specs.declared.endpoint.Endpoint.TheVariants.{Inproc};
 ghost use Rattle.spec_control.specs.declared.request.Req.TheVariants.{Bind, Connect, Disconnect};
 ghost use Rattle.spec_control.specs.Reply.{reply_of};
 ghost use Rattle.ctl_history.specs.Past.{control_of};
+ghost use Rattle.ctl_holder.specs.Making.{MakesSo};
 ghost use Rattle.ctl_plane.specs.Desk.{HasWhatTheySay, KeepsUp};
 ghost use Rattle.one_desk.specs.Lent.{moments_of, Asks, HasSocket};
 
@@ -19,8 +20,8 @@ where
     P::Name: Drop,
     P::Waker: Drop,
 {
-    /// The caller binds its socket to a name, with the holder of the socket's ends (zmq_bind(3),
-    /// zmq_inproc(7)).
+    /// The caller binds its socket to a name, with the holder of the socket's ends, which may make
+    /// those of the pairs (zmq_bind(3), zmq_inproc(7)).
     pub fn bind<H: Holder<P>>(
         &mut self,
         alloc: Global,
@@ -33,6 +34,7 @@ where
         requires has { HasWhatTheySay self.old.caller (moments_of self.old)
             (H.holding holder.old) }
         requires calm { H.calm holder.old [] }
+        requires makes { MakesSo (control_of self.old.past) (Bind socket (Inproc name)) H.may_make }
         ensures ok { IfOk result (λ reply.
             Asks (Bind socket (Inproc name)) reply self.old self.new) }
         ensures reply { IfOk result (λ reply.
@@ -50,8 +52,8 @@ where
         Ok(reply)
     }
 
-    /// The caller connects its socket to a name, with the holder of the socket's ends
-    /// (zmq_connect(3), zmq_inproc(7)).
+    /// The caller connects its socket to a name, with the holder of the socket's ends, which may make
+    /// that of the pair (zmq_connect(3), zmq_inproc(7)).
     pub fn connect<H: Holder<P>>(
         &mut self,
         alloc: Global,
@@ -64,6 +66,7 @@ where
         requires has { HasWhatTheySay self.old.caller (moments_of self.old)
             (H.holding holder.old) }
         requires calm { H.calm holder.old [] }
+        requires makes { MakesSo (control_of self.old.past) (Connect socket (Inproc name)) H.may_make }
         ensures ok { IfOk result (λ reply.
             Asks (Connect socket (Inproc name)) reply self.old self.new) }
         ensures reply { IfOk result (λ reply.

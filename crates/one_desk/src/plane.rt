@@ -13,7 +13,8 @@ where
     P::Name: Drop,
     P::Waker: Drop,
 {
-    ghost use Rattle.std.specs.Prelude.{false};
+    ghost use Rattle.std.specs.Prelude.{◌≡◌, false};
+    ghost use Rattle.ctl_history.specs.Past.{control_of};
     ghost use Rattle.spec_control.specs.Names.{name_of};
     ghost use Rattle.one_desk.specs.GrowsOwed.{grows_none};
     ghost use Rattle.one_desk.specs.Lent.{coming_to, moments_of, GrowsBy};
@@ -32,6 +33,8 @@ where
     ghost coming = { λ d m. coming_to d m };
 
     ghost given = { λ d. d.past.given };
+
+    ghost finds = { λ d c. c ≡ control_of d.past };
 
     ghost grows = { λ old new. GrowsBy old new };
 

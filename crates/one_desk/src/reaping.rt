@@ -1,4 +1,5 @@
 ghost use Rattle.std.specs.Prelude.{◌≡◌, ◌≢◌, ◌<◌, ℕ, All, find, filter, [], true, IfSome, IfNone, IfOk, OnOk, OnErr};
+ghost use Rattle.zq_base.specs.declared.ids.EndId.{EndId};
 ghost use Rattle.spec_control.specs.declared.entry.SeenEmpty.TheVariants.{Reapers};
 ghost use Rattle.spec_control.specs.ControlRun.{AreEmpty};
 ghost use Rattle.spec_control.specs.Names.{name_of};
@@ -145,7 +146,7 @@ where
             (H.holding holder.old) }
         requires distinct { AreDistinct P.known.exact (name_of self.old.items) }
         requires fits { BindsFit P.known.out_name P.known.in_name (name_of self.old.items)
-            (coming_to self.old slot.0) (H.fits holder.old) }
+            (coming_to self.old slot.0) (λ h. (e : EndId) → H.fits holder.old e h) }
         requires calm { H.calm holder.old [] }
         ensures ok { OnOk result (HearsFrom slot self.old self.new) }
         ensures counts { CountsWith P.known.out_name (H.counts holder.old)
@@ -178,7 +179,7 @@ where
         requires distinct { AreDistinct P.known.exact (name_of self.old.items) }
         requires fits { (m i : ℕ) → served_by self.old m i ≡ true →
             BindsFit P.known.out_name P.known.in_name (name_of self.old.items)
-            (coming_to self.old m) (H.fits holder.old) }
+            (coming_to self.old m) (λ h. (e : EndId) → H.fits holder.old e h) }
         requires takes { MayTakeFirst (H.may_take holder.old) self.old.past.given }
         requires calm { H.calm holder.old [] }
         ensures ok { OnOk result (HearsFrom slot self.old self.new) }
@@ -212,7 +213,7 @@ where
         requires distinct { AreDistinct P.known.exact (name_of self.old.items) }
         requires fits { (m i : ℕ) → served_by self.old m i ≡ true →
             BindsFit P.known.out_name P.known.in_name (name_of self.old.items)
-            (coming_to self.old m) (H.fits holder.old) }
+            (coming_to self.old m) (λ h. (e : EndId) → H.fits holder.old e h) }
         requires takes { MayTakeFirst (H.may_take holder.old) self.old.past.given }
         requires calm { H.calm holder.old [] }
         ensures ok { IfOk result (λ found. FindsFirst found self.old self.new) }

@@ -1,15 +1,18 @@
-ghost use Rattle.std.specs.Prelude.{◌≡◌, ◌≤◌};
-ghost use Rattle.spec_control.specs.Control.{next_object, next_pair};
+ghost use Rattle.std.specs.Prelude.{◌≡◌, ◌≤◌, IfOk};
+ghost use Rattle.spec_control.specs.Control.{next_object, next_pair, owner_of};
 ghost use Rattle.spec_control.specs.Reply.{most_objects, root_state};
 ghost use Rattle.spec_control.specs.Rows.{obj};
 ghost use Rattle.spec_control.specs.Stage.{has_ended};
 ghost use Rattle.ctl_history.specs.Addressee.{last_addressee};
 ghost use Rattle.ctl_history.specs.Past.{control_of};
+ghost use Rattle.ctl_history.specs.Settled.{settled_in};
 
 use crate::desk::OneDesk;
+use ctl_history::PipeCounts;
 use msg_pipe::Pipes;
-use spec_control::{ObjKind, ObjState};
-use zq_base::ObjId;
+use spec_control::{ObjKind, ObjState, Reason};
+use std::alloc::{AllocError, Global};
+use zq_base::{EndId, ObjId, Seq};
 
 // What is shown of a context, whoever looks: nothing of it is noted.
 impl<P: Pipes> OneDesk<P>
@@ -59,5 +62,26 @@ where
         ensures { result ≡ last_addressee self.now.past.events }
     {
         self.history.last_addressee()
+    }
+
+    /// The pipes that were settled so far, in order, with their counts. It walks over all events.
+    pub fn settled(&self, alloc: Global) -> Result<Seq<PipeCounts>, AllocError>
+        ensures { IfOk result (λ notes. notes ≡ settled_in self.now.past.events) }
+    {
+        self.history.settled(alloc)
+    }
+
+    /// Why an end was asked, if it was. It costs a look at one row.
+    pub fn reason(&self, end: EndId) -> Option<Reason>
+        ensures { result ≡ (control_of self.now.past).reasons end }
+    {
+        self.history.reason(end)
+    }
+
+    /// Whose an end is. It costs a look at one row.
+    pub fn owner(&self, end: EndId) -> ObjId
+        ensures { owner_of (control_of self.now.past) end ≡ result.0 }
+    {
+        self.history.owner(end)
     }
 }

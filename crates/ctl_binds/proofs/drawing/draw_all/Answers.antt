@@ -4,7 +4,7 @@ use Rattle.std.proofs.lemmas.List.{get_or_default}
 use Rattle.ctl_binds.specs.declared.batch.Drawn.{Drawn}
 use Rattle.ctl_binds.specs.declared.batch.Batch.{Batch}
 use Rattle.ctl_binds.specs.Batch.{drawn_ends}
-use Rattle.ctl_binds.proofs.DrawAllLemmas.{all_drawn, may_draw_next, none_drawn, one_drawn, one_fits, were_taken}
+use Rattle.ctl_binds.proofs.DrawAllLemmas.{all_drawn, may_draw_next, may_make_next, none_drawn, one_drawn, one_fits, were_taken}
 use Rattle.ctl_binds.proofs.drawing.draw_all.Goals as goal
 
 pub waiters-init : goal.waiters-init
@@ -27,6 +27,7 @@ pub draw_one-requires : goal.draw_one-requires
 draw_one-requires g c = record {
   may = may_draw_next g.P.Pipes.known.out_name g.P.Pipes.known.in_name c.args.state.now (g.H.Holder.holding c.args.holder.now) c.args.socket c.args.waiters.now (length c.args.wakers.now) c.waiters.place c.waiters-test.true c.waiters.state (g.H.Holder.holding c.waiters.holder) c.waiters.batch (slice_index_or c.args.waiters.now c.waiters.place (record { 0 = 0 })) (get_or_default c.args.waiters.now c.waiters.place (record { 0 = 0 }) (slice_index_or c.args.waiters.now c.waiters.place (record { 0 = 0 })) c.waiters-test.true) c.requires.may (c.waiters.invariant.draws c.requires.may) c.waiters.invariant.room;
   calm = c.waiters.invariant.calm;
+  makes = may_make_next g.P.Pipes.known.out_name g.P.Pipes.known.in_name c.args.state.now (g.H.Holder.holding c.args.holder.now) c.args.socket c.args.waiters.now (length c.args.wakers.now) c.waiters.place c.waiters-test.true c.waiters.state (g.H.Holder.holding c.waiters.holder) c.waiters.batch (slice_index_or c.args.waiters.now c.waiters.place (record { 0 = 0 })) (get_or_default c.args.waiters.now c.waiters.place (record { 0 = 0 }) (slice_index_or c.args.waiters.now c.waiters.place (record { 0 = 0 })) c.waiters-test.true) c.requires.makes.may (c.waiters.invariant.draws c.requires.makes.may) g.H.Holder.may_make c.requires.makes.makes;
 }
 
 pub undraw_all-requires : goal.undraw_all-requires

@@ -1,9 +1,10 @@
-use Rattle.std.specs.Prelude.{List, length, refl}
+use Rattle.std.specs.Prelude.{List, false, length, refl}
 use Rattle.zq_base.specs.declared.ids.EndId.{EndId}
 use Rattle.ctl_binds.specs.Batch.{drawn_ends}
+use Rattle.ctl_joins.proofs.PapersLemmas.{may_hold}
 use Rattle.ctl_binds.proofs.CameLemmas.{drawn_more}
 use Rattle.std.proofs.Common.{arith, ap, sym, ◌∙◌, subst}
-use Rattle.ctl_binds.proofs.DrawLemmas.{draws_now, drawn_now, first_waker, last_waker, marked, not_there, places_now}
+use Rattle.ctl_binds.proofs.DrawLemmas.{draws_now, drawn_now, first_waker, last_waker, makes_now, marked, not_there, places_now}
 use Rattle.ctl_binds.proofs.drawing.draw_one.Goals as goal
 
 pub capacities_of-sizes-requires : goal.capacities_of-sizes-requires
@@ -32,6 +33,12 @@ attach_first-requires-clause-written g c = (c.capacities_of-sizes.ensures (marke
 
 pub attach_first-requires-clause-read : goal.attach_first-requires-clause-read
 attach_first-requires-clause-read g c = (c.capacities_of-sizes.ensures (marked g.P.Pipes.known.out_name g.P.Pipes.known.in_name c.args.state.now (g.H.Holder.holding c.args.holder.now) c.args.socket c.args.waiter c.args.batch.now (length c.args.wakers.now) c.requires.may c.of-o.result (c.of-o.ensures _ c.requires.may.draws.stands))).read_fits
+
+pub attach_first-requires-clause-may : goal.attach_first-requires-clause-may
+attach_first-requires-clause-may g c =
+    may_hold c.args.state.now c.of-o.result false g.H.Holder.may_make c.in_ok-pair.pair c.in_ok-pair.ensures.number
+    (makes_now g.P.Pipes.known.out_name g.P.Pipes.known.in_name c.args.state.now (g.H.Holder.holding c.args.holder.now) c.args.socket c.args.waiter c.args.batch.now (length c.args.wakers.now) c.requires.may c.of-o.result (c.of-o.ensures _ c.requires.may.draws.stands) _ g.H.Holder.may_make c.requires.makes)
+    c.capacities_of-sizes.result c.capacities_of-sizes.ensures
 
 pub undraw_pair-requires-clause-drawn : goal.undraw_pair-requires-clause-drawn
 undraw_pair-requires-clause-drawn g c = drawn_now g.P.Pipes.known.out_name g.P.Pipes.known.in_name c.args.state.now (g.H.Holder.holding c.args.holder.now) c.args.socket c.args.waiter c.args.batch.now (length c.args.wakers.now) c.requires.may c.of-o.result (c.of-o.ensures _ c.requires.may.draws.stands) c.in_ok-pair.pair c.in_ok-pair.ensures.number c.draw_pair.new.state c.in_ok-pair.ensures.next

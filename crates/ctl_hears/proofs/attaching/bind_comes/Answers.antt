@@ -1,5 +1,6 @@
 use Rattle.std.specs.Prelude.{◌∷◌, [], ℕ, List, false}
 use Rattle.std.proofs.Common.{ap, ◌∙◌, subst}
+use Rattle.zq_base.specs.declared.ids.EndId.{EndId}
 use Rattle.ctl_holder.specs.Holding.{JoinsBy, joining_with}
 use Rattle.spec_control.specs.declared.entry.Joining.{Joining}
 use Rattle.ctl_hears.proofs.BindingLemmas.{asks_bound, attached, fits_half, halves_brought, may_bind}
@@ -14,7 +15,7 @@ attach_end-requires-clause-may g c =
 
 pub attach_end-requires-clause-fits : goal.attach_end-requires-clause-fits
 attach_end-requires-clause-fits g c =
-    fits_half g.P.Pipes.known.out_name g.P.Pipes.known.in_name c.args.state.now (g.H.Holder.holding c.args.holder.now) c.args.letter.now.to c.args.e c.args.load c.requires.may c.halves_of-halves.result c.halves_of-halves.ensures (g.H.Holder.fits c.args.holder.now) c.requires.fits
+    fits_half g.P.Pipes.known.out_name g.P.Pipes.known.in_name c.args.state.now (g.H.Holder.holding c.args.holder.now) c.args.letter.now.to c.args.e c.args.load c.requires.may c.halves_of-halves.result c.halves_of-halves.ensures (λ h. (d : EndId) → g.H.Holder.fits c.args.holder.now d h) c.requires.fits c.args.e
 
 pub greet_end-requires : goal.greet_end-requires
 greet_end-requires g c =

@@ -5,6 +5,7 @@ use Rattle.spec_control.specs.declared.book.Binding.{Binding}
 use Rattle.spec_control.specs.EndpointBook.{waiters}
 use Rattle.spec_control.specs.Register.{fulfilled_by}
 use Rattle.ctl_state.specs.Listed.{with_room}
+use Rattle.ctl_binds.specs.Drawing.{MayMakeAll}
 use Rattle.ctl_history.specs.Fulfilling.{MayFulfil}
 use Rattle.ctl_history.proofs.FulfillingLemmas.{all_fulfilled}
 use Rattle.ctl_history.proofs.MakingLemmas.{listed_back}
@@ -16,6 +17,13 @@ fulfil_all-requires-clause-may g c =
     let c0 = w.may.draw.control in
     let ids = c.deref.ensures.value ∙ c.in_ok-waiters.ensures c0 w.may.draw.stands ∙ ap (λ (b : Binding). waiters (fulfilled_by c.args.at.now b c0.names)) (c.binding_by.ensures c0 w.may.draw.stands) ∙ sym w.all in
     subst (λ (xs : List ObjId). MayFulfil c.args.state.now (g.H.Holder.holding c.args.holder.now) c.args.socket c.args.at.now xs (length c.args.wakers.now)) (sym ids) w.may
+
+pub fulfil_all-requires-clause-makes : goal.fulfil_all-requires-clause-makes
+fulfil_all-requires-clause-makes g c =
+    let w = c.requires.makes.all in
+    let c0 = w.may.draw.control in
+    let ids = c.deref.ensures.value ∙ c.in_ok-waiters.ensures c0 w.may.draw.stands ∙ ap (λ (b : Binding). waiters (fulfilled_by c.args.at.now b c0.names)) (c.binding_by.ensures c0 w.may.draw.stands) ∙ sym w.all in
+    subst (λ (xs : List ObjId). MayMakeAll c.args.state.now (g.H.Holder.holding c.args.holder.now) c.args.socket xs (length c.args.wakers.now) g.H.Holder.may_make) (sym ids) (record { may = w.may.draw; makes = c.requires.makes.makes })
 
 pub returns-in-Ok-clause-ok : goal.returns-in-Ok-clause-ok
 returns-in-Ok-clause-ok g c = λ w.

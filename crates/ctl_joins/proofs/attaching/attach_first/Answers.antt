@@ -4,7 +4,7 @@ use Rattle.ctl_joins.proofs.attaching.attach_first.Goals as goal
 
 pub returns-in-Ok-clause-ok : goal.returns-in-Ok-clause-ok
 returns-in-Ok-clause-ok g c =
-    attaches_first g.P.Pipes.known.out_name g.P.Pipes.known.in_name c.args.o.0 c.args.end c.args.peer.now.identity (g.H.Holder.holding c.args.holder.now) (g.H.Holder.holding c.make.new.self) (g.H.Holder.holding c.attach.new.self)
+    attaches_first g.P.Pipes.known.out_name g.P.Pipes.known.in_name c.args.o.0 c.args.end c.args.identity.now (g.H.Holder.holding c.args.holder.now) (g.H.Holder.holding c.make.new.self) (g.H.Holder.holding c.attach.new.self)
     _ _ _ c.names_of-told.result c.names_of-opened.result c.names_of-theirs.result c.in_ok-made.ensures.pair c.make.ensures.stays c.make.ensures.turns c.in-Ok.ensures.ok c.in-Ok.ensures.turns c.in-Ok.ensures.refuses c.in-Ok.ensures.joins (c.attach.ensures.heard ∙ c.make.ensures.heard)
     c.names_of-told.ensures.written c.names_of-told.ensures.read c.names_of-opened.ensures.written c.names_of-opened.ensures.read c.names_of-theirs.ensures.written c.names_of-theirs.ensures.read
 

@@ -9,6 +9,7 @@ use Rattle.ctl_state.specs.Lists.{no_hold, with_holds}
 use Rattle.ctl_state.specs.Parts.{on_lists}
 use Rattle.ctl_joins.specs.Noting.{joins_named, pipes_named}
 use Rattle.ctl_joins.proofs.ConnectingLemmas.{connects, marked, may_join, not_there, room_to_hold}
+use Rattle.ctl_joins.proofs.PapersLemmas.{may_hold}
 use Rattle.ctl_joins.proofs.connecting.connect_pair.Goals as goal
 
 pub attach_first-requires-clause-new : goal.attach_first-requires-clause-new
@@ -23,6 +24,9 @@ pub attach_first-requires-clause-read : goal.attach_first-requires-clause-read
 attach_first-requires-clause-read g c =
     (c.capacities_of-sizes.ensures (marked c.args.state.now (g.H.Holder.holding c.args.holder.now) c.args.o (length c.args.wakers.now) c.requires.may)).read_fits
 
+pub attach_first-requires-clause-may : goal.attach_first-requires-clause-may
+attach_first-requires-clause-may g c = may_hold c.args.state.now c.args.o true g.H.Holder.may_make c.in_ok-pair.pair c.in_ok-pair.ensures.number c.requires.makes c.capacities_of-sizes.result c.capacities_of-sizes.ensures
+
 pub hold-requires : goal.hold-requires
 hold-requires g c = record {
   room = room_to_hold c.args.state.now (g.H.Holder.holding c.args.holder.now) c.args.o (length c.args.wakers.now) c.requires.may c.in_ok-pair.pair c.in_ok-pair.ensures.number
@@ -35,7 +39,7 @@ join_pair-requires g c =
     record {
       may = may_join c.args.state.now (g.H.Holder.holding c.args.holder.now) c.args.o (length c.args.wakers.now) w c.in_ok-pair.pair c.in_ok-pair.ensures.number
           c.draw_held.new.state c.hold.new.self c.args.at (record { at = c.args.at; held = Joined c.in_ok-pair.pair None }) c.in_ok-pair.ensures.next c.hold.ensures.next
-          g.P.Pipes.known.out_name g.P.Pipes.known.in_name c.in-Ok.end c.in_ok-said.said.peer.identity (g.H.Holder.holding c.attach_first.new.holder) c.in-Ok.ensures.ok
+          g.P.Pipes.known.out_name g.P.Pipes.known.in_name c.in-Ok.end c.in_ok-said.said.peer (g.H.Holder.holding c.attach_first.new.holder) c.in-Ok.ensures.ok
           (c.hold.ensures.stands (draws c.args.o.first.0 c.args.o.last.0 w.control) (c.in_ok-pair.ensures.ok w.control w.stands));
     }
 
@@ -45,14 +49,14 @@ returns-in-Ok-clause-ok g c = λ w.
     let first = end_of c.in_ok-pair.pair.0 true in
     connects c.args.state.now (g.H.Holder.holding c.args.holder.now) c.args.o (length c.args.wakers.now) w c.in_ok-pair.pair c.in_ok-pair.ensures.number
     c.draw_held.new.state c.hold.new.self c.args.at (record { at = c.args.at; held = Joined c.in_ok-pair.pair None }) c.in_ok-pair.ensures.next c.hold.ensures.next
-    g.P.Pipes.known.out_name g.P.Pipes.known.in_name c.in-Ok.end c.in_ok-said.said.peer.identity (g.H.Holder.holding c.attach_first.new.holder) c.in-Ok.ensures.ok
+    g.P.Pipes.known.out_name g.P.Pipes.known.in_name c.in-Ok.end c.in_ok-said.said.peer (g.H.Holder.holding c.attach_first.new.holder) c.in-Ok.ensures.ok
     (c.hold.ensures.stands (draws c.args.o.first.0 c.args.o.last.0 w.control) (c.in_ok-pair.ensures.ok w.control w.stands))
     c.in_ok-said.said.identity said.identity said.peer c.join_pair.new.state (g.H.Holder.holding c.join_pair.new.holder) c.note.new.self
     (c.join_pair.ensures (may_join c.args.state.now (g.H.Holder.holding c.args.holder.now) c.args.o (length c.args.wakers.now) w c.in_ok-pair.pair c.in_ok-pair.ensures.number
     c.draw_held.new.state c.hold.new.self c.args.at (record { at = c.args.at; held = Joined c.in_ok-pair.pair None }) c.in_ok-pair.ensures.next c.hold.ensures.next
-    g.P.Pipes.known.out_name g.P.Pipes.known.in_name c.in-Ok.end c.in_ok-said.said.peer.identity (g.H.Holder.holding c.attach_first.new.holder) c.in-Ok.ensures.ok
+    g.P.Pipes.known.out_name g.P.Pipes.known.in_name c.in-Ok.end c.in_ok-said.said.peer (g.H.Holder.holding c.attach_first.new.holder) c.in-Ok.ensures.ok
     (c.hold.ensures.stands (draws c.args.o.first.0 c.args.o.last.0 w.control) (c.in_ok-pair.ensures.ok w.control w.stands))))
-    (c.note.ensures.joined ∙ ap (λ (xs : List (Joining g.row.P-Name.Denot)). xs ++ joins_named first c.in_ok-said.said.peer.identity c.in-Ok.end.answer c.in-Ok.end.told ∷ []) c.in_ok-notes.ensures.joined)
+    (c.note.ensures.joined ∙ ap (λ (xs : List (Joining g.row.P-Name.Denot)). xs ++ joins_named first c.in_ok-said.said.peer c.in-Ok.end.answer c.in-Ok.end.told ∷ []) c.in_ok-notes.ensures.joined)
     (c.note.ensures.opened ∙ ap (λ (xs : List (PipeName g.row.P-Name.Denot)). xs ++ pipes_named first c.in-Ok.end.opened) c.in_ok-notes.ensures.opened)
 
 pub returns-in-Err-clause-err : goal.returns-in-Err-clause-err

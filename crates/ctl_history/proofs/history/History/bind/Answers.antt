@@ -2,6 +2,7 @@ use Rattle.spec_control.specs.declared.request.Reply.TheVariants.{Refused}
 use Rattle.spec_control.specs.declared.entry.Did.TheVariants.{Asked}
 use Rattle.std.specs.Prelude.{refl}
 use Rattle.std.proofs.Common.{sym, subst}
+use Rattle.zq_base.specs.declared.endpoint.Endpoint.{Endpoint}
 use Rattle.zq_base.specs.declared.endpoint.Endpoint.TheVariants.{Inproc}
 use Rattle.spec_control.specs.declared.request.Req.TheVariants.{Bind}
 use Rattle.spec_control.specs.Reply.{reply_of}
@@ -10,6 +11,7 @@ use Rattle.ctl_history.specs.Hearing.{HasWhat}
 use Rattle.ctl_history.specs.Past.{Past, control_of}
 use Rattle.ctl_history.proofs.NamedPlaneLemmas.{keeps_refused}
 use Rattle.ctl_history.proofs.RefusalLemmas.{refusal_is}
+use Rattle.ctl_holder.specs.Making.{MakesSo}
 use Rattle.ctl_holder.specs.Turns.{HasTurned}
 use Rattle.ctl_ends.proofs.TurnedLemmas.{turns_same}
 use Rattle.ctl_history.proofs.ToldLemmas.{past_told, refused_told}
@@ -45,3 +47,6 @@ returns-in-Some-clause-joins g c =
 pub returns-in_err-refuse-in-Some-clause-joins : goal.returns-in_err-refuse-in-Some-clause-joins
 returns-in_err-refuse-in-Some-clause-joins g c =
     subst (λ (p : Past (Given g.row.P-Name.Denot g.row.P-Out.Denot g.row.P-In.Denot) g.row.P-Name.Denot g.row.P-Story.Denot). ComesWith c.args.self.now p (g.H.Holder.holding c.args.holder.now) (g.H.Holder.holding c.args.holder.now)) (sym c.in_err-refuse-in-Some.ensures.err) (past_comes c.args.self.now (g.H.Holder.holding c.args.holder.now) (g.H.Holder.holding c.args.holder.now) refl (λ i. refl) (λ i. refl) refl)
+
+pub bind_now-requires-clause-makes : goal.bind_now-requires-clause-makes
+bind_now-requires-clause-makes g c = subst (λ (e : Endpoint). MakesSo (control_of c.args.self.now) (Bind c.args.socket e) g.H.Holder.may_make) c.name_of.ensures c.requires.makes

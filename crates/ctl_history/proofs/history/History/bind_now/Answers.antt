@@ -19,7 +19,8 @@ use Rattle.ctl_asks.specs.Refusals.{refusal_in}
 use Rattle.ctl_history.proofs.BindLemmas.{bind_done}
 use Rattle.ctl_history.proofs.DoneLemmas.{event_now}
 use Rattle.ctl_history.proofs.FulfilPlaneLemmas.{ends_bound, given_bound, back_told, has_back, keeps_bound, plane_bound, told_fulfilled}
-use Rattle.ctl_history.proofs.FulfillingLemmas.{may_fulfil_all}
+use Rattle.ctl_history.proofs.FulfillingLemmas.{may_fulfil_all, may_make_for}
+use Rattle.ctl_holder.specs.Making.{MakesSo}
 use Rattle.ctl_history.proofs.MakingLemmas.{planed_back, viewed_back}
 use Rattle.ctl_history.proofs.PlaneLemmas.{planed_now}
 use Rattle.ctl_holder.specs.Turns.{HasTurned}
@@ -42,6 +43,17 @@ bind_with_room-requires-clause-may g c =
     let wakers = subst (λ (p : Past (Given g.row.P-Name.Denot g.row.P-Out.Denot g.row.P-In.Denot) g.row.P-Name.Denot g.row.P-Story.Denot). (control_of p).slots ≤ length c.args.wakers.now) (sym c.self.view_is) c.requires.wakers in
     let all = may_fulfil_all g.P.Pipes.known.out_name g.P.Pipes.known.in_name c.self.inside.state _ _ c.args.socket c.args.name c.self.invariant (g.H.Holder.holding c.args.holder.now) lends allowed (c.needs.ensures _ stands) (length c.args.wakers.now) wakers has in
     all
+
+pub bind_with_room-requires-clause-makes : goal.bind_with_room-requires-clause-makes
+bind_with_room-requires-clause-makes g c =
+    let inner : Past (Given g.row.P-Name.Denot g.row.P-Out.Denot g.row.P-In.Denot) g.row.P-Name.Denot g.row.P-Story.Denot = record { workers = c.self.inside.workers; events = c.self.inside.events.items; given = given_in c.self.inside.state.boxes } in
+    let lends = subst (λ (p : Past (Given g.row.P-Name.Denot g.row.P-Out.Denot g.row.P-In.Denot) g.row.P-Name.Denot g.row.P-Story.Denot). Lends (control_of p) c.args.socket.0 (g.H.Holder.holding c.args.holder.now)) (sym c.self.view_is) c.requires.lends in
+    let allowed = subst (λ (p : Past (Given g.row.P-Name.Denot g.row.P-Out.Denot g.row.P-In.Denot) g.row.P-Name.Denot g.row.P-Story.Denot). refusal_in (reply_of (control_of p) (Bind c.args.socket (Inproc c.args.name))) ≡ None) (sym c.self.view_is) c.requires.free in
+    let stands = c.self.invariant.history.stands in
+    let has = subst (λ (p : Past (Given g.row.P-Name.Denot g.row.P-Out.Denot g.row.P-In.Denot) g.row.P-Name.Denot g.row.P-Story.Denot). HasWhat p (g.H.Holder.holding c.args.holder.now)) (sym c.self.view_is) c.requires.has in
+    let wakers = subst (λ (p : Past (Given g.row.P-Name.Denot g.row.P-Out.Denot g.row.P-In.Denot) g.row.P-Name.Denot g.row.P-Story.Denot). (control_of p).slots ≤ length c.args.wakers.now) (sym c.self.view_is) c.requires.wakers in
+    may_make_for g.P.Pipes.known.out_name g.P.Pipes.known.in_name c.self.inside.state _ _ c.args.socket c.args.name c.self.invariant (g.H.Holder.holding c.args.holder.now) lends allowed (c.needs.ensures _ stands) (length c.args.wakers.now) wakers has g.H.Holder.may_make
+    (subst (λ (p : Past (Given g.row.P-Name.Denot g.row.P-Out.Denot g.row.P-In.Denot) g.row.P-Name.Denot g.row.P-Story.Denot). MakesSo (control_of p) (Bind c.args.socket (Inproc c.args.name)) g.H.Holder.may_make) (sym c.self.view_is) c.requires.makes)
 
 pub push-requires : goal.push-requires
 push-requires g c =

@@ -9,6 +9,7 @@ use Rattle.ctl_history.specs.Carried.{given_in}
 use Rattle.ctl_history.specs.Hearing.{HasWhat}
 use Rattle.ctl_history.specs.Past.{Past, control_of, with_event}
 use Rattle.ctl_history.proofs.NamedPlaneLemmas.{keeps_waiting, no_ends}
+use Rattle.ctl_holder.specs.Making.{MakesSo}
 use Rattle.ctl_holder.specs.Turns.{HasTurned}
 use Rattle.ctl_ends.proofs.TurnedLemmas.{turns_same}
 use Rattle.ctl_history.proofs.ToldLemmas.{past_told, waiting_told}
@@ -55,3 +56,6 @@ pub returns-in_err-reply-in-None-clause-joins : goal.returns-in_err-reply-in-Non
 returns-in_err-reply-in-None-clause-joins g c =
     subst (λ (p : Past (Given g.row.P-Name.Denot g.row.P-Out.Denot g.row.P-In.Denot) g.row.P-Name.Denot g.row.P-Story.Denot). ComesWith c.args.self.now p (g.H.Holder.holding c.args.holder.now) (g.H.Holder.holding c.args.holder.now)) (sym c.in_err-reply-in-None.ensures.err)
     (past_comes c.args.self.now (g.H.Holder.holding c.args.holder.now) (g.H.Holder.holding c.args.holder.now) refl (λ i. refl) (λ i. refl) refl)
+
+pub connect_held-requires-clause-makes : goal.connect_held-requires-clause-makes
+connect_held-requires-clause-makes g c = subst (λ (e : Endpoint). MakesSo (control_of c.args.self.now) (Connect c.args.socket e) g.H.Holder.may_make) c.name_of-name.ensures c.requires.makes

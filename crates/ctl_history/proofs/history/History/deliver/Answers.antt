@@ -1,4 +1,5 @@
 use Rattle.std.specs.Prelude.{◌≡◌, ◌&&◌, ◌==◌, ◌<◌, ◌++◌, ◌∷◌, ℕ, true, List, Option, refl}
+use Rattle.zq_base.specs.declared.ids.EndId.{EndId}
 use Rattle.std.specs.List.{list_any}
 use Rattle.std.proofs.Common.{ap, sym, ◌∙◌, subst}
 use Rattle.mailbox.specs.Mail.{with_put_back}
@@ -68,8 +69,8 @@ process-requires-clause-come g c = λ brings.
 
 pub process-requires-clause-fits : goal.process-requires-clause-fits
 process-requires-clause-fits g c =
-    fits_first g.P.Pipes.known.out_name g.P.Pipes.known.in_name c.self.inside.state c.take.new.self _ _ c.args.slot c.in-Some.command c.self.invariant (took_lists c.self.inside.state c.take.new.self _ c.in-Some.ensures.rest) c.in-Some.ensures.boxes c.in-Some.ensures.stands (c.in-Some.ensures.front _ c.self.invariant.history.stands) (g.H.Holder.fits c.args.holder.now)
-    (subst (λ (p : Past (Given g.row.P-Name.Denot g.row.P-Out.Denot g.row.P-In.Denot) g.row.P-Name.Denot g.row.P-Story.Denot). FitBinds g.P.Pipes.known.out_name g.P.Pipes.known.in_name p c.args.slot.0 (g.H.Holder.fits c.args.holder.now)) (sym c.self.view_is) c.requires.fits)
+    fits_first g.P.Pipes.known.out_name g.P.Pipes.known.in_name c.self.inside.state c.take.new.self _ _ c.args.slot c.in-Some.command c.self.invariant (took_lists c.self.inside.state c.take.new.self _ c.in-Some.ensures.rest) c.in-Some.ensures.boxes c.in-Some.ensures.stands (c.in-Some.ensures.front _ c.self.invariant.history.stands) (λ h. (e : EndId) → g.H.Holder.fits c.args.holder.now e h)
+    (subst (λ (p : Past (Given g.row.P-Name.Denot g.row.P-Out.Denot g.row.P-In.Denot) g.row.P-Name.Denot g.row.P-Story.Denot). FitBinds g.P.Pipes.known.out_name g.P.Pipes.known.in_name p c.args.slot.0 (λ h. (e : EndId) → g.H.Holder.fits c.args.holder.now e h)) (sym c.self.view_is) c.requires.fits)
 
 pub push-requires : goal.push-requires
 push-requires g c =

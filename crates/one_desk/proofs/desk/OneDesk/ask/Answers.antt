@@ -5,6 +5,8 @@ use Rattle.spec_control.specs.declared.request.Reply.TheVariants.{Done as IsDone
 use Rattle.control_held.specs.Held.{asker}
 use Rattle.control_held.specs.OwnAsks.{MayAskOwn}
 use Rattle.control_held.specs.Moments.{items_in}
+use Rattle.ctl_history.specs.Past.{control_of}
+use Rattle.ctl_holder.specs.Making.{MakesSo}
 use Rattle.ctl_plane.specs.Asking.{HasMarks, IsOfSockets}
 use Rattle.ctl_plane.specs.Coming.{is_close, SendsEnds}
 use Rattle.ctl_plane.specs.Desk.{AsksOnce}
@@ -50,6 +52,9 @@ bind_at-requires-clause-inproc g c = subst IsOfSockets c.in-Bind.is c.requires.s
 pub bind_at-requires-clause-lent : goal.bind_at-requires-clause-lent
 bind_at-requires-clause-lent g c = c.requires.lent c.in-Bind.socket.0 (ap asker c.in-Bind.is)
 
+pub bind_at-requires-clause-makes : goal.bind_at-requires-clause-makes
+bind_at-requires-clause-makes g c = subst (λ (q : Req). MakesSo (control_of c.args.self.now.past) q g.H.Holder.may_make) c.in-Bind.is c.requires.makes
+
 pub returns-in-Bind-clause-ok : goal.returns-in-Bind-clause-ok
 returns-in-Bind-clause-ok g c = ask_ok c.args.request (Bind c.in-Bind.socket c.in-Bind.at) c.in-Bind.is c.args.self.now c.bind_at.new.self c.bind_at.result c.bind_at.ensures.ok c.bind_at.ensures.err
 
@@ -70,6 +75,9 @@ connect_at-requires-clause-inproc g c = subst IsOfSockets c.in-Connect.is c.requ
 
 pub connect_at-requires-clause-lent : goal.connect_at-requires-clause-lent
 connect_at-requires-clause-lent g c = c.requires.lent c.in-Connect.socket.0 (ap asker c.in-Connect.is)
+
+pub connect_at-requires-clause-makes : goal.connect_at-requires-clause-makes
+connect_at-requires-clause-makes g c = subst (λ (q : Req). MakesSo (control_of c.args.self.now.past) q g.H.Holder.may_make) c.in-Connect.is c.requires.makes
 
 pub returns-in-Connect-clause-ok : goal.returns-in-Connect-clause-ok
 returns-in-Connect-clause-ok g c = ask_ok c.args.request (Connect c.in-Connect.socket c.in-Connect.at) c.in-Connect.is c.args.self.now c.connect_at.new.self c.connect_at.result c.connect_at.ensures.ok c.connect_at.ensures.err

@@ -1,9 +1,10 @@
 use Rattle.std.specs.Prelude.{List, [], ◌∷◌, length, map, refl}
-use Rattle.std.proofs.Common.{ap, ◌∙◌, subst}
+use Rattle.std.proofs.Common.{ap, sym, ◌∙◌, subst}
 use Rattle.std.proofs.lemmas.List.{map-append}
 use Rattle.zq_base.specs.declared.endpoint.Endpoint.TheVariants.{Inproc}
 use Rattle.spec_control.specs.declared.request.Req.TheVariants.{Bind}
 use Rattle.ctl_holder.specs.declared.given.Given.{Given}
+use Rattle.ctl_holder.specs.Making.{MakesSo}
 use Rattle.ctl_history.specs.Past.{Past, control_of}
 use Rattle.one_desk.specs.declared.mark.Mark.{Mark}
 use Rattle.one_desk.specs.Lent.{lent_to, Asks, Lent}
@@ -19,6 +20,10 @@ bind-requires-clause-lends g c =
 
 pub bind-requires-clause-has : goal.bind-requires-clause-has
 bind-requires-clause-has g c = desk_has (map (λ x. x.0) c.self.inside.order.items) c.self.inside.history (length c.self.inside.wakers.items) c.self.inside.caller c.args.self.now c.self.view_is c.self.invariant.0 (g.H.Holder.holding c.args.holder.now) c.requires.has
+
+pub bind-requires-clause-makes : goal.bind-requires-clause-makes
+bind-requires-clause-makes g c =
+    subst (λ (l : Lent (Given g.row.P-Name.Denot g.row.P-Out.Denot g.row.P-In.Denot) g.row.P-Name.Denot g.row.P-Story.Denot). MakesSo (control_of l.past) (Bind c.args.socket (Inproc c.args.name)) g.H.Holder.may_make) (sym c.self.view_is) c.requires.makes
 
 pub returns-in_err-reply-clause-keeps : goal.returns-in_err-reply-clause-keeps
 returns-in_err-reply-clause-keeps g c =

@@ -1,4 +1,5 @@
 use Rattle.std.specs.Prelude.{List, [], ◌∷◌, length, map}
+use Rattle.zq_base.specs.declared.ids.EndId.{EndId}
 use Rattle.std.proofs.Common.{sym, ap, ◌∙◌, subst}
 use Rattle.std.proofs.lemmas.List.{map-append}
 use Rattle.spec_control.specs.ControlRun.{IsSeen}
@@ -36,7 +37,7 @@ pub deliver-requires-clause-kinds : goal.deliver-requires-clause-kinds
 deliver-requires-clause-kinds g c = deliver_kinds (map (λ x. x.0) c.self.inside.order.items) c.self.inside.history (length c.self.inside.wakers.items) c.self.inside.caller c.args.self.now c.self.view_is c.self.invariant.0 (g.H.Holder.holding c.args.holder.now) c.requires.has c.args.slot.0 c.requires.mine
 
 pub deliver-requires-clause-fits : goal.deliver-requires-clause-fits
-deliver-requires-clause-fits g c = deliver_fits (map (λ x. x.0) c.self.inside.order.items) c.self.inside.history (length c.self.inside.wakers.items) c.self.inside.caller c.args.self.now c.self.view_is c.self.invariant.0 (g.H.Holder.holding c.args.holder.now) c.requires.has c.args.slot.0 c.requires.mine g.P.Pipes.known.out_name g.P.Pipes.known.in_name (g.H.Holder.fits c.args.holder.now) c.requires.fits
+deliver-requires-clause-fits g c = deliver_fits (map (λ x. x.0) c.self.inside.order.items) c.self.inside.history (length c.self.inside.wakers.items) c.self.inside.caller c.args.self.now c.self.view_is c.self.invariant.0 (g.H.Holder.holding c.args.holder.now) c.requires.has c.args.slot.0 c.requires.mine g.P.Pipes.known.out_name g.P.Pipes.known.in_name (λ h. (e : EndId) → g.H.Holder.fits c.args.holder.now e h) c.requires.fits
 
 pub deliver-requires-clause-reaps : goal.deliver-requires-clause-reaps
 deliver-requires-clause-reaps g c = λ first. not_first (map (λ x. x.0) c.self.inside.order.items) c.self.inside.history (length c.self.inside.wakers.items) c.self.inside.caller c.args.self.now c.self.view_is c.self.invariant.0 (g.H.Holder.holding c.args.holder.now) c.requires.has c.args.slot.0 c.requires.mine first

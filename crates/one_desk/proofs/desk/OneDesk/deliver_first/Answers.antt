@@ -1,4 +1,5 @@
 use Rattle.std.specs.Prelude.{◌≡◌, ℕ, true, Result, Ok, Err, OnErr}
+use Rattle.zq_base.specs.declared.ids.EndId.{EndId}
 use Rattle.std.proofs.Common.{sym, ap, ◌∙◌, subst}
 use Rattle.spec_control.specs.declared.entry.SeenEmpty.TheVariants.{Reapers}
 use Rattle.spec_control.specs.Names.{name_of}
@@ -22,7 +23,7 @@ pub hear_first-requires-clause-distinct : goal.hear_first-requires-clause-distin
 hear_first-requires-clause-distinct g c = subst (λ (d : Lent (Given g.row.P-Name.Denot g.row.P-Out.Denot g.row.P-In.Denot) g.row.P-Name.Denot g.row.P-Story.Denot). AreDistinct g.P.Pipes.known.exact (name_of d.items)) (sym c.forget_ended.ensures) c.requires.distinct
 
 pub hear_first-requires-clause-fits : goal.hear_first-requires-clause-fits
-hear_first-requires-clause-fits g c = subst (λ (d : Lent (Given g.row.P-Name.Denot g.row.P-Out.Denot g.row.P-In.Denot) g.row.P-Name.Denot g.row.P-Story.Denot). (m i : ℕ) → served_by d m i ≡ true → BindsFit g.P.Pipes.known.out_name g.P.Pipes.known.in_name (name_of d.items) (coming_to d m) (g.H.Holder.fits c.args.holder.now)) (sym c.forget_ended.ensures) c.requires.fits
+hear_first-requires-clause-fits g c = subst (λ (d : Lent (Given g.row.P-Name.Denot g.row.P-Out.Denot g.row.P-In.Denot) g.row.P-Name.Denot g.row.P-Story.Denot). (m i : ℕ) → served_by d m i ≡ true → BindsFit g.P.Pipes.known.out_name g.P.Pipes.known.in_name (name_of d.items) (coming_to d m) (λ h. (e : EndId) → g.H.Holder.fits c.args.holder.now e h)) (sym c.forget_ended.ensures) c.requires.fits
 
 pub hear_first-requires-clause-takes : goal.hear_first-requires-clause-takes
 hear_first-requires-clause-takes g c = subst (λ (d : Lent (Given g.row.P-Name.Denot g.row.P-Out.Denot g.row.P-In.Denot) g.row.P-Name.Denot g.row.P-Story.Denot). MayTakeFirst (g.H.Holder.may_take c.args.holder.now) d.past.given) (sym c.forget_ended.ensures) c.requires.takes
