@@ -16,7 +16,7 @@ use Rattle.held_ends.specs.Sound.{StandsSo, IsSound, Fits, AreApart}
 use Rattle.held_ends.proofs.PlaceLemmas.{place_within}
 use Rattle.held_ends.proofs.SoundLemmas.{one_some}
 
-end_self : (e : EndId) → is_end e e ≡ true
+pub end_self : (e : EndId) → is_end e e ≡ true
 end_self e = by e.a
   where
     number : (n : ℕ) → (n == n) ≡ true

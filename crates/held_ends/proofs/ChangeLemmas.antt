@@ -9,8 +9,9 @@ use Rattle.held_ends.specs.declared.changes.PipeChange.TheVariants.{Kept, Made, 
 use Rattle.held_ends.specs.declared.table.Place.{Place}
 use Rattle.held_ends.specs.Places.{place_at}
 use Rattle.held_ends.specs.Others.{IsLess, KeepsPlaces}
-use Rattle.held_ends.specs.Changes.{sealing_of, sealings_in, sealing_at, NotesHalf, IsPlaced, SealedBy, PartedBy, SettlesPipe, DoesChange, DoesChanges, DoesMore}
+use Rattle.held_ends.specs.Changes.{sealing_of, sealings_in, sealing_at, NotesHalf, WasHeld, WereHeld, IsPlaced, SealedBy, PartedBy, SettlesPipe, DoesChange, DoesChanges, DoesMore}
 use Rattle.held_ends.proofs.PlaceLemmas.{place_within}
+use Rattle.held_ends.proofs.SoundLemmas.{one_some}
 use Rattle.held_ends.proofs.EndsLemmas.{some_place}
 
 pub not_back : (was now : Bool) → (now ≡ true → was ≡ true) → was ≡ false → now ≡ false
@@ -20,6 +21,34 @@ not_back was false back gone = refl
 pub sealings_on : {O I S : Type 0} (xs ys : List (PipeChange O I × S)) → sealings_in (xs ++ ys) ≡ sealings_in xs ++ sealings_in ys
 sealings_on [] ys = refl
 sealings_on (x ∷ xs) ys = ap (λ (l : List (EndId × Bool)). sealing_of x.0 ++ l) (sealings_on xs ys) ∙ sym (append_assoc (sealing_of x.0) (sealings_in xs) (sealings_in ys))
+
+-- ---- what was held
+
+pub held_on : {O I N S : Type 0} (ps : List (Place N I)) (xs ys : List (PipeChange O I × S)) → WereHeld ps xs → WereHeld ps ys → WereHeld ps (xs ++ ys)
+held_on ps [] ys none then = then
+held_on ps (x ∷ xs) ys first then = (first.0, held_on ps xs ys first.1 then)
+
+module _ {I N : Type 0} (ps qs : List (Place N I)) (keeps : KeepsPlaces ps qs) where
+  -- what is there still was there
+  was_there : (k : ℕ) (p : Place N I) → place_at ps k ≡ Some p → (q : Place N I) × (place_at qs k ≡ Some q) × IsLess p q
+  was_there k p at =
+      let q = some_place qs k (let w = place_within ps k p at in let n = keeps.count in omega (arith, w, n)) in
+      (q.0, q.1, keeps.each k p q.0 at q.1)
+
+  was_both : (k : ℕ) → ((q : Place N I) → place_at qs k ≡ Some q → (q.held ≡ true) × (q.writes ≡ true)) → (p : Place N I) → place_at ps k ≡ Some p → (p.held ≡ true) × (p.writes ≡ true)
+  was_both k h p at = let q = was_there k p at in let b = h q.0 q.1 in (q.2.held b.0, q.2.writes b.1)
+
+  held_before : {O : Type 0} (d : PipeChange O I) → WasHeld qs d → WasHeld ps d
+  held_before Kept h = h
+  held_before (Made e capacity halves) h = h
+  held_before (Sealed k e half) h = was_both k h
+  held_before (SealedAgain k e) h = was_both k h
+  held_before (Parted k e half) h = was_both k h
+  held_before (Settled k e) h = λ p at. let q = was_there k p at in q.2.held (h q.0 q.1)
+
+  pub were_before : {O S : Type 0} (xs : List (PipeChange O I × S)) → WereHeld qs xs → WereHeld ps xs
+  were_before [] h = h
+  were_before (x ∷ xs) h = (held_before x.0 h.0, were_before xs h.1)
 
 module _ {S O I N : Type 0} (K : Known S O I N) where
   -- ---- where places stay
@@ -67,7 +96,7 @@ module _ {S O I N : Type 0} (K : Known S O I N) where
 
     change_later : (d : PipeChange O I) (old new : S) → DoesChange K ps d old new → DoesChange K qs d old new
     change_later Kept old new h = h
-    change_later (Made capacity halves) old new h = h
+    change_later (Made e capacity halves) old new h = h
     change_later (Sealed k e half) old new h = sealed_later k e half.items old new h
     change_later (SealedAgain k e) old new h = record { placed = placed_later k e h.placed; stays = h.stays }
     change_later (Parted k e half) old new h = parted_later k e half.items old new h
@@ -83,28 +112,39 @@ module _ {S O I N : Type 0} (K : Known S O I N) where
   changes_on ps [] ys old mid new none then = subst (λ (s : S). DoesChanges K ps s ys new) none then
   changes_on ps (x ∷ xs) ys old mid new first then = (first.0, changes_on ps xs ys x.1 mid new first.1 then)
 
-  pub more_on : (ps : List (Place N I)) (a b : List (EndId × Bool)) (xs ys zs : List (PipeChange O I × S)) (old mid new : S) → DoesMore K ps a xs old ys mid → DoesMore K ps b ys mid zs new → DoesMore K ps (a ++ b) xs old zs new
-  more_on ps a b xs ys zs old mid new first then = record {
+  pub more_on : (were ps : List (Place N I)) (a b : List (EndId × Bool)) (xs ys zs : List (PipeChange O I × S)) (old mid new : S) → DoesMore K were ps a xs old ys mid → DoesMore K were ps b ys mid zs new → DoesMore K were ps (a ++ b) xs old zs new
+  more_on were ps a b xs ys zs old mid new first then = record {
     more = first.more ++ then.more;
     noted = then.noted ∙ ap (λ (l : List (PipeChange O I × S)). l ++ then.more) first.noted ∙ append_assoc xs first.more then.more;
     does = changes_on ps first.more then.more old mid new first.does then.does;
+    held = held_on were first.more then.more first.held then.held;
     sealings_are = sealings_on first.more then.more ∙ ap (λ (l : List (EndId × Bool)). l ++ sealings_in then.more) first.sealings_are ∙ ap (λ (l : List (EndId × Bool)). a ++ l) then.sealings_are;
   }
 
   -- one change
-  pub more_one : (ps : List (Place N I)) (d : PipeChange O I) (a : List (EndId × Bool)) (xs ys : List (PipeChange O I × S)) (old new : S) → ys ≡ xs ++ (d, new) ∷ [] → DoesChange K ps d old new → sealing_of d ++ [] ≡ a → DoesMore K ps a xs old ys new
-  more_one ps d a xs ys old new noted does is = record { more = (d, new) ∷ []; noted = noted; does = (does, refl); sealings_are = is }
+  pub more_one : (were ps : List (Place N I)) (d : PipeChange O I) (a : List (EndId × Bool)) (xs ys : List (PipeChange O I × S)) (old new : S) → ys ≡ xs ++ (d, new) ∷ [] → DoesChange K ps d old new → WasHeld were d → sealing_of d ++ [] ≡ a → DoesMore K were ps a xs old ys new
+  more_one were ps d a xs ys old new noted does held is = record { more = (d, new) ∷ []; noted = noted; does = (does, refl); held = (held, tt); sealings_are = is }
 
   -- the changes since a stretch began
-  pub since_on : (ps qs : List (Place N I)) (a : List (EndId × Bool)) (xs ys : List (PipeChange O I × S)) (first old new : S) → KeepsPlaces ps qs → DoesChanges K ps first xs old → DoesMore K qs a xs old ys new → DoesChanges K qs first ys new
+  pub since_on : (ps qs : List (Place N I)) (a : List (EndId × Bool)) (xs ys : List (PipeChange O I × S)) (first old new : S) → KeepsPlaces ps qs → DoesChanges K ps first xs old → DoesMore K ps qs a xs old ys new → DoesChanges K qs first ys new
   since_on ps qs a xs ys first old new keeps was more = subst (λ (l : List (PipeChange O I × S)). DoesChanges K qs first l new) (sym more.noted) (changes_on qs xs more.more first old new (changes_later ps qs keeps xs first old was) more.does)
 
-  pub sealings_since : (qs : List (Place N I)) (a : List (EndId × Bool)) (xs ys : List (PipeChange O I × S)) (old new : S) → DoesMore K qs a xs old ys new → sealings_in ys ≡ sealings_in xs ++ a
-  sealings_since qs a xs ys old new more = ap sealings_in more.noted ∙ sealings_on xs more.more ∙ ap (λ (l : List (EndId × Bool)). sealings_in xs ++ l) more.sealings_are
+  -- to ends that were held as it began
+  pub held_since : (first ps qs : List (Place N I)) (a : List (EndId × Bool)) (xs ys : List (PipeChange O I × S)) (old new : S) → KeepsPlaces first ps → WereHeld first xs → DoesMore K ps qs a xs old ys new → WereHeld first ys
+  held_since first ps qs a xs ys old new keeps was more = subst (λ (l : List (PipeChange O I × S)). WereHeld first l) (sym more.noted) (held_on first xs more.more was (were_before first ps keeps more.more more.held))
+
+  pub sealings_since : (ps qs : List (Place N I)) (a : List (EndId × Bool)) (xs ys : List (PipeChange O I × S)) (old new : S) → DoesMore K ps qs a xs old ys new → sealings_in ys ≡ sealings_in xs ++ a
+  sealings_since ps qs a xs ys old new more = ap sealings_in more.noted ∙ sealings_on xs more.more ∙ ap (λ (l : List (EndId × Bool)). sealings_in xs ++ l) more.sealings_are
 
   -- ---- what is noted of an end at its place
 
-  module _ (ps qs : List (Place N I)) (keeps : KeepsPlaces ps qs) (k : ℕ) (p : Place N I) (at : place_at ps k ≡ Some p) (e : EndId) (end : p.end ≡ e) where
+  module _ (ps qs : List (Place N I)) (keeps : KeepsPlaces ps qs) (k : ℕ) (p : Place N I) (at : place_at ps k ≡ Some p) (held : p.held ≡ true) (e : EndId) (end : p.end ≡ e) where
+    held_here : (q : Place N I) → place_at ps k ≡ Some q → q.held ≡ true
+    held_here q here = ap (λ (x : Place N I). x.held) (one_some q p (sym here ∙ at)) ∙ held
+
+    both_here : p.writes ≡ true → (q : Place N I) → place_at ps k ≡ Some q → (q.held ≡ true) × (q.writes ≡ true)
+    both_here writes q here = (held_here q here, ap (λ (x : Place N I). x.writes) (one_some q p (sym here ∙ at)) ∙ writes)
+
     less_here : (q : Place N I) → place_at qs k ≡ Some q → IsLess p q
     less_here q here = keeps.each k p q at here
 
@@ -118,27 +158,27 @@ module _ {S O I N : Type 0} (K : Known S O I N) where
     sealing_is b is = ap (λ (x : EndId). (x, b) ∷ []) (sym end) ∙ ap (λ (c : Bool). (p.end, c) ∷ []) (sym is) ∙ ap sealing_at (sym at)
 
     module _ (xs ys : List (PipeChange O I × S)) (old new : S) where
-      pub seals_again : p.sealed ≡ true → new ≡ old → ys ≡ xs ++ (SealedAgain k e, new) ∷ [] → DoesMore K qs (sealing_at (place_at ps k)) xs old ys new
-      seals_again sealed stays noted = more_one qs (SealedAgain k e) (sealing_at (place_at ps k)) xs ys old new noted (record { placed = placed_here; stays = stays }) (sealing_is false (ap not sealed))
+      pub seals_again : p.writes ≡ true → p.sealed ≡ true → new ≡ old → ys ≡ xs ++ (SealedAgain k e, new) ∷ [] → DoesMore K ps qs (sealing_at (place_at ps k)) xs old ys new
+      seals_again writes sealed stays noted = more_one ps qs (SealedAgain k e) (sealing_at (place_at ps k)) xs ys old new noted (record { placed = placed_here; stays = stays }) (both_here writes) (sealing_is false (ap not sealed))
 
-      pub seals_first : (lent back : O) → p.sealed ≡ false → NotesHalf (λ half. Sealed k e half) lent back new xs ys → K.out_name lent ≡ p.written → (K.writing old lent).sealed ≡ false
-          → K.writing new back ≡ with_delimiter (K.writing old lent) → KeepsButOut K lent back old new → DoesMore K qs (sealing_at (place_at ps k)) xs old ys new
-      seals_first lent back not_yet h name unsealed delimiter leaves =
-          more_one qs (Sealed k e h.half) (sealing_at (place_at ps k)) xs ys old new h.noted
+      pub seals_first : (lent back : O) → p.writes ≡ true → p.sealed ≡ false → NotesHalf (λ half. Sealed k e half) lent back new xs ys → K.out_name lent ≡ p.written → (K.writing old lent).sealed ≡ false
+          → K.writing new back ≡ with_delimiter (K.writing old lent) → KeepsButOut K lent back old new → DoesMore K ps qs (sealing_at (place_at ps k)) xs old ys new
+      seals_first lent back writes not_yet h name unsealed delimiter leaves =
+          more_one ps qs (Sealed k e h.half) (sealing_at (place_at ps k)) xs ys old new h.noted
           (subst (λ (l : List (O × Unit {0})). SealedBy K qs k e l old new) (sym h.half_is)
           (record { placed = placed_here; pipe_is = λ q here. name ∙ sym (less_here q here).written_is; unsealed = unsealed; delimiter = delimiter; keeps = leaves }))
-          (sealing_is true (ap not not_yet))
+          (both_here writes) (sealing_is true (ap not not_yet))
 
-      pub parts_once : (lent back : O) → NotesHalf (λ half. Parted k e half) lent back new xs ys → K.out_name lent ≡ p.written
-          → K.writing new back ≡ without_parts (K.writing old lent) → KeepsButOut K lent back old new → DoesMore K qs [] xs old ys new
-      parts_once lent back h name forgets leaves =
-          more_one qs (Parted k e h.half) [] xs ys old new h.noted
+      pub parts_once : (lent back : O) → p.writes ≡ true → NotesHalf (λ half. Parted k e half) lent back new xs ys → K.out_name lent ≡ p.written
+          → K.writing new back ≡ without_parts (K.writing old lent) → KeepsButOut K lent back old new → DoesMore K ps qs [] xs old ys new
+      parts_once lent back writes h name forgets leaves =
+          more_one ps qs (Parted k e h.half) [] xs ys old new h.noted
           (subst (λ (l : List (O × Unit {0})). PartedBy K qs k e l old new) (sym h.half_is)
           (record { placed = placed_here; pipe_is = λ q here. name ∙ sym (less_here q here).written_is; forgets = forgets; keeps = leaves }))
-          refl
+          (both_here writes) refl
 
-      pub settles_once : (n : N) → ys ≡ xs ++ (Settled k e, new) ∷ [] → n ≡ p.read → ((q : Place N I) → place_at qs k ≡ Some q → q.held ≡ false) → KeepsButPipe K n old new → DoesMore K qs [] xs old ys new
+      pub settles_once : (n : N) → ys ≡ xs ++ (Settled k e, new) ∷ [] → n ≡ p.read → ((q : Place N I) → place_at qs k ≡ Some q → q.held ≡ false) → KeepsButPipe K n old new → DoesMore K ps qs [] xs old ys new
       settles_once n noted name gone leaves =
-          more_one qs (Settled k e) [] xs ys old new noted
+          more_one ps qs (Settled k e) [] xs ys old new noted
           (record { placed = placed_here; gone = gone; keeps = λ q here. subst (λ (m : N). KeepsButPipe K m old new) (name ∙ sym (less_here q here).read_is) leaves })
-          refl
+          held_here refl

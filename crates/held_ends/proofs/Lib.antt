@@ -11,3 +11,4 @@ pub mod OthersLemmas
 pub mod CountLemmas
 pub mod ChangeLemmas
 pub mod ChangeProps
+pub mod MadeLemmas

@@ -1,6 +1,9 @@
 -- What the calls of an owner of ends did to the pipes, one change after the other (own choice, after libzmq's `pipe_t`).
-use Rattle.std.specs.Prelude.{◌≡◌, ◌<◌, ◌++◌, ℕ, Bool, true, false, List, [], ◌∷◌, Option, Some, None, length, not}
+use Rattle.std.specs.Prelude.{◌≡◌, ◌<◌, ◌++◌, ℕ, Bool, true, false, List, [], ◌∷◌, Option, Some, None, length, not, if◌then◌else◌}
+use Rattle.std.specs.Option.{option_or}
+use Rattle.zq_base.specs.Ends.{other_end}
 use Rattle.zq_base.specs.declared.ids.EndId.{EndId}
+use Rattle.spec_control.specs.Control.{is_end}
 use Rattle.http_server.specs.declared.log.Log.{Log}
 use Rattle.spec_pattern.specs.Half.{with_delimiter, without_parts}
 use Rattle.msg_pipe.specs.Known.{Known, KeepsAll, KeepsButOut, KeepsButPipe, MakesPipe}
@@ -12,7 +15,7 @@ use Rattle.held_ends.specs.Places.{place_at}
 -- the end whose pipe was to be sealed, and whether it was not sealed before
 abbrev pub sealing_of : {O I : Type 0} → PipeChange O I → List (EndId × Bool)
 sealing_of Kept = []
-sealing_of (Made capacity halves) = []
+sealing_of (Made e capacity halves) = []
 sealing_of (Sealed k e half) = (e, true) ∷ []
 sealing_of (SealedAgain k e) = (e, false) ∷ []
 sealing_of (Parted k e half) = []
@@ -28,12 +31,76 @@ abbrev pub sealing_at : {N I : Type 0} → Option (Place N I) → List (EndId ×
 sealing_at None = []
 sealing_at (Some p) = (p.end, not p.sealed) ∷ []
 
+-- how many messages a pipe holds that was made with these halves, and its writing half
+abbrev pub made_with : {O I : Type 0} → ℕ → List (O × I) → Option (ℕ × O)
+made_with capacity [] = None
+made_with capacity (x ∷ xs) = Some (capacity, x.0)
+
+-- of the pipe that was made for an end to write
+abbrev pub made_by : {O I : Type 0} → EndId → PipeChange O I → Option (ℕ × O)
+made_by e Kept = None
+made_by e (Made f capacity halves) = if is_end f e then made_with capacity halves.items else None
+made_by e (Sealed k f half) = None
+made_by e (SealedAgain k f) = None
+made_by e (Parted k f half) = None
+made_by e (Settled k f) = None
+
+-- of the one that was made last, by all these changes in order
+abbrev pub made_last : {O I S : Type 0} → EndId → List (PipeChange O I × S) → Option (ℕ × O)
+made_last e [] = None
+made_last e (x ∷ xs) = option_or (made_last e xs) (made_by e x.0)
+
+-- one pipe more was made, for the end to write
+abbrev pub MakesFor : {O I S : Type 0} → EndId → (capacity : ℕ) → O → (xs ys : List (PipeChange O I × S)) → Type 0
+MakesFor e capacity out xs ys = (d : EndId) → made_last d ys ≡ (if is_end e d then Some (capacity, out) else made_last d xs)
+
+-- none was made for another end to write, or for an end of another pair
+abbrev pub MakesOnlyFor : {O I S : Type 0} → EndId → (xs ys : List (PipeChange O I × S)) → Type 0
+MakesOnlyFor e xs ys = (d : EndId) → is_end e d ≡ false → made_last d ys ≡ made_last d xs
+
+abbrev pub MakesOnlyOf : {O I S : Type 0} → EndId → (xs ys : List (PipeChange O I × S)) → Type 0
+MakesOnlyOf e xs ys = (d : EndId) → is_end e d ≡ false → is_end (other_end e) d ≡ false → made_last d ys ≡ made_last d xs
+
+-- none was made
+abbrev pub MakesNone : {O I S : Type 0} → (xs ys : List (PipeChange O I × S)) → Type 0
+MakesNone xs ys = (d : EndId) → made_last d ys ≡ made_last d xs
+
+-- what was done to the end at a place was done while it was held there; what was done to the pipe that it writes, while its writing half was there
+abbrev pub WasHeld : {N I O : Type 0} → List (Place N I) → PipeChange O I → Type 0
+WasHeld ps Kept = Unit {0}
+WasHeld ps (Made e capacity halves) = Unit {0}
+WasHeld ps (Sealed k e half) = (p : Place _ _) → place_at ps k ≡ Some p → (p.held ≡ true) × (p.writes ≡ true)
+WasHeld ps (SealedAgain k e) = (p : Place _ _) → place_at ps k ≡ Some p → (p.held ≡ true) × (p.writes ≡ true)
+WasHeld ps (Parted k e half) = (p : Place _ _) → place_at ps k ≡ Some p → (p.held ≡ true) × (p.writes ≡ true)
+WasHeld ps (Settled k e) = (p : Place _ _) → place_at ps k ≡ Some p → p.held ≡ true
+
+-- each of these changes was made to an end that had been so at its place, if it had it
+abbrev pub WereHeld : {N I O S : Type 0} → List (Place N I) → List (PipeChange O I × S) → Type 0
+WereHeld ps [] = Unit {0}
+WereHeld ps (x ∷ xs) = WasHeld ps x.0 × WereHeld ps xs
+
 -- the end has this place
 pub record IsPlaced {N I : Type 0} (ps : List (Place N I)) (k : ℕ) (e : EndId) : Type 0 where
   pub within : k < length ps
   pub end_is : (p : Place N I) → place_at ps k ≡ Some p → p.end ≡ e
 
 module _ {S O I N : Type 0} (K : Known S O I N) where
+  -- the pipes of these names, the one that an end writes and the one that it reads, are those that were made for it last, and may hold so many messages
+  pub record AreMadeFor (may_make : EndId → ℕ → ℕ → Type 0) (xs : List (PipeChange O I × S)) (e : EndId) (writes_name reads_name : N) : Type 0 where
+    pub written : ℕ
+    pub read : ℕ
+    pub out : O
+    pub other : O
+    pub writes : made_last e xs ≡ Some (written, out)
+    pub writes_it : K.out_name out ≡ writes_name
+    pub reads : made_last (other_end e) xs ≡ Some (read, other)
+    pub reads_it : K.out_name other ≡ reads_name
+    pub may : ∥ may_make e written read ∥₁
+
+  -- the end at a place joined with halves of the pipes that were made for it
+  abbrev pub IsMadeAt : (may_make : EndId → ℕ → ℕ → Type 0) → List (PipeChange O I × S) → Place N I → Type 0
+  IsMadeAt may_make xs p = AreMadeFor may_make xs p.end p.written p.read
+
   -- a pipe was made that holds so many messages, with these halves
   abbrev pub MadeWith : ℕ → List (O × I) → (old new : S) → Type 0
   MadeWith capacity [] old new = ⊥
@@ -77,7 +144,7 @@ module _ {S O I N : Type 0} (K : Known S O I N) where
   -- one change of the pipes of ends that have these places
   abbrev pub DoesChange : List (Place N I) → PipeChange O I → (old new : S) → Type 0
   DoesChange ps Kept old new = KeepsAll K old new
-  DoesChange ps (Made capacity halves) old new = MadeWith capacity halves.items old new
+  DoesChange ps (Made e capacity halves) old new = MadeWith capacity halves.items old new
   DoesChange ps (Sealed k e half) old new = SealedBy ps k e half.items old new
   DoesChange ps (SealedAgain k e) old new = StaysSealed ps k e old new
   DoesChange ps (Parted k e half) old new = PartedBy ps k e half.items old new
@@ -88,11 +155,12 @@ module _ {S O I N : Type 0} (K : Known S O I N) where
   DoesChanges ps old [] new = new ≡ old
   DoesChanges ps old (x ∷ xs) new = DoesChange ps x.0 old x.1 × DoesChanges ps x.1 xs new
 
-  -- such changes came behind those before, with these sealings among them
-  pub record DoesMore (ps : List (Place N I)) (sealings : List (EndId × Bool)) (xs : List (PipeChange O I × S)) (old : S) (ys : List (PipeChange O I × S)) (new : S) : Type 0 where
+  -- such changes came behind those before, to ends that had been held at their places, with these sealings among them
+  pub record DoesMore (were ps : List (Place N I)) (sealings : List (EndId × Bool)) (xs : List (PipeChange O I × S)) (old : S) (ys : List (PipeChange O I × S)) (new : S) : Type 0 where
     pub more : List (PipeChange O I × S)
     pub noted : ys ≡ xs ++ more
     pub does : DoesChanges ps old more new
+    pub held : WereHeld were more
     pub sealings_are : sealings_in more ≡ sealings
 
 -- a change of a half was noted, with the half before and behind it

@@ -7,7 +7,7 @@ ghost use Rattle.held_ends.specs.Attaching.{new_place, new_row, halves_of, Attac
 ghost use Rattle.held_ends.specs.Halving.{WritesAt};
 ghost use Rattle.msg_pipe.specs.Known.{KeepsAll, MakesPipe};
 ghost use Rattle.held_ends.specs.declared.table.Place.{Place};
-ghost use Rattle.held_ends.specs.Changes.{DoesMore};
+ghost use Rattle.held_ends.specs.Changes.{DoesMore, MakesFor, MakesOnlyFor, MakesOnlyOf, AreMadeFor};
 ghost use Rattle.held_ends.specs.Others.{Leaves};
 
 use crate::changes::PipeChange;
@@ -128,13 +128,14 @@ fn placed<P: HeldPipes>(row: &EndRow<P::Out, P::In>, peer: bool) -> Place<P::Nam
     }
 }
 
-/// Makes the pipes of a pair: the owner's end writes the first, of this many messages, and reads the
-/// second. Its halves may join the ends that it has. What was done is noted.
+/// Makes the pipes of a pair: this end, the owner's, writes the first, of this many messages, and
+/// reads the second. Its halves may join the ends that it has. What was done is noted.
 pub fn make<P: Pipes>(
     alloc: Global,
     pipes: &mut P,
     table: &EndTable<P::Name, P::Out, P::In>,
     did: &mut Log<PipeChange<P::Out, P::In>, P>,
+    end: EndId,
     capacities: (u32, u32),
     mine: &P::Waker,
     other: &P::Waker,
@@ -145,13 +146,17 @@ pub fn make<P: Pipes>(
     ensures sound { IsSound P.known pipes.new table.now.rows.items table.now.places.items }
     ensures pair { IfOk result (λ m. AreCrossed P.known.out_name P.known.in_name m.mine m.other) }
     ensures fits { IfOk result (λ m. Fits P.known pipes.new table.now.places.items m.mine) }
-    ensures changes { DoesMore P.known table.now.places.items []
+    ensures made { IfOk result (λ m. AreMadeFor P.known
+        (λ e written read. (written ≡ capacities.0) × (read ≡ capacities.1)) did.new.items end
+        (P.known.out_name m.mine.out) (P.known.in_name m.mine.input)) }
+    ensures only { MakesOnlyOf end did.old.items did.new.items }
+    ensures changes { DoesMore P.known table.now.places.items table.now.places.items []
         did.old.items pipes.old did.new.items pipes.new }
     ensures others { Leaves P.known pipes.old table.now pipes.new table.now }
 {
     let _unread = table;
-    let (out, away) = make_noted(alloc, pipes, did, capacities.0, mine, other)?;
-    let (back, input) = make_noted(alloc, pipes, did, capacities.1, other, mine)?;
+    let (out, away) = make_noted(alloc, pipes, did, end, capacities.0, mine, other)?;
+    let (back, input) = make_noted(alloc, pipes, did, end.other(), capacities.1, other, mine)?;
     Ok(Made {
         mine: Halves { out, input },
         other: Halves {
@@ -161,11 +166,12 @@ pub fn make<P: Pipes>(
     })
 }
 
-// Makes a pipe, and notes that or that there was no memory.
+// Makes a pipe for an end to write, and notes that or that there was no memory.
 fn make_noted<P: Pipes>(
     alloc: Global,
     pipes: &mut P,
     did: &mut Log<PipeChange<P::Out, P::In>, P>,
+    end: EndId,
     capacity: u32,
     writer: &P::Waker,
     reader: &P::Waker,
@@ -173,13 +179,15 @@ fn make_noted<P: Pipes>(
     requires some { IsCapacity capacity }
     ensures made { IfOk result (λ r. MakesPipe P.known capacity r.0 r.1 pipes.old pipes.new) }
     ensures keeps { KeepsAll P.known pipes.old pipes.new }
+    ensures noted { IfOk result (λ r. MakesFor end capacity r.0 did.old.items did.new.items) }
+    ensures only { MakesOnlyFor end did.old.items did.new.items }
     ensures changes { (places : List (Place P.Name P.In)) →
-        DoesMore P.known places [] did.old.items pipes.old did.new.items pipes.new }
+        DoesMore P.known places places [] did.old.items pipes.old did.new.items pipes.new }
 {
     match pipes.make(alloc, capacity, writer, reader) {
         Ok((out, input)) => {
             let halves: Log<P::Out, P::In> = Log::new();
-            let made = PipeChange::Made(capacity, halves.and(&out, &input));
+            let made = PipeChange::Made(end, capacity, halves.and(&out, &input));
             *did = did.and(&made, pipes);
             return Ok((out, input));
         }

@@ -6,8 +6,8 @@ use zq_base::EndId;
 pub enum PipeChange<O, I> {
     /// Want of memory left all pipes as they were.
     Kept,
-    /// It was made: how many messages it holds, and its halves.
-    Made(u32, Log<O, I>),
+    /// It was made: the end that is to write it, how many messages it holds, and its halves.
+    Made(EndId, u32, Log<O, I>),
     /// The end at a place, which writes it, wrote its delimiter: its half before and behind that.
     Sealed(usize, EndId, Log<O, ()>),
     /// The end at a place, which writes it, had done so.

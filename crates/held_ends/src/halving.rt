@@ -3,7 +3,7 @@ ghost use Rattle.spec_pattern.specs.Half.{with_delimiter, without_parts};
 ghost use Rattle.msg_pipe.specs.Known.{IsThere, KeepsButOut};
 ghost use Rattle.held_ends.specs.Sound.{IsSound, is_active, can_write};
 ghost use Rattle.held_ends.specs.declared.changes.PipeChange.TheVariants.{Sealed, Parted};
-ghost use Rattle.held_ends.specs.Changes.{DoesMore, NotesHalf, sealing_at};
+ghost use Rattle.held_ends.specs.Changes.{DoesMore, MakesNone, NotesHalf, sealing_at};
 ghost use Rattle.held_ends.specs.Others.{Leaves};
 ghost use Rattle.held_ends.specs.Places.{place_at};
 ghost use Rattle.held_ends.specs.Counting.{counts_in, half_in, KeepsCountsIn};
@@ -94,9 +94,10 @@ pub fn seal<P: Pipes>(
     ensures sound { IsSound P.known pipes.new table.new.rows.items table.new.places.items }
     ensures sealed { SealedAt place table.old table.new }
     ensures settled { table.new.settled ≡ table.old.settled }
-    ensures changes { DoesMore P.known table.new.places.items
+    ensures changes { DoesMore P.known table.old.places.items table.new.places.items
         (sealing_at (place_at table.old.places.items place))
         did.old.items pipes.old did.new.items pipes.new }
+    ensures none_made { MakesNone did.old.items did.new.items }
     ensures others { Leaves P.known pipes.old table.old pipes.new table.new }
 {
     let end = table.places[place].end;
@@ -150,8 +151,9 @@ pub fn yield_writer<P: Pipes>(
     ensures sound { IsSound P.known pipes.new table.new.rows.items table.new.places.items }
     ensures yielded { YieldedAt place (P.known.out_name result) table.old table.new }
     ensures settled { table.new.settled ≡ table.old.settled }
-    ensures changes { DoesMore P.known table.new.places.items []
+    ensures changes { DoesMore P.known table.old.places.items table.new.places.items []
         did.old.items pipes.old did.new.items pipes.new }
+    ensures none_made { MakesNone did.old.items did.new.items }
     ensures counts { KeepsCountsIn P.known place pipes.old table.old pipes.new table.new }
     ensures others { Leaves P.known pipes.old table.old pipes.new table.new }
 {
@@ -220,8 +222,9 @@ where
     ensures counts { result ≡ counts_in P.known pipes.old table.old place writer }
     ensures noted { table.new.settled.items
         ≡ table.old.settled.items ++ (P.known.out_name writer, tt) ∷ [] }
-    ensures changes { DoesMore P.known table.new.places.items []
+    ensures changes { DoesMore P.known table.old.places.items table.new.places.items []
         did.old.items pipes.old did.new.items pipes.new }
+    ensures none_made { MakesNone did.old.items did.new.items }
     ensures others { Leaves P.known pipes.old table.old pipes.new table.new }
 {
     let name = P::name(&writer);

@@ -1,10 +1,12 @@
 -- A socket that is moved for a call, a call that does nothing, and a close.
 use Rattle.std.proofs.Common.{◌≡◌, ℕ, Bool, true, false, List, [], ◌∷◌, ◌++◌, length, length-append, get_or, Option, Some, None, refl, sym, ap, ◌∙◌, subst, arith}
 use Rattle.std.specs.Prelude.{◌==◌, ◌&&◌, is_some, flat_map, map, if◌then◌else◌}
-use Rattle.std.proofs.Math.Logic.{∥∥₁_elim}
+use Rattle.std.proofs.Math.Logic.{∥∥₁_elim, ∥∥₁_map}
+use Rattle.zq_base.specs.declared.ids.EndId.{EndId}
+use Rattle.held_ends.proofs.PlaceLemmas.{place_within}
 use Rattle.held_ends.specs.declared.changes.PipeChange.{PipeChange}
-use Rattle.held_ends.proofs.ChangeProps.{changes_prop}
-use Rattle.sock_core.specs.Noted.{HasDone}
+use Rattle.held_ends.proofs.ChangeProps.{changes_prop, were_held_prop, made_out}
+use Rattle.sock_core.specs.Noted.{AreMade, HasDone}
 use Rattle.sock_core.proofs.DoneLemmas.{tells_none}
 use Rattle.std.proofs.lemmas.Bool.{eq-eqb}
 use Rattle.std.proofs.lemmas.List.{append-nil}
@@ -140,15 +142,47 @@ module _ {C W N O I S : Type 0} (K : Known S O I N) where
       }
 
 -- what was done is told in one way
-pub done_so : {C W N O I S : Type 0} → IsSet N → IsSet S → (K : Known S O I N) (before now : S) (a b : SockCore C W N O I) (xs : List (PipeChange O I × S))
-    → HasDone K before (map (λ x. x.0) a.sealed.items) xs now b.ends.places.items (map (λ x. x.0) b.sealed.items) → HaveDone K (Some a) (Some b) before now
-done_so n_set s_set K before now a b xs h = record {
+pub done_so : {C W N O I S : Type 0} → IsSet N → IsSet S → (K : Known S O I N) (made : Bool) (may_make : EndId → ℕ → ℕ → Type 0) (before now : S) (a b : SockCore C W N O I) (xs : List (PipeChange O I × S))
+    → HasDone K before a.ends.places.items (map (λ x. x.0) a.sealed.items) xs now b.ends.places.items (map (λ x. x.0) b.sealed.items) → (made ≡ true → AreMade K may_make xs (length a.ends.places.items) b.ends.places.items)
+    → HaveDone K made may_make (Some a) (Some b) before now
+done_so n_set s_set K made may_make before now a b xs h tied = record {
   changes = xs;
   does = ∥∥₁_elim h.does (changes_prop K n_set s_set b.ends.places.items before xs now) (λ d. d);
   seals = h.seals;
+  were_held = ∥∥₁_elim h.were_held (were_held_prop a.ends.places.items xs) (λ w. w);
+  tied = λ is k p le at held. made_out K n_set may_make xs p.end p.written p.read (tied is k p le at held);
 }
 
 -- nothing was done
-pub done_nothing : {C W N O I S : Type 0} (K : Known S O I N) (pipes : S) (s : Option (SockCore C W N O I)) → is_some s ≡ true → HaveDone K s s pipes pipes
-done_nothing K pipes None there = absurd (never there)
-done_nothing K pipes (Some s) there = record { changes = []; does = refl; seals = tells_none (map (λ x. x.0) s.sealed.items) }
+pub done_nothing : {C W N O I S : Type 0} (K : Known S O I N) (made : Bool) (may_make : EndId → ℕ → ℕ → Type 0) (pipes : S) (s : Option (SockCore C W N O I)) → is_some s ≡ true → HaveDone K made may_make s s pipes pipes
+done_nothing K made may_make pipes None there = absurd (never there)
+done_nothing K made may_make pipes (Some s) there = record {
+  changes = [];
+  does = refl;
+  seals = tells_none (map (λ x. x.0) s.sealed.items);
+  were_held = tt;
+  tied = λ is k p le at held. let w = place_within s.ends.places.items k p at in absurd (omega (arith, le, w));
+}
+
+-- what may be made may be made otherwise
+pub done_as : {C W N O I S : Type 0} (K : Known S O I N) (made : Bool) (may_make might : EndId → ℕ → ℕ → Type 0) → ((e : EndId) (written read : ℕ) → may_make e written read → might e written read)
+    → (old new : Option (SockCore C W N O I)) (before now : S) → HaveDone K made may_make old new before now → HaveDone K made might old new before now
+done_as K made may_make might turns None new before now h = absurd h
+done_as K made may_make might turns (Some a) None before now h = absurd h
+done_as K made may_make might turns (Some a) (Some b) before now h = record {
+  changes = h.changes;
+  does = h.does;
+  seals = h.seals;
+  were_held = h.were_held;
+  tied = λ is k p le at held. let m = h.tied is k p le at held in record {
+    written = m.written;
+    read = m.read;
+    out = m.out;
+    other = m.other;
+    writes = m.writes;
+    writes_it = m.writes_it;
+    reads = m.reads;
+    reads_it = m.reads_it;
+    may = ∥∥₁_map m.may (turns p.end m.written m.read);
+  };
+}

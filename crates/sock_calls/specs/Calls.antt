@@ -1,5 +1,5 @@
 -- A socket between its calls, without the pipes of its ends (own choice).
-use Rattle.std.specs.Prelude.{◌≡◌, ℕ, true, false, List, [], Option, Some, None, length, map}
+use Rattle.std.specs.Prelude.{◌≡◌, ◌≤◌, ℕ, Bool, true, false, List, [], Option, Some, None, length, map}
 use Rattle.zq_base.specs.declared.ids.EndId.{EndId}
 use Rattle.zq_base.specs.declared.ids.Settled.{Settled}
 use Rattle.zq_base.specs.declared.kind.Kind.{Kind}
@@ -14,7 +14,9 @@ use Rattle.held_ends.specs.Others.{Leaves}
 use Rattle.sock_core.specs.declared.sock.SockCore.{SockCore}
 use Rattle.sock_core.specs.Has.{IsStopped, holding_in}
 use Rattle.held_ends.specs.declared.changes.PipeChange.{PipeChange}
-use Rattle.held_ends.specs.Changes.{sealings_in, DoesChanges}
+use Rattle.held_ends.specs.Changes.{sealings_in, WereHeld, IsMadeAt, DoesChanges}
+use Rattle.held_ends.specs.declared.table.Place.{Place}
+use Rattle.held_ends.specs.Places.{place_at}
 use Rattle.sock_core.specs.Noted.{WereRead, AreSealed, TellsSeals}
 use Rattle.sock_core.specs.Sound.{AreSound, KeepsRoom}
 use Rattle.sock_core.specs.Peers.{ArePeers, AreFlagged, AreInUse}
@@ -91,13 +93,15 @@ module _ {C W N O I : Type 0} where
     LeavesOthers (Some a) None before now = ⊥
     LeavesOthers (Some a) (Some b) before now = Leaves K before a.ends now b.ends
 
-    -- what its calls did to the pipes, change by change, and the ends that they told it to seal
-    pub record DoesSo (before : S) (a : SockCore C W N O I) (now : S) (b : SockCore C W N O I) : Type 0 where
+    -- what its calls did to the pipes, change by change, to ends that were held before, and the ends that they told it to seal; where pipes were made, each end that joined has halves of those that were made for it
+    pub record DoesSo (made : Bool) (may_make : EndId → ℕ → ℕ → Type 0) (before : S) (a : SockCore C W N O I) (now : S) (b : SockCore C W N O I) : Type 0 where
       pub changes : List (PipeChange O I × S)
       pub does : DoesChanges K b.ends.places.items before changes now
       pub seals : TellsSeals (map (λ x. x.0) a.sealed.items) (sealings_in changes) (map (λ x. x.0) b.sealed.items)
+      pub were_held : WereHeld a.ends.places.items changes
+      pub tied : made ≡ true → (k : ℕ) (p : Place N I) → length a.ends.places.items ≤ k → place_at b.ends.places.items k ≡ Some p → p.held ≡ true → IsMadeAt K may_make changes p
 
-    abbrev pub HaveDone : (old new : Option (SockCore C W N O I)) → (before now : S) → Type 0
-    HaveDone None new before now = ⊥
-    HaveDone (Some a) None before now = ⊥
-    HaveDone (Some a) (Some b) before now = DoesSo before a now b
+    abbrev pub HaveDone : (made : Bool) → (may_make : EndId → ℕ → ℕ → Type 0) → (old new : Option (SockCore C W N O I)) → (before now : S) → Type 0
+    HaveDone made may_make None new before now = ⊥
+    HaveDone made may_make (Some a) None before now = ⊥
+    HaveDone made may_make (Some a) (Some b) before now = DoesSo made may_make before a now b

@@ -2,6 +2,8 @@ ghost use Rattle.std.specs.Prelude.{◌≡◌, ◌++◌, true, false, List, Some
 ghost use Rattle.control_held.specs.Held.{asker};
 ghost use Rattle.control_held.specs.OwnAsks.{MayAskOwn};
 ghost use Rattle.control_held.specs.Moments.{items_in};
+ghost use Rattle.spec_control.specs.Control.{Control};
+ghost use Rattle.ctl_holder.specs.Making.{IsMadeFor};
 ghost use Rattle.ctl_plane.specs.Asking.{HasMarks, IsOfSockets};
 ghost use Rattle.ctl_plane.specs.Coming.{KeepsNames, SendsEnds};
 ghost use Rattle.ctl_plane.specs.Desk.{HasWhatTheySay, KeepsUp, AsksOnce};
@@ -55,7 +57,9 @@ where
     ensures owner { owner_of socket.new ≡ owner_of socket.old }
     ensures fits { FitsPipes P.known C.peers pipes.new socket.new }
     ensures others { LeavesOthers P.known socket.old socket.new pipes.old pipes.new }
-    ensures does { HaveDone P.known socket.old socket.new pipes.old pipes.new }
+    ensures does { HaveDone P.known true (λ e written read. (c : Control) × D.finds desk.old c
+        × IsMadeFor c (owner_of socket.old) request e written read)
+        socket.old socket.new pipes.old pipes.new }
     ensures rests { RestsThere C.rests socket.old → RestsThere C.rests socket.new }
     ensures passes { (more : List (Moment P.Name P.Story)) →
         D.moments desk.new ≡ D.moments desk.old ++ more →

@@ -1,10 +1,11 @@
-ghost use Rattle.std.specs.Prelude.{◌≡◌, ℕ, true, false, Some, IfOk, OnErr, map};
+ghost use Rattle.std.specs.Prelude.{◌≡◌, ℕ, true, false, Some, IfOk, OnErr, length, map};
 ghost use Rattle.control_held.specs.Held.{asker};
 ghost use Rattle.control_held.specs.OwnAsks.{MayAskOwn};
 ghost use Rattle.control_held.specs.Moments.{items_in, left_after};
-ghost use Rattle.spec_control.specs.Control.{place_of};
+ghost use Rattle.spec_control.specs.Control.{Control, place_of};
 ghost use Rattle.spec_control.specs.Place.{looks};
 ghost use Rattle.ctl_holder.specs.Holding.{has_end};
+ghost use Rattle.ctl_holder.specs.Making.{MakesSo};
 ghost use Rattle.ctl_plane.specs.Asking.{HasMarks, IsOfSockets};
 ghost use Rattle.ctl_plane.specs.Coming.{AreDistinct, BindsFit, KeepsNames, SendsEnds};
 ghost use Rattle.ctl_plane.specs.Desk.{HasWhatTheySay, KeepsUp, AsksOnce, GivesOrNot, DelimitsOrNot, slot_after};
@@ -13,7 +14,7 @@ ghost use Rattle.held_ends.specs.Counting.{counts_of};
 ghost use Rattle.held_ends.specs.Others.{Leaves};
 ghost use Rattle.held_ends.specs.Sound.{Fits};
 ghost use Rattle.sock_core.specs.Has.{holding_in};
-ghost use Rattle.sock_core.specs.Noted.{HasDone};
+ghost use Rattle.sock_core.specs.Noted.{AreMade, HasDone};
 ghost use Rattle.sock_core.specs.Way.{KindWayOf};
 ghost use Rattle.sock_core.specs.declared.sock.SockCore.{SockCore};
 ghost use Rattle.sock_calls.specs.Calls.{FitsCore};
@@ -51,6 +52,7 @@ where
         (s ≡ pipes) × (t ≡ core) × (core.number.0 ≡ F.object) }
     requires fits { FitsCore P.known C.peers pipes core }
     requires may { MayAskOwn (items_in (D.moments desk.old)) request }
+    requires makes { (c : Control) → D.finds desk.old c → MakesSo c request F.may_make }
     requires options { HasMarks request }
     requires sockets { D.serves ≡ false → IsOfSockets request }
     requires lent { (i : ℕ) → asker request ≡ Some i →
@@ -73,8 +75,11 @@ where
     ensures others { (s : P) (t : SockCore C P.Waker P.Name P.Out P.In) → F.began s t →
         Leaves P.known s t.ends result.pipes result.core.ends × (result.core.number.0 ≡ F.object) }
     ensures does { (s : P) (t : SockCore C P.Waker P.Name P.Out P.In) → F.began s t →
-        HasDone P.known s (map (λ x. x.0) t.sealed.items) result.did.items result.pipes
-        result.core.ends.places.items (map (λ x. x.0) result.core.sealed.items) }
+        HasDone P.known s t.ends.places.items (map (λ x. x.0) t.sealed.items) result.did.items
+        result.pipes result.core.ends.places.items (map (λ x. x.0) result.core.sealed.items) }
+    ensures tied { (s : P) (t : SockCore C P.Waker P.Name P.Out P.In) → F.began s t →
+        F.comes ≡ false → AreMade P.known F.may_make result.did.items
+        (length t.ends.places.items) result.core.ends.places.items }
     ensures way { (s : P) (t : SockCore C P.Waker P.Name P.Out P.In) → F.began s t →
         ∥ KindWayOf C.pattern C.names C.sound C.peers t result.core ∥₁ }
     ensures rest { (s : P) (t : SockCore C P.Waker P.Name P.Out P.In) → F.began s t →
@@ -127,6 +132,7 @@ where
     requires held { (holding_in (C.kind core.kind) core).holds core.number.0 ≡ true }
     requires has { HasWhatTheySay (D.number desk.old) (D.moments desk.old)
         (holding_in (C.kind core.kind) core) }
+    requires comes { F.comes ≡ true }
     requires alone { (i : ℕ) → D.served desk.old
         (slot_after core.number.0 (D.moments desk.old)).0 i ≡ true → i ≡ core.number.0 }
     requires distinct { AreDistinct P.known.exact (D.named desk.old) }
@@ -151,8 +157,8 @@ where
     ensures others { (s : P) (t : SockCore C P.Waker P.Name P.Out P.In) → F.began s t →
         Leaves P.known s t.ends result.pipes result.core.ends × (result.core.number.0 ≡ F.object) }
     ensures does { (s : P) (t : SockCore C P.Waker P.Name P.Out P.In) → F.began s t →
-        HasDone P.known s (map (λ x. x.0) t.sealed.items) result.did.items result.pipes
-        result.core.ends.places.items (map (λ x. x.0) result.core.sealed.items) }
+        HasDone P.known s t.ends.places.items (map (λ x. x.0) t.sealed.items) result.did.items
+        result.pipes result.core.ends.places.items (map (λ x. x.0) result.core.sealed.items) }
     ensures way { (s : P) (t : SockCore C P.Waker P.Name P.Out P.In) → F.began s t →
         ∥ KindWayOf C.pattern C.names C.sound C.peers t result.core ∥₁ }
     ensures rest { (s : P) (t : SockCore C P.Waker P.Name P.Out P.In) → F.began s t →
@@ -221,8 +227,8 @@ where
     ensures others { (s : P) (t : SockCore C P.Waker P.Name P.Out P.In) → F.began s t →
         Leaves P.known s t.ends result.pipes result.core.ends × (result.core.number.0 ≡ F.object) }
     ensures does { (s : P) (t : SockCore C P.Waker P.Name P.Out P.In) → F.began s t →
-        HasDone P.known s (map (λ x. x.0) t.sealed.items) result.did.items result.pipes
-        result.core.ends.places.items (map (λ x. x.0) result.core.sealed.items) }
+        HasDone P.known s t.ends.places.items (map (λ x. x.0) t.sealed.items) result.did.items
+        result.pipes result.core.ends.places.items (map (λ x. x.0) result.core.sealed.items) }
     ensures way { (s : P) (t : SockCore C P.Waker P.Name P.Out P.In) → F.began s t →
         ∥ KindWayOf C.pattern C.names C.sound C.peers t result.core ∥₁ }
     ensures rest { (s : P) (t : SockCore C P.Waker P.Name P.Out P.In) → F.began s t →

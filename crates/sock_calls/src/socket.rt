@@ -39,7 +39,8 @@ where
 
     ghost leaves = { λ old new before now. LeavesOthers P.known old.core new.core before now };
 
-    ghost does = { λ old new before now. HaveDone P.known old.core new.core before now };
+    ghost does = { λ old new before now made may_make.
+        HaveDone P.known made may_make old.core new.core before now };
 
     ghost rests = { λ s. RestsThere C.rests s.core };
 
@@ -197,7 +198,8 @@ where
             × (D.number desk.new ≡ D.number desk.old) }
         ensures fits { FitsPipes P.known C.peers pipes.new self.new.core }
         ensures others { LeavesOthers P.known self.old.core self.new.core pipes.old pipes.new }
-        ensures does { HaveDone P.known self.old.core self.new.core pipes.old pipes.new }
+        ensures does { HaveDone P.known true (λ e written read. ⊥)
+            self.old.core self.new.core pipes.old pipes.new }
     {
         let request = Req::Close(number_of(&self.core));
         ask(alloc, pipes, &mut self.core, desk, request)

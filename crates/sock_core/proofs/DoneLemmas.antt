@@ -12,7 +12,7 @@ use Rattle.held_ends.specs.declared.table.Place.{Place}
 use Rattle.held_ends.specs.Places.{place_at}
 use Rattle.held_ends.specs.Others.{KeepsPlaces}
 use Rattle.held_ends.specs.Changes.{sealings_in, sealing_at, DoesMore}
-use Rattle.held_ends.proofs.ChangeLemmas.{changes_later, since_on, sealings_since}
+use Rattle.held_ends.proofs.ChangeLemmas.{changes_later, since_on, held_since, sealings_since}
 use Rattle.sock_core.specs.Noted.{were_told, TellsSeals, AreSealed, HasDone}
 
 -- ---- what was to be sealed
@@ -44,29 +44,31 @@ not_false : (b : Bool) → not b ≡ false → b ≡ true
 not_false true h = refl
 not_false false h = absurd (true≢false h)
 
-module _ {S O I N : Type 0} (K : Known S O I N) (first : S) (es : List EndId) where
-  module _ (old new : S) (xs ys : List (PipeChange O I × S)) (ps qs : List (Place N I)) (keeps : KeepsPlaces ps qs) (fs : List EndId) where
+module _ {S O I N : Type 0} (K : Known S O I N) (first : S) (were : List (Place N I)) (es : List EndId) where
+  module _ (old new : S) (xs ys : List (PipeChange O I × S)) (ps qs : List (Place N I)) (since : KeepsPlaces were ps) (keeps : KeepsPlaces ps qs) (fs : List EndId) where
     -- a call at the pipes, which sealed none
-    pub done_more : DoesMore K qs [] xs old ys new → HasDone K first es xs old ps fs → HasDone K first es ys new qs fs
+    pub done_more : DoesMore K ps qs [] xs old ys new → HasDone K first were es xs old ps fs → HasDone K first were es ys new qs fs
     done_more more h = record {
+      were_held = ∥∥₁_map h.were_held (λ w. held_since K were ps qs [] xs ys old new since w more);
       does = ∥∥₁_map h.does (λ d. since_on K ps qs [] xs ys first old new keeps d more);
-      seals = subst (λ (l : List (EndId × Bool)). TellsSeals es l fs) (sym (sealings_since K qs [] xs ys old new more ∙ append-nil (sealings_in xs))) h.seals;
+      seals = subst (λ (l : List (EndId × Bool)). TellsSeals es l fs) (sym (sealings_since K ps qs [] xs ys old new more ∙ append-nil (sealings_in xs))) h.seals;
     }
 
     -- one that was told to seal the pipe of an end
-    pub done_seal : (k : ℕ) (p : Place N I) (e : EndId) (gs : List EndId) → DoesMore K qs (sealing_at (place_at ps k)) xs old ys new → place_at ps k ≡ Some p → p.held ≡ true → p.end ≡ e
-        → AreSealed ps fs → gs ≡ fs ++ e ∷ [] → HasDone K first es xs old ps fs → HasDone K first es ys new qs gs
+    pub done_seal : (k : ℕ) (p : Place N I) (e : EndId) (gs : List EndId) → DoesMore K ps qs (sealing_at (place_at ps k)) xs old ys new → place_at ps k ≡ Some p → p.held ≡ true → p.end ≡ e
+        → AreSealed ps fs → gs ≡ fs ++ e ∷ [] → HasDone K first were es xs old ps fs → HasDone K first were es ys new qs gs
     done_seal k p e gs more at held end sealed noted h = record {
+      were_held = ∥∥₁_map h.were_held (λ w. held_since K were ps qs (sealing_at (place_at ps k)) xs ys old new since w more);
       does = ∥∥₁_map h.does (λ d. since_on K ps qs (sealing_at (place_at ps k)) xs ys first old new keeps d more);
       seals =
-          subst (λ (l : List (EndId × Bool)). TellsSeals es l gs) (sym (sealings_since K qs (sealing_at (place_at ps k)) xs ys old new more ∙ ap (λ (o : Option (Place N I)). sealings_in xs ++ sealing_at o) at))
+          subst (λ (l : List (EndId × Bool)). TellsSeals es l gs) (sym (sealings_since K ps qs (sealing_at (place_at ps k)) xs ys old new more ∙ ap (λ (o : Option (Place N I)). sealings_in xs ++ sealing_at o) at))
           (tells_more es (sealings_in xs) fs gs p.end (not p.sealed) h.seals (λ was. sealed k p at held (not_false p.sealed was)) (noted ∙ ap (λ (x : EndId). fs ++ x ∷ []) (sym end)));
     }
 
   -- the pipes were left alone
-  pub done_still : (pipes : S) (xs : List (PipeChange O I × S)) (ps qs : List (Place N I)) (fs : List EndId) → KeepsPlaces ps qs → HasDone K first es xs pipes ps fs → HasDone K first es xs pipes qs fs
-  done_still pipes xs ps qs fs keeps h = record { does = ∥∥₁_map h.does (λ d. changes_later K ps qs keeps xs first pipes d); seals = h.seals }
+  pub done_still : (pipes : S) (xs : List (PipeChange O I × S)) (ps qs : List (Place N I)) (fs : List EndId) → KeepsPlaces ps qs → HasDone K first were es xs pipes ps fs → HasDone K first were es xs pipes qs fs
+  done_still pipes xs ps qs fs keeps h = record { were_held = h.were_held; does = ∥∥₁_map h.does (λ d. changes_later K ps qs keeps xs first pipes d); seals = h.seals }
 
   -- nothing was done yet
-  pub done_none : (pipes : S) (xs : List (PipeChange O I × S)) (ps : List (Place N I)) → first ≡ pipes → xs ≡ [] → HasDone K first es xs pipes ps es
-  done_none pipes xs ps same none = subst (λ (l : List (PipeChange O I × S)). HasDone K first es l pipes ps es) (sym none) (record { does = ∣ sym same ∣₁; seals = tells_none es })
+  pub done_none : (pipes : S) (xs : List (PipeChange O I × S)) (ps : List (Place N I)) → first ≡ pipes → xs ≡ [] → HasDone K first were es xs pipes ps es
+  done_none pipes xs ps same none = subst (λ (l : List (PipeChange O I × S)). HasDone K first were es l pipes ps es) (sym none) (record { were_held = ∣ tt ∣₁; does = ∣ sym same ∣₁; seals = tells_none es })

@@ -16,3 +16,4 @@ pub mod CalmLemmas
 pub mod GoingLemmas
 pub mod NotedLemmas
 pub mod DoneLemmas
+pub mod MadeLemmas

@@ -1,5 +1,5 @@
 -- What the logs of a socket say of its ends (own choice).
-use Rattle.std.specs.Prelude.{◌≡◌, ◌&&◌, ◌||◌, ◌++◌, ℕ, Bool, true, false, List, [], ◌∷◌, Some, All, map}
+use Rattle.std.specs.Prelude.{◌≡◌, ◌≤◌, ◌&&◌, ◌||◌, ◌++◌, ℕ, Bool, true, false, List, [], ◌∷◌, Some, All, map}
 use Rattle.std.specs.List.{list_any}
 use Rattle.zq_base.specs.declared.ids.EndId.{EndId}
 use Rattle.spec_control.specs.Control.{is_end}
@@ -7,7 +7,9 @@ use Rattle.held_ends.specs.declared.table.Place.{Place}
 use Rattle.held_ends.specs.Places.{place_at}
 use Rattle.msg_pipe.specs.Known.{Known}
 use Rattle.held_ends.specs.declared.changes.PipeChange.{PipeChange}
-use Rattle.held_ends.specs.Changes.{sealings_in, DoesChanges}
+use Rattle.ctl_holder.specs.declared.halves.Halves.{Halves}
+use Rattle.held_ends.specs.Sound.{Fits}
+use Rattle.held_ends.specs.Changes.{sealings_in, WereHeld, AreMadeFor, IsMadeAt, DoesChanges}
 
 -- of the ends that were to be sealed behind these, each that was sealed before is one of those that were told before it
 abbrev pub were_told : List EndId → List (EndId × Bool) → Bool
@@ -36,7 +38,17 @@ module _ {N I : Type 0} where
   abbrev pub AreSealed : List (Place N I) → List EndId → Type 0
   AreSealed ps sealed = (k : ℕ) (p : Place N I) → place_at ps k ≡ Some p → p.held ≡ true → p.sealed ≡ true → list_any (is_end p.end) sealed ≡ true
 
--- what was done to the pipes since a stretch of calls began, with these pipes and with these ends that the socket had been told to seal
-pub record HasDone {N O I S : Type 0} (K : Known S O I N) (first : S) (before : List EndId) (changes : List (PipeChange O I × S)) (now : S) (places : List (Place N I)) (sealed : List EndId) : Type 0 where
+module _ {N O I S : Type 0} (K : Known S O I N) (may_make : EndId → ℕ → ℕ → Type 0) (changes : List (PipeChange O I × S)) where
+  -- each end that is held behind so many places has halves of the pipes that were made for it
+  abbrev pub AreMade : ℕ → List (Place N I) → Type 0
+  AreMade many ps = (k : ℕ) (p : Place N I) → many ≤ k → place_at ps k ≡ Some p → p.held ≡ true → ∥ IsMadeAt K may_make changes p ∥₁
+
+  -- halves that may join ends as this one; they are those of the pipes that were made for it last, unless ends come with their halves
+  abbrev pub FitsFor : (comes : Bool) → S → List (Place N I) → EndId → Halves O I → Type 0
+  FitsFor comes pipes ps e h = Fits K pipes ps h × (comes ≡ false → AreMadeFor K may_make changes e (K.out_name h.out) (K.in_name h.input))
+
+-- what was done to the pipes since a stretch of calls began, with these pipes, with these places, and with these ends that the socket had been told to seal
+pub record HasDone {N O I S : Type 0} (K : Known S O I N) (first : S) (were : List (Place N I)) (before : List EndId) (changes : List (PipeChange O I × S)) (now : S) (places : List (Place N I)) (sealed : List EndId) : Type 0 where
   pub does : ∥ DoesChanges K places first changes now ∥₁
   pub seals : TellsSeals before (sealings_in changes) sealed
+  pub were_held : ∥ WereHeld were changes ∥₁

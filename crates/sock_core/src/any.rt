@@ -1,7 +1,7 @@
 use crate::joins::Joins;
 use any_sock::AnySock;
 use std::alloc::{AllocError, Global};
-use zq_base::{Attached, PairId, Peer};
+use zq_base::{Attached, Octets, PairId};
 
 impl Joins for AnySock {
     ghost use Rattle.std.specs.Prelude.{◌≡◌};
@@ -31,11 +31,16 @@ impl Joins for AnySock {
     }
 
     // A peer whose identity can't be a name is refused, as one whose identity is another's is.
-    fn attach(&mut self, alloc: Global, place: usize, peer: &Peer) -> Result<Attached, AllocError> {
-        if !self.can_name(peer.identity.as_slice()) {
+    fn attach(
+        &mut self,
+        alloc: Global,
+        place: usize,
+        identity: &Octets,
+    ) -> Result<Attached, AllocError> {
+        if !self.can_name(identity.as_slice()) {
             return Ok(Attached::BadId);
         }
-        AnySock::attach(self, alloc, place, peer.identity.as_slice())
+        AnySock::attach(self, alloc, place, identity.as_slice())
     }
 
     fn detach(&mut self, pair: PairId, place: usize) {

@@ -4,7 +4,7 @@ ghost use Rattle.held_ends.specs.Others.{Leaves};
 ghost use Rattle.sock_core.specs.Sound.{AreSound, KeepsRoom};
 ghost use Rattle.sock_core.specs.Has.{IsStopped};
 ghost use Rattle.sock_core.specs.Peers.{ArePeers, AreFlagged, AreInUse, is_taken};
-ghost use Rattle.sock_core.specs.Noted.{WereRead, AreSealed, HasDone};
+ghost use Rattle.sock_core.specs.Noted.{WereRead, AreMade, AreSealed, HasDone};
 ghost use Rattle.sock_core.specs.Way.{KindWayOf};
 ghost use Rattle.sock_core.specs.declared.sock.SockCore.{SockCore};
 
@@ -19,7 +19,7 @@ use http_server::Log;
 use spec_control::EndState;
 use std::alloc::{AllocError, AllocFailed, Global};
 use std::marker::{Brand, PhantomData};
-use zq_base::{Address, Attached, EndId, Kind, ObjId, Options, Peer, Seq, Settled};
+use zq_base::{Address, Attached, EndId, Kind, ObjId, Octets, Options, Seq, Settled};
 
 /// A socket with the pipes of its ends, for a stretch of calls.
 #[derive(Drop)]
@@ -47,8 +47,11 @@ pub struct SockHolder<
     ghost number: { (s : P) (t : SockCore C P.Waker P.Name P.Out P.In) → F.began s t →
         core.number.0 ≡ F.object },
     ghost done: { (s : P) (t : SockCore C P.Waker P.Name P.Out P.In) → F.began s t →
-        HasDone P.known s (map (λ x. x.0) t.sealed.items) did.items pipes
+        HasDone P.known s t.ends.places.items (map (λ x. x.0) t.sealed.items) did.items pipes
         core.ends.places.items (map (λ x. x.0) core.sealed.items) },
+    ghost tied: { (s : P) (t : SockCore C P.Waker P.Name P.Out P.In) → F.began s t →
+        F.comes ≡ false → AreMade P.known F.may_make did.items
+        (length t.ends.places.items) core.ends.places.items },
     ghost way: { (s : P) (t : SockCore C P.Waker P.Name P.Out P.In) → F.began s t →
         ∥ KindWayOf C.pattern C.names C.sound C.peers t core ∥₁ },
     ghost rest: { (s : P) (t : SockCore C P.Waker P.Name P.Out P.In) → F.began s t →
@@ -111,8 +114,8 @@ where
     ghost use Rattle.ctl_holder.specs.Holding.{IsPlugged, Begins, AreAtDelimiter, writes_in};
     ghost use Rattle.ctl_holder.specs.Holding.{states_optional, states_given};
     ghost use Rattle.held_ends.specs.Counting.{counts_of};
-    ghost use Rattle.held_ends.specs.Sound.{Fits};
     ghost use Rattle.sock_core.specs.Has.{holding_in};
+    ghost use Rattle.sock_core.specs.Noted.{FitsFor};
     ghost use Rattle.sock_core.specs.Way.{way_in, IsCalm};
 
     ghost holding = { λ s. holding_in (C.kind s.core.kind) s.core };
@@ -121,7 +124,10 @@ where
 
     ghost counts = { λ s e writer. counts_of P.known s.pipes s.core.ends e writer };
 
-    ghost fits = { λ s h. Fits P.known s.pipes s.core.ends.places.items h };
+    ghost may_make = { F.may_make };
+
+    ghost fits = { λ s e h. FitsFor P.known F.may_make s.did.items F.comes s.pipes
+        s.core.ends.places.items e h };
 
     ghost serves = { false };
 
@@ -137,6 +143,7 @@ where
         &mut self,
         alloc: Global,
         o: ObjId,
+        end: EndId,
         written: u32,
         read: u32,
         mine: &P::Waker,
@@ -148,6 +155,7 @@ where
             &mut self.pipes,
             &self.core.ends,
             &mut self.did,
+            end,
             (written, read),
             mine,
             other,
@@ -159,13 +167,14 @@ where
         alloc: Global,
         o: ObjId,
         end: EndId,
-        peer: &Peer,
+        identity: &Octets,
         halves: Halves<P::Out, P::In>,
     ) -> Result<Attached, AllocFailed<Halves<P::Out, P::In>>>
         requires here { (holding_in (C.kind self.old.core.kind) self.old.core).holds o.0 ≡ true }
         requires new { has_end end
             ((holding_in (C.kind self.old.core.kind) self.old.core).ends o.0) ≡ false }
-        requires fits { Fits P.known self.old.pipes self.old.core.ends.places.items halves }
+        requires fits { FitsFor P.known F.may_make self.old.did.items F.comes self.old.pipes
+            self.old.core.ends.places.items end halves }
         requires calm { (came : List EndId) ×
             IsCalm (way_in self.old.core.way.items) self.old.core.ends.places.items came }
         ensures ok { OnOk result (Joined o.0 (held_with P.known.out_name P.known.in_name end halves)
@@ -175,7 +184,7 @@ where
             (holding_in (C.kind self.old.core.kind) self.old.core)
             (holding_in (C.kind self.new.core.kind) self.new.core)) }
         ensures joins { IfOk result (λ a. JoinsBy (joining_with P.known.out_name P.known.in_name
-            end peer.now.identity halves a ∷ [])
+            end identity.now halves a ∷ [])
             (holding_in (C.kind self.old.core.kind) self.old.core)
             (holding_in (C.kind self.new.core.kind) self.new.core)) }
         ensures refuses { IfOk result (λ a. MayRefuse
@@ -205,17 +214,11 @@ where
         }
         self.core.kind.is_sound();
         match held_ends::prepare(alloc, &mut self.core.ends, end, halves) {
-            Ok(row) => match self.core.kind.attach(alloc, place, peer) {
+            Ok(row) => match self.core.kind.attach(alloc, place, identity) {
                 Ok(answer) => {
                     held_ends::join(&self.pipes, &mut self.core.ends, row, is_taken(answer));
                     let core = &mut self.core;
-                    note_join(
-                        &mut core.joins,
-                        &mut core.way,
-                        joint,
-                        &peer.identity,
-                        answer,
-                    );
+                    note_join(&mut core.joins, &mut core.way, joint, identity, answer);
                     return Ok(answer);
                 }
                 Err(_) => {

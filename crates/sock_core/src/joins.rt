@@ -1,5 +1,5 @@
 use std::alloc::{AllocError, Global};
-use zq_base::{Attached, Kind, PairId, Peer};
+use zq_base::{Attached, Kind, Octets, PairId};
 
 /// What ends join: the state of a socket's kind, of which peers are known by their places.
 pub trait Joins {
@@ -40,16 +40,21 @@ pub trait Joins {
         ensures peers { KnowsItsPeers pattern (peers self.now) self.now }
         ensures names { NamesWhere pattern names self.now };
 
-    /// An end is attached at a place behind the others, or refused.
-    fn attach(&mut self, alloc: Global, place: usize, peer: &Peer) -> Result<Attached, AllocError>
+    /// An end is attached at a place behind the others, whose peer has this identity, or refused.
+    fn attach(
+        &mut self,
+        alloc: Global,
+        place: usize,
+        identity: &Octets,
+    ) -> Result<Attached, AllocError>
         requires last { All (λ k. k < place) (peers self.old) }
         ensures refuses { IfOk result (λ a. MayRefuse (Some (kind self.old)) a) }
         ensures kind { kind self.new ≡ kind self.old }
         ensures peers { IfOk result (λ a. AddsPeer a place (peers self.old) (peers self.new)) }
-        ensures answers { IfOk result (AnswersAs pattern names peer.now.identity self.old) }
-        ensures named { IfOk result (λ a. a ≡ Yes → names self.old peer.now.identity) }
+        ensures answers { IfOk result (AnswersAs pattern names identity.now self.old) }
+        ensures named { IfOk result (λ a. a ≡ Yes → names self.old identity.now) }
         ensures attaches { IfOk result (λ a.
-            AttachesAs pattern place peer.now.identity a self.old self.new) }
+            AttachesAs pattern place identity.now a self.old self.new) }
         ensures err { OnErr result (peers self.new ≡ peers self.old) }
         ensures same { OnErr result (IsAlike pattern self.old self.new) }
         ensures rests { rests self.old → rests self.new };

@@ -13,7 +13,7 @@ use msg_pipe::{Pipes, PlainIn, PlainOut, PlainPipes};
 use sock_core::SockHolder;
 use std::alloc::Global;
 use std::test::Fail;
-use zq_base::{Frame, Kind, Message, ObjId, Octets, Peer};
+use zq_base::{Frame, Kind, Message, ObjId, Octets};
 
 /// A message of one frame.
 pub fn message(alloc: Global) -> Result<Message, Fail>
@@ -73,11 +73,8 @@ fn joined(
 {
     let sock = AnySock::new(alloc, kind, &options(alloc));
     let mut socket = SockHolder::new(alloc, pipes, ObjId(1), sock, ());
-    let peer = Peer {
-        kind: Kind::Pair,
-        identity: Octets::new(alloc),
-    };
-    match socket.attach(alloc, ObjId(1), the_end(), &peer, halves) {
+    let identity = Octets::new(alloc);
+    match socket.attach(alloc, ObjId(1), the_end(), &identity, halves) {
         Ok(_) => return Ok(socket),
         Err(_) => {
             drop(socket);

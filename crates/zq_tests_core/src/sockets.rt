@@ -9,7 +9,7 @@ use msg_pipe::{Pipes, PlainIn, PlainOut, PlainPipes};
 use sock_core::SockHolder;
 use std::alloc::Global;
 use std::test::Fail;
-use zq_base::{EndId, Kind, ObjId, Octets, Options, PairId, Peer, Role, Seq};
+use zq_base::{EndId, Kind, ObjId, Octets, Options, PairId, Role, Seq};
 
 /// A socket of any kind over plain pipes.
 pub type Socket = SockHolder<PlainPipes, AnySock>;
@@ -99,7 +99,7 @@ fn join(alloc: Global, socket: &mut Socket) -> Result<Halves<PlainOut, PlainIn>,
     ensures calm { IfOk result (λ _.
         ⟦<Socket as Holder<PlainPipes>>⟧.calm socket.new (the_end ∷ [])) }
 {
-    match socket.make(alloc, ObjId(1), 2, 2, &(), &()) {
+    match socket.make(alloc, ObjId(1), the_end(), 2, 2, &(), &()) {
         Ok(made) => return attach(alloc, socket, made),
         Err(_) => return Err(Fail::new("memory")),
     }
@@ -114,7 +114,7 @@ fn attach(
     requires holds { (⟦<Socket as Holder<PlainPipes>>⟧.holding socket.old).holds 1 ≡ true }
     requires none { (⟦<Socket as Holder<PlainPipes>>⟧.holding socket.old).ends 1 ≡ [] }
     requires calm { ⟦<Socket as Holder<PlainPipes>>⟧.calm socket.old [] }
-    requires fits { ⟦<Socket as Holder<PlainPipes>>⟧.fits socket.old made.mine }
+    requires fits { ⟦<Socket as Holder<PlainPipes>>⟧.fits socket.old the_end made.mine }
     requires crossed { AreCrossed ⟦<PlainPipes as Pipes>⟧.known.out_name
         ⟦<PlainPipes as Pipes>⟧.known.in_name made.mine made.other }
     ensures one { IfOk result (λ other. HasOne
@@ -126,11 +126,8 @@ fn attach(
     ensures calm { IfOk result (λ _.
         ⟦<Socket as Holder<PlainPipes>>⟧.calm socket.new (the_end ∷ [])) }
 {
-    let peer = Peer {
-        kind: Kind::Pull,
-        identity: Octets::new(alloc),
-    };
-    match socket.attach(alloc, ObjId(1), the_end(), &peer, made.mine) {
+    let identity = Octets::new(alloc);
+    match socket.attach(alloc, ObjId(1), the_end(), &identity, made.mine) {
         Ok(_) => return Ok(made.other),
         Err(_) => return Err(Fail::new("memory")),
     }

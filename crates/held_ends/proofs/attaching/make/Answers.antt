@@ -2,6 +2,7 @@ use Rattle.held_ends.proofs.SoundLemmas.{all_kept}
 use Rattle.held_ends.proofs.MakeLemmas.{made_fits}
 use Rattle.std.proofs.Common.{[]}
 use Rattle.held_ends.proofs.ChangeLemmas.{more_on}
+use Rattle.held_ends.proofs.MadeLemmas.{made_both, only_one, only_both}
 use Rattle.held_ends.proofs.attaching.make.Goals as goal
 
 pub returns-in_err-out-clause-sound : goal.returns-in_err-out-clause-sound
@@ -23,10 +24,24 @@ returns-in_err-out-clause-changes g c = c.make_noted.ensures.changes c.args.tabl
 
 pub returns-in_err-back-clause-changes : goal.returns-in_err-back-clause-changes
 returns-in_err-back-clause-changes g c =
-    more_on g.P.Pipes.known c.args.table.now.places.items [] [] c.args.did.now.items c.make_noted.new.did.items c.make_noted-2.new.did.items c.args.pipes.now c.make_noted.new.pipes c.make_noted-2.new.pipes
+    more_on g.P.Pipes.known c.args.table.now.places.items c.args.table.now.places.items [] [] c.args.did.now.items c.make_noted.new.did.items c.make_noted-2.new.did.items c.args.pipes.now c.make_noted.new.pipes c.make_noted-2.new.pipes
     (c.make_noted.ensures.changes c.args.table.now.places.items) (c.make_noted-2.ensures.changes c.args.table.now.places.items)
 
 pub returns-clause-changes : goal.returns-clause-changes
 returns-clause-changes g c =
-    more_on g.P.Pipes.known c.args.table.now.places.items [] [] c.args.did.now.items c.make_noted.new.did.items c.make_noted-2.new.did.items c.args.pipes.now c.make_noted.new.pipes c.make_noted-2.new.pipes
+    more_on g.P.Pipes.known c.args.table.now.places.items c.args.table.now.places.items [] [] c.args.did.now.items c.make_noted.new.did.items c.make_noted-2.new.did.items c.args.pipes.now c.make_noted.new.pipes c.make_noted-2.new.pipes
     (c.make_noted.ensures.changes c.args.table.now.places.items) (c.make_noted-2.ensures.changes c.args.table.now.places.items)
+
+pub returns-clause-made : goal.returns-clause-made
+returns-clause-made g c =
+    made_both g.P.Pipes.known c.args.end c.other.result _ _ c.in_ok-out.out c.in_ok-back.back c.in_ok-back.input c.args.did.now.items c.make_noted.new.did.items c.make_noted-2.new.did.items c.other.ensures
+    c.in_ok-out.ensures.noted c.in_ok-back.ensures.noted c.in_ok-back.ensures.made.one_name
+
+pub returns-in_err-out-clause-only : goal.returns-in_err-out-clause-only
+returns-in_err-out-clause-only g c = only_one c.args.end c.args.did.now.items c.make_noted.new.did.items c.make_noted.ensures.only
+
+pub returns-in_err-back-clause-only : goal.returns-in_err-back-clause-only
+returns-in_err-back-clause-only g c = only_both c.args.end c.other.result c.args.did.now.items c.make_noted.new.did.items c.make_noted-2.new.did.items c.other.ensures c.make_noted.ensures.only c.make_noted-2.ensures.only
+
+pub returns-clause-only : goal.returns-clause-only
+returns-clause-only g c = only_both c.args.end c.other.result c.args.did.now.items c.make_noted.new.did.items c.make_noted-2.new.did.items c.other.ensures c.make_noted.ensures.only c.make_noted-2.ensures.only

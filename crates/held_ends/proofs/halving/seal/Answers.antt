@@ -8,6 +8,8 @@ use Rattle.held_ends.proofs.HalfLemmas.{found_row, never_none, within, sealed_so
 use Rattle.held_ends.proofs.OthersLemmas.{place_now, leaves_out}
 use Rattle.held_ends.proofs.OthersLemmas.{places_stay}
 use Rattle.held_ends.proofs.ChangeLemmas.{seals_again, seals_first}
+use Rattle.held_ends.proofs.MadeLemmas.{none_made}
+use Rattle.held_ends.specs.declared.changes.PipeChange.TheVariants.{Sealed, SealedAgain}
 use Rattle.held_ends.proofs.halving.seal.Goals as goal
 
 pub index-requires : goal.index-requires
@@ -89,8 +91,8 @@ returns-then-index-clause-changes g c =
     let p = c.requires.writes.place in
     let here = place_found c.args.table.now.places.items c.args.place p c.index.result.now c.requires.writes.there c.index.ensures in
     let same = place_found c.args.table.now.places.items c.args.place p c.index-2.result.now c.requires.writes.there c.index-2.ensures in
-    seals_again g.P.Pipes.known c.args.table.now.places.items c.args.table.now.places.items (places_stay c.args.table.now.places.items c.args.table.now.places.items refl) c.args.place p c.requires.writes.there c.index.result.now.end (ap (λ (x : Place _ _). x.end) (sym here))
-    c.args.did.now.items c.and.result.items c.args.pipes.now c.args.pipes.now (sym (ap (λ (x : Place _ _). x.sealed) same) ∙ c.if-index.true) refl c.and.ensures
+    seals_again g.P.Pipes.known c.args.table.now.places.items c.args.table.now.places.items (places_stay c.args.table.now.places.items c.args.table.now.places.items refl) c.args.place p c.requires.writes.there c.requires.writes.held c.index.result.now.end (ap (λ (x : Place _ _). x.end) (sym here))
+    c.args.did.now.items c.and.result.items c.args.pipes.now c.args.pipes.now c.requires.writes.writes (sym (ap (λ (x : Place _ _). x.sealed) same) ∙ c.if-index.true) refl c.and.ensures
 
 pub returns-clause-changes : goal.returns-clause-changes
 returns-clause-changes g c =
@@ -105,5 +107,13 @@ returns-clause-changes g c =
     (place_now c.args.table.now.places.items _ c.args.place p (record p { sealed = true }) c.requires.writes.there
     (record { end_is = refl; written_is = refl; read_is = refl; held = λ h. h; writes = λ w. w })
     (ap (λ (x : Place _ _). set c.args.table.now.places.items c.args.place (record x { sealed = true })) same))
-    c.args.place p c.requires.writes.there c.index.result.now.end (ap (λ (x : Place _ _). x.end) (sym here)) c.args.did.now.items c.seal_row.new.did.items c.args.pipes.now c.seal_row.new.pipes
-    c.deref_mut.result.now.out c.seal_row.new.row.out open_still c.seal_row.ensures.noted f.1.name_is (f.1.unsealed open_still) c.seal_row.ensures.seals c.seal_row.ensures.keeps
+    c.args.place p c.requires.writes.there c.requires.writes.held c.index.result.now.end (ap (λ (x : Place _ _). x.end) (sym here)) c.args.did.now.items c.seal_row.new.did.items c.args.pipes.now c.seal_row.new.pipes
+    c.deref_mut.result.now.out c.seal_row.new.row.out c.requires.writes.writes open_still c.seal_row.ensures.noted f.1.name_is (f.1.unsealed open_still) c.seal_row.ensures.seals c.seal_row.ensures.keeps
+
+pub returns-then-index-clause-none_made : goal.returns-then-index-clause-none_made
+returns-then-index-clause-none_made g c = none_made (SealedAgain c.args.place c.index.result.now.end) c.args.did.now.items c.and.result.items c.args.pipes.now c.and.ensures (λ e. refl)
+
+pub returns-clause-none_made : goal.returns-clause-none_made
+returns-clause-none_made g c =
+    let n = c.seal_row.ensures.noted in
+    none_made (Sealed c.args.place c.index.result.now.end n.half) c.args.did.now.items c.seal_row.new.did.items c.seal_row.new.pipes n.noted (λ e. refl)

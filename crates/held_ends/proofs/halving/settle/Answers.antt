@@ -10,6 +10,8 @@ use Rattle.held_ends.specs.Counting.{counts_with}
 use Rattle.held_ends.proofs.CountLemmas.{half_read, told_counts}
 use Rattle.held_ends.proofs.PlaceLemmas.{place_there}
 use Rattle.held_ends.proofs.ChangeLemmas.{settles_once}
+use Rattle.held_ends.proofs.MadeLemmas.{none_made}
+use Rattle.held_ends.specs.declared.changes.PipeChange.TheVariants.{Settled}
 use Rattle.held_ends.proofs.halving.settle.Goals as goal
 
 pub index_mut-requires : goal.index_mut-requires
@@ -91,7 +93,10 @@ returns-in-Some-clause-changes g c =
     (place_now c.args.table.now.places.items _ c.args.place p (record p { held = false; input = None }) c.requires.reads.there
     (record { end_is = refl; written_is = refl; read_is = refl; held = λ h. absurd (true≢false (sym h)); writes = λ w. w })
     (ap (set c.args.table.now.places.items c.args.place) (c.give_reading.ensures.gone ∙ ap (λ (x : Place _ _). record x { held = false; input = None }) same)))
-    c.args.place p c.requires.reads.there c.index.result.now.end (ap (λ (x : Place _ _). x.end) (sym here)) c.args.did.now.items c.and.result.items c.args.pipes.now c.settle-counts.new.self
+    c.args.place p c.requires.reads.there c.requires.reads.held c.index.result.now.end (ap (λ (x : Place _ _). x.end) (sym here)) c.args.did.now.items c.and.result.items c.args.pipes.now c.settle-counts.new.self
     (g.P.Pipes.known.out_name c.args.writer) c.and.ensures (sym c.requires.reads.pipe)
     (λ q at. ap (λ (x : Place _ _). x.held) (one_some q c.give_reading.new.place (sym at ∙ place_there c.args.table.now.places.items c.args.place p c.give_reading.new.place c.requires.reads.there) ∙ c.give_reading.ensures.gone))
     c.settle-counts.ensures.keeps
+
+pub returns-in-Some-clause-none_made : goal.returns-in-Some-clause-none_made
+returns-in-Some-clause-none_made g c = none_made (Settled c.args.place c.index.result.now.end) c.args.did.now.items c.and.result.items c.settle-counts.new.self c.and.ensures (λ e. refl)

@@ -14,6 +14,8 @@ use Rattle.held_ends.specs.Places.{place_at}
 use Rattle.held_ends.proofs.CountLemmas.{half_moves, yields_counts}
 use Rattle.held_ends.proofs.SoundLemmas.{one_some}
 use Rattle.held_ends.proofs.ChangeLemmas.{parts_once}
+use Rattle.held_ends.proofs.MadeLemmas.{none_made}
+use Rattle.held_ends.specs.declared.changes.PipeChange.TheVariants.{Parted}
 use Rattle.held_ends.proofs.halving.yield_writer.Goals as goal
 
 pub index_mut-requires : goal.index_mut-requires
@@ -92,5 +94,10 @@ returns-in-Some-clause-changes g c =
     (place_now c.args.table.now.places.items _ c.args.place p (record p { writes = false; peer = false; input = Some r.input }) c.requires.writes.there
     (record { end_is = refl; written_is = refl; read_is = refl; held = λ h. h; writes = λ w. absurd (true≢false (sym w)) })
     (ap (set c.args.table.now.places.items c.args.place) (c.keep_reading.ensures ∙ ap (λ (x : Place _ _). record x { writes = false; peer = false; input = Some r.input }) same)))
-    c.args.place p c.requires.writes.there r.end (sym f.1.end_is) c.args.did.now.items c.forget_parts.new.did.items c.args.pipes.now c.forget_parts.new.pipes r.out c.forget_parts.new.out
-    c.forget_parts.ensures.noted f.1.name_is c.forget_parts.ensures.forgets c.forget_parts.ensures.keeps
+    c.args.place p c.requires.writes.there c.requires.writes.held r.end (sym f.1.end_is) c.args.did.now.items c.forget_parts.new.did.items c.args.pipes.now c.forget_parts.new.pipes r.out c.forget_parts.new.out
+    c.requires.writes.writes c.forget_parts.ensures.noted f.1.name_is c.forget_parts.ensures.forgets c.forget_parts.ensures.keeps
+
+pub returns-in-Some-clause-none_made : goal.returns-in-Some-clause-none_made
+returns-in-Some-clause-none_made g c =
+    let n = c.forget_parts.ensures.noted in
+    none_made (Parted c.args.place c.into_inner-out.result.end n.half) c.args.did.now.items c.forget_parts.new.did.items c.forget_parts.new.pipes n.noted (λ e. refl)

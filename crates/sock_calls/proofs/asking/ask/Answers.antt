@@ -1,4 +1,8 @@
-use Rattle.std.proofs.Common.{◌≡◌, Option, Some, refl, sym, ap, ◌∙◌, subst}
+use Rattle.std.proofs.Common.{◌≡◌, ℕ, true, Option, Some, refl, sym, ap, ◌∙◌, subst}
+use Rattle.zq_base.specs.declared.ids.EndId.{EndId}
+use Rattle.spec_control.specs.Control.{Control}
+use Rattle.ctl_holder.specs.Making.{IsMadeFor}
+use Rattle.held_ends.proofs.SoundLemmas.{one_some}
 use Rattle.held_ends.specs.Others.{Leaves}
 use Rattle.sock_core.specs.Has.{holding_in}
 use Rattle.sock_core.specs.declared.sock.SockCore.{SockCore}
@@ -44,9 +48,16 @@ pub returns-in-Some-clause-does : goal.returns-in-Some-clause-does
 returns-in-Some-clause-does g c =
     let e : c.args.socket.now ≡ Some c.in-Some.core = sym c.take.ensures.value ∙ c.in-Some.is in
     let x = c.ask_lent-answer in
-    subst (λ (s : Option (SockCore _ _ _ _ _)). HaveDone g.P.Pipes.known s (Some x.result.core) c.args.pipes.now x.result.pipes) (sym e)
-    (subst (λ (p : g.row.P.Denot). HaveDone g.P.Pipes.known (Some c.in-Some.core) (Some x.result.core) p x.result.pipes) c.replace-lent.ensures.value
-    (done_so (Coded-set g.row.P-Name.coded) (Coded-set g.row.P.coded) g.P.Pipes.known c.replace-lent.result x.result.pipes c.in-Some.core x.result.core x.result.did.items (x.ensures.does c.replace-lent.result c.in-Some.core (refl, refl))))
+    let may = λ (n : ℕ) (d : EndId) (written read : ℕ). (b : Control) × g.D.Desk.finds c.args.desk.now b × IsMadeFor b n c.args.request d written read in
+    subst (λ (s : Option (SockCore _ _ _ _ _)). HaveDone g.P.Pipes.known true (may (owner_of s)) s (Some x.result.core) c.args.pipes.now x.result.pipes) (sym e)
+    (subst (λ (p : g.row.P.Denot). HaveDone g.P.Pipes.known true (may c.in-Some.core.number.0) (Some c.in-Some.core) (Some x.result.core) p x.result.pipes) c.replace-lent.ensures.value
+    (done_so (Coded-set g.row.P-Name.coded) (Coded-set g.row.P.coded) g.P.Pipes.known true (may c.in-Some.core.number.0) c.replace-lent.result x.result.pipes c.in-Some.core x.result.core x.result.did.items
+    (x.ensures.does c.replace-lent.result c.in-Some.core (refl, refl)) (λ is. x.ensures.tied c.replace-lent.result c.in-Some.core (refl, refl) refl)))
+
+pub ask_lent-answer-requires-clause-makes : goal.ask_lent-answer-requires-clause-makes
+ask_lent-answer-requires-clause-makes g c = λ b finds o is d written read made.
+    let e : c.args.socket.now ≡ Some c.in-Some.core = sym c.take.ensures.value ∙ c.in-Some.is in
+    (b, finds, subst (λ (n : ℕ). IsMadeFor b n c.args.request d written read) (one_some o (owner_of c.args.socket.now) (sym is ∙ c.requires.asks) ∙ ap owner_of e) made)
 
 pub returns-in-Some-clause-rests : goal.returns-in-Some-clause-rests
 returns-in-Some-clause-rests g c =

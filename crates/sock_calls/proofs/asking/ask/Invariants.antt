@@ -1,6 +1,15 @@
-use Rattle.std.specs.Prelude.{◌≡◌}
+use Rattle.std.specs.Prelude.{◌≡◌, false}
+use Rattle.spec_control.specs.Control.{Control}
+use Rattle.ctl_holder.specs.Making.{IsMadeFor}
+use Rattle.sock_calls.proofs.MakingLemmas.{made_side}
 use Rattle.sock_calls.proofs.asking.ask.Given as goal
 
--- the stretch begins with these pipes and this socket
+-- the stretch begins with these pipes and this socket, and what the request makes may be made
 abbrev pub ghosts-ask_lent : goal.ghosts-ask_lent
-ghosts-ask_lent g a = record { began = λ s t. (s ≡ a.pipes) × (t ≡ a.core); object = a.core.number.0 }
+ghosts-ask_lent g a = record {
+  began = λ s t. (s ≡ a.pipes) × (t ≡ a.core);
+  object = a.core.number.0;
+  comes = false;
+  may_make = λ e written read. (c : Control) × g.D.Desk.finds a.desk.now c × IsMadeFor c a.core.number.0 a.request e written read;
+  one_side = λ made d e v w r s one other. made_side one.0 other.0 a.core.number.0 a.core.number.0 a.request d e v w r s one.2 other.2;
+}

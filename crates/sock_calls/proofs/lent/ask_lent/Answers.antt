@@ -3,10 +3,11 @@ use Rattle.sock_core.specs.declared.sock.SockCore.{SockCore}
 use Rattle.sock_calls.proofs.PassingLemmas.{calm_fresh, way_fresh}
 use Rattle.held_ends.specs.Others.{Leaves}
 use Rattle.held_ends.proofs.OthersLemmas.{places_stay, leaves_pipes}
-use Rattle.std.specs.Prelude.{map}
+use Rattle.std.specs.Prelude.{length, map}
 use Rattle.zq_base.specs.declared.ids.EndId.{EndId}
-use Rattle.sock_core.specs.Noted.{HasDone}
+use Rattle.sock_core.specs.Noted.{AreMade, HasDone}
 use Rattle.sock_core.proofs.DoneLemmas.{done_none}
+use Rattle.sock_core.proofs.MadeLemmas.{made_none}
 use Rattle.sock_calls.proofs.lent.ask_lent.Goals as goal
 
 pub invariant_of-holder : goal.invariant_of-holder
@@ -31,8 +32,9 @@ invariant_of-holder g c =
       number = λ s u b. (c.requires.began s u b).2;
       done = λ s u b.
           let e = c.requires.began s u b in
-          subst (λ (y : SockCore _ _ _ _ _). HasDone K s (map (λ (x : EndId × Unit {0}). x.0) y.sealed.items) c.new.result.items c.args.pipes t.places.items (map (λ (x : EndId × Unit {0}). x.0) c.args.core.sealed.items)) (sym e.1)
-          (done_none K s (map (λ (x : EndId × Unit {0}). x.0) c.args.core.sealed.items) c.args.pipes c.new.result.items t.places.items e.0 c.new.ensures);
+          subst (λ (y : SockCore _ _ _ _ _). HasDone K s y.ends.places.items (map (λ (x : EndId × Unit {0}). x.0) y.sealed.items) c.new.result.items c.args.pipes t.places.items (map (λ (x : EndId × Unit {0}). x.0) c.args.core.sealed.items)) (sym e.1)
+          (done_none K s t.places.items (map (λ (x : EndId × Unit {0}). x.0) c.args.core.sealed.items) c.args.pipes c.new.result.items t.places.items e.0 c.new.ensures);
+      tied = λ s u b made. subst (λ (y : SockCore _ _ _ _ _). AreMade K g.F.Since.may_make c.new.result.items (length y.ends.places.items) t.places.items) (sym (c.requires.began s u b).1) (made_none K g.F.Since.may_make c.new.result.items t.places.items);
       rest = λ s u b r. subst (λ (y : SockCore _ _ _ _ _). g.C.Joins.rests y.kind) (c.requires.began s u b).1 r;
       way = λ s u b.
           let J = g.C.Joins in
@@ -55,3 +57,6 @@ returns-clause-does g c = λ s t b. c.request-answer.new.holder.done s t b
 
 pub returns-clause-rest : goal.returns-clause-rest
 returns-clause-rest g c = λ s t b. c.request-answer.new.holder.rest s t b
+
+pub returns-clause-tied : goal.returns-clause-tied
+returns-clause-tied g c = λ s t b made. c.request-answer.new.holder.tied s t b made

@@ -1,4 +1,4 @@
-use Rattle.std.proofs.Common.{◌≡◌, ℕ, true, refl, sym, ap, subst}
+use Rattle.std.proofs.Common.{◌≡◌, ◌∙◌, ℕ, true, refl, sym, ap, subst, true≢false}
 use Rattle.sock_core.specs.declared.sock.SockCore.{SockCore}
 use Rattle.sock_calls.proofs.PassingLemmas.{calm_fresh, way_fresh}
 use Rattle.held_ends.specs.Others.{Leaves}
@@ -9,10 +9,11 @@ use Rattle.held_ends.specs.Sound.{Fits}
 use Rattle.sock_core.specs.Has.{holding_in}
 use Rattle.ctl_plane.specs.Coming.{BindsFit}
 use Rattle.ctl_plane.specs.Desk.{GivesOrNot}
-use Rattle.std.specs.Prelude.{map}
+use Rattle.std.specs.Prelude.{length, map}
 use Rattle.zq_base.specs.declared.ids.EndId.{EndId}
-use Rattle.sock_core.specs.Noted.{HasDone}
+use Rattle.sock_core.specs.Noted.{AreMade, HasDone}
 use Rattle.sock_core.proofs.DoneLemmas.{done_none}
+use Rattle.sock_core.proofs.MadeLemmas.{made_none}
 use Rattle.sock_calls.proofs.lent.take_lent.Goals as goal
 
 pub invariant_of-holder : goal.invariant_of-holder
@@ -37,8 +38,9 @@ invariant_of-holder g c =
       number = λ s u b. (c.requires.began s u b).2;
       done = λ s u b.
           let e = c.requires.began s u b in
-          subst (λ (y : SockCore _ _ _ _ _). HasDone K s (map (λ (x : EndId × Unit {0}). x.0) y.sealed.items) c.new.result.items c.args.pipes t.places.items (map (λ (x : EndId × Unit {0}). x.0) c.args.core.sealed.items)) (sym e.1)
-          (done_none K s (map (λ (x : EndId × Unit {0}). x.0) c.args.core.sealed.items) c.args.pipes c.new.result.items t.places.items e.0 c.new.ensures);
+          subst (λ (y : SockCore _ _ _ _ _). HasDone K s y.ends.places.items (map (λ (x : EndId × Unit {0}). x.0) y.sealed.items) c.new.result.items c.args.pipes t.places.items (map (λ (x : EndId × Unit {0}). x.0) c.args.core.sealed.items)) (sym e.1)
+          (done_none K s t.places.items (map (λ (x : EndId × Unit {0}). x.0) c.args.core.sealed.items) c.args.pipes c.new.result.items t.places.items e.0 c.new.ensures);
+      tied = λ s u b made. subst (λ (y : SockCore _ _ _ _ _). AreMade K g.F.Since.may_make c.new.result.items (length y.ends.places.items) t.places.items) (sym (c.requires.began s u b).1) (made_none K g.F.Since.may_make c.new.result.items t.places.items);
       rest = λ s u b r. subst (λ (y : SockCore _ _ _ _ _). g.C.Joins.rests y.kind) (c.requires.began s u b).1 r;
       way = λ s u b.
           let J = g.C.Joins in
@@ -62,8 +64,9 @@ deliver-answer-requires-clause-lent g c = λ i served.
     subst (λ (j : ℕ). (holding_in (g.C.Joins.kind c.args.core.kind) c.args.core).holds j ≡ true) (sym mine) c.requires.held
 
 pub deliver-answer-requires-clause-fits : goal.deliver-answer-requires-clause-fits
-deliver-answer-requires-clause-fits g c =
-    subst (λ (n : ℕ). BindsFit g.P.Pipes.known.out_name g.P.Pipes.known.in_name (g.D.Desk.named c.args.desk.now) (g.D.Desk.coming c.args.desk.now n) (λ h. Fits g.P.Pipes.known c.args.pipes c.args.core.ends.places.items h)) (sym c.slot-slot.ensures) c.requires.binds
+deliver-answer-requires-clause-fits g c = λ e x coming out input d.
+    let binds = subst (λ (n : ℕ). BindsFit g.P.Pipes.known.out_name g.P.Pipes.known.in_name (g.D.Desk.named c.args.desk.now) (g.D.Desk.coming c.args.desk.now n) (λ h. Fits g.P.Pipes.known c.args.pipes c.args.core.ends.places.items h)) (sym c.slot-slot.ensures) c.requires.binds in
+    (binds e x coming out input, λ made. absurd (true≢false (sym c.requires.comes ∙ made)))
 
 pub returns-clause-ok : goal.returns-clause-ok
 returns-clause-ok g c =

@@ -54,6 +54,7 @@ invariant_of-holder g c =
       number = λ a t b. absurd b;
       stopped = s.stopped;
       done = λ a t b. absurd b;
+      tied = λ a t b made. absurd b;
       way = λ a t b. absurd b;
       rest = λ a t b. absurd b;
     }

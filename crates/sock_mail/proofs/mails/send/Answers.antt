@@ -29,6 +29,7 @@ invariant_of-holder g c =
       others = λ s t b. absurd b;
       number = λ s t b. absurd b;
       done = λ s t b. absurd b;
+      tied = λ s t b made. absurd b;
       way = λ s t b. absurd b;
       rest = λ s t b. absurd b;
     }

@@ -1,9 +1,10 @@
-use Rattle.std.proofs.Common.{sym, ◌∙◌}
+use Rattle.std.proofs.Common.{true, refl, sym, ◌∙◌}
 use Rattle.std.proofs.lemmas.Result.{IfOk-weaker}
 use Rattle.ctl_plane.specs.Desk.{AsksOnce}
 use Rattle.spec_control.specs.declared.request.Req.TheVariants.{Close}
-use Rattle.sock_calls.specs.Calls.{holding_of, HasNone}
-use Rattle.sock_calls.proofs.CallsLemmas.{closed_not_held, has_none}
+use Rattle.sock_calls.specs.Calls.{owner_of, holding_of, HasNone}
+use Rattle.sock_calls.proofs.CallsLemmas.{closed_not_held, done_as, has_none}
+use Rattle.sock_calls.proofs.MakingLemmas.{none_made}
 use Rattle.sock_calls.proofs.socket.Socket.close.Goals as goal
 
 pub returns-clause-none : goal.returns-clause-none
@@ -17,3 +18,8 @@ returns-clause-none g c =
     (λ reply asks. has_none g.P.Pipes.known g.C.Joins.kind g.C.Joins.peers x.new.pipes x.new.socket o.0 x.ensures.fits (x.ensures.owner ∙ sym c.number_of.ensures)
     (closed_not_held by (g.D.Desk.number x.new.desk) o reply old new (holding_of g.C.Joins.kind x.new.socket) asks x.ensures.keeps.1.has))
     x.ensures.ok
+
+pub returns-clause-does : goal.returns-clause-does
+returns-clause-does g c =
+    let x = c.ask in
+    done_as g.P.Pipes.known true _ (λ e written read. ⊥) (λ e written read m. none_made m.0 (owner_of c.args.self.now.core) (Close c.number_of.result) e written read refl m.2) c.args.self.now.core x.new.socket c.args.pipes.now x.new.pipes x.ensures.does

@@ -1,13 +1,14 @@
-use Rattle.std.proofs.Common.{◌≡◌, ℕ, refl, sym, ap, ◌∙◌, subst}
+use Rattle.std.proofs.Common.{true, ◌≡◌, ℕ, refl, sym, ap, ◌∙◌, subst}
 use Rattle.std.specs.Prelude.{IfOk}
 use Rattle.std.proofs.lemmas.Result.{IfOk-at_ok}
 use Rattle.zq_base.specs.declared.endpoint.Endpoint.{Endpoint}
 use Rattle.spec_control.specs.declared.request.Req.{Req}
 use Rattle.spec_control.specs.declared.request.Req.TheVariants.{Connect}
-use Rattle.spec_control.specs.Control.{id}
+use Rattle.spec_control.specs.Control.{Control, id}
+use Rattle.ctl_holder.specs.Making.{IsMadeFor}
 use Rattle.ctl_plane.specs.Asking.{IsInproc}
 use Rattle.ctl_plane.specs.Desk.{AsksOnce}
-use Rattle.sock_calls.specs.Calls.{owner_of, holding_of}
+use Rattle.sock_calls.specs.Calls.{owner_of, holding_of, HaveDone}
 use Rattle.sock_calls.proofs.CallsLemmas.{keeps_up_none, done_nothing, is_there}
 use Rattle.sock_calls.proofs.PassingLemmas.{passes_none}
 use Rattle.sock_calls.proofs.socket.SocketCalls.connect.Goals as goal
@@ -35,4 +36,13 @@ pub returns-in-Err-clause-grows : goal.returns-in-Err-clause-grows
 returns-in-Err-clause-grows g c = g.met.D.Desk.grows_none c.args.desk.now
 
 pub returns-in-Err-clause-does : goal.returns-in-Err-clause-does
-returns-in-Err-clause-does g c = done_nothing g.P.Pipes.known c.args.pipes.now c.args.self.now.core (is_there g.P.Pipes.known g.C.Joins.peers c.args.pipes.now c.args.self.now.core c.requires.fits)
+returns-in-Err-clause-does g c = done_nothing g.P.Pipes.known true _ c.args.pipes.now c.args.self.now.core (is_there g.P.Pipes.known g.C.Joins.peers c.args.pipes.now c.args.self.now.core c.requires.fits)
+
+pub returns-in-Ok-clause-does : goal.returns-in-Ok-clause-does
+returns-in-Ok-clause-does g c =
+    let x = c.ask in
+    let o = owner_of c.args.self.now.core in
+    let copied : c.in-Ok.copy ≡ c.args.at.now = IfOk-at_ok (λ a. a ≡ c.args.at.now) c.in-Ok.is c.endpoint_of.ensures in
+    subst (λ (request : Req). HaveDone g.P.Pipes.known true (λ e written read. (b : Control) × g.D.Desk.finds c.args.desk.now b × IsMadeFor b o request e written read) c.args.self.now.core x.new.socket c.args.pipes.now x.new.pipes)
+    (ap (λ (n : ℕ). Connect (id n) c.in-Ok.copy) c.number_of.ensures ∙ ap (λ (a : Endpoint). Connect (id o) a) copied)
+    x.ensures.does

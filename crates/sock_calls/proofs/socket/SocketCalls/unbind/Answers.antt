@@ -1,4 +1,4 @@
-use Rattle.std.proofs.Common.{refl}
+use Rattle.std.proofs.Common.{true, refl}
 use Rattle.std.proofs.Common.{◌≡◌, ℕ, ap, ◌∙◌, subst}
 use Rattle.std.specs.Prelude.{IfOk}
 use Rattle.std.proofs.lemmas.Result.{IfOk-at_ok}
@@ -8,7 +8,8 @@ use Rattle.spec_control.specs.declared.request.Req.TheVariants.{Unbind}
 use Rattle.spec_control.specs.Control.{id}
 use Rattle.ctl_plane.specs.Desk.{AsksOnce}
 use Rattle.sock_calls.specs.Calls.{owner_of, holding_of}
-use Rattle.sock_calls.proofs.CallsLemmas.{keeps_up_none, done_nothing, is_there}
+use Rattle.sock_calls.proofs.CallsLemmas.{keeps_up_none, done_nothing, done_as, is_there}
+use Rattle.sock_calls.proofs.MakingLemmas.{none_made}
 use Rattle.sock_calls.proofs.PassingLemmas.{passes_none}
 use Rattle.sock_calls.proofs.socket.SocketCalls.unbind.Goals as goal
 
@@ -32,4 +33,9 @@ pub returns-in-Err-clause-grows : goal.returns-in-Err-clause-grows
 returns-in-Err-clause-grows g c = g.met.D.Desk.grows_none c.args.desk.now
 
 pub returns-in-Err-clause-does : goal.returns-in-Err-clause-does
-returns-in-Err-clause-does g c = done_nothing g.P.Pipes.known c.args.pipes.now c.args.self.now.core (is_there g.P.Pipes.known g.C.Joins.peers c.args.pipes.now c.args.self.now.core c.requires.fits)
+returns-in-Err-clause-does g c = done_nothing g.P.Pipes.known true _ c.args.pipes.now c.args.self.now.core (is_there g.P.Pipes.known g.C.Joins.peers c.args.pipes.now c.args.self.now.core c.requires.fits)
+
+pub returns-in-Ok-clause-does : goal.returns-in-Ok-clause-does
+returns-in-Ok-clause-does g c =
+    let x = c.ask in
+    done_as g.P.Pipes.known true _ (λ e written read. ⊥) (λ e written read m. none_made m.0 (owner_of c.args.self.now.core) (Unbind c.number_of.result c.in-Ok.copy) e written read refl m.2) c.args.self.now.core x.new.socket c.args.pipes.now x.new.pipes x.ensures.does

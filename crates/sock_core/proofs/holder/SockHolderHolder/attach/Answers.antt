@@ -6,8 +6,8 @@ use Rattle.ends.specs.declared.row.EndRow.{EndRow}
 use Rattle.ctl_holder.specs.Holding.{Joined, BeginsActive, held_with}
 use Rattle.held_ends.specs.declared.table.Place.{Place}
 use Rattle.held_ends.specs.Places.{is_of}
-use Rattle.held_ends.specs.Sound.{IsSound}
-use Rattle.held_ends.specs.Attaching.{new_place}
+use Rattle.held_ends.specs.Sound.{IsSound, Fits}
+use Rattle.held_ends.specs.Attaching.{new_place, halves_of}
 use Rattle.sock_core.specs.Has.{has, told_in}
 use Rattle.sock_core.proofs.FormLemmas.{sound_of, are_sound}
 use Rattle.sock_core.proofs.JoinLemmas.{open_of, mine_of, none_of, room_of, joined_of, begins_of}
@@ -26,11 +26,13 @@ use Rattle.sock_core.proofs.WayLemmas.{came_as, noted_came, way_kept, all_still}
 use Rattle.sock_core.proofs.PeerLemmas.{none_at, peer_none}
 use Rattle.sock_core.proofs.CalmLemmas.{calm_came}
 use Rattle.std.specs.Prelude.{map}
-use Rattle.sock_core.specs.Noted.{WereRead, AreSealed}
+use Rattle.sock_core.specs.Noted.{WereRead, AreMade, AreSealed}
+use Rattle.held_ends.specs.Changes.{AreMadeFor}
 use Rattle.sock_core.proofs.NotedLemmas.{were_read_on, sealed_more}
 use Rattle.held_ends.proofs.OthersLemmas.{places_stay}
 use Rattle.sock_core.proofs.DoneLemmas.{done_still}
 use Rattle.held_ends.specs.Others.{KeepsPlaces}
+use Rattle.sock_core.proofs.MadeLemmas.{made_less, made_one}
 use Rattle.sock_core.proofs.holder.SockHolderHolder.attach.Goals as goal
 
 pub join-requires-clause-sound : goal.join-requires-clause-sound
@@ -44,6 +46,11 @@ join-requires-clause-new g c =
     ap (λ (r : EndRow _ _). list_any (is_of r.end) c.prepare.new.table.places.items) c.in-Ok-prepare.ensures.ok
     ∙ ap (λ (l : List (Place _ _)). list_any (is_of c.args.end) l) c.prepare.ensures.kept.places
     ∙ none_of (c.args.o.0 == c.args.self.now.core.number.0) c.args.end c.args.self.now.core.ends.places.items (mine_of c.args.self.now.core.is_open (c.args.o.0 == c.args.self.now.core.number.0) c.requires.here) c.requires.new
+
+pub join-requires-clause-fits : goal.join-requires-clause-fits
+join-requires-clause-fits g c =
+    subst (λ (l : List (Place _ _)). Fits g.P.Pipes.known c.args.self.now.pipes l (halves_of c.in-Ok-prepare.row.value)) (sym c.prepare.ensures.kept.places)
+    (subst (λ (r : EndRow _ _). Fits g.P.Pipes.known c.args.self.now.pipes c.args.self.now.core.ends.places.items (halves_of r)) (sym c.in-Ok-prepare.ensures.ok) c.requires.fits.0)
 
 pub attach-requires : goal.attach-requires
 attach-requires g c =
@@ -70,12 +77,12 @@ invariant_of-self-in-Ok-attach g c =
       in_use = subst (λ (l : List (Place _ _)). AreInUse l) (sym more) (in_use_more c.args.self.now.core.ends.places.items (new_place c.in-Ok-prepare.row.value.end (g.P.Pipes.known.out_name c.in-Ok-prepare.row.value.out) (g.P.Pipes.known.in_name c.in-Ok-prepare.row.value.input) c.is_taken.result) c.args.self.now.in_use refl);
       way = λ p t b. ∥∥₁_map (c.args.self.now.way p t b) (λ k is.
           let last = c.joint_of-joint.ensures.place ∙ place in
-          noted_came g.C.Joins.pattern g.C.Joins.names g.C.Joins.sound g.C.Joins.peers (way_in c.args.self.now.core.way.items) (way_in c.note_join.new.way.items) c.args.self.now.core.ends.places.items c.join.new.table.places.items (standing_joins t.joins.items) (standing_joins c.args.self.now.core.joins.items) (standing_joins c.note_join.new.joins.items) t.turns.items c.args.self.now.core.turns.items t.kind c.args.self.now.core.kind c.attach.new.self (joining_as c.joint_of-joint.result c.args.peer.now.identity c.in-Ok-attach.answer) c.joint_of-joint.result.place (new_place c.in-Ok-prepare.row.value.end (g.P.Pipes.known.out_name c.in-Ok-prepare.row.value.out) (g.P.Pipes.known.in_name c.in-Ok-prepare.row.value.input) c.is_taken.result)
+          noted_came g.C.Joins.pattern g.C.Joins.names g.C.Joins.sound g.C.Joins.peers (way_in c.args.self.now.core.way.items) (way_in c.note_join.new.way.items) c.args.self.now.core.ends.places.items c.join.new.table.places.items (standing_joins t.joins.items) (standing_joins c.args.self.now.core.joins.items) (standing_joins c.note_join.new.joins.items) t.turns.items c.args.self.now.core.turns.items t.kind c.args.self.now.core.kind c.attach.new.self (joining_as c.joint_of-joint.result c.args.identity.now c.in-Ok-attach.answer) c.joint_of-joint.result.place (new_place c.in-Ok-prepare.row.value.end (g.P.Pipes.known.out_name c.in-Ok-prepare.row.value.out) (g.P.Pipes.known.in_name c.in-Ok-prepare.row.value.input) c.is_taken.result)
           c.note_join.ensures.way c.requires.calm.1.quiet more last (ap (λ (r : EndRow _ _). r.end) c.in-Ok-prepare.ensures.ok ∙ sym c.joint_of-joint.ensures.end) c.is_taken.ensures c.note_join.ensures.joins
-          (came_as g.C.Joins.pattern g.C.Joins.names g.C.Joins.sound g.C.Joins.peers c.args.self.now.core.kind c.attach.new.self (joining_as c.joint_of-joint.result c.args.peer.now.identity c.in-Ok-attach.answer) c.joint_of-joint.result.place c.is_sound.ensures.sound c.is_sound.ensures.names
+          (came_as g.C.Joins.pattern g.C.Joins.names g.C.Joins.sound g.C.Joins.peers c.args.self.now.core.kind c.attach.new.self (joining_as c.joint_of-joint.result c.args.identity.now c.in-Ok-attach.answer) c.joint_of-joint.result.place c.is_sound.ensures.sound c.is_sound.ensures.names
           (subst (λ (n : ℕ). AreElse n (g.C.Joins.peers c.args.self.now.core.kind)) (sym last) (none_at c.args.self.now.core.ends.places.items (g.C.Joins.peers c.args.self.now.core.kind) (c.args.self.now.peers is) (length c.args.self.now.core.ends.places.items) (peer_none c.args.self.now.core.ends.places.items)))
           c.in-Ok-attach.ensures.named c.in-Ok-attach.ensures.answers
-          (subst (λ (n : ℕ). AttachesAs g.C.Joins.pattern n c.args.peer.now.identity c.in-Ok-attach.answer c.args.self.now.core.kind c.attach.new.self) (sym c.joint_of-joint.ensures.place) c.in-Ok-attach.ensures.attaches))
+          (subst (λ (n : ℕ). AttachesAs g.C.Joins.pattern n c.args.identity.now c.in-Ok-attach.answer c.args.self.now.core.kind c.attach.new.self) (sym c.joint_of-joint.ensures.place) c.in-Ok-attach.ensures.attaches))
           (k is));
       others = λ s t b. leaves_on g.P.Pipes.known s c.args.self.now.pipes c.args.self.now.pipes t.ends c.prepare.new.table c.join.new.table
           (leaves_on g.P.Pipes.known s c.args.self.now.pipes c.args.self.now.pipes t.ends c.args.self.now.core.ends c.prepare.new.table (c.args.self.now.others s t b)
@@ -84,7 +91,12 @@ invariant_of-self-in-Ok-attach g c =
       settled_are = were_read_on c.prepare.new.table.places.items c.join.new.table.places.items c.args.self.now.core.ends.settled.items c.join.new.table.settled.items c.join.ensures.others.places (ap (λ l. l.items) c.join.ensures.settled ∙ c.prepare.ensures.kept.settled)
           (subst (λ (l : List (Place _ _)). WereRead l c.args.self.now.core.ends.settled.items) (sym c.prepare.ensures.kept.places) c.args.self.now.settled_are);
       sealed_are = subst (λ (l : List (Place _ _)). AreSealed l (map (λ (x : EndId × Unit {0}). x.0) c.args.self.now.core.sealed.items)) (sym more) (sealed_more c.args.self.now.core.ends.places.items _ (map (λ (x : EndId × Unit {0}). x.0) c.args.self.now.core.sealed.items) c.args.self.now.sealed_are refl);
-      done = λ s t b. done_still g.P.Pipes.known s (map (λ (x : EndId × Unit {0}). x.0) t.sealed.items) c.args.self.now.pipes c.args.self.now.did.items c.args.self.now.core.ends.places.items c.join.new.table.places.items (map (λ (x : EndId × Unit {0}). x.0) c.args.self.now.core.sealed.items) (subst (λ (l : List (Place _ _)). KeepsPlaces l c.join.new.table.places.items) c.prepare.ensures.kept.places c.join.ensures.others.places) (c.args.self.now.done s t b);
+      tied = λ s t b made.
+          subst (λ (l : List (Place _ _)). AreMade g.P.Pipes.known g.F.Since.may_make c.args.self.now.did.items (length t.ends.places.items) l) (sym more)
+          (made_one g.P.Pipes.known g.F.Since.may_make c.args.self.now.did.items c.args.self.now.core.ends.places.items (new_place c.in-Ok-prepare.row.value.end (g.P.Pipes.known.out_name c.in-Ok-prepare.row.value.out) (g.P.Pipes.known.in_name c.in-Ok-prepare.row.value.input) c.is_taken.result) (length t.ends.places.items)
+          (subst (λ (r : EndRow _ _). AreMadeFor g.P.Pipes.known g.F.Since.may_make c.args.self.now.did.items r.end (g.P.Pipes.known.out_name r.out) (g.P.Pipes.known.in_name r.input)) (sym c.in-Ok-prepare.ensures.ok) (c.requires.fits.1 made))
+          (c.args.self.now.tied s t b made));
+      done = λ s t b. done_still g.P.Pipes.known s t.ends.places.items (map (λ (x : EndId × Unit {0}). x.0) t.sealed.items) c.args.self.now.pipes c.args.self.now.did.items c.args.self.now.core.ends.places.items c.join.new.table.places.items (map (λ (x : EndId × Unit {0}). x.0) c.args.self.now.core.sealed.items) (subst (λ (l : List (Place _ _)). KeepsPlaces l c.join.new.table.places.items) c.prepare.ensures.kept.places c.join.ensures.others.places) (c.args.self.now.done s t b);
       number = c.args.self.now.number;
       rest = λ s t b r. c.attach.ensures.rests (c.args.self.now.rest s t b r);
       stopped = c.args.self.now.stopped;
@@ -114,9 +126,9 @@ returns-in-Ok-attach-clause-joins g c =
     let K = g.P.Pipes.known in
     let was = standing_joins c.args.self.now.core.joins.items in
     c.note_join.ensures.joins
-    ∙ ap (λ (x : EndId). was ++ joining_as (record { end = x; place = c.joint_of-joint.result.place; written = c.joint_of-joint.result.written; read = c.joint_of-joint.result.read }) c.args.peer.now.identity c.in-Ok-attach.answer ∷ []) c.joint_of-joint.ensures.end
-    ∙ ap (λ (x : g.row.P-Name.Denot). was ++ joining_as (record { end = c.args.end; place = c.joint_of-joint.result.place; written = x; read = c.joint_of-joint.result.read }) c.args.peer.now.identity c.in-Ok-attach.answer ∷ []) c.joint_of-joint.ensures.written
-    ∙ ap (λ (x : g.row.P-Name.Denot). was ++ joining_as (record { end = c.args.end; place = c.joint_of-joint.result.place; written = K.out_name c.args.halves.out; read = x }) c.args.peer.now.identity c.in-Ok-attach.answer ∷ []) c.joint_of-joint.ensures.read
+    ∙ ap (λ (x : EndId). was ++ joining_as (record { end = x; place = c.joint_of-joint.result.place; written = c.joint_of-joint.result.written; read = c.joint_of-joint.result.read }) c.args.identity.now c.in-Ok-attach.answer ∷ []) c.joint_of-joint.ensures.end
+    ∙ ap (λ (x : g.row.P-Name.Denot). was ++ joining_as (record { end = c.args.end; place = c.joint_of-joint.result.place; written = x; read = c.joint_of-joint.result.read }) c.args.identity.now c.in-Ok-attach.answer ∷ []) c.joint_of-joint.ensures.written
+    ∙ ap (λ (x : g.row.P-Name.Denot). was ++ joining_as (record { end = c.args.end; place = c.joint_of-joint.result.place; written = K.out_name c.args.halves.out; read = x }) c.args.identity.now c.in-Ok-attach.answer ∷ []) c.joint_of-joint.ensures.read
 
 pub invariant_of-self-in-Err-attach : goal.invariant_of-self-in-Err-attach
 invariant_of-self-in-Err-attach g c =
@@ -135,7 +147,8 @@ invariant_of-self-in-Err-attach g c =
           (leaves_unchanged g.P.Pipes.known c.args.self.now.pipes c.args.self.now.core.ends c.prepare.new.table c.prepare.ensures.kept);
       settled_are = were_read_on c.args.self.now.core.ends.places.items c.prepare.new.table.places.items c.args.self.now.core.ends.settled.items c.prepare.new.table.settled.items (places_stay c.args.self.now.core.ends.places.items c.prepare.new.table.places.items places) c.prepare.ensures.kept.settled c.args.self.now.settled_are;
       sealed_are = subst (λ (l : List (Place _ _)). AreSealed l (map (λ (x : EndId × Unit {0}). x.0) c.args.self.now.core.sealed.items)) (sym places) c.args.self.now.sealed_are;
-      done = λ s t b. done_still g.P.Pipes.known s (map (λ (x : EndId × Unit {0}). x.0) t.sealed.items) c.args.self.now.pipes c.args.self.now.did.items c.args.self.now.core.ends.places.items c.prepare.new.table.places.items (map (λ (x : EndId × Unit {0}). x.0) c.args.self.now.core.sealed.items) (places_stay c.args.self.now.core.ends.places.items c.prepare.new.table.places.items places) (c.args.self.now.done s t b);
+      tied = λ s t b made. made_less g.P.Pipes.known g.F.Since.may_make c.args.self.now.did.items c.args.self.now.did.items c.args.self.now.core.ends.places.items c.prepare.new.table.places.items (length t.ends.places.items) (places_stay c.args.self.now.core.ends.places.items c.prepare.new.table.places.items places) long (λ d. refl) (c.args.self.now.tied s t b made);
+      done = λ s t b. done_still g.P.Pipes.known s t.ends.places.items (map (λ (x : EndId × Unit {0}). x.0) t.sealed.items) c.args.self.now.pipes c.args.self.now.did.items c.args.self.now.core.ends.places.items c.prepare.new.table.places.items (map (λ (x : EndId × Unit {0}). x.0) c.args.self.now.core.sealed.items) (places_stay c.args.self.now.core.ends.places.items c.prepare.new.table.places.items places) (c.args.self.now.done s t b);
       number = c.args.self.now.number;
       rest = λ s t b r. c.attach.ensures.rests (c.args.self.now.rest s t b r);
       stopped = c.args.self.now.stopped;
@@ -161,7 +174,8 @@ invariant_of-self-in-Err-prepare g c =
           (leaves_unchanged g.P.Pipes.known c.args.self.now.pipes c.args.self.now.core.ends c.prepare.new.table c.prepare.ensures.kept);
       settled_are = were_read_on c.args.self.now.core.ends.places.items c.prepare.new.table.places.items c.args.self.now.core.ends.settled.items c.prepare.new.table.settled.items (places_stay c.args.self.now.core.ends.places.items c.prepare.new.table.places.items places) c.prepare.ensures.kept.settled c.args.self.now.settled_are;
       sealed_are = subst (λ (l : List (Place _ _)). AreSealed l (map (λ (x : EndId × Unit {0}). x.0) c.args.self.now.core.sealed.items)) (sym places) c.args.self.now.sealed_are;
-      done = λ s t b. done_still g.P.Pipes.known s (map (λ (x : EndId × Unit {0}). x.0) t.sealed.items) c.args.self.now.pipes c.args.self.now.did.items c.args.self.now.core.ends.places.items c.prepare.new.table.places.items (map (λ (x : EndId × Unit {0}). x.0) c.args.self.now.core.sealed.items) (places_stay c.args.self.now.core.ends.places.items c.prepare.new.table.places.items places) (c.args.self.now.done s t b);
+      tied = λ s t b made. made_less g.P.Pipes.known g.F.Since.may_make c.args.self.now.did.items c.args.self.now.did.items c.args.self.now.core.ends.places.items c.prepare.new.table.places.items (length t.ends.places.items) (places_stay c.args.self.now.core.ends.places.items c.prepare.new.table.places.items places) long (λ d. refl) (c.args.self.now.tied s t b made);
+      done = λ s t b. done_still g.P.Pipes.known s t.ends.places.items (map (λ (x : EndId × Unit {0}). x.0) t.sealed.items) c.args.self.now.pipes c.args.self.now.did.items c.args.self.now.core.ends.places.items c.prepare.new.table.places.items (map (λ (x : EndId × Unit {0}). x.0) c.args.self.now.core.sealed.items) (places_stay c.args.self.now.core.ends.places.items c.prepare.new.table.places.items places) (c.args.self.now.done s t b);
       number = c.args.self.now.number;
       rest = c.args.self.now.rest;
       stopped = c.args.self.now.stopped;
@@ -174,6 +188,6 @@ pub returns-in-Ok-attach-clause-calm : goal.returns-in-Ok-attach-clause-calm
 returns-in-Ok-attach-clause-calm g c = λ came calm.
     let place : c.len-place.result ≡ length c.args.self.now.core.ends.places.items = (let n = c.len-place.ensures in omega (arith, n)) in
     let new = new_place c.in-Ok-prepare.row.value.end (g.P.Pipes.known.out_name c.in-Ok-prepare.row.value.out) (g.P.Pipes.known.in_name c.in-Ok-prepare.row.value.input) c.is_taken.result in
-    calm_came (way_in c.args.self.now.core.way.items) (way_in c.note_join.new.way.items) c.args.self.now.core.ends.places.items c.join.new.table.places.items new (joining_as c.joint_of-joint.result c.args.peer.now.identity c.in-Ok-attach.answer) c.joint_of-joint.result.place c.args.end came
+    calm_came (way_in c.args.self.now.core.way.items) (way_in c.note_join.new.way.items) c.args.self.now.core.ends.places.items c.join.new.table.places.items new (joining_as c.joint_of-joint.result c.args.identity.now c.in-Ok-attach.answer) c.joint_of-joint.result.place c.args.end came
     c.note_join.ensures.way (c.join.ensures.joined ∙ ap (λ (l : List (Place _ _)). l ++ new ∷ []) c.prepare.ensures.kept.places) (c.joint_of-joint.ensures.place ∙ place)
     (ap (λ (r : EndRow _ _). r.end) c.in-Ok-prepare.ensures.ok ∙ sym c.joint_of-joint.ensures.end) refl c.joint_of-joint.ensures.end calm

@@ -1,4 +1,4 @@
-use Rattle.std.proofs.Common.{◌∙◌, ◌==◌, Bool, [], ap, sym, true≢false, if◌then◌else◌}
+use Rattle.std.proofs.Common.{◌∙◌, ◌==◌, Bool, [], length, ap, sym, true≢false, if◌then◌else◌}
 use Rattle.held_ends.specs.Places.{held_in}
 use Rattle.sock_core.specs.Has.{told_in}
 use Rattle.sock_core.proofs.FormLemmas.{sound_of, are_sound}
@@ -11,6 +11,7 @@ use Rattle.zq_base.specs.declared.ids.EndId.{EndId}
 use Rattle.std.specs.Prelude.{map}
 use Rattle.sock_core.proofs.NotedLemmas.{were_read_on, sealed_gone}
 use Rattle.sock_core.proofs.DoneLemmas.{done_still}
+use Rattle.sock_core.proofs.MadeLemmas.{made_gone}
 use Rattle.sock_core.proofs.holder.SockHolderHolder.give_ends.Goals as goal
 
 pub give_ends-requires-clause-sound : goal.give_ends-requires-clause-sound
@@ -33,7 +34,8 @@ invariant_of-self g c = record {
   others = λ s t b. leaves_on g.P.Pipes.known s c.args.self.now.pipes c.args.self.now.pipes t.ends c.args.self.now.core.ends c.give_ends.new.table (c.args.self.now.others s t b) c.give_ends.ensures.others;
   settled_are = were_read_on c.args.self.now.core.ends.places.items c.give_ends.new.table.places.items c.args.self.now.core.ends.settled.items c.give_ends.new.table.settled.items c.give_ends.ensures.others.places (ap (λ l. l.items) c.give_ends.ensures.settled) c.args.self.now.settled_are;
   sealed_are = sealed_gone c.give_ends.new.table.places.items (map (λ (x : EndId × Unit {0}). x.0) c.args.self.now.core.sealed.items) c.give_ends.ensures.gone;
-  done = λ s t b. done_still g.P.Pipes.known s (map (λ (x : EndId × Unit {0}). x.0) t.sealed.items) c.args.self.now.pipes c.args.self.now.did.items c.args.self.now.core.ends.places.items c.give_ends.new.table.places.items (map (λ (x : EndId × Unit {0}). x.0) c.args.self.now.core.sealed.items) (c.give_ends.ensures.others.places) (c.args.self.now.done s t b);
+  tied = λ s t b made. made_gone g.P.Pipes.known g.F.Since.may_make c.args.self.now.did.items c.give_ends.new.table.places.items (length t.ends.places.items) c.give_ends.ensures.gone;
+  done = λ s t b. done_still g.P.Pipes.known s t.ends.places.items (map (λ (x : EndId × Unit {0}). x.0) t.sealed.items) c.args.self.now.pipes c.args.self.now.did.items c.args.self.now.core.ends.places.items c.give_ends.new.table.places.items (map (λ (x : EndId × Unit {0}). x.0) c.args.self.now.core.sealed.items) (c.give_ends.ensures.others.places) (c.args.self.now.done s t b);
   number = c.args.self.now.number;
   rest = c.args.self.now.rest;
   stopped = c.args.self.now.stopped;

@@ -32,6 +32,7 @@ use Rattle.std.specs.Prelude.{map}
 use Rattle.sock_core.specs.Noted.{AreSealed}
 use Rattle.sock_core.proofs.NotedLemmas.{were_read_on, sealed_set}
 use Rattle.sock_core.proofs.DoneLemmas.{done_still}
+use Rattle.sock_core.proofs.MadeLemmas.{made_less}
 use Rattle.sock_core.proofs.holder.SockHolderHolder.set_state.Goals as goal
 
 pub set_state-requires-clause-sound : goal.set_state-requires-clause-sound
@@ -81,7 +82,8 @@ invariant_of-self g c =
       others = λ s t b. leaves_on g.P.Pipes.known s c.args.self.now.pipes c.args.self.now.pipes t.ends c.args.self.now.core.ends c.set_state.new.table (c.args.self.now.others s t b) c.set_state.ensures.others;
       settled_are = were_read_on c.args.self.now.core.ends.places.items c.set_state.new.table.places.items c.args.self.now.core.ends.settled.items c.set_state.new.table.settled.items c.set_state.ensures.others.places (ap (λ l. l.items) c.set_state.ensures.settled) c.args.self.now.settled_are;
       sealed_are = subst (λ (l : List (Place _ _)). AreSealed l (map (λ (x : EndId × Unit {0}). x.0) c.args.self.now.core.sealed.items)) (sym s.now) (sealed_set c.args.self.now.core.ends.places.items c.in-Some.place s.place (record s.place { state = c.args.state; peer = c.stays-peer.result }) (map (λ (x : EndId × Unit {0}). x.0) c.args.self.now.core.sealed.items) c.args.self.now.sealed_are s.there (λ h. h) refl refl);
-      done = λ s t b. done_still g.P.Pipes.known s (map (λ (x : EndId × Unit {0}). x.0) t.sealed.items) c.args.self.now.pipes c.args.self.now.did.items c.args.self.now.core.ends.places.items c.set_state.new.table.places.items (map (λ (x : EndId × Unit {0}). x.0) c.args.self.now.core.sealed.items) (c.set_state.ensures.others.places) (c.args.self.now.done s t b);
+      tied = λ s t b made. made_less g.P.Pipes.known g.F.Since.may_make c.args.self.now.did.items c.args.self.now.did.items c.args.self.now.core.ends.places.items c.set_state.new.table.places.items (length t.ends.places.items) c.set_state.ensures.others.places same (λ d. refl) (c.args.self.now.tied s t b made);
+      done = λ s t b. done_still g.P.Pipes.known s t.ends.places.items (map (λ (x : EndId × Unit {0}). x.0) t.sealed.items) c.args.self.now.pipes c.args.self.now.did.items c.args.self.now.core.ends.places.items c.set_state.new.table.places.items (map (λ (x : EndId × Unit {0}). x.0) c.args.self.now.core.sealed.items) (c.set_state.ensures.others.places) (c.args.self.now.done s t b);
       number = c.args.self.now.number;
       rest = λ p t b r. c.stays-peer.ensures.rests (c.args.self.now.rest p t b r);
       stopped = c.args.self.now.stopped;
