@@ -8,4 +8,6 @@ pub mod TakeLemmas
 pub mod CountLemmas
 pub mod PlaceLemmas
 pub mod IndexLemmas
+pub mod NotedLemmas
+pub mod LookLemmas
 pub mod LawLemmas

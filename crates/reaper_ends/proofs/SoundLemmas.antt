@@ -8,6 +8,7 @@ use Rattle.spec_control.specs.declared.end.EndState.{EndState}
 use Rattle.control_held.specs.Held.{Held}
 use Rattle.msg_pipe.specs.Known.{Known, IsThere, IsElse}
 use Rattle.ctl_holder.specs.declared.given.Given.{Given}
+use Rattle.held_ends.specs.declared.table.Place.{Place}
 use Rattle.ctl_holder.specs.Holding.{held_given}
 use Rattle.ctl_holder.specs.TakingOver.{IsGivenWith, AreGivenWith, AreTwo, AllTwo}
 use Rattle.reaper_ends.specs.declared.sockets.ClosedSocket.{ClosedSocket}
@@ -20,15 +21,15 @@ use Rattle.reaper_ends.proofs.ListLemmas.{all_front, all_back, behind_front, nil
 use Rattle.reaper_ends.proofs.ChangeLemmas.{Replaces, apart_from, left_apart, same_held}
 
 -- the one of a list
-all_one : {X : Type 0} (P : X → Type 0) (before behind : List X) (x : X) → All P (before ++ x ∷ behind) → P x
+pub all_one : {X : Type 0} (P : X → Type 0) (before behind : List X) (x : X) → All P (before ++ x ∷ behind) → P x
 all_one P [] behind x h = All-head P x behind h
 all_one P (y ∷ before) behind x h = all_one P before behind x (All-tail P y (before ++ x ∷ behind) h)
 
-all_but : {X : Type 0} (P : X → Type 0) (before behind : List X) (x : X) → All P (before ++ x ∷ behind) → All P (before ++ behind)
+pub all_but : {X : Type 0} (P : X → Type 0) (before behind : List X) (x : X) → All P (before ++ x ∷ behind) → All P (before ++ behind)
 all_but P [] behind x h = All-tail P x behind h
 all_but P (y ∷ before) behind x h = All-cons P y (before ++ behind) (All-head P y (before ++ x ∷ behind) h) (all_but P before behind x (All-tail P y (before ++ x ∷ behind) h))
 
-all_with : {X : Type 0} (P : X → Type 0) (before behind : List X) (x : X) → All P (before ++ behind) → P x → All P (before ++ x ∷ behind)
+pub all_with : {X : Type 0} (P : X → Type 0) (before behind : List X) (x : X) → All P (before ++ behind) → P x → All P (before ++ x ∷ behind)
 all_with P [] behind x h p = All-cons P x behind p h
 all_with P (y ∷ before) behind x h p = All-cons P y (before ++ x ∷ behind) (All-head P y (before ++ behind) h) (all_with P before behind x (All-tail P y (before ++ behind) h) p)
 
@@ -130,23 +131,23 @@ module _ {S O I N : Type 0} (K : Known S O I N) where
     settled = λ n u. a.settled n (b.settled n u);
   }
     where
-      behind : (more : List (N × N)) → then.came.items ≡ from.came.items ++ more → to.came.items ≡ from.came.items ++ (more ++ drop (length then.came.items) to.came.items)
+      behind : (more : List (Place N I × Unit {0})) → then.came.items ≡ from.came.items ++ more → to.came.items ≡ from.came.items ++ (more ++ drop (length then.came.items) to.came.items)
       behind more e = b.came ∙ ap (λ l. l ++ drop (length then.came.items) to.came.items) e ∙ same_ends from.came.items more (drop (length then.came.items) to.came.items)
 
-      ahead : (more : List (N × N)) → to.came.items ≡ then.came.items ++ more → to.came.items ≡ from.came.items ++ (drop (length from.came.items) then.came.items ++ more)
+      ahead : (more : List (Place N I × Unit {0})) → to.came.items ≡ then.came.items ++ more → to.came.items ≡ from.came.items ++ (drop (length from.came.items) then.came.items ++ more)
       ahead more e = e ∙ ap (λ l. l ++ more) a.came ∙ same_ends from.came.items (drop (length from.came.items) then.came.items) more
 
       written_first : (n : N) → IsNoneWritten K from to n → IsNoneWritten K from then n
-      written_first n w = record { first = w.first; since = λ more e. all_front (λ x. IsElse K n x.0) more (drop (length then.came.items) to.came.items) (w.since (more ++ drop (length then.came.items) to.came.items) (behind more e)) }
+      written_first n w = record { first = w.first; since = λ more e. all_front (λ (x : Place N I × Unit {0}). IsElse K n x.0.written) more (drop (length then.came.items) to.came.items) (w.since (more ++ drop (length then.came.items) to.came.items) (behind more e)) }
 
       read_first : (n : N) → IsNoneRead K from to n → IsNoneRead K from then n
-      read_first n r = record { first = r.first; since = λ more e. all_front (λ x. IsElse K n x.1) more (drop (length then.came.items) to.came.items) (r.since (more ++ drop (length then.came.items) to.came.items) (behind more e)) }
+      read_first n r = record { first = r.first; since = λ more e. all_front (λ (x : Place N I × Unit {0}). IsElse K n x.0.read) more (drop (length then.came.items) to.came.items) (r.since (more ++ drop (length then.came.items) to.came.items) (behind more e)) }
 
       written_then : (n : N) → IsNoneWritten K from to n → IsNoneWritten K then to n
-      written_then n w = record { first = a.writes n (written_first n w); since = λ more e. all_back (λ x. IsElse K n x.0) (drop (length from.came.items) then.came.items) more (w.since (drop (length from.came.items) then.came.items ++ more) (ahead more e)) }
+      written_then n w = record { first = a.writes n (written_first n w); since = λ more e. all_back (λ (x : Place N I × Unit {0}). IsElse K n x.0.written) (drop (length from.came.items) then.came.items) more (w.since (drop (length from.came.items) then.came.items ++ more) (ahead more e)) }
 
       read_then : (n : N) → IsNoneRead K from to n → IsNoneRead K then to n
-      read_then n r = record { first = a.reads n (read_first n r); since = λ more e. all_back (λ x. IsElse K n x.1) (drop (length from.came.items) then.came.items) more (r.since (drop (length from.came.items) then.came.items ++ more) (ahead more e)) }
+      read_then n r = record { first = a.reads n (read_first n r); since = λ more e. all_back (λ (x : Place N I × Unit {0}). IsElse K n x.0.read) (drop (length from.came.items) then.came.items) more (r.since (drop (length from.came.items) then.came.items ++ more) (ahead more e)) }
 
   -- nothing was done
   pub leaves_none : (pipes : S) (c : ClosedSockets N O I) (d : ClosedSockets N O I) → d.sockets.items ≡ c.sockets.items → d.came.items ≡ c.came.items → d.settled.items ≡ c.settled.items → Leaves K pipes c pipes d

@@ -18,9 +18,10 @@ use Rattle.held_ends.proofs.SoundLemmas.{one_some}
 use Rattle.reaper_ends.specs.Ending.{with_input}
 use Rattle.ctl_holder.specs.TakingOver.{AreGivenWith, IsGivenWith, AllTwo, ComeApart}
 use Rattle.reaper_ends.specs.declared.sockets.ClosedSocket.{ClosedSocket}
+use Rattle.held_ends.specs.declared.table.Place.{Place}
 use Rattle.reaper_ends.specs.declared.sockets.ClosedSockets.{ClosedSockets}
 use Rattle.reaper_ends.specs.Has.{all_ends, is_socket, ends_of, is_of, writes_of, has}
-use Rattle.reaper_ends.specs.Finding.{names_given}
+use Rattle.reaper_ends.specs.Finding.{came_given}
 use Rattle.reaper_ends.proofs.FormLemmas.{AllAlone, IsSound}
 use Rattle.reaper_ends.specs.Others.{Leaves}
 use Rattle.reaper_ends.proofs.ListLemmas.{all_both, any_here, behind_front}
@@ -38,7 +39,7 @@ module _ {S O I N : Type 0} (K : Known S O I N) where
     alone = alone_more ss s new sound.alone;
   }
 
-  pub leaves_added : (pipes : S) (c d : ClosedSockets N O I) (s : ClosedSocket N O I) → d.sockets.items ≡ c.sockets.items ++ s ∷ [] → d.came.items ≡ c.came.items ++ map (names_given K.in_name) s.ends.items → d.settled.items ≡ c.settled.items → Leaves K pipes c pipes d
+  pub leaves_added : (pipes : S) (c d : ClosedSockets N O I) (s : ClosedSocket N O I) → d.sockets.items ≡ c.sockets.items ++ s ∷ [] → d.came.items ≡ c.came.items ++ map (came_given K.in_name) s.ends.items → d.settled.items ≡ c.settled.items → Leaves K pipes c pipes d
   leaves_added pipes c d s added came settled = record {
     written = λ n u t. t;
     read = λ n r t. t;
@@ -46,11 +47,11 @@ module _ {S O I N : Type 0} (K : Known S O I N) where
     ins = λ h t r. refl;
     writes = λ n w. subst (λ l. All (λ g. is_some g.out ≡ true → IsElse K n g.written) l) (sym now)
         (all_both (λ g. is_some g.out ≡ true → IsElse K n g.written) (all_ends c.sockets.items) s.ends.items w.first
-        (λ k e lt has. from_map (λ x. IsElse K n x.0) (names_given K.in_name) s.ends.items (w.since (map (names_given K.in_name) s.ends.items) came) k e lt));
+        (λ k e lt has. from_map (λ (x : Place N I × Unit {0}). IsElse K n x.0.written) (came_given K.in_name) s.ends.items (w.since (map (came_given K.in_name) s.ends.items) came) k e lt));
     reads = λ n r. subst (λ l. All (λ g. IsElse K n (K.in_name g.input)) l) (sym now)
         (all_both (λ g. IsElse K n (K.in_name g.input)) (all_ends c.sockets.items) s.ends.items r.first
-        (from_map (λ x. IsElse K n x.1) (names_given K.in_name) s.ends.items (r.since (map (names_given K.in_name) s.ends.items) came)));
-    came = behind_front c.came.items (map (names_given K.in_name) s.ends.items) d.came.items came;
+        (from_map (λ (x : Place N I × Unit {0}). IsElse K n x.0.read) (came_given K.in_name) s.ends.items (r.since (map (came_given K.in_name) s.ends.items) came)));
+    came = behind_front c.came.items (map (came_given K.in_name) s.ends.items) d.came.items came;
     settled = λ n u. subst (λ l. All (λ x. IsElse K n x.0) l) settled u;
   }
     where

@@ -1,8 +1,9 @@
 -- Where the ends of closed sockets stand (own choice).
-use Rattle.std.specs.Prelude.{◌≡◌, ◌<◌, ◌++◌, ℕ, Bool, true, false, List, ◌∷◌, All, length, position, nat_eq, vec_len, vec_capacity}
+use Rattle.std.specs.Prelude.{◌≡◌, ◌<◌, ◌++◌, ℕ, Bool, true, false, List, ◌∷◌, None, All, is_some, length, position, nat_eq, vec_len, vec_capacity}
 use Rattle.indexmap.specs.IndexMap.{get, spare}
 use Rattle.zq_base.specs.declared.ids.EndId.{EndId}
 use Rattle.ctl_holder.specs.declared.given.Given.{Given}
+use Rattle.held_ends.specs.declared.table.Place.{Place}
 use Rattle.reaper_ends.specs.declared.sockets.ClosedSocket.{ClosedSocket}
 use Rattle.reaper_ends.specs.declared.sockets.ClosedSockets.{ClosedSockets}
 use Rattle.reaper_ends.specs.Has.{is_socket, is_of}
@@ -41,6 +42,21 @@ module _ {N O I : Type 0} where
     pub its : IsFirst (is_socket number) ss socket
     pub here : IsFirst (is_of e) its.one.ends.items place
 
-  -- the pipes that an end writes and reads
-  abbrev pub names_given : (in_name : I → N) → Given N O I → N × N
-  names_given in_name g = (g.written, in_name g.input)
+  -- an end as it comes, at a place of its own; and as that is noted
+  abbrev pub place_given : (in_name : I → N) → Given N O I → Place N I
+  place_given in_name g = record {
+    end = g.end;
+    written = g.written;
+    read = in_name g.input;
+    state = g.state;
+    held = true;
+    writes = is_some g.out;
+    sealed = g.sealed;
+    met = g.met;
+    peer = false;
+    dropped = 0;
+    input = None;
+  }
+
+  abbrev pub came_given : (in_name : I → N) → Given N O I → Place N I × Unit {0}
+  came_given in_name g = (place_given in_name g, tt)

@@ -4,4 +4,6 @@ pub mod Finding
 pub mod Sound
 pub mod Ending
 pub mod Others
+pub mod Noted
+pub mod Looking
 pub mod Laws

@@ -1,6 +1,7 @@
 -- What the calls of the reaper leave to the owners of other ends, whose pipes stand in the same table (own choice).
 use Rattle.std.specs.Prelude.{◌≡◌, ◌++◌, true, List, All, drop, is_some, length}
 use Rattle.msg_pipe.specs.Known.{Known, IsThere, IsElse}
+use Rattle.held_ends.specs.declared.table.Place.{Place}
 use Rattle.reaper_ends.specs.declared.sockets.ClosedSockets.{ClosedSockets}
 use Rattle.reaper_ends.specs.Has.{all_ends}
 
@@ -15,12 +16,12 @@ module _ {S O I N : Type 0} (K : Known S O I N) where
   -- a pipe of another name than those that the ends wrote at the beginning or that came since
   pub record IsNoneWritten (from to : ClosedSockets N O I) (n : N) : Type 0 where
     pub first : NoneWrites from n
-    pub since : (more : List (N × N)) → to.came.items ≡ from.came.items ++ more → All (λ x. IsElse K n x.0) more
+    pub since : (more : List (Place N I × Unit {0})) → to.came.items ≡ from.came.items ++ more → All (λ x. IsElse K n x.0.written) more
 
   -- or read
   pub record IsNoneRead (from to : ClosedSockets N O I) (n : N) : Type 0 where
     pub first : NoneReads from n
-    pub since : (more : List (N × N)) → to.came.items ≡ from.came.items ++ more → All (λ x. IsElse K n x.1) more
+    pub since : (more : List (Place N I × Unit {0})) → to.came.items ≡ from.came.items ++ more → All (λ x. IsElse K n x.0.read) more
 
   -- than those that were settled
   abbrev pub IsUnsettled : ClosedSockets N O I → N → Type 0

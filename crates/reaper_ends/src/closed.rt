@@ -1,18 +1,20 @@
 ghost use Rattle.reaper_ends.specs.declared.sockets.ClosedSockets.{ClosedSockets};
 ghost use Rattle.reaper_ends.specs.Finding.{AreIndexed};
+ghost use Rattle.reaper_ends.specs.Noted.{HasDoneTo};
 ghost use Rattle.reaper_ends.specs.Others.{Leaves};
 ghost use Rattle.reaper_ends.specs.Sound.{AreSound};
 
 use crate::ending::{halves_of, look, seal, settle, turn, yield_out};
 use crate::sockets::{ClosedSockets, add, find, make_room, none, note_heard};
 use ctl_holder::{Given, Halves, Holder, Made, Notice, Parting};
-use held_ends::HeldPipes;
+use held_ends::{HeldPipes, PipeChange};
+use http_server::Log;
 use msg_pipe::Front;
 use sock_core::{Since, note, note_seal};
 use spec_control::EndState;
 use std::alloc::{AllocError, AllocFailed, Global};
 use std::marker::{Brand, PhantomData};
-use zq_base::{Address, Attached, EndId, Kind, ObjId, Options, Peer, Seq, Settled};
+use zq_base::{Address, Attached, EndId, Kind, ObjId, Octets, Options, Seq, Settled};
 
 /// The reaper's holder: the closed sockets with the pipes of their ends, for a stretch of calls.
 ///
@@ -24,11 +26,15 @@ pub struct Closed<P: HeldPipes, F: Since<P, ClosedSockets<P::Name, P::Out, P::In
     pub closed: ClosedSockets<P::Name, P::Out, P::In>,
     /// Wakes its owner.
     pub waker: P::Waker,
+    /// What was done to the pipes, for proofs alone: it takes no memory.
+    pub did: Log<PipeChange<P::Out, P::In>, P>,
     pub since: PhantomData<F>,
     ghost indexed: { AreIndexed closed },
     ghost sound: { AreSound P.known pipes closed.sockets.items },
     ghost others: { (s : P) (t : ClosedSockets P.Name P.Out P.In) → F.began s t →
         Leaves P.known s t pipes closed },
+    ghost done: { (s : P) (t : ClosedSockets P.Name P.Out P.In) → F.began s t →
+        ∥ HasDoneTo P.known s t did.items pipes closed ∥₁ },
 }
 
 impl<P: HeldPipes> Closed<P> {
@@ -46,6 +52,7 @@ impl<P: HeldPipes> Closed<P> {
             pipes,
             closed: none(alloc),
             waker,
+            did: Log::new(),
             since: PhantomData,
         }
     }
@@ -65,7 +72,7 @@ impl<P: HeldPipes, F: Since<P, ClosedSockets<P::Name, P::Out, P::In>>> Closed<P,
     }
 }
 
-impl<P: HeldPipes, F: Since<P, ClosedSockets<P::Name, P::Out, P::In>>> Closed<P, F> {
+impl<P: HeldPipes> Closed<P> {
     ghost use Rattle.std.specs.Prelude.{◌≡◌, true};
     ghost use Rattle.msg_pipe.specs.declared.pipes.Front.TheVariants.{Delimiter};
     ghost use Rattle.ctl_holder.specs.Holding.{HearsNone, Stays, KeepsTurns, has_end};
@@ -73,7 +80,7 @@ impl<P: HeldPipes, F: Since<P, ClosedSockets<P::Name, P::Out, P::In>>> Closed<P,
     ghost use Rattle.reaper_ends.specs.Ending.{LooksOnce};
 
     /// Looks at the front of the pipe that an end of a closed socket reads, and takes nothing. An end
-    /// that finds the delimiter has met it.
+    /// that finds the delimiter has met it. It is no call of a stretch.
     pub fn look(&mut self, o: ObjId, end: EndId) -> Front
         requires here { has_end end
             ((holding_in P.known.out_name P.known.in_name self.old.closed).ends o.0) ≡ true }
@@ -90,6 +97,8 @@ impl<P: HeldPipes, F: Since<P, ClosedSockets<P::Name, P::Out, P::In>>> Closed<P,
         ensures heard { HearsNone
             (holding_in P.known.out_name P.known.in_name self.old.closed)
             (holding_in P.known.out_name P.known.in_name self.new.closed) }
+        ensures others { Leaves P.known self.old.pipes self.old.closed
+            self.new.pipes self.new.closed }
     {
         match find(&self.closed, o, end) {
             Some((socket, place)) => {
@@ -126,7 +135,9 @@ where
 
     ghost counts = { λ s e writer. counts_of P.known s.pipes s.closed.sockets.items e writer };
 
-    ghost fits = { λ s h. ⊥ };
+    ghost may_make = { λ e w r. ⊥ };
+
+    ghost fits = { λ s e h. ⊥ };
 
     ghost serves = { false };
 
@@ -142,12 +153,13 @@ where
         &mut self,
         _alloc: Global,
         o: ObjId,
+        end: EndId,
         _written: u32,
         _read: u32,
         _mine: &P::Waker,
         _other: &P::Waker,
     ) -> Result<Made<P::Out, P::In>, AllocError> {
-        let _object = o;
+        let _unread = (o, end);
         Err(AllocError)
     }
 
@@ -156,7 +168,7 @@ where
         _alloc: Global,
         o: ObjId,
         end: EndId,
-        peer: &Peer,
+        identity: &Octets,
         halves: Halves<P::Out, P::In>,
     ) -> Result<Attached, AllocFailed<Halves<P::Out, P::In>>>
         ensures ok { OnOk result (Joined o.0 (held_with P.known.out_name P.known.in_name end halves)
@@ -166,7 +178,7 @@ where
             (holding_in P.known.out_name P.known.in_name self.old.closed)
             (holding_in P.known.out_name P.known.in_name self.new.closed)) }
         ensures joins { IfOk result (λ a. JoinsBy (joining_with P.known.out_name P.known.in_name
-            end peer.now.identity halves a ∷ [])
+            end identity.now halves a ∷ [])
             (holding_in P.known.out_name P.known.in_name self.old.closed)
             (holding_in P.known.out_name P.known.in_name self.new.closed)) }
         ensures refuses { IfOk result (λ a. MayRefuse
@@ -180,7 +192,7 @@ where
             (holding_in P.known.out_name P.known.in_name self.old.closed)
             (holding_in P.known.out_name P.known.in_name self.new.closed) }
     {
-        let _peer = peer;
+        let _identity = identity;
         let _unread = (o, end);
         Err(AllocFailed { value: halves })
     }
@@ -216,6 +228,7 @@ where
                 seal(
                     &mut self.pipes,
                     &mut self.closed.sockets[socket].ends[place],
+                    &mut self.did,
                 );
                 note_seal(&mut self.closed.sealed, end);
                 return;
@@ -229,6 +242,7 @@ where
             Some((socket, place)) => match yield_out(
                 &mut self.pipes,
                 &mut self.closed.sockets[socket].ends[place],
+                &mut self.did,
             ) {
                 Some(out) => return out,
                 None => unreachable!(),
@@ -243,7 +257,7 @@ where
                 let name = P::name(&writer);
                 self.closed.settled = self.closed.settled.and(&name, &());
                 let given = self.closed.sockets[socket].ends.remove(place);
-                return settle(&mut self.pipes, given, writer);
+                return settle(&mut self.pipes, given, writer, &mut self.did);
             }
             None => unreachable!(),
         }

@@ -1,13 +1,21 @@
-ghost use Rattle.std.specs.Prelude.{◌≡◌, ◌+◌, true, None, Some, is_some};
+ghost use Rattle.std.specs.Prelude.{◌≡◌, ◌+◌, ◌++◌, ◌∷◌, [], true, false, not, None, Some, is_some};
+ghost use Rattle.spec_pattern.specs.Half.{with_delimiter, without_parts};
+ghost use Rattle.msg_pipe.specs.Known.{IsThere, KeepsButOut, KeepsButPipe};
 ghost use Rattle.ctl_holder.specs.TakingOver.{IsGivenWith};
+ghost use Rattle.held_ends.specs.declared.changes.PipeChange.TheVariants.{Sealed, Parted, Settled as SettledNow};
+ghost use Rattle.held_ends.specs.Changes.{NotesHalf};
 ghost use Rattle.held_ends.specs.Counting.{counts_with};
 ghost use Rattle.held_ends.specs.Looking.{met_after};
 ghost use Rattle.reaper_ends.specs.Ending.{OneEnd, OneGone, LooksAt, halves_of};
+ghost use Rattle.reaper_ends.specs.Finding.{place_given};
+ghost use Rattle.reaper_ends.specs.Noted.{ChangesOnce};
 
 use ctl_holder::{Given, Halves};
+use held_ends::PipeChange;
+use http_server::Log;
 use msg_pipe::{Front, Pipes};
 use spec_control::EndState;
-use zq_base::Settled;
+use zq_base::{EndId, Settled};
 
 /// An end goes to a state of its life.
 pub(crate) fn turn<N, O, I>(end: &mut Given<N, O, I>, state: EndState)
@@ -16,30 +24,64 @@ pub(crate) fn turn<N, O, I>(end: &mut Given<N, O, I>, state: EndState)
     end.state = state;
 }
 
-/// The pipe that an end writes gets its delimiter, once.
-pub(crate) fn seal<P: Pipes>(pipes: &mut P, end: &mut Given<P::Name, P::Out, P::In>)
+/// The pipe that an end writes gets its delimiter, once. What was done is noted.
+pub(crate) fn seal<P: Pipes>(
+    pipes: &mut P,
+    end: &mut Given<P::Name, P::Out, P::In>,
+    did: &mut Log<PipeChange<P::Out, P::In>, P>,
+)
     requires given { IsGivenWith P.known pipes.old end.old }
+    requires writes { is_some end.old.out ≡ true }
     ensures one { OneEnd P.known pipes.old pipes.new end.old end.new }
     ensures sealed { end.new ≡ record end.old { out = end.new.out; sealed = end.new.sealed } }
     ensures writes { is_some end.new.out ≡ is_some end.old.out }
+    ensures changes { ChangesOnce P.known (place_given P.known.in_name end.old)
+        ((end.old.end, not end.old.sealed) ∷ []) did.old.items pipes.old did.new.items pipes.new }
 {
+    let which = end.end;
     if end.sealed {
+        let again: PipeChange<P::Out, P::In> = PipeChange::SealedAgain(0, which);
+        *did = did.and(&again, pipes);
         return;
     }
     match &mut end.out {
         Some(out) => {
-            pipes.seal(out);
+            seal_noted(pipes, out, did, which);
             end.sealed = true;
             return;
         }
-        None => return,
+        None => unreachable!(),
     }
 }
 
+// The pipe of a writing half gets its delimiter, which is noted.
+fn seal_noted<P: Pipes>(
+    pipes: &mut P,
+    out: &mut P::Out,
+    did: &mut Log<PipeChange<P::Out, P::In>, P>,
+    end: EndId,
+)
+    requires here { IsThere P.known pipes.old (P.known.out_name out.old) }
+    requires unsealed { (P.known.writing pipes.old out.old).sealed ≡ false }
+    ensures seals { P.known.writing pipes.new out.new
+        ≡ with_delimiter (P.known.writing pipes.old out.old) }
+    ensures keeps { KeepsButOut P.known out.old out.new pipes.old pipes.new }
+    ensures noted { NotesHalf (λ half. Sealed 0 end half) out.old out.new
+        pipes.new did.old.items did.new.items }
+{
+    let half: Log<P::Out, ()> = Log::new();
+    let lent = half.and(out, &());
+    pipes.seal(out);
+    let sealed = PipeChange::Sealed(0, end, lent.and(out, &()));
+    *did = did.and(&sealed, pipes);
+}
+
 /// The writing half of an end, which is given away; parts that were not committed are rolled back.
+/// What was done is noted.
 pub(crate) fn yield_out<P: Pipes>(
     pipes: &mut P,
     end: &mut Given<P::Name, P::Out, P::In>,
+    did: &mut Log<PipeChange<P::Out, P::In>, P>,
 ) -> Option<P::Out>
     requires given { IsGivenWith P.known pipes.old end.old }
     ensures one { OneEnd P.known pipes.old pipes.new end.old end.new }
@@ -49,14 +91,39 @@ pub(crate) fn yield_out<P: Pipes>(
     ensures counts { (writer : P.Out) → P.known.out_name writer ≡ P.known.in_name end.old.input →
         counts_with P.known pipes.new writer (Some end.old.input)
         ≡ counts_with P.known pipes.old writer (Some end.old.input) }
+    ensures changes { is_some end.old.out ≡ true →
+        ChangesOnce P.known (place_given P.known.in_name end.old) []
+        did.old.items pipes.old did.new.items pipes.new }
 {
+    let which = end.end;
     match end.out.take() {
         Some(mut out) => {
-            pipes.rollback(&mut out);
+            forget_noted(pipes, &mut out, did, which);
             return Some(out);
         }
         None => return None,
     }
+}
+
+// Parts that were not committed by a writing half are rolled back, which is noted.
+fn forget_noted<P: Pipes>(
+    pipes: &mut P,
+    out: &mut P::Out,
+    did: &mut Log<PipeChange<P::Out, P::In>, P>,
+    end: EndId,
+)
+    requires here { IsThere P.known pipes.old (P.known.out_name out.old) }
+    ensures forgets { P.known.writing pipes.new out.new
+        ≡ without_parts (P.known.writing pipes.old out.old) }
+    ensures keeps { KeepsButOut P.known out.old out.new pipes.old pipes.new }
+    ensures noted { NotesHalf (λ half. Parted 0 end half) out.old out.new
+        pipes.new did.old.items did.new.items }
+{
+    let half: Log<P::Out, ()> = Log::new();
+    let lent = half.and(out, &());
+    pipes.rollback(out);
+    let parted = PipeChange::Parted(0, end, lent.and(out, &()));
+    *did = did.and(&parted, pipes);
 }
 
 /// Looks at the front of the pipe that an end reads, and takes nothing. An end that finds the
@@ -82,11 +149,12 @@ fn meet<N, O, I>(end: &mut Given<N, O, I>, found: Front)
 }
 
 /// Joins the reading half of an end with the writing half of its pipe. What is left in a pipe that was
-/// read to its delimiter is nothing.
+/// read to its delimiter is nothing. What was done is noted.
 pub(crate) fn settle<P: Pipes>(
     pipes: &mut P,
     end: Given<P::Name, P::Out, P::In>,
     writer: P::Out,
+    did: &mut Log<PipeChange<P::Out, P::In>, P>,
 ) -> Settled
 where
     P::Name: Drop,
@@ -96,9 +164,11 @@ where
     ensures counts { result ≡ counts_with P.known pipes.old writer (Some end.input) }
     ensures sum { result.sent ≡ result.got + result.rest }
     ensures read_out { end.met ≡ true → result.rest ≡ 0 }
+    ensures noted { did.new.items ≡ did.old.items ++ (SettledNow 0 end.end, pipes.new) ∷ [] }
+    ensures keeps { KeepsButPipe P.known (P.known.in_name end.input) pipes.old pipes.new }
 {
     let Given {
-        end: _,
+        end: which,
         written: _,
         out: _,
         input,
@@ -106,7 +176,10 @@ where
         sealed: _,
         state: _,
     } = end;
-    pipes.settle(input, writer)
+    let counts = pipes.settle(input, writer);
+    let settled: PipeChange<P::Out, P::In> = PipeChange::Settled(0, which);
+    *did = did.and(&settled, pipes);
+    counts
 }
 
 /// The halves of an end that has both.

@@ -1,4 +1,6 @@
+ghost use Rattle.std.specs.Prelude.{◌≡◌, true};
 ghost use Rattle.reaper_ends.specs.Laws.{LeavesSockets, LeavesGiven, LeavesFitting, LeavesClosed};
+ghost use Rattle.reaper_ends.specs.Looking.{LooksGoOn};
 
 use msg_pipe::Pipes;
 
@@ -20,4 +22,10 @@ pub fn halves_join_still<P: Pipes>(_pipes: &P)
 /// The calls of a socket leave the ends of closed sockets sound, which are of other pipes.
 pub fn closed_ends_stay<P: Pipes>(_pipes: &P)
     ensures { LeavesClosed P.known }
+{}
+
+/// A look at the front of the pipe of a closed socket's end is a step that follows from those past.
+pub fn looks_go_on<P: Pipes>(_pipes: &P)
+    requires { P.known.exact ≡ true }
+    ensures { LooksGoOn P.known }
 {}

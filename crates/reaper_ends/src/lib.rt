@@ -9,5 +9,7 @@ mod laws;
 mod sockets;
 
 pub use closed::Closed;
-pub use laws::{closed_ends_stay, given_ends_stay, halves_join_still, sockets_stay_sound};
-pub use sockets::{ClosedSocket, ClosedSockets};
+pub use laws::{
+    closed_ends_stay, given_ends_stay, halves_join_still, looks_go_on, sockets_stay_sound,
+};
+pub use sockets::{ClosedSocket, ClosedSockets, none};

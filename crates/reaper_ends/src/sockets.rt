@@ -1,10 +1,10 @@
 ghost use Rattle.std.specs.Prelude.{◌≡◌, ◌++◌, ◌∷◌, [], false, position, map, IfSome, IfNone, OnOk};
 ghost use Rattle.std.specs.List.{list_any};
 ghost use Rattle.reaper_ends.specs.Has.{ends_of, is_of, is_socket};
-ghost use Rattle.reaper_ends.specs.Finding.{AreIndexed, FindsEnd, HasRoom, KeepsEnds, names_given};
+ghost use Rattle.reaper_ends.specs.Finding.{AreIndexed, FindsEnd, HasRoom, KeepsEnds, came_given, place_given};
 
 use ctl_holder::{Given, Notice};
-use held_ends::HeldPipes;
+use held_ends::{HeldPipes, Place};
 use http_server::Log;
 use indexmap::IndexMap;
 use spec_control::EndState;
@@ -24,9 +24,8 @@ pub struct ClosedSockets<N, O, I> {
     pub sockets: Vec<ClosedSocket<N, O, I>>,
     /// The place of each, by its number.
     pub places: IndexMap<u32, usize>,
-    /// The names of the pipes that each end that came writes and reads, for proofs alone: it takes no
-    /// memory.
-    pub came: Log<N, N>,
+    /// Each end that came, as it was then, for proofs alone: it takes no memory.
+    pub came: Log<Place<N, I>, ()>,
     /// The pipes that were settled, for proofs alone.
     pub settled: Log<N, ()>,
     /// The changes of state that were told, for proofs alone.
@@ -38,7 +37,7 @@ pub struct ClosedSockets<N, O, I> {
 }
 
 /// No closed socket.
-pub(crate) fn none<N, O, I>(alloc: Global) -> ClosedSockets<N, O, I>
+pub fn none<N, O, I>(alloc: Global) -> ClosedSockets<N, O, I>
     ensures none { result.sockets.items ≡ [] }
     ensures indexed { AreIndexed result }
     ensures logs { (result.came.items ≡ []) × (result.settled.items ≡ [])
@@ -118,7 +117,7 @@ where
     ensures added { closed.new.sockets.items
         ≡ closed.old.sockets.items ++ record { number = number; ends = ends } ∷ [] }
     ensures came { closed.new.came.items
-        ≡ closed.old.came.items ++ map (names_given P.known.in_name) ends.items }
+        ≡ closed.old.came.items ++ map (came_given P.known.in_name) ends.items }
     ensures settled { closed.new.settled.items ≡ closed.old.settled.items }
     ensures turns { closed.new.turns.items ≡ closed.old.turns.items }
     ensures sealed { closed.new.sealed.items ≡ closed.old.sealed.items }
@@ -140,15 +139,37 @@ pub(crate) fn note_heard(heard: &mut Log<Notice, ()>, notice: Notice)
     *heard = heard.and(&notice, &());
 }
 
-// Notes the names of the pipes of ends that come.
-fn note_came<P: HeldPipes>(came: &mut Log<P::Name, P::Name>, ends: &[Given<P::Name, P::Out, P::In>])
+// Notes ends that come, as they are.
+fn note_came<P: HeldPipes>(
+    came: &mut Log<Place<P::Name, P::In>, ()>,
+    ends: &[Given<P::Name, P::Out, P::In>],
+)
 where
     P::Name: Drop,
-    ensures { came.new.items ≡ came.old.items ++ map (names_given P.known.in_name) ends.now }
+    ensures { came.new.items ≡ came.old.items ++ map (came_given P.known.in_name) ends.now }
 {
     let many = ends.len();
     'each: for place in 0..many {
-        let read = P::reads(&ends[place].input);
-        *came = came.and(&ends[place].written, &read);
+        let noted = noted_as::<P>(&ends[place]);
+        *came = came.and(&noted, &());
+    }
+}
+
+// An end as it comes, at a place of its own.
+fn noted_as<P: HeldPipes>(end: &Given<P::Name, P::Out, P::In>) -> Place<P::Name, P::In>
+    ensures { result ≡ place_given P.known.in_name end.now }
+{
+    Place {
+        end: end.end,
+        written: P::same_name(&end.written),
+        read: P::reads(&end.input),
+        state: end.state,
+        held: true,
+        writes: end.out.is_some(),
+        sealed: end.sealed,
+        met: end.met,
+        peer: false,
+        dropped: 0,
+        input: None,
     }
 }

@@ -3,4 +3,4 @@ use Rattle.reaper_ends.proofs.ending.settle.Goals as goal
 
 pub returns-clause-counts : goal.returns-clause-counts
 returns-clause-counts g c =
-    told_counts (g.P.Pipes.known.writing c.args.pipes.now c.args.writer) (g.P.Pipes.known.reading c.args.pipes.now c.args.end.input) c.settle.result c.settle.ensures.sent c.settle.ensures.got c.settle.ensures.rest
+    told_counts (g.P.Pipes.known.writing c.args.pipes.now c.args.writer) (g.P.Pipes.known.reading c.args.pipes.now c.args.end.input) c.settle-counts.result c.settle-counts.ensures.sent c.settle-counts.ensures.got c.settle-counts.ensures.rest

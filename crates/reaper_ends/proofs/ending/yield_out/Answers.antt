@@ -1,9 +1,16 @@
-use Rattle.std.proofs.Common.{sym, subst}
+use Rattle.std.proofs.Common.{◌∙◌, refl, sym, subst}
 use Rattle.msg_pipe.specs.Known.{IsThere}
+use Rattle.reaper_ends.specs.Finding.{place_given}
 use Rattle.reaper_ends.proofs.CountLemmas.{rolled_counts}
+use Rattle.reaper_ends.proofs.NotedLemmas.{once_parted}
 use Rattle.reaper_ends.proofs.ending.yield_out.Goals as goal
 
 pub returns-in-Some-clause-counts : goal.returns-in-Some-clause-counts
 returns-in-Some-clause-counts g c = λ writer name.
-    rolled_counts g.P.Pipes.known g.met.P.Pipes.one_out c.args.pipes.now c.rollback.new.self c.in-Some.out c.rollback.new.o writer c.rollback.ensures.keeps c.rollback.ensures.forgets
+    rolled_counts g.P.Pipes.known g.met.P.Pipes.one_out c.args.pipes.now c.forget_noted.new.pipes c.in-Some.out c.forget_noted.new.out writer c.forget_noted.ensures.keeps c.forget_noted.ensures.forgets
     (subst (IsThere g.P.Pipes.known c.args.pipes.now) (sym name) c.requires.given.read_there) c.args.end.now.input c.requires.given.read_there
+
+pub returns-in-Some-clause-changes : goal.returns-in-Some-clause-changes
+returns-in-Some-clause-changes g c = λ writes.
+    once_parted g.P.Pipes.known (place_given g.P.Pipes.known.in_name c.args.end.now) refl writes c.args.did.now.items c.forget_noted.new.did.items c.args.pipes.now c.forget_noted.new.pipes c.in-Some.out c.forget_noted.new.out c.forget_noted.ensures.noted
+    (c.requires.given.out_is c.in-Some.out (sym c.take.ensures.value ∙ c.in-Some.is)) c.forget_noted.ensures.forgets c.forget_noted.ensures.keeps

@@ -1,5 +1,7 @@
 use Rattle.std.proofs.Common.{sym, subst}
 use Rattle.reaper_ends.specs.Sound.{AreSound}
+use Rattle.reaper_ends.proofs.NotedLemmas.{done_same}
+use Rattle.std.proofs.Math.Logic.{∥∥₁_map}
 use Rattle.reaper_ends.proofs.SoundLemmas.{leaves_on, leaves_none}
 use Rattle.reaper_ends.proofs.closed.Closed.keep.Goals as goal
 
@@ -10,4 +12,5 @@ invariant_of-self g c =
       sound = subst (λ l. AreSound g.P.Pipes.known c.args.self.now.pipes l) (sym c.make_room.ensures.kept.sockets) c.args.self.now.sound;
       others = λ s t b. leaves_on g.P.Pipes.known s c.args.self.now.pipes c.args.self.now.pipes t c.args.self.now.closed c.make_room.new.closed (c.args.self.now.others s t b)
           (leaves_none g.P.Pipes.known c.args.self.now.pipes c.args.self.now.closed c.make_room.new.closed c.make_room.ensures.kept.sockets c.make_room.ensures.kept.came c.make_room.ensures.kept.settled);
+      done = λ s t b. ∥∥₁_map (c.args.self.now.done s t b) (λ h. done_same g.P.Pipes.known s t c.args.self.now.closed c.make_room.new.closed c.args.self.now.did.items c.args.self.now.pipes c.make_room.ensures.kept.sockets c.make_room.ensures.kept.came c.make_room.ensures.kept.sealed c.make_room.ensures.kept.settled h);
     }

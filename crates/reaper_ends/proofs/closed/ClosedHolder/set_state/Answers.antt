@@ -9,6 +9,9 @@ use Rattle.reaper_ends.proofs.ListLemmas.{never}
 use Rattle.reaper_ends.proofs.FormLemmas.{are_sound, sound_of}
 use Rattle.reaper_ends.proofs.ChangeLemmas.{has_listed}
 use Rattle.reaper_ends.proofs.PlaceLemmas.{at_stays, at_changed, alone_at, end_is, with_end}
+use Rattle.reaper_ends.proofs.NotedLemmas.{done_turned}
+use Rattle.std.proofs.Math.Logic.{∥∥₁_map}
+use Rattle.reaper_ends.specs.Noted.{standing_of}
 use Rattle.reaper_ends.proofs.SoundLemmas.{its_halves, changed_sound, leaves_on, leaves_changed, one_turned}
 use Rattle.reaper_ends.proofs.HasLemmas.{stays, turns_to, input_is, input_now}
 use Rattle.reaper_ends.proofs.closed.ClosedHolder.set_state.Goals as goal
@@ -22,6 +25,7 @@ invariant_of-self g c =
       sound = are_sound g.P.Pipes.known c.args.self.now.pipes (set c.args.self.now.closed.sockets.items c.in-Some.socket (with_end c.index_mut.result.now c.in-Some.place c.turn.new.end))
           (changed_sound g.P.Pipes.known c.args.o.0 c.args.end c.args.self.now.closed.sockets.items (set c.args.self.now.closed.sockets.items c.in-Some.socket (with_end c.index_mut.result.now c.in-Some.place c.turn.new.end)) c.index_mut-in-Some.result.now c.args.self.now.pipes c.args.self.now.pipes (sound_of g.P.Pipes.known c.args.self.now.pipes c.args.self.now.closed.sockets.items c.args.self.now.sound) c.turn.new.end r one (alone_at c.args.o.0 c.args.end c.args.self.now.closed.sockets.items c.in-Some.socket c.in-Some.place c.in-Some.ensures.found c.index_mut.result.now c.index_mut.ensures.value (with_end c.index_mut.result.now c.in-Some.place c.turn.new.end) refl (sound_of g.P.Pipes.known c.args.self.now.pipes c.args.self.now.closed.sockets.items c.args.self.now.sound).alone));
       others = λ s t b. leaves_on g.P.Pipes.known s c.args.self.now.pipes c.args.self.now.pipes t c.args.self.now.closed _ (c.args.self.now.others s t b) (leaves_changed g.P.Pipes.known c.args.o.0 c.args.end c.args.self.now.closed _ c.index_mut-in-Some.result.now c.args.self.now.pipes c.args.self.now.pipes refl c.turn.new.end r one refl);
+      done = λ s t b. ∥∥₁_map (c.args.self.now.done s t b) (λ h. done_turned g.P.Pipes.known s t c.args.o.0 c.args.end c.args.self.now.closed _ c.index_mut-in-Some.result.now refl c.turn.new.end r c.args.self.now.did.items c.args.self.now.pipes (ap (standing_of g.P.Pipes.known.in_name) c.turn.ensures) (ap (λ (y : Given _ _ _). y.sealed) c.turn.ensures) (ap (λ (y : Given _ _ _). y.end) c.turn.ensures) refl refl h);
     }
 
 pub returns-in-Some-clause-stays : goal.returns-in-Some-clause-stays

@@ -8,6 +8,8 @@ use Rattle.reaper_ends.specs.Has.{all_ends, ends_of, writes_of}
 use Rattle.reaper_ends.proofs.ListLemmas.{never}
 use Rattle.reaper_ends.proofs.FormLemmas.{are_sound, sound_of}
 use Rattle.reaper_ends.proofs.PlaceLemmas.{at_stays, at_removed, alone_at, with_ends}
+use Rattle.reaper_ends.proofs.NotedLemmas.{done_gone}
+use Rattle.std.proofs.Math.Logic.{∥∥₁_map}
 use Rattle.reaper_ends.proofs.SoundLemmas.{its_halves, gone_sound, leaves_on, leaves_gone, all_fewer}
 use Rattle.reaper_ends.proofs.HasLemmas.{met_is, read_is, left, keeps_left, input_is}
 use Rattle.reaper_ends.proofs.TakeLemmas.{none_writes, has_read}
@@ -32,6 +34,7 @@ invariant_of-self g c =
           (alone_at c.args.o.0 c.args.end c.args.self.now.closed.sockets.items c.in-Some.socket c.in-Some.place c.in-Some.ensures.found c.index_mut.result.now c.index_mut.ensures.value (with_ends c.index_mut.result.now c.remove-given.new.self) refl (sound_of g.P.Pipes.known c.args.self.now.pipes c.args.self.now.closed.sockets.items c.args.self.now.sound).alone));
       others = λ s t b. leaves_on g.P.Pipes.known s c.args.self.now.pipes c.settle.new.pipes t c.args.self.now.closed _ (c.args.self.now.others s t b)
           (leaves_gone g.P.Pipes.known c.args.o.0 c.args.end c.args.self.now.closed _ c.remove-given.result c.args.self.now.pipes c.settle.new.pipes refl r c.settle.ensures.gone (c.and-self.ensures ∙ ap (λ n. c.args.self.now.closed.settled.items ++ (n, tt) ∷ []) (c.name-name.ensures ∙ sym (one_some (g.P.Pipes.known.in_name c.remove-given.result.input) (g.P.Pipes.known.out_name c.args.writer) (sym (read_is g.P.Pipes.known.out_name g.P.Pipes.known.in_name g.P.Pipes.known.exact c.args.o.0 c.args.end c.args.self.now.closed.sockets.items c.args.self.now.closed.sockets.items c.remove-given.result (sound_of g.P.Pipes.known c.args.self.now.pipes c.args.self.now.closed.sockets.items c.args.self.now.sound).apart (c.remove-given.result ∷ []) (at_stays c.args.o.0 c.args.end c.args.self.now.closed.sockets.items c.in-Some.socket c.in-Some.place c.in-Some.ensures.found c.index_mut.result.now c.index_mut.ensures.value c.remove-given.result c.remove-given.ensures.value)) ∙ c.requires.pipe)))));
+      done = λ s t b. ∥∥₁_map (c.args.self.now.done s t b) (λ h. done_gone g.P.Pipes.known s t c.args.o.0 c.args.end c.args.self.now.closed _ c.remove-given.result refl r refl c.args.self.now.did.items c.settle.new.did.items c.args.self.now.pipes c.settle.new.pipes c.settle.ensures.noted c.settle.ensures.keeps (c.and-self.ensures ∙ ap (λ n. c.args.self.now.closed.settled.items ++ (n, tt) ∷ []) (c.name-name.ensures ∙ sym (one_some (g.P.Pipes.known.in_name c.remove-given.result.input) (g.P.Pipes.known.out_name c.args.writer) (sym (read_is g.P.Pipes.known.out_name g.P.Pipes.known.in_name g.P.Pipes.known.exact c.args.o.0 c.args.end c.args.self.now.closed.sockets.items c.args.self.now.closed.sockets.items c.remove-given.result (sound_of g.P.Pipes.known c.args.self.now.pipes c.args.self.now.closed.sockets.items c.args.self.now.sound).apart (c.remove-given.result ∷ []) (at_stays c.args.o.0 c.args.end c.args.self.now.closed.sockets.items c.in-Some.socket c.in-Some.place c.in-Some.ensures.found c.index_mut.result.now c.index_mut.ensures.value c.remove-given.result c.remove-given.ensures.value)) ∙ c.requires.pipe)))) h);
     }
 
 pub returns-in-Some-clause-read_out : goal.returns-in-Some-clause-read_out

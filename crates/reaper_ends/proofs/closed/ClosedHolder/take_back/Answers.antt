@@ -3,6 +3,8 @@ use Rattle.reaper_ends.specs.Has.{ends_of}
 use Rattle.reaper_ends.proofs.ListLemmas.{never}
 use Rattle.reaper_ends.proofs.FormLemmas.{are_sound, sound_of}
 use Rattle.reaper_ends.proofs.PlaceLemmas.{at_stays, at_removed, alone_at, with_ends}
+use Rattle.reaper_ends.proofs.NotedLemmas.{done_back}
+use Rattle.std.proofs.Math.Logic.{∥∥₁_map}
 use Rattle.reaper_ends.proofs.SoundLemmas.{its_halves, back_sound, leaves_on, leaves_back}
 use Rattle.reaper_ends.proofs.HasLemmas.{writes_is, written_is, read_is, left, begins_none}
 use Rattle.reaper_ends.proofs.TakeLemmas.{halves_out, no_halves, last_here}
@@ -15,6 +17,7 @@ invariant_of-self g c =
       indexed = λ n. c.args.self.now.indexed n ∙ sym (r.places n);
       sound = are_sound g.P.Pipes.known c.args.self.now.pipes (set c.args.self.now.closed.sockets.items c.in-Some.socket (with_ends c.index_mut.result.now c.remove-given.new.self)) (back_sound g.P.Pipes.known c.args.o.0 c.args.end c.args.self.now.closed.sockets.items (set c.args.self.now.closed.sockets.items c.in-Some.socket (with_ends c.index_mut.result.now c.remove-given.new.self)) c.remove-given.result c.args.self.now.pipes c.args.self.now.pipes (sound_of g.P.Pipes.known c.args.self.now.pipes c.args.self.now.closed.sockets.items c.args.self.now.sound) r (alone_at c.args.o.0 c.args.end c.args.self.now.closed.sockets.items c.in-Some.socket c.in-Some.place c.in-Some.ensures.found c.index_mut.result.now c.index_mut.ensures.value (with_ends c.index_mut.result.now c.remove-given.new.self) refl (sound_of g.P.Pipes.known c.args.self.now.pipes c.args.self.now.closed.sockets.items c.args.self.now.sound).alone));
       others = λ s t b. leaves_on g.P.Pipes.known s c.args.self.now.pipes c.args.self.now.pipes t c.args.self.now.closed _ (c.args.self.now.others s t b) (leaves_back g.P.Pipes.known c.args.o.0 c.args.end c.args.self.now.closed _ c.remove-given.result c.args.self.now.pipes c.args.self.now.pipes refl r refl);
+      done = λ s t b. ∥∥₁_map (c.args.self.now.done s t b) (λ h. done_back g.P.Pipes.known s t c.args.o.0 c.args.end c.args.self.now.closed _ c.remove-given.result refl r refl c.args.self.now.did.items c.args.self.now.pipes refl h);
     }
 
 pub returns-in-Some-halves_of-clause-left : goal.returns-in-Some-halves_of-clause-left

@@ -4,6 +4,8 @@ use Rattle.ctl_holder.specs.Holding.{IsPlugged, Begins, AreAtDelimiter, held_giv
 use Rattle.reaper_ends.specs.Has.{all_ends, has, holding_in, met_of, writes_of}
 use Rattle.reaper_ends.specs.Sound.{AreSound}
 use Rattle.reaper_ends.proofs.FormLemmas.{are_sound, sound_of}
+use Rattle.reaper_ends.proofs.NotedLemmas.{done_come}
+use Rattle.std.proofs.Math.Logic.{∥∥₁_map}
 use Rattle.reaper_ends.proofs.SoundLemmas.{leaves_on}
 use Rattle.reaper_ends.proofs.AddLemmas.{plugged, at_delimiter, begins, writing}
 use Rattle.reaper_ends.proofs.TakeLemmas.{added_sound, leaves_added, seen_added}
@@ -17,6 +19,7 @@ invariant_of-self g c =
           (added_sound g.P.Pipes.known c.args.self.now.pipes c.args.self.now.closed.sockets.items (record { number = c.args.o; ends = c.args.ends }) c.args.self.now.closed.turns.items (map (λ x. x.0) c.args.self.now.closed.sealed.items) (map (λ x. x.0) c.args.self.now.closed.heard.items) (sound_of g.P.Pipes.known c.args.self.now.pipes c.args.self.now.closed.sockets.items c.args.self.now.sound) c.requires.new c.requires.may.halves c.requires.apart));
       others = λ s t b. leaves_on g.P.Pipes.known s c.args.self.now.pipes c.args.self.now.pipes t c.args.self.now.closed c.add.new.closed (c.args.self.now.others s t b)
           (leaves_added g.P.Pipes.known c.args.self.now.pipes c.args.self.now.closed c.add.new.closed (record { number = c.args.o; ends = c.args.ends }) c.add.ensures.added c.add.ensures.came c.add.ensures.settled);
+      done = λ s t b. ∥∥₁_map (c.args.self.now.done s t b) (λ h. done_come g.P.Pipes.known s t c.args.self.now.closed c.add.new.closed (record { number = c.args.o; ends = c.args.ends }) c.args.self.now.did.items c.args.self.now.pipes c.add.ensures.added c.add.ensures.came c.add.ensures.sealed c.add.ensures.settled h);
     }
 
 pub returns-clause-all : goal.returns-clause-all

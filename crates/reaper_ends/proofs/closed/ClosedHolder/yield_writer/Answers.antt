@@ -1,4 +1,6 @@
-use Rattle.std.proofs.Common.{◌∙◌, ◌∷◌, [], Some, refl, sym, ap, set, map, is_some}
+use Rattle.std.proofs.Common.{◌∙◌, ◌∷◌, [], Some, List, refl, sym, ap, set, map, is_some}
+use Rattle.std.specs.List.{list_any}
+use Rattle.zq_base.specs.declared.ids.EndId.{EndId}
 use Rattle.ctl_holder.specs.declared.given.Given.{Given}
 use Rattle.held_ends.specs.Counting.{counts_with}
 use Rattle.held_ends.proofs.SoundLemmas.{one_some}
@@ -7,6 +9,11 @@ use Rattle.reaper_ends.proofs.ListLemmas.{never}
 use Rattle.reaper_ends.proofs.FormLemmas.{are_sound, sound_of}
 use Rattle.reaper_ends.proofs.ChangeLemmas.{has_listed}
 use Rattle.reaper_ends.proofs.PlaceLemmas.{at_stays, at_changed, alone_at, with_end}
+use Rattle.reaper_ends.proofs.NotedLemmas.{done_changed}
+use Rattle.std.proofs.Math.Logic.{∥∥₁_map}
+use Rattle.spec_control.specs.Control.{is_end}
+use Rattle.sock_core.specs.Noted.{were_told}
+use Rattle.std.proofs.lemmas.List.{append-nil}
 use Rattle.reaper_ends.proofs.SoundLemmas.{its_halves, changed_sound, leaves_on, leaves_changed}
 use Rattle.reaper_ends.proofs.HasLemmas.{writes_is, written_is, read_is, yielded, keeps_turns, input_is, input_now}
 use Rattle.reaper_ends.proofs.closed.ClosedHolder.yield_writer.Goals as goal
@@ -19,11 +26,14 @@ pub invariant_of-self : goal.invariant_of-self
 invariant_of-self g c =
     let r = at_changed c.args.o.0 c.args.end c.args.self.now.closed.sockets.items c.in-Some.socket c.in-Some.place c.in-Some.ensures.found c.index_mut.result.now c.index_mut.ensures.value c.index_mut-in-Some.result.now c.index_mut-in-Some.ensures.value c.yield_out.new.end in
     let one = c.yield_out.ensures.one in
+    let stays_there = at_stays c.args.o.0 c.args.end c.args.self.now.closed.sockets.items c.in-Some.socket c.in-Some.place c.in-Some.ensures.found c.index_mut.result.now c.index_mut.ensures.value c.index_mut-in-Some.result.now c.index_mut-in-Some.ensures.value in
+    let writes = sym (writes_is g.P.Pipes.known.out_name g.P.Pipes.known.in_name g.P.Pipes.known.exact c.args.o.0 c.args.end c.args.self.now.closed.sockets.items c.args.self.now.closed.sockets.items c.index_mut-in-Some.result.now (sound_of g.P.Pipes.known c.args.self.now.pipes c.args.self.now.closed.sockets.items c.args.self.now.sound).apart (c.index_mut-in-Some.result.now ∷ []) stays_there) ∙ c.requires.writer in
     record {
       indexed = λ n. c.args.self.now.indexed n ∙ sym (r.places n);
       sound = are_sound g.P.Pipes.known c.yield_out.new.pipes (set c.args.self.now.closed.sockets.items c.in-Some.socket (with_end c.index_mut.result.now c.in-Some.place c.yield_out.new.end))
           (changed_sound g.P.Pipes.known c.args.o.0 c.args.end c.args.self.now.closed.sockets.items (set c.args.self.now.closed.sockets.items c.in-Some.socket (with_end c.index_mut.result.now c.in-Some.place c.yield_out.new.end)) c.index_mut-in-Some.result.now c.args.self.now.pipes c.yield_out.new.pipes (sound_of g.P.Pipes.known c.args.self.now.pipes c.args.self.now.closed.sockets.items c.args.self.now.sound) c.yield_out.new.end r one (alone_at c.args.o.0 c.args.end c.args.self.now.closed.sockets.items c.in-Some.socket c.in-Some.place c.in-Some.ensures.found c.index_mut.result.now c.index_mut.ensures.value (with_end c.index_mut.result.now c.in-Some.place c.yield_out.new.end) refl (sound_of g.P.Pipes.known c.args.self.now.pipes c.args.self.now.closed.sockets.items c.args.self.now.sound).alone));
       others = λ s t b. leaves_on g.P.Pipes.known s c.args.self.now.pipes c.yield_out.new.pipes t c.args.self.now.closed _ (c.args.self.now.others s t b) (leaves_changed g.P.Pipes.known c.args.o.0 c.args.end c.args.self.now.closed _ c.index_mut-in-Some.result.now c.args.self.now.pipes c.yield_out.new.pipes refl c.yield_out.new.end r one refl);
+      done = λ s t b. ∥∥₁_map (c.args.self.now.done s t b) (λ h. done_changed g.P.Pipes.known s t c.args.o.0 c.args.end c.args.self.now.closed _ c.index_mut-in-Some.result.now refl c.yield_out.new.end r c.args.self.now.did.items c.yield_out.new.did.items c.args.self.now.pipes c.yield_out.new.pipes [] one.held writes (c.yield_out.ensures.changes writes) (sym (append-nil (map (λ x. x.0) c.args.self.now.closed.sealed.items))) (λ es bs told known. ap (were_told es) (append-nil bs) ∙ told) (λ es before is. ap (λ (l : List EndId). list_any (is_end c.yield_out.new.end.end) l) (append-nil es) ∙ ap (λ (y : Given _ _ _). list_any (is_end y.end) es) c.yield_out.ensures.yielded ∙ before (sym (ap (λ (y : Given _ _ _). y.sealed) c.yield_out.ensures.yielded) ∙ is)) refl h);
     }
 
 pub returns-in-Some-yield_out-clause-name : goal.returns-in-Some-yield_out-clause-name

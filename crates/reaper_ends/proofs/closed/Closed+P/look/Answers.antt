@@ -6,13 +6,13 @@ use Rattle.reaper_ends.proofs.ListLemmas.{never, any_here}
 use Rattle.reaper_ends.proofs.FormLemmas.{are_sound, sound_of}
 use Rattle.reaper_ends.proofs.ChangeLemmas.{has_listed}
 use Rattle.reaper_ends.proofs.PlaceLemmas.{at_stays, at_changed, alone_at, with_end}
-use Rattle.reaper_ends.proofs.SoundLemmas.{its_halves, changed_sound, leaves_on, leaves_changed}
+use Rattle.reaper_ends.proofs.SoundLemmas.{its_halves, changed_sound, leaves_changed}
 use Rattle.reaper_ends.proofs.HasLemmas.{read_is, stays, keeps_turns}
 use Rattle.reaper_ends.proofs.TakeLemmas.{still_met}
 use Rattle.held_ends.specs.Looking.{met_after}
 use Rattle.control_held.specs.Held.{Held}
 use Rattle.spec_control.specs.Control.{is_end}
-use Rattle.reaper_ends.proofs.closed.Closed.look.Goals as goal
+use Rattle.reaper_ends.proofs.closed.Closed+P.look.Goals as goal
 
 pub look-requires : goal.look-requires
 look-requires g c =
@@ -26,7 +26,8 @@ invariant_of-self g c =
       indexed = λ n. c.args.self.now.indexed n ∙ sym (r.places n);
       sound = are_sound g.P.Pipes.known c.look.new.pipes (set c.args.self.now.closed.sockets.items c.in-Some.socket (with_end c.index_mut.result.now c.in-Some.place c.look.new.end))
           (changed_sound g.P.Pipes.known c.args.o.0 c.args.end c.args.self.now.closed.sockets.items (set c.args.self.now.closed.sockets.items c.in-Some.socket (with_end c.index_mut.result.now c.in-Some.place c.look.new.end)) c.index_mut-in-Some.result.now c.args.self.now.pipes c.look.new.pipes (sound_of g.P.Pipes.known c.args.self.now.pipes c.args.self.now.closed.sockets.items c.args.self.now.sound) c.look.new.end r one (alone_at c.args.o.0 c.args.end c.args.self.now.closed.sockets.items c.in-Some.socket c.in-Some.place c.in-Some.ensures.found c.index_mut.result.now c.index_mut.ensures.value (with_end c.index_mut.result.now c.in-Some.place c.look.new.end) refl (sound_of g.P.Pipes.known c.args.self.now.pipes c.args.self.now.closed.sockets.items c.args.self.now.sound).alone));
-      others = λ s t b. leaves_on g.P.Pipes.known s c.args.self.now.pipes c.look.new.pipes t c.args.self.now.closed _ (c.args.self.now.others s t b) (leaves_changed g.P.Pipes.known c.args.o.0 c.args.end c.args.self.now.closed _ c.index_mut-in-Some.result.now c.args.self.now.pipes c.look.new.pipes refl c.look.new.end r one refl);
+      others = λ s t b. absurd b;
+      done = λ s t b. absurd b;
     }
 
 pub returns-in-Some-clause-looked : goal.returns-in-Some-clause-looked
@@ -51,3 +52,8 @@ returns-in-Some-clause-turns g c =
 pub unreachable-requires : goal.unreachable-requires
 unreachable-requires g c =
     never (sym c.requires.here ∙ has_listed g.P.Pipes.known.out_name g.P.Pipes.known.in_name g.P.Pipes.known.exact c.args.end (ends_of c.args.self.now.closed.sockets.items c.args.o.0) ∙ c.in-None.ensures.none)
+
+pub returns-in-Some-clause-others : goal.returns-in-Some-clause-others
+returns-in-Some-clause-others g c =
+    let r = at_changed c.args.o.0 c.args.end c.args.self.now.closed.sockets.items c.in-Some.socket c.in-Some.place c.in-Some.ensures.found c.index_mut.result.now c.index_mut.ensures.value c.index_mut-in-Some.result.now c.index_mut-in-Some.ensures.value c.look.new.end in
+    leaves_changed g.P.Pipes.known c.args.o.0 c.args.end c.args.self.now.closed _ c.index_mut-in-Some.result.now c.args.self.now.pipes c.look.new.pipes refl c.look.new.end r c.look.ensures.one refl
