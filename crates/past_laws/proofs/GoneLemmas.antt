@@ -176,4 +176,5 @@ module _ {N T : Type 0} (table : EndsLiveByTheTable) (steps : EventsAreSteps N T
 
 pub settled_ends_are_gone : (N T : Type 0) → EndsLiveByTheTable → EventsAreSteps N T → AttachedOnce N T → SealsAreTold N T → NeverCellsAreNotMet N T → SettledEndsAreGone N T
 settled_ends_are_gone N T table steps once told met io items run p has =
-    (all_over table steps once told met io (other_end p) items (begun io) (record { items = []; run = tt; is = refl }) run (λ none. absurd (true≢false (sym none))) has).gone
+    let over = all_over table steps once told met io (other_end p) items (begun io) (record { items = []; run = tt; is = refl }) run (λ none. absurd (true≢false (sym none))) has in
+    (over.within, over.gone)

@@ -1,9 +1,13 @@
-mod SettledLemmas
-mod ChangeLemmas
+pub mod SettledLemmas
+pub mod ChangeLemmas
 mod SealLemmas
 mod MessageLemmas
 mod SaidLemmas
-mod AskedLemmas
+pub mod AskedLemmas
 mod CallLemmas
 mod GoneLemmas
 mod UnsettledLemmas
+mod OfPipesLemmas
+mod MadeLemmas
+mod HeldRowLemmas
+mod QuietLemmas

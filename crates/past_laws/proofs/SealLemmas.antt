@@ -11,7 +11,7 @@ use Rattle.sock_core.specs.Noted.{were_told}
 use Rattle.past_laws.specs.Changes.{delimited_in, AreNew, SealsAreNew}
 
 -- what is behind one front is one list
-same_behind : (xs ys zs : List EndId) → xs ++ ys ≡ xs ++ zs → ys ≡ zs
+pub same_behind : (xs ys zs : List EndId) → xs ++ ys ≡ xs ++ zs → ys ≡ zs
 same_behind [] ys zs e = e
 same_behind (x ∷ xs) ys zs e = same_behind xs ys zs (tails e)
   where
@@ -28,7 +28,7 @@ module _ {S O I : Type 0} where
   first_time : (before : List EndId) (xs : List (PipeChange O I × S)) → were_told before (sealings_in xs) ≡ true → AreNew before (map (λ x. x.0) (sealings_in xs)) → delimited_in xs ≡ map (λ x. x.0) (sealings_in xs)
   first_time before [] told fresh = refl
   first_time before ((Kept, s) ∷ xs) told fresh = first_time before xs told fresh
-  first_time before ((Made capacity halves, s) ∷ xs) told fresh = first_time before xs told fresh
+  first_time before ((Made e capacity halves, s) ∷ xs) told fresh = first_time before xs told fresh
   first_time before ((Sealed k e half, s) ∷ xs) told fresh = ap (λ (l : List EndId). e ∷ l) (first_time (before ++ e ∷ []) xs told fresh.1)
   first_time before ((SealedAgain k e, s) ∷ xs) told fresh =
       absurd (true≢false (sym (both_true (list_any (is_end e) before) (were_told (before ++ e ∷ []) (sealings_in xs)) told).0 ∙ fresh.0))

@@ -1,5 +1,5 @@
 -- Where a pipe is settled, and where not.
-use Rattle.std.specs.Prelude.{◌≡◌, ◌<◌, ◌+◌, ◌&&◌, ℕ, Bool, true, false, not, cond, List, [], ◌∷◌, Option, Some, None, count_by, is_some, find, if◌then◌else◌, refl}
+use Rattle.std.specs.Prelude.{◌≡◌, ◌≤◌, ◌<◌, ◌+◌, ◌&&◌, ℕ, Bool, true, false, not, cond, List, [], ◌∷◌, Option, Some, None, count_by, is_some, find, if◌then◌else◌, refl}
 use Rattle.std.proofs.Common.{arith, sym, ap, ◌∙◌, subst, true≢false}
 use Rattle.std.proofs.lemmas.List.Sums.{sum_by-cons}
 use Rattle.zq_base.specs.declared.ids.EndId.{EndId}
@@ -77,20 +77,23 @@ counted_found f (x ∷ xs) lt = by (f x) (counted_found f xs) (let one = sum_by-
     by false rest h = rest (omega (arith, h))
 
 pub pipes_are_settled : (N T : Type 0) → SettledEndsAreGone N T → CommandsComeOnce N T → PipesAreSettled N T
-pipes_are_settled N T over once = record { written = written; read = read; gone = gone }
+pipes_are_settled N T over once = record { unnumbered = unnumbered; written = written; read = read; gone = gone }
   where
-    written : (io : ℕ) (items : List (Item N T)) → IsControlRun (begun io) items → (p : PipeId) → p.pair.0 < next_pair (after_all items (begun io)) → writes_on (place_of (after_all items (begun io)) p) ≡ true
+    unnumbered : (io : ℕ) (items : List (Item N T)) → IsControlRun (begun io) items → (p : PipeId) → next_pair (after_all items (begun io)) ≤ p.pair.0 → settlement_of (after_all items (begun io)) p ≡ None
+    unnumbered io items run p le = none_where (settlement_of (after_all items (begun io)) p) (λ some. let lt = (over io items run p some).0 in absurd (omega (arith, lt, le)))
+
+    written : (io : ℕ) (items : List (Item N T)) → IsControlRun (begun io) items → (p : PipeId) → writes_on (place_of (after_all items (begun io)) p) ≡ true
         → settlement_of (after_all items (begun io)) p ≡ None
-    written io items run p lt writes = none_where (settlement_of (after_all items (begun io)) p) (λ some.
+    written io items run p writes = none_where (settlement_of (after_all items (begun io)) p) (λ some.
         let c = after_all items (begun io) in
         let phases = (holds c.rows (grows items (begun io) (begun_is io) run).1.kept.reached).phases in
         let no = beside (pair c.rows p.pair.0) (phases p.pair.0) p.a in
-        true≢false (sym (ap (λ (x : Place). is_gone x && writes_on (place_of c p)) (over io items run p some) ∙ writes) ∙ no))
+        true≢false (sym (ap (λ (x : Place). is_gone x && writes_on (place_of c p)) (over io items run p some).1 ∙ writes) ∙ no))
 
     read : (io : ℕ) (items : List (Item N T)) → IsControlRun (begun io) items → (e : EndId) → is_gone (place_of (after_all items (begun io)) e) ≡ false → settlement_of (after_all items (begun io)) (read_through e) ≡ None
     read io items run e there = none_where (settlement_of (after_all items (begun io)) (read_through e)) (λ some.
         let c = after_all items (begun io) in
-        true≢false (sym (ap (λ (d : EndId). is_gone (place_of c d)) (sym (other_twice e)) ∙ ap is_gone (over io items run (read_through e) some)) ∙ there))
+        true≢false (sym (ap (λ (d : EndId). is_gone (place_of c d)) (sym (other_twice e)) ∙ ap is_gone (over io items run (read_through e) some).1) ∙ there))
 
     gone : (io : ℕ) (items : List (Item N T)) → IsControlRun (begun io) items → (e : EndId) → 0 < e.pair.0 → e.pair.0 < next_pair (after_all items (begun io)) → place_of (after_all items (begun io)) e ≡ At Gone
         → is_some (settlement_of (after_all items (begun io)) (read_through e)) ≡ true

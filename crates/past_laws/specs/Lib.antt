@@ -4,3 +4,7 @@ pub mod Said
 pub mod Asked
 pub mod Calls
 pub mod Settled
+pub mod OfPipes
+pub mod Made
+pub mod HeldRows
+pub mod Quiet

@@ -1,5 +1,5 @@
 -- Which pipes are settled, by where their ends are (own choice, after libzmq's `pipe_t`).
-use Rattle.std.specs.Prelude.{◌≡◌, ◌<◌, ℕ, Bool, true, false, List, None, is_some}
+use Rattle.std.specs.Prelude.{◌≡◌, ◌≤◌, ◌<◌, ℕ, Bool, true, false, List, None, is_some}
 use Rattle.zq_base.specs.declared.ids.EndId.{EndId}
 use Rattle.zq_base.specs.Ends.{PipeId, other_end}
 use Rattle.spec_pattern.specs.PipeStep.{read_through}
@@ -10,10 +10,10 @@ use Rattle.spec_control.specs.Control.{begun, next_pair, place_of}
 use Rattle.spec_control.specs.ControlRun.{after_all, IsControlRun}
 use Rattle.spec_run.specs.OwnedRun.{settlement_of}
 
--- after a control run, the end that read a settled pipe is gone
+-- after a control run, a settled pipe is of a pair that has its number, and the end that read it is gone
 abbrev pub SettledEndsAreGone : (N T : Type 0) → Type 0
-SettledEndsAreGone N T = (io : ℕ) (items : List (Item N T)) → IsControlRun (begun io) items →
-    (p : PipeId) → is_some (settlement_of (after_all items (begun io)) p) ≡ true → place_of (after_all items (begun io)) (other_end p) ≡ At Gone
+SettledEndsAreGone N T = (io : ℕ) (items : List (Item N T)) → IsControlRun (begun io) items → let c = after_all items (begun io) in
+    (p : PipeId) → is_some (settlement_of c p) ≡ true → (p.pair.0 < next_pair c) × (place_of c (other_end p) ≡ At Gone)
 
 -- the end that writes a pipe has not told the other end that it is done with it
 abbrev pub writes_on : Place → Bool
@@ -27,10 +27,12 @@ writes_on (At AskedOnce) = true
 writes_on (At AskedTwice) = false
 writes_on (At Gone) = false
 
--- where a pipe of a pair that has its number is settled, and where not: not while its writer writes on, nor while its reader is there, and where its reader is gone
+-- where a pipe is settled, and where not: not before its pair has its number, nor while its writer writes on or its reader is there, and where its reader, of a pair that has its number, is gone
 pub record PipesAreSettled (N T : Type 0) : Type 0 where
+  pub unnumbered : (io : ℕ) (items : List (Item N T)) → IsControlRun (begun io) items → let c = after_all items (begun io) in
+      (p : PipeId) → next_pair c ≤ p.pair.0 → settlement_of c p ≡ None
   pub written : (io : ℕ) (items : List (Item N T)) → IsControlRun (begun io) items → let c = after_all items (begun io) in
-      (p : PipeId) → p.pair.0 < next_pair c → writes_on (place_of c p) ≡ true → settlement_of c p ≡ None
+      (p : PipeId) → writes_on (place_of c p) ≡ true → settlement_of c p ≡ None
   pub read : (io : ℕ) (items : List (Item N T)) → IsControlRun (begun io) items → let c = after_all items (begun io) in
       (e : EndId) → is_gone (place_of c e) ≡ false → settlement_of c (read_through e) ≡ None
   pub gone : (io : ℕ) (items : List (Item N T)) → IsControlRun (begun io) items → let c = after_all items (begun io) in

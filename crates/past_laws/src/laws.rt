@@ -2,7 +2,11 @@ ghost use Rattle.std.specs.Prelude.{◌≡◌, true};
 ghost use Rattle.past_laws.specs.Asked.{EndsAreSealedOnce};
 ghost use Rattle.past_laws.specs.Calls.{SocketCallsGoOn};
 ghost use Rattle.past_laws.specs.Changes.{ChangesGoOn, SealsAreNew};
+ghost use Rattle.past_laws.specs.HeldRows.{HeldRowsAreNamed};
+ghost use Rattle.past_laws.specs.Made.{MadeNamesGoOn};
 ghost use Rattle.past_laws.specs.Messages.{MessagesGoOn};
+ghost use Rattle.past_laws.specs.OfPipes.{ChangesAreOfPipes};
+ghost use Rattle.past_laws.specs.Quiet.{QuietCallsGoOn};
 ghost use Rattle.past_laws.specs.Said.{StepsAreSaid};
 ghost use Rattle.past_laws.specs.Settled.{PipesAreSettled, SettledEndsAreGone};
 
@@ -13,10 +17,11 @@ use control_rows::each_step_moves_ends_by_the_table;
 use core_laws::{past_goes_on, past_stays_over_control, steps_are_at_rows};
 use ends::calls_are_read_exactly;
 use msg_pipe::Pipes;
+use own_laws::made_pipes_hold;
 use run_laws::seals_are_told;
 
-/// Where looks are exact, the steps past go on over calls of a socket on the control plane that made no
-/// pipe, with a step for each delimiter that was written.
+/// Where looks are exact, the steps past go on over calls of a socket on the control plane, with a step for
+/// each delimiter that was written.
 pub fn changes_go_on<P: Pipes, T>(pipes: &P)
     requires { P.known.exact ≡ true }
     ensures { ChangesGoOn P.known T }
@@ -48,8 +53,8 @@ pub fn ends_are_sealed_once<N, T>()
     seals_are_told::<N, T>();
 }
 
-/// So, where looks are exact, the steps past go on over calls of a socket on the control plane that made
-/// no pipe, with the steps of their items.
+/// So, where looks are exact, the steps past go on over calls of a socket on the control plane, with the
+/// steps of their items.
 pub fn socket_calls_go_on<P: Pipes, T>(pipes: &P)
     requires { P.known.exact ≡ true }
     ensures { SocketCallsGoOn P.known T }
@@ -67,6 +72,13 @@ pub fn messages_go_on<P: Pipes, T>(pipes: &P)
 {
     calls_are_read_exactly(pipes);
     steps_are_at_rows::<P, P::Name, T>(pipes);
+}
+
+/// The rows of the ends that a socket holds are of pipes that go by their names.
+pub fn held_rows_are_named<P: Pipes, T>(_pipes: &P)
+    ensures { HeldRowsAreNamed P.known T }
+{
+    pipes_are_settled::<P::Name, T>();
 }
 
 /// The end that read a settled pipe is gone.
@@ -87,4 +99,27 @@ pub fn pipes_are_settled<N, T>()
 {
     settled_ends_are_gone::<N, T>();
     commands_come_once::<N, T>();
+}
+
+/// What was done to the pipes of a socket's ends in a call was done to such as may be, by where its ends
+/// were.
+pub fn changes_are_of_pipes<P: Pipes, T>(_pipes: &P)
+    ensures { ChangesAreOfPipes P.known T }
+{
+    seals_are_told::<P::Name, T>();
+    pipes_are_settled::<P::Name, T>();
+}
+
+/// The pipes that go by names since a socket's request are those that it made, with their capacities.
+pub fn made_names_go_on<P: Pipes, T>(_pipes: &P)
+    ensures { MadeNamesGoOn P.known T }
+{
+    made_pipes_hold::<P::Name, T>();
+}
+
+/// Calls in which no pair got its number made no pipe that goes by a name.
+pub fn quiet_calls_go_on<P: Pipes, T>(_pipes: &P)
+    ensures { QuietCallsGoOn P.known T }
+{
+    ends_are_sealed_once::<P::Name, T>();
 }

@@ -1,0 +1,4 @@
+pub mod Hold
+pub mod Ends
+pub mod Places
+pub mod Quiet

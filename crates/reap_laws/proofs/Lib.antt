@@ -1,0 +1,5 @@
+pub mod StillLemmas
+pub mod CallLemmas
+pub mod MoveLemmas
+pub mod HereLemmas
+pub mod LookLemmas

@@ -1,0 +1,33 @@
+-- What the reaper did to the pipes of closed sockets' ends was done to such as may be, by where the ends were (own choice, after libzmq's `reaper_t`).
+use Rattle.std.specs.Prelude.{◌≡◌, ◌≤◌, ℕ, false, List, Some, length}
+use Rattle.std.specs.List.{AllByRecursion, list_any}
+use Rattle.msg_pipe.specs.Known.{Known}
+use Rattle.spec_control.specs.declared.entry.Item.{Item}
+use Rattle.spec_control.specs.Control.{Control, begun}
+use Rattle.spec_control.specs.ControlRun.{after_all, IsControlRun}
+use Rattle.control_held.specs.Moments.{moments_from}
+use Rattle.held_ends.specs.declared.changes.PipeChange.{PipeChange}
+use Rattle.held_ends.specs.declared.table.Place.{Place}
+use Rattle.held_ends.specs.Places.{place_at}
+use Rattle.past_laws.specs.Changes.{IsOfPipes}
+use Rattle.own_laws.specs.Ends.{IsHeldWhere, IsGoneFrom}
+use Rattle.past_laws.specs.Said.{sealed_with}
+use Rattle.reaper_ends.specs.declared.sockets.ClosedSockets.{ClosedSockets}
+use Rattle.reaper_ends.specs.Has.{all_ends, is_of}
+use Rattle.reaper_ends.specs.Noted.{first_places, HasDoneTo}
+use Rattle.reap_laws.specs.Calls.{came_since, told_since}
+
+-- the ends that the reaper had or that came are two by two different, each is where such an end may be, and each that it has no more is gone
+pub record EndsGoOn {N O I : Type 0} (in_name : I → N) (c now : Control) (from to : ClosedSockets N O I) : Type 0 where
+  pub different : (j k : ℕ) (p q : Place N I) → place_at (first_places in_name from (came_since from to)) j ≡ Some p → place_at (first_places in_name from (came_since from to)) k ≡ Some q → p.end ≡ q.end → j ≡ k
+  pub held : (k : ℕ) (p : Place N I) → place_at (first_places in_name from (came_since from to)) k ≡ Some p → IsHeldWhere c p
+  pub gone : (k : ℕ) (p : Place N I) → place_at (first_places in_name from (came_since from to)) k ≡ Some p → list_any (is_of p.end) (all_ends to.sockets.items) ≡ false → IsGoneFrom now p
+
+-- so, over one item at the most, each change was of such a pipe
+abbrev pub ReaperChangesAreOfPipes : {S O I N : Type 0} → Known S O I N → (T : Type 0) → Type 0
+ReaperChangesAreOfPipes {S} {O} {I} {N} K T = (io : ℕ) (items more : List (Item N T)) → IsControlRun (begun io) items → IsControlRun (after_all items (begun io)) more → length more ≤ 1 →
+    let c = after_all items (begun io) in
+    let now = after_all more c in
+    (from to : ClosedSockets N O I) (old new : S) (changes : List (PipeChange O I × S)) →
+    EndsGoOn K.in_name c now from to → ∥ HasDoneTo K old from changes new to ∥₁ → told_since from to ≡ sealed_with (moments_from c more) →
+    AllByRecursion (λ x. IsOfPipes c now x.0) changes

@@ -1,0 +1,2 @@
+mod ReasonLemmas
+mod StayLemmas
