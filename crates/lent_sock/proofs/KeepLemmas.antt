@@ -1,9 +1,14 @@
--- A lent socket has the peers that it had behind a call on messages that is answered, and behind a look.
-use Rattle.std.proofs.Common.{◌≡◌, ◌≤◌, ◌∙◌, ℕ, List, Option, Some, None, length, sym, ap, subst}
+-- A lent socket has the peers that it had behind a call on messages that is answered, and behind a look; so it is ready still.
+use Rattle.std.proofs.Common.{◌≡◌, ◌≤◌, ◌∙◌, ℕ, List, Option, Some, None, length, sym, ap, subst, true≢false}
+use Rattle.std.specs.Prelude.{Result, Ok, Err, OnOk, IsErr}
+use Rattle.std.specs.declared.alloc.AllocError.{AllocError}
 use Rattle.zq_base.specs.Message.{Frames}
 use Rattle.spec_pattern.specs.Topics.{Topic}
 use Rattle.spec_pattern.specs.Pattern.{Pattern}
 use Rattle.spec_pattern.specs.PatternCalls.{Change, ChangeAnswer}
+use Rattle.spec_pattern.specs.Results.{RecvResult, MatchRecv}
+use Rattle.spec_pattern.specs.declared.answers.Sent.{Sent}
+use Rattle.spec_pattern.specs.declared.answers.RecvFault.TheVariants as rfault
 use Rattle.spec_pattern.specs.declared.answers.Skip.{Skip}
 use Rattle.spec_pattern.specs.declared.answers.SendAnswer.{SendAnswer}
 use Rattle.spec_pattern.specs.declared.answers.RecvAnswer.{RecvAnswer}
@@ -12,9 +17,18 @@ use Rattle.control_held.specs.Moments.{Moment, left_after}
 use Rattle.pattern_laws.specs.Peers.{KeepsPeers}
 use Rattle.pattern_laws.proofs.KeepCallLemmas.{calls_keep_peers}
 use Rattle.msg_pipe.specs.Known.{Known}
+use Rattle.pub_sub.specs.XSubs.{MatchXSend}
+use Rattle.pub_sub.specs.declared.xsend_fault.XSendFault.{XSendFault}
+use Rattle.pub_sub.specs.declared.xsend_fault.XSendFault.TheVariants as xfault
 use Rattle.any_sock.specs.declared.any_sock.AnySock.{AnySock}
+use Rattle.any_sock.specs.declared.change_fault.ChangeFault.{ChangeFault}
+use Rattle.any_sock.specs.declared.change_fault.ChangeFault.TheVariants as cfault
+use Rattle.any_sock.specs.Calls.{MatchChanged}
 use Rattle.sock_core.specs.declared.sock.SockCore.{SockCore}
+use Rattle.spec_journal.specs.Line.{sent_answer, got_answer, changed_answer}
 use Rattle.spec_run.specs.OpenSocket.{OpenSock, can_write}
+use Rattle.spec_run.specs.declared.journal.LineAnswer.{LineAnswer}
+use Rattle.spec_run.specs.declared.journal.LineAnswer.TheVariants.{Plain}
 use Rattle.sock_open.specs.View.{pattern_told, open_view}
 use Rattle.sock_open.specs.Doing.{SendsSo, ReceivesSo, ChangesSo, PumpsOpen}
 use Rattle.open_laws.specs.Bounds.{drawn_of}
@@ -73,3 +87,39 @@ module _ {W N O I T : Type 0} (moments : List (Moment N T)) where
         let test = can_write (open_view 0 (Some s)) in
         peers_on s t on so.pattern (calls_keep_peers.pumps test (pattern_told s) (record { steps = so.steps; new = so.pattern }) so.pumps)
         (calls_draw_none.pumps test (pattern_told s) (record { steps = so.steps; new = so.pattern }) so.pumps) so.new_is had
+
+-- ---- where a line is answered
+
+pub ok_both : {A : Type 0} (r : Result A AllocError) {P Q R : Type 0} → (P → Q → R) → OnOk r P → OnOk r Q → OnOk r R
+ok_both (Ok x) f p q = f p q
+ok_both (Err e) f p q = tt
+
+so_answered : {A : Type 0} (result : Result A AllocError) (E : Type 0) → E → OnOk result E
+so_answered (Ok a) E e = e
+so_answered (Err x) E e = tt
+
+unanswered : {A : Type 0} (result : Result A AllocError) (E : Type 0) → IsErr result → OnOk result E
+unanswered (Ok a) E is = absurd (true≢false (sym is))
+unanswered (Err x) E is = tt
+
+pub sent_on : (r : Result Sent XSendFault) (result : Result LineAnswer AllocError) (A B : Type 0) (P : SendAnswer → Type 0) (E : Type 0) → MatchXSend r A B P
+    → MatchXSend r (IsErr result) (IsErr result) (λ a. result ≡ Ok (Plain (sent_answer a))) → ((a : SendAnswer) → P a → E) → OnOk result E
+sent_on (Ok s) result A B P E h is f = so_answered result E (f _ h)
+sent_on (Err (xfault.Refused refusal back)) result A B P E h is f = so_answered result E (f _ h)
+sent_on (Err (xfault.OutOfMemory back)) result A B P E h is f = unanswered result E is
+sent_on (Err xfault.Untold) result A B P E h is f = unanswered result E is
+
+pub got_on : (r : RecvResult) (result : Result LineAnswer AllocError) (A : Type 0) (P : RecvAnswer → Type 0) (E : Type 0) → MatchRecv r A P
+    → MatchRecv r (IsErr result) (λ a. result ≡ Ok (Plain (got_answer a))) → ((a : RecvAnswer) → P a → E) → OnOk result E
+got_on (Ok item) result A P E h is f = so_answered result E (f _ h)
+got_on (Err (rfault.Refused refusal)) result A P E h is f = so_answered result E (f _ h)
+got_on (Err rfault.OutOfMemory) result A P E h is f = unanswered result E is
+
+pub changed_on : (r : Result (Unit {0}) ChangeFault) (result : Result LineAnswer AllocError) (A B : Type 0) (P : ChangeAnswer → Type 0) (E : Type 0) → MatchChanged r A B P
+    → MatchChanged r (IsErr result) (IsErr result) (λ a. result ≡ Ok (Plain (changed_answer a))) → ((a : ChangeAnswer) → P a → E) → OnOk result E
+changed_on (Ok done) result A B P E h is f = so_answered result E (f _ h)
+changed_on (Err cfault.NoTopics) result A B P E h is f = so_answered result E (f _ h)
+changed_on (Err cfault.SubLimit) result A B P E h is f = so_answered result E (f _ h)
+changed_on (Err cfault.NotSub) result A B P E h is f = so_answered result E (f _ h)
+changed_on (Err cfault.OutOfMemory) result A B P E h is f = unanswered result E is
+changed_on (Err cfault.Untold) result A B P E h is f = unanswered result E is

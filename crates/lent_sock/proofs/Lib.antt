@@ -15,3 +15,11 @@ pub mod BehindLemmas
 pub mod StayedLemmas
 pub mod AskLemmas
 pub mod KeepLemmas
+pub mod CloseLemmas
+pub mod ThroughLemmas
+pub mod HereLemmas
+pub mod RankLemmas
+pub mod MeetLemmas
+pub mod ToItLemmas
+pub mod NewReaderLemmas
+pub mod TakeLemmas

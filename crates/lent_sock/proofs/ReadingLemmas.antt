@@ -1,5 +1,6 @@
 -- The ends of a lent socket that read on, and a look at one of them.
-use Rattle.std.specs.Prelude.{slice_index_or}
+use Rattle.std.specs.Prelude.{filter, slice_index_or}
+use Rattle.std.specs.List.{list_any}
 use Rattle.std.proofs.Common.{◌≡◌, ◌<◌, ◌≤◌, ◌∙◌, ◌+◌, ◌||◌, inl, inr, ℕ, zero, suc, Bool, true, false, List, [], ◌∷◌, drop, length, Option, Some, None, refl, sym, ap, subst, true≢false, if◌then◌else◌, arith}
 use Rattle.zq_base.specs.declared.ids.EndId.{EndId}
 use Rattle.spec_pattern.specs.PipeStep.{read_through}
@@ -34,7 +35,7 @@ use Rattle.sock_open.specs.Looking.{AreButMet, HasWhole, LooksSo}
 use Rattle.sock_open.proofs.LookLemmas.{front_of, back_of, held_so, place_met}
 use Rattle.one_desk.specs.Lent.{Lent, coming_to, moments_of}
 use Rattle.lent_sock.specs.Owned.{IsLentTo, IsThereFor, MayTakeEnds, has_met_in}
-use Rattle.lent_sock.specs.Readers.{reads_on, readers_in, readers_from}
+use Rattle.lent_sock.specs.Readers.{reads_on, held_places, readers_in, readers_from}
 use Rattle.lent_sock.specs.ReadersOwed.{is_there, own_ends}
 use Rattle.lent_sock.proofs.MailLemmas.{box_on, looks_on}
 
@@ -44,22 +45,36 @@ more_than xs x e = let n = ap length e in omega (arith, n)
 no_cons : {X : Type 0} (xs : List X) (x : X) → [] ≡ x ∷ xs → ⊥
 no_cons xs x e = let n = ap length e in omega (arith, n)
 
-module _ {N I : Type 0} where
-  -- what stands where an end reads on
-  pub reads_at : (ps : List (Place N I)) (k : ℕ) (e : EndId) → readers_in (drop k ps) ≡ e ∷ readers_in (drop (k + 1) ps) → (p : Place N I) × (place_at ps k ≡ Some p) × (reads_on p ≡ true) × (p.end ≡ e)
-  reads_at [] zero e h = absurd (no_cons _ e h)
-  reads_at [] (suc k) e h = absurd (no_cons _ e h)
-  reads_at (x ∷ xs) zero e h = by (reads_on x) refl where
-    by : (b : Bool) → reads_on x ≡ b → (p : Place N I) × (Some x ≡ Some p) × (reads_on p ≡ true) × (p.end ≡ e)
-    by true is =
-        let f = sym (ap (λ (b : Bool). if b then x.end ∷ readers_in xs else readers_in xs) is) ∙ h in
-        (x, refl, is, head_eq f)
-      where
-        head_eq : {xs ys : List EndId} {d : EndId} → d ∷ xs ≡ e ∷ ys → d ≡ e
-        head_eq g = Prim.grind arith
-    by false is = absurd (more_than (readers_in xs) e (sym (ap (λ (b : Bool). if b then x.end ∷ readers_in xs else readers_in xs) is) ∙ h))
-  reads_at (x ∷ xs) (suc k) e h = let q : suc k + 1 ≡ suc (k + 1) = omega arith in reads_at xs k e (h ∙ ap (λ (m : ℕ). e ∷ readers_in (drop m (x ∷ xs))) q)
+-- where a choice of these ends goes on at one of them behind so many, that one stands there and is chosen
+module _ (chosen : EndId → Bool) where
+  pub goes_on : (es : List EndId) (k : ℕ) (e : EndId) → filter chosen (drop k es) ≡ e ∷ filter chosen (drop (k + 1) es) → (drop k es ≡ e ∷ drop (k + 1) es) × (chosen e ≡ true)
+  goes_on [] zero e h = absurd (no_cons _ e h)
+  goes_on [] (suc k) e h = absurd (no_cons _ e h)
+  goes_on (x ∷ xs) zero e h = by (chosen x) refl where
+    head_eq : {xs ys : List EndId} {d : EndId} → d ∷ xs ≡ e ∷ ys → d ≡ e
+    head_eq g = Prim.grind arith
 
+    by : (b : Bool) → chosen x ≡ b → (x ∷ xs ≡ e ∷ xs) × (chosen e ≡ true)
+    by true is =
+        let same = head_eq (sym (ap (λ (b : Bool). if b then x ∷ filter chosen xs else filter chosen xs) is) ∙ h) in
+        (ap (λ (y : EndId). y ∷ xs) same, ap chosen (sym same) ∙ is)
+    by false is = absurd (more_than (filter chosen xs) e (sym (ap (λ (b : Bool). if b then x ∷ filter chosen xs else filter chosen xs) is) ∙ h))
+  goes_on (x ∷ xs) (suc k) e h =
+      let q : suc k + 1 ≡ suc (k + 1) = omega arith in
+      let on = goes_on xs k e (h ∙ ap (λ (m : ℕ). e ∷ filter chosen (drop m (x ∷ xs))) q) in
+      (on.0 ∙ ap (λ (m : ℕ). e ∷ drop m (x ∷ xs)) (sym q), on.1)
+
+-- what stands behind so many is one of all
+pub stands_among : (es rest : List EndId) (k : ℕ) (e : EndId) → drop k es ≡ e ∷ rest → list_any (is_end e) es ≡ true
+stands_among [] rest zero e h = absurd (no_cons _ e h)
+stands_among [] rest (suc k) e h = absurd (no_cons _ e h)
+stands_among (x ∷ xs) rest zero e h = ap (λ (l : List EndId). list_any (is_end e) l) h ∙ ap (λ (b : Bool). b || list_any (is_end e) rest) (end_self e)
+stands_among (x ∷ xs) rest (suc k) e h = later (is_end e x) (list_any (is_end e) xs) (stands_among xs rest k e h) where
+  later : (b c : Bool) → c ≡ true → b || c ≡ true
+  later true c is = refl
+  later false c is = is
+
+module _ {N I : Type 0} where
   readers_met : (ps qs : List (Place N I)) → AreButMet ps qs → readers_in qs ≡ readers_in ps
   readers_met [] [] are = refl
   readers_met [] (q ∷ qs) are = absurd are
@@ -74,6 +89,20 @@ module _ {N I : Type 0} where
   reading_met [] (q ∷ qs) are (suc n) = absurd are
   reading_met (p ∷ ps) [] are (suc n) = absurd are
   reading_met (p ∷ ps) (q ∷ qs) are (suc n) = reading_met ps qs are.1 n
+
+  -- those that are held are the same but for what they met
+  pub held_but_met : (ps qs : List (Place N I)) → AreButMet ps qs → AreButMet (held_places ps) (held_places qs)
+  held_but_met [] [] are = tt
+  held_but_met [] (q ∷ qs) are = absurd are
+  held_but_met (p ∷ ps) [] are = absurd are
+  held_but_met (p ∷ ps) (q ∷ qs) are = by (held_but_met ps qs are.1) p.held refl where
+    by : AreButMet (held_places ps) (held_places qs) → (b : Bool) → p.held ≡ b → AreButMet (if p.held then p ∷ held_places ps else held_places ps) (if q.held then q ∷ held_places qs else held_places qs)
+    by rest true is =
+        subst (λ (b : Bool). AreButMet (if b then p ∷ held_places ps else held_places ps) (if q.held then q ∷ held_places qs else held_places qs)) (sym is)
+        (subst (λ (b : Bool). AreButMet (p ∷ held_places ps) (if b then q ∷ held_places qs else held_places qs)) (sym (held_so p q are.0 ∙ is)) (are.0, rest))
+    by rest false is =
+        subst (λ (b : Bool). AreButMet (if b then p ∷ held_places ps else held_places ps) (if q.held then q ∷ held_places qs else held_places qs)) (sym is)
+        (subst (λ (b : Bool). AreButMet (held_places ps) (if b then q ∷ held_places qs else held_places qs)) (sym (held_so p q are.0 ∙ is)) rest)
 
   -- an end that stands at a place and is held is among those held
   pub has_held : (ps : List (Place N I)) (k : ℕ) (p : Place N I) → place_at ps k ≡ Some p → p.held ≡ true → has_end p.end (held_in ps) ≡ true
@@ -99,40 +128,11 @@ module _ {N I : Type 0} where
       or_second false c h = h
     by rest false is = ap (λ (b : Bool). has_end p.end (if b then held_of x ∷ held_in xs else held_in xs)) is ∙ rest
 
--- an end that reads on has its writing half
-reader_writes : (s : EndState) → awaits_delimiter (At s) ≡ true → has_writer (At s) ≡ true
-reader_writes Active h = refl
-reader_writes DelimiterGot h = refl
-reader_writes WaitDelimiter h = refl
-reader_writes AckSent h = absurd (true≢false (sym h))
-reader_writes AskedOnce h = refl
-reader_writes AskedTwice h = absurd (true≢false (sym h))
-reader_writes Gone h = absurd (true≢false (sym h))
-
-module _ {W N O I S T : Type 0} (K : Known S O I N) (before : S) (d : Lent (Given N O I) N T) (n : ℕ) where
-  whole_at : (s : SockCore AnySock W N O I) → IsLentTo K before d n s → (reader : Reader) → readers_in (drop reader.place s.ends.places.items) ≡ reader.end ∷ readers_in (drop (reader.place + 1) s.ends.places.items)
-      → writes_in s.ends.places.items reader.end ≡ true
-  whole_at s is reader reads =
-      let ps = s.ends.places.items in
-      let o = s.number.0 in
-      let left = left_after o (moments_of d) in
-      let r = reads_at ps reader.place reader.end reads in
-      let p = r.0 in
-      let held = front_of p.held (awaits_delimiter (At p.state)) r.2 in
-      let awaits = back_of p.held (awaits_delimiter (At p.state)) r.2 in
-      let here : has_end p.end ((holding_in (kind_told s.kind) s).ends o) ≡ true = ap (has_end p.end) (own_ends K before d n s is) ∙ has_held ps reader.place p r.1 held in
-      let at : place_of left p.end ≡ At p.state = is_there left (ends_of o left) p.end p.state (ap (λ (l : List SockEnd). place_in l p.end) (sym is.owned.ends_are) ∙ is.owned.stands.told reader.place p r.1 held) in
-      ap (writes_in ps) (sym r.3) ∙ is.owned.has.writes o p.end is.owned.held here ∙ ap has_writer at ∙ reader_writes p.state awaits
-
-  pub has_whole : (s : Option (SockCore AnySock W N O I)) → IsThereFor K before d n s → (reader : Reader) → ReadsOnAt (readers_from s) reader → HasWhole reader.end s
-  has_whole None is reader reads = absurd is
-  has_whole (Some s) is reader reads = whole_at s is reader reads
-
 module _ {W N O I S : Type 0} (K : Known S O I N) (e : EndId) (found : Front) (before now : S) where
   pub readings_stay : (old new : Option (SockCore AnySock W N O I)) → LooksSo K e found before old now new → (k : ℕ) → readers_from new k ≡ readers_from old k
   readings_stay None new h k = absurd h
   readings_stay (Some s) None h k = absurd h
-  readings_stay (Some s) (Some t) h k = reading_met s.ends.places.items t.ends.places.items h.places k
+  readings_stay (Some s) (Some t) h k = reading_met (held_places s.ends.places.items) (held_places t.ends.places.items) (held_but_met s.ends.places.items t.ends.places.items h.places) k
 
   pub met_so : (old new : Option (SockCore AnySock W N O I)) → LooksSo K e found before old now new → found ≡ Delimiter → has_met_in new e ≡ true
   met_so None new h is = absurd h

@@ -28,7 +28,7 @@ place_found c (d ∷ es) e h = by (λ k. place_found c es e k) (is_end e d) refl
   by rest true is = ap (λ (b : Bool). if b then place_of c d else place_in (map (told_where c) es) e) is ∙ ap (place_of c) (sym (same_end e d is))
   by rest false is = ap (λ (b : Bool). if b then place_of c d else place_in (map (told_where c) es) e) is ∙ rest (or_elim (is_end e d) (list_any (is_end e) es) h is)
 
-among_filter : (f : EndId → Bool) (es : List EndId) (e : EndId) → list_any (is_end e) (filter f es) ≡ true → list_any (is_end e) es ≡ true
+pub among_filter : (f : EndId → Bool) (es : List EndId) (e : EndId) → list_any (is_end e) (filter f es) ≡ true → list_any (is_end e) es ≡ true
 among_filter f [] e h = h
 among_filter f (d ∷ es) e h = by (λ k. among_filter f es e k) (f d) refl where
   or_second : (b c : Bool) → c ≡ true → b || c ≡ true
@@ -43,7 +43,7 @@ among_filter f (d ∷ es) e h = by (λ k. among_filter f es e k) (f d) refl wher
   by rest true is = or_both (is_end e d) (list_any (is_end e) (filter f es)) (list_any (is_end e) es) rest (sym (ap (λ (b : Bool). list_any (is_end e) (if b then d ∷ filter f es else filter f es)) is) ∙ h)
   by rest false is = or_second (is_end e d) (list_any (is_end e) es) (rest (sym (ap (λ (b : Bool). list_any (is_end e) (if b then d ∷ filter f es else filter f es)) is) ∙ h))
 
-among_held : {N : Type 0} (hs : List (Held N)) (e : EndId) → has_end e hs ≡ list_any (is_end e) (map (λ (x : Held N). x.end) hs)
+pub among_held : {N : Type 0} (hs : List (Held N)) (e : EndId) → has_end e hs ≡ list_any (is_end e) (map (λ (x : Held N). x.end) hs)
 among_held [] e = refl
 among_held (h ∷ hs) e = ap (λ (b : Bool). is_end e h.end || b) (among_held hs e)
 

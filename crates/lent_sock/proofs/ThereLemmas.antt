@@ -3,7 +3,8 @@ use Rattle.std.proofs.Common.{◌≡◌, ℕ, true, Option, Some, None}
 use Rattle.control_held.specs.Moments.{items_in}
 use Rattle.control_held.specs.OwnAsks.{known_after}
 use Rattle.ctl_holder.specs.declared.given.Given.{Given}
-use Rattle.ctl_plane.specs.Desk.{HasWhatTheySay}
+use Rattle.ctl_plane.specs.Desk.{HasWhatTheySay, slot_after}
+use Rattle.desk_laws.proofs.SocketLemmas.{sockets_are_alone}
 use Rattle.msg_pipe.specs.Known.{Known}
 use Rattle.any_sock.specs.declared.any_sock.AnySock.{AnySock}
 use Rattle.any_sock.specs.Over.{peer_places}
@@ -11,6 +12,7 @@ use Rattle.sock_core.specs.declared.sock.SockCore.{SockCore}
 use Rattle.sock_calls.specs.Calls.{owner_of, holding_of, FitsPipes}
 use Rattle.sock_open.specs.Standing.{kind_told}
 use Rattle.one_desk.specs.Lent.{Lent, moments_of}
+use Rattle.one_desk.specs.Reaping.{served_by}
 use Rattle.lent_sock.specs.Owned.{IsThereFor}
 
 module _ {W N O I S T : Type 0} (K : Known S O I N) (pipes : S) (d : Lent (Given N O I) N T) (n : ℕ) where
@@ -29,3 +31,8 @@ module _ {W N O I S T : Type 0} (K : Known S O I N) (pipes : S) (d : Lent (Given
   pub there_fits : (s : Option (SockCore AnySock W N O I)) → IsThereFor K pipes d n s → FitsPipes K peer_places pipes s
   there_fits None is = absurd is
   there_fits (Some s) is = is.owned.stands.fits
+
+  -- the commands of no other object come to its mailbox
+  pub there_alone : (s : Option (SockCore AnySock W N O I)) → IsThereFor K pipes d n s → (i : ℕ) → served_by d (slot_after (owner_of s) (moments_of d)).0 i ≡ true → i ≡ owner_of s
+  there_alone None is = absurd is
+  there_alone (Some s) is = sockets_are_alone (Given N O I) N T d s.number.0 is.order is.owned.is_open

@@ -1,5 +1,5 @@
--- The ends at a socket's places that read on are those that a run says await their delimiters (own choice).
-use Rattle.std.proofs.Common.{◌≡◌, ◌∙◌, ◌&&◌, ℕ, zero, suc, Bool, true, false, List, [], ◌∷◌, Option, Some, None, filter, map, refl, sym, ap, subst, true≢false, if◌then◌else◌, arith, eq-eqb}
+-- The ends that a socket holds and that read on are those that a run says await their delimiters (own choice).
+use Rattle.std.proofs.Common.{◌≡◌, ◌∙◌, ◌&&◌, ℕ, zero, suc, Bool, true, false, List, [], ◌∷◌, Option, Some, None, drop, filter, map, refl, sym, ap, subst, true≢false, if◌then◌else◌, arith, eq-eqb}
 use Rattle.zq_base.specs.declared.ids.EndId.{EndId}
 use Rattle.spec_control.specs.declared.end.EndState.{EndState}
 use Rattle.spec_control.specs.declared.end.EndState.TheVariants.{Active, DelimiterGot, WaitDelimiter, AckSent, AskedOnce, AskedTwice, Gone}
@@ -28,11 +28,11 @@ use Rattle.open_laws.proofs.LeftLemmas.{open_ends_are_left}
 use Rattle.one_desk.specs.Lent.{Lent, moments_of}
 use Rattle.ctl_holder.specs.declared.given.Given.{Given}
 use Rattle.lent_sock.specs.Owned.{LentParts, IsLentTo, Agrees, view_of}
-use Rattle.lent_sock.specs.Readers.{readers_in, readers_from}
+use Rattle.lent_sock.specs.Readers.{held_places, readers_in, readers_from}
 
 -- ---- an end that awaits its delimiter is there
 
-awaits_here : (w : Where) → awaits_delimiter w ≡ true → is_here w ≡ true
+pub awaits_here : (w : Where) → awaits_delimiter w ≡ true → is_here w ≡ true
 awaits_here Unmade h = absurd (true≢false (sym h))
 awaits_here Away h = absurd (true≢false (sym h))
 awaits_here (At Active) h = refl
@@ -43,7 +43,7 @@ awaits_here (At AskedOnce) h = refl
 awaits_here (At AskedTwice) h = refl
 awaits_here (At Gone) h = absurd (true≢false (sym h))
 
-filter_both : {X : Type 0} (f g : X → Bool) → ((x : X) → f x ≡ true → g x ≡ true) → (xs : List X) → filter f (filter g xs) ≡ filter f xs
+pub filter_both : {X : Type 0} (f g : X → Bool) → ((x : X) → f x ≡ true → g x ≡ true) → (xs : List X) → filter f (filter g xs) ≡ filter f xs
 filter_both f g more [] = refl
 filter_both {X = X} f g more (x ∷ xs) = by (filter_both f g more xs) (f x) (g x) refl refl where
   by : filter f (filter g xs) ≡ filter f xs → (b c : Bool) → f x ≡ b → g x ≡ c → filter f (if g x then x ∷ filter g xs else filter g xs) ≡ (if f x then x ∷ filter f xs else filter f xs)
@@ -81,20 +81,27 @@ module _ (c : Control) where
     by rest false is = rest (sym (ap (λ (y : Bool). if y then place_of c d else place_in (map told_where es) e) is) ∙ h)
 
   module _ {N I : Type 0} where
-    readers_so : (ps : List (Place N I)) → ((k : ℕ) (p : Place N I) → place_at ps k ≡ Some p → p.held ≡ true → place_of c p.end ≡ At p.state) → readers_in ps ≡ filter awaits_at (map (λ (x : Held N). x.end) (held_in ps))
-    readers_so [] told = refl
-    readers_so (p ∷ ps) told = by (readers_so ps (λ k. told (suc k))) p.held refl where
-      by : readers_in ps ≡ filter awaits_at (map (λ (x : Held N). x.end) (held_in ps)) → (b : Bool) → p.held ≡ b → (if p.held && awaits_delimiter (At p.state) then p.end ∷ readers_in ps else readers_in ps)
-          ≡ filter awaits_at (map (λ (x : Held N). x.end) (if p.held then held_of p ∷ held_in ps else held_in ps))
-      by behind true is =
-          ap (λ (y : Bool). if y && awaits_delimiter (At p.state) then p.end ∷ readers_in ps else readers_in ps) is
-          ∙ ap (λ (w : Where). if awaits_delimiter w then p.end ∷ readers_in ps else readers_in ps) (sym (told zero p refl is))
-          ∙ ap (λ (l : List EndId). if awaits_at p.end then p.end ∷ l else l) behind
-          ∙ ap (λ (y : Bool). filter awaits_at (map (λ (x : Held N). x.end) (if y then held_of p ∷ held_in ps else held_in ps))) (sym is)
-      by behind false is =
-          ap (λ (y : Bool). if y && awaits_delimiter (At p.state) then p.end ∷ readers_in ps else readers_in ps) is
-          ∙ behind
-          ∙ ap (λ (y : Bool). filter awaits_at (map (λ (x : Held N). x.end) (if y then held_of p ∷ held_in ps else held_in ps))) (sym is)
+    -- behind so many that are held
+    readers_so : (ps : List (Place N I)) → ((k : ℕ) (p : Place N I) → place_at ps k ≡ Some p → p.held ≡ true → place_of c p.end ≡ At p.state) → (n : ℕ) →
+        readers_in (drop n (held_places ps)) ≡ filter awaits_at (drop n (map (λ (x : Held N). x.end) (held_in ps)))
+    readers_so [] told zero = refl
+    readers_so [] told (suc n) = refl
+    readers_so (p ∷ ps) told n = by (readers_so ps (λ k. told (suc k))) p.held refl n where
+      by : ((m : ℕ) → readers_in (drop m (held_places ps)) ≡ filter awaits_at (drop m (map (λ (x : Held N). x.end) (held_in ps)))) → (b : Bool) → p.held ≡ b → (m : ℕ) →
+          readers_in (drop m (if p.held then p ∷ held_places ps else held_places ps)) ≡ filter awaits_at (drop m (map (λ (x : Held N). x.end) (if p.held then held_of p ∷ held_in ps else held_in ps)))
+      by behind true is m =
+          ap (λ (y : Bool). readers_in (drop m (if y then p ∷ held_places ps else held_places ps))) is ∙ first m
+          ∙ ap (λ (y : Bool). filter awaits_at (drop m (map (λ (x : Held N). x.end) (if y then held_of p ∷ held_in ps else held_in ps)))) (sym is)
+        where
+          first : (k : ℕ) → readers_in (drop k (p ∷ held_places ps)) ≡ filter awaits_at (drop k (p.end ∷ map (λ (x : Held N). x.end) (held_in ps)))
+          first zero =
+              ap (λ (y : Bool). if y && awaits_delimiter (At p.state) then p.end ∷ readers_in (held_places ps) else readers_in (held_places ps)) is
+              ∙ ap (λ (w : Where). if awaits_delimiter w then p.end ∷ readers_in (held_places ps) else readers_in (held_places ps)) (sym (told zero p refl is))
+              ∙ ap (λ (l : List EndId). if awaits_at p.end then p.end ∷ l else l) (behind zero)
+          first (suc k) = behind k
+      by behind false is m =
+          ap (λ (y : Bool). readers_in (drop m (if y then p ∷ held_places ps else held_places ps))) is ∙ behind m
+          ∙ ap (λ (y : Bool). filter awaits_at (drop m (map (λ (x : Held N). x.end) (if y then held_of p ∷ held_in ps else held_in ps)))) (sym is)
 
 -- ---- of a socket that is lent
 
@@ -106,14 +113,14 @@ module _ {W N O I S T : Type 0} (K : Known S O I N) where
     abbrev now : Control
     now = after_all d.items (begun d.past.workers)
 
-    left : AreLeft s.number.0 (left_after s.number.0 (moments_of d)) (after_all d.items (begun d.past.workers))
+    pub left : AreLeft s.number.0 (left_after s.number.0 (moments_of d)) (after_all d.items (begun d.past.workers))
     left = open_ends_are_left N T d.past.workers d.items d.caller o (record { run = is.order.order.run; callers = is.order.order.by; is_open = is.owned.is_open })
 
     -- the ends that joined it, each where it is now
     told_now : ends_told (standing_joins s.joins.items) s.ends.places.items ≡ ends_at o now
     told_now = is.owned.ends_are ∙ left.told
 
-    here : HasEnds (name_of d.items) now.rows.pairs now.attached now.reasons (holding_in (kind_told s.kind) s) o
+    pub here : HasEnds (name_of d.items) now.rows.pairs now.attached now.reasons (holding_in (kind_told s.kind) s) o
     here = lent_holders_have_it N T d.past.workers d.items is.order.order.run is.order.order.named is.order.order.by d.caller (holding_in (kind_told s.kind) s) is.owned.has o is.owned.held
 
     pub own_ends : (holding_in (kind_told s.kind) s).ends o ≡ held_in s.ends.places.items
@@ -122,11 +129,18 @@ module _ {W N O I S T : Type 0} (K : Known S O I N) where
     states : (k : ℕ) (p : Place N I) → place_at s.ends.places.items k ≡ Some p → p.held ≡ true → place_of now p.end ≡ At p.state
     states k p at held = is_there now (ends_of o now) p.end p.state (ap (λ (l : List SockEnd). place_in l p.end) (sym told_now) ∙ is.owned.stands.told k p at held)
 
-    pub readers_told : readers_in s.ends.places.items ≡ map (λ (x : SockEnd). x.end) (filter (λ (x : SockEnd). awaits_delimiter x.place) (ends_told (standing_joins s.joins.items) s.ends.places.items))
+    -- those that read on are those of the ends that are held which await their delimiters
+    pub reads_told : (n : ℕ) → readers_in (drop n (held_places s.ends.places.items)) ≡ filter (awaits_at now) (drop n (map (λ (x : Held N). x.end) (held_in s.ends.places.items)))
+    reads_told n = readers_so now s.ends.places.items states n
+
+    -- and these are the ends that the socket has, in the order of attachment, but those that are gone
+    pub held_told : map (λ (x : Held N). x.end) (held_in s.ends.places.items) ≡ filter (λ e. is_here (place_of now e)) (ends_of o now)
+    held_told = ap (map (λ (x : Held N). x.end)) (sym own_ends) ∙ here.ends
+
+    pub readers_told : readers_in (held_places s.ends.places.items) ≡ map (λ (x : SockEnd). x.end) (filter (λ (x : SockEnd). awaits_delimiter x.place) (ends_told (standing_joins s.joins.items) s.ends.places.items))
     readers_told =
-        readers_so now s.ends.places.items states
-        ∙ ap (λ (l : List (Held N)). filter (awaits_at now) (map (λ (x : Held N). x.end) l)) (sym own_ends)
-        ∙ ap (filter (awaits_at now)) here.ends
+        reads_told 0
+        ∙ ap (filter (awaits_at now)) held_told
         ∙ filter_both (awaits_at now) (λ e. is_here (place_of now e)) (λ e. awaits_here (place_of now e)) (ends_of o now)
         ∙ sym (waits_in now (ends_of o now))
         ∙ ap (λ (l : List SockEnd). map (λ (x : SockEnd). x.end) (filter (λ (x : SockEnd). awaits_delimiter x.place) l)) (sym told_now)

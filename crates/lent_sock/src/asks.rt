@@ -19,8 +19,8 @@ use spec_run::LineAnswer;
 use std::alloc::{AllocError, Global};
 use zq_base::Endpoint;
 
-// What the socket's kind is over its ends is told by its peers' ends. It costs nothing.
-fn is_told<W, N, O, I>(socket: &Option<SockCore<AnySock, W, N, O, I>>)
+/// What the socket's kind is over its ends is told by its peers' ends. It costs nothing.
+pub(crate) fn is_told<W, N, O, I>(socket: &Option<SockCore<AnySock, W, N, O, I>>)
     ensures { AreTold socket.now }
 {
     match socket {

@@ -7,17 +7,17 @@ ghost use Rattle.control_held.specs.Moments.{Moment, left_after};
 ghost use Rattle.ctl_holder.specs.Holding.{has_end};
 ghost use Rattle.ctl_plane.specs.Asking.{IsInproc};
 ghost use Rattle.ctl_plane.specs.Coming.{SendsEnds};
-ghost use Rattle.ctl_plane.specs.Desk.{AsksOnce, DelimitsOrNot};
+ghost use Rattle.ctl_plane.specs.Desk.{AsksOnce, DelimitsOrNot, GivesOrNot, slot_after};
 ghost use Rattle.any_sock.specs.Over.{over};
 ghost use Rattle.sock_calls.specs.Calls.{owner_of, holding_of, HasNone};
 ghost use Rattle.sock_calls.specs.Passing.{Passes};
 ghost use Rattle.sock_open.specs.Standing.{IsWhole, kind_told};
 ghost use Rattle.one_desk.specs.Lent.{moments_of};
-ghost use Rattle.lent_sock.specs.Owned.{parts, Agrees};
+ghost use Rattle.lent_sock.specs.Owned.{parts, Agrees, MayTakeEnds};
 ghost use Rattle.lent_sock.specs.Called.{IsCalled};
 
 use crate::sock::LentSock;
-use ctl_plane::Calls;
+use ctl_plane::{Calls, Delivery};
 use held_ends::HeldPipes;
 use spec_control::Reply;
 use std::alloc::{AllocError, Global};
@@ -139,6 +139,35 @@ where
     let done = lent
         .socket
         .disconnect(alloc, &mut lent.pipes, &mut lent.desk, at);
+    lent.desk.is_of_one_order();
+    done
+}
+
+/// Processes the oldest command of the socket, or finds its mailbox empty. Want of memory leaves the
+/// command where it was.
+pub(crate) fn call_take<P: HeldPipes + Drop>(
+    alloc: Global,
+    lent: &mut LentSock<P>,
+) -> Result<Delivery, AllocError>
+where
+    P::Name: Drop,
+    P::Waker: Drop,
+    requires agrees { Agrees P.known (parts lent.old.pipes lent.old.desk lent.old.socket.core lent.old.since.items) }
+    requires may { MayTakeEnds P.known (parts lent.old.pipes lent.old.desk lent.old.socket.core lent.old.since.items) }
+    ensures ok { IfOk result (λ found. GivesOrNot lent.old.desk.caller
+        (slot_after (owner_of lent.old.socket.core) (moments_of lent.old.desk)) found
+        (moments_of lent.old.desk) (moments_of lent.new.desk)) }
+    ensures err { OnErr result (moments_of lent.new.desk ≡ moments_of lent.old.desk) }
+    ensures given { lent.new.desk.past.given ≡ lent.old.desk.past.given }
+    ensures since { lent.new.since ≡ lent.old.since }
+    ensures called { IsCalled P.known lent.old.pipes lent.old.desk lent.old.socket.core
+        lent.new.pipes lent.new.desk lent.new.socket.core }
+    ensures whole { IsWhole lent.old.socket.core → IsWhole lent.new.socket.core }
+    ensures passes { (more : List (Moment P.Name P.Story)) →
+        moments_of lent.new.desk ≡ moments_of lent.old.desk ++ more →
+        Passes over lent.old.socket.core lent.new.socket.core more }
+{
+    let done = lent.socket.take(alloc, &mut lent.pipes, &mut lent.desk);
     lent.desk.is_of_one_order();
     done
 }

@@ -5,10 +5,13 @@
 mod answers;
 mod asks;
 mod calls;
+mod endings;
 mod kinds;
 mod looks;
 mod mails;
+mod ranks;
 mod readers;
 mod sock;
+mod taking;
 
 pub use sock::LentSock;

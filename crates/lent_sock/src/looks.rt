@@ -6,6 +6,7 @@ ghost use Rattle.sock_open.specs.Standing.{IsWhole};
 ghost use Rattle.lent_sock.specs.Owned.{parts, view_of, has_met_in, Agrees, MayTakeEnds};
 ghost use Rattle.lent_sock.specs.Leads.{Leads};
 ghost use Rattle.lent_sock.specs.Readers.{readers_from};
+ghost use Rattle.lent_sock.specs.Ready.{IsReady};
 
 use crate::sock::LentSock;
 use held_ends::HeldPipes;
@@ -30,6 +31,8 @@ where
     ensures met { result ≡ Delimiter → has_met_in lent.new.socket.core reader.end ≡ true }
     ensures reading { ReadingStays (readers_from lent.old.socket.core) (readers_from lent.new.socket.core) }
     ensures whole { IsWhole lent.old.socket.core → IsWhole lent.new.socket.core }
+    ensures ready { IsReady (parts lent.old.pipes lent.old.desk lent.old.socket.core lent.old.since.items)
+        → IsReady (parts lent.new.pipes lent.new.desk lent.new.socket.core lent.new.since.items) }
     ensures agrees { Agrees P.known (parts lent.new.pipes lent.new.desk lent.new.socket.core lent.new.since.items) }
     ensures may { MayTakeEnds P.known (parts lent.old.pipes lent.old.desk lent.old.socket.core lent.old.since.items)
         → MayTakeEnds P.known (parts lent.new.pipes lent.new.desk lent.new.socket.core lent.new.since.items) }

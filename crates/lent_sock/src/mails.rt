@@ -7,6 +7,7 @@ ghost use Rattle.open_sock.specs.Steps.{LeadsSome, CallsSo, PumpsKind};
 ghost use Rattle.sock_open.specs.Standing.{IsWhole};
 ghost use Rattle.lent_sock.specs.Owned.{parts, view_of, moments_since, Agrees};
 ghost use Rattle.lent_sock.specs.Leads.{Leads};
+ghost use Rattle.lent_sock.specs.Ready.{IsReady};
 
 use crate::answers::{changed_reply, got_reply, sent_reply};
 use crate::sock::LentSock;
@@ -32,6 +33,8 @@ where
         (parts lent.old.pipes lent.old.desk lent.old.socket.core lent.old.since.items)
         (parts lent.new.pipes lent.new.desk lent.new.socket.core lent.new.since.items)) }
     ensures whole { OnOk result (IsWhole lent.old.socket.core → IsWhole lent.new.socket.core) }
+    ensures ready { OnOk result (IsReady (parts lent.old.pipes lent.old.desk lent.old.socket.core lent.old.since.items)
+        → IsReady (parts lent.new.pipes lent.new.desk lent.new.socket.core lent.new.since.items)) }
     ensures agrees { Agrees P.known (parts lent.new.pipes lent.new.desk lent.new.socket.core lent.new.since.items) }
 {
     sock_open::pump(alloc, &mut lent.pipes, &mut lent.socket.core)
@@ -47,7 +50,7 @@ where
     P::Name: Drop,
     P::Waker: Drop,
     requires agrees { Agrees P.known (parts lent.old.pipes lent.old.desk lent.old.socket.core lent.old.since.items) }
-    requires whole { IsWhole lent.old.socket.core }
+    requires ready { IsReady (parts lent.old.pipes lent.old.desk lent.old.socket.core lent.old.since.items) }
     ensures ok { IfOk result (λ answer. (told : List Skip) →
         CallsSo (Leads P.known) view_of moments_since (SendsOpen message) answer told told
         (parts lent.old.pipes lent.old.desk lent.old.socket.core lent.old.since.items)
@@ -56,6 +59,7 @@ where
         (parts lent.old.pipes lent.old.desk lent.old.socket.core lent.old.since.items)
         (parts lent.new.pipes lent.new.desk lent.new.socket.core lent.new.since.items)) }
     ensures whole { IsWhole lent.new.socket.core }
+    ensures ready { OnOk result (IsReady (parts lent.new.pipes lent.new.desk lent.new.socket.core lent.new.since.items)) }
     ensures agrees { Agrees P.known (parts lent.new.pipes lent.new.desk lent.new.socket.core lent.new.since.items) }
 {
     sent_reply(sock_open::send(alloc, &mut lent.pipes, &mut lent.socket.core, message))
@@ -71,7 +75,7 @@ where
     P::Name: Drop,
     P::Waker: Drop,
     requires agrees { Agrees P.known (parts lent.old.pipes lent.old.desk lent.old.socket.core lent.old.since.items) }
-    requires whole { IsWhole lent.old.socket.core }
+    requires ready { IsReady (parts lent.old.pipes lent.old.desk lent.old.socket.core lent.old.since.items) }
     ensures ok { IfOk result (λ answer. (told : List Skip) →
         CallsSo (Leads P.known) view_of moments_since (SendsOpen message.now) answer told told
         (parts lent.old.pipes lent.old.desk lent.old.socket.core lent.old.since.items)
@@ -80,6 +84,7 @@ where
         (parts lent.old.pipes lent.old.desk lent.old.socket.core lent.old.since.items)
         (parts lent.new.pipes lent.new.desk lent.new.socket.core lent.new.since.items)) }
     ensures whole { IsWhole lent.new.socket.core }
+    ensures ready { OnOk result (IsReady (parts lent.new.pipes lent.new.desk lent.new.socket.core lent.new.since.items)) }
     ensures agrees { Agrees P.known (parts lent.new.pipes lent.new.desk lent.new.socket.core lent.new.since.items) }
 {
     match message.copy(alloc) {
@@ -98,7 +103,7 @@ where
     P::Name: Drop,
     P::Waker: Drop,
     requires agrees { Agrees P.known (parts lent.old.pipes lent.old.desk lent.old.socket.core lent.old.since.items) }
-    requires whole { IsWhole lent.old.socket.core }
+    requires ready { IsReady (parts lent.old.pipes lent.old.desk lent.old.socket.core lent.old.since.items) }
     ensures ok { IfOk result (λ answer. CallsSo (Leads P.known) view_of moments_since ReceivesOpen
         answer told.old.items told.new.items
         (parts lent.old.pipes lent.old.desk lent.old.socket.core lent.old.since.items)
@@ -107,6 +112,7 @@ where
         (parts lent.old.pipes lent.old.desk lent.old.socket.core lent.old.since.items)
         (parts lent.new.pipes lent.new.desk lent.new.socket.core lent.new.since.items)) }
     ensures whole { OnOk result (IsWhole lent.new.socket.core) }
+    ensures ready { OnOk result (IsReady (parts lent.new.pipes lent.new.desk lent.new.socket.core lent.new.since.items)) }
     ensures agrees { Agrees P.known (parts lent.new.pipes lent.new.desk lent.new.socket.core lent.new.since.items) }
 {
     got_reply(sock_open::recv(alloc, &mut lent.pipes, &mut lent.socket.core, told))
@@ -122,7 +128,7 @@ where
     P::Name: Drop,
     P::Waker: Drop,
     requires agrees { Agrees P.known (parts lent.old.pipes lent.old.desk lent.old.socket.core lent.old.since.items) }
-    requires whole { IsWhole lent.old.socket.core }
+    requires ready { IsReady (parts lent.old.pipes lent.old.desk lent.old.socket.core lent.old.since.items) }
     requires short { length topic.now < max_octets }
     ensures ok { IfOk result (λ answer. (told : List Skip) →
         CallsSo (Leads P.known) view_of moments_since (ChangesOpen Subscribe topic.now) answer told told
@@ -132,6 +138,7 @@ where
         (parts lent.old.pipes lent.old.desk lent.old.socket.core lent.old.since.items)
         (parts lent.new.pipes lent.new.desk lent.new.socket.core lent.new.since.items)) }
     ensures whole { IsWhole lent.new.socket.core }
+    ensures ready { OnOk result (IsReady (parts lent.new.pipes lent.new.desk lent.new.socket.core lent.new.since.items)) }
     ensures agrees { Agrees P.known (parts lent.new.pipes lent.new.desk lent.new.socket.core lent.new.since.items) }
 {
     changed_reply(sock_open::subscribe(alloc, &mut lent.pipes, &mut lent.socket.core, topic))
@@ -147,7 +154,7 @@ where
     P::Name: Drop,
     P::Waker: Drop,
     requires agrees { Agrees P.known (parts lent.old.pipes lent.old.desk lent.old.socket.core lent.old.since.items) }
-    requires whole { IsWhole lent.old.socket.core }
+    requires ready { IsReady (parts lent.old.pipes lent.old.desk lent.old.socket.core lent.old.since.items) }
     requires short { length topic.now < max_octets }
     ensures ok { IfOk result (λ answer. (told : List Skip) →
         CallsSo (Leads P.known) view_of moments_since (ChangesOpen Unsubscribe topic.now) answer told told
@@ -157,6 +164,7 @@ where
         (parts lent.old.pipes lent.old.desk lent.old.socket.core lent.old.since.items)
         (parts lent.new.pipes lent.new.desk lent.new.socket.core lent.new.since.items)) }
     ensures whole { IsWhole lent.new.socket.core }
+    ensures ready { OnOk result (IsReady (parts lent.new.pipes lent.new.desk lent.new.socket.core lent.new.since.items)) }
     ensures agrees { Agrees P.known (parts lent.new.pipes lent.new.desk lent.new.socket.core lent.new.since.items) }
 {
     changed_reply(sock_open::unsubscribe(alloc, &mut lent.pipes, &mut lent.socket.core, topic))

@@ -5,7 +5,10 @@ use Rattle.spec_run.specs.Act.{Step}
 use Rattle.sock_open.specs.View.{open_view}
 use Rattle.lent_sock.specs.Owned.{parts, box_of}
 use Rattle.lent_sock.proofs.MailLemmas.{looks_on, leads_on, there_on, box_on}
-use Rattle.lent_sock.proofs.ReadingLemmas.{has_whole, readings_stay, met_so, may_still}
+use Rattle.lent_sock.proofs.HereLemmas.{has_whole}
+use Rattle.lent_sock.proofs.ReadingLemmas.{readings_stay, met_so, may_still}
+use Rattle.one_desk.specs.Lent.{moments_of}
+use Rattle.lent_sock.proofs.KeepLemmas.{looks_peers}
 use Rattle.lent_sock.proofs.looks.look.Goals as goal
 
 pub look-requires-clause-held : goal.look-requires-clause-held
@@ -43,3 +46,14 @@ pub returns-clause-may : goal.returns-clause-may
 returns-clause-may g c =
     let l = c.args.lent.now in
     may_still g.P.Pipes.known c.args.reader.end c.look.result l.pipes c.look.new.pipes l.desk (length l.since.items) l.socket.core c.look.new.socket c.look.ensures.looks
+
+pub returns-clause-ready : goal.returns-clause-ready
+returns-clause-ready g c =
+    let K = g.P.Pipes.known in
+    let l = c.args.lent.now in
+    let m = c.look.new in
+    let on = looks_on K c.args.reader.end c.look.result l.pipes m.pipes l.socket.core m.socket c.look.ensures.looks in
+    λ was. record {
+      whole = c.look.ensures.whole was.whole;
+      peers = looks_peers (moments_of l.desk) l.socket.core m.socket on (c.look.ensures.view 0) was.peers;
+    }

@@ -5,6 +5,8 @@ use Rattle.sock_open.specs.View.{open_view}
 use Rattle.sock_open.proofs.ViewLemmas.{ok_more, err_more}
 use Rattle.lent_sock.specs.Owned.{parts, box_of}
 use Rattle.lent_sock.proofs.MailLemmas.{keeps_on, leads_on, there_on, box_on}
+use Rattle.one_desk.specs.Lent.{moments_of}
+use Rattle.lent_sock.proofs.KeepLemmas.{ok_both, pumps_peers}
 use Rattle.lent_sock.proofs.mails.pump_kind.Goals as goal
 
 pub returns-clause-ok : goal.returns-clause-ok
@@ -39,3 +41,14 @@ returns-clause-agrees g c =
     let n = length l.since.items in
     let on = keeps_on l.socket.core m.socket c.pump.ensures.keeps in
     there_on K l.desk n l.pipes m.pipes l.socket.core m.socket c.requires.agrees c.pump.ensures.stands on
+
+pub returns-clause-ready : goal.returns-clause-ready
+returns-clause-ready g c =
+    let K = g.P.Pipes.known in
+    let l = c.args.lent.now in
+    let m = c.pump.new in
+    let on = keeps_on l.socket.core m.socket c.pump.ensures.keeps in
+    ok_both c.pump.result (λ h whole was. record {
+      whole = whole was.whole;
+      peers = pumps_peers (moments_of l.desk) K l.pipes m.pipes l.socket.core m.socket on (h 0) was.peers;
+    }) c.pump.ensures.ok c.pump.ensures.whole

@@ -6,6 +6,10 @@ use Rattle.sock_open.specs.View.{open_view}
 use Rattle.lent_sock.specs.Owned.{parts, box_of, view_of, moments_since}
 use Rattle.lent_sock.specs.Leads.{Leads}
 use Rattle.lent_sock.proofs.MailLemmas.{keeps_on, leads_on, there_on, box_on, got_ok, got_err}
+use Rattle.one_desk.specs.Lent.{moments_of}
+use Rattle.sock_open.specs.Standing.{IsWhole}
+use Rattle.lent_sock.specs.Ready.{HavePeers}
+use Rattle.lent_sock.proofs.KeepLemmas.{ok_both, got_on, receives_peers}
 use Rattle.lent_sock.proofs.mails.recv.Goals as goal
 
 pub returns-clause-ok : goal.returns-clause-ok
@@ -44,3 +48,14 @@ returns-clause-agrees g c =
     let n = length l.since.items in
     let on = keeps_on l.socket.core m.socket c.recv.ensures.keeps in
     there_on K l.desk n l.pipes m.pipes l.socket.core m.socket c.requires.agrees c.recv.ensures.stands on
+
+pub returns-clause-ready : goal.returns-clause-ready
+returns-clause-ready g c =
+    let K = g.P.Pipes.known in
+    let l = c.args.lent.now in
+    let m = c.recv.new in
+    let on = keeps_on l.socket.core m.socket c.recv.ensures.keeps in
+    ok_both c.got_reply.result (λ whole peers. record { whole = whole; peers = peers })
+    (got_on c.recv.result c.got_reply.result _ _ (IsWhole m.socket) c.recv.ensures.whole c.got_reply.ensures (λ a h. h))
+    (got_on c.recv.result c.got_reply.result _ _ (HavePeers (moments_of l.desk) m.socket) c.recv.ensures.step c.got_reply.ensures
+    (λ a h. receives_peers (moments_of l.desk) K l.pipes m.pipes c.args.told.now.items m.told.items a l.socket.core m.socket on (h 0) c.requires.ready.peers))

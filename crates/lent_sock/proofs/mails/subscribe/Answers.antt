@@ -8,6 +8,9 @@ use Rattle.sock_open.specs.View.{open_view}
 use Rattle.lent_sock.specs.Owned.{parts, box_of, view_of, moments_since}
 use Rattle.lent_sock.specs.Leads.{Leads}
 use Rattle.lent_sock.proofs.MailLemmas.{keeps_on, leads_on, there_on, box_on, changed_ok, changed_err}
+use Rattle.one_desk.specs.Lent.{moments_of}
+use Rattle.lent_sock.specs.Ready.{IsReady}
+use Rattle.lent_sock.proofs.KeepLemmas.{changed_on, changes_peers}
 use Rattle.lent_sock.proofs.mails.subscribe.Goals as goal
 
 pub returns-clause-ok : goal.returns-clause-ok
@@ -46,3 +49,14 @@ returns-clause-agrees g c =
     let n = length l.since.items in
     let on = keeps_on l.socket.core m.socket c.subscribe.ensures.keeps in
     there_on K l.desk n l.pipes m.pipes l.socket.core m.socket c.requires.agrees c.subscribe.ensures.stands on
+
+pub returns-clause-ready : goal.returns-clause-ready
+returns-clause-ready g c =
+    let K = g.P.Pipes.known in
+    let l = c.args.lent.now in
+    let m = c.subscribe.new in
+    let on = keeps_on l.socket.core m.socket c.subscribe.ensures.keeps in
+    changed_on c.subscribe.result c.changed_reply.result _ _ _ (IsReady (parts m.pipes l.desk m.socket l.since.items)) c.subscribe.ensures.step c.changed_reply.ensures (λ a h. record {
+      whole = c.subscribe.ensures.whole;
+      peers = changes_peers (moments_of l.desk) K l.pipes m.pipes Subscribe c.args.topic.now a l.socket.core m.socket on (h 0) c.requires.ready.peers;
+    })

@@ -1,0 +1,62 @@
+ghost use Rattle.std.specs.Prelude.{◌≡◌, ◌+◌, true, OnOk, OnErr};
+ghost use Rattle.open_sock.specs.Reading.{ReadsOnAt};
+ghost use Rattle.open_sock.specs.Steps.{LeadsSome, ClosesOpen, MeetsEnd};
+ghost use Rattle.lent_sock.specs.Owned.{parts, view_of, has_met_in, Agrees};
+ghost use Rattle.lent_sock.specs.Leads.{Leads};
+ghost use Rattle.lent_sock.specs.Readers.{readers_from};
+ghost use Rattle.lent_sock.specs.Ready.{IsReady};
+
+use crate::asks::is_told;
+use crate::calls::{call_close, call_meet};
+use crate::sock::LentSock;
+use held_ends::HeldPipes;
+use open_sock::Reader;
+use std::alloc::{AllocError, Global};
+
+/// Tells that an end which reads on is at its delimiter.
+pub(crate) fn meet<P: HeldPipes + Drop>(alloc: Global, lent: &mut LentSock<P>, reader: Reader)
+where
+    P::Name: Drop,
+    P::Waker: Drop,
+    requires agrees { Agrees P.known (parts lent.old.pipes lent.old.desk lent.old.socket.core lent.old.since.items) }
+    requires ready { IsReady (parts lent.old.pipes lent.old.desk lent.old.socket.core lent.old.since.items) }
+    requires reads { ReadsOnAt (readers_from lent.old.socket.core) reader }
+    requires met { has_met_in lent.old.socket.core reader.end ≡ true }
+    ensures meets { MeetsEnd (Leads P.known) view_of reader.end
+        (parts lent.old.pipes lent.old.desk lent.old.socket.core lent.old.since.items)
+        (parts lent.new.pipes lent.new.desk lent.new.socket.core lent.new.since.items) }
+    ensures behind { readers_from lent.new.socket.core (reader.place + 1)
+        ≡ readers_from lent.old.socket.core (reader.place + 1) }
+    ensures ready { IsReady (parts lent.new.pipes lent.new.desk lent.new.socket.core lent.new.since.items) }
+    ensures agrees { Agrees P.known (parts lent.new.pipes lent.new.desk lent.new.socket.core lent.new.since.items) }
+{
+    is_told(&lent.socket.core);
+    call_meet(alloc, lent, reader.end);
+    lent.since = lent.since.and(&(), &());
+}
+
+/// Closes it (zmq_close(3)): its ends are on their way to the reaper. Want of memory leaves it open.
+pub(crate) fn close<P: HeldPipes + Drop>(
+    alloc: Global,
+    lent: &mut LentSock<P>,
+) -> Result<(), AllocError>
+where
+    P::Name: Drop,
+    P::Waker: Drop,
+    requires agrees { Agrees P.known (parts lent.old.pipes lent.old.desk lent.old.socket.core lent.old.since.items) }
+    ensures ok { OnOk result (ClosesOpen (Leads P.known) view_of
+        (parts lent.old.pipes lent.old.desk lent.old.socket.core lent.old.since.items)
+        (parts lent.new.pipes lent.new.desk lent.new.socket.core lent.new.since.items)) }
+    ensures err { OnErr result (LeadsSome (Leads P.known)
+        (parts lent.old.pipes lent.old.desk lent.old.socket.core lent.old.since.items)
+        (parts lent.new.pipes lent.new.desk lent.new.socket.core lent.new.since.items)) }
+    ensures back { OnErr result (Agrees P.known (parts lent.new.pipes lent.new.desk lent.new.socket.core lent.new.since.items)) }
+{
+    match call_close(alloc, lent) {
+        Ok(_) => {
+            lent.since = lent.since.and(&(), &());
+            return Ok(());
+        }
+        Err(want) => return Err(want),
+    }
+}

@@ -1,0 +1,133 @@
+ghost use Rattle.std.specs.Prelude.{◌≡◌, IfOk, OnErr, drop};
+ghost use Rattle.open_sock.specs.Reading.{LeavesReader};
+ghost use Rattle.open_sock.specs.Steps.{LeadsSome, Takes};
+ghost use Rattle.lent_sock.specs.Owned.{parts, view_of, Agrees, MayTakeEnds};
+ghost use Rattle.lent_sock.specs.Leads.{Leads};
+ghost use Rattle.lent_sock.specs.Readers.{held_places, readers_in, readers_from};
+ghost use Rattle.lent_sock.specs.Readers.{IsNewReader, IsFoundBy};
+ghost use Rattle.lent_sock.specs.Ready.{AreTold, IsReady};
+
+use crate::asks::is_told;
+use crate::calls::call_take;
+use crate::ranks::ranked;
+use crate::readers::{new_reader, reading_ends};
+use crate::sock::LentSock;
+use any_sock::AnySock;
+use ctl_plane::Delivery;
+use held_ends::{HeldPipes, Place};
+use open_sock::{Found, Reader};
+use sock_core::SockCore;
+use std::alloc::{AllocError, Global};
+use zq_base::EndId;
+
+// The ends of the socket that read on.
+fn ends_reading<W, N, O, I>(
+    alloc: Global,
+    socket: &Option<SockCore<AnySock, W, N, O, I>>,
+) -> Result<Vec<EndId>, AllocError>
+    ensures { IfOk result (λ ends. ends.items ≡ readers_from socket.now 0) }
+{
+    match socket {
+        Some(core) => return reading_ends(alloc, &core.ends.places),
+        None => return Ok(Vec::new(alloc)),
+    }
+}
+
+// The first of the ends that read on which is none of those before, with its place among those held.
+fn reader_at<N, I>(places: &[Place<N, I>], before: &[EndId]) -> Option<Reader>
+    ensures { IsNewReader (λ n. readers_in (drop n (held_places places.now))) before.now result }
+{
+    match new_reader(places, before) {
+        Some(at) => return Some(ranked(places, at)),
+        None => return None,
+    }
+}
+
+// The same of a socket that is there.
+fn reader_now<W, N, O, I>(
+    socket: &Option<SockCore<AnySock, W, N, O, I>>,
+    before: &[EndId],
+) -> Option<Reader>
+    ensures { IsNewReader (readers_from socket.now) before.now result }
+{
+    match socket {
+        Some(core) => return reader_at(&core.ends.places, before),
+        None => return None,
+    }
+}
+
+// What a delivery found, where these ends of the socket read on before.
+fn found_now<W, N, O, I>(
+    socket: &Option<SockCore<AnySock, W, N, O, I>>,
+    before: &[EndId],
+    delivery: Delivery,
+) -> Found
+    ensures { IsFoundBy (readers_from socket.now) before.now delivery result }
+{
+    match delivery {
+        Delivery::Done => return Found::Letter(reader_now(socket, before)),
+        Delivery::Empty => return Found::Nothing,
+    }
+}
+
+// Takes the oldest letter of the mailbox of a socket of which these ends read on.
+fn take_behind<P: HeldPipes + Drop>(
+    alloc: Global,
+    lent: &mut LentSock<P>,
+    before: &[EndId],
+) -> Result<Found, AllocError>
+where
+    P::Name: Drop,
+    P::Waker: Drop,
+    requires agrees { Agrees P.known (parts lent.old.pipes lent.old.desk lent.old.socket.core lent.old.since.items) }
+    requires ready { IsReady (parts lent.old.pipes lent.old.desk lent.old.socket.core lent.old.since.items) }
+    requires may { MayTakeEnds P.known (parts lent.old.pipes lent.old.desk lent.old.socket.core lent.old.since.items) }
+    requires told { AreTold lent.old.socket.core }
+    requires before { before.now ≡ readers_from lent.old.socket.core 0 }
+    ensures ok { IfOk result (λ found. Takes (Leads P.known) view_of found
+        (parts lent.old.pipes lent.old.desk lent.old.socket.core lent.old.since.items)
+        (parts lent.new.pipes lent.new.desk lent.new.socket.core lent.new.since.items)) }
+    ensures reader { IfOk result (LeavesReader (readers_from lent.new.socket.core)) }
+    ensures err { OnErr result (LeadsSome (Leads P.known)
+        (parts lent.old.pipes lent.old.desk lent.old.socket.core lent.old.since.items)
+        (parts lent.new.pipes lent.new.desk lent.new.socket.core lent.new.since.items)) }
+    ensures ready { IsReady (parts lent.new.pipes lent.new.desk lent.new.socket.core lent.new.since.items) }
+    ensures agrees { Agrees P.known (parts lent.new.pipes lent.new.desk lent.new.socket.core lent.new.since.items) }
+{
+    match call_take(alloc, lent) {
+        Ok(delivery) => {
+            lent.since = lent.since.and(&(), &());
+            return Ok(found_now(&lent.socket.core, before, delivery));
+        }
+        Err(want) => return Err(want),
+    }
+}
+
+/// Takes the oldest letter of the socket's mailbox, or finds it empty. Want of memory leaves the letter
+/// where it was.
+pub(crate) fn take<P: HeldPipes + Drop>(
+    alloc: Global,
+    lent: &mut LentSock<P>,
+) -> Result<Found, AllocError>
+where
+    P::Name: Drop,
+    P::Waker: Drop,
+    requires agrees { Agrees P.known (parts lent.old.pipes lent.old.desk lent.old.socket.core lent.old.since.items) }
+    requires ready { IsReady (parts lent.old.pipes lent.old.desk lent.old.socket.core lent.old.since.items) }
+    requires may { MayTakeEnds P.known (parts lent.old.pipes lent.old.desk lent.old.socket.core lent.old.since.items) }
+    ensures ok { IfOk result (λ found. Takes (Leads P.known) view_of found
+        (parts lent.old.pipes lent.old.desk lent.old.socket.core lent.old.since.items)
+        (parts lent.new.pipes lent.new.desk lent.new.socket.core lent.new.since.items)) }
+    ensures reader { IfOk result (LeavesReader (readers_from lent.new.socket.core)) }
+    ensures err { OnErr result (LeadsSome (Leads P.known)
+        (parts lent.old.pipes lent.old.desk lent.old.socket.core lent.old.since.items)
+        (parts lent.new.pipes lent.new.desk lent.new.socket.core lent.new.since.items)) }
+    ensures ready { IsReady (parts lent.new.pipes lent.new.desk lent.new.socket.core lent.new.since.items) }
+    ensures agrees { Agrees P.known (parts lent.new.pipes lent.new.desk lent.new.socket.core lent.new.since.items) }
+{
+    is_told(&lent.socket.core);
+    match ends_reading(alloc, &lent.socket.core) {
+        Ok(before) => return take_behind(alloc, lent, &before),
+        Err(want) => return Err(want),
+    }
+}
