@@ -108,13 +108,13 @@ module _ {N I : Type 0} where
       rest false all = all
 
 module _ (W T : Type 0) {P N O I : Type 0} (K : Known P O I N) (d : Lent (Given N O I) N T) (order : IsOneOrder d) (j : ℕ) (pipes : P) (t : SockCore AnySock W N O I) (owned : IsOwned K j (moments_of (for_caller j d)) pipes t) where
-  abbrev h : Holding N
+  abbrev pub h : Holding N
   h = holding_in (kind_told t.kind) t
 
-  mine : h.ends t.number.0 ≡ held_in t.ends.places.items
+  pub mine : h.ends t.number.0 ≡ held_in t.ends.places.items
   mine = ap (λ (b : Bool). if b then held_in t.ends.places.items else []) (eq-eqb t.number.0 t.number.0 refl)
 
-  all_ends : HasEnds (name_of d.items) (control_of d.past).rows.pairs (control_of d.past).attached (control_of d.past).reasons h t.number.0
+  pub all_ends : HasEnds (name_of d.items) (control_of d.past).rows.pairs (control_of d.past).attached (control_of d.past).reasons h t.number.0
   all_ends =
       let run = order.order in
       subst (λ (c : Control). HasEnds (name_of d.items) c.rows.pairs c.attached c.reasons h t.number.0) (sym order.control)

@@ -8,6 +8,7 @@ use Rattle.zq_base.specs.Ends.{other_end}
 use Rattle.zq_base.specs.declared.ids.EndId.{EndId}
 use Rattle.spec_control.specs.declared.entry.Item.{Item}
 use Rattle.spec_control.specs.Control.{Control, begun, ends_of, id, is_end, place_of}
+use Rattle.spec_control.specs.ControlRun.{after_all}
 use Rattle.spec_control.specs.Names.{name_in, name_of, named_in}
 use Rattle.control_held.specs.Moments.{left_after}
 use Rattle.control_laws.proofs.RootLemmas.{begun_kept}
@@ -36,6 +37,15 @@ names_on xs ys zs grown e n is =
     ∙ name_stays e (flat_map named_in xs) (flat_map named_in ys) n is
 
 module _ {G N S : Type 0} (d : Lent G N S) (o : ℕ) (order : IsOneOrder d) (known : HasSocket d (id o)) where
+  -- the ends of an open socket are those that its caller's moments left
+  pub ends_left : ends_of o (left_after o (moments_of d)) ≡ ends_of o (after_all d.items (begun d.past.workers))
+  ends_left =
+      let all = order.order in
+      let is = is_in d order o known in
+      let w = d.past.workers in
+      let so = left_snoc d.caller o is.more d.items [] (begun w) (begun 0) (begun_kept w) (All-nil (IsOld (begun w))) all.run all.by (λ f. absurd (none_some f)) is.has in
+      so.ends
+
   -- an end of an open socket is where its caller's moments left it
   left_at : (e : EndId) → is_its_end o d e ≡ true → place_of (left_after o (moments_of d)) e ≡ place_of (control_of d.past) e
   left_at e its =

@@ -2,7 +2,7 @@
 use Rattle.std.specs.Prelude.{◌≡◌, ◌++◌, ◌∷◌, [], ℕ, true, false, All, List, flat_map, refl}
 use Rattle.std.proofs.Common.{sym, ap, ◌∙◌, subst}
 use Rattle.std.proofs.lemmas.Grind.{flat_map-append}
-use Rattle.std.proofs.lemmas.List.{append-nil, append_cancel_left}
+use Rattle.std.proofs.lemmas.List.{append-nil}
 use Rattle.std.proofs.lemmas.List.Elements.{All-head, All-tail}
 use Rattle.zq_base.specs.Ends.{other_end}
 use Rattle.zq_base.specs.declared.ids.EndId.{EndId}
@@ -16,15 +16,14 @@ use Rattle.spec_control.specs.Names.{name_in, name_of, named_in}
 use Rattle.control_laws.specs.Kept.{Kept}
 use Rattle.control_laws.proofs.RunLemmas.{after_kept}
 use Rattle.control_held.specs.Moments.{Moment, moments_from}
-use Rattle.ctl_history.specs.Past.{control_of}
 use Rattle.socket_laws.proofs.AwayLemmas.{away_in}
-use Rattle.one_desk.specs.Lent.{moments_of, GrowsBy, IsOneOrder, Lent}
+use Rattle.one_desk.specs.Lent.{GrowsBy, IsOneOrder, Lent}
 use Rattle.desk_laws.specs.Behind.{is_request, SendsNone}
-use Rattle.desk_laws.proofs.LastLemmas.{grown}
 use Rattle.desk_laws.proofs.SendLemmas.{coming_before, item_away, item_names}
 use Rattle.desk_laws.proofs.SocketLemmas.{kept_now}
 use Rattle.core_others.specs.Calls.{AreCallsOn}
 use Rattle.core_others.specs.Laws.{CallsSendNone, SendsNoneAtAll}
+use Rattle.core_others.proofs.GrownLemmas.{calls_are, led_more, run_more}
 
 module _ {N S : Type 0} where
   abbrev IsNone : Moment N S → Type 0
@@ -48,19 +47,11 @@ module _ {N S : Type 0} where
       item_away c x kept (All-head IsNone m (moments_from (after_item x c) xs) none) run.0 e n
       (away_none e n xs (after_item x c) (kept_then c x kept run.0) run.1 (All-tail IsNone m (moments_from (after_item x c) xs) none) is)
 
-  run_rest : (xs ys : List (Item N S)) (c : Control) → IsControlRun c (xs ++ ys) → IsControlRun (after_all xs c) ys
-  run_rest [] ys c run = run
-  run_rest (x ∷ xs) ys c run = run_rest xs ys (after_item x c) run.1
-
-  after_rest : (xs ys : List (Item N S)) (c : Control) → after_all (xs ++ ys) c ≡ after_all ys (after_all xs c)
-  after_rest [] ys c = refl
-  after_rest (x ∷ xs) ys c = after_rest xs ys (after_item x c)
-
 module _ {G N S : Type 0} (old new : Lent G N S) (o : ℕ) (calls : AreCallsOn o old new) (none : All IsNone calls.more) where
   abbrev c : Control
   c = after_all old.items (begun old.past.workers)
 
-  grows : GrowsBy old new
+  abbrev grows : GrowsBy old new
   grows = calls.grows
 
   before : IsOneOrder old
@@ -70,13 +61,10 @@ module _ {G N S : Type 0} (old new : Lent G N S) (o : ℕ) (calls : AreCallsOn o
   behind = calls.behind
 
   quiet : All IsNone (moments_from c grows.more)
-  quiet = subst (λ (l : List (Moment N S)). All IsNone l) (append_cancel_left (moments_of old) calls.more (moments_from c grows.more) (sym calls.moments ∙ grown old new grows)) none
+  quiet = subst (λ (l : List (Moment N S)). All IsNone l) (calls_are old new o calls) none
 
   run : IsControlRun c grows.more
-  run =
-      let order = behind.order in
-      run_rest old.items grows.more (begun old.past.workers)
-      (subst (λ (n : ℕ). IsControlRun (begun n) (old.items ++ grows.more)) grows.workers (subst (λ (l : List (Item N S)). IsControlRun (begun new.past.workers) l) grows.items order.run))
+  run = run_more old new behind grows
 
   names : (e : EndId) → name_of new.items e ≡ name_of old.items e
   names e =
@@ -85,19 +73,13 @@ module _ {G N S : Type 0} (old new : Lent G N S) (o : ℕ) (calls : AreCallsOn o
       ∙ ap (λ (ns : List (PipeName N)). name_in e (flat_map named_in old.items ++ ns)) (names_none grows.more c run quiet)
       ∙ ap (name_in e) (append-nil (flat_map named_in old.items))
 
-  led : control_of new.past ≡ after_all grows.more c
-  led =
-      behind.control ∙ ap (λ (n : ℕ). after_all new.items (begun n)) grows.workers
-      ∙ ap (λ (xs : List (Item N S)). after_all xs (begun old.past.workers)) grows.items
-      ∙ after_rest old.items grows.more (begun old.past.workers)
-
   pub sends_none : SendsNone old new
   sends_none = record {
     names = names;
     distinct = λ exact distinct is d e n of_d of_e. distinct is d e n (sym (names d) ∙ of_d) (sym (names e) ∙ of_e);
     coming = coming_before old new grows (λ e n is.
         subst (λ (d : Control). away_in e n (pair d.rows e.pair.0) ≡ true) (sym before.control)
-        (away_none e n grows.more c (subst Kept before.control (kept_now old before)) run quiet (subst (λ (d : Control). away_in e n (pair d.rows e.pair.0) ≡ true) led is)));
+        (away_none e n grows.more c (subst Kept before.control (kept_now old before)) run quiet (subst (λ (d : Control). away_in e n (pair d.rows e.pair.0) ≡ true) (led_more old new behind grows) is)));
   }
 
 pub calls_send_none : (G N S : Type 0) → CallsSendNone G N S

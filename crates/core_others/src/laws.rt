@@ -1,4 +1,6 @@
 ghost use Rattle.core_others.specs.Laws.{CallsSendNone, ClosedAreApart, ComingJoinStill, HeldPlacesAreApart, OtherPlacesStay, OthersAgree, OthersSayTheSame, OthersStayOwned, OwnedAreApart, SendsNoneAtAll, SettledWereRead};
+ghost use Rattle.core_others.specs.Lines.{ClosesAreOn, LinesAreOn, ObjectsStay, OldEndsCame, SendsNoOther};
+ghost use Rattle.core_others.specs.Rest.{EndingsSendNone, NoneIsSent, OthersAgreeAtClose, OthersAgreeStill, OthersAreKept, SentEndsAreMade, SentGoesOn};
 
 use held_ends::HeldPipes;
 
@@ -55,4 +57,64 @@ pub fn sends_none_at_all<G, N, S>()
 /// Calls that attach no end and settle no pipe leave the ends of others apart.
 pub fn closed_are_apart<P: HeldPipes>(_pipes: &P)
     ensures { ClosedAreApart P.known }
+{}
+
+/// The acts of a lent socket's line are of that socket.
+pub fn lines_are_on<P: HeldPipes, W, T>(_pipes: &P)
+    ensures { LinesAreOn W T P.known }
+{}
+
+/// And so are those of its close.
+pub fn closes_are_on<P: HeldPipes, W, T>(_pipes: &P)
+    ensures { ClosesAreOn W T P.known }
+{}
+
+/// An end on its way whose pair was there before calls of a socket was on its way before them.
+pub fn old_ends_came<G, N, S>()
+    ensures { OldEndsCame G N S }
+{}
+
+/// Calls that made no pair with an open socket sent it nothing.
+pub fn sends_no_other<G, N, S>()
+    ensures { SendsNoOther G N S }
+{}
+
+/// Each object that was made is there still.
+pub fn objects_are_there<G, N, S>()
+    ensures { ObjectsStay G N S }
+{}
+
+/// Both pipes of each end that an open socket's calls put on its way were made in them.
+pub fn sent_ends_are_made<P: HeldPipes, W, T>(_pipes: &P)
+    ensures { SentEndsAreMade W T P.known }
+{}
+
+/// Each other socket that its caller has open agrees still, behind calls of one that left it open.
+pub fn others_agree_still<P: HeldPipes, W, T>(_pipes: &P)
+    ensures { OthersAgreeStill W T P.known }
+{}
+
+/// And behind its close.
+pub fn others_agree_at_close<P: HeldPipes, W, T>(_pipes: &P)
+    ensures { OthersAgreeAtClose W T P.known }
+{}
+
+/// Whatever the calls of a socket were, its actor's others are kept.
+pub fn others_are_kept<P: HeldPipes, W, T>(_pipes: &P)
+    ensures { OthersAreKept W T P.known }
+{}
+
+/// What an open socket's calls put on its way was made in them, one stretch behind another.
+pub fn sent_goes_on<P: HeldPipes, G, S>(_pipes: &P)
+    ensures { SentGoesOn P.known G S }
+{}
+
+/// Where no end was put on its way, none of a pair made since was.
+pub fn none_is_sent<G, N, S>()
+    ensures { NoneIsSent G N S }
+{}
+
+/// A request that ends what a socket bound or connected, or the socket, puts no end on its way.
+pub fn endings_send_none<G, N, S>()
+    ensures { EndingsSendNone G N S }
 {}

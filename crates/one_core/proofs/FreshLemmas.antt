@@ -71,15 +71,15 @@ fresh_of number kind options k s new without = record {
 }
 
 module _ {W N O I : Type 0} (number : ℕ) (kind : Kind) (options : Options) (s : SockCore AnySock W N O I) (fresh : IsFresh number kind options s) where
-  no_place : (k : ℕ) (p : Place N I) → place_at s.ends.places.items k ≡ Some p → ⊥
+  pub no_place : (k : ℕ) (p : Place N I) → place_at s.ends.places.items k ≡ Some p → ⊥
   no_place k p at = none_some (ap (λ (ps : List (Place N I)). place_at ps k) (sym fresh.is_new.no_ends) ∙ at)
 
-  pattern_is : pattern_told s ≡ new_pattern kind options
+  pub pattern_is : pattern_told s ≡ new_pattern kind options
   pattern_is =
       ap (over (end_at s.ends.places.items)) (caught_is (end_at s.ends.places.items) s.kind fresh.without.left_is)
       ∙ fresh.without.state_is (end_at s.ends.places.items) ∙ new_is kind options
 
-  no_end : ends_told (standing_joins s.joins.items) s.ends.places.items ≡ []
+  pub no_end : ends_told (standing_joins s.joins.items) s.ends.places.items ≡ []
   no_end = ap (λ js. ends_told (standing_joins js) s.ends.places.items) fresh.is_new.no_joins
 
   pub fresh_view : (slot : ℕ) → open_view slot (Some s) ≡ open_at slot number kind options

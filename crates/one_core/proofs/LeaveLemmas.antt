@@ -21,6 +21,7 @@ use Rattle.spec_control.specs.Row.{RootAsked}
 use Rattle.control_laws.proofs.RootLemmas.{begun_kept}
 use Rattle.control_laws.proofs.RunLemmas.{run_kept}
 use Rattle.control_moves.specs.Move.{LinkMoves}
+use Rattle.control_moves.proofs.SoundLemmas.{socket_there}
 use Rattle.socket_laws.proofs.RowLemmas.{event_count}
 use Rattle.spec_control.specs.Place.{is_away}
 use Rattle.spec_control.specs.Rows.{PairRow, end_owner, end_place, pair}
@@ -38,7 +39,10 @@ use Rattle.core_stands.proofs.AsideLemmas.{known_more, made_next, names_more, st
 use Rattle.one_desk.specs.Lent.{Lent, moments_of, Asks, IsOneOrder, KeepsAside, Sees}
 use Rattle.one_desk.proofs.MakeLemmas.{unless_none}
 use Rattle.one_desk.proofs.OrderLemmas.{other_same, own_more}
-use Rattle.one_core.specs.Leaving.{moments_at, LeavesSockets}
+use Rattle.desk_laws.proofs.SocketLemmas.{is_in}
+use Rattle.core_others.specs.Calls.{for_caller}
+use Rattle.core_others.proofs.SilentLemmas.{one_order_of}
+use Rattle.one_core.specs.Leaving.{moments_at, HasOpenAt, LeavesSockets}
 use Rattle.one_core.specs.Sound.{Core}
 use Rattle.one_core.proofs.NextLemmas.{last_fits, next_ask, next_look}
 
@@ -90,6 +94,13 @@ module _ {G N T : Type 0} (k : ℕ) (old lent new : Lent G N T) (item : Item N T
   was_control : control_of old.past ≡ c
   was_control = was.control ∙ ap (λ (n : ℕ). after_all old.items (begun n)) one
 
+  -- who has a socket open has one that was made
+  made : (o : ℕ) → HasOpenAt k old o → o < next_object c
+  made o known =
+      let open_so = subst (λ (n : ℕ). (known_after o (items_in (moments_by k (moments_from (begun n) old.items)))).open_socket ≡ true) (sym one) known in
+      subst (λ (x : Control). o < next_object x) was_control
+      (socket_there (control_of old.past).rows o (is_in (for_caller k old) (one_order_of k old was) o open_so).open_now.socket)
+
   is_control : control_of new.past ≡ after_item item c
   is_control = is.control ∙ ap (λ (n : ℕ). after_all new.items (begun n)) workers ∙ ap (λ (xs : List (Item N T)). after_all xs (begun 1)) items ∙ state_more old.items item (begun 1)
 
@@ -98,11 +109,14 @@ module _ {G N T : Type 0} (k : ℕ) (old lent new : Lent G N T) (item : Item N T
 
   pub leaves : LeavesSockets k old new
   leaves = record {
+    was_one = one;
+    one = workers;
     others = λ j other. ap (λ (xs : List (Item N T)). moments_by j (moments_from (begun 1) xs)) items ∙ other_same j 1 old.items item (λ same. other (sym by ∙ same));
-    knows = λ o there. ap (known_after o) items_own ∙ known_more o _ (items_in (moments_at k old)) (item ∷ []) ∙ silent.knows o there (known_after o (items_in (moments_at k old)));
-    left = λ o there. ap (left_after o) own ∙ left_more o (begun 0) (moments_at k old) m (silent.of o there c);
+    knows = λ o known. ap (known_after o) items_own ∙ known_more o _ (items_in (moments_at k old)) (item ∷ []) ∙ silent.knows o (made o known) (known_after o (items_in (moments_at k old)));
+    left = λ o known. ap (left_after o) own ∙ left_more o (begun 0) (moments_at k old) m (silent.of o (made o known) c);
     has = has_still;
     names = ap name_of items ∙ names;
+    places = λ e. ap (λ (ps : List PairRow). end_place (pair (record { objects = []; pairs = ps }) e.pair.0) e.a) same_pairs;
     coming = λ slot e. ap (λ (ps : List PairRow). coming_by ps new.past.workers slot e) same_pairs ∙ ap (λ (n : ℕ). coming_by (control_of old.past).rows.pairs n slot e) (workers ∙ sym one);
     numbers = λ o lt. subst (λ (xs : List (Item N T)). o < next_object (after_all xs (begun 1))) (sym items)
         (subst (λ (x : Control). o < next_object x) (sym (state_more old.items item (begun 1))) (omega (arith, objects, lt)));

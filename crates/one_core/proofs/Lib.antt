@@ -1,5 +1,9 @@
 mod FreshLemmas
+mod KeepLemmas
 mod LeaveLemmas
+mod LendLemmas
+mod MakeLemmas
+mod MadeLemmas
 mod NextLemmas
 mod SmallLemmas
 mod SoundLemmas

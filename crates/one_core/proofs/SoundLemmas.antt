@@ -1,5 +1,5 @@
 -- A core goes on over an item that leaves pipes aside.
-use Rattle.std.specs.Prelude.{◌≡◌, ◌≤◌, ◌++◌, ℕ, false, List, [], ◌∷◌, length, refl}
+use Rattle.std.specs.Prelude.{◌≡◌, ◌≤◌, ◌++◌, ℕ, false, List, [], ◌∷◌, Option, length, refl}
 use Rattle.std.proofs.Common.{arith, sym, ap, ◌∙◌, subst}
 use Rattle.zq_base.specs.Ends.{PipeId}
 use Rattle.msg_pipe.specs.Known.{Known}
@@ -13,6 +13,7 @@ use Rattle.spec_control.specs.declared.request.Req.{Req}
 use Rattle.spec_control.specs.declared.request.Reply.{Reply}
 use Rattle.spec_control.specs.Control.{Control, begun}
 use Rattle.spec_control.specs.ControlRun.{after_all, after_item, Fits, FitsItem, IsControlRun}
+use Rattle.spec_control.specs.Names.{name_of}
 use Rattle.control_held.specs.Moments.{Moment, moments_from}
 use Rattle.spec_run.specs.Act.{Act, Said}
 use Rattle.spec_run.specs.Event.{acts_said}
@@ -25,13 +26,15 @@ use Rattle.core_tale.specs.declared.marks.PieceMark.{PieceMark}
 use Rattle.core_tale.specs.Marks.{all_told, pieces_told, TalesGoOn}
 use Rattle.core_stands.specs.Standing.{CoreStands, CoresAreOrderly}
 use Rattle.core_stands.specs.Aside.{next_moment, IsAside, AsidesGoOn, LooksAreAsides}
-use Rattle.core_stands.proofs.AsideLemmas.{moments_more, said_alone}
+use Rattle.core_stands.proofs.AsideLemmas.{moments_more, names_more, said_alone, state_more}
+use Rattle.open_laws.specs.Bounds.{TellIdentities, TellsIdentity}
 use Rattle.one_desk.specs.Lent.{Lent, Asks, IsOneOrder, KeepsAside, Sees}
 use Rattle.one_core.specs.Telling.{item_marks}
-use Rattle.one_core.specs.Sound.{Core, pieces_in, HasClosed, IsCore, Requests}
+use Rattle.one_core.specs.Sound.{Core, pieces_in, HasClosed, IsAsked, IsCore, Requests}
 use Rattle.std.specs.Prelude.{◌==◌, Bool, true, false, refl}
 use Rattle.std.proofs.Common.{true≢false}
 use Rattle.std.proofs.lemmas.Bool.{eq-eqb, eqb-true}
+use Rattle.ctl_holder.specs.TakingOver.{AreDistinct}
 use Rattle.ctl_plane.specs.Desk.{HasWhatTheySay}
 use Rattle.zq_world.specs.CoreCalls.{IsOnlyReaper}
 use Rattle.reaper_ends.specs.declared.sockets.ClosedSockets.{ClosedSockets}
@@ -45,6 +48,12 @@ use Rattle.one_core.proofs.SmallLemmas.{small_pipes}
 first_only : {N T : Type 0} (j : ℕ) (xs ys : List (Piece N T)) → IsOnlyReaper j (xs ++ ys) → IsOnlyReaper j xs
 first_only j [] ys only = tt
 first_only j (x ∷ xs) ys only = (only.0, first_only j xs ys only.1)
+
+-- an item more tells an identity that a peer may say, if any
+tells_more : {N T : Type 0} (items : List (Item N T)) (item : Item N T) → TellIdentities items → TellIdentities (item ∷ []) → TellIdentities (items ++ item ∷ [])
+tells_more [] item tells one = one
+tells_more (Event entry ∷ items) item tells one = (tells.0, tells_more items item tells.1 one)
+tells_more (Seen sight ∷ items) item tells one = tells_more items item tells one
 
 -- what was told, and stands, with items in order
 record GoesOn {S O I N T : Type 0} (K : Known S O I N) (pipes : S) (pieces : List (Piece N T)) (marks : List PieceMark) (items : List (Item N T)) : Type 0 where
@@ -93,8 +102,14 @@ module _ {S O I G N T : Type 0} (K : Known S O I N) (asides : AsidesGoOn K T) (t
         subst (λ (ms : List PieceMark). GoesOn K v.pipes pieces ms d.items) (sym told)
         (subst (λ (is : List (Item N T)). GoesOn K v.pipes pieces (v.marks ++ item_marks k) is) (sym order) goes_on)
 
-    pub core_goes_on : IsCore K (record { desk = d; pipes = v.pipes; marks = marks })
-    core_goes_on = record { one = one; all = there.all; stands = there.stands }
+    pub core_goes_on : TellIdentities (item ∷ []) → IsCore K (record { desk = d; pipes = v.pipes; marks = marks })
+    core_goes_on tells = record {
+      one = one;
+      all = there.all;
+      stands = there.stands;
+      distinct = subst (λ (f : PipeId → Option N). AreDistinct K.exact f) (sym (ap name_of order ∙ names_more v.desk.items item left_aside.names)) is.distinct;
+      identities = subst TellIdentities (sym order) (tells_more v.desk.items item is.identities tells);
+    }
 
     module _ (closed : ClosedSockets N O I) (were : HasClosed K v closed) (leaves : LeavesSockets k v.desk d) where
       reaps_still : (j : ℕ) → IsOnlyReaper j (pieces_told marks (moments_from (begun 1) d.items)) → HasWhatTheySay j (moments_at j d) (holding_in K.out_name K.in_name closed)
@@ -132,7 +147,7 @@ module _ {S O I G N T : Type 0} (K : Known S O I N) (asides : AsidesGoOn K T) (t
     aside fits = looks v.desk.items sight
 
     pub look_core : IsCore K (record { desk = d; pipes = v.pipes; marks = marks })
-    look_core = core_goes_on K asides tales v (Seen sight) by is at.run aside d marks at.one at.order told
+    look_core = core_goes_on K asides tales v (Seen sight) by is at.run aside d marks at.one at.order told tt
 
     pub look_closed : (closed : ClosedSockets N O I) → HasClosed K v closed → HasClosed K (record { desk = d; pipes = v.pipes; marks = marks }) closed
     look_closed closed were = closed_goes_on K asides tales v (Seen sight) by is at.run aside d marks at.one at.order told closed were (look_leaves v lent d by is.one is_lent was order keeps looks sight sees)
@@ -156,16 +171,25 @@ module _ {S O I G N T : Type 0} (K : Known S O I N) (asides : AsidesGoOn K T) (t
     at_ask : Next v d asked
     at_ask = next_ask v lent d by is.one is_lent order req reply asks
 
-    pub ask_core : IsCore K (record { desk = d; pipes = v.pipes; marks = marks })
-    ask_core = core_goes_on K asides tales v asked by is at_ask.run aside_of d marks at_ask.one at_ask.order told
+    pub ask_core : TellsIdentity req → IsCore K (record { desk = d; pipes = v.pipes; marks = marks })
+    ask_core tells = core_goes_on K asides tales v asked by is at_ask.run aside_of d marks at_ask.one at_ask.order told (tells, tt)
 
     pub ask_closed : LeavesSockets by v.desk d → (closed : ClosedSockets N O I) → HasClosed K v closed → HasClosed K (record { desk = d; pipes = v.pipes; marks = marks }) closed
     ask_closed leaves closed were = closed_goes_on K asides tales v asked by is at_ask.run aside_of d marks at_ask.one at_ask.order told closed were leaves
 
-    pub ask_once : Requests by req reply (pieces_in v) (pieces_told marks (moments_from (begun 1) d.items))
+    pub ask_asked : IsAsked by req reply v.desk d
+    ask_asked = record {
+      answered = asks.answered;
+      items = at_ask.order ∙ ap (λ (k : ℕ). let item : Item N T = Event (record { by = k; did = DidAsk req reply asks.answered }) in v.desk.items ++ item ∷ []) (ap (λ (l : Lent G N T). l.caller) is_lent);
+      order = order;
+      one = at_ask.one;
+    }
+
+    pub ask_once : Requests by req reply d.items (pieces_in v) (pieces_told marks (moments_from (begun 1) d.items))
     ask_once = record {
       asked = next_moment v.desk.items asked;
       request = record { by = lent.caller; answered = asks.answered; item_is = refl };
+      left = sym (ap (λ (xs : List (Item N T)). after_all xs (begun 1)) at_ask.order ∙ state_more v.desk.items asked (begun 1));
       adds = record {
         added = pieces_more K asides tales v asked by is at_ask.run aside_of d marks at_ask.one at_ask.order told;
         by = subst (λ (acts : List (Act N T)). AreActsBy by acts) (sym (one_said K asides tales v asked by is at_ask.run aside_of d marks at_ask.one at_ask.order told)) (ap (λ (l : Lent G N T). l.caller) is_lent, tt);
@@ -188,4 +212,4 @@ pub lent_core : {S O I G N T : Type 0} (K : Known S O I N) (v : Core S G N T) (c
     IsCore K (record { desk = d; pipes = v.pipes; marks = v.marks }) × HasClosed K (record { desk = d; pipes = v.pipes; marks = v.marks }) closed
 lent_core {G = G} {N = N} {T = T} K v closed d k lent is has =
     subst (λ (l : Lent G N T). IsCore K (record { desk = l; pipes = v.pipes; marks = v.marks }) × HasClosed K (record { desk = l; pipes = v.pipes; marks = v.marks }) closed) (sym lent)
-    (record { one = is.one; all = is.all; stands = is.stands }, record { reaper = has.reaper; sound = has.sound; indexed = has.indexed })
+    (record { one = is.one; all = is.all; stands = is.stands; distinct = is.distinct; identities = is.identities }, record { reaper = has.reaper; sound = has.sound; indexed = has.indexed })

@@ -1,7 +1,8 @@
 ghost use Rattle.std.specs.Prelude.{◌≡◌, IfOk, OnOk, OnErr};
 ghost use Rattle.spec_control.specs.declared.request.Req.TheVariants.{AskTerm};
-ghost use Rattle.script_actor.specs.Way.{AsksToEnd};
+ghost use Rattle.script_actor.specs.Way.{AsksToEnd, KeepsAll};
 ghost use Rattle.zq_world.specs.CoreCalls.{AsksOnce};
+ghost use Rattle.one_core.specs.Agreeing.{was_made, IsAgreed};
 ghost use Rattle.one_core.specs.Leaving.{LeavesSockets};
 ghost use Rattle.one_core.specs.Sound.{pieces_in, IsLentOn, Requests};
 
@@ -23,7 +24,8 @@ where
     // The context is asked to end, and replies.
     fn ask(&mut self, alloc: Global, caller: usize) -> Result<Reply, AllocError>
         ensures ok { IfOk result (λ reply.
-            Requests caller AskTerm reply (pieces_in self.old) (pieces_in self.new)) }
+            Requests caller AskTerm reply self.new.desk.items
+            (pieces_in self.old) (pieces_in self.new)) }
         ensures err { OnErr result (IsLentOn self.old self.new) }
         ensures pipes { self.new.pipes ≡ self.old.pipes }
         ensures keeps { IfOk result (λ _. LeavesSockets caller self.old.desk self.new.desk) }
@@ -50,7 +52,7 @@ where
             AsksToEnd caller answer (pieces_in self.old) (pieces_in self.new)) }
         ensures err { OnErr result (IsLentOn self.old self.new) }
         ensures pipes { self.new.pipes ≡ self.old.pipes }
-        ensures keeps { IfOk result (λ _. LeavesSockets caller self.old.desk self.new.desk) }
+        ensures keeps { KeepsAll (IsAgreed P.Waker P.known) was_made self.old self.new }
     {
         let reply = self.ask(alloc, caller)?;
         Ok(reply_answer(reply))
@@ -62,7 +64,7 @@ where
             (AsksOnce caller (pieces_in self.old) (pieces_in self.new)) }
         ensures err { OnErr result (IsLentOn self.old self.new) }
         ensures pipes { self.new.pipes ≡ self.old.pipes }
-        ensures keeps { OnOk result (LeavesSockets caller self.old.desk self.new.desk) }
+        ensures keeps { KeepsAll (IsAgreed P.Waker P.known) was_made self.old self.new }
     {
         self.ask(alloc, caller)?;
         Ok(())

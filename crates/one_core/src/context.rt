@@ -56,6 +56,7 @@ where
             pipes,
             closed,
             waker,
+            did: _,
             since: _,
         } = Closed::new(alloc, pipes, reaper);
         Ok(OneCore {

@@ -1,11 +1,15 @@
 ghost use Rattle.std.specs.Prelude.{◌≡◌, ℕ, Some};
 ghost use Rattle.sock_open.specs.Standing.{IsStanding};
 ghost use Rattle.sock_open.specs.View.{open_view};
+ghost use Rattle.script_actor.specs.Way.{made_reply};
 ghost use Rattle.one_core.specs.Fresh.{open_at, IsFresh};
+ghost use Rattle.one_core.specs.Making.{IsFreshMade, MakesOrRefuses};
 
 use any_sock::AnySock;
 use held_ends::HeldPipes;
+use script_actor::Made;
 use sock_core::{SockCore, SockHolder};
+use spec_control::Reply;
 use std::alloc::Global;
 use zq_base::{Kind, ObjId, Options};
 
@@ -35,4 +39,30 @@ where
         since: _,
     } = holder;
     core
+}
+
+/// What is made where the request for a socket had this reply.
+pub(crate) fn made_of<P>(
+    alloc: Global,
+    kind: Kind,
+    options: &Options,
+    reply: Reply,
+    waker: P::Waker,
+) -> Made<SockCore<AnySock, P::Waker, P::Name, P::Out, P::In>>
+where
+    P: HeldPipes + Drop,
+    P::Name: Drop,
+    P::Waker: Drop,
+    requires reply { MakesOrRefuses reply }
+    ensures reply { made_reply result ≡ reply }
+    ensures fresh { IsFreshMade P.known kind options.now result }
+{
+    match reply {
+        Reply::Object(object) => {
+            let socket = fresh_socket::<P>(alloc, kind, options, object, waker);
+            return Made::Socket(object, socket);
+        }
+        Reply::Refused(refusal) => return Made::Refused(refusal),
+        _ => unreachable!(),
+    }
 }

@@ -6,8 +6,10 @@ mod answers;
 mod asking;
 mod context;
 mod fresh;
+mod laws;
 mod looking;
 mod making;
 mod telling;
 
 pub use context::OneCore;
+pub use laws::sockets_can_be_lent;

@@ -1,7 +1,8 @@
 ghost use Rattle.std.specs.Prelude.{◌≡◌, IfOk, OnErr};
 ghost use Rattle.zq_world.specs.CoreCalls.{LooksOnce};
 ghost use Rattle.zq_world.specs.Played.{IsOrderly};
-ghost use Rattle.one_core.specs.Leaving.{LeavesSockets};
+ghost use Rattle.script_actor.specs.Way.{KeepsAll};
+ghost use Rattle.one_core.specs.Agreeing.{was_made, IsAgreed};
 ghost use Rattle.one_core.specs.Sound.{pieces_in};
 
 use crate::answers::number_of;
@@ -24,7 +25,7 @@ where
             LooksOnce caller root (pieces_in self.old) (pieces_in self.new)) }
         ensures err { OnErr result (self.new ≡ self.old) }
         ensures pipes { self.new.pipes ≡ self.old.pipes }
-        ensures keeps { IfOk result (λ _. LeavesSockets caller self.old.desk self.new.desk) }
+        ensures keeps { KeepsAll (IsAgreed P.Waker P.known) was_made self.old self.new }
     {
         let by = number_of(caller)?;
         asides_go_on::<P, P::Story>(&self.pipes);

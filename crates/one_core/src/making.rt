@@ -1,16 +1,22 @@
 ghost use Rattle.std.specs.Prelude.{◌≡◌, IfOk, OnErr};
 ghost use Rattle.spec_control.specs.declared.request.Req.TheVariants.{Socket as MakeSocket};
-ghost use Rattle.ctl_plane.specs.Asking.{MayHave};
+ghost use Rattle.script_actor.specs.MayAsk.{MayMake};
+ghost use Rattle.script_actor.specs.Way.{IsNew, KeepsAll, MakesOne};
+ghost use Rattle.one_core.specs.Agreeing.{as_open, was_made, IsAgreed};
 ghost use Rattle.one_core.specs.Leaving.{LeavesSockets};
-ghost use Rattle.one_core.specs.Sound.{pieces_in, IsLentOn, Requests};
+ghost use Rattle.one_core.specs.Sound.{pieces_in, IsAsked, IsLentOn, Requests};
 
 use crate::answers::number_of;
 use crate::context::OneCore;
+use crate::fresh::made_of;
 use crate::telling::OneItem;
+use any_sock::AnySock;
 use core_stands::{asides_go_on, makings_are_asides};
 use core_tale::tales_go_on;
 use held_ends::HeldPipes;
 use reaper_ends::Closed;
+use script_actor::Made;
+use sock_core::SockCore;
 use spec_control::Reply;
 use std::alloc::{AllocError, Global};
 use zq_base::{Kind, Options};
@@ -21,23 +27,25 @@ where
     P::Name: Drop,
     P::Waker: Drop,
 {
-    /// Asks for a socket (zmq_socket(3)), which is woken as the reaper is: on one thread nobody waits.
-    pub fn ask_socket(
+    // Asks for a socket.
+    fn ask_socket(
         &mut self,
         alloc: Global,
         caller: usize,
         kind: Kind,
         options: Options,
     ) -> Result<Reply, AllocError>
-        requires options { MayHave options }
+        requires may { MayMake options }
         ensures ok { IfOk result (λ reply. Requests caller (MakeSocket kind options) reply
-            (pieces_in self.old) (pieces_in self.new)) }
+            self.new.desk.items (pieces_in self.old) (pieces_in self.new)) }
+        ensures asks { IfOk result (λ reply.
+            IsAsked caller (MakeSocket kind options) reply self.old.desk self.new.desk) }
         ensures err { OnErr result (IsLentOn self.old self.new) }
         ensures pipes { self.new.pipes ≡ self.old.pipes }
         ensures keeps { IfOk result (λ _. LeavesSockets caller self.old.desk self.new.desk) }
     {
         let by = number_of(caller)?;
-        let holder = Closed::new(alloc, P::none(alloc), P::same_waker(&self.waker));
+        let holder = Closed::new(alloc, P::none(alloc), self.waker());
         asides_go_on::<P, P::Story>(&self.pipes);
         makings_are_asides::<P::Name, P::Story>();
         tales_go_on::<P::Name, P::Story>();
@@ -51,5 +59,31 @@ where
             }
             Err(want) => return Err(want),
         }
+    }
+
+    // What wakes a socket: on one thread nobody waits, and it is woken as the reaper is.
+    fn waker(&self) -> P::Waker {
+        P::same_waker(&self.waker)
+    }
+
+    /// Makes a socket (zmq_socket(3)).
+    pub fn make(
+        &mut self,
+        alloc: Global,
+        caller: usize,
+        kind: Kind,
+        options: &Options,
+    ) -> Result<Made<SockCore<AnySock, P::Waker, P::Name, P::Out, P::In>>, AllocError>
+        requires may { MayMake options.now }
+        ensures ok { IfOk result (λ made. MakesOne as_open caller kind options.now made
+            (pieces_in self.old) (pieces_in self.new)) }
+        ensures is_new { IfOk result (λ made. IsNew as_open (IsAgreed P.Waker P.known) was_made
+            caller made self.old self.new) }
+        ensures keeps { KeepsAll (IsAgreed P.Waker P.known) was_made self.old self.new }
+        ensures pipes { self.new.pipes ≡ self.old.pipes }
+    {
+        let copied = options.copy(alloc)?;
+        let reply = self.ask_socket(alloc, caller, kind, copied)?;
+        Ok(made_of::<P>(alloc, kind, options, reply, self.waker()))
     }
 }

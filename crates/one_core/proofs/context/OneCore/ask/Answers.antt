@@ -15,7 +15,7 @@ invariant_of-self g c = (
   lemmas.ask_core g.P.Pipes.known c.asides_go_on.ensures c.tales_go_on.ensures (record { desk = c.self.inside.desk; pipes = c.self.inside.pipes; marks = c.self.inside.tale.items }) c.lend.new.self c.ask_term.new.self c.args.caller
       c.self.invariant.0 (c.lend.ensures ∙ ap (λ (n : ℕ). let l : Lent (Given g.row.P-Name.Denot g.row.P-Out.Denot g.row.P-In.Denot) g.row.P-Name.Denot g.row.P-Story.Denot = record c.self.inside.desk { caller = n } in l) c.in_ok-by.ensures) c.is_of_one_order-in-Ok.ensures c.is_of_one_order.ensures c.in-Ok.ensures.keeps c.and-self-inside.result.items
       (c.and-self-inside.ensures.behind ∙ ap (λ (ms : List PieceMark). c.self.inside.tale.items ++ ms) c.and-self-inside.ensures.so)
-      AskTerm c.in-Ok.reply c.in-Ok.ensures.ok (λ fits. c.root_asks_are_asides.ensures c.self.inside.desk.items c.lend.new.self.caller c.in-Ok.reply c.in-Ok.ensures.ok.answered fits),
+      AskTerm c.in-Ok.reply c.in-Ok.ensures.ok (λ fits. c.root_asks_are_asides.ensures c.self.inside.desk.items c.lend.new.self.caller c.in-Ok.reply c.in-Ok.ensures.ok.answered fits) tt,
   lemmas.ask_closed g.P.Pipes.known c.asides_go_on.ensures c.tales_go_on.ensures (record { desk = c.self.inside.desk; pipes = c.self.inside.pipes; marks = c.self.inside.tale.items }) c.lend.new.self c.ask_term.new.self c.args.caller
       c.self.invariant.0 (c.lend.ensures ∙ ap (λ (n : ℕ). let l : Lent (Given g.row.P-Name.Denot g.row.P-Out.Denot g.row.P-In.Denot) g.row.P-Name.Denot g.row.P-Story.Denot = record c.self.inside.desk { caller = n } in l) c.in_ok-by.ensures) c.is_of_one_order-in-Ok.ensures c.is_of_one_order.ensures c.in-Ok.ensures.keeps c.and-self-inside.result.items
       (c.and-self-inside.ensures.behind ∙ ap (λ (ms : List PieceMark). c.self.inside.tale.items ++ ms) c.and-self-inside.ensures.so)
@@ -30,7 +30,7 @@ returns-in-Ok-clause-ok g c =
     c.self.invariant.0 (c.lend.ensures ∙ ap (λ (n : ℕ). let l : Lent (Given g.row.P-Name.Denot g.row.P-Out.Denot g.row.P-In.Denot) g.row.P-Name.Denot g.row.P-Story.Denot = record c.self.inside.desk { caller = n } in l) c.in_ok-by.ensures) c.is_of_one_order-in-Ok.ensures c.is_of_one_order.ensures c.in-Ok.ensures.keeps c.and-self-inside.result.items
     (c.and-self-inside.ensures.behind ∙ ap (λ (ms : List PieceMark). c.self.inside.tale.items ++ ms) c.and-self-inside.ensures.so)
     AskTerm c.in-Ok.reply c.in-Ok.ensures.ok (λ fits. c.root_asks_are_asides.ensures c.self.inside.desk.items c.lend.new.self.caller c.in-Ok.reply c.in-Ok.ensures.ok.answered fits) in
-    subst (λ (w : Core g.row.P.Denot (Given g.row.P-Name.Denot g.row.P-Out.Denot g.row.P-In.Denot) g.row.P-Name.Denot g.row.P-Story.Denot). Requests c.args.caller AskTerm c.in-Ok.reply (pieces_in w)
+    subst (λ (w : Core g.row.P.Denot (Given g.row.P-Name.Denot g.row.P-Out.Denot g.row.P-In.Denot) g.row.P-Name.Denot g.row.P-Story.Denot). Requests c.args.caller AskTerm c.in-Ok.reply c.ask_term.new.self.items (pieces_in w)
     (pieces_in (record { desk = c.ask_term.new.self; pipes = c.self.inside.pipes; marks = c.and-self-inside.result.items }))) c.self.view_is once
 
 pub returns-in-Ok-clause-keeps : goal.returns-in-Ok-clause-keeps

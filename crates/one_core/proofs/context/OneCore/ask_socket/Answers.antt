@@ -4,9 +4,10 @@ use Rattle.ctl_holder.specs.declared.given.Given.{Given}
 use Rattle.spec_control.specs.declared.request.Req.TheVariants.{Socket as MakeSocket}
 use Rattle.one_desk.specs.Lent.{Lent}
 use Rattle.core_tale.specs.declared.marks.PieceMark.{PieceMark}
-use Rattle.one_core.specs.Sound.{Core, pieces_in, IsLentOn, Requests}
+use Rattle.one_core.specs.Sound.{Core, pieces_in, IsAsked, IsLentOn, Requests}
 use Rattle.one_core.specs.Leaving.{LeavesSockets}
 use Rattle.one_core.proofs.LeaveLemmas.{make_leaves}
+use Rattle.one_core.proofs.MakeLemmas.{may_have, tells_own}
 use Rattle.one_core.proofs.SoundLemmas as lemmas
 use Rattle.one_core.proofs.context.OneCore.ask_socket.Goals as goal
 
@@ -15,7 +16,8 @@ invariant_of-self g c = (
   lemmas.ask_core g.P.Pipes.known c.asides_go_on.ensures c.tales_go_on.ensures (record { desk = c.self.inside.desk; pipes = c.self.inside.pipes; marks = c.self.inside.tale.items }) c.lend.new.self c.make_socket.new.self c.args.caller
       c.self.invariant.0 (c.lend.ensures ∙ ap (λ (n : ℕ). let l : Lent (Given g.row.P-Name.Denot g.row.P-Out.Denot g.row.P-In.Denot) g.row.P-Name.Denot g.row.P-Story.Denot = record c.self.inside.desk { caller = n } in l) c.in_ok-by.ensures) c.is_of_one_order-in-Ok.ensures c.is_of_one_order.ensures c.in-Ok.ensures.keeps c.and-self-inside.result.items
       (c.and-self-inside.ensures.behind ∙ ap (λ (ms : List PieceMark). c.self.inside.tale.items ++ ms) c.and-self-inside.ensures.so)
-      (MakeSocket c.args.kind c.args.options) c.in-Ok.reply c.in-Ok.ensures.ok (λ fits. c.makings_are_asides.ensures c.self.inside.desk.items c.lend.new.self.caller c.args.kind c.args.options c.in-Ok.reply c.in-Ok.ensures.ok.answered fits),
+      (MakeSocket c.args.kind c.args.options) c.in-Ok.reply c.in-Ok.ensures.ok (λ fits. c.makings_are_asides.ensures c.self.inside.desk.items c.lend.new.self.caller c.args.kind c.args.options c.in-Ok.reply c.in-Ok.ensures.ok.answered fits)
+      (tells_own c.args.options.id c.requires.may.identity),
   lemmas.ask_closed g.P.Pipes.known c.asides_go_on.ensures c.tales_go_on.ensures (record { desk = c.self.inside.desk; pipes = c.self.inside.pipes; marks = c.self.inside.tale.items }) c.lend.new.self c.make_socket.new.self c.args.caller
       c.self.invariant.0 (c.lend.ensures ∙ ap (λ (n : ℕ). let l : Lent (Given g.row.P-Name.Denot g.row.P-Out.Denot g.row.P-In.Denot) g.row.P-Name.Denot g.row.P-Story.Denot = record c.self.inside.desk { caller = n } in l) c.in_ok-by.ensures) c.is_of_one_order-in-Ok.ensures c.is_of_one_order.ensures c.in-Ok.ensures.keeps c.and-self-inside.result.items
       (c.and-self-inside.ensures.behind ∙ ap (λ (ms : List PieceMark). c.self.inside.tale.items ++ ms) c.and-self-inside.ensures.so)
@@ -30,8 +32,16 @@ returns-in-Ok-clause-ok g c =
     c.self.invariant.0 (c.lend.ensures ∙ ap (λ (n : ℕ). let l : Lent (Given g.row.P-Name.Denot g.row.P-Out.Denot g.row.P-In.Denot) g.row.P-Name.Denot g.row.P-Story.Denot = record c.self.inside.desk { caller = n } in l) c.in_ok-by.ensures) c.is_of_one_order-in-Ok.ensures c.is_of_one_order.ensures c.in-Ok.ensures.keeps c.and-self-inside.result.items
     (c.and-self-inside.ensures.behind ∙ ap (λ (ms : List PieceMark). c.self.inside.tale.items ++ ms) c.and-self-inside.ensures.so)
     (MakeSocket c.args.kind c.args.options) c.in-Ok.reply c.in-Ok.ensures.ok (λ fits. c.makings_are_asides.ensures c.self.inside.desk.items c.lend.new.self.caller c.args.kind c.args.options c.in-Ok.reply c.in-Ok.ensures.ok.answered fits) in
-    subst (λ (w : Core g.row.P.Denot (Given g.row.P-Name.Denot g.row.P-Out.Denot g.row.P-In.Denot) g.row.P-Name.Denot g.row.P-Story.Denot). Requests c.args.caller (MakeSocket c.args.kind c.args.options) c.in-Ok.reply (pieces_in w)
+    subst (λ (w : Core g.row.P.Denot (Given g.row.P-Name.Denot g.row.P-Out.Denot g.row.P-In.Denot) g.row.P-Name.Denot g.row.P-Story.Denot). Requests c.args.caller (MakeSocket c.args.kind c.args.options) c.in-Ok.reply c.make_socket.new.self.items (pieces_in w)
     (pieces_in (record { desk = c.make_socket.new.self; pipes = c.self.inside.pipes; marks = c.and-self-inside.result.items }))) c.self.view_is once
+
+pub returns-in-Ok-clause-asks : goal.returns-in-Ok-clause-asks
+returns-in-Ok-clause-asks g c =
+    let asked = lemmas.ask_asked g.P.Pipes.known c.asides_go_on.ensures c.tales_go_on.ensures (record { desk = c.self.inside.desk; pipes = c.self.inside.pipes; marks = c.self.inside.tale.items }) c.lend.new.self c.make_socket.new.self c.args.caller
+    c.self.invariant.0 (c.lend.ensures ∙ ap (λ (n : ℕ). let l : Lent (Given g.row.P-Name.Denot g.row.P-Out.Denot g.row.P-In.Denot) g.row.P-Name.Denot g.row.P-Story.Denot = record c.self.inside.desk { caller = n } in l) c.in_ok-by.ensures) c.is_of_one_order-in-Ok.ensures c.is_of_one_order.ensures c.in-Ok.ensures.keeps c.and-self-inside.result.items
+    (c.and-self-inside.ensures.behind ∙ ap (λ (ms : List PieceMark). c.self.inside.tale.items ++ ms) c.and-self-inside.ensures.so)
+    (MakeSocket c.args.kind c.args.options) c.in-Ok.reply c.in-Ok.ensures.ok (λ fits. c.makings_are_asides.ensures c.self.inside.desk.items c.lend.new.self.caller c.args.kind c.args.options c.in-Ok.reply c.in-Ok.ensures.ok.answered fits) in
+    subst (λ (w : Core g.row.P.Denot (Given g.row.P-Name.Denot g.row.P-Out.Denot g.row.P-In.Denot) g.row.P-Name.Denot g.row.P-Story.Denot). IsAsked c.args.caller (MakeSocket c.args.kind c.args.options) c.in-Ok.reply w.desk c.make_socket.new.self) c.self.view_is asked
 
 pub returns-in-Ok-clause-keeps : goal.returns-in-Ok-clause-keeps
 returns-in-Ok-clause-keeps g c =
@@ -50,3 +60,6 @@ returns-in_err-by-clause-err g c = where_err c.from_residual.result (IsLentOn c.
 pub invariant_of-self-in-Err : goal.invariant_of-self-in-Err
 invariant_of-self-in-Err g c =
     lemmas.lent_core g.P.Pipes.known (record { desk = c.self.inside.desk; pipes = c.self.inside.pipes; marks = c.self.inside.tale.items }) c.self.inside.closed c.make_socket.new.self c.in_ok-by.by (c.in-Err.ensures.err ∙ c.lend.ensures) c.self.invariant.0 c.self.invariant.1
+
+pub make_socket-requires : goal.make_socket-requires
+make_socket-requires g c = record { options = may_have c.args.options c.requires.may }

@@ -1,11 +1,13 @@
-use Rattle.std.specs.Prelude.{◌++◌, ℕ, List}
+use Rattle.std.specs.Prelude.{◌++◌, ℕ, List, refl}
 use Rattle.std.proofs.Common.{ap, ◌∙◌, subst}
 use Rattle.ctl_holder.specs.declared.given.Given.{Given}
 use Rattle.one_desk.specs.Lent.{Lent}
 use Rattle.core_tale.specs.declared.marks.PieceMark.{PieceMark}
 use Rattle.zq_world.specs.CoreCalls.{LooksOnce}
 use Rattle.one_core.specs.Sound.{Core, pieces_in}
-use Rattle.one_core.specs.Leaving.{LeavesSockets}
+use Rattle.script_actor.specs.Way.{KeepsAll}
+use Rattle.one_core.specs.Agreeing.{was_made, IsAgreed}
+use Rattle.one_core.proofs.KeepLemmas.{keeps_all, keeps_same}
 use Rattle.one_core.proofs.LeaveLemmas.{look_leaves}
 use Rattle.one_core.proofs.SoundLemmas as lemmas
 use Rattle.one_core.proofs.context.OneCore.look.Goals as goal
@@ -34,6 +36,11 @@ returns-clause-ok g c =
 pub returns-clause-keeps : goal.returns-clause-keeps
 returns-clause-keeps g c =
     let v : Core g.row.P.Denot (Given g.row.P-Name.Denot g.row.P-Out.Denot g.row.P-In.Denot) g.row.P-Name.Denot g.row.P-Story.Denot = record { desk = c.self.inside.desk; pipes = c.self.inside.pipes; marks = c.self.inside.tale.items } in
-    subst (λ (w : Core g.row.P.Denot (Given g.row.P-Name.Denot g.row.P-Out.Denot g.row.P-In.Denot) g.row.P-Name.Denot g.row.P-Story.Denot). LeavesSockets c.args.caller w.desk c.look_around-sight.new.self) c.self.view_is
+    let now : Core g.row.P.Denot (Given g.row.P-Name.Denot g.row.P-Out.Denot g.row.P-In.Denot) g.row.P-Name.Denot g.row.P-Story.Denot = record { desk = c.look_around-sight.new.self; pipes = c.self.inside.pipes; marks = c.and-self-inside.result.items } in
+    subst (λ (w : Core g.row.P.Denot (Given g.row.P-Name.Denot g.row.P-Out.Denot g.row.P-In.Denot) g.row.P-Name.Denot g.row.P-Story.Denot). KeepsAll (IsAgreed g.row.P-Waker.Denot g.P.Pipes.known) was_made w now) c.self.view_is
+    (keeps_all g.row.P-Waker.Denot g.P.Pipes.known c.args.caller v now refl
     (look_leaves v c.lend.new.self c.look_around-sight.new.self c.args.caller c.self.invariant.0.one (c.lend.ensures ∙ ap (λ (n : ℕ). let l : Lent (Given g.row.P-Name.Denot g.row.P-Out.Denot g.row.P-In.Denot) g.row.P-Name.Denot g.row.P-Story.Denot = record c.self.inside.desk { caller = n } in l) c.in_ok-by.ensures)
-    c.is_of_one_order.ensures c.is_of_one_order-2.ensures c.look_around-sight.ensures.keeps c.looks_are_asides.ensures c.look_around-sight.result c.look_around-sight.ensures.sees)
+    c.is_of_one_order.ensures c.is_of_one_order-2.ensures c.look_around-sight.ensures.keeps c.looks_are_asides.ensures c.look_around-sight.result c.look_around-sight.ensures.sees))
+
+pub returns-in_err-by-clause-keeps : goal.returns-in_err-by-clause-keeps
+returns-in_err-by-clause-keeps g c = keeps_same g.row.P-Waker.Denot g.P.Pipes.known c.args.self.now c.args.self.now refl

@@ -1,0 +1,124 @@
+-- All open sockets agree still behind a call of a core that is one item.
+use Rattle.std.specs.Prelude.{◌≡◌, ◌≤◌, ◌==◌, ℕ, Bool, true, false, List, Option, length, refl}
+use Rattle.std.specs.List.{list_any}
+use Rattle.std.proofs.Common.{sym, ap, ◌∙◌, subst, true≢false}
+use Rattle.std.proofs.lemmas.Bool.{eq-eqb, eqb-true}
+use Rattle.zq_base.specs.Ends.{other_end}
+use Rattle.zq_base.specs.declared.ids.EndId.{EndId}
+use Rattle.spec_control.specs.Rows.{obj}
+use Rattle.spec_control.specs.Control.{Control, begun, ends_of, is_end, place_of}
+use Rattle.control_held.specs.Moments.{Moment, items_in, left_after, moments_by, moments_from}
+use Rattle.control_held.specs.OwnAsks.{known_after, Known as KnownOf}
+use Rattle.msg_pipe.specs.Known.{Known}
+use Rattle.ctl_holder.specs.declared.given.Given.{Given}
+use Rattle.ctl_holder.specs.Holding.{Holding}
+use Rattle.ctl_plane.specs.Desk.{HasWhatTheySay, slot_after}
+use Rattle.any_sock.specs.declared.any_sock.AnySock.{AnySock}
+use Rattle.sock_core.specs.declared.sock.SockCore.{SockCore}
+use Rattle.sock_core.specs.Has.{holding_in}
+use Rattle.sock_open.specs.Standing.{kind_told}
+use Rattle.sock_open.specs.View.{pattern_told}
+use Rattle.open_laws.specs.Bounds.{drawn_of}
+use Rattle.open_laws.specs.Open.{ends_at}
+use Rattle.one_desk.specs.Lent.{coming_to, moments_of, Lent}
+use Rattle.lent_sock.specs.Owned.{IsOut}
+use Rattle.core_others.specs.Agrees.{AgreesIn}
+use Rattle.core_others.specs.Calls.{for_caller}
+use Rattle.script_actor.specs.Way.{KeepsAll}
+use Rattle.one_core.specs.Agreeing.{was_made, IsAgreed}
+use Rattle.one_core.specs.Leaving.{moments_at, HasOpenAt, LeavesSockets}
+use Rattle.one_core.specs.Sound.{Core, IsLentOn}
+
+-- a caller's moments say of a socket, and of all that a holder has, what they said
+record SayStill {N T : Type 0} (j o : ℕ) (was now : List (Moment N T)) : Type 0 where
+  knows : known_after o (items_in now) ≡ known_after o (items_in was)
+  left : left_after o now ≡ left_after o was
+  has : (h : Holding N) → HasWhatTheySay j was h → HasWhatTheySay j now h
+
+module _ {G N T : Type 0} (k : ℕ) (old new : Lent G N T) (leaves : LeavesSockets k old new) where
+  was_at : (j : ℕ) → moments_at j old ≡ moments_of (for_caller j old)
+  was_at j = ap (λ (n : ℕ). moments_by j (moments_from (begun n) old.items)) (sym leaves.was_one)
+
+  is_at : (j : ℕ) → moments_at j new ≡ moments_of (for_caller j new)
+  is_at j = ap (λ (n : ℕ). moments_by j (moments_from (begun n) new.items)) (sym leaves.one)
+
+  say_at : (j o : ℕ) → HasOpenAt j old o → SayStill j o (moments_at j old) (moments_at j new)
+  say_at j o = by (k == j) refl
+    where
+      by : (b : Bool) → (k == j) ≡ b → HasOpenAt j old o → SayStill j o (moments_at j old) (moments_at j new)
+      by true e known = subst (λ (n : ℕ). HasOpenAt n old o → SayStill n o (moments_at n old) (moments_at n new)) (eqb-true k j e)
+          (λ mine. record { knows = leaves.knows o mine; left = leaves.left o mine; has = leaves.has }) known
+      by false e known =
+          subst (λ (ms : List (Moment N T)). SayStill j o (moments_at j old) ms) (sym (leaves.others j (λ same. true≢false (sym (eq-eqb k j same) ∙ e))))
+          (record { knows = refl; left = refl; has = λ h has. has })
+
+  say_still : (j o : ℕ) → (known_after o (items_in (moments_of (for_caller j old)))).open_socket ≡ true → SayStill j o (moments_of (for_caller j old)) (moments_of (for_caller j new))
+  say_still j o known =
+      subst (λ (ms : List (Moment N T)). SayStill j o ms (moments_of (for_caller j new))) (was_at j)
+      (subst (λ (ms : List (Moment N T)). SayStill j o (moments_at j old) ms) (is_at j)
+      (say_at j o (subst (λ (ms : List (Moment N T)). (known_after o (items_in ms)).open_socket ≡ true) (sym (was_at j)) known)))
+
+module _ (W : Type 0) {S N O I T : Type 0} (K : Known S O I N) where
+  module _ (k : ℕ) (old new : Lent (Given N O I) N T) (leaves : LeavesSockets k old new) (pipes : S) (j : ℕ) (s : SockCore AnySock W N O I) (is : AgreesIn K old j pipes s) where
+    abbrev was : List (Moment N T)
+    was = moments_of (for_caller j old)
+
+    abbrev now : List (Moment N T)
+    now = moments_of (for_caller j new)
+
+    say : SayStill j s.number.0 (moments_of (for_caller j old)) (moments_of (for_caller j new))
+    say = say_still k old new leaves j s.number.0 is.owned.is_open
+
+    same_box : (slot_after s.number.0 now).0 ≡ (slot_after s.number.0 was).0
+    same_box = ap (λ (c : Control). (obj c.rows s.number.0).slot) say.left
+
+    coming_before : (e : EndId) → coming_to new (slot_after s.number.0 now).0 e ≡ true → coming_to old (slot_after s.number.0 was).0 e ≡ true
+    coming_before e coming = sym (leaves.coming (slot_after s.number.0 was).0 e) ∙ ap (λ (n : ℕ). coming_to new n e) (sym same_box) ∙ coming
+
+    agrees_still : AgreesIn K new j pipes s
+    agrees_still = record {
+      owned = record {
+        stands = is.owned.stands;
+        has = say.has (holding_in (kind_told s.kind) s) is.owned.has;
+        held = is.owned.held;
+        is_open = ap (λ (kn : KnownOf). kn.open_socket) say.knows ∙ is.owned.is_open;
+        ends_are = is.owned.ends_are ∙ ap (ends_at s.number.0) (sym say.left);
+        sealed_out = λ e sealed. subst (λ (c : Control). IsOut (ends_of s.number.0 c) e (place_of c e)) (sym say.left) (is.owned.sealed_out e sealed);
+      };
+      places = λ n p at. let place = is.places n p at in record {
+        its = record {
+          its = ap (λ (c : Control). list_any (is_end p.end) (ends_of s.number.0 c)) say.left ∙ place.its.its;
+          written = ap (λ (f : EndId → Option N). f p.end) leaves.names ∙ place.its.written;
+          read = ap (λ (f : EndId → Option N). f (other_end p.end)) leaves.names ∙ place.its.read;
+        };
+        gone = λ gone. leaves.places p.end ∙ place.gone gone;
+      };
+      binds = λ e x coming written read. is.binds e x (coming_before e coming) (ap (λ (f : EndId → Option N). f e) (sym leaves.names) ∙ written) (ap (λ (f : EndId → Option N). f (other_end e)) (sym leaves.names) ∙ read);
+    }
+
+  pub keeps_all : (k : ℕ) (old new : Core S (Given N O I) N T) → new.pipes ≡ old.pipes → LeavesSockets k old.desk new.desk → KeepsAll (IsAgreed W K) was_made old new
+  keeps_all k old new pipes leaves = record {
+    sockets = λ j s is. let still = say k old.desk new.desk leaves old.pipes j s is.agrees in record {
+      agrees = subst (λ (p : S). AgreesIn K new.desk j p s) (sym pipes) (agrees_still k old.desk new.desk leaves old.pipes j s is.agrees);
+      box = same_box k old.desk new.desk leaves old.pipes j s is.agrees ∙ is.box;
+      peers = record {
+        peers = is.peers.peers;
+        drawn = subst (λ (c : Control). drawn_of (pattern_told s) ≤ length (ends_of s.number.0 c)) (sym still.left) is.peers.drawn;
+      };
+    };
+    numbers = leaves.numbers;
+  }
+
+  pub keeps_same : (old new : Core S (Given N O I) N T) → new ≡ old → KeepsAll (IsAgreed W K) was_made old new
+  keeps_same old new same = subst (λ (v : Core S (Given N O I) N T). KeepsAll (IsAgreed W K) was_made old v) (sym same) (record { sockets = λ j s is. is; numbers = λ o made. made })
+
+  -- whoever it is lent to
+  pub keeps_lent : (old new : Core S (Given N O I) N T) → IsLentOn old new → KeepsAll (IsAgreed W K) was_made old new
+  keeps_lent old new lent = subst (λ (v : Core S (Given N O I) N T). KeepsAll (IsAgreed W K) was_made old v) (sym lent.same) (record {
+    sockets = λ j s is. record {
+      agrees = record { owned = is.agrees.owned; places = is.agrees.places; binds = is.agrees.binds };
+      box = is.box;
+      peers = is.peers;
+    };
+    numbers = λ o made. made;
+  })
