@@ -135,7 +135,7 @@ where
 
     ghost counts = { λ s e writer. counts_of P.known s.pipes s.closed.sockets.items e writer };
 
-    ghost may_make = { λ e w r. ⊥ };
+    ghost may_make = { λ e w r. Unit {0} };
 
     ghost fits = { λ s e h. ⊥ };
 
