@@ -112,7 +112,7 @@ module _ {S O I N : Type 0} (K : Known S O I N) where
       stands : (p : PipeId) (n : N) → fewer p ≡ Some n → Stands K fewer capacity new past p n
       stands p n g =
           let was = is.stands p n (are.were p n g) in
-          stands_still goes fewer capacity capacity old new past p n was (keeps.there n (λ exact. are.others p n g) was.there)
+          stands_still goes fewer capacity capacity old new past p n was (keeps.there n was.there)
           (keeps.outs was.out (out_there goes capacity old past p n was) (λ exact same. are.others p n g (sym was.out_is ∙ same)))
           (keeps.ins was.input (in_there goes capacity old past p n was) (λ exact same. are.others p n g (sym was.in_is ∙ same))) refl
 

@@ -132,7 +132,7 @@ module _ {S O I N : Type 0} (K : Known S O I N) (is_exact : K.exact ≡ true) (g
           input = was.input;
           out_is = was.out_is;
           in_is = was.in_is;
-          there = keeps.there n (λ _. other) was.there;
+          there = keeps.there n was.there;
           committed = ap (λ (x : Writing). x.committed) w ∙ was.committed;
           taken = ap (λ (x : Reading). x.taken) r ∙ was.taken;
           capacity_is = ap (λ (x : Writing). x.capacity) w ∙ was.capacity_is;

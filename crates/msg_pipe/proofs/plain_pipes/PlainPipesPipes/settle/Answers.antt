@@ -37,7 +37,7 @@ returns-clause-keeps c =
     let n = c.args.i.number in
     let q = c.settle.new.self in
     record {
-      there = λ m other lt. there_set ps n m q lt;
+      there = λ m lt. there_set ps n m q lt;
       outs = λ h here other. seen_else plain_writing (fresh_writing 0) ps n h.number q (λ e. other refl (e ∙ c.requires.pair));
       ins = λ h here other. seen_else plain_reading fresh_reading ps n h.number q (λ e. other refl (e ∙ c.requires.pair));
     }
