@@ -49,6 +49,7 @@ module _ {N O I : Type 0} where
     places = taken.places;
     numbers = taken.numbers;
     fresh = taken.fresh;
+    elsewhere = taken.elsewhere;
     gets = gets_stays (length s.pairs) i (map held_of ds) h k l taken.gets stays (λ j e less here. keeps.states j e here);
     active = λ e here.
         keeps.states i e
@@ -68,6 +69,7 @@ module _ {N O I : Type 0} where
         places = All-nil (λ (d : Drawn N O I). HavePlaces s d.o);
         numbers = tt;
         fresh = λ e past. not_held w.names w.control h i.0 w.stands.lists.known (w.has i.0 w.lent) e (let many = w.stands.pairs.many in omega (arith, many, past));
+        elsewhere = λ e past j holds. not_held w.names w.control h j w.stands.lists.known (w.has j holds) e (let many = w.stands.pairs.many in omega (arith, many, past));
         gets = gets_nothing (length s.pairs) i.0 h;
         active = λ e here. absurd (never here);
         turns = refl;

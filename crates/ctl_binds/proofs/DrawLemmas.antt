@@ -1,6 +1,7 @@
 -- That a bind draws a pair more.
-use Rattle.std.specs.Prelude.{◌≡◌, ◌<◌, ◌+◌, ◌^◌, ◌||◌, ◌++◌, ◌∷◌, [], ℕ, Bool, false, List, Option, Some, All, flat_map, length, map, refl}
-use Rattle.std.proofs.Common.{arith, sym, ap, ◌∙◌, subst}
+use Rattle.std.specs.Prelude.{◌≡◌, ◌⊎◌, ◌<◌, ◌+◌, ◌^◌, ◌||◌, ◌++◌, ◌∷◌, [], ℕ, Bool, false, List, Option, Some, All, flat_map, length, map, refl}
+use Rattle.std.proofs.Common.{arith, sym, ap, ◌∙◌, subst, inl, inr}
+use Rattle.std.proofs.lemmas.Bool.{cases_eq}
 use Rattle.std.proofs.lemmas.List.{append-nil, append_assoc, length-map, length_push, map-append}
 use Rattle.std.proofs.lemmas.List.Concat.{flat_map-append}
 use Rattle.std.proofs.lemmas.List.Elements.{All-pop, All-push}
@@ -15,7 +16,7 @@ use Rattle.spec_control.specs.Rows.{PairRow, obj}
 use Rattle.spec_control.specs.Control.{Control, draws, end_of, is_end}
 use Rattle.control_held.specs.Held.{Held}
 use Rattle.ctl_holder.specs.declared.load.Load.{Load}
-use Rattle.ctl_holder.specs.Holding.{Holding, MayRefuse, has_end}
+use Rattle.ctl_holder.specs.Holding.{HasNowhere, Holding, MayRefuse, has_end}
 use Rattle.ctl_state.specs.declared.state.State.{State}
 use Rattle.ctl_state.specs.Pairs.{entry_drawn}
 use Rattle.ctl_state.specs.Stands.{Stands}
@@ -107,11 +108,20 @@ module _ {N O I : Type 0} (out_name : O → N) (in_name : I → N) (s : State (L
       below : All (λ (y : Held N). y.end.pair.0 < pair.0) (map held_of b.drawn.items)
       below = all_below (length m.before.pairs) ds m.draws.taken.numbers pair.0 (let is = number_is in omega (arith, is))
 
-      pub not_there : has_end (end_of pair.0 false) (k.ends i.0) ≡ false
-      not_there =
+      mine_not : has_end (end_of pair.0 false) (k.ends i.0) ≡ false
+      mine_not =
           ap (has_end (end_of pair.0 false)) m.draws.taken.gets.ends ∙ list_any-append (λ (y : Held N). is_end (end_of pair.0 false) y.end) (had.ends i.0) (map held_of ds)
           ∙ ap (λ (h : Bool). h || has_end (end_of pair.0 false) (map held_of ds)) (m.draws.taken.fresh (end_of pair.0 false) (let is = number_is in omega (arith, is)))
           ∙ not_among (end_of pair.0 false) (map held_of ds) below
+
+      pub not_there : HasNowhere (end_of pair.0 false) k
+      not_there j holds = by (cases_eq j i.0)
+        where
+          by : (j ≡ i.0) ⊎ (j ≡ i.0 → ⊥) → has_end (end_of pair.0 false) (k.ends j) ≡ false
+          by (inl same) = ap (λ (n : ℕ). has_end (end_of pair.0 false) (k.ends n)) same ∙ mine_not
+          by (inr other) =
+              ap (has_end (end_of pair.0 false)) (m.draws.taken.gets.others j other)
+              ∙ m.draws.taken.elsewhere (end_of pair.0 false) (let is = number_is in omega (arith, is)) j (sym (m.draws.taken.gets.objects j) ∙ holds)
 
       module _ (t : State (Load N O I)) (is : t ≡ with_drawn false o s) where
         abbrev pub drawn_now : HasDrawn t false o
@@ -146,6 +156,7 @@ module _ {N O I : Type 0} (out_name : O → N) (in_name : I → N) (s : State (L
             places = All-push (λ (y : Drawn N O I). HavePlaces m.before y.o) ds d m.draws.taken.places places_before;
             numbers = numbered_push (length m.before.pairs) ds d m.draws.taken.numbers number_is;
             fresh = m.draws.taken.fresh;
+            elsewhere = m.draws.taken.elsewhere;
             gets = subst (λ (hs : List (Held N)). Gets (length m.before.pairs) i.0 hs had l) (sym (map-append held_of ds (d ∷ []))) gets_now;
             active = λ e here.
                 active_more (length m.before.pairs) i.0 (map held_of ds) (held_of d) had k l below m.draws.taken.gets gets_one m.draws.taken.active attaches.active e (sym (ap (has_end e) (map-append held_of ds (d ∷ []))) ∙ here);

@@ -61,6 +61,7 @@ module _ {N O I : Type 0} (s : State (Load N O I)) (k : Holding N) (i : ℕ) (d 
     places = (All-pop (λ (y : Drawn N O I). HavePlaces w.before y.o) (w.rest ++ d ∷ []) w.rest (Some d) refl w.taken.places).0;
     numbers = numbered_first n w.rest d w.taken.numbers;
     fresh = w.taken.fresh;
+    elsewhere = w.taken.elsewhere;
     gets = gets_then;
     active = λ e here.
         keeps.states i e (ap (has_end e) gets_then.ends ∙ list_any-append (λ (y : Held N). is_end e y.end) (w.had.ends i) (map held_of w.rest) ∙ or_right (has_end e (w.had.ends i)) (has_end e (map held_of w.rest)) here)

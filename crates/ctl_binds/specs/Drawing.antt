@@ -8,7 +8,7 @@ use Rattle.spec_control.specs.declared.entry.Joining.{Joining}
 use Rattle.spec_control.specs.Rows.{obj}
 use Rattle.spec_control.specs.Control.{Control, end_of, next_pair}
 use Rattle.ctl_holder.specs.declared.load.Load.{Load}
-use Rattle.ctl_holder.specs.Holding.{HearsNone, Holding, HoldsNow, JoinsBy, MayRefuse, has_end}
+use Rattle.ctl_holder.specs.Holding.{HasNowhere, HearsNone, Holding, HoldsNow, JoinsBy, MayRefuse, has_end}
 use Rattle.ctl_holder.specs.Lent.{HasAll}
 use Rattle.ctl_holder.specs.Making.{capacity_between}
 use Rattle.ctl_state.specs.declared.state.State.{State}
@@ -69,6 +69,7 @@ module _ {N O I : Type 0} where
     pub places : All (λ d. HavePlaces s d.o) ds
     pub numbers : AreNumbered (length s.pairs) ds
     pub fresh : (e : EndId) → length s.pairs ≤ e.pair.0 → has_end e (h.ends i) ≡ false
+    pub elsewhere : (e : EndId) → length s.pairs ≤ e.pair.0 → HasNowhere e h
     pub gets : Gets (length s.pairs) i (map held_of ds) h k
     pub active : (e : EndId) → has_end e (map held_of ds) ≡ true → k.state e ≡ Active
     pub turns : k.turns ≡ h.turns

@@ -1,4 +1,4 @@
-ghost use Rattle.std.specs.Prelude.{◌≡◌, ◌+◌, ◌++◌, ◌∷◌, [], ℕ, length, false, IfOk, OnOk, OnErr};
+ghost use Rattle.std.specs.Prelude.{◌≡◌, ◌+◌, ◌++◌, ◌∷◌, [], ℕ, length, true, false, IfOk, OnOk, OnErr};
 ghost use Rattle.spec_control.specs.Control.{end_of, next_pair};
 ghost use Rattle.ctl_holder.specs.Holding.{HearsNone, KeepsTurns, Stays};
 ghost use Rattle.ctl_binds.specs.Batch.{FitsMore, drawn_ends};
@@ -95,6 +95,7 @@ pub fn draw_all<P: Pipes, H: Holder<P>>(
 ) -> Result<Batch<P::Name, P::Out, P::In>, AllocError>
 where
     P::Name: Drop,
+    requires undoes { H.undoes ≡ true }
     requires may { MayDraw state.old (H.holding holder.old) socket waiters.now
         (length wakers.now) }
     requires calm { H.calm holder.old [] }

@@ -1,4 +1,4 @@
-ghost use Rattle.std.specs.Prelude.{◌≡◌, ◌∷◌, List, length};
+ghost use Rattle.std.specs.Prelude.{◌≡◌, ◌∷◌, List, length, true};
 ghost use Rattle.zq_base.specs.declared.ids.EndId.{EndId};
 ghost use Rattle.ctl_binds.specs.Batch.{drawn_ends, first_of};
 ghost use Rattle.ctl_binds.specs.Drawing.{AreTaken, IsBack, WasTaken, WereTaken};
@@ -22,6 +22,7 @@ fn undraw_one<P: Pipes, H: Holder<P>>(
 )
 where
     P::Name: Drop,
+    requires undoes { H.undoes ≡ true }
     requires taken { WasTaken state.old (H.holding holder.old) socket.0 drawn }
     requires calm { (came : List EndId) × H.calm holder.old (first_of drawn ∷ came) }
     ensures back { (w : WasTaken state.old (H.holding holder.old) socket.0 drawn) →
@@ -46,6 +47,7 @@ pub fn undraw_all<P: Pipes, H: Holder<P>>(
 )
 where
     P::Name: Drop,
+    requires undoes { H.undoes ≡ true }
     requires taken { WereTaken state.old (H.holding holder.old) socket.0 drawn.items }
     requires calm { H.calm holder.old (drawn_ends drawn.items) }
     ensures state { (w : WereTaken state.old (H.holding holder.old) socket.0 drawn.items) →

@@ -32,7 +32,7 @@ use Rattle.ctl_holder.specs.declared.halves.Halves.{Halves}
 use Rattle.ctl_holder.specs.declared.halves.NamedHalves.{NamedHalves}
 use Rattle.ctl_holder.specs.declared.load.Load.{Load}
 use Rattle.ctl_holder.specs.declared.load.Load.TheVariants.{Halves as IsHalves}
-use Rattle.ctl_holder.specs.Holding.{HearsNone, BeginsActive, Holding, Joined, JoinsBy, MayRefuse, Stays, has_end, held_with, joining_with}
+use Rattle.ctl_holder.specs.Holding.{HasNowhere, HearsNone, BeginsActive, Holding, Joined, JoinsBy, MayRefuse, Stays, held_with, joining_with}
 use Rattle.ctl_holder.specs.Turns.{HasTurned, TurnsBy, turn_at}
 use Rattle.ctl_holder.specs.Load.{AreHalvesOf, IsNamed}
 use Rattle.ctl_ends.specs.Turning.{Leads, PutsLoaded, TurnsOnce, turn_of}
@@ -97,8 +97,8 @@ module _ {N O I : Type 0} (out_name : O → N) (in_name : I → N) (s : State (L
   owner_kept = owner_stands s e w.control w.stands
 
   -- the holder has no such end
-  pub joins_new : has_end e (h.ends at.0) ≡ false
-  joins_new = not_there w.control e w.binds.within w.binds.fresh at.0 w.binds.owner w.names h (w.has at.0 w.binds.lent)
+  pub joins_new : HasNowhere e h
+  joins_new i holds = not_there w.control e w.binds.within w.binds.fresh at.0 w.binds.owner w.names h i (w.has i holds)
 
   module _ (met : AreMet s w.control) where
     pub bind_away : spot_at s.pairs e ≡ IsAway

@@ -116,11 +116,11 @@ module _ (c : Control) (e : EndId) (within : e.pair.0 < length c.rows.pairs) whe
         ∙ append-nil (here_ends c.rows.pairs c.attached i)
 
     -- the holder has no such end
-    pub not_there : {N : Type 0} (names : EndId → Option N) (h : Holding N) → HasEnds names c.rows.pairs c.attached c.reasons h o → has_end e (h.ends o) ≡ false
-    not_there names h has =
-        has_listed e (h.ends o) ∙ ap (list_any (is_end e)) has.ends
-        ∙ none_any e (here_ends c.rows.pairs c.attached o)
-        (All-filter (λ x. is_here (place_of c x)) (λ x. is_end x e ≡ false) (filter (λ x. owner_of c x == o) c.attached) (All-filter (λ x. owner_of c x == o) (λ x. is_end x e ≡ false) c.attached fresh))
+    pub not_there : {N : Type 0} (names : EndId → Option N) (h : Holding N) (i : ℕ) → HasEnds names c.rows.pairs c.attached c.reasons h i → has_end e (h.ends i) ≡ false
+    not_there names h i has =
+        has_listed e (h.ends i) ∙ ap (list_any (is_end e)) has.ends
+        ∙ none_any e (here_ends c.rows.pairs c.attached i)
+        (All-filter (λ x. is_here (place_of c x)) (λ x. is_end x e ≡ false) (filter (λ x. owner_of c x == i) c.attached) (All-filter (λ x. owner_of c x == i) (λ x. is_end x e ≡ false) c.attached fresh))
 
     module _ {N : Type 0} (names : EndId → Option N) (h k : Holding N) (w r : N) (joined : Joined o (record { end = e; written = w; read = r }) h k) (begins : BeginsActive e h k) (named : HasBothNames names (record { end = e; written = w; read = r })) where
       abbrev now : Held N

@@ -1,5 +1,6 @@
 -- What a closed socket's holder gives, and what it has then.
 use Rattle.std.specs.Prelude.{◌≡◌, ◌≢◌, ◌⊎◌, ◌||◌, ◌∷◌, [], ℕ, Bool, true, false, List, Option, All, is_some, map, refl}
+use Rattle.std.specs.List.{list_any}
 use Rattle.std.proofs.Common.{sym, ap, ◌∙◌, subst, inl, inr}
 use Rattle.std.proofs.lemmas.Bool.{cases_eq}
 use Rattle.std.proofs.lemmas.List.Elements.{All-nil, All-cons, All-map, All-weaker}
@@ -13,7 +14,7 @@ use Rattle.control_laws.proofs.AskLemmas.{end_self}
 use Rattle.control_rows.proofs.ListLemmas.{never}
 use Rattle.ctl_holder.specs.declared.given.Given.{Given}
 use Rattle.ctl_holder.specs.declared.given.Parting.{Parting}
-use Rattle.ctl_holder.specs.Holding.{Holding, AllStated, AllTold, AllWriting, AreGivenAs, HasGiven, KeepsTurns, given_as, has_end, held_given}
+use Rattle.ctl_holder.specs.Holding.{Holding, AllSealed, AllStated, AllTold, AllWriting, AreGivenAs, HasGiven, KeepsTurns, given_as, has_end, held_given}
 use Rattle.ctl_holder.specs.Lent.{HasAll, HasBothNames, HasEnds, has_writer, here_ends}
 use Rattle.ctl_holder.specs.Load.{AreEndsOfClosed, GivesAll, IsNamed}
 use Rattle.ctl_holder.specs.TakingOver.{AreGivenWith, IsGivenWith}
@@ -85,6 +86,12 @@ module _ {N O I : Type 0} (out_name : O → N) (in_name : I → N) (c : Control)
           written_there = is.written_there;
           unsealed = is.unsealed;
         }))
+
+    -- each was told to be sealed still, of those that are
+    pub given_sealed : (told : List EndId) → AllSealed told gs → AllSealed told p.ends.items
+    given_sealed told all =
+        subst (λ (xs : List (Given N O I)). AllSealed told xs) (sym ends)
+        (All-map (λ (g : Given N O I). g.sealed ≡ true → list_any (is_end g.end) told ≡ true) (noted_end c) gs (λ k g lt. all k g lt))
 
 -- ---- what it has then
 module _ {N : Type 0} (names : EndId → Option N) (c : Control) (o : ℕ) (h k : Holding N) (gone : HasGiven o h k) (keeps : KeepsTurns h k) (has : HasAll names c h) where

@@ -25,6 +25,7 @@ mod HeldEventLemmas
 mod HeldPlaneLemmas
 mod ToldLemmas
 mod GiveLemmas
+mod OnWayLemmas
 pub mod FulfilEventLemmas
 pub mod FulfilPlaneLemmas
 pub mod FulfillingLemmas

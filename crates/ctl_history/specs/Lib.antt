@@ -8,3 +8,5 @@ pub mod Fulfilling
 pub mod Coming
 pub mod Addressee
 pub mod Settled
+pub mod Giving
+pub mod Enders

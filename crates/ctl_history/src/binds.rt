@@ -1,4 +1,4 @@
-ghost use Rattle.std.specs.Prelude.{◌≡◌, ◌≤◌, ◌+◌, ◌*◌, [], length, None, IfOk, OnOk, OnErr};
+ghost use Rattle.std.specs.Prelude.{◌≡◌, ◌≤◌, ◌+◌, ◌*◌, [], length, true, None, IfOk, OnOk, OnErr};
 ghost use Rattle.zq_base.specs.declared.endpoint.Endpoint.TheVariants.{Inproc};
 ghost use Rattle.spec_control.specs.declared.request.Req.TheVariants.{Bind};
 ghost use Rattle.spec_control.specs.Control.{next_pair};
@@ -42,6 +42,7 @@ fn bind_with_room<P: Pipes, H: Holder<P>, D>(
 where
     P::Name: Drop,
     requires copy { copy ≡ at.now }
+    requires undoes { H.undoes ≡ true }
     requires may { MayFulfilAll state.old (H.holding holder.old) socket at.now
         (length wakers.now) }
     requires calm { H.calm holder.old [] }
@@ -93,6 +94,7 @@ where
         holder: &mut H,
         wakers: &[P::Waker],
     ) -> Result<Reply, AllocError>
+        requires undoes { H.undoes ≡ true }
         requires lends { Lends (control_of self.old) socket.0 (H.holding holder.old) }
         requires wakers { (control_of self.old).slots ≤ length wakers.now }
         requires has { HasWhat self.old (H.holding holder.old) }
@@ -132,6 +134,7 @@ where
     ) -> Result<Reply, AllocError>
         requires free { refusal_in (reply_of (control_of self.old) (Bind socket (Inproc name)))
             ≡ None }
+        requires undoes { H.undoes ≡ true }
         requires lends { Lends (control_of self.old) socket.0 (H.holding holder.old) }
         requires wakers { (control_of self.old).slots ≤ length wakers.now }
         requires has { HasWhat self.old (H.holding holder.old) }

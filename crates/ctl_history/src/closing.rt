@@ -1,4 +1,4 @@
-ghost use Rattle.std.specs.Prelude.{◌≡◌, true};
+ghost use Rattle.std.specs.Prelude.{◌≡◌, true, []};
 ghost use Rattle.spec_control.specs.declared.request.Req.TheVariants.{Close};
 ghost use Rattle.spec_control.specs.declared.request.Reply.TheVariants.{Done};
 ghost use Rattle.spec_control.specs.declared.entry.Did.TheVariants.{Asked};
@@ -34,12 +34,14 @@ where
         requires open { IsOpenSocket (obj (control_of self.old).rows socket.0) }
         requires lent { (H.holding holder.old).holds socket.0 ≡ true }
         requires has { HasWhat self.old (H.holding holder.old) }
-        ensures closes { Closes P.known (H.pipes holder.new) socket self.old self.new }
+        ensures closes { Closes P.known (H.pipes holder.new) (H.holding holder.old).sealed socket
+            self.old self.new }
         ensures gives { HasGiven socket.0 (H.holding holder.old) (H.holding holder.new) }
         ensures keeps { HasWhat self.new (H.holding holder.new) }
         ensures turned { HasTurned (control_of self.old) (control_of self.new)
             (H.holding holder.old) (H.holding holder.new) }
         ensures joins { ComesWith self.old self.new (H.holding holder.old) (H.holding holder.new) }
+        ensures calm { H.calm holder.old [] → H.calm holder.new [] }
     {
         let parting = note_met(&self.state, holder.give_ends(socket));
         self.give_over(socket, parting, silent(alloc));

@@ -1,4 +1,4 @@
-ghost use Rattle.std.specs.Prelude.{◌≡◌, [], length, IfOk, OnErr};
+ghost use Rattle.std.specs.Prelude.{◌≡◌, [], length, true, IfOk, OnErr};
 ghost use Rattle.ctl_binds.specs.Drawing.{IsBack, MayMakeAll};
 ghost use Rattle.ctl_history.specs.Fulfilling.{Fulfils, MayFulfil};
 
@@ -27,6 +27,7 @@ pub(crate) fn fulfil_all<P: Pipes, H: Holder<P>>(
 where
     P::Name: Drop,
     requires copy { copy ≡ at.now }
+    requires undoes { H.undoes ≡ true }
     requires may { MayFulfil state.old (H.holding holder.old) socket at.now waiters.now
         (length wakers.now) }
     requires calm { H.calm holder.old [] }

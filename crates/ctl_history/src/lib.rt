@@ -12,6 +12,7 @@ mod connecting;
 mod delimiters;
 mod deliveries;
 mod disconnects;
+mod enders;
 mod fulfilling;
 mod heard;
 mod history;

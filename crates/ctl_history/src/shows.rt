@@ -2,12 +2,13 @@ ghost use Rattle.std.specs.Prelude.{◌≡◌};
 ghost use Rattle.spec_control.specs.Control.{next_object, next_pair};
 ghost use Rattle.spec_control.specs.Rows.{obj};
 ghost use Rattle.ctl_history.specs.Addressee.{addressee_of, last_addressee};
+ghost use Rattle.ctl_history.specs.Addressee.{asked_by, asked_with, last_asked};
 ghost use Rattle.ctl_history.specs.Past.{control_of};
 
 use crate::history::History;
 use msg_pipe::Pipes;
-use spec_control::{Did, ObjKind};
-use zq_base::ObjId;
+use spec_control::{Did, ObjKind, Word};
+use zq_base::{EndId, ObjId};
 
 // Who gets the command of an event.
 fn addressee<N, S>(did: &Did<N, S>) -> Option<ObjId>
@@ -25,6 +26,44 @@ fn last_of<N, S>(events: &[Did<N, S>]) -> Option<ObjId>
 {
     match events.last() {
         Some(did) => return addressee(did),
+        None => return None,
+    }
+}
+
+// The end whose other end was asked, where a command says that.
+fn asked_by(word: &Word) -> Option<EndId>
+    ensures { result ≡ asked_by word.now }
+{
+    match word {
+        Word::PipeTerm(end) => return Some(*end),
+        Word::Own(_)
+        | Word::Plug(_)
+        | Word::TermReq(_)
+        | Word::Term
+        | Word::TermAck(_)
+        | Word::PipeBind(_, _)
+        | Word::PipeTermAck(_)
+        | Word::Stop
+        | Word::Reap(_) => return None,
+    }
+}
+
+// And so in an event.
+fn asked_with<N, S>(did: &Did<N, S>) -> Option<EndId>
+    ensures { result ≡ asked_with did.now }
+{
+    match did {
+        Did::Delivered(_, letter, _) => return asked_by(&letter.word),
+        Did::Asked(_, _, _) | Did::Delimited(_, _) => return None,
+    }
+}
+
+// And in the last of these.
+fn asked_last<N, S>(events: &[Did<N, S>]) -> Option<EndId>
+    ensures { result ≡ last_asked events.now }
+{
+    match events.last() {
+        Some(did) => return asked_with(did),
         None => return None,
     }
 }
@@ -64,5 +103,13 @@ where
         ensures { result ≡ last_addressee self.now.events }
     {
         last_of(self.events.as_slice())
+    }
+
+    /// The end whose other end was asked, if the last event was the delivery of a command that says
+    /// so. It costs a look at one event.
+    pub fn last_asked(&self) -> Option<EndId>
+        ensures { result ≡ last_asked self.now.events }
+    {
+        asked_last(self.events.as_slice())
     }
 }

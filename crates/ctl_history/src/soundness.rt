@@ -1,6 +1,7 @@
 ghost use Rattle.std.specs.Prelude.{◌≡◌, ℕ, true, []};
-ghost use Rattle.spec_control.specs.Names.{AreNamed};
+ghost use Rattle.spec_control.specs.Names.{AreNamed, name_of};
 ghost use Rattle.spec_control.specs.Rows.{obj};
+ghost use Rattle.ctl_history.specs.Giving.{AreOnTheirWay};
 ghost use Rattle.ctl_history.specs.Past.{IsPast, control_of, items_of};
 
 use crate::history::History;
@@ -16,6 +17,15 @@ where
         ensures run { IsPast self.now }
         ensures named { AreNamed [] (items_of self.now) }
         ensures plugged { (i : ℕ) → (obj (control_of self.now).rows i).plugged ≡ true }
+    {
+        self.state.needs();
+    }
+
+    /// The ends of closed sockets that are on their way to the reaper go by the names of their pipes,
+    /// and are where they were given. It costs nothing.
+    pub fn given_are_its(&self)
+        ensures { AreOnTheirWay P.known.in_name (control_of self.now) (name_of (items_of self.now))
+            self.now.given }
     {
         self.state.needs();
     }

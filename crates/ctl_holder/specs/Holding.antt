@@ -87,6 +87,10 @@ module _ {N : Type 0} where
   abbrev pub WritesAsBefore : (old new : Holding N) → Type 0
   WritesAsBefore old new = (d : EndId) → new.writes d ≡ old.writes d
 
+  -- none of its objects has this end
+  abbrev pub HasNowhere : EndId → Holding N → Type 0
+  HasNowhere e h = (i : ℕ) → h.holds i ≡ true → has_end e (h.ends i) ≡ false
+
   -- how far each end is that is had stays, nothing more was told or sealed, and no end joined
   pub record KeepsTurns (old new : Holding N) : Type 0 where
     pub states : (i : ℕ) (d : EndId) → has_end d (new.ends i) ≡ true → new.state d ≡ old.state d
@@ -227,6 +231,10 @@ module _ {N O I : Type 0} where
   -- it is said of each how far it is
   abbrev pub AllStated : (EndId → EndState) → List (Given N O I) → Type 0
   AllStated state gs = All (λ g. g.state ≡ state g.end) gs
+
+  -- of each whose pipe has its delimiter, the holder was told to seal it
+  abbrev pub AllSealed : List EndId → List (Given N O I) → Type 0
+  AllSealed told gs = All (λ g. g.sealed ≡ true → list_any (is_end g.end) told ≡ true) gs
 
   -- each comes with its writing half, where the holder has it still
   abbrev pub AllWriting : (EndId → Bool) → List (Given N O I) → Type 0

@@ -17,13 +17,13 @@ pub trait Holder<P: Pipes> {
     ghost use Rattle.ctl_holder.specs.Holding.{read_in, Stays, Joined, Left, Yielded, HasGiven};
     ghost use Rattle.ctl_holder.specs.Holding.{IsTold, IsPlugged, IsLast, NoneWrites, held_with, AreCrossed};
     ghost use Rattle.ctl_holder.specs.Holding.{held_given, held_optional};
-    ghost use Rattle.ctl_holder.specs.Holding.{AllTold, AllWriting, AreAtDelimiter, AreGivenAs};
+    ghost use Rattle.ctl_holder.specs.Holding.{AllSealed, AllTold, AllWriting, AreAtDelimiter, AreGivenAs};
     ghost use Rattle.ctl_holder.specs.TakingOver.{AreGivenWith, ComeApart};
     ghost use Rattle.ctl_holder.specs.declared.given.Given.{Given};
     ghost use Rattle.ctl_holder.specs.Holding.{writes_in};
     ghost use Rattle.zq_base.specs.declared.ids.EndId.{EndId};
     ghost use Rattle.ctl_holder.specs.Holding.{KeepsTurns, BeginsActive, Begins, TurnsTo, Seals, AllStated};
-    ghost use Rattle.ctl_holder.specs.Holding.{BeginsNone, JoinsBy, TakesBack, joining_with};
+    ghost use Rattle.ctl_holder.specs.Holding.{BeginsNone, HasNowhere, JoinsBy, TakesBack, joining_with};
     ghost use Rattle.ctl_holder.specs.Lent.{has_writer};
     ghost use Rattle.spec_control.specs.Place.{At};
     ghost use Rattle.ctl_holder.specs.Holding.{states_optional, states_given};
@@ -65,6 +65,9 @@ pub trait Holder<P: Pipes> {
     /// are those of its pipes.
     ghost may_take: { Self → List (Given P.Name P.Out P.In) → Type 0 };
 
+    /// Whether an attach may be undone.
+    ghost undoes: { Bool };
+
     /// It is lent for an event in which no end was turned yet, and these joined, the last first.
     ghost calm: { Self → List EndId → Type 0 };
 
@@ -105,7 +108,7 @@ pub trait Holder<P: Pipes> {
         halves: Halves<P::Out, P::In>,
     ) -> Result<Attached, AllocFailed<Halves<P::Out, P::In>>>
         requires here { (holding self.old).holds o.0 ≡ true }
-        requires new { has_end end ((holding self.old).ends o.0) ≡ false }
+        requires new { HasNowhere end (holding self.old) }
         requires fits { fits self.old end halves }
         requires calm { (came : List EndId) × calm self.old came }
         ensures ok { OnOk result (Joined o.0 (held_with P.known.out_name P.known.in_name end halves)
@@ -125,6 +128,7 @@ pub trait Holder<P: Pipes> {
 
     /// Undoes the last attach that still stands.
     fn take_back(&mut self, o: ObjId, end: EndId) -> Halves<P::Out, P::In>
+        requires undoes { undoes ≡ true }
         requires last { IsLast end ((holding self.old).ends o.0) }
         requires writer { (holding self.old).writes end ≡ true }
         requires calm { (came : List EndId) × calm self.old (end ∷ came) }
@@ -244,9 +248,11 @@ pub trait Holder<P: Pipes> {
         ensures told { AllTold (holding self.old).at_delimiter result.ends.items }
         ensures writing { AllWriting (holding self.old).writes result.ends.items }
         ensures states { AllStated (holding self.old).state result.ends.items }
+        ensures sealed { AllSealed (holding self.old).sealed result.ends.items }
         ensures turns { KeepsTurns (holding self.old) (holding self.new) }
         ensures given { AreGivenWith P.known (pipes self.new) result.ends.items }
-        ensures heard { HearsNone (holding self.old) (holding self.new) };
+        ensures heard { HearsNone (holding self.old) (holding self.new) }
+        ensures calm { calm self.old [] → calm self.new [] };
 
     /// Takes the ends of a closed socket, where it is a reaper's. They joined their socket before, and
     /// join nothing now. It needs no memory.

@@ -7,7 +7,7 @@ use Rattle.zq_base.specs.declared.ids.EndId.{EndId}
 use Rattle.zq_base.specs.declared.kind.Kind.{Kind}
 use Rattle.control_held.specs.Held.{Held}
 use Rattle.ctl_holder.specs.declared.halves.Halves.{Halves}
-use Rattle.ctl_holder.specs.Holding.{HearsNone, AreCrossed, Holding, Joined, JoinsBy, KeepsTurns, BeginsActive, MayRefuse, Stays, has_end, held_with, joining_with}
+use Rattle.ctl_holder.specs.Holding.{HasNowhere, HearsNone, AreCrossed, Holding, Joined, JoinsBy, KeepsTurns, BeginsActive, MayRefuse, Stays, has_end, held_with, joining_with}
 use Rattle.ctl_joins.specs.declared.attaching.FirstEnd.{FirstEnd}
 use Rattle.ctl_joins.specs.declared.attaching.Names.{Names}
 use Rattle.ctl_joins.specs.Attaching.{AttachesFirst, held_first}
@@ -47,6 +47,11 @@ module _ {N O I : Type 0} (out_name : O → N) (in_name : I → N) (o : ℕ) (en
       joins_is =
           ap (λ (x : N). let y : Joining N = record { end = end; peer = peer; written = x; read = in_name mine.input; answer = answer; met = false } in y) (sym tw)
           ∙ ap (λ (x : N). let y : Joining N = record { end = end; peer = peer; written = told.written; read = x; answer = answer; met = false } in y) (crossed.back ∙ sym tr)
+
+-- an end that none of its objects had is none's while they stay
+pub nowhere_still : {N : Type 0} (o : ℕ) (e : EndId) (h m : Holding N) → Stays o h m → HasNowhere e h → HasNowhere e m
+nowhere_still o e h m stays new i holds =
+    ap (has_end e) (ends_same o e h m false (turned_stays o e h m stays) i) ∙ new i (sym (stays.now.objects i) ∙ holds)
 
 -- a holder whose ends stayed twice has what it had
 pub stays_twice : {N : Type 0} (o : ℕ) (e : EndId) (h m k : Holding N) → Stays o h m → Stays o m k → Stays o h k

@@ -18,7 +18,7 @@ use Rattle.spec_control.specs.Control.{Control, draws, end_of, greet, is_end, ne
 use Rattle.control_laws.proofs.JoinLemmas.{unasked_lives}
 use Rattle.control_laws.proofs.AskLemmas.{same_end}
 use Rattle.ctl_holder.specs.declared.load.Load.{Load}
-use Rattle.ctl_holder.specs.Holding.{Holding, has_end}
+use Rattle.ctl_holder.specs.Holding.{HasNowhere, Holding}
 use Rattle.ctl_holder.specs.Turns.{TurnsBy, turn_at}
 use Rattle.ctl_ends.proofs.TurnedLemmas.{turns_on}
 use Rattle.ctl_ends.specs.Turning.{PutsLoaded}
@@ -124,9 +124,9 @@ module _ {N O I : Type 0} (s : State (Load N O I)) (h : Holding N) (o : Owners) 
     pub number_is : pair.0 ≡ next_pair w.control
     number_is = number ∙ sym w.stands.pairs.many
 
-    pub not_there : has_end (end_of pair.0 true) (h.ends o.first.0) ≡ false
-    not_there =
-        not_held w.names w.control h o.first.0 w.stands.lists.known (w.has o.first.0 w.lent) (end_of pair.0 true)
+    pub not_there : HasNowhere (end_of pair.0 true) h
+    not_there i holds =
+        not_held w.names w.control h i w.stands.lists.known (w.has i holds) (end_of pair.0 true)
         (omega (arith, number_is))
 
     -- no connect of a number that was not drawn was struck

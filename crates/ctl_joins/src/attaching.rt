@@ -1,6 +1,6 @@
 ghost use Rattle.std.specs.Prelude.{◌≡◌, ◌∷◌, true, false, List, IfOk, OnOk, OnErr};
 ghost use Rattle.zq_base.specs.declared.ids.EndId.{EndId};
-ghost use Rattle.ctl_holder.specs.Holding.{HearsNone, has_end, IsCapacity, KeepsTurns, Stays};
+ghost use Rattle.ctl_holder.specs.Holding.{HasNowhere, HearsNone, IsCapacity, KeepsTurns, Stays};
 ghost use Rattle.ctl_joins.specs.Attaching.{AttachesFirst};
 
 use ctl_holder::{Holder, Made, NamedHalves};
@@ -62,7 +62,7 @@ pub fn attach_first<P: Pipes, H: Holder<P>>(
 where
     P::Name: Drop,
     requires here { (H.holding holder.old).holds o.0 ≡ true }
-    requires new { has_end end ((H.holding holder.old).ends o.0) ≡ false }
+    requires new { HasNowhere end (H.holding holder.old) }
     requires written { IsCapacity capacities.written }
     requires read { IsCapacity capacities.read }
     requires may { H.may_make end capacities.written capacities.read }

@@ -6,6 +6,7 @@ use Rattle.spec_control.specs.declared.request.Req.{Req}
 use Rattle.spec_control.specs.declared.request.Req.TheVariants.{Socket as MakeSocket, AskTerm, Bind, Connect, Unbind, Disconnect, Close, Accepted, Shaken, AskEnd, AskOver, OutputOver}
 use Rattle.ctl_holder.specs.declared.given.Given.{Given}
 use Rattle.ctl_holder.specs.declared.halves.Halves.{Halves}
+use Rattle.ctl_holder.specs.Holding.{AllSealed}
 pub use Rattle.ctl_holder.specs.TakingOver.{AreDistinct}
 use Rattle.ctl_holder.specs.TakingOver.{AreGivenWith}
 use Rattle.msg_pipe.specs.Known.{Known}
@@ -35,11 +36,12 @@ is_close (AskOver o) = false
 is_close (OutputOver o) = false
 
 module _ {P N O I : Type 0} (K : Known P O I N) where
-  -- of ends of closed sockets that are on their way, a close sends those of its socket behind the others, with halves of these pipes
-  pub record SendsEnds (pipes : P) (request : Req) (old new : List (Given N O I)) : Type 0 where
+  -- of ends of closed sockets that are on their way, a close sends those of its socket behind the others, with halves of these pipes; its holder was told to seal these, of those that have their delimiters
+  pub record SendsEnds (pipes : P) (told : List EndId) (request : Req) (old new : List (Given N O I)) : Type 0 where
     pub ends : List (Given N O I)
     pub behind : new ≡ old ++ ends
     pub given : AreGivenWith K pipes ends
+    pub sealed : AllSealed told ends
     pub others : is_close request ≡ false → ends ≡ []
 
 module _ {N O I : Type 0} where

@@ -73,6 +73,7 @@ pub trait Desk<P: Pipes> {
     ) -> Result<Reply, AllocError>
         requires may { MayAskOwn (items_in (moments self.old)) request }
         requires gives { is_close request ≡ true → H.gives ≡ true }
+        requires undoes { H.undoes ≡ true }
         requires options { HasMarks request }
         requires sockets { serves ≡ false → IsOfSockets request }
         requires lent { (i : ℕ) → asker request ≡ Some i → (H.holding holder.old).holds i ≡ true }
@@ -81,15 +82,16 @@ pub trait Desk<P: Pipes> {
         requires makes { (c : Control) → finds self.old c → MakesSo c request H.may_make }
         ensures ok { IfOk result (λ reply.
             AsksOnce (number self.old) request reply (moments self.old) (moments self.new)) }
-        ensures given { IfOk result (λ _. SendsEnds P.known (H.pipes holder.new) request
-            (given self.old) (given self.new)) }
+        ensures given { IfOk result (λ _. SendsEnds P.known (H.pipes holder.new)
+            (H.holding holder.old).sealed request (given self.old) (given self.new)) }
         ensures err { OnErr result ((moments self.new ≡ moments self.old)
             × (given self.new ≡ given self.old)) }
         ensures grows { grows self.old self.new }
         ensures names { KeepsNames (named self.old) (named self.new) }
         ensures keeps { (number self.new ≡ number self.old)
             × KeepsUp (number self.new) (moments self.old) (moments self.new)
-            (H.holding holder.old) (H.holding holder.new) };
+            (H.holding holder.old) (H.holding holder.new) }
+        ensures closes { is_close request ≡ true → H.calm holder.old [] → H.calm holder.new [] };
 
     /// Processes the oldest command of a mailbox, or finds it empty. The halves of ends that are on
     /// their way to it may join what the holder has. Want of memory leaves the command where it was.

@@ -3,7 +3,7 @@ use Rattle.std.proofs.Common.{◌≡◌, ◌∙◌, ℕ, Bool, true, false, List
 use Rattle.std.proofs.lemmas.List.{append_assoc}
 use Rattle.zq_base.specs.declared.ids.EndId.{EndId}
 use Rattle.spec_pattern.specs.Half.{with_delimiter, without_parts}
-use Rattle.msg_pipe.specs.Known.{Known, KeepsButOut, KeepsButPipe}
+use Rattle.msg_pipe.specs.Known.{Known, IsThere, KeepsButOut, KeepsButPipe}
 use Rattle.held_ends.specs.declared.changes.PipeChange.{PipeChange}
 use Rattle.held_ends.specs.declared.changes.PipeChange.TheVariants.{Kept, Made, Sealed, SealedAgain, Parted, Settled}
 use Rattle.held_ends.specs.declared.table.Place.{Place}
@@ -70,6 +70,7 @@ module _ {S O I N : Type 0} (K : Known S O I N) where
     sealed_later k e (a ∷ b ∷ []) old new h = record {
       placed = placed_later k e h.placed;
       pipe_is = λ q at. let p = before k e h.placed q at in h.pipe_is p.0 p.1 ∙ sym p.2.written_is;
+      there = h.there;
       unsealed = h.unsealed;
       delimiter = h.delimiter;
       keeps = h.keeps;
@@ -161,12 +162,12 @@ module _ {S O I N : Type 0} (K : Known S O I N) where
       pub seals_again : p.writes ≡ true → p.sealed ≡ true → new ≡ old → ys ≡ xs ++ (SealedAgain k e, new) ∷ [] → DoesMore K ps qs (sealing_at (place_at ps k)) xs old ys new
       seals_again writes sealed stays noted = more_one ps qs (SealedAgain k e) (sealing_at (place_at ps k)) xs ys old new noted (record { placed = placed_here; stays = stays }) (both_here writes) (sealing_is false (ap not sealed))
 
-      pub seals_first : (lent back : O) → p.writes ≡ true → p.sealed ≡ false → NotesHalf (λ half. Sealed k e half) lent back new xs ys → K.out_name lent ≡ p.written → (K.writing old lent).sealed ≡ false
+      pub seals_first : (lent back : O) → p.writes ≡ true → p.sealed ≡ false → NotesHalf (λ half. Sealed k e half) lent back new xs ys → K.out_name lent ≡ p.written → IsThere K old (K.out_name lent) → (K.writing old lent).sealed ≡ false
           → K.writing new back ≡ with_delimiter (K.writing old lent) → KeepsButOut K lent back old new → DoesMore K ps qs (sealing_at (place_at ps k)) xs old ys new
-      seals_first lent back writes not_yet h name unsealed delimiter leaves =
+      seals_first lent back writes not_yet h name there unsealed delimiter leaves =
           more_one ps qs (Sealed k e h.half) (sealing_at (place_at ps k)) xs ys old new h.noted
           (subst (λ (l : List (O × Unit {0})). SealedBy K qs k e l old new) (sym h.half_is)
-          (record { placed = placed_here; pipe_is = λ q here. name ∙ sym (less_here q here).written_is; unsealed = unsealed; delimiter = delimiter; keeps = leaves }))
+          (record { placed = placed_here; pipe_is = λ q here. name ∙ sym (less_here q here).written_is; there = there; unsealed = unsealed; delimiter = delimiter; keeps = leaves }))
           (both_here writes) (sealing_is true (ap not not_yet))
 
       pub parts_once : (lent back : O) → p.writes ≡ true → NotesHalf (λ half. Parted k e half) lent back new xs ys → K.out_name lent ≡ p.written

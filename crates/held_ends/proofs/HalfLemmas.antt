@@ -261,7 +261,7 @@ module _ {S O I N : Type 0} (K : Known S O I N) where
     given_both r writes stands = record {
       place = p;
       there = there;
-      said = λ i. record { end = p.end; written = p.written; read = stands.reads.name_is i; writes = sym writes i; met = p.met; state = p.state };
+      said = λ i. record { end = p.end; written = p.written; read = stands.reads.name_is i; writes = sym writes i; met = p.met; sealed = p.sealed; state = p.state };
       halves = record {
         read_there = subst (IsThere K pipes) (sym stands.reads.name_is) stands.reads.there;
         met = stands.reads.met;
@@ -276,7 +276,7 @@ module _ {S O I N : Type 0} (K : Known S O I N) where
     given_half i yielded reads = record {
       place = p;
       there = there;
-      said = λ j. record { end = p.end; written = p.written; read = reads.name_is j; writes = sym yielded j; met = p.met; state = p.state };
+      said = λ j. record { end = p.end; written = p.written; read = reads.name_is j; writes = sym yielded j; met = p.met; sealed = p.sealed; state = p.state };
       halves = record {
         read_there = subst (IsThere K pipes) (sym reads.name_is) reads.there;
         met = reads.met;

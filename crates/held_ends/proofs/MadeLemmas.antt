@@ -1,15 +1,17 @@
 -- The pipes that were made, as the changes tell them.
-use Rattle.std.proofs.Common.{◌≡◌, ◌∙◌, ◌&&◌, ℕ, Bool, true, false, List, [], ◌∷◌, ◌++◌, Option, Some, None, not, refl, sym, ap, if◌then◌else◌}
+use Rattle.std.proofs.Common.{◌≡◌, ◌∙◌, ◌&&◌, ℕ, Bool, true, false, List, [], ◌∷◌, ◌++◌, Option, Some, None, not, refl, sym, ap, subst, if◌then◌else◌}
 use Rattle.std.proofs.lemmas.Bool.{eq-eqb}
+use Rattle.std.proofs.lemmas.List.{append_assoc}
 use Rattle.std.specs.Option.{option_or}
 use Rattle.zq_base.specs.declared.ids.EndId.{EndId}
 use Rattle.zq_base.specs.Ends.{other_end}
 use Rattle.http_server.specs.declared.log.Log.{Log}
 use Rattle.spec_control.specs.Control.{is_end}
-use Rattle.msg_pipe.specs.Known.{Known}
+use Rattle.msg_pipe.specs.Known.{Known, IsThere}
 use Rattle.held_ends.specs.declared.changes.PipeChange.{PipeChange}
-use Rattle.held_ends.specs.declared.changes.PipeChange.TheVariants.{Made}
-use Rattle.held_ends.specs.Changes.{made_with, made_by, made_last, MakesFor, MakesOnlyFor, MakesOnlyOf, MakesNone, AreMadeFor}
+use Rattle.held_ends.specs.declared.changes.PipeChange.TheVariants.{Kept, Made, Sealed, SealedAgain, Parted, Settled}
+use Rattle.held_ends.specs.Changes.{made_with, made_by, made_last, MakesFor, MakesOnlyFor, MakesOnlyOf, MakesNone, AreMakings, AddsMakings, MadeWith, AreMadeFor, DoesChanges}
+use Rattle.held_ends.specs.declared.table.Place.{Place}
 use Rattle.held_ends.proofs.AttachLemmas.{end_self}
 
 or_none : {A : Type 0} (o : Option A) → option_or o None ≡ o
@@ -75,3 +77,43 @@ made_both K e f written read out back input xs ys zs other first last one = reco
   reads_it = sym one;
   may = ∣ (refl, refl) ∣₁;
 }
+
+-- ---- where no more was done than to make pipes
+
+module _ {O I S : Type 0} where
+  pub are_makings : (xs ys : List (PipeChange O I × S)) → AreMakings xs → AreMakings ys → AreMakings (xs ++ ys)
+  are_makings [] ys a b = b
+  are_makings (x ∷ xs) ys a b = (a.0, are_makings xs ys a.1 b)
+
+  pub makings_on : (xs ys zs : List (PipeChange O I × S)) → AddsMakings xs ys → AddsMakings ys zs → AddsMakings xs zs
+  makings_on xs ys zs a b = record {
+    more = a.more ++ b.more;
+    noted = b.noted ∙ ap (λ (l : List (PipeChange O I × S)). l ++ b.more) a.noted ∙ append_assoc xs a.more b.more;
+    makings = are_makings a.more b.more a.makings b.makings;
+  }
+
+  pub makings_more : (xs ys : List (PipeChange O I × S)) → AddsMakings xs ys → AreMakings xs → AreMakings ys
+  makings_more xs ys a m = subst AreMakings (sym a.noted) (are_makings xs a.more m a.makings)
+
+module _ {S O I N : Type 0} (K : Known S O I N) (ps : List (Place N I)) where
+  one_made : {X : Type 0} (x y : X) → Some x ≡ Some y → x ≡ y
+  one_made x y e = cc
+
+  none_so : {X : Type 0} (x : X) → None ≡ Some x → ⊥
+  none_so x e = cc
+
+  -- a pipe that was made goes by a name of none that was there before
+  pub made_new : (e : EndId) (xs : List (PipeChange O I × S)) (old new : S) (y : ℕ × O) → AreMakings xs → DoesChanges K ps old xs new → made_last e xs ≡ Some y → K.exact ≡ true → IsThere K old (K.out_name y.1) → ⊥
+  made_new e [] old new y are does made ex there = none_so y made
+  made_new e ((Kept, s) ∷ xs) old new y are does made ex there = made_new e xs s new y are.1 does.1 (sym (or_none (made_last e xs)) ∙ made) ex (does.0.there (K.out_name y.1) there)
+  made_new e ((Made d capacity halves, s) ∷ xs) old new y are does made ex there = by halves.items does.0 (made_last e xs) (is_end d e) refl made (λ m kept. made_new e xs s new y are.1 does.1 m ex kept)
+    where
+      by : (hs : List (O × I)) → MadeWith K capacity hs old s → (m : Option (ℕ × O)) (b : Bool) → made_last e xs ≡ m → option_or m (if b then made_with capacity hs else None) ≡ Some y → (made_last e xs ≡ Some y → IsThere K s (K.out_name y.1) → ⊥) → ⊥
+      by [] makes m b em g later = absurd makes
+      by (h ∷ hs) makes (Some x) b em g later = later (em ∙ g) (makes.1.there (K.out_name y.1) there)
+      by (h ∷ hs) makes None true em g later = makes.0.is_new ex (subst (IsThere K old) (ap (λ (z : ℕ × O). K.out_name z.1) (sym (one_made (capacity, h.0) y g))) there)
+      by (h ∷ hs) makes None false em g later = none_so y g
+  made_new e ((Sealed k d half, s) ∷ xs) old new y are does made ex there = absurd are.0
+  made_new e ((SealedAgain k d, s) ∷ xs) old new y are does made ex there = absurd are.0
+  made_new e ((Parted k d half, s) ∷ xs) old new y are does made ex there = absurd are.0
+  made_new e ((Settled k d, s) ∷ xs) old new y are does made ex there = absurd are.0

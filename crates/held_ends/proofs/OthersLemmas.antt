@@ -242,8 +242,8 @@ module _ {S O I N : Type 0} (K : Known S O I N) where
     -- the pipe that it read was settled
     pub leaves_settled : (n : N) → n ≡ p.read → KeepsButPipe K n old new → to.settled.items ≡ from.settled.items ++ (n, tt) ∷ [] → Leaves K old from new to
     leaves_settled n name keeps one = record {
-      written = λ m u t. keeps.there m (last m u) t;
-      read = λ m r t. keeps.there m (λ ex e. not_read m r ex (e ∙ name)) t;
+      written = λ m u t. keeps.there m t;
+      read = λ m r t. keeps.there m t;
       outs = λ h t w u. keeps.outs h t (last (K.out_name h) u);
       ins = λ h t r. keeps.ins h t (λ ex e. not_read (K.in_name h) r ex (e ∙ name));
       places = places;

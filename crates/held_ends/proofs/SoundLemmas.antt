@@ -110,8 +110,8 @@ module _ {S O I N : Type 0} (K : Known S O I N) where
       → IsSound K pipes rows places → place_at places k ≡ Some p → p.held ≡ true → n ≡ p.read → KeepsButPipe K n pipes pipes'
       → (j : ℕ) (r : Place N I) → j ≢ k → place_at places j ≡ Some r → Carries pipes pipes' r
   others_settled pipes pipes' rows places k p n sound there held name keeps j r ne at = record {
-    there_out = λ h w t. keeps.there r.written (λ ex e. sound.crossed j k r p at there h w held ex (e ∙ name)) t;
-    there_in = λ h t. keeps.there r.read (λ ex e. (sound.apart j k r p ne at there h held).ins ex (e ∙ name)) t;
+    there_out = λ h w t. keeps.there r.written t;
+    there_in = λ h t. keeps.there r.read t;
     outs = λ h w x e t. keeps.outs x (subst (IsThere K pipes) (sym e) t) (λ ex same. sound.crossed j k r p at there h w held ex (sym e ∙ same ∙ name));
     ins = λ h i e t. keeps.ins i (subst (IsThere K pipes) (sym e) t) (λ ex same. (sound.apart j k r p ne at there h held).ins ex (sym e ∙ same ∙ name));
   }

@@ -6,7 +6,7 @@ use Rattle.zq_base.specs.declared.ids.EndId.{EndId}
 use Rattle.spec_control.specs.Control.{is_end}
 use Rattle.http_server.specs.declared.log.Log.{Log}
 use Rattle.spec_pattern.specs.Half.{with_delimiter, without_parts}
-use Rattle.msg_pipe.specs.Known.{Known, KeepsAll, KeepsButOut, KeepsButPipe, MakesPipe}
+use Rattle.msg_pipe.specs.Known.{Known, IsThere, KeepsAll, KeepsButOut, KeepsButPipe, MakesPipe}
 use Rattle.held_ends.specs.declared.changes.PipeChange.{PipeChange}
 use Rattle.held_ends.specs.declared.changes.PipeChange.TheVariants.{Kept, Made, Sealed, SealedAgain, Parted, Settled}
 use Rattle.held_ends.specs.declared.table.Place.{Place}
@@ -79,6 +79,26 @@ abbrev pub WereHeld : {N I O S : Type 0} → List (Place N I) → List (PipeChan
 WereHeld ps [] = Unit {0}
 WereHeld ps (x ∷ xs) = WasHeld ps x.0 × WereHeld ps xs
 
+-- a pipe was made, or want of memory left all as they were
+abbrev pub IsMaking : {O I : Type 0} → PipeChange O I → Type 0
+IsMaking Kept = Unit {0}
+IsMaking (Made e capacity halves) = Unit {0}
+IsMaking (Sealed k e half) = ⊥
+IsMaking (SealedAgain k e) = ⊥
+IsMaking (Parted k e half) = ⊥
+IsMaking (Settled k e) = ⊥
+
+-- no more was done than that
+abbrev pub AreMakings : {O I S : Type 0} → List (PipeChange O I × S) → Type 0
+AreMakings [] = Unit {0}
+AreMakings (x ∷ xs) = IsMaking x.0 × AreMakings xs
+
+-- no more than that was done behind what was done before
+pub record AddsMakings {O I S : Type 0} (xs ys : List (PipeChange O I × S)) : Type 0 where
+  pub more : List (PipeChange O I × S)
+  pub noted : ys ≡ xs ++ more
+  pub makings : AreMakings more
+
 -- the end has this place
 pub record IsPlaced {N I : Type 0} (ps : List (Place N I)) (k : ℕ) (e : EndId) : Type 0 where
   pub within : k < length ps
@@ -111,6 +131,7 @@ module _ {S O I N : Type 0} (K : Known S O I N) where
     pub record PutsDelimiter (lent back : O) (old new : S) : Type 0 where
       pub placed : IsPlaced ps k e
       pub pipe_is : (p : Place N I) → place_at ps k ≡ Some p → K.out_name lent ≡ p.written
+      pub there : IsThere K old (K.out_name lent)
       pub unsealed : (K.writing old lent).sealed ≡ false
       pub delimiter : K.writing new back ≡ with_delimiter (K.writing old lent)
       pub keeps : KeepsButOut K lent back old new

@@ -17,11 +17,12 @@ pub record Said (N : Type 0) : Type 0 where
   pub read : N
   pub writes : Bool
   pub met : Bool
+  pub sealed : Bool
   pub state : EndState
 
 module _ {N I : Type 0} where
   abbrev pub said_of : Place N I → Said N
-  said_of p = record { end = p.end; written = p.written; read = p.read; writes = p.writes; met = p.met; state = p.state }
+  said_of p = record { end = p.end; written = p.written; read = p.read; writes = p.writes; met = p.met; sealed = p.sealed; state = p.state }
 
   -- of the ends that are held, in the order of their attachment
   abbrev pub said_in : List (Place N I) → List (Said N)
@@ -44,7 +45,7 @@ module _ {N O I : Type 0} where
 module _ {N O I : Type 0} (in_name : I → N) where
   -- of an end that is given
   abbrev pub said_by : Given N O I → Said N
-  said_by g = record { end = g.end; written = g.written; read = in_name g.input; writes = is_some g.out; met = g.met; state = g.state }
+  said_by g = record { end = g.end; written = g.written; read = in_name g.input; writes = is_some g.out; met = g.met; sealed = g.sealed; state = g.state }
 
 module _ {S O I N : Type 0} (K : Known S O I N) where
   -- the end at a place was given as it is, and is gone

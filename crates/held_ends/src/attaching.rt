@@ -7,7 +7,7 @@ ghost use Rattle.held_ends.specs.Attaching.{new_place, new_row, halves_of, Attac
 ghost use Rattle.held_ends.specs.Halving.{WritesAt};
 ghost use Rattle.msg_pipe.specs.Known.{KeepsAll, MakesPipe};
 ghost use Rattle.held_ends.specs.declared.table.Place.{Place};
-ghost use Rattle.held_ends.specs.Changes.{DoesMore, MakesFor, MakesOnlyFor, MakesOnlyOf, AreMadeFor};
+ghost use Rattle.held_ends.specs.Changes.{DoesMore, MakesFor, MakesOnlyFor, MakesOnlyOf, AreMadeFor, AddsMakings};
 ghost use Rattle.held_ends.specs.Others.{Leaves};
 
 use crate::changes::PipeChange;
@@ -150,6 +150,7 @@ pub fn make<P: Pipes>(
         (λ e written read. (written ≡ capacities.0) × (read ≡ capacities.1)) did.new.items end
         (P.known.out_name m.mine.out) (P.known.in_name m.mine.input)) }
     ensures only { MakesOnlyOf end did.old.items did.new.items }
+    ensures makings { AddsMakings did.old.items did.new.items }
     ensures changes { DoesMore P.known table.now.places.items table.now.places.items []
         did.old.items pipes.old did.new.items pipes.new }
     ensures others { Leaves P.known pipes.old table.now pipes.new table.now }
@@ -181,6 +182,7 @@ fn make_noted<P: Pipes>(
     ensures keeps { KeepsAll P.known pipes.old pipes.new }
     ensures noted { IfOk result (λ r. MakesFor end capacity r.0 did.old.items did.new.items) }
     ensures only { MakesOnlyFor end did.old.items did.new.items }
+    ensures makings { AddsMakings did.old.items did.new.items }
     ensures changes { (places : List (Place P.Name P.In)) →
         DoesMore P.known places places [] did.old.items pipes.old did.new.items pipes.new }
 {

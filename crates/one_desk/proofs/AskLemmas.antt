@@ -4,6 +4,7 @@ use Rattle.std.proofs.Common.{sym, ap, ◌∙◌}
 use Rattle.std.proofs.lemmas.Grind.{flat_map-append}
 use Rattle.std.proofs.lemmas.List.{append-nil}
 use Rattle.std.proofs.lemmas.List.Elements.{All-nil}
+use Rattle.zq_base.specs.declared.ids.EndId.{EndId}
 use Rattle.zq_base.specs.declared.ids.ObjId.{ObjId}
 use Rattle.spec_control.specs.declared.entry.Did.TheVariants.{Asked as DidAsk}
 use Rattle.spec_control.specs.declared.entry.Item.{Item}
@@ -53,16 +54,17 @@ module _ {G N S : Type 0} (req : Req) (reply : Reply) (old new : Lent G N S) (as
   pub asked_names : KeepsNames (name_of old.items) (name_of new.items)
   asked_names = names_stay old.items new.items (IsEvent (record { by = old.caller; did = DidAsk req reply asks.answered })) asks.items
 
-pub asked_sends : {P N O I S : Type 0} (K : Known P O I N) (pipes : P) (req : Req) (reply : Reply) (old new : Lent (Given N O I) N S) → Asks req reply old new → SendsEnds K pipes req old.past.given new.past.given
-asked_sends {P} {N} {O} {I} {S} K pipes req reply old new asks = record {
+pub asked_sends : {P N O I S : Type 0} (K : Known P O I N) (pipes : P) (told : List EndId) (req : Req) (reply : Reply) (old new : Lent (Given N O I) N S) → Asks req reply old new → SendsEnds K pipes told req old.past.given new.past.given
+asked_sends {P} {N} {O} {I} {S} K pipes told req reply old new asks = record {
   ends = [];
   behind = ap (λ (p : Past (Given N O I) N S). p.given) asks.past ∙ sym (append-nil old.past.given);
   given = All-nil _;
+  sealed = All-nil _;
   others = λ e. refl;
 }
 
 -- a socket that is closed
-module _ {P N O I S : Type 0} (K : Known P O I N) (pipes : P) (socket : ObjId) (old new : Lent (Given N O I) N S) (closes : ClosesOnce K pipes socket old new) where
+module _ {P N O I S : Type 0} (K : Known P O I N) (pipes : P) (told : List EndId) (socket : ObjId) (old new : Lent (Given N O I) N S) (closes : ClosesOnce K pipes told socket old new) where
   pub closes_once : AsksOnce old.caller (Close socket) IsDone (moments_of old) (moments_of new)
   closes_once = record {
     found = after_all old.items (begun old.past.workers);
@@ -73,10 +75,11 @@ module _ {P N O I S : Type 0} (K : Known P O I N) (pipes : P) (socket : ObjId) (
   pub closed_names : KeepsNames (name_of old.items) (name_of new.items)
   closed_names = names_stay old.items new.items (IsEvent (record { by = old.caller; did = DidAsk (Close socket) IsDone closes.answered })) closes.items
 
-  pub closed_sends : SendsEnds K pipes (Close socket) old.past.given new.past.given
+  pub closed_sends : SendsEnds K pipes told (Close socket) old.past.given new.past.given
   closed_sends = record {
     ends = closes.ends;
     behind = ap (λ (p : Past (Given N O I) N S). p.given) closes.past;
     given = closes.given;
+    sealed = closes.sealed;
     others = λ e. absurd (never (sym e));
   }

@@ -16,3 +16,4 @@ pub mod CountLemmas
 pub mod PlaneLemmas
 pub mod ReapingLemmas
 pub mod RootLemmas
+mod GivenLemmas

@@ -33,6 +33,7 @@ where
     ) -> Result<Reply, AllocError>
         requires open { HasSocket self.old socket }
         requires inproc { IsInproc at }
+        requires undoes { H.undoes ≡ true }
         requires lent { (H.holding holder.old).holds socket.0 ≡ true }
         requires has { HasWhatTheySay self.old.caller (moments_of self.old)
             (H.holding holder.old) }
@@ -85,6 +86,7 @@ where
     ) -> Result<Reply, AllocError>
         requires may { MayAskOwn (items_in (moments_of self.old)) request }
         requires gives { is_close request ≡ true → H.gives ≡ true }
+        requires undoes { H.undoes ≡ true }
         requires options { HasMarks request }
         requires sockets { IsOfSockets request }
         requires lent { (i : ℕ) → asker request ≡ Some i → (H.holding holder.old).holds i ≡ true }
@@ -94,14 +96,15 @@ where
         requires makes { MakesSo (control_of self.old.past) request H.may_make }
         ensures ok { IfOk result (λ reply. AsksOnce self.old.caller request reply
             (moments_of self.old) (moments_of self.new)) }
-        ensures given { IfOk result (λ _. SendsEnds P.known (H.pipes holder.new) request
-            self.old.past.given self.new.past.given) }
+        ensures given { IfOk result (λ _. SendsEnds P.known (H.pipes holder.new)
+            (H.holding holder.old).sealed request self.old.past.given self.new.past.given) }
         ensures err { OnErr result (self.new ≡ self.old) }
         ensures grows { GrowsBy self.old self.new }
         ensures names { KeepsNames (name_of self.old.items) (name_of self.new.items) }
         ensures keeps { (self.new.caller ≡ self.old.caller)
             × KeepsUp self.new.caller (moments_of self.old) (moments_of self.new)
             (H.holding holder.old) (H.holding holder.new) }
+        ensures closes { is_close request ≡ true → H.calm holder.old [] → H.calm holder.new [] }
     {
         match request {
             Req::Socket(kind, options) => return self.make_socket(alloc, kind, options, &*holder),

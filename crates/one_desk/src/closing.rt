@@ -1,4 +1,4 @@
-ghost use Rattle.std.specs.Prelude.{◌≡◌, true};
+ghost use Rattle.std.specs.Prelude.{◌≡◌, true, []};
 ghost use Rattle.ctl_holder.specs.Holding.{HasGiven};
 ghost use Rattle.ctl_plane.specs.Desk.{HasWhatTheySay, KeepsUp};
 ghost use Rattle.one_desk.specs.Lent.{moments_of, ClosesOnce, HasSocket};
@@ -23,10 +23,12 @@ where
         requires lent { (H.holding holder.old).holds socket.0 ≡ true }
         requires has { HasWhatTheySay self.old.caller (moments_of self.old)
             (H.holding holder.old) }
-        ensures closes { ClosesOnce P.known (H.pipes holder.new) socket self.old self.new }
+        ensures closes { ClosesOnce P.known (H.pipes holder.new) (H.holding holder.old).sealed
+            socket self.old self.new }
         ensures gives { HasGiven socket.0 (H.holding holder.old) (H.holding holder.new) }
         ensures keeps { KeepsUp self.new.caller (moments_of self.old) (moments_of self.new)
             (H.holding holder.old) (H.holding holder.new) }
+        ensures calm { H.calm holder.old [] → H.calm holder.new [] }
     {
         self.history.close(alloc, socket, holder);
         self.history.is_run();

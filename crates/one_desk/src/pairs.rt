@@ -30,6 +30,7 @@ where
         holder: &mut H,
     ) -> Result<Reply, AllocError>
         requires open { HasSocket self.old socket }
+        requires undoes { H.undoes ≡ true }
         requires lent { (H.holding holder.old).holds socket.0 ≡ true }
         requires has { HasWhatTheySay self.old.caller (moments_of self.old)
             (H.holding holder.old) }

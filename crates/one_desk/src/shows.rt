@@ -3,7 +3,8 @@ ghost use Rattle.spec_control.specs.Control.{next_object, next_pair, owner_of};
 ghost use Rattle.spec_control.specs.Reply.{most_objects, root_state};
 ghost use Rattle.spec_control.specs.Rows.{obj};
 ghost use Rattle.spec_control.specs.Stage.{has_ended};
-ghost use Rattle.ctl_history.specs.Addressee.{last_addressee};
+ghost use Rattle.ctl_history.specs.Addressee.{last_addressee, last_asked};
+ghost use Rattle.ctl_history.specs.Enders.{enders_in};
 ghost use Rattle.ctl_history.specs.Past.{control_of};
 ghost use Rattle.ctl_history.specs.Settled.{settled_in};
 
@@ -62,6 +63,22 @@ where
         ensures { result ≡ last_addressee self.now.past.events }
     {
         self.history.last_addressee()
+    }
+
+    /// The end whose other end was asked, if the last event was the delivery of a command that says
+    /// so. It costs a look at one event.
+    pub fn last_asked(&self) -> Option<EndId>
+        ensures { result ≡ last_asked self.now.past.events }
+    {
+        self.history.last_asked()
+    }
+
+    /// The object that each event so far may have ended, in order: who got a command, whose output was
+    /// over, and the root where it was asked. It walks over all events.
+    pub fn enders(&self, alloc: Global) -> Result<Seq<ObjId>, AllocError>
+        ensures { IfOk result (λ objects. objects ≡ enders_in self.now.past.events) }
+    {
+        self.history.enders(alloc)
     }
 
     /// The pipes that were settled so far, in order, with their counts. It walks over all events.

@@ -4,9 +4,15 @@ use Rattle.std.specs.Prelude.{◌==◌, ◌&&◌, is_some, flat_map, map, if◌t
 use Rattle.std.proofs.Math.Logic.{∥∥₁_elim, ∥∥₁_map}
 use Rattle.zq_base.specs.declared.ids.EndId.{EndId}
 use Rattle.held_ends.proofs.PlaceLemmas.{place_within}
+use Rattle.held_ends.specs.Changes.{AreMakings}
 use Rattle.held_ends.specs.declared.changes.PipeChange.{PipeChange}
 use Rattle.held_ends.proofs.ChangeProps.{changes_prop, were_held_prop, made_out}
+use Rattle.sock_core.specs.Came.{HasCome}
 use Rattle.sock_core.specs.Noted.{AreMade, HasDone}
+use Rattle.sock_core.specs.Standing.{standing_joins}
+use Rattle.sock_core.specs.Way.{way_in}
+use Rattle.sock_calls.proofs.CameLemmas.{come_by, come_made, come_none}
+use Rattle.sock_core.proofs.CameLemmas.{came_none}
 use Rattle.sock_core.proofs.DoneLemmas.{tells_none}
 use Rattle.std.proofs.lemmas.Bool.{eq-eqb}
 use Rattle.std.proofs.lemmas.List.{append-nil}
@@ -30,7 +36,7 @@ use Rattle.spec_pattern.specs.Half.{Writing, Reading}
 use Rattle.held_ends.proofs.OthersLemmas.{places_stay, leaves_pipes, others_sound, halves_fitting}
 use Rattle.sock_core.proofs.FormLemmas.{sound_of, are_sound}
 use Rattle.sock_core.specs.declared.sock.SockCore.{SockCore}
-use Rattle.sock_calls.specs.Calls.{owner_of, holding_of, FitsPipes, LeavesOthers, HaveDone, HasNone}
+use Rattle.sock_calls.specs.Calls.{owner_of, holding_of, FitsPipes, LeavesOthers, HaveDone, OnlyMake, HasNone}
 use Rattle.sock_calls.specs.Others.{IsGivenElse, LeavesFit, LeavesJoining, LeavesGiven}
 
 never : false ≡ true → ⊥
@@ -142,16 +148,27 @@ module _ {C W N O I S : Type 0} (K : Known S O I N) where
       }
 
 -- what was done is told in one way
-pub done_so : {C W N O I S : Type 0} → IsSet N → IsSet S → (K : Known S O I N) (made : Bool) (may_make : EndId → ℕ → ℕ → Type 0) (before now : S) (a b : SockCore C W N O I) (xs : List (PipeChange O I × S))
-    → HasDone K before a.ends.places.items (map (λ x. x.0) a.sealed.items) xs now b.ends.places.items (map (λ x. x.0) b.sealed.items) → (made ≡ true → AreMade K may_make xs (length a.ends.places.items) b.ends.places.items)
+pub done_so : {C W N O I S : Type 0} → IsSet N → IsSet S → (K : Known S O I N) (made comes : Bool) (may_make : EndId → ℕ → ℕ → Type 0) (before now : S) (a b : SockCore C W N O I) (xs : List (PipeChange O I × S)) → (made ≡ true → comes ≡ false)
+    → HasDone K before a.ends.places.items (map (λ x. x.0) a.sealed.items) xs now b.ends.places.items (map (λ x. x.0) b.sealed.items) → ∥ HasCome K made comes before (length a.ends.places.items) (standing_joins a.joins.items) (way_in b.way.items).joined (standing_joins b.joins.items) xs b.ends.places.items ∥₁
+    → (made ≡ true → AreMade K may_make xs (length a.ends.places.items) b.ends.places.items)
     → HaveDone K made may_make (Some a) (Some b) before now
-done_so n_set s_set K made may_make before now a b xs h tied = record {
+done_so n_set s_set K made comes may_make before now a b xs makes h come tied = record {
   changes = xs;
   does = ∥∥₁_elim h.does (changes_prop K n_set s_set b.ends.places.items before xs now) (λ d. d);
   seals = h.seals;
   were_held = ∥∥₁_elim h.were_held (were_held_prop a.ends.places.items xs) (λ w. w);
+  came = come_by K made comes before (length a.ends.places.items) (standing_joins a.joins.items) (standing_joins b.joins.items) (way_in b.way.items).joined xs b.ends.places.items makes come;
+  stands = ∥∥₁_map come (λ c. ((way_in b.way.items).joined, come_made K made comes before (length a.ends.places.items) (standing_joins a.joins.items) (standing_joins b.joins.items) (way_in b.way.items).joined xs b.ends.places.items makes c));
   tied = λ is k p le at held. made_out K n_set may_make xs p.end p.written p.read (tied is k p le at held);
 }
+
+-- and no more than to make some, where it was no more
+pub makes_so : {C W N O I S : Type 0} (n_set : IsSet N) (s_set : IsSet S) (K : Known S O I N) (made comes : Bool) (may_make : EndId → ℕ → ℕ → Type 0) (before now : S) (a b : SockCore C W N O I) (xs : List (PipeChange O I × S)) (makes : made ≡ true → comes ≡ false)
+    (h : HasDone K before a.ends.places.items (map (λ x. x.0) a.sealed.items) xs now b.ends.places.items (map (λ x. x.0) b.sealed.items)) (come : ∥ HasCome K made comes before (length a.ends.places.items) (standing_joins a.joins.items) (way_in b.way.items).joined (standing_joins b.joins.items) xs b.ends.places.items ∥₁)
+    (tied : made ≡ true → AreMade K may_make xs (length a.ends.places.items) b.ends.places.items)
+    → AreMakings xs → OnlyMake K made may_make (Some a) (Some b) before now (done_so n_set s_set K made comes may_make before now a b xs makes h come tied)
+unfolding done_so
+makes_so n_set s_set K made comes may_make before now a b xs makes h come tied only = only
 
 -- nothing was done
 pub done_nothing : {C W N O I S : Type 0} (K : Known S O I N) (made : Bool) (may_make : EndId → ℕ → ℕ → Type 0) (pipes : S) (s : Option (SockCore C W N O I)) → is_some s ≡ true → HaveDone K made may_make s s pipes pipes
@@ -161,6 +178,8 @@ done_nothing K made may_make pipes (Some s) there = record {
   does = refl;
   seals = tells_none (map (λ x. x.0) s.sealed.items);
   were_held = tt;
+  came = λ js is. come_none K made pipes (length s.ends.places.items) js s.ends.places.items refl;
+  stands = ∣ ([], came_none K made false pipes (length s.ends.places.items) (standing_joins s.joins.items) [] [] s.ends.places.items refl refl refl) ∣₁;
   tied = λ is k p le at held. let w = place_within s.ends.places.items k p at in absurd (omega (arith, le, w));
 }
 
@@ -174,6 +193,8 @@ done_as K made may_make might turns (Some a) (Some b) before now h = record {
   does = h.does;
   seals = h.seals;
   were_held = h.were_held;
+  came = h.came;
+  stands = h.stands;
   tied = λ is k p le at held. let m = h.tied is k p le at held in record {
     written = m.written;
     read = m.read;
@@ -186,3 +207,8 @@ done_as K made may_make might turns (Some a) (Some b) before now h = record {
     may = ∥∥₁_map m.may (turns p.end m.written m.read);
   };
 }
+
+pub makes_as : {C W N O I S : Type 0} (K : Known S O I N) (made : Bool) (may_make might : EndId → ℕ → ℕ → Type 0) (turns : (e : EndId) (written read : ℕ) → may_make e written read → might e written read)
+    → (a b : SockCore C W N O I) (before now : S) (h : HaveDone K made may_make (Some a) (Some b) before now) → OnlyMake K made may_make (Some a) (Some b) before now h → OnlyMake K made might (Some a) (Some b) before now (done_as K made may_make might turns (Some a) (Some b) before now h)
+unfolding done_as
+makes_as K made may_make might turns a b before now h only = only

@@ -1,3 +1,4 @@
 pub mod CallsLemmas
 pub mod PassingLemmas
 pub mod MakingLemmas
+mod CameLemmas

@@ -1,5 +1,5 @@
 -- The ends that a request makes are all of one side.
-use Rattle.std.proofs.Common.{◌≡◌, ◌∙◌, ℕ, zero, suc, Bool, true, false, List, [], ◌∷◌, ◌+◌, Option, Some, None, sym, ap, arith}
+use Rattle.std.proofs.Common.{◌≡◌, ◌∙◌, ℕ, zero, suc, Bool, true, false, List, [], ◌∷◌, ◌+◌, Option, Some, None, refl, sym, ap, arith, true≢false}
 use Rattle.std.specs.Prelude.{slice_get}
 use Rattle.zq_base.specs.declared.endpoint.Endpoint.TheVariants.{Inproc, Tcp}
 use Rattle.zq_base.specs.declared.ids.EndId.{EndId}
@@ -11,6 +11,7 @@ use Rattle.spec_control.specs.Register.{fulfilled_by}
 use Rattle.spec_control.specs.Control.{Control, end_of, next_pair}
 use Rattle.spec_control.specs.After.{binding_by}
 use Rattle.ctl_holder.specs.Making.{bind_makes, connect_makes, request_makes, IsMadeFor}
+use Rattle.ctl_plane.specs.Coming.{is_close}
 use Rattle.held_ends.proofs.SoundLemmas.{one_some}
 
 none_there : {A : Type 0} (x : A) → None ≡ Some x → ⊥
@@ -63,3 +64,18 @@ made_side b c i j req d e v w r s one other = request_side b req one.place d one
 -- a request that makes no end
 pub none_made : (c : Control) (o : ℕ) (req : Req) (e : EndId) (written read : ℕ) → request_makes c req ≡ [] → IsMadeFor c o req e written read → ⊥
 none_made c o req e written read none made = none_there (e, made.peer) (sym (ap (λ (l : List (EndId × ℕ)). slice_get l made.place) none) ∙ made.among)
+
+-- and a close makes none
+pub close_makes_none : (c : Control) (req : Req) → is_close req ≡ true → request_makes c req ≡ []
+close_makes_none c (Close o) is = refl
+close_makes_none c (MakeSocket kind options) is = absurd (true≢false (sym is))
+close_makes_none c AskTerm is = absurd (true≢false (sym is))
+close_makes_none c (Bind o at) is = absurd (true≢false (sym is))
+close_makes_none c (Connect o at) is = absurd (true≢false (sym is))
+close_makes_none c (Unbind o at) is = absurd (true≢false (sym is))
+close_makes_none c (Disconnect o at) is = absurd (true≢false (sym is))
+close_makes_none c (Accepted o) is = absurd (true≢false (sym is))
+close_makes_none c (Shaken o said) is = absurd (true≢false (sym is))
+close_makes_none c (AskEnd e reason) is = absurd (true≢false (sym is))
+close_makes_none c (AskOver o) is = absurd (true≢false (sym is))
+close_makes_none c (OutputOver o) is = absurd (true≢false (sym is))

@@ -1,5 +1,5 @@
 -- What was done to a socket's ends, as the moments more tell it.
-use Rattle.std.proofs.Common.{◌≡◌, ◌<◌, ◌∙◌, ℕ, zero, suc, List, [], ◌∷◌, ◌++◌, length, Option, Some, refl, sym, ap, subst, arith}
+use Rattle.std.proofs.Common.{◌≡◌, ◌<◌, ◌∙◌, ℕ, Bool, zero, suc, List, [], ◌∷◌, ◌++◌, length, Option, Some, refl, sym, ap, subst, arith}
 use Rattle.std.specs.Coded.{codes, ×_prop, Unit-prop}
 use Rattle.std.proofs.Math.Logic.{∥∥₁_elim}
 use Rattle.std.proofs.lemmas.List.{append_cancel_left}
@@ -11,14 +11,19 @@ use Rattle.spec_control.specs.declared.end.EndState.{EndState}
 use Rattle.spec_control.specs.declared.entry.Joining.{Joining}
 use Rattle.control_held.specs.Moments.{Moment}
 use Rattle.spec_run.specs.OpenSocket.{attach_all, detach_all, AreAnswered}
+use Rattle.msg_pipe.specs.Known.{Known}
+use Rattle.held_ends.specs.declared.changes.PipeChange.{PipeChange}
 use Rattle.held_ends.specs.declared.table.Place.{Place}
 use Rattle.held_ends.specs.Places.{place_at}
 use Rattle.held_ends.specs.Others.{KeepsPlaces}
 use Rattle.held_ends.proofs.SoundLemmas.{one_some}
 use Rattle.held_ends.proofs.PlaceLemmas.{place_within}
+use Rattle.sock_core.specs.declared.joint.JoinNote.{JoinNote}
 use Rattle.sock_core.specs.declared.sock.SockCore.{SockCore}
+use Rattle.sock_core.specs.Came.{HasCome}
 use Rattle.sock_core.specs.Kinds.{no_ends}
 use Rattle.sock_core.specs.Standing.{standing_joins}
+use Rattle.sock_core.proofs.CameLemmas.{came_none}
 use Rattle.sock_core.proofs.WayLemmas.{way_begun}
 use Rattle.sock_core.specs.Way.{no_way, way_in, outs_of, oldest_first, CanJoinAll, IsNaming, KindWay, KindWayOf, IsCalm}
 use Rattle.sock_calls.specs.Passing.{IsStillOpen, IsPatternOf, GoesOn, Passes, came_with_all, turned_with}
@@ -111,8 +116,17 @@ module _ {C W N O I : Type 0} (pattern : (ℕ → End) → C → Pattern) (names
           (way_begun pattern names sound peers s.ends.places.items (standing_joins t.joins.items) t.turns.items t.kind))))
 
   -- nor did an end change its state
-  pub calm_fresh : (s : SockCore C W N O I) → s.way.items ≡ [] → IsCalm (way_in s.way.items) s.ends.places.items []
-  calm_fresh s fresh = subst (λ (l : _). IsCalm (way_in l) s.ends.places.items []) (sym fresh) (record { quiet = refl; ends = refl; held = tt })
+  pub calm_fresh : {S : Type 0} (s : SockCore C W N O I) (changes : List (PipeChange O I × S)) → s.way.items ≡ [] → changes ≡ [] → IsCalm (way_in s.way.items) s.ends.places.items changes []
+  calm_fresh s changes fresh none =
+      subst (λ (l : _). IsCalm (way_in l) s.ends.places.items changes []) (sym fresh)
+      (subst (λ (l : List (PipeChange O I × _)). IsCalm no_way s.ends.places.items l []) (sym none) (record { quiet = refl; makings = tt; ends = refl; held = tt }))
+
+  -- no end came, and no pipe was changed
+  pub come_fresh : {S : Type 0} (K : Known S O I N) (undoes comes : Bool) (pipes : S) (t s : SockCore C W N O I) (way : List (JoinNote N × List ℕ)) (changes : List (PipeChange O I × S)) → t ≡ s → way ≡ [] → changes ≡ []
+      → ∥ HasCome K undoes comes pipes (length t.ends.places.items) (standing_joins t.joins.items) (way_in way).joined (standing_joins s.joins.items) changes s.ends.places.items ∥₁
+  come_fresh K undoes comes pipes t s way changes same fresh none =
+      ∣ subst (λ (x : SockCore C W N O I). HasCome K undoes comes pipes (length x.ends.places.items) (standing_joins x.joins.items) (way_in way).joined (standing_joins s.joins.items) changes s.ends.places.items) (sym same)
+      (came_none K undoes comes pipes (length s.ends.places.items) (standing_joins s.joins.items) (way_in way).joined changes s.ends.places.items refl (ap (λ (l : _). (way_in l).joined) fresh) none) ∣₁
 
   -- nothing was done
   pub passes_none : {S : Type 0} (s : Option (SockCore C W N O I)) (before now more : List (Moment N S)) → now ≡ before → now ≡ before ++ more → Passes pattern s s more

@@ -5,9 +5,9 @@ ghost use Rattle.control_held.specs.Moments.{items_in};
 ghost use Rattle.spec_control.specs.Control.{Control};
 ghost use Rattle.ctl_holder.specs.Making.{IsMadeFor};
 ghost use Rattle.ctl_plane.specs.Asking.{HasMarks, IsOfSockets};
-ghost use Rattle.ctl_plane.specs.Coming.{KeepsNames, SendsEnds};
+ghost use Rattle.ctl_plane.specs.Coming.{is_close, KeepsNames, SendsEnds};
 ghost use Rattle.ctl_plane.specs.Desk.{HasWhatTheySay, KeepsUp, AsksOnce};
-ghost use Rattle.sock_calls.specs.Calls.{owner_of, holding_of, FitsPipes, LeavesOthers, HaveDone, RestsThere};
+ghost use Rattle.sock_calls.specs.Calls.{owner_of, holding_of, FitsPipes, LeavesOthers, HaveDone, OnlyMake, RestsThere};
 ghost use Rattle.control_held.specs.Moments.{Moment};
 ghost use Rattle.sock_calls.specs.Passing.{Passes};
 
@@ -45,8 +45,8 @@ where
         (holding_of C.kind socket.old) }
     ensures ok { IfOk result (λ reply. AsksOnce (D.number desk.old) request reply
         (D.moments desk.old) (D.moments desk.new)) }
-    ensures given { IfOk result (λ _. SendsEnds P.known pipes.new request
-        (D.given desk.old) (D.given desk.new)) }
+    ensures given { IfOk result (λ _. SendsEnds P.known pipes.new
+        (holding_of C.kind socket.old).sealed request (D.given desk.old) (D.given desk.new)) }
     ensures err { OnErr result ((D.moments desk.new ≡ D.moments desk.old)
         × (D.given desk.new ≡ D.given desk.old)) }
     ensures grows { D.grows desk.old desk.new }
@@ -60,6 +60,9 @@ where
     ensures does { HaveDone P.known true (λ e written read. (c : Control) × D.finds desk.old c
         × IsMadeFor c (owner_of socket.old) request e written read)
         socket.old socket.new pipes.old pipes.new }
+    ensures closes { is_close request ≡ true → (done : HaveDone P.known true (λ e written read. ⊥)
+        socket.old socket.new pipes.old pipes.new) × OnlyMake P.known true (λ e written read. ⊥)
+        socket.old socket.new pipes.old pipes.new done }
     ensures rests { RestsThere C.rests socket.old → RestsThere C.rests socket.new }
     ensures passes { (more : List (Moment P.Name P.Story)) →
         D.moments desk.new ≡ D.moments desk.old ++ more →

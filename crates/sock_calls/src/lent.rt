@@ -7,15 +7,18 @@ ghost use Rattle.spec_control.specs.Place.{looks};
 ghost use Rattle.ctl_holder.specs.Holding.{has_end};
 ghost use Rattle.ctl_holder.specs.Making.{MakesSo};
 ghost use Rattle.ctl_plane.specs.Asking.{HasMarks, IsOfSockets};
-ghost use Rattle.ctl_plane.specs.Coming.{AreDistinct, BindsFit, KeepsNames, SendsEnds};
+ghost use Rattle.ctl_plane.specs.Coming.{is_close, AreDistinct, BindsFit, KeepsNames, SendsEnds};
 ghost use Rattle.ctl_plane.specs.Desk.{HasWhatTheySay, KeepsUp, AsksOnce, GivesOrNot, DelimitsOrNot, slot_after};
 ghost use Rattle.ctl_plane.specs.Desk.{CountsWith};
+ghost use Rattle.held_ends.specs.Changes.{AreMakings};
 ghost use Rattle.held_ends.specs.Counting.{counts_of};
 ghost use Rattle.held_ends.specs.Others.{Leaves};
 ghost use Rattle.held_ends.specs.Sound.{Fits};
 ghost use Rattle.sock_core.specs.Has.{holding_in};
 ghost use Rattle.sock_core.specs.Noted.{AreMade, HasDone};
-ghost use Rattle.sock_core.specs.Way.{KindWayOf};
+ghost use Rattle.sock_core.specs.Came.{HasCome};
+ghost use Rattle.sock_core.specs.Standing.{standing_joins};
+ghost use Rattle.sock_core.specs.Way.{way_in, KindWayOf};
 ghost use Rattle.sock_core.specs.declared.sock.SockCore.{SockCore};
 ghost use Rattle.sock_calls.specs.Calls.{FitsCore};
 
@@ -52,6 +55,7 @@ where
         (s ≡ pipes) × (t ≡ core) × (core.number.0 ≡ F.object) }
     requires fits { FitsCore P.known C.peers pipes core }
     requires may { MayAskOwn (items_in (D.moments desk.old)) request }
+    requires undoes { F.undoes ≡ true }
     requires makes { (c : Control) → D.finds desk.old c → MakesSo c request F.may_make }
     requires options { HasMarks request }
     requires sockets { D.serves ≡ false → IsOfSockets request }
@@ -61,7 +65,8 @@ where
         (holding_in (C.kind core.kind) core) }
     ensures ok { IfOk result.answer (λ reply. AsksOnce (D.number desk.old) request reply
         (D.moments desk.old) (D.moments desk.new)) }
-    ensures given { IfOk result.answer (λ _. SendsEnds P.known result.pipes request
+    ensures given { IfOk result.answer (λ _. SendsEnds P.known result.pipes
+        (holding_in (C.kind core.kind) core).sealed request
         (D.given desk.old) (D.given desk.new)) }
     ensures err { OnErr result.answer ((D.moments desk.new ≡ D.moments desk.old)
         × (D.given desk.new ≡ D.given desk.old)) }
@@ -80,10 +85,16 @@ where
     ensures tied { (s : P) (t : SockCore C P.Waker P.Name P.Out P.In) → F.began s t →
         F.comes ≡ false → AreMade P.known F.may_make result.did.items
         (length t.ends.places.items) result.core.ends.places.items }
+    ensures came { (s : P) (t : SockCore C P.Waker P.Name P.Out P.In) → F.began s t →
+        ∥ HasCome P.known F.undoes F.comes s (length t.ends.places.items)
+        (standing_joins t.joins.items) (way_in result.core.way.items).joined
+        (standing_joins result.core.joins.items) result.did.items
+        result.core.ends.places.items ∥₁ }
     ensures way { (s : P) (t : SockCore C P.Waker P.Name P.Out P.In) → F.began s t →
         ∥ KindWayOf C.pattern C.names C.sound C.peers t result.core ∥₁ }
     ensures rest { (s : P) (t : SockCore C P.Waker P.Name P.Out P.In) → F.began s t →
         C.rests t.kind → C.rests result.core.kind }
+    ensures closes { is_close request ≡ true → AreMakings result.did.items }
 {
     let mut core = core;
     core.way = Log::new();
@@ -159,6 +170,11 @@ where
     ensures does { (s : P) (t : SockCore C P.Waker P.Name P.Out P.In) → F.began s t →
         HasDone P.known s t.ends.places.items (map (λ x. x.0) t.sealed.items) result.did.items
         result.pipes result.core.ends.places.items (map (λ x. x.0) result.core.sealed.items) }
+    ensures came { (s : P) (t : SockCore C P.Waker P.Name P.Out P.In) → F.began s t →
+        ∥ HasCome P.known F.undoes F.comes s (length t.ends.places.items)
+        (standing_joins t.joins.items) (way_in result.core.way.items).joined
+        (standing_joins result.core.joins.items) result.did.items
+        result.core.ends.places.items ∥₁ }
     ensures way { (s : P) (t : SockCore C P.Waker P.Name P.Out P.In) → F.began s t →
         ∥ KindWayOf C.pattern C.names C.sound C.peers t result.core ∥₁ }
     ensures rest { (s : P) (t : SockCore C P.Waker P.Name P.Out P.In) → F.began s t →
@@ -229,6 +245,11 @@ where
     ensures does { (s : P) (t : SockCore C P.Waker P.Name P.Out P.In) → F.began s t →
         HasDone P.known s t.ends.places.items (map (λ x. x.0) t.sealed.items) result.did.items
         result.pipes result.core.ends.places.items (map (λ x. x.0) result.core.sealed.items) }
+    ensures came { (s : P) (t : SockCore C P.Waker P.Name P.Out P.In) → F.began s t →
+        ∥ HasCome P.known F.undoes F.comes s (length t.ends.places.items)
+        (standing_joins t.joins.items) (way_in result.core.way.items).joined
+        (standing_joins result.core.joins.items) result.did.items
+        result.core.ends.places.items ∥₁ }
     ensures way { (s : P) (t : SockCore C P.Waker P.Name P.Out P.In) → F.began s t →
         ∥ KindWayOf C.pattern C.names C.sound C.peers t result.core ∥₁ }
     ensures rest { (s : P) (t : SockCore C P.Waker P.Name P.Out P.In) → F.began s t →

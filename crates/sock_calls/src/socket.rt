@@ -166,7 +166,7 @@ where
     ghost use Rattle.spec_control.specs.declared.request.Req.TheVariants.{Close};
     ghost use Rattle.ctl_plane.specs.Coming.{KeepsNames, SendsEnds};
     ghost use Rattle.ctl_plane.specs.Desk.{HasWhatTheySay, KeepsUp, AsksOnce};
-    ghost use Rattle.sock_calls.specs.Calls.{owner_of, holding_of, FitsPipes, LeavesOthers, HaveDone, HasNone};
+    ghost use Rattle.sock_calls.specs.Calls.{owner_of, holding_of, FitsPipes, LeavesOthers, HaveDone, OnlyMake, HasNone};
 
     /// Closes the socket (zmq_close(3)): its ends are on their way to the reaper, and it has none.
     pub fn close<D: Desk<P>>(
@@ -187,7 +187,8 @@ where
             (D.moments desk.old) (D.moments desk.new)) }
         ensures none { IfOk result (λ _. HasNone self.new.core) }
         ensures given { IfOk result (λ _. SendsEnds P.known pipes.new
-            (Close (id (owner_of self.old.core))) (D.given desk.old) (D.given desk.new)) }
+            (holding_of C.kind self.old.core).sealed (Close (id (owner_of self.old.core)))
+            (D.given desk.old) (D.given desk.new)) }
         ensures err { OnErr result ((D.moments desk.new ≡ D.moments desk.old)
             × (D.given desk.new ≡ D.given desk.old)) }
         ensures grows { D.grows desk.old desk.new }
@@ -198,8 +199,9 @@ where
             × (D.number desk.new ≡ D.number desk.old) }
         ensures fits { FitsPipes P.known C.peers pipes.new self.new.core }
         ensures others { LeavesOthers P.known self.old.core self.new.core pipes.old pipes.new }
-        ensures does { HaveDone P.known true (λ e written read. ⊥)
-            self.old.core self.new.core pipes.old pipes.new }
+        ensures does { (done : HaveDone P.known true (λ e written read. ⊥)
+            self.old.core self.new.core pipes.old pipes.new) × OnlyMake P.known true
+            (λ e written read. ⊥) self.old.core self.new.core pipes.old pipes.new done }
     {
         let request = Req::Close(number_of(&self.core));
         ask(alloc, pipes, &mut self.core, desk, request)

@@ -11,6 +11,7 @@ use Rattle.spec_run.specs.OpenSocket.{is_out}
 use Rattle.msg_pipe.specs.Known.{Known}
 use Rattle.ends.specs.Rows.{Rows}
 use Rattle.ctl_holder.specs.Lent.{has_writer}
+use Rattle.held_ends.specs.declared.changes.PipeChange.{PipeChange}
 use Rattle.held_ends.specs.declared.table.Place.{Place}
 use Rattle.held_ends.specs.Places.{place_at, is_of}
 use Rattle.held_ends.specs.Sound.{IsSound}
@@ -61,20 +62,21 @@ module _ {N I : Type 0} where
       (record { place = one.place; there = place_else ps place x.1 q other.0 ∙ one.there; end_is = one.end_is; held = one.held }, (h.1.0, held_else ps place q xs other.1 h.1.1))
 
   -- one more joined
-  pub calm_came : (w w' : Way N) (ps qs : List (Place N I)) (q : Place N I) (j : Joining N) (place : ℕ) (e : EndId) (came : List EndId)
-      → w' ≡ with_came j place w → qs ≡ ps ++ q ∷ [] → place ≡ length ps → q.end ≡ j.end → q.held ≡ true → j.end ≡ e → IsCalm w ps came → IsCalm w' qs (e ∷ came)
-  calm_came w w' ps qs q j place e came noted behind last same held is calm =
-      subst (λ (x : Way N). IsCalm x qs (e ∷ came)) (sym noted)
-      (subst (λ (l : List (Place N I)). IsCalm (with_came j place w) l (e ∷ came)) (sym behind) (record {
+  pub calm_came : {O S : Type 0} (changes : List (PipeChange O I × S)) (w w' : Way N) (ps qs : List (Place N I)) (q : Place N I) (j : Joining N) (place : ℕ) (e : EndId) (came : List EndId)
+      → w' ≡ with_came j place w → qs ≡ ps ++ q ∷ [] → place ≡ length ps → q.end ≡ j.end → q.held ≡ true → j.end ≡ e → IsCalm w ps changes came → IsCalm w' qs changes (e ∷ came)
+  calm_came changes w w' ps qs q j place e came noted behind last same held is calm =
+      subst (λ (x : Way N). IsCalm x qs changes (e ∷ came)) (sym noted)
+      (subst (λ (l : List (Place N I)). IsCalm (with_came j place w) l changes (e ∷ came)) (sym behind) (record {
         quiet = calm.quiet;
+        makings = calm.makings;
         ends = ap (λ (d : EndId). d ∷ map (λ (x : Joining N × ℕ). x.0.end) w.joined) is ∙ ap (λ (es : List EndId). e ∷ es) calm.ends;
         held = (record { place = q; there = ap (place_at (ps ++ q ∷ [])) last ∙ at_last ps q; end_is = same; held = held }, (else_behind ps place w.joined last calm.held, held_more ps q w.joined calm.held));
       }))
 
   -- the one that is taken back stands where it is found
-  pub calm_last : {S O : Type 0} (K : Known S O I N) (pipes : S) (rows : Rows O I) (w : Way N) (ps : List (Place N I)) (place : ℕ) (p : Place N I) (e : EndId) (came : List EndId)
-      → IsSound K pipes rows ps → place_at ps place ≡ Some p → is_of e p ≡ true → IsCalm w ps (e ∷ came) → stood_last place w.joined ≡ true
-  calm_last K pipes rows w ps place p e came sound at is calm = by w.joined calm.ends calm.held
+  pub calm_last : {S O : Type 0} (K : Known S O I N) (changes : List (PipeChange O I × S)) (pipes : S) (rows : Rows O I) (w : Way N) (ps : List (Place N I)) (place : ℕ) (p : Place N I) (e : EndId) (came : List EndId)
+      → IsSound K pipes rows ps → place_at ps place ≡ Some p → is_of e p ≡ true → IsCalm w ps changes (e ∷ came) → stood_last place w.joined ≡ true
+  calm_last K changes pipes rows w ps place p e came sound at is calm = by w.joined calm.ends calm.held
     where
       first : (d : EndId) (ds : List EndId) → d ∷ ds ≡ e ∷ came → d ≡ e
       first d ds same = cc
@@ -94,17 +96,18 @@ module _ {N I : Type 0} where
       by (x ∷ xs) same held = stands x (first x.0.end (map (λ (y : Joining N × ℕ). y.0.end) xs) same) held.0 (x.1 == place) refl
 
   -- and leaves the others
-  pub calm_undone : (w w' : Way N) (ps qs : List (Place N I)) (q : Place N I) (place : ℕ) (e : EndId) (came : List EndId)
-      → w' ≡ with_undone w → qs ≡ set ps place q → stood_last place w.joined ≡ true → IsCalm w ps (e ∷ came) → IsCalm w' qs came
-  calm_undone w w' ps qs q place e came noted now last calm =
-      subst (λ (x : Way N). IsCalm x qs came) (sym noted)
-      (subst (λ (l : List (Place N I)). IsCalm (with_undone w) l came) (sym now) (by w.joined last calm.ends calm.held))
+  pub calm_undone : {O S : Type 0} (changes : List (PipeChange O I × S)) (w w' : Way N) (ps qs : List (Place N I)) (q : Place N I) (place : ℕ) (e : EndId) (came : List EndId)
+      → w' ≡ with_undone w → qs ≡ set ps place q → stood_last place w.joined ≡ true → IsCalm w ps changes (e ∷ came) → IsCalm w' qs changes came
+  calm_undone changes w w' ps qs q place e came noted now last calm =
+      subst (λ (x : Way N). IsCalm x qs changes came) (sym noted)
+      (subst (λ (l : List (Place N I)). IsCalm (with_undone w) l changes came) (sym now) (by w.joined last calm.ends calm.held))
     where
       by : (xs : List (Joining N × ℕ)) → stood_last place xs ≡ true → map (λ (x : Joining N × ℕ). x.0.end) xs ≡ e ∷ came → AreHeld ps xs
-          → IsCalm (record { joined = without_first xs; turns = w.turns }) (set ps place q) came
+          → IsCalm (record { joined = without_first xs; turns = w.turns }) (set ps place q) changes came
       by [] last ends held = never (sym last)
       by (x ∷ xs) last ends held = record {
         quiet = calm.quiet;
+        makings = calm.makings;
         ends = ap (λ (es : List EndId). without_first es) ends;
         held = held_else ps place q xs (subst (λ (n : ℕ). IsElse n xs) (eqb-true x.1 place last) held.1.0) held.1.1;
       }

@@ -9,12 +9,13 @@ use Rattle.spec_control.specs.Control.{is_end}
 use Rattle.msg_pipe.specs.Known.{Known}
 use Rattle.ends.specs.Rows.{Rows}
 use Rattle.ctl_holder.specs.declared.given.Given.{Given}
-use Rattle.ctl_holder.specs.Holding.{HasGiven, KeepsTurns, AllTold, AllWriting, AllStated, held_given, has_end}
+use Rattle.ctl_holder.specs.Holding.{HasGiven, KeepsTurns, AllSealed, AllTold, AllWriting, AllStated, held_given, has_end}
 use Rattle.held_ends.specs.declared.table.Place.{Place}
 use Rattle.held_ends.specs.Places.{place_at, held_of, held_in, is_of, writes_in, met_in}
 use Rattle.held_ends.specs.Sound.{IsSound}
 use Rattle.held_ends.specs.Giving.{Said, said_of, said_in, said_by, AreGone}
 use Rattle.sock_core.specs.Has.{Told, state_in, has}
+use Rattle.sock_core.specs.Noted.{AreSealed}
 use Rattle.sock_core.proofs.FindLemmas.{never, end_self, alone_of, one_passes}
 use Rattle.sock_core.proofs.HolderLemmas.{flag_at, state_at}
 
@@ -83,6 +84,9 @@ module _ {S O I N : Type 0} (K : Known S O I N) (pipes : S) (rows : Rows O I) (p
 
     pub stated_of : AllStated (state_in ps) given
     stated_of = said_each (λ s. s.state ≡ state_in ps s.end) (all_said (λ s. s.state ≡ state_in ps s.end) ps (λ k p at held. state_is k p at held))
+
+    pub sealed_of : (told : List EndId) → AreSealed ps told → AllSealed told given
+    sealed_of told are = said_each (λ s. s.sealed ≡ true → list_any (is_end s.end) told ≡ true) (all_said (λ s. s.sealed ≡ true → list_any (is_end s.end) told ≡ true) ps are)
 
     pub ends_of : map (held_given K.out_name K.in_name) given ≡ held_in ps
     ends_of = twice given ∙ ap (map held_by) ends ∙ held_said ps

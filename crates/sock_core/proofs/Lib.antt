@@ -17,3 +17,5 @@ pub mod GoingLemmas
 pub mod NotedLemmas
 pub mod DoneLemmas
 pub mod MadeLemmas
+pub mod CameLemmas
+mod NewLemmas

@@ -6,4 +6,5 @@ pub mod Peers
 pub mod Kinds
 pub mod Patterns
 pub mod Way
+pub mod Came
 pub mod Noted

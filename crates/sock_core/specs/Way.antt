@@ -10,6 +10,8 @@ use Rattle.spec_control.specs.Place.{At}
 use Rattle.spec_run.specs.OpenSocket.{is_out, attach_all, detach_all, AreAnswered}
 use Rattle.held_ends.specs.declared.table.Place.{Place}
 use Rattle.held_ends.specs.Places.{place_at}
+use Rattle.held_ends.specs.Changes.{AreMakings}
+use Rattle.held_ends.specs.declared.changes.PipeChange.{PipeChange}
 use Rattle.sock_core.specs.declared.joint.JoinNote.{JoinNote}
 use Rattle.sock_core.specs.declared.joint.JoinNote.TheVariants.{Joined, TakenBack, Turned}
 use Rattle.sock_core.specs.declared.sock.SockCore.{SockCore}
@@ -100,9 +102,10 @@ module _ {N I : Type 0} where
   AreHeld ps [] = Unit {0}
   AreHeld ps (x ∷ xs) = IsHeldAt ps x × (IsElse x.1 xs × AreHeld ps xs)
 
-  -- no end changed its state yet, and these joined, the last first, which are held at their places
-  pub record IsCalm (w : Way N) (ps : List (Place N I)) (came : List EndId) : Type 0 where
+  -- no end changed its state yet, no more was done to pipes than to make some, and these joined, the last first, which are held at their places
+  pub record IsCalm {O S : Type 0} (w : Way N) (ps : List (Place N I)) (changes : List (PipeChange O I × S)) (came : List EndId) : Type 0 where
     pub quiet : w.turns ≡ []
+    pub makings : AreMakings changes
     pub ends : map (λ x. x.0.end) w.joined ≡ came
     pub held : AreHeld ps w.joined
 

@@ -5,7 +5,9 @@ ghost use Rattle.sock_core.specs.Sound.{AreSound, KeepsRoom};
 ghost use Rattle.sock_core.specs.Has.{IsStopped};
 ghost use Rattle.sock_core.specs.Peers.{ArePeers, AreFlagged, AreInUse, is_taken};
 ghost use Rattle.sock_core.specs.Noted.{WereRead, AreMade, AreSealed, HasDone};
-ghost use Rattle.sock_core.specs.Way.{KindWayOf};
+ghost use Rattle.sock_core.specs.Came.{HasCome};
+ghost use Rattle.sock_core.specs.Standing.{standing_joins};
+ghost use Rattle.sock_core.specs.Way.{way_in, KindWayOf};
 ghost use Rattle.sock_core.specs.declared.sock.SockCore.{SockCore};
 
 use crate::joins::Joins;
@@ -52,6 +54,10 @@ pub struct SockHolder<
     ghost tied: { (s : P) (t : SockCore C P.Waker P.Name P.Out P.In) → F.began s t →
         F.comes ≡ false → AreMade P.known F.may_make did.items
         (length t.ends.places.items) core.ends.places.items },
+    ghost came: { (s : P) (t : SockCore C P.Waker P.Name P.Out P.In) → F.began s t →
+        ∥ HasCome P.known F.undoes F.comes s (length t.ends.places.items)
+        (standing_joins t.joins.items) (way_in core.way.items).joined
+        (standing_joins core.joins.items) did.items core.ends.places.items ∥₁ },
     ghost way: { (s : P) (t : SockCore C P.Waker P.Name P.Out P.In) → F.began s t →
         ∥ KindWayOf C.pattern C.names C.sound C.peers t core ∥₁ },
     ghost rest: { (s : P) (t : SockCore C P.Waker P.Name P.Out P.In) → F.began s t →
@@ -61,6 +67,7 @@ pub struct SockHolder<
 impl<P: HeldPipes, C: Joins> SockHolder<P, C> {
     ghost use Rattle.std.specs.Prelude.{◌≡◌, []};
     ghost use Rattle.sock_core.specs.Has.{IsNew};
+    ghost use Rattle.sock_core.specs.Way.{way_in, IsCalm};
 
     /// An open socket without ends, of this number, with the pipes that its ends come to have. It
     /// wakes its owner by the waker.
@@ -68,6 +75,8 @@ impl<P: HeldPipes, C: Joins> SockHolder<P, C> {
         requires none { C.peers kind ≡ [] }
         ensures socket { IsNew number.0 kind result.core }
         ensures pipes { result.pipes ≡ pipes }
+        ensures calm { IsCalm (way_in result.core.way.items) result.core.ends.places.items
+            result.did.items [] }
     {
         SockHolder {
             pipes,
@@ -108,9 +117,9 @@ where
 {
     ghost use Rattle.std.specs.Prelude.{◌≡◌, ◌∷◌, [], true, false, List, map, OnOk, OnErr, IfOk, IfErr};
     ghost use Rattle.zq_base.specs.declared.ids.EndId.{EndId};
-    ghost use Rattle.ctl_holder.specs.Holding.{has_end, held_with, held_optional, held_given};
+    ghost use Rattle.ctl_holder.specs.Holding.{held_with, held_optional, held_given};
     ghost use Rattle.ctl_holder.specs.Holding.{Joined, BeginsActive, MayRefuse, Stays, KeepsTurns};
-    ghost use Rattle.ctl_holder.specs.Holding.{HearsNone, JoinsBy, joining_with};
+    ghost use Rattle.ctl_holder.specs.Holding.{HasNowhere, HearsNone, JoinsBy, joining_with};
     ghost use Rattle.ctl_holder.specs.Holding.{IsPlugged, Begins, AreAtDelimiter, writes_in};
     ghost use Rattle.ctl_holder.specs.Holding.{states_optional, states_given};
     ghost use Rattle.held_ends.specs.Counting.{counts_of};
@@ -137,7 +146,10 @@ where
 
     ghost may_take = { λ s gs. Unit {0} };
 
-    ghost calm = { λ s came. IsCalm (way_in s.core.way.items) s.core.ends.places.items came };
+    ghost undoes = { F.undoes };
+
+    ghost calm = { λ s came.
+        IsCalm (way_in s.core.way.items) s.core.ends.places.items s.did.items came };
 
     fn make(
         &mut self,
@@ -171,12 +183,12 @@ where
         halves: Halves<P::Out, P::In>,
     ) -> Result<Attached, AllocFailed<Halves<P::Out, P::In>>>
         requires here { (holding_in (C.kind self.old.core.kind) self.old.core).holds o.0 ≡ true }
-        requires new { has_end end
-            ((holding_in (C.kind self.old.core.kind) self.old.core).ends o.0) ≡ false }
+        requires new { HasNowhere end (holding_in (C.kind self.old.core.kind) self.old.core) }
         requires fits { FitsFor P.known F.may_make self.old.did.items F.comes self.old.pipes
             self.old.core.ends.places.items end halves }
         requires calm { (came : List EndId) ×
-            IsCalm (way_in self.old.core.way.items) self.old.core.ends.places.items came }
+            IsCalm (way_in self.old.core.way.items) self.old.core.ends.places.items
+            self.old.did.items came }
         ensures ok { OnOk result (Joined o.0 (held_with P.known.out_name P.known.in_name end halves)
             (holding_in (C.kind self.old.core.kind) self.old.core)
             (holding_in (C.kind self.new.core.kind) self.new.core)) }
@@ -198,12 +210,15 @@ where
             (holding_in (C.kind self.old.core.kind) self.old.core)
             (holding_in (C.kind self.new.core.kind) self.new.core) }
         ensures calm { OnOk result ((came : List EndId) →
-            IsCalm (way_in self.old.core.way.items) self.old.core.ends.places.items came →
+            IsCalm (way_in self.old.core.way.items) self.old.core.ends.places.items
+            self.old.did.items came →
             IsCalm (way_in self.new.core.way.items) self.new.core.ends.places.items
-            (end ∷ came)) }
+            self.new.did.items (end ∷ came)) }
         ensures still { OnErr result ((came : List EndId) →
-            IsCalm (way_in self.old.core.way.items) self.old.core.ends.places.items came →
-            IsCalm (way_in self.new.core.way.items) self.new.core.ends.places.items came) }
+            IsCalm (way_in self.old.core.way.items) self.old.core.ends.places.items
+            self.old.did.items came →
+            IsCalm (way_in self.new.core.way.items) self.new.core.ends.places.items
+            self.new.did.items came) }
     {
         let _object = o;
         let place = self.core.ends.places.len();

@@ -2,6 +2,7 @@
 #![tactic(auto)]
 
 mod any;
+mod awaiting;
 mod holder;
 mod joins;
 mod joint;
@@ -9,6 +10,7 @@ mod since;
 mod sock;
 mod turns;
 
+pub use awaiting::awaits;
 pub use holder::SockHolder;
 pub use joins::Joins;
 pub use joint::{JoinNote, Joint};

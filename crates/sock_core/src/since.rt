@@ -15,6 +15,9 @@ pub trait Since<S, T> {
     /// The ends that join come with their halves: no pipe is made.
     ghost comes: { Bool };
 
+    /// An attach may be undone.
+    ghost undoes: { Bool };
+
     /// The pipes of an end may hold so many messages: the one that it writes, and the one that it
     /// reads.
     ghost may_make: { EndId → ℕ → ℕ → Type 0 };
@@ -34,6 +37,8 @@ impl<S, T> Since<S, T> for Brand {
     ghost object = { 0 };
 
     ghost comes = { true };
+
+    ghost undoes = { true };
 
     ghost may_make = { λ e written read. Unit {0} };
 

@@ -1,6 +1,12 @@
 use Rattle.std.proofs.Common.{◌∙◌}
-use Rattle.ctl_joins.proofs.AttachingLemmas.{attaches_first, keeps_twice, stays_twice}
+use Rattle.ctl_joins.proofs.AttachingLemmas.{attaches_first, keeps_twice, nowhere_still, stays_twice}
 use Rattle.ctl_joins.proofs.attaching.attach_first.Goals as goal
+
+pub make-requires-clause-new : goal.make-requires-clause-new
+make-requires-clause-new g c = c.requires.new c.args.o.0 c.requires.here
+
+pub attach-requires-clause-new : goal.attach-requires-clause-new
+attach-requires-clause-new g c = nowhere_still c.args.o.0 c.args.end (g.H.Holder.holding c.args.holder.now) (g.H.Holder.holding c.make.new.self) c.make.ensures.stays c.requires.new
 
 pub returns-in-Ok-clause-ok : goal.returns-in-Ok-clause-ok
 returns-in-Ok-clause-ok g c =

@@ -2,7 +2,7 @@ use Rattle.held_ends.proofs.SoundLemmas.{all_kept}
 use Rattle.held_ends.proofs.MakeLemmas.{made_fits}
 use Rattle.std.proofs.Common.{[]}
 use Rattle.held_ends.proofs.ChangeLemmas.{more_on}
-use Rattle.held_ends.proofs.MadeLemmas.{made_both, only_one, only_both}
+use Rattle.held_ends.proofs.MadeLemmas.{made_both, only_one, only_both, makings_on}
 use Rattle.held_ends.proofs.attaching.make.Goals as goal
 
 pub returns-in_err-out-clause-sound : goal.returns-in_err-out-clause-sound
@@ -45,3 +45,9 @@ returns-in_err-back-clause-only g c = only_both c.args.end c.other.result c.args
 
 pub returns-clause-only : goal.returns-clause-only
 returns-clause-only g c = only_both c.args.end c.other.result c.args.did.now.items c.make_noted.new.did.items c.make_noted-2.new.did.items c.other.ensures c.make_noted.ensures.only c.make_noted-2.ensures.only
+
+pub returns-in_err-back-clause-makings : goal.returns-in_err-back-clause-makings
+returns-in_err-back-clause-makings g c = makings_on c.args.did.now.items c.make_noted.new.did.items c.make_noted-2.new.did.items c.make_noted.ensures.makings c.make_noted-2.ensures.makings
+
+pub returns-clause-makings : goal.returns-clause-makings
+returns-clause-makings g c = makings_on c.args.did.now.items c.make_noted.new.did.items c.make_noted-2.new.did.items c.make_noted.ensures.makings c.make_noted-2.ensures.makings

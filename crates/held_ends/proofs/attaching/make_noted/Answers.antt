@@ -29,3 +29,9 @@ returns-in-Ok-clause-only g c =
 
 pub returns-in-Err-clause-only : goal.returns-in-Err-clause-only
 returns-in-Err-clause-only g c = λ d other. none_made Kept c.args.did.now.items c.and-in-Err.result.items c.make.new.self c.and-in-Err.ensures (λ e. refl) d
+
+pub returns-in-Ok-clause-makings : goal.returns-in-Ok-clause-makings
+returns-in-Ok-clause-makings g c = record { more = _; noted = c.and-in-Ok.ensures; makings = (tt, tt) }
+
+pub returns-in-Err-clause-makings : goal.returns-in-Err-clause-makings
+returns-in-Err-clause-makings g c = record { more = _; noted = c.and-in-Err.ensures; makings = (tt, tt) }

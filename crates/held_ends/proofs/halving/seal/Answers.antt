@@ -108,7 +108,7 @@ returns-clause-changes g c =
     (record { end_is = refl; written_is = refl; read_is = refl; held = λ h. h; writes = λ w. w })
     (ap (λ (x : Place _ _). set c.args.table.now.places.items c.args.place (record x { sealed = true })) same))
     c.args.place p c.requires.writes.there c.requires.writes.held c.index.result.now.end (ap (λ (x : Place _ _). x.end) (sym here)) c.args.did.now.items c.seal_row.new.did.items c.args.pipes.now c.seal_row.new.pipes
-    c.deref_mut.result.now.out c.seal_row.new.row.out c.requires.writes.writes open_still c.seal_row.ensures.noted f.1.name_is (f.1.unsealed open_still) c.seal_row.ensures.seals c.seal_row.ensures.keeps
+    c.deref_mut.result.now.out c.seal_row.new.row.out c.requires.writes.writes open_still c.seal_row.ensures.noted f.1.name_is (subst (IsThere g.P.Pipes.known c.args.pipes.now) (sym f.1.name_is) f.1.there) (f.1.unsealed open_still) c.seal_row.ensures.seals c.seal_row.ensures.keeps
 
 pub returns-then-index-clause-none_made : goal.returns-then-index-clause-none_made
 returns-then-index-clause-none_made g c = none_made (SealedAgain c.args.place c.index.result.now.end) c.args.did.now.items c.and.result.items c.args.pipes.now c.and.ensures (λ e. refl)

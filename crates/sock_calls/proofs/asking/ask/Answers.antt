@@ -1,4 +1,4 @@
-use Rattle.std.proofs.Common.{◌≡◌, ℕ, true, Option, Some, refl, sym, ap, ◌∙◌, subst}
+use Rattle.std.proofs.Common.{◌≡◌, ℕ, true, false, Option, Some, refl, sym, ap, ◌∙◌, subst}
 use Rattle.zq_base.specs.declared.ids.EndId.{EndId}
 use Rattle.spec_control.specs.Control.{Control}
 use Rattle.ctl_holder.specs.Making.{IsMadeFor}
@@ -6,12 +6,15 @@ use Rattle.held_ends.proofs.SoundLemmas.{one_some}
 use Rattle.held_ends.specs.Others.{Leaves}
 use Rattle.sock_core.specs.Has.{holding_in}
 use Rattle.sock_core.specs.declared.sock.SockCore.{SockCore}
-use Rattle.sock_calls.specs.Calls.{owner_of, holding_of, LeavesOthers, HaveDone, RestsThere}
+use Rattle.sock_calls.specs.Calls.{owner_of, holding_of, LeavesOthers, HaveDone, OnlyMake, RestsThere}
+use Rattle.std.specs.Prelude.{IfOk}
+use Rattle.ctl_plane.specs.Coming.{SendsEnds}
 use Rattle.ctl_plane.specs.Desk.{KeepsUp}
 use Rattle.sock_calls.specs.Passing.{Passes}
 use Rattle.sock_calls.proofs.PassingLemmas.{passes_by}
 use Rattle.std.specs.Coded.{Coded-set}
-use Rattle.sock_calls.proofs.CallsLemmas.{done_so}
+use Rattle.sock_calls.proofs.CallsLemmas.{done_as, done_so, makes_as, makes_so}
+use Rattle.sock_calls.proofs.MakingLemmas.{close_makes_none, none_made}
 use Rattle.sock_calls.proofs.asking.ask.Goals as goal
 
 pub returns-in-Some-clause-keeps : goal.returns-in-Some-clause-keeps
@@ -51,8 +54,8 @@ returns-in-Some-clause-does g c =
     let may = λ (n : ℕ) (d : EndId) (written read : ℕ). (b : Control) × g.D.Desk.finds c.args.desk.now b × IsMadeFor b n c.args.request d written read in
     subst (λ (s : Option (SockCore _ _ _ _ _)). HaveDone g.P.Pipes.known true (may (owner_of s)) s (Some x.result.core) c.args.pipes.now x.result.pipes) (sym e)
     (subst (λ (p : g.row.P.Denot). HaveDone g.P.Pipes.known true (may c.in-Some.core.number.0) (Some c.in-Some.core) (Some x.result.core) p x.result.pipes) c.replace-lent.ensures.value
-    (done_so (Coded-set g.row.P-Name.coded) (Coded-set g.row.P.coded) g.P.Pipes.known true (may c.in-Some.core.number.0) c.replace-lent.result x.result.pipes c.in-Some.core x.result.core x.result.did.items
-    (x.ensures.does c.replace-lent.result c.in-Some.core (refl, refl)) (λ is. x.ensures.tied c.replace-lent.result c.in-Some.core (refl, refl) refl)))
+    (done_so (Coded-set g.row.P-Name.coded) (Coded-set g.row.P.coded) g.P.Pipes.known true false (may c.in-Some.core.number.0) c.replace-lent.result x.result.pipes c.in-Some.core x.result.core x.result.did.items (λ is. refl)
+    (x.ensures.does c.replace-lent.result c.in-Some.core (refl, refl)) (x.ensures.came c.replace-lent.result c.in-Some.core (refl, refl)) (λ is. x.ensures.tied c.replace-lent.result c.in-Some.core (refl, refl) refl)))
 
 pub ask_lent-answer-requires-clause-makes : goal.ask_lent-answer-requires-clause-makes
 ask_lent-answer-requires-clause-makes g c = λ b finds o is d written read made.
@@ -64,3 +67,29 @@ returns-in-Some-clause-rests g c =
     let e : c.args.socket.now ≡ Some c.in-Some.core = sym c.take.ensures.value ∙ c.in-Some.is in
     let x = c.ask_lent-answer in
     subst (λ (s : Option (SockCore _ _ _ _ _)). RestsThere g.C.Joins.rests s → g.C.Joins.rests x.result.core.kind) (sym e) (x.ensures.rest c.replace-lent.result c.in-Some.core (refl, refl))
+
+pub returns-in-Some-clause-closes : goal.returns-in-Some-clause-closes
+returns-in-Some-clause-closes g c = λ is.
+    let e : c.args.socket.now ≡ Some c.in-Some.core = sym c.take.ensures.value ∙ c.in-Some.is in
+    let x = c.ask_lent-answer in
+    let K = g.P.Pipes.known in
+    let core = c.in-Some.core in
+    let may = λ (d : EndId) (written read : ℕ). (b : Control) × g.D.Desk.finds c.args.desk.now b × IsMadeFor b core.number.0 c.args.request d written read in
+    let none = λ (d : EndId) (written read : ℕ). ⊥ in
+    let turns = λ (d : EndId) (written read : ℕ) (m : may d written read). none_made m.0 core.number.0 c.args.request d written read (close_makes_none m.0 c.args.request is) m.2 in
+    let does = x.ensures.does c.replace-lent.result core (refl, refl) in
+    let came = x.ensures.came c.replace-lent.result core (refl, refl) in
+    let tied = λ (m : true ≡ true). x.ensures.tied c.replace-lent.result core (refl, refl) refl in
+    let n_set = Coded-set g.row.P-Name.coded in
+    let s_set = Coded-set g.row.P.coded in
+    let done = done_so n_set s_set K true false may c.replace-lent.result x.result.pipes core x.result.core x.result.did.items (λ m. refl) does came tied in
+    let only = makes_so n_set s_set K true false may c.replace-lent.result x.result.pipes core x.result.core x.result.did.items (λ m. refl) does came tied (x.ensures.closes is) in
+    subst (λ (s : Option (SockCore _ _ _ _ _)). (h : HaveDone K true none s (Some x.result.core) c.args.pipes.now x.result.pipes) × OnlyMake K true none s (Some x.result.core) c.args.pipes.now x.result.pipes h) (sym e)
+    (subst (λ (p : g.row.P.Denot). (h : HaveDone K true none (Some core) (Some x.result.core) p x.result.pipes) × OnlyMake K true none (Some core) (Some x.result.core) p x.result.pipes h) c.replace-lent.ensures.value
+    (done_as K true may none turns (Some core) (Some x.result.core) c.replace-lent.result x.result.pipes done, makes_as K true may none turns core x.result.core c.replace-lent.result x.result.pipes done only))
+
+pub returns-in-Some-clause-given : goal.returns-in-Some-clause-given
+returns-in-Some-clause-given g c =
+    let e : c.args.socket.now ≡ Some c.in-Some.core = sym c.take.ensures.value ∙ c.in-Some.is in
+    let x = c.ask_lent-answer in
+    subst (λ (s : Option (SockCore _ _ _ _ _)). IfOk x.result.answer (λ _. SendsEnds g.P.Pipes.known x.result.pipes (holding_of g.C.Joins.kind s).sealed c.args.request (g.D.Desk.given c.args.desk.now) (g.D.Desk.given x.new.desk))) (sym e) x.ensures.given

@@ -1,6 +1,6 @@
 use Rattle.std.proofs.Common.{refl, sym, subst}
 use Rattle.sock_core.specs.declared.sock.SockCore.{SockCore}
-use Rattle.sock_calls.proofs.PassingLemmas.{calm_fresh, way_fresh}
+use Rattle.sock_calls.proofs.PassingLemmas.{calm_fresh, come_fresh, way_fresh}
 use Rattle.held_ends.specs.Others.{Leaves}
 use Rattle.held_ends.proofs.OthersLemmas.{places_stay, leaves_pipes}
 use Rattle.std.specs.Prelude.{length, map}
@@ -35,6 +35,7 @@ invariant_of-holder g c =
           subst (λ (y : SockCore _ _ _ _ _). HasDone K s y.ends.places.items (map (λ (x : EndId × Unit {0}). x.0) y.sealed.items) c.new.result.items c.args.pipes t.places.items (map (λ (x : EndId × Unit {0}). x.0) c.args.core.sealed.items)) (sym e.1)
           (done_none K s t.places.items (map (λ (x : EndId × Unit {0}). x.0) c.args.core.sealed.items) c.args.pipes c.new.result.items t.places.items e.0 c.new.ensures);
       tied = λ s u b made. subst (λ (y : SockCore _ _ _ _ _). AreMade K g.F.Since.may_make c.new.result.items (length y.ends.places.items) t.places.items) (sym (c.requires.began s u b).1) (made_none K g.F.Since.may_make c.new.result.items t.places.items);
+      came = λ s u b. come_fresh g.C.Joins.pattern g.C.Joins.names g.C.Joins.sound g.C.Joins.peers K g.F.Since.undoes g.F.Since.comes s u c.args.core c.new-core.result.items c.new.result.items (c.requires.began s u b).1 c.new-core.ensures c.new.ensures;
       rest = λ s u b r. subst (λ (y : SockCore _ _ _ _ _). g.C.Joins.rests y.kind) (c.requires.began s u b).1 r;
       way = λ s u b.
           let J = g.C.Joins in
@@ -44,7 +45,7 @@ invariant_of-holder g c =
 pub request-answer-requires-clause-calm : goal.request-answer-requires-clause-calm
 request-answer-requires-clause-calm g c =
     let J = g.C.Joins in
-    calm_fresh J.pattern J.names J.sound J.peers (record c.args.core { way = c.new-core.result }) c.new-core.ensures
+    calm_fresh J.pattern J.names J.sound J.peers (record c.args.core { way = c.new-core.result }) c.new.result.items c.new-core.ensures c.new.ensures
 
 pub returns-clause-others : goal.returns-clause-others
 returns-clause-others g c = λ s t b. (c.request-answer.new.holder.others s t b, c.request-answer.new.holder.number s t b)
@@ -60,3 +61,12 @@ returns-clause-rest g c = λ s t b. c.request-answer.new.holder.rest s t b
 
 pub returns-clause-tied : goal.returns-clause-tied
 returns-clause-tied g c = λ s t b made. c.request-answer.new.holder.tied s t b made
+
+pub returns-clause-came : goal.returns-clause-came
+returns-clause-came g c = λ s t b. c.request-answer.new.holder.came s t b
+
+pub returns-clause-closes : goal.returns-clause-closes
+returns-clause-closes g c = λ is.
+    let J = g.C.Joins in
+    let calm = calm_fresh J.pattern J.names J.sound J.peers (record c.args.core { way = c.new-core.result }) c.new.result.items c.new-core.ensures c.new.ensures in
+    (c.request-answer.ensures.closes is calm).makings

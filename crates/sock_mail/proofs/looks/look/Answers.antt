@@ -55,6 +55,7 @@ invariant_of-holder g c =
       stopped = s.stopped;
       done = λ a t b. absurd b;
       tied = λ a t b made. absurd b;
+      came = λ a t b. absurd b;
       way = λ a t b. absurd b;
       rest = λ a t b. absurd b;
     }

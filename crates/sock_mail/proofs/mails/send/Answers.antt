@@ -30,6 +30,7 @@ invariant_of-holder g c =
       number = λ s t b. absurd b;
       done = λ s t b. absurd b;
       tied = λ s t b made. absurd b;
+      came = λ s t b. absurd b;
       way = λ s t b. absurd b;
       rest = λ s t b. absurd b;
     }

@@ -3,8 +3,7 @@ use Rattle.std.proofs.lemmas.Result.{IfOk-weaker}
 use Rattle.ctl_plane.specs.Desk.{AsksOnce}
 use Rattle.spec_control.specs.declared.request.Req.TheVariants.{Close}
 use Rattle.sock_calls.specs.Calls.{owner_of, holding_of, HasNone}
-use Rattle.sock_calls.proofs.CallsLemmas.{closed_not_held, done_as, has_none}
-use Rattle.sock_calls.proofs.MakingLemmas.{none_made}
+use Rattle.sock_calls.proofs.CallsLemmas.{closed_not_held, has_none}
 use Rattle.sock_calls.proofs.socket.Socket.close.Goals as goal
 
 pub returns-clause-none : goal.returns-clause-none
@@ -20,6 +19,4 @@ returns-clause-none g c =
     x.ensures.ok
 
 pub returns-clause-does : goal.returns-clause-does
-returns-clause-does g c =
-    let x = c.ask in
-    done_as g.P.Pipes.known true _ (λ e written read. ⊥) (λ e written read m. none_made m.0 (owner_of c.args.self.now.core) (Close c.number_of.result) e written read refl m.2) c.args.self.now.core x.new.socket c.args.pipes.now x.new.pipes x.ensures.does
+returns-clause-does g c = c.ask.ensures.closes refl

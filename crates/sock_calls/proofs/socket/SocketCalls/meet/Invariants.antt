@@ -1,4 +1,4 @@
-use Rattle.std.specs.Prelude.{◌≡◌, true}
+use Rattle.std.specs.Prelude.{◌≡◌, true, false}
 use Rattle.sock_calls.proofs.socket.SocketCalls.meet.Given as goal
 
 -- the stretch begins with these pipes and this socket, and ends come with their halves
@@ -7,6 +7,7 @@ ghosts-meet_lent g a = record {
   began = λ s t. (s ≡ a.pipes) × (t ≡ a.core);
   object = a.core.number.0;
   comes = true;
+  undoes = false;
   may_make = λ e written read. ⊥;
   one_side = λ made d e v w r s one other. absurd one;
 }

@@ -1,4 +1,4 @@
-use Rattle.std.proofs.Common.{◌≡◌, false, Option, Some, refl, sym, ap, ◌∙◌, subst, true≢false}
+use Rattle.std.proofs.Common.{◌≡◌, true, false, Option, Some, refl, sym, ap, ◌∙◌, subst, true≢false}
 use Rattle.held_ends.specs.Others.{Leaves}
 use Rattle.sock_core.specs.Has.{holding_in}
 use Rattle.sock_core.specs.declared.sock.SockCore.{SockCore}
@@ -67,8 +67,8 @@ returns-in-Some-clause-does g c =
     let x = c.take_lent-answer in
     subst (λ (s : Option (SockCore _ _ _ _ _)). HaveDone g.P.Pipes.known false (λ d written read. ⊥) s (Some x.result.core) c.args.pipes.now x.result.pipes) (sym e)
     (subst (λ (p : g.row.P.Denot). HaveDone g.P.Pipes.known false (λ d written read. ⊥) (Some c.in-Some.core) (Some x.result.core) p x.result.pipes) c.replace-lent.ensures.value
-    (done_so (Coded-set g.row.P-Name.coded) (Coded-set g.row.P.coded) g.P.Pipes.known false (λ d written read. ⊥) c.replace-lent.result x.result.pipes c.in-Some.core x.result.core x.result.did.items
-    (x.ensures.does c.replace-lent.result c.in-Some.core (refl, refl)) (λ is. absurd (true≢false (sym is)))))
+    (done_so (Coded-set g.row.P-Name.coded) (Coded-set g.row.P.coded) g.P.Pipes.known false true (λ d written read. ⊥) c.replace-lent.result x.result.pipes c.in-Some.core x.result.core x.result.did.items (λ is. absurd (true≢false (sym is)))
+    (x.ensures.does c.replace-lent.result c.in-Some.core (refl, refl)) (x.ensures.came c.replace-lent.result c.in-Some.core (refl, refl)) (λ is. absurd (true≢false (sym is)))))
 
 pub returns-in-Some-clause-rests : goal.returns-in-Some-clause-rests
 returns-in-Some-clause-rests g c =

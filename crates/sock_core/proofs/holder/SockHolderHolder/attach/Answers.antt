@@ -33,6 +33,7 @@ use Rattle.held_ends.proofs.OthersLemmas.{places_stay}
 use Rattle.sock_core.proofs.DoneLemmas.{done_still}
 use Rattle.held_ends.specs.Others.{KeepsPlaces}
 use Rattle.sock_core.proofs.MadeLemmas.{made_less, made_one}
+use Rattle.sock_core.proofs.CameLemmas.{came_still, came_joined}
 use Rattle.sock_core.proofs.holder.SockHolderHolder.attach.Goals as goal
 
 pub join-requires-clause-sound : goal.join-requires-clause-sound
@@ -45,7 +46,7 @@ pub join-requires-clause-new : goal.join-requires-clause-new
 join-requires-clause-new g c =
     ap (λ (r : EndRow _ _). list_any (is_of r.end) c.prepare.new.table.places.items) c.in-Ok-prepare.ensures.ok
     ∙ ap (λ (l : List (Place _ _)). list_any (is_of c.args.end) l) c.prepare.ensures.kept.places
-    ∙ none_of (c.args.o.0 == c.args.self.now.core.number.0) c.args.end c.args.self.now.core.ends.places.items (mine_of c.args.self.now.core.is_open (c.args.o.0 == c.args.self.now.core.number.0) c.requires.here) c.requires.new
+    ∙ none_of (c.args.o.0 == c.args.self.now.core.number.0) c.args.end c.args.self.now.core.ends.places.items (mine_of c.args.self.now.core.is_open (c.args.o.0 == c.args.self.now.core.number.0) c.requires.here) (c.requires.new c.args.o.0 c.requires.here)
 
 pub join-requires-clause-fits : goal.join-requires-clause-fits
 join-requires-clause-fits g c =
@@ -91,6 +92,15 @@ invariant_of-self-in-Ok-attach g c =
       settled_are = were_read_on c.prepare.new.table.places.items c.join.new.table.places.items c.args.self.now.core.ends.settled.items c.join.new.table.settled.items c.join.ensures.others.places (ap (λ l. l.items) c.join.ensures.settled ∙ c.prepare.ensures.kept.settled)
           (subst (λ (l : List (Place _ _)). WereRead l c.args.self.now.core.ends.settled.items) (sym c.prepare.ensures.kept.places) c.args.self.now.settled_are);
       sealed_are = subst (λ (l : List (Place _ _)). AreSealed l (map (λ (x : EndId × Unit {0}). x.0) c.args.self.now.core.sealed.items)) (sym more) (sealed_more c.args.self.now.core.ends.places.items _ (map (λ (x : EndId × Unit {0}). x.0) c.args.self.now.core.sealed.items) c.args.self.now.sealed_are refl);
+      came = λ s t b. ∥∥₁_map (c.args.self.now.came s t b) (λ h.
+          let K = g.P.Pipes.known in
+          came_joined g.P.Pipes.known g.F.Since.undoes g.F.Since.comes s (length t.ends.places.items) (standing_joins t.joins.items) (way_in c.args.self.now.core.way.items) (way_in c.note_join.new.way.items) (standing_joins c.args.self.now.core.joins.items) (standing_joins c.note_join.new.joins.items) c.args.self.now.did.items c.args.self.now.core.ends.places.items c.join.new.table.places.items
+          (new_place c.in-Ok-prepare.row.value.end (g.P.Pipes.known.out_name c.in-Ok-prepare.row.value.out) (g.P.Pipes.known.in_name c.in-Ok-prepare.row.value.input) c.is_taken.result) (joining_as c.joint_of-joint.result c.args.identity.now c.in-Ok-attach.answer) c.joint_of-joint.result.place
+          c.note_join.ensures.way c.note_join.ensures.joins more (c.joint_of-joint.ensures.place ∙ place)
+          (ap (λ (r : EndRow _ _). r.end) c.in-Ok-prepare.ensures.ok ∙ sym c.joint_of-joint.ensures.end)
+          (ap (λ (r : EndRow _ _). K.out_name r.out) c.in-Ok-prepare.ensures.ok ∙ sym c.joint_of-joint.ensures.written)
+          (ap (λ (r : EndRow _ _). K.in_name r.input) c.in-Ok-prepare.ensures.ok ∙ sym c.joint_of-joint.ensures.read)
+          c.requires.calm.1.makings h);
       tied = λ s t b made.
           subst (λ (l : List (Place _ _)). AreMade g.P.Pipes.known g.F.Since.may_make c.args.self.now.did.items (length t.ends.places.items) l) (sym more)
           (made_one g.P.Pipes.known g.F.Since.may_make c.args.self.now.did.items c.args.self.now.core.ends.places.items (new_place c.in-Ok-prepare.row.value.end (g.P.Pipes.known.out_name c.in-Ok-prepare.row.value.out) (g.P.Pipes.known.in_name c.in-Ok-prepare.row.value.input) c.is_taken.result) (length t.ends.places.items)
@@ -119,7 +129,7 @@ returns-in-Ok-attach-clause-turns g c =
     let mine = mine_of c.args.self.now.core.is_open (c.args.o.0 == c.args.self.now.core.number.0) c.requires.here in
     subst (λ (kind : Kind). BeginsActive c.args.end (has c.args.self.now.core.number.0 c.args.self.now.core.is_open (g.C.Joins.kind c.args.self.now.core.kind) (told_in c.args.self.now.core.turns.items c.args.self.now.core.sealed.items c.args.self.now.core.joins.items c.args.self.now.core.heard.items) c.args.self.now.core.ends.places.items) (has c.args.self.now.core.number.0 c.args.self.now.core.is_open kind (told_in c.args.self.now.core.turns.items c.args.self.now.core.sealed.items c.note_join.new.joins.items c.args.self.now.core.heard.items) c.join.new.table.places.items)) (sym c.attach.ensures.kind)
     (subst (λ (l : List (Place _ _)). BeginsActive c.args.end (has c.args.self.now.core.number.0 c.args.self.now.core.is_open (g.C.Joins.kind c.args.self.now.core.kind) (told_in c.args.self.now.core.turns.items c.args.self.now.core.sealed.items c.args.self.now.core.joins.items c.args.self.now.core.heard.items) c.args.self.now.core.ends.places.items) (has c.args.self.now.core.number.0 c.args.self.now.core.is_open (g.C.Joins.kind c.args.self.now.core.kind) (told_in c.args.self.now.core.turns.items c.args.self.now.core.sealed.items c.note_join.new.joins.items c.args.self.now.core.heard.items) l)) (sym places)
-    (begins_of c.args.self.now.core.ends.places.items c.args.end (K.out_name c.args.halves.out) (K.in_name c.args.halves.input) c.args.self.now.core.number.0 c.args.o.0 c.args.self.now.core.is_open (g.C.Joins.kind c.args.self.now.core.kind) (told_in c.args.self.now.core.turns.items c.args.self.now.core.sealed.items c.args.self.now.core.joins.items c.args.self.now.core.heard.items) (told_in c.args.self.now.core.turns.items c.args.self.now.core.sealed.items c.note_join.new.joins.items c.args.self.now.core.heard.items) c.is_taken.result refl refl (none_of (c.args.o.0 == c.args.self.now.core.number.0) c.args.end c.args.self.now.core.ends.places.items mine c.requires.new)))
+    (begins_of c.args.self.now.core.ends.places.items c.args.end (K.out_name c.args.halves.out) (K.in_name c.args.halves.input) c.args.self.now.core.number.0 c.args.o.0 c.args.self.now.core.is_open (g.C.Joins.kind c.args.self.now.core.kind) (told_in c.args.self.now.core.turns.items c.args.self.now.core.sealed.items c.args.self.now.core.joins.items c.args.self.now.core.heard.items) (told_in c.args.self.now.core.turns.items c.args.self.now.core.sealed.items c.note_join.new.joins.items c.args.self.now.core.heard.items) c.is_taken.result refl refl (none_of (c.args.o.0 == c.args.self.now.core.number.0) c.args.end c.args.self.now.core.ends.places.items mine (c.requires.new c.args.o.0 c.requires.here))))
 
 pub returns-in-Ok-attach-clause-joins : goal.returns-in-Ok-attach-clause-joins
 returns-in-Ok-attach-clause-joins g c =
@@ -147,6 +157,8 @@ invariant_of-self-in-Err-attach g c =
           (leaves_unchanged g.P.Pipes.known c.args.self.now.pipes c.args.self.now.core.ends c.prepare.new.table c.prepare.ensures.kept);
       settled_are = were_read_on c.args.self.now.core.ends.places.items c.prepare.new.table.places.items c.args.self.now.core.ends.settled.items c.prepare.new.table.settled.items (places_stay c.args.self.now.core.ends.places.items c.prepare.new.table.places.items places) c.prepare.ensures.kept.settled c.args.self.now.settled_are;
       sealed_are = subst (λ (l : List (Place _ _)). AreSealed l (map (λ (x : EndId × Unit {0}). x.0) c.args.self.now.core.sealed.items)) (sym places) c.args.self.now.sealed_are;
+      came = λ s t b. ∥∥₁_map (c.args.self.now.came s t b) (λ h.
+          came_still g.P.Pipes.known g.F.Since.undoes g.F.Since.comes s (length t.ends.places.items) (standing_joins t.joins.items) (way_in c.args.self.now.core.way.items).joined (standing_joins c.args.self.now.core.joins.items) c.args.self.now.did.items c.args.self.now.core.ends.places.items c.prepare.new.table.places.items (places_stay c.args.self.now.core.ends.places.items c.prepare.new.table.places.items places) long h);
       tied = λ s t b made. made_less g.P.Pipes.known g.F.Since.may_make c.args.self.now.did.items c.args.self.now.did.items c.args.self.now.core.ends.places.items c.prepare.new.table.places.items (length t.ends.places.items) (places_stay c.args.self.now.core.ends.places.items c.prepare.new.table.places.items places) long (λ d. refl) (c.args.self.now.tied s t b made);
       done = λ s t b. done_still g.P.Pipes.known s t.ends.places.items (map (λ (x : EndId × Unit {0}). x.0) t.sealed.items) c.args.self.now.pipes c.args.self.now.did.items c.args.self.now.core.ends.places.items c.prepare.new.table.places.items (map (λ (x : EndId × Unit {0}). x.0) c.args.self.now.core.sealed.items) (places_stay c.args.self.now.core.ends.places.items c.prepare.new.table.places.items places) (c.args.self.now.done s t b);
       number = c.args.self.now.number;
@@ -174,6 +186,8 @@ invariant_of-self-in-Err-prepare g c =
           (leaves_unchanged g.P.Pipes.known c.args.self.now.pipes c.args.self.now.core.ends c.prepare.new.table c.prepare.ensures.kept);
       settled_are = were_read_on c.args.self.now.core.ends.places.items c.prepare.new.table.places.items c.args.self.now.core.ends.settled.items c.prepare.new.table.settled.items (places_stay c.args.self.now.core.ends.places.items c.prepare.new.table.places.items places) c.prepare.ensures.kept.settled c.args.self.now.settled_are;
       sealed_are = subst (λ (l : List (Place _ _)). AreSealed l (map (λ (x : EndId × Unit {0}). x.0) c.args.self.now.core.sealed.items)) (sym places) c.args.self.now.sealed_are;
+      came = λ s t b. ∥∥₁_map (c.args.self.now.came s t b) (λ h.
+          came_still g.P.Pipes.known g.F.Since.undoes g.F.Since.comes s (length t.ends.places.items) (standing_joins t.joins.items) (way_in c.args.self.now.core.way.items).joined (standing_joins c.args.self.now.core.joins.items) c.args.self.now.did.items c.args.self.now.core.ends.places.items c.prepare.new.table.places.items (places_stay c.args.self.now.core.ends.places.items c.prepare.new.table.places.items places) long h);
       tied = λ s t b made. made_less g.P.Pipes.known g.F.Since.may_make c.args.self.now.did.items c.args.self.now.did.items c.args.self.now.core.ends.places.items c.prepare.new.table.places.items (length t.ends.places.items) (places_stay c.args.self.now.core.ends.places.items c.prepare.new.table.places.items places) long (λ d. refl) (c.args.self.now.tied s t b made);
       done = λ s t b. done_still g.P.Pipes.known s t.ends.places.items (map (λ (x : EndId × Unit {0}). x.0) t.sealed.items) c.args.self.now.pipes c.args.self.now.did.items c.args.self.now.core.ends.places.items c.prepare.new.table.places.items (map (λ (x : EndId × Unit {0}). x.0) c.args.self.now.core.sealed.items) (places_stay c.args.self.now.core.ends.places.items c.prepare.new.table.places.items places) (c.args.self.now.done s t b);
       number = c.args.self.now.number;
@@ -188,6 +202,6 @@ pub returns-in-Ok-attach-clause-calm : goal.returns-in-Ok-attach-clause-calm
 returns-in-Ok-attach-clause-calm g c = λ came calm.
     let place : c.len-place.result ≡ length c.args.self.now.core.ends.places.items = (let n = c.len-place.ensures in omega (arith, n)) in
     let new = new_place c.in-Ok-prepare.row.value.end (g.P.Pipes.known.out_name c.in-Ok-prepare.row.value.out) (g.P.Pipes.known.in_name c.in-Ok-prepare.row.value.input) c.is_taken.result in
-    calm_came (way_in c.args.self.now.core.way.items) (way_in c.note_join.new.way.items) c.args.self.now.core.ends.places.items c.join.new.table.places.items new (joining_as c.joint_of-joint.result c.args.identity.now c.in-Ok-attach.answer) c.joint_of-joint.result.place c.args.end came
+    calm_came c.args.self.now.did.items (way_in c.args.self.now.core.way.items) (way_in c.note_join.new.way.items) c.args.self.now.core.ends.places.items c.join.new.table.places.items new (joining_as c.joint_of-joint.result c.args.identity.now c.in-Ok-attach.answer) c.joint_of-joint.result.place c.args.end came
     c.note_join.ensures.way (c.join.ensures.joined ∙ ap (λ (l : List (Place _ _)). l ++ new ∷ []) c.prepare.ensures.kept.places) (c.joint_of-joint.ensures.place ∙ place)
     (ap (λ (r : EndRow _ _). r.end) c.in-Ok-prepare.ensures.ok ∙ sym c.joint_of-joint.ensures.end) refl c.joint_of-joint.ensures.end calm

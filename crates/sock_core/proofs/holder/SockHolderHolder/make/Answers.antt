@@ -6,6 +6,11 @@ use Rattle.std.specs.Prelude.{map}
 use Rattle.zq_base.specs.declared.ids.EndId.{EndId}
 use Rattle.held_ends.proofs.OthersLemmas.{leaves_on, places_stay}
 use Rattle.sock_core.proofs.DoneLemmas.{done_more}
+use Rattle.std.proofs.Math.Logic.{∥∥₁_map}
+use Rattle.held_ends.proofs.MadeLemmas.{makings_more}
+use Rattle.sock_core.specs.Standing.{standing_joins}
+use Rattle.sock_core.specs.Way.{way_in}
+use Rattle.sock_core.proofs.CameLemmas.{came_made}
 use Rattle.sock_core.proofs.holder.SockHolderHolder.make.Goals as goal
 
 pub make-requires-clause-sound : goal.make-requires-clause-sound
@@ -23,6 +28,8 @@ invariant_of-self g c = record {
   others = λ s t b. leaves_on g.P.Pipes.known s c.args.self.now.pipes c.make.new.pipes t.ends c.args.self.now.core.ends c.args.self.now.core.ends (c.args.self.now.others s t b) c.make.ensures.others;
   settled_are = c.args.self.now.settled_are;
   sealed_are = c.args.self.now.sealed_are;
+  came = λ s t b. ∥∥₁_map (c.args.self.now.came s t b) (λ h.
+      came_made g.P.Pipes.known g.F.Since.undoes g.F.Since.comes s (length t.ends.places.items) (standing_joins t.joins.items) (way_in c.args.self.now.core.way.items).joined (standing_joins c.args.self.now.core.joins.items) c.args.self.now.did.items c.make.new.did.items c.args.self.now.core.ends.places.items c.make.ensures.makings h);
   tied = λ s t b made.
       made_else g.P.Pipes.known g.F.Since.may_make (g.F.Since.one_side made) c.args.end c.args.written c.args.read c.requires.may c.args.self.now.did.items c.make.new.did.items c.args.self.now.core.ends.places.items (length t.ends.places.items) c.make.ensures.only
       (none_of (c.args.o.0 == c.args.self.now.core.number.0) c.args.end c.args.self.now.core.ends.places.items (mine_of c.args.self.now.core.is_open (c.args.o.0 == c.args.self.now.core.number.0) c.requires.here) c.requires.new)
@@ -39,3 +46,11 @@ returns-clause-fits g c =
     both_ok c.make.result
     (λ m fits made. (fits, λ is. may_be K g.F.Since.may_make c.make.new.did.items c.args.end c.args.written c.args.read (K.out_name m.mine.out) (K.in_name m.mine.input) c.requires.may made))
     c.make.ensures.fits c.make.ensures.made
+
+pub returns-clause-calm : goal.returns-clause-calm
+returns-clause-calm g c = λ came calm. record {
+  quiet = calm.quiet;
+  makings = makings_more c.args.self.now.did.items c.make.new.did.items c.make.ensures.makings calm.makings;
+  ends = calm.ends;
+  held = calm.held;
+}

@@ -30,6 +30,7 @@ use Rattle.held_ends.proofs.SoundLemmas.{one_some}
 use Rattle.sock_core.proofs.DoneLemmas.{done_seal}
 use Rattle.sock_core.proofs.FindLemmas.{end_is}
 use Rattle.sock_core.proofs.MadeLemmas.{made_less}
+use Rattle.sock_core.proofs.CameLemmas.{came_more}
 use Rattle.sock_core.proofs.holder.SockHolderHolder.seal.Goals as goal
 
 pub seal-requires-clause-sound : goal.seal-requires-clause-sound
@@ -66,6 +67,8 @@ invariant_of-self g c =
       sealed_are = subst (λ (l : List (Place _ _)). AreSealed l (map (λ (x : EndId × Unit {0}). x.0) c.note_seal.new.sealed.items)) (sym s.now)
           (sealed_one c.args.self.now.core.ends.places.items c.in-Some.place s.place (record s.place { sealed = true }) c.args.end (map (λ (x : EndId × Unit {0}). x.0) c.args.self.now.core.sealed.items) (map (λ (x : EndId × Unit {0}). x.0) c.note_seal.new.sealed.items) c.args.self.now.sealed_are s.there
           (ap (λ (x : Place _ _). is_end x.end c.args.end) (one_some s.place f.0 (sym s.there ∙ f.1)) ∙ end_same c.args.end f.0 f.2) c.note_seal.ensures);
+      came = λ s t b. ∥∥₁_map (c.args.self.now.came s t b) (λ h.
+          came_more g.P.Pipes.known g.F.Since.undoes g.F.Since.comes s (length t.ends.places.items) (standing_joins t.joins.items) (way_in c.args.self.now.core.way.items).joined (standing_joins c.args.self.now.core.joins.items) c.args.self.now.did.items c.seal.new.did.items c.args.self.now.core.ends.places.items c.seal.new.table.places.items c.seal.ensures.others.places same c.seal.ensures.changes h);
       tied = λ s t b made. made_less g.P.Pipes.known g.F.Since.may_make c.args.self.now.did.items c.seal.new.did.items c.args.self.now.core.ends.places.items c.seal.new.table.places.items (length t.ends.places.items) c.seal.ensures.others.places same c.seal.ensures.none_made (c.args.self.now.tied s t b made);
       done = λ s t b. done_seal g.P.Pipes.known s t.ends.places.items (map (λ (x : EndId × Unit {0}). x.0) t.sealed.items) c.args.self.now.pipes c.seal.new.pipes c.args.self.now.did.items c.seal.new.did.items c.args.self.now.core.ends.places.items c.seal.new.table.places.items (c.args.self.now.others s t b).places c.seal.ensures.others.places (map (λ (x : EndId × Unit {0}). x.0) c.args.self.now.core.sealed.items) c.in-Some.place f.0 c.args.end
           (map (λ (x : EndId × Unit {0}). x.0) c.note_seal.new.sealed.items) c.seal.ensures.changes f.1 (held_is c.args.end f.0 f.2) (sym (end_is c.args.end f.0 f.2)) c.args.self.now.sealed_are c.note_seal.ensures (c.args.self.now.done s t b);

@@ -33,6 +33,10 @@ use Rattle.sock_core.specs.Noted.{AreSealed}
 use Rattle.sock_core.proofs.NotedLemmas.{were_read_on, sealed_set}
 use Rattle.sock_core.proofs.DoneLemmas.{done_still}
 use Rattle.sock_core.proofs.MadeLemmas.{made_less}
+use Rattle.spec_control.specs.declared.entry.Joining.{Joining}
+use Rattle.sock_core.specs.Came.{HasCome}
+use Rattle.sock_core.specs.Way.{Way}
+use Rattle.sock_core.proofs.CameLemmas.{came_still, turned_joined}
 use Rattle.sock_core.proofs.holder.SockHolderHolder.set_state.Goals as goal
 
 pub set_state-requires-clause-sound : goal.set_state-requires-clause-sound
@@ -82,6 +86,11 @@ invariant_of-self g c =
       others = λ s t b. leaves_on g.P.Pipes.known s c.args.self.now.pipes c.args.self.now.pipes t.ends c.args.self.now.core.ends c.set_state.new.table (c.args.self.now.others s t b) c.set_state.ensures.others;
       settled_are = were_read_on c.args.self.now.core.ends.places.items c.set_state.new.table.places.items c.args.self.now.core.ends.settled.items c.set_state.new.table.settled.items c.set_state.ensures.others.places (ap (λ l. l.items) c.set_state.ensures.settled) c.args.self.now.settled_are;
       sealed_are = subst (λ (l : List (Place _ _)). AreSealed l (map (λ (x : EndId × Unit {0}). x.0) c.args.self.now.core.sealed.items)) (sym s.now) (sealed_set c.args.self.now.core.ends.places.items c.in-Some.place s.place (record s.place { state = c.args.state; peer = c.stays-peer.result }) (map (λ (x : EndId × Unit {0}). x.0) c.args.self.now.core.sealed.items) c.args.self.now.sealed_are s.there (λ h. h) refl refl);
+      came = λ s t b. ∥∥₁_map (c.args.self.now.came s t b) (λ h.
+          let was = c.index.result.now.state in
+          subst (λ (l : List (Joining _ × ℕ)). HasCome g.P.Pipes.known g.F.Since.undoes g.F.Since.comes s (length t.ends.places.items) (standing_joins t.joins.items) l (standing_joins c.args.self.now.core.joins.items) c.args.self.now.did.items c.set_state.new.table.places.items)
+          (sym (ap (λ (w : Way _). w.joined) c.note_turn.ensures ∙ turned_joined (is_state was c.args.state) c.args.end c.args.state (way_in c.args.self.now.core.way.items)))
+          (came_still g.P.Pipes.known g.F.Since.undoes g.F.Since.comes s (length t.ends.places.items) (standing_joins t.joins.items) (way_in c.args.self.now.core.way.items).joined (standing_joins c.args.self.now.core.joins.items) c.args.self.now.did.items c.args.self.now.core.ends.places.items c.set_state.new.table.places.items c.set_state.ensures.others.places same h));
       tied = λ s t b made. made_less g.P.Pipes.known g.F.Since.may_make c.args.self.now.did.items c.args.self.now.did.items c.args.self.now.core.ends.places.items c.set_state.new.table.places.items (length t.ends.places.items) c.set_state.ensures.others.places same (λ d. refl) (c.args.self.now.tied s t b made);
       done = λ s t b. done_still g.P.Pipes.known s t.ends.places.items (map (λ (x : EndId × Unit {0}). x.0) t.sealed.items) c.args.self.now.pipes c.args.self.now.did.items c.args.self.now.core.ends.places.items c.set_state.new.table.places.items (map (λ (x : EndId × Unit {0}). x.0) c.args.self.now.core.sealed.items) (c.set_state.ensures.others.places) (c.args.self.now.done s t b);
       number = c.args.self.now.number;

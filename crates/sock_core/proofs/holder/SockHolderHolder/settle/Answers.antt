@@ -30,6 +30,7 @@ use Rattle.held_ends.specs.Places.{place_at}
 use Rattle.held_ends.proofs.PlaceLemmas.{place_there}
 use Rattle.sock_core.proofs.DoneLemmas.{done_more}
 use Rattle.sock_core.proofs.MadeLemmas.{made_less}
+use Rattle.sock_core.proofs.CameLemmas.{came_more}
 use Rattle.sock_core.proofs.holder.SockHolderHolder.settle.Goals as goal
 
 pub settle-requires-clause-sound : goal.settle-requires-clause-sound
@@ -78,6 +79,8 @@ invariant_of-self g c =
           })
           c.args.self.now.settled_are;
       sealed_are = subst (λ (l : List (Place _ _)). AreSealed l (map (λ (x : EndId × Unit {0}). x.0) c.args.self.now.core.sealed.items)) (sym s.now) (sealed_set c.args.self.now.core.ends.places.items c.in-Some.place s.place (record s.place { held = false; input = None }) (map (λ (x : EndId × Unit {0}). x.0) c.args.self.now.core.sealed.items) c.args.self.now.sealed_are s.there (λ h. never (sym h)) refl refl);
+      came = λ s t b. ∥∥₁_map (c.args.self.now.came s t b) (λ h.
+          came_more g.P.Pipes.known g.F.Since.undoes g.F.Since.comes s (length t.ends.places.items) (standing_joins t.joins.items) (way_in c.args.self.now.core.way.items).joined (standing_joins c.args.self.now.core.joins.items) c.args.self.now.did.items c.settle.new.did.items c.args.self.now.core.ends.places.items c.settle.new.table.places.items c.settle.ensures.others.places same c.settle.ensures.changes h);
       tied = λ s t b made. made_less g.P.Pipes.known g.F.Since.may_make c.args.self.now.did.items c.settle.new.did.items c.args.self.now.core.ends.places.items c.settle.new.table.places.items (length t.ends.places.items) c.settle.ensures.others.places same c.settle.ensures.none_made (c.args.self.now.tied s t b made);
       done = λ s t b. done_more g.P.Pipes.known s t.ends.places.items (map (λ (x : EndId × Unit {0}). x.0) t.sealed.items) c.args.self.now.pipes c.settle.new.pipes c.args.self.now.did.items c.settle.new.did.items c.args.self.now.core.ends.places.items c.settle.new.table.places.items (c.args.self.now.others s t b).places c.settle.ensures.others.places (map (λ (x : EndId × Unit {0}). x.0) c.args.self.now.core.sealed.items) c.settle.ensures.changes (c.args.self.now.done s t b);
       number = c.args.self.now.number;

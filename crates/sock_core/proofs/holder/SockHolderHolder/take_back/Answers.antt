@@ -32,6 +32,7 @@ use Rattle.sock_core.specs.Noted.{AreSealed}
 use Rattle.sock_core.proofs.NotedLemmas.{were_read_on, sealed_set}
 use Rattle.sock_core.proofs.DoneLemmas.{done_still}
 use Rattle.sock_core.proofs.MadeLemmas.{made_less}
+use Rattle.sock_core.proofs.CameLemmas.{came_undone}
 use Rattle.sock_core.proofs.holder.SockHolderHolder.take_back.Goals as goal
 
 pub take_back-requires-clause-sound : goal.take_back-requires-clause-sound
@@ -66,12 +67,21 @@ invariant_of-self g c =
           subst (λ (l : List (Place _ _)). KindWay g.C.Joins.pattern g.C.Joins.names g.C.Joins.sound g.C.Joins.peers (way_in c.note_back.new.way.items) l (standing_joins t.joins.items) (standing_joins c.note_back.new.joins.items) t.turns.items c.args.self.now.core.turns.items t.kind c.unjoin.new.kind) (sym s.now)
           (noted_undone g.C.Joins.pattern g.C.Joins.names g.C.Joins.sound g.C.Joins.peers (way_in c.args.self.now.core.way.items) (way_in c.note_back.new.way.items) c.index.result.now.peer c.args.self.now.core.ends.places.items (standing_joins t.joins.items) (standing_joins c.args.self.now.core.joins.items) (standing_joins c.note_back.new.joins.items) t.turns.items c.args.self.now.core.turns.items t.kind c.args.self.now.core.kind c.unjoin.new.kind c.in-Some.place s.place (record s.place { held = false; writes = false })
           c.note_back.ensures.way c.requires.calm.1.quiet
-          (calm_last g.P.Pipes.known c.args.self.now.pipes c.args.self.now.core.ends.rows.items (way_in c.args.self.now.core.way.items) c.args.self.now.core.ends.places.items c.in-Some.place f.0 c.args.end c.requires.calm.0
+          (calm_last g.P.Pipes.known c.args.self.now.did.items c.args.self.now.pipes c.args.self.now.core.ends.rows.items (way_in c.args.self.now.core.way.items) c.args.self.now.core.ends.places.items c.in-Some.place f.0 c.args.end c.requires.calm.0
           (sound_of g.P.Pipes.known c.args.self.now.pipes c.args.self.now.core.ends.rows.items c.args.self.now.core.ends.places.items c.args.self.now.sound) f.1 f.2 c.requires.calm.1)
           s.there refl refl peer c.note_back.ensures.joins c.unjoin.ensures.undoes (k is)));
       others = λ s t b. leaves_on g.P.Pipes.known s c.args.self.now.pipes c.args.self.now.pipes t.ends c.args.self.now.core.ends c.take_back.new.table (c.args.self.now.others s t b) c.take_back.ensures.others;
       settled_are = were_read_on c.args.self.now.core.ends.places.items c.take_back.new.table.places.items c.args.self.now.core.ends.settled.items c.take_back.new.table.settled.items c.take_back.ensures.others.places (ap (λ l. l.items) c.take_back.ensures.settled) c.args.self.now.settled_are;
       sealed_are = subst (λ (l : List (Place _ _)). AreSealed l (map (λ (x : EndId × Unit {0}). x.0) c.args.self.now.core.sealed.items)) (sym s.now) (sealed_set c.args.self.now.core.ends.places.items c.in-Some.place s.place (record s.place { held = false; writes = false }) (map (λ (x : EndId × Unit {0}). x.0) c.args.self.now.core.sealed.items) c.args.self.now.sealed_are s.there (λ h. never (sym h)) refl refl);
+      came = λ p t b. ∥∥₁_map (c.args.self.now.came p t b) (λ h.
+          let old = c.args.self.now in
+          came_undone g.P.Pipes.known g.F.Since.undoes g.F.Since.comes p (length t.ends.places.items) (standing_joins t.joins.items) g.F.Since.may_make (way_in old.core.way.items) (way_in c.note_back.new.way.items) (standing_joins old.core.joins.items) (standing_joins c.note_back.new.joins.items) old.did.items old.pipes old.core.ends.places.items c.take_back.new.table.places.items
+          s.place (record s.place { held = false; writes = false }) c.in-Some.place c.note_back.ensures.way c.note_back.ensures.joins s.now s.there
+          (ap (λ (x : Place _ _). x.held) (sym (one_some f.0 s.place (sym f.1 ∙ s.there))) ∙ held_is c.args.end f.0 f.2)
+          (record { end_is = refl; written_is = refl; read_is = refl; held = λ x. never (sym x); writes = λ x. never (sym x) }) refl
+          (calm_last g.P.Pipes.known old.did.items old.pipes old.core.ends.rows.items (way_in old.core.way.items) old.core.ends.places.items c.in-Some.place f.0 c.args.end c.requires.calm.0
+          (sound_of g.P.Pipes.known old.pipes old.core.ends.rows.items old.core.ends.places.items old.sound) f.1 f.2 c.requires.calm.1)
+          c.requires.undoes c.requires.calm.1.makings (old.done p t b).does (old.tied p t b) h);
       tied = λ s t b made. made_less g.P.Pipes.known g.F.Since.may_make c.args.self.now.did.items c.args.self.now.did.items c.args.self.now.core.ends.places.items c.take_back.new.table.places.items (length t.ends.places.items) c.take_back.ensures.others.places same (λ d. refl) (c.args.self.now.tied s t b made);
       done = λ s t b. done_still g.P.Pipes.known s t.ends.places.items (map (λ (x : EndId × Unit {0}). x.0) t.sealed.items) c.args.self.now.pipes c.args.self.now.did.items c.args.self.now.core.ends.places.items c.take_back.new.table.places.items (map (λ (x : EndId × Unit {0}). x.0) c.args.self.now.core.sealed.items) (c.take_back.ensures.others.places) (c.args.self.now.done s t b);
       number = c.args.self.now.number;
@@ -128,6 +138,6 @@ pub returns-in-Some-clause-calm : goal.returns-in-Some-clause-calm
 returns-in-Some-clause-calm g c = λ came calm.
     let f = found (is_of c.args.end) c.args.self.now.core.ends.places.items c.in-Some.place (sym c.in-Some.is ∙ c.find.ensures ∙ ap (λ (l : List (Place _ _)). position (is_of c.args.end) l) c.deref.ensures.value) in
     let s = c.take_back.ensures.back in
-    calm_undone (way_in c.args.self.now.core.way.items) (way_in c.note_back.new.way.items) c.args.self.now.core.ends.places.items c.take_back.new.table.places.items (record s.place { held = false; writes = false }) c.in-Some.place c.args.end came c.note_back.ensures.way s.now
-    (calm_last g.P.Pipes.known c.args.self.now.pipes c.args.self.now.core.ends.rows.items (way_in c.args.self.now.core.way.items) c.args.self.now.core.ends.places.items c.in-Some.place f.0 c.args.end came
+    calm_undone c.args.self.now.did.items (way_in c.args.self.now.core.way.items) (way_in c.note_back.new.way.items) c.args.self.now.core.ends.places.items c.take_back.new.table.places.items (record s.place { held = false; writes = false }) c.in-Some.place c.args.end came c.note_back.ensures.way s.now
+    (calm_last g.P.Pipes.known c.args.self.now.did.items c.args.self.now.pipes c.args.self.now.core.ends.rows.items (way_in c.args.self.now.core.way.items) c.args.self.now.core.ends.places.items c.in-Some.place f.0 c.args.end came
     (sound_of g.P.Pipes.known c.args.self.now.pipes c.args.self.now.core.ends.rows.items c.args.self.now.core.ends.places.items c.args.self.now.sound) f.1 f.2 calm) calm

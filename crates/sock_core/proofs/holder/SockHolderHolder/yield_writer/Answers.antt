@@ -36,6 +36,7 @@ use Rattle.sock_core.specs.Noted.{AreSealed}
 use Rattle.sock_core.proofs.NotedLemmas.{were_read_on, sealed_set}
 use Rattle.sock_core.proofs.DoneLemmas.{done_more}
 use Rattle.sock_core.proofs.MadeLemmas.{made_less}
+use Rattle.sock_core.proofs.CameLemmas.{came_more}
 use Rattle.sock_core.proofs.holder.SockHolderHolder.yield_writer.Goals as goal
 
 pub yield_writer-requires-clause-sound : goal.yield_writer-requires-clause-sound
@@ -76,6 +77,8 @@ invariant_of-self g c =
       others = λ s t b. leaves_on g.P.Pipes.known s c.args.self.now.pipes c.yield_writer.new.pipes t.ends c.args.self.now.core.ends c.yield_writer.new.table (c.args.self.now.others s t b) c.yield_writer.ensures.others;
       settled_are = were_read_on c.args.self.now.core.ends.places.items c.yield_writer.new.table.places.items c.args.self.now.core.ends.settled.items c.yield_writer.new.table.settled.items c.yield_writer.ensures.others.places (ap (λ l. l.items) c.yield_writer.ensures.settled) c.args.self.now.settled_are;
       sealed_are = subst (λ (l : List (Place _ _)). AreSealed l (map (λ (x : EndId × Unit {0}). x.0) c.args.self.now.core.sealed.items)) (sym s.now) (sealed_set c.args.self.now.core.ends.places.items c.in-Some.place s.place (record s.place { writes = false; peer = false; input = Some s.input }) (map (λ (x : EndId × Unit {0}). x.0) c.args.self.now.core.sealed.items) c.args.self.now.sealed_are s.there (λ h. h) refl refl);
+      came = λ s t b. ∥∥₁_map (c.args.self.now.came s t b) (λ h.
+          came_more g.P.Pipes.known g.F.Since.undoes g.F.Since.comes s (length t.ends.places.items) (standing_joins t.joins.items) (way_in c.args.self.now.core.way.items).joined (standing_joins c.args.self.now.core.joins.items) c.args.self.now.did.items c.yield_writer.new.did.items c.args.self.now.core.ends.places.items c.yield_writer.new.table.places.items c.yield_writer.ensures.others.places same c.yield_writer.ensures.changes h);
       tied = λ s t b made. made_less g.P.Pipes.known g.F.Since.may_make c.args.self.now.did.items c.yield_writer.new.did.items c.args.self.now.core.ends.places.items c.yield_writer.new.table.places.items (length t.ends.places.items) c.yield_writer.ensures.others.places same c.yield_writer.ensures.none_made (c.args.self.now.tied s t b made);
       done = λ s t b. done_more g.P.Pipes.known s t.ends.places.items (map (λ (x : EndId × Unit {0}). x.0) t.sealed.items) c.args.self.now.pipes c.yield_writer.new.pipes c.args.self.now.did.items c.yield_writer.new.did.items c.args.self.now.core.ends.places.items c.yield_writer.new.table.places.items (c.args.self.now.others s t b).places c.yield_writer.ensures.others.places (map (λ (x : EndId × Unit {0}). x.0) c.args.self.now.core.sealed.items) c.yield_writer.ensures.changes (c.args.self.now.done s t b);
       number = c.args.self.now.number;

@@ -1,0 +1,20 @@
+ghost use Rattle.std.specs.Prelude.{◌≡◌};
+ghost use Rattle.spec_control.specs.Place.{At};
+ghost use Rattle.spec_run.specs.OpenSocket.{awaits_delimiter};
+
+use spec_control::EndState;
+
+/// Whether an end that is so far reads on to its delimiter.
+pub fn awaits(state: EndState) -> bool
+    ensures { result ≡ awaits_delimiter (At state) }
+{
+    match state {
+        EndState::WaitDelimiter => true,
+        EndState::Active => false,
+        EndState::DelimiterGot => false,
+        EndState::AckSent => false,
+        EndState::AskedOnce => false,
+        EndState::AskedTwice => false,
+        EndState::Gone => false,
+    }
+}
