@@ -14,7 +14,7 @@ use Rattle.ctl_holder.specs.Holding.{IsPlugged, Begins, AreAtDelimiter, held_giv
 use Rattle.ctl_holder.specs.TakingOver.{AreTwo, AllTwo, ComeApart}
 use Rattle.sock_core.proofs.FindLemmas.{end_self, same_end}
 use Rattle.reaper_ends.specs.declared.sockets.ClosedSocket.{ClosedSocket}
-use Rattle.reaper_ends.specs.Has.{all_ends, is_socket, ends_of, is_of, writes_of, met_of, state_in, has}
+use Rattle.reaper_ends.specs.Has.{all_ends, is_socket, ends_of, is_of, writes_of, met_of, state_in, has, Heard}
 use Rattle.reaper_ends.proofs.FormLemmas.{AllAlone}
 use Rattle.reaper_ends.proofs.ListLemmas.{never, and_false, any_more, any_here, any_front, any_back, skipped, none_any, all_both, mapped, nil_behind, all_flat}
 use Rattle.reaper_ends.proofs.ChangeLemmas.{all_in}
@@ -163,7 +163,7 @@ module _ {N O I : Type 0} where
       two_more xs gs a.1 b (All-tail (λ y. All (AreTwo exact (held_given out_name in_name y)) (map (held_given out_name in_name) gs)) x xs cross),
     )
 
-    module _ (ss : List (ClosedSocket N O I)) (s : ClosedSocket N O I) (new : list_any (is_socket s.number.0) ss ≡ false) (alone : AllAlone ss) (turns : List (EndId × EndState)) (sealed : List EndId) (heard : List Notice)
+    module _ (ss : List (ClosedSocket N O I)) (s : ClosedSocket N O I) (new : list_any (is_socket s.number.0) ss ≡ false) (alone : AllAlone ss) (turns : List (EndId × EndState)) (sealed : List EndId) (heard : Heard N)
         (come : ComeApart exact (map (held_given out_name in_name) s.ends.items) (has out_name in_name turns sealed heard ss)) where
       pub cross : All (λ x. All (AreTwo exact (held_given out_name in_name x)) (map (held_given out_name in_name) s.ends.items)) (all_ends ss)
       cross = all_in (λ x. All (AreTwo exact (held_given out_name in_name x)) (map (held_given out_name in_name) s.ends.items)) ss alone

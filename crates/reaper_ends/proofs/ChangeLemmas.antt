@@ -5,6 +5,7 @@ use Rattle.std.specs.List.{list_any}
 use Rattle.std.proofs.lemmas.Bool.{eq-eqb}
 use Rattle.std.proofs.lemmas.List.Elements.{All-nil, All-cons, All-head, All-tail}
 use Rattle.zq_base.specs.declared.ids.EndId.{EndId}
+use Rattle.zq_base.specs.declared.ids.ObjId.{ObjId}
 use Rattle.spec_control.specs.declared.end.EndState.{EndState}
 use Rattle.spec_control.specs.Control.{is_end}
 use Rattle.control_held.specs.Held.{Held}
@@ -32,6 +33,7 @@ module _ {N O I : Type 0} where
     pub others : (i : ℕ) → i ≢ o → ends_of ts i ≡ ends_of ss i
     pub holds : (i : ℕ) → list_any (is_socket i) ts ≡ list_any (is_socket i) ss
     pub places : (i : ℕ) → position (is_socket i) ts ≡ position (is_socket i) ss
+    pub numbers : map (λ s. s.number) ts ≡ map (λ s. s.number) ss
     pub is : is_of e g ≡ true
 
   -- the ends of the socket found
@@ -49,10 +51,14 @@ module _ {N O I : Type 0} where
       by true k later = never k
       by false k later = later k
 
-  other_ends : (i : ℕ) (before after : List (ClosedSocket N O I)) (s t : ClosedSocket N O I) → is_socket i s ≡ false → is_socket i t ≡ false → ends_of (before ++ t ∷ after) i ≡ ends_of (before ++ s ∷ after) i
+  pub other_ends : (i : ℕ) (before after : List (ClosedSocket N O I)) (s t : ClosedSocket N O I) → is_socket i s ≡ false → is_socket i t ≡ false → ends_of (before ++ t ∷ after) i ≡ ends_of (before ++ s ∷ after) i
   other_ends i [] after s t off off2 =
       ap (λ (b : Bool). if b then t.ends.items else ends_of after i) off2 ∙ sym (ap (λ (b : Bool). if b then s.ends.items else ends_of after i) off)
   other_ends i (x ∷ before) after s t off off2 = ap (λ (l : List (Given N O I)). if is_socket i x then x.ends.items else l) (other_ends i before after s t off off2)
+
+  pub numbers_same : (before after : List (ClosedSocket N O I)) (s t : ClosedSocket N O I) → t.number ≡ s.number → map (λ x. x.number) (before ++ t ∷ after) ≡ map (λ x. x.number) (before ++ s ∷ after)
+  numbers_same [] after s t same = ap (λ (n : ObjId). n ∷ map (λ x. x.number) after) same
+  numbers_same (x ∷ before) after s t same = ap (λ (l : List ObjId). x.number ∷ l) (numbers_same before after s t same)
 
   module _ (o : ℕ) (e : EndId) (ss : List (ClosedSocket N O I)) (j k : ℕ) (f : FindsEnd o e ss j k) where
     abbrev s : ClosedSocket N O I
@@ -82,6 +88,7 @@ module _ {N O I : Type 0} where
           ∙ sym (ap (λ (l : List (ClosedSocket N O I)). ends_of l i) f.its.are);
       holds = λ i. ap (λ (l : List (ClosedSocket N O I)). list_any (is_socket i) l) now ∙ any_same (is_socket i) f.its.before f.its.behind s t (same_number i t number) ∙ sym (ap (λ (l : List (ClosedSocket N O I)). list_any (is_socket i) l) f.its.are);
       places = λ i. ap (λ (l : List (ClosedSocket N O I)). position (is_socket i) l) now ∙ position_same (is_socket i) f.its.before f.its.behind s t (same_number i t number) ∙ sym (ap (λ (l : List (ClosedSocket N O I)). position (is_socket i) l) f.its.are);
+      numbers = ap (map (λ (x : ClosedSocket N O I). x.number)) now ∙ numbers_same f.its.before f.its.behind s t number ∙ sym (ap (map (λ (x : ClosedSocket N O I). x.number)) f.its.are);
       is = f.here.is;
     }
       where

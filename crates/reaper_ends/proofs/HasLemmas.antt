@@ -13,7 +13,7 @@ use Rattle.ctl_holder.specs.Holding.{HoldsNow, Stays, Left, Yielded, KeepsTurns,
 use Rattle.ctl_holder.specs.TakingOver.{AllTwo}
 use Rattle.sock_core.proofs.FindLemmas.{same_end}
 use Rattle.reaper_ends.specs.declared.sockets.ClosedSocket.{ClosedSocket}
-use Rattle.reaper_ends.specs.Has.{all_ends, ends_of, is_of, writes_of, met_of, input_in, state_in, has}
+use Rattle.reaper_ends.specs.Has.{all_ends, ends_of, is_of, writes_of, met_of, input_in, state_in, has, Heard}
 use Rattle.reaper_ends.proofs.ListLemmas.{never, and_false, any_same, any_without, any_grows, skipped, none_any, all_both, all_front, all_back}
 use Rattle.reaper_ends.proofs.ChangeLemmas.{Replaces, apart_from, same_held, none_is, without, has_listed, input_here, state_here, state_same, state_else, state_without, among}
 
@@ -112,7 +112,7 @@ module _ {N O I : Type 0} (out_name : O → N) (in_name : I → N) (exact : Bool
     ends_now : map (held_given out_name in_name) (ends_of ts o) ≡ map (held_given out_name in_name) (ends_of ss o)
     ends_now = ap (map (held_given out_name in_name)) r.own_now ∙ same_held out_name in_name exact r.front r.back g k held ∙ sym (ap (map (held_given out_name in_name)) r.own_was)
 
-    module _ (turns turns' : List (EndId × EndState)) (sealed sealed' : List EndId) (heard : List Notice) where
+    module _ (turns turns' : List (EndId × EndState)) (sealed sealed' : List EndId) (heard : Heard N) where
       holds_now : (g.met ≡ true → k.met ≡ true) → HoldsNow o (map (held_given out_name in_name) (ends_of ss o)) (has out_name in_name turns sealed heard ss) (has out_name in_name turns' sealed' heard ts)
       holds_now met = record {
         ends = ends_now;
@@ -162,7 +162,7 @@ module _ {N O I : Type 0} (out_name : O → N) (in_name : I → N) (exact : Bool
     state_still state d =
         ap (λ l. state_in l d) r.now ∙ state_same d (r.pre ++ r.front) (r.back ++ r.post) g k (is_same d) state ∙ sym (ap (λ l. state_in l d) r.was)
 
-    module _ (turns : List (EndId × EndState)) (sealed : List EndId) (heard : List Notice) where
+    module _ (turns : List (EndId × EndState)) (sealed : List EndId) (heard : Heard N) where
       pub keeps_turns : k.state ≡ g.state → KeepsTurns (has out_name in_name turns sealed heard ss) (has out_name in_name turns sealed heard ts)
       keeps_turns state = record { states = λ i d here. state_still state d; turns = refl; sealed = refl; joined = refl }
 
@@ -203,7 +203,7 @@ module _ {N O I : Type 0} (out_name : O → N) (in_name : I → N) (exact : Bool
     state_left : (i : ℕ) (d : EndId) → has_end d (map (held_given out_name in_name) (ends_of ts i)) ≡ true → state_in (all_ends ts) d ≡ state_in (all_ends ss) d
     state_left i d here = ap (λ l. state_in l d) r.now ∙ state_without d (r.pre ++ r.front) (r.back ++ r.post) g (other_there i d here) ∙ sym (ap (λ l. state_in l d) r.was)
 
-    module _ (turns : List (EndId × EndState)) (sealed : List EndId) (heard : List Notice) where
+    module _ (turns : List (EndId × EndState)) (sealed : List EndId) (heard : Heard N) where
       pub left : Left o e (has out_name in_name turns sealed heard ss) (has out_name in_name turns sealed heard ts)
       left = record {
         now = record {

@@ -1,13 +1,17 @@
 pub mod ListLemmas
+pub mod MixedLemmas
 pub mod FormLemmas
 pub mod ChangeLemmas
 pub mod HasLemmas
 pub mod SoundLemmas
+pub mod JoinLemmas
 pub mod AddLemmas
 pub mod TakeLemmas
 pub mod CountLemmas
 pub mod PlaceLemmas
 pub mod IndexLemmas
 pub mod NotedLemmas
+pub mod ComeLemmas
 pub mod LookLemmas
 pub mod LawLemmas
+pub mod ReadingLemmas

@@ -2,12 +2,12 @@
 use Rattle.std.proofs.Common.{◌≡◌, ◌∙◌, ◌<◌, ◌+◌, ◌||◌, ◌&&◌, ℕ, zero, suc, Bool, true, false, not, List, [], ◌∷◌, ◌++◌, All, Some, length, map, set, refl, sym, ap, subst, arith, is_some, length-append, length-set, if◌then◌else◌}
 use Rattle.std.specs.List.{AllByRecursion, list_any}
 use Rattle.std.proofs.lemmas.List.{append-nil, map-append}
-use Rattle.std.proofs.lemmas.List.Elements.{All-nil, All-cons}
+use Rattle.std.proofs.lemmas.List.Elements.{All-nil, All-cons, All-head}
 use Rattle.zq_base.specs.declared.ids.EndId.{EndId}
 use Rattle.control_held.specs.Held.{Held}
 use Rattle.spec_control.specs.Control.{is_end}
 use Rattle.spec_pattern.specs.Half.{with_delimiter, without_parts}
-use Rattle.msg_pipe.specs.Known.{Known, KeepsButOut, KeepsButPipe}
+use Rattle.msg_pipe.specs.Known.{Known, IsThere, KeepsButOut, KeepsButPipe}
 use Rattle.ctl_holder.specs.declared.given.Given.{Given}
 use Rattle.held_ends.specs.declared.changes.PipeChange.{PipeChange}
 use Rattle.held_ends.specs.declared.changes.PipeChange.TheVariants.{Kept, Made, Sealed, SealedAgain, Parted, Settled}
@@ -31,7 +31,10 @@ use Rattle.reaper_ends.specs.Noted.{at_place, unplaced, standing_in, sealed_ends
 use Rattle.reaper_ends.proofs.ListLemmas.{never, any_back, any_front, all_both, mapped, same_ends}
 use Rattle.reaper_ends.proofs.ChangeLemmas.{Replaces}
 use Rattle.reaper_ends.proofs.SoundLemmas.{all_one, all_but, all_with}
+use Rattle.reaper_ends.specs.Mixed.{AreMixed}
+use Rattle.reaper_ends.proofs.MixedLemmas.{mixed_between, mixed_found, mixed_front, mixed_self}
 use Rattle.reaper_ends.proofs.AddLemmas.{all_added}
+use Rattle.reaper_ends.proofs.JoinLemmas.{AddsEnd}
 
 -- ---- a place by what stands there
 
@@ -114,6 +117,36 @@ module _ {N I : Type 0} where
             now = λ q on. in_front (standing_in (set ps r.at q)) ∙ r.now q on;
           }
 
+  -- the same of ends that stand in another order
+  pub record FoundMixed (ps : List (Place N I)) (before : List (Held N × Bool)) (h : Held N × Bool) (behind : List (Held N × Bool)) : Type 0 where
+    pub at : ℕ
+    pub place : Place N I
+    pub there : place_at ps at ≡ Some place
+    pub held : place.held ≡ true
+    pub end_is : place.end ≡ h.0.end
+    pub written_is : place.written ≡ h.0.written
+    pub read_is : place.read ≡ h.0.read
+    pub writes_is : place.writes ≡ h.1
+    pub gone : (q : Place N I) → q.held ≡ false → AreMixed (standing_in (set ps at q)) (before ++ behind)
+    pub now : (q : Place N I) → q.held ≡ true → AreMixed (standing_in (set ps at q)) (before ++ (held_of q, q.writes) ∷ behind)
+
+  pub found_mixed : (ps : List (Place N I)) (before : List (Held N × Bool)) (h : Held N × Bool) (behind : List (Held N × Bool)) → AreMixed (standing_in ps) (before ++ h ∷ behind) → FoundMixed ps before h behind
+  found_mixed ps before h behind m =
+      let f = mixed_found (standing_in ps) (before ++ h ∷ behind) before h behind m refl in
+      let a = found ps f.before h f.behind f.are in
+      record {
+        at = a.at;
+        place = a.place;
+        there = a.there;
+        held = a.held;
+        end_is = a.end_is;
+        written_is = a.written_is;
+        read_is = a.read_is;
+        writes_is = a.writes_is;
+        gone = λ q off. subst (λ (l : List (Held N × Bool)). AreMixed l (before ++ behind)) (sym (a.gone q off)) f.left;
+        now = λ q on. subst (λ (l : List (Held N × Bool)). AreMixed l (before ++ (held_of q, q.writes) ∷ behind)) (sym (a.now q on)) (mixed_between f.before f.behind before behind (held_of q, q.writes) f.left);
+      }
+
   pub standing_more : (ps qs : List (Place N I)) → standing_in (ps ++ qs) ≡ standing_in ps ++ standing_in qs
   standing_more [] qs = refl
   standing_more (p ∷ ps) qs = by p.held (standing_more ps qs)
@@ -131,7 +164,7 @@ module _ {N I : Type 0} where
       by true rest = ap (λ (l : List EndId). p.end ∷ l) rest
       by false rest = rest
 
-  place_front : (ps qs : List (Place N I)) (k : ℕ) (p : Place N I) → place_at ps k ≡ Some p → place_at (ps ++ qs) k ≡ Some p
+  pub place_front : (ps qs : List (Place N I)) (k : ℕ) (p : Place N I) → place_at ps k ≡ Some p → place_at (ps ++ qs) k ≡ Some p
   place_front [] qs k p at = cc
   place_front (x ∷ xs) qs zero p at = at
   place_front (x ∷ xs) qs (suc k) p at = place_front xs qs k p at
@@ -140,7 +173,7 @@ rec_both : {X : Type 0} (P : X → Type 0) (xs ys : List X) → AllByRecursion P
 rec_both P [] ys a b = b
 rec_both P (x ∷ xs) ys a b = (a.0, rec_both P xs ys a.1 b)
 
-rec_more : {X : Type 0} (P : X → Type 0) (xs : List X) (x : X) → AllByRecursion P xs → P x → AllByRecursion P (xs ++ x ∷ [])
+pub rec_more : {X : Type 0} (P : X → Type 0) (xs : List X) (x : X) → AllByRecursion P xs → P x → AllByRecursion P (xs ++ x ∷ [])
 rec_more P xs x a b = rec_both P xs (x ∷ []) a (b, tt)
 
 rec_more_weak : {X : Type 0} (P Q : X → Type 0) → ((x : X) → P x → Q x) → (xs : List X) → AllByRecursion P xs → AllByRecursion Q xs
@@ -180,13 +213,13 @@ module _ {S O I N : Type 0} (K : Known S O I N) where
       sealings_are = ap (λ (b : Bool). (p.end, not b) ∷ []) (sym sealed);
     }
 
-    pub once_sealed : (s : Bool) (lent back : O) → s ≡ false → NotesHalf (λ half. Sealed 0 p.end half) lent back new xs ys → K.out_name lent ≡ p.written → (K.writing old lent).sealed ≡ false
+    pub once_sealed : (s : Bool) (lent back : O) → s ≡ false → NotesHalf (λ half. Sealed 0 p.end half) lent back new xs ys → K.out_name lent ≡ p.written → IsThere K old (K.out_name lent) → (K.writing old lent).sealed ≡ false
         → K.writing new back ≡ with_delimiter (K.writing old lent) → KeepsButOut K lent back old new → ChangesOnce K p ((p.end, not s) ∷ []) xs old ys new
-    once_sealed s lent back unsealed_yet h name unsealed delimiter keeps = record {
+    once_sealed s lent back unsealed_yet h name there unsealed delimiter keeps = record {
       change = Sealed 0 p.end h.half;
       noted = h.noted;
       does = subst (λ (l : List (O × Unit {0})). SealedBy K (p ∷ []) 0 p.end l old new) (sym h.half_is)
-          (record { placed = one_placed p; pipe_is = λ q at. name ∙ ap (λ (x : Place N I). x.written) (one_some p q at); unsealed = unsealed; delimiter = delimiter; keeps = keeps });
+          (record { placed = one_placed p; pipe_is = λ q at. name ∙ ap (λ (x : Place N I). x.written) (one_some p q at); there = there; unsealed = unsealed; delimiter = delimiter; keeps = keeps });
       wrote = here;
       sealings_are = ap (λ (b : Bool). (p.end, not b) ∷ []) (sym unsealed_yet);
     }
@@ -220,7 +253,7 @@ module _ {S O I N : Type 0} (K : Known S O I N) where
     sealed_at : (j : ℕ) (e : EndId) (hs : List (O × Unit {0})) (old new : S) → SealedBy K (p ∷ []) j e hs old new → SealedBy K qs k e hs old new
     sealed_at j e [] old new h = absurd h
     sealed_at j e (a ∷ []) old new h = absurd h
-    sealed_at zero e (a ∷ b ∷ []) old new h = record { placed = placed_at 0 e h.placed; pipe_is = pipe_at (K.out_name a.0) (h.pipe_is p refl); unsealed = h.unsealed; delimiter = h.delimiter; keeps = h.keeps }
+    sealed_at zero e (a ∷ b ∷ []) old new h = record { placed = placed_at 0 e h.placed; pipe_is = pipe_at (K.out_name a.0) (h.pipe_is p refl); there = h.there; unsealed = h.unsealed; delimiter = h.delimiter; keeps = h.keeps }
     sealed_at (suc j) e (a ∷ b ∷ []) old new h = absurd (let w = h.placed.within in omega (arith, w))
     sealed_at j e (a ∷ b ∷ c ∷ cs) old new h = absurd h
 
@@ -412,7 +445,7 @@ module _ {N I : Type 0} where
   wrote_front fs ns (Parted k e half) w = record { place = w.place; there = place_front fs ns k w.place w.there; held = w.held; writes = w.writes }
   wrote_front fs ns (Settled k e) w = record { place = w.place; there = place_front fs ns k w.place w.there; held = w.held }
 
-came_places : {N O I : Type 0} (in_name : I → N) (gs : List (Given N O I)) → map (λ x. x.0) (map (came_given in_name) gs) ≡ map (place_given in_name) gs
+pub came_places : {N O I : Type 0} (in_name : I → N) (gs : List (Given N O I)) → map (λ x. x.0) (map (came_given in_name) gs) ≡ map (place_given in_name) gs
 came_places in_name [] = refl
 came_places in_name (g ∷ gs) = ap (λ (l : List (Place _ _)). place_given in_name g ∷ l) (came_places in_name gs)
 
@@ -446,7 +479,8 @@ module _ {S O I N : Type 0} (K : Known S O I N) (first : S) (from : ClosedSocket
     places = firsts [];
     count = refl;
     keeps = places_stay (firsts []) (firsts []) refl;
-    standing = ap standing_in (append-nil (map (place_given K.in_name) (all_ends from.sockets.items))) ∙ standing_new K.in_name (all_ends from.sockets.items);
+    standing = subst (AreMixed (standing_in (firsts [])))
+        (ap standing_in (append-nil (map (place_given K.in_name) (all_ends from.sockets.items))) ∙ standing_new K.in_name (all_ends from.sockets.items)) (mixed_self (standing_in (firsts [])));
     placed = [];
     noted = refl;
     does = sym same;
@@ -473,7 +507,7 @@ module _ {S O I N : Type 0} (K : Known S O I N) (first : S) (from : ClosedSocket
     places = h.places;
     count = h.count;
     keeps = h.keeps;
-    standing = h.standing ∙ sym stand;
+    standing = subst (AreMixed (standing_in h.places)) (sym stand) h.standing;
     placed = h.placed;
     noted = h.noted;
     does = h.does;
@@ -542,7 +576,7 @@ module _ {S O I N : Type 0} (K : Known S O I N) (first : S) (from : ClosedSocket
       places = after;
       count = length-set h.places f.at q ∙ h.count;
       keeps = places_on (firsts h.came) h.places after h.keeps stays;
-      standing = f.now q f.held ∙ ap (λ (x : Held N × Bool). map st (r.pre ++ r.front) ++ x ∷ map st (r.back ++ r.post)) is_now ∙ sym (stands_now k r);
+      standing = subst (AreMixed (standing_in after)) (ap (λ (x : Held N × Bool). map st (r.pre ++ r.front) ++ x ∷ map st (r.back ++ r.post)) is_now ∙ sym (stands_now k r)) (f.now q f.held);
       placed = m.next;
       noted = m.noted;
       does = m.does;
@@ -555,8 +589,8 @@ module _ {S O I N : Type 0} (K : Known S O I N) (first : S) (from : ClosedSocket
       read = were_read_on h.places after h.settled h.settled stays refl h.read;
     }
       where
-        f : FoundAt h.places (map st (r.pre ++ r.front)) (st g) (map st (r.back ++ r.post))
-        f = found h.places (map st (r.pre ++ r.front)) (st g) (map st (r.back ++ r.post)) (h.standing ∙ stands_was (k ∷ []) r)
+        f : FoundMixed h.places (map st (r.pre ++ r.front)) (st g) (map st (r.back ++ r.post))
+        f = found_mixed h.places (map st (r.pre ++ r.front)) (st g) (map st (r.back ++ r.post)) (subst (AreMixed (standing_in h.places)) (stands_was (k ∷ []) r) h.standing)
 
         q : Place N I
         q = record f.place { writes = is_some k.out }
@@ -601,7 +635,7 @@ module _ {S O I N : Type 0} (K : Known S O I N) (first : S) (from : ClosedSocket
         places = after;
         count = length-set h.places f.at q ∙ h.count;
         keeps = places_on (firsts h.came) h.places after h.keeps stays;
-        standing = f.gone q refl ∙ sym (stands_left r);
+        standing = subst (AreMixed (standing_in after)) (sym (stands_left r)) (f.gone q refl);
         placed = h.placed ++ l.more;
         noted = l.noted;
         does = l.does;
@@ -612,8 +646,8 @@ module _ {S O I N : Type 0} (K : Known S O I N) (first : S) (from : ClosedSocket
         read = all_both (λ (x : N × Unit {0}). ∥ ReadsNoMore after x.0 ∥₁) h.settled settled (were_read_on h.places after h.settled h.settled stays refl h.read) l.read;
       }
         where
-          f : FoundAt h.places (map st (r.pre ++ r.front)) (st g) (map st (r.back ++ r.post))
-          f = found h.places (map st (r.pre ++ r.front)) (st g) (map st (r.back ++ r.post)) (h.standing ∙ stands_was [] r)
+          f : FoundMixed h.places (map st (r.pre ++ r.front)) (st g) (map st (r.back ++ r.post))
+          f = found_mixed h.places (map st (r.pre ++ r.front)) (st g) (map st (r.back ++ r.post)) (subst (AreMixed (standing_in h.places)) (stands_was [] r) h.standing)
 
           q : Place N I
           q = record f.place { held = false }
@@ -641,16 +675,6 @@ module _ {S O I N : Type 0} (K : Known S O I N) (first : S) (from : ClosedSocket
           no_seal : sealings_in (h.placed ++ l.more) ≡ sealings_in h.placed
           no_seal = sealings_on h.placed l.more ∙ ap (λ (x : List (EndId × Bool)). sealings_in h.placed ++ x) l.no_seals ∙ append-nil (sealings_in h.placed)
 
-      pub done_back : (xs : List (PipeChange O I × S)) (pipes : S) → d.settled.items ≡ c.settled.items → HasDoneTo K first from xs pipes c → HasDoneTo K first from xs pipes d
-      done_back xs pipes settled = done_left xs xs pipes pipes [] (settled ∙ sym (append-nil c.settled.items)) (λ ps qs k p stays there end reads gone lt placed noted does. record {
-        more = [];
-        noted = ap unplaced (append-nil placed) ∙ noted;
-        does = subst (λ (x : List (PipeChange O I × S)). DoesChanges K qs first x pipes) (sym (append-nil placed)) (changes_later K ps qs stays placed first pipes does);
-        wrote = λ fs stood. tt;
-        no_seals = refl;
-        read = All-nil (λ (x : N × Unit {0}). ∥ ReadsNoMore qs x.0 ∥₁);
-      })
-
       pub done_gone : (xs ys : List (PipeChange O I × S)) (old new : S) → ys ≡ xs ++ (Settled 0 g.end, new) ∷ [] → KeepsButPipe K (K.in_name g.input) old new
           → d.settled.items ≡ c.settled.items ++ (K.in_name g.input, tt) ∷ [] → HasDoneTo K first from xs old c → HasDoneTo K first from ys new d
       done_gone xs ys old new one keeps settled = done_left xs ys old new ((K.in_name g.input, tt) ∷ []) settled (λ ps qs k p stays there end reads gone lt placed noted does. record {
@@ -669,12 +693,14 @@ module _ {S O I N : Type 0} (K : Known S O I N) (first : S) (from : ClosedSocket
         read = All-cons (λ (x : N × Unit {0}). ∥ ReadsNoMore qs x.0 ∥₁) (K.in_name g.input, tt) [] ∣ record { at = k; place = p; there = there; gone = gone; name_is = reads } ∣₁ (All-nil (λ (x : N × Unit {0}). ∥ ReadsNoMore qs x.0 ∥₁));
       })
 
-  -- ends came
-  pub done_come : (c d : ClosedSockets N O I) (s : ClosedSocket N O I) (xs : List (PipeChange O I × S)) (pipes : S) → d.sockets.items ≡ c.sockets.items ++ s ∷ []
-      → d.came.items ≡ c.came.items ++ map (came_given K.in_name) s.ends.items → d.sealed.items ≡ c.sealed.items → d.settled.items ≡ c.settled.items → HasDoneTo K first from xs pipes c → HasDoneTo K first from xs pipes d
-  done_come c d s xs pipes added comes sealed settled h = record {
-    came = h.came ++ map (came_given K.in_name) s.ends.items;
-    came_are = comes ∙ ap (λ (l : List (Place N I × Unit {0})). l ++ map (came_given K.in_name) s.ends.items) h.came_are ∙ same_ends from.came.items h.came (map (came_given K.in_name) s.ends.items);
+  -- ends came, wherever they stand among the others
+  pub done_more : (c d : ClosedSockets N O I) (gs : List (Given N O I)) (xs : List (PipeChange O I × S)) (pipes : S)
+      → ((ss : List (Held N × Bool)) → AreMixed ss (map (standing_of K.in_name) (all_ends c.sockets.items)) → AreMixed (ss ++ map (standing_of K.in_name) gs) (map (standing_of K.in_name) (all_ends d.sockets.items)))
+      → ((es : List EndId) → AreTold es (all_ends c.sockets.items) → AreTold es gs → AreTold es (all_ends d.sockets.items))
+      → d.came.items ≡ c.came.items ++ map (came_given K.in_name) gs → d.sealed.items ≡ c.sealed.items → d.settled.items ≡ c.settled.items → HasDoneTo K first from xs pipes c → HasDoneTo K first from xs pipes d
+  done_more c d gs xs pipes stand tell comes sealed settled h = record {
+    came = h.came ++ map (came_given K.in_name) gs;
+    came_are = comes ∙ ap (λ (l : List (Place N I × Unit {0})). l ++ map (came_given K.in_name) gs) h.came_are ∙ same_ends from.came.items h.came (map (came_given K.in_name) gs);
     told = h.told;
     told_are = ap (map (λ (x : EndId × Unit {0}). x.0)) sealed ∙ h.told_are;
     settled = h.settled;
@@ -682,35 +708,54 @@ module _ {S O I N : Type 0} (K : Known S O I N) (first : S) (from : ClosedSocket
     places = h.places ++ new;
     count = length-append h.places new ∙ ap (λ n. n + length new) h.count ∙ sym (length-append (firsts h.came) new) ∙ ap length (sym firsts_more);
     keeps = subst (λ (l : List (Place N I)). KeepsPlaces l (h.places ++ new)) (sym firsts_more) (keeps_both (firsts h.came) h.places new h.count h.keeps);
-    standing =
-        standing_more h.places new ∙ ap (λ (l : List (Held N × Bool)). l ++ standing_in new) h.standing ∙ ap (λ (l : List (Held N × Bool)). map (standing_of K.in_name) (all_ends c.sockets.items) ++ l) (standing_new K.in_name s.ends.items)
-        ∙ sym (ap (map (standing_of K.in_name)) now ∙ mapped (standing_of K.in_name) (all_ends c.sockets.items) s.ends.items);
+    standing = subst (λ (l : List (Held N × Bool)). AreMixed l (map (standing_of K.in_name) (all_ends d.sockets.items)))
+        (sym (standing_more h.places new ∙ ap (λ (l : List (Held N × Bool)). standing_in h.places ++ l) (standing_new K.in_name gs))) (stand (standing_in h.places) h.standing);
     placed = h.placed;
     noted = h.noted;
     does = changes_later K h.places (h.places ++ new) (places_come h.places new) h.placed first pipes h.does;
-    wrote = rec_more_weak (λ (x : PipeChange O I × S). StoodFirst (firsts h.came) x.0) (λ (x : PipeChange O I × S). StoodFirst (first_places K.in_name from (h.came ++ map (came_given K.in_name) s.ends.items)) x.0)
+    wrote = rec_more_weak (λ (x : PipeChange O I × S). StoodFirst (firsts h.came) x.0) (λ (x : PipeChange O I × S). StoodFirst (first_places K.in_name from (h.came ++ map (came_given K.in_name) gs)) x.0)
         (λ x w. subst (λ (l : List (Place N I)). StoodFirst l x.0) (sym firsts_more) (wrote_front (firsts h.came) new x.0 w)) h.placed h.wrote;
     seals = h.seals;
     again = subst (λ (l : List EndId). were_told l (sealings_in h.placed) ≡ true) (sym known_more) (told_of_more (known h.came) (known h.came ++ sealed_ends new) (λ e. any_front (is_end e) (known h.came) (sealed_ends new)) (sealings_in h.placed) h.again);
     sealed = subst (λ (l : List EndId). AreTold (l ++ h.told) (all_ends d.sockets.items)) (sym known_more)
-        (subst (AreTold ((known h.came ++ sealed_ends new) ++ h.told)) (sym now)
-        (all_both (λ (x : Given N O I). x.sealed ≡ true → list_any (is_end x.end) ((known h.came ++ sealed_ends new) ++ h.told) ≡ true) (all_ends c.sockets.items) s.ends.items
+        (tell ((known h.came ++ sealed_ends new) ++ h.told)
         (told_more_ends (known h.came ++ h.told) ((known h.came ++ sealed_ends new) ++ h.told) (all_ends c.sockets.items) (λ e. any_between (is_end e) (known h.came) (sealed_ends new) h.told) h.sealed)
-        (told_more_ends (sealed_ends new) ((known h.came ++ sealed_ends new) ++ h.told) s.ends.items (λ e there. any_front (is_end e) (known h.came ++ sealed_ends new) h.told (any_back (is_end e) (known h.came) (sealed_ends new) there)) (told_new K.in_name s.ends.items))));
+        (told_more_ends (sealed_ends new) ((known h.came ++ sealed_ends new) ++ h.told) gs (λ e there. any_front (is_end e) (known h.came ++ sealed_ends new) h.told (any_back (is_end e) (known h.came) (sealed_ends new) there)) (told_new K.in_name gs)));
     read = were_read_on h.places (h.places ++ new) h.settled h.settled (places_come h.places new) refl h.read;
   }
     where
       new : List (Place N I)
-      new = map (place_given K.in_name) s.ends.items
+      new = map (place_given K.in_name) gs
 
+      firsts_more : first_places K.in_name from (h.came ++ map (came_given K.in_name) gs) ≡ firsts h.came ++ new
+      firsts_more =
+          ap (λ (l : List (Place N I)). map (place_given K.in_name) (all_ends from.sockets.items) ++ l) (mapped (λ (x : Place N I × Unit {0}). x.0) h.came (map (came_given K.in_name) gs)
+          ∙ ap (λ (l : List (Place N I)). map (λ (x : Place N I × Unit {0}). x.0) h.came ++ l) (came_places K.in_name gs))
+          ∙ sym (same_ends (map (place_given K.in_name) (all_ends from.sockets.items)) (map (λ (x : Place N I × Unit {0}). x.0) h.came) new)
+
+      known_more : sealed_ends (first_places K.in_name from (h.came ++ map (came_given K.in_name) gs)) ≡ known h.came ++ sealed_ends new
+      known_more = ap sealed_ends firsts_more ∙ sealed_more (firsts h.came) new
+
+  -- those of a closed socket that came
+  pub done_come : (c d : ClosedSockets N O I) (s : ClosedSocket N O I) (xs : List (PipeChange O I × S)) (pipes : S) → d.sockets.items ≡ c.sockets.items ++ s ∷ []
+      → d.came.items ≡ c.came.items ++ map (came_given K.in_name) s.ends.items → d.sealed.items ≡ c.sealed.items → d.settled.items ≡ c.settled.items → HasDoneTo K first from xs pipes c → HasDoneTo K first from xs pipes d
+  done_come c d s xs pipes added = done_more c d s.ends.items xs pipes
+      (λ ss m. subst (AreMixed (ss ++ map (standing_of K.in_name) s.ends.items)) (sym (ap (map (standing_of K.in_name)) now ∙ mapped (standing_of K.in_name) (all_ends c.sockets.items) s.ends.items))
+      (mixed_front ss (map (standing_of K.in_name) (all_ends c.sockets.items)) (map (standing_of K.in_name) s.ends.items) m))
+      (λ es a b. subst (AreTold es) (sym now) (all_both (λ (x : Given N O I). x.sealed ≡ true → list_any (is_end x.end) es ≡ true) (all_ends c.sockets.items) s.ends.items a b))
+    where
       now : all_ends d.sockets.items ≡ all_ends c.sockets.items ++ s.ends.items
       now = ap all_ends added ∙ all_added c.sockets.items s
 
-      firsts_more : first_places K.in_name from (h.came ++ map (came_given K.in_name) s.ends.items) ≡ firsts h.came ++ new
-      firsts_more =
-          ap (λ (l : List (Place N I)). map (place_given K.in_name) (all_ends from.sockets.items) ++ l) (mapped (λ (x : Place N I × Unit {0}). x.0) h.came (map (came_given K.in_name) s.ends.items)
-          ∙ ap (λ (l : List (Place N I)). map (λ (x : Place N I × Unit {0}). x.0) h.came ++ l) (came_places K.in_name s.ends.items))
-          ∙ sym (same_ends (map (place_given K.in_name) (all_ends from.sockets.items)) (map (λ (x : Place N I × Unit {0}). x.0) h.came) new)
-
-      known_more : sealed_ends (first_places K.in_name from (h.came ++ map (came_given K.in_name) s.ends.items)) ≡ known h.came ++ sealed_ends new
-      known_more = ap sealed_ends firsts_more ∙ sealed_more (firsts h.came) new
+  -- one joined a closed socket
+  pub done_join : (o : ℕ) (c d : ClosedSockets N O I) (g : Given N O I) (xs : List (PipeChange O I × S)) (pipes : S) → AddsEnd o g c.sockets.items d.sockets.items
+      → d.came.items ≡ c.came.items ++ came_given K.in_name g ∷ [] → d.sealed.items ≡ c.sealed.items → d.settled.items ≡ c.settled.items → HasDoneTo K first from xs pipes c → HasDoneTo K first from xs pipes d
+  done_join o c d g xs pipes a = done_more c d (g ∷ []) xs pipes
+      (λ ss m. subst (AreMixed (ss ++ st g ∷ [])) (sym (ap (map st) a.now ∙ mapped st a.pre (g ∷ a.post)))
+      (mixed_between ss [] (map st a.pre) (map st a.post) (st g)
+      (subst (λ (l : List (Held N × Bool)). AreMixed l (map st a.pre ++ map st a.post)) (sym (append-nil ss)) (subst (AreMixed ss) (ap (map st) a.was ∙ mapped st a.pre a.post) m))))
+      (λ es told one. subst (AreTold es) (sym a.now)
+      (all_with (λ (x : Given N O I). x.sealed ≡ true → list_any (is_end x.end) es ≡ true) a.pre a.post g (subst (AreTold es) a.was told) (All-head (λ (x : Given N O I). x.sealed ≡ true → list_any (is_end x.end) es ≡ true) g [] one)))
+    where
+      st : Given N O I → Held N × Bool
+      st x = standing_of K.in_name x

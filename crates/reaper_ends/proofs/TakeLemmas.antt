@@ -1,5 +1,5 @@
 -- Closed sockets stay sound once one more came, and a pipe that none of their ends writes.
-use Rattle.std.proofs.Common.{◌≡◌, ◌∙◌, ◌||◌, Bool, true, false, List, [], ◌∷◌, ◌++◌, All, map, None, Option, Some, refl, sym, ap, subst, if◌then◌else◌}
+use Rattle.std.proofs.Common.{ℕ, ◌≡◌, ◌∙◌, ◌||◌, Bool, true, false, List, [], ◌∷◌, ◌++◌, All, map, None, Option, Some, refl, sym, ap, subst, if◌then◌else◌}
 use Rattle.std.specs.Prelude.{is_some}
 use Rattle.std.specs.List.{list_any}
 use Rattle.zq_base.specs.declared.ids.EndId.{EndId}
@@ -20,7 +20,9 @@ use Rattle.ctl_holder.specs.TakingOver.{AreGivenWith, IsGivenWith, AllTwo, ComeA
 use Rattle.reaper_ends.specs.declared.sockets.ClosedSocket.{ClosedSocket}
 use Rattle.held_ends.specs.declared.table.Place.{Place}
 use Rattle.reaper_ends.specs.declared.sockets.ClosedSockets.{ClosedSockets}
-use Rattle.reaper_ends.specs.Has.{all_ends, is_socket, ends_of, is_of, writes_of, has}
+use Rattle.sock_core.specs.Standing.{standing_joins}
+use Rattle.sock_core.specs.declared.joint.JoinNote.{JoinNote}
+use Rattle.reaper_ends.specs.Has.{all_ends, is_socket, ends_of, is_of, writes_of, has, Heard, heard_in}
 use Rattle.reaper_ends.specs.Finding.{came_given}
 use Rattle.reaper_ends.proofs.FormLemmas.{AllAlone, IsSound}
 use Rattle.reaper_ends.specs.Others.{Leaves}
@@ -30,7 +32,7 @@ use Rattle.reaper_ends.proofs.AddLemmas.{from_map, all_added, self_writes, two_m
 
 module _ {S O I N : Type 0} (K : Known S O I N) where
   -- one more came, whose ends are apart from those that are there
-  pub added_sound : (pipes : S) (ss : List (ClosedSocket N O I)) (s : ClosedSocket N O I) (turns : List (EndId × EndState)) (sealed : List EndId) (heard : List Notice) → IsSound K pipes ss → list_any (is_socket s.number.0) ss ≡ false → AreGivenWith K pipes s.ends.items
+  pub added_sound : (pipes : S) (ss : List (ClosedSocket N O I)) (s : ClosedSocket N O I) (turns : List (EndId × EndState)) (sealed : List EndId) (heard : Heard N) → IsSound K pipes ss → list_any (is_socket s.number.0) ss ≡ false → AreGivenWith K pipes s.ends.items
       → ComeApart K.exact (map (held_given K.out_name K.in_name) s.ends.items) (has K.out_name K.in_name turns sealed heard ss) → IsSound K pipes (ss ++ s ∷ [])
   added_sound pipes ss s turns sealed heard sound new given come = record {
     halves = subst (AreGivenWith K pipes) (sym (all_added ss s)) (all_both (IsGivenWith K pipes) (all_ends ss) s.ends.items sound.halves given);
@@ -59,7 +61,7 @@ module _ {S O I N : Type 0} (K : Known S O I N) where
       now = ap all_ends added ∙ all_added c.sockets.items s
 
   -- a pipe that none of the ends writes, as the control plane says it
-  pub none_writes : (ss : List (ClosedSocket N O I)) (turns : List (EndId × EndState)) (sealed : List EndId) (heard : List Notice) (name : N) → AllAlone ss → NoneWrites K.exact name (has K.out_name K.in_name turns sealed heard ss)
+  pub none_writes : (ss : List (ClosedSocket N O I)) (turns : List (EndId × EndState)) (sealed : List EndId) (heard : Heard N) (name : N) → AllAlone ss → NoneWrites K.exact name (has K.out_name K.in_name turns sealed heard ss)
       → All (λ x. (w : O) → x.out ≡ Some w → IsElse K x.written name) (all_ends ss)
   none_writes ss turns sealed heard name alone none = λ k d lt w e ex.
       (all_in (λ x. list_any (writes_of x.end) (all_ends ss) ≡ true → x.written ≡ name → ⊥) ss alone
@@ -98,11 +100,23 @@ still_met Message met m = m
 still_met Empty met m = m
 still_met Delimiter met m = refl
 
--- what is said of closed sockets once one more came
-pub seen_added : {N O I : Type 0} (c d : ClosedSockets N O I) (P : List (EndId × EndState) → List EndId → List Notice → List (ClosedSocket N O I) → Type 0) (s : ClosedSocket N O I) → d.sockets.items ≡ c.sockets.items ++ s ∷ [] → d.turns.items ≡ c.turns.items → d.sealed.items ≡ c.sealed.items → d.heard.items ≡ c.heard.items
-    → P c.turns.items (map (λ x. x.0) c.sealed.items) (map (λ x. x.0) c.heard.items) (c.sockets.items ++ s ∷ []) → P d.turns.items (map (λ x. x.0) d.sealed.items) (map (λ x. x.0) d.heard.items) d.sockets.items
-seen_added c d P s added turns sealed heard h =
-    subst (λ t. P t (map (λ x. x.0) d.sealed.items) (map (λ x. x.0) d.heard.items) d.sockets.items) (sym turns)
-    (subst (λ (z : List (EndId × Unit {0})). P c.turns.items (map (λ x. x.0) z) (map (λ x. x.0) d.heard.items) d.sockets.items) (sym sealed)
-    (subst (λ (z : List (Notice × Unit {0})). P c.turns.items (map (λ x. x.0) c.sealed.items) (map (λ x. x.0) z) d.sockets.items) (sym heard)
-    (subst (λ l. P c.turns.items (map (λ x. x.0) c.sealed.items) (map (λ x. x.0) c.heard.items) l) (sym added) h)))
+-- what was heard is as it was
+pub heard_same : {N O I : Type 0} (c d : ClosedSockets N O I) → d.heard.items ≡ c.heard.items → d.joins.items ≡ c.joins.items → heard_in d ≡ heard_in c
+heard_same c d heard joins =
+    ap (λ (z : List (Notice × Unit {0})). let y : Heard _ = record { notices = map (λ x. x.0) z; joined = standing_joins d.joins.items } in y) heard
+    ∙ ap (λ (z : List (JoinNote _ × List ℕ)). let y : Heard _ = record { notices = map (λ x. x.0) c.heard.items; joined = standing_joins z } in y) joins
+
+-- what is said of closed sockets of which nothing more was told
+pub seen_kept : {N O I : Type 0} (c d : ClosedSockets N O I) (P : List (EndId × EndState) → List EndId → Heard N → Type 0) → d.turns.items ≡ c.turns.items → d.sealed.items ≡ c.sealed.items → heard_in d ≡ heard_in c
+    → P c.turns.items (map (λ x. x.0) c.sealed.items) (heard_in c) → P d.turns.items (map (λ x. x.0) d.sealed.items) (heard_in d)
+seen_kept c d P turns sealed same h =
+    subst (λ t. P t (map (λ x. x.0) d.sealed.items) (heard_in d)) (sym turns)
+    (subst (λ (z : List (EndId × Unit {0})). P c.turns.items (map (λ x. x.0) z) (heard_in d)) (sym sealed)
+    (subst (λ (z : Heard _). P c.turns.items (map (λ x. x.0) c.sealed.items) z) (sym same) h))
+
+-- and once one more came
+pub seen_added : {N O I : Type 0} (c d : ClosedSockets N O I) (P : List (EndId × EndState) → List EndId → Heard N → List (ClosedSocket N O I) → Type 0) (s : ClosedSocket N O I) → d.sockets.items ≡ c.sockets.items ++ s ∷ [] → d.turns.items ≡ c.turns.items → d.sealed.items ≡ c.sealed.items → d.heard.items ≡ c.heard.items → d.joins.items ≡ c.joins.items
+    → P c.turns.items (map (λ x. x.0) c.sealed.items) (heard_in c) (c.sockets.items ++ s ∷ []) → P d.turns.items (map (λ x. x.0) d.sealed.items) (heard_in d) d.sockets.items
+seen_added c d P s added turns sealed heard joins h =
+    seen_kept c d (λ t z l. P t z l d.sockets.items) turns sealed (heard_same c d heard joins)
+    (subst (λ l. P c.turns.items (map (λ x. x.0) c.sealed.items) (heard_in c) l) (sym added) h)

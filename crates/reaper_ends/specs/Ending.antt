@@ -1,5 +1,5 @@
 -- What is done to the halves of one end of a closed socket, and what it leaves (own choice, after libzmq's `pipe_t`).
-use Rattle.std.specs.Prelude.{◌≡◌, ℕ, true, Option, Some, None, is_some}
+use Rattle.std.specs.Prelude.{◌≡◌, ℕ, Bool, true, List, Option, Some, None, is_some, map}
 use Rattle.msg_pipe.specs.Known.{Known, IsThere, IsElse, KeepsButIn, SeesCommits}
 use Rattle.msg_pipe.specs.Told.{FrontFinds}
 use Rattle.msg_pipe.specs.declared.pipes.Front.{Front}
@@ -17,6 +17,10 @@ with_input None input = None
 
 abbrev pub halves_of : {N O I : Type 0} → Given N O I → Option (Halves O I)
 halves_of g = with_input g.out g.input
+
+-- the ends, and whether each is told as sealed
+abbrev pub seals_told : {N O I : Type 0} → List (Given N O I) → List (EndId × Bool)
+seals_told gs = map (λ g. (g.end, g.sealed)) gs
 
 module _ {S O I N : Type 0} (K : Known S O I N) where
   -- the halves of one end were lent: all pipes are there still, and what is known of the halves of other pipes stays

@@ -4,14 +4,25 @@ use Rattle.std.specs.List.{list_any}
 use Rattle.zq_base.specs.declared.ids.EndId.{EndId}
 use Rattle.spec_control.specs.declared.end.EndState.{EndState}
 use Rattle.spec_control.specs.declared.end.EndState.TheVariants.{Gone}
+use Rattle.spec_control.specs.declared.entry.Joining.{Joining}
 use Rattle.spec_control.specs.Control.{is_end}
 use Rattle.ctl_holder.specs.declared.given.Given.{Given}
 use Rattle.ctl_holder.specs.declared.notice.Notice.{Notice}
 use Rattle.ctl_holder.specs.Holding.{Holding, held_given}
+use Rattle.sock_core.specs.Standing.{standing_joins}
 use Rattle.reaper_ends.specs.declared.sockets.ClosedSocket.{ClosedSocket}
 use Rattle.reaper_ends.specs.declared.sockets.ClosedSockets.{ClosedSockets}
 
+-- what was told of closed sockets, and the ends that joined them, in order
+pub record Heard (N : Type 0) : Type 0 where
+  pub notices : List Notice
+  pub joined : List (Joining N)
+
 module _ {N O I : Type 0} where
+  -- as their logs have it
+  abbrev pub heard_in : ClosedSockets N O I → Heard N
+  heard_in c = record { notices = map (λ x. x.0) c.heard.items; joined = standing_joins c.joins.items }
+
   -- the ends of all closed sockets, in the order in which they came
   abbrev pub all_ends : List (ClosedSocket N O I) → List (Given N O I)
   all_ends ss = flat_map (λ s. s.ends.items) ss
@@ -46,8 +57,8 @@ module _ {N O I : Type 0} where
   state_in (g ∷ gs) e = if is_of e g then g.state else state_in gs e
 
 module _ {N O I : Type 0} (out_name : O → N) (in_name : I → N) where
-  -- closed sockets with their ends, of which this was told; they have no kind, and nothing joins them
-  abbrev pub has : (turns : List (EndId × EndState)) → (sealed : List EndId) → (heard : List Notice) → List (ClosedSocket N O I) → Holding N
+  -- closed sockets with their ends, of which this was told; they have no kind
+  abbrev pub has : (turns : List (EndId × EndState)) → (sealed : List EndId) → (heard : Heard N) → List (ClosedSocket N O I) → Holding N
   has turns sealed heard ss = record {
     holds = λ i. list_any (is_socket i) ss;
     ends = λ i. map (held_given out_name in_name) (ends_of ss i);
@@ -58,9 +69,9 @@ module _ {N O I : Type 0} (out_name : O → N) (in_name : I → N) where
     state = state_in (all_ends ss);
     turns = turns;
     sealed = sealed;
-    joined = [];
-    heard = heard;
+    joined = heard.joined;
+    heard = heard.notices;
   }
 
   abbrev pub holding_in : ClosedSockets N O I → Holding N
-  holding_in c = has c.turns.items (map (λ x. x.0) c.sealed.items) (map (λ x. x.0) c.heard.items) c.sockets.items
+  holding_in c = has c.turns.items (map (λ x. x.0) c.sealed.items) (heard_in c) c.sockets.items

@@ -4,6 +4,8 @@ pub mod Finding
 pub mod Sound
 pub mod Ending
 pub mod Others
+pub mod Mixed
 pub mod Noted
+pub mod Coming
 pub mod Looking
 pub mod Laws

@@ -16,6 +16,7 @@ use Rattle.sock_core.specs.Noted.{were_told, WereRead}
 use Rattle.reaper_ends.specs.declared.sockets.ClosedSockets.{ClosedSockets}
 use Rattle.reaper_ends.specs.Finding.{place_given}
 use Rattle.reaper_ends.specs.Has.{all_ends}
+use Rattle.reaper_ends.specs.Mixed.{AreMixed}
 
 -- a change of the pipe of an end, at another place
 abbrev pub at_place : {O I : Type 0} → ℕ → PipeChange O I → PipeChange O I
@@ -90,7 +91,7 @@ pub record HasDoneTo {N O I S : Type 0} (K : Known S O I N) (first : S) (from : 
   pub places : List (Place N I)
   pub count : length places ≡ length (first_places K.in_name from came)
   pub keeps : KeepsPlaces (first_places K.in_name from came) places
-  pub standing : standing_in places ≡ map (standing_of K.in_name) (all_ends to.sockets.items)
+  pub standing : AreMixed (standing_in places) (map (standing_of K.in_name) (all_ends to.sockets.items))
   pub placed : List (PipeChange O I × S)
   pub noted : unplaced placed ≡ changes
   pub does : DoesChanges K places first placed now

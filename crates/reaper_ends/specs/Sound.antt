@@ -1,8 +1,9 @@
 -- The ends of closed sockets are those of the reaper's pipes, each with halves of its own (own choice).
-use Rattle.std.specs.Prelude.{◌≡◌, ◌++◌, Bool, false, List, ◌∷◌, map}
+use Rattle.std.specs.Prelude.{◌≡◌, ◌≢◌, ◌++◌, Bool, true, false, List, ◌∷◌, All, map}
 use Rattle.std.specs.List.{list_any}
-use Rattle.msg_pipe.specs.Known.{Known}
+use Rattle.msg_pipe.specs.Known.{Known, IsThere}
 use Rattle.ctl_holder.specs.declared.given.Given.{Given}
+use Rattle.ctl_holder.specs.declared.halves.Halves.{Halves}
 use Rattle.ctl_holder.specs.Holding.{held_given}
 use Rattle.control_held.specs.Held.{Held}
 use Rattle.ctl_holder.specs.TakingOver.{AreGivenWith, AreTwo}
@@ -30,3 +31,15 @@ module _ {S O I N : Type 0} (K : Known S O I N) where
   pub record MayTake (pipes : S) (c : ClosedSockets N O I) (gs : List (Given N O I)) : Type 0 where
     pub halves : AreGivenWith K pipes gs
     pub room : HasRoom c
+
+  -- the pipes of an end are others than those of these halves, wherever names tell pipes apart
+  pub record IsElseOf (g : Given N O I) (h : Halves O I) : Type 0 where
+    pub written : K.exact ≡ true → g.written ≢ K.out_name h.out
+    pub read : K.exact ≡ true → K.in_name g.input ≢ K.in_name h.input
+
+  -- halves may join the ends of closed sockets: they are of pipes that are there and of no end's, and nothing was sealed
+  pub record MayJoin (pipes : S) (c : ClosedSockets N O I) (h : Halves O I) : Type 0 where
+    pub out_there : IsThere K pipes (K.out_name h.out)
+    pub in_there : IsThere K pipes (K.in_name h.input)
+    pub unsealed : (K.writing pipes h.out).sealed ≡ false
+    pub others : All (λ g. IsElseOf g h) (all_ends c.sockets.items)

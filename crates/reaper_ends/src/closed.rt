@@ -1,16 +1,18 @@
 ghost use Rattle.reaper_ends.specs.declared.sockets.ClosedSockets.{ClosedSockets};
+ghost use Rattle.reaper_ends.specs.Coming.{HasCome};
 ghost use Rattle.reaper_ends.specs.Finding.{AreIndexed};
 ghost use Rattle.reaper_ends.specs.Noted.{HasDoneTo};
 ghost use Rattle.reaper_ends.specs.Others.{Leaves};
 ghost use Rattle.reaper_ends.specs.Sound.{AreSound};
 
-use crate::ending::{halves_of, look, seal, settle, turn, yield_out};
-use crate::sockets::{ClosedSockets, add, find, make_room, none, note_heard};
+use crate::ending::{look, seal, settle, turn, yield_out};
+use crate::sockets::{ClosedSockets, add, find, find_socket, join, make_room, none, note_heard};
+use crate::stretch::Stretch;
 use ctl_holder::{Given, Halves, Holder, Made, Notice, Parting};
 use held_ends::{HeldPipes, PipeChange};
 use http_server::Log;
 use msg_pipe::Front;
-use sock_core::{Since, note, note_seal};
+use sock_core::{note, note_seal};
 use spec_control::EndState;
 use std::alloc::{AllocError, AllocFailed, Global};
 use std::marker::{Brand, PhantomData};
@@ -21,7 +23,10 @@ use zq_base::{Address, Attached, EndId, Kind, ObjId, Octets, Options, Seq, Settl
 /// It finds a closed socket by its number in constant time, and an end of it by a walk over those of
 /// its socket; a hint by end in the place of that walk is left.
 #[derive(Drop)]
-pub struct Closed<P: HeldPipes, F: Since<P, ClosedSockets<P::Name, P::Out, P::In>> = Brand> {
+pub struct Closed<
+    P: HeldPipes,
+    F: Stretch<P, ClosedSockets<P::Name, P::Out, P::In>, Given<P::Name, P::Out, P::In>> = Brand,
+> {
     pub pipes: P,
     pub closed: ClosedSockets<P::Name, P::Out, P::In>,
     /// Wakes its owner.
@@ -35,6 +40,8 @@ pub struct Closed<P: HeldPipes, F: Since<P, ClosedSockets<P::Name, P::Out, P::In
         Leaves P.known s t pipes closed },
     ghost done: { (s : P) (t : ClosedSockets P.Name P.Out P.In) → F.began s t →
         ∥ HasDoneTo P.known s t did.items pipes closed ∥₁ },
+    ghost came: { (s : P) (t : ClosedSockets P.Name P.Out P.In) → F.began s t →
+        ∥ HasCome P.known F.brings t closed ∥₁ },
 }
 
 impl<P: HeldPipes> Closed<P> {
@@ -45,7 +52,7 @@ impl<P: HeldPipes> Closed<P> {
         ensures none { result.closed.sockets.items ≡ [] }
         ensures logs { (result.closed.came.items ≡ []) × (result.closed.settled.items ≡ [])
             × (result.closed.turns.items ≡ []) × (result.closed.sealed.items ≡ [])
-            × (result.closed.heard.items ≡ []) }
+            × (result.closed.joins.items ≡ []) × (result.closed.heard.items ≡ []) }
         ensures pipes { result.pipes ≡ pipes }
     {
         Closed {
@@ -58,7 +65,11 @@ impl<P: HeldPipes> Closed<P> {
     }
 }
 
-impl<P: HeldPipes, F: Since<P, ClosedSockets<P::Name, P::Out, P::In>>> Closed<P, F> {
+impl<P, F> Closed<P, F>
+where
+    P: HeldPipes,
+    F: Stretch<P, ClosedSockets<P::Name, P::Out, P::In>, Given<P::Name, P::Out, P::In>>,
+{
     ghost use Rattle.std.specs.Prelude.{◌≡◌, true, IfSome, IfNone, OnOk};
     ghost use Rattle.reaper_ends.specs.Finding.{HasRoom, KeepsEnds};
 
@@ -76,8 +87,8 @@ impl<P: HeldPipes> Closed<P> {
     ghost use Rattle.std.specs.Prelude.{◌≡◌, true};
     ghost use Rattle.msg_pipe.specs.declared.pipes.Front.TheVariants.{Delimiter};
     ghost use Rattle.ctl_holder.specs.Holding.{HearsNone, Stays, KeepsTurns, has_end};
-    ghost use Rattle.reaper_ends.specs.Has.{holding_in};
-    ghost use Rattle.reaper_ends.specs.Ending.{LooksOnce};
+    ghost use Rattle.reaper_ends.specs.Has.{all_ends, holding_in};
+    ghost use Rattle.reaper_ends.specs.Ending.{LooksOnce, seals_told};
 
     /// Looks at the front of the pipe that an end of a closed socket reads, and takes nothing. An end
     /// that finds the delimiter has met it. It is no call of a stretch.
@@ -99,6 +110,8 @@ impl<P: HeldPipes> Closed<P> {
             (holding_in P.known.out_name P.known.in_name self.new.closed) }
         ensures others { Leaves P.known self.old.pipes self.old.closed
             self.new.pipes self.new.closed }
+        ensures sealed { seals_told (all_ends self.new.closed.sockets.items)
+            ≡ seals_told (all_ends self.old.closed.sockets.items) }
     {
         match find(&self.closed, o, end) {
             Some((socket, place)) => {
@@ -112,22 +125,25 @@ impl<P: HeldPipes> Closed<P> {
     }
 }
 
-/// A reaper makes no pair, and no end joins its sockets.
-impl<P: HeldPipes, F: Since<P, ClosedSockets<P::Name, P::Out, P::In>>> Holder<P> for Closed<P, F>
+/// A reaper makes no pair. An end whose bind was on its way joins a closed socket still, and is no
+/// peer of any kind.
+impl<P, F> Holder<P> for Closed<P, F>
 where
+    P: HeldPipes,
     P::Name: Drop,
+    F: Stretch<P, ClosedSockets<P::Name, P::Out, P::In>, Given<P::Name, P::Out, P::In>>,
 {
-    ghost use Rattle.std.specs.Prelude.{◌≡◌, ◌∷◌, [], true, false, map, OnOk, IfOk, IfErr};
+    ghost use Rattle.std.specs.Prelude.{◌≡◌, ◌∷◌, [], true, false, All, map, OnOk, IfOk, IfErr};
     ghost use Rattle.zq_base.specs.declared.ids.EndId.{EndId};
     ghost use Rattle.ctl_holder.specs.Holding.{held_with, held_optional, held_given};
     ghost use Rattle.ctl_holder.specs.Holding.{Joined, BeginsActive, MayRefuse, Stays, KeepsTurns};
-    ghost use Rattle.ctl_holder.specs.Holding.{HearsNone, JoinsBy, joining_with};
+    ghost use Rattle.ctl_holder.specs.Holding.{HasNowhere, HearsNone, JoinsBy, joining_with};
     ghost use Rattle.ctl_holder.specs.Holding.{IsPlugged, Begins, AreAtDelimiter, writes_in};
     ghost use Rattle.ctl_holder.specs.Holding.{states_optional, states_given};
     ghost use Rattle.ctl_holder.specs.TakingOver.{ComeApart};
     ghost use Rattle.reaper_ends.specs.Counting.{counts_of};
     ghost use Rattle.reaper_ends.specs.Has.{holding_in};
-    ghost use Rattle.reaper_ends.specs.Sound.{MayTake};
+    ghost use Rattle.reaper_ends.specs.Sound.{MayJoin, MayTake};
 
     ghost holding = { λ s. holding_in P.known.out_name P.known.in_name s.closed };
 
@@ -137,7 +153,7 @@ where
 
     ghost may_make = { λ e w r. Unit {0} };
 
-    ghost fits = { λ s e h. ⊥ };
+    ghost fits = { λ s e h. MayJoin P.known s.pipes s.closed h };
 
     ghost serves = { false };
 
@@ -145,7 +161,9 @@ where
 
     ghost gives = { false };
 
-    ghost may_take = { λ s gs. MayTake P.known s.pipes s.closed gs };
+    ghost undoes = { false };
+
+    ghost may_take = { λ s gs. MayTake P.known s.pipes s.closed gs × All F.brings gs };
 
     ghost calm = { λ s came. Unit {0} };
 
@@ -171,6 +189,10 @@ where
         identity: &Octets,
         halves: Halves<P::Out, P::In>,
     ) -> Result<Attached, AllocFailed<Halves<P::Out, P::In>>>
+        requires here { (holding_in P.known.out_name P.known.in_name self.old.closed).holds o.0 ≡ true }
+        requires new { HasNowhere end
+            (holding_in P.known.out_name P.known.in_name self.old.closed) }
+        requires fits { MayJoin P.known self.old.pipes self.old.closed halves }
         ensures ok { OnOk result (Joined o.0 (held_with P.known.out_name P.known.in_name end halves)
             (holding_in P.known.out_name P.known.in_name self.old.closed)
             (holding_in P.known.out_name P.known.in_name self.new.closed)) }
@@ -192,22 +214,18 @@ where
             (holding_in P.known.out_name P.known.in_name self.old.closed)
             (holding_in P.known.out_name P.known.in_name self.new.closed) }
     {
-        let _identity = identity;
-        let _unread = (o, end);
-        Err(AllocFailed { value: halves })
+        match find_socket(&self.closed, o) {
+            Some(socket) => match join::<P>(&mut self.closed, o, socket, end, identity, halves) {
+                Ok(()) => return Ok(Attached::Yes),
+                Err(refused) => return Err(refused),
+            },
+            None => unreachable!(),
+        }
     }
 
     fn take_back(&mut self, o: ObjId, end: EndId) -> Halves<P::Out, P::In> {
-        match find(&self.closed, o, end) {
-            Some((socket, place)) => {
-                let given = self.closed.sockets[socket].ends.remove(place);
-                match halves_of(given) {
-                    Some(halves) => return halves,
-                    None => unreachable!(),
-                }
-            }
-            None => unreachable!(),
-        }
+        let _unread = (o, end);
+        unreachable!()
     }
 
     fn set_state(&mut self, o: ObjId, end: EndId, state: EndState) {
@@ -329,7 +347,8 @@ where
 
     fn take_ends(&mut self, o: ObjId, ends: Vec<Given<P::Name, P::Out, P::In>>)
         requires new { (holding_in P.known.out_name P.known.in_name self.old.closed).holds o.0 ≡ false }
-        requires may { MayTake P.known self.old.pipes self.old.closed ends.items }
+        requires may { MayTake P.known self.old.pipes self.old.closed ends.items
+            × All F.brings ends.items }
         requires apart { ComeApart P.known.exact
             (map (held_given P.known.out_name P.known.in_name) ends.items)
             (holding_in P.known.out_name P.known.in_name self.old.closed) }

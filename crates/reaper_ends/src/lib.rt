@@ -6,10 +6,14 @@
 mod closed;
 mod ending;
 mod laws;
+mod reading;
 mod sockets;
+mod stretch;
 
 pub use closed::Closed;
 pub use laws::{
     closed_ends_stay, given_ends_stay, halves_join_still, looks_go_on, sockets_stay_sound,
 };
-pub use sockets::{ClosedSocket, ClosedSockets, none};
+pub use reading::reads_on;
+pub use sockets::{ClosedSocket, ClosedSockets, make_room, none};
+pub use stretch::Stretch;

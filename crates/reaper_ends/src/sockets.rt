@@ -1,15 +1,20 @@
-ghost use Rattle.std.specs.Prelude.{◌≡◌, ◌++◌, ◌∷◌, [], false, position, map, IfSome, IfNone, OnOk};
+ghost use Rattle.std.specs.Prelude.{◌≡◌, ◌++◌, ◌∷◌, [], false, position, map, IfSome, IfNone, IfErr, OnOk};
 ghost use Rattle.std.specs.List.{list_any};
 ghost use Rattle.reaper_ends.specs.Has.{ends_of, is_of, is_socket};
-ghost use Rattle.reaper_ends.specs.Finding.{AreIndexed, FindsEnd, HasRoom, KeepsEnds, came_given, place_given};
+ghost use Rattle.zq_base.specs.declared.attached.Attached.TheVariants.{Yes};
+ghost use Rattle.sock_core.specs.Standing.{joining_as, standing_joins};
+ghost use Rattle.reaper_ends.specs.Finding.{AreIndexed, FindsEnd, HasRoom, IsFirst, KeepsEnds, KeepsNotes};
+ghost use Rattle.reaper_ends.specs.Finding.{AddsNone, AddsOne, came_given, given_joined, place_given};
 
-use ctl_holder::{Given, Notice};
+use crate::ending::halves_of;
+use ctl_holder::{Given, Halves, Notice};
 use held_ends::{HeldPipes, Place};
 use http_server::Log;
 use indexmap::IndexMap;
+use sock_core::{JoinNote, Joint};
 use spec_control::EndState;
-use std::alloc::{AllocError, Global};
-use zq_base::{EndId, ObjId};
+use std::alloc::{AllocError, AllocFailed, Global};
+use zq_base::{Attached, EndId, ObjId, Octets};
 
 /// A closed socket, with those of its ends that were not settled in the order of their attachment.
 #[derive(Drop)]
@@ -32,6 +37,8 @@ pub struct ClosedSockets<N, O, I> {
     pub turns: Log<EndId, EndState>,
     /// The ends whose pipes were to be sealed, for proofs alone.
     pub sealed: Log<EndId, ()>,
+    /// The ends that joined, each with its peer's identity, for proofs alone.
+    pub joins: Log<JoinNote<N>, Octets>,
     /// What was told of the sockets, for proofs alone.
     pub heard: Log<Notice, ()>,
 }
@@ -41,7 +48,8 @@ pub fn none<N, O, I>(alloc: Global) -> ClosedSockets<N, O, I>
     ensures none { result.sockets.items ≡ [] }
     ensures indexed { AreIndexed result }
     ensures logs { (result.came.items ≡ []) × (result.settled.items ≡ [])
-        × (result.turns.items ≡ []) × (result.sealed.items ≡ []) × (result.heard.items ≡ []) }
+        × (result.turns.items ≡ []) × (result.sealed.items ≡ []) × (result.joins.items ≡ [])
+        × (result.heard.items ≡ []) }
 {
     ClosedSockets {
         sockets: Vec::new(alloc),
@@ -50,12 +58,13 @@ pub fn none<N, O, I>(alloc: Global) -> ClosedSockets<N, O, I>
         settled: Log::new(),
         turns: Log::new(),
         sealed: Log::new(),
+        joins: Log::new(),
         heard: Log::new(),
     }
 }
 
 /// Room for one closed socket more.
-pub(crate) fn make_room<N, O, I>(closed: &mut ClosedSockets<N, O, I>) -> Result<(), AllocError>
+pub fn make_room<N, O, I>(closed: &mut ClosedSockets<N, O, I>) -> Result<(), AllocError>
     requires indexed { AreIndexed closed.old }
     ensures indexed { AreIndexed closed.new }
     ensures kept { KeepsEnds closed.old closed.new }
@@ -121,6 +130,7 @@ where
     ensures settled { closed.new.settled.items ≡ closed.old.settled.items }
     ensures turns { closed.new.turns.items ≡ closed.old.turns.items }
     ensures sealed { closed.new.sealed.items ≡ closed.old.sealed.items }
+    ensures joins { closed.new.joins.items ≡ closed.old.joins.items }
     ensures heard { closed.new.heard.items ≡ closed.old.heard.items }
 {
     note_came::<P>(&mut closed.came, &ends);
@@ -172,4 +182,108 @@ fn noted_as<P: HeldPipes>(end: &Given<P::Name, P::Out, P::In>) -> Place<P::Name,
         dropped: 0,
         input: None,
     }
+}
+
+/// Where a closed socket stands, if it is one.
+pub(crate) fn find_socket<N, O, I>(closed: &ClosedSockets<N, O, I>, number: ObjId) -> Option<usize>
+    requires indexed { AreIndexed closed.now }
+    ensures found { IfSome result (λ at.
+        IsFirst (is_socket number.0) closed.now.sockets.items at) }
+    ensures none { IfNone result (list_any (is_socket number.0) closed.now.sockets.items ≡ false) }
+{
+    match closed.places.get(&number.0) {
+        Some(socket) => return Some(*socket),
+        None => return None,
+    }
+}
+
+/// An end joins the closed socket at a place, behind those that it has. Want of memory hands the
+/// halves back.
+pub(crate) fn join<P: HeldPipes>(
+    closed: &mut ClosedSockets<P::Name, P::Out, P::In>,
+    number: ObjId,
+    socket: usize,
+    end: EndId,
+    identity: &Octets,
+    halves: Halves<P::Out, P::In>,
+) -> Result<(), AllocFailed<Halves<P::Out, P::In>>>
+where
+    P::Name: Drop,
+    requires its { IsFirst (is_socket number.0) closed.old.sockets.items socket }
+    ensures ok { OnOk result (AddsOne P.known.out_name P.known.in_name number.0 socket
+        end identity.now halves closed.old closed.new) }
+    ensures err { IfErr result (λ e. (e.value ≡ halves)
+        × AddsNone number.0 socket closed.old closed.new) }
+    ensures kept { KeepsNotes closed.old closed.new }
+{
+    let joint = joint_of::<P>(end, &halves);
+    let given = joined::<P>(end, halves);
+    let noted = noted_as::<P>(&given);
+    match put_end(&mut closed.sockets[socket].ends, given) {
+        Ok(()) => {
+            closed.came = closed.came.and(&noted, &());
+            note_join(&mut closed.joins, joint, identity);
+            return Ok(());
+        }
+        Err(failed) => match halves_of(failed.value) {
+            Some(halves) => return Err(AllocFailed { value: halves }),
+            None => unreachable!(),
+        },
+    }
+}
+
+// An end with the names of the pipes of its halves.
+fn joint_of<P: HeldPipes>(end: EndId, halves: &Halves<P::Out, P::In>) -> Joint<P::Name>
+    ensures end { result.end ≡ end }
+    ensures written { result.written ≡ P.known.out_name halves.now.out }
+    ensures read { result.read ≡ P.known.in_name halves.now.input }
+{
+    Joint {
+        end,
+        place: 0,
+        written: P::name(&halves.out),
+        read: P::reads(&halves.input),
+    }
+}
+
+// An end that joins with these halves.
+fn joined<P: HeldPipes>(end: EndId, halves: Halves<P::Out, P::In>) -> Given<P::Name, P::Out, P::In>
+    ensures { result ≡ given_joined P.known.out_name end halves }
+{
+    let Halves { out, input } = halves;
+    let written = P::name(&out);
+    Given {
+        end,
+        written,
+        out: Some(out),
+        input,
+        met: false,
+        sealed: false,
+        state: EndState::Active,
+    }
+}
+
+// Notes that an end joined; nobody refuses it.
+fn note_join<N: Drop>(joins: &mut Log<JoinNote<N>, Octets>, joint: Joint<N>, peer: &Octets)
+    ensures { standing_joins joins.new.items
+        ≡ standing_joins joins.old.items ++ joining_as joint peer.now Yes ∷ [] }
+{
+    let note = JoinNote::Joined(joint, Attached::Yes);
+    *joins = joins.and(&note, peer);
+}
+
+// One end more. Want of memory hands it back.
+fn put_end<N, O, I>(
+    ends: &mut Vec<Given<N, O, I>>,
+    given: Given<N, O, I>,
+) -> Result<(), AllocFailed<Given<N, O, I>>>
+    ensures ok { OnOk result (ends.new.items ≡ ends.old.items ++ given ∷ []) }
+    ensures err { IfErr result (λ e. (e.value ≡ given) × (ends.new.items ≡ ends.old.items)) }
+{
+    match ends.reserve(1) {
+        Ok(()) => {}
+        Err(_) => return Err(AllocFailed { value: given }),
+    }
+    ends.push_reserved(given);
+    Ok(())
 }

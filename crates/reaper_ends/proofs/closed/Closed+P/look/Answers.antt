@@ -1,7 +1,7 @@
 use Rattle.std.proofs.Common.{◌∙◌, ◌++◌, ◌∷◌, ◌&&◌, [], Bool, refl, sym, ap, set, map, is_some}
 use Rattle.std.specs.List.{list_any}
 use Rattle.ctl_holder.specs.declared.given.Given.{Given}
-use Rattle.reaper_ends.specs.Has.{ends_of, is_of, met_of}
+use Rattle.reaper_ends.specs.Has.{ends_of, is_of, met_of, heard_in}
 use Rattle.reaper_ends.proofs.ListLemmas.{never, any_here}
 use Rattle.reaper_ends.proofs.FormLemmas.{are_sound, sound_of}
 use Rattle.reaper_ends.proofs.ChangeLemmas.{has_listed}
@@ -9,6 +9,7 @@ use Rattle.reaper_ends.proofs.PlaceLemmas.{at_stays, at_changed, alone_at, with_
 use Rattle.reaper_ends.proofs.SoundLemmas.{its_halves, changed_sound, leaves_changed}
 use Rattle.reaper_ends.proofs.HasLemmas.{read_is, stays, keeps_turns}
 use Rattle.reaper_ends.proofs.TakeLemmas.{still_met}
+use Rattle.reaper_ends.proofs.ReadingLemmas.{seals_replaced}
 use Rattle.held_ends.specs.Looking.{met_after}
 use Rattle.control_held.specs.Held.{Held}
 use Rattle.spec_control.specs.Control.{is_end}
@@ -28,6 +29,7 @@ invariant_of-self g c =
           (changed_sound g.P.Pipes.known c.args.o.0 c.args.end c.args.self.now.closed.sockets.items (set c.args.self.now.closed.sockets.items c.in-Some.socket (with_end c.index_mut.result.now c.in-Some.place c.look.new.end)) c.index_mut-in-Some.result.now c.args.self.now.pipes c.look.new.pipes (sound_of g.P.Pipes.known c.args.self.now.pipes c.args.self.now.closed.sockets.items c.args.self.now.sound) c.look.new.end r one (alone_at c.args.o.0 c.args.end c.args.self.now.closed.sockets.items c.in-Some.socket c.in-Some.place c.in-Some.ensures.found c.index_mut.result.now c.index_mut.ensures.value (with_end c.index_mut.result.now c.in-Some.place c.look.new.end) refl (sound_of g.P.Pipes.known c.args.self.now.pipes c.args.self.now.closed.sockets.items c.args.self.now.sound).alone));
       others = λ s t b. absurd b;
       done = λ s t b. absurd b;
+      came = λ s t b. absurd b;
     }
 
 pub returns-in-Some-clause-looked : goal.returns-in-Some-clause-looked
@@ -43,11 +45,11 @@ returns-in-Some-clause-met g c =
 
 pub returns-in-Some-clause-stays : goal.returns-in-Some-clause-stays
 returns-in-Some-clause-stays g c =
-    stays g.P.Pipes.known.out_name g.P.Pipes.known.in_name g.P.Pipes.known.exact c.args.o.0 c.args.end c.args.self.now.closed.sockets.items (set c.args.self.now.closed.sockets.items c.in-Some.socket (with_end c.index_mut.result.now c.in-Some.place c.look.new.end)) c.index_mut-in-Some.result.now (sound_of g.P.Pipes.known c.args.self.now.pipes c.args.self.now.closed.sockets.items c.args.self.now.sound).apart c.look.new.end (at_changed c.args.o.0 c.args.end c.args.self.now.closed.sockets.items c.in-Some.socket c.in-Some.place c.in-Some.ensures.found c.index_mut.result.now c.index_mut.ensures.value c.index_mut-in-Some.result.now c.index_mut-in-Some.ensures.value c.look.new.end) c.look.ensures.one.held c.args.self.now.closed.turns.items c.args.self.now.closed.turns.items (map (λ x. x.0) c.args.self.now.closed.sealed.items) (map (λ x. x.0) c.args.self.now.closed.sealed.items) (map (λ x. x.0) c.args.self.now.closed.heard.items) (λ m. ap (λ (y : Given _ _ _). y.met) c.look.ensures.looked.end_is ∙ still_met c.look.result c.index_mut-in-Some.result.now.met m) (ap (λ (y : Given _ _ _). is_some y.out) c.look.ensures.looked.end_is)
+    stays g.P.Pipes.known.out_name g.P.Pipes.known.in_name g.P.Pipes.known.exact c.args.o.0 c.args.end c.args.self.now.closed.sockets.items (set c.args.self.now.closed.sockets.items c.in-Some.socket (with_end c.index_mut.result.now c.in-Some.place c.look.new.end)) c.index_mut-in-Some.result.now (sound_of g.P.Pipes.known c.args.self.now.pipes c.args.self.now.closed.sockets.items c.args.self.now.sound).apart c.look.new.end (at_changed c.args.o.0 c.args.end c.args.self.now.closed.sockets.items c.in-Some.socket c.in-Some.place c.in-Some.ensures.found c.index_mut.result.now c.index_mut.ensures.value c.index_mut-in-Some.result.now c.index_mut-in-Some.ensures.value c.look.new.end) c.look.ensures.one.held c.args.self.now.closed.turns.items c.args.self.now.closed.turns.items (map (λ x. x.0) c.args.self.now.closed.sealed.items) (map (λ x. x.0) c.args.self.now.closed.sealed.items) (heard_in c.args.self.now.closed) (λ m. ap (λ (y : Given _ _ _). y.met) c.look.ensures.looked.end_is ∙ still_met c.look.result c.index_mut-in-Some.result.now.met m) (ap (λ (y : Given _ _ _). is_some y.out) c.look.ensures.looked.end_is)
 
 pub returns-in-Some-clause-turns : goal.returns-in-Some-clause-turns
 returns-in-Some-clause-turns g c =
-    keeps_turns g.P.Pipes.known.out_name g.P.Pipes.known.in_name g.P.Pipes.known.exact c.args.o.0 c.args.end c.args.self.now.closed.sockets.items (set c.args.self.now.closed.sockets.items c.in-Some.socket (with_end c.index_mut.result.now c.in-Some.place c.look.new.end)) c.index_mut-in-Some.result.now (sound_of g.P.Pipes.known c.args.self.now.pipes c.args.self.now.closed.sockets.items c.args.self.now.sound).apart c.look.new.end (at_changed c.args.o.0 c.args.end c.args.self.now.closed.sockets.items c.in-Some.socket c.in-Some.place c.in-Some.ensures.found c.index_mut.result.now c.index_mut.ensures.value c.index_mut-in-Some.result.now c.index_mut-in-Some.ensures.value c.look.new.end) c.look.ensures.one.held c.args.self.now.closed.turns.items (map (λ x. x.0) c.args.self.now.closed.sealed.items) (map (λ x. x.0) c.args.self.now.closed.heard.items) (ap (λ (y : Given _ _ _). y.state) c.look.ensures.looked.end_is)
+    keeps_turns g.P.Pipes.known.out_name g.P.Pipes.known.in_name g.P.Pipes.known.exact c.args.o.0 c.args.end c.args.self.now.closed.sockets.items (set c.args.self.now.closed.sockets.items c.in-Some.socket (with_end c.index_mut.result.now c.in-Some.place c.look.new.end)) c.index_mut-in-Some.result.now (sound_of g.P.Pipes.known c.args.self.now.pipes c.args.self.now.closed.sockets.items c.args.self.now.sound).apart c.look.new.end (at_changed c.args.o.0 c.args.end c.args.self.now.closed.sockets.items c.in-Some.socket c.in-Some.place c.in-Some.ensures.found c.index_mut.result.now c.index_mut.ensures.value c.index_mut-in-Some.result.now c.index_mut-in-Some.ensures.value c.look.new.end) c.look.ensures.one.held c.args.self.now.closed.turns.items (map (λ x. x.0) c.args.self.now.closed.sealed.items) (heard_in c.args.self.now.closed) (ap (λ (y : Given _ _ _). y.state) c.look.ensures.looked.end_is)
 
 pub unreachable-requires : goal.unreachable-requires
 unreachable-requires g c =
@@ -57,3 +59,8 @@ pub returns-in-Some-clause-others : goal.returns-in-Some-clause-others
 returns-in-Some-clause-others g c =
     let r = at_changed c.args.o.0 c.args.end c.args.self.now.closed.sockets.items c.in-Some.socket c.in-Some.place c.in-Some.ensures.found c.index_mut.result.now c.index_mut.ensures.value c.index_mut-in-Some.result.now c.index_mut-in-Some.ensures.value c.look.new.end in
     leaves_changed g.P.Pipes.known c.args.o.0 c.args.end c.args.self.now.closed _ c.index_mut-in-Some.result.now c.args.self.now.pipes c.look.new.pipes refl c.look.new.end r c.look.ensures.one refl
+
+pub returns-in-Some-clause-sealed : goal.returns-in-Some-clause-sealed
+returns-in-Some-clause-sealed g c =
+    let r = at_changed c.args.o.0 c.args.end c.args.self.now.closed.sockets.items c.in-Some.socket c.in-Some.place c.in-Some.ensures.found c.index_mut.result.now c.index_mut.ensures.value c.index_mut-in-Some.result.now c.index_mut-in-Some.ensures.value c.look.new.end in
+    seals_replaced c.args.o.0 c.args.end c.index_mut-in-Some.result.now c.look.new.end c.args.self.now.closed.sockets.items _ r (ap (λ (y : Given _ _ _). y.end) c.look.ensures.looked.end_is) (ap (λ (y : Given _ _ _). y.sealed) c.look.ensures.looked.end_is)

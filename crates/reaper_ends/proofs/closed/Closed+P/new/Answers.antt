@@ -11,4 +11,5 @@ invariant_of-result g c =
       sound = subst (λ l. AreSound g.P.Pipes.known c.args.pipes l) (sym c.none.ensures.none) (are_sound g.P.Pipes.known c.args.pipes [] (none_sound g.P.Pipes.known c.args.pipes));
       others = λ s t b. absurd b;
       done = λ s t b. absurd b;
+      came = λ s t b. absurd b;
     }

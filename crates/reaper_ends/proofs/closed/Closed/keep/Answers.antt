@@ -1,5 +1,8 @@
-use Rattle.std.proofs.Common.{sym, subst}
+use Rattle.std.proofs.Common.{List, map, sym, ap, subst}
+use Rattle.sock_core.specs.Standing.{standing_joins}
+use Rattle.reaper_ends.specs.declared.sockets.ClosedSocket.{ClosedSocket}
 use Rattle.reaper_ends.specs.Sound.{AreSound}
+use Rattle.reaper_ends.proofs.ComeLemmas.{come_still}
 use Rattle.reaper_ends.proofs.NotedLemmas.{done_same}
 use Rattle.std.proofs.Math.Logic.{∥∥₁_map}
 use Rattle.reaper_ends.proofs.SoundLemmas.{leaves_on, leaves_none}
@@ -13,4 +16,5 @@ invariant_of-self g c =
       others = λ s t b. leaves_on g.P.Pipes.known s c.args.self.now.pipes c.args.self.now.pipes t c.args.self.now.closed c.make_room.new.closed (c.args.self.now.others s t b)
           (leaves_none g.P.Pipes.known c.args.self.now.pipes c.args.self.now.closed c.make_room.new.closed c.make_room.ensures.kept.sockets c.make_room.ensures.kept.came c.make_room.ensures.kept.settled);
       done = λ s t b. ∥∥₁_map (c.args.self.now.done s t b) (λ h. done_same g.P.Pipes.known s t c.args.self.now.closed c.make_room.new.closed c.args.self.now.did.items c.args.self.now.pipes c.make_room.ensures.kept.sockets c.make_room.ensures.kept.came c.make_room.ensures.kept.sealed c.make_room.ensures.kept.settled h);
+      came = λ s t b. ∥∥₁_map (c.args.self.now.came s t b) (λ h. come_still g.P.Pipes.known g.F.Stretch.brings t c.args.self.now.closed c.make_room.new.closed c.make_room.ensures.kept.came (ap standing_joins c.make_room.ensures.kept.joins) (ap (λ (l : List (ClosedSocket _ _ _)). map (λ x. x.number) l) c.make_room.ensures.kept.sockets) h);
     }

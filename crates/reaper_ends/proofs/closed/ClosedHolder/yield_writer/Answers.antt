@@ -4,7 +4,7 @@ use Rattle.zq_base.specs.declared.ids.EndId.{EndId}
 use Rattle.ctl_holder.specs.declared.given.Given.{Given}
 use Rattle.held_ends.specs.Counting.{counts_with}
 use Rattle.held_ends.proofs.SoundLemmas.{one_some}
-use Rattle.reaper_ends.specs.Has.{ends_of}
+use Rattle.reaper_ends.specs.Has.{ends_of, heard_in}
 use Rattle.reaper_ends.proofs.ListLemmas.{never}
 use Rattle.reaper_ends.proofs.FormLemmas.{are_sound, sound_of}
 use Rattle.reaper_ends.proofs.ChangeLemmas.{has_listed}
@@ -16,6 +16,7 @@ use Rattle.sock_core.specs.Noted.{were_told}
 use Rattle.std.proofs.lemmas.List.{append-nil}
 use Rattle.reaper_ends.proofs.SoundLemmas.{its_halves, changed_sound, leaves_on, leaves_changed}
 use Rattle.reaper_ends.proofs.HasLemmas.{writes_is, written_is, read_is, yielded, keeps_turns, input_is, input_now}
+use Rattle.reaper_ends.proofs.ComeLemmas.{come_still}
 use Rattle.reaper_ends.proofs.closed.ClosedHolder.yield_writer.Goals as goal
 
 pub yield_out-requires : goal.yield_out-requires
@@ -34,6 +35,7 @@ invariant_of-self g c =
           (changed_sound g.P.Pipes.known c.args.o.0 c.args.end c.args.self.now.closed.sockets.items (set c.args.self.now.closed.sockets.items c.in-Some.socket (with_end c.index_mut.result.now c.in-Some.place c.yield_out.new.end)) c.index_mut-in-Some.result.now c.args.self.now.pipes c.yield_out.new.pipes (sound_of g.P.Pipes.known c.args.self.now.pipes c.args.self.now.closed.sockets.items c.args.self.now.sound) c.yield_out.new.end r one (alone_at c.args.o.0 c.args.end c.args.self.now.closed.sockets.items c.in-Some.socket c.in-Some.place c.in-Some.ensures.found c.index_mut.result.now c.index_mut.ensures.value (with_end c.index_mut.result.now c.in-Some.place c.yield_out.new.end) refl (sound_of g.P.Pipes.known c.args.self.now.pipes c.args.self.now.closed.sockets.items c.args.self.now.sound).alone));
       others = λ s t b. leaves_on g.P.Pipes.known s c.args.self.now.pipes c.yield_out.new.pipes t c.args.self.now.closed _ (c.args.self.now.others s t b) (leaves_changed g.P.Pipes.known c.args.o.0 c.args.end c.args.self.now.closed _ c.index_mut-in-Some.result.now c.args.self.now.pipes c.yield_out.new.pipes refl c.yield_out.new.end r one refl);
       done = λ s t b. ∥∥₁_map (c.args.self.now.done s t b) (λ h. done_changed g.P.Pipes.known s t c.args.o.0 c.args.end c.args.self.now.closed _ c.index_mut-in-Some.result.now refl c.yield_out.new.end r c.args.self.now.did.items c.yield_out.new.did.items c.args.self.now.pipes c.yield_out.new.pipes [] one.held writes (c.yield_out.ensures.changes writes) (sym (append-nil (map (λ x. x.0) c.args.self.now.closed.sealed.items))) (λ es bs told known. ap (were_told es) (append-nil bs) ∙ told) (λ es before is. ap (λ (l : List EndId). list_any (is_end c.yield_out.new.end.end) l) (append-nil es) ∙ ap (λ (y : Given _ _ _). list_any (is_end y.end) es) c.yield_out.ensures.yielded ∙ before (sym (ap (λ (y : Given _ _ _). y.sealed) c.yield_out.ensures.yielded) ∙ is)) refl h);
+      came = λ s t b. ∥∥₁_map (c.args.self.now.came s t b) (λ h. come_still g.P.Pipes.known g.F.Stretch.brings t c.args.self.now.closed _ refl refl r.numbers h);
     }
 
 pub returns-in-Some-yield_out-clause-name : goal.returns-in-Some-yield_out-clause-name
@@ -42,11 +44,11 @@ returns-in-Some-yield_out-clause-name g c =
 
 pub returns-in-Some-yield_out-clause-yielded : goal.returns-in-Some-yield_out-clause-yielded
 returns-in-Some-yield_out-clause-yielded g c =
-    yielded g.P.Pipes.known.out_name g.P.Pipes.known.in_name g.P.Pipes.known.exact c.args.o.0 c.args.end c.args.self.now.closed.sockets.items (set c.args.self.now.closed.sockets.items c.in-Some.socket (with_end c.index_mut.result.now c.in-Some.place c.yield_out.new.end)) c.index_mut-in-Some.result.now (sound_of g.P.Pipes.known c.args.self.now.pipes c.args.self.now.closed.sockets.items c.args.self.now.sound).apart c.yield_out.new.end (at_changed c.args.o.0 c.args.end c.args.self.now.closed.sockets.items c.in-Some.socket c.in-Some.place c.in-Some.ensures.found c.index_mut.result.now c.index_mut.ensures.value c.index_mut-in-Some.result.now c.index_mut-in-Some.ensures.value c.yield_out.new.end) c.yield_out.ensures.one.held c.args.self.now.closed.turns.items c.args.self.now.closed.turns.items (map (λ x. x.0) c.args.self.now.closed.sealed.items) (map (λ x. x.0) c.args.self.now.closed.sealed.items) (map (λ x. x.0) c.args.self.now.closed.heard.items) (λ m. ap (λ (y : Given _ _ _). y.met) c.yield_out.ensures.yielded ∙ m) (ap (λ (y : Given _ _ _). is_some y.out) c.yield_out.ensures.yielded)
+    yielded g.P.Pipes.known.out_name g.P.Pipes.known.in_name g.P.Pipes.known.exact c.args.o.0 c.args.end c.args.self.now.closed.sockets.items (set c.args.self.now.closed.sockets.items c.in-Some.socket (with_end c.index_mut.result.now c.in-Some.place c.yield_out.new.end)) c.index_mut-in-Some.result.now (sound_of g.P.Pipes.known c.args.self.now.pipes c.args.self.now.closed.sockets.items c.args.self.now.sound).apart c.yield_out.new.end (at_changed c.args.o.0 c.args.end c.args.self.now.closed.sockets.items c.in-Some.socket c.in-Some.place c.in-Some.ensures.found c.index_mut.result.now c.index_mut.ensures.value c.index_mut-in-Some.result.now c.index_mut-in-Some.ensures.value c.yield_out.new.end) c.yield_out.ensures.one.held c.args.self.now.closed.turns.items c.args.self.now.closed.turns.items (map (λ x. x.0) c.args.self.now.closed.sealed.items) (map (λ x. x.0) c.args.self.now.closed.sealed.items) (heard_in c.args.self.now.closed) (λ m. ap (λ (y : Given _ _ _). y.met) c.yield_out.ensures.yielded ∙ m) (ap (λ (y : Given _ _ _). is_some y.out) c.yield_out.ensures.yielded)
 
 pub returns-in-Some-yield_out-clause-turns : goal.returns-in-Some-yield_out-clause-turns
 returns-in-Some-yield_out-clause-turns g c =
-    keeps_turns g.P.Pipes.known.out_name g.P.Pipes.known.in_name g.P.Pipes.known.exact c.args.o.0 c.args.end c.args.self.now.closed.sockets.items (set c.args.self.now.closed.sockets.items c.in-Some.socket (with_end c.index_mut.result.now c.in-Some.place c.yield_out.new.end)) c.index_mut-in-Some.result.now (sound_of g.P.Pipes.known c.args.self.now.pipes c.args.self.now.closed.sockets.items c.args.self.now.sound).apart c.yield_out.new.end (at_changed c.args.o.0 c.args.end c.args.self.now.closed.sockets.items c.in-Some.socket c.in-Some.place c.in-Some.ensures.found c.index_mut.result.now c.index_mut.ensures.value c.index_mut-in-Some.result.now c.index_mut-in-Some.ensures.value c.yield_out.new.end) c.yield_out.ensures.one.held c.args.self.now.closed.turns.items (map (λ x. x.0) c.args.self.now.closed.sealed.items) (map (λ x. x.0) c.args.self.now.closed.heard.items) (ap (λ (y : Given _ _ _). y.state) c.yield_out.ensures.yielded)
+    keeps_turns g.P.Pipes.known.out_name g.P.Pipes.known.in_name g.P.Pipes.known.exact c.args.o.0 c.args.end c.args.self.now.closed.sockets.items (set c.args.self.now.closed.sockets.items c.in-Some.socket (with_end c.index_mut.result.now c.in-Some.place c.yield_out.new.end)) c.index_mut-in-Some.result.now (sound_of g.P.Pipes.known c.args.self.now.pipes c.args.self.now.closed.sockets.items c.args.self.now.sound).apart c.yield_out.new.end (at_changed c.args.o.0 c.args.end c.args.self.now.closed.sockets.items c.in-Some.socket c.in-Some.place c.in-Some.ensures.found c.index_mut.result.now c.index_mut.ensures.value c.index_mut-in-Some.result.now c.index_mut-in-Some.ensures.value c.yield_out.new.end) c.yield_out.ensures.one.held c.args.self.now.closed.turns.items (map (λ x. x.0) c.args.self.now.closed.sealed.items) (heard_in c.args.self.now.closed) (ap (λ (y : Given _ _ _). y.state) c.yield_out.ensures.yielded)
 
 pub unreachable-requires : goal.unreachable-requires
 unreachable-requires g c =

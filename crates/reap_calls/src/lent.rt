@@ -1,0 +1,146 @@
+ghost use Rattle.std.specs.Prelude.{◌≡◌, ℕ, true, All, IfOk, OnErr};
+ghost use Rattle.spec_control.specs.Names.{name_of};
+ghost use Rattle.ctl_holder.specs.TakingOver.{MayTakeFirst};
+ghost use Rattle.ctl_plane.specs.Coming.{AreDistinct, BindsFit, TakesEnds};
+ghost use Rattle.ctl_plane.specs.Desk.{CountsWith, HasWhatTheySay, HoldsEnd, IsNotLooked, KeepsUp};
+ghost use Rattle.one_desk.specs.Lent.{coming_to, moments_of, MeetsOrNot};
+ghost use Rattle.one_desk.specs.Reaping.{served_by, FindsFirst};
+ghost use Rattle.reaper_ends.specs.Counting.{counts_of};
+ghost use Rattle.reaper_ends.specs.Has.{holding_in};
+ghost use Rattle.reaper_ends.specs.Sound.{MayJoin, MayTake};
+ghost use Rattle.reaper_ends.specs.declared.sockets.ClosedSockets.{ClosedSockets};
+ghost use Rattle.reap_calls.specs.Calls.{FitsClosed, ChangesClosed};
+
+use ctl_holder::Given;
+use ctl_plane::Delivery;
+use held_ends::HeldPipes;
+use http_server::Log;
+use one_desk::OneDesk;
+use reaper_ends::{Closed, ClosedSockets, Stretch};
+use std::alloc::{AllocError, Global};
+use std::marker::PhantomData;
+use zq_base::EndId;
+
+/// What a call of the reaper answers, whose closed sockets were moved for it, with them and their pipes.
+pub(crate) struct Back<A, P, C, W> {
+    pub(crate) answer: A,
+    pub(crate) pipes: P,
+    pub(crate) closed: C,
+    pub(crate) waker: W,
+}
+
+/// A command of the reaper's, or none. The stretch begins with it.
+pub(crate) fn deliver_lent<F, P>(
+    alloc: Global,
+    pipes: P,
+    closed: ClosedSockets<P::Name, P::Out, P::In>,
+    waker: P::Waker,
+    desk: &mut OneDesk<P>,
+) -> Back<Result<Delivery, AllocError>, P, ClosedSockets<P::Name, P::Out, P::In>, P::Waker>
+where
+    F: Stretch<P, ClosedSockets<P::Name, P::Out, P::In>, Given<P::Name, P::Out, P::In>>,
+    P: HeldPipes,
+    P::Name: Drop,
+    P::Waker: Drop,
+    requires began { (s : P) (t : ClosedSockets P.Name P.Out P.In) → F.began s t →
+        (s ≡ pipes) × (t ≡ closed) }
+    requires fits { FitsClosed P.known pipes closed }
+    requires lent { (m i : ℕ) → served_by desk.old m i ≡ true →
+        (holding_in P.known.out_name P.known.in_name closed).holds i ≡ true }
+    requires has { HasWhatTheySay desk.old.caller (moments_of desk.old)
+        (holding_in P.known.out_name P.known.in_name closed) }
+    requires distinct { AreDistinct P.known.exact (name_of desk.old.items) }
+    requires binds { (m i : ℕ) → served_by desk.old m i ≡ true →
+        BindsFit P.known.out_name P.known.in_name (name_of desk.old.items) (coming_to desk.old m)
+        (λ h. MayJoin P.known pipes closed h) }
+    requires takes { MayTakeFirst (λ gs. MayTake P.known pipes closed gs × All F.brings gs)
+        desk.old.past.given }
+    ensures ok { IfOk result.answer (λ found. FindsFirst found desk.old desk.new) }
+    ensures counts { CountsWith P.known.out_name
+        (λ e writer. counts_of P.known pipes closed.sockets.items e writer)
+        (moments_of desk.old) (moments_of desk.new)
+        (holding_in P.known.out_name P.known.in_name closed) }
+    ensures err { OnErr result.answer (desk.new ≡ desk.old) }
+    ensures given { TakesEnds desk.old.past.given desk.new.past.given }
+    ensures keeps { KeepsUp desk.new.caller (moments_of desk.old) (moments_of desk.new)
+        (holding_in P.known.out_name P.known.in_name closed)
+        (holding_in P.known.out_name P.known.in_name result.closed) }
+    ensures changes { (s : P) (t : ClosedSockets P.Name P.Out P.In) → F.began s t →
+        ChangesClosed P.known F.brings s t result.pipes result.closed }
+{
+    let mut holder: Closed<P, F> = Closed {
+        pipes,
+        closed,
+        waker,
+        did: Log::new(),
+        since: PhantomData,
+    };
+    let answer = desk.deliver_first::<Closed<P, F>>(alloc, &mut holder);
+    let Closed {
+        pipes,
+        closed,
+        waker,
+        did: _,
+        since: _,
+    } = holder;
+    Back {
+        answer,
+        pipes,
+        closed,
+        waker,
+    }
+}
+
+/// An end of a closed socket is at the delimiter of the pipe that it reads. The stretch begins with
+/// that.
+pub(crate) fn meet_lent<F, P>(
+    alloc: Global,
+    pipes: P,
+    closed: ClosedSockets<P::Name, P::Out, P::In>,
+    waker: P::Waker,
+    desk: &mut OneDesk<P>,
+    end: EndId,
+) -> Back<bool, P, ClosedSockets<P::Name, P::Out, P::In>, P::Waker>
+where
+    F: Stretch<P, ClosedSockets<P::Name, P::Out, P::In>, Given<P::Name, P::Out, P::In>>,
+    P: HeldPipes,
+    P::Name: Drop,
+    P::Waker: Drop,
+    requires began { (s : P) (t : ClosedSockets P.Name P.Out P.In) → F.began s t →
+        (s ≡ pipes) × (t ≡ closed) }
+    requires fits { FitsClosed P.known pipes closed }
+    requires mine { HoldsEnd end (holding_in P.known.out_name P.known.in_name closed) }
+    requires at { (holding_in P.known.out_name P.known.in_name closed).at_delimiter end ≡ true }
+    requires has { HasWhatTheySay desk.old.caller (moments_of desk.old)
+        (holding_in P.known.out_name P.known.in_name closed) }
+    ensures found { MeetsOrNot end result.answer desk.old desk.new }
+    ensures not_looked { IsNotLooked end result.answer (moments_of desk.old)
+        (holding_in P.known.out_name P.known.in_name closed) }
+    ensures keeps { KeepsUp desk.new.caller (moments_of desk.old) (moments_of desk.new)
+        (holding_in P.known.out_name P.known.in_name closed)
+        (holding_in P.known.out_name P.known.in_name result.closed) }
+    ensures changes { (s : P) (t : ClosedSockets P.Name P.Out P.In) → F.began s t →
+        ChangesClosed P.known F.brings s t result.pipes result.closed }
+{
+    let mut holder: Closed<P, F> = Closed {
+        pipes,
+        closed,
+        waker,
+        did: Log::new(),
+        since: PhantomData,
+    };
+    let answer = desk.delimiter::<Closed<P, F>>(alloc, end, &mut holder);
+    let Closed {
+        pipes,
+        closed,
+        waker,
+        did: _,
+        since: _,
+    } = holder;
+    Back {
+        answer,
+        pipes,
+        closed,
+        waker,
+    }
+}
