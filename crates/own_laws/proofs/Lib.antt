@@ -1,3 +1,3 @@
-mod HoldLemmas
-mod PlaceLemmas
-mod QuietLemmas
+pub mod HoldLemmas
+pub mod PlaceLemmas
+pub mod QuietLemmas

@@ -1,4 +1,4 @@
--- The places of a socket's ends stay such behind an item, and each end at them goes on from where it was.
+-- The places of a socket's ends stay such over a control run, and each end at them goes on from where it was.
 use Rattle.std.specs.Prelude.{◌≡◌, ◌≢◌, ◌≤◌, ◌<◌, ◌==◌, ◌&&◌, ◌||◌, ◌++◌, ℕ, zero, suc, Bool, true, false, not, List, [], ◌∷◌, All, Option, Some, filter, length, map, slice_index_or, refl, if◌then◌else◌}
 use Rattle.std.specs.List.{list_any}
 use Rattle.std.proofs.Common.{arith, sym, ap, ◌∙◌, subst, inl, inr, true≢false}
@@ -26,35 +26,36 @@ use Rattle.control_moves.specs.OwnMoves.{own_moves}
 use Rattle.ctl_holder.specs.Holding.{Holding, has_end}
 use Rattle.ctl_holder.specs.Lent.{HasBothNames, HasEnds}
 use Rattle.held_ends.specs.declared.table.Place.{Place}
-use Rattle.held_ends.specs.Others.{IsLess, KeepsPlaces}
+use Rattle.held_ends.specs.Others.{IsLess}
 use Rattle.held_ends.specs.Places.{place_at, held_of, held_in, writes_of, writes_in}
+use Rattle.held_ends.proofs.PlaceLemmas.{place_within}
 use Rattle.own_laws.specs.Ends.{is_new}
-use Rattle.own_laws.specs.Places.{is_end_of, IsOwnPlace, AreOwnPlaces, IsComing, AreComing, AreHeldOnce, HasPlaces, Keeps, PlacesAreHeld, OwnPlacesStay, OwnPlacesGoOn}
+use Rattle.own_laws.specs.Places.{is_end_of, IsOwnPlace, HasPlaces, AreItsPlaces, WasOrIsHeld, PlacesAreHeld, OwnPlacesStay, OwnPlacesGoOn}
 
 -- ---- places
 
 module _ {N I : Type 0} where
-  record Stood (ps : List (Place N I)) (k : ℕ) : Type 0 where
-    place : Place N I
-    there_is : place_at ps k ≡ Some place
+  pub record Stood (ps : List (Place N I)) (k : ℕ) : Type 0 where
+    pub place : Place N I
+    pub there_is : place_at ps k ≡ Some place
 
-  stood : (ps : List (Place N I)) (k : ℕ) → k < length ps → Stood ps k
+  pub stood : (ps : List (Place N I)) (k : ℕ) → k < length ps → Stood ps k
   stood [] k lt = absurd (omega (arith, lt))
   stood (p ∷ ps) zero lt = record { place = p; there_is = refl }
   stood (p ∷ ps) (suc k) lt = let rest = stood ps k (omega (arith, lt)) in record { place = rest.place; there_is = rest.there_is }
 
   -- an end that is held is so at a place
-  record HeldAs (e : EndId) (ps : List (Place N I)) : Type 0 where
-    at : ℕ
-    place : Place N I
-    there_is : place_at ps at ≡ Some place
-    held : place.held ≡ true
-    is : place.end ≡ e
+  pub record HeldAs (e : EndId) (ps : List (Place N I)) : Type 0 where
+    pub at : ℕ
+    pub place : Place N I
+    pub there_is : place_at ps at ≡ Some place
+    pub held : place.held ≡ true
+    pub is : place.end ≡ e
 
   later : (e : EndId) (p : Place N I) (ps : List (Place N I)) → HeldAs e ps → HeldAs e (p ∷ ps)
   later e p ps h = record { at = suc h.at; place = h.place; there_is = h.there_is; held = h.held; is = h.is }
 
-  held_as : (e : EndId) (ps : List (Place N I)) → list_any (is_end e) (map (λ x. x.end) (held_in ps)) ≡ true → HeldAs e ps
+  pub held_as : (e : EndId) (ps : List (Place N I)) → list_any (is_end e) (map (λ x. x.end) (held_in ps)) ≡ true → HeldAs e ps
   held_as e [] h = absurd (true≢false (sym h))
   held_as e (p ∷ ps) h = by p.held refl (is_end e p.end) refl h (held_as e ps)
     where
@@ -82,7 +83,7 @@ module _ {N I : Type 0} (P : Held N → Type 0) where
 
 -- ---- where an end is
 
-gone_is : (p : Where) → is_at p ≡ true → is_here p ≡ false → p ≡ At Gone
+pub gone_is : (p : Where) → is_at p ≡ true → is_here p ≡ false → p ≡ At Gone
 gone_is (At Gone) at h = refl
 gone_is Unmade at h = absurd (true≢false (sym at))
 gone_is Away at h = absurd (true≢false (sym at))
@@ -98,7 +99,7 @@ and_false true b h = h
 and_false false b h = refl
 
 -- an end of a pair that has its number is gone
-abbrev IsGone : Control → EndId → Type 0
+abbrev pub IsGone : Control → EndId → Type 0
 IsGone c e = (e.pair.0 < next_pair c) × (place_of c e ≡ At Gone)
 
 -- it stays so
@@ -108,7 +109,7 @@ gone_stays c (Event entry) kept fits e is =
     let so = old_end c entry.did kept fits e is.0 (ap is_at is.1) in
     (so.within, gone_is (place_of (after_item (Event entry) c) e) so.at (so.there ∙ and_false (not (goes_by e (own_moves c entry.did))) (is_here (place_of c e)) (ap is_here is.1)))
 
-gone_run : {N S : Type 0} (items : List (Item N S)) (c : Control) → Kept c → IsControlRun c items → (e : EndId) → IsGone c e → IsGone (after_all items c) e
+pub gone_run : {N S : Type 0} (items : List (Item N S)) (c : Control) → Kept c → IsControlRun c items → (e : EndId) → IsGone c e → IsGone (after_all items c) e
 gone_run [] c kept run e is = is
 gone_run (item ∷ items) c kept run e is = gone_run items (after_item item c) (run_kept (item ∷ []) c kept (run.0, tt)) run.1 e (gone_stays c item kept run.0 e is)
 
@@ -117,7 +118,7 @@ no_place true = refl
 no_place false = refl
 
 -- an end that is there is of a pair that was made
-made_above : {N S : Type 0} (w : ℕ) (items : List (Item N S)) → IsControlRun (begun w) items → (e : EndId) → is_here (place_of (after_all items (begun w)) e) ≡ true → 0 < e.pair.0
+pub made_above : {N S : Type 0} (w : ℕ) (items : List (Item N S)) → IsControlRun (begun w) items → (e : EndId) → is_here (place_of (after_all items (begun w)) e) ≡ true → 0 < e.pair.0
 made_above w items run e here = elim (cases_order 0 e.pair.0) [
   | inl zero_is ↦ absurd (true≢false (sym here ∙ ap is_here (gone_run items (begun w) (begun_kept w) run e (omega (arith, zero_is), ap (λ (k : ℕ). end_place (slice_index_or (begun w).rows.pairs k no_pair) e.a) (sym zero_is) ∙ no_place e.a)).1))
   | inr (inl below) ↦ below
@@ -129,9 +130,17 @@ owner_stays : {N S : Type 0} (c : Control) (item : Item N S) → Kept c → Fits
 owner_stays c (Seen sight) kept fits e within at = refl
 owner_stays c (Event entry) kept fits e within at = (old_end c entry.did kept fits e within at).owner
 
+-- over a control run
+owner_stays_over : {N S : Type 0} (more : List (Item N S)) (c : Control) → Kept c → IsControlRun c more → (e : EndId) → e.pair.0 < next_pair c → is_at (place_of c e) ≡ true → owner_of (after_all more c) e ≡ owner_of c e
+owner_stays_over [] c kept run e within at = refl
+owner_stays_over (Seen sight ∷ more) c kept run e within at = owner_stays_over more c kept run.1 e within at
+owner_stays_over (Event entry ∷ more) c kept run e within at =
+    let so = old_end c entry.did kept run.0 e within at in
+    owner_stays_over more (after_item (Event entry) c) (run_kept (Event entry ∷ []) c kept (run.0, tt)) run.1 e so.within so.at ∙ so.owner
+
 -- ---- among the ends of a socket
 
-any_whole : (f : EndId → Bool) (x : EndId) (es : List EndId) → list_any (is_end x) (filter f es) ≡ true → list_any (is_end x) es ≡ true
+pub any_whole : (f : EndId → Bool) (x : EndId) (es : List EndId) → list_any (is_end x) (filter f es) ≡ true → list_any (is_end x) es ≡ true
 any_whole f x [] is = is
 any_whole f x (e ∷ es) is = by (is_end x e) refl (f e) is (any_whole f x es)
   where
@@ -140,7 +149,7 @@ any_whole f x (e ∷ es) is = by (is_end x e) refl (f e) is (any_whole f x es)
     by false other true h rest = rest (sym (ap (λ (b : Bool). b || list_any (is_end x) (filter f es)) other) ∙ h)
     by false other false h rest = rest h
 
-any_filter : (f : EndId → Bool) (x : EndId) (es : List EndId) → f x ≡ true → list_any (is_end x) es ≡ true → list_any (is_end x) (filter f es) ≡ true
+pub any_filter : (f : EndId → Bool) (x : EndId) (es : List EndId) → f x ≡ true → list_any (is_end x) es ≡ true → list_any (is_end x) (filter f es) ≡ true
 any_filter f x [] passes is = absurd (true≢false (sym is))
 any_filter f x (e ∷ es) passes is = by (is_end x e) refl (f e) refl is (any_filter f x es passes)
   where
@@ -151,7 +160,7 @@ any_filter f x (e ∷ es) passes is = by (is_end x e) refl (f e) refl is (any_fi
     by false other true pass h rest = ap (λ (b : Bool). b || list_any (is_end x) (filter f es)) other ∙ rest h
     by false other false fail h rest = rest h
 
-any_pass : (f : EndId → Bool) (x : EndId) (es : List EndId) → list_any (is_end x) (filter f es) ≡ true → f x ≡ true
+pub any_pass : (f : EndId → Bool) (x : EndId) (es : List EndId) → list_any (is_end x) (filter f es) ≡ true → f x ≡ true
 any_pass f x [] is = absurd (true≢false (sym is))
 any_pass f x (e ∷ es) is = by (f e) refl (any_pass f x es) is
   where
@@ -163,13 +172,13 @@ any_pass f x (e ∷ es) is = by (f e) refl (any_pass f x es) is
         here true same g = ap f (same_end x e same) ∙ pass
         here false other g = rest g
 
-any_ends : {N : Type 0} (e : EndId) (hs : List (Held N)) → list_any (is_end e) (map (λ x. x.end) hs) ≡ has_end e hs
+pub any_ends : {N : Type 0} (e : EndId) (hs : List (Held N)) → list_any (is_end e) (map (λ x. x.end) hs) ≡ has_end e hs
 any_ends e [] = refl
 any_ends e (x ∷ hs) = ap (λ (b : Bool). is_end e x.end || b) (any_ends e hs)
 
 module _ {N I : Type 0} where
   -- an end that is held at a place is among those that are held, and with its writing half among those that write
-  held_among : (ps : List (Place N I)) (k : ℕ) (p : Place N I) → place_at ps k ≡ Some p → p.held ≡ true → has_end p.end (held_in ps) ≡ true
+  pub held_among : (ps : List (Place N I)) (k : ℕ) (p : Place N I) → place_at ps k ≡ Some p → p.held ≡ true → has_end p.end (held_in ps) ≡ true
   held_among [] k p at held = absurd (Prim.grind (arith, at))
   held_among (q ∷ ps) k p at held = by q.held refl k at (held_among ps)
     where
@@ -212,23 +221,23 @@ any_append x (e ∷ es) fs is = by (is_end x e) is (any_append x es fs)
     by false h rest = rest h
 
 -- an end that an object has or had
-record Its (c : Control) (o : ℕ) (e : EndId) : Type 0 where
-  numbered : e.pair.0 < next_pair c
-  at : is_at (place_of c e) ≡ true
-  own : owner_of c e ≡ o
+pub record Its (c : Control) (o : ℕ) (e : EndId) : Type 0 where
+  pub numbered : e.pair.0 < next_pair c
+  pub at : is_at (place_of c e) ≡ true
+  pub own : owner_of c e ≡ o
 
 module _ {N S : Type 0} (io : ℕ) (items : List (Item N S)) (run : IsControlRun (begun io) items) (o : ℕ) where
   abbrev led : Control
   led = after_all items (begun io)
 
-  its_there : (e : EndId) → is_end_of o (after_all items (begun io)) e ≡ true → Its (after_all items (begun io)) o e
+  pub its_there : (e : EndId) → is_end_of o (after_all items (begun io)) e ≡ true → Its (after_all items (begun io)) o e
   its_there e its =
       let old = any_of (IsOld (after_all items (begun io))) (after_all items (begun io)).attached e (old_run io items run) (any_whole (λ x. owner_of (after_all items (begun io)) x == o) e (after_all items (begun io)).attached its) in
       record { numbered = old.within; at = old.at; own = eqb-true (owner_of (after_all items (begun io)) e) o (any_pass (λ x. owner_of (after_all items (begun io)) x == o) e (after_all items (begun io)).attached its) }
 
   module _ (names : PipeId → Option N) (h : Holding N) (has : HasEnds names (after_all items (begun io)).rows.pairs (after_all items (begun io)).attached (after_all items (begun io)).reasons h o) where
     -- an end of it that is there is held
-    held_here : (e : EndId) → is_end_of o (after_all items (begun io)) e ≡ true → is_here (place_of (after_all items (begun io)) e) ≡ true → list_any (is_end e) (map (λ x. x.end) (h.ends o)) ≡ true
+    pub held_here : (e : EndId) → is_end_of o (after_all items (begun io)) e ≡ true → is_here (place_of (after_all items (begun io)) e) ≡ true → list_any (is_end e) (map (λ x. x.end) (h.ends o)) ≡ true
     held_here e its here = ap (list_any (is_end e)) has.ends ∙ any_filter (λ x. is_here (place_of (after_all items (begun io)) x)) e (ends_of o (after_all items (begun io))) here its
 
     module _ {I : Type 0} (ps : List (Place N I)) (places : HasPlaces h o ps) (k : ℕ) (p : Place N I) (at : place_at ps k ≡ Some p) (held : p.held ≡ true) where
@@ -238,13 +247,13 @@ module _ {N S : Type 0} (io : ℕ) (items : List (Item N S)) (run : IsControlRun
       filtered : list_any (is_end p.end) (filter (λ x. is_here (place_of (after_all items (begun io)) x)) (ends_of o (after_all items (begun io)))) ≡ true
       filtered = ap (list_any (is_end p.end)) (sym has.ends) ∙ any_ends p.end (h.ends o) ∙ among
 
-      here_is : is_here (place_of (after_all items (begun io)) p.end) ≡ true
+      pub here_is : is_here (place_of (after_all items (begun io)) p.end) ≡ true
       here_is = any_pass (λ x. is_here (place_of (after_all items (begun io)) x)) p.end (ends_of o (after_all items (begun io))) filtered
 
-      its_is : is_end_of o (after_all items (begun io)) p.end ≡ true
+      pub its_is : is_end_of o (after_all items (begun io)) p.end ≡ true
       its_is = any_whole (λ x. is_here (place_of (after_all items (begun io)) x)) p.end (ends_of o (after_all items (begun io))) filtered
 
-      both_names : HasBothNames names (held_of p)
+      pub both_names : HasBothNames names (held_of p)
       both_names = each_held (HasBothNames names) ps (subst (All (HasBothNames names)) places.ends has.named) k p at held
 
 pub places_are_held : (N S I : Type 0) → PlacesAreHeld N S I
@@ -258,32 +267,21 @@ places_are_held N S I io items run names o h has ps places k p at held = record 
   owner = (its_there io items run o p.end (its_is io items run o names h has ps places k p at held)).own;
 }
 
-run_on : {N S : Type 0} (items : List (Item N S)) (item : Item N S) (c : Control) → IsControlRun c items → FitsItem (after_all items c) item → IsControlRun c (items ++ item ∷ [])
-run_on [] item c run fits = (fits, tt)
-run_on (x ∷ items) item c run fits = (run.0, run_on items item (after_item x c) run.1 fits)
+-- items behind items
+pub run_on : {N S : Type 0} (items more : List (Item N S)) (c : Control) → IsControlRun c items → IsControlRun (after_all items c) more → IsControlRun c (items ++ more)
+run_on [] more c run on = on
+run_on (x ∷ items) more c run on = (run.0, run_on items more (after_item x c) run.1 on)
 
-led_on : {N S : Type 0} (items : List (Item N S)) (item : Item N S) (c : Control) → after_all (items ++ item ∷ []) c ≡ after_item item (after_all items c)
-led_on [] item c = refl
-led_on (x ∷ items) item c = led_on items item (after_item x c)
+pub led_on : {N S : Type 0} (items more : List (Item N S)) (c : Control) → after_all (items ++ more) c ≡ after_all more (after_all items c)
+led_on [] more c = refl
+led_on (x ∷ items) more c = led_on items more (after_item x c)
 
 -- ---- over an item
 
 module _ {N S : Type 0} (io : ℕ) (items : List (Item N S)) (item : Item N S) (run : IsControlRun (begun io) items) (fits : FitsItem (after_all items (begun io)) item) (o : ℕ) where
-  abbrev c : Control
-  c = after_all items (begun io)
-
-  abbrev now : Control
-  now = after_item item (after_all items (begun io))
-
-  kept : Kept (after_all items (begun io))
-  kept = runs_are_kept N S io items run
-
-  on : IsControlRun (begun io) (items ++ item ∷ [])
-  on = run_on items item (begun io) run fits
-
-  -- an end of it stays such
-  its_stays : (e : EndId) → is_end_of o (after_all items (begun io)) e ≡ true → is_end_of o (after_item item (after_all items (begun io))) e ≡ true
-  its_stays e its = by item fits (owner_stays (after_all items (begun io)) item kept fits e (its_there io items run o e its).numbered (its_there io items run o e its).at)
+  -- an end of an object stays such
+  one_stays : (e : EndId) → is_end_of o (after_all items (begun io)) e ≡ true → is_end_of o (after_item item (after_all items (begun io))) e ≡ true
+  one_stays e its = by item fits (owner_stays (after_all items (begun io)) item (runs_are_kept N S io items run) fits e (its_there io items run o e its).numbered (its_there io items run o e its).at)
     where
       by : (x : Item N S) → FitsItem (after_all items (begun io)) x → owner_of (after_item x (after_all items (begun io))) e ≡ owner_of (after_all items (begun io)) e → is_end_of o (after_item x (after_all items (begun io))) e ≡ true
       by (Seen sight) f own = its
@@ -293,55 +291,100 @@ module _ {N S : Type 0} (io : ℕ) (items : List (Item N S)) (item : Item N S) (
           (ap (list_any (is_end e)) (attached_after (after_all items (begun io)) entry.did)
           ∙ any_append e (after_all items (begun io)).attached _ (any_whole (λ x. owner_of (after_all items (begun io)) x == o) e (after_all items (begun io)).attached its))
 
-  its_now : (e : EndId) → is_end_of o (after_item item (after_all items (begun io))) e ≡ true → Its (after_item item (after_all items (begun io))) o e
-  its_now e its = subst (λ (d : Control). Its d o e) (led_on items item (begun io)) (its_there io (items ++ item ∷ []) on o e (subst (λ (d : Control). is_end_of o d e ≡ true) (sym (led_on items item (begun io))) its))
+-- ---- over a control run
 
-  module _ {I : Type 0} (names said : PipeId → Option N) (keeps_names : Keeps names said) (h : Holding N) (has : HasEnds said (after_item item (after_all items (begun io))).rows.pairs (after_item item (after_all items (begun io))).attached (after_item item (after_all items (begun io))).reasons h o)
-      (was ps : List (Place N I)) (has_places : HasPlaces h o ps) (keeps : KeepsPlaces was ps) (come : AreComing o (after_all items (begun io)) was ps) where
-    has_on : HasEnds said (after_all (items ++ item ∷ []) (begun io)).rows.pairs (after_all (items ++ item ∷ []) (begun io)).attached (after_all (items ++ item ∷ []) (begun io)).reasons h o
-    has_on = subst (λ (d : Control). HasEnds said d.rows.pairs d.attached d.reasons h o) (sym (led_on items item (begun io))) has
+-- its ends stay such
+pub its_stay : {N S : Type 0} (io : ℕ) (more items : List (Item N S)) → IsControlRun (begun io) items → IsControlRun (after_all items (begun io)) more → (o : ℕ) (e : EndId)
+    → is_end_of o (after_all items (begun io)) e ≡ true → is_end_of o (after_all more (after_all items (begun io))) e ≡ true
+its_stay io [] items run on o e its = its
+its_stay {N} {S} io (item ∷ more) items run on o e its =
+    subst (λ (d : Control). is_end_of o (after_all more d) e ≡ true) behind
+    (its_stay io more (items ++ item ∷ []) (run_on items (item ∷ []) (begun io) run (on.0, tt)) (subst (λ (d : Control). IsControlRun d more) (sym behind) on.1) o e
+    (subst (λ (d : Control). is_end_of o d e ≡ true) (sym behind) (one_stays io items item run on.0 o e its)))
+  where
+    behind : after_all (items ++ item ∷ []) (begun io) ≡ after_item item (after_all items (begun io))
+    behind = led_on items (item ∷ []) (begun io)
 
-    held_at : (k : ℕ) (q : Place N I) → place_at ps k ≡ Some q → q.held ≡ true → is_here (place_of (after_item item (after_all items (begun io))) q.end) ≡ true
-    held_at k q at held = subst (λ (d : Control). is_here (place_of d q.end) ≡ true) (led_on items item (begun io)) (here_is io (items ++ item ∷ []) on o said h has_on ps has_places k q at held)
+pub its_numbered : {N S : Type 0} (io : ℕ) (items : List (Item N S)) → IsControlRun (begun io) items → (o : ℕ) (e : EndId) → is_end_of o (after_all items (begun io)) e ≡ true → e.pair.0 < next_pair (after_all items (begun io))
+its_numbered io items run o e its = (its_there io items run o e its).numbered
 
-    -- a place that came since
-    came : (k : ℕ) (q : Place N I) → place_at ps k ≡ Some q → length was ≤ k → IsOwnPlace (after_item item (after_all items (begun io))) said o q
-    came k q at le =
-        let coming = come k q le at in
-        let two = both_names io (items ++ item ∷ []) on o said h has_on ps has_places k q at coming.held in
+-- and one that is gone stays gone
+pub gone_stay : {N S : Type 0} (io : ℕ) (more items : List (Item N S)) → IsControlRun (begun io) items → IsControlRun (after_all items (begun io)) more → (e : EndId) → e.pair.0 < next_pair (after_all items (begun io))
+    → place_of (after_all items (begun io)) e ≡ At Gone → place_of (after_all more (after_all items (begun io))) e ≡ At Gone
+gone_stay {N} {S} io more items run on e lt gone = (gone_run more (after_all items (begun io)) (runs_are_kept N S io items run) on e (lt, gone)).1
+
+module _ {N S : Type 0} (io : ℕ) (items more : List (Item N S)) (run : IsControlRun (begun io) items) (on : IsControlRun (after_all items (begun io)) more) (o : ℕ) where
+  abbrev c : Control
+  c = after_all items (begun io)
+
+  abbrev now : Control
+  now = after_all more (after_all items (begun io))
+
+  all : IsControlRun (begun io) (items ++ more)
+  all = run_on items more (begun io) run on
+
+  led_to : after_all (items ++ more) (begun io) ≡ after_all more (after_all items (begun io))
+  led_to = led_on items more (begun io)
+
+  its_now : (e : EndId) → is_end_of o (after_all more (after_all items (begun io))) e ≡ true → Its (after_all more (after_all items (begun io))) o e
+  its_now e its = subst (λ (d : Control). Its d o e) led_to (its_there io (items ++ more) all o e (subst (λ (d : Control). is_end_of o d e ≡ true) (sym led_to) its))
+
+  module _ {I : Type 0} (names said : PipeId → Option N) (had has : Holding N) (was ps : List (Place N I))
+      (are : AreItsPlaces (after_all items (begun io)) (after_all more (after_all items (begun io))) names said o had has was ps) where
+    has_all : HasEnds said (after_all (items ++ more) (begun io)).rows.pairs (after_all (items ++ more) (begun io)).attached (after_all (items ++ more) (begun io)).reasons has o
+    has_all = subst (λ (d : Control). HasEnds said d.rows.pairs d.attached d.reasons has o) (sym led_to) are.has_ends
+
+    held_at : (k : ℕ) (q : Place N I) → place_at ps k ≡ Some q → q.held ≡ true → is_here (place_of (after_all more (after_all items (begun io))) q.end) ≡ true
+    held_at k q at held = subst (λ (d : Control). is_here (place_of d q.end) ≡ true) led_to (here_is io (items ++ more) all o said has has_all ps are.has_places k q at held)
+
+    its_held : (k : ℕ) (q : Place N I) → place_at ps k ≡ Some q → q.held ≡ true → is_end_of o (after_all more (after_all items (begun io))) q.end ≡ true
+    its_held k q at held = subst (λ (d : Control). is_end_of o d q.end ≡ true) led_to (its_is io (items ++ more) all o said has has_all ps are.has_places k q at held)
+
+    -- a place of an end that came to be held
+    came : (k : ℕ) (q : Place N I) → place_at ps k ≡ Some q → q.held ≡ true → IsOwnPlace (after_all more (after_all items (begun io))) said o q
+    came k q at on_it =
+        let two = both_names io (items ++ more) all o said has has_all ps are.has_places k q at on_it in
         record {
-          its = subst (λ (d : Control). is_end_of o d q.end ≡ true) (led_on items item (begun io)) (its_is io (items ++ item ∷ []) on o said h has_on ps has_places k q at coming.held);
+          its = its_held k q at on_it;
           written = two.written;
           read = two.read;
-          above = made_above io (items ++ item ∷ []) on q.end (here_is io (items ++ item ∷ []) on o said h has_on ps has_places k q at coming.held);
-          gone = λ none. absurd (true≢false (sym coming.held ∙ none));
+          above = made_above io (items ++ more) all q.end (here_is io (items ++ more) all o said has has_all ps are.has_places k q at on_it);
+          gone = λ none. absurd (true≢false (sym on_it ∙ none));
         }
 
-    module _ (apart : AreHeldOnce was) (places : AreOwnPlaces (after_all items (begun io)) names o was) (k : ℕ) (q : Place N I) (at : place_at ps k ≡ Some q) (lt : k < length was) where
+    -- a place at which an end was held
+    module _ (k : ℕ) (q : Place N I) (at : place_at ps k ≡ Some q) (lt : k < length was) (stood_there : (p : Place N I) → place_at was k ≡ Some p → p.held ≡ true) where
       s : Stood was k
       s = stood was k lt
 
+      held : s.place.held ≡ true
+      held = stood_there s.place s.there_is
+
       less : IsLess s.place q
-      less = keeps.each k s.place q s.there_is at
+      less = are.keeps.each k s.place q s.there_is at
 
-      is : IsOwnPlace (after_all items (begun io)) names o s.place
-      is = places k s.place s.there_is
+      was_its : is_end_of o (after_all items (begun io)) s.place.end ≡ true
+      was_its = its_is io items run o names had are.had_ends was are.had_places k s.place s.there_is held
 
-      its : is_end_of o (after_item item (after_all items (begun io))) q.end ≡ true
-      its = subst (λ (e : EndId). is_end_of o (after_item item (after_all items (begun io))) e ≡ true) (sym less.end_is) (its_stays s.place.end is.its)
+      was_named : HasBothNames names (held_of s.place)
+      was_named = both_names io items run o names had are.had_ends was are.had_places k s.place s.there_is held
 
-      module _ (held : s.place.held ≡ true) (none : q.held ≡ false) (found : HeldAs q.end ps) where
+      its : is_end_of o (after_all more (after_all items (begun io))) q.end ≡ true
+      its = subst (λ (e : EndId). is_end_of o (after_all more (after_all items (begun io))) e ≡ true) (sym less.end_is) (its_stay io more items run on o s.place.end was_its)
+
+      module _ (none : q.held ≡ false) (found : HeldAs q.end ps) where
         same_end_is : s.place.end ≡ found.place.end
         same_end_is = sym less.end_is ∙ sym found.is
 
         new_one : length was ≤ found.at → ⊥
-        new_one le = true≢false (sym is.its ∙ ap (is_end_of o (after_all items (begun io))) same_end_is ∙ (come found.at found.place le found.there_is).other)
+        new_one le =
+            true≢false (sym was_its ∙ ap (is_end_of o (after_all items (begun io))) same_end_is ∙ are.others found.at found.place le found.there_is found.held)
 
         differ : found.at < length was → k ≢ found.at → ⊥
         differ below ne =
             let t = stood was found.at below in
-            let less_then = keeps.each found.at t.place found.place t.there_is found.there_is in
-            apart k found.at s.place t.place ne s.there_is t.there_is held (less_then.held found.held) (same_end_is ∙ less_then.end_is)
+            let less_then = are.keeps.each found.at t.place found.place t.there_is found.there_is in
+            are.once k found.at s.place t.place ne s.there_is t.there_is held (less_then.held found.held) (same_end_is ∙ less_then.end_is)
 
         old_one : found.at < length was → ⊥
         old_one below = elim (cases_order k found.at) [
@@ -358,68 +401,70 @@ module _ {N S : Type 0} (io : ℕ) (items : List (Item N S)) (item : Item N S) (
           | inr (inr above) ↦ new_one (omega (arith, above))
         ]
 
-      gone : q.held ≡ false → place_of (after_item item (after_all items (begun io))) q.end ≡ At Gone
-      gone none = by s.place.held refl (is_here (place_of (after_item item (after_all items (begun io))) q.end)) refl
+      gone : q.held ≡ false → place_of (after_all more (after_all items (begun io))) q.end ≡ At Gone
+      gone none = by (is_here (place_of (after_all more (after_all items (begun io))) q.end)) refl
         where
-          here_so : is_here (place_of (after_item item (after_all items (begun io))) q.end) ≡ true → list_any (is_end q.end) (map (λ x. x.end) (held_in ps)) ≡ true
+          here_so : is_here (place_of (after_all more (after_all items (begun io))) q.end) ≡ true → list_any (is_end q.end) (map (λ x. x.end) (held_in ps)) ≡ true
           here_so here =
-              subst (λ (hs : List (Held N)). list_any (is_end q.end) (map (λ x. x.end) hs) ≡ true) has_places.ends
-              (held_here io (items ++ item ∷ []) on o said h has_on q.end (subst (λ (d : Control). is_end_of o d q.end ≡ true) (sym (led_on items item (begun io))) its)
-              (subst (λ (d : Control). is_here (place_of d q.end) ≡ true) (sym (led_on items item (begun io))) here))
+              subst (λ (hs : List (Held N)). list_any (is_end q.end) (map (λ x. x.end) hs) ≡ true) are.has_places.ends
+              (held_here io (items ++ more) all o said has has_all q.end (subst (λ (d : Control). is_end_of o d q.end ≡ true) (sym led_to) its)
+              (subst (λ (d : Control). is_here (place_of d q.end) ≡ true) (sym led_to) here))
 
-          by : (b : Bool) → s.place.held ≡ b → (x : Bool) → is_here (place_of (after_item item (after_all items (begun io))) q.end) ≡ x → place_of (after_item item (after_all items (begun io))) q.end ≡ At Gone
-          by false off x here =
-              ap (place_of (after_item item (after_all items (begun io)))) less.end_is
-              ∙ (gone_stays (after_all items (begun io)) item kept fits s.place.end ((its_there io items run o s.place.end is.its).numbered, is.gone off)).1
-          by true held false here = gone_is (place_of (after_item item (after_all items (begun io))) q.end) (its_now q.end its).at here
-          by true held true here = absurd (never_held held none (held_as q.end ps (here_so here)))
+          by : (x : Bool) → is_here (place_of (after_all more (after_all items (begun io))) q.end) ≡ x → place_of (after_all more (after_all items (begun io))) q.end ≡ At Gone
+          by false here = gone_is (place_of (after_all more (after_all items (begun io))) q.end) (its_now q.end its).at here
+          by true here = absurd (never_held none (held_as q.end ps (here_so here)))
 
-      -- one that was there
-      stays : IsOwnPlace (after_item item (after_all items (begun io))) said o q
+      stays : IsOwnPlace (after_all more (after_all items (begun io))) said o q
       stays = record {
         its = its;
-        written = ap said less.end_is ∙ keeps_names s.place.end s.place.written is.written ∙ ap (λ (n : N). Some n) (sym less.written_is);
-        read = ap (λ (e : EndId). said (other_end e)) less.end_is ∙ keeps_names (other_end s.place.end) s.place.read is.read ∙ ap (λ (n : N). Some n) (sym less.read_is);
-        above = subst (λ (e : EndId). 0 < e.pair.0) (sym less.end_is) is.above;
+        written = ap said less.end_is ∙ are.names_stay s.place.end s.place.written was_named.written ∙ ap (λ (n : N). Some n) (sym less.written_is);
+        read = ap (λ (e : EndId). said (other_end e)) less.end_is ∙ are.names_stay (other_end s.place.end) s.place.read was_named.read ∙ ap (λ (n : N). Some n) (sym less.read_is);
+        above = subst (λ (e : EndId). 0 < e.pair.0) (sym less.end_is) (made_above io items run s.place.end (here_is io items run o names had are.had_ends was are.had_places k s.place s.there_is held));
         gone = gone;
       }
 
-    -- an end at a place that came since was not attached
-    at_none : (k : ℕ) (q : Place N I) → length was ≤ k → place_at ps k ≡ Some q → q.end.pair.0 < next_pair (after_all items (begun io)) → is_at (place_of (after_all items (begun io)) q.end) ≡ true → ⊥
-    at_none k q le at within is_there = by (is_here (place_of (after_all items (begun io)) q.end)) refl
+    own_place : (k : ℕ) (q : Place N I) → place_at ps k ≡ Some q → WasOrIsHeld was k q → IsOwnPlace (after_all more (after_all items (begun io))) said o q
+    own_place k q at is = elim (cases_order k (length was)) [
+      | inl same ↦ came k q at (is.came (omega (arith, same)))
+      | inr (inl below) ↦ stays k q at below is.stood
+      | inr (inr above) ↦ came k q at (is.came (omega (arith, above)))
+    ]
+
+    -- an end that came to be held was not attached
+    at_none : (k : ℕ) (q : Place N I) → length was ≤ k → place_at ps k ≡ Some q → q.held ≡ true → q.end.pair.0 < next_pair (after_all items (begun io)) → is_at (place_of (after_all items (begun io)) q.end) ≡ true → ⊥
+    at_none k q le at on_it within is_there = by (is_here (place_of (after_all items (begun io)) q.end)) refl
       where
-        coming : IsComing o (after_all items (begun io)) q
-        coming = come k q le at
+        kept : Kept (after_all items (begun io))
+        kept = runs_are_kept N S io items run
 
         own : owner_of (after_all items (begun io)) q.end ≡ o
-        own = sym (owner_stays (after_all items (begun io)) item kept fits q.end within is_there) ∙ (its_now q.end (came k q at le).its).own
+        own = sym (owner_stays_over more (after_all items (begun io)) kept on q.end within is_there) ∙ (its_now q.end (its_held k q at on_it)).own
 
         its_then : is_here (place_of (after_all items (begun io)) q.end) ≡ true → is_end_of o (after_all items (begun io)) q.end ≡ true
         its_then here =
             any_filter (λ x. owner_of (after_all items (begun io)) x == o) q.end (after_all items (begun io)).attached (eq-eqb (owner_of (after_all items (begun io)) q.end) o own) (kept.listed q.end.pair.0 q.end.a here)
 
         by : (b : Bool) → is_here (place_of (after_all items (begun io)) q.end) ≡ b → ⊥
-        by true here = true≢false (sym (its_then here) ∙ coming.other)
+        by true here = true≢false (sym (its_then here) ∙ are.others k q le at on_it)
         by false off =
-            true≢false (sym (held_at k q at coming.held) ∙ ap is_here (gone_stays (after_all items (begun io)) item kept fits q.end (within, gone_is (place_of (after_all items (begun io)) q.end) is_there off)).1)
+            true≢false (sym (held_at k q at on_it) ∙ ap is_here (gone_run more (after_all items (begun io)) kept on q.end (within, gone_is (place_of (after_all items (begun io)) q.end) is_there off)).1)
 
-    is_new_end : (k : ℕ) (q : Place N I) → length was ≤ k → place_at ps k ≡ Some q → q.end.pair.0 < next_pair (after_all items (begun io)) → (w : Where) → place_of (after_all items (begun io)) q.end ≡ w → is_new w ≡ true
-    is_new_end k q le at within Unmade e = refl
-    is_new_end k q le at within Away e = refl
-    is_new_end k q le at within (At state) e = absurd (at_none k q le at within (ap is_at e))
+    is_new_end : (k : ℕ) (q : Place N I) → length was ≤ k → place_at ps k ≡ Some q → q.held ≡ true → q.end.pair.0 < next_pair (after_all items (begun io)) → (w : Where) → place_of (after_all items (begun io)) q.end ≡ w → is_new w ≡ true
+    is_new_end k q le at on_it within Unmade e = refl
+    is_new_end k q le at on_it within Away e = refl
+    is_new_end k q le at on_it within (At state) e = absurd (at_none k q le at on_it within (ap is_at e))
 
 pub own_places_stay : (N S I : Type 0) → OwnPlacesStay N S I
-own_places_stay N S I io items item run fits o names said keeps_names h has was ps has_places keeps apart come places k q at =
-    elim (cases_order k (length was)) [
-      | inl same ↦ came io items item run fits o names said keeps_names h has was ps has_places keeps come k q at (omega (arith, same))
-      | inr (inl below) ↦ stays io items item run fits o names said keeps_names h has was ps has_places keeps come apart places k q at below
-      | inr (inr above) ↦ came io items item run fits o names said keeps_names h has was ps has_places keeps come k q at (omega (arith, above))
-    ]
+own_places_stay N S I io items more run on names said o had has was ps are k q at is = own_place io items more run on o names said had has was ps are k q at is
 
 pub own_places_go_on : (N S I : Type 0) → OwnPlacesGoOn N S I
-own_places_go_on N S I io items item run fits o names said keeps_names had has had_ends has_ends was ps had_places has_places keeps come places = record {
-  held = λ k p at held. (places_are_held N S I io items run names o had had_ends was had_places k p at held).at;
-  stay = λ k p q at at_now. (keeps.each k p q at at_now).end_is;
-  came = λ k q le at within. is_new_end io items item run fits o names said keeps_names has has_ends was ps has_places keeps come k q le at within (place_of (after_all items (begun io)) q.end) refl;
-  gone = λ k q at none. let is = places k q at in record { above = is.above; numbered = (its_now io items item run fits o q.end is.its).numbered; gone = is.gone none };
+own_places_go_on N S I io items more run on names said o had has was ps are = record {
+  held = λ k p at held. (places_are_held N S I io items run names o had are.had_ends was are.had_places k p at held).at;
+  stay = λ k p q at at_now. (are.keeps.each k p q at at_now).end_is;
+  came = λ k q le at on_it within. is_new_end io items more run on o names said had has was ps are k q le at on_it within (place_of (after_all items (begun io)) q.end) refl;
+  gone = λ k p q at held at_now none.
+      let lt = place_within was k p at in
+      let is = own_place io items more run on o names said had has was ps are k q at_now
+      (record { stood = λ r at_r. ap (λ (x : Place N I). x.held) (some_same r p (sym at_r ∙ at)) ∙ held; came = λ le. absurd (omega (arith, lt, le)) }) in
+      record { above = is.above; numbered = (its_now io items more run on o q.end is.its).numbered; gone = is.gone none };
 }

@@ -36,9 +36,9 @@ pub record IsGoneFrom {N I : Type 0} (now : Control) (p : Place N I) : Type 0 wh
   pub numbered : p.end.pair.0 < next_pair now
   pub gone : place_of now p.end ≡ At Gone
 
--- The places of a socket's ends behind a call: each end has its place still, and those that came since were not attached before.
+-- The places of a socket's ends behind a call: each end has its place still, those that are held at places that came since were not attached before, and one that was held and is held no more is gone.
 pub record PlacesGoOn {N I : Type 0} (c now : Control) (was ps : List (Place N I)) : Type 0 where
   pub held : (k : ℕ) (p : Place N I) → place_at was k ≡ Some p → p.held ≡ true → IsHeldWhere c p
   pub stay : (k : ℕ) (p q : Place N I) → place_at was k ≡ Some p → place_at ps k ≡ Some q → q.end ≡ p.end
-  pub came : (k : ℕ) (q : Place N I) → length was ≤ k → place_at ps k ≡ Some q → q.end.pair.0 < next_pair c → is_new (place_of c q.end) ≡ true
-  pub gone : (k : ℕ) (q : Place N I) → place_at ps k ≡ Some q → q.held ≡ false → IsGoneFrom now q
+  pub came : (k : ℕ) (q : Place N I) → length was ≤ k → place_at ps k ≡ Some q → q.held ≡ true → q.end.pair.0 < next_pair c → is_new (place_of c q.end) ≡ true
+  pub gone : (k : ℕ) (p q : Place N I) → place_at was k ≡ Some p → p.held ≡ true → place_at ps k ≡ Some q → q.held ≡ false → IsGoneFrom now q

@@ -1,4 +1,4 @@
--- The places of a socket's ends behind an item of a control run (own choice, after libzmq's `pipe_t`).
+-- The places of a socket's ends over a control run (own choice, after libzmq's `pipe_t`).
 use Rattle.std.specs.Prelude.{◌≡◌, ◌≢◌, ◌≤◌, ◌<◌, ℕ, Bool, true, false, List, Option, Some, length}
 use Rattle.std.specs.List.{list_any}
 use Rattle.zq_base.specs.declared.ids.EndId.{EndId}
@@ -7,7 +7,7 @@ use Rattle.spec_control.specs.declared.end.EndState.TheVariants.{Gone}
 use Rattle.spec_control.specs.declared.entry.Item.{Item}
 use Rattle.spec_control.specs.Place.{At}
 use Rattle.spec_control.specs.Control.{Control, begun, ends_of, is_end, place_of}
-use Rattle.spec_control.specs.ControlRun.{FitsItem, IsControlRun, after_all, after_item}
+use Rattle.spec_control.specs.ControlRun.{IsControlRun, after_all}
 use Rattle.ctl_holder.specs.Holding.{Holding}
 use Rattle.ctl_holder.specs.Lent.{HasEnds}
 use Rattle.held_ends.specs.declared.table.Place.{Place}
@@ -32,19 +32,6 @@ module _ {N I : Type 0} where
     pub above : 0 < p.end.pair.0
     pub gone : p.held ≡ false → place_of c p.end ≡ At Gone
 
-  -- so is each of these
-  abbrev pub AreOwnPlaces : Control → (PipeId → Option N) → ℕ → List (Place N I) → Type 0
-  AreOwnPlaces c names o ps = (k : ℕ) (p : Place N I) → place_at ps k ≡ Some p → IsOwnPlace c names o p
-
-  -- an end that is held at a place, and that the object did not have
-  pub record IsComing (o : ℕ) (c : Control) (p : Place N I) : Type 0 where
-    pub held : p.held ≡ true
-    pub other : is_end_of o c p.end ≡ false
-
-  -- so is each of these that came since
-  abbrev pub AreComing : ℕ → Control → (was ps : List (Place N I)) → Type 0
-  AreComing o c was ps = (k : ℕ) (p : Place N I) → length was ≤ k → place_at ps k ≡ Some p → IsComing o c p
-
   -- no end is held at two of these places
   abbrev pub AreHeldOnce : List (Place N I) → Type 0
   AreHeldOnce ps = (j k : ℕ) (p q : Place N I) → j ≢ k → place_at ps j ≡ Some p → place_at ps k ≡ Some q → p.held ≡ true → q.held ≡ true → p.end ≢ q.end
@@ -54,23 +41,39 @@ module _ {N I : Type 0} where
     pub ends : h.ends o ≡ held_in ps
     pub writes : (e : EndId) → h.writes e ≡ writes_in ps e
 
+  -- an object's ends are held at these places before and at those behind, each at its place still; no end was held at two, and what is held at places that came since it did not have
+  pub record AreItsPlaces (c now : Control) (names said : PipeId → Option N) (o : ℕ) (had has : Holding N) (was ps : List (Place N I)) : Type 0 where
+    pub names_stay : Keeps names said
+    pub had_ends : HasEnds names c.rows.pairs c.attached c.reasons had o
+    pub has_ends : HasEnds said now.rows.pairs now.attached now.reasons has o
+    pub had_places : HasPlaces had o was
+    pub has_places : HasPlaces has o ps
+    pub keeps : KeepsPlaces was ps
+    pub once : AreHeldOnce was
+    pub others : (k : ℕ) (p : Place N I) → length was ≤ k → place_at ps k ≡ Some p → p.held ≡ true → is_end_of o c p.end ≡ false
+
+  -- an end was held at this place before, or is held there, where it came since
+  pub record WasOrIsHeld (was : List (Place N I)) (k : ℕ) (q : Place N I) : Type 0 where
+    pub stood : (p : Place N I) → place_at was k ≡ Some p → p.held ≡ true
+    pub came : length was ≤ k → q.held ≡ true
+
 -- the ends that are held at the places of an object are its, each where it is
 abbrev pub PlacesAreHeld : (N S I : Type 0) → Type 0
 PlacesAreHeld N S I = (io : ℕ) (items : List (Item N S)) → IsControlRun (begun io) items → let c = after_all items (begun io) in
     (names : PipeId → Option N) (o : ℕ) (h : Holding N) → HasEnds names c.rows.pairs c.attached c.reasons h o → (ps : List (Place N I)) → HasPlaces h o ps → AreHeldFor c names o ps
 
--- over an item the places of an object are of its ends still, where those that came are of ends that came
+-- over a control run each place at which an end of the object was held, or came to be, is of an end that it has or had
 abbrev pub OwnPlacesStay : (N S I : Type 0) → Type 0
-OwnPlacesStay N S I = (io : ℕ) (items : List (Item N S)) (item : Item N S) → IsControlRun (begun io) items → FitsItem (after_all items (begun io)) item →
+OwnPlacesStay N S I = (io : ℕ) (items more : List (Item N S)) → IsControlRun (begun io) items → IsControlRun (after_all items (begun io)) more →
     let c = after_all items (begun io) in
-    let now = after_item item c in
-    (o : ℕ) (names said : PipeId → Option N) → Keeps names said → (h : Holding N) → HasEnds said now.rows.pairs now.attached now.reasons h o →
-    (was ps : List (Place N I)) → HasPlaces h o ps → KeepsPlaces was ps → AreHeldOnce was → AreComing o c was ps → AreOwnPlaces c names o was → AreOwnPlaces now said o ps
+    let now = after_all more c in
+    (names said : PipeId → Option N) (o : ℕ) (had has : Holding N) (was ps : List (Place N I)) → AreItsPlaces c now names said o had has was ps →
+    (k : ℕ) (q : Place N I) → place_at ps k ≡ Some q → WasOrIsHeld was k q → IsOwnPlace now said o q
 
--- and go on from where the ends were
+-- and the ends at them go on from where they were
 abbrev pub OwnPlacesGoOn : (N S I : Type 0) → Type 0
-OwnPlacesGoOn N S I = (io : ℕ) (items : List (Item N S)) (item : Item N S) → IsControlRun (begun io) items → FitsItem (after_all items (begun io)) item →
+OwnPlacesGoOn N S I = (io : ℕ) (items more : List (Item N S)) → IsControlRun (begun io) items → IsControlRun (after_all items (begun io)) more →
     let c = after_all items (begun io) in
-    let now = after_item item c in
-    (o : ℕ) (names said : PipeId → Option N) → Keeps names said → (had has : Holding N) → HasEnds names c.rows.pairs c.attached c.reasons had o → HasEnds said now.rows.pairs now.attached now.reasons has o →
-    (was ps : List (Place N I)) → HasPlaces had o was → HasPlaces has o ps → KeepsPlaces was ps → AreComing o c was ps → AreOwnPlaces now said o ps → PlacesGoOn c now was ps
+    let now = after_all more c in
+    (names said : PipeId → Option N) (o : ℕ) (had has : Holding N) (was ps : List (Place N I)) → AreItsPlaces c now names said o had has was ps →
+    PlacesGoOn c now was ps

@@ -12,7 +12,7 @@ pub fn places_are_held<N, S, I>()
     ensures { PlacesAreHeld N S I }
 {}
 
-/// The places of an object are of its ends still behind an item, if those that came are of ends that came.
+/// The places at which ends of an object were held, or came to be, are of its ends over a control run.
 pub fn own_places_stay<N, S, I>()
     ensures { OwnPlacesStay N S I }
 {}

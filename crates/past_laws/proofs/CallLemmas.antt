@@ -18,6 +18,6 @@ socket_calls_go_on K T go said_so once io items more run on names said ps before
     let now = after_all more c in
     let ms = moments_from c more in
     let new_ones = once io items more run on before asked in
-    let goes = go io items more run on names said h.names_made ps h.named h.changes old new past h.names_go h.of_pipes h.made_before h.does stands in
+    let goes = go io items more run on names said h.names_made ps h.changes h.named old new past h.names_go h.of_pipes h.does stands in
     let steps = said_so before sealed h.changes ms h.seals h.grown new_ones.0 in
     (subst (λ (l : List PipeStep). PastStands K now said new l) (ap (λ (l : List PipeStep). past ++ l) steps) goes, subst (WereAsked now) (sym h.grown) new_ones.1)

@@ -24,7 +24,7 @@ use Rattle.zq_world.proofs.RiseLemmas.{all_both}
 use Rattle.core_laws.specs.Past.{HasNoStep, goes_with, PastGoesOn, PastStaysOver}
 use Rattle.core_laws.proofs.SideLemmas.{begun_is, grows}
 use Rattle.core_stands.specs.Standing.{unless_settled, goes_in}
-use Rattle.past_laws.specs.Changes.{delimited_in, IsOfPipes, AreMadeBefore, ArePlacesNamed, IsMade, NamesGoOn, ChangesGoOn}
+use Rattle.past_laws.specs.Changes.{delimited_in, IsOfPipes, IsPlaceNamed, ArePlacesNamed, AreChangesNamed, IsMade, NamesGoOn, ChangesGoOn}
 use Rattle.past_laws.proofs.SettledLemmas.{settled_stay}
 
 -- ---- places
@@ -39,10 +39,20 @@ module _ {N I : Type 0} where
   stood (p ∷ ps) zero lt = record { place = p; there = refl }
   stood (p ∷ ps) (suc k) lt = let rest = stood ps k (omega (arith, lt)) in record { place = rest.place; there = rest.there }
 
-  written_is : (names : PipeId → Option N) (ps : List (Place N I)) → ArePlacesNamed names ps → (k : ℕ) (e : EndId) → IsPlaced ps k e → (n : N) → ((p : Place N I) → place_at ps k ≡ Some p → n ≡ p.written) → names e ≡ Some n
-  written_is names ps named k e at n is =
+  written_is : (names : PipeId → Option N) (ps : List (Place N I)) (k : ℕ) (e : EndId) → IsPlaced ps k e → ((p : Place N I) → place_at ps k ≡ Some p → IsPlaceNamed names p) → (n : N) → ((p : Place N I) → place_at ps k ≡ Some p → n ≡ p.written) → names e ≡ Some n
+  written_is names ps k e at here n is =
       let s = stood ps k at.within in
-      subst (λ (d : EndId). names d ≡ Some n) (at.end_is s.place s.there) ((named k s.place s.there).0 ∙ ap Some (sym (is s.place s.there)))
+      subst (λ (d : EndId). names d ≡ Some n) (at.end_is s.place s.there) ((here s.place s.there).0 ∙ ap Some (sym (is s.place s.there)))
+
+-- where all are named those are
+pub changes_named : {N O I S : Type 0} (names : PipeId → Option N) (ps : List (Place N I)) → ArePlacesNamed names ps → (xs : List (PipeChange O I × S)) → AreChangesNamed names ps xs
+changes_named names ps all [] = tt
+changes_named names ps all ((Kept, s) ∷ xs) = (tt, changes_named names ps all xs)
+changes_named names ps all ((Made e capacity halves, s) ∷ xs) = (tt, changes_named names ps all xs)
+changes_named names ps all ((Sealed k e half, s) ∷ xs) = ((λ le. all k), changes_named names ps all xs)
+changes_named names ps all ((SealedAgain k e, s) ∷ xs) = ((λ le. all k), changes_named names ps all xs)
+changes_named names ps all ((Parted k e half, s) ∷ xs) = ((λ le. all k), changes_named names ps all xs)
+changes_named names ps all ((Settled k e, s) ∷ xs) = ((λ le. all k), changes_named names ps all xs)
 
 -- ---- names
 
@@ -107,7 +117,11 @@ module _ {N : Type 0} where
 
 module _ {S O I N : Type 0} (K : Known S O I N) (is_exact : K.exact ≡ true) (law : PastGoesOn K) (c now : Control) (names said : PipeId → Option N) (changes : List (PipeChange O I × S))
     (stay : (p : PipeId) → settlement_of now p ≡ None → settlement_of c p ≡ None) (pairs : next_pair c ≤ next_pair now) (names_made : (p : PipeId) (n : N) → names p ≡ Some n → p.pair.0 < next_pair c)
-    (go : NamesGoOn K c now changes names said) (one : OneName (goes_in c names)) (ps : List (Place N I)) (named : ArePlacesNamed said ps) where
+    (go : NamesGoOn K c now changes names said) (one : OneName (goes_in c names)) (ps : List (Place N I)) where
+  -- an end at this place has pipes of the names that stand there
+  abbrev IsNamedAt : ℕ → Type 0
+  IsNamedAt k = (p : Place N I) → place_at ps k ≡ Some p → IsPlaceNamed said p
+
   abbrev capacity : PipeId → ℕ
   capacity = pipe_capacity now
 
@@ -204,6 +218,28 @@ module _ {S O I N : Type 0} (K : Known S O I N) (is_exact : K.exact ≡ true) (l
     not_later ((SealedAgain k d, s) ∷ xs) old are does made there = not_later xs s are.1 does.1 (sym (or_none (made_last e xs)) ∙ made) (subst (λ (u : S). IsThere K u n) (sym does.0.stays) there)
     not_later ((Parted k d half, s) ∷ xs) old are does made there = not_later xs s are.1 does.1 (sym (or_none (made_last e xs)) ∙ made) (parted_keeps k d half.items old s n does.0 there)
     not_later ((Settled k d, s) ∷ xs) old are does made there = true≢false (sym are.0.1 ∙ ap is_some (kept (read_through d) are.0.0))
+
+  -- so a pipe of a pair that had no number got its delimiter once it was made: it is not made afterwards
+  seal_first : (k : ℕ) (e : EndId) (xs : List (PipeChange O I × S)) (items : List (O × Unit {0})) (old s behind : S) → AllByRecursion (λ x. IsOfPipes c now x.0) xs → DoesChanges K ps s xs behind
+      → ((p : PipeId) (y : ℕ × O) → made_last p xs ≡ Some y → made_last p changes ≡ Some y) → SealedBy K ps k e items old s → IsNamedAt k → next_pair c ≤ e.pair.0 → made_last e xs ≡ None
+  seal_first k e xs (lent ∷ back ∷ []) old s behind are does rest puts here le = by (names e) (made_last e xs) refl refl
+    where
+      n : N
+      n = K.out_name lent.0
+
+      says : said e ≡ Some n
+      says = written_is said ps k e puts.placed here n puts.pipe_is
+
+      by : (h : Option N) (m : Option (ℕ × O)) → names e ≡ h → made_last e xs ≡ m → made_last e xs ≡ None
+      by (Some m) y eh em = absurd (let lt = names_made e m eh in omega (arith, lt, le))
+      by None None eh em = em
+      by None (Some y) eh em =
+          let mine = go.more e n eh says in
+          let is_it = some_same y (mine.capacity, mine.half) (sym (rest e y em) ∙ mine.made) in
+          absurd (not_later mine.settles_none e y n (ap (λ (z : ℕ × O). K.out_name z.1) is_it ∙ mine.name_is) behind xs s are does em (puts.keeps.there n puts.there))
+  seal_first k e xs [] old s behind are does rest puts here le = absurd puts
+  seal_first k e xs (x ∷ []) old s behind are does rest puts here le = absurd puts
+  seal_first k e xs (x ∷ y ∷ z ∷ zs) old s behind are does rest puts here le = absurd puts
 
   -- the steps past, by the pipes that go by names while these changes are to come, are at pipes of pairs that have their numbers, and at none that is to be made
   record Went (xs : List (PipeChange O I × S)) (pipes : S) (past : List PipeStep) : Type 0 where
@@ -303,8 +339,8 @@ module _ {S O I N : Type 0} (K : Known S O I N) (is_exact : K.exact ≡ true) (l
 
   -- a delimiter is written
   seal_goes : (k : ℕ) (e : EndId) (xs : List (PipeChange O I × S)) (items : List (O × Unit {0})) (old new : S) (past : List PipeStep) → settlement_of now e ≡ None → (next_pair c ≤ e.pair.0 → made_last e xs ≡ None)
-      → SealedBy K ps k e items old new → Went xs old past → Went xs new (past ++ Seal e ∷ [])
-  seal_goes k e xs (lent ∷ back ∷ []) old new past unsettled first puts went = record {
+      → SealedBy K ps k e items old new → IsNamedAt k → Went xs old past → Went xs new (past ++ Seal e ∷ [])
+  seal_goes k e xs (lent ∷ back ∷ []) old new past unsettled first puts here went = record {
     one_name = went.one_name;
     past_is = law.sealed (goes xs) capacity old new past e lent.0 back.0 went.one_name goes_now.0 puts.unsealed puts.delimiter puts.keeps went.past_is;
     made = all_both (λ s. (pipe_at s).pair.0 < next_pair now) past (Seal e ∷ []) went.made (goes_now.1, tt);
@@ -316,7 +352,7 @@ module _ {S O I N : Type 0} (K : Known S O I N) (is_exact : K.exact ≡ true) (l
       n = K.out_name lent.0
 
       says : said e ≡ Some n
-      says = written_is said ps named k e puts.placed n puts.pipe_is
+      says = written_is said ps k e puts.placed here n puts.pipe_is
 
       goes_now : (goes xs e ≡ Some n) × (e.pair.0 < next_pair now)
       goes_now = by (names e) refl
@@ -328,23 +364,23 @@ module _ {S O I N : Type 0} (K : Known S O I N) (is_exact : K.exact ≡ true) (l
       apart : (p : PipeId) (y : ℕ × O) → next_pair c ≤ p.pair.0 → made_last p xs ≡ Some y → (b : Bool) → same_pipe p e ≡ b → b ≡ false
       apart p y lt h false g = refl
       apart p y lt h true g = let is_e = same_pipes p e g in absurd (none_some (sym (first (subst (λ (q : PipeId). next_pair c ≤ q.pair.0) is_e lt)) ∙ ap (λ (q : PipeId). made_last q xs) (sym is_e) ∙ h))
-  seal_goes k e xs [] old new past unsettled first puts went = absurd puts
-  seal_goes k e xs (x ∷ []) old new past unsettled first puts went = absurd puts
-  seal_goes k e xs (x ∷ y ∷ z ∷ zs) old new past unsettled first puts went = absurd puts
+  seal_goes k e xs [] old new past unsettled first puts here went = absurd puts
+  seal_goes k e xs (x ∷ []) old new past unsettled first puts here went = absurd puts
+  seal_goes k e xs (x ∷ y ∷ z ∷ zs) old new past unsettled first puts here went = absurd puts
 
   -- parts are rolled back, of a pipe that goes by its name or does not
   parts_go : (k : ℕ) (e : EndId) (xs : List (PipeChange O I × S)) (items : List (O × Unit {0})) (old new behind : S) (past : List PipeStep) → settlement_of c e ≡ None → AllByRecursion (λ x. IsOfPipes c now x.0) xs → DoesChanges K ps new xs behind
-      → PartedBy K ps k e items old new → Went xs old past → Went xs new past
-  parts_go k e xs (lent ∷ back ∷ []) old new behind past unsettled are rest puts went = with_past xs old new past (by (settlement_of now e) (names e) (made_last e xs) refl refl refl) went
+      → PartedBy K ps k e items old new → IsNamedAt k → Went xs old past → Went xs new past
+  parts_go k e xs (lent ∷ back ∷ []) old new behind past unsettled are rest puts here went = with_past xs old new past (by (settlement_of now e) (names e) (made_last e xs) refl refl refl) went
     where
       n : N
       n = K.out_name lent.0
 
       says : said e ≡ Some n
-      says = written_is said ps named k e puts.placed n puts.pipe_is
+      says = written_is said ps k e puts.placed here n puts.pipe_is
 
       but_pipe : KeepsButPipe K n old new
-      but_pipe = record { there = λ m other. puts.keeps.there m; outs = puts.keeps.outs; ins = λ i there other. puts.keeps.ins i there }
+      but_pipe = record { there = puts.keeps.there; outs = puts.keeps.outs; ins = λ i there other. puts.keeps.ins i there }
 
       with_it : goes xs e ≡ Some n → IsPast K (goes xs) capacity new past
       with_it g = law.parted (goes xs) capacity old new past e lent.0 back.0 went.one_name g puts.forgets puts.keeps went.past_is
@@ -360,43 +396,43 @@ module _ {S O I N : Type 0} (K : Known S O I N) (is_exact : K.exact ≡ true) (l
           let mine = go.more e n eh says in
           let is_it = some_same y (mine.capacity, mine.half) (sym (went.rest e y em) ∙ mine.made) in
           without_it (λ q m g same. not_later mine.settles_none e y n (ap (λ (z : ℕ × O). K.out_name z.1) is_it ∙ mine.name_is) behind xs new are rest em (puts.keeps.there n (subst (IsThere K old) same (went.past_is.stands q m g).there)))
-  parts_go k e xs [] old new behind past unsettled are rest puts went = absurd puts
-  parts_go k e xs (x ∷ []) old new behind past unsettled are rest puts went = absurd puts
-  parts_go k e xs (x ∷ y ∷ z ∷ zs) old new behind past unsettled are rest puts went = absurd puts
+  parts_go k e xs [] old new behind past unsettled are rest puts here went = absurd puts
+  parts_go k e xs (x ∷ []) old new behind past unsettled are rest puts here went = absurd puts
+  parts_go k e xs (x ∷ y ∷ z ∷ zs) old new behind past unsettled are rest puts here went = absurd puts
 
   -- a pipe is settled
   settle_goes : (k : ℕ) (e : EndId) (xs : List (PipeChange O I × S)) (old new : S) (past : List PipeStep) → settlement_of c (read_through e) ≡ None → is_some (settlement_of now (read_through e)) ≡ true → SettlesPipe K ps k e old new
-      → Went xs old past → Went xs new past
-  settle_goes k e xs old new past unsettled settled does went = with_past xs old new past (by (settlement_of now (read_through e)) refl settled) went
+      → IsNamedAt k → Went xs old past → Went xs new past
+  settle_goes k e xs old new past unsettled settled does here went = with_past xs old new past (by (settlement_of now (read_through e)) refl settled) went
     where
       at : Stood ps k
       at = stood ps k does.placed.within
 
       name : said (read_through e) ≡ Some at.place.read
-      name = subst (λ (d : EndId). said (read_through d) ≡ Some at.place.read) (does.placed.end_is at.place at.there) (named k at.place at.there).1
+      name = subst (λ (d : EndId). said (read_through d) ≡ Some at.place.read) (does.placed.end_is at.place at.there) (here at.place at.there).1
 
       by : (s : Option Settlement) → settlement_of now (read_through e) ≡ s → is_some s ≡ true → IsPast K (goes xs) capacity new past
       by None h some = absurd (true≢false (sym some))
       by (Some s) h some = law.fewer (goes xs) (goes xs) capacity old new past at.place.read
           (record { were = λ q n g. g; others = gone_name xs (read_through e) at.place.read name unsettled s h }) (does.keeps at.place at.there) went.past_is
 
-  all_go : (xs : List (PipeChange O I × S)) (old new : S) (past : List PipeStep) → AllByRecursion (λ x. IsOfPipes c now x.0) xs → AreMadeBefore c xs → DoesChanges K ps old xs new → Went xs old past → Went [] new (past ++ map Seal (delimited_in xs))
-  all_go [] old new past are firsts does went = subst (λ (l : List PipeStep). Went [] new l) (sym (append-nil past)) (subst (λ (s : S). Went [] s past) (sym does) went)
-  all_go ((Kept, s) ∷ xs) old new past are firsts does went =
+  all_go : (xs : List (PipeChange O I × S)) (old new : S) (past : List PipeStep) → AllByRecursion (λ x. IsOfPipes c now x.0) xs → AreChangesNamed said ps xs → DoesChanges K ps old xs new → Went xs old past → Went [] new (past ++ map Seal (delimited_in xs))
+  all_go [] old new past are names_are does went = subst (λ (l : List PipeStep). Went [] new l) (sym (append-nil past)) (subst (λ (s : S). Went [] s past) (sym does) went)
+  all_go ((Kept, s) ∷ xs) old new past are names_are does went =
       let on = went_on (Kept, s) xs old past (λ p. refl) went in
-      all_go xs s new past are.1 firsts.1 does.1 (with_past xs old s past (law.kept (goes xs) capacity old s past does.0 on.past_is) on)
-  all_go ((Made e n halves, s) ∷ xs) old new past are firsts does went =
-      all_go xs s new past are.1 firsts.1 does.1 (make_goes e n halves.items (Made e n halves, s) xs old s past (λ p. refl) does.0 went)
-  all_go ((Sealed k e half, s) ∷ xs) old new past are firsts does went =
+      all_go xs s new past are.1 names_are.1 does.1 (with_past xs old s past (law.kept (goes xs) capacity old s past does.0 on.past_is) on)
+  all_go ((Made e n halves, s) ∷ xs) old new past are names_are does went =
+      all_go xs s new past are.1 names_are.1 does.1 (make_goes e n halves.items (Made e n halves, s) xs old s past (λ p. refl) does.0 went)
+  all_go ((Sealed k e half, s) ∷ xs) old new past are names_are does went =
       let on = went_on (Sealed k e half, s) xs old past (λ p. refl) went in
       subst (λ (l : List PipeStep). Went [] new l) (append_assoc past (Seal e ∷ []) (map Seal (delimited_in xs)))
-      (all_go xs s new (past ++ Seal e ∷ []) are.1 firsts.1 does.1 (seal_goes k e xs half.items old s past are.0 firsts.0 does.0 on))
-  all_go ((SealedAgain k e, s) ∷ xs) old new past are firsts does went =
-      all_go xs s new past are.1 firsts.1 does.1 (subst (λ (t : S). Went xs t past) (sym does.0.stays) (went_on (SealedAgain k e, s) xs old past (λ p. refl) went))
-  all_go ((Parted k e half, s) ∷ xs) old new past are firsts does went =
-      all_go xs s new past are.1 firsts.1 does.1 (parts_go k e xs half.items old s new past are.0 are.1 does.1 does.0 (went_on (Parted k e half, s) xs old past (λ p. refl) went))
-  all_go ((Settled k e, s) ∷ xs) old new past are firsts does went =
-      all_go xs s new past are.1 firsts.1 does.1 (settle_goes k e xs old s past are.0.0 are.0.1 does.0 (went_on (Settled k e, s) xs old past (λ p. refl) went))
+      (all_go xs s new (past ++ Seal e ∷ []) are.1 names_are.1 does.1 (seal_goes k e xs half.items old s past are.0 (seal_first k e xs half.items old s new are.1 does.1 on.rest does.0 (names_are.0 (omega arith))) does.0 (names_are.0 (omega arith)) on))
+  all_go ((SealedAgain k e, s) ∷ xs) old new past are names_are does went =
+      all_go xs s new past are.1 names_are.1 does.1 (subst (λ (t : S). Went xs t past) (sym does.0.stays) (went_on (SealedAgain k e, s) xs old past (λ p. refl) went))
+  all_go ((Parted k e half, s) ∷ xs) old new past are names_are does went =
+      all_go xs s new past are.1 names_are.1 does.1 (parts_go k e xs half.items old s new past are.0 are.1 does.1 does.0 (names_are.0 (omega arith)) (went_on (Parted k e half, s) xs old past (λ p. refl) went))
+  all_go ((Settled k e, s) ∷ xs) old new past are names_are does went =
+      all_go xs s new past are.1 names_are.1 does.1 (settle_goes k e xs old s past are.0.0 are.0.1 does.0 (names_are.0 (omega arith)) (went_on (Settled k e, s) xs old past (λ p. refl) went))
 
   -- ---- before the first of them
 
@@ -422,7 +458,7 @@ none_at n p le (s ∷ past) all = (by (same_pipe p (pipe_at s)) refl, none_at n 
     by true g = let lt = subst (λ (q : PipeId). q.pair.0 < n) (sym (same_pipes p (pipe_at s) g)) all.0 in absurd (omega (arith, lt, le))
 
 pub changes_go_on : {S O I N : Type 0} (K : Known S O I N) (T : Type 0) → K.exact ≡ true → PastGoesOn K → PastStaysOver K N T → ChangesGoOn K T
-changes_go_on {S} {O} {I} {N} K T is_exact law over io items more run on names said names_made ps named changes old new past go are firsts does stands =
+changes_go_on {S} {O} {I} {N} K T is_exact law over io items more run on names said names_made ps changes named old new past go are does stands =
     record { past_is = went.past_is; one_name = went.one_name; made = went.made }
   where
     c : Control
@@ -434,10 +470,10 @@ changes_go_on {S} {O} {I} {N} K T is_exact law over io items more run on names s
     pairs : next_pair c ≤ next_pair now
     pairs = (grows more c (grows items (begun io) (begun_is io) run).1 on).0.pairs
 
-    had : (p : PipeId) (n : N) → goes K is_exact law c now names said changes (settled_stay more c) pairs names_made go stands.one_name ps named changes p ≡ Some n → (goes_in c names p ≡ Some n) × (names p ≡ Some n)
-    had = had_before K is_exact law c now names said changes (settled_stay more c) pairs names_made go stands.one_name ps named
+    had : (p : PipeId) (n : N) → goes K is_exact law c now names said changes (settled_stay more c) pairs names_made go stands.one_name ps changes p ≡ Some n → (goes_in c names p ≡ Some n) × (names p ≡ Some n)
+    had = had_before K is_exact law c now names said changes (settled_stay more c) pairs names_made go stands.one_name ps
 
-    begins : Went K is_exact law c now names said changes (settled_stay more c) pairs names_made go stands.one_name ps named changes old past
+    begins : Went K is_exact law c now names said changes (settled_stay more c) pairs names_made go stands.one_name ps changes old past
     begins = record {
       one_name = λ p q n x y. stands.one_name p q n (had p n x).0 (had q n y).0;
       past_is = over io items more run on _ old past (λ p n g. names_made p n (had p n g).1) stands.made (fewer_past K (goes_in c names) _ (pipe_capacity c) old past (λ p n g. (had p n g).0) stands.past_is);
@@ -446,5 +482,5 @@ changes_go_on {S} {O} {I} {N} K T is_exact law over io items more run on names s
       rest = λ p y e. e;
     }
 
-    went : Went K is_exact law c now names said changes (settled_stay more c) pairs names_made go stands.one_name ps named [] new (past ++ map Seal (delimited_in changes))
-    went = all_go K is_exact law c now names said changes (settled_stay more c) pairs names_made go stands.one_name ps named changes old new past are firsts does begins
+    went : Went K is_exact law c now names said changes (settled_stay more c) pairs names_made go stands.one_name ps [] new (past ++ map Seal (delimited_in changes))
+    went = all_go K is_exact law c now names said changes (settled_stay more c) pairs names_made go stands.one_name ps changes old new past are named does begins

@@ -1,13 +1,15 @@
 pub mod SettledLemmas
 pub mod ChangeLemmas
-mod SealLemmas
-mod MessageLemmas
-mod SaidLemmas
+pub mod SealLemmas
+pub mod MessageLemmas
+pub mod SaidLemmas
 pub mod AskedLemmas
-mod CallLemmas
-mod GoneLemmas
-mod UnsettledLemmas
-mod OfPipesLemmas
-mod MadeLemmas
-mod HeldRowLemmas
-mod QuietLemmas
+pub mod CallLemmas
+pub mod GoneLemmas
+pub mod UnsettledLemmas
+pub mod OfPipesLemmas
+pub mod MadeLemmas
+pub mod HeldRowLemmas
+pub mod QuietLemmas
+pub mod NamedLemmas
+pub mod CountLemmas

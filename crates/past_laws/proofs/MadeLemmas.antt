@@ -52,7 +52,7 @@ of_last p e false h g = writes_it (h ∙ ap (end_of e.pair.0) (sym g))
 
 module _ {N : Type 0} where
   -- a name behind others
-  name_kept : (e : EndId) (xs ys : List (PipeName N)) (n : N) → name_in e xs ≡ Some n → name_in e (xs ++ ys) ≡ Some n
+  pub name_kept : (e : EndId) (xs ys : List (PipeName N)) (n : N) → name_in e xs ≡ Some n → name_in e (xs ++ ys) ≡ Some n
   name_kept e [] ys n h = absurd (none_some h)
   name_kept e (x ∷ xs) ys n h = by (is_end e x.pipe) (name_kept e xs ys n) h
     where
@@ -60,7 +60,7 @@ module _ {N : Type 0} where
       by true rest g = g
       by false rest g = rest g
 
-  name_more : (e : EndId) (xs ys : List (PipeName N)) (n : N) → name_in e xs ≡ None → name_in e (xs ++ ys) ≡ Some n → name_in e ys ≡ Some n
+  pub name_more : (e : EndId) (xs ys : List (PipeName N)) (n : N) → name_in e xs ≡ None → name_in e (xs ++ ys) ≡ Some n → name_in e ys ≡ Some n
   name_more e [] ys n none h = h
   name_more e (x ∷ xs) ys n none h = by (is_end e x.pipe) (name_more e xs ys n) none h
     where
@@ -69,7 +69,7 @@ module _ {N : Type 0} where
       by true rest f g = absurd (none_some (sym f))
       by false rest f g = rest f g
 
-  named_any : (e : EndId) (ns : List (PipeName N)) (n : N) → name_in e ns ≡ Some n → list_any (is_end e) (map (λ x. x.pipe) ns) ≡ true
+  pub named_any : (e : EndId) (ns : List (PipeName N)) (n : N) → name_in e ns ≡ Some n → list_any (is_end e) (map (λ x. x.pipe) ns) ≡ true
   named_any e [] n h = absurd (none_some h)
   named_any e (x ∷ ns) n h = by (is_end e x.pipe) (named_any e ns n) h
     where
@@ -77,7 +77,7 @@ module _ {N : Type 0} where
       by true rest g = refl
       by false rest g = rest g
 
-  abbrev shown : Joining N → Joins
+  abbrev pub shown : Joining N → Joins
   shown j = record { end = j.end; peer = j.peer; met = j.met }
 
   -- what is so of a pipe of each of the ends that joined

@@ -33,7 +33,7 @@ steps_made : (N T : Type 0) (c : Control) (may : ℕ → Bool) (steps : List Pip
 steps_made N T c may [] at = tt
 steps_made N T c may (s ∷ steps) at = (let made = at.0.made in let same = ap (λ k. k.0) (at_pair s) in omega (arith, made, same), steps_made N T c may steps at.1)
 
-rows_at : {S O I N : Type 0} (K : Known S O I N) (c : Control) (names : PipeId → Option N) → ((p : PipeId) (n : N) → names p ≡ Some n → p.pair.0 < next_pair c) → (o : ℕ) (rows : Rows O I)
+pub rows_at : {S O I N : Type 0} (K : Known S O I N) (c : Control) (names : PipeId → Option N) → ((p : PipeId) (n : N) → names p ≡ Some n → p.pair.0 < next_pair c) → (o : ℕ) (rows : Rows O I)
     → AreNamed K (goes_in c names) (pipe_capacity c) rows → AreOwned c o rows → AreRowsAt c (λ i. i == o) rows
 rows_at K c names made o rows named owned k row there =
     (made row.end (K.out_name row.out) (goes_said c names row.end (K.out_name row.out) (named k row there).0).1, eq-eqb (owner_of c row.end) o (owned k row there))

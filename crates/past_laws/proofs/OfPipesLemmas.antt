@@ -1,6 +1,7 @@
 -- What was done to the pipes of a socket's ends was done to such as may be.
-use Rattle.std.specs.Prelude.{◌≡◌, ◌≤◌, ◌<◌, ◌&&◌, ◌++◌, ℕ, Bool, true, false, not, cond, List, [], ◌∷◌, Some, None, filter, is_some, length, map, refl}
+use Rattle.std.specs.Prelude.{◌≡◌, ◌≤◌, ◌<◌, ◌&&◌, ◌++◌, ℕ, Bool, true, false, not, cond, List, [], ◌∷◌, Option, Some, None, filter, is_some, length, map, refl}
 use Rattle.std.specs.List.{AllByRecursion}
+use Rattle.std.specs.Coded.{codes, ×_prop}
 use Rattle.std.proofs.Common.{arith, sym, ap, ◌∙◌, subst, inl, inr, append-nil, true≢false}
 use Rattle.std.proofs.lemmas.Bool.{cases_order}
 use Rattle.zq_base.specs.declared.ids.EndId.{EndId}
@@ -9,7 +10,7 @@ use Rattle.spec_pattern.specs.PipeStep.{read_through}
 use Rattle.spec_control.specs.declared.end.EndState.TheVariants.{Active, DelimiterGot, WaitDelimiter, AckSent, AskedOnce, AskedTwice, Gone}
 use Rattle.spec_control.specs.declared.entry.Item.{Item}
 use Rattle.spec_control.specs.Place.{Place as Where, Unmade, Away, At, is_here, is_gone}
-use Rattle.spec_control.specs.Control.{Control, begun, next_pair, place_of}
+use Rattle.spec_control.specs.Control.{Control, Settlement, begun, next_pair, place_of}
 use Rattle.spec_control.specs.ControlRun.{after_all, after_item, IsControlRun}
 use Rattle.control_held.specs.Moments.{Moment, moments_from, left_by}
 use Rattle.ctl_holder.specs.Lent.{has_writer}
@@ -25,7 +26,8 @@ use Rattle.held_ends.specs.declared.changes.PipeChange.TheVariants.{Kept, Made, 
 use Rattle.held_ends.specs.Changes.{IsPlaced, PartedBy, sealings_in, DoesChanges, WereHeld}
 use Rattle.past_laws.specs.Changes.{IsOfPipes}
 use Rattle.own_laws.specs.Ends.{is_new, PlacesGoOn}
-use Rattle.past_laws.specs.OfPipes.{ChangesAreOfPipes}
+use Rattle.own_laws.proofs.PlaceLemmas.{run_on, led_on}
+use Rattle.past_laws.specs.OfPipes.{AreHeldSince, ChangesAreOfPipes}
 use Rattle.past_laws.specs.Said.{sealed_with}
 use Rattle.past_laws.specs.Settled.{writes_on, PipesAreSettled}
 use Rattle.past_laws.proofs.ChangeLemmas.{Stood, stood}
@@ -76,6 +78,26 @@ new_not_gone Unmade h = refl
 new_not_gone Away h = refl
 new_not_gone (At state) h = absurd (true≢false (sym h))
 
+-- ---- what changes are of is so in one way
+
+settlement_set : IsSet (Option Settlement)
+settlement_set = Prim.hlevel codes
+
+bool_set : IsSet Bool
+bool_set = Prim.hlevel codes
+
+unit_prop : IsProp (Unit {0})
+unit_prop = Prim.hlevel
+
+pub of_prop : {S O I : Type 0} (c now : Control) (xs : List (PipeChange O I × S)) → IsProp (AllByRecursion (λ x. IsOfPipes c now x.0) xs)
+of_prop c now [] = unit_prop
+of_prop c now ((Kept, s) ∷ xs) = ×_prop unit_prop (of_prop c now xs)
+of_prop c now ((Made e capacity halves, s) ∷ xs) = ×_prop unit_prop (of_prop c now xs)
+of_prop c now ((Sealed k e half, s) ∷ xs) = ×_prop (settlement_set (settlement_of now e) None) (of_prop c now xs)
+of_prop c now ((SealedAgain k e, s) ∷ xs) = ×_prop unit_prop (of_prop c now xs)
+of_prop c now ((Parted k e half, s) ∷ xs) = ×_prop (settlement_set (settlement_of c e) None) (of_prop c now xs)
+of_prop c now ((Settled k e, s) ∷ xs) = ×_prop (×_prop (settlement_set (settlement_of c (read_through e)) None) (bool_set (is_some (settlement_of now (read_through e))) true)) (of_prop c now xs)
+
 -- ---- which ends are told
 
 both : (a b : Bool) → (a && b) ≡ true → a ≡ true
@@ -112,9 +134,9 @@ module _ {S O I N : Type 0} (K : Known S O I N) (ps : List (Place N I)) where
 
   module _ (c now : Control) (was : List (Place N I)) (go : PlacesGoOn c now was ps) where
     -- what is so of an end that was held at a place, and of one that is new, is so of an end at a place
-    at_place : (P : EndId → Type 0) (held : Place N I → Type 0) (k : ℕ) (e : EndId) → IsPlaced ps k e → ((p : Place N I) → place_at was k ≡ Some p → held p) → ((p : Place N I) → place_at was k ≡ Some p → held p → P p.end)
-        → ((d : EndId) → (d.pair.0 < next_pair c → is_new (place_of c d) ≡ true) → P d) → P e
-    at_place P held k e at were old new = elim (cases_order k (length was)) [
+    at_place : (P : EndId → Type 0) (held : Place N I → Type 0) (k : ℕ) (e : EndId) → IsPlaced ps k e → ((p : Place N I) → place_at was k ≡ Some p → held p) → (length was ≤ k → (p : Place N I) → place_at ps k ≡ Some p → p.held ≡ true)
+        → ((p : Place N I) → place_at was k ≡ Some p → held p → P p.end) → ((d : EndId) → (d.pair.0 < next_pair c → is_new (place_of c d) ≡ true) → P d) → P e
+    at_place P held k e at were since old new = elim (cases_order k (length was)) [
       | inl same ↦ came (omega (arith, same))
       | inr (inl below) ↦ (let w = stood was k below in subst P (sym (go.stay k w.place s.place w.there s.there) ∙ is_e) (old w.place w.there (were w.place w.there)))
       | inr (inr above) ↦ came (omega (arith, above))
@@ -127,10 +149,10 @@ module _ {S O I N : Type 0} (K : Known S O I N) (ps : List (Place N I)) where
         is_e = at.end_is s.place s.there
 
         came : length was ≤ k → P e
-        came le = subst P is_e (new s.place.end (go.came k s.place le s.there))
+        came le = subst P is_e (new s.place.end (go.came k s.place le s.there (since le s.place s.there)))
 
 pub changes_are_of_pipes : {S O I N : Type 0} (K : Known S O I N) (T : Type 0) → SealsAreTold N T → PipesAreSettled N T → ChangesAreOfPipes K T
-changes_are_of_pipes {S} {O} {I} {N} K T told settled io items more run on few was ps go changes old new held does before sealed tells grown = walk changes old held does asked
+changes_are_of_pipes {S} {O} {I} {N} K T told settled io items more run on few was ps go changes old new held since does before sealed tells grown = walk changes old held since does asked
   where
     c : Control
     c = after_all items (begun io)
@@ -142,30 +164,36 @@ changes_are_of_pipes {S} {O} {I} {N} K T told settled io items more run on few w
     asked = subst (AllByRecursion (λ e. is_asked_once (place_of now e) ≡ true)) (sym (same_behind before (map (λ x. x.0) (sealings_in changes)) (sealed_with (moments_from c more)) (sym tells.all ∙ grown))) (told_asked told more c few)
 
     goes : IsControlRun (begun io) (items ++ more)
-    goes = both_run items (begun io) run on
-      where
-        both_run : (xs : List (Item N T)) (d : Control) → IsControlRun d xs → IsControlRun (after_all xs d) more → IsControlRun d (xs ++ more)
-        both_run [] d a b = b
-        both_run (x ∷ xs) d a b = (a.0, both_run xs (after_item x d) a.1 b)
+    goes = run_on items more (begun io) run on
 
     state : after_all (items ++ more) (begun io) ≡ now
-    state = both_state items (begun io)
-      where
-        both_state : (xs : List (Item N T)) (d : Control) → after_all (xs ++ more) d ≡ after_all more (after_all xs d)
-        both_state [] d = refl
-        both_state (x ∷ xs) d = both_state xs (after_item x d)
+    state = led_on items more (begun io)
 
     unsettled : (e : EndId) → is_asked_once (place_of now e) ≡ true → settlement_of now e ≡ None
     unsettled e h = subst (λ (d : Control). settlement_of d e ≡ None) state (settled.written io (items ++ more) goes e (ap (λ (d : Control). writes_on (place_of d e)) state ∙ asked_writes (place_of now e) h))
 
-    gone_now : (k : ℕ) (e : EndId) → IsPlaced ps k e → ((p : Place N I) → place_at ps k ≡ Some p → p.held ≡ false) → is_some (settlement_of now (read_through e)) ≡ true
-    gone_now k e at free =
-        let s = stood ps k at.within in
-        let is = go.gone k s.place s.there (free s.place s.there) in
-        let e_is = at.end_is s.place s.there in
-        let gone : place_of now e ≡ At Gone = subst (λ (d : EndId). place_of now d ≡ At Gone) e_is is.gone in
-        subst (λ (d : Control). is_some (settlement_of d (read_through e)) ≡ true) state
-        (settled.gone io (items ++ more) goes e (subst (λ (d : EndId). 0 < d.pair.0) e_is is.above) (subst (λ (d : Control). e.pair.0 < next_pair d) (sym state) (subst (λ (d : EndId). d.pair.0 < next_pair now) e_is is.numbered)) (ap (λ (d : Control). place_of d e) state ∙ gone))
+    gone_now : (k : ℕ) (e : EndId) → IsPlaced ps k e → ((p : Place N I) → place_at ps k ≡ Some p → p.held ≡ false) → ((p : Place N I) → place_at was k ≡ Some p → p.held ≡ true)
+        → (length was ≤ k → (p : Place N I) → place_at ps k ≡ Some p → p.held ≡ true) → is_some (settlement_of now (read_through e)) ≡ true
+    gone_now k e at free were since = elim (cases_order k (length was)) [
+      | inl same ↦ absurd (never (omega (arith, same)))
+      | inr (inl below) ↦ by_gone below
+      | inr (inr above) ↦ absurd (never (omega (arith, above)))
+    ]
+      where
+        s : Stood ps k
+        s = stood ps k at.within
+
+        never : length was ≤ k → ⊥
+        never le = true≢false (sym (since le s.place s.there) ∙ free s.place s.there)
+
+        by_gone : k < length was → is_some (settlement_of now (read_through e)) ≡ true
+        by_gone below =
+            let w = stood was k below in
+            let is = go.gone k w.place s.place w.there (were w.place w.there) s.there (free s.place s.there) in
+            let e_is = at.end_is s.place s.there in
+            let gone : place_of now e ≡ At Gone = subst (λ (d : EndId). place_of now d ≡ At Gone) e_is is.gone in
+            subst (λ (d : Control). is_some (settlement_of d (read_through e)) ≡ true) state
+            (settled.gone io (items ++ more) goes e (subst (λ (d : EndId). 0 < d.pair.0) e_is is.above) (subst (λ (d : Control). e.pair.0 < next_pair d) (sym state) (subst (λ (d : EndId). d.pair.0 < next_pair now) e_is is.numbered)) (ap (λ (d : Control). place_of d e) state ∙ gone))
 
     -- of an end that is new neither pipe was settled
     new_written : (d : EndId) → (d.pair.0 < next_pair c → is_new (place_of c d) ≡ true) → settlement_of c d ≡ None
@@ -182,22 +210,22 @@ changes_are_of_pipes {S} {O} {I} {N} K T told settled io items more run on few w
       | inr (inr above) ↦ settled.unnumbered io items run (read_through d) (omega (arith, above))
     ]
 
-    walk : (xs : List (PipeChange O I × S)) (old : S) → WereHeld was xs → DoesChanges K ps old xs new → AllByRecursion (λ e. is_asked_once (place_of now e) ≡ true) (map (λ x. x.0) (sealings_in xs)) → AllByRecursion (λ x. IsOfPipes c now x.0) xs
-    walk [] old held does all = tt
-    walk ((Kept, s) ∷ xs) old held does all = (tt, walk xs s held.1 does.1 all)
-    walk ((Made e capacity halves, s) ∷ xs) old held does all = (tt, walk xs s held.1 does.1 all)
-    walk ((Sealed k e half, s) ∷ xs) old held does all = (unsettled e all.0, walk xs s held.1 does.1 all.1)
-    walk ((SealedAgain k e, s) ∷ xs) old held does all = (tt, walk xs s held.1 does.1 all.1)
-    walk ((Parted k e half, s) ∷ xs) old held does all = (
-      at_place K ps c now was go (λ d. settlement_of c d ≡ None) (λ p. (p.held ≡ true) × (p.writes ≡ true)) k e (parted_at K ps k e half.items old s does.0) held.0
+    walk : (xs : List (PipeChange O I × S)) (old : S) → WereHeld was xs → AreHeldSince (length was) ps xs → DoesChanges K ps old xs new → AllByRecursion (λ e. is_asked_once (place_of now e) ≡ true) (map (λ x. x.0) (sealings_in xs)) → AllByRecursion (λ x. IsOfPipes c now x.0) xs
+    walk [] old held since does all = tt
+    walk ((Kept, s) ∷ xs) old held since does all = (tt, walk xs s held.1 since.1 does.1 all)
+    walk ((Made e capacity halves, s) ∷ xs) old held since does all = (tt, walk xs s held.1 since.1 does.1 all)
+    walk ((Sealed k e half, s) ∷ xs) old held since does all = (unsettled e all.0, walk xs s held.1 since.1 does.1 all.1)
+    walk ((SealedAgain k e, s) ∷ xs) old held since does all = (tt, walk xs s held.1 since.1 does.1 all.1)
+    walk ((Parted k e half, s) ∷ xs) old held since does all = (
+      at_place K ps c now was go (λ d. settlement_of c d ≡ None) (λ p. (p.held ≡ true) × (p.writes ≡ true)) k e (parted_at K ps k e half.items old s does.0) held.0 since.0
           (λ p at h. settled.written io items run p.end (has_writes (place_of c p.end) ((go.held k p at h.0).writes h.1))) new_written,
-      walk xs s held.1 does.1 all,
+      walk xs s held.1 since.1 does.1 all,
     )
-    walk ((Settled k e, s) ∷ xs) old held does all = (
+    walk ((Settled k e, s) ∷ xs) old held since does all = (
       (
-        at_place K ps c now was go (λ d. settlement_of c (read_through d) ≡ None) (λ p. p.held ≡ true) k e does.0.placed held.0
+        at_place K ps c now was go (λ d. settlement_of c (read_through d) ≡ None) (λ p. p.held ≡ true) k e does.0.placed held.0 since.0
             (λ p at h. settled.read io items run p.end (here_not_gone (place_of c p.end) (go.held k p at h).here)) new_read,
-        gone_now k e does.0.placed does.0.gone,
+        gone_now k e does.0.placed does.0.gone held.0 since.0,
       ),
-      walk xs s held.1 does.1 all,
+      walk xs s held.1 since.1 does.1 all,
     )

@@ -17,7 +17,7 @@ seals_over : (es fs : List EndId) → map Seal (es ++ fs) ≡ map Seal es ++ map
 seals_over [] fs = refl
 seals_over (e ∷ es) fs = ap (λ (l : List PipeStep). Seal e ∷ l) (seals_over es fs)
 
-step_seals : (N T : Type 0) (es : List EndId) → steps_in (map (λ e. let a : Act N T = Step (Seal e) in a) es) ≡ map Seal es
+pub step_seals : (N T : Type 0) (es : List EndId) → steps_in (map (λ e. let a : Act N T = Step (Seal e) in a) es) ≡ map Seal es
 step_seals N T [] = refl
 step_seals N T (e ∷ es) = ap (λ (l : List PipeStep). Seal e ∷ l) (step_seals N T es)
 

@@ -16,19 +16,18 @@ use Rattle.held_ends.specs.Changes.{sealings_in, DoesChanges}
 use Rattle.held_ends.specs.declared.table.Place.{Place}
 use Rattle.sock_core.specs.Noted.{TellsSeals}
 use Rattle.core_stands.specs.Standing.{PastStands}
-use Rattle.past_laws.specs.Changes.{IsOfPipes, AreMadeBefore, ArePlacesNamed, NamesGoOn}
+use Rattle.past_laws.specs.Changes.{IsOfPipes, AreChangesNamed, NamesGoOn}
 use Rattle.past_laws.specs.Said.{sealed_with}
 use Rattle.past_laws.specs.Asked.{WereAsked}
 
 module _ {S O I N : Type 0} (K : Known S O I N) where
-  -- a socket's calls, from one control state to another: they did these changes at pipes that go by the names of its places, made those that go by names since, and told it to seal just what their moments tell
+  -- a socket's calls, from one control state to another: they did these changes at pipes that go by the names at their places, made those that go by names since, and told it to seal just what their moments tell
   pub record CallsChange {T : Type 0} (c now : Control) (names said : PipeId → Option N) (ms : List (Moment N T)) (ps : List (Place N I)) (before sealed : List EndId) (old new : S) : Type 0 where
     pub names_made : (p : PipeId) (n : N) → names p ≡ Some n → p.pair.0 < next_pair c
-    pub named : ArePlacesNamed said ps
     pub changes : List (PipeChange O I × S)
+    pub named : AreChangesNamed said ps changes
     pub names_go : NamesGoOn K c now changes names said
     pub of_pipes : AllByRecursion (λ x. IsOfPipes c now x.0) changes
-    pub made_before : AreMadeBefore c changes
     pub does : DoesChanges K ps old changes new
     pub seals : TellsSeals before (sealings_in changes) sealed
     pub grown : sealed ≡ before ++ sealed_with ms

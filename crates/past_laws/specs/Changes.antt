@@ -14,6 +14,7 @@ use Rattle.held_ends.specs.Places.{place_at}
 use Rattle.held_ends.specs.declared.changes.PipeChange.{PipeChange}
 use Rattle.held_ends.specs.declared.changes.PipeChange.TheVariants.{Kept, Made, Sealed, SealedAgain, Parted, Settled}
 use Rattle.held_ends.specs.Changes.{sealings_in, made_last, DoesChanges}
+use Rattle.sock_core.specs.Came.{AreChangedAt}
 use Rattle.sock_core.specs.Noted.{TellsSeals}
 use Rattle.core_stands.specs.Standing.{PastStands}
 
@@ -42,25 +43,19 @@ IsOfPipes c now (SealedAgain k e) = Unit {0}
 IsOfPipes c now (Parted k e half) = settlement_of c e ≡ None
 IsOfPipes c now (Settled k e) = (settlement_of c (read_through e) ≡ None) × (is_some (settlement_of now (read_through e)) ≡ true)
 
--- a pipe of a pair that had no number got its delimiter once it was made: it was not made afterwards
-abbrev pub IsMadeBefore : {O I S : Type 0} → Control → PipeChange O I → (then : List (PipeChange O I × S)) → Type 0
-IsMadeBefore c Kept then = Unit {0}
-IsMadeBefore c (Made e capacity halves) then = Unit {0}
-IsMadeBefore c (Sealed k e half) then = next_pair c ≤ e.pair.0 → made_last e then ≡ None
-IsMadeBefore c (SealedAgain k e) then = Unit {0}
-IsMadeBefore c (Parted k e half) then = Unit {0}
-IsMadeBefore c (Settled k e) then = Unit {0}
-
--- by all these changes, in order
-abbrev pub AreMadeBefore : {O I S : Type 0} → Control → List (PipeChange O I × S) → Type 0
-AreMadeBefore c [] = Unit {0}
-AreMadeBefore c (x ∷ xs) = IsMadeBefore c x.0 xs × AreMadeBefore c xs
-
 -- ---- the names of pipes
 
--- the pipes of each end have the names that stand at its place
+-- the pipes of an end have the names that stand at its place
+abbrev pub IsPlaceNamed : {N I : Type 0} → (PipeId → Option N) → Place N I → Type 0
+IsPlaceNamed names p = (names p.end ≡ Some p.written) × (names (read_through p.end) ≡ Some p.read)
+
+-- so do those of each end
 abbrev pub ArePlacesNamed : {N I : Type 0} → (PipeId → Option N) → List (Place N I) → Type 0
-ArePlacesNamed {N} {I} names ps = (k : ℕ) (p : Place N I) → place_at ps k ≡ Some p → (names p.end ≡ Some p.written) × (names (read_through p.end) ≡ Some p.read)
+ArePlacesNamed {N} {I} names ps = (k : ℕ) (p : Place N I) → place_at ps k ≡ Some p → IsPlaceNamed names p
+
+-- so do those of each end at whose place something was changed
+abbrev pub AreChangesNamed : {N O I S : Type 0} → (PipeId → Option N) → List (Place N I) → List (PipeChange O I × S) → Type 0
+AreChangesNamed names ps changes = AreChangedAt (λ k p. IsPlaceNamed names p) 0 ps changes
 
 module _ {S O I N : Type 0} (K : Known S O I N) (c now : Control) (changes : List (PipeChange O I × S)) where
   -- A pipe that goes by a name since the calls is of a pair that got its number in them, while no pipe was settled. It was made, last with this half, and holds its capacity.
@@ -87,8 +82,8 @@ ChangesGoOn {S} {O} {I} {N} K T = (io : ℕ) (items more : List (Item N T)) → 
     let c = after_all items (begun io) in
     let now = after_all more c in
     (names said : PipeId → Option N) → ((p : PipeId) (n : N) → names p ≡ Some n → p.pair.0 < next_pair c) →
-    (ps : List (Place N I)) → ArePlacesNamed said ps → (changes : List (PipeChange O I × S)) (old new : S) (past : List PipeStep) →
-    NamesGoOn K c now changes names said → AllByRecursion (λ x. IsOfPipes c now x.0) changes → AreMadeBefore c changes → DoesChanges K ps old changes new →
+    (ps : List (Place N I)) (changes : List (PipeChange O I × S)) → AreChangesNamed said ps changes → (old new : S) (past : List PipeStep) →
+    NamesGoOn K c now changes names said → AllByRecursion (λ x. IsOfPipes c now x.0) changes → DoesChanges K ps old changes new →
     PastStands K c names old past → PastStands K now said new (past ++ map Seal (delimited_in changes))
 
 -- these ends are new behind those before, and two by two different

@@ -8,3 +8,4 @@ pub mod OfPipes
 pub mod Made
 pub mod HeldRows
 pub mod Quiet
+pub mod Named

@@ -5,6 +5,7 @@ ghost use Rattle.past_laws.specs.Changes.{ChangesGoOn, SealsAreNew};
 ghost use Rattle.past_laws.specs.HeldRows.{HeldRowsAreNamed};
 ghost use Rattle.past_laws.specs.Made.{MadeNamesGoOn};
 ghost use Rattle.past_laws.specs.Messages.{MessagesGoOn};
+ghost use Rattle.past_laws.specs.Named.{NamesAreMade};
 ghost use Rattle.past_laws.specs.OfPipes.{ChangesAreOfPipes};
 ghost use Rattle.past_laws.specs.Quiet.{QuietCallsGoOn};
 ghost use Rattle.past_laws.specs.Said.{StepsAreSaid};
@@ -117,9 +118,12 @@ pub fn made_names_go_on<P: Pipes, T>(_pipes: &P)
     made_pipes_hold::<P::Name, T>();
 }
 
-/// Calls in which no pair got its number made no pipe that goes by a name.
-pub fn quiet_calls_go_on<P: Pipes, T>(_pipes: &P)
-    ensures { QuietCallsGoOn P.known T }
-{
-    ends_are_sealed_once::<P::Name, T>();
-}
+/// Calls in which no pipe got a name made none that goes by a name.
+pub fn quiet_calls_go_on<P: Pipes>(_pipes: &P)
+    ensures { QuietCallsGoOn P.known }
+{}
+
+/// A pipe with a name is of a pair that has its number.
+pub fn names_are_made<N, S>()
+    ensures { NamesAreMade N S }
+{}

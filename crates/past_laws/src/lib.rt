@@ -6,6 +6,6 @@ mod laws;
 
 pub use laws::{
     changes_are_of_pipes, changes_go_on, ends_are_sealed_once, held_rows_are_named,
-    made_names_go_on, messages_go_on, pipes_are_settled, quiet_calls_go_on, seals_are_new,
-    settled_ends_are_gone, socket_calls_go_on, steps_are_said,
+    made_names_go_on, messages_go_on, names_are_made, pipes_are_settled, quiet_calls_go_on,
+    seals_are_new, settled_ends_are_gone, socket_calls_go_on, steps_are_said,
 };

@@ -2,7 +2,6 @@
 use Rattle.std.proofs.Common.{◌≡◌, ◌++◌, ◌∙◌, ℕ, List, [], ◌∷◌, Option, Some, None, drop, length, map, refl, sym, ap, subst, arith}
 use Rattle.std.specs.Prelude.{flat_map, suc}
 use Rattle.std.specs.List.{AllByRecursion}
-use Rattle.std.specs.Option.{option_or}
 use Rattle.std.proofs.Math.Logic.{∥∥₁_map}
 use Rattle.zq_base.specs.declared.ids.EndId.{EndId}
 use Rattle.zq_base.specs.Ends.{PipeId}
@@ -16,7 +15,6 @@ use Rattle.spec_run.specs.Event.{seals_in}
 use Rattle.held_ends.specs.declared.changes.PipeChange.{PipeChange}
 use Rattle.held_ends.specs.declared.changes.PipeChange.TheVariants.{Kept, Made, Sealed, SealedAgain, Parted, Settled}
 use Rattle.held_ends.specs.declared.table.Place.{Place}
-use Rattle.held_ends.specs.Changes.{made_last}
 use Rattle.held_ends.specs.Others.{KeepsPlaces}
 use Rattle.held_ends.proofs.EndsLemmas.{some_place}
 use Rattle.held_ends.proofs.PlaceLemmas.{place_within}
@@ -24,11 +22,11 @@ use Rattle.core_laws.specs.Past.{PastStaysOver}
 use Rattle.core_stands.specs.Standing.{PastStands, goes_in, unless_settled}
 use Rattle.past_laws.specs.Asked.{WereAsked, EndsAreSealedOnce}
 use Rattle.past_laws.specs.Calls.{SocketCallsGoOn}
-use Rattle.past_laws.specs.Changes.{AreMadeBefore, ArePlacesNamed, IsOfPipes}
-use Rattle.past_laws.proofs.ChangeLemmas.{goes_said}
+use Rattle.past_laws.specs.Changes.{ArePlacesNamed, IsOfPipes}
+use Rattle.past_laws.proofs.ChangeLemmas.{changes_named, goes_said}
 use Rattle.past_laws.proofs.SettledLemmas.{settled_stay}
 use Rattle.reaper_ends.specs.declared.sockets.ClosedSockets.{ClosedSockets}
-use Rattle.reaper_ends.specs.Noted.{unplaced, sealed_ends, StoodFirst, first_places, HasDoneTo}
+use Rattle.reaper_ends.specs.Noted.{unplaced, sealed_ends, first_places, HasDoneTo}
 use Rattle.reap_laws.specs.Calls.{came_since, told_since, ReaperChanges, ReaperCallsGoOn}
 use Rattle.reap_laws.proofs.StillLemmas.{only_seals, still_stands}
 
@@ -59,25 +57,6 @@ named_same names said same ps named k p at = let was = named k p at in (same p.e
 
 none_some : {X : Type 0} {x : X} → None ≡ Some x → ⊥
 none_some e = Prim.grind arith
-
--- no pipe was made
-made_last_none : {S O I N : Type 0} (fs : List (Place N I)) (e : EndId) (xs : List (PipeChange O I × S)) → AllByRecursion (λ x. StoodFirst fs x.0) xs → made_last e xs ≡ None
-made_last_none fs e [] all = refl
-made_last_none fs e ((Kept, s) ∷ xs) all = ap (λ o. option_or o None) (made_last_none fs e xs all.1)
-made_last_none fs e ((Made f capacity halves, s) ∷ xs) all = absurd all.0
-made_last_none fs e ((Sealed k f half, s) ∷ xs) all = ap (λ o. option_or o None) (made_last_none fs e xs all.1)
-made_last_none fs e ((SealedAgain k f, s) ∷ xs) all = ap (λ o. option_or o None) (made_last_none fs e xs all.1)
-made_last_none fs e ((Parted k f half, s) ∷ xs) all = ap (λ o. option_or o None) (made_last_none fs e xs all.1)
-made_last_none fs e ((Settled k f, s) ∷ xs) all = ap (λ o. option_or o None) (made_last_none fs e xs all.1)
-
-made_none : {S O I N : Type 0} (c : Control) (fs : List (Place N I)) (xs : List (PipeChange O I × S)) → AllByRecursion (λ x. StoodFirst fs x.0) xs → AreMadeBefore c xs
-made_none c fs [] all = tt
-made_none c fs ((Kept, s) ∷ xs) all = (tt, made_none c fs xs all.1)
-made_none c fs ((Made f capacity halves, s) ∷ xs) all = absurd all.0
-made_none c fs ((Sealed k f half, s) ∷ xs) all = (λ le. made_last_none fs f xs all.1, made_none c fs xs all.1)
-made_none c fs ((SealedAgain k f, s) ∷ xs) all = (tt, made_none c fs xs all.1)
-made_none c fs ((Parted k f half, s) ∷ xs) all = (tt, made_none c fs xs all.1)
-made_none c fs ((Settled k f, s) ∷ xs) all = (tt, made_none c fs xs all.1)
 
 -- which pipes changes are of does not depend on places
 of_placed : {S O I : Type 0} (c now : Control) (xs : List (PipeChange O I × S)) → AllByRecursion (λ x. IsOfPipes c now x.0) (unplaced xs) → AllByRecursion (λ x. IsOfPipes c now x.0) xs
@@ -112,10 +91,9 @@ module _ {S O I N : Type 0} (K : Known S O I N) (T : Type 0) (law : SocketCallsG
       let result = law io items more run on names said done.places sealed (sealed ++ done.told) old new past
       (record {
         names_made = r.names_made;
-        named = still_named said first done.places done.count done.keeps (named_same names said r.names_same first (subst (λ x. ArePlacesNamed names (first_places K.in_name from x)) same r.named));
         changes = done.placed;
+        named = changes_named said done.places (still_named said first done.places done.count done.keeps (named_same names said r.names_same first (subst (λ x. ArePlacesNamed names (first_places K.in_name from x)) same r.named))) done.placed;
         names_go = record { kept = λ p n is. r.names_same p ∙ is; more = λ p n none is. absurd (none_some (sym none ∙ sym (r.names_same p) ∙ is)) };
-        made_before = made_none c first done.placed done.wrote;
         of_pipes = of_placed c now done.placed (subst (AllByRecursion (λ x. IsOfPipes c now x.0)) (sym done.noted) r.of_pipes);
         does = done.does;
         seals = record { all = ap (λ (l : List EndId). sealed ++ l) done.seals; again = done.again };

@@ -29,14 +29,14 @@ use Rattle.reap_laws.specs.Here.{ReaperEndsAreHere}
 
 module _ {N O I : Type 0} (in_name : I → N) where
   -- what is said of an end by the control state
-  record IsHere (c : Control) (names : PipeId → Option N) (g : Given N O I) : Type 0 where
-    written : names g.end ≡ Some g.written
-    read : names (read_through g.end) ≡ Some (in_name g.input)
-    here : is_here (place_of c g.end) ≡ true
-    writes : is_some g.out ≡ true → has_writer (place_of c g.end) ≡ true
+  pub record IsHere (c : Control) (names : PipeId → Option N) (g : Given N O I) : Type 0 where
+    pub written : names g.end ≡ Some g.written
+    pub read : names (read_through g.end) ≡ Some (in_name g.input)
+    pub here : is_here (place_of c g.end) ≡ true
+    pub writes : is_some g.out ≡ true → has_writer (place_of c g.end) ≡ true
 
   -- and so of each by its place
-  at_its_place : (P : Given N O I → Type 0) (gs : List (Given N O I)) → All P gs → (k : ℕ) (p : Place N I) → place_at (map (place_given in_name) gs) k ≡ Some p → (g : Given N O I) × (p ≡ place_given in_name g) × P g
+  pub at_its_place : (P : Given N O I → Type 0) (gs : List (Given N O I)) → All P gs → (k : ℕ) (p : Place N I) → place_at (map (place_given in_name) gs) k ≡ Some p → (g : Given N O I) × (p ≡ place_given in_name g) × P g
   at_its_place P [] all k p at = absurd (none at)
     where
       none : place_at {N = N} {I = I} [] k ≡ Some p → ⊥
@@ -51,7 +51,7 @@ module _ {N O I : Type 0} (in_name : I → N) where
         let x = at_its_place (λ y. AreTwo exact (held_given out_name in_name g) (held_given out_name in_name y)) gs (from_map (AreTwo exact (held_given out_name in_name g)) (held_given out_name in_name) gs all) k p at in
         x.2.ends (same ∙ ap (λ (y : Place N I). y.end) x.1)
 
-    one_place : (gs : List (Given N O I)) → AllTwo exact (map (held_given out_name in_name) gs) → (j k : ℕ) (p q : Place N I) → place_at (map (place_given in_name) gs) j ≡ Some p → place_at (map (place_given in_name) gs) k ≡ Some q → p.end ≡ q.end → j ≡ k
+    pub one_place : (gs : List (Given N O I)) → AllTwo exact (map (held_given out_name in_name) gs) → (j k : ℕ) (p q : Place N I) → place_at (map (place_given in_name) gs) j ≡ Some p → place_at (map (place_given in_name) gs) k ≡ Some q → p.end ≡ q.end → j ≡ k
     one_place [] two j k p q a b same = absurd (none a)
       where
         none : place_at {N = N} {I = I} [] j ≡ Some p → ⊥
@@ -77,7 +77,7 @@ module _ {S O I N : Type 0} (K : Known S O I N) (c : Control) (names : PipeId �
   abbrev hold : List (Given N O I) → List (Held N)
   hold gs = map (held_given K.out_name K.in_name) gs
 
-  of_socket : (i : ℕ) → list_any (is_socket i) closed.sockets.items ≡ true → All (IsHere K.in_name c names) (ends_of closed.sockets.items i)
+  pub of_socket : (i : ℕ) → list_any (is_socket i) closed.sockets.items ≡ true → All (IsHere K.in_name c names) (ends_of closed.sockets.items i)
   of_socket i there = λ k d lt. record {
     written = (named k d lt).written;
     read = (named k d lt).read;
@@ -93,7 +93,7 @@ module _ {S O I N : Type 0} (K : Known S O I N) (c : Control) (names : PipeId �
           (from_map (λ e. is_here (place_by c.rows.pairs e) ≡ true) (λ (x : Held N). x.end) (hold (ends_of closed.sockets.items i))
           (subst (All (λ e. is_here (place_by c.rows.pairs e) ≡ true)) (sym (has i there).ends) (filter_passes (λ e. is_here (place_by c.rows.pairs e)) (filter (λ e. owner_by c.rows.pairs e == i) c.attached))))
 
-  all_here : All (IsHere K.in_name c names) (all_ends closed.sockets.items)
+  pub all_here : All (IsHere K.in_name c names) (all_ends closed.sockets.items)
   all_here = all_in (IsHere K.in_name c names) closed.sockets.items (sound_of K pipes closed.sockets.items sound).alone of_socket
 
   find : (k : ℕ) (p : Place N I) → place_at (map (place_given K.in_name) (all_ends closed.sockets.items)) k ≡ Some p → (g : Given N O I) × (p ≡ place_given K.in_name g) × IsHere K.in_name c names g

@@ -3,3 +3,8 @@ pub mod CallLemmas
 pub mod MoveLemmas
 pub mod HereLemmas
 pub mod LookLemmas
+pub mod SealedLemmas
+pub mod CameLemmas
+pub mod GoLemmas
+pub mod CountLemmas
+pub mod NumberLemmas

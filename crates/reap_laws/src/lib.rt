@@ -5,5 +5,7 @@
 mod laws;
 
 pub use laws::{
-    reaper_calls_go_on, reaper_changes_are_of_pipes, reaper_ends_are_here, reaper_looks_go_on,
+    asked_go_on, no_socket_comes, one_socket_comes, reaper_calls_go_on,
+    reaper_changes_are_of_pipes, reaper_counts_go_on, reaper_ends_are_here, reaper_ends_came,
+    reaper_ends_go_on, reaper_ends_were_asked, reaper_looks_go_on,
 };

@@ -126,49 +126,94 @@ ending_lives Ending h = refl
 ending_lives Finished h = absurd (never h)
 ending_lives Cleared h = absurd (never h)
 
--- a request that is not refused and was not made before
-requested_event : (req : Req) (h : Answers) (c : Control) → MayAsk c req → (req ≡ AskTerm → root_asked c ≡ false) → EventOut (asker_of req) c (requested req h c)
-requested_event (MakeSocket kind options) h c may unasked = none_ends (keeps_more (makes_keeps (socket_row kind options c) c refl) (of_same (makes (socket_row kind options c) c) _ refl refl))
-requested_event AskTerm h c may unasked =
-    with_living 0 c _ (out_more (keeps_more (plain_link root_no_ack 0 c) (stop_sockets_keeps (length c.rows.objects) (link RootAsked 0 c)))
-    (try_end_out 0 h.left (stop_sockets (length c.rows.objects) (link RootAsked 0 c)))) (alive_lives (obj c.rows 0).stage (unasked refl))
-requested_event (Bind o (Inproc name)) h c may unasked =
+-- a request that may end an object: the root's asking, and that a session's output is over
+abbrev pub may_end_one : Req → Bool
+may_end_one (MakeSocket kind options) = false
+may_end_one AskTerm = true
+may_end_one (Bind o at) = false
+may_end_one (Connect o at) = false
+may_end_one (Unbind o at) = false
+may_end_one (Disconnect o at) = false
+may_end_one (Close o) = false
+may_end_one (Accepted o) = false
+may_end_one (Shaken o peer) = false
+may_end_one (AskEnd e why) = false
+may_end_one (AskOver o) = false
+may_end_one (OutputOver o) = true
+
+-- none ends in any other that is not refused
+pub quiet_keeps : (req : Req) (h : Answers) (c : Control) → may_end_one req ≡ false → Keeps c (requested req h c)
+quiet_keeps (MakeSocket kind options) h c quiet = keeps_more (makes_keeps (socket_row kind options c) c refl) (of_same (makes (socket_row kind options c) c) _ refl refl)
+quiet_keeps AskTerm h c quiet = absurd (never (sym quiet))
+quiet_keeps (Bind o (Inproc name)) h c quiet =
     let binding = binding_by o.0 c in
     let held = with_hold o.0 (Bound (Inproc name) None) (named o.0 (Inproc name) binding c) in
     let now = record held { names = waiting_now (filter (λ w. not (is_fulfilled (Inproc name) binding w)) held.names.waiting) held.names } in
-    none_ends (keeps_more (of_same c now refl refl) (fulfil_all_keeps o.0 (Inproc name) (fulfilled_by (Inproc name) binding c.names) h now))
-requested_event (Bind o (Tcp address)) h c may unasked =
+    keeps_more (of_same c now refl refl) (fulfil_all_keeps o.0 (Inproc name) (fulfilled_by (Inproc name) binding c.names) h now)
+quiet_keeps (Bind o (Tcp address)) h c quiet =
     let d = with_hold o.0 (Bound (Tcp address) (Some (next_object c))) (named o.0 (Tcp address) (binding_by o.0 c) c) in
     let made = makes (listener_row o.0 c) d in
-    none_ends (keeps_more (of_same c d refl refl) (keeps_more (makes_keeps (listener_row o.0 c) d refl) (of_same made _ refl refl)))
-requested_event (Connect o (Inproc name)) h c may unasked = none_ends (connects_to_keeps o.0 (Inproc name) (c.names.held (Inproc name)) h c)
-requested_event (Connect o (Tcp address)) h c may unasked =
+    keeps_more (of_same c d refl refl) (keeps_more (makes_keeps (listener_row o.0 c) d refl) (of_same made _ refl refl))
+quiet_keeps (Connect o (Inproc name)) h c quiet = connects_to_keeps o.0 (Inproc name) (c.names.held (Inproc name)) h c
+quiet_keeps (Connect o (Tcp address)) h c quiet =
     let child = next_object c in
     let mine = end_of (next_pair c) true in
     let d = with_hold o.0 (Joined (Tcp address) (next_pair c) (Some child)) c in
     let made = makes (session_row o.0 c) d in
     let drawn = draws o.0 child made in
-    none_ends (keeps_more (of_same c d refl refl) (keeps_more (makes_keeps (session_row o.0 c) d refl)
-    (greeted (h.kind mine) mine made (open_pair mine (Plug (Some (end_of (next_pair c) false))) (put o.0 (Own (id child)) drawn)) refl refl)))
-requested_event (Unbind o at) h c may unasked =
+    keeps_more (of_same c d refl refl) (keeps_more (makes_keeps (session_row o.0 c) d refl)
+    (greeted (h.kind mine) mine made (open_pair mine (Plug (Some (end_of (next_pair c) false))) (put o.0 (Own (id child)) drawn)) refl refl))
+quiet_keeps (Unbind o at) h c quiet =
     let d = record c { holds = with_value o.0 (without_first (is_bind_to at) (c.holds o.0)) c.holds } in
-    none_ends (keeps_more (of_same c d refl refl) (strikes_keeps o.0 at (find (is_bind_to at) (c.holds o.0)) d))
-requested_event (Disconnect o at) h c may unasked =
+    keeps_more (of_same c d refl refl) (strikes_keeps o.0 at (find (is_bind_to at) (c.holds o.0)) d)
+quiet_keeps (Disconnect o at) h c quiet =
     let d = record c { holds = with_value o.0 (without_first (is_connect_to at) (c.holds o.0)) c.holds } in
-    none_ends (keeps_more (of_same c d refl refl) (strikes_keeps o.0 at (find (is_connect_to at) (c.holds o.0)) d))
-requested_event (Close o) h c may unasked =
+    keeps_more (of_same c d refl refl) (strikes_keeps o.0 at (find (is_connect_to at) (c.holds o.0)) d)
+quiet_keeps (Close o) h c quiet =
     let d = record c { closed = c.closed ++ o ∷ [] } in
-    none_ends (keeps_more (of_same c d refl refl) (keeps_more (plain_link over_no_ack o.0 d) (of_same (link AsksOver o.0 d) (put 0 (Reap o) (link AsksOver o.0 d)) refl refl)))
-requested_event (Accepted o) h c may unasked =
+    keeps_more (of_same c d refl refl) (keeps_more (plain_link over_no_ack o.0 d) (of_same (link AsksOver o.0 d) (put 0 (Reap o) (link AsksOver o.0 d)) refl refl))
+quiet_keeps (Accepted o) h c quiet =
     let made = makes (accepted_row o.0 c) c in
-    none_ends (keeps_more (makes_keeps (accepted_row o.0 c) c refl) (of_same made _ refl refl))
-requested_event (Shaken o peer) h c may unasked =
+    keeps_more (makes_keeps (accepted_row o.0 c) c refl) (of_same made _ refl refl)
+quiet_keeps (Shaken o peer) h c quiet =
     let mine = end_of (pair_or_none (obj c.rows o.0).pair) true in
-    none_ends (greeted (h.kind mine) mine c (open_pair mine (PipeBind (end_of mine.pair.0 false) peer.identity) c) refl refl)
-requested_event (AskEnd e why) h c may unasked = none_ends (keeps_more (uses_reason_keeps why (owner_of c e) c) (ask_keeps why false e (uses_reason why (owner_of c e) c)))
-requested_event (AskOver o) h c may unasked =
-    none_ends (keeps_more (plain_link over_no_ack o.0 c) (of_same (link AsksOver o.0 c) (put (owner_or_root (obj c.rows o.0).owner) (TermReq o) (link AsksOver o.0 c)) refl refl))
-requested_event (OutputOver o) h c may unasked = with_living o.0 c _ (try_end_out o.0 h.left c) (ending_lives (obj c.rows o.0).stage (left_of (is_ending (obj c.rows o.0).stage) _ may.may))
+    greeted (h.kind mine) mine c (open_pair mine (PipeBind (end_of mine.pair.0 false) peer.identity) c) refl refl
+quiet_keeps (AskEnd e why) h c quiet = keeps_more (uses_reason_keeps why (owner_of c e) c) (ask_keeps why false e (uses_reason why (owner_of c e) c))
+quiet_keeps (AskOver o) h c quiet =
+    keeps_more (plain_link over_no_ack o.0 c) (of_same (link AsksOver o.0 c) (put (owner_or_root (obj c.rows o.0).owner) (TermReq o) (link AsksOver o.0 c)) refl refl)
+quiet_keeps (OutputOver o) h c quiet = absurd (never (sym quiet))
+
+-- the one that a request may end lives
+pub request_lives : (req : Req) (c : Control) → MayAsk c req → (req ≡ AskTerm → root_asked c ≡ false) → may_end_one req ≡ true → has_ended (obj c.rows (asker_of req)).stage ≡ false
+request_lives AskTerm c may unasked one = alive_lives (obj c.rows 0).stage (unasked refl)
+request_lives (OutputOver o) c may unasked one = ending_lives (obj c.rows o.0).stage (left_of (is_ending (obj c.rows o.0).stage) _ may.may)
+request_lives (MakeSocket kind options) c may unasked one = absurd (never one)
+request_lives (Bind o at) c may unasked one = absurd (never one)
+request_lives (Connect o at) c may unasked one = absurd (never one)
+request_lives (Unbind o at) c may unasked one = absurd (never one)
+request_lives (Disconnect o at) c may unasked one = absurd (never one)
+request_lives (Close o) c may unasked one = absurd (never one)
+request_lives (Accepted o) c may unasked one = absurd (never one)
+request_lives (Shaken o peer) c may unasked one = absurd (never one)
+request_lives (AskEnd e why) c may unasked one = absurd (never one)
+request_lives (AskOver o) c may unasked one = absurd (never one)
+
+-- a request that is not refused and was not made before
+requested_event : (req : Req) (h : Answers) (c : Control) → MayAsk c req → (req ≡ AskTerm → root_asked c ≡ false) → EventOut (asker_of req) c (requested req h c)
+requested_event AskTerm h c may unasked =
+    with_living 0 c _ (out_more (keeps_more (plain_link root_no_ack 0 c) (stop_sockets_keeps (length c.rows.objects) (link RootAsked 0 c)))
+    (try_end_out 0 h.left (stop_sockets (length c.rows.objects) (link RootAsked 0 c)))) (request_lives AskTerm c may unasked refl)
+requested_event (OutputOver o) h c may unasked = with_living o.0 c _ (try_end_out o.0 h.left c) (request_lives (OutputOver o) c may unasked refl)
+requested_event (MakeSocket kind options) h c may unasked = none_ends (quiet_keeps (MakeSocket kind options) h c refl)
+requested_event (Bind o at) h c may unasked = none_ends (quiet_keeps (Bind o at) h c refl)
+requested_event (Connect o at) h c may unasked = none_ends (quiet_keeps (Connect o at) h c refl)
+requested_event (Unbind o at) h c may unasked = none_ends (quiet_keeps (Unbind o at) h c refl)
+requested_event (Disconnect o at) h c may unasked = none_ends (quiet_keeps (Disconnect o at) h c refl)
+requested_event (Close o) h c may unasked = none_ends (quiet_keeps (Close o) h c refl)
+requested_event (Accepted o) h c may unasked = none_ends (quiet_keeps (Accepted o) h c refl)
+requested_event (Shaken o peer) h c may unasked = none_ends (quiet_keeps (Shaken o peer) h c refl)
+requested_event (AskEnd e why) h c may unasked = none_ends (quiet_keeps (AskEnd e why) h c refl)
+requested_event (AskOver o) h c may unasked = none_ends (quiet_keeps (AskOver o) h c refl)
 
 done_before : Done ≡ Before → ⊥
 done_before e = Prim.grind arith
@@ -189,7 +234,7 @@ asked_before : WasAsked ≡ Before → ⊥
 asked_before e = Prim.grind arith
 
 -- where the answer is not that it was asked before, the root that is asked was not
-unasked_by : (req : Req) (reply : Reply) (c : Control) → reply ≡ reply_of c req → (reply ≡ Before → ⊥) → req ≡ AskTerm → root_asked c ≡ false
+pub unasked_by : (req : Req) (reply : Reply) (c : Control) → reply ≡ reply_of c req → (reply ≡ Before → ⊥) → req ≡ AskTerm → root_asked c ≡ false
 unasked_by req reply c e other same = by (root_asked c) refl (e ∙ ap (reply_of c) same)
   where
     by : (b : Bool) → root_asked c ≡ b → reply ≡ reply_of c AskTerm → root_asked c ≡ false

@@ -5,5 +5,5 @@ pub mod StayLemmas
 pub mod OrderLemmas
 mod DoneLemmas
 pub mod TurnLemmas
-mod SealLemmas
-mod CapacityLemmas
+pub mod SealLemmas
+pub mod CapacityLemmas

@@ -2,4 +2,4 @@ use Rattle.past_laws.proofs.QuietLemmas as lemmas
 use Rattle.past_laws.proofs.laws.quiet_calls_go_on.Goals as goal
 
 pub returns : goal.returns
-returns g c = lemmas.quiet_calls_go_on g.P.Pipes.known _ c.ends_are_sealed_once.ensures
+returns g c = lemmas.quiet_calls_go_on g.P.Pipes.known

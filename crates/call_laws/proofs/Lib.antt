@@ -1,0 +1,10 @@
+mod OnceLemmas
+mod JoinLemmas
+mod JoinedLemmas
+mod ChangedLemmas
+mod HalfLemmas
+mod ThereLemmas
+pub mod LawLemmas
+mod OverLemmas
+pub mod StandLemmas
+pub mod MessageLemmas

@@ -1,0 +1,14 @@
+pub mod CallLemmas
+pub mod ComingLemmas
+pub mod GrowLemmas
+pub mod HadLemmas
+pub mod EndLemmas
+pub mod StandLemmas
+pub mod NoneLemmas
+pub mod ItemLemmas
+pub mod HowLemmas
+pub mod JoinLemmas
+pub mod ArriveLemmas
+pub mod CountedLemmas
+pub mod SoLemmas
+pub mod PlugLemmas

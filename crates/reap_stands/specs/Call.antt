@@ -1,0 +1,20 @@
+-- A call of the reaper in the one order of a context (own choice, after libzmq's `reaper_t`).
+use Rattle.std.specs.Prelude.{◌≡◌, ◌≤◌, Bool, false, All, length}
+use Rattle.zq_base.specs.declared.ids.EndId.{EndId}
+use Rattle.ctl_plane.specs.declared.delivery.Delivery.{Delivery}
+use Rattle.one_desk.specs.Lent.{GrowsBy, IsOneOrder, Lent, MeetsOrNot}
+use Rattle.one_desk.specs.Reaping.{FindsFirst}
+use Rattle.desk_laws.specs.Behind.{is_request}
+
+-- one item of the caller's at the most led from one state of the order to the other, and it was no request
+pub record IsReapersCall {G N S : Type 0} (old new : Lent G N S) : Type 0 where
+  pub before : IsOneOrder old
+  pub behind : IsOneOrder new
+  pub grows : GrowsBy old new
+  pub few : length grows.more ≤ 1
+  pub asks_none : All (λ item. is_request item ≡ false) grows.more
+
+-- so is a delivery of the reaper's, and a delimiter that it met or not
+pub record ReapersCallsAreSo (G N S : Type 0) : Type 0 where
+  pub found : (found : Delivery) (old new : Lent G N S) → IsOneOrder old → IsOneOrder new → FindsFirst found old new → IsReapersCall old new
+  pub met : (e : EndId) (found : Bool) (old new : Lent G N S) → IsOneOrder old → IsOneOrder new → MeetsOrNot e found old new → IsReapersCall old new
