@@ -1,5 +1,6 @@
 -- A lent socket behind the request that closes it.
-use Rattle.std.proofs.Common.{◌≡◌, ◌+◌, ◌∙◌, ℕ, [], ◌++◌, length, Option, Some, None, refl, sym, ap, subst, true≢false, arith}
+use Rattle.std.proofs.Common.{◌≡◌, ◌+◌, ◌∙◌, ℕ, Bool, List, [], ◌++◌, length, Option, Some, None, refl, sym, ap, subst, true≢false, arith}
+use Rattle.zq_base.specs.declared.ids.EndId.{EndId}
 use Rattle.spec_control.specs.declared.entry.Did.TheVariants.{Asked}
 use Rattle.spec_control.specs.declared.request.Req.TheVariants.{Close}
 use Rattle.spec_control.specs.declared.request.Reply.{Reply}
@@ -12,16 +13,18 @@ use Rattle.ctl_plane.specs.Desk.{AsksOnce, by_caller}
 use Rattle.msg_pipe.specs.Known.{Known}
 use Rattle.any_sock.specs.declared.any_sock.AnySock.{AnySock}
 use Rattle.sock_core.specs.declared.sock.SockCore.{SockCore}
-use Rattle.sock_calls.specs.Calls.{owner_of, HasNone}
+use Rattle.sock_calls.specs.Calls.{owner_of, HasNone, OnlyMake}
 use Rattle.spec_run.specs.Event.{acts_said}
 use Rattle.open_sock.specs.Steps.{LeadsSome, ClosesOpen}
 use Rattle.open_laws.proofs.MadeLemmas.{requests_are_answered}
+use Rattle.sock_open.specs.Standing.{kind_told}
 use Rattle.one_desk.specs.Lent.{Lent, moments_of}
+use Rattle.call_laws.specs.Call.{AddsItem, opens_none}
 use Rattle.lent_sock.specs.Owned.{LentParts, IsThereFor, IsLentTo, Agrees, view_of}
 use Rattle.lent_sock.specs.Called.{IsCalled}
 use Rattle.lent_sock.specs.Leads.{Leads}
 use Rattle.lent_sock.proofs.MomentLemmas.{one, runs_now}
-use Rattle.lent_sock.proofs.MovedLemmas.{said_once}
+use Rattle.lent_sock.proofs.StandLemmas.{said_once, stands_by_close}
 use Rattle.lent_sock.proofs.StayedLemmas.{lent_stays, leads_stays}
 
 module _ {W N O I S T : Type 0} (K : Known S O I N) (before now : S) (d e : Lent (Given N O I) N T) (n : ℕ) where
@@ -31,8 +34,9 @@ module _ {W N O I S T : Type 0} (K : Known S O I N) (before now : S) (d e : Lent
   abbrev is_now : Option (SockCore AnySock W N O I) → ℕ → LentParts W N O I S T
   is_now t k = record { pipes = now; desk = e; socket = t; since = k }
 
-  module _ (s t : SockCore AnySock W N O I) (is : IsLentTo K before d n s) (called : IsCalled K before d (Some s) now e (Some t)) where
-    module _ (reply : Reply) (asks : AsksOnce d.caller (Close (id s.number.0)) reply (moments_of d) (moments_of e)) (none : HasNone (Some t)) (sends : SendsEnds K now (Close (id s.number.0)) d.past.given e.past.given) where
+  module _ {made : Bool} {may_make : EndId → ℕ → ℕ → Type 0} (s t : SockCore AnySock W N O I) (is : IsLentTo K before d n s) (called : IsCalled K made may_make before d (Some s) now e (Some t)) where
+    module _ (reply : Reply) (asks : AsksOnce d.caller (Close (id s.number.0)) reply (moments_of d) (moments_of e)) (none : HasNone (Some t)) (told : List EndId) (sends : SendsEnds K now told (Close (id s.number.0)) d.past.given e.past.given)
+        (makings : OnlyMake K made may_make (Some s) (Some t) before now called.does) where
       abbrev mo : Moment N T
       mo = record { found = asks.found; item = by_caller d.caller (Asked (Close (id s.number.0)) reply asks.answered) }
 
@@ -40,6 +44,9 @@ module _ {W N O I S T : Type 0} (K : Known S O I N) (before now : S) (d e : Lent
       is_done =
           requests_are_answered N T d.past.workers d.items (one d e called.grows called.order mo asks.one_more).item (runs_now d e called.grows called.order mo asks.one_more) (Close (id s.number.0)) reply
           (record { by = d.caller; answered = asks.answered; item_is = ap (λ (m : Moment N T). m.item) (one d e called.grows called.order mo asks.one_more).moment_is })
+
+      adds : AddsItem K kind_told made may_make d before s e mo
+      adds = record { call = record { before = is.order; behind = called.order; grows = called.grows; one_more = asks.one_more }; of_it = refl; opens = opens_none refl; counts = tt }
 
       led : Leads K (was (Some s)) (acts_said mo) (is_now (Some t) (n + 1))
       led = record {
@@ -53,6 +60,7 @@ module _ {W N O I S T : Type 0} (K : Known S O I N) (before now : S) (d e : Lent
           sent = record { ends = sends.ends; behind = sends.behind; given = sends.given };
           over = λ closed. absurd (true≢false (sym is.owned.stands.is_open ∙ closed));
         };
+        standing = stands_by_close K before now d e n s t is called makings mo adds refl (n + 1);
       }
 
       closes_so : ClosesOpen (Leads K) view_of (was (Some s)) (is_now (Some t) (n + 1))
@@ -63,20 +71,20 @@ module _ {W N O I S T : Type 0} (K : Known S O I N) (before now : S) (d e : Lent
       }
 
   -- the request led there
-  pub has_closed : (old new : Option (SockCore AnySock W N O I)) → IsThereFor K before d n old → IsCalled K before d old now e new
-      → (reply : Reply) → AsksOnce d.caller (Close (id (owner_of old))) reply (moments_of d) (moments_of e) → HasNone new → SendsEnds K now (Close (id (owner_of old))) d.past.given e.past.given
+  pub has_closed : {made : Bool} {may_make : EndId → ℕ → ℕ → Type 0} → (old new : Option (SockCore AnySock W N O I)) → IsThereFor K before d n old → (called : IsCalled K made may_make before d old now e new)
+      → (reply : Reply) → AsksOnce d.caller (Close (id (owner_of old))) reply (moments_of d) (moments_of e) → HasNone new → (told : List EndId) → SendsEnds K now told (Close (id (owner_of old))) d.past.given e.past.given → OnlyMake K made may_make old new before now called.does
       → (k : ℕ) → k ≡ n + 1 → ClosesOpen (Leads K) view_of (was old) (is_now new k)
-  has_closed None new is called reply asks none sends k at = absurd is
-  has_closed (Some s) None is called reply asks none sends k at = absurd called.fits
-  has_closed (Some s) (Some t) is called reply asks none sends k at =
-      subst (λ (j : ℕ). ClosesOpen (Leads K) view_of (was (Some s)) (is_now (Some t) j)) (sym at) (closes_so s t is called reply asks none sends)
+  has_closed None new is called reply asks none told sends makings k at = absurd is
+  has_closed (Some s) None is called reply asks none told sends makings k at = absurd called.fits
+  has_closed (Some s) (Some t) is called reply asks none told sends makings k at =
+      subst (λ (j : ℕ). ClosesOpen (Leads K) view_of (was (Some s)) (is_now (Some t) j)) (sym at) (closes_so s t is called reply asks none told sends makings)
 
   -- or none was made, and it is lent still
   pub record IsLeft (old new : Option (SockCore AnySock W N O I)) (k : ℕ) : Type 0 where
     pub some : LeadsSome (Leads K) (was old) (is_now new k)
     pub agrees : Agrees K (is_now new k)
 
-  pub is_left : (old new : Option (SockCore AnySock W N O I)) → IsThereFor K before d n old → IsCalled K before d old now e new → moments_of e ≡ moments_of d → e.past.given ≡ d.past.given → (k : ℕ) → k ≡ n → IsLeft old new k
+  pub is_left : {made : Bool} {may_make : EndId → ℕ → ℕ → Type 0} → (old new : Option (SockCore AnySock W N O I)) → IsThereFor K before d n old → IsCalled K made may_make before d old now e new → moments_of e ≡ moments_of d → e.past.given ≡ d.past.given → (k : ℕ) → k ≡ n → IsLeft old new k
   is_left None new is called same given k at = absurd is
   is_left (Some s) None is called same given k at = absurd called.fits
   is_left (Some s) (Some t) is called same given k at = subst (λ (j : ℕ). IsLeft (Some s) (Some t) j) (sym at) (record {

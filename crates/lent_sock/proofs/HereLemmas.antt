@@ -1,10 +1,9 @@
 -- An end of a lent socket that reads on is held with its writing half, and awaits its delimiter.
-use Rattle.std.proofs.Common.{◌≡◌, ◌∙◌, ◌+◌, ℕ, Bool, true, List, ◌∷◌, drop, map, Option, Some, None, refl, sym, ap, true≢false}
-use Rattle.std.specs.List.{list_any}
+use Rattle.std.proofs.Common.{◌≡◌, ◌∙◌, ◌+◌, ℕ, true, List, ◌∷◌, drop, map, Option, Some, None, refl, sym, ap, true≢false}
 use Rattle.zq_base.specs.declared.ids.EndId.{EndId}
 use Rattle.spec_control.specs.declared.end.EndState.TheVariants.{Active, DelimiterGot, WaitDelimiter, AckSent, AskedOnce, AskedTwice, Gone}
-use Rattle.spec_control.specs.Place.{Place as Where, Unmade, Away, At, looks}
-use Rattle.spec_control.specs.Control.{begun, is_end, place_of}
+use Rattle.spec_control.specs.Place.{Place as Where, Unmade, Away, At}
+use Rattle.spec_control.specs.Control.{begun, place_of}
 use Rattle.spec_control.specs.ControlRun.{after_all}
 use Rattle.control_held.specs.Held.{Held}
 use Rattle.control_held.specs.Moments.{left_after}

@@ -6,6 +6,8 @@ pub mod StandingLemmas
 pub mod PassingLemmas
 pub mod ThereLemmas
 pub mod MovedLemmas
+pub mod ChangedLemmas
+pub mod StandLemmas
 pub mod SealedLemmas
 pub mod StillLemmas
 pub mod RequestLemmas
@@ -19,7 +21,9 @@ pub mod CloseLemmas
 pub mod ThroughLemmas
 pub mod HereLemmas
 pub mod RankLemmas
+pub mod MayLemmas
 pub mod MeetLemmas
 pub mod ToItLemmas
 pub mod NewReaderLemmas
 pub mod TakeLemmas
+pub mod PartsLemmas

@@ -1,11 +1,13 @@
 -- A lent socket behind a call on messages or a look.
-use Rattle.std.proofs.Common.{◌≡◌, ◌∙◌, ◌==◌, ◌&&◌, ℕ, Bool, true, List, [], ◌++◌, append-nil, length, Option, Some, None, refl, sym, ap, subst, true≢false, if◌then◌else◌, arith}
+use Rattle.std.proofs.Common.{◌≡◌, ◌∙◌, ◌==◌, ◌&&◌, ℕ, Bool, true, false, List, [], ◌∷◌, ◌++◌, append-nil, length, Option, Some, None, refl, sym, ap, subst, true≢false, if◌then◌else◌, arith}
 use Rattle.std.specs.List.{list_any}
 use Rattle.spec_control.specs.Control.{is_end, place_of, ends_of}
 use Rattle.std.specs.Prelude.{map, Result, Ok, Err, IfOk, OnErr, IsErr}
 use Rattle.std.specs.declared.alloc.AllocError.{AllocError}
 use Rattle.zq_base.specs.declared.ids.EndId.{EndId}
+use Rattle.zq_base.specs.Ends.{PipeId}
 use Rattle.zq_base.specs.declared.kind.Kind.{Kind}
+use Rattle.spec_pattern.specs.PipeStep.{PipeStep, read_through}
 use Rattle.spec_pattern.specs.PatternCalls.{ChangeAnswer}
 use Rattle.spec_pattern.specs.Results.{RecvResult, MatchRecv}
 use Rattle.spec_pattern.specs.declared.answers.Sent.{Sent}
@@ -17,11 +19,15 @@ use Rattle.spec_control.specs.Place.{At}
 use Rattle.control_held.specs.Held.{Held}
 use Rattle.control_held.specs.Moments.{Moment, items_in, left_after}
 use Rattle.control_held.specs.OwnAsks.{known_after}
+use Rattle.ctl_history.specs.Past.{control_of}
 use Rattle.ctl_holder.specs.Holding.{has_end}
 use Rattle.ctl_holder.specs.declared.given.Given.{Given}
 use Rattle.ctl_plane.specs.Desk.{HasWhatTheySay, slot_after}
 use Rattle.msg_pipe.specs.Known.{Known}
+use Rattle.msg_pipe.specs.Told.{front_step}
 use Rattle.msg_pipe.specs.declared.pipes.Front.{Front}
+use Rattle.msg_pipe.specs.declared.pipes.Front.TheVariants.{Message, Empty, Delimiter}
+use Rattle.ends.specs.Runs.{seals}
 use Rattle.pub_sub.specs.XSubs.{MatchXSend}
 use Rattle.pub_sub.specs.declared.xsend_fault.XSendFault.{XSendFault}
 use Rattle.pub_sub.specs.declared.xsend_fault.XSendFault.TheVariants as xfault
@@ -35,18 +41,29 @@ use Rattle.sock_core.specs.declared.sock.SockCore.{SockCore}
 use Rattle.sock_core.specs.Has.{holding_in, state_in}
 use Rattle.sock_core.specs.Standing.{standing_joins}
 use Rattle.sock_calls.specs.Calls.{owner_of, LeavesOthers}
-use Rattle.spec_run.specs.Act.{Act, moments_in}
+use Rattle.spec_run.specs.SocketCall.{step_acts}
 use Rattle.spec_run.specs.declared.journal.LineAnswer.{LineAnswer}
 use Rattle.spec_run.specs.declared.journal.LineAnswer.TheVariants.{Plain}
 use Rattle.sock_open.specs.View.{ends_told}
 use Rattle.sock_open.specs.Standing.{IsStanding, Stands, kind_told, KeepsSocket}
+use Rattle.sock_open.specs.Doing.{MakesSteps}
 use Rattle.sock_open.specs.Looking.{LooksSo}
 use Rattle.sock_open.proofs.LookLemmas.{held_met, writes_met, met_met, state_met, told_met}
 use Rattle.open_laws.specs.Open.{ends_at}
+use Rattle.open_sock.proofs.StepLemmas.{no_moments}
+use Rattle.past_laws.specs.Asked.{WereAsked}
 use Rattle.one_desk.specs.Lent.{Lent, moments_of}
 use Rattle.lent_sock.specs.Owned.{IsOut, IsLentTo, IsThereFor}
+use Rattle.lent_sock.specs.Leaving.{LeavesStanding}
 use Rattle.lent_sock.specs.Leads.{is_open_in, Leads}
 use Rattle.lent_sock.specs.LeadsOwed.{grows_none, none_sent}
+use Rattle.lent_sock.proofs.StandLemmas.{stands_by_steps}
+
+-- a look writes no delimiter
+looks_alone : (p : PipeId) (found : Front) → seals (front_step p found ∷ []) ≡ false
+looks_alone p Message = refl
+looks_alone p Empty = refl
+looks_alone p Delimiter = refl
 
 module _ {W N O I : Type 0} where
   -- a socket has what it had, and its ends are told as they were
@@ -95,6 +112,12 @@ module _ {W N O I : Type 0} where
     states = λ d. state_met ps qs d h.places;
     told = told_met (standing_joins t.joins.items) ps qs h.places ∙ ap (λ v. ends_told (standing_joins v.items) ps) h.rest.joins;
   }
+
+  -- a look is one step
+  pub look_makes : {S : Type 0} (K : Known S O I N) (e : EndId) (found : Front) (before now : S) (old new : Option (SockCore AnySock W N O I)) → LooksSo K e found before old now new → MakesSteps K before old (front_step (read_through e) found ∷ []) now new
+  look_makes K e found before now None new h = absurd h
+  look_makes K e found before now (Some s) None h = absurd h
+  look_makes K e found before now (Some s) (Some t) h = record { does = h.does; unsealing = looks_alone (read_through e) found }
 
   pub owner_on : (old new : Option (SockCore AnySock W N O I)) → HoldsOnSo old new → owner_of new ≡ owner_of old
   owner_on None new h = absurd h
@@ -146,6 +169,7 @@ module _ {W N O I : Type 0} where
       order = is.order;
       told = is.told;
       asked = is.asked;
+      were_asked = subst (λ v. WereAsked (control_of d.past) (map (λ x. x.0) v.items)) (sym on.sealed) is.were_asked;
     }
 
     pub there_on : (old new : Option (SockCore AnySock W N O I)) → IsThereFor K before d n old → Stands K now new → HoldsOnSo old new → IsThereFor K now d n new
@@ -157,12 +181,19 @@ module _ {W N O I : Type 0} where
     open_there None is = absurd is
     open_there (Some s) is = is.owned.stands.is_open
 
-    -- and steps lead there
-    pub leads_on : (old new : Option (SockCore AnySock W N O I)) (acts : List (Act N T)) → moments_in acts ≡ [] → IsThereFor K before d n old → LeavesOthers K old new before now → HoldsOnSo old new
-        → Leads K (record { pipes = before; desk = d; socket = old; since = n }) acts (record { pipes = now; desk = d; socket = new; since = n })
-    leads_on old new acts none is others on = record {
-      moments = sym (append-nil (moments_of d)) ∙ ap (λ l. moments_of d ++ l) (sym none);
-      since = let e = ap length none in omega (arith, e);
+    -- the steps left standing what stood
+    standing_on : (old new : Option (SockCore AnySock W N O I)) (steps : List PipeStep) → MakesSteps K before old steps now new → IsThereFor K before d n old → HoldsOnSo old new
+        → LeavesStanding K (record { pipes = before; desk = d; socket = old; since = n }) (step_acts steps) (record { pipes = now; desk = d; socket = new; since = n })
+    standing_on None new steps makes is on = absurd is
+    standing_on (Some s) None steps makes is on = absurd on
+    standing_on (Some s) (Some t) steps makes is on = stands_by_steps K before now d n s is steps t.ends.rows.items makes.does makes.unsealing t (number_on s t on)
+
+    -- and lead there
+    pub leads_on : (old new : Option (SockCore AnySock W N O I)) (steps : List PipeStep) → MakesSteps K before old steps now new → IsThereFor K before d n old → LeavesOthers K old new before now → HoldsOnSo old new
+        → Leads K (record { pipes = before; desk = d; socket = old; since = n }) (step_acts steps) (record { pipes = now; desk = d; socket = new; since = n })
+    leads_on old new steps makes is others on = record {
+      moments = sym (append-nil (moments_of d)) ∙ ap (λ l. moments_of d ++ l) (sym (no_moments steps));
+      since = let e = ap length (no_moments {N = N} {S = T} steps) in omega (arith, e);
       grows = grows_none d;
       others = λ _. others;
       given = record {
@@ -171,6 +202,7 @@ module _ {W N O I : Type 0} where
         sent = none_sent K now d.past.given;
         over = λ h. absurd (true≢false (sym (open_there old is) ∙ h));
       };
+      standing = standing_on old new steps makes is on;
     }
 
     -- it has the mailbox that it had

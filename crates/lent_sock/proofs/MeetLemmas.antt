@@ -1,8 +1,7 @@
 -- A lent socket behind the delimiter that one of its ends met which read on to it.
-use Rattle.std.proofs.Common.{◌≡◌, ◌≢◌, ◌<◌, ◌∙◌, ◌+◌, ◌||◌, ◌==◌, ℕ, zero, suc, Bool, true, false, List, [], ◌∷◌, ◌++◌, drop, filter, map, length, Option, Some, None, refl, sym, ap, subst, true≢false, if◌then◌else◌, arith}
+use Rattle.std.proofs.Common.{◌≡◌, ◌≢◌, ◌<◌, ◌∙◌, ◌+◌, ◌||◌, ℕ, zero, suc, Bool, true, false, List, [], ◌∷◌, ◌++◌, drop, filter, map, length, Option, Some, None, refl, sym, ap, subst, true≢false, if◌then◌else◌, arith}
 use Rattle.std.specs.List.{list_any}
 use Rattle.zq_base.specs.declared.ids.EndId.{EndId}
-use Rattle.spec_control.specs.declared.end.EndEvent.{EndEvent}
 use Rattle.spec_control.specs.declared.end.EndEvent.TheVariants.{DelimiterSeen, AckCame}
 use Rattle.spec_control.specs.declared.end.EndState.TheVariants.{WaitDelimiter}
 use Rattle.spec_control.specs.declared.entry.Did.TheVariants.{Delimited}
@@ -14,7 +13,7 @@ use Rattle.control_rows.proofs.RowLemmas.{pair_there}
 use Rattle.control_attached.specs.Once.{AreOnce}
 use Rattle.control_laws.proofs.AskLemmas.{end_self, same_end}
 use Rattle.control_held.specs.Held.{Held}
-use Rattle.control_held.specs.Moments.{Moment, left_after, left_by}
+use Rattle.control_held.specs.Moments.{Moment, left_after}
 use Rattle.ctl_holder.specs.Lent.{here_ends}
 use Rattle.ctl_holder.specs.declared.given.Given.{Given}
 use Rattle.ctl_ends.proofs.HeldLemmas.{here_same}
@@ -27,29 +26,27 @@ use Rattle.any_sock.specs.Over.{over}
 use Rattle.held_ends.specs.declared.table.Place.{Place}
 use Rattle.held_ends.specs.Places.{place_at, held_of, held_in}
 use Rattle.sock_core.specs.declared.sock.SockCore.{SockCore}
-use Rattle.sock_core.specs.Has.{holding_in}
 use Rattle.sock_calls.specs.Calls.{owner_of}
 use Rattle.sock_calls.specs.Passing.{Passes}
-use Rattle.spec_run.specs.Event.{IsDelimited, acts_said}
 use Rattle.spec_run.specs.OpenSocket.{awaits_delimiter}
 use Rattle.open_sock.specs.Reading.{ReadsOnAt}
 use Rattle.open_sock.specs.Steps.{MeetsEnd}
 use Rattle.open_sock.specs.declared.found.Reader.{Reader}
 use Rattle.sock_open.specs.Standing.{IsWhole}
-use Rattle.open_laws.specs.Ends.{AreLeft}
-use Rattle.open_laws.proofs.LeftLemmas.{open_ends_are_left}
 use Rattle.one_desk.specs.Lent.{Lent, moments_of}
-use Rattle.lent_sock.specs.Owned.{IsLentTo, IsThereFor, Agrees, view_of}
+use Rattle.call_laws.specs.Call.{opens_none}
+use Rattle.lent_sock.specs.Owned.{IsLentTo, IsThereFor, Agrees, MayTakeEnds, view_of}
 use Rattle.lent_sock.specs.Called.{IsCalled}
 use Rattle.lent_sock.specs.Leads.{Leads}
 use Rattle.lent_sock.specs.Readers.{held_places, readers_in, readers_from}
 use Rattle.lent_sock.specs.ReadersOwed.{awaits_at, left, reads_told, held_told}
 use Rattle.lent_sock.specs.Ready.{IsReady, AreTold}
-use Rattle.lent_sock.proofs.HereLemmas.{IsReading, is_reading, awaits_is}
+use Rattle.lent_sock.proofs.HereLemmas.{IsReading, is_reading}
+use Rattle.lent_sock.proofs.MayLemmas.{may_behind}
 use Rattle.lent_sock.proofs.MomentLemmas.{one, left_now}
 use Rattle.lent_sock.proofs.ReadingLemmas.{stands_among}
-use Rattle.lent_sock.proofs.StandingLemmas.{among_filter}
-use Rattle.lent_sock.proofs.ThroughLemmas.{was, is_now, GoesThrough, goes_through, lent_behind}
+use Rattle.lent_sock.proofs.StandLemmas.{among_filter}
+use Rattle.lent_sock.proofs.ThroughLemmas.{was, is_now, goes_through, lent_behind}
 
 -- ---- no end is held twice
 
@@ -125,14 +122,15 @@ module _ (c : Control) (e : EndId) (at : place_of c e ≡ At WaitDelimiter) wher
 -- ---- of a lent socket
 
 module _ {W N O I S T : Type 0} (K : Known S O I N) (before now : S) (d e : Lent (Given N O I) N T) (n : ℕ) (reader : Reader) where
-  -- it was said that the end met its delimiter, and the others read on as before
+  -- it was said that the end met its delimiter, the others read on as before, and ends on their way may join it still
   pub record HasMet (old new : Option (SockCore AnySock W N O I)) (k : ℕ) : Type 0 where
     pub meets : MeetsEnd (Leads K) view_of reader.end (was K before now d e n old) (is_now K before now d e n new k)
     pub behind : readers_from new (reader.place + 1) ≡ readers_from old (reader.place + 1)
     pub agrees : Agrees K (is_now K before now d e n new k)
     pub ready : IsReady (is_now K before now d e n new k)
+    pub may : MayTakeEnds K (was K before now d e n old) → MayTakeEnds K (is_now K before now d e n new k)
 
-  module _ (s t : SockCore AnySock W N O I) (is : IsLentTo K before d n s) (called : IsCalled K before d (Some s) now e (Some t)) (reads : IsReading K before d n s reader)
+  module _ {made : Bool} {may_make : EndId → ℕ → ℕ → Type 0} (s t : SockCore AnySock W N O I) (is : IsLentTo K before d n s) (called : IsCalled K made may_make before d (Some s) now e (Some t)) (reads : IsReading K before d n s reader)
       (met : Delimits d.caller reader.end (moments_of d) (moments_of e)) where
     abbrev o : ℕ
     o = s.number.0
@@ -160,7 +158,7 @@ module _ {W N O I S T : Type 0} (K : Known S O I N) (before now : S) (d e : Lent
         ∙ (there d o is.order is.owned.is_open reader.end (ap (list_any (is_end reader.end)) (left K before d n s is).ends ∙ among)).own
 
     abbrev behind_it : IsLentTo K now e (n + 1) t
-    behind_it = lent_behind K before now d e n s t is called mo met.one_more of_it refl
+    behind_it = lent_behind K before now d e n s t is called mo met.one_more of_it refl (opens_none refl) tt
 
     abbrev f : Control
     f = after_all e.items (begun e.past.workers)
@@ -194,7 +192,7 @@ module _ {W N O I S T : Type 0} (K : Known S O I N) (before now : S) (d e : Lent
   looked s reads true not_looked = refl
   looked s reads false not_looked = absurd (true≢false (sym (ap looks reads.left) ∙ not_looked refl))
 
-  pub has_met : (old new : Option (SockCore AnySock W N O I)) → IsThereFor K before d n old → AreTold old → IsReady (was K before now d e n old) → IsCalled K before d old now e new
+  pub has_met : {made : Bool} {may_make : EndId → ℕ → ℕ → Type 0} → (old new : Option (SockCore AnySock W N O I)) → IsThereFor K before d n old → AreTold old → IsReady (was K before now d e n old) → IsCalled K made may_make before d old now e new
       → e.past.given ≡ d.past.given → (IsWhole old → IsWhole new) → ((more : List (Moment N T)) → moments_of e ≡ moments_of d ++ more → Passes over old new more)
       → ReadsOnAt (readers_from old) reader → (found : Bool) → DelimitsOrNot d.caller reader.end found (moments_of d) (moments_of e)
       → (found ≡ false → looks (place_of (left_after (owner_of old) (moments_of d)) reader.end) ≡ false) → (k : ℕ) → k ≡ n + 1 → HasMet old new k
@@ -203,10 +201,11 @@ module _ {W N O I S T : Type 0} (K : Known S O I N) (before now : S) (d e : Lent
   has_met (Some s) (Some t) is told ready called given whole passes reads found met not_looked k at =
       let reading = is_reading K before d n s is reader reads in
       let once = subst (λ (b : Bool). DelimitsOrNot d.caller reader.end b (moments_of d) (moments_of e)) (looked s reading found not_looked) met in
-      let through = goes_through K before now d e n (Some s) (Some t) is told ready called given whole passes (mo s t is called reading once) once.one_more (of_it s t is called reading once) refl k at in
+      let through = goes_through K before now d e n (Some s) (Some t) is told ready called given whole passes (mo s t is called reading once) once.one_more (of_it s t is called reading once) refl (opens_none refl) tt k at in
       record {
         meets = record { met = mo s t is called reading once; item = record { by = d.caller; answered = once.answered; item_is = refl }; passes = through.passes };
         behind = reads_behind s t is called reading once;
         agrees = through.agrees;
         ready = through.ready;
+        may = λ may. may_behind K before now d e n s t is called (mo s t is called reading once) once.one_more (of_it s t is called reading once) refl (opens_none refl) tt refl may k;
       }

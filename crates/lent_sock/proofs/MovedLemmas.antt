@@ -1,5 +1,5 @@
 -- A lent socket behind one moment more that is of it: it is lent still, and the acts of the moment led there.
-use Rattle.std.proofs.Common.{◌≡◌, ◌∙◌, ◌+◌, ℕ, true, List, [], ◌∷◌, ◌++◌, length, map, Some, refl, sym, ap, subst, true≢false, arith}
+use Rattle.std.proofs.Common.{◌≡◌, ◌∙◌, ◌+◌, ℕ, Bool, true, List, [], ◌∷◌, ◌++◌, length, map, Some, refl, sym, ap, subst, true≢false, arith}
 use Rattle.std.specs.List.{list_any}
 use Rattle.zq_base.specs.declared.ids.EndId.{EndId}
 use Rattle.spec_pattern.specs.PipeStep.{Seal}
@@ -21,13 +21,16 @@ use Rattle.sock_open.specs.Standing.{IsStanding}
 use Rattle.open_laws.specs.Bounds.{TellIdentities}
 use Rattle.open_laws.specs.Open.{ends_at, IsOfItem}
 use Rattle.open_laws.proofs.JoinLemmas.{identities_go_on}
+use Rattle.past_laws.specs.Asked.{WereAsked}
 use Rattle.one_desk.specs.Lent.{Lent, moments_of}
 use Rattle.lent_sock.specs.Owned.{IsOut, IsLentTo, newest}
 use Rattle.lent_sock.specs.Called.{IsCalled}
+use Rattle.lent_sock.specs.Leaving.{LeavesStanding}
 use Rattle.lent_sock.specs.Leads.{SendsMore, Leads}
 use Rattle.lent_sock.specs.LeadsOwed.{newest_more, none_sent}
 use Rattle.lent_sock.proofs.MomentLemmas.{one, items_now, left_now}
 use Rattle.lent_sock.proofs.MovesLemmas.{same_number, comes, held_now, ends_now}
+use Rattle.lent_sock.proofs.StandLemmas.{said_once}
 
 -- the last moment decides
 asked_last : {N T : Type 0} (xs : List (Moment N T)) (m : Moment N T) → leave_asked (xs ++ m ∷ []) ≡ root_asked (left_by m)
@@ -35,15 +38,8 @@ asked_last [] m = refl
 asked_last (x ∷ []) m = refl
 asked_last (x ∷ y ∷ xs) m = asked_last (y ∷ xs) m
 
-seals_silent : {N T : Type 0} (es : List EndId) → moments_in {N = N} {S = T} (map (λ e. Step (Seal e)) es) ≡ []
-seals_silent [] = refl
-seals_silent (e ∷ es) = seals_silent es
-
-pub said_once : {N T : Type 0} (m : Moment N T) → moments_in (acts_said m) ≡ m ∷ []
-said_once m = ap (λ l. m ∷ l) (seals_silent (seals_in m))
-
-module _ {W N O I S T : Type 0} (K : Known S O I N) (before now : S) (d e : Lent (Given N O I) N T) (n : ℕ) (s t : SockCore AnySock W N O I)
-    (is : IsLentTo K before d n s) (called : IsCalled K before d (Some s) now e (Some t)) (mo : Moment N T) (more : moments_of e ≡ moments_of d ++ mo ∷ [])
+module _ {W N O I S T : Type 0} {made : Bool} {may_make : EndId → ℕ → ℕ → Type 0} (K : Known S O I N) (before now : S) (d e : Lent (Given N O I) N T) (n : ℕ) (s t : SockCore AnySock W N O I)
+    (is : IsLentTo K before d n s) (called : IsCalled K made may_make before d (Some s) now e (Some t)) (mo : Moment N T) (more : moments_of e ≡ moments_of d ++ mo ∷ [])
     (of_it : IsOfItem s.number.0 mo.found mo.item) (still : (known_after s.number.0 (items_in (moments_of e))).open_socket ≡ true) where
   -- the root is as the moment left it
   asked_now : leave_asked (newest (n + 1) (moments_of e)) ≡ root_asked (control_of e.past)
@@ -52,8 +48,8 @@ module _ {W N O I S T : Type 0} (K : Known S O I N) (before now : S) (d e : Lent
       ∙ ap root_asked (sym (left_now d e called.grows called.order mo more) ∙ sym called.order.control)
 
   -- it is lent still
-  pub lent_now : IsStanding K now t → ((x : EndId) → list_any (is_end x) (map (λ y. y.0) t.sealed.items) ≡ true → IsOut (ends_of s.number.0 (left_after s.number.0 (moments_of e))) x (place_of (left_after s.number.0 (moments_of e)) x)) → IsLentTo K now e (n + 1) t
-  lent_now stands out =
+  pub lent_now : IsStanding K now t → ((x : EndId) → list_any (is_end x) (map (λ y. y.0) t.sealed.items) ≡ true → IsOut (ends_of s.number.0 (left_after s.number.0 (moments_of e))) x (place_of (left_after s.number.0 (moments_of e)) x)) → WereAsked (control_of e.past) (map (λ y. y.0) t.sealed.items) → IsLentTo K now e (n + 1) t
+  lent_now stands out were =
       let same = same_number K before now d e n s t is called mo more of_it still in
       record {
         owned = record {
@@ -67,11 +63,13 @@ module _ {W N O I S T : Type 0} (K : Known S O I N) (before now : S) (d e : Lent
         order = called.order;
         told = subst TellIdentities (sym (items_now d e called.grows called.order mo more)) (identities_go_on N T d.past.workers d.items (one d e called.grows called.order mo more).item s.number.0 (comes K before now d e n s t is called mo more of_it still) is.told);
         asked = λ some. asked_now;
+        were_asked = were;
       }
 
   -- and the moment with the delimiters that are written in it led there
-  pub leads_now : e.past.given ≡ d.past.given → Leads K (record { pipes = before; desk = d; socket = Some s; since = n }) (acts_said mo) (record { pipes = now; desk = e; socket = Some t; since = n + 1 })
-  leads_now given = record {
+  pub leads_now : e.past.given ≡ d.past.given → LeavesStanding K (record { pipes = before; desk = d; socket = Some s; since = n }) (acts_said mo) (record { pipes = now; desk = e; socket = Some t; since = n + 1 })
+      → Leads K (record { pipes = before; desk = d; socket = Some s; since = n }) (acts_said mo) (record { pipes = now; desk = e; socket = Some t; since = n + 1 })
+  leads_now given standing = record {
     moments = more ∙ ap (λ l. moments_of d ++ l) (sym (said_once mo));
     since = let q = ap length (said_once mo) in omega (arith, q);
     grows = called.grows;
@@ -82,4 +80,5 @@ module _ {W N O I S T : Type 0} (K : Known S O I N) (before now : S) (d e : Lent
       sent = subst (λ l. SendsMore K now d.past.given l) (sym given) (none_sent K now d.past.given);
       over = λ closed. absurd (true≢false (sym is.owned.stands.is_open ∙ closed));
     };
+    standing = standing;
   }

@@ -53,8 +53,8 @@ pub ends_of_told : {N : Type 0} (f : EndId → EndState) (js : List (Joining N))
 ends_of_told f [] = refl
 ends_of_told f (j ∷ js) = ap (λ l. j.end ∷ l) (ends_of_told f js)
 
-module _ {W N O I S T : Type 0} (K : Known S O I N) (before now : S) (d e : Lent (Given N O I) N T) (n : ℕ) (s t : SockCore AnySock W N O I)
-    (is : IsLentTo K before d n s) (called : IsCalled K before d (Some s) now e (Some t)) (mo : Moment N T) (more : moments_of e ≡ moments_of d ++ mo ∷ [])
+module _ {W N O I S T : Type 0} {made : Bool} {may_make : EndId → ℕ → ℕ → Type 0} (K : Known S O I N) (before now : S) (d e : Lent (Given N O I) N T) (n : ℕ) (s t : SockCore AnySock W N O I)
+    (is : IsLentTo K before d n s) (called : IsCalled K made may_make before d (Some s) now e (Some t)) (mo : Moment N T) (more : moments_of e ≡ moments_of d ++ mo ∷ [])
     (of_it : IsOfItem s.number.0 mo.found mo.item) (still : (known_after s.number.0 (items_in (moments_of e))).open_socket ≡ true) where
   abbrev o : ℕ
   o = s.number.0
@@ -112,7 +112,7 @@ module _ {W N O I S T : Type 0} (K : Known S O I N) (before now : S) (d e : Lent
   pub left_behind : AreLeft o left_is (after_all e.items (begun e.past.workers))
   left_behind = open_ends_are_left N T e.past.workers e.items e.caller o open_behind
 
-  joins_more : standing_joins t.joins.items ≡ standing_joins s.joins.items ++ came_with mo.item
+  pub joins_more : standing_joins t.joins.items ≡ standing_joins s.joins.items ++ came_with mo.item
   joins_more = called.keeps.came (mo ∷ []) more ∙ ap (λ l. standing_joins s.joins.items ++ l) (append-nil (came_with mo.item))
 
   pub ends_behind : ends_of o (left_by mo) ≡ ends_of o left_was ++ map (λ (j : Joining N). j.end) (came_with mo.item)

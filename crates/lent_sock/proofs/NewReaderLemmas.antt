@@ -9,15 +9,17 @@ use Rattle.spec_control.specs.declared.letter.Word.TheVariants.{PipeTerm}
 use Rattle.spec_control.specs.Place.{At, is_here}
 use Rattle.spec_control.specs.Control.{Control, begun, is_end, place_of, ends_of}
 use Rattle.spec_control.specs.ControlRun.{after_all}
-use Rattle.control_held.specs.Moments.{Moment, items_in, left_by}
+use Rattle.control_held.specs.Moments.{Moment, left_by}
 use Rattle.control_laws.proofs.AskLemmas.{end_self}
 use Rattle.ctl_holder.specs.declared.given.Given.{Given}
 use Rattle.desk_laws.specs.Behind.{closes}
 use Rattle.msg_pipe.specs.Known.{Known}
 use Rattle.any_sock.specs.declared.any_sock.AnySock.{AnySock}
 use Rattle.held_ends.specs.declared.table.Place.{Place}
-use Rattle.held_ends.specs.Places.{place_at}
+use Rattle.ctl_plane.specs.Desk.{counts_with}
 use Rattle.sock_core.specs.declared.sock.SockCore.{SockCore}
+use Rattle.sock_calls.specs.Calls.{counts_by, holding_of}
+use Rattle.sock_open.specs.Standing.{kind_told}
 use Rattle.spec_run.specs.OpenSocket.{awaits_delimiter}
 use Rattle.spec_run.specs.Event.{IsDelivery}
 use Rattle.open_sock.specs.Reading.{ReadsOnAt}
@@ -28,6 +30,7 @@ use Rattle.open_laws.specs.Ways.{ReadsOn}
 use Rattle.open_laws.proofs.ReadLemmas.{among_ends, one_end_reads_on}
 use Rattle.open_laws.proofs.ToldLemmas.{pass_among}
 use Rattle.one_desk.specs.Lent.{Lent, moments_of}
+use Rattle.call_laws.specs.Call.{OpensBy}
 use Rattle.lent_sock.specs.Owned.{IsLentTo}
 use Rattle.lent_sock.specs.Called.{IsCalled}
 use Rattle.lent_sock.specs.Readers.{reads_on, held_places, readers_in, readers_from, AreAmong, IsNewReader}
@@ -135,9 +138,10 @@ readers_await K pipes d n s is =
     ∙ ap (filter (λ e. awaits_delimiter (place_of c e))) (held_told K pipes d n s is)
     ∙ filter_both (λ e. awaits_delimiter (place_of c e)) (λ e. is_here (place_of c e)) (λ e. awaits_here (place_of c e)) (ends_of s.number.0 c)
 
-module _ {W N O I S T : Type 0} (K : Known S O I N) (before now : S) (d e : Lent (Given N O I) N T) (n : ℕ) (s t : SockCore AnySock W N O I)
-    (is : IsLentTo K before d n s) (called : IsCalled K before d (Some s) now e (Some t)) (mo : Moment N T) (more : moments_of e ≡ moments_of d ++ mo ∷ [])
-    (of_it : IsOfItem s.number.0 mo.found mo.item) (free : closes s.number.0 mo.item ≡ false) where
+module _ {W N O I S T : Type 0} {made : Bool} {may_make : EndId → ℕ → ℕ → Type 0} (K : Known S O I N) (before now : S) (d e : Lent (Given N O I) N T) (n : ℕ) (s t : SockCore AnySock W N O I)
+    (is : IsLentTo K before d n s) (called : IsCalled K made may_make before d (Some s) now e (Some t)) (mo : Moment N T) (more : moments_of e ≡ moments_of d ++ mo ∷ [])
+    (of_it : IsOfItem s.number.0 mo.found mo.item) (free : closes s.number.0 mo.item ≡ false)
+    (opens : OpensBy made may_make s.number.0 mo) (counts : counts_with K.out_name (counts_by K before (Some s)) (holding_of kind_told (Some s)) mo.item) where
   reads_so : (slot : ℕ) (letter : Letter) → IsDelivery slot letter mo → ReadsOn s.number.0 letter mo
   reads_so slot letter delivery =
       let first = one d e called.grows called.order mo more in
@@ -151,7 +155,7 @@ module _ {W N O I S T : Type 0} (K : Known S O I N) (before now : S) (d e : Lent
   are : readers_from (Some t) 0 ≡ filter (λ x. awaits_delimiter (place_of (left_by mo) x)) (ends_of s.number.0 (left_by mo))
   are = subst (λ (c : Control). readers_from (Some t) 0 ≡ filter (λ x. awaits_delimiter (place_of c x)) (ends_of s.number.0 c)) (left_now d e called.grows called.order mo more)
       (subst (λ (i : ℕ). readers_from (Some t) 0 ≡ filter (λ x. awaits_delimiter (place_of (after_all e.items (begun e.past.workers)) x)) (ends_of i (after_all e.items (begun e.past.workers)))) called.owner
-      (readers_await K now e (n + 1) t (lent_behind K before now d e n s t is called mo more of_it free)))
+      (readers_await K now e (n + 1) t (lent_behind K before now d e n s t is called mo more of_it free opens counts)))
 
   -- the end that reads on now and did not before is that of the letter
   pub reader_told : (slot : ℕ) (letter : Letter) → IsDelivery slot letter mo → (ends : List EndId) → ends ≡ readers_from (Some s) 0 → (at : Option Reader) → IsNewReader (readers_from (Some t)) ends at → IsLeftReading N T (left_by mo) letter.word at

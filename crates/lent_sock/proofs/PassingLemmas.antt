@@ -2,6 +2,7 @@
 use Rattle.std.proofs.Common.{◌≡◌, ◌∙◌, ◌||◌, ℕ, Bool, true, List, [], ◌∷◌, ◌++◌, append-nil, map, Some, refl, sym, ap, subst}
 use Rattle.std.specs.List.{list_any}
 use Rattle.std.proofs.lemmas.List.Folds.{list_any-append}
+use Rattle.zq_base.specs.declared.ids.EndId.{EndId}
 use Rattle.control_held.specs.Moments.{Moment, items_in, left_after, left_by, moments_by, moments_from}
 use Rattle.control_held.specs.OwnAsks.{known_after}
 use Rattle.spec_control.specs.Control.{begun}
@@ -35,8 +36,8 @@ pub heard_any : (xs : List (Notice × Unit {0})) → list_any (λ x. is_stop x.0
 heard_any [] = refl
 heard_any (x ∷ xs) = ap (λ (b : Bool). is_stop x.0 || b) (heard_any xs)
 
-module _ {W N O I S T : Type 0} (K : Known S O I N) (before now : S) (d e : Lent (Given N O I) N T) (n : ℕ) (s t : SockCore AnySock W N O I)
-    (is : IsLentTo K before d n s) (called : IsCalled K before d (Some s) now e (Some t)) (mo : Moment N T) (more : moments_of e ≡ moments_of d ++ mo ∷ [])
+module _ {W N O I S T : Type 0} {made : Bool} {may_make : EndId → ℕ → ℕ → Type 0} (K : Known S O I N) (before now : S) (d e : Lent (Given N O I) N T) (n : ℕ) (s t : SockCore AnySock W N O I)
+    (is : IsLentTo K before d n s) (called : IsCalled K made may_make before d (Some s) now e (Some t)) (mo : Moment N T) (more : moments_of e ≡ moments_of d ++ mo ∷ [])
     (of_it : IsOfItem s.number.0 mo.found mo.item) (still : (known_after s.number.0 (items_in (moments_of e))).open_socket ≡ true)
     (slot : ℕ) (whole : IsWhole (Some t)) (peers : HasItsPeers (open_view slot (Some s)))
     (goes : GoesOn over (came_with mo.item) (turned_in mo.found (left_by mo)) (pattern_told s) (Some t)) where

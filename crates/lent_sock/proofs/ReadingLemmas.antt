@@ -4,14 +4,9 @@ use Rattle.std.specs.List.{list_any}
 use Rattle.std.proofs.Common.{◌≡◌, ◌<◌, ◌≤◌, ◌∙◌, ◌+◌, ◌||◌, inl, inr, ℕ, zero, suc, Bool, true, false, List, [], ◌∷◌, drop, length, Option, Some, None, refl, sym, ap, subst, true≢false, if◌then◌else◌, arith}
 use Rattle.zq_base.specs.declared.ids.EndId.{EndId}
 use Rattle.spec_pattern.specs.PipeStep.{read_through}
-use Rattle.spec_control.specs.declared.end.EndState.{EndState}
-use Rattle.spec_control.specs.declared.end.EndState.TheVariants.{Active, DelimiterGot, WaitDelimiter, AckSent, AskedOnce, AskedTwice, Gone}
-use Rattle.spec_control.specs.Place.{At}
-use Rattle.spec_control.specs.Control.{is_end, place_of, ends_of}
+use Rattle.spec_control.specs.Control.{is_end}
 use Rattle.control_laws.proofs.AskLemmas.{end_self}
-use Rattle.control_held.specs.Moments.{left_after}
 use Rattle.ctl_holder.specs.Holding.{has_end}
-use Rattle.ctl_holder.specs.Lent.{has_writer}
 use Rattle.ctl_holder.specs.declared.given.Given.{Given}
 use Rattle.ctl_holder.specs.declared.halves.Halves.{Halves}
 use Rattle.msg_pipe.specs.Known.{Known, IsThere}
@@ -22,21 +17,15 @@ use Rattle.ends.specs.Rows.{Table, table}
 use Rattle.ends.specs.Runs.{DoesOne}
 use Rattle.any_sock.specs.declared.any_sock.AnySock.{AnySock}
 use Rattle.held_ends.specs.declared.table.Place.{Place}
-use Rattle.held_ends.specs.Places.{place_at, held_of, held_in, writes_in}
+use Rattle.held_ends.specs.Places.{place_at, held_of, held_in}
 use Rattle.held_ends.specs.Sound.{Fits, IsElseOf}
 use Rattle.sock_core.specs.declared.sock.SockCore.{SockCore}
-use Rattle.sock_core.specs.Has.{holding_in}
 use Rattle.sock_calls.specs.Calls.{MayJoin}
-use Rattle.spec_run.specs.OpenSocket.{SockEnd, awaits_delimiter, place_in}
-use Rattle.open_sock.specs.Reading.{ReadsOnAt}
-use Rattle.open_sock.specs.declared.found.Reader.{Reader}
-use Rattle.sock_open.specs.Standing.{kind_told}
-use Rattle.sock_open.specs.Looking.{AreButMet, HasWhole, LooksSo}
-use Rattle.sock_open.proofs.LookLemmas.{front_of, back_of, held_so, place_met}
-use Rattle.one_desk.specs.Lent.{Lent, coming_to, moments_of}
-use Rattle.lent_sock.specs.Owned.{IsLentTo, IsThereFor, MayTakeEnds, has_met_in}
+use Rattle.sock_open.specs.Looking.{AreButMet, LooksSo}
+use Rattle.sock_open.proofs.LookLemmas.{held_so, place_met}
+use Rattle.one_desk.specs.Lent.{Lent, coming_to}
+use Rattle.lent_sock.specs.Owned.{MayTakeEnds, has_met_in}
 use Rattle.lent_sock.specs.Readers.{reads_on, held_places, readers_in, readers_from}
-use Rattle.lent_sock.specs.ReadersOwed.{is_there, own_ends}
 use Rattle.lent_sock.proofs.MailLemmas.{box_on, looks_on}
 
 more_than : {X : Type 0} (xs : List X) (x : X) → xs ≡ x ∷ xs → ⊥

@@ -1,5 +1,5 @@
 -- A lent socket that is ready is so behind one moment more that is of it, and the ends that join in it are answered as its kind answers them.
-use Rattle.std.proofs.Common.{◌≡◌, ◌≤◌, ℕ, true, List, [], ◌∷◌, ◌++◌, append-nil, length, Some, sym, subst}
+use Rattle.std.proofs.Common.{◌≡◌, ◌≤◌, ℕ, Bool, true, List, [], ◌∷◌, ◌++◌, append-nil, length, Some, sym, subst}
 use Rattle.zq_base.specs.declared.ids.EndId.{EndId}
 use Rattle.spec_control.specs.declared.end.EndState.{EndState}
 use Rattle.spec_control.specs.declared.entry.Joining.{Joining}
@@ -37,8 +37,8 @@ use Rattle.lent_sock.proofs.PassingLemmas.{passed, pattern_now, view_now}
 pub peers_in : {W N O I : Type 0} (s : SockCore AnySock W N O I) (slot : ℕ) → HasItsPeers (open_view 0 (Some s)) → HasItsPeers (open_view slot (Some s))
 peers_in s slot has = record { once = has.once; peers = λ k d lt. let h = has.peers k d lt in record { here = h.here; in_use = h.in_use } }
 
-module _ {W N O I S T : Type 0} (K : Known S O I N) (before now : S) (d e : Lent (Given N O I) N T) (n : ℕ) (s t : SockCore AnySock W N O I)
-    (is : IsLentTo K before d n s) (called : IsCalled K before d (Some s) now e (Some t)) (mo : Moment N T) (more : moments_of e ≡ moments_of d ++ mo ∷ [])
+module _ {W N O I S T : Type 0} {made : Bool} {may_make : EndId → ℕ → ℕ → Type 0} (K : Known S O I N) (before now : S) (d e : Lent (Given N O I) N T) (n : ℕ) (s t : SockCore AnySock W N O I)
+    (is : IsLentTo K before d n s) (called : IsCalled K made may_make before d (Some s) now e (Some t)) (mo : Moment N T) (more : moments_of e ≡ moments_of d ++ mo ∷ [])
     (of_it : IsOfItem s.number.0 mo.found mo.item) (still : (known_after s.number.0 (items_in (moments_of e))).open_socket ≡ true)
     (whole : IsWhole (Some s)) (peered : HasPeers (moments_of d) s) where
   joins_at : CanJoin d.past.workers d.items (one d e called.grows called.order mo more).item s.number.0 (pattern_told s)

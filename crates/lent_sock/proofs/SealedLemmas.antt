@@ -96,8 +96,8 @@ sealed_among f g (e ∷ es) x h =
     record { among = or_first (is_end x e) (list_any (is_end x) es) o.0; inactive = ap (λ (y : EndId). is_active (g y)) (same_end x e o.0) ∙ o.1 })
     (λ rest. let o = sealed_among f g es x rest in record { among = or_second (is_end x e) (list_any (is_end x) es) o.among; inactive = o.inactive })
 
-module _ {W N O I S T : Type 0} (K : Known S O I N) (before now : S) (d e : Lent (Given N O I) N T) (n : ℕ) (s t : SockCore AnySock W N O I)
-    (is : IsLentTo K before d n s) (called : IsCalled K before d (Some s) now e (Some t)) (mo : Moment N T) (more : moments_of e ≡ moments_of d ++ mo ∷ [])
+module _ {W N O I S T : Type 0} {made : Bool} {may_make : EndId → ℕ → ℕ → Type 0} (K : Known S O I N) (before now : S) (d e : Lent (Given N O I) N T) (n : ℕ) (s t : SockCore AnySock W N O I)
+    (is : IsLentTo K before d n s) (called : IsCalled K made may_make before d (Some s) now e (Some t)) (mo : Moment N T) (more : moments_of e ≡ moments_of d ++ mo ∷ [])
     (of_it : IsOfItem s.number.0 mo.found mo.item) (still : (known_after s.number.0 (items_in (moments_of e))).open_socket ≡ true) where
   abbrev o : ℕ
   o = s.number.0

@@ -15,6 +15,7 @@ use Rattle.sock_core.proofs.FindLemmas.{same_end}
 use Rattle.spec_run.specs.OpenSocket.{place_in}
 use Rattle.lent_sock.specs.ReadersOwed.{told_where}
 use Rattle.lent_sock.proofs.ReadingLemmas.{has_held}
+use Rattle.lent_sock.proofs.StandLemmas.{among_filter}
 
 or_elim : (b c : Bool) → b || c ≡ true → b ≡ false → c ≡ true
 or_elim false c h e = h
@@ -27,21 +28,6 @@ place_found c (d ∷ es) e h = by (λ k. place_found c es e k) (is_end e d) refl
   by : (list_any (is_end e) es ≡ true → place_in (map (told_where c) es) e ≡ place_of c e) → (b : Bool) → is_end e d ≡ b → (if is_end e d then place_of c d else place_in (map (told_where c) es) e) ≡ place_of c e
   by rest true is = ap (λ (b : Bool). if b then place_of c d else place_in (map (told_where c) es) e) is ∙ ap (place_of c) (sym (same_end e d is))
   by rest false is = ap (λ (b : Bool). if b then place_of c d else place_in (map (told_where c) es) e) is ∙ rest (or_elim (is_end e d) (list_any (is_end e) es) h is)
-
-pub among_filter : (f : EndId → Bool) (es : List EndId) (e : EndId) → list_any (is_end e) (filter f es) ≡ true → list_any (is_end e) es ≡ true
-among_filter f [] e h = h
-among_filter f (d ∷ es) e h = by (λ k. among_filter f es e k) (f d) refl where
-  or_second : (b c : Bool) → c ≡ true → b || c ≡ true
-  or_second true c x = refl
-  or_second false c x = x
-
-  or_both : (b c c' : Bool) → (c ≡ true → c' ≡ true) → b || c ≡ true → b || c' ≡ true
-  or_both true c c' g x = refl
-  or_both false c c' g x = g x
-
-  by : (list_any (is_end e) (filter f es) ≡ true → list_any (is_end e) es ≡ true) → (b : Bool) → f d ≡ b → is_end e d || list_any (is_end e) es ≡ true
-  by rest true is = or_both (is_end e d) (list_any (is_end e) (filter f es)) (list_any (is_end e) es) rest (sym (ap (λ (b : Bool). list_any (is_end e) (if b then d ∷ filter f es else filter f es)) is) ∙ h)
-  by rest false is = or_second (is_end e d) (list_any (is_end e) es) (rest (sym (ap (λ (b : Bool). list_any (is_end e) (if b then d ∷ filter f es else filter f es)) is) ∙ h))
 
 pub among_held : {N : Type 0} (hs : List (Held N)) (e : EndId) → has_end e hs ≡ list_any (is_end e) (map (λ (x : Held N). x.end) hs)
 among_held [] e = refl

@@ -36,9 +36,10 @@ use Rattle.lent_sock.proofs.BehindLemmas.{ends_so, stands_so}
 use Rattle.lent_sock.proofs.MovesLemmas.{ends_in, ends_of_told}
 use Rattle.lent_sock.proofs.NamingLemmas.{told_named}
 use Rattle.lent_sock.proofs.PassingLemmas.{heard_any}
+use Rattle.lent_sock.proofs.StandLemmas.{asked_by_none, stands_by_none}
 
-module _ {W N O I S T : Type 0} (K : Known S O I N) (before now : S) (d e : Lent (Given N O I) N T) (n : ℕ) (s t : SockCore AnySock W N O I)
-    (is : IsLentTo K before d n s) (called : IsCalled K before d (Some s) now e (Some t)) (same : moments_of e ≡ moments_of d) where
+module _ {W N O I S T : Type 0} {made : Bool} {may_make : EndId → ℕ → ℕ → Type 0} (K : Known S O I N) (before now : S) (d e : Lent (Given N O I) N T) (n : ℕ) (s t : SockCore AnySock W N O I)
+    (is : IsLentTo K before d n s) (called : IsCalled K made may_make before d (Some s) now e (Some t)) (same : moments_of e ≡ moments_of d) where
   abbrev o : ℕ
   o = s.number.0
 
@@ -89,6 +90,7 @@ module _ {W N O I S T : Type 0} (K : Known S O I N) (before now : S) (d e : Lent
         ap (λ (l : List (Moment N T)). leave_asked (newest n l)) same
         ∙ is.asked (subst (λ (l : List (Moment N T)). 0 < length (newest n l)) same some)
         ∙ ap root_asked (sym as_before.control);
+    were_asked = asked_by_none K before now d e n s t is called holds same;
   }
 
   pub leads_stays : e.past.given ≡ d.past.given → Leads K (record { pipes = before; desk = d; socket = Some s; since = n }) [] (record { pipes = now; desk = e; socket = Some t; since = n })
@@ -103,6 +105,7 @@ module _ {W N O I S T : Type 0} (K : Known S O I N) (before now : S) (d e : Lent
       sent = subst (λ l. SendsMore K now d.past.given l) (sym given) (none_sent K now d.past.given);
       over = λ closed. absurd (true≢false (sym is.owned.stands.is_open ∙ closed));
     };
+    standing = stands_by_none K before now d e n s t is called holds same n;
   }
 
   stopped_same : t.stopped ≡ s.stopped

@@ -1,5 +1,6 @@
 -- A lent socket stands behind one moment more that is of it.
-use Rattle.std.proofs.Common.{◌≡◌, ℕ, true, [], ◌∷◌, ◌++◌, Some}
+use Rattle.std.proofs.Common.{◌≡◌, ℕ, Bool, true, [], ◌∷◌, ◌++◌, Some}
+use Rattle.zq_base.specs.declared.ids.EndId.{EndId}
 use Rattle.control_held.specs.Moments.{Moment, items_in}
 use Rattle.control_held.specs.OwnAsks.{known_after}
 use Rattle.ctl_holder.specs.declared.given.Given.{Given}
@@ -15,8 +16,8 @@ use Rattle.lent_sock.proofs.BehindLemmas.{stands_so}
 use Rattle.lent_sock.proofs.MovesLemmas.{same_number, joined_are, open_now, holds_now}
 use Rattle.lent_sock.proofs.SealedLemmas.{sealed_now}
 
-module _ {W N O I S T : Type 0} (K : Known S O I N) (before now : S) (d e : Lent (Given N O I) N T) (n : ℕ) (s t : SockCore AnySock W N O I)
-    (is : IsLentTo K before d n s) (called : IsCalled K before d (Some s) now e (Some t)) (mo : Moment N T) (more : moments_of e ≡ moments_of d ++ mo ∷ [])
+module _ {W N O I S T : Type 0} {made : Bool} {may_make : EndId → ℕ → ℕ → Type 0} (K : Known S O I N) (before now : S) (d e : Lent (Given N O I) N T) (n : ℕ) (s t : SockCore AnySock W N O I)
+    (is : IsLentTo K before d n s) (called : IsCalled K made may_make before d (Some s) now e (Some t)) (mo : Moment N T) (more : moments_of e ≡ moments_of d ++ mo ∷ [])
     (of_it : IsOfItem s.number.0 mo.found mo.item) (still : (known_after s.number.0 (items_in (moments_of e))).open_socket ≡ true) where
   abbrev o : ℕ
   o = s.number.0

@@ -1,5 +1,5 @@
 -- A command that is taken from a socket's mailbox is for the socket; and of its ends behind it, those that were there before are its before.
-use Rattle.std.proofs.Common.{◌≡◌, ◌∙◌, ◌==◌, ◌||◌, ◌+◌, ◌<◌, ◌++◌, ℕ, zero, suc, Bool, true, false, List, [], ◌∷◌, filter, Some, refl, sym, ap, subst, true≢false, arith, eq-eqb, if◌then◌else◌}
+use Rattle.std.proofs.Common.{◌≡◌, ◌∙◌, ◌==◌, ◌||◌, ◌+◌, ◌<◌, ℕ, zero, suc, Bool, true, false, List, [], ◌∷◌, filter, refl, sym, ap, subst, true≢false, arith, eq-eqb, if◌then◌else◌}
 use Rattle.std.specs.List.{list_any}
 use Rattle.std.proofs.lemmas.Bool.{eqb-true}
 use Rattle.zq_base.specs.declared.ids.EndId.{EndId}
@@ -12,9 +12,9 @@ use Rattle.spec_control.specs.Stage.{has_ended}
 use Rattle.spec_control.specs.Place.{is_here}
 use Rattle.spec_control.specs.Row.{Row, nobody}
 use Rattle.spec_control.specs.Rows.{obj}
-use Rattle.spec_control.specs.Control.{Control, begun, id, is_end, next_object, owner_of, place_of, ends_of}
+use Rattle.spec_control.specs.Control.{Control, id, is_end, next_object, owner_of, place_of, ends_of}
 use Rattle.spec_control.specs.After.{after}
-use Rattle.spec_control.specs.ControlRun.{FitsItem, after_item, after_all}
+use Rattle.spec_control.specs.ControlRun.{FitsItem, after_item}
 use Rattle.control_rows.proofs.ListLemmas.{placed}
 use Rattle.control_laws.specs.Kept.{Kept}
 use Rattle.control_laws.proofs.RootLemmas.{oldest_lives}
@@ -26,7 +26,7 @@ use Rattle.ctl_plane.specs.Desk.{by_caller, slot_after}
 use Rattle.sock_core.proofs.FindLemmas.{same_end}
 use Rattle.open_laws.proofs.ReadLemmas.{among_ends}
 use Rattle.open_laws.proofs.ToldLemmas.{pass_among}
-use Rattle.one_desk.specs.Lent.{Lent, moments_of, HasSocket, HaveOwnBoxes, IsOneOrder}
+use Rattle.one_desk.specs.Lent.{Lent, moments_of, HasSocket, HaveOwnBoxes}
 use Rattle.desk_laws.specs.Behind.{IsLastItem, IsOneCall}
 use Rattle.desk_laws.proofs.LastLemmas.{moments_are_last}
 use Rattle.desk_laws.proofs.SendLemmas.{fits_last}

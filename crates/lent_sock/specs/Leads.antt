@@ -9,6 +9,7 @@ use Rattle.sock_core.specs.declared.sock.SockCore.{SockCore}
 use Rattle.sock_calls.specs.Calls.{LeavesOthers}
 use Rattle.one_desk.specs.Lent.{GrowsBy, moments_of}
 use Rattle.lent_sock.specs.Owned.{LentParts}
+use Rattle.lent_sock.specs.Leaving.{LeavesStanding}
 
 -- a socket is there, and was not closed
 abbrev pub is_open_in : {W N O I : Type 0} → Option (SockCore AnySock W N O I) → Bool
@@ -30,10 +31,11 @@ module _ {W N O I S T : Type 0} (K : Known S O I N) where
     pub sent : SendsMore K new.pipes old.desk.past.given new.desk.past.given
     pub over : is_open_in old.socket ≡ false → (new.pipes ≡ old.pipes) × (new.desk.past.given ≡ old.desk.past.given)
 
-  -- the caller's moments and no others are those in the acts, and the ends of other sockets are left
+  -- the caller's moments and no others are those in the acts, the ends of other sockets are left, and what stood of the pipes stands
   pub record Leads (old : LentParts W N O I S T) (acts : List (Act N T)) (new : LentParts W N O I S T) : Type 0 where
     pub moments : moments_of new.desk ≡ moments_of old.desk ++ moments_in acts
     pub since : new.since ≡ old.since + length (moments_in acts)
     pub grows : GrowsBy old.desk new.desk
     pub others : is_some old.socket ≡ true → LeavesOthers K old.socket new.socket old.pipes new.pipes
     pub given : GivesAtClose old new
+    pub standing : LeavesStanding K old acts new

@@ -15,6 +15,7 @@ use Rattle.sock_calls.specs.Calls.{LeavesOthers}
 use Rattle.open_sock.proofs.StepLemmas.{moments_more}
 use Rattle.one_desk.specs.Lent.{Lent, GrowsBy, moments_of}
 use Rattle.lent_sock.specs.Owned.{LentParts, newest, moments_since}
+use Rattle.lent_sock.specs.LeavingOwed.{standing_none, standing_more}
 use Rattle.lent_sock.specs.Leads.{is_open_in, SendsMore, GivesAtClose, Leads}
 
 -- ---- the moments since
@@ -98,6 +99,7 @@ module _ {W N O I S T : Type 0} (K : Known S O I N) where
     grows = grows_none s.desk;
     others = leaves_same K s.socket s.pipes;
     given = gives_none s;
+    standing = standing_none K s;
   }
 
   pub led_more : (s t u : LentParts W N O I S T) (before after : List (Act N T)) → Leads K s before t → Leads K t after u → Leads K s (before ++ after) u
@@ -107,6 +109,7 @@ module _ {W N O I S T : Type 0} (K : Known S O I N) where
     grows = grows_more s.desk t.desk u.desk a.grows b.grows;
     others = λ is. let x = a.others is in leaves_more K s.socket t.socket u.socket s.pipes t.pipes u.pipes x (b.others (left_there K s.socket t.socket s.pipes t.pipes x));
     given = gives_more s t u a.given b.given;
+    standing = standing_more K s t u before after b.grows a.standing b.standing;
   }
 
   pub led_moments : (s t : LentParts W N O I S T) (acts : List (Act N T)) → Leads K s acts t → moments_since t ≡ moments_since s ++ moments_in acts

@@ -25,6 +25,7 @@ use Rattle.sock_open.specs.View.{ends_told, open_view}
 use Rattle.sock_open.specs.Standing.{IsStanding, kind_told}
 use Rattle.open_laws.specs.Bounds.{TellIdentities}
 use Rattle.open_laws.specs.Open.{ends_at}
+use Rattle.past_laws.specs.Asked.{WereAsked}
 use Rattle.one_desk.specs.Lent.{Lent, IsOneOrder, coming_to, moments_of}
 
 -- an end is among these, and can't be written where it is
@@ -83,6 +84,8 @@ module _ {W N O I S T : Type 0} where
       -- each identity that was told is one that a peer may say
       pub told : TellIdentities d.items
       pub asked : 0 < length (newest since (moments_of d)) → leave_asked (newest since (moments_of d)) ≡ root_asked (control_of d.past)
+      -- each end that it was told to seal was asked
+      pub were_asked : WereAsked (control_of d.past) (map (λ x. x.0) s.sealed.items)
 
     -- a socket is there, and is so
     abbrev pub IsThereFor : S → Lent (Given N O I) N T → ℕ → Option (SockCore AnySock W N O I) → Type 0

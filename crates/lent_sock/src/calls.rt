@@ -1,15 +1,17 @@
 ghost use Rattle.std.specs.Prelude.{◌≡◌, ◌++◌, true, false, List, IfOk, OnErr};
 ghost use Rattle.spec_control.specs.Place.{looks};
-ghost use Rattle.spec_control.specs.Control.{id, place_of};
+ghost use Rattle.spec_control.specs.Control.{Control, id, place_of};
 ghost use Rattle.spec_control.specs.declared.request.Req.TheVariants.{Bind, Connect, Unbind};
 ghost use Rattle.spec_control.specs.declared.request.Req.TheVariants.{Disconnect, Close};
 ghost use Rattle.control_held.specs.Moments.{Moment, left_after};
 ghost use Rattle.ctl_holder.specs.Holding.{has_end};
+ghost use Rattle.ctl_holder.specs.Making.{IsMadeFor};
+ghost use Rattle.ctl_history.specs.Past.{control_of};
 ghost use Rattle.ctl_plane.specs.Asking.{IsInproc};
 ghost use Rattle.ctl_plane.specs.Coming.{SendsEnds};
-ghost use Rattle.ctl_plane.specs.Desk.{AsksOnce, DelimitsOrNot, GivesOrNot, slot_after};
+ghost use Rattle.ctl_plane.specs.Desk.{AsksOnce, CountsWith, DelimitsOrNot, GivesOrNot, slot_after};
 ghost use Rattle.any_sock.specs.Over.{over};
-ghost use Rattle.sock_calls.specs.Calls.{owner_of, holding_of, HasNone};
+ghost use Rattle.sock_calls.specs.Calls.{owner_of, holding_of, counts_by, HasNone, HaveDone, OnlyMake};
 ghost use Rattle.sock_calls.specs.Passing.{Passes};
 ghost use Rattle.sock_open.specs.Standing.{IsWhole, kind_told};
 ghost use Rattle.one_desk.specs.Lent.{moments_of};
@@ -40,7 +42,10 @@ where
     ensures err { OnErr result (moments_of lent.new.desk ≡ moments_of lent.old.desk) }
     ensures given { lent.new.desk.past.given ≡ lent.old.desk.past.given }
     ensures since { lent.new.since ≡ lent.old.since }
-    ensures called { IsCalled P.known lent.old.pipes lent.old.desk lent.old.socket.core
+    ensures called { IsCalled P.known true (λ e written read. (c : Control)
+        × (c ≡ control_of lent.old.desk.past) × IsMadeFor c (owner_of lent.old.socket.core)
+        (Bind (id (owner_of lent.old.socket.core)) at.now) e written read)
+        lent.old.pipes lent.old.desk lent.old.socket.core
         lent.new.pipes lent.new.desk lent.new.socket.core }
     ensures whole { IsWhole lent.old.socket.core → IsWhole lent.new.socket.core }
     ensures passes { (more : List (Moment P.Name P.Story)) →
@@ -69,7 +74,10 @@ where
     ensures err { OnErr result (moments_of lent.new.desk ≡ moments_of lent.old.desk) }
     ensures given { lent.new.desk.past.given ≡ lent.old.desk.past.given }
     ensures since { lent.new.since ≡ lent.old.since }
-    ensures called { IsCalled P.known lent.old.pipes lent.old.desk lent.old.socket.core
+    ensures called { IsCalled P.known true (λ e written read. (c : Control)
+        × (c ≡ control_of lent.old.desk.past) × IsMadeFor c (owner_of lent.old.socket.core)
+        (Connect (id (owner_of lent.old.socket.core)) at.now) e written read)
+        lent.old.pipes lent.old.desk lent.old.socket.core
         lent.new.pipes lent.new.desk lent.new.socket.core }
     ensures whole { IsWhole lent.old.socket.core → IsWhole lent.new.socket.core }
     ensures passes { (more : List (Moment P.Name P.Story)) →
@@ -99,7 +107,8 @@ where
     ensures err { OnErr result (moments_of lent.new.desk ≡ moments_of lent.old.desk) }
     ensures given { lent.new.desk.past.given ≡ lent.old.desk.past.given }
     ensures since { lent.new.since ≡ lent.old.since }
-    ensures called { IsCalled P.known lent.old.pipes lent.old.desk lent.old.socket.core
+    ensures called { IsCalled P.known true (λ e written read. ⊥)
+        lent.old.pipes lent.old.desk lent.old.socket.core
         lent.new.pipes lent.new.desk lent.new.socket.core }
     ensures whole { IsWhole lent.old.socket.core → IsWhole lent.new.socket.core }
     ensures passes { (more : List (Moment P.Name P.Story)) →
@@ -129,7 +138,8 @@ where
     ensures err { OnErr result (moments_of lent.new.desk ≡ moments_of lent.old.desk) }
     ensures given { lent.new.desk.past.given ≡ lent.old.desk.past.given }
     ensures since { lent.new.since ≡ lent.old.since }
-    ensures called { IsCalled P.known lent.old.pipes lent.old.desk lent.old.socket.core
+    ensures called { IsCalled P.known true (λ e written read. ⊥)
+        lent.old.pipes lent.old.desk lent.old.socket.core
         lent.new.pipes lent.new.desk lent.new.socket.core }
     ensures whole { IsWhole lent.old.socket.core → IsWhole lent.new.socket.core }
     ensures passes { (more : List (Moment P.Name P.Story)) →
@@ -157,10 +167,15 @@ where
     ensures ok { IfOk result (λ found. GivesOrNot lent.old.desk.caller
         (slot_after (owner_of lent.old.socket.core) (moments_of lent.old.desk)) found
         (moments_of lent.old.desk) (moments_of lent.new.desk)) }
+    ensures counts { CountsWith P.known.out_name
+        (counts_by P.known lent.old.pipes lent.old.socket.core)
+        (moments_of lent.old.desk) (moments_of lent.new.desk)
+        (holding_of kind_told lent.old.socket.core) }
     ensures err { OnErr result (moments_of lent.new.desk ≡ moments_of lent.old.desk) }
     ensures given { lent.new.desk.past.given ≡ lent.old.desk.past.given }
     ensures since { lent.new.since ≡ lent.old.since }
-    ensures called { IsCalled P.known lent.old.pipes lent.old.desk lent.old.socket.core
+    ensures called { IsCalled P.known false (λ e written read. ⊥)
+        lent.old.pipes lent.old.desk lent.old.socket.core
         lent.new.pipes lent.new.desk lent.new.socket.core }
     ensures whole { IsWhole lent.old.socket.core → IsWhole lent.new.socket.core }
     ensures passes { (more : List (Moment P.Name P.Story)) →
@@ -193,7 +208,8 @@ where
         (moments_of lent.old.desk)) end) ≡ false }
     ensures given { lent.new.desk.past.given ≡ lent.old.desk.past.given }
     ensures since { lent.new.since ≡ lent.old.since }
-    ensures called { IsCalled P.known lent.old.pipes lent.old.desk lent.old.socket.core
+    ensures called { IsCalled P.known false (λ e written read. ⊥)
+        lent.old.pipes lent.old.desk lent.old.socket.core
         lent.new.pipes lent.new.desk lent.new.socket.core }
     ensures whole { IsWhole lent.old.socket.core → IsWhole lent.new.socket.core }
     ensures passes { (more : List (Moment P.Name P.Story)) →
@@ -221,13 +237,19 @@ where
         (moments_of lent.old.desk) (moments_of lent.new.desk)) }
     ensures none { IfOk result (λ _. HasNone lent.new.socket.core) }
     ensures given { IfOk result (λ _. SendsEnds P.known lent.new.pipes
+        (holding_of kind_told lent.old.socket.core).sealed
         (Close (id (owner_of lent.old.socket.core)))
         lent.old.desk.past.given lent.new.desk.past.given) }
     ensures err { OnErr result ((moments_of lent.new.desk ≡ moments_of lent.old.desk)
         × (lent.new.desk.past.given ≡ lent.old.desk.past.given)) }
     ensures since { lent.new.since ≡ lent.old.since }
-    ensures called { IsCalled P.known lent.old.pipes lent.old.desk lent.old.socket.core
+    ensures called { IsCalled P.known true (λ e written read. ⊥)
+        lent.old.pipes lent.old.desk lent.old.socket.core
         lent.new.pipes lent.new.desk lent.new.socket.core }
+    ensures does { (done : HaveDone P.known true (λ e written read. ⊥)
+        lent.old.socket.core lent.new.socket.core lent.old.pipes lent.new.pipes)
+        × OnlyMake P.known true (λ e written read. ⊥)
+        lent.old.socket.core lent.new.socket.core lent.old.pipes lent.new.pipes done }
 {
     let done = lent.socket.close(alloc, &mut lent.pipes, &mut lent.desk);
     lent.desk.is_of_one_order();

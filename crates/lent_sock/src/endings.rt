@@ -1,7 +1,12 @@
 ghost use Rattle.std.specs.Prelude.{◌≡◌, ◌+◌, true, OnOk, OnErr};
+ghost use Rattle.spec_control.specs.Control.{id};
+ghost use Rattle.spec_control.specs.declared.request.Req.TheVariants.{Close};
+ghost use Rattle.ctl_plane.specs.Coming.{SendsEnds};
+ghost use Rattle.sock_calls.specs.Calls.{owner_of, holding_of};
+ghost use Rattle.sock_open.specs.Standing.{kind_told};
 ghost use Rattle.open_sock.specs.Reading.{ReadsOnAt};
 ghost use Rattle.open_sock.specs.Steps.{LeadsSome, ClosesOpen, MeetsEnd};
-ghost use Rattle.lent_sock.specs.Owned.{parts, view_of, has_met_in, Agrees};
+ghost use Rattle.lent_sock.specs.Owned.{parts, view_of, has_met_in, Agrees, MayTakeEnds};
 ghost use Rattle.lent_sock.specs.Leads.{Leads};
 ghost use Rattle.lent_sock.specs.Readers.{readers_from};
 ghost use Rattle.lent_sock.specs.Ready.{IsReady};
@@ -29,6 +34,8 @@ where
         ≡ readers_from lent.old.socket.core (reader.place + 1) }
     ensures ready { IsReady (parts lent.new.pipes lent.new.desk lent.new.socket.core lent.new.since.items) }
     ensures agrees { Agrees P.known (parts lent.new.pipes lent.new.desk lent.new.socket.core lent.new.since.items) }
+    ensures may { MayTakeEnds P.known (parts lent.old.pipes lent.old.desk lent.old.socket.core lent.old.since.items)
+        → MayTakeEnds P.known (parts lent.new.pipes lent.new.desk lent.new.socket.core lent.new.since.items) }
 {
     is_told(&lent.socket.core);
     call_meet(alloc, lent, reader.end);
@@ -36,7 +43,7 @@ where
 }
 
 /// Closes it (zmq_close(3)): its ends are on their way to the reaper. Want of memory leaves it open.
-pub(crate) fn close<P: HeldPipes + Drop>(
+pub fn close_lent<P: HeldPipes + Drop>(
     alloc: Global,
     lent: &mut LentSock<P>,
 ) -> Result<(), AllocError>
@@ -51,6 +58,10 @@ where
         (parts lent.old.pipes lent.old.desk lent.old.socket.core lent.old.since.items)
         (parts lent.new.pipes lent.new.desk lent.new.socket.core lent.new.since.items)) }
     ensures back { OnErr result (Agrees P.known (parts lent.new.pipes lent.new.desk lent.new.socket.core lent.new.since.items)) }
+    ensures sent { OnOk result (SendsEnds P.known lent.new.pipes
+        (holding_of kind_told lent.old.socket.core).sealed
+        (Close (id (owner_of lent.old.socket.core)))
+        lent.old.desk.past.given lent.new.desk.past.given) }
 {
     match call_close(alloc, lent) {
         Ok(_) => {

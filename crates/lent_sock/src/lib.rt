@@ -12,6 +12,8 @@ mod mails;
 mod ranks;
 mod readers;
 mod sock;
+mod steps;
 mod taking;
 
+pub use endings::close_lent;
 pub use sock::LentSock;

@@ -1,31 +1,14 @@
 ghost use Rattle.std.specs.Prelude.{◌≡◌, ◌++◌, ◌∷◌, ◌&&◌, [], ℕ, IfOk, OnOk, drop, not};
 ghost use Rattle.std.specs.List.{list_any};
 ghost use Rattle.spec_control.specs.Control.{is_end};
-ghost use Rattle.spec_control.specs.Place.{At};
-ghost use Rattle.spec_run.specs.OpenSocket.{awaits_delimiter};
 ghost use Rattle.open_sock.specs.Reading.{IsNextReader};
 ghost use Rattle.lent_sock.specs.Readers.{reads_on, readers_in, IsNewReader};
 
 use held_ends::Place;
 use open_sock::Reader;
-use spec_control::EndState;
+use sock_core::awaits;
 use std::alloc::{AllocError, Global};
 use zq_base::EndId;
-
-// Whether an end that is so far reads on to its delimiter.
-fn awaits(state: EndState) -> bool
-    ensures { result ≡ awaits_delimiter (At state) }
-{
-    match state {
-        EndState::WaitDelimiter => true,
-        EndState::Active => false,
-        EndState::DelimiterGot => false,
-        EndState::AckSent => false,
-        EndState::AskedOnce => false,
-        EndState::AskedTwice => false,
-        EndState::Gone => false,
-    }
-}
 
 // Whether the end at the place is held, and does.
 fn reads_on<N, I>(place: &Place<N, I>) -> bool

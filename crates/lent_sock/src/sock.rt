@@ -6,6 +6,7 @@ use sock_calls::Socket;
 
 /// A socket that its caller has open, lent with the pipes of all ends and the control plane for one
 /// call.
+#[derive(Drop)]
 pub struct LentSock<P: HeldPipes> {
     pub pipes: P,
     pub desk: OneDesk<P>,

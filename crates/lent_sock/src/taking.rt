@@ -93,6 +93,7 @@ where
         (parts lent.new.pipes lent.new.desk lent.new.socket.core lent.new.since.items)) }
     ensures ready { IsReady (parts lent.new.pipes lent.new.desk lent.new.socket.core lent.new.since.items) }
     ensures agrees { Agrees P.known (parts lent.new.pipes lent.new.desk lent.new.socket.core lent.new.since.items) }
+    ensures may { MayTakeEnds P.known (parts lent.new.pipes lent.new.desk lent.new.socket.core lent.new.since.items) }
 {
     match call_take(alloc, lent) {
         Ok(delivery) => {
@@ -124,6 +125,7 @@ where
         (parts lent.new.pipes lent.new.desk lent.new.socket.core lent.new.since.items)) }
     ensures ready { IsReady (parts lent.new.pipes lent.new.desk lent.new.socket.core lent.new.since.items) }
     ensures agrees { Agrees P.known (parts lent.new.pipes lent.new.desk lent.new.socket.core lent.new.since.items) }
+    ensures may { MayTakeEnds P.known (parts lent.new.pipes lent.new.desk lent.new.socket.core lent.new.since.items) }
 {
     is_told(&lent.socket.core);
     match ends_reading(alloc, &lent.socket.core) {

@@ -12,7 +12,7 @@ use Rattle.open_sock.specs.Steps.{RequestsSo}
 use Rattle.one_desk.specs.Lent.{moments_of}
 use Rattle.lent_sock.specs.Owned.{parts, view_of, moments_since}
 use Rattle.lent_sock.specs.Leads.{Leads}
-use Rattle.lent_sock.proofs.AskLemmas.{has_asked, has_stayed, one_longer, at_err}
+use Rattle.lent_sock.proofs.AskLemmas.{has_asked, has_stayed, opens_made, one_longer, at_err}
 use Rattle.lent_sock.proofs.asks.connect.Goals as goal
 
 pub returns-in-Ok-clause-ok : goal.returns-in-Ok-clause-ok
@@ -24,6 +24,7 @@ returns-in-Ok-clause-ok g c =
     (parts l.pipes l.desk l.socket.core l.since.items) (parts m.pipes m.desk m.socket.core c.and-lent.result.items)) (sym c.reply_answer.ensures)
     (has_asked g.P.Pipes.known l.pipes m.pipes l.desk m.desk (length l.since.items) l.socket.core m.socket.core c.requires.agrees c.is_told.ensures c.requires.ready x.ensures.called x.ensures.given x.ensures.whole x.ensures.passes
     (λ o. Connect (id o) c.args.to.now) c.in-Ok.reply refl refl (IfOk-at_ok (λ (r : Reply). AsksOnce l.desk.caller (Connect (id (owner_of l.socket.core)) c.args.to.now) r (moments_of l.desk) (moments_of m.desk)) c.in-Ok.is x.ensures.ok)
+    (opens_made l.desk (owner_of l.socket.core) (Connect (id (owner_of l.socket.core)) c.args.to.now) c.in-Ok.reply refl)
     (length c.and-lent.result.items) (one_longer l.since.items m.since.items c.and-lent.result.items _ c.and-lent.ensures (ap (λ (y : Log (Unit {0}) (Unit {0})). y.items) x.ensures.since))).asks
 
 pub returns-in-Ok-clause-ready : goal.returns-in-Ok-clause-ready
@@ -33,6 +34,7 @@ returns-in-Ok-clause-ready g c =
     let m = x.new.lent in
     (has_asked g.P.Pipes.known l.pipes m.pipes l.desk m.desk (length l.since.items) l.socket.core m.socket.core c.requires.agrees c.is_told.ensures c.requires.ready x.ensures.called x.ensures.given x.ensures.whole x.ensures.passes
     (λ o. Connect (id o) c.args.to.now) c.in-Ok.reply refl refl (IfOk-at_ok (λ (r : Reply). AsksOnce l.desk.caller (Connect (id (owner_of l.socket.core)) c.args.to.now) r (moments_of l.desk) (moments_of m.desk)) c.in-Ok.is x.ensures.ok)
+    (opens_made l.desk (owner_of l.socket.core) (Connect (id (owner_of l.socket.core)) c.args.to.now) c.in-Ok.reply refl)
     (length c.and-lent.result.items) (one_longer l.since.items m.since.items c.and-lent.result.items _ c.and-lent.ensures (ap (λ (y : Log (Unit {0}) (Unit {0})). y.items) x.ensures.since))).ready
 
 pub returns-in-Ok-clause-agrees : goal.returns-in-Ok-clause-agrees
@@ -42,6 +44,7 @@ returns-in-Ok-clause-agrees g c =
     let m = x.new.lent in
     (has_asked g.P.Pipes.known l.pipes m.pipes l.desk m.desk (length l.since.items) l.socket.core m.socket.core c.requires.agrees c.is_told.ensures c.requires.ready x.ensures.called x.ensures.given x.ensures.whole x.ensures.passes
     (λ o. Connect (id o) c.args.to.now) c.in-Ok.reply refl refl (IfOk-at_ok (λ (r : Reply). AsksOnce l.desk.caller (Connect (id (owner_of l.socket.core)) c.args.to.now) r (moments_of l.desk) (moments_of m.desk)) c.in-Ok.is x.ensures.ok)
+    (opens_made l.desk (owner_of l.socket.core) (Connect (id (owner_of l.socket.core)) c.args.to.now) c.in-Ok.reply refl)
     (length c.and-lent.result.items) (one_longer l.since.items m.since.items c.and-lent.result.items _ c.and-lent.ensures (ap (λ (y : Log (Unit {0}) (Unit {0})). y.items) x.ensures.since))).agrees
 
 pub returns-in-Err-clause-err : goal.returns-in-Err-clause-err

@@ -46,3 +46,12 @@ returns-clause-agrees g c =
     (has_met g.P.Pipes.known l.pipes m.pipes l.desk m.desk (length l.since.items) c.args.reader l.socket.core m.socket.core c.requires.agrees c.is_told.ensures c.requires.ready x.ensures.called x.ensures.given x.ensures.whole x.ensures.passes
     c.requires.reads x.result x.ensures.found x.ensures.not_looked (length c.and-lent.result.items)
     (one_longer l.since.items m.since.items c.and-lent.result.items _ c.and-lent.ensures (ap (λ (y : Log (Unit {0}) (Unit {0})). y.items) x.ensures.since))).agrees
+
+pub returns-clause-may : goal.returns-clause-may
+returns-clause-may g c =
+    let l = c.args.lent.now in
+    let x = c.call_meet in
+    let m = x.new.lent in
+    (has_met g.P.Pipes.known l.pipes m.pipes l.desk m.desk (length l.since.items) c.args.reader l.socket.core m.socket.core c.requires.agrees c.is_told.ensures c.requires.ready x.ensures.called x.ensures.given x.ensures.whole x.ensures.passes
+    c.requires.reads x.result x.ensures.found x.ensures.not_looked (length c.and-lent.result.items)
+    (one_longer l.since.items m.since.items c.and-lent.result.items _ c.and-lent.ensures (ap (λ (y : Log (Unit {0}) (Unit {0})). y.items) x.ensures.since))).may

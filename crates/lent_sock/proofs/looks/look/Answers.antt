@@ -1,10 +1,9 @@
 use Rattle.std.proofs.Common.{◌∙◌, ◌∷◌, [], length, refl, ap}
 use Rattle.spec_pattern.specs.PipeStep.{read_through}
 use Rattle.msg_pipe.specs.Told.{front_step}
-use Rattle.spec_run.specs.Act.{Step}
 use Rattle.sock_open.specs.View.{open_view}
 use Rattle.lent_sock.specs.Owned.{parts, box_of}
-use Rattle.lent_sock.proofs.MailLemmas.{looks_on, leads_on, there_on, box_on}
+use Rattle.lent_sock.proofs.MailLemmas.{looks_on, look_makes, leads_on, there_on, box_on}
 use Rattle.lent_sock.proofs.HereLemmas.{has_whole}
 use Rattle.lent_sock.proofs.ReadingLemmas.{readings_stay, met_so, may_still}
 use Rattle.one_desk.specs.Lent.{moments_of}
@@ -24,7 +23,8 @@ returns-clause-looked g c =
     let n = length l.since.items in
     let on = looks_on K c.args.reader.end c.look.result l.pipes m.pipes l.socket.core m.socket c.look.ensures.looks in
     record {
-      led = leads_on K l.desk n l.pipes m.pipes l.socket.core m.socket (Step (front_step (read_through c.args.reader.end) c.look.result) ∷ []) refl c.requires.agrees c.look.ensures.others on;
+      led = leads_on K l.desk n l.pipes m.pipes l.socket.core m.socket (front_step (read_through c.args.reader.end) c.look.result ∷ [])
+          (look_makes K c.args.reader.end c.look.result l.pipes m.pipes l.socket.core m.socket c.look.ensures.looks) c.requires.agrees c.look.ensures.others on;
       stays = ap (λ b. open_view b m.socket) (box_on K l.desk n l.pipes m.pipes l.socket.core m.socket on) ∙ c.look.ensures.view (box_of (parts l.pipes l.desk l.socket.core l.since.items));
     }
 

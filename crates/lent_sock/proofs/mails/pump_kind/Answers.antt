@@ -1,5 +1,4 @@
 use Rattle.std.proofs.Common.{◌∙◌, length, ap}
-use Rattle.open_sock.proofs.StepLemmas.{no_moments}
 use Rattle.spec_run.specs.SocketCall.{step_acts}
 use Rattle.sock_open.specs.View.{open_view}
 use Rattle.sock_open.proofs.ViewLemmas.{ok_more, err_more}
@@ -20,7 +19,7 @@ returns-clause-ok g c =
       steps = x.steps;
       pattern = x.pattern;
       pumps = x.pumps;
-      led = leads_on K l.desk n l.pipes m.pipes l.socket.core m.socket (step_acts x.steps) (no_moments x.steps) c.requires.agrees c.pump.ensures.others on;
+      led = leads_on K l.desk n l.pipes m.pipes l.socket.core m.socket x.steps x.makes c.requires.agrees c.pump.ensures.others on;
       new_is = ap (λ b. open_view b m.socket) (box_on K l.desk n l.pipes m.pipes l.socket.core m.socket on) ∙ x.new_is;
     }) c.pump.ensures.ok
 
@@ -31,7 +30,7 @@ returns-clause-err g c =
     let m = c.pump.new in
     let n = length l.since.items in
     let on = keeps_on l.socket.core m.socket c.pump.ensures.keeps in
-    err_more c.pump.result (λ h. record { acts = step_acts h.steps; led = leads_on K l.desk n l.pipes m.pipes l.socket.core m.socket (step_acts h.steps) (no_moments h.steps) c.requires.agrees c.pump.ensures.others on }) c.pump.ensures.err
+    err_more c.pump.result (λ h. record { acts = step_acts h.steps; led = leads_on K l.desk n l.pipes m.pipes l.socket.core m.socket h.steps h.makes c.requires.agrees c.pump.ensures.others on }) c.pump.ensures.err
 
 pub returns-clause-agrees : goal.returns-clause-agrees
 returns-clause-agrees g c =

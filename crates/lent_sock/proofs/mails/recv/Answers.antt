@@ -1,7 +1,6 @@
 use Rattle.std.proofs.Common.{◌∙◌, length, refl, ap}
 use Rattle.spec_run.specs.SocketCall.{step_acts, ReceivesOpen}
 use Rattle.open_sock.specs.Steps.{CallsSo, LeadsSome}
-use Rattle.open_sock.proofs.StepLemmas.{no_moments}
 use Rattle.sock_open.specs.View.{open_view}
 use Rattle.lent_sock.specs.Owned.{parts, box_of, view_of, moments_since}
 use Rattle.lent_sock.specs.Leads.{Leads}
@@ -27,7 +26,7 @@ returns-clause-ok g c =
       skips = x.skips;
       does = λ line pump all over ends. record { steps = x.steps; got = a; pattern = x.pattern; receives = x.receives; call_is = refl; answer_is = refl; new_is = ap (λ b. open_view b m.socket) (box_on K l.desk n l.pipes m.pipes l.socket.core m.socket on) ∙ x.new_is };
       tells = x.tells;
-      led = leads_on K l.desk n l.pipes m.pipes l.socket.core m.socket (step_acts x.steps) (no_moments x.steps) c.requires.agrees c.recv.ensures.others on;
+      led = leads_on K l.desk n l.pipes m.pipes l.socket.core m.socket x.steps x.makes c.requires.agrees c.recv.ensures.others on;
     })
 
 pub returns-clause-err : goal.returns-clause-err
@@ -38,7 +37,7 @@ returns-clause-err g c =
     let n = length l.since.items in
     let on = keeps_on l.socket.core m.socket c.recv.ensures.keeps in
     got_err c.recv.result c.got_reply.result _ _ (LeadsSome (Leads K) (parts l.pipes l.desk l.socket.core l.since.items) (parts m.pipes l.desk m.socket l.since.items)) c.recv.ensures.step c.got_reply.ensures
-    (λ h. record { acts = step_acts h.steps; led = leads_on K l.desk n l.pipes m.pipes l.socket.core m.socket (step_acts h.steps) (no_moments h.steps) c.requires.agrees c.recv.ensures.others on })
+    (λ h. record { acts = step_acts h.steps; led = leads_on K l.desk n l.pipes m.pipes l.socket.core m.socket h.steps h.makes c.requires.agrees c.recv.ensures.others on })
 
 pub returns-clause-agrees : goal.returns-clause-agrees
 returns-clause-agrees g c =

@@ -3,7 +3,6 @@ use Rattle.spec_pattern.specs.PatternCalls.{Subscribe}
 use Rattle.spec_pattern.specs.declared.answers.Skip.{Skip}
 use Rattle.spec_run.specs.SocketCall.{step_acts, ChangesOpen}
 use Rattle.open_sock.specs.Steps.{CallsSo, LeadsSome}
-use Rattle.open_sock.proofs.StepLemmas.{no_moments}
 use Rattle.sock_open.specs.View.{open_view}
 use Rattle.lent_sock.specs.Owned.{parts, box_of, view_of, moments_since}
 use Rattle.lent_sock.specs.Leads.{Leads}
@@ -28,7 +27,7 @@ returns-clause-ok g c =
       skips = [];
       does = λ line pump all over ends. record { steps = x.steps; changed = a; pattern = x.pattern; changes = x.changes; call_is = refl; skips_are = refl; answer_is = refl; new_is = ap (λ b. open_view b m.socket) (box_on K l.desk n l.pipes m.pipes l.socket.core m.socket on) ∙ x.new_is };
       tells = sym (append-nil told);
-      led = leads_on K l.desk n l.pipes m.pipes l.socket.core m.socket (step_acts x.steps) (no_moments x.steps) c.requires.agrees c.subscribe.ensures.others on;
+      led = leads_on K l.desk n l.pipes m.pipes l.socket.core m.socket x.steps x.makes c.requires.agrees c.subscribe.ensures.others on;
     })
 
 pub returns-clause-err : goal.returns-clause-err
@@ -39,7 +38,7 @@ returns-clause-err g c =
     let n = length l.since.items in
     let on = keeps_on l.socket.core m.socket c.subscribe.ensures.keeps in
     changed_err c.subscribe.result c.changed_reply.result _ _ _ (LeadsSome (Leads K) (parts l.pipes l.desk l.socket.core l.since.items) (parts m.pipes l.desk m.socket l.since.items)) c.subscribe.ensures.step c.changed_reply.ensures
-    (λ h. record { acts = step_acts h.steps; led = leads_on K l.desk n l.pipes m.pipes l.socket.core m.socket (step_acts h.steps) (no_moments h.steps) c.requires.agrees c.subscribe.ensures.others on }) (λ h. record { acts = step_acts h.steps; led = leads_on K l.desk n l.pipes m.pipes l.socket.core m.socket (step_acts h.steps) (no_moments h.steps) c.requires.agrees c.subscribe.ensures.others on })
+    (λ h. record { acts = step_acts h.steps; led = leads_on K l.desk n l.pipes m.pipes l.socket.core m.socket h.steps h.makes c.requires.agrees c.subscribe.ensures.others on }) (λ h. record { acts = step_acts h.steps; led = leads_on K l.desk n l.pipes m.pipes l.socket.core m.socket h.steps h.makes c.requires.agrees c.subscribe.ensures.others on })
 
 pub returns-clause-agrees : goal.returns-clause-agrees
 returns-clause-agrees g c =

@@ -1,6 +1,6 @@
 use Rattle.std.proofs.Common.{◌∙◌, ◌+◌, drop, ap, arith}
 use Rattle.lent_sock.specs.Readers.{held_places}
-use Rattle.lent_sock.proofs.RankLemmas.{left_goes, left_none}
+use Rattle.lent_sock.proofs.RankLemmas.{left_goes}
 use Rattle.lent_sock.proofs.ranks.place_behind.Goals as goal
 
 pub each-preserved : goal.each-preserved

@@ -1,4 +1,4 @@
-use Rattle.std.proofs.Common.{◌≡◌, ◌∙◌, drop, false, sym, ap, subst}
+use Rattle.std.proofs.Common.{◌∙◌, drop, sym, ap, subst}
 use Rattle.std.specs.List.{list_any}
 use Rattle.spec_control.specs.Control.{is_end}
 use Rattle.lent_sock.specs.Readers.{readers_in, AreAmong, IsNewReader}

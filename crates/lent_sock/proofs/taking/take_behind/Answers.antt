@@ -6,6 +6,7 @@ use Rattle.ctl_plane.specs.Desk.{GivesOrNot, slot_after}
 use Rattle.sock_calls.specs.Calls.{owner_of}
 use Rattle.one_desk.specs.Lent.{moments_of}
 use Rattle.lent_sock.proofs.AskLemmas.{has_stayed, one_longer, at_err}
+use Rattle.lent_sock.proofs.MayLemmas.{still_may}
 use Rattle.lent_sock.proofs.TakeLemmas.{has_taken}
 use Rattle.lent_sock.proofs.taking.take_behind.Goals as goal
 
@@ -14,7 +15,7 @@ returns-in-Ok-clause-ok g c =
     let l = c.args.lent.now in
     let x = c.call_take in
     let m = x.new.lent in
-    (has_taken g.P.Pipes.known l.pipes m.pipes l.desk m.desk (length l.since.items) l.socket.core m.socket.core c.requires.agrees c.requires.told c.requires.ready x.ensures.called x.ensures.given x.ensures.whole x.ensures.passes
+    (has_taken g.P.Pipes.known l.pipes m.pipes l.desk m.desk (length l.since.items) l.socket.core m.socket.core c.requires.agrees c.requires.told c.requires.ready x.ensures.called x.ensures.given x.ensures.whole x.ensures.passes x.ensures.counts
     c.in-Ok.delivery (IfOk-at_ok (λ (found : Delivery). GivesOrNot l.desk.caller (slot_after (owner_of l.socket.core) (moments_of l.desk)) found (moments_of l.desk) (moments_of m.desk)) c.in-Ok.is x.ensures.ok)
     c.args.before.now c.requires.before c.found_now.result c.found_now.ensures
     (length c.and-lent.result.items) (one_longer l.since.items m.since.items c.and-lent.result.items _ c.and-lent.ensures (ap (λ (y : Log (Unit {0}) (Unit {0})). y.items) x.ensures.since))).takes
@@ -24,7 +25,7 @@ returns-in-Ok-clause-reader g c =
     let l = c.args.lent.now in
     let x = c.call_take in
     let m = x.new.lent in
-    (has_taken g.P.Pipes.known l.pipes m.pipes l.desk m.desk (length l.since.items) l.socket.core m.socket.core c.requires.agrees c.requires.told c.requires.ready x.ensures.called x.ensures.given x.ensures.whole x.ensures.passes
+    (has_taken g.P.Pipes.known l.pipes m.pipes l.desk m.desk (length l.since.items) l.socket.core m.socket.core c.requires.agrees c.requires.told c.requires.ready x.ensures.called x.ensures.given x.ensures.whole x.ensures.passes x.ensures.counts
     c.in-Ok.delivery (IfOk-at_ok (λ (found : Delivery). GivesOrNot l.desk.caller (slot_after (owner_of l.socket.core) (moments_of l.desk)) found (moments_of l.desk) (moments_of m.desk)) c.in-Ok.is x.ensures.ok)
     c.args.before.now c.requires.before c.found_now.result c.found_now.ensures
     (length c.and-lent.result.items) (one_longer l.since.items m.since.items c.and-lent.result.items _ c.and-lent.ensures (ap (λ (y : Log (Unit {0}) (Unit {0})). y.items) x.ensures.since))).reader
@@ -34,7 +35,7 @@ returns-in-Ok-clause-ready g c =
     let l = c.args.lent.now in
     let x = c.call_take in
     let m = x.new.lent in
-    (has_taken g.P.Pipes.known l.pipes m.pipes l.desk m.desk (length l.since.items) l.socket.core m.socket.core c.requires.agrees c.requires.told c.requires.ready x.ensures.called x.ensures.given x.ensures.whole x.ensures.passes
+    (has_taken g.P.Pipes.known l.pipes m.pipes l.desk m.desk (length l.since.items) l.socket.core m.socket.core c.requires.agrees c.requires.told c.requires.ready x.ensures.called x.ensures.given x.ensures.whole x.ensures.passes x.ensures.counts
     c.in-Ok.delivery (IfOk-at_ok (λ (found : Delivery). GivesOrNot l.desk.caller (slot_after (owner_of l.socket.core) (moments_of l.desk)) found (moments_of l.desk) (moments_of m.desk)) c.in-Ok.is x.ensures.ok)
     c.args.before.now c.requires.before c.found_now.result c.found_now.ensures
     (length c.and-lent.result.items) (one_longer l.since.items m.since.items c.and-lent.result.items _ c.and-lent.ensures (ap (λ (y : Log (Unit {0}) (Unit {0})). y.items) x.ensures.since))).ready
@@ -44,10 +45,20 @@ returns-in-Ok-clause-agrees g c =
     let l = c.args.lent.now in
     let x = c.call_take in
     let m = x.new.lent in
-    (has_taken g.P.Pipes.known l.pipes m.pipes l.desk m.desk (length l.since.items) l.socket.core m.socket.core c.requires.agrees c.requires.told c.requires.ready x.ensures.called x.ensures.given x.ensures.whole x.ensures.passes
+    (has_taken g.P.Pipes.known l.pipes m.pipes l.desk m.desk (length l.since.items) l.socket.core m.socket.core c.requires.agrees c.requires.told c.requires.ready x.ensures.called x.ensures.given x.ensures.whole x.ensures.passes x.ensures.counts
     c.in-Ok.delivery (IfOk-at_ok (λ (found : Delivery). GivesOrNot l.desk.caller (slot_after (owner_of l.socket.core) (moments_of l.desk)) found (moments_of l.desk) (moments_of m.desk)) c.in-Ok.is x.ensures.ok)
     c.args.before.now c.requires.before c.found_now.result c.found_now.ensures
     (length c.and-lent.result.items) (one_longer l.since.items m.since.items c.and-lent.result.items _ c.and-lent.ensures (ap (λ (y : Log (Unit {0}) (Unit {0})). y.items) x.ensures.since))).agrees
+
+pub returns-in-Ok-clause-may : goal.returns-in-Ok-clause-may
+returns-in-Ok-clause-may g c =
+    let l = c.args.lent.now in
+    let x = c.call_take in
+    let m = x.new.lent in
+    (has_taken g.P.Pipes.known l.pipes m.pipes l.desk m.desk (length l.since.items) l.socket.core m.socket.core c.requires.agrees c.requires.told c.requires.ready x.ensures.called x.ensures.given x.ensures.whole x.ensures.passes x.ensures.counts
+    c.in-Ok.delivery (IfOk-at_ok (λ (found : Delivery). GivesOrNot l.desk.caller (slot_after (owner_of l.socket.core) (moments_of l.desk)) found (moments_of l.desk) (moments_of m.desk)) c.in-Ok.is x.ensures.ok)
+    c.args.before.now c.requires.before c.found_now.result c.found_now.ensures
+    (length c.and-lent.result.items) (one_longer l.since.items m.since.items c.and-lent.result.items _ c.and-lent.ensures (ap (λ (y : Log (Unit {0}) (Unit {0})). y.items) x.ensures.since))).may c.requires.may
 
 pub returns-in-Err-clause-err : goal.returns-in-Err-clause-err
 returns-in-Err-clause-err g c =
@@ -72,3 +83,11 @@ returns-in-Err-clause-agrees g c =
     let m = x.new.lent in
     (has_stayed g.P.Pipes.known l.pipes m.pipes l.desk m.desk (length l.since.items) l.socket.core m.socket.core c.requires.agrees c.requires.told c.requires.ready x.ensures.called x.ensures.given x.ensures.whole x.ensures.passes
     (at_err (moments_of m.desk ≡ moments_of l.desk) c.in-Err.is x.ensures.err) (length m.since.items) (ap (λ (y : Log (Unit {0}) (Unit {0})). length y.items) x.ensures.since)).agrees
+
+pub returns-in-Err-clause-may : goal.returns-in-Err-clause-may
+returns-in-Err-clause-may g c =
+    let l = c.args.lent.now in
+    let x = c.call_take in
+    let m = x.new.lent in
+    still_may g.P.Pipes.known l.pipes m.pipes l.desk m.desk (length l.since.items) l.socket.core m.socket.core c.requires.agrees x.ensures.called
+    (at_err (moments_of m.desk ≡ moments_of l.desk) c.in-Err.is x.ensures.err) c.requires.may (length m.since.items)

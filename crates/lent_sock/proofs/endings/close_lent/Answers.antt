@@ -6,22 +6,24 @@ use Rattle.spec_control.specs.declared.request.Req.TheVariants.{Close}
 use Rattle.spec_control.specs.declared.request.Reply.{Reply}
 use Rattle.ctl_plane.specs.Coming.{SendsEnds}
 use Rattle.ctl_plane.specs.Desk.{AsksOnce}
-use Rattle.sock_calls.specs.Calls.{owner_of, HasNone}
+use Rattle.sock_calls.specs.Calls.{owner_of, holding_of, HasNone}
+use Rattle.sock_open.specs.Standing.{kind_told}
 use Rattle.one_desk.specs.Lent.{moments_of}
 use Rattle.lent_sock.proofs.AskLemmas.{one_longer, at_err}
 use Rattle.lent_sock.proofs.CloseLemmas.{has_closed, is_left}
-use Rattle.lent_sock.proofs.endings.close.Goals as goal
+use Rattle.lent_sock.proofs.endings.close_lent.Goals as goal
 
 pub returns-in-Ok-clause-ok : goal.returns-in-Ok-clause-ok
 returns-in-Ok-clause-ok g c =
     let l = c.args.lent.now in
     let x = c.call_close in
     let m = x.new.lent in
-    has_closed g.P.Pipes.known l.pipes m.pipes l.desk m.desk (length l.since.items) l.socket.core m.socket.core c.requires.agrees x.ensures.called _
+    has_closed g.P.Pipes.known l.pipes m.pipes l.desk m.desk (length l.since.items) l.socket.core m.socket.core c.requires.agrees (record x.ensures.called { does = x.ensures.does.0 }) _
     (IfOk-at_ok (λ (r : Reply). AsksOnce l.desk.caller (Close (id (owner_of l.socket.core))) r (moments_of l.desk) (moments_of m.desk)) c.in-Ok.is x.ensures.ok)
     (IfOk-at_ok (λ (r : Reply). HasNone m.socket.core) c.in-Ok.is x.ensures.none)
-    (IfOk-at_ok (λ (r : Reply). SendsEnds g.P.Pipes.known m.pipes (Close (id (owner_of l.socket.core))) l.desk.past.given m.desk.past.given) c.in-Ok.is x.ensures.given)
-    (length c.and-lent.result.items) (one_longer l.since.items m.since.items c.and-lent.result.items _ c.and-lent.ensures (ap (λ (y : Log (Unit {0}) (Unit {0})). y.items) x.ensures.since))
+    (holding_of kind_told l.socket.core).sealed
+    (IfOk-at_ok (λ (r : Reply). SendsEnds g.P.Pipes.known m.pipes (holding_of kind_told l.socket.core).sealed (Close (id (owner_of l.socket.core))) l.desk.past.given m.desk.past.given) c.in-Ok.is x.ensures.given)
+    x.ensures.does.1 (length c.and-lent.result.items) (one_longer l.since.items m.since.items c.and-lent.result.items _ c.and-lent.ensures (ap (λ (y : Log (Unit {0}) (Unit {0})). y.items) x.ensures.since))
 
 pub returns-in-Err-clause-err : goal.returns-in-Err-clause-err
 returns-in-Err-clause-err g c =
