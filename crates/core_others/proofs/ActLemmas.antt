@@ -33,7 +33,7 @@ use Rattle.spec_run.specs.declared.line.LineCall.TheVariants.{Asks, Unbinds, Dis
 use Rattle.script_actor.specs.Way.{AsksOpen}
 use Rattle.open_laws.specs.Open.{IsOfItem}
 use Rattle.open_sock.proofs.StepLemmas.{moments_more, no_moments}
-use Rattle.lent_sock.proofs.MovedLemmas.{said_once}
+use Rattle.lent_sock.proofs.StandLemmas.{said_once}
 use Rattle.core_others.proofs.ChainLemmas.{Follow, IsOwn, first, for_it, led_by, own_ends, own_led, own_then, split, term_own}
 
 none_one : {X : Type 0} {x : X} → [] ≡ x ∷ [] → ⊥

@@ -85,7 +85,7 @@ pair_gone p is false gone =
 pub other_out : (c : Control) → Kept c → (e : EndId) → place_of c e ≡ At Gone → is_out (place_of c (other_end e)) ≡ false
 other_out c kept e gone = pair_gone (pair c.rows e.pair.0) ((inv_of (rows_of (kept_but 0 c kept))).phases e.pair.0) e.a (ap is_gone gone)
 
-not_first : (b c : Bool) → (b || c) ≡ false → b ≡ true → ⊥
+pub not_first : (b c : Bool) → (b || c) ≡ false → b ≡ true → ⊥
 not_first true c e is = never (sym e)
 not_first false c e is = never is
 

@@ -8,7 +8,7 @@ use Rattle.control_rows.proofs.ListLemmas.{never}
 use Rattle.ctl_ends.proofs.HeldLemmas.{other_twice}
 use Rattle.spec_control.specs.Control.{id, owner_of, place_of}
 use Rattle.spec_control.specs.Names.{name_of}
-use Rattle.msg_pipe.specs.Known.{Known, IsElse}
+use Rattle.msg_pipe.specs.Known.{Known, IsElse, IsThere}
 use Rattle.ctl_holder.specs.Lent.{has_writer}
 use Rattle.ctl_holder.specs.declared.halves.Halves.{Halves}
 use Rattle.ctl_holder.specs.TakingOver.{AreDistinct}
@@ -16,8 +16,6 @@ use Rattle.ctl_history.specs.Past.{control_of}
 use Rattle.ctl_plane.specs.Desk.{slot_after}
 use Rattle.held_ends.specs.declared.table.Place.{Place}
 use Rattle.held_ends.specs.declared.table.EndTable.{EndTable}
-use Rattle.held_ends.specs.declared.changes.PipeChange.{PipeChange}
-use Rattle.held_ends.specs.Changes.{DoesChanges}
 use Rattle.held_ends.specs.Others.{AreElseFrom}
 use Rattle.held_ends.specs.Sound.{Fits, IsElseOf}
 use Rattle.sock_core.specs.Noted.{WereRead}
@@ -29,12 +27,8 @@ use Rattle.desk_laws.proofs.SocketLemmas.{kept_now}
 use Rattle.core_others.specs.Apart.{AreHeldBy, ArePlacesOf, IsHeldBy, IsPlaceOf}
 use Rattle.core_others.specs.Calls.{for_caller}
 use Rattle.core_others.specs.Laws.{ComingJoinStill}
-use Rattle.core_others.specs.Made.{IsMadeIn}
-use Rattle.core_others.specs.Touched.{AreTouched}
 use Rattle.core_others.proofs.ApartLemmas.{across, else_of, is_out, not_second, other_out}
-use Rattle.core_others.proofs.MadeLemmas.{is_there, is_unsealed}
 use Rattle.core_others.proofs.SettledLemmas.{settled_were_read}
-use Rattle.core_others.proofs.TouchedLemmas.{AllUnread, AllUnwritten, all_unsettled, all_unwritten, settled_all}
 use Rattle.core_others.proofs.SilentLemmas.{one_order_of}
 
 module _ {P N O I : Type 0} (K : Known P O I N) {G S : Type 0} (d : Lent G N S) (order : IsOneOrder d) (distinct : AreDistinct K.exact (name_of d.items)) (i o j u : ℕ) (other : o ≢ u) (known : HasSocket (for_caller i d) (id o))
@@ -60,7 +54,9 @@ module _ {P N O I : Type 0} (K : Known P O I N) {G S : Type 0} (d : Lent G N S) 
     ins = λ k q at had. else_of K d distinct (other_end e) (other_end q.end) (K.in_name h.input) q.read read (its q (places k q at)).read (across e q.end (ends q (places k q at)));
   }
 
-  -- ---- and the ends of the socket itself
+-- ---- and the ends of the socket itself
+module _ {P N O I : Type 0} (K : Known P O I N) {G S : Type 0} (d : Lent G N S) (order : IsOneOrder d) (distinct : AreDistinct K.exact (name_of d.items)) (j u : ℕ) (theirs : HasSocket (for_caller j d) (id u)) (e : EndId) (h : Halves O I)
+    (coming : coming_to d (slot_after u (moments_of (for_caller j d))).0 e ≡ true) (written : name_of d.items e ≡ Some (K.out_name h.out)) (read : name_of d.items (other_end e) ≡ Some (K.in_name h.input)) where
   fresh : IsNoneOfIts u (for_caller j d) e
   fresh = coming_ends_are_new G N S (for_caller j d) u (one_order_of j d order) theirs e coming
 
@@ -95,31 +91,15 @@ module _ {P N O I : Type 0} (K : Known P O I N) {G S : Type 0} (d : Lent G N S) 
       writes = λ writes. else_of K d distinct p.end (other_end e) p.written (K.in_name h.input) its_p.written read before;
     }
 
-  -- halves of pipes that the calls made may join it
-  module _ (table : EndTable N O I) (before behind : P) (changes : List (PipeChange O I × P)) (does : DoesChanges K table.places.items before changes behind) (touched : AreTouched (IsPlaceOf o (for_caller i d)) table.places.items changes) where
-    abbrev places : List (Place N I)
-    places = table.places.items
-
-    out_unread : AllUnread K places (K.out_name h.out) changes
-    out_unread = all_unsettled K places (K.out_name h.out) changes (settled_all K places (λ m. IsElse K (K.out_name h.out) m) changes before behind does (λ k q at is gone. unsettled q (touched k q at is) gone))
-
-    in_unread : AllUnread K places (K.in_name h.input) changes
-    in_unread =
-        all_unsettled K places (K.in_name h.input) changes
-        (settled_all K places (λ m. IsElse K (K.in_name h.input) m) changes before behind does (λ k q at is gone. else_of K d distinct (other_end e) (other_end q.end) (K.in_name h.input) q.read read (its q (touched k q at is)).read (across e q.end (ends q (touched k q at is)))))
-
-    out_unwritten : AllUnwritten K places (K.out_name h.out) changes
-    out_unwritten = all_unwritten K places (K.out_name h.out) changes (λ k q at is. else_of K d distinct e q.end (K.out_name h.out) q.written written (its q (touched k q at is)).written (ends q (touched k q at is)))
-
-    pub joins_made : (ps : List (Place N I)) → AreHeldBy u (for_caller j d) ps → K.exact ≡ true → (K.exact ≡ true → (s : P) (x y : O) → K.out_name x ≡ K.out_name y → K.writing s x ≡ K.writing s y) →
-        IsMadeIn K changes (K.out_name h.out) → IsMadeIn K changes (K.in_name h.input) → Fits K behind ps h
-    joins_made ps held exact one_out made_out made_in = record {
-      out_there = is_there K places (K.out_name h.out) changes before behind does out_unread made_out;
-      in_there = is_there K places (K.in_name h.input) changes before behind does in_unread made_in;
-      unsealed = is_unsealed K places h.out exact one_out changes before behind does out_unread out_unwritten made_out;
-      crossed = crossed;
-      others = λ k p at is_held. is_else p (held k p at is_held);
-    }
+  -- halves of pipes that are there, and not sealed, may join it
+  pub joins_by : (pipes : P) (ps : List (Place N I)) → AreHeldBy u (for_caller j d) ps → IsThere K pipes (K.out_name h.out) → IsThere K pipes (K.in_name h.input) → (K.writing pipes h.out).sealed ≡ false → Fits K pipes ps h
+  joins_by pipes ps held out_there in_there unsealed = record {
+    out_there = out_there;
+    in_there = in_there;
+    unsealed = unsealed;
+    crossed = crossed;
+    others = λ k p at is_held. is_else p (held k p at is_held);
+  }
 
 pub coming_join_still : (C W : Type 0) {P N O I : Type 0} (K : Known P O I N) (G S : Type 0) → ComingJoinStill C W K G S
 coming_join_still C W K G S old new order distinct i o j u other known theirs was now t before behind leaves places read_out sends binds e h coming written read =

@@ -7,17 +7,12 @@ pub mod ActLemmas
 pub mod OpenedLemmas
 pub mod SentLemmas
 pub mod OppositeLemmas
-pub mod TouchedLemmas
-pub mod MadeLemmas
-pub mod MadeAtLemmas
 pub mod GrownLemmas
 pub mod JoinLemmas
 pub mod PlacesLemmas
-pub mod AgreeLemmas
 pub mod SendLemmas
 pub mod ComingLemmas
 pub mod ClosedLemmas
 pub mod RestLemmas
-pub mod FoundLemmas
 pub mod LineLemmas
 pub mod NoneLemmas

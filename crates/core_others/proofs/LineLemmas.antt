@@ -25,7 +25,7 @@ use Rattle.desk_laws.proofs.LastLemmas.{grown}
 use Rattle.desk_laws.proofs.SocketLemmas.{is_in}
 use Rattle.lent_sock.specs.Leads.{Leads}
 use Rattle.lent_sock.specs.Owned.{Agrees, IsLentTo, LentParts, box_of, view_of}
-use Rattle.lent_sock.proofs.MovedLemmas.{said_once}
+use Rattle.lent_sock.proofs.StandLemmas.{said_once}
 use Rattle.core_others.specs.Calls.{AreCallsOn}
 use Rattle.core_others.specs.Lines.{ClosesAreOn, LinesAreOn}
 use Rattle.core_others.proofs.ActLemmas.{IsOn, line_on, one_on, request_on, said_on}

@@ -1,8 +1,8 @@
 -- Which calls put no end on its way, and what stretches of calls put on its way together.
-use Rattle.std.specs.Prelude.{◌≡◌, ◌≤◌, ◌<◌, ◌+◌, ◌==◌, ◌⊎◌, ◌++◌, ◌∷◌, [], ℕ, Bool, true, false, not, List, refl}
+use Rattle.std.specs.Prelude.{◌≡◌, ◌<◌, ◌+◌, ◌==◌, ◌++◌, [], Bool, true, false, not, List, refl}
 use Rattle.std.specs.List.{list_any}
-use Rattle.std.proofs.Common.{arith, sym, ap, ◌∙◌, subst, inl, inr}
-use Rattle.std.proofs.lemmas.Bool.{cases_lt, eq-eqb}
+use Rattle.std.proofs.Common.{arith, sym, ap, ◌∙◌, subst}
+use Rattle.std.proofs.lemmas.Bool.{eq-eqb}
 use Rattle.std.proofs.lemmas.List.{append-nil}
 use Rattle.zq_base.specs.Ends.{other_end}
 use Rattle.zq_base.specs.declared.ids.EndId.{EndId}
@@ -16,26 +16,20 @@ use Rattle.spec_control.specs.declared.request.Reply.{Reply}
 use Rattle.spec_control.specs.declared.request.Reply.TheVariants.{Done, Object, Pair, Both, Wait, Asked as WasAsked, Before, Refused}
 use Rattle.spec_control.specs.Place.{is_away}
 use Rattle.spec_control.specs.Rows.{PairRow, end_place, no_pair}
-use Rattle.spec_control.specs.Control.{Control, id, is_end, next_pair, owner_of, place_of}
+use Rattle.spec_control.specs.Control.{Control, is_end, next_pair, owner_of, place_of}
 use Rattle.spec_control.specs.ControlRun.{after_item, unless_refused}
-use Rattle.spec_control.specs.Names.{name_of}
 use Rattle.control_rows.proofs.ListLemmas.{never, and, left, placed}
 use Rattle.control_attached.proofs.AttachedLemmas.{attached_after}
 use Rattle.control_attached.proofs.LeadLemmas.{attached_by}
 use Rattle.control_attached.proofs.OnceLemmas.{AreOld, IsOld, old_run}
 use Rattle.control_moves.specs.OwnMoves.{own_moves, request_moves}
-use Rattle.msg_pipe.specs.Known.{Known}
 use Rattle.ctl_history.specs.Past.{control_of}
-use Rattle.held_ends.specs.declared.changes.PipeChange.{PipeChange}
-use Rattle.one_desk.specs.Lent.{HasSocket, IsOneOrder, Lent}
+use Rattle.one_desk.specs.Lent.{IsOneOrder}
 use Rattle.desk_laws.proofs.LastLemmas.{moments_are_last}
 use Rattle.desk_laws.proofs.NewLemmas.{any_of}
 use Rattle.desk_laws.proofs.SocketLemmas.{kept_now}
-use Rattle.core_others.specs.Calls.{AreCallsOn}
-use Rattle.core_others.specs.Coming.{IsSent, ends_some, is_ending, is_ending_did}
-use Rattle.core_others.specs.Made.{IsMadeIn}
-use Rattle.core_others.specs.Rest.{EndingsSendNone, IsMadeSent, NoneIsSent, SentGoesOn}
-use Rattle.core_others.proofs.ComingLemmas.{named, was_away}
+use Rattle.core_others.specs.Coming.{ends_some, is_ending, is_ending_did}
+use Rattle.core_others.specs.Rest.{EndingsSendNone, NoneIsSent}
 use Rattle.core_others.proofs.OppositeLemmas.{other_here}
 
 -- ---- an end on its way is of a pair that was made
@@ -106,45 +100,3 @@ endings_send_none G N S old new m call is e sent =
     let within = is_old.within in
     let since = sent.since in
     absurd (omega (arith, within, since))
-
--- ---- one stretch behind another
-module _ {P N O I : Type 0} (K : Known P O I N) (n : N) where
-  made_first : (xs ys : List (PipeChange O I × P)) → IsMadeIn K xs n → IsMadeIn K (xs ++ ys) n
-  made_first [] ys made = absurd made
-  made_first (x ∷ xs) ys (inl here) = inl here
-  made_first (x ∷ xs) ys (inr later) = inr (made_first xs ys later)
-
-  made_behind : (xs ys : List (PipeChange O I × P)) → IsMadeIn K ys n → IsMadeIn K (xs ++ ys) n
-  made_behind [] ys made = made
-  made_behind (x ∷ xs) ys made = inr (made_behind xs ys made)
-
-module _ {P N O I : Type 0} (K : Known P O I N) {G S : Type 0} (old mid new : Lent G N S) (o : ℕ) (calls : AreCallsOn o mid new) (known : HasSocket mid (id o)) (xs ys : List (PipeChange O I × P))
-    (first : (e : EndId) → IsSent old mid e → IsMadeSent K (name_of mid.items) xs e) (second : (e : EndId) → IsSent mid new e → IsMadeSent K (name_of new.items) ys e) (e : EndId) (sent : IsSent old new e) where
-  abbrev before : IsOneOrder mid
-  before = calls.before
-
-  was_sent : e.pair.0 < next_pair (control_of mid.past) → IsSent old mid e
-  was_sent within =
-      let d = control_of new.past in
-      let n = owner_of d e in
-      let was = was_away mid new o calls known e within n (and (is_away (place_of d e)) (n == n) sent.away (eq-eqb n n refl)) in
-      record { away = left (is_away (place_of (control_of mid.past) e)) (owner_of (control_of mid.past) e == n) was; since = sent.since }
-
-  by_pair : (e.pair.0 < next_pair (control_of mid.past)) ⊎ (next_pair (control_of mid.past) ≤ e.pair.0) → IsMadeSent K (name_of new.items) (xs ++ ys) e
-  by_pair (inl within) =
-      let made = first e (was_sent within) in
-      let here = subst (λ (x : Control). e.pair.0 < next_pair x) before.control within in
-      record {
-        exact = made.exact;
-        written = λ n is. made_first K n xs ys (made.written n (sym (named mid new o calls known e within e here) ∙ is));
-        read = λ n is. made_first K n xs ys (made.read n (sym (named mid new o calls known e within (other_end e) here) ∙ is));
-      }
-  by_pair (inr since) =
-      let made = second e (record { away = sent.away; since = since }) in
-      record { exact = made.exact; written = λ n is. made_behind K n xs ys (made.written n is); read = λ n is. made_behind K n xs ys (made.read n is) }
-
-  goes_on : IsMadeSent K (name_of new.items) (xs ++ ys) e
-  goes_on = by_pair (cases_lt e.pair.0 (next_pair (control_of mid.past)))
-
-pub sent_goes_on : {P N O I : Type 0} (K : Known P O I N) (G S : Type 0) → SentGoesOn K G S
-sent_goes_on K G S old mid new o calls known xs ys first second e sent = goes_on K old mid new o calls known xs ys first second e sent

@@ -1,15 +1,13 @@
 -- The places of an open socket are of its ends still, behind calls on another.
-use Rattle.std.specs.Prelude.{◌≡◌, ◌++◌, ℕ, true, List, [], Some, None, flat_map}
+use Rattle.std.specs.Prelude.{◌≡◌, ℕ, true, [], Some, None}
 use Rattle.std.specs.List.{list_any}
 use Rattle.std.proofs.Common.{arith, sym, ap, ◌∙◌, subst}
-use Rattle.std.proofs.lemmas.Grind.{flat_map-append}
 use Rattle.std.proofs.lemmas.List.Elements.{All-nil}
 use Rattle.zq_base.specs.Ends.{other_end}
 use Rattle.zq_base.specs.declared.ids.EndId.{EndId}
-use Rattle.spec_control.specs.declared.entry.Item.{Item}
 use Rattle.spec_control.specs.Control.{Control, begun, ends_of, id, is_end, place_of}
 use Rattle.spec_control.specs.ControlRun.{after_all}
-use Rattle.spec_control.specs.Names.{name_in, name_of, named_in}
+use Rattle.spec_control.specs.Names.{name_of}
 use Rattle.control_held.specs.Moments.{left_after}
 use Rattle.control_laws.proofs.RootLemmas.{begun_kept}
 use Rattle.control_attached.proofs.OnceLemmas.{IsOld}
@@ -17,10 +15,10 @@ use Rattle.ctl_history.specs.Past.{control_of}
 use Rattle.ctl_plane.specs.Coming.{KeepsNames}
 use Rattle.held_laws.proofs.MomentLemmas.{AsLeft, left_snoc}
 use Rattle.one_desk.specs.Lent.{moments_of, GrowsBy, HasSocket, IsOneOrder, Lent}
-use Rattle.one_desk.proofs.AsideLemmas.{name_stays}
 use Rattle.desk_laws.specs.Behind.{is_its_end, IsOfIts}
 use Rattle.desk_laws.proofs.NewLemmas.{any_of}
 use Rattle.desk_laws.proofs.SocketLemmas.{is_in}
+use Rattle.lent_sock.specs.LeavingOwed.{names_on}
 use Rattle.core_others.specs.Apart.{IsPlaceOf}
 use Rattle.core_others.specs.Calls.{SaySame, for_caller}
 use Rattle.core_others.specs.Laws.{OtherPlacesStay}
@@ -28,13 +26,6 @@ use Rattle.core_others.proofs.SilentLemmas.{one_order_of, others_say_the_same}
 
 none_some : {X : Type 0} {x : X} → None ≡ Some x → ⊥
 none_some e = Prim.grind arith
-
--- pipes keep their names
-pub names_on : {N S : Type 0} (xs ys zs : List (Item N S)) → zs ≡ xs ++ ys → KeepsNames (name_of xs) (name_of zs)
-names_on xs ys zs grown e n is =
-    ap (λ (l : List (Item _ _)). name_of l e) grown
-    ∙ ap (name_in e) (flat_map-append named_in xs ys)
-    ∙ name_stays e (flat_map named_in xs) (flat_map named_in ys) n is
 
 module _ {G N S : Type 0} (d : Lent G N S) (o : ℕ) (order : IsOneOrder d) (known : HasSocket d (id o)) where
   -- the ends of an open socket are those that its caller's moments left

@@ -1,52 +1,96 @@
--- Each other socket that its caller has open agrees still, behind calls of one and behind its close.
-use Rattle.std.specs.Prelude.{◌≡◌, ◌≢◌, ◌≤◌, ◌<◌, ◌⊎◌, ℕ, true, List, Some}
-use Rattle.std.proofs.Common.{arith, sym, ap, ◌∙◌, inl, inr}
+-- Each other socket that its caller has open agrees still, behind calls of one.
+use Rattle.std.specs.Prelude.{◌≡◌, ◌≢◌, ◌≤◌, ◌<◌, ◌⊎◌, ◌++◌, ℕ, Bool, true, false, List, [], ◌∷◌, Option, Some, None, map, refl}
+use Rattle.std.specs.List.{AllByRecursion}
+use Rattle.std.proofs.Common.{arith, sym, ap, ◌∙◌, subst, inl, inr, true≢false}
 use Rattle.std.proofs.lemmas.Bool.{cases_lt}
+use Rattle.std.proofs.lemmas.List.Elements.{All-weaker}
 use Rattle.zq_base.specs.Ends.{other_end}
 use Rattle.zq_base.specs.declared.ids.EndId.{EndId}
 use Rattle.zq_base.specs.declared.ids.SlotId.{SlotId}
-use Rattle.spec_control.specs.Control.{Control, id, next_pair}
+use Rattle.spec_pattern.specs.Half.{Writing}
+use Rattle.spec_control.specs.declared.end.EndState.TheVariants.{Gone}
+use Rattle.spec_control.specs.Place.{At, is_away}
+use Rattle.spec_control.specs.Control.{Control, begun, ends_of, id, next_pair, owner_of, place_of}
+use Rattle.spec_control.specs.ControlRun.{after_all}
 use Rattle.spec_control.specs.Rows.{obj}
 use Rattle.spec_control.specs.Names.{name_of}
+use Rattle.control_attached.proofs.OnceLemmas.{old_run}
 use Rattle.control_held.specs.Has.{has_after}
-use Rattle.msg_pipe.specs.Known.{Known}
+use Rattle.control_held.specs.Moments.{moments_from}
+use Rattle.msg_pipe.specs.Known.{Known, IsThere}
 use Rattle.any_sock.specs.declared.any_sock.AnySock.{AnySock}
+use Rattle.any_sock.specs.Over.{peer_places}
+use Rattle.ctl_ends.proofs.HeldLemmas.{other_twice}
 use Rattle.ctl_holder.specs.declared.given.Given.{Given}
 use Rattle.ctl_holder.specs.declared.halves.Halves.{Halves}
+use Rattle.ctl_holder.specs.Lent.{has_writer}
 use Rattle.ctl_holder.specs.TakingOver.{AreDistinct}
 use Rattle.ctl_history.specs.Past.{control_of}
-use Rattle.ctl_plane.specs.Coming.{KeepsNames}
 use Rattle.ctl_plane.specs.Desk.{slot_after}
-use Rattle.held_ends.specs.declared.changes.PipeChange.{PipeChange}
-use Rattle.held_ends.specs.declared.table.EndTable.{EndTable}
-use Rattle.held_ends.specs.Changes.{DoesChanges}
-use Rattle.sock_core.specs.Noted.{WereRead}
+use Rattle.ends.specs.Rows.{row_at}
+use Rattle.held_ends.specs.declared.table.Place.{Place}
+use Rattle.held_ends.specs.Places.{place_at}
+use Rattle.held_ends.specs.Sound.{Fits, IsSound}
+use Rattle.held_ends.proofs.SoundLemmas.{Carries, carried}
 use Rattle.sock_core.specs.declared.sock.SockCore.{SockCore}
-use Rattle.sock_calls.specs.Calls.{LeavesOthers, MayJoin}
-use Rattle.sock_calls.specs.Others.{IsApart}
-use Rattle.sock_calls.proofs.CallsLemmas.{others_join}
-use Rattle.lent_sock.specs.Owned.{IsOwned}
+use Rattle.sock_core.specs.Sound.{AreSound}
+use Rattle.sock_core.proofs.FormLemmas.{are_sound, sound_of}
+use Rattle.sock_calls.specs.Calls.{FitsCore, MayJoin}
+use Rattle.sock_open.specs.Standing.{IsStanding}
 use Rattle.one_desk.specs.Lent.{coming_to, moments_of, GrowsBy, HasSocket, IsOneOrder, Lent}
-use Rattle.desk_laws.proofs.NewLemmas.{away}
-use Rattle.desk_laws.proofs.SocketLemmas.{is_in}
+use Rattle.desk_laws.specs.Behind.{IsOfIts}
+use Rattle.desk_laws.proofs.NewLemmas.{away, any_of, mine, there}
+use Rattle.desk_laws.proofs.SocketLemmas.{is_in, kept_now}
+use Rattle.own_laws.specs.Places.{is_end_of}
+use Rattle.past_laws.specs.Asked.{EndsAreSealedOnce, WereAsked, asked_rank}
+use Rattle.past_laws.specs.Said.{sealed_with}
+use Rattle.lent_sock.specs.Owned.{IsOwned}
+use Rattle.lent_sock.specs.Leaving.{IsNoneItReads, IsNoneItSettled, IsNoneItWrites, LeavesPipes, TellsRest}
 use Rattle.core_others.specs.Agrees.{AgreesIn}
-use Rattle.core_others.specs.Apart.{ArePlacesOf, IsPlaceOf}
+use Rattle.core_others.specs.Apart.{IsHeldBy}
 use Rattle.core_others.specs.Calls.{AreCallsOn, SaySame, for_caller}
 use Rattle.core_others.specs.Coming.{IsSent, WasComing}
-use Rattle.core_others.specs.Rest.{ClosesRest, LeavesRest, OthersAgreeAtClose, OthersAgreeStill, OthersAreKept}
+use Rattle.core_others.specs.Rest.{LeavesRest, OthersAgreeStill, OthersAreKept}
+use Rattle.core_others.proofs.ApartLemmas.{across, else_of, is_out, not_first, not_second, other_out}
+use Rattle.core_others.proofs.ChainLemmas.{IsOwn, own_ends}
 use Rattle.core_others.proofs.ComingLemmas.{old_end_came}
-use Rattle.core_others.proofs.GrownLemmas.{objects_stay}
-use Rattle.core_others.proofs.JoinLemmas.{are_else, joins_made}
-use Rattle.core_others.proofs.OwnedLemmas.{held_by, owned_are_apart, owned_left, owned_still}
-use Rattle.core_others.proofs.PlacesLemmas.{names_on, other_places_stay}
+use Rattle.core_others.proofs.GrownLemmas.{found_by, led_more, objects_stay, run_more}
+use Rattle.core_others.proofs.JoinLemmas.{joins_by}
+use Rattle.core_others.proofs.OwnedLemmas.{held_by, owned_still}
 use Rattle.core_others.proofs.SilentLemmas.{one_order_of, others_say_the_same}
-use Rattle.core_others.proofs.TouchedLemmas.{all_touched, leaves_touched, read_touched, touched_of, untouched_of}
 
-some_is : {x y : ℕ} → Some x ≡ Some y → x ≡ y
+some_is : {X : Type 0} {x y : X} → Some x ≡ Some y → x ≡ y
 some_is e = Prim.grind arith
 
+-- ---- ends that were asked
+
+all_front : {X : Type 0} (Q : X → Type 0) (xs ys : List X) → AllByRecursion Q (xs ++ ys) → AllByRecursion Q xs
+all_front Q [] ys all = tt
+all_front Q (x ∷ xs) ys all = (all.0, all_front Q xs ys all.1)
+
+module _ {G N T : Type 0} (once : EndsAreSealedOnce N T) (old new : Lent G N T) (o : ℕ) (calls : AreCallsOn o old new) where
+  -- they were so still, whoever's calls came
+  asked_still : (es : List EndId) → WereAsked (control_of old.past) es → WereAsked (control_of new.past) es
+  asked_still es were =
+      let grows : GrowsBy old new = calls.grows in
+      let before : IsOneOrder old = calls.before in
+      let c = found_by old new calls.behind grows in
+      let all = once old.past.workers old.items grows.more before.order.run (run_more old new calls.behind grows) es (subst (λ (d : Control). WereAsked d es) before.control were) in
+      subst (λ (d : Control). WereAsked d es) (sym (led_more old new calls.behind grows))
+      (all_front (λ e. (e.pair.0 < next_pair (after_all grows.more c)) × (0 < asked_rank (place_of (after_all grows.more c) e))) es (sealed_with (moments_from c grows.more)) all.1)
+
+-- an end of an object is one that it owns
+owns : {G N T : Type 0} (d : Lent G N T) (order : IsOneOrder d) (o : ℕ) (x : EndId) → is_end_of o (control_of d.past) x ≡ true → owner_of (control_of d.past) x ≡ o
+owns d order o x its =
+    subst (λ (c : Control). owner_of c x ≡ o) (sym order.control)
+    (any_of (λ e. owner_of c e ≡ o) (ends_of o c) x (All-weaker (IsOwn o c) (λ e. owner_of c e ≡ o) (λ e is. is.own) (ends_of o c) (own_ends o c (old_run d.past.workers d.items order.order.run)))
+    (subst (λ (q : Control). is_end_of o q x ≡ true) order.control its))
+  where
+    c : Control
+    c = after_all d.items (begun d.past.workers)
+
 module _ (W T : Type 0) {P N O I : Type 0} (K : Known P O I N) (o : ℕ) (old new : Lent (Given N O I) N T) (calls : AreCallsOn o old new) (had : HasSocket old (id o)) (before behind : P)
-    (j : ℕ) (t : SockCore AnySock W N O I) (other_one : j ≡ old.caller → t.number.0 ≢ o) (agrees : AgreesIn K old j before t) where
+    (j : ℕ) (t : SockCore AnySock W N O I) (other_one : j ≡ old.caller → t.number.0 ≢ o) (agrees : AgreesIn K old j before t) (once : EndsAreSealedOnce N T) where
   abbrev grows : GrowsBy old new
   grows = calls.grows
 
@@ -58,6 +102,10 @@ module _ (W T : Type 0) {P N O I : Type 0} (K : Known P O I N) (o : ℕ) (old ne
 
   abbrev u : ℕ
   u = t.number.0
+
+  -- the control state behind them
+  abbrev c : Control
+  c = control_of new.past
 
   owned : IsOwned K j (moments_of (for_caller j old)) before t
   owned = agrees.owned
@@ -76,7 +124,7 @@ module _ (W T : Type 0) {P N O I : Type 0} (K : Known P O I N) (o : ℕ) (old ne
       other_one (some_is (sym its ∙ ap (λ (n : ℕ). has_after n old.items) (sym is) ∙ has)) (sym is)
 
   slot : slot_after u (moments_of (for_caller j new)) ≡ slot_after u (moments_of (for_caller j old))
-  slot = ap (λ (c : Control). let s : SlotId = record { 0 = (obj c.rows u).slot } in s) same.left
+  slot = ap (λ (d : Control). let s : SlotId = record { 0 = (obj d.rows u).slot } in s) same.left
 
   abbrev box_now : ℕ
   box_now = (slot_after u (moments_of (for_caller j new))).0
@@ -85,7 +133,7 @@ module _ (W T : Type 0) {P N O I : Type 0} (K : Known P O I N) (o : ℕ) (old ne
   MayBind was now e h = coming_to new box_now e ≡ true → name_of new.items e ≡ Some (K.out_name h.out) → name_of new.items (other_end e) ≡ Some (K.in_name h.input) → MayJoin K now (Some t) h
 
   -- halves that might join it before may have done so
-  might : (e : EndId) (h : Halves O I) → WasComing box_now old new e → name_of new.items e ≡ Some (K.out_name h.out) → name_of new.items (other_end e) ≡ Some (K.in_name h.input) → MayJoin K before (Some t) h
+  might : (e : EndId) (h : Halves O I) → WasComing box_now old new e → name_of new.items e ≡ Some (K.out_name h.out) → name_of new.items (other_end e) ≡ Some (K.in_name h.input) → Fits K before t.ends.places.items h
   might e h came written read = agrees.binds e h (ap (λ (s : SlotId). coming_to old s.0 e) (sym slot) ∙ came.coming) (sym came.written ∙ written) (sym came.read ∙ read)
 
   -- an end on its way was so before, or its pair was made since
@@ -96,120 +144,157 @@ module _ (W T : Type 0) {P N O I : Type 0} (K : Known P O I N) (o : ℕ) (old ne
       by (inl within) = inl (old_end_came old new o calls had e within box_now coming)
       by (inr since) = inr (record { away = away (for_caller j new) u (one_order_of j new order_now) owned_now.is_open e coming; since = since })
 
-  -- the other with those of its ends alone whose pipes were changed
-  module _ (table : EndTable N O I) (changes : List (PipeChange O I × P)) (does : DoesChanges K table.places.items before changes behind) where
-    abbrev first : SockCore AnySock W N O I
-    first = record t { ends = untouched_of table }
+  -- an end on its way to it is the other's own
+  module _ (e : EndId) (coming : coming_to new box_now e ≡ true) where
+    is_away_now : is_away (place_of c e) ≡ true
+    is_away_now = away (for_caller j new) u (one_order_of j new order_now) owned_now.is_open e coming
 
-    abbrev last : SockCore AnySock W N O I
-    last = record t { ends = touched_of table changes }
+    its_own : owner_of c e ≡ u
+    its_own = mine (for_caller j new) u (one_order_of j new order_now) owned_now.is_open e coming
 
-    leaves : LeavesOthers K (Some first) (Some last) before behind
-    leaves = leaves_touched K table changes before behind does
+    not_its : is_end_of o c e ≡ false
+    not_its = by (is_end_of o c e) refl
+      where
+        by : (b : Bool) → is_end_of o c e ≡ b → b ≡ false
+        by false is = refl
+        by true is = absurd (other (sym (owns new order_now o e is) ∙ its_own))
 
-    read_out : WereRead last.ends.places.items last.ends.settled.items
-    read_out = read_touched K table changes before behind does
+    reader : place_of c (other_end e) ≡ At Gone → ⊥
+    reader gone =
+        not_second (has_writer (place_of c e)) (is_away (place_of c e)) (ap (λ (x : EndId). is_out (place_of c x)) (sym (other_twice e)) ∙ other_out c (kept_now new order_now) (other_end e) gone) is_away_now
 
-  -- ---- calls that left the other open
-  module _ (rest : LeavesRest K o old new before behind) (one_out : K.exact ≡ true → (s : P) (x y : O) → K.out_name x ≡ K.out_name y → K.writing s x ≡ K.writing s y) where
-    abbrev was : SockCore AnySock W N O I
-    was = first rest.table rest.changes rest.does
+  asked : WereAsked c (map (λ x. x.0) t.sealed.items)
+  asked = asked_still once old new o calls (map (λ x. x.0) t.sealed.items) agrees.asked
 
-    abbrev now : SockCore AnySock W N O I
-    now = last rest.table rest.changes rest.does
+  -- ---- the calls left its pipes
+  module _ (distinct : AreDistinct K.exact (name_of new.items)) (pipes : LeavesPipes K o new c before behind) where
+    not_own : (e : EndId) → owner_of c e ≡ u → (x : EndId) → is_end_of o c x ≡ true → e ≢ x
+    not_own e own x its same = other (sym (owns new order_now o x its) ∙ ap (owner_of c) (sym same) ∙ own)
 
-    left_so : LeavesOthers K (Some was) (Some now) before behind
-    left_so = leaves rest.table rest.changes rest.does
+    module _ (e : EndId) (own : owner_of c e ≡ u) where
+      no_writer : (n : N) → name_of new.items e ≡ Some n → IsNoneItWrites K o new n
+      no_writer n is x w its writes = else_of K new distinct e x n w is writes (not_own e own x its)
 
-    places : ArePlacesOf o new now.ends.places.items
-    places = all_touched K rest.table rest.changes (IsPlaceOf o new) rest.touched
+      no_reader : (n : N) → name_of new.items (other_end e) ≡ Some n → IsNoneItReads K o new n
+      no_reader n is x r its reads = else_of K new distinct (other_end e) (other_end x) n r is reads (across e x (not_own e own x its))
 
-    read_so : WereRead now.ends.places.items now.ends.settled.items
-    read_so = read_out rest.table rest.changes rest.does
+      none_settled : (n : N) → name_of new.items e ≡ Some n → ((x : EndId) → e ≡ other_end x → place_of c x ≡ At Gone → ⊥) → IsNoneItSettled K o new n c
+      none_settled n is there_still x r its gone reads = else_of K new distinct e (other_end x) n r is reads (λ same. there_still x same gone)
+
+    -- of an end that it holds
+    module _ (k : ℕ) (p : Place N I) (at : place_at t.ends.places.items k ≡ Some p) (held : p.held ≡ true) where
+      its : IsHeldBy u (for_caller j new) p
+      its = held_by W T K new order_now j before t owned_now k p at held
+
+      of_its : IsOfIts u (for_caller j new) p.end p.written p.read
+      of_its = its.its
+
+      own : owner_of c p.end ≡ u
+      own = (there (for_caller j new) u (one_order_of j new order_now) owned_now.is_open p.end of_its.its).own
+
+      writes_still : p.writes ≡ true → (x : EndId) → p.end ≡ other_end x → place_of c x ≡ At Gone → ⊥
+      writes_still writes x same gone =
+          not_first (has_writer (place_of c p.end)) (is_away (place_of c p.end)) (ap (λ (e : EndId). is_out (place_of c e)) same ∙ other_out c (kept_now new order_now) x gone) (its.writes writes)
+
+      carries : Carries K before behind p
+      carries = record {
+        there_out = λ is writes was. pipes.there p.written was;
+        there_in = λ is was. pipes.there p.read was;
+        outs = λ is writes x name was.
+            pipes.outs x (subst (IsThere K before) (sym name) was) (subst (λ (n : N). IsNoneItWrites K o new n) (sym name) (no_writer p.end own p.written of_its.written))
+            (subst (λ (n : N). IsNoneItSettled K o new n c) (sym name) (none_settled p.end own p.written of_its.written (writes_still writes)));
+        ins = λ is x name was. pipes.ins x (subst (IsThere K before) (sym name) was) (subst (λ (n : N). IsNoneItReads K o new n) (sym name) (no_reader p.end own p.read of_its.read));
+      }
+
+    sound_was : IsSound K before t.ends.rows.items t.ends.places.items
+    sound_was = sound_of K before t.ends.rows.items t.ends.places.items owned.stands.fits.sound
+
+    not_held : (p : Place N I) → p.held ≡ false → Carries K before behind p
+    not_held p free = record {
+      there_out = λ is writes was. pipes.there p.written was;
+      there_in = λ is was. pipes.there p.read was;
+      outs = λ is. absurd (true≢false (sym is ∙ free));
+      ins = λ is. absurd (true≢false (sym is ∙ free));
+    }
+
+    carries_all : (k : ℕ) (p : Place N I) → place_at t.ends.places.items k ≡ Some p → (b : Bool) → p.held ≡ b → Carries K before behind p
+    carries_all k p at true held = carries k p at held
+    carries_all k p at false free = not_held p free
+
+    sound_now : AreSound K behind t.ends.rows.items t.ends.places.items
+    sound_now = are_sound K behind t.ends.rows.items t.ends.places.items (record {
+      count = sound_was.count;
+      stands = λ k p at. carried K before behind (row_at t.ends.rows.items k) p (carries_all k p at p.held refl) p.held p.writes refl refl (sound_was.stands k p at);
+      apart = sound_was.apart;
+      crossed = sound_was.crossed;
+    })
+
+    fits_now : FitsCore K peer_places behind t
+    fits_now = (let was = owned.stands.fits in record {
+      sound = sound_now;
+      peers_are = was.peers_are;
+      room = was.room;
+      gone = was.gone;
+      stopped_is = was.stopped_is;
+      flagged = was.flagged;
+      in_use = was.in_use;
+      settled_are = was.settled_are;
+      sealed_are = was.sealed_are;
+    })
 
     owned_left_so : IsOwned K j (moments_of (for_caller j new)) behind t
-    owned_left_so =
-        owned_left K j (moments_of (for_caller j new)) was now t before behind left_so
-        (owned_are_apart W T K new order_now rest.distinct new.caller o rest.has was now t places read_so j before other owned_now) owned_now
+    owned_left_so = record {
+      stands = (let was : IsStanding K before t = owned.stands in record { fits = fits_now; is_open = was.is_open; told = was.told; unsealed = was.unsealed });
+      has = owned_now.has;
+      held = owned_now.held;
+      is_open = owned_now.is_open;
+      ends_are = owned_now.ends_are;
+      sealed_out = owned_now.sealed_out;
+    }
+
+    -- halves that came before may join it still
+    joins_came : (e : EndId) (h : Halves O I) → WasComing box_now old new e → MayBind before behind e h
+    joins_came e h came coming written read =
+        let may = might e h came written read in
+        let own = its_own e coming in
+        record {
+          out_there = pipes.there (K.out_name h.out) may.out_there;
+          in_there = pipes.there (K.in_name h.input) may.in_there;
+          unsealed = ap (λ (w : Writing). w.sealed) (pipes.outs h.out may.out_there (no_writer e own (K.out_name h.out) written)
+              (none_settled e own (K.out_name h.out) written (λ x same gone. reader e coming (ap (place_of c) (ap other_end same ∙ other_twice x) ∙ gone)))) ∙ may.unsealed;
+          crossed = may.crossed;
+          others = may.others;
+        }
+
+  module _ (rest : LeavesRest K o old new before behind) where
+    tells : TellsRest K o old new before behind
+    tells = rest.rest
+
+    owned_behind : IsOwned K j (moments_of (for_caller j new)) behind t
+    owned_behind = owned_left_so rest.named_now.distinct tells.pipes
+
+    unnamed : (e : EndId) → next_pair (control_of old.past) ≤ e.pair.0 → (m : Option N) → name_of old.items e ≡ m → name_of old.items e ≡ None
+    unnamed e since None is = is
+    unnamed e since (Some m) is = absurd (let made = rest.named.made e m is in omega (arith, made, since))
 
     bind_so : (e : EndId) (h : Halves O I) → WasComing box_now old new e ⊎ IsSent old new e → MayBind before behind e h
-    bind_so e h (inl came) coming written read =
-        let may = might e h came written read in
-        others_join K (Some was) (Some now) (Some t) (Some t) before behind h left_so
-        (are_else K new order_now rest.distinct new.caller o j u other rest.has owned_now.is_open e h coming written read was.ends now.ends places read_so, may.others) may
+    bind_so e h (inl came) coming written read = joins_came rest.named_now.distinct tells.pipes e h came coming written read
     bind_so e h (inr sent) coming written read =
-        let made = rest.sent e sent in
-        joins_made K new order_now rest.distinct new.caller o j u other rest.has owned_now.is_open e h coming written read rest.table before behind rest.changes rest.does rest.touched t.ends.places.items
-        (λ k p at held. held_by W T K new order_now j behind t owned_left_so k p at held) made.exact one_out (made.written (K.out_name h.out) written) (made.read (K.in_name h.input) read)
+        joins_by K new order_now rest.named_now.distinct j u owned_now.is_open e h coming written read behind t.ends.places.items
+        (λ k p at held. held_by W T K new order_now j behind t owned_behind k p at held)
+        (rest.named_now.there e (K.out_name h.out) written) (rest.named_now.there (other_end e) (K.in_name h.input) read)
+        (tells.unsealed rest.exact rest.named e (unnamed e sent.since (name_of old.items e) refl) (not_its e coming) (reader e coming) h.out written)
 
     pub agrees_still : AgreesIn K new j behind t
-    agrees_still = record {
-      owned = owned_left_so;
-      places = other_places_stay (Given N O I) N T I old new o calls j u other_one owned.is_open t.ends.places.items agrees.places;
-      binds = λ e h coming written read. bind_so e h (came_or_sent e coming) coming written read;
-    }
+    agrees_still = record { owned = owned_behind; asked = asked; binds = λ e h coming written read. bind_so e h (came_or_sent e coming) coming written read }
 
-  -- ---- its close
-  module _ (rest : ClosesRest K o old new before behind) where
-    abbrev was_open : SockCore AnySock W N O I
-    was_open = first rest.table rest.changes rest.does
+pub others_agree_still : (W T : Type 0) {P N O I : Type 0} (K : Known P O I N) → EndsAreSealedOnce N T → OthersAgreeStill W T K
+others_agree_still W T K once o old new before behind rest j t other agrees = agrees_still W T K o old new rest.calls rest.had before behind j t other agrees once rest
 
-    abbrev closed : SockCore AnySock W N O I
-    closed = last rest.table rest.changes rest.does
-
-    left_closed : LeavesOthers K (Some was_open) (Some closed) before behind
-    left_closed = leaves rest.table rest.changes rest.does
-
-    places_were : ArePlacesOf o old closed.ends.places.items
-    places_were = all_touched K rest.table rest.changes (IsPlaceOf o old) rest.touched
-
-    read_closed : WereRead closed.ends.places.items closed.ends.settled.items
-    read_closed = read_out rest.table rest.changes rest.does
-
-    names : KeepsNames (name_of old.items) (name_of new.items)
-    names = names_on old.items grows.more new.items grows.items
-
-    distinct : AreDistinct K.exact (name_of old.items)
-    distinct exact d e n of_d of_e = rest.distinct exact d e n (names d n of_d) (names e n of_e)
-
-    apart : IsApart K (Some was_open) (Some closed) (Some t)
-    apart = owned_are_apart W T K old order distinct old.caller o had was_open closed t places_were read_closed j before other owned
-
-    bind_closed : (e : EndId) (h : Halves O I) → WasComing box_now old new e ⊎ IsSent old new e → MayBind before behind e h
-    bind_closed e h (inl came) coming written read =
-        let may = might e h came written read in
-        others_join K (Some was_open) (Some closed) (Some t) (Some t) before behind h left_closed (
-          are_else K old order distinct old.caller o j u other had owned.is_open e h (ap (λ (s : SlotId). coming_to old s.0 e) (sym slot) ∙ came.coming) (sym came.written ∙ written) (sym came.read ∙ read) was_open.ends closed.ends places_were read_closed,
-          may.others,
-        ) may
-    bind_closed e h (inr sent) coming written read = absurd (rest.none_sent e sent)
-
-    pub agrees_closed : AgreesIn K new j behind t
-    agrees_closed = record {
-      owned = owned_left K j (moments_of (for_caller j new)) was_open closed t before behind left_closed apart owned_now;
-      places = other_places_stay (Given N O I) N T I old new o calls j u other_one owned.is_open t.ends.places.items agrees.places;
-      binds = λ e h coming written read. bind_closed e h (came_or_sent e coming) coming written read;
-    }
-
-abbrev OneOut : {P N O I : Type 0} → Known P O I N → Type 0
-OneOut {P} {N} {O} {I} K = K.exact ≡ true → (s : P) (x y : O) → K.out_name x ≡ K.out_name y → K.writing s x ≡ K.writing s y
-
-pub others_agree_still : (W T : Type 0) {P N O I : Type 0} (K : Known P O I N) → OneOut K → OthersAgreeStill W T K
-others_agree_still W T K one_out o old new before behind rest j t other agrees = agrees_still W T K o old new rest.calls rest.had before behind j t other agrees rest one_out
-
-pub others_agree_at_close : (W T : Type 0) {P N O I : Type 0} (K : Known P O I N) → OthersAgreeAtClose W T K
-others_agree_at_close W T K o old new before behind rest j t other agrees = agrees_closed W T K o old new rest.calls rest.had before behind j t other agrees rest
-
-pub others_are_kept : (W T : Type 0) {P N O I : Type 0} (K : Known P O I N) → OneOut K → OthersAreKept W T K
-others_are_kept W T {P} {N} {O} {I} K one_out o old new before behind (inl rest) box =
+pub others_are_kept : (W T : Type 0) {P N O I : Type 0} (K : Known P O I N) → EndsAreSealedOnce N T → OthersAreKept W T K
+others_are_kept W T {P} {N} {O} {I} K once o old new before behind rest box =
     let calls : AreCallsOn o old new = rest.calls in
     record {
-      sockets = λ k s agrees other. others_agree_still W T K one_out o old new before behind rest k s other agrees;
-      numbers = λ i there. objects_stay old new calls.behind calls.grows calls.before i there;
-    }
-others_are_kept W T {P} {N} {O} {I} K one_out o old new before behind (inr rest) box =
-    let calls : AreCallsOn o old new = rest.calls in
-    record {
-      sockets = λ k s agrees other. others_agree_at_close W T K o old new before behind rest k s other agrees;
+      sockets = λ k s agrees other. others_agree_still W T K once o old new before behind rest k s other agrees;
       numbers = λ i there. objects_stay old new calls.behind calls.grows calls.before i there;
     }

@@ -18,7 +18,6 @@ use Rattle.sock_calls.specs.Others.{IsApart}
 use Rattle.lent_sock.specs.Owned.{IsOwned}
 use Rattle.one_desk.specs.Lent.{coming_to, HasSocket, IsOneOrder, Lent, moments_of}
 use Rattle.desk_laws.specs.Behind.{is_request, SendsNone, SettlesOwn}
-use Rattle.core_others.specs.Agrees.{AgreesIn}
 use Rattle.core_others.specs.Apart.{ArePlacesOf, IsHeldBy}
 use Rattle.core_others.specs.Coming.{SendsNoneTo}
 use Rattle.core_others.specs.Calls.{AreCallsOn, SaySame, for_caller}
@@ -65,14 +64,6 @@ ComingJoinStill C W {P} {N} {O} {I} K G S = (old new : Lent G N S) → IsOneOrde
 abbrev pub OtherPlacesStay : (G N S I : Type 0) → Type 0
 OtherPlacesStay G N S I = (old new : Lent G N S) (o : ℕ) → AreCallsOn o old new →
     (j u : ℕ) → (j ≡ old.caller → u ≢ o) → HasSocket (for_caller j old) (id u) → (ps : List (Place N I)) → ArePlacesOf u (for_caller j old) ps → ArePlacesOf u (for_caller j new) ps
-
--- each socket that its caller has open is so still behind calls on another open socket, which sent it nothing
-abbrev pub OthersAgree : (W T : Type 0) → {P N O I : Type 0} → Known P O I N → Type 0
-OthersAgree W T {P} {N} {O} {I} K = (old new : Lent (Given N O I) N T) (o : ℕ) → AreCallsOn o old new → AreDistinct K.exact (name_of new.items) → HasSocket new (id o) →
-    (was now : SockCore AnySock W N O I) (before behind : P) → LeavesOthers K (Some was) (Some now) before behind →
-    ArePlacesOf o new now.ends.places.items → WereRead now.ends.places.items now.ends.settled.items →
-    (j : ℕ) (t : SockCore AnySock W N O I) → (j ≡ old.caller → t.number.0 ≢ o) → SendsNoneTo (slot_after t.number.0 (moments_of (for_caller j old))).0 old new →
-    AgreesIn K old j before t → AgreesIn K new j behind t
 
 -- calls of a socket that are no requests make no pipe, and put no end on its way
 abbrev pub CallsSendNone : (G N S : Type 0) → Type 0

@@ -3,7 +3,5 @@ pub mod Apart
 pub mod Laws
 pub mod Coming
 pub mod Agrees
-pub mod Made
-pub mod Touched
 pub mod Lines
 pub mod Rest

@@ -1,8 +1,9 @@
-ghost use Rattle.core_others.specs.Laws.{CallsSendNone, ClosedAreApart, ComingJoinStill, HeldPlacesAreApart, OtherPlacesStay, OthersAgree, OthersSayTheSame, OthersStayOwned, OwnedAreApart, SendsNoneAtAll, SettledWereRead};
+ghost use Rattle.core_others.specs.Laws.{CallsSendNone, ClosedAreApart, ComingJoinStill, HeldPlacesAreApart, OtherPlacesStay, OthersSayTheSame, OthersStayOwned, OwnedAreApart, SendsNoneAtAll, SettledWereRead};
 ghost use Rattle.core_others.specs.Lines.{ClosesAreOn, LinesAreOn, ObjectsStay, OldEndsCame, SendsNoOther};
-ghost use Rattle.core_others.specs.Rest.{EndingsSendNone, NoneIsSent, OthersAgreeAtClose, OthersAgreeStill, OthersAreKept, SentEndsAreMade, SentGoesOn};
+ghost use Rattle.core_others.specs.Rest.{EndingsSendNone, NoneIsSent, OthersAgreeStill, OthersAreKept};
 
 use held_ends::HeldPipes;
+use past_laws::ends_are_sealed_once;
 
 /// A pipe that no end read that is held no more was not settled.
 pub fn pipes_settled_were_read<P: HeldPipes>(_pipes: &P)
@@ -37,11 +38,6 @@ pub fn coming_join_still<P: HeldPipes, C, W, G, S>(_pipes: &P)
 /// The places of an open socket are of its ends still, behind calls on another.
 pub fn other_places_stay<G, N, S, I>()
     ensures { OtherPlacesStay G N S I }
-{}
-
-/// A socket of a core that its caller has open agrees still, behind calls on another that sent it none.
-pub fn others_agree<P: HeldPipes, W, T>(_pipes: &P)
-    ensures { OthersAgree W T P.known }
 {}
 
 /// Calls of a socket that are no requests make no pipe, and put no end on its way.
@@ -84,30 +80,19 @@ pub fn objects_are_there<G, N, S>()
     ensures { ObjectsStay G N S }
 {}
 
-/// Both pipes of each end that an open socket's calls put on its way were made in them.
-pub fn sent_ends_are_made<P: HeldPipes, W, T>(_pipes: &P)
-    ensures { SentEndsAreMade W T P.known }
-{}
-
-/// Each other socket that its caller has open agrees still, behind calls of one that left it open.
+/// Each other socket that its caller has open agrees still, behind calls of one.
 pub fn others_agree_still<P: HeldPipes, W, T>(_pipes: &P)
     ensures { OthersAgreeStill W T P.known }
-{}
-
-/// And behind its close.
-pub fn others_agree_at_close<P: HeldPipes, W, T>(_pipes: &P)
-    ensures { OthersAgreeAtClose W T P.known }
-{}
+{
+    ends_are_sealed_once::<P::Name, T>();
+}
 
 /// Whatever the calls of a socket were, its actor's others are kept.
 pub fn others_are_kept<P: HeldPipes, W, T>(_pipes: &P)
     ensures { OthersAreKept W T P.known }
-{}
-
-/// What an open socket's calls put on its way was made in them, one stretch behind another.
-pub fn sent_goes_on<P: HeldPipes, G, S>(_pipes: &P)
-    ensures { SentGoesOn P.known G S }
-{}
+{
+    ends_are_sealed_once::<P::Name, T>();
+}
 
 /// Where no end was put on its way, none of a pair made since was.
 pub fn none_is_sent<G, N, S>()

@@ -1,0 +1,4 @@
+pub mod StandLemmas
+pub mod ToldLemmas
+pub mod ReaperLemmas
+pub mod OwnLemmas

@@ -1,0 +1,5 @@
+pub mod Done
+pub mod Stands
+pub mod Told
+pub mod Reaper
+pub mod Own

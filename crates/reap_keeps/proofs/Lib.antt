@@ -1,0 +1,9 @@
+pub mod UnsealedLemmas
+pub mod ReapedLemmas
+pub mod RowLemmas
+pub mod SocketsLemmas
+pub mod TakenLemmas
+pub mod OnlyLemmas
+pub mod HeldLemmas
+pub mod ElseLemmas
+pub mod AgreeLemmas

@@ -1,0 +1,5 @@
+pub mod Asides
+pub mod Unsealed
+pub mod Reaped
+pub mod Taken
+pub mod Agreeing
