@@ -1,3 +1,5 @@
 mod CountLemmas
 mod DropLemmas
 mod EndedLemmas
+mod EnderLemmas
+pub mod TableLemmas

@@ -1,2 +1,4 @@
 pub mod Drops
 pub mod Ended
+pub mod Table
+pub mod Counting

@@ -4,4 +4,4 @@
 
 mod laws;
 
-pub use laws::{calls_tell_drops, drops_go_on, ended_goes_on};
+pub use laws::{calls_tell_drops, drops_go_on, ended_are_told, ended_goes_on, tables_go_on};

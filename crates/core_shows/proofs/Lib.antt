@@ -1,1 +1,7 @@
 mod RowLemmas
+mod TableLemmas
+mod ToldLemmas
+mod PipeLemmas
+mod LastLemmas
+mod DropLemmas
+mod PieceLemmas
