@@ -15,6 +15,15 @@ module _ {N S : Type 0} where
   abbrev pub IsOnlyReaper : (caller : ℕ) → List (Piece N S) → Type 0
   IsOnlyReaper caller pieces = AllByRecursion (λ x. x.reaps ≡ true → x.by ≡ caller) pieces
 
+  -- this caller did nothing else; so it has no socket
+  abbrev pub OnlyReaps : (caller : ℕ) → List (Piece N S) → Type 0
+  OnlyReaps caller pieces = AllByRecursion (λ x. x.by ≡ caller → x.reaps ≡ true) pieces
+
+  -- who takes letters in the place of closed sockets, and does nothing else
+  pub record IsReaper (caller : ℕ) (pieces : List (Piece N S)) : Type 0 where
+    pub only : IsOnlyReaper caller pieces
+    pub reaps : OnlyReaps caller pieces
+
   -- the reaper's step
   pub record ReapsOne (caller : ℕ) (before after : List (Piece N S)) : Type 0 where
     pub deed : Deed N S

@@ -23,7 +23,7 @@ pub struct Shown {
 /// number, and leaves all sockets as they are told.
 pub trait Core<P: Pipes>: Sockets<P> {
     ghost use Rattle.script_actor.specs.Way.{KeepsAll};
-    ghost use Rattle.zq_world.specs.CoreCalls.{IsOnlyReaper, ReapsOne, LooksOnce, AsksOnce};
+    ghost use Rattle.zq_world.specs.CoreCalls.{IsReaper, ReapsOne, LooksOnce, AsksOnce};
     ghost use Rattle.zq_world.specs.Shown.{ShowsSo};
     ghost use Rattle.zq_world.specs.Played.{IsOrderly};
 
@@ -31,9 +31,9 @@ pub trait Core<P: Pipes>: Sockets<P> {
     ghost order: { Self → List (Item P.Name P.Story) };
 
     /// The reaper's step: it takes one letter, of the first of its mailboxes that is not empty, or
-    /// finds all of them empty. Each such call is one caller's.
+    /// finds all of them empty. Each such call is one caller's, which makes no others.
     fn reap_one(&mut self, alloc: Global, caller: usize) -> Result<(), AllocError>
-        requires alone { IsOnlyReaper caller (Self.pieces self.old) }
+        requires alone { IsReaper caller (Self.pieces self.old) }
         ensures ok { OnOk result (ReapsOne caller (Self.pieces self.old) (Self.pieces self.new)) }
         ensures keeps { KeepsAll Self.agrees Self.was_made self.old self.new };
 

@@ -4,7 +4,7 @@ ghost use Rattle.spec_run.specs.OpenSocket.{OpenSock};
 ghost use Rattle.spec_run.specs.Standing.{has_finished};
 ghost use Rattle.spec_run.specs.InTurns.{is_ended};
 ghost use Rattle.script_actor.specs.Way.{KeepsAll};
-ghost use Rattle.zq_world.specs.CoreCalls.{IsOnlyReaper};
+ghost use Rattle.zq_world.specs.CoreCalls.{IsReaper};
 ghost use Rattle.zq_world.specs.Turning.{ActorsAgree, WorkerSteps, HaveStepped, TurnSteps, times};
 ghost use Rattle.zq_world.specs.Turning.{standings, BeginsOrEnds, RunsSo};
 
@@ -26,7 +26,7 @@ fn step<P: Pipes, W: Core<P>>(
     worker: usize,
 ) -> Result<(), AllocError>
     requires agree { ActorsAgree W.as_open W.agrees W.was_made way.old actors.old }
-    requires alone { IsOnlyReaper (length actors.old) (W.pieces way.old) }
+    requires alone { IsReaper (length actors.old) (W.pieces way.old) }
     ensures ok { OnOk result (WorkerSteps W.as_open worker actors.old actors.new
         (W.pieces way.old) (W.pieces way.new)) }
     ensures agree { ActorsAgree W.as_open W.agrees W.was_made way.new actors.new }
@@ -48,7 +48,7 @@ fn steps<P: Pipes, W: Core<P>>(
     order: &[usize],
 ) -> Result<(), AllocError>
     requires agree { ActorsAgree W.as_open W.agrees W.was_made way.old actors.old }
-    requires alone { IsOnlyReaper (length actors.old) (W.pieces way.old) }
+    requires alone { IsReaper (length actors.old) (W.pieces way.old) }
     requires once { (w : ℕ) → times w order.now ≤ 1 }
     ensures ok { OnOk result (HaveStepped W.as_open order.now actors.old actors.new
         (W.pieces way.old) (W.pieces way.new)) }
@@ -68,7 +68,7 @@ fn turn<P: Pipes, W: Core<P>>(
     order: &mut Order,
 ) -> Result<(), AllocError>
     requires agree { ActorsAgree W.as_open W.agrees W.was_made way.old actors.old }
-    requires alone { IsOnlyReaper (length actors.old) (W.pieces way.old) }
+    requires alone { IsReaper (length actors.old) (W.pieces way.old) }
     ensures ok { OnOk result (TurnSteps W.as_open order.old.seed order.old.drawn order.new.drawn
         actors.old actors.new (W.pieces way.old) (W.pieces way.new)) }
     ensures agree { ActorsAgree W.as_open W.agrees W.was_made way.new actors.new }
@@ -137,7 +137,7 @@ pub fn run<P: Pipes, W: Core<P>>(
     turns: u32,
 ) -> Result<bool, AllocError>
     requires agree { ActorsAgree W.as_open W.agrees W.was_made way.old actors.old }
-    requires alone { IsOnlyReaper (length actors.old) (W.pieces way.old) }
+    requires alone { IsReaper (length actors.old) (W.pieces way.old) }
     ensures ok { IfOk result (λ done. RunsSo W.as_open seed turns done actors.old actors.new
         (W.pieces way.old) (W.pieces way.new)) }
     ensures agree { ActorsAgree W.as_open W.agrees W.was_made way.new actors.new }

@@ -1,7 +1,7 @@
 use Rattle.std.proofs.Common.{sym, subst, arith}
 use Rattle.std.proofs.lemmas.Result.{on_ok_weaker}
 use Rattle.script_actor.specs.Stepping.{StepsSo}
-use Rattle.zq_world.specs.CoreCalls.{IsOnlyReaper}
+use Rattle.zq_world.specs.CoreCalls.{IsReaper}
 use Rattle.zq_world.proofs.StepLemmas.{actor_is, reaper_is, server_is, agree_then, agree_still, read_here}
 use Rattle.zq_world.proofs.play.step.Goals as goal
 
@@ -32,4 +32,4 @@ returns-clause-ok g c =
     server_is g.W.Sockets.as_open c.args.worker c.args.actors.now (g.W.Sockets.pieces c.args.way.now) (omega (arith, c.if-worker-actors.false, c.if-worker-actors-2.false))
 
 pub reap_one-requires : goal.reap_one-requires
-reap_one-requires g c = record { alone = subst (λ n. IsOnlyReaper n (g.W.Sockets.pieces c.args.way.now)) (sym c.if-worker-actors-2.true) c.requires.alone }
+reap_one-requires g c = record { alone = subst (λ n. IsReaper n (g.W.Sockets.pieces c.args.way.now)) (sym c.if-worker-actors-2.true) c.requires.alone }
