@@ -1,5 +1,5 @@
 -- All open sockets agree still behind a call of a core that is one item.
-use Rattle.std.specs.Prelude.{◌≡◌, ◌≤◌, ◌==◌, ℕ, Bool, true, false, List, Option, length, refl}
+use Rattle.std.specs.Prelude.{◌≡◌, ◌≤◌, ◌==◌, ℕ, Bool, true, false, List, [], Option, Some, None, length, map, refl}
 use Rattle.std.specs.List.{list_any}
 use Rattle.std.proofs.Common.{sym, ap, ◌∙◌, subst, true≢false}
 use Rattle.std.proofs.lemmas.Bool.{eq-eqb, eqb-true}
@@ -12,6 +12,7 @@ use Rattle.control_held.specs.OwnAsks.{known_after, Known as KnownOf}
 use Rattle.msg_pipe.specs.Known.{Known}
 use Rattle.ctl_holder.specs.declared.given.Given.{Given}
 use Rattle.ctl_holder.specs.Holding.{Holding}
+use Rattle.ctl_history.specs.Past.{control_of}
 use Rattle.ctl_plane.specs.Desk.{HasWhatTheySay, slot_after}
 use Rattle.any_sock.specs.declared.any_sock.AnySock.{AnySock}
 use Rattle.sock_core.specs.declared.sock.SockCore.{SockCore}
@@ -21,11 +22,13 @@ use Rattle.sock_open.specs.View.{pattern_told}
 use Rattle.open_laws.specs.Bounds.{drawn_of}
 use Rattle.open_laws.specs.Open.{ends_at}
 use Rattle.one_desk.specs.Lent.{coming_to, moments_of, Lent}
-use Rattle.lent_sock.specs.Owned.{IsOut}
+use Rattle.lent_sock.specs.Owned.{parts, IsOut}
+use Rattle.lent_sock.specs.Ready.{IsReady}
 use Rattle.core_others.specs.Agrees.{AgreesIn}
 use Rattle.core_others.specs.Calls.{for_caller}
 use Rattle.script_actor.specs.Way.{KeepsAll}
-use Rattle.one_core.specs.Agreeing.{was_made, IsAgreed}
+use Rattle.one_core.specs.Agreeing.{was_made, Agrees, IsAgreed}
+use Rattle.one_core.proofs.AskedLemmas.{asked_still}
 use Rattle.one_core.specs.Leaving.{moments_at, HasOpenAt, LeavesSockets}
 use Rattle.one_core.specs.Sound.{Core, IsLentOn}
 
@@ -85,40 +88,42 @@ module _ (W : Type 0) {S N O I T : Type 0} (K : Known S O I N) where
         ends_are = is.owned.ends_are ∙ ap (ends_at s.number.0) (sym say.left);
         sealed_out = λ e sealed. subst (λ (c : Control). IsOut (ends_of s.number.0 c) e (place_of c e)) (sym say.left) (is.owned.sealed_out e sealed);
       };
-      places = λ n p at. let place = is.places n p at in record {
-        its = record {
-          its = ap (λ (c : Control). list_any (is_end p.end) (ends_of s.number.0 c)) say.left ∙ place.its.its;
-          written = ap (λ (f : EndId → Option N). f p.end) leaves.names ∙ place.its.written;
-          read = ap (λ (f : EndId → Option N). f (other_end p.end)) leaves.names ∙ place.its.read;
-        };
-        gone = λ gone. leaves.places p.end ∙ place.gone gone;
-      };
+      asked = asked_still (control_of old.past) (control_of new.past) leaves.pairs leaves.places (map (λ x. x.0) s.sealed.items) is.asked;
       binds = λ e x coming written read. is.binds e x (coming_before e coming) (ap (λ (f : EndId → Option N). f e) (sym leaves.names) ∙ written) (ap (λ (f : EndId → Option N). f (other_end e)) (sym leaves.names) ∙ read);
     }
 
-  pub keeps_all : (k : ℕ) (old new : Core S (Given N O I) N T) → new.pipes ≡ old.pipes → LeavesSockets k old.desk new.desk → KeepsAll (IsAgreed W K) was_made old new
-  keeps_all k old new pipes leaves = record {
-    sockets = λ j s is. let still = say k old.desk new.desk leaves old.pipes j s is.agrees in record {
-      agrees = subst (λ (p : S). AgreesIn K new.desk j p s) (sym pipes) (agrees_still k old.desk new.desk leaves old.pipes j s is.agrees);
-      box = same_box k old.desk new.desk leaves old.pipes j s is.agrees ∙ is.box;
-      peers = record {
-        peers = is.peers.peers;
-        drawn = subst (λ (c : Control). drawn_of (pattern_told s) ≤ length (ends_of s.number.0 c)) (sym still.left) is.peers.drawn;
-      };
+  pub ready_still : (old new : Core S (Given N O I) N T) (j : ℕ) (s : SockCore AnySock W N O I) → (new.wanted ≡ false → old.wanted ≡ false) → left_after s.number.0 (moments_of (for_caller j new.desk)) ≡ left_after s.number.0 (moments_of (for_caller j old.desk)) →
+      (old.wanted ≡ false → IsReady (parts old.pipes (for_caller j old.desk) (Some s) [])) → new.wanted ≡ false → IsReady (parts new.pipes (for_caller j new.desk) (Some s) [])
+  ready_still old new j s wanted left ready not_wanted = let was = ready (wanted not_wanted) in record {
+    whole = was.whole;
+    peers = record {
+      peers = was.peers.peers;
+      drawn = subst (λ (c : Control). drawn_of (pattern_told s) ≤ length (ends_of s.number.0 c)) (sym left) was.peers.drawn;
     };
-    numbers = leaves.numbers;
   }
 
-  pub keeps_same : (old new : Core S (Given N O I) N T) → new ≡ old → KeepsAll (IsAgreed W K) was_made old new
-  keeps_same old new same = subst (λ (v : Core S (Given N O I) N T). KeepsAll (IsAgreed W K) was_made old v) (sym same) (record { sockets = λ j s is. is; numbers = λ o made. made })
+  keeps_one : (k : ℕ) (old new : Core S (Given N O I) N T) → new.pipes ≡ old.pipes → new.wanted ≡ old.wanted → LeavesSockets k old.desk new.desk → (j : ℕ) (s : Option (SockCore AnySock W N O I)) → Agrees W K old j s → Agrees W K new j s
+  keeps_one k old new pipes wanted leaves j None is = is
+  keeps_one k old new pipes wanted leaves j (Some s) is = let still = say k old.desk new.desk leaves old.pipes j s is.agrees in record {
+    agrees = subst (λ (p : S). AgreesIn K new.desk j p s) (sym pipes) (agrees_still k old.desk new.desk leaves old.pipes j s is.agrees);
+    box = same_box k old.desk new.desk leaves old.pipes j s is.agrees ∙ is.box;
+    ready = ready_still old new j s (λ not_wanted. sym wanted ∙ not_wanted) still.left is.ready;
+  }
+
+  pub keeps_all : (k : ℕ) (old new : Core S (Given N O I) N T) → new.pipes ≡ old.pipes → new.wanted ≡ old.wanted → LeavesSockets k old.desk new.desk → KeepsAll (Agrees W K) was_made old new
+  keeps_all k old new pipes wanted leaves = record { sockets = keeps_one k old new pipes wanted leaves; numbers = leaves.numbers }
+
+  pub keeps_same : (old new : Core S (Given N O I) N T) → new ≡ old → KeepsAll (Agrees W K) was_made old new
+  keeps_same old new same = subst (λ (v : Core S (Given N O I) N T). KeepsAll (Agrees W K) was_made old v) (sym same) (record { sockets = λ j s is. is; numbers = λ o made. made })
 
   -- whoever it is lent to
-  pub keeps_lent : (old new : Core S (Given N O I) N T) → IsLentOn old new → KeepsAll (IsAgreed W K) was_made old new
-  keeps_lent old new lent = subst (λ (v : Core S (Given N O I) N T). KeepsAll (IsAgreed W K) was_made old v) (sym lent.same) (record {
-    sockets = λ j s is. record {
-      agrees = record { owned = is.agrees.owned; places = is.agrees.places; binds = is.agrees.binds };
-      box = is.box;
-      peers = is.peers;
-    };
-    numbers = λ o made. made;
-  })
+  lent_one : (old : Core S (Given N O I) N T) (n j : ℕ) (s : Option (SockCore AnySock W N O I)) → Agrees W K old j s → Agrees W K (record old { desk = record old.desk { caller = n } }) j s
+  lent_one old n j None is = is
+  lent_one old n j (Some s) is = record {
+    agrees = record { owned = is.agrees.owned; asked = is.agrees.asked; binds = is.agrees.binds };
+    box = is.box;
+    ready = ready_still old (record old { desk = record old.desk { caller = n } }) j s (λ not_wanted. not_wanted) refl is.ready;
+  }
+
+  pub keeps_lent : (old new : Core S (Given N O I) N T) → IsLentOn old new → KeepsAll (Agrees W K) was_made old new
+  keeps_lent old new lent = subst (λ (v : Core S (Given N O I) N T). KeepsAll (Agrees W K) was_made old v) (sym lent.same) (record { sockets = lent_one old lent.caller; numbers = λ o made. made })

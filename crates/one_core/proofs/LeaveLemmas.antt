@@ -14,7 +14,7 @@ use Rattle.spec_control.specs.declared.request.Reply.TheVariants.{Done, Object, 
 use Rattle.spec_control.specs.After.{Answers, answered, answers_in, socket_row}
 use Rattle.zq_base.specs.declared.kind.Kind.{Kind}
 use Rattle.zq_base.specs.declared.options.Options.{Options}
-use Rattle.std.specs.Prelude.{◌≤◌, true}
+use Rattle.std.specs.Prelude.{◌≤◌, true, length}
 use Rattle.std.proofs.Common.{arith}
 use Rattle.std.proofs.lemmas.List.{length-append}
 use Rattle.spec_control.specs.Row.{RootAsked}
@@ -32,7 +32,7 @@ use Rattle.control_held.specs.Held.{caller_of}
 use Rattle.control_held.specs.Moments.{Moment, is_of_item, items_in, left_after, left_over, left_then, moments_by, moments_from}
 use Rattle.control_held.specs.OwnAsks.{Known, known_after, known_over}
 use Rattle.ctl_holder.specs.Holding.{Holding}
-use Rattle.ctl_history.specs.Past.{control_of}
+use Rattle.ctl_history.specs.Past.{control_of, Past}
 use Rattle.ctl_plane.specs.Desk.{HasWhatTheySay}
 use Rattle.core_stands.specs.Aside.{LooksAreAsides, RootAsksAreAsides, MakingsAreAsides}
 use Rattle.core_stands.proofs.AsideLemmas.{known_more, made_next, names_more, state_more}
@@ -64,7 +64,7 @@ module _ {G N T : Type 0} (k : ℕ) (old lent new : Lent G N T) (item : Item N T
     (by : caller_of item ≡ k) (caller : new.caller ≡ lent.caller) (was : IsOneOrder old) (is : IsOneOrder new) (silent : SaysNothing (next_object (after_all old.items (begun 1))) item)
     (pairs : (after_item item (after_all old.items (begun 1))).rows.pairs ≡ (after_all old.items (begun 1)).rows.pairs)
     (objects : next_object (after_all old.items (begun 1)) ≤ next_object (after_item item (after_all old.items (begun 1))))
-    (names : name_of (old.items ++ item ∷ []) ≡ name_of old.items) (keeps : KeepsAside lent new) where
+    (names : name_of (old.items ++ item ∷ []) ≡ name_of old.items) (given : new.past.given ≡ lent.past.given) (keeps : KeepsAside lent new) where
   abbrev c : Control
   c = after_all old.items (begun 1)
 
@@ -116,6 +116,8 @@ module _ {G N T : Type 0} (k : ℕ) (old lent new : Lent G N T) (item : Item N T
     left = λ o known. ap (left_after o) own ∙ left_more o (begun 0) (moments_at k old) m (silent.of o (made o known) c);
     has = has_still;
     names = ap name_of items ∙ names;
+    given = given ∙ ap (λ (l : Lent G N T). l.past.given) is_lent;
+    pairs = ap (λ (ps : List PairRow). length ps) same_pairs;
     places = λ e. ap (λ (ps : List PairRow). end_place (pair (record { objects = []; pairs = ps }) e.pair.0) e.a) same_pairs;
     coming = λ slot e. ap (λ (ps : List PairRow). coming_by ps new.past.workers slot e) same_pairs ∙ ap (λ (n : ℕ). coming_by (control_of old.past).rows.pairs n slot e) (workers ∙ sym one);
     numbers = λ o lt. subst (λ (xs : List (Item N T)). o < next_object (after_all xs (begun 1))) (sym items)
@@ -130,7 +132,7 @@ module _ {S G N T : Type 0} (v : Core S G N T) (lent new : Lent G N T) (k : ℕ)
       let next = next_look v lent new k one is_lent is sight sees in
       let aside = looks v.desk.items sight in
       leaves k v.desk lent new (Seen sight) one is_lent next.one next.order (sees.by ∙ ap (λ (l : Lent G N T). l.caller) is_lent) sees.caller was is
-      (record { knows = λ o there kn. refl; of = λ o there c. refl }) aside.pairs (omega arith) (names_more v.desk.items (Seen sight) aside.names) keeps
+      (record { knows = λ o there kn. refl; of = λ o there c. refl }) aside.pairs (omega arith) (names_more v.desk.items (Seen sight) aside.names) (ap (λ (p : Past G N T). p.given) sees.past) keeps
 
   pub ask_leaves : RootAsksAreAsides N T → (reply : Reply) → Asks AskTerm reply lent new → LeavesSockets k v.desk new
   ask_leaves root reply asks =
@@ -141,7 +143,7 @@ module _ {S G N T : Type 0} (v : Core S G N T) (lent new : Lent G N T) (k : ℕ)
       let kept = run_kept v.desk.items (begun 1) (begun_kept 1) run.0 in
       let count = event_count (after_all v.desk.items (begun 1)) (DidAsk AskTerm reply asks.answered) kept run.1 (unless_none reply (LinkMoves 0 RootAsked ∷ []) refl) in
       leaves k v.desk lent new item one is_lent next.one next.order (ap (λ (l : Lent G N T). l.caller) is_lent) asks.caller was is
-      (record { knows = λ o there kn. refl; of = λ o there c. refl }) aside.pairs (omega (arith, count)) (names_more v.desk.items item aside.names) keeps
+      (record { knows = λ o there kn. refl; of = λ o there c. refl }) aside.pairs (omega (arith, count)) (names_more v.desk.items item aside.names) (ap (λ (p : Past G N T). p.given) asks.past) keeps
 
   -- ---- the making of a socket
   made_count : (kind : Kind) (options : Options) (reply : Reply) (h : Answers) (c : Control) → next_object c ≤ next_object (answered (MakeSocket kind options) reply h c)
@@ -166,4 +168,4 @@ module _ {S G N T : Type 0} (v : Core S G N T) (lent new : Lent G N T) (k : ℕ)
       (record {
         knows = λ o there kn. ap (λ (b : Bool). let r : Known = if b then record kn { open_socket = true } else kn in r) (not_it o there);
         of = λ o there d. not_it o there;
-      }) aside.pairs (made_count kind options reply (answers_in asks.answered) c) (names_more v.desk.items item aside.names) keeps
+      }) aside.pairs (made_count kind options reply (answers_in asks.answered) c) (names_more v.desk.items item aside.names) (ap (λ (p : Past G N T). p.given) asks.past) keeps

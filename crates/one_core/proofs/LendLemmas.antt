@@ -19,9 +19,10 @@ sockets_can_be_lent W T K w is order k s agrees = record {
     owned = agrees.agrees.owned;
     order = one_order_of k w.desk order;
     told = is.identities;
+    were_asked = agrees.agrees.asked;
     asked = λ some. absurd (none_newest (moments_of (for_caller k w.desk)) some);
   };
   takes = record { distinct = is.distinct; binds = agrees.agrees.binds };
-  peers = agrees.peers;
+  ready = agrees.ready;
   view = ap (λ (n : ℕ). open_view n (Some s)) agrees.box;
 }

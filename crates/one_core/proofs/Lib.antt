@@ -1,9 +1,17 @@
+mod AskedLemmas
+mod CalledLemmas
+mod ClosingLemmas
 mod FreshLemmas
+mod GoingLemmas
 mod KeepLemmas
 mod LeaveLemmas
 mod LendLemmas
+mod LentLemmas
 mod MakeLemmas
 mod MadeLemmas
 mod NextLemmas
+mod OthersLemmas
+mod SentLemmas
 mod SmallLemmas
 mod SoundLemmas
+mod TellLemmas

@@ -48,6 +48,7 @@ use Rattle.open_laws.specs.Open.{ends_at}
 use Rattle.open_laws.specs.Peers.{HasItsPeers}
 use Rattle.open_laws.proofs.MadeLemmas.{sockets_have_their_peers}
 use Rattle.one_desk.specs.Lent.{coming_to, moments_of, Lent}
+use Rattle.past_laws.specs.Asked.{WereAsked}
 use Rattle.lent_sock.specs.Owned.{IsOwned}
 use Rattle.lent_sock.specs.Ready.{HasPeers}
 use Rattle.core_others.specs.Agrees.{AgreesIn}
@@ -56,11 +57,11 @@ use Rattle.script_actor.specs.declared.made.Made.{Made}
 use Rattle.script_actor.specs.declared.made.Made.TheVariants as result
 use Rattle.script_actor.specs.Piece.{Piece}
 use Rattle.script_actor.specs.Way.{made_reply, IsAtMaking, IsNew, MakesOne}
-use Rattle.one_core.specs.Agreeing.{as_open, was_made, IsAgreed}
+use Rattle.one_core.specs.Agreeing.{as_open, was_made, Agrees}
 use Rattle.one_core.specs.Fresh.{open_at}
 use Rattle.one_core.specs.Making.{IsFreshMade, IsFreshOf}
 use Rattle.one_core.specs.Sound.{Core, IsAsked, Requests}
-use Rattle.one_core.proofs.FreshLemmas.{fresh_view, no_end, no_place, pattern_is}
+use Rattle.one_core.proofs.FreshLemmas.{fresh_view, no_end, pattern_is}
 use Rattle.one_core.proofs.MakeLemmas.{box_now, has_none, in_order, is_made, is_new, kind_known, left_now, moments_now, opens, owners_before, slot_now}
 
 -- the kind of a socket without peers, which drew no name
@@ -194,7 +195,7 @@ module _ {W S N O I T : Type 0} (K : Known S O I N) (k : ℕ) (kind : Kind) (opt
   agrees : (pipes : S) → AgreesIn K new k pipes s
   agrees pipes = record {
     owned = owned pipes;
-    places = λ n p at. absurd (no_place s.number.0 kind options s fresh.fresh n p at);
+    asked = subst (λ (xs : List (EndId × Unit {0})). WereAsked (control_of new.past) (map (λ x. x.0) xs)) (sym fresh.fresh.is_new.no_seals) tt;
     binds = λ e x coming written read. absurd (never (sym (none_coming e) ∙ coming));
   }
 
@@ -216,7 +217,7 @@ module _ {W S N O I T : Type 0} (K : Known S O I N) (k : ℕ) (kind : Kind) (opt
 
 -- ---- what a core makes
 module _ {W S N O I T : Type 0} (K : Known S O I N) (k : ℕ) (kind : Kind) (options : Options) (was is : Core S (Given N O I) N T) where
-  new_socket : (oid : ObjId) (s : SockCore AnySock W N O I) → IsFreshOf K kind options oid.0 s → IsAsked k (MakeSocket kind options) (Object oid) was.desk is.desk → IsNew as_open (IsAgreed W K) was_made k (result.Socket oid s) was is
+  new_socket : (oid : ObjId) (s : SockCore AnySock W N O I) → IsFreshOf K kind options oid.0 s → IsAsked k (MakeSocket kind options) (Object oid) was.desk is.desk → IsNew as_open (Agrees W K) was_made k (result.Socket oid (Some s)) was is
   new_socket oid s fresh asked =
       let same : s.number.0 ≡ oid.0 = fresh.fresh.is_new.number_is in
       let its = subst (λ (n : ℕ). IsFreshOf K kind options n s) (sym same) fresh in
@@ -227,23 +228,25 @@ module _ {W S N O I T : Type 0} (K : Known S O I N) (k : ℕ) (kind : Kind) (opt
           record {
             agrees = agrees K k kind options was.desk is.desk s its asks is.pipes;
             box = box_is K k kind options was.desk is.desk s its asks;
-            peers = peers K k kind options was.desk is.desk s its asks;
+            ready = λ not_wanted. record { whole = fresh.fresh.without.left_is; peers = peers K k kind options was.desk is.desk s its asks };
           },
         ),
       )
 
-  pub new_made : (reply : Reply) (made : Made (SockCore AnySock W N O I)) → made_reply made ≡ reply → IsFreshMade K kind options made → IsAsked k (MakeSocket kind options) reply was.desk is.desk → IsNew as_open (IsAgreed W K) was_made k made was is
-  new_made reply (result.Socket oid s) same fresh asked = new_socket oid s fresh (subst (λ (r : Reply). IsAsked k (MakeSocket kind options) r was.desk is.desk) (sym same) asked)
+  pub new_made : (reply : Reply) (made : Made (Option (SockCore AnySock W N O I))) → made_reply made ≡ reply → IsFreshMade K kind options made → IsAsked k (MakeSocket kind options) reply was.desk is.desk → IsNew as_open (Agrees W K) was_made k made was is
+  new_made reply (result.Socket oid None) same fresh asked = absurd fresh
+  new_made reply (result.Socket oid (Some s)) same fresh asked = new_socket oid s fresh (subst (λ (r : Reply). IsAsked k (MakeSocket kind options) r was.desk is.desk) (sym same) asked)
   new_made reply (result.Refused refusal) same fresh asked = tt
 
-  at_making : (made : Made (SockCore AnySock W N O I)) → IsFreshMade K kind options made → IsAsked k (MakeSocket kind options) (made_reply made) was.desk is.desk → (m : Moment N T) → left_by m ≡ after_all is.desk.items (begun 1) → IsAtMaking as_open m kind options made
-  at_making (result.Socket oid s) fresh asked m left =
+  at_making : (made : Made (Option (SockCore AnySock W N O I))) → IsFreshMade K kind options made → IsAsked k (MakeSocket kind options) (made_reply made) was.desk is.desk → (m : Moment N T) → left_by m ≡ after_all is.desk.items (begun 1) → IsAtMaking as_open m kind options made
+  at_making (result.Socket oid None) fresh asked m left = absurd fresh
+  at_making (result.Socket oid (Some s)) fresh asked m left =
       fresh_view oid.0 kind options s fresh.fresh (1 + s.number.0)
       ∙ ap (λ (n : ℕ). open_at n oid.0 kind options)
       (ap (λ (n : ℕ). 1 + n) fresh.fresh.is_new.number_is ∙ sym (slot_now k kind options oid was.desk is.desk asked) ∙ ap (λ (c : Control). (obj c.rows oid.0).slot) (sym left))
   at_making (result.Refused refusal) fresh asked m left = tt
 
-  pub makes_one : (before after : List (Piece N T)) (reply : Reply) (made : Made (SockCore AnySock W N O I)) → made_reply made ≡ reply → IsFreshMade K kind options made → IsAsked k (MakeSocket kind options) reply was.desk is.desk →
+  pub makes_one : (before after : List (Piece N T)) (reply : Reply) (made : Made (Option (SockCore AnySock W N O I))) → made_reply made ≡ reply → IsFreshMade K kind options made → IsAsked k (MakeSocket kind options) reply was.desk is.desk →
       Requests k (MakeSocket kind options) reply is.desk.items before after → MakesOne as_open k kind options made before after
   makes_one before after reply made same fresh asked requests =
       let asks = subst (λ (r : Reply). IsAsked k (MakeSocket kind options) r was.desk is.desk) (sym same) asked in

@@ -1,9 +1,11 @@
 -- A core goes on over an item that leaves pipes aside.
-use Rattle.std.specs.Prelude.{◌≡◌, ◌≤◌, ◌++◌, ℕ, false, List, [], ◌∷◌, Option, length, refl}
+use Rattle.std.specs.Prelude.{◌≡◌, ◌≤◌, ◌<◌, ◌++◌, ℕ, List, [], ◌∷◌, Option, Some, length, map}
 use Rattle.std.proofs.Common.{arith, sym, ap, ◌∙◌, subst}
 use Rattle.zq_base.specs.Ends.{PipeId}
-use Rattle.msg_pipe.specs.Known.{Known}
+use Rattle.zq_base.specs.declared.ids.EndId.{EndId}
+use Rattle.msg_pipe.specs.Known.{Known, IsThere}
 use Rattle.spec_pattern.specs.PipeStep.{most_commits}
+use Rattle.spec_pattern.specs.declared.answers.Skip.{Skip}
 use Rattle.spec_control.specs.declared.entry.Did.TheVariants.{Asked as DidAsk}
 use Rattle.spec_control.specs.declared.entry.Item.{Item}
 use Rattle.spec_control.specs.declared.entry.Item.TheVariants.{Event, Seen}
@@ -30,27 +32,41 @@ use Rattle.core_stands.proofs.AsideLemmas.{moments_more, names_more, said_alone,
 use Rattle.open_laws.specs.Bounds.{TellIdentities, TellsIdentity}
 use Rattle.one_desk.specs.Lent.{Lent, Asks, IsOneOrder, KeepsAside, Sees}
 use Rattle.one_core.specs.Telling.{item_marks}
-use Rattle.one_core.specs.Sound.{Core, pieces_in, HasClosed, IsAsked, IsCore, Requests}
+use Rattle.one_core.specs.Sound.{Core, core_of, pieces_in, HasClosed, HasDrops, HasReaper, IsAsked, IsCore, IsSound, Requests}
 use Rattle.std.specs.Prelude.{◌==◌, Bool, true, false, refl}
 use Rattle.std.proofs.Common.{true≢false}
 use Rattle.std.proofs.lemmas.Bool.{eq-eqb, eqb-true}
-use Rattle.ctl_holder.specs.TakingOver.{AreDistinct}
+use Rattle.std.proofs.lemmas.List.Elements.{All-weaker}
+use Rattle.ctl_history.specs.Past.{control_of, Past}
+use Rattle.ctl_holder.specs.declared.given.Given.{Given}
+use Rattle.ctl_holder.specs.TakingOver.{AreDistinct, AreGivenWith}
+use Rattle.core_rows.specs.Counting.{CountsDrops}
+use Rattle.core_rows.proofs.TableLemmas.{tables_go_on}
+use Rattle.past_laws.specs.Asked.{WereAsked}
+use Rattle.one_core.proofs.AskedLemmas.{asked_still}
 use Rattle.ctl_plane.specs.Desk.{HasWhatTheySay}
 use Rattle.zq_world.specs.CoreCalls.{IsOnlyReaper}
 use Rattle.reaper_ends.specs.declared.sockets.ClosedSockets.{ClosedSockets}
-use Rattle.reaper_ends.specs.Has.{holding_in}
+use Rattle.reaper_ends.specs.Has.{all_ends, holding_in}
+use Rattle.reap_laws.specs.Sealed.{AllAsked}
 use Rattle.one_core.specs.Leaving.{moments_at, LeavesSockets}
 use Rattle.one_core.proofs.NextLemmas.{Next, last_fits, next_ask, next_look}
 use Rattle.one_core.proofs.LeaveLemmas.{look_leaves}
 use Rattle.one_core.proofs.SmallLemmas.{small_pipes}
 
 -- who is the only reaper of more calls is that of the first
-first_only : {N T : Type 0} (j : ℕ) (xs ys : List (Piece N T)) → IsOnlyReaper j (xs ++ ys) → IsOnlyReaper j xs
+pub first_only : {N T : Type 0} (j : ℕ) (xs ys : List (Piece N T)) → IsOnlyReaper j (xs ++ ys) → IsOnlyReaper j xs
 first_only j [] ys only = tt
 first_only j (x ∷ xs) ys only = (only.0, first_only j xs ys only.1)
 
+-- and so is who is that of these calls, where a call more took no such letter
+pub more_only : {N T : Type 0} (j k : ℕ) (xs : List (Piece N T)) (acts : List (Act N T)) (skips : List Skip) → IsOnlyReaper j xs → IsOnlyReaper j (xs ++ piece_of k false acts skips)
+more_only j k [] [] skips only = tt
+more_only j k [] (act ∷ acts) skips only = ((λ reaps. absurd (true≢false (sym reaps))), tt)
+more_only j k (x ∷ xs) acts skips only = (only.0, more_only j k xs acts skips only.1)
+
 -- an item more tells an identity that a peer may say, if any
-tells_more : {N T : Type 0} (items : List (Item N T)) (item : Item N T) → TellIdentities items → TellIdentities (item ∷ []) → TellIdentities (items ++ item ∷ [])
+pub tells_more : {N T : Type 0} (items : List (Item N T)) (item : Item N T) → TellIdentities items → TellIdentities (item ∷ []) → TellIdentities (items ++ item ∷ [])
 tells_more [] item tells one = one
 tells_more (Event entry ∷ items) item tells one = (tells.0, tells_more items item tells.1 one)
 tells_more (Seen sight ∷ items) item tells one = tells_more items item tells one
@@ -61,7 +77,7 @@ record GoesOn {S O I N T : Type 0} (K : Known S O I N) (pipes : S) (pieces : Lis
   stands : CoreStands K items pipes (pieces_told marks (moments_from (begun 1) items))
   are : pieces_told marks (moments_from (begun 1) items) ≡ pieces
 
-module _ {S O I G N T : Type 0} (K : Known S O I N) (asides : AsidesGoOn K T) (tales : TalesGoOn N T) (v : Core S G N T) (item : Item N T) (k : ℕ) (is : IsCore K v)
+module _ {S O I N T : Type 0} (K : Known S O I N) (asides : AsidesGoOn K T) (tales : TalesGoOn N T) (v : Core S (Given N O I) N T) (item : Item N T) (k : ℕ) (is : IsCore K v)
     (run : IsControlRun (begun 1) (v.desk.items ++ item ∷ [])) (aside : FitsItem (after_all v.desk.items (begun 1)) item → IsAside v.desk.items item) where
   abbrev items : List (Item N T)
   items = v.desk.items
@@ -96,18 +112,23 @@ module _ {S O I G N T : Type 0} (K : Known S O I N) (asides : AsidesGoOn K T) (t
       }
 
   -- the core with another desk and what is told more
-  module _ (d : Lent G N T) (marks : List PieceMark) (one : d.past.workers ≡ 1) (order : d.items ≡ v.desk.items ++ item ∷ []) (told : marks ≡ v.marks ++ item_marks k) where
+  module _ (d : Lent (Given N O I) N T) (marks : List PieceMark) (one : d.past.workers ≡ 1) (order : d.items ≡ v.desk.items ++ item ∷ []) (told : marks ≡ v.marks ++ item_marks k) where
     there : GoesOn K v.pipes pieces marks d.items
     there =
         subst (λ (ms : List PieceMark). GoesOn K v.pipes pieces ms d.items) (sym told)
         (subst (λ (is : List (Item N T)). GoesOn K v.pipes pieces (v.marks ++ item_marks k) is) (sym order) goes_on)
 
-    pub core_goes_on : TellIdentities (item ∷ []) → IsCore K (record { desk = d; pipes = v.pipes; marks = marks })
+    same_names : name_of d.items ≡ name_of v.desk.items
+    same_names = ap name_of order ∙ names_more v.desk.items item left_aside.names
+
+    pub core_goes_on : TellIdentities (item ∷ []) → IsCore K (core_of d v.pipes marks v.wanted)
     core_goes_on tells = record {
       one = one;
       all = there.all;
       stands = there.stands;
-      distinct = subst (λ (f : PipeId → Option N). AreDistinct K.exact f) (sym (ap name_of order ∙ names_more v.desk.items item left_aside.names)) is.distinct;
+      exact = is.exact;
+      distinct = subst (λ (f : PipeId → Option N). AreDistinct K.exact f) (sym same_names) is.distinct;
+      there = subst (λ (f : PipeId → Option N). (p : PipeId) (n : N) → f p ≡ Some n → IsThere K v.pipes n) (sym same_names) is.there;
       identities = subst TellIdentities (sym order) (tells_more v.desk.items item is.identities tells);
     }
 
@@ -126,8 +147,28 @@ module _ {S O I G N T : Type 0} (K : Known S O I N) (asides : AsidesGoOn K T) (t
           by false e =
               subst (λ (ms : List (Moment N T)). HasWhatTheySay j ms (holding_in K.out_name K.in_name closed)) (sym (leaves.others j (λ same. true≢false (sym (eq-eqb k j same) ∙ e)))) (were.reaper j before)
 
-      pub closed_goes_on : HasClosed K (record { desk = d; pipes = v.pipes; marks = marks }) closed
-      closed_goes_on = record { reaper = reaps_still; sound = were.sound; indexed = were.indexed }
+      asked_yet : (gs : List (Given N O I)) → AllAsked (control_of v.desk.past) gs → AllAsked (control_of d.past) gs
+      asked_yet gs =
+          All-weaker (λ (g : Given N O I). g.sealed ≡ true → WereAsked (control_of v.desk.past) (g.end ∷ [])) (λ (g : Given N O I). g.sealed ≡ true → WereAsked (control_of d.past) (g.end ∷ []))
+          (λ g were_so sealed. asked_still (control_of v.desk.past) (control_of d.past) leaves.pairs leaves.places (g.end ∷ []) (were_so sealed)) gs
+
+      pub closed_goes_on : HasClosed K (core_of d v.pipes marks v.wanted) closed
+      closed_goes_on = record {
+        some_reaper = record {
+          caller = were.some_reaper.caller;
+          only = subst (λ (ps : List (Piece N T)). IsOnlyReaper were.some_reaper.caller ps) (sym there.are) (more_only were.some_reaper.caller k (pieces_in v) (acts_said m) [] were.some_reaper.only);
+        };
+        reaper = reaps_still;
+        sound = were.sound;
+        indexed = were.indexed;
+        given = subst (λ (gs : List (Given N O I)). AreGivenWith K v.pipes gs) (sym leaves.given) were.given;
+        asked = asked_yet (all_ends closed.sockets.items) were.asked;
+        given_asked = subst (λ (gs : List (Given N O I)). AllAsked (control_of d.past) gs) (sym leaves.given) (asked_yet v.desk.past.given were.given_asked);
+      }
+
+    drops_stay : (drops : List ℕ) → HasDrops v drops → HasDrops (core_of d v.pipes marks v.wanted) drops
+    drops_stay drops has not_wanted =
+        subst (λ (ps : List (Piece N T)). CountsDrops drops ps) (sym there.are) ((tables_go_on N T).none drops (pieces_in v) k false (acts_said m) (has not_wanted))
 
     pub pieces_more : pieces_told marks (moments_from (begun 1) d.items) ≡ pieces_in v ++ piece_of k false (acts_said m) []
     pieces_more = there.are
@@ -137,7 +178,7 @@ module _ {S O I G N T : Type 0} (K : Known S O I N) (asides : AsidesGoOn K T) (t
 
 -- ---- what they are to the run
 
-module _ {S O I G N T : Type 0} (K : Known S O I N) (asides : AsidesGoOn K T) (tales : TalesGoOn N T) (v : Core S G N T) (lent d : Lent G N T) (by : ℕ) (is : IsCore K v) (is_lent : lent ≡ record v.desk { caller = by })
+module _ {S O I N T : Type 0} (K : Known S O I N) (asides : AsidesGoOn K T) (tales : TalesGoOn N T) (v : Core S (Given N O I) N T) (lent d : Lent (Given N O I) N T) (by : ℕ) (is : IsCore K v) (is_lent : lent ≡ record v.desk { caller = by })
     (order : IsOneOrder d) (was : IsOneOrder v.desk) (keeps : KeepsAside lent d) (marks : List PieceMark) (told : marks ≡ v.marks ++ item_marks by) where
   module _ (looks : LooksAreAsides N T) (sight : Sight) (sees : Sees Nothing sight lent d) where
     at : Next v d (Seen sight)
@@ -146,11 +187,14 @@ module _ {S O I G N T : Type 0} (K : Known S O I N) (asides : AsidesGoOn K T) (t
     aside : FitsItem {N = N} {S = T} (after_all v.desk.items (begun 1)) (Seen sight) → IsAside v.desk.items (Seen sight)
     aside fits = looks v.desk.items sight
 
-    pub look_core : IsCore K (record { desk = d; pipes = v.pipes; marks = marks })
-    look_core = core_goes_on K asides tales v (Seen sight) by is at.run aside d marks at.one at.order told tt
-
-    pub look_closed : (closed : ClosedSockets N O I) → HasClosed K v closed → HasClosed K (record { desk = d; pipes = v.pipes; marks = marks }) closed
-    look_closed closed were = closed_goes_on K asides tales v (Seen sight) by is at.run aside d marks at.one at.order told closed were (look_leaves v lent d by is.one is_lent was order keeps looks sight sees)
+    pub look_sound : (closed : ClosedSockets N O I) (drops : List ℕ) → HasClosed K v closed × HasDrops v drops → IsSound K (core_of d v.pipes marks v.wanted) closed drops
+    look_sound closed drops were = (
+      core_goes_on K asides tales v (Seen sight) by is at.run aside d marks at.one at.order told tt,
+      (
+        closed_goes_on K asides tales v (Seen sight) by is at.run aside d marks at.one at.order told closed were.0 (look_leaves v lent d by is.one is_lent was order keeps looks sight sees),
+        drops_stay K asides tales v (Seen sight) by is at.run aside d marks at.one at.order told drops were.1,
+      ),
+    )
 
     pub look_once : LooksOnce by sight.root (pieces_in v) (pieces_told marks (moments_from (begun 1) d.items))
     look_once = record {
@@ -160,7 +204,7 @@ module _ {S O I G N T : Type 0} (K : Known S O I N) (asides : AsidesGoOn K T) (t
       adds = record {
         added = pieces_more K asides tales v (Seen sight) by is at.run aside d marks at.one at.order told
             ∙ ap (λ (acts : List (Act N T)). pieces_in v ++ piece_of by false acts []) (one_said K asides tales v (Seen sight) by is at.run aside d marks at.one at.order told);
-        by = (sees.by ∙ ap (λ (l : Lent G N T). l.caller) is_lent, tt);
+        by = (sees.by ∙ ap (λ (l : Lent (Given N O I) N T). l.caller) is_lent, tt);
       };
     }
 
@@ -171,16 +215,19 @@ module _ {S O I G N T : Type 0} (K : Known S O I N) (asides : AsidesGoOn K T) (t
     at_ask : Next v d asked
     at_ask = next_ask v lent d by is.one is_lent order req reply asks
 
-    pub ask_core : TellsIdentity req → IsCore K (record { desk = d; pipes = v.pipes; marks = marks })
-    ask_core tells = core_goes_on K asides tales v asked by is at_ask.run aside_of d marks at_ask.one at_ask.order told (tells, tt)
-
-    pub ask_closed : LeavesSockets by v.desk d → (closed : ClosedSockets N O I) → HasClosed K v closed → HasClosed K (record { desk = d; pipes = v.pipes; marks = marks }) closed
-    ask_closed leaves closed were = closed_goes_on K asides tales v asked by is at_ask.run aside_of d marks at_ask.one at_ask.order told closed were leaves
+    pub ask_sound : TellsIdentity req → LeavesSockets by v.desk d → (closed : ClosedSockets N O I) (drops : List ℕ) → HasClosed K v closed × HasDrops v drops → IsSound K (core_of d v.pipes marks v.wanted) closed drops
+    ask_sound tells leaves closed drops were = (
+      core_goes_on K asides tales v asked by is at_ask.run aside_of d marks at_ask.one at_ask.order told (tells, tt),
+      (
+        closed_goes_on K asides tales v asked by is at_ask.run aside_of d marks at_ask.one at_ask.order told closed were.0 leaves,
+        drops_stay K asides tales v asked by is at_ask.run aside_of d marks at_ask.one at_ask.order told drops were.1,
+      ),
+    )
 
     pub ask_asked : IsAsked by req reply v.desk d
     ask_asked = record {
       answered = asks.answered;
-      items = at_ask.order ∙ ap (λ (k : ℕ). let item : Item N T = Event (record { by = k; did = DidAsk req reply asks.answered }) in v.desk.items ++ item ∷ []) (ap (λ (l : Lent G N T). l.caller) is_lent);
+      items = at_ask.order ∙ ap (λ (k : ℕ). let item : Item N T = Event (record { by = k; did = DidAsk req reply asks.answered }) in v.desk.items ++ item ∷ []) (ap (λ (l : Lent (Given N O I) N T). l.caller) is_lent);
       order = order;
       one = at_ask.one;
     }
@@ -192,7 +239,7 @@ module _ {S O I G N T : Type 0} (K : Known S O I N) (asides : AsidesGoOn K T) (t
       left = sym (ap (λ (xs : List (Item N T)). after_all xs (begun 1)) at_ask.order ∙ state_more v.desk.items asked (begun 1));
       adds = record {
         added = pieces_more K asides tales v asked by is at_ask.run aside_of d marks at_ask.one at_ask.order told;
-        by = subst (λ (acts : List (Act N T)). AreActsBy by acts) (sym (one_said K asides tales v asked by is at_ask.run aside_of d marks at_ask.one at_ask.order told)) (ap (λ (l : Lent G N T). l.caller) is_lent, tt);
+        by = subst (λ (acts : List (Act N T)). AreActsBy by acts) (sym (one_said K asides tales v asked by is at_ask.run aside_of d marks at_ask.one at_ask.order told)) (ap (λ (l : Lent (Given N O I) N T). l.caller) is_lent, tt);
       };
     }
 
@@ -208,8 +255,15 @@ core_known {N = N} {T = T} K v is order law =
 
 -- ---- a core that is lent to another caller
 
-pub lent_core : {S O I G N T : Type 0} (K : Known S O I N) (v : Core S G N T) (closed : ClosedSockets N O I) (d : Lent G N T) (k : ℕ) → d ≡ record v.desk { caller = k } → IsCore K v → HasClosed K v closed →
-    IsCore K (record { desk = d; pipes = v.pipes; marks = v.marks }) × HasClosed K (record { desk = d; pipes = v.pipes; marks = v.marks }) closed
-lent_core {G = G} {N = N} {T = T} K v closed d k lent is has =
-    subst (λ (l : Lent G N T). IsCore K (record { desk = l; pipes = v.pipes; marks = v.marks }) × HasClosed K (record { desk = l; pipes = v.pipes; marks = v.marks }) closed) (sym lent)
-    (record { one = is.one; all = is.all; stands = is.stands; distinct = is.distinct; identities = is.identities }, record { reaper = has.reaper; sound = has.sound; indexed = has.indexed })
+module _ {S O I N T : Type 0} (K : Known S O I N) where
+  pub lent_core : (v : Core S (Given N O I) N T) (closed : ClosedSockets N O I) (drops : List ℕ) (d : Lent (Given N O I) N T) (k : ℕ) → d ≡ record v.desk { caller = k } → IsSound K v closed drops → IsSound K (core_of d v.pipes v.marks v.wanted) closed drops
+  lent_core v closed drops d k lent sound =
+      let is = sound.0 in
+      let has = sound.1.0 in
+      subst (λ (l : Lent (Given N O I) N T). IsSound K (core_of l v.pipes v.marks v.wanted) closed drops) (sym lent) (
+        record { one = is.one; all = is.all; stands = is.stands; exact = is.exact; distinct = is.distinct; there = is.there; identities = is.identities },
+        (
+          record { some_reaper = has.some_reaper; reaper = has.reaper; sound = has.sound; indexed = has.indexed; given = has.given; asked = has.asked; given_asked = has.given_asked },
+          sound.1.1,
+        ),
+      )

@@ -1,7 +1,7 @@
 -- What a call of a core that is one item leaves of all open sockets (own choice).
 use Rattle.std.specs.Prelude.{◌≡◌, ◌≢◌, ◌<◌, ℕ, true, List}
 use Rattle.zq_base.specs.declared.ids.EndId.{EndId}
-use Rattle.spec_control.specs.Control.{begun, next_object, place_of}
+use Rattle.spec_control.specs.Control.{begun, next_object, next_pair, place_of}
 use Rattle.spec_control.specs.ControlRun.{after_all}
 use Rattle.spec_control.specs.Names.{name_of}
 use Rattle.control_held.specs.Moments.{Moment, items_in, left_after, moments_by, moments_from}
@@ -20,7 +20,7 @@ module _ {G N S : Type 0} where
   abbrev pub HasOpenAt : ℕ → Lent G N S → ℕ → Type 0
   HasOpenAt k d o = (known_after o (items_in (moments_at k d))).open_socket ≡ true
 
-  -- There is one I/O worker. The other callers' moments are as they were, and what the caller's own say of its open sockets and of their ends, so who has an open socket has it still; pipes have their names, each end is where it was, and the same ends are on their way; what was made was made.
+  -- There is one I/O worker. The other callers' moments are as they were, and what the caller's own say of its open sockets and of their ends, so who has an open socket has it still; pipes have their names, there are no more pairs, each end is where it was, and the same ends are on their way; what was made was made.
   pub record LeavesSockets (k : ℕ) (old new : Lent G N S) : Type 0 where
     pub was_one : old.past.workers ≡ 1
     pub one : new.past.workers ≡ 1
@@ -29,6 +29,8 @@ module _ {G N S : Type 0} where
     pub left : (o : ℕ) → HasOpenAt k old o → left_after o (moments_at k new) ≡ left_after o (moments_at k old)
     pub has : (h : Holding N) → HasWhatTheySay k (moments_at k old) h → HasWhatTheySay k (moments_at k new) h
     pub names : name_of new.items ≡ name_of old.items
+    pub given : new.past.given ≡ old.past.given
+    pub pairs : next_pair (control_of new.past) ≡ next_pair (control_of old.past)
     pub places : (e : EndId) → place_of (control_of new.past) e ≡ place_of (control_of old.past) e
     pub coming : (slot : ℕ) (e : EndId) → coming_to new slot e ≡ coming_to old slot e
     pub numbers : (o : ℕ) → o < next_object (after_all old.items (begun 1)) → o < next_object (after_all new.items (begun 1))

@@ -5,3 +5,5 @@ pub mod Fresh
 pub mod Agreeing
 pub mod Making
 pub mod Lending
+pub mod Calling
+pub mod CallLaws

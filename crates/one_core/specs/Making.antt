@@ -1,5 +1,5 @@
 -- What the making of a socket gives (zmq_socket(3); own choice).
-use Rattle.std.specs.Prelude.{ℕ}
+use Rattle.std.specs.Prelude.{ℕ, Option, Some, None}
 use Rattle.zq_base.specs.declared.kind.Kind.{Kind}
 use Rattle.zq_base.specs.declared.options.Options.{Options}
 use Rattle.msg_pipe.specs.Known.{Known}
@@ -30,6 +30,7 @@ module _ {W S N O I : Type 0} (K : Known S O I N) (kind : Kind) (options : Optio
     pub stands : (pipes : S) → IsStanding K pipes s
 
   -- so is the one that was made, if any was
-  abbrev pub IsFreshMade : Made (SockCore AnySock W N O I) → Type 0
-  IsFreshMade (made.Socket object socket) = IsFreshOf object.0 socket
+  abbrev pub IsFreshMade : Made (Option (SockCore AnySock W N O I)) → Type 0
+  IsFreshMade (made.Socket object None) = ⊥
+  IsFreshMade (made.Socket object (Some socket)) = IsFreshOf object.0 socket
   IsFreshMade (made.Refused refusal) = Unit {0}

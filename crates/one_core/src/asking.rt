@@ -2,7 +2,7 @@ ghost use Rattle.std.specs.Prelude.{◌≡◌, IfOk, OnOk, OnErr};
 ghost use Rattle.spec_control.specs.declared.request.Req.TheVariants.{AskTerm};
 ghost use Rattle.script_actor.specs.Way.{AsksToEnd, KeepsAll};
 ghost use Rattle.zq_world.specs.CoreCalls.{AsksOnce};
-ghost use Rattle.one_core.specs.Agreeing.{was_made, IsAgreed};
+ghost use Rattle.one_core.specs.Agreeing.{was_made, Agrees};
 ghost use Rattle.one_core.specs.Leaving.{LeavesSockets};
 ghost use Rattle.one_core.specs.Sound.{pieces_in, IsLentOn, Requests};
 
@@ -11,12 +11,12 @@ use crate::context::OneCore;
 use crate::telling::OneItem;
 use core_stands::{asides_go_on, root_asks_are_asides};
 use core_tale::tales_go_on;
-use msg_pipe::Pipes;
+use held_ends::HeldPipes;
 use spec_control::Reply;
 use spec_run::LineAnswer;
 use std::alloc::{AllocError, Global};
 
-impl<P: Pipes> OneCore<P>
+impl<P: HeldPipes> OneCore<P>
 where
     P::Name: Drop,
     P::Waker: Drop,
@@ -28,17 +28,18 @@ where
             (pieces_in self.old) (pieces_in self.new)) }
         ensures err { OnErr result (IsLentOn self.old self.new) }
         ensures pipes { self.new.pipes ≡ self.old.pipes }
+        ensures wanted { self.new.wanted ≡ self.old.wanted }
         ensures keeps { IfOk result (λ _. LeavesSockets caller self.old.desk self.new.desk) }
     {
         let by = number_of(caller)?;
-        asides_go_on::<P, P::Story>(&self.pipes);
+        asides_go_on::<P, P::Story>(&self.lent.pipes);
         root_asks_are_asides::<P::Name, P::Story>();
         tales_go_on::<P::Name, P::Story>();
-        self.desk.is_of_one_order();
-        self.desk.lend(by);
-        match self.desk.ask_term(alloc) {
+        self.lent.desk.is_of_one_order();
+        self.lent.desk.lend(by);
+        match self.lent.desk.ask_term(alloc) {
             Ok(reply) => {
-                self.desk.is_of_one_order();
+                self.lent.desk.is_of_one_order();
                 self.tale = self.tale.and(&OneItem { by: caller });
                 return Ok(reply);
             }
@@ -52,7 +53,8 @@ where
             AsksToEnd caller answer (pieces_in self.old) (pieces_in self.new)) }
         ensures err { OnErr result (IsLentOn self.old self.new) }
         ensures pipes { self.new.pipes ≡ self.old.pipes }
-        ensures keeps { KeepsAll (IsAgreed P.Waker P.known) was_made self.old self.new }
+        ensures wanted { self.new.wanted ≡ self.old.wanted }
+        ensures keeps { KeepsAll (Agrees P.Waker P.known) was_made self.old self.new }
     {
         let reply = self.ask(alloc, caller)?;
         Ok(reply_answer(reply))
@@ -64,7 +66,8 @@ where
             (AsksOnce caller (pieces_in self.old) (pieces_in self.new)) }
         ensures err { OnErr result (IsLentOn self.old self.new) }
         ensures pipes { self.new.pipes ≡ self.old.pipes }
-        ensures keeps { KeepsAll (IsAgreed P.Waker P.known) was_made self.old self.new }
+        ensures wanted { self.new.wanted ≡ self.old.wanted }
+        ensures keeps { KeepsAll (Agrees P.Waker P.known) was_made self.old self.new }
     {
         self.ask(alloc, caller)?;
         Ok(())

@@ -1,39 +1,43 @@
-ghost use Rattle.std.specs.Prelude.{IfOk};
+ghost use Rattle.std.specs.Prelude.{◌≡◌, true, IfOk};
 ghost use Rattle.one_core.specs.Sound.{IsNewCore};
 
 use core_tale::PieceMark;
 use held_ends::HeldPipes;
-use msg_pipe::Pipes;
+use http_server::Log;
+use lent_sock::LentSock;
 use one_desk::OneDesk;
 use reaper_ends::{Closed, ClosedSockets};
+use sock_calls::Socket;
 use std::alloc::{AllocError, Global};
 use std::marker::Model;
 use tale::Tale;
 
 /// A context on one thread, with one I/O worker, and the pipes of its sockets.
 #[derive(Drop)]
-pub struct OneCore<P: Pipes> {
-    pub(crate) desk: OneDesk<P>,
-    pub(crate) pipes: P,
+pub struct OneCore<P: HeldPipes> {
+    // The control plane and the pipes of all ends, and in a call the socket that is called.
+    pub(crate) lent: LentSock<P>,
     // The closed sockets that the reaper took over, and what wakes it.
     pub(crate) closed: ClosedSockets<P::Name, P::Out, P::In>,
     pub(crate) waker: P::Waker,
     // What was done, for proofs alone.
     pub(crate) tale: Tale<PieceMark>,
+    // A call wanted memory that there was not.
+    pub(crate) wanted: bool,
+    // How many messages of each pipe were dropped, at the place of the end that reads it.
+    pub(crate) drops: Vec<u64>,
 }
 
-impl<P: Pipes> Model for OneCore<P> {
+impl<P: HeldPipes> Model for OneCore<P> {
     ghost use Rattle.ctl_holder.specs.declared.given.Given.{Given};
-    ghost use Rattle.one_core.specs.Sound.{Core, HasClosed, IsCore};
+    ghost use Rattle.one_core.specs.Sound.{Core, IsSound, core_of};
 
     ghost Value = { Core P (Given P.Name P.Out P.In) P.Name P.Story };
 
-    ghost view = { λ c. record { desk = c.desk; pipes = c.pipes; marks = c.tale.items } };
+    ghost view = { λ c. core_of c.lent.desk c.lent.pipes c.tale.items c.wanted };
 
-    ghost invariant = { λ c. IsCore P.known
-        (record { desk = c.desk; pipes = c.pipes; marks = c.tale.items })
-        × HasClosed P.known
-        (record { desk = c.desk; pipes = c.pipes; marks = c.tale.items }) c.closed };
+    ghost invariant = { λ c. IsSound P.known
+        (core_of c.lent.desk c.lent.pipes c.tale.items c.wanted) c.closed c.drops.items };
 }
 
 impl<P> OneCore<P>
@@ -49,6 +53,7 @@ where
         reaper: P::Waker,
         worker: P::Waker,
     ) -> Result<OneCore<P>, AllocError>
+        requires { P.known.exact ≡ true }
         ensures { IfOk result (IsNewCore pipes) }
     {
         let desk = OneDesk::new(alloc, P::same_waker(&reaper), worker)?;
@@ -60,11 +65,17 @@ where
             since: _,
         } = Closed::new(alloc, pipes, reaper);
         Ok(OneCore {
-            desk,
-            pipes,
+            lent: LentSock {
+                pipes,
+                desk,
+                socket: Socket { core: None },
+                since: Log::new(),
+            },
             closed,
             waker,
             tale: Tale::new(),
+            wanted: false,
+            drops: Vec::new(alloc),
         })
     }
 }

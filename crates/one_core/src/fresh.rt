@@ -48,7 +48,7 @@ pub(crate) fn made_of<P>(
     options: &Options,
     reply: Reply,
     waker: P::Waker,
-) -> Made<SockCore<AnySock, P::Waker, P::Name, P::Out, P::In>>
+) -> Made<Option<SockCore<AnySock, P::Waker, P::Name, P::Out, P::In>>>
 where
     P: HeldPipes + Drop,
     P::Name: Drop,
@@ -60,7 +60,7 @@ where
     match reply {
         Reply::Object(object) => {
             let socket = fresh_socket::<P>(alloc, kind, options, object, waker);
-            return Made::Socket(object, socket);
+            return Made::Socket(object, Some(socket));
         }
         Reply::Refused(refusal) => return Made::Refused(refusal),
         _ => unreachable!(),

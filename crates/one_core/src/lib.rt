@@ -4,11 +4,15 @@
 
 mod answers;
 mod asking;
+mod calling;
 mod context;
 mod fresh;
 mod laws;
+mod lending;
 mod looking;
 mod making;
+mod showing;
+mod sockets;
 mod telling;
 
 pub use context::OneCore;

@@ -2,7 +2,7 @@ ghost use Rattle.std.specs.Prelude.{◌≡◌, IfOk, OnErr};
 ghost use Rattle.zq_world.specs.CoreCalls.{LooksOnce};
 ghost use Rattle.zq_world.specs.Played.{IsOrderly};
 ghost use Rattle.script_actor.specs.Way.{KeepsAll};
-ghost use Rattle.one_core.specs.Agreeing.{was_made, IsAgreed};
+ghost use Rattle.one_core.specs.Agreeing.{was_made, Agrees};
 ghost use Rattle.one_core.specs.Sound.{pieces_in};
 
 use crate::answers::number_of;
@@ -10,11 +10,11 @@ use crate::context::OneCore;
 use crate::telling::OneItem;
 use core_stands::{asides_go_on, cores_are_orderly, looks_are_asides};
 use core_tale::tales_go_on;
-use msg_pipe::Pipes;
+use held_ends::HeldPipes;
 use spec_control::ObjState;
 use std::alloc::AllocError;
 
-impl<P: Pipes> OneCore<P>
+impl<P: HeldPipes> OneCore<P>
 where
     P::Name: Drop,
     P::Waker: Drop,
@@ -25,16 +25,17 @@ where
             LooksOnce caller root (pieces_in self.old) (pieces_in self.new)) }
         ensures err { OnErr result (self.new ≡ self.old) }
         ensures pipes { self.new.pipes ≡ self.old.pipes }
-        ensures keeps { KeepsAll (IsAgreed P.Waker P.known) was_made self.old self.new }
+        ensures wanted { self.new.wanted ≡ self.old.wanted }
+        ensures keeps { KeepsAll (Agrees P.Waker P.known) was_made self.old self.new }
     {
         let by = number_of(caller)?;
-        asides_go_on::<P, P::Story>(&self.pipes);
+        asides_go_on::<P, P::Story>(&self.lent.pipes);
         looks_are_asides::<P::Name, P::Story>();
         tales_go_on::<P::Name, P::Story>();
-        self.desk.is_of_one_order();
-        self.desk.lend(by);
-        let sight = self.desk.look_around();
-        self.desk.is_of_one_order();
+        self.lent.desk.is_of_one_order();
+        self.lent.desk.lend(by);
+        let sight = self.lent.desk.look_around();
+        self.lent.desk.is_of_one_order();
         self.tale = self.tale.and(&OneItem { by: caller });
         Ok(sight.root)
     }
@@ -43,7 +44,7 @@ where
     pub fn known(&self)
         ensures { IsOrderly (pieces_in self.now) self.now.desk.items }
     {
-        self.desk.is_of_one_order();
-        cores_are_orderly::<P, P::Story>(&self.pipes);
+        self.lent.desk.is_of_one_order();
+        cores_are_orderly::<P, P::Story>(&self.lent.pipes);
     }
 }

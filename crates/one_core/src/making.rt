@@ -2,7 +2,7 @@ ghost use Rattle.std.specs.Prelude.{◌≡◌, IfOk, OnErr};
 ghost use Rattle.spec_control.specs.declared.request.Req.TheVariants.{Socket as MakeSocket};
 ghost use Rattle.script_actor.specs.MayAsk.{MayMake};
 ghost use Rattle.script_actor.specs.Way.{IsNew, KeepsAll, MakesOne};
-ghost use Rattle.one_core.specs.Agreeing.{as_open, was_made, IsAgreed};
+ghost use Rattle.one_core.specs.Agreeing.{as_open, was_made, Agrees};
 ghost use Rattle.one_core.specs.Leaving.{LeavesSockets};
 ghost use Rattle.one_core.specs.Sound.{pieces_in, IsAsked, IsLentOn, Requests};
 
@@ -42,18 +42,19 @@ where
             IsAsked caller (MakeSocket kind options) reply self.old.desk self.new.desk) }
         ensures err { OnErr result (IsLentOn self.old self.new) }
         ensures pipes { self.new.pipes ≡ self.old.pipes }
+        ensures wanted { self.new.wanted ≡ self.old.wanted }
         ensures keeps { IfOk result (λ _. LeavesSockets caller self.old.desk self.new.desk) }
     {
         let by = number_of(caller)?;
         let holder = Closed::new(alloc, P::none(alloc), self.waker());
-        asides_go_on::<P, P::Story>(&self.pipes);
+        asides_go_on::<P, P::Story>(&self.lent.pipes);
         makings_are_asides::<P::Name, P::Story>();
         tales_go_on::<P::Name, P::Story>();
-        self.desk.is_of_one_order();
-        self.desk.lend(by);
-        match self.desk.make_socket(alloc, kind, options, &holder) {
+        self.lent.desk.is_of_one_order();
+        self.lent.desk.lend(by);
+        match self.lent.desk.make_socket(alloc, kind, options, &holder) {
             Ok(reply) => {
-                self.desk.is_of_one_order();
+                self.lent.desk.is_of_one_order();
                 self.tale = self.tale.and(&OneItem { by: caller });
                 return Ok(reply);
             }
@@ -73,14 +74,15 @@ where
         caller: usize,
         kind: Kind,
         options: &Options,
-    ) -> Result<Made<SockCore<AnySock, P::Waker, P::Name, P::Out, P::In>>, AllocError>
+    ) -> Result<Made<Option<SockCore<AnySock, P::Waker, P::Name, P::Out, P::In>>>, AllocError>
         requires may { MayMake options.now }
         ensures ok { IfOk result (λ made. MakesOne as_open caller kind options.now made
             (pieces_in self.old) (pieces_in self.new)) }
-        ensures is_new { IfOk result (λ made. IsNew as_open (IsAgreed P.Waker P.known) was_made
+        ensures is_new { IfOk result (λ made. IsNew as_open (Agrees P.Waker P.known) was_made
             caller made self.old self.new) }
-        ensures keeps { KeepsAll (IsAgreed P.Waker P.known) was_made self.old self.new }
+        ensures keeps { KeepsAll (Agrees P.Waker P.known) was_made self.old self.new }
         ensures pipes { self.new.pipes ≡ self.old.pipes }
+        ensures wanted { self.new.wanted ≡ self.old.wanted }
     {
         let copied = options.copy(alloc)?;
         let reply = self.ask_socket(alloc, caller, kind, copied)?;

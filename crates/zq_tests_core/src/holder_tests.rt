@@ -15,6 +15,7 @@ fn undo<H: Holder<PlainPipes>>(socket: &mut H, other: &Halves<PlainOut, PlainIn>
         (⟦<PlainPipes as Pipes>⟧.known.out_name other.now.out) (H.holding socket.old) }
     requires writes { (H.holding socket.old).writes the_end ≡ true }
     requires calm { H.calm socket.old (the_end ∷ []) }
+    requires undoes { H.undoes ≡ true }
 {
     let _other = other;
     let _halves = socket.take_back(ObjId(1), the_end());

@@ -113,3 +113,24 @@ fn nothing_waits_in_a_new_context(rt: HostRuntime) -> Result<(), Fail> {
     drop(desk);
     check(quiet)
 }
+
+// Whether the root has ended, and no object is left.
+fn is_over(desk: &mut OneDesk<PlainPipes>) -> bool {
+    let sight = desk.look_around();
+    sight.root == ObjState::Ended && sight.live == 0
+}
+
+// Whether a context is over that is asked to end.
+fn ends(alloc: Global, desk: &mut OneDesk<PlainPipes>) -> bool {
+    let asked = asks(alloc, desk);
+    let over = is_over(desk);
+    asked && over
+}
+
+#[test]
+fn a_context_without_sockets_ends_where_it_is_asked(rt: HostRuntime) -> Result<(), Fail> {
+    let mut desk = desk(rt.alloc())?;
+    let ends = ends(rt.alloc(), &mut desk);
+    drop(desk);
+    check(ends)
+}

@@ -4,40 +4,36 @@ use Rattle.ctl_holder.specs.declared.given.Given.{Given}
 use Rattle.spec_control.specs.declared.request.Req.TheVariants.{AskTerm}
 use Rattle.one_desk.specs.Lent.{Lent}
 use Rattle.core_tale.specs.declared.marks.PieceMark.{PieceMark}
-use Rattle.one_core.specs.Sound.{Core, pieces_in, IsLentOn, Requests}
+use Rattle.one_core.specs.Sound.{Core, core_of, pieces_in, IsLentOn, Requests}
 use Rattle.one_core.specs.Leaving.{LeavesSockets}
 use Rattle.one_core.proofs.LeaveLemmas.{ask_leaves}
 use Rattle.one_core.proofs.SoundLemmas as lemmas
 use Rattle.one_core.proofs.context.OneCore.ask.Goals as goal
 
 pub invariant_of-self : goal.invariant_of-self
-invariant_of-self g c = (
-  lemmas.ask_core g.P.Pipes.known c.asides_go_on.ensures c.tales_go_on.ensures (record { desk = c.self.inside.desk; pipes = c.self.inside.pipes; marks = c.self.inside.tale.items }) c.lend.new.self c.ask_term.new.self c.args.caller
-      c.self.invariant.0 (c.lend.ensures ∙ ap (λ (n : ℕ). let l : Lent (Given g.row.P-Name.Denot g.row.P-Out.Denot g.row.P-In.Denot) g.row.P-Name.Denot g.row.P-Story.Denot = record c.self.inside.desk { caller = n } in l) c.in_ok-by.ensures) c.is_of_one_order-in-Ok.ensures c.is_of_one_order.ensures c.in-Ok.ensures.keeps c.and-self-inside.result.items
-      (c.and-self-inside.ensures.behind ∙ ap (λ (ms : List PieceMark). c.self.inside.tale.items ++ ms) c.and-self-inside.ensures.so)
-      AskTerm c.in-Ok.reply c.in-Ok.ensures.ok (λ fits. c.root_asks_are_asides.ensures c.self.inside.desk.items c.lend.new.self.caller c.in-Ok.reply c.in-Ok.ensures.ok.answered fits) tt,
-  lemmas.ask_closed g.P.Pipes.known c.asides_go_on.ensures c.tales_go_on.ensures (record { desk = c.self.inside.desk; pipes = c.self.inside.pipes; marks = c.self.inside.tale.items }) c.lend.new.self c.ask_term.new.self c.args.caller
-      c.self.invariant.0 (c.lend.ensures ∙ ap (λ (n : ℕ). let l : Lent (Given g.row.P-Name.Denot g.row.P-Out.Denot g.row.P-In.Denot) g.row.P-Name.Denot g.row.P-Story.Denot = record c.self.inside.desk { caller = n } in l) c.in_ok-by.ensures) c.is_of_one_order-in-Ok.ensures c.is_of_one_order.ensures c.in-Ok.ensures.keeps c.and-self-inside.result.items
-      (c.and-self-inside.ensures.behind ∙ ap (λ (ms : List PieceMark). c.self.inside.tale.items ++ ms) c.and-self-inside.ensures.so)
-      AskTerm c.in-Ok.reply c.in-Ok.ensures.ok (λ fits. c.root_asks_are_asides.ensures c.self.inside.desk.items c.lend.new.self.caller c.in-Ok.reply c.in-Ok.ensures.ok.answered fits)
-      (ask_leaves (record { desk = c.self.inside.desk; pipes = c.self.inside.pipes; marks = c.self.inside.tale.items }) c.lend.new.self c.ask_term.new.self c.args.caller c.self.invariant.0.one (c.lend.ensures ∙ ap (λ (n : ℕ). let l : Lent (Given g.row.P-Name.Denot g.row.P-Out.Denot g.row.P-In.Denot) g.row.P-Name.Denot g.row.P-Story.Denot = record c.self.inside.desk { caller = n } in l) c.in_ok-by.ensures)
-      c.is_of_one_order.ensures c.is_of_one_order-in-Ok.ensures c.in-Ok.ensures.keeps c.root_asks_are_asides.ensures c.in-Ok.reply c.in-Ok.ensures.ok) c.self.inside.closed c.self.invariant.1,
-)
+invariant_of-self g c =
+    lemmas.ask_sound g.P.Pipes.known c.asides_go_on.ensures c.tales_go_on.ensures (core_of c.self.inside.lent.desk c.self.inside.lent.pipes c.self.inside.tale.items c.self.inside.wanted) c.lend.new.self c.ask_term.new.self c.args.caller
+    c.self.invariant.0 (c.lend.ensures ∙ ap (λ (n : ℕ). let l : Lent (Given g.row.P-Name.Denot g.row.P-Out.Denot g.row.P-In.Denot) g.row.P-Name.Denot g.row.P-Story.Denot = record c.self.inside.lent.desk { caller = n } in l) c.in_ok-by.ensures) c.is_of_one_order-in-Ok.ensures c.is_of_one_order.ensures c.in-Ok.ensures.keeps c.and-self-inside.result.items
+    (c.and-self-inside.ensures.behind ∙ ap (λ (ms : List PieceMark). c.self.inside.tale.items ++ ms) c.and-self-inside.ensures.so)
+    AskTerm c.in-Ok.reply c.in-Ok.ensures.ok (λ fits. c.root_asks_are_asides.ensures c.self.inside.lent.desk.items c.lend.new.self.caller c.in-Ok.reply c.in-Ok.ensures.ok.answered fits) tt
+    (ask_leaves (core_of c.self.inside.lent.desk c.self.inside.lent.pipes c.self.inside.tale.items c.self.inside.wanted) c.lend.new.self c.ask_term.new.self c.args.caller c.self.invariant.0.one (c.lend.ensures ∙ ap (λ (n : ℕ). let l : Lent (Given g.row.P-Name.Denot g.row.P-Out.Denot g.row.P-In.Denot) g.row.P-Name.Denot g.row.P-Story.Denot = record c.self.inside.lent.desk { caller = n } in l) c.in_ok-by.ensures)
+    c.is_of_one_order.ensures c.is_of_one_order-in-Ok.ensures c.in-Ok.ensures.keeps c.root_asks_are_asides.ensures c.in-Ok.reply c.in-Ok.ensures.ok)
+    c.self.inside.closed c.self.inside.drops.items c.self.invariant.1
 
 pub returns-in-Ok-clause-ok : goal.returns-in-Ok-clause-ok
 returns-in-Ok-clause-ok g c =
-    let once = lemmas.ask_once g.P.Pipes.known c.asides_go_on.ensures c.tales_go_on.ensures (record { desk = c.self.inside.desk; pipes = c.self.inside.pipes; marks = c.self.inside.tale.items }) c.lend.new.self c.ask_term.new.self c.args.caller
-    c.self.invariant.0 (c.lend.ensures ∙ ap (λ (n : ℕ). let l : Lent (Given g.row.P-Name.Denot g.row.P-Out.Denot g.row.P-In.Denot) g.row.P-Name.Denot g.row.P-Story.Denot = record c.self.inside.desk { caller = n } in l) c.in_ok-by.ensures) c.is_of_one_order-in-Ok.ensures c.is_of_one_order.ensures c.in-Ok.ensures.keeps c.and-self-inside.result.items
+    let once = lemmas.ask_once g.P.Pipes.known c.asides_go_on.ensures c.tales_go_on.ensures (core_of c.self.inside.lent.desk c.self.inside.lent.pipes c.self.inside.tale.items c.self.inside.wanted) c.lend.new.self c.ask_term.new.self c.args.caller
+    c.self.invariant.0 (c.lend.ensures ∙ ap (λ (n : ℕ). let l : Lent (Given g.row.P-Name.Denot g.row.P-Out.Denot g.row.P-In.Denot) g.row.P-Name.Denot g.row.P-Story.Denot = record c.self.inside.lent.desk { caller = n } in l) c.in_ok-by.ensures) c.is_of_one_order-in-Ok.ensures c.is_of_one_order.ensures c.in-Ok.ensures.keeps c.and-self-inside.result.items
     (c.and-self-inside.ensures.behind ∙ ap (λ (ms : List PieceMark). c.self.inside.tale.items ++ ms) c.and-self-inside.ensures.so)
-    AskTerm c.in-Ok.reply c.in-Ok.ensures.ok (λ fits. c.root_asks_are_asides.ensures c.self.inside.desk.items c.lend.new.self.caller c.in-Ok.reply c.in-Ok.ensures.ok.answered fits) in
+    AskTerm c.in-Ok.reply c.in-Ok.ensures.ok (λ fits. c.root_asks_are_asides.ensures c.self.inside.lent.desk.items c.lend.new.self.caller c.in-Ok.reply c.in-Ok.ensures.ok.answered fits) in
     subst (λ (w : Core g.row.P.Denot (Given g.row.P-Name.Denot g.row.P-Out.Denot g.row.P-In.Denot) g.row.P-Name.Denot g.row.P-Story.Denot). Requests c.args.caller AskTerm c.in-Ok.reply c.ask_term.new.self.items (pieces_in w)
-    (pieces_in (record { desk = c.ask_term.new.self; pipes = c.self.inside.pipes; marks = c.and-self-inside.result.items }))) c.self.view_is once
+    (pieces_in (core_of c.ask_term.new.self c.self.inside.lent.pipes c.and-self-inside.result.items c.self.inside.wanted))) c.self.view_is once
 
 pub returns-in-Ok-clause-keeps : goal.returns-in-Ok-clause-keeps
 returns-in-Ok-clause-keeps g c =
-    let v : Core g.row.P.Denot (Given g.row.P-Name.Denot g.row.P-Out.Denot g.row.P-In.Denot) g.row.P-Name.Denot g.row.P-Story.Denot = record { desk = c.self.inside.desk; pipes = c.self.inside.pipes; marks = c.self.inside.tale.items } in
+    let v : Core g.row.P.Denot (Given g.row.P-Name.Denot g.row.P-Out.Denot g.row.P-In.Denot) g.row.P-Name.Denot g.row.P-Story.Denot = core_of c.self.inside.lent.desk c.self.inside.lent.pipes c.self.inside.tale.items c.self.inside.wanted in
     subst (λ (w : Core g.row.P.Denot (Given g.row.P-Name.Denot g.row.P-Out.Denot g.row.P-In.Denot) g.row.P-Name.Denot g.row.P-Story.Denot). LeavesSockets c.args.caller w.desk c.ask_term.new.self) c.self.view_is
-    (ask_leaves v c.lend.new.self c.ask_term.new.self c.args.caller c.self.invariant.0.one (c.lend.ensures ∙ ap (λ (n : ℕ). let l : Lent (Given g.row.P-Name.Denot g.row.P-Out.Denot g.row.P-In.Denot) g.row.P-Name.Denot g.row.P-Story.Denot = record c.self.inside.desk { caller = n } in l) c.in_ok-by.ensures)
+    (ask_leaves v c.lend.new.self c.ask_term.new.self c.args.caller c.self.invariant.0.one (c.lend.ensures ∙ ap (λ (n : ℕ). let l : Lent (Given g.row.P-Name.Denot g.row.P-Out.Denot g.row.P-In.Denot) g.row.P-Name.Denot g.row.P-Story.Denot = record c.self.inside.lent.desk { caller = n } in l) c.in_ok-by.ensures)
     c.is_of_one_order.ensures c.is_of_one_order-in-Ok.ensures c.in-Ok.ensures.keeps c.root_asks_are_asides.ensures c.in-Ok.reply c.in-Ok.ensures.ok)
 
 where_err : {A E : Type 0} (r : Result A E) (P : Type 0) → P → OnErr r P
@@ -49,4 +45,4 @@ returns-in_err-by-clause-err g c = where_err c.from_residual.result (IsLentOn c.
 
 pub invariant_of-self-in-Err : goal.invariant_of-self-in-Err
 invariant_of-self-in-Err g c =
-    lemmas.lent_core g.P.Pipes.known (record { desk = c.self.inside.desk; pipes = c.self.inside.pipes; marks = c.self.inside.tale.items }) c.self.inside.closed c.ask_term.new.self c.in_ok-by.by (c.in-Err.ensures.err ∙ c.lend.ensures) c.self.invariant.0 c.self.invariant.1
+    lemmas.lent_core g.P.Pipes.known (core_of c.self.inside.lent.desk c.self.inside.lent.pipes c.self.inside.tale.items c.self.inside.wanted) c.self.inside.closed c.self.inside.drops.items c.ask_term.new.self c.in_ok-by.by (c.in-Err.ensures.err ∙ c.lend.ensures) c.self.invariant

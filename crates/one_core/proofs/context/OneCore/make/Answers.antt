@@ -27,7 +27,7 @@ returns-clause-is_new g c =
     (subst (λ (o : Options). IsAsked c.args.caller (MakeSocket c.args.kind o) c.in_ok-reply.reply c.args.self.now.desk c.ask_socket.new.self.desk) c.in_ok-copied.ensures c.in_ok-reply.ensures.asks)
 
 pub returns-clause-keeps : goal.returns-clause-keeps
-returns-clause-keeps g c = keeps_all g.row.P-Waker.Denot g.P.Pipes.known c.args.caller c.args.self.now c.ask_socket.new.self c.ask_socket.ensures.pipes c.in_ok-reply.ensures.keeps
+returns-clause-keeps g c = keeps_all g.row.P-Waker.Denot g.P.Pipes.known c.args.caller c.args.self.now c.ask_socket.new.self c.ask_socket.ensures.pipes c.ask_socket.ensures.wanted c.in_ok-reply.ensures.keeps
 
 pub returns-in_err-copied-clause-keeps : goal.returns-in_err-copied-clause-keeps
 returns-in_err-copied-clause-keeps g c = keeps_same g.row.P-Waker.Denot g.P.Pipes.known c.args.self.now c.args.self.now refl

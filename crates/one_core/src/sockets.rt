@@ -1,0 +1,63 @@
+use crate::context::OneCore;
+use any_sock::AnySock;
+use held_ends::HeldPipes;
+use script_actor::{Made, Sockets};
+use sock_core::SockCore;
+use spec_pattern::Skip;
+use spec_run::{LineAnswer, LineCall};
+use std::alloc::{AllocError, AllocFailed, Global};
+use zq_base::{Kind, Options};
+
+impl<P> Sockets<P> for OneCore<P>
+where
+    P: HeldPipes + Drop,
+    P::Name: Drop,
+    P::Waker: Drop,
+{
+    ghost use Rattle.one_core.specs.Agreeing.{as_open, was_made, Agrees};
+    ghost use Rattle.one_core.specs.Sound.{pieces_in};
+
+    type Open = Option<SockCore<AnySock, P::Waker, P::Name, P::Out, P::In>>;
+
+    ghost pieces = { λ w. pieces_in w };
+
+    ghost as_open = { λ s. as_open s };
+
+    ghost agrees = { λ w k s. Agrees P.Waker P.known w k s };
+
+    ghost was_made = { λ w o. was_made w o };
+
+    fn make(
+        &mut self,
+        alloc: Global,
+        caller: usize,
+        kind: Kind,
+        options: &Options,
+    ) -> Result<Made<Self::Open>, AllocError> {
+        OneCore::make(self, alloc, caller, kind, options)
+    }
+
+    fn call(
+        &mut self,
+        alloc: Global,
+        caller: usize,
+        socket: &mut Self::Open,
+        line: &LineCall,
+        told: &mut Vec<Skip>,
+    ) -> Result<LineAnswer, AllocError> {
+        OneCore::call(self, alloc, caller, socket, line, told)
+    }
+
+    fn close(
+        &mut self,
+        alloc: Global,
+        caller: usize,
+        socket: Self::Open,
+    ) -> Result<(), AllocFailed<Self::Open>> {
+        OneCore::close(self, alloc, caller, socket)
+    }
+
+    fn term(&mut self, alloc: Global, caller: usize) -> Result<LineAnswer, AllocError> {
+        OneCore::term(self, alloc, caller)
+    }
+}
