@@ -31,7 +31,8 @@ use Rattle.socket_laws.proofs.ThereLemmas.{had_objects_are_there}
 use Rattle.spec_run.specs.Act.{Act, moments_in, steps_in}
 use Rattle.spec_run.specs.OwnedRun.{AreCountedBy}
 use Rattle.script_actor.specs.Piece.{Piece, pipe_steps}
-use Rattle.core_laws.specs.Sides.{AreAtEnds, OpensGoOn, by_owner}
+use Rattle.core_laws.specs.Sides.{is_shut, AreAtEnds, CallMayCome, OpenSockets, OpensGoOn, by_owner, by_reaper}
+use Rattle.zq_world.specs.CoreCalls.{IsOnlyReaper}
 use Rattle.core_stands.specs.Standing.{open_by, opens_in, CoreStands, PastStands}
 use Rattle.core_stands.specs.Calls.{CallStands}
 use Rattle.core_stands.proofs.AsideLemmas.{known_more, made_next}
@@ -42,7 +43,8 @@ use Rattle.core_others.specs.Calls.{for_caller}
 use Rattle.core_others.proofs.ChainLemmas.{kept_then, there_then}
 use Rattle.core_others.proofs.GrownLemmas.{found_by, kept_found, run_more}
 use Rattle.core_others.proofs.SilentLemmas.{one_order_of}
-use Rattle.core_calls.specs.Done.{ActsDone}
+use Rattle.core_calls.specs.Done.{ActsDone, PastIn}
+use Rattle.core_calls.specs.Reaps.{ReapDone}
 use Rattle.core_calls.specs.Stands.{CallsStand, NamesMade}
 
 none_some : {X : Type 0} {x : X} → None ≡ Some x → ⊥
@@ -194,12 +196,8 @@ module _ {G N T : Type 0} (old new : Lent G N T) (was : IsOneOrder old) (is : Is
       by false e =
           sym (ap (λ (ms : List (Moment N T)). (known_after o (items_in ms)).open_socket) (others_stay G N T old new grows j (λ same. never (sym e ∙ eq-eqb j old.caller same)))) ∙ known
 
--- ---- a call
-module _ {S O I N : Type 0} (K : Known S O I N) {G T : Type 0} (o : ℕ) (old new : Lent G N T) (before behind : S) (acts : List (Act N T)) (was : IsOneOrder old) (is : IsOneOrder new) (had : HasSocket old (id o))
-    (done : ActsDone K o old new before behind acts) (one : old.past.workers ≡ 1) where
-  abbrev grows : GrowsBy old new
-  grows = done.grows
-
+-- ---- a call of whichever caller
+module _ {S O I N : Type 0} (K : Known S O I N) {G T : Type 0} (old new : Lent G N T) (before behind : S) (was : IsOneOrder old) (is : IsOneOrder new) (grows : GrowsBy old new) (one : old.past.workers ≡ 1) where
   abbrev more : List (Item N T)
   more = grows.more
 
@@ -209,7 +207,7 @@ module _ {S O I N : Type 0} (K : Known S O I N) {G T : Type 0} (o : ℕ) (old ne
   abbrev d : Control
   d = after_all (old.items ++ more) (begun 1)
 
-  found : after_all old.items (begun old.past.workers) ≡ after_all old.items (begun 1)
+  pub found : after_all old.items (begun old.past.workers) ≡ after_all old.items (begun 1)
   found = ap (λ (n : ℕ). after_all old.items (begun n)) one
 
   control_was : control_of old.past ≡ after_all old.items (begun 1)
@@ -217,11 +215,6 @@ module _ {S O I N : Type 0} (K : Known S O I N) {G T : Type 0} (o : ℕ) (old ne
 
   control_is : control_of new.past ≡ after_all (old.items ++ more) (begun 1)
   control_is = is.control ∙ ap (λ (n : ℕ). after_all new.items (begun n)) (grows.workers ∙ one) ∙ ap (λ (xs : List (Item N T)). after_all xs (begun 1)) grows.items
-
-  pub said : moments_in acts ≡ moments_from (after_all old.items (begun 1)) more
-  said =
-      append_cancel_left (moments_of old) (moments_in acts) (moments_from (after_all old.items (begun old.past.workers)) more) (sym done.moments ∙ grown old new grows)
-      ∙ ap (λ (x : Control). moments_from x more) found
 
   past_of : (steps : List PipeStep) → PastStands K (after_all old.items (begun 1)) (name_of old.items) before steps → PastStands K (control_of old.past) (name_of old.items) before steps
   past_of steps stands = subst (λ (x : Control). PastStands K x (name_of old.items) before steps) (sym control_was) stands
@@ -238,25 +231,61 @@ module _ {S O I N : Type 0} (K : Known S O I N) {G T : Type 0} (o : ℕ) (old ne
       let there_now = subst (λ (x : Control). p < next_object x) (sym found) there in
       open_so old.items p j (to_open old p j was (was_open old new was is grows p there_now j known))
 
+  -- its steps are at ends of such objects
+  ends_now : (opens : OpenSockets → ℕ → Bool) (acts : List (Act N T)) → AreAtEnds (control_of new.past) (opens (opens_in new.items)) acts → AreAtEnds (after_all (old.items ++ more) (begun 1)) (opens (opens_in (old.items ++ more))) acts
+  ends_now opens acts at =
+      subst (λ (xs : List (Item N T)). AreAtEnds (after_all (old.items ++ more) (begun 1)) (opens (opens_in xs)) acts) grows.items
+      (subst (λ (x : Control). AreAtEnds x (opens (opens_in new.items)) acts) control_is at)
+
+  module _ (acts : List (Act N T)) (said : moments_in acts ≡ moments_from (after_all old.items (begun 1)) grows.more)
+      (past : (past : List PipeStep) → PastIn K old before past → PastIn K new behind (past ++ steps_in acts))
+      (counted : (past : List PipeStep) → PastIn K old before past → AreCountedBy past (control_of old.past).settlements → AreCountedBy (past ++ steps_in acts) (control_of new.past).settlements) where
+    stands_by : NamesMade new → (k : ℕ) (reaps : Bool) (pieces : List (Piece N T)) → CoreStands K old.items before pieces →
+        CallMayCome (after_all old.items (begun 1)) (after_all (old.items ++ grows.more) (begun 1)) (opens_in old.items) (opens_in (old.items ++ grows.more)) pieces k reaps acts → CallStands K old.items grows.more before behind pieces k reaps acts
+    stands_by made k reaps pieces stands may =
+        let stood = stands.past in record {
+          said = said;
+          past = λ stand. past_now (pipe_steps pieces ++ steps_in acts) (past (pipe_steps pieces) (past_of (pipe_steps pieces) stand));
+          names_made = λ p n named. subst (λ (x : Control). p.pair.0 < next_pair x) control_is (made p n (ap (λ (xs : List (Item N T)). name_of xs p) grows.items ∙ named));
+          counted = λ counts. subst (λ (x : Control). AreCountedBy (pipe_steps pieces ++ steps_in acts) x.settlements) control_is
+              (counted (pipe_steps pieces) (past_of (pipe_steps pieces) stood) (subst (λ (x : Control). AreCountedBy (pipe_steps pieces) x.settlements) (sym control_was) counts));
+          opens = opens_on;
+          may = may;
+        }
+
+-- ---- of an open socket's
+module _ {S O I N : Type 0} (K : Known S O I N) {G T : Type 0} (o : ℕ) (old new : Lent G N T) (before behind : S) (acts : List (Act N T)) (was : IsOneOrder old) (is : IsOneOrder new) (had : HasSocket old (id o))
+    (done : ActsDone K o old new before behind acts) (one : old.past.workers ≡ 1) where
+  abbrev grows : GrowsBy old new
+  grows = done.grows
+
+  pub said : moments_in acts ≡ moments_from (after_all old.items (begun 1)) done.grows.more
+  said =
+      append_cancel_left (moments_of old) (moments_in acts) (moments_from (after_all old.items (begun old.past.workers)) grows.more) (sym done.moments ∙ grown old new grows)
+      ∙ ap (λ (x : Control). moments_from x grows.more) (found K old new before behind was is grows one)
+
   mine : opens_in old.items o ≡ Some old.caller
   mine = open_so old.items o old.caller (to_open old o old.caller was had)
 
   pub it_is_there : o < next_object (after_all old.items (begun 1))
   it_is_there =
       let order = was.order in
-      subst (λ (x : Control). o < next_object x) found (had_objects_are_there N T old.past.workers old.items order.run o old.caller (is_in old was o had).has)
+      subst (λ (x : Control). o < next_object x) (found K old new before behind was is grows one) (had_objects_are_there N T old.past.workers old.items order.run o old.caller (is_in old was o had).has)
 
-  pub call_stands : NamesMade new → (pieces : List (Piece N T)) → CoreStands K old.items before pieces → CallStands K old.items more before behind pieces old.caller false acts
+  pub call_stands : NamesMade new → (pieces : List (Piece N T)) → CoreStands K old.items before pieces → CallStands K old.items done.grows.more before behind pieces old.caller false acts
   call_stands made pieces stands =
-      let past = stands.past in record {
-        said = said;
-        past = λ was. past_now (pipe_steps pieces ++ steps_in acts) (done.past (pipe_steps pieces) (past_of (pipe_steps pieces) was));
-        names_made = λ p n named. subst (λ (x : Control). p.pair.0 < next_pair x) control_is (made p n (ap (λ (xs : List (Item N T)). name_of xs p) grows.items ∙ named));
-        counted = λ counts. subst (λ (x : Control). AreCountedBy (pipe_steps pieces ++ steps_in acts) x.settlements) control_is
-            (done.counted (pipe_steps pieces) (past_of (pipe_steps pieces) past) (subst (λ (x : Control). AreCountedBy (pipe_steps pieces) x.settlements) (sym control_was) counts));
-        opens = opens_on;
-        may = by_owner o refl it_is_there mine (subst (λ (x : Control). AreAtEnds x (λ i. i == o) acts) control_is done.at_ends);
-      }
+      stands_by K old new before behind was is grows one acts said done.past done.counted made old.caller false pieces stands
+      (by_owner o refl it_is_there mine (ends_now K old new before behind was is grows one (λ opens i. i == o) acts done.at_ends))
 
 pub calls_stand : {S O I N : Type 0} (K : Known S O I N) (G T : Type 0) → CallsStand K G T
 calls_stand K G T o old new before behind acts was is had done made one pieces stands = call_stands K o old new before behind acts was is had done one made pieces stands
+
+-- ---- of the reaper's
+module _ {S O I N : Type 0} (K : Known S O I N) {G T : Type 0} (old new : Lent G N T) (before behind : S) (acts : List (Act N T)) (was : IsOneOrder old) (is : IsOneOrder new) (done : ReapDone K old new before behind acts) (one : old.past.workers ≡ 1) where
+  pub reap_said : moments_in acts ≡ moments_from (after_all old.items (begun 1)) done.grows.more
+  reap_said = done.said ∙ ap (λ (x : Control). moments_from x done.grows.more) (was.control ∙ found K old new before behind was is done.grows one)
+
+  pub reap_stands : NamesMade new → (pieces : List (Piece N T)) → IsOnlyReaper old.caller pieces → CoreStands K old.items before pieces → CallStands K old.items done.grows.more before behind pieces old.caller true acts
+  reap_stands made pieces only stands =
+      stands_by K old new before behind was is done.grows one acts reap_said done.past done.counted made old.caller true pieces stands
+      (by_reaper refl only (ends_now K old new before behind was is done.grows one (λ opens i. is_shut (opens i)) acts done.at_ends))

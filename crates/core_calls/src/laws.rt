@@ -1,5 +1,6 @@
 ghost use Rattle.core_calls.specs.Own.{OwnJoinStill};
 ghost use Rattle.core_calls.specs.Reaper.{AskedStay, ElseBehind, ElseStay, ReapersKeep};
+ghost use Rattle.core_calls.specs.Reaps.{ReapsAreTold};
 ghost use Rattle.core_calls.specs.Stands.{CallsStand};
 ghost use Rattle.core_calls.specs.Told.{CallsAreTold};
 
@@ -16,6 +17,14 @@ pub fn calls_stand<P: HeldPipes, G, T>(_pipes: &P)
 /// They are told as one piece more.
 pub fn calls_are_told<P: HeldPipes, G, T>(pipes: &P)
     ensures { CallsAreTold P.known G T }
+{
+    calls_go_on::<P, T>(pipes);
+    tales_go_on::<P::Name, T>();
+}
+
+/// So are those of the reaper, where no other caller reaped.
+pub fn reaps_are_told<P: HeldPipes, G, T>(pipes: &P)
+    ensures { ReapsAreTold P.known G T }
 {
     calls_go_on::<P, T>(pipes);
     tales_go_on::<P::Name, T>();

@@ -6,4 +6,5 @@ mod laws;
 
 pub use laws::{
     asked_stay, calls_are_told, calls_stand, else_behind, else_stay, own_join_still, reapers_keep,
+    reaps_are_told,
 };

@@ -7,7 +7,7 @@ ghost use Rattle.ctl_joins.specs.Papers.{MayMake};
 
 use crate::batch::{Batch, Drawn};
 use crate::undrawing::undraw_all;
-use ctl_holder::{Holder, Load};
+use ctl_holder::{Holder, Load, Undoes};
 use ctl_joins::{
     FirstEnd, Owners, Papers, attach_first, capacities_of, draw_pair, papers_of, undraw_pair,
 };
@@ -85,7 +85,7 @@ where
 /// number is drawn, all its room is kept, its pipes are made, and the binding socket's end, end b,
 /// is attached, whose kind answers. Where memory wants, all is undone, last first. It costs copies of
 /// two identities for each.
-pub fn draw_all<P: Pipes, H: Holder<P>>(
+pub fn draw_all<P: Pipes, H: Undoes<P>>(
     state: &mut State<Load<P::Name, P::Out, P::In>>,
     alloc: Global,
     holder: &mut H,
@@ -95,7 +95,6 @@ pub fn draw_all<P: Pipes, H: Holder<P>>(
 ) -> Result<Batch<P::Name, P::Out, P::In>, AllocError>
 where
     P::Name: Drop,
-    requires undoes { H.undoes ≡ true }
     requires may { MayDraw state.old (H.holding holder.old) socket waiters.now
         (length wakers.now) }
     requires calm { H.calm holder.old [] }

@@ -1,10 +1,10 @@
-ghost use Rattle.std.specs.Prelude.{◌≡◌, ◌∷◌, List, length, true};
+ghost use Rattle.std.specs.Prelude.{◌≡◌, ◌∷◌, List, length};
 ghost use Rattle.zq_base.specs.declared.ids.EndId.{EndId};
 ghost use Rattle.ctl_binds.specs.Batch.{drawn_ends, first_of};
 ghost use Rattle.ctl_binds.specs.Drawing.{AreTaken, IsBack, WasTaken, WereTaken};
 
 use crate::batch::Drawn;
-use ctl_holder::{Holder, Load};
+use ctl_holder::{Load, Undoes};
 use ctl_joins::undraw_pair;
 use ctl_state::State;
 use msg_pipe::Pipes;
@@ -14,7 +14,7 @@ use zq_base::{EndId, ObjId};
 
 // Takes the pair back that was drawn last: its end leaves the holder, and its number and its room
 // are given back.
-fn undraw_one<P: Pipes, H: Holder<P>>(
+fn undraw_one<P: Pipes, H: Undoes<P>>(
     state: &mut State<Load<P::Name, P::Out, P::In>>,
     holder: &mut H,
     socket: ObjId,
@@ -22,7 +22,6 @@ fn undraw_one<P: Pipes, H: Holder<P>>(
 )
 where
     P::Name: Drop,
-    requires undoes { H.undoes ≡ true }
     requires taken { WasTaken state.old (H.holding holder.old) socket.0 drawn }
     requires calm { (came : List EndId) × H.calm holder.old (first_of drawn ∷ came) }
     ensures back { (w : WasTaken state.old (H.holding holder.old) socket.0 drawn) →
@@ -39,7 +38,7 @@ where
 }
 
 /// Takes all pairs back that were drawn, last first.
-pub fn undraw_all<P: Pipes, H: Holder<P>>(
+pub fn undraw_all<P: Pipes, H: Undoes<P>>(
     state: &mut State<Load<P::Name, P::Out, P::In>>,
     holder: &mut H,
     socket: ObjId,
@@ -47,7 +46,6 @@ pub fn undraw_all<P: Pipes, H: Holder<P>>(
 )
 where
     P::Name: Drop,
-    requires undoes { H.undoes ≡ true }
     requires taken { WereTaken state.old (H.holding holder.old) socket.0 drawn.items }
     requires calm { H.calm holder.old (drawn_ends drawn.items) }
     ensures state { (w : WereTaken state.old (H.holding holder.old) socket.0 drawn.items) →

@@ -1,23 +1,26 @@
 -- Which ends each command makes join, and which objects its holder has then.
-use Rattle.std.specs.Prelude.{◌≡◌, ◌≢◌, ◌++◌, ◌∷◌, [], ℕ, Bool, true, false, List, Option, Some, refl}
+use Rattle.std.specs.Prelude.{◌≡◌, ◌≢◌, ◌++◌, ◌∷◌, [], ℕ, Bool, true, false, not, List, Option, Some, refl}
 use Rattle.std.proofs.Common.{sym, ap, ◌∙◌, subst}
 use Rattle.std.proofs.lemmas.List.{append-nil, get_or-set_other}
 use Rattle.zq_base.specs.declared.ids.EndId.{EndId}
 use Rattle.zq_base.specs.declared.ids.ObjId.{ObjId}
 use Rattle.zq_base.specs.declared.ids.Settled.{Settled}
-use Rattle.spec_control.specs.declared.end.EndEvent.TheVariants.{AckCame}
+use Rattle.spec_control.specs.declared.end.EndEvent.TheVariants.{AckCame, TermCame}
 use Rattle.spec_control.specs.declared.letter.Word.{Word}
 use Rattle.spec_control.specs.declared.letter.Word.TheVariants.{Own, Plug, TermReq, Term, TermAck, PipeBind, PipeTerm, PipeTermAck, Stop, Reap}
 use Rattle.spec_control.specs.declared.entry.Answered.{Answered}
 use Rattle.spec_control.specs.declared.entry.Joining.{Joining}
-use Rattle.spec_control.specs.Row.{AckComes, ReapComes, Row, link_after, nobody}
+use Rattle.spec_control.specs.PairPhase.{BindCame}
+use Rattle.spec_control.specs.Row.{AckComes, OwnComes, ReapComes, RequestComes, Row, StopComes, link_after, link_may, nobody}
 use Rattle.spec_control.specs.Rows.{obj, may_end}
-use Rattle.spec_control.specs.Stage.{has_ended}
-use Rattle.spec_control.specs.Control.{Control, happens, link, put, try_end}
+use Rattle.spec_control.specs.Stage.{has_ended, was_asked}
+use Rattle.spec_control.specs.Control.{Control, attach, happens, link, put, try_end}
 use Rattle.spec_control.specs.After.{answers_in, processed, settle}
 use Rattle.ctl_holder.specs.Holding.{HearsMore, HearsNone, Holding, IsTold, JoinsBy}
 use Rattle.ctl_holder.specs.Joins.{KeepsObjects, come_by}
 use Rattle.ctl_terms.specs.Terming.{children_told}
+use Rattle.control_moves.proofs.GoLemmas.{greet_goes, tell_where_goes, try_end_goes}
+use Rattle.ctl_terms.proofs.BetweenLemmas.{StayBetween, goes_between, happens_between, link_between, written_between}
 use Rattle.ctl_terms.proofs.KeepLemmas.{all_kept, ended_now, told_kept}
 use Rattle.ctl_holder.specs.Heard.{heard_by, over_if, over_in}
 use Rattle.ctl_holder.specs.declared.notice.Notice.{Notice}
@@ -56,15 +59,46 @@ module _ {N S : Type 0} (to : ObjId) (a : Answered N S) (c : Control) (h k : Hol
   pub stop_heard : (word : Word) → word ≡ Stop → HearsMore (notice.Stop to ∷ []) h k → Hears word
   stop_heard word is told = told ∙ sym (ap (λ (w : Word). h.heard ++ heard_by to w c (processed to.0 word (answers_in a) c)) is)
 
+  -- a closed socket whose Reap is on its way stays so by any other command
+  abbrev Still : Word → Type 0
+  Still word = StayBetween c.rows (processed to.0 word (answers_in a) c).rows
+
+  pub own_between : (word : Word) (child : ObjId) → word ≡ Own child → Still word
+  own_between word child is = subst Still (sym is) (λ i between.
+      (let now = link OwnComes child.0 c in
+      goes_between [] now (processed to.0 (Own child) (answers_in a) c) (tell_where_goes (was_asked (obj c.rows to.0).stage) child.0 now) refl i
+      (written_between c.rows child.0 (link_after OwnComes (obj c.rows child.0)) (λ b. b) i between)))
+
+  pub request_between : (word : Word) (child : ObjId) → word ≡ TermReq child → link_may RequestComes (obj c.rows child.0) ≡ true → Still word
+  request_between word child is may = subst Still (sym is) (λ i between.
+      (let now = link RequestComes child.0 c in
+      goes_between [] now (processed to.0 (TermReq child) (answers_in a) c) (tell_where_goes (not (was_asked (obj c.rows to.0).stage)) child.0 now) refl i
+      (written_between c.rows child.0 (link_after RequestComes (obj c.rows child.0)) (λ b. link_between (obj c.rows child.0) b RequestComes may refl) i between)))
+
+  pub ack_between : (word : Word) (child : ObjId) → word ≡ TermAck child → Still word
+  ack_between word child is = subst Still (sym is) (λ i between.
+      (let now = link AckComes child.0 c in
+      goes_between [] now (processed to.0 (TermAck child) (answers_in a) c) (try_end_goes to.0 (answers_in a).left now) refl i
+      (written_between c.rows child.0 (link_after AckComes (obj c.rows child.0)) (λ b. b) i between)))
+
+  bind_between : (word : Word) (e : EndId) (peer : List ℕ) → word ≡ PipeBind e peer → Still word
+  bind_between word e peer is = subst Still (sym is) (goes_between [] (attach BindCame e c) (processed to.0 (PipeBind e peer) (answers_in a) c) (greet_goes ((answers_in a).kind e) e (attach BindCame e c)) refl)
+
+  pub turn_between : (word : Word) (e : EndId) → word ≡ PipeTerm e → Still word
+  turn_between word e is = subst Still (sym is) (happens_between TermCame e c)
+
+  pub stop_between : (word : Word) → word ≡ Stop → Still word
+  stop_between word is = subst Still (sym is) (written_between c.rows to.0 (link_after StopComes (obj c.rows to.0)) (λ b. b))
+
   -- nothing joined, and all objects are as before
-  pub none_came : (word : Word) → a.joined ≡ [] → k.joined ≡ h.joined → ((i : ℕ) → k.holds i ≡ h.holds i) → ((i : ℕ) → k.kind i ≡ h.kind i) → Hears word → Came word
-  none_came word none same holds kinds heard = record { came = none_by word none same; objects = all_kept c (processed to.0 word (answers_in a) c) h k holds kinds; heard = heard }
+  pub none_came : (word : Word) → a.joined ≡ [] → k.joined ≡ h.joined → ((i : ℕ) → k.holds i ≡ h.holds i) → ((i : ℕ) → k.kind i ≡ h.kind i) → Still word → Hears word → Came word
+  none_came word none same holds kinds still heard = record { came = none_by word none same; objects = all_kept c (processed to.0 word (answers_in a) c) h k holds kinds still; heard = heard }
 
   -- these ends joined
   pub bind_came : (word : Word) (e : EndId) (peer : List ℕ) (joined : List (Joining N)) → word ≡ PipeBind e peer → HasJoined joined a → JoinsBy joined h k → ((i : ℕ) → k.holds i ≡ h.holds i) → ((i : ℕ) → k.kind i ≡ h.kind i) → HearsNone h k → Came word
   bind_came word e peer joined is has came holds kinds heard = record {
     came = came ∙ ap (λ (js : List (Joining N)). h.joined ++ js) (sym (ap (λ (w : Word). come_by w a.joined) is ∙ has.are));
-    objects = all_kept c (processed to.0 word (answers_in a) c) h k holds kinds;
+    objects = all_kept c (processed to.0 word (answers_in a) c) h k holds kinds (bind_between word e peer is);
     heard = unheard word (λ d. ap (λ (w : Word). heard_by to w c d) is) heard;
   }
 
@@ -74,7 +108,8 @@ module _ {N S : Type 0} (to : ObjId) (a : Answered N S) (c : Control) (h k : Hol
     came = none_by word silent.joined told.turns.joined;
     objects = told_kept c (processed to.0 word (answers_in a) c) to.0 ended h h k (λ i. refl) (λ i. refl) told root lent kept lives
         (λ yes. subst (λ (w : Word). has_ended (obj (processed to.0 w (answers_in a) c).rows to.0).stage ≡ true) (sym is)
-        (subst (λ (b : Bool). has_ended (obj (try_end to.0 b (link AckComes child.0 c)).rows to.0).stage ≡ true) (sym silent.output) (ended_now to.0 (link AckComes child.0 c) (sym gone ∙ yes))));
+        (subst (λ (b : Bool). has_ended (obj (try_end to.0 b (link AckComes child.0 c)).rows to.0).stage ≡ true) (sym silent.output) (ended_now to.0 (link AckComes child.0 c) (sym gone ∙ yes))))
+        (ack_between word child is);
     heard = subst Hears (sym is)
         (subst (λ (b : Bool). HearsMore (over_in to c (try_end to.0 b (link AckComes child.0 c))) h k) (sym silent.output)
         (heard ∙ ap (λ (b : Bool). h.heard ++ over_if to b) (gone ∙ sym (end_between to.0 (obj c.rows to.0) (link AckComes child.0 c) lives lives_still))));

@@ -1,5 +1,5 @@
 -- An acknowledgement that comes to an end of an object: what it needs, and what it does.
-use Rattle.std.specs.Prelude.{◌≡◌, ◌≢◌, ◌<◌, ◌≤◌, ◌+◌, ◌&&◌, ◌==◌, ℕ, Bool, true, false, cond, List, Option, Some, None, All, map, not, length, slice_index_or, sum_by, refl}
+use Rattle.std.specs.Prelude.{◌≡◌, ◌≢◌, ◌<◌, ◌≤◌, ◌+◌, ◌&&◌, ◌==◌, ℕ, Bool, true, false, cond, List, [], Option, Some, None, All, map, not, length, slice_index_or, sum_by, refl}
 use Rattle.std.specs.List.{list_any}
 use Rattle.std.proofs.Common.{arith, sym, ap, ◌∙◌, subst}
 use Rattle.std.proofs.lemmas.Bool.{eq-eqb, eqb-true}
@@ -33,6 +33,8 @@ use Rattle.ctl_holder.specs.declared.load.Load.TheVariants.{Halves, Writer, Ends
 use Rattle.ctl_holder.specs.Holding.{Holding, IsTold, read_in}
 use Rattle.ctl_holder.specs.Lent.{HasAll}
 use Rattle.ctl_strikes.proofs.OnceLemmas.{told_kept, told_one}
+use Rattle.control_moves.proofs.GoLemmas.{try_end_goes}
+use Rattle.ctl_terms.proofs.BetweenLemmas.{goes_between, happens_between}
 use Rattle.ctl_terms.proofs.KeepLemmas.{ended_now, told_kept as one_kept}
 use Rattle.ctl_holder.specs.Load.{BringsWriterTo, IsNamed}
 use Rattle.ctl_state.specs.declared.state.State.{State}
@@ -199,7 +201,8 @@ module _ {N O I : Type 0} (out_name : O → N) (in_name : I → N) where
         (ends_on (happens AckCame e c) (settle e (Some counts) (happens AckCame e c)) (try_end at.0 false (settle e (Some counts) (happens AckCame e c))) (record { pairs = refl; attached = refl; reasons = refl })
         (tried at.0 false (settle e (Some counts) (happens AckCame e c)))) within listed done.leads.turned) told.turns;
     joined = told.turns.joined ∙ done.leads.joined;
-    objects = one_kept c (try_end at.0 false (settle e (Some counts) (happens AckCame e c))) at.0 ended h m k done.leads.holds done.leads.kinds told root (λ above. sym (done.leads.holds at.0) ∙ lent) kept lives (λ is. ended_now at.0 (settle e (Some counts) (happens AckCame e c)) (gone is));
+    objects = one_kept c (try_end at.0 false (settle e (Some counts) (happens AckCame e c))) at.0 ended h m k done.leads.holds done.leads.kinds told root (λ above. sym (done.leads.holds at.0) ∙ lent) kept lives (λ is. ended_now at.0 (settle e (Some counts) (happens AckCame e c)) (gone is))
+        (λ i between. goes_between [] (settle e (Some counts) (happens AckCame e c)) (try_end at.0 false (settle e (Some counts) (happens AckCame e c))) (try_end_goes at.0 false (settle e (Some counts) (happens AckCame e c))) refl i (happens_between AckCame e c i between));
   }
 
   -- the object lives still, and there is room for its own acknowledgement

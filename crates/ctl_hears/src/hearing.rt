@@ -1,5 +1,6 @@
 ghost use Rattle.zq_base.specs.declared.ids.EndId.{EndId};
-ghost use Rattle.spec_control.specs.declared.letter.Word.TheVariants.{PipeTermAck};
+ghost use Rattle.zq_base.specs.declared.ids.ObjId.{ObjId};
+ghost use Rattle.spec_control.specs.declared.letter.Word.TheVariants.{PipeTermAck, Reap};
 ghost use Rattle.spec_control.specs.declared.end.EndEvent.TheVariants.{AckCame};
 ghost use Rattle.spec_control.specs.Control.{happens, try_end};
 ghost use Rattle.spec_control.specs.After.{answers_in, processed, settle};
@@ -243,7 +244,7 @@ where
         load ≡ Some (Writer writer) →
         NoneWrites P.known.exact (P.known.out_name writer) (H.holding holder.old) }
     requires reaps { brings_ends letter.now.word ≡ true → H.reaps ≡ true }
-    requires takes { brings_ends letter.now.word ≡ true → H.may_take holder.old (given_by load) }
+    requires takes { (o : ObjId) → letter.now.word ≡ Reap o → H.may_take holder.old o.0 (given_by load) }
     requires come { brings_ends letter.now.word ≡ true → ComeApart P.known.exact
         (map (held_given P.known.out_name P.known.in_name) (given_by load)) (H.holding holder.old) }
     requires fits { FitsLoad (λ h. (e : EndId) → H.fits holder.old e h) load }

@@ -22,7 +22,7 @@ module _ (c : Control) (o : ℕ) (is_open : IsOpenSocket (obj c.rows o)) where
       ap is_between (get_or-set_same c.rows.objects o (link_after AsksOver (obj c.rows o)) nobody (socket_there c.rows o is_open.socket))
       ∙ and (is_socket (obj c.rows o).kind) true is_open.socket refl
 
-  stays_between : (i : ℕ) → is_between (obj c.rows i) ≡ true → is_between (obj (with_object o (link_after AsksOver (obj c.rows o)) c.rows) i) ≡ true
+  pub stays_between : (i : ℕ) → is_between (obj c.rows i) ≡ true → is_between (obj (with_object o (link_after AsksOver (obj c.rows o)) c.rows) i) ≡ true
   stays_between i between =
       elim (cases_eq i o) [
         | inl same ↦ subst (λ (n : ℕ). is_between (obj (with_object o (link_after AsksOver (obj c.rows o)) c.rows) n) ≡ true) (sym same) closed_between

@@ -12,16 +12,17 @@ use Rattle.spec_control.specs.Rows.{Rows, obj, with_object}
 use Rattle.spec_control.specs.Control.{Control}
 use Rattle.spec_control.specs.ControlRun.{IsOpenSocket, is_between}
 use Rattle.spec_control.specs.After.{after}
-use Rattle.control_rows.proofs.ListLemmas.{never}
+use Rattle.control_rows.proofs.ListLemmas.{never, clash}
 use Rattle.ctl_holder.specs.Holding.{HearsMore, HearsNone, HasGiven, Holding, JoinsBy}
 use Rattle.zq_base.specs.declared.ids.EndId.{EndId}
 use Rattle.zq_base.specs.declared.ids.Settled.{Settled}
 use Rattle.ctl_holder.specs.Counts.{CountsIn, CountsOnce}
 use Rattle.ctl_holder.specs.Joins.{IsReaped, JoinsIn, KeepsObjects, came_in}
+use Rattle.ctl_terms.proofs.BetweenLemmas.{StayBetween}
 use Rattle.ctl_terms.proofs.KeepLemmas.{all_kept}
 use Rattle.ctl_history.specs.Coming.{ComesWith}
 use Rattle.ctl_history.specs.Past.{Past, control_of, with_event}
-use Rattle.ctl_history.proofs.CloseLemmas.{closed_between}
+use Rattle.ctl_history.proofs.CloseLemmas.{closed_between, stays_between}
 use Rattle.ctl_holder.specs.Heard.{ends_between, heard_by, heard_in, over_if, term_with, HearsOnce}
 use Rattle.ctl_holder.specs.declared.notice.Notice.{Notice}
 use Rattle.zq_base.specs.declared.ids.ObjId.{ObjId}
@@ -79,21 +80,21 @@ module _ {N S O : Type 0} (out_name : O → N) (counts : EndId → O → Settled
 module _ {G N S : Type 0} (p : Past G N S) where
   -- nothing happened
   pub past_comes : (h k : Holding N) → k.joined ≡ h.joined → ((i : ℕ) → k.holds i ≡ h.holds i) → ((i : ℕ) → k.kind i ≡ h.kind i) → HearsNone h k → ComesWith p p h k
-  past_comes h k joined holds kinds heard = (none_comes p.events h k joined, all_kept (control_of p) (control_of p) h k holds kinds, none_hears p.events (control_of p) (control_of p) h k heard)
+  past_comes h k joined holds kinds heard = (none_comes p.events h k joined, all_kept (control_of p) (control_of p) h k holds kinds (λ i between. between), none_hears p.events (control_of p) (control_of p) h k heard)
 
   -- an event in which the holder's objects stay
-  pub event_comes : (did : Did N S) (h k : Holding N) → JoinsBy (came_in did) h k → ((i : ℕ) → k.holds i ≡ h.holds i) → ((i : ℕ) → k.kind i ≡ h.kind i) →
+  pub event_comes : (did : Did N S) (h k : Holding N) → JoinsBy (came_in did) h k → ((i : ℕ) → k.holds i ≡ h.holds i) → ((i : ℕ) → k.kind i ≡ h.kind i) → StayBetween (control_of p).rows (after did (control_of p)).rows →
       ((b n : Control) → heard_in did b n ≡ []) → HearsNone h k → ComesWith p (with_event did p) h k
-  event_comes did h k came holds kinds none heard = (
+  event_comes did h k came holds kinds still none heard = (
     one_comes p.events did h k came,
-    all_kept (control_of p) (control_of (with_event did p)) h k holds kinds,
+    all_kept (control_of p) (control_of (with_event did p)) h k holds kinds (subst (λ (d : Control). StayBetween (control_of p).rows d.rows) (sym (control_more p did)) still),
     one_hears p.events (control_of p) (control_of (with_event did p)) h k did (heard ∙ sym (ap (λ (ns : List Notice). h.heard ++ ns) (none (control_of p) (control_of (with_event did p))) ∙ append-nil h.heard)),
   )
 
   -- an event of which the holder was told nothing
-  pub aside_comes : (did : Did N S) (h k : Holding N) → came_in did ≡ [] → k.joined ≡ h.joined → ((i : ℕ) → k.holds i ≡ h.holds i) → ((i : ℕ) → k.kind i ≡ h.kind i) →
+  pub aside_comes : (did : Did N S) (h k : Holding N) → came_in did ≡ [] → k.joined ≡ h.joined → ((i : ℕ) → k.holds i ≡ h.holds i) → ((i : ℕ) → k.kind i ≡ h.kind i) → StayBetween (control_of p).rows (after did (control_of p)).rows →
       ((b n : Control) → heard_in did b n ≡ []) → HearsNone h k → ComesWith p (with_event did p) h k
-  aside_comes did h k none same holds kinds untold heard = event_comes did h k (same ∙ sym (ap (λ (js : List (Joining N)). h.joined ++ js) none ∙ append-nil h.joined)) holds kinds untold heard
+  aside_comes did h k none same holds kinds still untold heard = event_comes did h k (same ∙ sym (ap (λ (js : List (Joining N)). h.joined ++ js) none ∙ append-nil h.joined)) holds kinds still untold heard
 
   -- an event in which objects may have gone or come
   pub objects_come : (did : Did N S) (h k : Holding N) → JoinsBy (came_in did) h k → KeepsObjects (control_of p) (after did (control_of p)) h k → HearsMore (heard_in did (control_of p) (after did (control_of p))) h k → ComesWith p (with_event did p) h k
@@ -109,6 +110,7 @@ close_keeps c d o h k rows is_open gone = record {
   holds = λ i stays. other i stays.way {Q = λ n. k.holds n ≡ h.holds n} (λ n ne. (gone.others n ne).0);
   kinds = λ i stays. other i stays.way {Q = λ n. k.kind n ≡ h.kind n} (λ n ne. (gone.others n ne).1.1);
   had = λ i has. before i has (cases_eq i o);
+  reaped = λ i between taken lives. absurd (clash _ (subst (λ (s : Rows). is_between (obj s i) ≡ true) (sym rows) (stays_between c o is_open i between)) taken);
 }
   where
     before : (i : ℕ) → k.holds i ≡ true → (i ≡ o) ⊎ (i ≡ o → ⊥) → ((h.holds i ≡ true) × (k.kind i ≡ h.kind i)) ⊎ IsReaped (obj c.rows i) (obj d.rows i) (k.kind i)

@@ -59,6 +59,7 @@ use Rattle.ctl_history.proofs.CarryLemmas.{brings_none, no_reap, taken_carried, 
 use Rattle.ctl_history.proofs.PlaneLemmas.{carried_last, plane_more, unplugged_made}
 use Rattle.ctl_history.proofs.PlaneDoneLemmas.{word_makes}
 use Rattle.ctl_history.proofs.DoneLemmas.{taken_hears}
+use Rattle.ctl_history.proofs.OnWayLemmas.{brought_own}
 use Rattle.ctl_strikes.proofs.FindLemmas.{turns_at, end_of_no_root}
 use Rattle.control_bounds.proofs.RoomLemmas.{goes_room}
 use Rattle.control_moves.specs.Move.{LinkMoves}
@@ -195,8 +196,12 @@ module _ {N O I S : Type 0} (out_name : O → N) (in_name : I → N) (s mid : St
       ]
 
   -- and so the reaper may take them over
-  pub take_first : (may : List (Given N O I) → Type 0) → (slot.0 ≡ 0 → MayTakeFirst may (given_in s.boxes)) → brings_ends command.letter.word ≡ true → may (given_by command.load)
-  take_first may takes brings = takes (reap_in_roots brings) (given_by command.load) (given_in mid.boxes) taken_first
+  pub take_first : (may : ℕ → List (Given N O I) → Type 0) → (slot.0 ≡ 0 → MayTakeFirst may (control_of p) (given_in s.boxes)) → (o : ObjId) → command.letter.word ≡ Reap o → may o.0 (given_by command.load)
+  take_first may takes o is =
+      takes (reap_in_roots (ap brings_ends is)) o.0 (given_by command.load) (given_in mid.boxes) taken_first
+      (brought_own out_name in_name (control_of p) (name_of (items_of p)) o.0 command.load
+      (subst (λ (w : Word). Carries out_name in_name (name_of (items_of p)) w command.load) is carried_first.carries)
+      (subst (λ (w : Word). ReapsAll (control_of p) w command.load) is carried_first.reaps))
 
   reaps_taken : (h : Holding N) (socket : ObjId) → IsReaped out_name in_name (name_of (items_of p)) (control_of p) mid h socket.0 command.load → IsReaped out_name in_name (name_of (items_of p)) (without_front slot.0 (control_of p)) mid h socket.0 command.load
   reaps_taken h socket t = record {

@@ -26,6 +26,7 @@ mod HeldPlaneLemmas
 mod ToldLemmas
 mod GiveLemmas
 mod OnWayLemmas
+pub mod StillLemmas
 pub mod FulfilEventLemmas
 pub mod FulfilPlaneLemmas
 pub mod FulfillingLemmas

@@ -19,7 +19,7 @@ use Rattle.ctl_holder.specs.declared.given.Parting.{Parting}
 use Rattle.ctl_holder.specs.declared.load.Load.{Load}
 use Rattle.ctl_holder.specs.declared.load.Load.TheVariants.{Halves, Writer, Ends}
 use Rattle.ctl_holder.specs.Holding.{given_as}
-use Rattle.ctl_holder.specs.Load.{AreEndsOfClosed, Carries, ComeToReaper, IsNamed, ReapsAll, given_by}
+use Rattle.ctl_holder.specs.Load.{AreEndsOfClosed, BringsAll, BringsEnds, Carries, ComeToReaper, IsNamed, ReapsAll, given_by}
 use Rattle.ctl_state.specs.declared.command.Command.{Command}
 use Rattle.ctl_state.specs.Boxes.{mail_at}
 use Rattle.mailbox.specs.Mail.{Mail}
@@ -77,6 +77,13 @@ module _ {N O I : Type 0} (out_name : O → N) (in_name : I → N) (c : Control)
           writes = come.all.writers k g lt;
           between = ap (λ (o : ℕ). is_between (obj c.rows o)) is.owner ∙ come.between;
         }
+
+  -- what a Reap brings is its socket's
+  pub brought_own : (socket : ℕ) (load : Option (Load N O I)) → BringsEnds out_name in_name names load → BringsAll c socket load → All (λ g. owner_of c g.end ≡ socket) (given_by load)
+  brought_own socket None brings all = absurd brings
+  brought_own socket (Some (Halves h)) brings all = absurd brings
+  brought_own socket (Some (Writer o)) brings all = absurd brings
+  brought_own socket (Some (Ends p)) brings all = λ k g lt. (there socket p brings all k g lt).owner
 
   -- what one command brings
   brought : (word : Word) (load : Option (Load N O I)) → Carries out_name in_name names word load → ReapsAll c word load → AreOnTheirWay in_name c names (given_by load)

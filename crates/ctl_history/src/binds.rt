@@ -19,7 +19,7 @@ use crate::history::History;
 use crate::joining::{name_of, with_notes};
 use ctl_asks::binding_by;
 use ctl_hears::silent;
-use ctl_holder::{Holder, Load};
+use ctl_holder::{Load, Undoes};
 use ctl_joins::Notes;
 use ctl_state::{RoomList, State};
 use msg_pipe::Pipes;
@@ -29,7 +29,7 @@ use zq_base::{Endpoint, ObjId, Octets};
 
 // A socket gets a name that nobody holds, and all connects that wait for it are fulfilled, with room
 // for the events that it brings: its entry, and eight of what comes of each pair.
-fn bind_with_room<P: Pipes, H: Holder<P>, D>(
+fn bind_with_room<P: Pipes, H: Undoes<P>, D>(
     state: &mut State<Load<P::Name, P::Out, P::In>>,
     events: &mut RoomList<D>,
     alloc: Global,
@@ -42,7 +42,6 @@ fn bind_with_room<P: Pipes, H: Holder<P>, D>(
 where
     P::Name: Drop,
     requires copy { copy ≡ at.now }
-    requires undoes { H.undoes ≡ true }
     requires may { MayFulfilAll state.old (H.holding holder.old) socket at.now
         (length wakers.now) }
     requires calm { H.calm holder.old [] }
@@ -86,7 +85,7 @@ where
     /// The holder may make each of the pairs' ends, with pipes that hold what the marks of the two
     /// sockets say. There is a waker for each mailbox, by its number. It costs two look-ups, a walk over the
     /// connects that wait for this name, and copies of the name and of two identities for each pair.
-    pub fn bind<H: Holder<P>>(
+    pub fn bind<H: Undoes<P>>(
         &mut self,
         alloc: Global,
         socket: ObjId,
@@ -94,7 +93,6 @@ where
         holder: &mut H,
         wakers: &[P::Waker],
     ) -> Result<Reply, AllocError>
-        requires undoes { H.undoes ≡ true }
         requires lends { Lends (control_of self.old) socket.0 (H.holding holder.old) }
         requires wakers { (control_of self.old).slots ≤ length wakers.now }
         requires has { HasWhat self.old (H.holding holder.old) }
@@ -124,7 +122,7 @@ where
     }
 
     // Binds a socket to a name, where that is not refused.
-    fn bind_now<H: Holder<P>>(
+    fn bind_now<H: Undoes<P>>(
         &mut self,
         alloc: Global,
         socket: ObjId,
@@ -134,7 +132,6 @@ where
     ) -> Result<Reply, AllocError>
         requires free { refusal_in (reply_of (control_of self.old) (Bind socket (Inproc name)))
             ≡ None }
-        requires undoes { H.undoes ≡ true }
         requires lends { Lends (control_of self.old) socket.0 (H.holding holder.old) }
         requires wakers { (control_of self.old).slots ≤ length wakers.now }
         requires has { HasWhat self.old (H.holding holder.old) }

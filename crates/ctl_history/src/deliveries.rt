@@ -49,7 +49,8 @@ where
             (λ h. (e : EndId) → H.fits holder.old e h) }
         requires reaps { slot.0 ≡ 0 → H.reaps ≡ true }
         requires free { slot.0 ≡ 0 → AreFree (control_of self.old) (H.holding holder.old) }
-        requires takes { slot.0 ≡ 0 → MayTakeFirst (H.may_take holder.old) self.old.given }
+        requires takes { slot.0 ≡ 0 → MayTakeFirst (H.may_take holder.old)
+            (control_of self.old) self.old.given }
         requires distinct { slot.0 ≡ 0 → AreDistinct P.known.exact (name_of (items_of self.old)) }
         requires calm { H.calm holder.old [] }
         ensures ok { IfOk result (λ found.

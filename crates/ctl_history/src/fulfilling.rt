@@ -3,7 +3,7 @@ ghost use Rattle.ctl_binds.specs.Drawing.{IsBack, MayMakeAll};
 ghost use Rattle.ctl_history.specs.Fulfilling.{Fulfils, MayFulfil};
 
 use ctl_binds::{Batch, draw_all, join_all, undraw_all};
-use ctl_holder::{Holder, Load};
+use ctl_holder::{Load, Undoes};
 use ctl_joins::Notes;
 use ctl_state::State;
 use ctl_strikes::take_name;
@@ -14,7 +14,7 @@ use zq_base::{Endpoint, ObjId};
 /// A socket gets an endpoint that nobody holds, of which this is a copy, and a pair is made with each
 /// of these sockets, whose connects wait for it, in this order. Where memory wants, all is undone,
 /// last first.
-pub(crate) fn fulfil_all<P: Pipes, H: Holder<P>>(
+pub(crate) fn fulfil_all<P: Pipes, H: Undoes<P>>(
     state: &mut State<Load<P::Name, P::Out, P::In>>,
     alloc: Global,
     holder: &mut H,
@@ -27,7 +27,6 @@ pub(crate) fn fulfil_all<P: Pipes, H: Holder<P>>(
 where
     P::Name: Drop,
     requires copy { copy ≡ at.now }
-    requires undoes { H.undoes ≡ true }
     requires may { MayFulfil state.old (H.holding holder.old) socket at.now waiters.now
         (length wakers.now) }
     requires calm { H.calm holder.old [] }

@@ -54,3 +54,5 @@ pub record KeepsObjects {N : Type 0} (before now : Control) (old new : Holding N
   pub holds : (i : ℕ) → StaysHad (obj before.rows i) (obj now.rows i) → new.holds i ≡ old.holds i
   pub kinds : (i : ℕ) → StaysHad (obj before.rows i) (obj now.rows i) → new.kind i ≡ old.kind i
   pub had : (i : ℕ) → new.holds i ≡ true → ((old.holds i ≡ true) × (new.kind i ≡ old.kind i)) ⊎ IsReaped (obj before.rows i) (obj now.rows i) (new.kind i)
+  -- what came with its Reap and lives is held
+  pub reaped : (i : ℕ) → is_between (obj before.rows i) ≡ true → is_between (obj now.rows i) ≡ false → has_ended (obj now.rows i).stage ≡ false → new.holds i ≡ true

@@ -2,6 +2,7 @@
 use Rattle.std.specs.Prelude.{◌≡◌, ◌≢◌, ◌++◌, ℕ, Bool, true, false, List, [], ◌∷◌, Option, Some, All}
 use Rattle.zq_base.specs.declared.ids.EndId.{EndId}
 use Rattle.msg_pipe.specs.Known.{Known, IsThere}
+use Rattle.spec_control.specs.Control.{Control, owner_of}
 use Rattle.control_held.specs.Held.{Held}
 use Rattle.ctl_holder.specs.declared.given.Given.{Given}
 use Rattle.ctl_holder.specs.Holding.{Holding}
@@ -18,9 +19,9 @@ module _ {S O I N : Type 0} (K : Known S O I N) where
   abbrev pub AreGivenWith : S → List (Given N O I) → Type 0
   AreGivenWith pipes gs = All (IsGivenWith pipes) gs
 
--- a holder may take over the first of these, however many they are
-abbrev pub MayTakeFirst : {G : Type 0} → (may : List G → Type 0) → List G → Type 0
-MayTakeFirst {G = G} may gs = (ends rest : List G) → gs ≡ ends ++ rest → may ends
+-- a holder may take over the first of these, however many they are, where they are of one socket
+abbrev pub MayTakeFirst : {N O I : Type 0} → (may : ℕ → List (Given N O I) → Type 0) → Control → List (Given N O I) → Type 0
+MayTakeFirst {N = N} {O = O} {I = I} may c gs = (o : ℕ) (ends rest : List (Given N O I)) → gs ≡ ends ++ rest → All (λ g. owner_of c g.end ≡ o) ends → may o ends
 
 module _ {N : Type 0} where
   -- each pipe has a name of its own, wherever names tell pipes apart; a pipe is known by the end that writes it

@@ -15,7 +15,7 @@ use zq_base::{Address, Attached, EndId, Kind, ObjId, Octets, Options, Settled};
 pub trait Holder<P: Pipes> {
     ghost use Rattle.ctl_holder.specs.Holding.{Holding, IsCapacity, MayRefuse, has_end, written_in};
     ghost use Rattle.ctl_holder.specs.Holding.{read_in, Stays, Joined, Left, Yielded, HasGiven};
-    ghost use Rattle.ctl_holder.specs.Holding.{IsTold, IsPlugged, IsLast, NoneWrites, held_with, AreCrossed};
+    ghost use Rattle.ctl_holder.specs.Holding.{IsTold, IsPlugged, NoneWrites, held_with, AreCrossed};
     ghost use Rattle.ctl_holder.specs.Holding.{held_given, held_optional};
     ghost use Rattle.ctl_holder.specs.Holding.{AllSealed, AllTold, AllWriting, AreAtDelimiter, AreGivenAs};
     ghost use Rattle.ctl_holder.specs.TakingOver.{AreGivenWith, ComeApart};
@@ -23,7 +23,7 @@ pub trait Holder<P: Pipes> {
     ghost use Rattle.ctl_holder.specs.Holding.{writes_in};
     ghost use Rattle.zq_base.specs.declared.ids.EndId.{EndId};
     ghost use Rattle.ctl_holder.specs.Holding.{KeepsTurns, BeginsActive, Begins, TurnsTo, Seals, AllStated};
-    ghost use Rattle.ctl_holder.specs.Holding.{BeginsNone, HasNowhere, JoinsBy, TakesBack, joining_with};
+    ghost use Rattle.ctl_holder.specs.Holding.{HasNowhere, JoinsBy, joining_with};
     ghost use Rattle.ctl_holder.specs.Lent.{has_writer};
     ghost use Rattle.spec_control.specs.Place.{At};
     ghost use Rattle.ctl_holder.specs.Holding.{states_optional, states_given};
@@ -61,12 +61,9 @@ pub trait Holder<P: Pipes> {
     /// Whether it has sockets, whose ends it gives away when they are closed.
     ghost gives: { Bool };
 
-    /// Ends that a closed socket gave and that it may take in: it has room for them, and their halves
-    /// are those of its pipes.
-    ghost may_take: { Self → List (Given P.Name P.Out P.In) → Type 0 };
-
-    /// Whether an attach may be undone.
-    ghost undoes: { Bool };
+    /// Ends that the closed socket of this number gave and that it may take in: it has room for them,
+    /// and their halves are those of its pipes.
+    ghost may_take: { Self → ℕ → List (Given P.Name P.Out P.In) → Type 0 };
 
     /// It is lent for an event in which no end was turned yet, and these joined, the last first.
     ghost calm: { Self → List EndId → Type 0 };
@@ -125,22 +122,6 @@ pub trait Holder<P: Pipes> {
             calm self.old came → calm self.new (end ∷ came)) }
         ensures still { OnErr result ((came : List EndId) →
             calm self.old came → calm self.new came) };
-
-    /// Undoes the last attach that still stands.
-    fn take_back(&mut self, o: ObjId, end: EndId) -> Halves<P::Out, P::In>
-        requires undoes { undoes ≡ true }
-        requires last { IsLast end ((holding self.old).ends o.0) }
-        requires writer { (holding self.old).writes end ≡ true }
-        requires calm { (came : List EndId) × calm self.old (end ∷ came) }
-        ensures left { Left o.0 end (holding self.old) (holding self.new) }
-        ensures written { written_in ((holding self.old).ends o.0) end
-            ≡ Some (P.known.out_name result.out) }
-        ensures read { read_in ((holding self.old).ends o.0) end
-            ≡ Some (P.known.in_name result.input) }
-        ensures turns { BeginsNone (holding self.old) (holding self.new) }
-        ensures joins { TakesBack (holding self.old) (holding self.new) }
-        ensures heard { HearsNone (holding self.old) (holding self.new) }
-        ensures calm { (came : List EndId) → calm self.old (end ∷ came) → calm self.new came };
 
     /// An end goes to a state of its life.
     fn set_state(&mut self, o: ObjId, end: EndId, state: EndState)
@@ -258,7 +239,7 @@ pub trait Holder<P: Pipes> {
     /// join nothing now. It needs no memory.
     fn take_ends(&mut self, o: ObjId, ends: Vec<Given<P::Name, P::Out, P::In>>)
         requires new { (holding self.old).holds o.0 ≡ false }
-        requires may { may_take self.old ends.items }
+        requires may { may_take self.old o.0 ends.items }
         requires apart { ComeApart P.known.exact
             (map (held_given P.known.out_name P.known.in_name) ends.items) (holding self.old) }
         ensures all { reaps ≡ true → IsPlugged o.0
@@ -271,4 +252,27 @@ pub trait Holder<P: Pipes> {
         ensures writing { reaps ≡ true → (e : EndId) → (holding self.new).writes e
             ≡ writes_in ends.items e ((holding self.old).writes e) }
         ensures heard { HearsNone (holding self.old) (holding self.new) };
+}
+
+/// A holder that takes attaches back, as a bind does that wants memory.
+pub trait Undoes<P: Pipes>: Holder<P> {
+    ghost use Rattle.ctl_holder.specs.Holding.{BeginsNone, HearsNone, IsLast, Left, TakesBack};
+    ghost use Rattle.ctl_holder.specs.Holding.{read_in, written_in};
+    ghost use Rattle.zq_base.specs.declared.ids.EndId.{EndId};
+    ghost use Rattle.std.specs.Prelude.{List};
+
+    /// Undoes the last attach that still stands.
+    fn take_back(&mut self, o: ObjId, end: EndId) -> Halves<P::Out, P::In>
+        requires last { IsLast end ((Self.holding self.old).ends o.0) }
+        requires writer { (Self.holding self.old).writes end ≡ true }
+        requires calm { (came : List EndId) × Self.calm self.old (end ∷ came) }
+        ensures left { Left o.0 end (Self.holding self.old) (Self.holding self.new) }
+        ensures written { written_in ((Self.holding self.old).ends o.0) end
+            ≡ Some (P.known.out_name result.out) }
+        ensures read { read_in ((Self.holding self.old).ends o.0) end
+            ≡ Some (P.known.in_name result.input) }
+        ensures turns { BeginsNone (Self.holding self.old) (Self.holding self.new) }
+        ensures joins { TakesBack (Self.holding self.old) (Self.holding self.new) }
+        ensures heard { HearsNone (Self.holding self.old) (Self.holding self.new) }
+        ensures calm { (came : List EndId) → Self.calm self.old (end ∷ came) → Self.calm self.new came };
 }

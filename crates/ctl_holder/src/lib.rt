@@ -10,7 +10,7 @@ mod notice;
 
 pub use given::{Given, Parting};
 pub use halves::{Halves, NamedHalves};
-pub use holder::Holder;
+pub use holder::{Holder, Undoes};
 pub use load::Load;
 pub use made::Made;
 pub use notice::Notice;

@@ -4,7 +4,7 @@ ghost use Rattle.zq_base.specs.declared.ids.EndId.{EndId};
 ghost use Rattle.ctl_holder.specs.declared.given.Given.{Given};
 
 use crate::delivery::Delivery;
-use ctl_holder::Holder;
+use ctl_holder::{Holder, Undoes};
 use msg_pipe::Pipes;
 use spec_control::{Reply, Req, SeenEmpty, Sight};
 use std::alloc::{AllocError, Global};
@@ -65,7 +65,7 @@ pub trait Desk<P: Pipes> {
         ensures { result.0 ≡ (obj (left_after object.0 (moments self.now)).rows object.0).slot };
 
     /// Makes a request, of whose pipes the holder may make each. Want of memory leaves all as it was.
-    fn request<H: Holder<P>>(
+    fn request<H: Undoes<P>>(
         &mut self,
         alloc: Global,
         request: Req,
@@ -73,7 +73,6 @@ pub trait Desk<P: Pipes> {
     ) -> Result<Reply, AllocError>
         requires may { MayAskOwn (items_in (moments self.old)) request }
         requires gives { is_close request ≡ true → H.gives ≡ true }
-        requires undoes { H.undoes ≡ true }
         requires options { HasMarks request }
         requires sockets { serves ≡ false → IsOfSockets request }
         requires lent { (i : ℕ) → asker request ≡ Some i → (H.holding holder.old).holds i ≡ true }
@@ -139,7 +138,8 @@ pub trait Desk<P: Pipes> {
         requires fits { (m i : ℕ) → served self.old m i ≡ true →
             BindsFit P.known.out_name P.known.in_name (named self.old) (coming self.old m)
             (λ h. (e : EndId) → H.fits holder.old e h) }
-        requires takes { MayTakeFirst (H.may_take holder.old) (given self.old) }
+        requires takes { (c : Control) → finds self.old c →
+            MayTakeFirst (H.may_take holder.old) c (given self.old) }
         requires calm { H.calm holder.old [] }
         ensures ok { IfOk result (λ found.
             ReapsOrNot (number self.old) found (moments self.old) (moments self.new)) }

@@ -3,7 +3,7 @@ use Rattle.std.specs.Prelude.{◌≡◌, ◌≢◌, ◌<◌, ◌==◌, ◌&&◌,
 use Rattle.std.specs.List.{list_any}
 use Rattle.std.proofs.Common.{sym, ap, ◌∙◌, subst, inl, inr}
 use Rattle.std.proofs.lemmas.Bool.{cases_eq, eqb-true}
-use Rattle.std.proofs.lemmas.List.{append-nil, get_or-set_same}
+use Rattle.std.proofs.lemmas.List.{append-nil, get_or-set_same, get_or-set_other}
 use Rattle.std.proofs.lemmas.List.Elements.{All-nil, All-cons, All-head, All-tail, All-weaker, All-map, All-filter, filter_passes}
 use Rattle.zq_base.specs.declared.ids.EndId.{EndId}
 use Rattle.zq_base.specs.declared.ids.ObjId.{ObjId}
@@ -211,6 +211,7 @@ module _ {N O I : Type 0} (out_name : O → N) (in_name : I → N) (s : State (L
       holds = λ i stays. other i stays.way {Q = λ n. k.holds n ≡ h.holds n} (λ n ne. (plugged.others n ne).0);
       kinds = λ i stays. other i stays.way {Q = λ n. k.kind n ≡ h.kind n} (λ n ne. (plugged.others n ne).1.1);
       had = λ i has. before i has;
+      reaped = λ i between taken lives. here i between taken (cases_eq i socket.0);
     }
       where
         was : Row
@@ -239,6 +240,10 @@ module _ {N O I : Type 0} (out_name : O → N) (in_name : I → N) (s : State (L
               })
               | inr ne ↦ inl (sym (plugged.others i ne).0 ∙ has, (plugged.others i ne).1.1)
             ]
+
+        here : (i : ℕ) → is_between (obj w.control.rows i) ≡ true → is_between (obj (put socket.0 Term (link ReapComes socket.0 w.control)).rows i) ≡ false → (i ≡ socket.0) ⊎ (i ≡ socket.0 → ⊥) → k.holds i ≡ true
+        here i between taken (inl same) = ap k.holds same ∙ plugged.here
+        here i between taken (inr ne) = absurd (never (sym taken ∙ ap is_between (get_or-set_other w.control.rows.objects socket.0 i (link_after ReapComes was) nobody ne) ∙ between))
 
         other : (i : ℕ) → is_between (obj (put socket.0 Term (link ReapComes socket.0 w.control)).rows i) ≡ is_between (obj w.control.rows i) →
             {Q : ℕ → Type 0} → ((n : ℕ) → n ≢ socket.0 → Q n) → Q i

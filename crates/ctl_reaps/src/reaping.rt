@@ -22,7 +22,7 @@ where
     requires may { MayReap P.known.out_name P.known.in_name
         state.old (H.holding holder.old) socket.0 parting }
     requires reaps { H.reaps ≡ true }
-    requires takes { H.may_take holder.old parting.ends.items }
+    requires takes { H.may_take holder.old socket.0 parting.ends.items }
     requires apart { ComeApart P.known.exact
         (map (held_given P.known.out_name P.known.in_name) parting.ends.items)
         (H.holding holder.old) }

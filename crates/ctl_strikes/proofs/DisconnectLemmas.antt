@@ -68,7 +68,7 @@ module _ (i : ℕ) (e : EndId) (c : Control) where
       either_free (is_away (place_of c e)) c (struck_now e c) (if owner_of c e == i then ask Closed false e c else c) (λ x. stays c (struck_now e c) refl refl)
       (λ x. either_free (owner_of c e == i) c (ask Closed false e c) c (λ y. ask_goes Closed false e c) (λ y. stays c c refl refl))
 
-  objects_same : (strike_end i e c).rows.objects ≡ c.rows.objects
+  pub objects_same : (strike_end i e c).rows.objects ≡ c.rows.objects
   objects_same = by (is_away (place_of c e)) (owner_of c e == i)
     where
       by : (a m : Bool) → (if a then struck_now e c else (if m then ask Closed false e c else c)).rows.objects ≡ c.rows.objects

@@ -9,9 +9,10 @@ use Rattle.spec_control.specs.Stage.{has_ended, is_ending, is_told}
 use Rattle.spec_control.specs.Row.{Row, nobody}
 use Rattle.spec_control.specs.Rows.{may_end, obj, with_object}
 use Rattle.spec_control.specs.Control.{Control, finish, id, tell_owner, try_end, with_value}
-use Rattle.control_rows.proofs.ListLemmas.{never, left, placed}
+use Rattle.control_rows.proofs.ListLemmas.{never, left, placed, clash}
 use Rattle.ctl_holder.specs.Holding.{Holding, IsTold}
 use Rattle.ctl_holder.specs.Joins.{KeepsObjects}
+use Rattle.ctl_terms.proofs.BetweenLemmas.{StayBetween}
 
 -- an object that was told, or whose child has ended, has not
 pub told_lives : (t : Stage) (b : Bool) → (is_told t && b) ≡ true → has_ended t ≡ false
@@ -55,16 +56,22 @@ ended_now i c may_it =
 
 module _ {N : Type 0} (was now : Control) where
   -- nothing was told of any
-  pub all_kept : (h k : Holding N) → ((i : ℕ) → k.holds i ≡ h.holds i) → ((i : ℕ) → k.kind i ≡ h.kind i) → KeepsObjects was now h k
-  all_kept h k holds kinds = record { holds = λ i stays. holds i; kinds = λ i stays. kinds i; had = λ i has. inl (sym (holds i) ∙ has, kinds i) }
+  pub all_kept : (h k : Holding N) → ((i : ℕ) → k.holds i ≡ h.holds i) → ((i : ℕ) → k.kind i ≡ h.kind i) → StayBetween was.rows now.rows → KeepsObjects was now h k
+  all_kept h k holds kinds still = record {
+    holds = λ i stays. holds i;
+    kinds = λ i stays. kinds i;
+    had = λ i has. inl (sym (holds i) ∙ has, kinds i);
+    reaped = λ i between taken lives. absurd (clash _ (still i between) taken);
+  }
 
   -- the holder was told of one, and let it go only if it ended
   pub told_kept : (o : ℕ) (ended : Bool) (h k l : Holding N) → ((i : ℕ) → k.holds i ≡ h.holds i) → ((i : ℕ) → k.kind i ≡ h.kind i) → IsTold o k l → (o ≡ 0 → l ≡ k) → (o ≢ 0 → h.holds o ≡ true) → (ended ≡ false → l.holds o ≡ k.holds o) →
-      has_ended (obj was.rows o).stage ≡ false → (ended ≡ true → has_ended (obj now.rows o).stage ≡ true) → KeepsObjects was now h l
-  told_kept o ended h k l holds kinds told root lent kept lived ends = record {
+      has_ended (obj was.rows o).stage ≡ false → (ended ≡ true → has_ended (obj now.rows o).stage ≡ true) → StayBetween was.rows now.rows → KeepsObjects was now h l
+  told_kept o ended h k l holds kinds told root lent kept lived ends still = record {
     holds = λ i stays. here i stays.ended (cases_eq i o);
     kinds = λ i stays. told.kinds i ∙ kinds i;
     had = λ i has. inl (had i has (cases_eq i o), told.kinds i ∙ kinds i);
+    reaped = λ i between taken lives. absurd (clash _ (still i between) taken);
   }
     where
       had : (i : ℕ) → l.holds i ≡ true → (i ≡ o) ⊎ (i ≡ o → ⊥) → h.holds i ≡ true

@@ -19,7 +19,7 @@ use Rattle.spec_control.specs.After.{owner_or_root, term_reason, term_delay}
 use Rattle.control_rows.proofs.ListLemmas.{never, left, clash, placed}
 use Rattle.control_laws.proofs.AskLemmas.{ask_all_leaves}
 use Rattle.control_moves.specs.Move.{LinkMoves, MovesTo}
-use Rattle.control_moves.proofs.GoLemmas.{goes_and_free, one, ask_all_goes, tell_children_goes}
+use Rattle.control_moves.proofs.GoLemmas.{goes_and_free, one, ask_all_goes, tell_children_goes, try_end_goes}
 use Rattle.control_moves.proofs.SoundLemmas.{link_there}
 use Rattle.control_bounds.specs.Room.{up_to_come, row_to_come, for_slot, slots_of, to_come}
 use Rattle.control_others.proofs.StayLemmas.{SameEnds, ends_on, children_told as children_stay, tried}
@@ -49,6 +49,7 @@ use Rattle.ctl_terms.specs.Terming.{names_left, ends_asked, children_told, MayTe
 use Rattle.ctl_terms.proofs.AskLemmas.{room_led}
 use Rattle.ctl_terms.proofs.AskedLemmas.{asks_over}
 use Rattle.ctl_terms.proofs.HeardLemmas.{end_between}
+use Rattle.ctl_terms.proofs.BetweenLemmas.{goes_between}
 use Rattle.ctl_terms.proofs.KeepLemmas.{ended_now, told_kept, told_lives}
 use Rattle.ctl_terms.proofs.HolderLemmas.{has_same, has_told, bare_loaded, ended_has_none}
 
@@ -230,7 +231,8 @@ module _ {N O I : Type 0} (out_name : O → N) (in_name : I → N) (s : State (L
         lists = ends.lists ∙ tells.lists ∙ lists;
         turned = λ once. turns_kept (turned_in w.control last) h k l (subst (λ (ts : List (EndId × EndState)). TurnsBy ts h k) (sym (they_are once)) asked) is_told.turns;
         joined = is_told.turns.joined ∙ joined;
-        objects = told_kept w.control last at.0 ended h k l holds kinds is_told root w.lent kept (told_lives (obj w.control.rows at.0).stage _ w.comes) (λ is. ended_now at.0 (children_told at.0 w.control) (gone is));
+        objects = told_kept w.control last at.0 ended h k l holds kinds is_told root w.lent kept (told_lives (obj w.control.rows at.0).stage _ w.comes) (λ is. ended_now at.0 (children_told at.0 w.control) (gone is))
+            (goes_between (LinkMoves at.0 TermComes ∷ []) w.control last (goes_and_free (LinkMoves at.0 TermComes ∷ []) w.control (children_told at.0 w.control) last told_goes (try_end_goes at.0 false (children_told at.0 w.control))) refl);
       }
         where
           last : Control

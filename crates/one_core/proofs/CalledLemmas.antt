@@ -5,8 +5,9 @@ use Rattle.std.proofs.lemmas.List.Elements.{All-append, All-weaker}
 use Rattle.zq_base.specs.Ends.{PipeId}
 use Rattle.spec_pattern.specs.declared.answers.Skip.{Skip}
 use Rattle.spec_control.specs.Control.{Control, begun, id, next_pair}
+use Rattle.spec_control.specs.ControlRun.{after_all}
 use Rattle.spec_control.specs.Names.{name_of}
-use Rattle.control_held.specs.Moments.{Moment, moments_by, moments_from}
+use Rattle.control_held.specs.Moments.{Moment, items_in, moments_by, moments_from}
 use Rattle.spec_run.specs.Act.{Act, moments_in}
 use Rattle.msg_pipe.specs.Known.{Known}
 use Rattle.ctl_holder.specs.declared.given.Given.{Given}
@@ -19,7 +20,7 @@ use Rattle.script_actor.specs.Piece.{Piece, piece_of, AddsActs}
 use Rattle.script_actor.specs.Way.{KeepsOthers}
 use Rattle.core_tale.specs.Marks.{piece_marks}
 use Rattle.open_laws.specs.Bounds.{TellIdentities}
-use Rattle.zq_world.specs.CoreCalls.{IsOnlyReaper}
+use Rattle.zq_world.specs.CoreCalls.{IsOnlyReaper, OnlyReaps}
 use Rattle.reaper_ends.specs.declared.sockets.ClosedSockets.{ClosedSockets}
 use Rattle.reaper_ends.specs.Has.{all_ends, holding_in}
 use Rattle.past_laws.specs.Asked.{WereAsked}
@@ -31,10 +32,13 @@ use Rattle.lent_sock.specs.Leaving.{NamesStandIn}
 use Rattle.lent_sock.specs.Owned.{LentParts}
 use Rattle.core_others.specs.Calls.{for_caller, AreCallsOn}
 use Rattle.core_others.specs.Rest.{LeavesRest}
+use Rattle.core_others.proofs.GrownLemmas.{calls_are}
 use Rattle.core_others.proofs.SilentLemmas.{one_order_of}
 use Rattle.core_calls.specs.Done.{ActsDone}
 use Rattle.core_calls.specs.Told.{IsToldSo}
 use Rattle.core_calls.specs.Reaper.{IsEndElse}
+use Rattle.reap_keeps.proofs.TakenLemmas.{keeps_taken}
+use Rattle.reap_keeps.proofs.UnsealedLemmas.{keeps_unsealed}
 use Rattle.ctl_history.specs.Giving.{AreOnTheirWay}
 use Rattle.one_core.specs.Agreeing.{as_open, was_made, Agrees, IsAgreed}
 use Rattle.one_core.specs.CallLaws.{CallLaws}
@@ -43,6 +47,7 @@ use Rattle.one_core.specs.Leaving.{moments_at}
 use Rattle.one_core.specs.Sound.{Core, pieces_in, HasClosed, IsCore}
 use Rattle.one_core.proofs.OthersLemmas.{control_one, others_kept}
 use Rattle.one_core.proofs.SoundLemmas.{first_only, more_only}
+use Rattle.one_core.proofs.TakenLemmas.{apart_still, items_back}
 
 -- with one I/O worker, a caller's moments
 moments_one : {G N T : Type 0} (d : Lent G N T) → d.past.workers ≡ 1 → (j : ℕ) → moments_at j d ≡ moments_of (for_caller j d)
@@ -95,17 +100,6 @@ module _ (W : Type 0) {S N O I T : Type 0} (K : Known S O I N) (laws : CallLaws 
   pub adds : AddsActs k acts skips (pieces_in v) (pieces_in w)
   adds = so.adds
 
-  pub core_called : TellIdentities w.desk.items → IsCore K w
-  core_called tells = record {
-    one = so.tale.one;
-    all = so.tale.all;
-    stands = so.tale.stands;
-    exact = is.exact;
-    distinct = named_now.distinct;
-    there = named_now.there;
-    identities = tells;
-  }
-
   pub rest : LeavesRest K s.number.0 (for_caller k v.desk) w.desk v.pipes w.pipes
   rest = record {
     calls = calls_on;
@@ -115,6 +109,25 @@ module _ (W : Type 0) {S N O I T : Type 0} (K : Known S O I N) (laws : CallLaws 
     named_now = named_now;
     rest = led.standing.rest order_old;
   }
+
+  pub core_called : TellIdentities w.desk.items → IsCore K w
+  core_called tells = record {
+    one = so.tale.one;
+    all = so.tale.all;
+    stands = so.tale.stands;
+    exact = is.exact;
+    distinct = named_now.distinct;
+    there = named_now.there;
+    identities = tells;
+    unsealed = (keeps_unsealed K T).calls s.number.0 (for_caller k v.desk) w.desk v.pipes w.pipes rest is.unsealed;
+  }
+
+  -- where there is no act, there is no item more
+  idle : acts ≡ [] → led.grows.more ≡ []
+  idle none =
+      sym (items_back led.grows.more (after_all v.desk.items (begun v.desk.past.workers)))
+      ∙ ap (λ (ms : List (Moment N T)). items_in ms) (sym (calls_are (for_caller k v.desk) w.desk s.number.0 calls_on))
+      ∙ ap (λ (xs : List (Act N T)). items_in (moments_in xs)) none
 
   pub others_called : (w.wanted ≡ false → v.wanted ≡ false) → KeepsOthers as_open (Agrees W K) was_made k s.number.0 v w
   others_called wanted =
@@ -167,4 +180,7 @@ module _ (W : Type 0) {S N O I T : Type 0} (K : Known S O I N) (laws : CallLaws 
       given_asked =
           subst (λ (gs : List (Given N O I)). AllAsked (control_of w.desk.past) gs) (sym sent)
           (All-append (λ (g : Given N O I). g.sealed ≡ true → WereAsked (control_of w.desk.past) (g.end ∷ [])) v.desk.past.given ends (asked_so v.desk.past.given has.given_asked) were_asked);
+      taken = (keeps_taken (Given N O I) N T).calls s.number.0 (for_caller k v.desk) w.desk calls_on agreed.agrees.owned.is_open (holding_in K.out_name K.in_name closed) has.taken;
+      apart = λ j only.
+          apart_still (for_caller k v.desk) w.desk order_old behind led.grows j (pieces_in v) skips acts idle (subst (λ (ps : List (Piece N T)). OnlyReaps j ps) adds.added only) (has.apart j);
     }

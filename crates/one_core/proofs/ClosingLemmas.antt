@@ -7,7 +7,7 @@ use Rattle.spec_control.specs.declared.entry.Item.TheVariants.{Event}
 use Rattle.spec_control.specs.declared.request.Req.TheVariants.{Close}
 use Rattle.spec_control.specs.declared.request.Reply.TheVariants.{Done}
 use Rattle.spec_control.specs.Control.{Control, begun, id}
-use Rattle.spec_control.specs.ControlRun.{after_all, after_item}
+use Rattle.spec_control.specs.ControlRun.{after_all}
 use Rattle.spec_control.specs.Names.{name_of}
 use Rattle.control_held.specs.Moments.{Moment, items_in, moments_from}
 use Rattle.spec_run.specs.Act.{moments_in}
@@ -35,12 +35,9 @@ use Rattle.one_core.specs.Calling.{lent_of, CallsOf, IsTold, TellsClose, SendsAs
 use Rattle.one_core.specs.Sound.{Core, core_of, pieces_in, IsSound}
 use Rattle.one_core.proofs.CalledLemmas as called
 use Rattle.one_core.proofs.SoundLemmas.{tells_more}
+use Rattle.one_core.proofs.TakenLemmas.{items_back}
 
 module _ {N T : Type 0} where
-  items_back : (items : List (Item N T)) (c : Control) → items_in (moments_from c items) ≡ items
-  items_back [] c = refl
-  items_back (x ∷ items) c = ap (λ (xs : List (Item N T)). x ∷ xs) (items_back items (after_item x c))
-
   said_alone : (m : Moment N T) → moments_in (acts_said m) ≡ m ∷ []
   said_alone m = ap moments_in (sym (append-nil (acts_said m))) ∙ moments_said m []
 

@@ -9,8 +9,12 @@ mod LendLemmas
 mod LentLemmas
 mod MakeLemmas
 mod MadeLemmas
+mod NewLemmas
 mod NextLemmas
+mod TakenLemmas
 mod OthersLemmas
+mod ReapTellLemmas
+mod ReapLemmas
 mod SentLemmas
 mod SmallLemmas
 mod SoundLemmas

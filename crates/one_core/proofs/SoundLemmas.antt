@@ -21,7 +21,6 @@ use Rattle.spec_run.specs.Act.{Act, Said}
 use Rattle.spec_run.specs.Event.{acts_said}
 use Rattle.spec_run.specs.OwnedRun.{pipe_capacity}
 use Rattle.script_actor.specs.Piece.{Piece, piece_of, AreActsBy}
-use Rattle.zq_world.specs.CoreCalls.{LooksOnce}
 use Rattle.zq_world.specs.Played.{IsOrderly}
 use Rattle.control_held.specs.Has.{AreBy}
 use Rattle.core_tale.specs.declared.marks.PieceMark.{PieceMark}
@@ -45,19 +44,24 @@ use Rattle.core_rows.proofs.TableLemmas.{tables_go_on}
 use Rattle.past_laws.specs.Asked.{WereAsked}
 use Rattle.one_core.proofs.AskedLemmas.{asked_still}
 use Rattle.ctl_plane.specs.Desk.{HasWhatTheySay}
-use Rattle.zq_world.specs.CoreCalls.{IsOnlyReaper}
+use Rattle.zq_world.specs.CoreCalls.{IsOnlyReaper, LooksOnce, OnlyReaps}
 use Rattle.reaper_ends.specs.declared.sockets.ClosedSockets.{ClosedSockets}
 use Rattle.reaper_ends.specs.Has.{all_ends, holding_in}
 use Rattle.reap_laws.specs.Sealed.{AllAsked}
+use Rattle.core_others.specs.Calls.{for_caller}
+use Rattle.reap_keeps.specs.Asides.{IsOneItem}
+use Rattle.reap_keeps.specs.Taken.{hears_none}
+use Rattle.reap_keeps.proofs.TakenLemmas.{grows_one, keeps_taken}
+use Rattle.reap_keeps.proofs.UnsealedLemmas.{keeps_unsealed}
 use Rattle.one_core.specs.Leaving.{moments_at, LeavesSockets}
 use Rattle.one_core.proofs.NextLemmas.{Next, last_fits, next_ask, next_look}
 use Rattle.one_core.proofs.LeaveLemmas.{look_leaves}
 use Rattle.one_core.proofs.SmallLemmas.{small_pipes}
+use Rattle.one_core.proofs.TakenLemmas.{apart_still, first_all, one_item}
 
 -- who is the only reaper of more calls is that of the first
 pub first_only : {N T : Type 0} (j : ℕ) (xs ys : List (Piece N T)) → IsOnlyReaper j (xs ++ ys) → IsOnlyReaper j xs
-first_only j [] ys only = tt
-first_only j (x ∷ xs) ys only = (only.0, first_only j xs ys only.1)
+first_only {N} {T} j xs ys = first_all (λ (x : Piece N T). x.reaps ≡ true → x.by ≡ j) xs ys
 
 -- and so is who is that of these calls, where a call more took no such letter
 pub more_only : {N T : Type 0} (j k : ℕ) (xs : List (Piece N T)) (acts : List (Act N T)) (skips : List Skip) → IsOnlyReaper j xs → IsOnlyReaper j (xs ++ piece_of k false acts skips)
@@ -121,8 +125,8 @@ module _ {S O I N T : Type 0} (K : Known S O I N) (asides : AsidesGoOn K T) (tal
     same_names : name_of d.items ≡ name_of v.desk.items
     same_names = ap name_of order ∙ names_more v.desk.items item left_aside.names
 
-    pub core_goes_on : TellIdentities (item ∷ []) → IsCore K (core_of d v.pipes marks v.wanted)
-    core_goes_on tells = record {
+    pub core_goes_on : TellIdentities (item ∷ []) → IsOneItem (for_caller k v.desk) (for_caller k d) item → IsCore K (core_of d v.pipes marks v.wanted)
+    core_goes_on tells adds = record {
       one = one;
       all = there.all;
       stands = there.stands;
@@ -130,9 +134,13 @@ module _ {S O I N T : Type 0} (K : Known S O I N) (asides : AsidesGoOn K T) (tal
       distinct = subst (λ (f : PipeId → Option N). AreDistinct K.exact f) (sym same_names) is.distinct;
       there = subst (λ (f : PipeId → Option N). (p : PipeId) (n : N) → f p ≡ Some n → IsThere K v.pipes n) (sym same_names) is.there;
       identities = subst TellIdentities (sym order) (tells_more v.desk.items item is.identities tells);
+      unsealed = (keeps_unsealed K T).aside (for_caller k v.desk) (for_caller k d) item (record { adds = adds; aside = left_aside }) v.pipes is.unsealed;
     }
 
-    module _ (closed : ClosedSockets N O I) (were : HasClosed K v closed) (leaves : LeavesSockets k v.desk d) where
+    some_act : acts_said m ≡ [] → ⊥
+    some_act none = let few : 1 ≡ 0 = ap (λ (acts : List (Act N T)). length acts) (sym (said_alone m left_aside.pairs) ∙ none) in omega (arith, few)
+
+    module _ (closed : ClosedSockets N O I) (were : HasClosed K v closed) (leaves : LeavesSockets k v.desk d) (adds : IsOneItem (for_caller k v.desk) (for_caller k d) item) (silent : hears_none item ≡ true) where
       reaps_still : (j : ℕ) → IsOnlyReaper j (pieces_told marks (moments_from (begun 1) d.items)) → HasWhatTheySay j (moments_at j d) (holding_in K.out_name K.in_name closed)
       reaps_still j only = by (k == j) refl
         where
@@ -164,6 +172,10 @@ module _ {S O I N T : Type 0} (K : Known S O I N) (asides : AsidesGoOn K T) (tal
         given = subst (λ (gs : List (Given N O I)). AreGivenWith K v.pipes gs) (sym leaves.given) were.given;
         asked = asked_yet (all_ends closed.sockets.items) were.asked;
         given_asked = subst (λ (gs : List (Given N O I)). AllAsked (control_of d.past) gs) (sym leaves.given) (asked_yet v.desk.past.given were.given_asked);
+        taken = (keeps_taken (Given N O I) N T).aside (for_caller k v.desk) (for_caller k d) item adds silent (holding_in K.out_name K.in_name closed) were.taken;
+        apart = λ j only.
+            apart_still (for_caller k v.desk) (for_caller k d) adds.before adds.behind (grows_one (for_caller k v.desk) (for_caller k d) item adds) j (pieces_in v) [] (acts_said m) (λ none. absurd (some_act none))
+            (subst (λ (ps : List (Piece N T)). OnlyReaps j ps) there.are only) (were.apart j);
       }
 
     drops_stay : (drops : List ℕ) → HasDrops v drops → HasDrops (core_of d v.pipes marks v.wanted) drops
@@ -187,11 +199,14 @@ module _ {S O I N T : Type 0} (K : Known S O I N) (asides : AsidesGoOn K T) (tal
     aside : FitsItem {N = N} {S = T} (after_all v.desk.items (begun 1)) (Seen sight) → IsAside v.desk.items (Seen sight)
     aside fits = looks v.desk.items sight
 
+    adds_look : IsOneItem (for_caller by v.desk) (for_caller by d) (Seen sight)
+    adds_look = one_item v.desk d was order by (Seen sight) is.one at.one at.order (sees.by ∙ ap (λ (l : Lent (Given N O I) N T). l.caller) is_lent)
+
     pub look_sound : (closed : ClosedSockets N O I) (drops : List ℕ) → HasClosed K v closed × HasDrops v drops → IsSound K (core_of d v.pipes marks v.wanted) closed drops
     look_sound closed drops were = (
-      core_goes_on K asides tales v (Seen sight) by is at.run aside d marks at.one at.order told tt,
+      core_goes_on K asides tales v (Seen sight) by is at.run aside d marks at.one at.order told tt adds_look,
       (
-        closed_goes_on K asides tales v (Seen sight) by is at.run aside d marks at.one at.order told closed were.0 (look_leaves v lent d by is.one is_lent was order keeps looks sight sees),
+        closed_goes_on K asides tales v (Seen sight) by is at.run aside d marks at.one at.order told closed were.0 (look_leaves v lent d by is.one is_lent was order keeps looks sight sees) adds_look refl,
         drops_stay K asides tales v (Seen sight) by is at.run aside d marks at.one at.order told drops were.1,
       ),
     )
@@ -215,11 +230,14 @@ module _ {S O I N T : Type 0} (K : Known S O I N) (asides : AsidesGoOn K T) (tal
     at_ask : Next v d asked
     at_ask = next_ask v lent d by is.one is_lent order req reply asks
 
+    adds_ask : IsOneItem (for_caller by v.desk) (for_caller by d) asked
+    adds_ask = one_item v.desk d was order by asked is.one at_ask.one at_ask.order (ap (λ (l : Lent (Given N O I) N T). l.caller) is_lent)
+
     pub ask_sound : TellsIdentity req → LeavesSockets by v.desk d → (closed : ClosedSockets N O I) (drops : List ℕ) → HasClosed K v closed × HasDrops v drops → IsSound K (core_of d v.pipes marks v.wanted) closed drops
     ask_sound tells leaves closed drops were = (
-      core_goes_on K asides tales v asked by is at_ask.run aside_of d marks at_ask.one at_ask.order told (tells, tt),
+      core_goes_on K asides tales v asked by is at_ask.run aside_of d marks at_ask.one at_ask.order told (tells, tt) adds_ask,
       (
-        closed_goes_on K asides tales v asked by is at_ask.run aside_of d marks at_ask.one at_ask.order told closed were.0 leaves,
+        closed_goes_on K asides tales v asked by is at_ask.run aside_of d marks at_ask.one at_ask.order told closed were.0 leaves adds_ask refl,
         drops_stay K asides tales v asked by is at_ask.run aside_of d marks at_ask.one at_ask.order told drops were.1,
       ),
     )
@@ -261,9 +279,9 @@ module _ {S O I N T : Type 0} (K : Known S O I N) where
       let is = sound.0 in
       let has = sound.1.0 in
       subst (λ (l : Lent (Given N O I) N T). IsSound K (core_of l v.pipes v.marks v.wanted) closed drops) (sym lent) (
-        record { one = is.one; all = is.all; stands = is.stands; exact = is.exact; distinct = is.distinct; there = is.there; identities = is.identities },
+        record { one = is.one; all = is.all; stands = is.stands; exact = is.exact; distinct = is.distinct; there = is.there; identities = is.identities; unsealed = is.unsealed },
         (
-          record { some_reaper = has.some_reaper; reaper = has.reaper; sound = has.sound; indexed = has.indexed; given = has.given; asked = has.asked; given_asked = has.given_asked },
+          record { some_reaper = has.some_reaper; reaper = has.reaper; sound = has.sound; indexed = has.indexed; given = has.given; asked = has.asked; given_asked = has.given_asked; taken = has.taken; apart = has.apart },
           sound.1.1,
         ),
       )

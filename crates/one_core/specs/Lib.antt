@@ -7,3 +7,4 @@ pub mod Making
 pub mod Lending
 pub mod Calling
 pub mod CallLaws
+pub mod Reaping

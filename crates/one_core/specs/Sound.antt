@@ -23,9 +23,10 @@ use Rattle.ctl_holder.specs.declared.given.Given.{Given}
 use Rattle.ctl_holder.specs.TakingOver.{AreDistinct, AreGivenWith}
 use Rattle.ctl_history.specs.Past.{control_of}
 use Rattle.ctl_plane.specs.Desk.{HasWhatTheySay}
-use Rattle.zq_world.specs.CoreCalls.{IsOnlyReaper}
+use Rattle.zq_world.specs.CoreCalls.{IsOnlyReaper, OnlyReaps}
 use Rattle.core_rows.specs.Counting.{CountsDrops}
 use Rattle.reap_laws.specs.Sealed.{AllAsked}
+use Rattle.reap_stands.specs.Coming.{AwayUnsealed, HasOnlyTaken, HasTaken}
 use Rattle.reaper_ends.specs.declared.sockets.ClosedSockets.{ClosedSockets}
 use Rattle.reaper_ends.specs.Finding.{AreIndexed}
 use Rattle.reaper_ends.specs.Has.{all_ends, holding_in}
@@ -59,7 +60,7 @@ module _ {W G N S : Type 0} where
     pub caller : ℕ
     pub same : new ≡ record old { desk = record old.desk { caller = caller } }
 
-  -- it has one I/O worker, each item is told, and what was done stands; names tell pipes apart, each pipe has a name of its own, and what has a name was made; each identity that was told is one that a peer may say
+  -- it has one I/O worker, each item is told, and what was done stands; names tell pipes apart, each pipe has a name of its own, and what has a name was made; each identity that was told is one that a peer may say; nothing was sealed in a pipe whose writing half is on its way
   pub record IsCore {O I : Type 0} (K : Known W O I N) (v : Core W G N S) : Type 0 where
     pub one : v.desk.past.workers ≡ 1
     pub all : all_told v.marks ≡ length v.desk.items
@@ -68,6 +69,7 @@ module _ {W G N S : Type 0} where
     pub distinct : AreDistinct K.exact (name_of v.desk.items)
     pub there : (p : PipeId) (n : N) → name_of v.desk.items p ≡ Some n → IsThere K v.pipes n
     pub identities : TellIdentities v.desk.items
+    pub unsealed : AwayUnsealed K v.desk v.pipes
 
   -- each message that was dropped is counted, unless memory was wanting
   abbrev pub HasDrops : Core W G N S → List ℕ → Type 0
@@ -80,7 +82,7 @@ module _ {N S : Type 0} where
     pub only : IsOnlyReaper caller pieces
 
 module _ {W N O I S : Type 0} (K : Known W O I N) where
-  -- the reaper, who is some caller, has of closed sockets what its moments say; each of their ends is with its halves, and so is each that is on its way to it; each of them whose pipe is told to be sealed was asked
+  -- the reaper, who is some caller, has of closed sockets what its moments say; each of their ends is with its halves, and so is each that is on its way to it; each of them whose pipe is told to be sealed was asked; it has each closed socket that it took over and that lives, and what it has are such
   pub record HasClosed (v : Core W (Given N O I) N S) (closed : ClosedSockets N O I) : Type 0 where
     pub some_reaper : HasReaper (pieces_in v)
     pub reaper : (k : ℕ) → IsOnlyReaper k (pieces_in v) → HasWhatTheySay k (moments_at k v.desk) (holding_in K.out_name K.in_name closed)
@@ -89,6 +91,8 @@ module _ {W N O I S : Type 0} (K : Known W O I N) where
     pub given : AreGivenWith K v.pipes v.desk.past.given
     pub asked : AllAsked (control_of v.desk.past) (all_ends closed.sockets.items)
     pub given_asked : AllAsked (control_of v.desk.past) v.desk.past.given
+    pub taken : HasTaken (control_of v.desk.past) (holding_in K.out_name K.in_name closed)
+    pub apart : (k : ℕ) → OnlyReaps k (pieces_in v) → HasOnlyTaken k v.desk
 
   -- all of it
   abbrev pub IsSound : Core W (Given N O I) N S → ClosedSockets N O I → (drops : List ℕ) → Type 0

@@ -57,6 +57,7 @@ where
         ensures { IfOk result (IsNewCore pipes) }
     {
         let desk = OneDesk::new(alloc, P::same_waker(&reaper), worker)?;
+        desk.is_of_one_order();
         let Closed {
             pipes,
             closed,

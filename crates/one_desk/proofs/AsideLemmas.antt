@@ -24,12 +24,12 @@ use Rattle.spec_control.specs.Register.{without_holder}
 use Rattle.spec_control.specs.Row.{RootAsked}
 use Rattle.spec_control.specs.Rows.{PairRow, is_owner, obj}
 use Rattle.spec_control.specs.Control.{Control, begun, is_end, link, place_of, stop_sockets, try_end}
-use Rattle.spec_control.specs.After.{after, strikes, tell_struck}
-use Rattle.spec_control.specs.ControlRun.{Fits}
+use Rattle.spec_control.specs.After.{after, answers_in, strikes, tell_struck}
+use Rattle.spec_control.specs.ControlRun.{Fits, is_between}
 use Rattle.spec_control.specs.Names.{name_in, name_of, named_in}
 use Rattle.control_held.specs.Has.{given_up, made_by}
 use Rattle.control_others.proofs.StayLemmas.{SameEnds, ends_on, ends_stay, link_ends_stay, sockets_stopped, tried, where_told}
-use Rattle.control_rows.proofs.ListLemmas.{never}
+use Rattle.control_rows.proofs.ListLemmas.{never, clash}
 use Rattle.ctl_holder.specs.Holding.{HearsMore, Holding, JoinsBy}
 use Rattle.ctl_holder.specs.Heard.{heard_in}
 use Rattle.ctl_holder.specs.Joins.{came_in}
@@ -39,6 +39,7 @@ use Rattle.ctl_ends.proofs.TurnedLemmas.{in_none}
 use Rattle.ctl_hears.specs.Processing.{IsSilent}
 use Rattle.ctl_plane.specs.Desk.{HasWhatTheySay, KeepsUp}
 use Rattle.ctl_plane.specs.Kinds.{kind_in}
+use Rattle.ctl_history.proofs.StillLemmas.{make_still, term_still, unbind_still}
 use Rattle.ctl_history.specs.Past.{IsPast, Past, as_item, control_of, items_of, with_event}
 use Rattle.one_desk.specs.declared.mark.Mark.{Mark}
 use Rattle.one_desk.specs.declared.mark.Mark.TheVariants.{Event, Seen}
@@ -148,7 +149,8 @@ has_more names more c h grows all i holds =
     }
 
 module _ {G N S : Type 0} (ms : List Mark) (past : Past G N S) (wakers by : ℕ) (l : Lent G N S) (seen : lent_to by ms past ≡ l) (lent : IsLent ms past wakers) (h : Holding N) (say : HasWhatTheySay l.caller (moments_of l) h)
-    (ms' : List Mark) (many : ℕ) (new : Past G N S) (did : Did N S) (marks : ms' ≡ ms ++ Event by ∷ []) (step : new ≡ with_event did past) (now : IsLent ms' new many) (silent : came_in did ≡ []) (same : SameEnds (control_of past) (after did (control_of past))) where
+    (ms' : List Mark) (many : ℕ) (new : Past G N S) (did : Did N S) (marks : ms' ≡ ms ++ Event by ∷ []) (step : new ≡ with_event did past) (now : IsLent ms' new many) (silent : came_in did ≡ []) (same : SameEnds (control_of past) (after did (control_of past)))
+    (still : (i : ℕ) → is_between (obj (control_of past).rows i) ≡ true → is_between (obj (after did (control_of past)).rows i) ≡ true) where
   then_is : control_of new ≡ after did (control_of past)
   then_is = ap (λ (p : Past G N S). control_of p) step ∙ control_next past did
 
@@ -166,8 +168,11 @@ module _ {G N S : Type 0} (ms : List Mark) (past : Past G N S) (wakers by : ℕ)
       (subst (λ (c : Control). HasAll (name_of (items_of past)) c h) (sym then_is) (has_same_ends (name_of (items_of past)) (control_of past) (after did (control_of past)) h same (desk_has ms past wakers by l seen lent h say))))
       (subst (λ (c : Control). HasTurned (control_of past) c h h) (sym then_is)
       (subst (λ (ts : List (EndId × EndState)). TurnsBy ts h h) (sym (in_none (control_of past) (after did (control_of past)) places)) (record { turns = sym (append-nil h.turns); sealed = sym (append-nil h.sealed) })))
-      (came, record { holds = λ i stays. refl; kinds = λ i stays. refl; had = λ i e. inl (e, refl) }, record { one = told; none = λ e. refl })
+      (came, record { holds = λ i stays. refl; kinds = λ i stays. refl; had = λ i e. inl (e, refl); reaped = λ i between taken lives. absurd (clash _ (still_then i between) taken) }, record { one = told; none = λ e. refl })
     where
+      still_then : (i : ℕ) → is_between (obj (control_of past).rows i) ≡ true → is_between (obj (control_of new).rows i) ≡ true
+      still_then i between = ap (λ (c : Control). is_between (obj c.rows i)) then_is ∙ still i between
+
       places : (e : EndId) → place_of (after did (control_of past)) e ≡ place_of (control_of past) e
       places e = ap (λ (ps : List PairRow). place_of (record (control_of past) { rows = record (control_of past).rows { pairs = ps } }) e) same.pairs
 
@@ -189,22 +194,22 @@ module _ {G N S : Type 0} (ms : List Mark) (past : Past G N S) (wakers by : ℕ)
       subst (λ (p : Past G N S). KeepsUp by (moments_of l) (moments_of (lent_to by ms p)) h h) (sym stays)
       (desk_still ms past wakers by l seen lent h say past h refl (desk_has ms past wakers by l seen lent h say)
       (subst (λ (ts : List (EndId × EndState)). TurnsBy ts h h) (sym (in_none (control_of past) (control_of past) (λ e. refl))) (record { turns = sym (append-nil h.turns); sealed = sym (append-nil h.sealed) }))
-      (λ more e. sym (append-nil h.joined) ∙ ap (λ (ds : List (Did N S)). h.joined ++ flat_map came_in ds) (append_cancel_left past.events [] more (append-nil past.events ∙ e)), record { holds = λ i stays. refl; kinds = λ i stays. refl; had = λ i e. inl (e, refl) }, record { one = λ did e. absurd (none_more (append_cancel_left past.events [] (did ∷ []) (append-nil past.events ∙ e))); none = λ e. refl }))
+      (λ more e. sym (append-nil h.joined) ∙ ap (λ (ds : List (Did N S)). h.joined ++ flat_map came_in ds) (append_cancel_left past.events [] more (append-nil past.events ∙ e)), record { holds = λ i stays. refl; kinds = λ i stays. refl; had = λ i e. inl (e, refl); reaped = λ i between taken lives. absurd (clash _ between taken) }, record { one = λ did e. absurd (none_more (append_cancel_left past.events [] (did ∷ []) (append-nil past.events ∙ e))); none = λ e. refl }))
 
   -- the context is asked to end
   pub desk_asked : (ms' : List Mark) (many : ℕ) (new : Past G N S) (reply : Reply) (h : Answered N S) → ms' ≡ ms ++ Event by ∷ [] → new ≡ with_event (Asked AskTerm reply h) past → IsLent ms' new many → IsSilent h → KeepsAside l (lent_to by ms' new)
   desk_asked ms' many new reply h marks step now silent = λ holder say.
-      desk_aside ms past wakers by l seen lent holder say ms' many new (Asked AskTerm reply h) marks step now silent.joined (term_stays (control_of past) h reply) (λ i e x. refl) (λ i. refl) (λ c d. refl)
+      desk_aside ms past wakers by l seen lent holder say ms' many new (Asked AskTerm reply h) marks step now silent.joined (term_stays (control_of past) h reply) (term_still reply (answers_in h) (control_of past)) (λ i e x. refl) (λ i. refl) (λ c d. refl)
 
   -- a socket strikes a bind
   pub desk_unbound : (ms' : List Mark) (many : ℕ) (new : Past G N S) (o : ObjId) (at : Endpoint) (reply : Reply) (h : Answered N S) → ms' ≡ ms ++ Event by ∷ [] → new ≡ with_event (Asked (Unbind o at) reply h) past → IsLent ms' new many → IsSilent h → KeepsAside l (lent_to by ms' new)
   desk_unbound ms' many new o at reply h marks step now silent = λ holder say.
-      desk_aside ms past wakers by l seen lent holder say ms' many new (Asked (Unbind o at) reply h) marks step now silent.joined (unbind_stays (control_of past) h o at reply) (λ i e x. refl) (λ i. refl) (λ c d. refl)
+      desk_aside ms past wakers by l seen lent holder say ms' many new (Asked (Unbind o at) reply h) marks step now silent.joined (unbind_stays (control_of past) h o at reply) (unbind_still o at reply (answers_in h) (control_of past)) (λ i e x. refl) (λ i. refl) (λ c d. refl)
 
   -- a socket is made, which nobody had
   pub desk_made : (ms' : List Mark) (many : ℕ) (new : Past G N S) (kind : Kind) (options : Options) (reply : Reply) (h : Answered N S) → ms' ≡ ms ++ Event by ∷ [] → new ≡ with_event (Asked (MakeSocket kind options) reply h) past → IsPast new → IsLent ms' new many → IsSilent h → KeepsAside l (lent_to by ms' new)
   desk_made ms' many new kind options reply h marks step run now silent = λ holder say.
-      desk_aside ms past wakers by l seen lent holder say ms' many new (Asked (MakeSocket kind options) reply h) marks step now silent.joined (make_stays (control_of past) h kind options reply) (λ i e x. kept holder say i e x) (λ i. refl) (λ c d. refl)
+      desk_aside ms past wakers by l seen lent holder say ms' many new (Asked (MakeSocket kind options) reply h) marks step now silent.joined (make_stays (control_of past) h kind options reply) (make_still kind options reply (answers_in h) (control_of past)) (λ i e x. kept holder say i e x) (λ i. refl) (λ c d. refl)
     where
       fits : Fits (control_of past) (Asked (MakeSocket kind options) reply h)
       fits = last_fits past.events (Asked (MakeSocket kind options) reply h) (begun past.workers) (subst (λ (p : Past G N S). IsPast p) step run)
@@ -224,4 +229,4 @@ module _ {G N S : Type 0} (ms : List Mark) (past : Past G N S) (wakers by : ℕ)
   desk_looked ms' sight marks caller now = λ h say.
       desk_looks ms past wakers by l seen lent h say ms' past sight h marks caller refl now (desk_has ms past wakers by l seen lent h say)
       (subst (λ (ts : List (EndId × EndState)). TurnsBy ts h h) (sym (in_none (control_of past) (control_of past) (λ e. refl))) (record { turns = sym (append-nil h.turns); sealed = sym (append-nil h.sealed) }))
-      (λ more e. sym (append-nil h.joined) ∙ ap (λ (ds : List (Did N S)). h.joined ++ flat_map came_in ds) (append_cancel_left past.events [] more (append-nil past.events ∙ e)), record { holds = λ i stays. refl; kinds = λ i stays. refl; had = λ i e. inl (e, refl) }, record { one = λ did e. absurd (none_more (append_cancel_left past.events [] (did ∷ []) (append-nil past.events ∙ e))); none = λ e. refl })
+      (λ more e. sym (append-nil h.joined) ∙ ap (λ (ds : List (Did N S)). h.joined ++ flat_map came_in ds) (append_cancel_left past.events [] more (append-nil past.events ∙ e)), record { holds = λ i stays. refl; kinds = λ i stays. refl; had = λ i e. inl (e, refl); reaped = λ i between taken lives. absurd (clash _ between taken) }, record { one = λ did e. absurd (none_more (append_cancel_left past.events [] (did ∷ []) (append-nil past.events ∙ e))); none = λ e. refl })

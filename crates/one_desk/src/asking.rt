@@ -12,7 +12,7 @@ ghost use Rattle.ctl_plane.specs.Desk.{AsksOnce, HasWhatTheySay, KeepsUp};
 ghost use Rattle.one_desk.specs.Lent.{moments_of, Asks, GrowsBy, HasSocket};
 
 use crate::desk::OneDesk;
-use ctl_holder::Holder;
+use ctl_holder::{Holder, Undoes};
 use msg_pipe::Pipes;
 use spec_control::{Reply, Req};
 use std::alloc::{AllocError, Global};
@@ -24,7 +24,7 @@ where
     P::Waker: Drop,
 {
     // A bind to an endpoint that is a name.
-    fn bind_at<H: Holder<P>>(
+    fn bind_at<H: Undoes<P>>(
         &mut self,
         alloc: Global,
         socket: ObjId,
@@ -33,7 +33,6 @@ where
     ) -> Result<Reply, AllocError>
         requires open { HasSocket self.old socket }
         requires inproc { IsInproc at }
-        requires undoes { H.undoes ≡ true }
         requires lent { (H.holding holder.old).holds socket.0 ≡ true }
         requires has { HasWhatTheySay self.old.caller (moments_of self.old)
             (H.holding holder.old) }
@@ -78,7 +77,7 @@ where
 
     /// The caller makes a request of the context's or of a socket's. Want of memory leaves all as it
     /// was; a close wants none.
-    pub fn ask<H: Holder<P>>(
+    pub fn ask<H: Undoes<P>>(
         &mut self,
         alloc: Global,
         request: Req,
@@ -86,7 +85,6 @@ where
     ) -> Result<Reply, AllocError>
         requires may { MayAskOwn (items_in (moments_of self.old)) request }
         requires gives { is_close request ≡ true → H.gives ≡ true }
-        requires undoes { H.undoes ≡ true }
         requires options { HasMarks request }
         requires sockets { IsOfSockets request }
         requires lent { (i : ℕ) → asker request ≡ Some i → (H.holding holder.old).holds i ≡ true }

@@ -9,7 +9,7 @@ ghost use Rattle.one_desk.specs.Lent.{moments_of, Asks, HasSocket};
 
 use crate::desk::{OneDesk, silent};
 use crate::mark::Mark;
-use ctl_holder::Holder;
+use ctl_holder::{Holder, Undoes};
 use msg_pipe::Pipes;
 use spec_control::Reply;
 use std::alloc::{AllocError, Global};
@@ -22,7 +22,7 @@ where
 {
     /// The caller binds its socket to a name, with the holder of the socket's ends, which may make
     /// those of the pairs (zmq_bind(3), zmq_inproc(7)).
-    pub fn bind<H: Holder<P>>(
+    pub fn bind<H: Undoes<P>>(
         &mut self,
         alloc: Global,
         socket: ObjId,
@@ -30,7 +30,6 @@ where
         holder: &mut H,
     ) -> Result<Reply, AllocError>
         requires open { HasSocket self.old socket }
-        requires undoes { H.undoes ≡ true }
         requires lent { (H.holding holder.old).holds socket.0 ≡ true }
         requires has { HasWhatTheySay self.old.caller (moments_of self.old)
             (H.holding holder.old) }

@@ -1,5 +1,5 @@
 use crate::desk::OneDesk;
-use ctl_holder::Holder;
+use ctl_holder::{Holder, Undoes};
 use ctl_plane::{Delivery, Desk};
 use msg_pipe::Pipes;
 use spec_control::{Reply, Req, SeenEmpty, Sight};
@@ -46,7 +46,7 @@ where
         OneDesk::slot(self, object)
     }
 
-    fn request<H: Holder<P>>(
+    fn request<H: Undoes<P>>(
         &mut self,
         alloc: Global,
         request: Req,

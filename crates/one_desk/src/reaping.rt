@@ -110,7 +110,8 @@ where
         requires has { HasWhatTheySay self.old.caller (moments_of self.old)
             (H.holding holder.old) }
         requires distinct { AreDistinct P.known.exact (name_of self.old.items) }
-        requires takes { MayTakeFirst (H.may_take holder.old) self.old.past.given }
+        requires takes { MayTakeFirst (H.may_take holder.old) (control_of self.old.past)
+            self.old.past.given }
         requires calm { H.calm holder.old [] }
         ensures ok { OnOk result (HearsFrom (record { 0 = 0 }) self.old self.new) }
         ensures counts { CountsWith P.known.out_name (H.counts holder.old)
@@ -180,7 +181,8 @@ where
         requires fits { (m i : ℕ) → served_by self.old m i ≡ true →
             BindsFit P.known.out_name P.known.in_name (name_of self.old.items)
             (coming_to self.old m) (λ h. (e : EndId) → H.fits holder.old e h) }
-        requires takes { MayTakeFirst (H.may_take holder.old) self.old.past.given }
+        requires takes { MayTakeFirst (H.may_take holder.old) (control_of self.old.past)
+            self.old.past.given }
         requires calm { H.calm holder.old [] }
         ensures ok { OnOk result (HearsFrom slot self.old self.new) }
         ensures counts { CountsWith P.known.out_name (H.counts holder.old)
@@ -214,7 +216,8 @@ where
         requires fits { (m i : ℕ) → served_by self.old m i ≡ true →
             BindsFit P.known.out_name P.known.in_name (name_of self.old.items)
             (coming_to self.old m) (λ h. (e : EndId) → H.fits holder.old e h) }
-        requires takes { MayTakeFirst (H.may_take holder.old) self.old.past.given }
+        requires takes { MayTakeFirst (H.may_take holder.old) (control_of self.old.past)
+            self.old.past.given }
         requires calm { H.calm holder.old [] }
         ensures ok { IfOk result (λ found. FindsFirst found self.old self.new) }
         ensures counts { CountsWith P.known.out_name (H.counts holder.old)

@@ -5,7 +5,8 @@ use Rattle.msg_pipe.specs.Known.{Known}
 use Rattle.msg_pipe.specs.declared.pipes.Front.{Front}
 use Rattle.msg_pipe.specs.declared.pipes.Front.TheVariants.{Message, Empty, Delimiter}
 use Rattle.ctl_holder.specs.declared.given.Given.{Given}
-use Rattle.ctl_plane.specs.Desk.{KeepsUp}
+use Rattle.ctl_holder.specs.Holding.{Stays}
+use Rattle.ctl_plane.specs.Desk.{HasWhatTheySay, KeepsUp}
 use Rattle.one_desk.specs.Lent.{Lent, Meets, moments_of}
 use Rattle.held_ends.specs.declared.changes.PipeChange.{PipeChange}
 use Rattle.reaper_ends.specs.declared.sockets.ClosedSockets.{ClosedSockets}
@@ -24,7 +25,7 @@ module _ {S O I N : Type 0} (K : Known S O I N) where
     pub indexed : AreIndexed c
 
   -- these changes were made, ends came that may be brought, the ends are sound behind them, and others are left what they had
-  pub record ChangesClosed (brings : Given N O I → Type 0) (old : S) (from : ClosedSockets N O I) (new : S) (to : ClosedSockets N O I) : Type 0 where
+  pub record ChangesClosed (brings : ℕ → Given N O I → Type 0) (old : S) (from : ClosedSockets N O I) (new : S) (to : ClosedSockets N O I) : Type 0 where
     pub changes : List (PipeChange O I × S)
     pub done : ∥ HasDoneTo K old from changes new to ∥₁
     pub came : ∥ HasCome K brings from to ∥₁
@@ -33,22 +34,25 @@ module _ {S O I N : Type 0} (K : Known S O I N) where
 
   module _ {G T : Type 0} where
     -- the delimiter was said that an end met; what was done then
-    pub record SaysMet (brings : Given N O I → Type 0) (e : EndId) (d : Lent G N T) (old : S) (from : ClosedSockets N O I) (now : Lent G N T) (new : S) (to : ClosedSockets N O I) : Type 0 where
+    pub record SaysMet (brings : ℕ → Given N O I → Type 0) (e : EndId) (d : Lent G N T) (old : S) (from : ClosedSockets N O I) (now : Lent G N T) (new : S) (to : ClosedSockets N O I) : Type 0 where
       pub meets : Meets e d now
       pub keeps : KeepsUp now.caller (moments_of d) (moments_of now) (holding_in K.out_name K.in_name from) (holding_in K.out_name K.in_name to)
       pub changes : ChangesClosed brings old from new to
 
     -- behind a look that found this: a delimiter is said, and else nothing is
-    abbrev pub SaysFound : Front → (brings : Given N O I → Type 0) → EndId → (d : Lent G N T) (old : S) (from : ClosedSockets N O I) (now : Lent G N T) (new : S) (to : ClosedSockets N O I) → Type 0
+    abbrev pub SaysFound : Front → (brings : ℕ → Given N O I → Type 0) → EndId → (d : Lent G N T) (old : S) (from : ClosedSockets N O I) (now : Lent G N T) (new : S) (to : ClosedSockets N O I) → Type 0
     SaysFound Message brings e d old from now new to = (now ≡ d) × ((new ≡ old) × (to ≡ from))
     SaysFound Empty brings e d old from now new to = (now ≡ d) × ((new ≡ old) × (to ≡ from))
     SaysFound Delimiter brings e d old from now new to = SaysMet brings e d old from now new to
 
-    -- an end of a closed socket was looked at, which left the pipes and the closed sockets so, and a delimiter found there was said at once
-    pub record LooksOn (brings : Given N O I → Type 0) (o : ℕ) (e : EndId) (found : Front) (d : Lent G N T) (old : S) (from : ClosedSockets N O I) (now : Lent G N T) (new : S) (to : ClosedSockets N O I) : Type 0 where
+    -- an end of a closed socket was looked at, which left the pipes and the closed sockets so, with what the caller's moments say of them still, and a delimiter found there was said at once
+    pub record LooksOn (brings : ℕ → Given N O I → Type 0) (o : ℕ) (e : EndId) (found : Front) (d : Lent G N T) (old : S) (from : ClosedSockets N O I) (now : Lent G N T) (new : S) (to : ClosedSockets N O I) : Type 0 where
       pub between : S
       pub kept : ClosedSockets N O I
       pub looked : LooksOnce K old between o e found (holding_in K.out_name K.in_name from)
       pub sealed : seals_told (all_ends kept.sockets.items) ≡ seals_told (all_ends from.sockets.items)
       pub others : Leaves K old from between kept
+      pub stays : Stays o (holding_in K.out_name K.in_name from) (holding_in K.out_name K.in_name kept)
+      pub has : HasWhatTheySay d.caller (moments_of d) (holding_in K.out_name K.in_name kept)
+      pub fits : FitsClosed between kept
       pub says : SaysFound found brings e d between kept now new to

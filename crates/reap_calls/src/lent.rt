@@ -1,6 +1,7 @@
 ghost use Rattle.std.specs.Prelude.{◌≡◌, ℕ, true, All, IfOk, OnErr};
 ghost use Rattle.spec_control.specs.Names.{name_of};
 ghost use Rattle.ctl_holder.specs.TakingOver.{MayTakeFirst};
+ghost use Rattle.ctl_history.specs.Past.{control_of};
 ghost use Rattle.ctl_plane.specs.Coming.{AreDistinct, BindsFit, TakesEnds};
 ghost use Rattle.ctl_plane.specs.Desk.{CountsWith, HasWhatTheySay, HoldsEnd, IsNotLooked, KeepsUp};
 ghost use Rattle.one_desk.specs.Lent.{coming_to, moments_of, MeetsOrNot};
@@ -53,8 +54,9 @@ where
     requires binds { (m i : ℕ) → served_by desk.old m i ≡ true →
         BindsFit P.known.out_name P.known.in_name (name_of desk.old.items) (coming_to desk.old m)
         (λ h. MayJoin P.known pipes closed h) }
-    requires takes { MayTakeFirst (λ gs. MayTake P.known pipes closed gs × All F.brings gs)
-        desk.old.past.given }
+    requires takes { MayTakeFirst
+        (λ o gs. MayTake P.known pipes closed gs × All (F.brings o) gs)
+        (control_of desk.old.past) desk.old.past.given }
     ensures ok { IfOk result.answer (λ found. FindsFirst found desk.old desk.new) }
     ensures counts { CountsWith P.known.out_name
         (λ e writer. counts_of P.known pipes closed.sockets.items e writer)

@@ -1,11 +1,11 @@
 ghost use Rattle.std.specs.Prelude.{◌≡◌, true};
-ghost use Rattle.std.specs.List.{Contains};
 ghost use Rattle.spec_control.specs.Place.{looks};
 ghost use Rattle.spec_control.specs.Control.{place_of};
 ghost use Rattle.ctl_holder.specs.Holding.{has_end};
 ghost use Rattle.ctl_history.specs.Past.{control_of};
 ghost use Rattle.ctl_plane.specs.Desk.{HasWhatTheySay};
 ghost use Rattle.one_desk.specs.Lent.{moments_of};
+ghost use Rattle.reaper_ends.specs.Coming.{IsBrought};
 ghost use Rattle.reaper_ends.specs.Has.{holding_in};
 ghost use Rattle.reap_calls.specs.Calls.{FitsClosed, LooksOn};
 
@@ -39,8 +39,8 @@ where
     requires has { HasWhatTheySay desk.old.caller (moments_of desk.old)
         (holding_in P.known.out_name P.known.in_name closed.old) }
     requires reads_on { looks (place_of (control_of desk.old.past) end) ≡ true }
-    ensures looks { LooksOn P.known (λ g. Contains desk.old.past.given g) o.0 end result
-        desk.old pipes.old closed.old desk.new pipes.new closed.new }
+    ensures looks { LooksOn P.known (IsBrought (control_of desk.old.past) desk.old.past.given)
+        o.0 end result desk.old pipes.old closed.old desk.new pipes.new closed.new }
     ensures has { HasWhatTheySay desk.new.caller (moments_of desk.new)
         (holding_in P.known.out_name P.known.in_name closed.new) }
     ensures fits { FitsClosed P.known pipes.new closed.new }

@@ -1,13 +1,14 @@
 ghost use Rattle.std.specs.Prelude.{◌≡◌, ℕ, true, IfOk, OnErr};
-ghost use Rattle.std.specs.List.{Contains};
 ghost use Rattle.spec_control.specs.Names.{name_of};
 ghost use Rattle.msg_pipe.specs.declared.pipes.Front.TheVariants.{Delimiter};
 ghost use Rattle.ctl_holder.specs.Holding.{has_end, HearsNone, KeepsTurns, Stays};
 ghost use Rattle.ctl_holder.specs.TakingOver.{MayTakeFirst};
+ghost use Rattle.ctl_history.specs.Past.{control_of};
 ghost use Rattle.ctl_plane.specs.Coming.{AreDistinct, BindsFit, TakesEnds};
 ghost use Rattle.ctl_plane.specs.Desk.{CountsWith, HasWhatTheySay, HoldsEnd, IsNotLooked, KeepsUp};
 ghost use Rattle.one_desk.specs.Lent.{coming_to, moments_of, MeetsOrNot};
 ghost use Rattle.one_desk.specs.Reaping.{served_by, FindsFirst};
+ghost use Rattle.reaper_ends.specs.Coming.{IsBrought};
 ghost use Rattle.reaper_ends.specs.Counting.{counts_of};
 ghost use Rattle.reaper_ends.specs.Ending.{LooksOnce, seals_told};
 ghost use Rattle.reaper_ends.specs.Has.{all_ends, holding_in};
@@ -49,7 +50,8 @@ where
     requires binds { (m i : ℕ) → served_by desk.old m i ≡ true →
         BindsFit P.known.out_name P.known.in_name (name_of desk.old.items) (coming_to desk.old m)
         (λ h. MayJoin P.known pipes.old closed.old h) }
-    requires takes { MayTakeFirst (MayTake P.known pipes.old closed.old) desk.old.past.given }
+    requires takes { MayTakeFirst (λ o gs. MayTake P.known pipes.old closed.old gs)
+        (control_of desk.old.past) desk.old.past.given }
     ensures ok { IfOk result (λ found. FindsFirst found desk.old desk.new) }
     ensures counts { CountsWith P.known.out_name
         (λ e writer. counts_of P.known pipes.old closed.old.sockets.items e writer)
@@ -60,7 +62,8 @@ where
     ensures keeps { KeepsUp desk.new.caller (moments_of desk.old) (moments_of desk.new)
         (holding_in P.known.out_name P.known.in_name closed.old)
         (holding_in P.known.out_name P.known.in_name closed.new) }
-    ensures changes { ChangesClosed P.known (λ g. Contains desk.old.past.given g)
+    ensures changes { ChangesClosed P.known
+        (IsBrought (control_of desk.old.past) desk.old.past.given)
         pipes.old closed.old pipes.new closed.new }
 {
     let lent = mem::replace(pipes, P::none(alloc));
@@ -102,7 +105,8 @@ where
     ensures keeps { KeepsUp desk.new.caller (moments_of desk.old) (moments_of desk.new)
         (holding_in P.known.out_name P.known.in_name closed.old)
         (holding_in P.known.out_name P.known.in_name closed.new) }
-    ensures changes { ChangesClosed P.known (λ g. Contains desk.old.past.given g)
+    ensures changes { ChangesClosed P.known
+        (IsBrought (control_of desk.old.past) desk.old.past.given)
         pipes.old closed.old pipes.new closed.new }
 {
     let lent = mem::replace(pipes, P::none(alloc));

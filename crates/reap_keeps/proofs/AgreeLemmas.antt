@@ -1,5 +1,5 @@
 -- The sockets that callers have open agree still behind a call of the reaper.
-use Rattle.std.specs.Prelude.{◌≡◌, ◌≢◌, ◌+◌, ◌==◌, ℕ, Bool, true, false, List, Option, Some, refl}
+use Rattle.std.specs.Prelude.{◌≡◌, ◌+◌, ◌==◌, ℕ, Bool, true, false, List, Option, Some, refl}
 use Rattle.std.proofs.Common.{sym, ap, ◌∙◌}
 use Rattle.std.proofs.Math.Logic.{∥∥₁_elim}
 use Rattle.zq_base.specs.Ends.{other_end}
@@ -25,35 +25,33 @@ use Rattle.held_ends.specs.declared.table.Place.{Place}
 use Rattle.held_ends.specs.Places.{place_at}
 use Rattle.held_ends.specs.Sound.{Fits, IsSound, ReadsSo, StandsSo, WritesSo}
 use Rattle.name_laws.specs.Names.{NamesStand}
+use Rattle.own_laws.specs.Ends.{IsHeldFor}
 use Rattle.past_laws.specs.Asked.{EndsAreSealedOnce}
 use Rattle.sock_core.specs.declared.sock.SockCore.{SockCore}
 use Rattle.sock_core.proofs.FormLemmas.{are_sound, sound_of}
 use Rattle.sock_open.specs.Standing.{IsStanding}
 use Rattle.reaper_ends.specs.declared.sockets.ClosedSockets.{ClosedSockets}
-use Rattle.reaper_ends.specs.Noted.{first_places}
+use Rattle.reaper_ends.specs.Noted.{first_places, HasDoneTo}
 use Rattle.reap_laws.specs.Calls.{came_since}
 use Rattle.one_desk.specs.Lent.{coming_to, moments_of, IsOneOrder, Lent}
-use Rattle.desk_laws.specs.Behind.{IsOfIts}
-use Rattle.desk_laws.proofs.NewLemmas.{there}
 use Rattle.desk_laws.proofs.SocketLemmas.{kept_now}
 use Rattle.lent_sock.specs.Owned.{IsOwned}
 use Rattle.core_others.specs.Agrees.{AgreesIn}
-use Rattle.core_others.specs.Apart.{IsHeldBy}
 use Rattle.core_others.specs.Calls.{for_caller}
 use Rattle.core_others.proofs.ApartLemmas.{is_out, not_first, other_out}
-use Rattle.core_others.proofs.OwnedLemmas.{held_by}
-use Rattle.core_others.proofs.SilentLemmas.{one_order_of}
 use Rattle.core_calls.proofs.ReaperLemmas.{asked_stay}
 use Rattle.reap_stands.specs.Coming.{AwayUnsealed, HasOnlyTaken}
 use Rattle.reap_stands.specs.Ends.{ReaperDid, ReaperGoesOn}
 use Rattle.reap_keeps.specs.Agreeing.{OpenAgreeStill}
-use Rattle.reap_keeps.proofs.ElseLemmas.{owned_now, same_moments}
-use Rattle.reap_keeps.proofs.ReapedLemmas.{coming_then, read_left, reaper_keeps_unsealed, written_left}
+use Rattle.reap_stands.proofs.EndLemmas.{same_names}
+use Rattle.reap_keeps.proofs.ElseLemmas.{has_else, owned_now, same_moments}
+use Rattle.reap_keeps.proofs.OpenLemmas.{held_for}
+use Rattle.reap_keeps.proofs.ReapedLemmas.{coming_then, not_placed, read_left, reaper_keeps_unsealed, written_left}
+use Rattle.reap_keeps.proofs.ThereLemmas.{reaper_keeps_names}
 
 module _ (W T : Type 0) {S O I N : Type 0} (K : Known S O I N) (once : EndsAreSealedOnce N T) (old new : Lent (Given N O I) N T) (before behind : S) (from to : ClosedSockets N O I) (changes : List (PipeChange O I × S))
-    (did : ReaperDid K old new before behind from to changes) (go : ReaperGoesOn K old new did.call from to) (names : NamesStand K (control_of old.past) (name_of old.items) before) (names_now : NamesStand K (control_of new.past) (name_of new.items) behind)
-    (free : AwayUnsealed K old before) (only : HasOnlyTaken old.caller old) (j : ℕ) (t : SockCore AnySock W N O I)
-    (apart : (k : ℕ) (p : Place N I) → place_at (first_places K.in_name from (came_since from to)) k ≡ Some p → owner_of (control_of new.past) p.end ≢ t.number.0) (agrees : AgreesIn K old j before t) where
+    (did : ReaperDid K old new before behind from to changes) (goes : ∥ ReaperGoesOn K old new did.call from to ∥₁) (names : NamesStand K (control_of old.past) (name_of old.items) before)
+    (free : AwayUnsealed K old before) (only : HasOnlyTaken old.caller old) (j : ℕ) (t : SockCore AnySock W N O I) (agrees : AgreesIn K old j before t) where
   was_order : IsOneOrder old
   was_order = did.call.before
 
@@ -69,40 +67,44 @@ module _ (W T : Type 0) {S O I N : Type 0} (K : Known S O I N) (once : EndsAreSe
   owned_so : IsOwned K j (moments_of (for_caller j new)) before t
   owned_so = owned_now K old new was_order did.call.grows only before j t owned
 
+  names_now : NamesStand K (control_of new.past) (name_of new.items) behind
+  names_now = reaper_keeps_names K T old new before behind from to changes did names
+
+  same : (e : EndId) → name_of new.items e ≡ name_of old.items e
+  same = same_names K old new before behind from to changes did
+
   -- ---- its ends
   module _ (k : ℕ) (p : Place N I) (at : place_at t.ends.places.items k ≡ Some p) (held : p.held ≡ true) where
-    is_held : IsHeldBy t.number.0 (for_caller j new) p
-    is_held = held_by W T K new order j before t owned_so k p at held
+    its : IsHeldFor (control_of new.past) (name_of new.items) t.number.0 p
+    its = held_for W T K new order j before t owned_so k p at held
 
-    its : IsOfIts t.number.0 (for_caller j new) p.end p.written p.read
-    its = is_held.its
-
-    own : owner_of (control_of new.past) p.end ≡ t.number.0
-    own = (let x = there (for_caller j new) t.number.0 (one_order_of j new order) owned_so.is_open p.end its.its in x.own)
-
-    no_place : (i : ℕ) (q : Place N I) → place_at (first_places K.in_name from (came_since from to)) i ≡ Some q → p.end ≡ q.end → ⊥
-    no_place i q first same = apart i q first (ap (owner_of (control_of new.past)) (sym same) ∙ own)
+    no_place : ReaperGoesOn K old new did.call from to → (i : ℕ) (q : Place N I) → place_at (first_places K.in_name from (came_since from to)) i ≡ Some q → p.end ≡ q.end → ⊥
+    no_place go = not_placed K old new before behind from to changes did go p.end its.at.here (λ among. has_else K old new before behind from to changes did only j t owned p.end among its.owner)
 
     not_across : p.writes ≡ true → (q : Place N I) → place_of (control_of new.past) q.end ≡ At Gone → p.end ≡ other_end q.end → ⊥
     not_across writes q gone same =
         not_first (has_writer (place_of (control_of new.past) p.end)) (is_away (place_of (control_of new.past) p.end))
-        (ap (λ (x : EndId). is_out (place_of (control_of new.past) x)) same ∙ other_out (control_of new.past) (kept_now new order) q.end gone) (is_held.writes writes)
+        (ap (λ (x : EndId). is_out (place_of (control_of new.past) x)) same ∙ other_out (control_of new.past) (kept_now new order) q.end gone) (its.at.writes writes)
 
     unsealed : p.writes ≡ true → (h : O) → K.out_name h ≡ p.written → (K.writing before h).sealed ≡ false → (K.writing behind h).sealed ≡ false
     unsealed writes h name was = by (K.writing behind h).sealed refl
       where
+        left_so : ReaperGoesOn K old new did.call from to → HasDoneTo K before from changes behind to → K.writing behind h ≡ K.writing before h
+        left_so go done = written_left K old new before behind from to changes did go names p.end h (sym (same p.end) ∙ its.written ∙ ap (λ (n : N). Some n) (sym name)) (no_place go) (λ i q first gone. not_across writes q gone) done
+
         by : (b : Bool) → (K.writing behind h).sealed ≡ b → b ≡ false
         by false is = refl
-        by true is = absurd (∥∥₁_elim did.done (λ x y. absurd x) (λ done. never (sym was ∙ sym (ap (λ (w : Writing). w.sealed)
-            (written_left K old new before behind from to changes did go names p.end h (sym (go.names p.end) ∙ its.written ∙ ap (λ (n : N). Some n) (sym name)) no_place (λ i q first gone. not_across writes q gone) done)) ∙ is)))
+        by true is = absurd (∥∥₁_elim goes (λ x y. absurd x) (λ go. ∥∥₁_elim did.done (λ x y. absurd x) (λ done. never (sym was ∙ sym (ap (λ (w : Writing). w.sealed) (left_so go done)) ∙ is))))
 
     met_still : (i : I) → K.in_name i ≡ p.read → (K.reading before i).ended ≡ true → (K.reading behind i).ended ≡ true
     met_still i name was = by (K.reading behind i).ended refl
       where
+        left_so : ReaperGoesOn K old new did.call from to → HasDoneTo K before from changes behind to → K.reading behind i ≡ K.reading before i
+        left_so go done = read_left K old new before behind from to changes did go names p.end i (sym (same (other_end p.end)) ∙ its.read ∙ ap (λ (n : N). Some n) (sym name)) (no_place go) done
+
         by : (b : Bool) → (K.reading behind i).ended ≡ b → b ≡ true
         by true is = refl
-        by false is = absurd (∥∥₁_elim did.done (λ x y. absurd x) (λ done. never (sym is ∙ ap (λ (r : Reading). r.ended)
-            (read_left K old new before behind from to changes did go names p.end i (sym (go.names (other_end p.end)) ∙ its.read ∙ ap (λ (n : N). Some n) (sym name)) no_place done) ∙ was)))
+        by false is = absurd (∥∥₁_elim goes (λ x y. absurd x) (λ go. ∥∥₁_elim did.done (λ x y. absurd x) (λ done. never (sym is ∙ ap (λ (r : Reading). r.ended) (left_so go done) ∙ was))))
 
     reads_still : (i : I) → ReadsSo K before i p → ReadsSo K behind i p
     reads_still i reads = record {
@@ -160,11 +162,11 @@ module _ (W T : Type 0) {S O I N : Type 0} (K : Known S O I N) (once : EndsAreSe
   fits_still e h coming written read =
       let slot : ℕ = (slot_after t.number.0 (moments_of (for_caller j old))).0 in
       let was = coming_then K old new before behind from to changes did slot e (ap (λ (n : ℕ). coming_to new n e) (sym same_slot) ∙ coming) in
-      let fits : Fits K before t.ends.places.items h = agrees.binds e h was (sym (go.names e) ∙ written) (sym (go.names (other_end e)) ∙ read) in
+      let fits : Fits K before t.ends.places.items h = agrees.binds e h was (sym (same e) ∙ written) (sym (same (other_end e)) ∙ read) in
       record {
         out_there = names_now.there e (K.out_name h.out) written;
         in_there = names_now.there (other_end e) (K.in_name h.input) read;
-        unsealed = reaper_keeps_unsealed K T old new before behind from to changes did go names free e h.out
+        unsealed = reaper_keeps_unsealed K T old new before behind from to changes did goes names free e h.out
             (left (is_away (place_of (control_of new.past) e)) ((slot_after t.number.0 (moments_of (for_caller j new))).0 == new.past.workers + owner_of (control_of new.past) e) coming) written;
         crossed = fits.crossed;
         others = fits.others;
@@ -185,5 +187,5 @@ module _ (W T : Type 0) {S O I N : Type 0} (K : Known S O I N) (once : EndsAreSe
   }
 
 pub open_agree_still : (W T : Type 0) {S O I N : Type 0} (K : Known S O I N) → EndsAreSealedOnce N T → OpenAgreeStill W T K
-open_agree_still W T K once old new before behind from to changes did go names names_now free only j t apart agrees =
-    agree_still W T K once old new before behind from to changes did go names names_now free only j t apart agrees
+open_agree_still W T K once old new before behind from to changes did goes names free only j t agrees =
+    agree_still W T K once old new before behind from to changes did goes names free only j t agrees

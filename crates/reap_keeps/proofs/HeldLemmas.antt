@@ -1,10 +1,12 @@
 -- The reaper has each closed socket that was taken over and lives, behind its own call too.
-use Rattle.std.specs.Prelude.{◌≡◌, ◌≢◌, ◌≤◌, ◌&&◌, ◌++◌, ◌∷◌, [], ℕ, Bool, true, false, not, List, Some, All, length, refl}
+use Rattle.std.specs.Prelude.{◌≡◌, ◌≢◌, ◌≤◌, ◌&&◌, ◌++◌, ◌∷◌, [], ℕ, Bool, true, false, not, List, length, refl}
 use Rattle.std.specs.List.{list_any}
 use Rattle.std.proofs.Common.{arith, sym, ap, ◌∙◌, subst}
 use Rattle.std.proofs.lemmas.Bool.{eqb-true}
 use Rattle.std.proofs.lemmas.List.{append-nil}
-use Rattle.std.proofs.lemmas.List.Elements.{All-head}
+use Rattle.zq_base.specs.declared.ids.ObjId.{ObjId}
+use Rattle.zq_base.specs.declared.ids.SlotId.{SlotId}
+use Rattle.spec_control.specs.declared.entry.Answered.{Answered}
 use Rattle.spec_control.specs.declared.entry.Did.{Did}
 use Rattle.spec_control.specs.declared.entry.Did.TheVariants.{Asked, Delivered, Delimited}
 use Rattle.spec_control.specs.declared.entry.Item.{Item}
@@ -13,17 +15,19 @@ use Rattle.spec_control.specs.declared.letter.Word.{Word}
 use Rattle.spec_control.specs.declared.letter.Word.TheVariants.{Own, Plug, TermReq, Term, TermAck, PipeBind, PipeTerm, PipeTermAck, Stop, Reap}
 use Rattle.spec_control.specs.declared.stage.Use.{Use}
 use Rattle.spec_control.specs.declared.stage.Use.TheVariants.{Unused, OnItsWay, Used}
-use Rattle.spec_control.specs.Stage.{is_coming, is_used}
+use Rattle.spec_control.specs.Stage.{is_alive, is_coming, is_used}
 use Rattle.spec_control.specs.Row.{is_socket}
 use Rattle.spec_control.specs.Rows.{obj}
 use Rattle.spec_control.specs.Control.{Control, begun, id}
-use Rattle.spec_control.specs.ControlRun.{IsControlRun, after_all, after_item, is_between}
-use Rattle.control_rows.proofs.ListLemmas.{never, right}
+use Rattle.spec_control.specs.ControlRun.{Fits, FitsItem, IsControlRun, after_all, after_item, is_between}
+use Rattle.control_rows.proofs.ListLemmas.{and, left, never, right}
+use Rattle.control_laws.specs.Kept.{Kept}
 use Rattle.control_held.specs.Moments.{Moment, moments_from}
+use Rattle.control_moves.proofs.GuardLemmas.{may_come}
 use Rattle.control_moves.specs.OwnMoves.{own_moves}
 use Rattle.msg_pipe.specs.Known.{Known}
 use Rattle.ctl_holder.specs.declared.given.Given.{Given}
-use Rattle.ctl_holder.specs.Joins.{StaysHad}
+use Rattle.ctl_holder.specs.Joins.{KeepsObjects, StaysHad}
 use Rattle.ctl_history.specs.Past.{control_of}
 use Rattle.held_ends.specs.declared.changes.PipeChange.{PipeChange}
 use Rattle.held_laws.proofs.BetweenLemmas.{reap_comes}
@@ -36,31 +40,35 @@ use Rattle.desk_laws.proofs.LastLemmas.{grown}
 use Rattle.core_others.proofs.GrownLemmas.{kept_found, led_more, run_more}
 use Rattle.reap_stands.specs.Coming.{HasTaken}
 use Rattle.reap_stands.specs.Ends.{ReaperDid}
-use Rattle.reap_keeps.specs.Taken.{brought_by, brought_in, brought_with, ReaperKeepsTaken}
+use Rattle.reap_keeps.specs.Taken.{ReaperKeepsTaken}
 use Rattle.reap_keeps.proofs.TakenLemmas.{his_back, his_now, reaps_at, IsHis}
 
--- ---- what a Reap brings
-word_brings : (i : ℕ) (word : Word) → reaps i word ≡ true → brought_by word ≡ Some i
-word_brings i (Own child) is = absurd (never is)
-word_brings i (Plug end) is = absurd (never is)
-word_brings i (TermReq child) is = absurd (never is)
-word_brings i Term is = absurd (never is)
-word_brings i (TermAck child) is = absurd (never is)
-word_brings i (PipeBind e peer) is = absurd (never is)
-word_brings i (PipeTerm e) is = absurd (never is)
-word_brings i (PipeTermAck e) is = absurd (never is)
-word_brings i Stop is = absurd (never is)
-word_brings i (Reap socket) is = ap (λ (n : ℕ). Some n) (eqb-true socket.0 i is)
+-- ---- an object whose Reap is processed is on its way
+module _ {N S : Type 0} (c : Control) (kept : Kept c) (i : ℕ) where
+  word_between : (slot : SlotId) (to : ObjId) (word : Word) (h : Answered N S) → Fits c (Delivered slot (record { to = to; word = word }) h) → reaps i word ≡ true → is_between (obj c.rows i) ≡ true
+  word_between slot to (Own child) h fits is = absurd (never is)
+  word_between slot to (Plug end) h fits is = absurd (never is)
+  word_between slot to (TermReq child) h fits is = absurd (never is)
+  word_between slot to Term h fits is = absurd (never is)
+  word_between slot to (TermAck child) h fits is = absurd (never is)
+  word_between slot to (PipeBind e peer) h fits is = absurd (never is)
+  word_between slot to (PipeTerm e) h fits is = absurd (never is)
+  word_between slot to (PipeTermAck e) h fits is = absurd (never is)
+  word_between slot to Stop h fits is = absurd (never is)
+  word_between slot to (Reap socket) h fits is =
+      let comes = may_come c kept slot.0 fits.may.behind to.0 (Reap socket) fits.may.oldest in
+      let o = obj c.rows socket.0 in
+      subst (λ (n : ℕ). is_between (obj c.rows n) ≡ true) (eqb-true socket.0 i is)
+      (and (is_socket o.kind) (is_coming o.request) (right (is_alive o.stage) _ (right (is_coming o.request) _ comes.comes)) (left (is_coming o.request) _ comes.comes))
 
-module _ {N S : Type 0} (c : Control) (i : ℕ) where
-  did_brings : (did : Did N S) → list_any (reap_comes i) (own_moves c did) ≡ true → brought_in did ≡ Some i
-  did_brings (Asked req reply h) is = absurd (never (sym (asked_reaps i c req reply) ∙ is))
-  did_brings (Delivered slot letter h) is = word_brings i letter.word (sym (word_reaps i letter.to.0 letter.word) ∙ is)
-  did_brings (Delimited e h) is = absurd (never is)
+  did_between : (did : Did N S) → Fits c did → list_any (reap_comes i) (own_moves c did) ≡ true → is_between (obj c.rows i) ≡ true
+  did_between (Asked req reply h) fits is = absurd (never (sym (asked_reaps i c req reply) ∙ is))
+  did_between (Delivered slot letter h) fits is = word_between slot letter.to letter.word h fits (sym (word_reaps i letter.to.0 letter.word) ∙ is)
+  did_between (Delimited e h) fits is = absurd (never is)
 
-  brings_at : (x : Item N S) → reaps_at i c x ≡ true → brought_with x ≡ Some i
-  brings_at (Event entry) is = did_brings entry.did is
-  brings_at (Seen sight) is = absurd (never is)
+  between_at : (x : Item N S) → FitsItem c x → reaps_at i c x ≡ true → is_between (obj c.rows i) ≡ true
+  between_at (Event entry) fits is = did_between entry.did fits is
+  between_at (Seen sight) fits is = absurd (never is)
 
 -- one that was taken over is on its way no more
 not_coming : (u : Use) → is_used u ≡ true → is_coming u ≡ false
@@ -78,7 +86,7 @@ not_between c i is =
     ap (λ (b : Bool). is_socket o.kind && b) (not_coming o.request (right (is_socket o.kind) _ is.taken)) ∙ no_and (is_socket o.kind)
 
 module _ {S O I N T : Type 0} (K : Known S O I N) (old new : Lent (Given N O I) N T) (before behind : S) (from to : ClosedSockets N O I) (changes : List (PipeChange O I × S)) (did : ReaperDid K old new before behind from to changes)
-    (reaped : All (λ item. (i : ℕ) → brought_with item ≡ Some i → (holding_in K.out_name K.in_name to).holds i ≡ true) did.call.grows.more) (has : HasTaken (control_of old.past) (holding_in K.out_name K.in_name from)) where
+    (has : HasTaken (control_of old.past) (holding_in K.out_name K.in_name from)) where
   abbrev found : Control
   found = after_all old.items (begun old.past.workers)
 
@@ -106,17 +114,22 @@ module _ {S O I N T : Type 0} (K : Known S O I N) (old new : Lent (Given N O I) 
         after = subst (λ (c : Control). IsHis c i) (led_more old new order grows ∙ ap (λ (xs : List (Item N T)). after_all xs found) one) his
 
         by : (b : Bool) → reaps_at i (after_all old.items (begun old.past.workers)) x ≡ b → (holding_in K.out_name K.in_name to).holds i ≡ true
-        by true e = All-head (λ (y : Item N T). (i : ℕ) → brought_with y ≡ Some i → (holding_in K.out_name K.in_name to).holds i ≡ true) x []
-            (subst (λ (xs : List (Item N T)). All (λ y. (i : ℕ) → brought_with y ≡ Some i → (holding_in K.out_name K.in_name to).holds i ≡ true) xs) one reaped) i (brings_at found i x e)
-        by false e =
+        by b e =
             let m : Moment N T = record { found = found; item = x } in
+            let moments_are = grown old new grows ∙ ap (λ (xs : List (Item N T)). moments_of old ++ moments_from found xs) one in
             let fits = subst (IsControlRun found) one (run_more old new order grows) in
-            let was : IsHis (after_all old.items (begun old.past.workers)) i = his_back found x i (kept_found old new order grows was_order) fits.0 e after in
-            let stay : StaysHad (obj found.rows i) (obj (after_item x found).rows i) = record {
-              ended = λ over. absurd (never (sym after.ended ∙ over));
-              way = not_between (after_item x found) i after ∙ sym (not_between found i was);
-            } in
-            (did.keeps.objects.one m (grown old new grows ∙ ap (λ (xs : List (Item N T)). moments_of old ++ moments_from found xs) one)).holds i stay ∙ held was
+            of b e fits.0 (did.keeps.objects.one m moments_are)
+          where
+            of : (b : Bool) → reaps_at i (after_all old.items (begun old.past.workers)) x ≡ b → FitsItem (after_all old.items (begun old.past.workers)) x
+                → KeepsObjects (after_all old.items (begun old.past.workers)) (after_item x (after_all old.items (begun old.past.workers))) (holding_in K.out_name K.in_name from) (holding_in K.out_name K.in_name to) → (holding_in K.out_name K.in_name to).holds i ≡ true
+            of true e fits keeps = keeps.reaped i (between_at found (kept_found old new order grows was_order) i x fits e) (not_between (after_item x found) i after) after.ended
+            of false e fits keeps =
+                let was : IsHis (after_all old.items (begun old.past.workers)) i = his_back found x i (kept_found old new order grows was_order) fits e after in
+                let stay : StaysHad (obj found.rows i) (obj (after_item x found).rows i) = record {
+                  ended = λ over. absurd (never (sym after.ended ∙ over));
+                  way = not_between (after_item x found) i after ∙ sym (not_between found i was);
+                } in
+                keeps.holds i stay ∙ held was
 
     pub reaper_held : (holding_in K.out_name K.in_name to).holds i ≡ true
     reaper_held = by grows.more refl did.call.few
@@ -129,4 +142,4 @@ module _ {S O I N T : Type 0} (K : Known S O I N) (old new : Lent (Given N O I) 
         by (x ∷ y ∷ ys) many few = absurd (omega (arith, few))
 
 pub reaper_keeps_taken : {S O I N : Type 0} (K : Known S O I N) (T : Type 0) → ReaperKeepsTaken K T
-reaper_keeps_taken K T old new before behind from to changes did reaped has i other used living = reaper_held K old new before behind from to changes did reaped has i other used living
+reaper_keeps_taken K T old new before behind from to changes did has i other used living = reaper_held K old new before behind from to changes did has i other used living

@@ -7,3 +7,9 @@ pub mod OnlyLemmas
 pub mod HeldLemmas
 pub mod ElseLemmas
 pub mod AgreeLemmas
+pub mod AskedLemmas
+pub mod ThereLemmas
+pub mod OpenLemmas
+pub mod GivenLemmas
+pub mod LookLemmas
+pub mod PastLemmas

@@ -148,7 +148,7 @@ module _ {G N T : Type 0} (old new : Lent G N T) (before : IsOneOrder old) (behi
   there_then_had i k had = (let all = before.order in had_objects_are_there _ _ old.past.workers old.items all.run i k had)
 
   -- what it had was taken over, and is so still
-  still_used : (k : ℕ) → HasOnlyTaken k old → (i : ℕ) → has_after i old.items ≡ Some k → is_used (obj (control_of new.past).rows i).request ≡ true
+  pub still_used : (k : ℕ) → HasOnlyTaken k old → (i : ℕ) → has_after i old.items ≡ Some k → is_used (obj (control_of new.past).rows i).request ≡ true
   still_used k only i had =
       ap (λ (c : Control). is_used (obj c.rows i).request) (led_more old new behind grows)
       ∙ used_over grows.more found (kept_found old new behind grows before) (run_more old new behind grows) i (there_then_had i k had) (ap (λ (c : Control). is_used (obj c.rows i).request) (sym before.control) ∙ only i had)

@@ -158,6 +158,18 @@ module _ {S O I N T : Type 0} (K : Known S O I N) (old new : Lent (Given N O I) 
 
 -- ---- over a call in which the ends go on
 module _ {S O I N T : Type 0} (K : Known S O I N) (old new : Lent (Given N O I) N T) (before behind : S) (from to : ClosedSockets N O I) (changes : List (PipeChange O I × S)) (did : ReaperDid K old new before behind from to changes)
+    (go : ReaperGoesOn K old new did.call from to) (e : EndId) (here : is_here (place_of (control_of new.past) e) ≡ true) (none : list_any (is_of e) (all_ends to.sockets.items) ≡ true → ⊥) where
+  -- an end that is there behind it, and that the reaper does not have, has no place
+  pub not_placed : (k : ℕ) (p : Place N I) → place_at (first_places K.in_name from (came_since from to)) k ≡ Some p → e ≡ p.end → ⊥
+  not_placed k p at same = by (list_any (is_of p.end) (all_ends to.sockets.items)) refl
+    where
+      by : (b : Bool) → list_any (is_of p.end) (all_ends to.sockets.items) ≡ b → ⊥
+      by true is = none (ap (λ (x : EndId). list_any (is_of x) (all_ends to.sockets.items)) same ∙ is)
+      by false is =
+          let ends = go.ends in
+          never (ap is_here (sym (ends.gone k p at is).gone) ∙ ap (λ (x : EndId). is_here (place_of (control_of new.past) x)) (sym same) ∙ here)
+
+module _ {S O I N T : Type 0} (K : Known S O I N) (old new : Lent (Given N O I) N T) (before behind : S) (from to : ClosedSockets N O I) (changes : List (PipeChange O I × S)) (did : ReaperDid K old new before behind from to changes)
     (go : ReaperGoesOn K old new did.call from to) (names : NamesStand K (control_of old.past) (name_of old.items) before) (e : EndId) where
   -- what an end writes is left that has no place, and is across none that is gone
   module _ (h : O) (named : name_of old.items e ≡ Some (K.out_name h)) (no_place : (k : ℕ) (p : Place N I) → place_at (first_places K.in_name from (came_since from to)) k ≡ Some p → e ≡ p.end → ⊥)
@@ -265,4 +277,8 @@ module _ {S O I N T : Type 0} (K : Known S O I N) (old new : Lent (Given N O I) 
         by true is = absurd (∥∥₁_elim did.done (λ x y. absurd x) (λ done. never (sym (unsealed_by done) ∙ is)))
 
 pub reaper_keeps_unsealed : {S O I N : Type 0} (K : Known S O I N) (T : Type 0) → ReaperKeepsUnsealed K T
-reaper_keeps_unsealed K T old new before behind from to changes did go names free e h away written = unsealed K old new before behind from to changes did go names free e h away written
+reaper_keeps_unsealed K T old new before behind from to changes did goes names free e h away written = by (K.writing behind h).sealed refl
+  where
+    by : (b : Bool) → (K.writing behind h).sealed ≡ b → b ≡ false
+    by false is = refl
+    by true is = absurd (∥∥₁_elim goes (λ x y. absurd x) (λ go. never (sym (unsealed K old new before behind from to changes did go names free e h away written) ∙ is)))

@@ -22,13 +22,12 @@ use Rattle.core_others.specs.Agrees.{AgreesIn}
 use Rattle.reap_stands.specs.Coming.{AwayUnsealed, HasOnlyTaken}
 use Rattle.reap_stands.specs.Ends.{ReaperDid, ReaperGoesOn}
 
--- where the ends go on, and none of the reaper's is the socket's; what is on its way is unsealed, and each pipe that has a name has one of its own
+-- where the ends go on; what is on its way is unsealed, and each pipe that has a name has one of its own
 abbrev pub OpenAgreeStill : (W T : Type 0) → {S O I N : Type 0} → Known S O I N → Type 0
 OpenAgreeStill W T {S} {O} {I} {N} K = (old new : Lent (Given N O I) N T) (before behind : S) (from to : ClosedSockets N O I) (changes : List (PipeChange O I × S)) →
-    (did : ReaperDid K old new before behind from to changes) → ReaperGoesOn K old new did.call from to →
-    NamesStand K (control_of old.past) (name_of old.items) before → NamesStand K (control_of new.past) (name_of new.items) behind → AwayUnsealed K old before → HasOnlyTaken old.caller old →
-    (j : ℕ) (t : SockCore AnySock W N O I) → ((k : ℕ) (p : Place N I) → place_at (first_places K.in_name from (came_since from to)) k ≡ Some p → owner_of (control_of new.past) p.end ≢ t.number.0) →
-    AgreesIn K old j before t → AgreesIn K new j behind t
+    (did : ReaperDid K old new before behind from to changes) → ∥ ReaperGoesOn K old new did.call from to ∥₁ →
+    NamesStand K (control_of old.past) (name_of old.items) before → AwayUnsealed K old before → HasOnlyTaken old.caller old →
+    (j : ℕ) (t : SockCore AnySock W N O I) → AgreesIn K old j before t → AgreesIn K new j behind t
 
 -- an end that the reaper had or has is none of a socket's that a caller has open
 abbrev pub OpenHasNone : (W T : Type 0) → {S O I N : Type 0} → Known S O I N → Type 0

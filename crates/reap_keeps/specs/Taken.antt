@@ -21,19 +21,6 @@ use Rattle.reap_stands.specs.Coming.{HasOnlyTaken, HasTaken}
 use Rattle.reap_stands.specs.Ends.{ReaperDid}
 use Rattle.reap_keeps.specs.Asides.{IsOneItem}
 
--- the closed socket that a command brings to the reaper
-abbrev pub brought_by : Word → Option ℕ
-brought_by (Own child) = None
-brought_by (Plug end) = None
-brought_by (TermReq child) = None
-brought_by Term = None
-brought_by (TermAck child) = None
-brought_by (PipeBind e peer) = None
-brought_by (PipeTerm e) = None
-brought_by (PipeTermAck e) = None
-brought_by Stop = None
-brought_by (Reap socket) = Some socket.0
-
 module _ {N S : Type 0} where
   -- no command is taken from a mailbox in an event
   abbrev pub hears_none_in : Did N S → Bool
@@ -44,16 +31,6 @@ module _ {N S : Type 0} where
   abbrev pub hears_none : Item N S → Bool
   hears_none (Event entry) = hears_none_in entry.did
   hears_none (Seen sight) = true
-
-  -- the closed socket that an item brings to the reaper
-  abbrev pub brought_in : Did N S → Option ℕ
-  brought_in (Asked req reply h) = None
-  brought_in (Delivered slot letter h) = brought_by letter.word
-  brought_in (Delimited e h) = None
-
-  abbrev pub brought_with : Item N S → Option ℕ
-  brought_with (Event entry) = brought_in entry.did
-  brought_with (Seen sight) = None
 
 -- each closed socket that was taken over and lives is had still
 pub record KeepsTaken (G N T : Type 0) : Type 0 where
@@ -73,8 +50,7 @@ pub record KeepsOnlyTaken (G N T : Type 0) : Type 0 where
   -- and over its own calls as the reaper
   pub reaper : (old new : Lent G N T) → IsReapersCall old new → HasOnlyTaken old.caller old → HasOnlyTaken old.caller new
 
--- over a call of the reaper, where it has behind it the closed socket that came in it
+-- over a call of the reaper
 abbrev pub ReaperKeepsTaken : {S O I N : Type 0} → Known S O I N → (T : Type 0) → Type 0
 ReaperKeepsTaken {S} {O} {I} {N} K T = (old new : Lent (Given N O I) N T) (before behind : S) (from to : ClosedSockets N O I) (changes : List (PipeChange O I × S)) →
-    (did : ReaperDid K old new before behind from to changes) → All (λ item. (i : ℕ) → brought_with item ≡ Some i → (holding_in K.out_name K.in_name to).holds i ≡ true) did.call.grows.more →
-    HasTaken (control_of old.past) (holding_in K.out_name K.in_name from) → HasTaken (control_of new.past) (holding_in K.out_name K.in_name to)
+    ReaperDid K old new before behind from to changes → HasTaken (control_of old.past) (holding_in K.out_name K.in_name from) → HasTaken (control_of new.past) (holding_in K.out_name K.in_name to)

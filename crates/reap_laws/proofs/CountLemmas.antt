@@ -44,12 +44,12 @@ none_some e = Prim.grind arith
 
 module _ {N O I : Type 0} (out_name : O → N) (in_name : I → N) (c : Control) (names : PipeId → Option N) (e : EndId) where
   -- an end among these, that reads the pipe of this name
-  record Reads (gs : List (Given N O I)) (n : N) : Type 0 where
-    any : list_any (is_of e) gs ≡ true
-    named : names (other_end e) ≡ Some n
-    here : is_here (place_of c e) ≡ true
+  pub record Reads (gs : List (Given N O I)) (n : N) : Type 0 where
+    pub any : list_any (is_of e) gs ≡ true
+    pub named : names (other_end e) ≡ Some n
+    pub here : is_here (place_of c e) ≡ true
 
-  reads : (gs : List (Given N O I)) → All (IsHere in_name c names) gs → (n : N) → read_in (map (held_given out_name in_name) gs) e ≡ Some n → Reads gs n
+  pub reads : (gs : List (Given N O I)) → All (IsHere in_name c names) gs → (n : N) → read_in (map (held_given out_name in_name) gs) e ≡ Some n → Reads gs n
   reads [] all n h = absurd (none_some h)
   reads (g ∷ gs) all n h = by (is_end e g.end) refl (λ k. reads gs (All-tail (IsHere in_name c names) g gs all) n k) h
     where
@@ -83,7 +83,7 @@ module _ {N O I : Type 0} (out_name : O → N) (in_name : I → N) (c : Control)
       by false is rest k = let r = rest k in record { half = r.half; there = ap (λ (b : Bool). if b then Some g.input else input_in gs e) is ∙ r.there; named = r.named }
 
   -- an end that is read is one of a closed socket's
-  socket_there : (ss : List (ClosedSocket N O I)) (i : ℕ) (n : N) → read_in (map (held_given out_name in_name) (ends_of ss i)) e ≡ Some n → list_any (is_socket i) ss ≡ true
+  pub socket_there : (ss : List (ClosedSocket N O I)) (i : ℕ) (n : N) → read_in (map (held_given out_name in_name) (ends_of ss i)) e ≡ Some n → list_any (is_socket i) ss ≡ true
   socket_there [] i n h = absurd (none_some h)
   socket_there (s ∷ ss) i n h = by (is_socket i s) (socket_there ss i n) h
     where

@@ -1,6 +1,6 @@
 -- The ends that the reaper had and those that came in a call are where such ends may be.
 use Rattle.std.proofs.Common.{◌≡◌, ◌≢◌, ◌++◌, ◌∙◌, ◌⊎◌, inl, inr, ℕ, zero, suc, true, false, List, [], ◌∷◌, All, Option, Some, map, refl, sym, ap, subst, arith}
-use Rattle.std.specs.List.{Contains, list_any}
+use Rattle.std.specs.List.{list_any}
 use Rattle.zq_base.specs.declared.ids.EndId.{EndId}
 use Rattle.zq_base.specs.Ends.{PipeId}
 use Rattle.msg_pipe.specs.Known.{Known}
@@ -18,6 +18,7 @@ use Rattle.held_ends.proofs.SoundLemmas.{one_some}
 use Rattle.own_laws.specs.Ends.{IsHeldWhere, is_new}
 use Rattle.past_laws.specs.Changes.{ArePlacesNamed}
 use Rattle.reaper_ends.specs.declared.sockets.ClosedSockets.{ClosedSockets}
+use Rattle.reaper_ends.specs.Coming.{IsBrought}
 use Rattle.reaper_ends.specs.Finding.{came_given, place_given}
 use Rattle.reaper_ends.specs.Has.{all_ends, is_of}
 use Rattle.reaper_ends.specs.Noted.{first_places}
@@ -100,8 +101,8 @@ module _ {S O I N : Type 0} (K : Known S O I N) (c now : Control) (names : PipeI
   nothing (p ∷ ps) = ap (λ (l : List (Place N I)). p ∷ l) (nothing ps)
 
   -- of ends that were on their way
-  all_go : (given : List (Given N O I)) → CameAll K (λ g. Contains given g) from to → AreOnTheirWay K.in_name c names given → NamedGoOn K c now names from to
-  all_go given a way = record {
+  all_go : (given : List (Given N O I)) (o : ℕ) → CameAll K (IsBrought c given) o from to → AreOnTheirWay K.in_name c names given → NamedGoOn K c now names from to
+  all_go given o a way = record {
     goes = record {
       different = apart_by a.ends a.came (one_place K.in_name K.out_name K.exact a.ends a.two) (λ j k p q m n same. let x = its k q n in
           absurd (true_false (sym (subst (λ (e : EndId). is_between (obj c.rows (owner_of c e)) ≡ true) (sym (same ∙ ap (λ (y : Place N I). y.end) x.1)) x.2.between) ∙ t.taken j p m)));
@@ -125,7 +126,7 @@ module _ {S O I N : Type 0} (K : Known S O I N) (c now : Control) (names : PipeI
       true_false e = cc
 
       on_way : All (IsOnItsWay K.in_name c names) a.ends
-      on_way k d lt = let x = a.brought k d lt in subst (IsOnItsWay K.in_name c names) x.2 (way x.0 _ x.1)
+      on_way k d lt = let x = (a.brought k d lt).one in subst (IsOnItsWay K.in_name c names) x.2 (way x.0 _ x.1)
 
       its : (k : ℕ) (p : Place N I) → place_at (map (place_given K.in_name) a.ends) k ≡ Some p → (g : Given N O I) × (p ≡ place_given K.in_name g) × IsOnItsWay K.in_name c names g
       its k p at = at_its_place K.in_name (IsOnItsWay K.in_name c names) a.ends on_way k p at

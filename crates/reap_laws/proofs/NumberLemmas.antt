@@ -54,7 +54,7 @@ module _ {N O I : Type 0} where
   are_once (s ∷ ss) alone = (sym (by_number s.number.0 ss) ∙ alone.0, are_once ss alone.1)
 
 pub no_socket_comes : {S O I N : Type 0} (K : Known S O I N) → NoSocketComes K
-no_socket_comes K c now given pipes from to has sound keeps stay = by (flat_map sockets_by has.ways) has.sockets
+no_socket_comes K c now found given pipes from to has sound keeps stay = by (flat_map sockets_by has.ways) has.sockets
   where
     by : (os : List ObjId) → numbers to.sockets.items ≡ numbers from.sockets.items ++ os → SocketsCame K from to []
     by [] are = are
@@ -74,7 +74,7 @@ in_front i (n ∷ ns) os some = by (i == n.0) some (in_front i ns os)
     by false t rest = rest t
 
 pub one_socket_comes : {S O I N : Type 0} (K : Known S O I N) → OneSocketComes K
-one_socket_comes {S} {O} {I} {N} K c now given pipes from to has sound keeps r only = by (flat_map sockets_by has.ways) has.sockets
+one_socket_comes {S} {O} {I} {N} K c now found given pipes from to has sound keeps r only = by (flat_map sockets_by has.ways) has.sockets
   where
     -- a closed socket that is none of those before came with its Reap
     reaped : (ns os : List ObjId) (o : ObjId) → numbers to.sockets.items ≡ ns ++ o ∷ os → (among_numbers o.0 (numbers from.sockets.items) ≡ true → among_numbers o.0 ns ≡ true) → o.0 ≡ r

@@ -1,6 +1,6 @@
 -- The ends that the reaper had and those that came in a call are where such ends may be, by how they came (own choice, after libzmq's `reaper_t`).
 use Rattle.std.specs.Prelude.{◌≡◌, ℕ, true, false, List, Option, Some, map}
-use Rattle.std.specs.List.{Contains, list_any}
+use Rattle.std.specs.List.{list_any}
 use Rattle.zq_base.specs.Ends.{PipeId}
 use Rattle.msg_pipe.specs.Known.{Known}
 use Rattle.spec_pattern.specs.PipeStep.{read_through}
@@ -15,6 +15,7 @@ use Rattle.held_ends.specs.Places.{place_at}
 use Rattle.own_laws.specs.Ends.{IsGoneFrom, is_new}
 use Rattle.past_laws.specs.Changes.{ArePlacesNamed}
 use Rattle.reaper_ends.specs.declared.sockets.ClosedSockets.{ClosedSockets}
+use Rattle.reaper_ends.specs.Coming.{IsBrought}
 use Rattle.reaper_ends.specs.Finding.{place_given}
 use Rattle.reaper_ends.specs.Has.{all_ends, is_of}
 use Rattle.reaper_ends.specs.Noted.{first_places}
@@ -46,7 +47,7 @@ module _ {S O I N : Type 0} (K : Known S O I N) (c now : Control) (names : PipeI
   pub record GoOnHowever (given : List (Given N O I)) : Type 0 where
     pub none : to.came.items ≡ from.came.items → NamedGoOn
     pub one : (j : Joining N) → CameOne K j from to → StandsNew j → NamedGoOn
-    pub all : CameAll K (λ g. Contains given g) from to → AreOnTheirWay K.in_name c names given → NamedGoOn
+    pub all : (o : ℕ) → CameAll K (IsBrought c given) o from to → AreOnTheirWay K.in_name c names given → NamedGoOn
 
 abbrev pub ReaperEndsGoOn : {S O I N : Type 0} → Known S O I N → Type 0
 ReaperEndsGoOn {S} {O} {I} {N} K = (c now : Control) (names : PipeId → Option N) (from to : ClosedSockets N O I) (given : List (Given N O I)) →

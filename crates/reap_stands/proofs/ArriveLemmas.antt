@@ -1,6 +1,6 @@
 -- How ends came to closed sockets, by the item of the call.
 use Rattle.std.specs.Prelude.{◌≡◌, ◌≤◌, ◌==◌, ◌⊎◌, ◌++◌, ◌∷◌, [], ℕ, true, false, List, Some, None, Option, All, flat_map, length, map, refl}
-use Rattle.std.specs.List.{Contains, list_any}
+use Rattle.std.specs.List.{list_any}
 use Rattle.std.proofs.Common.{arith, sym, ap, ◌∙◌, subst, inl, inr}
 use Rattle.std.proofs.lemmas.Bool.{eq-eqb}
 use Rattle.std.proofs.lemmas.List.{append-nil}
@@ -15,7 +15,7 @@ use Rattle.spec_control.specs.declared.entry.Item.TheVariants.{Event, Seen}
 use Rattle.spec_control.specs.declared.entry.Joining.{Joining}
 use Rattle.spec_control.specs.declared.letter.Word.{Word}
 use Rattle.spec_control.specs.declared.letter.Word.TheVariants.{Own, Plug, TermReq, Term, TermAck, PipeBind, PipeTerm, PipeTermAck, Stop, Reap}
-use Rattle.spec_control.specs.Control.{Control, begun, owner_of}
+use Rattle.spec_control.specs.Control.{Control, begun}
 use Rattle.spec_control.specs.ControlRun.{after_all, after_item, FitsItem, IsControlRun}
 use Rattle.control_rows.proofs.ListLemmas.{never}
 use Rattle.control_laws.specs.Kept.{Kept}
@@ -26,12 +26,9 @@ use Rattle.ctl_holder.specs.Joins.{KeepsObjects}
 use Rattle.ctl_history.specs.Past.{control_of}
 use Rattle.ctl_plane.specs.Desk.{came_with}
 use Rattle.held_ends.specs.declared.changes.PipeChange.{PipeChange}
-use Rattle.held_ends.specs.declared.table.Place.{Place}
 use Rattle.reaper_ends.specs.declared.sockets.ClosedSockets.{ClosedSockets}
-use Rattle.reaper_ends.specs.Coming.{HasCome}
-use Rattle.reaper_ends.specs.Finding.{came_given}
+use Rattle.reaper_ends.specs.Coming.{HasCome, IsBrought}
 use Rattle.reaper_ends.specs.Has.{holding_in}
-use Rattle.reaper_ends.proofs.AddLemmas.{from_map}
 use Rattle.reap_laws.specs.Came.{CameAll, CameByMoments, SocketsCame}
 use Rattle.reap_laws.proofs.CameLemmas.{reaper_ends_came}
 use Rattle.reap_laws.proofs.NumberLemmas.{no_socket_comes, one_socket_comes}
@@ -44,7 +41,6 @@ use Rattle.reap_stands.specs.However.{CameHow, CameOf}
 use Rattle.reap_stands.specs.Items.{reaped_by, reaped_by_word, reaped_in, ComesBy}
 use Rattle.reap_stands.specs.Joining.{binds, binds_by, binds_in}
 use Rattle.reap_stands.proofs.GrowLemmas.{runs_on}
-use Rattle.reap_stands.proofs.HowLemmas.{since_are}
 use Rattle.reap_stands.proofs.ItemLemmas.{comes_by, none_some}
 use Rattle.reap_stands.proofs.JoinLemmas.{bound_stands}
 use Rattle.reap_stands.proofs.NoneLemmas.{any_last, any_number, no_joins_by, some_none}
@@ -74,7 +70,7 @@ module _ {N T : Type 0} where
   item_is (Seen sight) none p r = inl refl
 
 module _ {S O I N T : Type 0} (K : Known S O I N) (old new : Lent (Given N O I) N T) (before behind : S) (from to : ClosedSockets N O I) (changes : List (PipeChange O I × S)) (did : ReaperDid K old new before behind from to changes)
-    (serves : ServesClosed old new did.call from to) (h : HasCome K (λ g. Contains old.past.given g) from to) where
+    (serves : ServesClosed old new did.call from) (h : HasCome K (IsBrought (control_of old.past) old.past.given) from to) where
   abbrev found : Control
   found = after_all old.items (begun old.past.workers)
 
@@ -87,19 +83,20 @@ module _ {S O I N T : Type 0} (K : Known S O I N) (old new : Lent (Given N O I) 
   kept : Kept found
   kept = (let run = was_order.order in runs_are_kept N T old.past.workers old.items run.run)
 
-  by_moments : CameByMoments K (moments_from (after_all old.items (begun old.past.workers)) did.call.grows.more) (λ g. Contains old.past.given g) from to
-  by_moments = (reaper_ends_came K T (moments_of old) (moments_of new) (moments_from found grows.more) old.past.given from to (grown old new grows)).0 did.keeps.came h
+  by_moments : CameByMoments K (moments_from (after_all old.items (begun old.past.workers)) did.call.grows.more) (IsBrought (control_of old.past) old.past.given) from to
+  by_moments = (reaper_ends_came K T (moments_of old) (moments_of new) (moments_from found grows.more) (control_of old.past) old.past.given from to (grown old new grows)).0 did.keeps.came h
 
   -- ---- without an item
   nothing : grows.more ≡ [] → CameHow K old new from to
   nothing e = inl (by_moments.none (ap (λ (xs : List (Item N T)). flat_map (λ m. came_with m.item) (moments_from found xs)) e)
-      (no_socket_comes K found found old.past.given behind from to h did.sound still (λ i is. is)))
+      (no_socket_comes K found found (control_of old.past) old.past.given behind from to h did.sound still (λ i is. is)))
     where
       still : KeepsObjects found found (holding_in K.out_name K.in_name from) (holding_in K.out_name K.in_name to)
       still = record {
         holds = λ i same. (kept_ones i).0;
         kinds = λ i same. (kept_ones i).1;
         had = λ i is. inl (sym (kept_ones i).0 ∙ is, (kept_ones i).1);
+        reaped = λ i was now lives. absurd (never (sym now ∙ was));
       }
         where
           kept_ones : (i : ℕ) → ((holding_in K.out_name K.in_name to).holds i ≡ (holding_in K.out_name K.in_name from).holds i) × ((holding_in K.out_name K.in_name to).kind i ≡ (holding_in K.out_name K.in_name from).kind i)
@@ -122,29 +119,27 @@ module _ {S O I N T : Type 0} (K : Known S O I N) (old new : Lent (Given N O I) 
     joins_are = ap (λ (xs : List (Item N T)). flat_map (λ m. came_with m.item) (moments_from found xs)) one ∙ append-nil (came_with x)
 
     -- a socket came
-    with_socket : (o : ObjId) → reaped_by x ≡ Some o → (p : ObjId) → p.0 ≡ o.0 → SocketsCame K from to (p ∷ []) → CameHow K old new from to
-    with_socket o reaps p same came = inr (inr (p, of))
+    with_socket : (o : ObjId) → reaped_by x ≡ Some o → (p : ObjId) → SocketsCame K from to (p ∷ []) → CameHow K old new from to
+    with_socket o reaps p came = inr (inr (p, of))
       where
-        all : CameAll K (λ g. Contains old.past.given g) from to
+        all : CameAll K (IsBrought (control_of old.past) old.past.given) p.0 from to
         all = by_moments.all p (joins_are ∙ brings.alone o reaps) came
 
         of : CameOf K old new from to p
         of = record {
           all = all;
-          its = λ k d lt. from_map (λ (q : Place N I × Unit {0}). owner_of (control_of old.past) q.0.end ≡ o.0) (came_given K.in_name) all.ends
-              (subst (All (λ (q : Place N I × Unit {0}). owner_of (control_of old.past) q.0.end ≡ o.0)) (since_are K from to all.ends all.came) (serves.its x one o reaps)) k d lt ∙ sym same;
           held = sym (any_number p.0 to.sockets.items) ∙ ap (list_any (λ (n : ObjId). p.0 == n.0)) came ∙ any_last p.0 (map (λ s. s.number) from.sockets.items) p [] (eq-eqb p.0 p.0 refl);
         }
 
     by_reap : (o : ObjId) → reaped_by x ≡ Some o → CameHow K old new from to
-    by_reap o reaps = elim (one_socket_comes K found (after_item x found) old.past.given behind from to h did.sound keeps o.0 (λ i was now. brings.one o reaps i was now)) [
+    by_reap o reaps = elim (one_socket_comes K found (after_item x found) (control_of old.past) old.past.given behind from to h did.sound keeps o.0 (λ i was now. brings.one o reaps i was now)) [
       | inl alone ↦ inl (by_moments.none (joins_are ∙ brings.alone o reaps) alone)
-      | inr came ↦ with_socket o reaps came.0 came.1 came.2
+      | inr came ↦ with_socket o reaps came.0 came.2
     ]
 
     -- none did
     no_socket : reaped_by x ≡ None → SocketsCame K from to []
-    no_socket unreaped = no_socket_comes K found (after_item x found) old.past.given behind from to h did.sound keeps (λ i was. brings.none unreaped i was)
+    no_socket unreaped = no_socket_comes K found (after_item x found) (control_of old.past) old.past.given behind from to h did.sound keeps (λ i was. brings.none unreaped i was)
 
     by_join : reaped_by x ≡ None → (js : List (Joining N)) → came_with x ≡ js → CameHow K old new from to
     by_join unreaped [] came = inl (by_moments.none (joins_are ∙ came) (no_socket unreaped))

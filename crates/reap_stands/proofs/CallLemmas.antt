@@ -63,4 +63,5 @@ pub reapers_calls_are_so : (G N S : Type 0) → ReapersCallsAreSo G N S
 reapers_calls_are_so G N S = record {
   found = λ found old new before behind h. found_call old new before behind found h;
   met = λ e found old new before behind h. met_call old new before behind e found h;
+  none = λ old new before behind same. no_item old new before behind same;
 }

@@ -1,8 +1,7 @@
 -- Where the ends of closed sockets are over a call of the reaper.
-use Rattle.std.specs.Prelude.{◌≡◌, ◌≤◌, ◌<◌, ◌==◌, ◌++◌, ◌∷◌, [], ℕ, Bool, true, false, List, Some, All, drop, length, map, refl}
+use Rattle.std.specs.Prelude.{◌≡◌, ◌≤◌, ◌++◌, ◌∷◌, [], ℕ, Bool, true, false, List, Some, All, drop, length, map, refl}
 use Rattle.std.specs.List.{list_any}
 use Rattle.std.proofs.Common.{arith, sym, ap, ◌∙◌, subst, true≢false}
-use Rattle.std.proofs.lemmas.Bool.{eq-eqb}
 use Rattle.std.proofs.lemmas.List.{append-nil}
 use Rattle.std.proofs.lemmas.List.Elements.{All-head}
 use Rattle.zq_base.specs.Ends.{PipeId}
@@ -13,11 +12,9 @@ use Rattle.spec_control.specs.declared.entry.Item.{Item}
 use Rattle.spec_control.specs.Place.{At, is_here}
 use Rattle.spec_control.specs.Stage.{has_ended}
 use Rattle.spec_control.specs.Rows.{obj}
-use Rattle.spec_control.specs.Control.{Control, begun, next_pair, owner_of, place_of}
+use Rattle.spec_control.specs.Control.{Control, begun, owner_of, place_of}
 use Rattle.spec_control.specs.ControlRun.{after_all, after_item}
 use Rattle.spec_control.specs.Names.{name_of}
-use Rattle.control_laws.specs.Kept.{Kept}
-use Rattle.control_attached.proofs.MoveLemmas.{is_at}
 use Rattle.control_held.specs.Has.{has_after}
 use Rattle.control_held.specs.Moments.{Moment, moments_from}
 use Rattle.ctl_holder.specs.declared.given.Given.{Given}
@@ -28,8 +25,7 @@ use Rattle.held_ends.specs.declared.changes.PipeChange.{PipeChange}
 use Rattle.held_ends.specs.declared.table.Place.{Place}
 use Rattle.held_ends.specs.Places.{place_at}
 use Rattle.own_laws.specs.Ends.{IsGoneFrom}
-use Rattle.own_laws.specs.Places.{is_end_of}
-use Rattle.own_laws.proofs.PlaceLemmas.{any_filter, gone_is, its_stay, its_there, made_above}
+use Rattle.own_laws.proofs.PlaceLemmas.{gone_is}
 use Rattle.past_laws.specs.Changes.{ArePlacesNamed}
 use Rattle.past_laws.specs.Said.{sealed_with}
 use Rattle.reaper_ends.specs.declared.sockets.ClosedSockets.{ClosedSockets}
@@ -49,6 +45,7 @@ use Rattle.desk_laws.proofs.SocketLemmas.{kept_now}
 use Rattle.reap_stands.specs.Ends.{ReaperDid, ReaperEndsGoOn, ReaperGoesOn}
 use Rattle.reap_stands.proofs.ComingLemmas.{ends_here, has_now}
 use Rattle.reap_stands.proofs.GrowLemmas.{leads_to, runs_on}
+use Rattle.reap_stands.proofs.LedLemmas.{is_still, IsStill}
 use Rattle.reap_stands.proofs.HadLemmas.{ended_has_none, had_by, had_free, has_still, is_among, sockets_had}
 
 dropped_all : {X : Type 0} (xs : List X) → drop (length xs) xs ≡ []
@@ -121,57 +118,25 @@ module _ {S O I N T : Type 0} (K : Known S O I N) (old new : Lent (Given N O I) 
     holds = sockets_had K old was_order before from did.was_sound did.has k g lt;
   }
 
-  module _ (e : EndId) (here : is_here (place_of (control_of old.past) e) ≡ true) where
-    kept : Kept c
-    kept = kept_now old was_order
-
-    its : is_end_of (owner_of (control_of old.past) e) (control_of old.past) e ≡ true
-    its = any_filter (λ x. owner_of c x == owner_of c e) e c.attached (eq-eqb (owner_of c e) (owner_of c e) refl) (kept.listed e.pair.0 e.a here)
-
-    its_now : is_end_of (owner_of (control_of old.past) e) (after_all new.items (begun new.past.workers)) e ≡ true
-    its_now =
-        let run = was_order.order in
-        subst (λ (x : Control). is_end_of (owner_of c e) x e ≡ true) (sym (leads_to old new order grows) ∙ order.control)
-        (its_stay old.past.workers grows.more old.items run.run (runs_on old new order grows) (owner_of c e) e (subst (λ (x : Control). is_end_of (owner_of c e) x e ≡ true) was_order.control its))
-
-    -- it is somewhere still, and its object's
-    pub record IsStill : Type 0 where
-      pub above : 0 < e.pair.0
-      pub numbered : e.pair.0 < next_pair (control_of new.past)
-      pub at : is_at (place_of (control_of new.past) e) ≡ true
-      pub own : owner_of (control_of new.past) e ≡ owner_of (control_of old.past) e
-
-    pub is_still : IsStill
-    is_still =
-        let run = was_order.order in
-        let all = order.order in
-        let there = its_there new.past.workers new.items all.run (owner_of c e) e its_now in
-        record {
-          above = made_above old.past.workers old.items run.run e (subst (λ (x : Control). is_here (place_of x e) ≡ true) was_order.control here);
-          numbered = subst (λ (x : Control). e.pair.0 < next_pair x) (sym order.control) there.numbered;
-          at = subst (λ (x : Control). is_at (place_of x e) ≡ true) (sym order.control) there.at;
-          own = ap (λ (x : Control). owner_of x e) order.control ∙ there.own;
-        }
-
   -- an end that was there is gone if it is among them no more, where its socket is had while it is there
   pub gone_there : (g : Given N O I) → is_here (place_of (control_of old.past) g.end) ≡ true → (is_here (place_of (control_of new.past) g.end) ≡ true → list_any (is_socket (owner_of (control_of old.past) g.end)) to.sockets.items ≡ true)
       → list_any (is_of g.end) (all_ends to.sockets.items) ≡ false → IsGoneFrom {N = N} {I = I} (control_of new.past) (place_given K.in_name g)
   gone_there g here holds none =
-      let still = is_still g.end here in
+      let still = is_still old new did.call g.end here in
       record {
         above = still.above;
         numbered = still.numbered;
         gone = by still (is_here (place_of now g.end)) refl;
       }
     where
-      by : IsStill g.end here → (b : Bool) → is_here (place_of now g.end) ≡ b → place_of now g.end ≡ At Gone
+      by : IsStill old new did.call g.end here → (b : Bool) → is_here (place_of now g.end) ≡ b → place_of now g.end ≡ At Gone
       by still false e = gone_is (place_of now g.end) still.at e
       by still true e =
           absurd (true≢false (sym (is_among K new order behind to did.sound say_now g.end e (ap (λ (i : ℕ). list_any (is_socket i) to.sockets.items) still.own ∙ holds e)) ∙ none))
 
   -- so is one that it had
   gone_one : (g : Given N O I) → WasHad g → list_any (is_of g.end) (all_ends to.sockets.items) ≡ false → IsGoneFrom {N = N} {I = I} (control_of new.past) (place_given K.in_name g)
-  gone_one g was none = gone_there g was.here.here (λ here. holds_still (owner_of c g.end) was.holds g.end (is_still g.end was.here.here).own here) none
+  gone_one g was none = gone_there g was.here.here (λ here. holds_still (owner_of c g.end) was.holds g.end (is_still old new did.call g.end was.here.here).own here) none
 
   -- ---- the places
   abbrev had_places : List (Place N I)

@@ -37,7 +37,7 @@ module _ {G N S : Type 0} (old new : Lent G N S) (behind : IsOneOrder new) (grow
       ∙ ap (λ (xs : List (Item N S)). after_all xs (begun old.past.workers)) grows.items
       ∙ led_on old.items grows.more (begun old.past.workers)
 
-all_last : {X : Type 0} (P : X → Type 0) (xs ys : List X) → All P (xs ++ ys) → All P ys
+pub all_last : {X : Type 0} (P : X → Type 0) (xs ys : List X) → All P (xs ++ ys) → All P ys
 all_last P [] ys all = all
 all_last P (x ∷ xs) ys all = all_last P xs ys (All-tail P x (xs ++ ys) all)
 

@@ -1,6 +1,6 @@
 -- The ends of closed sockets are where such ends may be, however they came.
 use Rattle.std.specs.Prelude.{◌≡◌, ◌++◌, ◌∷◌, [], ℕ, true, false, List, Some, All, map}
-use Rattle.std.specs.List.{Contains, list_any}
+use Rattle.std.specs.List.{list_any}
 use Rattle.std.proofs.Common.{sym, ap, ◌∙◌, subst, inl, inr, true≢false}
 use Rattle.std.proofs.lemmas.List.{append-nil}
 use Rattle.std.proofs.lemmas.List.Elements.{All-cons, All-nil}
@@ -19,6 +19,7 @@ use Rattle.held_ends.specs.declared.table.Place.{Place}
 use Rattle.held_ends.specs.Places.{place_at}
 use Rattle.own_laws.specs.Ends.{IsGoneFrom}
 use Rattle.reaper_ends.specs.declared.sockets.ClosedSockets.{ClosedSockets}
+use Rattle.reaper_ends.specs.Coming.{IsBrought}
 use Rattle.reaper_ends.specs.Finding.{came_given, place_given}
 use Rattle.reaper_ends.specs.Has.{all_ends, holding_in, is_of, is_socket}
 use Rattle.reaper_ends.specs.Noted.{first_places}
@@ -98,16 +99,16 @@ module _ {S O I N T : Type 0} (K : Known S O I N) (old new : Lent (Given N O I) 
       stays none = absurd (true≢false (sym (ap (λ e. list_any (is_of e) (all_ends to.sockets.items)) o.one.joined.end ∙ o.stands.stands) ∙ none))
 
   -- each that was on its way is so
-  pub on_way : (gs : List (Given N O I)) → All (λ g. Contains old.past.given g) gs → All (IsOnItsWay K.in_name (control_of old.past) (name_of old.items)) gs
-  on_way gs brought = λ k d lt. let x = brought k d lt in subst (IsOnItsWay K.in_name c (name_of old.items)) x.2 (way x.0 _ x.1)
+  pub on_way : (o : ℕ) (gs : List (Given N O I)) → All (IsBrought (control_of old.past) old.past.given o) gs → All (IsOnItsWay K.in_name (control_of old.past) (name_of old.items)) gs
+  on_way o gs brought = λ k d lt. let x = (brought k d lt).one in subst (IsOnItsWay K.in_name c (name_of old.items)) x.2 (way x.0 _ x.1)
 
   all_goes : (o : ObjId) → CameOf K old new from to o → ReaperGoesOn K old new did.call from to
-  all_goes o a = goes_by ((reaper_ends_go_on K c now (name_of old.items) from to old.past.given (taken a.all.ends a.all.came away)).all a.all way)
+  all_goes o a = goes_by ((reaper_ends_go_on K c now (name_of old.items) from to old.past.given (taken a.all.ends a.all.came away)).all o.0 a.all way)
     where
       away : All GoesAway a.all.ends
       away = λ k d lt none.
-          let its = on_way a.all.ends a.all.brought k d lt in
-          gone_there K old new before behind from to changes did _ its.here (λ here. ap (λ (i : ℕ). list_any (is_socket i) to.sockets.items) (a.its k d lt) ∙ a.held) none
+          let its = on_way o.0 a.all.ends a.all.brought k d lt in
+          gone_there K old new before behind from to changes did _ its.here (λ here. ap (λ (i : ℕ). list_any (is_socket i) to.sockets.items) (a.all.brought k d lt).its ∙ a.held) none
 
   pub goes_however : CameHow K old new from to → ReaperGoesOn K old new did.call from to
   goes_however (inl same) = none_goes same
@@ -131,7 +132,7 @@ module _ {S O I N T : Type 0} (K : Known S O I N) (old new : Lent (Given N O I) 
   all_came asked o a = record {
     ends = a.all.ends;
     are = a.all.came;
-    asked = λ k d lt. let x = a.all.brought k d lt in subst (λ (g : Given N O I). g.sealed ≡ true → WereAsked c (g.end ∷ [])) x.2 (asked x.0 _ x.1);
+    asked = λ k d lt. let x = (a.all.brought k d lt).one in subst (λ (g : Given N O I). g.sealed ≡ true → WereAsked c (g.end ∷ [])) x.2 (asked x.0 _ x.1);
   }
 
   pub came_how : AllAsked (control_of old.past) old.past.given → CameHow K old new from to → Came

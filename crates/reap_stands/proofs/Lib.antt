@@ -1,6 +1,7 @@
 pub mod CallLemmas
 pub mod ComingLemmas
 pub mod GrowLemmas
+pub mod LedLemmas
 pub mod HadLemmas
 pub mod EndLemmas
 pub mod StandLemmas

@@ -1,6 +1,6 @@
 -- With an item at which no end joins and none is taken over, none came.
 use Rattle.std.specs.Prelude.{◌≡◌, ◌≤◌, ◌==◌, ◌||◌, ◌++◌, ◌∷◌, [], ℕ, Bool, true, false, List, None, All, flat_map, length, map, refl}
-use Rattle.std.specs.List.{Contains, list_any}
+use Rattle.std.specs.List.{list_any}
 use Rattle.std.specs.Coded.{codes}
 use Rattle.std.proofs.Common.{arith, sym, ap, ◌∙◌, subst, inl, inr, true≢false}
 use Rattle.std.proofs.lemmas.Bool.{eq-eqb, eqb-true}
@@ -26,6 +26,7 @@ use Rattle.control_held.specs.Moments.{Moment, moments_from}
 use Rattle.control_moves.specs.OwnMoves.{own_moves, word_moves}
 use Rattle.ctl_holder.specs.declared.given.Given.{Given}
 use Rattle.ctl_holder.specs.Joins.{come_by, IsReaped}
+use Rattle.ctl_history.specs.Past.{control_of}
 use Rattle.ctl_plane.specs.Desk.{came_with}
 use Rattle.held_ends.specs.declared.changes.PipeChange.{PipeChange}
 use Rattle.held_laws.proofs.BetweenLemmas.{between_on, reap_comes}
@@ -33,7 +34,7 @@ use Rattle.held_laws.proofs.LawLemmas.{made_none}
 use Rattle.sock_core.specs.Standing.{standing_joins}
 use Rattle.reaper_ends.specs.declared.sockets.ClosedSocket.{ClosedSocket}
 use Rattle.reaper_ends.specs.declared.sockets.ClosedSockets.{ClosedSockets}
-use Rattle.reaper_ends.specs.Coming.{ends_by, joins_by, sockets_by, CameAlone, CameClosed, HasCome, Way}
+use Rattle.reaper_ends.specs.Coming.{ends_by, joins_by, sockets_by, CameAlone, CameClosed, HasCome, IsBrought, Way}
 use Rattle.reaper_ends.specs.Finding.{came_given}
 use Rattle.reaper_ends.specs.Has.{is_socket}
 use Rattle.reaper_ends.proofs.FormLemmas.{sound_of, AllAlone}
@@ -187,7 +188,7 @@ module _ {S O I N T : Type 0} (K : Known S O I N) (old new : Lent (Given N O I) 
       reaps r = true≢false (sym (still_between found kept i x (All-head (λ (y : Item N T). brings_none_by y ≡ true) x [] none) (subst (IsControlRun found) e fits).0 r.between) ∙ r.taken)
   was_held (x ∷ y ∷ ys) e few none i is = absurd (omega (arith, few))
 
-  module _ (none : All (λ item. brings_none_by item ≡ true) did.call.grows.more) (h : HasCome K (λ g. Contains old.past.given g) from to) where
+  module _ (none : All (λ item. brings_none_by item ≡ true) did.call.grows.more) (h : HasCome K (IsBrought (control_of old.past) old.past.given) from to) where
     no_one : flat_map joins_by h.ways ≡ []
     no_one =
         append_cancel_left (standing_joins from.joins.items) (flat_map joins_by h.ways) (flat_map (λ m. came_with m.item) (moments_from found grows.more)) (sym h.joins ∙ did.keeps.came (moments_from found grows.more) (grown old new grows))

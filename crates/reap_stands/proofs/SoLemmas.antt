@@ -30,12 +30,13 @@ use Rattle.reap_laws.specs.Sealed.{ReaperEndsWereAsked}
 use Rattle.reap_laws.proofs.SealedLemmas.{asked_prop}
 use Rattle.reap_laws.proofs.StillLemmas.{only_seals, still_stands}
 use Rattle.one_desk.specs.Lent.{moments_of, GrowsBy, IsOneOrder, Lent}
-use Rattle.reap_stands.specs.Arriving.{ReaperCallsStandSo}
+use Rattle.reap_stands.specs.Arriving.{ReaperCallsStandSo, ReaperGoesSo}
 use Rattle.reap_stands.specs.Ends.{ReaperDid, ReaperStands}
 use Rattle.reap_stands.proofs.ArriveLemmas.{reaper_came_so}
 use Rattle.reap_stands.proofs.CountedLemmas.{counts_on}
 use Rattle.reap_stands.proofs.EndLemmas.{same_names}
 use Rattle.reap_stands.proofs.GrowLemmas.{leads_to, runs_on}
+use Rattle.reap_stands.proofs.HowLemmas.{reaper_ends_go_on_however}
 use Rattle.reap_stands.proofs.StandLemmas.{reaper_calls_stand_however}
 use native.Mathlib.Bridge.{le_prop}
 
@@ -90,6 +91,10 @@ module _ {S O I N T : Type 0} (K : Known S O I N) (count : ReaperCountsGoOn K T)
     asked = λ k d lt sealed. ∥∥₁_elim some (asked_prop (control_of new.past) _) (λ r. r.asked k d lt sealed);
     counted = λ past stands counted. counts_on K count old new before behind from to changes did counts past stands counted;
   }
+
+pub reaper_goes_so : {S O I N : Type 0} (K : Known S O I N) (T : Type 0) → ReaperGoesSo K T
+reaper_goes_so K T old new before behind from to changes did way serves =
+    ∥∥₁_map (reaper_came_so K T old new before behind from to changes did serves) (λ how. reaper_ends_go_on_however K T old new before behind from to changes did way how)
 
 pub reaper_calls_stand_so : {S O I N : Type 0} (K : Known S O I N) (T : Type 0) → ((s : S) (o p : O) → K.out_name o ≡ K.out_name p → K.writing s o ≡ K.writing s p)
     → ((s : S) (i j : I) → K.in_name i ≡ K.in_name j → K.reading s i ≡ K.reading s j) → ReaperCallsGoOn K T → ReaperChangesAreOfPipes K T → ReaperEndsWereAsked K T → ReaperCountsGoOn K T → PastStaysOver K N T → ReaperCallsStandSo K T

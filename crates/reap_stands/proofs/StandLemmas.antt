@@ -1,19 +1,15 @@
 -- What stands goes on over a call of the reaper.
-use Rattle.std.specs.Prelude.{◌≡◌, ◌≤◌, ◌<◌, ◌++◌, ◌∷◌, [], true, false, List, Some, All, flat_map, length, map, refl}
+use Rattle.std.specs.Prelude.{◌≡◌, ◌<◌, ◌++◌, ◌∷◌, [], true, List, Some, flat_map, map}
 use Rattle.std.specs.List.{AllByRecursion}
 use Rattle.std.proofs.Common.{arith, sym, ap, ◌∙◌, subst}
-use Rattle.std.proofs.lemmas.List.Elements.{All-head, All-nil}
+use Rattle.std.proofs.lemmas.List.Elements.{All-nil}
 use Rattle.zq_base.specs.Ends.{PipeId}
 use Rattle.msg_pipe.specs.Known.{Known}
 use Rattle.spec_pattern.specs.PipeStep.{PipeStep}
-use Rattle.spec_control.specs.declared.entry.Did.{Did}
-use Rattle.spec_control.specs.declared.entry.Did.TheVariants.{Asked, Delivered, Delimited}
 use Rattle.spec_control.specs.declared.entry.Item.{Item}
-use Rattle.spec_control.specs.declared.entry.Item.TheVariants.{Event, Seen}
 use Rattle.spec_control.specs.Control.{Control, begun, next_pair}
 use Rattle.spec_control.specs.ControlRun.{after_all, IsControlRun}
 use Rattle.spec_control.specs.Names.{name_of}
-use Rattle.control_rows.proofs.ListLemmas.{never}
 use Rattle.control_held.specs.Moments.{Moment, moments_from}
 use Rattle.ctl_holder.specs.declared.given.Given.{Given}
 use Rattle.ctl_history.specs.Past.{control_of}
@@ -22,8 +18,6 @@ use Rattle.spec_run.specs.Act.{steps_in}
 use Rattle.spec_run.specs.Event.{acts_said}
 use Rattle.held_ends.specs.declared.changes.PipeChange.{PipeChange}
 use Rattle.core_stands.specs.Standing.{PastStands}
-use Rattle.own_laws.specs.Quiet.{may_pair_by, may_pair_in}
-use Rattle.own_laws.proofs.QuietLemmas.{others_make_none}
 use Rattle.past_laws.specs.Asked.{WereAsked}
 use Rattle.past_laws.specs.Changes.{IsOfPipes}
 use Rattle.past_laws.specs.Said.{sealed_with}
@@ -37,23 +31,13 @@ use Rattle.reap_laws.specs.Counts.{ReaperCountsGoOn}
 use Rattle.reap_laws.specs.Moves.{EndsGoOn, ReaperChangesAreOfPipes}
 use Rattle.reap_laws.specs.Sealed.{AllAsked, ReaperEndsWereAsked}
 use Rattle.one_desk.specs.Lent.{moments_of, GrowsBy, IsOneOrder, Lent}
-use Rattle.desk_laws.specs.Behind.{is_request, is_requested}
 use Rattle.reap_stands.specs.Ends.{ReaperCallsStand, ReaperDid, ReaperGoesOn, ReaperStands}
 use Rattle.reap_stands.specs.However.{ReaperCallsStandHowever}
 use Rattle.reap_stands.proofs.CountedLemmas.{counts_on}
 use Rattle.reap_stands.proofs.EndLemmas.{goes_on, no_came}
 use Rattle.reap_stands.proofs.HowLemmas.{came_how, goes_however, since_are}
 use Rattle.reap_stands.proofs.GrowLemmas.{leads_to, runs_on}
-
-module _ {N T : Type 0} where
-  no_pair_in : (did : Did N T) → is_requested did ≡ false → may_pair_in did ≡ false
-  no_pair_in (Asked req reply h) none = absurd (never (sym none))
-  no_pair_in (Delivered slot letter h) none = refl
-  no_pair_in (Delimited e h) none = refl
-
-  no_pair_by : (x : Item N T) → is_request x ≡ false → may_pair_by x ≡ false
-  no_pair_by (Event entry) none = no_pair_in entry.did none
-  no_pair_by (Seen sight) none = refl
+use Rattle.reap_stands.proofs.LedLemmas.{same_pairs}
 
 module _ {S O I N T : Type 0} (K : Known S O I N) (go : ReaperCallsGoOn K T) (of : ReaperChangesAreOfPipes K T) (asked : ReaperEndsWereAsked K T) (count : ReaperCountsGoOn K T)
     (old new : Lent (Given N O I) N T) (before behind : S) (from to : ClosedSockets N O I) (changes : List (PipeChange O I × S)) (did : ReaperDid K old new before behind from to changes)
@@ -122,18 +106,11 @@ module _ {S O I N T : Type 0} (K : Known S O I N) (go : ReaperCallsGoOn K T) (of
       (go old.past.workers old.items grows.more run on (name_of old.items) (name_of new.items) from to before behind past change at_first
       (subst (λ (x : Control). PastStands K x (name_of old.items) before past) was_order.control stands)).0)
 
-  same_pairs : (xs : List (Item N T)) → grows.more ≡ xs → length xs ≤ 1 → All (λ x. is_request x ≡ false) xs → next_pair (after_all xs found) ≡ next_pair found
-  same_pairs [] e few all = refl
-  same_pairs (x ∷ []) e few all =
-      (others_make_none N T old.past.workers old.items x run (subst (IsControlRun found) e on).0 (no_pair_by x (All-head (λ (y : Item N T). is_request y ≡ false) x [] all))).0
-  same_pairs (x ∷ y ∷ ys) e few all = absurd (omega (arith, few))
-
   names_made : (p : PipeId) (n : N) → name_of new.items p ≡ Some n → p.pair.0 < next_pair (control_of new.past)
   names_made p n at =
       let was = made p n (sym (goes.names p) ∙ at) in
-      let then_is = ap next_pair was_order.control in
-      let now_is = ap next_pair left ∙ same_pairs grows.more refl did.call.few did.call.asks_none in
-      omega (arith, was, then_is, now_is)
+      let same = same_pairs old new did.call in
+      omega (arith, was, same)
 
   pub call_stands : CountsWith K.out_name (λ e writer. counts_of K before from.sockets.items e writer) (moments_of old) (moments_of new) (holding_in K.out_name K.in_name from) → ReaperStands K old new did.call before behind to
   call_stands counts = record {

@@ -1,7 +1,6 @@
 -- How ends came to closed sockets in a call of the reaper, by its item (own choice, after libzmq's `reaper_t`).
-use Rattle.std.specs.Prelude.{◌≡◌, ◌<◌, ℕ, Bool, true, false, List, [], ◌∷◌, Some, All}
+use Rattle.std.specs.Prelude.{◌≡◌, ◌<◌, ℕ, Bool, true, false, List, [], Some, All}
 use Rattle.zq_base.specs.Ends.{PipeId}
-use Rattle.zq_base.specs.declared.ids.ObjId.{ObjId}
 use Rattle.msg_pipe.specs.Known.{Known}
 use Rattle.spec_control.specs.declared.entry.Did.{Did}
 use Rattle.spec_control.specs.declared.entry.Did.TheVariants.{Asked, Delivered, Delimited}
@@ -10,7 +9,7 @@ use Rattle.spec_control.specs.declared.entry.Item.TheVariants.{Event, Seen}
 use Rattle.spec_control.specs.declared.letter.Word.{Word}
 use Rattle.spec_control.specs.declared.letter.Word.TheVariants.{Own, Plug, TermReq, Term, TermAck, PipeBind, PipeTerm, PipeTermAck, Stop, Reap}
 use Rattle.spec_control.specs.Rows.{obj}
-use Rattle.spec_control.specs.Control.{next_pair, owner_of}
+use Rattle.spec_control.specs.Control.{next_pair}
 use Rattle.spec_control.specs.Names.{name_of}
 use Rattle.ctl_holder.specs.declared.given.Given.{Given}
 use Rattle.ctl_history.specs.Giving.{AreOnTheirWay}
@@ -20,14 +19,12 @@ use Rattle.held_ends.specs.declared.changes.PipeChange.{PipeChange}
 use Rattle.reaper_ends.specs.declared.sockets.ClosedSockets.{ClosedSockets}
 use Rattle.reaper_ends.specs.Counting.{counts_of}
 use Rattle.reaper_ends.specs.Has.{all_ends, holding_in}
-use Rattle.reap_laws.specs.Calls.{came_since}
 use Rattle.reap_laws.specs.Sealed.{AllAsked}
 use Rattle.one_desk.specs.Lent.{moments_of, Lent}
 use Rattle.reap_stands.specs.Call.{IsReapersCall}
 use Rattle.reap_stands.specs.Coming.{HasOnlyTaken, HasTaken}
-use Rattle.reap_stands.specs.Ends.{ReaperDid, ReaperStands}
+use Rattle.reap_stands.specs.Ends.{ReaperDid, ReaperGoesOn, ReaperStands}
 use Rattle.reap_stands.specs.However.{CameHow}
-use Rattle.reap_stands.specs.Items.{reaped_by}
 use Rattle.reap_stands.specs.Joining.{HasThem}
 
 -- a command that takes a worker's object in
@@ -53,12 +50,11 @@ module _ {N S : Type 0} where
   plugs_by (Event entry) = plugs_in entry.did
   plugs_by (Seen sight) = false
 
-module _ {N O I T : Type 0} (old new : Lent (Given N O I) N T) (call : IsReapersCall old new) (from to : ClosedSockets N O I) where
-  -- no object of a worker's was taken in; what the caller has are closed sockets; and the ends that came with a Reap are those of the socket whose Reap it is
+module _ {N O I T : Type 0} (old new : Lent (Given N O I) N T) (call : IsReapersCall old new) (from : ClosedSockets N O I) where
+  -- no object of a worker's was taken in, and what the caller has are closed sockets
   pub record ServesClosed : Type 0 where
     pub no_plug : All (λ x. plugs_by x ≡ false) call.grows.more
     pub all : HasThem old from
-    pub its : (x : Item N T) → call.grows.more ≡ x ∷ [] → (o : ObjId) → reaped_by x ≡ Some o → All (λ p. owner_of (control_of old.past) p.0.end ≡ o.0) (came_since from to)
 
 -- ---- the laws
 
@@ -73,13 +69,19 @@ TakenAreHad {S} {O} {I} {N} K G T = (d : Lent G N T) (closed : ClosedSockets N O
 -- then ends came in one of these ways
 abbrev pub ReaperCameSo : {S O I N : Type 0} → Known S O I N → (T : Type 0) → Type 0
 ReaperCameSo {S} {O} {I} {N} K T = (old new : Lent (Given N O I) N T) (before behind : S) (from to : ClosedSockets N O I) (changes : List (PipeChange O I × S)) →
-    (did : ReaperDid K old new before behind from to changes) → ServesClosed old new did.call from to → ∥ CameHow K old new from to ∥₁
+    (did : ReaperDid K old new before behind from to changes) → ServesClosed old new did.call from → ∥ CameHow K old new from to ∥₁
+
+-- so the ends go on, where those that were on their way were so
+abbrev pub ReaperGoesSo : {S O I N : Type 0} → Known S O I N → (T : Type 0) → Type 0
+ReaperGoesSo {S} {O} {I} {N} K T = (old new : Lent (Given N O I) N T) (before behind : S) (from to : ClosedSockets N O I) (changes : List (PipeChange O I × S)) →
+    (did : ReaperDid K old new before behind from to changes) → AreOnTheirWay K.in_name (control_of old.past) (name_of old.items) old.past.given →
+    ServesClosed old new did.call from → ∥ ReaperGoesOn K old new did.call from to ∥₁
 
 -- and what stands goes on, where those that were on their way were so, and each that is told as sealed was asked
 abbrev pub ReaperCallsStandSo : {S O I N : Type 0} → Known S O I N → (T : Type 0) → Type 0
 ReaperCallsStandSo {S} {O} {I} {N} K T = (old new : Lent (Given N O I) N T) (before behind : S) (from to : ClosedSockets N O I) (changes : List (PipeChange O I × S)) →
     (did : ReaperDid K old new before behind from to changes) → AreOnTheirWay K.in_name (control_of old.past) (name_of old.items) old.past.given →
-    ServesClosed old new did.call from to → ((p : PipeId) (n : N) → name_of old.items p ≡ Some n → p.pair.0 < next_pair (control_of old.past)) →
+    ServesClosed old new did.call from → ((p : PipeId) (n : N) → name_of old.items p ≡ Some n → p.pair.0 < next_pair (control_of old.past)) →
     AllAsked (control_of old.past) (all_ends from.sockets.items) → AllAsked (control_of old.past) old.past.given →
     CountsWith K.out_name (λ e writer. counts_of K before from.sockets.items e writer) (moments_of old) (moments_of new) (holding_in K.out_name K.in_name from) →
     ReaperStands K old new did.call before behind to

@@ -14,7 +14,8 @@ pub record IsReapersCall {G N S : Type 0} (old new : Lent G N S) : Type 0 where
   pub few : length grows.more ≤ 1
   pub asks_none : All (λ item. is_request item ≡ false) grows.more
 
--- so is a delivery of the reaper's, and a delimiter that it met or not
+-- so is a delivery of the reaper's, a delimiter that it met or not, and nothing
 pub record ReapersCallsAreSo (G N S : Type 0) : Type 0 where
   pub found : (found : Delivery) (old new : Lent G N S) → IsOneOrder old → IsOneOrder new → FindsFirst found old new → IsReapersCall old new
   pub met : (e : EndId) (found : Bool) (old new : Lent G N S) → IsOneOrder old → IsOneOrder new → MeetsOrNot e found old new → IsReapersCall old new
+  pub none : (old new : Lent G N S) → IsOneOrder old → IsOneOrder new → new ≡ old → IsReapersCall old new

@@ -46,7 +46,7 @@ ClosedBindsFit {S} {O} {I} {N} K G T = (d : Lent G N T) → IsOneOrder d → Are
 
 -- ends that are with their halves may be taken over, where there is room
 abbrev pub GivenMayBeTaken : {S O I N : Type 0} → Known S O I N → Type 0
-GivenMayBeTaken {S} {O} {I} {N} K = (pipes : S) (closed : ClosedSockets N O I) (gs : List (Given N O I)) → AreGivenWith K pipes gs → HasRoom closed → MayTakeFirst (MayTake K pipes closed) gs
+GivenMayBeTaken {S} {O} {I} {N} K = (c : Control) (pipes : S) (closed : ClosedSockets N O I) (gs : List (Given N O I)) → AreGivenWith K pipes gs → HasRoom closed → MayTakeFirst (λ o ends. MayTake K pipes closed ends) c gs
 
 -- whomever a caller serves that has none but closed sockets, it has
 abbrev pub ServedAreHad : (G N T : Type 0) → Type 0

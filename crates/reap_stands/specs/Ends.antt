@@ -1,6 +1,5 @@
 -- Where the ends of closed sockets are over a call of the reaper, and what it leaves of the steps past (own choice, after libzmq's `reaper_t`).
 use Rattle.std.specs.Prelude.{◌≡◌, ◌<◌, ◌++◌, Bool, true, false, List, Some, All, flat_map, length}
-use Rattle.std.specs.List.{Contains}
 use Rattle.zq_base.specs.Ends.{PipeId}
 use Rattle.msg_pipe.specs.Known.{Known}
 use Rattle.spec_pattern.specs.PipeStep.{PipeStep}
@@ -25,7 +24,7 @@ use Rattle.core_stands.specs.Standing.{PastStands}
 use Rattle.past_laws.specs.Changes.{ArePlacesNamed}
 use Rattle.past_laws.specs.Said.{sealed_with}
 use Rattle.reaper_ends.specs.declared.sockets.ClosedSockets.{ClosedSockets}
-use Rattle.reaper_ends.specs.Coming.{HasCome}
+use Rattle.reaper_ends.specs.Coming.{HasCome, IsBrought}
 use Rattle.reaper_ends.specs.Counting.{counts_of}
 use Rattle.reaper_ends.specs.Has.{all_ends, holding_in}
 use Rattle.reaper_ends.specs.Noted.{first_places, HasDoneTo}
@@ -61,7 +60,7 @@ module _ {N S : Type 0} where
   brings_none_by (Seen sight) = true
 
 module _ {S O I N T : Type 0} (K : Known S O I N) where
-  -- in a call of the reaper closed sockets went from one state to another, each time with what the moments say, by these changes of their pipes; what came with closed sockets was on its way
+  -- in a call of the reaper closed sockets went from one state to another, each time with what the moments say, by these changes of their pipes; what came with a closed socket was on its way, and this socket's
   pub record ReaperDid (old new : Lent (Given N O I) N T) (before behind : S) (from to : ClosedSockets N O I) (changes : List (PipeChange O I × S)) : Type 0 where
     pub call : IsReapersCall old new
     pub was_sound : AreSound K before from.sockets.items
@@ -70,7 +69,7 @@ module _ {S O I N T : Type 0} (K : Known S O I N) where
     pub keeps : KeepsUp new.caller (moments_of old) (moments_of new) (holding_in K.out_name K.in_name from) (holding_in K.out_name K.in_name to)
     pub done : ∥ HasDoneTo K before from changes behind to ∥₁
     pub came_are : to.came.items ≡ from.came.items ++ came_since from to
-    pub came : ∥ HasCome K (λ g. Contains old.past.given g) from to ∥₁
+    pub came : ∥ HasCome K (IsBrought (control_of old.past) old.past.given) from to ∥₁
 
   -- the moments of the call
   abbrev pub moments_since : {old new : Lent (Given N O I) N T} → IsReapersCall old new → List (Moment N T)

@@ -1,11 +1,11 @@
 -- What goes on over a call of the reaper, however ends came to closed sockets in it (own choice, after libzmq's `reaper_t`).
-use Rattle.std.specs.Prelude.{◌≡◌, ◌⊎◌, ◌<◌, true, List, Some, All}
-use Rattle.std.specs.List.{Contains, list_any}
+use Rattle.std.specs.Prelude.{◌≡◌, ◌⊎◌, ◌<◌, true, List, Some}
+use Rattle.std.specs.List.{list_any}
 use Rattle.zq_base.specs.Ends.{PipeId}
 use Rattle.zq_base.specs.declared.ids.ObjId.{ObjId}
 use Rattle.msg_pipe.specs.Known.{Known}
 use Rattle.spec_control.specs.declared.entry.Joining.{Joining}
-use Rattle.spec_control.specs.Control.{next_pair, owner_of}
+use Rattle.spec_control.specs.Control.{next_pair}
 use Rattle.spec_control.specs.Names.{name_of}
 use Rattle.ctl_holder.specs.declared.given.Given.{Given}
 use Rattle.ctl_history.specs.Giving.{AreOnTheirWay}
@@ -13,6 +13,7 @@ use Rattle.ctl_history.specs.Past.{control_of}
 use Rattle.ctl_plane.specs.Desk.{CountsWith}
 use Rattle.held_ends.specs.declared.changes.PipeChange.{PipeChange}
 use Rattle.reaper_ends.specs.declared.sockets.ClosedSockets.{ClosedSockets}
+use Rattle.reaper_ends.specs.Coming.{IsBrought}
 use Rattle.reaper_ends.specs.Counting.{counts_of}
 use Rattle.reaper_ends.specs.Has.{all_ends, holding_in, is_socket}
 use Rattle.reap_laws.specs.Came.{CameAll, CameOne}
@@ -24,8 +25,7 @@ use Rattle.reap_stands.specs.Ends.{ReaperDid, ReaperGoesOn, ReaperStands}
 module _ {S O I N T : Type 0} (K : Known S O I N) (old new : Lent (Given N O I) N T) (from to : ClosedSockets N O I) where
   -- the ends of this closed socket came, which the reaper has since
   pub record CameOf (o : ObjId) : Type 0 where
-    pub all : CameAll K (λ g. Contains old.past.given g) from to
-    pub its : All (λ g. owner_of (control_of old.past) g.end ≡ o.0) all.ends
+    pub all : CameAll K (IsBrought (control_of old.past) old.past.given) o.0 from to
     pub held : list_any (is_socket o.0) to.sockets.items ≡ true
 
   -- one end came, which joined

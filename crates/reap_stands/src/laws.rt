@@ -1,5 +1,5 @@
 ghost use Rattle.std.specs.Prelude.{◌≡◌, true};
-ghost use Rattle.reap_stands.specs.Arriving.{NoPlugs, ReaperCallsStandSo, ReaperCameSo, TakenAreHad};
+ghost use Rattle.reap_stands.specs.Arriving.{NoPlugs, ReaperCallsStandSo, ReaperCameSo, ReaperGoesSo, TakenAreHad};
 ghost use Rattle.reap_stands.specs.Call.{ReapersCallsAreSo};
 ghost use Rattle.reap_stands.specs.Coming.{ClosedBindsFit, GivenMayBeTaken, ServedAreHad};
 ghost use Rattle.reap_stands.specs.However.{ReaperCallsStandHowever, ReaperEndsGoOnHowever};
@@ -44,6 +44,11 @@ pub fn taken_are_had<P: Pipes, G, T>(_pipes: &P)
 /// whose Reap it is.
 pub fn reaper_came_so<P: Pipes, T>(_pipes: &P)
     ensures { ReaperCameSo P.known T }
+{}
+
+/// Then the ends of closed sockets go on over it.
+pub fn reaper_goes_so<P: Pipes, T>(_pipes: &P)
+    ensures { ReaperGoesSo P.known T }
 {}
 
 /// Then what stands goes on over it, where looks are exact.

@@ -1,5 +1,5 @@
 -- How ends came, after one more call.
-use Rattle.std.proofs.Common.{◌≡◌, ◌∙◌, List, [], ◌∷◌, ◌++◌, map, refl, sym, ap, subst}
+use Rattle.std.proofs.Common.{◌≡◌, ◌∙◌, ℕ, List, [], ◌∷◌, ◌++◌, map, refl, sym, ap, subst}
 use Rattle.std.specs.Prelude.{flat_map}
 use Rattle.std.specs.List.{AllByRecursion}
 use Rattle.std.proofs.lemmas.List.{append-nil}
@@ -16,7 +16,7 @@ use Rattle.reaper_ends.specs.Coming.{Way, ends_by, joins_by, sockets_by, IsWay, 
 use Rattle.reaper_ends.proofs.ListLemmas.{mapped, same_ends}
 use Rattle.reaper_ends.proofs.NotedLemmas.{rec_more}
 
-module _ {S O I N : Type 0} (K : Known S O I N) (brings : Given N O I → Type 0) (from : ClosedSockets N O I) where
+module _ {S O I N : Type 0} (K : Known S O I N) (brings : ℕ → Given N O I → Type 0) (from : ClosedSockets N O I) where
   pub come_none : (c : ClosedSockets N O I) → from ≡ c → HasCome K brings from c
   come_none c same = subst (HasCome K brings from) same (record {
     ways = [];

@@ -1,8 +1,9 @@
 -- How ends came to closed sockets in a stretch of calls (own choice, after libzmq's `reaper_t`).
-use Rattle.std.specs.Prelude.{◌≡◌, ◌++◌, true, false, List, [], ◌∷◌, All, flat_map, is_some, map}
-use Rattle.std.specs.List.{AllByRecursion}
+use Rattle.std.specs.Prelude.{◌≡◌, ◌++◌, ℕ, true, false, List, [], ◌∷◌, All, flat_map, is_some, map}
+use Rattle.std.specs.List.{AllByRecursion, Contains}
 use Rattle.zq_base.specs.declared.ids.ObjId.{ObjId}
 use Rattle.spec_control.specs.declared.entry.Joining.{Joining}
+use Rattle.spec_control.specs.Control.{Control, owner_of}
 use Rattle.msg_pipe.specs.Known.{Known}
 use Rattle.ctl_holder.specs.declared.given.Given.{Given}
 use Rattle.ctl_holder.specs.Holding.{held_given}
@@ -37,11 +38,16 @@ module _ {N O I : Type 0} where
     pub writes : is_some g.out ≡ true
     pub unsealed : g.sealed ≡ false
 
-  module _ {S : Type 0} (K : Known S O I N) (brings : Given N O I → Type 0) where
-    -- the ends of a closed socket came two by two different, each as it may be brought
+  -- an end is one of these, and in this control state an object's
+  pub record IsBrought (c : Control) (given : List (Given N O I)) (o : ℕ) (g : Given N O I) : Type 0 where
+    pub one : Contains given g
+    pub its : owner_of c g.end ≡ o
+
+  module _ {S : Type 0} (K : Known S O I N) (brings : ℕ → Given N O I → Type 0) where
+    -- the ends of a closed socket came two by two different, each as that socket may bring it
     abbrev pub IsWay : Way N O I → Type 0
     IsWay (CameAlone j g) = IsAsJoined K.in_name j g
-    IsWay (CameClosed number gs) = AllTwo K.exact (map (held_given K.out_name K.in_name) gs) × All brings gs
+    IsWay (CameClosed number gs) = AllTwo K.exact (map (held_given K.out_name K.in_name) gs) × All (brings number.0) gs
 
     -- the ends that came since are those that joined and those of the closed sockets that came, in order
     pub record HasCome (from to : ClosedSockets N O I) : Type 0 where

@@ -161,9 +161,7 @@ where
 
     ghost gives = { false };
 
-    ghost undoes = { false };
-
-    ghost may_take = { λ s gs. MayTake P.known s.pipes s.closed gs × All F.brings gs };
+    ghost may_take = { λ s o gs. MayTake P.known s.pipes s.closed gs × All (F.brings o) gs };
 
     ghost calm = { λ s came. Unit {0} };
 
@@ -221,11 +219,6 @@ where
             },
             None => unreachable!(),
         }
-    }
-
-    fn take_back(&mut self, o: ObjId, end: EndId) -> Halves<P::Out, P::In> {
-        let _unread = (o, end);
-        unreachable!()
     }
 
     fn set_state(&mut self, o: ObjId, end: EndId, state: EndState) {
@@ -348,7 +341,7 @@ where
     fn take_ends(&mut self, o: ObjId, ends: Vec<Given<P::Name, P::Out, P::In>>)
         requires new { (holding_in P.known.out_name P.known.in_name self.old.closed).holds o.0 ≡ false }
         requires may { MayTake P.known self.old.pipes self.old.closed ends.items
-            × All F.brings ends.items }
+            × All (F.brings o.0) ends.items }
         requires apart { ComeApart P.known.exact
             (map (held_given P.known.out_name P.known.in_name) ends.items)
             (holding_in P.known.out_name P.known.in_name self.old.closed) }

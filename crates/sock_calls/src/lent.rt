@@ -26,7 +26,7 @@ use crate::moving::Back;
 use ctl_plane::{Delivery, Desk};
 use held_ends::{HeldPipes, PipeChange};
 use http_server::Log;
-use sock_core::{Joins, Since, SockCore, SockHolder};
+use sock_core::{Joins, Since, SockCore, SockHolder, Undoable};
 use spec_control::{Reply, Req};
 use std::alloc::{AllocError, Global};
 use std::marker::PhantomData;
@@ -55,7 +55,6 @@ where
         (s ≡ pipes) × (t ≡ core) × (core.number.0 ≡ F.object) }
     requires fits { FitsCore P.known C.peers pipes core }
     requires may { MayAskOwn (items_in (D.moments desk.old)) request }
-    requires undoes { F.undoes ≡ true }
     requires makes { (c : Control) → D.finds desk.old c → MakesSo c request F.may_make }
     requires options { HasMarks request }
     requires sockets { D.serves ≡ false → IsOfSockets request }
@@ -86,7 +85,7 @@ where
         F.comes ≡ false → AreMade P.known F.may_make result.did.items
         (length t.ends.places.items) result.core.ends.places.items }
     ensures came { (s : P) (t : SockCore C P.Waker P.Name P.Out P.In) → F.began s t →
-        ∥ HasCome P.known F.undoes F.comes s (length t.ends.places.items)
+        ∥ HasCome P.known true F.comes s (length t.ends.places.items)
         (standing_joins t.joins.items) (way_in result.core.way.items).joined
         (standing_joins result.core.joins.items) result.did.items
         result.core.ends.places.items ∥₁ }
@@ -98,13 +97,13 @@ where
 {
     let mut core = core;
     core.way = Log::new();
-    let mut holder: SockHolder<P, C, F> = SockHolder {
+    let mut holder: SockHolder<P, C, Undoable<F>> = SockHolder {
         pipes,
         core,
         did: Log::new(),
         since: PhantomData,
     };
-    let answer = desk.request::<SockHolder<P, C, F>>(alloc, request, &mut holder);
+    let answer = desk.request::<SockHolder<P, C, Undoable<F>>>(alloc, request, &mut holder);
     let SockHolder {
         pipes,
         core,

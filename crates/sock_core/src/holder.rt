@@ -12,10 +12,10 @@ ghost use Rattle.sock_core.specs.declared.sock.SockCore.{SockCore};
 
 use crate::joins::Joins;
 use crate::joint::{joint_of, note_back, note_join, note_turn};
-use crate::since::Since;
+use crate::since::{Since, Undoing};
 use crate::sock::{Room, SockCore};
 use crate::turns::{note, note_heard, note_seal, stays, unjoin};
-use ctl_holder::{Given, Halves, Holder, Made, Notice, Parting};
+use ctl_holder::{Given, Halves, Holder, Made, Notice, Parting, Undoes};
 use held_ends::{EndTable, HeldPipes, PipeChange, find};
 use http_server::Log;
 use spec_control::EndState;
@@ -144,9 +144,7 @@ where
 
     ghost gives = { true };
 
-    ghost may_take = { λ s gs. Unit {0} };
-
-    ghost undoes = { F.undoes };
+    ghost may_take = { λ s o gs. Unit {0} };
 
     ghost calm = { λ s came.
         IsCalm (way_in s.core.way.items) s.core.ends.places.items s.did.items came };
@@ -243,21 +241,6 @@ where
                 }
             },
             Err(refused) => return Err(refused),
-        }
-    }
-
-    fn take_back(&mut self, o: ObjId, end: EndId) -> Halves<P::Out, P::In> {
-        let _object = o;
-        match find(&self.core.ends.places, end) {
-            Some(place) => {
-                let is_peer = self.core.ends.places[place].peer;
-                unjoin(&mut self.core.kind, end.pair, place, is_peer);
-                let alloc = *self.core.ends.places.allocator();
-                let core = &mut self.core;
-                note_back(&mut core.joins, &mut core.way, alloc);
-                return held_ends::take_back(&self.pipes, &mut self.core.ends, place);
-            }
-            None => unreachable!(),
         }
     }
 
@@ -410,6 +393,30 @@ where
             (holding_in (C.kind self.new.core.kind) self.new.core) }
     {
         let _unread = (o, ends);
+    }
+}
+
+/// A socket takes an attach back in a stretch in which attaches may be undone.
+impl<P, C, F> Undoes<P> for SockHolder<P, C, F>
+where
+    P: HeldPipes,
+    P::Name: Drop,
+    C: Joins,
+    F: Undoing<P, SockCore<C, P::Waker, P::Name, P::Out, P::In>>,
+{
+    fn take_back(&mut self, o: ObjId, end: EndId) -> Halves<P::Out, P::In> {
+        let _object = o;
+        match find(&self.core.ends.places, end) {
+            Some(place) => {
+                let is_peer = self.core.ends.places[place].peer;
+                unjoin(&mut self.core.kind, end.pair, place, is_peer);
+                let alloc = *self.core.ends.places.allocator();
+                let core = &mut self.core;
+                note_back(&mut core.joins, &mut core.way, alloc);
+                return held_ends::take_back(&self.pipes, &mut self.core.ends, place);
+            }
+            None => unreachable!(),
+        }
     }
 }
 

@@ -14,6 +14,6 @@ pub use awaiting::awaits;
 pub use holder::SockHolder;
 pub use joins::Joins;
 pub use joint::{JoinNote, Joint};
-pub use since::Since;
+pub use since::{Since, Undoable, Undoing};
 pub use sock::{Room, SockCore};
 pub use turns::{note, note_seal};

@@ -1,4 +1,4 @@
-use std::marker::Brand;
+use std::marker::{Brand, PhantomData};
 
 /// The pipes and ends with which a stretch of calls began, for proofs alone: who begins a stretch
 /// picks them.
@@ -27,6 +27,14 @@ pub trait Since<S, T> {
         may_make d v w → may_make e r s → d.a ≡ e.a };
 }
 
+/// A stretch of calls in which attaches may be undone.
+pub trait Undoing<S, T>: Since<S, T> {
+    ghost use Rattle.std.specs.Prelude.{◌≡◌, true};
+
+    /// An attach may be undone.
+    ghost undone: { Self.undoes ≡ true };
+}
+
 /// No stretch is told.
 impl<S, T> Since<S, T> for Brand {
     ghost use Rattle.std.specs.Prelude.{true};
@@ -43,4 +51,37 @@ impl<S, T> Since<S, T> for Brand {
     ghost may_make = { λ e written read. Unit {0} };
 
     ghost one_side = { λ made d e v w r s one other. absurd (true≢false made) };
+}
+
+impl<S, T> Undoing<S, T> for Brand {
+    ghost use Rattle.std.proofs.Common.{refl};
+
+    ghost undone = { refl };
+}
+
+/// The stretch that is told of F, where attaches may be undone.
+pub struct Undoable<F> {
+    pub of: PhantomData<F>,
+}
+
+impl<S, T, F: Since<S, T>> Since<S, T> for Undoable<F> {
+    ghost use Rattle.std.specs.Prelude.{true};
+
+    ghost began = { λ s t. F.began s t };
+
+    ghost object = { F.object };
+
+    ghost comes = { F.comes };
+
+    ghost undoes = { true };
+
+    ghost may_make = { F.may_make };
+
+    ghost one_side = { F.one_side };
+}
+
+impl<S, T, F: Since<S, T>> Undoing<S, T> for Undoable<F> {
+    ghost use Rattle.std.proofs.Common.{refl};
+
+    ghost undone = { refl };
 }

@@ -2,7 +2,7 @@ ghost use Rattle.std.specs.Prelude.{◌≡◌, ◌∷◌, [], true};
 ghost use Rattle.zq_tests_core.specs.Ends.{the_end, HasOne};
 
 use crate::sockets::{Socket, check, the_end, with_one_end};
-use ctl_holder::{Halves, Holder};
+use ctl_holder::{Halves, Holder, Undoes};
 use held_ends::find;
 use msg_pipe::{Pipes, PlainIn, PlainOut, PlainPipes};
 use spec_control::EndState;
@@ -10,12 +10,11 @@ use std::test::Fail;
 use zq_base::ObjId;
 
 // Takes the one end back, whose other halves these are.
-fn undo<H: Holder<PlainPipes>>(socket: &mut H, other: &Halves<PlainOut, PlainIn>)
+fn undo<H: Undoes<PlainPipes>>(socket: &mut H, other: &Halves<PlainOut, PlainIn>)
     requires one { HasOne (⟦<PlainPipes as Pipes>⟧.known.in_name other.now.input)
         (⟦<PlainPipes as Pipes>⟧.known.out_name other.now.out) (H.holding socket.old) }
     requires writes { (H.holding socket.old).writes the_end ≡ true }
     requires calm { H.calm socket.old (the_end ∷ []) }
-    requires undoes { H.undoes ≡ true }
 {
     let _other = other;
     let _halves = socket.take_back(ObjId(1), the_end());

@@ -32,7 +32,6 @@ draw_one-requires g c = record {
 
 pub undraw_all-requires : goal.undraw_all-requires
 undraw_all-requires g c = record {
-  undoes = c.requires.undoes;
   taken = were_taken g.P.Pipes.known.out_name g.P.Pipes.known.in_name c.args.state.now (g.H.Holder.holding c.args.holder.now) c.args.socket c.args.waiters.now (length c.args.wakers.now) c.waiters.place c.waiters-test.true c.waiters.state (g.H.Holder.holding c.waiters.holder) c.waiters.batch (slice_index_or c.args.waiters.now c.waiters.place (record { 0 = 0 })) (get_or_default c.args.waiters.now c.waiters.place (record { 0 = 0 }) (slice_index_or c.args.waiters.now c.waiters.place (record { 0 = 0 })) c.waiters-test.true) c.requires.may (c.waiters.invariant.draws c.requires.may) c.draw_one.new.state (g.H.Holder.holding c.draw_one.new.holder) c.draw_one.new.batch.drawn.items c.in-Err.ensures.err.0
       (ap (λ (b : Batch g.row.P-Name.Denot g.row.P-Out.Denot g.row.P-In.Denot). b.drawn.items) c.in-Err.ensures.err.1) c.in-Err.ensures.stays c.in-Err.ensures.quiet c.in-Err.ensures.heard;
   calm = c.draw_one.ensures.calm;

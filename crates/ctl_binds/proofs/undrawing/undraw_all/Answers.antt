@@ -12,7 +12,6 @@ pub undraw_one-requires : goal.undraw_one-requires
 undraw_one-requires g c =
     let w = c.requires.taken in
     record {
-      undoes = c.requires.undoes;
       taken = record { before = w.before; had = w.had; rest = c.pop_back.new.self.items; taken = subst (λ (xs : List (Drawn g.row.P-Name.Denot g.row.P-Out.Denot g.row.P-In.Denot)). AreTaken c.args.socket.0 xs w.before c.last.state w.had (g.H.Holder.holding c.last.holder)) c.in-Some.ensures.items (c.last.invariant.taken w) };
       calm = (drawn_ends c.pop_back.new.self.items, subst (λ (es : List EndId). g.H.Holder.calm c.last.holder es) (ap drawn_ends c.in-Some.ensures.items ∙ drawn_more c.pop_back.new.self.items c.in-Some.pair) c.last.invariant.calm);
     }

@@ -15,7 +15,7 @@ use Rattle.ctl_asks.specs.Bare.{Hears}
 use Rattle.control_rows.proofs.ListLemmas.{left}
 use Rattle.ctl_asks.proofs.BareLemmas.{finished_is, not_ended}
 use Rattle.ctl_holder.specs.Heard.{heard_by}
-use Rattle.ctl_hears.proofs.CameLemmas.{ack_came, none_came, parent_lives, stop_heard, term_came, unheard}
+use Rattle.ctl_hears.proofs.CameLemmas.{ack_came, none_came, own_between, parent_lives, request_between, stop_between, stop_heard, term_came, turn_between, unheard}
 use Rattle.ctl_hears.specs.Processing.{HearsEnd}
 use Rattle.ctl_hears.proofs.hearing.hear_bare.Goals as goal
 
@@ -106,16 +106,20 @@ returns-in-Term-clause-turned g c = λ a silent w.
 pub returns-in-Own-clause-joins : goal.returns-in-Own-clause-joins
 returns-in-Own-clause-joins g c = λ a silent w.
     none_came c.args.letter.now.to a w.control (g.H.Holder.holding c.args.holder.now) (g.H.Holder.holding c.args.holder.now) c.args.letter.now.word silent.joined refl (λ i. refl) (λ i. refl)
+    (own_between c.args.letter.now.to a w.control (g.H.Holder.holding c.args.holder.now) (g.H.Holder.holding c.args.holder.now) c.args.letter.now.word c.in-Own.child c.in-Own.is)
     (unheard c.args.letter.now.to a w.control (g.H.Holder.holding c.args.holder.now) (g.H.Holder.holding c.args.holder.now) c.args.letter.now.word (λ d. ap (λ (x : Word). heard_by c.args.letter.now.to x w.control d) c.in-Own.is) refl)
 
 pub returns-in-TermReq-clause-joins : goal.returns-in-TermReq-clause-joins
 returns-in-TermReq-clause-joins g c = λ a silent w.
+    let hears = subst (λ (x : Word). Hears c.args.state.now c.args.letter.now.to.0 x w.control) c.in-TermReq.is w.hears in
     none_came c.args.letter.now.to a w.control (g.H.Holder.holding c.args.holder.now) (g.H.Holder.holding c.args.holder.now) c.args.letter.now.word silent.joined refl (λ i. refl) (λ i. refl)
+    (request_between c.args.letter.now.to a w.control (g.H.Holder.holding c.args.holder.now) (g.H.Holder.holding c.args.holder.now) c.args.letter.now.word c.in-TermReq.child c.in-TermReq.is hears.comes.comes)
     (unheard c.args.letter.now.to a w.control (g.H.Holder.holding c.args.holder.now) (g.H.Holder.holding c.args.holder.now) c.args.letter.now.word (λ d. ap (λ (x : Word). heard_by c.args.letter.now.to x w.control d) c.in-TermReq.is) refl)
 
 pub returns-in-Stop-clause-joins : goal.returns-in-Stop-clause-joins
 returns-in-Stop-clause-joins g c = λ a silent w.
     none_came c.args.letter.now.to a w.control (g.H.Holder.holding c.args.holder.now) (g.H.Holder.holding c.tell_stop.new.holder) c.args.letter.now.word silent.joined c.tell_stop.ensures.turns.joined c.tell_stop.ensures.stays.now.objects c.tell_stop.ensures.stays.now.kinds
+    (stop_between c.args.letter.now.to a w.control (g.H.Holder.holding c.args.holder.now) (g.H.Holder.holding c.tell_stop.new.holder) c.args.letter.now.word c.in-Stop.is)
     (stop_heard c.args.letter.now.to a w.control (g.H.Holder.holding c.args.holder.now) (g.H.Holder.holding c.tell_stop.new.holder) c.args.letter.now.word c.in-Stop.is c.tell_stop.ensures.heard)
 
 pub returns-in-PipeTerm-clause-joins : goal.returns-in-PipeTerm-clause-joins
@@ -123,6 +127,7 @@ returns-in-PipeTerm-clause-joins g c = λ a silent w.
     let ends = subst (λ (x : Word). HearsEnd g.P.Pipes.known.out_name g.P.Pipes.known.in_name w.names w.control c.args.state.now (g.H.Holder.holding c.args.holder.now) c.args.letter.now.to.0 x None) c.in-PipeTerm.is w.ends in
     let leads = c.turn_end.ensures (record { control = w.control; names = w.names; stands = w.stands; has = w.has; turns = ends }) in
     none_came c.args.letter.now.to a w.control (g.H.Holder.holding c.args.holder.now) (g.H.Holder.holding c.turn_end.new.holder) c.args.letter.now.word silent.joined leads.joined leads.holds leads.kinds
+    (turn_between c.args.letter.now.to a w.control (g.H.Holder.holding c.args.holder.now) (g.H.Holder.holding c.turn_end.new.holder) c.args.letter.now.word c.in-PipeTerm.e c.in-PipeTerm.is)
     (unheard c.args.letter.now.to a w.control (g.H.Holder.holding c.args.holder.now) (g.H.Holder.holding c.turn_end.new.holder) c.args.letter.now.word (λ d. ap (λ (x : Word). heard_by c.args.letter.now.to x w.control d) c.in-PipeTerm.is) leads.heard)
 
 pub returns-in-TermAck-clause-joins : goal.returns-in-TermAck-clause-joins

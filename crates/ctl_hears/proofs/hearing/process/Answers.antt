@@ -84,7 +84,7 @@ take_over-joined-requires-clause-reaps g c = c.requires.reaps (ap brings_ends c.
 
 pub take_over-joined-requires-clause-takes : goal.take_over-joined-requires-clause-takes
 take_over-joined-requires-clause-takes g c =
-    subst (λ (l : Option (Load g.row.P-Name.Denot g.row.P-Out.Denot g.row.P-In.Denot)). g.H.Holder.may_take c.args.holder.now (given_by l)) c.parting_of.ensures (c.requires.takes (ap brings_ends c.in-Reap.is))
+    subst (λ (l : Option (Load g.row.P-Name.Denot g.row.P-Out.Denot g.row.P-In.Denot)). g.H.Holder.may_take c.args.holder.now c.in-Reap.socket.0 (given_by l)) c.parting_of.ensures (c.requires.takes c.in-Reap.socket c.in-Reap.is)
 
 pub take_over-joined-requires-clause-apart : goal.take_over-joined-requires-clause-apart
 take_over-joined-requires-clause-apart g c =

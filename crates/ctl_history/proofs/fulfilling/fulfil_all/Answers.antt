@@ -27,7 +27,7 @@ returns-in-Ok-clause-ok g c = λ w.
     fulfils g.P.Pipes.known.out_name g.P.Pipes.known.in_name c.args.state.now (g.H.Holder.holding c.args.holder.now) c.args.socket c.args.at.now c.args.waiters.now (length c.args.wakers.now) w c.in_ok-batch.batch.drawn.items c.in_ok-batch.batch.notes c.draw_all.new.state c.take_name.new.state (g.H.Holder.holding c.draw_all.new.holder) (c.in_ok-batch.ensures.ok w.draw) c.in-Ok.ensures.ok c.take_name.ensures.boxes c.in-Ok.ensures.ends c.join_all.new.state (g.H.Holder.holding c.join_all.new.holder) (c.join_all.ensures.stands (may_join_all g.P.Pipes.known.out_name g.P.Pipes.known.in_name c.args.state.now (g.H.Holder.holding c.args.holder.now) c.args.socket c.args.at.now c.args.waiters.now (length c.args.wakers.now) w c.in_ok-batch.batch.drawn.items c.in_ok-batch.batch.notes c.draw_all.new.state c.take_name.new.state (g.H.Holder.holding c.draw_all.new.holder) (c.in_ok-batch.ensures.ok w.draw) c.in-Ok.ensures.ok c.take_name.ensures.boxes c.in-Ok.ensures.ends)) (c.join_all.ensures.joins (may_join_all g.P.Pipes.known.out_name g.P.Pipes.known.in_name c.args.state.now (g.H.Holder.holding c.args.holder.now) c.args.socket c.args.at.now c.args.waiters.now (length c.args.wakers.now) w c.in_ok-batch.batch.drawn.items c.in_ok-batch.batch.notes c.draw_all.new.state c.take_name.new.state (g.H.Holder.holding c.draw_all.new.holder) (c.in_ok-batch.ensures.ok w.draw) c.in-Ok.ensures.ok c.take_name.ensures.boxes c.in-Ok.ensures.ends)) (c.join_all.ensures.moves (may_join_all g.P.Pipes.known.out_name g.P.Pipes.known.in_name c.args.state.now (g.H.Holder.holding c.args.holder.now) c.args.socket c.args.at.now c.args.waiters.now (length c.args.wakers.now) w c.in_ok-batch.batch.drawn.items c.in_ok-batch.batch.notes c.draw_all.new.state c.take_name.new.state (g.H.Holder.holding c.draw_all.new.holder) (c.in_ok-batch.ensures.ok w.draw) c.in-Ok.ensures.ok c.take_name.ensures.boxes c.in-Ok.ensures.ends))
 
 pub undraw_all-requires : goal.undraw_all-requires
-undraw_all-requires g c = record { undoes = c.requires.undoes; taken = (record { before = c.args.state.now; had = (g.H.Holder.holding c.args.holder.now); taken = subst (λ (x : State (Load g.row.P-Name.Denot g.row.P-Out.Denot g.row.P-In.Denot)). AreTaken c.args.socket.0 c.in_ok-batch.batch.drawn.items c.args.state.now x (g.H.Holder.holding c.args.holder.now) (g.H.Holder.holding c.draw_all.new.holder)) (sym c.in-Err.ensures.err) (c.in_ok-batch.ensures.ok c.requires.may.draw).taken }); calm = c.in_ok-batch.ensures.calm }
+undraw_all-requires g c = record { taken = (record { before = c.args.state.now; had = (g.H.Holder.holding c.args.holder.now); taken = subst (λ (x : State (Load g.row.P-Name.Denot g.row.P-Out.Denot g.row.P-In.Denot)). AreTaken c.args.socket.0 c.in_ok-batch.batch.drawn.items c.args.state.now x (g.H.Holder.holding c.args.holder.now) (g.H.Holder.holding c.draw_all.new.holder)) (sym c.in-Err.ensures.err) (c.in_ok-batch.ensures.ok c.requires.may.draw).taken }); calm = c.in_ok-batch.ensures.calm }
 
 pub returns-in-Err-clause-err : goal.returns-in-Err-clause-err
 returns-in-Err-clause-err g c = c.undraw_all.ensures.state (record { before = c.args.state.now; had = (g.H.Holder.holding c.args.holder.now); taken = subst (λ (x : State (Load g.row.P-Name.Denot g.row.P-Out.Denot g.row.P-In.Denot)). AreTaken c.args.socket.0 c.in_ok-batch.batch.drawn.items c.args.state.now x (g.H.Holder.holding c.args.holder.now) (g.H.Holder.holding c.draw_all.new.holder)) (sym c.in-Err.ensures.err) (c.in_ok-batch.ensures.ok c.requires.may.draw).taken })

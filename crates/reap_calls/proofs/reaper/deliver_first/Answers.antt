@@ -3,8 +3,10 @@ use Rattle.std.specs.Prelude.{slice_index_or}
 use Rattle.std.specs.List.{Contains}
 use Rattle.std.proofs.lemmas.List.Elements.{Contains-append_left, All-contains_itself}
 use Rattle.ctl_holder.specs.declared.given.Given.{Given}
+use Rattle.ctl_history.specs.Past.{control_of}
 use Rattle.ctl_plane.specs.Desk.{counts_with}
 use Rattle.reaper_ends.specs.declared.sockets.ClosedSockets.{ClosedSockets}
+use Rattle.reaper_ends.specs.Coming.{IsBrought}
 use Rattle.reaper_ends.specs.Counting.{counts_of}
 use Rattle.reaper_ends.specs.Has.{holding_in}
 use Rattle.reaper_ends.specs.Sound.{MayJoin, MayTake}
@@ -17,10 +19,10 @@ deliver_lent-answer-requires-clause-binds g c = λ m i served e x comes writes r
     (subst (λ (y : ClosedSockets _ _ _). MayJoin g.P.Pipes.known c.args.pipes.now y x) (sym c.replace-moved.ensures.value) (c.requires.binds m i served e x comes writes reads))
 
 pub deliver_lent-answer-requires-clause-takes : goal.deliver_lent-answer-requires-clause-takes
-deliver_lent-answer-requires-clause-takes g c = λ ends rest is. (
+deliver_lent-answer-requires-clause-takes g c = λ o ends rest is its. (
   subst (λ (p : g.row.P.Denot). MayTake g.P.Pipes.known p c.replace-moved.result ends) (sym c.replace-lent.ensures.value)
-      (subst (λ (y : ClosedSockets _ _ _). MayTake g.P.Pipes.known c.args.pipes.now y ends) (sym c.replace-moved.ensures.value) (c.requires.takes ends rest is)),
-  λ k d lt. subst (λ (l : List (Given _ _ _)). Contains l (slice_index_or ends k d)) (sym is) (Contains-append_left ends rest (slice_index_or ends k d) (All-contains_itself ends k d lt)),
+      (subst (λ (y : ClosedSockets _ _ _). MayTake g.P.Pipes.known c.args.pipes.now y ends) (sym c.replace-moved.ensures.value) (c.requires.takes o ends rest is its)),
+  λ k d lt. record { one = subst (λ (l : List (Given _ _ _)). Contains l (slice_index_or ends k d)) (sym is) (Contains-append_left ends rest (slice_index_or ends k d) (All-contains_itself ends k d lt)); its = its k d lt },
 )
 
 pub returns-clause-counts : goal.returns-clause-counts
@@ -32,7 +34,7 @@ returns-clause-counts g c = λ m is.
 pub returns-clause-changes : goal.returns-clause-changes
 returns-clause-changes g c =
     let x = c.deliver_lent-answer in
-    let brings = λ (h : Given _ _ _). Contains c.args.desk.now.past.given h in
+    let brings = IsBrought (control_of c.args.desk.now.past) c.args.desk.now.past.given in
     subst (λ (p : g.row.P.Denot). ChangesClosed g.P.Pipes.known brings p c.args.closed.now x.result.pipes x.result.closed) c.replace-lent.ensures.value
     (subst (λ (y : ClosedSockets _ _ _). ChangesClosed g.P.Pipes.known brings c.replace-lent.result y x.result.pipes x.result.closed) c.replace-moved.ensures.value
     (x.ensures.changes c.replace-lent.result c.replace-moved.result (refl, refl)))

@@ -1,9 +1,9 @@
 use Rattle.std.proofs.Common.{refl, subst}
-use Rattle.std.specs.List.{Contains}
-use Rattle.ctl_holder.specs.declared.given.Given.{Given}
+use Rattle.ctl_history.specs.Past.{control_of}
 use Rattle.ctl_plane.specs.Desk.{KeepsUp}
 use Rattle.one_desk.specs.Lent.{moments_of}
 use Rattle.reaper_ends.specs.declared.sockets.ClosedSockets.{ClosedSockets}
+use Rattle.reaper_ends.specs.Coming.{IsBrought}
 use Rattle.reaper_ends.specs.Has.{holding_in}
 use Rattle.reap_calls.specs.Calls.{ChangesClosed}
 use Rattle.reap_calls.proofs.reaper.meet.Goals as goal
@@ -17,7 +17,7 @@ returns-clause-keeps g c =
 pub returns-clause-changes : goal.returns-clause-changes
 returns-clause-changes g c =
     let x = c.meet_lent-answer in
-    let brings = λ (h : Given _ _ _). Contains c.args.desk.now.past.given h in
+    let brings = IsBrought (control_of c.args.desk.now.past) c.args.desk.now.past.given in
     subst (λ (p : g.row.P.Denot). ChangesClosed g.P.Pipes.known brings p c.args.closed.now x.result.pipes x.result.closed) c.replace-lent.ensures.value
     (subst (λ (y : ClosedSockets _ _ _). ChangesClosed g.P.Pipes.known brings c.replace-lent.result y x.result.pipes x.result.closed) c.replace-moved.ensures.value
     (x.ensures.changes c.replace-lent.result c.replace-moved.result (refl, refl)))

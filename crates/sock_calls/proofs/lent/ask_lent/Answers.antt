@@ -3,7 +3,7 @@ use Rattle.sock_core.specs.declared.sock.SockCore.{SockCore}
 use Rattle.sock_calls.proofs.PassingLemmas.{calm_fresh, come_fresh, way_fresh}
 use Rattle.held_ends.specs.Others.{Leaves}
 use Rattle.held_ends.proofs.OthersLemmas.{places_stay, leaves_pipes}
-use Rattle.std.specs.Prelude.{length, map}
+use Rattle.std.specs.Prelude.{length, map, true}
 use Rattle.zq_base.specs.declared.ids.EndId.{EndId}
 use Rattle.sock_core.specs.Noted.{AreMade, HasDone}
 use Rattle.sock_core.proofs.DoneLemmas.{done_none}
@@ -35,7 +35,7 @@ invariant_of-holder g c =
           subst (λ (y : SockCore _ _ _ _ _). HasDone K s y.ends.places.items (map (λ (x : EndId × Unit {0}). x.0) y.sealed.items) c.new.result.items c.args.pipes t.places.items (map (λ (x : EndId × Unit {0}). x.0) c.args.core.sealed.items)) (sym e.1)
           (done_none K s t.places.items (map (λ (x : EndId × Unit {0}). x.0) c.args.core.sealed.items) c.args.pipes c.new.result.items t.places.items e.0 c.new.ensures);
       tied = λ s u b made. subst (λ (y : SockCore _ _ _ _ _). AreMade K g.F.Since.may_make c.new.result.items (length y.ends.places.items) t.places.items) (sym (c.requires.began s u b).1) (made_none K g.F.Since.may_make c.new.result.items t.places.items);
-      came = λ s u b. come_fresh g.C.Joins.pattern g.C.Joins.names g.C.Joins.sound g.C.Joins.peers K g.F.Since.undoes g.F.Since.comes s u c.args.core c.new-core.result.items c.new.result.items (c.requires.began s u b).1 c.new-core.ensures c.new.ensures;
+      came = λ s u b. come_fresh g.C.Joins.pattern g.C.Joins.names g.C.Joins.sound g.C.Joins.peers K true g.F.Since.comes s u c.args.core c.new-core.result.items c.new.result.items (c.requires.began s u b).1 c.new-core.ensures c.new.ensures;
       rest = λ s u b r. subst (λ (y : SockCore _ _ _ _ _). g.C.Joins.rests y.kind) (c.requires.began s u b).1 r;
       way = λ s u b.
           let J = g.C.Joins in

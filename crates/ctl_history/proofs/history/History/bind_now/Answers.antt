@@ -31,6 +31,8 @@ use Rattle.spec_control.specs.declared.request.Reply.TheVariants.{Done}
 use Rattle.ctl_history.specs.Coming.{ComesWith}
 use Rattle.ctl_history.proofs.ComeLemmas.{event_comes, past_comes}
 use Rattle.spec_control.specs.declared.entry.Joining.{Joining}
+use Rattle.spec_control.specs.After.{answers_in}
+use Rattle.ctl_history.proofs.StillLemmas.{bind_still}
 use Rattle.ctl_history.proofs.history.History.bind_now.Goals as goal
 
 pub bind_with_room-requires-clause-may : goal.bind_with_room-requires-clause-may
@@ -184,7 +186,7 @@ returns-clause-joins g c =
     (c.push.ensures ∙ ap (with_last _) (c.in_ok-notes.ensures.room all)) (given_bound g.P.Pipes.known.out_name g.P.Pipes.known.in_name c.self.inside.state _ _ c.args.socket c.args.name c.self.invariant (g.H.Holder.holding c.args.holder.now) lends allowed c.in_ok-notes.notes c.bind_with_room.new.state (g.H.Holder.holding c.bind_with_room.new.holder) fulfils c.with_notes.result c.with_notes.ensures) in
     subst (λ (p : Past (Given g.row.P-Name.Denot g.row.P-Out.Denot g.row.P-In.Denot) g.row.P-Name.Denot g.row.P-Story.Denot). ComesWith c.args.self.now p (g.H.Holder.holding c.args.holder.now) (g.H.Holder.holding c.bind_with_room.new.holder)) (sym step)
     (event_comes c.args.self.now (Asked (Bind c.args.socket (Inproc c.args.name)) Done c.with_notes.result) (g.H.Holder.holding c.args.holder.now) (g.H.Holder.holding c.bind_with_room.new.holder)
-    (fulfils.came ∙ ap (λ (js : List (Joining g.row.P-Name.Denot)). (g.H.Holder.holding c.args.holder.now).joined ++ js) (sym c.with_notes.ensures.joined)) fulfils.gets.objects fulfils.gets.kinds (λ b n. refl) fulfils.heard)
+    (fulfils.came ∙ ap (λ (js : List (Joining g.row.P-Name.Denot)). (g.H.Holder.holding c.args.holder.now).joined ++ js) (sym c.with_notes.ensures.joined)) fulfils.gets.objects fulfils.gets.kinds (bind_still c.args.socket c.args.name (answers_in c.with_notes.result) (control_of c.args.self.now)) (λ b n. refl) fulfils.heard)
 
 pub returns-in_err-notes-clause-joins : goal.returns-in_err-notes-clause-joins
 returns-in_err-notes-clause-joins g c =

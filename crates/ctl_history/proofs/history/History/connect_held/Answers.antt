@@ -27,6 +27,8 @@ use Rattle.ctl_history.proofs.ToldLemmas.{past_told}
 use Rattle.ctl_history.specs.Coming.{ComesWith}
 use Rattle.ctl_history.proofs.ComeLemmas.{event_comes, past_comes}
 use Rattle.spec_control.specs.declared.entry.Joining.{Joining}
+use Rattle.spec_control.specs.After.{answers_in}
+use Rattle.ctl_history.proofs.StillLemmas.{connect_still}
 use Rattle.ctl_history.proofs.history.History.connect_held.Goals as goal
 
 pub connect_with_room-requires : goal.connect_with_room-requires
@@ -177,7 +179,7 @@ returns-clause-joins g c =
     (Inproc c.in_ok-copy.field-0) (ap Inproc c.in_ok-copy.ensures) c.in_ok-made.made.0 c.in_ok-made.made.1 c.connect_with_room.new.state (g.H.Holder.holding c.connect_with_room.new.holder) connected c.with_notes.result c.with_notes.ensures) in
     subst (λ (p : Past (Given g.row.P-Name.Denot g.row.P-Out.Denot g.row.P-In.Denot) g.row.P-Name.Denot g.row.P-Story.Denot). ComesWith c.args.self.now p (g.H.Holder.holding c.args.holder.now) (g.H.Holder.holding c.connect_with_room.new.holder)) (sym step)
     (event_comes c.args.self.now (Asked (Connect c.args.socket (Inproc c.args.name)) (Pair c.in_ok-made.made.0) c.with_notes.result) (g.H.Holder.holding c.args.holder.now) (g.H.Holder.holding c.connect_with_room.new.holder)
-    (connected.came ∙ ap (λ (js : List (Joining g.row.P-Name.Denot)). (g.H.Holder.holding c.args.holder.now).joined ++ js) (sym c.with_notes.ensures.joined)) connected.gets.objects connected.gets.kinds (λ b n. refl) connected.heard)
+    (connected.came ∙ ap (λ (js : List (Joining g.row.P-Name.Denot)). (g.H.Holder.holding c.args.holder.now).joined ++ js) (sym c.with_notes.ensures.joined)) connected.gets.objects connected.gets.kinds (connect_still c.args.socket c.args.name (answers_in c.with_notes.result) (control_of c.args.self.now)) (λ b n. refl) connected.heard)
 
 pub returns-in_err-made-clause-joins : goal.returns-in_err-made-clause-joins
 returns-in_err-made-clause-joins g c =

@@ -15,6 +15,8 @@ use Rattle.ctl_ends.proofs.TurnedLemmas.{turns_same}
 use Rattle.ctl_history.proofs.ToldLemmas.{past_told, waiting_told}
 use Rattle.ctl_history.specs.Coming.{ComesWith}
 use Rattle.ctl_history.proofs.ComeLemmas.{aside_comes, past_comes}
+use Rattle.spec_control.specs.After.{answers_in}
+use Rattle.ctl_history.proofs.StillLemmas.{answered_still, connect_still}
 use Rattle.ctl_history.proofs.history.History.connect_now.Goals as goal
 
 pub returns-in-None-clause-ok : goal.returns-in-None-clause-ok
@@ -50,7 +52,9 @@ returns-in_err-reply-in-None-clause-turned g c =
 pub returns-in-None-clause-joins : goal.returns-in-None-clause-joins
 returns-in-None-clause-joins g c =
     subst (λ (p : Past (Given g.row.P-Name.Denot g.row.P-Out.Denot g.row.P-In.Denot) g.row.P-Name.Denot g.row.P-Story.Denot). ComesWith c.args.self.now p (g.H.Holder.holding c.args.holder.now) (g.H.Holder.holding c.args.holder.now)) (sym c.in_ok-reply-in-None.ensures.ok)
-    (aside_comes c.args.self.now (Asked (Connect c.args.socket (Inproc c.name_of-name.result)) c.in_ok-reply-in-None.reply c.silent.result) (g.H.Holder.holding c.args.holder.now) (g.H.Holder.holding c.args.holder.now) c.silent.ensures.joined refl (λ i. refl) (λ i. refl) (λ b n. refl) refl)
+    (aside_comes c.args.self.now (Asked (Connect c.args.socket (Inproc c.name_of-name.result)) c.in_ok-reply-in-None.reply c.silent.result) (g.H.Holder.holding c.args.holder.now) (g.H.Holder.holding c.args.holder.now) c.silent.ensures.joined refl (λ i. refl) (λ i. refl)
+    (answered_still (Connect c.args.socket (Inproc c.name_of-name.result)) c.in_ok-reply-in-None.reply (answers_in c.silent.result) (control_of c.args.self.now) (connect_still c.args.socket c.name_of-name.result (answers_in c.silent.result) (control_of c.args.self.now)))
+    (λ b n. refl) refl)
 
 pub returns-in_err-reply-in-None-clause-joins : goal.returns-in_err-reply-in-None-clause-joins
 returns-in_err-reply-in-None-clause-joins g c =

@@ -20,6 +20,8 @@ use Rattle.ctl_history.proofs.PlaneLemmas.{planed_now}
 use Rattle.ctl_history.proofs.DelimitLemmas.{may_meet, meets, meets_entry, meets_given, meets_keeps}
 use Rattle.ctl_history.specs.Coming.{ComesWith}
 use Rattle.ctl_history.proofs.ComeLemmas.{aside_comes, past_comes}
+use Rattle.spec_control.specs.declared.end.EndEvent.TheVariants.{DelimiterSeen}
+use Rattle.ctl_terms.proofs.BetweenLemmas.{happens_between}
 use Rattle.ctl_history.proofs.history.History.delimiter.Goals as goal
 
 pub turn_end-requires-clause-may : goal.turn_end-requires-clause-may
@@ -121,7 +123,7 @@ returns-clause-joins g c =
     c.silent.result c.silent.ensures held (c.turn_end.ensures may)) in
     subst (λ (p : Past (Given g.row.P-Name.Denot g.row.P-Out.Denot g.row.P-In.Denot) g.row.P-Name.Denot g.row.P-Story.Denot). ComesWith c.args.self.now p (g.H.Holder.holding c.args.holder.now) (g.H.Holder.holding c.turn_end.new.holder)) (sym step)
     (subst (λ (p : Past (Given g.row.P-Name.Denot g.row.P-Out.Denot g.row.P-In.Denot) g.row.P-Name.Denot g.row.P-Story.Denot). ComesWith p (with_event (Delimited c.args.e c.silent.result) p) (g.H.Holder.holding c.args.holder.now) (g.H.Holder.holding c.turn_end.new.holder)) c.self.view_is
-    (aside_comes inner (Delimited c.args.e c.silent.result) (g.H.Holder.holding c.args.holder.now) (g.H.Holder.holding c.turn_end.new.holder) c.silent.ensures.joined (c.turn_end.ensures may).joined (c.turn_end.ensures may).holds (c.turn_end.ensures may).kinds (λ b n. refl) (c.turn_end.ensures may).heard))
+    (aside_comes inner (Delimited c.args.e c.silent.result) (g.H.Holder.holding c.args.holder.now) (g.H.Holder.holding c.turn_end.new.holder) c.silent.ensures.joined (c.turn_end.ensures may).joined (c.turn_end.ensures may).holds (c.turn_end.ensures may).kinds (happens_between DelimiterSeen c.args.e (control_of inner)) (λ b n. refl) (c.turn_end.ensures may).heard))
 
 pub returns-then-not-is_looked_at-clause-joins : goal.returns-then-not-is_looked_at-clause-joins
 returns-then-not-is_looked_at-clause-joins g c = past_comes c.args.self.now (g.H.Holder.holding c.args.holder.now) (g.H.Holder.holding c.args.holder.now) refl (λ i. refl) (λ i. refl) refl

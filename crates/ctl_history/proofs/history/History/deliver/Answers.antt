@@ -50,7 +50,7 @@ process-requires-clause-reaps g c = λ brings. c.requires.reaps (reap_in_roots g
 pub process-requires-clause-takes : goal.process-requires-clause-takes
 process-requires-clause-takes g c =
     take_first g.P.Pipes.known.out_name g.P.Pipes.known.in_name c.self.inside.state c.take.new.self _ _ c.args.slot c.in-Some.command c.self.invariant (took_lists c.self.inside.state c.take.new.self _ c.in-Some.ensures.rest) c.in-Some.ensures.boxes c.in-Some.ensures.stands (c.in-Some.ensures.front _ c.self.invariant.history.stands) (g.H.Holder.may_take c.args.holder.now)
-    (subst (λ (p : Past (Given g.row.P-Name.Denot g.row.P-Out.Denot g.row.P-In.Denot) g.row.P-Name.Denot g.row.P-Story.Denot). c.args.slot.0 ≡ 0 → MayTakeFirst (g.H.Holder.may_take c.args.holder.now) p.given) (sym c.self.view_is) c.requires.takes)
+    (subst (λ (p : Past (Given g.row.P-Name.Denot g.row.P-Out.Denot g.row.P-In.Denot) g.row.P-Name.Denot g.row.P-Story.Denot). c.args.slot.0 ≡ 0 → MayTakeFirst (g.H.Holder.may_take c.args.holder.now) (control_of p) p.given) (sym c.self.view_is) c.requires.takes)
 
 pub process-requires-clause-come : goal.process-requires-clause-come
 process-requires-clause-come g c = λ brings.
@@ -207,7 +207,7 @@ returns-in-Ok-clause-joins g c =
     let did = Delivered c.args.slot c.in-Some.command.letter c.in-Ok.answered in
     subst (λ (p : Past (Given g.row.P-Name.Denot g.row.P-Out.Denot g.row.P-In.Denot) g.row.P-Name.Denot g.row.P-Story.Denot). ComesWith c.args.self.now p (g.H.Holder.holding c.args.holder.now) (g.H.Holder.holding c.process.new.holder)) (sym step)
     (subst (λ (p : Past (Given g.row.P-Name.Denot g.row.P-Out.Denot g.row.P-In.Denot) g.row.P-Name.Denot g.row.P-Story.Denot). ComesWith p (with_event did p) (g.H.Holder.holding c.args.holder.now) (g.H.Holder.holding c.process.new.holder)) c.self.view_is
-    (objects_come inner did (g.H.Holder.holding c.args.holder.now) (g.H.Holder.holding c.process.new.holder) (c.in-Ok.ensures.joins hear).came (record { holds = λ i stays. (c.in-Ok.ensures.joins hear).objects.holds i (record { ended = stays.ended; way = stays.way }); kinds = λ i stays. (c.in-Ok.ensures.joins hear).objects.kinds i (record { ended = stays.ended; way = stays.way }); had = λ i has. (c.in-Ok.ensures.joins hear).objects.had i has })
+    (objects_come inner did (g.H.Holder.holding c.args.holder.now) (g.H.Holder.holding c.process.new.holder) (c.in-Ok.ensures.joins hear).came (record { holds = λ i stays. (c.in-Ok.ensures.joins hear).objects.holds i (record { ended = stays.ended; way = stays.way }); kinds = λ i stays. (c.in-Ok.ensures.joins hear).objects.kinds i (record { ended = stays.ended; way = stays.way }); had = λ i has. (c.in-Ok.ensures.joins hear).objects.had i has; reaped = λ i between taken lives. (c.in-Ok.ensures.joins hear).objects.reaped i between taken lives })
     ((c.in-Ok.ensures.joins hear).heard ∙ ap (λ (ns : List Notice). (g.H.Holder.holding c.args.holder.now).heard ++ ns) (heard_rows c.in-Some.command.letter.to c.in-Some.command.letter.word (control_of inner) (without_front c.args.slot.0 (control_of inner)) (after did (control_of inner)) refl))))
 
 pub returns-in-Err-clause-joins : goal.returns-in-Err-clause-joins

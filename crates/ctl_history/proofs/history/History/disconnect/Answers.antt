@@ -20,6 +20,8 @@ use Rattle.ctl_history.proofs.PlaneLemmas.{planed_noted}
 use Rattle.ctl_history.proofs.StruckLemmas.{refused_has, strikes_with, disconnects, disconnects_given, disconnects_keeps}
 use Rattle.ctl_history.specs.Coming.{ComesWith}
 use Rattle.ctl_history.proofs.ComeLemmas.{aside_comes, past_comes}
+use Rattle.spec_control.specs.After.{answers_in}
+use Rattle.ctl_history.proofs.StillLemmas.{disconnect_still}
 use Rattle.ctl_history.proofs.history.History.disconnect.Goals as goal
 
 pub returns-in-Some-clause-keeps : goal.returns-in-Some-clause-keeps
@@ -108,12 +110,13 @@ returns-in-None-clause-joins g c =
     (disconnects_given g.P.Pipes.known.out_name g.P.Pipes.known.in_name c.self.inside.state _ _ c.args.socket c.args.at c.args.h c.self.invariant open_now c.requires.silent free c.strike_connect.new.state (g.H.Holder.holding c.strike_connect.new.holder)
     (c.strike_connect.ensures.struck (strikes_with g.P.Pipes.known.out_name g.P.Pipes.known.in_name c.self.inside.state _ _ c.args.socket c.args.at c.args.h c.self.invariant open_now c.requires.silent free (g.H.Holder.holding c.args.holder.now) has c.requires.lent))) in
     subst (λ (p : Past (Given g.row.P-Name.Denot g.row.P-Out.Denot g.row.P-In.Denot) g.row.P-Name.Denot g.row.P-Story.Denot). ComesWith c.args.self.now p (g.H.Holder.holding c.args.holder.now) (g.H.Holder.holding c.strike_connect.new.holder)) (sym step)
-    (aside_comes c.args.self.now (Asked (Disconnect c.args.socket c.args.at) Done c.args.h) (g.H.Holder.holding c.args.holder.now) (g.H.Holder.holding c.strike_connect.new.holder) c.requires.silent.joined c.strike_connect.ensures.joins.joined c.strike_connect.ensures.joins.holds c.strike_connect.ensures.joins.kinds (λ b n. refl) c.strike_connect.ensures.joins.heard)
+    (aside_comes c.args.self.now (Asked (Disconnect c.args.socket c.args.at) Done c.args.h) (g.H.Holder.holding c.args.holder.now) (g.H.Holder.holding c.strike_connect.new.holder) c.requires.silent.joined c.strike_connect.ensures.joins.joined c.strike_connect.ensures.joins.holds c.strike_connect.ensures.joins.kinds
+    (disconnect_still c.args.socket c.args.at (answers_in c.args.h) (control_of c.args.self.now)) (λ b n. refl) c.strike_connect.ensures.joins.heard)
 
 pub returns-in-Some-clause-joins : goal.returns-in-Some-clause-joins
 returns-in-Some-clause-joins g c =
     subst (λ (p : Past (Given g.row.P-Name.Denot g.row.P-Out.Denot g.row.P-In.Denot) g.row.P-Name.Denot g.row.P-Story.Denot). ComesWith c.args.self.now p (g.H.Holder.holding c.args.holder.now) (g.H.Holder.holding c.args.holder.now)) (sym c.in_ok-refuse-in-Some.ensures.ok)
-    (aside_comes c.args.self.now (Asked (Disconnect c.args.socket c.args.at) (Refused c.in-Some.refusal) c.args.h) (g.H.Holder.holding c.args.holder.now) (g.H.Holder.holding c.args.holder.now) c.requires.silent.joined refl (λ i. refl) (λ i. refl) (λ b n. refl) refl)
+    (aside_comes c.args.self.now (Asked (Disconnect c.args.socket c.args.at) (Refused c.in-Some.refusal) c.args.h) (g.H.Holder.holding c.args.holder.now) (g.H.Holder.holding c.args.holder.now) c.requires.silent.joined refl (λ i. refl) (λ i. refl) (λ i between. between) (λ b n. refl) refl)
 
 pub returns-in_err-refuse-in-Some-clause-joins : goal.returns-in_err-refuse-in-Some-clause-joins
 returns-in_err-refuse-in-Some-clause-joins g c =

@@ -5,6 +5,7 @@ use Rattle.spec_control.specs.declared.entry.SeenEmpty.TheVariants.{Reapers}
 use Rattle.spec_control.specs.Names.{name_of}
 use Rattle.ctl_holder.specs.declared.given.Given.{Given}
 use Rattle.ctl_holder.specs.TakingOver.{MayTakeFirst}
+use Rattle.ctl_history.specs.Past.{control_of}
 use Rattle.ctl_plane.specs.Coming.{AreDistinct, BindsFit, TakesEnds}
 use Rattle.ctl_plane.specs.Desk.{CountsWith, HasWhatTheySay, KeepsUp}
 use Rattle.one_desk.specs.Lent.{Lent, coming_to, moments_of}
@@ -26,7 +27,7 @@ pub hear_first-requires-clause-fits : goal.hear_first-requires-clause-fits
 hear_first-requires-clause-fits g c = subst (λ (d : Lent (Given g.row.P-Name.Denot g.row.P-Out.Denot g.row.P-In.Denot) g.row.P-Name.Denot g.row.P-Story.Denot). (m i : ℕ) → served_by d m i ≡ true → BindsFit g.P.Pipes.known.out_name g.P.Pipes.known.in_name (name_of d.items) (coming_to d m) (λ h. (e : EndId) → g.H.Holder.fits c.args.holder.now e h)) (sym c.forget_ended.ensures) c.requires.fits
 
 pub hear_first-requires-clause-takes : goal.hear_first-requires-clause-takes
-hear_first-requires-clause-takes g c = subst (λ (d : Lent (Given g.row.P-Name.Denot g.row.P-Out.Denot g.row.P-In.Denot) g.row.P-Name.Denot g.row.P-Story.Denot). MayTakeFirst (g.H.Holder.may_take c.args.holder.now) d.past.given) (sym c.forget_ended.ensures) c.requires.takes
+hear_first-requires-clause-takes g c = subst (λ (d : Lent (Given g.row.P-Name.Denot g.row.P-Out.Denot g.row.P-In.Denot) g.row.P-Name.Denot g.row.P-Story.Denot). MayTakeFirst (g.H.Holder.may_take c.args.holder.now) (control_of d.past) d.past.given) (sym c.forget_ended.ensures) c.requires.takes
 
 on_err : {X E : Type 0} (r : Result X E) (P : Type 0) → P → OnErr r P
 on_err (Ok x) P p = tt

@@ -45,7 +45,7 @@ pub deliver-requires-clause-free : goal.deliver-requires-clause-free
 deliver-requires-clause-free g c = λ first. root_frees (map (λ x. x.0) c.self.inside.order.items) c.self.inside.history (length c.self.inside.wakers.items) c.self.inside.caller c.args.self.now c.self.view_is c.self.invariant.0 (g.H.Holder.holding c.args.holder.now) c.requires.has
 
 pub deliver-requires-clause-takes : goal.deliver-requires-clause-takes
-deliver-requires-clause-takes g c = λ first. subst (λ (d : Lent (Given g.row.P-Name.Denot g.row.P-Out.Denot g.row.P-In.Denot) g.row.P-Name.Denot g.row.P-Story.Denot). MayTakeFirst (g.H.Holder.may_take c.args.holder.now) d.past.given) (sym c.self.view_is) c.requires.takes
+deliver-requires-clause-takes g c = λ first. subst (λ (d : Lent (Given g.row.P-Name.Denot g.row.P-Out.Denot g.row.P-In.Denot) g.row.P-Name.Denot g.row.P-Story.Denot). MayTakeFirst (g.H.Holder.may_take c.args.holder.now) (control_of d.past) d.past.given) (sym c.self.view_is) c.requires.takes
 
 pub deliver-requires-clause-distinct : goal.deliver-requires-clause-distinct
 deliver-requires-clause-distinct g c = λ first. root_distinct (map (λ x. x.0) c.self.inside.order.items) c.self.inside.history (length c.self.inside.wakers.items) c.self.inside.caller c.args.self.now c.self.view_is c.self.invariant.0 g.P.Pipes.known.exact c.requires.distinct

@@ -1,6 +1,11 @@
+use Rattle.std.specs.Prelude.{refl}
+use Rattle.ctl_history.specs.Past.{control_of}
 use Rattle.one_desk.proofs.GrowLemmas.{reaped_grow}
 use Rattle.one_desk.proofs.PlaneLemmas.{err_both, reaped_caller, reaped_names, reaped_ok}
 use Rattle.one_desk.proofs.plane.OneDeskDesk.deliver_first.Goals as goal
+
+pub deliver_first-requires-clause-takes : goal.deliver_first-requires-clause-takes
+deliver_first-requires-clause-takes g c = c.requires.takes (control_of c.args.self.now.past) refl
 
 pub returns-clause-ok : goal.returns-clause-ok
 returns-clause-ok g c = reaped_ok c.args.self.now c.deliver_first.new.self c.deliver_first.result c.deliver_first.ensures.err c.deliver_first.ensures.ok

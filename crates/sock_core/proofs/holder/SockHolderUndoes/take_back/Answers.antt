@@ -33,7 +33,7 @@ use Rattle.sock_core.proofs.NotedLemmas.{were_read_on, sealed_set}
 use Rattle.sock_core.proofs.DoneLemmas.{done_still}
 use Rattle.sock_core.proofs.MadeLemmas.{made_less}
 use Rattle.sock_core.proofs.CameLemmas.{came_undone}
-use Rattle.sock_core.proofs.holder.SockHolderHolder.take_back.Goals as goal
+use Rattle.sock_core.proofs.holder.SockHolderUndoes.take_back.Goals as goal
 
 pub take_back-requires-clause-sound : goal.take_back-requires-clause-sound
 take_back-requires-clause-sound g c = sound_of g.P.Pipes.known c.args.self.now.pipes c.args.self.now.core.ends.rows.items c.args.self.now.core.ends.places.items c.args.self.now.sound
@@ -81,7 +81,7 @@ invariant_of-self g c =
           (record { end_is = refl; written_is = refl; read_is = refl; held = λ x. never (sym x); writes = λ x. never (sym x) }) refl
           (calm_last g.P.Pipes.known old.did.items old.pipes old.core.ends.rows.items (way_in old.core.way.items) old.core.ends.places.items c.in-Some.place f.0 c.args.end c.requires.calm.0
           (sound_of g.P.Pipes.known old.pipes old.core.ends.rows.items old.core.ends.places.items old.sound) f.1 f.2 c.requires.calm.1)
-          c.requires.undoes c.requires.calm.1.makings (old.done p t b).does (old.tied p t b) h);
+          g.met.F.Undoing.undone c.requires.calm.1.makings (old.done p t b).does (old.tied p t b) h);
       tied = λ s t b made. made_less g.P.Pipes.known g.F.Since.may_make c.args.self.now.did.items c.args.self.now.did.items c.args.self.now.core.ends.places.items c.take_back.new.table.places.items (length t.ends.places.items) c.take_back.ensures.others.places same (λ d. refl) (c.args.self.now.tied s t b made);
       done = λ s t b. done_still g.P.Pipes.known s t.ends.places.items (map (λ (x : EndId × Unit {0}). x.0) t.sealed.items) c.args.self.now.pipes c.args.self.now.did.items c.args.self.now.core.ends.places.items c.take_back.new.table.places.items (map (λ (x : EndId × Unit {0}). x.0) c.args.self.now.core.sealed.items) (c.take_back.ensures.others.places) (c.args.self.now.done s t b);
       number = c.args.self.now.number;

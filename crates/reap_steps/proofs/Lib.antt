@@ -1,0 +1,4 @@
+mod ReadLemmas
+mod GoLemmas
+mod RestLemmas
+mod DoneLemmas

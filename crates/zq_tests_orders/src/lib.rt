@@ -1,0 +1,18 @@
+//! Whatever order the single steps of a context are taken in, its root ends: of its actors, of the reaper
+//! of closed sockets, and of who asks the root.
+#![tactic(auto)]
+
+#[cfg(test)]
+mod arrangements;
+#[cfg(test)]
+mod cores;
+#[cfg(test)]
+mod draws;
+#[cfg(test)]
+mod drive;
+#[cfg(test)]
+mod many_sockets;
+#[cfg(test)]
+mod shown;
+#[cfg(test)]
+mod two_sockets;
