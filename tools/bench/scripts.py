@@ -4,7 +4,8 @@
 usage: scripts.py lines COUNT | many COUNT PAIRS | stream SIZE | pair COUNT PAIRS | ask COUNT PEERS
                   | deal COUNT PEERS | route COUNT PEERS | one COUNT PEERS | publish COUNT PEERS TOPICS MATCHES
                   | subscribe COUNT PEERS TOPICS | follow COUNT PEERS | beside COUNT OTHERS | wait COUNT WAITING
-                  | long COUNT OCTETS [-- PROGRAM WORD..]
+                  | long COUNT OCTETS | close COUNT PAIRS | bare COUNT | join COUNT [MARK] | waiting COUNT CLOSED
+                  [-- PROGRAM WORD..]
 
 `lines` is a script of one PULL and one PUSH, `many` one of a PUSH and so many PULLs, `stream` the octets of a PUSH with
 64 MB of message bodies of this size. The others are scripts of COUNT lines, the first of which make and join the
@@ -14,7 +15,10 @@ a PUB with so many pairs, at SUBs of so many topics each, where MATCHES of the p
 `subscribe` of an XPUB and XSUBs, which subscribe to so many topics each and cancel them again; `follow` of a SUB and
 PUBs, which send by turns; `beside` is as `lines`, behind so many other pairs of a PUB and a SUB; `wait` of so many
 connects to a name that nobody holds, and then of binds of other names; `long` of a PUB and a SUB, with one
-topic of so many octets that is each message.
+topic of so many octets that is each message; `close` of a PULL and PUSHes, of which so many are made and joined and then
+closed, over and over; `bare` of sockets that are made alone; `join` of a PUSH that connects to a PULL over and over, with
+this mark each, if one is given; `waiting` of a PUSH and a PULL, by turns, behind so many PUSHes that are joined to another
+PULL and closed, and can't end since nothing is asked of that PULL.
 
 Behind `--` stands a program, as crates/zbus/out/zbus run: it is run seven times over the input, and the least processor
 time of its whole process is told, with the octets of the input.
@@ -160,6 +164,30 @@ def long(count, octets):
     return over(said + ["sub p " + "a" * octets], count, ["send m " + "a" * octets, "recv p"])
 
 
+def close(count, pairs):
+    """So many sockets are made, each with a pair, and closed again, over and over."""
+    made = [line % one for one in range(pairs) for line in ("socket s%d PUSH", "connect s%d inproc://q")]
+    return over(["actor a", "socket r PULL", "bind r inproc://q"], count, made + ["close s%d" % one for one in range(pairs)])
+
+
+def bare(count):
+    return text(["actor a"] + ["socket s%d PUSH" % one for one in range(count)], count)
+
+
+def join(count, mark=None):
+    marks = (" rcvhwm=%d" % mark, " hwm=%d" % mark) if mark else ("", "")
+    said = ["actor a", "socket r PULL" + marks[0], "socket s PUSH" + marks[1], "bind r inproc://q"]
+    return over(said, count, ["connect s inproc://q"])
+
+
+def waiting(count, closed):
+    said = ["actor a", "socket r PULL", "bind r inproc://q", "socket x PUSH", "socket y PULL"]
+    said += ["bind y inproc://z", "connect x inproc://z"]
+    said += [line % one for one in range(closed) for line in ("socket s%d PUSH", "connect s%d inproc://q")]
+    said += ["close s%d" % one for one in range(closed)]
+    return over(said, count, ["send x m", "recv y"])
+
+
 def spent():
     used = resource.getrusage(resource.RUSAGE_CHILDREN)
     return used.ru_utime + used.ru_stime
@@ -182,7 +210,7 @@ def main():
         words = words[:words.index("--")]
     makers = {"lines": lines, "many": many, "stream": stream, "pair": pair, "ask": ask, "deal": deal, "route": route,
               "one": one, "publish": publish, "subscribe": subscribe, "follow": follow, "beside": beside, "wait": wait,
-              "long": long}
+              "long": long, "close": close, "bare": bare, "join": join, "waiting": waiting}
     if not words or words[0] not in makers:
         sys.exit(__doc__)
     octets = makers[words[0]](*[int(word) for word in words[1:]])

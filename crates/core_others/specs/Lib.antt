@@ -5,3 +5,16 @@ pub mod Coming
 pub mod Agrees
 pub mod Lines
 pub mod Rest
+pub mod Done
+pub mod Stands
+pub mod Told
+pub mod Reaps
+pub mod Reaper
+pub mod Own
+pub mod Asides
+pub mod Unsealed
+pub mod Reaped
+pub mod Taken
+pub mod Agreeing
+pub mod Asked
+pub mod Looked

@@ -1,11 +1,25 @@
-//! What a call on one open socket leaves of the other open sockets of a core.
+//! What a call on one open socket leaves of a core on one thread: the other open sockets, what stands
+//! of it, and what the reaper has and is on its way to it. And what a call of the reaper leaves.
 #![tactic(auto)]
 
+mod asked;
 mod laws;
+mod reaping;
+mod standing;
 
+pub use asked::asks_its_own;
 pub use laws::{
     calls_send_none, closed_are_apart, closes_are_on, coming_join_still, endings_send_none,
     held_places_are_apart, lines_are_on, none_is_sent, objects_are_there, old_ends_came,
     other_places_stay, others_agree_still, others_are_kept, others_say_the_same, others_stay_owned,
     owned_are_apart, pipes_settled_were_read, sends_no_other, sends_none_at_all,
+};
+pub use reaping::{
+    keeps_only_taken, keeps_taken, keeps_unsealed, looks_are_shut, looks_keep, looks_stand,
+    open_agree_still, open_has_none, reaper_keeps_given, reaper_keeps_names, reaper_keeps_taken,
+    reaper_keeps_unsealed, reaper_leaves_there,
+};
+pub use standing::{
+    asked_stay, calls_are_told, calls_stand, else_behind, else_stay, own_join_still, reapers_keep,
+    reaps_are_told,
 };

@@ -5,7 +5,7 @@ ghost use Rattle.spec_control.specs.declared.end.EndEvent.TheVariants.{AckCame};
 ghost use Rattle.spec_control.specs.Control.{happens, try_end};
 ghost use Rattle.spec_control.specs.After.{answers_in, processed, settle};
 ghost use Rattle.ctl_ends.specs.Turning.{TurnsOnce};
-ghost use Rattle.std.specs.Prelude.{◌≡◌, ◌≢◌, ◌∷◌, [], true, false, None, Some, IfOk, IfErr, map};
+ghost use Rattle.std.specs.Prelude.{◌≡◌, ◌≢◌, ◌∷◌, [], true, false, None, Some, IfOk, IsOk, IfErr, map};
 ghost use Rattle.ctl_holder.specs.Holding.{HearsMore, HearsNone, IsTold, KeepsTurns, NoneWrites, Stays, given_as, held_given};
 ghost use Rattle.ctl_holder.specs.TakingOver.{ComeApart};
 ghost use Rattle.ctl_holder.specs.declared.notice.Notice.TheVariants.{Stop};
@@ -14,7 +14,7 @@ ghost use Rattle.ctl_holder.specs.Counts.{CountsAs, IsCounted};
 ghost use Rattle.ctl_holder.specs.Load.{brings_ends, given_by};
 ghost use Rattle.ctl_holder.specs.declared.load.Load.TheVariants.{Ends, Writer};
 ghost use Rattle.ctl_hears.specs.Processing.{IsSilent};
-ghost use Rattle.ctl_hears.specs.Attaching.{FitsLoad, StaysAll};
+ghost use Rattle.ctl_hears.specs.Attaching.{binds_end, FitsLoad, StaysAll};
 ghost use Rattle.spec_control.specs.declared.entry.Answered.{Answered};
 ghost use Rattle.ctl_hears.specs.Processing.{is_bare, JoinsFor, MayHear, IsProcessed, HasCounts, HasJoined};
 ghost use Rattle.ctl_hears.specs.Processing.{MayAcknowledge, Acknowledges, BringsWriter, BringsParting};
@@ -264,6 +264,7 @@ where
         (H.holding holder.old) letter.now a.settled) }
     ensures brought { IfOk result (λ a. brings_ends letter.now.word ≡ true →
         a.joined ≡ map (given_as P.known.out_name P.known.in_name) (given_by load)) }
+    ensures succeeds { binds_end letter.now.word ≡ false → IsOk result }
     ensures back { IfErr result (λ back. back ≡ load) }
     ensures err { IfErr result (λ back. (state.new ≡ state.old)
         × StaysAll (H.holding holder.old) (H.holding holder.new)) }

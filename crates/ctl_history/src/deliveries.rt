@@ -1,4 +1,4 @@
-ghost use Rattle.std.specs.Prelude.{◌≡◌, ◌<◌, ◌&&◌, ◌==◌, [], ℕ, true, false, IfOk, OnErr};
+ghost use Rattle.std.specs.Prelude.{◌≡◌, ◌<◌, ◌&&◌, ◌==◌, ◌∷◌, [], ℕ, List, true, false, IfOk, IsOk, OnErr};
 ghost use Rattle.std.specs.List.{list_any};
 ghost use Rattle.zq_base.specs.declared.ids.EndId.{EndId};
 ghost use Rattle.spec_control.specs.ControlRun.{is_between};
@@ -8,7 +8,8 @@ ghost use Rattle.ctl_history.specs.Coming.{ComesWith};
 ghost use Rattle.ctl_history.specs.Past.{control_of, items_of};
 ghost use Rattle.spec_control.specs.Names.{name_of};
 ghost use Rattle.ctl_holder.specs.TakingOver.{AreDistinct, MayTakeFirst};
-ghost use Rattle.ctl_hears.specs.Attaching.{StaysAll};
+ghost use Rattle.ctl_hears.specs.Attaching.{binds_end, StaysAll};
+ghost use Rattle.spec_control.specs.declared.letter.Letter.{Letter};
 ghost use Rattle.ctl_history.specs.Hearing.{AreApart, AreOfKind, FindsOldest};
 ghost use Rattle.ctl_hears.specs.Processing.{AreFree};
 ghost use Rattle.ctl_history.specs.Hearing.{FitBinds, HasWhat, IsServed};
@@ -55,6 +56,10 @@ where
         requires calm { H.calm holder.old [] }
         ensures ok { IfOk result (λ found.
             FindsOldest P.known.out_name P.known.in_name slot found self.old self.new) }
+        ensures succeeds { (letter : Letter) (behind : List Letter) →
+            (control_of self.old).boxes slot.0 ≡ letter ∷ behind → binds_end letter.word ≡ false →
+            IsOk result }
+        ensures empty { (control_of self.old).boxes slot.0 ≡ [] → IsOk result }
         ensures err { OnErr result ((self.new ≡ self.old)
             × StaysAll (H.holding holder.old) (H.holding holder.new)) }
         ensures keeps { HasWhat self.new (H.holding holder.new) }

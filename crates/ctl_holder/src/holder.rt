@@ -148,6 +148,7 @@ pub trait Holder<P: Pipes> {
         requires out { has_writer (At ((holding self.old).state end)) ≡ false }
         ensures name { written_in ((holding self.old).ends o.0) end
             ≡ Some (P.known.out_name result) }
+        ensures parted { (P.known.writing (pipes self.new) result).parts ≡ [] }
         ensures yielded { Yielded o.0 end (holding self.old) (holding self.new) }
         ensures turns { KeepsTurns (holding self.old) (holding self.new) }
         ensures counts { KeepsCounts P.known.out_name o.0 end (holding self.old)

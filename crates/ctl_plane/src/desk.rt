@@ -1,4 +1,4 @@
-ghost use Rattle.std.specs.Prelude.{◌≡◌, [], ℕ, Bool, true, false, List, Option, Some, OnErr, IfOk};
+ghost use Rattle.std.specs.Prelude.{◌≡◌, [], ℕ, Bool, true, false, List, Option, Some, IfNone, IfOk, IsOk, OnErr};
 ghost use Rattle.control_held.specs.Moments.{Moment};
 ghost use Rattle.zq_base.specs.declared.ids.EndId.{EndId};
 ghost use Rattle.ctl_holder.specs.declared.given.Given.{Given};
@@ -20,11 +20,13 @@ pub trait Desk<P: Pipes> {
     ghost use Rattle.control_held.specs.Moments.{items_in, left_after};
     ghost use Rattle.control_held.specs.Has.{has_after};
     ghost use Rattle.spec_control.specs.Control.{Control};
+    ghost use Rattle.spec_control.specs.ControlRun.{AreEmpty};
     ghost use Rattle.spec_control.specs.Rows.{obj};
     ghost use Rattle.ctl_holder.specs.Making.{MakesSo};
     ghost use Rattle.ctl_holder.specs.TakingOver.{AreDistinct, MayTakeFirst};
     ghost use Rattle.ctl_plane.specs.Asking.{HasMarks, IsOfSockets};
     ghost use Rattle.ctl_plane.specs.Coming.{BindsFit, KeepsNames, SendsEnds, TakesEnds, is_close};
+    ghost use Rattle.ctl_plane.specs.Memory.{NoBindIsFirst, NoBindWaits};
     ghost use Rattle.ctl_plane.specs.Desk.{HasWhatTheySay, KeepsUp, AsksOnce, GivesOrNot, DelimitsOrNot};
     ghost use Rattle.ctl_plane.specs.Desk.{CountsWith, ReapsOrNot, LooksOrNot, MayTakeFrom, HoldsEnd, IsNotLooked};
 
@@ -64,7 +66,8 @@ pub trait Desk<P: Pipes> {
         requires has { has_after object.0 (items_in (moments self.now)) ≡ Some (number self.now) }
         ensures { result.0 ≡ (obj (left_after object.0 (moments self.now)).rows object.0).slot };
 
-    /// Makes a request, of whose pipes the holder may make each. Want of memory leaves all as it was.
+    /// Makes a request, of whose pipes the holder may make each. Want of memory leaves all as it was;
+    /// a close wants none.
     fn request<H: Undoes<P>>(
         &mut self,
         alloc: Global,
@@ -83,6 +86,7 @@ pub trait Desk<P: Pipes> {
             AsksOnce (number self.old) request reply (moments self.old) (moments self.new)) }
         ensures given { IfOk result (λ _. SendsEnds P.known (H.pipes holder.new)
             (H.holding holder.old).sealed request (given self.old) (given self.new)) }
+        ensures succeeds { is_close request ≡ true → IsOk result }
         ensures err { OnErr result ((moments self.new ≡ moments self.old)
             × (given self.new ≡ given self.old)) }
         ensures grows { grows self.old self.new }
@@ -93,7 +97,8 @@ pub trait Desk<P: Pipes> {
         ensures closes { is_close request ≡ true → H.calm holder.old [] → H.calm holder.new [] };
 
     /// Processes the oldest command of a mailbox, or finds it empty. The halves of ends that are on
-    /// their way to it may join what the holder has. Want of memory leaves the command where it was.
+    /// their way to it may join what the holder has. Want of memory leaves the command where it was;
+    /// only a bind takes any.
     fn deliver<H: Holder<P>>(
         &mut self,
         alloc: Global,
@@ -111,6 +116,7 @@ pub trait Desk<P: Pipes> {
         requires calm { H.calm holder.old [] }
         ensures ok { IfOk result (λ found.
             GivesOrNot (number self.old) slot found (moments self.old) (moments self.new)) }
+        ensures succeeds { (c : Control) → finds self.old c → NoBindWaits c slot.0 → IsOk result }
         ensures counts { CountsWith P.known.out_name (H.counts holder.old)
             (moments self.old) (moments self.new) (H.holding holder.old) }
         ensures err { OnErr result (moments self.new ≡ moments self.old) }
@@ -124,7 +130,7 @@ pub trait Desk<P: Pipes> {
     /// Processes the oldest command of the first of the reaper's mailboxes that is not empty, in the
     /// order of the root's and those of the closed sockets that it took over, or finds all of them
     /// empty. The reaper's holder takes in the ends of closed sockets. Want of memory leaves the
-    /// command where it was.
+    /// command where it was; only a bind takes any.
     fn deliver_first<H: Holder<P>>(
         &mut self,
         alloc: Global,
@@ -143,6 +149,7 @@ pub trait Desk<P: Pipes> {
         requires calm { H.calm holder.old [] }
         ensures ok { IfOk result (λ found.
             ReapsOrNot (number self.old) found (moments self.old) (moments self.new)) }
+        ensures succeeds { (c : Control) → finds self.old c → NoBindIsFirst c → IsOk result }
         ensures counts { CountsWith P.known.out_name (H.counts holder.old)
             (moments self.old) (moments self.new) (H.holding holder.old) }
         ensures err { OnErr result ((moments self.new ≡ moments self.old)
@@ -171,10 +178,11 @@ pub trait Desk<P: Pipes> {
             (H.holding holder.old) (H.holding holder.new) };
 
     /// Looks at mailboxes, at the root's state, at how many objects live, and whether there is room
-    /// for one session more.
+    /// for one session more. It sees nothing only where a command waits in one of these mailboxes.
     fn look(&mut self, empty: SeenEmpty) -> Option<Sight>
         ensures found { LooksOrNot (number self.old) empty result
             (moments self.old) (moments self.new) }
+        ensures waits { (c : Control) → finds self.old c → IfNone result (AreEmpty c empty → ⊥) }
         ensures given { given self.new ≡ given self.old }
         ensures grows { grows self.old self.new }
         ensures names { KeepsNames (named self.old) (named self.new) }

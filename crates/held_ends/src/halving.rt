@@ -150,6 +150,7 @@ pub fn yield_writer<P: Pipes>(
     requires writes { WritesAt table.old.places.items place }
     ensures sound { IsSound P.known pipes.new table.new.rows.items table.new.places.items }
     ensures yielded { YieldedAt place (P.known.out_name result) table.old table.new }
+    ensures parted { (P.known.writing pipes.new result).parts ≡ [] }
     ensures settled { table.new.settled ≡ table.old.settled }
     ensures changes { DoesMore P.known table.old.places.items table.new.places.items []
         did.old.items pipes.old did.new.items pipes.new }

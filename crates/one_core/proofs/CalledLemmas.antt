@@ -34,11 +34,11 @@ use Rattle.core_others.specs.Calls.{for_caller, AreCallsOn}
 use Rattle.core_others.specs.Rest.{LeavesRest}
 use Rattle.core_others.proofs.GrownLemmas.{calls_are}
 use Rattle.core_others.proofs.SilentLemmas.{one_order_of}
-use Rattle.core_calls.specs.Done.{ActsDone}
-use Rattle.core_calls.specs.Told.{IsToldSo}
-use Rattle.core_calls.specs.Reaper.{IsEndElse}
-use Rattle.reap_keeps.proofs.TakenLemmas.{keeps_taken}
-use Rattle.reap_keeps.proofs.UnsealedLemmas.{keeps_unsealed}
+use Rattle.core_others.specs.Done.{ActsDone}
+use Rattle.core_others.specs.Told.{IsToldSo}
+use Rattle.core_others.specs.Reaper.{IsEndElse}
+use Rattle.core_others.proofs.TakenLemmas.{keeps_taken}
+use Rattle.core_others.proofs.UnsealedLemmas.{keeps_unsealed}
 use Rattle.ctl_history.specs.Giving.{AreOnTheirWay}
 use Rattle.one_core.specs.Agreeing.{as_open, was_made, Agrees, IsAgreed}
 use Rattle.one_core.specs.CallLaws.{CallLaws}

@@ -11,7 +11,7 @@ use Rattle.zq_base.specs.declared.kind.Kind.TheVariants.{Push, Pull, Pair, Deale
 use Rattle.zq_base.specs.declared.options.Options.{Options}
 use Rattle.msg_pipe.specs.Known.{Known}
 use Rattle.pattern_laws.specs.Peers.{pattern_kind}
-use Rattle.spec_journal.specs.Net.{new_pattern}
+use Rattle.spec_journal.specs.NewSocket.{new_pattern}
 use Rattle.spec_control.specs.declared.entry.Did.TheVariants.{Asked as DidAsk}
 use Rattle.spec_control.specs.declared.entry.Item.TheVariants.{Event}
 use Rattle.spec_control.specs.declared.request.Req.TheVariants.{Socket as MakeSocket}

@@ -17,8 +17,8 @@ use Rattle.reaper_ends.specs.Sound.{AreSound}
 use Rattle.reaper_ends.proofs.FormLemmas.{are_sound}
 use Rattle.reaper_ends.proofs.SoundLemmas.{none_sound}
 use Rattle.one_desk.specs.Lent.{IsOneOrder, Lent}
-use Rattle.reap_keeps.proofs.OnlyLemmas.{keeps_only_taken}
-use Rattle.reap_keeps.proofs.TakenLemmas.{keeps_taken}
+use Rattle.core_others.proofs.OnlyLemmas.{keeps_only_taken}
+use Rattle.core_others.proofs.TakenLemmas.{keeps_taken}
 use Rattle.one_core.specs.Sound.{core_of, HasClosed, IsCore, IsSound}
 
 module _ {S O I N T : Type 0} (K : Known S O I N) (pipes : S) where

@@ -27,13 +27,13 @@ use Rattle.reaper_ends.specs.Sound.{AreSound}
 use Rattle.reap_laws.specs.Sealed.{AllAsked}
 use Rattle.reap_stands.specs.Coming.{HasOnlyTaken, HasTaken}
 use Rattle.reap_stands.proofs.HadLemmas.{had_by}
-use Rattle.reap_keeps.proofs.ElseLemmas.{same_moments}
+use Rattle.core_others.proofs.ElseLemmas.{same_moments}
 use Rattle.one_desk.specs.Lent.{moments_of, GrowsBy, IsOneOrder, Lent}
 use Rattle.core_others.specs.Agrees.{AgreesIn}
 use Rattle.core_others.specs.Calls.{for_caller}
 use Rattle.core_others.proofs.GrownLemmas.{objects_are_there}
 use Rattle.core_others.proofs.SilentLemmas.{one_order_of}
-use Rattle.core_calls.specs.Reaps.{IsReapTold, ReapDone}
+use Rattle.core_others.specs.Reaps.{IsReapTold, ReapDone}
 use Rattle.reap_steps.specs.Going.{GoesBy, ReaperHas, ReapIsNone, ReapIsStep}
 use Rattle.reap_steps.specs.Steps.{acts_reaped, reap_parts, DeskStands, MayReap, ReapParts, WantsMemory}
 use Rattle.one_core.specs.Agreeing.{was_made, Agrees}

@@ -17,7 +17,7 @@ use Rattle.lent_sock.specs.Owned.{LentParts, parts, Agrees}
 use Rattle.lent_sock.specs.Leads.{Leads}
 use Rattle.reap_laws.specs.Sealed.{AllAsked}
 use Rattle.reap_laws.proofs.SealedLemmas.{all_asked_told}
-use Rattle.core_calls.specs.Reaper.{AskedStay}
+use Rattle.core_others.specs.Reaper.{AskedStay}
 use Rattle.one_core.specs.Calling.{SendsAsked}
 
 pub sends_asked : {W S N O I T : Type 0} (K : Known S O I N) → AskedStay (Given N O I) N T → (pipes now : S) (d : Lent (Given N O I) N T) (since : List (Unit {0} × Unit {0})) (s : Option (SockCore AnySock W N O I)) (acts : List (Act N T)) (new : LentParts W N O I S T)

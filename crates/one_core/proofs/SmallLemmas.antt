@@ -19,7 +19,7 @@ use Rattle.socket_laws.proofs.RowLemmas.{event_keeps}
 use Rattle.spec_run.specs.OwnedRun.{marks_by_sort, pipe_capacity}
 use Rattle.ctl_history.specs.Joining.{AllMarked}
 use Rattle.one_desk.specs.Lent.{Lent, IsOneOrder}
-use Rattle.reap_keeps.proofs.SocketsLemmas.{only_sockets}
+use Rattle.core_others.proofs.SocketsLemmas.{only_sockets}
 
 -- the options of the root stay
 root_stays : {N S : Type 0} (items : List (Item N S)) (c : Control) → Kept c → IsControlRun c items → (obj (after_all items c).rows 0).options ≡ (obj c.rows 0).options

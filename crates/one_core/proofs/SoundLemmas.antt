@@ -49,10 +49,10 @@ use Rattle.reaper_ends.specs.declared.sockets.ClosedSockets.{ClosedSockets}
 use Rattle.reaper_ends.specs.Has.{all_ends, holding_in}
 use Rattle.reap_laws.specs.Sealed.{AllAsked}
 use Rattle.core_others.specs.Calls.{for_caller}
-use Rattle.reap_keeps.specs.Asides.{IsOneItem}
-use Rattle.reap_keeps.specs.Taken.{hears_none}
-use Rattle.reap_keeps.proofs.TakenLemmas.{grows_one, keeps_taken}
-use Rattle.reap_keeps.proofs.UnsealedLemmas.{keeps_unsealed}
+use Rattle.core_others.specs.Asides.{IsOneItem}
+use Rattle.core_others.specs.Taken.{hears_none}
+use Rattle.core_others.proofs.TakenLemmas.{grows_one, keeps_taken}
+use Rattle.core_others.proofs.UnsealedLemmas.{keeps_unsealed}
 use Rattle.one_core.specs.Leaving.{moments_at, LeavesSockets}
 use Rattle.one_core.proofs.NextLemmas.{Next, last_fits, next_ask, next_look}
 use Rattle.one_core.proofs.LeaveLemmas.{look_leaves}

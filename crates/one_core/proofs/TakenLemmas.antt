@@ -16,8 +16,8 @@ use Rattle.one_desk.specs.Lent.{GrowsBy, IsOneOrder, Lent}
 use Rattle.core_others.specs.Calls.{for_caller}
 use Rattle.core_others.proofs.SilentLemmas.{one_order_of}
 use Rattle.reap_stands.specs.Coming.{HasOnlyTaken}
-use Rattle.reap_keeps.specs.Asides.{IsOneItem}
-use Rattle.reap_keeps.proofs.OnlyLemmas.{keeps_only_taken}
+use Rattle.core_others.specs.Asides.{IsOneItem}
+use Rattle.core_others.proofs.OnlyLemmas.{keeps_only_taken}
 
 -- what is so of each of these is so of each of the first of them
 pub first_all : {X : Type 0} (Q : X → Type 0) (xs ys : List X) → AllByRecursion Q (xs ++ ys) → AllByRecursion Q xs

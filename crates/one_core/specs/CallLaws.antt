@@ -4,9 +4,9 @@ use Rattle.msg_pipe.specs.Known.{Known}
 use Rattle.ctl_holder.specs.declared.given.Given.{Given}
 use Rattle.call_laws.specs.Call.{IsExact}
 use Rattle.core_others.specs.Rest.{OthersAgreeStill}
-use Rattle.core_calls.specs.Told.{CallsAreTold}
-use Rattle.core_calls.specs.Own.{OwnJoinStill}
-use Rattle.core_calls.specs.Reaper.{AskedStay, ElseBehind, ElseStay, ReapersKeep}
+use Rattle.core_others.specs.Told.{CallsAreTold}
+use Rattle.core_others.specs.Own.{OwnJoinStill}
+use Rattle.core_others.specs.Reaper.{AskedStay, ElseBehind, ElseStay, ReapersKeep}
 use Rattle.core_rows.specs.Counting.{TablesGoOn}
 use Rattle.one_core.specs.Lending.{SocketsCanBeLent}
 

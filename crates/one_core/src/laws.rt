@@ -1,10 +1,10 @@
 ghost use Rattle.one_core.specs.CallLaws.{CallLaws};
 ghost use Rattle.one_core.specs.Lending.{SocketsCanBeLent};
 
-use core_calls::{
-    asked_stay, calls_are_told, else_behind, else_stay, own_join_still, reapers_keep,
+use core_others::{
+    asked_stay, calls_are_told, else_behind, else_stay, others_agree_still, own_join_still,
+    reapers_keep,
 };
-use core_others::others_agree_still;
 use core_rows::tables_go_on;
 use ctl_holder::Given;
 use held_ends::HeldPipes;

@@ -8,7 +8,7 @@ ghost use Rattle.one_core.specs.Calling.{IsTold, SendsAsked, TellsClose, TellsLi
 
 use crate::telling::{OneClose, OneLine, SomeActs, noted};
 use any_sock::AnySock;
-use core_calls::asked_stay;
+use core_others::asked_stay;
 use core_tale::PieceMark;
 use ctl_holder::Given;
 use held_ends::HeldPipes;

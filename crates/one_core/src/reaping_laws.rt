@@ -1,11 +1,10 @@
 ghost use Rattle.std.specs.Prelude.{◌≡◌, true};
 ghost use Rattle.one_core.specs.Reaping.{ReapLaws};
 
-use core_calls::reaps_are_told;
+use core_others::{keeps_only_taken, reaps_are_told};
 use core_rows::tables_go_on;
 use ctl_holder::Given;
 use held_ends::HeldPipes;
-use reap_keeps::keeps_only_taken;
 use reap_steps::reaps_go_on;
 
 /// What is so of the calls of a reaper, whichever core they are made through.

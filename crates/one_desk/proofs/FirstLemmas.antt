@@ -142,6 +142,7 @@ module _ {G N S : Type 0} (ms : List Mark) (past : Past G N S) (wakers by : ℕ)
       let some = full_letter (c.boxes 0) full in
       record {
         first = first_is 0 (root_waits c some.0 some.1 some.2);
+        here = ap (λ (d : Lent G N S). first_waiting (control_of d.past)) (sym seen) ∙ root_waits c some.0 some.1 some.2;
         some = subst (λ (d : Lent G N S). (control_of d.past).boxes 0 ≢ []) seen full;
         full = λ empty. full (ap (λ (d : Lent G N S). (control_of d.past).boxes 0) seen ∙ empty.0);
         whose = λ other. absurd (other refl);
@@ -158,6 +159,7 @@ module _ {G N S : Type 0} (ms : List Mark) (past : Past G N S) (wakers by : ℕ)
         let own = waiting_slot past.workers c keeps lent.boxes none o stands.0 in
         record {
           first = first_is slot.0 (socket_waits c o none found ∙ ap (λ (n : ℕ). Some n) at);
+          here = ap (λ (d : Lent G N S). first_waiting (control_of d.past)) (sym seen) ∙ socket_waits c o none found ∙ ap (λ (n : ℕ). Some n) at;
           some = subst (λ (d : Lent G N S). (control_of d.past).boxes slot.0 ≢ []) seen (λ e. cons_not (sym w.2 ∙ ap c.boxes at ∙ e));
           full = λ empty. (
               let all : All (λ o. (obj c.rows o.0).request ≡ Used → c.boxes (obj c.rows o.0).slot ≡ []) c.closed = subst (λ (d : Lent G N S). All (λ o. (obj (control_of d.past).rows o.0).request ≡ Used → (control_of d.past).boxes (obj (control_of d.past).rows o.0).slot ≡ []) (control_of d.past).closed) (sym seen) empty.1 in

@@ -11,6 +11,7 @@ pub mod HoldLemmas
 pub mod LentLemmas
 pub mod LookLemmas
 pub mod MakeLemmas
+pub mod MemoryLemmas
 pub mod OrderLemmas
 pub mod CountLemmas
 pub mod PlaneLemmas

@@ -11,7 +11,7 @@ use Rattle.spec_control.specs.declared.entry.SeenEmpty.TheVariants.{Mailbox, Rea
 use Rattle.spec_control.specs.declared.entry.Sight.{Sight}
 use Rattle.spec_control.specs.declared.request.Req.{Req}
 use Rattle.spec_control.specs.declared.request.Reply.{Reply}
-use Rattle.spec_control.specs.Control.{begun}
+use Rattle.spec_control.specs.Control.{Control, begun}
 use Rattle.spec_control.specs.ControlRun.{AreEmpty, after_all}
 use Rattle.spec_control.specs.Names.{name_of}
 use Rattle.control_rows.proofs.ListLemmas.{never}
@@ -217,3 +217,8 @@ module _ {G N S : Type 0} (W : Type 0) (empty : SeenEmpty) (old new : Lent G N S
   pub looked_caller : (r : Option Sight) → IfSome r (λ sight. Sees empty sight old new) → IfNone r ((new ≡ old) × W) → new.caller ≡ old.caller
   looked_caller (Some sight) sees none = sees.caller
   looked_caller None sees none = ap (λ (d : Lent G N S). d.caller) none.0
+
+-- one that did not tells of a command that waits
+pub looked_waits : {G N S : Type 0} (empty : SeenEmpty) (old new : Lent G N S) (c : Control) → c ≡ control_of old.past → (r : Option Sight) → IfNone r ((new ≡ old) × (AreEmpty (control_of old.past) empty → ⊥)) → IfNone r (AreEmpty c empty → ⊥)
+looked_waits empty old new c is (Some sight) none = tt
+looked_waits empty old new c is None none = λ are. none.1 (subst (λ (x : Control). AreEmpty x empty) is are)

@@ -45,6 +45,7 @@ module _ {G N S : Type 0} where
   -- the first of the reaper's mailboxes in which a command waits
   pub record WaitsFirst (slot : SlotId) (d : Lent G N S) : Type 0 where
     pub first : first_waiting (after_all d.items (begun d.past.workers)) ≡ Some slot.0
+    pub here : first_waiting (control_of d.past) ≡ Some slot.0
     pub some : (control_of d.past).boxes slot.0 ≢ []
     pub full : AreEmpty (control_of d.past) Reapers → ⊥
     pub whose : slot.0 ≢ 0 → IsOfClosed slot.0 d

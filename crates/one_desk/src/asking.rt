@@ -1,4 +1,4 @@
-ghost use Rattle.std.specs.Prelude.{◌≡◌, [], ℕ, true, Some, IfOk, OnErr};
+ghost use Rattle.std.specs.Prelude.{◌≡◌, [], ℕ, true, Some, IfOk, IsOk, OnErr};
 ghost use Rattle.spec_control.specs.declared.request.Req.TheVariants.{Bind, Connect};
 ghost use Rattle.spec_control.specs.Names.{name_of};
 ghost use Rattle.control_held.specs.Held.{asker};
@@ -96,6 +96,7 @@ where
             (moments_of self.old) (moments_of self.new)) }
         ensures given { IfOk result (λ _. SendsEnds P.known (H.pipes holder.new)
             (H.holding holder.old).sealed request self.old.past.given self.new.past.given) }
+        ensures succeeds { is_close request ≡ true → IsOk result }
         ensures err { OnErr result (self.new ≡ self.old) }
         ensures grows { GrowsBy self.old self.new }
         ensures names { KeepsNames (name_of self.old.items) (name_of self.new.items) }

@@ -1,7 +1,9 @@
-ghost use Rattle.std.specs.Prelude.{◌≡◌, [], true, IfOk, OnErr};
+ghost use Rattle.std.specs.Prelude.{◌≡◌, [], true, IfOk, IsOk, OnErr};
 ghost use Rattle.zq_base.specs.declared.ids.EndId.{EndId};
 ghost use Rattle.spec_control.specs.Names.{name_of};
+ghost use Rattle.ctl_history.specs.Past.{control_of};
 ghost use Rattle.ctl_plane.specs.Coming.{AreDistinct, BindsFit};
+ghost use Rattle.ctl_plane.specs.Memory.{NoBindWaits};
 ghost use Rattle.ctl_plane.specs.Desk.{CountsWith, HasWhatTheySay, HoldsEnd, IsItsMailbox, IsNotLooked, KeepsUp};
 ghost use Rattle.one_desk.specs.Lent.{coming_to, moments_of, FindsIn, MeetsOrNot};
 
@@ -46,7 +48,7 @@ where
 
     /// Processes the oldest command of the mailbox of an object, with the object's holder, or finds
     /// it empty. The halves of ends that are on their way to it may join what the holder has. Want of
-    /// memory leaves the command where it was.
+    /// memory leaves the command where it was; only a bind takes any.
     pub fn deliver<H: Holder<P>>(
         &mut self,
         alloc: Global,
@@ -61,6 +63,7 @@ where
             (coming_to self.old slot.0) (λ h. (e : EndId) → H.fits holder.old e h) }
         requires calm { H.calm holder.old [] }
         ensures ok { IfOk result (λ found. FindsIn slot found self.old self.new) }
+        ensures succeeds { NoBindWaits (control_of self.old.past) slot.0 → IsOk result }
         ensures counts { CountsWith P.known.out_name (H.counts holder.old)
             (moments_of self.old) (moments_of self.new) (H.holding holder.old) }
         ensures err { OnErr result (self.new ≡ self.old) }

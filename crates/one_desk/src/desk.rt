@@ -1,6 +1,6 @@
-ghost use Rattle.std.specs.Prelude.{◌≡◌, [], IfOk, OnErr};
+ghost use Rattle.std.specs.Prelude.{◌≡◌, [], false, IfOk, IsOk, OnErr};
 ghost use Rattle.spec_control.specs.declared.request.Req.TheVariants.{AskTerm};
-ghost use Rattle.spec_control.specs.Reply.{reply_of};
+ghost use Rattle.spec_control.specs.Reply.{reply_of, root_asked};
 ghost use Rattle.ctl_history.specs.Past.{control_of};
 ghost use Rattle.ctl_hears.specs.Processing.{IsSilent};
 ghost use Rattle.one_desk.specs.Lent.{Asks, GrowsBy, KeepsAside};
@@ -90,10 +90,11 @@ where
         self.caller = caller;
     }
 
-    /// The caller asks the context to end.
+    /// The caller asks the context to end. Where it was not asked before this takes no memory.
     pub fn ask_term(&mut self, alloc: Global) -> Result<Reply, AllocError>
         ensures ok { IfOk result (λ reply. Asks AskTerm reply self.old self.new) }
         ensures reply { IfOk result (λ reply. reply ≡ reply_of (control_of self.old.past) AskTerm) }
+        ensures succeeds { root_asked (control_of self.old.past) ≡ false → IsOk result }
         ensures err { OnErr result (self.new ≡ self.old) }
         ensures grows { GrowsBy self.old self.new }
         ensures keeps { KeepsAside self.old self.new }

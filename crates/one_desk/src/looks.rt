@@ -96,7 +96,6 @@ where
         ensures waits { IfNone result ((self.new ≡ self.old)
             × (AreEmpty (control_of self.old.past) Reapers → ⊥)) }
     {
-        self.forget_ended();
         match self.first_slot() {
             Some(_) => return None,
             None => return Some(self.note_look(SeenEmpty::Reapers)),
@@ -104,8 +103,8 @@ where
     }
 
     /// The caller looks at these mailboxes, and around where all of them are empty. A look that finds
-    /// a command is not noted. One at the reaper's mailboxes costs two looks at each closed socket
-    /// that has not ended, or did since the last call that looked at them.
+    /// a command is not noted. One at the reaper's mailboxes costs a look at each closed socket that
+    /// has not ended, up to the first for which a command waits.
     pub fn look_at(&mut self, empty: SeenEmpty) -> Option<Sight>
         ensures empty { IfSome result (λ sight. Sees empty sight self.old self.new) }
         ensures waits { IfNone result ((self.new ≡ self.old)

@@ -1,4 +1,4 @@
-ghost use Rattle.std.specs.Prelude.{◌≡◌, ◌≢◌, ◌<◌, ℕ, All, find, filter, [], true, IfSome, IfNone, IfOk, OnOk, OnErr};
+ghost use Rattle.std.specs.Prelude.{◌≡◌, ◌≢◌, ◌<◌, ℕ, All, find, filter, length, [], true, IfSome, IfNone, IfOk, IsOk, OnOk, OnErr};
 ghost use Rattle.zq_base.specs.declared.ids.EndId.{EndId};
 ghost use Rattle.spec_control.specs.declared.entry.SeenEmpty.TheVariants.{Reapers};
 ghost use Rattle.spec_control.specs.ControlRun.{AreEmpty};
@@ -7,6 +7,7 @@ ghost use Rattle.spec_control.specs.Rows.{obj};
 ghost use Rattle.ctl_holder.specs.TakingOver.{MayTakeFirst};
 ghost use Rattle.ctl_history.specs.Past.{control_of};
 ghost use Rattle.ctl_plane.specs.Coming.{AreDistinct, BindsFit, TakesEnds};
+ghost use Rattle.ctl_plane.specs.Memory.{NoBindIsFirst, NoBindWaits};
 ghost use Rattle.ctl_plane.specs.Desk.{CountsWith, HasWhatTheySay, IsItsMailbox, KeepsUp};
 ghost use Rattle.socket_laws.specs.Closed.{lives, waits};
 ghost use Rattle.one_desk.specs.Lent.{coming_to, moments_of};
@@ -56,8 +57,24 @@ where
     None
 }
 
-// Of closed sockets those go that have ended.
-fn forget<P: Pipes>(history: &History<P>, closed: &mut RoomList<ObjId>)
+// Where the closed socket of a mailbox stands.
+fn place_of<P: Pipes>(history: &History<P>, closed: &[ObjId], slot: SlotId) -> Option<usize>
+where
+    P::Name: Drop,
+    ensures { IfSome result (λ place. place < length closed.now) }
+{
+    let many = closed.len();
+    'each: for place in 0..many {
+        let its = history.slot(closed[place]);
+        if its.0 == slot.0 {
+            return Some(place);
+        }
+    }
+    None
+}
+
+// Of closed sockets that of a mailbox goes, if it has ended.
+fn forget<P: Pipes>(history: &History<P>, closed: &mut RoomList<ObjId>, slot: SlotId)
 where
     P::Name: Drop,
     ensures living { filter (lives (control_of history.now)) closed.new.items
@@ -66,9 +83,7 @@ where
         All (λ o. o.0 < n) closed.new.items }
     ensures spare { closed.new.spare ≡ closed.old.spare }
 {
-    let many = closed.as_slice().len();
-    'each: for looked_at in 0..many {
-        let place = many - looked_at - 1;
+    if let Some(place) = place_of(history, closed.as_slice(), slot) {
         let socket = closed.as_slice()[place];
         if history.has_ended(socket) {
             closed.remove(place);
@@ -81,11 +96,11 @@ where
     P::Name: Drop,
     P::Waker: Drop,
 {
-    // Of the closed sockets that are kept for the reaper those go that have ended.
-    pub(crate) fn forget_ended(&mut self)
+    // Of the closed sockets that are kept for the reaper that of a mailbox goes, if it has ended.
+    pub(crate) fn forget_ended(&mut self, slot: SlotId)
         ensures { self.new ≡ self.old }
     {
-        forget(&self.history, &mut self.closed);
+        forget(&self.history, &mut self.closed, slot);
     }
 
     // The first of the reaper's mailboxes in which a command waits: the root's, or that of a closed
@@ -114,6 +129,7 @@ where
             self.old.past.given }
         requires calm { H.calm holder.old [] }
         ensures ok { OnOk result (HearsFrom (record { 0 = 0 }) self.old self.new) }
+        ensures succeeds { NoBindWaits (control_of self.old.past) 0 → IsOk result }
         ensures counts { CountsWith P.known.out_name (H.counts holder.old)
             (moments_of self.old) (moments_of self.new) (H.holding holder.old) }
         ensures err { OnErr result (self.new ≡ self.old) }
@@ -150,6 +166,7 @@ where
             (coming_to self.old slot.0) (λ h. (e : EndId) → H.fits holder.old e h) }
         requires calm { H.calm holder.old [] }
         ensures ok { OnOk result (HearsFrom slot self.old self.new) }
+        ensures succeeds { NoBindWaits (control_of self.old.past) slot.0 → IsOk result }
         ensures counts { CountsWith P.known.out_name (H.counts holder.old)
             (moments_of self.old) (moments_of self.new) (H.holding holder.old) }
         ensures err { OnErr result (self.new ≡ self.old) }
@@ -185,6 +202,7 @@ where
             self.old.past.given }
         requires calm { H.calm holder.old [] }
         ensures ok { OnOk result (HearsFrom slot self.old self.new) }
+        ensures succeeds { NoBindWaits (control_of self.old.past) slot.0 → IsOk result }
         ensures counts { CountsWith P.known.out_name (H.counts holder.old)
             (moments_of self.old) (moments_of self.new) (H.holding holder.old) }
         ensures err { OnErr result (self.new ≡ self.old) }
@@ -200,8 +218,9 @@ where
 
     /// Processes the oldest command of the first of the reaper's mailboxes that is not empty, in the
     /// order of the root's and those of the closed sockets, or finds all of them empty. The reaper's
-    /// holder takes in the ends of closed sockets. Want of memory leaves the command where it was. It
-    /// costs two looks at each closed socket that has not ended, or did since the last call.
+    /// holder takes in the ends of closed sockets. Want of memory leaves the command where it was;
+    /// only a bind takes any. It costs two looks at each closed socket that has not ended, up to the
+    /// first for which a command waits.
     pub fn deliver_first<H: Holder<P>>(
         &mut self,
         alloc: Global,
@@ -220,6 +239,7 @@ where
             self.old.past.given }
         requires calm { H.calm holder.old [] }
         ensures ok { IfOk result (λ found. FindsFirst found self.old self.new) }
+        ensures succeeds { NoBindIsFirst (control_of self.old.past) → IsOk result }
         ensures counts { CountsWith P.known.out_name (H.counts holder.old)
             (moments_of self.old) (moments_of self.new) (H.holding holder.old) }
         ensures err { OnErr result (self.new ≡ self.old) }
@@ -227,10 +247,10 @@ where
         ensures keeps { KeepsUp self.new.caller (moments_of self.old) (moments_of self.new)
             (H.holding holder.old) (H.holding holder.new) }
     {
-        self.forget_ended();
         match self.first_slot() {
             Some(slot) => {
                 self.hear_first(alloc, slot, holder)?;
+                self.forget_ended(slot);
                 return Ok(Delivery::Done);
             }
             None => {

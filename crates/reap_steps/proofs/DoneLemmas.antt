@@ -38,12 +38,12 @@ use Rattle.core_stands.proofs.AsideLemmas.{said_alone}
 use Rattle.one_desk.specs.Lent.{moments_of, GrowsBy, IsOneOrder, Lent}
 use Rattle.one_desk.specs.Reaping.{FindsFirst, HearsFirst}
 use Rattle.core_others.proofs.GrownLemmas.{led_more, run_more}
-use Rattle.core_calls.specs.Reaps.{ReapDone}
+use Rattle.core_others.specs.Reaps.{ReapDone}
 use Rattle.reaper_ends.specs.declared.sockets.ClosedSockets.{ClosedSockets}
 use Rattle.reaper_ends.specs.Finding.{HasRoom}
 use Rattle.reaper_ends.specs.Has.{holding_in}
 use Rattle.reap_calls.specs.Calls.{SaysFound}
-use Rattle.reap_keeps.specs.Asked.{IsItsOwn}
+use Rattle.core_others.specs.Asked.{IsItsOwn}
 use Rattle.reap_stands.specs.Call.{IsReapersCall}
 use Rattle.reap_steps.specs.Going.{GoesBy, ReaperHas, ReapIsNone, ReapIsStep, ReapsGoOn}
 use Rattle.reap_steps.specs.ReapLaws.{ReapLaws}

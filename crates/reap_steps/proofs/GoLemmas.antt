@@ -38,8 +38,8 @@ use Rattle.reap_stands.specs.Arriving.{ServesClosed}
 use Rattle.reap_stands.specs.Call.{IsReapersCall}
 use Rattle.reap_stands.specs.Coming.{HasOnlyTaken}
 use Rattle.reap_stands.specs.Ends.{ReaperDid, ReaperGoesOn, ReaperStands}
-use Rattle.reap_keeps.specs.Looked.{ReaperLooked}
-use Rattle.core_calls.specs.Done.{PastIn}
+use Rattle.core_others.specs.Looked.{ReaperLooked}
+use Rattle.core_others.specs.Done.{PastIn}
 use Rattle.reap_steps.specs.Going.{GoesBy, ReaperHas}
 use Rattle.reap_steps.specs.ReapLaws.{ReapLaws}
 use Rattle.reap_steps.specs.Steps.{reap_parts, DeskStands, ReapParts}

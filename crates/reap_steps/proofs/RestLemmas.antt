@@ -32,7 +32,7 @@ use Rattle.one_desk.specs.Lent.{moments_of, IsOneOrder, Lent}
 use Rattle.one_desk.specs.Reaping.{FindsFirst}
 use Rattle.desk_laws.proofs.LastLemmas.{grown}
 use Rattle.core_others.proofs.GrownLemmas.{led_more}
-use Rattle.core_calls.specs.Done.{PastIn}
+use Rattle.core_others.specs.Done.{PastIn}
 use Rattle.reaper_ends.specs.declared.sockets.ClosedSockets.{ClosedSockets}
 use Rattle.reaper_ends.specs.Coming.{IsBrought}
 use Rattle.reaper_ends.specs.Counting.{counts_of}

@@ -16,8 +16,8 @@ use Rattle.name_laws.specs.Names.{NamesStand}
 use Rattle.open_laws.specs.Bounds.{TellIdentities}
 use Rattle.one_desk.specs.Lent.{moments_of}
 use Rattle.core_others.specs.Agrees.{AgreesIn}
-use Rattle.core_calls.specs.Done.{PastIn}
-use Rattle.core_calls.specs.Reaps.{ReapDone}
+use Rattle.core_others.specs.Done.{PastIn}
+use Rattle.core_others.specs.Reaps.{ReapDone}
 use Rattle.reaper_ends.specs.Finding.{HasRoom}
 use Rattle.reaper_ends.specs.Has.{all_ends, holding_in, is_socket}
 use Rattle.reap_calls.specs.Calls.{FitsClosed}

@@ -6,11 +6,11 @@ use Rattle.reap_stands.specs.Arriving.{NoPlugs, ReaperCallsStandSo, ReaperGoesSo
 use Rattle.reap_stands.specs.Call.{ReapersCallsAreSo}
 use Rattle.reap_stands.specs.Coming.{ClosedBindsFit, GivenMayBeTaken, ServedAreHad}
 use Rattle.reap_stands.specs.Ends.{GivenStay}
-use Rattle.reap_keeps.specs.Agreeing.{OpenAgreeStill}
-use Rattle.reap_keeps.specs.Asked.{AsksItsOwn}
-use Rattle.reap_keeps.specs.Looked.{LooksAreShut, LooksKeep, LooksStand}
-use Rattle.reap_keeps.specs.Reaped.{ReaperKeepsGiven, ReaperKeepsNames, ReaperKeepsUnsealed}
-use Rattle.reap_keeps.specs.Taken.{KeepsOnlyTaken, ReaperKeepsTaken}
+use Rattle.core_others.specs.Agreeing.{OpenAgreeStill}
+use Rattle.core_others.specs.Asked.{AsksItsOwn}
+use Rattle.core_others.specs.Looked.{LooksAreShut, LooksKeep, LooksStand}
+use Rattle.core_others.specs.Reaped.{ReaperKeepsGiven, ReaperKeepsNames, ReaperKeepsUnsealed}
+use Rattle.core_others.specs.Taken.{KeepsOnlyTaken, ReaperKeepsTaken}
 
 module _ (W : Type 0) {S N O I : Type 0} (K : Known S O I N) (T : Type 0) where
   -- the reaper may take a letter with what it has; what stands, and what is so of closed sockets and of what is on its way, goes on over the letter and over a look behind it, with the sockets that callers have open

@@ -88,6 +88,7 @@ pub(crate) fn yield_out<P: Pipes>(
     ensures yielded { end.new ≡ record end.old { out = None } }
     ensures there { is_some result ≡ is_some end.old.out }
     ensures name { (o : P.Out) → result ≡ Some o → P.known.out_name o ≡ end.old.written }
+    ensures parted { (o : P.Out) → result ≡ Some o → (P.known.writing pipes.new o).parts ≡ [] }
     ensures counts { (writer : P.Out) → P.known.out_name writer ≡ P.known.in_name end.old.input →
         counts_with P.known pipes.new writer (Some end.old.input)
         ≡ counts_with P.known pipes.old writer (Some end.old.input) }

@@ -1,4 +1,4 @@
-ghost use Rattle.std.specs.Prelude.{◌≡◌, ◌++◌, true, false, List, Some, IfOk, OnErr};
+ghost use Rattle.std.specs.Prelude.{◌≡◌, ◌++◌, true, false, List, Some, IfOk, IsOk, OnErr};
 ghost use Rattle.control_held.specs.Held.{asker};
 ghost use Rattle.control_held.specs.OwnAsks.{MayAskOwn};
 ghost use Rattle.control_held.specs.Moments.{items_in};
@@ -47,6 +47,7 @@ where
         (D.moments desk.old) (D.moments desk.new)) }
     ensures given { IfOk result (λ _. SendsEnds P.known pipes.new
         (holding_of C.kind socket.old).sealed request (D.given desk.old) (D.given desk.new)) }
+    ensures succeeds { is_close request ≡ true → IsOk result }
     ensures err { OnErr result ((D.moments desk.new ≡ D.moments desk.old)
         × (D.given desk.new ≡ D.given desk.old)) }
     ensures grows { D.grows desk.old desk.new }

@@ -1,4 +1,4 @@
-ghost use Rattle.std.specs.Prelude.{◌≡◌, ℕ, true, false, Some, IfOk, OnErr, length, map};
+ghost use Rattle.std.specs.Prelude.{◌≡◌, ℕ, true, false, Some, IfOk, IsOk, OnErr, length, map};
 ghost use Rattle.control_held.specs.Held.{asker};
 ghost use Rattle.control_held.specs.OwnAsks.{MayAskOwn};
 ghost use Rattle.control_held.specs.Moments.{items_in, left_after};
@@ -67,6 +67,7 @@ where
     ensures given { IfOk result.answer (λ _. SendsEnds P.known result.pipes
         (holding_in (C.kind core.kind) core).sealed request
         (D.given desk.old) (D.given desk.new)) }
+    ensures succeeds { is_close request ≡ true → IsOk result.answer }
     ensures err { OnErr result.answer ((D.moments desk.new ≡ D.moments desk.old)
         × (D.given desk.new ≡ D.given desk.old)) }
     ensures grows { D.grows desk.old desk.new }

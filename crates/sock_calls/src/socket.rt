@@ -159,7 +159,7 @@ where
     P::Waker: Drop,
     C: Joins + Drop,
 {
-    ghost use Rattle.std.specs.Prelude.{◌≡◌, true, false, IfOk, OnErr};
+    ghost use Rattle.std.specs.Prelude.{◌≡◌, true, false, IfOk, IsOk, OnErr};
     ghost use Rattle.control_held.specs.OwnAsks.{known_after};
     ghost use Rattle.control_held.specs.Moments.{items_in};
     ghost use Rattle.spec_control.specs.Control.{id};
@@ -168,7 +168,8 @@ where
     ghost use Rattle.ctl_plane.specs.Desk.{HasWhatTheySay, KeepsUp, AsksOnce};
     ghost use Rattle.sock_calls.specs.Calls.{owner_of, holding_of, FitsPipes, LeavesOthers, HaveDone, OnlyMake, HasNone};
 
-    /// Closes the socket (zmq_close(3)): its ends are on their way to the reaper, and it has none.
+    /// Closes the socket (zmq_close(3)): its ends are on their way to the reaper, and it has none. It
+    /// takes no memory.
     pub fn close<D: Desk<P>>(
         &mut self,
         alloc: Global,
@@ -185,6 +186,7 @@ where
         ensures ok { IfOk result (λ reply. AsksOnce (D.number desk.old)
             (Close (id (owner_of self.old.core))) reply
             (D.moments desk.old) (D.moments desk.new)) }
+        ensures succeeds { IsOk result }
         ensures none { IfOk result (λ _. HasNone self.new.core) }
         ensures given { IfOk result (λ _. SendsEnds P.known pipes.new
             (holding_of C.kind self.old.core).sealed (Close (id (owner_of self.old.core)))

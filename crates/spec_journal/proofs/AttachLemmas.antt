@@ -1,16 +1,20 @@
--- A further peer adds no end but its own to those that a socket keeps.
-use Rattle.std.proofs.Common.{◌≡◌, refl, ◌+◌, ℕ, List, [], ◌∷◌, ◌++◌, All, Contains, map, sym, subst}
+-- A further peer adds no end but its own to those that a socket keeps, and a new socket keeps none.
+use Rattle.std.proofs.Common.{◌+◌, ℕ, List, [], ◌∷◌, ◌++◌, All, Contains, map, sym, subst}
 use Rattle.std.specs.Prelude.{option_to_list}
 use Rattle.std.specs.Map.{keys_of}
 use Rattle.std.proofs.lemmas.List.{map-append}
-use Rattle.std.proofs.lemmas.List.Elements.{All-append, All-push, All-weaker, All-contains, All-contains_itself, Contains-append_left, Contains-append_right}
+use Rattle.std.proofs.lemmas.List.Elements.{All-nil, All-append, All-push, All-weaker, All-contains, All-contains_itself, Contains-append_left, Contains-append_right}
+use Rattle.zq_base.specs.declared.kind.Kind.{Kind}
+use Rattle.zq_base.specs.declared.kind.Kind.TheVariants as kinds
+use Rattle.zq_base.specs.declared.options.Options.{Options}
 use Rattle.spec_pattern.specs.TurnList.{End}
 use Rattle.spec_pattern.specs.Topics.{Topic, Subscribers, with_peer}
 use Rattle.spec_pattern.specs.Routing.{Names, Named, drawn_name}
 use Rattle.zq_base.specs.declared.attached.Attached.{Attached}
 use Rattle.zq_base.specs.declared.attached.Attached.TheVariants.{Yes, BadId, Second}
 use Rattle.spec_pattern.specs.Pattern.{Pattern, Push, Pull, Pair, Dealer, Req, Rep, Router, Pub, XPub, Sub, XSub, attach, attach_as, attach_answer, taken_in}
-use Rattle.pattern_laws.specs.Peers.{pattern_kind, out_turns, in_turns, peer_names, named_peer, listed_peers, partner_of, pattern_duty, kept_ends}
+use Rattle.pattern_laws.specs.Peers.{out_turns, in_turns, peer_names, named_peer, listed_peers, partner_of, pattern_duty, kept_ends}
+use Rattle.spec_journal.specs.NewSocket.{new_pattern}
 
 -- what holds of two lists together holds of each
 pub all_front : {A : Type 0} (P : A → Type 0) (xs ys : List A) → All P (xs ++ ys) → All P xs
@@ -81,24 +85,16 @@ module _ (P : End → Type 0) where
   pub names_kept : (p : Pattern) → All P (kept_ends p) → All P (map named_peer (peer_names p))
   names_kept p all = let k = apart p all in k.names
 
--- a further peer leaves the kind
-pub attach_kind : (e : End) (identity : List ℕ) (p : Pattern) → pattern_kind (attach e identity p) ≡ pattern_kind p
-attach_kind e identity p = by (attach_answer identity p)
-  where
-    taken_kind : (q : Pattern) → pattern_kind (taken_in e identity q) ≡ pattern_kind q
-    taken_kind (Push s) = refl
-    taken_kind (Pull s) = refl
-    taken_kind (Pair s) = refl
-    taken_kind (Dealer s) = refl
-    taken_kind (Req t duty) = refl
-    taken_kind (Rep ins duty) = refl
-    taken_kind (Router s) = refl
-    taken_kind (Pub s) = refl
-    taken_kind (XPub s) = refl
-    taken_kind (Sub s) = refl
-    taken_kind (XSub s) = refl
-
-    by : (a : Attached) → pattern_kind (attach_as a e identity p) ≡ pattern_kind p
-    by Yes = taken_kind p
-    by BadId = refl
-    by Second = refl
+-- a new socket keeps no ends
+pub no_ends : (P : End → Type 0) (kind : Kind) (options : Options) → All P (kept_ends (new_pattern kind options))
+no_ends P kinds.Push options = All-nil P
+no_ends P kinds.Pull options = All-nil P
+no_ends P kinds.Pair options = All-nil P
+no_ends P kinds.Dealer options = All-nil P
+no_ends P kinds.Req options = All-nil P
+no_ends P kinds.Rep options = All-nil P
+no_ends P kinds.Router options = All-nil P
+no_ends P kinds.Pub options = All-nil P
+no_ends P kinds.XPub options = All-nil P
+no_ends P kinds.Sub options = All-nil P
+no_ends P kinds.XSub options = All-nil P

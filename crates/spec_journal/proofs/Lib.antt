@@ -1,16 +1,6 @@
-pub mod Dispositions
-pub mod ExampleTurns
-pub mod ExampleNames
 pub mod ExamplePipes
-pub mod ExampleJournals
 pub mod ExamplePeers
 pub mod ExampleDrops
-pub mod ExampleRouters
 pub mod ExampleTopics
-pub mod ExampleEdges
 pub mod ExampleFacts
-pub mod Completeness
 pub mod AttachLemmas
-pub mod NetLemmas
-pub mod CallLemmas
-pub mod RunLemmas

@@ -1,67 +1,54 @@
--- Worked examples of sockets that send and receive: a PAIR has one peer (zmq_socket(3), "Exclusive pair pattern"), and a DEALER's turns for sending and for receiving are apart (RFC 28, "The DEALER Socket Type").
-use Rattle.std.specs.Prelude.{List, [], ◌∷◌, Some, codes}
-use Rattle.zq_base.specs.declared.kind.Kind.TheVariants.{Pair, Dealer}
-use Rattle.zq_script.specs.declared.script.Call.TheVariants as call
+-- Worked examples of sockets that send and receive: a PAIR has one peer (zmq_socket(3), "Exclusive pair pattern"), a DEALER's turns for sending and for receiving are apart (RFC 28, "The DEALER Socket Type"), and a ROUTER's peers go by their names ("The ROUTER Socket Type").
+use Rattle.std.specs.Prelude.{◌≡◌, List, [], ◌∷◌, false, codes}
 use Rattle.spec_pattern.specs.PipeStep.{Commit, Take, EmptyLook}
 use Rattle.spec_pattern.specs.TurnList.{End}
-use Rattle.spec_pattern.specs.Pattern as by_kind
+use Rattle.spec_pattern.specs.Routing.{Names}
+use Rattle.spec_pattern.specs.Pattern.{Pattern, Pair, Dealer, Router, attach}
+use Rattle.spec_pattern.specs.PatternCalls.{PatternSends, PatternReceives}
+use Rattle.spec_pattern.specs.declared.answers.Rule.TheVariants.{Unroutable}
+use Rattle.spec_pattern.specs.declared.answers.SendRefusal.TheVariants as send
 use Rattle.spec_pattern.specs.declared.answers.RecvRefusal.TheVariants as recv
-use Rattle.spec_journal.specs.declared.journal.Answer.TheVariants as answer
-use Rattle.spec_journal.specs.Net.{Net, Sock, end_a, end_b}
-use Rattle.spec_journal.specs.Turn.{Doing}
-use Rattle.spec_journal.specs.ExamplesPipeline.{options_with, line_at, object_nr, pair_nr, got_from_1, at_q}
-use Rattle.spec_journal.specs.ExamplesPipes.{doing}
-use Rattle.spec_journal.specs.ExamplesNames.{q_held_by}
+use Rattle.spec_pattern.specs.declared.answers.SendAnswer.TheVariants as sent
+use Rattle.spec_pattern.specs.declared.answers.RecvAnswer.TheVariants as got
+use Rattle.spec_journal.specs.ExampleParts.{pair_nr, end_a, end_b, open_to_all}
 
 -- a PAIR with this peer, and a DEALER with these turns
-abbrev pub pair_of : List End → Sock
-pair_of peer = record { options = options_with 1000; pattern = by_kind.Pair (record { outs = peer; ins = peer }) }
+abbrev pub pair_of : List End → Pattern
+pair_of peer = Pair (record { outs = peer; ins = peer })
 
-abbrev pub dealer : List End → List End → Sock
-dealer outs ins = record { options = options_with 1000; pattern = by_kind.Dealer (record { outs = outs; ins = ins }) }
+abbrev pub dealer : List End → List End → Pattern
+dealer outs ins = Dealer (record { outs = outs; ins = ins })
 
--- three PAIRs, of which the first holds q and is joined to the second
-abbrev pub pairs_net : Net
-pairs_net = record {
-  socks = pair_of (end_b 1 ∷ []) ∷ pair_of (end_a 1 ∷ []) ∷ pair_of [] ∷ [];
-  book = q_held_by 1 Pair [];
-  pairs = record { a = object_nr 2; b = object_nr 1 } ∷ [];
-  seats = (Some (object_nr 1) ∷ Some (object_nr 2) ∷ Some (object_nr 3) ∷ []) ∷ [];
-}
+-- the peers of a DEALER, in the order of their turns, and once the first of them served
+abbrev pub in_order : List End
+in_order = end_b 1 ∷ end_b 2 ∷ []
 
--- the third is joined to the first, which has its peer already
-abbrev pub second_net : Net
-second_net = record pairs_net {
-  socks = pair_of (end_b 1 ∷ []) ∷ pair_of (end_a 1 ∷ []) ∷ pair_of (end_a 2 ∷ []) ∷ [];
-  pairs = record { a = object_nr 2; b = object_nr 1 } ∷ record { a = object_nr 3; b = object_nr 1 } ∷ [];
-}
+abbrev pub turned_once : List End
+turned_once = end_b 2 ∷ end_b 1 ∷ []
 
--- a message each way; then the third connects and sends, and the first hears nothing of it
-abbrev pub pairs_doings : List Doing
-pairs_doings =
-    doing (line_at 7 (call.Send 0 (codes "x" ∷ []))) (Commit (end_b 1) (codes "x" ∷ []) ∷ []) (answer.Pair (pair_nr 1))
-    ∷ doing (line_at 8 (call.Recv 1 1)) (Take (end_b 1) (codes "x" ∷ []) ∷ []) (got_from_1 (codes "x"))
-    ∷ doing (line_at 9 (call.Send 1 (codes "y" ∷ []))) (Commit (end_a 1) (codes "y" ∷ []) ∷ []) (answer.Pair (pair_nr 1))
-    ∷ doing (line_at 10 (call.Recv 0 1)) (Take (end_a 1) (codes "y" ∷ []) ∷ []) (got_from_1 (codes "y"))
-    ∷ doing (line_at 11 (call.Connect 2 at_q)) [] (answer.Pair (pair_nr 2))
-    ∷ doing (line_at 12 (call.Send 2 (codes "z" ∷ []))) (Commit (end_a 2) (codes "z" ∷ []) ∷ []) (answer.Pair (pair_nr 2))
-    ∷ doing (line_at 13 (call.Recv 0 1)) (EmptyLook (end_a 1) ∷ []) (answer.NotReceived recv.Again)
-    ∷ []
+-- A PAIR has one peer, and hears nothing of a second one; a DEALER's send leaves its turns for receiving alone.
+pub record TwoWays : Type 0 where
+  pub pair_sends : PatternSends open_to_all (codes "x" ∷ []) (pair_of (end_b 1 ∷ [])) (Commit (end_b 1) (codes "x" ∷ []) ∷ []) (sent.One (pair_nr 1)) (pair_of (end_b 1 ∷ []))
+  pub pair_receives : PatternReceives (pair_of (end_a 1 ∷ [])) (Take (end_b 1) (codes "x" ∷ []) ∷ []) [] (got.Got (pair_nr 1) (codes "x" ∷ [])) (pair_of (end_a 1 ∷ []))
+  pub one_peer : attach (end_b 2) [] (pair_of (end_b 1 ∷ [])) ≡ pair_of (end_b 1 ∷ [])
+  pub hears_none : PatternReceives (pair_of (end_b 1 ∷ [])) (EmptyLook (end_a 1) ∷ []) [] (got.Refused recv.Again) (pair_of (end_b 1 ∷ []))
+  pub deals : PatternSends open_to_all (codes "x" ∷ []) (dealer in_order in_order) (Commit (end_b 1) (codes "x" ∷ []) ∷ []) (sent.One (pair_nr 1)) (dealer turned_once in_order)
+  pub is_dealt : PatternReceives (dealer turned_once in_order) (Take (end_a 1) (codes "n" ∷ []) ∷ []) [] (got.Got (pair_nr 1) (codes "n" ∷ [])) (dealer turned_once turned_once)
 
--- a DEALER with these turns, joined to two others
-abbrev pub dealers_net : List End → List End → Net
-dealers_net outs ins = record {
-  socks = dealer outs ins ∷ dealer (end_a 1 ∷ []) (end_a 1 ∷ []) ∷ dealer (end_a 2 ∷ []) (end_a 2 ∷ []) ∷ [];
-  book = q_held_by 1 Dealer [];
-  pairs = record { a = object_nr 2; b = object_nr 1 } ∷ record { a = object_nr 3; b = object_nr 1 } ∷ [];
-  seats = (Some (object_nr 1) ∷ Some (object_nr 2) ∷ Some (object_nr 3) ∷ []) ∷ [];
-}
+-- a ROUTER with these peers and names
+abbrev pub router : List End → Names → Pattern
+router ins names = Router (record { ins = ins; names = names; drawn = 0; mandatory = false })
 
--- its send to the first peer doesn't change that the first peer's message comes first
-abbrev pub dealers_doings : List Doing
-dealers_doings =
-    doing (line_at 9 (call.Send 0 (codes "x" ∷ []))) (Commit (end_b 1) (codes "x" ∷ []) ∷ []) (answer.Pair (pair_nr 1))
-    ∷ doing (line_at 10 (call.Send 2 (codes "m" ∷ []))) (Commit (end_a 2) (codes "m" ∷ []) ∷ []) (answer.Pair (pair_nr 2))
-    ∷ doing (line_at 11 (call.Send 1 (codes "n" ∷ []))) (Commit (end_a 1) (codes "n" ∷ []) ∷ []) (answer.Pair (pair_nr 1))
-    ∷ doing (line_at 12 (call.Recv 0 1)) (Take (end_a 1) (codes "n" ∷ []) ∷ []) (got_from_1 (codes "n"))
-    ∷ []
+-- a ROUTER whose one peer is named k
+abbrev pub knows_k : Pattern
+knows_k = router (end_b 1 ∷ []) (record { name = codes "k"; peer = end_b 1 } ∷ [])
+
+-- A ROUTER puts a peer's name in front and sends to a peer by its name; the second peer of one identity is none; an unknown name is given up, and a name alone is no message.
+pub record RouterRules : Type 0 where
+  pub first : attach (end_b 1) (codes "k") (router [] []) ≡ knows_k
+  pub second : attach (end_b 2) (codes "k") knows_k ≡ knows_k
+  pub gets_named : PatternReceives knows_k (Take (end_a 1) (codes "one" ∷ []) ∷ []) [] (got.Got (pair_nr 1) (codes "k" ∷ codes "one" ∷ [])) knows_k
+  pub finds_none : PatternReceives knows_k (EmptyLook (end_a 1) ∷ []) [] (got.Refused recv.Again) knows_k
+  pub answers_named : PatternSends open_to_all (codes "k" ∷ codes "x" ∷ []) knows_k (Commit (end_b 1) (codes "x" ∷ []) ∷ []) (sent.One (pair_nr 1)) knows_k
+  pub unknown : PatternSends open_to_all (codes "j" ∷ codes "x" ∷ []) knows_k [] (sent.Dropped Unroutable) knows_k
+  pub no_body : PatternSends open_to_all (codes "k" ∷ []) knows_k [] (sent.Refused send.NoBody) knows_k

@@ -1,22 +1,16 @@
--- Worked examples of topics (RFC 29, "The XPUB Socket Type", "The SUB Socket Type"): what a SUB tells is heard by an XPUB before its next call, and is counted as heard at its pipe.
-use Rattle.std.specs.Prelude.{ℕ, List, [], ◌∷◌, Some, true, false, codes}
+-- Worked examples of topics (RFC 29, "The XPUB Socket Type", "The SUB Socket Type"): what a SUB tells is heard by an XPUB before its next call.
+use Rattle.std.specs.Prelude.{ℕ, List, [], ◌∷◌, true, false, codes}
 use Rattle.zq_base.specs.Message.{Frames}
-use Rattle.zq_base.specs.declared.kind.Kind.TheVariants.{XPub}
-use Rattle.zq_script.specs.declared.script.Call.TheVariants as call
 use Rattle.spec_pattern.specs.PipeStep.{Commit, FullLook, Take, EmptyLook}
 use Rattle.spec_pattern.specs.Publishing.{Notice}
-use Rattle.spec_pattern.specs.Pattern as by_kind
+use Rattle.spec_pattern.specs.Subscribing.{Done, NotSub}
+use Rattle.spec_pattern.specs.Pattern.{Pattern, XPub, Sub}
+use Rattle.spec_pattern.specs.PatternCalls.{PatternSends, PatternReceives, PatternPumps, PatternChanges, Subscribe, Unsubscribe, Changed}
 use Rattle.spec_pattern.specs.declared.answers.Rule.TheVariants.{NoMatch}
 use Rattle.spec_pattern.specs.declared.answers.RecvRefusal.TheVariants as recv
-use Rattle.spec_journal.specs.declared.journal.Answer.{Answer}
-use Rattle.spec_journal.specs.declared.journal.Answer.TheVariants as answer
-use Rattle.spec_journal.specs.declared.journal.PipeRow.{PipeRow}
-use Rattle.spec_journal.specs.Net.{Net, Sock, end_a, end_b}
-use Rattle.spec_journal.specs.Turn.{Doing}
-use Rattle.spec_journal.specs.Run.{Run}
-use Rattle.spec_journal.specs.ExamplesPipeline.{options_with, line_at, object_nr, pair_nr, row_given, got_from_1}
-use Rattle.spec_journal.specs.ExamplesPipes.{one_actor_stage, doing}
-use Rattle.spec_journal.specs.ExamplesNames.{q_held_by}
+use Rattle.spec_pattern.specs.declared.answers.SendAnswer.TheVariants as sent
+use Rattle.spec_pattern.specs.declared.answers.RecvAnswer.TheVariants as got
+use Rattle.spec_journal.specs.ExampleParts.{pair_nr, end_a, end_b, open_to_all}
 
 -- the messages that subscribe to a topic, and cancel it
 abbrev pub adds : List ℕ → Frames
@@ -26,78 +20,37 @@ abbrev pub cancels : List ℕ → Frames
 cancels topic = (0 ∷ topic) ∷ []
 
 -- an XPUB whose one peer has these topics, with what waits for its user
-abbrev pub xpub : List (List ℕ) → List Notice → Sock
-xpub topics inbox = record {
-  options = options_with 1000;
-  pattern = by_kind.XPub (record { ins = end_b 1 ∷ []; subs = (end_b 1, topics) ∷ []; inbox = inbox; verbose = false; tells = true });
-}
+abbrev pub xpub : List (List ℕ) → List Notice → Pattern
+xpub topics inbox = XPub (record { ins = end_b 1 ∷ []; subs = (end_b 1, topics) ∷ []; inbox = inbox; verbose = false; tells = true })
 
 -- a SUB that wants these topics, each with its count, and told these to its one peer
-abbrev pub sub : List (List ℕ × ℕ) → List (List ℕ) → Sock
-sub wanted told = record {
-  options = options_with 1000;
-  pattern = by_kind.Sub (record { ins = end_a 1 ∷ []; wanted = wanted; followers = (end_a 1, told) ∷ [] });
-}
+abbrev pub sub : List (List ℕ × ℕ) → List (List ℕ) → Pattern
+sub wanted told = Sub (record { ins = end_a 1 ∷ []; wanted = wanted; followers = (end_a 1, told) ∷ [] })
 
--- the SUB is joined to the XPUB
-abbrev pub topics_net : List (List ℕ) → List (List ℕ × ℕ) → List (List ℕ) → Net
-topics_net topics wanted told = record {
-  socks = xpub topics [] ∷ sub wanted told ∷ [];
-  book = q_held_by 1 XPub [];
-  pairs = record { a = object_nr 2; b = object_nr 1 } ∷ [];
-  seats = (Some (object_nr 1) ∷ Some (object_nr 2) ∷ []) ∷ [];
-}
+-- a is wanted once
+abbrev pub wants_a : List (List ℕ × ℕ)
+wants_a = (codes "a", 1) ∷ []
 
--- before a topic, once a is wanted and told, and once the XPUB heard it
-abbrev pub no_topics : Net
-no_topics = topics_net [] [] []
+-- what waits for the XPUB's user once it heard that a is wanted, and that it isn't
+abbrev pub heard_add : List Notice
+heard_add = record { pair = pair_nr 1; message = adds (codes "a") } ∷ []
 
-abbrev pub topic_told : Net
-topic_told = topics_net [] ((codes "a", 1) ∷ []) (codes "a" ∷ [])
+abbrev pub heard_cancel : List Notice
+heard_cancel = record { pair = pair_nr 1; message = cancels (codes "a") } ∷ []
 
-abbrev pub topic_heard : Net
-topic_heard = topics_net (codes "a" ∷ []) ((codes "a", 1) ∷ []) (codes "a" ∷ [])
-
--- once a is wanted no longer, and once the XPUB heard that
-abbrev pub cancel_told : Net
-cancel_told = topics_net (codes "a" ∷ []) [] []
-
--- the message went to the pair of this number
-abbrev pub copied_to : ℕ → Answer
-copied_to n = answer.Many (record { put = pair_nr n ∷ []; full = [] })
-
--- A topic is told and heard, and its message goes out and comes in; its cancel is heard before the next message, which matches nothing, and waits for the XPUB's user.
-abbrev pub topics_doings : List Doing
-topics_doings =
-    doing (line_at 6 (call.Unsubscribe 1 (codes "b"))) [] answer.NotSub
-    ∷ doing (line_at 7 (call.Subscribe 1 (codes "a"))) (Commit (end_a 1) (adds (codes "a")) ∷ []) answer.Done
-    ∷ doing (line_at 8 (call.Recv 0 1)) (Take (end_a 1) (adds (codes "a")) ∷ EmptyLook (end_a 1) ∷ []) (answer.Got (pair_nr 1) (adds (codes "a")))
-    ∷ doing (line_at 9 (call.Send 0 (codes "ab" ∷ []))) (EmptyLook (end_a 1) ∷ Commit (end_b 1) (codes "ab" ∷ []) ∷ []) (copied_to 1)
-    ∷ doing (line_at 10 (call.Recv 1 1)) (Take (end_b 1) (codes "ab" ∷ []) ∷ []) (got_from_1 (codes "ab"))
-    ∷ doing (line_at 11 (call.Unsubscribe 1 (codes "a"))) (Commit (end_a 1) (cancels (codes "a")) ∷ []) answer.Done
-    ∷ doing (line_at 12 (call.Send 0 (codes "ab" ∷ []))) (Take (end_a 1) (cancels (codes "a")) ∷ EmptyLook (end_a 1) ∷ []) (answer.Dropped NoMatch)
-    ∷ []
-
--- what is left: the cancel waits for the XPUB's user
-abbrev pub cancel_heard : Net
-cancel_heard = record no_topics {
-  socks = xpub [] (record { pair = pair_nr 1; message = cancels (codes "a") } ∷ []) ∷ sub [] [] ∷ [];
-}
-
-abbrev pub topics_run : Run
-topics_run = record { turns = topics_doings ∷ []; stage = one_actor_stage cancel_heard [] }
-
--- both messages of the SUB's pipe were heard, and that of the other pipe was given
-abbrev pub heard_row : PipeRow
-heard_row = record (row_given (end_a 1) 2) { given = 0; heard = 2 }
-
--- a SUB tells what its pipe had no room for before its next call, whatever that is
-abbrev pub untold_net : Net
-untold_net = topics_net [] ((codes "a", 1) ∷ []) []
-
-abbrev pub tells_late : Doing
-tells_late = doing (line_at 12 (call.Recv 1 1)) (Commit (end_a 1) (adds (codes "a")) ∷ EmptyLook (end_b 1) ∷ []) (answer.NotReceived recv.Again)
-
--- and where there is still none, a look finds its pipe full
-abbrev pub finds_full : Doing
-finds_full = doing (line_at 12 (call.Recv 1 1)) (FullLook (end_a 1) ∷ EmptyLook (end_b 1) ∷ []) (answer.NotReceived recv.Again)
+-- A topic is told and heard, and its message goes out and comes in; its cancel is heard before the next message, which matches nothing, and waits for the XPUB's user. A SUB tells before its next call what it couldn't tell before, and where there is still no room a look finds its pipe full.
+pub record TopicRules : Type 0 where
+  pub not_wanted : PatternChanges Unsubscribe open_to_all (codes "b") (sub [] []) [] (Changed NotSub) (sub [] [])
+  pub subscribes : PatternChanges Subscribe open_to_all (codes "a") (sub [] []) (Commit (end_a 1) (adds (codes "a")) ∷ []) (Changed Done) (sub wants_a (codes "a" ∷ []))
+  pub hears_add : PatternPumps open_to_all (xpub [] []) (Take (end_a 1) (adds (codes "a")) ∷ EmptyLook (end_a 1) ∷ []) (xpub (codes "a" ∷ []) heard_add)
+  pub gives_add : PatternReceives (xpub (codes "a" ∷ []) heard_add) [] [] (got.Got (pair_nr 1) (adds (codes "a"))) (xpub (codes "a" ∷ []) [])
+  pub hears_none : PatternPumps open_to_all (xpub (codes "a" ∷ []) []) (EmptyLook (end_a 1) ∷ []) (xpub (codes "a" ∷ []) [])
+  pub sends_match : PatternSends open_to_all (codes "ab" ∷ []) (xpub (codes "a" ∷ []) []) (Commit (end_b 1) (codes "ab" ∷ []) ∷ []) (sent.Many (record { put = pair_nr 1 ∷ []; full = [] })) (xpub (codes "a" ∷ []) [])
+  pub tells_none : PatternPumps open_to_all (sub wants_a (codes "a" ∷ [])) [] (sub wants_a (codes "a" ∷ []))
+  pub gets_match : PatternReceives (sub wants_a (codes "a" ∷ [])) (Take (end_b 1) (codes "ab" ∷ []) ∷ []) [] (got.Got (pair_nr 1) (codes "ab" ∷ [])) (sub wants_a (codes "a" ∷ []))
+  pub unsubscribes : PatternChanges Unsubscribe open_to_all (codes "a") (sub wants_a (codes "a" ∷ [])) (Commit (end_a 1) (cancels (codes "a")) ∷ []) (Changed Done) (sub [] [])
+  pub hears_cancel : PatternPumps open_to_all (xpub (codes "a" ∷ []) []) (Take (end_a 1) (cancels (codes "a")) ∷ EmptyLook (end_a 1) ∷ []) (xpub [] heard_cancel)
+  pub matches_none : PatternSends open_to_all (codes "ab" ∷ []) (xpub [] heard_cancel) [] (sent.Dropped NoMatch) (xpub [] heard_cancel)
+  pub tells_late : PatternPumps open_to_all (sub wants_a []) (Commit (end_a 1) (adds (codes "a")) ∷ []) (sub wants_a (codes "a" ∷ []))
+  pub finds_full : PatternPumps open_to_all (sub wants_a []) (FullLook (end_a 1) ∷ []) (sub wants_a [])
+  pub finds_none : PatternReceives (sub wants_a []) (EmptyLook (end_b 1) ∷ []) [] (got.Refused recv.Again) (sub wants_a [])

@@ -1,5 +1,5 @@
--- The text of a journal (own format).
-use Rattle.std.specs.Prelude.{ℕ, List, [], ◌∷◌, ◌++◌, Bool, true, false, nat_eq, if◌then◌else◌, codes, decimal, flat_map}
+-- How answers, messages that were dropped and pipes are shown (own format).
+use Rattle.std.specs.Prelude.{ℕ, List, [], ◌∷◌, ◌++◌, Bool, true, false, codes, decimal, flat_map}
 use Rattle.zq_script.specs.PartText.{parts_text}
 use Rattle.zq_base.specs.Ends.{PipeId}
 use Rattle.zq_base.specs.declared.ids.PairId.{PairId}
@@ -13,10 +13,6 @@ use Rattle.spec_pattern.specs.declared.answers.Rule.{Rule}
 use Rattle.spec_pattern.specs.declared.answers.Rule.TheVariants as rule
 use Rattle.spec_journal.specs.declared.journal.Answer.{Answer}
 use Rattle.spec_journal.specs.declared.journal.Answer.TheVariants as answer
-use Rattle.spec_journal.specs.declared.journal.Entry.{Entry}
-use Rattle.spec_journal.specs.declared.journal.ActorPart.{ActorPart}
-use Rattle.spec_journal.specs.declared.journal.PipeRow.{PipeRow}
-use Rattle.spec_journal.specs.declared.journal.Journal.{Journal}
 
 abbrev pub send_refusal_text : SendRefusal → List ℕ
 send_refusal_text send.Term = codes "term"
@@ -89,13 +85,6 @@ skip_text s = codes " !" ++ rule_text s.rule ++ codes "@p" ++ decimal s.pair.0
 abbrev pub skips_text : List Skip → List ℕ
 skips_text skips = flat_map skip_text skips
 
--- a line of an actor: its name, the line's number, the answer, the messages dropped
-abbrev pub entry_text : List ℕ → Entry → List ℕ
-entry_text name e = name ++ codes " " ++ decimal e.line ++ codes " " ++ answer_text e.answer ++ skips_text e.skips ++ codes "\n"
-
-abbrev pub actor_text : ActorPart → List ℕ
-actor_text actor = flat_map (entry_text actor.name) actor.entries
-
 abbrev pub side_text : Bool → List ℕ
 side_text true = codes "a"
 side_text false = codes "b"
@@ -103,27 +92,3 @@ side_text false = codes "b"
 -- a pipe by its pair and the end that writes it
 abbrev pub pipe_text : PipeId → List ℕ
 pipe_text p = codes "p" ++ decimal p.pair.0 ++ side_text p.a
-
--- why messages are left: while sockets stay until the end of the run, they are closed there
-abbrev pub reason_text : ℕ → List ℕ
-reason_text rest = if nat_eq rest 0 then codes "-" else codes "closed"
-
-abbrev pub row_text : PipeRow → List ℕ
-row_text r = codes "pipe " ++ pipe_text r.pipe
-    ++ codes " sent " ++ decimal r.sent
-    ++ codes " given " ++ decimal r.given
-    ++ codes " heard " ++ decimal r.heard
-    ++ codes " dropped " ++ decimal r.dropped
-    ++ codes " written " ++ decimal r.written
-    ++ codes " lost " ++ decimal r.lost
-    ++ codes " rest " ++ decimal r.rest
-    ++ codes " " ++ reason_text r.rest ++ codes "\n"
-
--- the last line: whether the run was done
-abbrev pub end_text : Bool → List ℕ
-end_text true = codes "done\n"
-end_text false = codes "unfinished\n"
-
--- the text of a journal: each actor's answers, the pipes, and how the run ended
-abbrev pub journal_text : Journal → List ℕ
-journal_text j = flat_map actor_text j.actors ++ flat_map row_text j.pipes ++ end_text j.done

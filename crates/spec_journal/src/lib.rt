@@ -1,11 +1,8 @@
-//! What a run of a script is, the journal that is printed of it, and the journal's text.
+//! What the lines of a script are answered, in which order workers take their turns, and how both are shown.
 #![tactic(auto)]
 
 mod journal;
 mod laws;
 
-pub use journal::{ActorPart, Answer, Entry, Joined, Journal, PipeRow};
-pub use laws::{
-    a_run_is_done_in_time, a_script_has_one_journal, each_message_has_one_end, rows_add_up,
-    worked_examples,
-};
+pub use journal::{Answer, PipeRow};
+pub use laws::worked_examples;

@@ -11,7 +11,7 @@ use Rattle.control_held.specs.Has.{AreBy}
 use Rattle.control_held.proofs.TrialLemmas.{none, acts, takes, of_root}
 use Rattle.zq_script.specs.declared.script.Call.TheVariants as call
 use Rattle.spec_journal.specs.declared.journal.Answer.TheVariants as answer
-use Rattle.spec_journal.specs.ExamplesPipeline.{options_with}
+use Rattle.spec_journal.specs.ExampleParts.{options_with}
 use Rattle.control_held.specs.Moments.{moments_from}
 use Rattle.spec_run.specs.declared.journal.LineAnswer.TheVariants.{Plain}
 use Rattle.spec_run.specs.declared.line.LineCall.TheVariants.{Asks, Closes}

@@ -22,7 +22,7 @@ use Rattle.spec_control.specs.Names.{AreNamed}
 use Rattle.spec_control.specs.ControlExamples.{Stories}
 use Rattle.control_held.specs.Has.{AreBy}
 use Rattle.control_held.proofs.TrialLemmas.{none, one, acts, takes, of_root, told}
-use Rattle.spec_journal.specs.ExamplesPipeline.{options_with, pair_nr, at_q, got_from_1}
+use Rattle.spec_journal.specs.ExampleParts.{options_with, pair_nr, at_q, got_from_1}
 use Rattle.spec_run.specs.ExampleParts.{moment, line_nr, over_at}
 use Rattle.spec_run.specs.declared.line.LineCall.TheVariants.{Asks, Closes}
 use Rattle.spec_run.specs.declared.line.RunLine.{RunLine}

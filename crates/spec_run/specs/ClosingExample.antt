@@ -12,7 +12,7 @@ use Rattle.spec_control.specs.Control.{id}
 use Rattle.spec_control.specs.ControlExamples.{Stories, silent}
 use Rattle.spec_journal.specs.declared.journal.Answer.TheVariants as answer
 use Rattle.spec_journal.specs.Run.{Schedule}
-use Rattle.spec_journal.specs.ExamplesPipeline.{options_with}
+use Rattle.spec_journal.specs.ExampleParts.{options_with}
 use Rattle.spec_run.specs.declared.journal.LineAnswer.TheVariants.{Plain}
 use Rattle.spec_run.specs.declared.journal.RunJournal.{RunJournal}
 use Rattle.spec_run.specs.declared.line.LineCall.TheVariants.{Asks, Closes}

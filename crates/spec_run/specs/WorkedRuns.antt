@@ -1,15 +1,25 @@
 -- The worked runs: each journal is that of its script, and has its text and status.
-use Rattle.std.specs.Prelude.{◌≡◌, ℕ}
+use Rattle.std.specs.Prelude.{◌≡◌, ℕ, false, Some, codes}
+use Rattle.spec_control.specs.Control.{end_of}
 use Rattle.spec_control.specs.ControlExamples.{Stories}
+use Rattle.spec_control.specs.declared.end.Reason.TheVariants.{Closed}
 use Rattle.spec_run.specs.CoreEvents.{IsEventsJournal}
 use Rattle.spec_run.specs.EventsExample.{closing_events}
 use Rattle.spec_run.specs.RunJournal.{IsRunJournal, status_of_run}
-use Rattle.spec_run.specs.JournalText.{run_journal_text}
+use Rattle.spec_run.specs.declared.journal.SettledRow.{SettledRow}
+use Rattle.spec_run.specs.JournalText.{run_journal_text, settled_row_text}
 use Rattle.spec_run.specs.ClosingExample.{closing_script, closing_schedule, closing_journal, closing_text}
 use Rattle.spec_run.specs.ShortExample.{short_schedule, cut_journal, short_text}
 use Rattle.spec_run.specs.LeftExample.{left_script, left_schedule, left_journal, left_text}
 use Rattle.spec_run.specs.ReadExample.{read_script, read_schedule, read_journal, read_text}
 use Rattle.spec_run.specs.TermExample.{term_script, term_schedule, term_journal, term_text}
+
+-- a row whose counts differ
+abbrev pub row_example : SettledRow
+row_example = record {
+  counts = record { pipe = end_of 12 false; sent = 21; given = 1; heard = 2; dropped = 3; written = 4; lost = 5; rest = 6 };
+  reason = Some Closed;
+}
 
 -- the texts, and the status of a run that is done and of one that is not
 pub record RunTexts : Type 0 where
@@ -18,6 +28,7 @@ pub record RunTexts : Type 0 where
   pub left : run_journal_text left_journal ≡ left_text
   pub read : run_journal_text read_journal ≡ read_text
   pub term : run_journal_text term_journal ≡ term_text
+  pub row : settled_row_text row_example ≡ codes "pipe p12b sent 21 given 1 heard 2 dropped 3 written 4 lost 5 rest 6 closed\n"
   pub done : status_of_run closing_journal ≡ 0
   pub unfinished : status_of_run cut_journal ≡ 8
 

@@ -8,3 +8,4 @@ mod output;
 
 pub use command_line::words;
 pub use edge::{Ended, serve};
+pub use zq_top::{Status, run};

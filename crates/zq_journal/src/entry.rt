@@ -1,10 +1,10 @@
-ghost use Rattle.std.specs.Prelude.{◌≡◌, ◌++◌, OnOk, codes, decimal, flat_map};
-ghost use Rattle.spec_journal.specs.Text.{answer_text, entry_text, actor_text, send_refusal_text, recv_refusal_text, rule_text, skip_text, skips_text};
+ghost use Rattle.std.specs.Prelude.{◌≡◌, ◌++◌, OnOk, codes, decimal};
+ghost use Rattle.spec_journal.specs.Text.{answer_text, send_refusal_text, recv_refusal_text, rule_text, skip_text, skips_text};
 
 use crate::part::push_parts;
 use crate::report::push_report;
 use itoa::Buffer;
-use spec_journal::{ActorPart, Answer, Entry};
+use spec_journal::Answer;
 use spec_pattern::{RecvRefusal, Rule, SendRefusal, Skip};
 use std::alloc::{AllocError, Global};
 
@@ -116,15 +116,6 @@ pub fn push_skips(out: &mut Vec<u8>, skips: &[Skip]) -> Result<(), AllocError>
     Ok(())
 }
 
-// Appends what a line was answered, and the messages that it dropped.
-fn push_outcome(alloc: Global, out: &mut Vec<u8>, entry: &Entry) -> Result<(), AllocError>
-    ensures { OnOk result (out.new.items ≡
-        out.old.items ++ answer_text entry.now.answer ++ skips_text entry.now.skips) }
-{
-    push_answer(alloc, out, &entry.answer)?;
-    push_skips(out, entry.skips.as_slice())
-}
-
 /// Appends an actor's name and the number of its line, each with a space behind it.
 pub fn push_place(out: &mut Vec<u8>, name: &[u8], line: u32) -> Result<(), AllocError>
     ensures { OnOk result (out.new.items ≡
@@ -134,31 +125,4 @@ pub fn push_place(out: &mut Vec<u8>, name: &[u8], line: u32) -> Result<(), Alloc
     out.extend_from_slice(b" ")?;
     push_number(out, u64::from(line))?;
     out.extend_from_slice(b" ")
-}
-
-fn push_entry(
-    alloc: Global,
-    out: &mut Vec<u8>,
-    name: &[u8],
-    entry: &Entry,
-) -> Result<(), AllocError>
-    ensures { OnOk result (out.new.items ≡ out.old.items ++ entry_text name.now entry.now) }
-{
-    push_place(out, name, entry.line)?;
-    push_outcome(alloc, out, entry)?;
-    out.extend_from_slice(b"\n")
-}
-
-/// Appends an actor's answers, each on a line.
-pub(crate) fn push_actor(
-    alloc: Global,
-    out: &mut Vec<u8>,
-    actor: &ActorPart,
-) -> Result<(), AllocError>
-    ensures { OnOk result (out.new.items ≡ out.old.items ++ actor_text actor.now) }
-{
-    for entry in actor.entries.as_slice() {
-        push_entry(alloc, out, actor.name.as_slice(), entry)?;
-    }
-    Ok(())
 }

@@ -1,5 +1,5 @@
 ghost use Rattle.std.specs.Prelude.{◌≡◌, ◌++◌, OnOk, decimal, codes};
-ghost use Rattle.spec_journal.specs.Text.{pipe_text, reason_text, row_text};
+ghost use Rattle.spec_journal.specs.Text.{pipe_text};
 
 use crate::entry::push_number;
 use spec_journal::PipeRow;
@@ -13,12 +13,6 @@ pub fn push_pipe(out: &mut Vec<u8>, pipe: &PipeId) -> Result<(), AllocError>
     out.extend_from_slice(b"p")?;
     push_number(out, u64::from(pipe.pair.0))?;
     out.extend_from_slice(if pipe.a { b"a" } else { b"b" })
-}
-
-fn push_reason(out: &mut Vec<u8>, rest: u64) -> Result<(), AllocError>
-    ensures { OnOk result (out.new.items ≡ out.old.items ++ reason_text rest) }
-{
-    out.extend_from_slice(if rest == 0 { b"-" } else { b"closed" })
 }
 
 /// Appends a count behind its name.
@@ -43,26 +37,4 @@ pub fn push_taken(out: &mut Vec<u8>, row: &PipeRow) -> Result<(), AllocError>
     push_count(out, b" dropped ", row.dropped)?;
     push_count(out, b" written ", row.written)?;
     push_count(out, b" lost ", row.lost)
-}
-
-/// Appends how many messages are left, and why, and ends the line.
-fn push_rest(out: &mut Vec<u8>, rest: u64) -> Result<(), AllocError>
-    ensures { OnOk result (out.new.items ≡ out.old.items
-        ++ codes " rest " ++ decimal rest ++ codes " " ++ reason_text rest ++ codes "\n") }
-{
-    push_count(out, b" rest ", rest)?;
-    out.extend_from_slice(b" ")?;
-    push_reason(out, rest)?;
-    out.extend_from_slice(b"\n")
-}
-
-/// Appends the line of a pipe.
-pub(crate) fn push_row(out: &mut Vec<u8>, row: &PipeRow) -> Result<(), AllocError>
-    ensures { OnOk result (out.new.items ≡ out.old.items ++ row_text row.now) }
-{
-    out.extend_from_slice(b"pipe ")?;
-    push_pipe(out, &row.pipe)?;
-    push_count(out, b" sent ", row.sent)?;
-    push_taken(out, row)?;
-    push_rest(out, row.rest)
 }

@@ -53,7 +53,7 @@ const CASES: [Case; 5] = [
         &["zbus", "run"],
         b"actor a\nsocket r PULL\n",
         0,
-        b"a 2 ok o1\ndone\n",
+        b"a 2 ok o1\nend o1 PULL\nend o0 ctx\ndone\n",
     ),
     (&["zbus", "run"], b"x\n", 1, b"script 1 BadWord\n"),
     (
@@ -66,7 +66,7 @@ const CASES: [Case; 5] = [
         &["zbus", "run", "--turns", "1"],
         b"actor a\nsocket r PULL\nrecv r\n",
         8,
-        b"a 2 ok o1\nunfinished\n",
+        b"a 2 ok o1\nlive o0 ctx\nlive o1 PULL\nunfinished\n",
     ),
     (
         &["zbus", "hear", "PULL"],

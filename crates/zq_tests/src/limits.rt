@@ -1,13 +1,14 @@
 use crate::calls::call;
 use std::alloc::Global;
 use std::test::Fail;
-use zq_top::Status;
+use zq_edge::Status;
+use zq_journal::push_number;
 
 /// A text in pieces, each so often.
 type Pieces = &'static [(&'static [u8], usize)];
 
 /// Long scripts, and how what their runs print ends.
-const LIMITS: [(Pieces, Pieces); 10] = [
+const LIMITS: [(Pieces, Pieces); 11] = [
     // One receive of a REP drops 256 messages at the most.
     (
         &[
@@ -22,7 +23,7 @@ const LIMITS: [(Pieces, Pieces); 10] = [
             (b"a 262 ok p1\na 263 busy", 1),
             (b" !badenv@p1", 256),
             (
-                b"\na 264 again !badenv@p1\npipe p1a sent 257 given 0 heard 0 dropped 257 written 0 lost 0 rest 0 -\npipe p1b sent 0 given 0 heard 0 dropped 0 written 0 lost 0 rest 0 -\ndone\n",
+                b"\na 264 again !badenv@p1\nend o1 REP\nend o2 DEALER\nend o0 ctx\npipe p1a sent 257 given 0 heard 0 dropped 257 written 0 lost 0 rest 0 -\npipe p1b sent 0 given 0 heard 0 dropped 0 written 0 lost 0 rest 0 -\ndone\n",
                 1,
             ),
         ],
@@ -41,7 +42,7 @@ const LIMITS: [(Pieces, Pieces); 10] = [
             (b"a 263 ok p1\na 264 ok\na 265 busy", 1),
             (b" !filtered@p1", 256),
             (
-                b"\na 266 again !filtered@p1\npipe p1a sent 2 given 0 heard 1 dropped 0 written 0 lost 0 rest 1 closed\npipe p1b sent 257 given 0 heard 0 dropped 257 written 0 lost 0 rest 0 -\ndone\n",
+                b"\na 266 again !filtered@p1\nend o1 PUB\nend o2 SUB\nend o0 ctx\npipe p1a sent 2 given 0 heard 1 dropped 0 written 0 lost 0 rest 1 closed\npipe p1b sent 257 given 0 heard 0 dropped 257 written 0 lost 0 rest 0 -\ndone\n",
                 1,
             ),
         ],
@@ -60,7 +61,7 @@ const LIMITS: [(Pieces, Pieces); 10] = [
             (b"a 266 ok p2\na 267 busy", 1),
             (b" !stray@p2", 256),
             (
-                b"\na 268 again !stray@p2\npipe p1a sent 1 given 0 heard 0 dropped 0 written 0 lost 0 rest 1 closed\npipe p1b sent 0 given 0 heard 0 dropped 0 written 0 lost 0 rest 0 -\npipe p2a sent 0 given 0 heard 0 dropped 0 written 0 lost 0 rest 0 -\npipe p2b sent 257 given 0 heard 0 dropped 257 written 0 lost 0 rest 0 -\ndone\n",
+                b"\na 268 again !stray@p2\nend o1 ROUTER\nend o2 ROUTER\nend o3 REQ\nend o0 ctx\npipe p1a sent 1 given 0 heard 0 dropped 0 written 0 lost 0 rest 1 closed\npipe p1b sent 0 given 0 heard 0 dropped 0 written 0 lost 0 rest 0 -\npipe p2a sent 0 given 0 heard 0 dropped 0 written 0 lost 0 rest 0 -\npipe p2b sent 257 given 0 heard 0 dropped 257 written 0 lost 0 rest 0 -\ndone\n",
                 1,
             ),
         ],
@@ -76,7 +77,7 @@ const LIMITS: [(Pieces, Pieces); 10] = [
             (b"recv x\nrecv x\n", 1),
         ],
         &[(
-            b"a 523 ok\na 524 busy\na 525 again\npipe p1a sent 1 given 0 heard 1 dropped 0 written 0 lost 0 rest 0 -\npipe p1b sent 0 given 0 heard 0 dropped 0 written 0 lost 0 rest 0 -\npipe p2a sent 514 given 0 heard 514 dropped 0 written 0 lost 0 rest 0 -\npipe p2b sent 0 given 0 heard 0 dropped 0 written 0 lost 0 rest 0 -\ndone\n",
+            b"a 523 ok\na 524 busy\na 525 again\nend o2 SUB\nend o1 XPUB\nend o3 SUB\nend o0 ctx\npipe p1a sent 1 given 0 heard 1 dropped 0 written 0 lost 0 rest 0 -\npipe p1b sent 0 given 0 heard 0 dropped 0 written 0 lost 0 rest 0 -\npipe p2a sent 514 given 0 heard 514 dropped 0 written 0 lost 0 rest 0 -\npipe p2b sent 0 given 0 heard 0 dropped 0 written 0 lost 0 rest 0 -\ndone\n",
             1,
         )],
     ),
@@ -91,7 +92,7 @@ const LIMITS: [(Pieces, Pieces); 10] = [
             (b"send x z\n", 5),
         ],
         &[(
-            b"a 1006 ok p1\na 1007 drop nomatch\na 1008 drop nomatch\na 1009 drop nomatch\na 1010 drop nomatch\na 1011 drop nomatch\npipe p1a sent 1001 given 0 heard 1000 dropped 0 written 0 lost 0 rest 1 closed\npipe p1b sent 0 given 0 heard 0 dropped 0 written 0 lost 0 rest 0 -\ndone\n",
+            b"a 1006 ok p1\na 1007 drop nomatch\na 1008 drop nomatch\na 1009 drop nomatch\na 1010 drop nomatch\na 1011 drop nomatch\nend o1 XPUB\nend o2 XSUB\nend o0 ctx\npipe p1a sent 1001 given 0 heard 1000 dropped 0 written 0 lost 0 rest 1 closed\npipe p1b sent 0 given 0 heard 0 dropped 0 written 0 lost 0 rest 0 -\ndone\n",
             1,
         )],
     ),
@@ -107,7 +108,7 @@ const LIMITS: [(Pieces, Pieces); 10] = [
             (b"recv x\nrecv x\n", 1),
         ],
         &[(
-            b"a 1011 drop nomatch\na 1012 msg p1 m\na 1013 msg p1 m\npipe p1a sent 1001 given 0 heard 1001 dropped 0 written 0 lost 0 rest 0 -\npipe p1b sent 0 given 0 heard 0 dropped 0 written 0 lost 0 rest 0 -\ndone\n",
+            b"a 1011 drop nomatch\na 1012 msg p1 m\na 1013 msg p1 m\nend o1 XPUB\nend o2 XSUB\nend o0 ctx\npipe p1a sent 1001 given 0 heard 1001 dropped 0 written 0 lost 0 rest 0 -\npipe p1b sent 0 given 0 heard 0 dropped 0 written 0 lost 0 rest 0 -\ndone\n",
             1,
         )],
     ),
@@ -125,7 +126,7 @@ const LIMITS: [(Pieces, Pieces); 10] = [
             (b"a 6 ok p1\na 7 msg p1 ", 1),
             (b"x", 255),
             (
-                b" m\npipe p1a sent 1 given 1 heard 0 dropped 0 written 0 lost 0 rest 0 -\npipe p1b sent 0 given 0 heard 0 dropped 0 written 0 lost 0 rest 0 -\ndone\n",
+                b" m\nend o1 ROUTER\nend o2 DEALER\nend o0 ctx\npipe p1a sent 1 given 1 heard 0 dropped 0 written 0 lost 0 rest 0 -\npipe p1b sent 0 given 0 heard 0 dropped 0 written 0 lost 0 rest 0 -\ndone\n",
                 1,
             ),
         ],
@@ -145,7 +146,7 @@ const LIMITS: [(Pieces, Pieces); 10] = [
             (b"\n", 1),
         ],
         &[(
-            b"a 6 ok p1\na 7 toolarge\na 8 ok p1\npipe p1a sent 1 given 0 heard 0 dropped 0 written 0 lost 0 rest 1 closed\npipe p1b sent 1 given 0 heard 0 dropped 0 written 0 lost 0 rest 1 closed\ndone\n",
+            b"a 6 ok p1\na 7 toolarge\na 8 ok p1\nend o1 ROUTER\nend o2 DEALER\nend o0 ctx\npipe p1a sent 1 given 0 heard 0 dropped 0 written 0 lost 0 rest 1 closed\npipe p1b sent 1 given 0 heard 0 dropped 0 written 0 lost 0 rest 1 closed\ndone\n",
             1,
         )],
     ),
@@ -164,7 +165,7 @@ const LIMITS: [(Pieces, Pieces); 10] = [
             (b"\n", 1),
         ],
         &[(
-            b"a 6 toolarge\na 7 ok p1\na 8 msg p1 one\na 9 toolarge\na 10 ok p1\npipe p1a sent 1 given 1 heard 0 dropped 0 written 0 lost 0 rest 0 -\npipe p1b sent 1 given 0 heard 0 dropped 0 written 0 lost 0 rest 1 closed\ndone\n",
+            b"a 6 toolarge\na 7 ok p1\na 8 msg p1 one\na 9 toolarge\na 10 ok p1\nend o1 REQ\nend o2 REP\nend o0 ctx\npipe p1a sent 1 given 1 heard 0 dropped 0 written 0 lost 0 rest 0 -\npipe p1b sent 1 given 0 heard 0 dropped 0 written 0 lost 0 rest 1 closed\ndone\n",
             1,
         )],
     ),
@@ -183,10 +184,49 @@ const LIMITS: [(Pieces, Pieces); 10] = [
             (b"\n", 1),
         ],
         &[(
-            b"a 5 ok p1\na 6 toolarge\na 7 toolarge\na 8 ok p1\npipe p1a sent 1 given 0 heard 0 dropped 0 written 0 lost 0 rest 1 closed\npipe p1b sent 0 given 0 heard 0 dropped 0 written 0 lost 0 rest 0 -\ndone\n",
+            b"a 5 ok p1\na 6 toolarge\na 7 toolarge\na 8 ok p1\nend o1 XPUB\nend o2 XSUB\nend o0 ctx\npipe p1a sent 1 given 0 heard 0 dropped 0 written 0 lost 0 rest 1 closed\npipe p1b sent 0 given 0 heard 0 dropped 0 written 0 lost 0 rest 0 -\ndone\n",
             1,
         )],
     ),
+    // More sockets are made than may live at once, each closed before the next: their numbers go on.
+    (
+        &[(b"actor a\n", 1), (b"socket s PULL\nclose s\n", 1100)],
+        &[(b"end o1099 PULL\nend o1100 PULL\nend o0 ctx\ndone\n", 1)],
+    ),
+];
+
+/// Lines, each in two halves between which a number stands.
+type Halves = &'static [(&'static [u8], &'static [u8])];
+
+/// A script whose lines in its middle are numbered, what its run tells behind the first of them, and how it ends.
+struct Numbered {
+    begin: &'static [u8],
+    lines: Halves,
+    count: usize,
+    behind: &'static [u8],
+    told: &'static [u8],
+    end: &'static [u8],
+}
+
+/// Scripts of one socket more than may live, which may be made once one has ended, and of a thousand pairs
+/// that are closed at once.
+const NUMBERED: [Numbered; 2] = [
+    Numbered {
+        begin: b"actor a\n",
+        lines: &[(b"socket s", b" PUSH\n")],
+        count: 1024,
+        behind: b"send s0 x\nsend s1023 x\nclose s0\nsend s1 x\nsocket t PUSH\nsocket u PUSH\n",
+        told: b"\na 1024 ok o1023\na 1025 toomany\na 1026 again\na 1027 nosock\na 1028 ok\na 1029 again\na 1030 ok o1024\na 1031 toomany\nend o1 PUSH\nend o2 PUSH\n",
+        end: b"end o1023 PUSH\nend o1024 PUSH\nend o0 ctx\ndone\n",
+    },
+    Numbered {
+        begin: b"actor a\nsocket r PULL\nbind r inproc://q\n",
+        lines: &[(b"socket s", b" PUSH\n"), (b"connect s", b" inproc://q\n")],
+        count: 1000,
+        behind: b"",
+        told: b"\na 2002 ok o1001\na 2003 ok p1000\nend o2 PUSH\n",
+        end: b"pipe p1000b sent 0 given 0 heard 0 dropped 0 written 0 lost 0 rest 0 -\ndone\n",
+    },
 ];
 
 /// Adds the text so often.
@@ -212,6 +252,52 @@ fn ends_so(alloc: Global, script: Pieces, end: Pieces) -> Result<bool, Fail> {
     let end = text_of(alloc, end)?;
     let called = call(alloc, &["zbus", "run"], &script, &[], &[], &[65_536])?;
     Ok(called.status == Status::Done && called.text.ends_with(&end))
+}
+
+/// Adds these texts so often, each with the number of the time between its two halves.
+fn number(octets: &mut Vec<u8>, texts: Halves, count: usize) -> Result<(), Fail> {
+    for number in 0..count {
+        for (before, after) in texts {
+            octets.extend_from_slice(before)?;
+            push_number(octets, number as u64)?;
+            octets.extend_from_slice(after)?;
+        }
+    }
+    Ok(())
+}
+
+/// The script of a numbered case.
+fn script_of(alloc: Global, case: &Numbered) -> Result<Vec<u8>, Fail> {
+    let mut script = Vec::from_slice(alloc, case.begin)?;
+    number(&mut script, case.lines, case.count)?;
+    script.extend_from_slice(case.behind)?;
+    Ok(script)
+}
+
+/// Whether a text has this part.
+fn has(text: &[u8], part: &[u8]) -> bool {
+    for at in 0..text.len() {
+        if text[at..].starts_with(part) {
+            return true;
+        }
+    }
+    false
+}
+
+/// Whether the run of a numbered case is done, tells what it must, and its text ends so.
+fn many_end_so(alloc: Global, case: &Numbered) -> Result<bool, Fail> {
+    let script = script_of(alloc, case)?;
+    let called = call(alloc, &["zbus", "run"], &script, &[], &[], &[65_536])?;
+    let text = called.text.as_slice();
+    Ok(called.status == Status::Done && has(text, case.told) && text.ends_with(case.end))
+}
+
+#[test]
+fn so_many_sockets_live_and_end(rt: HostRuntime) -> Result<(), Fail> {
+    for case in &NUMBERED {
+        assert!(rt; many_end_so(rt.alloc(), case)?);
+    }
+    Ok(())
 }
 
 #[test]

@@ -1,15 +1,11 @@
 -- What is said of a call is what it answers, and its status is due.
-use Rattle.std.proofs.Common.{◌≡◌, ℕ, Bool, List, Option, Ok, refl, inr}
+use Rattle.std.proofs.Common.{ℕ, List, Option, refl, inr}
 use Rattle.zq_outer.specs.Count.{Rose}
 use Rattle.zq_outer.specs.Sink.{Appends}
-use Rattle.zq_script.specs.Script.{script_of}
-use Rattle.zq_script.specs.declared.script.Script.{Script}
-use Rattle.spec_journal.specs.declared.journal.Journal.{Journal}
-use Rattle.spec_journal.specs.Run.{Schedule}
-use Rattle.spec_journal.specs.Printed.{IsJournalOf}
-use Rattle.spec_journal.specs.Text.{journal_text}
-use Rattle.spec_journal.proofs.RunLemmas.{one_journal}
-use Rattle.zq_top.specs.Headline.{Prints, SourceAt, Outside, SaysText, AnswersCall, IsDue}
+use Rattle.read_laws.specs.ReadScripts.{ScriptsMayBeAsked}
+use Rattle.script_bounds.specs.ScriptBounds.{ScriptsAreDoneInTime}
+use Rattle.plain_run.specs.Told.{Told}
+use Rattle.zq_top.specs.Headline.{SourceAt, Outside, SaysText, AnswersCall, IsDue}
 use Rattle.zq_top.specs.declared.status.Status.{Status}
 use Rattle.zq_top.specs.declared.status.Status.TheVariants as status
 use Rattle.zq_top.proofs.Completes.{completes, refuses, ends_so}
@@ -28,11 +24,11 @@ answers_said status.Unfinished words before after text says taken = (text, says,
 answers_said status.Heard words before after text says taken = (text, says, taken)
 
 -- the status of what is said is due
-pub due_said : (s : Status) (words : List (List ℕ)) (before after : SourceAt) (text : List ℕ) → (Rose before.faults after.faults → ⊥)
+pub due_said : ScriptsAreDoneInTime ℕ Told → ScriptsMayBeAsked → (s : Status) (words : List (List ℕ)) (before after : SourceAt) (text : List ℕ) → (Rose before.faults after.faults → ⊥)
     → SaysText s words before after text → IsDue s words before.left
-due_said s words before after text sound says = record {
+due_said in_time may s words before after text sound says = record {
   run = λ schedule script j asks is. ends_so words before after text schedule script asks s j sound says is;
-  completes = λ schedule script asks few. completes words before after text asks.octets schedule asks.asks asks.left_is sound s script says asks.script_is few;
+  completes = λ schedule script asks enough. completes words before after text asks.octets schedule asks.asks asks.left_is sound in_time may s script says asks.script_is enough;
   refuses = λ schedule octets fault asks left is. refuses words before after text octets schedule asks left sound s fault says is;
   hears = λ kind login octets d asks left means. hears words before after text octets kind login asks left sound d means s says;
 }
@@ -41,20 +37,7 @@ due_said s words before after text sound says = record {
 pub due_in_want : (words : List (List ℕ)) (left : Option (List ℕ)) → IsDue status.OutOfMemory words left
 due_in_want words left = record {
   run = λ schedule script j asks is. inr refl;
-  completes = λ schedule script asks few. inr refl;
+  completes = λ schedule script asks enough. inr refl;
   refuses = λ schedule octets fault asks left_is is. inr refl;
   hears = λ kind login octets d asks left_is means. inr refl;
-}
-
--- the text of the one journal of a script
-pub prints_one : (schedule : Schedule) (done : Bool) (octets text : List ℕ) (script : Script) (j : Journal) → script_of octets ≡ Ok script → IsJournalOf script schedule j
-    → j.done ≡ done → text ≡ journal_text j → Prints schedule done octets text
-prints_one schedule done octets text script j script_is is done_is text_is = record {
-  script = script;
-  script_is = script_is;
-  journal = j;
-  is_journal = is;
-  only = λ other also. one_journal script schedule other j also is;
-  done_is = done_is;
-  text_is = text_is;
 }

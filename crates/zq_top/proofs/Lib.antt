@@ -1,4 +1,5 @@
 mod WritesOn
+mod LocalLemmas
 pub mod Completes
 pub mod Hears
 pub mod Dues

@@ -1,15 +1,16 @@
 -- What a call of the program says: for each status, what was read and the text that is written.
-use Rattle.std.specs.Prelude.{◌≡◌, ◌⊎◌, ◌<◌, ◌≤◌, ℕ, List, ◌++◌, Option, Bool, true, false, Some, None, length, codes, decimal, Ok, Err}
-use Rattle.zq_script.specs.Script.{script_of}
-use Rattle.zq_script.specs.declared.script.Script.{Script}
+use Rattle.std.specs.Prelude.{◌≡◌, ◌⊎◌, ◌≤◌, ℕ, List, ◌++◌, Option, Bool, true, false, Some, None, length, codes, decimal, Ok, Err}
 use Rattle.zq_script.specs.declared.fault.Cause.{Cause}
 use Rattle.zq_script.specs.declared.fault.Cause.TheVariants.{BadWord, BadEndpoint, BadPart, UnknownSocket, DoubleName, TooManyActors, TooLong}
 use Rattle.zq_script.specs.declared.fault.ScriptFault.{ScriptFault}
-use Rattle.spec_journal.specs.declared.journal.Journal.{Journal}
 use Rattle.spec_journal.specs.Run.{Schedule}
-use Rattle.spec_journal.specs.Completeness.{tries_in_all}
-use Rattle.spec_journal.specs.Printed.{IsJournalOf}
-use Rattle.spec_journal.specs.Text.{journal_text}
+use Rattle.run_script.specs.RunGrammar.{run_script_of}
+use Rattle.spec_run.specs.declared.journal.RunJournal.{RunJournal}
+use Rattle.spec_run.specs.LineCall.{RunScript}
+use Rattle.spec_run.specs.RunJournal.{IsRunJournal}
+use Rattle.script_bounds.specs.ScriptBounds.{script_turns}
+use Rattle.run_text.specs.RunText.{PrintsRun}
+use Rattle.plain_run.specs.Told.{Told}
 use Rattle.zq_outer.specs.Count.{Rose}
 use Rattle.zq_outer.specs.Source.{Consumes, ConsumesAll}
 use Rattle.zq_outer.specs.Sink.{Appends, AppendsFront}
@@ -58,15 +59,13 @@ WasRead before after octets =
     (length octets ≤ most_read)
     × (WasReadWhole before after octets ⊎ ((length octets ≡ most_read) × Consumes before.left octets after.left))
 
+-- The journal is that of a run of the script on one thread by the schedule.
+abbrev pub IsJournal : RunScript → Schedule → RunJournal → Type 0
+IsJournal script schedule j = IsRunJournal ℕ Told script schedule j
+
 -- The text is that of the one journal of the script that the octets are, by the schedule, done or not.
-pub record Prints (schedule : Schedule) (done : Bool) (octets text : List ℕ) : Type 0 where
-  pub script : Script
-  pub script_is : script_of octets ≡ Ok script
-  pub journal : Journal
-  pub is_journal : IsJournalOf script schedule journal
-  pub only : (other : Journal) → IsJournalOf script schedule other → other ≡ journal
-  pub done_is : journal.done ≡ done
-  pub text_is : text ≡ journal_text journal
+abbrev pub Prints : Schedule → (done : Bool) → (octets text : List ℕ) → Type 0
+Prints schedule done octets text = PrintsRun ℕ Told schedule done octets text
 
 -- how a fault of a script is printed
 abbrev pub script_cause_text : Cause → List ℕ
@@ -84,7 +83,7 @@ fault_text f = codes "script " ++ decimal f.line ++ codes " " ++ script_cause_te
 -- the octets are no script, and the text is their first fault, with its line
 pub record RefusesScript (octets text : List ℕ) : Type 0 where
   pub fault : ScriptFault
-  pub fault_is : script_of octets ≡ Err fault
+  pub fault_is : run_script_of octets ≡ Err fault
   pub text_is : text ≡ fault_text fault
 
 -- what is said of the octets that were read, with each status
@@ -168,11 +167,11 @@ IsSound before after =
     (Rose before.source.faults after.source.faults → ⊥) × (Rose before.sink.faults after.sink.faults → ⊥)
 
 -- the words ask for a run by this schedule, and the source has the octets of this script
-pub record AsksScript (words : List (List ℕ)) (left : Option (List ℕ)) (schedule : Schedule) (script : Script) : Type 0 where
+pub record AsksScript (words : List (List ℕ)) (left : Option (List ℕ)) (schedule : Schedule) (script : RunScript) : Type 0 where
   pub asks : AsksRun words schedule
   pub octets : List ℕ
   pub left_is : left ≡ Some octets
-  pub script_is : script_of octets ≡ Ok script
+  pub script_is : run_script_of octets ≡ Ok script
 
 -- the status is this one, or memory was wanting
 abbrev pub ComesDue : Status → Status → Type 0
@@ -183,14 +182,14 @@ abbrev pub run_status : Bool → Status
 run_status true = status.Done
 run_status false = status.Unfinished
 
--- Which status is due where the outside has no fault: 0 exactly where the script's one journal is done, and 8 exactly where it isn't; 0 where the run may take more turns than the script has tries; 1 where the octets are no script; 0 or 9 by what a peer's octets mean.
+-- Which status is due where the outside has no fault: 0 exactly where the script's one journal is done, and 8 exactly where it isn't; 0 where the run may take as many turns as the script's lines tell; 1 where the octets are no script; 0 or 9 by what a peer's octets mean.
 pub record IsDue (s : Status) (words : List (List ℕ)) (left : Option (List ℕ)) : Type 0 where
-  pub run : (schedule : Schedule) (script : Script) (j : Journal) →
-      AsksScript words left schedule script → IsJournalOf script schedule j → ComesDue s (run_status j.done)
-  pub completes : (schedule : Schedule) (script : Script) →
-      AsksScript words left schedule script → tries_in_all script < schedule.turns → ComesDue s status.Done
+  pub run : (schedule : Schedule) (script : RunScript) (j : RunJournal) →
+      AsksScript words left schedule script → IsJournal script schedule j → ComesDue s (run_status j.done)
+  pub completes : (schedule : Schedule) (script : RunScript) →
+      AsksScript words left schedule script → script_turns script ≤ schedule.turns → ComesDue s status.Done
   pub refuses : (schedule : Schedule) (octets : List ℕ) (fault : ScriptFault) →
-      AsksRun words schedule → left ≡ Some octets → script_of octets ≡ Err fault → ComesDue s status.Script
+      AsksRun words schedule → left ≡ Some octets → run_script_of octets ≡ Err fault → ComesDue s status.Script
   pub hears : (kind : Kind) (login : Option Login) (octets : List ℕ) (d : Decoded) →
       AsksHear words kind login → left ≡ Some octets → Decodes (hear_opts kind login) octets d →
       ComesDue s (heard_status (is_refused d.outcome))

@@ -1,6 +1,5 @@
 pub mod Examples
-pub use Rattle.spec_journal.specs.Printed
-pub use Rattle.spec_journal.specs.Text
+pub use Rattle.run_text.specs.RunText
 pub use Rattle.spec_zmtp.specs.DecodedStream
 pub use Rattle.zq_hear.specs.HearText
 pub mod ExitCode

@@ -2,37 +2,35 @@ ghost use Rattle.std.specs.Prelude.{◌≡◌, ◌≤◌, ℕ, Bool, List, map, 
 ghost use Rattle.spec_journal.specs.Run.{Schedule};
 ghost use Rattle.spec_zmtp.specs.Metadata.{IsLogin};
 ghost use Rattle.zq_hear.specs.HearText.{IsHeard, hear_opts};
-ghost use Rattle.zq_script.specs.Script.{script_of};
+ghost use Rattle.run_text.specs.RunText.{TellsRun};
+ghost use Rattle.plain_run.specs.Told.{Told};
 ghost use Rattle.zq_top.specs.Headline.{AsksRun, AsksHear, SaysText, SaysOf, AnswersCall, IsSound, IsDue, outside, source_at, heard_status};
 
 use crate::fault::fault_text;
 use crate::status::Status;
 use crate::streams::{ReadError, read_all, read_script_text, write_all};
-use flat_play::play_script;
+use http_server::Log;
+use msg_pipe::PlainPipe;
+use plain_run::text_in_context;
+use read_laws::scripts_that_are_read_may_be_asked;
+use run_text::RunText;
+use script_bounds::scripts_are_done_in_time;
 use std::alloc::{AllocError, Global};
 use zq_base::{Kind, Login};
 use zq_hear::hear;
-use zq_journal::print;
 use zq_outer::{Clock, Gate, Host, Sink, Source};
-use zq_script::{ReadScript, Script, read_script};
 use zq_words::{Request, WordsError, read_words};
 
-/// The text of a run of the script, and its status.
-fn text_of_run(
-    alloc: Global,
-    script: &Script,
-    seed: u64,
-    turns: u32,
-) -> Result<(Status, Vec<u8>), AllocError>
-    ensures { IfOk result (λ said. (octets : List ℕ) → script_of octets ≡ Ok script.now
-        → SaysOf (record { seed = seed; turns = turns }) said.0 octets said.1.items) }
+/// What is told of a run, as the text to write and the status.
+fn said_of(alloc: Global, told: RunText) -> Result<(Status, Vec<u8>), AllocError>
+    ensures { IfOk result (λ said. (schedule : Schedule) (octets : List ℕ)
+        → TellsRun ℕ Told schedule octets told → SaysOf schedule said.0 octets said.1.items) }
 {
-    let journal = play_script(alloc, script, seed, turns)?;
-    let text = print(alloc, &journal)?;
-    if journal.done {
-        return Ok((Status::Done, text.into_vec()));
+    match told {
+        RunText::Done(text) => return Ok((Status::Done, text.into_vec())),
+        RunText::Unfinished(text) => return Ok((Status::Unfinished, text.into_vec())),
+        RunText::Fault(fault) => return Ok((Status::Script, fault_text(alloc, fault)?)),
     }
-    Ok((Status::Unfinished, text.into_vec()))
 }
 
 /// The text of a run of the script that the octets are, or of the script's fault, and the status.
@@ -44,14 +42,9 @@ fn text_of(
 ) -> Result<(Status, Vec<u8>), AllocError>
     ensures { IfOk result (λ said. SaysOf (record { seed = seed; turns = turns }) said.0 octets.now said.1.items) }
 {
-    match read_script(alloc, octets) {
-        Ok(script) => {
-            let said = text_of_run(alloc, &script, seed, turns)?;
-            return Ok(said);
-        }
-        Err(ReadScript::Fault(fault)) => return Ok((Status::Script, fault_text(alloc, fault)?)),
-        Err(ReadScript::OutOfMemory) => return Err(AllocError),
-    }
+    let told = text_in_context(alloc, octets, seed, turns)?;
+    let said = said_of(alloc, told)?;
+    Ok(said)
 }
 
 /// The text of a call that was asked to run by this schedule, and its status.
@@ -188,6 +181,8 @@ pub fn run<S: Source, K: Sink, H: Host, C: Clock, G: Gate>(
     // No run has links or time yet.
     ensures untouched { (hosts.new ≡ hosts.old) × (clock.new ≡ clock.old) }
 {
+    scripts_are_done_in_time::<usize, Log<PlainPipe, bool>>();
+    scripts_that_are_read_may_be_asked();
     let (status, text) = match text_for(alloc, words, script) {
         Ok(said) => said,
         Err(_) => return Status::OutOfMemory,

@@ -188,3 +188,6 @@ returns-in-Reap-clause-counts g c = λ e is. absurd (never (sym (ap brings_ends 
 
 pub returns-in-Ok-clause-counts : goal.returns-in-Ok-clause-counts
 returns-in-Ok-clause-counts g c = λ e is. absurd (never (sym (ap binds_end is) ∙ ap binds_end c.in-PipeBind.is))
+
+pub returns-in-Err-clause-succeeds : goal.returns-in-Err-clause-succeeds
+returns-in-Err-clause-succeeds g c = λ none. absurd (never (sym none ∙ ap binds_end c.in-PipeBind.is))

@@ -101,3 +101,6 @@ pub returns-in-Some-clause-none_made : goal.returns-in-Some-clause-none_made
 returns-in-Some-clause-none_made g c =
     let n = c.forget_parts.ensures.noted in
     none_made (Parted c.args.place c.into_inner-out.result.end n.half) c.args.did.now.items c.forget_parts.new.did.items c.forget_parts.new.pipes n.noted (λ e. refl)
+
+pub returns-in-Some-clause-parted : goal.returns-in-Some-clause-parted
+returns-in-Some-clause-parted g c = ap (λ v. v.parts) c.forget_parts.ensures.forgets

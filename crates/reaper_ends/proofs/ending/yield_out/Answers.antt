@@ -1,4 +1,5 @@
-use Rattle.std.proofs.Common.{◌∙◌, refl, sym, subst}
+use Rattle.std.proofs.Common.{◌∙◌, refl, sym, subst, ap}
+use Rattle.held_ends.proofs.SoundLemmas.{one_some}
 use Rattle.msg_pipe.specs.Known.{IsThere}
 use Rattle.reaper_ends.specs.Finding.{place_given}
 use Rattle.reaper_ends.proofs.CountLemmas.{rolled_counts}
@@ -14,3 +15,7 @@ pub returns-in-Some-clause-changes : goal.returns-in-Some-clause-changes
 returns-in-Some-clause-changes g c = λ writes.
     once_parted g.P.Pipes.known (place_given g.P.Pipes.known.in_name c.args.end.now) refl writes c.args.did.now.items c.forget_noted.new.did.items c.args.pipes.now c.forget_noted.new.pipes c.in-Some.out c.forget_noted.new.out c.forget_noted.ensures.noted
     (c.requires.given.out_is c.in-Some.out (sym c.take.ensures.value ∙ c.in-Some.is)) c.forget_noted.ensures.forgets c.forget_noted.ensures.keeps
+
+pub returns-in-Some-clause-parted : goal.returns-in-Some-clause-parted
+returns-in-Some-clause-parted g c = λ o is.
+    ap (λ (w : _). (g.P.Pipes.known.writing c.forget_noted.new.pipes w).parts) (sym (one_some _ _ is)) ∙ ap (λ v. v.parts) c.forget_noted.ensures.forgets

@@ -6,4 +6,4 @@ pub returns-clause-answers : goal.returns-clause-answers
 returns-clause-answers g c = answers_said c.in-Ok.said.0 _ _ _ _ c.in-Ok.ensures (search rules)
 
 pub returns-clause-due : goal.returns-clause-due
-returns-clause-due g c = λ sound. due_said c.in-Ok.said.0 _ _ _ _ sound.0 c.in-Ok.ensures
+returns-clause-due g c = λ sound. due_said c.scripts_are_done_in_time.ensures c.scripts_that_are_read_may_be_asked.ensures c.in-Ok.said.0 _ _ _ _ sound.0 c.in-Ok.ensures

@@ -1,5 +1,4 @@
-use Rattle.std.proofs.Common.{rules}
 use Rattle.zq_top.proofs.top.text_of.Goals as goal
 
-pub returns-in-Ok : goal.returns-in-Ok
-returns-in-Ok c = c.in_ok-said-in-Ok.ensures c.args.octets.now (search rules)
+pub returns : goal.returns
+returns c = c.in_ok-said.ensures (record { seed = c.args.seed; turns = c.args.turns }) c.args.octets.now c.in_ok-told.ensures.tells

@@ -34,7 +34,21 @@ use Rattle.ctl_history.specs.Coming.{ComesWith}
 use Rattle.ctl_holder.specs.Counts.{CountsOnce}
 use Rattle.ctl_holder.specs.declared.notice.Notice.{Notice}
 use Rattle.ctl_history.proofs.ComeLemmas.{heard_rows, objects_come, past_comes, none_counts, one_counts}
+use Rattle.std.specs.Prelude.{Bool, false, []}
+use Rattle.spec_control.specs.declared.letter.Letter.{Letter}
+use Rattle.ctl_hears.specs.Attaching.{binds_end}
+use Rattle.control_rows.proofs.ListLemmas.{never}
 use Rattle.ctl_history.proofs.history.History.deliver.Goals as goal
+
+-- the first of these letters attaches an end, or there is none
+abbrev first_binds : List Letter → Bool
+first_binds [] = true
+first_binds (l ∷ ls) = binds_end l.word
+
+-- there is a first one
+abbrev some_first : List Letter → Bool
+some_first [] = false
+some_first (l ∷ ls) = true
 
 pub process-requires-clause-may : goal.process-requires-clause-may
 process-requires-clause-may g c =
@@ -245,3 +259,11 @@ pub returns-in_default-clause-counts : goal.returns-in_default-clause-counts
 returns-in_default-clause-counts g c =
     subst (λ (p : Past (Given g.row.P-Name.Denot g.row.P-Out.Denot g.row.P-In.Denot) g.row.P-Name.Denot g.row.P-Story.Denot). CountsOnce g.P.Pipes.known.out_name (g.H.Holder.counts c.args.holder.now) c.args.self.now.events p.events (g.H.Holder.holding c.args.holder.now)) (sym c.self.view_is)
     (none_counts g.P.Pipes.known.out_name (g.H.Holder.counts c.args.holder.now) c.args.self.now.events (g.H.Holder.holding c.args.holder.now))
+
+pub returns-in-Err-clause-succeeds : goal.returns-in-Err-clause-succeeds
+returns-in-Err-clause-succeeds g c = λ letter behind is none.
+    c.in-Err.ensures.succeeds (ap first_binds (sym (c.in-Some.ensures.front _ c.self.invariant.history.stands) ∙ ap (λ (p : Past (Given g.row.P-Name.Denot g.row.P-Out.Denot g.row.P-In.Denot) g.row.P-Name.Denot g.row.P-Story.Denot). (control_of p).boxes c.args.slot.0) c.self.view_is ∙ is) ∙ none)
+
+pub returns-in-Err-clause-empty : goal.returns-in-Err-clause-empty
+returns-in-Err-clause-empty g c = λ is.
+    absurd (never (sym (ap some_first is) ∙ ap (λ (p : Past (Given g.row.P-Name.Denot g.row.P-Out.Denot g.row.P-In.Denot) g.row.P-Name.Denot g.row.P-Story.Denot). some_first ((control_of p).boxes c.args.slot.0)) (sym c.self.view_is) ∙ ap some_first (c.in-Some.ensures.front _ c.self.invariant.history.stands)))

@@ -1,7 +1,8 @@
-use Rattle.std.proofs.Common.{sym, ap, subst}
+use Rattle.std.proofs.Common.{sym, ap, ◌∙◌, subst}
 use Rattle.spec_control.specs.declared.request.Req.{Req}
 use Rattle.spec_control.specs.declared.request.Req.TheVariants.{Socket as MakeSocket, AskTerm, Bind, Connect, Unbind, Disconnect}
 use Rattle.spec_control.specs.declared.request.Reply.TheVariants.{Done as IsDone}
+use Rattle.control_rows.proofs.ListLemmas.{never}
 use Rattle.control_held.specs.Held.{asker}
 use Rattle.control_held.specs.OwnAsks.{MayAskOwn}
 use Rattle.control_held.specs.Moments.{items_in}
@@ -162,3 +163,21 @@ returns-in-Disconnect-clause-grows g c = asked_grow c.args.self.now c.disconnect
 
 pub returns-in-Close-clause-grows : goal.returns-in-Close-clause-grows
 returns-in-Close-clause-grows g c = close_grows g.P.Pipes.known (g.H.Holder.pipes c.close.new.holder) (g.H.Holder.holding c.args.holder.now).sealed c.in-Close.socket c.args.self.now c.close.new.self c.close.ensures.closes
+
+pub returns-in-Socket-clause-succeeds : goal.returns-in-Socket-clause-succeeds
+returns-in-Socket-clause-succeeds g c = λ close. absurd (never (sym (ap is_close c.in-Socket.is) ∙ close))
+
+pub returns-in-AskTerm-clause-succeeds : goal.returns-in-AskTerm-clause-succeeds
+returns-in-AskTerm-clause-succeeds g c = λ close. absurd (never (sym (ap is_close c.in-AskTerm.is) ∙ close))
+
+pub returns-in-Bind-clause-succeeds : goal.returns-in-Bind-clause-succeeds
+returns-in-Bind-clause-succeeds g c = λ close. absurd (never (sym (ap is_close c.in-Bind.is) ∙ close))
+
+pub returns-in-Connect-clause-succeeds : goal.returns-in-Connect-clause-succeeds
+returns-in-Connect-clause-succeeds g c = λ close. absurd (never (sym (ap is_close c.in-Connect.is) ∙ close))
+
+pub returns-in-Unbind-clause-succeeds : goal.returns-in-Unbind-clause-succeeds
+returns-in-Unbind-clause-succeeds g c = λ close. absurd (never (sym (ap is_close c.in-Unbind.is) ∙ close))
+
+pub returns-in-Disconnect-clause-succeeds : goal.returns-in-Disconnect-clause-succeeds
+returns-in-Disconnect-clause-succeeds g c = λ close. absurd (never (sym (ap is_close c.in-Disconnect.is) ∙ close))

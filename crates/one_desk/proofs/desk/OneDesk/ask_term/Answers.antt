@@ -3,12 +3,14 @@ use Rattle.std.proofs.Common.{ap, ◌∙◌, subst}
 use Rattle.std.proofs.lemmas.List.{map-append}
 use Rattle.spec_control.specs.declared.request.Req.TheVariants.{AskTerm}
 use Rattle.spec_control.specs.Row.{RootAsked}
+use Rattle.spec_control.specs.Reply.{root_asked}
+use Rattle.control_rows.proofs.ListLemmas.{never}
 use Rattle.control_moves.specs.Move.{LinkMoves}
 use Rattle.ctl_holder.specs.declared.given.Given.{Given}
 use Rattle.one_desk.specs.declared.mark.Mark.{Mark}
 use Rattle.one_desk.specs.Lent.{lent_to, Asks, Lent}
 use Rattle.one_desk.proofs.AsideLemmas.{desk_asked, desk_same}
-use Rattle.ctl_history.specs.Past.{Past}
+use Rattle.ctl_history.specs.Past.{Past, control_of}
 use Rattle.one_desk.proofs.GrowLemmas.{asks_grow, same_grows}
 use Rattle.one_desk.proofs.MakeLemmas.{unless_none}
 use Rattle.one_desk.proofs.LentLemmas.{asks_more, lent_more, term_by}
@@ -53,3 +55,7 @@ returns-clause-grows g c =
     (asks_more _ _ c.self.inside.caller _ _ _ _ _
     (ap (λ (xs : List (Mark × Unit {0})). map (λ x. x.0) xs) c.and-self-inside.ensures ∙ map-append (λ x. x.0) c.self.inside.order.items (_ ∷ []))
     c.in_ok-reply.ensures.ok c.self.invariant.0.marked))
+
+pub returns-in_err-reply-clause-succeeds : goal.returns-in_err-reply-clause-succeeds
+returns-in_err-reply-clause-succeeds g c = λ none.
+    absurd (never (c.in_err-reply.ensures.succeeds (ap (λ (d : Lent (Given g.row.P-Name.Denot g.row.P-Out.Denot g.row.P-In.Denot) g.row.P-Name.Denot g.row.P-Story.Denot). root_asked (control_of d.past)) c.self.view_is ∙ none)))

@@ -3,10 +3,12 @@ use Rattle.zq_base.specs.declared.ids.EndId.{EndId}
 use Rattle.std.proofs.Common.{sym, ap, ◌∙◌, subst}
 use Rattle.std.proofs.lemmas.List.{map-append}
 use Rattle.spec_control.specs.ControlRun.{IsSeen}
+use Rattle.control_rows.proofs.ListLemmas.{never}
 use Rattle.ctl_holder.specs.declared.given.Given.{Given}
 use Rattle.ctl_history.specs.declared.heard.Heard.{Heard}
 use Rattle.ctl_history.specs.Hearing.{FindsOldest}
 use Rattle.ctl_history.specs.Past.{Past, control_of}
+use Rattle.ctl_plane.specs.Memory.{NoBindWaits}
 use Rattle.one_desk.specs.declared.mark.Mark.{Mark}
 use Rattle.ctl_holder.specs.Counts.{CountsOnce}
 use Rattle.one_desk.specs.Lent.{lent_to, IsLent, Lent, SeesNone}
@@ -14,6 +16,7 @@ use Rattle.one_desk.proofs.CountLemmas.{heard_counts, seen_counts, still_counts}
 use Rattle.one_desk.proofs.DeliverLemmas.{deliver_apart, deliver_fits, deliver_held, deliver_kinds, deliver_lent, deliver_there, heard_done, heard_keeps, heard_lent, not_first}
 use Rattle.one_desk.proofs.HoldLemmas.{desk_has, desk_looks, desk_still}
 use Rattle.one_desk.proofs.LookLemmas.{lent_looks, sees_more}
+use Rattle.one_desk.proofs.MemoryLemmas.{no_bind}
 use Rattle.one_desk.specs.Reaping.{IsReaping}
 use Rattle.one_desk.proofs.ReapingLemmas.{reaps_heard}
 use Rattle.one_desk.proofs.desk.OneDesk.deliver.Goals as goal
@@ -130,3 +133,8 @@ returns-in-Empty-clause-counts g c =
           (ap (λ (xs : List (Mark × Unit {0})). map (λ x. x.0) xs) c.and-looked.ensures ∙ map-append (λ x. x.0) c.self.inside.order.items (_ ∷ []))
           c.self.invariant.0 (subst (λ (p : Past (Given g.row.P-Name.Denot g.row.P-Out.Denot g.row.P-In.Denot) g.row.P-Name.Denot g.row.P-Story.Denot). IsSeen (control_of p) c.sight_of-sight.result) (subst (λ (f : Heard). FindsOldest g.P.Pipes.known.out_name g.P.Pipes.known.in_name c.args.slot f c.self.inside.history c.deliver.new.self) c.in-Empty.is c.in_ok-found.ensures.ok).1 c.sight_of-sight.ensures.seen) c.self.inside.caller _ c.args.self.now c.self.view_is c.sight_of-sight.ensures.looked_at c.sight_of-sight.ensures.by;
     }))
+
+pub returns-in_err-found-clause-succeeds : goal.returns-in_err-found-clause-succeeds
+returns-in_err-found-clause-succeeds g c = λ none.
+    absurd (never (no_bind (control_of c.self.inside.history) c.args.slot.0 c.in_err-found.ensures.succeeds c.in_err-found.ensures.empty
+    (subst (λ (d : Lent (Given g.row.P-Name.Denot g.row.P-Out.Denot g.row.P-In.Denot) g.row.P-Name.Denot g.row.P-Story.Denot). NoBindWaits (control_of d.past) c.args.slot.0) (sym c.self.view_is) none)))

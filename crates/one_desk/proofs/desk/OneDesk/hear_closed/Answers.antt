@@ -1,4 +1,5 @@
 use Rattle.std.proofs.Common.{subst}
+use Rattle.control_rows.proofs.ListLemmas.{never}
 use Rattle.ctl_plane.specs.declared.delivery.Delivery.{Delivery}
 use Rattle.one_desk.specs.Lent.{FindsIn}
 use Rattle.one_desk.proofs.PlaneLemmas.{found_empty, gives_given, hears_from, same_given}
@@ -15,3 +16,6 @@ returns-in-Done-clause-given g c = gives_given c.args.self.now c.deliver.new.sel
 
 pub unreachable-requires : goal.unreachable-requires
 unreachable-requires g c = c.requires.waits (found_empty c.args.slot c.args.self.now c.deliver.new.self (subst (λ (f : Delivery). FindsIn c.args.slot f c.args.self.now c.deliver.new.self) c.in-Empty.is c.in_ok-found.ensures.ok))
+
+pub returns-in_err-found-clause-succeeds : goal.returns-in_err-found-clause-succeeds
+returns-in_err-found-clause-succeeds g c = λ none. absurd (never (c.in_err-found.ensures.succeeds none))

@@ -1,6 +1,7 @@
 use Rattle.std.specs.Prelude.{◌≢◌, ℕ, [], OnOk}
 use Rattle.std.proofs.Common.{sym, subst}
 use Rattle.ctl_history.specs.Past.{control_of}
+use Rattle.ctl_plane.specs.Memory.{NoBindWaits}
 use Rattle.one_desk.specs.Reaping.{HearsFrom}
 use Rattle.one_desk.proofs.PlaneLemmas.{takes_same}
 use Rattle.one_desk.proofs.ReapingLemmas.{its_mailbox}
@@ -28,3 +29,7 @@ hear_closed-requires-clause-fits g c =
 
 pub returns-clause-given : goal.returns-clause-given
 returns-clause-given g c = takes_same _ _ c.hear_closed.ensures.given
+
+pub returns-then-slot-eq0-clause-succeeds : goal.returns-then-slot-eq0-clause-succeeds
+returns-then-slot-eq0-clause-succeeds g c = λ none.
+    c.hear_root.ensures.succeeds (subst (λ (n : ℕ). NoBindWaits (control_of c.args.self.now.past) n) c.if-slot-eq0.true none)

@@ -1,17 +1,20 @@
 use Rattle.std.specs.Prelude.{List, [], ◌∷◌, length, map}
 use Rattle.std.proofs.Common.{sym, ap, ◌∙◌, subst}
 use Rattle.std.proofs.lemmas.List.{map-append}
+use Rattle.control_rows.proofs.ListLemmas.{never}
 use Rattle.ctl_holder.specs.declared.given.Given.{Given}
 use Rattle.ctl_holder.specs.Counts.{CountsOnce}
 use Rattle.ctl_holder.specs.TakingOver.{MayTakeFirst}
 use Rattle.ctl_history.specs.declared.heard.Heard.{Heard}
 use Rattle.ctl_history.specs.Hearing.{FindsOldest}
 use Rattle.ctl_history.specs.Past.{Past, control_of}
+use Rattle.ctl_plane.specs.Memory.{NoBindWaits}
 use Rattle.one_desk.specs.declared.mark.Mark.{Mark}
 use Rattle.one_desk.specs.Lent.{lent_to, Lent}
 use Rattle.one_desk.proofs.CountLemmas.{first_counts, still_counts}
 use Rattle.one_desk.proofs.DeliverLemmas.{deliver_apart}
 use Rattle.one_desk.proofs.HoldLemmas.{desk_has, desk_still}
+use Rattle.one_desk.proofs.MemoryLemmas.{no_bind}
 use Rattle.one_desk.proofs.PlaneLemmas.{takes_none}
 use Rattle.one_desk.proofs.ReapingLemmas.{reaps_heard}
 use Rattle.one_desk.proofs.RootLemmas.{root_distinct, root_frees, root_hears, root_held, root_keeps, root_lent, root_serves, root_takes, root_there}
@@ -104,3 +107,8 @@ pub unreachable-requires : goal.unreachable-requires
 unreachable-requires g c =
     let none = (subst (λ (f : Heard). FindsOldest g.P.Pipes.known.out_name g.P.Pipes.known.in_name (record { 0 = 0 }) f c.self.inside.history c.deliver.new.self) c.in-Empty.is c.in_ok-found.ensures.ok).0 in
     c.requires.waits (ap (λ (d : Lent (Given g.row.P-Name.Denot g.row.P-Out.Denot g.row.P-In.Denot) g.row.P-Name.Denot g.row.P-Story.Denot). (control_of d.past).boxes 0) (sym c.self.view_is) ∙ none)
+
+pub returns-in_err-found-clause-succeeds : goal.returns-in_err-found-clause-succeeds
+returns-in_err-found-clause-succeeds g c = λ none.
+    absurd (never (no_bind (control_of c.self.inside.history) 0 c.in_err-found.ensures.succeeds c.in_err-found.ensures.empty
+    (subst (λ (d : Lent (Given g.row.P-Name.Denot g.row.P-Out.Denot g.row.P-In.Denot) g.row.P-Name.Denot g.row.P-Story.Denot). NoBindWaits (control_of d.past) 0) (sym c.self.view_is) none)))

@@ -1,3 +1,6 @@
+use Rattle.std.proofs.Common.{subst}
+use Rattle.spec_control.specs.Control.{Control}
+use Rattle.ctl_plane.specs.Memory.{NoBindWaits}
 use Rattle.one_desk.proofs.GrowLemmas.{delivered_grow}
 use Rattle.one_desk.proofs.PlaneLemmas.{delivered_caller, delivered_given, delivered_names, delivered_ok, err_moments, mine_is}
 use Rattle.one_desk.proofs.plane.OneDeskDesk.deliver.Goals as goal
@@ -22,3 +25,6 @@ returns-clause-keeps g c = (delivered_caller c.args.self.now c.deliver.new.self 
 
 pub returns-clause-grows : goal.returns-clause-grows
 returns-clause-grows g c = delivered_grow c.args.self.now c.deliver.new.self c.args.slot c.deliver.result c.deliver.ensures.ok c.deliver.ensures.err
+
+pub returns-clause-succeeds : goal.returns-clause-succeeds
+returns-clause-succeeds g c = λ b is none. c.deliver.ensures.succeeds (subst (λ (x : Control). NoBindWaits x c.args.slot.0) is none)

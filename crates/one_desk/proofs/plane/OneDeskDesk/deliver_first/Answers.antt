@@ -1,4 +1,7 @@
 use Rattle.std.specs.Prelude.{refl}
+use Rattle.std.proofs.Common.{subst}
+use Rattle.spec_control.specs.Control.{Control}
+use Rattle.ctl_plane.specs.Memory.{NoBindIsFirst}
 use Rattle.ctl_history.specs.Past.{control_of}
 use Rattle.one_desk.proofs.GrowLemmas.{reaped_grow}
 use Rattle.one_desk.proofs.PlaneLemmas.{err_both, reaped_caller, reaped_names, reaped_ok}
@@ -21,3 +24,6 @@ returns-clause-keeps g c = (reaped_caller c.args.self.now c.deliver_first.new.se
 
 pub returns-clause-grows : goal.returns-clause-grows
 returns-clause-grows g c = reaped_grow c.args.self.now c.deliver_first.new.self c.deliver_first.result c.deliver_first.ensures.ok c.deliver_first.ensures.err
+
+pub returns-clause-succeeds : goal.returns-clause-succeeds
+returns-clause-succeeds g c = λ b is none. c.deliver_first.ensures.succeeds (subst (λ (x : Control). NoBindIsFirst x) is none)

@@ -71,3 +71,6 @@ returns-in-Some-yield_out-clause-counts g c = λ writer reads.
     (sym (read_is g.P.Pipes.known.out_name g.P.Pipes.known.in_name g.P.Pipes.known.exact c.args.o.0 c.args.end c.args.self.now.closed.sockets.items c.args.self.now.closed.sockets.items c.index_mut-in-Some.result.now apart (c.index_mut-in-Some.result.now ∷ []) r) ∙ reads)))
     ∙ sym (ap (counts_with g.P.Pipes.known c.args.self.now.pipes writer)
     (input_is g.P.Pipes.known.out_name g.P.Pipes.known.in_name g.P.Pipes.known.exact c.args.o.0 c.args.end c.args.self.now.closed.sockets.items c.args.self.now.closed.sockets.items c.index_mut-in-Some.result.now apart (c.index_mut-in-Some.result.now ∷ []) r))
+
+pub returns-in-Some-yield_out-clause-parted : goal.returns-in-Some-yield_out-clause-parted
+returns-in-Some-yield_out-clause-parted g c = c.yield_out.ensures.parted c.in-Some-yield_out.out c.in-Some-yield_out.is

@@ -20,3 +20,6 @@ returns-clause-none g c =
 
 pub returns-clause-does : goal.returns-clause-does
 returns-clause-does g c = c.ask.ensures.closes refl
+
+pub returns-clause-succeeds : goal.returns-clause-succeeds
+returns-clause-succeeds g c = c.ask.ensures.succeeds refl

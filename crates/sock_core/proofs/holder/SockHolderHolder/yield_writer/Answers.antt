@@ -129,3 +129,6 @@ returns-in-Some-clause-counts g c = λ writer reads.
     (ap (position (is_of c.args.end)) y.now ∙ position_same (is_of c.args.end) c.args.self.now.core.ends.places.items c.in-Some.place y.place (record y.place { writes = false; peer = false; input = Some y.input }) y.there refl ∙ at)
     ∙ c.yield_writer.ensures.counts writer f.0 f.1 (sym name)
     ∙ sym (ap (λ (p : Option ℕ). counts_at g.P.Pipes.known c.args.self.now.pipes c.args.self.now.core.ends p writer) at)
+
+pub returns-in-Some-clause-parted : goal.returns-in-Some-clause-parted
+returns-in-Some-clause-parted g c = c.yield_writer.ensures.parted

@@ -1,0 +1,139 @@
+-- A PipeTerm that the reaper takes asks an end of the closed socket that gets it.
+use Rattle.std.specs.Prelude.{◌≡◌, ◌≢◌, ◌<◌, ◌++◌, ℕ, zero, suc, Bool, true, false, List, [], ◌∷◌, None, Some, refl}
+use Rattle.std.proofs.Common.{arith, sym, ap, ◌∙◌, subst, inl, inr}
+use Rattle.zq_base.specs.declared.ids.EndId.{EndId}
+use Rattle.spec_control.specs.declared.end.EndEvent.TheVariants.{TermCame}
+use Rattle.spec_control.specs.declared.end.EndState.TheVariants.{Gone}
+use Rattle.spec_control.specs.declared.entry.Did.TheVariants.{Delivered}
+use Rattle.spec_control.specs.declared.entry.Item.{Item}
+use Rattle.spec_control.specs.declared.entry.Item.TheVariants.{Event}
+use Rattle.spec_control.specs.declared.letter.Letter.{Letter}
+use Rattle.spec_control.specs.declared.letter.Word.{Word}
+use Rattle.spec_control.specs.declared.letter.Word.TheVariants.{PipeTerm}
+use Rattle.spec_control.specs.PairPhase.{Happens, meets}
+use Rattle.spec_control.specs.Place.{Place, At}
+use Rattle.spec_control.specs.Row.{Row, is_socket, nobody}
+use Rattle.spec_control.specs.Rows.{PairRow, end_place, no_pair, obj, pair}
+use Rattle.spec_control.specs.Stage.{has_ended, is_used}
+use Rattle.spec_control.specs.Control.{Control, begun, next_object, owner_of, place_of}
+use Rattle.spec_control.specs.ControlRun.{FitsItem, IsControlRun, MayDeliver, after_all, after_item}
+use Rattle.control_rows.proofs.ListLemmas.{never, placed}
+use Rattle.control_laws.specs.Kept.{Kept}
+use Rattle.control_laws.proofs.RootLemmas.{oldest_lives, runs_are_kept}
+use Rattle.control_attached.proofs.OnceLemmas.{old_run}
+use Rattle.control_moves.specs.Coming.{ComesToEnd}
+use Rattle.control_moves.proofs.GuardLemmas.{may_come}
+use Rattle.control_moves.proofs.MetLemmas.{meets_cell}
+use Rattle.ctl_holder.specs.declared.given.Given.{Given}
+use Rattle.ctl_history.specs.Past.{control_of, Past}
+use Rattle.own_laws.proofs.PlaceLemmas.{led_on}
+use Rattle.replay_laws.proofs.ReapLemmas.{taker_used}
+use Rattle.replay_laws.proofs.SlotLemmas.{sockets_have_their_boxes}
+use Rattle.one_desk.specs.Lent.{IsOneOrder, Lent}
+use Rattle.one_desk.specs.Reaping.{HearsFirst}
+use Rattle.desk_laws.proofs.LastLemmas.{last_fits}
+use Rattle.core_others.proofs.ChainLemmas.{own_then, term_own, HasBoxes, IsOwn, IsSound}
+use Rattle.core_others.specs.Asked.{AsksItsOwn, IsItsOwn}
+use Rattle.core_others.proofs.OnlyLemmas.{used_over}
+use Rattle.core_others.proofs.SocketsLemmas.{only_sockets}
+
+none_some : {X : Type 0} {x : X} → None ≡ Some x → ⊥
+none_some e = Prim.grind arith
+
+gone_there : (a : Bool) → end_place no_pair a ≡ At Gone
+gone_there true = refl
+gone_there false = refl
+
+module _ {N O I T : Type 0} (old new : Lent (Given N O I) N T) (before : IsOneOrder old) (behind : IsOneOrder new) (h : HearsFirst old new) (e : EndId) (is : h.hears.letter.word ≡ PipeTerm e) where
+  abbrev w : ℕ
+  w = old.past.workers
+
+  abbrev n : ℕ
+  n = h.hears.letter.to.0
+
+  abbrev c : Control
+  c = after_all old.items (begun old.past.workers)
+
+  abbrev item : Item N T
+  item = Event (record { by = old.caller; did = Delivered h.slot h.hears.letter h.hears.answered })
+
+  workers : new.past.workers ≡ old.past.workers
+  workers = ap (λ (p : Past (Given N O I) N T). p.workers) h.hears.past
+
+  run : IsControlRun (begun old.past.workers) (old.items ++ item ∷ [])
+  run =
+      let all = behind.order in
+      subst (λ (m : ℕ). IsControlRun (begun m) (old.items ++ item ∷ [])) workers (subst (λ (l : List (Item N T)). IsControlRun (begun new.past.workers) l) h.hears.items all.run)
+
+  fits : FitsItem (after_all old.items (begun old.past.workers)) item
+  fits = last_fits old.items item (begun w) run
+
+  left : control_of new.past ≡ after_item item (after_all old.items (begun old.past.workers))
+  left =
+      behind.control ∙ ap (λ (m : ℕ). after_all new.items (begun m)) workers
+      ∙ ap (λ (xs : List (Item N T)). after_all xs (begun w)) h.hears.items
+      ∙ led_on old.items (item ∷ []) (begun w)
+
+  kept : Kept (after_all old.items (begun old.past.workers))
+  kept = (let all = before.order in runs_are_kept N T w old.items all.run)
+
+  may : MayDeliver (after_all old.items (begun old.past.workers)) h.slot.0 h.hears.letter
+  may = fits.may
+
+  comes : ComesToEnd (after_all old.items (begun old.past.workers)) n e (Happens TermCame)
+  comes = may_come c kept h.slot.0 may.behind n (PipeTerm e) (may.oldest ∙ ap (λ (x : Word). let l : Letter = record { to = h.hears.letter.to; word = x } in l ∷ may.behind) is)
+
+  -- an end of the root's there is none
+  no_root : n ≢ 0
+  no_root root = elim (kept.shape.ends e.pair.0 e.a) [
+    | inl owned ↦ absurd (none_some (sym kept.shape.root ∙ ap (λ (i : ℕ). (obj c.rows i).owner) (sym root ∙ sym comes.owner) ∙ owned.1))
+    | inr none ↦ absurd (never (subst (λ (p : Place). meets (Happens TermCame) p ≡ true) (ap (λ (p : PairRow). end_place p e.a) none ∙ gone_there e.a) (meets_cell c kept e (Happens TermCame) comes.comes)))
+  ]
+
+  lives : ((obj (after_all old.items (begun old.past.workers)).rows n).slot ≡ h.slot.0) × (has_ended (obj (after_all old.items (begun old.past.workers)).rows n).stage ≡ false)
+  lives = oldest_lives c kept h.slot.0 n h.hears.letter.word may.behind may.oldest
+
+  there : n < next_object (after_all old.items (begun old.past.workers))
+  there = placed (λ (r : Row). has_ended r.stage) c.rows.objects nobody n refl lives.1
+
+  above : (m : ℕ) → m ≢ 0 → 0 < m
+  above zero other = absurd (other refl)
+  above (suc m) other = omega arith
+
+  socket : is_socket (obj (after_all old.items (begun old.past.workers)).rows n).kind ≡ true
+  socket =
+      subst (λ (x : Control). is_socket (obj x.rows n).kind ≡ true) before.control
+      (only_sockets old before n (above n no_root) (subst (λ (x : Control). n < next_object x) (sym before.control) there))
+
+  sound : IsSound w n (after_all old.items (begun old.past.workers))
+  sound =
+      let all = before.order in
+      let boxes = before.boxes in record {
+        kept = kept;
+        old = old_run w old.items all.run;
+        boxes = record {
+          root = ap (λ (x : Control). (obj x.rows 0).slot) (sym before.control) ∙ boxes.root;
+          own = λ i more here. ap (λ (x : Control). (obj x.rows i).slot) (sym before.control) ∙ boxes.own i more (subst (λ (x : Control). i < next_object x) (sym before.control) here);
+        };
+        there = there;
+        socket = socket;
+      }
+
+  own_now : IsOwn n (control_of new.past) e
+  own_now = subst (λ (x : Control). IsOwn n x e) (sym left) (own_then item c kept fits n e (term_own w n c sound h.slot.0 h.hears.letter may e is refl))
+
+  used : is_used (obj (after_all old.items (begun old.past.workers)).rows n).request ≡ true
+  used =
+      let all = before.order in
+      let boxes = before.boxes in
+      (taker_used c (sockets_have_their_boxes N T w old.items boxes.some_worker all.run) h.slot.0 n h.first lives.0 socket).used
+
+  pub its_own : IsItsOwn old new h e
+  its_own = record {
+    own = own_now.own;
+    no_root = no_root;
+    taken = ap (λ (x : Control). is_used (obj x.rows n).request) left ∙ used_over (item ∷ []) c kept (fits, tt) n there used;
+  }
+
+pub asks_its_own : (N O I T : Type 0) → AsksItsOwn N O I T
+asks_its_own N O I T old new before behind h e is = its_own old new before behind h e is

@@ -1,0 +1,16 @@
+-- Which deliveries may want memory: only a bind takes any (own choice).
+use Rattle.std.specs.Prelude.{◌≡◌, ◌≢◌, ◌∷◌, ℕ, List, Some}
+use Rattle.zq_base.specs.declared.ids.EndId.{EndId}
+use Rattle.zq_base.specs.declared.ids.ObjId.{ObjId}
+use Rattle.spec_control.specs.declared.letter.Letter.{Letter}
+use Rattle.spec_control.specs.declared.letter.Word.TheVariants.{PipeBind}
+use Rattle.spec_control.specs.Control.{Control}
+use Rattle.control_held.specs.Moments.{first_waiting}
+
+-- a mailbox is empty, or its oldest command binds no end
+abbrev pub NoBindWaits : Control → (slot : ℕ) → Type 0
+NoBindWaits c slot = (to : ObjId) (e : EndId) (peer : List ℕ) (behind : List Letter) → c.boxes slot ≢ record { to = to; word = PipeBind e peer } ∷ behind
+
+-- the reaper's mailboxes are empty, or the oldest command of the first that is not binds no end
+abbrev pub NoBindIsFirst : Control → Type 0
+NoBindIsFirst c = (slot : ℕ) → first_waiting c ≡ Some slot → NoBindWaits c slot

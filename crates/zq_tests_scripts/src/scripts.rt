@@ -1,0 +1,404 @@
+use std::alloc::Global;
+use std::test::Fail;
+use zq_base::{Endpoint, Kind, Message, Options};
+use zq_script::{Call, Cause, Line, ReadScript, Script, ScriptFault, read_script};
+
+// The fault of a script, if it has one.
+fn fault(alloc: Global, octets: &[u8]) -> Result<Option<ScriptFault>, Fail> {
+    match read_script(alloc, octets) {
+        Ok(_) => Ok(None),
+        Err(ReadScript::Fault(fault)) => Ok(Some(fault)),
+        Err(ReadScript::OutOfMemory) => Err("memory")?,
+    }
+}
+
+// The text with so many more copies of another at its end.
+fn with_copies(alloc: Global, text: &[u8], more: &[u8], n: u32) -> Result<Vec<u8>, Fail> {
+    let mut octets = Vec::from_slice(alloc, text)?;
+    for _ in 0..n {
+        octets.extend_from_slice(more)?;
+    }
+    Ok(octets)
+}
+
+// Whether the first fault of the octets is this one, or none.
+fn has_fault(alloc: Global, octets: &[u8], wanted: Option<ScriptFault>) -> Result<bool, Fail> {
+    Ok(fault(alloc, octets)? == wanted)
+}
+
+// Whether the text, so many copies of another and a last one have this fault, or none.
+fn copies_have(
+    alloc: Global,
+    text: &[u8],
+    copy: (&[u8], u32),
+    last: &[u8],
+    wanted: Option<ScriptFault>,
+) -> Result<bool, Fail> {
+    let mut octets = with_copies(alloc, text, copy.0, copy.1)?;
+    octets.extend_from_slice(last)?;
+    has_fault(alloc, octets.as_slice(), wanted)
+}
+
+fn script(alloc: Global, octets: &[u8]) -> Result<Script, Fail> {
+    match read_script(alloc, octets) {
+        Ok(script) => Ok(script),
+        Err(_) => Err("a script")?,
+    }
+}
+
+// Whether there are two actors, `a_1` with lines of the numbers 4 and 6, and `b` without lines.
+fn has_two_actors(script: &Script) -> bool {
+    match script.actors.as_slice() {
+        [first, second] => {
+            let names = first.name.as_slice() == b"a_1".as_slice()
+                && second.name.as_slice() == b"b".as_slice();
+            names && are_4_and_6(first.lines.as_slice()) && second.lines.len() == 0
+        }
+        _ => false,
+    }
+}
+
+fn are_4_and_6(lines: &[Line]) -> bool {
+    match lines {
+        [first, second] => (first.number, second.number) == (4, 6),
+        _ => false,
+    }
+}
+
+#[test]
+fn actors_have_their_lines(rt: HostRuntime) -> Result<(), Fail> {
+    let text = b"# two actors\n\n  actor a_1  \nsocket r PULL\n\x20# \t\nrecv  r\nactor b";
+    assert!(rt; has_two_actors(&script(rt.alloc(), text)?));
+    Ok(())
+}
+
+// Whether a socket has the marks and times that stand where none are given.
+fn are_defaults(options: &Options) -> bool {
+    (options.hwm, options.rcvhwm) == (1000, 1000)
+        && (options.linger, options.reconnect) == (-1, 100)
+}
+
+// Whether a message has these four parts.
+fn has_four_parts(message: &Message) -> bool {
+    let parts = [b"".as_slice(), b"\x00\xff", b"0xf", b"x"];
+    for (frame, part) in message.frames().iter().zip(parts) {
+        if frame.as_slice() != part {
+            return false;
+        }
+    }
+    message.len() == 4
+}
+
+// Whether a line asks what it should.
+fn asks(line: &Line) -> bool {
+    match (line.number, &line.call) {
+        (2, Call::Socket(Kind::Pull, options)) => (options.hwm, options.rcvhwm) == (2, 10_000),
+        (3, Call::Socket(Kind::Push, options)) => are_defaults(options),
+        (4, Call::Bind(0, Endpoint::Inproc(name))) => name.as_slice() == b"q".as_slice(),
+        (5, Call::Connect(1, Endpoint::Inproc(name))) => name.as_slice() == b"q".as_slice(),
+        (6, Call::Send(1, message)) => has_four_parts(message),
+        (7, Call::Recv(0, tries)) => *tries == 100_000,
+        (8, Call::Recv(0, tries)) => *tries == 1,
+        (_, _) => false,
+    }
+}
+
+// The lines of the first actor, if there is one.
+fn first_lines(script: &Script) -> &[Line] {
+    match script.actors.as_slice().first() {
+        Some(actor) => actor.lines.as_slice(),
+        None => &[],
+    }
+}
+
+// Whether there are seven lines, and each asks what it should.
+fn ask_all(lines: &[Line]) -> bool {
+    for line in lines {
+        if !asks(line) {
+            return false;
+        }
+    }
+    lines.len() == 7
+}
+
+#[test]
+fn lines_ask_what_their_words_say(rt: HostRuntime) -> Result<(), Fail> {
+    let text = b"actor a\nsocket r PULL rcvhwm=5 hwm=2 rcvhwm=10000\nsocket s PUSH\n\
+        bind r inproc://q\nconnect s inproc://q\nsend s - 0x00fF 0xf x\n\
+        recv r tries=100000\nrecv r";
+    assert!(rt; ask_all(first_lines(&script(rt.alloc(), text)?)));
+    Ok(())
+}
+
+/// Scripts, and the line and the cause of their first fault.
+const FIRST_FAULTS: [(&str, u32, Cause); 13] = [
+    ("x", 1, Cause::BadWord),
+    ("bind s inproc://x", 1, Cause::BadWord),
+    ("\n#\n socket s PUSH", 3, Cause::BadWord),
+    ("actor", 1, Cause::BadWord),
+    ("actor a b", 1, Cause::BadWord),
+    ("actor a.", 1, Cause::BadWord),
+    ("actor\ta", 1, Cause::BadWord),
+    ("actor a\r\n", 1, Cause::BadWord),
+    ("actor abcdefghijklmnopqrstuvwxyz0123456", 1, Cause::BadWord),
+    ("actor a\n\nactor b\n#\nactor a", 5, Cause::DoubleName),
+    ("actor a\nactor a b", 2, Cause::DoubleName),
+    ("actor a\nterm", 2, Cause::BadWord),
+    ("actor a\nSOCKET s PUSH", 2, Cause::BadWord),
+];
+
+#[test]
+fn the_first_fault_is_told_with_its_line(rt: HostRuntime) -> Result<(), Fail> {
+    for (text, line, cause) in &FIRST_FAULTS {
+        let wanted = Some(ScriptFault {
+            line: *line,
+            cause: *cause,
+        });
+        assert!(rt; has_fault(rt.alloc(), text.as_bytes(), wanted)?);
+    }
+    Ok(())
+}
+
+/// Scripts without a fault.
+const FAULTLESS: [&str; 5] = [
+    "",
+    "\n",
+    "#",
+    "  \n # any \u{e9}\t\n",
+    "actor abcdefghijklmnopqrstuvwxyz012345",
+];
+
+#[test]
+fn scripts_without_a_fault_are_read(rt: HostRuntime) -> Result<(), Fail> {
+    for text in &FAULTLESS {
+        assert!(rt; has_fault(rt.alloc(), text.as_bytes(), None)?);
+    }
+    Ok(())
+}
+
+// Whether a line behind one that makes the socket `s` has this fault, before that of the next line.
+fn line_has(alloc: Global, line: &str, cause: Cause) -> Result<bool, Fail> {
+    let mut text = Vec::from_slice(alloc, b"actor a\nsocket s PUSH\n")?;
+    text.extend_from_slice(line.as_bytes())?;
+    text.extend_from_slice(b"\nactor a")?;
+    has_fault(alloc, text.as_slice(), Some(ScriptFault { line: 3, cause }))
+}
+
+/// Lines behind one that makes the socket `s`, and the cause of their leftmost fault.
+const LINE_FAULTS: [(&str, Cause); 34] = [
+    ("socket", Cause::BadWord),
+    ("socket t", Cause::BadWord),
+    ("socket t- PUSH", Cause::BadWord),
+    ("socket s", Cause::DoubleName),
+    ("socket s PUSSH", Cause::DoubleName),
+    ("socket t ROUTERS", Cause::BadWord),
+    ("socket t push", Cause::BadWord),
+    ("socket t PUSH hwm=0", Cause::BadWord),
+    ("socket t PUSH hwm=10001", Cause::BadWord),
+    ("socket t PUSH rcvhwm=007", Cause::BadWord),
+    ("socket t PUSH hwm=+5", Cause::BadWord),
+    ("socket t PUSH hwm=", Cause::BadWord),
+    ("socket t PUSH hwm=1 linger=0", Cause::BadWord),
+    ("bind", Cause::BadWord),
+    ("bind t", Cause::UnknownSocket),
+    ("bind t? inproc://q", Cause::BadWord),
+    ("bind s", Cause::BadWord),
+    ("bind s inproc:q", Cause::BadEndpoint),
+    ("bind s inproc:// q", Cause::BadEndpoint),
+    ("bind s inproc://q q", Cause::BadWord),
+    ("connect s tcp://1.2.3.4:5", Cause::BadEndpoint),
+    ("connect t tcp:", Cause::UnknownSocket),
+    ("send s", Cause::BadWord),
+    ("send t", Cause::UnknownSocket),
+    ("send t \u{1}", Cause::UnknownSocket),
+    ("send s a b\tc", Cause::BadPart),
+    ("send s \u{7f}", Cause::BadPart),
+    ("recv", Cause::BadWord),
+    ("recv s tries=0", Cause::BadWord),
+    ("recv s tries=100001", Cause::BadWord),
+    ("recv s 1", Cause::BadWord),
+    ("recv s tries=1 tries=1", Cause::BadWord),
+    ("unbind s inproc://q", Cause::BadWord),
+    ("close s", Cause::BadWord),
+];
+
+#[test]
+fn the_leftmost_fault_of_a_line_is_told(rt: HostRuntime) -> Result<(), Fail> {
+    for (line, cause) in &LINE_FAULTS {
+        assert!(rt; line_has(rt.alloc(), line, *cause)?);
+    }
+    Ok(())
+}
+
+// Whether an XPUB has both marks and the identity 01 00.
+fn are_given(options: &Options) -> bool {
+    options.verbose && options.mandatory && options.id.as_slice() == b"\x01\0".as_slice()
+}
+
+// Whether a line of topics or options asks what it should.
+fn asks_topics(line: &Line) -> bool {
+    match (line.number, &line.call) {
+        (2, Call::Socket(Kind::XPub, options)) => are_given(options),
+        (3, Call::Subscribe(0, topic)) => topic.as_slice() == b"ab".as_slice(),
+        (4, Call::Unsubscribe(0, topic)) => topic.as_slice() == b"".as_slice(),
+        (_, _) => false,
+    }
+}
+
+// Whether there are three such lines.
+fn ask_topics(lines: &[Line]) -> bool {
+    for line in lines {
+        if !asks_topics(line) {
+            return false;
+        }
+    }
+    lines.len() == 3
+}
+
+#[test]
+fn topics_and_options_are_read(rt: HostRuntime) -> Result<(), Fail> {
+    let text = b"actor a\nsocket t XPUB id=0x0100 verbose mandatory\nsub t ab\nunsub t -";
+    assert!(rt; ask_topics(first_lines(&script(rt.alloc(), text)?)));
+    Ok(())
+}
+
+/// The same of topics and of further options.
+const OPTION_FAULTS: [(&str, Cause); 13] = [
+    ("socket t PUB id=", Cause::BadPart),
+    ("socket t PUB id=-", Cause::BadPart),
+    ("socket t PUB id=0x00ff", Cause::BadPart),
+    ("socket t PUB id=\u{7f}", Cause::BadPart),
+    ("socket t PUB id", Cause::BadWord),
+    ("socket t ROUTER mandatory=1", Cause::BadWord),
+    ("socket t XPUB verbose verbos", Cause::BadWord),
+    ("sub", Cause::BadWord),
+    ("sub s", Cause::BadWord),
+    ("sub t a", Cause::UnknownSocket),
+    ("sub s a b", Cause::BadWord),
+    ("unsub s \u{1}", Cause::BadPart),
+    ("unsub s - -", Cause::BadWord),
+];
+
+#[test]
+fn topics_and_options_have_their_faults(rt: HostRuntime) -> Result<(), Fail> {
+    for (line, cause) in &OPTION_FAULTS {
+        assert!(rt; line_has(rt.alloc(), line, *cause)?);
+    }
+    Ok(())
+}
+
+#[test]
+fn sockets_belong_to_their_actor(rt: HostRuntime) -> Result<(), Fail> {
+    let text = b"actor a\nsocket s PUSH\nactor b\nsocket t PULL\nsocket s PULL\nrecv s\n\
+        actor s\nrecv s";
+    let cause = Cause::UnknownSocket;
+    assert!(rt; has_fault(rt.alloc(), text, Some(ScriptFault { line: 8, cause }))?);
+    Ok(())
+}
+
+#[test]
+fn scripts_have_limits(rt: HostRuntime) -> Result<(), Fail> {
+    let too_long = Some(ScriptFault {
+        line: 0,
+        cause: Cause::TooLong,
+    });
+    let last = Some(ScriptFault {
+        line: 10_000,
+        cause: Cause::BadWord,
+    });
+    let cases: [(&[u8], u32, &[u8], Option<ScriptFault>); 5] = [
+        (b"    ", 262_144, b"", None),
+        (b"    ", 262_144, b" ", too_long),
+        (b"\n", 9_999, b"x", last),
+        (b"\n", 9_999, b"x\n", last),
+        (b"\n", 9_999, b"x\n ", too_long),
+    ];
+    for (copy, count, end, wanted) in cases {
+        assert!(rt; copies_have(rt.alloc(), b"", (copy, count), end, wanted)?);
+    }
+    Ok(())
+}
+
+// 64 actors.
+fn many_actors(alloc: Global) -> Result<Vec<u8>, Fail> {
+    let mut actors = Vec::new(alloc);
+    for i in 0..64u8 {
+        actors.extend_from_slice(b"actor a")?;
+        actors.extend_from_slice(&[b'0' + i / 8, b'0' + i % 8, b'\n'])?;
+    }
+    Ok(actors)
+}
+
+// Whether 64 actors are read, and a 65th is one too many, whatever its name.
+fn has_64_actors(alloc: Global) -> Result<bool, Fail> {
+    let mut actors = many_actors(alloc)?;
+    let most = has_fault(alloc, actors.as_slice(), None)?;
+    actors.extend_from_slice(b"actor ?")?;
+    let cause = Cause::TooManyActors;
+    let wanted = Some(ScriptFault { line: 65, cause });
+    Ok(most && has_fault(alloc, actors.as_slice(), wanted)?)
+}
+
+#[test]
+fn actors_and_parts_have_limits(rt: HostRuntime) -> Result<(), Fail> {
+    let text = b"actor a\nsocket s PUSH\nsend s";
+    let cause = Cause::BadPart;
+    let wanted = Some(ScriptFault { line: 3, cause });
+    assert!(rt; has_64_actors(rt.alloc())?);
+    assert!(rt; copies_have(rt.alloc(), text, (b" -", 1024), b"", None)?);
+    assert!(rt; copies_have(rt.alloc(), text, (b" -", 1024), b" -", wanted)?);
+    Ok(())
+}
+
+#[test]
+fn an_identity_of_256_octets_is_refused(rt: HostRuntime) -> Result<(), Fail> {
+    let text = b"actor a\nsocket t DEALER id=";
+    let cause = Cause::BadPart;
+    let wanted = Some(ScriptFault { line: 2, cause });
+    assert!(rt; copies_have(rt.alloc(), text, (b"x", 256), b"", wanted)?);
+    Ok(())
+}
+
+// A socket of this number, and a send at it.
+fn push_socket(text: &mut Vec<u8>, number: u32) -> Result<(), Fail> {
+    let digits = [
+        b'a' + (number / 256 % 16) as u8,
+        b'a' + (number / 16 % 16) as u8,
+        b'a' + (number % 16) as u8,
+    ];
+    text.extend_from_slice(b"socket ")?;
+    text.extend_from_slice(&digits)?;
+    text.extend_from_slice(b" PUSH\nsend ")?;
+    text.extend_from_slice(&digits)?;
+    text.extend_from_slice(b" x\n")?;
+    Ok(())
+}
+
+// An actor with 4,096 sockets.
+fn many_sockets(alloc: Global) -> Result<Vec<u8>, Fail> {
+    let mut text = Vec::from_slice(alloc, b"actor a\n")?;
+    for number in 0..4_096u32 {
+        push_socket(&mut text, number)?;
+    }
+    Ok(text)
+}
+
+// Whether there are 8,192 lines, of which the last sends at the last socket.
+fn are_all(lines: &[Line]) -> bool {
+    match lines.last() {
+        Some(last) => lines.len() == 8_192 && matches!(last.call, Call::Send(4_095, _)),
+        None => false,
+    }
+}
+
+// Whether an actor with so many sockets is read.
+fn reads_many_sockets(alloc: Global) -> Result<bool, Fail> {
+    let text = many_sockets(alloc)?;
+    Ok(are_all(first_lines(&script(alloc, text.as_slice())?)))
+}
+
+#[test]
+fn many_sockets_are_read(rt: HostRuntime) -> Result<(), Fail> {
+    assert!(rt; reads_many_sockets(rt.alloc())?);
+    Ok(())
+}
