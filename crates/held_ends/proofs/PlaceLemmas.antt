@@ -1,11 +1,22 @@
 -- Places and rows by number, after one of them changed.
-use Rattle.std.proofs.Common.{◌≡◌, ◌≢◌, ℕ, zero, suc, ◌<◌, List, [], ◌∷◌, length, set, Option, Some, refl, ap, arith}
-use Rattle.std.specs.Prelude.{Box, slice_index_or}
+use Rattle.std.proofs.Common.{◌≡◌, ◌≢◌, ◌∙◌, ℕ, zero, suc, ◌<◌, nat_lt, Bool, true, false, cond, List, [], ◌∷◌, length, set, Option, Some, None, refl, ap, arith}
+use Rattle.std.proofs.lemmas.Bool.Decides.{nat_tests}
+use Rattle.std.proofs.lemmas.List.Sums.{position_or_len_is}
+use Rattle.std.specs.List.{AllPairs}
+use Rattle.std.specs.Prelude.{Box, position, slice_index_or}
 use Rattle.std.specs.declared.alloc.Global.{Global}
+use Rattle.zq_base.specs.declared.ids.EndId.{EndId}
 use Rattle.ends.specs.declared.row.EndRow.{EndRow}
 use Rattle.ends.specs.Rows.{Rows, unboxed, row_at}
 use Rattle.held_ends.specs.declared.table.Place.{Place}
-use Rattle.held_ends.specs.Places.{place_at}
+use Rattle.held_ends.specs.Places.{IsOnce, is_of, place_at}
+
+-- one that passes is the first, where no two pass
+pub found_first : {X : Type 0} (test : X → Bool) (xs : List X) (k : ℕ) (d : X) → AllPairs (λ x y. test y ≡ true → test x ≡ false) xs → k < length xs → test (slice_index_or xs k d) ≡ true → position test xs ≡ Some k
+found_first test xs k d pairs within is =
+    let less : nat_lt k (length xs) ≡ true = grind (arith, nat_tests, within) in
+    ap (λ (n : ℕ). cond (nat_lt n (length xs)) (Some n) None) (position_or_len_is test xs k d (omega (arith, within)) (λ j before. pairs j k d before within is) (λ _. is))
+    ∙ ap (λ (b : Bool). cond b (Some k) None) less
 
 module _ {O I : Type 0} where
   pub row_there : (rows : Rows O I) (k : ℕ) (x : Option (Box (EndRow O I) Global)) → k < length rows → row_at (set rows k x) k ≡ unboxed x
@@ -49,3 +60,13 @@ module _ {N I : Type 0} where
   place_found [] k p x h e = cc
   place_found (y ∷ ys) zero p x h e = cc
   place_found (y ∷ ys) (suc k) p x h e = place_found ys k p x h e
+
+  pub place_of_index : (ps : List (Place N I)) (k : ℕ) (d : Place N I) → k < length ps → place_at ps k ≡ Some (slice_index_or ps k d)
+  place_of_index [] k d lt = absurd (omega (arith, lt))
+  place_of_index (x ∷ xs) zero d lt = refl
+  place_of_index (x ∷ xs) (suc k) d lt = place_of_index xs k d (omega (arith, lt))
+
+  -- no two places hold the end
+  pub once_in_pairs : (e : EndId) (ps : List (Place N I)) → IsOnce e ps → AllPairs (λ p q. is_of e q ≡ true → is_of e p ≡ false) ps
+  once_in_pairs e ps once i j d less within is =
+      once i j (slice_index_or ps i d) (slice_index_or ps j d) (λ same. absurd (omega (arith, less, same))) (place_of_index ps i d (omega (arith, less, within))) (place_of_index ps j d within) is

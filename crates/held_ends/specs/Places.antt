@@ -1,5 +1,5 @@
 -- The ends of an owner by the places of their attachment (own choice, after libzmq's `pipe_t`).
-use Rattle.std.specs.Prelude.{◌≡◌, ◌&&◌, ℕ, zero, suc, Bool, true, List, [], ◌∷◌, Option, Some, None, if◌then◌else◌}
+use Rattle.std.specs.Prelude.{◌≡◌, ◌≢◌, ◌&&◌, ℕ, zero, suc, Bool, true, false, List, [], ◌∷◌, Option, Some, None, if◌then◌else◌}
 use Rattle.std.specs.List.{list_any}
 use Rattle.zq_base.specs.declared.ids.EndId.{EndId}
 use Rattle.spec_control.specs.Control.{is_end}
@@ -22,10 +22,15 @@ module _ {N I : Type 0} where
   held_in [] = []
   held_in (p ∷ ps) = if p.held then held_of p ∷ held_in ps else held_in ps
 
-  -- it is the place of this end, which is held; and its writing half is there, or its reading half has met its delimiter
+  -- it is the place of this end, which is held
   abbrev pub is_of : EndId → Place N I → Bool
   is_of e p = p.held && is_end e p.end
 
+  -- at one place at most this end is held
+  abbrev pub IsOnce : EndId → List (Place N I) → Type 0
+  IsOnce e ps = (j k : ℕ) (p q : Place N I) → j ≢ k → place_at ps j ≡ Some p → place_at ps k ≡ Some q → is_of e q ≡ true → is_of e p ≡ false
+
+  -- and its writing half is there, or its reading half has met its delimiter
   abbrev pub writes_of : EndId → Place N I → Bool
   writes_of e p = p.writes && is_of e p
 

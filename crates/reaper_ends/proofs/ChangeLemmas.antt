@@ -1,7 +1,7 @@
 -- What is seen of closed sockets once one of their ends changed or is gone.
 use Rattle.std.proofs.Common.{◌≡◌, ◌≢◌, ◌==◌, ◌||◌, ◌∙◌, ℕ, Bool, true, false, not, List, [], ◌∷◌, ◌++◌, All, Some, map, refl, sym, ap, subst, if◌then◌else◌, eqb-true}
-use Rattle.std.specs.Prelude.{position}
-use Rattle.std.specs.List.{list_any}
+use Rattle.std.specs.Prelude.{position, slice_index_or}
+use Rattle.std.specs.List.{AllPairs, list_any}
 use Rattle.std.proofs.lemmas.Bool.{eq-eqb}
 use Rattle.std.proofs.lemmas.List.Elements.{All-nil, All-cons, All-head, All-tail}
 use Rattle.zq_base.specs.declared.ids.EndId.{EndId}
@@ -15,7 +15,7 @@ use Rattle.ctl_holder.specs.TakingOver.{AreTwo, AllTwo}
 use Rattle.sock_core.proofs.FindLemmas.{same_end}
 use Rattle.reaper_ends.specs.declared.sockets.ClosedSocket.{ClosedSocket}
 use Rattle.reaper_ends.specs.Has.{all_ends, is_socket, ends_of, is_of, input_in, state_in}
-use Rattle.reaper_ends.specs.Finding.{FindsEnd}
+use Rattle.reaper_ends.specs.Finding.{AreTwoByTwo, FindsEnd}
 use Rattle.reaper_ends.proofs.FormLemmas.{AllAlone}
 use Rattle.reaper_ends.proofs.ListLemmas.{never, position_same, any_more, any_same, any_front, any_back, all_both, parts, all_flat}
 
@@ -168,6 +168,14 @@ module _ {N O I : Type 0} where
     pub has_listed : (e : EndId) (xs : List (Given N O I)) → has_end e (map (held_given out_name in_name) xs) ≡ list_any (is_of e) xs
     has_listed e [] = refl
     has_listed e (x ∷ xs) = ap (λ (b : Bool). is_end e x.end || b) (has_listed e xs)
+
+  -- at most one of them is the end
+  pub one_is : (e : EndId) (gs : List (Given N O I)) → AreTwoByTwo gs → AllPairs (λ x y. is_of e y ≡ true → is_of e x ≡ false) gs
+  one_is e gs apart i j d less within is = by (is_of e (slice_index_or gs i d)) refl
+    where
+      by : (b : Bool) → is_of e (slice_index_or gs i d) ≡ b → b ≡ false
+      by true h = absurd (apart i j d less within (sym (same_end e (slice_index_or gs i d).end h) ∙ same_end e (slice_index_or gs j d).end is))
+      by false h = refl
 
   -- ---- the reading half of an end
 

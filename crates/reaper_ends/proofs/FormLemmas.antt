@@ -1,13 +1,16 @@
 -- The two forms in which closed sockets are said to be sound: place by place, and by recursion.
-use Rattle.std.proofs.Common.{◌≡◌, Bool, false, List, [], ◌∷◌, ◌++◌, All, map, refl, ap, subst}
+use Rattle.std.proofs.Common.{◌≡◌, ◌≢◌, ◌<◌, ℕ, zero, suc, Bool, false, List, [], ◌∷◌, ◌++◌, All, length, map, refl, ap, subst, arith}
+use Rattle.std.specs.Prelude.{slice_index_or}
 use Rattle.std.specs.List.{list_any}
 use Rattle.std.proofs.lemmas.List.Elements.{All-nil, All-cons, All-head, All-tail}
 use Rattle.control_held.specs.Held.{Held}
 use Rattle.msg_pipe.specs.Known.{Known}
+use Rattle.ctl_holder.specs.declared.given.Given.{Given}
 use Rattle.ctl_holder.specs.Holding.{held_given}
 use Rattle.ctl_holder.specs.TakingOver.{AreGivenWith, AreTwo, AllTwo}
 use Rattle.reaper_ends.specs.declared.sockets.ClosedSocket.{ClosedSocket}
 use Rattle.reaper_ends.specs.Has.{all_ends, is_socket}
+use Rattle.reaper_ends.specs.Finding.{AreTwoByTwo}
 use Rattle.reaper_ends.specs.Sound.{AnyTwo, AreAlone, AreSound}
 
 -- no two closed sockets have one number
@@ -70,3 +73,29 @@ module _ {S O I N : Type 0} (K : Known S O I N) where
     apart = from_two K.exact (map (held_given K.out_name K.in_name) (all_ends ss)) sound.apart;
     alone = from_alone ss sound.alone;
   }
+
+-- ---- no two ends of one socket are one
+
+module _ {N O I : Type 0} (out_name : O → N) (in_name : I → N) (exact : Bool) where
+  other_end : (x : Given N O I) (xs ys : List (Given N O I)) (j : ℕ) (d : Given N O I) → j < length xs → All (AreTwo exact (held_given out_name in_name x)) (map (held_given out_name in_name) (xs ++ ys)) → x.end ≢ (slice_index_or xs j d).end
+  other_end x [] ys j d within all = absurd (omega (arith, within))
+  other_end x (y ∷ xs) ys zero d within all = (All-head (AreTwo exact (held_given out_name in_name x)) (held_given out_name in_name y) (map (held_given out_name in_name) (xs ++ ys)) all).ends
+  other_end x (y ∷ xs) ys (suc j) d within all =
+      other_end x xs ys j d (omega (arith, within)) (All-tail (AreTwo exact (held_given out_name in_name x)) (held_given out_name in_name y) (map (held_given out_name in_name) (xs ++ ys)) all)
+
+  front_two : (xs ys : List (Given N O I)) → AllTwo exact (map (held_given out_name in_name) (xs ++ ys)) → AreTwoByTwo xs
+  front_two [] ys all i j d less within = absurd (omega (arith, within))
+  front_two (x ∷ xs) ys all i zero d less within = absurd (omega (arith, less))
+  front_two (x ∷ xs) ys all zero (suc j) d less within = other_end x xs ys j d (omega (arith, within)) all.0
+  front_two (x ∷ xs) ys all (suc i) (suc j) d less within = front_two xs ys all.1 i j d (omega (arith, less)) (omega (arith, within))
+
+  back_two : (xs ys : List (Given N O I)) → AllTwo exact (map (held_given out_name in_name) (xs ++ ys)) → AllTwo exact (map (held_given out_name in_name) ys)
+  back_two [] ys all = all
+  back_two (x ∷ xs) ys all = back_two xs ys all.1
+
+  each_two : (ss : List (ClosedSocket N O I)) → AllTwo exact (map (held_given out_name in_name) (all_ends ss)) → All (λ s. AreTwoByTwo s.ends.items) ss
+  each_two [] all = All-nil (λ s. AreTwoByTwo s.ends.items)
+  each_two (s ∷ ss) all = All-cons (λ t. AreTwoByTwo t.ends.items) s ss (front_two s.ends.items (all_ends ss) all) (each_two ss (back_two s.ends.items (all_ends ss) all))
+
+pub ends_two : {S O I N : Type 0} (K : Known S O I N) (pipes : S) (ss : List (ClosedSocket N O I)) → AreSound K pipes ss → All (λ s. AreTwoByTwo s.ends.items) ss
+ends_two K pipes ss sound = each_two K.out_name K.in_name K.exact ss (sound_of K pipes ss sound).apart

@@ -1,5 +1,6 @@
 -- Where the ends of closed sockets stand (own choice).
-use Rattle.std.specs.Prelude.{◌≡◌, ◌<◌, ◌++◌, ℕ, Bool, true, false, List, [], ◌∷◌, Some, None, All, is_some, length, position, nat_eq, vec_len, vec_capacity}
+use Rattle.std.specs.Prelude.{◌≡◌, ◌≢◌, ◌<◌, ◌++◌, ℕ, Bool, true, false, List, [], ◌∷◌, Some, None, All, is_some, length, position, nat_eq, vec_len, vec_capacity}
+use Rattle.std.specs.List.{AllPairs}
 use Rattle.indexmap.specs.IndexMap.{get, spare}
 use Rattle.zq_base.specs.declared.ids.EndId.{EndId}
 use Rattle.zq_base.specs.declared.attached.Attached.TheVariants.{Yes}
@@ -27,6 +28,10 @@ module _ {N O I : Type 0} where
   -- each closed socket is found at its place by its number
   abbrev pub AreIndexed : ClosedSockets N O I → Type 0
   AreIndexed c = (n : ℕ) → get nat_eq c.places n ≡ position (is_socket n) c.sockets.items
+
+  -- no two of these are one end
+  abbrev pub AreTwoByTwo : List (Given N O I) → Type 0
+  AreTwoByTwo gs = AllPairs (λ x y. x.end ≢ y.end) gs
 
   -- there is room for one closed socket more
   pub record HasRoom (c : ClosedSockets N O I) : Type 0 where

@@ -20,8 +20,8 @@ use zq_base::{Address, Attached, EndId, Kind, ObjId, Octets, Options, Seq, Settl
 
 /// The reaper's holder: the closed sockets with the pipes of their ends, for a stretch of calls.
 ///
-/// It finds a closed socket by its number in constant time, and an end of it by a walk over those of
-/// its socket; a hint by end in the place of that walk is left.
+/// It finds a closed socket by its number in constant time, and an end of it in few steps where those
+/// of its socket stand in the order of their pairs, else by a walk over them.
 #[derive(Drop)]
 pub struct Closed<
     P: HeldPipes,

@@ -1,10 +1,11 @@
-ghost use Rattle.std.specs.Prelude.{◌≡◌, ◌++◌, ◌∷◌, [], false, position, map, IfSome, IfNone, IfErr, OnOk};
+ghost use Rattle.std.specs.Prelude.{◌≡◌, ◌≤◌, ◌++◌, ◌∷◌, [], All, false, length, position, map};
+ghost use Rattle.std.specs.Prelude.{IfSome, IfNone, IfErr, OnOk};
 ghost use Rattle.std.specs.List.{list_any};
 ghost use Rattle.reaper_ends.specs.Has.{ends_of, is_of, is_socket};
 ghost use Rattle.zq_base.specs.declared.attached.Attached.TheVariants.{Yes};
 ghost use Rattle.sock_core.specs.Standing.{joining_as, standing_joins};
 ghost use Rattle.reaper_ends.specs.Finding.{AreIndexed, FindsEnd, HasRoom, IsFirst, KeepsEnds, KeepsNotes};
-ghost use Rattle.reaper_ends.specs.Finding.{AddsNone, AddsOne, came_given, given_joined, place_given};
+ghost use Rattle.reaper_ends.specs.Finding.{AddsNone, AddsOne, AreTwoByTwo, came_given, given_joined, place_given};
 
 use crate::ending::halves_of;
 use ctl_holder::{Given, Halves, Notice};
@@ -75,13 +76,15 @@ pub fn make_room<N, O, I>(closed: &mut ClosedSockets<N, O, I>) -> Result<(), All
 }
 
 /// Where an end of a closed socket stands, if the socket has it: its socket's place, and its own among
-/// the socket's ends. It costs a walk over the socket's ends.
+/// the socket's ends. It costs few steps where these stand in the order of their pairs, and a walk over
+/// them where the end isn't found so.
 pub(crate) fn find<N, O, I>(
     closed: &ClosedSockets<N, O, I>,
     number: ObjId,
     end: EndId,
 ) -> Option<(usize, usize)>
     requires indexed { AreIndexed closed.now }
+    requires apart { All (λ s. AreTwoByTwo s.ends.items) closed.now.sockets.items }
     ensures found { IfSome result (λ at.
         FindsEnd number.0 end closed.now.sockets.items at.0 at.1) }
     ensures none { IfNone result
@@ -98,9 +101,33 @@ pub(crate) fn find<N, O, I>(
 
 // The place of an end among those of its socket.
 fn find_end<N, O, I>(ends: &[Given<N, O, I>], end: EndId) -> Option<usize>
+    requires apart { AreTwoByTwo ends.now }
     ensures { result ≡ position (is_of end) ends.now }
 {
+    let guess = guessed(ends, end);
+    if guess < ends.len() {
+        if is_of(&ends[guess], end) {
+            return Some(guess);
+        }
+    }
     ends.iter().position(|given| is_of(given, end))
+}
+
+// The first place whose pair's number is not below that of the end, where they stand in their order.
+fn guessed<N, O, I>(ends: &[Given<N, O, I>], end: EndId) -> usize
+    ensures { result ≤ length ends.now }
+{
+    let mut low = 0;
+    let mut high = ends.len();
+    'each: while low < high {
+        let middle = low + (high - low) / 2;
+        if ends[middle].end.pair.0 < end.pair.0 {
+            low = middle + 1;
+        } else {
+            high = middle;
+        }
+    }
+    low
 }
 
 // Whether it is this end.

@@ -10,7 +10,7 @@ use Rattle.msg_pipe.specs.Known.{Known}
 use Rattle.ends.specs.Rows.{Rows}
 use Rattle.ctl_holder.specs.Holding.{has_end}
 use Rattle.held_ends.specs.declared.table.Place.{Place}
-use Rattle.held_ends.specs.Places.{place_at, held_of, held_in, is_of}
+use Rattle.held_ends.specs.Places.{IsOnce, place_at, held_of, held_in, is_of}
 use Rattle.held_ends.specs.Sound.{IsSound}
 use Rattle.held_ends.proofs.SoundLemmas.{one_some}
 
@@ -129,3 +129,6 @@ alone_of K pipes rows ps k p e sound there is j r ne at = by (is_of e r) refl
     by : (b : Bool) → is_of e r ≡ b → b ≡ false
     by true h = absurd ((sound.apart j k r p ne at there (held_is e r h) (held_is e p is)).ends (sym (end_is e r h) ∙ end_is e p is))
     by false h = refl
+
+pub once_of : {S O I N : Type 0} (K : Known S O I N) (pipes : S) (rows : Rows O I) (ps : List (Place N I)) (e : EndId) → IsSound K pipes rows ps → IsOnce e ps
+once_of K pipes rows ps e sound j k p q ne at there is = alone_of K pipes rows ps k q e sound there is j p ne at

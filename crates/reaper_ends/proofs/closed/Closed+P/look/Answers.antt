@@ -3,7 +3,7 @@ use Rattle.std.specs.List.{list_any}
 use Rattle.ctl_holder.specs.declared.given.Given.{Given}
 use Rattle.reaper_ends.specs.Has.{ends_of, is_of, met_of, heard_in}
 use Rattle.reaper_ends.proofs.ListLemmas.{never, any_here}
-use Rattle.reaper_ends.proofs.FormLemmas.{are_sound, sound_of}
+use Rattle.reaper_ends.proofs.FormLemmas.{are_sound, ends_two, sound_of}
 use Rattle.reaper_ends.proofs.ChangeLemmas.{has_listed}
 use Rattle.reaper_ends.proofs.PlaceLemmas.{at_stays, at_changed, alone_at, with_end}
 use Rattle.reaper_ends.proofs.SoundLemmas.{its_halves, changed_sound, leaves_changed}
@@ -14,6 +14,9 @@ use Rattle.held_ends.specs.Looking.{met_after}
 use Rattle.control_held.specs.Held.{Held}
 use Rattle.spec_control.specs.Control.{is_end}
 use Rattle.reaper_ends.proofs.closed.Closed+P.look.Goals as goal
+
+pub find-requires-clause-apart : goal.find-requires-clause-apart
+find-requires-clause-apart g c = ends_two g.P.Pipes.known c.args.self.now.pipes c.args.self.now.closed.sockets.items c.args.self.now.sound
 
 pub look-requires : goal.look-requires
 look-requires g c =

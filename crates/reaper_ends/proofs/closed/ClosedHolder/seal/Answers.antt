@@ -4,7 +4,7 @@ use Rattle.ctl_holder.specs.declared.given.Given.{Given}
 use Rattle.ctl_holder.specs.Holding.{Seals}
 use Rattle.reaper_ends.specs.Has.{ends_of, has, heard_in}
 use Rattle.reaper_ends.proofs.ListLemmas.{never}
-use Rattle.reaper_ends.proofs.FormLemmas.{are_sound, sound_of}
+use Rattle.reaper_ends.proofs.FormLemmas.{are_sound, ends_two, sound_of}
 use Rattle.reaper_ends.proofs.ChangeLemmas.{has_listed}
 use Rattle.reaper_ends.proofs.PlaceLemmas.{at_stays, at_changed, alone_at, with_end}
 use Rattle.reaper_ends.proofs.NotedLemmas.{done_changed, told_last, either}
@@ -17,6 +17,9 @@ use Rattle.reaper_ends.proofs.SoundLemmas.{its_halves, changed_sound, leaves_on,
 use Rattle.reaper_ends.proofs.HasLemmas.{writes_is, stays, seals}
 use Rattle.reaper_ends.proofs.ComeLemmas.{come_still}
 use Rattle.reaper_ends.proofs.closed.ClosedHolder.seal.Goals as goal
+
+pub find-requires-clause-apart : goal.find-requires-clause-apart
+find-requires-clause-apart g c = ends_two g.P.Pipes.known c.args.self.now.pipes c.args.self.now.closed.sockets.items c.args.self.now.sound
 
 pub seal-requires : goal.seal-requires
 seal-requires g c =

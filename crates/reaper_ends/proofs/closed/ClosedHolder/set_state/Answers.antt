@@ -6,7 +6,7 @@ use Rattle.ctl_holder.specs.Holding.{held_given, is_state, TurnsTo}
 use Rattle.held_ends.specs.Counting.{counts_with}
 use Rattle.reaper_ends.specs.Has.{ends_of, has, heard_in}
 use Rattle.reaper_ends.proofs.ListLemmas.{never}
-use Rattle.reaper_ends.proofs.FormLemmas.{are_sound, sound_of}
+use Rattle.reaper_ends.proofs.FormLemmas.{are_sound, ends_two, sound_of}
 use Rattle.reaper_ends.proofs.ChangeLemmas.{has_listed}
 use Rattle.reaper_ends.proofs.PlaceLemmas.{at_stays, at_changed, alone_at, end_is, with_end}
 use Rattle.reaper_ends.proofs.NotedLemmas.{done_turned}
@@ -16,6 +16,9 @@ use Rattle.reaper_ends.proofs.SoundLemmas.{its_halves, changed_sound, leaves_on,
 use Rattle.reaper_ends.proofs.HasLemmas.{stays, turns_to, input_is, input_now}
 use Rattle.reaper_ends.proofs.ComeLemmas.{come_still}
 use Rattle.reaper_ends.proofs.closed.ClosedHolder.set_state.Goals as goal
+
+pub find-requires-clause-apart : goal.find-requires-clause-apart
+find-requires-clause-apart g c = ends_two g.P.Pipes.known c.args.self.now.pipes c.args.self.now.closed.sockets.items c.args.self.now.sound
 
 pub invariant_of-self : goal.invariant_of-self
 invariant_of-self g c =

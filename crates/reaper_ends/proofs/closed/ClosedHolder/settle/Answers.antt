@@ -6,7 +6,7 @@ use Rattle.held_ends.specs.Counting.{counts_with}
 use Rattle.msg_pipe.specs.Known.{IsElse}
 use Rattle.reaper_ends.specs.Has.{all_ends, ends_of, writes_of, heard_in}
 use Rattle.reaper_ends.proofs.ListLemmas.{never}
-use Rattle.reaper_ends.proofs.FormLemmas.{are_sound, sound_of}
+use Rattle.reaper_ends.proofs.FormLemmas.{are_sound, ends_two, sound_of}
 use Rattle.reaper_ends.proofs.PlaceLemmas.{at_stays, at_removed, alone_at, with_ends}
 use Rattle.reaper_ends.proofs.NotedLemmas.{done_gone}
 use Rattle.std.proofs.Math.Logic.{∥∥₁_map}
@@ -15,6 +15,9 @@ use Rattle.reaper_ends.proofs.HasLemmas.{met_is, read_is, left, keeps_left, inpu
 use Rattle.reaper_ends.proofs.TakeLemmas.{none_writes, has_read}
 use Rattle.reaper_ends.proofs.ComeLemmas.{come_still}
 use Rattle.reaper_ends.proofs.closed.ClosedHolder.settle.Goals as goal
+
+pub find-requires-clause-apart : goal.find-requires-clause-apart
+find-requires-clause-apart g c = ends_two g.P.Pipes.known c.args.self.now.pipes c.args.self.now.closed.sockets.items c.args.self.now.sound
 
 pub settle-requires-clause-given : goal.settle-requires-clause-given
 settle-requires-clause-given g c =

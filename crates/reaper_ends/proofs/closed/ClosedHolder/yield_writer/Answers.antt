@@ -6,7 +6,7 @@ use Rattle.held_ends.specs.Counting.{counts_with}
 use Rattle.held_ends.proofs.SoundLemmas.{one_some}
 use Rattle.reaper_ends.specs.Has.{ends_of, heard_in}
 use Rattle.reaper_ends.proofs.ListLemmas.{never}
-use Rattle.reaper_ends.proofs.FormLemmas.{are_sound, sound_of}
+use Rattle.reaper_ends.proofs.FormLemmas.{are_sound, ends_two, sound_of}
 use Rattle.reaper_ends.proofs.ChangeLemmas.{has_listed}
 use Rattle.reaper_ends.proofs.PlaceLemmas.{at_stays, at_changed, alone_at, with_end}
 use Rattle.reaper_ends.proofs.NotedLemmas.{done_changed}
@@ -18,6 +18,9 @@ use Rattle.reaper_ends.proofs.SoundLemmas.{its_halves, changed_sound, leaves_on,
 use Rattle.reaper_ends.proofs.HasLemmas.{writes_is, written_is, read_is, yielded, keeps_turns, input_is, input_now}
 use Rattle.reaper_ends.proofs.ComeLemmas.{come_still}
 use Rattle.reaper_ends.proofs.closed.ClosedHolder.yield_writer.Goals as goal
+
+pub find-requires-clause-apart : goal.find-requires-clause-apart
+find-requires-clause-apart g c = ends_two g.P.Pipes.known c.args.self.now.pipes c.args.self.now.closed.sockets.items c.args.self.now.sound
 
 pub yield_out-requires : goal.yield_out-requires
 yield_out-requires g c =

@@ -2,9 +2,9 @@ use Rattle.std.proofs.Common.{refl, sym, ap, ◌∙◌, subst, true, List, ◌==
 use Rattle.std.specs.List.{position}
 use Rattle.held_ends.specs.declared.table.Place.{Place}
 use Rattle.ctl_holder.specs.Holding.{Stays, Seals}
-use Rattle.held_ends.specs.Places.{is_of}
+use Rattle.held_ends.specs.Places.{IsOnce, is_of}
 use Rattle.sock_core.specs.Has.{has, told_in}
-use Rattle.sock_core.proofs.FindLemmas.{found, not_found, alone_of, held_is, never}
+use Rattle.sock_core.proofs.FindLemmas.{found, not_found, alone_of, once_of, held_is, never}
 use Rattle.sock_core.proofs.SeenLemmas.{seen_same, stays_of}
 use Rattle.sock_core.proofs.FormLemmas.{sound_of, are_sound}
 use Rattle.sock_core.proofs.HolderLemmas.{owned, flag_at, seals_of}
@@ -32,6 +32,13 @@ use Rattle.sock_core.proofs.FindLemmas.{end_is}
 use Rattle.sock_core.proofs.MadeLemmas.{made_less}
 use Rattle.sock_core.proofs.CameLemmas.{came_more}
 use Rattle.sock_core.proofs.holder.SockHolderHolder.seal.Goals as goal
+
+pub find-requires : goal.find-requires
+find-requires g c = record {
+  once = subst (IsOnce c.args.end) (sym c.deref.ensures.value)
+      (once_of g.P.Pipes.known c.args.self.now.pipes c.args.self.now.core.ends.rows.items c.args.self.now.core.ends.places.items c.args.end
+      (sound_of g.P.Pipes.known c.args.self.now.pipes c.args.self.now.core.ends.rows.items c.args.self.now.core.ends.places.items c.args.self.now.sound));
+}
 
 pub seal-requires-clause-sound : goal.seal-requires-clause-sound
 seal-requires-clause-sound g c = sound_of g.P.Pipes.known c.args.self.now.pipes c.args.self.now.core.ends.rows.items c.args.self.now.core.ends.places.items c.args.self.now.sound

@@ -7,9 +7,9 @@ use Rattle.sock_core.specs.Way.{way_in, with_turned, KindWay}
 use Rattle.std.specs.List.{position}
 use Rattle.held_ends.specs.declared.table.Place.{Place}
 use Rattle.ctl_holder.specs.Holding.{Stays, TurnsTo, is_state}
-use Rattle.held_ends.specs.Places.{is_of}
+use Rattle.held_ends.specs.Places.{IsOnce, is_of}
 use Rattle.sock_core.specs.Has.{has, told_in}
-use Rattle.sock_core.proofs.FindLemmas.{found, not_found, alone_of, held_is, end_is, never}
+use Rattle.sock_core.proofs.FindLemmas.{found, not_found, alone_of, once_of, held_is, end_is, never}
 use Rattle.sock_core.proofs.SeenLemmas.{seen_same, stays_of}
 use Rattle.sock_core.proofs.FormLemmas.{sound_of, are_sound}
 use Rattle.sock_core.proofs.HolderLemmas.{owned, turned_of}
@@ -38,6 +38,13 @@ use Rattle.sock_core.specs.Came.{HasCome}
 use Rattle.sock_core.specs.Way.{Way}
 use Rattle.sock_core.proofs.CameLemmas.{came_still, turned_joined}
 use Rattle.sock_core.proofs.holder.SockHolderHolder.set_state.Goals as goal
+
+pub find-requires : goal.find-requires
+find-requires g c = record {
+  once = subst (IsOnce c.args.end) (sym c.deref.ensures.value)
+      (once_of g.P.Pipes.known c.args.self.now.pipes c.args.self.now.core.ends.rows.items c.args.self.now.core.ends.places.items c.args.end
+      (sound_of g.P.Pipes.known c.args.self.now.pipes c.args.self.now.core.ends.rows.items c.args.self.now.core.ends.places.items c.args.self.now.sound));
+}
 
 pub set_state-requires-clause-sound : goal.set_state-requires-clause-sound
 set_state-requires-clause-sound g c = sound_of g.P.Pipes.known c.args.self.now.pipes c.args.self.now.core.ends.rows.items c.args.self.now.core.ends.places.items c.args.self.now.sound

@@ -5,10 +5,10 @@ use Rattle.spec_control.specs.Place.{At}
 use Rattle.ctl_holder.specs.Lent.{has_writer}
 use Rattle.held_ends.specs.declared.table.Place.{Place}
 use Rattle.ctl_holder.specs.Holding.{KeepsTurns, Yielded, written_in}
-use Rattle.held_ends.specs.Places.{is_of, held_in}
+use Rattle.held_ends.specs.Places.{IsOnce, is_of, held_in}
 use Rattle.sock_core.specs.Has.{has, told_in}
 use Rattle.held_ends.proofs.SoundLemmas.{one_some}
-use Rattle.sock_core.proofs.FindLemmas.{found, not_found, alone_of, held_is, never}
+use Rattle.sock_core.proofs.FindLemmas.{found, not_found, alone_of, once_of, held_is, never}
 use Rattle.sock_core.proofs.FormLemmas.{sound_of, are_sound}
 use Rattle.sock_core.proofs.HolderLemmas.{owned, flag_at, names_at, state_at, yielded_of, turns_kept}
 use Rattle.std.proofs.Common.{ℕ, length, length-set}
@@ -38,6 +38,13 @@ use Rattle.sock_core.proofs.DoneLemmas.{done_more}
 use Rattle.sock_core.proofs.MadeLemmas.{made_less}
 use Rattle.sock_core.proofs.CameLemmas.{came_more}
 use Rattle.sock_core.proofs.holder.SockHolderHolder.yield_writer.Goals as goal
+
+pub find-requires : goal.find-requires
+find-requires g c = record {
+  once = subst (IsOnce c.args.end) (sym c.deref.ensures.value)
+      (once_of g.P.Pipes.known c.args.self.now.pipes c.args.self.now.core.ends.rows.items c.args.self.now.core.ends.places.items c.args.end
+      (sound_of g.P.Pipes.known c.args.self.now.pipes c.args.self.now.core.ends.rows.items c.args.self.now.core.ends.places.items c.args.self.now.sound));
+}
 
 pub yield_writer-requires-clause-sound : goal.yield_writer-requires-clause-sound
 yield_writer-requires-clause-sound g c = sound_of g.P.Pipes.known c.args.self.now.pipes c.args.self.now.core.ends.rows.items c.args.self.now.core.ends.places.items c.args.self.now.sound

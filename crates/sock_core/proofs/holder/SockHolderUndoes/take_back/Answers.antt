@@ -2,10 +2,10 @@ use Rattle.std.proofs.Common.{refl, sym, ap, ◌∙◌, subst, Bool, false, List
 use Rattle.std.specs.List.{position}
 use Rattle.held_ends.specs.declared.table.Place.{Place}
 use Rattle.ctl_holder.specs.Holding.{BeginsNone, Left, read_in, written_in}
-use Rattle.held_ends.specs.Places.{is_of, held_in}
+use Rattle.held_ends.specs.Places.{IsOnce, is_of, held_in}
 use Rattle.sock_core.specs.Has.{has, told_in}
 use Rattle.held_ends.proofs.SoundLemmas.{one_some}
-use Rattle.sock_core.proofs.FindLemmas.{found, not_found, alone_of, held_is, never}
+use Rattle.sock_core.proofs.FindLemmas.{found, not_found, alone_of, once_of, held_is, never}
 use Rattle.sock_core.proofs.FormLemmas.{sound_of, are_sound}
 use Rattle.sock_core.proofs.HolderLemmas.{owned_last, flag_at, names_at, left_begins, left_of}
 use Rattle.zq_base.specs.declared.kind.Kind.{Kind}
@@ -34,6 +34,13 @@ use Rattle.sock_core.proofs.DoneLemmas.{done_still}
 use Rattle.sock_core.proofs.MadeLemmas.{made_less}
 use Rattle.sock_core.proofs.CameLemmas.{came_undone}
 use Rattle.sock_core.proofs.holder.SockHolderUndoes.take_back.Goals as goal
+
+pub find-requires : goal.find-requires
+find-requires g c = record {
+  once = subst (IsOnce c.args.end) (sym c.deref.ensures.value)
+      (once_of g.P.Pipes.known c.args.self.now.pipes c.args.self.now.core.ends.rows.items c.args.self.now.core.ends.places.items c.args.end
+      (sound_of g.P.Pipes.known c.args.self.now.pipes c.args.self.now.core.ends.rows.items c.args.self.now.core.ends.places.items c.args.self.now.sound));
+}
 
 pub take_back-requires-clause-sound : goal.take_back-requires-clause-sound
 take_back-requires-clause-sound g c = sound_of g.P.Pipes.known c.args.self.now.pipes c.args.self.now.core.ends.rows.items c.args.self.now.core.ends.places.items c.args.self.now.sound
