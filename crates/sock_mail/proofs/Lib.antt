@@ -1,3 +1,4 @@
 pub mod LentLemmas
 pub mod StopLemmas
 pub mod CallLemmas
+pub mod SteadyLemmas

@@ -28,6 +28,10 @@ pub record KeepsElse {C W N O I : Type 0} (old new : SockCore C W N O I) : Type 
   pub sealed : new.sealed ≡ old.sealed
   pub joins : new.joins ≡ old.joins
 
+-- all of a socket but its kind's state and the rows of its ends is as it was
+abbrev pub KeepsRest : {C W N O I : Type 0} → (old new : SockCore C W N O I) → Type 0
+KeepsRest old new = new ≡ record old { kind = new.kind; ends = record old.ends { rows = new.ends.rows } }
+
 -- one look at the front of the pipe that this end reads found this, and all else of the end and of the others is as it was
 pub record LooksHere {S N O I : Type 0} (K : Known S O I N) (e : EndId) (found : Front) (old_pipes : S) (old : EndTable N O I) (new_pipes : S) (new : EndTable N O I) : Type 0 where
   pub place : ℕ

@@ -1,10 +1,11 @@
 ghost use Rattle.std.specs.Prelude.{◌≡◌, true};
 ghost use Rattle.held_ends.specs.Places.{writes_in};
+ghost use Rattle.held_ends.specs.Sound.{IsSound};
 ghost use Rattle.held_ends.specs.Others.{Leaves};
 ghost use Rattle.sock_mail.specs.Holding.{LooksHere, KeepsButEnds};
 
-use held_ends::{HeldPipes, find};
-use msg_pipe::Front;
+use held_ends::{EndTable, HeldPipes, find};
+use msg_pipe::{Front, Pipes};
 use sock_core::{Joins, SockHolder};
 use zq_base::EndId;
 
@@ -18,10 +19,25 @@ pub fn look<P: HeldPipes, C: Joins>(holder: &mut SockHolder<P, C>, end: EndId) -
     ensures others { Leaves P.known holder.old.pipes holder.old.core.ends
         holder.new.pipes holder.new.core.ends }
 {
-    match find(&holder.core.ends.places, end) {
-        Some(place) => {
-            return held_ends::look(&mut holder.pipes, &mut holder.core.ends, place);
-        }
+    look_in(&mut holder.core.ends, &mut holder.pipes, end)
+}
+
+/// Looks at the front of the pipe that an end of these reads, and takes nothing, over pipes that
+/// stand beside them. An end that finds the delimiter has met it.
+pub fn look_in<P: Pipes>(
+    ends: &mut EndTable<P::Name, P::Out, P::In>,
+    pipes: &mut P,
+    end: EndId,
+) -> Front
+    requires sound { IsSound P.known pipes.old ends.old.rows.items ends.old.places.items }
+    requires writes { writes_in ends.old.places.items end ≡ true }
+    ensures sound { IsSound P.known pipes.new ends.new.rows.items ends.new.places.items }
+    ensures looked { LooksHere P.known end result pipes.old ends.old pipes.new ends.new }
+    ensures settled { ends.new.settled ≡ ends.old.settled }
+    ensures others { Leaves P.known pipes.old ends.old pipes.new ends.new }
+{
+    match find(&ends.places, end) {
+        Some(place) => return held_ends::look(pipes, ends, place),
         None => unreachable!(),
     }
 }

@@ -9,7 +9,7 @@ ghost use Rattle.sock_mail.specs.Holding.{lent_in, KeepsElse};
 ghost use Rattle.sock_mail.specs.Mails.{SendsHere, SaysHere, SendUndoneHere, ReceiveDone, PumpsHere, PumpStopsHere};
 ghost use Rattle.sock_mail.specs.Mails.{ChangesHere, ChangeUntoldHere, ChangeUndoneHere};
 
-use crate::over::{pump_over, recv_over, send_over, subscribe_over, unsubscribe_over};
+use crate::cores::{pump_core, recv_core, send_core, subscribe_core, unsubscribe_core};
 use any_sock::{AnySock, ChangeFault};
 use held_ends::HeldPipes;
 use pub_sub::XSendFault;
@@ -35,15 +35,7 @@ pub fn send<P: HeldPipes>(
     ensures keeps { KeepsElse holder.old.core holder.new.core }
     ensures others { Leaves P.known holder.old.pipes holder.old.core.ends holder.new.pipes holder.new.core.ends }
 {
-    let core = &mut holder.core;
-    send_over(
-        &mut core.kind,
-        alloc,
-        &mut holder.pipes,
-        &mut core.ends.rows,
-        &core.ends.places,
-        message,
-    )
+    send_core(&mut holder.core, alloc, &mut holder.pipes, message)
 }
 
 /// Receives by the rule of the socket's kind (zmq_msg_recv(3)); the messages that it drops are told
@@ -59,15 +51,7 @@ pub fn recv<P: HeldPipes>(
     ensures keeps { KeepsElse holder.old.core holder.new.core }
     ensures others { Leaves P.known holder.old.pipes holder.old.core.ends holder.new.pipes holder.new.core.ends }
 {
-    let core = &mut holder.core;
-    recv_over(
-        &mut core.kind,
-        alloc,
-        &mut holder.pipes,
-        &mut core.ends.rows,
-        &core.ends.places,
-        skips,
-    )
+    recv_core(&mut holder.core, alloc, &mut holder.pipes, skips)
 }
 
 /// What comes before each call on messages: a publisher hears what its peers subscribe to and cancel,
@@ -83,14 +67,7 @@ pub fn pump<P: HeldPipes>(
     ensures keeps { KeepsElse holder.old.core holder.new.core }
     ensures others { Leaves P.known holder.old.pipes holder.old.core.ends holder.new.pipes holder.new.core.ends }
 {
-    let core = &mut holder.core;
-    pump_over(
-        &mut core.kind,
-        alloc,
-        &mut holder.pipes,
-        &mut core.ends.rows,
-        &core.ends.places,
-    )
+    pump_core(&mut holder.core, alloc, &mut holder.pipes)
 }
 
 /// Subscribes once more to the topic, of at most 16,777,215 octets, and tells the peers
@@ -110,15 +87,7 @@ pub fn subscribe<P: HeldPipes>(
     ensures keeps { KeepsElse holder.old.core holder.new.core }
     ensures others { Leaves P.known holder.old.pipes holder.old.core.ends holder.new.pipes holder.new.core.ends }
 {
-    let core = &mut holder.core;
-    subscribe_over(
-        &mut core.kind,
-        alloc,
-        &mut holder.pipes,
-        &mut core.ends.rows,
-        &core.ends.places,
-        topic,
-    )
+    subscribe_core(&mut holder.core, alloc, &mut holder.pipes, topic)
 }
 
 /// Cancels one subscription to the topic, and tells the peers (zmq_setsockopt(3),
@@ -137,13 +106,5 @@ pub fn unsubscribe<P: HeldPipes>(
     ensures keeps { KeepsElse holder.old.core holder.new.core }
     ensures others { Leaves P.known holder.old.pipes holder.old.core.ends holder.new.pipes holder.new.core.ends }
 {
-    let core = &mut holder.core;
-    unsubscribe_over(
-        &mut core.kind,
-        alloc,
-        &mut holder.pipes,
-        &mut core.ends.rows,
-        &core.ends.places,
-        topic,
-    )
+    unsubscribe_core(&mut holder.core, alloc, &mut holder.pipes, topic)
 }

@@ -1,9 +1,7 @@
 -- A call on messages leaves a socket's kind.
-use Rattle.std.proofs.Common.{◌≡◌, ◌∙◌, ◌⊎◌, ℕ, Bool, List, Option, Some, None, refl, sym, ap}
-use Rattle.std.specs.Prelude.{Result, Ok, Err}
+use Rattle.std.proofs.Common.{◌≡◌, ℕ, Bool, List, Option, refl, ap}
 use Rattle.zq_base.specs.Message.{Frames}
 use Rattle.zq_base.specs.declared.ids.EndId.{EndId}
-use Rattle.zq_base.specs.declared.kind.Kind.{Kind}
 use Rattle.spec_pattern.specs.PipeStep.{PipeStep}
 use Rattle.spec_pattern.specs.TurnList.{End}
 use Rattle.spec_pattern.specs.Topics.{Topic}

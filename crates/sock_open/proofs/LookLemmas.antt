@@ -1,8 +1,8 @@
 -- A look at an end of a socket, as a run tells it.
-use Rattle.std.proofs.Common.{◌≡◌, ◌∙◌, ◌&&◌, ◌||◌, ℕ, zero, suc, Bool, true, false, List, [], ◌∷◌, set, Option, Some, None, refl, sym, ap, subst, if◌then◌else◌, map, true≢false, arith}
+use Rattle.std.proofs.Common.{◌≡◌, ◌∙◌, ◌&&◌, ◌||◌, ℕ, zero, suc, Bool, true, false, List, [], ◌∷◌, set, Some, None, refl, sym, ap, subst, if◌then◌else◌, true≢false, arith}
 use Rattle.std.specs.List.{list_any}
 use Rattle.zq_base.specs.declared.ids.EndId.{EndId}
-use Rattle.spec_pattern.specs.PipeStep.{PipeStep, read_through}
+use Rattle.spec_pattern.specs.PipeStep.{read_through}
 use Rattle.spec_control.specs.declared.end.EndState.{EndState}
 use Rattle.spec_control.specs.declared.entry.Joining.{Joining}
 use Rattle.spec_control.specs.Control.{is_end}
@@ -16,6 +16,7 @@ use Rattle.ends.specs.Rows.{table}
 use Rattle.ends.specs.Runs.{DoesAll}
 use Rattle.any_sock.specs.declared.any_sock.AnySock.{AnySock}
 use Rattle.any_sock.specs.Over.{over, caught_up, left_of, peer_places}
+use Rattle.held_ends.specs.declared.table.EndTable.{EndTable}
 use Rattle.held_ends.specs.declared.table.Place.{Place}
 use Rattle.held_ends.specs.Places.{place_at, held_of, held_in, is_of, writes_of, writes_in, met_of, met_in}
 use Rattle.held_ends.specs.Looking.{met_after}
@@ -26,10 +27,10 @@ use Rattle.sock_core.specs.Standing.{standing_joins}
 use Rattle.sock_core.proofs.FindLemmas.{same_end}
 use Rattle.sock_mail.specs.Holding.{LooksHere, KeepsButEnds}
 use Rattle.sock_calls.specs.Calls.{FitsCore}
-use Rattle.spec_run.specs.OpenSocket.{SockEnd, OpenSock, place_in}
+use Rattle.spec_run.specs.OpenSocket.{SockEnd, place_in}
 use Rattle.sock_open.specs.View.{end_at, ends_told, pattern_told, open_view}
-use Rattle.sock_open.specs.Standing.{IsStanding, Stands, IsWhole}
-use Rattle.sock_open.specs.Looking.{IsButMet, AreButMet, HasWhole, LooksOnce, LooksSo}
+use Rattle.sock_open.specs.Standing.{IsStanding, IsWhole}
+use Rattle.sock_open.specs.Looking.{IsButMet, AreButMet, LooksSo}
 use Rattle.sock_open.proofs.ViewLemmas.{opens_are}
 
 pub front_of : (b c : Bool) → b && c ≡ true → b ≡ true
@@ -179,6 +180,10 @@ met_after_still : (found : Front) (b : Bool) → b ≡ true → met_after found 
 met_after_still Message b h = h
 met_after_still Empty b h = h
 met_after_still Delimiter b h = refl
+
+-- another state of its ends leaves all else of a socket
+pub keeps_but : {W N O I : Type 0} (s : SockCore AnySock W N O I) (ends : EndTable N O I) → KeepsButEnds s (record s { ends = ends })
+keeps_but s ends = record { number = refl; is_open = refl; stopped = refl; kind = refl; waker = refl; room = refl; turns = refl; sealed = refl; joins = refl }
 
 module _ {W N O I S : Type 0} (K : Known S O I N) (p q : S) (s t : SockCore AnySock W N O I) where
   module _ (e : EndId) (found : Front) (looks : LooksHere K e found p s.ends q t.ends) (rest : KeepsButEnds s t) where

@@ -35,12 +35,14 @@ use Rattle.held_ends.specs.Sound as held
 use Rattle.sock_core.specs.declared.sock.SockCore.{SockCore}
 use Rattle.sock_core.specs.Standing.{standing_joins}
 use Rattle.sock_mail.specs.Lent.{IsNaming, IsTest}
-use Rattle.sock_mail.specs.Holding.{lent_in, KeepsElse}
+use Rattle.sock_mail.proofs.SteadyLemmas.{IsSteady, whole_so, mailed_so, keeps_else}
+use Rattle.sock_mail.specs.Lent as mail
+use Rattle.sock_mail.specs.Holding.{lent_in, KeepsElse, KeepsRest}
 use Rattle.sock_mail.specs.Mails.{SendsHere, SaysHere, SendUndoneHere, PumpsHere, PumpStopsHere, ReceiveDone, ReceivesHere, StopsHere, ChangesHere, ChangeUntoldHere, ChangeUndoneHere}
-use Rattle.sock_calls.specs.Calls.{FitsCore, FitsPipes}
+use Rattle.sock_calls.specs.Calls.{FitsCore}
 use Rattle.spec_run.specs.OpenSocket.{SockEnd, OpenSock, is_active, place_in, can_write}
 use Rattle.sock_open.specs.View.{end_at, ends_told, pattern_told, open_view}
-use Rattle.sock_open.specs.Standing.{IsStanding, Stands, IsWhole, kind_told, KeepsAllElse, KeepsSocket}
+use Rattle.sock_open.specs.Standing.{IsStanding, Stands, IsWhole, kind_told, KeepsAllElse}
 use Rattle.sock_open.specs.Doing.{MakesSome, PumpsOpen, SendsSo, ReceivesSo, ChangesSo}
 use Rattle.sock_core.specs.Kinds.{no_ends}
 use Rattle.sock_open.proofs.KindLemmas.{sends_kind, says_kind, receives_kind, stops_kind, pumps_kind, pump_stops_kind, changes_kind, untold_kind, any_ends, caught_kind, received_kind}
@@ -159,24 +161,24 @@ tables_are : {S O I : Type 0} (p q : S) (a b : Rows O I) → p ≡ q → a ≡ b
 tables_are p q a b e f = cc
 
 module _ {W N O I S : Type 0} (K : Known S O I N) where
-  pub stands_fits : (pipes : S) (s : Option (SockCore AnySock W N O I)) → Stands K pipes s → FitsPipes K peer_places pipes s
-  stands_fits pipes None stands = absurd stands
-  stands_fits pipes (Some s) stands = stands.fits
+  -- the socket that is there stands
+  pub there : (p : S) (o : Option (SockCore AnySock W N O I)) (s : SockCore AnySock W N O I) → o ≡ Some s → Stands K p o → IsStanding K p s
+  there p o s is h = subst (λ (x : Option (SockCore AnySock W N O I)). Stands K p x) is h
 
-  pub stands_lent : (before p : S) (o : Option (SockCore AnySock W N O I)) (s : SockCore AnySock W N O I) → p ≡ before → o ≡ Some s → Stands K before o → IsStanding K p s
-  stands_lent before p o s ep eo h = subst (λ (x : S). IsStanding K x s) (sym ep) (subst (λ (x : Option (SockCore AnySock W N O I)). Stands K before x) eo h)
+  -- a relation of what stood there is one of the socket that was there
+  pub came : (R : S → Option (SockCore AnySock W N O I) → S → Option (SockCore AnySock W N O I) → Type 0) (p q : S) (o : Option (SockCore AnySock W N O I)) (s t : SockCore AnySock W N O I)
+      → o ≡ Some s → R p (Some s) q (Some t) → R p o q (Some t)
+  came R p q o s t is h = subst (λ (x : Option (SockCore AnySock W N O I)). R p x q (Some t)) (sym is) h
 
-  pub stands_back : (now q : S) (o : Option (SockCore AnySock W N O I)) (t : SockCore AnySock W N O I) → now ≡ q → o ≡ Some t → IsStanding K q t → Stands K now o
-  stands_back now q o t eq eo h = subst (λ (x : S). Stands K x o) (sym eq) (subst (λ (x : Option (SockCore AnySock W N O I)). Stands K q x) (sym eo) h)
+  pub steady_of : (p : S) (s : SockCore AnySock W N O I) → FitsCore K peer_places p s → IsSteady K peer_places p s
+  steady_of p s h = record { sound = h.sound; peers_are = h.peers_are; room = h.room; gone = h.gone; stopped_is = h.stopped_is; flagged = h.flagged; in_use = h.in_use; settled_are = h.settled_are; sealed_are = h.sealed_are }
 
-  pub keeps_back : (old new : Option (SockCore AnySock W N O I)) (s t : SockCore AnySock W N O I) → old ≡ Some s → new ≡ Some t → KeepsAllElse s t → KeepsSocket old new
-  keeps_back old new s t eo en h = subst (λ (x : Option (SockCore AnySock W N O I)). KeepsSocket x new) (sym eo) (subst (λ (x : Option (SockCore AnySock W N O I)). KeepsSocket (Some s) x) (sym en) h)
+  pub fits_of : (p : S) (s : SockCore AnySock W N O I) → IsSteady K peer_places p s → FitsCore K peer_places p s
+  fits_of p s h = record { sound = h.sound; peers_are = h.peers_are; room = h.room; gone = h.gone; stopped_is = h.stopped_is; flagged = h.flagged; in_use = h.in_use; settled_are = h.settled_are; sealed_are = h.sealed_are }
 
-  -- a relation of a socket that was moved and its pipes is one of the socket that is there
-  pub came : (R : S → Option (SockCore AnySock W N O I) → S → Option (SockCore AnySock W N O I) → Type 0) (before p now q : S) (old new : Option (SockCore AnySock W N O I)) (s t : SockCore AnySock W N O I)
-      → p ≡ before → old ≡ Some s → now ≡ q → new ≡ Some t → R p (Some s) q (Some t) → R before old now new
-  came R before p now q old new s t ep eo eq en h =
-      subst (λ (x : S). R x old now new) ep (subst (λ (x : Option (SockCore AnySock W N O I)). R p x now new) (sym eo) (subst (λ (x : S). R p (Some s) x new) (sym eq) (subst (λ (x : Option (SockCore AnySock W N O I)). R p (Some s) q x) (sym en) h)))
+  -- its ends may be lent for a call on messages
+  pub may_lend : (p : S) (o : Option (SockCore AnySock W N O I)) (s : SockCore AnySock W N O I) → o ≡ Some s → Stands K p o → mail.IsWhole K (lent_in p s)
+  may_lend p o s is h = let stands = there p o s is h in whole_so K p s (steady_of p s stands.fits) stands.is_open
 
   module _ (slot : ℕ) (p q : S) (s t : SockCore AnySock W N O I) (stands : IsStanding K p s) (keeps : KeepsElse s t) where
     test_so : IsTest (can_write (open_view slot (Some s))) s.ends.places.items
@@ -197,7 +199,7 @@ module _ {W N O I S : Type 0} (K : Known S O I N) where
     view_so : (x : Pattern) → pattern_told t ≡ x → open_view slot (Some t) ≡ record (open_view slot (Some s)) { pattern = x }
     view_so x is = opens_are t.number.0 s.number.0 slot t.stopped s.stopped (pattern_told t) x _ _ (ap (λ n. n.0) keeps.number) keeps.stopped is ends_so
 
-    pub still_stands : FitsCore K peer_places q t → IsStanding K q t
+    still_stands : FitsCore K peer_places q t → IsStanding K q t
     still_stands fits = record {
       fits = fits;
       is_open = keeps.is_open ∙ stands.is_open;
@@ -361,3 +363,7 @@ module _ {W N O I S : Type 0} (K : Known S O I N) where
 
     pub unchanged_so : ChangeUndoneHere (lent_in p s) (lent_in q t) → MakesSome K p (Some s) q (Some t)
     unchanged_so h = record { steps = []; makes = record { does = tables_are q p t.ends.rows.items s.ends.rows.items h.stays.pipes_stay h.stays.rows_stay; unsealing = refl } }
+
+  -- a socket stands behind a call on messages
+  pub mailed_stands : (p q : S) (s t : SockCore AnySock W N O I) → IsStanding K p s → mail.IsWhole K (lent_in q t) → KeepsRest s t → IsStanding K q t
+  mailed_stands p q s t stands whole rest = still_stands 0 p q s t stands (keeps_else s t rest) (fits_of q t (mailed_so s t rest K p q whole (steady_of p s stands.fits)))

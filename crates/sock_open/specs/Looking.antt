@@ -1,5 +1,5 @@
 -- A look of a socket at the front of the pipe that one of its ends reads (own choice, after libzmq's `pipe_t::check_read`).
-use Rattle.std.specs.Prelude.{◌≡◌, Bool, true, List, [], ◌∷◌, Option, Some, None}
+use Rattle.std.specs.Prelude.{◌≡◌, true, List, [], ◌∷◌, Option, Some, None}
 use Rattle.zq_base.specs.declared.ids.EndId.{EndId}
 use Rattle.spec_pattern.specs.PipeStep.{read_through}
 use Rattle.msg_pipe.specs.Known.{Known}

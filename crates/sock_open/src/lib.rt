@@ -2,7 +2,6 @@
 //! reads on.
 #![tactic(auto)]
 
-mod lending;
 mod looks;
 mod mails;
 

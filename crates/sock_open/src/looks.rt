@@ -4,11 +4,11 @@ ghost use Rattle.sock_open.specs.View.{open_view};
 ghost use Rattle.sock_open.specs.Standing.{Stands, IsWhole};
 ghost use Rattle.sock_open.specs.Looking.{HasWhole, LooksSo};
 
-use crate::lending::{give_back, lend};
 use any_sock::AnySock;
 use held_ends::HeldPipes;
 use msg_pipe::Front;
 use sock_core::SockCore;
+use sock_mail::look_in;
 use std::alloc::Global;
 use zq_base::EndId;
 
@@ -31,8 +31,9 @@ where
     ensures stands { Stands P.known pipes.new socket.new }
     ensures others { LeavesOthers P.known socket.old socket.new pipes.old pipes.new }
 {
-    let mut holder = lend(alloc, pipes, socket);
-    let found = sock_mail::look(&mut holder, end);
-    give_back(holder, pipes, socket);
-    found
+    let _unasked = alloc;
+    match socket {
+        Some(core) => return look_in(&mut core.ends, pipes, end),
+        None => unreachable!(),
+    }
 }

@@ -8,11 +8,11 @@ ghost use Rattle.sock_calls.specs.Calls.{LeavesOthers};
 ghost use Rattle.sock_open.specs.Standing.{Stands, IsWhole, KeepsSocket};
 ghost use Rattle.sock_open.specs.Doing.{MakesSome, PumpsOpen, SendsSo, ReceivesSo, ChangesSo};
 
-use crate::lending::{give_back, lend};
 use any_sock::{AnySock, ChangeFault};
 use held_ends::HeldPipes;
 use pub_sub::XSendFault;
 use sock_core::SockCore;
+use sock_mail::{pump_core, recv_core, send_core, subscribe_core, unsubscribe_core};
 use spec_pattern::{RecvFault, Sent, Skip};
 use std::alloc::{AllocError, Global};
 use zq_base::{Message, PairId};
@@ -37,10 +37,10 @@ where
     ensures others { LeavesOthers P.known socket.old socket.new pipes.old pipes.new }
     ensures keeps { KeepsSocket socket.old socket.new }
 {
-    let mut holder = lend(alloc, pipes, socket);
-    let done = sock_mail::pump(&mut holder, alloc);
-    give_back(holder, pipes, socket);
-    done
+    match socket {
+        Some(core) => return pump_core(core, alloc, pipes),
+        None => unreachable!(),
+    }
 }
 
 /// Sends by the rule of the socket's kind (zmq_msg_send(3)). A message that is refused, or for which
@@ -67,10 +67,10 @@ where
     ensures others { LeavesOthers P.known socket.old socket.new pipes.old pipes.new }
     ensures keeps { KeepsSocket socket.old socket.new }
 {
-    let mut holder = lend(alloc, pipes, socket);
-    let done = sock_mail::send(&mut holder, alloc, message);
-    give_back(holder, pipes, socket);
-    done
+    match socket {
+        Some(core) => return send_core(core, alloc, pipes, message),
+        None => unreachable!(),
+    }
 }
 
 /// Receives by the rule of the socket's kind (zmq_msg_recv(3)); the messages that it drops are told
@@ -95,10 +95,10 @@ where
     ensures others { LeavesOthers P.known socket.old socket.new pipes.old pipes.new }
     ensures keeps { KeepsSocket socket.old socket.new }
 {
-    let mut holder = lend(alloc, pipes, socket);
-    let done = sock_mail::recv(&mut holder, alloc, told);
-    give_back(holder, pipes, socket);
-    done
+    match socket {
+        Some(core) => return recv_core(core, alloc, pipes, told),
+        None => unreachable!(),
+    }
 }
 
 /// Subscribes once more to the topic, of at most 16,777,215 octets, and tells the peers
@@ -125,10 +125,10 @@ where
     ensures others { LeavesOthers P.known socket.old socket.new pipes.old pipes.new }
     ensures keeps { KeepsSocket socket.old socket.new }
 {
-    let mut holder = lend(alloc, pipes, socket);
-    let done = sock_mail::subscribe(&mut holder, alloc, topic);
-    give_back(holder, pipes, socket);
-    done
+    match socket {
+        Some(core) => return subscribe_core(core, alloc, pipes, topic),
+        None => unreachable!(),
+    }
 }
 
 /// Cancels one subscription to the topic, and tells the peers (zmq_setsockopt(3),
@@ -155,8 +155,8 @@ where
     ensures others { LeavesOthers P.known socket.old socket.new pipes.old pipes.new }
     ensures keeps { KeepsSocket socket.old socket.new }
 {
-    let mut holder = lend(alloc, pipes, socket);
-    let done = sock_mail::unsubscribe(&mut holder, alloc, topic);
-    give_back(holder, pipes, socket);
-    done
+    match socket {
+        Some(core) => return unsubscribe_core(core, alloc, pipes, topic),
+        None => unreachable!(),
+    }
 }

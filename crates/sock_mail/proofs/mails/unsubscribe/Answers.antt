@@ -1,31 +1,29 @@
-use Rattle.std.proofs.Common.{List, refl, sym, subst}
-use Rattle.held_ends.specs.declared.table.Place.{Place}
-use Rattle.sock_core.proofs.FormLemmas.{sound_of, are_sound}
-use Rattle.ends.specs.Rows.{table}
-use Rattle.held_ends.proofs.CallLemmas.{calls_leave}
-use Rattle.sock_mail.specs.Lent.{lent, IsWhole, MakesSome}
+use Rattle.any_sock.specs.Over.{peer_places}
+use Rattle.sock_mail.proofs.SteadyLemmas.{IsSteady, whole_so, mailed_so, keeps_else}
 use Rattle.sock_mail.proofs.mails.unsubscribe.Goals as goal
 
-pub unsubscribe_over-requires : goal.unsubscribe_over-requires
-unsubscribe_over-requires g c =
-    let w : IsWhole g.P.Pipes.known (lent c.args.holder.now.pipes c.args.holder.now.core.ends.rows.items c.deref.result.now c.args.holder.now.core.kind) = subst (λ (l : List (Place _ _)). IsWhole g.P.Pipes.known (lent c.args.holder.now.pipes c.args.holder.now.core.ends.rows.items l c.args.holder.now.core.kind)) (sym c.deref.ensures.value)
-    (record { sound = sound_of g.P.Pipes.known c.args.holder.now.pipes c.args.holder.now.core.ends.rows.items c.args.holder.now.core.ends.places.items c.args.holder.now.sound; peers = c.args.holder.now.peers c.requires.open; flagged = c.args.holder.now.flagged }) in
+pub unsubscribe_core-requires : goal.unsubscribe_core-requires
+unsubscribe_core-requires g c =
+    let s = c.args.holder.now in
+    let h : IsSteady g.P.Pipes.known peer_places s.pipes s.core = record { sound = s.sound; peers_are = s.peers; room = s.room; gone = s.gone; stopped_is = s.stopped; flagged = s.flagged; in_use = s.in_use; settled_are = s.settled_are; sealed_are = s.sealed_are } in
+    let w = whole_so g.P.Pipes.known s.pipes s.core h c.requires.open in
     record { whole = w }
 
 pub invariant_of-holder : goal.invariant_of-holder
 invariant_of-holder g c =
-    let w : IsWhole g.P.Pipes.known (lent c.unsubscribe_over.new.pipes c.unsubscribe_over.new.rows.items c.args.holder.now.core.ends.places.items c.unsubscribe_over.new.kind) =
-    subst (λ (l : List (Place _ _)). IsWhole g.P.Pipes.known (lent c.unsubscribe_over.new.pipes c.unsubscribe_over.new.rows.items l c.unsubscribe_over.new.kind)) c.deref.ensures.value c.unsubscribe_over.ensures.whole in
+    let s = c.args.holder.now in
+    let h : IsSteady g.P.Pipes.known peer_places s.pipes s.core = record { sound = s.sound; peers_are = s.peers; room = s.room; gone = s.gone; stopped_is = s.stopped; flagged = s.flagged; in_use = s.in_use; settled_are = s.settled_are; sealed_are = s.sealed_are } in
+    let n = mailed_so s.core c.unsubscribe_core.new.core c.unsubscribe_core.ensures.keeps g.P.Pipes.known s.pipes c.unsubscribe_core.new.pipes c.unsubscribe_core.ensures.whole h in
     record {
-      sound = are_sound g.P.Pipes.known c.unsubscribe_over.new.pipes c.unsubscribe_over.new.rows.items c.args.holder.now.core.ends.places.items w.sound;
-      peers = λ is. w.peers;
-      room = c.args.holder.now.room;
-      gone = c.args.holder.now.gone;
-      stopped = c.args.holder.now.stopped;
-      flagged = w.flagged;
-      in_use = c.args.holder.now.in_use;
-      settled_are = c.args.holder.now.settled_are;
-      sealed_are = c.args.holder.now.sealed_are;
+      sound = n.sound;
+      peers = n.peers_are;
+      room = n.room;
+      gone = n.gone;
+      stopped = n.stopped_is;
+      flagged = n.flagged;
+      in_use = n.in_use;
+      settled_are = n.settled_are;
+      sealed_are = n.sealed_are;
       others = λ s t b. absurd b;
       number = λ s t b. absurd b;
       done = λ s t b. absurd b;
@@ -35,12 +33,5 @@ invariant_of-holder g c =
       rest = λ s t b. absurd b;
     }
 
-pub returns-clause-others : goal.returns-clause-others
-returns-clause-others g c =
-    let K = g.P.Pipes.known in
-    let s = c.args.holder.now in
-    let t = s.core.ends in
-    let made : MakesSome K (lent s.pipes t.rows.items t.places.items s.core.kind) (lent c.unsubscribe_over.new.pipes c.unsubscribe_over.new.rows.items t.places.items c.unsubscribe_over.new.kind) =
-    subst (λ (l : List (Place _ _)). MakesSome K (lent s.pipes t.rows.items l s.core.kind) (lent c.unsubscribe_over.new.pipes c.unsubscribe_over.new.rows.items l c.unsubscribe_over.new.kind)) c.deref.ensures.value c.unsubscribe_over.ensures.made in
-    calls_leave K made.steps (table s.pipes t.rows.items) (table c.unsubscribe_over.new.pipes c.unsubscribe_over.new.rows.items) t _ made.makes.does made.makes.unsealing
-    (sound_of K s.pipes t.rows.items t.places.items s.sound) refl refl
+pub returns-clause-keeps : goal.returns-clause-keeps
+returns-clause-keeps g c = keeps_else c.args.holder.now.core c.unsubscribe_core.new.core c.unsubscribe_core.ensures.keeps
