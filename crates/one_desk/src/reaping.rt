@@ -1,4 +1,4 @@
-ghost use Rattle.std.specs.Prelude.{◌≡◌, ◌≢◌, ◌<◌, ℕ, All, find, filter, length, [], true, IfSome, IfNone, IfOk, IsOk, OnOk, OnErr};
+ghost use Rattle.std.specs.Prelude.{◌≡◌, ◌≢◌, ◌<◌, ℕ, All, find, filter, length, option_map, slice_index_or, [], true, IfSome, IfNone, IfOk, IsOk, OnOk, OnErr};
 ghost use Rattle.zq_base.specs.declared.ids.EndId.{EndId};
 ghost use Rattle.spec_control.specs.declared.entry.SeenEmpty.TheVariants.{Reapers};
 ghost use Rattle.spec_control.specs.ControlRun.{AreEmpty};
@@ -32,49 +32,35 @@ where
         < (control_of history.now).slots }
     ensures { result ≡ waits (control_of history.now) socket }
 {
-    if !history.is_taken_over(socket) {
+    let slot = history.slot(socket);
+    if history.is_empty(slot) {
         return false;
     }
-    let slot = history.slot(socket);
-    !history.is_empty(slot)
+    history.is_taken_over(socket)
 }
 
-// The first of these closed sockets for which a command waits.
-fn first_of<P: Pipes>(history: &History<P>, closed: &[ObjId]) -> Option<ObjId>
+// Where the first of these closed sockets stands for which a command waits.
+fn first_of<P: Pipes>(history: &History<P>, closed: &[ObjId]) -> Option<usize>
 where
     P::Name: Drop,
     requires there { All (λ o. (obj (control_of history.now).rows o.0).slot
         < (control_of history.now).slots) closed.now }
-    ensures { result ≡ find (waits (control_of history.now)) closed.now }
+    ensures there { IfSome result (λ place. place < length closed.now) }
+    ensures first { option_map (λ place. slice_index_or closed.now place (record { 0 = 0 })) result
+        ≡ find (waits (control_of history.now)) closed.now }
 {
     let many = closed.len();
     'each: for place in 0..many {
         let socket = closed[place];
         if is_waiting(history, socket) {
-            return Some(socket);
-        }
-    }
-    None
-}
-
-// Where the closed socket of a mailbox stands.
-fn place_of<P: Pipes>(history: &History<P>, closed: &[ObjId], slot: SlotId) -> Option<usize>
-where
-    P::Name: Drop,
-    ensures { IfSome result (λ place. place < length closed.now) }
-{
-    let many = closed.len();
-    'each: for place in 0..many {
-        let its = history.slot(closed[place]);
-        if its.0 == slot.0 {
             return Some(place);
         }
     }
     None
 }
 
-// Of closed sockets that of a mailbox goes, if it has ended.
-fn forget<P: Pipes>(history: &History<P>, closed: &mut RoomList<ObjId>, slot: SlotId)
+// Of closed sockets the one that stands there goes, if it has ended.
+fn forget<P: Pipes>(history: &History<P>, closed: &mut RoomList<ObjId>, place: usize)
 where
     P::Name: Drop,
     ensures living { filter (lives (control_of history.now)) closed.new.items
@@ -83,7 +69,7 @@ where
         All (λ o. o.0 < n) closed.new.items }
     ensures spare { closed.new.spare ≡ closed.old.spare }
 {
-    if let Some(place) = place_of(history, closed.as_slice(), slot) {
+    if place < closed.as_slice().len() {
         let socket = closed.as_slice()[place];
         if history.has_ended(socket) {
             closed.remove(place);
@@ -96,24 +82,29 @@ where
     P::Name: Drop,
     P::Waker: Drop,
 {
-    // Of the closed sockets that are kept for the reaper that of a mailbox goes, if it has ended.
-    pub(crate) fn forget_ended(&mut self, slot: SlotId)
+    // Of the closed sockets that are kept for the reaper the one at the place goes, if it has ended.
+    pub(crate) fn forget_ended(&mut self, place: Option<usize>)
         ensures { self.new ≡ self.old }
     {
-        forget(&self.history, &mut self.closed, slot);
+        if let Some(place) = place {
+            forget(&self.history, &mut self.closed, place);
+        }
     }
 
     // The first of the reaper's mailboxes in which a command waits: the root's, or that of a closed
-    // socket. It costs a look at each that is kept.
-    pub(crate) fn first_slot(&self) -> Option<SlotId>
-        ensures some { IfSome result (λ slot. WaitsFirst slot self.now) }
+    // socket with the socket's place among those that are kept. It costs a look at each up to there.
+    pub(crate) fn first_slot(&self) -> Option<(SlotId, Option<usize>)>
+        ensures some { IfSome result (λ found. WaitsFirst found.0 self.now) }
         ensures none { IfNone result (AreEmpty (control_of self.now.past) Reapers) }
     {
         if !self.history.is_empty(SlotId(0)) {
-            return Some(SlotId(0));
+            return Some((SlotId(0), None));
         }
         match first_of(&self.history, self.closed.as_slice()) {
-            Some(socket) => return Some(self.history.slot(socket)),
+            Some(place) => {
+                let socket = self.closed.as_slice()[place];
+                return Some((self.history.slot(socket), Some(place)));
+            }
             None => return None,
         }
     }
@@ -219,8 +210,8 @@ where
     /// Processes the oldest command of the first of the reaper's mailboxes that is not empty, in the
     /// order of the root's and those of the closed sockets, or finds all of them empty. The reaper's
     /// holder takes in the ends of closed sockets. Want of memory leaves the command where it was;
-    /// only a bind takes any. It costs two looks at each closed socket that has not ended, up to the
-    /// first for which a command waits.
+    /// only a bind takes any. It costs a look at each closed socket that has not ended, up to the
+    /// first for which a command waits, and a move of each behind it if that ends.
     pub fn deliver_first<H: Holder<P>>(
         &mut self,
         alloc: Global,
@@ -248,9 +239,9 @@ where
             (H.holding holder.old) (H.holding holder.new) }
     {
         match self.first_slot() {
-            Some(slot) => {
+            Some((slot, place)) => {
                 self.hear_first(alloc, slot, holder)?;
-                self.forget_ended(slot);
+                self.forget_ended(place);
                 return Ok(Delivery::Done);
             }
             None => {

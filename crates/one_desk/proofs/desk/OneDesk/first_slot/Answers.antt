@@ -1,4 +1,4 @@
-use Rattle.std.specs.Prelude.{◌<◌, List, All, find, length, map}
+use Rattle.std.specs.Prelude.{◌<◌, List, Some, All, find, length, map, slice_index_or}
 use Rattle.std.proofs.Common.{sym, ap, ◌∙◌, subst}
 use Rattle.zq_base.specs.declared.ids.ObjId.{ObjId}
 use Rattle.spec_control.specs.Rows.{obj}
@@ -25,10 +25,12 @@ returns-then-not-is_empty-clause-some g c =
 
 pub returns-in-Some-clause-some : goal.returns-in-Some-clause-some
 returns-in-Some-clause-some g c =
-    closed_first (map (λ x. x.0) c.self.inside.order.items) c.self.inside.history (length c.self.inside.wakers.items) c.self.inside.caller c.args.self.now c.self.view_is c.self.invariant.0 c.self.inside.closed c.self.invariant.1 (c.is_empty.ensures.0 c.if-not-is_empty.false) c.in-Some.socket c.slot.result
-    (ap (λ (os : List ObjId). find (waits (control_of c.self.inside.history)) os) (sym c.as_slice.ensures) ∙ sym c.first_of.ensures ∙ c.in-Some.is) c.slot.ensures
+    closed_first (map (λ x. x.0) c.self.inside.order.items) c.self.inside.history (length c.self.inside.wakers.items) c.self.inside.caller c.args.self.now c.self.view_is c.self.invariant.0 c.self.inside.closed c.self.invariant.1 (c.is_empty.ensures.0 c.if-not-is_empty.false) _ c.slot.result
+    (ap (λ (os : List ObjId). find (waits (control_of c.self.inside.history)) os) (sym c.as_slice.ensures)
+    ∙ sym c.in-Some.ensures.first
+    ∙ ap (λ (os : List ObjId). Some (slice_index_or os c.in-Some.place (record { 0 = 0 }))) (c.as_slice.ensures ∙ sym c.as_slice-in-Some.ensures)) c.slot.ensures
 
 pub returns-in-None-clause-none : goal.returns-in-None-clause-none
 returns-in-None-clause-none g c =
     none_first (map (λ x. x.0) c.self.inside.order.items) c.self.inside.history (length c.self.inside.wakers.items) c.self.inside.caller c.args.self.now c.self.view_is c.self.invariant.0 c.self.inside.closed c.self.invariant.1 (c.is_empty.ensures.0 c.if-not-is_empty.false)
-    (ap (λ (os : List ObjId). find (waits (control_of c.self.inside.history)) os) (sym c.as_slice.ensures) ∙ sym c.first_of.ensures ∙ c.in-None.is)
+    (ap (λ (os : List ObjId). find (waits (control_of c.self.inside.history)) os) (sym c.as_slice.ensures) ∙ sym c.in-None.ensures.first)
