@@ -32,7 +32,7 @@ use Rattle.sock_core.proofs.FormLemmas.{are_sound, sound_of}
 use Rattle.sock_open.specs.Standing.{IsStanding}
 use Rattle.reaper_ends.specs.declared.sockets.ClosedSockets.{ClosedSockets}
 use Rattle.reaper_ends.specs.Noted.{first_places, HasDoneTo}
-use Rattle.reap_laws.specs.Calls.{came_since}
+use Rattle.core_others.specs.ReaperCalls.{came_since}
 use Rattle.one_desk.specs.Lent.{coming_to, moments_of, IsOneOrder, Lent}
 use Rattle.desk_laws.proofs.SocketLemmas.{kept_now}
 use Rattle.lent_sock.specs.Owned.{IsOwned}
@@ -40,10 +40,10 @@ use Rattle.core_others.specs.Agrees.{AgreesIn}
 use Rattle.core_others.specs.Calls.{for_caller}
 use Rattle.core_others.proofs.ApartLemmas.{is_out, not_first, other_out}
 use Rattle.core_others.proofs.ReaperLemmas.{asked_stay}
-use Rattle.reap_stands.specs.Coming.{AwayUnsealed, HasOnlyTaken}
-use Rattle.reap_stands.specs.Ends.{ReaperDid, ReaperGoesOn}
+use Rattle.core_others.specs.ReapedComing.{AwayUnsealed, HasOnlyTaken}
+use Rattle.core_others.specs.Ends.{ReaperDid, ReaperGoesOn}
 use Rattle.core_others.specs.Agreeing.{OpenAgreeStill}
-use Rattle.reap_stands.proofs.EndLemmas.{same_names}
+use Rattle.core_others.proofs.EndLemmas.{same_names}
 use Rattle.core_others.proofs.ElseLemmas.{has_else, owned_now, same_moments}
 use Rattle.core_others.proofs.OpenLemmas.{held_for}
 use Rattle.core_others.proofs.ReapedLemmas.{coming_then, not_placed, read_left, reaper_keeps_unsealed, written_left}

@@ -25,11 +25,11 @@ use Rattle.desk_laws.proofs.SocketLemmas.{is_in}
 use Rattle.lent_sock.specs.Owned.{IsOwned}
 use Rattle.core_others.specs.Calls.{for_caller}
 use Rattle.core_others.proofs.SilentLemmas.{one_order_of}
-use Rattle.reap_stands.specs.Coming.{HasOnlyTaken}
-use Rattle.reap_stands.specs.Ends.{ReaperDid}
-use Rattle.reap_stands.proofs.ComingLemmas.{ends_here}
-use Rattle.reap_stands.proofs.LedLemmas.{is_still}
-use Rattle.reap_stands.proofs.HadLemmas.{had_by, sockets_had}
+use Rattle.core_others.specs.ReapedComing.{HasOnlyTaken}
+use Rattle.core_others.specs.Ends.{ReaperDid}
+use Rattle.core_others.proofs.ReapedComingLemmas.{ends_here}
+use Rattle.core_others.proofs.LedLemmas.{is_still}
+use Rattle.core_others.proofs.HadLemmas.{had_by, sockets_had}
 use Rattle.core_others.specs.Agreeing.{OpenHasNone}
 use Rattle.core_others.proofs.ReapedLemmas.{of_one}
 

@@ -28,14 +28,14 @@ use Rattle.reaper_ends.specs.declared.sockets.ClosedSockets.{ClosedSockets}
 use Rattle.reaper_ends.specs.Has.{all_ends, holding_in, is_of, is_socket}
 use Rattle.reaper_ends.specs.Noted.{first_places, HasDoneTo}
 use Rattle.reaper_ends.specs.Sound.{AreSound}
-use Rattle.reap_laws.specs.Calls.{came_since}
+use Rattle.core_others.specs.ReaperCalls.{came_since}
 use Rattle.one_desk.specs.Lent.{moments_of, IsOneOrder, Lent}
 use Rattle.desk_laws.proofs.SocketLemmas.{kept_now}
 use Rattle.core_others.proofs.ApartLemmas.{is_out, not_first, other_out}
-use Rattle.reap_stands.specs.Ends.{ReaperDid, ReaperGoesOn}
-use Rattle.reap_stands.proofs.EndLemmas.{same_names}
-use Rattle.reap_stands.proofs.GrowLemmas.{all_last}
-use Rattle.reap_stands.proofs.HadLemmas.{had_by, had_free, sockets_had}
+use Rattle.core_others.specs.Ends.{ReaperDid, ReaperGoesOn}
+use Rattle.core_others.proofs.EndLemmas.{same_names}
+use Rattle.core_others.proofs.GrowLemmas.{all_last}
+use Rattle.core_others.proofs.HadLemmas.{had_by, had_free, sockets_had}
 use Rattle.core_others.specs.Reaped.{ReaperKeepsGiven}
 use Rattle.core_others.proofs.ReapedLemmas.{not_placed, of_one, read_left, written_left}
 use Rattle.core_others.proofs.ThereLemmas.{reaper_keeps_names}

@@ -38,8 +38,8 @@ use Rattle.reaper_ends.specs.Has.{holding_in}
 use Rattle.one_desk.specs.Lent.{moments_of, GrowsBy, IsOneOrder, Lent}
 use Rattle.desk_laws.proofs.LastLemmas.{grown}
 use Rattle.core_others.proofs.GrownLemmas.{kept_found, led_more, run_more}
-use Rattle.reap_stands.specs.Coming.{HasTaken}
-use Rattle.reap_stands.specs.Ends.{ReaperDid}
+use Rattle.core_others.specs.ReapedComing.{HasTaken}
+use Rattle.core_others.specs.Ends.{ReaperDid}
 use Rattle.core_others.specs.Taken.{ReaperKeepsTaken}
 use Rattle.core_others.proofs.TakenLemmas.{his_back, his_now, reaps_at, IsHis}
 

@@ -32,14 +32,14 @@ use Rattle.reaper_ends.specs.declared.sockets.ClosedSockets.{ClosedSockets}
 use Rattle.reaper_ends.specs.Ending.{LooksAt, LooksOnce}
 use Rattle.reaper_ends.specs.Has.{all_ends, ends_of, holding_in, is_of}
 use Rattle.reaper_ends.proofs.ChangeLemmas.{among}
-use Rattle.reap_laws.proofs.CountLemmas.{reads, socket_there, Reads}
-use Rattle.reap_laws.proofs.HereLemmas.{of_socket}
+use Rattle.core_others.proofs.CountLemmas.{reads, socket_there, Reads}
+use Rattle.core_others.proofs.HereLemmas.{of_socket}
 use Rattle.one_desk.specs.Lent.{coming_to, moments_of, Lent}
 use Rattle.lent_sock.specs.Owned.{IsOwned}
 use Rattle.core_others.specs.Agrees.{AgreesIn}
 use Rattle.core_others.specs.Calls.{for_caller}
-use Rattle.reap_stands.specs.Coming.{AwayUnsealed, HasOnlyTaken}
-use Rattle.reap_stands.proofs.ComingLemmas.{has_now}
+use Rattle.core_others.specs.ReapedComing.{AwayUnsealed, HasOnlyTaken}
+use Rattle.core_others.proofs.ReapedComingLemmas.{has_now}
 use Rattle.core_others.specs.Looked.{LooksKeep, ReaperLooked}
 use Rattle.core_others.proofs.ElseLemmas.{another, none_of_its}
 use Rattle.core_others.proofs.GivenLemmas.{none_among}

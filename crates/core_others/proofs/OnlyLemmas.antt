@@ -43,8 +43,8 @@ use Rattle.one_desk.specs.Lent.{GrowsBy, IsOneOrder, Lent}
 use Rattle.desk_laws.specs.Behind.{is_request, is_requested}
 use Rattle.core_others.proofs.ChainLemmas.{kept_then, there_then}
 use Rattle.core_others.proofs.GrownLemmas.{kept_found, led_more, run_more}
-use Rattle.reap_stands.specs.Call.{IsReapersCall}
-use Rattle.reap_stands.specs.Coming.{HasOnlyTaken}
+use Rattle.core_others.specs.ReapedCall.{IsReapersCall}
+use Rattle.core_others.specs.ReapedComing.{HasOnlyTaken}
 use Rattle.core_others.specs.Taken.{KeepsOnlyTaken}
 use Rattle.core_others.proofs.RowLemmas.{sockets_are_plugged}
 use Rattle.core_others.proofs.SocketsLemmas.{only_sockets}

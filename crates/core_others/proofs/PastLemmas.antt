@@ -32,15 +32,15 @@ use Rattle.past_laws.specs.Settled.{PipesAreSettled}
 use Rattle.past_laws.proofs.OfPipesLemmas.{here_not_gone}
 use Rattle.reaper_ends.specs.declared.sockets.ClosedSockets.{ClosedSockets}
 use Rattle.reaper_ends.specs.Has.{all_ends, holding_in}
-use Rattle.reap_laws.specs.Looks.{ReaperLooksGoOn}
+use Rattle.core_others.specs.Looks.{ReaperLooksGoOn}
 use Rattle.one_desk.specs.Lent.{IsOneOrder, Lent}
 use Rattle.desk_laws.proofs.SocketLemmas.{is_in}
 use Rattle.core_others.specs.Calls.{for_caller}
 use Rattle.core_others.proofs.SilentLemmas.{one_order_of}
-use Rattle.reap_stands.specs.Call.{IsReapersCall}
-use Rattle.reap_stands.specs.Coming.{HasOnlyTaken}
-use Rattle.reap_stands.proofs.HadLemmas.{had_by, sockets_had}
-use Rattle.reap_stands.proofs.LedLemmas.{is_still, IsStill}
+use Rattle.core_others.specs.ReapedCall.{IsReapersCall}
+use Rattle.core_others.specs.ReapedComing.{HasOnlyTaken}
+use Rattle.core_others.proofs.HadLemmas.{had_by, sockets_had}
+use Rattle.core_others.proofs.LedLemmas.{is_still, IsStill}
 use Rattle.core_others.specs.Looked.{LooksAreShut, LooksStand, ReaperLooked}
 use Rattle.core_others.proofs.LookLemmas.{at_end, is_among, looked}
 use Rattle.core_others.proofs.OnlyLemmas.{still_used}

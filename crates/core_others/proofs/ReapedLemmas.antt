@@ -34,21 +34,21 @@ use Rattle.sock_core.proofs.FindLemmas.{same_end}
 use Rattle.reaper_ends.specs.declared.sockets.ClosedSockets.{ClosedSockets}
 use Rattle.reaper_ends.specs.Has.{all_ends, holding_in, is_of}
 use Rattle.reaper_ends.specs.Noted.{first_places, HasDoneTo, StoodFirst}
-use Rattle.reap_laws.specs.Calls.{came_since}
-use Rattle.reap_laws.specs.Moves.{EndsGoOn}
-use Rattle.reap_laws.proofs.CallLemmas.{behind as dropped_behind}
-use Rattle.reap_laws.proofs.GoLemmas.{split_at}
-use Rattle.reap_laws.proofs.MoveLemmas.{is_gone, its}
+use Rattle.core_others.specs.ReaperCalls.{came_since}
+use Rattle.core_others.specs.Moves.{EndsGoOn}
+use Rattle.core_others.proofs.ReaperCallLemmas.{behind as dropped_behind}
+use Rattle.core_others.proofs.GoLemmas.{split_at}
+use Rattle.core_others.proofs.MoveLemmas.{is_gone, its}
 use Rattle.one_desk.specs.Lent.{coming_to, moments_of, GrowsBy, IsOneOrder, Lent}
 use Rattle.desk_laws.specs.Behind.{is_request, IsOneCall}
 use Rattle.desk_laws.proofs.LastLemmas.{grown}
 use Rattle.desk_laws.proofs.SendLemmas.{requests_alone_send}
 use Rattle.desk_laws.proofs.SocketLemmas.{kept_now}
 use Rattle.core_others.proofs.ApartLemmas.{is_out, not_second, other_out}
-use Rattle.reap_stands.specs.Coming.{AwayUnsealed}
-use Rattle.reap_stands.specs.Ends.{ReaperDid, ReaperGoesOn}
-use Rattle.reap_stands.proofs.ComingLemmas.{ends_here, here_not_away}
-use Rattle.reap_stands.proofs.GrowLemmas.{leads_to}
+use Rattle.core_others.specs.ReapedComing.{AwayUnsealed}
+use Rattle.core_others.specs.Ends.{ReaperDid, ReaperGoesOn}
+use Rattle.core_others.proofs.ReapedComingLemmas.{ends_here, here_not_away}
+use Rattle.core_others.proofs.GrowLemmas.{leads_to}
 use Rattle.core_others.specs.Reaped.{ReaperKeepsUnsealed}
 
 -- ---- changes leave a pipe that no end writes which stood, and that none read which is held no more

@@ -58,8 +58,8 @@ use Rattle.core_others.proofs.ChainLemmas.{IsOwn, kept_then, own_then}
 use Rattle.core_others.proofs.GrownLemmas.{found_by, kept_found, led_more, run_more}
 use Rattle.core_others.proofs.OwnedLemmas.{has_still}
 use Rattle.core_others.proofs.SilentLemmas.{one_order_of, own_say_same}
-use Rattle.reap_laws.specs.Here.{AreHere}
-use Rattle.reap_laws.proofs.HereLemmas.{reaper_ends_are_here}
+use Rattle.core_others.specs.Here.{AreHere}
+use Rattle.core_others.proofs.HereLemmas.{reaper_ends_are_here}
 use Rattle.core_others.specs.Reaper.{AskedStay, ElseBehind, ElseStay, IsEndElse, IsNamedEnd, ReapersKeep}
 
 none_some : {X : Type 0} {x : X} → None ≡ Some x → ⊥

@@ -38,7 +38,7 @@ use Rattle.one_desk.specs.Lent.{GrowsBy, IsOneOrder, Lent}
 use Rattle.desk_laws.proofs.SocketLemmas.{is_in}
 use Rattle.core_others.proofs.ChainLemmas.{kept_then}
 use Rattle.core_others.proofs.GrownLemmas.{calls_on, kept_found, led_more, run_more}
-use Rattle.reap_stands.specs.Coming.{HasTaken}
+use Rattle.core_others.specs.ReapedComing.{HasTaken}
 use Rattle.core_others.specs.Asides.{IsOneItem}
 use Rattle.core_others.specs.Taken.{KeepsTaken, hears_none, hears_none_in}
 use Rattle.core_others.proofs.RowLemmas.{is_taken, taken_back}

@@ -12,9 +12,9 @@ use Rattle.name_laws.specs.Names.{NamesStand}
 use Rattle.name_laws.proofs.NameLemmas.{names_stay, stays_all}
 use Rattle.reaper_ends.specs.declared.sockets.ClosedSockets.{ClosedSockets}
 use Rattle.one_desk.specs.Lent.{Lent}
-use Rattle.reap_stands.specs.Ends.{ReaperDid}
-use Rattle.reap_stands.proofs.EndLemmas.{same_names}
-use Rattle.reap_stands.proofs.LedLemmas.{same_pairs}
+use Rattle.core_others.specs.Ends.{ReaperDid}
+use Rattle.core_others.proofs.EndLemmas.{same_names}
+use Rattle.core_others.proofs.LedLemmas.{same_pairs}
 use Rattle.core_others.specs.Reaped.{ReaperKeepsNames, ReaperLeavesThere}
 
 pub reaper_leaves_there : {S O I N : Type 0} (K : Known S O I N) (T : Type 0) → ReaperLeavesThere K T

@@ -29,7 +29,7 @@ use Rattle.core_others.specs.Calls.{AreCallsOn}
 use Rattle.core_others.specs.Rest.{LeavesRest}
 use Rattle.core_others.proofs.ApartLemmas.{is_out, not_second, other_out}
 use Rattle.core_others.proofs.ComingLemmas.{named, was_away}
-use Rattle.reap_stands.specs.Coming.{AwayUnsealed}
+use Rattle.core_others.specs.ReapedComing.{AwayUnsealed}
 use Rattle.core_others.specs.Asides.{IsOneAside, IsOneItem}
 use Rattle.core_others.specs.Unsealed.{KeepsUnsealed}
 

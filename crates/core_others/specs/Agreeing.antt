@@ -16,11 +16,11 @@ use Rattle.sock_core.specs.declared.sock.SockCore.{SockCore}
 use Rattle.reaper_ends.specs.declared.sockets.ClosedSockets.{ClosedSockets}
 use Rattle.reaper_ends.specs.Has.{all_ends, is_of}
 use Rattle.reaper_ends.specs.Noted.{first_places}
-use Rattle.reap_laws.specs.Calls.{came_since}
+use Rattle.core_others.specs.ReaperCalls.{came_since}
 use Rattle.one_desk.specs.Lent.{Lent}
 use Rattle.core_others.specs.Agrees.{AgreesIn}
-use Rattle.reap_stands.specs.Coming.{AwayUnsealed, HasOnlyTaken}
-use Rattle.reap_stands.specs.Ends.{ReaperDid, ReaperGoesOn}
+use Rattle.core_others.specs.ReapedComing.{AwayUnsealed, HasOnlyTaken}
+use Rattle.core_others.specs.Ends.{ReaperDid, ReaperGoesOn}
 
 -- where the ends go on; what is on its way is unsealed, and each pipe that has a name has one of its own
 abbrev pub OpenAgreeStill : (W T : Type 0) → {S O I N : Type 0} → Known S O I N → Type 0

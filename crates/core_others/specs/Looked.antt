@@ -23,8 +23,8 @@ use Rattle.reaper_ends.specs.Has.{holding_in}
 use Rattle.reaper_ends.specs.Sound.{AreSound}
 use Rattle.one_desk.specs.Lent.{moments_of, IsOneOrder, Lent}
 use Rattle.core_others.specs.Agrees.{AgreesIn}
-use Rattle.reap_stands.specs.Call.{IsReapersCall}
-use Rattle.reap_stands.specs.Coming.{AwayUnsealed, HasOnlyTaken}
+use Rattle.core_others.specs.ReapedCall.{IsReapersCall}
+use Rattle.core_others.specs.ReapedComing.{AwayUnsealed, HasOnlyTaken}
 
 module _ {S O I N T : Type 0} (K : Known S O I N) where
   -- whoever has of closed sockets what its moments say looked at the front of the pipe that an end of one reads; each pipe that has a name has one of its own

@@ -11,8 +11,8 @@ use Rattle.held_ends.specs.declared.changes.PipeChange.{PipeChange}
 use Rattle.name_laws.specs.Names.{NamesStand}
 use Rattle.reaper_ends.specs.declared.sockets.ClosedSockets.{ClosedSockets}
 use Rattle.one_desk.specs.Lent.{Lent}
-use Rattle.reap_stands.specs.Coming.{AwayUnsealed}
-use Rattle.reap_stands.specs.Ends.{ReaperDid, ReaperGoesOn}
+use Rattle.core_others.specs.ReapedComing.{AwayUnsealed}
+use Rattle.core_others.specs.Ends.{ReaperDid, ReaperGoesOn}
 
 -- where each pipe that has a name has one of its own, it stays unsealed over a call in which the ends go on
 abbrev pub ReaperKeepsUnsealed : {S O I N : Type 0} → Known S O I N → (T : Type 0) → Type 0

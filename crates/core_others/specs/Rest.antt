@@ -12,7 +12,7 @@ use Rattle.sock_open.specs.View.{open_view}
 use Rattle.script_actor.specs.Way.{KeepsOthers}
 use Rattle.one_desk.specs.Lent.{HasSocket, Lent}
 use Rattle.desk_laws.specs.Behind.{IsOneCall, SendsNone}
-use Rattle.call_laws.specs.Call.{IsExact}
+use Rattle.desk_laws.specs.Calling.{IsExact}
 use Rattle.lent_sock.specs.Leaving.{NamesStandIn, TellsRest}
 use Rattle.core_others.specs.Agrees.{AgreesIn}
 use Rattle.core_others.specs.Calls.{AreCallsOn}

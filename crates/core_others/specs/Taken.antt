@@ -16,9 +16,9 @@ use Rattle.reaper_ends.specs.declared.sockets.ClosedSockets.{ClosedSockets}
 use Rattle.reaper_ends.specs.Has.{holding_in}
 use Rattle.one_desk.specs.Lent.{GrowsBy, HasSocket, IsOneOrder, Lent}
 use Rattle.core_others.specs.Calls.{AreCallsOn}
-use Rattle.reap_stands.specs.Call.{IsReapersCall}
-use Rattle.reap_stands.specs.Coming.{HasOnlyTaken, HasTaken}
-use Rattle.reap_stands.specs.Ends.{ReaperDid}
+use Rattle.core_others.specs.ReapedCall.{IsReapersCall}
+use Rattle.core_others.specs.ReapedComing.{HasOnlyTaken, HasTaken}
+use Rattle.core_others.specs.Ends.{ReaperDid}
 use Rattle.core_others.specs.Asides.{IsOneItem}
 
 module _ {N S : Type 0} where

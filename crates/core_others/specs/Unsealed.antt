@@ -5,7 +5,7 @@ use Rattle.msg_pipe.specs.Known.{Known}
 use Rattle.ctl_holder.specs.declared.given.Given.{Given}
 use Rattle.one_desk.specs.Lent.{Lent}
 use Rattle.core_others.specs.Rest.{LeavesRest}
-use Rattle.reap_stands.specs.Coming.{AwayUnsealed}
+use Rattle.core_others.specs.ReapedComing.{AwayUnsealed}
 use Rattle.core_others.specs.Asides.{IsOneAside}
 
 pub record KeepsUnsealed {S O I N : Type 0} (K : Known S O I N) (T : Type 0) : Type 0 where

@@ -1,9 +1,12 @@
 //! What a call on one open socket leaves of a core on one thread: the other open sockets, what stands
-//! of it, and what the reaper has and is on its way to it. And what a call of the reaper leaves.
+//! of it, and what the reaper has and is on its way to it. And what the reaper's calls and looks leave of
+//! the steps past, of closed sockets and of what is on its way to them.
 #![tactic(auto)]
 
 mod asked;
 mod laws;
+mod reaped;
+mod reaper;
 mod reaping;
 mod standing;
 
@@ -13,6 +16,17 @@ pub use laws::{
     held_places_are_apart, lines_are_on, none_is_sent, objects_are_there, old_ends_came,
     other_places_stay, others_agree_still, others_are_kept, others_say_the_same, others_stay_owned,
     owned_are_apart, pipes_settled_were_read, sends_no_other, sends_none_at_all,
+};
+pub use reaped::{
+    bound_ends_stand, closed_binds_fit, given_may_be_taken, given_stay, items_bring, no_plugs,
+    none_came, reaped_ends_go_on, reaper_calls_stand, reaper_calls_stand_however,
+    reaper_calls_stand_so, reaper_came_so, reaper_ends_go_on_however, reaper_goes_so,
+    reapers_calls_are_so, served_are_had, taken_are_had,
+};
+pub use reaper::{
+    asked_go_on, no_socket_comes, one_socket_comes, reaper_calls_go_on,
+    reaper_changes_are_of_pipes, reaper_counts_go_on, reaper_ends_are_here, reaper_ends_came,
+    reaper_ends_go_on, reaper_ends_were_asked, reaper_looks_go_on,
 };
 pub use reaping::{
     keeps_only_taken, keeps_taken, keeps_unsealed, looks_are_shut, looks_keep, looks_stand,

@@ -1,2 +1,4 @@
+pub mod Calling
+pub mod CallLaws
 pub mod Behind
 pub mod Laws

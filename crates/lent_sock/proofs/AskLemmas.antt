@@ -35,7 +35,7 @@ use Rattle.sock_open.specs.View.{pattern_told}
 use Rattle.sock_open.specs.Standing.{IsWhole, kind_told}
 use Rattle.one_desk.specs.Lent.{Lent, moments_of}
 use Rattle.own_laws.specs.Quiet.{may_pair, may_pair_by}
-use Rattle.call_laws.specs.Call.{AddsItem, OpensBy, opens_none, opens_some}
+use Rattle.desk_laws.specs.Calling.{AddsItem, OpensBy, opens_none, opens_some}
 use Rattle.lent_sock.specs.Owned.{LentParts, IsLentTo, IsThereFor, Agrees, view_of, moments_since}
 use Rattle.lent_sock.specs.Called.{IsCalled}
 use Rattle.lent_sock.specs.Leads.{Leads}

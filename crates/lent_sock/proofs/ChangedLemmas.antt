@@ -18,7 +18,7 @@ use Rattle.one_desk.specs.Lent.{Lent}
 use Rattle.own_laws.specs.Places.{IsOwnPlace}
 use Rattle.past_laws.specs.Changes.{NamesGoOn}
 use Rattle.name_laws.proofs.NameLemmas.{stays_all}
-use Rattle.call_laws.specs.Call.{IsExact}
+use Rattle.desk_laws.specs.Calling.{IsExact}
 use Rattle.lent_sock.specs.Leaving.{IsNoneItReads, IsNoneItSettled, IsNoneItWrites, LeavesPipes, NamesStandIn, TellsRest}
 use Rattle.lent_sock.specs.LeavingOwed.{no_reader, no_writer}
 

@@ -19,7 +19,7 @@ use Rattle.open_sock.specs.Steps.{LeadsSome, ClosesOpen}
 use Rattle.open_laws.proofs.MadeLemmas.{requests_are_answered}
 use Rattle.sock_open.specs.Standing.{kind_told}
 use Rattle.one_desk.specs.Lent.{Lent, moments_of}
-use Rattle.call_laws.specs.Call.{AddsItem, opens_none}
+use Rattle.desk_laws.specs.Calling.{AddsItem, opens_none}
 use Rattle.lent_sock.specs.Owned.{LentParts, IsThereFor, IsLentTo, Agrees, view_of}
 use Rattle.lent_sock.specs.Called.{IsCalled}
 use Rattle.lent_sock.specs.Leads.{Leads}

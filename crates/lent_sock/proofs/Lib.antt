@@ -26,4 +26,5 @@ pub mod MeetLemmas
 pub mod ToItLemmas
 pub mod NewReaderLemmas
 pub mod TakeLemmas
+pub mod LookedLemmas
 pub mod PartsLemmas

@@ -43,7 +43,7 @@ use Rattle.open_laws.specs.Open.{IsOfItem}
 use Rattle.one_desk.specs.Lent.{Lent, coming_to, moments_of}
 use Rattle.lent_sock.specs.Owned.{IsLentTo, IsThereFor, MayTakeEnds}
 use Rattle.sock_calls.specs.Calls.{counts_by, holding_of}
-use Rattle.call_laws.specs.Call.{OpensBy}
+use Rattle.desk_laws.specs.Calling.{OpensBy}
 use Rattle.lent_sock.specs.Called.{IsCalled}
 use Rattle.lent_sock.specs.ReadersOwed.{own_ends}
 use Rattle.lent_sock.proofs.MomentLemmas.{one}

@@ -30,7 +30,7 @@ use Rattle.open_laws.specs.Ways.{ReadsOn}
 use Rattle.open_laws.proofs.ReadLemmas.{among_ends, one_end_reads_on}
 use Rattle.open_laws.proofs.ToldLemmas.{pass_among}
 use Rattle.one_desk.specs.Lent.{Lent, moments_of}
-use Rattle.call_laws.specs.Call.{OpensBy}
+use Rattle.desk_laws.specs.Calling.{OpensBy}
 use Rattle.lent_sock.specs.Owned.{IsLentTo}
 use Rattle.lent_sock.specs.Called.{IsCalled}
 use Rattle.lent_sock.specs.Readers.{reads_on, held_places, readers_in, readers_from, AreAmong, IsNewReader}

@@ -44,9 +44,9 @@ use Rattle.own_laws.proofs.PlaceLemmas.{places_are_held}
 use Rattle.past_laws.specs.Asked.{WereAsked}
 use Rattle.past_laws.specs.Changes.{NamesGoOn}
 use Rattle.name_laws.proofs.NameLemmas.{names_stand_on, names_stay}
-use Rattle.call_laws.specs.Call.{AddsItem, AddsNone, IsCalledBy, LeavesIt, StandsOver}
-use Rattle.call_laws.proofs.MessageLemmas.{message_calls_stand}
-use Rattle.call_laws.proofs.StandLemmas.{closes_stand, socket_calls_stand, still_calls_stand}
+use Rattle.desk_laws.specs.Calling.{AddsItem, AddsNone, IsCalledBy, LeavesIt, StandsOver}
+use Rattle.desk_laws.proofs.MessageLemmas.{message_calls_stand}
+use Rattle.desk_laws.proofs.StandLemmas.{closes_stand, socket_calls_stand, still_calls_stand}
 use Rattle.lent_sock.specs.Owned.{IsLentTo, LentParts}
 use Rattle.lent_sock.specs.Called.{IsCalled}
 use Rattle.lent_sock.specs.Leaving.{LeavesPipes, LeavesStanding, NamesStandIn}

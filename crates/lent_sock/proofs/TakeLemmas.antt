@@ -28,7 +28,7 @@ use Rattle.open_sock.specs.declared.found.Found.TheVariants.{Letter, Nothing}
 use Rattle.open_sock.specs.declared.found.Reader.{Reader}
 use Rattle.sock_open.specs.Standing.{IsWhole, kind_told}
 use Rattle.one_desk.specs.Lent.{Lent, moments_of}
-use Rattle.call_laws.specs.Call.{opens_none}
+use Rattle.desk_laws.specs.Calling.{opens_none}
 use Rattle.lent_sock.specs.Owned.{LentParts, IsLentTo, IsThereFor, Agrees, MayTakeEnds, view_of}
 use Rattle.lent_sock.specs.Called.{IsCalled}
 use Rattle.lent_sock.specs.Leads.{Leads}

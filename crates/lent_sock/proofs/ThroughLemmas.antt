@@ -23,7 +23,7 @@ use Rattle.sock_open.specs.View.{pattern_told, open_view}
 use Rattle.sock_open.specs.Standing.{IsWhole, kind_told}
 use Rattle.open_laws.specs.Open.{IsOfItem}
 use Rattle.one_desk.specs.Lent.{Lent, moments_of}
-use Rattle.call_laws.specs.Call.{AddsItem, OpensBy}
+use Rattle.desk_laws.specs.Calling.{AddsItem, OpensBy}
 use Rattle.lent_sock.specs.Owned.{LentParts, IsLentTo, IsThereFor, Agrees, view_of}
 use Rattle.lent_sock.specs.Called.{IsCalled}
 use Rattle.lent_sock.specs.Leads.{Leads}

@@ -18,7 +18,7 @@ use Rattle.core_laws.specs.Sides.{AreAtEnds}
 use Rattle.core_stands.specs.Standing.{PastStands}
 use Rattle.own_laws.specs.Places.{is_end_of}
 use Rattle.name_laws.specs.Names.{NamesStand}
-use Rattle.call_laws.specs.Call.{IsExact}
+use Rattle.desk_laws.specs.Calling.{IsExact}
 use Rattle.lent_sock.specs.Owned.{LentParts}
 
 module _ {S O I N : Type 0} (K : Known S O I N) {G T : Type 0} where

@@ -27,7 +27,7 @@ use Rattle.core_laws.specs.Sides.{AreAtEnds}
 use Rattle.core_laws.proofs.SideLemmas.{sides_stand_on}
 use Rattle.own_laws.specs.Places.{is_end_of}
 use Rattle.own_laws.proofs.PlaceLemmas.{gone_stay, its_numbered, its_stay, led_on}
-use Rattle.call_laws.specs.Call.{IsExact}
+use Rattle.desk_laws.specs.Calling.{IsExact}
 use Rattle.lent_sock.specs.Owned.{LentParts}
 use Rattle.lent_sock.specs.Leaving.{IsNoneItSettled, IsNoneItWrites, IsNoneItReads, LeavesPipes, LeavesStanding, NamesStandIn, PastStandsIn, TellsRest}
 

@@ -1,4 +1,9 @@
-ghost use Rattle.std.specs.Prelude.{◌≡◌, IfOk, OnErr, drop};
+ghost use Rattle.std.specs.Prelude.{◌≡◌, true, false, Some, IfOk, OnErr, drop, is_some};
+ghost use Rattle.control_held.specs.Has.{has_after};
+ghost use Rattle.control_held.specs.Moments.{items_in};
+ghost use Rattle.ctl_plane.specs.Desk.{slot_after};
+ghost use Rattle.sock_calls.specs.Calls.{owner_of};
+ghost use Rattle.one_desk.specs.Lent.{moments_of, SeesNone};
 ghost use Rattle.open_sock.specs.Reading.{LeavesReader};
 ghost use Rattle.open_sock.specs.Steps.{LeadsSome, Takes};
 ghost use Rattle.lent_sock.specs.Owned.{parts, view_of, Agrees, MayTakeEnds};
@@ -15,6 +20,7 @@ use crate::sock::LentSock;
 use any_sock::AnySock;
 use ctl_plane::Delivery;
 use held_ends::{HeldPipes, Place};
+use one_desk::OneDesk;
 use open_sock::{Found, Reader};
 use sock_core::SockCore;
 use std::alloc::{AllocError, Global};
@@ -104,6 +110,33 @@ where
     }
 }
 
+// The caller looks into the mailbox of a socket that it has. Answers whether it is empty; else nothing
+// happens.
+fn finds_empty<P: HeldPipes>(
+    desk: &mut OneDesk<P>,
+    socket: &Option<SockCore<AnySock, P::Waker, P::Name, P::Out, P::In>>,
+) -> bool
+where
+    P::Name: Drop,
+    P::Waker: Drop,
+    requires there { is_some socket.now ≡ true }
+    requires has { has_after (owner_of socket.now) (items_in (moments_of desk.old)) ≡ Some desk.old.caller }
+    ensures empty { result ≡ true →
+        SeesNone (slot_after (owner_of socket.now) (moments_of desk.old)) desk.old desk.new }
+    ensures waits { result ≡ false → desk.new ≡ desk.old }
+{
+    match socket {
+        Some(core) => {
+            let slot = desk.slot(core.number);
+            match desk.look_into(slot) {
+                Some(_) => return true,
+                None => return false,
+            }
+        }
+        None => unreachable!(),
+    }
+}
+
 /// Takes the oldest letter of the socket's mailbox, or finds it empty. Want of memory leaves the letter
 /// where it was.
 pub(crate) fn take<P: HeldPipes + Drop>(
@@ -128,8 +161,15 @@ where
     ensures may { MayTakeEnds P.known (parts lent.new.pipes lent.new.desk lent.new.socket.core lent.new.since.items) }
 {
     is_told(&lent.socket.core);
-    match ends_reading(alloc, &lent.socket.core) {
-        Ok(before) => return take_behind(alloc, lent, &before),
-        Err(want) => return Err(want),
+    match finds_empty(&mut lent.desk, &lent.socket.core) {
+        true => {
+            lent.desk.is_of_one_order();
+            lent.since = lent.since.and(&(), &());
+            return Ok(Found::Nothing);
+        }
+        false => match ends_reading(alloc, &lent.socket.core) {
+            Ok(before) => return take_behind(alloc, lent, &before),
+            Err(want) => return Err(want),
+        },
     }
 }

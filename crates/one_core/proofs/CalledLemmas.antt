@@ -24,8 +24,8 @@ use Rattle.zq_world.specs.CoreCalls.{IsOnlyReaper, OnlyReaps}
 use Rattle.reaper_ends.specs.declared.sockets.ClosedSockets.{ClosedSockets}
 use Rattle.reaper_ends.specs.Has.{all_ends, holding_in}
 use Rattle.past_laws.specs.Asked.{WereAsked}
-use Rattle.reap_laws.specs.Sealed.{AllAsked}
-use Rattle.call_laws.specs.Call.{IsExact}
+use Rattle.core_others.specs.Sealed.{AllAsked}
+use Rattle.desk_laws.specs.Calling.{IsExact}
 use Rattle.one_desk.specs.Lent.{moments_of, HasSocket, IsOneOrder, Lent}
 use Rattle.lent_sock.specs.Leads.{Leads}
 use Rattle.lent_sock.specs.Leaving.{NamesStandIn}

@@ -8,7 +8,7 @@ use Rattle.ctl_holder.specs.TakingOver.{IsGivenWith}
 use Rattle.ctl_history.specs.Past.{control_of}
 use Rattle.ctl_plane.specs.Desk.{HasWhatTheySay}
 use Rattle.past_laws.specs.Asked.{WereAsked}
-use Rattle.reap_laws.specs.Sealed.{AllAsked}
+use Rattle.core_others.specs.Sealed.{AllAsked}
 use Rattle.reaper_ends.specs.declared.sockets.ClosedSocket.{ClosedSocket}
 use Rattle.reaper_ends.specs.declared.sockets.ClosedSockets.{ClosedSockets}
 use Rattle.reaper_ends.specs.Finding.{AreIndexed}

@@ -24,9 +24,9 @@ use Rattle.reaper_ends.specs.declared.sockets.ClosedSockets.{ClosedSockets}
 use Rattle.reaper_ends.specs.Finding.{AreIndexed, HasRoom, KeepsEnds}
 use Rattle.reaper_ends.specs.Has.{all_ends, has, holding_in, is_socket}
 use Rattle.reaper_ends.specs.Sound.{AreSound}
-use Rattle.reap_laws.specs.Sealed.{AllAsked}
-use Rattle.reap_stands.specs.Coming.{HasOnlyTaken, HasTaken}
-use Rattle.reap_stands.proofs.HadLemmas.{had_by}
+use Rattle.core_others.specs.Sealed.{AllAsked}
+use Rattle.core_others.specs.ReapedComing.{HasOnlyTaken, HasTaken}
+use Rattle.core_others.proofs.HadLemmas.{had_by}
 use Rattle.core_others.proofs.ElseLemmas.{same_moments}
 use Rattle.one_desk.specs.Lent.{moments_of, GrowsBy, IsOneOrder, Lent}
 use Rattle.core_others.specs.Agrees.{AgreesIn}

@@ -15,8 +15,8 @@ use Rattle.sock_open.specs.Standing.{kind_told}
 use Rattle.one_desk.specs.Lent.{Lent}
 use Rattle.lent_sock.specs.Owned.{LentParts, parts, Agrees}
 use Rattle.lent_sock.specs.Leads.{Leads}
-use Rattle.reap_laws.specs.Sealed.{AllAsked}
-use Rattle.reap_laws.proofs.SealedLemmas.{all_asked_told}
+use Rattle.core_others.specs.Sealed.{AllAsked}
+use Rattle.core_others.proofs.SealedLemmas.{all_asked_told}
 use Rattle.core_others.specs.Reaper.{AskedStay}
 use Rattle.one_core.specs.Calling.{SendsAsked}
 

@@ -47,7 +47,7 @@ use Rattle.ctl_plane.specs.Desk.{HasWhatTheySay}
 use Rattle.zq_world.specs.CoreCalls.{IsOnlyReaper, LooksOnce, OnlyReaps}
 use Rattle.reaper_ends.specs.declared.sockets.ClosedSockets.{ClosedSockets}
 use Rattle.reaper_ends.specs.Has.{all_ends, holding_in}
-use Rattle.reap_laws.specs.Sealed.{AllAsked}
+use Rattle.core_others.specs.Sealed.{AllAsked}
 use Rattle.core_others.specs.Calls.{for_caller}
 use Rattle.core_others.specs.Asides.{IsOneItem}
 use Rattle.core_others.specs.Taken.{hears_none}

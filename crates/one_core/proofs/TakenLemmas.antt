@@ -15,7 +15,7 @@ use Rattle.zq_world.specs.CoreCalls.{OnlyReaps}
 use Rattle.one_desk.specs.Lent.{GrowsBy, IsOneOrder, Lent}
 use Rattle.core_others.specs.Calls.{for_caller}
 use Rattle.core_others.proofs.SilentLemmas.{one_order_of}
-use Rattle.reap_stands.specs.Coming.{HasOnlyTaken}
+use Rattle.core_others.specs.ReapedComing.{HasOnlyTaken}
 use Rattle.core_others.specs.Asides.{IsOneItem}
 use Rattle.core_others.proofs.OnlyLemmas.{keeps_only_taken}
 

@@ -2,7 +2,7 @@
 use Rattle.std.specs.Prelude.{◌≡◌, true}
 use Rattle.msg_pipe.specs.Known.{Known}
 use Rattle.ctl_holder.specs.declared.given.Given.{Given}
-use Rattle.call_laws.specs.Call.{IsExact}
+use Rattle.desk_laws.specs.Calling.{IsExact}
 use Rattle.core_others.specs.Rest.{OthersAgreeStill}
 use Rattle.core_others.specs.Told.{CallsAreTold}
 use Rattle.core_others.specs.Own.{OwnJoinStill}

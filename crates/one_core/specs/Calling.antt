@@ -12,7 +12,7 @@ use Rattle.sock_core.specs.declared.sock.SockCore.{SockCore}
 use Rattle.open_sock.specs.Lines.{CallsLine}
 use Rattle.open_sock.specs.Steps.{LeadsSome, ClosesOpen}
 use Rattle.ctl_history.specs.Past.{control_of}
-use Rattle.reap_laws.specs.Sealed.{AllAsked}
+use Rattle.core_others.specs.Sealed.{AllAsked}
 use Rattle.one_desk.specs.Lent.{Lent}
 use Rattle.lent_sock.specs.Owned.{LentParts, parts, view_of}
 use Rattle.lent_sock.specs.Leads.{Leads}

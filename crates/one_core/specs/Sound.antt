@@ -25,8 +25,8 @@ use Rattle.ctl_history.specs.Past.{control_of}
 use Rattle.ctl_plane.specs.Desk.{HasWhatTheySay}
 use Rattle.zq_world.specs.CoreCalls.{IsOnlyReaper, OnlyReaps}
 use Rattle.core_rows.specs.Counting.{CountsDrops}
-use Rattle.reap_laws.specs.Sealed.{AllAsked}
-use Rattle.reap_stands.specs.Coming.{AwayUnsealed, HasOnlyTaken, HasTaken}
+use Rattle.core_others.specs.Sealed.{AllAsked}
+use Rattle.core_others.specs.ReapedComing.{AwayUnsealed, HasOnlyTaken, HasTaken}
 use Rattle.reaper_ends.specs.declared.sockets.ClosedSockets.{ClosedSockets}
 use Rattle.reaper_ends.specs.Finding.{AreIndexed}
 use Rattle.reaper_ends.specs.Has.{all_ends, holding_in}

@@ -44,7 +44,7 @@ use Rattle.reaper_ends.specs.Finding.{HasRoom}
 use Rattle.reaper_ends.specs.Has.{holding_in}
 use Rattle.reap_calls.specs.Calls.{SaysFound}
 use Rattle.core_others.specs.Asked.{IsItsOwn}
-use Rattle.reap_stands.specs.Call.{IsReapersCall}
+use Rattle.core_others.specs.ReapedCall.{IsReapersCall}
 use Rattle.reap_steps.specs.Going.{GoesBy, ReaperHas, ReapIsNone, ReapIsStep, ReapsGoOn}
 use Rattle.reap_steps.specs.ReapLaws.{ReapLaws}
 use Rattle.reap_steps.specs.Steps.{acts_after, acts_behind, acts_if, acts_met, acts_reaped, item_found, last_looker, looker_of, next_of, reads_in, LooksAfter, LooksBehindIt, LooksIf, LooksOne, MayReap, ReapedSo, ReapParts, WantsMemory}

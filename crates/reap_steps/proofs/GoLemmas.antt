@@ -33,11 +33,11 @@ use Rattle.reaper_ends.specs.Ending.{seals_told, LooksOnce}
 use Rattle.reaper_ends.specs.Has.{all_ends, holding_in}
 use Rattle.reaper_ends.proofs.AddLemmas.{from_map}
 use Rattle.reap_calls.specs.Calls.{ChangesClosed, FitsClosed}
-use Rattle.reap_laws.specs.Sealed.{AllAsked}
-use Rattle.reap_stands.specs.Arriving.{ServesClosed}
-use Rattle.reap_stands.specs.Call.{IsReapersCall}
-use Rattle.reap_stands.specs.Coming.{HasOnlyTaken}
-use Rattle.reap_stands.specs.Ends.{ReaperDid, ReaperGoesOn, ReaperStands}
+use Rattle.core_others.specs.Sealed.{AllAsked}
+use Rattle.core_others.specs.Arriving.{ServesClosed}
+use Rattle.core_others.specs.ReapedCall.{IsReapersCall}
+use Rattle.core_others.specs.ReapedComing.{HasOnlyTaken}
+use Rattle.core_others.specs.Ends.{ReaperDid, ReaperGoesOn, ReaperStands}
 use Rattle.core_others.specs.Looked.{ReaperLooked}
 use Rattle.core_others.specs.Done.{PastIn}
 use Rattle.reap_steps.specs.Going.{GoesBy, ReaperHas}

@@ -39,9 +39,9 @@ use Rattle.reaper_ends.proofs.ListLemmas.{any_back}
 use Rattle.reaper_ends.proofs.ReadingLemmas.{state_none}
 use Rattle.one_desk.specs.Lent.{moments_of, IsOneOrder, Lent}
 use Rattle.desk_laws.proofs.SocketLemmas.{kept_now}
-use Rattle.reap_stands.specs.Coming.{HasTaken}
-use Rattle.reap_stands.proofs.ComingLemmas.{has_now}
-use Rattle.reap_stands.proofs.HadLemmas.{ended_has_none}
+use Rattle.core_others.specs.ReapedComing.{HasTaken}
+use Rattle.core_others.proofs.ReapedComingLemmas.{has_now}
+use Rattle.core_others.proofs.HadLemmas.{ended_has_none}
 
 -- ---- how far an end is, among those of its socket and among all
 module _ {N O I : Type 0} (out_name : O → N) (in_name : I → N) (e : EndId) where

@@ -39,7 +39,7 @@ use Rattle.reaper_ends.specs.Counting.{counts_of}
 use Rattle.reaper_ends.specs.Ending.{seals_told, LooksOnce}
 use Rattle.reaper_ends.specs.Has.{all_ends, holding_in}
 use Rattle.reap_calls.specs.Calls.{FitsClosed, SaysFound, SaysMet}
-use Rattle.reap_stands.specs.Call.{IsReapersCall}
+use Rattle.core_others.specs.ReapedCall.{IsReapersCall}
 use Rattle.reap_steps.specs.Going.{GoesBy, ReaperHas}
 use Rattle.reap_steps.specs.ReapLaws.{ReapLaws}
 use Rattle.reap_steps.specs.Steps.{acts_after, acts_behind, acts_if, acts_looked, acts_met, item_found, last_looker, next_of, reads_in, reap_parts, Delivers, DeskStands, LooksAfter, LooksBehindIt, LooksIf, LooksOne, ReapParts}

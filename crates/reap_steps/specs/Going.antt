@@ -21,8 +21,8 @@ use Rattle.core_others.specs.Reaps.{ReapDone}
 use Rattle.reaper_ends.specs.Finding.{HasRoom}
 use Rattle.reaper_ends.specs.Has.{all_ends, holding_in, is_socket}
 use Rattle.reap_calls.specs.Calls.{FitsClosed}
-use Rattle.reap_laws.specs.Sealed.{AllAsked}
-use Rattle.reap_stands.specs.Coming.{AwayUnsealed, HasOnlyTaken, HasTaken}
+use Rattle.core_others.specs.Sealed.{AllAsked}
+use Rattle.core_others.specs.ReapedComing.{AwayUnsealed, HasOnlyTaken, HasTaken}
 use Rattle.reap_steps.specs.Steps.{acts_reaped, DeskStands, MayReap, ReapedSo, ReapParts, WantsMemory}
 
 -- there is one I/O worker; each pipe that has a name has one of its own; nothing was sealed in what is on its way, and it is with its halves; the reaper has of closed sockets what its moments say, each of them that was taken over and lives, and no other socket; and each end that is told as sealed was asked

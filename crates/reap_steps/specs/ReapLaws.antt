@@ -2,10 +2,10 @@
 use Rattle.msg_pipe.specs.Known.{Known}
 use Rattle.ctl_holder.specs.declared.given.Given.{Given}
 use Rattle.core_laws.specs.Sides.{SidesStandOn}
-use Rattle.reap_stands.specs.Arriving.{NoPlugs, ReaperCallsStandSo, ReaperGoesSo, TakenAreHad}
-use Rattle.reap_stands.specs.Call.{ReapersCallsAreSo}
-use Rattle.reap_stands.specs.Coming.{ClosedBindsFit, GivenMayBeTaken, ServedAreHad}
-use Rattle.reap_stands.specs.Ends.{GivenStay}
+use Rattle.core_others.specs.Arriving.{NoPlugs, ReaperCallsStandSo, ReaperGoesSo, TakenAreHad}
+use Rattle.core_others.specs.ReapedCall.{ReapersCallsAreSo}
+use Rattle.core_others.specs.ReapedComing.{ClosedBindsFit, GivenMayBeTaken, ServedAreHad}
+use Rattle.core_others.specs.Ends.{GivenStay}
 use Rattle.core_others.specs.Agreeing.{OpenAgreeStill}
 use Rattle.core_others.specs.Asked.{AsksItsOwn}
 use Rattle.core_others.specs.Looked.{LooksAreShut, LooksKeep, LooksStand}

@@ -4,15 +4,13 @@ ghost use Rattle.reap_steps.specs.ReapLaws.{ReapLaws};
 
 use core_laws::sides_stand_on;
 use core_others::{
-    asks_its_own, keeps_only_taken, looks_are_shut, looks_keep, looks_stand, open_agree_still,
-    reaper_keeps_given, reaper_keeps_names, reaper_keeps_taken, reaper_keeps_unsealed,
+    asks_its_own, closed_binds_fit, given_may_be_taken, given_stay, keeps_only_taken,
+    looks_are_shut, looks_keep, looks_stand, no_plugs, open_agree_still, reaper_calls_stand_so,
+    reaper_goes_so, reaper_keeps_given, reaper_keeps_names, reaper_keeps_taken,
+    reaper_keeps_unsealed, reapers_calls_are_so, served_are_had, taken_are_had,
 };
 use ctl_holder::Given;
 use held_ends::HeldPipes;
-use reap_stands::{
-    closed_binds_fit, given_may_be_taken, given_stay, no_plugs, reaper_calls_stand_so,
-    reaper_goes_so, reapers_calls_are_so, served_are_had, taken_are_had,
-};
 
 // What the laws lean on.
 fn reaps_are_so<P: HeldPipes>(pipes: &P)

@@ -3,7 +3,7 @@
 
 use std::io;
 use std::process::ExitCode;
-use zq_edge::{serve, words};
+use zq_top::{serve, words};
 
 fn main(rt: HostRuntime) -> ExitCode {
     ExitCode::from(serve(rt.alloc(), words(&rt), rt.reader(), io::writer(&rt)).code)

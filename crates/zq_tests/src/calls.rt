@@ -1,7 +1,7 @@
 use std::alloc::Global;
 use std::test::Fail;
-use zq_edge::{Status, run};
 use zq_outer::{Got, MemSink, MemSource, NoHost, OpenGate, Source, TickClock};
+use zq_top::{Status, run};
 
 /// What a call answered, and what its sink took.
 #[derive(Drop)]

@@ -1,6 +1,6 @@
 use crate::calls::answers;
 use std::test::Fail;
-use zq_edge::Status;
+use zq_top::Status;
 
 /// A call: its words, the script, and the status and text that it has to give.
 type Case = (

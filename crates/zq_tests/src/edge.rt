@@ -2,7 +2,7 @@ use std::alloc::{AllocError, Global};
 use std::io;
 use std::io::{Read, Write};
 use std::test::Fail;
-use zq_edge::serve;
+use zq_top::serve;
 
 /// A stream that fails at each call.
 #[derive(Drop)]

@@ -1,6 +1,6 @@
 use crate::calls::answers;
 use std::test::Fail;
-use zq_edge::Status;
+use zq_top::Status;
 
 /// The words of each example, its script or octets, and its text: the files of examples/, written by tools/examples.
 const EXAMPLES: [(&[&str], &[u8], &[u8]); 19] = [

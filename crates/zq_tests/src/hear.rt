@@ -3,7 +3,7 @@ ghost use Rattle.std.specs.Prelude.{◌≤◌, length};
 use crate::calls::{answers, call, fails_to_read};
 use std::alloc::{AllocError, Global};
 use std::test::Fail;
-use zq_edge::Status;
+use zq_top::Status;
 
 /// A greeting without security, and with a READY of a PUSH behind it (RFC 23).
 const NULL: &[u8] =

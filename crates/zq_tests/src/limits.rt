@@ -1,8 +1,8 @@
 use crate::calls::call;
 use std::alloc::Global;
 use std::test::Fail;
-use zq_edge::Status;
 use zq_journal::push_number;
+use zq_top::Status;
 
 /// A text in pieces, each so often.
 type Pieces = &'static [(&'static [u8], usize)];

@@ -1,6 +1,6 @@
 use crate::calls::answers;
 use std::test::Fail;
-use zq_edge::Status;
+use zq_top::Status;
 
 /// Scripts of PUBs and SUBs, and what their runs print.
 const PUBLISHING: [(&[u8], &[u8]); 5] = [

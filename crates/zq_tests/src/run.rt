@@ -1,7 +1,7 @@
 use crate::calls::{answers, call, fails_to_read, left_behind};
 use std::alloc::Global;
 use std::test::Fail;
-use zq_edge::Status;
+use zq_top::Status;
 
 /// A PUSH that sends two messages to a PULL.
 const TWO_MESSAGES: &[u8] =

@@ -1,6 +1,6 @@
 use crate::calls::answers;
 use std::test::Fail;
-use zq_edge::Status;
+use zq_top::Status;
 
 /// Scripts of XPUBs and XSUBs, and what their runs print.
 const SUBSCRIPTIONS: [(&[u8], &[u8]); 8] = [

@@ -1,9 +1,14 @@
-//! Whatever order the single steps of a context are taken in, its root ends: of its actors, of the reaper
-//! of closed sockets, and of who asks the root.
+//! What an actor says whose lines are asked of the sockets of one thread, and that whatever order the
+//! single steps of a context are taken in, its root ends: of its actors, of the reaper of closed sockets,
+//! and of who asks the root.
 #![tactic(auto)]
 
 #[cfg(test)]
+mod answering;
+#[cfg(test)]
 mod arrangements;
+#[cfg(test)]
+mod calls;
 #[cfg(test)]
 mod cores;
 #[cfg(test)]

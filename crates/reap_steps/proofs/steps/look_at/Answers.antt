@@ -1,6 +1,10 @@
 use Rattle.std.proofs.Common.{sym, ◌∙◌}
+use Rattle.reaper_ends.proofs.FormLemmas.{ends_two}
 use Rattle.reap_steps.proofs.ReadLemmas.{has_so, holds_so, looks_so}
 use Rattle.reap_steps.proofs.steps.look_at.Goals as goal
+
+pub reads_on-requires-clause-apart : goal.reads_on-requires-clause-apart
+reads_on-requires-clause-apart g c = ends_two g.P.Pipes.known c.args.pipes.now c.args.closed.now.sockets.items c.requires.fits.sound
 
 pub look_on-requires-clause-holds : goal.look_on-requires-clause-holds
 look_on-requires-clause-holds g c =

@@ -1,4 +1,0 @@
-pub mod StandLemmas
-pub mod ToldLemmas
-pub mod ReaperLemmas
-pub mod OwnLemmas

@@ -1,4 +1,0 @@
-pub mod PlayLemmas
-mod Receives
-pub mod Given
-pub mod JournalLemmas

@@ -1,2 +1,0 @@
-pub use Rattle.spec_journal.specs.Printed
-pub mod Playing

@@ -1,5 +1,0 @@
-use Rattle.reap_laws.proofs.NumberLemmas as lemmas
-use Rattle.reap_laws.proofs.laws.one_socket_comes.Goals as goal
-
-pub returns : goal.returns
-returns g c = lemmas.one_socket_comes g.P.Pipes.known

@@ -1,5 +1,0 @@
-use Rattle.reap_laws.proofs.SealedLemmas as lemmas
-use Rattle.reap_laws.proofs.laws.reaper_ends_were_asked.Goals as goal
-
-pub returns : goal.returns
-returns g c = lemmas.reaper_ends_were_asked g.P.Pipes.known _ c.ends_are_sealed_once.ensures

@@ -1,2 +1,0 @@
-pub use Rattle.zq_top.specs.Headline
-pub mod Edge
