@@ -42,7 +42,7 @@ use Rattle.desk_laws.specs.Behind.{is_request, IsOneCall}
 use Rattle.desk_laws.proofs.LastLemmas.{grown}
 use Rattle.desk_laws.proofs.SendLemmas.{requests_alone_send}
 use Rattle.desk_laws.proofs.SocketLemmas.{kept_now}
-use Rattle.core_others.specs.Ends.{ReaperDid, ReaperEndsGoOn, ReaperGoesOn}
+use Rattle.core_others.specs.Ends.{ReaperDid, ReapedEndsGoOn, ReaperGoesOn}
 use Rattle.core_others.proofs.ReapedComingLemmas.{ends_here, has_now}
 use Rattle.core_others.proofs.GrowLemmas.{leads_to, runs_on}
 use Rattle.core_others.proofs.LedLemmas.{is_still, IsStill}
@@ -207,5 +207,5 @@ module _ {S O I N T : Type 0} (K : Known S O I N) (old new : Lent (Given N O I) 
   pub goes_on : length to.came.items ≡ length from.came.items → ReaperGoesOn K old new did.call from to
   goes_on none = record { ends = ends_go none; named = named none; names = same_names; told = told }
 
-pub reaper_ends_go_on : {S O I N : Type 0} (K : Known S O I N) (T : Type 0) → ReaperEndsGoOn K T
-reaper_ends_go_on K T old new before behind from to changes did none = goes_on K old new before behind from to changes did none
+pub reaped_ends_go_on : {S O I N : Type 0} (K : Known S O I N) (T : Type 0) → ReapedEndsGoOn K T
+reaped_ends_go_on K T old new before behind from to changes did none = goes_on K old new before behind from to changes did none

@@ -98,8 +98,8 @@ NoneCame {S} {O} {I} {N} K T = (old new : Lent (Given N O I) N T) (before behind
     (did : ReaperDid K old new before behind from to changes) → All (λ item. brings_none_by item ≡ true) did.call.grows.more → length to.came.items ≡ length from.came.items
 
 -- where no end came
-abbrev pub ReaperEndsGoOn : {S O I N : Type 0} → Known S O I N → (T : Type 0) → Type 0
-ReaperEndsGoOn {S} {O} {I} {N} K T = (old new : Lent (Given N O I) N T) (before behind : S) (from to : ClosedSockets N O I) (changes : List (PipeChange O I × S)) →
+abbrev pub ReapedEndsGoOn : {S O I N : Type 0} → Known S O I N → (T : Type 0) → Type 0
+ReapedEndsGoOn {S} {O} {I} {N} K T = (old new : Lent (Given N O I) N T) (before behind : S) (from to : ClosedSockets N O I) (changes : List (PipeChange O I × S)) →
     (did : ReaperDid K old new before behind from to changes) → length to.came.items ≡ length from.came.items → ReaperGoesOn K old new did.call from to
 
 -- where each that is told as sealed was asked; the counts are those of the ends that it had

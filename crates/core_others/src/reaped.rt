@@ -5,7 +5,7 @@ ghost use Rattle.core_others.specs.ReapedComing.{ClosedBindsFit, GivenMayBeTaken
 ghost use Rattle.core_others.specs.However.{ReaperCallsStandHowever, ReaperEndsGoOnHowever};
 ghost use Rattle.core_others.specs.Items.{ItemsBring};
 ghost use Rattle.core_others.specs.Joining.{BoundEndsStand};
-ghost use Rattle.core_others.specs.Ends.{GivenStay, NoneCame, ReaperCallsStand, ReaperEndsGoOn};
+ghost use Rattle.core_others.specs.Ends.{GivenStay, NoneCame, ReaperCallsStand, ReapedEndsGoOn};
 
 use crate::reaper::{
     reaper_calls_go_on, reaper_changes_are_of_pipes, reaper_counts_go_on, reaper_ends_were_asked,
@@ -70,7 +70,7 @@ pub fn bound_ends_stand<P: Pipes, T>(_pipes: &P)
 
 /// The ends of closed sockets go on over a call of the reaper, each from where it was.
 pub fn reaped_ends_go_on<P: Pipes, T>(_pipes: &P)
-    ensures { ReaperEndsGoOn P.known T }
+    ensures { ReapedEndsGoOn P.known T }
 {}
 
 /// They do so however ends came, where those that a Reap brought are of its socket.
