@@ -30,7 +30,7 @@ pub struct FirstEnd<N, O, I> {
 
 /// The capacities of a pair's pipes: of the one that the first end writes, and of the one that it
 /// reads.
-#[derive(Clone, Copy, Debug, Drop)]
+#[derive(Clone, Copy, Drop)]
 pub struct Capacities {
     pub written: u32,
     pub read: u32,

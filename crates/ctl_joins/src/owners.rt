@@ -7,7 +7,7 @@ use zq_base::{ObjId, SlotId};
 
 /// The owners of a pair's ends with their mailboxes: of the end that is attached first, and of the
 /// last one.
-#[derive(Clone, Copy, Debug, Drop)]
+#[derive(Clone, Copy, Drop)]
 pub struct Owners {
     pub first: ObjId,
     pub last: ObjId,

@@ -11,14 +11,14 @@ use std::alloc::{AllocError, Global};
 use zq_base::{ObjId, Octets};
 
 /// How many messages a socket may send ahead, and how many may wait for it.
-#[derive(Clone, Copy, Debug, Drop)]
+#[derive(Clone, Copy, Drop)]
 pub struct Marks {
     pub out: u32,
     pub input: u32,
 }
 
 /// What the owners of a pair's ends tell each other: their identities.
-#[derive(Debug, Drop)]
+#[derive(Drop)]
 pub struct Papers {
     /// That of the first end's owner.
     pub identity: Octets,

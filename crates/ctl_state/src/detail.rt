@@ -6,7 +6,7 @@ use std::alloc::Global;
 use zq_base::{Options, PairId, Role, Seq, SlotId};
 
 /// What is known of an object beside its place in the tree.
-#[derive(Debug, Drop)]
+#[derive(Drop)]
 pub struct Detail {
     /// A socket's, and those of its socket for a listener or a session.
     pub options: Options,
@@ -21,7 +21,7 @@ pub struct Detail {
 }
 
 /// What an object is made with.
-#[derive(Debug, Drop)]
+#[derive(Drop)]
 pub struct Made {
     pub kind: ObjKind,
     pub slot: SlotId,

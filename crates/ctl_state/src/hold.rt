@@ -6,7 +6,7 @@ use endpoint_book::is_same;
 use zq_base::{Endpoint, ObjId, PairId};
 
 /// What a socket holds of an endpoint.
-#[derive(Clone, Copy, Debug, Drop)]
+#[derive(Clone, Copy, Drop)]
 pub enum Held {
     /// A bind, over tcp with its listener.
     Bound(Option<ObjId>),
@@ -17,7 +17,7 @@ pub enum Held {
 }
 
 /// A bind or a connect of a socket.
-#[derive(Debug, Drop)]
+#[derive(Drop)]
 pub struct Hold {
     pub at: Endpoint,
     pub held: Held,

@@ -9,7 +9,7 @@ use spec_control::{EndCommands, EndEvent, EndState, Reason};
 use zq_base::ObjId;
 
 /// Where an end is.
-#[derive(Debug, Drop)]
+#[derive(Drop)]
 pub enum Spot {
     /// Its pair has a number, and is not made yet.
     Unmade,
@@ -22,7 +22,7 @@ pub enum Spot {
 
 /// A pair: the owners of its ends, where the ends are, and whether their connect was struck before
 /// they were attached.
-#[derive(Debug, Drop)]
+#[derive(Drop)]
 pub struct Entry {
     pub a_owner: ObjId,
     pub b_owner: ObjId,

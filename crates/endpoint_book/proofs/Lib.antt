@@ -3,3 +3,4 @@ pub mod WaitingLemmas
 mod KeyLemmas
 mod ListsLemmas
 mod OrderLemmas
+mod StrikeLemmas

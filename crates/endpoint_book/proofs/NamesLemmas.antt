@@ -141,3 +141,22 @@ module _ {K : Type 0} (numbers : K → List ℕ) where
       ∙ kept_where_other object (finite.get (names_of numbers es) q)
       ∙ sym (finite.get-retain_keys (names_of numbers es) (λ name. not (is_held_by object (finite.get (names_of numbers es) name))) q
       (λ x tied. ap (λ o. not (is_held_by object o)) (finite.get_tied nat_list_cmp_total (names_of numbers es) q x tied))))
+
+-- what a name has once an object's names are gone
+get-without : (object : ObjId) (m : Names) (q : List ℕ) → finite.get (names_without object m) q ≡ cond (not (is_held_by object (finite.get m q))) (finite.get m q) None
+get-without object m q = finite.get-retain_keys m (λ name. not (is_held_by object (finite.get m name))) q
+    (λ x tied. ap (λ o. not (is_held_by object o)) (finite.get_tied nat_list_cmp_total m q x tied))
+
+-- without the object's names it is the same whether one of them was freed
+pub freed_without : (object : ObjId) (m : Names) (name : List ℕ) → is_held_by object (finite.get m name) ≡ true → names_without object (finite.remove m name) ≡ names_without object m
+freed_without object m name held = same_names _ _ (λ q. get-without object (finite.remove m name) q ∙ by q (bytes_eq q name) refl ∙ sym (get-without object m q))
+  where
+    removed : (q : List ℕ) (b : Bool) → bytes_eq q name ≡ b → finite.get (finite.remove m name) q ≡ cond b None (finite.get m q)
+    removed q b e = finite.get-remove nat_list_cmp_total m name q ∙ ap (λ x. cond x None (finite.get m q)) (octets_ties q name ∙ e)
+
+    by : (q : List ℕ) (b : Bool) → bytes_eq q name ≡ b → cond (not (is_held_by object (finite.get (finite.remove m name) q))) (finite.get (finite.remove m name) q) None ≡ cond (not (is_held_by object (finite.get m q))) (finite.get m q) None
+    by q true e =
+        ap (λ o. cond (not (is_held_by object o)) o None) (removed q true e)
+        ∙ sym (ap (λ n. cond (not (is_held_by object (finite.get m n))) (finite.get m n) None) ((bytes_decides q name).0 e)
+        ∙ ap (λ b. cond (not b) (finite.get m name) None) held)
+    by q false e = ap (λ o. cond (not (is_held_by object o)) o None) (removed q false e)

@@ -9,7 +9,7 @@ use std::marker::Model;
 use zq_base::{Address, ObjId};
 
 /// An address, as a table is searched for it.
-#[derive(Clone, Copy, Debug, PartialEq, Eq, Hash)]
+#[derive(Clone, Copy, PartialEq, Eq, Hash)]
 pub(crate) struct Key {
     port: u16,
     octets: [u8; 4],

@@ -10,7 +10,7 @@ use std::marker::Model;
 use zq_base::{Endpoint, Kind, ObjId};
 
 /// Why an endpoint is not bound.
-#[derive(Clone, Copy, Debug, PartialEq, Eq)]
+#[derive(Clone, Copy, PartialEq, Eq)]
 pub enum BindError {
     InUse,
     OutOfMemory,
@@ -25,7 +25,7 @@ impl From<AllocError> for BindError {
 }
 
 /// The object has no such bind, or no such connect that waits.
-#[derive(Clone, Copy, Debug, PartialEq, Eq)]
+#[derive(Clone, Copy, PartialEq, Eq)]
 pub struct NotBound;
 
 /// The endpoints that are held, and the connects that wait. An endpoint is one of inproc or of tcp: a name that reads as

@@ -1,5 +1,5 @@
 /// What an object answers when it tries to end.
-#[derive(Clone, Copy, Debug, PartialEq, Eq)]
+#[derive(Clone, Copy, PartialEq, Eq)]
 pub enum Ending {
     Ended,
     /// So many acknowledgements are missing, or where none is so many of its children live.

@@ -1,5 +1,5 @@
 /// The children of an object, counted.
-#[derive(Clone, Copy, Debug)]
+#[derive(Clone, Copy)]
 pub(crate) struct Tally {
     pub living: u64,
     pub unnoted: u64,

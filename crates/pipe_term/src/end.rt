@@ -8,7 +8,7 @@ use std::marker::Model;
 
 /// An end of a pair of pipes: how far it is in its life, and why it was asked to end. Each call is one step of a
 /// table, in the same time always and without memory.
-#[derive(Debug, Drop)]
+#[derive(Drop)]
 pub struct End {
     state: EndState,
     reason: Option<Reason>,

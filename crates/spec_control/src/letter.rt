@@ -1,7 +1,7 @@
 use zq_base::{EndId, ObjId, Octets};
 
 /// A control command.
-#[derive(Debug, Drop)]
+#[derive(Drop)]
 pub enum Word {
     /// The child is there.
     Own(ObjId),
@@ -26,7 +26,7 @@ pub enum Word {
 }
 
 /// A command with the object that it is for.
-#[derive(Debug, Drop)]
+#[derive(Drop)]
 pub struct Letter {
     pub to: ObjId,
     pub word: Word,

@@ -2,7 +2,7 @@ use crate::end::Reason;
 use zq_base::{EndId, Endpoint, Kind, ObjId, Options, PairId, Peer};
 
 /// What is asked of the control plane, with the object that asks.
-#[derive(Debug, Drop)]
+#[derive(Drop)]
 pub enum Req {
     /// The context makes a socket.
     Socket(Kind, Options),
@@ -27,7 +27,7 @@ pub enum Req {
 }
 
 /// Why a request is refused.
-#[derive(Clone, Copy, Debug, PartialEq, Eq)]
+#[derive(Clone, Copy, PartialEq, Eq)]
 pub enum Refusal {
     /// The root was asked.
     Term,
@@ -42,7 +42,7 @@ pub enum Refusal {
 }
 
 /// What a request is answered.
-#[derive(Clone, Copy, Debug, PartialEq, Eq)]
+#[derive(Clone, Copy, PartialEq, Eq)]
 pub enum Reply {
     Done,
     /// This object was made.

@@ -1,5 +1,5 @@
 /// How far an object is in its life, and whether the Term or the TermAck of its ending is on its way.
-#[derive(Clone, Copy, Debug, PartialEq, Eq)]
+#[derive(Clone, Copy, PartialEq, Eq)]
 pub enum Stage {
     /// It lives, and nobody told it to end.
     Alive,
@@ -14,7 +14,7 @@ pub enum Stage {
 }
 
 /// What becomes of a command that comes once at most.
-#[derive(Clone, Copy, Debug, PartialEq, Eq)]
+#[derive(Clone, Copy, PartialEq, Eq)]
 pub enum Use {
     Unused,
     OnItsWay,

@@ -2,7 +2,7 @@ use spec_control::Req;
 use zq_base::EndId;
 
 /// What a session or a listener has for the control plane.
-#[derive(Debug, Drop)]
+#[derive(Drop)]
 pub enum Due {
     /// A request of its own.
     Request(Req),
