@@ -52,7 +52,8 @@ use Rattle.ctl_ends.specs.Turning.{IsLoaded, PutsLoaded, TurnsAt}
 use Rattle.ctl_history.specs.Past.{Past, as_item, items_of, control_of, with_event, IsHistory}
 use Rattle.ctl_history.specs.Carried.{given_in, BindsFit, IsCarried, AreCarried, IsPlane}
 use Rattle.ctl_hears.specs.Processing.{is_heard, AreFree, IsAcknowledged, IsReaped, HearsEnd, MayHear, IsProcessed}
-use Rattle.ctl_history.specs.Hearing.{AreOfKind, BringsFirst, FitBinds, IsServed, HasWhat}
+use Rattle.ctl_holder.specs.Bringing.{BringsFirst}
+use Rattle.ctl_history.specs.Hearing.{AreOfKind, FitBinds, IsServed, HasWhat}
 use Rattle.ctl_asks.proofs.CapacityLemmas.{taken_capacity, taken_spare}
 use Rattle.ctl_history.proofs.EventLemmas.{MakesNothing, kept_past, control_more, one_foreseen, has_entry, objects_made, pairs_drawn}
 use Rattle.ctl_history.proofs.CarryLemmas.{brings_none, no_reap, taken_carried, taken_carries, taken_given}

@@ -60,6 +60,10 @@ module _ {N O I : Type 0} (out_name : O → N) (in_name : I → N) (c : Control)
           (λ k g lt. (let both = all_of_map (HasBothNames names) (held_given out_name in_name) gs (subst (λ (xs : List (Held N)). All (HasBothNames names) xs) (sym all) has.named) k g lt in record { written = both.written; read = both.read })));
     }
 
+    -- and all that the holder had of it
+    pub given_all : map (held_given out_name in_name) p.ends.items ≡ h.ends socket
+    given_all = ap (map (held_given out_name in_name)) ends ∙ map_of_map (held_given out_name in_name) (noted_end c) gs ∙ all
+
     pub gives_all : AllWriting h.writes gs → AllStated h.state gs → GivesAll c socket p
     gives_all writing stated = record {
       joined =

@@ -1,24 +1,22 @@
 -- What a delivery needs of the events so far, and what it finds (own choice).
-use Rattle.std.specs.Prelude.{◌≡◌, ◌≢◌, ◌<◌, ◌++◌, ℕ, Bool, true, false, List, [], ◌∷◌, Some, map}
+use Rattle.std.specs.Prelude.{◌≡◌, ◌≢◌, ◌<◌, ℕ, Bool, true, false, List, [], ◌∷◌, Some}
 use Rattle.zq_base.specs.Ends.{other_end}
 use Rattle.zq_base.specs.declared.ids.EndId.{EndId}
 use Rattle.zq_base.specs.declared.ids.SlotId.{SlotId}
 use Rattle.zq_base.specs.declared.ids.ObjId.{ObjId}
 use Rattle.spec_control.specs.declared.letter.Letter.{Letter}
-use Rattle.spec_control.specs.declared.letter.Word.{Word}
 use Rattle.spec_control.specs.declared.letter.Word.TheVariants.{PipeTermAck}
 use Rattle.spec_control.specs.declared.entry.Answered.{Answered}
 use Rattle.spec_control.specs.declared.entry.Did.TheVariants.{Delivered, Delimited}
 use Rattle.spec_control.specs.Rows.{obj}
 use Rattle.spec_control.specs.Control.{Control, next_object, owner_of, place_of}
 use Rattle.spec_control.specs.Place.{Away, looks}
-use Rattle.spec_control.specs.declared.entry.Joining.{Joining}
 use Rattle.spec_control.specs.Names.{name_of}
 use Rattle.ctl_holder.specs.declared.halves.Halves.{Halves}
 use Rattle.ctl_holder.specs.declared.given.Given.{Given}
-use Rattle.ctl_holder.specs.Holding.{Holding, NoneWrites, given_as}
+use Rattle.ctl_holder.specs.Holding.{Holding, NoneWrites}
 use Rattle.ctl_holder.specs.Lent.{HasAll}
-use Rattle.ctl_holder.specs.Load.{brings_ends}
+use Rattle.ctl_holder.specs.Bringing.{BringsFirst}
 use Rattle.ctl_history.specs.declared.heard.Heard.{Heard}
 use Rattle.ctl_history.specs.declared.heard.Heard.TheVariants.{Done, Empty}
 use Rattle.ctl_history.specs.Past.{Past, items_of, control_of, with_event, only_given}
@@ -60,14 +58,6 @@ module _ {G N S : Type 0} where
   abbrev pub MeetsDelimiter : EndId → Bool → (old new : Past G N S) → Type 0
   MeetsDelimiter e true old new = NotesDelimiter e old new
   MeetsDelimiter e false old new = (looks (place_of (control_of old) e) ≡ false) × (new ≡ old)
-
-module _ {N O I : Type 0} (out_name : O → N) (in_name : I → N) where
-  -- of the ends of closed sockets that are on their way, a Reap brings the first, as the list of those taken over says, and no other command any
-  pub record BringsFirst (word : Word) (joined : List (Joining N)) (old new : List (Given N O I)) : Type 0 where
-    pub ends : List (Given N O I)
-    pub first : old ≡ ends ++ new
-    pub others : brings_ends word ≡ false → ends ≡ []
-    pub reaped : brings_ends word ≡ true → joined ≡ map (given_as out_name in_name) ends
 
 module _ {N O I S : Type 0} (out_name : O → N) (in_name : I → N) where
   -- the oldest command of a mailbox was processed

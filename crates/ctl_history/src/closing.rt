@@ -34,7 +34,7 @@ where
         requires open { IsOpenSocket (obj (control_of self.old).rows socket.0) }
         requires lent { (H.holding holder.old).holds socket.0 ≡ true }
         requires has { HasWhat self.old (H.holding holder.old) }
-        ensures closes { Closes P.known (H.pipes holder.new) (H.holding holder.old).sealed socket
+        ensures closes { Closes P.known (H.pipes holder.new) (H.holding holder.old) socket
             self.old self.new }
         ensures gives { HasGiven socket.0 (H.holding holder.old) (H.holding holder.new) }
         ensures keeps { HasWhat self.new (H.holding holder.new) }

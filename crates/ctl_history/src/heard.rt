@@ -1,5 +1,5 @@
 /// What a delivery found in a mailbox.
-#[derive(Clone, Copy, Debug, PartialEq, Eq)]
+#[derive(Clone, Copy, PartialEq, Eq)]
 pub enum Heard {
     /// Its oldest command was processed.
     Done,

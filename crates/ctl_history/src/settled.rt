@@ -10,7 +10,7 @@ use std::alloc::{AllocError, Global};
 use zq_base::{EndId, ObjId, Seq, Settled};
 
 /// An end that is gone, and what was counted of the pipe that it read.
-#[derive(Clone, Copy, Debug, PartialEq, Eq)]
+#[derive(Clone, Copy, PartialEq, Eq)]
 pub struct PipeCounts {
     pub end: EndId,
     pub counts: Settled,

@@ -1,6 +1,7 @@
 pub mod Holding
 pub mod TakingOver
 pub mod Load
+pub mod Bringing
 pub mod Lent
 pub mod Turns
 pub mod Joins

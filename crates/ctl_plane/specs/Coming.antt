@@ -1,12 +1,13 @@
 -- What is on its way to a caller's objects, by the names of pipes (own choice).
-use Rattle.std.specs.Prelude.{◌≡◌, ◌++◌, Bool, true, List, [], Some, Option, false}
+use Rattle.std.specs.Prelude.{◌≡◌, ◌++◌, Bool, true, List, [], Some, Option, false, map}
 use Rattle.zq_base.specs.Ends.{other_end}
 use Rattle.zq_base.specs.declared.ids.EndId.{EndId}
+use Rattle.zq_base.specs.declared.ids.ObjId.{ObjId}
 use Rattle.spec_control.specs.declared.request.Req.{Req}
 use Rattle.spec_control.specs.declared.request.Req.TheVariants.{Socket as MakeSocket, AskTerm, Bind, Connect, Unbind, Disconnect, Close, Accepted, Shaken, AskEnd, AskOver, OutputOver}
 use Rattle.ctl_holder.specs.declared.given.Given.{Given}
 use Rattle.ctl_holder.specs.declared.halves.Halves.{Halves}
-use Rattle.ctl_holder.specs.Holding.{AllSealed}
+use Rattle.ctl_holder.specs.Holding.{AllSealed, Holding, held_given}
 pub use Rattle.ctl_holder.specs.TakingOver.{AreDistinct}
 use Rattle.ctl_holder.specs.TakingOver.{AreGivenWith}
 use Rattle.msg_pipe.specs.Known.{Known}
@@ -36,12 +37,13 @@ is_close (AskOver o) = false
 is_close (OutputOver o) = false
 
 module _ {P N O I : Type 0} (K : Known P O I N) where
-  -- of ends of closed sockets that are on their way, a close sends those of its socket behind the others, with halves of these pipes; its holder was told to seal these, of those that have their delimiters
-  pub record SendsEnds (pipes : P) (told : List EndId) (request : Req) (old new : List (Given N O I)) : Type 0 where
+  -- of ends of closed sockets that are on their way, a close sends all those that its holder had of the socket behind the others, as they stood there, with halves of these pipes; the holder was told to seal these, of those that have their delimiters
+  pub record SendsEnds (pipes : P) (h : Holding N) (request : Req) (old new : List (Given N O I)) : Type 0 where
     pub ends : List (Given N O I)
     pub behind : new ≡ old ++ ends
     pub given : AreGivenWith K pipes ends
-    pub sealed : AllSealed told ends
+    pub sealed : AllSealed h.sealed ends
+    pub all : (o : ObjId) → request ≡ Close o → map (held_given K.out_name K.in_name) ends ≡ h.ends o.0
     pub others : is_close request ≡ false → ends ≡ []
 
 module _ {N O I : Type 0} where

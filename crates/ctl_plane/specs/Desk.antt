@@ -24,7 +24,9 @@ use Rattle.control_held.specs.Moments.{Moment, items_in, left_after, left_by, fi
 use Rattle.ctl_plane.specs.Kinds.{kind_after}
 use Rattle.ctl_plane.specs.declared.delivery.Delivery.{Delivery}
 use Rattle.ctl_plane.specs.declared.delivery.Delivery.TheVariants.{Done, Empty}
+use Rattle.ctl_holder.specs.Bringing.{BringsIn}
 use Rattle.ctl_holder.specs.Counts.{CountsIn}
+use Rattle.ctl_holder.specs.declared.given.Given.{Given}
 use Rattle.ctl_holder.specs.Holding.{HearsMore, Holding, JoinsBy, has_end}
 use Rattle.ctl_holder.specs.Joins.{KeepsObjects, came_in}
 use Rattle.ctl_holder.specs.Lent.{has_writer}
@@ -92,6 +94,15 @@ module _ {N S : Type 0} where
   -- the same of the item of a moment more
   abbrev pub CountsWith : {O : Type 0} → (out_name : O → N) → (counts : EndId → O → Settled) → (old new : List (Moment N S)) → Holding N → Type 0
   CountsWith out_name counts old new h = (m : Moment N S) → new ≡ old ++ m ∷ [] → counts_with out_name counts h m.item
+
+  -- an item that delivers a command brings, of the ends of closed sockets that are on their way, those of a Reap and no others
+  abbrev pub brings_with : {O I : Type 0} → (out_name : O → N) → (in_name : I → N) → Item N S → (before after : List (Given N O I)) → Type 0
+  brings_with out_name in_name (Event entry) before after = BringsIn out_name in_name entry.did before after
+  brings_with out_name in_name (Seen sight) before after = Unit {0}
+
+  -- the same of the item of a moment more
+  abbrev pub BringsWith : {O I : Type 0} → (out_name : O → N) → (in_name : I → N) → (old new : List (Moment N S)) → (before after : List (Given N O I)) → Type 0
+  BringsWith out_name in_name old new before after = (m : Moment N S) → new ≡ old ++ m ∷ [] → brings_with out_name in_name m.item before after
 
   -- the mailbox of an object, as the moments left it
   abbrev pub slot_after : ℕ → List (Moment N S) → SlotId

@@ -1,4 +1,4 @@
-ghost use Rattle.std.specs.Prelude.{◌≡◌, ◌++◌, ℕ, Bool, List, true, false, IfOk, OnErr};
+ghost use Rattle.std.specs.Prelude.{◌≡◌, ◌++◌, ℕ, Bool, List, true, false, IfOk, IsOk, OnErr};
 ghost use Rattle.control_held.specs.Moments.{Moment};
 ghost use Rattle.ctl_holder.specs.declared.halves.Halves.{Halves};
 
@@ -26,6 +26,7 @@ pub trait Calls<P: Pipes> {
     ghost use Rattle.ctl_holder.specs.Holding.{has_end};
     ghost use Rattle.ctl_plane.specs.Asking.{IsInproc};
     ghost use Rattle.ctl_plane.specs.Coming.{AreDistinct, BindsFit, KeepsNames};
+    ghost use Rattle.ctl_plane.specs.Memory.{NoBindWaits};
     ghost use Rattle.ctl_plane.specs.Desk.{HasWhatTheySay, KeepsUp, AsksOnce, GivesOrNot, DelimitsOrNot};
     ghost use Rattle.ctl_plane.specs.Desk.{CountsWith, slot_after};
     ghost use Rattle.zq_base.specs.declared.ids.EndId.{EndId};
@@ -182,7 +183,7 @@ pub trait Calls<P: Pipes> {
             D.moments desk.new ≡ D.moments desk.old ++ more → passes self.old self.new more };
 
     /// Processes the oldest command of the socket, or finds its mailbox empty. Want of memory leaves
-    /// the command where it was.
+    /// the command where it was; only a bind takes any.
     fn take<D: Desk<P>>(
         &mut self,
         alloc: Global,
@@ -202,6 +203,8 @@ pub trait Calls<P: Pipes> {
         ensures ok { IfOk result (λ found. GivesOrNot (D.number desk.old)
             (slot_after (owner self.old) (D.moments desk.old)) found
             (D.moments desk.old) (D.moments desk.new)) }
+        ensures succeeds { (c : Control) → D.finds desk.old c →
+            NoBindWaits c (slot_after (owner self.old) (D.moments desk.old)).0 → IsOk result }
         ensures counts { CountsWith P.known.out_name (counts self.old pipes.old)
             (D.moments desk.old) (D.moments desk.new) (holding self.old) }
         ensures err { OnErr result (D.moments desk.new ≡ D.moments desk.old) }

@@ -21,14 +21,16 @@ pub trait Desk<P: Pipes> {
     ghost use Rattle.control_held.specs.Has.{has_after};
     ghost use Rattle.spec_control.specs.Control.{Control};
     ghost use Rattle.spec_control.specs.ControlRun.{AreEmpty};
+    ghost use Rattle.spec_control.specs.Reply.{root_asked};
     ghost use Rattle.spec_control.specs.Rows.{obj};
+    ghost use Rattle.spec_control.specs.declared.request.Req.TheVariants.{AskTerm};
     ghost use Rattle.ctl_holder.specs.Making.{MakesSo};
     ghost use Rattle.ctl_holder.specs.TakingOver.{AreDistinct, MayTakeFirst};
     ghost use Rattle.ctl_plane.specs.Asking.{HasMarks, IsOfSockets};
     ghost use Rattle.ctl_plane.specs.Coming.{BindsFit, KeepsNames, SendsEnds, TakesEnds, is_close};
     ghost use Rattle.ctl_plane.specs.Memory.{NoBindIsFirst, NoBindWaits};
     ghost use Rattle.ctl_plane.specs.Desk.{HasWhatTheySay, KeepsUp, AsksOnce, GivesOrNot, DelimitsOrNot};
-    ghost use Rattle.ctl_plane.specs.Desk.{CountsWith, ReapsOrNot, LooksOrNot, MayTakeFrom, HoldsEnd, IsNotLooked};
+    ghost use Rattle.ctl_plane.specs.Desk.{BringsWith, CountsWith, ReapsOrNot, LooksOrNot, MayTakeFrom, HoldsEnd, IsNotLooked};
 
     /// The caller's number.
     ghost number: { Self → ℕ };
@@ -67,7 +69,7 @@ pub trait Desk<P: Pipes> {
         ensures { result.0 ≡ (obj (left_after object.0 (moments self.now)).rows object.0).slot };
 
     /// Makes a request, of whose pipes the holder may make each. Want of memory leaves all as it was;
-    /// a close wants none.
+    /// a close wants none, nor does the first asking of the context to end.
     fn request<H: Undoes<P>>(
         &mut self,
         alloc: Global,
@@ -85,8 +87,10 @@ pub trait Desk<P: Pipes> {
         ensures ok { IfOk result (λ reply.
             AsksOnce (number self.old) request reply (moments self.old) (moments self.new)) }
         ensures given { IfOk result (λ _. SendsEnds P.known (H.pipes holder.new)
-            (H.holding holder.old).sealed request (given self.old) (given self.new)) }
+            (H.holding holder.old) request (given self.old) (given self.new)) }
         ensures succeeds { is_close request ≡ true → IsOk result }
+        ensures first { (c : Control) → finds self.old c → request ≡ AskTerm →
+            root_asked c ≡ false → IsOk result }
         ensures err { OnErr result ((moments self.new ≡ moments self.old)
             × (given self.new ≡ given self.old)) }
         ensures grows { grows self.old self.new }
@@ -155,6 +159,8 @@ pub trait Desk<P: Pipes> {
         ensures err { OnErr result ((moments self.new ≡ moments self.old)
             × (given self.new ≡ given self.old)) }
         ensures given { TakesEnds (given self.old) (given self.new) }
+        ensures brings { BringsWith P.known.out_name P.known.in_name
+            (moments self.old) (moments self.new) (given self.old) (given self.new) }
         ensures grows { grows self.old self.new }
         ensures names { KeepsNames (named self.old) (named self.new) }
         ensures keeps { (number self.new ≡ number self.old)

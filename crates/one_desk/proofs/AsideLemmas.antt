@@ -45,7 +45,7 @@ use Rattle.one_desk.specs.declared.mark.Mark.{Mark}
 use Rattle.one_desk.specs.declared.mark.Mark.TheVariants.{Event, Seen}
 use Rattle.held_laws.proofs.LawLemmas.{owned_by}
 use Rattle.one_desk.specs.Lent.{IsLent, KeepsAside, Lent, lent_to, moments_of}
-use Rattle.one_desk.proofs.CountLemmas.{none_more, same_one}
+use Rattle.one_desk.proofs.TellLemmas.{none_more, same_one}
 use Rattle.one_desk.proofs.FitLemmas.{last_fits}
 use Rattle.one_desk.proofs.HoldLemmas.{desk_had, desk_has, desk_keeps, desk_looks, desk_still}
 use Rattle.one_desk.proofs.LentLemmas.{control_next, made_by_one}

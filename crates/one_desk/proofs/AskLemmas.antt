@@ -1,10 +1,9 @@
 -- A request more among its caller's moments.
-use Rattle.std.specs.Prelude.{◌≡◌, ◌++◌, ◌∷◌, [], ℕ, List, flat_map, refl}
-use Rattle.std.proofs.Common.{sym, ap, ◌∙◌}
+use Rattle.std.specs.Prelude.{◌≡◌, ◌++◌, ◌∷◌, [], ℕ, List, false, flat_map, refl}
+use Rattle.std.proofs.Common.{arith, sym, ap, ◌∙◌}
 use Rattle.std.proofs.lemmas.Grind.{flat_map-append}
 use Rattle.std.proofs.lemmas.List.{append-nil}
 use Rattle.std.proofs.lemmas.List.Elements.{All-nil}
-use Rattle.zq_base.specs.declared.ids.EndId.{EndId}
 use Rattle.zq_base.specs.declared.ids.ObjId.{ObjId}
 use Rattle.spec_control.specs.declared.entry.Did.TheVariants.{Asked as DidAsk}
 use Rattle.spec_control.specs.declared.entry.Item.{Item}
@@ -21,7 +20,8 @@ use Rattle.control_held.specs.Moments.{moments_by, moments_from}
 use Rattle.control_rows.proofs.ListLemmas.{never}
 use Rattle.msg_pipe.specs.Known.{Known}
 use Rattle.ctl_holder.specs.declared.given.Given.{Given}
-use Rattle.ctl_plane.specs.Coming.{KeepsNames, SendsEnds}
+use Rattle.ctl_holder.specs.Holding.{Holding}
+use Rattle.ctl_plane.specs.Coming.{KeepsNames, SendsEnds, is_close}
 use Rattle.ctl_plane.specs.Desk.{AsksOnce}
 use Rattle.ctl_history.specs.Past.{Past}
 use Rattle.one_desk.specs.Lent.{Asks, ClosesOnce, Lent, moments_of}
@@ -54,17 +54,21 @@ module _ {G N S : Type 0} (req : Req) (reply : Reply) (old new : Lent G N S) (as
   pub asked_names : KeepsNames (name_of old.items) (name_of new.items)
   asked_names = names_stay old.items new.items (IsEvent (record { by = old.caller; did = DidAsk req reply asks.answered })) asks.items
 
-pub asked_sends : {P N O I S : Type 0} (K : Known P O I N) (pipes : P) (told : List EndId) (req : Req) (reply : Reply) (old new : Lent (Given N O I) N S) → Asks req reply old new → SendsEnds K pipes told req old.past.given new.past.given
-asked_sends {P} {N} {O} {I} {S} K pipes told req reply old new asks = record {
+pub asked_sends : {P N O I S : Type 0} (K : Known P O I N) (pipes : P) (h : Holding N) (req : Req) (reply : Reply) (old new : Lent (Given N O I) N S) → is_close req ≡ false → Asks req reply old new → SendsEnds K pipes h req old.past.given new.past.given
+asked_sends {P} {N} {O} {I} {S} K pipes h req reply old new other asks = record {
   ends = [];
   behind = ap (λ (p : Past (Given N O I) N S). p.given) asks.past ∙ sym (append-nil old.past.given);
   given = All-nil _;
   sealed = All-nil _;
+  all = λ o is. absurd (never (sym other ∙ ap is_close is));
   others = λ e. refl;
 }
 
+closed_one : {x y : ObjId} → Close x ≡ Close y → x ≡ y
+closed_one e = Prim.grind arith
+
 -- a socket that is closed
-module _ {P N O I S : Type 0} (K : Known P O I N) (pipes : P) (told : List EndId) (socket : ObjId) (old new : Lent (Given N O I) N S) (closes : ClosesOnce K pipes told socket old new) where
+module _ {P N O I S : Type 0} (K : Known P O I N) (pipes : P) (h : Holding N) (socket : ObjId) (old new : Lent (Given N O I) N S) (closes : ClosesOnce K pipes h socket old new) where
   pub closes_once : AsksOnce old.caller (Close socket) IsDone (moments_of old) (moments_of new)
   closes_once = record {
     found = after_all old.items (begun old.past.workers);
@@ -75,11 +79,12 @@ module _ {P N O I S : Type 0} (K : Known P O I N) (pipes : P) (told : List EndId
   pub closed_names : KeepsNames (name_of old.items) (name_of new.items)
   closed_names = names_stay old.items new.items (IsEvent (record { by = old.caller; did = DidAsk (Close socket) IsDone closes.answered })) closes.items
 
-  pub closed_sends : SendsEnds K pipes told (Close socket) old.past.given new.past.given
+  pub closed_sends : SendsEnds K pipes h (Close socket) old.past.given new.past.given
   closed_sends = record {
     ends = closes.ends;
     behind = ap (λ (p : Past (Given N O I) N S). p.given) closes.past;
     given = closes.given;
     sealed = closes.sealed;
+    all = λ o is. closes.all ∙ ap (λ (x : ObjId). h.ends x.0) (closed_one is);
     others = λ e. absurd (never (sym e));
   }

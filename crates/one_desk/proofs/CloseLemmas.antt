@@ -3,7 +3,6 @@ use Rattle.std.specs.Prelude.{◌≡◌, ◌≢◌, ◌==◌, ◌++◌, ◌∷�
 use Rattle.std.specs.List.{list_any}
 use Rattle.std.proofs.Common.{sym, ap, ◌∙◌, subst, inl}
 use Rattle.std.proofs.lemmas.Bool.{ne_eqb}
-use Rattle.zq_base.specs.declared.ids.EndId.{EndId}
 use Rattle.zq_base.specs.declared.ids.ObjId.{ObjId}
 use Rattle.spec_control.specs.declared.entry.Answered.{Answered}
 use Rattle.spec_control.specs.declared.entry.Did.{Did}
@@ -51,12 +50,13 @@ leaves_closed c socket a h k gives = record {
     apart : (i : ℕ) → k.holds i ≡ true → (socket.0 == i) ≡ false
     apart i e = ne_eqb socket.0 i (λ same. other i e (sym same))
 
-module _ {P N O I S : Type 0} (K : Known P O I N) (ms ms' : List Mark) (by : ℕ) (old new : Past (Given N O I) N S) (pipes : P) (told : List EndId) (socket : ObjId) (marks : ms' ≡ ms ++ Event by ∷ []) (closes : Closes K pipes told socket old new) (marked : AreMarked ms old.events) where
-  pub closes_more : ClosesOnce K pipes told socket (lent_to by ms old) (lent_to by ms' new)
+module _ {P N O I S : Type 0} (K : Known P O I N) (ms ms' : List Mark) (by : ℕ) (old new : Past (Given N O I) N S) (pipes : P) (h : Holding N) (socket : ObjId) (marks : ms' ≡ ms ++ Event by ∷ []) (closes : Closes K pipes h socket old new) (marked : AreMarked ms old.events) where
+  pub closes_more : ClosesOnce K pipes h socket (lent_to by ms old) (lent_to by ms' new)
   closes_more = record {
     ends = closes.ends;
     given = closes.given;
     sealed = closes.sealed;
+    all = closes.all;
     answered = closes.answered;
     past = closes.step;
     items = ap (λ (xs : List Mark). order_of xs new.events) marks ∙ ap (λ (p : Past (Given N O I) N S). order_of (ms ++ Event by ∷ []) p.events) closes.step

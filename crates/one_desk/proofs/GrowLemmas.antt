@@ -1,5 +1,5 @@
 -- The caller's items stand at the end of the order.
-use Rattle.std.specs.Prelude.{◌≡◌, ◌++◌, ◌∷◌, List, [], Bool, true, false, Option, Some, None, Result, IfNone, IfOk, IfSome, OnErr, refl}
+use Rattle.std.specs.Prelude.{◌≡◌, ◌++◌, ◌∷◌, [], Bool, true, false, Option, Some, None, Result, IfNone, IfOk, IfSome, OnErr, refl}
 use Rattle.std.proofs.Common.{sym, ap, subst}
 use Rattle.std.proofs.lemmas.List.Elements.{All-cons, All-nil}
 use Rattle.zq_base.specs.declared.ids.EndId.{EndId}
@@ -18,6 +18,7 @@ use Rattle.spec_control.specs.declared.request.Reply.TheVariants.{Done as IsDone
 use Rattle.control_held.specs.Held.{caller_of}
 use Rattle.msg_pipe.specs.Known.{Known}
 use Rattle.ctl_holder.specs.declared.given.Given.{Given}
+use Rattle.ctl_holder.specs.Holding.{Holding}
 use Rattle.ctl_plane.specs.declared.delivery.Delivery.{Delivery}
 use Rattle.ctl_plane.specs.declared.delivery.Delivery.TheVariants.{Done, Empty}
 use Rattle.ctl_history.specs.Past.{Past}
@@ -74,6 +75,6 @@ module _ {G N S : Type 0} (old new : Lent G N S) where
   looked_grow W empty None sees none = same_grows none.0
 
 -- a socket that is closed
-pub close_grows : {P N O I S : Type 0} (K : Known P O I N) (pipes : P) (told : List EndId) (socket : ObjId) (old new : Lent (Given N O I) N S) → ClosesOnce K pipes told socket old new → GrowsBy old new
-close_grows {P} {N} {O} {I} {S} K pipes told socket old new closes =
+pub close_grows : {P N O I S : Type 0} (K : Known P O I N) (pipes : P) (h : Holding N) (socket : ObjId) (old new : Lent (Given N O I) N S) → ClosesOnce K pipes h socket old new → GrowsBy old new
+close_grows {P} {N} {O} {I} {S} K pipes h socket old new closes =
     one_more old new (IsEvent (record { by = old.caller; did = DidAsk (Close socket) IsDone closes.answered })) (ap (λ (p : Past (Given N O I) N S). p.workers) closes.past) closes.caller closes.items refl

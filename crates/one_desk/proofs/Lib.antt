@@ -13,7 +13,7 @@ pub mod LookLemmas
 pub mod MakeLemmas
 pub mod MemoryLemmas
 pub mod OrderLemmas
-pub mod CountLemmas
+pub mod TellLemmas
 pub mod PlaneLemmas
 pub mod ReapingLemmas
 pub mod RootLemmas

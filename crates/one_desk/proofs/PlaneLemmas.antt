@@ -19,7 +19,8 @@ use Rattle.ctl_plane.specs.declared.delivery.Delivery.{Delivery}
 use Rattle.ctl_plane.specs.declared.delivery.Delivery.TheVariants.{Done, Empty}
 use Rattle.msg_pipe.specs.Known.{Known}
 use Rattle.ctl_holder.specs.declared.given.Given.{Given}
-use Rattle.ctl_plane.specs.Coming.{KeepsNames, SendsEnds, TakesEnds}
+use Rattle.ctl_holder.specs.Holding.{Holding}
+use Rattle.ctl_plane.specs.Coming.{KeepsNames, SendsEnds, TakesEnds, is_close}
 use Rattle.ctl_plane.specs.Desk.{AsksOnce, DelimitsOrNot, GivesOrNot, Looks, LooksOrNot, ReapsOrNot}
 use Rattle.ctl_history.specs.Past.{Past, control_of, only_given, with_event}
 use Rattle.one_desk.specs.Lent.{Asks, FindsIn, Hears, Lent, MeetsOrNot, Sees, SeesNone, moments_of}
@@ -127,9 +128,9 @@ module _ {N O I S E : Type 0} (request req : Req) (is : request ≡ req) (old ne
   ask_ok = IfOk-weaker r (λ reply. Asks req reply old new) (λ reply. AsksOnce old.caller request reply (moments_of old) (moments_of new))
       (λ reply asks. subst (λ (q : Req). AsksOnce old.caller q reply (moments_of old) (moments_of new)) (sym is) (asks_once req reply old new asks)) ok
 
-  pub ask_given : {P : Type 0} (K : Known P O I N) (pipes : P) (told : List EndId) → IfOk r (λ reply. SendsEnds K pipes told request old.past.given new.past.given)
-  ask_given K pipes told = IfOk-weaker r (λ reply. Asks req reply old new) (λ reply. SendsEnds K pipes told request old.past.given new.past.given)
-      (λ reply asks. subst (λ (q : Req). SendsEnds K pipes told q old.past.given new.past.given) (sym is) (asked_sends K pipes told req reply old new asks)) ok
+  pub ask_given : {P : Type 0} (K : Known P O I N) (pipes : P) (h : Holding N) → is_close req ≡ false → IfOk r (λ reply. SendsEnds K pipes h request old.past.given new.past.given)
+  ask_given K pipes h other = IfOk-weaker r (λ reply. Asks req reply old new) (λ reply. SendsEnds K pipes h request old.past.given new.past.given)
+      (λ reply asks. subst (λ (q : Req). SendsEnds K pipes h q old.past.given new.past.given) (sym is) (asked_sends K pipes h req reply old new other asks)) ok
 
   pub ask_names : KeepsNames (name_of old.items) (name_of new.items)
   ask_names = either_way r (λ reply. Asks req reply old new) (new ≡ old) (λ reply asks. asked_names req reply old new asks) (λ same. same_names old new same) ok err

@@ -1,5 +1,5 @@
 -- The control plane as it is lent to one of its callers: the events, their order with the looks, and whose call comes next (own choice).
-use Rattle.std.specs.Prelude.{◌≡◌, ◌≤◌, ◌<◌, ◌+◌, ◌==◌, ◌&&◌, ◌++◌, ℕ, Bool, true, false, All, List, [], ◌∷◌}
+use Rattle.std.specs.Prelude.{◌≡◌, ◌≤◌, ◌<◌, ◌+◌, ◌==◌, ◌&&◌, ◌++◌, ℕ, Bool, true, false, All, List, [], ◌∷◌, map}
 use Rattle.zq_base.specs.declared.ids.EndId.{EndId}
 use Rattle.zq_base.specs.declared.ids.ObjId.{ObjId}
 use Rattle.zq_base.specs.declared.ids.SlotId.{SlotId}
@@ -26,7 +26,7 @@ use Rattle.control_held.specs.OwnAsks.{known_after}
 use Rattle.control_held.specs.Moments.{Moment, items_in, moments_by, moments_from}
 use Rattle.ctl_holder.specs.declared.given.Given.{Given}
 use Rattle.msg_pipe.specs.Known.{Known}
-use Rattle.ctl_holder.specs.Holding.{AllSealed, Holding}
+use Rattle.ctl_holder.specs.Holding.{AllSealed, Holding, held_given}
 use Rattle.ctl_holder.specs.TakingOver.{AreGivenWith}
 use Rattle.ctl_plane.specs.Desk.{HasWhatTheySay, KeepsUp}
 use Rattle.ctl_history.specs.Joining.{AllMarked}
@@ -132,11 +132,12 @@ abbrev pub MeetsOrNot : {G N S : Type 0} → EndId → Bool → (old new : Lent 
 MeetsOrNot e true old new = Meets e old new
 MeetsOrNot e false old new = (looks (place_of (control_of old.past) e) ≡ false) × (new ≡ old)
 
--- its caller closed this socket, and the ends that the socket's holder gave are on their way, with halves of its pipes; the holder was told to seal these, of those that have their delimiters
-pub record ClosesOnce {P N O I S : Type 0} (K : Known P O I N) (pipes : P) (told : List EndId) (socket : ObjId) (old new : Lent (Given N O I) N S) : Type 0 where
+-- its caller closed this socket, and all ends that the socket's holder had of it are on their way, as they stood there, with halves of its pipes; the holder was told to seal these, of those that have their delimiters
+pub record ClosesOnce {P N O I S : Type 0} (K : Known P O I N) (pipes : P) (h : Holding N) (socket : ObjId) (old new : Lent (Given N O I) N S) : Type 0 where
   pub ends : List (Given N O I)
   pub given : AreGivenWith K pipes ends
-  pub sealed : AllSealed told ends
+  pub sealed : AllSealed h.sealed ends
+  pub all : map (held_given K.out_name K.in_name) ends ≡ h.ends socket.0
   pub answered : Answered N S
   pub past : new.past ≡ with_given ends (with_event (DidAsk (Close socket) IsDone answered) old.past)
   pub items : new.items ≡ old.items ++ IsEvent (record { by = old.caller; did = DidAsk (Close socket) IsDone answered }) ∷ []

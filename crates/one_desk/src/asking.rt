@@ -1,6 +1,7 @@
-ghost use Rattle.std.specs.Prelude.{◌≡◌, [], ℕ, true, Some, IfOk, IsOk, OnErr};
-ghost use Rattle.spec_control.specs.declared.request.Req.TheVariants.{Bind, Connect};
+ghost use Rattle.std.specs.Prelude.{◌≡◌, [], ℕ, true, false, Some, IfOk, IsOk, OnErr};
+ghost use Rattle.spec_control.specs.declared.request.Req.TheVariants.{AskTerm, Bind, Connect};
 ghost use Rattle.spec_control.specs.Names.{name_of};
+ghost use Rattle.spec_control.specs.Reply.{root_asked};
 ghost use Rattle.control_held.specs.Held.{asker};
 ghost use Rattle.control_held.specs.OwnAsks.{MayAskOwn};
 ghost use Rattle.control_held.specs.Moments.{items_in};
@@ -76,7 +77,7 @@ where
     }
 
     /// The caller makes a request of the context's or of a socket's. Want of memory leaves all as it
-    /// was; a close wants none.
+    /// was; a close wants none, nor does the first asking of the context to end.
     pub fn ask<H: Undoes<P>>(
         &mut self,
         alloc: Global,
@@ -95,8 +96,10 @@ where
         ensures ok { IfOk result (λ reply. AsksOnce self.old.caller request reply
             (moments_of self.old) (moments_of self.new)) }
         ensures given { IfOk result (λ _. SendsEnds P.known (H.pipes holder.new)
-            (H.holding holder.old).sealed request self.old.past.given self.new.past.given) }
+            (H.holding holder.old) request self.old.past.given self.new.past.given) }
         ensures succeeds { is_close request ≡ true → IsOk result }
+        ensures first { request ≡ AskTerm → root_asked (control_of self.old.past) ≡ false →
+            IsOk result }
         ensures err { OnErr result (self.new ≡ self.old) }
         ensures grows { GrowsBy self.old self.new }
         ensures names { KeepsNames (name_of self.old.items) (name_of self.new.items) }

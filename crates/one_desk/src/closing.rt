@@ -23,7 +23,7 @@ where
         requires lent { (H.holding holder.old).holds socket.0 ≡ true }
         requires has { HasWhatTheySay self.old.caller (moments_of self.old)
             (H.holding holder.old) }
-        ensures closes { ClosesOnce P.known (H.pipes holder.new) (H.holding holder.old).sealed
+        ensures closes { ClosesOnce P.known (H.pipes holder.new) (H.holding holder.old)
             socket self.old self.new }
         ensures gives { HasGiven socket.0 (H.holding holder.old) (H.holding holder.new) }
         ensures keeps { KeepsUp self.new.caller (moments_of self.old) (moments_of self.new)

@@ -4,7 +4,7 @@ ghost use Rattle.spec_control.specs.Names.{name_of};
 ghost use Rattle.ctl_history.specs.Past.{control_of};
 ghost use Rattle.ctl_plane.specs.Coming.{AreDistinct, BindsFit};
 ghost use Rattle.ctl_plane.specs.Memory.{NoBindWaits};
-ghost use Rattle.ctl_plane.specs.Desk.{CountsWith, HasWhatTheySay, HoldsEnd, IsItsMailbox, IsNotLooked, KeepsUp};
+ghost use Rattle.ctl_plane.specs.Desk.{BringsWith, CountsWith, HasWhatTheySay, HoldsEnd, IsItsMailbox, IsNotLooked, KeepsUp};
 ghost use Rattle.one_desk.specs.Lent.{coming_to, moments_of, FindsIn, MeetsOrNot};
 
 use crate::desk::OneDesk;
@@ -63,6 +63,8 @@ where
             (coming_to self.old slot.0) (λ h. (e : EndId) → H.fits holder.old e h) }
         requires calm { H.calm holder.old [] }
         ensures ok { IfOk result (λ found. FindsIn slot found self.old self.new) }
+        ensures brings { BringsWith P.known.out_name P.known.in_name (moments_of self.old)
+            (moments_of self.new) self.old.past.given self.new.past.given }
         ensures succeeds { NoBindWaits (control_of self.old.past) slot.0 → IsOk result }
         ensures counts { CountsWith P.known.out_name (H.counts holder.old)
             (moments_of self.old) (moments_of self.new) (H.holding holder.old) }

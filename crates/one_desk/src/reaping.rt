@@ -8,7 +8,7 @@ ghost use Rattle.ctl_holder.specs.TakingOver.{MayTakeFirst};
 ghost use Rattle.ctl_history.specs.Past.{control_of};
 ghost use Rattle.ctl_plane.specs.Coming.{AreDistinct, BindsFit, TakesEnds};
 ghost use Rattle.ctl_plane.specs.Memory.{NoBindIsFirst, NoBindWaits};
-ghost use Rattle.ctl_plane.specs.Desk.{CountsWith, HasWhatTheySay, IsItsMailbox, KeepsUp};
+ghost use Rattle.ctl_plane.specs.Desk.{BringsWith, CountsWith, HasWhatTheySay, IsItsMailbox, KeepsUp};
 ghost use Rattle.socket_laws.specs.Closed.{lives, waits};
 ghost use Rattle.one_desk.specs.Lent.{coming_to, moments_of};
 ghost use Rattle.one_desk.specs.Reaping.{served_by, FindsFirst, HearsFrom, WaitsFirst};
@@ -120,6 +120,8 @@ where
             self.old.past.given }
         requires calm { H.calm holder.old [] }
         ensures ok { OnOk result (HearsFrom (record { 0 = 0 }) self.old self.new) }
+        ensures brings { BringsWith P.known.out_name P.known.in_name (moments_of self.old)
+            (moments_of self.new) self.old.past.given self.new.past.given }
         ensures succeeds { NoBindWaits (control_of self.old.past) 0 → IsOk result }
         ensures counts { CountsWith P.known.out_name (H.counts holder.old)
             (moments_of self.old) (moments_of self.new) (H.holding holder.old) }
@@ -157,6 +159,8 @@ where
             (coming_to self.old slot.0) (λ h. (e : EndId) → H.fits holder.old e h) }
         requires calm { H.calm holder.old [] }
         ensures ok { OnOk result (HearsFrom slot self.old self.new) }
+        ensures brings { BringsWith P.known.out_name P.known.in_name (moments_of self.old)
+            (moments_of self.new) self.old.past.given self.new.past.given }
         ensures succeeds { NoBindWaits (control_of self.old.past) slot.0 → IsOk result }
         ensures counts { CountsWith P.known.out_name (H.counts holder.old)
             (moments_of self.old) (moments_of self.new) (H.holding holder.old) }
@@ -193,6 +197,8 @@ where
             self.old.past.given }
         requires calm { H.calm holder.old [] }
         ensures ok { OnOk result (HearsFrom slot self.old self.new) }
+        ensures brings { BringsWith P.known.out_name P.known.in_name (moments_of self.old)
+            (moments_of self.new) self.old.past.given self.new.past.given }
         ensures succeeds { NoBindWaits (control_of self.old.past) slot.0 → IsOk result }
         ensures counts { CountsWith P.known.out_name (H.counts holder.old)
             (moments_of self.old) (moments_of self.new) (H.holding holder.old) }
@@ -230,6 +236,8 @@ where
             self.old.past.given }
         requires calm { H.calm holder.old [] }
         ensures ok { IfOk result (λ found. FindsFirst found self.old self.new) }
+        ensures brings { BringsWith P.known.out_name P.known.in_name (moments_of self.old)
+            (moments_of self.new) self.old.past.given self.new.past.given }
         ensures succeeds { NoBindIsFirst (control_of self.old.past) → IsOk result }
         ensures counts { CountsWith P.known.out_name (H.counts holder.old)
             (moments_of self.old) (moments_of self.new) (H.holding holder.old) }

@@ -1,8 +1,9 @@
-ghost use Rattle.std.specs.Prelude.{◌≡◌, ℕ, true, All, IfOk, OnErr};
+ghost use Rattle.std.specs.Prelude.{◌≡◌, ℕ, true, All, IfOk, IsOk, OnErr};
 ghost use Rattle.spec_control.specs.Names.{name_of};
 ghost use Rattle.ctl_holder.specs.TakingOver.{MayTakeFirst};
 ghost use Rattle.ctl_history.specs.Past.{control_of};
 ghost use Rattle.ctl_plane.specs.Coming.{AreDistinct, BindsFit, TakesEnds};
+ghost use Rattle.ctl_plane.specs.Memory.{NoBindIsFirst};
 ghost use Rattle.ctl_plane.specs.Desk.{CountsWith, HasWhatTheySay, HoldsEnd, IsNotLooked, KeepsUp};
 ghost use Rattle.one_desk.specs.Lent.{coming_to, moments_of, MeetsOrNot};
 ghost use Rattle.one_desk.specs.Reaping.{served_by, FindsFirst};
@@ -58,6 +59,7 @@ where
         (λ o gs. MayTake P.known pipes closed gs × All (F.brings o) gs)
         (control_of desk.old.past) desk.old.past.given }
     ensures ok { IfOk result.answer (λ found. FindsFirst found desk.old desk.new) }
+    ensures succeeds { NoBindIsFirst (control_of desk.old.past) → IsOk result.answer }
     ensures counts { CountsWith P.known.out_name
         (λ e writer. counts_of P.known pipes closed.sockets.items e writer)
         (moments_of desk.old) (moments_of desk.new)

@@ -1,10 +1,11 @@
-ghost use Rattle.std.specs.Prelude.{◌≡◌, ℕ, true, IfOk, OnErr};
+ghost use Rattle.std.specs.Prelude.{◌≡◌, ℕ, true, IfOk, IsOk, OnErr};
 ghost use Rattle.spec_control.specs.Names.{name_of};
 ghost use Rattle.msg_pipe.specs.declared.pipes.Front.TheVariants.{Delimiter};
 ghost use Rattle.ctl_holder.specs.Holding.{has_end, HearsNone, KeepsTurns, Stays};
 ghost use Rattle.ctl_holder.specs.TakingOver.{MayTakeFirst};
 ghost use Rattle.ctl_history.specs.Past.{control_of};
 ghost use Rattle.ctl_plane.specs.Coming.{AreDistinct, BindsFit, TakesEnds};
+ghost use Rattle.ctl_plane.specs.Memory.{NoBindIsFirst};
 ghost use Rattle.ctl_plane.specs.Desk.{CountsWith, HasWhatTheySay, HoldsEnd, IsNotLooked, KeepsUp};
 ghost use Rattle.one_desk.specs.Lent.{coming_to, moments_of, MeetsOrNot};
 ghost use Rattle.one_desk.specs.Reaping.{served_by, FindsFirst};
@@ -29,7 +30,7 @@ use std::mem;
 use zq_base::{EndId, ObjId};
 
 /// Processes the oldest command of the first of the reaper's mailboxes that is not empty, or finds all
-/// of them empty. Want of memory leaves the command where it was.
+/// of them empty. Want of memory leaves the command where it was; only a bind takes any.
 pub fn deliver_first<P>(
     alloc: Global,
     pipes: &mut P,
@@ -53,6 +54,7 @@ where
     requires takes { MayTakeFirst (λ o gs. MayTake P.known pipes.old closed.old gs)
         (control_of desk.old.past) desk.old.past.given }
     ensures ok { IfOk result (λ found. FindsFirst found desk.old desk.new) }
+    ensures succeeds { NoBindIsFirst (control_of desk.old.past) → IsOk result }
     ensures counts { CountsWith P.known.out_name
         (λ e writer. counts_of P.known pipes.old closed.old.sockets.items e writer)
         (moments_of desk.old) (moments_of desk.new)

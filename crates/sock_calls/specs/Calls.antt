@@ -76,7 +76,7 @@ module _ {C W N O I : Type 0} where
   HasNone (Some s) = (s.is_open ≡ false) × AreGone s.ends.places.items
 
   module _ {S : Type 0} (K : Known S O I N) where
-    -- its ends are of these pipes, those at the places of its kind's peers are its peers and no others, which are in use, it has room to give them away, and none where it was closed; it is stopped where it was told so
+    -- its ends are of these pipes, those at the places of its kind's peers are its peers and no others, which are in use, it has room to give them away, and none where it was closed; it is stopped where it was told so, and an end of it reads on only where one began to
     pub record FitsCore (peers : C → List ℕ) (pipes : S) (s : SockCore C W N O I) : Type 0 where
       pub sound : AreSound K pipes s.ends.rows.items s.ends.places.items
       pub peers_are : s.is_open ≡ true → ArePeers s.ends.places.items (peers s.kind)
@@ -84,7 +84,7 @@ module _ {C W N O I : Type 0} where
       pub gone : s.is_open ≡ false → AreGone s.ends.places.items
       pub stopped_is : IsStopped s.stopped s.heard.items
       pub flagged : AreFlagged s.ends.places.items (peers s.kind)
-      pub in_use : AreInUse s.ends.places.items
+      pub in_use : AreInUse s.reads s.ends.places.items
       -- each pipe that was settled was read by an end that is held no more, and each end that is held and sealed was told to seal its pipe
       pub settled_are : WereRead s.ends.places.items s.ends.settled.items
       pub sealed_are : AreSealed s.ends.places.items (map (λ x. x.0) s.sealed.items)

@@ -46,7 +46,7 @@ where
     ensures ok { IfOk result (λ reply. AsksOnce (D.number desk.old) request reply
         (D.moments desk.old) (D.moments desk.new)) }
     ensures given { IfOk result (λ _. SendsEnds P.known pipes.new
-        (holding_of C.kind socket.old).sealed request (D.given desk.old) (D.given desk.new)) }
+        (holding_of C.kind socket.old) request (D.given desk.old) (D.given desk.new)) }
     ensures succeeds { is_close request ≡ true → IsOk result }
     ensures err { OnErr result ((D.moments desk.new ≡ D.moments desk.old)
         × (D.given desk.new ≡ D.given desk.old)) }

@@ -10,6 +10,7 @@ ghost use Rattle.ctl_plane.specs.Asking.{HasMarks, IsOfSockets};
 ghost use Rattle.ctl_plane.specs.Coming.{is_close, AreDistinct, BindsFit, KeepsNames, SendsEnds};
 ghost use Rattle.ctl_plane.specs.Desk.{HasWhatTheySay, KeepsUp, AsksOnce, GivesOrNot, DelimitsOrNot, slot_after};
 ghost use Rattle.ctl_plane.specs.Desk.{CountsWith};
+ghost use Rattle.ctl_plane.specs.Memory.{NoBindWaits};
 ghost use Rattle.held_ends.specs.Changes.{AreMakings};
 ghost use Rattle.held_ends.specs.Counting.{counts_of};
 ghost use Rattle.held_ends.specs.Others.{Leaves};
@@ -65,7 +66,7 @@ where
     ensures ok { IfOk result.answer (λ reply. AsksOnce (D.number desk.old) request reply
         (D.moments desk.old) (D.moments desk.new)) }
     ensures given { IfOk result.answer (λ _. SendsEnds P.known result.pipes
-        (holding_in (C.kind core.kind) core).sealed request
+        (holding_in (C.kind core.kind) core) request
         (D.given desk.old) (D.given desk.new)) }
     ensures succeeds { is_close request ≡ true → IsOk result.answer }
     ensures err { OnErr result.answer ((D.moments desk.new ≡ D.moments desk.old)
@@ -153,6 +154,8 @@ where
     ensures ok { IfOk result.answer (λ found. GivesOrNot (D.number desk.old)
         (slot_after core.number.0 (D.moments desk.old)) found
         (D.moments desk.old) (D.moments desk.new)) }
+    ensures succeeds { (c : Control) → D.finds desk.old c →
+        NoBindWaits c (slot_after core.number.0 (D.moments desk.old)).0 → IsOk result.answer }
     ensures counts { CountsWith P.known.out_name
         (λ e writer. counts_of P.known pipes core.ends e writer)
         (D.moments desk.old) (D.moments desk.new) (holding_in (C.kind core.kind) core) }

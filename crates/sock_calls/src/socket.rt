@@ -189,7 +189,7 @@ where
         ensures succeeds { IsOk result }
         ensures none { IfOk result (λ _. HasNone self.new.core) }
         ensures given { IfOk result (λ _. SendsEnds P.known pipes.new
-            (holding_of C.kind self.old.core).sealed (Close (id (owner_of self.old.core)))
+            (holding_of C.kind self.old.core) (Close (id (owner_of self.old.core)))
             (D.given desk.old) (D.given desk.new)) }
         ensures err { OnErr result ((D.moments desk.new ≡ D.moments desk.old)
             × (D.given desk.new ≡ D.given desk.old)) }

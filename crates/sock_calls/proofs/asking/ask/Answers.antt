@@ -92,4 +92,4 @@ pub returns-in-Some-clause-given : goal.returns-in-Some-clause-given
 returns-in-Some-clause-given g c =
     let e : c.args.socket.now ≡ Some c.in-Some.core = sym c.take.ensures.value ∙ c.in-Some.is in
     let x = c.ask_lent-answer in
-    subst (λ (s : Option (SockCore _ _ _ _ _)). IfOk x.result.answer (λ _. SendsEnds g.P.Pipes.known x.result.pipes (holding_of g.C.Joins.kind s).sealed c.args.request (g.D.Desk.given c.args.desk.now) (g.D.Desk.given x.new.desk))) (sym e) x.ensures.given
+    subst (λ (s : Option (SockCore _ _ _ _ _)). IfOk x.result.answer (λ _. SendsEnds g.P.Pipes.known x.result.pipes (holding_of g.C.Joins.kind s) c.args.request (g.D.Desk.given c.args.desk.now) (g.D.Desk.given x.new.desk))) (sym e) x.ensures.given

@@ -9,6 +9,7 @@ use Rattle.held_ends.specs.Sound.{Fits}
 use Rattle.sock_core.specs.Has.{holding_in}
 use Rattle.ctl_plane.specs.Coming.{BindsFit}
 use Rattle.ctl_plane.specs.Desk.{GivesOrNot}
+use Rattle.ctl_plane.specs.Memory.{NoBindWaits}
 use Rattle.std.specs.Prelude.{length, map}
 use Rattle.zq_base.specs.declared.ids.EndId.{EndId}
 use Rattle.sock_core.specs.Noted.{AreMade, HasDone}
@@ -85,3 +86,6 @@ returns-clause-rest g c = λ s t b. c.deliver-answer.new.holder.rest s t b
 
 pub returns-clause-came : goal.returns-clause-came
 returns-clause-came g c = λ s t b. c.deliver-answer.new.holder.came s t b
+
+pub returns-clause-succeeds : goal.returns-clause-succeeds
+returns-clause-succeeds g c = λ b finds none. c.deliver-answer.ensures.succeeds b finds (subst (λ (n : ℕ). NoBindWaits b n) (sym c.slot-slot.ensures) none)

@@ -13,7 +13,7 @@ use Rattle.ctl_state.specs.Stands.{Stands}
 use Rattle.ctl_terms.proofs.HolderLemmas.{has_same}
 use Rattle.ctl_history.specs.Past.{Past, control_of, items_of, IsPast}
 use Rattle.ctl_history.specs.Hearing.{HasWhat}
-use Rattle.ctl_history.proofs.GiveLemmas.{given_ends, given_halves, given_has, given_sealed, gives_all}
+use Rattle.ctl_history.proofs.GiveLemmas.{given_all, given_ends, given_halves, given_has, given_sealed, gives_all}
 use Rattle.ctl_history.proofs.StruckLemmas.{has_then}
 use Rattle.ctl_history.proofs.ToldLemmas.{event_told}
 use Rattle.ctl_strikes.proofs.OnceLemmas.{told_none}
@@ -47,6 +47,7 @@ returns-clause-closes g c =
           g.P.Pipes.known (g.H.Holder.pipes c.give_ends.new.self) c.give_ends.ensures.told c.give_ends.ensures.given;
       sealed = given_sealed g.P.Pipes.known.out_name g.P.Pipes.known.in_name (control_of c.args.self.now) c.args.socket.0 (name_of (items_of c.args.self.now)) (g.H.Holder.holding c.args.holder.now) has c.give_ends.result.ends.items c.give_ends.ensures.all c.give_ends.result.joined c.give_ends.ensures.joined c.note_met-parting.result (c.note_met-parting.ensures.ends _ stands) (c.note_met-parting.ensures.joined _ stands)
           (g.H.Holder.holding c.args.holder.now).sealed c.give_ends.ensures.sealed;
+      all = given_all g.P.Pipes.known.out_name g.P.Pipes.known.in_name (control_of c.args.self.now) c.args.socket.0 (name_of (items_of c.args.self.now)) (g.H.Holder.holding c.args.holder.now) has c.give_ends.result.ends.items c.give_ends.ensures.all c.give_ends.result.joined c.give_ends.ensures.joined c.note_met-parting.result (c.note_met-parting.ensures.ends _ stands) (c.note_met-parting.ensures.joined _ stands);
       step = c.give_over.ensures;
     }
 

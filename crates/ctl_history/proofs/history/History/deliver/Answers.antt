@@ -24,7 +24,8 @@ use Rattle.ctl_history.specs.Past.{Past, control_of, items_of, with_event}
 use Rattle.ctl_history.proofs.ToldLemmas.{event_told, once_attached, past_told}
 use Rattle.ctl_strikes.proofs.OnceLemmas.{told_before}
 use Rattle.ctl_history.specs.Carried.{given_in}
-use Rattle.ctl_history.specs.Hearing.{AreApart, AreOfKind, BringsFirst, FitBinds, IsServed, HasWhat}
+use Rattle.ctl_holder.specs.Bringing.{BringsFirst}
+use Rattle.ctl_history.specs.Hearing.{AreApart, AreOfKind, FitBinds, IsServed, HasWhat}
 use Rattle.ctl_hears.specs.Processing.{AreFree}
 use Rattle.ctl_history.proofs.DoneLemmas.{event_with, goes_back}
 use Rattle.ctl_history.proofs.PlaneLemmas.{planed_now}

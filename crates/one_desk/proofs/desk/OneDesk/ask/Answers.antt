@@ -1,4 +1,4 @@
-use Rattle.std.proofs.Common.{sym, ap, ◌∙◌, subst}
+use Rattle.std.proofs.Common.{refl, sym, ap, ◌∙◌, subst}
 use Rattle.spec_control.specs.declared.request.Req.{Req}
 use Rattle.spec_control.specs.declared.request.Req.TheVariants.{Socket as MakeSocket, AskTerm, Bind, Connect, Unbind, Disconnect}
 use Rattle.spec_control.specs.declared.request.Reply.TheVariants.{Done as IsDone}
@@ -24,7 +24,7 @@ pub returns-in-Socket-clause-ok : goal.returns-in-Socket-clause-ok
 returns-in-Socket-clause-ok g c = ask_ok c.args.request (MakeSocket c.in-Socket.kind c.in-Socket.options) c.in-Socket.is c.args.self.now c.make_socket.new.self c.make_socket.result c.make_socket.ensures.ok c.make_socket.ensures.err
 
 pub returns-in-Socket-clause-given : goal.returns-in-Socket-clause-given
-returns-in-Socket-clause-given g c = ask_given c.args.request (MakeSocket c.in-Socket.kind c.in-Socket.options) c.in-Socket.is c.args.self.now c.make_socket.new.self c.make_socket.result c.make_socket.ensures.ok c.make_socket.ensures.err g.P.Pipes.known (g.H.Holder.pipes c.args.holder.now) (g.H.Holder.holding c.args.holder.now).sealed
+returns-in-Socket-clause-given g c = ask_given c.args.request (MakeSocket c.in-Socket.kind c.in-Socket.options) c.in-Socket.is c.args.self.now c.make_socket.new.self c.make_socket.result c.make_socket.ensures.ok c.make_socket.ensures.err g.P.Pipes.known (g.H.Holder.pipes c.args.holder.now) (g.H.Holder.holding c.args.holder.now) refl
 
 pub returns-in-Socket-clause-names : goal.returns-in-Socket-clause-names
 returns-in-Socket-clause-names g c = ask_names c.args.request (MakeSocket c.in-Socket.kind c.in-Socket.options) c.in-Socket.is c.args.self.now c.make_socket.new.self c.make_socket.result c.make_socket.ensures.ok c.make_socket.ensures.err
@@ -36,7 +36,7 @@ pub returns-in-AskTerm-clause-ok : goal.returns-in-AskTerm-clause-ok
 returns-in-AskTerm-clause-ok g c = ask_ok c.args.request (AskTerm) c.in-AskTerm.is c.args.self.now c.ask_term.new.self c.ask_term.result c.ask_term.ensures.ok c.ask_term.ensures.err
 
 pub returns-in-AskTerm-clause-given : goal.returns-in-AskTerm-clause-given
-returns-in-AskTerm-clause-given g c = ask_given c.args.request (AskTerm) c.in-AskTerm.is c.args.self.now c.ask_term.new.self c.ask_term.result c.ask_term.ensures.ok c.ask_term.ensures.err g.P.Pipes.known (g.H.Holder.pipes c.args.holder.now) (g.H.Holder.holding c.args.holder.now).sealed
+returns-in-AskTerm-clause-given g c = ask_given c.args.request (AskTerm) c.in-AskTerm.is c.args.self.now c.ask_term.new.self c.ask_term.result c.ask_term.ensures.ok c.ask_term.ensures.err g.P.Pipes.known (g.H.Holder.pipes c.args.holder.now) (g.H.Holder.holding c.args.holder.now) refl
 
 pub returns-in-AskTerm-clause-names : goal.returns-in-AskTerm-clause-names
 returns-in-AskTerm-clause-names g c = ask_names c.args.request (AskTerm) c.in-AskTerm.is c.args.self.now c.ask_term.new.self c.ask_term.result c.ask_term.ensures.ok c.ask_term.ensures.err
@@ -60,7 +60,7 @@ pub returns-in-Bind-clause-ok : goal.returns-in-Bind-clause-ok
 returns-in-Bind-clause-ok g c = ask_ok c.args.request (Bind c.in-Bind.socket c.in-Bind.at) c.in-Bind.is c.args.self.now c.bind_at.new.self c.bind_at.result c.bind_at.ensures.ok c.bind_at.ensures.err
 
 pub returns-in-Bind-clause-given : goal.returns-in-Bind-clause-given
-returns-in-Bind-clause-given g c = ask_given c.args.request (Bind c.in-Bind.socket c.in-Bind.at) c.in-Bind.is c.args.self.now c.bind_at.new.self c.bind_at.result c.bind_at.ensures.ok c.bind_at.ensures.err g.P.Pipes.known (g.H.Holder.pipes c.bind_at.new.holder) (g.H.Holder.holding c.args.holder.now).sealed
+returns-in-Bind-clause-given g c = ask_given c.args.request (Bind c.in-Bind.socket c.in-Bind.at) c.in-Bind.is c.args.self.now c.bind_at.new.self c.bind_at.result c.bind_at.ensures.ok c.bind_at.ensures.err g.P.Pipes.known (g.H.Holder.pipes c.bind_at.new.holder) (g.H.Holder.holding c.args.holder.now) refl
 
 pub returns-in-Bind-clause-names : goal.returns-in-Bind-clause-names
 returns-in-Bind-clause-names g c = ask_names c.args.request (Bind c.in-Bind.socket c.in-Bind.at) c.in-Bind.is c.args.self.now c.bind_at.new.self c.bind_at.result c.bind_at.ensures.ok c.bind_at.ensures.err
@@ -84,7 +84,7 @@ pub returns-in-Connect-clause-ok : goal.returns-in-Connect-clause-ok
 returns-in-Connect-clause-ok g c = ask_ok c.args.request (Connect c.in-Connect.socket c.in-Connect.at) c.in-Connect.is c.args.self.now c.connect_at.new.self c.connect_at.result c.connect_at.ensures.ok c.connect_at.ensures.err
 
 pub returns-in-Connect-clause-given : goal.returns-in-Connect-clause-given
-returns-in-Connect-clause-given g c = ask_given c.args.request (Connect c.in-Connect.socket c.in-Connect.at) c.in-Connect.is c.args.self.now c.connect_at.new.self c.connect_at.result c.connect_at.ensures.ok c.connect_at.ensures.err g.P.Pipes.known (g.H.Holder.pipes c.connect_at.new.holder) (g.H.Holder.holding c.args.holder.now).sealed
+returns-in-Connect-clause-given g c = ask_given c.args.request (Connect c.in-Connect.socket c.in-Connect.at) c.in-Connect.is c.args.self.now c.connect_at.new.self c.connect_at.result c.connect_at.ensures.ok c.connect_at.ensures.err g.P.Pipes.known (g.H.Holder.pipes c.connect_at.new.holder) (g.H.Holder.holding c.args.holder.now) refl
 
 pub returns-in-Connect-clause-names : goal.returns-in-Connect-clause-names
 returns-in-Connect-clause-names g c = ask_names c.args.request (Connect c.in-Connect.socket c.in-Connect.at) c.in-Connect.is c.args.self.now c.connect_at.new.self c.connect_at.result c.connect_at.ensures.ok c.connect_at.ensures.err
@@ -99,7 +99,7 @@ pub returns-in-Unbind-clause-ok : goal.returns-in-Unbind-clause-ok
 returns-in-Unbind-clause-ok g c = ask_ok c.args.request (Unbind c.in-Unbind.socket c.in-Unbind.at) c.in-Unbind.is c.args.self.now c.unbind.new.self c.unbind.result c.unbind.ensures.ok c.unbind.ensures.err
 
 pub returns-in-Unbind-clause-given : goal.returns-in-Unbind-clause-given
-returns-in-Unbind-clause-given g c = ask_given c.args.request (Unbind c.in-Unbind.socket c.in-Unbind.at) c.in-Unbind.is c.args.self.now c.unbind.new.self c.unbind.result c.unbind.ensures.ok c.unbind.ensures.err g.P.Pipes.known (g.H.Holder.pipes c.args.holder.now) (g.H.Holder.holding c.args.holder.now).sealed
+returns-in-Unbind-clause-given g c = ask_given c.args.request (Unbind c.in-Unbind.socket c.in-Unbind.at) c.in-Unbind.is c.args.self.now c.unbind.new.self c.unbind.result c.unbind.ensures.ok c.unbind.ensures.err g.P.Pipes.known (g.H.Holder.pipes c.args.holder.now) (g.H.Holder.holding c.args.holder.now) refl
 
 pub returns-in-Unbind-clause-names : goal.returns-in-Unbind-clause-names
 returns-in-Unbind-clause-names g c = ask_names c.args.request (Unbind c.in-Unbind.socket c.in-Unbind.at) c.in-Unbind.is c.args.self.now c.unbind.new.self c.unbind.result c.unbind.ensures.ok c.unbind.ensures.err
@@ -117,7 +117,7 @@ pub returns-in-Disconnect-clause-ok : goal.returns-in-Disconnect-clause-ok
 returns-in-Disconnect-clause-ok g c = ask_ok c.args.request (Disconnect c.in-Disconnect.socket c.in-Disconnect.at) c.in-Disconnect.is c.args.self.now c.disconnect.new.self c.disconnect.result c.disconnect.ensures.ok c.disconnect.ensures.err
 
 pub returns-in-Disconnect-clause-given : goal.returns-in-Disconnect-clause-given
-returns-in-Disconnect-clause-given g c = ask_given c.args.request (Disconnect c.in-Disconnect.socket c.in-Disconnect.at) c.in-Disconnect.is c.args.self.now c.disconnect.new.self c.disconnect.result c.disconnect.ensures.ok c.disconnect.ensures.err g.P.Pipes.known (g.H.Holder.pipes c.disconnect.new.holder) (g.H.Holder.holding c.args.holder.now).sealed
+returns-in-Disconnect-clause-given g c = ask_given c.args.request (Disconnect c.in-Disconnect.socket c.in-Disconnect.at) c.in-Disconnect.is c.args.self.now c.disconnect.new.self c.disconnect.result c.disconnect.ensures.ok c.disconnect.ensures.err g.P.Pipes.known (g.H.Holder.pipes c.disconnect.new.holder) (g.H.Holder.holding c.args.holder.now) refl
 
 pub returns-in-Disconnect-clause-names : goal.returns-in-Disconnect-clause-names
 returns-in-Disconnect-clause-names g c = ask_names c.args.request (Disconnect c.in-Disconnect.socket c.in-Disconnect.at) c.in-Disconnect.is c.args.self.now c.disconnect.new.self c.disconnect.result c.disconnect.ensures.ok c.disconnect.ensures.err
@@ -135,13 +135,13 @@ pub close-requires-clause-lent : goal.close-requires-clause-lent
 close-requires-clause-lent g c = c.requires.lent c.in-Close.socket.0 (ap asker c.in-Close.is)
 
 pub returns-in-Close-clause-ok : goal.returns-in-Close-clause-ok
-returns-in-Close-clause-ok g c = subst (λ (q : Req). AsksOnce c.args.self.now.caller q IsDone (moments_of c.args.self.now) (moments_of c.close.new.self)) (sym c.in-Close.is) (closes_once g.P.Pipes.known (g.H.Holder.pipes c.close.new.holder) (g.H.Holder.holding c.args.holder.now).sealed c.in-Close.socket c.args.self.now c.close.new.self c.close.ensures.closes)
+returns-in-Close-clause-ok g c = subst (λ (q : Req). AsksOnce c.args.self.now.caller q IsDone (moments_of c.args.self.now) (moments_of c.close.new.self)) (sym c.in-Close.is) (closes_once g.P.Pipes.known (g.H.Holder.pipes c.close.new.holder) (g.H.Holder.holding c.args.holder.now) c.in-Close.socket c.args.self.now c.close.new.self c.close.ensures.closes)
 
 pub returns-in-Close-clause-given : goal.returns-in-Close-clause-given
-returns-in-Close-clause-given g c = subst (λ (q : Req). SendsEnds g.P.Pipes.known (g.H.Holder.pipes c.close.new.holder) (g.H.Holder.holding c.args.holder.now).sealed q c.args.self.now.past.given c.close.new.self.past.given) (sym c.in-Close.is) (closed_sends g.P.Pipes.known (g.H.Holder.pipes c.close.new.holder) (g.H.Holder.holding c.args.holder.now).sealed c.in-Close.socket c.args.self.now c.close.new.self c.close.ensures.closes)
+returns-in-Close-clause-given g c = subst (λ (q : Req). SendsEnds g.P.Pipes.known (g.H.Holder.pipes c.close.new.holder) (g.H.Holder.holding c.args.holder.now) q c.args.self.now.past.given c.close.new.self.past.given) (sym c.in-Close.is) (closed_sends g.P.Pipes.known (g.H.Holder.pipes c.close.new.holder) (g.H.Holder.holding c.args.holder.now) c.in-Close.socket c.args.self.now c.close.new.self c.close.ensures.closes)
 
 pub returns-in-Close-clause-names : goal.returns-in-Close-clause-names
-returns-in-Close-clause-names g c = closed_names g.P.Pipes.known (g.H.Holder.pipes c.close.new.holder) (g.H.Holder.holding c.args.holder.now).sealed c.in-Close.socket c.args.self.now c.close.new.self c.close.ensures.closes
+returns-in-Close-clause-names g c = closed_names g.P.Pipes.known (g.H.Holder.pipes c.close.new.holder) (g.H.Holder.holding c.args.holder.now) c.in-Close.socket c.args.self.now c.close.new.self c.close.ensures.closes
 
 pub returns-in-Close-clause-keeps : goal.returns-in-Close-clause-keeps
 returns-in-Close-clause-keeps g c = (c.close.ensures.closes.caller, c.close.ensures.keeps)
@@ -162,7 +162,7 @@ pub returns-in-Disconnect-clause-grows : goal.returns-in-Disconnect-clause-grows
 returns-in-Disconnect-clause-grows g c = asked_grow c.args.self.now c.disconnect.new.self (Disconnect c.in-Disconnect.socket c.in-Disconnect.at) c.disconnect.result c.disconnect.ensures.ok c.disconnect.ensures.err
 
 pub returns-in-Close-clause-grows : goal.returns-in-Close-clause-grows
-returns-in-Close-clause-grows g c = close_grows g.P.Pipes.known (g.H.Holder.pipes c.close.new.holder) (g.H.Holder.holding c.args.holder.now).sealed c.in-Close.socket c.args.self.now c.close.new.self c.close.ensures.closes
+returns-in-Close-clause-grows g c = close_grows g.P.Pipes.known (g.H.Holder.pipes c.close.new.holder) (g.H.Holder.holding c.args.holder.now) c.in-Close.socket c.args.self.now c.close.new.self c.close.ensures.closes
 
 pub returns-in-Socket-clause-succeeds : goal.returns-in-Socket-clause-succeeds
 returns-in-Socket-clause-succeeds g c = λ close. absurd (never (sym (ap is_close c.in-Socket.is) ∙ close))
@@ -181,3 +181,6 @@ returns-in-Unbind-clause-succeeds g c = λ close. absurd (never (sym (ap is_clos
 
 pub returns-in-Disconnect-clause-succeeds : goal.returns-in-Disconnect-clause-succeeds
 returns-in-Disconnect-clause-succeeds g c = λ close. absurd (never (sym (ap is_close c.in-Disconnect.is) ∙ close))
+
+pub returns-in-AskTerm-clause-first : goal.returns-in-AskTerm-clause-first
+returns-in-AskTerm-clause-first g c = λ is. c.ask_term.ensures.succeeds

@@ -38,7 +38,7 @@ push-requires g c = record { room = reaps_room (control_of c.self.inside.history
 
 pub returns-clause-closes : goal.returns-clause-closes
 returns-clause-closes g c =
-    subst (λ (l : Lent (Given g.row.P-Name.Denot g.row.P-Out.Denot g.row.P-In.Denot) g.row.P-Name.Denot g.row.P-Story.Denot). ClosesOnce g.P.Pipes.known (g.H.Holder.pipes c.close.new.holder) (g.H.Holder.holding c.args.holder.now).sealed c.args.socket l (lent_to c.self.inside.caller (map (λ x. x.0) c.and-self-inside.result.items) c.close.new.self)) c.self.view_is
+    subst (λ (l : Lent (Given g.row.P-Name.Denot g.row.P-Out.Denot g.row.P-In.Denot) g.row.P-Name.Denot g.row.P-Story.Denot). ClosesOnce g.P.Pipes.known (g.H.Holder.pipes c.close.new.holder) (g.H.Holder.holding c.args.holder.now) c.args.socket l (lent_to c.self.inside.caller (map (λ x. x.0) c.and-self-inside.result.items) c.close.new.self)) c.self.view_is
     (closes_more g.P.Pipes.known _ _ c.self.inside.caller _ _ _ _ _
     (ap (λ (xs : List (Mark × Unit {0})). map (λ x. x.0) xs) c.and-self-inside.ensures ∙ map-append (λ x. x.0) c.self.inside.order.items (_ ∷ []))
     c.close.ensures.closes c.self.invariant.0.marked)

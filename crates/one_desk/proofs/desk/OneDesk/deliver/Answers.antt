@@ -1,4 +1,5 @@
-use Rattle.std.specs.Prelude.{List, [], ◌∷◌, length, map}
+use Rattle.std.specs.Prelude.{◌≡◌, ◌++◌, List, [], ◌∷◌, length, map}
+use Rattle.spec_control.specs.declared.entry.Did.{Did}
 use Rattle.zq_base.specs.declared.ids.EndId.{EndId}
 use Rattle.std.proofs.Common.{sym, ap, ◌∙◌, subst}
 use Rattle.std.proofs.lemmas.List.{map-append}
@@ -8,17 +9,19 @@ use Rattle.ctl_holder.specs.declared.given.Given.{Given}
 use Rattle.ctl_history.specs.declared.heard.Heard.{Heard}
 use Rattle.ctl_history.specs.Hearing.{FindsOldest}
 use Rattle.ctl_history.specs.Past.{Past, control_of}
+use Rattle.ctl_plane.specs.Desk.{brings_with, counts_with}
 use Rattle.ctl_plane.specs.Memory.{NoBindWaits}
 use Rattle.one_desk.specs.declared.mark.Mark.{Mark}
+use Rattle.ctl_holder.specs.Bringing.{BringsIn}
 use Rattle.ctl_holder.specs.Counts.{CountsOnce}
 use Rattle.one_desk.specs.Lent.{lent_to, IsLent, Lent, SeesNone}
-use Rattle.one_desk.proofs.CountLemmas.{heard_counts, seen_counts, still_counts}
 use Rattle.one_desk.proofs.DeliverLemmas.{deliver_apart, deliver_fits, deliver_held, deliver_kinds, deliver_lent, deliver_there, heard_done, heard_keeps, heard_lent, not_first}
 use Rattle.one_desk.proofs.HoldLemmas.{desk_has, desk_looks, desk_still}
 use Rattle.one_desk.proofs.LookLemmas.{lent_looks, sees_more}
 use Rattle.one_desk.proofs.MemoryLemmas.{no_bind}
 use Rattle.one_desk.specs.Reaping.{IsReaping}
 use Rattle.one_desk.proofs.ReapingLemmas.{reaps_heard}
+use Rattle.one_desk.proofs.TellLemmas.{brings_once, heard_tells, seen_tells, still_tells}
 use Rattle.one_desk.proofs.desk.OneDesk.deliver.Goals as goal
 
 pub deliver-requires-clause-there : goal.deliver-requires-clause-there
@@ -112,27 +115,53 @@ returns-in-Empty-clause-keeps g c =
 
 pub returns-in_err-found-clause-counts : goal.returns-in_err-found-clause-counts
 returns-in_err-found-clause-counts g c =
-    still_counts g.P.Pipes.known.out_name (g.H.Holder.counts c.args.holder.now) (g.H.Holder.holding c.args.holder.now) c.args.self.now _
+    still_tells (λ item. counts_with g.P.Pipes.known.out_name (g.H.Holder.counts c.args.holder.now) (g.H.Holder.holding c.args.holder.now) item) c.args.self.now _
+    (ap (λ (p : Past (Given g.row.P-Name.Denot g.row.P-Out.Denot g.row.P-In.Denot) g.row.P-Name.Denot g.row.P-Story.Denot). lent_to c.self.inside.caller (map (λ x. x.0) c.self.inside.order.items) p) c.in_err-found.ensures.err.0 ∙ c.self.view_is)
+
+pub returns-in_err-found-clause-brings : goal.returns-in_err-found-clause-brings
+returns-in_err-found-clause-brings g c =
+    still_tells (λ item. brings_with g.P.Pipes.known.out_name g.P.Pipes.known.in_name item c.args.self.now.past.given c.deliver.new.self.given) c.args.self.now _
     (ap (λ (p : Past (Given g.row.P-Name.Denot g.row.P-Out.Denot g.row.P-In.Denot) g.row.P-Name.Denot g.row.P-Story.Denot). lent_to c.self.inside.caller (map (λ x. x.0) c.self.inside.order.items) p) c.in_err-found.ensures.err.0 ∙ c.self.view_is)
 
 pub returns-in-Done-clause-counts : goal.returns-in-Done-clause-counts
 returns-in-Done-clause-counts g c =
-    heard_counts g.P.Pipes.known.out_name (g.H.Holder.counts c.args.holder.now) (g.H.Holder.holding c.args.holder.now) c.args.self.now _ c.args.slot
+    heard_tells (λ item. counts_with g.P.Pipes.known.out_name (g.H.Holder.counts c.args.holder.now) (g.H.Holder.holding c.args.holder.now) item) c.args.self.now _ c.args.slot
     (heard_done g.P.Pipes.known.out_name g.P.Pipes.known.in_name _ _ c.self.inside.history c.deliver.new.self (length c.self.inside.wakers.items) c.self.inside.caller c.args.self.now c.self.view_is c.self.invariant.0 (g.H.Holder.holding c.args.holder.now) (g.H.Holder.holding c.deliver.new.holder) c.requires.has c.args.slot c.requires.mine c.is_run.ensures.plugged
     (ap (λ (xs : List (Mark × Unit {0})). map (λ x. x.0) xs) c.and-heard.ensures ∙ map-append (λ x. x.0) c.self.inside.order.items (_ ∷ []))
     (subst (λ (f : Heard). FindsOldest g.P.Pipes.known.out_name g.P.Pipes.known.in_name c.args.slot f c.self.inside.history c.deliver.new.self) c.in-Done.is c.in_ok-found.ensures.ok) c.is_run-in-Done.ensures.run c.is_run-in-Done.ensures.named)
     (subst (λ (d : Lent (Given g.row.P-Name.Denot g.row.P-Out.Denot g.row.P-In.Denot) g.row.P-Name.Denot g.row.P-Story.Denot). CountsOnce g.P.Pipes.known.out_name (g.H.Holder.counts c.args.holder.now) d.past.events c.deliver.new.self.events (g.H.Holder.holding c.args.holder.now)) c.self.view_is c.in_ok-found.ensures.counts)
 
+pub returns-in-Done-clause-brings : goal.returns-in-Done-clause-brings
+returns-in-Done-clause-brings g c =
+    heard_tells (λ item. brings_with g.P.Pipes.known.out_name g.P.Pipes.known.in_name item c.args.self.now.past.given c.deliver.new.self.given) c.args.self.now _ c.args.slot
+    (heard_done g.P.Pipes.known.out_name g.P.Pipes.known.in_name _ _ c.self.inside.history c.deliver.new.self (length c.self.inside.wakers.items) c.self.inside.caller c.args.self.now c.self.view_is c.self.invariant.0 (g.H.Holder.holding c.args.holder.now) (g.H.Holder.holding c.deliver.new.holder) c.requires.has c.args.slot c.requires.mine c.is_run.ensures.plugged
+    (ap (λ (xs : List (Mark × Unit {0})). map (λ x. x.0) xs) c.and-heard.ensures ∙ map-append (λ x. x.0) c.self.inside.order.items (_ ∷ []))
+    (subst (λ (f : Heard). FindsOldest g.P.Pipes.known.out_name g.P.Pipes.known.in_name c.args.slot f c.self.inside.history c.deliver.new.self) c.in-Done.is c.in_ok-found.ensures.ok) c.is_run-in-Done.ensures.run c.is_run-in-Done.ensures.named)
+    (subst (λ (d : Lent (Given g.row.P-Name.Denot g.row.P-Out.Denot g.row.P-In.Denot) g.row.P-Name.Denot g.row.P-Story.Denot). (did : Did g.row.P-Name.Denot g.row.P-Story.Denot) → c.deliver.new.self.events ≡ d.past.events ++ did ∷ [] → BringsIn g.P.Pipes.known.out_name g.P.Pipes.known.in_name did d.past.given c.deliver.new.self.given) c.self.view_is
+    (brings_once g.P.Pipes.known.out_name g.P.Pipes.known.in_name c.args.slot c.self.inside.history c.deliver.new.self
+    (subst (λ (f : Heard). FindsOldest g.P.Pipes.known.out_name g.P.Pipes.known.in_name c.args.slot f c.self.inside.history c.deliver.new.self) c.in-Done.is c.in_ok-found.ensures.ok)))
+
 pub returns-in-Empty-clause-counts : goal.returns-in-Empty-clause-counts
 returns-in-Empty-clause-counts g c =
-    seen_counts g.P.Pipes.known.out_name (g.H.Holder.counts c.args.holder.now) (g.H.Holder.holding c.args.holder.now) c.args.self.now _ c.args.slot
+    seen_tells (λ item. counts_with g.P.Pipes.known.out_name (g.H.Holder.counts c.args.holder.now) (g.H.Holder.holding c.args.holder.now) item) c.args.self.now _ c.args.slot
     (subst (λ (p : Past (Given g.row.P-Name.Denot g.row.P-Out.Denot g.row.P-In.Denot) g.row.P-Name.Denot g.row.P-Story.Denot). SeesNone c.args.slot c.args.self.now (lent_to c.self.inside.caller (map (λ x. x.0) c.and-looked.result.items) p)) (sym (subst (λ (f : Heard). FindsOldest g.P.Pipes.known.out_name g.P.Pipes.known.in_name c.args.slot f c.self.inside.history c.deliver.new.self) c.in-Empty.is c.in_ok-found.ensures.ok).1)
     (record {
       sight = c.sight_of-sight.result;
       sees = sees_more (map (λ x. x.0) c.self.inside.order.items) _ c.self.inside.history (length c.self.inside.wakers.items) c.sight_of-sight.result
           (ap (λ (xs : List (Mark × Unit {0})). map (λ x. x.0) xs) c.and-looked.ensures ∙ map-append (λ x. x.0) c.self.inside.order.items (_ ∷ []))
           c.self.invariant.0 (subst (λ (p : Past (Given g.row.P-Name.Denot g.row.P-Out.Denot g.row.P-In.Denot) g.row.P-Name.Denot g.row.P-Story.Denot). IsSeen (control_of p) c.sight_of-sight.result) (subst (λ (f : Heard). FindsOldest g.P.Pipes.known.out_name g.P.Pipes.known.in_name c.args.slot f c.self.inside.history c.deliver.new.self) c.in-Empty.is c.in_ok-found.ensures.ok).1 c.sight_of-sight.ensures.seen) c.self.inside.caller _ c.args.self.now c.self.view_is c.sight_of-sight.ensures.looked_at c.sight_of-sight.ensures.by;
-    }))
+    })) (λ sight. tt)
+
+pub returns-in-Empty-clause-brings : goal.returns-in-Empty-clause-brings
+returns-in-Empty-clause-brings g c =
+    seen_tells (λ item. brings_with g.P.Pipes.known.out_name g.P.Pipes.known.in_name item c.args.self.now.past.given c.deliver.new.self.given) c.args.self.now _ c.args.slot
+    (subst (λ (p : Past (Given g.row.P-Name.Denot g.row.P-Out.Denot g.row.P-In.Denot) g.row.P-Name.Denot g.row.P-Story.Denot). SeesNone c.args.slot c.args.self.now (lent_to c.self.inside.caller (map (λ x. x.0) c.and-looked.result.items) p)) (sym (subst (λ (f : Heard). FindsOldest g.P.Pipes.known.out_name g.P.Pipes.known.in_name c.args.slot f c.self.inside.history c.deliver.new.self) c.in-Empty.is c.in_ok-found.ensures.ok).1)
+    (record {
+      sight = c.sight_of-sight.result;
+      sees = sees_more (map (λ x. x.0) c.self.inside.order.items) _ c.self.inside.history (length c.self.inside.wakers.items) c.sight_of-sight.result
+          (ap (λ (xs : List (Mark × Unit {0})). map (λ x. x.0) xs) c.and-looked.ensures ∙ map-append (λ x. x.0) c.self.inside.order.items (_ ∷ []))
+          c.self.invariant.0 (subst (λ (p : Past (Given g.row.P-Name.Denot g.row.P-Out.Denot g.row.P-In.Denot) g.row.P-Name.Denot g.row.P-Story.Denot). IsSeen (control_of p) c.sight_of-sight.result) (subst (λ (f : Heard). FindsOldest g.P.Pipes.known.out_name g.P.Pipes.known.in_name c.args.slot f c.self.inside.history c.deliver.new.self) c.in-Empty.is c.in_ok-found.ensures.ok).1 c.sight_of-sight.ensures.seen) c.self.inside.caller _ c.args.self.now c.self.view_is c.sight_of-sight.ensures.looked_at c.sight_of-sight.ensures.by;
+    })) (λ sight. tt)
 
 pub returns-in_err-found-clause-succeeds : goal.returns-in_err-found-clause-succeeds
 returns-in_err-found-clause-succeeds g c = λ none.

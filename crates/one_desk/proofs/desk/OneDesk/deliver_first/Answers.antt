@@ -4,11 +4,11 @@ use Rattle.spec_control.specs.declared.entry.SeenEmpty.TheVariants.{Reapers}
 use Rattle.control_rows.proofs.ListLemmas.{never}
 use Rattle.ctl_holder.specs.declared.given.Given.{Given}
 use Rattle.ctl_plane.specs.Coming.{TakesEnds}
-use Rattle.ctl_plane.specs.Desk.{CountsWith, KeepsUp}
+use Rattle.ctl_plane.specs.Desk.{BringsWith, CountsWith, KeepsUp, brings_with, counts_with}
 use Rattle.one_desk.specs.Lent.{Lent, moments_of}
 use Rattle.one_desk.specs.Reaping.{HearsFirst}
-use Rattle.one_desk.proofs.CountLemmas.{look_counts}
 use Rattle.one_desk.proofs.PlaneLemmas.{takes_none}
+use Rattle.one_desk.proofs.TellLemmas.{look_tells}
 use Rattle.one_desk.proofs.desk.OneDesk.deliver_first.Goals as goal
 
 on_err : {X E : Type 0} (r : Result X E) (P : Type 0) → P → OnErr r P
@@ -29,6 +29,10 @@ pub returns-in-Some-clause-counts : goal.returns-in-Some-clause-counts
 returns-in-Some-clause-counts g c =
     subst (λ (d : Lent (Given g.row.P-Name.Denot g.row.P-Out.Denot g.row.P-In.Denot) g.row.P-Name.Denot g.row.P-Story.Denot). CountsWith g.P.Pipes.known.out_name (g.H.Holder.counts c.args.holder.now) (moments_of c.args.self.now) (moments_of d) (g.H.Holder.holding c.args.holder.now)) (sym c.forget_ended.ensures) c.hear_first.ensures.counts
 
+pub returns-in-Some-clause-brings : goal.returns-in-Some-clause-brings
+returns-in-Some-clause-brings g c =
+    subst (λ (d : Lent (Given g.row.P-Name.Denot g.row.P-Out.Denot g.row.P-In.Denot) g.row.P-Name.Denot g.row.P-Story.Denot). BringsWith g.P.Pipes.known.out_name g.P.Pipes.known.in_name (moments_of c.args.self.now) (moments_of d) c.args.self.now.past.given d.past.given) (sym c.forget_ended.ensures) c.hear_first.ensures.brings
+
 pub returns-in-Some-clause-given : goal.returns-in-Some-clause-given
 returns-in-Some-clause-given g c = subst (λ (d : Lent (Given g.row.P-Name.Denot g.row.P-Out.Denot g.row.P-In.Denot) g.row.P-Name.Denot g.row.P-Story.Denot). TakesEnds c.args.self.now.past.given d.past.given) (sym c.forget_ended.ensures) c.hear_first.ensures.given
 
@@ -43,7 +47,11 @@ returns-in-None-clause-ok g c = record { sight = c.note_look.result; sees = c.no
 
 pub returns-in-None-clause-counts : goal.returns-in-None-clause-counts
 returns-in-None-clause-counts g c =
-    look_counts g.P.Pipes.known.out_name (g.H.Holder.counts c.args.holder.now) (g.H.Holder.holding c.args.holder.now) c.args.self.now c.note_look.new.self Reapers c.note_look.result c.note_look.ensures.sees
+    look_tells (λ item. counts_with g.P.Pipes.known.out_name (g.H.Holder.counts c.args.holder.now) (g.H.Holder.holding c.args.holder.now) item) c.args.self.now c.note_look.new.self Reapers c.note_look.result c.note_look.ensures.sees tt
+
+pub returns-in-None-clause-brings : goal.returns-in-None-clause-brings
+returns-in-None-clause-brings g c =
+    look_tells (λ item. brings_with g.P.Pipes.known.out_name g.P.Pipes.known.in_name item c.args.self.now.past.given c.note_look.new.self.past.given) c.args.self.now c.note_look.new.self Reapers c.note_look.result c.note_look.ensures.sees tt
 
 pub returns-in-None-clause-given : goal.returns-in-None-clause-given
 returns-in-None-clause-given g c = takes_none c.args.self.now.past c.note_look.new.self.past c.note_look.ensures.sees.past

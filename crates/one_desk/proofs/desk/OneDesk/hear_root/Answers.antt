@@ -1,23 +1,26 @@
-use Rattle.std.specs.Prelude.{List, [], ◌∷◌, length, map}
+use Rattle.std.specs.Prelude.{◌≡◌, ◌++◌, List, [], ◌∷◌, length, map}
+use Rattle.spec_control.specs.declared.entry.Did.{Did}
 use Rattle.std.proofs.Common.{sym, ap, ◌∙◌, subst}
 use Rattle.std.proofs.lemmas.List.{map-append}
 use Rattle.control_rows.proofs.ListLemmas.{never}
 use Rattle.ctl_holder.specs.declared.given.Given.{Given}
+use Rattle.ctl_holder.specs.Bringing.{BringsIn}
 use Rattle.ctl_holder.specs.Counts.{CountsOnce}
 use Rattle.ctl_holder.specs.TakingOver.{MayTakeFirst}
 use Rattle.ctl_history.specs.declared.heard.Heard.{Heard}
 use Rattle.ctl_history.specs.Hearing.{FindsOldest}
 use Rattle.ctl_history.specs.Past.{Past, control_of}
+use Rattle.ctl_plane.specs.Desk.{brings_with, counts_with}
 use Rattle.ctl_plane.specs.Memory.{NoBindWaits}
 use Rattle.one_desk.specs.declared.mark.Mark.{Mark}
 use Rattle.one_desk.specs.Lent.{lent_to, Lent}
-use Rattle.one_desk.proofs.CountLemmas.{first_counts, still_counts}
 use Rattle.one_desk.proofs.DeliverLemmas.{deliver_apart}
 use Rattle.one_desk.proofs.HoldLemmas.{desk_has, desk_still}
 use Rattle.one_desk.proofs.MemoryLemmas.{no_bind}
 use Rattle.one_desk.proofs.PlaneLemmas.{takes_none}
 use Rattle.one_desk.proofs.ReapingLemmas.{reaps_heard}
 use Rattle.one_desk.proofs.RootLemmas.{root_distinct, root_frees, root_hears, root_held, root_keeps, root_lent, root_serves, root_takes, root_there}
+use Rattle.one_desk.proofs.TellLemmas.{brings_once, first_tells, still_tells}
 use Rattle.one_desk.proofs.desk.OneDesk.hear_root.Goals as goal
 
 pub deliver-requires-clause-there : goal.deliver-requires-clause-there
@@ -58,7 +61,12 @@ returns-in_err-found-clause-given g c = takes_none _ _ (c.in_err-found.ensures.e
 
 pub returns-in_err-found-clause-counts : goal.returns-in_err-found-clause-counts
 returns-in_err-found-clause-counts g c =
-    still_counts g.P.Pipes.known.out_name (g.H.Holder.counts c.args.holder.now) (g.H.Holder.holding c.args.holder.now) c.args.self.now _
+    still_tells (λ item. counts_with g.P.Pipes.known.out_name (g.H.Holder.counts c.args.holder.now) (g.H.Holder.holding c.args.holder.now) item) c.args.self.now _
+    (ap (λ (p : Past (Given g.row.P-Name.Denot g.row.P-Out.Denot g.row.P-In.Denot) g.row.P-Name.Denot g.row.P-Story.Denot). lent_to c.self.inside.caller (map (λ x. x.0) c.self.inside.order.items) p) c.in_err-found.ensures.err.0 ∙ c.self.view_is)
+
+pub returns-in_err-found-clause-brings : goal.returns-in_err-found-clause-brings
+returns-in_err-found-clause-brings g c =
+    still_tells (λ item. brings_with g.P.Pipes.known.out_name g.P.Pipes.known.in_name item c.args.self.now.past.given c.deliver.new.self.given) c.args.self.now _
     (ap (λ (p : Past (Given g.row.P-Name.Denot g.row.P-Out.Denot g.row.P-In.Denot) g.row.P-Name.Denot g.row.P-Story.Denot). lent_to c.self.inside.caller (map (λ x. x.0) c.self.inside.order.items) p) c.in_err-found.ensures.err.0 ∙ c.self.view_is)
 
 pub returns-in_err-found-clause-keeps : goal.returns-in_err-found-clause-keeps
@@ -84,11 +92,21 @@ returns-in-Done-clause-ok g c =
 
 pub returns-in-Done-clause-counts : goal.returns-in-Done-clause-counts
 returns-in-Done-clause-counts g c =
-    first_counts g.P.Pipes.known.out_name (g.H.Holder.counts c.args.holder.now) (g.H.Holder.holding c.args.holder.now) c.args.self.now _ (record { 0 = 0 })
+    first_tells (λ item. counts_with g.P.Pipes.known.out_name (g.H.Holder.counts c.args.holder.now) (g.H.Holder.holding c.args.holder.now) item) c.args.self.now _ (record { 0 = 0 })
     (root_hears g.P.Pipes.known.out_name g.P.Pipes.known.in_name _ _ c.self.inside.history c.deliver.new.self (length c.self.inside.wakers.items) c.self.inside.caller c.args.self.now c.self.view_is c.self.invariant.0 c.is_run.ensures.plugged
     (ap (λ (xs : List (Mark × Unit {0})). map (λ x. x.0) xs) c.and-heard.ensures ∙ map-append (λ x. x.0) c.self.inside.order.items (_ ∷ []))
     (subst (λ (f : Heard). FindsOldest g.P.Pipes.known.out_name g.P.Pipes.known.in_name (record { 0 = 0 }) f c.self.inside.history c.deliver.new.self) c.in-Done.is c.in_ok-found.ensures.ok) c.is_run-in-Done.ensures.run c.is_run-in-Done.ensures.named)
     (subst (λ (d : Lent (Given g.row.P-Name.Denot g.row.P-Out.Denot g.row.P-In.Denot) g.row.P-Name.Denot g.row.P-Story.Denot). CountsOnce g.P.Pipes.known.out_name (g.H.Holder.counts c.args.holder.now) d.past.events c.deliver.new.self.events (g.H.Holder.holding c.args.holder.now)) c.self.view_is c.in_ok-found.ensures.counts)
+
+pub returns-in-Done-clause-brings : goal.returns-in-Done-clause-brings
+returns-in-Done-clause-brings g c =
+    first_tells (λ item. brings_with g.P.Pipes.known.out_name g.P.Pipes.known.in_name item c.args.self.now.past.given c.deliver.new.self.given) c.args.self.now _ (record { 0 = 0 })
+    (root_hears g.P.Pipes.known.out_name g.P.Pipes.known.in_name _ _ c.self.inside.history c.deliver.new.self (length c.self.inside.wakers.items) c.self.inside.caller c.args.self.now c.self.view_is c.self.invariant.0 c.is_run.ensures.plugged
+    (ap (λ (xs : List (Mark × Unit {0})). map (λ x. x.0) xs) c.and-heard.ensures ∙ map-append (λ x. x.0) c.self.inside.order.items (_ ∷ []))
+    (subst (λ (f : Heard). FindsOldest g.P.Pipes.known.out_name g.P.Pipes.known.in_name (record { 0 = 0 }) f c.self.inside.history c.deliver.new.self) c.in-Done.is c.in_ok-found.ensures.ok) c.is_run-in-Done.ensures.run c.is_run-in-Done.ensures.named)
+    (subst (λ (d : Lent (Given g.row.P-Name.Denot g.row.P-Out.Denot g.row.P-In.Denot) g.row.P-Name.Denot g.row.P-Story.Denot). (did : Did g.row.P-Name.Denot g.row.P-Story.Denot) → c.deliver.new.self.events ≡ d.past.events ++ did ∷ [] → BringsIn g.P.Pipes.known.out_name g.P.Pipes.known.in_name did d.past.given c.deliver.new.self.given) c.self.view_is
+    (brings_once g.P.Pipes.known.out_name g.P.Pipes.known.in_name (record { 0 = 0 }) c.self.inside.history c.deliver.new.self
+    (subst (λ (f : Heard). FindsOldest g.P.Pipes.known.out_name g.P.Pipes.known.in_name (record { 0 = 0 }) f c.self.inside.history c.deliver.new.self) c.in-Done.is c.in_ok-found.ensures.ok)))
 
 pub returns-in-Done-clause-given : goal.returns-in-Done-clause-given
 returns-in-Done-clause-given g c =

@@ -7,6 +7,7 @@ use Rattle.std.specs.Prelude.{IfOk}
 use Rattle.held_ends.specs.Sound.{Fits}
 use Rattle.ctl_plane.specs.Coming.{BindsFit}
 use Rattle.ctl_plane.specs.Desk.{CountsWith, KeepsUp, GivesOrNot, slot_after}
+use Rattle.ctl_plane.specs.Memory.{NoBindWaits}
 use Rattle.held_ends.specs.Counting.{counts_of}
 use Rattle.sock_calls.specs.Passing.{Passes}
 use Rattle.sock_calls.proofs.PassingLemmas.{passes_by}
@@ -75,3 +76,8 @@ returns-in-Some-clause-rests g c =
     let e : c.args.self.now.core ≡ Some c.in-Some.core = sym c.take.ensures.value ∙ c.in-Some.is in
     let x = c.take_lent-answer in
     subst (λ (s : Option (SockCore _ _ _ _ _)). RestsThere g.C.Joins.rests s → g.C.Joins.rests x.result.core.kind) (sym e) (x.ensures.rest c.replace-lent.result c.in-Some.core (refl, refl))
+
+pub returns-in-Some-clause-succeeds : goal.returns-in-Some-clause-succeeds
+returns-in-Some-clause-succeeds g c = λ b finds none.
+    let e : c.args.self.now.core ≡ Some c.in-Some.core = sym c.take.ensures.value ∙ c.in-Some.is in
+    c.take_lent-answer.ensures.succeeds b finds (subst (λ (s : Option (SockCore _ _ _ _ _)). NoBindWaits b (slot_after (owner_of s) (g.D.Desk.moments c.args.desk.now)).0) e none)
