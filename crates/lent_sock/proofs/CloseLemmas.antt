@@ -8,6 +8,7 @@ use Rattle.spec_control.specs.declared.request.Reply.TheVariants.{Done}
 use Rattle.spec_control.specs.Control.{id}
 use Rattle.control_held.specs.Moments.{Moment}
 use Rattle.ctl_holder.specs.declared.given.Given.{Given}
+use Rattle.ctl_holder.specs.Holding.{Holding}
 use Rattle.ctl_plane.specs.Coming.{SendsEnds}
 use Rattle.ctl_plane.specs.Desk.{AsksOnce, by_caller}
 use Rattle.msg_pipe.specs.Known.{Known}
@@ -35,7 +36,7 @@ module _ {W N O I S T : Type 0} (K : Known S O I N) (before now : S) (d e : Lent
   is_now t k = record { pipes = now; desk = e; socket = t; since = k }
 
   module _ {made : Bool} {may_make : EndId → ℕ → ℕ → Type 0} (s t : SockCore AnySock W N O I) (is : IsLentTo K before d n s) (called : IsCalled K made may_make before d (Some s) now e (Some t)) where
-    module _ (reply : Reply) (asks : AsksOnce d.caller (Close (id s.number.0)) reply (moments_of d) (moments_of e)) (none : HasNone (Some t)) (told : List EndId) (sends : SendsEnds K now told (Close (id s.number.0)) d.past.given e.past.given)
+    module _ (reply : Reply) (asks : AsksOnce d.caller (Close (id s.number.0)) reply (moments_of d) (moments_of e)) (none : HasNone (Some t)) (h : Holding N) (sends : SendsEnds K now h (Close (id s.number.0)) d.past.given e.past.given)
         (makings : OnlyMake K made may_make (Some s) (Some t) before now called.does) where
       abbrev mo : Moment N T
       mo = record { found = asks.found; item = by_caller d.caller (Asked (Close (id s.number.0)) reply asks.answered) }
@@ -72,12 +73,12 @@ module _ {W N O I S T : Type 0} (K : Known S O I N) (before now : S) (d e : Lent
 
   -- the request led there
   pub has_closed : {made : Bool} {may_make : EndId → ℕ → ℕ → Type 0} → (old new : Option (SockCore AnySock W N O I)) → IsThereFor K before d n old → (called : IsCalled K made may_make before d old now e new)
-      → (reply : Reply) → AsksOnce d.caller (Close (id (owner_of old))) reply (moments_of d) (moments_of e) → HasNone new → (told : List EndId) → SendsEnds K now told (Close (id (owner_of old))) d.past.given e.past.given → OnlyMake K made may_make old new before now called.does
+      → (reply : Reply) → AsksOnce d.caller (Close (id (owner_of old))) reply (moments_of d) (moments_of e) → HasNone new → (h : Holding N) → SendsEnds K now h (Close (id (owner_of old))) d.past.given e.past.given → OnlyMake K made may_make old new before now called.does
       → (k : ℕ) → k ≡ n + 1 → ClosesOpen (Leads K) view_of (was old) (is_now new k)
-  has_closed None new is called reply asks none told sends makings k at = absurd is
-  has_closed (Some s) None is called reply asks none told sends makings k at = absurd called.fits
-  has_closed (Some s) (Some t) is called reply asks none told sends makings k at =
-      subst (λ (j : ℕ). ClosesOpen (Leads K) view_of (was (Some s)) (is_now (Some t) j)) (sym at) (closes_so s t is called reply asks none told sends makings)
+  has_closed None new is called reply asks none h sends makings k at = absurd is
+  has_closed (Some s) None is called reply asks none h sends makings k at = absurd called.fits
+  has_closed (Some s) (Some t) is called reply asks none h sends makings k at =
+      subst (λ (j : ℕ). ClosesOpen (Leads K) view_of (was (Some s)) (is_now (Some t) j)) (sym at) (closes_so s t is called reply asks none h sends makings)
 
   -- or none was made, and it is lent still
   pub record IsLeft (old new : Option (SockCore AnySock W N O I)) (k : ℕ) : Type 0 where

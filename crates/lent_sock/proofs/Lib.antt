@@ -25,6 +25,7 @@ pub mod MayLemmas
 pub mod MeetLemmas
 pub mod ToItLemmas
 pub mod NewReaderLemmas
+pub mod BeganLemmas
 pub mod TakeLemmas
 pub mod LookedLemmas
 pub mod PartsLemmas

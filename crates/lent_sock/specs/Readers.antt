@@ -13,6 +13,7 @@ use Rattle.open_sock.specs.declared.found.Found.TheVariants.{Letter, Nothing}
 use Rattle.open_sock.specs.declared.found.Reader.{Reader}
 use Rattle.any_sock.specs.declared.any_sock.AnySock.{AnySock}
 use Rattle.held_ends.specs.declared.table.Place.{Place}
+use Rattle.sock_core.specs.Peers.{AreInUse}
 use Rattle.sock_core.specs.declared.sock.SockCore.{SockCore}
 
 -- each of these ends is one of those
@@ -48,3 +49,8 @@ module _ {W N O I : Type 0} where
   abbrev pub readers_from : Option (SockCore AnySock W N O I) → ℕ → List EndId
   readers_from None n = []
   readers_from (Some s) n = readers_in (drop n (held_places s.ends.places.items))
+
+  -- an end of a socket that is there reads on only where one began to
+  abbrev pub ReadIfBegan : Option (SockCore AnySock W N O I) → Type 0
+  ReadIfBegan None = Unit {0}
+  ReadIfBegan (Some s) = AreInUse s.reads s.ends.places.items

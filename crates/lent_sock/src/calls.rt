@@ -237,7 +237,7 @@ where
         (moments_of lent.old.desk) (moments_of lent.new.desk)) }
     ensures none { IfOk result (λ _. HasNone lent.new.socket.core) }
     ensures given { IfOk result (λ _. SendsEnds P.known lent.new.pipes
-        (holding_of kind_told lent.old.socket.core).sealed
+        (holding_of kind_told lent.old.socket.core)
         (Close (id (owner_of lent.old.socket.core)))
         lent.old.desk.past.given lent.new.desk.past.given) }
     ensures err { OnErr result ((moments_of lent.new.desk ≡ moments_of lent.old.desk)

@@ -59,7 +59,7 @@ where
         (parts lent.new.pipes lent.new.desk lent.new.socket.core lent.new.since.items)) }
     ensures back { OnErr result (Agrees P.known (parts lent.new.pipes lent.new.desk lent.new.socket.core lent.new.since.items)) }
     ensures sent { OnOk result (SendsEnds P.known lent.new.pipes
-        (holding_of kind_told lent.old.socket.core).sealed
+        (holding_of kind_told lent.old.socket.core)
         (Close (id (owner_of lent.old.socket.core)))
         lent.old.desk.past.given lent.new.desk.past.given) }
 {

@@ -62,7 +62,12 @@ where
 
     fn next_reading(&self, place: usize) -> Option<Reader> {
         match &self.socket.core {
-            Some(core) => return ranks::next_reading(&core.ends.places, place),
+            Some(core) => {
+                if !core.reads {
+                    return None;
+                }
+                return ranks::next_reading(&core.ends.places, place);
+            }
             None => unreachable!(),
         }
     }

@@ -8,7 +8,7 @@ ghost use Rattle.open_sock.specs.Reading.{LeavesReader};
 ghost use Rattle.open_sock.specs.Steps.{LeadsSome, Takes};
 ghost use Rattle.lent_sock.specs.Owned.{parts, view_of, Agrees, MayTakeEnds};
 ghost use Rattle.lent_sock.specs.Leads.{Leads};
-ghost use Rattle.lent_sock.specs.Readers.{held_places, readers_in, readers_from};
+ghost use Rattle.lent_sock.specs.Readers.{held_places, readers_in, readers_from, ReadIfBegan};
 ghost use Rattle.lent_sock.specs.Readers.{IsNewReader, IsFoundBy};
 ghost use Rattle.lent_sock.specs.Ready.{AreTold, IsReady};
 
@@ -31,10 +31,16 @@ fn ends_reading<W, N, O, I>(
     alloc: Global,
     socket: &Option<SockCore<AnySock, W, N, O, I>>,
 ) -> Result<Vec<EndId>, AllocError>
+    requires began { ReadIfBegan socket.now }
     ensures { IfOk result (λ ends. ends.items ≡ readers_from socket.now 0) }
 {
     match socket {
-        Some(core) => return reading_ends(alloc, &core.ends.places),
+        Some(core) => {
+            if !core.reads {
+                return Ok(Vec::new(alloc));
+            }
+            return reading_ends(alloc, &core.ends.places);
+        }
         None => return Ok(Vec::new(alloc)),
     }
 }
@@ -54,10 +60,16 @@ fn reader_now<W, N, O, I>(
     socket: &Option<SockCore<AnySock, W, N, O, I>>,
     before: &[EndId],
 ) -> Option<Reader>
+    requires began { ReadIfBegan socket.now }
     ensures { IsNewReader (readers_from socket.now) before.now result }
 {
     match socket {
-        Some(core) => return reader_at(&core.ends.places, before),
+        Some(core) => {
+            if !core.reads {
+                return None;
+            }
+            return reader_at(&core.ends.places, before);
+        }
         None => return None,
     }
 }
@@ -68,6 +80,7 @@ fn found_now<W, N, O, I>(
     before: &[EndId],
     delivery: Delivery,
 ) -> Found
+    requires began { ReadIfBegan socket.now }
     ensures { IsFoundBy (readers_from socket.now) before.now delivery result }
 {
     match delivery {

@@ -21,7 +21,7 @@ use Rattle.core_others.specs.Reaper.{AskedStay}
 use Rattle.one_core.specs.Calling.{SendsAsked}
 
 pub sends_asked : {W S N O I T : Type 0} (K : Known S O I N) → AskedStay (Given N O I) N T → (pipes now : S) (d : Lent (Given N O I) N T) (since : List (Unit {0} × Unit {0})) (s : Option (SockCore AnySock W N O I)) (acts : List (Act N T)) (new : LentParts W N O I S T)
-    → Agrees K (parts pipes d s since) → Leads K (parts pipes d s since) acts new → (req : Req) → SendsEnds K now (holding_of kind_told s).sealed req d.past.given new.desk.past.given → SendsAsked d new.desk
+    → Agrees K (parts pipes d s since) → Leads K (parts pipes d s since) acts new → (req : Req) → SendsEnds K now (holding_of kind_told s) req d.past.given new.desk.past.given → SendsAsked d new.desk
 sends_asked K stay pipes now d since None acts new agrees led req sent = absurd agrees
 sends_asked {N = N} {O = O} {I = I} K stay pipes now d since (Some s) acts new agrees led req sent = λ ends same.
     subst (λ (gs : List (Given N O I)). AllAsked (control_of new.desk.past) gs) (append_cancel_left d.past.given sent.ends ends (sym sent.behind ∙ same))

@@ -3,7 +3,7 @@ use Rattle.std.specs.Prelude.{◌≡◌, ◌&&◌, ℕ, zero, suc, Bool, true, f
 use Rattle.zq_base.specs.declared.attached.Attached.{Attached}
 use Rattle.zq_base.specs.declared.attached.Attached.TheVariants.{Yes, BadId, Second}
 use Rattle.spec_control.specs.Place.{At}
-use Rattle.spec_run.specs.OpenSocket.{is_out}
+use Rattle.spec_run.specs.OpenSocket.{is_out, awaits_delimiter}
 use Rattle.pub_sub.specs.Places.{is_place}
 use Rattle.any_sock.specs.Over.{HaveSamePlaces}
 use Rattle.held_ends.specs.declared.table.Place.{Place}
@@ -67,6 +67,10 @@ module _ {N I : Type 0} where
   abbrev pub AreFlagged : List (Place N I) → List ℕ → Type 0
   AreFlagged ps peers = (k : ℕ) (p : Place N I) → place_at ps k ≡ Some p → p.held ≡ true → p.peer ≡ true → is_place peers k ≡ true
 
-  -- and is in use
-  abbrev pub AreInUse : List (Place N I) → Type 0
-  AreInUse ps = (k : ℕ) (p : Place N I) → place_at ps k ≡ Some p → p.held ≡ true → p.peer ≡ true → is_out (At p.state) ≡ false
+  -- an end that the kind took is in use, and it reads on to its delimiter only where one began to
+  abbrev pub IsInUse : (reads : Bool) → Place N I → Type 0
+  IsInUse reads p = (p.peer ≡ true → is_out (At p.state) ≡ false) × (reads ≡ false → awaits_delimiter (At p.state) ≡ false)
+
+  -- so is each end that is held
+  abbrev pub AreInUse : (reads : Bool) → List (Place N I) → Type 0
+  AreInUse reads ps = (k : ℕ) (p : Place N I) → place_at ps k ≡ Some p → p.held ≡ true → IsInUse reads p

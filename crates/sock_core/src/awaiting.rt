@@ -1,4 +1,4 @@
-ghost use Rattle.std.specs.Prelude.{◌≡◌};
+ghost use Rattle.std.specs.Prelude.{◌≡◌, ◌||◌};
 ghost use Rattle.spec_control.specs.Place.{At};
 ghost use Rattle.spec_run.specs.OpenSocket.{awaits_delimiter};
 
@@ -17,4 +17,11 @@ pub fn awaits(state: EndState) -> bool
         EndState::AskedTwice => false,
         EndState::Gone => false,
     }
+}
+
+/// Whether an end began to read on, where one comes to this state behind what was so before.
+pub(crate) fn began(before: bool, state: EndState) -> bool
+    ensures { result ≡ (before || awaits_delimiter (At state)) }
+{
+    before || awaits(state)
 }

@@ -10,6 +10,7 @@ ghost use Rattle.sock_core.specs.Standing.{standing_joins};
 ghost use Rattle.sock_core.specs.Way.{way_in, KindWayOf};
 ghost use Rattle.sock_core.specs.declared.sock.SockCore.{SockCore};
 
+use crate::awaiting::began;
 use crate::joins::Joins;
 use crate::joint::{joint_of, note_back, note_join, note_turn};
 use crate::since::{Since, Undoing};
@@ -40,7 +41,7 @@ pub struct SockHolder<
     ghost room: { KeepsRoom core.is_open (length core.ends.places.items) core.room },
     ghost gone: { core.is_open ≡ false → AreGone core.ends.places.items },
     ghost flagged: { AreFlagged core.ends.places.items (C.peers core.kind) },
-    ghost in_use: { AreInUse core.ends.places.items },
+    ghost in_use: { AreInUse core.reads core.ends.places.items },
     ghost settled_are: { WereRead core.ends.places.items core.ends.settled.items },
     ghost sealed_are: { AreSealed core.ends.places.items (map (λ x. x.0) core.sealed.items) },
     ghost others: { (s : P) (t : SockCore C P.Waker P.Name P.Out P.In) → F.began s t →
@@ -85,6 +86,7 @@ impl<P: HeldPipes, C: Joins> SockHolder<P, C> {
                 number,
                 is_open: true,
                 stopped: false,
+                reads: false,
                 kind,
                 waker,
                 ends: EndTable {
@@ -250,6 +252,7 @@ where
         match find(&self.core.ends.places, end) {
             Some(place) => {
                 let was = self.core.ends.places[place].state;
+                self.core.reads = began(self.core.reads, state);
                 note(&mut self.core.turns, end, was, state);
                 let alloc = *self.core.ends.places.allocator();
                 note_turn(&mut self.core.way, alloc, end, was, state);

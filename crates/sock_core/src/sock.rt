@@ -15,6 +15,8 @@ pub struct SockCore<C, W, N, O, I> {
     pub is_open: bool,
     /// It processed its Stop.
     pub stopped: bool,
+    /// An end of it began to read on to its delimiter.
+    pub reads: bool,
     pub kind: C,
     /// Wakes its owner.
     pub waker: W,

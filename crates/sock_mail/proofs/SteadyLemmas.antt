@@ -36,7 +36,7 @@ pub record IsSteady {S C W N O I : Type 0} (K : Known S O I N) (peers : C → Li
   pub gone : s.is_open ≡ false → AreGone s.ends.places.items
   pub stopped_is : IsStopped s.stopped s.heard.items
   pub flagged : AreFlagged s.ends.places.items (peers s.kind)
-  pub in_use : AreInUse s.ends.places.items
+  pub in_use : AreInUse s.reads s.ends.places.items
   pub settled_are : WereRead s.ends.places.items s.ends.settled.items
   pub sealed_are : AreSealed s.ends.places.items (map (λ (x : EndId × Unit {0}). x.0) s.sealed.items)
 
@@ -93,7 +93,7 @@ module _ {S C W N O I : Type 0} (K : Known S O I N) (peers : C → List ℕ) (p 
         stopped_is = h.stopped_is;
         flagged = subst (λ (l : List (Place N I)). AreFlagged l all) (sym x.now)
             (flagged_set ps all all k x.place y h.flagged x.there (λ j ne here. here) (λ held flag. h.flagged k x.place x.there held flag));
-        in_use = subst (λ (l : List (Place N I)). AreInUse l) (sym x.now) (in_use_set ps k x.place y h.in_use x.there (λ held flag. h.in_use k x.place x.there held flag));
+        in_use = subst (λ (l : List (Place N I)). AreInUse s.reads l) (sym x.now) (in_use_set s.reads ps k x.place y h.in_use x.there (h.in_use k x.place x.there));
         settled_are = were_read_on ps ends.places.items s.ends.settled.items ends.settled.items others.places (ap (λ l. l.items) settled) h.settled_are;
         sealed_are = subst (λ (l : List (Place N I)). AreSealed l seals) (sym x.now) (sealed_set ps k x.place y seals h.sealed_are x.there (λ h. h) refl refl);
       }

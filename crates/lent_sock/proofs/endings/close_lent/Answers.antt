@@ -21,8 +21,8 @@ returns-in-Ok-clause-ok g c =
     has_closed g.P.Pipes.known l.pipes m.pipes l.desk m.desk (length l.since.items) l.socket.core m.socket.core c.requires.agrees (record x.ensures.called { does = x.ensures.does.0 }) _
     (IfOk-at_ok (λ (r : Reply). AsksOnce l.desk.caller (Close (id (owner_of l.socket.core))) r (moments_of l.desk) (moments_of m.desk)) c.in-Ok.is x.ensures.ok)
     (IfOk-at_ok (λ (r : Reply). HasNone m.socket.core) c.in-Ok.is x.ensures.none)
-    (holding_of kind_told l.socket.core).sealed
-    (IfOk-at_ok (λ (r : Reply). SendsEnds g.P.Pipes.known m.pipes (holding_of kind_told l.socket.core).sealed (Close (id (owner_of l.socket.core))) l.desk.past.given m.desk.past.given) c.in-Ok.is x.ensures.given)
+    (holding_of kind_told l.socket.core)
+    (IfOk-at_ok (λ (r : Reply). SendsEnds g.P.Pipes.known m.pipes (holding_of kind_told l.socket.core) (Close (id (owner_of l.socket.core))) l.desk.past.given m.desk.past.given) c.in-Ok.is x.ensures.given)
     x.ensures.does.1 (length c.and-lent.result.items) (one_longer l.since.items m.since.items c.and-lent.result.items _ c.and-lent.ensures (ap (λ (y : Log (Unit {0}) (Unit {0})). y.items) x.ensures.since))
 
 pub returns-in-Err-clause-err : goal.returns-in-Err-clause-err

@@ -1,8 +1,12 @@
 use Rattle.std.proofs.Common.{◌≡◌, ◌∙◌, sym, ap}
 use Rattle.std.proofs.lemmas.Result.{IfOk-weaker}
 use Rattle.lent_sock.specs.Readers.{readers_in, readers_from}
+use Rattle.lent_sock.proofs.BeganLemmas.{none_reads}
 use Rattle.lent_sock.proofs.NewReaderLemmas.{readers_held}
 use Rattle.lent_sock.proofs.taking.ends_reading.Goals as goal
+
+pub returns-then-not-core : goal.returns-then-not-core
+returns-then-not-core g c = c.new.ensures.items ∙ sym (none_reads c.args.socket.now c.in-Some.core c.in-Some.is c.requires.began c.if-not-core.true 0)
 
 pub returns-in-Some : goal.returns-in-Some
 returns-in-Some g c =

@@ -7,6 +7,7 @@ use Rattle.lent_sock.specs.LeadsOwed.{led_none}
 use Rattle.lent_sock.specs.Owned.{parts}
 use Rattle.lent_sock.specs.Readers.{readers_from}
 use Rattle.lent_sock.proofs.AskLemmas.{one_longer}
+use Rattle.lent_sock.proofs.BeganLemmas.{agrees_began}
 use Rattle.lent_sock.proofs.LookedLemmas.{has_looked}
 use Rattle.lent_sock.proofs.taking.take.Goals as goal
 
@@ -37,6 +38,9 @@ returns-in-true-clause-may g c =
     let d = c.finds_empty.new.desk in
     (has_looked g.P.Pipes.known l.pipes l.desk d (length l.since.items) c.is_of_one_order.ensures l.socket.core c.requires.agrees c.is_told.ensures c.requires.ready (c.finds_empty.ensures.empty c.in-true.is)
     (length c.and-lent.result.items) (one_longer l.since.items l.since.items c.and-lent.result.items (tt, tt) c.and-lent.ensures refl)).may c.requires.may
+
+pub ends_reading-requires : goal.ends_reading-requires
+ends_reading-requires g c = let l = c.args.lent.now in record { began = agrees_began g.P.Pipes.known l.pipes l.desk (length l.since.items) l.socket.core c.requires.agrees }
 
 pub take_behind-requires-clause-before : goal.take_behind-requires-clause-before
 take_behind-requires-clause-before g c = c.deref.ensures.value ∙ IfOk-at_ok (λ ends. ends.items ≡ readers_from c.args.lent.now.socket.core 0) c.in-Ok.is c.ends_reading.ensures

@@ -6,9 +6,13 @@ use Rattle.ctl_plane.specs.Desk.{GivesOrNot, slot_after}
 use Rattle.sock_calls.specs.Calls.{owner_of}
 use Rattle.one_desk.specs.Lent.{moments_of}
 use Rattle.lent_sock.proofs.AskLemmas.{has_stayed, one_longer, at_err}
+use Rattle.lent_sock.proofs.BeganLemmas.{fits_began}
 use Rattle.lent_sock.proofs.MayLemmas.{still_may}
 use Rattle.lent_sock.proofs.TakeLemmas.{has_taken}
 use Rattle.lent_sock.proofs.taking.take_behind.Goals as goal
+
+pub found_now-requires : goal.found_now-requires
+found_now-requires g c = let m = c.call_take.new.lent in record { began = fits_began g.P.Pipes.known m.pipes m.socket.core c.call_take.ensures.called.fits }
 
 pub returns-in-Ok-clause-ok : goal.returns-in-Ok-clause-ok
 returns-in-Ok-clause-ok g c =

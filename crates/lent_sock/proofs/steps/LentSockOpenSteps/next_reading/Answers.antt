@@ -1,7 +1,13 @@
-use Rattle.std.proofs.Common.{drop, sym, subst}
+use Rattle.std.proofs.Common.{drop, length, sym, subst}
 use Rattle.open_sock.specs.Reading.{IsNextReader}
 use Rattle.lent_sock.specs.Readers.{held_places, readers_in, readers_from}
+use Rattle.lent_sock.proofs.BeganLemmas.{none_reads, agrees_began}
 use Rattle.lent_sock.proofs.steps.LentSockOpenSteps.next_reading.Goals as goal
+
+pub returns-then-not-core : goal.returns-then-not-core
+returns-then-not-core g c =
+    let s = c.args.self.now in
+    none_reads s.socket.core c.in-Some.core c.in-Some.is (agrees_began g.P.Pipes.known s.pipes s.desk (length s.since.items) s.socket.core c.requires.agrees) c.if-not-core.true c.args.place
 
 pub returns-in-Some : goal.returns-in-Some
 returns-in-Some g c =

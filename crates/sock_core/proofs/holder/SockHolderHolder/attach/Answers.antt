@@ -75,7 +75,7 @@ invariant_of-self-in-Ok-attach g c =
       flagged = subst (λ (l : List (Place _ _)). AreFlagged l (g.C.Joins.peers c.attach.new.self)) (sym more)
           (flagged_more c.args.self.now.core.ends.places.items (g.C.Joins.peers c.args.self.now.core.kind) (g.C.Joins.peers c.attach.new.self) (new_place c.in-Ok-prepare.row.value.end (g.P.Pipes.known.out_name c.in-Ok-prepare.row.value.out) (g.P.Pipes.known.in_name c.in-Ok-prepare.row.value.input) c.is_taken.result) c.in-Ok-attach.answer c.args.self.now.flagged c.is_taken.ensures
           (subst (λ (n : ℕ). AddsPeer c.in-Ok-attach.answer n (g.C.Joins.peers c.args.self.now.core.kind) (g.C.Joins.peers c.attach.new.self)) place c.in-Ok-attach.ensures.peers));
-      in_use = subst (λ (l : List (Place _ _)). AreInUse l) (sym more) (in_use_more c.args.self.now.core.ends.places.items (new_place c.in-Ok-prepare.row.value.end (g.P.Pipes.known.out_name c.in-Ok-prepare.row.value.out) (g.P.Pipes.known.in_name c.in-Ok-prepare.row.value.input) c.is_taken.result) c.args.self.now.in_use refl);
+      in_use = subst (λ (l : List (Place _ _)). AreInUse c.args.self.now.core.reads l) (sym more) (in_use_more c.args.self.now.core.reads c.args.self.now.core.ends.places.items (new_place c.in-Ok-prepare.row.value.end (g.P.Pipes.known.out_name c.in-Ok-prepare.row.value.out) (g.P.Pipes.known.in_name c.in-Ok-prepare.row.value.input) c.is_taken.result) c.args.self.now.in_use (λ flag. refl, λ none. refl));
       way = λ p t b. ∥∥₁_map (c.args.self.now.way p t b) (λ k is.
           let last = c.joint_of-joint.ensures.place ∙ place in
           noted_came g.C.Joins.pattern g.C.Joins.names g.C.Joins.sound g.C.Joins.peers (way_in c.args.self.now.core.way.items) (way_in c.note_join.new.way.items) c.args.self.now.core.ends.places.items c.join.new.table.places.items (standing_joins t.joins.items) (standing_joins c.args.self.now.core.joins.items) (standing_joins c.note_join.new.joins.items) t.turns.items c.args.self.now.core.turns.items t.kind c.args.self.now.core.kind c.attach.new.self (joining_as c.joint_of-joint.result c.args.identity.now c.in-Ok-attach.answer) c.joint_of-joint.result.place (new_place c.in-Ok-prepare.row.value.end (g.P.Pipes.known.out_name c.in-Ok-prepare.row.value.out) (g.P.Pipes.known.in_name c.in-Ok-prepare.row.value.input) c.is_taken.result)
@@ -152,7 +152,7 @@ invariant_of-self-in-Err-attach g c =
       room = room_of c.args.self.now.core.is_open (c.len-place.result + 1) (length c.prepare.new.table.places.items) c.keep.new.self (omega (arith, place, long)) c.in-Ok.ensures.ok;
       gone = λ is. absurd (true≢false (sym (open_of c.args.self.now.core.is_open (c.args.o.0 == c.args.self.now.core.number.0) c.requires.here) ∙ is));
       flagged = subst (λ (l : List (Place _ _)). AreFlagged l (g.C.Joins.peers c.attach.new.self)) (sym places) (subst (λ (l : List ℕ). AreFlagged c.args.self.now.core.ends.places.items l) (sym c.in-Err-attach.ensures.err) c.args.self.now.flagged);
-      in_use = subst (λ (l : List (Place _ _)). AreInUse l) (sym places) c.args.self.now.in_use;
+      in_use = subst (λ (l : List (Place _ _)). AreInUse c.args.self.now.core.reads l) (sym places) c.args.self.now.in_use;
       others = λ s t b. leaves_on g.P.Pipes.known s c.args.self.now.pipes c.args.self.now.pipes t.ends c.args.self.now.core.ends c.prepare.new.table (c.args.self.now.others s t b)
           (leaves_unchanged g.P.Pipes.known c.args.self.now.pipes c.args.self.now.core.ends c.prepare.new.table c.prepare.ensures.kept);
       settled_are = were_read_on c.args.self.now.core.ends.places.items c.prepare.new.table.places.items c.args.self.now.core.ends.settled.items c.prepare.new.table.settled.items (places_stay c.args.self.now.core.ends.places.items c.prepare.new.table.places.items places) c.prepare.ensures.kept.settled c.args.self.now.settled_are;
@@ -181,7 +181,7 @@ invariant_of-self-in-Err-prepare g c =
       room = room_of c.args.self.now.core.is_open (c.len-place.result + 1) (length c.prepare.new.table.places.items) c.keep.new.self (omega (arith, place, long)) c.in-Ok.ensures.ok;
       gone = λ is. absurd (true≢false (sym (open_of c.args.self.now.core.is_open (c.args.o.0 == c.args.self.now.core.number.0) c.requires.here) ∙ is));
       flagged = subst (λ (l : List (Place _ _)). AreFlagged l (g.C.Joins.peers c.args.self.now.core.kind)) (sym places) c.args.self.now.flagged;
-      in_use = subst (λ (l : List (Place _ _)). AreInUse l) (sym places) c.args.self.now.in_use;
+      in_use = subst (λ (l : List (Place _ _)). AreInUse c.args.self.now.core.reads l) (sym places) c.args.self.now.in_use;
       others = λ s t b. leaves_on g.P.Pipes.known s c.args.self.now.pipes c.args.self.now.pipes t.ends c.args.self.now.core.ends c.prepare.new.table (c.args.self.now.others s t b)
           (leaves_unchanged g.P.Pipes.known c.args.self.now.pipes c.args.self.now.core.ends c.prepare.new.table c.prepare.ensures.kept);
       settled_are = were_read_on c.args.self.now.core.ends.places.items c.prepare.new.table.places.items c.args.self.now.core.ends.settled.items c.prepare.new.table.settled.items (places_stay c.args.self.now.core.ends.places.items c.prepare.new.table.places.items places) c.prepare.ensures.kept.settled c.args.self.now.settled_are;

@@ -35,7 +35,7 @@ invariant_of-self g c = record {
   };
   gone = λ is. c.give_ends.ensures.gone;
   flagged = flagged_gone c.give_ends.new.table.places.items (g.C.Joins.peers c.args.self.now.core.kind) c.give_ends.ensures.gone;
-  in_use = in_use_gone c.give_ends.new.table.places.items c.give_ends.ensures.gone;
+  in_use = in_use_gone c.args.self.now.core.reads c.give_ends.new.table.places.items c.give_ends.ensures.gone;
   way = λ p t b. ∥∥₁_map (c.args.self.now.way p t b) (λ k is. absurd (true≢false (sym is)));
   others = λ s t b. leaves_on g.P.Pipes.known s c.args.self.now.pipes c.args.self.now.pipes t.ends c.args.self.now.core.ends c.give_ends.new.table (c.args.self.now.others s t b) c.give_ends.ensures.others;
   settled_are = were_read_on c.args.self.now.core.ends.places.items c.give_ends.new.table.places.items c.args.self.now.core.ends.settled.items c.give_ends.new.table.settled.items c.give_ends.ensures.others.places (ap (λ l. l.items) c.give_ends.ensures.settled) c.args.self.now.settled_are;

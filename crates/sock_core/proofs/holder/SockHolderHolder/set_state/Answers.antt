@@ -19,7 +19,7 @@ use Rattle.held_ends.proofs.PlaceLemmas.{place_found}
 use Rattle.std.proofs.Common.{ℕ, length, length-set}
 use Rattle.sock_core.specs.Sound.{KeepsRoom}
 use Rattle.sock_core.specs.Peers.{ArePeers, AreFlagged, AreInUse}
-use Rattle.sock_core.proofs.FlagLemmas.{flagged_set, in_use_set}
+use Rattle.sock_core.proofs.FlagLemmas.{flagged_set, in_use_stated}
 use Rattle.sock_core.proofs.GoingLemmas.{noted_turned}
 use Rattle.sock_core.proofs.PeerLemmas.{kept_stated}
 use Rattle.held_ends.proofs.OthersLemmas.{leaves_on}
@@ -73,9 +73,9 @@ invariant_of-self g c =
       flagged = subst (λ (l : List (Place _ _)). AreFlagged l (g.C.Joins.peers c.stays-peer.new.kind)) (sym s.now)
           (flagged_set c.args.self.now.core.ends.places.items (g.C.Joins.peers c.args.self.now.core.kind) (g.C.Joins.peers c.stays-peer.new.kind) c.in-Some.place s.place (record s.place { state = c.args.state; peer = c.stays-peer.result }) c.args.self.now.flagged s.there c.stays-peer.ensures.peers.stay
           (λ held flag. c.stays-peer.ensures.peers.stays_too flag (c.args.self.now.flagged c.in-Some.place s.place s.there held (sym peer ∙ c.stays-peer.ensures.peers.none_back flag))));
-      in_use = subst (λ (l : List (Place _ _)). AreInUse l) (sym s.now)
-          (in_use_set c.args.self.now.core.ends.places.items c.in-Some.place s.place (record s.place { state = c.args.state; peer = c.stays-peer.result }) c.args.self.now.in_use s.there
-          (λ held flag. not_out (is_out (At c.args.state)) c.stays-peer.result (λ out. (c.stays-peer.ensures.goes out).0) flag));
+      in_use = subst (λ (l : List (Place _ _)). AreInUse c.began-self.result l) (sym s.now)
+          (in_use_stated c.args.self.now.core.reads c.began-self.result c.args.self.now.core.ends.places.items c.in-Some.place s.place (record s.place { state = c.args.state; peer = c.stays-peer.result }) c.began-self.ensures c.args.self.now.in_use s.there
+          (λ flag. not_out (is_out (At c.args.state)) c.stays-peer.result (λ out. (c.stays-peer.ensures.goes out).0) flag));
       way = λ p t b. ∥∥₁_map (c.args.self.now.way p t b) (λ k is.
           let old = c.args.self.now.core in
           let one = one_some f.0 s.place (sym f.1 ∙ s.there) in
@@ -86,7 +86,7 @@ invariant_of-self g c =
           g.C.Joins.pattern c.args.self.now.flagged g.C.Joins.names g.C.Joins.sound g.C.Joins.peers w (way_in c.note_turn.new.way.items) c.in-Some.place s.place (record s.place { state = c.args.state; peer = c.stays-peer.result }) c.args.end c.args.state c.index-in-Some.result.now.peer c.stays-peer.result
           (standing_joins t.joins.items) (standing_joins old.joins.items) t.turns.items old.turns.items c.note.new.turns.items t.kind old.kind c.stays-peer.new.kind
           s.there (ap (λ (x : Place _ _). x.held) (sym one) ∙ held_is c.args.end f.0 f.2) (end_is c.args.end f.0 f.2 ∙ ap (λ (x : Place _ _). x.end) one) peer refl refl
-          (c.args.self.now.in_use c.in-Some.place s.place s.there (ap (λ (x : Place _ _). x.held) (sym one) ∙ held_is c.args.end f.0 f.2))
+          (c.args.self.now.in_use c.in-Some.place s.place s.there (ap (λ (x : Place _ _). x.held) (sym one) ∙ held_is c.args.end f.0 f.2)).0
           (c.note_turn.ensures ∙ ap (λ (x : Place _ _). if is_state x.state c.args.state then w else with_turned c.args.end c.args.state w) was)
           (c.note.ensures ∙ ap (λ (x : Place _ _). old.turns.items ++ (if is_state x.state c.args.state then [] else (c.args.end, c.args.state) ∷ [])) was)
           c.stays-peer.ensures.stays c.stays-peer.ensures.goes (k is)));

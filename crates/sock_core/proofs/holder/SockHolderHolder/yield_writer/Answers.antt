@@ -66,7 +66,7 @@ invariant_of-self g c =
     let same = ap length s.now ∙ length-set c.args.self.now.core.ends.places.items c.in-Some.place _ in
     let one = one_some f.0 s.place (sym f.1 ∙ s.there) in
     let state = state_at c.args.self.now.core.ends.places.items c.in-Some.place f.0 c.args.end f.1 f.2 (alone_of g.P.Pipes.known c.args.self.now.pipes c.args.self.now.core.ends.rows.items c.args.self.now.core.ends.places.items c.in-Some.place f.0 c.args.end (sound_of g.P.Pipes.known c.args.self.now.pipes c.args.self.now.core.ends.rows.items c.args.self.now.core.ends.places.items c.args.self.now.sound) f.1 f.2) in
-    let off = no_peer s.place.peer s.place.state (c.args.self.now.in_use c.in-Some.place s.place s.there (ap (λ (x : Place _ _). x.held) (sym one) ∙ held_is c.args.end f.0 f.2))
+    let off = no_peer s.place.peer s.place.state (c.args.self.now.in_use c.in-Some.place s.place s.there (ap (λ (x : Place _ _). x.held) (sym one) ∙ held_is c.args.end f.0 f.2)).0
     (ap (λ (x : EndState). has_writer (At x)) (sym (ap (λ (x : Place _ _). x.state) one) ∙ sym state) ∙ c.requires.out) in
     record {
       sound = are_sound g.P.Pipes.known c.yield_writer.new.pipes c.yield_writer.new.table.rows.items c.yield_writer.new.table.places.items c.yield_writer.ensures.sound;
@@ -77,7 +77,7 @@ invariant_of-self g c =
       gone = λ is. never_gone c.args.end c.args.self.now.core.ends.places.items c.in-Some.place f.0 (c.args.self.now.gone is) f.1 f.2;
       flagged = subst (λ (l : List (Place _ _)). AreFlagged l (g.C.Joins.peers c.args.self.now.core.kind)) (sym s.now)
           (flagged_set c.args.self.now.core.ends.places.items (g.C.Joins.peers c.args.self.now.core.kind) (g.C.Joins.peers c.args.self.now.core.kind) c.in-Some.place s.place (record s.place { writes = false; peer = false; input = Some s.input }) c.args.self.now.flagged s.there (λ j ne here. here) (λ held flag. never (sym flag)));
-      in_use = subst (λ (l : List (Place _ _)). AreInUse l) (sym s.now) (in_use_set c.args.self.now.core.ends.places.items c.in-Some.place s.place (record s.place { writes = false; peer = false; input = Some s.input }) c.args.self.now.in_use s.there (λ held flag. never (sym flag)));
+      in_use = subst (λ (l : List (Place _ _)). AreInUse c.args.self.now.core.reads l) (sym s.now) (in_use_set c.args.self.now.core.reads c.args.self.now.core.ends.places.items c.in-Some.place s.place (record s.place { writes = false; peer = false; input = Some s.input }) c.args.self.now.in_use s.there (λ held. (λ flag. never (sym flag), (c.args.self.now.in_use c.in-Some.place s.place s.there held).1)));
       way = λ p t b. ∥∥₁_map (c.args.self.now.way p t b) (λ k is.
           subst (λ (l : List (Place _ _)). KindWay g.C.Joins.pattern g.C.Joins.names g.C.Joins.sound g.C.Joins.peers (way_in c.args.self.now.core.way.items) l (standing_joins t.joins.items) (standing_joins c.args.self.now.core.joins.items) t.turns.items c.args.self.now.core.turns.items t.kind c.args.self.now.core.kind) (sym s.now)
           (way_set g.C.Joins.pattern g.C.Joins.names g.C.Joins.sound g.C.Joins.peers (way_in c.args.self.now.core.way.items) c.args.self.now.core.ends.places.items (standing_joins t.joins.items) (standing_joins c.args.self.now.core.joins.items) t.turns.items c.args.self.now.core.turns.items t.kind c.args.self.now.core.kind c.in-Some.place s.place (record s.place { writes = false; peer = false; input = Some s.input }) s.there refl (sym off) (k is)));
