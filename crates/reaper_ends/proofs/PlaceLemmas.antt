@@ -1,8 +1,7 @@
 -- The place of an end that was found, and what stands there once the end changed or is gone.
 use Rattle.std.proofs.Common.{◌≡◌, ◌∙◌, ◌<◌, ℕ, List, [], ◌∷◌, length, set, refl, sym, ap, subst}
-use Rattle.std.specs.Prelude.{Vec, remove, slice_index_or, nat_eq}
-use Rattle.std.specs.Vec.{with_item}
-use Rattle.std.specs.declared.alloc.Global.{Global}
+use Rattle.std.specs.Prelude.{remove, slice_index_or, nat_eq}
+use Rattle.std.specs.VecDeque.{deque_with_item}
 use Rattle.indexmap.specs.IndexMap.{get}
 use Rattle.zq_base.specs.declared.ids.EndId.{EndId}
 use Rattle.ctl_holder.specs.declared.given.Given.{Given}
@@ -58,11 +57,7 @@ indexed_still o e g rs c d indexed places r n = ap (λ m. get nat_eq m n) places
 
 -- a socket with an end changed
 abbrev pub with_end : {N O I : Type 0} → ClosedSocket N O I → ℕ → Given N O I → ClosedSocket N O I
-with_end x k g = record { number = x.number; ends = with_item x.ends k g }
-
--- or with other ends
-abbrev pub with_ends : {N O I : Type 0} → ClosedSocket N O I → Vec (Given N O I) Global → ClosedSocket N O I
-with_ends x v = record { number = x.number; ends = v }
+with_end x k g = record { number = x.number; ends = deque_with_item x.ends k g }
 
 module _ {N O I : Type 0} (o : ℕ) (e : EndId) (ss : List (ClosedSocket N O I)) (j k : ℕ) (f : FindsEnd o e ss j k) (x : ClosedSocket N O I) (is : x ≡ slice_index_or ss j x) where
   module _ (g : Given N O I) (here : g ≡ slice_index_or x.ends.items k g) where
@@ -72,8 +67,8 @@ module _ {N O I : Type 0} (o : ℕ) (e : EndId) (ss : List (ClosedSocket N O I))
     pub at_changed : (h : Given N O I) → Replaces o e g (h ∷ []) ss (set ss j (with_end x k h))
     at_changed h = subst (λ (y : Given N O I). Replaces o e y (h ∷ []) ss (set ss j (with_end x k h))) (sym (end_is o e ss j k f x is g here)) (changed o e ss j k f x is (with_end x k h) h refl refl)
 
-    pub at_removed : (v : Vec (Given N O I) Global) → v.items ≡ remove x.ends.items k → Replaces o e g [] ss (set ss j (with_ends x v))
-    at_removed v items = subst (λ (y : Given N O I). Replaces o e y [] ss (set ss j (with_ends x v))) (sym (end_is o e ss j k f x is g here)) (removed o e ss j k f x is (with_ends x v) refl items)
+    pub at_removed : (t : ClosedSocket N O I) → t.number ≡ x.number → t.ends.items ≡ remove x.ends.items k → Replaces o e g [] ss (set ss j t)
+    at_removed t number items = subst (λ (y : Given N O I). Replaces o e y [] ss (set ss j t)) (sym (end_is o e ss j k f x is g here)) (removed o e ss j k f x is t number items)
 
   pub alone_at : (t : ClosedSocket N O I) → t.number ≡ x.number → AllAlone ss → AllAlone (set ss j t)
   alone_at t number alone = alone_still o e ss j k f x is t number alone

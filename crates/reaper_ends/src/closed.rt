@@ -6,7 +6,9 @@ ghost use Rattle.reaper_ends.specs.Others.{Leaves};
 ghost use Rattle.reaper_ends.specs.Sound.{AreSound};
 
 use crate::ending::{look, seal, settle, turn, yield_out};
-use crate::sockets::{ClosedSockets, add, find, find_socket, join, make_room, none, note_heard};
+use crate::sockets::{
+    ClosedSockets, add, find, find_socket, join, make_room, none, note_heard, take_out,
+};
 use crate::stretch::Stretch;
 use ctl_holder::{Given, Halves, Holder, Made, Notice, Parting};
 use held_ends::{HeldPipes, PipeChange};
@@ -15,6 +17,7 @@ use msg_pipe::Front;
 use sock_core::{note, note_seal};
 use spec_control::EndState;
 use std::alloc::{AllocError, AllocFailed, Global};
+use std::collections::VecDeque;
 use std::marker::{Brand, PhantomData};
 use zq_base::{Address, Attached, EndId, Kind, ObjId, Octets, Options, Seq, Settled};
 
@@ -267,7 +270,7 @@ where
             Some((socket, place)) => {
                 let name = P::name(&writer);
                 self.closed.settled = self.closed.settled.and(&name, &());
-                let given = self.closed.sockets[socket].ends.remove(place);
+                let given = take_out(&mut self.closed.sockets[socket].ends, place);
                 return settle(&mut self.pipes, given, writer, &mut self.did);
             }
             None => unreachable!(),
@@ -363,6 +366,6 @@ where
             (holding_in P.known.out_name P.known.in_name self.old.closed)
             (holding_in P.known.out_name P.known.in_name self.new.closed) }
     {
-        add::<P>(&mut self.closed, o, ends);
+        add::<P>(&mut self.closed, o, VecDeque::from_vec(ends));
     }
 }

@@ -1,6 +1,7 @@
-ghost use Rattle.std.specs.Prelude.{◌≡◌, ◌≤◌, ◌++◌, ◌∷◌, [], All, false, length, position, map};
+ghost use Rattle.std.specs.Prelude.{◌≡◌, ◌<◌, ◌≤◌, ◌++◌, ◌∷◌, [], All, false, position, map, slice_index_or};
 ghost use Rattle.std.specs.Prelude.{IfSome, IfNone, IfErr, OnOk};
-ghost use Rattle.std.specs.List.{list_any};
+ghost use Rattle.std.specs.List.{list_any, remove};
+ghost use Rattle.std.specs.VecDeque.{deque_len};
 ghost use Rattle.reaper_ends.specs.Has.{ends_of, is_of, is_socket};
 ghost use Rattle.zq_base.specs.declared.attached.Attached.TheVariants.{Yes};
 ghost use Rattle.sock_core.specs.Standing.{joining_as, standing_joins};
@@ -15,13 +16,14 @@ use indexmap::IndexMap;
 use sock_core::{JoinNote, Joint};
 use spec_control::EndState;
 use std::alloc::{AllocError, AllocFailed, Global};
+use std::collections::VecDeque;
 use zq_base::{Attached, EndId, ObjId, Octets};
 
 /// A closed socket, with those of its ends that were not settled in the order of their attachment.
 #[derive(Drop)]
 pub struct ClosedSocket<N, O, I> {
     pub number: ObjId,
-    pub ends: Vec<Given<N, O, I>>,
+    pub ends: VecDeque<Given<N, O, I>>,
 }
 
 /// The closed sockets that the reaper took over, in the order in which they came.
@@ -100,9 +102,9 @@ pub(crate) fn find<N, O, I>(
 }
 
 // The place of an end among those of its socket.
-fn find_end<N, O, I>(ends: &[Given<N, O, I>], end: EndId) -> Option<usize>
-    requires apart { AreTwoByTwo ends.now }
-    ensures { result ≡ position (is_of end) ends.now }
+fn find_end<N, O, I>(ends: &VecDeque<Given<N, O, I>>, end: EndId) -> Option<usize>
+    requires apart { AreTwoByTwo ends.now.items }
+    ensures { result ≡ position (is_of end) ends.now.items }
 {
     let guess = guessed(ends, end);
     if guess < ends.len() {
@@ -114,8 +116,8 @@ fn find_end<N, O, I>(ends: &[Given<N, O, I>], end: EndId) -> Option<usize>
 }
 
 // The first place whose pair's number is not below that of the end, where they stand in their order.
-fn guessed<N, O, I>(ends: &[Given<N, O, I>], end: EndId) -> usize
-    ensures { result ≤ length ends.now }
+fn guessed<N, O, I>(ends: &VecDeque<Given<N, O, I>>, end: EndId) -> usize
+    ensures { result ≤ deque_len ends.now }
 {
     let mut low = 0;
     let mut high = ends.len();
@@ -142,7 +144,7 @@ fn is_of<N, O, I>(given: &Given<N, O, I>, end: EndId) -> bool
 pub(crate) fn add<P: HeldPipes>(
     closed: &mut ClosedSockets<P::Name, P::Out, P::In>,
     number: ObjId,
-    ends: Vec<Given<P::Name, P::Out, P::In>>,
+    ends: VecDeque<Given<P::Name, P::Out, P::In>>,
 )
 where
     P::Name: Drop,
@@ -179,11 +181,11 @@ pub(crate) fn note_heard(heard: &mut Log<Notice, ()>, notice: Notice)
 // Notes ends that come, as they are.
 fn note_came<P: HeldPipes>(
     came: &mut Log<Place<P::Name, P::In>, ()>,
-    ends: &[Given<P::Name, P::Out, P::In>],
+    ends: &VecDeque<Given<P::Name, P::Out, P::In>>,
 )
 where
     P::Name: Drop,
-    ensures { came.new.items ≡ came.old.items ++ map (came_given P.known.in_name) ends.now }
+    ensures { came.new.items ≡ came.old.items ++ map (came_given P.known.in_name) ends.now.items }
 {
     let many = ends.len();
     'each: for place in 0..many {
@@ -301,7 +303,7 @@ fn note_join<N: Drop>(joins: &mut Log<JoinNote<N>, Octets>, joint: Joint<N>, pee
 
 // One end more. Want of memory hands it back.
 fn put_end<N, O, I>(
-    ends: &mut Vec<Given<N, O, I>>,
+    ends: &mut VecDeque<Given<N, O, I>>,
     given: Given<N, O, I>,
 ) -> Result<(), AllocFailed<Given<N, O, I>>>
     ensures ok { OnOk result (ends.new.items ≡ ends.old.items ++ given ∷ []) }
@@ -311,6 +313,18 @@ fn put_end<N, O, I>(
         Ok(()) => {}
         Err(_) => return Err(AllocFailed { value: given }),
     }
-    ends.push_reserved(given);
+    ends.push_back_reserved(given);
     Ok(())
+}
+
+/// An end that stands at a place is taken out. It costs a move of those on the shorter side of it.
+pub(crate) fn take_out<N, O, I>(ends: &mut VecDeque<Given<N, O, I>>, place: usize) -> Given<N, O, I>
+    requires there { place < deque_len ends.old }
+    ensures value { result ≡ slice_index_or ends.old.items place result }
+    ensures items { ends.new.items ≡ remove ends.old.items place }
+{
+    match ends.remove(place) {
+        Some(given) => return given,
+        None => unreachable!(),
+    }
 }

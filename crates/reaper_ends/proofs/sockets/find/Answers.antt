@@ -17,8 +17,7 @@ find_end-requires g c =
     let one : c.index.result.now ≡ its.one = c.index.ensures ∙ ap (λ (l : List (ClosedSocket _ _ _)). slice_index_or l c.in-Some.socket.now c.index.result.now) its.are ∙ index_there its.before its.behind its.one c.index.result.now c.in-Some.socket.now its.at in
     let each = all_back (λ (s : ClosedSocket _ _ _). AreTwoByTwo s.ends.items) its.before (its.one ∷ its.behind) (subst (All (λ s. AreTwoByTwo s.ends.items)) its.are c.requires.apart) in
     record {
-      apart = subst AreTwoByTwo (sym c.deref.ensures.value)
-          (subst (λ (s : ClosedSocket _ _ _). AreTwoByTwo s.ends.items) (sym one) (All-head (λ (s : ClosedSocket _ _ _). AreTwoByTwo s.ends.items) its.one its.behind each));
+      apart = subst (λ (s : ClosedSocket _ _ _). AreTwoByTwo s.ends.items) (sym one) (All-head (λ (s : ClosedSocket _ _ _). AreTwoByTwo s.ends.items) its.one its.behind each);
     }
 
 pub returns-in-Some-find_end-clause-found : goal.returns-in-Some-find_end-clause-found
@@ -28,7 +27,7 @@ returns-in-Some-find_end-clause-found g c =
     record {
       its = its;
       here = first_of (is_of c.args.end) its.one.ends.items c.in-Some-find_end.place
-          (ap (λ (s : ClosedSocket _ _ _). position (is_of c.args.end) s.ends.items) (sym one) ∙ ap (λ (l : List (Given _ _ _)). position (is_of c.args.end) l) (sym c.deref.ensures.value) ∙ sym c.find_end.ensures ∙ c.in-Some-find_end.is);
+          (ap (λ (s : ClosedSocket _ _ _). position (is_of c.args.end) s.ends.items) (sym one) ∙ sym c.find_end.ensures ∙ c.in-Some-find_end.is);
     }
 
 pub returns-in-None-find_end-clause-none : goal.returns-in-None-find_end-clause-none
@@ -38,7 +37,7 @@ returns-in-None-find_end-clause-none g c =
     ap (λ (l : List (ClosedSocket _ _ _)). list_any (is_of c.args.end) (ends_of l c.args.number.0)) its.are
     ∙ ap (list_any (is_of c.args.end)) (own_ends c.args.number.0 its.before its.behind its.one its.others its.is)
     ∙ none_first (is_of c.args.end) its.one.ends.items
-    (ap (λ (s : ClosedSocket _ _ _). position (is_of c.args.end) s.ends.items) (sym one) ∙ ap (λ (l : List (Given _ _ _)). position (is_of c.args.end) l) (sym c.deref.ensures.value) ∙ sym c.find_end.ensures ∙ c.in-None-find_end.is)
+    (ap (λ (s : ClosedSocket _ _ _). position (is_of c.args.end) s.ends.items) (sym one) ∙ sym c.find_end.ensures ∙ c.in-None-find_end.is)
 
 pub returns-in-None-clause-none : goal.returns-in-None-clause-none
 returns-in-None-clause-none g c =

@@ -10,7 +10,6 @@ use Rattle.sock_core.specs.Standing.{standing_joins}
 use Rattle.reaper_ends.specs.Ending.{halves_of}
 use Rattle.reaper_ends.specs.Finding.{place_given}
 use Rattle.reaper_ends.proofs.JoinLemmas.{joins_at}
-use Rattle.reaper_ends.proofs.PlaceLemmas.{with_ends}
 use Rattle.reaper_ends.proofs.sockets.join.Goals as goal
 
 pub returns-in-Ok-clause-ok : goal.returns-in-Ok-clause-ok
@@ -18,7 +17,7 @@ returns-in-Ok-clause-ok g c =
     let K = g.P.Pipes.known in
     let x = c.index_mut.result.now in
     record {
-      sockets = joins_at c.args.number.0 c.args.socket c.args.closed.now.sockets.items c.requires.its x c.index_mut.ensures.value (_ ∷ []) (with_ends x c.put_end.new.ends) refl
+      sockets = joins_at c.args.number.0 c.args.socket c.args.closed.now.sockets.items c.requires.its x c.index_mut.ensures.value (_ ∷ []) (record { number = x.number; ends = c.put_end.new.ends }) refl
           (c.in-Ok.ensures.ok ∙ ap (λ (y : Given _ _ _). x.ends.items ++ y ∷ []) c.joined-given.ensures);
       came = c.and-closed.ensures ∙ ap (λ (y : Place _ _). c.args.closed.now.came.items ++ (y, tt) ∷ []) (c.noted_as-noted.ensures ∙ ap (place_given K.in_name) c.joined-given.ensures);
       joins =
@@ -33,7 +32,7 @@ returns-in-Some-clause-err g c =
     let x = c.index_mut.result.now in (
       one_some c.in-Some.halves c.args.halves (sym c.in-Some.is ∙ c.halves_of.ensures ∙ ap halves_of (c.in-Err.ensures.err.0 ∙ c.joined-given.ensures)),
       record {
-        sockets = joins_at c.args.number.0 c.args.socket c.args.closed.now.sockets.items c.requires.its x c.index_mut.ensures.value [] (with_ends x c.put_end.new.ends) refl
+        sockets = joins_at c.args.number.0 c.args.socket c.args.closed.now.sockets.items c.requires.its x c.index_mut.ensures.value [] (record { number = x.number; ends = c.put_end.new.ends }) refl
             (c.in-Err.ensures.err.1 ∙ sym (append-nil x.ends.items));
         came = refl;
         joins = refl;
