@@ -17,20 +17,20 @@ use Rattle.spec_pattern.specs.PipeStep.{PipeStep}
 use Rattle.spec_link.specs.LinkAct.{LinkAct, said_of, heard_of, taken_of, repeated_of}
 use Rattle.spec_link.specs.Parts.{IsSilentReadPart, NothingHeld, SomethingHeld, write_acts, read_acts, puts}
 use Rattle.spec_link.specs.Turn.{IsWriteOnly}
-use Rattle.zq_session.specs.declared.write_part.Written.{Written}
-use Rattle.zq_session.specs.declared.life.ReadMode.{ReadMode}
-use Rattle.zq_session.specs.declared.life.ReadMode.TheVariants as mode
-use Rattle.zq_session.specs.Kept.{Kept, Acts, IsKeptOf, KeepsActs, without_puts}
-use Rattle.zq_session.specs.Calls.{Adds, TakeRun, put_acts}
-use Rattle.zq_session.specs.Works.{take_acts, TookRun, WritesBy, ReadsBy, WantsBy}
-use Rattle.zq_session.specs.Silent.{HearsBy}
-use Rattle.zq_session.specs.Single.{WritesAlone, PutsBy, DropsBy}
+use Rattle.link_side.specs.declared.write_part.Written.{Written}
+use Rattle.session_life.specs.declared.life.ReadMode.{ReadMode}
+use Rattle.session_life.specs.declared.life.ReadMode.TheVariants as mode
+use Rattle.link_side.specs.Kept.{Kept, Acts, IsKeptOf, KeepsActs, without_puts}
+use Rattle.link_side.specs.Calls.{Adds, TakeRun, put_acts}
+use Rattle.link_side.specs.Works.{take_acts, TookRun, WritesBy, ReadsBy, WantsBy}
+use Rattle.link_side.specs.Silent.{HearsBy}
+use Rattle.link_side.specs.Single.{WritesAlone, PutsBy, DropsBy}
 use Rattle.zq_session.specs.Halves.{StepRun, StepsRun, step_in}
 use Rattle.zq_session.specs.Doing.{WritesAtBy, ReadsAtBy, WantsAtBy}
 use Rattle.zq_session.specs.BothParts.{LastBy}
-use Rattle.zq_session.proofs.KeptLemmas.{acts_on, acts_same, no_acts}
+use Rattle.link_side.proofs.KeptLemmas.{acts_on, acts_same, no_acts}
 use Rattle.zq_session.proofs.UnputLemmas.{does_by, does_nothing, does_puts, run_of, unput_on, unput_puts, unput_read}
-use Rattle.zq_session.proofs.PartLemmas.{adds_none, some_pipe}
+use Rattle.link_side.proofs.PartLemmas.{adds_none, some_pipe}
 use Rattle.zq_session.proofs.HalfLemmas.{no_steps, one_step, puts_steps}
 use Rattle.zq_session.proofs.NotingLemmas.{write_still, put_still}
 use Rattle.zq_session.proofs.BothLemmas.{write_says, write_hears, write_steps, put_says, put_hears}

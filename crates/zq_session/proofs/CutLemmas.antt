@@ -11,14 +11,14 @@ use Rattle.spec_link.specs.History.{Basis, SessionEvent, Standing, after_all}
 use Rattle.spec_link.specs.Turn.{DueOnce, Exactly, GivesUp, LingerIsOver, subscribes}
 use Rattle.spec_link.specs.Rows.{ClosedLink}
 use Rattle.zq_base.specs.declared.options.EngineOpts.{EngineOpts}
-use Rattle.zq_session.specs.declared.wire.Fetched.TheVariants as fetched
-use Rattle.zq_session.specs.declared.life.Life.{Life}
+use Rattle.link_side.specs.declared.wire.Fetched.TheVariants as fetched
+use Rattle.session_life.specs.declared.life.Life.{Life}
 use Rattle.zq_session.specs.declared.course.Course.{Course}
 use Rattle.zq_session.specs.declared.parts.Done.{Done}
-use Rattle.zq_session.specs.Kept.{Side}
-use Rattle.zq_session.specs.Calls.{Adds}
-use Rattle.zq_session.specs.Lives.{Story, AreDue, basis_of, standing_of}
-use Rattle.zq_session.specs.LifeSteps.{LifeDoes, with_dues}
+use Rattle.link_side.specs.Kept.{Side}
+use Rattle.link_side.specs.Calls.{Adds}
+use Rattle.session_life.specs.Lives.{Story, AreDue, basis_of, standing_of}
+use Rattle.session_life.specs.LifeSteps.{LifeDoes, with_dues}
 use Rattle.zq_session.specs.Halves.{StepsRun, step_in, step_at}
 use Rattle.zq_session.specs.BothParts.{PartsBy, CutBy, UnnotedBy}
 use Rattle.zq_session.specs.Courses.{HasStory, CourseStep, act_at}
@@ -28,8 +28,9 @@ use Rattle.zq_session.proofs.HalfLemmas.{no_steps}
 use Rattle.zq_session.proofs.UnlinkedLemmas.{same_by, link_gone}
 use Rattle.zq_session.proofs.CourseLemmas.{acted, after_on, after_acts, steps_of_acts, acts_of_acts, due_adds, no_due_acts, no_due_steps, more_of, link_some, link_waits, link_is, dials_on, by_link, once_as, met_is, basis_is}
 use Rattle.link_topics.specs.Topics.{Topics}
-use Rattle.zq_session.specs.declared.behind.Behind.{Behind}
-use Rattle.zq_session.specs.Noting.{IsFree, IsHeldOf, SaysAt}
+use Rattle.link_side.specs.declared.behind.Behind.{Behind}
+use Rattle.link_side.specs.Says.{IsFree}
+use Rattle.zq_session.specs.Noting.{IsHeldOf, SaysAt}
 use Rattle.zq_session.proofs.NotingLemmas.{topics_worked, topics_waits, says_at}
 use Rattle.zq_session.proofs.TurnLemmas.{gives_none, first_adds, told_same, course_on, regroup_first}
 

@@ -7,14 +7,13 @@ use Rattle.spec_control.specs.declared.end.EndState.{EndState}
 use Rattle.spec_pattern.specs.Half.{Writing}
 use Rattle.spec_pattern.specs.PipeStep.{PipeStep, Commit, FullLook, Take, EmptyLook, DelimiterLook, WaitingLook, Seal}
 use Rattle.msg_pipe.specs.Known.{Known, IsThere, KeepsButIn}
-use Rattle.msg_pipe.specs.Told.{Puts}
+use Rattle.msg_pipe.specs.Told.{Puts, front_step}
 use Rattle.msg_pipe.specs.declared.pipes.PutIn.{PutIn}
 use Rattle.msg_pipe.specs.declared.pipes.PutIn.TheVariants as put_in
-use Rattle.msg_pipe.specs.Told.{front_step}
 use Rattle.msg_pipe.specs.declared.pipes.Front.{Front}
 use Rattle.zq_session.specs.Unlinked.{LooksBy}
-use Rattle.zq_session.proofs.PartLemmas.{some_pipe}
-use Rattle.zq_session.specs.Calls.{PutRun, PutsRun, put_acts}
+use Rattle.link_side.proofs.PartLemmas.{some_pipe}
+use Rattle.link_side.specs.Calls.{PutRun, PutsRun, put_acts}
 use Rattle.zq_session.specs.Halves.{StepRun, StepsRun, AreThere, step_in}
 
 -- a put leaves the pipe as open as it was

@@ -1,11 +1,4 @@
-pub mod KeptLemmas
-pub mod RestLemmas
-pub mod PartLemmas
-pub mod SilentLemmas
-pub mod ListLemmas
-pub mod LifeLemmas
 pub mod HalfLemmas
-pub mod DropLemmas
 pub mod UnputLemmas
 pub mod BothLemmas
 pub mod AtLemmas
@@ -14,7 +7,6 @@ pub mod UnlinkedLemmas
 pub mod NextLemmas
 pub mod TurnLemmas
 pub mod CutLemmas
-pub mod SayLemmas
 pub mod NotingLemmas
 pub mod SessionLemmas
 pub mod HandLemmas

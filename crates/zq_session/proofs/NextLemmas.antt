@@ -15,19 +15,20 @@ use Rattle.spec_link.specs.Parts.{IsTake, IsWritePart, write_acts}
 use Rattle.spec_pattern.specs.Publishing.{saying_of}
 use Rattle.spec_link.specs.Turn.{IsWriteOnly, topics_by}
 use Rattle.link_topics.specs.Topics.{Topics, IsLeft}
-use Rattle.zq_session.specs.declared.behind.Behind.{Behind}
-use Rattle.zq_session.specs.declared.write_part.Written.{Written}
-use Rattle.zq_session.specs.Kept.{Kept, Side, Acts}
-use Rattle.zq_session.specs.Works.{take_acts}
-use Rattle.zq_session.specs.Single.{WritesAlone}
+use Rattle.link_side.specs.declared.behind.Behind.{Behind}
+use Rattle.link_side.specs.declared.write_part.Written.{Written}
+use Rattle.link_side.specs.Kept.{Kept, Side, Acts}
+use Rattle.link_side.specs.Works.{take_acts}
+use Rattle.link_side.specs.Single.{WritesAlone}
 use Rattle.zq_session.specs.Halves.{StepsRun, step_in}
 use Rattle.zq_session.specs.Doing.{WritesAtBy}
-use Rattle.zq_session.specs.Says.{SaysBy, SaysNext, PassesOn, repeat_acts, done_acts, left_by, noted}
-use Rattle.zq_session.specs.Noting.{WriteMode, taking, alone, saying, plain_mode, mode_by, mode_of, Takes, Says, NextBy, UnsaidBy, NotesBy, NotesNotBy, SaysOn, behind_acts}
-use Rattle.zq_session.proofs.KeptLemmas.{acts_on, acts_same}
+use Rattle.link_side.specs.Says.{SaysBy, SaysNext, repeat_acts, done_acts, left_by}
+use Rattle.zq_session.specs.Noting.{PassesOn, WriteMode, taking, alone, saying, plain_mode, mode_by, mode_of, Takes, Says, NextBy, UnsaidBy, NotesBy, NotesNotBy, SaysOn, behind_acts}
+use Rattle.session_life.specs.TopicSteps.{noted}
+use Rattle.link_side.proofs.KeptLemmas.{acts_on, acts_same}
 use Rattle.zq_session.proofs.HalfLemmas.{no_steps}
-use Rattle.zq_session.proofs.PartLemmas.{some_pipe}
-use Rattle.zq_session.proofs.SayLemmas.{left_item}
+use Rattle.link_side.proofs.PartLemmas.{some_pipe}
+use Rattle.link_side.proofs.SayLemmas.{left_item}
 use Rattle.zq_session.proofs.NotingLemmas.{Still, still_on, still_none, write_still, notes_of, notes_still, again_same, drop_zero, plain_left, saying_left}
 use Rattle.zq_session.proofs.AtLemmas.{took_steps}
 

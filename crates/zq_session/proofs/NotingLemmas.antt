@@ -21,12 +21,13 @@ use Rattle.spec_link.specs.History.{Basis, Standing}
 use Rattle.spec_link.specs.Turn.{IsWriteOnly, WritesAt, IsNextOf, HasNext, CanRead, read_pipe, subscribes, topics_by, topics_taken, topics_due, topics_left}
 use Rattle.spec_link.specs.TopicsFirst.{topics_said}
 use Rattle.link_topics.specs.Topics.{Topics, IsLeft, with_again, made_again}
-use Rattle.zq_session.specs.declared.behind.Behind.{Behind}
-use Rattle.zq_session.specs.declared.behind.Behind.TheVariants.{Nothing, Octets, Unsaid}
-use Rattle.zq_session.specs.Kept.{Kept, Side, IsKeptOf}
-use Rattle.zq_session.specs.Calls.{put_acts}
-use Rattle.zq_session.specs.Says.{noted}
-use Rattle.zq_session.specs.Noting.{IsFree, IsHeldOf, unsaid_by, unsaid_of, SaysNoTopics, taken_before, AreTopics, SaysAt, topics_with, behind_acts, over_link, topics_for, WriteMode, taking, alone, saying, plain_mode, mode_by, mode_of}
+use Rattle.link_side.specs.declared.behind.Behind.{Behind}
+use Rattle.link_side.specs.declared.behind.Behind.TheVariants.{Nothing, Octets, Unsaid}
+use Rattle.link_side.specs.Kept.{Kept, Side, IsKeptOf}
+use Rattle.link_side.specs.Calls.{put_acts}
+use Rattle.session_life.specs.TopicSteps.{noted, over_link, topics_for}
+use Rattle.link_side.specs.Says.{IsFree}
+use Rattle.zq_session.specs.Noting.{IsHeldOf, unsaid_by, unsaid_of, SaysNoTopics, taken_before, AreTopics, SaysAt, topics_with, behind_acts, WriteMode, taking, alone, saying, plain_mode, mode_by, mode_of}
 
 -- ---- a side where no message waits
 

@@ -26,11 +26,11 @@ use Rattle.spec_link.specs.LinkRun.{IsAllSaid, IsLinkRun}
 use Rattle.spec_link.specs.Parts.{IsRunning, NothingToWrite, SomethingToWrite, MayTake, IsWritePart, write_acts, read_acts, puts}
 use Rattle.spec_link.specs.History.{Basis}
 use Rattle.spec_link.specs.Turn.{IsWriteOnly}
-use Rattle.zq_session.specs.Kept.{Kept, HasRun, Acts, IsAtRest, IsKeptOf, KeepsActs, unput_by, without_puts, whole}
-use Rattle.zq_session.specs.Works.{take_acts}
+use Rattle.link_side.specs.Kept.{Kept, HasRun, Acts, IsAtRest, IsKeptOf, KeepsActs, unput_by, without_puts, whole}
+use Rattle.link_side.specs.Works.{take_acts}
 use Rattle.zq_session.specs.Noting.{Next, Takes, Says, next_acts}
-use Rattle.zq_session.proofs.RestLemmas.{some_meaning, said_left, messages_left}
-use Rattle.zq_session.specs.Silent.{HasOutput, HasNone, IsRefusedNow, IsUnrefused, IsShaken, IsUnshaken}
+use Rattle.link_side.proofs.RestLemmas.{some_meaning, said_left, messages_left}
+use Rattle.link_side.specs.Silent.{HasOutput, HasNone, IsRefusedNow, IsUnrefused, IsShaken, IsUnshaken}
 
 -- ---- without the puts
 

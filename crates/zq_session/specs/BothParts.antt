@@ -11,19 +11,20 @@ use Rattle.spec_link.specs.LinkAct.{LinkAct, Step, said_of, heard_of, taken_of, 
 use Rattle.spec_link.specs.Parts.{NothingHeld, SomethingHeld, PutsAll, ReadFits, IsWriteOver, read_acts}
 use Rattle.spec_link.specs.History.{Basis, Standing}
 use Rattle.spec_link.specs.Turn.{IsEnded, IsEndedBy, IsWriteOnly, WritesAt, ReadsAt}
-use Rattle.zq_session.specs.declared.wire.Fetched.TheVariants as fetched
-use Rattle.zq_session.specs.declared.life.Life.{Life}
-use Rattle.zq_session.specs.declared.life.ReadMode.{ReadMode}
+use Rattle.link_side.specs.declared.wire.Fetched.TheVariants as fetched
+use Rattle.session_life.specs.declared.life.Life.{Life}
+use Rattle.session_life.specs.declared.life.ReadMode.{ReadMode}
 use Rattle.zq_session.specs.declared.parts.Done.{Done}
 use Rattle.zq_base.specs.Message.{Frames}
 use Rattle.link_topics.specs.Topics.{Topics}
-use Rattle.zq_session.specs.declared.behind.Behind.TheVariants.{Unsaid}
-use Rattle.zq_session.specs.Kept.{Kept, Side, HasRun, Acts, IsKeptOf, KeepsActs}
+use Rattle.link_side.specs.declared.behind.Behind.TheVariants.{Unsaid}
+use Rattle.link_side.specs.Kept.{Kept, Side, HasRun, Acts, IsKeptOf, KeepsActs}
 use Rattle.zq_session.specs.Noting.{SaysAt, behind_acts}
-use Rattle.zq_session.specs.Calls.{Adds}
-use Rattle.zq_session.specs.Lives.{Story, basis_of, standing_of}
+use Rattle.link_side.specs.Calls.{Adds}
+use Rattle.session_life.specs.Lives.{Story, basis_of, standing_of}
 use Rattle.zq_session.specs.Halves.{StepsRun, step_in}
-use Rattle.zq_session.specs.Doing.{EndsAs, IsReading, ReadsOnce}
+use Rattle.zq_session.specs.Doing.{EndsAs, ReadsOnce}
+use Rattle.session_life.specs.Reading.{IsReading}
 
 -- one part behind the other, of one that stands so
 pub record AreParts (b : Basis) (s : Standing) (acts writes reads : List LinkAct) : Type 0 where

@@ -1,6 +1,7 @@
 -- What the steps of a turn do to what a session keeps, whatever happened before (own choice).
-use Rattle.std.specs.Prelude.{◌≡◌, ◌⊎◌, ℕ, List, [], ◌∷◌, Option, Some, None, IsSome, IfSome, Contains}
+use Rattle.std.specs.Prelude.{◌≡◌, ◌⊎◌, ℕ, Bool, true, false, List, [], ◌∷◌, Option, Some, None, IsSome, IfSome, Contains}
 use Rattle.std.specs.List.{flat_map}
+use Rattle.zq_base.specs.declared.options.EngineOpts.{EngineOpts}
 use Rattle.zq_base.specs.declared.options.Peer.{Peer}
 use Rattle.msg_pipe.specs.Known.{Known}
 use Rattle.spec_control.specs.declared.request.Req.TheVariants.{Shaken}
@@ -9,15 +10,30 @@ use Rattle.spec_link.specs.declared.due.Due.TheVariants.{Request}
 use Rattle.spec_link.specs.LinkAct.{LinkAct, said_of, heard_of}
 use Rattle.spec_link.specs.History.{SessionEvent, Given, Dialled, Acted, Closed, EndIs, Told, Tried, GaveUp, IsDue, Handed, after_all}
 use Rattle.spec_link.specs.Turn.{IsLinkedTurn, ShakenIsDue}
-use Rattle.zq_session.specs.declared.life.Life.{Life}
+use Rattle.session_life.specs.declared.life.Life.{Life}
 use Rattle.zq_session.specs.declared.course.Course.{Course}
-use Rattle.zq_session.specs.declared.behind.Behind.TheVariants.{Nothing}
-use Rattle.zq_session.specs.Kept.{Kept, IsKeptOf}
-use Rattle.zq_session.specs.Calls.{Adds}
-use Rattle.zq_session.specs.Lives.{Story, AreDue, IsOfLink, IsOfDials, basis_of, standing_of}
-use Rattle.zq_session.specs.LifeSteps.{IsSame, with_dues}
-use Rattle.zq_session.specs.Noting.{AreTopics, unsaid_of}
+use Rattle.link_side.specs.declared.behind.Behind.TheVariants.{Nothing}
+use Rattle.link_side.specs.Kept.{Kept, Side, IsKeptOf}
+use Rattle.link_side.specs.Dials.{DiallerState}
+use Rattle.link_side.specs.Calls.{Adds}
+use Rattle.session_life.specs.Lives.{Story, AreDue, basis_of, standing_of}
+use Rattle.session_life.specs.LifeSteps.{IsSame, with_dues}
+use Rattle.zq_session.specs.Noting.{AreTopics, IsHeldOf, unsaid_of}
 use Rattle.zq_session.specs.Halves.{StepsRun, step_at}
+
+-- what is kept of a link, where there is one, is of the acts at it
+abbrev pub IsOfLink : EngineOpts → Option (List LinkAct) → Option Side → Type 0
+IsOfLink opts None None = Unit {0}
+IsOfLink opts None (Some side) = ⊥
+IsOfLink opts (Some acts) None = ⊥
+IsOfLink opts (Some acts) (Some side) = IsHeldOf opts acts side.behind side.kept
+
+-- what dials is kept exactly of a connecting session
+abbrev pub IsOfDials : Bool → Story → Option DiallerState → Type 0
+IsOfDials true p None = ⊥
+IsOfDials true p (Some d) = (d.opts ≡ p.opts) × ((d.interval ≡ p.interval) × (d.dial_at ≡ p.dial_at))
+IsOfDials false p None = Unit {0}
+IsOfDials false p (Some d) = ⊥
 
 -- what a session keeps is of this story
 pub record HasStory (c : Course) (p : Story) : Type 0 where

@@ -4,13 +4,11 @@ use Rattle.std.specs.List.{flat_map}
 use Rattle.zq_base.specs.Message.{Frames}
 use Rattle.zq_base.specs.Ends.{PipeId}
 use Rattle.zq_base.specs.declared.options.EngineOpts.{EngineOpts}
-use Rattle.zq_base.specs.declared.kind.Kind.{Kind}
 use Rattle.zq_base.specs.declared.kind.Kind.TheVariants.{Push}
 use Rattle.zq_outer.specs.declared.link.LinkGot.{LinkGot}
 use Rattle.zq_outer.specs.declared.link.LinkPut.{LinkPut}
 use Rattle.msg_pipe.specs.Known.{Known}
 use Rattle.msg_pipe.specs.declared.pipes.Taken.{Taken}
-use Rattle.spec_control.specs.declared.end.EndState.{EndState}
 use Rattle.spec_link.specs.declared.row.LinkEnd.{LinkEnd}
 use Rattle.spec_link.specs.declared.row.LinkEnd.TheVariants.{Refused}
 use Rattle.spec_zmtp.specs.declared.cause.Cause.{Cause}
@@ -18,14 +16,13 @@ use Rattle.spec_link.specs.LinkAct.{LinkAct}
 use Rattle.spec_link.specs.Parts.{IsTake, NothingHeld, SomethingHeld, IsWritePart, IsReadPart, IsSilentReadPart, WriteFits, ReadFits, write_acts, read_acts}
 use Rattle.spec_link.specs.History.{Basis}
 use Rattle.spec_link.specs.Turn.{IsWriteOnly, write_end, read_end}
-use Rattle.zq_session.specs.declared.life.ReadMode.{ReadMode}
-use Rattle.zq_session.specs.declared.life.ReadMode.TheVariants as mode
-use Rattle.zq_session.specs.declared.write_part.Written.{Written}
-use Rattle.zq_session.specs.LifeView.{IsWritable}
-use Rattle.zq_session.specs.Kept.{Kept, HasRun, Acts, IsKeptOf, KeepsActs}
-use Rattle.zq_session.specs.Calls.{Adds, put_acts}
-use Rattle.zq_session.specs.Works.{take_acts, fetched_of}
-use Rattle.zq_session.specs.Silent.{IsRefusedNow, IsUnrefused}
+use Rattle.session_life.specs.declared.life.ReadMode.{ReadMode}
+use Rattle.session_life.specs.declared.life.ReadMode.TheVariants as mode
+use Rattle.link_side.specs.declared.write_part.Written.{Written}
+use Rattle.link_side.specs.Kept.{Kept, HasRun, Acts, IsKeptOf, KeepsActs}
+use Rattle.link_side.specs.Calls.{Adds, put_acts}
+use Rattle.link_side.specs.Works.{take_acts, fetched_of}
+use Rattle.link_side.specs.Silent.{IsRefusedNow, IsUnrefused}
 use Rattle.zq_session.specs.Halves.{StepsRun, step_in}
 
 -- the reading part of a session that reads so
@@ -48,13 +45,6 @@ ReadsOnce mode.Nothing opts acts answer = answer ≡ None
 ReadsOnce mode.Puts opts acts answer = MatchOption answer (SomethingHeld opts acts) (λ _. NothingHeld opts acts)
 ReadsOnce mode.Holds opts acts answer = MatchOption answer (SomethingHeld opts acts) (λ _. NothingHeld opts acts)
 ReadsOnce mode.Drops opts acts answer = IsSome answer
-
--- how a session reads: it was told before its pair was made, or it drops what it hears, or its end can be written, or it can't
-abbrev pub IsReading : Kind → Option EndState → Option ℕ → ReadMode → Type 0
-IsReading kind state told mode.Nothing = IsSome told × (state ≡ None)
-IsReading kind state told mode.Puts = (kind ≡ Push → ⊥) × IsWritable state
-IsReading kind state told mode.Holds = ((IsSome told × (state ≡ None)) → ⊥) × ((kind ≡ Push → ⊥) × (IsWritable state → ⊥))
-IsReading kind state told mode.Drops = ((IsSome told × (state ≡ None)) → ⊥) × (kind ≡ Push)
 
 module _ {S O I N : Type 0} (K : Known S O I N) where
   -- the writing part: with a take where the end can be read, and else a write alone

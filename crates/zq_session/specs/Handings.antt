@@ -1,5 +1,5 @@
 -- What a session hands to the plane, by its flags; and its last calls at the halves of its end (own choice).
-use Rattle.std.specs.Prelude.{◌≡◌, ◌-◌, true, false, List, [], ◌∷◌, ◌++◌, length, Option, Some, Contains}
+use Rattle.std.specs.Prelude.{◌≡◌, ◌-◌, true, false, length, Option, Some}
 use Rattle.zq_base.specs.declared.options.Peer.{Peer}
 use Rattle.zq_base.specs.declared.ids.Settled.{Settled}
 use Rattle.msg_pipe.specs.Known.{Known, KeepsButOut, KeepsButPipe}
@@ -7,24 +7,8 @@ use Rattle.spec_pattern.specs.Half.{with_delimiter, AreHalves}
 use Rattle.spec_control.specs.declared.request.Req.TheVariants.{Shaken}
 use Rattle.spec_link.specs.declared.due.Due.{Due}
 use Rattle.spec_link.specs.declared.due.Due.TheVariants.{Request}
-use Rattle.zq_session.specs.declared.life.Asked.{Asked}
-use Rattle.zq_session.specs.declared.life.Life.{Life}
+use Rattle.session_life.specs.declared.life.Asked.{Asked}
 use Rattle.zq_session.specs.declared.course.Course.{Course}
-use Rattle.zq_session.specs.Lives.{AreDue}
-
--- this became due and wasn't handed out, and from now on it was
-abbrev pub Hands : Life → (given given' : Asked) → Due → Type 0
-Hands l given given' due =
-    (dues handed : List Due) → AreDue l l.asked dues → AreDue l given handed →
-    Contains dues due × (Contains handed due → ⊥) × AreDue l given' (handed ++ due ∷ [])
-
--- all that became due was handed out, aside from the handshake
-pub record IsAllGiven (asked given : Asked) : Type 0 where
-  pub linger : asked.linger ≡ true → given.linger ≡ true
-  pub link : asked.link ≡ true → given.link ≡ true
-  pub over : asked.over ≡ true → given.over ≡ true
-  pub output : asked.output ≡ true → given.output ≡ true
-  pub delimiter : asked.delimiter ≡ true → given.delimiter ≡ true
 
 -- the handshake became due and wasn't handed out, and from now on it was, with its peer
 pub record HandsShaken (old new : Course) (given given' : Asked) (due : Due) : Type 0 where

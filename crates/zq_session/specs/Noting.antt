@@ -17,23 +17,18 @@ use Rattle.spec_link.specs.History.{Basis}
 use Rattle.spec_link.specs.Turn.{IsWriteOnly, subscribes, topics_by, topics_taken}
 use Rattle.spec_link.specs.TopicsFirst.{topics_said}
 use Rattle.link_topics.specs.Topics.{Topics, IsLeft}
-use Rattle.zq_session.specs.declared.behind.Behind.{Behind}
-use Rattle.zq_session.specs.declared.behind.Behind.TheVariants.{Nothing, Octets, Unsaid}
-use Rattle.zq_session.specs.declared.wire.Fetched.{Fetched}
-use Rattle.zq_session.specs.declared.write_part.Written.{Written}
-use Rattle.zq_session.specs.Kept.{Kept, Side, HasRun, Acts, IsKeptOf}
-use Rattle.zq_session.specs.Calls.{Adds}
-use Rattle.zq_session.specs.Works.{take_acts, fetched_of}
-use Rattle.zq_session.specs.Says.{TakesBy, PassesOn, SaysBy, repeat_acts}
+use Rattle.link_side.specs.declared.behind.Behind.{Behind}
+use Rattle.link_side.specs.declared.behind.Behind.TheVariants.{Nothing, Octets, Unsaid}
+use Rattle.link_side.specs.declared.wire.Fetched.{Fetched}
+use Rattle.link_side.specs.declared.write_part.Written.{Written}
+use Rattle.link_side.specs.Kept.{Kept, Side, HasRun, Acts, IsKeptOf}
+use Rattle.link_side.specs.Calls.{Adds}
+use Rattle.link_side.specs.Works.{take_acts, fetched_of}
+use Rattle.link_side.specs.Says.{Offers, TakesBy, SaysBy, repeat_acts}
+use Rattle.session_life.specs.TopicSteps.{noted}
 use Rattle.zq_session.specs.Halves.{StepsRun, step_in}
 
 -- ---- what is kept
-
--- no message waits to be offered
-abbrev pub IsFree : Behind → Type 0
-IsFree Nothing = Unit {0}
-IsFree Octets = Unit {0}
-IsFree (Unsaid m) = ⊥
 
 -- what is kept of a link is of the acts at it, but for a take whose message isn't offered yet
 abbrev pub IsHeldOf : EngineOpts → List LinkAct → Behind → Kept → Type 0
@@ -87,6 +82,13 @@ SaysAt dials opts closed acts None = SaysNoTopics dials opts
 SaysAt dials opts closed acts (Some t) =
     ((dials && subscribes opts.kind) ≡ true) × (t.again ≡ Some (drop (length (repeated_of acts)) (topics_said (topics_taken (taken_before closed)))))
 
+-- a message that isn't offered yet is noted and offered
+abbrev pub PassesOn : Behind → Kept → Option Topics → Side → Option Topics → Type 0
+PassesOn Nothing k topics new topics' = (new ≡ record { kept = k; behind = Nothing }) × (topics' ≡ topics)
+PassesOn Octets k topics new topics' = (new ≡ record { kept = k; behind = Octets }) × (topics' ≡ topics)
+PassesOn (Unsaid m) k topics new topics' =
+    (new.behind ≡ Nothing) × (((act : LinkAct) → Offers m act → Acts k (act ∷ []) new.kept) × (topics' ≡ noted m topics))
+
 -- the topics behind these acts at a link
 abbrev pub topics_with : List Topic → List Frames → List Topic
 topics_with topics messages = fold (λ ts m. topics_by (saying_of m) ts) topics messages
@@ -96,18 +98,6 @@ noting acts t = record { taken = topics_with t.taken (taken_of acts); again = op
 
 abbrev pub behind_acts : List LinkAct → Option Topics → Option Topics
 behind_acts acts topics = option_map (λ t. noting acts t) topics
-
--- the topics where a link is over
-abbrev pub unmade : Topics → Topics
-unmade t = record t { again = None }
-
-abbrev pub over_link : Option Topics → Option Topics
-over_link topics = option_map (λ t. unmade t) topics
-
--- before any link
-abbrev pub topics_for : Bool → Option Topics
-topics_for true = Some (record { taken = []; again = None })
-topics_for false = None
 
 -- ---- the writing part
 

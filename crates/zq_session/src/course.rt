@@ -1,29 +1,29 @@
 ghost use Rattle.std.specs.Prelude.{◌≡◌, Bool, None, Some, Option, IsSome, is_some, true, false, OnOk, OnErr, IfOk, IfSome};
 ghost use Rattle.zq_base.specs.declared.kind.Kind.TheVariants.{Push};
-ghost use Rattle.zq_session.specs.declared.behind.Behind.TheVariants.{Nothing};
+ghost use Rattle.link_side.specs.declared.behind.Behind.TheVariants.{Nothing};
 ghost use Rattle.zq_outer.specs.Host.{IsNew};
 ghost use Rattle.zq_session.specs.Courses.{HasStory, IsAtEase, IsReady, ShakesBy, LinkedBy};
-ghost use Rattle.zq_session.specs.Noting.{over_link};
+ghost use Rattle.session_life.specs.TopicSteps.{over_link};
 ghost use Rattle.spec_link.specs.Parts.{IsWriteOver};
-ghost use Rattle.zq_session.specs.LifeView.{IsWritable, IsReadable};
+ghost use Rattle.session_life.specs.LifeView.{IsWritable, IsReadable};
 ghost use Rattle.zq_session.specs.Unlinked.{DialsBy, UnlinkedBy};
 ghost use Rattle.zq_session.specs.Cuts.{CutAtLinkBy, CutUnlinkedBy};
 ghost use Rattle.spec_link.specs.History.{later};
-ghost use Rattle.zq_session.specs.Lives.{Story, IsOfDials};
+ghost use Rattle.session_life.specs.Lives.{Story};
+ghost use Rattle.zq_session.specs.Courses.{IsOfDials};
 ghost use Rattle.zq_session.specs.Ending.{Asks, DialsLater};
 ghost use Rattle.zq_session.specs.Doing.{IsRefusal};
 ghost use Rattle.zq_session.specs.Halves.{AreThere, ReadsThere};
 
-use crate::dialler::{Dial, Dialler};
-use crate::life::Life;
 use crate::parts::{both_parts, found_delimiter, last_acts, look_at, met_delimiter, over_by};
-use crate::side::LinkSide;
-use crate::topical::{pass_on, prepare, say_anew};
-use crate::write_part::is_over;
+use crate::passing::pass_on;
+use link_side::{Dial, Dialler, LinkSide, is_over, let_go};
 use link_topics::LinkTopics;
 use msg_pipe::Pipes;
+use session_life::{Life, prepare, say_anew};
 use spec_link::LinkEnd;
 use std::alloc::{AllocError, Global};
+use std::mem::replace;
 use zq_base::Peer;
 use zq_outer::{Host, Link, LinkPut};
 
@@ -118,7 +118,7 @@ impl Course {
     {
         self.life.ask_link();
         self.life.ask_over();
-        self.side = None;
+        let_go(&mut self.side);
         say_anew(&mut self.topics);
         dials_later(&mut self.dialler, now);
     }
@@ -205,7 +205,7 @@ impl Course {
             None => return Ok(None),
             Some(dialler) => match dialler.dial(alloc, host, now)? {
                 Dial::Linked(link, side) => {
-                    self.side = Some(side);
+                    drop(replace(&mut self.side, Some(side)));
                     return Ok(Some(link));
                 }
                 Dial::NotReady => return Ok(None),
@@ -251,7 +251,7 @@ impl Course {
 impl Course {
     ghost use Rattle.std.specs.Prelude.{◌≡◌, None, is_some, true, false, OnOk, OnErr};
     ghost use Rattle.spec_link.specs.Turn.{Exactly, GivesUp, LingerIsOver};
-    ghost use Rattle.zq_session.specs.Lives.{Story, basis_of, standing_of};
+    ghost use Rattle.session_life.specs.Lives.{Story, basis_of, standing_of};
     ghost use Rattle.zq_session.specs.Courses.{HasStory, IsAtEase, IsReady, CourseStep};
     ghost use Rattle.zq_session.specs.Halves.{AreThere};
     ghost use Rattle.zq_session.specs.Turns.{IsOutputGone, OutputBy, BeginsBy, TurnsBy};

@@ -1,22 +1,21 @@
 ghost use Rattle.std.specs.Prelude.{◌≡◌, ◌⊎◌, true, false, Some, IfOk, OnOk, OnErr, IfSome, IfNone};
 ghost use Rattle.zq_base.specs.Ends.{PipeId};
-ghost use Rattle.zq_session.specs.declared.behind.Behind.TheVariants.{Nothing};
-ghost use Rattle.zq_session.specs.Calls.{WriteCounts, ReadCounts};
+ghost use Rattle.link_side.specs.declared.behind.Behind.TheVariants.{Nothing};
+ghost use Rattle.link_side.specs.Calls.{WriteCounts, ReadCounts};
 ghost use Rattle.zq_session.specs.Halves.{ReadsThere, WritesThere, AreThere};
 ghost use Rattle.zq_session.specs.Doing.{WritesAtBy, ReadsAtBy, WantsAtBy, EndsAs, IsOverNow, StandsNow};
 ghost use Rattle.zq_session.specs.Unlinked.{LooksBy};
 ghost use Rattle.msg_pipe.specs.Known.{IsThere};
 ghost use Rattle.link_topics.specs.Topics.{IsLeft};
-ghost use Rattle.zq_session.specs.Noting.{IsFree, NextBy, UnsaidBy, NotesBy, NotesNotBy, SaysOn, mode_of};
+ghost use Rattle.link_side.specs.Says.{IsFree};
+ghost use Rattle.zq_session.specs.Noting.{NextBy, UnsaidBy, NotesBy, NotesNotBy, SaysOn, mode_of};
 ghost use Rattle.zq_session.specs.BothParts.{PartsBy, CutBy, UnnotedBy, LastBy};
 
-use crate::life::{Life, ReadMode};
-use crate::side::LinkSide;
-use crate::topical::pass_on;
-use crate::wire::Fetched;
-use crate::write_part::{Written, is_over};
+use crate::passing::pass_on;
+use link_side::{Fetched, LinkSide, Written, is_over};
 use link_topics::LinkTopics;
 use msg_pipe::{Front, Pipes};
+use session_life::{Life, ReadMode};
 use spec_link::LinkEnd;
 use std::alloc::{AllocError, Global};
 use zq_outer::{Link, LinkGot, LinkPut};
@@ -220,7 +219,7 @@ pub(crate) fn found_delimiter(found: Option<Front>) -> bool
 }
 
 /// What the two parts of a turn answered.
-#[derive(Clone, Copy, Debug, PartialEq, Eq)]
+#[derive(Clone, Copy)]
 pub(crate) struct Done {
     pub(crate) written: Written,
     pub(crate) got: Option<LinkGot>,

@@ -1,6 +1,6 @@
 use Rattle.std.proofs.Common.{Option, subst}
-use Rattle.zq_session.specs.Dials.{DiallerState}
-use Rattle.zq_session.specs.Lives.{IsOfDials}
+use Rattle.link_side.specs.Dials.{DiallerState}
+use Rattle.zq_session.specs.Courses.{IsOfDials}
 use Rattle.zq_session.proofs.CourseLemmas.{dials_after}
 use Rattle.zq_session.proofs.course.dials_later.Goals as goal
 

@@ -1,7 +1,7 @@
 use Rattle.std.proofs.Common.{Option, subst}
 use Rattle.std.specs.Prelude.{IfSome, IfNone}
 use Rattle.zq_base.specs.declared.options.Peer.{Peer}
-use Rattle.zq_session.specs.Silent.{IsShaken, IsUnshaken}
+use Rattle.link_side.specs.Silent.{IsShaken, IsUnshaken}
 use Rattle.zq_session.proofs.CourseLemmas.{shakes_not, shakes_none, shakes_now}
 use Rattle.zq_session.proofs.course.shaken_due.Goals as goal
 

@@ -1,12 +1,12 @@
 use Rattle.std.proofs.Common.{ℕ, List, [], Option, sym, subst, inl, inr}
 use Rattle.std.specs.List.{flat_map}
-use Rattle.zq_session.specs.declared.life.ReadMode.{ReadMode}
-use Rattle.zq_session.specs.Calls.{Adds}
+use Rattle.session_life.specs.declared.life.ReadMode.{ReadMode}
+use Rattle.link_side.specs.Calls.{Adds}
 use Rattle.zq_session.specs.Noting.{next_acts}
 use Rattle.zq_session.specs.Halves.{step_in}
-use Rattle.zq_session.specs.Doing.{IsReading}
+use Rattle.session_life.specs.Reading.{IsReading}
 use Rattle.zq_session.proofs.HalfLemmas.{steps_there}
-use Rattle.zq_session.proofs.PartLemmas.{adds_none, some_pipe, on_err}
+use Rattle.link_side.proofs.PartLemmas.{adds_none, some_pipe, on_err}
 use Rattle.zq_session.proofs.BothLemmas.{parts_by, parts_over, parts_cut, parts_unnoted, writes_to, reads_from, wants_from}
 use Rattle.zq_session.proofs.parts.both_parts.Goals as goal
 

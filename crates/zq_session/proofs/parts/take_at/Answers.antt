@@ -1,8 +1,8 @@
 use Rattle.std.proofs.Common.{ap, subst, sym, ◌∙◌}
-use Rattle.zq_session.specs.Kept.{Side}
-use Rattle.zq_session.specs.Says.{TakesBy}
+use Rattle.link_side.specs.Kept.{Side}
+use Rattle.link_side.specs.Says.{TakesBy}
 use Rattle.zq_session.specs.Noting.{NotesNotBy}
-use Rattle.zq_session.proofs.PartLemmas.{on_err}
+use Rattle.link_side.proofs.PartLemmas.{on_err}
 use Rattle.zq_session.proofs.parts.take_at.Goals as goal
 
 pub returns-clause-ok : goal.returns-clause-ok

@@ -1,5 +1,5 @@
 use Rattle.std.proofs.Common.{refl}
-use Rattle.zq_session.proofs.PartLemmas.{on_err}
+use Rattle.link_side.proofs.PartLemmas.{on_err}
 use Rattle.zq_session.proofs.TurnLemmas.{begins_by, begins_cut}
 use Rattle.zq_session.proofs.course.Course.begin.Goals as goal
 

@@ -1,7 +1,7 @@
 use Rattle.std.proofs.Common.{◌≡◌, refl, subst}
 use Rattle.spec_link.specs.LinkAct.{Linked, Failed}
-use Rattle.zq_session.specs.declared.dialler.Dial.{Dial}
-use Rattle.zq_session.specs.Dials.{IsDial, answer_of, moment_after}
+use Rattle.link_side.specs.declared.dialler.Dial.{Dial}
+use Rattle.link_side.specs.Dials.{IsDial, answer_of, moment_after}
 use Rattle.zq_session.proofs.NotingLemmas.{free_by, topics_dialled}
 use Rattle.zq_session.proofs.CourseLemmas.{link_none}
 use Rattle.zq_session.proofs.UnlinkedLemmas.{counts_as, dials_by, links_fresh, no_side}
@@ -17,8 +17,8 @@ returns-in-Linked-clause-dials g c =
     (subst (λ (x : Dial _). IsDial d.dial_at c.args.now (answer_of x)) is e.due)
     (subst (λ (x : Dial _). c.dial.new.self ≡ record d { dial_at = moment_after d.interval c.args.now (answer_of x) d.dial_at }) is e.next)
     (c.may_dial.ensures.yes c.if-not-may_dial.false)
-    (λ p o none. (let k = rw is at e.linked in links_fresh p.opts _ _ c.in-Linked.side d.opts o refl refl (free_by c.in-Linked.side.behind k.0.1) k.0.0))
-    (λ p none k. (let f = rw is at e.linked in topics_dialled c.args.self.now.life.dials p.opts p.link _ p.closed c.args.self.now.side _ c.in-Linked.side c.args.self.now.topics none refl c.requires.no_link refl (free_by c.in-Linked.side.behind f.0.1) (c.requires.ready c.requires.no_link) k)) (λ _. refl)
+    (λ p o none. (let k = rw is at e.linked in links_fresh p.opts _ _ c.in-Linked.side d.opts o c.replace.ensures.after refl (free_by c.in-Linked.side.behind k.0.1) k.0.0))
+    (λ p none k. (let f = rw is at e.linked in topics_dialled c.args.self.now.life.dials p.opts p.link _ p.closed c.args.self.now.side _ c.in-Linked.side c.args.self.now.topics none refl c.requires.no_link c.replace.ensures.after (free_by c.in-Linked.side.behind f.0.1) (c.requires.ready c.requires.no_link) k)) (λ _. refl)
 
 pub returns-in-Failed-clause-dials : goal.returns-in-Failed-clause-dials
 returns-in-Failed-clause-dials g c =

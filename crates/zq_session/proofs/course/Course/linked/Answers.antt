@@ -1,15 +1,15 @@
 use Rattle.std.proofs.Common.{◌≡◌, [], ◌∷◌, ◌++◌, true, Some, refl, sym, ◌∙◌, subst, Option, inl, inr}
 use Rattle.spec_link.specs.declared.due.Due.TheVariants.{Delimiter}
 use Rattle.spec_link.specs.Turn.{DueOnce}
-use Rattle.zq_session.specs.declared.life.Life.{Life}
-use Rattle.zq_session.specs.LifeSteps.{LifeDoes}
+use Rattle.session_life.specs.declared.life.Life.{Life}
+use Rattle.session_life.specs.LifeSteps.{LifeDoes}
 use Rattle.std.specs.List.{flat_map}
 use Rattle.spec_control.specs.declared.end.EndState.{EndState}
-use Rattle.zq_session.specs.LifeView.{IsWritable}
+use Rattle.session_life.specs.LifeView.{IsWritable}
 use Rattle.zq_session.specs.Halves.{step_in, AreThere}
-use Rattle.zq_session.specs.Kept.{Side}
-use Rattle.zq_session.specs.declared.behind.Behind.TheVariants.{Nothing}
-use Rattle.zq_session.specs.Lives.{Story}
+use Rattle.link_side.specs.Kept.{Side}
+use Rattle.link_side.specs.declared.behind.Behind.TheVariants.{Nothing}
+use Rattle.session_life.specs.Lives.{Story}
 use Rattle.zq_session.specs.Courses.{HasStory}
 use Rattle.zq_session.specs.Cuts.{CutAtLinkBy}
 use Rattle.spec_link.specs.LinkAct.{Step}
@@ -17,7 +17,7 @@ use Rattle.spec_pattern.specs.PipeStep.{Take, read_through}
 use Rattle.zq_session.proofs.NotingLemmas.{free_by, ease_at}
 use Rattle.zq_session.proofs.HalfLemmas.{steps_there}
 use Rattle.zq_session.proofs.CourseLemmas.{turn_stands, turn_over, one_by, heard_to}
-use Rattle.zq_session.proofs.PartLemmas.{on_err, some_pipe}
+use Rattle.link_side.proofs.PartLemmas.{on_err, some_pipe}
 use Rattle.zq_session.proofs.CutLemmas.{cut_at_link, cut_unnoted, cut_behind}
 use Rattle.zq_session.proofs.course.Course.linked.Goals as goal
 

@@ -1,7 +1,7 @@
 use Rattle.std.proofs.Common.{true, Option, [], None, refl, ap, sym, subst}
 use Rattle.spec_link.specs.Turn.{subscribes}
 use Rattle.link_topics.specs.Topics.{Topics}
-use Rattle.zq_session.specs.Dials.{DiallerState}
+use Rattle.link_side.specs.Dials.{DiallerState}
 use Rattle.zq_session.specs.Noting.{AreTopics}
 use Rattle.zq_session.proofs.NotingLemmas.{topics_begin}
 use Rattle.zq_session.proofs.SessionLemmas.{nothing_due, shaken_none}

@@ -1,0 +1,127 @@
+-- A message that is said, and a take whose message isn't offered yet.
+use Rattle.std.proofs.Common.{◌≡◌, ℕ, List, [], ◌∷◌, ◌++◌, Option, Some, None, refl, sym, ap, ◌∙◌, inl, inr}
+use Rattle.std.specs.Prelude.{◌⊎◌}
+use Rattle.std.proofs.lemmas.List.{append-nil}
+use Rattle.zq_base.specs.Message.{Frames}
+use Rattle.zq_base.specs.Ends.{PipeId}
+use Rattle.zq_base.specs.declared.options.EngineOpts.{EngineOpts}
+use Rattle.zq_outer.specs.declared.link.LinkPut.{LinkPut}
+use Rattle.msg_pipe.specs.Known.{Known}
+use Rattle.msg_pipe.specs.Told.{take_step}
+use Rattle.msg_pipe.specs.declared.pipes.Taken.{Taken}
+use Rattle.msg_pipe.specs.declared.pipes.Taken.TheVariants as taken
+use Rattle.spec_pattern.specs.PipeStep.{EmptyLook, DelimiterLook}
+use Rattle.spec_link.specs.LinkAct.{LinkAct, Wire, Step, Repeats}
+use Rattle.spec_link.specs.Parts.{NothingToWrite, SomethingToWrite, MayTake, IsWriteOver, IsWritePart, WriteFits, write_acts}
+use Rattle.link_topics.specs.Topics.{Topics}
+use Rattle.link_side.specs.declared.behind.Behind.TheVariants.{Unsaid}
+use Rattle.link_side.specs.Kept.{Kept, HasRun, Acts}
+use Rattle.link_side.specs.Calls.{Adds, TakeRun}
+use Rattle.link_side.specs.Says.{LookedBy, SaysBy, SaysNext, done_acts, left_by}
+use Rattle.link_side.proofs.KeptLemmas.{acts_on, acts_same, no_acts, run_still}
+use Rattle.link_side.proofs.PartLemmas.{WritesDue, none_by, some_by, is_take}
+
+-- where no more is done behind the write
+abbrev pub Stops : Option LinkPut → Kept → Type 0
+Stops put k = IsWriteOver put ⊎ ((opts : EngineOpts) (acts : List LinkAct) → HasRun opts acts k → MayTake opts acts → ⊥)
+
+-- a look that finds no message is no change
+look_still : (pipe : PipeId) (found : Taken) (k : Kept) → Acts k (done_acts pipe (Some found)) k
+look_still pipe (taken.Item m) k = no_acts k
+look_still pipe taken.Empty k = λ opts acts r. run_still opts acts (Step (EmptyLook pipe)) k k refl refl refl refl refl refl refl r
+look_still pipe taken.Delimiter k = λ opts acts r. run_still opts acts (Step (DelimiterLook pipe)) k k refl refl refl refl refl refl refl r
+
+alone : (old new : Kept) (put : Option LinkPut) (octets : List ℕ) (IsNext : LinkAct → Type 0) → WriteFits put octets → Acts old (write_acts put octets) new → WritesDue put old → Stops put new
+    → (opts : EngineOpts) (acts : List LinkAct) → HasRun opts acts old → IsWritePart opts IsNext acts (write_acts put octets ++ [])
+alone old new put octets IsNext fits f due stops opts acts r = record {
+  answer = put;
+  octets = octets;
+  takes = [];
+  all = refl;
+  fits = fits;
+  none = λ e. none_by put (NothingToWrite opts acts) (λ _. SomethingToWrite opts acts) e (due opts acts r);
+  some = λ e. some_by put (NothingToWrite opts acts) (SomethingToWrite opts acts) e (due opts acts r);
+  over = λ _. refl;
+  take = λ stands may. absurd (elim stops as (λ _. ⊥) [ inl over ↦ stands over | inr waits ↦ waits opts (acts ++ write_acts put octets) (f opts acts r) may ]);
+  wait = λ _. refl;
+}
+
+with_one : (old new : Kept) (put : Option LinkPut) (octets : List ℕ) (IsNext : LinkAct → Type 0) (act : LinkAct) → IsNext act → WriteFits put octets → Acts old (write_acts put octets) new → WritesDue put old
+    → (IsWriteOver put → ⊥) → ((opts : EngineOpts) (acts : List LinkAct) → HasRun opts acts new → MayTake opts acts)
+    → (opts : EngineOpts) (acts : List LinkAct) → HasRun opts acts old → IsWritePart opts IsNext acts (write_acts put octets ++ act ∷ [])
+with_one old new put octets IsNext act is fits f due stands may opts acts r = record {
+  answer = put;
+  octets = octets;
+  takes = act ∷ [];
+  all = refl;
+  fits = fits;
+  none = λ e. none_by put (NothingToWrite opts acts) (λ _. SomethingToWrite opts acts) e (due opts acts r);
+  some = λ e. some_by put (NothingToWrite opts acts) (SomethingToWrite opts acts) e (due opts acts r);
+  over = λ over. absurd (stands over);
+  take = λ _ _. (act, is, refl);
+  wait = λ no. absurd (no (may opts (acts ++ write_acts put octets) (f opts acts r)));
+}
+
+module _ {S O I N : Type 0} (K : Known S O I N) where
+  pub looked_alone : (old new : Kept) (put : Option LinkPut) (octets : List ℕ) (said said' : Option (List ℕ)) (s : S) (i : I) → Adds said octets said' → WriteFits put octets → Acts old (write_acts put octets) new
+      → WritesDue put old → Stops put new → LookedBy K old put None new said said' s i s i
+  looked_alone old new put octets said said' s i told fits f due stops = record {
+    octets = octets;
+    fits = fits;
+    told = told;
+    took = (refl, refl);
+    run = λ _. acts_same old new (write_acts put octets) (write_acts put octets ++ []) (sym (append-nil (write_acts put octets))) f;
+    part = λ pipe opts acts r. alone old new put octets _ fits f due stops opts acts r;
+  }
+
+  pub looked_with : (old new : Kept) (put : Option LinkPut) (octets : List ℕ) (said said' : Option (List ℕ)) (s s' : S) (i i' : I) (found : Taken) → Adds said octets said' → WriteFits put octets
+      → Acts old (write_acts put octets) new → TakeRun K s i found s' i' → WritesDue put old → (IsWriteOver put → ⊥) → ((opts : EngineOpts) (acts : List LinkAct) → HasRun opts acts new → MayTake opts acts)
+      → LookedBy K old put (Some found) new said said' s i s' i'
+  looked_with old new put octets said said' s s' i i' found told fits f takes due stands may = record {
+    octets = octets;
+    fits = fits;
+    told = told;
+    took = takes;
+    run = λ pipe. acts_on old new new (write_acts put octets) (done_acts pipe (Some found)) f (look_still pipe found new);
+    part = λ pipe opts acts r. with_one old new put octets _ (Step (take_step pipe found)) (is_take pipe found) fits f due stands may opts acts r;
+  }
+
+-- nothing is said
+pub says_alone : (old new : Kept) (put : Option LinkPut) (octets : List ℕ) (said said' : Option (List ℕ)) (topics : Topics) → Adds said octets said' → WriteFits put octets → Acts old (write_acts put octets) new
+    → WritesDue put old → Stops put new → SaysBy old put new said said' topics topics
+says_alone old new put octets said said' topics told fits f due stops = record {
+  octets = octets;
+  message = None;
+  fits = fits;
+  told = told;
+  next = refl;
+  run = acts_same old new (write_acts put octets) (write_acts put octets ++ []) (sym (append-nil (write_acts put octets))) f;
+  part = λ m rest e opts acts r. alone old new put octets (λ act. act ≡ Wire (Repeats m)) fits f due stops opts acts r;
+}
+
+first_same : (again : Option (List Frames)) (m n : Frames) (xs ys : List Frames) → again ≡ Some (m ∷ xs) → again ≡ Some (n ∷ ys) → m ≡ n
+first_same again m n xs ys e d = (let both : Some (m ∷ xs) ≡ Some (n ∷ ys) = sym e ∙ d in cc)
+
+-- the next topic is said
+pub says_one : (old mid new : Kept) (put : Option LinkPut) (octets : List ℕ) (said said' : Option (List ℕ)) (topics topics' : Topics) (m : Frames) → Adds said octets said' → WriteFits put octets
+    → Acts old (write_acts put octets) mid → Acts mid (Wire (Repeats m) ∷ []) new → WritesDue put old → (IsWriteOver put → ⊥) → ((opts : EngineOpts) (acts : List LinkAct) → HasRun opts acts mid → MayTake opts acts)
+    → (next : SaysNext topics (Some m) topics') → SaysBy old put new said said' topics topics'
+says_one old mid new put octets said said' topics topics' m told fits f g due stands may next = record {
+  octets = octets;
+  message = Some m;
+  fits = fits;
+  told = told;
+  next = next;
+  run = acts_on old mid new (write_acts put octets) (Wire (Repeats m) ∷ []) f g;
+  part = λ n rest e opts acts r. with_one old mid put octets (λ act. act ≡ Wire (Repeats n)) (Wire (Repeats m)) (ap (λ x. Wire (Repeats x)) (first_same topics.again m n next.0 rest next.1 e)) fits f due stands may opts acts r;
+}
+
+-- the message that waits was taken
+pub left_item : (found : Option Taken) (m : Frames) → left_by found ≡ Unsaid m → found ≡ Some (taken.Item m)
+left_item None m e = absurd cc
+left_item (Some (taken.Item n)) m e = ap (λ (x : Frames). Some (taken.Item x)) (same e)
+  where
+    same : Unsaid n ≡ Unsaid m → n ≡ m
+    same d = cc
+left_item (Some taken.Empty) m e = absurd cc
+left_item (Some taken.Delimiter) m e = absurd cc

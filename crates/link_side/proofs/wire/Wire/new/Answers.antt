@@ -1,0 +1,11 @@
+use Rattle.std.proofs.Common.{None, refl}
+use Rattle.link_side.specs.declared.wire.Wire.{Wire}
+use Rattle.link_side.specs.WireView.{kept}
+use Rattle.link_side.proofs.KeptLemmas.{unfed_none}
+use Rattle.link_side.proofs.RestLemmas.{rest_new}
+use Rattle.link_side.proofs.wire.Wire.new.Goals as goal
+
+pub returns-clause-rest : goal.returns-clause-rest
+returns-clause-rest c =
+    let w : Wire = record { engine = c.in_ok-engine.engine; octets = c.in_ok-octets.octets; fed = 0; read = 0; held = None } in
+    rest_new c.args.opts (kept w) (unfed_none w.octets.items 0 0 refl) c.in_ok-engine.ensures.follows c.in_ok-engine.ensures.current

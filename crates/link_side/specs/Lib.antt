@@ -1,0 +1,14 @@
+pub use Rattle.spec_link.specs.LinkAct
+pub use Rattle.spec_link.specs.LinkRun
+pub use Rattle.spec_link.specs.Parts
+pub use Rattle.spec_link.specs.History
+pub mod Kept
+pub mod Dials
+pub mod DiallerView
+pub mod Calls
+pub mod WireView
+pub mod Works
+pub mod Says
+pub mod Silent
+pub mod Single
+pub mod SideView

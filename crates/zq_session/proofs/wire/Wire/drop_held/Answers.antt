@@ -1,7 +1,0 @@
-use Rattle.std.proofs.Common.{refl}
-use Rattle.zq_session.specs.WireView.{kept}
-use Rattle.zq_session.proofs.DropLemmas.{drops_one}
-use Rattle.zq_session.proofs.wire.Wire.drop_held.Goals as goal
-
-pub returns-clause-run : goal.returns-clause-run
-returns-clause-run c = drops_one (kept c.args.self.now) _ c.requires.holds refl refl refl
