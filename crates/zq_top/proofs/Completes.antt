@@ -15,23 +15,12 @@ use Rattle.zq_base.specs.declared.kind.Kind.{Kind}
 use Rattle.zq_base.specs.declared.options.Login.{Login}
 use Rattle.zq_words.specs.declared.request.Request.{Request}
 use Rattle.zq_words.specs.declared.request.Request.TheVariants as request
-use Rattle.plain_run.specs.Told.{Told}
-use Rattle.zq_top.specs.Headline.{AsksRun, AsksNothing, AsksHear, AsksScript, SourceAt, WasRead, IsJournal, Prints, SaysOf, SaysText, ComesDue, run_status}
-use Rattle.zq_top.specs.declared.status.Status.{Status}
-use Rattle.zq_top.specs.declared.status.Status.TheVariants as status
+use Rattle.zq_top.specs.Told.{Told}
+use Rattle.zq_call.specs.Call.{AsksRun, AsksNothing, AsksHear, SourceAt, WasRead}
+use Rattle.zq_call.specs.declared.status.Status.{Status}
+use Rattle.zq_call.specs.declared.status.Status.TheVariants as status
+use Rattle.zq_top.specs.Headline.{AsksScript, IsJournal, Prints, SaysText, ComesDue, run_status}
 use Rattle.zq_top.proofs.LocalLemmas.{local_script}
-
--- what is said of octets that were read
-pub says_read : (s : Status) (words : List (List ℕ)) (before after : SourceAt) (schedule : Schedule) (octets text : List ℕ) → AsksRun words schedule
-    → WasRead before after octets → SaysOf schedule s octets text → SaysText s words before after text
-says_read status.Done words before after schedule octets text asks read says = inl (schedule, asks, (octets, read, says))
-says_read status.Script words before after schedule octets text asks read says = (schedule, asks, (octets, read, says))
-says_read status.Usage words before after schedule octets text asks read says = absurd says
-says_read status.ReadFault words before after schedule octets text asks read says = absurd says
-says_read status.WriteFault words before after schedule octets text asks read says = absurd says
-says_read status.OutOfMemory words before after schedule octets text asks read says = absurd says
-says_read status.Unfinished words before after schedule octets text asks read says = (schedule, asks, (octets, read, says))
-says_read status.Heard words before after schedule octets text asks read says = absurd says
 
 -- octets past the limit are no script
 too_long : (octets : List ℕ) (script : RunScript) → 1048576 < length octets → run_script_of octets ≡ Ok script → ⊥

@@ -1,27 +1,18 @@
--- What is said of a call is what it answers, and its status is due.
+-- The status of what a call answers is due.
 use Rattle.std.proofs.Common.{ℕ, List, Option, refl, inr}
+use Rattle.std.specs.Prelude.{Result, Ok, Err, IfOk}
 use Rattle.zq_outer.specs.Count.{Rose}
-use Rattle.zq_outer.specs.Sink.{Appends}
 use Rattle.read_laws.specs.ReadScripts.{ScriptsMayBeAsked}
 use Rattle.script_bounds.specs.ScriptBounds.{ScriptsAreDoneInTime}
-use Rattle.plain_run.specs.Told.{Told}
-use Rattle.zq_top.specs.Headline.{SourceAt, Outside, SaysText, AnswersCall, IsDue}
-use Rattle.zq_top.specs.declared.status.Status.{Status}
-use Rattle.zq_top.specs.declared.status.Status.TheVariants as status
+use Rattle.zq_top.specs.Told.{Told}
+use Rattle.zq_call.specs.Call.{SourceAt, Outside, IsSound}
+use Rattle.zq_call.specs.Edge.{ExitsSo}
+use Rattle.zq_call.specs.declared.status.Status.{Status}
+use Rattle.zq_call.specs.declared.status.Status.TheVariants as status
+use Rattle.zq_top.specs.Edge.{Exits}
+use Rattle.zq_top.specs.Headline.{Prints, RefusesScript, SaysText, AnswersCall, IsDue}
 use Rattle.zq_top.proofs.Completes.{completes, refuses, ends_so}
 use Rattle.zq_top.proofs.Hears.{hears}
-
--- a text that was written whole
-pub answers_said : (s : Status) (words : List (List ℕ)) (before after : Outside) (text : List ℕ) → SaysText s words before.source after.source text
-    → Appends before.sink.taken text after.sink.taken → AnswersCall s words before after
-answers_said status.Done words before after text says taken = (text, says, taken)
-answers_said status.Script words before after text says taken = (text, says, taken)
-answers_said status.Usage words before after text says taken = (text, says, taken)
-answers_said status.ReadFault words before after text says taken = (text, says, taken)
-answers_said status.WriteFault words before after text says taken = absurd says
-answers_said status.OutOfMemory words before after text says taken = absurd says
-answers_said status.Unfinished words before after text says taken = (text, says, taken)
-answers_said status.Heard words before after text says taken = (text, says, taken)
 
 -- the status of what is said is due
 pub due_said : ScriptsAreDoneInTime ℕ Told → ScriptsMayBeAsked → (s : Status) (words : List (List ℕ)) (before after : SourceAt) (text : List ℕ) → (Rose before.faults after.faults → ⊥)
@@ -41,3 +32,33 @@ due_in_want words left = record {
   refuses = λ schedule octets fault asks left_is is. inr refl;
   hears = λ kind login octets d asks left_is means. inr refl;
 }
+
+-- where neither stream failed, the status of a call is due
+pub answers_due : ScriptsAreDoneInTime ℕ Told → ScriptsMayBeAsked → (s : Status) (words : List (List ℕ)) (before after : Outside) → AnswersCall s words before after
+    → IsSound before after → IsDue s words before.source.left
+answers_due in_time may status.Done words before after (text, says, taken) sound = due_said in_time may status.Done words before.source after.source text sound.0 says
+answers_due in_time may status.Script words before after (text, says, taken) sound = due_said in_time may status.Script words before.source after.source text sound.0 says
+answers_due in_time may status.Usage words before after (text, says, taken) sound = due_said in_time may status.Usage words before.source after.source text sound.0 says
+answers_due in_time may status.ReadFault words before after (text, says, taken) sound = due_said in_time may status.ReadFault words before.source after.source text sound.0 says
+answers_due in_time may status.WriteFault words before after answers sound = absurd (sound.1 answers.0)
+answers_due in_time may status.OutOfMemory words before after answers sound = due_in_want words before.source.left
+answers_due in_time may status.Unfinished words before after (text, says, taken) sound = due_said in_time may status.Unfinished words before.source after.source text sound.0 says
+answers_due in_time may status.Heard words before after (text, says, taken) sound = due_said in_time may status.Heard words before.source after.source text sound.0 says
+
+-- and so is that which an exit code is of
+pub exits_due : ScriptsAreDoneInTime ℕ Told → ScriptsMayBeAsked → (code : ℕ) (words : List (List ℕ)) (left taken left_now taken_now : Option (List ℕ))
+    → ExitsSo Prints RefusesScript code words left taken left_now taken_now → Exits code words left taken left_now taken_now
+exits_due in_time may code words left taken left_now taken_now e = record {
+  status = e.status;
+  code_is = e.code_is;
+  faults = e.faults;
+  ends = e.ends;
+  failures = e.failures;
+  answers = e.answers;
+  due = answers_due in_time may e.status words _ _ e.answers;
+}
+
+pub exits_if : {L E : Type 0} → ScriptsAreDoneInTime ℕ Told → ScriptsMayBeAsked → (list : Result L E) (listed : L → List (List ℕ)) (code : ℕ) (left taken left_now taken_now : Option (List ℕ))
+    → IfOk list (λ l. ExitsSo Prints RefusesScript code (listed l) left taken left_now taken_now) → IfOk list (λ l. Exits code (listed l) left taken left_now taken_now)
+exits_if in_time may (Ok l) listed code left taken left_now taken_now e = exits_due in_time may code (listed l) left taken left_now taken_now e
+exits_if in_time may (Err x) listed code left taken left_now taken_now e = tt

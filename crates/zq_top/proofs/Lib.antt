@@ -1,4 +1,3 @@
-mod WritesOn
 mod LocalLemmas
 pub mod Completes
 pub mod Hears

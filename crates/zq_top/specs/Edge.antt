@@ -1,8 +1,9 @@
 -- How the program ends: its exit code, by what was read and written.
 use Rattle.std.specs.Prelude.{◌≡◌, ℕ, List, Option}
-use Rattle.zq_top.specs.Headline.{AnswersCall, IsSound, IsDue, outside}
-use Rattle.zq_top.specs.ExitCode.{exit_code}
-use Rattle.zq_top.specs.declared.status.Status.{Status}
+use Rattle.zq_call.specs.Call.{IsSound, outside}
+use Rattle.zq_call.specs.ExitCode.{exit_code}
+use Rattle.zq_call.specs.declared.status.Status.{Status}
+use Rattle.zq_top.specs.Headline.{AnswersCall, IsDue}
 
 -- The exit code is that of a status, which says what was read and written; where neither stream failed, it is the one that is due. The octets left and taken are those that the streams tell, before and after; how often they failed and ended is counted from 0.
 pub record Exits (code : ℕ) (words : List (List ℕ)) (left taken left_now taken_now : Option (List ℕ)) : Type 0 where

@@ -1,5 +1,5 @@
--- What a call of the program says: for each status, what was read and the text that is written.
-use Rattle.std.specs.Prelude.{◌≡◌, ◌⊎◌, ◌≤◌, ℕ, List, ◌++◌, Option, Bool, true, false, Some, None, length, codes, decimal, Ok, Err}
+-- What a call of the program says: that of any call, whose runs print the one journal of a script; and which status is due.
+use Rattle.std.specs.Prelude.{◌≡◌, ◌⊎◌, ◌≤◌, ℕ, List, ◌++◌, Option, Bool, true, false, Some, codes, decimal, Ok, Err}
 use Rattle.zq_script.specs.declared.fault.Cause.{Cause}
 use Rattle.zq_script.specs.declared.fault.Cause.TheVariants.{BadWord, BadEndpoint, BadPart, UnknownSocket, DoubleName, TooManyActors, TooLong}
 use Rattle.zq_script.specs.declared.fault.ScriptFault.{ScriptFault}
@@ -10,54 +10,15 @@ use Rattle.spec_run.specs.LineCall.{RunScript}
 use Rattle.spec_run.specs.RunJournal.{IsRunJournal}
 use Rattle.script_bounds.specs.ScriptBounds.{script_turns}
 use Rattle.run_text.specs.RunText.{PrintsRun}
-use Rattle.plain_run.specs.Told.{Told}
-use Rattle.zq_outer.specs.Count.{Rose}
-use Rattle.zq_outer.specs.Source.{Consumes, ConsumesAll}
-use Rattle.zq_outer.specs.Sink.{Appends, AppendsFront}
+use Rattle.zq_top.specs.Told.{Told}
 use Rattle.zq_base.specs.declared.kind.Kind.{Kind}
 use Rattle.zq_base.specs.declared.options.Login.{Login}
 use Rattle.spec_zmtp.specs.DecodedStream.{Decoded, Decodes}
-use Rattle.zq_hear.specs.HearText.{hear_opts, IsHeard, is_refused}
-use Rattle.zq_words.specs.Words.{asked}
-use Rattle.zq_words.specs.declared.request.Request.{Request}
-use Rattle.zq_words.specs.declared.request.Request.TheVariants as request
-use Rattle.zq_top.specs.declared.status.Status.{Status}
-use Rattle.zq_top.specs.declared.status.Status.TheVariants as status
-
--- the words ask for a run by this schedule
-abbrev pub AsksRun : List (List ℕ) → Schedule → Type 0
-AsksRun words schedule = asked words ≡ Some (request.Run schedule.seed schedule.turns)
-
--- the words ask to hear a peer as a socket of this kind, with this login where one is wanted
-abbrev pub AsksHear : List (List ℕ) → Kind → Option Login → Type 0
-AsksHear words kind login = asked words ≡ Some (request.Hear kind login)
-
--- the words ask for nothing that the program does
-abbrev pub AsksNothing : List (List ℕ) → Type 0
-AsksNothing words = asked words ≡ None
-
--- what a source tells at a moment
-pub record SourceAt : Type 0 where
-  pub left : Option (List ℕ)
-  pub faults : ℕ
-  pub ends : ℕ
-
-abbrev pub source_at : Option (List ℕ) → ℕ → ℕ → SourceAt
-source_at left faults ends = record { left = left; faults = faults; ends = ends }
-
--- the octets were read, up to the source's end, which it told in this call
-abbrev pub WasReadWhole : SourceAt → SourceAt → List ℕ → Type 0
-WasReadWhole before after octets = Rose before.ends after.ends × ConsumesAll before.left octets after.left
-
--- the most octets that are read of a script: one more than the longest has
-abbrev pub most_read : ℕ
-most_read = 1048577
-
--- the octets were read, up to the source's end, or the most that are read
-abbrev pub WasRead : SourceAt → SourceAt → List ℕ → Type 0
-WasRead before after octets =
-    (length octets ≤ most_read)
-    × (WasReadWhole before after octets ⊎ ((length octets ≡ most_read) × Consumes before.left octets after.left))
+use Rattle.zq_hear.specs.HearText.{hear_opts, is_refused}
+use Rattle.zq_call.specs.Call as call
+use Rattle.zq_call.specs.Call.{AsksRun, AsksHear, SourceAt, Outside, heard_status}
+use Rattle.zq_call.specs.declared.status.Status.{Status}
+use Rattle.zq_call.specs.declared.status.Status.TheVariants as status
 
 -- The journal is that of a run of the script on one thread by the schedule.
 abbrev pub IsJournal : RunScript → Schedule → RunJournal → Type 0
@@ -88,83 +49,15 @@ pub record RefusesScript (octets text : List ℕ) : Type 0 where
 
 -- what is said of the octets that were read, with each status
 abbrev pub SaysOf : Schedule → Status → List ℕ → List ℕ → Type 0
-SaysOf schedule status.Done octets text = Prints schedule true octets text
-SaysOf schedule status.Script octets text = RefusesScript octets text
-SaysOf schedule status.Usage octets text = ⊥
-SaysOf schedule status.ReadFault octets text = ⊥
-SaysOf schedule status.WriteFault octets text = ⊥
-SaysOf schedule status.OutOfMemory octets text = ⊥
-SaysOf schedule status.Unfinished octets text = Prints schedule false octets text
-SaysOf schedule status.Heard octets text = ⊥
+SaysOf schedule s octets text = call.SaysOf Prints RefusesScript schedule s octets text
 
--- what is said once some octets were read, with each status
-abbrev pub SaysOnceRead : Status → List (List ℕ) → SourceAt → SourceAt → List ℕ → Type 0
-SaysOnceRead s words before after text =
-    (schedule : Schedule) × AsksRun words schedule
-    × ((octets : List ℕ) × WasRead before after octets × SaysOf schedule s octets text)
-
--- The words ask to hear a peer, and the text is that of what all the octets that were read mean, refused or not.
-abbrev pub SaysHeard : Bool → List (List ℕ) → SourceAt → SourceAt → List ℕ → Type 0
-SaysHeard refused words before after text =
-    (kind : Kind) × (login : Option Login) × AsksHear words kind login
-    × ((octets : List ℕ) × WasReadWhole before after octets × IsHeard (hear_opts kind login) octets text refused)
-
--- the status of what was heard, refused or not
-abbrev pub heard_status : Bool → Status
-heard_status false = status.Done
-heard_status true = status.Heard
-
--- What is said with each status: 0 and 8 the text of a run's journal, done or not; 0 and 9 that of a peer's octets, kept or refused; 1 that the script read is refused, 2 that the words ask for nothing, 3 that the source failed in this call.
+-- what is said with each status
 abbrev pub SaysText : Status → List (List ℕ) → SourceAt → SourceAt → List ℕ → Type 0
-SaysText status.Done words before after text =
-    SaysOnceRead status.Done words before after text ⊎ SaysHeard false words before after text
-SaysText status.Script words before after text = SaysOnceRead status.Script words before after text
-SaysText status.Usage words before after text =
-    AsksNothing words × (before ≡ after) × (text ≡ codes "usage: zbus run|soak|hear|forward\n")
-SaysText status.ReadFault words before after text =
-    ((r : Request) × (asked words ≡ Some r)) × Rose before.faults after.faults × (text ≡ codes "read fault\n")
-SaysText status.WriteFault words before after text = ⊥
-SaysText status.OutOfMemory words before after text = ⊥
-SaysText status.Unfinished words before after text = SaysOnceRead status.Unfinished words before after text
-SaysText status.Heard words before after text = SaysHeard true words before after text
+SaysText s words before after text = call.SaysText Prints RefusesScript s words before after text
 
--- a sink that had taken the first took such a text, whole
-abbrev pub WritesText : (List ℕ → Type 0) → Option (List ℕ) → Option (List ℕ) → Type 0
-WritesText IsText before after = (text : List ℕ) × IsText text × Appends before text after
-
--- a sink that had taken the first took a front of the text of some status
-abbrev pub WritesFront : List (List ℕ) → SourceAt → SourceAt → Option (List ℕ) → Option (List ℕ) → Type 0
-WritesFront words before after taken taken_now =
-    (s : Status) × (text : List ℕ) × SaysText s words before after text × AppendsFront taken text taken_now
-
--- what a sink tells at a moment
-pub record SinkAt : Type 0 where
-  pub taken : Option (List ℕ)
-  pub faults : ℕ
-
--- a source and a sink at a moment
-pub record Outside : Type 0 where
-  pub source : SourceAt
-  pub sink : SinkAt
-
-abbrev pub outside : Option (List ℕ) → ℕ → ℕ → Option (List ℕ) → ℕ → Outside
-outside left faults ends taken failures = record {
-  source = source_at left faults ends;
-  sink = record { taken = taken; faults = failures };
-}
-
--- What was read and written with each status: the sink took the text that belongs to the status, whole; with 4 it failed in this call, and took a front of the text of another status; with 6 nothing was written.
+-- what was read and written with each status
 abbrev pub AnswersCall : Status → List (List ℕ) → Outside → Outside → Type 0
-AnswersCall status.WriteFault words before after =
-    Rose before.sink.faults after.sink.faults
-    × WritesFront words before.source after.source before.sink.taken after.sink.taken
-AnswersCall status.OutOfMemory words before after = after.sink ≡ before.sink
-AnswersCall s words before after = WritesText (SaysText s words before.source after.source) before.sink.taken after.sink.taken
-
--- neither the source nor the sink failed in this call
-abbrev pub IsSound : Outside → Outside → Type 0
-IsSound before after =
-    (Rose before.source.faults after.source.faults → ⊥) × (Rose before.sink.faults after.sink.faults → ⊥)
+AnswersCall s words before after = call.AnswersCall Prints RefusesScript s words before after
 
 -- the words ask for a run by this schedule, and the source has the octets of this script
 pub record AsksScript (words : List (List ℕ)) (left : Option (List ℕ)) (schedule : Schedule) (script : RunScript) : Type 0 where

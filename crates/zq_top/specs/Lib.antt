@@ -1,7 +1,9 @@
 pub mod Examples
 pub use Rattle.run_text.specs.RunText
 pub use Rattle.spec_zmtp.specs.DecodedStream
+pub use Rattle.zq_call.specs.Call
+pub use Rattle.zq_call.specs.ExitCode
 pub use Rattle.zq_hear.specs.HearText
-pub mod ExitCode
+pub mod Told
 pub mod Headline
 pub mod Edge

@@ -1,21 +1,14 @@
 ghost use Rattle.std.specs.Prelude.{◌≡◌, map, string_bytes, IfOk, IfErr};
 ghost use Rattle.zq_top.specs.Edge.{Exits};
 
-use crate::input::StandardInput;
-use crate::output::StandardOutput;
-use crate::status::Status;
-use crate::top::run;
+use crate::plain::PlainRuns;
+use http_server::Log;
+use msg_pipe::PlainPipe;
+use read_laws::scripts_that_are_read_may_be_asked;
+use script_bounds::scripts_are_done_in_time;
 use std::alloc::{AllocError, Global};
 use std::io::{Read, Write};
-use zq_outer::{NoHost, OpenGate, TickClock};
-
-/// How a call ended: its exit code, and the streams that it was given.
-#[derive(Drop)]
-pub struct Ended<R, W> {
-    pub code: u8,
-    pub reader: R,
-    pub writer: W,
-}
+use zq_call::Ended;
 
 /// Does what the words ask, over a reader and a writer. Without memory for the words themselves it
 /// ends as with any other want of memory.
@@ -29,32 +22,7 @@ pub fn serve<R: Read, W: Write>(
         (R.remaining reader) (W.contents writer) (R.remaining result.reader) (W.contents result.writer)) }
     ensures memory { IfErr words (λ _. (result.code ≡ 6) × (result.reader ≡ reader) × (result.writer ≡ writer)) }
 {
-    let words = match words {
-        Ok(words) => words,
-        Err(_) => {
-            return Ended {
-                code: Status::OutOfMemory.code(),
-                reader,
-                writer,
-            };
-        }
-    };
-    let mut source = StandardInput::new(reader);
-    let mut sink = StandardOutput::new(writer);
-    let mut hosts: Vec<NoHost> = Vec::new(alloc);
-    let mut clock = TickClock::new();
-    let status = run(
-        alloc,
-        &words,
-        &mut source,
-        &mut sink,
-        &mut hosts,
-        &mut clock,
-        &OpenGate,
-    );
-    Ended {
-        code: status.code(),
-        reader: source.inner,
-        writer: sink.inner,
-    }
+    scripts_are_done_in_time::<usize, Log<PlainPipe, bool>>();
+    scripts_that_are_read_may_be_asked();
+    zq_call::serve::<PlainRuns, R, W>(alloc, words, reader, writer)
 }

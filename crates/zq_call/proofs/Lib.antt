@@ -1,0 +1,3 @@
+mod WritesOn
+pub mod Asked
+pub mod Says

@@ -1,0 +1,44 @@
+ghost use Rattle.std.specs.Prelude.{◌≡◌, map, string_bytes};
+ghost use Rattle.zq_call.specs.Call.{AnswersCall, outside};
+
+use crate::runs::Runs;
+use crate::status::Status;
+use crate::streams::write_all;
+use crate::texts::text_for;
+use std::alloc::Global;
+use zq_outer::{Clock, Gate, Host, Sink, Source};
+
+/// Does what the words of the command line ask: reads a script, runs it, and writes the journal; or
+/// reads all octets of a peer, and writes what they mean.
+///
+/// `words[0]` is the program's name. The text is made whole before the first write. The hosts and
+/// the clock are those of runs over links; the gate is that of runs in threads.
+pub fn call<X: Runs, S: Source, K: Sink, H: Host, C: Clock, G: Gate>(
+    alloc: Global,
+    words: &[String],
+    script: &mut S,
+    out: &mut K,
+    hosts: &mut Vec<H>,
+    clock: &mut C,
+    gate: &G,
+) -> Status
+    // Each status says what was read and written.
+    ensures answers { AnswersCall X.prints X.refuses result (map string_bytes words.now)
+        (outside (S.left script.old) (S.faults script.old) (S.ends script.old) (K.taken out.old) (K.faults out.old))
+        (outside (S.left script.new) (S.faults script.new) (S.ends script.new) (K.taken out.new) (K.faults out.new)) }
+
+    // Want of memory comes before the first write is tried.
+    ensures memory { result ≡ Status.OutOfMemory → out.new ≡ out.old }
+
+    // No run has links or time yet.
+    ensures untouched { (hosts.new ≡ hosts.old) × (clock.new ≡ clock.old) }
+{
+    let (status, text) = match text_for::<X, S>(alloc, words, script) {
+        Ok(said) => said,
+        Err(_) => return Status::OutOfMemory,
+    };
+    if !write_all(out, &text) {
+        return Status::WriteFault;
+    }
+    status
+}

@@ -1,4 +1,0 @@
-use Rattle.zq_top.proofs.top.text_of.Goals as goal
-
-pub returns : goal.returns
-returns c = c.in_ok-said.ensures (record { seed = c.args.seed; turns = c.args.turns }) c.args.octets.now c.in_ok-told.ensures.tells
