@@ -1,6 +1,6 @@
 use std::alloc::Global;
 use std::test::Fail;
-use zq_outer::{Got, MemSink, MemSource, NoHost, OpenGate, Source, TickClock};
+use zq_outer::{MemSink, MemSource, NoHost, OpenGate, TickClock};
 use zq_top::{Status, run};
 
 /// What a call answered, and what its sink took.
@@ -83,44 +83,4 @@ pub fn answers(
 ) -> Result<bool, Fail> {
     let called = call(alloc, words, octets, &[], &[], &[4096])?;
     Ok(called.status == status && called.text.as_slice() == text)
-}
-
-/// Whether a call whose read of this number fails tells a read fault.
-pub fn fails_to_read(
-    alloc: Global,
-    words: &[&str],
-    octets: &[u8],
-    number: u64,
-    size: usize,
-) -> Result<bool, Fail> {
-    let called = call(alloc, words, octets, &[number], &[], &[size])?;
-    Ok(called.status == Status::ReadFault && called.text.as_slice() == b"read fault\n".as_slice())
-}
-
-/// How many octets a source has left: at most 64.
-fn left_in(source: &mut MemSource) -> usize {
-    let mut rest = [0u8; 64];
-    match source.read(&mut rest) {
-        Got::Bytes(count) => count,
-        Got::End | Got::Failed => 0,
-    }
-}
-
-/// A script of so many `#`.
-fn long_script(alloc: Global, count: usize) -> Result<MemSource, Fail> {
-    let octets = Vec::from_elem(alloc, b'#', count)?;
-    source(alloc, &octets, &[], &[65_536])
-}
-
-/// Calls over this source, and a sink that never fails.
-fn call_through(alloc: Global, words: &[&str], source: &mut MemSource) -> Result<Called, Fail> {
-    let words = list(alloc, words)?;
-    call_over(alloc, &words, source, &[], &[65_536])
-}
-
-/// How many octets the source has left behind a run of a script of so many `#`: at most 64.
-pub fn left_behind(alloc: Global, words: &[&str], count: usize) -> Result<usize, Fail> {
-    let mut source = long_script(alloc, count)?;
-    call_through(alloc, words, &mut source)?;
-    Ok(left_in(&mut source))
 }

@@ -1,28 +1,6 @@
 use std::alloc::{AllocError, Global};
-use std::io;
-use std::io::{Read, Write};
 use std::test::Fail;
 use zq_top::serve;
-
-/// A stream that fails at each call.
-#[derive(Drop)]
-struct Broken;
-
-impl Read for Broken {
-    fn read(&mut self, _buf: &mut [u8]) -> io::Result<usize> {
-        Err(io::Error::from(io::ErrorKind::BrokenPipe))
-    }
-}
-
-impl Write for Broken {
-    fn write(&mut self, _buf: &[u8]) -> io::Result<usize> {
-        Err(io::Error::from(io::ErrorKind::BrokenPipe))
-    }
-
-    fn flush(&mut self) -> io::Result<()> {
-        Ok(())
-    }
-}
 
 /// Words of the command line.
 fn list(alloc: Global, words: &[&str]) -> Result<Vec<String>, AllocError> {
@@ -81,34 +59,5 @@ fn calls_end_with_their_exit_codes(rt: HostRuntime) -> Result<(), Fail> {
     for (words, octets, code, text) in &CASES {
         assert!(rt; serves(rt.alloc(), words, octets, *code, text)?);
     }
-    Ok(())
-}
-
-#[test]
-fn a_reader_that_fails_ends_with_3(rt: HostRuntime) -> Result<(), Fail> {
-    let alloc = rt.alloc();
-    let ended = serve(
-        alloc,
-        list(alloc, &["zbus", "run"]),
-        Broken,
-        Vec::new(alloc),
-    );
-    assert!(rt; ended.code == 3 && ended.writer.as_slice() == b"read fault\n".as_slice());
-    Ok(())
-}
-
-#[test]
-fn a_writer_that_fails_ends_with_4(rt: HostRuntime) -> Result<(), Fail> {
-    let alloc = rt.alloc();
-    let octets: &[u8] = b"actor a\n";
-    let ended = serve(alloc, list(alloc, &["zbus", "run"]), octets, Broken);
-    assert!(rt; ended.code == 4);
-    Ok(())
-}
-
-#[test]
-fn words_without_memory_end_with_6(rt: HostRuntime) -> Result<(), Fail> {
-    let ended = serve(rt.alloc(), Err(AllocError), Broken, Broken);
-    assert!(rt; ended.code == 6);
     Ok(())
 }

@@ -10,8 +10,6 @@ mod edge;
 #[cfg(test)]
 mod examples;
 #[cfg(test)]
-mod hear;
-#[cfg(test)]
 mod limits;
 #[cfg(test)]
 mod publishing;

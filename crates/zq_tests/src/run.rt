@@ -1,4 +1,4 @@
-use crate::calls::{answers, call, fails_to_read, left_behind};
+use crate::calls::answers;
 use std::alloc::Global;
 use std::test::Fail;
 use zq_top::Status;
@@ -211,12 +211,6 @@ fn repeated_answers(
     answers(alloc, RUN, &script, status, text)
 }
 
-#[test]
-fn a_longer_source_is_read_no_further(rt: HostRuntime) -> Result<(), Fail> {
-    assert!(rt; left_behind(rt.alloc(), RUN, 1_048_600)? == 23);
-    Ok(())
-}
-
 /// A line, how often it stands, and how a script of that is answered.
 const LONG: [(&[u8], usize, Status, &[u8]); 5] = [
     (b"\n", 10_000, Status::Done, b"end o0 ctx\ndone\n"),
@@ -256,50 +250,5 @@ fn actors_answer(alloc: Global, count: usize, status: Status, text: &[u8]) -> Re
 fn a_script_has_64_actors_at_the_most(rt: HostRuntime) -> Result<(), Fail> {
     assert!(rt; actors_answer(rt.alloc(), 64, Status::Done, b"end o0 ctx\ndone\n")?);
     assert!(rt; actors_answer(rt.alloc(), 65, Status::Script, b"script 65 TooManyActors\n")?);
-    Ok(())
-}
-
-/// Words that ask for nothing.
-const OTHER_WORDS: [&[&str]; 5] = [
-    &["zbus", "sing"],
-    &[],
-    &["zbus", "hear", "PULLS"],
-    &["zbus", "hear", "PULL", "--user", "u"],
-    &["zbus", "run", "--threads", "1"],
-];
-
-#[test]
-fn other_words_are_refused(rt: HostRuntime) -> Result<(), Fail> {
-    let text: &[u8] = b"usage: zbus run|soak|hear|forward\n";
-    for words in &OTHER_WORDS {
-        assert!(rt; answers(rt.alloc(), words, b"", Status::Usage, text)?);
-    }
-    Ok(())
-}
-
-#[test]
-fn a_source_that_fails_is_a_read_fault(rt: HostRuntime) -> Result<(), Fail> {
-    for number in 1..14 {
-        assert!(rt; fails_to_read(rt.alloc(), RUN, TWO_MESSAGES, number, 10)?);
-    }
-    Ok(())
-}
-
-/// Whether a sink that fails at this write has taken what was written before.
-fn fails_to_write(alloc: Global, number: u64, taken: usize) -> Result<bool, Fail> {
-    let called = call(alloc, RUN, TWO_MESSAGES, &[], &[number], &[40])?;
-    let text = called.text.as_slice();
-    Ok(
-        called.status == Status::WriteFault
-            && text.len() == taken
-            && TWO_MESSAGES_TEXT.starts_with(text),
-    )
-}
-
-#[test]
-fn a_sink_that_fails_has_taken_a_prefix(rt: HostRuntime) -> Result<(), Fail> {
-    for number in 0..6 {
-        assert!(rt; fails_to_write(rt.alloc(), number as u64 + 1, number * 40)?);
-    }
     Ok(())
 }

@@ -1,10 +1,10 @@
+use crate::checks::check;
 use mailbox::Mailbox;
-use std::alloc::{AllocError, Global};
+use std::alloc::AllocError;
 use std::test::Fail;
 
 // Whether commands come out in the order in which they were sent.
-fn keeps_order(alloc: Global) -> Result<bool, AllocError> {
-    let mut mailbox: Mailbox<u8> = Mailbox::new(alloc);
+fn keeps_order(mailbox: &mut Mailbox<u8>) -> Result<bool, AllocError> {
     let begins = mailbox.is_empty();
     mailbox.reserve(2)?;
     mailbox.reserve(1)?;
@@ -23,13 +23,14 @@ fn keeps_order(alloc: Global) -> Result<bool, AllocError> {
 
 #[test]
 fn commands_come_out_in_the_order_sent(rt: HostRuntime) -> Result<(), Fail> {
-    assert!(rt; keeps_order(rt.alloc())?);
-    Ok(())
+    let mut mailbox: Mailbox<u8> = Mailbox::new(rt.alloc());
+    let keeps = keeps_order(&mut mailbox);
+    drop(mailbox);
+    check(keeps?)
 }
 
 // Whether a command that is put back is the first again, and took no further room.
-fn takes_back(alloc: Global) -> Result<bool, AllocError> {
-    let mut mailbox: Mailbox<u8> = Mailbox::new(alloc);
+fn takes_back(mailbox: &mut Mailbox<u8>) -> Result<bool, AllocError> {
     mailbox.reserve(4)?;
     mailbox.send(7);
     mailbox.send(8);
@@ -47,6 +48,8 @@ fn takes_back(alloc: Global) -> Result<bool, AllocError> {
 
 #[test]
 fn a_command_goes_back_into_its_place(rt: HostRuntime) -> Result<(), Fail> {
-    assert!(rt; takes_back(rt.alloc())?);
-    Ok(())
+    let mut mailbox: Mailbox<u8> = Mailbox::new(rt.alloc());
+    let takes = takes_back(&mut mailbox);
+    drop(mailbox);
+    check(takes?)
 }

@@ -1,3 +1,4 @@
+use crate::checks::check;
 use endpoint_book::{BindError, Binding, EndpointBook, NotBound};
 use std::alloc::{AllocError, Global};
 use std::test::Fail;
@@ -50,8 +51,9 @@ fn are_held_once(alloc: Global, book: &mut EndpointBook) -> Result<bool, AllocEr
 #[test]
 fn an_endpoint_has_one_holder_until_it_is_unbound(rt: HostRuntime) -> Result<(), Fail> {
     let mut book = EndpointBook::new(rt.alloc());
-    assert!(rt; are_held_once(rt.alloc(), &mut book)?);
-    Ok(())
+    let held_once = are_held_once(rt.alloc(), &mut book);
+    drop(book);
+    check(held_once?)
 }
 
 // Whether a name and an address are bound each for itself.
@@ -72,8 +74,9 @@ fn reads_as_an_address(alloc: Global, book: &mut EndpointBook) -> Result<bool, A
 #[test]
 fn a_name_that_reads_as_an_address_is_another_endpoint(rt: HostRuntime) -> Result<(), Fail> {
     let mut book = EndpointBook::new(rt.alloc());
-    assert!(rt; reads_as_an_address(rt.alloc(), &mut book)?);
-    Ok(())
+    let another = reads_as_an_address(rt.alloc(), &mut book);
+    drop(book);
+    check(another?)
 }
 
 // A connect of a socket to a name waits.
@@ -151,8 +154,9 @@ fn fulfils_its_own(alloc: Global, book: &mut EndpointBook) -> Result<bool, Alloc
 #[test]
 fn connects_are_fulfilled_in_order_and_others_go_on_waiting(rt: HostRuntime) -> Result<(), Fail> {
     let mut book = EndpointBook::new(rt.alloc());
-    assert!(rt; fulfils_its_own(rt.alloc(), &mut book)?);
-    Ok(())
+    let fulfilled = fulfils_its_own(rt.alloc(), &mut book);
+    drop(book);
+    check(fulfilled?)
 }
 
 // Whether socket 7 binds a and port 1, and socket 8 port 2.
@@ -232,6 +236,7 @@ fn lets_go(alloc: Global, book: &mut EndpointBook) -> Result<bool, AllocError> {
 #[test]
 fn a_connect_is_taken_back_and_an_object_is_dropped(rt: HostRuntime) -> Result<(), Fail> {
     let mut book = EndpointBook::new(rt.alloc());
-    assert!(rt; lets_go(rt.alloc(), &mut book)?);
-    Ok(())
+    let let_go = lets_go(rt.alloc(), &mut book);
+    drop(book);
+    check(let_go?)
 }

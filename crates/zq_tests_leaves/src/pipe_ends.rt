@@ -1,9 +1,11 @@
+use crate::checks::check;
 use pipe_term::EndCommands::{Ack, Nothing, Settle, SettleAndAck, TermAndSeal};
 use pipe_term::EndEvent::{AckCame, Asked, DelimiterSeen, TermCame};
 use pipe_term::EndState::{
     AckSent, Active, AskedOnce, AskedTwice, DelimiterGot, Gone, WaitDelimiter,
 };
 use pipe_term::{End, EndCommands, EndEvent, EndState, Reason};
+use std::test::Fail;
 
 const ASKED: EndEvent = Asked(Reason::Closed, false);
 
@@ -112,17 +114,33 @@ fn lives(way: &[EndEvent], event: EndEvent, cell: Cell) -> bool {
     }
 }
 
-#[test]
-fn the_table_of_an_ends_life(rt: HostRuntime) {
-    for (event, row) in TABLE {
-        for (way, cell) in WAYS.iter().zip(row) {
-            assert!(rt; lives(way, event, cell));
+// Whether an end is and does this behind the event, whichever way it went.
+fn lives_so(event: EndEvent, row: &[Cell; 7]) -> bool {
+    for (way, cell) in WAYS.iter().zip(row) {
+        if !lives(way, event, *cell) {
+            return false;
         }
     }
+    true
+}
+
+// Whether it does at each event.
+fn lives_by_the_table() -> bool {
+    for (event, row) in &TABLE {
+        if !lives_so(*event, row) {
+            return false;
+        }
+    }
+    true
 }
 
 #[test]
-fn the_first_ask_with_an_effect_gives_the_reason(rt: HostRuntime) {
+fn the_table_of_an_ends_life() -> Result<(), Fail> {
+    check(lives_by_the_table())
+}
+
+// Whether the first ask with an effect gives the reason.
+fn gives_the_first_reason() -> bool {
     let mut end = End::new();
     let writes = end.can_write();
     end.on_term();
@@ -130,5 +148,10 @@ fn the_first_ask_with_an_effect_gives_the_reason(rt: HostRuntime) {
     let before = end.reason();
     end.ask(Reason::Link, false);
     end.ask(Reason::Closed, false);
-    assert!(rt; writes && before.is_none() && end.reason() == Some(Reason::Link));
+    writes && before.is_none() && end.reason() == Some(Reason::Link)
+}
+
+#[test]
+fn the_first_ask_with_an_effect_gives_the_reason() -> Result<(), Fail> {
+    check(gives_the_first_reason())
 }

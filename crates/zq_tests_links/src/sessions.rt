@@ -1,14 +1,17 @@
 ghost use Rattle.std.specs.Prelude.{◌≡◌, IfOk};
 ghost use Rattle.spec_zmtp.specs.OwnCommands.{IsEngineOpts};
+ghost use Rattle.msg_pipe.specs.Known.{IsThere};
 
-use msg_pipe::PlainPipes;
+use crate::checks::check;
+use link_side::{Dial, Dialler, LinkSide};
+use msg_pipe::{Pipes, PlainPipes};
+use session_life::{Accepted, Listener};
 use spec_control::Req;
 use spec_link::Due;
 use std::alloc::{AllocError, Global};
 use std::test::Fail;
 use zq_base::{Address, EngineOpts, Kind, Logins, ObjId, Octets, Role, Seq};
 use zq_outer::{CallKind, Host, Link, LinkGot, LinkPut, MemHost, MemLink, Plan, PlannedCall};
-use zq_session::{Accepted, Dial, Dialler, LinkSide, Listener, Written};
 
 /// The greeting of a side without security (RFC 23).
 const NULL: &[u8] =
@@ -46,7 +49,25 @@ fn host(alloc: Global) -> Result<MemHost, AllocError> {
     MemHost::make(alloc, plan, 8)
 }
 
-// Whether a side's writing part wrote so many octets and looked at no message, over a pipe of its own.
+// Whether a side that isn't behind writes so many octets in its writing part, and looks at no
+// message.
+fn writes_at<P: Pipes, L: Link>(
+    pipes: &mut P,
+    input: &mut P::In,
+    side: &mut LinkSide,
+    link: &mut L,
+    count: usize,
+) -> bool
+    requires here { IsThere P.known pipes.old (P.known.in_name input.old) }
+{
+    if side.is_behind() {
+        return false;
+    }
+    let written = side.write_part(pipes, input, link);
+    written.put == Some(LinkPut::Took(count)) && written.look.is_none()
+}
+
+// The same over a pipe of its own.
 fn writes<L: Link>(
     alloc: Global,
     side: &mut LinkSide,
@@ -55,14 +76,9 @@ fn writes<L: Link>(
 ) -> Result<bool, AllocError> {
     let mut pipes = PlainPipes::new(alloc);
     let (_, mut input) = pipes.add(alloc, 4)?;
-    if side.is_behind() {
-        return Ok(false);
-    }
-    let written = Written {
-        put: Some(LinkPut::Took(count)),
-        look: None,
-    };
-    Ok(side.write_part(&mut pipes, &mut input, link) == written)
+    let right = writes_at(&mut pipes, &mut input, side, link, count);
+    drop(pipes);
+    Ok(right)
 }
 
 // Whether a side's reading part read so many octets, over a pipe of its own.
@@ -74,10 +90,12 @@ fn reads<L: Link>(
 ) -> Result<bool, AllocError> {
     let mut pipes = PlainPipes::new(alloc);
     let (mut out, _) = pipes.add(alloc, 4)?;
-    match side.read_part(alloc, &mut pipes, &mut out, link) {
-        Ok(Some(got)) => Ok(got == LinkGot::Bytes(count)),
-        _ => Ok(false),
-    }
+    let right = match side.read_part(alloc, &mut pipes, &mut out, link) {
+        Ok(Some(got)) => got == LinkGot::Bytes(count),
+        _ => false,
+    };
+    drop(pipes);
+    Ok(right)
 }
 
 /// What a dial gave, without the link.
@@ -89,18 +107,25 @@ enum Gave {
     Nothing,
 }
 
+fn gave_of<L>(dial: &Dial<L>) -> Gave {
+    match dial {
+        Dial::Linked(_, _) => Gave::Link,
+        Dial::NotReady => Gave::Stall,
+        Dial::Failed => Gave::Fault,
+        Dial::Early => Gave::Nothing,
+    }
+}
+
 fn dial<H: Host>(
     alloc: Global,
     dialler: &mut Dialler,
     host: &mut H,
     now: u64,
 ) -> Result<Gave, AllocError> {
-    match dialler.dial(alloc, host, now)? {
-        Dial::Linked(_, _) => Ok(Gave::Link),
-        Dial::NotReady => Ok(Gave::Stall),
-        Dial::Failed => Ok(Gave::Fault),
-        Dial::Early => Ok(Gave::Nothing),
-    }
+    let dial = dialler.dial(alloc, host, now)?;
+    let gave = gave_of(&dial);
+    drop(dial);
+    Ok(gave)
 }
 
 // Whether dials at these moments give these.
@@ -155,44 +180,101 @@ fn greets<L: Link>(far: &mut L) -> bool {
     read && far.write(NULL) == LinkPut::Took(64)
 }
 
+// Whether a side says its greeting at one end of a link, and hears the other's.
+fn greets_both_ways<L: Link>(
+    alloc: Global,
+    side: &mut LinkSide,
+    near: &mut L,
+    far: &mut L,
+) -> Result<bool, AllocError> {
+    let said = writes(alloc, side, near, 64)?;
+    Ok(said && greets(far) && reads(alloc, side, near, 64)?)
+}
+
+// The same of a new side.
+fn new_side_greets<L: Link>(alloc: Global, near: &mut L, far: &mut L) -> Result<bool, AllocError> {
+    let mut side = LinkSide::new(alloc, pair(alloc))?;
+    let greets = greets_both_ways(alloc, &mut side, near, far);
+    drop(side);
+    greets
+}
+
 #[test]
 fn a_side_says_its_greeting_and_hears_another(rt: HostRuntime) -> Result<(), Fail> {
     let (mut near, mut far) = MemLink::pair(rt.alloc(), 100, 100)?;
-    let mut side = LinkSide::new(rt.alloc(), pair(rt.alloc()))?;
-    assert!(rt; writes(rt.alloc(), &mut side, &mut near, 64)? && greets(&mut far));
-    assert!(rt; reads(rt.alloc(), &mut side, &mut near, 64)?);
-    Ok(())
+    let greets = new_side_greets(rt.alloc(), &mut near, &mut far);
+    drop((near, far));
+    check(greets?)
+}
+
+// Whether a new dialler's dials at these moments give these, and one at the last moment, behind
+// the end of a link, is made too early.
+fn waits<H: Host>(
+    alloc: Global,
+    host: &mut H,
+    times: &[(u64, Gave)],
+    over: u64,
+    last: u64,
+) -> Result<bool, AllocError> {
+    let mut dialler = Dialler::new(ObjId(2), AT, pair(alloc), 10);
+    let right = dials(alloc, &mut dialler, host, times);
+    dialler.link_over(over);
+    let early = dial(alloc, &mut dialler, host, last);
+    drop(dialler);
+    Ok(right? && early? == Gave::Nothing)
 }
 
 #[test]
 fn a_dial_waits_for_its_interval(rt: HostRuntime) -> Result<(), Fail> {
     let mut host = host(rt.alloc())?;
-    let mut dialler = Dialler::new(ObjId(2), AT, pair(rt.alloc()), 10);
     let times = [(5, Gave::Fault), (14, Gave::Nothing), (15, Gave::Fault)];
-    assert!(rt; dials(rt.alloc(), &mut dialler, &mut host, &times)?);
-    dialler.link_over(20);
-    assert!(rt; dials(rt.alloc(), &mut dialler, &mut host, &[(29, Gave::Nothing)])?);
-    Ok(())
+    let waits = waits(rt.alloc(), &mut host, &times, 20, 29);
+    drop(host);
+    check(waits?)
+}
+
+// Whether a listener asks for this object to end, once.
+fn asks_once(listener: &mut Listener, object: u32) -> bool {
+    asks(listener, object) && !asks(listener, object)
+}
+
+// Whether a listener at a host whose listen fails asks to end, once.
+fn fails_and_asks<H: Host>(host: &mut H) -> bool {
+    let mut listener = Listener::new(ObjId(1), AT);
+    listener.listen(host);
+    asks_once(&mut listener, 1)
 }
 
 #[test]
 fn a_listener_that_fails_asks_once(rt: HostRuntime) -> Result<(), Fail> {
     let mut host = host(rt.alloc())?;
-    let mut listener = Listener::new(ObjId(1), AT);
-    listener.listen(&mut host);
-    assert!(rt; asks(&mut listener, 1) && !asks(&mut listener, 1));
-    Ok(())
+    let asks = fails_and_asks(&mut host);
+    drop(host);
+    check(asks)
+}
+
+// A listener that listens, at its second try.
+fn listener<H: Host>(host: &mut H) -> Listener {
+    let mut listener = Listener::new(ObjId(3), AT);
+    listener.listen(host);
+    listener.listen(host);
+    listener
+}
+
+// Whether what a new dialler dials at its second try is accepted.
+fn accepts_a_dial<H: Host>(alloc: Global, host: &mut H) -> Result<bool, AllocError> {
+    let mut listener = listener(host);
+    let mut dialler = Dialler::new(ObjId(2), AT, pair(alloc), 10);
+    let times = [(0, Gave::Fault), (10, Gave::Link)];
+    let dialled = dials(alloc, &mut dialler, host, &times);
+    drop(dialler);
+    Ok(dialled? && accepts_with_room(&mut listener, host))
 }
 
 #[test]
 fn a_listener_accepts_what_is_dialled(rt: HostRuntime) -> Result<(), Fail> {
     let mut host = host(rt.alloc())?;
-    let mut listener = Listener::new(ObjId(3), AT);
-    listener.listen(&mut host);
-    listener.listen(&mut host);
-    let mut dialler = Dialler::new(ObjId(2), AT, pair(rt.alloc()), 10);
-    let times = [(0, Gave::Fault), (10, Gave::Link)];
-    assert!(rt; dials(rt.alloc(), &mut dialler, &mut host, &times)?);
-    assert!(rt; accepts_with_room(&mut listener, &mut host));
-    Ok(())
+    let accepts = accepts_a_dial(rt.alloc(), &mut host);
+    drop(host);
+    check(accepts?)
 }

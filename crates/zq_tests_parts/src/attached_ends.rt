@@ -100,9 +100,11 @@ fn sends_one<P: Pipes>(
 
 #[test]
 fn a_push_sends_over_its_end(rt: HostRuntime) -> Result<(), Fail> {
-    let mut socket = with_one_end(rt.alloc(), true)?;
     let mut push = push_of_one(rt.alloc())?;
-    check(sends_one(rt.alloc(), &mut socket.pipes, &mut socket.rows, &mut push)?)
+    let mut socket = with_one_end(rt.alloc(), true)?;
+    let sends = sends_one(rt.alloc(), &mut socket.pipes, &mut socket.rows, &mut push);
+    drop((socket, push));
+    check(sends?)
 }
 
 // A PULL with the end at place 0.
@@ -116,10 +118,11 @@ fn pull_of_one(alloc: Global) -> Result<Pull, Fail>
 
 #[test]
 fn a_pull_finds_its_end_empty(rt: HostRuntime) -> Result<(), Fail> {
-    let mut socket = with_one_end(rt.alloc(), true)?;
     let mut pull = pull_of_one(rt.alloc())?;
-    let got = pull_over(&mut socket.pipes, &mut socket.rows, &mut pull);
-    check(told_got(got) == Told::NotGot(RecvRefusal::Again))
+    let mut socket = with_one_end(rt.alloc(), true)?;
+    let told = told_got(pull_over(&mut socket.pipes, &mut socket.rows, &mut pull));
+    drop((socket, pull));
+    check(told == Told::NotGot(RecvRefusal::Again))
 }
 
 #[test]
@@ -130,7 +133,9 @@ fn an_end_is_looked_at_without_a_take(rt: HostRuntime) -> Result<(), Fail> {
         pipes: &mut socket.pipes,
         rows: &mut socket.rows,
     };
-    check(ends.front(0) == Front::Empty)
+    let front = ends.front(0);
+    drop(socket);
+    check(front == Front::Empty)
 }
 
 #[test]
@@ -142,5 +147,6 @@ fn an_end_is_sealed(rt: HostRuntime) -> Result<(), Fail> {
         rows: &mut socket.rows,
     };
     ends.seal(0);
+    drop(socket);
     Ok(())
 }

@@ -54,12 +54,22 @@ fn far_copies(peers: &mut TestPeers, place: usize) -> Result<usize, Fail> {
     Ok(copies)
 }
 
+// Adds two pairs, of which the first has room for one message and the other for two.
+fn attach_two(alloc: Global, peers: &mut TestPeers) -> Result<(), Fail> {
+    peers.attach(alloc, 1)?;
+    peers.attach(alloc, 2)
+}
+
 // Three pairs, of which the second has room for one message and the others for two.
 fn three(alloc: Global) -> Result<TestPeers, Fail> {
     let mut peers = TestPeers::with_pairs(alloc, 1, 2)?;
-    peers.attach(alloc, 1)?;
-    peers.attach(alloc, 2)?;
-    Ok(peers)
+    match attach_two(alloc, &mut peers) {
+        Ok(()) => Ok(peers),
+        Err(fail) => {
+            drop(peers);
+            Err(fail)
+        }
+    }
 }
 
 // Whether a send to places tells that these got a copy, and that those were full.
@@ -95,15 +105,22 @@ fn each_tells(
     Ok(true)
 }
 
-#[test]
-fn a_copy_goes_to_each_place_with_room(rt: HostRuntime) -> Result<(), Fail> {
-    let mut peers = three(rt.alloc())?;
+// Whether a copy goes to each place with room.
+fn copies_go(alloc: Global, peers: &mut TestPeers) -> Result<bool, Fail> {
     let cases: [(&[usize], &[usize], &[usize]); 4] = [
         (&[], &[], &[]),
         (&[1], &[1], &[]),
         (&[2, 1, 0], &[2, 0], &[1]),
         (&[0, 1], &[0], &[1]),
     ];
-    let tells = each_tells(rt.alloc(), &mut peers, &cases)?;
-    check(copies_come_out(&mut peers)? && tells)
+    let tells = each_tells(alloc, peers, &cases)?;
+    Ok(copies_come_out(peers)? && tells)
+}
+
+#[test]
+fn a_copy_goes_to_each_place_with_room(rt: HostRuntime) -> Result<(), Fail> {
+    let mut peers = three(rt.alloc())?;
+    let go = copies_go(rt.alloc(), &mut peers);
+    drop(peers);
+    check(go?)
 }

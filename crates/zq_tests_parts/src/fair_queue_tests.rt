@@ -1,7 +1,8 @@
 ghost use Rattle.std.specs.Prelude.{◌≡◌, length, ◌<◌, ◌∷◌, [], ℕ, All, IfOk};
 
-use crate::messages::{check, message};
+use crate::messages::check;
 use crate::peers::TestPeers;
+use crate::push_pull_tests::put_at;
 use fair_queue::{NextIn, Turns, next_in, no_peer_with_messages_is_passed_over};
 use std::alloc::Global;
 use std::test::Fail;
@@ -35,15 +36,29 @@ fn receive(turns: &mut Turns, peers: &mut TestPeers) -> Option<usize>
     }
 }
 
+// Two, one and two messages of two frames are put in at the far ends of three pairs.
+fn put_five(alloc: Global, peers: &mut TestPeers) -> Result<(), Fail>
+    requires { length peers.old ≡ 3 }
+    ensures { length peers.new ≡ 3 }
+{
+    'puts: for place in [0, 0, 1, 2, 2] {
+        put_at(alloc, peers, place, b"xy")?;
+    }
+    Ok(())
+}
+
 // Three pairs, whose peers have said two, one and two messages of two frames.
 fn three_with_messages(alloc: Global) -> Result<TestPeers, Fail>
     ensures { IfOk result (λ p. length p ≡ 3) }
 {
     let mut peers = three(alloc)?;
-    'puts: for place in [0, 0, 1, 2, 2] {
-        peers.far_put(place, message(alloc, b"xy")?)?;
+    match put_five(alloc, &mut peers) {
+        Ok(()) => return Ok(peers),
+        Err(fail) => {
+            drop(peers);
+            return Err(fail);
+        }
     }
-    Ok(peers)
 }
 
 // Whether these places serve in turn.
@@ -58,19 +73,34 @@ fn serve(turns: &mut Turns, peers: &mut TestPeers, wanted: &[Option<usize>]) -> 
     true
 }
 
+// Whether these places of three pairs serve in turn.
+fn serve_in_turn(
+    alloc: Global,
+    peers: &mut TestPeers,
+    wanted: &[Option<usize>],
+) -> Result<bool, Fail>
+    requires { length peers.old ≡ 3 }
+{
+    let mut turns = in_turn(alloc)?;
+    let serve = serve(&mut turns, peers, wanted);
+    drop(turns);
+    Ok(serve)
+}
+
 #[test]
 fn peers_with_messages_serve_by_turn(rt: HostRuntime) -> Result<(), Fail> {
     let mut peers = three_with_messages(rt.alloc())?;
-    let mut turns = in_turn(rt.alloc())?;
     let wanted = [Some(0), Some(1), Some(2), Some(0), Some(2), None];
-    check(serve(&mut turns, &mut peers, &wanted))
+    let serve = serve_in_turn(rt.alloc(), &mut peers, &wanted);
+    drop(peers);
+    check(serve?)
 }
 
 #[test]
 fn where_no_peer_has_a_message_none_serves(rt: HostRuntime) -> Result<(), Fail> {
-    let alloc = rt.alloc();
-    let mut peers = three(alloc)?;
-    let mut turns = in_turn(alloc)?;
     no_peer_with_messages_is_passed_over();
-    check(receive(&mut turns, &mut peers) == None)
+    let mut peers = three(rt.alloc())?;
+    let serve = serve_in_turn(rt.alloc(), &mut peers, &[None]);
+    drop(peers);
+    check(serve?)
 }

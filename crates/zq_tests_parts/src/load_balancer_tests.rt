@@ -106,18 +106,39 @@ fn sends_by_turn(alloc: Global, turns: &mut Turns, peers: &mut TestPeers) -> Res
     Ok(sends_on(alloc, turns, peers)? && fills)
 }
 
+// The same of these pairs.
+fn go_by_turn(alloc: Global, peers: &mut TestPeers) -> Result<bool, Fail>
+    requires { length peers.old ≡ 3 }
+{
+    let mut turns = in_turn(alloc)?;
+    let go = sends_by_turn(alloc, &mut turns, peers);
+    drop(turns);
+    go
+}
+
 #[test]
 fn messages_go_to_peers_with_room_by_turn(rt: HostRuntime) -> Result<(), Fail> {
     let mut peers = three(rt.alloc())?;
-    let mut turns = in_turn(rt.alloc())?;
-    check(sends_by_turn(rt.alloc(), &mut turns, &mut peers)?)
+    let go = go_by_turn(rt.alloc(), &mut peers);
+    drop(peers);
+    check(go?)
+}
+
+// Whether the first message goes to the second of these pairs, since the first can't be written.
+fn passes_over_the_first(alloc: Global, peers: &mut TestPeers) -> Result<bool, Fail>
+    requires { length peers.old ≡ 3 }
+{
+    peers.set_writable(0, false)?;
+    let mut turns = in_turn(alloc)?;
+    let passes = sends(alloc, &mut turns, peers, &[Told::Put(1)]);
+    drop(turns);
+    passes
 }
 
 #[test]
 fn a_place_that_cannot_be_written_gets_none(rt: HostRuntime) -> Result<(), Fail> {
-    let alloc = rt.alloc();
-    let mut peers = three(alloc)?;
-    let mut turns = in_turn(alloc)?;
-    peers.set_writable(0, false)?;
-    check(sends(alloc, &mut turns, &mut peers, &[Told::Put(1)])?)
+    let mut peers = three(rt.alloc())?;
+    let passes = passes_over_the_first(rt.alloc(), &mut peers);
+    drop(peers);
+    check(passes?)
 }

@@ -80,11 +80,20 @@ fn wants_as_many(alloc: Global, sub: &mut Sub, peers: &mut TestPeers) -> bool
     subscribes_to_all(alloc, sub, peers) && is_full(alloc, sub, peers)
 }
 
+// The same of a SUB over no pairs.
+fn sub_wants(alloc: Global, peers: &mut TestPeers) -> bool {
+    let mut sub = Sub::new(alloc);
+    let wants = wants_as_many(alloc, &mut sub, peers);
+    drop(sub);
+    wants
+}
+
 #[test]
 fn a_sub_wants_65_536_topics_and_no_more(rt: HostRuntime) -> Result<(), Fail> {
     let mut peers = TestPeers::new(rt.alloc());
-    let mut sub = Sub::new(rt.alloc());
-    check(wants_as_many(rt.alloc(), &mut sub, &mut peers))
+    let wants = sub_wants(rt.alloc(), &mut peers);
+    drop(peers);
+    check(wants)
 }
 
 // Whether an XSUB without peers sends subscriptions to 65,536 numbers.
@@ -116,9 +125,18 @@ fn sends_as_many(alloc: Global, xsub: &mut XSub, peers: &mut TestPeers) -> Resul
     Ok(sends_no_more(alloc, xsub, peers)? && sends)
 }
 
+// The same of an XSUB over no pairs.
+fn xsub_sends(alloc: Global, peers: &mut TestPeers) -> Result<bool, Fail> {
+    let mut xsub = XSub::new(alloc);
+    let sends = sends_as_many(alloc, &mut xsub, peers);
+    drop(xsub);
+    sends
+}
+
 #[test]
 fn an_xsub_wants_65_536_topics_and_no_more(rt: HostRuntime) -> Result<(), Fail> {
     let mut peers = TestPeers::new(rt.alloc());
-    let mut xsub = XSub::new(rt.alloc());
-    check(sends_as_many(rt.alloc(), &mut xsub, &mut peers)?)
+    let sends = xsub_sends(rt.alloc(), &mut peers);
+    drop(peers);
+    check(sends?)
 }

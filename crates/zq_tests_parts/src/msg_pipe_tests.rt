@@ -4,6 +4,7 @@ ghost use Rattle.msg_pipe.specs.Known.{IsThere};
 
 use crate::messages::{check, holds, is_item, message};
 use crate::peers::TestPeers;
+use crate::push_pull_tests::put_at;
 use msg_pipe::{
     Committed, Front, Peers, Pipes, PlainPipe, PlainPipes, PutIn, Taken, Turns, halves_are_a_pipe,
 };
@@ -64,29 +65,38 @@ fn settled(sent: u64, got: u64, rest: u64) -> Settled {
     Settled { sent, got, rest }
 }
 
+// Whether a message comes out whole.
+fn comes_out_whole(alloc: Global, pipes: &mut PlainPipes) -> Result<bool, Fail> {
+    let (taken, told) = pass(alloc, pipes, &(), message(alloc, b"abc")?)?;
+    Ok(is_item(taken, b"abc") && told == settled(1, 1, 0))
+}
+
 #[test]
 fn messages_come_out_whole_in_the_order_committed(rt: HostRuntime) -> Result<(), Fail> {
     let mut pipes = PlainPipes::new(rt.alloc());
-    let first = message(rt.alloc(), b"abc")?;
-    let (taken, told) = pass(rt.alloc(), &mut pipes, &(), first)?;
-    check(is_item(taken, b"abc") && told == settled(1, 1, 0))
+    let whole = comes_out_whole(rt.alloc(), &mut pipes);
+    drop(pipes);
+    check(whole?)
+}
+
+// Whether a pipe for one message hands a second one back.
+fn hands_a_second_back(alloc: Global, pipes: &mut PlainPipes) -> Result<bool, Fail> {
+    let (mut o, i) = pipes.make(alloc, 1, &(), &())?;
+    let goes = is_put(pipes.put(&mut o, message(alloc, b"a")?));
+    let back = is_back(pipes.put(&mut o, message(alloc, b"bc")?), b"bc");
+    Ok(pipes.settle(i, o) == settled(1, 0, 1) && goes && back)
 }
 
 #[test]
 fn a_full_pipe_hands_the_message_back(rt: HostRuntime) -> Result<(), Fail> {
-    let first = message(rt.alloc(), b"a")?;
-    let second = message(rt.alloc(), b"bc")?;
     let mut pipes = PlainPipes::new(rt.alloc());
-    let (mut o, i) = pipes.make(rt.alloc(), 1, &(), &())?;
-    let goes = is_put(pipes.put(&mut o, first));
-    let back = is_back(pipes.put(&mut o, second), b"bc");
-    check(pipes.settle(i, o) == settled(1, 0, 1) && goes && back)
+    let back = hands_a_second_back(rt.alloc(), &mut pipes);
+    drop(pipes);
+    check(back?)
 }
 
-#[test]
-fn parts_are_seen_at_their_commit_alone(rt: HostRuntime) -> Result<(), Fail> {
-    let alloc = rt.alloc();
-    let mut pipes = PlainPipes::new(alloc);
+// Whether parts that are forgotten are never seen, and the others at their commit alone.
+fn are_seen_at_their_commit(alloc: Global, pipes: &mut PlainPipes) -> Result<bool, Fail> {
     let (mut o, mut i) = pipes.make(alloc, 1, &(), &())?;
     let forgotten = pipes
         .part(alloc, &mut o, Frame::of_slice(alloc, b"x")?)
@@ -97,7 +107,15 @@ fn parts_are_seen_at_their_commit_alone(rt: HostRuntime) -> Result<(), Fail> {
     };
     let before = pipes.front(&mut i) == Front::Empty;
     let commits = pipes.commit(&mut o) == Committed::Ok;
-    check(is_item(pipes.take(&mut i), b"a") && forgotten && before && commits)
+    Ok(is_item(pipes.take(&mut i), b"a") && forgotten && before && commits)
+}
+
+#[test]
+fn parts_are_seen_at_their_commit_alone(rt: HostRuntime) -> Result<(), Fail> {
+    let mut pipes = PlainPipes::new(rt.alloc());
+    let seen = are_seen_at_their_commit(rt.alloc(), &mut pipes);
+    drop(pipes);
+    check(seen?)
 }
 
 // Whether the delimiter stands behind one message.
@@ -109,26 +127,46 @@ fn takes_to_the_delimiter<P: Pipes>(pipes: &mut P, i: &mut P::In) -> bool
     pipes.front(i) == Front::Delimiter && before
 }
 
+// Whether a pipe that is sealed behind one message has the delimiter there.
+fn ends_with_the_delimiter(alloc: Global, pipes: &mut PlainPipes) -> Result<bool, Fail> {
+    let (mut o, mut i) = pipes.make(alloc, 1, &(), &())?;
+    let goes = is_put(pipes.put(&mut o, message(alloc, b"a")?));
+    pipes.seal(&mut o);
+    Ok(takes_to_the_delimiter(pipes, &mut i) && goes)
+}
+
 #[test]
 fn the_delimiter_stands_behind_all(rt: HostRuntime) -> Result<(), Fail> {
-    let alloc = rt.alloc();
-    let mut pipes = PlainPipes::new(alloc);
-    let (mut o, mut i) = pipes.make(alloc, 1, &(), &())?;
-    let _put = pipes.put(&mut o, message(alloc, b"a")?);
-    pipes.seal(&mut o);
-    check(takes_to_the_delimiter(&mut pipes, &mut i))
+    let mut pipes = PlainPipes::new(rt.alloc());
+    let ends = ends_with_the_delimiter(rt.alloc(), &mut pipes);
+    drop(pipes);
+    check(ends?)
+}
+
+// Whether what the halves of the first pipe did is told.
+fn is_told(alloc: Global, pipes: &mut PlainPipes) -> Result<bool, Fail> {
+    let (mut o, i) = pipes.make(alloc, 1, &(), &())?;
+    let goes = is_put(pipes.put(&mut o, message(alloc, b"a")?));
+    let _committed = pipes.story_out(&o);
+    let _taken = pipes.story_in(&i);
+    halves_are_a_pipe(pipes, &o, &i);
+    Ok(PlainPipes::name(&o) == 0 && pipes.counts(&o).sent == 1 && goes)
 }
 
 #[test]
 fn what_halves_did_is_told(rt: HostRuntime) -> Result<(), Fail> {
-    let alloc = rt.alloc();
-    let mut pipes = PlainPipes::new(alloc);
-    let (mut o, i) = pipes.make(alloc, 1, &(), &())?;
-    let _put = pipes.put(&mut o, message(alloc, b"a")?);
-    let _committed = pipes.story_out(&o);
-    let _taken = pipes.story_in(&i);
-    halves_are_a_pipe(&pipes, &o, &i);
-    check(PlainPipes::name(&o) == 0 && pipes.counts(&o).sent == 1)
+    let mut pipes = PlainPipes::new(rt.alloc());
+    let told = is_told(rt.alloc(), &mut pipes);
+    drop(pipes);
+    check(told?)
+}
+
+// The far end of the second pair says `back`, and is sealed behind it.
+fn put_and_seal(alloc: Global, peers: &mut TestPeers) -> Result<(), Fail>
+    ensures { length peers.new ≡ length peers.old }
+{
+    put_at(alloc, peers, 1, b"back")?;
+    peers.far_seal(1)
 }
 
 // Two pairs, of which the second has a message, `back`, and is sealed behind it.
@@ -136,9 +174,13 @@ fn two_pairs(alloc: Global) -> Result<TestPeers, Fail>
     ensures { IfOk result (λ p. length p ≡ 2) }
 {
     let mut peers = TestPeers::with_pairs(alloc, 2, 1)?;
-    peers.far_put(1, message(alloc, b"back")?)?;
-    peers.far_seal(1)?;
-    Ok(peers)
+    match put_and_seal(alloc, &mut peers) {
+        Ok(()) => return Ok(peers),
+        Err(fail) => {
+            drop(peers);
+            return Err(fail);
+        }
+    }
 }
 
 // Whether what goes out at the second place is put in, and what waits there is taken.
@@ -149,12 +191,18 @@ fn passes(alloc: Global, peers: &mut TestPeers) -> Result<bool, Fail> {
     Ok(is_item(exchange(peers, 1, message(alloc, b"there")?), b"back"))
 }
 
+// Whether it comes to the far end there.
+fn passes_there(alloc: Global, peers: &mut TestPeers) -> Result<bool, Fail> {
+    let passes = passes(alloc, peers)?;
+    Ok(is_item(peers.far_take(1)?, b"there") && passes)
+}
+
 #[test]
 fn peers_put_and_take_at_their_place(rt: HostRuntime) -> Result<(), Fail> {
-    let alloc = rt.alloc();
-    let mut peers = two_pairs(alloc)?;
-    let exchanges = passes(alloc, &mut peers)?;
-    check(exchanges && is_item(peers.far_take(1)?, b"there"))
+    let mut peers = two_pairs(rt.alloc())?;
+    let passes = passes_there(rt.alloc(), &mut peers);
+    drop(peers);
+    check(passes?)
 }
 
 #[test]
@@ -205,5 +253,7 @@ fn serve_and_leave(turns: &mut Turns) -> bool
 #[test]
 fn those_that_served_go_to_the_back(rt: HostRuntime) -> Result<(), Fail> {
     let mut turns = four(rt.alloc())?;
-    check(serve_and_leave(&mut turns))
+    let served = serve_and_leave(&mut turns);
+    drop(turns);
+    check(served)
 }

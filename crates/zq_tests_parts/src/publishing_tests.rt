@@ -1,4 +1,4 @@
-ghost use Rattle.std.specs.Prelude.{◌≡◌, ◌<◌, All, length, IfOk};
+ghost use Rattle.std.specs.Prelude.{◌≡◌, ◌<◌, All, [], length, IfOk, OnOk};
 ghost use Rattle.std.specs.Map.{keys_of};
 
 use crate::messages::{check, frames, one_frame};
@@ -42,16 +42,36 @@ fn told_given(answer: Result<(PairId, Message), RecvFault>) -> Told {
     }
 }
 
+// The peer of a pair says a message of one frame.
+fn say(alloc: Global, peers: &mut TestPeers, place: usize, body: &[u8]) -> Result<(), Fail>
+    ensures { length peers.new ≡ length peers.old }
+{
+    peers.far_put(place, one_frame(alloc, body)?)
+}
+
+// Adds two pairs, of which the first has room for one message. Their peers say these.
+fn attach_two(alloc: Global, peers: &mut TestPeers, first: &[u8], second: &[u8]) -> Result<(), Fail>
+    requires { peers.old ≡ [] }
+    ensures { OnOk result (length peers.new ≡ 2) }
+{
+    peers.attach(alloc, 1)?;
+    peers.attach(alloc, 4)?;
+    say(alloc, peers, 0, first)?;
+    say(alloc, peers, 1, second)
+}
+
 // Two pairs, of which the first has room for one message. Their peers said these.
 fn two(alloc: Global, first: &[u8], second: &[u8]) -> Result<TestPeers, Fail>
     ensures { IfOk result (λ p. length p ≡ 2) }
 {
     let mut peers = TestPeers::new(alloc);
-    peers.attach(alloc, 1)?;
-    peers.attach(alloc, 4)?;
-    peers.far_put(0, one_frame(alloc, first)?)?;
-    peers.far_put(1, one_frame(alloc, second)?)?;
-    Ok(peers)
+    match attach_two(alloc, &mut peers, first, second) {
+        Ok(()) => return Ok(peers),
+        Err(fail) => {
+            drop(peers);
+            return Err(fail);
+        }
+    }
 }
 
 // A PUB with two peers, which it heard.
@@ -130,16 +150,29 @@ fn hears(alloc: Global, publisher: &mut XPub, peers: &mut TestPeers) -> bool
     publisher.hear_peers(alloc, peers).is_ok()
 }
 
+// A peer says 1,001 messages which are no subscriptions.
+fn say_1_001(alloc: Global, peers: &mut TestPeers) -> Result<(), Fail>
+    requires { length peers.old ≡ 1 }
+    ensures { length peers.new ≡ 1 }
+{
+    'messages: for _ in 0..1001 {
+        say(alloc, peers, 0, b"x")?;
+    }
+    Ok(())
+}
+
 // One pair, whose peer said 1,001 messages which are no subscriptions.
 fn one_full(alloc: Global) -> Result<TestPeers, Fail>
     ensures { IfOk result (λ p. length p ≡ 1) }
 {
-    let mut peers = TestPeers::new(alloc);
-    peers.attach(alloc, 1001)?;
-    'messages: for _ in 0..1001 {
-        peers.far_put(0, one_frame(alloc, b"x")?)?;
+    let mut peers = TestPeers::with_pairs(alloc, 1, 1001)?;
+    match say_1_001(alloc, &mut peers) {
+        Ok(()) => return Ok(peers),
+        Err(fail) => {
+            drop(peers);
+            return Err(fail);
+        }
     }
-    Ok(peers)
 }
 
 // An XPUB with one peer.
@@ -225,12 +258,22 @@ fn sends_to_those_that_match(
     Ok(send(alloc, publisher, peers, b"b")? == Told::Dropped(Rule::NoMatch) && sends)
 }
 
+// The same of a PUB over these pairs.
+fn pub_sends(alloc: Global, peers: &mut TestPeers) -> Result<bool, Fail>
+    requires { length peers.old ≡ 2 }
+{
+    let mut publisher = pub_of_two(alloc, peers)?;
+    let sends = sends_to_those_that_match(alloc, &mut publisher, peers);
+    drop(publisher);
+    sends
+}
+
 #[test]
 fn a_pub_sends_to_the_peers_that_match(rt: HostRuntime) -> Result<(), Fail> {
-    let alloc = rt.alloc();
-    let mut peers = two(alloc, &[1], &[1, b'a'])?;
-    let mut publisher = pub_of_two(alloc, &mut peers)?;
-    check(sends_to_those_that_match(alloc, &mut publisher, &mut peers)?)
+    let mut peers = two(rt.alloc(), &[1], &[1, b'a'])?;
+    let sends = pub_sends(rt.alloc(), &mut peers);
+    drop(peers);
+    check(sends?)
 }
 
 // Whether a PUB refuses a message of 1,024 frames, and a receive.
@@ -242,12 +285,22 @@ fn refuses_both(alloc: Global, publisher: &Pub, peers: &mut TestPeers) -> Result
     Ok(never && sent == Told::NotSent(SendRefusal::TooLarge))
 }
 
+// The same of a PUB over these pairs.
+fn pub_refuses(alloc: Global, peers: &mut TestPeers) -> Result<bool, Fail>
+    requires { length peers.old ≡ 2 }
+{
+    let publisher = pub_of_two(alloc, peers)?;
+    let refuses = refuses_both(alloc, &publisher, peers);
+    drop(publisher);
+    refuses
+}
+
 #[test]
 fn a_pub_never_receives_and_sends_1_023_frames(rt: HostRuntime) -> Result<(), Fail> {
-    let alloc = rt.alloc();
-    let mut peers = two(alloc, &[1], &[1])?;
-    let publisher = pub_of_two(alloc, &mut peers)?;
-    check(refuses_both(alloc, &publisher, &mut peers)?)
+    let mut peers = two(rt.alloc(), &[1], &[1])?;
+    let refuses = pub_refuses(rt.alloc(), &mut peers);
+    drop(peers);
+    check(refuses?)
 }
 
 // Whether an XPUB tells of a topic's first subscriber, not of a cancel while one is left.
@@ -271,24 +324,42 @@ fn tells_news(alloc: Global, publisher: &mut XPub, peers: &mut TestPeers) -> Res
     Ok(receive(alloc, publisher, peers) == Told::Gave(1, 3) && first && sent)
 }
 
+// The same of an XPUB over these pairs.
+fn xpub_tells(alloc: Global, peers: &mut TestPeers) -> Result<bool, Fail>
+    requires { length peers.old ≡ 2 }
+{
+    let mut publisher = xpub_of_two(alloc, peers, false)?;
+    let tells = tells_news(alloc, &mut publisher, peers);
+    drop(publisher);
+    tells
+}
+
 #[test]
 fn an_xpub_tells_its_user_what_is_news(rt: HostRuntime) -> Result<(), Fail> {
-    let alloc = rt.alloc();
-    let mut peers = two(alloc, &[1, b'a', b'b'], &[1, b'a', b'b'])?;
-    let mut publisher = xpub_of_two(alloc, &peers, false)?;
-    let tells = tells_news(alloc, &mut publisher, &mut peers);
-    drop((publisher, peers));
+    let mut peers = two(rt.alloc(), &[1, b'a', b'b'], &[1, b'a', b'b'])?;
+    let tells = xpub_tells(rt.alloc(), &mut peers);
+    drop(peers);
     check(tells?)
+}
+
+// Whether a verbose XPUB over these pairs tells of each add, and of all else.
+fn tells_of_all(alloc: Global, peers: &mut TestPeers) -> Result<bool, Fail>
+    requires { length peers.old ≡ 2 }
+{
+    say(alloc, peers, 1, b"else")?;
+    let mut publisher = xpub_of_two(alloc, peers, true)?;
+    let wanted = [Told::Gave(1, 2), Told::Gave(2, 2), Told::Gave(2, 4)];
+    let tells = receives(alloc, &mut publisher, peers, &wanted);
+    drop(publisher);
+    Ok(tells)
 }
 
 #[test]
 fn a_verbose_xpub_tells_of_each_add_and_of_all_else(rt: HostRuntime) -> Result<(), Fail> {
-    let alloc = rt.alloc();
-    let mut peers = two(alloc, &[1, b'a'], &[1, b'a'])?;
-    peers.far_put(1, one_frame(alloc, b"else")?)?;
-    let mut publisher = xpub_of_two(alloc, &peers, true)?;
-    let wanted = [Told::Gave(1, 2), Told::Gave(2, 2), Told::Gave(2, 4)];
-    check(receives(alloc, &mut publisher, &mut peers, &wanted))
+    let mut peers = two(rt.alloc(), &[1, b'a'], &[1, b'a'])?;
+    let tells = tells_of_all(rt.alloc(), &mut peers);
+    drop(peers);
+    check(tells?)
 }
 
 // Whether one message is left.
@@ -306,12 +377,20 @@ fn stops_hearing(alloc: Global, publisher: &mut XPub, peers: &mut TestPeers) -> 
     Ok(has_one_message(peers)? && hears)
 }
 
+// The same of an XPUB over this pair.
+fn xpub_stops(alloc: Global, peers: &mut TestPeers) -> Result<bool, Fail>
+    requires { length peers.old ≡ 1 }
+{
+    let mut publisher = xpub_of_one(alloc, peers)?;
+    let stops = stops_hearing(alloc, &mut publisher, peers);
+    drop(publisher);
+    stops
+}
+
 #[test]
 fn an_xpub_stops_hearing_where_1_000_wait(rt: HostRuntime) -> Result<(), Fail> {
-    let alloc = rt.alloc();
-    let mut peers = one_full(alloc)?;
-    let mut publisher = xpub_of_one(alloc, &peers)?;
-    let stops = stops_hearing(alloc, &mut publisher, &mut peers);
-    drop((publisher, peers));
+    let mut peers = one_full(rt.alloc())?;
+    let stops = xpub_stops(rt.alloc(), &mut peers);
+    drop(peers);
     check(stops?)
 }

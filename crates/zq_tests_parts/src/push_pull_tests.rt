@@ -1,4 +1,4 @@
-ghost use Rattle.std.specs.Prelude.{◌≡◌, length, ◌<◌, ℕ, All, IfOk};
+ghost use Rattle.std.specs.Prelude.{◌≡◌, ◌∷◌, [], length, ◌<◌, ℕ, All, IfOk};
 
 use crate::messages::{check, frames, message};
 use crate::peers::TestPeers;
@@ -153,11 +153,22 @@ fn sends_by_turn(alloc: Global, push: &mut Push, peers: &mut TestPeers) -> Resul
     Ok(sends_on(alloc, push, peers)? && filled)
 }
 
+// The same of a PUSH over these pairs.
+fn push_sends(alloc: Global, peers: &mut TestPeers) -> Result<bool, Fail>
+    requires { length peers.old ≡ 2 }
+{
+    let mut push = push_of_two(alloc)?;
+    let sends = sends_by_turn(alloc, &mut push, peers);
+    drop(push);
+    sends
+}
+
 #[test]
 fn a_push_sends_by_turn_and_never_receives(rt: HostRuntime) -> Result<(), Fail> {
     let mut peers = two(rt.alloc())?;
-    let mut push = push_of_two(rt.alloc())?;
-    check(sends_by_turn(rt.alloc(), &mut push, &mut peers)?)
+    let sends = push_sends(rt.alloc(), &mut peers);
+    drop(peers);
+    check(sends?)
 }
 
 // Whether a PULL hands a message of three frames back.
@@ -168,13 +179,25 @@ fn hands_back(answer: Result<Sent, SendFault>) -> bool {
     }
 }
 
+/// A message of one frame of each of these octets is put in at the far end of a pair.
+pub fn put_at(alloc: Global, peers: &mut TestPeers, place: usize, octets: &[u8]) -> Result<(), Fail>
+    ensures { length peers.new ≡ length peers.old }
+{
+    peers.far_put(place, message(alloc, octets)?)
+}
+
 /// Two pairs, of which the second has a message.
 pub fn two_and_a_message(alloc: Global) -> Result<TestPeers, Fail>
     ensures { IfOk result (λ p. length p ≡ 2) }
 {
     let mut peers = two(alloc)?;
-    peers.far_put(1, message(alloc, b"x")?)?;
-    Ok(peers)
+    match put_at(alloc, &mut peers, 1, b"x") {
+        Ok(()) => return Ok(peers),
+        Err(fail) => {
+            drop(peers);
+            return Err(fail);
+        }
+    }
 }
 
 // A PULL with the ends at places 0 and 1.
@@ -206,11 +229,22 @@ fn only_receives(alloc: Global, pull: &mut Pull, peers: &mut TestPeers) -> Resul
     Ok(once && back)
 }
 
+// The same of a PULL over these pairs.
+fn pull_receives(alloc: Global, peers: &mut TestPeers) -> Result<bool, Fail>
+    requires { length peers.old ≡ 2 }
+{
+    let mut pull = pull_of_two(alloc)?;
+    let receives = only_receives(alloc, &mut pull, peers);
+    drop(pull);
+    receives
+}
+
 #[test]
 fn a_pull_receives_by_turn_and_never_sends(rt: HostRuntime) -> Result<(), Fail> {
     let mut peers = two_and_a_message(rt.alloc())?;
-    let mut pull = pull_of_two(rt.alloc())?;
-    check(only_receives(rt.alloc(), &mut pull, &mut peers)?)
+    let receives = pull_receives(rt.alloc(), &mut peers);
+    drop(peers);
+    check(receives?)
 }
 
 // Whether a PAIR whose peer is at place 1 takes another once that is gone.
@@ -221,14 +255,29 @@ fn changes_its_peer(pair: &mut PairSock) -> Result<bool, Fail> {
     Ok(pair.attach(0)? == Attached::Yes && second)
 }
 
-// A PAIR whose peer is at place 1, and whether it takes a second one.
-fn pair_of_one(alloc: Global) -> Result<(PairSock, bool), Fail>
-    ensures { IfOk result (λ made. All (λ place. place < 2) made.0) }
+// Whether the peer at place 1 joins a PAIR.
+fn first_joins(pair: &mut PairSock) -> Result<bool, Fail>
+    requires { pair.old ≡ [] }
+    ensures { IfOk result (λ _. pair.new ≡ 1 ∷ []) }
 {
-    let mut pair = PairSock::new(alloc);
-    let first = pair.attach(1)? == Attached::Yes;
-    let second = pair.attach(0)? == Attached::Second;
-    Ok((pair, first && second))
+    Ok(pair.attach(1)? == Attached::Yes)
+}
+
+// Whether that at place 0 is one too many.
+fn second_does_not(pair: &mut PairSock) -> Result<bool, Fail>
+    requires { pair.old ≡ 1 ∷ [] }
+    ensures { IfOk result (λ _. All (λ place. place < 2) pair.new) }
+{
+    Ok(pair.attach(0)? == Attached::Second)
+}
+
+// Whether a PAIR takes a peer, at place 1, and no second one.
+fn takes_one_peer(pair: &mut PairSock) -> Result<bool, Fail>
+    requires { pair.old ≡ [] }
+    ensures { IfOk result (λ _. All (λ place. place < 2) pair.new) }
+{
+    let first = first_joins(pair)?;
+    Ok(second_does_not(pair)? && first)
 }
 
 // Whether a PAIR receives the one message that is there.
@@ -252,16 +301,45 @@ fn exchanges(alloc: Global, pair: &mut PairSock, peers: &mut TestPeers) -> Resul
     Ok(pair_receives_once(pair, peers) && filled)
 }
 
+// Whether a PAIR takes one peer, and exchanges messages with it.
+fn has_one_peer(alloc: Global, pair: &mut PairSock, peers: &mut TestPeers) -> Result<bool, Fail>
+    requires none { pair.old ≡ [] }
+    requires two { length peers.old ≡ 2 }
+{
+    let takes = takes_one_peer(pair)?;
+    Ok(exchanges(alloc, pair, peers)? && takes)
+}
+
+// The same of a PAIR over these pairs.
+fn pair_exchanges(alloc: Global, peers: &mut TestPeers) -> Result<bool, Fail>
+    requires { length peers.old ≡ 2 }
+{
+    let mut pair = PairSock::new(alloc);
+    let exchanges = has_one_peer(alloc, &mut pair, peers);
+    drop(pair);
+    exchanges
+}
+
 #[test]
 fn a_pair_has_one_peer(rt: HostRuntime) -> Result<(), Fail> {
     let mut peers = two_and_a_message(rt.alloc())?;
-    let (mut pair, has_one_peer) = pair_of_one(rt.alloc())?;
-    check(has_one_peer)?;
-    check(exchanges(rt.alloc(), &mut pair, &mut peers)?)
+    let exchanges = pair_exchanges(rt.alloc(), &mut peers);
+    drop(peers);
+    check(exchanges?)
+}
+
+// Whether a PAIR takes one peer, and another once that is gone.
+fn takes_another(pair: &mut PairSock) -> Result<bool, Fail>
+    requires { pair.old ≡ [] }
+{
+    let takes = takes_one_peer(pair)?;
+    Ok(changes_its_peer(pair)? && takes)
 }
 
 #[test]
 fn a_pair_takes_another_peer_once_the_first_is_gone(rt: HostRuntime) -> Result<(), Fail> {
-    let (mut pair, has_one_peer) = pair_of_one(rt.alloc())?;
-    check(has_one_peer && changes_its_peer(&mut pair)?)
+    let mut pair = PairSock::new(rt.alloc());
+    let takes = takes_another(&mut pair);
+    drop(pair);
+    check(takes?)
 }

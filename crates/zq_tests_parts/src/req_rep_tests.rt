@@ -1,9 +1,9 @@
 ghost use Rattle.std.specs.Prelude.{◌≡◌, length, ◌<◌, All, IfOk};
 ghost use Rattle.spec_pattern.specs.Pipe.{IsCommittable};
 
-use crate::messages::{check, frames, message, two_frames};
+use crate::messages::{check, frames, two_frames};
 use crate::peers::TestPeers;
-use crate::push_pull_tests::{Told, told_got, told_sent};
+use crate::push_pull_tests::{Told, put_at, told_got, told_sent};
 use req_rep::{Rep, Req};
 use spec_pattern::{RecvRefusal, Rule, SendRefusal, Skip};
 use std::alloc::Global;
@@ -53,14 +53,33 @@ fn answer(alloc: Global, rep: &mut Rep, peers: &mut TestPeers, count: usize) -> 
     Ok(told_sent(rep.send(peers, frames(alloc, count)?)))
 }
 
+// The far end says a message behind an empty frame.
+fn put_delimited(alloc: Global, peers: &mut TestPeers) -> Result<(), Fail>
+    ensures { length peers.new ≡ length peers.old }
+{
+    peers.far_put(0, delimited(alloc)?)
+}
+
+// The far end says `x`, and a reply behind it.
+fn put_reply(alloc: Global, peers: &mut TestPeers) -> Result<(), Fail>
+    ensures { length peers.new ≡ length peers.old }
+{
+    put_at(alloc, peers, 0, b"x")?;
+    put_delimited(alloc, peers)
+}
+
 // A pair whose far end has said `x`, and a reply behind it.
 fn with_reply(alloc: Global) -> Result<TestPeers, Fail>
     ensures { IfOk result (λ p. length p ≡ 1) }
 {
     let mut peers = TestPeers::with_pairs(alloc, 1, 2)?;
-    peers.far_put(0, message(alloc, b"x")?)?;
-    peers.far_put(0, delimited(alloc)?)?;
-    Ok(peers)
+    match put_reply(alloc, &mut peers) {
+        Ok(()) => return Ok(peers),
+        Err(fail) => {
+            drop(peers);
+            return Err(fail);
+        }
+    }
 }
 
 // A REQ with the end at place 0.
@@ -105,11 +124,22 @@ fn asks_and_hears(alloc: Global, req: &mut Req, peers: &mut TestPeers) -> Result
     Ok(peers.far_frames(0)? == 1023 && asks && hears)
 }
 
+// The same of a REQ over this pair.
+fn req_asks(alloc: Global, peers: &mut TestPeers) -> Result<bool, Fail>
+    requires { length peers.old ≡ 1 }
+{
+    let mut req = req_of_one(alloc)?;
+    let asks = asks_and_hears(alloc, &mut req, peers);
+    drop(req);
+    asks
+}
+
 #[test]
 fn a_req_asks_and_hears_the_reply(rt: HostRuntime) -> Result<(), Fail> {
     let mut peers = with_reply(rt.alloc())?;
-    let mut req = req_of_one(rt.alloc())?;
-    check(asks_and_hears(rt.alloc(), &mut req, &mut peers)?)
+    let asks = req_asks(rt.alloc(), &mut peers);
+    drop(peers);
+    check(asks?)
 }
 
 // A pair whose far end has said a request.
@@ -117,8 +147,13 @@ fn with_request(alloc: Global) -> Result<TestPeers, Fail>
     ensures { IfOk result (λ p. length p ≡ 1) }
 {
     let mut peers = TestPeers::with_pairs(alloc, 1, 2)?;
-    peers.far_put(0, delimited(alloc)?)?;
-    Ok(peers)
+    match put_delimited(alloc, &mut peers) {
+        Ok(()) => return Ok(peers),
+        Err(fail) => {
+            drop(peers);
+            return Err(fail);
+        }
+    }
 }
 
 // A REP with the end at place 0.
@@ -150,11 +185,22 @@ fn serves_and_answers(alloc: Global, rep: &mut Rep, peers: &mut TestPeers) -> Re
     Ok(peers.far_frames(0)? == 2 && serves && answers)
 }
 
+// The same of a REP over this pair.
+fn rep_answers(alloc: Global, peers: &mut TestPeers) -> Result<bool, Fail>
+    requires { length peers.old ≡ 1 }
+{
+    let mut rep = rep_of_one(alloc)?;
+    let answers = serves_and_answers(alloc, &mut rep, peers);
+    drop(rep);
+    answers
+}
+
 #[test]
 fn a_rep_answers_behind_the_envelope(rt: HostRuntime) -> Result<(), Fail> {
     let mut peers = with_request(rt.alloc())?;
-    let mut rep = rep_of_one(rt.alloc())?;
-    check(serves_and_answers(rt.alloc(), &mut rep, &mut peers)?)
+    let answers = rep_answers(rt.alloc(), &mut peers);
+    drop(peers);
+    check(answers?)
 }
 
 // The peer at place 0 of a REP goes.
@@ -174,9 +220,20 @@ fn drops_a_late_reply(alloc: Global, rep: &mut Rep, peers: &mut TestPeers) -> Re
     Ok(answer(alloc, rep, peers, 1)? == Told::Dropped(Rule::ReplyGone) && serves)
 }
 
+// The same of a REP over this pair.
+fn rep_drops(alloc: Global, peers: &mut TestPeers) -> Result<bool, Fail>
+    requires { length peers.old ≡ 1 }
+{
+    let mut rep = rep_of_one(alloc)?;
+    let drops = drops_a_late_reply(alloc, &mut rep, peers);
+    drop(rep);
+    drops
+}
+
 #[test]
 fn a_reply_to_a_peer_that_is_gone_is_dropped(rt: HostRuntime) -> Result<(), Fail> {
     let mut peers = with_request(rt.alloc())?;
-    let mut rep = rep_of_one(rt.alloc())?;
-    check(drops_a_late_reply(rt.alloc(), &mut rep, &mut peers)?)
+    let drops = rep_drops(rt.alloc(), &mut peers);
+    drop(peers);
+    check(drops?)
 }

@@ -80,9 +80,20 @@ fn sends_and_receives(
     Ok(sends && receives)
 }
 
+// The same of a DEALER over these pairs.
+fn goes_by_turn(alloc: Global, peers: &mut TestPeers) -> Result<bool, Fail>
+    requires { length peers.old ≡ 2 }
+{
+    let mut dealer = dealer_of_two(alloc)?;
+    let goes = sends_and_receives(alloc, &mut dealer, peers);
+    drop(dealer);
+    goes
+}
+
 #[test]
 fn a_dealer_sends_and_receives_by_turn(rt: HostRuntime) -> Result<(), Fail> {
     let mut peers = two_and_a_message(rt.alloc())?;
-    let mut dealer = dealer_of_two(rt.alloc())?;
-    check(sends_and_receives(rt.alloc(), &mut dealer, &mut peers)?)
+    let goes = goes_by_turn(rt.alloc(), &mut peers);
+    drop(peers);
+    check(goes?)
 }

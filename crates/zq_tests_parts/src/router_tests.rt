@@ -321,7 +321,9 @@ fn draws(alloc: Global, peers: &TestPeers) -> Result<bool, Fail> {
 #[test]
 fn a_name_can_be_drawn(rt: HostRuntime) -> Result<(), Fail> {
     let peers = three(rt.alloc())?;
-    check(draws(rt.alloc(), &peers)?)
+    let draws = draws(rt.alloc(), &peers);
+    drop(peers);
+    check(draws?)
 }
 
 // Whether a name may be an identity, and the empty one.

@@ -150,11 +150,22 @@ fn follows(alloc: Global, sub: &mut Sub, peers: &mut TestPeers) -> Result<bool, 
     Ok(receives_behind_a_drop(alloc, sub, peers)? && subscribes)
 }
 
+// The same of a SUB over this pair.
+fn sub_follows(alloc: Global, peers: &mut TestPeers) -> Result<bool, Fail>
+    requires { length peers.old ≡ 1 }
+{
+    let mut sub = sub_of_one(alloc, peers)?;
+    let follows = follows(alloc, &mut sub, peers);
+    drop(sub);
+    follows
+}
+
 #[test]
 fn a_sub_tells_what_it_wants_and_receives_that(rt: HostRuntime) -> Result<(), Fail> {
     let mut peers = one(rt.alloc(), 4)?;
-    let mut sub = sub_of_one(rt.alloc(), &peers)?;
-    check(follows(rt.alloc(), &mut sub, &mut peers)?)
+    let follows = sub_follows(rt.alloc(), &mut peers);
+    drop(peers);
+    check(follows?)
 }
 
 // Whether a SUB subscribes and cancels, of which the peer has room for the first alone.
@@ -190,11 +201,22 @@ fn cancels_late(alloc: Global, sub: &mut Sub, peers: &mut TestPeers) -> Result<b
     Ok(receives_nothing(alloc, sub, peers)? && changes && tells && cancel)
 }
 
+// The same of a SUB over this pair.
+fn sub_cancels(alloc: Global, peers: &mut TestPeers) -> Result<bool, Fail>
+    requires { length peers.old ≡ 1 }
+{
+    let mut sub = sub_of_one(alloc, peers)?;
+    let cancels = cancels_late(alloc, &mut sub, peers);
+    drop(sub);
+    cancels
+}
+
 #[test]
 fn a_cancel_is_told_once_there_is_room(rt: HostRuntime) -> Result<(), Fail> {
     let mut peers = one(rt.alloc(), 1)?;
-    let mut sub = sub_of_one(rt.alloc(), &peers)?;
-    check(cancels_late(rt.alloc(), &mut sub, &mut peers)?)
+    let cancels = sub_cancels(rt.alloc(), &mut peers);
+    drop(peers);
+    check(cancels?)
 }
 
 // Whether a message is refused since its kind doesn't send.
@@ -205,11 +227,26 @@ fn is_never_sent(answer: Result<Sent, SendFault>) -> bool {
     }
 }
 
+// Whether a SUB refuses a message, whose peer is gone.
+fn refuses_to_send(alloc: Global, sub: &mut Sub, peers: &mut TestPeers) -> Result<bool, Fail> {
+    sub.detach(0);
+    Ok(is_never_sent(sub.send(peers, one_frame(alloc, b"a")?)))
+}
+
+// The same of a SUB over this pair.
+fn sub_refuses(alloc: Global, peers: &mut TestPeers) -> Result<bool, Fail>
+    requires { length peers.old ≡ 1 }
+{
+    let mut sub = sub_of_one(alloc, peers)?;
+    let refuses = refuses_to_send(alloc, &mut sub, peers);
+    drop(sub);
+    refuses
+}
+
 #[test]
 fn a_sub_never_sends(rt: HostRuntime) -> Result<(), Fail> {
-    let alloc = rt.alloc();
-    let mut peers = one(alloc, 1)?;
-    let mut sub = sub_of_one(alloc, &peers)?;
-    sub.detach(0);
-    check(is_never_sent(sub.send(&mut peers, one_frame(alloc, b"a")?)))
+    let mut peers = one(rt.alloc(), 1)?;
+    let refuses = sub_refuses(rt.alloc(), &mut peers);
+    drop(peers);
+    check(refuses?)
 }

@@ -60,10 +60,14 @@ fn xsub_of_two(alloc: Global, peers: &TestPeers) -> Result<XSub, Fail>
 fn two(alloc: Global) -> Result<TestPeers, Fail>
     ensures { IfOk result (λ p. length p ≡ 2) }
 {
-    let mut peers = TestPeers::new(alloc);
-    peers.attach(alloc, 1)?;
-    peers.attach(alloc, 4)?;
-    Ok(peers)
+    let mut peers = TestPeers::with_pairs(alloc, 1, 1)?;
+    match peers.attach(alloc, 4) {
+        Ok(()) => return Ok(peers),
+        Err(fail) => {
+            drop(peers);
+            return Err(fail);
+        }
+    }
 }
 
 // Sends a message of one frame.
@@ -138,10 +142,20 @@ fn sends_else(alloc: Global, xsub: &mut XSub, peers: &mut TestPeers) -> Result<b
     Ok(taken(peers)? == 4 && sent)
 }
 
+// The same of an XSUB over these pairs.
+fn xsub_follows(alloc: Global, peers: &mut TestPeers) -> Result<bool, Fail>
+    requires { length peers.old ≡ 2 }
+{
+    let mut xsub = xsub_of_two(alloc, peers)?;
+    let follows = follows(alloc, &mut xsub, peers);
+    drop(xsub);
+    follows
+}
+
 #[test]
 fn an_xsub_subscribes_by_what_it_sends(rt: HostRuntime) -> Result<(), Fail> {
-    let alloc = rt.alloc();
-    let mut peers = two(alloc)?;
-    let mut xsub = xsub_of_two(alloc, &peers)?;
-    check(follows(alloc, &mut xsub, &mut peers)?)
+    let mut peers = two(rt.alloc())?;
+    let follows = xsub_follows(rt.alloc(), &mut peers);
+    drop(peers);
+    check(follows?)
 }

@@ -1,7 +1,7 @@
 use run_journal::{ActorLines, LineAnswer, LineEntry, RunJournal, SettledRow, print};
 use spec_control::Reason;
 use spec_pattern::{PipeId, RecvRefusal, Report, Rule, SendRefusal, Skip};
-use std::alloc::Global;
+use std::alloc::{AllocError, Global};
 use std::test::Fail;
 use zq_base::{Frame, Message, ObjId, Octets, PairId, Seq};
 use zq_journal::{Answer, PipeRow};
@@ -15,8 +15,15 @@ fn message(alloc: Global, parts: &[&[u8]]) -> Result<Message, Fail> {
     Ok(Message::of_parts(frames).ok().ok_or("a message")?)
 }
 
+/// The text of a journal.
+pub fn printed(alloc: Global, journal: RunJournal) -> Result<Octets, AllocError> {
+    let text = print(alloc, &journal);
+    drop(journal);
+    text
+}
+
 /// The text of a journal in which one actor was answered once.
-fn text_of(alloc: Global, name: &[u8], line: u32, answer: Answer) -> Result<Octets, Fail> {
+fn text_of(alloc: Global, name: &[u8], line: u32, answer: Answer) -> Result<Octets, AllocError> {
     let skips = Seq::new(alloc);
     text_of_entry(
         alloc,
@@ -29,19 +36,28 @@ fn text_of(alloc: Global, name: &[u8], line: u32, answer: Answer) -> Result<Octe
     )
 }
 
-/// The part of an actor of this name that was answered once.
-fn part_of(alloc: Global, name: &[u8], entry: LineEntry) -> Result<ActorLines, Fail> {
+/// The one entry of an actor.
+fn one_entry(alloc: Global, entry: LineEntry) -> Result<Seq<LineEntry>, AllocError> {
     let mut entries = Vec::new(alloc);
     entries.push(entry)?;
-    Ok(ActorLines {
-        name: Octets::of_slice(alloc, name)?,
-        entries: Seq::of_vec(entries),
-    })
+    Ok(Seq::of_vec(entries))
 }
 
-fn text_of_entry(alloc: Global, name: &[u8], entry: LineEntry) -> Result<Octets, Fail> {
+/// An actor of this name, with these entries.
+fn part_of(alloc: Global, name: &[u8], entries: Seq<LineEntry>) -> Result<ActorLines, AllocError> {
+    match Octets::of_slice(alloc, name) {
+        Ok(name) => return Ok(ActorLines { name, entries }),
+        Err(error) => {
+            drop(entries);
+            return Err(error);
+        }
+    }
+}
+
+/// The text of a journal of one actor.
+fn text_of_actor(alloc: Global, actor: ActorLines) -> Result<Octets, AllocError> {
     let mut actors = Vec::new(alloc);
-    actors.push(part_of(alloc, name, entry)?)?;
+    actors.push(actor)?;
     let journal = RunJournal {
         actors: Seq::of_vec(actors),
         ended: Seq::new(alloc),
@@ -49,51 +65,86 @@ fn text_of_entry(alloc: Global, name: &[u8], entry: LineEntry) -> Result<Octets,
         objects: Seq::new(alloc),
         done: true,
     };
-    Ok(print(alloc, &journal)?)
+    printed(alloc, journal)
+}
+
+/// The text of a journal in which an actor of this name was answered once.
+pub fn text_of_entry(alloc: Global, name: &[u8], entry: LineEntry) -> Result<Octets, AllocError> {
+    let entries = one_entry(alloc, entry)?;
+    let actor = part_of(alloc, name, entries)?;
+    text_of_actor(alloc, actor)
 }
 
 /// Whether an answer is told so.
-fn is_told(alloc: Global, answer: Answer, text: &[u8]) -> Result<bool, Fail> {
-    Ok(text_of(alloc, b"a", 4, answer)?.as_slice() == text)
+fn is_told(alloc: Global, answer: Answer, text: &[u8]) -> Result<bool, AllocError> {
+    let told = text_of(alloc, b"a", 4, answer)?;
+    Ok(told.as_slice() == text)
 }
+
+/// Answers without messages or lists.
+#[derive(Clone, Copy, Debug)]
+enum Short {
+    Object(u32),
+    Done,
+    Wait,
+    NoSocket,
+    NotSupported,
+    InUse,
+    BadPair,
+    TooMany,
+    Pair(u32),
+    NotSent(SendRefusal),
+    NotReceived(RecvRefusal),
+}
+
+fn answer(short: Short) -> Answer {
+    match short {
+        Short::Object(number) => Answer::Object(ObjId(number)),
+        Short::Done => Answer::Done,
+        Short::Wait => Answer::Wait,
+        Short::NoSocket => Answer::NoSocket,
+        Short::NotSupported => Answer::NotSupported,
+        Short::InUse => Answer::InUse,
+        Short::BadPair => Answer::BadPair,
+        Short::TooMany => Answer::TooMany,
+        Short::Pair(number) => Answer::Pair(PairId(number)),
+        Short::NotSent(refusal) => Answer::NotSent(refusal),
+        Short::NotReceived(refusal) => Answer::NotReceived(refusal),
+    }
+}
+
+/// Answers, and what is told of them.
+const ANSWERS: [(Short, &[u8]); 15] = [
+    (Short::Object(17), b"a 4 ok o17\ndone\n"),
+    (Short::Done, b"a 4 ok\ndone\n"),
+    (Short::Wait, b"a 4 wait\ndone\n"),
+    (Short::NoSocket, b"a 4 nosock\ndone\n"),
+    (Short::NotSupported, b"a 4 notsup\ndone\n"),
+    (Short::InUse, b"a 4 inuse\ndone\n"),
+    (Short::BadPair, b"a 4 badpair\ndone\n"),
+    (Short::TooMany, b"a 4 toomany\ndone\n"),
+    (Short::Pair(4294967295), b"a 4 ok p4294967295\ndone\n"),
+    (Short::NotSent(SendRefusal::SubLimit), b"a 4 limit\ndone\n"),
+    (
+        Short::NotSent(SendRefusal::TooLarge),
+        b"a 4 toolarge\ndone\n",
+    ),
+    (
+        Short::NotSent(SendRefusal::NotSupported),
+        b"a 4 notsup\ndone\n",
+    ),
+    (
+        Short::NotSent(SendRefusal::Unreachable),
+        b"a 4 unreachable\ndone\n",
+    ),
+    (Short::NotReceived(RecvRefusal::Again), b"a 4 again\ndone\n"),
+    (Short::NotReceived(RecvRefusal::Busy), b"a 4 busy\ndone\n"),
+];
 
 #[test]
 fn answers_have_their_texts(rt: HostRuntime) -> Result<(), Fail> {
-    let alloc = rt.alloc();
-    let cases: [(Answer, &[u8]); 15] = [
-        (Answer::Object(ObjId(17)), b"a 4 ok o17\ndone\n"),
-        (Answer::Done, b"a 4 ok\ndone\n"),
-        (Answer::Wait, b"a 4 wait\ndone\n"),
-        (Answer::NoSocket, b"a 4 nosock\ndone\n"),
-        (Answer::NotSupported, b"a 4 notsup\ndone\n"),
-        (Answer::InUse, b"a 4 inuse\ndone\n"),
-        (Answer::BadPair, b"a 4 badpair\ndone\n"),
-        (Answer::TooMany, b"a 4 toomany\ndone\n"),
-        (
-            Answer::Pair(PairId(4294967295)),
-            b"a 4 ok p4294967295\ndone\n",
-        ),
-        (Answer::NotSent(SendRefusal::SubLimit), b"a 4 limit\ndone\n"),
-        (
-            Answer::NotSent(SendRefusal::TooLarge),
-            b"a 4 toolarge\ndone\n",
-        ),
-        (
-            Answer::NotSent(SendRefusal::NotSupported),
-            b"a 4 notsup\ndone\n",
-        ),
-        (
-            Answer::NotSent(SendRefusal::Unreachable),
-            b"a 4 unreachable\ndone\n",
-        ),
-        (
-            Answer::NotReceived(RecvRefusal::Again),
-            b"a 4 again\ndone\n",
-        ),
-        (Answer::NotReceived(RecvRefusal::Busy), b"a 4 busy\ndone\n"),
-    ];
-    for (answer, text) in cases {
-        assert!(rt; is_told(alloc, answer, text)?);
+    for (short, text) in &ANSWERS {
+        assert!(rt; is_told(rt.alloc(), answer(*short), text)?);
     }
     Ok(())
 }
@@ -115,7 +166,7 @@ const SKIPS: [Skip; 3] = [
 ];
 
 /// What is told of a receive that gave nothing and dropped these.
-fn text_of_skips(alloc: Global, skips: &[Skip]) -> Result<Octets, Fail> {
+fn text_of_skips(alloc: Global, skips: &[Skip]) -> Result<Octets, AllocError> {
     let skips = Vec::from_slice(alloc, skips)?;
     let entry = LineEntry {
         line: 7,
@@ -133,7 +184,7 @@ fn drops_are_told_behind_the_answer(rt: HostRuntime) -> Result<(), Fail> {
 }
 
 /// Pairs of these numbers.
-fn pairs(alloc: Global, numbers: &[u32]) -> Result<Seq<PairId>, Fail> {
+fn pairs(alloc: Global, numbers: &[u32]) -> Result<Seq<PairId>, AllocError> {
     let mut pairs = Vec::new(alloc);
     for number in numbers {
         pairs.push(PairId(*number))?;
@@ -142,11 +193,15 @@ fn pairs(alloc: Global, numbers: &[u32]) -> Result<Seq<PairId>, Fail> {
 }
 
 /// Whether copies to these pairs, with no room at those, are told so.
-fn copies_are_told(alloc: Global, put: &[u32], full: &[u32], text: &[u8]) -> Result<bool, Fail> {
+fn copies_are_told(
+    alloc: Global,
+    put: &[u32],
+    full: &[u32],
+    text: &[u8],
+) -> Result<bool, AllocError> {
     let put = pairs(alloc, put)?;
     let full = pairs(alloc, full)?;
-    let told = text_of(alloc, b"a", 4, Answer::Many(Report { put, full }))?;
-    Ok(told.as_slice() == text)
+    is_told(alloc, Answer::Many(Report { put, full }), text)
 }
 
 #[test]
@@ -202,7 +257,11 @@ fn row(a: bool, sent: u64, others: [u64; 6]) -> Option<SettledRow> {
 }
 
 /// What is told of these rows, without actors and objects.
-fn text_of_rows(alloc: Global, rows: &[Option<SettledRow>], done: bool) -> Result<Octets, Fail> {
+fn text_of_rows(
+    alloc: Global,
+    rows: &[Option<SettledRow>],
+    done: bool,
+) -> Result<Octets, AllocError> {
     let pipes = Seq::of_vec(Vec::from_slice(alloc, rows)?);
     let journal = RunJournal {
         actors: Seq::new(alloc),
@@ -211,7 +270,7 @@ fn text_of_rows(alloc: Global, rows: &[Option<SettledRow>], done: bool) -> Resul
         objects: Seq::new(alloc),
         done,
     };
-    Ok(print(alloc, &journal)?)
+    printed(alloc, journal)
 }
 
 #[test]

@@ -1,47 +1,28 @@
-use run_journal::{
-    ActorLines, LineAnswer, LineEntry, ObjectLine, ObjectRow, RunJournal, SettledRow, print,
-};
+use crate::journals::{printed, text_of_entry};
+use run_journal::{LineAnswer, LineEntry, ObjectLine, ObjectRow, RunJournal, SettledRow};
 use spec_control::{ObjKind, Reason};
 use spec_pattern::{Rule, Skip};
-use std::alloc::Global;
+use std::alloc::{AllocError, Global};
 use std::test::Fail;
 use zq_base::{EndId, Kind, ObjId, Octets, PairId, Seq};
 use zq_journal::{Answer, PipeRow};
 
-/// The actor `a`, of which a line was answered so.
-fn answered(alloc: Global, answer: LineAnswer, skips: &[Skip]) -> Result<ActorLines, Fail> {
+/// Whether an answer is told so.
+fn is_told(
+    alloc: Global,
+    answer: LineAnswer,
+    skips: &[Skip],
+    text: &[u8],
+) -> Result<bool, AllocError> {
     let skips = Seq::of_vec(Vec::from_slice(alloc, skips)?);
     let line = 12;
-    let mut entries = Vec::new(alloc);
-    entries.push(LineEntry {
+    let entry = LineEntry {
         line,
         answer,
         skips,
-    })?;
-    Ok(ActorLines {
-        name: Octets::of_slice(alloc, b"a")?,
-        entries: Seq::of_vec(entries),
-    })
-}
-
-/// The text of a run in which one actor was answered.
-fn text_of_actor(alloc: Global, actor: ActorLines) -> Result<Octets, Fail> {
-    let mut actors = Vec::new(alloc);
-    actors.push(actor)?;
-    let journal = RunJournal {
-        actors: Seq::of_vec(actors),
-        ended: Seq::new(alloc),
-        pipes: Seq::new(alloc),
-        objects: Seq::new(alloc),
-        done: true,
     };
-    Ok(print(alloc, &journal)?)
-}
-
-/// Whether an answer is told so.
-fn is_told(alloc: Global, answer: LineAnswer, skips: &[Skip], text: &[u8]) -> Result<bool, Fail> {
-    let actor = answered(alloc, answer, skips)?;
-    Ok(text_of_actor(alloc, actor)?.as_slice() == text)
+    let told = text_of_entry(alloc, b"a", entry)?;
+    Ok(told.as_slice() == text)
 }
 
 /// A message that was dropped.
@@ -50,31 +31,42 @@ const SKIP: Skip = Skip {
     pair: PairId(3),
 };
 
+/// Answers of sockets that end.
+#[derive(Clone, Copy, Debug)]
+enum Ending {
+    Done,
+    Both(u32, u32),
+    NotBound,
+    Term,
+}
+
+fn answer(ending: Ending) -> LineAnswer {
+    match ending {
+        Ending::Done => LineAnswer::Plain(Answer::Done),
+        Ending::Both(object, pair) => LineAnswer::Both(ObjId(object), PairId(pair)),
+        Ending::NotBound => LineAnswer::NotBound,
+        Ending::Term => LineAnswer::Term,
+    }
+}
+
+/// Answers, what was dropped, and what is told of them.
+const ANSWERS: [(Ending, &[Skip], &[u8]); 4] = [
+    (Ending::Done, &[SKIP], b"a 12 ok !stray@p3\ndone\n"),
+    (Ending::Both(20, 1), &[], b"a 12 ok o20 p1\ndone\n"),
+    (Ending::NotBound, &[], b"a 12 notbound\ndone\n"),
+    (Ending::Term, &[], b"a 12 term\ndone\n"),
+];
+
 #[test]
 fn answers_of_sockets_that_end_have_their_texts(rt: HostRuntime) -> Result<(), Fail> {
-    let alloc = rt.alloc();
-    let cases: [(LineAnswer, &[Skip], &[u8]); 4] = [
-        (
-            LineAnswer::Plain(Answer::Done),
-            &[SKIP],
-            b"a 12 ok !stray@p3\ndone\n",
-        ),
-        (
-            LineAnswer::Both(ObjId(20), PairId(1)),
-            &[],
-            b"a 12 ok o20 p1\ndone\n",
-        ),
-        (LineAnswer::NotBound, &[], b"a 12 notbound\ndone\n"),
-        (LineAnswer::Term, &[], b"a 12 term\ndone\n"),
-    ];
-    for (answer, skips, text) in cases {
-        assert!(rt; is_told(alloc, answer, skips, text)?);
+    for (ending, skips, text) in &ANSWERS {
+        assert!(rt; is_told(rt.alloc(), answer(*ending), skips, text)?);
     }
     Ok(())
 }
 
 /// The text of a run in which these objects ended.
-fn text_of_ended(alloc: Global, ended: &[ObjectLine]) -> Result<Octets, Fail> {
+fn text_of_ended(alloc: Global, ended: &[ObjectLine]) -> Result<Octets, AllocError> {
     let ended = Seq::of_vec(Vec::from_slice(alloc, ended)?);
     let journal = RunJournal {
         actors: Seq::new(alloc),
@@ -83,7 +75,7 @@ fn text_of_ended(alloc: Global, ended: &[ObjectLine]) -> Result<Octets, Fail> {
         objects: Seq::new(alloc),
         done: true,
     };
-    Ok(print(alloc, &journal)?)
+    printed(alloc, journal)
 }
 
 /// An object of each kind.
@@ -114,7 +106,7 @@ fn objects_are_told_in_the_order_of_their_ending(rt: HostRuntime) -> Result<(), 
 }
 
 /// The text of a run with these rows.
-fn text_of_rows(alloc: Global, rows: &[Option<SettledRow>]) -> Result<Octets, Fail> {
+fn text_of_rows(alloc: Global, rows: &[Option<SettledRow>]) -> Result<Octets, AllocError> {
     let pipes = Seq::of_vec(Vec::from_slice(alloc, rows)?);
     let journal = RunJournal {
         actors: Seq::new(alloc),
@@ -123,7 +115,7 @@ fn text_of_rows(alloc: Global, rows: &[Option<SettledRow>]) -> Result<Octets, Fa
         objects: Seq::new(alloc),
         done: true,
     };
-    Ok(print(alloc, &journal)?)
+    printed(alloc, journal)
 }
 
 /// The row of the pipe that end a of this pair writes, with two messages given and so many left.
@@ -158,12 +150,9 @@ fn settled_pipes_tell_why_messages_are_left(rt: HostRuntime) -> Result<(), Fail>
 }
 
 /// Whether the text of a rest ends so.
-fn is_left_so(alloc: Global, reason: Reason, end: &[u8]) -> Result<bool, Fail> {
-    Ok(
-        text_of_rows(alloc, &[row(1, 4, Some(reason))])?
-            .as_slice()
-            .ends_with(end),
-    )
+fn is_left_so(alloc: Global, reason: Reason, end: &[u8]) -> Result<bool, AllocError> {
+    let text = text_of_rows(alloc, &[row(1, 4, Some(reason))])?;
+    Ok(text.as_slice().ends_with(end))
 }
 
 #[test]
@@ -181,7 +170,7 @@ fn each_reason_has_its_name(rt: HostRuntime) -> Result<(), Fail> {
 }
 
 /// The text of an unfinished run with these objects.
-fn text_of_objects(alloc: Global, objects: &[ObjectRow]) -> Result<Octets, Fail> {
+fn text_of_objects(alloc: Global, objects: &[ObjectRow]) -> Result<Octets, AllocError> {
     let objects = Seq::of_vec(Vec::from_slice(alloc, objects)?);
     let journal = RunJournal {
         actors: Seq::new(alloc),
@@ -190,7 +179,7 @@ fn text_of_objects(alloc: Global, objects: &[ObjectRow]) -> Result<Octets, Fail>
         objects,
         done: false,
     };
-    Ok(print(alloc, &journal)?)
+    printed(alloc, journal)
 }
 
 /// The root, which lives, a PULL, which has ended, and a PUSH, which lives.

@@ -1,19 +1,10 @@
-use std::alloc::Global;
+use std::alloc::{AllocError, Global};
 use std::test::Fail;
 use zq_base::{Endpoint, Kind, Message, Options};
 use zq_script::{Call, Cause, Line, ReadScript, Script, ScriptFault, read_script};
 
-// The fault of a script, if it has one.
-fn fault(alloc: Global, octets: &[u8]) -> Result<Option<ScriptFault>, Fail> {
-    match read_script(alloc, octets) {
-        Ok(_) => Ok(None),
-        Err(ReadScript::Fault(fault)) => Ok(Some(fault)),
-        Err(ReadScript::OutOfMemory) => Err("memory")?,
-    }
-}
-
 // The text with so many more copies of another at its end.
-fn with_copies(alloc: Global, text: &[u8], more: &[u8], n: u32) -> Result<Vec<u8>, Fail> {
+fn with_copies(alloc: Global, text: &[u8], more: &[u8], n: u32) -> Result<Vec<u8>, AllocError> {
     let mut octets = Vec::from_slice(alloc, text)?;
     for _ in 0..n {
         octets.extend_from_slice(more)?;
@@ -22,8 +13,15 @@ fn with_copies(alloc: Global, text: &[u8], more: &[u8], n: u32) -> Result<Vec<u8
 }
 
 // Whether the first fault of the octets is this one, or none.
-fn has_fault(alloc: Global, octets: &[u8], wanted: Option<ScriptFault>) -> Result<bool, Fail> {
-    Ok(fault(alloc, octets)? == wanted)
+fn has_fault(alloc: Global, octets: &[u8], wanted: Option<ScriptFault>) -> bool {
+    match read_script(alloc, octets) {
+        Ok(script) => {
+            drop(script);
+            return wanted == None;
+        }
+        Err(ReadScript::Fault(fault)) => return wanted == Some(fault),
+        Err(ReadScript::OutOfMemory) => return false,
+    }
 }
 
 // Whether the text, so many copies of another and a last one have this fault, or none.
@@ -33,28 +31,42 @@ fn copies_have(
     copy: (&[u8], u32),
     last: &[u8],
     wanted: Option<ScriptFault>,
-) -> Result<bool, Fail> {
+) -> Result<bool, AllocError> {
     let mut octets = with_copies(alloc, text, copy.0, copy.1)?;
     octets.extend_from_slice(last)?;
-    has_fault(alloc, octets.as_slice(), wanted)
+    Ok(has_fault(alloc, octets.as_slice(), wanted))
 }
 
-fn script(alloc: Global, octets: &[u8]) -> Result<Script, Fail> {
+// What a script shows once it is read.
+trait Shows {
+    fn is_shown(script: &Script) -> bool;
+}
+
+// Whether the octets are a script that shows what it must.
+fn reads<T: Shows>(alloc: Global, octets: &[u8]) -> bool {
     match read_script(alloc, octets) {
-        Ok(script) => Ok(script),
-        Err(_) => Err("a script")?,
+        Ok(script) => {
+            let is_shown = T::is_shown(&script);
+            drop(script);
+            return is_shown;
+        }
+        Err(_) => return false,
     }
 }
 
-// Whether there are two actors, `a_1` with lines of the numbers 4 and 6, and `b` without lines.
-fn has_two_actors(script: &Script) -> bool {
-    match script.actors.as_slice() {
-        [first, second] => {
-            let names = first.name.as_slice() == b"a_1".as_slice()
-                && second.name.as_slice() == b"b".as_slice();
-            names && are_4_and_6(first.lines.as_slice()) && second.lines.len() == 0
+// Two actors, `a_1` with lines of the numbers 4 and 6, and `b` without lines.
+struct TwoActors;
+
+impl Shows for TwoActors {
+    fn is_shown(script: &Script) -> bool {
+        match script.actors.as_slice() {
+            [first, second] => {
+                let names = first.name.as_slice() == b"a_1".as_slice()
+                    && second.name.as_slice() == b"b".as_slice();
+                names && are_4_and_6(first.lines.as_slice()) && second.lines.len() == 0
+            }
+            _ => false,
         }
-        _ => false,
     }
 }
 
@@ -68,7 +80,7 @@ fn are_4_and_6(lines: &[Line]) -> bool {
 #[test]
 fn actors_have_their_lines(rt: HostRuntime) -> Result<(), Fail> {
     let text = b"# two actors\n\n  actor a_1  \nsocket r PULL\n\x20# \t\nrecv  r\nactor b";
-    assert!(rt; has_two_actors(&script(rt.alloc(), text)?));
+    assert!(rt; reads::<TwoActors>(rt.alloc(), text));
     Ok(())
 }
 
@@ -111,14 +123,19 @@ fn first_lines(script: &Script) -> &[Line] {
     }
 }
 
-// Whether there are seven lines, and each asks what it should.
-fn ask_all(lines: &[Line]) -> bool {
-    for line in lines {
-        if !asks(line) {
-            return false;
+// Seven lines, each of which asks what it should.
+struct SevenLines;
+
+impl Shows for SevenLines {
+    fn is_shown(script: &Script) -> bool {
+        let lines = first_lines(script);
+        for line in lines {
+            if !asks(line) {
+                return false;
+            }
         }
+        lines.len() == 7
     }
-    lines.len() == 7
 }
 
 #[test]
@@ -126,7 +143,7 @@ fn lines_ask_what_their_words_say(rt: HostRuntime) -> Result<(), Fail> {
     let text = b"actor a\nsocket r PULL rcvhwm=5 hwm=2 rcvhwm=10000\nsocket s PUSH\n\
         bind r inproc://q\nconnect s inproc://q\nsend s - 0x00fF 0xf x\n\
         recv r tries=100000\nrecv r";
-    assert!(rt; ask_all(first_lines(&script(rt.alloc(), text)?)));
+    assert!(rt; reads::<SevenLines>(rt.alloc(), text));
     Ok(())
 }
 
@@ -154,7 +171,7 @@ fn the_first_fault_is_told_with_its_line(rt: HostRuntime) -> Result<(), Fail> {
             line: *line,
             cause: *cause,
         });
-        assert!(rt; has_fault(rt.alloc(), text.as_bytes(), wanted)?);
+        assert!(rt; has_fault(rt.alloc(), text.as_bytes(), wanted));
     }
     Ok(())
 }
@@ -171,17 +188,18 @@ const FAULTLESS: [&str; 5] = [
 #[test]
 fn scripts_without_a_fault_are_read(rt: HostRuntime) -> Result<(), Fail> {
     for text in &FAULTLESS {
-        assert!(rt; has_fault(rt.alloc(), text.as_bytes(), None)?);
+        assert!(rt; has_fault(rt.alloc(), text.as_bytes(), None));
     }
     Ok(())
 }
 
 // Whether a line behind one that makes the socket `s` has this fault, before that of the next line.
-fn line_has(alloc: Global, line: &str, cause: Cause) -> Result<bool, Fail> {
+fn line_has(alloc: Global, line: &str, cause: Cause) -> Result<bool, AllocError> {
     let mut text = Vec::from_slice(alloc, b"actor a\nsocket s PUSH\n")?;
     text.extend_from_slice(line.as_bytes())?;
     text.extend_from_slice(b"\nactor a")?;
-    has_fault(alloc, text.as_slice(), Some(ScriptFault { line: 3, cause }))
+    let wanted = Some(ScriptFault { line: 3, cause });
+    Ok(has_fault(alloc, text.as_slice(), wanted))
 }
 
 /// Lines behind one that makes the socket `s`, and the cause of their leftmost fault.
@@ -245,20 +263,25 @@ fn asks_topics(line: &Line) -> bool {
     }
 }
 
-// Whether there are three such lines.
-fn ask_topics(lines: &[Line]) -> bool {
-    for line in lines {
-        if !asks_topics(line) {
-            return false;
+// Three such lines.
+struct ThreeLines;
+
+impl Shows for ThreeLines {
+    fn is_shown(script: &Script) -> bool {
+        let lines = first_lines(script);
+        for line in lines {
+            if !asks_topics(line) {
+                return false;
+            }
         }
+        lines.len() == 3
     }
-    lines.len() == 3
 }
 
 #[test]
 fn topics_and_options_are_read(rt: HostRuntime) -> Result<(), Fail> {
     let text = b"actor a\nsocket t XPUB id=0x0100 verbose mandatory\nsub t ab\nunsub t -";
-    assert!(rt; ask_topics(first_lines(&script(rt.alloc(), text)?)));
+    assert!(rt; reads::<ThreeLines>(rt.alloc(), text));
     Ok(())
 }
 
@@ -292,7 +315,7 @@ fn sockets_belong_to_their_actor(rt: HostRuntime) -> Result<(), Fail> {
     let text = b"actor a\nsocket s PUSH\nactor b\nsocket t PULL\nsocket s PULL\nrecv s\n\
         actor s\nrecv s";
     let cause = Cause::UnknownSocket;
-    assert!(rt; has_fault(rt.alloc(), text, Some(ScriptFault { line: 8, cause }))?);
+    assert!(rt; has_fault(rt.alloc(), text, Some(ScriptFault { line: 8, cause })));
     Ok(())
 }
 
@@ -320,7 +343,7 @@ fn scripts_have_limits(rt: HostRuntime) -> Result<(), Fail> {
 }
 
 // 64 actors.
-fn many_actors(alloc: Global) -> Result<Vec<u8>, Fail> {
+fn many_actors(alloc: Global) -> Result<Vec<u8>, AllocError> {
     let mut actors = Vec::new(alloc);
     for i in 0..64u8 {
         actors.extend_from_slice(b"actor a")?;
@@ -330,13 +353,14 @@ fn many_actors(alloc: Global) -> Result<Vec<u8>, Fail> {
 }
 
 // Whether 64 actors are read, and a 65th is one too many, whatever its name.
-fn has_64_actors(alloc: Global) -> Result<bool, Fail> {
+fn has_64_actors(alloc: Global) -> Result<bool, AllocError> {
     let mut actors = many_actors(alloc)?;
-    let most = has_fault(alloc, actors.as_slice(), None)?;
+    let most = has_fault(alloc, actors.as_slice(), None);
     actors.extend_from_slice(b"actor ?")?;
     let cause = Cause::TooManyActors;
     let wanted = Some(ScriptFault { line: 65, cause });
-    Ok(most && has_fault(alloc, actors.as_slice(), wanted)?)
+    let more = has_fault(alloc, actors.as_slice(), wanted);
+    Ok(most && more)
 }
 
 #[test]
@@ -360,7 +384,7 @@ fn an_identity_of_256_octets_is_refused(rt: HostRuntime) -> Result<(), Fail> {
 }
 
 // A socket of this number, and a send at it.
-fn push_socket(text: &mut Vec<u8>, number: u32) -> Result<(), Fail> {
+fn push_socket(text: &mut Vec<u8>, number: u32) -> Result<(), AllocError> {
     let digits = [
         b'a' + (number / 256 % 16) as u8,
         b'a' + (number / 16 % 16) as u8,
@@ -370,12 +394,11 @@ fn push_socket(text: &mut Vec<u8>, number: u32) -> Result<(), Fail> {
     text.extend_from_slice(&digits)?;
     text.extend_from_slice(b" PUSH\nsend ")?;
     text.extend_from_slice(&digits)?;
-    text.extend_from_slice(b" x\n")?;
-    Ok(())
+    text.extend_from_slice(b" x\n")
 }
 
 // An actor with 4,096 sockets.
-fn many_sockets(alloc: Global) -> Result<Vec<u8>, Fail> {
+fn many_sockets(alloc: Global) -> Result<Vec<u8>, AllocError> {
     let mut text = Vec::from_slice(alloc, b"actor a\n")?;
     for number in 0..4_096u32 {
         push_socket(&mut text, number)?;
@@ -383,18 +406,23 @@ fn many_sockets(alloc: Global) -> Result<Vec<u8>, Fail> {
     Ok(text)
 }
 
-// Whether there are 8,192 lines, of which the last sends at the last socket.
-fn are_all(lines: &[Line]) -> bool {
-    match lines.last() {
-        Some(last) => lines.len() == 8_192 && matches!(last.call, Call::Send(4_095, _)),
-        None => false,
+// 8,192 lines, of which the last sends at the last socket.
+struct ManyLines;
+
+impl Shows for ManyLines {
+    fn is_shown(script: &Script) -> bool {
+        let lines = first_lines(script);
+        match lines.last() {
+            Some(last) => lines.len() == 8_192 && matches!(last.call, Call::Send(4_095, _)),
+            None => false,
+        }
     }
 }
 
 // Whether an actor with so many sockets is read.
-fn reads_many_sockets(alloc: Global) -> Result<bool, Fail> {
+fn reads_many_sockets(alloc: Global) -> Result<bool, AllocError> {
     let text = many_sockets(alloc)?;
-    Ok(are_all(first_lines(&script(alloc, text.as_slice())?)))
+    Ok(reads::<ManyLines>(alloc, text.as_slice()))
 }
 
 #[test]

@@ -4,7 +4,7 @@ use Rattle.spec_control.specs.declared.end.EndState.{EndState}
 use Rattle.spec_control.specs.declared.end.EndState.TheVariants.{Active, WaitDelimiter, Gone}
 use Rattle.msg_pipe.specs.Known.{Known}
 use Rattle.spec_link.specs.History.{Basis, Standing, EndIs}
-use Rattle.zq_session.specs.LifeView.{IsReadable}
+use Rattle.session_life.specs.LifeView.{IsReadable}
 use Rattle.zq_session.specs.Sessions.{SessionState, HasLived, Happens, AreAt}
 
 not_active : (state : Option EndState) → Some Gone ≡ state → state ≡ Some Active → ⊥

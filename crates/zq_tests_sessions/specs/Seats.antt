@@ -2,7 +2,7 @@
 use Rattle.std.specs.Prelude.{◌≡◌, true, false, is_some}
 use Rattle.std.specs.Option.{ForSome}
 use Rattle.msg_pipe.specs.Known.{Known, IsThere}
-use Rattle.zq_session.specs.LifeView.{IsReadable, IsWritable}
+use Rattle.session_life.specs.LifeView.{IsReadable, IsWritable}
 use Rattle.zq_session.specs.Sessions.{SessionState}
 
 module _ {S O I N : Type 0} (K : Known S O I N) where

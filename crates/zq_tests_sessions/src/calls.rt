@@ -51,18 +51,34 @@ fn gone_turn<H: Host>(
     session.turn(alloc, &mut SharedPipes, host, &mut None, 0)
 }
 
+/// Whether such a session asks to end, once, behind a turn.
+fn asks_behind_a_turn<H: Host>(
+    alloc: Global,
+    session: &mut Session<SharedPipes>,
+    host: &mut H,
+) -> Result<bool, AllocError>
+    requires state { session.old.course.life.state ≡ Some Gone }
+    requires link { has_link session.old ≡ false }
+{
+    gone_turn(alloc, session, host)?;
+    Ok(asks_over(session))
+}
+
 /// Whether a connecting session whose end is gone asks to end, once.
 fn asks_once<H: Host>(alloc: Global, host: &mut H) -> Result<bool, AllocError> {
     let mut session = gone_session(alloc);
-    gone_turn(alloc, &mut session, host)?;
-    Ok(asks_over(&mut session))
+    let asks = asks_behind_a_turn(alloc, &mut session, host);
+    drop(session);
+    asks
 }
 
 /// The same over a host in memory.
 fn asks_here(alloc: Global) -> Result<bool, Fail> {
     let plan = cut_behind(alloc, 1000)?;
     let mut host = listening(alloc, plan, 8192)?;
-    Ok(asks_once(alloc, &mut host)?)
+    let asks = asks_once(alloc, &mut host);
+    drop(host);
+    Ok(asks?)
 }
 
 #[test]
@@ -84,7 +100,9 @@ fn has_left(session: &mut Session<SharedPipes>) -> bool {
 fn has_output(alloc: Global, linger: Option<u32>) -> Result<bool, Fail> {
     let opts = pair(alloc, Security::Null, false)?;
     let mut session = Session::accepted(alloc, ObjId(3), END, opts, linger)?;
-    Ok(has_left(&mut session))
+    let left = has_left(&mut session);
+    drop(session);
+    Ok(left)
 }
 
 #[test]

@@ -43,7 +43,9 @@ fn turns(alloc: Global, caller: &mut Caller, count: u32) -> Result<(), AllocErro
 fn hears(alloc: Global, caller: &mut Caller, octets: &[u8]) -> Result<(), Fail> {
     let mut peer = accepted(&mut caller.host)?;
     says(&mut peer, octets);
-    turns(alloc, caller, 3)?;
+    let turned = turns(alloc, caller, 3);
+    drop(peer);
+    turned?;
     Ok(())
 }
 
@@ -61,7 +63,9 @@ fn answers(alloc: Global, caller: &mut Caller, octets: &[u8]) -> Result<(bool, b
 fn comes(alloc: Global, security: Security, octets: &[u8]) -> Result<(bool, bool), Fail> {
     let plan = cut_behind(alloc, 1000)?;
     let mut caller = Caller::new(alloc, security, plan, 8192)?;
-    answers(alloc, &mut caller, octets)
+    let answers = answers(alloc, &mut caller, octets);
+    drop(caller);
+    answers
 }
 
 /// Whether the message comes exactly where all octets were said.

@@ -19,7 +19,9 @@ fn is_linked_at(alloc: Global, caller: &mut Caller, rows: &[(u64, bool)]) -> Res
 /// The same of a connecting session under this plan.
 fn dials(alloc: Global, plan: Plan, rows: &[(u64, bool)]) -> Result<bool, Fail> {
     let mut caller = Caller::new(alloc, Security::Null, plan, 8192)?;
-    is_linked_at(alloc, &mut caller, rows)
+    let linked = is_linked_at(alloc, &mut caller, rows);
+    drop(caller);
+    linked
 }
 
 #[test]

@@ -1,7 +1,7 @@
-ghost use Rattle.std.specs.Prelude.{◌≡◌, ◌<◌, true, false, IfOk};
+ghost use Rattle.std.specs.Prelude.{◌≡◌, ◌<◌, false, IfOk};
 ghost use Rattle.shared_pipe.specs.Halves.{writing_of};
 ghost use Rattle.spec_pattern.specs.Pipe.{IsCommittable};
-ghost use Rattle.zq_session.specs.Sessions.{has_link};
+ghost use Rattle.spec_zmtp.specs.OwnCommands.{IsEngineOpts};
 
 use crate::options::{Security, pair};
 use crate::seat::Seat;
@@ -9,7 +9,7 @@ use msg_pipe::{Pipes, PutIn, Taken};
 use shared_pipe::{SharedIn, SharedOut, SharedPipes, Waker};
 use std::alloc::{AllocError, Global};
 use std::test::Fail;
-use zq_base::{Address, EndId, Frame, Message, ObjId, PairId};
+use zq_base::{Address, EndId, EngineOpts, Frame, Message, ObjId, PairId};
 use zq_outer::{Dialled, Host, Listened, MemHost, MemLink, Plan};
 use zq_session::Session;
 
@@ -85,6 +85,12 @@ impl Feed {
     }
 }
 
+/// The reading half of a pipe that nobody writes.
+fn unfed(alloc: Global) -> Result<SharedIn, Fail> {
+    let ends = Ends::new(alloc)?;
+    Ok(ends.input)
+}
+
 /// A pipe's reading half, with one message waiting.
 fn waiting(alloc: Global) -> Result<SharedIn, Fail> {
     let message = one_frame(alloc, b"hello")?;
@@ -113,19 +119,28 @@ pub fn sender(alloc: Global, security: Security) -> Result<(Here, SharedIn), Fai
     Ok((seat, to.input))
 }
 
-/// An accepted session without halves.
-fn accepted_session(alloc: Global, security: Security) -> Result<Session<SharedPipes>, Fail>
-    ensures { IfOk result (λ s. has_link s ≡ true) }
+/// An accepted session of this link that writes this half; the half that it reads is of a pipe of
+/// its own.
+fn answering(alloc: Global, opts: EngineOpts, link: MemLink, to: Feed) -> Result<Here, Fail>
+    requires opts { IsEngineOpts opts }
 {
-    let opts = pair(alloc, security, false)?;
-    Ok(Session::accepted(alloc, ObjId(3), END, opts, None)?)
+    let input = unfed(alloc)?;
+    let session = Session::accepted(alloc, ObjId(3), END, opts, None)?;
+    Ok(Seat::new(SharedPipes, session, Some(link), input, to.out))
 }
 
-/// An accepted session of this link that writes this half.
-fn answering(alloc: Global, security: Security, link: MemLink, to: Feed) -> Result<Here, Fail> {
-    let session = accepted_session(alloc, security)?;
-    let none = Ends::new(alloc)?;
-    Ok(Seat::new(SharedPipes, session, Some(link), none.input, to.out))
+/// An accepted session with these options, and the half that reads what it puts.
+pub fn receiver_of(
+    alloc: Global,
+    host: &mut MemHost,
+    opts: EngineOpts,
+) -> Result<(Here, SharedIn), Fail>
+    requires opts { IsEngineOpts opts }
+{
+    let link = accepted(host)?;
+    let to = Ends::new(alloc)?;
+    let seat = answering(alloc, opts, link, Feed { out: to.out })?;
+    Ok((seat, to.input))
 }
 
 /// An accepted session, and the half that reads what it puts.
@@ -134,10 +149,8 @@ pub fn receiver(
     host: &mut MemHost,
     security: Security,
 ) -> Result<(Here, SharedIn), Fail> {
-    let link = accepted(host)?;
-    let to = Ends::new(alloc)?;
-    let seat = answering(alloc, security, link, Feed { out: to.out })?;
-    Ok((seat, to.input))
+    let opts = pair(alloc, security, false)?;
+    receiver_of(alloc, host, opts)
 }
 
 /// A connecting session with its host, and the half that reads what it puts.

@@ -146,7 +146,9 @@ fn all_come(alloc: Global, most: usize) -> Result<bool, Fail>
     requires { 0 < most }
 {
     let mut lane = Lane::new(alloc, most)?;
-    carries_all(alloc, &mut lane)
+    let carries = carries_all(alloc, &mut lane);
+    drop(lane);
+    carries
 }
 
 #[test]

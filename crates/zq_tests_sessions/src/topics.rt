@@ -1,35 +1,99 @@
-use crate::lane::{AT, END, Ends, Feed, Here, accepted, listening, takes};
+use crate::lane::{AT, Caller, END, Ends, Feed, Here, listening, receiver_of, takes};
 use crate::options::of_kind;
 use crate::plans::cut_behind;
 use crate::seat::Seat;
 use shared_pipe::{SharedIn, SharedPipes};
-use std::alloc::Global;
+use std::alloc::{AllocError, Global};
 use std::test::Fail;
 use zq_base::{Kind, ObjId};
-use zq_outer::MemHost;
+use zq_outer::Plan;
 use zq_session::Session;
 
-/// A connecting session of this kind whose pipe has one message of these octets; its interval is
-/// 10.
-fn connecting(alloc: Global, kind: Kind, octets: &[u8]) -> Result<Here, Fail> {
-    let opts = of_kind(alloc, kind);
+/// A pipe's reading half, with one message of these octets waiting.
+fn waiting(alloc: Global, octets: &[u8]) -> Result<SharedIn, Fail> {
     let from = Ends::new(alloc)?;
-    let to = Ends::new(alloc)?;
     let mut feed = Feed { out: from.out };
-    let _put = feed.put(alloc, octets)?;
-    let session = Session::connecting(alloc, ObjId(2), END, AT, opts, 10, None);
-    Ok(Seat::new(SharedPipes, session, None, from.input, to.out))
+    let put = feed.put(alloc, octets);
+    drop(feed);
+    match put {
+        Ok(_) => Ok(from.input),
+        Err(why) => {
+            drop(from.input);
+            Err(why)
+        }
+    }
 }
 
-/// An accepted session of this kind at the link that waits, and the half that reads what it puts.
-fn answering(alloc: Global, kind: Kind, host: &mut MemHost) -> Result<(Here, SharedIn), Fail> {
-    let link = accepted(host)?;
-    let opts = of_kind(alloc, kind);
-    let from = Ends::new(alloc)?;
+/// A connecting session of this kind that reads this half; its interval is 10.
+fn connecting(alloc: Global, kind: Kind, input: SharedIn) -> Result<(Here, SharedIn), Fail> {
     let to = Ends::new(alloc)?;
-    let session = Session::accepted(alloc, ObjId(3), END, opts, None)?;
-    let seat = Seat::new(SharedPipes, session, Some(link), from.input, to.out);
+    let opts = of_kind(alloc, kind);
+    let session = Session::connecting(alloc, ObjId(2), END, AT, opts, 10, None);
+    let seat = Seat::new(SharedPipes, session, None, input, to.out);
     Ok((seat, to.input))
+}
+
+/// One of this kind on a host of this plan, whose pipe has one message of these octets.
+fn caller(alloc: Global, kind: Kind, plan: Plan, octets: &[u8]) -> Result<Caller, Fail> {
+    let host = listening(alloc, plan, 8192)?;
+    let input = waiting(alloc, octets)?;
+    let (near, back) = connecting(alloc, kind, input)?;
+    Ok(Caller { host, near, back })
+}
+
+/// Turns of both sessions at this moment.
+fn turns_at(
+    alloc: Global,
+    caller: &mut Caller,
+    far: &mut Here,
+    now: u64,
+) -> Result<(), AllocError> {
+    for _ in 0..8u32 {
+        caller.near.turn_at(alloc, &mut caller.host, now)?;
+        far.turn_at(alloc, &mut caller.host, now)?;
+    }
+    Ok(())
+}
+
+/// Whether a message of these octets comes to this session.
+fn comes_to(
+    alloc: Global,
+    caller: &mut Caller,
+    far: &mut Here,
+    back: &mut SharedIn,
+    now: u64,
+    octets: &[u8],
+) -> Result<bool, AllocError> {
+    turns_at(alloc, caller, far, now)?;
+    Ok(takes(back, octets))
+}
+
+/// Whether it comes at a new link of this moment to a session of this kind.
+fn comes_at(
+    alloc: Global,
+    caller: &mut Caller,
+    kind: Kind,
+    now: u64,
+    octets: &[u8],
+) -> Result<bool, Fail> {
+    caller.near.turn_at(alloc, &mut caller.host, now)?;
+    let opts = of_kind(alloc, kind);
+    let (mut far, mut back) = receiver_of(alloc, &mut caller.host, opts)?;
+    let comes = comes_to(alloc, caller, &mut far, &mut back, now, octets);
+    drop((far, back));
+    Ok(comes?)
+}
+
+/// Whether it comes at a first link, and whether it comes again at the next.
+fn comes_anew(
+    alloc: Global,
+    caller: &mut Caller,
+    kind: Kind,
+    octets: &[u8],
+) -> Result<(bool, bool), Fail> {
+    let once = comes_at(alloc, caller, kind, 0, octets)?;
+    let again = comes_at(alloc, caller, kind, 10, octets)?;
+    Ok((once, again))
 }
 
 /// Whether a message of these octets comes at a first link, which is cut behind them, and whether
@@ -42,22 +106,10 @@ fn comes_twice(
     octets: &[u8],
 ) -> Result<(bool, bool), Fail> {
     let plan = cut_behind(alloc, cut)?;
-    let mut host = listening(alloc, plan, 8192)?;
-    let mut seat = connecting(alloc, near, octets)?;
-    seat.turn_at(alloc, &mut host, 0)?;
-    let (mut first, mut back) = answering(alloc, far, &mut host)?;
-    for _ in 0..8u32 {
-        seat.turn_at(alloc, &mut host, 0)?;
-        first.turn_at(alloc, &mut host, 0)?;
-    }
-    let once = takes(&mut back, octets);
-    seat.turn_at(alloc, &mut host, 10)?;
-    let (mut second, mut again) = answering(alloc, far, &mut host)?;
-    for _ in 0..8u32 {
-        seat.turn_at(alloc, &mut host, 10)?;
-        second.turn_at(alloc, &mut host, 10)?;
-    }
-    Ok((once, takes(&mut again, octets)))
+    let mut caller = caller(alloc, near, plan, octets)?;
+    let comes = comes_anew(alloc, &mut caller, far, octets);
+    drop(caller);
+    comes
 }
 
 // A greeting has 64 octets, the READY of a SUB 27, and the message 4.

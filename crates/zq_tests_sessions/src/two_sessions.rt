@@ -49,7 +49,9 @@ fn answered(
     caller.turn(alloc)?;
     caller.turn(alloc)?;
     let (mut far, mut from) = receiver(alloc, &mut caller.host, security)?;
-    what_comes(alloc, caller, &mut far, &mut from, turns)
+    let comes = what_comes(alloc, caller, &mut far, &mut from, turns);
+    drop((far, from));
+    comes
 }
 
 /// The same of a new session, over a link of so many octets a call.
@@ -63,7 +65,9 @@ fn exchange(
     requires { 0 < most }
 {
     let mut caller = Caller::new(alloc, security, plan, most)?;
-    answered(alloc, security, &mut caller, turns)
+    let outcome = answered(alloc, security, &mut caller, turns);
+    drop(caller);
+    outcome
 }
 
 /// Whether the message comes where the link is cut behind so many octets.

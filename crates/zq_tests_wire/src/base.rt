@@ -1,3 +1,4 @@
+use crate::checks::check;
 use bytes::Bytes;
 use std::alloc::{AllocError, Global};
 use std::test::Fail;
@@ -83,6 +84,11 @@ fn has(message: &Message, bodies: &[&[u8]]) -> bool {
     message.len() == bodies.len()
 }
 
+// Whether a message's copy has these frames.
+fn copy_has(alloc: Global, message: &Message, bodies: &[&[u8]]) -> Result<bool, Fail> {
+    Ok(has(&message.copy(alloc)?, bodies))
+}
+
 // Whether two frames are left behind the first, a.
 fn leaves_two(mut message: Message) -> bool {
     if message.len() != 3 {
@@ -95,9 +101,9 @@ fn leaves_two(mut message: Message) -> bool {
 #[test]
 fn messages_keep_their_frames_in_order(rt: HostRuntime) -> Result<(), Fail> {
     let message = with_front(rt.alloc())?;
-    assert!(rt; has(&message.copy(rt.alloc())?, &[b"a", b"b", b"c"]));
-    assert!(rt; leaves_two(message));
-    Ok(())
+    let copied = copy_has(rt.alloc(), &message, &[b"a", b"b", b"c"]);
+    let left = leaves_two(message);
+    check(copied? && left)
 }
 
 // Whether so many frames are a message.

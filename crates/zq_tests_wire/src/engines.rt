@@ -2,6 +2,7 @@ ghost use Rattle.std.specs.Prelude.{◌≡◌, IfOk};
 ghost use Rattle.spec_zmtp.specs.Metadata.{IsLogin};
 ghost use Rattle.spec_zmtp.specs.OwnCommands.{IsEngineOpts};
 
+use crate::checks::check;
 use spec_zmtp::{Cause, Refusal};
 use std::alloc::{AllocError, Global};
 use std::test::Fail;
@@ -68,14 +69,20 @@ fn hears(alloc: Global, engine: &mut Engine, piece: &[u8]) -> bool {
     engine.feed(alloc, piece) == Ok(piece.len())
 }
 
+// What an engine lends now goes behind the octets, and is written.
+fn write(engine: &mut Engine, octets: &mut Vec<u8>) -> Result<(), AllocError> {
+    let lent = engine.out();
+    let count = lent.len();
+    octets.extend_from_slice(lent)?;
+    engine.wrote(count);
+    Ok(())
+}
+
 // All that an engine lends, as it is written.
 fn said(alloc: Global, engine: &mut Engine) -> Result<Vec<u8>, AllocError> {
     let mut octets = Vec::new(alloc);
     for _ in 0..8 {
-        let lent = engine.out();
-        let count = lent.len();
-        octets.extend_from_slice(lent)?;
-        engine.wrote(count);
+        write(engine, &mut octets)?;
     }
     Ok(octets)
 }
@@ -158,14 +165,19 @@ const TALKS: [(Role, u8, &[(&[u8], &[u8])]); 4] = [
     ),
 ];
 
+// Whether an engine says these octets.
+fn says(alloc: Global, engine: &mut Engine, answer: &[u8]) -> Result<bool, AllocError> {
+    let octets = said(alloc, engine)?;
+    Ok(octets.as_slice() == answer)
+}
+
 // Whether an engine says what it must to each piece.
 fn talks(alloc: Global, engine: &mut Engine, turns: &[(&[u8], &[u8])]) -> Result<bool, AllocError> {
     for (heard, answer) in turns {
         if !hears(alloc, engine, heard) {
             return Ok(false);
         }
-        let octets = said(alloc, engine)?;
-        if octets.as_slice() != *answer {
+        if !says(alloc, engine, answer)? {
             return Ok(false);
         }
     }
@@ -184,36 +196,76 @@ fn ends_well(engine: &Engine, pass: u8) -> bool {
     refusal_of(engine) == Some(refusal)
 }
 
+// Whether an engine that is shaking hands talks so, and ends as it must.
+fn shakes_hands(
+    alloc: Global,
+    engine: &mut Engine,
+    pass: u8,
+    turns: &[(&[u8], &[u8])],
+) -> Result<bool, AllocError> {
+    let begins = is_shaking(engine);
+    Ok(begins && talks(alloc, engine, turns)? && ends_well(engine, pass))
+}
+
 // Whether a PULL of this role talks so, and ends as it must.
 fn shakes(alloc: Global, role: Role, pass: u8, turns: &[(&[u8], &[u8])]) -> Result<bool, Fail> {
     let mut engine = new_engine(alloc, Kind::Pull, role, pass)?;
-    let begins = is_shaking(&engine);
-    Ok(begins && talks(alloc, &mut engine, turns)? && ends_well(&engine, pass))
+    let shakes = shakes_hands(alloc, &mut engine, pass, turns);
+    drop(engine);
+    Ok(shakes?)
+}
+
+// Whether each role does.
+fn all_shake(alloc: Global) -> Result<bool, Fail> {
+    for (role, pass, turns) in &TALKS {
+        if !shakes(alloc, *role, *pass, turns)? {
+            return Ok(false);
+        }
+    }
+    Ok(true)
 }
 
 #[test]
 fn each_role_says_what_the_standard_has_it_say(rt: HostRuntime) -> Result<(), Fail> {
-    for (role, pass, turns) in &TALKS {
-        assert!(rt; shakes(rt.alloc(), *role, *pass, turns)?);
-    }
-    Ok(())
+    check(all_shake(rt.alloc())?)
+}
+
+// Whether no message is there.
+fn gives_nothing(engine: &mut Engine) -> bool {
+    engine.next_message().is_none()
 }
 
 // Whether a message comes with the second of two pieces.
+fn comes_with_the_second(alloc: Global, engine: &mut Engine, front: &[u8], back: &[u8]) -> bool {
+    let early = hears(alloc, engine, front) && gives_nothing(engine);
+    early && hears(alloc, engine, back) && gives(engine, &[b"hello"])
+}
+
+// The same of a PULL.
 fn hears_hello(alloc: Global, front: &[u8], back: &[u8]) -> Result<bool, Fail> {
     let mut engine = new_engine(alloc, Kind::Pull, Role::Null, b'x')?;
-    let early = hears(alloc, &mut engine, front) && engine.next_message().is_none();
-    Ok(early && hears(alloc, &mut engine, back) && gives(&mut engine, &[b"hello"]))
+    let heard = comes_with_the_second(alloc, &mut engine, front, back);
+    drop(engine);
+    Ok(heard)
+}
+
+// Whether these octets are heard wherever they are cut.
+fn hears_however_cut(alloc: Global, octets: &[u8]) -> Result<bool, Fail> {
+    for cut in 0..octets.len() {
+        let (front, back) = octets.split_at(cut);
+        if !hears_hello(alloc, front, back)? {
+            return Ok(false);
+        }
+    }
+    Ok(true)
 }
 
 #[test]
 fn a_message_is_heard_in_any_two_pieces(rt: HostRuntime) -> Result<(), Fail> {
     let octets = [NULL, READY_PUSH, b"\0\x05hello"].concat(rt.alloc())?;
-    for cut in 0..octets.len() {
-        let (front, back) = octets.split_at(cut);
-        assert!(rt; hears_hello(rt.alloc(), front, back)?);
-    }
-    Ok(())
+    let heard = hears_however_cut(rt.alloc(), &octets);
+    drop(octets);
+    check(heard?)
 }
 
 /// The head of a frame, and the size of its body.
@@ -248,21 +300,42 @@ fn hears_in_pieces(alloc: Global, engine: &mut Engine, body: &[u8]) -> bool {
     rest.is_empty()
 }
 
+// Whether an engine hears its peer's greeting and READY, and a body behind this head in pieces.
+fn engine_hears_body(alloc: Global, engine: &mut Engine, head: &[u8], body: &[u8]) -> bool {
+    let begins = hears(alloc, engine, NULL) && hears(alloc, engine, READY_PUSH);
+    let heard = hears(alloc, engine, head) && hears_in_pieces(alloc, engine, body);
+    begins && heard && gives(engine, &[body])
+}
+
+// The same of a PULL.
+fn pull_hears_body(alloc: Global, head: &[u8], body: &[u8]) -> Result<bool, Fail> {
+    let mut engine = new_engine(alloc, Kind::Pull, Role::Null, b'x')?;
+    let heard = engine_hears_body(alloc, &mut engine, head, body);
+    drop(engine);
+    Ok(heard)
+}
+
 // Whether a body behind this head is heard, in pieces.
 fn hears_body(alloc: Global, head: &[u8], count: usize) -> Result<bool, Fail> {
     let body = vec![in alloc; b'a'; count]?;
-    let mut engine = new_engine(alloc, Kind::Pull, Role::Null, b'x')?;
-    let begins = hears(alloc, &mut engine, NULL) && hears(alloc, &mut engine, READY_PUSH);
-    let heard = hears(alloc, &mut engine, head) && hears_in_pieces(alloc, &mut engine, &body);
-    Ok(begins && heard && gives(&mut engine, &[body.as_slice()]))
+    let heard = pull_hears_body(alloc, head, &body);
+    drop(body);
+    heard
+}
+
+// Whether each of the bodies is heard.
+fn hears_bodies(alloc: Global) -> Result<bool, Fail> {
+    for (head, count) in &BODIES {
+        if !hears_body(alloc, head, *count)? {
+            return Ok(false);
+        }
+    }
+    Ok(true)
 }
 
 #[test]
 fn bodies_up_to_the_limit_are_heard_in_pieces(rt: HostRuntime) -> Result<(), Fail> {
-    for (head, count) in &BODIES {
-        assert!(rt; hears_body(rt.alloc(), head, *count)?);
-    }
-    Ok(())
+    check(hears_bodies(rt.alloc())?)
 }
 
 // The message of an empty frame and 'hello'.
@@ -296,32 +369,57 @@ fn takes_one(alloc: Global, push: &mut Engine) -> Result<bool, Fail> {
 // Whether a PULL hears the message of two frames.
 fn pull_hears(alloc: Global, octets: &[u8]) -> Result<bool, Fail> {
     let mut pull = new_engine(alloc, Kind::Pull, Role::Null, b'x')?;
-    Ok(hears(alloc, &mut pull, octets) && gives(&mut pull, &[b"", b"hello"]))
+    let heard = hears(alloc, &mut pull, octets) && gives(&mut pull, &[b"", b"hello"]);
+    drop(pull);
+    Ok(heard)
+}
+
+// Whether octets end with the message of two frames, and a PULL hears it.
+fn is_heard(alloc: Global, octets: &[u8]) -> Result<bool, Fail> {
+    Ok(octets.ends_with(b"PUSH\x01\0\0\x05hello") && pull_hears(alloc, octets)?)
 }
 
 // Whether a PULL hears what a PUSH says.
 fn passes_on(alloc: Global, push: &mut Engine) -> Result<bool, Fail> {
     let octets = said(alloc, push)?;
-    let ends = octets.as_slice().ends_with(b"PUSH\x01\0\0\x05hello");
-    Ok(ends && pull_hears(alloc, &octets)?)
+    let heard = is_heard(alloc, &octets);
+    drop(octets);
+    heard
+}
+
+// Whether a PULL hears the one message that a PUSH takes, which then takes another.
+fn is_passed_on(alloc: Global, push: &mut Engine) -> Result<bool, Fail> {
+    let one = takes_one(alloc, push)?;
+    Ok(passes_on(alloc, push)? && takes_two(alloc, push)? && one)
 }
 
 #[test]
 fn what_one_engine_writes_another_hears(rt: HostRuntime) -> Result<(), Fail> {
     let mut push = new_engine(rt.alloc(), Kind::Push, Role::Null, b'x')?;
-    assert!(rt; takes_one(rt.alloc(), &mut push)?);
-    assert!(rt; passes_on(rt.alloc(), &mut push)? && takes_two(rt.alloc(), &mut push)?);
+    let passed = is_passed_on(rt.alloc(), &mut push);
+    drop(push);
+    check(passed?)
+}
+
+// An engine's handshake with a PAIR, which is written.
+fn shake(alloc: Global, engine: &mut Engine) -> Result<(), Fail> {
+    if !hears(alloc, engine, NULL) || !hears(alloc, engine, READY_PAIR) {
+        return Err("a handshake".into());
+    }
+    drop(said(alloc, engine)?);
     Ok(())
 }
 
 // A PAIR whose handshake is done, and is written.
 fn running_pair(alloc: Global) -> Result<Engine, Fail> {
     let mut engine = new_engine(alloc, Kind::Pair, Role::Null, b'x')?;
-    if !hears(alloc, &mut engine, NULL) || !hears(alloc, &mut engine, READY_PAIR) {
-        return Err("a handshake".into());
+    match shake(alloc, &mut engine) {
+        Ok(()) => Ok(engine),
+        Err(fail) => {
+            drop(engine);
+            Err(fail)
+        }
     }
-    said(alloc, &mut engine)?;
-    Ok(engine)
 }
 
 // Whether an engine lends these octets, of which so many are written.
@@ -344,8 +442,9 @@ fn goes_out_at_once(alloc: Global, engine: &mut Engine) -> Result<bool, Fail> {
 #[test]
 fn a_small_message_goes_out_in_one_run(rt: HostRuntime) -> Result<(), Fail> {
     let mut engine = running_pair(rt.alloc())?;
-    assert!(rt; goes_out_at_once(rt.alloc(), &mut engine)?);
-    Ok(())
+    let goes = goes_out_at_once(rt.alloc(), &mut engine);
+    drop(engine);
+    check(goes?)
 }
 
 /// The sizes of a body, and of the runs in which its message goes out.
@@ -376,16 +475,30 @@ fn goes_out_in(engine: &mut Engine, runs: &[usize]) -> bool {
     engine.out().is_empty()
 }
 
+// Whether an engine lends a message of a frame of so many octets in these runs.
+fn lends_in(alloc: Global, engine: &mut Engine, size: usize, runs: &[usize]) -> Result<bool, Fail> {
+    Ok(takes(engine, of_size(alloc, size)?) && goes_out_in(engine, runs))
+}
+
 // Whether a message of a frame of so many octets goes out in these runs.
 fn is_lent_in(alloc: Global, size: usize, runs: &[usize]) -> Result<bool, Fail> {
     let mut engine = running_pair(alloc)?;
-    Ok(takes(&mut engine, of_size(alloc, size)?) && goes_out_in(&mut engine, runs))
+    let lent = lends_in(alloc, &mut engine, size, runs);
+    drop(engine);
+    lent
+}
+
+// Whether it does of all these sizes.
+fn are_lent_so(alloc: Global) -> Result<bool, Fail> {
+    for (size, runs) in &RUNS {
+        if !is_lent_in(alloc, *size, runs)? {
+            return Ok(false);
+        }
+    }
+    Ok(true)
 }
 
 #[test]
 fn a_body_that_no_run_holds_is_lent_alone(rt: HostRuntime) -> Result<(), Fail> {
-    for (size, runs) in &RUNS {
-        assert!(rt; is_lent_in(rt.alloc(), *size, runs)?);
-    }
-    Ok(())
+    check(are_lent_so(rt.alloc())?)
 }

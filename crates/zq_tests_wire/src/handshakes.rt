@@ -1,6 +1,7 @@
 ghost use Rattle.std.specs.Prelude.{◌≡◌, IfOk};
 ghost use Rattle.spec_zmtp.specs.OwnCommands.{IsEngineOpts};
 
+use crate::checks::check;
 use spec_zmtp::{Awaited, Cause, Command, Stage};
 use std::alloc::Global;
 use std::test::Fail;
@@ -14,7 +15,9 @@ fn null(alloc: Global, kind: Kind) -> Result<Mech, Fail> {
         role: Role::Null,
         logins: Logins::new(alloc),
     };
-    Ok(Mech::null(alloc, &opts)?)
+    let made = Mech::null(alloc, &opts);
+    drop(opts);
+    Ok(made?)
 }
 
 fn first(alloc: Global, mech: &mut Mech) -> Result<Option<Command>, Fail> {
@@ -34,12 +37,22 @@ fn hears_ready(alloc: Global, mech: &mut Mech) -> Result<bool, Fail> {
     Ok(running && matches!(mech.hear_message_frame(), Answer::Wait))
 }
 
+// Whether a side begins with a command.
+fn begins(alloc: Global, mech: &mut Mech) -> Result<bool, Fail> {
+    Ok(first(alloc, mech)?.is_some())
+}
+
+// Whether a side begins with a READY, and hears one.
+fn says_and_hears_ready(alloc: Global, mech: &mut Mech) -> Result<bool, Fail> {
+    Ok(begins(alloc, mech)? && hears_ready(alloc, mech)?)
+}
+
 #[test]
 fn a_null_side_says_ready_and_hears_it(rt: HostRuntime) -> Result<(), Fail> {
     let mut mech = null(rt.alloc(), Kind::Dealer)?;
-    assert!(rt; first(rt.alloc(), &mut mech)?.is_some());
-    assert!(rt; hears_ready(rt.alloc(), &mut mech)?);
-    Ok(())
+    let ready = says_and_hears_ready(rt.alloc(), &mut mech);
+    drop(mech);
+    check(ready?)
 }
 
 // Whether a frame of a message that comes before the READY is refused for good.
@@ -57,13 +70,25 @@ fn refuses_nobody(alloc: Global, mech: &mut Mech) -> Result<bool, Fail> {
     Ok(mech.stage() == Stage::Refused(Cause::NoKind))
 }
 
+// Whether a DEALER has the order.
+fn has_its_order(alloc: Global) -> Result<bool, Fail> {
+    let mut mech = null(alloc, Kind::Dealer)?;
+    let refuses = refuses_a_message(&mut mech);
+    drop(mech);
+    Ok(refuses)
+}
+
+// Whether a REP wants a kind.
+fn has_its_kind(alloc: Global) -> Result<bool, Fail> {
+    let mut mech = null(alloc, Kind::Rep)?;
+    let refuses = refuses_nobody(alloc, &mut mech);
+    drop(mech);
+    refuses
+}
+
 #[test]
 fn a_handshake_has_its_order_and_its_kind(rt: HostRuntime) -> Result<(), Fail> {
-    let mut mech = null(rt.alloc(), Kind::Dealer)?;
-    assert!(rt; refuses_a_message(&mut mech));
-    let mut mech = null(rt.alloc(), Kind::Rep)?;
-    assert!(rt; refuses_nobody(rt.alloc(), &mut mech)?);
-    Ok(())
+    check(has_its_order(rt.alloc())? && has_its_kind(rt.alloc())?)
 }
 
 fn plain(alloc: Global, kind: Kind, role: Role) -> Result<EngineOpts, Fail>
@@ -85,17 +110,25 @@ fn plain(alloc: Global, kind: Kind, role: Role) -> Result<EngineOpts, Fail>
 // Whether a client says HELLO, and awaits a WELCOME.
 fn client_awaits(alloc: Global) -> Result<bool, Fail> {
     let opts = plain(alloc, Kind::Pull, Role::PlainClient)?;
-    let mut client = Mech::plain_client(alloc, &opts)?;
-    let says = first(alloc, &mut client)?.is_some();
-    Ok(says && client.stage() == Stage::Waiting(Awaited::Welcome))
+    let made = Mech::plain_client(alloc, &opts);
+    drop(opts);
+    let mut client = made?;
+    let says = begins(alloc, &mut client);
+    let awaits = client.stage() == Stage::Waiting(Awaited::Welcome);
+    drop(client);
+    Ok(says? && awaits)
 }
 
 // Whether a server says nothing, and awaits a HELLO.
 fn server_awaits(alloc: Global) -> Result<bool, Fail> {
     let opts = plain(alloc, Kind::Push, Role::PlainServer)?;
-    let mut server = Mech::plain_server(alloc, &opts)?;
-    let says = first(alloc, &mut server)?.is_some();
-    Ok(!says && server.stage() == Stage::Waiting(Awaited::Hello))
+    let made = Mech::plain_server(alloc, &opts);
+    drop(opts);
+    let mut server = made?;
+    let says = begins(alloc, &mut server);
+    let awaits = server.stage() == Stage::Waiting(Awaited::Hello);
+    drop(server);
+    Ok(!says? && awaits)
 }
 
 #[test]

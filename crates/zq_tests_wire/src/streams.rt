@@ -1,3 +1,4 @@
+use crate::checks::check;
 use std::alloc::Global;
 use std::collections::VecDeque;
 use std::test::Fail;
@@ -55,21 +56,26 @@ fn a_refusal_takes_the_octets_up_to_the_one_that_breaks_a_rule(
         (b"\0\x01a\x08bc", 4),
         (b"bc", 0),
     ];
-    assert!(rt; takes(rt.alloc(), &mut engine, &pieces));
-    Ok(())
+    let takes = takes(rt.alloc(), &mut engine, &pieces);
+    drop(engine);
+    check(takes)
 }
 
-#[test]
-fn all_whole_messages_are_taken_out_at_once(rt: HostRuntime) -> Result<(), Fail> {
-    let mut engine = new_pull(rt.alloc())?;
+// Whether all whole messages are taken out, and the one whose last octet comes behind.
+fn are_taken_out(alloc: Global, engine: &mut Engine) -> bool {
     let pieces: [(&[u8], usize); 3] = [
         (NULL, 64),
         (READY_PUSH, 28),
         (b"\0\x01a\x01\x01b\0\x01c\0\x02d", 12),
     ];
-    assert!(rt; takes(rt.alloc(), &mut engine, &pieces));
-    assert!(rt; taken_out(rt.alloc(), &mut engine) == 2);
-    assert!(rt; takes(rt.alloc(), &mut engine, &[(b"e", 1)]));
-    assert!(rt; taken_out(rt.alloc(), &mut engine) == 1);
-    Ok(())
+    let first = takes(alloc, engine, &pieces) && taken_out(alloc, engine) == 2;
+    first && takes(alloc, engine, &[(b"e", 1)]) && taken_out(alloc, engine) == 1
+}
+
+#[test]
+fn all_whole_messages_are_taken_out_at_once(rt: HostRuntime) -> Result<(), Fail> {
+    let mut engine = new_pull(rt.alloc())?;
+    let taken = are_taken_out(rt.alloc(), &mut engine);
+    drop(engine);
+    check(taken)
 }

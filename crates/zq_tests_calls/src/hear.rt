@@ -1,9 +1,9 @@
 ghost use Rattle.std.specs.Prelude.{◌≤◌, length};
 
-use crate::calls::{answers, call, fails_to_read};
+use crate::calls::{Failing, answers, fails_to_read, gives};
 use std::alloc::{AllocError, Global};
 use std::test::Fail;
-use zq_top::Status;
+use zq_call::Status;
 
 /// A greeting without security, and with a READY of a PUSH behind it (RFC 23).
 const NULL: &[u8] =
@@ -400,11 +400,13 @@ fn cut_text(alloc: Global, cut: usize) -> Result<String, AllocError> {
 }
 
 /// Whether so many of the octets are told to mean what they do.
-fn is_cut_well(alloc: Global, octets: &[u8], cut: usize) -> Result<bool, Fail>
+fn is_cut_well(alloc: Global, octets: &[u8], cut: usize) -> Result<bool, AllocError>
     requires { cut ≤ length octets.now }
 {
     let text = cut_text(alloc, cut)?;
-    answers(alloc, HEAR, &octets[..cut], Status::Done, text.as_bytes())
+    let is = answers(alloc, HEAR, &octets[..cut], Status::Done, text.as_bytes());
+    drop(text);
+    is
 }
 
 #[test]
@@ -417,10 +419,24 @@ fn a_stream_is_heard_at_each_cut(rt: HostRuntime) -> Result<(), Fail> {
 }
 
 /// Whether all octets mean the same where the first read gives so many.
-fn is_joined_well(alloc: Global, cut: usize) -> Result<bool, Fail> {
+fn is_joined_well(alloc: Global, cut: usize) -> Result<bool, AllocError> {
     let text = cut_text(alloc, NULL_PUSH_HELLO.len())?;
-    let called = call(alloc, HEAR, NULL_PUSH_HELLO, &[], &[], &[cut, 4096])?;
-    Ok(called.status == Status::Done && called.text.as_slice() == text.as_bytes())
+    let sizes = [cut, 4096];
+    let joined = Failing {
+        reads: &[],
+        writes: &[],
+        sizes: &sizes,
+    };
+    let is = gives(
+        alloc,
+        HEAR,
+        NULL_PUSH_HELLO,
+        &joined,
+        Status::Done,
+        text.as_bytes(),
+    );
+    drop(text);
+    is
 }
 
 #[test]

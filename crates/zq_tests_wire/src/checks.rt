@@ -1,0 +1,9 @@
+use std::test::Fail;
+
+/// Fails a test of which this doesn't hold.
+pub fn check(holds: bool) -> Result<(), Fail> {
+    if holds {
+        return Ok(());
+    }
+    Err(Fail::new("it doesn't hold"))
+}
