@@ -4,10 +4,11 @@ ghost use Rattle.ends.specs.declared.row.EndRow.{EndRow};
 ghost use Rattle.ends.specs.Rows.{table, row_at, IsRow, can_write_of};
 ghost use Rattle.ends.specs.Held.{IsHeld, IsReady};
 
-use crate::messages::{check, message};
-use crate::push_pull_tests::{Told, told_got, told_sent};
+use crate::messages::{check, letters};
+use crate::steps::{Told, is_not_got, told_of};
 use ends::{EndRow, Ends, attach};
 use msg_pipe::{Front, Pipes, PlainIn, PlainOut, PlainPipes};
+use pub_sub::passed_on;
 use push_pull::{Pull, Push};
 use spec_pattern::{RecvFault, RecvRefusal, SendFault, SendRefusal, Sent};
 use std::alloc::Global;
@@ -84,6 +85,20 @@ fn push_of_one(alloc: Global) -> Result<Push, Fail>
     Ok(push)
 }
 
+// What a PUSH is told that sends a message over the ends of a socket.
+fn push_tells<P: Pipes>(
+    alloc: Global,
+    pipes: &mut P,
+    rows: &mut Vec<Option<Box<EndRow<P::Out, P::In>>>>,
+    push: &mut Push,
+) -> Result<Told, Fail>
+    requires { IsReady P.known (table pipes.old rows.old.items) push.old }
+    ensures { IsReady P.known (table pipes.new rows.new.items) push.new }
+{
+    let message = letters(alloc, b"a")?;
+    Ok(told_of(passed_on(push_over(pipes, rows, push, message))))
+}
+
 // Whether a PUSH sends one message over the ends of a socket, and a second is refused.
 fn sends_one<P: Pipes>(
     alloc: Global,
@@ -93,17 +108,27 @@ fn sends_one<P: Pipes>(
 ) -> Result<bool, Fail>
     requires { IsReady P.known (table pipes.old rows.old.items) push.old }
 {
-    let first = told_sent(push_over(pipes, rows, push, message(alloc, b"a")?));
-    let second = told_sent(push_over(pipes, rows, push, message(alloc, b"b")?));
-    Ok(first == Told::Sent(7) && second == Told::NotSent(SendRefusal::Again))
+    let first = push_tells(alloc, pipes, rows, push)? == Told::Sent(7);
+    let second = push_tells(alloc, pipes, rows, push)?;
+    Ok(second == Told::NotSent(SendRefusal::Again, 1) && first)
+}
+
+// The same of a PUSH with the end at place 0.
+fn push_sends(alloc: Global, socket: &mut Socket) -> Result<bool, Fail>
+    requires held { IsHeld ⟦<PlainPipes as Pipes>⟧.known (table socket.old.pipes socket.old.rows.items) }
+    requires there { IsRow socket.old.rows.items 0 }
+{
+    let mut push = push_of_one(alloc)?;
+    let sends = sends_one(alloc, &mut socket.pipes, &mut socket.rows, &mut push);
+    drop(push);
+    sends
 }
 
 #[test]
 fn a_push_sends_over_its_end(rt: HostRuntime) -> Result<(), Fail> {
-    let mut push = push_of_one(rt.alloc())?;
     let mut socket = with_one_end(rt.alloc(), true)?;
-    let sends = sends_one(rt.alloc(), &mut socket.pipes, &mut socket.rows, &mut push);
-    drop((socket, push));
+    let sends = push_sends(rt.alloc(), &mut socket);
+    drop(socket);
     check(sends?)
 }
 
@@ -116,13 +141,23 @@ fn pull_of_one(alloc: Global) -> Result<Pull, Fail>
     Ok(pull)
 }
 
+// Whether a PULL with the end at place 0 finds nothing there.
+fn pull_gets_none(alloc: Global, socket: &mut Socket) -> Result<bool, Fail>
+    requires held { IsHeld ⟦<PlainPipes as Pipes>⟧.known (table socket.old.pipes socket.old.rows.items) }
+    requires there { IsRow socket.old.rows.items 0 }
+{
+    let mut pull = pull_of_one(alloc)?;
+    let got = pull_over(&mut socket.pipes, &mut socket.rows, &mut pull);
+    drop(pull);
+    Ok(is_not_got(got, RecvRefusal::Again))
+}
+
 #[test]
 fn a_pull_finds_its_end_empty(rt: HostRuntime) -> Result<(), Fail> {
-    let mut pull = pull_of_one(rt.alloc())?;
     let mut socket = with_one_end(rt.alloc(), true)?;
-    let told = told_got(pull_over(&mut socket.pipes, &mut socket.rows, &mut pull));
-    drop((socket, pull));
-    check(told == Told::NotGot(RecvRefusal::Again))
+    let finds_none = pull_gets_none(rt.alloc(), &mut socket);
+    drop(socket);
+    check(finds_none?)
 }
 
 #[test]

@@ -1,11 +1,12 @@
 ghost use Rattle.std.specs.Prelude.{◌≡◌, All, true};
 
-use crate::messages::{check, message};
+use crate::messages::{check, letters};
 use crate::peers::TestPeers;
 use dist::{Report, send_to};
 use msg_pipe::{Peers, Taken};
-use std::alloc::Global;
+use std::alloc::{AllocFailed, Global};
 use std::test::Fail;
+use zq_base::Message;
 
 // Whether there are such places and all can be written.
 fn are_open(peers: &TestPeers, places: &[usize]) -> bool
@@ -25,21 +26,45 @@ fn are_open(peers: &TestPeers, places: &[usize]) -> bool
     true
 }
 
-// Sends to places that are tested.
-fn send(
+// Whether these got a copy, and those were full.
+fn went(
+    sent: Result<Report<usize>, AllocFailed<Message>>,
+    put: &[usize],
+    full: &[usize],
+) -> Result<bool, Fail> {
+    match sent {
+        Ok(report) => Ok(report.put.as_slice() == put && report.full.as_slice() == full),
+        Err(_refused) => Err(Fail::new("memory")),
+    }
+}
+
+// Whether a send to places tells that these got a copy, and that those were full.
+fn tells(
     alloc: Global,
     peers: &mut TestPeers,
     places: &[usize],
-    octets: &[u8],
-) -> Result<Report<usize>, Fail> {
-    let message = message(alloc, octets)?;
+    put: &[usize],
+    full: &[usize],
+) -> Result<bool, Fail> {
     if !are_open(peers, places) {
-        Err("open places")?;
+        return Err(Fail::new("open places"));
     }
-    match send_to(alloc, peers, places, message) {
-        Ok(report) => Ok(report),
-        Err(_refused) => Err("memory")?,
+    let message = letters(alloc, b"all")?;
+    went(send_to(alloc, peers, places, message), put, full)
+}
+
+// Whether each send to places tells that these got a copy, and that those were full.
+fn each_tells(
+    alloc: Global,
+    peers: &mut TestPeers,
+    cases: &[(&[usize], &[usize], &[usize])],
+) -> Result<bool, Fail> {
+    for (places, put, full) in cases {
+        if !tells(alloc, peers, places, put, full)? {
+            return Ok(false);
+        }
     }
+    Ok(true)
 }
 
 // How many messages come out at the far end of a place, of at most four.
@@ -54,51 +79,10 @@ fn far_copies(peers: &mut TestPeers, place: usize) -> Result<usize, Fail> {
     Ok(copies)
 }
 
-// Adds two pairs, of which the first has room for one message and the other for two.
-fn attach_two(alloc: Global, peers: &mut TestPeers) -> Result<(), Fail> {
-    peers.attach(alloc, 1)?;
-    peers.attach(alloc, 2)
-}
-
-// Three pairs, of which the second has room for one message and the others for two.
-fn three(alloc: Global) -> Result<TestPeers, Fail> {
-    let mut peers = TestPeers::with_pairs(alloc, 1, 2)?;
-    match attach_two(alloc, &mut peers) {
-        Ok(()) => Ok(peers),
-        Err(fail) => {
-            drop(peers);
-            Err(fail)
-        }
-    }
-}
-
-// Whether a send to places tells that these got a copy, and that those were full.
-fn tells(
-    alloc: Global,
-    peers: &mut TestPeers,
-    places: &[usize],
-    put: &[usize],
-    full: &[usize],
-) -> Result<bool, Fail> {
-    let report = send(alloc, peers, places, b"all")?;
-    Ok(report.put.as_slice() == put && report.full.as_slice() == full)
-}
-
-// Whether two, one and one messages come out at the far ends of the three places.
-fn copies_come_out(peers: &mut TestPeers) -> Result<bool, Fail> {
-    let first = far_copies(peers, 0)? == 2;
-    let second = far_copies(peers, 1)? == 1;
-    Ok(far_copies(peers, 2)? == 1 && first && second)
-}
-
-// Whether sends to places tell that the second got a copy, and the third was full.
-fn each_tells(
-    alloc: Global,
-    peers: &mut TestPeers,
-    cases: &[(&[usize], &[usize], &[usize])],
-) -> Result<bool, Fail> {
-    for (places, put, full) in cases {
-        if !tells(alloc, peers, places, put, full)? {
+// Whether so many messages come out at the far ends of the places.
+fn copies_come_out(peers: &mut TestPeers, copies: &[usize]) -> Result<bool, Fail> {
+    for (place, count) in copies.iter().enumerate() {
+        if far_copies(peers, place)? != *count {
             return Ok(false);
         }
     }
@@ -107,19 +91,22 @@ fn each_tells(
 
 // Whether a copy goes to each place with room.
 fn copies_go(alloc: Global, peers: &mut TestPeers) -> Result<bool, Fail> {
-    let cases: [(&[usize], &[usize], &[usize]); 4] = [
-        (&[], &[], &[]),
-        (&[1], &[1], &[]),
-        (&[2, 1, 0], &[2, 0], &[1]),
-        (&[0, 1], &[0], &[1]),
-    ];
-    let tells = each_tells(alloc, peers, &cases)?;
-    Ok(copies_come_out(peers)? && tells)
+    let tells = each_tells(
+        alloc,
+        peers,
+        &[
+            (&[], &[], &[]),
+            (&[1], &[1], &[]),
+            (&[2, 1, 0], &[2, 0], &[1]),
+            (&[0, 1], &[0], &[1]),
+        ],
+    )?;
+    Ok(copies_come_out(peers, &[2, 1, 1])? && tells)
 }
 
 #[test]
 fn a_copy_goes_to_each_place_with_room(rt: HostRuntime) -> Result<(), Fail> {
-    let mut peers = three(rt.alloc())?;
+    let mut peers = TestPeers::of_rooms(rt.alloc(), &[2, 1, 2])?;
     let go = copies_go(rt.alloc(), &mut peers);
     drop(peers);
     check(go?)

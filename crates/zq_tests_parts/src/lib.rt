@@ -6,9 +6,13 @@ mod any_sock_tests;
 #[cfg(test)]
 mod attached_ends;
 #[cfg(test)]
+mod calls;
+#[cfg(test)]
 mod dist_tests;
 #[cfg(test)]
 mod fair_queue_tests;
+#[cfg(test)]
+mod far;
 #[cfg(test)]
 mod load_balancer_tests;
 #[cfg(test)]
@@ -20,6 +24,8 @@ mod msg_pipe_tests;
 #[cfg(test)]
 mod peers;
 #[cfg(test)]
+mod play;
+#[cfg(test)]
 mod publishing_tests;
 #[cfg(test)]
 mod push_pull_tests;
@@ -30,6 +36,10 @@ mod router_dealer_tests;
 #[cfg(test)]
 mod router_tests;
 #[cfg(test)]
+mod steps;
+#[cfg(test)]
 mod subscribing_tests;
+#[cfg(test)]
+mod turns;
 #[cfg(test)]
 mod xsub_tests;

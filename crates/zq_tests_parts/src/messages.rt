@@ -4,7 +4,7 @@ ghost use Rattle.spec_pattern.specs.Pipe.{IsCommittable};
 use msg_pipe::Taken;
 use std::alloc::Global;
 use std::test::Fail;
-use zq_base::{Frame, Message, PartsRefused};
+use zq_base::{Frame, Message};
 
 /// Fails a test of which this doesn't hold.
 pub fn check(holds: bool) -> Result<(), Fail> {
@@ -14,67 +14,95 @@ pub fn check(holds: bool) -> Result<(), Fail> {
     Err(Fail::new("it doesn't hold"))
 }
 
-/// A message of one frame of each of these octets, which fits a pipe.
-pub fn message(alloc: Global, octets: &[u8]) -> Result<Message, Fail>
-    ensures { IfOk result (λ m. IsCommittable m) }
-{
-    let mut frames = Vec::new(alloc);
-    for octet in octets {
-        frames.reserve(1)?;
-        frames.push_reserved(Frame::of_slice(alloc, &[*octet])?);
-    }
-    fits(Message::of_parts(frames))
-}
-
-// A message that fits a pipe.
-fn fits(made: Result<Message, PartsRefused>) -> Result<Message, Fail>
-    ensures { IfOk result (λ m. IsCommittable m) }
-{
-    match made {
-        Ok(message) => {
-            if message.len() > Message::MAX_COMMITTED {
-                Err("it fits no pipe")?;
-            }
-            Ok(message)
-        }
-        Err(_refused) => Err("1 to 1,024 frames")?,
-    }
-}
-
-/// A message of so many frames.
-pub fn frames(alloc: Global, count: usize) -> Result<Message, Fail> {
-    let mut frames = Vec::new(alloc);
-    for _ in 0..count {
-        frames.reserve(1)?;
-        frames.push_reserved(Frame::of_slice(alloc, b"x")?);
-    }
-    match Message::of_parts(frames) {
-        Ok(message) => Ok(message),
-        Err(_refused) => Err("1 to 1,024 frames")?,
-    }
-}
-
-/// A message of one frame of these octets, which fits a pipe.
-pub fn one_frame(alloc: Global, octets: &[u8]) -> Result<Message, Fail>
-    ensures { IfOk result (λ m. IsCommittable m) }
-{
-    let mut frames = Vec::with_capacity(alloc, 1)?;
+// Adds a frame of these octets.
+fn add(alloc: Global, frames: &mut Vec<Frame>, octets: &[u8]) -> Result<(), Fail> {
+    frames.reserve(1)?;
     frames.push_reserved(Frame::of_slice(alloc, octets)?);
-    Ok(Message::of_frames(frames))
+    Ok(())
 }
 
-/// A message of two frames of these octets, which fits a pipe.
-pub fn two_frames(alloc: Global, first: &[u8], second: &[u8]) -> Result<Message, Fail>
+// Adds this frame, and so many frames `x` behind it.
+fn add_many(alloc: Global, frames: &mut Vec<Frame>, head: &[u8], more: usize) -> Result<(), Fail> {
+    add(alloc, frames, head)?;
+    for _ in 0..more {
+        add(alloc, frames, b"x")?;
+    }
+    Ok(())
+}
+
+// Adds a frame of each of these octets.
+fn add_letters(alloc: Global, frames: &mut Vec<Frame>, octets: &[u8]) -> Result<(), Fail> {
+    for octet in octets {
+        add(alloc, frames, &[*octet])?;
+    }
+    Ok(())
+}
+
+// A message of these frames, where they were added.
+fn of_frames(frames: Vec<Frame>, added: Result<(), Fail>) -> Result<Message, Fail> {
+    match Message::of_parts(frames) {
+        Ok(message) => match added {
+            Ok(()) => Ok(message),
+            Err(fail) => {
+                drop(message);
+                Err(fail)
+            }
+        },
+        Err(refused) => {
+            drop(refused);
+            added?;
+            Err(Fail::new("1 to 1,024 frames"))
+        }
+    }
+}
+
+/// A message of this frame, and of so many frames `x` behind it.
+pub fn message(alloc: Global, head: &[u8], more: usize) -> Result<Message, Fail> {
+    let mut frames = Vec::new(alloc);
+    let added = add_many(alloc, &mut frames, head, more);
+    of_frames(frames, added)
+}
+
+/// A message of one frame of each of these octets, which fits a pipe.
+pub fn letters(alloc: Global, octets: &[u8]) -> Result<Message, Fail>
     ensures { IfOk result (λ m. IsCommittable m) }
 {
-    let mut frames = Vec::with_capacity(alloc, 2)?;
-    frames.push_reserved(Frame::of_slice(alloc, first)?);
-    frames.push_reserved(Frame::of_slice(alloc, second)?);
-    Ok(Message::of_frames(frames))
+    let mut frames = Vec::new(alloc);
+    let added = add_letters(alloc, &mut frames, octets);
+    fitting(of_frames(frames, added)?)
+}
+
+/// A message that fits a pipe.
+pub fn fitting(message: Message) -> Result<Message, Fail>
+    ensures { IfOk result (λ m. IsCommittable m) }
+{
+    if message.len() > Message::MAX_COMMITTED {
+        drop(message);
+        return Err(Fail::new("it fits no pipe"));
+    }
+    Ok(message)
+}
+
+// Whether frames are `x`.
+fn are_x(frames: &[Frame]) -> bool {
+    for frame in frames {
+        if frame.as_slice() != b"x".as_slice() {
+            return false;
+        }
+    }
+    true
+}
+
+/// Whether a message has this frame, and so many frames `x` behind it.
+pub fn has(message: &Message, head: &[u8], more: usize) -> bool {
+    match message.frames().split_first() {
+        Some((first, rest)) => first.as_slice() == head && rest.len() == more && are_x(rest),
+        None => false,
+    }
 }
 
 /// Whether a message has one frame of each of these octets.
-pub fn holds(message: &Message, octets: &[u8]) -> bool {
+pub fn spells(message: &Message, octets: &[u8]) -> bool {
     for (frame, octet) in message.frames().iter().zip(octets) {
         if frame.as_slice() != [*octet].as_slice() {
             return false;
@@ -86,7 +114,7 @@ pub fn holds(message: &Message, octets: &[u8]) -> bool {
 /// Whether what was taken is the message of one frame of each of these octets.
 pub fn is_item(taken: Taken, octets: &[u8]) -> bool {
     match taken {
-        Taken::Item(message) => holds(&message, octets),
+        Taken::Item(message) => spells(&message, octets),
         _other => false,
     }
 }

@@ -2,9 +2,8 @@ ghost use Rattle.std.specs.Prelude.{◌≡◌, ◌<◌, ◌≤◌, length, IfOk,
 ghost use Rattle.spec_pattern.specs.Pipe.{IsCommittable, max_capacity};
 ghost use Rattle.msg_pipe.specs.Known.{IsThere};
 
-use crate::messages::{check, holds, is_item, message};
+use crate::messages::{check, is_item, letters, spells};
 use crate::peers::TestPeers;
-use crate::push_pull_tests::put_at;
 use msg_pipe::{
     Committed, Front, Peers, Pipes, PlainPipe, PlainPipes, PutIn, Taken, Turns, halves_are_a_pipe,
 };
@@ -56,7 +55,7 @@ fn is_put(put: PutIn) -> bool {
 fn is_back(put: PutIn, octets: &[u8]) -> bool {
     match put {
         PutIn::Ok => false,
-        PutIn::Full(back) => holds(&back, octets),
+        PutIn::Full(back) => spells(&back, octets),
     }
 }
 
@@ -67,7 +66,7 @@ fn settled(sent: u64, got: u64, rest: u64) -> Settled {
 
 // Whether a message comes out whole.
 fn comes_out_whole(alloc: Global, pipes: &mut PlainPipes) -> Result<bool, Fail> {
-    let (taken, told) = pass(alloc, pipes, &(), message(alloc, b"abc")?)?;
+    let (taken, told) = pass(alloc, pipes, &(), letters(alloc, b"abc")?)?;
     Ok(is_item(taken, b"abc") && told == settled(1, 1, 0))
 }
 
@@ -82,8 +81,8 @@ fn messages_come_out_whole_in_the_order_committed(rt: HostRuntime) -> Result<(),
 // Whether a pipe for one message hands a second one back.
 fn hands_a_second_back(alloc: Global, pipes: &mut PlainPipes) -> Result<bool, Fail> {
     let (mut o, i) = pipes.make(alloc, 1, &(), &())?;
-    let goes = is_put(pipes.put(&mut o, message(alloc, b"a")?));
-    let back = is_back(pipes.put(&mut o, message(alloc, b"bc")?), b"bc");
+    let goes = is_put(pipes.put(&mut o, letters(alloc, b"a")?));
+    let back = is_back(pipes.put(&mut o, letters(alloc, b"bc")?), b"bc");
     Ok(pipes.settle(i, o) == settled(1, 0, 1) && goes && back)
 }
 
@@ -130,7 +129,7 @@ fn takes_to_the_delimiter<P: Pipes>(pipes: &mut P, i: &mut P::In) -> bool
 // Whether a pipe that is sealed behind one message has the delimiter there.
 fn ends_with_the_delimiter(alloc: Global, pipes: &mut PlainPipes) -> Result<bool, Fail> {
     let (mut o, mut i) = pipes.make(alloc, 1, &(), &())?;
-    let goes = is_put(pipes.put(&mut o, message(alloc, b"a")?));
+    let goes = is_put(pipes.put(&mut o, letters(alloc, b"a")?));
     pipes.seal(&mut o);
     Ok(takes_to_the_delimiter(pipes, &mut i) && goes)
 }
@@ -146,7 +145,7 @@ fn the_delimiter_stands_behind_all(rt: HostRuntime) -> Result<(), Fail> {
 // Whether what the halves of the first pipe did is told.
 fn is_told(alloc: Global, pipes: &mut PlainPipes) -> Result<bool, Fail> {
     let (mut o, i) = pipes.make(alloc, 1, &(), &())?;
-    let goes = is_put(pipes.put(&mut o, message(alloc, b"a")?));
+    let goes = is_put(pipes.put(&mut o, letters(alloc, b"a")?));
     let _committed = pipes.story_out(&o);
     let _taken = pipes.story_in(&i);
     halves_are_a_pipe(pipes, &o, &i);
@@ -165,7 +164,7 @@ fn what_halves_did_is_told(rt: HostRuntime) -> Result<(), Fail> {
 fn put_and_seal(alloc: Global, peers: &mut TestPeers) -> Result<(), Fail>
     ensures { length peers.new ≡ length peers.old }
 {
-    put_at(alloc, peers, 1, b"back")?;
+    peers.far_put(1, letters(alloc, b"back")?)?;
     peers.far_seal(1)
 }
 
@@ -173,7 +172,7 @@ fn put_and_seal(alloc: Global, peers: &mut TestPeers) -> Result<(), Fail>
 fn two_pairs(alloc: Global) -> Result<TestPeers, Fail>
     ensures { IfOk result (λ p. length p ≡ 2) }
 {
-    let mut peers = TestPeers::with_pairs(alloc, 2, 1)?;
+    let mut peers = TestPeers::of_rooms(alloc, &[1, 1])?;
     match put_and_seal(alloc, &mut peers) {
         Ok(()) => return Ok(peers),
         Err(fail) => {
@@ -188,7 +187,7 @@ fn passes(alloc: Global, peers: &mut TestPeers) -> Result<bool, Fail> {
     if peers.count() != 2 || peers.pair(1).0 != 2 || !peers.can_write(1) {
         return Ok(false);
     }
-    Ok(is_item(exchange(peers, 1, message(alloc, b"there")?), b"back"))
+    Ok(is_item(exchange(peers, 1, letters(alloc, b"there")?), b"back"))
 }
 
 // Whether it comes to the far end there.
@@ -207,8 +206,8 @@ fn peers_put_and_take_at_their_place(rt: HostRuntime) -> Result<(), Fail> {
 
 #[test]
 fn a_pipe_by_itself_tells_its_counts(rt: HostRuntime) -> Result<(), Fail> {
-    let first = message(rt.alloc(), b"ab")?;
-    let second = message(rt.alloc(), b"c")?;
+    let first = letters(rt.alloc(), b"ab")?;
+    let second = letters(rt.alloc(), b"c")?;
     let mut pipe = PlainPipe::new(rt.alloc(), 2)?;
     let put = is_put(pipe.put(first)) && is_put(pipe.put(second));
     pipe.seal();

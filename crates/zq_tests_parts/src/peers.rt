@@ -2,7 +2,7 @@ ghost use Rattle.std.specs.Prelude.{◌≡◌, false};
 ghost use Rattle.msg_pipe.specs.PlainPipe.{plain_writing};
 
 use msg_pipe::{Peers, PlainPipe, PutIn, Taken};
-use std::alloc::Global;
+use std::alloc::{AllocError, Global};
 use std::marker::Model;
 use std::test::Fail;
 use zq_base::{Message, PairId};
@@ -62,11 +62,15 @@ impl Far {
         requires { IsCommittable message }
     {
         if self.sealed {
-            Err("the far end is sealed")?;
+            drop(message);
+            return Err(Fail::new("the far end is sealed"));
         }
         match self.pipe.put(message) {
             PutIn::Ok => return Ok(()),
-            PutIn::Full(_back) => Err("there is no room at the far end")?,
+            PutIn::Full(back) => {
+                drop(back);
+                return Err(Fail::new("there is no room at the far end"));
+            }
         }
     }
 
@@ -79,6 +83,25 @@ impl Far {
         ensures { TakesWhole result }
     {
         self.pipe.take()
+    }
+}
+
+// The two pipes of a pair, which hold so many messages.
+fn two_pipes(alloc: Global, capacity: usize) -> Result<(Near, Far), AllocError> {
+    let there = PlainPipe::new(alloc, capacity)?;
+    match PlainPipe::new(alloc, capacity) {
+        Ok(back) => {
+            let near = Near { pipe: there };
+            let far = Far {
+                pipe: back,
+                sealed: false,
+            };
+            return Ok((near, far));
+        }
+        Err(fault) => {
+            drop(there);
+            return Err(fault);
+        }
     }
 }
 
@@ -96,15 +119,29 @@ impl TestPeers {
         }
     }
 
-    /// So many pairs, whose pipes hold so many messages each.
-    pub fn with_pairs(alloc: Global, count: usize, capacity: usize) -> Result<TestPeers, Fail>
-        ensures { IfOk result (λ p. length p ≡ count) }
+    /// A pair for each of these, whose pipes hold so many messages.
+    pub fn of_rooms(alloc: Global, rooms: &[usize]) -> Result<TestPeers, Fail>
+        ensures { IfOk result (λ p. length p ≡ length rooms.now) }
     {
         let mut peers = TestPeers::new(alloc);
-        'pairs: for _ in 0..count {
-            peers.attach(alloc, capacity)?;
+        match peers.attach_all(alloc, rooms) {
+            Ok(()) => return Ok(peers),
+            Err(fail) => {
+                drop(peers);
+                return Err(fail);
+            }
         }
-        Ok(peers)
+    }
+
+    // Adds a pair for each of these, whose pipes hold so many messages.
+    fn attach_all(&mut self, alloc: Global, rooms: &[usize]) -> Result<(), Fail>
+        requires { self.old ≡ [] }
+        ensures { OnOk result (length self.new ≡ length rooms.now) }
+    {
+        'rooms: for room in rooms {
+            self.attach(alloc, *room)?;
+        }
+        Ok(())
     }
 
     pub fn count(&self) -> usize
@@ -118,31 +155,27 @@ impl TestPeers {
         ensures { OnOk result (length self.new ≡ length self.old + 1) }
     {
         if self.writable.len() >= 1000 {
-            Err("at most 1,000 pairs")?;
+            return Err(Fail::new("at most 1,000 pairs"));
         }
         self.near.reserve(1)?;
         self.far.reserve(1)?;
         self.writable.reserve(1)?;
-        let there = PlainPipe::new(alloc, capacity)?;
-        let back = PlainPipe::new(alloc, capacity)?;
-        self.near.push_reserved(Near { pipe: there });
-        self.far.push_reserved(Far {
-            pipe: back,
-            sealed: false,
-        });
+        let (near, far) = two_pipes(alloc, capacity)?;
+        self.near.push_reserved(near);
+        self.far.push_reserved(far);
         self.writable.push_reserved(true);
         Ok(())
     }
 
-    /// Says whether the near end of a pair can be written.
-    pub fn set_writable(&mut self, place: usize, can_write: bool) -> Result<(), Fail>
+    /// The near end of a pair can't be written any more; false where there is no such pair.
+    pub fn close(&mut self, place: usize) -> bool
         ensures { length self.new ≡ length self.old }
     {
         if place >= self.writable.len() {
-            Err("no such place")?;
+            return false;
         }
-        self.writable[place] = can_write;
-        Ok(())
+        self.writable[place] = false;
+        true
     }
 
     /// Puts a message in at the far end of a pair.
@@ -151,7 +184,8 @@ impl TestPeers {
         ensures { length self.new ≡ length self.old }
     {
         if place >= self.far.len() {
-            Err("no such place")?;
+            drop(message);
+            return Err(Fail::new("no such place"));
         }
         self.far[place].put(message)
     }
@@ -160,10 +194,20 @@ impl TestPeers {
         ensures { length self.new ≡ length self.old }
     {
         if place >= self.far.len() {
-            Err("no such place")?;
+            return Err(Fail::new("no such place"));
         }
         self.far[place].seal();
         Ok(())
+    }
+
+    /// Takes the oldest message at the near end of a pair.
+    pub fn near_take(&mut self, place: usize) -> Result<Taken, Fail>
+        ensures { length self.new ≡ length self.old }
+    {
+        if place >= self.far.len() {
+            return Err(Fail::new("no such place"));
+        }
+        Ok(self.far[place].take())
     }
 
     /// Takes the oldest message at the far end of a pair.
@@ -171,20 +215,9 @@ impl TestPeers {
         ensures { length self.new ≡ length self.old }
     {
         if place >= self.near.len() {
-            Err("no such place")?;
+            return Err(Fail::new("no such place"));
         }
         Ok(self.near[place].pipe.take())
-    }
-
-    /// How many frames the oldest message at the far end of a pair has, which is taken; 0 where
-    /// there is none.
-    pub fn far_frames(&mut self, place: usize) -> Result<usize, Fail>
-        ensures { length self.new ≡ length self.old }
-    {
-        match self.far_take(place)? {
-            Taken::Item(message) => return Ok(message.len()),
-            _other => return Ok(0),
-        }
     }
 }
 

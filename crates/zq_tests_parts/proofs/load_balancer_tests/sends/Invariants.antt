@@ -1,5 +1,0 @@
-use Rattle.std.proofs.Common.{◌<◌, All, length}
-use Rattle.zq_tests_parts.proofs.load_balancer_tests.sends.Given as goal
-
-abbrev pub invariant-rows : goal.invariant-rows
-invariant-rows l = All (λ place. place < length l.peers) l.turns
