@@ -1,7 +1,7 @@
 -- What the laws' counts are at first, and in the worked control runs, by hand from the tables.
 use Rattle.std.specs.Prelude.{◌≡◌, ◌==◌, ℕ, cond, take, drop, sum_by}
 use Rattle.spec_control.specs.Control.{begun}
-use Rattle.spec_control.specs.ControlRun.{after_all}
+use Rattle.spec_control.specs.ControlRun.{after_all, MayBeOver}
 use Rattle.spec_control.specs.Quiescence.{tokens_left, item_costs}
 use Rattle.spec_control.specs.ControlExamples.{Stories, crossed_run, session_run}
 use Rattle.control_bounds.specs.Room.{to_come}
@@ -30,3 +30,13 @@ module _ (stories : Stories) where
 -- whatever the holder tells
 abbrev pub WorkedCounts : Type 0
 WorkedCounts = (stories : Stories) → CountsAreSo stories
+
+-- a session that was asked can't say that its output is over while its end waits for an acknowledgement, and can behind that
+module _ (stories : Stories) where
+  pub record OutputWaits : Type 0 where
+    pub not_yet : MayBeOver (after_all (take 12 (session_run stories)) (begun 1)) 2 → ⊥
+    pub behind : MayBeOver (after_all (take 13 (session_run stories)) (begun 1)) 2
+
+-- whatever the holder tells
+abbrev pub OutputsWait : Type 0
+OutputsWait = (stories : Stories) → OutputWaits stories

@@ -1,7 +1,7 @@
 ghost use Rattle.control_bounds.specs.Bound.{EndingIsBounded};
 ghost use Rattle.control_bounds.specs.History.{HistoryRoomIsKept};
 ghost use Rattle.control_bounds.specs.Room.{RoomIsKept};
-ghost use Rattle.control_bounds.specs.Worked.{FirstRoomIsSo, WorkedCounts};
+ghost use Rattle.control_bounds.specs.Worked.{FirstRoomIsSo, OutputsWait, WorkedCounts};
 
 /// Once the root was asked to end, at most eight commands and requests for each object made and
 /// seven for each pair are processed and accepted.
@@ -30,4 +30,10 @@ pub fn first_room_is_so()
 /// The counts of the worked runs are those that the tables give by hand.
 pub fn worked_counts_are_so()
     ensures { WorkedCounts }
+{}
+
+/// In a worked run a session whose end waits for an acknowledgement may not say that its output is
+/// over, and may behind it.
+pub fn outputs_wait()
+    ensures { OutputsWait }
 {}

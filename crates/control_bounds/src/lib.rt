@@ -5,5 +5,6 @@
 mod laws;
 
 pub use laws::{
-    ending_is_bounded, first_room_is_so, history_room_is_kept, room_is_kept, worked_counts_are_so,
+    ending_is_bounded, first_room_is_so, history_room_is_kept, outputs_wait, room_is_kept,
+    worked_counts_are_so,
 };
