@@ -12,8 +12,11 @@ use Rattle.ctl_state.specs.declared.state.State.{State}
 use Rattle.ctl_joins.specs.declared.attaching.Names.{Names}
 use Rattle.ctl_joins.specs.Noting.{HasRoomFor, joins_named, pipes_named}
 use Rattle.ctl_joins.specs.Room.{with_drawn}
+use Rattle.zq_base.specs.declared.ids.PairId.{PairId}
+use Rattle.ctl_joins.specs.declared.owners.Owners.{Owners}
 use Rattle.ctl_binds.specs.declared.batch.Drawn.{Drawn}
 use Rattle.ctl_binds.specs.declared.batch.Batch.{Batch}
+use Rattle.ctl_binds.specs.declared.first.FirstMade.{FirstMade}
 
 -- pairs more of which only the numbers were drawn, behind those that there are
 abbrev pub behind : List PairRow → Control → Control
@@ -24,6 +27,10 @@ module _ {N O I : Type 0} where
   pub record FitsMore (n : ℕ) (b : Batch N O I) : Type 0 where
     pub drawn : deque_len b.drawn + n ≤ deque_capacity b.drawn
     pub notes : HasRoomFor n b.notes
+
+  -- the pair whose first end was made so
+  abbrev pub drawn_with : Owners → PairId → FirstMade N O I → Drawn N O I
+  drawn_with o pair made = record { o = o; pair = pair; identity = made.said.identity; answer = made.end.answer; other = made.end.other }
 
   -- the binding socket's end
   abbrev pub first_of : Drawn N O I → EndId

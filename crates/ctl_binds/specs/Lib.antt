@@ -1,3 +1,4 @@
 pub mod Batch
 pub mod Drawing
 pub mod Joining
+pub mod Holding

@@ -5,12 +5,11 @@ ghost use Rattle.ctl_binds.specs.Batch.{FitsMore, drawn_ends};
 ghost use Rattle.ctl_binds.specs.Drawing.{Draws, IsBack, MayDraw, MayDrawNext, MayMakeAll};
 ghost use Rattle.ctl_joins.specs.Papers.{MayMake};
 
-use crate::batch::{Batch, Drawn};
+use crate::batch::Batch;
+use crate::first::make_first;
 use crate::undrawing::undraw_all;
 use ctl_holder::{Holder, Load, Undoes};
-use ctl_joins::{
-    FirstEnd, Owners, Papers, attach_first, capacities_of, draw_pair, papers_of, undraw_pair,
-};
+use ctl_joins::{Owners, draw_pair, undraw_pair};
 use ctl_state::State;
 use msg_pipe::Pipes;
 use std::alloc::{AllocError, Global};
@@ -49,29 +48,11 @@ where
     ensures calm { H.calm holder.new (drawn_ends batch.new.drawn.items) }
 {
     let o = Owners::of(state, socket, waiter);
-    let said = papers_of(state, alloc, o)?;
-    let sizes = capacities_of(state, o);
-    let Papers { identity, peer } = said;
     let pair = draw_pair(state, o, false)?;
     let first = EndId { pair, a: false };
-    let mine = &wakers[o.first_slot.0 as usize];
-    let theirs = &wakers[o.last_slot.0 as usize];
-    match attach_first(holder, alloc, socket, first, &peer, sizes, mine, theirs) {
-        Ok(end) => {
-            let FirstEnd {
-                answer,
-                told,
-                opened,
-                other,
-            } = end;
-            batch.notes.note(first, peer, answer, told, opened);
-            batch.drawn.push_back_reserved(Drawn {
-                o,
-                pair,
-                identity,
-                answer,
-                other,
-            });
+    match make_first(state, alloc, holder, socket, o, first, wakers) {
+        Ok(made) => {
+            batch.push(o, pair, made);
             return Ok(());
         }
         Err(error) => {

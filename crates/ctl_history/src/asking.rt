@@ -43,7 +43,7 @@ where
         !root_lives(&self.state)
     }
 
-    /// Notes a request that is refused, and so changes nothing.
+    /// Notes a request that is refused, and so changes nothing. It costs its entry alone.
     pub fn refuse(
         &mut self,
         request: Req,

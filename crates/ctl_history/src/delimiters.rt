@@ -23,7 +23,8 @@ where
 {
     /// Notes that an end is at the delimiter of the pipe that it reads, with the holder of its
     /// object, if the end is one in whose state that is looked at; else nothing happens. Whether it
-    /// is one is the answer. It takes no memory.
+    /// is one is the answer. It takes no memory, and costs looks at the rows of the end, of its pair and
+    /// of its object, and what the holder does.
     pub fn delimiter<H: Holder<P>>(&mut self, alloc: Global, e: EndId, holder: &mut H) -> bool
         requires at { (H.holding holder.old).at_delimiter e ≡ true }
         requires lent { (H.holding holder.old).holds (owner_of (control_of self.old) e) ≡ true }

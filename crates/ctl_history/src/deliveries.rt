@@ -31,7 +31,8 @@ where
     /// Processes the oldest command of a mailbox with the holder of the objects that it serves. The
     /// root's mailbox, 0, is the reaper's: its holder takes in the ends of closed sockets, which
     /// nobody has on their way. A bind takes memory, in the time of copying an identity; where that
-    /// wants, the command stays. No other command takes any.
+    /// wants, the command stays. No other command takes any. It costs at the most a walk over what the
+    /// object has that the command is for, its ends, its names or its children, and what the holder does.
     pub fn deliver<H: Holder<P>>(
         &mut self,
         alloc: Global,

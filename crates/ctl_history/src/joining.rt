@@ -17,9 +17,10 @@ ghost use Rattle.ctl_history.specs.Past.{control_of};
 ghost use Rattle.ctl_asks.specs.Refusals.{refusal_in};
 
 use crate::history::History;
+use ctl_binds::connect_pair;
 use ctl_hears::silent;
 use ctl_holder::{Holder, Load};
-use ctl_joins::{Notes, Owners, connect_pair};
+use ctl_joins::{Notes, Owners};
 use ctl_state::{RoomList, State};
 use http_server::Log;
 use msg_pipe::Pipes;

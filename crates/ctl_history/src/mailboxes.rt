@@ -1,6 +1,8 @@
-ghost use Rattle.std.specs.Prelude.{◌≡◌, ◌<◌, ◌≤◌, ◌+◌, ◌↔◌, [], IsTrue};
+ghost use Rattle.std.specs.Prelude.{◌≡◌, ◌<◌, ◌≤◌, ◌+◌, ◌*◌, ◌↔◌, ℕ, [], IsTrue};
+ghost use Rattle.std.specs.Int.{bit_at};
 ghost use Rattle.spec_control.specs.Control.{next_object};
 ghost use Rattle.spec_control.specs.Reply.{most_objects};
+ghost use Rattle.ctl_state.specs.Bits.{some_bit};
 ghost use Rattle.ctl_history.specs.Past.{control_of};
 
 use crate::history::History;
@@ -25,6 +27,22 @@ where
     {
         self.state.needs();
         self.state.is_empty(slot)
+    }
+
+    /// In which mailboxes a command waits: a bit for each of the 64 whose numbers begin with 64 times
+    /// that of the word. It costs a look at one word.
+    pub fn waiting_word(&self, word: usize) -> u64
+        ensures { (k : ℕ) → k < 64 → bit_at result k
+            ≡ some_bit ((control_of self.now).boxes (64 * word + k)) }
+    {
+        self.state.waiting_word(word)
+    }
+
+    /// How many I/O workers there are.
+    pub fn workers(&self) -> u32
+        ensures { result ≡ self.now.workers }
+    {
+        self.workers
     }
 
     /// There are no more mailboxes than I/O workers and objects, and no more objects than are ever

@@ -25,29 +25,6 @@ module _ {L : Type 0} where
   pub more_spare : (s : State L) (k more : ℕ) → k < length s.boxes → more ≤ (mail_at (with_more k more s).boxes k).spare
   more_spare s k more there = let is = ap (λ (m : Mail (Command L)). m.spare) (more_at s k more there) in omega (arith, is)
 
-  -- room in a mailbox that was given back
-  pub box_back : (s : State L) (k more : ℕ) → k < length s.boxes →
-      on_boxes (with_mail k (with_spare ((mail_at (with_more k more s).boxes k).spare - more) (mail_at (with_more k more s).boxes k))) (with_more k more s) ≡ s
-  box_back s k more there = ap (λ (b : List (Mail (Command L))). on_boxes (λ _. b) s) back
-    where
-      mail : Mail (Command L)
-      mail = mail_at s.boxes k
-
-      more_mail : Mail (Command L)
-      more_mail = with_spare (mail.spare + more) mail
-
-      back : with_mail k (with_spare ((mail_at (with_mail k more_mail s.boxes) k).spare - more) (mail_at (with_mail k more_mail s.boxes) k)) (with_mail k more_mail s.boxes) ≡ s.boxes
-      back =
-          set-set s.boxes k more_mail _
-          ∙ ap (λ (x : Mail (Command L)). with_mail k (with_spare (x.spare - more) x) s.boxes) (get_or-set_same s.boxes k more_mail no_mail there)
-          ∙ ap (λ (n : ℕ). with_mail k (with_spare n mail) s.boxes) (let e : mail.spare + more - more ≡ mail.spare = omega arith in e)
-          ∙ set-get_or s.boxes k no_mail
-
-  pub boxes_back : (old mid now last : State L) (k more : ℕ) → k < length old.boxes → mid ≡ with_more k more old → now ≡ mid →
-      last ≡ on_boxes (with_mail k (with_spare ((mail_at now.boxes k).spare - more) (mail_at now.boxes k))) now → last ≡ old
-  boxes_back old mid now last k more there kept same given =
-      given ∙ ap (λ (s : State L). on_boxes (with_mail k (with_spare ((mail_at s.boxes k).spare - more) (mail_at s.boxes k))) s) (same ∙ kept) ∙ box_back old k more there
-
   -- ---- places in the lists of ends
   abbrev pub with_place : ℕ → State L → State L
   with_place i s = on_lists (with_ends (with_room 1) i) s

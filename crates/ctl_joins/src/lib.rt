@@ -5,7 +5,6 @@
 #![tactic(auto)]
 
 mod attaching;
-mod connecting;
 mod drawing;
 mod greeting;
 mod joining;
@@ -16,7 +15,6 @@ mod papers;
 mod room;
 
 pub use attaching::{Capacities, FirstEnd, Names, attach_first};
-pub use connecting::connect_pair;
 pub use drawing::{draw_pair, undraw_pair};
 pub use joining::join_pair;
 pub use notes::Notes;

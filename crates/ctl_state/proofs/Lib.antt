@@ -1,3 +1,5 @@
+pub mod BitLemmas
+pub mod ShownLemmas
 pub mod ReadLemmas
 pub mod ListedLemmas
 pub mod ObjectLemmas

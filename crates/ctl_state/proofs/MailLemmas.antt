@@ -1,8 +1,8 @@
 -- That what is kept goes on standing for a control state, as commands come and go.
-use Rattle.std.specs.Prelude.{◌≡◌, ◌<◌, ◌⊎◌, ◌++◌, ◌∷◌, [], ℕ, Bool, List, Option, Some, None, if◌then◌else◌, map, length, take, refl, ◌+◌, IfSome, OnSome}
+use Rattle.std.specs.Prelude.{◌≡◌, ◌<◌, ◌⊎◌, ◌++◌, ◌∷◌, [], ℕ, Bool, List, Option, Some, None, if◌then◌else◌, map, length, take, refl, ◌+◌, ◌-◌, IfSome, OnSome}
 use Rattle.std.proofs.Common.{arith, sym, ap, ◌∙◌, subst, inl, inr}
 use Rattle.std.proofs.lemmas.Bool.{cases_eq, eq-eqb, ne_eqb}
-use Rattle.std.proofs.lemmas.List.{take-append-le, take_all, length-set, length_push, get_or-set_same, get_or-set_other}
+use Rattle.std.proofs.lemmas.List.{take-append-le, take_all, length-set, length_push, get_or-set_same, get_or-set_other, set-set, set-get_or}
 use Rattle.mailbox.specs.Mail.{Mail, no_mail, with_spare, with_put_back}
 use Rattle.spec_control.specs.declared.letter.Letter.{Letter}
 use Rattle.spec_control.specs.PairPhase.{behind_first}
@@ -102,3 +102,30 @@ module _ {L : Type 0} where
   cut_back old mid now boxes mail many added same count cut =
       ap (λ (s : State L). on_boxes (λ _. boxes) s) (same ∙ added) ∙ ap (λ (b : List (Mail (Command L))). on_boxes (λ _. b) old)
       (cut ∙ ap (λ (s : State L). take many s.boxes) (same ∙ added) ∙ ap (λ (n : ℕ). take n (old.boxes ++ mail ∷ [])) count ∙ take-append-le (length old.boxes) old.boxes (mail ∷ []) (omega arith) ∙ take_all (length old.boxes) old.boxes (omega arith))
+
+  -- a mailbox with room for so many commands more
+  abbrev with_more : ℕ → ℕ → State L → State L
+  with_more k more s = on_boxes (with_mail k (with_spare ((mail_at s.boxes k).spare + more) (mail_at s.boxes k))) s
+
+  -- room in a mailbox that was given back
+  box_back : (s : State L) (k more : ℕ) → k < length s.boxes →
+      on_boxes (with_mail k (with_spare ((mail_at (with_more k more s).boxes k).spare - more) (mail_at (with_more k more s).boxes k))) (with_more k more s) ≡ s
+  box_back s k more there = ap (λ (b : List (Mail (Command L))). on_boxes (λ _. b) s) back
+    where
+      mail : Mail (Command L)
+      mail = mail_at s.boxes k
+
+      more_mail : Mail (Command L)
+      more_mail = with_spare (mail.spare + more) mail
+
+      back : with_mail k (with_spare ((mail_at (with_mail k more_mail s.boxes) k).spare - more) (mail_at (with_mail k more_mail s.boxes) k)) (with_mail k more_mail s.boxes) ≡ s.boxes
+      back =
+          set-set s.boxes k more_mail _
+          ∙ ap (λ (x : Mail (Command L)). with_mail k (with_spare (x.spare - more) x) s.boxes) (get_or-set_same s.boxes k more_mail no_mail there)
+          ∙ ap (λ (n : ℕ). with_mail k (with_spare n mail) s.boxes) (let e : mail.spare + more - more ≡ mail.spare = omega arith in e)
+          ∙ set-get_or s.boxes k no_mail
+
+  pub boxes_back : (old mid now last : State L) (k more : ℕ) → k < length old.boxes → mid ≡ on_boxes (with_mail k (with_spare ((mail_at old.boxes k).spare + more) (mail_at old.boxes k))) old → now ≡ mid →
+      last ≡ on_boxes (with_mail k (with_spare ((mail_at now.boxes k).spare - more) (mail_at now.boxes k))) now → last ≡ old
+  boxes_back old mid now last k more there kept same given =
+      given ∙ ap (λ (s : State L). on_boxes (with_mail k (with_spare ((mail_at s.boxes k).spare - more) (mail_at s.boxes k))) s) (same ∙ kept) ∙ box_back old k more there

@@ -1,6 +1,7 @@
 -- The mailboxes of a context, and the letters in them.
-use Rattle.std.specs.Prelude.{◌≡◌, ◌≢◌, ℕ, List, ◌∷◌, true, map, length, slice_index_or, slice_set, ◌+◌, ◌++◌, All, None, Bool, false}
+use Rattle.std.specs.Prelude.{◌≡◌, ◌≢◌, ℕ, List, ◌∷◌, true, map, length, slice_index_or, slice_set, ◌+◌, ◌*◌, ◌≤◌, ◌++◌, All, None, Bool, false}
 use Rattle.mailbox.specs.Mail.{Mail, no_mail}
+use Rattle.ctl_state.specs.Bits.{bit_in, some_bit}
 use Rattle.spec_control.specs.declared.letter.Letter.{Letter}
 use Rattle.spec_control.specs.declared.letter.Word.{Word}
 use Rattle.spec_control.specs.declared.letter.Word.TheVariants.{Own, Plug, TermReq, Term, TermAck, PipeBind, PipeTerm, PipeTermAck, Stop, Reap}
@@ -61,3 +62,8 @@ module _ {L : Type 0} where
   -- the letters of each mailbox are these
   pub record AreIn (boxes : List (Mail (Command L))) (letters_in : ℕ → List Letter) : Type 0 where
     pub each : (k : ℕ) → letters (mail_at boxes k) ≡ letters_in k
+
+  -- a bit for each mailbox says whether a command waits in it
+  pub record AreShown (words : List ℕ) (boxes : List (Mail (Command L))) : Type 0 where
+    pub each : (k : ℕ) → bit_in words k ≡ some_bit (mail_at boxes k).commands
+    pub long : length boxes ≤ 64 * length words

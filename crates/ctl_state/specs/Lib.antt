@@ -1,3 +1,4 @@
+pub mod Bits
 pub mod Boxes
 pub mod Children
 pub mod Listed

@@ -1,7 +1,10 @@
-ghost use Rattle.std.specs.Prelude.{◌≡◌, ◌≢◌, ◌↔◌, ◌+◌, ◌-◌, ◌<◌, ◌≤◌, ◌++◌, ◌∷◌, [], length, replicate, take, true, IsTrue, IfOk, OnOk, OnErr, IfSome, IfNone};
+ghost use Rattle.std.specs.Prelude.{◌≡◌, ◌≢◌, ◌↔◌, ◌+◌, ◌-◌, ◌*◌, ◌/◌, ◌==◌, ◌<◌, ◌≤◌, ◌++◌, ◌∷◌, [], ℕ, cond, length, replicate, take, true, IsTrue, IfOk, OnOk, OnErr, IfSome, IfNone};
+ghost use Rattle.std.specs.Int.{bit_at};
 ghost use Rattle.mailbox.specs.Mail.{no_mail, with_spare, with_sent, with_put_back};
+ghost use Rattle.ctl_state.specs.Bits.{bit_in, some_bit};
 ghost use Rattle.ctl_state.specs.Boxes.{mail_at, with_mail, Takes};
 
+use crate::bits::{clear_bits, more_bits, set_bit};
 use crate::command::Command;
 use mailbox::Mailbox;
 use std::alloc::{AllocError, Global};
@@ -12,16 +15,32 @@ use zq_base::SlotId;
 #[derive(Drop)]
 pub struct Boxes<L> {
     boxes: Vec<Mailbox<Command<L>>>,
+    // A bit for each mailbox, which is set where a command waits in it.
+    shown: Vec<u64>,
 }
 
 impl<L> Model for Boxes<L> {
     ghost use Rattle.std.specs.Prelude.{List};
     ghost use Rattle.mailbox.specs.Mail.{Mail};
     ghost use Rattle.ctl_state.specs.declared.command.Command.{Command};
+    ghost use Rattle.ctl_state.specs.Boxes.{AreShown};
 
     ghost Value = { List (Mail (Command L)) };
 
     ghost view = { λ b. b.boxes.items };
+
+    ghost invariant = { λ b. AreShown b.shown.items b.boxes.items };
+}
+
+// The bit of a mailbox is set where a command waits in it.
+fn show<C>(shown: &mut Vec<u64>, place: usize, mailbox: &Mailbox<C>)
+    requires there { place / 64 < length shown.old.items }
+    ensures long { length shown.new.items ≡ length shown.old.items }
+    ensures each { (k : ℕ) → bit_in shown.new.items k
+        ≡ cond (k == place) (some_bit mailbox.now.commands) (bit_in shown.old.items k) }
+{
+    let waits = !mailbox.is_empty();
+    set_bit(shown, place, waits);
 }
 
 impl<L: Drop> Boxes<L> {
@@ -29,11 +48,14 @@ impl<L: Drop> Boxes<L> {
     pub fn empty(alloc: Global, many: usize) -> Result<Boxes<L>, AllocError>
         ensures { IfOk result (λ b. b ≡ replicate many no_mail) }
     {
-        let mut boxes = Vec::new(alloc);
+        let mut made = Boxes {
+            boxes: Vec::new(alloc),
+            shown: Vec::new(alloc),
+        };
         'boxes: for _ in 0..many {
-            boxes.push(Mailbox::new(alloc))?;
+            made.add(alloc, 0)?;
         }
-        Ok(Boxes { boxes })
+        Ok(made)
     }
 
     /// How many mailboxes there are. This is the next one's number.
@@ -50,6 +72,8 @@ impl<L: Drop> Boxes<L> {
     {
         let mut mailbox = Mailbox::new(alloc);
         mailbox.reserve(room)?;
+        let place = self.boxes.len();
+        more_bits(&mut self.shown, place)?;
         self.boxes.push(mailbox)?;
         Ok(())
     }
@@ -58,7 +82,12 @@ impl<L: Drop> Boxes<L> {
     pub fn truncate(&mut self, many: usize)
         ensures { self.new ≡ take many self.old }
     {
+        let had = self.boxes.len();
+        if had <= many {
+            return;
+        }
         self.boxes.truncate(many);
+        clear_bits(&mut self.shown, many, had);
     }
 
     /// Keeps room for so many more commands in a mailbox.
@@ -87,7 +116,9 @@ impl<L: Drop> Boxes<L> {
         requires room { 0 < (mail_at self.old slot.0).spare }
         ensures { self.new ≡ with_mail slot.0 (with_sent command (mail_at self.old slot.0)) self.old }
     {
-        self.boxes[slot.0 as usize].send(command);
+        let place = slot.0 as usize;
+        self.boxes[place].send(command);
+        show(&mut self.shown, place, &self.boxes[place]);
     }
 
     /// Whether no command waits in a mailbox.
@@ -98,6 +129,17 @@ impl<L: Drop> Boxes<L> {
         self.boxes[slot.0 as usize].is_empty()
     }
 
+    /// In which mailboxes a command waits: a bit for each of the 64 whose numbers begin with 64 times that of the word.
+    pub fn waiting_word(&self, word: usize) -> u64
+        ensures { (k : ℕ) → k < 64 → bit_at result k
+            ≡ some_bit (mail_at self.now (64 * word + k)).commands }
+    {
+        match self.shown.get(word) {
+            Some(bits) => return *bits,
+            None => return 0,
+        }
+    }
+
     /// Takes the oldest command of a mailbox out.
     pub fn take(&mut self, slot: SlotId) -> Option<Command<L>>
         requires there { slot.0 < length self.old }
@@ -105,7 +147,10 @@ impl<L: Drop> Boxes<L> {
             (((mail_at self.old slot.0).commands ≡ []) × (self.new ≡ self.old)) }
         ensures front { IfSome result (λ command. Takes slot.0 command self.old self.new) }
     {
-        self.boxes[slot.0 as usize].take_front()
+        let place = slot.0 as usize;
+        let command = self.boxes[place].take_front();
+        show(&mut self.shown, place, &self.boxes[place]);
+        command
     }
 
     /// Puts the command back that was taken last, as the oldest.
@@ -115,6 +160,8 @@ impl<L: Drop> Boxes<L> {
         ensures { self.new
             ≡ with_mail slot.0 (with_put_back command (mail_at self.old slot.0)) self.old }
     {
-        self.boxes[slot.0 as usize].put_back(command);
+        let place = slot.0 as usize;
+        self.boxes[place].put_back(command);
+        show(&mut self.shown, place, &self.boxes[place]);
     }
 }

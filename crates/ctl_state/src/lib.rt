@@ -6,6 +6,7 @@
 #![tactic(auto)]
 
 mod belongings;
+mod bits;
 mod boxes;
 mod children;
 mod command;
@@ -29,6 +30,7 @@ mod room_list;
 mod state;
 mod tells;
 
+pub use bits::{lowest_bit, set_bit};
 pub use command::Command;
 pub use detail::{Detail, Made};
 pub use hold::{Held, Hold};

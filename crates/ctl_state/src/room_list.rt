@@ -1,10 +1,11 @@
-ghost use Rattle.std.specs.Prelude.{◌≡◌, ◌<◌, ◌≤◌, length, remove, slice_index_or, slice_set, OnOk, OnErr};
+ghost use Rattle.std.specs.Prelude.{◌≡◌, ◌<◌, ◌≤◌, length, remove, slice_index_or, slice_set, take, OnOk, OnErr};
 ghost use Rattle.ctl_state.specs.Listed.{no_list, with_room, without_room, with_last, with_items};
 ghost use Rattle.ctl_state.specs.Lists.{no_hold};
 
 use crate::hold::{Held, Hold};
 use std::alloc::{AllocError, Global};
 use std::marker::Model;
+use zq_base::ObjId;
 
 /// A list, and room for elements that are still to come.
 #[derive(Drop)]
@@ -82,6 +83,23 @@ impl<T> RoomList<T> {
         ensures rest { self.new ≡ with_items (remove self.old.items place) self.old }
     {
         self.items.remove(place)
+    }
+}
+
+impl RoomList<ObjId> {
+    /// The object that stands there is this one instead.
+    pub fn set(&mut self, place: usize, object: ObjId)
+        requires there { place < length self.old.items }
+        ensures { self.new ≡ with_items (slice_set self.old.items place object) self.old }
+    {
+        self.items[place] = object;
+    }
+
+    /// The first so many elements stay. The room that was kept stays, too.
+    pub fn truncate(&mut self, many: usize)
+        ensures { self.new ≡ with_items (take many self.old.items) self.old }
+    {
+        self.items.truncate(many);
     }
 }
 

@@ -74,6 +74,13 @@ row_read rows now id x same h read =
     read_within rows id.0 x no_row (subst (λ (l : List Row). id.0 < length l) (sym same) h) read
     ∙ ap (λ (l : List Row). row_at l id) same
 
+-- a row that was read is written back changed
+pub change_is : (f : Row → Row) (rows now : List Row) (id : ObjId) (x : Row) → rows ≡ now → id.0 < length now →
+    x ≡ slice_index_or rows id.0 x → slice_set rows id.0 (f x) ≡ change f id now
+change_is f rows now id x same h read =
+    ap (λ (r : Row). slice_set rows id.0 (f r)) (row_read rows now id x same h read)
+    ∙ ap (λ (l : List Row). slice_set l id.0 (f (row_at now id))) same
+
 -- a row that keeps its owner and its state makes no move
 pub keeps_tree : (rows now : List Row) (id : ObjId) (r x : Row) → rows ≡ now → id.0 < length now →
     x ≡ slice_index_or rows id.0 x → r.owner ≡ x.owner → state_of r.stage ≡ state_of x.stage → tree_of (slice_set rows id.0 r) ≡ tree_of now

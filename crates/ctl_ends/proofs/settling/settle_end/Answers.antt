@@ -1,5 +1,10 @@
 use Rattle.std.specs.Prelude.{◌<◌, ◌≤◌, ◌+◌, ◌&&◌, ◌==◌, cond, ℕ, Bool, false, List, All, if◌then◌else◌, refl}
 use Rattle.std.proofs.Common.{ap, sym, ◌∙◌, subst}
+use Rattle.zq_base.specs.declared.ids.ObjId.{ObjId}
+use Rattle.mailbox.specs.Mail.{Mail}
+use Rattle.spec_control.specs.Stage.{has_ended}
+use Rattle.spec_control.specs.Rows.{obj}
+use Rattle.ctl_state.specs.declared.command.Command.{Command}
 use Rattle.spec_control.specs.declared.end.EndState.{EndState}
 use Rattle.spec_control.specs.declared.end.EndState.TheVariants.{Gone}
 use Rattle.spec_control.specs.declared.end.EndCommands.{EndCommands}
@@ -162,4 +167,27 @@ returns-clause-settles g c = λ w.
           (subst (λ (x : EndCommands). (mail_at c.args.state.now.boxes room_of).spare ≤ (mail_at c.tell_other.new.self.boxes room_of).spare + cond (tells x && slot_of mid (kept_owner_at mid.pairs (other_end c.args.e)).0 == room_of) 1 0) told
           (told_spare c.args.state.now mid c.tell_other.new.self _ c.end_goes-commands.result _ (ap (λ (x : State (Load g.row.P-Name.Denot g.row.P-Out.Denot g.row.P-In.Denot)). x.boxes) c.end_goes-commands.ensures.next)
           (λ t. subst (λ (n : ℕ). 0 < (mail_at c.args.state.now.boxes n).spare) (sym slot) (w.settles.room (ap tells (sym told) ∙ t))) c.tell_other.ensures.told c.tell_other.ensures.kept room_of)));
+    }
+
+pub end_goes-commands-requires : goal.end_goes-commands-requires
+end_goes-commands-requires g c =
+    let w = c.requires.may in
+    let met = c.needs.ensures w.control w.stands in
+    let owner = c.owner-owner.ensures.stands w.control w.stands ∙ ap (λ (o : ObjId). o.0) c.owner-owner.ensures.owner in
+    record {
+      may = met.may_come c.args.e AckCame w.settles.state w.settles.there w.settles.may_come;
+      unended = met.unended (kept_owner_at c.args.state.now.pairs c.args.e) (ap (λ (n : ℕ). has_ended (obj w.control.rows n).stage) (sym owner) ∙ w.settles.unended);
+      attached = met.ends c.args.e w.settles.within (ap is_here w.settles.there ∙ comes_here AckCame w.settles.state w.settles.may_come);
+    }
+
+pub tell_other-requires : goal.tell_other-requires
+tell_other-requires g c =
+    let w = c.requires.may in
+    let mid = c.end_goes-commands.new.self in
+    let stands = c.end_goes-commands.ensures.stands w.control w.stands in
+    let told = c.end_goes-commands.ensures.commands w.control w.stands in
+    record {
+      room = λ t.
+          subst (λ (b : List (Mail (Command (Load g.row.P-Name.Denot g.row.P-Out.Denot g.row.P-In.Denot)))). 0 < (mail_at b (slot_of mid (kept_owner_at mid.pairs (other_end c.args.e)).0)).spare) (sym (ap (λ (x : State (Load g.row.P-Name.Denot g.row.P-Out.Denot g.row.P-In.Denot)). x.boxes) c.end_goes-commands.ensures.next))
+          (subst (λ (n : ℕ). 0 < (mail_at c.args.state.now.boxes n).spare) (sym (other_slot c.args.state.now mid w.control AckCame c.args.e w.settles.state w.settles.there w.settles.within stands)) (w.settles.room (ap tells (sym told) ∙ t)));
     }

@@ -11,7 +11,11 @@ use Rattle.ctl_holder.specs.Holding.{has_end}
 use Rattle.ctl_holder.specs.Lent.{has_writer, HasBothNames}
 use Rattle.ctl_holder.specs.declared.load.Load.{Load}
 use Rattle.ctl_state.specs.declared.state.State.{State}
-use Rattle.ctl_state.specs.Stands.{Stands, stepped, tells}
+use Rattle.zq_base.specs.Ends.{other_end}
+use Rattle.mailbox.specs.Mail.{Mail}
+use Rattle.ctl_state.specs.declared.command.Command.{Command}
+use Rattle.ctl_state.specs.Pairs.{owner_at as kept_owner_at}
+use Rattle.ctl_state.specs.Stands.{Stands, slot_of, stepped, tells}
 use Rattle.ctl_state.specs.Boxes.{mail_at}
 use Rattle.ctl_ends.specs.Turning.{yields, needs_writer, SealsFor, Turned}
 use Rattle.ctl_ends.proofs.HeldLemmas.{has_here}
@@ -116,4 +120,24 @@ returns g c = λ w.
       joined = told_one.joined;
       heard = c.give_for-load.ensures.heard ∙ c.tell_state.ensures.heard;
       turned = turns_told w.control c.args.event c.args.e w.turns.state w.turns.there w.turns.within w.names h k (owner_of w.control c.args.e) has here w.turns.may_come told_one;
+    }
+
+pub step_end-commands-requires : goal.step_end-commands-requires
+step_end-commands-requires g c =
+    let w = c.requires.may in
+    record {
+      may = (c.needs.ensures w.control w.stands).may_come c.args.e c.args.event w.turns.state w.turns.there w.turns.may_come;
+      stays = c.requires.stays;
+    }
+
+pub tell_other-requires : goal.tell_other-requires
+tell_other-requires g c =
+    let w = c.requires.may in
+    let mid = c.step_end-commands.new.self in
+    let stands = c.step_end-commands.ensures.stands w.control w.stands in
+    let told = c.step_end-commands.ensures.commands w.control w.stands in
+    record {
+      room = λ t.
+          subst (λ (b : List (Mail (Command (Load g.row.P-Name.Denot g.row.P-Out.Denot g.row.P-In.Denot)))). 0 < (mail_at b (slot_of mid (kept_owner_at mid.pairs (other_end c.args.e)).0)).spare) (sym (ap (λ (x : State (Load g.row.P-Name.Denot g.row.P-Out.Denot g.row.P-In.Denot)). x.boxes) c.step_end-commands.ensures.next))
+          (subst (λ (n : ℕ). 0 < (mail_at c.args.state.now.boxes n).spare) (sym (other_slot c.args.state.now mid w.control c.args.event c.args.e w.turns.state w.turns.there w.turns.within stands)) (w.turns.room (ap tells (sym told) ∙ t)));
     }

@@ -1,6 +1,7 @@
 use Rattle.std.specs.Prelude.{refl}
 use Rattle.ctl_joins.specs.Room.{with_more}
-use Rattle.ctl_joins.proofs.RoomLemmas.{box_there, boxes_back}
+use Rattle.ctl_state.proofs.MailLemmas.{boxes_back}
+use Rattle.ctl_joins.proofs.RoomLemmas.{box_there}
 use Rattle.ctl_joins.proofs.room.give_commands_back.Goals as goal
 
 pub returns : goal.returns

@@ -1,4 +1,4 @@
-use Rattle.ctl_joins.proofs.RoomLemmas.{boxes_back}
+use Rattle.ctl_state.proofs.MailLemmas.{boxes_back}
 use Rattle.ctl_joins.proofs.room.keep_commands.Goals as goal
 
 pub returns-in-Err-clause-err : goal.returns-in-Err-clause-err

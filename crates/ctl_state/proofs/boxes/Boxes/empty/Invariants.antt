@@ -4,4 +4,4 @@ use Rattle.ctl_state.proofs.boxes.Boxes.empty.Given as goal
 
 -- so many mailboxes are there
 abbrev pub invariant-boxes : goal.invariant-boxes
-invariant-boxes g l = l.boxes.items ≡ replicate l.counter no_mail
+invariant-boxes g l = l.made ≡ replicate l.counter no_mail

@@ -2,8 +2,8 @@ use Rattle.std.specs.Prelude.{Option}
 use Rattle.std.proofs.Common.{ap, sym, ◌∙◌}
 use Rattle.spec_control.specs.declared.end.Reason.{Reason}
 use Rattle.spec_control.specs.Place.{Place}
-use Rattle.spec_control.specs.Control.{met_in, place_of}
-use Rattle.ctl_state.specs.Pairs.{place_at, reason_at, spot_at}
+use Rattle.spec_control.specs.Control.{met_in}
+use Rattle.ctl_state.specs.Pairs.{place_at, spot_at}
 use Rattle.ctl_state.proofs.EndLemmas.{place_stands}
 use Rattle.ctl_state.proofs.state.State.has_met.Goals as goal
 

@@ -1,8 +1,6 @@
 use Rattle.std.specs.Prelude.{◌≡◌, List, [], ◌∷◌, map, refl}
 use Rattle.std.proofs.Common.{arith, sym, ap, ◌∙◌}
-use Rattle.spec_control.specs.declared.letter.Letter.{Letter}
 use Rattle.ctl_state.specs.declared.command.Command.{Command}
-use Rattle.ctl_state.specs.Boxes.{letters, mail_at}
 use Rattle.ctl_state.proofs.state.State.is_empty.Goals as goal
 
 no_cons : {Y : Type 0} {y : Y} {ys : List Y} → y ∷ ys ≡ [] → ⊥

@@ -2,8 +2,7 @@ use Rattle.std.specs.Prelude.{Option}
 use Rattle.std.proofs.Common.{sym, subst}
 use Rattle.spec_control.specs.declared.end.Reason.{Reason}
 use Rattle.spec_control.specs.Place.{Place}
-use Rattle.spec_control.specs.Control.{place_of}
-use Rattle.ctl_state.specs.Pairs.{FitsAt, place_at, reason_at, spot_at}
+use Rattle.ctl_state.specs.Pairs.{FitsAt, place_at, spot_at}
 use Rattle.ctl_state.proofs.EndLemmas.{place_stands}
 use Rattle.ctl_state.proofs.state.State.reason_fits.Goals as goal
 

@@ -2,7 +2,7 @@ use Rattle.std.specs.Prelude.{refl}
 use Rattle.spec_control.specs.declared.stage.Stage.TheVariants.{Ending}
 use Rattle.own_tree.specs.Rows.{row_at}
 use Rattle.own_tree.specs.Changes.{in_stage}
-use Rattle.own_tree.proofs.RowLemmas.{asked_lives, live_has_row, asks_from}
+use Rattle.own_tree.proofs.RowLemmas.{asked_lives, asks_from, change_is, live_has_row}
 use Rattle.own_tree.proofs.KeptLemmas.{kept_in, asked_alike, asked_lives_on}
 use Rattle.own_tree.proofs.tree.OwnTree.ask.Goals as goal
 
@@ -15,3 +15,6 @@ invariant_of-self c =
 pub returns-clause-moves : goal.returns-clause-moves
 returns-clause-moves c =
     asks_from _ _ c.args.id _ c.index_mut.result.now c.self.view_is c.requires.told c.index_mut.ensures.value refl refl
+
+pub returns-clause-next : goal.returns-clause-next
+returns-clause-next c = change_is (in_stage Ending) _ _ c.args.id c.index_mut.result.now c.self.view_is (live_has_row _ _ (asked_lives (row_at c.args.self.now c.args.id) c.requires.told)) c.index_mut.ensures.value

@@ -26,3 +26,6 @@ pub returns-clause-moves : goal.returns-clause-moves
 returns-clause-moves c =
     subst (λ (l : List Row). Makes c.args.owner (tree_of c.args.self.now) (tree_of l)) (sym c.push_made.ensures)
     (makes_from _ _ c.args.owner c.args.kind c.args.slot c.args.plug (c.reserve.ensures.items ∙ c.self.view_is) c.requires.unended)
+
+pub returns-clause-ok : goal.returns-clause-ok
+returns-clause-ok c = c.push_made.ensures ∙ ap (λ (l : List Row). with_made c.args.owner c.args.kind c.args.slot c.args.plug l) (c.reserve.ensures.items ∙ c.self.view_is)

@@ -1,3 +1,7 @@
+use Rattle.std.specs.Prelude.{List}
+use Rattle.std.proofs.Common.{ap, ◌∙◌}
+use Rattle.own_tree.specs.declared.row.Row.{Row}
+use Rattle.own_tree.specs.Changes.{with_noted}
 use Rattle.own_tree.proofs.BothLemmas.{noted_tally, noted_in, noting_moves}
 use Rattle.own_tree.proofs.tree.OwnTree.note_child.Goals as goal
 
@@ -11,3 +15,6 @@ invariant_of-self c =
 
 pub returns-clause-moves : goal.returns-clause-moves
 returns-clause-moves c = noting_moves _ _ _ c.args.owner c.args.child c.self.view_is c.note.ensures
+
+pub returns-clause-next : goal.returns-clause-next
+returns-clause-next c = c.note.ensures ∙ ap (λ (l : List Row). with_noted c.args.owner c.args.child l) c.self.view_is

@@ -1,7 +1,7 @@
 use Rattle.std.specs.Prelude.{refl}
 use Rattle.std.proofs.Common.{arith}
 use Rattle.own_tree.specs.Changes.{with_bind_sent}
-use Rattle.own_tree.proofs.RowLemmas.{has_row, makes_no_move}
+use Rattle.own_tree.proofs.RowLemmas.{change_is, has_row, makes_no_move}
 use Rattle.own_tree.proofs.KeptLemmas.{kept_in}
 use Rattle.own_tree.proofs.tree.OwnTree.on_sent.Goals as goal
 
@@ -13,3 +13,6 @@ invariant_of-self c =
 
 pub returns-clause-moves : goal.returns-clause-moves
 returns-clause-moves c = makes_no_move _ _ c.args.id _ c.index_mut-row.result.now c.self.view_is c.requires.unended c.index_mut-row.ensures.value refl refl
+
+pub returns-clause-next : goal.returns-clause-next
+returns-clause-next c = change_is with_bind_sent _ _ c.args.id c.index_mut-row.result.now c.self.view_is (has_row _ _ c.requires.unended) c.index_mut-row.ensures.value

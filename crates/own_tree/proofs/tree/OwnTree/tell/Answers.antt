@@ -1,3 +1,7 @@
+use Rattle.std.specs.Prelude.{List}
+use Rattle.std.proofs.Common.{ap, ◌∙◌}
+use Rattle.own_tree.specs.declared.row.Row.{Row}
+use Rattle.own_tree.specs.Changes.{with_told}
 use Rattle.own_tree.proofs.BothLemmas.{told_in, telling_moves}
 use Rattle.own_tree.proofs.tree.OwnTree.tell.Goals as goal
 
@@ -7,3 +11,6 @@ invariant_of-self c =
 
 pub returns-clause-moves : goal.returns-clause-moves
 returns-clause-moves c = telling_moves _ _ _ c.args.owner c.args.child c.self.view_is c.tell.ensures c.requires.alive
+
+pub returns-clause-next : goal.returns-clause-next
+returns-clause-next c = c.tell.ensures ∙ ap (λ (l : List Row). with_told c.args.owner c.args.child l) c.self.view_is

@@ -1,0 +1,18 @@
+use Rattle.std.specs.Prelude.{◌++◌, ◌∷◌, []}
+use Rattle.std.proofs.Common.{ap, ◌∙◌}
+use Rattle.mailbox.specs.Mail.{no_mail, with_spare}
+use Rattle.ctl_state.specs.declared.state.State.{State}
+use Rattle.ctl_state.specs.Lists.{no_belongings}
+use Rattle.ctl_state.proofs.MailLemmas.{boxes_back}
+use Rattle.ctl_asks.proofs.making.make.Goals as goal
+
+pub returns-in-Ok-clause-ok : goal.returns-in-Ok-clause-ok
+returns-in-Ok-clause-ok g c = record {
+  stands = λ b h. c.in-Ok.ensures.ok b (c.in_ok-reserve.ensures.ok b h);
+  lists = ap (λ (x : State g.row.L.Denot). x.objects.lists) c.in-Ok.ensures.next ∙ ap (λ (x : State g.row.L.Denot). x.objects.lists ++ no_belongings ∷ []) c.in_ok-reserve.ensures.next;
+  boxes = ap (λ (x : State g.row.L.Denot). x.boxes) c.in-Ok.ensures.next ∙ ap (λ (x : State g.row.L.Denot). x.boxes ++ with_spare 2 no_mail ∷ []) c.in_ok-reserve.ensures.next;
+}
+
+pub returns-in-Err-clause-err : goal.returns-in-Err-clause-err
+returns-in-Err-clause-err g c =
+    boxes_back c.args.state.now c.reserve.new.self c.make_socket.new.self c.release.new.self 0 2 c.requires.takes.some c.in_ok-reserve.ensures.next c.in-Err.ensures.err c.release.ensures

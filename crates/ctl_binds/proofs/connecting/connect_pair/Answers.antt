@@ -1,0 +1,80 @@
+use Rattle.std.specs.Prelude.{◌++◌, ◌∷◌, [], List, length, true, refl}
+use Rattle.std.proofs.Common.{ap, ◌∙◌}
+use Rattle.spec_control.specs.declared.entry.Joining.{Joining}
+use Rattle.spec_control.specs.declared.entry.PipeName.{PipeName}
+use Rattle.spec_control.specs.Control.{draws, end_of}
+use Rattle.ctl_state.specs.Listed.{with_last}
+use Rattle.ctl_state.specs.Lists.{no_hold, with_holds}
+use Rattle.ctl_state.specs.Parts.{on_lists}
+use Rattle.ctl_joins.specs.Noting.{joins_named, pipes_named}
+use Rattle.ctl_joins.proofs.ConnectingLemmas.{connects, drawn_last, few_numbers, first_waker, last_waker, may_join, not_there, room_to_hold}
+use Rattle.ctl_joins.proofs.PapersLemmas.{drawn_makes}
+use Rattle.ctl_binds.specs.Holding.{joined_at}
+use Rattle.ctl_binds.proofs.connecting.connect_pair.Goals as goal
+
+pub make_first-requires : goal.make_first-requires
+make_first-requires g c = record {
+  mine = first_waker c.args.state.now (g.H.Holder.holding c.args.holder.now) c.args.o (length c.args.wakers.now) c.requires.may;
+  theirs = last_waker c.args.state.now (g.H.Holder.holding c.args.holder.now) c.args.o (length c.args.wakers.now) c.requires.may;
+  makes = drawn_makes c.args.state.now c.draw_held.new.state c.args.o.first.0 c.args.o.last.0 c.args.o true g.H.Holder.may_make c.in-Ok-draw_held.pair c.in-Ok-draw_held.ensures.number c.in-Ok-draw_held.ensures.ok c.requires.makes;
+  here = c.requires.may.lent;
+  new = not_there c.args.state.now (g.H.Holder.holding c.args.holder.now) c.args.o (length c.args.wakers.now) c.requires.may c.in-Ok-draw_held.pair c.in-Ok-draw_held.ensures.number;
+  calm = ([], c.requires.calm);
+}
+
+pub hold_joined-requires : goal.hold_joined-requires
+hold_joined-requires g c = record {
+  room = room_to_hold c.args.state.now (g.H.Holder.holding c.args.holder.now) c.args.o (length c.args.wakers.now) c.requires.may c.in-Ok-draw_held.pair c.in-Ok-draw_held.ensures.number
+      c.draw_held.new.state (on_lists (with_holds (with_last no_hold) c.args.o.first.0) c.draw_held.new.state) c.args.at no_hold c.in-Ok-draw_held.ensures.next refl;
+}
+
+pub join_pair-requires : goal.join_pair-requires
+join_pair-requires g c =
+    let w = c.requires.may in
+    record {
+      may = may_join c.args.state.now (g.H.Holder.holding c.args.holder.now) c.args.o (length c.args.wakers.now) w c.in-Ok-draw_held.pair c.in-Ok-draw_held.ensures.number
+          c.draw_held.new.state c.hold_joined.new.state c.args.at (joined_at c.args.at c.in-Ok-draw_held.pair) c.in-Ok-draw_held.ensures.next c.hold_joined.ensures.next
+          g.P.Pipes.known.out_name g.P.Pipes.known.in_name c.in-Ok-make_first.made.end c.in-Ok-make_first.made.said.peer (g.H.Holder.holding c.make_first.new.holder) c.in-Ok-make_first.ensures.ok
+          (c.hold_joined.ensures.stands (draws c.args.o.first.0 c.args.o.last.0 w.control) (c.in-Ok-draw_held.ensures.ok w.control w.stands));
+    }
+
+pub returns-in-Ok-make_first-clause-ok : goal.returns-in-Ok-make_first-clause-ok
+returns-in-Ok-make_first-clause-ok g c = λ w.
+    let said = c.in-Ok-make_first.ensures.said _ (c.in-Ok-draw_held.ensures.ok w.control w.stands) in
+    let first = end_of c.in-Ok-draw_held.pair.0 true in
+    connects c.args.state.now (g.H.Holder.holding c.args.holder.now) c.args.o (length c.args.wakers.now) w c.in-Ok-draw_held.pair c.in-Ok-draw_held.ensures.number
+    c.draw_held.new.state c.hold_joined.new.state c.args.at (joined_at c.args.at c.in-Ok-draw_held.pair) c.in-Ok-draw_held.ensures.next c.hold_joined.ensures.next
+    g.P.Pipes.known.out_name g.P.Pipes.known.in_name c.in-Ok-make_first.made.end c.in-Ok-make_first.made.said.peer (g.H.Holder.holding c.make_first.new.holder) c.in-Ok-make_first.ensures.ok
+    (c.hold_joined.ensures.stands (draws c.args.o.first.0 c.args.o.last.0 w.control) (c.in-Ok-draw_held.ensures.ok w.control w.stands))
+    c.in-Ok-make_first.made.said.identity said.identity said.peer c.join_pair.new.state (g.H.Holder.holding c.join_pair.new.holder) c.note.new.self
+    (c.join_pair.ensures (may_join c.args.state.now (g.H.Holder.holding c.args.holder.now) c.args.o (length c.args.wakers.now) w c.in-Ok-draw_held.pair c.in-Ok-draw_held.ensures.number
+    c.draw_held.new.state c.hold_joined.new.state c.args.at (joined_at c.args.at c.in-Ok-draw_held.pair) c.in-Ok-draw_held.ensures.next c.hold_joined.ensures.next
+    g.P.Pipes.known.out_name g.P.Pipes.known.in_name c.in-Ok-make_first.made.end c.in-Ok-make_first.made.said.peer (g.H.Holder.holding c.make_first.new.holder) c.in-Ok-make_first.ensures.ok
+    (c.hold_joined.ensures.stands (draws c.args.o.first.0 c.args.o.last.0 w.control) (c.in-Ok-draw_held.ensures.ok w.control w.stands))))
+    (c.note.ensures.joined ∙ ap (λ (xs : List (Joining g.row.P-Name.Denot)). xs ++ joins_named first c.in-Ok-make_first.made.said.peer c.in-Ok-make_first.made.end.answer c.in-Ok-make_first.made.end.told ∷ []) c.in-Ok.ensures.joined)
+    (c.note.ensures.opened ∙ ap (λ (xs : List (PipeName g.row.P-Name.Denot)). xs ++ pipes_named first c.in-Ok-make_first.made.end.opened) c.in-Ok.ensures.opened)
+
+pub returns-in-Err-make_first-clause-err : goal.returns-in-Err-make_first-clause-err
+returns-in-Err-make_first-clause-err g c =
+    c.undraw_held.ensures (record { before = c.args.state.now; places = c.requires.may.places; is = c.in-Ok-draw_held.ensures.next })
+
+pub draw_held-requires : goal.draw_held-requires
+draw_held-requires g c = record { there = c.requires.may.places; few = few_numbers c.args.state.now (g.H.Holder.holding c.args.holder.now) c.args.o (length c.args.wakers.now) c.requires.may }
+
+pub note-requires : goal.note-requires
+note-requires g c = record { room = c.in-Ok.ensures.room }
+
+pub undraw_held-requires : goal.undraw_held-requires
+undraw_held-requires g c = record {
+  drawn = record { before = c.args.state.now; places = c.requires.may.places; is = c.in-Ok-draw_held.ensures.next };
+  last = drawn_last c.args.state.now (g.H.Holder.holding c.args.holder.now) c.args.o (length c.args.wakers.now) c.requires.may c.in-Ok-draw_held.pair c.in-Ok-draw_held.ensures.number c.draw_held.new.state c.in-Ok-draw_held.ensures.next;
+}
+
+pub returns-in-Err-make_first-clause-stays : goal.returns-in-Err-make_first-clause-stays
+returns-in-Err-make_first-clause-stays g c = c.in-Err-make_first.ensures.err
+
+pub returns-in-Err-make_first-clause-keeps : goal.returns-in-Err-make_first-clause-keeps
+returns-in-Err-make_first-clause-keeps g c = c.in-Err-make_first.ensures.keeps
+
+pub returns-in-Err-make_first-clause-heard : goal.returns-in-Err-make_first-clause-heard
+returns-in-Err-make_first-clause-heard g c = c.in-Err-make_first.ensures.heard

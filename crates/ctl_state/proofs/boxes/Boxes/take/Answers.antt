@@ -1,0 +1,13 @@
+use Rattle.std.specs.Prelude.{◌<◌, List, length}
+use Rattle.std.proofs.Common.{sym, subst}
+use Rattle.mailbox.specs.Mail.{Mail}
+use Rattle.ctl_state.specs.declared.command.Command.{Command}
+use Rattle.ctl_state.proofs.ShownLemmas.{bit_there, shown_read}
+use Rattle.ctl_state.proofs.boxes.Boxes.take.Goals as goal
+
+pub show-requires : goal.show-requires
+show-requires g c = record { there = bit_there c.self.inside.shown.items c.self.inside.boxes.items c.args.slot.0 c.self.invariant (subst (λ (bs : List (Mail (Command g.row.L.Denot))). c.args.slot.0 < length bs) (sym c.self.view_is) c.requires.there) }
+
+pub invariant_of-self : goal.invariant_of-self
+invariant_of-self g c =
+    shown_read c.self.inside.shown.items c.show.new.shown.items c.self.inside.boxes.items c.args.slot.0 c.take_front-command.new.self c.index.result.now (subst (λ (bs : List (Mail (Command g.row.L.Denot))). c.args.slot.0 < length bs) (sym c.self.view_is) c.requires.there) c.self.invariant c.show.ensures.long c.index.ensures c.show.ensures.each
