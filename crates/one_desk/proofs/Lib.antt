@@ -1,3 +1,4 @@
+pub mod NoteLemmas
 pub mod AckLemmas
 pub mod AsideLemmas
 pub mod AskLemmas

@@ -1,4 +1,5 @@
 pub mod Order
+pub mod Notes
 pub mod Laws
 pub mod Lent
 pub mod Reaping

@@ -77,7 +77,8 @@ where
     }
 
     /// The caller makes a request of the context's or of a socket's. Want of memory leaves all as it
-    /// was; a close wants none, nor does the first asking of the context to end.
+    /// was; a close wants none, nor does the first asking of the context to end. It costs what the
+    /// request costs the history, and an item of the order.
     pub fn ask<H: Undoes<P>>(
         &mut self,
         alloc: Global,

@@ -16,7 +16,7 @@ where
     P::Waker: Drop,
 {
     /// The caller closes its socket (zmq_close(3)): the socket's holder gives all ends of it, and the
-    /// reaper is to take them. It takes no memory.
+    /// reaper is to take them. It takes no memory, and costs a walk over the ends.
     pub fn close<H: Holder<P>>(&mut self, alloc: Global, socket: ObjId, holder: &mut H)
         requires gives { H.gives ≡ true }
         requires open { HasSocket self.old socket }

@@ -24,7 +24,8 @@ where
     P::Waker: Drop,
 {
     /// Tells that an end is at the delimiter of the pipe that it reads, with its holder. Answers
-    /// whether its state is one in which that is looked at; else nothing happens.
+    /// whether its state is one in which that is looked at; else nothing happens. It costs looks at some
+    /// rows, and what the holder does.
     pub fn delimiter<H: Holder<P>>(&mut self, alloc: Global, end: EndId, holder: &mut H) -> bool
         requires mine { HoldsEnd end (H.holding holder.old) }
         requires at { (H.holding holder.old).at_delimiter end ≡ true }
@@ -48,7 +49,8 @@ where
 
     /// Processes the oldest command of the mailbox of an object, with the object's holder, or finds
     /// it empty. The halves of ends that are on their way to it may join what the holder has. Want of
-    /// memory leaves the command where it was; only a bind takes any.
+    /// memory leaves the command where it was; only a bind takes any. It costs at the most a walk over
+    /// what the object has, its ends, its names or its children, and what the holder does.
     pub fn deliver<H: Holder<P>>(
         &mut self,
         alloc: Global,

@@ -6,14 +6,14 @@ ghost use Rattle.ctl_hears.specs.Processing.{IsSilent};
 ghost use Rattle.one_desk.specs.Lent.{Asks, GrowsBy, KeepsAside};
 
 use crate::mark::Mark;
+use crate::queue::Queue;
 use ctl_history::History;
-use ctl_state::RoomList;
 use http_server::Log;
 use msg_pipe::Pipes;
 use spec_control::{Answered, Reply};
 use std::alloc::{AllocError, Global};
 use std::marker::Model;
-use zq_base::{ObjId, Seq};
+use zq_base::Seq;
 
 /// A holder that had no end to answer for. It takes no memory.
 pub(crate) fn silent<N, S>(alloc: Global) -> Answered<N, S>
@@ -36,9 +36,8 @@ pub struct OneDesk<P: Pipes> {
     pub(crate) caller: u32,
     // One for each mailbox.
     pub(crate) wakers: Vec<P::Waker>,
-    // The closed sockets, but for such that have ended, in the order of their closing, with room for
-    // those that may still be closed.
-    pub(crate) closed: RoomList<ObjId>,
+    // The closed sockets in the order of their closing, with room for those that may still be closed.
+    pub(crate) closed: Queue,
 }
 
 impl<P: Pipes> Model for OneDesk<P> {
@@ -79,7 +78,7 @@ where
             order: Log::new(),
             caller: 0,
             wakers,
-            closed: RoomList::new(alloc),
+            closed: Queue::new(alloc, 1),
         })
     }
 
@@ -90,7 +89,8 @@ where
         self.caller = caller;
     }
 
-    /// The caller asks the context to end. Where it was not asked before this takes no memory.
+    /// The caller asks the context to end. Where it was not asked before this takes no memory. It costs
+    /// a walk over the sockets that were made.
     pub fn ask_term(&mut self, alloc: Global) -> Result<Reply, AllocError>
         ensures ok { IfOk result (λ reply. Asks AskTerm reply self.old self.new) }
         ensures reply { IfOk result (λ reply. reply ≡ reply_of (control_of self.old.past) AskTerm) }

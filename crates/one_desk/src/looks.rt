@@ -103,8 +103,8 @@ where
     }
 
     /// The caller looks at these mailboxes, and around where all of them are empty. A look that finds
-    /// a command is not noted. One at the reaper's mailboxes costs a look at each closed socket that
-    /// has not ended, up to the first for which a command waits.
+    /// a command is not noted. One at the reaper's mailboxes costs what it costs `deliver_first` to find
+    /// the first.
     pub fn look_at(&mut self, empty: SeenEmpty) -> Option<Sight>
         ensures empty { IfSome result (λ sight. Sees empty sight self.old self.new) }
         ensures waits { IfNone result ((self.new ≡ self.old)

@@ -21,7 +21,8 @@ where
     P::Waker: Drop,
 {
     /// The caller binds its socket to a name, with the holder of the socket's ends, which may make
-    /// those of the pairs (zmq_bind(3), zmq_inproc(7)).
+    /// those of the pairs (zmq_bind(3), zmq_inproc(7)). It costs a walk over the connects that wait for
+    /// this name, and copies of the name and of two identities for each pair.
     pub fn bind<H: Undoes<P>>(
         &mut self,
         alloc: Global,
@@ -53,7 +54,8 @@ where
     }
 
     /// The caller connects its socket to a name, with the holder of the socket's ends, which may make
-    /// that of the pair (zmq_connect(3), zmq_inproc(7)).
+    /// that of the pair (zmq_connect(3), zmq_inproc(7)). It costs a look-up, and copies of the name and of
+    /// two identities.
     pub fn connect<H: Holder<P>>(
         &mut self,
         alloc: Global,
@@ -84,7 +86,7 @@ where
         Ok(reply)
     }
     /// The caller strikes the oldest connect of its socket to the endpoint, with the holder of the
-    /// socket's ends (zmq_disconnect(3)).
+    /// socket's ends (zmq_disconnect(3)). It costs a walk over what the socket has bound and connected.
     pub fn disconnect<H: Holder<P>>(
         &mut self,
         alloc: Global,

@@ -1,112 +1,54 @@
-ghost use Rattle.std.specs.Prelude.{◌≡◌, ◌≢◌, ◌<◌, ℕ, All, find, filter, length, option_map, slice_index_or, [], true, IfSome, IfNone, IfOk, IsOk, OnOk, OnErr};
+ghost use Rattle.std.specs.Prelude.{◌≡◌, ◌≢◌, ℕ, [], true, IfSome, IfNone, IfOk, IsOk, OnOk, OnErr};
 ghost use Rattle.zq_base.specs.declared.ids.EndId.{EndId};
 ghost use Rattle.spec_control.specs.declared.entry.SeenEmpty.TheVariants.{Reapers};
 ghost use Rattle.spec_control.specs.ControlRun.{AreEmpty};
 ghost use Rattle.spec_control.specs.Names.{name_of};
-ghost use Rattle.spec_control.specs.Rows.{obj};
 ghost use Rattle.ctl_holder.specs.TakingOver.{MayTakeFirst};
 ghost use Rattle.ctl_history.specs.Past.{control_of};
 ghost use Rattle.ctl_plane.specs.Coming.{AreDistinct, BindsFit, TakesEnds};
 ghost use Rattle.ctl_plane.specs.Memory.{NoBindIsFirst, NoBindWaits};
 ghost use Rattle.ctl_plane.specs.Desk.{BringsWith, CountsWith, HasWhatTheySay, IsItsMailbox, KeepsUp};
-ghost use Rattle.socket_laws.specs.Closed.{lives, waits};
 ghost use Rattle.one_desk.specs.Lent.{coming_to, moments_of};
 ghost use Rattle.one_desk.specs.Reaping.{served_by, FindsFirst, HearsFrom, WaitsFirst};
 
 use crate::desk::OneDesk;
 use crate::mark::Mark;
-use ctl_history::{Heard, History};
+use ctl_history::Heard;
 use ctl_holder::Holder;
 use ctl_plane::Delivery;
-use ctl_state::RoomList;
 use msg_pipe::Pipes;
 use spec_control::SeenEmpty;
 use std::alloc::{AllocError, Global};
-use zq_base::{ObjId, SlotId};
-
-// Whether a command waits for a closed socket that the reaper took over.
-fn is_waiting<P: Pipes>(history: &History<P>, socket: ObjId) -> bool
-where
-    P::Name: Drop,
-    requires there { (obj (control_of history.now).rows socket.0).slot
-        < (control_of history.now).slots }
-    ensures { result ≡ waits (control_of history.now) socket }
-{
-    let slot = history.slot(socket);
-    if history.is_empty(slot) {
-        return false;
-    }
-    history.is_taken_over(socket)
-}
-
-// Where the first of these closed sockets stands for which a command waits.
-fn first_of<P: Pipes>(history: &History<P>, closed: &[ObjId]) -> Option<usize>
-where
-    P::Name: Drop,
-    requires there { All (λ o. (obj (control_of history.now).rows o.0).slot
-        < (control_of history.now).slots) closed.now }
-    ensures there { IfSome result (λ place. place < length closed.now) }
-    ensures first { option_map (λ place. slice_index_or closed.now place (record { 0 = 0 })) result
-        ≡ find (waits (control_of history.now)) closed.now }
-{
-    let many = closed.len();
-    'each: for place in 0..many {
-        let socket = closed[place];
-        if is_waiting(history, socket) {
-            return Some(place);
-        }
-    }
-    None
-}
-
-// Of closed sockets the one that stands there goes, if it has ended.
-fn forget<P: Pipes>(history: &History<P>, closed: &mut RoomList<ObjId>, place: usize)
-where
-    P::Name: Drop,
-    ensures living { filter (lives (control_of history.now)) closed.new.items
-        ≡ filter (lives (control_of history.now)) closed.old.items }
-    ensures some { (n : ℕ) → All (λ o. o.0 < n) closed.old.items →
-        All (λ o. o.0 < n) closed.new.items }
-    ensures spare { closed.new.spare ≡ closed.old.spare }
-{
-    if place < closed.as_slice().len() {
-        let socket = closed.as_slice()[place];
-        if history.has_ended(socket) {
-            closed.remove(place);
-        }
-    }
-}
+use zq_base::SlotId;
 
 impl<P: Pipes> OneDesk<P>
 where
     P::Name: Drop,
     P::Waker: Drop,
 {
-    // Of the closed sockets that are kept for the reaper the one at the place goes, if it has ended.
-    pub(crate) fn forget_ended(&mut self, place: Option<usize>)
-        ensures { self.new ≡ self.old }
-    {
-        if let Some(place) = place {
-            forget(&self.history, &mut self.closed, place);
-        }
-    }
-
-    // The first of the reaper's mailboxes in which a command waits: the root's, or that of a closed
-    // socket with the socket's place among those that are kept. It costs a look at each up to there.
-    pub(crate) fn first_slot(&self) -> Option<(SlotId, Option<usize>)>
-        ensures some { IfSome result (λ found. WaitsFirst found.0 self.now) }
-        ensures none { IfNone result (AreEmpty (control_of self.now.past) Reapers) }
+    // The first of the reaper's mailboxes in which a command waits.
+    pub(crate) fn first_slot(&mut self) -> Option<SlotId>
+        ensures stays { self.new ≡ self.old }
+        ensures some { IfSome result (λ slot. WaitsFirst slot self.old) }
+        ensures none { IfNone result (AreEmpty (control_of self.old.past) Reapers) }
     {
         if !self.history.is_empty(SlotId(0)) {
-            return Some((SlotId(0), None));
+            return Some(SlotId(0));
         }
-        match first_of(&self.history, self.closed.as_slice()) {
+        match self.closed.first(&self.history) {
             Some(place) => {
                 let socket = self.closed.as_slice()[place];
-                return Some((self.history.slot(socket), Some(place)));
+                return Some(self.history.slot(socket));
             }
             None => return None,
         }
+    }
+
+    // Of the closed sockets that are kept for the reaper those that have ended may go.
+    fn forget_ended(&mut self)
+        ensures { self.new ≡ self.old }
+    {
+        self.closed.thin(&self.history);
     }
 
     // Processes the oldest command of the root, with the reaper's holder.
@@ -216,8 +158,11 @@ where
     /// Processes the oldest command of the first of the reaper's mailboxes that is not empty, in the
     /// order of the root's and those of the closed sockets, or finds all of them empty. The reaper's
     /// holder takes in the ends of closed sockets. Want of memory leaves the command where it was;
-    /// only a bind takes any. It costs a look at each closed socket that has not ended, up to the
-    /// first for which a command waits, and a move of each behind it if that ends.
+    /// only a bind takes any. It costs a look at each word of 64 mailboxes from the first on in which a
+    /// closed socket that is kept has its own, or at each of these sockets where they are fewer, at
+    /// each word of 64 of them up to the first, and at each bit that changed since the last. Those are
+    /// kept that lived when it was last looked who has ended, and those that were closed since: once
+    /// they are twice as many as lived then, and 64, those that have ended go.
     pub fn deliver_first<H: Holder<P>>(
         &mut self,
         alloc: Global,
@@ -247,9 +192,9 @@ where
             (H.holding holder.old) (H.holding holder.new) }
     {
         match self.first_slot() {
-            Some((slot, place)) => {
+            Some(slot) => {
                 self.hear_first(alloc, slot, holder)?;
-                self.forget_ended(place);
+                self.forget_ended();
                 return Ok(Delivery::Done);
             }
             None => {

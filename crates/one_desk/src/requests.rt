@@ -9,8 +9,8 @@ ghost use Rattle.ctl_plane.specs.Asking.{MayHave};
 
 use crate::desk::{OneDesk, silent};
 use crate::mark::Mark;
+use crate::queue::Queue;
 use ctl_holder::Holder;
-use ctl_state::RoomList;
 use msg_pipe::Pipes;
 use spec_control::Reply;
 use std::alloc::{AllocError, Global};
@@ -28,7 +28,7 @@ fn add_waker<W: Drop>(wakers: &mut Vec<W>, reply: Reply, waker: W)
 }
 
 // The room for a socket's close is kept where the socket was made.
-fn keep_room(closed: &mut RoomList<ObjId>, reply: Reply)
+fn keep_room(closed: &mut Queue, reply: Reply)
     requires one { 1 ≤ closed.old.spare }
     ensures { closed.new ≡ without_room (1 - made_at_most reply) closed.old }
 {
@@ -43,7 +43,8 @@ where
     P::Name: Drop,
     P::Waker: Drop,
 {
-    /// The caller makes a socket (zmq_socket(3)). The socket is woken as this holder is.
+    /// The caller makes a socket (zmq_socket(3)). The socket is woken as this holder is. It costs the same
+    /// however many objects there are.
     pub fn make_socket<H: Holder<P>>(
         &mut self,
         alloc: Global,
@@ -59,7 +60,8 @@ where
         ensures keeps { KeepsAside self.old self.new }
     {
         self.wakers.reserve(1)?;
-        self.closed.reserve(1)?;
+        let mailboxes = self.history.mailboxes();
+        self.closed.reserve(mailboxes)?;
         match self
             .history
             .make_socket(alloc, kind, options, silent(alloc))
@@ -78,7 +80,8 @@ where
         }
     }
 
-    /// The caller strikes the first bind of its socket to the endpoint (zmq_unbind(3)).
+    /// The caller strikes the first bind of its socket to the endpoint (zmq_unbind(3)). It costs a walk
+    /// over what the socket has bound and connected.
     pub fn unbind(
         &mut self,
         alloc: Global,

@@ -1,12 +1,18 @@
-use Rattle.std.specs.Prelude.{◌≡◌, Result, Ok, Err, OnErr}
-use Rattle.std.proofs.Common.{sym, subst}
+use Rattle.std.specs.Prelude.{◌≡◌, ℕ, true, Result, Ok, Err, OnErr}
+use Rattle.std.proofs.Common.{sym, ap, ◌∙◌, subst}
 use Rattle.spec_control.specs.declared.entry.SeenEmpty.TheVariants.{Reapers}
 use Rattle.control_rows.proofs.ListLemmas.{never}
+use Rattle.zq_base.specs.declared.ids.EndId.{EndId}
+use Rattle.spec_control.specs.ControlRun.{AreEmpty}
+use Rattle.spec_control.specs.Names.{name_of}
 use Rattle.ctl_holder.specs.declared.given.Given.{Given}
-use Rattle.ctl_plane.specs.Coming.{TakesEnds}
-use Rattle.ctl_plane.specs.Desk.{BringsWith, CountsWith, KeepsUp, brings_with, counts_with}
-use Rattle.one_desk.specs.Lent.{Lent, moments_of}
-use Rattle.one_desk.specs.Reaping.{HearsFirst}
+use Rattle.ctl_holder.specs.TakingOver.{MayTakeFirst}
+use Rattle.ctl_history.specs.Past.{control_of}
+use Rattle.ctl_plane.specs.Coming.{AreDistinct, BindsFit, TakesEnds}
+use Rattle.ctl_plane.specs.Memory.{NoBindWaits}
+use Rattle.ctl_plane.specs.Desk.{BringsWith, CountsWith, HasWhatTheySay, KeepsUp, brings_with, counts_with}
+use Rattle.one_desk.specs.Lent.{coming_to, Lent, Sees, moments_of}
+use Rattle.one_desk.specs.Reaping.{HearsFrom, WaitsFirst, served_by}
 use Rattle.one_desk.proofs.PlaneLemmas.{takes_none}
 use Rattle.one_desk.proofs.TellLemmas.{look_tells}
 use Rattle.one_desk.proofs.desk.OneDesk.deliver_first.Goals as goal
@@ -15,50 +21,82 @@ on_err : {X E : Type 0} (r : Result X E) (P : Type 0) → P → OnErr r P
 on_err (Ok x) P p = tt
 on_err (Err e) P p = p
 
+-- what is so of two is so of what is equal to them
+between : {X : Type 0} {a b c d : X} (R : X → X → Type 0) → a ≡ b → d ≡ c → R a c → R b d
+between {X = X} {a = a} {d = d} R old new h = subst (λ (x : X). R x d) old (subst (λ (y : X). R a y) (sym new) h)
+
 pub hear_first-requires-clause-first : goal.hear_first-requires-clause-first
-hear_first-requires-clause-first g c = c.in-Some.ensures.some
+hear_first-requires-clause-first g c =
+    subst (λ (d : Lent (Given g.row.P-Name.Denot g.row.P-Out.Denot g.row.P-In.Denot) g.row.P-Name.Denot g.row.P-Story.Denot). WaitsFirst c.in-Some.slot d) (sym c.first_slot.ensures.stays) c.in-Some.ensures.some
+
+pub hear_first-requires-clause-lent : goal.hear_first-requires-clause-lent
+hear_first-requires-clause-lent g c =
+    subst (λ (d : Lent (Given g.row.P-Name.Denot g.row.P-Out.Denot g.row.P-In.Denot) g.row.P-Name.Denot g.row.P-Story.Denot). (m i : ℕ) → served_by d m i ≡ true → (g.H.Holder.holding c.args.holder.now).holds i ≡ true) (sym c.first_slot.ensures.stays) c.requires.lent
+
+pub hear_first-requires-clause-has : goal.hear_first-requires-clause-has
+hear_first-requires-clause-has g c =
+    subst (λ (d : Lent (Given g.row.P-Name.Denot g.row.P-Out.Denot g.row.P-In.Denot) g.row.P-Name.Denot g.row.P-Story.Denot). HasWhatTheySay d.caller (moments_of d) (g.H.Holder.holding c.args.holder.now)) (sym c.first_slot.ensures.stays) c.requires.has
+
+pub hear_first-requires-clause-distinct : goal.hear_first-requires-clause-distinct
+hear_first-requires-clause-distinct g c =
+    subst (λ (d : Lent (Given g.row.P-Name.Denot g.row.P-Out.Denot g.row.P-In.Denot) g.row.P-Name.Denot g.row.P-Story.Denot). AreDistinct g.P.Pipes.known.exact (name_of d.items)) (sym c.first_slot.ensures.stays) c.requires.distinct
+
+pub hear_first-requires-clause-fits : goal.hear_first-requires-clause-fits
+hear_first-requires-clause-fits g c =
+    subst (λ (d : Lent (Given g.row.P-Name.Denot g.row.P-Out.Denot g.row.P-In.Denot) g.row.P-Name.Denot g.row.P-Story.Denot). (m i : ℕ) → served_by d m i ≡ true → BindsFit g.P.Pipes.known.out_name g.P.Pipes.known.in_name (name_of d.items) (coming_to d m) (λ h. (e : EndId) → g.H.Holder.fits c.args.holder.now e h)) (sym c.first_slot.ensures.stays) c.requires.fits
+
+pub hear_first-requires-clause-takes : goal.hear_first-requires-clause-takes
+hear_first-requires-clause-takes g c =
+    subst (λ (d : Lent (Given g.row.P-Name.Denot g.row.P-Out.Denot g.row.P-In.Denot) g.row.P-Name.Denot g.row.P-Story.Denot). MayTakeFirst (g.H.Holder.may_take c.args.holder.now) (control_of d.past) d.past.given) (sym c.first_slot.ensures.stays) c.requires.takes
 
 pub returns-in_err-hear_first-in-Some-clause-err : goal.returns-in_err-hear_first-in-Some-clause-err
-returns-in_err-hear_first-in-Some-clause-err g c = on_err c.from_residual.result (c.hear_first.new.self ≡ c.args.self.now) c.in_err-hear_first-in-Some.ensures.err
+returns-in_err-hear_first-in-Some-clause-err g c =
+    on_err c.from_residual.result (c.hear_first.new.self ≡ c.args.self.now) (c.in_err-hear_first-in-Some.ensures.err ∙ c.first_slot.ensures.stays)
 
 pub returns-in-Some-clause-ok : goal.returns-in-Some-clause-ok
 returns-in-Some-clause-ok g c =
-    subst (λ (d : Lent (Given g.row.P-Name.Denot g.row.P-Out.Denot g.row.P-In.Denot) g.row.P-Name.Denot g.row.P-Story.Denot). HearsFirst c.args.self.now d) (sym c.forget_ended.ensures) (record { slot = c.in-Some.slot; first = c.in-Some.ensures.some.first; hears = c.in_ok-hear_first-in-Some.ensures.ok })
+    record { slot = c.in-Some.slot; first = c.in-Some.ensures.some.first; hears = between (λ (d e : Lent (Given g.row.P-Name.Denot g.row.P-Out.Denot g.row.P-In.Denot) g.row.P-Name.Denot g.row.P-Story.Denot). HearsFrom c.in-Some.slot d e) c.first_slot.ensures.stays c.forget_ended.ensures c.in_ok-hear_first-in-Some.ensures.ok }
 
 pub returns-in-Some-clause-counts : goal.returns-in-Some-clause-counts
 returns-in-Some-clause-counts g c =
-    subst (λ (d : Lent (Given g.row.P-Name.Denot g.row.P-Out.Denot g.row.P-In.Denot) g.row.P-Name.Denot g.row.P-Story.Denot). CountsWith g.P.Pipes.known.out_name (g.H.Holder.counts c.args.holder.now) (moments_of c.args.self.now) (moments_of d) (g.H.Holder.holding c.args.holder.now)) (sym c.forget_ended.ensures) c.hear_first.ensures.counts
+    between (λ (d e : Lent (Given g.row.P-Name.Denot g.row.P-Out.Denot g.row.P-In.Denot) g.row.P-Name.Denot g.row.P-Story.Denot). CountsWith g.P.Pipes.known.out_name (g.H.Holder.counts c.args.holder.now) (moments_of d) (moments_of e) (g.H.Holder.holding c.args.holder.now)) c.first_slot.ensures.stays c.forget_ended.ensures c.hear_first.ensures.counts
 
 pub returns-in-Some-clause-brings : goal.returns-in-Some-clause-brings
 returns-in-Some-clause-brings g c =
-    subst (λ (d : Lent (Given g.row.P-Name.Denot g.row.P-Out.Denot g.row.P-In.Denot) g.row.P-Name.Denot g.row.P-Story.Denot). BringsWith g.P.Pipes.known.out_name g.P.Pipes.known.in_name (moments_of c.args.self.now) (moments_of d) c.args.self.now.past.given d.past.given) (sym c.forget_ended.ensures) c.hear_first.ensures.brings
+    between (λ (d e : Lent (Given g.row.P-Name.Denot g.row.P-Out.Denot g.row.P-In.Denot) g.row.P-Name.Denot g.row.P-Story.Denot). BringsWith g.P.Pipes.known.out_name g.P.Pipes.known.in_name (moments_of d) (moments_of e) d.past.given e.past.given) c.first_slot.ensures.stays c.forget_ended.ensures c.hear_first.ensures.brings
 
 pub returns-in-Some-clause-given : goal.returns-in-Some-clause-given
-returns-in-Some-clause-given g c = subst (λ (d : Lent (Given g.row.P-Name.Denot g.row.P-Out.Denot g.row.P-In.Denot) g.row.P-Name.Denot g.row.P-Story.Denot). TakesEnds c.args.self.now.past.given d.past.given) (sym c.forget_ended.ensures) c.hear_first.ensures.given
+returns-in-Some-clause-given g c =
+    between (λ (d e : Lent (Given g.row.P-Name.Denot g.row.P-Out.Denot g.row.P-In.Denot) g.row.P-Name.Denot g.row.P-Story.Denot). TakesEnds d.past.given e.past.given) c.first_slot.ensures.stays c.forget_ended.ensures c.hear_first.ensures.given
 
 pub returns-in-Some-clause-keeps : goal.returns-in-Some-clause-keeps
-returns-in-Some-clause-keeps g c = subst (λ (d : Lent (Given g.row.P-Name.Denot g.row.P-Out.Denot g.row.P-In.Denot) g.row.P-Name.Denot g.row.P-Story.Denot). KeepsUp d.caller (moments_of c.args.self.now) (moments_of d) (g.H.Holder.holding c.args.holder.now) (g.H.Holder.holding c.hear_first.new.holder)) (sym c.forget_ended.ensures) c.hear_first.ensures.keeps
+returns-in-Some-clause-keeps g c =
+    between (λ (d e : Lent (Given g.row.P-Name.Denot g.row.P-Out.Denot g.row.P-In.Denot) g.row.P-Name.Denot g.row.P-Story.Denot). KeepsUp e.caller (moments_of d) (moments_of e) (g.H.Holder.holding c.args.holder.now) (g.H.Holder.holding c.hear_first.new.holder)) c.first_slot.ensures.stays c.forget_ended.ensures c.hear_first.ensures.keeps
 
 pub note_look-requires : goal.note_look-requires
-note_look-requires g c = record { empty = c.in-None.ensures.none }
+note_look-requires g c =
+    record { empty = subst (λ (d : Lent (Given g.row.P-Name.Denot g.row.P-Out.Denot g.row.P-In.Denot) g.row.P-Name.Denot g.row.P-Story.Denot). AreEmpty (control_of d.past) Reapers) (sym c.first_slot.ensures.stays) c.in-None.ensures.none }
 
 pub returns-in-None-clause-ok : goal.returns-in-None-clause-ok
-returns-in-None-clause-ok g c = record { sight = c.note_look.result; sees = c.note_look.ensures.sees }
+returns-in-None-clause-ok g c =
+    record { sight = c.note_look.result; sees = subst (λ (d : Lent (Given g.row.P-Name.Denot g.row.P-Out.Denot g.row.P-In.Denot) g.row.P-Name.Denot g.row.P-Story.Denot). Sees Reapers c.note_look.result d c.note_look.new.self) c.first_slot.ensures.stays c.note_look.ensures.sees }
 
 pub returns-in-None-clause-counts : goal.returns-in-None-clause-counts
 returns-in-None-clause-counts g c =
-    look_tells (λ item. counts_with g.P.Pipes.known.out_name (g.H.Holder.counts c.args.holder.now) (g.H.Holder.holding c.args.holder.now) item) c.args.self.now c.note_look.new.self Reapers c.note_look.result c.note_look.ensures.sees tt
+    look_tells (λ item. counts_with g.P.Pipes.known.out_name (g.H.Holder.counts c.args.holder.now) (g.H.Holder.holding c.args.holder.now) item) c.args.self.now c.note_look.new.self Reapers c.note_look.result (subst (λ (d : Lent (Given g.row.P-Name.Denot g.row.P-Out.Denot g.row.P-In.Denot) g.row.P-Name.Denot g.row.P-Story.Denot). Sees Reapers c.note_look.result d c.note_look.new.self) c.first_slot.ensures.stays c.note_look.ensures.sees) tt
 
 pub returns-in-None-clause-brings : goal.returns-in-None-clause-brings
 returns-in-None-clause-brings g c =
-    look_tells (λ item. brings_with g.P.Pipes.known.out_name g.P.Pipes.known.in_name item c.args.self.now.past.given c.note_look.new.self.past.given) c.args.self.now c.note_look.new.self Reapers c.note_look.result c.note_look.ensures.sees tt
+    look_tells (λ item. brings_with g.P.Pipes.known.out_name g.P.Pipes.known.in_name item c.args.self.now.past.given c.note_look.new.self.past.given) c.args.self.now c.note_look.new.self Reapers c.note_look.result (subst (λ (d : Lent (Given g.row.P-Name.Denot g.row.P-Out.Denot g.row.P-In.Denot) g.row.P-Name.Denot g.row.P-Story.Denot). Sees Reapers c.note_look.result d c.note_look.new.self) c.first_slot.ensures.stays c.note_look.ensures.sees) tt
 
 pub returns-in-None-clause-given : goal.returns-in-None-clause-given
-returns-in-None-clause-given g c = takes_none c.args.self.now.past c.note_look.new.self.past c.note_look.ensures.sees.past
+returns-in-None-clause-given g c =
+    takes_none c.args.self.now.past c.note_look.new.self.past (c.note_look.ensures.sees.past ∙ ap (λ (d : Lent (Given g.row.P-Name.Denot g.row.P-Out.Denot g.row.P-In.Denot) g.row.P-Name.Denot g.row.P-Story.Denot). d.past) c.first_slot.ensures.stays)
 
 pub returns-in-None-clause-keeps : goal.returns-in-None-clause-keeps
-returns-in-None-clause-keeps g c = c.note_look.ensures.keeps (g.H.Holder.holding c.args.holder.now) c.requires.has
+returns-in-None-clause-keeps g c =
+    subst (λ (d : Lent (Given g.row.P-Name.Denot g.row.P-Out.Denot g.row.P-In.Denot) g.row.P-Name.Denot g.row.P-Story.Denot). KeepsUp c.note_look.new.self.caller (moments_of d) (moments_of c.note_look.new.self) (g.H.Holder.holding c.args.holder.now) (g.H.Holder.holding c.args.holder.now)) c.first_slot.ensures.stays (c.note_look.ensures.keeps (g.H.Holder.holding c.args.holder.now) (subst (λ (d : Lent (Given g.row.P-Name.Denot g.row.P-Out.Denot g.row.P-In.Denot) g.row.P-Name.Denot g.row.P-Story.Denot). HasWhatTheySay d.caller (moments_of d) (g.H.Holder.holding c.args.holder.now)) (sym c.first_slot.ensures.stays) c.requires.has))
 
 pub returns-in_err-hear_first-in-Some-clause-succeeds : goal.returns-in_err-hear_first-in-Some-clause-succeeds
-returns-in_err-hear_first-in-Some-clause-succeeds g c = λ none.
-    absurd (never (c.in_err-hear_first-in-Some.ensures.succeeds (none c.in-Some.slot.0 c.in-Some.ensures.some.here)))
+returns-in_err-hear_first-in-Some-clause-succeeds g c =
+    λ none. absurd (never (c.in_err-hear_first-in-Some.ensures.succeeds (subst (λ (d : Lent (Given g.row.P-Name.Denot g.row.P-Out.Denot g.row.P-In.Denot) g.row.P-Name.Denot g.row.P-Story.Denot). NoBindWaits (control_of d.past) c.in-Some.slot.0) (sym c.first_slot.ensures.stays) (none c.in-Some.slot.0 c.in-Some.ensures.some.here))))

@@ -1,10 +1,9 @@
-use Rattle.std.specs.Prelude.{◌<◌, List, Some, All, find, length, map, slice_index_or}
-use Rattle.std.proofs.Common.{sym, ap, ◌∙◌, subst}
+use Rattle.std.specs.Prelude.{List, Some, length, map, slice_index_or}
+use Rattle.std.proofs.Common.{sym, ap, ◌∙◌}
 use Rattle.zq_base.specs.declared.ids.ObjId.{ObjId}
-use Rattle.spec_control.specs.Rows.{obj}
 use Rattle.control_rows.proofs.ListLemmas.{never}
+use Rattle.ctl_state.specs.Listed.{Listed}
 use Rattle.ctl_history.specs.Past.{control_of}
-use Rattle.socket_laws.specs.Closed.{waits}
 use Rattle.one_desk.proofs.FirstLemmas.{closed_first, none_first, root_first, slots_there}
 use Rattle.one_desk.proofs.LentLemmas.{kept_of}
 use Rattle.one_desk.proofs.RootLemmas.{root_there}
@@ -13,10 +12,11 @@ use Rattle.one_desk.proofs.desk.OneDesk.first_slot.Goals as goal
 pub is_empty-requires : goal.is_empty-requires
 is_empty-requires g c = record { there = root_there (map (λ x. x.0) c.self.inside.order.items) c.self.inside.history (length c.self.inside.wakers.items) c.self.invariant.0 }
 
-pub first_of-requires : goal.first_of-requires
-first_of-requires g c = record {
-  there = subst (λ (os : List ObjId). All (λ o. (obj (control_of c.self.inside.history).rows o.0).slot < (control_of c.self.inside.history).slots) os) (sym c.as_slice.ensures)
-      (slots_there c.self.inside.history.workers (control_of c.self.inside.history) (kept_of (map (λ x. x.0) c.self.inside.order.items) c.self.inside.history (length c.self.inside.wakers.items) c.self.invariant.0) c.self.invariant.0.boxes c.self.inside.closed.items c.self.invariant.1.there);
+pub first-requires : goal.first-requires
+first-requires g c = record {
+  there = slots_there c.self.inside.history.workers (control_of c.self.inside.history) (kept_of (map (λ x. x.0) c.self.inside.order.items) c.self.inside.history (length c.self.inside.wakers.items) c.self.invariant.0) c.self.invariant.0.boxes c.self.inside.closed.items c.self.invariant.1.there;
+  boxes = c.self.invariant.0.boxes;
+  made = c.self.invariant.1.there;
 }
 
 pub returns-then-not-is_empty-clause-some : goal.returns-then-not-is_empty-clause-some
@@ -26,11 +26,10 @@ returns-then-not-is_empty-clause-some g c =
 pub returns-in-Some-clause-some : goal.returns-in-Some-clause-some
 returns-in-Some-clause-some g c =
     closed_first (map (λ x. x.0) c.self.inside.order.items) c.self.inside.history (length c.self.inside.wakers.items) c.self.inside.caller c.args.self.now c.self.view_is c.self.invariant.0 c.self.inside.closed c.self.invariant.1 (c.is_empty.ensures.0 c.if-not-is_empty.false) _ c.slot.result
-    (ap (λ (os : List ObjId). find (waits (control_of c.self.inside.history)) os) (sym c.as_slice.ensures)
-    ∙ sym c.in-Some.ensures.first
-    ∙ ap (λ (os : List ObjId). Some (slice_index_or os c.in-Some.place (record { 0 = 0 }))) (c.as_slice.ensures ∙ sym c.as_slice-in-Some.ensures)) c.slot.ensures
+    (sym c.in-Some.ensures.first
+    ∙ ap (λ (os : List ObjId). Some (slice_index_or os c.in-Some.place (record { 0 = 0 }))) (sym (c.as_slice.ensures ∙ ap (λ (l : Listed ObjId). l.items) c.first.ensures.stays))) c.slot.ensures
 
 pub returns-in-None-clause-none : goal.returns-in-None-clause-none
 returns-in-None-clause-none g c =
     none_first (map (λ x. x.0) c.self.inside.order.items) c.self.inside.history (length c.self.inside.wakers.items) c.self.inside.caller c.args.self.now c.self.view_is c.self.invariant.0 c.self.inside.closed c.self.invariant.1 (c.is_empty.ensures.0 c.if-not-is_empty.false)
-    (ap (λ (os : List ObjId). find (waits (control_of c.self.inside.history)) os) (sym c.as_slice.ensures) ∙ sym c.in-None.ensures.first)
+    (sym c.in-None.ensures.first)

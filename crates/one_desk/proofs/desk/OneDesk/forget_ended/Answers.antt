@@ -10,9 +10,9 @@ invariant_of-self g c =
     let reaps = c.self.invariant.1 in (
       c.self.invariant.0,
       record {
-        same = c.forget.ensures.living ∙ reaps.same;
-        there = c.forget.ensures.some (next_object (control_of c.self.inside.history)) reaps.there;
+        same = c.thin.ensures.living ∙ reaps.same;
+        there = c.thin.ensures.there (next_object (control_of c.self.inside.history)) reaps.there;
         closed_there = reaps.closed_there;
-        room = subst (λ (n : ℕ). unclosed (control_of c.self.inside.history) ≤ n) (sym c.forget.ensures.spare) reaps.room;
+        room = subst (λ (n : ℕ). unclosed (control_of c.self.inside.history) ≤ n) (sym c.thin.ensures.spare) reaps.room;
       },
     )

@@ -1,7 +1,7 @@
 use Rattle.std.specs.Prelude.{◌≡◌, None, find, take}
 use Rattle.ctl_history.specs.Past.{control_of}
 use Rattle.socket_laws.specs.Closed.{waits}
-use Rattle.one_desk.proofs.reaping.first_of.Given as goal
+use Rattle.one_desk.proofs.queue.first_of.Given as goal
 
 -- nothing waits for those so far
 abbrev pub invariant-each : goal.invariant-each

@@ -2,7 +2,7 @@ use Rattle.std.proofs.Common.{arith, sym, ◌∙◌}
 use Rattle.ctl_history.specs.Past.{control_of}
 use Rattle.socket_laws.specs.Closed.{waits}
 use Rattle.socket_laws.proofs.ReapLemmas.{find_at, find_past}
-use Rattle.one_desk.proofs.reaping.first_of.Goals as goal
+use Rattle.one_desk.proofs.queue.first_of.Goals as goal
 
 pub returns-then-is_waiting-clause-first : goal.returns-then-is_waiting-clause-first
 returns-then-is_waiting-clause-first g c =
