@@ -1,7 +1,7 @@
 #!/bin/sh
 # Refuses memory to zbus, at each allocation of the stored row and of each example in turn. With that one and all
 # behind it refused, zbus has to end with 6 and write nothing. With that one alone refused it has to do the same, or to
-# do without and end as with all its memory: with 0 and the whole text. Another text or status never comes.
+# do without and end as with all its memory: with the same code and the whole text. Another text or status never comes.
 # Usage: tools/refuse_memory.sh, after `rt run` in crates/zbus, which makes crates/zbus/out/zbus, the program that is tried.
 # It takes gcc and glibc, and a few milliseconds a try. It stands outside the gate.
 
@@ -51,7 +51,7 @@ try() {
     # shellcheck disable=SC2086
     REFUSE=$1 CALLS=$work/calls LD_PRELOAD=$work/refuse.so "$program" $words < "$input" > "$work/text" 2> "$work/messages"
     code=$?
-    if [ "$code" = 0 ] && cmp -s "$work/text" "$text" && [ ! -s "$work/messages" ]; then
+    if [ "$code" = "$due" ] && cmp -s "$work/text" "$text" && [ ! -s "$work/messages" ]; then
         end=whole
     elif [ "$code" = 6 ] && [ ! -s "$work/text" ] && [ ! -s "$work/messages" ]; then
         end=refused
@@ -64,14 +64,15 @@ try() {
 
 # row WORDS INPUT TEXT: all tries of one run of the program.
 row() {
-    words=$1 input=$2 text=$3
+    words=$1 input=$2 text=$3 due=0
+    [ "$(tail -n 1 "$text")" != unfinished ] || due=8
     try 0-0
     [ "$end" = whole ] || { echo "$input: memory is wanting though none is refused"; exit 1; }
     made=$(cat "$work/calls")
     number=1 did_without=0
     while [ "$number" -le "$made" ]; do
         try "$number-18446744073709551615"
-        [ "$end" = refused ] || { echo "$input: it ends with 0 though no allocation from $number on is given"; exit 1; }
+        [ "$end" = refused ] || { echo "$input: it ends with $due though no allocation from $number on is given"; exit 1; }
         try "$number-$number"
         [ "$end" = refused ] || did_without=$((did_without + 1))
         number=$((number + 1))
@@ -93,4 +94,4 @@ for text in examples/*.journal examples/*.heard; do
     row "$asked" "$octets" "$text"
 done
 echo "$rows rows, $total allocations. With all behind it refused, each ends with 6 and nothing written; alone, $((total - without)) do,"
-echo "and the program does without the other $without: 0 and the same text"
+echo "and the program does without the other $without: the same exit code and text"

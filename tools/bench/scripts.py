@@ -4,7 +4,7 @@
 usage: scripts.py lines COUNT | many COUNT PAIRS | stream SIZE | pair COUNT PAIRS | ask COUNT PEERS
                   | deal COUNT PEERS | route COUNT PEERS | one COUNT PEERS | publish COUNT PEERS TOPICS MATCHES
                   | subscribe COUNT PEERS TOPICS | follow COUNT PEERS | beside COUNT OTHERS | wait COUNT WAITING
-                  | long COUNT OCTETS | close COUNT PAIRS | bare COUNT | join COUNT [MARK] | waiting COUNT CLOSED
+                  | long COUNT OCTETS | close COUNT PAIRS | bare COUNT | own PAIRS | join COUNT [MARK] | waiting COUNT CLOSED
                   [-- PROGRAM WORD..]
 
 `lines` is a script of one PULL and one PUSH, `many` one of a PUSH and so many PULLs, `stream` the octets of a PUSH with
@@ -16,7 +16,8 @@ a PUB with so many pairs, at SUBs of so many topics each, where MATCHES of the p
 PUBs, which send by turns; `beside` is as `lines`, behind so many other pairs of a PUB and a SUB; `wait` of so many
 connects to a name that nobody holds, and then of binds of other names; `long` of a PUB and a SUB, with one
 topic of so many octets that is each message; `close` of a PULL and PUSHes, of which so many are made and joined and then
-closed, over and over; `bare` of sockets that are made alone; `join` of a PUSH that connects to a PULL over and over, with
+closed, over and over; `bare` of sockets that are made alone; `own` of PULLs with a PUSH each, all PUSHes closed and
+then all PULLs; `join` of a PUSH that connects to a PULL over and over, with
 this mark each, if one is given; `waiting` of a PUSH and a PULL, by turns, behind so many PUSHes that are joined to another
 PULL and closed, and can't end since nothing is asked of that PULL.
 
@@ -174,6 +175,13 @@ def bare(count):
     return text(["actor a"] + ["socket s%d PUSH" % one for one in range(count)], count)
 
 
+def own(pairs):
+    made = ("socket r%d PULL", "bind r%d inproc://q%d", "socket s%d PUSH", "connect s%d inproc://q%d")
+    said = ["actor a"] + [line.replace("%d", str(one)) for one in range(pairs) for line in made]
+    said += [line % one for line in ("close s%d", "close r%d") for one in range(pairs)]
+    return text(said, len(said))
+
+
 def join(count, mark=None):
     marks = (" rcvhwm=%d" % mark, " hwm=%d" % mark) if mark else ("", "")
     said = ["actor a", "socket r PULL" + marks[0], "socket s PUSH" + marks[1], "bind r inproc://q"]
@@ -210,7 +218,8 @@ def main():
         words = words[:words.index("--")]
     makers = {"lines": lines, "many": many, "stream": stream, "pair": pair, "ask": ask, "deal": deal, "route": route,
               "one": one, "publish": publish, "subscribe": subscribe, "follow": follow, "beside": beside, "wait": wait,
-              "long": long, "close": close, "bare": bare, "join": join, "waiting": waiting}
+              "long": long, "close": close, "bare": bare, "own": own, "join": join,
+              "waiting": waiting}
     if not words or words[0] not in makers:
         sys.exit(__doc__)
     octets = makers[words[0]](*[int(word) for word in words[1:]])

@@ -79,4 +79,9 @@ where
             drops: Vec::new(alloc),
         })
     }
+
+    /// Gives back all that it has. Who drops it so makes no code for its parts.
+    pub fn end(self) {
+        drop(self);
+    }
 }

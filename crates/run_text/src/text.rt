@@ -1,4 +1,5 @@
-ghost use Rattle.std.specs.Prelude.{◌≡◌, [], IfOk};
+ghost use Rattle.std.specs.Prelude.{◌≡◌, [], IfOk, IfErr};
+ghost use Rattle.clock_reads.specs.Readings.{clock_at, GoesOn};
 ghost use Rattle.script_actor.specs.MayAsk.{MayAskScript};
 ghost use Rattle.run_text.specs.RunText.{told_of, TellsPlay, TellsRun, IsRunDue};
 
@@ -11,6 +12,7 @@ use run_script::read_run_script;
 use script_bounds::scripts_are_done_in_time;
 use spec_run::{RunActor, RunJournal};
 use std::alloc::{AllocError, Global};
+use zq_outer::Clock;
 use zq_script::ReadScript;
 use zq_world::{Core, play_script};
 
@@ -26,47 +28,55 @@ fn tell(alloc: Global, journal: &RunJournal) -> Result<RunText, AllocError>
 }
 
 /// Plays a script over a new core, and tells the journal.
-fn play<P: Pipes, W: Core<P>>(
+fn play<P: Pipes, W: Core<P>, C: Clock>(
     alloc: Global,
     script: &[RunActor],
     core: &mut W,
+    clock: &mut C,
     seed: u64,
     turns: u32,
 ) -> Result<RunText, AllocError>
     requires new { W.pieces core.old ≡ [] }
     requires may { MayAskScript script.now }
-    ensures { IfOk result (TellsPlay P.Name P.Story script.now
-        (record { seed = seed; turns = turns })) }
+    ensures tells { IfOk result (TellsPlay P.Name P.Story script.now (record { seed = seed; turns = turns })
+        (clock_at (C.last clock.old) (C.to_come clock.old)) (clock_at (C.last clock.new) (C.to_come clock.new))) }
+    ensures err { IfErr result (λ _.
+        GoesOn (clock_at (C.last clock.old) (C.to_come clock.old)) (clock_at (C.last clock.new) (C.to_come clock.new))) }
 {
-    let journal = play_script(alloc, script, core, seed, turns)?;
+    let journal = play_script(alloc, script, core, clock, seed, turns)?;
     let said = tell(alloc, &journal);
     drop(journal);
     said
 }
 
 /// Reads a script, plays it on one thread over a new core, in the orders that the seed draws and with
-/// so many turns at the most, and prints its journal. Want of memory alone is an error.
-pub fn text_of_run<P: Pipes, W: Core<P>>(
+/// so many turns at the most, while it reads the clock, and prints its journal. Want of memory alone is an error.
+pub fn text_of_run<P: Pipes, W: Core<P>, C: Clock>(
     alloc: Global,
     octets: &[u8],
     core: &mut W,
+    clock: &mut C,
     seed: u64,
     turns: u32,
 ) -> Result<RunText, AllocError>
     requires new { W.pieces core.old ≡ [] }
-    // The text is that of the script's one journal; a fault is that of octets that are no script.
-    ensures tells { IfOk result (TellsRun P.Name P.Story
-        (record { seed = seed; turns = turns }) octets.now) }
+    // The text is that of the script's one journal, of a run whose readings the clock gave; a fault is
+    // that of octets that are no script, and the clock is as it was.
+    ensures tells { IfOk result (TellsRun P.Name P.Story (record { seed = seed; turns = turns }) octets.now
+        (clock_at (C.last clock.old) (C.to_come clock.old)) (clock_at (C.last clock.new) (C.to_come clock.new))) }
     // And which of them is told is settled by the octets, the seed and the turns.
     ensures due { IfOk result (IsRunDue P.Name P.Story
         (record { seed = seed; turns = turns }) octets.now) }
+    // Without memory the clock went on by some readings.
+    ensures err { IfErr result (λ _.
+        GoesOn (clock_at (C.last clock.old) (C.to_come clock.old)) (clock_at (C.last clock.new) (C.to_come clock.new))) }
 {
     a_script_has_one_run_journal::<P::Name, P::Story>();
     scripts_are_done_in_time::<P::Name, P::Story>();
     scripts_that_are_read_may_be_asked();
     match read_run_script(alloc, octets) {
         Ok(script) => {
-            let said = play(alloc, script.as_slice(), core, seed, turns);
+            let said = play(alloc, script.as_slice(), core, clock, seed, turns);
             drop(script);
             return said;
         }

@@ -1,7 +1,8 @@
-ghost use Rattle.std.specs.Prelude.{◌≡◌, ◌≤◌, ℕ, Bool, List, map, string_bytes, codes, IfOk, IfSome};
+ghost use Rattle.std.specs.Prelude.{◌≡◌, ◌≤◌, ℕ, Bool, List, map, string_bytes, codes, IfOk, IfErr, IfSome};
 ghost use Rattle.spec_zmtp.specs.Metadata.{IsLogin};
 ghost use Rattle.zq_hear.specs.HearText.{IsHeard, hear_opts};
-ghost use Rattle.zq_call.specs.Call.{AsksRun, AsksHear, SaysText, source_at, heard_status};
+ghost use Rattle.clock_reads.specs.Readings.{clock_at, ClockAt, GoesOn};
+ghost use Rattle.zq_call.specs.Call.{AsksRun, AsksHear, SaysText, input_at, heard_status};
 
 use crate::runs::Runs;
 use crate::status::Status;
@@ -9,20 +10,23 @@ use crate::streams::{ReadError, read_all, read_script_text};
 use std::alloc::{AllocError, Global};
 use zq_base::{Kind, Login};
 use zq_hear::hear;
-use zq_outer::Source;
+use zq_outer::{Clock, Source};
 use zq_words::{Request, WordsError, read_words};
 
 /// The text of a call that was asked to run by this schedule, and its status.
-fn read_and_run<X: Runs, S: Source>(
+fn read_and_run<X: Runs, S: Source, C: Clock>(
     alloc: Global,
     script: &mut S,
+    clock: &mut C,
     seed: u64,
     turns: u32,
 ) -> Result<(Status, Vec<u8>), AllocError>
     ensures says { (words : List (List ℕ)) → AsksRun words (record { seed = seed; turns = turns }) → IfOk result (λ said.
         SaysText X.prints X.refuses said.0 words
-        (source_at (S.left script.old) (S.faults script.old) (S.ends script.old))
-        (source_at (S.left script.new) (S.faults script.new) (S.ends script.new)) said.1.items) }
+        (input_at (S.left script.old) (S.faults script.old) (S.ends script.old) (clock_at (C.last clock.old) (C.to_come clock.old)))
+        (input_at (S.left script.new) (S.faults script.new) (S.ends script.new) (clock_at (C.last clock.new) (C.to_come clock.new))) said.1.items) }
+    ensures err { IfErr result (λ _. GoesOn
+        (clock_at (C.last clock.old) (C.to_come clock.old)) (clock_at (C.last clock.new) (C.to_come clock.new))) }
     ensures faults { S.faults script.old ≤ S.faults script.new }
 {
     let octets = match read_script_text(alloc, script) {
@@ -32,7 +36,7 @@ fn read_and_run<X: Runs, S: Source>(
         }
         Err(ReadError::OutOfMemory) => return Err(AllocError),
     };
-    let said = X::text_of(alloc, &octets, seed, turns)?;
+    let said = X::text_of::<C>(alloc, &octets, clock, seed, turns)?;
     Ok(said)
 }
 
@@ -64,10 +68,10 @@ fn read_and_hear<X: Runs, S: Source>(
     login: Option<Login>,
 ) -> Result<(Status, Vec<u8>), AllocError>
     requires login { IfSome login IsLogin }
-    ensures { (words : List (List ℕ)) → AsksHear words kind login → IfOk result (λ said.
+    ensures { (words : List (List ℕ)) (clock : ClockAt) → AsksHear words kind login → IfOk result (λ said.
         SaysText X.prints X.refuses said.0 words
-        (source_at (S.left peer.old) (S.faults peer.old) (S.ends peer.old))
-        (source_at (S.left peer.new) (S.faults peer.new) (S.ends peer.new)) said.1.items) }
+        (input_at (S.left peer.old) (S.faults peer.old) (S.ends peer.old) clock)
+        (input_at (S.left peer.new) (S.faults peer.new) (S.ends peer.new) clock) said.1.items) }
 {
     let octets = match read_all(alloc, peer) {
         Ok(octets) => octets,
@@ -89,18 +93,21 @@ fn usage(alloc: Global) -> Result<(Status, Vec<u8>), AllocError>
 }
 
 /// The text of a call with these words, and its status.
-pub(crate) fn text_for<X: Runs, S: Source>(
+pub(crate) fn text_for<X: Runs, S: Source, C: Clock>(
     alloc: Global,
     words: &[String],
     script: &mut S,
+    clock: &mut C,
 ) -> Result<(Status, Vec<u8>), AllocError>
-    ensures { IfOk result (λ said. SaysText X.prints X.refuses said.0 (map string_bytes words.now)
-        (source_at (S.left script.old) (S.faults script.old) (S.ends script.old))
-        (source_at (S.left script.new) (S.faults script.new) (S.ends script.new)) said.1.items) }
+    ensures says { IfOk result (λ said. SaysText X.prints X.refuses said.0 (map string_bytes words.now)
+        (input_at (S.left script.old) (S.faults script.old) (S.ends script.old) (clock_at (C.last clock.old) (C.to_come clock.old)))
+        (input_at (S.left script.new) (S.faults script.new) (S.ends script.new) (clock_at (C.last clock.new) (C.to_come clock.new))) said.1.items) }
+    ensures err { IfErr result (λ _. GoesOn
+        (clock_at (C.last clock.old) (C.to_come clock.old)) (clock_at (C.last clock.new) (C.to_come clock.new))) }
 {
     match read_words(alloc, words) {
         Ok(Request::Run { seed, turns }) => {
-            let said = read_and_run::<X, S>(alloc, script, seed, turns)?;
+            let said = read_and_run::<X, S, C>(alloc, script, clock, seed, turns)?;
             return Ok(said);
         }
         Ok(Request::Hear { kind, login }) => {

@@ -1,6 +1,6 @@
 use std::alloc::Global;
 use std::test::Fail;
-use zq_outer::{MemSink, MemSource, NoHost, OpenGate, TickClock};
+use zq_outer::{Clock, MemSink, MemSource, NoHost, OpenGate, TickClock};
 use zq_top::{Status, run};
 
 /// What a call answered, and what its sink took.
@@ -37,12 +37,25 @@ fn sink(alloc: Global, failing: &[u64], sizes: &[usize]) -> Result<MemSink, Fail
 }
 
 /// The program's call over memory, without hosts.
-fn run_over(alloc: Global, words: &[String], source: &mut MemSource, sink: &mut MemSink) -> Status {
+fn run_over(
+    alloc: Global,
+    words: &[String],
+    source: &mut MemSource,
+    sink: &mut MemSink,
+    clock: &mut TickClock,
+) -> Status {
     let mut hosts: Vec<NoHost> = Vec::new(alloc);
+    run(alloc, words, source, sink, &mut hosts, clock, &OpenGate)
+}
+
+/// What a clock reads behind a call over a source and a sink that never fail.
+pub fn read_behind(alloc: Global, words: &[&str], octets: &[u8]) -> Result<u64, Fail> {
+    let words = list(alloc, words)?;
+    let mut source = source(alloc, octets, &[], &[4096])?;
+    let mut sink = sink(alloc, &[], &[4096])?;
     let mut clock = TickClock::new();
-    run(
-        alloc, words, source, sink, &mut hosts, &mut clock, &OpenGate,
-    )
+    run_over(alloc, &words, &mut source, &mut sink, &mut clock);
+    Ok(clock.now())
 }
 
 /// The same over a sink whose writes move so many octets in turn, and of which those of these numbers fail.
@@ -54,7 +67,8 @@ fn call_over(
     sizes: &[usize],
 ) -> Result<Called, Fail> {
     let mut sink = sink(alloc, failing_writes, sizes)?;
-    let status = run_over(alloc, words, source, &mut sink);
+    let mut clock = TickClock::new();
+    let status = run_over(alloc, words, source, &mut sink, &mut clock);
     let text = Vec::from_slice(alloc, sink.octets())?;
     Ok(Called { status, text })
 }

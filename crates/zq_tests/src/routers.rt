@@ -14,10 +14,10 @@ const ROUTERS: [(&[u8], &[u8]); 9] = [
         b"actor a\nsocket r ROUTER\nsend r k hi\nsend r k\nsocket m ROUTER mandatory\nsend m k hi\nsend m k\nrecv m\n",
         b"a 2 ok o1\na 3 drop unroutable\na 4 nobody\na 5 ok o2\na 6 unreachable\na 7 nobody\na 8 again\nend o1 ROUTER\nend o2 ROUTER\nend o0 ctx\ndone\n",
     ),
-    // Of two peers of one name the second stays unattached.
+    // Of two peers of one name the second stays unattached, and its end is asked: it can be written no longer.
     (
-        b"actor a\nsocket r ROUTER\nsocket d DEALER id=k\nsocket e DEALER id=k\nbind r inproc://x\nconnect d inproc://x\nconnect e inproc://x\nsend e two\nsend d one\nrecv r\nrecv r\nsend r k back\nrecv e\nrecv d\n",
-        b"a 2 ok o1\na 3 ok o2\na 4 ok o3\na 5 ok\na 6 ok p1\na 7 ok p2\na 8 ok p2\na 9 ok p1\na 10 msg p1 k one\na 11 again\na 12 ok p1\na 13 again\na 14 msg p1 back\nend o1 ROUTER\nend o2 DEALER\nend o3 DEALER\nend o0 ctx\npipe p1a sent 1 given 1 heard 0 dropped 0 written 0 lost 0 rest 0 -\npipe p1b sent 1 given 1 heard 0 dropped 0 written 0 lost 0 rest 0 -\npipe p2a sent 1 given 0 heard 0 dropped 0 written 0 lost 0 rest 1 badid\npipe p2b sent 0 given 0 heard 0 dropped 0 written 0 lost 0 rest 0 -\ndone\n",
+        b"actor a\nsocket r ROUTER\nsocket d DEALER id=k\nsocket e DEALER id=k\nbind r inproc://x\nconnect d inproc://x\nconnect e inproc://x\nsend e two\nsend d one\nrecv r\nrecv r\nsend r k back\nrecv e\nrecv d\nsend e x\n",
+        b"a 2 ok o1\na 3 ok o2\na 4 ok o3\na 5 ok\na 6 ok p1\na 7 ok p2\na 8 ok p2\na 9 ok p1\na 10 msg p1 k one\na 11 again\na 12 ok p1\na 13 again\na 14 msg p1 back\na 15 again\nend o1 ROUTER\nend o2 DEALER\nend o3 DEALER\nend o0 ctx\npipe p1a sent 1 given 1 heard 0 dropped 0 written 0 lost 0 rest 0 -\npipe p1b sent 1 given 1 heard 0 dropped 0 written 0 lost 0 rest 0 -\npipe p2a sent 1 given 0 heard 0 dropped 0 written 0 lost 0 rest 1 badid\npipe p2b sent 0 given 0 heard 0 dropped 0 written 0 lost 0 rest 0 -\ndone\n",
     ),
     // A peer that says no name gets the next number as one.
     (

@@ -1,4 +1,4 @@
-use crate::calls::answers;
+use crate::calls::{answers, read_behind};
 use std::alloc::Global;
 use std::test::Fail;
 use zq_top::Status;
@@ -244,6 +244,14 @@ fn numbered(alloc: Global, before: &[u8], count: usize) -> Result<Vec<u8>, Fail>
 fn actors_answer(alloc: Global, count: usize, status: Status, text: &[u8]) -> Result<bool, Fail> {
     let script = numbered(alloc, b"actor ", count)?;
     answers(alloc, RUN, &script, status, text)
+}
+
+// A run that isn't done after three turns has read 0 before the first of them, and 1, 2 and 3 at their ends.
+#[test]
+fn a_clock_is_read_once_and_at_each_turns_end(rt: HostRuntime) -> Result<(), Fail> {
+    let words: &[&str] = &["zbus", "run", "--turns", "3"];
+    assert!(rt; read_behind(rt.alloc(), words, TWO_MESSAGES)? == 4);
+    Ok(())
 }
 
 #[test]

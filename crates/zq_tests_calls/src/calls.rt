@@ -1,25 +1,28 @@
-ghost use Rattle.std.specs.Prelude.{◌≡◌, true};
-
+use clock_reads::read_clock;
 use std::alloc::{AllocError, Global};
 use std::test::Fail;
 use zq_call::{Runs, Status, call};
-use zq_outer::{MemSink, MemSource, NoHost, OpenGate, TickClock};
+use zq_outer::{Clock, MemSink, MemSource, NoHost, OpenGate, TickClock};
 
-/// Says of each script its own octets, as the text of a run that is done.
+/// Says of each script its own octets, as the text of a run that is done, and reads the clock once.
 pub struct Echo;
 
 impl Runs for Echo {
-    ghost prints = { λ _ done octets text. (done ≡ true) × (text ≡ octets) };
+    ghost use Rattle.std.specs.Prelude.{◌≡◌, true, length};
+
+    ghost prints = { λ _ done octets readings text. (done ≡ true) × (length readings ≡ 1) × (text ≡ octets) };
 
     ghost refuses = { λ _ _. ⊥ };
 
-    fn text_of(
+    fn text_of<C: Clock>(
         alloc: Global,
         octets: &[u8],
+        clock: &mut C,
         _: u64,
         _: u32,
     ) -> Result<(Status, Vec<u8>), AllocError> {
         let text = Vec::from_slice(alloc, octets)?;
+        read_clock(clock);
         Ok((Status::Done, text))
     }
 }
@@ -59,11 +62,11 @@ fn call_over(
     words: &[String],
     source: &mut MemSource,
     sink: &mut MemSink,
+    clock: &mut TickClock,
 ) -> Status {
     let mut hosts: Vec<NoHost> = Vec::new(alloc);
-    let mut clock = TickClock::new();
     call::<Echo, MemSource, MemSink, NoHost, TickClock, OpenGate>(
-        alloc, words, source, sink, &mut hosts, &mut clock, &OpenGate,
+        alloc, words, source, sink, &mut hosts, clock, &OpenGate,
     )
 }
 
@@ -74,8 +77,20 @@ pub fn call_through(
     source: &mut MemSource,
     sink: &mut MemSink,
 ) -> Result<Status, AllocError> {
+    let mut clock = TickClock::new();
+    call_at(alloc, words, source, sink, &mut clock)
+}
+
+/// And with this clock.
+pub fn call_at(
+    alloc: Global,
+    words: &[&str],
+    source: &mut MemSource,
+    sink: &mut MemSink,
+    clock: &mut TickClock,
+) -> Result<Status, AllocError> {
     let words = list(alloc, words)?;
-    let status = call_over(alloc, &words, source, sink);
+    let status = call_over(alloc, &words, source, sink, clock);
     drop(words);
     Ok(status)
 }

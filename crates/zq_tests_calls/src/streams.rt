@@ -1,8 +1,8 @@
-use crate::calls::{Failing, answers, call_through, fails_to_read, gives, sink, source};
+use crate::calls::{Failing, answers, call_at, call_through, fails_to_read, gives, sink, source};
 use std::alloc::{AllocError, Global};
 use std::test::Fail;
 use zq_call::Status;
-use zq_outer::{Got, MemSource, Source};
+use zq_outer::{Clock, Got, MemSource, Source, TickClock};
 
 /// The words of a run as usual.
 const RUN: &[&str] = &["zbus", "run"];
@@ -47,6 +47,23 @@ fn left_of(alloc: Global, words: &[&str], count: usize) -> Result<usize, AllocEr
 #[test]
 fn a_longer_source_is_read_no_further(rt: HostRuntime) -> Result<(), Fail> {
     assert!(rt; left_of(rt.alloc(), RUN, 1_048_600)? == 23);
+    Ok(())
+}
+
+/// What a clock reads behind a call that found these octets.
+fn read_behind(alloc: Global, words: &[&str], octets: &[u8]) -> Result<u64, AllocError> {
+    let mut source = source(alloc, octets, &[], &[65_536])?;
+    let mut sink = sink(alloc, &[], &[65_536])?;
+    let mut clock = TickClock::new();
+    call_at(alloc, words, &mut source, &mut sink, &mut clock)?;
+    Ok(clock.now())
+}
+
+#[test]
+fn a_run_alone_reads_the_clock(rt: HostRuntime) -> Result<(), Fail> {
+    assert!(rt; read_behind(rt.alloc(), RUN, SCRIPT)? == 1);
+    assert!(rt; read_behind(rt.alloc(), &["zbus", "hear", "PULL"], b"")? == 0);
+    assert!(rt; read_behind(rt.alloc(), &["zbus", "sing"], b"")? == 0);
     Ok(())
 }
 

@@ -110,7 +110,7 @@ pub fn core_answers(alloc: Global, octets: &[u8], text: &[u8]) -> bool {
     match OneCore::new(alloc, PlainPipes::new(alloc), (), ()) {
         Ok(mut core) => {
             let said = is_answered(alloc, &mut core, octets, text);
-            drop(core);
+            core.end();
             return said;
         }
         Err(_) => return false,

@@ -19,7 +19,7 @@ fn order_ends(alloc: Global, script: &[RunActor], order: &[usize]) -> Result<boo
 {
     let mut core = OneCore::new(alloc, PlainPipes::new(alloc), (), ())?;
     let ended = ends(alloc, &mut core, script, order);
-    drop(core);
+    core.end();
     ended
 }
 

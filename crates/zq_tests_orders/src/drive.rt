@@ -10,6 +10,7 @@ use msg_pipe::Pipes;
 use script_actor::Actor;
 use spec_run::RunActor;
 use std::alloc::{AllocError, Global};
+use zq_outer::TickClock;
 use zq_world::{Core, run};
 
 // In how many turns the root has to have ended, once the steps of the order are over.
@@ -66,7 +67,8 @@ fn goes<P: Pipes, W: Core<P>>(
     requires alone { IsReaper (length actors.old) (W.pieces way.old) }
 {
     steps(alloc, way, actors, order)?;
-    run(alloc, way, actors, 0, TURNS)
+    let mut clock = TickClock::new();
+    run(alloc, way, actors, &mut clock, 0, TURNS)
 }
 
 // The actors of a script, before their first lines.

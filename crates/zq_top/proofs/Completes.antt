@@ -16,7 +16,7 @@ use Rattle.zq_base.specs.declared.options.Login.{Login}
 use Rattle.zq_words.specs.declared.request.Request.{Request}
 use Rattle.zq_words.specs.declared.request.Request.TheVariants as request
 use Rattle.zq_top.specs.Told.{Told}
-use Rattle.zq_call.specs.Call.{AsksRun, AsksNothing, AsksHear, SourceAt, WasRead}
+use Rattle.zq_call.specs.Call.{AsksRun, AsksNothing, AsksHear, SourceAt, InputAt, WasRead}
 use Rattle.zq_call.specs.declared.status.Status.{Status}
 use Rattle.zq_call.specs.declared.status.Status.TheVariants as status
 use Rattle.zq_top.specs.Headline.{AsksScript, IsJournal, Prints, SaysText, ComesDue, run_status}
@@ -73,12 +73,12 @@ run_hears_none : (words : List (List ℕ)) (schedule : Schedule) (kind : Kind) (
 run_hears_none words schedule kind login asks hears = not_hear schedule.seed schedule.turns kind login (sym asks ∙ hears)
 
 -- a run that is asked for ends as its one journal does
-module _ (words : List (List ℕ)) (before after : SourceAt) (text : List ℕ) (schedule : Schedule) (script : RunScript) (asks : AsksScript words before.left schedule script) where
+module _ (words : List (List ℕ)) (before after : InputAt) (text : List ℕ) (schedule : Schedule) (script : RunScript) (asks : AsksScript words before.source.left schedule script) where
   -- a journal that was printed is of this script, by this schedule
-  one_end : (done : Bool) (other : Schedule) (read : List ℕ) (j : RunJournal) → AsksRun words other → WasRead before after read → Prints other done read text
+  one_end : (done : Bool) (other : Schedule) (read readings : List ℕ) (j : RunJournal) → AsksRun words other → WasRead before.source after.source read → Prints other done read readings text
       → IsJournal script schedule j → j.done ≡ done
-  one_end done other read j asked_other was_read prints is =
-      let same : read ≡ asks.octets = script_read before after asks.octets read script asks.left_is was_read asks.script_is in
+  one_end done other read readings j asked_other was_read prints is =
+      let same : read ≡ asks.octets = script_read before.source after.source asks.octets read script asks.left_is was_read asks.script_is in
       let found : run_script_of asks.octets ≡ Ok prints.script = subst (λ (l : List ℕ). run_script_of l ≡ Ok prints.script) same prints.script_is in
       let whole = sym asks.script_is ∙ found in
       let one : script ≡ prints.script = cc in
@@ -86,36 +86,36 @@ module _ (words : List (List ℕ)) (before after : SourceAt) (text : List ℕ) (
       let there : IsJournal prints.script other j = subst (λ (t : Schedule). IsJournal prints.script t j) when (subst (λ (t : RunScript). IsJournal t schedule j) one is) in
       ap (λ (k : RunJournal). k.done) (prints.only j there) ∙ prints.done_is
 
-  pub ends_so : (s : Status) (j : RunJournal) → (Rose before.faults after.faults → ⊥) → SaysText s words before after text → IsJournal script schedule j → ComesDue s (run_status j.done)
-  ends_so status.Done j sound (inl (other, asked_other, (read, was_read, prints))) is = inl (ap run_status (sym (one_end true other read j asked_other was_read prints is)))
-  ends_so status.Done j sound (inr (kind, login, asked_other, heard)) is = absurd (run_hears_none words schedule kind login asks.asks asked_other)
-  ends_so status.Script j sound (other, asked_other, (read, was_read, refuses)) is =
-      let same : read ≡ asks.octets = script_read before after asks.octets read script asks.left_is was_read asks.script_is in
+  pub ends_so : (s : Status) (j : RunJournal) → (Rose before.source.faults after.source.faults → ⊥) → SaysText s words before after text → IsJournal script schedule j → ComesDue s (run_status j.done)
+  ends_so status.Done j sound (inl (other, asked_other, (read, was_read, (readings, prints, reads)))) is = inl (ap run_status (sym (one_end true other read readings j asked_other was_read prints is)))
+  ends_so status.Done j sound (inr (kind, login, asked_other, heard, still)) is = absurd (run_hears_none words schedule kind login asks.asks asked_other)
+  ends_so status.Script j sound (other, asked_other, (read, was_read, (refuses, still))) is =
+      let same : read ≡ asks.octets = script_read before.source after.source asks.octets read script asks.left_is was_read asks.script_is in
       let clash : run_script_of asks.octets ≡ Err refuses.fault = subst (λ (l : List ℕ). run_script_of l ≡ Err refuses.fault) same refuses.fault_is in
       let both = sym asks.script_is ∙ clash in absurd (cc)
   ends_so status.Usage j sound says is = absurd (run_asks words schedule asks.asks says.0)
   ends_so status.ReadFault j sound says is = absurd (sound says.1)
   ends_so status.WriteFault j sound says is = absurd says
   ends_so status.OutOfMemory j sound says is = inr refl
-  ends_so status.Unfinished j sound (other, asked_other, (read, was_read, prints)) is = inl (ap run_status (sym (one_end false other read j asked_other was_read prints is)))
-  ends_so status.Heard j sound (kind, login, asked_other, heard) is = absurd (run_hears_none words schedule kind login asks.asks asked_other)
+  ends_so status.Unfinished j sound (other, asked_other, (read, was_read, (readings, prints, reads))) is = inl (ap run_status (sym (one_end false other read readings j asked_other was_read prints is)))
+  ends_so status.Heard j sound (kind, login, asked_other, heard, still) is = absurd (run_hears_none words schedule kind login asks.asks asked_other)
 
-module _ (words : List (List ℕ)) (before after : SourceAt) (text octets : List ℕ) (schedule : Schedule) (asks : AsksRun words schedule) (left : before.left ≡ Some octets)
-    (sound : Rose before.faults after.faults → ⊥) where
+module _ (words : List (List ℕ)) (before after : InputAt) (text octets : List ℕ) (schedule : Schedule) (asks : AsksRun words schedule) (left : before.source.left ≡ Some octets)
+    (sound : Rose before.source.faults after.source.faults → ⊥) where
   pub completes : ScriptsAreDoneInTime ℕ Told → ScriptsMayBeAsked → (s : Status) (script : RunScript) → SaysText s words before after text → run_script_of octets ≡ Ok script
       → script_turns script ≤ schedule.turns → (s ≡ status.Done) ⊎ (s ≡ status.OutOfMemory)
   completes in_time may status.Done script says is few = inl refl
-  completes in_time may status.Script script (other, asked_other, (read, was_read, refuses)) is few =
-      let same : read ≡ octets = script_read before after octets read script left was_read is in
+  completes in_time may status.Script script (other, asked_other, (read, was_read, (refuses, still))) is few =
+      let same : read ≡ octets = script_read before.source after.source octets read script left was_read is in
       let clash : run_script_of octets ≡ Err refuses.fault = subst (λ (l : List ℕ). run_script_of l ≡ Err refuses.fault) same refuses.fault_is in
       let both = sym is ∙ clash in cc
   completes in_time may status.Usage script says is few = absurd (run_asks words schedule asks says.0)
   completes in_time may status.ReadFault script says is few = absurd (sound says.1)
   completes in_time may status.WriteFault script says is few = absurd says
   completes in_time may status.OutOfMemory script says is few = inr refl
-  completes in_time may status.Heard script (kind, login, asked_other, heard) is few = absurd (run_hears_none words schedule kind login asks asked_other)
-  completes in_time may status.Unfinished script (other, asked_other, (read, was_read, prints)) is few =
-      let same : read ≡ octets = script_read before after octets read script left was_read is in
+  completes in_time may status.Heard script (kind, login, asked_other, heard, still) is few = absurd (run_hears_none words schedule kind login asks asked_other)
+  completes in_time may status.Unfinished script (other, asked_other, (read, was_read, (readings, prints, reads))) is few =
+      let same : read ≡ octets = script_read before.source after.source octets read script left was_read is in
       let found : run_script_of octets ≡ Ok prints.script = subst (λ (l : List ℕ). run_script_of l ≡ Ok prints.script) same prints.script_is in
       let one : script ≡ prints.script = let both = sym is ∙ found in cc in
       let when : schedule ≡ other = one_schedule words schedule other asks asked_other in
@@ -124,9 +124,9 @@ module _ (words : List (List ℕ)) (before after : SourceAt) (text octets : List
 
   pub refuses : (s : Status) (fault : ScriptFault) → SaysText s words before after text → run_script_of octets ≡ Err fault
       → (s ≡ status.Script) ⊎ (s ≡ status.OutOfMemory)
-  refuses status.Done fault (inr (kind, login, asked_other, heard)) is = absurd (run_hears_none words schedule kind login asks asked_other)
-  refuses status.Done fault (inl (other, asked_other, (read, was_read, prints))) is =
-      let same : read ≡ octets = all_read before after octets read prints.script left was_read prints.script_is in
+  refuses status.Done fault (inr (kind, login, asked_other, heard, still)) is = absurd (run_hears_none words schedule kind login asks asked_other)
+  refuses status.Done fault (inl (other, asked_other, (read, was_read, (readings, prints, reads)))) is =
+      let same : read ≡ octets = all_read before.source after.source octets read prints.script left was_read prints.script_is in
       let found : run_script_of octets ≡ Ok prints.script = subst (λ (l : List ℕ). run_script_of l ≡ Ok prints.script) same prints.script_is in
       let both = sym found ∙ is in cc
   refuses status.Script fault says is = inl refl
@@ -134,8 +134,8 @@ module _ (words : List (List ℕ)) (before after : SourceAt) (text octets : List
   refuses status.ReadFault fault says is = absurd (sound says.1)
   refuses status.WriteFault fault says is = absurd says
   refuses status.OutOfMemory fault says is = inr refl
-  refuses status.Heard fault (kind, login, asked_other, heard) is = absurd (run_hears_none words schedule kind login asks asked_other)
-  refuses status.Unfinished fault (other, asked_other, (read, was_read, prints)) is =
-      let same : read ≡ octets = all_read before after octets read prints.script left was_read prints.script_is in
+  refuses status.Heard fault (kind, login, asked_other, heard, still) is = absurd (run_hears_none words schedule kind login asks asked_other)
+  refuses status.Unfinished fault (other, asked_other, (read, was_read, (readings, prints, reads))) is =
+      let same : read ≡ octets = all_read before.source after.source octets read prints.script left was_read prints.script_is in
       let found : run_script_of octets ≡ Ok prints.script = subst (λ (l : List ℕ). run_script_of l ≡ Ok prints.script) same prints.script_is in
       let both = sym found ∙ is in cc

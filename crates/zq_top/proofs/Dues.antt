@@ -5,7 +5,7 @@ use Rattle.zq_outer.specs.Count.{Rose}
 use Rattle.read_laws.specs.ReadScripts.{ScriptsMayBeAsked}
 use Rattle.script_bounds.specs.ScriptBounds.{ScriptsAreDoneInTime}
 use Rattle.zq_top.specs.Told.{Told}
-use Rattle.zq_call.specs.Call.{SourceAt, Outside, IsSound}
+use Rattle.zq_call.specs.Call.{InputAt, Outside, IsSound}
 use Rattle.zq_call.specs.Edge.{ExitsSo}
 use Rattle.zq_call.specs.declared.status.Status.{Status}
 use Rattle.zq_call.specs.declared.status.Status.TheVariants as status
@@ -15,8 +15,8 @@ use Rattle.zq_top.proofs.Completes.{completes, refuses, ends_so}
 use Rattle.zq_top.proofs.Hears.{hears}
 
 -- the status of what is said is due
-pub due_said : ScriptsAreDoneInTime ℕ Told → ScriptsMayBeAsked → (s : Status) (words : List (List ℕ)) (before after : SourceAt) (text : List ℕ) → (Rose before.faults after.faults → ⊥)
-    → SaysText s words before after text → IsDue s words before.left
+pub due_said : ScriptsAreDoneInTime ℕ Told → ScriptsMayBeAsked → (s : Status) (words : List (List ℕ)) (before after : InputAt) (text : List ℕ) → (Rose before.source.faults after.source.faults → ⊥)
+    → SaysText s words before after text → IsDue s words before.source.left
 due_said in_time may s words before after text sound says = record {
   run = λ schedule script j asks is. ends_so words before after text schedule script asks s j sound says is;
   completes = λ schedule script asks enough. completes words before after text asks.octets schedule asks.asks asks.left_is sound in_time may s script says asks.script_is enough;
@@ -35,15 +35,15 @@ due_in_want words left = record {
 
 -- where neither stream failed, the status of a call is due
 pub answers_due : ScriptsAreDoneInTime ℕ Told → ScriptsMayBeAsked → (s : Status) (words : List (List ℕ)) (before after : Outside) → AnswersCall s words before after
-    → IsSound before after → IsDue s words before.source.left
-answers_due in_time may status.Done words before after (text, says, taken) sound = due_said in_time may status.Done words before.source after.source text sound.0 says
-answers_due in_time may status.Script words before after (text, says, taken) sound = due_said in_time may status.Script words before.source after.source text sound.0 says
-answers_due in_time may status.Usage words before after (text, says, taken) sound = due_said in_time may status.Usage words before.source after.source text sound.0 says
-answers_due in_time may status.ReadFault words before after (text, says, taken) sound = due_said in_time may status.ReadFault words before.source after.source text sound.0 says
+    → IsSound before after → IsDue s words before.input.source.left
+answers_due in_time may status.Done words before after (text, says, taken) sound = due_said in_time may status.Done words before.input after.input text sound.0 says
+answers_due in_time may status.Script words before after (text, says, taken) sound = due_said in_time may status.Script words before.input after.input text sound.0 says
+answers_due in_time may status.Usage words before after (text, says, taken) sound = due_said in_time may status.Usage words before.input after.input text sound.0 says
+answers_due in_time may status.ReadFault words before after (text, says, taken) sound = due_said in_time may status.ReadFault words before.input after.input text sound.0 says
 answers_due in_time may status.WriteFault words before after answers sound = absurd (sound.1 answers.0)
-answers_due in_time may status.OutOfMemory words before after answers sound = due_in_want words before.source.left
-answers_due in_time may status.Unfinished words before after (text, says, taken) sound = due_said in_time may status.Unfinished words before.source after.source text sound.0 says
-answers_due in_time may status.Heard words before after (text, says, taken) sound = due_said in_time may status.Heard words before.source after.source text sound.0 says
+answers_due in_time may status.OutOfMemory words before after answers sound = due_in_want words before.input.source.left
+answers_due in_time may status.Unfinished words before after (text, says, taken) sound = due_said in_time may status.Unfinished words before.input after.input text sound.0 says
+answers_due in_time may status.Heard words before after (text, says, taken) sound = due_said in_time may status.Heard words before.input after.input text sound.0 says
 
 -- and so is that which an exit code is of
 pub exits_due : ScriptsAreDoneInTime ℕ Told → ScriptsMayBeAsked → (code : ℕ) (words : List (List ℕ)) (left taken left_now taken_now : Option (List ℕ))
@@ -54,6 +54,7 @@ exits_due in_time may code words left taken left_now taken_now e = record {
   faults = e.faults;
   ends = e.ends;
   failures = e.failures;
+  clock = e.clock;
   answers = e.answers;
   due = answers_due in_time may e.status words _ _ e.answers;
 }

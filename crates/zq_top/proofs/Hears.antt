@@ -9,7 +9,7 @@ use Rattle.spec_zmtp.proofs.StreamLemmas.{one_meaning}
 use Rattle.zq_hear.specs.HearText.{hear_opts, is_refused}
 use Rattle.zq_words.specs.declared.request.Request.{Request}
 use Rattle.zq_words.specs.declared.request.Request.TheVariants as request
-use Rattle.zq_call.specs.Call.{AsksHear, SourceAt, SaysHeard, heard_status}
+use Rattle.zq_call.specs.Call.{AsksHear, InputAt, SaysHeard, heard_status}
 use Rattle.zq_call.specs.declared.status.Status.{Status}
 use Rattle.zq_call.specs.declared.status.Status.TheVariants as status
 use Rattle.zq_top.specs.Headline.{SaysText}
@@ -23,11 +23,11 @@ not_run a b kind login same = cc
 hear_same : (a b : Kind) (l m : Option Login) → ◌≡◌ {A = Option Request} (Some (request.Hear a l)) (Some (request.Hear b m)) → hear_opts a l ≡ hear_opts b m
 hear_same a b l m same = cc
 
-module _ (words : List (List ℕ)) (before after : SourceAt) (text octets : List ℕ) (kind : Kind) (login : Option Login) (asks : AsksHear words kind login)
-    (left : before.left ≡ Some octets) (sound : Rose before.faults after.faults → ⊥) (d : Decoded) (means : Decodes (hear_opts kind login) octets d) where
+module _ (words : List (List ℕ)) (before after : InputAt) (text octets : List ℕ) (kind : Kind) (login : Option Login) (asks : AsksHear words kind login)
+    (left : before.source.left ≡ Some octets) (sound : Rose before.source.faults after.source.faults → ⊥) (d : Decoded) (means : Decodes (hear_opts kind login) octets d) where
   -- octets that were heard have the one meaning that all octets of the source have
   one_outcome : (refused : Bool) → SaysHeard refused words before after text → refused ≡ is_refused d.outcome
-  one_outcome refused (k, l, other, (read, (rose, all), heard)) =
+  one_outcome refused (k, l, other, (read, (rose, all), heard), still) =
       let whole = rw left at all in
       let same : read ≡ octets = sym whole.0 in
       let opts : hear_opts k l ≡ hear_opts kind login = hear_same k kind l login (sym other ∙ asks) in

@@ -4,6 +4,7 @@ use Rattle.zq_script.specs.declared.fault.Cause.{Cause}
 use Rattle.zq_script.specs.declared.fault.Cause.TheVariants.{BadWord, BadEndpoint, BadPart, UnknownSocket, DoubleName, TooManyActors, TooLong}
 use Rattle.zq_script.specs.declared.fault.ScriptFault.{ScriptFault}
 use Rattle.spec_journal.specs.Run.{Schedule}
+use Rattle.clock_reads.specs.Readings.{ClockAt}
 use Rattle.run_script.specs.RunGrammar.{run_script_of}
 use Rattle.spec_run.specs.declared.journal.RunJournal.{RunJournal}
 use Rattle.spec_run.specs.LineCall.{RunScript}
@@ -16,7 +17,7 @@ use Rattle.zq_base.specs.declared.options.Login.{Login}
 use Rattle.spec_zmtp.specs.DecodedStream.{Decoded, Decodes}
 use Rattle.zq_hear.specs.HearText.{hear_opts, is_refused}
 use Rattle.zq_call.specs.Call as call
-use Rattle.zq_call.specs.Call.{AsksRun, AsksHear, SourceAt, Outside, heard_status}
+use Rattle.zq_call.specs.Call.{AsksRun, AsksHear, InputAt, Outside, heard_status}
 use Rattle.zq_call.specs.declared.status.Status.{Status}
 use Rattle.zq_call.specs.declared.status.Status.TheVariants as status
 
@@ -24,9 +25,9 @@ use Rattle.zq_call.specs.declared.status.Status.TheVariants as status
 abbrev pub IsJournal : RunScript → Schedule → RunJournal → Type 0
 IsJournal script schedule j = IsRunJournal ℕ Told script schedule j
 
--- The text is that of the one journal of the script that the octets are, by the schedule, done or not.
-abbrev pub Prints : Schedule → (done : Bool) → (octets text : List ℕ) → Type 0
-Prints schedule done octets text = PrintsRun ℕ Told schedule done octets text
+-- The text is that of the one journal of the script that the octets are, by the schedule, done or not; of a run with these readings of its clock.
+abbrev pub Prints : Schedule → (done : Bool) → (octets readings text : List ℕ) → Type 0
+Prints schedule done octets readings text = PrintsRun ℕ Told schedule done octets readings text
 
 -- how a fault of a script is printed
 abbrev pub script_cause_text : Cause → List ℕ
@@ -47,12 +48,12 @@ pub record RefusesScript (octets text : List ℕ) : Type 0 where
   pub fault_is : run_script_of octets ≡ Err fault
   pub text_is : text ≡ fault_text fault
 
--- what is said of the octets that were read, with each status
-abbrev pub SaysOf : Schedule → Status → List ℕ → List ℕ → Type 0
-SaysOf schedule s octets text = call.SaysOf Prints RefusesScript schedule s octets text
+-- what is said of the octets that were read, with each status; the readings of a run are those that the clock gave
+abbrev pub SaysOf : Schedule → Status → List ℕ → (clock clock_now : ClockAt) → List ℕ → Type 0
+SaysOf schedule s octets clock clock_now text = call.SaysOf Prints RefusesScript schedule s octets clock clock_now text
 
 -- what is said with each status
-abbrev pub SaysText : Status → List (List ℕ) → SourceAt → SourceAt → List ℕ → Type 0
+abbrev pub SaysText : Status → List (List ℕ) → InputAt → InputAt → List ℕ → Type 0
 SaysText s words before after text = call.SaysText Prints RefusesScript s words before after text
 
 -- what was read and written with each status

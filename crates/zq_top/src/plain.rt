@@ -1,4 +1,5 @@
-ghost use Rattle.std.specs.Prelude.{ℕ, List, IfOk};
+ghost use Rattle.std.specs.Prelude.{ℕ, List, IfOk, IfErr};
+ghost use Rattle.clock_reads.specs.Readings.{clock_at, ClockAt, GoesOn};
 ghost use Rattle.spec_journal.specs.Run.{Schedule};
 ghost use Rattle.run_text.specs.RunText.{TellsRun, IsRunDue};
 ghost use Rattle.zq_top.specs.Told.{Told};
@@ -10,33 +11,41 @@ use one_core::OneCore;
 use run_text::{RunText, text_of_run};
 use std::alloc::{AllocError, Global};
 use zq_call::{Runs, Status};
+use zq_outer::Clock;
 
 /// The context of a run: its pipes wake nobody.
 type Context = OneCore<PlainPipes>;
 
 /// Makes a context, reads a script, plays it there on one thread in the orders that the seed draws and
-/// with so many turns at the most, and prints its journal. Want of memory alone is an error.
-fn text_in_context(
+/// with so many turns at the most, while it reads the clock, and prints its journal. Want of memory
+/// alone is an error.
+fn text_in_context<C: Clock>(
     alloc: Global,
     octets: &[u8],
+    clock: &mut C,
     seed: u64,
     turns: u32,
 ) -> Result<RunText, AllocError>
-    // The text is that of the script's one journal; a fault is that of octets that are no script.
-    ensures tells { IfOk result (TellsRun ℕ Told (record { seed = seed; turns = turns }) octets.now) }
+    // The text is that of the script's one journal, of a run whose readings the clock gave; a fault is
+    // that of octets that are no script.
+    ensures tells { IfOk result (TellsRun ℕ Told (record { seed = seed; turns = turns }) octets.now
+        (clock_at (C.last clock.old) (C.to_come clock.old)) (clock_at (C.last clock.new) (C.to_come clock.new))) }
     // And which of them is told is settled by the octets, the seed and the turns.
     ensures due { IfOk result (IsRunDue ℕ Told (record { seed = seed; turns = turns }) octets.now) }
+    ensures err { IfErr result (λ _. GoesOn
+        (clock_at (C.last clock.old) (C.to_come clock.old)) (clock_at (C.last clock.new) (C.to_come clock.new))) }
 {
     let mut core = Context::new(alloc, PlainPipes::new(alloc), (), ())?;
-    let told = text_of_run::<PlainPipes, Context>(alloc, octets, &mut core, seed, turns);
-    drop(core);
+    let told = text_of_run::<PlainPipes, Context, C>(alloc, octets, &mut core, clock, seed, turns);
+    core.end();
     told
 }
 
 /// What is told of a run, as the text to write and the status.
 fn said_of(alloc: Global, told: RunText) -> Result<(Status, Vec<u8>), AllocError>
-    ensures { IfOk result (λ said. (schedule : Schedule) (octets : List ℕ)
-        → TellsRun ℕ Told schedule octets told → SaysOf schedule said.0 octets said.1.items) }
+    ensures { IfOk result (λ said. (schedule : Schedule) (octets : List ℕ) (clock clock_now : ClockAt)
+        → TellsRun ℕ Told schedule octets clock clock_now told
+        → SaysOf schedule said.0 octets clock clock_now said.1.items) }
 {
     match told {
         RunText::Done(text) => return Ok((Status::Done, text.into_vec())),
@@ -49,17 +58,18 @@ fn said_of(alloc: Global, told: RunText) -> Result<(Status, Vec<u8>), AllocError
 pub(crate) struct PlainRuns;
 
 impl Runs for PlainRuns {
-    ghost prints = { λ schedule done octets text. Prints schedule done octets text };
+    ghost prints = { λ schedule done octets readings text. Prints schedule done octets readings text };
 
     ghost refuses = { λ octets text. RefusesScript octets text };
 
-    fn text_of(
+    fn text_of<C: Clock>(
         alloc: Global,
         octets: &[u8],
+        clock: &mut C,
         seed: u64,
         turns: u32,
     ) -> Result<(Status, Vec<u8>), AllocError> {
-        let told = text_in_context(alloc, octets, seed, turns)?;
+        let told = text_in_context(alloc, octets, clock, seed, turns)?;
         let said = said_of(alloc, told)?;
         Ok(said)
     }

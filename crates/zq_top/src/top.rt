@@ -1,4 +1,5 @@
 ghost use Rattle.std.specs.Prelude.{◌≡◌, map, string_bytes};
+ghost use Rattle.clock_reads.specs.Readings.{clock_at};
 ghost use Rattle.zq_call.specs.Call.{IsSound, outside};
 ghost use Rattle.zq_top.specs.Headline.{AnswersCall, IsDue};
 
@@ -14,8 +15,9 @@ use zq_outer::{Clock, Gate, Host, Sink, Source};
 /// Does what the words of the command line ask: reads a script, runs it, and writes the journal; or
 /// reads all octets of a peer, and writes what they mean.
 ///
-/// `words[0]` is the program's name. The text is made whole before the first write. The hosts and
-/// the clock are those of runs over links; the gate is that of runs in threads.
+/// `words[0]` is the program's name. The text is made whole before the first write. A run reads the
+/// clock before its first turn and at the end of each, and no other call does. The hosts are those of
+/// runs over links; the gate is that of runs in threads.
 pub fn run<S: Source, K: Sink, H: Host, C: Clock, G: Gate>(
     alloc: Global,
     words: &[String],
@@ -25,22 +27,22 @@ pub fn run<S: Source, K: Sink, H: Host, C: Clock, G: Gate>(
     clock: &mut C,
     gate: &G,
 ) -> Status
-    // Each status says what was read and written.
+    // Each status says what was read and written; the readings of a run are those that the clock gave.
     ensures answers { AnswersCall result (map string_bytes words.now)
-        (outside (S.left script.old) (S.faults script.old) (S.ends script.old) (K.taken out.old) (K.faults out.old))
-        (outside (S.left script.new) (S.faults script.new) (S.ends script.new) (K.taken out.new) (K.faults out.new)) }
+        (outside (S.left script.old) (S.faults script.old) (S.ends script.old) (clock_at (C.last clock.old) (C.to_come clock.old)) (K.taken out.old) (K.faults out.old))
+        (outside (S.left script.new) (S.faults script.new) (S.ends script.new) (clock_at (C.last clock.new) (C.to_come clock.new)) (K.taken out.new) (K.faults out.new)) }
 
     // Where neither the source nor the sink failed, the status is the one that is due.
     ensures due { IsSound
-        (outside (S.left script.old) (S.faults script.old) (S.ends script.old) (K.taken out.old) (K.faults out.old))
-        (outside (S.left script.new) (S.faults script.new) (S.ends script.new) (K.taken out.new) (K.faults out.new))
+        (outside (S.left script.old) (S.faults script.old) (S.ends script.old) (clock_at (C.last clock.old) (C.to_come clock.old)) (K.taken out.old) (K.faults out.old))
+        (outside (S.left script.new) (S.faults script.new) (S.ends script.new) (clock_at (C.last clock.new) (C.to_come clock.new)) (K.taken out.new) (K.faults out.new))
         → IsDue result (map string_bytes words.now) (S.left script.old) }
 
     // Want of memory comes before the first write is tried.
     ensures memory { result ≡ Status.OutOfMemory → out.new ≡ out.old }
 
-    // No run has links or time yet.
-    ensures untouched { (hosts.new ≡ hosts.old) × (clock.new ≡ clock.old) }
+    // No run has links yet.
+    ensures untouched { hosts.new ≡ hosts.old }
 {
     scripts_are_done_in_time::<usize, Log<PlainPipe, bool>>();
     scripts_that_are_read_may_be_asked();

@@ -5,6 +5,7 @@ use Rattle.std.specs.List.{AllByRecursion, range_with_len}
 use Rattle.std.proofs.lemmas.List.{map-append}
 use Rattle.std.proofs.Math.Seq.{take-append_seam}
 use Rattle.zq_base.specs.Ends.{PipeId}
+use Rattle.clock_reads.specs.Readings.{ClockAt, GoesOn}
 use Rattle.spec_pattern.specs.PipeStep.{PipeStep, AreExact}
 use Rattle.spec_control.specs.declared.entry.Item.{Item}
 use Rattle.spec_control.specs.Rows.{PairRow}
@@ -24,7 +25,7 @@ use Rattle.spec_run.specs.Act.{Act, Deed, moments_in, steps_in}
 use Rattle.spec_run.specs.OpenSocket.{OpenSock}
 use Rattle.spec_run.specs.Standing.{ActorStanding, standing_before}
 use Rattle.spec_run.specs.OwnedRun.{IsRun, all_steps, deeds_in, every_pipe, pipe_capacity, settlement_of}
-use Rattle.spec_run.specs.InTurns.{Draws, IsOneThread, conductor_steps, turn_step}
+use Rattle.spec_run.specs.InTurns.{Draws, IsOneThread, conductor_steps, readings_of, turn_step}
 use Rattle.spec_run.specs.Fate.{count_sent, fates_left, is_heard_at, reason_left, row_of_fates}
 use Rattle.spec_run.specs.RunJournal.{IsRunJournal, actors_shown, entries_shown, row_if, row_shown, rows_by}
 use Rattle.spec_run.proofs.JournalLemmas.{all_fates}
@@ -41,6 +42,7 @@ use Rattle.zq_world.specs.declared.cores.Shown.{Shown}
 use Rattle.zq_world.specs.Turning.{standings, ActorsAgree, RunsSo}
 use Rattle.zq_world.specs.GoesInTurns.{run_of}
 use Rattle.zq_world.specs.Played.{IsOrderly, HasNone, AreNew, PlaysSo, lines_before}
+use Rattle.zq_world.specs.Timed.{RunsTimed, PlaysTimed, IsTimedJournal}
 use Rattle.zq_world.proofs.PieceLemmas.{runs_acts}
 use Rattle.zq_world.proofs.AskedLemmas.{in_turns, as_scripted}
 use Rattle.zq_world.proofs.ToldLemmas.{are_told, nobody_else}
@@ -178,10 +180,9 @@ module _ {O N S : Type 0} (as_open : O → OpenSock) where
       end : Control
       end = after_all order (begun 1)
 
-  pub plays_so : (script : RunScript) (seed limit : ℕ) (done : Bool) (old new : List (Actor O)) (before after : List (Piece N S)) (order : List (Item N S)) (lines : List ActorLines) → before ≡ [] → AreNew script old
-      → RunsSo as_open seed limit done old new before after → IsOrderly after order → lines ≡ map lines_of new → PlaysSo script seed limit lines after order
-  plays_so script seed limit done old new before after order lines none start runs orderly said =
-      let run = subst (λ (l : List (Piece N S)). RunsSo as_open seed limit done old new l after) none runs in
+  plays_so : (script : RunScript) (seed limit : ℕ) (done : Bool) (old new : List (Actor O)) (after : List (Piece N S)) (order : List (Item N S)) (lines : List ActorLines) → AreNew script old
+      → RunsSo as_open seed limit done old new [] after → IsOrderly after order → lines ≡ map lines_of new → PlaysSo script seed limit lines after order
+  plays_so script seed limit done old new after order lines start run orderly said =
       let same = start.stand as_open in
       record {
         turned = run.turned;
@@ -193,6 +194,18 @@ module _ {O N S : Type 0} (as_open : O → OpenSock) where
             (λ i a b was now. (run.says i a b was now).name);
         rows = λ p. same_rows script seed limit done old new after order same run orderly.sided p;
       }
+
+  pub plays_timed : (script : RunScript) (seed limit : ℕ) (done : Bool) (old new : List (Actor O)) (before after : List (Piece N S)) (order : List (Item N S)) (lines : List ActorLines) (clock clock_now : ClockAt) → before ≡ []
+      → AreNew script old → RunsTimed as_open seed limit done old new before after clock clock_now → IsOrderly after order → lines ≡ map lines_of new
+      → PlaysTimed script seed limit lines after order clock clock_now
+  unfolding plays_so
+  plays_timed script seed limit done old new before after order lines clock clock_now none start timed orderly said =
+      let run = subst (λ (l : List (Piece N S)). RunsTimed as_open seed limit done old new l after clock clock_now) none timed in
+      record { plays = plays_so script seed limit done old new after order lines start run.runs orderly said; reads = run.reads }
+
+  -- the clock went on
+  pub ran_on : (seed limit : ℕ) (done : Bool) (old new : List (Actor O)) (before after : List (Piece N S)) (clock clock_now : ClockAt) → RunsTimed as_open seed limit done old new before after clock clock_now → GoesOn clock clock_now
+  ran_on seed limit done old new before after clock clock_now timed = (readings_of timed.runs.turned, timed.reads)
 
 -- what was lent is written back whole
 pub written_back : {X : Type 0} (n : ℕ) (ys xs : List X) → length ys ≡ n → take n (ys ++ drop (length ys) xs) ≡ ys
@@ -212,7 +225,7 @@ journals_are : (a b : List ActorLines) (c d : List ObjectLine) (e f : List (Opti
 journals_are a b c d e f g h k l p q r s t = cc
 
 module _ {N S : Type 0} where
-  pub journal_so : (script : RunScript) (schedule : Schedule) (lines : List ActorLines) (pieces : List (Piece N S)) (order : List (Item N S)) (shown : Shown) → PlaysSo script schedule.seed schedule.turns lines pieces order
+  journal_so : (script : RunScript) (schedule : Schedule) (lines : List ActorLines) (pieces : List (Piece N S)) (order : List (Item N S)) (shown : Shown) → PlaysSo script schedule.seed schedule.turns lines pieces order
       → ShowsSo pieces order shown → IsRunJournal N S script schedule (record { actors = lines; ended = shown.ended; pipes = shown.pipes; objects = shown.objects; done = shown.done })
   journal_so script schedule lines pieces order shown plays shows = record {
     run = run_of script plays.turned order;
@@ -225,3 +238,14 @@ module _ {N S : Type 0} where
         (shows.pipes ∙ same_by (row_in_pieces (after_all order (begun 1)) pieces) (row_shown (after_all order (begun 1)) (run_of script plays.turned order)) plays.rows 1 (drop 1 (after_all order (begun 1)).rows.pairs))
         shows.objects shows.done_is;
   }
+
+  pub journal_timed : (script : RunScript) (schedule : Schedule) (lines : List ActorLines) (pieces : List (Piece N S)) (order : List (Item N S)) (shown : Shown) (clock clock_now : ClockAt)
+      → PlaysTimed script schedule.seed schedule.turns lines pieces order clock clock_now → ShowsSo pieces order shown
+      → IsTimedJournal N S script schedule clock clock_now (record { actors = lines; ended = shown.ended; pipes = shown.pipes; objects = shown.objects; done = shown.done })
+  unfolding journal_so
+  journal_timed script schedule lines pieces order shown clock clock_now timed shows =
+      record { is_journal = journal_so script schedule lines pieces order shown timed.plays shows; reads = timed.reads }
+
+  -- the clock went on
+  pub played_on : (script : RunScript) (seed limit : ℕ) (lines : List ActorLines) (pieces : List (Piece N S)) (order : List (Item N S)) (clock clock_now : ClockAt) → PlaysTimed script seed limit lines pieces order clock clock_now → GoesOn clock clock_now
+  played_on script seed limit lines pieces order clock clock_now timed = (readings_of timed.plays.turned, timed.reads)

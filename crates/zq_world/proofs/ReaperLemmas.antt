@@ -2,6 +2,7 @@
 use Rattle.std.proofs.Common.{◌≡◌, ◌+◌, ℕ, List, [], ◌∷◌, ◌++◌, Bool, true, false, length, refl, sym, subst, true≢false, arith}
 use Rattle.std.specs.Prelude.{◌==◌, flat_map}
 use Rattle.std.proofs.lemmas.Bool.{eqb-true, eq-eqb}
+use Rattle.clock_reads.specs.Readings.{ClockAt}
 use Rattle.spec_pattern.specs.declared.answers.Skip.{Skip}
 use Rattle.spec_run.specs.Act.{Act, Deed, acts_of}
 use Rattle.spec_run.specs.Fate.{skips_of}
@@ -54,9 +55,10 @@ module _ {O N S : Type 0} (as_open : O → OpenSock) where
       (subst (IsReaper (length old)) (sym h.adds) (both (length old) before (flat_map (λ w. deed_pieces w (w == length old) (h.steps w)) done) alone (only_stepped (length old) h.steps done)))
 
   -- and where a turn begins
-  pub alone_begun : (seed limit drawn left conductor : ℕ) (old mid : List (Actor O)) (first before between : List (Piece N S)) → conductor ≡ length old + 2 → Within as_open seed limit drawn left old mid first before
+  pub alone_begun : (seed limit drawn left conductor : ℕ) (old mid : List (Actor O)) (first before between : List (Piece N S)) (clock clock_now : ClockAt) → conductor ≡ length old + 2
+      → Within as_open seed limit drawn left old mid first before clock clock_now
       → BeginsTurn conductor (standings as_open mid) before between → IsReaper (length old) first → IsReaper (length mid) between
-  alone_begun seed limit drawn left conductor old mid first before between place come begins alone =
+  alone_begun seed limit drawn left conductor old mid first before between clock clock_now place come begins alone =
       subst (λ n. IsReaper n between) (sym come.2.count)
       (subst (IsReaper (length old)) (sym begins.adds.added)
       (both (length old) before (deed_pieces conductor false begins.begins)

@@ -1,10 +1,12 @@
 -- How a run goes on by a turn, and how it ends.
 use Rattle.std.proofs.Common.{◌≡◌, ◌≤◌, ◌<◌, ◌+◌, ◌-◌, ℕ, zero, suc, List, [], ◌∷◌, ◌++◌, Bool, true, false, Option, Some, length, map, refl, sym, ap, subst, ◌∙◌, arith, append-nil, append_assoc, length-append}
-use Rattle.std.specs.Prelude.{◌&&◌, ◌==◌, flat_map, slice_get, slice_index_or, if◌then◌else◌}
+use Rattle.std.specs.Prelude.{◌&&◌, ◌==◌, Result, Ok, Err, IfErr, flat_map, slice_get, slice_index_or, if◌then◌else◌}
 use Rattle.std.specs.List.{list_all, range_with_len}
 use Rattle.std.proofs.lemmas.Grind.{flat_map-append}
 use Rattle.std.proofs.lemmas.List.{map-append}
 use Rattle.std.proofs.lemmas.Option.{slice_get_within, slice_get-get_or}
+use Rattle.clock_reads.specs.Readings.{ClockAt, ReadsClock, GoesOn}
+use Rattle.clock_reads.proofs.ClockLemmas.{reads_more}
 use Rattle.spec_control.specs.declared.object.ObjState.{ObjState}
 use Rattle.spec_control.specs.declared.object.ObjState.TheVariants.{Live, Asked, Ended}
 use Rattle.spec_journal.specs.Turn.{IsOrder}
@@ -20,7 +22,8 @@ use Rattle.script_actor.specs.Stepping.{standing_of, entries_of}
 use Rattle.script_actor.specs.declared.actor.Actor.{Actor}
 use Rattle.script_actor.proofs.StepLemmas.{adds_one}
 use Rattle.zq_world.specs.CoreCalls.{LooksOnce, AsksOnce}
-use Rattle.zq_world.specs.Turning.{standings, ActorDoes, HasStepped, acted, reaped, served, TurnSteps, DrawsUpTo, NeverReads, TurnBy, TurnsBy, EndsHere, BeginsTurn, HasSaid, HasCome, RunsSo, turn_pieces, turns_pieces}
+use Rattle.zq_world.specs.Turning.{standings, ActorDoes, HasStepped, acted, reaped, served, TurnSteps, DrawsUpTo, TurnBy, TurnsBy, EndsHere, BeginsTurn, HasSaid, HasCome, turn_pieces, turns_pieces}
+use Rattle.zq_world.specs.Timed.{RunsTimed}
 use Rattle.zq_world.proofs.OrderLemmas.{each_once}
 use Rattle.zq_world.proofs.TurnLemmas.{whole_turn, turn_told, turn_of, step_of}
 
@@ -41,6 +44,16 @@ one_unfinished {O} as_open (x ∷ actors) zero a e h = ap (λ b. b && list_all h
     same : ◌≡◌ {A = Option (Actor O)} (Some x) (Some a) → x ≡ a
     same f = cc
 one_unfinished {O} as_open (x ∷ actors) (suc i) a e h = and_false (has_finished (standing_of as_open x)) (list_all has_finished (standings as_open actors)) (one_unfinished as_open actors i a e h)
+
+-- what holds anyway holds of an error
+pub of_error : {T E : Type 0} (P : Type 0) (result : Result T E) → P → IfErr result (λ _. P)
+of_error P (Ok value) p = tt
+of_error P (Err error) p = p
+
+-- readings of which none is below the one before it
+never_fall : (x : ℕ) (rs : List ℕ) → ((n a b : ℕ) → slice_get (x ∷ rs) n ≡ Some a → slice_get rs n ≡ Some b → a ≤ b) → NeverFall x rs
+never_fall x [] rise = tt
+never_fall x (y ∷ rs) rise = (rise 0 x y refl refl, never_fall y rs (λ n a b. rise (suc n) a b))
 
 module _ (N S : Type 0) where
   asks_none : (b : Bool) → b ≡ false → AsksIf {N = N} {S = S} b []
@@ -73,17 +86,9 @@ module _ {N S : Type 0} where
   pieces_more n seed workers x now (u ∷ ts) (o ∷ os) t order h =
       ap (λ l. turn_pieces n o u ++ l) (pieces_more n seed workers h.0 now ts os t order h.2) ∙ sym (append_assoc (turn_pieces n o u) (turns_pieces n os ts) (turn_pieces n order t))
 
-  quiet_more : (ts : List (OneTurn N S)) (t : OneTurn N S) → NeverReads ts → t.reading ≡ 0 → NeverReads (ts ++ t ∷ [])
-  quiet_more [] t quiet first = (first, tt)
-  quiet_more (u ∷ ts) t quiet first = (quiet.0, quiet_more ts t quiet.1 first)
-
   by_more : (conductor : ℕ) (ts : List (OneTurn N S)) (t : OneTurn N S) → TurnsBy conductor ts → TurnBy conductor t → TurnsBy conductor (ts ++ t ∷ [])
   by_more conductor [] t by one = (one, tt)
   by_more conductor (u ∷ ts) t by one = (by.0, by_more conductor ts t by.1 one)
-
-  never_fall : (ts : List (OneTurn N S)) → NeverReads ts → NeverFall 0 (map (λ turn. turn.reading) ts)
-  never_fall [] quiet = tt
-  never_fall (t ∷ ts) quiet = (let e = quiet.0 in omega (arith, e), subst (λ n. NeverFall n (map (λ turn. turn.reading) ts)) (sym quiet.0) (never_fall ts quiet.1))
 
   shown_more : (ds es : List (Deed N S)) → entries_shown (ds ++ es) ≡ entries_shown ds ++ entries_shown es
   shown_more [] es = refl
@@ -95,6 +100,20 @@ module _ {N S : Type 0} where
   shown_more (Looks m ∷ ds) es = shown_more ds es
   shown_more (AsksRoot acts ∷ ds) es = shown_more ds es
   shown_more (Reads now ∷ ds) es = shown_more ds es
+
+  -- ---- the clock
+
+  -- the readings of these turns, and one before them, are those that it gave
+  abbrev pub HasRead : List (OneTurn N S) → (clock clock_now : ClockAt) → Type 0
+  HasRead ts clock clock_now = (first : ℕ) × ReadsClock clock (first ∷ map (λ turn. turn.reading) ts) clock_now
+
+  -- one reading more, at the end of a turn
+  read_then : (ts : List (OneTurn N S)) (t : OneTurn N S) (reading : ℕ) (clock clock_then clock_now : ClockAt) → HasRead ts clock clock_then → ReadsClock clock_then (reading ∷ []) clock_now → t.reading ≡ reading → HasRead (ts ++ t ∷ []) clock clock_now
+  read_then ts t reading clock clock_then clock_now read one is = (
+    read.0,
+    subst (λ (l : List ℕ). ReadsClock clock (read.0 ∷ l) clock_now) (sym (map-append (λ turn. turn.reading) ts (t ∷ []) ∙ ap (λ n. map (λ turn. turn.reading) ts ++ n ∷ []) is))
+        (reads_more clock clock_then clock_now (read.0 ∷ map (λ turn. turn.reading) ts) reading read.1 one),
+  )
 
   -- ---- a turn begins
 
@@ -151,7 +170,6 @@ module _ {O N S : Type 0} (as_open : O → OpenSock) where
     go = refl;
     draws = (refl, refl);
     count = refl;
-    quiet = tt;
     by = tt;
     says = λ i a b was now. record { says = says_none a b (same a b (sym was ∙ now)); name = ap (λ (x : Actor O). x.name) (sym (same a b (sym was ∙ now))) };
     pieces_are = sym (append-nil pieces);
@@ -179,10 +197,10 @@ module _ {O N S : Type 0} (as_open : O → OpenSock) where
       never e = omega (arith, e, lt)
 
   -- a turn more
-  pub come_more : (seed drawn next conductor : ℕ) (ts : List (OneTurn N S)) (os : List (List ℕ)) (old mid new : List (Actor O)) (first before between after : List (Piece N S))
+  pub come_more : (seed drawn next conductor reading : ℕ) (ts : List (OneTurn N S)) (os : List (List ℕ)) (old mid new : List (Actor O)) (first before between after : List (Piece N S))
       → conductor ≡ length old + 2 → HasCome as_open seed drawn ts os old mid first before → BeginsTurn conductor (standings as_open mid) before between → TurnSteps as_open seed drawn next mid new between after
-      → (t : OneTurn N S) × (order : List ℕ) × HasCome as_open seed next (ts ++ t ∷ []) (os ++ order ∷ []) old new first after
-  come_more seed drawn next conductor ts os old mid new first before between after place come begins t = (
+      → (t : OneTurn N S) × (order : List ℕ) × HasCome as_open seed next (ts ++ t ∷ []) (os ++ order ∷ []) old new first after × (t.reading ≡ reading)
+  come_more seed drawn next conductor reading ts os old mid new first before between after place come begins t = (
     turn,
     t.order,
     record {
@@ -191,19 +209,19 @@ module _ {O N S : Type 0} (as_open : O → OpenSock) where
       draws = draws_more seed (range_with_len 0 (length old + 2)) seed drawn next ts os turn t.order come.draws
           (subst (λ n. IsOrder seed drawn (range_with_len 0 (n + 2)) t.order next) come.count t.is_order);
       count = t.have.count ∙ come.count;
-      quiet = quiet_more ts turn come.quiet refl;
       by = by_more (length old + 2) ts turn come.by (record {
         conducted = subst (λ n. AreActsBy n (all_acts begins.begins)) place begins.adds.by;
         stepped = λ w lt. subst (λ (ds : List (Deed N S)). AreActsBy w (all_acts ds))
-            (sym (step_of as_open begins.begins t.have.steps (length mid + 2) w (let c = come.count in omega (arith, lt, c)))) (t.have.by w);
+            (sym (step_of as_open begins.begins t.have.steps (length mid + 2) reading w (let c = come.count in omega (arith, lt, c)))) (t.have.by w);
       });
       says = says_then;
       pieces_are = pieces_then;
     },
+    refl,
   )
     where
       turn : OneTurn N S
-      turn = turn_of as_open begins.begins t.have.steps (length mid + 2)
+      turn = turn_of as_open begins.begins t.have.steps (length mid + 2) reading
 
       stepped : List (Piece N S)
       stepped = flat_map (λ w. deed_pieces w (w == length mid) (t.have.steps w)) t.order
@@ -211,7 +229,7 @@ module _ {O N S : Type 0} (as_open : O → OpenSock) where
       turn_is : deed_pieces conductor false begins.begins ++ stepped ≡ turn_pieces (length old) t.order turn
       turn_is = ap (λ k. deed_pieces k false begins.begins ++ stepped) place
           ∙ ap (λ l. deed_pieces (length old + 2) false begins.begins ++ l) (ap (λ n. flat_map (λ w. deed_pieces w (w == n) (t.have.steps w)) t.order) come.count
-          ∙ sym (turn_told as_open (λ w. deed_pieces w (w == length old)) seed drawn next begins.begins mid new between after t))
+          ∙ sym (turn_told as_open (λ w. deed_pieces w (w == length old)) seed drawn next reading begins.begins mid new between after t))
 
       pieces_then : after ≡ first ++ turns_pieces (length old) (os ++ t.order ∷ []) (ts ++ turn ∷ [])
       pieces_then =
@@ -233,7 +251,7 @@ module _ {O N S : Type 0} (as_open : O → OpenSock) where
           record {
             says = did.says ∙ ap (λ l. l ++ entries_shown (t.have.steps i)) said.says
                 ∙ append_assoc (entries_of a) (entries_shown (deeds_in (map (turn_step i) ts))) (entries_shown (t.have.steps i))
-                ∙ ap (λ l. entries_of a ++ l) (sym (shown_then i (step_of as_open begins.begins t.have.steps (length mid + 2) i (omega (arith, lt)))));
+                ∙ ap (λ l. entries_of a ++ l) (sym (shown_then i (step_of as_open begins.begins t.have.steps (length mid + 2) reading i (omega (arith, lt)))));
             name = did.name ∙ said.name;
           }
         where
@@ -245,57 +263,73 @@ module _ {O N S : Type 0} (as_open : O → OpenSock) where
               ∙ ap (λ l. entries_shown (deeds_in (map (turn_step j) ts)) ++ entries_shown l) (append-nil (turn_step j turn) ∙ e)
 
   -- the last look
-  pub ends_so : (seed drawn limit conductor : ℕ) (root : ObjState) (done : Bool) (ts : List (OneTurn N S)) (os : List (List ℕ)) (old new : List (Actor O)) (first before after : List (Piece N S))
-      → conductor ≡ length old + 2 → HasCome as_open seed drawn ts os old new first before → LooksOnce conductor root before after → done ≡ is_ended root → length ts ≤ limit → (is_ended root ≡ false → length ts ≡ limit)
-      → RunsSo as_open seed limit done old new first after
-  ends_so seed drawn limit conductor root done ts os old new first before after place come h is few over = record {
-    turned = record { first = 0; turns = ts; last = h.seen };
-    orders = os;
-    go = come.go;
-    few = few;
-    rising = never_fall ts come.quiet;
-    last = h.look;
-    over = λ e. over (ap is_ended (sym h.root_is) ∙ e);
-    done_is = is ∙ ap is_ended (sym h.root_is);
-    drawn = draws_so seed (range_with_len 0 (length old + 2)) seed drawn ts os come.draws;
-    count = come.count;
-    says = come.says;
-    by = come.by;
-    last_by = subst (λ n. AreActsBy n (Said h.seen ∷ [])) place h.adds.by;
-    pieces_are = h.adds.added ∙ ap (λ l. l ++ piece_of conductor false (Said h.seen ∷ []) []) come.pieces_are
-        ∙ append_assoc first (turns_pieces (length old) os ts) (piece_of conductor false (Said h.seen ∷ []) [])
-        ∙ ap (λ k. first ++ (turns_pieces (length old) os ts ++ piece_of k false (Said h.seen ∷ []) [])) place;
+  pub ends_so : (seed drawn limit conductor : ℕ) (root : ObjState) (done : Bool) (ts : List (OneTurn N S)) (os : List (List ℕ)) (old new : List (Actor O)) (first before after : List (Piece N S)) (clock clock_now : ClockAt)
+      → HasRead ts clock clock_now → conductor ≡ length old + 2 → HasCome as_open seed drawn ts os old new first before → LooksOnce conductor root before after → done ≡ is_ended root → length ts ≤ limit → (is_ended root ≡ false → length ts ≡ limit)
+      → RunsTimed as_open seed limit done old new first after clock clock_now
+  ends_so seed drawn limit conductor root done ts os old new first before after clock clock_now read place come h is few over = record {
+    runs = record {
+      turned = record { first = read.0; turns = ts; last = h.seen };
+      orders = os;
+      go = come.go;
+      few = few;
+      rising = never_fall read.0 (map (λ turn. turn.reading) ts) (λ n a b. read.1.rising (suc n) a b);
+      last = h.look;
+      over = λ e. over (ap is_ended (sym h.root_is) ∙ e);
+      done_is = is ∙ ap is_ended (sym h.root_is);
+      drawn = draws_so seed (range_with_len 0 (length old + 2)) seed drawn ts os come.draws;
+      count = come.count;
+      says = come.says;
+      by = come.by;
+      last_by = subst (λ n. AreActsBy n (Said h.seen ∷ [])) place h.adds.by;
+      pieces_are = h.adds.added ∙ ap (λ l. l ++ piece_of conductor false (Said h.seen ∷ []) []) come.pieces_are
+          ∙ append_assoc first (turns_pieces (length old) os ts) (piece_of conductor false (Said h.seen ∷ []) [])
+          ∙ ap (λ k. first ++ (turns_pieces (length old) os ts ++ piece_of k false (Said h.seen ∷ []) [])) place;
+    };
+    reads = read.1;
   }
 
-  pub ends_early : (seed drawn limit conductor : ℕ) (ts : List (OneTurn N S)) (os : List (List ℕ)) (old new : List (Actor O)) (first before after : List (Piece N S))
-      → conductor ≡ length old + 2 → HasCome as_open seed drawn ts os old new first before → EndsHere conductor before after → length ts ≤ limit → RunsSo as_open seed limit true old new first after
-  ends_early seed drawn limit conductor ts os old new first before after place come h few =
-      ends_so seed drawn limit conductor h.look.sight.root true ts os old new first before after place come
+  pub ends_early : (seed drawn limit conductor : ℕ) (ts : List (OneTurn N S)) (os : List (List ℕ)) (old new : List (Actor O)) (first before after : List (Piece N S)) (clock clock_now : ClockAt)
+      → HasRead ts clock clock_now → conductor ≡ length old + 2 → HasCome as_open seed drawn ts os old new first before → EndsHere conductor before after → length ts ≤ limit
+      → RunsTimed as_open seed limit true old new first after clock clock_now
+  ends_early seed drawn limit conductor ts os old new first before after clock clock_now read place come h few =
+      ends_so seed drawn limit conductor h.look.sight.root true ts os old new first before after clock clock_now read place come
       (record { seen = h.seen; look = h.look; root_is = refl; adds = h.adds }) (sym h.ended) few (λ e. elim (never (sym h.ended ∙ e)) [ ])
     where
       never : true ≡ false → ⊥
       never e = cc
 
-  -- so far within the turns that it may take
-  abbrev pub Within : (seed limit drawn left : ℕ) (old now : List (Actor O)) (first before : List (Piece N S)) → Type 0
-  Within seed limit drawn left old now first before =
-      (ts : List (OneTurn N S)) × (os : List (List ℕ)) × HasCome as_open seed drawn ts os old now first before × (length ts + left ≡ limit)
+  -- so far within the turns that it may take, with the readings of the clock
+  abbrev pub Within : (seed limit drawn left : ℕ) (old now : List (Actor O)) (first before : List (Piece N S)) (clock clock_now : ClockAt) → Type 0
+  Within seed limit drawn left old now first before clock clock_now =
+      (ts : List (OneTurn N S)) × (os : List (List ℕ)) × HasCome as_open seed drawn ts os old now first before × (length ts + left ≡ limit) × HasRead ts clock clock_now
 
-  pub within_first : (seed limit drawn : ℕ) (old : List (Actor O)) (pieces : List (Piece N S)) → drawn ≡ seed → Within seed limit drawn limit old old pieces pieces
-  within_first seed limit drawn old pieces same = ([], [], subst (λ d. HasCome as_open seed d [] [] old old pieces pieces) (sym same) (come_first seed old pieces), omega arith)
+  pub within_first : (seed limit drawn reading : ℕ) (old : List (Actor O)) (pieces : List (Piece N S)) (clock clock_now : ClockAt) → drawn ≡ seed → ReadsClock clock (reading ∷ []) clock_now
+      → Within seed limit drawn limit old old pieces pieces clock clock_now
+  within_first seed limit drawn reading old pieces clock clock_now same one =
+      ([], [], subst (λ d. HasCome as_open seed d [] [] old old pieces pieces) (sym same) (come_first seed old pieces), omega arith, (reading, one))
 
-  pub within_more : (seed limit drawn next conductor left : ℕ) (old mid new : List (Actor O)) (first before between after : List (Piece N S)) → 0 < left → conductor ≡ length old + 2 → Within seed limit drawn left old mid first before
-      → BeginsTurn conductor (standings as_open mid) before between → TurnSteps as_open seed drawn next mid new between after → Within seed limit next (left - 1) old new first after
-  within_more seed limit drawn next conductor left old mid new first before between after some place w begins turn =
-      let more = come_more seed drawn next conductor w.0 w.1 old mid new first before between after place w.2 begins turn in
-      (w.0 ++ more.0 ∷ [], w.1 ++ more.1 ∷ [], more.2, (let l = length-append w.0 (more.0 ∷ []) in let one : length (more.0 ∷ []) ≡ 1 = refl in let all = w.3 in omega (arith, l, one, all, some)))
+  pub within_more : (seed limit drawn next conductor left reading : ℕ) (old mid new : List (Actor O)) (first before between after : List (Piece N S)) (clock clock_then clock_now : ClockAt) → 0 < left → conductor ≡ length old + 2
+      → Within seed limit drawn left old mid first before clock clock_then → BeginsTurn conductor (standings as_open mid) before between → TurnSteps as_open seed drawn next mid new between after → ReadsClock clock_then (reading ∷ []) clock_now
+      → Within seed limit next (left - 1) old new first after clock clock_now
+  within_more seed limit drawn next conductor left reading old mid new first before between after clock clock_then clock_now some place w begins turn one =
+      let more = come_more seed drawn next conductor reading w.0 w.1 old mid new first before between after place w.2 begins turn in (
+        w.0 ++ more.0 ∷ [],
+        w.1 ++ more.1 ∷ [],
+        more.2,
+        (let l = length-append w.0 (more.0 ∷ []) in let count : length (more.0 ∷ []) ≡ 1 = refl in let all = w.3 in omega (arith, l, count, all, some)),
+        read_then w.0 more.0 reading clock clock_then clock_now w.4 one more.3,
+      )
 
-  pub over_early : (seed limit drawn conductor left : ℕ) (old now : List (Actor O)) (first before after : List (Piece N S)) → conductor ≡ length old + 2 → Within seed limit drawn left old now first before → EndsHere conductor before after
-      → RunsSo as_open seed limit true old now first after
-  over_early seed limit drawn conductor left old now first before after place w h =
-      ends_early seed drawn limit conductor w.0 w.1 old now first before after place w.2 h (let all = w.3 in omega (arith, all))
+  pub over_early : (seed limit drawn conductor left : ℕ) (old now : List (Actor O)) (first before after : List (Piece N S)) (clock clock_now : ClockAt) → conductor ≡ length old + 2
+      → Within seed limit drawn left old now first before clock clock_now → EndsHere conductor before after → RunsTimed as_open seed limit true old now first after clock clock_now
+  over_early seed limit drawn conductor left old now first before after clock clock_now place w h =
+      ends_early seed drawn limit conductor w.0 w.1 old now first before after clock clock_now w.4 place w.2 h (let all = w.3 in omega (arith, all))
 
-  pub over_late : (seed limit drawn conductor left : ℕ) (root : ObjState) (done : Bool) (old now : List (Actor O)) (first before after : List (Piece N S)) → left ≤ 0 → conductor ≡ length old + 2 → Within seed limit drawn left old now first before
-      → LooksOnce conductor root before after → done ≡ is_ended root → RunsSo as_open seed limit done old now first after
-  over_late seed limit drawn conductor left root done old now first before after none place w h is =
-      ends_so seed drawn limit conductor root done w.0 w.1 old now first before after place w.2 h is (let all = w.3 in omega (arith, all)) (λ e. (let all = w.3 in omega (arith, all, none)))
+  pub over_late : (seed limit drawn conductor left : ℕ) (root : ObjState) (done : Bool) (old now : List (Actor O)) (first before after : List (Piece N S)) (clock clock_now : ClockAt) → left ≤ 0 → conductor ≡ length old + 2
+      → Within seed limit drawn left old now first before clock clock_now → LooksOnce conductor root before after → done ≡ is_ended root → RunsTimed as_open seed limit done old now first after clock clock_now
+  over_late seed limit drawn conductor left root done old now first before after clock clock_now none place w h is =
+      ends_so seed drawn limit conductor root done w.0 w.1 old now first before after clock clock_now w.4 place w.2 h is (let all = w.3 in omega (arith, all)) (λ e. (let all = w.3 in omega (arith, all, none)))
+
+  -- the clock went on so far
+  pub went_on : (seed limit drawn left : ℕ) (old now : List (Actor O)) (first before : List (Piece N S)) (clock clock_now : ClockAt) → Within seed limit drawn left old now first before clock clock_now → GoesOn clock clock_now
+  went_on seed limit drawn left old now first before clock clock_now w = (w.4.0 ∷ map (λ turn. turn.reading) w.0, w.4.1)

@@ -98,12 +98,12 @@ module _ {O N S : Type 0} (as_open : O → OpenSock) where
         (λ i j is lt. others_act i o n olds news (f j) (h (suc i) j (omega (arith, is)) (omega (arith, lt)))),
   )
 
-  -- the turn that begins so
-  abbrev pub turn_of : List (Deed N S) → (ℕ → List (Deed N S)) → ℕ → OneTurn N S
-  turn_of begins f m = record { begins = begins; steps = map f (range_with_len 0 m); reading = 0 }
+  -- the turn that begins so, with this reading at its end
+  abbrev pub turn_of : List (Deed N S) → (ℕ → List (Deed N S)) → ℕ → ℕ → OneTurn N S
+  turn_of begins f m reading = record { begins = begins; steps = map f (range_with_len 0 m); reading = reading }
 
-  pub step_of : (begins : List (Deed N S)) (f : ℕ → List (Deed N S)) (m w : ℕ) → w < m → turn_step w (turn_of begins f m) ≡ f w
-  step_of begins f m w lt = get_or-map-range_with_len f 0 m w w [] lt (omega arith)
+  pub step_of : (begins : List (Deed N S)) (f : ℕ → List (Deed N S)) (m reading w : ℕ) → w < m → turn_step w (turn_of begins f m reading) ≡ f w
+  step_of begins f m reading w lt = get_or-map-range_with_len f 0 m w w [] lt (omega arith)
 
   pub whole_turn : (seed drawn next : ℕ) (mid new : List (Actor O)) (before after : List (Piece N S)) (t : TurnSteps as_open seed drawn next mid new before after)
       → AllStep 1 (standings as_open mid) (map t.have.steps (range_with_len 0 (length mid + 2))) (standings as_open new)
@@ -112,11 +112,11 @@ module _ {O N S : Type 0} (as_open : O → OpenSock) where
       (λ i j is lt. subst (λ (n : ℕ). HasStepped as_open i mid new (t.have.steps n)) (omega (arith, is)) (t.have.stepped i (each_once i (length mid + 2) seed drawn t.order next t.is_order lt)))
 
   -- what its steps tell, as its order has them
-  pub turn_told : {X : Type 0} (tells : ℕ → List (Deed N S) → List X) (seed drawn next : ℕ) (begins : List (Deed N S)) (mid new : List (Actor O)) (before after : List (Piece N S)) (t : TurnSteps as_open seed drawn next mid new before after)
-      → flat_map (λ w. tells w (turn_step w (turn_of begins t.have.steps (length mid + 2)))) t.order ≡ flat_map (λ w. tells w (t.have.steps w)) t.order
-  turn_told tells seed drawn next begins mid new before after t =
-      flat_same (λ w. tells w (turn_step w (turn_of begins t.have.steps (length mid + 2)))) (λ w. tells w (t.have.steps w)) t.order
-      (λ w some. ap (tells w) (step_of begins t.have.steps (length mid + 2) w (within w some (nat_lt w (length mid + 2)) refl)))
+  pub turn_told : {X : Type 0} (tells : ℕ → List (Deed N S) → List X) (seed drawn next reading : ℕ) (begins : List (Deed N S)) (mid new : List (Actor O)) (before after : List (Piece N S)) (t : TurnSteps as_open seed drawn next mid new before after)
+      → flat_map (λ w. tells w (turn_step w (turn_of begins t.have.steps (length mid + 2) reading))) t.order ≡ flat_map (λ w. tells w (t.have.steps w)) t.order
+  turn_told tells seed drawn next reading begins mid new before after t =
+      flat_same (λ w. tells w (turn_step w (turn_of begins t.have.steps (length mid + 2) reading))) (λ w. tells w (t.have.steps w)) t.order
+      (λ w some. ap (tells w) (step_of begins t.have.steps (length mid + 2) reading w (within w some (nat_lt w (length mid + 2)) refl)))
     where
       within : (w : ℕ) → (times w t.order ≡ 0 → ⊥) → (b : Bool) → nat_lt w (length mid + 2) ≡ b → w < length mid + 2
       within w some true e = ltb-true w (length mid + 2) e

@@ -4,3 +4,4 @@ pub mod Shown
 pub mod Turning
 pub mod GoesInTurns
 pub mod Played
+pub mod Timed

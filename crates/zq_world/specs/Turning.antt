@@ -76,11 +76,6 @@ module _ {N S : Type 0} where
   DrawsUpTo seed workers x (turn ∷ turns) (order ∷ orders) now =
       (after : ℕ) × IsOrder seed x workers order after × DrawsUpTo seed workers after turns orders now
 
-  -- no reading of the clock is another than the first
-  abbrev pub NeverReads : List (OneTurn N S) → Type 0
-  NeverReads [] = Unit {0}
-  NeverReads (turn ∷ turns) = (turn.reading ≡ 0) × NeverReads turns
-
   -- each worker's acts of a turn are by its own number, the last of which is the conductor's
   pub record TurnBy (conductor : ℕ) (turn : OneTurn N S) : Type 0 where
     pub conducted : AreActsBy conductor (all_acts turn.begins)
@@ -130,7 +125,6 @@ module _ {O N S : Type 0} (as_open : O → OpenSock) where
     pub go : TurnsGo 1 (standings as_open old) turns (standings as_open now)
     pub draws : DrawsUpTo seed (range_with_len 0 (length old + 2)) seed turns orders drawn
     pub count : length now ≡ length old
-    pub quiet : NeverReads turns
     pub by : TurnsBy (length old + 2) turns
     pub says : (i : ℕ) (a b : Actor O) → slice_get old i ≡ Some a → slice_get now i ≡ Some b → HasSaid i turns a b
     pub pieces_are : after ≡ before ++ turns_pieces (length old) orders turns

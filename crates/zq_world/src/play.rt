@@ -1,4 +1,4 @@
-ghost use Rattle.std.specs.Prelude.{◌≡◌, ◌≤◌, ℕ, length, OnOk, IfOk};
+ghost use Rattle.std.specs.Prelude.{◌≡◌, ◌≤◌, ℕ, length, OnOk, IfOk, IfErr};
 ghost use Rattle.std.specs.List.{list_all};
 ghost use Rattle.spec_run.specs.OpenSocket.{OpenSock};
 ghost use Rattle.spec_run.specs.Standing.{has_finished};
@@ -6,14 +6,18 @@ ghost use Rattle.spec_run.specs.InTurns.{is_ended};
 ghost use Rattle.script_actor.specs.Way.{KeepsAll};
 ghost use Rattle.zq_world.specs.CoreCalls.{IsReaper};
 ghost use Rattle.zq_world.specs.Turning.{ActorsAgree, WorkerSteps, HaveStepped, TurnSteps, times};
-ghost use Rattle.zq_world.specs.Turning.{standings, BeginsOrEnds, RunsSo};
+ghost use Rattle.zq_world.specs.Turning.{standings, BeginsOrEnds};
+ghost use Rattle.zq_world.specs.Timed.{RunsTimed};
+ghost use Rattle.clock_reads.specs.Readings.{clock_at, GoesOn};
 
 use crate::cores::Core;
+use clock_reads::read_clock;
 use msg_pipe::Pipes;
 use script_actor::Actor;
 use spec_control::ObjState;
 use std::alloc::{AllocError, Global};
 use turn_order::Order;
+use zq_outer::Clock;
 
 /// How many workers are no actors: the reaper and the one I/O worker, which does nothing yet.
 const OTHER_WORKERS: usize = 2;
@@ -127,29 +131,35 @@ fn begin<P: Pipes, W: Core<P>>(
     }
 }
 
-/// Takes turns in the orders that the seed draws, so many at the most, until the root has ended.
-/// Answers whether it has.
-pub fn run<P: Pipes, W: Core<P>>(
+/// Takes turns in the orders that the seed draws, so many at the most, until the root has ended. The
+/// clock is read before the first and at the end of each. Answers whether the root has ended.
+pub fn run<P: Pipes, W: Core<P>, C: Clock>(
     alloc: Global,
     way: &mut W,
     actors: &mut [Actor<W::Open>],
+    clock: &mut C,
     seed: u64,
     turns: u32,
 ) -> Result<bool, AllocError>
     requires agree { ActorsAgree W.as_open W.agrees W.was_made way.old actors.old }
     requires alone { IsReaper (length actors.old) (W.pieces way.old) }
-    ensures ok { IfOk result (λ done. RunsSo W.as_open seed turns done actors.old actors.new
-        (W.pieces way.old) (W.pieces way.new)) }
+    ensures ok { IfOk result (λ done. RunsTimed W.as_open seed turns done actors.old actors.new
+        (W.pieces way.old) (W.pieces way.new)
+        (clock_at (C.last clock.old) (C.to_come clock.old)) (clock_at (C.last clock.new) (C.to_come clock.new))) }
+    ensures err { IfErr result (λ _.
+        GoesOn (clock_at (C.last clock.old) (C.to_come clock.old)) (clock_at (C.last clock.new) (C.to_come clock.new))) }
     ensures agree { ActorsAgree W.as_open W.agrees W.was_made way.new actors.new }
 {
     let conductor = actors.len().saturating_add(OTHER_WORKERS);
     let mut order = Order::new(seed);
     let mut left = turns;
+    read_clock(clock);
     'turns: while left > 0 {
         if !begin(alloc, way, actors, conductor)? {
             return Ok(true);
         }
         turn(alloc, way, actors, &mut order)?;
+        read_clock(clock);
         left -= 1;
     }
     let root = way.look(alloc, conductor)?;

@@ -1,8 +1,9 @@
-ghost use Rattle.std.specs.Prelude.{◌≡◌, [], IfOk, map};
-ghost use Rattle.spec_run.specs.RunJournal.{IsRunJournal};
+ghost use Rattle.std.specs.Prelude.{◌≡◌, [], IfOk, IfErr, map};
+ghost use Rattle.clock_reads.specs.Readings.{clock_at, GoesOn};
 ghost use Rattle.script_actor.specs.MayAsk.{MayAskScript};
 ghost use Rattle.script_actor.specs.Stepping.{lines_of};
-ghost use Rattle.zq_world.specs.Played.{AreNew, PlaysSo};
+ghost use Rattle.zq_world.specs.Played.{AreNew};
+ghost use Rattle.zq_world.specs.Timed.{PlaysTimed, IsTimedJournal};
 
 use crate::cores::Core;
 use crate::play::run;
@@ -11,6 +12,7 @@ use script_actor::Actor;
 use spec_run::{ActorLines, RunActor, RunJournal};
 use std::alloc::{AllocError, Global};
 use zq_base::Seq;
+use zq_outer::Clock;
 
 /// The actors of a script, before their first lines.
 fn actors_of<'a, O: Drop>(
@@ -38,39 +40,47 @@ fn parts<O: Drop>(alloc: Global, actors: Vec<Actor<O>>) -> Result<Seq<ActorLines
 }
 
 /// Plays a script over a new core, and gives what its actors said.
-fn play<P: Pipes, W: Core<P>>(
+fn play<P: Pipes, W: Core<P>, C: Clock>(
     alloc: Global,
     script: &[RunActor],
     way: &mut W,
+    clock: &mut C,
     seed: u64,
     turns: u32,
 ) -> Result<Seq<ActorLines>, AllocError>
     requires new { W.pieces way.old ≡ [] }
     requires may { MayAskScript script.now }
-    ensures ok { IfOk result (λ lines. PlaysSo script.now seed turns lines
-        (W.pieces way.new) (W.order way.new)) }
+    ensures ok { IfOk result (λ lines. PlaysTimed script.now seed turns lines
+        (W.pieces way.new) (W.order way.new)
+        (clock_at (C.last clock.old) (C.to_come clock.old)) (clock_at (C.last clock.new) (C.to_come clock.new))) }
+    ensures err { IfErr result (λ _.
+        GoesOn (clock_at (C.last clock.old) (C.to_come clock.old)) (clock_at (C.last clock.new) (C.to_come clock.new))) }
 {
     let mut actors = actors_of(alloc, script)?;
-    run(alloc, way, &mut actors, seed, turns)?;
+    run(alloc, way, &mut actors, clock, seed, turns)?;
     way.known();
     parts(alloc, actors)
 }
 
 /// Plays a script on one thread over a new core: in the orders that the seed draws, so many turns at
-/// the most. Whatever the script, the seed and the turns, the journal is that of a run of the script.
-pub fn play_script<P: Pipes, W: Core<P>>(
+/// the most. Whatever the script, the seed and the turns, the journal is that of a run of the script,
+/// whose readings are those that the clock gave. Without memory the clock went on by some readings.
+pub fn play_script<P: Pipes, W: Core<P>, C: Clock>(
     alloc: Global,
     script: &[RunActor],
     way: &mut W,
+    clock: &mut C,
     seed: u64,
     turns: u32,
 ) -> Result<RunJournal, AllocError>
     requires new { W.pieces way.old ≡ [] }
     requires may { MayAskScript script.now }
-    ensures ok { IfOk result (IsRunJournal P.Name P.Story script.now
-        (record { seed = seed; turns = turns })) }
+    ensures ok { IfOk result (IsTimedJournal P.Name P.Story script.now (record { seed = seed; turns = turns })
+        (clock_at (C.last clock.old) (C.to_come clock.old)) (clock_at (C.last clock.new) (C.to_come clock.new))) }
+    ensures err { IfErr result (λ _.
+        GoesOn (clock_at (C.last clock.old) (C.to_come clock.old)) (clock_at (C.last clock.new) (C.to_come clock.new))) }
 {
-    let actors = play(alloc, script, way, seed, turns)?;
+    let actors = play(alloc, script, way, clock, seed, turns)?;
     let shown = way.show(alloc)?;
     Ok(RunJournal {
         actors,

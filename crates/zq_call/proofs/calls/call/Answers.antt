@@ -3,4 +3,4 @@ use Rattle.zq_call.proofs.Says.{answers_said}
 use Rattle.zq_call.proofs.calls.call.Goals as goal
 
 pub returns-clause-answers : goal.returns-clause-answers
-returns-clause-answers g c = answers_said g.X.Runs.prints g.X.Runs.refuses c.in-Ok.said.0 _ _ _ _ c.in-Ok.ensures (search rules)
+returns-clause-answers g c = answers_said g.X.Runs.prints g.X.Runs.refuses c.in-Ok.said.0 _ _ _ _ c.in-Ok.ensures.says (search rules)
