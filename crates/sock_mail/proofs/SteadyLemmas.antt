@@ -56,7 +56,7 @@ whole_so K p s h is = record { sound = sound_of K p s.ends.rows.items s.ends.pla
 module _ {W N O I : Type 0} (s t : SockCore AnySock W N O I) (rest : KeepsRest s t) where
   pub keeps_else : KeepsElse s t
   keeps_else = subst (λ (x : SockCore AnySock W N O I). KeepsElse s x) (sym rest)
-      (record { places = refl; settled = refl; number = refl; is_open = refl; stopped = refl; waker = refl; room = refl; turns = refl; sealed = refl; joins = refl })
+      (record { places = refl; settled = refl; number = refl; is_open = refl; stopped = refl; reads = refl; waker = refl; room = refl; turns = refl; sealed = refl; joins = refl; heard = refl; way = refl })
 
   pub mailed_so : {S : Type 0} (K : Known S O I N) (p q : S) → IsWhole K (lent_in q t) → IsSteady K peer_places p s → IsSteady K peer_places q t
   mailed_so K p q whole h =

@@ -22,11 +22,14 @@ pub record KeepsElse {C W N O I : Type 0} (old new : SockCore C W N O I) : Type 
   pub number : new.number ≡ old.number
   pub is_open : new.is_open ≡ old.is_open
   pub stopped : new.stopped ≡ old.stopped
+  pub reads : new.reads ≡ old.reads
   pub waker : new.waker ≡ old.waker
   pub room : new.room ≡ old.room
   pub turns : new.turns ≡ old.turns
   pub sealed : new.sealed ≡ old.sealed
   pub joins : new.joins ≡ old.joins
+  pub heard : new.heard ≡ old.heard
+  pub way : new.way ≡ old.way
 
 -- all of a socket but its kind's state and the rows of its ends is as it was
 abbrev pub KeepsRest : {C W N O I : Type 0} → (old new : SockCore C W N O I) → Type 0
@@ -43,9 +46,12 @@ pub record KeepsButEnds {C W N O I : Type 0} (old new : SockCore C W N O I) : Ty
   pub number : new.number ≡ old.number
   pub is_open : new.is_open ≡ old.is_open
   pub stopped : new.stopped ≡ old.stopped
+  pub reads : new.reads ≡ old.reads
   pub kind : new.kind ≡ old.kind
   pub waker : new.waker ≡ old.waker
   pub room : new.room ≡ old.room
   pub turns : new.turns ≡ old.turns
   pub sealed : new.sealed ≡ old.sealed
   pub joins : new.joins ≡ old.joins
+  pub heard : new.heard ≡ old.heard
+  pub way : new.way ≡ old.way

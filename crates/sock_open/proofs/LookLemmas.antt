@@ -183,7 +183,7 @@ met_after_still Delimiter b h = refl
 
 -- another state of its ends leaves all else of a socket
 pub keeps_but : {W N O I : Type 0} (s : SockCore AnySock W N O I) (ends : EndTable N O I) → KeepsButEnds s (record s { ends = ends })
-keeps_but s ends = record { number = refl; is_open = refl; stopped = refl; kind = refl; waker = refl; room = refl; turns = refl; sealed = refl; joins = refl }
+keeps_but s ends = record { number = refl; is_open = refl; stopped = refl; reads = refl; kind = refl; waker = refl; room = refl; turns = refl; sealed = refl; joins = refl; heard = refl; way = refl }
 
 module _ {W N O I S : Type 0} (K : Known S O I N) (p q : S) (s t : SockCore AnySock W N O I) where
   module _ (e : EndId) (found : Front) (looks : LooksHere K e found p s.ends q t.ends) (rest : KeepsButEnds s t) where

@@ -1,9 +1,9 @@
 -- Which of the closed sockets live, for which of them a command waits, and how many may still be closed.
-use Rattle.std.specs.Prelude.{◌≡◌, ◌<◌, ◌+◌, ◌&&◌, ◌++◌, ◌∷◌, [], ℕ, zero, suc, Bool, true, false, cond, not, drop, List, Option, Some, None, All, count_by, filter, find, length, map, remove, slice_index_or, sum_by, take, refl}
+use Rattle.std.specs.Prelude.{◌≡◌, ◌<◌, ◌+◌, ◌&&◌, ◌++◌, ◌∷◌, [], ℕ, zero, suc, Bool, true, false, cond, not, List, Option, Some, None, All, count_by, filter, find, length, map, slice_index_or, sum_by, take, refl}
 use Rattle.std.specs.List.{list_any}
 use Rattle.std.proofs.Common.{arith, sym, ap, ◌∙◌, subst}
 use Rattle.std.proofs.lemmas.List.{ext_get_or, get_or-map, length-map}
-use Rattle.std.proofs.lemmas.List.Elements.{All-append, All-drop, All-head, All-tail, All-take}
+use Rattle.std.proofs.lemmas.List.Elements.{All-head, All-tail}
 use Rattle.std.proofs.lemmas.List.Sums.{sum-map, sum_by-set, sum_by_push}
 use Rattle.zq_base.specs.declared.ids.ObjId.{ObjId}
 use Rattle.zq_base.specs.declared.kind.Kind.{Kind}
@@ -95,14 +95,6 @@ module _ {X : Type 0} (p : X → Bool) where
       by : (b : Bool) → p y ≡ b → cond b (Some y) (find p ys) ≡ Some x → (find p ys ≡ Some x → (p x ≡ true) × ((P : X → Type 0) → All P ys → P x)) → (p x ≡ true) × ((P : X → Type 0) → All P (y ∷ ys) → P x)
       by true is f rest = (subst (λ (z : X). p z ≡ true) (some_is f) is, λ P all. subst P (some_is f) (All-head P y ys all))
       by false is f rest = ((rest f).0, λ P all. (rest f).1 P (All-tail P y ys all))
-
-  pub filter_removed : (xs : List X) (k : ℕ) (d : X) → k < length xs → p (slice_index_or xs k d) ≡ false → filter p (remove xs k) ≡ filter p xs
-  filter_removed [] k d within out = absurd (omega (arith, within))
-  filter_removed (x ∷ xs) zero d within out = sym (ap (λ (b : Bool). cond b (x ∷ filter p xs) (filter p xs)) out)
-  filter_removed (x ∷ xs) (suc k) d within out = ap (λ (ys : List X). cond (p x) (x ∷ ys) ys) (filter_removed xs k d (omega (arith, within)) out)
-
-pub All_removed : {X : Type 0} (P : X → Type 0) (xs : List X) (k : ℕ) → All P xs → All P (remove xs k)
-All_removed P xs k all = All-append P (take k xs) (drop (suc k) xs) (All-take P k xs all) (All-drop P (suc k) xs all)
 
 -- ---- the first of the reaper's mailboxes
 module _ {X Y : Type 0} (g : X → Y) (u : X → Bool) (w : Y → Bool) where
