@@ -7,3 +7,4 @@ mod DoneLemmas
 pub mod TurnLemmas
 pub mod SealLemmas
 pub mod CapacityLemmas
+pub mod GoesLemmas

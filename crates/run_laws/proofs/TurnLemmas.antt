@@ -1,5 +1,5 @@
 -- Where a run goes in turns, each worker does what its role asks.
-use Rattle.std.specs.Prelude.{◌≡◌, ◌+◌, ◌==◌, ◌||◌, ℕ, zero, suc, Bool, true, false, not, cond, List, [], ◌∷◌, ◌++◌, Some, None, find, length, map, replicate, slice_get, slice_index_or, refl}
+use Rattle.std.specs.Prelude.{◌≡◌, ◌<◌, ◌+◌, ◌==◌, ◌||◌, ℕ, zero, suc, Bool, true, false, not, cond, List, [], ◌∷◌, ◌++◌, Some, None, find, length, map, replicate, slice_get, slice_index_or, refl}
 use Rattle.std.specs.List.{list_any, range_with_len}
 use Rattle.std.proofs.Common.{arith, sym, ap, ◌∙◌, subst}
 use Rattle.std.proofs.lemmas.Bool.{eq-eqb}
@@ -13,10 +13,10 @@ use Rattle.spec_run.specs.Worker.{Role, ActsBy, Reaps, Serves, Conducts, roles, 
 use Rattle.spec_run.specs.OwnedRun.{OwnedRun, deeds_in, AllWork}
 use Rattle.spec_run.specs.InTurns.{OneTurn, Turned, AsksIf, Begins, ActorStep, ReaperStep, AllStep, TurnsGo, turn_step, conductor_steps, worker_count, IsInTurns}
 
-some_is : {X : Type 0} {x y : X} → Some x ≡ Some y → x ≡ y
+pub some_is : {X : Type 0} {x y : X} → Some x ≡ Some y → x ≡ y
 some_is e = Prim.grind arith
 
-none_some : {X : Type 0} {x : X} → None ≡ Some x → ⊥
+pub none_some : {X : Type 0} {x : X} → None ≡ Some x → ⊥
 none_some e = Prim.grind arith
 
 or_true : (a b : Bool) → b ≡ true → (a || b) ≡ true
@@ -33,12 +33,12 @@ found_has p (x ∷ xs) k e = by (p x) refl (λ h. found_has p xs k h)
         ap (λ (b : Bool). b || list_any (λ y. y == k) xs) (eq-eqb x k same)
     by false h rest = or_true (x == k) _ (rest (subst (λ (b : Bool). cond b (Some x) (find p xs) ≡ Some k) h e))
 
-before_at : (script : RunScript) (i : ℕ) (actor : RunActor) → slice_get script i ≡ Some actor → slice_get (map standing_before script) i ≡ Some (standing_before actor)
+pub before_at : (script : RunScript) (i : ℕ) (actor : RunActor) → slice_get script i ≡ Some actor → slice_get (map standing_before script) i ≡ Some (standing_before actor)
 before_at [] i actor e = absurd (none_some e)
 before_at (a ∷ others) zero actor e = ap (λ (x : RunActor). Some (standing_before x)) (some_is e)
 before_at (a ∷ others) (suc i) actor e = before_at others i actor e
 
-map_length : (script : RunScript) → length (map standing_before script) ≡ length script
+pub map_length : (script : RunScript) → length (map standing_before script) ≡ length script
 map_length [] = refl
 map_length (a ∷ others) = ap suc (map_length others)
 
@@ -64,7 +64,7 @@ module _ {N S : Type 0} where
   step_local old new (AsksRoot acts ∷ e ∷ ds) s = absurd s
   step_local old new (Reads now ∷ e ∷ ds) s = absurd s
 
-  local_more : (a b c : ActorStanding) (xs ys : List (Deed N S)) → LocalRun a xs b → LocalRun b ys c → LocalRun a (xs ++ ys) c
+  pub local_more : (a b c : ActorStanding) (xs ys : List (Deed N S)) → LocalRun a xs b → LocalRun b ys c → LocalRun a (xs ++ ys) c
   local_more a b c [] ys e r = subst (λ (s : ActorStanding). LocalRun s ys c) e r
   local_more a b c (x ∷ xs) ys q r = (q.0, q.1, local_more q.0 b c xs ys q.2 r)
 
@@ -110,7 +110,7 @@ module _ {N S : Type 0} where
   reaps_step (AsksRoot acts ∷ e ∷ ds) s = absurd s
   reaps_step (Reads now ∷ e ∷ ds) s = absurd s
 
-  each_more : (Does : Deed N S → Type 0) (xs ys : List (Deed N S)) → EachDoes Does xs → EachDoes Does ys → EachDoes Does (xs ++ ys)
+  pub each_more : (Does : Deed N S → Type 0) (xs ys : List (Deed N S)) → EachDoes Does xs → EachDoes Does ys → EachDoes Does (xs ++ ys)
   each_more Does [] ys q r = r
   each_more Does (x ∷ xs) ys q r = (q.0, each_more Does xs ys q.1 r)
 
@@ -198,12 +198,12 @@ module _ {N S : Type 0} where
   -- ---- all of them
 
   module _ (col : ℕ → List (List (Deed N S))) (conductor : List (List (Deed N S))) where
-    serves_all : (n k : ℕ) → ((i m : ℕ) → m ≡ k + i → deeds_in (col m) ≡ []) → EachDoes ConductsSo (deeds_in conductor)
+    pub serves_all : (n k : ℕ) → ((i m : ℕ) → m ≡ k + i → i < n → deeds_in (col m) ≡ []) → EachDoes ConductsSo (deeds_in conductor)
         → AllWork (replicate n Serves ++ Conducts ∷ []) (map col (range_with_len k n) ++ conductor ∷ [])
     serves_all zero k none so = (so, tt)
-    serves_all (suc n) k none so = (none 0 k (omega arith), serves_all n (k + 1) (λ i m e. none (i + 1) m (omega (arith, e))) so)
+    serves_all (suc n) k none so = (none 0 k (omega arith) (omega arith), serves_all n (k + 1) (λ i m e lt. none (i + 1) m (omega (arith, e)) (omega (arith, lt))) so)
 
-    acts_all : (script : RunScript) (rest : List Role) (m k count : ℕ) → count ≡ length script + m
+    pub acts_all : (script : RunScript) (rest : List Role) (m k count : ℕ) → count ≡ length script + m
         → ((i n : ℕ) (actor : RunActor) → n ≡ k + i → slice_get script i ≡ Some actor → IsWorkOf (ActsBy actor) (deeds_in (col n)))
         → ((j : ℕ) → j ≡ k + length script → AllWork rest (map col (range_with_len j m) ++ conductor ∷ []))
         → AllWork (map (λ actor. ActsBy actor) script ++ rest) (map col (range_with_len k count) ++ conductor ∷ [])
@@ -228,7 +228,7 @@ module _ {N S : Type 0} where
       (λ j f. (
         reaper_at io olds t.turns is.standings is.go j (omega (arith, f, lengths)),
         serves_all (λ w. map (turn_step w) t.turns) (conductor_steps t) io (j + 1)
-            (λ i m e. serve_at io olds t.turns is.standings is.go i m (omega (arith, e, f, lengths)))
+            (λ i m e lt. serve_at io olds t.turns is.standings is.go i m (omega (arith, e, f, lengths)))
             (tt, conduct_turns io olds t.turns is.standings is.go t.last is.last),
       )))
     where

@@ -3,3 +3,4 @@ pub mod DoneRuns
 pub mod TurnsLocal
 pub mod SealsTold
 pub mod CapacitiesStay
+pub mod EventsLocal

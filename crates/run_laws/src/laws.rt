@@ -1,6 +1,7 @@
 ghost use Rattle.run_laws.specs.CapacitiesStay.{CapacitiesStay, StepsStayExact};
 ghost use Rattle.run_laws.specs.DoneRuns.{DoneRunsLeaveNothing};
 ghost use Rattle.run_laws.specs.EndOrder.{ObjectsEndInOrder};
+ghost use Rattle.run_laws.specs.EventsLocal.{EventsAreLocal};
 ghost use Rattle.run_laws.specs.SealsTold.{SealsAreTold};
 ghost use Rattle.run_laws.specs.TurnsLocal.{TurnsAreLocal};
 
@@ -19,6 +20,12 @@ pub fn done_runs_leave_nothing<N, S>()
 /// Where a run goes in turns, each worker does what its role asks, by its own deeds alone.
 pub fn turns_are_local<N, S>()
     ensures { TurnsAreLocal N S }
+{}
+
+/// Where a run is that of a list of events, each worker does what its role asks, by its own deeds
+/// alone.
+pub fn events_are_local<N, S>()
+    ensures { EventsAreLocal N S }
 {}
 
 /// The pipes that the holder of ends is told to seal in a moment are those that get their delimiters

@@ -1,11 +1,11 @@
 //! Laws of runs of scripts over sockets that end: each object ends once, and after what it owns; where
-//! the root has ended nothing is left; what goes in turns goes by each worker's own deeds; capacities
-//! stay, and what was exact stays exact.
+//! the root has ended nothing is left; what goes in turns, or by events, goes by each worker's own
+//! deeds; capacities stay, and what was exact stays exact.
 #![tactic(auto)]
 
 mod laws;
 
 pub use laws::{
-    capacities_stay, done_runs_leave_nothing, objects_end_once_and_in_order, seals_are_told,
-    steps_stay_exact, turns_are_local,
+    capacities_stay, done_runs_leave_nothing, events_are_local, objects_end_once_and_in_order,
+    seals_are_told, steps_stay_exact, turns_are_local,
 };

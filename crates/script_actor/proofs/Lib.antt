@@ -1,3 +1,4 @@
 pub mod SeatLemmas
 pub mod LineLemmas
 pub mod StepLemmas
+pub mod FetchLemmas

@@ -124,7 +124,7 @@ module _ {O : Type 0} (as_open : O → OpenSock) where
       → AllByRecursion (Fits as_open) seats → AreApart (map name_of seats) → open_at (sockets_of as_open seats) place ≡ Some (as_open s)
   found_here place seats object s here fit apart = open_found as_open seats place fit apart ∙ ap (open_in as_open) here
 
-  with_seat : (place : ℕ) (seats : List (Seat O)) (object : ObjId) (s t : O) → slice_get seats place ≡ Some (seat.Open object s) → AllByRecursion (Fits as_open) seats → AreApart (map name_of seats)
+  pub with_seat : (place : ℕ) (seats : List (Seat O)) (object : ObjId) (s t : O) → slice_get seats place ≡ Some (seat.Open object s) → AllByRecursion (Fits as_open) seats → AreApart (map name_of seats)
       → (as_open t).object ≡ object.0 → sockets_of as_open (slice_set seats place (seat.Open object t)) ≡ with_open (as_open t) (sockets_of as_open seats)
   with_seat place seats object s t here fit apart same =
       sockets_are _ _ _ _ (names_set seats place (seat.Open object s) (seat.Open object t) here refl) (with_at as_open seats place object s t here fit apart same)

@@ -19,10 +19,10 @@ or_false : (a b : Bool) → (a || b) ≡ false → (a ≡ false) × (b ≡ false
 or_false true b e = elim (true≢false e) [ ]
 or_false false b e = (refl, e)
 
-some_is : {X : Type 0} (x y : X) → ◌≡◌ {A = Option X} (Some x) (Some y) → x ≡ y
+pub some_is : {X : Type 0} (x y : X) → ◌≡◌ {A = Option X} (Some x) (Some y) → x ≡ y
 some_is x y e = cc
 
-no_more : {X : Type 0} (x : X) → ◌≡◌ {A = Option X} None (Some x) → ⊥
+pub no_more : {X : Type 0} (x : X) → ◌≡◌ {A = Option X} None (Some x) → ⊥
 no_more x e = cc
 
 suc_is : (n : ℕ) → suc n ≡ n + 1

@@ -3,3 +3,4 @@ pub mod MayAsk
 pub mod Way
 pub mod Seats
 pub mod Stepping
+pub mod Taking

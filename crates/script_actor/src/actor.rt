@@ -1,11 +1,14 @@
-ghost use Rattle.std.specs.Prelude.{◌≡◌, [], IfOk, OnOk};
+ghost use Rattle.std.specs.Prelude.{◌≡◌, true, [], IfOk, OnOk};
+ghost use Rattle.spec_run.specs.CoreEvents.{may_take};
 ghost use Rattle.spec_run.specs.OpenSocket.{OpenSock};
 ghost use Rattle.spec_run.specs.Standing.{standing_before, has_finished};
 ghost use Rattle.script_actor.specs.Seats.{AllAgree};
 ghost use Rattle.script_actor.specs.Stepping.{standing_of, entries_of, lines_of, at_seats, DoesAsked};
 ghost use Rattle.script_actor.specs.Stepping.{StepsSo, ActorAgrees, LeavesOthers, AnswersOne};
 ghost use Rattle.script_actor.specs.MayAsk.{MayAskLine, MayAskLines};
+ghost use Rattle.script_actor.specs.Taking.{control_told, has_slot, FetchesSo};
 
+use crate::letters::Letters;
 use crate::lines::is_over;
 use crate::seats::Seats;
 use crate::sockets::Sockets;
@@ -145,6 +148,36 @@ impl<'a, O: Drop> Actor<'a, O> {
             skips: Seq::of_vec(told),
         })?;
         Ok(())
+    }
+
+    /// Whether one of its open sockets has this mailbox.
+    pub fn has_mailbox<P: Pipes, W: Letters<P, Open = O>>(&self, way: &W, slot: usize) -> bool
+        ensures { result ≡ has_slot slot (standing_of W.as_open self.now).mine.socks }
+    {
+        match self.seats.place_with(way, slot) {
+            Some(_) => return true,
+            None => return false,
+        }
+    }
+
+    /// Takes a letter of its open socket with this mailbox, as the caller of its number. Want of
+    /// memory leaves its sockets as what was done left them.
+    pub fn fetch<P: Pipes, W: Letters<P, Open = O>>(
+        &mut self,
+        alloc: Global,
+        way: &mut W,
+        number: usize,
+        slot: usize,
+    ) -> Result<(), AllocError>
+        requires agrees { ActorAgrees W.as_open W.agrees W.was_made way.old number self.old }
+        requires has { has_slot slot (standing_of W.as_open self.old).mine.socks ≡ true }
+        requires waits { may_take (control_told (W.pieces way.old)) slot ≡ true }
+        ensures ok { OnOk result (FetchesSo W.as_open number slot self.old self.new
+            (W.pieces way.old) (W.pieces way.new)) }
+        ensures agrees { ActorAgrees W.as_open W.agrees W.was_made way.new number self.new }
+        ensures others { LeavesOthers W.agrees W.was_made number way.old way.new }
+    {
+        self.seats.fetch(alloc, way, number, slot)
     }
 
     /// The actor's part of the journal.

@@ -4,11 +4,14 @@
 
 mod actor;
 mod answers;
+mod fetching;
+mod letters;
 mod lines;
 mod made;
 mod seats;
 mod sockets;
 
 pub use actor::Actor;
+pub use letters::Letters;
 pub use made::Made;
 pub use sockets::Sockets;

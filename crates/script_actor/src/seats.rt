@@ -27,7 +27,7 @@ pub(crate) enum Seat<O> {
 /// What an actor's socket lines made, in their order.
 #[derive(Drop)]
 pub(crate) struct Seats<O> {
-    seats: Vec<Seat<O>>,
+    pub(crate) seats: Vec<Seat<O>>,
     // the place of the first that is open, or how many there are
     first: usize,
 }

@@ -55,7 +55,7 @@ some_none x xs (y ∷ ys) e f = cc
 
 -- an actor that has finished does nothing
 module _ {N S : Type 0} where
-  finished_step : (old new : ActorStanding) (deeds : List (Deed N S)) → has_finished old ≡ true → ActorStep old deeds new → (deeds ≡ []) × (new ≡ old)
+  pub finished_step : (old new : ActorStanding) (deeds : List (Deed N S)) → has_finished old ≡ true → ActorStep old deeds new → (deeds ≡ []) × (new ≡ old)
   finished_step old new [] done s = (refl, s.1)
   finished_step old new (Tries t ∷ []) done s = elim (some_none t.line s.rest old.lines s.lines_are (and_left (is_none old.lines) (is_none old.mine.socks) done)) [ ]
   finished_step old new (Shuts acts ∷ []) done s = elim (some_none s.first s.others old.mine.socks s.socks_are (and_right (is_none old.lines) (is_none old.mine.socks) done)) [ ]

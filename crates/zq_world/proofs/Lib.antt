@@ -12,3 +12,8 @@ pub mod ReaperLemmas
 pub mod LookLemmas
 pub mod WholeLemmas
 pub mod PlayLemmas
+pub mod MadeLemmas
+pub mod EventLemmas
+pub mod GoesLemmas
+pub mod WorldLemmas
+pub mod RefusedLemmas

@@ -13,7 +13,7 @@ use Rattle.zq_world.specs.Turning.{RunsSo, turn_pieces, turns_pieces, sequence_p
 use Rattle.zq_world.proofs.StepLemmas.{all_acts-append}
 
 module _ {N S : Type 0} where
-  acts_in-append : (xs ys : List (Piece N S)) → acts_in (xs ++ ys) ≡ acts_in xs ++ acts_in ys
+  pub acts_in-append : (xs ys : List (Piece N S)) → acts_in (xs ++ ys) ≡ acts_in xs ++ acts_in ys
   acts_in-append xs ys = flat_map-append (λ (x : Piece N S). x.acts) xs ys
 
   pub acts_one : (k : ℕ) (reaps : Bool) (acts : List (Act N S)) (skips : List Skip) → acts_in (piece_of k reaps acts skips) ≡ acts

@@ -104,7 +104,7 @@ lines_same m n es fs e f = cc
 
 module _ {O N S : Type 0} where
   -- the lines of actors at the end, from those before their first
-  all_said : (m k : ℕ) (script : RunScript) (olds news : List (Actor O)) (steps : ℕ → List (List (Deed N S))) (last : List (List (List (Deed N S)))) → map lines_of olds ≡ map lines_before script → length news ≡ length olds
+  pub all_said : (m k : ℕ) (script : RunScript) (olds news : List (Actor O)) (steps : ℕ → List (List (Deed N S))) (last : List (List (List (Deed N S)))) → map lines_of olds ≡ map lines_before script → length news ≡ length olds
       → length script ≤ m → ((i w : ℕ) (a b : Actor O) → w ≡ k + i → slice_get olds i ≡ Some a → slice_get news i ≡ Some b → entries_of b ≡ entries_of a ++ entries_shown (deeds_in (steps w)))
       → ((i : ℕ) (a b : Actor O) → slice_get olds i ≡ Some a → slice_get news i ≡ Some b → b.name ≡ a.name)
       → map lines_of news ≡ actors_shown script (map steps (range_with_len k m) ++ last)
@@ -213,14 +213,14 @@ written_back n ys xs same = subst (λ k. take k (ys ++ drop (length ys) xs) ≡ 
 
 -- ---- the journal
 
-same_by : (row other : PipeId → Option SettledRow) → ((p : PipeId) → row p ≡ other p) → (n : ℕ) (pairs : List PairRow) → rows_by row n pairs ≡ rows_by other n pairs
+pub same_by : (row other : PipeId → Option SettledRow) → ((p : PipeId) → row p ≡ other p) → (n : ℕ) (pairs : List PairRow) → rows_by row n pairs ≡ rows_by other n pairs
 same_by row other same n [] = refl
 same_by row other same n (pair ∷ pairs) =
     ap (λ (r : Option SettledRow). r ∷ row (end_of n false) ∷ rows_by row (n + 1) pairs) (same (end_of n true))
     ∙ ap (λ (r : Option SettledRow). other (end_of n true) ∷ r ∷ rows_by row (n + 1) pairs) (same (end_of n false))
     ∙ ap (λ (l : List (Option SettledRow)). other (end_of n true) ∷ other (end_of n false) ∷ l) (same_by row other same (n + 1) pairs)
 
-journals_are : (a b : List ActorLines) (c d : List ObjectLine) (e f : List (Option SettledRow)) (g h : List ObjectRow) (k l : Bool) → a ≡ b → c ≡ d → e ≡ f → g ≡ h → k ≡ l
+pub journals_are : (a b : List ActorLines) (c d : List ObjectLine) (e f : List (Option SettledRow)) (g h : List ObjectRow) (k l : Bool) → a ≡ b → c ≡ d → e ≡ f → g ≡ h → k ≡ l
     → ◌≡◌ {A = RunJournal} (record { actors = a; ended = c; pipes = e; objects = g; done = k }) (record { actors = b; ended = d; pipes = f; objects = h; done = l })
 journals_are a b c d e f g h k l p q r s t = cc
 

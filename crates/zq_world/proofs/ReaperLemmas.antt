@@ -16,13 +16,13 @@ use Rattle.zq_world.proofs.RiseLemmas.{all_both}
 use Rattle.zq_world.proofs.RunLemmas.{Within}
 
 module _ {N S : Type 0} where
-  both : (n : ℕ) (xs ys : List (Piece N S)) → IsReaper n xs → IsReaper n ys → IsReaper n (xs ++ ys)
+  pub both : (n : ℕ) (xs ys : List (Piece N S)) → IsReaper n xs → IsReaper n ys → IsReaper n (xs ++ ys)
   both n xs ys one two = record {
     only = all_both (λ (x : Piece N S). x.reaps ≡ true → x.by ≡ n) xs ys one.only two.only;
     reaps = all_both (λ (x : Piece N S). x.by ≡ n → x.reaps ≡ true) xs ys one.reaps two.reaps;
   }
 
-  only_piece : (n k : ℕ) (reaps : Bool) (acts : List (Act N S)) (skips : List Skip) → (reaps ≡ true → k ≡ n) → (k ≡ n → reaps ≡ true) → IsReaper n (piece_of k reaps acts skips)
+  pub only_piece : (n k : ℕ) (reaps : Bool) (acts : List (Act N S)) (skips : List Skip) → (reaps ≡ true → k ≡ n) → (k ≡ n → reaps ≡ true) → IsReaper n (piece_of k reaps acts skips)
   only_piece n k reaps [] skips is so = record { only = tt; reaps = tt }
   only_piece n k reaps (act ∷ acts) skips is so = record { only = (is, tt); reaps = (so, tt) }
 

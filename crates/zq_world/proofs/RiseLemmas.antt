@@ -55,7 +55,7 @@ module _ {N S : Type 0} where
       never e = omega (arith, e)
   past_reaper (o ∷ olds) (n ∷ news) (s ∷ steps) (suc w) all le = past_reaper olds news steps w all.1 (let e = le in omega (arith, e))
 
-silent_seals : (N S : Type 0) (side : PipeStep → Bool) → ((p : PipeId) → side (Seal p) ≡ false) → (es : List EndId) → list_any side (steps_in {N = N} {S = S} (map (λ e. Step (Seal e)) es)) ≡ false
+pub silent_seals : (N S : Type 0) (side : PipeStep → Bool) → ((p : PipeId) → side (Seal p) ≡ false) → (es : List EndId) → list_any side (steps_in {N = N} {S = S} (map (λ e. Step (Seal e)) es)) ≡ false
 silent_seals N S side seals [] = refl
 silent_seals N S side seals (e ∷ es) = rw (seals e) (silent_seals N S side seals es)
 
@@ -86,7 +86,7 @@ module _ {N S : Type 0} (side : PipeStep → Bool) (seals : (p : PipeId) → sid
 
   -- ---- the calls of a run fit
 
-  fit_low : (w : ℕ) (acts : List (Act N S)) (skips : List Skip) → w ≤ n → AllByRecursion Fit (piece_of w (w == n) acts skips)
+  pub fit_low : (w : ℕ) (acts : List (Act N S)) (skips : List Skip) → w ≤ n → AllByRecursion Fit (piece_of w (w == n) acts skips)
   fit_low w [] skips le = tt
   fit_low w (act ∷ acts) skips le = (record { reaper_is = refl; low = λ e. le; few = omega (arith, le) }, tt)
 
@@ -106,7 +106,7 @@ module _ {N S : Type 0} (side : PipeStep → Bool) (seals : (p : PipeId) → sid
           (sym (past_reaper olds news t.steps w all (let le = ltb-false w (n + 1) e in omega (arith, le, same)))) tt
 
   -- the conductor makes no step at a pipe but for delimiters
-  fit_silent : (acts : List (Act N S)) (skips : List Skip) → list_any side (steps_in acts) ≡ false → AllByRecursion Fit (piece_of (n + 2) false acts skips)
+  pub fit_silent : (acts : List (Act N S)) (skips : List Skip) → list_any side (steps_in acts) ≡ false → AllByRecursion Fit (piece_of (n + 2) false acts skips)
   fit_silent [] skips e = tt
   fit_silent (act ∷ acts) skips e =
       (record { reaper_is = sym (ne_eqb (n + 2) n (λ same. omega (arith, same))); low = λ h. absurd (true≢false (sym h ∙ e)); few = omega arith }, tt)

@@ -90,7 +90,7 @@ module _ {N S : Type 0} where
   by_more conductor [] t by one = (one, tt)
   by_more conductor (u ∷ ts) t by one = (by.0, by_more conductor ts t by.1 one)
 
-  shown_more : (ds es : List (Deed N S)) → entries_shown (ds ++ es) ≡ entries_shown ds ++ entries_shown es
+  pub shown_more : (ds es : List (Deed N S)) → entries_shown (ds ++ es) ≡ entries_shown ds ++ entries_shown es
   shown_more [] es = refl
   shown_more (Tries t ∷ ds) es = ap (λ l. if t.over then entry_shown t ∷ l else l) (shown_more ds es) ∙ shown_tries t.over (entry_shown t) (entries_shown ds) (entries_shown es)
   shown_more (Shuts acts ∷ ds) es = shown_more ds es

@@ -1,5 +1,5 @@
 -- How the workers' steps of a turn go on, one worker behind another.
-use Rattle.std.proofs.Common.{◌≡◌, ◌≢◌, ◌<◌, ◌+◌, ℕ, zero, suc, List, [], ◌∷◌, ◌++◌, Bool, true, false, Option, Some, None, length, refl, sym, ap, subst, ◌∙◌, arith, append-nil, append_assoc, length-set}
+use Rattle.std.proofs.Common.{◌≡◌, ◌≢◌, ◌<◌, ◌+◌, ℕ, List, [], ◌∷◌, ◌++◌, Bool, true, false, Option, Some, length, refl, sym, ap, subst, ◌∙◌, arith, append-nil, append_assoc, length-set}
 use Rattle.std.specs.Prelude.{◌==◌, flat_map, slice_get, slice_set, slice_index_or, if◌then◌else◌}
 use Rattle.std.proofs.lemmas.Bool.{eq-eqb, ne_eqb, eqb-true, eqb-false}
 use Rattle.std.proofs.lemmas.Grind.{flat_map-append}
@@ -8,6 +8,7 @@ use Rattle.spec_run.specs.Act.{Deed, Tries, Shuts, Fetches, Idles, Works, Looks,
 use Rattle.spec_run.specs.Fate.{skips_of}
 use Rattle.spec_run.specs.InTurns.{ReaperStep}
 use Rattle.spec_run.specs.OpenSocket.{OpenSock}
+use Rattle.run_laws.proofs.GoesLemmas.{get_set_here, get_set_else}
 use Rattle.script_actor.specs.Piece.{Piece, AreActsBy, AddsPiece, AddsDeeds, deed_pieces}
 use Rattle.script_actor.specs.Way.{KeepsAll}
 use Rattle.script_actor.specs.Stepping.{ActorAgrees, StepsSo, LeavesOthers}
@@ -19,24 +20,8 @@ use Rattle.zq_world.specs.Turning.{times, ActorsAgree, WorkerDoes, acts_so, reap
 use Rattle.zq_world.proofs.OrderLemmas.{times-append, times_it, times_not}
 use Rattle.zq_world.proofs.TurnLemmas.{flat_same}
 
--- a list after one of its elements was set
-get_set_here : {X : Type 0} (xs : List X) (i : ℕ) (x y : X) → slice_get xs i ≡ Some x → slice_get (slice_set xs i y) i ≡ Some y
-get_set_here [] i x y e = elim (none e) [ ]
-  where
-    none : None ≡ Some x → ⊥
-    none h = cc
-get_set_here (z ∷ xs) zero x y e = refl
-get_set_here (z ∷ xs) (suc i) x y e = get_set_here xs i x y e
-
 pub read_here : {X : Type 0} (xs : List X) (i : ℕ) (x : X) → i < length xs → x ≡ slice_index_or xs i x → slice_get xs i ≡ Some x
 read_here xs i x lt is = slice_get_read xs (length xs) i x refl lt is
-
-get_set_else : {X : Type 0} (xs : List X) (i j : ℕ) (y : X) → j ≢ i → slice_get (slice_set xs i y) j ≡ slice_get xs j
-get_set_else [] i j y ne = refl
-get_set_else (z ∷ xs) zero zero y ne = elim (ne refl) [ ]
-get_set_else (z ∷ xs) zero (suc j) y ne = refl
-get_set_else (z ∷ xs) (suc i) zero y ne = refl
-get_set_else (z ∷ xs) (suc i) (suc j) y ne = get_set_else xs i j y (λ e. ne (ap suc e))
 
 times_here : (w : ℕ) (done : List ℕ) → times w (done ++ w ∷ []) ≡ times w done + 1
 times_here w done = let h = times-append w done (w ∷ []) in let one = times_it w w [] refl in let none : times w [] ≡ 0 = refl in omega (arith, h, one, none)

@@ -28,18 +28,18 @@ use Rattle.zq_world.proofs.AskedLemmas.{and_both, all-append, past_steps, as_man
 
 module _ {N S : Type 0} where
   -- the moments of a caller among acts
-  abbrev mine : ℕ → List (Act N S) → List (Moment N S)
+  abbrev pub mine : ℕ → List (Act N S) → List (Moment N S)
   mine k acts = moments_by k (moments_in acts)
 
-  mine-append : (k : ℕ) (xs ys : List (Act N S)) → mine k (xs ++ ys) ≡ mine k xs ++ mine k ys
+  pub mine-append : (k : ℕ) (xs ys : List (Act N S)) → mine k (xs ++ ys) ≡ mine k xs ++ mine k ys
   mine-append k xs ys = ap (moments_by k) (filter_map-append moment_of xs ys) ∙ filter-append (λ (m : Moment N S). caller_of m.item == k) (moments_in xs) (moments_in ys)
 
-  mine_all : (k : ℕ) (acts : List (Act N S)) → AreActsBy k acts → mine k acts ≡ moments_in acts
+  pub mine_all : (k : ℕ) (acts : List (Act N S)) → AreActsBy k acts → mine k acts ≡ moments_in acts
   mine_all k [] by = refl
   mine_all k (Step step ∷ acts) by = mine_all k acts by
   mine_all k (Said m ∷ acts) by = rw (eq-eqb (caller_of m.item) k by.0) (ap (λ l. m ∷ l) (mine_all k acts by.1))
 
-  mine_none : (k w : ℕ) (acts : List (Act N S)) → AreActsBy w acts → w ≢ k → mine k acts ≡ []
+  pub mine_none : (k w : ℕ) (acts : List (Act N S)) → AreActsBy w acts → w ≢ k → mine k acts ≡ []
   mine_none k w [] by ne = refl
   mine_none k w (Step step ∷ acts) by ne = mine_none k w acts by ne
   mine_none k w (Said m ∷ acts) by ne = rw (ne_eqb (caller_of m.item) k (λ e. ne (sym by.0 ∙ e))) (mine_none k w acts by.1 ne)
@@ -160,10 +160,10 @@ module _ {N S : Type 0} where
 
   -- ---- nobody else
 
-  abbrev AreOf : ℕ → List (Item N S) → Type 0
+  abbrev pub AreOf : ℕ → List (Item N S) → Type 0
   AreOf m items = list_all (λ item. nat_lt (caller_of item) m) items ≡ true
 
-  of_acts : (m w : ℕ) (acts : List (Act N S)) → AreActsBy w acts → w < m → AreOf m (items_of acts)
+  pub of_acts : (m w : ℕ) (acts : List (Act N S)) → AreActsBy w acts → w < m → AreOf m (items_of acts)
   of_acts m w [] by lt = refl
   of_acts m w (Step step ∷ acts) by lt = of_acts m w acts by lt
   of_acts m w (Said x ∷ acts) by lt =

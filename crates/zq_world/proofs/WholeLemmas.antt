@@ -12,7 +12,7 @@ use Rattle.spec_run.specs.LineCall.{RunScript}
 use Rattle.spec_run.specs.Act.{Act, Deed, Looks, pipe_step_of, acts_of, all_acts, steps_in}
 use Rattle.spec_run.specs.OpenSocket.{OpenSock}
 use Rattle.spec_run.specs.Standing.{standing_before}
-use Rattle.spec_run.specs.OwnedRun.{all_deeds, all_steps}
+use Rattle.spec_run.specs.OwnedRun.{deeds_in, all_deeds, all_steps}
 use Rattle.spec_run.specs.InTurns.{Draws, NeverFall, turn_step, conductor_steps}
 use Rattle.spec_run.specs.Fate.{Fate, fates_taken, fates_in, skips_of}
 use Rattle.script_actor.specs.Piece.{Piece, piece_of, deed_pieces, acts_in, pipe_steps}
@@ -93,6 +93,47 @@ module _ {N S : Type 0} where
   fates_told hears p k reaps [] skips = refl
   fates_told hears p k reaps (act ∷ acts) skips = append-nil (fates_taken hears p (steps_in (act ∷ acts)) skips)
 
+-- calls that fit, of which each worker's tell its deeds
+module _ {N S : Type 0} (n : ℕ) (pieces : List (Piece N S)) (steps_of : ℕ → List (List (Deed N S))) (last : List (List (Deed N S)))
+    (fits : (side : PipeStep → Bool) (seals : (p : PipeId) → side (Seal p) ≡ false) → AllByRecursion (Fit side seals n) pieces)
+    (each : (i w : ℕ) → w ≡ 0 + i → i < n + 1 + 1 → filter (λ x. x.by == w) pieces ≡ deed_pieces w (w == n) (deeds_in (steps_of w)))
+    (end : (w : ℕ) → w ≡ 0 + (n + 1 + 1) → filter (λ x. x.by == w) pieces ≡ deed_pieces w false (deeds_in last)) where
+  -- the deeds of all workers, one worker behind another
+  abbrev pub workers_deeds : List (Deed N S)
+  workers_deeds = flat_map deeds_in (map steps_of (range_with_len 0 (n + 1 + 1)) ++ last ∷ [])
+
+  rises : (side : PipeStep → Bool) → ((p : PipeId) → side (Seal p) ≡ false) → AreOneSided side [] pieces → NeverFall 0 (callers (makes side) pieces)
+  rises side seals sided = rising side seals n 0 [] pieces sided (fits side seals) (λ z fit makes_z all. omega arith)
+
+  few_callers : AllByRecursion (λ x. x.by < suc (n + 1 + 1)) pieces
+  few_callers = all_as (Fit no_side no_seals n) (λ x. x.by < suc (n + 1 + 1)) (λ x (fit : Fit no_side no_seals n x). let lt = fit.few in omega (arith, lt)) pieces (fits no_side no_seals)
+
+  -- what calls did at a side is what the deeds of the workers did there
+  by_workers : {X : Type 0} (f : Piece N S → List X) (g : Deed N S → List X) (side : PipeStep → Bool) → ((p : PipeId) → side (Seal p) ≡ false) → AreOneSided side [] pieces
+      → ((x : Piece N S) → makes side x ≡ false → f x ≡ []) → ((k : ℕ) (reaps : Bool) (d : Deed N S) → flat_map f (piece_of k reaps (acts_of d) (skips_of d)) ≡ g d)
+      → flat_map f pieces ≡ flat_map g workers_deeds
+  by_workers f g side seals sided none told =
+      same_by_callers f (makes side) none (suc (n + 1 + 1)) 0 pieces (rises side seals sided) few_callers
+      ∙ told_workers f g told n pieces steps_of last (n + 1 + 1) 0 each end
+
+  same_side_steps : (side : PipeStep → Bool) → ((p : PipeId) → side (Seal p) ≡ false) → AreOneSided side [] pieces → filter side (pipe_steps pieces) ≡ filter side (steps_in (all_acts workers_deeds))
+  same_side_steps side seals sided =
+      side_pieces side pieces
+      ∙ by_workers (side_of side) (side_in side) side seals sided (λ x e. none_left side (steps_in x.acts) e) (λ k reaps d. side_told side k reaps (acts_of d) (skips_of d))
+      ∙ sym (side_deeds side workers_deeds)
+
+  pub written_alike : OneSided pieces → (p : PipeId) → filter (is_written p) (pipe_steps pieces) ≡ filter (is_written p) (steps_in (all_acts workers_deeds))
+  written_alike sided p = same_side_steps (is_written p) (written_seals p) (sided.written p)
+
+  pub read_alike : OneSided pieces → (p : PipeId) → filter (is_read p) (pipe_steps pieces) ≡ filter (is_read p) (steps_in (all_acts workers_deeds))
+  read_alike sided p = same_side_steps (is_read p) (read_seals p) (sided.read p)
+
+  pub fates_alike : OneSided pieces → (hears : Bool) (p : PipeId) → flat_map (λ x. fates_taken hears p (steps_in x.acts) x.skips) pieces ≡ flat_map (fates_in hears p) workers_deeds
+  fates_alike sided hears p =
+      by_workers (fates_of_piece hears p) (fates_in hears p) (is_read p) (read_seals p) (sided.read p)
+      (λ x e. none_fated hears p (steps_in x.acts) x.skips e) (λ k reaps d. fates_told hears p k reaps (acts_of d) (skips_of d))
+
+-- and so those of a run in turns
 module _ {O N S : Type 0} (as_open : O → OpenSock) (script : RunScript) (seed limit : ℕ) (done : Bool) (old new : List (Actor O)) (pieces : List (Piece N S)) (order : List (Item N S))
     (same : standings as_open old ≡ map standing_before script) (runs : RunsSo as_open seed limit done old new [] pieces) where
   count : length old ≡ length script
@@ -108,42 +149,19 @@ module _ {O N S : Type 0} (as_open : O → OpenSock) (script : RunScript) (seed 
   fits side seals = subst (AllByRecursion (Fit side seals (length script))) (sym whole)
       (fit_sequence side seals (length script) (standings as_open old) (standings as_open new) runs.turned runs.orders (sym count ∙ sym (length-map old (standing_of as_open))) runs.go)
 
-  rises : (side : PipeStep → Bool) → ((p : PipeId) → side (Seal p) ≡ false) → AreOneSided side [] pieces → NeverFall 0 (callers (makes side) pieces)
-  rises side seals sided = rising side seals (length script) 0 [] pieces sided (fits side seals) (λ z fit makes_z all. omega arith)
+  each : (i w : ℕ) → w ≡ 0 + i → i < length script + 1 + 1 → filter (λ x. x.by == w) pieces ≡ deed_pieces w (w == length script) (deeds_in (map (turn_step w) runs.turned.turns))
+  each i w e lt = ap (filter (λ (x : Piece N S). x.by == w)) whole ∙ worker_told (length script) w seed seed runs.turned.turns runs.orders (Looks runs.turned.last ∷ []) drawn (omega (arith, e, lt))
 
-  few_callers : AllByRecursion (λ x. x.by < suc (length script + 1 + 1)) pieces
-  few_callers = all_as (Fit no_side no_seals (length script)) (λ x. x.by < suc (length script + 1 + 1)) (λ x (fit : Fit no_side no_seals (length script) x). let lt = fit.few in omega (arith, lt)) pieces (fits no_side no_seals)
-
-  -- what calls did at a side is what the deeds of the workers did there, one worker behind another
-  by_workers : {X : Type 0} (f : Piece N S → List X) (g : Deed N S → List X) (side : PipeStep → Bool) → ((p : PipeId) → side (Seal p) ≡ false) → AreOneSided side [] pieces
-      → ((x : Piece N S) → makes side x ≡ false → f x ≡ []) → ((k : ℕ) (reaps : Bool) (d : Deed N S) → flat_map f (piece_of k reaps (acts_of d) (skips_of d)) ≡ g d)
-      → flat_map f pieces ≡ flat_map g (all_deeds (run_of script runs.turned order))
-  by_workers f g side seals sided none told =
-      same_by_callers f (makes side) none (suc (length script + 1 + 1)) 0 pieces (rises side seals sided) few_callers
-      ∙ told_workers f g told (length script) pieces (λ w. map (turn_step w) runs.turned.turns) (conductor_steps runs.turned) (length script + 1 + 1) 0 each end
-    where
-      each : (i w : ℕ) → w ≡ 0 + i → i < length script + 1 + 1 → filter (λ x. x.by == w) pieces ≡ deed_pieces w (w == length script) (flat_map (λ step. step) (map (turn_step w) runs.turned.turns))
-      each i w e lt = ap (filter (λ (x : Piece N S). x.by == w)) whole ∙ worker_told (length script) w seed seed runs.turned.turns runs.orders (Looks runs.turned.last ∷ []) drawn (omega (arith, e, lt))
-
-      end : (w : ℕ) → w ≡ 0 + (length script + 1 + 1) → filter (λ x. x.by == w) pieces ≡ deed_pieces w false (flat_map (λ step. step) (conductor_steps runs.turned))
-      end w e = subst (λ k. filter (λ (x : Piece N S). x.by == k) pieces ≡ deed_pieces k false (flat_map (λ step. step) (conductor_steps runs.turned))) (omega (arith, e))
-          (ap (filter (λ (x : Piece N S). x.by == length script + 2)) whole ∙ conductor_told (length script) seed seed runs.turned.turns runs.orders runs.turned.last drawn)
-
-  same_side_steps : (side : PipeStep → Bool) → ((p : PipeId) → side (Seal p) ≡ false) → AreOneSided side [] pieces
-      → filter side (pipe_steps pieces) ≡ filter side (all_steps (run_of script runs.turned order))
-  same_side_steps side seals sided =
-      side_pieces side pieces
-      ∙ by_workers (side_of side) (side_in side) side seals sided (λ x e. none_left side (steps_in x.acts) e) (λ k reaps d. side_told side k reaps (acts_of d) (skips_of d))
-      ∙ sym (side_deeds side (all_deeds (run_of script runs.turned order)))
+  end : (w : ℕ) → w ≡ 0 + (length script + 1 + 1) → filter (λ x. x.by == w) pieces ≡ deed_pieces w false (deeds_in (conductor_steps runs.turned))
+  end w e = subst (λ k. filter (λ (x : Piece N S). x.by == k) pieces ≡ deed_pieces k false (deeds_in (conductor_steps runs.turned))) (omega (arith, e))
+      (ap (filter (λ (x : Piece N S). x.by == length script + 2)) whole ∙ conductor_told (length script) seed seed runs.turned.turns runs.orders runs.turned.last drawn)
 
   pub same_written : OneSided pieces → (p : PipeId) → filter (is_written p) (pipe_steps pieces) ≡ filter (is_written p) (all_steps (run_of script runs.turned order))
-  same_written sided p = same_side_steps (is_written p) (written_seals p) (sided.written p)
+  same_written = written_alike (length script) pieces (λ w. map (turn_step w) runs.turned.turns) (conductor_steps runs.turned) fits each end
 
   pub same_read : OneSided pieces → (p : PipeId) → filter (is_read p) (pipe_steps pieces) ≡ filter (is_read p) (all_steps (run_of script runs.turned order))
-  same_read sided p = same_side_steps (is_read p) (read_seals p) (sided.read p)
+  same_read = read_alike (length script) pieces (λ w. map (turn_step w) runs.turned.turns) (conductor_steps runs.turned) fits each end
 
   pub same_fates : OneSided pieces → (hears : Bool) (p : PipeId)
       → flat_map (λ x. fates_taken hears p (steps_in x.acts) x.skips) pieces ≡ flat_map (fates_in hears p) (all_deeds (run_of script runs.turned order))
-  same_fates sided hears p =
-      by_workers (fates_of_piece hears p) (fates_in hears p) (is_read p) (read_seals p) (sided.read p)
-      (λ x e. none_fated hears p (steps_in x.acts) x.skips e) (λ k reaps d. fates_told hears p k reaps (acts_of d) (skips_of d))
+  same_fates = fates_alike (length script) pieces (λ w. map (turn_step w) runs.turned.turns) (conductor_steps runs.turned) fits each end

@@ -17,17 +17,17 @@ use Rattle.zq_world.proofs.OrderLemmas.{times_it, times_not, each_once, no_other
 use Rattle.zq_world.proofs.CallerLemmas.{by_one, by_callers, one_here, one_else}
 
 module _ {N S : Type 0} where
-  one-append : (w : ℕ) (xs ys : List (Piece N S)) → by_one w (xs ++ ys) ≡ by_one w xs ++ by_one w ys
+  pub one-append : (w : ℕ) (xs ys : List (Piece N S)) → by_one w (xs ++ ys) ≡ by_one w xs ++ by_one w ys
   one-append w xs ys = filter-append (λ (x : Piece N S). x.by == w) xs ys
 
-  pieces-append : (k : ℕ) (reaps : Bool) (ds es : List (Deed N S)) → deed_pieces k reaps (ds ++ es) ≡ deed_pieces k reaps ds ++ deed_pieces k reaps es
+  pub pieces-append : (k : ℕ) (reaps : Bool) (ds es : List (Deed N S)) → deed_pieces k reaps (ds ++ es) ≡ deed_pieces k reaps ds ++ deed_pieces k reaps es
   pieces-append k reaps ds es = flat_map-append (λ (d : Deed N S). piece_of k reaps (acts_of d) (skips_of d)) ds es
 
-  own_piece : (w v : ℕ) (reaps : Bool) (acts : List (Act N S)) (skips : List Skip) → v ≡ w → by_one w (piece_of v reaps acts skips) ≡ piece_of v reaps acts skips
+  pub own_piece : (w v : ℕ) (reaps : Bool) (acts : List (Act N S)) (skips : List Skip) → v ≡ w → by_one w (piece_of v reaps acts skips) ≡ piece_of v reaps acts skips
   own_piece w v reaps [] skips same = refl
   own_piece w v reaps (act ∷ acts) skips same = one_here w (record { by = v; reaps = reaps; acts = act ∷ acts; skips = skips }) [] same
 
-  others_piece : (w v : ℕ) (reaps : Bool) (acts : List (Act N S)) (skips : List Skip) → v ≢ w → by_one w (piece_of v reaps acts skips) ≡ []
+  pub others_piece : (w v : ℕ) (reaps : Bool) (acts : List (Act N S)) (skips : List Skip) → v ≢ w → by_one w (piece_of v reaps acts skips) ≡ []
   others_piece w v reaps [] skips ne = refl
   others_piece w v reaps (act ∷ acts) skips ne = one_else w (record { by = v; reaps = reaps; acts = act ∷ acts; skips = skips }) [] ne
 

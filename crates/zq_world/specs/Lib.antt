@@ -5,3 +5,6 @@ pub mod Turning
 pub mod GoesInTurns
 pub mod Played
 pub mod Timed
+pub mod Taken
+pub mod ByEvents
+pub mod RefusedEvents

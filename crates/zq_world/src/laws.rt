@@ -1,5 +1,7 @@
 ghost use Rattle.zq_world.specs.GoesInTurns.{RunsGoInTurns, RunsAreOnOneThread, RunsAreTold};
 ghost use Rattle.zq_world.specs.GoesInTurns.{NobodyElseHasItems};
+ghost use Rattle.zq_world.specs.ByEvents.{RunsByEvents};
+ghost use Rattle.zq_world.specs.RefusedEvents.{RefusedEvents};
 ghost use Rattle.zq_world.specs.OneSided.{SidesGoOn};
 
 /// What was run of a script's actors goes in turns, whatever the order is that the control plane
@@ -21,6 +23,18 @@ pub fn items_of_runs_are_the_workers<O, N, S>()
 /// And it has no others.
 pub fn nobody_else_has_items<O, N, S>()
     ensures { NobodyElseHasItems O N S }
+{}
+
+/// What was done of a script's actors by a list of events is a run of the script, and that of these
+/// events, whatever they are.
+pub fn runs_go_by_events<N, S>()
+    ensures { RunsByEvents N S }
+{}
+
+/// What such an event does not do: nothing where it may do something, something where it may not, two
+/// deeds.
+pub fn what_no_event_does_is_refused<N, S>()
+    ensures { RefusedEvents N S }
 {}
 
 /// The steps at a side stay one caller's, and behind them the reaper's, by a further call that may come

@@ -20,7 +20,7 @@ use turn_order::Order;
 use zq_outer::Clock;
 
 /// How many workers are no actors: the reaper and the one I/O worker, which does nothing yet.
-const OTHER_WORKERS: usize = 2;
+pub(crate) const OTHER_WORKERS: usize = 2;
 
 /// A worker's step.
 fn step<P: Pipes, W: Core<P>>(

@@ -15,7 +15,7 @@ use zq_base::Seq;
 use zq_outer::Clock;
 
 /// The actors of a script, before their first lines.
-fn actors_of<'a, O: Drop>(
+pub(crate) fn actors_of<'a, O: Drop>(
     alloc: Global,
     script: &'a [RunActor],
 ) -> Result<Vec<Actor<'a, O>>, AllocError>
@@ -29,7 +29,10 @@ fn actors_of<'a, O: Drop>(
 }
 
 /// The actors' parts of the journal.
-fn parts<O: Drop>(alloc: Global, actors: Vec<Actor<O>>) -> Result<Seq<ActorLines>, AllocError>
+pub(crate) fn parts<O: Drop>(
+    alloc: Global,
+    actors: Vec<Actor<O>>,
+) -> Result<Seq<ActorLines>, AllocError>
     ensures { IfOk result (λ parts. parts ≡ map lines_of actors.entry.items) }
 {
     let mut parts = Vec::with_capacity(alloc, actors.len())?;
