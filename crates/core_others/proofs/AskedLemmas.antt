@@ -2,6 +2,7 @@
 use Rattle.std.specs.Prelude.{◌≡◌, ◌≢◌, ◌<◌, ◌++◌, ℕ, zero, suc, Bool, true, false, List, [], ◌∷◌, None, Some, refl}
 use Rattle.std.proofs.Common.{arith, sym, ap, ◌∙◌, subst, inl, inr}
 use Rattle.zq_base.specs.declared.ids.EndId.{EndId}
+use Rattle.zq_base.specs.declared.ids.SlotId.{SlotId}
 use Rattle.spec_control.specs.declared.end.EndEvent.TheVariants.{TermCame}
 use Rattle.spec_control.specs.declared.end.EndState.TheVariants.{Gone}
 use Rattle.spec_control.specs.declared.entry.Did.TheVariants.{Delivered}
@@ -27,10 +28,9 @@ use Rattle.control_moves.proofs.MetLemmas.{meets_cell}
 use Rattle.ctl_holder.specs.declared.given.Given.{Given}
 use Rattle.ctl_history.specs.Past.{control_of, Past}
 use Rattle.own_laws.proofs.PlaceLemmas.{led_on}
-use Rattle.replay_laws.proofs.ReapLemmas.{taker_used}
-use Rattle.replay_laws.proofs.SlotLemmas.{sockets_have_their_boxes}
 use Rattle.one_desk.specs.Lent.{IsOneOrder, Lent}
-use Rattle.one_desk.specs.Reaping.{HearsFirst}
+use Rattle.one_desk.specs.Waiting.{HearsAt}
+use Rattle.one_desk.proofs.WaitLemmas.{same_box, taken_at}
 use Rattle.desk_laws.proofs.LastLemmas.{last_fits}
 use Rattle.core_others.proofs.ChainLemmas.{own_then, term_own, HasBoxes, IsOwn, IsSound}
 use Rattle.core_others.specs.Asked.{AsksItsOwn, IsItsOwn}
@@ -44,7 +44,7 @@ gone_there : (a : Bool) → end_place no_pair a ≡ At Gone
 gone_there true = refl
 gone_there false = refl
 
-module _ {N O I T : Type 0} (old new : Lent (Given N O I) N T) (before : IsOneOrder old) (behind : IsOneOrder new) (h : HearsFirst old new) (e : EndId) (is : h.hears.letter.word ≡ PipeTerm e) where
+module _ {N O I T : Type 0} (slot : SlotId) (old new : Lent (Given N O I) N T) (before : IsOneOrder old) (behind : IsOneOrder new) (h : HearsAt slot old new) (e : EndId) (is : h.hears.letter.word ≡ PipeTerm e) where
   abbrev w : ℕ
   w = old.past.workers
 
@@ -55,7 +55,7 @@ module _ {N O I T : Type 0} (old new : Lent (Given N O I) N T) (before : IsOneOr
   c = after_all old.items (begun old.past.workers)
 
   abbrev item : Item N T
-  item = Event (record { by = old.caller; did = Delivered h.slot h.hears.letter h.hears.answered })
+  item = Event (record { by = old.caller; did = Delivered slot h.hears.letter h.hears.answered })
 
   workers : new.past.workers ≡ old.past.workers
   workers = ap (λ (p : Past (Given N O I) N T). p.workers) h.hears.past
@@ -77,11 +77,11 @@ module _ {N O I T : Type 0} (old new : Lent (Given N O I) N T) (before : IsOneOr
   kept : Kept (after_all old.items (begun old.past.workers))
   kept = (let all = before.order in runs_are_kept N T w old.items all.run)
 
-  may : MayDeliver (after_all old.items (begun old.past.workers)) h.slot.0 h.hears.letter
+  may : MayDeliver (after_all old.items (begun old.past.workers)) slot.0 h.hears.letter
   may = fits.may
 
   comes : ComesToEnd (after_all old.items (begun old.past.workers)) n e (Happens TermCame)
-  comes = may_come c kept h.slot.0 may.behind n (PipeTerm e) (may.oldest ∙ ap (λ (x : Word). let l : Letter = record { to = h.hears.letter.to; word = x } in l ∷ may.behind) is)
+  comes = may_come c kept slot.0 may.behind n (PipeTerm e) (may.oldest ∙ ap (λ (x : Word). let l : Letter = record { to = h.hears.letter.to; word = x } in l ∷ may.behind) is)
 
   -- an end of the root's there is none
   no_root : n ≢ 0
@@ -90,8 +90,8 @@ module _ {N O I T : Type 0} (old new : Lent (Given N O I) N T) (before : IsOneOr
     | inr none ↦ absurd (never (subst (λ (p : Place). meets (Happens TermCame) p ≡ true) (ap (λ (p : PairRow). end_place p e.a) none ∙ gone_there e.a) (meets_cell c kept e (Happens TermCame) comes.comes)))
   ]
 
-  lives : ((obj (after_all old.items (begun old.past.workers)).rows n).slot ≡ h.slot.0) × (has_ended (obj (after_all old.items (begun old.past.workers)).rows n).stage ≡ false)
-  lives = oldest_lives c kept h.slot.0 n h.hears.letter.word may.behind may.oldest
+  lives : ((obj (after_all old.items (begun old.past.workers)).rows n).slot ≡ slot.0) × (has_ended (obj (after_all old.items (begun old.past.workers)).rows n).stage ≡ false)
+  lives = oldest_lives c kept slot.0 n h.hears.letter.word may.behind may.oldest
 
   there : n < next_object (after_all old.items (begun old.past.workers))
   there = placed (λ (r : Row). has_ended r.stage) c.rows.objects nobody n refl lives.1
@@ -120,15 +120,31 @@ module _ {N O I T : Type 0} (old new : Lent (Given N O I) N T) (before : IsOneOr
       }
 
   own_now : IsOwn n (control_of new.past) e
-  own_now = subst (λ (x : Control). IsOwn n x e) (sym left) (own_then item c kept fits n e (term_own w n c sound h.slot.0 h.hears.letter may e is refl))
+  own_now = subst (λ (x : Control). IsOwn n x e) (sym left) (own_then item c kept fits n e (term_own w n c sound slot.0 h.hears.letter may e is refl))
+
+  -- who got it is not the root, so it was in a mailbox of its own
+  there_now : n < next_object (control_of old.past)
+  there_now = subst (λ (x : Control). n < next_object x) (sym before.control) there
+
+  at_now : (obj (control_of old.past).rows n).slot ≡ slot.0
+  at_now = ap (λ (x : Control). (obj x.rows n).slot) before.control ∙ lives.0
+
+  no_root_box : slot.0 ≢ 0
+  no_root_box same =
+      let boxes = before.boxes in
+      let own = boxes.own n (above n no_root) there_now in
+      let some = boxes.some_worker in
+      let at = at_now in
+      absurd (omega (arith, own, some, at, same))
 
   used : is_used (obj (after_all old.items (begun old.past.workers)).rows n).request ≡ true
   used =
-      let all = before.order in
-      let boxes = before.boxes in
-      (taker_used c (sockets_have_their_boxes N T w old.items boxes.some_worker all.run) h.slot.0 n h.first lives.0 socket).used
+      let t = taken_at (control_of old.past) slot.0 before.closed no_root_box h.mine in
+      let same = same_box w (control_of old.past) before.boxes n t.object.0 there_now t.there (at_now ∙ sym t.at) in
+      ap (λ (x : Control). is_used (obj x.rows n).request) (sym before.control)
+      ∙ ap (λ (m : ℕ). is_used (obj (control_of old.past).rows m).request) same ∙ t.used
 
-  pub its_own : IsItsOwn old new h e
+  pub its_own : IsItsOwn new h.hears.letter e
   its_own = record {
     own = own_now.own;
     no_root = no_root;
@@ -136,4 +152,4 @@ module _ {N O I T : Type 0} (old new : Lent (Given N O I) N T) (before : IsOneOr
   }
 
 pub asks_its_own : (N O I T : Type 0) → AsksItsOwn N O I T
-asks_its_own N O I T old new before behind h e is = its_own old new before behind h e is
+asks_its_own N O I T slot old new before behind h e is = its_own slot old new before behind h e is

@@ -60,3 +60,5 @@ pub mod OpenLemmas
 pub mod GivenLemmas
 pub mod LookLemmas
 pub mod PastLemmas
+pub mod AllClosedLemmas
+pub mod BoxesLemmas

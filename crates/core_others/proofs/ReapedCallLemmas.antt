@@ -4,6 +4,7 @@ use Rattle.std.proofs.Common.{arith, sym, ap, ◌∙◌}
 use Rattle.std.proofs.lemmas.List.{append-nil}
 use Rattle.std.proofs.lemmas.List.Elements.{All-cons, All-nil}
 use Rattle.zq_base.specs.declared.ids.EndId.{EndId}
+use Rattle.zq_base.specs.declared.ids.SlotId.{SlotId}
 use Rattle.spec_control.specs.declared.entry.Did.TheVariants.{Delivered, Delimited}
 use Rattle.spec_control.specs.declared.entry.Item.{Item}
 use Rattle.spec_control.specs.declared.entry.Item.TheVariants.{Event, Seen}
@@ -47,10 +48,11 @@ module _ {G N S : Type 0} (old new : Lent G N S) (before : IsOneOrder old) (behi
     asks_none = All-nil (λ (x : Item N S). is_request x ≡ false);
   }
 
+  heard_call : (slot : SlotId) → HearsFrom slot old new → IsReapersCall old new
+  heard_call slot is = one_item (Event (record { by = old.caller; did = Delivered slot is.letter is.answered })) is.caller (ap (λ (p : Past G N S). p.workers) is.past) is.items refl refl
+
   found_call : (found : Delivery) → FindsFirst found old new → IsReapersCall old new
-  found_call Done h =
-      let is : HearsFrom h.slot old new = h.hears in
-      one_item (Event (record { by = old.caller; did = Delivered h.slot is.letter is.answered })) is.caller (ap (λ (p : Past G N S). p.workers) is.past) is.items refl refl
+  found_call Done h = heard_call h.slot h.hears
   found_call Empty h =
       let is = h.sees in
       one_item (Seen h.sight) is.caller (ap (λ (p : Past G N S). p.workers) is.past) is.items is.by refl
@@ -62,6 +64,7 @@ module _ {G N S : Type 0} (old new : Lent G N S) (before : IsOneOrder old) (behi
 pub reapers_calls_are_so : (G N S : Type 0) → ReapersCallsAreSo G N S
 reapers_calls_are_so G N S = record {
   found = λ found old new before behind h. found_call old new before behind found h;
+  heard = λ slot old new before behind h. heard_call old new before behind slot h;
   met = λ e found old new before behind h. met_call old new before behind e found h;
   none = λ old new before behind same. no_item old new before behind same;
 }

@@ -1,6 +1,6 @@
 ghost use Rattle.std.specs.Prelude.{◌≡◌};
 ghost use Rattle.spec_control.specs.Rows.{obj};
-ghost use Rattle.spec_control.specs.Stage.{has_ended, is_used};
+ghost use Rattle.spec_control.specs.Stage.{has_ended, is_coming, is_used};
 ghost use Rattle.ctl_history.specs.Past.{control_of};
 
 use crate::history::History;
@@ -28,6 +28,16 @@ fn was_processed(command: Use) -> bool
     }
 }
 
+// Whether a command that comes once at most is on its way.
+fn is_on_its_way(command: Use) -> bool
+    ensures { result ≡ is_coming command }
+{
+    match command {
+        Use::OnItsWay => return true,
+        Use::Unused | Use::Used => return false,
+    }
+}
+
 impl<P: Pipes> History<P>
 where
     P::Name: Drop,
@@ -39,6 +49,16 @@ where
         match self.state.row(id) {
             Some(row) => return is_over(row.stage),
             None => return true,
+        }
+    }
+
+    /// Whether the Reap of a closed socket is on its way. It costs a look at one row.
+    pub fn is_reap_coming(&self, socket: ObjId) -> bool
+        ensures { result ≡ is_coming (obj (control_of self.now).rows socket.0).request }
+    {
+        match self.state.row(socket) {
+            Some(row) => return is_on_its_way(row.request),
+            None => return false,
         }
     }
 

@@ -7,6 +7,7 @@ mod KeepLemmas
 mod LeaveLemmas
 mod LendLemmas
 mod LentLemmas
+mod LetterLemmas
 mod MakeLemmas
 mod MadeLemmas
 mod NewLemmas

@@ -3,10 +3,12 @@ use Rattle.std.specs.Prelude.{◌≡◌, ◌≢◌, ◌<◌, ◌==◌, ◌++◌,
 use Rattle.std.specs.List.{list_any}
 use Rattle.std.proofs.Common.{append-nil, arith, sym, ap, ◌∙◌, subst, true≢false}
 use Rattle.std.proofs.lemmas.Bool.{eq-eqb, eqb-true}
+use Rattle.zq_base.specs.declared.ids.SlotId.{SlotId}
 use Rattle.spec_control.specs.Control.{Control, begun, next_object, next_pair}
 use Rattle.spec_control.specs.ControlRun.{after_all}
 use Rattle.control_held.specs.Moments.{Moment, left_after, moments_by, moments_from}
 use Rattle.spec_run.specs.Act.{Act, steps_in}
+use Rattle.spec_run.specs.CoreEvents.{may_take}
 use Rattle.script_actor.specs.Piece.{Piece, piece_of, AddsPiece}
 use Rattle.script_actor.specs.Way.{KeepsAll}
 use Rattle.msg_pipe.specs.Known.{Known}
@@ -29,19 +31,24 @@ use Rattle.core_others.specs.ReapedComing.{HasOnlyTaken, HasTaken}
 use Rattle.core_others.proofs.HadLemmas.{had_by}
 use Rattle.core_others.proofs.ElseLemmas.{same_moments}
 use Rattle.one_desk.specs.Lent.{moments_of, GrowsBy, IsOneOrder, Lent}
+use Rattle.one_desk.specs.Waiting.{WaitsAt}
 use Rattle.core_others.specs.Agrees.{AgreesIn}
 use Rattle.core_others.specs.Calls.{for_caller}
 use Rattle.core_others.proofs.GrownLemmas.{objects_are_there}
 use Rattle.core_others.proofs.SilentLemmas.{one_order_of}
 use Rattle.core_others.specs.Reaps.{IsReapTold, ReapDone}
-use Rattle.reap_steps.specs.Going.{GoesBy, ReaperHas, ReapIsNone, ReapIsStep}
-use Rattle.reap_steps.specs.Steps.{acts_reaped, reap_parts, DeskStands, MayReap, ReapParts, WantsMemory}
+use Rattle.reap_steps.specs.Going.{GoesBy, ReaperHas, ReapIsLetter, ReapIsNone, ReapIsStep}
+use Rattle.reap_steps.specs.Steps.{acts_at, acts_reaped, reap_parts, DeskStands, MayReap, ReapParts, WantsMemory}
 use Rattle.one_core.specs.Agreeing.{was_made, Agrees}
 use Rattle.one_core.specs.Calling.{IsTold}
 use Rattle.one_core.specs.Leaving.{moments_at}
+use Rattle.one_core.specs.Letters.{TellsReapAt}
 use Rattle.one_core.specs.Reaping.{ReapLaws, TellsReap}
 use Rattle.one_core.specs.Sound.{Core, core_of, pieces_in, HasClosed, HasDrops, IsCore, IsSound}
+use Rattle.zq_world.specs.Taken.{is_reapers, ReapsAt}
+use Rattle.script_actor.specs.Taking.{control_told}
 use Rattle.one_core.proofs.KeepLemmas.{ready_still}
+use Rattle.one_core.proofs.LetterLemmas.{told_control, told_full}
 use Rattle.one_core.proofs.OthersLemmas.{control_one}
 use Rattle.one_core.proofs.TakenLemmas.{first_all}
 
@@ -114,6 +121,11 @@ pub record IsLeftSo (W : Type 0) {S N O I T : Type 0} (K : Known S O I N) (close
 pub record IsReapedSo (W : Type 0) {S N O I T : Type 0} (K : Known S O I N) (k : ℕ) (closed : ClosedSockets N O I) (drops : List ℕ) (v w : Core S (Given N O I) N T) : Type 0 where
   pub left : IsLeftSo W K closed drops v w
   pub one : ReapsOne k (pieces_in v) (pieces_in w)
+
+-- or a letter of one of its mailboxes
+pub record IsReapedAt (W : Type 0) {S N O I T : Type 0} (K : Known S O I N) (k slot : ℕ) (closed : ClosedSockets N O I) (drops : List ℕ) (v w : Core S (Given N O I) N T) : Type 0 where
+  pub left : IsLeftSo W K closed drops v w
+  pub one : ReapsAt k slot (pieces_in v) (pieces_in w)
 
 module _ (W : Type 0) {S N O I T : Type 0} (K : Known S O I N) (laws : ReapLaws W K T) (v : Core S (Given N O I) N T) (closed : ClosedSockets N O I) (drops : List ℕ) (sound : IsSound K v closed drops) (desk : DeskStands K v.desk) (k : ℕ) (alone : IsReaper k (pieces_in v)) where
   abbrev is : IsCore K v
@@ -305,8 +317,35 @@ module _ (W : Type 0) {S N O I T : Type 0} (K : Known S O I N) (laws : ReapLaws 
           never_none : {X : Type 0} {x : X} {xs : List X} → x ∷ xs ≡ [] → ⊥
           never_none e = cc
 
+      -- a letter of this mailbox was taken
+      pub reaped_at_left : (slot : SlotId) (marks : List PieceMark) → IsTold (TellsReapAt K k slot (reap_parts (for_caller k v.desk) v.pipes from) (reap_parts d pipes to)) v.marks marks → IsReapedAt W K k slot.0 to drops v (core_of d pipes marks v.wanted)
+      reaped_at_left slot marks told =
+          let r = told.so.reaped in
+          let acts = acts_at K slot (reap_parts (for_caller k v.desk) v.pipes from) (reap_parts d pipes to) r in
+          let step : ReapIsLetter W K slot.0 (reap_parts (for_caller k v.desk) v.pipes from) (reap_parts d pipes to) acts = laws.go.letters slot (reap_parts (for_caller k v.desk) v.pipes from) (reap_parts d pipes to) has_room r in
+          let tells : marks ≡ v.marks ++ piece_marks k true acts [] = told.behind ∙ ap (λ (ms : List PieceMark). v.marks ++ ms) told.so.are in
+          let idle = λ (none : acts ≡ []). absurd (never_none none) in record {
+            left = left_so W K laws v from drops with_room desk k alone d pipes to marks v.wanted (λ not_wanted. not_wanted) acts step.goes step.done tells idle;
+            one = record {
+              acts = acts;
+              takes = step.reaps.takes;
+              adds = adds_so W K laws v from drops with_room desk k alone d pipes to marks v.wanted (λ not_wanted. not_wanted) acts step.goes step.done tells idle;
+            };
+          }
+        where
+          never_none : {X : Type 0} {x : X} {xs : List X} → x ∷ xs ≡ [] → ⊥
+          never_none e = cc
+
       -- memory was wanting
       pub wanting_left : WantsMemory K (reap_parts (for_caller k v.desk) v.pipes from) (reap_parts d pipes to) → IsLeftSo W K to drops v (core_of d pipes v.marks true)
       wanting_left wants =
           let none : ReapIsNone W K (reap_parts (for_caller k v.desk) v.pipes from) (reap_parts d pipes to) = laws.go.none (reap_parts (for_caller k v.desk) v.pipes from) (reap_parts d pipes to) has_room wants in
           left_so W K laws v from drops with_room desk k alone d pipes to v.marks true (λ not_wanted. absurd (true≢false not_wanted)) [] none.goes none.done (sym (append-nil v.marks)) (λ idle. none.holds)
+
+-- ---- a letter waits there, as it is told
+pub waits_for : {S N O I T : Type 0} (K : Known S O I N) (v : Core S (Given N O I) N T) → IsCore K v → IsOneOrder v.desk → (k : ℕ) (slot : SlotId) → may_take (control_told (pieces_in v)) slot.0 ≡ true → is_reapers (control_told (pieces_in v)) slot.0 ≡ true →
+    WaitsAt slot (for_caller k v.desk)
+waits_for K v is order k slot may mine = record {
+  mine = subst (λ (c : Control). is_reapers c slot.0 ≡ true) (told_control K v is order) mine;
+  some = told_full K v is order slot.0 may;
+}

@@ -8,3 +8,4 @@ pub mod Lending
 pub mod Calling
 pub mod CallLaws
 pub mod Reaping
+pub mod Letters

@@ -21,8 +21,8 @@ use spec_run::{LineAnswer, LineCall};
 use std::alloc::{AllocError, AllocFailed, Global};
 use zq_base::ObjId;
 
-// The number of a socket.
-fn number_in<W, N, O, I>(socket: &Option<SockCore<AnySock, W, N, O, I>>) -> ObjId
+/// The number of a socket.
+pub(crate) fn number_in<W, N, O, I>(socket: &Option<SockCore<AnySock, W, N, O, I>>) -> ObjId
     ensures { result.0 ≡ owner_of socket.now }
 {
     match socket {
@@ -79,6 +79,7 @@ where
             (pieces_in self.old) (pieces_in self.new)) }
         ensures lent { KeepsLent as_open (Agrees P.Waker P.known) caller
             socket.old socket.new self.new }
+        ensures wanted { OnOk result (self.new.wanted ≡ self.old.wanted) }
         ensures keeps { KeepsOthers as_open (Agrees P.Waker P.known) was_made caller
             (as_open socket.old).object self.old self.new }
     {
@@ -109,6 +110,7 @@ where
             (pieces_in self.old) (pieces_in self.new)) }
         ensures lent { KeepsLent as_open (Agrees P.Waker P.known) caller
             socket.old socket.new self.new }
+        ensures wanted { OnOk result (self.new.wanted ≡ self.old.wanted) }
         ensures keeps { KeepsOthers as_open (Agrees P.Waker P.known) was_made caller
             (as_open socket.old).object self.old self.new }
     {
@@ -158,6 +160,7 @@ where
             (pieces_in self.old) (pieces_in self.new)) }
         ensures back { IfErr result (λ e. KeepsLent as_open (Agrees P.Waker P.known) caller
             socket e.value self.new) }
+        ensures wanted { OnOk result (self.new.wanted ≡ self.old.wanted) }
         ensures keeps { KeepsOthers as_open (Agrees P.Waker P.known) was_made caller
             (as_open socket).object self.old self.new }
     {
@@ -179,6 +182,7 @@ where
             (pieces_in self.old) (pieces_in self.new)) }
         ensures back { IfErr result (λ e. KeepsLent as_open (Agrees P.Waker P.known) caller
             socket e.value self.new) }
+        ensures wanted { OnOk result (self.new.wanted ≡ self.old.wanted) }
         ensures keeps { KeepsOthers as_open (Agrees P.Waker P.known) was_made caller
             (as_open socket).object self.old self.new }
     {

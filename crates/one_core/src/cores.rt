@@ -2,7 +2,7 @@ use crate::context::OneCore;
 use held_ends::HeldPipes;
 use spec_control::ObjState;
 use std::alloc::{AllocError, Global};
-use zq_world::{Core, Shown};
+use zq_world::{Core, Shown, Steps};
 
 impl<P> Core<P> for OneCore<P>
 where
@@ -31,5 +31,24 @@ where
 
     fn show(&self, alloc: Global) -> Result<Shown, AllocError> {
         OneCore::show(self, alloc)
+    }
+}
+
+impl<P> Steps<P> for OneCore<P>
+where
+    P: HeldPipes + Drop,
+    P::Name: Drop,
+    P::Waker: Drop,
+{
+    fn may_take(&self, slot: usize) -> bool {
+        OneCore::may_take(self, slot)
+    }
+
+    fn is_reapers(&self, slot: usize) -> bool {
+        OneCore::is_reapers(self, slot)
+    }
+
+    fn reap_at(&mut self, alloc: Global, caller: usize, slot: usize) -> Result<(), AllocError> {
+        OneCore::reap_at(self, alloc, caller, slot)
     }
 }

@@ -10,6 +10,8 @@ mod cores;
 mod fresh;
 mod laws;
 mod lending;
+mod letter_tale;
+mod letters;
 mod looking;
 mod making;
 mod reap_tale;

@@ -2,16 +2,19 @@ ghost use Rattle.std.specs.Prelude.{◌≡◌, OnOk, OnErr};
 ghost use Rattle.core_others.specs.Calls.{for_caller};
 ghost use Rattle.one_core.specs.Calling.{IsTold};
 ghost use Rattle.reap_steps.specs.Steps.{reap_parts, MayReap, WantsMemory};
+ghost use Rattle.one_desk.specs.Waiting.{WaitsAt};
+ghost use Rattle.one_core.specs.Letters.{TellsReapAt};
 ghost use Rattle.one_core.specs.Reaping.{TellsReap};
 
 use core_tale::PieceMark;
 use held_ends::HeldPipes;
 use one_desk::OneDesk;
-use reap_steps::reap_once;
+use reap_steps::{reap_at, reap_once};
 use reaper_ends::ClosedSockets;
 use std::alloc::{AllocError, Global};
 use std::snapshot::Snapshot;
 use tale::{Tale, Tells};
+use zq_base::SlotId;
 
 /// A desk, with the pipes of all sockets and the closed sockets, as they were at some time.
 #[derive(Drop)]
@@ -58,6 +61,25 @@ impl<P: HeldPipes> Tells<PieceMark> for OneReap<P> {
         marks };
 }
 
+/// A letter that the reaper took of this mailbox of its own.
+#[derive(Drop)]
+pub(crate) struct OneReapAt<P: HeldPipes> {
+    pub(crate) by: u32,
+    pub(crate) slot: SlotId,
+    pub(crate) from: ReapWas<P>,
+    pub(crate) to: ReapWas<P>,
+}
+
+impl<P: HeldPipes> Tells<PieceMark> for OneReapAt<P> {
+    ghost use Rattle.reap_steps.specs.Steps.{reap_parts};
+    ghost use Rattle.one_core.specs.Letters.{TellsReapAt};
+
+    ghost tells = { λ x marks. TellsReapAt P.known x.by x.slot
+        (reap_parts x.from.desk.value x.from.pipes.value x.from.closed.value)
+        (reap_parts x.to.desk.value x.to.pipes.value x.to.closed.value)
+        marks };
+}
+
 /// Lends a desk to the reaper for a letter, with the pipes of all sockets and the closed sockets, and
 /// tells what was done.
 pub(crate) fn reap_lent<P>(
@@ -90,6 +112,51 @@ where
         Ok(()) => {
             let what = OneReap {
                 by: caller,
+                from,
+                to: noted(desk, pipes, closed),
+            };
+            *tale = tale.and(&what);
+            return Ok(());
+        }
+        Err(want) => return Err(want),
+    }
+}
+
+/// Lends a desk to the reaper for a letter of one of its mailboxes, in which one waits, and tells what
+/// was done.
+pub(crate) fn reap_at_lent<P>(
+    alloc: Global,
+    pipes: &mut P,
+    closed: &mut ClosedSockets<P::Name, P::Out, P::In>,
+    waker: &P::Waker,
+    desk: &mut OneDesk<P>,
+    tale: &mut Tale<PieceMark>,
+    caller: u32,
+    slot: SlotId,
+) -> Result<(), AllocError>
+where
+    P: HeldPipes + Drop,
+    P::Name: Drop,
+    P::Waker: Drop,
+    requires may { MayReap P.known
+        (reap_parts (for_caller caller desk.old) pipes.old closed.old) }
+    requires waits { WaitsAt slot (for_caller caller desk.old) }
+    ensures ok { OnOk result (IsTold (TellsReapAt P.known caller slot
+        (reap_parts (for_caller caller desk.old) pipes.old closed.old)
+        (reap_parts desk.new pipes.new closed.new))
+        tale.old.items tale.new.items) }
+    ensures err { OnErr result (WantsMemory P.known
+        (reap_parts (for_caller caller desk.old) pipes.old closed.old)
+        (reap_parts desk.new pipes.new closed.new)) }
+    ensures kept { OnErr result (tale.new.items ≡ tale.old.items) }
+{
+    desk.lend(caller);
+    let from = noted(desk, pipes, closed);
+    match reap_at(alloc, pipes, closed, waker, desk, slot) {
+        Ok(()) => {
+            let what = OneReapAt {
+                by: caller,
+                slot,
                 from,
                 to: noted(desk, pipes, closed),
             };

@@ -24,6 +24,7 @@ where
     pub fn reap_one(&mut self, alloc: Global, caller: usize) -> Result<(), AllocError>
         requires alone { IsReaper caller (pieces_in self.old) }
         ensures ok { OnOk result (ReapsOne caller (pieces_in self.old) (pieces_in self.new)) }
+        ensures wanted { OnOk result (self.new.wanted ≡ self.old.wanted) }
         ensures keeps { KeepsAll (Agrees P.Waker P.known) was_made self.old self.new }
     {
         if self.wanted {
@@ -40,6 +41,7 @@ where
         requires alone { IsReaper caller (pieces_in self.old) }
         requires not_wanted { self.old.wanted ≡ false }
         ensures ok { OnOk result (ReapsOne caller (pieces_in self.old) (pieces_in self.new)) }
+        ensures wanted { OnOk result (self.new.wanted ≡ self.old.wanted) }
         ensures keeps { KeepsAll (Agrees P.Waker P.known) was_made self.old self.new }
     {
         reaps_go_on_so(&self.lent.pipes);

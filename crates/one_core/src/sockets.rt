@@ -1,7 +1,7 @@
 use crate::context::OneCore;
 use any_sock::AnySock;
 use held_ends::HeldPipes;
-use script_actor::{Made, Sockets};
+use script_actor::{Letters, Made, Sockets};
 use sock_core::SockCore;
 use spec_pattern::Skip;
 use spec_run::{LineAnswer, LineCall};
@@ -59,5 +59,25 @@ where
 
     fn term(&mut self, alloc: Global, caller: usize) -> Result<LineAnswer, AllocError> {
         OneCore::term(self, alloc, caller)
+    }
+}
+
+impl<P> Letters<P> for OneCore<P>
+where
+    P: HeldPipes + Drop,
+    P::Name: Drop,
+    P::Waker: Drop,
+{
+    fn mailbox(&self, socket: &Self::Open) -> usize {
+        OneCore::mailbox(self, socket)
+    }
+
+    fn fetch(
+        &mut self,
+        alloc: Global,
+        caller: usize,
+        socket: &mut Self::Open,
+    ) -> Result<(), AllocError> {
+        OneCore::fetch(self, alloc, caller, socket)
     }
 }

@@ -35,7 +35,7 @@ some_letter : (ls : List Letter) → not (is_none ls) ≡ true → (l : Letter) 
 some_letter [] h = absurd (never h)
 some_letter (l ∷ rest) h = (l, rest, refl)
 
-full_letter : (ls : List Letter) → ls ≢ [] → (l : Letter) × (rest : List Letter) × (ls ≡ l ∷ rest)
+pub full_letter : (ls : List Letter) → ls ≢ [] → (l : Letter) × (rest : List Letter) × (ls ≡ l ∷ rest)
 full_letter [] h = absurd (h refl)
 full_letter (l ∷ rest) h = (l, rest, refl)
 
@@ -47,11 +47,11 @@ used_is Unused h = absurd (never h)
 used_is OnItsWay h = absurd (never h)
 used_is Used h = refl
 
-both : (a b : Bool) → a ≡ true → b ≡ true → (a && b) ≡ true
+pub both : (a b : Bool) → a ≡ true → b ≡ true → (a && b) ≡ true
 both true b h k = k
 both false b h k = absurd (never h)
 
-either : (a b : Bool) → a ≡ true → (a || b) ≡ true
+pub either : (a b : Bool) → a ≡ true → (a || b) ≡ true
 either true b h = refl
 either false b h = absurd (never h)
 

@@ -15,6 +15,7 @@ pub mod MakeLemmas
 pub mod MemoryLemmas
 pub mod OrderLemmas
 pub mod TellLemmas
+pub mod WaitLemmas
 pub mod PlaneLemmas
 pub mod ReapingLemmas
 pub mod RootLemmas

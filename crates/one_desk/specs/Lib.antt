@@ -3,4 +3,5 @@ pub mod Notes
 pub mod Laws
 pub mod Lent
 pub mod Reaping
+pub mod Waiting
 pub mod GrowsOwed

@@ -49,7 +49,7 @@ where
         sight
     }
 
-    /// The mailbox of an object that the caller has.
+    /// The mailbox of an object that the caller has. It costs a look at one row.
     pub fn slot(&self, object: ObjId) -> SlotId
         requires has { has_after object.0 (items_in (moments_of self.now)) ≡ Some self.now.caller }
         ensures { result.0
@@ -59,7 +59,7 @@ where
     }
 
     /// The caller looks at the root's state, at how many objects live, and whether there is room for
-    /// one session more.
+    /// one session more. It costs a look at one row, and an item of the order.
     pub fn look_around(&mut self) -> Sight
         ensures sees { Sees Nothing result self.old self.new }
         ensures keeps { KeepsAside self.old self.new }
@@ -80,8 +80,8 @@ where
         Some(self.note_look(SeenEmpty::Mailbox(slot)))
     }
 
-    // Whether no command waits in a mailbox, as in one that there is not.
-    fn is_empty(&self, slot: SlotId) -> bool
+    /// Whether no command waits in a mailbox, as in one that there is not. It costs a look at it.
+    pub fn is_empty(&self, slot: SlotId) -> bool
         ensures { IsTrue result ↔ ((control_of self.now.past).boxes slot.0 ≡ []) }
     {
         if slot.0 as usize >= self.history.mailboxes() {

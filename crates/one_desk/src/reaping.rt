@@ -10,6 +10,7 @@ ghost use Rattle.ctl_plane.specs.Memory.{NoBindIsFirst, NoBindWaits};
 ghost use Rattle.ctl_plane.specs.Desk.{BringsWith, CountsWith, HasWhatTheySay, IsItsMailbox, KeepsUp};
 ghost use Rattle.one_desk.specs.Lent.{coming_to, moments_of};
 ghost use Rattle.one_desk.specs.Reaping.{served_by, FindsFirst, HearsFrom, WaitsFirst};
+ghost use Rattle.one_desk.specs.Waiting.{WaitsAt};
 
 use crate::desk::OneDesk;
 use crate::mark::Mark;
@@ -118,14 +119,14 @@ where
         }
     }
 
-    // Processes the oldest command of the first of the reaper's mailboxes that is not empty.
-    fn hear_first<H: Holder<P>>(
+    // Processes the oldest command of one of the reaper's mailboxes, in which one waits.
+    fn hear_at<H: Holder<P>>(
         &mut self,
         alloc: Global,
         slot: SlotId,
         holder: &mut H,
     ) -> Result<(), AllocError>
-        requires first { WaitsFirst slot self.old }
+        requires waits { WaitsAt slot self.old }
         requires reaps { H.reaps ≡ true }
         requires lent { (m i : ℕ) → served_by self.old m i ≡ true →
             (H.holding holder.old).holds i ≡ true }
@@ -149,10 +150,51 @@ where
         ensures keeps { KeepsUp self.new.caller (moments_of self.old) (moments_of self.new)
             (H.holding holder.old) (H.holding holder.new) }
     {
+        self.is_of_one_order();
         if slot.0 == 0 {
             return self.hear_root(alloc, holder);
         }
         self.hear_closed(alloc, slot, holder)
+    }
+
+    /// Processes the oldest command of one of the reaper's mailboxes, in which one waits. The reaper's
+    /// holder takes in the ends of closed sockets. Want of memory leaves the command where it was;
+    /// only a bind takes any. Of the closed sockets that are kept those that have ended may go. It costs
+    /// what the delivery costs the history, and fewer than six looks for each socket that was closed since
+    /// the last of them went.
+    pub fn deliver_at<H: Holder<P>>(
+        &mut self,
+        alloc: Global,
+        slot: SlotId,
+        holder: &mut H,
+    ) -> Result<(), AllocError>
+        requires waits { WaitsAt slot self.old }
+        requires reaps { H.reaps ≡ true }
+        requires lent { (m i : ℕ) → served_by self.old m i ≡ true →
+            (H.holding holder.old).holds i ≡ true }
+        requires has { HasWhatTheySay self.old.caller (moments_of self.old)
+            (H.holding holder.old) }
+        requires distinct { AreDistinct P.known.exact (name_of self.old.items) }
+        requires fits { (m i : ℕ) → served_by self.old m i ≡ true →
+            BindsFit P.known.out_name P.known.in_name (name_of self.old.items)
+            (coming_to self.old m) (λ h. (e : EndId) → H.fits holder.old e h) }
+        requires takes { MayTakeFirst (H.may_take holder.old) (control_of self.old.past)
+            self.old.past.given }
+        requires calm { H.calm holder.old [] }
+        ensures ok { OnOk result (HearsFrom slot self.old self.new) }
+        ensures brings { BringsWith P.known.out_name P.known.in_name (moments_of self.old)
+            (moments_of self.new) self.old.past.given self.new.past.given }
+        ensures succeeds { NoBindWaits (control_of self.old.past) slot.0 → IsOk result }
+        ensures counts { CountsWith P.known.out_name (H.counts holder.old)
+            (moments_of self.old) (moments_of self.new) (H.holding holder.old) }
+        ensures err { OnErr result (self.new ≡ self.old) }
+        ensures given { TakesEnds self.old.past.given self.new.past.given }
+        ensures keeps { KeepsUp self.new.caller (moments_of self.old) (moments_of self.new)
+            (H.holding holder.old) (H.holding holder.new) }
+    {
+        let heard = self.hear_at(alloc, slot, holder);
+        self.forget_ended();
+        heard
     }
 
     /// Processes the oldest command of the first of the reaper's mailboxes that is not empty, in the
@@ -193,8 +235,7 @@ where
     {
         match self.first_slot() {
             Some(slot) => {
-                self.hear_first(alloc, slot, holder)?;
-                self.forget_ended();
+                self.deliver_at(alloc, slot, holder)?;
                 return Ok(Delivery::Done);
             }
             None => {

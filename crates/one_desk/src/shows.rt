@@ -2,7 +2,7 @@ ghost use Rattle.std.specs.Prelude.{◌≡◌, ◌≤◌, IfOk};
 ghost use Rattle.spec_control.specs.Control.{next_object, next_pair, owner_of};
 ghost use Rattle.spec_control.specs.Reply.{most_objects, root_state};
 ghost use Rattle.spec_control.specs.Rows.{obj};
-ghost use Rattle.spec_control.specs.Stage.{has_ended};
+ghost use Rattle.spec_control.specs.Stage.{has_ended, is_coming, is_used};
 ghost use Rattle.ctl_history.specs.Addressee.{last_addressee, last_asked};
 ghost use Rattle.ctl_history.specs.Enders.{enders_in};
 ghost use Rattle.ctl_history.specs.Past.{control_of};
@@ -56,6 +56,20 @@ where
         ensures { result ≡ has_ended (obj (control_of self.now.past).rows object.0).stage }
     {
         self.history.has_ended(object)
+    }
+
+    /// Whether the Reap of a closed socket is on its way. It costs a look at one row.
+    pub fn is_reap_coming(&self, socket: ObjId) -> bool
+        ensures { result ≡ is_coming (obj (control_of self.now.past).rows socket.0).request }
+    {
+        self.history.is_reap_coming(socket)
+    }
+
+    /// Whether the reaper took a closed socket over. It costs a look at one row.
+    pub fn is_taken_over(&self, socket: ObjId) -> bool
+        ensures { result ≡ is_used (obj (control_of self.now.past).rows socket.0).request }
+    {
+        self.history.is_taken_over(socket)
     }
 
     /// Who got the command of the last event, if that was a delivery. It costs a look at one event.

@@ -14,3 +14,4 @@ pub use calling::call;
 pub use found::{Found, Reader};
 pub use pumping::pump;
 pub use steps::OpenSteps;
+pub use taking::take_letter;

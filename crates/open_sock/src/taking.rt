@@ -12,7 +12,7 @@ const MOST_LETTERS: usize = 64;
 
 /// Takes the oldest letter of the socket's mailbox, and looks at the front of an end that it leaves
 /// to read on. Answers whether there was a letter.
-pub(crate) fn take_letter<M: OpenSteps>(alloc: Global, socket: &mut M) -> Result<bool, AllocError>
+pub fn take_letter<M: OpenSteps>(alloc: Global, socket: &mut M) -> Result<bool, AllocError>
     requires agrees { M.agrees socket.old }
     requires whole { M.whole socket.old }
     requires may { M.may_take socket.old }

@@ -1,12 +1,13 @@
-ghost use Rattle.std.specs.Prelude.{◌≡◌, ℕ, true, All, IfOk, IsOk, OnErr};
+ghost use Rattle.std.specs.Prelude.{◌≡◌, ℕ, true, All, IfOk, IsOk, OnOk, OnErr};
 ghost use Rattle.spec_control.specs.Names.{name_of};
 ghost use Rattle.ctl_holder.specs.TakingOver.{MayTakeFirst};
 ghost use Rattle.ctl_history.specs.Past.{control_of};
 ghost use Rattle.ctl_plane.specs.Coming.{AreDistinct, BindsFit, TakesEnds};
-ghost use Rattle.ctl_plane.specs.Memory.{NoBindIsFirst};
+ghost use Rattle.ctl_plane.specs.Memory.{NoBindIsFirst, NoBindWaits};
 ghost use Rattle.ctl_plane.specs.Desk.{CountsWith, HasWhatTheySay, HoldsEnd, IsNotLooked, KeepsUp};
 ghost use Rattle.one_desk.specs.Lent.{coming_to, moments_of, MeetsOrNot};
-ghost use Rattle.one_desk.specs.Reaping.{served_by, FindsFirst};
+ghost use Rattle.one_desk.specs.Reaping.{served_by, FindsFirst, HearsFrom};
+ghost use Rattle.one_desk.specs.Waiting.{WaitsAt};
 ghost use Rattle.reaper_ends.specs.Counting.{counts_of};
 ghost use Rattle.reaper_ends.specs.Has.{holding_in};
 ghost use Rattle.reaper_ends.specs.Sound.{MayJoin, MayTake};
@@ -21,7 +22,7 @@ use one_desk::OneDesk;
 use reaper_ends::{Closed, ClosedSockets, Stretch};
 use std::alloc::{AllocError, Global};
 use std::marker::PhantomData;
-use zq_base::EndId;
+use zq_base::{EndId, SlotId};
 
 /// What a call of the reaper answers, whose closed sockets were moved for it, with them and their pipes.
 pub(crate) struct Back<A, P, C, W> {
@@ -80,6 +81,72 @@ where
         since: PhantomData,
     };
     let answer = desk.deliver_first::<Closed<P, F>>(alloc, &mut holder);
+    let Closed {
+        pipes,
+        closed,
+        waker,
+        did: _,
+        since: _,
+    } = holder;
+    Back {
+        answer,
+        pipes,
+        closed,
+        waker,
+    }
+}
+
+/// A command of one of the reaper's mailboxes. The stretch begins with it.
+pub(crate) fn deliver_at_lent<F, P>(
+    alloc: Global,
+    pipes: P,
+    closed: ClosedSockets<P::Name, P::Out, P::In>,
+    waker: P::Waker,
+    desk: &mut OneDesk<P>,
+    slot: SlotId,
+) -> Back<Result<(), AllocError>, P, ClosedSockets<P::Name, P::Out, P::In>, P::Waker>
+where
+    F: Stretch<P, ClosedSockets<P::Name, P::Out, P::In>, Given<P::Name, P::Out, P::In>>,
+    P: HeldPipes,
+    P::Name: Drop,
+    P::Waker: Drop,
+    requires began { (s : P) (t : ClosedSockets P.Name P.Out P.In) → F.began s t →
+        (s ≡ pipes) × (t ≡ closed) }
+    requires fits { FitsClosed P.known pipes closed }
+    requires waits { WaitsAt slot desk.old }
+    requires lent { (m i : ℕ) → served_by desk.old m i ≡ true →
+        (holding_in P.known.out_name P.known.in_name closed).holds i ≡ true }
+    requires has { HasWhatTheySay desk.old.caller (moments_of desk.old)
+        (holding_in P.known.out_name P.known.in_name closed) }
+    requires distinct { AreDistinct P.known.exact (name_of desk.old.items) }
+    requires binds { (m i : ℕ) → served_by desk.old m i ≡ true →
+        BindsFit P.known.out_name P.known.in_name (name_of desk.old.items) (coming_to desk.old m)
+        (λ h. MayJoin P.known pipes closed h) }
+    requires takes { MayTakeFirst
+        (λ o gs. MayTake P.known pipes closed gs × All (F.brings o) gs)
+        (control_of desk.old.past) desk.old.past.given }
+    ensures ok { OnOk result.answer (HearsFrom slot desk.old desk.new) }
+    ensures succeeds { NoBindWaits (control_of desk.old.past) slot.0 → IsOk result.answer }
+    ensures counts { CountsWith P.known.out_name
+        (λ e writer. counts_of P.known pipes closed.sockets.items e writer)
+        (moments_of desk.old) (moments_of desk.new)
+        (holding_in P.known.out_name P.known.in_name closed) }
+    ensures err { OnErr result.answer (desk.new ≡ desk.old) }
+    ensures given { TakesEnds desk.old.past.given desk.new.past.given }
+    ensures keeps { KeepsUp desk.new.caller (moments_of desk.old) (moments_of desk.new)
+        (holding_in P.known.out_name P.known.in_name closed)
+        (holding_in P.known.out_name P.known.in_name result.closed) }
+    ensures changes { (s : P) (t : ClosedSockets P.Name P.Out P.In) → F.began s t →
+        ChangesClosed P.known F.brings s t result.pipes result.closed }
+{
+    let mut holder: Closed<P, F> = Closed {
+        pipes,
+        closed,
+        waker,
+        did: Log::new(),
+        since: PhantomData,
+    };
+    let answer = desk.deliver_at::<Closed<P, F>>(alloc, slot, &mut holder);
     let Closed {
         pipes,
         closed,

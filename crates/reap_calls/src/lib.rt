@@ -7,4 +7,4 @@ mod looking;
 mod reaper;
 
 pub use looking::look_on;
-pub use reaper::{deliver_first, look, meet};
+pub use reaper::{deliver_at, deliver_first, look, meet};

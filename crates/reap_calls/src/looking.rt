@@ -18,7 +18,7 @@ use std::alloc::Global;
 use zq_base::{EndId, ObjId};
 
 /// Looks at the front of the pipe that an end of a closed socket reads on; a delimiter found there is
-/// said at once.
+/// said at once. It costs a `look`, and a `meet` where the delimiter is found.
 pub fn look_on<P>(
     alloc: Global,
     pipes: &mut P,

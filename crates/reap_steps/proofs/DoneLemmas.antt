@@ -1,10 +1,12 @@
 -- A call of the reaper is a step of the reaper's, and what stands goes on over it.
-use Rattle.std.specs.Prelude.{◌≡◌, ◌-◌, ◌++◌, ◌∷◌, [], ℕ, Bool, true, false, All, List, Option, Some, None, length, map, slice_get, refl}
+use Rattle.std.specs.Prelude.{◌≡◌, ◌-◌, ◌==◌, ◌++◌, ◌∷◌, [], ℕ, Bool, true, false, All, List, Option, Some, None, length, map, slice_get, refl}
+use Rattle.std.specs.List.{list_any}
 use Rattle.std.proofs.Common.{arith, append-nil, append_assoc, sym, ap, ◌∙◌, subst}
 use Rattle.std.proofs.lemmas.List.{length-append}
 use Rattle.std.proofs.lemmas.List.Elements.{All-append, filter_map-append}
 use Rattle.zq_base.specs.declared.ids.EndId.{EndId}
 use Rattle.zq_base.specs.declared.ids.ObjId.{ObjId}
+use Rattle.zq_base.specs.declared.ids.SlotId.{SlotId}
 use Rattle.spec_pattern.specs.PipeStep.{PipeStep, read_through}
 use Rattle.spec_control.specs.declared.letter.Word.{Word}
 use Rattle.spec_control.specs.declared.letter.Word.TheVariants.{Own, Plug, TermReq, Term, TermAck, PipeBind, PipeTerm, PipeTermAck, Stop, Reap}
@@ -17,10 +19,11 @@ use Rattle.spec_control.specs.Stage.{is_used}
 use Rattle.spec_control.specs.Control.{Control, begun, place_of}
 use Rattle.spec_control.specs.ControlRun.{after_all, after_item}
 use Rattle.control_held.specs.Held.{caller_of}
-use Rattle.control_held.specs.Moments.{Moment, moments_from}
+use Rattle.control_held.specs.Moments.{Moment, moments_from, reaper_slots}
 use Rattle.spec_run.specs.Act.{Act, Deed, Fetches, Idles, Said, Step, acts_of, moments_in, pipe_step_of, steps_in}
 use Rattle.spec_run.specs.Event.{acts_said, finds_end, finds_none, finds_one, LooksBehind, LooksFront, LooksWhere}
 use Rattle.spec_run.specs.InTurns.{ReaperStep}
+use Rattle.spec_run.specs.Worker.{ReapsLetter}
 use Rattle.spec_run.specs.OpenSocket.{awaits_delimiter}
 use Rattle.replay_laws.proofs.LookLemmas.{moments_said}
 use Rattle.msg_pipe.specs.Known.{Known}
@@ -36,7 +39,9 @@ use Rattle.core_laws.specs.Sides.{is_shut, AreAtEnds}
 use Rattle.core_stands.specs.Standing.{opens_in}
 use Rattle.core_stands.proofs.AsideLemmas.{said_alone}
 use Rattle.one_desk.specs.Lent.{moments_of, GrowsBy, IsOneOrder, Lent}
-use Rattle.one_desk.specs.Reaping.{FindsFirst, HearsFirst}
+use Rattle.one_desk.specs.Reaping.{FindsFirst}
+use Rattle.one_desk.specs.Waiting.{HearsAt}
+use Rattle.one_desk.proofs.WaitLemmas.{first_hears}
 use Rattle.core_others.proofs.GrownLemmas.{led_more, run_more}
 use Rattle.core_others.specs.Reaps.{ReapDone}
 use Rattle.reaper_ends.specs.declared.sockets.ClosedSockets.{ClosedSockets}
@@ -45,12 +50,12 @@ use Rattle.reaper_ends.specs.Has.{holding_in}
 use Rattle.reap_calls.specs.Calls.{SaysFound}
 use Rattle.core_others.specs.Asked.{IsItsOwn}
 use Rattle.core_others.specs.ReapedCall.{IsReapersCall}
-use Rattle.reap_steps.specs.Going.{GoesBy, ReaperHas, ReapIsNone, ReapIsStep, ReapsGoOn}
+use Rattle.reap_steps.specs.Going.{GoesBy, ReaperHas, ReapIsLetter, ReapIsNone, ReapIsStep, ReapsGoOn}
 use Rattle.reap_steps.specs.ReapLaws.{ReapLaws}
-use Rattle.reap_steps.specs.Steps.{acts_after, acts_behind, acts_if, acts_met, acts_reaped, item_found, last_looker, looker_of, next_of, reads_in, LooksAfter, LooksBehindIt, LooksIf, LooksOne, MayReap, ReapedSo, ReapParts, WantsMemory}
+use Rattle.reap_steps.specs.Steps.{acts_after, acts_at, acts_behind, acts_if, acts_met, acts_reaped, item_at, item_found, last_looker, looker_of, next_of, reads_in, LooksAfter, LooksBehindIt, LooksIf, LooksOne, MayReap, ReapedAt, ReapedSo, ReapParts, WantsMemory}
 use Rattle.reap_steps.proofs.GoLemmas.{goes_both, none_goes}
 use Rattle.reap_steps.proofs.ReadLemmas.{reads_are}
-use Rattle.reap_steps.proofs.RestLemmas.{more_are, at_said, led_one, letter_call, letter_goes, letter_one, rest_behind, said_one, RestSo}
+use Rattle.reap_steps.proofs.RestLemmas.{at_said, found_so, heard_so, led_one, more_are, rest_after, rest_behind, LetterSo, RestSo}
 
 none_some : {X : Type 0} {x : X} → None ≡ Some x → ⊥
 none_some e = Prim.grind arith
@@ -88,7 +93,7 @@ module _ {S N O I T : Type 0} (K : Known S O I N) where
   where_so true o e mid new l = front_so l.found _ e mid.desk new.desk l.looks.between new.pipes l.looks.kept new.closed l.looks.says
   where_so false o e mid new l = refl
 
-module _ (W : Type 0) {S N O I T : Type 0} (K : Known S O I N) (laws : ReapLaws W K T) (old mid new : ReapParts S N O I T) (is : ReaperHas K old) (has : ReaperHas K mid) (h : HearsFirst old.desk mid.desk) where
+module _ (W : Type 0) {S N O I T : Type 0} (K : Known S O I N) (laws : ReapLaws W K T) (old mid new : ReapParts S N O I T) (is : ReaperHas K old) (has : ReaperHas K mid) (slot : SlotId) (h : HearsAt slot old.desk mid.desk) where
   abbrev c : Control
   c = control_of mid.desk.past
 
@@ -98,7 +103,7 @@ module _ (W : Type 0) {S N O I T : Type 0} (K : Known S O I N) (laws : ReapLaws 
   at_end e word x same l =
       let end : x.1 ≡ e = ap (λ (y : ObjId × EndId). y.1) same in
       let object : x.0.0 ≡ h.hears.letter.to.0 = ap (λ (y : ObjId × EndId). y.0.0) same in
-      let its : IsItsOwn old.desk mid.desk h x.1 = laws.asks old.desk mid.desk is.desk.order has.desk.order h x.1 (word ∙ ap PipeTerm (sym end)) in
+      let its : IsItsOwn mid.desk h.hears.letter x.1 = laws.asks slot old.desk mid.desk is.desk.order has.desk.order h x.1 (word ∙ ap PipeTerm (sym end)) in
       subst (λ (y : EndId). LooksWhere (awaits_delimiter (place_of c y)) y (acts_after K (Some x) mid new l)) end
       (subst (λ (b : Bool). LooksWhere b x.1 (acts_after K (Some x) mid new l))
       (sym (reads_are K mid.desk has.desk.order mid.pipes mid.closed has.fits.sound has.has x.0.0 x.1 has.taken (its.own ∙ sym object) (λ root. its.no_root (sym object ∙ root))
@@ -131,41 +136,20 @@ module _ (W : Type 0) {S N O I T : Type 0} (K : Known S O I N) (laws : ReapLaws 
   pub behind_letter : (l : LooksAfter K (last_looker mid.desk.past.events) mid new) → LooksBehind (control_of mid.desk.past) h.hears.letter.word (acts_after K (last_looker mid.desk.past.events) mid new l)
   behind_letter l =
       behind_word h.hears.letter.word refl (last_looker mid.desk.past.events)
-      (ap (λ (p : Past (Given N O I) N T). last_looker p.events) h.hears.past ∙ looker_last old.desk.past.events (Delivered h.slot h.hears.letter h.hears.answered)) l
+      (ap (λ (p : Past (Given N O I) N T). last_looker p.events) h.hears.past ∙ looker_last old.desk.past.events (Delivered slot h.hears.letter h.hears.answered)) l
 
--- ---- the whole call
-module _ (W : Type 0) {S N O I T : Type 0} (K : Known S O I N) (laws : ReapLaws W K T) (old new : ReapParts S N O I T) (is : ReaperHas K old) (r : ReapedSo K old new) where
-  abbrev mid : ReapParts S N O I T
-  mid = r.mid
-
-  abbrev item : Item N T
-  item = item_found K r.found old.desk r.mid.desk r.finds
-
+-- ---- the whole call: a letter, or a look that found none, and what was done behind it
+module _ (W : Type 0) {S N O I T : Type 0} (K : Known S O I N) (laws : ReapLaws W K T) (old mid new : ReapParts S N O I T) (is : ReaperHas K old) (item : Item N T) (letter : LetterSo W K laws old mid is item) (looks : List (Act N T)) (rest : RestSo W K laws mid letter.goes.has new looks) where
   abbrev m : Moment N T
-  m = next_of K old.desk (item_found K r.found old.desk r.mid.desk r.finds)
+  m = next_of K old.desk item
 
-  abbrev looks : List (Act N T)
-  looks = acts_behind K r.found r.mid new r.looks
+  abbrev call : IsReapersCall old.desk mid.desk
+  call = letter.call
 
-  abbrev call : IsReapersCall old.desk r.mid.desk
-  call = letter_call W K laws old mid is r.found r.finds r.delivers
-
-  one : call.grows.more ≡ item_found K r.found old.desk r.mid.desk r.finds ∷ []
-  one = letter_one W K laws old mid is r.found r.finds r.delivers
-
-  first : GoesBy W K old r.mid (steps_in (acts_said (next_of K old.desk (item_found K r.found old.desk r.mid.desk r.finds))))
-  first = letter_goes W K laws old mid is r.found r.finds r.delivers
-
-  has : ReaperHas K r.mid
-  has = first.has
-
-  abbrev rest : RestSo W K laws r.mid has new (acts_behind K r.found r.mid new r.looks)
-  rest = rest_behind W K laws mid has r.found new r.looks
-
-  goes_all : GoesBy W K old new (steps_in (acts_reaped K old new r))
+  pub goes_all : GoesBy W K old new (steps_in (acts_said (next_of K old.desk item) ++ looks))
   goes_all =
       subst (λ (l : List PipeStep). GoesBy W K old new l) (sym (filter_map-append pipe_step_of (acts_said m) looks))
-      (goes_both W K old mid new (steps_in (acts_said m)) (steps_in looks) first rest.goes)
+      (goes_both W K old mid new (steps_in (acts_said m)) (steps_in looks) letter.goes rest.goes)
 
   abbrev grows : GrowsBy old.desk new.desk
   grows =
@@ -182,27 +166,66 @@ module _ (W : Type 0) {S N O I T : Type 0} (K : Known S O I N) (laws : ReapLaws 
   abbrev later : List (Item N T)
   later = rest.call.grows.more
 
-  said_all : moments_in (acts_reaped K old new r) ≡ moments_from (control_of old.desk.past) (call.grows.more ++ rest.call.grows.more)
+  said_all : moments_in (acts_said (next_of K old.desk item) ++ looks) ≡ moments_from (control_of old.desk.past) (call.grows.more ++ rest.call.grows.more)
   said_all =
       moments_said m looks
-      ∙ ap (λ (ms : List (Moment N T)). m ∷ ms) (rest.said ∙ ap (λ (c : Control). moments_from c later) (led_one old.desk mid.desk call item one))
+      ∙ ap (λ (ms : List (Moment N T)). m ∷ ms) (rest.said ∙ ap (λ (c : Control). moments_from c later) (led_one old.desk mid.desk call item letter.one))
       ∙ ap (λ (c : Control). moments_from c (item ∷ later)) (sym is.desk.order.control)
-      ∙ ap (λ (xs : List (Item N T)). moments_from (control_of old.desk.past) (xs ++ later)) (sym one)
+      ∙ ap (λ (xs : List (Item N T)). moments_from (control_of old.desk.past) (xs ++ later)) (sym letter.one)
 
-  shut_all : AreAtEnds (control_of new.desk.past) (λ i. is_shut (opens_in new.desk.items i)) (acts_reaped K old new r)
+  shut_all : AreAtEnds (control_of new.desk.past) (λ i. is_shut (opens_in new.desk.items i)) (acts_said (next_of K old.desk item) ++ looks)
   shut_all =
       let may = λ (i : ℕ). is_shut (opens_in new.desk.items i) in
       let next : IsReapersCall mid.desk new.desk = rest.call in
+      let has : ReaperHas K mid = letter.goes.has in
       let order : IsOneOrder mid.desk = has.desk.order in
       let run = order.order in
       laws.sides.both (control_of new.desk.past) may (acts_said m) looks
       (subst (λ (c : Control). AreAtEnds c may (acts_said m)) (sym (led_more mid.desk new.desk next.behind next.grows))
       (laws.sides.stay mid.desk.past.workers mid.desk.items later run.run (run_more mid.desk new.desk next.behind next.grows) may (acts_said m)
-      (subst (λ (c : Control). AreAtEnds c may (acts_said m)) order.control (at_said old.desk mid.desk call item one laws.sides may))))
+      (subst (λ (c : Control). AreAtEnds c may (acts_said m)) order.control (at_said old.desk mid.desk call item letter.one laws.sides may))))
       rest.at_ends
 
-  reap_done : ReapDone K old.desk new.desk old.pipes new.pipes (acts_reaped K old new r)
+  pub reap_done : ReapDone K old.desk new.desk old.pipes new.pipes (acts_said (next_of K old.desk item) ++ looks)
   reap_done = record { grows = grows; said = said_all; past = goes_all.past; counted = goes_all.counted; at_ends = shut_all }
+
+-- ---- a letter of one of its mailboxes
+module _ (W : Type 0) {S N O I T : Type 0} (K : Known S O I N) (laws : ReapLaws W K T) (old mid new : ReapParts S N O I T) (is : ReaperHas K old) (has : ReaperHas K mid) (slot : SlotId) (h : HearsAt slot old.desk mid.desk) where
+  abbrev pub takes_letter : control_of mid.desk.past ≡ after_item (item_at K slot old.desk mid.desk h) (after_all old.desk.items (begun old.desk.past.workers)) → (l : LooksAfter K (last_looker mid.desk.past.events) mid new) →
+      ReapsLetter slot.0 (acts_said (next_of K old.desk (item_at K slot old.desk mid.desk h)) ++ acts_after K (last_looker mid.desk.past.events) mid new l)
+  takes_letter left l = record {
+    takes = record {
+      taken = next_of K old.desk (item_at K slot old.desk mid.desk h);
+      letter = h.hears.letter;
+      looks = acts_after K (last_looker mid.desk.past.events) mid new l;
+      delivery = record { by = old.desk.caller; answered = h.hears.answered; item_is = refl };
+      behind = subst (λ (c : Control). LooksBehind c h.hears.letter.word (acts_after K (last_looker mid.desk.past.events) mid new l)) left (behind_letter W K laws old mid new is has slot h l);
+      acts_are = refl;
+    };
+    has = subst (λ (c : Control). list_any (λ k. k == slot.0) (reaper_slots c) ≡ true) is.desk.order.control h.mine;
+  }
+
+module _ (W : Type 0) {S N O I T : Type 0} (K : Known S O I N) (laws : ReapLaws W K T) (slot : SlotId) (old new : ReapParts S N O I T) (is : ReaperHas K old) (r : ReapedAt K slot old new) where
+  abbrev its_letter : LetterSo W K laws old r.mid is (item_at K slot old.desk r.mid.desk r.hears)
+  its_letter = heard_so W K laws old r.mid is r.delivers slot r.hears
+
+  pub reap_is_letter : ReapIsLetter W K slot.0 old new (acts_at K slot old new r)
+  reap_is_letter =
+      let item = item_at K slot old.desk r.mid.desk r.hears in
+      let looks = acts_after K (last_looker r.mid.desk.past.events) r.mid new r.looks in
+      let rest = rest_after W K laws r.mid its_letter.goes.has (last_looker r.mid.desk.past.events) new r.looks in record {
+        goes = goes_all W K laws old r.mid new is item its_letter looks rest;
+        done = reap_done W K laws old r.mid new is item its_letter looks rest;
+        reaps = takes_letter W K laws old r.mid new is its_letter.goes.has slot r.hears (led_one old.desk r.mid.desk its_letter.call item its_letter.one) r.looks;
+      }
+
+-- ---- a letter of the first of them, or a look that found none
+module _ (W : Type 0) {S N O I T : Type 0} (K : Known S O I N) (laws : ReapLaws W K T) (old new : ReapParts S N O I T) (is : ReaperHas K old) (r : ReapedSo K old new) where
+  abbrev mid : ReapParts S N O I T
+  mid = r.mid
+
+  abbrev letter : LetterSo W K laws old r.mid is (item_found K r.found old.desk r.mid.desk r.finds)
+  letter = found_so W K laws old r.mid is r.delivers r.found r.finds
 
   -- what kind of step it is
   record DeedIs (acts : List (Act N T)) : Type 0 where
@@ -213,21 +236,10 @@ module _ (W : Type 0) {S N O I T : Type 0} (K : Known S O I N) (laws : ReapLaws 
   deed_of : (found : Delivery) (f : FindsFirst found old.desk r.mid.desk) → control_of r.mid.desk.past ≡ after_item (item_found K found old.desk r.mid.desk f) (after_all old.desk.items (begun old.desk.past.workers)) →
       (l : LooksBehindIt K found r.mid new) → DeedIs (acts_said (next_of K old.desk (item_found K found old.desk r.mid.desk f)) ++ acts_behind K found r.mid new l)
   deed_of Done f left l =
-      let taken = next_of K old.desk (item_found K Done old.desk mid.desk f) in
-      let acts = acts_said taken ++ acts_behind K Done mid new l in record {
-        deed = Fetches f.slot.0 acts;
+      let taken = takes_letter W K laws old mid new is letter.goes.has f.slot (first_hears old.desk mid.desk is.desk.order f) left l in record {
+        deed = Fetches f.slot.0 (acts_said (next_of K old.desk (item_found K Done old.desk mid.desk f)) ++ acts_behind K Done mid new l);
         acts_are = refl;
-        step = record {
-          takes = record {
-            taken = taken;
-            letter = f.hears.letter;
-            looks = acts_behind K Done mid new l;
-            delivery = record { by = old.desk.caller; answered = f.hears.answered; item_is = refl };
-            behind = subst (λ (c : Control). LooksBehind c f.hears.letter.word (acts_behind K Done mid new l)) left (behind_letter W K laws old mid new is has f l);
-            acts_are = refl;
-          };
-          first = f.first;
-        };
+        step = record { takes = taken.takes; first = f.first };
       }
   deed_of Empty f left l =
       let seen = next_of K old.desk (item_found K Empty old.desk mid.desk f) in record {
@@ -238,9 +250,12 @@ module _ (W : Type 0) {S N O I T : Type 0} (K : Known S O I N) (laws : ReapLaws 
 
   pub reap_is_step : ReapIsStep W K old new (acts_reaped K old new r)
   reap_is_step =
-      let is_deed = deed_of r.found r.finds (led_one old.desk mid.desk call item one) r.looks in record {
-        goes = goes_all;
-        done = reap_done;
+      let item = item_found K r.found old.desk mid.desk r.finds in
+      let looks = acts_behind K r.found mid new r.looks in
+      let rest = rest_behind W K laws mid letter.goes.has r.found new r.looks in
+      let is_deed = deed_of r.found r.finds (led_one old.desk mid.desk letter.call item letter.one) r.looks in record {
+        goes = goes_all W K laws old mid new is item letter looks rest;
+        done = reap_done W K laws old mid new is item letter looks rest;
         deed = is_deed.deed;
         acts_are = is_deed.acts_are;
         step = is_deed.step;
@@ -283,4 +298,4 @@ module _ (W : Type 0) {S N O I T : Type 0} (K : Known S O I N) (laws : ReapLaws 
   }
 
   pub reaps_go_on : ReapsGoOn W K T
-  reaps_go_on = record { may = may_reap; steps = reap_is_step W K laws; none = reap_is_none W K laws }
+  reaps_go_on = record { may = may_reap; steps = reap_is_step W K laws; letters = reap_is_letter W K laws; none = reap_is_none W K laws }

@@ -4,6 +4,7 @@ use Rattle.std.proofs.Common.{append-nil, sym, ap, ◌∙◌, subst}
 use Rattle.std.proofs.lemmas.List.{append_cancel_left}
 use Rattle.zq_base.specs.declared.ids.EndId.{EndId}
 use Rattle.zq_base.specs.declared.ids.ObjId.{ObjId}
+use Rattle.zq_base.specs.declared.ids.SlotId.{SlotId}
 use Rattle.spec_pattern.specs.PipeStep.{PipeStep, read_through}
 use Rattle.spec_control.specs.declared.entry.Did.TheVariants.{Delimited}
 use Rattle.spec_control.specs.declared.entry.Item.{Item}
@@ -30,6 +31,7 @@ use Rattle.core_laws.specs.Sides.{is_shut, AreAtEnds, SidesStandOn}
 use Rattle.core_stands.specs.Standing.{opens_in}
 use Rattle.one_desk.specs.Lent.{moments_of, IsOneOrder, Lent}
 use Rattle.one_desk.specs.Reaping.{FindsFirst}
+use Rattle.one_desk.specs.Waiting.{HearsAt}
 use Rattle.desk_laws.proofs.LastLemmas.{grown}
 use Rattle.core_others.proofs.GrownLemmas.{led_more}
 use Rattle.core_others.specs.Done.{PastIn}
@@ -42,7 +44,7 @@ use Rattle.reap_calls.specs.Calls.{FitsClosed, SaysFound, SaysMet}
 use Rattle.core_others.specs.ReapedCall.{IsReapersCall}
 use Rattle.reap_steps.specs.Going.{GoesBy, ReaperHas}
 use Rattle.reap_steps.specs.ReapLaws.{ReapLaws}
-use Rattle.reap_steps.specs.Steps.{acts_after, acts_behind, acts_if, acts_looked, acts_met, item_found, last_looker, next_of, reads_in, reap_parts, Delivers, DeskStands, LooksAfter, LooksBehindIt, LooksIf, LooksOne, ReapParts}
+use Rattle.reap_steps.specs.Steps.{acts_after, acts_behind, acts_if, acts_looked, acts_met, item_at, item_found, last_looker, next_of, reads_in, reap_parts, Delivers, DeskStands, LooksAfter, LooksBehindIt, LooksIf, LooksOne, ReapParts}
 use Rattle.reap_steps.proofs.GoLemmas.{goes_both, look, look_goes, one_goes}
 
 -- ---- a call that was one item, or none
@@ -75,21 +77,30 @@ module _ {G N T : Type 0} (d e : Lent G N T) (call : IsReapersCall d e) where
 
 -- ---- the letter
 module _ (W : Type 0) {S N O I T : Type 0} (K : Known S O I N) (laws : ReapLaws W K T) (old mid : ReapParts S N O I T) (is : ReaperHas K old) where
-  pub items_are : (found : Delivery) (f : FindsFirst found old.desk mid.desk) → mid.desk.items ≡ old.desk.items ++ item_found K found old.desk mid.desk f ∷ []
-  items_are Done f = f.hears.items
-  items_are Empty f = f.sees.items
+  -- one item led from one to the other
+  pub record LetterSo (item : Item N T) : Type 0 where
+    pub call : IsReapersCall old.desk mid.desk
+    pub one : call.grows.more ≡ item ∷ []
+    pub goes : GoesBy W K old mid (steps_in (acts_said (next_of K old.desk item)))
 
-  module _ (found : Delivery) (f : FindsFirst found old.desk mid.desk) (delivers : Delivers K old mid) where
-    pub letter_call : IsReapersCall old.desk mid.desk
-    letter_call = laws.calls.found found old.desk mid.desk is.desk.order delivers.stands.order f
+  module _ (delivers : Delivers K old mid) where
+    letter_so : (item : Item N T) → IsReapersCall old.desk mid.desk → mid.desk.items ≡ old.desk.items ++ item ∷ [] → LetterSo item
+    letter_so item call items =
+        let one = more_are old.desk mid.desk call (item ∷ []) items in record {
+          call = call;
+          one = one;
+          goes = one_goes W K laws old mid is call delivers.stands delivers.keeps delivers.changes delivers.given delivers.counts (next_of K old.desk item) is.desk.order.control one;
+        }
 
-    pub letter_one : letter_call.grows.more ≡ item_found K found old.desk mid.desk f ∷ []
-    letter_one = more_are old.desk mid.desk letter_call (item_found K found old.desk mid.desk f ∷ []) (items_are found f)
+    items_are : (found : Delivery) (f : FindsFirst found old.desk mid.desk) → mid.desk.items ≡ old.desk.items ++ item_found K found old.desk mid.desk f ∷ []
+    items_are Done f = f.hears.items
+    items_are Empty f = f.sees.items
 
-    pub letter_goes : GoesBy W K old mid (steps_in (acts_said (next_of K old.desk (item_found K found old.desk mid.desk f))))
-    letter_goes =
-        one_goes W K laws old mid is letter_call delivers.stands delivers.keeps delivers.changes delivers.given delivers.counts
-        (next_of K old.desk (item_found K found old.desk mid.desk f)) is.desk.order.control letter_one
+    pub found_so : (found : Delivery) (f : FindsFirst found old.desk mid.desk) → LetterSo (item_found K found old.desk mid.desk f)
+    found_so found f = letter_so (item_found K found old.desk mid.desk f) (laws.calls.found found old.desk mid.desk is.desk.order delivers.stands.order f) (items_are found f)
+
+    pub heard_so : (slot : SlotId) (h : HearsAt slot old.desk mid.desk) → LetterSo (item_at K slot old.desk mid.desk h)
+    heard_so slot h = letter_so (item_at K slot old.desk mid.desk h) (laws.calls.heard slot old.desk mid.desk is.desk.order delivers.stands.order h.hears) h.hears.items
 
 -- ---- behind it
 module _ (W : Type 0) {S N O I T : Type 0} (K : Known S O I N) (laws : ReapLaws W K T) (mid : ReapParts S N O I T) (is : ReaperHas K mid) where
@@ -199,7 +210,7 @@ module _ (W : Type 0) {S N O I T : Type 0} (K : Known S O I N) (laws : ReapLaws 
   rest_if true o e new l = rest_found new l.stands o e l.looks.between l.looks.kept l.looks.sealed l.looks.stays l.looks.has l.looks.fits l.found l.looks.looked l.looks.says
   rest_if false o e new l = rest_none new l
 
-  rest_after : (looker : Option (ObjId × EndId)) (new : ReapParts S N O I T) (l : LooksAfter K looker mid new) → RestSo new (acts_after K looker mid new l)
+  pub rest_after : (looker : Option (ObjId × EndId)) (new : ReapParts S N O I T) (l : LooksAfter K looker mid new) → RestSo new (acts_after K looker mid new l)
   rest_after None new l = rest_none new l
   rest_after (Some x) new l = rest_if (reads_in K mid x.0.0 x.1) x.0.0 x.1 new l
 

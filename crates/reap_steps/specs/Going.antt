@@ -1,10 +1,12 @@
 -- What goes on over a call of the reaper (own choice, after libzmq's `reaper_t`).
 use Rattle.std.specs.Prelude.{◌≡◌, ◌++◌, ◌∷◌, [], ℕ, true, List}
 use Rattle.std.specs.List.{list_any}
+use Rattle.zq_base.specs.declared.ids.SlotId.{SlotId}
 use Rattle.spec_pattern.specs.PipeStep.{PipeStep}
 use Rattle.spec_control.specs.Names.{name_of}
 use Rattle.spec_run.specs.Act.{Act, Deed, acts_of, steps_in}
 use Rattle.spec_run.specs.InTurns.{ReaperStep}
+use Rattle.spec_run.specs.Worker.{ReapsLetter}
 use Rattle.spec_run.specs.OwnedRun.{AreCountedBy}
 use Rattle.msg_pipe.specs.Known.{Known}
 use Rattle.any_sock.specs.declared.any_sock.AnySock.{AnySock}
@@ -23,7 +25,7 @@ use Rattle.reaper_ends.specs.Has.{all_ends, holding_in, is_socket}
 use Rattle.reap_calls.specs.Calls.{FitsClosed}
 use Rattle.core_others.specs.Sealed.{AllAsked}
 use Rattle.core_others.specs.ReapedComing.{AwayUnsealed, HasOnlyTaken, HasTaken}
-use Rattle.reap_steps.specs.Steps.{acts_reaped, DeskStands, MayReap, ReapedSo, ReapParts, WantsMemory}
+use Rattle.reap_steps.specs.Steps.{acts_at, acts_reaped, DeskStands, MayReap, ReapedAt, ReapedSo, ReapParts, WantsMemory}
 
 -- there is one I/O worker; each pipe that has a name has one of its own; nothing was sealed in what is on its way, and it is with its halves; the reaper has of closed sockets what its moments say, each of them that was taken over and lives, and no other socket; and each end that is told as sealed was asked
 pub record ReaperHas {S N O I T : Type 0} (K : Known S O I N) (l : ReapParts S N O I T) : Type 0 where
@@ -55,6 +57,12 @@ pub record ReapIsStep (W : Type 0) {S N O I T : Type 0} (K : Known S O I N) (old
   pub acts_are : acts_of deed ≡ acts
   pub step : ReaperStep (deed ∷ [])
 
+-- these acts, which the caller did, take one letter of this mailbox, which is one of the reaper's
+pub record ReapIsLetter (W : Type 0) {S N O I T : Type 0} (K : Known S O I N) (slot : ℕ) (old new : ReapParts S N O I T) (acts : List (Act N T)) : Type 0 where
+  pub goes : GoesBy W K old new (steps_in acts)
+  pub done : ReapDone K old.desk new.desk old.pipes new.pipes acts
+  pub reaps : ReapsLetter slot acts
+
 -- nothing was done, and no closed socket came
 pub record ReapIsNone (W : Type 0) {S N O I T : Type 0} (K : Known S O I N) (old new : ReapParts S N O I T) : Type 0 where
   pub goes : GoesBy W K old new []
@@ -67,4 +75,5 @@ pub record ReapIsNone (W : Type 0) {S N O I T : Type 0} (K : Known S O I N) (old
 pub record ReapsGoOn (W : Type 0) {S N O I : Type 0} (K : Known S O I N) (T : Type 0) : Type 0 where
   pub may : (l : ReapParts S N O I T) → ReaperHas K l → HasRoom l.closed → MayReap K l
   pub steps : (old new : ReapParts S N O I T) → ReaperHas K old → (r : ReapedSo K old new) → ReapIsStep W K old new (acts_reaped K old new r)
+  pub letters : (slot : SlotId) (old new : ReapParts S N O I T) → ReaperHas K old → (r : ReapedAt K slot old new) → ReapIsLetter W K slot.0 old new (acts_at K slot old new r)
   pub none : (old new : ReapParts S N O I T) → ReaperHas K old → WantsMemory K old new → ReapIsNone W K old new

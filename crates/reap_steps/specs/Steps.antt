@@ -2,6 +2,7 @@
 use Rattle.std.specs.Prelude.{◌≡◌, ◌∷◌, ◌++◌, ℕ, Bool, true, false, List, [], Option, Some, None}
 use Rattle.zq_base.specs.declared.ids.EndId.{EndId}
 use Rattle.zq_base.specs.declared.ids.ObjId.{ObjId}
+use Rattle.zq_base.specs.declared.ids.SlotId.{SlotId}
 use Rattle.spec_pattern.specs.PipeStep.{read_through}
 use Rattle.spec_control.specs.declared.entry.Did.{Did}
 use Rattle.spec_control.specs.declared.entry.Did.TheVariants.{Delivered, Delimited}
@@ -36,6 +37,7 @@ use Rattle.reaper_ends.specs.Has.{ends_of, holding_in, state_in}
 use Rattle.reaper_ends.specs.Sound.{MayJoin, MayTake}
 use Rattle.one_desk.specs.Lent.{coming_to, moments_of, IsOneOrder, Lent}
 use Rattle.one_desk.specs.Reaping.{served_by, FindsFirst}
+use Rattle.one_desk.specs.Waiting.{HearsAt}
 use Rattle.reap_calls.specs.Calls.{ChangesClosed, FitsClosed, LooksOn, SaysFound}
 
 -- the desk of a core, the pipes of all sockets, and the closed sockets, as they are lent to the reaper
@@ -115,6 +117,13 @@ module _ {S O I N T : Type 0} (K : Known S O I N) where
     pub delivers : Delivers old mid
     pub looks : LooksBehindIt found mid new
 
+  -- a letter was taken of this mailbox of the reaper's, and behind it the end was looked at that it said
+  pub record ReapedAt (slot : SlotId) (old new : ReapParts S N O I T) : Type 0 where
+    pub mid : ReapParts S N O I T
+    pub hears : HearsAt slot old.desk mid.desk
+    pub delivers : Delivers old mid
+    pub looks : LooksAfter (last_looker mid.desk.past.events) mid new
+
   -- ---- its acts
 
   -- the item of a delivery
@@ -151,6 +160,13 @@ module _ {S O I N T : Type 0} (K : Known S O I N) where
   -- those of the whole call
   abbrev pub acts_reaped : (old new : ReapParts S N O I T) → ReapedSo old new → List (Act N T)
   acts_reaped old new r = acts_said (next_of old.desk (item_found r.found old.desk r.mid.desk r.finds)) ++ acts_behind r.found r.mid new r.looks
+
+  -- the item of a letter of this mailbox, and the acts of the whole call
+  abbrev pub item_at : (slot : SlotId) (old mid : Lent (Given N O I) N T) → HearsAt slot old mid → Item N T
+  item_at slot old mid h = Event (record { by = old.caller; did = Delivered slot h.hears.letter h.hears.answered })
+
+  abbrev pub acts_at : (slot : SlotId) (old new : ReapParts S N O I T) → ReapedAt slot old new → List (Act N T)
+  acts_at slot old new r = acts_said (next_of old.desk (item_at slot old.desk r.mid.desk r.hears)) ++ acts_after (last_looker r.mid.desk.past.events) r.mid new r.looks
 
   -- memory was wanting, and no letter was taken
   pub record WantsMemory (old new : ReapParts S N O I T) : Type 0 where

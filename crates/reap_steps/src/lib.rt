@@ -6,4 +6,4 @@ mod laws;
 mod steps;
 
 pub use laws::reaps_go_on;
-pub use steps::{reap_once, stands};
+pub use steps::{reap_at, reap_once, stands};

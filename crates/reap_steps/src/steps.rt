@@ -1,18 +1,19 @@
 ghost use Rattle.std.specs.Prelude.{◌≡◌, OnOk, OnErr};
 ghost use Rattle.ctl_plane.specs.Desk.{HasWhatTheySay};
 ghost use Rattle.one_desk.specs.Lent.{moments_of};
+ghost use Rattle.one_desk.specs.Waiting.{WaitsAt};
 ghost use Rattle.reaper_ends.specs.Has.{holding_in};
 ghost use Rattle.reap_calls.specs.Calls.{FitsClosed};
 ghost use Rattle.reap_steps.specs.Steps.{last_looker, reap_parts, reads_in, DeskStands, LooksAfter, LooksIf};
-ghost use Rattle.reap_steps.specs.Steps.{MayReap, ReapedSo, WantsMemory};
+ghost use Rattle.reap_steps.specs.Steps.{MayReap, ReapedAt, ReapedSo, WantsMemory};
 
 use ctl_plane::Delivery;
 use held_ends::HeldPipes;
 use one_desk::OneDesk;
-use reap_calls::{deliver_first, look_on};
+use reap_calls::{deliver_at, deliver_first, look_on};
 use reaper_ends::{ClosedSockets, reads_on};
 use std::alloc::{AllocError, Global};
-use zq_base::{EndId, ObjId};
+use zq_base::{EndId, ObjId, SlotId};
 
 /// What is so of a desk, whoever called. It costs nothing.
 pub fn stands<P: HeldPipes>(desk: &OneDesk<P>)
@@ -101,7 +102,7 @@ where
 
 /// Processes the oldest command of the first of the reaper's mailboxes that is not empty, and looks at
 /// the end that is to read on behind it; or finds all of them empty. Want of memory leaves the command
-/// where it was.
+/// where it was. It costs a delivery, and a look where an end reads on.
 pub fn reap_once<P>(
     alloc: Global,
     pipes: &mut P,
@@ -132,6 +133,41 @@ where
         Err(want) => {
             stands(desk);
             return Err(want);
+        }
+    }
+}
+
+/// Processes the oldest command of one of the reaper's mailboxes, in which one waits, and looks at the
+/// end that is to read on behind it. Want of memory leaves the command where it was. It costs a
+/// delivery, and a look where an end reads on.
+pub fn reap_at<P>(
+    alloc: Global,
+    pipes: &mut P,
+    closed: &mut ClosedSockets<P::Name, P::Out, P::In>,
+    waker: &P::Waker,
+    desk: &mut OneDesk<P>,
+    slot: SlotId,
+) -> Result<(), AllocError>
+where
+    P: HeldPipes + Drop,
+    P::Name: Drop,
+    P::Waker: Drop,
+    requires may { MayReap P.known (reap_parts desk.old pipes.old closed.old) }
+    requires waits { WaitsAt slot desk.old }
+    ensures ok { OnOk result (ReapedAt P.known slot
+        (reap_parts desk.old pipes.old closed.old) (reap_parts desk.new pipes.new closed.new)) }
+    ensures err { OnErr result (WantsMemory P.known
+        (reap_parts desk.old pipes.old closed.old) (reap_parts desk.new pipes.new closed.new)) }
+{
+    match deliver_at(alloc, pipes, closed, waker, desk, slot) {
+        Ok(()) => {
+            stands(desk);
+            look_behind(alloc, pipes, closed, waker, desk);
+            return Ok(());
+        }
+        Err(wanted) => {
+            stands(desk);
+            return Err(wanted);
         }
     }
 }

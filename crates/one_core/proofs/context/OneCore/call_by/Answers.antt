@@ -1,5 +1,5 @@
 use Rattle.std.specs.Prelude.{◌≡◌, ℕ, true, drop, Result, Ok, OnOk}
-use Rattle.std.proofs.Common.{sym, ◌∙◌, subst}
+use Rattle.std.proofs.Common.{sym, ap, ◌∙◌, subst}
 use Rattle.ctl_holder.specs.declared.given.Given.{Given}
 use Rattle.ctl_history.specs.Past.{control_of}
 use Rattle.sock_calls.specs.Calls.{owner_of}
@@ -30,6 +30,9 @@ pub returns-in-Ok-count_drops-clause-lent : goal.returns-in-Ok-count_drops-claus
 returns-in-Ok-count_drops-clause-lent g c = (line_done g.row.P-Waker.Denot g.P.Pipes.known c.calls_go_on_so.ensures (core_of c.self.inside.lent.desk c.self.inside.lent.pipes c.self.inside.tale.items c.self.inside.wanted) c.self.inside.closed c.self.inside.drops.items c.self.invariant c.is_of_one_order.ensures c.args.caller c.args.socket.now (subst (λ (w : Core g.row.P.Denot (Given g.row.P-Name.Denot g.row.P-Out.Denot g.row.P-In.Denot) g.row.P-Name.Denot g.row.P-Story.Denot). Agrees g.row.P-Waker.Denot g.P.Pipes.known w c.args.caller c.args.socket.now) (sym c.self.view_is) c.requires.agrees) c.given_are_its.ensures c.call_lent.new.lent.pipes c.call_lent.new.lent.desk c.is_of_one_order-in-Ok.ensures c.given_are_its-in-Ok.ensures c.call_lent.new.tale.items c.call_lent.new.socket c.call_lent.new.lent.since.items c.call_lent.ensures.agrees c.args.line.now c.in-Ok.answer c.args.told.now.items c.call_lent.new.told.items c.in-Ok.ensures.ok ((λ i. (c.self.view_is i).wanted) ∙ c.requires.not_wanted) c.in-Ok.ensures.ready (lendable g.row.P-Waker.Denot g.P.Pipes.known c.calls_go_on_so.ensures.lend (core_of c.self.inside.lent.desk c.self.inside.lent.pipes c.self.inside.tale.items c.self.inside.wanted) c.self.invariant.0 c.is_of_one_order.ensures c.args.caller c.args.socket.now (subst (λ (w : Core g.row.P.Denot (Given g.row.P-Name.Denot g.row.P-Out.Denot g.row.P-In.Denot) g.row.P-Name.Denot g.row.P-Story.Denot). Agrees g.row.P-Waker.Denot g.P.Pipes.known w c.args.caller c.args.socket.now) (sym c.self.view_is) c.requires.agrees)).view c.count_drops.new.drops.items
     (subst (λ (n : ℕ). CountsTold (control_of c.call_lent.new.lent.desk.past) (owner_of c.args.socket.now) (drop n c.call_lent.new.told.items) c.self.inside.drops.items c.count_drops.new.drops.items) c.many_told-before.ensures
     (subst (λ (n : ℕ). CountsTold (control_of c.call_lent.new.lent.desk.past) n (drop c.many_told-before.result c.call_lent.new.told.items) c.self.inside.drops.items c.count_drops.new.drops.items) c.number_in-object.ensures (at_ok (CountsTold (control_of c.call_lent.new.lent.desk.past) c.number_in-object.result.0 (drop c.many_told-before.result c.call_lent.new.told.items) c.self.inside.drops.items c.count_drops.new.drops.items) c.in-Ok-count_drops.is c.count_drops.ensures)))).left.lent
+
+pub returns-in-Ok-count_drops-clause-wanted : goal.returns-in-Ok-count_drops-clause-wanted
+returns-in-Ok-count_drops-clause-wanted g c = ap (λ (w : Core g.row.P.Denot (Given g.row.P-Name.Denot g.row.P-Out.Denot g.row.P-In.Denot) g.row.P-Name.Denot g.row.P-Story.Denot). w.wanted) c.self.view_is
 
 pub returns-in-Ok-count_drops-clause-keeps : goal.returns-in-Ok-count_drops-clause-keeps
 returns-in-Ok-count_drops-clause-keeps g c =

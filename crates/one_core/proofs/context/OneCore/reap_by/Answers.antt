@@ -1,5 +1,5 @@
 use Rattle.std.specs.Prelude.{List, true}
-use Rattle.std.proofs.Common.{sym, subst}
+use Rattle.std.proofs.Common.{sym, ap, subst}
 use Rattle.ctl_holder.specs.declared.given.Given.{Given}
 use Rattle.core_tale.specs.declared.marks.PieceMark.{PieceMark}
 use Rattle.script_actor.specs.Way.{KeepsAll}
@@ -24,6 +24,9 @@ pub returns-in-Ok-reap_lent-clause-ok : goal.returns-in-Ok-reap_lent-clause-ok
 returns-in-Ok-reap_lent-clause-ok g c =
     subst (λ (w : Core g.row.P.Denot (Given g.row.P-Name.Denot g.row.P-Out.Denot g.row.P-In.Denot) g.row.P-Name.Denot g.row.P-Story.Denot). ReapsOne c.args.caller (pieces_in w) (pieces_in (core_of c.reap_lent.new.desk c.reap_lent.new.pipes c.reap_lent.new.tale.items c.self.inside.wanted))) c.self.view_is
     (reaped_left g.row.P-Waker.Denot g.P.Pipes.known c.reaps_go_on_so.ensures (core_of c.self.inside.lent.desk c.self.inside.lent.pipes c.self.inside.tale.items c.self.inside.wanted) c.self.inside.closed c.make_room.new.closed c.self.inside.drops.items c.self.invariant c.make_room.ensures.kept c.make_room.ensures.indexed c.stands.ensures c.args.caller (subst (λ (w : Core g.row.P.Denot (Given g.row.P-Name.Denot g.row.P-Out.Denot g.row.P-In.Denot) g.row.P-Name.Denot g.row.P-Story.Denot). IsReaper c.args.caller (pieces_in w)) (sym c.self.view_is) c.requires.alone) c.reap_lent.new.desk c.reap_lent.new.pipes c.reap_lent.new.closed c.reap_lent.new.tale.items c.in-Ok-reap_lent.ensures.ok).one
+
+pub returns-in-Ok-reap_lent-clause-wanted : goal.returns-in-Ok-reap_lent-clause-wanted
+returns-in-Ok-reap_lent-clause-wanted g c = ap (λ (w : Core g.row.P.Denot (Given g.row.P-Name.Denot g.row.P-Out.Denot g.row.P-In.Denot) g.row.P-Name.Denot g.row.P-Story.Denot). w.wanted) c.self.view_is
 
 pub returns-in-Ok-reap_lent-clause-keeps : goal.returns-in-Ok-reap_lent-clause-keeps
 returns-in-Ok-reap_lent-clause-keeps g c =

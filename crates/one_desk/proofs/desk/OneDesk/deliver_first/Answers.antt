@@ -15,63 +15,61 @@ use Rattle.one_desk.specs.Lent.{coming_to, Lent, Sees, moments_of}
 use Rattle.one_desk.specs.Reaping.{HearsFrom, WaitsFirst, served_by}
 use Rattle.one_desk.proofs.PlaneLemmas.{takes_none}
 use Rattle.one_desk.proofs.TellLemmas.{look_tells}
+use Rattle.one_desk.proofs.WaitLemmas.{first_waits}
 use Rattle.one_desk.proofs.desk.OneDesk.deliver_first.Goals as goal
 
 on_err : {X E : Type 0} (r : Result X E) (P : Type 0) → P → OnErr r P
 on_err (Ok x) P p = tt
 on_err (Err e) P p = p
 
--- what is so of two is so of what is equal to them
-between : {X : Type 0} {a b c d : X} (R : X → X → Type 0) → a ≡ b → d ≡ c → R a c → R b d
-between {X = X} {a = a} {d = d} R old new h = subst (λ (x : X). R x d) old (subst (λ (y : X). R a y) (sym new) h)
+pub deliver_at-requires-clause-waits : goal.deliver_at-requires-clause-waits
+deliver_at-requires-clause-waits g c =
+    first_waits c.in-Some.slot c.first_slot.new.self
+    (subst (λ (d : Lent (Given g.row.P-Name.Denot g.row.P-Out.Denot g.row.P-In.Denot) g.row.P-Name.Denot g.row.P-Story.Denot). WaitsFirst c.in-Some.slot d) (sym c.first_slot.ensures.stays) c.in-Some.ensures.some)
 
-pub hear_first-requires-clause-first : goal.hear_first-requires-clause-first
-hear_first-requires-clause-first g c =
-    subst (λ (d : Lent (Given g.row.P-Name.Denot g.row.P-Out.Denot g.row.P-In.Denot) g.row.P-Name.Denot g.row.P-Story.Denot). WaitsFirst c.in-Some.slot d) (sym c.first_slot.ensures.stays) c.in-Some.ensures.some
-
-pub hear_first-requires-clause-lent : goal.hear_first-requires-clause-lent
-hear_first-requires-clause-lent g c =
+pub deliver_at-requires-clause-lent : goal.deliver_at-requires-clause-lent
+deliver_at-requires-clause-lent g c =
     subst (λ (d : Lent (Given g.row.P-Name.Denot g.row.P-Out.Denot g.row.P-In.Denot) g.row.P-Name.Denot g.row.P-Story.Denot). (m i : ℕ) → served_by d m i ≡ true → (g.H.Holder.holding c.args.holder.now).holds i ≡ true) (sym c.first_slot.ensures.stays) c.requires.lent
 
-pub hear_first-requires-clause-has : goal.hear_first-requires-clause-has
-hear_first-requires-clause-has g c =
+pub deliver_at-requires-clause-has : goal.deliver_at-requires-clause-has
+deliver_at-requires-clause-has g c =
     subst (λ (d : Lent (Given g.row.P-Name.Denot g.row.P-Out.Denot g.row.P-In.Denot) g.row.P-Name.Denot g.row.P-Story.Denot). HasWhatTheySay d.caller (moments_of d) (g.H.Holder.holding c.args.holder.now)) (sym c.first_slot.ensures.stays) c.requires.has
 
-pub hear_first-requires-clause-distinct : goal.hear_first-requires-clause-distinct
-hear_first-requires-clause-distinct g c =
+pub deliver_at-requires-clause-distinct : goal.deliver_at-requires-clause-distinct
+deliver_at-requires-clause-distinct g c =
     subst (λ (d : Lent (Given g.row.P-Name.Denot g.row.P-Out.Denot g.row.P-In.Denot) g.row.P-Name.Denot g.row.P-Story.Denot). AreDistinct g.P.Pipes.known.exact (name_of d.items)) (sym c.first_slot.ensures.stays) c.requires.distinct
 
-pub hear_first-requires-clause-fits : goal.hear_first-requires-clause-fits
-hear_first-requires-clause-fits g c =
+pub deliver_at-requires-clause-fits : goal.deliver_at-requires-clause-fits
+deliver_at-requires-clause-fits g c =
     subst (λ (d : Lent (Given g.row.P-Name.Denot g.row.P-Out.Denot g.row.P-In.Denot) g.row.P-Name.Denot g.row.P-Story.Denot). (m i : ℕ) → served_by d m i ≡ true → BindsFit g.P.Pipes.known.out_name g.P.Pipes.known.in_name (name_of d.items) (coming_to d m) (λ h. (e : EndId) → g.H.Holder.fits c.args.holder.now e h)) (sym c.first_slot.ensures.stays) c.requires.fits
 
-pub hear_first-requires-clause-takes : goal.hear_first-requires-clause-takes
-hear_first-requires-clause-takes g c =
+pub deliver_at-requires-clause-takes : goal.deliver_at-requires-clause-takes
+deliver_at-requires-clause-takes g c =
     subst (λ (d : Lent (Given g.row.P-Name.Denot g.row.P-Out.Denot g.row.P-In.Denot) g.row.P-Name.Denot g.row.P-Story.Denot). MayTakeFirst (g.H.Holder.may_take c.args.holder.now) (control_of d.past) d.past.given) (sym c.first_slot.ensures.stays) c.requires.takes
 
-pub returns-in_err-hear_first-in-Some-clause-err : goal.returns-in_err-hear_first-in-Some-clause-err
-returns-in_err-hear_first-in-Some-clause-err g c =
-    on_err c.from_residual.result (c.hear_first.new.self ≡ c.args.self.now) (c.in_err-hear_first-in-Some.ensures.err ∙ c.first_slot.ensures.stays)
+pub returns-in_err-deliver_at-in-Some-clause-err : goal.returns-in_err-deliver_at-in-Some-clause-err
+returns-in_err-deliver_at-in-Some-clause-err g c =
+    on_err c.from_residual.result (c.deliver_at.new.self ≡ c.args.self.now) (c.in_err-deliver_at-in-Some.ensures.err ∙ c.first_slot.ensures.stays)
 
 pub returns-in-Some-clause-ok : goal.returns-in-Some-clause-ok
 returns-in-Some-clause-ok g c =
-    record { slot = c.in-Some.slot; first = c.in-Some.ensures.some.first; hears = between (λ (d e : Lent (Given g.row.P-Name.Denot g.row.P-Out.Denot g.row.P-In.Denot) g.row.P-Name.Denot g.row.P-Story.Denot). HearsFrom c.in-Some.slot d e) c.first_slot.ensures.stays c.forget_ended.ensures c.in_ok-hear_first-in-Some.ensures.ok }
+    record { slot = c.in-Some.slot; first = c.in-Some.ensures.some.first; hears = subst (λ (d : Lent (Given g.row.P-Name.Denot g.row.P-Out.Denot g.row.P-In.Denot) g.row.P-Name.Denot g.row.P-Story.Denot). HearsFrom c.in-Some.slot d c.deliver_at.new.self) c.first_slot.ensures.stays c.in_ok-deliver_at-in-Some.ensures.ok }
 
 pub returns-in-Some-clause-counts : goal.returns-in-Some-clause-counts
 returns-in-Some-clause-counts g c =
-    between (λ (d e : Lent (Given g.row.P-Name.Denot g.row.P-Out.Denot g.row.P-In.Denot) g.row.P-Name.Denot g.row.P-Story.Denot). CountsWith g.P.Pipes.known.out_name (g.H.Holder.counts c.args.holder.now) (moments_of d) (moments_of e) (g.H.Holder.holding c.args.holder.now)) c.first_slot.ensures.stays c.forget_ended.ensures c.hear_first.ensures.counts
+    subst (λ (d : Lent (Given g.row.P-Name.Denot g.row.P-Out.Denot g.row.P-In.Denot) g.row.P-Name.Denot g.row.P-Story.Denot). CountsWith g.P.Pipes.known.out_name (g.H.Holder.counts c.args.holder.now) (moments_of d) (moments_of c.deliver_at.new.self) (g.H.Holder.holding c.args.holder.now)) c.first_slot.ensures.stays c.deliver_at.ensures.counts
 
 pub returns-in-Some-clause-brings : goal.returns-in-Some-clause-brings
 returns-in-Some-clause-brings g c =
-    between (λ (d e : Lent (Given g.row.P-Name.Denot g.row.P-Out.Denot g.row.P-In.Denot) g.row.P-Name.Denot g.row.P-Story.Denot). BringsWith g.P.Pipes.known.out_name g.P.Pipes.known.in_name (moments_of d) (moments_of e) d.past.given e.past.given) c.first_slot.ensures.stays c.forget_ended.ensures c.hear_first.ensures.brings
+    subst (λ (d : Lent (Given g.row.P-Name.Denot g.row.P-Out.Denot g.row.P-In.Denot) g.row.P-Name.Denot g.row.P-Story.Denot). BringsWith g.P.Pipes.known.out_name g.P.Pipes.known.in_name (moments_of d) (moments_of c.deliver_at.new.self) d.past.given c.deliver_at.new.self.past.given) c.first_slot.ensures.stays c.deliver_at.ensures.brings
 
 pub returns-in-Some-clause-given : goal.returns-in-Some-clause-given
 returns-in-Some-clause-given g c =
-    between (λ (d e : Lent (Given g.row.P-Name.Denot g.row.P-Out.Denot g.row.P-In.Denot) g.row.P-Name.Denot g.row.P-Story.Denot). TakesEnds d.past.given e.past.given) c.first_slot.ensures.stays c.forget_ended.ensures c.hear_first.ensures.given
+    subst (λ (d : Lent (Given g.row.P-Name.Denot g.row.P-Out.Denot g.row.P-In.Denot) g.row.P-Name.Denot g.row.P-Story.Denot). TakesEnds d.past.given c.deliver_at.new.self.past.given) c.first_slot.ensures.stays c.deliver_at.ensures.given
 
 pub returns-in-Some-clause-keeps : goal.returns-in-Some-clause-keeps
 returns-in-Some-clause-keeps g c =
-    between (λ (d e : Lent (Given g.row.P-Name.Denot g.row.P-Out.Denot g.row.P-In.Denot) g.row.P-Name.Denot g.row.P-Story.Denot). KeepsUp e.caller (moments_of d) (moments_of e) (g.H.Holder.holding c.args.holder.now) (g.H.Holder.holding c.hear_first.new.holder)) c.first_slot.ensures.stays c.forget_ended.ensures c.hear_first.ensures.keeps
+    subst (λ (d : Lent (Given g.row.P-Name.Denot g.row.P-Out.Denot g.row.P-In.Denot) g.row.P-Name.Denot g.row.P-Story.Denot). KeepsUp c.deliver_at.new.self.caller (moments_of d) (moments_of c.deliver_at.new.self) (g.H.Holder.holding c.args.holder.now) (g.H.Holder.holding c.deliver_at.new.holder)) c.first_slot.ensures.stays c.deliver_at.ensures.keeps
 
 pub note_look-requires : goal.note_look-requires
 note_look-requires g c =
@@ -97,6 +95,6 @@ pub returns-in-None-clause-keeps : goal.returns-in-None-clause-keeps
 returns-in-None-clause-keeps g c =
     subst (λ (d : Lent (Given g.row.P-Name.Denot g.row.P-Out.Denot g.row.P-In.Denot) g.row.P-Name.Denot g.row.P-Story.Denot). KeepsUp c.note_look.new.self.caller (moments_of d) (moments_of c.note_look.new.self) (g.H.Holder.holding c.args.holder.now) (g.H.Holder.holding c.args.holder.now)) c.first_slot.ensures.stays (c.note_look.ensures.keeps (g.H.Holder.holding c.args.holder.now) (subst (λ (d : Lent (Given g.row.P-Name.Denot g.row.P-Out.Denot g.row.P-In.Denot) g.row.P-Name.Denot g.row.P-Story.Denot). HasWhatTheySay d.caller (moments_of d) (g.H.Holder.holding c.args.holder.now)) (sym c.first_slot.ensures.stays) c.requires.has))
 
-pub returns-in_err-hear_first-in-Some-clause-succeeds : goal.returns-in_err-hear_first-in-Some-clause-succeeds
-returns-in_err-hear_first-in-Some-clause-succeeds g c =
-    λ none. absurd (never (c.in_err-hear_first-in-Some.ensures.succeeds (subst (λ (d : Lent (Given g.row.P-Name.Denot g.row.P-Out.Denot g.row.P-In.Denot) g.row.P-Name.Denot g.row.P-Story.Denot). NoBindWaits (control_of d.past) c.in-Some.slot.0) (sym c.first_slot.ensures.stays) (none c.in-Some.slot.0 c.in-Some.ensures.some.here))))
+pub returns-in_err-deliver_at-in-Some-clause-succeeds : goal.returns-in_err-deliver_at-in-Some-clause-succeeds
+returns-in_err-deliver_at-in-Some-clause-succeeds g c =
+    λ none. absurd (never (c.in_err-deliver_at-in-Some.ensures.succeeds (subst (λ (d : Lent (Given g.row.P-Name.Denot g.row.P-Out.Denot g.row.P-In.Denot) g.row.P-Name.Denot g.row.P-Story.Denot). NoBindWaits (control_of d.past) c.in-Some.slot.0) (sym c.first_slot.ensures.stays) (none c.in-Some.slot.0 c.in-Some.ensures.some.here))))

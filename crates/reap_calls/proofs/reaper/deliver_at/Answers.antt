@@ -1,0 +1,40 @@
+use Rattle.std.proofs.Common.{List, refl, sym, subst}
+use Rattle.std.specs.Prelude.{slice_index_or}
+use Rattle.std.specs.List.{Contains}
+use Rattle.std.proofs.lemmas.List.Elements.{Contains-append_left, All-contains_itself}
+use Rattle.ctl_holder.specs.declared.given.Given.{Given}
+use Rattle.ctl_history.specs.Past.{control_of}
+use Rattle.ctl_plane.specs.Desk.{counts_with}
+use Rattle.reaper_ends.specs.declared.sockets.ClosedSockets.{ClosedSockets}
+use Rattle.reaper_ends.specs.Coming.{IsBrought}
+use Rattle.reaper_ends.specs.Counting.{counts_of}
+use Rattle.reaper_ends.specs.Has.{holding_in}
+use Rattle.reaper_ends.specs.Sound.{MayJoin, MayTake}
+use Rattle.reap_calls.specs.Calls.{ChangesClosed}
+use Rattle.reap_calls.proofs.reaper.deliver_at.Goals as goal
+
+pub deliver_at_lent-answer-requires-clause-binds : goal.deliver_at_lent-answer-requires-clause-binds
+deliver_at_lent-answer-requires-clause-binds g c = λ m i served e x comes writes reads.
+    subst (λ (p : g.row.P.Denot). MayJoin g.P.Pipes.known p c.replace-moved.result x) (sym c.replace-lent.ensures.value)
+    (subst (λ (y : ClosedSockets _ _ _). MayJoin g.P.Pipes.known c.args.pipes.now y x) (sym c.replace-moved.ensures.value) (c.requires.binds m i served e x comes writes reads))
+
+pub deliver_at_lent-answer-requires-clause-takes : goal.deliver_at_lent-answer-requires-clause-takes
+deliver_at_lent-answer-requires-clause-takes g c = λ o ends rest is its. (
+  subst (λ (p : g.row.P.Denot). MayTake g.P.Pipes.known p c.replace-moved.result ends) (sym c.replace-lent.ensures.value)
+      (subst (λ (y : ClosedSockets _ _ _). MayTake g.P.Pipes.known c.args.pipes.now y ends) (sym c.replace-moved.ensures.value) (c.requires.takes o ends rest is its)),
+  λ k d lt. record { one = subst (λ (l : List (Given _ _ _)). Contains l (slice_index_or ends k d)) (sym is) (Contains-append_left ends rest (slice_index_or ends k d) (All-contains_itself ends k d lt)); its = its k d lt },
+)
+
+pub returns-clause-counts : goal.returns-clause-counts
+returns-clause-counts g c = λ m is.
+    let of = λ (p : g.row.P.Denot) (y : ClosedSockets _ _ _). counts_with g.P.Pipes.known.out_name (λ e writer. counts_of g.P.Pipes.known p y.sockets.items e writer) (holding_in g.P.Pipes.known.out_name g.P.Pipes.known.in_name y) m.item in
+    subst (λ (p : g.row.P.Denot). of p c.args.closed.now) c.replace-lent.ensures.value
+    (subst (λ (y : ClosedSockets _ _ _). of c.replace-lent.result y) c.replace-moved.ensures.value (c.deliver_at_lent-answer.ensures.counts m is))
+
+pub returns-clause-changes : goal.returns-clause-changes
+returns-clause-changes g c =
+    let x = c.deliver_at_lent-answer in
+    let brings = IsBrought (control_of c.args.desk.now.past) c.args.desk.now.past.given in
+    subst (λ (p : g.row.P.Denot). ChangesClosed g.P.Pipes.known brings p c.args.closed.now x.result.pipes x.result.closed) c.replace-lent.ensures.value
+    (subst (λ (y : ClosedSockets _ _ _). ChangesClosed g.P.Pipes.known brings c.replace-lent.result y x.result.pipes x.result.closed) c.replace-moved.ensures.value
+    (x.ensures.changes c.replace-lent.result c.replace-moved.result (refl, refl)))
