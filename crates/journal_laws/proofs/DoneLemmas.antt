@@ -11,33 +11,36 @@ use Rattle.spec_pattern.specs.PipeStep.{committed_to, taken_from}
 use Rattle.spec_control.specs.Place.{is_unmade}
 use Rattle.spec_control.specs.Rows.{PairRow}
 use Rattle.spec_control.specs.Control.{Control, Settlement, is_end, end_of, next_pair, place_of}
-use Rattle.spec_journal.specs.Run.{Schedule}
 use Rattle.control_rows.proofs.ListLemmas.{and}
 use Rattle.spec_run.specs.declared.journal.SettledRow.{SettledRow}
 use Rattle.spec_run.specs.declared.journal.RunJournal.{RunJournal}
 use Rattle.spec_run.specs.LineCall.{RunScript}
-use Rattle.spec_run.specs.OwnedRun.{OwnedRun, every_pipe, all_steps, control_at_end}
+use Rattle.spec_run.specs.OwnedRun.{OwnedRun, IsRun, every_pipe, all_steps, control_at_end}
 use Rattle.spec_run.specs.Fate.{settled_row}
-use Rattle.spec_run.specs.RunJournal.{IsRunJournal, journal_at, object_shown, run_journal, row_if, row_shown, rows_by}
+use Rattle.spec_run.specs.RunLaws.{MessagesHaveOneFate}
+use Rattle.spec_run.specs.RunJournal.{journal_at, object_shown, run_journal, row_if, row_shown, rows_by}
 use Rattle.run_laws.specs.EndOrder.{EndInOrder, ObjectsEndInOrder}
 use Rattle.run_laws.specs.DoneRuns.{NothingIsLeft, IsDoneWhole, DoneRunsLeaveNothing}
-use Rattle.done_laws.specs.LocalScript.{is_local_script, LocalScriptsRunLocally}
+use Rattle.done_laws.specs.LocalScript.{LocalScriptsRunLocally}
 use Rattle.journal_laws.specs.ObjectsListed.{is_line_of, ListsObjects, ListsAllEnded}
 use Rattle.journal_laws.specs.RowsListed.{IsWholeRow, KeepsOrder, ListsRows, ListsEachPipe, row_place}
-use Rattle.journal_laws.specs.JournalLaws.{JournalsListObjects, SaysOfPipes, DoneJournalsAreWhole, LocalPairsAreMade}
+use Rattle.journal_laws.specs.JournalLaws.{SaysOfObjects, SaysOfPipes, LeavesNothing, JournalsListObjects, DoneJournalsAreWhole, LocalPairsAreMade, JournalsByEventsSayAsMuch}
 use Rattle.journal_laws.proofs.ObjectLemmas.{count_lines, listed, lists_objects}
 use Rattle.journal_laws.proofs.LivingLemmas.{lists_living}
 use Rattle.journal_laws.proofs.RowLemmas.{IfRow, IsGood, shown_good, row_there, rows_counted, each_row}
 
 -- ---- objects
 
-pub journals_list : (N S : Type 0) → ObjectsEndInOrder N S → JournalsListObjects N S
-journals_list N S in_order script schedule j is = record {
+says_of_objects : (N S : Type 0) → ObjectsEndInOrder N S → (script : RunScript) (j : RunJournal) (run : OwnedRun N S) → IsRun script 1 every_pipe run → j ≡ run_journal script 1 run → SaysOfObjects run j
+says_of_objects N S in_order script j run is_run journal_is = record {
   listed =
-      subst (λ (x : RunJournal). ListsObjects (control_at_end 1 is.run) x) (sym is.journal_is)
-      (lists_objects (control_at_end 1 is.run) script is.run (in_order script 1 every_pipe is.run is.is_run));
+      subst (λ (x : RunJournal). ListsObjects (control_at_end 1 run) x) (sym journal_is)
+      (lists_objects (control_at_end 1 run) script run (in_order script 1 every_pipe run is_run));
   «living» = lists_living j;
 }
+
+pub journals_list : (N S : Type 0) → ObjectsEndInOrder N S → JournalsListObjects N S
+journals_list N S in_order script schedule j is = says_of_objects N S in_order script j is.run is.is_run is.journal_is
 
 -- ---- rows
 
@@ -68,28 +71,28 @@ module _ {N S : Type 0} (c : Control) (script : RunScript) (run : OwnedRun N S) 
     each = λ k a row above within at. pipe_shown (end_of k a) (row_shown c run (end_of k a)) row (good (end_of k a)) (some_is (sym (shown_at k a above within) ∙ at));
   }
 
-module _ {N S : Type 0} (script : RunScript) (schedule : Schedule) (j : RunJournal) (is : IsRunJournal N S script schedule j) where
+module _ {N S : Type 0} (script : RunScript) (j : RunJournal) (run : OwnedRun N S) (is_run : IsRun script 1 every_pipe run) (journal_is : j ≡ run_journal script 1 run) where
   abbrev at_end : Control
-  at_end = control_at_end 1 is.run
+  at_end = control_at_end 1 run
 
-  row_good : (p : PipeId) → IfRow (IsGood is.run p) (row_shown at_end is.run p)
-  row_good p = let front : IsPrefix (taken_from p (all_steps is.run)) (committed_to p (all_steps is.run)) = is.is_run.in_order p refl in shown_good at_end is.run p front.0 (sym front.1) is.is_run.ended
+  row_good : (p : PipeId) → IfRow (IsGood run p) (row_shown at_end run p)
+  row_good p = let front : IsPrefix (taken_from p (all_steps run)) (committed_to p (all_steps run)) = is_run.in_order p refl in shown_good at_end run p front.0 (sym front.1) is_run.ended
 
-  whole_if : (P : SettledRow → Type 0) → ((p : PipeId) (row : SettledRow) → IsGood is.run p row → P row) → (row : SettledRow) → Contains j.pipes (Some row) → P row
+  whole_if : (P : SettledRow → Type 0) → ((p : PipeId) (row : SettledRow) → IsGood run p row → P row) → (row : SettledRow) → Contains j.pipes (Some row) → P row
   whole_if P from row held =
       All-contains (IfRow P) j.pipes (Some row)
-      (subst (λ (x : RunJournal). All (IfRow P) x.pipes) (sym is.journal_is) (each_row P (row_shown at_end is.run) (λ p. by p (row_shown at_end is.run p) (row_good p)) 1 (drop 1 at_end.rows.pairs))) held
+      (subst (λ (x : RunJournal). All (IfRow P) x.pipes) (sym journal_is) (each_row P (row_shown at_end run) (λ p. by p (row_shown at_end run p) (row_good p)) 1 (drop 1 at_end.rows.pairs))) held
     where
-      by : (p : PipeId) (o : Option SettledRow) → IfRow (IsGood is.run p) o → IfRow P o
+      by : (p : PipeId) (o : Option SettledRow) → IfRow (IsGood run p) o → IfRow P o
       by p None good = tt
       by p (Some x) good = from p x good
 
-  pub says_of_pipes : SaysOfPipes N S script schedule j is
+  pub says_of_pipes : SaysOfPipes run j
   says_of_pipes = record {
-    rows = subst (λ (x : RunJournal). ListsRows at_end x) (sym is.journal_is) (rows_listed at_end script is.run row_good);
+    rows = subst (λ (x : RunJournal). ListsRows at_end x) (sym journal_is) (rows_listed at_end script run row_good);
     whole = whole_if IsWholeRow (λ p row good. good.whole);
-    order = whole_if (KeepsOrder is.run) (λ p row good. good.order);
-    taken = λ p. is.is_run.in_order p refl;
+    order = whole_if (KeepsOrder run) (λ p row good. good.order);
+    taken = λ p. is_run.in_order p refl;
   }
 
 -- ---- a run that is done
@@ -145,25 +148,41 @@ module _ {N S : Type 0} (c : Control) (script : RunScript) (run : OwnedRun N S) 
           let pairs = length-drop 1 c.rows.pairs in
           ap is_some (row_settled k a (omega (arith, low)) (omega (arith, pairs, low, high)) (made k (not a)))
 
-module _ (N S : Type 0) (in_order : ObjectsEndInOrder N S) (leave : DoneRunsLeaveNothing N S) (run_locally : LocalScriptsRunLocally N S) (pairs : LocalPairsAreMade N S) where
-  pub done_whole : DoneJournalsAreWhole N S
-  done_whole script schedule j is done = record {
-    objects = subst (λ (x : RunJournal). ListsAllEnded x) (sym is.journal_is) (record { each = each; none_live = whole.none_live });
-    pipes = subst (λ (x : RunJournal). ListsEachPipe c x) (sym is.journal_is) (lists_each c script is.run order whole.nothing_left);
-    all = λ plain. subst (λ (x : RunJournal). list_all is_some x.pipes ≡ true) (sym is.journal_is) (lists_all c script is.run order whole.nothing_left (made plain));
+module _ (N S : Type 0) (in_order : ObjectsEndInOrder N S) (leave : DoneRunsLeaveNothing N S) (script : RunScript) (j : RunJournal) (run : OwnedRun N S) (is_run : IsRun script 1 every_pipe run) (journal_is : j ≡ run_journal script 1 run) (done : j.done ≡ true) where
+  abbrev end : Control
+  end = control_at_end 1 run
+
+  ordered : EndInOrder end
+  ordered = in_order script 1 every_pipe run is_run
+
+  whole : IsDoneWhole script 1 run
+  whole = leave script 1 every_pipe run is_run (ap (λ (x : RunJournal). x.done) (sym journal_is) ∙ done)
+
+  each_once : (i : ℕ) → i < length (run_journal script 1 run).objects → count_by (is_line_of i) (run_journal script 1 run).ended ≡ 1
+  each_once i lt = let objects = length-map end.rows.objects object_shown in ends_once end script run ordered whole.nothing_left i (omega (arith, objects, lt))
+
+  leaves_nothing : LeavesNothing run j
+  leaves_nothing = record {
+    objects = subst (λ (x : RunJournal). ListsAllEnded x) (sym journal_is) (record { each = each_once; none_live = whole.none_live });
+    pipes = subst (λ (x : RunJournal). ListsEachPipe end x) (sym journal_is) (lists_each end script run ordered whole.nothing_left);
   }
-    where
-      c : Control
-      c = control_at_end 1 is.run
 
-      order : EndInOrder c
-      order = in_order script 1 every_pipe is.run is.is_run
+  all_shown : ((k : ℕ) (a : Bool) → is_unmade (place_of end (end_of k a)) ≡ false) → list_all is_some j.pipes ≡ true
+  all_shown made = subst (λ (x : RunJournal). list_all is_some x.pipes ≡ true) (sym journal_is) (lists_all end script run ordered whole.nothing_left made)
 
-      whole : IsDoneWhole script 1 is.run
-      whole = leave script 1 every_pipe is.run is.is_run (ap (λ (x : RunJournal). x.done) (sym is.journal_is) ∙ done)
+pub done_whole : (N S : Type 0) → ObjectsEndInOrder N S → DoneRunsLeaveNothing N S → LocalScriptsRunLocally N S → LocalPairsAreMade N S → DoneJournalsAreWhole N S
+done_whole N S in_order leave run_locally pairs script schedule j is done = record {
+  nothing = leaves_nothing N S in_order leave script j is.run is.is_run is.journal_is done;
+  all = λ plain. all_shown N S in_order leave script j is.run is.is_run is.journal_is done
+      (pairs 1 is.run.order is.is_run.control (run_locally script 1 schedule.turns schedule.seed is.turned is.run is.in_turns is.one_thread plain));
+}
 
-      each : (i : ℕ) → i < length (run_journal script 1 is.run).objects → count_by (is_line_of i) (run_journal script 1 is.run).ended ≡ 1
-      each i lt = let objects = length-map c.rows.objects object_shown in ends_once c script is.run order whole.nothing_left i (omega (arith, objects, lt))
+-- ---- and by events
 
-      made : is_local_script script ≡ true → (k : ℕ) (a : Bool) → is_unmade (place_of c (end_of k a)) ≡ false
-      made plain k a = pairs 1 is.run.order is.is_run.control (run_locally script 1 schedule.turns schedule.seed is.turned is.run is.in_turns is.one_thread plain) k a
+pub events_say : (N S : Type 0) → ObjectsEndInOrder N S → DoneRunsLeaveNothing N S → MessagesHaveOneFate N S → JournalsByEventsSayAsMuch N S
+events_say N S in_order leave fated script events j is = record {
+  objects = says_of_objects N S in_order script j is.run is.is_run is.journal_is;
+  pipes = says_of_pipes script j is.run is.is_run is.journal_is;
+  fates = fated script 1 every_pipe is.run is.is_run;
+  done = λ done. leaves_nothing N S in_order leave script j is.run is.is_run is.journal_is done;
+}

@@ -1,4 +1,4 @@
--- What a journal of a run over sockets that end says, whatever the script, the seed and the turns (own choice).
+-- What a journal of a run over sockets that end says, whatever the script, and whatever the seed and the turns, or the events (own choice).
 use Rattle.std.specs.Prelude.{◌≡◌, ℕ, Bool, true, false, List, Some, Contains, is_some}
 use Rattle.std.specs.List.{list_all}
 use mathlib.Core.List.{IsPrefix}
@@ -12,41 +12,58 @@ use Rattle.spec_journal.specs.Run.{Schedule}
 use Rattle.spec_run.specs.declared.journal.SettledRow.{SettledRow}
 use Rattle.spec_run.specs.declared.journal.RunJournal.{RunJournal}
 use Rattle.spec_run.specs.LineCall.{RunScript}
-use Rattle.spec_run.specs.OwnedRun.{all_steps, control_at_end}
-use Rattle.spec_run.specs.RunJournal.{IsRunJournal}
+use Rattle.spec_run.specs.OwnedRun.{OwnedRun, all_steps, control_at_end}
+use Rattle.spec_run.specs.Fate.{HaveOneFate}
+use Rattle.spec_run.specs.RunJournal.{IsRunJournal, WasSettled}
+use Rattle.spec_run.specs.CoreEvents.{CoreEvent, IsEventsJournal}
 use Rattle.replay_laws.specs.Local.{is_local_item}
 use Rattle.done_laws.specs.LocalScript.{is_local_script}
 use Rattle.journal_laws.specs.ObjectsListed.{ListsObjects, ListsAllEnded, ListsTheLiving}
 use Rattle.journal_laws.specs.RowsListed.{IsWholeRow, KeepsOrder, ListsRows, ListsEachPipe}
 
--- the objects that have ended are listed, each once, and behind what it owns; those that live are listed where the run is not done
-pub record SaysOfObjects (N S : Type 0) (script : RunScript) (schedule : Schedule) (j : RunJournal) (is : IsRunJournal N S script schedule j) : Type 0 where
-  pub listed : ListsObjects (control_at_end 1 is.run) j
-  pub «living» : ListsTheLiving j
+module _ {N S : Type 0} (run : OwnedRun N S) (j : RunJournal) where
+  -- the objects that have ended are listed, each once, and behind what it owns; those that live are listed where the run is not done
+  pub record SaysOfObjects : Type 0 where
+    pub listed : ListsObjects (control_at_end 1 run) j
+    pub «living» : ListsTheLiving j
+
+  -- each row that is shown adds up, and is of a pipe whose messages were taken in order
+  pub record SaysOfPipes : Type 0 where
+    pub rows : ListsRows (control_at_end 1 run) j
+    pub whole : (row : SettledRow) → Contains j.pipes (Some row) → IsWholeRow row
+    pub order : (row : SettledRow) → Contains j.pipes (Some row) → KeepsOrder run row
+    -- and so of each pipe, settled or not
+    pub taken : (p : PipeId) → IsPrefix (taken_from p (all_steps run)) (committed_to p (all_steps run))
+
+  -- nothing is left: each object has ended, and each pipe of each pair that was made is settled
+  pub record LeavesNothing : Type 0 where
+    pub objects : ListsAllEnded j
+    pub pipes : ListsEachPipe (control_at_end 1 run) j
 
 abbrev pub JournalsListObjects : (N S : Type 0) → Type 0
-JournalsListObjects N S = (script : RunScript) (schedule : Schedule) (j : RunJournal) → (is : IsRunJournal N S script schedule j) → SaysOfObjects N S script schedule j is
-
--- each row that is shown adds up, and is of a pipe whose messages were taken in order
-pub record SaysOfPipes (N S : Type 0) (script : RunScript) (schedule : Schedule) (j : RunJournal) (is : IsRunJournal N S script schedule j) : Type 0 where
-  pub rows : ListsRows (control_at_end 1 is.run) j
-  pub whole : (row : SettledRow) → Contains j.pipes (Some row) → IsWholeRow row
-  pub order : (row : SettledRow) → Contains j.pipes (Some row) → KeepsOrder is.run row
-  -- and so of each pipe, settled or not
-  pub taken : (p : PipeId) → IsPrefix (taken_from p (all_steps is.run)) (committed_to p (all_steps is.run))
+JournalsListObjects N S = (script : RunScript) (schedule : Schedule) (j : RunJournal) → (is : IsRunJournal N S script schedule j) → SaysOfObjects is.run j
 
 abbrev pub JournalsCountMessages : (N S : Type 0) → Type 0
-JournalsCountMessages N S = (script : RunScript) (schedule : Schedule) (j : RunJournal) → (is : IsRunJournal N S script schedule j) → SaysOfPipes N S script schedule j is
+JournalsCountMessages N S = (script : RunScript) (schedule : Schedule) (j : RunJournal) → (is : IsRunJournal N S script schedule j) → SaysOfPipes is.run j
 
--- where a run is done, nothing is left: each object has ended, and each pipe of each pair that was made is settled; without tcp each pair was made
+-- where a run is done, nothing is left; without tcp each pair was made
 pub record SaysOfTheDone (N S : Type 0) (script : RunScript) (schedule : Schedule) (j : RunJournal) (is : IsRunJournal N S script schedule j) : Type 0 where
-  pub objects : ListsAllEnded j
-  pub pipes : ListsEachPipe (control_at_end 1 is.run) j
+  pub nothing : LeavesNothing is.run j
   pub all : is_local_script script ≡ true → list_all is_some j.pipes ≡ true
 
 abbrev pub DoneJournalsAreWhole : (N S : Type 0) → Type 0
 DoneJournalsAreWhole N S = (script : RunScript) (schedule : Schedule) (j : RunJournal) → (is : IsRunJournal N S script schedule j) → j.done ≡ true →
     SaysOfTheDone N S script schedule j is
+
+-- and by a list of events, in whatever order letters are taken: each message of a settled pipe has one fate, too
+pub record SaysOfEvents (N S : Type 0) (script : RunScript) (events : List CoreEvent) (j : RunJournal) (is : IsEventsJournal N S script events j) : Type 0 where
+  pub objects : SaysOfObjects is.run j
+  pub pipes : SaysOfPipes is.run j
+  pub fates : (p : PipeId) → WasSettled (control_at_end 1 is.run) p → HaveOneFate (control_at_end 1 is.run) is.run p
+  pub done : j.done ≡ true → LeavesNothing is.run j
+
+abbrev pub JournalsByEventsSayAsMuch : (N S : Type 0) → Type 0
+JournalsByEventsSayAsMuch N S = (script : RunScript) (events : List CoreEvent) (j : RunJournal) → (is : IsEventsJournal N S script events j) → SaysOfEvents N S script events j is
 
 -- over inproc alone each pair is made as its number is drawn
 abbrev pub LocalPairsAreMade : (N S : Type 0) → Type 0

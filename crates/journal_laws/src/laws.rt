@@ -1,8 +1,10 @@
 ghost use Rattle.journal_laws.specs.JournalLaws.{JournalsListObjects, JournalsCountMessages};
 ghost use Rattle.journal_laws.specs.JournalLaws.{DoneJournalsAreWhole, LocalPairsAreMade};
+ghost use Rattle.journal_laws.specs.JournalLaws.{JournalsByEventsSayAsMuch};
 
 use done_laws::local_scripts_run_locally;
 use run_laws::{done_runs_leave_nothing, objects_end_once_and_in_order};
+use spec_run::each_settled_message_has_one_fate;
 
 /// A journal shows each object that was made, lists those that have ended, each once and behind what it
 /// owns, and, where the run is not done, those that live.
@@ -32,4 +34,14 @@ pub fn done_journals_are_whole<N, S>()
     done_runs_leave_nothing::<N, S>();
     local_scripts_run_locally::<N, S>();
     local_pairs_are_made::<N, S>();
+}
+
+/// A journal of a run by any list of events says as much: its objects are listed, its rows add up, each
+/// message of a settled pipe has one fate, and where it is done nothing is left.
+pub fn journals_by_events_say_as_much<N, S>()
+    ensures { JournalsByEventsSayAsMuch N S }
+{
+    objects_end_once_and_in_order::<N, S>();
+    done_runs_leave_nothing::<N, S>();
+    each_settled_message_has_one_fate::<N, S>();
 }

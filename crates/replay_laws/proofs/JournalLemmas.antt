@@ -40,7 +40,7 @@ counted_one steps x y f g e =
     let rest = one_count x.counts.sent x.counts.got x.counts.rest y.counts.sent y.counts.got y.counts.rest sent got f.sum g.sum in
     λ i. record { end = end i; counts = record { sent = sent i; got = got i; rest = rest i }; reason = (e i).reason }
 
-counted_same : (steps : List PipeStep) (xs ys : List Settlement) → AreCountedBy steps xs → AreCountedBy steps ys → map uncounted xs ≡ map uncounted ys → xs ≡ ys
+pub counted_same : (steps : List PipeStep) (xs ys : List Settlement) → AreCountedBy steps xs → AreCountedBy steps ys → map uncounted xs ≡ map uncounted ys → xs ≡ ys
 counted_same steps [] [] f g e = refl
 counted_same steps [] (y ∷ ys) f g e = absurd (nope e)
   where
@@ -57,7 +57,7 @@ counted_same steps (x ∷ xs) (y ∷ ys) f g e =
     let rest = counted_same steps xs ys f.1 g.1 tail in
     λ i. one i ∷ rest i
 
-whole_again : (c d : Control) → blank c ≡ blank d → c.settlements ≡ d.settlements → c ≡ d
+pub whole_again : (c d : Control) → blank c ≡ blank d → c.settlements ≡ d.settlements → c ≡ d
 whole_again c d p e = λ i. record (p i) { settlements = e i }
 
 pub none_open : (script : RunScript) (w : ℕ) → (at_place (map standing_before script) w).mine.socks ≡ []
@@ -70,7 +70,7 @@ shows_nothing = record { steps = []; skips = []; entries = [] }
 
 module _ {N S : Type 0} where
   -- what each worker's deeds show
-  abbrev bares_of : List (List (List (Deed N S))) → List (List Bare)
+  abbrev pub bares_of : List (List (List (Deed N S))) → List (List Bare)
   bares_of workers = map (λ steps. map bare (deeds_in steps)) workers
 
   -- ---- what is shown of deeds is a function of what is bare
@@ -124,10 +124,10 @@ module _ {N S : Type 0} where
   all_bare g h e = flat_bare g.workers ∙ ap (flat_map (λ l. l)) e ∙ sym (flat_bare h.workers)
 
   -- ---- the journal
-  same_steps_of : (g h : OwnedRun N S) → bares_of g.workers ≡ bares_of h.workers → all_steps g ≡ all_steps h
+  pub same_steps_of : (g h : OwnedRun N S) → bares_of g.workers ≡ bares_of h.workers → all_steps g ≡ all_steps h
   same_steps_of g h bares = steps_bare (all_deeds g) ∙ ap (flat_map (λ (b : Bare). b.steps)) (all_bare g h bares) ∙ sym (steps_bare (all_deeds h))
 
-  journals : (script : RunScript) (g h : OwnedRun N S) → bares_of g.workers ≡ bares_of h.workers → control_at_end 1 g ≡ control_at_end 1 h → run_journal script 1 g ≡ run_journal script 1 h
+  pub journals : (script : RunScript) (g h : OwnedRun N S) → bares_of g.workers ≡ bares_of h.workers → control_at_end 1 g ≡ control_at_end 1 h → run_journal script 1 g ≡ run_journal script 1 h
   journals script g h bares ends =
       let deeds = all_bare g h bares in
       let steps = same_steps_of g h bares in

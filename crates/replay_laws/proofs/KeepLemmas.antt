@@ -56,7 +56,7 @@ each_filter c test (s ∷ socks) each = by (test s) (each_filter c test socks ea
     by true rest = (each.0, rest)
     by false rest = rest
 
-each_with : (c : Control) (s : OpenSock) (socks : List OpenSock) → Stands c s → EachStands c socks → EachStands c (map (λ old. if old.object == s.object then s else old) socks)
+pub each_with : (c : Control) (s : OpenSock) (socks : List OpenSock) → Stands c s → EachStands c socks → EachStands c (map (λ old. if old.object == s.object then s else old) socks)
 each_with c s [] stands each = tt
 each_with c s (x ∷ socks) stands each = (by (x.object == s.object), each_with c s socks stands each.1)
   where

@@ -40,7 +40,7 @@ abbrev pub EachStands : Control → List OpenSock → Type 0
 EachStands c [] = Unit {0}
 EachStands c (s ∷ socks) = Stands c s × EachStands c socks
 
-found_stands : (c : Control) (test : OpenSock → Bool) (socks : List OpenSock) (s : OpenSock) → EachStands c socks → find test socks ≡ Some s → Stands c s
+pub found_stands : (c : Control) (test : OpenSock → Bool) (socks : List OpenSock) (s : OpenSock) → EachStands c socks → find test socks ≡ Some s → Stands c s
 found_stands c test [] s each e = absurd (nope e)
   where
     nope : ◌≡◌ {A = Option OpenSock} None (Some s) → ⊥

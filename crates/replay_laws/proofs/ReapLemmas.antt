@@ -142,11 +142,15 @@ found_first test x xs y e = by (test x) e
     by false f = inr f
 
 -- a closed socket that was taken over, with this mailbox
-record TakenOver (c : Control) (slot : ℕ) : Type 0 where
-  object : ObjId
-  socket : is_socket (obj c.rows object.0).kind ≡ true
-  used : is_used (obj c.rows object.0).request ≡ true
-  at : (obj c.rows object.0).slot ≡ slot
+pub record TakenOver (c : Control) (slot : ℕ) : Type 0 where
+  pub object : ObjId
+  pub socket : is_socket (obj c.rows object.0).kind ≡ true
+  pub used : is_used (obj c.rows object.0).request ≡ true
+  pub at : (obj c.rows object.0).slot ≡ slot
+
+-- a mailbox is the root's, or that of one
+abbrev pub IsReapers : Control → ℕ → Type 0
+IsReapers c slot = (0 ≡ slot) ⊎ TakenOver c slot
 
 found_closed : (c : Control) (test : ℕ → Bool) (os : List ObjId) (slot : ℕ) → All (λ o. is_socket (obj c.rows o.0).kind ≡ true) os
     → find test (map (λ o. (obj c.rows o.0).slot) (filter (λ o. is_used (obj c.rows o.0).request) os)) ≡ Some slot → TakenOver c slot
@@ -165,7 +169,7 @@ found_closed c test (o ∷ os) slot all e = by (is_used (obj c.rows o.0).request
         ]
     by false used f more = more f
 
-reaper_box : (c : Control) → HaveBoxes c → (slot : ℕ) → first_waiting c ≡ Some slot → (0 ≡ slot) ⊎ TakenOver c slot
+pub reaper_box : (c : Control) → HaveBoxes c → (slot : ℕ) → first_waiting c ≡ Some slot → IsReapers c slot
 reaper_box c boxes slot e =
     elim (found_first (λ k. not (is_none (c.boxes k))) 0 (map (λ o. (obj c.rows o.0).slot) (filter (λ o. is_used (obj c.rows o.0).request) c.closed)) slot e) [
       | inl root ↦ inl root
@@ -179,8 +183,8 @@ session_box w n s Listener is h = absurd (never is)
 session_box w n s Session is h = h
 
 -- who gets a letter of the reaper's is no session, and a socket was taken over
-pub taker_is : (c : Control) → HaveBoxes c → (slot i : ℕ) → first_waiting c ≡ Some slot → (obj c.rows i).slot ≡ slot → is_session (obj c.rows i).kind ≡ false
-taker_is c boxes slot i e at = by (is_session (obj c.rows i).kind) refl
+pub taker_is : (c : Control) → HaveBoxes c → (slot i : ℕ) → IsReapers c slot → (obj c.rows i).slot ≡ slot → is_session (obj c.rows i).kind ≡ false
+taker_is c boxes slot i whose at = by (is_session (obj c.rows i).kind) refl
   where
     by : (b : Bool) → is_session (obj c.rows i).kind ≡ b → b ≡ false
     by false is = refl
@@ -188,7 +192,7 @@ taker_is c boxes slot i e at = by (is_session (obj c.rows i).kind) refl
         let box = session_box c.workers c.slots (obj c.rows i).slot (obj c.rows i).kind is (boxes.each i) in
         let low = box.0 in
         let high = box.1 in
-        elim (reaper_box c boxes slot e) [
+        elim whose [
           | inl root ↦ absurd (omega (arith, root, at, low))
           | inr over ↦
               let above = (socket_box c.workers c.slots (obj c.rows over.object.0).slot (obj c.rows over.object.0).kind over.socket (boxes.each over.object.0)).0 in
@@ -196,9 +200,9 @@ taker_is c boxes slot i e at = by (is_session (obj c.rows i).kind) refl
               absurd (omega (arith, above, same, at, high))
         ]
 
-pub taker_used : (c : Control) → HaveBoxes c → (slot i : ℕ) → first_waiting c ≡ Some slot → (obj c.rows i).slot ≡ slot → is_socket (obj c.rows i).kind ≡ true → UsedSocket (obj c.rows i)
-taker_used c boxes slot i e at is =
-    elim (reaper_box c boxes slot e) [
+pub whose_used : (c : Control) → HaveBoxes c → (slot i : ℕ) → IsReapers c slot → (obj c.rows i).slot ≡ slot → is_socket (obj c.rows i).kind ≡ true → UsedSocket (obj c.rows i)
+whose_used c boxes slot i whose at is =
+    elim whose [
       | inl root ↦
           let above = (socket_box c.workers c.slots (obj c.rows i).slot (obj c.rows i).kind is (boxes.each i)).0 in
           absurd (omega (arith, above, root, at))
@@ -206,3 +210,6 @@ taker_used c boxes slot i e at is =
           let same = boxes.own i over.object.0 is (at ∙ sym over.at) in
           subst (λ n. UsedSocket (obj c.rows n)) (sym same) (record { socket = over.socket; used = over.used })
     ]
+
+pub taker_used : (c : Control) → HaveBoxes c → (slot i : ℕ) → first_waiting c ≡ Some slot → (obj c.rows i).slot ≡ slot → is_socket (obj c.rows i).kind ≡ true → UsedSocket (obj c.rows i)
+taker_used c boxes slot i e at is = whose_used c boxes slot i (reaper_box c boxes slot e) at is

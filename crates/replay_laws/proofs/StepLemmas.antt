@@ -50,7 +50,7 @@ use Rattle.replay_laws.proofs.LetterLemmas.{kept_of, boxes_of, for_living, ends_
 use Rattle.replay_laws.proofs.LookLemmas.{behind_same, behind_walks}
 use Rattle.replay_laws.proofs.PumpLemmas.{same_letter}
 use Rattle.replay_laws.proofs.LineLemmas.{plain_same}
-use Rattle.replay_laws.proofs.ReapLemmas.{steps_used, is_used_as, AllYes, all_yes, told_yes, taker_is, taker_used}
+use Rattle.replay_laws.proofs.ReapLemmas.{steps_used, is_used_as, AllYes, all_yes, told_yes, IsReapers, reaper_box, taker_is, whose_used}
 
 -- ---- which mailbox of the reaper's is not empty
 none_waiting : (c : Control) (os : List ObjId) → All (λ o. (obj c.rows o.0).request ≡ Used → c.boxes (obj c.rows o.0).slot ≡ []) os
@@ -103,7 +103,7 @@ module _ {N S : Type 0} where
       by true e = absurd (never (sym (sym (leaves_out e) ∙ apart)))
       by false e = refl
 
-  reaper_yes : (c : Control) → Reached N S c → (slot : ℕ) (letter : Letter) (g : Answered N S) → first_waiting c ≡ Some slot → Fits c (Delivered (record { 0 = slot }) letter g)
+  reaper_yes : (c : Control) → Reached N S c → (slot : ℕ) (letter : Letter) (g : Answered N S) → IsReapers c slot → Fits c (Delivered (record { 0 = slot }) letter g)
       → ((socket : ObjId) → letter.word ≡ Reap socket → ⊥) → AllYes g.joined
   reaper_yes c r slot letter g first fits none =
       let did : Did N S = Delivered (record { 0 = slot }) letter g in
@@ -116,10 +116,10 @@ module _ {N S : Type 0} where
       let mark_same : mark (obj d.rows i) ≡ mark (obj c.rows i) = sym (mark_of d.rows i)
       ∙ ap (λ l. mark_in l i) (marks_after c did (kept_of c r) fits ∙ ap (λ l. marks c.rows.objects ++ marks l) (word_makes_none i letter.word) ∙ append-nil (marks c.rows.objects)) ∙ mark_of c.rows i in
       all_yes d i g.joined (attached_by (own_moves c did)) ends own
-      (λ is. (steps_used c.rows d.rows steps i (taker_used c (boxes_of c r) slot i first here (sym (ap (λ (m : Mark). is_socket m.kind) mark_same) ∙ is))).used)
+      (λ is. (steps_used c.rows d.rows steps i (whose_used c (boxes_of c r) slot i first here (sym (ap (λ (m : Mark). is_socket m.kind) mark_same) ∙ is))).used)
       fits.answered.kinds
 
-  reaped : (c d : Control) (slot : ℕ) (letter : Letter) (g h : Answered N S) → Reached N S c → Reached N S d → blank c ≡ blank d → first_waiting c ≡ Some slot → first_waiting d ≡ Some slot
+  reaped : (c d : Control) (slot : ℕ) (letter : Letter) (g h : Answered N S) → Reached N S c → Reached N S d → blank c ≡ blank d → IsReapers c slot → IsReapers d slot
       → Fits c (Delivered (record { 0 = slot }) letter g) → Fits d (Delivered (record { 0 = slot }) letter h)
       → blank (after (Delivered (record { 0 = slot }) letter g) c) ≡ blank (after (Delivered (record { 0 = slot }) letter h) d)
   reaped c d slot letter g h r q p first second fits also = by letter.word refl
@@ -178,7 +178,7 @@ module _ {N S : Type 0} where
           other : {s : ObjId} → Stop ≡ Reap s → ⊥
           other f = cc
 
-  reap_same : (cap cup : PipeId → ℕ) (c d : Control) (past : List PipeStep) (slot : ℕ) (xs ys : List (Act N S)) → Reached N S c → Reached N S d → blank c ≡ blank d → first_waiting c ≡ Some slot → first_waiting d ≡ Some slot
+  pub reap_same : (cap cup : PipeId → ℕ) (c d : Control) (past : List PipeStep) (slot : ℕ) (xs ys : List (Act N S)) → Reached N S c → Reached N S d → blank c ≡ blank d → IsReapers c slot → IsReapers d slot
       → Walks cap c past xs → Walks cup d past ys → TakesLetter slot xs → TakesLetter slot ys → Same c d xs ys
   reap_same cap cup c d past slot xs ys r q p first second w w2 t t2 =
       let m = t.taken in
@@ -234,7 +234,7 @@ module _ {N S : Type 0} where
       let first = taken_waits cap c past slot acts one f in
       let second = taken_waits cup d past slot2 acts2 other g in
       let slots = same_slot (first_waiting c) (first_waiting d) slot slot2 (waiting_alike c d p) first second in
-      let same = reap_same cap cup c d past slot acts acts2 r q p first (subst (λ k. first_waiting d ≡ Some k) (sym slots) second) one other f.takes (subst (λ k. TakesLetter k acts2) (sym slots) g.takes) in
+      let same = reap_same cap cup c d past slot acts acts2 r q p (reaper_box c (boxes_of c r) slot first) (reaper_box d (boxes_of d q) slot (subst (λ k. first_waiting d ≡ Some k) (sym slots) second)) one other f.takes (subst (λ k. TakesLetter k acts2) (sym slots) g.takes) in
       record {
         same = same_as c d (acts ++ []) (acts2 ++ []) acts acts2 (alone acts) (alone acts2) same;
         bares = ap (λ l. record { steps = l; skips = []; entries = [] } ∷ []) same.steps;
@@ -270,7 +270,7 @@ module _ {N S : Type 0} where
   reaper_same cap cup c d past (Idles m ∷ []) (x ∷ y ∷ es) r q p w w2 f g = elim g [ ]
 
   -- ---- the beginning of a turn
-  asked_same : (cap cup : PipeId → ℕ) (c d : Control) (past : List PipeStep) (b : Bool) (ds es : List (Deed N S)) → blank c ≡ blank d
+  pub asked_same : (cap cup : PipeId → ℕ) (c d : Control) (past : List PipeStep) (b : Bool) (ds es : List (Deed N S)) → blank c ≡ blank d
       → Walks cap c past (all_acts ds) → Walks cup d past (all_acts es) → AsksIf b ds → AsksIf b es → StepSame c d ds es
   asked_same cap cup c d past true ds es p w w2 (acts, f, is) (acts2, g, is2) =
       let acts_are : all_acts ds ≡ acts_said f.asked = ap all_acts is ∙ alone acts ∙ f.acts_are in

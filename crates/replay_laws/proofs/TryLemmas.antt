@@ -106,7 +106,7 @@ module _ {N S : Type 0} where
   own_behind slot object c Stop acts f = own_none slot object acts f
   own_behind slot object c (Reap socket) acts f = own_none slot object acts f
 
-  own_taken : (slot object : ℕ) (acts : List (Act N S)) → TakesLetter slot acts → OwnItems slot object (moments_in acts)
+  pub own_taken : (slot object : ℕ) (acts : List (Act N S)) → TakesLetter slot acts → OwnItems slot object (moments_in acts)
   own_taken slot object acts t =
       subst (λ l. OwnItems slot object l) (sym (ap moments_in t.acts_are ∙ moments_said t.taken t.looks))
       (its_letter t.delivery.by t.letter t.delivery.answered t.delivery.item_is, own_behind slot object (left_by t.taken) t.letter.word t.looks t.behind)

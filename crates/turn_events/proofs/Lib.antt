@@ -1,0 +1,14 @@
+pub mod DeedLemmas
+pub mod ThinLemmas
+pub mod NameLemmas
+pub mod CloseLemmas
+pub mod AmongLemmas
+pub mod SocketLemmas
+pub mod OpenLemmas
+pub mod EventLemmas
+pub mod BeginLemmas
+pub mod GoLemmas
+pub mod MadeLemmas
+pub mod JournalLemmas
+pub mod OneEventLemmas
+pub mod OneRunLemmas

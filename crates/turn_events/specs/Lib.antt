@@ -1,0 +1,3 @@
+pub mod TurnsAreEvents
+pub mod ChosenExample
+pub mod OneEventsJournal
