@@ -1,5 +1,5 @@
-ghost use Rattle.std.specs.Prelude.{◌≡◌, ◌∷◌, []};
-ghost use Rattle.own_tree.specs.Changes.{root_row};
+ghost use Rattle.std.specs.Prelude.{◌≡◌, ◌∷◌, [], true, OnOk};
+ghost use Rattle.zq_tests_leaves.specs.Trees.{root, made, asked};
 
 use crate::checks::check;
 use own_tree::{Ending, ObjKind, OwnTree, Row, Use};
@@ -9,55 +9,74 @@ use zq_base::{Kind, ObjId, SlotId};
 
 const ROOT: ObjId = ObjId(0);
 
-// Whether a socket that was asked while the Own of its session is in flight waits for the session,
-// which has an end and a Plug to process.
-fn waits_for_its_session(alloc: Global, tree: &mut OwnTree) -> Result<bool, AllocError>
-    requires { tree.old ≡ root_row (record { 0 = 0 }) ∷ [] }
+const SOCKET: ObjId = ObjId(1);
+
+const SESSION: ObjId = ObjId(2);
+
+// Makes a socket and a session of it. Whether they have these numbers.
+fn make_both(alloc: Global, tree: &mut OwnTree) -> Result<bool, AllocError>
+    requires { tree.old ≡ root ∷ [] }
+    ensures { OnOk result (tree.new ≡ made) }
 {
     let push = ObjKind::Socket(Kind::Push);
     let socket = tree.make(alloc, ROOT, push, SlotId(1), false)?;
-    let session = tree.make(alloc, socket, ObjKind::Session, SlotId(2), true)?;
-    if (socket, session, tree.len()) != (ObjId(1), ObjId(2), 3) {
-        return Ok(false);
-    }
+    let session = tree.make(alloc, SOCKET, ObjKind::Session, SlotId(2), true)?;
+    Ok((socket, session, tree.len()) == (SOCKET, SESSION, 3))
+}
 
-    // The socket is asked while the Own of its session is in flight.
-    if tree.try_end(socket) != Ending::NotAsked {
-        return Ok(false);
+// Whether the socket, which is asked while the Own of its session is in flight, waits for that.
+fn waits_for_the_own(tree: &mut OwnTree) -> bool
+    requires { tree.old ≡ made }
+    ensures { result ≡ true → tree.new ≡ asked }
+{
+    if tree.try_end(SOCKET) != Ending::NotAsked {
+        return false;
     }
     tree.ask(ROOT);
     if tree.try_end(ROOT) != Ending::Owes(1) {
-        return Ok(false);
+        return false;
     }
-    tree.tell(ROOT, socket);
-    tree.ask(socket);
-    if tree.try_end(socket) != Ending::Behind(1, 0) {
-        return Ok(false);
+    tree.tell(ROOT, SOCKET);
+    tree.ask(SOCKET);
+    if tree.try_end(SOCKET) != Ending::Behind(1, 0) {
+        return false;
     }
-    tree.note_child(socket, session);
-    if tree.try_end(socket) != Ending::Owes(1) {
-        return Ok(false);
-    }
+    tree.note_child(SOCKET, SESSION);
+    tree.try_end(SOCKET) == Ending::Owes(1)
+}
 
-    // It tells the session, which has an end and a Plug to process.
-    tree.tell(socket, session);
-    tree.owe(session);
-    tree.ask(session);
-    if tree.try_end(session) != Ending::Behind(1, 0) {
-        return Ok(false);
+// Whether the session, which is told to end and has an end and a Plug to process, ends behind these,
+// and the socket waits for its acknowledgement.
+fn waits_for_the_session(tree: &mut OwnTree) -> bool
+    requires { tree.old ≡ asked }
+{
+    tree.tell(SOCKET, SESSION);
+    tree.owe(SESSION);
+    tree.ask(SESSION);
+    if tree.try_end(SESSION) != Ending::Behind(1, 0) {
+        return false;
     }
-    tree.on_plug(session);
-    if tree.try_end(session) != Ending::Owes(1) {
-        return Ok(false);
+    tree.on_plug(SESSION);
+    if tree.try_end(SESSION) != Ending::Owes(1) {
+        return false;
     }
-    tree.on_gone(session);
-    if tree.try_end(session) != Ending::Ended {
-        return Ok(false);
+    tree.on_gone(SESSION);
+    if tree.try_end(SESSION) != Ending::Ended {
+        return false;
     }
+    let living = tree.living_children(SOCKET);
+    living == 0 && tree.try_end(SOCKET) == Ending::Owes(1)
+}
 
-    // The socket waits for the session's acknowledgement.
-    let living = tree.living_children(socket);
-    Ok(living == 0 && tree.try_end(socket) == Ending::Owes(1))
+// Whether the socket waits for both.
+fn waits_for_its_session(alloc: Global, tree: &mut OwnTree) -> Result<bool, AllocError>
+    requires { tree.old ≡ root ∷ [] }
+{
+    let numbered = make_both(alloc, tree)?;
+    if !waits_for_the_own(tree) {
+        return Ok(false);
+    }
+    Ok(waits_for_the_session(tree) && numbered)
 }
 
 #[test]
@@ -70,7 +89,7 @@ fn a_socket_waits_for_its_session(rt: HostRuntime) -> Result<(), Fail> {
 
 // Whether the objects' children are these, in order of making, and counted.
 fn lists_in_order(alloc: Global, tree: &mut OwnTree) -> Result<bool, AllocError>
-    requires { tree.old ≡ root_row (record { 0 = 0 }) ∷ [] }
+    requires { tree.old ≡ root ∷ [] }
 {
     let pull = ObjKind::Socket(Kind::Pull);
     let first = tree.make(alloc, ROOT, pull, SlotId(1), false)?;
@@ -109,7 +128,7 @@ fn is_counted(row: Option<Row>) -> bool {
 
 // Whether a bind and an asking are counted until they come.
 fn counts_until_they_come(alloc: Global, tree: &mut OwnTree) -> Result<bool, AllocError>
-    requires { tree.old ≡ root_row (record { 0 = 0 }) ∷ [] }
+    requires { tree.old ≡ root ∷ [] }
 {
     let socket = tree.make(alloc, ROOT, ObjKind::Socket(Kind::Pair), SlotId(1), false)?;
     tree.on_sent(socket);
