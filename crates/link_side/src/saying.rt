@@ -7,6 +7,7 @@ ghost use Rattle.spec_link.specs.LinkAct.{LinkAct};
 ghost use Rattle.link_topics.specs.Topics.{IsLeft};
 ghost use Rattle.zmtp_engine.specs.Conversation.{CanOffer};
 ghost use Rattle.link_side.specs.declared.behind.Behind.TheVariants.{Nothing};
+ghost use Rattle.link_side.specs.Calls.{WriteCounts};
 ghost use Rattle.link_side.specs.Kept.{Acts, IsAtRest};
 ghost use Rattle.link_side.specs.Works.{fetched_of};
 ghost use Rattle.link_side.specs.Says.{Offers, Forwards, IsUnsaid, LookedBy, TakesBy, SaysBy, left_by};
@@ -63,6 +64,8 @@ impl Wire {
             (L.said link.old) (L.said link.new) pipes.old input.old pipes.new input.new }
         ensures idle { (m : Frames) → result.found ≡ Some (Item m) → CanOffer self.new.engine }
         ensures others { L.heard link.new ≡ L.heard link.old }
+        ensures counts { WriteCounts result.put (L.faults link.old) (L.faults link.new)
+            (L.stalls link.old) (L.stalls link.new) (L.ends link.old) (L.ends link.new) }
     {
         let put = self.write_due(link);
         if is_over(put) {
@@ -93,6 +96,8 @@ impl Wire {
         ensures says { SaysBy (kept self.old) result (kept self.new)
             (L.said link.old) (L.said link.new) topics.old topics.new }
         ensures others { L.heard link.new ≡ L.heard link.old }
+        ensures counts { WriteCounts result (L.faults link.old) (L.faults link.new)
+            (L.stalls link.old) (L.stalls link.new) (L.ends link.old) (L.ends link.new) }
     {
         let put = self.write_due(link);
         if is_over(put) {
@@ -176,6 +181,8 @@ impl LinkSide {
         ensures takes { TakesBy P.known self.old.kept result self.new
             (L.said link.old) (L.said link.new) pipes.old input.old pipes.new input.new }
         ensures others { L.heard link.new ≡ L.heard link.old }
+        ensures counts { WriteCounts result.put (L.faults link.old) (L.faults link.new)
+            (L.stalls link.old) (L.stalls link.new) (L.ends link.old) (L.ends link.new) }
     {
         let looked = self.wire.look_part(pipes, input, link);
         let look = look_of(&looked.found);
@@ -193,6 +200,8 @@ impl LinkSide {
             topics.old topics.new }
         ensures rest { self.new.behind ≡ Nothing }
         ensures others { L.heard link.new ≡ L.heard link.old }
+        ensures counts { WriteCounts result (L.faults link.old) (L.faults link.new)
+            (L.stalls link.old) (L.stalls link.new) (L.ends link.old) (L.ends link.new) }
     {
         self.wire.say_part(topics, link)
     }

@@ -216,12 +216,13 @@ module _ {S O I N : Type 0} (K : Known S O I N) where
 
   -- ---- the last acts
 
-  pub last_says : (refused puts : Bool) (pipe : PipeId) (k0 k1 : Kept) (put : Option LinkPut) (said said' : Option (List ℕ)) (s : S) (o : Option O) → refused ≡ true → puts ≡ false → (w : WritesAlone k0 put k1 said said')
-      → LastBy K refused puts pipe k0 k1 said said' s o s o
-  last_says refused puts pipe k0 k1 put said said' s o e d w = record {
+  pub last_says : (refused puts : Bool) (pipe : PipeId) (k0 k1 : Kept) (put : Option LinkPut) (said said' : Option (List ℕ)) (shown : List LinkAct → Type 0) (s : S) (o : Option O) → ((x : List ℕ) → shown (write_acts put x)) → refused ≡ true → puts ≡ false → (w : WritesAlone k0 put k1 said said')
+      → LastBy K refused puts pipe k0 k1 said said' shown s o s o
+  last_says refused puts pipe k0 k1 put said said' shown s o shows e d w = record {
     put_last = [];
     said_last = write_acts put w.octets;
     said_is = subst (λ (x : List ℕ). Adds said x said') (sym (write_says put w.octets w.fits)) w.told;
+    shown_is = shows w.octets;
     hears = write_hears put w.octets;
     takes = (write_still put w.octets).takes;
     repeats = (write_still put w.octets).repeats;
@@ -233,14 +234,15 @@ module _ {S O I N : Type 0} (K : Known S O I N) where
     silent = λ x. absurd (no_true refused x e);
   }
 
-  pub last_puts : (refused puts : Bool) (pipe : PipeId) (k0 k1 : Kept) (said : Option (List ℕ)) (s s' : S) (o o' : Option O) (h h' : O) → refused ≡ false → puts ≡ true → o ≡ Some h → o' ≡ Some h'
-      → (w : PutsBy K k0 k1 s h s' h') → LastBy K refused puts pipe k0 k1 said said s o s' o'
-  last_puts refused puts pipe k0 k1 said s s' o o' h h' e d was is w =
+  pub last_puts : (refused puts : Bool) (pipe : PipeId) (k0 k1 : Kept) (said : Option (List ℕ)) (shown : List LinkAct → Type 0) (s s' : S) (o o' : Option O) (h h' : O) → ((ms : List Frames) (full : Bool) → shown (put_acts pipe ms full)) → refused ≡ false → puts ≡ true → o ≡ Some h → o' ≡ Some h'
+      → (w : PutsBy K k0 k1 s h s' h') → LastBy K refused puts pipe k0 k1 said said shown s o s' o'
+  last_puts refused puts pipe k0 k1 said shown s s' o o' h h' shows e d was is w =
       let acts_put = put_acts pipe w.messages w.full in
       record {
         put_last = acts_put;
         said_last = [];
         said_is = subst (λ (x : List ℕ). Adds said x said) (sym (ap (λ (l : List LinkAct). said_of l) (append-nil acts_put) ∙ put_says pipe w.messages w.full)) (adds_none said);
+        shown_is = subst (λ (l : List LinkAct). shown l) (sym (append-nil acts_put)) (shows w.messages w.full);
         hears = ap (λ (l : List LinkAct). heard_of l) (append-nil acts_put) ∙ put_hears pipe w.messages w.full;
         takes = ap (λ (l : List LinkAct). taken_of l) (append-nil acts_put) ∙ (put_still pipe w.messages w.full).takes;
         repeats = ap (λ (l : List LinkAct). repeated_of l) (append-nil acts_put) ∙ (put_still pipe w.messages w.full).repeats;
@@ -255,12 +257,13 @@ module _ {S O I N : Type 0} (K : Known S O I N) where
         silent = λ _. refl;
       }
 
-  pub last_nothing : (refused puts : Bool) (pipe : PipeId) (k : Kept) (said : Option (List ℕ)) (s : S) (o : Option O) → refused ≡ false → puts ≡ false
-      → LastBy K refused puts pipe k k said said s o s o
-  last_nothing refused puts pipe k said s o e d = record {
+  pub last_nothing : (refused puts : Bool) (pipe : PipeId) (k : Kept) (said : Option (List ℕ)) (shown : List LinkAct → Type 0) (s : S) (o : Option O) → (shown []) → refused ≡ false → puts ≡ false
+      → LastBy K refused puts pipe k k said said shown s o s o
+  last_nothing refused puts pipe k said shown s o shows e d = record {
     put_last = [];
     said_last = [];
     said_is = adds_none said;
+    shown_is = shows;
     hears = refl;
     takes = refl;
     repeats = refl;

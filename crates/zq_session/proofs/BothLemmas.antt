@@ -266,11 +266,12 @@ taking_saying mode m X e d = absurd cc
 
 module _ {S O I N : Type 0} (K : Known S O I N) where
   -- both parts
-  pub parts_by : (l : Life) (t t' : Option Topics) (can_read : Bool) (how : ReadMode) (k0 k1 k2 : Kept) (done : Written) (answer : Option LinkGot) (said said' heard heard' : Option (List ℕ)) (s s1 s2 : S) (i i1 : Option I) (o o2 : Option O)
+  pub parts_by : (shown : List LinkAct → Type 0) (l : Life) (t t' : Option Topics) (can_read : Bool) (how : ReadMode) (k0 k1 k2 : Kept) (done : Written) (answer : Option LinkGot) (said said' heard heard' : Option (List ℕ)) (s s1 s2 : S) (i i1 : Option I) (o o2 : Option O)
+      → ((x y : List ℕ) (n : Next) (ms : List Frames) (full : Bool) → shown (writing done.put x (read_through l.end) n ++ reading answer y l.end ms full))
       → (can_read ≡ true → IsReadable l.state) → (can_read ≡ false → IsReadable l.state → ⊥) → IsReading l.kind l.state l.told how → (IsWriteOver done.put → ⊥)
       → (w : NextBy K (mode_of can_read t) t t' k0 done k1 said said' s i s1 i1) → (r : ReadsAtBy K how k1 answer k2 heard heard' s1 o s2 o2)
-      → PartsBy K l t t' k0 (record { written = done; got = answer }) k2 said said' heard heard' s i o s2 i1 o2
-  parts_by l t t' can_read how k0 k1 k2 done answer said said' heard heard' s s1 s2 i i1 o o2 sure never is stands w r =
+      → PartsBy K l t t' k0 (record { written = done; got = answer }) k2 said said' heard heard' shown s i o s2 i1 o2
+  parts_by shown l t t' can_read how k0 k1 k2 done answer said said' heard heard' s s1 s2 i i1 o o2 shows sure never is stands w r =
       let inward = read_through l.end in
       let writes = writing done.put w.octets inward w.next in
       let reads = reading answer r.octets l.end r.messages r.full in
@@ -289,6 +290,7 @@ module _ {S O I N : Type 0} (K : Known S O I N) where
             (added step_in (write_acts done.put w.octets) (next_acts inward w.next) [] (flat_map step_in (next_acts inward w.next)) (write_steps done.put w.octets) refl)
             (added step_in (read_acts answer r.octets) (put_acts l.end r.messages r.full) [] (flat_map step_in (put_acts l.end r.messages r.full)) (read_steps answer r.octets) refl)))
             (steps_on K (flat_map step_in (next_acts inward w.next)) (flat_map step_in (put_acts l.end r.messages r.full)) s s1 s2 i i1 i1 o o o2 (w.steps inward o) (r.steps l.end i1));
+        shown_is = shows w.octets r.octets w.next r.messages r.full;
         notes = w.notes inward ∙ sym (notes_more writes reads t (still_on (read_acts answer r.octets) (put_acts l.end r.messages r.full) (read_still answer r.octets) (put_still l.end r.messages r.full)));
         run = λ opts kind. does_on opts k0 k1 k2 writes reads (does_these opts k0 k1 writes (unput_next done.put w.octets inward w.next) (w.run inward)) (r.run l.end opts (is_for how opts l.kind l.state l.told kind is));
         parts = λ p acts kind silent run. record {
@@ -318,11 +320,12 @@ module _ {S O I N : Type 0} (K : Known S O I N) where
       }
 
   -- the first alone, where the link is over
-  pub parts_over : (l : Life) (t t' : Option Topics) (can_read : Bool) (k0 k1 : Kept) (done : Written) (said said' heard heard' : Option (List ℕ)) (s s1 : S) (i i1 : Option I) (o : Option O)
+  pub parts_over : (shown : List LinkAct → Type 0) (l : Life) (t t' : Option Topics) (can_read : Bool) (k0 k1 : Kept) (done : Written) (said said' heard heard' : Option (List ℕ)) (s s1 : S) (i i1 : Option I) (o : Option O)
+      → ((x : List ℕ) (n : Next) → shown (writing done.put x (read_through l.end) n))
       → (can_read ≡ true → IsReadable l.state) → (can_read ≡ false → IsReadable l.state → ⊥) → IsWriteOver done.put → Adds heard [] heard'
       → (w : NextBy K (mode_of can_read t) t t' k0 done k1 said said' s i s1 i1)
-      → PartsBy K l t t' k0 (record { written = done; got = None }) k1 said said' heard heard' s i o s1 i1 o
-  parts_over l t t' can_read k0 k1 done said said' heard heard' s s1 i i1 o sure never over none w =
+      → PartsBy K l t t' k0 (record { written = done; got = None }) k1 said said' heard heard' shown s i o s1 i1 o
+  parts_over shown l t t' can_read k0 k1 done said said' heard heard' s s1 i i1 o shows sure never over none w =
       let inward = read_through l.end in
       let writes = writing done.put w.octets inward w.next in
       let all = append-nil writes in
@@ -336,6 +339,7 @@ module _ {S O I N : Type 0} (K : Known S O I N) where
         steps = subst (λ (x : List PipeStep). StepsRun K x s i o s1 i1 o)
             (sym (ap (λ (l : List LinkAct). flat_map step_in l) all ∙ added step_in (write_acts done.put w.octets) (next_acts inward w.next) [] (flat_map step_in (next_acts inward w.next)) (write_steps done.put w.octets) refl))
             (w.steps inward o);
+        shown_is = subst (λ (x : List LinkAct). shown x) (sym all) (shows w.octets w.next);
         notes = w.notes inward ∙ sym (notes_more writes [] t still_none);
         run = λ opts kind. does_as opts k0 k1 writes (writes ++ []) (sym all) (does_these opts k0 k1 writes (unput_next done.put w.octets inward w.next) (w.run inward));
         parts = λ p acts kind silent run. record {
@@ -357,11 +361,12 @@ module _ {S O I N : Type 0} (K : Known S O I N) where
       }
 
   -- the second cut short where memory wants
-  pub parts_cut : (shown : Option LinkGot → Type 0) (l : Life) (t t' : Option Topics) (can_read : Bool) (how : ReadMode) (k0 k1 k2 : Kept) (done : Written) (said said' heard heard' : Option (List ℕ)) (s s1 s2 : S) (i i1 : Option I) (o o2 : Option O)
+  pub parts_cut : (shows : List LinkAct → Type 0) (shown : Option LinkGot → Type 0) (l : Life) (t t' : Option Topics) (can_read : Bool) (how : ReadMode) (k0 k1 k2 : Kept) (done : Written) (said said' heard heard' : Option (List ℕ)) (s s1 s2 : S) (i i1 : Option I) (o o2 : Option O)
+      → ((x y : List ℕ) (n : Next) (a : Option LinkGot) → shown a → shows (writing done.put x (read_through l.end) n ++ read_acts a y))
       → (can_read ≡ true → IsReadable l.state) → (can_read ≡ false → IsReadable l.state → ⊥) → IsReading l.kind l.state l.told how → (IsWriteOver done.put → ⊥)
       → (w : NextBy K (mode_of can_read t) t t' k0 done k1 said said' s i s1 i1) → (s2 ≡ s1) → (o2 ≡ o) → (r : WantsAtBy how k1 k2 heard heard' shown)
-      → CutBy K l t t' k0 k2 said said' heard heard' s i o s2 i1 o2
-  parts_cut shown l t t' can_read how k0 k1 k2 done said said' heard heard' s s1 s2 i i1 o o2 sure never is stands w same_pipes same_out r =
+      → CutBy K l t t' k0 k2 said said' heard heard' shows s i o s2 i1 o2
+  parts_cut shows shown l t t' can_read how k0 k1 k2 done said said' heard heard' s s1 s2 i i1 o o2 tells sure never is stands w same_pipes same_out r =
       let inward = read_through l.end in
       let writes = writing done.put w.octets inward w.next in
       let reads = read_acts r.answer r.octets in
@@ -379,6 +384,7 @@ module _ {S O I N : Type 0} (K : Known S O I N) where
             (added step_in (write_acts done.put w.octets) (next_acts inward w.next) [] (flat_map step_in (next_acts inward w.next)) (write_steps done.put w.octets) refl)
             (read_steps r.answer r.octets)))
             (steps_on K (flat_map step_in (next_acts inward w.next)) [] s s1 s2 i i1 i1 o o o2 (w.steps inward o) (same_pipes, (refl, same_out)));
+        shown_is = tells w.octets r.octets w.next r.answer r.counts;
         notes = w.notes inward ∙ sym (notes_more writes reads t (read_still r.answer r.octets));
         run = λ opts kind. does_on opts k0 k1 k2 writes reads (does_these opts k0 k1 writes (unput_next done.put w.octets inward w.next) (w.run inward)) (r.run opts (is_for how opts l.kind l.state l.told kind is));
         parts = λ p acts kind silent run. record {
@@ -398,11 +404,12 @@ module _ {S O I N : Type 0} (K : Known S O I N) where
       }
 
   -- the first alone, of which a message couldn't be noted
-  pub parts_unnoted : (l : Life) (t t' : Option Topics) (can_read : Bool) (k0 : Kept) (new : Side) (said said' heard heard' : Option (List ℕ)) (s s1 : S) (i i1 : Option I) (o : Option O)
+  pub parts_unnoted : (tried : Option LinkPut → Type 0) (shown : List LinkAct → Type 0) (l : Life) (t t' : Option Topics) (can_read : Bool) (k0 : Kept) (new : Side) (said said' heard heard' : Option (List ℕ)) (s s1 : S) (i i1 : Option I) (o : Option O)
+      → ((a : Option LinkPut) (x : List ℕ) (m : Frames) → tried a → shown (write_acts a x ++ Step (Take (read_through l.end) m) ∷ []))
       → (can_read ≡ true → IsReadable l.state) → (can_read ≡ false → IsReadable l.state → ⊥) → Adds heard [] heard'
-      → (u : UnsaidBy K (mode_of can_read t) t t' k0 new said said' s i s1 i1)
-      → UnnotedBy K l t t' k0 new said said' heard heard' s i o s1 i1 o
-  parts_unnoted l t t' can_read k0 new said said' heard heard' s s1 i i1 o sure never none u =
+      → (u : UnsaidBy K (mode_of can_read t) t t' k0 new said said' tried s i s1 i1)
+      → UnnotedBy K l t t' k0 new said said' heard heard' shown s i o s1 i1 o
+  parts_unnoted tried shown l t t' can_read k0 new said said' heard heard' s s1 i i1 o shows sure never none u =
       let inward = read_through l.end in
       let before = write_acts u.put u.octets in
       let take = Step (Take inward u.message) ∷ [] in
@@ -414,6 +421,7 @@ module _ {S O I N : Type 0} (K : Known S O I N) where
         said_is = subst (λ (x : List ℕ). Adds said x said') (sym (added said_by before take u.octets [] (write_says u.put u.octets u.fits) refl ∙ append-nil u.octets)) u.told;
         heard_is = subst (λ (x : List ℕ). Adds heard x heard') (sym (added heard_by before take [] [] (write_hears u.put u.octets) refl)) none;
         steps = subst (λ (x : List PipeStep). StepsRun K x s i o s1 i1 o) (sym (added step_in before take [] (Take inward u.message ∷ []) (write_steps u.put u.octets) refl)) (u.steps inward o);
+        shown_is = shows u.put u.octets u.message u.counts;
         left = u.left;
         same = u.same;
         takes = added taken_by before take [] (u.message ∷ []) (write_still u.put u.octets).takes refl;

@@ -282,16 +282,16 @@ adds_on (Some l) told' told'' xs ys a b = subst (λ (t : Option (List ℕ)). Add
 
 module _ {S O I N : Type 0} (K : Known S O I N) where
   -- a turn whose link stands
-  pub turn_stands : (now : ℕ) (old new : Course) (l1 : Life) (sd sd1 : Side) (done : Done) (met : Bool) (said said' heard heard' : Option (List ℕ)) (s s' : S) (i i' : Option I) (o o' : Option O)
+  pub turn_stands : (now : ℕ) (old new : Course) (l1 : Life) (sd sd1 : Side) (done : Done) (met : Bool) (said said' heard heard' : Option (List ℕ)) (shown : List LinkAct → Type 0) (s s' : S) (i i' : Option I) (o o' : Option O)
       → old.side ≡ Some sd → new.side ≡ Some sd1 → IsFree sd.behind → IsFree sd1.behind → new.dialler ≡ old.dialler
       → (met ≡ true → done.written.look ≡ Some fetched.Delimiter) → (met ≡ false → done.written.look ≡ Some fetched.Delimiter → ⊥)
-      → PartsBy K old.life old.topics new.topics sd.kept done sd1.kept said said' heard heard' s i o s' i' o'
+      → PartsBy K old.life old.topics new.topics sd.kept done sd1.kept said said' heard heard' shown s i o s' i' o'
       → LifeDoes old.life l1 (λ b s. DueOnce s (met ≡ true) (Delimiter b.end)) → ShakesBy l1 new.life old.peer new.peer sd1.kept → StandsNow done.written.put done.got sd1.kept
-      → (p : Story) → HasStory old p → LinkedBy K now old new said said' heard heard' s i o s' i' o' p
-  turn_stands now old new l1 sd sd1 done met said said' heard heard' s s' i i' o o' es en fr fr1 ed sure never pb marks shakes st p keeps =
+      → (p : Story) → HasStory old p → LinkedBy K now old new said said' heard heard' shown s i o s' i' o' p
+  turn_stands now old new l1 sd sd1 done met said said' heard heard' shown s s' i i' o o' es en fr fr1 ed sure never pb marks shakes st p keeps =
       let link = link_some p.opts p.link old.side sd es fr keeps.link in
       let acts = link.0 in
-      by_link (λ q. HasStory old q → LinkedBy K now old new said said' heard heard' s i o s' i' o' q) p acts link.1 (λ k.
+      by_link (λ q. HasStory old q → LinkedBy K now old new said said' heard heard' shown s i o s' i' o' q) p acts link.1 (λ k.
       let q = record p { link = Some acts } in
       let more = pb.writes ++ pb.reads in
       let b = basis_of old.life p in
@@ -338,6 +338,8 @@ module _ {S O I N : Type 0} (K : Known S O I N) where
             (sym (flat_events act_at more f.delimiter f.shaken [] more [] (acts_of_acts more) (marks_add act_at no_due_acts old.life q pb.writes f.delimiter f.delimiter_is) (shaken_adds act_at no_due_acts b (after_all b (standing_of old.life q) (acted more ++ f.delimiter)) (acts ++ more) f.shaken f.shaken_is) refl ∙ append-nil more)) pb.said_is;
         heard_is = subst (λ (x : List LinkAct). Adds heard (heard_of x) heard')
             (sym (flat_events act_at more f.delimiter f.shaken [] more [] (acts_of_acts more) (marks_add act_at no_due_acts old.life q pb.writes f.delimiter f.delimiter_is) (shaken_adds act_at no_due_acts b (after_all b (standing_of old.life q) (acted more ++ f.delimiter)) (acts ++ more) f.shaken f.shaken_is) refl ∙ append-nil more)) pb.heard_is;
+        shown_is = subst (λ (x : List LinkAct). shown x)
+            (sym (flat_events act_at more f.delimiter f.shaken [] more [] (acts_of_acts more) (marks_add act_at no_due_acts old.life q pb.writes f.delimiter f.delimiter_is) (shaken_adds act_at no_due_acts b (after_all b (standing_of old.life q) (acted more ++ f.delimiter)) (acts ++ more) f.shaken f.shaken_is) refl ∙ append-nil more)) pb.shown_is;
       }) keeps
 
 regroup : {A : Type 0} (a b c d : List A) → a ++ (b ++ (c ++ d)) ≡ (a ++ (b ++ c)) ++ d
@@ -423,20 +425,21 @@ refused_only put got k cause r (inr e) other d = e.0 other d
 
 module _ {S O I N : Type 0} (K : Known S O I N) where
   -- a turn whose link is over
-  pub turn_over : (now : ℕ) (old mid new : Course) (l1 : Life) (sd sd1 sd2 : Side) (done : Done) (cause : LinkEnd) (met refused puts : Bool) (said said1 said' heard heard' : Option (List ℕ)) (s s1 s' : S) (i i' : Option I) (o o1 o' : Option O)
+  pub turn_over : (now : ℕ) (old mid new : Course) (l1 : Life) (sd sd1 sd2 : Side) (done : Done) (cause : LinkEnd) (met refused puts : Bool) (said said1 said' heard heard' : Option (List ℕ)) (shown1 shown2 shown : List LinkAct → Type 0) (s s1 s' : S) (i i' : Option I) (o o1 o' : Option O)
+      → ((xs ys : List LinkAct) → shown1 xs → shown2 ys → shown (xs ++ ys))
       → old.side ≡ Some sd → new.side ≡ None → IsFree sd.behind → new.topics ≡ over_link mid.topics → mid.dialler ≡ old.dialler → new.peer ≡ mid.peer
       → (met ≡ true → done.written.look ≡ Some fetched.Delimiter) → (met ≡ false → done.written.look ≡ Some fetched.Delimiter → ⊥)
       → (refused ≡ true → IsRefusal cause) → (refused ≡ false → IsRefusal cause → ⊥)
       → (puts ≡ true → IsWriteOver done.written.put × ((mid.life.kind ≡ Push → ⊥) × IsWritable mid.life.state)) → (puts ≡ false → IsWriteOver done.written.put → (mid.life.kind ≡ Push → ⊥) → IsWritable mid.life.state → ⊥)
-      → PartsBy K old.life old.topics mid.topics sd.kept done sd1.kept said said1 heard heard' s i o s1 i' o1
+      → PartsBy K old.life old.topics mid.topics sd.kept done sd1.kept said said1 heard heard' shown1 s i o s1 i' o1
       → LifeDoes old.life l1 (λ b s. DueOnce s (met ≡ true) (Delimiter b.end)) → ShakesBy l1 mid.life old.peer mid.peer sd1.kept → IsOverNow done.written.put done.got sd1.kept cause
-      → ((pipe : PipeId) → LastBy K refused puts pipe sd1.kept sd2.kept said1 said' s1 o1 s' o') → (refused ≡ true → puts ≡ false)
+      → ((pipe : PipeId) → LastBy K refused puts pipe sd1.kept sd2.kept said1 said' shown2 s1 o1 s' o') → (refused ≡ true → puts ≡ false)
       → Asks mid.life new.life → DialsLater now mid new
-      → (p : Story) → HasStory old p → LinkedBy K now old new said said' heard heard' s i o s' i' o' p
-  turn_over now old mid new l1 sd sd1 sd2 done cause met refused puts said said1 said' heard heard' s s1 s' i i' o o1 o' es en fr et ed ep sure never ry rn py pn pb marks shakes ov lasts one asks dials p keeps =
+      → (p : Story) → HasStory old p → LinkedBy K now old new said said' heard heard' shown s i o s' i' o' p
+  turn_over now old mid new l1 sd sd1 sd2 done cause met refused puts said said1 said' heard heard' shown1 shown2 shown s s1 s' i i' o o1 o' both es en fr et ed ep sure never ry rn py pn pb marks shakes ov lasts one asks dials p keeps =
       let link = link_some p.opts p.link old.side sd es fr keeps.link in
       let acts = link.0 in
-      by_link (λ q. HasStory old q → LinkedBy K now old new said said' heard heard' s i o s' i' o' q) p acts link.1 (λ k.
+      by_link (λ q. HasStory old q → LinkedBy K now old new said said' heard heard' shown s i o s' i' o' q) p acts link.1 (λ k.
       let q = record p { link = Some acts } in
       let more = pb.writes ++ pb.reads in
       let b = basis_of old.life p in
@@ -532,6 +535,7 @@ module _ {S O I N : Type 0} (K : Known S O I N) where
             (subst (λ (x : List ℕ). Adds said x said') (sym (flat_map-append said_by more last)) (adds_on said said1 said' (said_of more) (said_of last) pb.said_is lb.said_is));
         heard_is = subst (λ (x : List LinkAct). Adds heard (heard_of x) heard') (sym all_acts)
             (subst (λ (x : List ℕ). Adds heard x heard') (sym (flat_map-append heard_by more last ∙ ap (λ (l : List ℕ). heard_of more ++ l) lb.hears ∙ append-nil (heard_of more))) pb.heard_is);
+        shown_is = subst (λ (x : List LinkAct). shown x) (sym all_acts) (both more last pb.shown_is lb.shown_is);
       }) keeps
 
 -- ---- the calls
@@ -625,7 +629,7 @@ one_by put got k cause refused false ry py ov e = refl
 
 module _ {S O I N : Type 0} (K : Known S O I N) where
   -- the same, by what the link tells at another moment
-  pub heard_to : (now : ℕ) (old new : Course) (said said' heard heard1 heard2 : Option (List ℕ)) (s s' : S) (i i' : Option I) (o o' : Option O) → heard2 ≡ heard1
-      → ((p : Story) → HasStory old p → LinkedBy K now old new said said' heard heard1 s i o s' i' o' p) → (p : Story) → HasStory old p → LinkedBy K now old new said said' heard heard2 s i o s' i' o' p
-  heard_to now old new said said' heard heard1 heard2 s s' i i' o o' e f =
-      subst (λ (x : Option (List ℕ)). (p : Story) → HasStory old p → LinkedBy K now old new said said' heard x s i o s' i' o' p) (sym e) f
+  pub heard_to : (now : ℕ) (old new : Course) (said said' heard heard1 heard2 : Option (List ℕ)) (shown : List LinkAct → Type 0) (s s' : S) (i i' : Option I) (o o' : Option O) → heard2 ≡ heard1
+      → ((p : Story) → HasStory old p → LinkedBy K now old new said said' heard heard1 shown s i o s' i' o' p) → (p : Story) → HasStory old p → LinkedBy K now old new said said' heard heard2 shown s i o s' i' o' p
+  heard_to now old new said said' heard heard1 heard2 shown s s' i i' o o' e f =
+      subst (λ (x : Option (List ℕ)). (p : Story) → HasStory old p → LinkedBy K now old new said said' heard x shown s i o s' i' o' p) (sym e) f

@@ -22,6 +22,7 @@ use Rattle.session_life.specs.LifeSteps.{LifeDoes, with_dues}
 use Rattle.zq_session.specs.Halves.{StepsRun, step_in, step_at}
 use Rattle.zq_session.specs.BothParts.{PartsBy, CutBy, UnnotedBy}
 use Rattle.zq_session.specs.Courses.{HasStory, CourseStep, act_at}
+use Rattle.zq_session.specs.Shown.{ShownBy}
 use Rattle.zq_session.specs.Turns.{BeginsBy, IsToldBy}
 use Rattle.zq_session.specs.Cuts.{IsCutAt, IsCutAtLink, CutAtLinkBy, CutUnlinkedBy, CutsBy}
 use Rattle.zq_session.proofs.HalfLemmas.{no_steps}
@@ -36,14 +37,14 @@ use Rattle.zq_session.proofs.TurnLemmas.{gives_none, first_adds, told_same, cour
 
 module _ {S O I N : Type 0} (K : Known S O I N) where
   -- the reading part was cut short
-  pub cut_at_link : (old new : Course) (sd sd' : Side) (said said' heard heard' : Option (List ℕ)) (s s' : S) (i i' : Option I) (o o' : Option O)
+  pub cut_at_link : (old new : Course) (sd sd' : Side) (said said' heard heard' : Option (List ℕ)) (shown : List LinkAct → Type 0) (s s' : S) (i i' : Option I) (o o' : Option O)
       → old.side ≡ Some sd → new.side ≡ Some sd' → IsFree sd.behind → IsFree sd'.behind → new.dialler ≡ old.dialler → new.life ≡ old.life → new.peer ≡ old.peer
-      → CutBy K old.life old.topics new.topics sd.kept sd'.kept said said' heard heard' s i o s' i' o'
-      → (p : Story) → HasStory old p → CutAtLinkBy K old new said said' heard heard' s i o s' i' o' p
-  cut_at_link old new sd sd' said said' heard heard' s s' i i' o o' es en fr fr1 ed el ep cb p keeps =
+      → CutBy K old.life old.topics new.topics sd.kept sd'.kept said said' heard heard' shown s i o s' i' o'
+      → (p : Story) → HasStory old p → CutAtLinkBy K old new said said' heard heard' shown s i o s' i' o' p
+  cut_at_link old new sd sd' said said' heard heard' shown s s' i i' o o' es en fr fr1 ed el ep cb p keeps =
       let link = link_some p.opts p.link old.side sd es fr keeps.link in
       let acts = link.0 in
-      by_link (λ q. HasStory old q → CutAtLinkBy K old new said said' heard heard' s i o s' i' o' q) p acts link.1 (λ k.
+      by_link (λ q. HasStory old q → CutAtLinkBy K old new said said' heard heard' shown s i o s' i' o' q) p acts link.1 (λ k.
       let q = record p { link = Some acts } in
       let more = cb.writes ++ cb.reads in
       let b = basis_of old.life p in
@@ -81,19 +82,20 @@ module _ {S O I N : Type 0} (K : Known S O I N) where
         steps = subst (λ (l : List SessionEvent). StepsRun K (flat_map step_at l) s i o s' i' o') (sym all) (subst (λ (x : List PipeStep). StepsRun K x s i o s' i' o') (sym (steps_of_acts more)) cb.steps);
         said_is = subst (λ (l : List SessionEvent). Adds said (said_of (flat_map act_at l)) said') (sym all) (subst (λ (x : List LinkAct). Adds said (said_of x) said') (sym (acts_of_acts more)) cb.said_is);
         heard_is = subst (λ (l : List SessionEvent). Adds heard (heard_of (flat_map act_at l)) heard') (sym all) (subst (λ (x : List LinkAct). Adds heard (heard_of x) heard') (sym (acts_of_acts more)) cb.heard_is);
+        shown_is = subst (λ (l : List SessionEvent). shown (flat_map act_at l)) (sym all) (subst (λ (x : List LinkAct). shown x) (sym (acts_of_acts more)) cb.shown_is);
       }) keeps
 
   -- both parts were made, and the handshake couldn't be told
-  pub cut_behind : (old new : Course) (sd sd1 : Side) (done : Done) (met : Bool) (said said' heard heard' : Option (List ℕ)) (s s' : S) (i i' : Option I) (o o' : Option O)
+  pub cut_behind : (old new : Course) (sd sd1 : Side) (done : Done) (met : Bool) (said said' heard heard' : Option (List ℕ)) (shown : List LinkAct → Type 0) (s s' : S) (i i' : Option I) (o o' : Option O)
       → old.side ≡ Some sd → new.side ≡ Some sd1 → IsFree sd.behind → IsFree sd1.behind → new.dialler ≡ old.dialler → new.peer ≡ old.peer
       → (met ≡ true → done.written.look ≡ Some fetched.Delimiter) → (met ≡ false → done.written.look ≡ Some fetched.Delimiter → ⊥)
-      → PartsBy K old.life old.topics new.topics sd.kept done sd1.kept said said' heard heard' s i o s' i' o'
+      → PartsBy K old.life old.topics new.topics sd.kept done sd1.kept said said' heard heard' shown s i o s' i' o'
       → LifeDoes old.life new.life (λ b s. DueOnce s (met ≡ true) (Delimiter b.end))
-      → (p : Story) → HasStory old p → CutAtLinkBy K old new said said' heard heard' s i o s' i' o' p
-  cut_behind old new sd sd1 done met said said' heard heard' s s' i i' o o' es en fr fr1 ed ep sure never pb marks p keeps =
+      → (p : Story) → HasStory old p → CutAtLinkBy K old new said said' heard heard' shown s i o s' i' o' p
+  cut_behind old new sd sd1 done met said said' heard heard' shown s s' i i' o o' es en fr fr1 ed ep sure never pb marks p keeps =
       let link = link_some p.opts p.link old.side sd es fr keeps.link in
       let acts = link.0 in
-      by_link (λ q. HasStory old q → CutAtLinkBy K old new said said' heard heard' s i o s' i' o' q) p acts link.1 (λ k.
+      by_link (λ q. HasStory old q → CutAtLinkBy K old new said said' heard heard' shown s i o s' i' o' q) p acts link.1 (λ k.
       let q = record p { link = Some acts } in
       let more = pb.writes ++ pb.reads in
       let b = basis_of old.life p in
@@ -136,6 +138,7 @@ module _ {S O I N : Type 0} (K : Known S O I N) where
         steps = subst (λ (x : List PipeStep). StepsRun K x s i o s' i' o') (sym all_steps) pb.steps;
         said_is = subst (λ (x : List LinkAct). Adds said (said_of x) said') (sym all_acts) pb.said_is;
         heard_is = subst (λ (x : List LinkAct). Adds heard (heard_of x) heard') (sym all_acts) pb.heard_is;
+        shown_is = subst (λ (x : List LinkAct). shown x) (sym all_acts) pb.shown_is;
       }) keeps
 
 says_some : (dials : Bool) (opts : EngineOpts) (closed : List ClosedLink) (acts : List LinkAct) (t : Option Topics) → IsSome t → SaysAt dials opts closed acts t → (dials && subscribes opts.kind) ≡ true
@@ -144,14 +147,14 @@ says_some dials opts closed acts (Some t) some k = k.0
 
 module _ {S O I N : Type 0} (K : Known S O I N) where
   -- the message that was taken couldn't be noted
-  pub cut_unnoted : (old new : Course) (sd sd' : Side) (said said' heard heard' : Option (List ℕ)) (s s' : S) (i i' : Option I) (o o' : Option O)
+  pub cut_unnoted : (old new : Course) (sd sd' : Side) (said said' heard heard' : Option (List ℕ)) (shown : List LinkAct → Type 0) (s s' : S) (i i' : Option I) (o o' : Option O)
       → old.side ≡ Some sd → new.side ≡ Some sd' → IsFree sd.behind → new.dialler ≡ old.dialler → new.life ≡ old.life → new.peer ≡ old.peer
-      → UnnotedBy K old.life old.topics new.topics sd.kept sd' said said' heard heard' s i o s' i' o'
-      → (p : Story) → HasStory old p → CutAtLinkBy K old new said said' heard heard' s i o s' i' o' p
-  cut_unnoted old new sd sd' said said' heard heard' s s' i i' o o' es en fr ed el ep ub p keeps =
+      → UnnotedBy K old.life old.topics new.topics sd.kept sd' said said' heard heard' shown s i o s' i' o'
+      → (p : Story) → HasStory old p → CutAtLinkBy K old new said said' heard heard' shown s i o s' i' o' p
+  cut_unnoted old new sd sd' said said' heard heard' shown s s' i i' o o' es en fr ed el ep ub p keeps =
       let link = link_some p.opts p.link old.side sd es fr keeps.link in
       let acts = link.0 in
-      by_link (λ q. HasStory old q → CutAtLinkBy K old new said said' heard heard' s i o s' i' o' q) p acts link.1 (λ k.
+      by_link (λ q. HasStory old q → CutAtLinkBy K old new said said' heard heard' shown s i o s' i' o' q) p acts link.1 (λ k.
       let q = record p { link = Some acts } in
       let pipe = read_through old.life.end in
       let writes = ub.before ++ Step (Take pipe ub.message) ∷ [] in
@@ -194,16 +197,17 @@ module _ {S O I N : Type 0} (K : Known S O I N) where
         steps = subst (λ (x : List PipeStep). StepsRun K x s i o s' i' o') (sym (steps_of_acts writes)) ub.steps;
         said_is = subst (λ (x : List LinkAct). Adds said (said_of x) said') (sym (acts_of_acts writes)) ub.said_is;
         heard_is = subst (λ (x : List LinkAct). Adds heard (heard_of x) heard') (sym (acts_of_acts writes)) ub.heard_is;
+        shown_is = subst (λ (x : List LinkAct). shown x) (sym (acts_of_acts writes)) ub.shown_is;
       }) keeps
 
 cut_with_link : (b : Basis) (s : Standing) (link : Option (List LinkAct)) (acts : List LinkAct) (events : List SessionEvent) → link ≡ Some acts → IsCutAtLink b s acts events → IsCutAt b s link events
 cut_with_link b s link acts events e t = subst (λ (l : Option (List LinkAct)). IsCutAt b s l events) (sym e) t
 
-module _ {S O I N L : Type 0} (K : Known S O I N) (heard said : L → Option (List ℕ)) where
+module _ {S O I N L : Type 0} (K : Known S O I N) (heard said : L → Option (List ℕ)) (faults stalls ends : L → ℕ) where
   -- before its work
   cuts_begun : (now : ℕ) (old new : Course) (link : Option L) (s : S) (i : Option I) (o : Option O) (p : Story)
       → (gives : List SessionEvent) × Exactly ((old.life.gave_up ≡ false) × LingerIsOver old.life.linger old.life.told now) (GivesUp (basis_of old.life p) (standing_of old.life p)) gives × CourseStep old new p gives
-      → CutsBy K heard said now old new link link s i o s i o p
+      → CutsBy K heard said faults stalls ends now old new link link s i o s i o p
   cuts_begun now old new link s i o p k =
       let b = basis_of old.life p in
       let st = standing_of old.life p in
@@ -213,14 +217,14 @@ module _ {S O I N L : Type 0} (K : Known S O I N) (heard said : L → Option (Li
         cut = record { gives = k.0; output = []; over = []; works = []; all = sym (append-nil k.0); gives_up = k.1; rest = inl (refl, (refl, refl)) };
         step = k.2;
         steps = subst (λ (l : List PipeStep). StepsRun K l s i o s i o) (sym (gives_none step_at b st P k.0 refl (λ t q x e d. due_adds step_at no_due_steps t q x e d) k.1)) (no_steps K s i o);
-        told = subst (λ (l : List LinkAct). IsToldBy heard said link l link) (sym (gives_none act_at b st P k.0 refl (λ t q x e d. due_adds act_at no_due_acts t q x e d) k.1)) (told_same K heard said link);
+        told = subst (λ (l : List LinkAct). IsToldBy heard said faults stalls ends link l link) (sym (gives_none act_at b st P k.0 refl (λ t q x e d. due_adds act_at no_due_acts t q x e d) k.1)) (told_same K heard said faults stalls ends link);
       }
 
   -- as it worked
   cuts_with : (now : ℕ) (old mid new : Course) (link link' : Option L) (s s' : S) (i i' : Option I) (o o' : Option O) (p : Story) (begins : BeginsBy now old mid p) (works : List SessionEvent)
       → mid.life.gave_up ≡ false → IsCutAt (basis_of mid.life begins.step.story) (standing_of mid.life begins.step.story) begins.step.story.link works → CourseStep mid new begins.step.story works
-      → StepsRun K (flat_map step_at works) s i o s' i' o' → IsToldBy heard said link (flat_map act_at works) link'
-      → CutsBy K heard said now old new link link' s i o s' i' o' p
+      → StepsRun K (flat_map step_at works) s i o s' i' o' → IsToldBy heard said faults stalls ends link (flat_map act_at works) link'
+      → CutsBy K heard said faults stalls ends now old new link link' s i o s' i' o' p
   cuts_with now old mid new link link' s s' i i' o o' p begins works up does step steps told =
       let b = basis_of old.life p in
       let st = standing_of old.life p in
@@ -245,43 +249,43 @@ module _ {S O I N L : Type 0} (K : Known S O I N) (heard said : L → Option (Li
         };
         step = subst (λ (l : List SessionEvent). CourseStep old new p l) (regroup_first begins.gives begins.output begins.over works) (course_on old mid new p first works begins.step step);
         steps = subst (λ (l : List PipeStep). StepsRun K l s i o s' i' o') (sym (first_adds step_at no_due_steps refl now old mid p begins works)) steps;
-        told = subst (λ (l : List LinkAct). IsToldBy heard said link l link') (sym (first_adds act_at no_due_acts refl now old mid p begins works)) told;
+        told = subst (λ (l : List LinkAct). IsToldBy heard said faults stalls ends link l link') (sym (first_adds act_at no_due_acts refl now old mid p begins works)) told;
       }
 
   cuts_linked : (now : ℕ) (old mid new : Course) (link : Option L) (l l' : L) (s s' : S) (i i' : Option I) (o o' : Option O) (p : Story) → mid.life.gave_up ≡ false → (begins : BeginsBy now old mid p)
-      → CutAtLinkBy K mid new (said l) (said l') (heard l) (heard l') s i o s' i' o' begins.step.story → link ≡ Some l
-      → CutsBy K heard said now old new link (Some l') s i o s' i' o' p
+      → CutAtLinkBy K mid new (said l) (said l') (heard l) (heard l') (ShownBy faults stalls ends l l') s i o s' i' o' begins.step.story → link ≡ Some l
+      → CutsBy K heard said faults stalls ends now old new link (Some l') s i o s' i' o' p
   cuts_linked now old mid new link l l' s s' i i' o o' p e begins w was =
       let q = begins.step.story in
-      subst (λ (x : Option L). CutsBy K heard said now old new x (Some l') s i o s' i' o' p) (sym was)
-      (cuts_with now old mid new (Some l) (Some l') s s' i i' o o' p begins w.events e (cut_with_link (basis_of mid.life q) (standing_of mid.life q) q.link w.acts w.events w.is w.cut) w.step w.steps (w.said_is, w.heard_is))
+      subst (λ (x : Option L). CutsBy K heard said faults stalls ends now old new x (Some l') s i o s' i' o' p) (sym was)
+      (cuts_with now old mid new (Some l) (Some l') s s' i i' o o' p begins w.events e (cut_with_link (basis_of mid.life q) (standing_of mid.life q) q.link w.acts w.events w.is w.cut) w.step w.steps (record { said_is = w.said_is; heard_is = w.heard_is; shown_is = w.shown_is }))
 
   cuts_unlinked : (now : ℕ) (old mid new : Course) (link link' : Option L) (s s' : S) (i i' : Option I) (o : Option O) (p : Story) → mid.life.gave_up ≡ false → (begins : BeginsBy now old mid p) → mid.side ≡ None
       → CutUnlinkedBy K mid new s i o s' i' begins.step.story → link ≡ None → link' ≡ None
-      → CutsBy K heard said now old new link link' s i o s' i' o p
+      → CutsBy K heard said faults stalls ends now old new link link' s i o s' i' o p
   cuts_unlinked now old mid new link link' s s' i i' o p e begins none w was is =
       let q = begins.step.story in
-      subst (λ (x : Option L). CutsBy K heard said now old new x link' s i o s' i' o p) (sym was)
-      (subst (λ (x : Option L). CutsBy K heard said now old new None x s i o s' i' o p) (sym is)
+      subst (λ (x : Option L). CutsBy K heard said faults stalls ends now old new x link' s i o s' i' o p) (sym was)
+      (subst (λ (x : Option L). CutsBy K heard said faults stalls ends now old new None x s i o s' i' o p) (sym is)
       (cuts_with now old mid new None None s s' i i' o o p begins w.events e
       (subst (λ (l : Option (List LinkAct)). IsCutAt (basis_of mid.life q) (standing_of mid.life q) l w.events) (sym (link_gone q.opts q.link mid.side none begins.step.keeps.link)) w.cut) w.step w.steps tt))
 
   -- the same, whatever the story
   pub all_begun : (now : ℕ) (old new : Course) (link : Option L) (s : S) (i : Option I) (o : Option O)
       → ((p : Story) → HasStory old p → (gives : List SessionEvent) × Exactly ((old.life.gave_up ≡ false) × LingerIsOver old.life.linger old.life.told now) (GivesUp (basis_of old.life p) (standing_of old.life p)) gives × CourseStep old new p gives)
-      → (p : Story) → HasStory old p → CutsBy K heard said now old new link link s i o s i o p
+      → (p : Story) → HasStory old p → CutsBy K heard said faults stalls ends now old new link link s i o s i o p
   all_begun now old new link s i o f p keeps = cuts_begun now old new link s i o p (f p keeps)
 
   pub all_linked : (now : ℕ) (old mid new : Course) (link : Option L) (l l' : L) (s s' : S) (i i' : Option I) (o o' : Option O) → mid.life.gave_up ≡ false → ((p : Story) → HasStory old p → BeginsBy now old mid p)
-      → ((p : Story) → HasStory mid p → CutAtLinkBy K mid new (said l) (said l') (heard l) (heard l') s i o s' i' o' p) → link ≡ Some l
-      → (p : Story) → HasStory old p → CutsBy K heard said now old new link (Some l') s i o s' i' o' p
+      → ((p : Story) → HasStory mid p → CutAtLinkBy K mid new (said l) (said l') (heard l) (heard l') (ShownBy faults stalls ends l l') s i o s' i' o' p) → link ≡ Some l
+      → (p : Story) → HasStory old p → CutsBy K heard said faults stalls ends now old new link (Some l') s i o s' i' o' p
   all_linked now old mid new link l l' s s' i i' o o' up f g was p keeps =
       let begins = f p keeps in
       cuts_linked now old mid new link l l' s s' i i' o o' p up begins (g begins.step.story begins.step.keeps) was
 
   pub all_unlinked : (now : ℕ) (old mid new : Course) (link link' : Option L) (s s' : S) (i i' : Option I) (o : Option O) → mid.life.gave_up ≡ false → ((p : Story) → HasStory old p → BeginsBy now old mid p) → mid.side ≡ None
       → ((p : Story) (q : Option O) → HasStory mid p → CutUnlinkedBy K mid new s i q s' i' p) → link ≡ None → link' ≡ None
-      → (p : Story) → HasStory old p → CutsBy K heard said now old new link link' s i o s' i' o p
+      → (p : Story) → HasStory old p → CutsBy K heard said faults stalls ends now old new link link' s i o s' i' o p
   all_unlinked now old mid new link link' s s' i i' o up f none g was is p keeps =
       let begins = f p keeps in
       cuts_unlinked now old mid new link link' s s' i i' o p up begins none (g begins.step.story o begins.step.keeps) was is

@@ -10,3 +10,4 @@ pub mod CutLemmas
 pub mod NotingLemmas
 pub mod SessionLemmas
 pub mod HandLemmas
+pub mod ShownLemmas

@@ -225,12 +225,12 @@ module _ {S O I N : Type 0} (K : Known S O I N) where
       }
 
   -- a take whose message couldn't be noted
-  pub unsaid_took : (can_read : Bool) (t t1 t' : Option Topics) (sd sd1 new : Side) (said said1 said' : Option (List ℕ)) (s s' : S) (i i' : Option I) (h h' : I) → t1 ≡ t → sd1 ≡ sd → said1 ≡ said
-      → can_read ≡ true → IfSome t (λ x. IsLeft false x.again) → i ≡ Some h → i' ≡ Some h' → (n : NotesNotBy K t1 t' sd1.kept new said1 said' s h s' h')
-      → UnsaidBy K (mode_of can_read t) t t' sd.kept new said said' s i s' i'
-  unsaid_took can_read t t1 t' sd sd1 new said said1 said' s s' i i' h h' et es el e left was is v =
-      let n : NotesNotBy K t t' sd.kept new said said' s h s' h' = subst (λ (x : Option Topics). NotesNotBy K x t' sd.kept new said said' s h s' h') et
-      (subst (λ (x : Side). NotesNotBy K t1 t' x.kept new said said' s h s' h') es (subst (λ (x : Option (List ℕ)). NotesNotBy K t1 t' sd1.kept new x said' s h s' h') el v)) in
+  pub unsaid_took : (can_read : Bool) (t t1 t' : Option Topics) (sd sd1 new : Side) (said said1 said' : Option (List ℕ)) (shown shown1 : Option LinkPut → Type 0) (s s' : S) (i i' : Option I) (h h' : I) → ((a : Option LinkPut) → shown1 a → shown a) → t1 ≡ t → sd1 ≡ sd → said1 ≡ said
+      → can_read ≡ true → IfSome t (λ x. IsLeft false x.again) → i ≡ Some h → i' ≡ Some h' → (n : NotesNotBy K t1 t' sd1.kept new said1 said' shown1 s h s' h')
+      → UnsaidBy K (mode_of can_read t) t t' sd.kept new said said' shown s i s' i'
+  unsaid_took can_read t t1 t' sd sd1 new said said1 said' shown shown1 s s' i i' h h' shows et es el e left was is v =
+      let n : NotesNotBy K t t' sd.kept new said said' shown1 s h s' h' = subst (λ (x : Option Topics). NotesNotBy K x t' sd.kept new said said' shown1 s h s' h') et
+      (subst (λ (x : Side). NotesNotBy K t1 t' x.kept new said said' shown1 s h s' h') es (subst (λ (x : Option (List ℕ)). NotesNotBy K t1 t' sd1.kept new x said' shown1 s h s' h') el v)) in
       let w = n.takes in
       let m = n.message in
       let done = n.done in
@@ -248,6 +248,7 @@ module _ {S O I N : Type 0} (K : Known S O I N) where
             (took_steps K pipe w.found s s' h h' o w.took)));
         left = n.waits;
         same = n.same;
+        counts = shows done.put n.counts;
         run = acts_same sd.kept new.kept (write_acts done.put w.octets ++ []) (write_acts done.put w.octets) (append-nil (write_acts done.put w.octets))
             (subst (λ (f : Option Taken). Acts sd.kept (write_acts done.put w.octets ++ done_acts some_pipe f) new.kept) found (w.run some_pipe));
         mode_is = plain_if can_read t left ∙ ap plain_mode e;

@@ -64,11 +64,11 @@ handed_on old new g p events step h = record {
   peer = peer_kept old new g p step.story step.same.object_is step.grows step.peer_is h;
 }
 
-module _ {S O I N L : Type 0} (K : Known S O I N) (heard said : L → Option (List ℕ)) where
+module _ {S O I N L : Type 0} (K : Known S O I N) (heard said : L → Option (List ℕ)) (faults stalls ends : L → ℕ) where
   pub turns_on : (now : ℕ) (old new : Course) (g : Asked) (link link' : Option L) (s s' : S) (i i' : Option I) (o o' : Option O)
-      → ((p : Story) → HasStory old p → TurnsBy K heard said now old new link link' s i o s' i' o' p)
+      → ((p : Story) → HasStory old p → TurnsBy K heard said faults stalls ends now old new link link' s i o s' i' o' p)
       → (b : Basis) (history : List SessionEvent) → HasLived b history (the_state old g i o)
-      → TurnsOn K heard said b history now (the_state old g i o) (the_state new g i' o') link link' s s'
+      → TurnsOn K heard said faults stalls ends b history now (the_state old g i o) (the_state new g i' o') link link' s s'
   turns_on now old new g link link' s s' i i' o o' f b history lived =
       let p = lived.0 in
       let t = f p lived.3 in
@@ -91,9 +91,9 @@ module _ {S O I N L : Type 0} (K : Known S O I N) (heard said : L → Option (Li
       }
 
   pub cuts_on : (now : ℕ) (old new : Course) (g : Asked) (link link' : Option L) (s s' : S) (i i' : Option I) (o o' : Option O)
-      → ((p : Story) → HasStory old p → CutsBy K heard said now old new link link' s i o s' i' o' p)
+      → ((p : Story) → HasStory old p → CutsBy K heard said faults stalls ends now old new link link' s i o s' i' o' p)
       → (b : Basis) (history : List SessionEvent) → HasLived b history (the_state old g i o)
-      → CutsOn K heard said b history now (the_state old g i o) (the_state new g i' o') link link' s s'
+      → CutsOn K heard said faults stalls ends b history now (the_state old g i o) (the_state new g i' o') link link' s s'
   cuts_on now old new g link link' s s' i i' o o' f b history lived =
       let p = lived.0 in
       let t = f p lived.3 in
@@ -165,21 +165,21 @@ tried_is c left g i o = λ b history lived.
       record { given_is = due_on c.life l g p.handed refl refl lived.4.given_is; peer = lived.4.peer },
     )
 
-module _ {S O I N L : Type 0} (K : Known S O I N) (heard said : L → Option (List ℕ)) where
+module _ {S O I N L : Type 0} (K : Known S O I N) (heard said : L → Option (List ℕ)) (faults stalls ends : L → ℕ) where
   -- the same of a session that is seen as its value
   pub turns_of : (now : ℕ) (old new : Course) (g : Asked) (x : SessionState O I) (link link' : Option L) (s s' : S) (i i' : Option I) (o o' : Option O) → the_state old g i o ≡ x
-      → ((p : Story) → HasStory old p → TurnsBy K heard said now old new link link' s i o s' i' o' p)
-      → (b : Basis) (history : List SessionEvent) → HasLived b history x → TurnsOn K heard said b history now x (the_state new g i' o') link link' s s'
+      → ((p : Story) → HasStory old p → TurnsBy K heard said faults stalls ends now old new link link' s i o s' i' o' p)
+      → (b : Basis) (history : List SessionEvent) → HasLived b history x → TurnsOn K heard said faults stalls ends b history now x (the_state new g i' o') link link' s s'
   turns_of now old new g x link link' s s' i i' o o' e f =
-      subst (λ (y : SessionState O I). (b : Basis) (history : List SessionEvent) → HasLived b history y → TurnsOn K heard said b history now y (the_state new g i' o') link link' s s') e
-      (turns_on K heard said now old new g link link' s s' i i' o o' f)
+      subst (λ (y : SessionState O I). (b : Basis) (history : List SessionEvent) → HasLived b history y → TurnsOn K heard said faults stalls ends b history now y (the_state new g i' o') link link' s s') e
+      (turns_on K heard said faults stalls ends now old new g link link' s s' i i' o o' f)
 
   pub cuts_of : (now : ℕ) (old new : Course) (g : Asked) (x : SessionState O I) (link link' : Option L) (s s' : S) (i i' : Option I) (o o' : Option O) → the_state old g i o ≡ x
-      → ((p : Story) → HasStory old p → CutsBy K heard said now old new link link' s i o s' i' o' p)
-      → (b : Basis) (history : List SessionEvent) → HasLived b history x → CutsOn K heard said b history now x (the_state new g i' o') link link' s s'
+      → ((p : Story) → HasStory old p → CutsBy K heard said faults stalls ends now old new link link' s i o s' i' o' p)
+      → (b : Basis) (history : List SessionEvent) → HasLived b history x → CutsOn K heard said faults stalls ends b history now x (the_state new g i' o') link link' s s'
   cuts_of now old new g x link link' s s' i i' o o' e f =
-      subst (λ (y : SessionState O I). (b : Basis) (history : List SessionEvent) → HasLived b history y → CutsOn K heard said b history now y (the_state new g i' o') link link' s s') e
-      (cuts_on K heard said now old new g link link' s s' i i' o o' f)
+      subst (λ (y : SessionState O I). (b : Basis) (history : List SessionEvent) → HasLived b history y → CutsOn K heard said faults stalls ends b history now y (the_state new g i' o') link link' s s') e
+      (cuts_on K heard said faults stalls ends now old new g link link' s s' i i' o o' f)
 
 -- ---- what is handed out
 

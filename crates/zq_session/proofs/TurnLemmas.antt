@@ -30,7 +30,9 @@ use Rattle.zq_session.specs.Courses.{IsOfLink, HasStory, CourseStep, LinkedBy, a
 use Rattle.session_life.specs.LifeSteps.{LifeStep, LifeDoes, with_dues}
 use Rattle.zq_session.specs.Halves.{StepsRun, step_at}
 use Rattle.zq_session.specs.Unlinked.{UnlinkedBy}
-use Rattle.zq_session.specs.Turns.{IsOutputGone, OutputBy, BeginsBy, IsToldBy, TurnsBy}
+use Rattle.zq_session.specs.Shown.{ShownBy}
+use Rattle.zq_session.specs.Turns.{IsOutputGone, OutputBy, BeginsBy, TellsBy, IsToldBy, TurnsBy}
+use Rattle.zq_session.proofs.ShownLemmas.{shown_none}
 use Rattle.link_side.proofs.PartLemmas.{adds_none}
 use Rattle.zq_session.proofs.UnlinkedLemmas.{link_gone}
 use Rattle.zq_session.proofs.HalfLemmas.{no_steps}
@@ -324,12 +326,12 @@ first_adds f dues up now old mid p begins works =
     (due_adds f dues (after_all b s begins.gives) (IsTold s × ((old.life.waits ≡ true) × HasNoOutput b (after_all b s begins.gives))) (Request (OutputOver old.life.object)) begins.output begins.output_is)
     (due_adds f dues (after_all b s (begins.gives ++ begins.output)) ((IsTold s → ⊥) × (old.life.state ≡ Some Gone)) (Request (AskOver old.life.object)) begins.over begins.over_is)
 
-module _ {S O I N L : Type 0} (K : Known S O I N) (heard said : L → Option (List ℕ)) where
+module _ {S O I N L : Type 0} (K : Known S O I N) (heard said : L → Option (List ℕ)) (faults stalls ends : L → ℕ) where
   -- the first answers, and then these works
   turns_with : (now : ℕ) (old mid new : Course) (link link' : Option L) (s s' : S) (i i' : Option I) (o o' : Option O) (p : Story) (begins : BeginsBy now old mid p) (works : List SessionEvent)
       → Works (basis_of mid.life begins.step.story) (standing_of mid.life begins.step.story) now works → CourseStep mid new begins.step.story works
-      → StepsRun K (flat_map step_at works) s i o s' i' o' → IsToldBy heard said link (flat_map act_at works) link'
-      → TurnsBy K heard said now old new link link' s i o s' i' o' p
+      → StepsRun K (flat_map step_at works) s i o s' i' o' → IsToldBy heard said faults stalls ends link (flat_map act_at works) link'
+      → TurnsBy K heard said faults stalls ends now old new link link' s i o s' i' o' p
   turns_with now old mid new link link' s s' i i' o o' p begins works does step steps told =
       let b = basis_of old.life p in
       let st = standing_of old.life p in
@@ -351,43 +353,44 @@ module _ {S O I N L : Type 0} (K : Known S O I N) (heard said : L → Option (Li
         };
         step = subst (λ (l : List SessionEvent). CourseStep old new p l) (regroup_first begins.gives begins.output begins.over works) (course_on old mid new p first works begins.step step);
         steps = subst (λ (l : List PipeStep). StepsRun K l s i o s' i' o') (sym (first_adds step_at no_due_steps refl now old mid p begins works)) steps;
-        told = subst (λ (l : List LinkAct). IsToldBy heard said link l link') (sym (first_adds act_at no_due_acts refl now old mid p begins works)) told;
+        told = subst (λ (l : List LinkAct). IsToldBy heard said faults stalls ends link l link') (sym (first_adds act_at no_due_acts refl now old mid p begins works)) told;
       }
 
-  pub told_same : (link : Option L) → IsToldBy heard said link [] link
+  pub told_same : (link : Option L) → IsToldBy heard said faults stalls ends link [] link
   told_same None = tt
-  told_same (Some l) = (adds_none (said l), adds_none (heard l))
+  told_same (Some l) = record { said_is = adds_none (said l); heard_is = adds_none (heard l); shown_is = shown_none (faults l) (stalls l) (ends l) }
 
   -- it gave up
   pub turns_given_up : (now : ℕ) (old new : Course) (link : Option L) (s : S) (i : Option I) (o : Option O) (p : Story) → new.life.gave_up ≡ true → BeginsBy now old new p
-      → TurnsBy K heard said now old new link link s i o s i o p
+      → TurnsBy K heard said faults stalls ends now old new link link s i o s i o p
   turns_given_up now old new link s i o p e begins =
       turns_with now old new new link link s s i i o o p begins [] (inl (e, refl)) (course_same new new begins.step.story refl refl begins.step.keeps) (no_steps K s i o) (told_same link)
 
   -- it works at its link
   pub turns_linked : (now : ℕ) (old mid new : Course) (link : Option L) (l l' : L) (link' : Option L) (s s' : S) (i i' : Option I) (o o' : Option O) (p : Story) → mid.life.gave_up ≡ false → (begins : BeginsBy now old mid p)
-      → LinkedBy K now mid new (said l) (said l') (heard l) (heard l') s i o s' i' o' begins.step.story → (link' ≡ None) ⊎ (link' ≡ Some l') → link ≡ Some l
-      → TurnsBy K heard said now old new link link' s i o s' i' o' p
+      → LinkedBy K now mid new (said l) (said l') (heard l) (heard l') (ShownBy faults stalls ends l l') s i o s' i' o' begins.step.story → (link' ≡ None) ⊎ (link' ≡ Some l') → link ≡ Some l
+      → TurnsBy K heard said faults stalls ends now old new link link' s i o s' i' o' p
   turns_linked now old mid new link l l' link' s s' i i' o o' p e begins w is was =
       let q = begins.step.story in
-      subst (λ (x : Option L). TurnsBy K heard said now old new x link' s i o s' i' o' p) (sym was)
+      let tells : TellsBy heard said faults stalls ends l (flat_map act_at w.events) l' = record { said_is = w.said_is; heard_is = w.heard_is; shown_is = w.shown_is } in
+      subst (λ (x : Option L). TurnsBy K heard said faults stalls ends now old new x link' s i o s' i' o' p) (sym was)
       (turns_with now old mid new (Some l) link' s s' i i' o o' p begins w.events (inr (e, works_linked (basis_of mid.life q) (standing_of mid.life q) q.link w.acts now w.events w.is w.turn)) w.step w.steps
-      (elim is as (λ _. IsToldBy heard said (Some l) (flat_map act_at w.events) link') [
-        | inl none ↦ subst (λ (x : Option L). IsToldBy heard said (Some l) (flat_map act_at w.events) x) (sym none) tt
-        | inr some ↦ subst (λ (x : Option L). IsToldBy heard said (Some l) (flat_map act_at w.events) x) (sym some) (w.said_is, w.heard_is)
+      (elim is as (λ _. IsToldBy heard said faults stalls ends (Some l) (flat_map act_at w.events) link') [
+        | inl none ↦ subst (λ (x : Option L). IsToldBy heard said faults stalls ends (Some l) (flat_map act_at w.events) x) (sym none) (l', tells)
+        | inr some ↦ subst (λ (x : Option L). IsToldBy heard said faults stalls ends (Some l) (flat_map act_at w.events) x) (sym some) tells
       ]))
 
-  told_new : (acts : List LinkAct) (link' : Option L) → IfSome link' (λ l. IsNew (heard l) (said l)) → IsToldBy heard said None acts link'
+  told_new : (acts : List LinkAct) (link' : Option L) → IfSome link' (λ l. IsNew (heard l) (said l)) → IsToldBy heard said faults stalls ends None acts link'
   told_new acts None k = tt
   told_new acts (Some l) k = k
 
   -- or without one
   pub turns_unlinked : (now : ℕ) (old mid new : Course) (link link' : Option L) (s s' : S) (i i' : Option I) (o : Option O) (p : Story) → mid.life.gave_up ≡ false → (begins : BeginsBy now old mid p) → mid.side ≡ None
       → UnlinkedBy K now mid new s i o s' i' begins.step.story → IfSome link' (λ l. IsNew (heard l) (said l)) → link ≡ None
-      → TurnsBy K heard said now old new link link' s i o s' i' o p
+      → TurnsBy K heard said faults stalls ends now old new link link' s i o s' i' o p
   turns_unlinked now old mid new link link' s s' i i' o p e begins none w fresh was =
       let q = begins.step.story in
-      subst (λ (x : Option L). TurnsBy K heard said now old new x link' s i o s' i' o p) (sym was)
+      subst (λ (x : Option L). TurnsBy K heard said faults stalls ends now old new x link' s i o s' i' o p) (sym was)
       (turns_with now old mid new None link' s s' i i' o o p begins w.events (inr (e, works_unlinked (basis_of mid.life q) (standing_of mid.life q) q.link now w.events (link_gone q.opts q.link mid.side none begins.step.keeps.link) w.turn)) w.step w.steps
       (told_new (flat_map act_at w.events) link' fresh))
 

@@ -45,11 +45,12 @@ pub record AreCut (b : Basis) (s : Standing) (acts writes reads : List LinkAct) 
 
 module _ {S O I N : Type 0} (K : Known S O I N) where
   -- both parts, and what their answers tell of them
-  pub record PartsBy (l : Life) (t t' : Option Topics) (old : Kept) (done : Done) (new : Kept) (said said' heard heard' : Option (List ℕ)) (s : S) (i : Option I) (o : Option O) (s' : S) (i' : Option I) (o' : Option O) : Type 0 where
+  pub record PartsBy (l : Life) (t t' : Option Topics) (old : Kept) (done : Done) (new : Kept) (said said' heard heard' : Option (List ℕ)) (shown : List LinkAct → Type 0) (s : S) (i : Option I) (o : Option O) (s' : S) (i' : Option I) (o' : Option O) : Type 0 where
     pub writes : List LinkAct
     pub reads : List LinkAct
     pub said_is : Adds said (said_of (writes ++ reads)) said'
     pub heard_is : Adds heard (heard_of (writes ++ reads)) heard'
+    pub shown_is : shown (writes ++ reads)
     pub steps : StepsRun K (flat_map step_in (writes ++ reads)) s i o s' i' o'
     pub run : (opts : EngineOpts) → opts.kind ≡ l.kind → KeepsActs opts old (writes ++ reads) new
     pub notes : t' ≡ behind_acts (writes ++ reads) t
@@ -63,11 +64,12 @@ module _ {S O I N : Type 0} (K : Known S O I N) where
     pub write_stands : (IsWriteOver done.written.put → ⊥) → IsEnded writes → ⊥
 
   -- the same where memory cut the second short
-  pub record CutBy (l : Life) (t t' : Option Topics) (old new : Kept) (said said' heard heard' : Option (List ℕ)) (s : S) (i : Option I) (o : Option O) (s' : S) (i' : Option I) (o' : Option O) : Type 0 where
+  pub record CutBy (l : Life) (t t' : Option Topics) (old new : Kept) (said said' heard heard' : Option (List ℕ)) (shown : List LinkAct → Type 0) (s : S) (i : Option I) (o : Option O) (s' : S) (i' : Option I) (o' : Option O) : Type 0 where
     pub writes : List LinkAct
     pub reads : List LinkAct
     pub said_is : Adds said (said_of (writes ++ reads)) said'
     pub heard_is : Adds heard (heard_of (writes ++ reads)) heard'
+    pub shown_is : shown (writes ++ reads)
     pub steps : StepsRun K (flat_map step_in (writes ++ reads)) s i o s' i' o'
     pub run : (opts : EngineOpts) → opts.kind ≡ l.kind → KeepsActs opts old (writes ++ reads) new
     pub notes : t' ≡ behind_acts (writes ++ reads) t
@@ -75,12 +77,13 @@ module _ {S O I N : Type 0} (K : Known S O I N) where
         AreCut (basis_of l p) (standing_of l p) acts writes reads
 
   -- the first alone, of one with topics, whose message that was taken couldn't be noted and isn't offered yet
-  pub record UnnotedBy (l : Life) (t t' : Option Topics) (old : Kept) (new : Side) (said said' heard heard' : Option (List ℕ)) (s : S) (i : Option I) (o : Option O) (s' : S) (i' : Option I) (o' : Option O) : Type 0 where
+  pub record UnnotedBy (l : Life) (t t' : Option Topics) (old : Kept) (new : Side) (said said' heard heard' : Option (List ℕ)) (shown : List LinkAct → Type 0) (s : S) (i : Option I) (o : Option O) (s' : S) (i' : Option I) (o' : Option O) : Type 0 where
     pub before : List LinkAct
     pub message : Frames
     pub some : IsSome t
     pub said_is : Adds said (said_of (before ++ Step (Take (read_through l.end) message) ∷ [])) said'
     pub heard_is : Adds heard (heard_of (before ++ Step (Take (read_through l.end) message) ∷ [])) heard'
+    pub shown_is : shown (before ++ Step (Take (read_through l.end) message) ∷ [])
     pub steps : StepsRun K (flat_map step_in (before ++ Step (Take (read_through l.end) message) ∷ [])) s i o s' i' o'
     pub left : new.behind ≡ Unsaid message
     pub same : t' ≡ t
@@ -91,10 +94,11 @@ module _ {S O I N : Type 0} (K : Known S O I N) where
         WritesAt (basis_of l p) (standing_of l p) acts (before ++ Step (Take (read_through l.end) message) ∷ [])
 
   -- the last acts: puts of all that is whole, or one write of what is left, or none
-  pub record LastBy (refused puts : Bool) (pipe : PipeId) (old new : Kept) (said said' : Option (List ℕ)) (s : S) (o : Option O) (s' : S) (o' : Option O) : Type 0 where
+  pub record LastBy (refused puts : Bool) (pipe : PipeId) (old new : Kept) (said said' : Option (List ℕ)) (shown : List LinkAct → Type 0) (s : S) (o : Option O) (s' : S) (o' : Option O) : Type 0 where
     pub put_last : List LinkAct
     pub said_last : List LinkAct
     pub said_is : Adds said (said_of (put_last ++ said_last)) said'
+    pub shown_is : shown (put_last ++ said_last)
     pub hears : heard_of (put_last ++ said_last) ≡ []
     pub takes : taken_of (put_last ++ said_last) ≡ []
     pub repeats : repeated_of (put_last ++ said_last) ≡ []

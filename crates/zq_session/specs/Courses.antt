@@ -98,7 +98,7 @@ act_at (Handed due) = []
 
 module _ {S O I N : Type 0} (K : Known S O I N) where
   -- a turn with a link, whatever the story
-  pub record LinkedBy (now : ℕ) (old new : Course) (said said' heard heard' : Option (List ℕ)) (s : S) (i : Option I) (o : Option O) (s' : S) (i' : Option I) (o' : Option O) (p : Story) : Type 0 where
+  pub record LinkedBy (now : ℕ) (old new : Course) (said said' heard heard' : Option (List ℕ)) (shown : List LinkAct → Type 0) (s : S) (i : Option I) (o : Option O) (s' : S) (i' : Option I) (o' : Option O) (p : Story) : Type 0 where
     pub acts : List LinkAct
     pub is : p.link ≡ Some acts
     pub events : List SessionEvent
@@ -107,3 +107,4 @@ module _ {S O I N : Type 0} (K : Known S O I N) where
     pub steps : StepsRun K (flat_map step_at events) s i o s' i' o'
     pub said_is : Adds said (said_of (flat_map act_at events)) said'
     pub heard_is : Adds heard (heard_of (flat_map act_at events)) heard'
+    pub shown_is : shown (flat_map act_at events)

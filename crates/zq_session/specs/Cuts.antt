@@ -55,7 +55,7 @@ pub record IsCutTurn (b : Basis) (s : Standing) (now : ℕ) (more : List Session
   pub rest : ((output ≡ []) × ((over ≡ []) × (works ≡ []))) ⊎ IsCutAtWork b s gives output over works
 
 module _ {S O I N : Type 0} (K : Known S O I N) where
-  pub record CutAtLinkBy (old new : Course) (said said' heard heard' : Option (List ℕ)) (s : S) (i : Option I) (o : Option O) (s' : S) (i' : Option I) (o' : Option O) (p : Story) : Type 0 where
+  pub record CutAtLinkBy (old new : Course) (said said' heard heard' : Option (List ℕ)) (shown : List LinkAct → Type 0) (s : S) (i : Option I) (o : Option O) (s' : S) (i' : Option I) (o' : Option O) (p : Story) : Type 0 where
     pub acts : List LinkAct
     pub is : p.link ≡ Some acts
     pub events : List SessionEvent
@@ -64,6 +64,7 @@ module _ {S O I N : Type 0} (K : Known S O I N) where
     pub steps : StepsRun K (flat_map step_at events) s i o s' i' o'
     pub said_is : Adds said (said_of (flat_map act_at events)) said'
     pub heard_is : Adds heard (heard_of (flat_map act_at events)) heard'
+    pub shown_is : shown (flat_map act_at events)
 
   pub record CutUnlinkedBy (old new : Course) (s : S) (i : Option I) (o : Option O) (s' : S) (i' : Option I) (p : Story) : Type 0 where
     pub events : List SessionEvent
@@ -71,10 +72,10 @@ module _ {S O I N : Type 0} (K : Known S O I N) where
     pub step : CourseStep old new p events
     pub steps : StepsRun K (flat_map step_at events) s i o s' i' o
 
-module _ {S O I N L : Type 0} (K : Known S O I N) (heard said : L → Option (List ℕ)) where
+module _ {S O I N L : Type 0} (K : Known S O I N) (heard said : L → Option (List ℕ)) (faults stalls ends : L → ℕ) where
   pub record CutsBy (now : ℕ) (old new : Course) (link link' : Option L) (s : S) (i : Option I) (o : Option O) (s' : S) (i' : Option I) (o' : Option O) (p : Story) : Type 0 where
     pub events : List SessionEvent
     pub cut : IsCutTurn (basis_of old.life p) (standing_of old.life p) now events
     pub step : CourseStep old new p events
     pub steps : StepsRun K (flat_map step_at events) s i o s' i' o'
-    pub told : IsToldBy heard said link (flat_map act_at events) link'
+    pub told : IsToldBy heard said faults stalls ends link (flat_map act_at events) link'

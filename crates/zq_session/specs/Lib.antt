@@ -6,6 +6,7 @@ pub use Rattle.spec_link.specs.Listening
 pub mod Noting
 pub mod Halves
 pub mod Doing
+pub mod Shown
 pub mod BothParts
 pub mod Courses
 pub mod Ending

@@ -152,7 +152,7 @@ module _ {S O I N : Type 0} (K : Known S O I N) where
         IsWritePart opts (λ act. act ≡ Wire (Repeats m)) acts (write_acts done.put octets ++ next_acts pipe next)
 
   -- the writing part of one with topics, whose message couldn't be noted
-  pub record UnsaidBy (mode : WriteMode) (t t' : Option Topics) (old : Kept) (new : Side) (said said' : Option (List ℕ)) (s : S) (i : Option I) (s' : S) (i' : Option I) : Type 0 where
+  pub record UnsaidBy (mode : WriteMode) (t t' : Option Topics) (old : Kept) (new : Side) (said said' : Option (List ℕ)) (shown : Option LinkPut → Type 0) (s : S) (i : Option I) (s' : S) (i' : Option I) : Type 0 where
     pub put : Option LinkPut
     pub octets : List ℕ
     pub message : Frames
@@ -166,6 +166,7 @@ module _ {S O I N : Type 0} (K : Known S O I N) where
     pub mode_is : mode ≡ taking
     pub takes : (pipe : PipeId) (opts : EngineOpts) (acts : List LinkAct) → HasRun opts acts old →
         IsWritePart opts (IsTake pipe) acts (write_acts put octets ++ Step (Take pipe message) ∷ [])
+    pub counts : shown put
 
   -- a take of one with topics, whose message was noted and offered, or couldn't be noted
   pub record NotesBy (t t' : Option Topics) (old : Kept) (done : Written) (new : Side) (said said' : Option (List ℕ)) (s : S) (i : I) (s' : S) (i' : I) : Type 0 where
@@ -173,13 +174,14 @@ module _ {S O I N : Type 0} (K : Known S O I N) where
     pub takes : TakesBy K old done mid said said' s i s' i'
     pub passes : PassesOn mid.behind mid.kept t new t'
 
-  pub record NotesNotBy (t t' : Option Topics) (old : Kept) (new : Side) (said said' : Option (List ℕ)) (s : S) (i : I) (s' : S) (i' : I) : Type 0 where
+  pub record NotesNotBy (t t' : Option Topics) (old : Kept) (new : Side) (said said' : Option (List ℕ)) (shown : Option LinkPut → Type 0) (s : S) (i : I) (s' : S) (i' : I) : Type 0 where
     pub done : Written
     pub message : Frames
     pub takes : TakesBy K old done new said said' s i s' i'
     pub waits : new.behind ≡ Unsaid message
     pub some : IsSome t
     pub same : t' ≡ t
+    pub counts : shown done.put
 
 -- the next topic is said, where there are topics
 pub record SaysOn (t t' : Option Topics) (old : Kept) (done : Written) (new : Kept) (said said' : Option (List ℕ)) : Type 0 where

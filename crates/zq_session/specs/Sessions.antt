@@ -47,19 +47,19 @@ module _ {S O I N : Type 0} (K : Known S O I N) where
 
 module _ {S O I N L : Type 0} (K : Known S O I N) where
   -- a turn by a reading of the clock, behind this history: the halves and the link did what stands among its events, and all pipes are there still
-  pub record TurnsOn (heard said : L → Option (List ℕ)) (b : Basis) (history : List SessionEvent) (now : ℕ) (old new : SessionState O I) (link link' : Option L) (s s' : S) : Type 0 where
+  pub record TurnsOn (heard said : L → Option (List ℕ)) (faults stalls ends : L → ℕ) (b : Basis) (history : List SessionEvent) (now : ℕ) (old new : SessionState O I) (link link' : Option L) (s s' : S) : Type 0 where
     pub events : List SessionEvent
     pub turn : IsTurn b (standing b history) now events
     pub lived : HasLived b (history ++ events) new
     pub steps : StepsRun K (flat_map step_at events) s old.input old.out s' new.input new.out
-    pub told : IsToldBy heard said link (flat_map act_at events) link'
+    pub told : IsToldBy heard said faults stalls ends link (flat_map act_at events) link'
     pub there : (n : N) → IsThere K s n → IsThere K s' n
 
   -- the same of one that memory cut short
-  pub record CutsOn (heard said : L → Option (List ℕ)) (b : Basis) (history : List SessionEvent) (now : ℕ) (old new : SessionState O I) (link link' : Option L) (s s' : S) : Type 0 where
+  pub record CutsOn (heard said : L → Option (List ℕ)) (faults stalls ends : L → ℕ) (b : Basis) (history : List SessionEvent) (now : ℕ) (old new : SessionState O I) (link link' : Option L) (s s' : S) : Type 0 where
     pub events : List SessionEvent
     pub cut : IsCutTurn b (standing b history) now events
     pub lived : HasLived b (history ++ events) new
     pub steps : StepsRun K (flat_map step_at events) s old.input old.out s' new.input new.out
-    pub told : IsToldBy heard said link (flat_map act_at events) link'
+    pub told : IsToldBy heard said faults stalls ends link (flat_map act_at events) link'
     pub there : (n : N) → IsThere K s n → IsThere K s' n

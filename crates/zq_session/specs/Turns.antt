@@ -14,6 +14,7 @@ use Rattle.zq_session.specs.declared.course.Course.{Course}
 use Rattle.link_side.specs.Calls.{Adds}
 use Rattle.session_life.specs.Lives.{Story, basis_of, standing_of}
 use Rattle.zq_session.specs.Halves.{StepsRun, step_at}
+use Rattle.zq_session.specs.Shown.{ShownBy}
 use Rattle.zq_session.specs.Courses.{HasStory, CourseStep, act_at}
 
 -- no output is left to wait for
@@ -40,17 +41,25 @@ pub record BeginsBy (now : ℕ) (old new : Course) (p : Story) : Type 0 where
       ((IsTold (standing_of old.life p) → ⊥) × (old.life.state ≡ Some Gone)) (Request (AskOver old.life.object)) over
   pub step : CourseStep old new p (gives ++ (output ++ over))
 
--- what a link tells, behind these acts: more, where it was there and is; nothing yet, where it is new
-abbrev pub IsToldBy : {L : Type 0} → (heard said : L → Option (List ℕ)) → Option L → List LinkAct → Option L → Type 0
-IsToldBy heard said link acts None = Unit {0}
-IsToldBy heard said None acts (Some new) = IsNew (heard new) (said new)
-IsToldBy heard said (Some old) acts (Some new) = Adds (said old) (said_of acts) (said new) × Adds (heard old) (heard_of acts) (heard new)
+module _ {L : Type 0} (heard said : L → Option (List ℕ)) (faults stalls ends : L → ℕ) where
+  -- what a link tells behind these acts: more octets, and by its counts how they were answered
+  pub record TellsBy (old : L) (acts : List LinkAct) (new : L) : Type 0 where
+    pub said_is : Adds (said old) (said_of acts) (said new)
+    pub heard_is : Adds (heard old) (heard_of acts) (heard new)
+    pub shown_is : ShownBy faults stalls ends old new acts
 
-module _ {S O I N L : Type 0} (K : Known S O I N) (heard said : L → Option (List ℕ)) where
+  -- what a session's link tells: that, where it was there, also until it was let go; nothing yet, where it is new
+  abbrev pub IsToldBy : Option L → List LinkAct → Option L → Type 0
+  IsToldBy None acts None = Unit {0}
+  IsToldBy None acts (Some new) = IsNew (heard new) (said new)
+  IsToldBy (Some old) acts None = (last : L) × TellsBy old acts last
+  IsToldBy (Some old) acts (Some new) = TellsBy old acts new
+
+module _ {S O I N L : Type 0} (K : Known S O I N) (heard said : L → Option (List ℕ)) (faults stalls ends : L → ℕ) where
   -- a turn
   pub record TurnsBy (now : ℕ) (old new : Course) (link link' : Option L) (s : S) (i : Option I) (o : Option O) (s' : S) (i' : Option I) (o' : Option O) (p : Story) : Type 0 where
     pub events : List SessionEvent
     pub turn : IsTurn (basis_of old.life p) (standing_of old.life p) now events
     pub step : CourseStep old new p events
     pub steps : StepsRun K (flat_map step_at events) s i o s' i' o'
-    pub told : IsToldBy heard said link (flat_map act_at events) link'
+    pub told : IsToldBy heard said faults stalls ends link (flat_map act_at events) link'

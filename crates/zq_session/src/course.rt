@@ -6,6 +6,7 @@ ghost use Rattle.zq_session.specs.Courses.{HasStory, IsAtEase, IsReady, ShakesBy
 ghost use Rattle.session_life.specs.TopicSteps.{over_link};
 ghost use Rattle.spec_link.specs.Parts.{IsWriteOver};
 ghost use Rattle.session_life.specs.LifeView.{IsWritable, IsReadable};
+ghost use Rattle.zq_session.specs.Shown.{ShownBy};
 ghost use Rattle.zq_session.specs.Unlinked.{DialsBy, UnlinkedBy};
 ghost use Rattle.zq_session.specs.Cuts.{CutAtLinkBy, CutUnlinkedBy};
 ghost use Rattle.spec_link.specs.History.{later};
@@ -140,6 +141,7 @@ impl Course {
         ensures turn { OnOk result ((p : Story) → HasStory self.old p →
             LinkedBy P.known now self.old self.new
             (L.said link.old) (L.said link.new) (L.heard link.old) (L.heard link.new)
+            (ShownBy L.faults L.stalls L.ends link.old link.new)
             pipes.old input.old out.old pipes.new input.new out.new p) }
         ensures there { AreThere P.known self.old.life.state pipes.new input.new out.new }
         ensures state { self.new.life.state ≡ self.old.life.state }
@@ -150,6 +152,7 @@ impl Course {
         ensures cut { OnErr result ((p : Story) → HasStory self.old p →
             CutAtLinkBy P.known self.old self.new
             (L.said link.old) (L.said link.new) (L.heard link.old) (L.heard link.new)
+            (ShownBy L.faults L.stalls L.ends link.old link.new)
             pipes.old input.old out.old pipes.new input.new out.new p) }
     {
         match &mut self.side {
@@ -387,10 +390,12 @@ impl Course {
         requires linked { is_some link.old ≡ is_some self.old.side }
         requires there { AreThere P.known self.old.life.state pipes.old input.old out.old }
         ensures turn { OnOk result ((p : Story) → HasStory self.old p →
-            TurnsBy P.known H.L.heard H.L.said now self.old self.new link.old link.new
+            TurnsBy P.known H.L.heard H.L.said H.L.faults H.L.stalls H.L.ends
+            now self.old self.new link.old link.new
             pipes.old input.old out.old pipes.new input.new out.new p) }
         ensures cut { OnErr result ((p : Story) → HasStory self.old p →
-            CutsBy P.known H.L.heard H.L.said now self.old self.new link.old link.new
+            CutsBy P.known H.L.heard H.L.said H.L.faults H.L.stalls H.L.ends
+            now self.old self.new link.old link.new
             pipes.old input.old out.old pipes.new input.new out.new p) }
         ensures there { AreThere P.known self.new.life.state pipes.new input.new out.new }
         ensures linked { is_some link.new ≡ is_some self.new.side }

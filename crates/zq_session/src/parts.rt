@@ -4,6 +4,7 @@ ghost use Rattle.link_side.specs.declared.behind.Behind.TheVariants.{Nothing};
 ghost use Rattle.link_side.specs.Calls.{WriteCounts, ReadCounts};
 ghost use Rattle.zq_session.specs.Halves.{ReadsThere, WritesThere, AreThere};
 ghost use Rattle.zq_session.specs.Doing.{WritesAtBy, ReadsAtBy, WantsAtBy, EndsAs, IsOverNow, StandsNow};
+ghost use Rattle.zq_session.specs.Shown.{ShownBy};
 ghost use Rattle.zq_session.specs.Unlinked.{LooksBy};
 ghost use Rattle.msg_pipe.specs.Known.{IsThere};
 ghost use Rattle.link_topics.specs.Topics.{IsLeft};
@@ -63,8 +64,13 @@ fn take_at<P: Pipes, L: Link>(
         side.new (L.said link.old) (L.said link.new) pipes.old half.old pipes.new half.new) }
     ensures rest { OnOk result (side.new.behind ≡ Nothing) }
     ensures err { OnErr result (NotesNotBy P.known topics.old topics.new side.old.kept
-        side.new (L.said link.old) (L.said link.new) pipes.old half.old pipes.new half.new) }
+        side.new (L.said link.old) (L.said link.new) (λ put. WriteCounts put
+        (L.faults link.old) (L.faults link.new) (L.stalls link.old) (L.stalls link.new)
+        (L.ends link.old) (L.ends link.new)) pipes.old half.old pipes.new half.new) }
     ensures others { L.heard link.new ≡ L.heard link.old }
+    ensures counts { IfOk result (λ done. WriteCounts done.put
+        (L.faults link.old) (L.faults link.new) (L.stalls link.old) (L.stalls link.new)
+        (L.ends link.old) (L.ends link.new)) }
 {
     let written = side.take_part(pipes, half, link);
     pass_on(topics, alloc, side)?;
@@ -84,6 +90,9 @@ fn say_at<L: Link>(
         × ((link.new ≡ link.old) × IfSome topics.old (λ t. IsLeft false t.again)))) }
     ensures rest { side.new.behind ≡ Nothing }
     ensures others { L.heard link.new ≡ L.heard link.old }
+    ensures counts { IfSome result (λ done. WriteCounts done.put
+        (L.faults link.old) (L.faults link.new) (L.stalls link.old) (L.stalls link.new)
+        (L.ends link.old) (L.ends link.new)) }
 {
     match topics {
         None => return None,
@@ -116,8 +125,13 @@ pub(crate) fn write_with<P: Pipes, L: Link>(
     ensures rest { OnOk result (side.new.behind ≡ Nothing) }
     ensures err { OnErr result (UnsaidBy P.known (mode_of can_read topics.old)
         topics.old topics.new side.old.kept side.new
-        (L.said link.old) (L.said link.new) pipes.old input.old pipes.new input.new) }
+        (L.said link.old) (L.said link.new) (λ put. WriteCounts put
+        (L.faults link.old) (L.faults link.new) (L.stalls link.old) (L.stalls link.new)
+        (L.ends link.old) (L.ends link.new)) pipes.old input.old pipes.new input.new) }
     ensures others { L.heard link.new ≡ L.heard link.old }
+    ensures counts { IfOk result (λ done. WriteCounts done.put
+        (L.faults link.old) (L.faults link.new) (L.stalls link.old) (L.stalls link.new)
+        (L.ends link.old) (L.ends link.new)) }
 {
     if topics.is_none() {
         let written = write_at(can_read, side, pipes, input, link);
@@ -306,14 +320,17 @@ pub(crate) fn both_parts<P: Pipes, L: Link>(
     ensures ok { IfOk result (λ done. PartsBy P.known life.now topics.old topics.new
         side.old.kept done side.new.kept
         (L.said link.old) (L.said link.new) (L.heard link.old) (L.heard link.new)
+        (ShownBy L.faults L.stalls L.ends link.old link.new)
         pipes.old input.old out.old pipes.new input.new out.new) }
     ensures rest { OnOk result (side.new.behind ≡ Nothing) }
     ensures err { OnErr result ((IsFree side.new.behind
         × CutBy P.known life.now topics.old topics.new side.old.kept side.new.kept
         (L.said link.old) (L.said link.new) (L.heard link.old) (L.heard link.new)
+        (ShownBy L.faults L.stalls L.ends link.old link.new)
         pipes.old input.old out.old pipes.new input.new out.new)
         ⊎ UnnotedBy P.known life.now topics.old topics.new side.old.kept side.new
         (L.said link.old) (L.said link.new) (L.heard link.old) (L.heard link.new)
+        (ShownBy L.faults L.stalls L.ends link.old link.new)
         pipes.old input.old out.old pipes.new input.new out.new) }
 {
     let written = write_with(life.can_read(), topics, alloc, side, pipes, input, link)?;
@@ -338,7 +355,8 @@ pub(crate) fn last_acts<P: Pipes, L: Link>(
     requires one { refused ≡ true → puts ≡ false }
     requires here { puts ≡ true → WritesThere P.known pipes.old out.old }
     ensures last { (pipe : PipeId) → LastBy P.known refused puts pipe side.old.kept side.new.kept
-        (L.said link.old) (L.said link.new) pipes.old out.old pipes.new out.new }
+        (L.said link.old) (L.said link.new) (ShownBy L.faults L.stalls L.ends link.old link.new)
+        pipes.old out.old pipes.new out.new }
     ensures others { L.heard link.new ≡ L.heard link.old }
 {
     if refused {

@@ -188,10 +188,12 @@ impl<P: Pipes> Session<P> {
         requires linked { is_some link.old ≡ has_link self.old }
         requires there { AreAt P.known pipes.old self.old }
         ensures turn { OnOk result ((b : Basis) (history : List SessionEvent) →
-            HasLived b history self.old → TurnsOn P.known H.L.heard H.L.said b history now
+            HasLived b history self.old → TurnsOn P.known
+            H.L.heard H.L.said H.L.faults H.L.stalls H.L.ends b history now
             self.old self.new link.old link.new pipes.old pipes.new) }
         ensures cut { OnErr result ((b : Basis) (history : List SessionEvent) →
-            HasLived b history self.old → CutsOn P.known H.L.heard H.L.said b history now
+            HasLived b history self.old → CutsOn P.known
+            H.L.heard H.L.said H.L.faults H.L.stalls H.L.ends b history now
             self.old self.new link.old link.new pipes.old pipes.new) }
         ensures linked { is_some link.new ≡ has_link self.new }
         ensures there { AreAt P.known pipes.new self.new }

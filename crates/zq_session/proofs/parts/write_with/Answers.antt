@@ -1,4 +1,7 @@
-use Rattle.std.proofs.Common.{Some, refl, ap}
+use Rattle.std.proofs.Common.{Option, Some, refl, ap, subst}
+use Rattle.zq_outer.specs.declared.link.LinkPut.{LinkPut}
+use Rattle.std.specs.Prelude.{IfOk}
+use Rattle.link_side.specs.Calls.{WriteCounts}
 use Rattle.zq_session.proofs.NextLemmas.{next_none, next_said, next_alone, next_took, unsaid_took, none_when, if_ok_on}
 use Rattle.zq_session.proofs.UnlinkedLemmas.{on_errs}
 use Rattle.zq_session.proofs.parts.write_with.Goals as goal
@@ -26,6 +29,22 @@ returns-in-Some-input-clause-ok g c =
 pub returns-in-Some-input-clause-err : goal.returns-in-Some-input-clause-err
 returns-in-Some-input-clause-err g c =
     let n = c.in-None.ensures.none in
+    let m = c.take_at.new.link in
     on_errs c.take_at.result _ _ (λ k.
     unsaid_took g.P.Pipes.known c.args.can_read c.args.topics.now c.say_at.new.topics c.take_at.new.topics c.args.side.now c.say_at.new.side c.take_at.new.side (g.L.Link.said c.args.link.now) (g.L.Link.said c.say_at.new.link) (g.L.Link.said c.take_at.new.link)
-    c.args.pipes.now c.take_at.new.pipes c.args.input.now (Some c.take_at.new.half) c.in-Some-input.half c.take_at.new.half n.1.0 n.0 (ap (λ l. g.L.Link.said l) n.1.1.0) c.if-not-can_read.false n.1.1.1 c.in-Some-input.is refl k) c.take_at.ensures.err
+    (λ (a : Option LinkPut). WriteCounts a (g.L.Link.faults c.args.link.now) (g.L.Link.faults m) (g.L.Link.stalls c.args.link.now) (g.L.Link.stalls m) (g.L.Link.ends c.args.link.now) (g.L.Link.ends m))
+    (λ (a : Option LinkPut). WriteCounts a (g.L.Link.faults c.say_at.new.link) (g.L.Link.faults m) (g.L.Link.stalls c.say_at.new.link) (g.L.Link.stalls m) (g.L.Link.ends c.say_at.new.link) (g.L.Link.ends m))
+    c.args.pipes.now c.take_at.new.pipes c.args.input.now (Some c.take_at.new.half) c.in-Some-input.half c.take_at.new.half
+    (λ a w. subst (λ l. WriteCounts a (g.L.Link.faults l) (g.L.Link.faults m) (g.L.Link.stalls l) (g.L.Link.stalls m) (g.L.Link.ends l) (g.L.Link.ends m)) n.1.1.0 w) n.1.0 n.0 (ap (λ l. g.L.Link.said l) n.1.1.0) c.if-not-can_read.false n.1.1.1 c.in-Some-input.is refl k) c.take_at.ensures.err
+
+pub returns-then-not-can_read-clause-counts : goal.returns-then-not-can_read-clause-counts
+returns-then-not-can_read-clause-counts g c =
+    let n = c.in-None.ensures.none in
+    let m = c.write_only-put.new.link in
+    subst (λ l. WriteCounts c.write_only-put.result (g.L.Link.faults l) (g.L.Link.faults m) (g.L.Link.stalls l) (g.L.Link.stalls m) (g.L.Link.ends l) (g.L.Link.ends m)) n.1.1.0 c.write_only-put.ensures.counts
+
+pub returns-in-Some-input-clause-counts : goal.returns-in-Some-input-clause-counts
+returns-in-Some-input-clause-counts g c =
+    let n = c.in-None.ensures.none in
+    let m = c.take_at.new.link in
+    subst (λ l. IfOk c.take_at.result (λ done. WriteCounts done.put (g.L.Link.faults l) (g.L.Link.faults m) (g.L.Link.stalls l) (g.L.Link.stalls m) (g.L.Link.ends l) (g.L.Link.ends m))) n.1.1.0 c.take_at.ensures.counts
