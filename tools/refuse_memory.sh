@@ -1,9 +1,9 @@
 #!/bin/sh
-# Refuses memory to zbus, at each allocation of the stored row and of each example in turn. With that one and all
-# behind it refused, zbus has to end with 6 and write nothing. With that one alone refused it has to do the same, or to
+# Refuses memory to zbus, at each allocation of the stored row, of each example and of each row of zq_tests in turn. With
+# that one and all behind it refused, zbus has to end with 6 and write nothing. With that one alone refused it has to do the same, or to
 # do without and end as with all its memory: with the same code and the whole text. Another text or status never comes.
 # Usage: tools/refuse_memory.sh, after `rt run` in crates/zbus, which makes crates/zbus/out/zbus, the program that is tried.
-# It takes gcc and glibc, and a few milliseconds a try. It stands outside the gate.
+# It takes gcc, glibc and Python, and a few milliseconds a try. It stands outside the gate.
 
 cd "$(dirname "$0")/.." || exit 2
 program=$PWD/crates/zbus/out/zbus
@@ -56,7 +56,7 @@ try() {
     elif [ "$code" = 6 ] && [ ! -s "$work/text" ] && [ ! -s "$work/messages" ]; then
         end=refused
     else
-        echo "$input, allocations $1 refused: exit code $code, $(wc -c < "$work/text") octets written, and these messages:"
+        echo "${input##*/}, allocations $1 refused: exit code $code, $(wc -c < "$work/text") octets written, and these messages:"
         cat "$work/messages"
         exit 1
     fi
@@ -79,7 +79,7 @@ row() {
     done
     try "$number-$number"
     [ "$end" = whole ] || { echo "$input: it asks for more memory than it does unrefused"; exit 1; }
-    echo "$input: $made allocations; alone refused, $((made - did_without)) end it with 6, and it does without $did_without"
+    echo "${input##*/}: $made allocations; alone refused, $((made - did_without)) end it with 6, and it does without $did_without"
     total=$((total + made)) without=$((without + did_without)) rows=$((rows + 1))
 }
 
@@ -92,6 +92,11 @@ for text in examples/*.journal examples/*.heard; do
     octets=$name.zbus
     [ -e "$octets" ] || octets=$name.octets
     row "$asked" "$octets" "$text"
+done
+mkdir "$work/rows" && tools/rows "$work/rows" || exit 2
+for words in "$work"/rows/*.words; do
+    name=${words%.words}
+    row "$(cat "$words")" "$name.input" "$name.text"
 done
 echo "$rows rows, $total allocations. With all behind it refused, each ends with 6 and nothing written; alone, $((total - without)) do,"
 echo "and the program does without the other $without: the same exit code and text"
