@@ -91,7 +91,7 @@ module _ {N S : Type 0} where
       ∙ all_on _ (all_acts (turn_sequence order t)) (all_acts (turns_sequence orders ts)) (turn_local io olds mid order t lines begin step)
       (turns_local io ts orders mid news (lines_on io olds mid t lines step) go)
 
-  order_local : (order : List (Item N S)) (c : Control) → list_all (λ (m : Moment N S). is_local_item m.item) (moments_from c order) ≡ true → list_all is_local_item order ≡ true
+  pub order_local : (order : List (Item N S)) (c : Control) → list_all (λ (m : Moment N S). is_local_item m.item) (moments_from c order) ≡ true → list_all is_local_item order ≡ true
   order_local [] c all = refl
   order_local (item ∷ items) c all = and _ _ (left (is_local_item item) _ all) (order_local items (after_item item c) (right (is_local_item item) _ all))
 

@@ -137,7 +137,7 @@ module _ {N S : Type 0} where
   behind c Stop acts f = none acts f
   behind c (Reap socket) acts f = none acts f
 
-  taken : (slot : ℕ) (acts : List (Act N S)) → TakesLetter slot acts → are_plain acts ≡ true
+  pub taken : (slot : ℕ) (acts : List (Act N S)) → TakesLetter slot acts → are_plain acts ≡ true
   taken slot acts t =
       ap are_plain t.acts_are
       ∙ all_on is_plain_item (acts_said t.taken) t.looks (all_said is_plain_item t.taken (ap is_plain_item t.delivery.item_is)) (behind (left_by t.taken) t.letter.word t.looks t.behind)
@@ -296,7 +296,7 @@ module _ {N S : Type 0} where
   reaper_plain (d ∷ e ∷ ds) f = elim f [ ]
 
   -- what begins a turn
-  asks_plain : (b : Bool) (asks : List (Deed N S)) → AsksIf b asks → are_plain (all_acts asks) ≡ true
+  pub asks_plain : (b : Bool) (asks : List (Deed N S)) → AsksIf b asks → are_plain (all_acts asks) ≡ true
   asks_plain true asks (acts, f, is) = ap (λ (l : List (Deed N S)). are_plain (all_acts l)) is ∙ ap are_plain (append-nil acts ∙ f.acts_are) ∙ all_said is_plain_item f.asked (ap is_plain_item f.request.item_is)
   asks_plain false asks is = ap (λ (l : List (Deed N S)). are_plain (all_acts l)) is
 

@@ -6,3 +6,4 @@ mod RoundLemmas
 mod PayLemmas
 mod MadeLemmas
 mod DoneLemmas
+pub mod EventsLemmas

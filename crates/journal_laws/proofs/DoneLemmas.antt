@@ -21,10 +21,11 @@ use Rattle.spec_run.specs.RunLaws.{MessagesHaveOneFate}
 use Rattle.spec_run.specs.RunJournal.{journal_at, object_shown, run_journal, row_if, row_shown, rows_by}
 use Rattle.run_laws.specs.EndOrder.{EndInOrder, ObjectsEndInOrder}
 use Rattle.run_laws.specs.DoneRuns.{NothingIsLeft, IsDoneWhole, DoneRunsLeaveNothing}
-use Rattle.done_laws.specs.LocalScript.{LocalScriptsRunLocally}
+use Rattle.done_laws.specs.LocalScript.{is_local_script, LocalScriptsRunLocally}
+use Rattle.done_laws.proofs.EventsLemmas.{script_local_by_events}
 use Rattle.journal_laws.specs.ObjectsListed.{is_line_of, ListsObjects, ListsAllEnded}
 use Rattle.journal_laws.specs.RowsListed.{IsWholeRow, KeepsOrder, ListsRows, ListsEachPipe, row_place}
-use Rattle.journal_laws.specs.JournalLaws.{SaysOfObjects, SaysOfPipes, LeavesNothing, JournalsListObjects, DoneJournalsAreWhole, LocalPairsAreMade, JournalsByEventsSayAsMuch}
+use Rattle.journal_laws.specs.JournalLaws.{SaysOfObjects, SaysOfPipes, SaysOfTheDone, JournalsListObjects, DoneJournalsAreWhole, LocalPairsAreMade, JournalsByEventsSayAsMuch}
 use Rattle.journal_laws.proofs.ObjectLemmas.{count_lines, listed, lists_objects}
 use Rattle.journal_laws.proofs.LivingLemmas.{lists_living}
 use Rattle.journal_laws.proofs.RowLemmas.{IfRow, IsGood, shown_good, row_there, rows_counted, each_row}
@@ -161,28 +162,25 @@ module _ (N S : Type 0) (in_order : ObjectsEndInOrder N S) (leave : DoneRunsLeav
   each_once : (i : ℕ) → i < length (run_journal script 1 run).objects → count_by (is_line_of i) (run_journal script 1 run).ended ≡ 1
   each_once i lt = let objects = length-map end.rows.objects object_shown in ends_once end script run ordered whole.nothing_left i (omega (arith, objects, lt))
 
-  leaves_nothing : LeavesNothing run j
-  leaves_nothing = record {
+  says_of_the_done : (is_local_script script ≡ true → (k : ℕ) (a : Bool) → is_unmade (place_of end (end_of k a)) ≡ false) → SaysOfTheDone run j script
+  says_of_the_done made = record {
     objects = subst (λ (x : RunJournal). ListsAllEnded x) (sym journal_is) (record { each = each_once; none_live = whole.none_live });
     pipes = subst (λ (x : RunJournal). ListsEachPipe end x) (sym journal_is) (lists_each end script run ordered whole.nothing_left);
+    all = λ plain. subst (λ (x : RunJournal). list_all is_some x.pipes ≡ true) (sym journal_is) (lists_all end script run ordered whole.nothing_left (made plain));
   }
 
-  all_shown : ((k : ℕ) (a : Bool) → is_unmade (place_of end (end_of k a)) ≡ false) → list_all is_some j.pipes ≡ true
-  all_shown made = subst (λ (x : RunJournal). list_all is_some x.pipes ≡ true) (sym journal_is) (lists_all end script run ordered whole.nothing_left made)
+module _ (N S : Type 0) (in_order : ObjectsEndInOrder N S) (leave : DoneRunsLeaveNothing N S) (pairs : LocalPairsAreMade N S) where
+  pub done_whole : LocalScriptsRunLocally N S → DoneJournalsAreWhole N S
+  done_whole run_locally script schedule j is done =
+      says_of_the_done N S in_order leave script j is.run is.is_run is.journal_is done
+      (λ plain. pairs 1 is.run.order is.is_run.control (run_locally script 1 schedule.turns schedule.seed is.turned is.run is.in_turns is.one_thread plain))
 
-pub done_whole : (N S : Type 0) → ObjectsEndInOrder N S → DoneRunsLeaveNothing N S → LocalScriptsRunLocally N S → LocalPairsAreMade N S → DoneJournalsAreWhole N S
-done_whole N S in_order leave run_locally pairs script schedule j is done = record {
-  nothing = leaves_nothing N S in_order leave script j is.run is.is_run is.journal_is done;
-  all = λ plain. all_shown N S in_order leave script j is.run is.is_run is.journal_is done
-      (pairs 1 is.run.order is.is_run.control (run_locally script 1 schedule.turns schedule.seed is.turned is.run is.in_turns is.one_thread plain));
-}
-
--- ---- and by events
-
-pub events_say : (N S : Type 0) → ObjectsEndInOrder N S → DoneRunsLeaveNothing N S → MessagesHaveOneFate N S → JournalsByEventsSayAsMuch N S
-events_say N S in_order leave fated script events j is = record {
-  objects = says_of_objects N S in_order script j is.run is.is_run is.journal_is;
-  pipes = says_of_pipes script j is.run is.is_run is.journal_is;
-  fates = fated script 1 every_pipe is.run is.is_run;
-  done = λ done. leaves_nothing N S in_order leave script j is.run is.is_run is.journal_is done;
-}
+  -- and by events
+  pub events_say : MessagesHaveOneFate N S → JournalsByEventsSayAsMuch N S
+  events_say fated script events j is = record {
+    objects = says_of_objects N S in_order script j is.run is.is_run is.journal_is;
+    pipes = says_of_pipes script j is.run is.is_run is.journal_is;
+    fates = fated script 1 every_pipe is.run is.is_run;
+    done = λ done. says_of_the_done N S in_order leave script j is.run is.is_run is.journal_is done
+        (λ plain. pairs 1 is.run.order is.is_run.control (script_local_by_events script 1 events is.run is.of_events plain));
+  }

@@ -35,10 +35,11 @@ module _ {N S : Type 0} (run : OwnedRun N S) (j : RunJournal) where
     -- and so of each pipe, settled or not
     pub taken : (p : PipeId) → IsPrefix (taken_from p (all_steps run)) (committed_to p (all_steps run))
 
-  -- nothing is left: each object has ended, and each pipe of each pair that was made is settled
-  pub record LeavesNothing : Type 0 where
+  -- where a run is done, nothing is left: each object has ended, and each pipe of each pair that was made is settled; without tcp each pair was made
+  pub record SaysOfTheDone (script : RunScript) : Type 0 where
     pub objects : ListsAllEnded j
     pub pipes : ListsEachPipe (control_at_end 1 run) j
+    pub all : is_local_script script ≡ true → list_all is_some j.pipes ≡ true
 
 abbrev pub JournalsListObjects : (N S : Type 0) → Type 0
 JournalsListObjects N S = (script : RunScript) (schedule : Schedule) (j : RunJournal) → (is : IsRunJournal N S script schedule j) → SaysOfObjects is.run j
@@ -46,21 +47,16 @@ JournalsListObjects N S = (script : RunScript) (schedule : Schedule) (j : RunJou
 abbrev pub JournalsCountMessages : (N S : Type 0) → Type 0
 JournalsCountMessages N S = (script : RunScript) (schedule : Schedule) (j : RunJournal) → (is : IsRunJournal N S script schedule j) → SaysOfPipes is.run j
 
--- where a run is done, nothing is left; without tcp each pair was made
-pub record SaysOfTheDone (N S : Type 0) (script : RunScript) (schedule : Schedule) (j : RunJournal) (is : IsRunJournal N S script schedule j) : Type 0 where
-  pub nothing : LeavesNothing is.run j
-  pub all : is_local_script script ≡ true → list_all is_some j.pipes ≡ true
-
 abbrev pub DoneJournalsAreWhole : (N S : Type 0) → Type 0
 DoneJournalsAreWhole N S = (script : RunScript) (schedule : Schedule) (j : RunJournal) → (is : IsRunJournal N S script schedule j) → j.done ≡ true →
-    SaysOfTheDone N S script schedule j is
+    SaysOfTheDone is.run j script
 
 -- and by a list of events, in whatever order letters are taken: each message of a settled pipe has one fate, too
 pub record SaysOfEvents (N S : Type 0) (script : RunScript) (events : List CoreEvent) (j : RunJournal) (is : IsEventsJournal N S script events j) : Type 0 where
   pub objects : SaysOfObjects is.run j
   pub pipes : SaysOfPipes is.run j
   pub fates : (p : PipeId) → WasSettled (control_at_end 1 is.run) p → HaveOneFate (control_at_end 1 is.run) is.run p
-  pub done : j.done ≡ true → LeavesNothing is.run j
+  pub done : j.done ≡ true → SaysOfTheDone is.run j script
 
 abbrev pub JournalsByEventsSayAsMuch : (N S : Type 0) → Type 0
 JournalsByEventsSayAsMuch N S = (script : RunScript) (events : List CoreEvent) (j : RunJournal) → (is : IsEventsJournal N S script events j) → SaysOfEvents N S script events j is

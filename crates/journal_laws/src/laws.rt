@@ -43,5 +43,6 @@ pub fn journals_by_events_say_as_much<N, S>()
 {
     objects_end_once_and_in_order::<N, S>();
     done_runs_leave_nothing::<N, S>();
+    local_pairs_are_made::<N, S>();
     each_settled_message_has_one_fate::<N, S>();
 }

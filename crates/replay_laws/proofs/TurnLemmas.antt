@@ -1,5 +1,5 @@
 -- What the turns of a run do is settled by the script, the seed and the limit of turns.
-use Rattle.std.specs.Prelude.{◌≡◌, ◌<◌, ◌≤◌, ◌==◌, ℕ, zero, suc, Bool, true, false, List, [], ◌∷◌, ◌++◌, flat_map, length, map, replicate, slice_index_or, refl}
+use Rattle.std.specs.Prelude.{◌≡◌, ◌<◌, ◌≤◌, ◌==◌, ℕ, zero, suc, Bool, true, false, List, [], ◌∷◌, ◌++◌, Option, Some, flat_map, length, map, replicate, slice_get, slice_set, slice_index_or, refl}
 use Rattle.std.proofs.Common.{arith, sym, ap, ◌∙◌, subst}
 use Rattle.std.proofs.lemmas.Bool.{eqb-true, eqb-false}
 use Rattle.std.proofs.lemmas.Grind.{flat_map-append}
@@ -9,6 +9,7 @@ use Rattle.spec_control.specs.Control.{Control}
 use Rattle.spec_run.specs.Act.{Deed, steps_in, acts_of, all_acts}
 use Rattle.spec_run.specs.Standing.{ActorStanding}
 use Rattle.spec_run.specs.InTurns.{ActorStep, ReaperStep, AllStep}
+use Rattle.run_laws.proofs.GoesLemmas.{get_set_here, get_set_else}
 use Rattle.zq_world.specs.Turning.{times}
 use Rattle.zq_world.proofs.OrderLemmas.{times_it, times_not}
 use Rattle.replay_laws.specs.Blank.{blank}
@@ -26,6 +27,19 @@ no_actor = record { lines = []; tried = 0; told = []; mine = record { names = []
 
 abbrev pub at_place : List ActorStanding → ℕ → ActorStanding
 at_place standings w = slice_index_or standings w no_actor
+
+-- what holds at each place holds where one was changed
+pub set_holds : {X : Type 0} (P : X → Type 0) (xs : List X) (w : ℕ) (x y : X) → ((k : ℕ) (z : X) → slice_get xs k ≡ Some z → P z) → slice_get xs w ≡ Some x → P y → (k : ℕ) (z : X) → slice_get (slice_set xs w y) k ≡ Some z → P z
+set_holds {X} P xs w x y all here holds k z at = by (k == w) refl
+  where
+    same_one : ◌≡◌ {A = Option X} (Some z) (Some y) → z ≡ y
+    same_one e = cc
+
+    by : (b : Bool) → (k == w) ≡ b → P z
+    by true e =
+        let same : z ≡ y = same_one (sym at ∙ subst (λ (n : ℕ). slice_get (slice_set xs w y) n ≡ Some y) (sym (eqb-true k w e)) (get_set_here xs w x y here)) in
+        subst P (sym same) holds
+    by false e = all k z (sym (get_set_else xs w k y (eqb-false k w e)) ∙ at)
 
 no_both : {A : Type 0} {a b : ℕ} → a < b → a ≡ b → A
 no_both lt e = absurd (omega (arith, lt, e))

@@ -2,7 +2,7 @@
 use Rattle.std.proofs.Common.{◌≡◌, ◌+◌, ℕ, List, [], ◌∷◌, ◌++◌, Bool, true, false, Option, Some, None, length, map, refl, sym, ap, subst, ◌∙◌, append-nil, inl, inr}
 use Rattle.std.specs.Prelude.{◌==◌, ◌||◌, ◌⊎◌, All, cond, filter, find, if◌then◌else◌, slice_get, slice_set}
 use Rattle.std.specs.List.{list_any}
-use Rattle.std.proofs.lemmas.Bool.{eqb-true, eqb-false}
+use Rattle.std.proofs.lemmas.Bool.{eqb-true}
 use Rattle.std.proofs.lemmas.List.Elements.{All-head, All-tail}
 use Rattle.zq_base.specs.Ends.{PipeId}
 use Rattle.zq_base.specs.declared.ids.ObjId.{ObjId}
@@ -17,7 +17,6 @@ use Rattle.spec_run.specs.Event.{TakesLetter}
 use Rattle.spec_run.specs.OpenSocket.{OpenSock, PassesItems}
 use Rattle.spec_run.specs.Standing.{ActorStanding, FetchesOne, with_open, has_finished}
 use Rattle.spec_run.specs.CoreEvents.{CoreEvent, NextLine, TakeFrom, AskRoot, Tick, Made, deeds_made, may_take, actor_with, DoesNothing, StepsOn, StepsUnless, LineDoes, FetchesFor, ReapsOne, TakenBy, TakeDoes, AsksOnceMore, EventDoes}
-use Rattle.run_laws.proofs.GoesLemmas.{get_set_here, get_set_else}
 use Rattle.script_actor.proofs.SeatLemmas.{some_is}
 use Rattle.replay_laws.specs.Blank.{blank}
 use Rattle.replay_laws.specs.Mailboxes.{HaveBoxes}
@@ -31,6 +30,7 @@ use Rattle.replay_laws.proofs.KeepLemmas.{each_aside, each_with}
 use Rattle.replay_laws.proofs.ReapLemmas.{TakenOver, IsReapers}
 use Rattle.replay_laws.proofs.StepLemmas.{Bare, bare, StepSame, reap_same, asked_same}
 use Rattle.replay_laws.proofs.ActorLemmas.{actor_same, actor_stands}
+use Rattle.replay_laws.proofs.TurnLemmas.{set_holds}
 
 or_cases : (a b : Bool) → (a || b) ≡ true → (a ≡ true) ⊎ (b ≡ true)
 or_cases true b e = inl refl
@@ -78,13 +78,7 @@ abbrev pub AllStand : Control → List ActorStanding → Type 0
 AllStand c sts = (w : ℕ) (st : ActorStanding) → slice_get sts w ≡ Some st → EachStands c st.mine.socks
 
 all_set : (c : Control) (sts : List ActorStanding) (w : ℕ) (st next : ActorStanding) → AllStand c sts → slice_get sts w ≡ Some st → EachStands c next.mine.socks → AllStand c (slice_set sts w next)
-all_set c sts w st next all here each k x at = by (k == w) refl
-  where
-    by : (b : Bool) → (k == w) ≡ b → EachStands c x.mine.socks
-    by true e =
-        let same : x ≡ next = some_is x next (sym at ∙ subst (λ (n : ℕ). slice_get (slice_set sts w next) n ≡ Some next) (sym (eqb-true k w e)) (get_set_here sts w st next here)) in
-        subst (λ (z : ActorStanding). EachStands c z.mine.socks) (sym same) each
-    by false e = all k x (sym (get_set_else sts w k next (eqb-false k w e)) ∙ at)
+all_set c sts w st next all here each = set_holds (λ (z : ActorStanding). EachStands c z.mine.socks) sts w st next all here each
 
 module _ {N S : Type 0} where
   -- what is shown of a deed, with its worker

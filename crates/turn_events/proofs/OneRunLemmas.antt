@@ -13,13 +13,13 @@ use Rattle.spec_run.specs.OwnedRun.{AreCountedBy, pipe_capacity, control_at_end,
 use Rattle.spec_run.specs.InTurns.{worker_count}
 use Rattle.spec_run.specs.CoreEvents.{CoreEvent, Made, deeds_made, made_by_worker, EventsGo}
 use Rattle.run_laws.specs.CapacitiesStay.{CapacitiesStay}
+use Rattle.run_laws.proofs.GoesLemmas.{made_acts}
 use Rattle.replay_laws.specs.Blank.{blank}
 use Rattle.replay_laws.proofs.WalkLemmas.{leaves, Walks, leaves_on, walks_front, walks_behind, Reached, reached_on, Same, same_none, same_both, same_as}
 use Rattle.replay_laws.proofs.LookLemmas.{behind_walks}
 use Rattle.replay_laws.proofs.TryLemmas.{Ahead, ahead_before}
 use Rattle.replay_laws.proofs.StepLemmas.{Bare, bare}
 use Rattle.replay_laws.proofs.LineLemmas.{EachStands}
-use Rattle.replay_laws.proofs.TurnLemmas.{acts_on}
 use Rattle.replay_laws.proofs.JournalLemmas.{walks_from, bares_of, same_steps_of, journals, counted_same, whole_again}
 use Rattle.turn_events.specs.OneEventsJournal.{EventsHaveOneJournal}
 use Rattle.turn_events.proofs.EventLemmas.{behind_is}
@@ -41,9 +41,6 @@ abbrev shown_by : ℕ → List (ℕ × Bare) → List Bare
 shown_by w shown = map (λ x. x.1) (filter (λ x. x.0 == w) shown)
 
 module _ {N S : Type 0} where
-  made_on : (xs ys : List (Made N S)) → all_acts (deeds_made (xs ++ ys)) ≡ all_acts (deeds_made xs) ++ all_acts (deeds_made ys)
-  made_on xs ys = ap all_acts (map-append (λ (m : Made N S). m.deed) xs ys) ∙ acts_on (deeds_made xs) (deeds_made ys)
-
   -- ---- events, one after another
   pub record EventsSame (c d : Control) (made made2 : List (Made N S)) : Type 0 where
     pub same : Same c d (all_acts (deeds_made made)) (all_acts (deeds_made made2))
@@ -61,8 +58,8 @@ module _ {N S : Type 0} where
       let ys = all_acts (deeds_made first2) in
       let us = all_acts (deeds_made rest) in
       let vs = all_acts (deeds_made rest2) in
-      let is : all_acts (deeds_made made) ≡ xs ++ us = ap (λ (l : List (Made N S)). all_acts (deeds_made l)) parts ∙ made_on first rest in
-      let is2 : all_acts (deeds_made made2) ≡ ys ++ vs = ap (λ (l : List (Made N S)). all_acts (deeds_made l)) parts2 ∙ made_on first2 rest2 in
+      let is : all_acts (deeds_made made) ≡ xs ++ us = ap (λ (l : List (Made N S)). all_acts (deeds_made l)) parts ∙ made_acts first rest in
+      let is2 : all_acts (deeds_made made2) ≡ ys ++ vs = ap (λ (l : List (Made N S)). all_acts (deeds_made l)) parts2 ∙ made_acts first2 rest2 in
       let w1 = subst (Walks cap c past) is walk in
       let w2 = subst (Walks cup d past) is2 walk_too in
       let front = walks_front cap xs us c past w1 in
