@@ -1,5 +1,8 @@
-ghost use Rattle.std.specs.Prelude.{◌≡◌, true, IfOk};
-ghost use Rattle.one_core.specs.Sound.{IsNewCore};
+ghost use Rattle.std.specs.Prelude.{◌≡◌, [], true, IfOk, map};
+ghost use Rattle.spec_run.specs.CoreEvents.{IsEventsJournal};
+ghost use Rattle.script_actor.specs.MayAsk.{MayAskScript};
+ghost use Rattle.zq_world.specs.ByEvents.{core_event};
+ghost use Rattle.one_core.specs.Sound.{IsNewCore, pieces_in};
 
 use core_tale::PieceMark;
 use held_ends::HeldPipes;
@@ -8,9 +11,11 @@ use lent_sock::LentSock;
 use one_desk::OneDesk;
 use reaper_ends::{Closed, ClosedSockets};
 use sock_calls::Socket;
+use spec_run::{RunActor, RunJournal};
 use std::alloc::{AllocError, Global};
 use std::marker::Model;
 use tale::Tale;
+use zq_world::{Event, play_events};
 
 /// A context on one thread, with one I/O worker, and the pipes of its sockets.
 #[derive(Drop)]
@@ -78,6 +83,23 @@ where
             wanted: false,
             drops: Vec::new(alloc),
         })
+    }
+
+    /// Does these events of a script's actors over it, where it is new, gives their journal, and gives
+    /// back all that it has. Whatever the script and the events, the journal is that of a run of the
+    /// script by them.
+    pub fn play_events(
+        self,
+        alloc: Global,
+        script: &[RunActor],
+        events: &[Event],
+    ) -> Result<RunJournal, AllocError>
+        requires new { pieces_in self ≡ [] }
+        requires may { MayAskScript script.now }
+        ensures { IfOk result
+            (IsEventsJournal P.Name P.Story script.now (map core_event events.now)) }
+    {
+        play_events(alloc, script, self, events)
     }
 
     /// Gives back all that it has. Who drops it so makes no code for its parts.

@@ -20,4 +20,4 @@ pub use laws::{
 pub use play::run;
 pub use script::play_script;
 pub use steps::Steps;
-pub use world::World;
+pub use world::{World, play_events};

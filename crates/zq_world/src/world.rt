@@ -1,4 +1,7 @@
-ghost use Rattle.std.specs.Prelude.{◌≡◌, List};
+ghost use Rattle.std.specs.Prelude.{◌≡◌, [], List, IfOk, map};
+ghost use Rattle.script_actor.specs.MayAsk.{MayAskScript};
+ghost use Rattle.spec_run.specs.CoreEvents.{IsEventsJournal};
+ghost use Rattle.zq_world.specs.ByEvents.{core_event};
 
 use crate::event::Event;
 use crate::events::step;
@@ -118,4 +121,25 @@ impl<'a, P: Pipes, W: Steps<P> + Drop> World<'a, P, W> {
             done: shown.done,
         })
     }
+}
+
+/// Does these events of a script's actors over a new core, which goes, and gives their journal. Whatever
+/// the script and the events, it is that of a run of the script by them, of which those that are not
+/// allowed do nothing.
+pub fn play_events<P: Pipes, W: Steps<P> + Drop>(
+    alloc: Global,
+    script: &[RunActor],
+    way: W,
+    events: &[Event],
+) -> Result<RunJournal, AllocError>
+    requires new { W.pieces way ≡ [] }
+    requires may { MayAskScript script.now }
+    ensures { IfOk result
+        (IsEventsJournal P.Name P.Story script.now (map core_event events.now)) }
+{
+    let mut world = World::new(alloc, script, way)?;
+    let went = world.run(alloc, events);
+    let journal = world.journal(alloc);
+    went?;
+    journal
 }
