@@ -10,13 +10,13 @@ use std::alloc::{AllocError, Global};
 use std::test::Fail;
 use zq_base::Octets;
 use zq_outer::TickClock;
-use zq_world::{Event, World, play_script};
+use zq_world::{Event, play_script};
 
 // In how many turns a run of a test ends.
 const TURNS: u32 = 30;
 
-// The journal of these events, in a context of its own, whose callers are woken by nothing.
-fn journal_by(
+/// The journal of these events in a context of its own, whose callers are woken by nothing.
+pub(crate) fn journal_by(
     alloc: Global,
     script: &[RunActor],
     events: &[Event],
@@ -24,11 +24,7 @@ fn journal_by(
     requires may { MayAskScript script.now }
 {
     let core = OneCore::new(alloc, PlainPipes::new(alloc), (), ())?;
-    let mut world = World::new(alloc, script, core)?;
-    let went = world.run(alloc, events);
-    let journal = world.journal(alloc);
-    went?;
-    journal
+    core.play_events(alloc, script, events)
 }
 
 // The journal of a run in turns, each in the script's order.

@@ -10,6 +10,8 @@ mod arrangements;
 #[cfg(test)]
 mod by_events;
 #[cfg(test)]
+mod by_letters;
+#[cfg(test)]
 mod calls;
 #[cfg(test)]
 mod cores;
