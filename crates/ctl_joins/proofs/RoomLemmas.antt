@@ -12,7 +12,7 @@ use Rattle.ctl_state.specs.Listed.{with_room, without_room}
 use Rattle.ctl_state.specs.Lists.{no_belongings, belongings_at, with_ends}
 use Rattle.ctl_state.specs.Parts.{on_boxes, on_lists, on_pairs}
 use Rattle.ctl_joins.specs.declared.owners.Owners.{Owners}
-use Rattle.ctl_joins.specs.Room.{with_more, with_commands, KeepsRoom}
+use Rattle.ctl_joins.specs.Room.{with_more, with_commands, HavePlaces, KeepsRoom}
 
 module _ {L : Type 0} where
   -- ---- commands
@@ -24,6 +24,15 @@ module _ {L : Type 0} where
 
   pub more_spare : (s : State L) (k more : ℕ) → k < length s.boxes → more ≤ (mail_at (with_more k more s).boxes k).spare
   more_spare s k more there = let is = ap (λ (m : Mail (Command L)). m.spare) (more_at s k more there) in omega (arith, is)
+
+  -- the mailboxes and lists of a pair's owners are there still, once room for its commands is kept
+  pub places_there : (s : State L) (o : Owners) → HavePlaces s o → HavePlaces (with_commands o s) o
+  places_there s o there = record {
+    first_box = box_there (with_more o.first_slot.0 2 s) o.last_slot.0 3 o.first_slot.0 (box_there s o.first_slot.0 2 o.first_slot.0 there.first_box);
+    last_box = box_there (with_more o.first_slot.0 2 s) o.last_slot.0 3 o.last_slot.0 (box_there s o.first_slot.0 2 o.last_slot.0 there.last_box);
+    first_list = there.first_list;
+    last_list = there.last_list;
+  }
 
   -- ---- places in the lists of ends
   abbrev pub with_place : ℕ → State L → State L

@@ -3,6 +3,8 @@ pub mod ShownLemmas
 pub mod ReadLemmas
 pub mod ListedLemmas
 pub mod ObjectLemmas
+pub mod LinkLemmas
+pub mod KeptLemmas
 pub mod PairLemmas
 pub mod CountLemmas
 pub mod StandLemmas

@@ -1,10 +1,23 @@
-use Rattle.std.specs.Prelude.{◌++◌, ◌∷◌, []}
-use Rattle.std.proofs.Common.{ap, ◌∙◌}
+use Rattle.std.specs.Prelude.{◌++◌, ◌∷◌, [], length}
+use Rattle.std.proofs.Common.{ap, sym, subst, ◌∙◌}
 use Rattle.mailbox.specs.Mail.{no_mail, with_spare}
 use Rattle.ctl_state.specs.declared.state.State.{State}
+use Rattle.ctl_state.specs.Objects.{TakesChild}
 use Rattle.ctl_state.specs.Lists.{no_belongings}
 use Rattle.ctl_state.proofs.MailLemmas.{boxes_back}
 use Rattle.ctl_asks.proofs.making.make.Goals as goal
+
+pub reserve-requires : goal.reserve-requires
+reserve-requires g c = record {
+  there = c.requires.takes.some;
+}
+
+pub make_socket-requires-clause-takes : goal.make_socket-requires-clause-takes
+make_socket-requires-clause-takes g c =
+    subst (λ (x : State g.row.L.Denot). TakesChild x.objects (record { 0 = 0 })) (sym c.in_ok-reserve.ensures.next) c.requires.takes.takes
+
+pub returns-in-Ok-clause-number : goal.returns-in-Ok-clause-number
+returns-in-Ok-clause-number g c = c.in-Ok.ensures.number ∙ ap (λ (x : State g.row.L.Denot). length x.objects.tree) c.in_ok-reserve.ensures.next
 
 pub returns-in-Ok-clause-ok : goal.returns-in-Ok-clause-ok
 returns-in-Ok-clause-ok g c = record {

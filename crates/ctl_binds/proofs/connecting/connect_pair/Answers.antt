@@ -12,15 +12,29 @@ use Rattle.ctl_joins.proofs.PapersLemmas.{drawn_makes}
 use Rattle.ctl_binds.specs.Holding.{joined_at}
 use Rattle.ctl_binds.proofs.connecting.connect_pair.Goals as goal
 
-pub make_first-requires : goal.make_first-requires
-make_first-requires g c = record {
-  mine = first_waker c.args.state.now (g.H.Holder.holding c.args.holder.now) c.args.o (length c.args.wakers.now) c.requires.may;
-  theirs = last_waker c.args.state.now (g.H.Holder.holding c.args.holder.now) c.args.o (length c.args.wakers.now) c.requires.may;
-  makes = drawn_makes c.args.state.now c.draw_held.new.state c.args.o.first.0 c.args.o.last.0 c.args.o true g.H.Holder.may_make c.in-Ok-draw_held.pair c.in-Ok-draw_held.ensures.number c.in-Ok-draw_held.ensures.ok c.requires.makes;
-  here = c.requires.may.lent;
-  new = not_there c.args.state.now (g.H.Holder.holding c.args.holder.now) c.args.o (length c.args.wakers.now) c.requires.may c.in-Ok-draw_held.pair c.in-Ok-draw_held.ensures.number;
-  calm = ([], c.requires.calm);
-}
+pub make_first-requires-clause-mine : goal.make_first-requires-clause-mine
+make_first-requires-clause-mine g c =
+    first_waker c.args.state.now (g.H.Holder.holding c.args.holder.now) c.args.o (length c.args.wakers.now) c.requires.may
+
+pub make_first-requires-clause-theirs : goal.make_first-requires-clause-theirs
+make_first-requires-clause-theirs g c =
+    last_waker c.args.state.now (g.H.Holder.holding c.args.holder.now) c.args.o (length c.args.wakers.now) c.requires.may
+
+pub make_first-requires-clause-makes : goal.make_first-requires-clause-makes
+make_first-requires-clause-makes g c =
+    drawn_makes c.args.state.now c.draw_held.new.state c.args.o.first.0 c.args.o.last.0 c.args.o true g.H.Holder.may_make c.in-Ok-draw_held.pair c.in-Ok-draw_held.ensures.number c.in-Ok-draw_held.ensures.ok c.requires.makes
+
+pub make_first-requires-clause-here : goal.make_first-requires-clause-here
+make_first-requires-clause-here g c =
+    c.requires.may.lent
+
+pub make_first-requires-clause-new : goal.make_first-requires-clause-new
+make_first-requires-clause-new g c =
+    not_there c.args.state.now (g.H.Holder.holding c.args.holder.now) c.args.o (length c.args.wakers.now) c.requires.may c.in-Ok-draw_held.pair c.in-Ok-draw_held.ensures.number
+
+pub make_first-requires-clause-calm : goal.make_first-requires-clause-calm
+make_first-requires-clause-calm g c =
+    ([], c.requires.calm)
 
 pub hold_joined-requires : goal.hold_joined-requires
 hold_joined-requires g c = record {
@@ -58,17 +72,22 @@ pub returns-in-Err-make_first-clause-err : goal.returns-in-Err-make_first-clause
 returns-in-Err-make_first-clause-err g c =
     c.undraw_held.ensures (record { before = c.args.state.now; places = c.requires.may.places; is = c.in-Ok-draw_held.ensures.next })
 
-pub draw_held-requires : goal.draw_held-requires
-draw_held-requires g c = record { there = c.requires.may.places; few = few_numbers c.args.state.now (g.H.Holder.holding c.args.holder.now) c.args.o (length c.args.wakers.now) c.requires.may }
+pub draw_held-requires-clause-there : goal.draw_held-requires-clause-there
+draw_held-requires-clause-there g c = c.requires.may.places
+
+pub draw_held-requires-clause-few : goal.draw_held-requires-clause-few
+draw_held-requires-clause-few g c = few_numbers c.args.state.now (g.H.Holder.holding c.args.holder.now) c.args.o (length c.args.wakers.now) c.requires.may
 
 pub note-requires : goal.note-requires
 note-requires g c = record { room = c.in-Ok.ensures.room }
 
-pub undraw_held-requires : goal.undraw_held-requires
-undraw_held-requires g c = record {
-  drawn = record { before = c.args.state.now; places = c.requires.may.places; is = c.in-Ok-draw_held.ensures.next };
-  last = drawn_last c.args.state.now (g.H.Holder.holding c.args.holder.now) c.args.o (length c.args.wakers.now) c.requires.may c.in-Ok-draw_held.pair c.in-Ok-draw_held.ensures.number c.draw_held.new.state c.in-Ok-draw_held.ensures.next;
-}
+pub undraw_held-requires-clause-drawn : goal.undraw_held-requires-clause-drawn
+undraw_held-requires-clause-drawn g c =
+    record { before = c.args.state.now; places = c.requires.may.places; is = c.in-Ok-draw_held.ensures.next }
+
+pub undraw_held-requires-clause-last : goal.undraw_held-requires-clause-last
+undraw_held-requires-clause-last g c =
+    drawn_last c.args.state.now (g.H.Holder.holding c.args.holder.now) c.args.o (length c.args.wakers.now) c.requires.may c.in-Ok-draw_held.pair c.in-Ok-draw_held.ensures.number c.draw_held.new.state c.in-Ok-draw_held.ensures.next
 
 pub returns-in-Err-make_first-clause-stays : goal.returns-in-Err-make_first-clause-stays
 returns-in-Err-make_first-clause-stays g c = c.in-Err-make_first.ensures.err

@@ -23,19 +23,26 @@ waiters-init g c = record {
   calm = subst (λ (ds : List (Drawn g.row.P-Name.Denot g.row.P-Out.Denot g.row.P-In.Denot)). g.H.Holder.calm c.args.holder.now (drawn_ends ds)) (sym c.in_ok-batch.ensures.drawn) c.requires.calm;
 }
 
-pub draw_one-requires : goal.draw_one-requires
-draw_one-requires g c = record {
-  may = may_draw_next g.P.Pipes.known.out_name g.P.Pipes.known.in_name c.args.state.now (g.H.Holder.holding c.args.holder.now) c.args.socket c.args.waiters.now (length c.args.wakers.now) c.waiters.place c.waiters-test.true c.waiters.state (g.H.Holder.holding c.waiters.holder) c.waiters.batch (slice_index_or c.args.waiters.now c.waiters.place (record { 0 = 0 })) (get_or_default c.args.waiters.now c.waiters.place (record { 0 = 0 }) (slice_index_or c.args.waiters.now c.waiters.place (record { 0 = 0 })) c.waiters-test.true) c.requires.may (c.waiters.invariant.draws c.requires.may) c.waiters.invariant.room;
-  calm = c.waiters.invariant.calm;
-  makes = may_make_next g.P.Pipes.known.out_name g.P.Pipes.known.in_name c.args.state.now (g.H.Holder.holding c.args.holder.now) c.args.socket c.args.waiters.now (length c.args.wakers.now) c.waiters.place c.waiters-test.true c.waiters.state (g.H.Holder.holding c.waiters.holder) c.waiters.batch (slice_index_or c.args.waiters.now c.waiters.place (record { 0 = 0 })) (get_or_default c.args.waiters.now c.waiters.place (record { 0 = 0 }) (slice_index_or c.args.waiters.now c.waiters.place (record { 0 = 0 })) c.waiters-test.true) c.requires.makes.may (c.waiters.invariant.draws c.requires.makes.may) g.H.Holder.may_make c.requires.makes.makes;
-}
+pub draw_one-requires-clause-may : goal.draw_one-requires-clause-may
+draw_one-requires-clause-may g c =
+    may_draw_next g.P.Pipes.known.out_name g.P.Pipes.known.in_name c.args.state.now (g.H.Holder.holding c.args.holder.now) c.args.socket c.args.waiters.now (length c.args.wakers.now) c.waiters.place c.waiters-test.true c.waiters.state (g.H.Holder.holding c.waiters.holder) c.waiters.batch (slice_index_or c.args.waiters.now c.waiters.place (record { 0 = 0 })) (get_or_default c.args.waiters.now c.waiters.place (record { 0 = 0 }) (slice_index_or c.args.waiters.now c.waiters.place (record { 0 = 0 })) c.waiters-test.true) c.requires.may (c.waiters.invariant.draws c.requires.may) c.waiters.invariant.room
 
-pub undraw_all-requires : goal.undraw_all-requires
-undraw_all-requires g c = record {
-  taken = were_taken g.P.Pipes.known.out_name g.P.Pipes.known.in_name c.args.state.now (g.H.Holder.holding c.args.holder.now) c.args.socket c.args.waiters.now (length c.args.wakers.now) c.waiters.place c.waiters-test.true c.waiters.state (g.H.Holder.holding c.waiters.holder) c.waiters.batch (slice_index_or c.args.waiters.now c.waiters.place (record { 0 = 0 })) (get_or_default c.args.waiters.now c.waiters.place (record { 0 = 0 }) (slice_index_or c.args.waiters.now c.waiters.place (record { 0 = 0 })) c.waiters-test.true) c.requires.may (c.waiters.invariant.draws c.requires.may) c.draw_one.new.state (g.H.Holder.holding c.draw_one.new.holder) c.draw_one.new.batch.drawn.items c.in-Err.ensures.err.0
-      (ap (λ (b : Batch g.row.P-Name.Denot g.row.P-Out.Denot g.row.P-In.Denot). b.drawn.items) c.in-Err.ensures.err.1) c.in-Err.ensures.stays c.in-Err.ensures.quiet c.in-Err.ensures.heard;
-  calm = c.draw_one.ensures.calm;
-}
+pub draw_one-requires-clause-calm : goal.draw_one-requires-clause-calm
+draw_one-requires-clause-calm g c =
+    c.waiters.invariant.calm
+
+pub draw_one-requires-clause-makes : goal.draw_one-requires-clause-makes
+draw_one-requires-clause-makes g c =
+    may_make_next g.P.Pipes.known.out_name g.P.Pipes.known.in_name c.args.state.now (g.H.Holder.holding c.args.holder.now) c.args.socket c.args.waiters.now (length c.args.wakers.now) c.waiters.place c.waiters-test.true c.waiters.state (g.H.Holder.holding c.waiters.holder) c.waiters.batch (slice_index_or c.args.waiters.now c.waiters.place (record { 0 = 0 })) (get_or_default c.args.waiters.now c.waiters.place (record { 0 = 0 }) (slice_index_or c.args.waiters.now c.waiters.place (record { 0 = 0 })) c.waiters-test.true) c.requires.makes.may (c.waiters.invariant.draws c.requires.makes.may) g.H.Holder.may_make c.requires.makes.makes
+
+pub undraw_all-requires-clause-taken : goal.undraw_all-requires-clause-taken
+undraw_all-requires-clause-taken g c =
+    were_taken g.P.Pipes.known.out_name g.P.Pipes.known.in_name c.args.state.now (g.H.Holder.holding c.args.holder.now) c.args.socket c.args.waiters.now (length c.args.wakers.now) c.waiters.place c.waiters-test.true c.waiters.state (g.H.Holder.holding c.waiters.holder) c.waiters.batch (slice_index_or c.args.waiters.now c.waiters.place (record { 0 = 0 })) (get_or_default c.args.waiters.now c.waiters.place (record { 0 = 0 }) (slice_index_or c.args.waiters.now c.waiters.place (record { 0 = 0 })) c.waiters-test.true) c.requires.may (c.waiters.invariant.draws c.requires.may) c.draw_one.new.state (g.H.Holder.holding c.draw_one.new.holder) c.draw_one.new.batch.drawn.items c.in-Err.ensures.err.0
+    (ap (λ (b : Batch g.row.P-Name.Denot g.row.P-Out.Denot g.row.P-In.Denot). b.drawn.items) c.in-Err.ensures.err.1) c.in-Err.ensures.stays c.in-Err.ensures.quiet c.in-Err.ensures.heard
+
+pub undraw_all-requires-clause-calm : goal.undraw_all-requires-clause-calm
+undraw_all-requires-clause-calm g c =
+    c.draw_one.ensures.calm
 
 pub returns-in-Err-clause-err : goal.returns-in-Err-clause-err
 returns-in-Err-clause-err g c =

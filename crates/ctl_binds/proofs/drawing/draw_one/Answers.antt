@@ -7,32 +7,49 @@ use Rattle.std.proofs.Common.{ap, sym, ◌∙◌, subst}
 use Rattle.ctl_binds.proofs.DrawLemmas.{draws_now, drawn_now, few_numbers, first_waker, last_number, last_waker, makes_now, not_there, places_now}
 use Rattle.ctl_binds.proofs.drawing.draw_one.Goals as goal
 
-pub draw_pair-requires : goal.draw_pair-requires
-draw_pair-requires g c = record {
-  there = places_now g.P.Pipes.known.out_name g.P.Pipes.known.in_name c.args.state.now (g.H.Holder.holding c.args.holder.now) c.args.socket c.args.waiter c.args.batch.now (length c.args.wakers.now) c.requires.may c.of-o.result (c.of-o.ensures _ c.requires.may.draws.stands);
-  few = few_numbers g.P.Pipes.known.out_name g.P.Pipes.known.in_name c.args.state.now (g.H.Holder.holding c.args.holder.now) c.args.socket c.args.waiter c.args.batch.now (length c.args.wakers.now) c.requires.may;
-}
+pub draw_pair-requires-clause-there : goal.draw_pair-requires-clause-there
+draw_pair-requires-clause-there g c =
+    places_now g.P.Pipes.known.out_name g.P.Pipes.known.in_name c.args.state.now (g.H.Holder.holding c.args.holder.now) c.args.socket c.args.waiter c.args.batch.now (length c.args.wakers.now) c.requires.may c.of-o.result (c.of-o.ensures _ c.requires.may.draws.stands)
 
-pub make_first-requires : goal.make_first-requires
-make_first-requires g c = record {
-  mine = first_waker g.P.Pipes.known.out_name g.P.Pipes.known.in_name c.args.state.now (g.H.Holder.holding c.args.holder.now) c.args.socket c.args.waiter c.args.batch.now (length c.args.wakers.now) c.requires.may c.of-o.result (c.of-o.ensures _ c.requires.may.draws.stands);
-  theirs = last_waker g.P.Pipes.known.out_name g.P.Pipes.known.in_name c.args.state.now (g.H.Holder.holding c.args.holder.now) c.args.socket c.args.waiter c.args.batch.now (length c.args.wakers.now) c.requires.may c.of-o.result (c.of-o.ensures _ c.requires.may.draws.stands);
-  makes =
-      drawn_makes c.args.state.now c.draw_pair.new.state c.of-o.result.last.0 c.of-o.result.first.0 c.of-o.result false g.H.Holder.may_make c.in_ok-pair.pair c.in_ok-pair.ensures.number c.in_ok-pair.ensures.ok
-      (makes_now g.P.Pipes.known.out_name g.P.Pipes.known.in_name c.args.state.now (g.H.Holder.holding c.args.holder.now) c.args.socket c.args.waiter c.args.batch.now (length c.args.wakers.now) c.requires.may c.of-o.result (c.of-o.ensures _ c.requires.may.draws.stands) _ g.H.Holder.may_make c.requires.makes);
-  here = c.requires.may.draws.taken.gets.objects c.args.socket.0 ∙ c.requires.may.may.lent;
-  new = not_there g.P.Pipes.known.out_name g.P.Pipes.known.in_name c.args.state.now (g.H.Holder.holding c.args.holder.now) c.args.socket c.args.waiter c.args.batch.now (length c.args.wakers.now) c.requires.may c.of-o.result (c.of-o.ensures _ c.requires.may.draws.stands) c.in_ok-pair.pair c.in_ok-pair.ensures.number;
-  calm = (drawn_ends c.args.batch.now.drawn.items, c.requires.calm);
-}
+pub draw_pair-requires-clause-few : goal.draw_pair-requires-clause-few
+draw_pair-requires-clause-few g c =
+    few_numbers g.P.Pipes.known.out_name g.P.Pipes.known.in_name c.args.state.now (g.H.Holder.holding c.args.holder.now) c.args.socket c.args.waiter c.args.batch.now (length c.args.wakers.now) c.requires.may
+
+pub make_first-requires-clause-mine : goal.make_first-requires-clause-mine
+make_first-requires-clause-mine g c =
+    first_waker g.P.Pipes.known.out_name g.P.Pipes.known.in_name c.args.state.now (g.H.Holder.holding c.args.holder.now) c.args.socket c.args.waiter c.args.batch.now (length c.args.wakers.now) c.requires.may c.of-o.result (c.of-o.ensures _ c.requires.may.draws.stands)
+
+pub make_first-requires-clause-theirs : goal.make_first-requires-clause-theirs
+make_first-requires-clause-theirs g c =
+    last_waker g.P.Pipes.known.out_name g.P.Pipes.known.in_name c.args.state.now (g.H.Holder.holding c.args.holder.now) c.args.socket c.args.waiter c.args.batch.now (length c.args.wakers.now) c.requires.may c.of-o.result (c.of-o.ensures _ c.requires.may.draws.stands)
+
+pub make_first-requires-clause-makes : goal.make_first-requires-clause-makes
+make_first-requires-clause-makes g c =
+    drawn_makes c.args.state.now c.draw_pair.new.state c.of-o.result.last.0 c.of-o.result.first.0 c.of-o.result false g.H.Holder.may_make c.in_ok-pair.pair c.in_ok-pair.ensures.number c.in_ok-pair.ensures.ok
+    (makes_now g.P.Pipes.known.out_name g.P.Pipes.known.in_name c.args.state.now (g.H.Holder.holding c.args.holder.now) c.args.socket c.args.waiter c.args.batch.now (length c.args.wakers.now) c.requires.may c.of-o.result (c.of-o.ensures _ c.requires.may.draws.stands) _ g.H.Holder.may_make c.requires.makes)
+
+pub make_first-requires-clause-here : goal.make_first-requires-clause-here
+make_first-requires-clause-here g c =
+    c.requires.may.draws.taken.gets.objects c.args.socket.0 ∙ c.requires.may.may.lent
+
+pub make_first-requires-clause-new : goal.make_first-requires-clause-new
+make_first-requires-clause-new g c =
+    not_there g.P.Pipes.known.out_name g.P.Pipes.known.in_name c.args.state.now (g.H.Holder.holding c.args.holder.now) c.args.socket c.args.waiter c.args.batch.now (length c.args.wakers.now) c.requires.may c.of-o.result (c.of-o.ensures _ c.requires.may.draws.stands) c.in_ok-pair.pair c.in_ok-pair.ensures.number
+
+pub make_first-requires-clause-calm : goal.make_first-requires-clause-calm
+make_first-requires-clause-calm g c =
+    (drawn_ends c.args.batch.now.drawn.items, c.requires.calm)
 
 pub push-requires : goal.push-requires
 push-requires g c = record { fits = c.requires.may.fits }
 
-pub undraw_pair-requires : goal.undraw_pair-requires
-undraw_pair-requires g c = record {
-  drawn = drawn_now g.P.Pipes.known.out_name g.P.Pipes.known.in_name c.args.state.now (g.H.Holder.holding c.args.holder.now) c.args.socket c.args.waiter c.args.batch.now (length c.args.wakers.now) c.requires.may c.of-o.result (c.of-o.ensures _ c.requires.may.draws.stands) c.in_ok-pair.pair c.in_ok-pair.ensures.number c.draw_pair.new.state c.in_ok-pair.ensures.next;
-  last = last_number g.P.Pipes.known.out_name g.P.Pipes.known.in_name c.args.state.now (g.H.Holder.holding c.args.holder.now) c.args.socket c.args.waiter c.args.batch.now (length c.args.wakers.now) c.requires.may c.of-o.result (c.of-o.ensures _ c.requires.may.draws.stands) c.in_ok-pair.pair c.in_ok-pair.ensures.number c.draw_pair.new.state c.in_ok-pair.ensures.next;
-}
+pub undraw_pair-requires-clause-drawn : goal.undraw_pair-requires-clause-drawn
+undraw_pair-requires-clause-drawn g c =
+    drawn_now g.P.Pipes.known.out_name g.P.Pipes.known.in_name c.args.state.now (g.H.Holder.holding c.args.holder.now) c.args.socket c.args.waiter c.args.batch.now (length c.args.wakers.now) c.requires.may c.of-o.result (c.of-o.ensures _ c.requires.may.draws.stands) c.in_ok-pair.pair c.in_ok-pair.ensures.number c.draw_pair.new.state c.in_ok-pair.ensures.next
+
+pub undraw_pair-requires-clause-last : goal.undraw_pair-requires-clause-last
+undraw_pair-requires-clause-last g c =
+    last_number g.P.Pipes.known.out_name g.P.Pipes.known.in_name c.args.state.now (g.H.Holder.holding c.args.holder.now) c.args.socket c.args.waiter c.args.batch.now (length c.args.wakers.now) c.requires.may c.of-o.result (c.of-o.ensures _ c.requires.may.draws.stands) c.in_ok-pair.pair c.in_ok-pair.ensures.number c.draw_pair.new.state c.in_ok-pair.ensures.next
 
 pub returns-in-Ok-clause-ok : goal.returns-in-Ok-clause-ok
 returns-in-Ok-clause-ok g c = λ w.

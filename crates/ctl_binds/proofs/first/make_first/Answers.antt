@@ -4,20 +4,41 @@ use Rattle.ctl_binds.proofs.first.make_first.Goals as goal
 pub capacities_of-sizes-requires : goal.capacities_of-sizes-requires
 capacities_of-sizes-requires g c = record { marked = marked_for c.args.state.now c.args.o c.args.first g.H.Holder.may_make c.requires.makes }
 
-pub attach_first-requires : goal.attach_first-requires
-attach_first-requires g c =
-    let sizes = c.capacities_of-sizes.ensures (marked_for c.args.state.now c.args.o c.args.first g.H.Holder.may_make c.requires.makes) in
-    record {
-      here = c.requires.here;
-      new = c.requires.new;
-      written = sizes.written_fits;
-      read = sizes.read_fits;
-      may = may_hold c.args.state.now c.args.o c.args.first g.H.Holder.may_make c.requires.makes c.capacities_of-sizes.result c.capacities_of-sizes.ensures;
-      calm = c.requires.calm;
-    }
+pub attach_first-requires-clause-here : goal.attach_first-requires-clause-here
+attach_first-requires-clause-here g c = c.requires.here
+
+pub attach_first-requires-clause-new : goal.attach_first-requires-clause-new
+attach_first-requires-clause-new g c = c.requires.new
+
+pub attach_first-requires-clause-written : goal.attach_first-requires-clause-written
+attach_first-requires-clause-written g c = (c.capacities_of-sizes.ensures (marked_for c.args.state.now c.args.o c.args.first g.H.Holder.may_make c.requires.makes)).written_fits
+
+pub attach_first-requires-clause-read : goal.attach_first-requires-clause-read
+attach_first-requires-clause-read g c = (c.capacities_of-sizes.ensures (marked_for c.args.state.now c.args.o c.args.first g.H.Holder.may_make c.requires.makes)).read_fits
+
+pub attach_first-requires-clause-may : goal.attach_first-requires-clause-may
+attach_first-requires-clause-may g c = may_hold c.args.state.now c.args.o c.args.first g.H.Holder.may_make c.requires.makes c.capacities_of-sizes.result c.capacities_of-sizes.ensures
+
+pub attach_first-requires-clause-calm : goal.attach_first-requires-clause-calm
+attach_first-requires-clause-calm g c = c.requires.calm
 
 pub returns-in-Ok-clause-said : goal.returns-in-Ok-clause-said
 returns-in-Ok-clause-said g c = c.in_ok-said.ensures
 
 pub returns-in-Ok-clause-ok : goal.returns-in-Ok-clause-ok
 returns-in-Ok-clause-ok g c = c.in-Ok.ensures.ok
+
+pub returns-in-Ok-clause-calm : goal.returns-in-Ok-clause-calm
+returns-in-Ok-clause-calm g c = c.in-Ok.ensures.calm
+
+pub returns-in-Err-clause-err : goal.returns-in-Err-clause-err
+returns-in-Err-clause-err g c = c.in-Err.ensures.err
+
+pub returns-in-Err-clause-keeps : goal.returns-in-Err-clause-keeps
+returns-in-Err-clause-keeps g c = c.in-Err.ensures.keeps
+
+pub returns-in-Err-clause-heard : goal.returns-in-Err-clause-heard
+returns-in-Err-clause-heard g c = c.in-Err.ensures.heard
+
+pub returns-in-Err-clause-still : goal.returns-in-Err-clause-still
+returns-in-Err-clause-still g c = c.in-Err.ensures.still

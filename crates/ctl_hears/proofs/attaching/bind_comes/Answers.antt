@@ -37,3 +37,15 @@ returns-in-Ok-attach_end-clause-ok g c = λ w peer is.
     (c.in-Ok.ensures c.args.e peer is))
     (subst (λ (p : List ℕ). JoinsBy (joining_with g.P.Pipes.known.out_name g.P.Pipes.known.in_name c.args.e p c.halves_of-halves.result.halves c.in-Ok-attach_end.answer ∷ []) (g.H.Holder.holding c.args.holder.now) (g.H.Holder.holding c.attach_end.new.holder))
     (c.in-Ok.ensures c.args.e peer is) c.in-Ok-attach_end.ensures.joins) c.attach_end.ensures.heard
+
+pub attach_end-requires-clause-calm : goal.attach_end-requires-clause-calm
+attach_end-requires-clause-calm g c = c.requires.calm
+
+pub returns-in-Err-attach_end-clause-err : goal.returns-in-Err-attach_end-clause-err
+returns-in-Err-attach_end-clause-err g c = c.in-Err-attach_end.ensures.err
+
+pub returns-in-Err-attach_end-clause-quiet : goal.returns-in-Err-attach_end-clause-quiet
+returns-in-Err-attach_end-clause-quiet g c = c.in-Err-attach_end.ensures.quiet
+
+pub returns-in-Err-attach_end-clause-unheard : goal.returns-in-Err-attach_end-clause-unheard
+returns-in-Err-attach_end-clause-unheard g c = c.attach_end.ensures.heard

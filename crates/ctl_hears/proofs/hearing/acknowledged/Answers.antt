@@ -16,23 +16,23 @@ use Rattle.ctl_hears.proofs.hearing.acknowledged.Goals as goal
 pub writer_of-writer-requires : goal.writer_of-writer-requires
 writer_of-writer-requires g c = writer_brought g.P.Pipes.known.out_name g.P.Pipes.known.in_name c.args.load c.requires.may.comes.half c.requires.may.comes.brings
 
-pub settle_end-counts-requires : goal.settle_end-counts-requires
-settle_end-counts-requires g c =
+pub settle_end-counts-requires-clause-may : goal.settle_end-counts-requires-clause-may
+settle_end-counts-requires-clause-may g c =
     let w = c.requires.may in
     record {
-      may = record {
-        control = w.control;
-        names = w.names;
-        stands = w.stands;
-        has = w.has;
-        settles = subst (λ (o : g.row.P-Out.Denot). SettlesAt g.P.Pipes.known.out_name g.P.Pipes.known.in_name w.names w.control c.args.state.now (g.H.Holder.holding c.args.holder.now) c.args.e o)
-            (same_half g.P.Pipes.known.out_name g.P.Pipes.known.in_name c.args.load w.comes.half c.writer_of-writer.result w.comes.brings c.writer_of-writer.ensures) w.comes.settles;
-      };
-      apart = c.requires.apart c.writer_of-writer.result c.writer_of-writer.ensures;
+      control = w.control;
+      names = w.names;
+      stands = w.stands;
+      has = w.has;
+      settles = subst (λ (o : g.row.P-Out.Denot). SettlesAt g.P.Pipes.known.out_name g.P.Pipes.known.in_name w.names w.control c.args.state.now (g.H.Holder.holding c.args.holder.now) c.args.e o)
+          (same_half g.P.Pipes.known.out_name g.P.Pipes.known.in_name c.args.load w.comes.half c.writer_of-writer.result w.comes.brings c.writer_of-writer.ensures) w.comes.settles;
     }
 
-pub try_end-ended-requires : goal.try_end-ended-requires
-try_end-ended-requires g c =
+pub settle_end-counts-requires-clause-apart : goal.settle_end-counts-requires-clause-apart
+settle_end-counts-requires-clause-apart g c = c.requires.apart c.writer_of-writer.result c.writer_of-writer.ensures
+
+pub try_end-ended-requires-clause-unended : goal.try_end-ended-requires-clause-unended
+try_end-ended-requires-clause-unended g c =
     let w = c.requires.may in
     let done = c.settle_end-counts.ensures.settles (record {
       control = w.control;
@@ -43,11 +43,22 @@ try_end-ended-requires g c =
           (same_half g.P.Pipes.known.out_name g.P.Pipes.known.in_name c.args.load w.comes.half c.writer_of-writer.result w.comes.brings c.writer_of-writer.ensures) w.comes.settles;
     }) in
     let met = c.needs.ensures (happens AckCame c.args.e w.control) done.leads.stands in
-    record {
-      unended = met.unended c.args.at (lives_then g.P.Pipes.known.out_name g.P.Pipes.known.in_name w.names w.control c.args.state.now (g.H.Holder.holding c.args.holder.now) c.args.at.0 c.args.e c.args.load w.comes);
-      room = ack_room_then g.P.Pipes.known.out_name g.P.Pipes.known.in_name w.names w.control c.args.state.now (g.H.Holder.holding c.args.holder.now) c.args.at.0 c.args.e c.args.load w.comes
-          c.settle_end-counts.new.state (g.H.Holder.holding c.settle_end-counts.new.holder) c.settle_end-counts.result done met.row;
-    }
+    met.unended c.args.at (lives_then g.P.Pipes.known.out_name g.P.Pipes.known.in_name w.names w.control c.args.state.now (g.H.Holder.holding c.args.holder.now) c.args.at.0 c.args.e c.args.load w.comes)
+
+pub try_end-ended-requires-clause-room : goal.try_end-ended-requires-clause-room
+try_end-ended-requires-clause-room g c =
+    let w = c.requires.may in
+    let done = c.settle_end-counts.ensures.settles (record {
+      control = w.control;
+      names = w.names;
+      stands = w.stands;
+      has = w.has;
+      settles = subst (λ (o : g.row.P-Out.Denot). SettlesAt g.P.Pipes.known.out_name g.P.Pipes.known.in_name w.names w.control c.args.state.now (g.H.Holder.holding c.args.holder.now) c.args.e o)
+          (same_half g.P.Pipes.known.out_name g.P.Pipes.known.in_name c.args.load w.comes.half c.writer_of-writer.result w.comes.brings c.writer_of-writer.ensures) w.comes.settles;
+    }) in
+    let met = c.needs.ensures (happens AckCame c.args.e w.control) done.leads.stands in
+    ack_room_then g.P.Pipes.known.out_name g.P.Pipes.known.in_name w.names w.control c.args.state.now (g.H.Holder.holding c.args.holder.now) c.args.at.0 c.args.e c.args.load w.comes
+    c.settle_end-counts.new.state (g.H.Holder.holding c.settle_end-counts.new.holder) c.settle_end-counts.result done met.row
 
 pub tell_over-requires : goal.tell_over-requires
 tell_over-requires g c =

@@ -34,19 +34,19 @@ pub returns-then-is_bare-clause-joins : goal.returns-then-is_bare-clause-joins
 returns-then-is_bare-clause-joins g c = λ w.
     c.hear_bare.ensures.joins c.silent.result c.silent.ensures (bare_may g.P.Pipes.known.out_name g.P.Pipes.known.in_name c.args.state.now (g.H.Holder.holding c.args.holder.now) c.args.letter.now c.args.load (sym c.is_bare.ensures ∙ c.if-is_bare.true) w)
 
-pub acknowledged-counts-requires : goal.acknowledged-counts-requires
-acknowledged-counts-requires g c =
+pub acknowledged-counts-requires-clause-may : goal.acknowledged-counts-requires-clause-may
+acknowledged-counts-requires-clause-may g c =
     let w = c.requires.may in
     record {
-      may = record {
-        control = w.control;
-        names = w.names;
-        stands = w.stands;
-        has = w.has;
-        comes = subst (λ (x : Word). HearsEnd g.P.Pipes.known.out_name g.P.Pipes.known.in_name w.names w.control c.args.state.now (g.H.Holder.holding c.args.holder.now) c.args.letter.now.to.0 x c.args.load) c.in-PipeTermAck.is w.ends;
-      };
-      apart = λ writer is. c.requires.apart c.in-PipeTermAck.e writer c.in-PipeTermAck.is is;
+      control = w.control;
+      names = w.names;
+      stands = w.stands;
+      has = w.has;
+      comes = subst (λ (x : Word). HearsEnd g.P.Pipes.known.out_name g.P.Pipes.known.in_name w.names w.control c.args.state.now (g.H.Holder.holding c.args.holder.now) c.args.letter.now.to.0 x c.args.load) c.in-PipeTermAck.is w.ends;
     }
+
+pub acknowledged-counts-requires-clause-apart : goal.acknowledged-counts-requires-clause-apart
+acknowledged-counts-requires-clause-apart g c = λ writer is. c.requires.apart c.in-PipeTermAck.e writer c.in-PipeTermAck.is is
 
 pub returns-in-PipeTermAck-clause-heard : goal.returns-in-PipeTermAck-clause-heard
 returns-in-PipeTermAck-clause-heard g c = λ w.
@@ -191,3 +191,34 @@ returns-in-Ok-clause-counts g c = λ e is. absurd (never (sym (ap binds_end is) 
 
 pub returns-in-Err-clause-succeeds : goal.returns-in-Err-clause-succeeds
 returns-in-Err-clause-succeeds g c = λ none. absurd (never (sym none ∙ ap binds_end c.in-PipeBind.is))
+
+pub hear_bare-requires-clause-bare : goal.hear_bare-requires-clause-bare
+hear_bare-requires-clause-bare g c = sym c.is_bare.ensures ∙ c.if-is_bare.true
+
+pub hear_bare-requires-clause-may : goal.hear_bare-requires-clause-may
+hear_bare-requires-clause-may g c =
+    bare_may g.P.Pipes.known.out_name g.P.Pipes.known.in_name c.args.state.now (g.H.Holder.holding c.args.holder.now) c.args.letter.now c.args.load (sym c.is_bare.ensures ∙ c.if-is_bare.true) c.requires.may
+
+pub bind_comes-requires-clause-fits : goal.bind_comes-requires-clause-fits
+bind_comes-requires-clause-fits g c = c.requires.fits
+
+pub bind_comes-requires-clause-calm : goal.bind_comes-requires-clause-calm
+bind_comes-requires-clause-calm g c = c.requires.calm
+
+pub returns-in-PipeTermAck-clause-brought : goal.returns-in-PipeTermAck-clause-brought
+returns-in-PipeTermAck-clause-brought g c = λ is. absurd (never (sym (ap brings_ends c.in-PipeTermAck.is) ∙ is))
+
+pub returns-in-Ok-clause-brought : goal.returns-in-Ok-clause-brought
+returns-in-Ok-clause-brought g c = λ is. absurd (never (sym (ap brings_ends c.in-PipeBind.is) ∙ is))
+
+pub returns-in-Err-clause-back : goal.returns-in-Err-clause-back
+returns-in-Err-clause-back g c = c.in-Err.ensures.back
+
+pub returns-in-Err-clause-err : goal.returns-in-Err-clause-err
+returns-in-Err-clause-err g c = c.in-Err.ensures.err
+
+pub returns-in-Err-clause-quiet : goal.returns-in-Err-clause-quiet
+returns-in-Err-clause-quiet g c = c.in-Err.ensures.quiet
+
+pub returns-in-Err-clause-unheard : goal.returns-in-Err-clause-unheard
+returns-in-Err-clause-unheard g c = c.in-Err.ensures.unheard

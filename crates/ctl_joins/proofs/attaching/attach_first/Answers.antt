@@ -2,8 +2,29 @@ use Rattle.std.proofs.Common.{◌∙◌}
 use Rattle.ctl_joins.proofs.AttachingLemmas.{attaches_first, keeps_twice, nowhere_still, stays_twice}
 use Rattle.ctl_joins.proofs.attaching.attach_first.Goals as goal
 
-pub make-requires-clause-new : goal.make-requires-clause-new
-make-requires-clause-new g c = c.requires.new c.args.o.0 c.requires.here
+pub make-requires : goal.make-requires
+make-requires g c = record {
+  here = c.requires.here;
+  new = c.requires.new c.args.o.0 c.requires.here;
+  written = c.requires.written;
+  read = c.requires.read;
+  may = c.requires.may;
+}
+
+pub returns-in-Ok-clause-calm : goal.returns-in-Ok-clause-calm
+returns-in-Ok-clause-calm g c = λ came calm. c.in-Ok.ensures.calm came (c.make.ensures.calm came calm)
+
+pub returns-in-Err-clause-heard : goal.returns-in-Err-clause-heard
+returns-in-Err-clause-heard g c = c.attach.ensures.heard ∙ c.make.ensures.heard
+
+pub returns-in-Err-clause-still : goal.returns-in-Err-clause-still
+returns-in-Err-clause-still g c = λ came calm. c.in-Err.ensures.still came (c.make.ensures.calm came calm)
+
+pub attach-requires-clause-here : goal.attach-requires-clause-here
+attach-requires-clause-here g c = c.make.ensures.stays.now.objects c.args.o.0 ∙ c.requires.here
+
+pub attach-requires-clause-fits : goal.attach-requires-clause-fits
+attach-requires-clause-fits g c = c.in_ok-made.ensures.fits
 
 pub attach-requires-clause-new : goal.attach-requires-clause-new
 attach-requires-clause-new g c = nowhere_still c.args.o.0 c.args.end (g.H.Holder.holding c.args.holder.now) (g.H.Holder.holding c.make.new.self) c.make.ensures.stays c.requires.new

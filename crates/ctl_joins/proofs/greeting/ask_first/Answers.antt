@@ -1,11 +1,27 @@
-use Rattle.std.specs.Prelude.{false}
+use Rattle.std.specs.Prelude.{false, refl}
 use Rattle.std.proofs.Common.{ap, ◌∙◌}
 use Rattle.spec_control.specs.declared.end.EndEvent.TheVariants.{Asked}
 use Rattle.ctl_holder.specs.declared.load.Load.{Load}
 use Rattle.ctl_state.specs.declared.state.State.{State}
 use Rattle.ctl_state.specs.Stands.{stepped}
 use Rattle.ctl_joins.proofs.GreetingLemmas.{asked, tell_room}
+use Rattle.ctl_holder.specs.Holding.{has_end}
+use Rattle.spec_control.specs.declared.end.EndState.TheVariants.{Active}
 use Rattle.ctl_joins.proofs.greeting.ask_first.Goals as goal
+
+pub step_end-commands-requires-clause-may : goal.step_end-commands-requires-clause-may
+step_end-commands-requires-clause-may g c =
+    let w = c.requires.may in
+    (c.needs.ensures w.control w.stands).may_come c.args.first (Asked c.args.reason false) Active w.there refl
+
+pub set_state-requires : goal.set_state-requires
+set_state-requires g c = record { here = c.requires.may.has }
+
+pub seal-requires : goal.seal-requires
+seal-requires g c = record {
+  here = ap (has_end c.args.first) c.set_state.ensures.stays.now.ends ∙ c.requires.may.has;
+  writer = c.set_state.ensures.stays.writers c.args.first ∙ c.requires.may.writes;
+}
 
 pub tell_other-requires : goal.tell_other-requires
 tell_other-requires g c =

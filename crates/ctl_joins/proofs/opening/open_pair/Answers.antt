@@ -1,8 +1,19 @@
 use Rattle.std.proofs.Common.{ap, sym, ◌∙◌}
 use Rattle.spec_control.specs.PairPhase.{Opens}
 use Rattle.spec_control.specs.Control.{attach, owner_of}
-use Rattle.ctl_joins.proofs.OpeningLemmas.{bind_room, opens}
+use Rattle.ctl_joins.proofs.OpeningLemmas.{bind_room, mine_unmade, opens, takes_bind, takes_end, theirs_unmade}
 use Rattle.ctl_joins.proofs.opening.open_pair.Goals as goal
+
+pub open-requires : goal.open-requires
+open-requires g c =
+    let w = c.requires.may in
+    let met = c.needs.ensures w.control w.stands in
+    record {
+      unmade = mine_unmade c.args.state.now c.args.first w met;
+      other_unmade = theirs_unmade c.args.state.now c.args.first w met;
+      takes_end = takes_end c.args.state.now c.args.first w met;
+      takes_bind = takes_bind c.args.state.now c.args.first w met;
+    }
 
 pub put-requires : goal.put-requires
 put-requires g c =

@@ -1,0 +1,16 @@
+use Rattle.std.specs.Prelude.{refl}
+use Rattle.std.proofs.Common.{ap}
+use Rattle.spec_control.specs.Row.{AsksForLink}
+use Rattle.ctl_state.specs.Objects.{ObjectRows}
+use Rattle.ctl_state.specs.Parts.{on_objects}
+use Rattle.ctl_state.proofs.StandLemmas.{link_stands}
+use Rattle.ctl_state.proofs.state.State.asks_for_link.Goals as goal
+
+pub asks_for_link-requires : goal.asks_for_link-requires
+asks_for_link-requires g c = record { there = c.requires.there }
+
+pub returns-clause-stands : goal.returns-clause-stands
+returns-clause-stands g c = link_stands AsksForLink c.args.id.0 c.args.self.now _ c.asks_for_link.ensures.links refl refl refl refl
+
+pub returns-clause-next : goal.returns-clause-next
+returns-clause-next g c = ap (λ (o : ObjectRows). on_objects (λ _. o) c.args.self.now) c.asks_for_link.ensures.next
