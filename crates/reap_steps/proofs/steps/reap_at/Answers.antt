@@ -9,3 +9,6 @@ returns-in-Ok-clause-ok g c =
       delivers = record { counts = x.ensures.counts; given = x.ensures.given; keeps = x.ensures.keeps; changes = x.ensures.changes; stands = c.stands.ensures };
       looks = c.look_behind.ensures;
     }
+
+pub returns-in-Err-clause-ok : goal.returns-in-Err-clause-ok
+returns-in-Err-clause-ok g c = tt

@@ -24,3 +24,6 @@ returns-in-Ok-Empty-clause-ok g c =
       delivers = record { counts = x.ensures.counts; given = x.ensures.given; keeps = x.ensures.keeps; changes = x.ensures.changes; stands = c.stands-in-Ok-Empty.ensures };
       looks = refl;
     }
+
+pub returns-in-Err-clause-ok : goal.returns-in-Err-clause-ok
+returns-in-Err-clause-ok g c = tt

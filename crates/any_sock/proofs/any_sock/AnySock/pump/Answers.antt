@@ -55,3 +55,15 @@ returns-in-XSub-clause-err g c = err_as c.tell-in-XSub.result _ _ (xsub_stopped 
 
 pub returns-in-XSub-clause-places : goal.returns-in-XSub-clause-places
 returns-in-XSub-clause-places g c = subst (λ (q : AnySock). HaveSamePlaces (peer_places q) (peer_places (sock.XSub c.tell-in-XSub.new.self))) (sym c.in-XSub.is) (same_followers _ _ c.tell-in-XSub.ensures.same)
+
+pub hear_peers-requires-in-XPub : goal.hear_peers-requires-in-XPub
+hear_peers-requires-in-XPub g c = record { there = subst (λ (q : AnySock). All (g.E.Peers.here c.args.peers.now) (peer_places q)) c.in-XPub.is c.requires.there }
+
+pub returns-in-XPub-clause-keeps : goal.returns-in-XPub-clause-keeps
+returns-in-XPub-clause-keeps g c = c.hear_peers-in-XPub.ensures.keeps
+
+pub returns-in-Sub-clause-keeps : goal.returns-in-Sub-clause-keeps
+returns-in-Sub-clause-keeps g c = c.tell.ensures.keeps
+
+pub returns-in-XSub-clause-keeps : goal.returns-in-XSub-clause-keeps
+returns-in-XSub-clause-keeps g c = c.tell-in-XSub.ensures.keeps

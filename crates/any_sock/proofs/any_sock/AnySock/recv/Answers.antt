@@ -103,3 +103,24 @@ returns-in-XSub-clause-step g c = xsub_got _ _ _ _ _ _ c.recv-in-XSub.result c.a
 pub returns-in-XSub-clause-places : goal.returns-in-XSub-clause-places
 returns-in-XSub-clause-places g c = subst (λ (q : AnySock). HaveSamePlaces (peer_places q) (peer_places (sock.XSub c.recv-in-XSub.new.self))) (sym c.in-XSub.is)
     (same_both _ _ _ _ c.recv-in-XSub.ensures.places (order_as _ _ (ap keys_of c.recv-in-XSub.ensures.same.followers_are)))
+
+pub recv-requires-in-Pull : goal.recv-requires-in-Pull
+recv-requires-in-Pull g c = record { there = subst (λ (q : AnySock). All (g.E.Peers.here c.args.peers.now) (peer_places q)) c.in-Pull.is c.requires.there }
+
+pub recv-requires-in-XPub : goal.recv-requires-in-XPub
+recv-requires-in-XPub g c = record { there = subst (λ (q : AnySock). All (g.E.Peers.here c.args.peers.now) (peer_places q)) c.in-XPub.is c.requires.there }
+
+pub returns-in-Pull-clause-keeps : goal.returns-in-Pull-clause-keeps
+returns-in-Pull-clause-keeps g c = c.recv-in-Pull.ensures.keeps
+
+pub returns-in-Req-clause-keeps : goal.returns-in-Req-clause-keeps
+returns-in-Req-clause-keeps g c = c.recv-in-Req.ensures.keeps
+
+pub returns-in-Router-clause-keeps : goal.returns-in-Router-clause-keeps
+returns-in-Router-clause-keeps g c = c.recv-in-Router.ensures.keeps
+
+pub returns-in-XPub-clause-keeps : goal.returns-in-XPub-clause-keeps
+returns-in-XPub-clause-keeps g c = c.recv-in-XPub.ensures.keeps
+
+pub returns-in-Sub-clause-keeps : goal.returns-in-Sub-clause-keeps
+returns-in-Sub-clause-keeps g c = c.recv-in-Sub.ensures.keeps

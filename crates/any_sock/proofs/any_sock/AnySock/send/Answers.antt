@@ -140,3 +140,21 @@ pub returns-in-Rep-clause-partner : goal.returns-in-Rep-clause-partner
 returns-in-Rep-clause-partner g c =
     subst (λ (q : AnySock). All (Contains (peer_places q)) (partner_places q)) (sym c.in-Rep.is)
     (partner_among c.in-Rep.rep.ins c.in-Rep.rep.ins c.in-Rep.rep.owed (All-contains_itself c.in-Rep.rep.ins) c.send-in-Rep.ensures.partner)
+
+pub send-requires-in-Rep : goal.send-requires-in-Rep
+send-requires-in-Rep g c = record { there = subst (λ (q : AnySock). All (g.E.Peers.here c.args.peers.now) (peer_places q)) c.in-Rep.is c.requires.there }
+
+pub send-requires-in-XPub : goal.send-requires-in-XPub
+send-requires-in-XPub g c = record { there = subst (λ (q : AnySock). All (g.E.Peers.here c.args.peers.now) (peer_places q)) c.in-XPub.is c.requires.there }
+
+pub returns-in-Push-clause-keeps : goal.returns-in-Push-clause-keeps
+returns-in-Push-clause-keeps g c = c.send.ensures.keeps
+
+pub returns-in-Rep-clause-keeps : goal.returns-in-Rep-clause-keeps
+returns-in-Rep-clause-keeps g c = c.send-in-Rep.ensures.keeps
+
+pub returns-in-Router-clause-keeps : goal.returns-in-Router-clause-keeps
+returns-in-Router-clause-keeps g c = c.send-in-Router.ensures.keeps
+
+pub returns-in-XPub-clause-keeps : goal.returns-in-XPub-clause-keeps
+returns-in-XPub-clause-keeps g c = c.send-in-XPub.ensures.keeps
