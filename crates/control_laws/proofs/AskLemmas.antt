@@ -10,8 +10,8 @@ use Rattle.spec_control.specs.Place.{is_here, was_ended}
 use Rattle.spec_control.specs.PairPhase.{Happens}
 use Rattle.spec_control.specs.Control.{Control, same_side, is_end, end_of, place_of, owner_of, happens, ask, ask_all}
 use Rattle.control_laws.specs.Kept.{KeptBut}
-use Rattle.control_rows.proofs.ListLemmas.{never, clash, left, right}
-use Rattle.control_rows.proofs.RowLemmas.{pair_there}
+use Rattle.control_laws.proofs.ListLemmas.{never, clash, left, right}
+use Rattle.control_laws.proofs.RowLemmas.{pair_there}
 use Rattle.control_laws.proofs.HearLemmas.{EndMoved, end_moved, ask_kept, asked_ended, absent_ended}
 
 side_self : (a : Bool) → same_side a a ≡ true

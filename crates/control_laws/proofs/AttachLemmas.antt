@@ -21,13 +21,13 @@ use Rattle.spec_control.specs.Control.{Control, with_value, id, is_end, end_of, 
 use Rattle.spec_control.specs.After.{Answers, processed, without_front}
 use Rattle.control_laws.specs.Mail.{Mark, PlugSign, BindSign, Link, DownLink, EndLink, end_mark, end_marks, up_marks, down_marks, queue, slot_of, Delivers, with_queue}
 use Rattle.control_laws.specs.Kept.{AreListed, KeptBut, Kept}
-use Rattle.control_rows.proofs.ListLemmas.{never, clash, is_here as here_is, is_elsewhere, written}
-use Rattle.control_rows.proofs.LinkLemmas.{at_stage}
-use Rattle.control_rows.proofs.ClosedLemmas.{Inv}
-use Rattle.control_rows.proofs.RowLemmas.{pair_there}
+use Rattle.control_laws.proofs.ListLemmas.{never, clash, is_here as here_is, is_elsewhere, written}
+use Rattle.control_laws.proofs.LinkLemmas.{at_stage}
+use Rattle.control_laws.proofs.ClosedLemmas.{Inv}
+use Rattle.control_laws.proofs.RowLemmas.{pair_there}
 use Rattle.control_laws.proofs.MailLemmas.{Oldest, OldestOfTwo, take_two, object_queue, object_slot, resort}
 use Rattle.control_laws.proofs.FrontLemmas.{bind_front, plug_front}
-use Rattle.control_rows.proofs.StepLemmas.{RowsKept, link_there, after_owner, moves_after, rows_link, rows_pair}
+use Rattle.control_laws.proofs.StepLemmas.{RowsKept, link_there, after_owner, moves_after, rows_link, rows_pair}
 use Rattle.control_laws.proofs.PutLemmas.{ObjectQueues, rows_queues, downward_now, rows_pair_queues, one_now, end_now, pair_now}
 use Rattle.control_laws.proofs.TellLemmas.{rows_of, kept_of, names_same, unasked_link}
 use Rattle.control_laws.proofs.HearLemmas.{ask_kept, absent_ended, end_moved}

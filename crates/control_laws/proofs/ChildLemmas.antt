@@ -14,11 +14,11 @@ use Rattle.spec_control.specs.Row.{Row, nobody, is_socket, is_unowned, root_fits
 use Rattle.spec_control.specs.Rows.{Rows, obj, pair, with_object, end_place, end_owner}
 use Rattle.spec_control.specs.Control.{Control, put, link, tell_where}
 use Rattle.spec_control.specs.After.{owner_or_root}
-use Rattle.control_rows.specs.Prompt.{HasShape}
-use Rattle.control_rows.proofs.ListLemmas.{never, clash, left, right, is_false}
-use Rattle.control_rows.proofs.LinkLemmas.{at_owner, at_root, some_is}
-use Rattle.control_rows.proofs.ClosedLemmas.{Inv, none_is_some}
-use Rattle.control_rows.proofs.QuietLemmas.{socket_owner}
+use Rattle.control_laws.specs.Prompt.{HasShape}
+use Rattle.control_laws.proofs.ListLemmas.{never, clash, left, right, is_false}
+use Rattle.control_laws.proofs.LinkLemmas.{at_owner, at_root, some_is}
+use Rattle.control_laws.proofs.ClosedLemmas.{Inv, none_is_some}
+use Rattle.control_laws.proofs.QuietLemmas.{socket_owner}
 use Rattle.control_laws.proofs.EndLemmas.{AtOnce}
 
 -- ---- what is asked of b at the end of its event, but of one child

@@ -18,12 +18,12 @@ use Rattle.spec_control.specs.After.{Answers, session_row, with_hold, connects}
 use Rattle.spec_control.specs.ControlRun.{IsOpenSocket}
 use Rattle.control_laws.specs.Mail.{Mark, OwnSign, PlugSign, BindSign, Link, UpLink, DownLink, EndLink, up_marks, down_marks, end_marks, queue, slot_of, Delivers, IsDelivered, with_queue}
 use Rattle.control_laws.specs.Kept.{IsUnasked, KeptBut, Kept}
-use Rattle.control_rows.proofs.ListLemmas.{never, is_old, is_new, pushed}
-use Rattle.control_rows.proofs.LinkLemmas.{at_owner}
-use Rattle.control_rows.proofs.ClosedLemmas.{Inv, none_is_some}
-use Rattle.control_rows.proofs.QuietLemmas.{socket_owner}
+use Rattle.control_laws.proofs.ListLemmas.{never, is_old, is_new, pushed}
+use Rattle.control_laws.proofs.LinkLemmas.{at_owner}
+use Rattle.control_laws.proofs.ClosedLemmas.{Inv, none_is_some}
+use Rattle.control_laws.proofs.QuietLemmas.{socket_owner}
 use Rattle.control_laws.proofs.MailLemmas.{agree, resort, put_two, with_here, with_else, pair_slot}
-use Rattle.control_rows.proofs.StepLemmas.{RowsKept, inv_of, after_owner, rows_open}
+use Rattle.control_laws.proofs.StepLemmas.{RowsKept, inv_of, after_owner, rows_open}
 use Rattle.control_laws.proofs.TellLemmas.{rows_of, names_same}
 use Rattle.control_laws.proofs.EndLemmas.{kept_but, kept_unasked}
 use Rattle.control_laws.proofs.JoinLemmas.{open_is, unasked_lives}

@@ -13,12 +13,12 @@ use Rattle.spec_control.specs.Control.{Control, with_value, id, put, link}
 use Rattle.spec_control.specs.After.{Answers, owner_or_root, processed, without_front}
 use Rattle.control_laws.specs.Mail.{Mark, OwnSign, RequestSign, ReapSign, AckSign, PlugSign, StopSign, TermSign, Link, UpLink, DownLink, is_link, marks, up_marks, down_marks, queue, slot_of, Delivers, IsDelivered, with_queue}
 use Rattle.control_laws.specs.Kept.{KeptBut, Kept}
-use Rattle.control_rows.proofs.ListLemmas.{never, left, right, and}
-use Rattle.control_rows.proofs.LinkLemmas.{at_socket, at_stage}
-use Rattle.control_rows.proofs.ClosedLemmas.{Inv}
+use Rattle.control_laws.proofs.ListLemmas.{never, left, right, and}
+use Rattle.control_laws.proofs.LinkLemmas.{at_socket, at_stage}
+use Rattle.control_laws.proofs.ClosedLemmas.{Inv}
 use Rattle.control_laws.proofs.MailLemmas.{Oldest, take_one}
 use Rattle.control_laws.proofs.FrontLemmas.{up_list, down_list, own_front, request_front, reap_front, ack_front, plug_front, stop_front}
-use Rattle.control_rows.proofs.StepLemmas.{inv_of, link_there}
+use Rattle.control_laws.proofs.StepLemmas.{inv_of, link_there}
 use Rattle.control_laws.proofs.PutLemmas.{rows_queues, upward_now, downward_now, object_now, object_put_down}
 use Rattle.control_laws.proofs.TellLemmas.{rows_of, link_kept, stays_there, tell_where_kept, told_up, told_down}
 use Rattle.control_laws.proofs.EndLemmas.{AtOnce, at_once, kept_but, kept_at, kept_unasked, child_keeps, try_end_kept}

@@ -16,16 +16,16 @@ use Rattle.spec_control.specs.Row.{Row, nobody, reads_on}
 use Rattle.spec_control.specs.Rows.{obj, pair, end_place, end_owner, end_half, pair_after}
 use Rattle.spec_control.specs.Control.{Control, id, is_end, end_of, place_of, owner_of, happens}
 use Rattle.spec_control.specs.After.{Answers, processed, without_front, settle}
-use Rattle.control_rows.specs.Reached.{is_empty, is_past}
+use Rattle.control_laws.specs.Reached.{is_empty, is_past}
 use Rattle.control_laws.specs.Mail.{Mark, PipeTermSign, PipeAckSign, EndLink, end_mark, end_marks, queue, slot_of}
 use Rattle.control_laws.specs.Kept.{KeptBut, Kept}
-use Rattle.control_rows.proofs.ListLemmas.{never, clash}
-use Rattle.control_rows.proofs.LinkLemmas.{moves_on}
-use Rattle.control_rows.proofs.ClosedLemmas.{Inv}
-use Rattle.control_rows.proofs.RowLemmas.{pair_there}
+use Rattle.control_laws.proofs.ListLemmas.{never, clash}
+use Rattle.control_laws.proofs.LinkLemmas.{moves_on}
+use Rattle.control_laws.proofs.ClosedLemmas.{Inv}
+use Rattle.control_laws.proofs.RowLemmas.{pair_there}
 use Rattle.control_laws.proofs.MailLemmas.{Oldest}
 use Rattle.control_laws.proofs.FrontLemmas.{pipe_term_front, pipe_ack_front}
-use Rattle.control_rows.proofs.StepLemmas.{inv_of, moves_after}
+use Rattle.control_laws.proofs.StepLemmas.{inv_of, moves_after}
 use Rattle.control_laws.proofs.PutLemmas.{rows_pair_queues, one_now, end_now}
 use Rattle.control_laws.proofs.TellLemmas.{rows_of}
 use Rattle.control_laws.proofs.HearLemmas.{AllButMail, happens_kept, happens_alone, EndMoved, end_moved}

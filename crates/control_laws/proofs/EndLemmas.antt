@@ -12,16 +12,16 @@ use Rattle.spec_control.specs.Row.{Row, nobody, is_socket, is_unowned, reads_on,
 use Rattle.spec_control.specs.Rows.{Rows, obj, pair, with_object, end_place, end_owner, end_half, behind, owed, living, may_end, MayEnd}
 use Rattle.spec_control.specs.Control.{Control, with_value, id, put, tell_owner, finish, try_end}
 use Rattle.spec_control.specs.After.{owner_or_root}
-use Rattle.control_rows.specs.Reached.{is_past}
-use Rattle.control_rows.specs.Prompt.{IsPromptBut, IsPrompt}
+use Rattle.control_laws.specs.Reached.{is_past}
+use Rattle.control_laws.specs.Prompt.{IsPromptBut, IsPrompt}
 use Rattle.control_laws.specs.Mail.{Mark, AckSign, down_marks}
 use Rattle.control_laws.specs.Kept.{IsUnasked, NamesAreOpen, KeptBut, Kept}
-use Rattle.control_rows.proofs.ListLemmas.{never, clash, left, right, is_here as here_is, is_elsewhere, written, placed}
-use Rattle.control_rows.proofs.ClosedLemmas.{may_end_closed}
-use Rattle.control_rows.proofs.PromptLemmas.{but, and_at}
+use Rattle.control_laws.proofs.ListLemmas.{never, clash, left, right, is_here as here_is, is_elsewhere, written, placed}
+use Rattle.control_laws.proofs.ClosedLemmas.{may_end_closed}
+use Rattle.control_laws.proofs.PromptLemmas.{but, and_at}
 use Rattle.control_laws.proofs.MailLemmas.{value_here, value_else}
 use Rattle.control_laws.proofs.FrontLemmas.{up_list, down_list}
-use Rattle.control_rows.proofs.StepLemmas.{RowsKept, inv_of, rows_end}
+use Rattle.control_laws.proofs.StepLemmas.{RowsKept, inv_of, rows_end}
 use Rattle.control_laws.proofs.PutLemmas.{rows_queues, StaysThere, object_now, object_put_up}
 use Rattle.control_laws.proofs.TellLemmas.{rows_of, kept_of, names_same}
 

@@ -15,9 +15,9 @@ use Rattle.spec_control.specs.Rows.{PairRow, no_pair, pair, end_place, end_owner
 use Rattle.spec_control.specs.Control.{Control, with_end, end_of, place_of, owner_of, tell_other, commands_in, reason_in, moved, happens, ask}
 use Rattle.control_laws.specs.Mail.{Mark, Link, end_mark, end_marks, queue, slot_of, Delivers, IsDelivered}
 use Rattle.control_laws.specs.Kept.{AreListed, NamesAreOpen, KeptBut}
-use Rattle.control_rows.proofs.ListLemmas.{never, is_here as here_is, is_elsewhere, written}
-use Rattle.control_rows.proofs.RowLemmas.{pair_there}
-use Rattle.control_rows.proofs.StepLemmas.{RowsKept, inv_of, rows_pair}
+use Rattle.control_laws.proofs.ListLemmas.{never, is_here as here_is, is_elsewhere, written}
+use Rattle.control_laws.proofs.RowLemmas.{pair_there}
+use Rattle.control_laws.proofs.StepLemmas.{RowsKept, inv_of, rows_pair}
 use Rattle.control_laws.proofs.PutLemmas.{PairQueues, rows_pair_queues}
 use Rattle.control_laws.proofs.TellLemmas.{rows_of, kept_of, names_same, listed_after, told_mail}
 

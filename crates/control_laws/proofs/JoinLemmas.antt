@@ -19,11 +19,11 @@ use Rattle.spec_control.specs.Control.{Control, with_value, id, end_of, owner_of
 use Rattle.spec_control.specs.After.{Answers, with_hold, joins, fulfil_all, kind_of, binding_by, binds, connects_to, connects}
 use Rattle.spec_control.specs.ControlRun.{IsOpenSocket}
 use Rattle.control_laws.specs.Kept.{IsUnasked, NamesAreOpen, KeptBut, Kept}
-use Rattle.control_rows.proofs.ListLemmas.{never}
-use Rattle.control_rows.proofs.LinkLemmas.{at_owner}
-use Rattle.control_rows.proofs.ClosedLemmas.{Inv}
-use Rattle.control_rows.proofs.QuietLemmas.{socket_owner}
-use Rattle.control_rows.proofs.StepLemmas.{inv_of}
+use Rattle.control_laws.proofs.ListLemmas.{never}
+use Rattle.control_laws.proofs.LinkLemmas.{at_owner}
+use Rattle.control_laws.proofs.ClosedLemmas.{Inv}
+use Rattle.control_laws.proofs.QuietLemmas.{socket_owner}
+use Rattle.control_laws.proofs.StepLemmas.{inv_of}
 use Rattle.control_laws.proofs.TellLemmas.{rows_of}
 use Rattle.control_laws.proofs.EndLemmas.{kept_but, kept_unasked}
 use Rattle.control_laws.proofs.TermLemmas.{all_filter}

@@ -10,7 +10,7 @@ use Rattle.spec_control.specs.Rows.{Rows, PairRow, no_pair, obj, pair, with_obje
 use Rattle.spec_control.specs.Control.{same_side, with_value}
 use Rattle.spec_control.specs.After.{owner_or_root}
 use Rattle.control_laws.specs.Mail.{Mark, Link, UpLink, DownLink, EndLink, is_link, marks, on_way, up_marks, down_marks, end_marks, queue, addressee, slot_of, Delivers, IsDelivered, with_queue}
-use Rattle.control_rows.proofs.ListLemmas.{never, is_here as here_is, is_elsewhere, written}
+use Rattle.control_laws.proofs.ListLemmas.{never, is_here as here_is, is_elsewhere, written}
 
 nil_right : {X : Type 0} (xs : List X) → xs ++ [] ≡ xs
 nil_right [] = refl

@@ -15,17 +15,17 @@ use Rattle.spec_control.specs.Row.{Row, nobody, is_socket, link_fits}
 use Rattle.spec_control.specs.Rows.{Rows, PairRow, obj, pair, end_owner, end_half, makes_object}
 use Rattle.spec_control.specs.Control.{Control, next_object}
 use Rattle.spec_control.specs.After.{Answers, owner_or_root, pair_or_none, socket_row, requested}
-use Rattle.control_rows.specs.Reached.{IsReached, goes_on}
-use Rattle.control_rows.specs.Prompt.{IsPromptBut, HasShape, HaveTheirPairs}
+use Rattle.control_laws.specs.Reached.{IsReached, goes_on}
+use Rattle.control_laws.specs.Prompt.{IsPromptBut, HasShape, HaveTheirPairs}
 use Rattle.control_laws.specs.Mail.{Mark, Link, UpLink, DownLink, EndLink, up_mark, end_mark, up_marks, down_marks, queue, slot_of, Delivers, IsDelivered}
 use Rattle.control_laws.specs.Kept.{IsUnasked, NamesAreOpen, KeptBut, Kept}
-use Rattle.control_rows.proofs.ListLemmas.{never, clash, is_old, is_new, pushed}
-use Rattle.control_rows.proofs.ClosedLemmas.{Inv}
-use Rattle.control_rows.proofs.RowLemmas.{up_of_over, mail_of_past}
-use Rattle.control_rows.proofs.ShapeLemmas.{shape_push}
-use Rattle.control_rows.proofs.PromptLemmas.{object_prompt}
+use Rattle.control_laws.proofs.ListLemmas.{never, clash, is_old, is_new, pushed}
+use Rattle.control_laws.proofs.ClosedLemmas.{Inv}
+use Rattle.control_laws.proofs.RowLemmas.{up_of_over, mail_of_past}
+use Rattle.control_laws.proofs.ShapeLemmas.{shape_push}
+use Rattle.control_laws.proofs.PromptLemmas.{object_prompt}
 use Rattle.control_laws.proofs.MailLemmas.{agree, resort}
-use Rattle.control_rows.proofs.StepLemmas.{RowsKept, inv_of, some_object}
+use Rattle.control_laws.proofs.StepLemmas.{RowsKept, inv_of, some_object}
 use Rattle.control_laws.proofs.TellLemmas.{rows_of, names_same}
 use Rattle.control_laws.proofs.EndLemmas.{kept_but, kept_unasked}
 

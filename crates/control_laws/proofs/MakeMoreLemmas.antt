@@ -14,12 +14,12 @@ use Rattle.spec_control.specs.After.{Answers, owner_or_root, listener_row, bindi
 use Rattle.spec_control.specs.ControlRun.{IsOpenSocket}
 use Rattle.control_laws.specs.Mail.{Mark, OwnSign, PlugSign, Link, UpLink, DownLink, up_marks, down_marks, queue, slot_of, Delivers, with_queue}
 use Rattle.control_laws.specs.Kept.{IsUnasked, KeptBut, Kept}
-use Rattle.control_rows.proofs.ListLemmas.{never}
-use Rattle.control_rows.proofs.LinkLemmas.{at_owner}
-use Rattle.control_rows.proofs.ClosedLemmas.{Inv, none_is_some}
-use Rattle.control_rows.proofs.QuietLemmas.{socket_owner}
+use Rattle.control_laws.proofs.ListLemmas.{never}
+use Rattle.control_laws.proofs.LinkLemmas.{at_owner}
+use Rattle.control_laws.proofs.ClosedLemmas.{Inv, none_is_some}
+use Rattle.control_laws.proofs.QuietLemmas.{socket_owner}
 use Rattle.control_laws.proofs.MailLemmas.{agree, put_one, with_here, with_else}
-use Rattle.control_rows.proofs.StepLemmas.{inv_of, some_object}
+use Rattle.control_laws.proofs.StepLemmas.{inv_of, some_object}
 use Rattle.control_laws.proofs.TellLemmas.{rows_of}
 use Rattle.control_laws.proofs.EndLemmas.{kept_but, kept_unasked}
 use Rattle.control_laws.proofs.JoinLemmas.{open_is, named_open, unasked_lives}

@@ -19,21 +19,21 @@ use Rattle.spec_control.specs.Rows.{Rows, PairRow, no_pair, obj, pair, end_place
 use Rattle.spec_control.specs.Control.{Control, with_value, id, end_of, owner_of, draws, attach, open_pair, greet}
 use Rattle.spec_control.specs.After.{Answers, pair_or_none, requested}
 use Rattle.spec_control.specs.ControlRun.{MayShake}
-use Rattle.control_rows.specs.Reached.{goes_on}
+use Rattle.control_laws.specs.Reached.{goes_on}
 use Rattle.control_laws.specs.Mail.{Mark, Link, UpLink, DownLink, EndLink, end_mark, end_marks, queue, slot_of, IsDelivered}
 use Rattle.control_laws.specs.Kept.{AreListed, KeptBut, Kept}
-use Rattle.control_rows.proofs.ListLemmas.{never, clash, left, and, is_old, is_new, pushed}
-use Rattle.control_rows.proofs.ClosedLemmas.{Inv, none_is_some}
-use Rattle.control_rows.proofs.RowLemmas.{pair_there}
-use Rattle.control_rows.proofs.PromptLemmas.{draw_prompt}
-use Rattle.control_rows.proofs.ShapeLemmas.{shape_draw}
+use Rattle.control_laws.proofs.ListLemmas.{never, clash, left, and, is_old, is_new, pushed}
+use Rattle.control_laws.proofs.ClosedLemmas.{Inv, none_is_some}
+use Rattle.control_laws.proofs.RowLemmas.{pair_there}
+use Rattle.control_laws.proofs.PromptLemmas.{draw_prompt}
+use Rattle.control_laws.proofs.ShapeLemmas.{shape_draw}
 use Rattle.control_laws.proofs.MailLemmas.{agree, resort}
-use Rattle.control_rows.proofs.StepLemmas.{inv_of, after_owner, moves_after, rows_open}
+use Rattle.control_laws.proofs.StepLemmas.{inv_of, after_owner, moves_after, rows_open}
 use Rattle.control_laws.proofs.PutLemmas.{rows_pair_queues, one_now, pair_put}
 use Rattle.control_laws.proofs.TellLemmas.{rows_of, kept_of, names_same, map_more}
 use Rattle.control_laws.proofs.EndLemmas.{kept_but, kept_unasked}
 use Rattle.control_laws.proofs.AttachLemmas.{attach_moved, attached_listed, sides, greets, greet_kept}
-use Rattle.control_rows.specs.Prompt.{HaveTheirPairs}
+use Rattle.control_laws.specs.Prompt.{HaveTheirPairs}
 
 -- ---- a pair's number is drawn
 abbrev drawn_row : ℕ → ℕ → PairRow

@@ -20,16 +20,16 @@ use Rattle.spec_control.specs.Rows.{Rows, obj, pair, with_object, end_place, end
 use Rattle.spec_control.specs.Control.{Control, with_value, id, end_of, owner_of, link, ask}
 use Rattle.spec_control.specs.After.{Answers, owner_or_root, requested, uses_reason}
 use Rattle.spec_control.specs.ControlRun.{IsOpenSocket, MayGive, MayAskEnd, MayAskOver}
-use Rattle.control_rows.specs.Prompt.{IsOf}
+use Rattle.control_laws.specs.Prompt.{IsOf}
 use Rattle.control_laws.specs.Mail.{RequestSign, ReapSign, Link, UpLink, is_link, marks, up_marks, down_marks}
 use Rattle.control_laws.specs.Kept.{KeptBut, Kept}
-use Rattle.control_rows.proofs.ListLemmas.{never, clash, and}
-use Rattle.control_rows.proofs.LinkLemmas.{at_owner, at_socket}
-use Rattle.control_rows.proofs.ClosedLemmas.{Inv}
-use Rattle.control_rows.proofs.QuietLemmas.{socket_owner}
-use Rattle.control_rows.proofs.OthersLemmas.{sum_same, reads_same}
+use Rattle.control_laws.proofs.ListLemmas.{never, clash, and}
+use Rattle.control_laws.proofs.LinkLemmas.{at_owner, at_socket}
+use Rattle.control_laws.proofs.ClosedLemmas.{Inv}
+use Rattle.control_laws.proofs.QuietLemmas.{socket_owner}
+use Rattle.control_laws.proofs.OthersLemmas.{sum_same, reads_same}
 use Rattle.control_laws.proofs.FrontLemmas.{up_list}
-use Rattle.control_rows.proofs.StepLemmas.{inv_of, link_there, same_owner}
+use Rattle.control_laws.proofs.StepLemmas.{inv_of, link_there, same_owner}
 use Rattle.control_laws.proofs.PutLemmas.{rows_queues, object_now, object_put_up}
 use Rattle.control_laws.proofs.TellLemmas.{rows_of, asks_nobody, link_kept, stays_there}
 use Rattle.control_laws.proofs.HearLemmas.{ask_kept}

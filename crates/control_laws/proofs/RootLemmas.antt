@@ -18,19 +18,19 @@ use Rattle.spec_control.specs.Control.{Control, begun, id}
 use Rattle.spec_control.specs.After.{owner_or_root}
 use Rattle.spec_control.specs.ControlRun.{after_all}
 use Rattle.spec_control.specs.Quiescence.{IsQuiescent}
-use Rattle.control_rows.specs.Reached.{IsReached, begins}
-use Rattle.control_rows.specs.Prompt.{IsStill}
+use Rattle.control_laws.specs.Reached.{IsReached, begins}
+use Rattle.control_laws.specs.Prompt.{IsStill}
 use Rattle.control_laws.specs.Mail.{Mark, Sign, up_mark, down_mark, end_mark, OwnSign, RequestSign, ReapSign, AckSign, PlugSign, StopSign, TermSign, BindSign, PipeTermSign, PipeAckSign, Link, UpLink, DownLink, EndLink, is_link, marks, on_way, up_marks, down_marks, end_marks, queue, addressee, slot_of}
 use Rattle.control_laws.specs.Kept.{Kept}
 use Rattle.control_laws.specs.Laws.{RunsAreKept, QuiescentRootHasEnded, DeliveredToLiving}
-use Rattle.control_rows.proofs.ListLemmas.{never, clash, left, right}
-use Rattle.control_rows.proofs.LinkLemmas.{at_owner, at_root, at_socket}
-use Rattle.control_rows.proofs.ClosedLemmas.{Inv, none_is_some}
-use Rattle.control_rows.proofs.RowLemmas.{nothing_for_ended}
+use Rattle.control_laws.proofs.ListLemmas.{never, clash, left, right}
+use Rattle.control_laws.proofs.LinkLemmas.{at_owner, at_root, at_socket}
+use Rattle.control_laws.proofs.ClosedLemmas.{Inv, none_is_some}
+use Rattle.control_laws.proofs.RowLemmas.{nothing_for_ended}
 use Rattle.control_laws.proofs.MailLemmas.{shown, full, link_self}
-use Rattle.control_rows.proofs.QuietLemmas.{root_ended}
+use Rattle.control_laws.proofs.QuietLemmas.{root_ended}
 use Rattle.control_laws.proofs.TellLemmas.{rows_of}
-use Rattle.control_rows.proofs.StepLemmas.{inv_of}
+use Rattle.control_laws.proofs.StepLemmas.{inv_of}
 use Rattle.control_laws.proofs.EndLemmas.{kept_but}
 use Rattle.control_laws.proofs.RunLemmas.{run_kept}
 

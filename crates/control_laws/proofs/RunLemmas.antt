@@ -22,7 +22,7 @@ use Rattle.spec_control.specs.After.{Answers, answers_in, processed, without_fro
 use Rattle.spec_control.specs.Reply.{unless, before_term, reply_of}
 use Rattle.spec_control.specs.ControlRun.{MayAsk, Fits, after_all, IsControlRun}
 use Rattle.control_laws.specs.Kept.{Kept}
-use Rattle.control_rows.proofs.ListLemmas.{never}
+use Rattle.control_laws.proofs.ListLemmas.{never}
 use Rattle.control_laws.proofs.DeliverLemmas.{own_kept, request_kept, ack_kept, reap_kept, plug_kept, stop_kept}
 use Rattle.control_laws.proofs.TermLemmas.{term_kept}
 use Rattle.control_laws.proofs.EndCommandLemmas.{delimited_kept, pipe_term_kept, pipe_ack_kept}

@@ -14,18 +14,18 @@ use Rattle.spec_control.specs.Rows.{Rows, PairRow, no_pair, obj, pair, end_place
 use Rattle.spec_control.specs.Control.{Control, with_value, id, put, makes, draws}
 use Rattle.spec_control.specs.After.{Answers, owner_or_root, pair_or_none, accepted_row, accepts}
 use Rattle.spec_control.specs.ControlRun.{IsTakenIn}
-use Rattle.control_rows.specs.Reached.{IsReached, goes_on}
-use Rattle.control_rows.specs.Prompt.{IsPromptBut, HasShape, HaveTheirPairs}
+use Rattle.control_laws.specs.Reached.{IsReached, goes_on}
+use Rattle.control_laws.specs.Prompt.{IsPromptBut, HasShape, HaveTheirPairs}
 use Rattle.control_laws.specs.Mail.{Mark, OwnSign, Link, UpLink, DownLink, EndLink, up_marks, down_marks, end_marks, queue, slot_of, Delivers, IsDelivered, with_queue}
 use Rattle.control_laws.specs.Kept.{AreListed, NamesAreOpen, Kept}
-use Rattle.control_rows.proofs.ListLemmas.{never, clash, is_old, is_new, pushed}
-use Rattle.control_rows.proofs.LinkLemmas.{at_owner}
-use Rattle.control_rows.proofs.ClosedLemmas.{Inv, none_is_some}
-use Rattle.control_rows.proofs.QuietLemmas.{socket_owner}
-use Rattle.control_rows.proofs.ShapeLemmas.{shape_draw}
-use Rattle.control_rows.proofs.PromptLemmas.{draw_prompt}
+use Rattle.control_laws.proofs.ListLemmas.{never, clash, is_old, is_new, pushed}
+use Rattle.control_laws.proofs.LinkLemmas.{at_owner}
+use Rattle.control_laws.proofs.ClosedLemmas.{Inv, none_is_some}
+use Rattle.control_laws.proofs.QuietLemmas.{socket_owner}
+use Rattle.control_laws.proofs.ShapeLemmas.{shape_draw}
+use Rattle.control_laws.proofs.PromptLemmas.{draw_prompt}
 use Rattle.control_laws.proofs.MailLemmas.{agree, resort, put_one, with_here, with_else}
-use Rattle.control_rows.proofs.StepLemmas.{inv_of, some_object}
+use Rattle.control_laws.proofs.StepLemmas.{inv_of, some_object}
 use Rattle.control_laws.proofs.TellLemmas.{rows_of, names_same}
 use Rattle.control_laws.proofs.EndLemmas.{kept_but, kept_unasked}
 use Rattle.control_laws.proofs.OpenLemmas.{owner_lives, unended_uncleared}

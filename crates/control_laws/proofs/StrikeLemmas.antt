@@ -25,12 +25,12 @@ use Rattle.spec_control.specs.Control.{Control, with_value, with_end, id, end_of
 use Rattle.spec_control.specs.After.{Answers, owner_or_root, requested, tell_struck, strike_end, strikes, strikes_first}
 use Rattle.control_laws.specs.Mail.{StopSign}
 use Rattle.control_laws.specs.Kept.{IsUnasked, NamesAreOpen, KeptBut, Kept}
-use Rattle.control_rows.proofs.ListLemmas.{never, clash, left, right, and}
-use Rattle.control_rows.proofs.LinkLemmas.{at_owner, at_root, at_socket, root_is}
-use Rattle.control_rows.proofs.ClosedLemmas.{Inv, none_is_some}
-use Rattle.control_rows.proofs.QuietLemmas.{socket_owner}
+use Rattle.control_laws.proofs.ListLemmas.{never, clash, left, right, and}
+use Rattle.control_laws.proofs.LinkLemmas.{at_owner, at_root, at_socket, root_is}
+use Rattle.control_laws.proofs.ClosedLemmas.{Inv, none_is_some}
+use Rattle.control_laws.proofs.QuietLemmas.{socket_owner}
 use Rattle.control_laws.proofs.FrontLemmas.{up_list, down_list}
-use Rattle.control_rows.proofs.StepLemmas.{inv_of, link_there, rows_link}
+use Rattle.control_laws.proofs.StepLemmas.{inv_of, link_there, rows_link}
 use Rattle.control_laws.proofs.PutLemmas.{rows_queues, object_now, object_put_down}
 use Rattle.control_laws.proofs.TellLemmas.{rows_of, kept_of, names_same, link_kept, stays_there, tell_where_kept}
 use Rattle.control_laws.proofs.HearLemmas.{ask_kept}

@@ -24,13 +24,13 @@ use Rattle.spec_control.specs.Row.{Row, nobody, is_socket, is_unowned, LinkEvent
 use Rattle.spec_control.specs.Rows.{PairRow, Rows, no_pair, obj, pair, with_object, with_pair, end_place, end_owner, end_half, pair_after, IsInPhase, PairMoves, is_owner}
 use Rattle.spec_control.specs.Control.{Control, with_value, is_end, id, end_of, owner_of, put, link, tell_where, tell_children, tell_other, commands_in}
 use Rattle.spec_control.specs.After.{owner_or_root}
-use Rattle.control_rows.specs.Prompt.{IsOf}
+use Rattle.control_laws.specs.Prompt.{IsOf}
 use Rattle.control_laws.specs.Mail.{Mark, TermSign, Link, EndLink, is_link, marks, end_mark, end_marks, slot_of, Delivers, IsDelivered}
 use Rattle.control_laws.specs.Kept.{AreListed, IsUnasked, NamesAreOpen, KeptBut}
-use Rattle.control_rows.proofs.ListLemmas.{never, left, right, is_here as here_is, is_elsewhere, written}
-use Rattle.control_rows.proofs.RowLemmas.{pair_there}
+use Rattle.control_laws.proofs.ListLemmas.{never, left, right, is_here as here_is, is_elsewhere, written}
+use Rattle.control_laws.proofs.RowLemmas.{pair_there}
 use Rattle.control_laws.proofs.FrontLemmas.{up_list, down_list}
-use Rattle.control_rows.proofs.StepLemmas.{RowsKept, inv_of, link_there, same_kind, same_owner, same_slot, after_owner, moves_after, rows_link}
+use Rattle.control_laws.proofs.StepLemmas.{RowsKept, inv_of, link_there, same_kind, same_owner, same_slot, after_owner, moves_after, rows_link}
 use Rattle.control_laws.proofs.PutLemmas.{rows_queues, StaysThere, object_put_down, PairQueues, one_now, pair_now, pair_put}
 
 pub rows_of : {b : ℕ} {c : Control} → KeptBut b c → RowsKept b c.rows c.output_left

@@ -20,11 +20,11 @@ use Rattle.spec_control.specs.Control.{Control, id, end_of, place_of, owner_of, 
 use Rattle.spec_control.specs.After.{Answers, owner_or_root, processed, without_front, without_names, term_reason, term_delay}
 use Rattle.control_laws.specs.Mail.{TermSign, DownLink, down_marks, queue, slot_of}
 use Rattle.control_laws.specs.Kept.{IsUnasked, NamesAreOpen, KeptBut, Kept}
-use Rattle.control_rows.proofs.ListLemmas.{never, clash, left, right, is_false, and}
-use Rattle.control_rows.proofs.ClosedLemmas.{Inv, has_owner}
+use Rattle.control_laws.proofs.ListLemmas.{never, clash, left, right, is_false, and}
+use Rattle.control_laws.proofs.ClosedLemmas.{Inv, has_owner}
 use Rattle.control_laws.proofs.MailLemmas.{Oldest}
 use Rattle.control_laws.proofs.FrontLemmas.{up_list, term_front}
-use Rattle.control_rows.proofs.StepLemmas.{inv_of, link_there, rows_link}
+use Rattle.control_laws.proofs.StepLemmas.{inv_of, link_there, rows_link}
 use Rattle.control_laws.proofs.PutLemmas.{rows_queues, downward_now, object_now}
 use Rattle.control_laws.proofs.TellLemmas.{rows_of, kept_of, stays_there, tell_children_kept}
 use Rattle.control_laws.proofs.HearLemmas.{absent_ended}

@@ -10,8 +10,8 @@ use Rattle.spec_control.specs.Place.{is_here}
 use Rattle.spec_control.specs.Row.{is_socket}
 use Rattle.spec_control.specs.Rows.{Rows, obj, pair, end_place}
 use Rattle.spec_control.specs.Control.{Control, is_end, end_of}
-use Rattle.control_rows.specs.Reached.{IsReached}
-use Rattle.control_rows.specs.Prompt.{IsPromptBut, IsPrompt, HasShape, HaveTheirPairs}
+use Rattle.control_laws.specs.Reached.{IsReached}
+use Rattle.control_laws.specs.Prompt.{IsPromptBut, IsPrompt, HasShape, HaveTheirPairs}
 use Rattle.control_laws.specs.Mail.{IsDelivered}
 
 -- each end that is there stands in the list of the ends in the order of their attachment

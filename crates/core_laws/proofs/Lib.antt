@@ -1,3 +1,6 @@
+pub mod AsideLemmas
+mod StandingCallLemmas
+mod StandingOrderLemmas
 pub mod CountedLemmas
 pub mod GivenLemmas
 pub mod SideLemmas

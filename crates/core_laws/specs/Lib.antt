@@ -1,3 +1,6 @@
+pub mod Standing
+pub mod Aside
+pub mod StandingCalls
 pub mod Given
 pub mod Receives
 pub mod Counted

@@ -9,7 +9,7 @@ use Rattle.spec_control.specs.declared.end.EndState.TheVariants.{Gone}
 use Rattle.spec_control.specs.Place.{At, is_away}
 use Rattle.spec_control.specs.Control.{owner_of, place_of}
 use Rattle.spec_control.specs.Names.{name_of}
-use Rattle.control_rows.proofs.ListLemmas.{left, never}
+use Rattle.control_laws.proofs.ListLemmas.{left, never}
 use Rattle.control_held.specs.Moments.{Moment}
 use Rattle.msg_pipe.specs.Known.{Known}
 use Rattle.any_sock.specs.declared.any_sock.AnySock.{AnySock}
@@ -24,8 +24,8 @@ use Rattle.held_ends.specs.declared.changes.PipeChange.{PipeChange}
 use Rattle.held_ends.specs.declared.table.Place.{Place}
 use Rattle.held_ends.specs.Places.{place_at}
 use Rattle.held_ends.specs.Sound.{Fits, IsSound, ReadsSo, StandsSo, WritesSo}
-use Rattle.name_laws.specs.Names.{NamesStand}
-use Rattle.own_laws.specs.Ends.{IsHeldFor}
+use Rattle.past_laws.specs.Names.{NamesStand}
+use Rattle.past_laws.specs.Ends.{IsHeldFor}
 use Rattle.past_laws.specs.Asked.{EndsAreSealedOnce}
 use Rattle.sock_core.specs.declared.sock.SockCore.{SockCore}
 use Rattle.sock_core.proofs.FormLemmas.{are_sound, sound_of}

@@ -30,16 +30,16 @@ use Rattle.spec_control.specs.Control.{Control, next_pair}
 use Rattle.spec_control.specs.Register.{fulfilled_by}
 use Rattle.spec_control.specs.After.{after, answers_in, binding_by, without_front}
 use Rattle.spec_control.specs.ControlRun.{Fits, IsControlRun, after_all, unless_refused}
-use Rattle.control_rows.proofs.ListLemmas.{is_elsewhere, is_here, is_new, is_old, left, never, placed, pushed, written}
+use Rattle.control_laws.proofs.ListLemmas.{is_elsewhere, is_here, is_new, is_old, left, never, placed, pushed, written}
 use Rattle.control_laws.specs.Kept.{Kept}
-use Rattle.control_moves.specs.Move.{EndMoves, Leads, LetterPut, LinkMoves, MayMove, Move, ObjectEnds, ObjectMade, PairDrawn, is_named, move_boxes, move_rows}
-use Rattle.control_moves.specs.OwnMoves.{connect_moves, fulfil_moves, having_taken, own_moves, request_moves, word_moves}
-use Rattle.control_moves.proofs.EventGoLemmas.{event_goes}
-use Rattle.control_moves.proofs.SoundLemmas.{ending_there, link_there}
-use Rattle.control_moves.proofs.WeighLemmas.{taken_rows}
+use Rattle.control_laws.specs.Move.{EndMoves, Leads, LetterPut, LinkMoves, MayMove, Move, ObjectEnds, ObjectMade, PairDrawn, is_named, move_boxes, move_rows}
+use Rattle.control_laws.specs.OwnMoves.{connect_moves, fulfil_moves, having_taken, own_moves, request_moves, word_moves}
+use Rattle.control_laws.proofs.EventGoLemmas.{event_goes}
+use Rattle.control_laws.proofs.SoundLemmas.{ending_there, link_there}
+use Rattle.control_laws.proofs.WeighLemmas.{taken_rows}
 use Rattle.held_laws.proofs.BetweenLemmas.{asks_over, free_asks}
 use Rattle.held_laws.proofs.EventLemmas.{asked_closes, closes, word_closes}
-use Rattle.socket_laws.proofs.RowLemmas.{event_keeps}
+use Rattle.held_laws.proofs.RowLemmas.{event_keeps}
 use Rattle.replay_laws.proofs.FrameLemmas.{closings, delimited_framed, processed_framed, requested_framed}
 use Rattle.core_others.proofs.ChainLemmas.{kept_then}
 

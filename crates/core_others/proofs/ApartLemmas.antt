@@ -9,8 +9,8 @@ use Rattle.spec_control.specs.Place.{Place as IsAt, At, is_away, is_gone}
 use Rattle.spec_control.specs.Rows.{PairRow, IsInPhase, end_place, pair}
 use Rattle.spec_control.specs.Control.{Control, id, owner_of, place_of}
 use Rattle.spec_control.specs.Names.{name_of}
-use Rattle.control_rows.proofs.ListLemmas.{never}
-use Rattle.control_rows.proofs.StepLemmas.{inv_of}
+use Rattle.control_laws.proofs.ListLemmas.{never}
+use Rattle.control_laws.proofs.StepLemmas.{inv_of}
 use Rattle.control_laws.specs.Kept.{Kept}
 use Rattle.control_laws.proofs.EndLemmas.{kept_but}
 use Rattle.control_laws.proofs.TellLemmas.{rows_of}

@@ -17,7 +17,7 @@ use Rattle.spec_control.specs.declared.letter.Word.{Word}
 use Rattle.spec_control.specs.declared.letter.Word.TheVariants.{Own, Plug, TermReq, Term, TermAck, PipeBind, PipeTerm, PipeTermAck, Stop, Reap}
 use Rattle.spec_control.specs.Control.{Control, begun}
 use Rattle.spec_control.specs.ControlRun.{after_all, after_item, FitsItem, IsControlRun}
-use Rattle.control_rows.proofs.ListLemmas.{never}
+use Rattle.control_laws.proofs.ListLemmas.{never}
 use Rattle.control_laws.specs.Kept.{Kept}
 use Rattle.control_laws.proofs.RootLemmas.{runs_are_kept}
 use Rattle.control_held.specs.Moments.{Moment, moments_from}

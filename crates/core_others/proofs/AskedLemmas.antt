@@ -18,16 +18,16 @@ use Rattle.spec_control.specs.Rows.{PairRow, end_place, no_pair, obj, pair}
 use Rattle.spec_control.specs.Stage.{has_ended, is_used}
 use Rattle.spec_control.specs.Control.{Control, begun, next_object, owner_of, place_of}
 use Rattle.spec_control.specs.ControlRun.{FitsItem, IsControlRun, MayDeliver, after_all, after_item}
-use Rattle.control_rows.proofs.ListLemmas.{never, placed}
+use Rattle.control_laws.proofs.ListLemmas.{never, placed}
 use Rattle.control_laws.specs.Kept.{Kept}
 use Rattle.control_laws.proofs.RootLemmas.{oldest_lives, runs_are_kept}
-use Rattle.control_attached.proofs.OnceLemmas.{old_run}
-use Rattle.control_moves.specs.Coming.{ComesToEnd}
-use Rattle.control_moves.proofs.GuardLemmas.{may_come}
-use Rattle.control_moves.proofs.MetLemmas.{meets_cell}
+use Rattle.control_laws.proofs.AttachedOnceLemmas.{old_run}
+use Rattle.control_laws.specs.Coming.{ComesToEnd}
+use Rattle.control_laws.proofs.GuardLemmas.{may_come}
+use Rattle.control_laws.proofs.MetLemmas.{meets_cell}
 use Rattle.ctl_holder.specs.declared.given.Given.{Given}
 use Rattle.ctl_history.specs.Past.{control_of, Past}
-use Rattle.own_laws.proofs.PlaceLemmas.{led_on}
+use Rattle.past_laws.proofs.PlaceLemmas.{led_on}
 use Rattle.one_desk.specs.Lent.{IsOneOrder, Lent}
 use Rattle.one_desk.specs.Waiting.{HearsAt}
 use Rattle.one_desk.proofs.WaitLemmas.{same_box, taken_at}

@@ -16,7 +16,7 @@ use Rattle.spec_control.specs.Control.{Control, begun, next_object}
 use Rattle.spec_control.specs.ControlRun.{is_between}
 use Rattle.control_held.specs.Moments.{reaper_slots}
 use Rattle.control_held.specs.OwnAsks.{is_none}
-use Rattle.control_rows.proofs.ListLemmas.{and, never}
+use Rattle.control_laws.proofs.ListLemmas.{and, never}
 use Rattle.control_laws.proofs.RootLemmas.{begun_kept}
 use Rattle.spec_run.specs.CoreEvents.{may_take}
 use Rattle.ctl_history.specs.Past.{control_of}

@@ -17,21 +17,21 @@ use Rattle.spec_control.specs.Row.{Row, is_socket, nobody}
 use Rattle.spec_control.specs.Rows.{obj}
 use Rattle.spec_control.specs.Control.{Control, ends_of, next_object, next_pair, owner_of, place_of}
 use Rattle.spec_control.specs.ControlRun.{FitsItem, IsControlRun, MayDeliver, after_all, after_item}
-use Rattle.control_rows.proofs.ListLemmas.{never, placed}
-use Rattle.control_rows.proofs.RowLemmas.{pair_there}
+use Rattle.control_laws.proofs.ListLemmas.{never, placed}
+use Rattle.control_laws.proofs.RowLemmas.{pair_there}
 use Rattle.control_laws.specs.Kept.{Kept}
 use Rattle.control_laws.proofs.RootLemmas.{oldest_lives}
 use Rattle.control_laws.proofs.RunLemmas.{after_kept}
-use Rattle.control_moves.specs.Coming.{ComesToEnd}
-use Rattle.control_moves.proofs.GuardLemmas.{may_come}
-use Rattle.control_moves.proofs.MetLemmas.{meets_cell}
-use Rattle.control_attached.proofs.LeadLemmas.{old_end}
-use Rattle.control_attached.proofs.MoveLemmas.{is_at}
-use Rattle.control_attached.proofs.OnceLemmas.{AreOld, IsOld, old_after}
+use Rattle.control_laws.specs.Coming.{ComesToEnd}
+use Rattle.control_laws.proofs.GuardLemmas.{may_come}
+use Rattle.control_laws.proofs.MetLemmas.{meets_cell}
+use Rattle.control_laws.proofs.LeadLemmas.{old_end}
+use Rattle.control_laws.proofs.MoveLemmas.{is_at}
+use Rattle.control_laws.proofs.AttachedOnceLemmas.{AreOld, IsOld, old_after}
 use Rattle.control_held.specs.Moments.{Moment, moments_from}
-use Rattle.socket_laws.proofs.RowLemmas.{event_keeps}
-use Rattle.socket_laws.proofs.SlotLemmas.{event_slot}
-use Rattle.socket_laws.proofs.ThereLemmas.{event_there}
+use Rattle.held_laws.proofs.RowLemmas.{event_keeps}
+use Rattle.held_laws.proofs.SlotLemmas.{event_slot}
+use Rattle.held_laws.proofs.ThereLemmas.{event_there}
 
 -- each object but the root has the mailbox of its number behind those of the workers
 pub record HasBoxes (w : ℕ) (c : Control) : Type 0 where

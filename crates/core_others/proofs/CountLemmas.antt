@@ -24,7 +24,7 @@ use Rattle.held_ends.specs.Counting.{counts_with as joined_with}
 use Rattle.sock_core.proofs.FindLemmas.{same_end}
 use Rattle.spec_run.specs.Event.{seals_in}
 use Rattle.spec_run.specs.OwnedRun.{pipe_capacity, AreCountedBy}
-use Rattle.core_stands.specs.Standing.{PastStands, goes_in}
+use Rattle.core_laws.specs.Standing.{PastStands, goes_in}
 use Rattle.past_laws.specs.Settled.{PipesAreSettled}
 use Rattle.past_laws.proofs.ChangeLemmas.{goes_so}
 use Rattle.past_laws.proofs.CountLemmas.{Counts, TellsIn, TellsCounts, item_counted, still_counted}

@@ -17,7 +17,7 @@ use Rattle.spec_run.specs.Act.{Act, steps_in}
 use Rattle.spec_run.specs.Event.{acts_said}
 use Rattle.spec_run.specs.OwnedRun.{AreCountedBy}
 use Rattle.held_ends.specs.declared.changes.PipeChange.{PipeChange}
-use Rattle.core_stands.specs.Standing.{PastStands}
+use Rattle.core_laws.specs.Standing.{PastStands}
 use Rattle.reaper_ends.specs.declared.sockets.ClosedSockets.{ClosedSockets}
 use Rattle.reaper_ends.specs.Counting.{counts_of}
 use Rattle.reaper_ends.specs.Has.{holding_in}

@@ -6,7 +6,7 @@ use Rattle.zq_base.specs.declared.ids.EndId.{EndId}
 use Rattle.spec_control.specs.Stage.{is_used}
 use Rattle.spec_control.specs.Place.{is_here}
 use Rattle.spec_control.specs.Control.{owner_of, place_of}
-use Rattle.control_rows.proofs.ListLemmas.{never}
+use Rattle.control_laws.proofs.ListLemmas.{never}
 use Rattle.control_held.specs.Has.{has_after}
 use Rattle.control_held.specs.Moments.{Moment}
 use Rattle.msg_pipe.specs.Known.{Known}

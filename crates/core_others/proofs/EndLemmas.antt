@@ -24,8 +24,8 @@ use Rattle.ctl_plane.specs.Desk.{HasWhatTheySay}
 use Rattle.held_ends.specs.declared.changes.PipeChange.{PipeChange}
 use Rattle.held_ends.specs.declared.table.Place.{Place}
 use Rattle.held_ends.specs.Places.{place_at}
-use Rattle.own_laws.specs.Ends.{IsGoneFrom}
-use Rattle.own_laws.proofs.PlaceLemmas.{gone_is}
+use Rattle.past_laws.specs.Ends.{IsGoneFrom}
+use Rattle.past_laws.proofs.PlaceLemmas.{gone_is}
 use Rattle.past_laws.specs.Changes.{ArePlacesNamed}
 use Rattle.past_laws.specs.Said.{sealed_with}
 use Rattle.reaper_ends.specs.declared.sockets.ClosedSockets.{ClosedSockets}

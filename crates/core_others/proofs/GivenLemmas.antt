@@ -12,7 +12,7 @@ use Rattle.spec_control.specs.Rows.{obj}
 use Rattle.spec_control.specs.Control.{owner_of, place_of}
 use Rattle.spec_control.specs.ControlRun.{is_between}
 use Rattle.spec_control.specs.Names.{name_of}
-use Rattle.control_rows.proofs.ListLemmas.{never}
+use Rattle.control_laws.proofs.ListLemmas.{never}
 use Rattle.msg_pipe.specs.Known.{Known}
 use Rattle.ctl_holder.specs.declared.given.Given.{Given}
 use Rattle.ctl_holder.specs.Lent.{has_writer}
@@ -23,7 +23,7 @@ use Rattle.ctl_plane.specs.Desk.{HasWhatTheySay}
 use Rattle.held_ends.specs.declared.changes.PipeChange.{PipeChange}
 use Rattle.held_ends.specs.declared.table.Place.{Place}
 use Rattle.held_ends.specs.Places.{place_at}
-use Rattle.name_laws.specs.Names.{NamesStand}
+use Rattle.past_laws.specs.Names.{NamesStand}
 use Rattle.reaper_ends.specs.declared.sockets.ClosedSockets.{ClosedSockets}
 use Rattle.reaper_ends.specs.Has.{all_ends, holding_in, is_of, is_socket}
 use Rattle.reaper_ends.specs.Noted.{first_places, HasDoneTo}

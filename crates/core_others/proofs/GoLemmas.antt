@@ -15,7 +15,7 @@ use Rattle.ctl_history.specs.Giving.{AreOnTheirWay, IsOnItsWay}
 use Rattle.held_ends.specs.declared.table.Place.{Place}
 use Rattle.held_ends.specs.Places.{place_at}
 use Rattle.held_ends.proofs.SoundLemmas.{one_some}
-use Rattle.own_laws.specs.Ends.{IsHeldWhere, is_new}
+use Rattle.past_laws.specs.Ends.{IsHeldWhere, is_new}
 use Rattle.past_laws.specs.Changes.{ArePlacesNamed}
 use Rattle.reaper_ends.specs.declared.sockets.ClosedSockets.{ClosedSockets}
 use Rattle.reaper_ends.specs.Coming.{IsBrought}

@@ -7,7 +7,7 @@ use Rattle.spec_control.specs.Control.{Control, begun}
 use Rattle.spec_control.specs.ControlRun.{IsControlRun, after_all, after_item}
 use Rattle.ctl_holder.specs.declared.given.Given.{Given}
 use Rattle.ctl_history.specs.Past.{control_of}
-use Rattle.own_laws.proofs.PlaceLemmas.{led_on}
+use Rattle.past_laws.proofs.PlaceLemmas.{led_on}
 use Rattle.one_desk.specs.Lent.{GrowsBy, IsOneOrder, Lent}
 use Rattle.past_laws.specs.Asked.{EndsAreSealedOnce, WereAsked}
 use Rattle.core_others.specs.Sealed.{AllAsked}

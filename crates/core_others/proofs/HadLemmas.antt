@@ -17,8 +17,8 @@ use Rattle.spec_control.specs.Rows.{is_owner, obj}
 use Rattle.spec_control.specs.Control.{Control, begun, is_end, owner_of, place_of}
 use Rattle.spec_control.specs.ControlRun.{after_all, is_between}
 use Rattle.spec_control.specs.Names.{name_of}
-use Rattle.control_rows.proofs.ListLemmas.{never}
-use Rattle.control_rows.proofs.RowLemmas.{all_is_over}
+use Rattle.control_laws.proofs.ListLemmas.{never}
+use Rattle.control_laws.proofs.RowLemmas.{all_is_over}
 use Rattle.control_laws.specs.Kept.{Kept}
 use Rattle.control_laws.proofs.RootLemmas.{begun_kept, runs_are_kept}
 use Rattle.control_held.specs.Held.{Held}
@@ -32,8 +32,8 @@ use Rattle.ctl_plane.specs.Desk.{HasWhatTheySay}
 use Rattle.held_laws.proofs.HaveLemmas.{lent_holders_have_it}
 use Rattle.held_laws.proofs.MomentLemmas.{own_moments}
 use Rattle.held_laws.proofs.NobodyLemmas.{nobody_over}
-use Rattle.own_laws.specs.Places.{is_end_of}
-use Rattle.own_laws.proofs.PlaceLemmas.{any_filter, held_here}
+use Rattle.past_laws.specs.Places.{is_end_of}
+use Rattle.past_laws.proofs.PlaceLemmas.{any_filter, held_here}
 use Rattle.reaper_ends.specs.declared.sockets.ClosedSockets.{ClosedSockets}
 use Rattle.reaper_ends.specs.Has.{all_ends, ends_of, holding_in, is_of, is_socket}
 use Rattle.reaper_ends.specs.Sound.{AreSound}

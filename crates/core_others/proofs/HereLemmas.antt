@@ -17,7 +17,7 @@ use Rattle.held_ends.specs.declared.table.Place.{Place}
 use Rattle.held_ends.specs.Places.{place_at}
 use Rattle.held_ends.proofs.SoundLemmas.{one_some}
 use Rattle.sock_core.proofs.FindLemmas.{end_self}
-use Rattle.own_laws.specs.Ends.{IsHeldWhere}
+use Rattle.past_laws.specs.Ends.{IsHeldWhere}
 use Rattle.reaper_ends.specs.declared.sockets.ClosedSockets.{ClosedSockets}
 use Rattle.reaper_ends.specs.Finding.{place_given}
 use Rattle.reaper_ends.specs.Has.{all_ends, ends_of, is_socket, writes_of, holding_in}

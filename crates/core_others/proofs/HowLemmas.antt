@@ -17,7 +17,7 @@ use Rattle.ctl_history.specs.Past.{control_of}
 use Rattle.held_ends.specs.declared.changes.PipeChange.{PipeChange}
 use Rattle.held_ends.specs.declared.table.Place.{Place}
 use Rattle.held_ends.specs.Places.{place_at}
-use Rattle.own_laws.specs.Ends.{IsGoneFrom}
+use Rattle.past_laws.specs.Ends.{IsGoneFrom}
 use Rattle.reaper_ends.specs.declared.sockets.ClosedSockets.{ClosedSockets}
 use Rattle.reaper_ends.specs.Coming.{IsBrought}
 use Rattle.reaper_ends.specs.Finding.{came_given, place_given}

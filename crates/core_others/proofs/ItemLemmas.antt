@@ -14,10 +14,10 @@ use Rattle.spec_control.specs.declared.letter.Word.TheVariants.{Own, Plug, TermR
 use Rattle.spec_control.specs.Rows.{obj}
 use Rattle.spec_control.specs.Control.{Control, begun}
 use Rattle.spec_control.specs.ControlRun.{after_all, after_item, is_between, word_joins, Fits, FitsItem}
-use Rattle.control_rows.proofs.ListLemmas.{never}
+use Rattle.control_laws.proofs.ListLemmas.{never}
 use Rattle.control_laws.specs.Kept.{Kept}
 use Rattle.control_laws.proofs.RootLemmas.{runs_are_kept}
-use Rattle.control_moves.specs.OwnMoves.{own_moves}
+use Rattle.control_laws.specs.OwnMoves.{own_moves}
 use Rattle.ctl_holder.specs.Joins.{come_by, came_in}
 use Rattle.ctl_plane.specs.Desk.{came_with}
 use Rattle.held_laws.proofs.BetweenLemmas.{between_on, reap_comes}

@@ -4,7 +4,7 @@ use Rattle.std.proofs.Common.{sym, ap, ◌∙◌}
 use Rattle.zq_base.specs.Ends.{other_end}
 use Rattle.zq_base.specs.declared.ids.EndId.{EndId}
 use Rattle.spec_control.specs.Place.{is_away}
-use Rattle.control_rows.proofs.ListLemmas.{never}
+use Rattle.control_laws.proofs.ListLemmas.{never}
 use Rattle.ctl_ends.proofs.HeldLemmas.{other_twice}
 use Rattle.spec_control.specs.Control.{id, owner_of, place_of}
 use Rattle.spec_control.specs.Names.{name_of}

@@ -11,14 +11,14 @@ use Rattle.spec_control.specs.declared.entry.Item.TheVariants.{Event, Seen}
 use Rattle.spec_control.specs.Place.{is_here}
 use Rattle.spec_control.specs.Control.{Control, begun, next_pair, owner_of, place_of}
 use Rattle.spec_control.specs.ControlRun.{after_all, IsControlRun}
-use Rattle.control_rows.proofs.ListLemmas.{never}
+use Rattle.control_laws.proofs.ListLemmas.{never}
 use Rattle.control_laws.specs.Kept.{Kept}
-use Rattle.control_attached.proofs.MoveLemmas.{is_at}
+use Rattle.control_laws.proofs.MoveLemmas.{is_at}
 use Rattle.ctl_history.specs.Past.{control_of}
-use Rattle.own_laws.specs.Places.{is_end_of}
-use Rattle.own_laws.proofs.PlaceLemmas.{any_filter, its_stay, its_there, made_above}
-use Rattle.own_laws.specs.Quiet.{may_pair_by, may_pair_in}
-use Rattle.own_laws.proofs.QuietLemmas.{others_make_none}
+use Rattle.past_laws.specs.Places.{is_end_of}
+use Rattle.past_laws.proofs.PlaceLemmas.{any_filter, its_stay, its_there, made_above}
+use Rattle.past_laws.specs.OwnQuiet.{may_pair_by, may_pair_in}
+use Rattle.past_laws.proofs.OwnQuietLemmas.{others_make_none}
 use Rattle.one_desk.specs.Lent.{IsOneOrder, Lent}
 use Rattle.desk_laws.specs.Behind.{is_request, is_requested}
 use Rattle.desk_laws.proofs.SocketLemmas.{kept_now}

@@ -1,3 +1,8 @@
+mod CountingLemmas
+mod DropLemmas
+mod EndedRowLemmas
+mod EnderLemmas
+pub mod TableLemmas
 pub mod ReapedCallLemmas
 pub mod ReapedComingLemmas
 pub mod GrowLemmas

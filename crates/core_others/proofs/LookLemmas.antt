@@ -8,7 +8,7 @@ use Rattle.spec_pattern.specs.Half.{Reading, Writing}
 use Rattle.spec_control.specs.Place.{is_away}
 use Rattle.spec_control.specs.Control.{owner_of, place_of}
 use Rattle.spec_control.specs.Names.{name_of}
-use Rattle.control_rows.proofs.ListLemmas.{left}
+use Rattle.control_laws.proofs.ListLemmas.{left}
 use Rattle.msg_pipe.specs.Known.{Known, IsElse, KeepsButIn}
 use Rattle.any_sock.specs.declared.any_sock.AnySock.{AnySock}
 use Rattle.ctl_ends.proofs.HeldLemmas.{other_twice}
@@ -23,8 +23,8 @@ use Rattle.ends.specs.Rows.{row_at}
 use Rattle.held_ends.specs.declared.table.Place.{Place}
 use Rattle.held_ends.specs.Places.{place_at}
 use Rattle.held_ends.specs.Sound.{Fits, IsSound, ReadsSo, StandsSo, WritesSo}
-use Rattle.name_laws.specs.Names.{NamesStand}
-use Rattle.own_laws.specs.Ends.{IsHeldFor}
+use Rattle.past_laws.specs.Names.{NamesStand}
+use Rattle.past_laws.specs.Ends.{IsHeldFor}
 use Rattle.sock_core.specs.declared.sock.SockCore.{SockCore}
 use Rattle.sock_core.proofs.FormLemmas.{are_sound, sound_of}
 use Rattle.sock_open.specs.Standing.{IsStanding}

@@ -21,7 +21,7 @@ use Rattle.held_ends.proofs.PlaceLemmas.{place_within}
 use Rattle.held_ends.proofs.SoundLemmas.{one_some}
 use Rattle.sock_core.proofs.FindLemmas.{same_end}
 use Rattle.past_laws.specs.Changes.{IsOfPipes}
-use Rattle.own_laws.specs.Ends.{IsGoneFrom, is_new}
+use Rattle.past_laws.specs.Ends.{IsGoneFrom, is_new}
 use Rattle.past_laws.specs.OfPipes.{ChangesAreOfPipes}
 use Rattle.past_laws.specs.Said.{sealed_with}
 use Rattle.past_laws.proofs.OfPipesLemmas.{of_prop}

@@ -18,11 +18,11 @@ use Rattle.spec_control.specs.Place.{is_away}
 use Rattle.spec_control.specs.Rows.{PairRow, end_place, no_pair}
 use Rattle.spec_control.specs.Control.{Control, is_end, next_pair, owner_of, place_of}
 use Rattle.spec_control.specs.ControlRun.{after_item, unless_refused}
-use Rattle.control_rows.proofs.ListLemmas.{never, and, left, placed}
-use Rattle.control_attached.proofs.AttachedLemmas.{attached_after}
-use Rattle.control_attached.proofs.LeadLemmas.{attached_by}
-use Rattle.control_attached.proofs.OnceLemmas.{AreOld, IsOld, old_run}
-use Rattle.control_moves.specs.OwnMoves.{own_moves, request_moves}
+use Rattle.control_laws.proofs.ListLemmas.{never, and, left, placed}
+use Rattle.control_laws.proofs.AttachedLemmas.{attached_after}
+use Rattle.control_laws.proofs.LeadLemmas.{attached_by}
+use Rattle.control_laws.proofs.AttachedOnceLemmas.{AreOld, IsOld, old_run}
+use Rattle.control_laws.specs.OwnMoves.{own_moves, request_moves}
 use Rattle.ctl_history.specs.Past.{control_of}
 use Rattle.one_desk.specs.Lent.{IsOneOrder}
 use Rattle.desk_laws.proofs.LastLemmas.{moments_are_last}

@@ -10,8 +10,8 @@ use Rattle.ctl_history.specs.Past.{control_of}
 use Rattle.held_ends.specs.declared.table.Place.{Place}
 use Rattle.held_ends.specs.Places.{place_at}
 use Rattle.held_laws.proofs.HaveLemmas.{lent_holders_have_it}
-use Rattle.own_laws.specs.Ends.{IsHeldFor}
-use Rattle.own_laws.proofs.PlaceLemmas.{places_are_held}
+use Rattle.past_laws.specs.Ends.{IsHeldFor}
+use Rattle.past_laws.proofs.PlaceLemmas.{places_are_held}
 use Rattle.sock_core.specs.declared.sock.SockCore.{SockCore}
 use Rattle.sock_core.specs.Has.{holding_in}
 use Rattle.sock_open.specs.Standing.{kind_told}

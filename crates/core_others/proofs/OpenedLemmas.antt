@@ -31,17 +31,17 @@ use Rattle.spec_control.specs.Control.{Control, end_of, is_end, next_pair, owner
 use Rattle.spec_control.specs.After.{after, binding_by}
 use Rattle.spec_control.specs.ControlRun.{Fits, FitsItem, Joins, MayAsk, after_item, all_pipes, bind_joins, connect_joins, request_joins, unless_refused}
 use Rattle.spec_control.specs.Names.{name_in, named_in}
-use Rattle.control_rows.proofs.ListLemmas.{never, is_here, is_elsewhere, written, is_old, is_new, pushed}
-use Rattle.control_rows.proofs.RowLemmas.{pair_there}
+use Rattle.control_laws.proofs.ListLemmas.{never, is_here, is_elsewhere, written, is_old, is_new, pushed}
+use Rattle.control_laws.proofs.RowLemmas.{pair_there}
 use Rattle.control_laws.specs.Kept.{Kept}
-use Rattle.control_moves.specs.Move.{Move, LinkMoves, EndMoves, ObjectEnds, ObjectMade, PairDrawn, LetterPut, MayMove, is_named, move_rows}
-use Rattle.control_moves.specs.OwnMoves.{connect_moves, fulfil_moves, join_moves, own_moves, reason_moves, request_moves}
-use Rattle.control_moves.proofs.EventGoLemmas.{event_goes}
-use Rattle.control_moves.proofs.SoundLemmas.{Sound, sound_of}
-use Rattle.control_moves.proofs.WeighLemmas.{goes_weigh, sum_of_none}
+use Rattle.control_laws.specs.Move.{Move, LinkMoves, EndMoves, ObjectEnds, ObjectMade, PairDrawn, LetterPut, MayMove, is_named, move_rows}
+use Rattle.control_laws.specs.OwnMoves.{connect_moves, fulfil_moves, join_moves, own_moves, reason_moves, request_moves}
+use Rattle.control_laws.proofs.EventGoLemmas.{event_goes}
+use Rattle.control_laws.proofs.SoundLemmas.{Sound, sound_of}
+use Rattle.control_laws.proofs.WeighLemmas.{goes_weigh, sum_of_none}
 use Rattle.control_held.specs.Held.{asker}
 use Rattle.open_laws.specs.Open.{IsOfItem}
-use Rattle.socket_laws.proofs.AwayLemmas.{away_before, away_in, opening, word_opens}
+use Rattle.held_laws.proofs.AwayLemmas.{away_before, away_in, opening, word_opens}
 
 some_is : {x y : ℕ} → Some x ≡ Some y → x ≡ y
 some_is e = Prim.grind arith

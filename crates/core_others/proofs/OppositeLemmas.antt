@@ -7,8 +7,8 @@ use Rattle.spec_control.specs.PairPhase.{Phase, Drawn, Opened, OpenedAsked, Open
 use Rattle.spec_control.specs.Place.{is_away, is_here}
 use Rattle.spec_control.specs.Rows.{PairRow, IsInPhase, end_place, pair}
 use Rattle.spec_control.specs.Control.{Control, place_of}
-use Rattle.control_rows.proofs.ListLemmas.{never}
-use Rattle.control_rows.proofs.StepLemmas.{inv_of}
+use Rattle.control_laws.proofs.ListLemmas.{never}
+use Rattle.control_laws.proofs.StepLemmas.{inv_of}
 use Rattle.control_laws.specs.Kept.{Kept}
 use Rattle.control_laws.proofs.EndLemmas.{kept_but}
 use Rattle.control_laws.proofs.TellLemmas.{rows_of}

@@ -22,7 +22,7 @@ use Rattle.ctl_plane.specs.Desk.{slot_after}
 use Rattle.held_ends.specs.Sound.{Fits}
 use Rattle.sock_core.specs.declared.sock.SockCore.{SockCore}
 use Rattle.sock_calls.specs.Calls.{MayJoin}
-use Rattle.own_laws.specs.Places.{is_end_of}
+use Rattle.past_laws.specs.Places.{is_end_of}
 use Rattle.one_desk.specs.Lent.{coming_to, moments_of, GrowsBy, HasSocket, IsOneOrder, Lent}
 use Rattle.desk_laws.specs.Behind.{is_its_end, IsNoneOfIts}
 use Rattle.desk_laws.proofs.NewLemmas.{away, coming_ends_are_new}

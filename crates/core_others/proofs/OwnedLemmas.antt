@@ -5,7 +5,7 @@ use Rattle.std.proofs.lemmas.Bool.{eq-eqb, eqb-true}
 use Rattle.std.proofs.lemmas.List.Elements.{All-head, All-tail}
 use Rattle.spec_control.specs.Control.{Control, ends_of, is_end, met_in, place_of}
 use Rattle.spec_control.specs.Names.{name_of}
-use Rattle.control_rows.proofs.ListLemmas.{right}
+use Rattle.control_laws.proofs.ListLemmas.{right}
 use Rattle.control_laws.proofs.AskLemmas.{end_self}
 use Rattle.control_held.specs.Held.{Held}
 use Rattle.control_held.specs.Moments.{Moment}

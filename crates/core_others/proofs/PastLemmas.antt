@@ -13,7 +13,7 @@ use Rattle.spec_control.specs.ControlRun.{after_all}
 use Rattle.spec_control.specs.Names.{name_of}
 use Rattle.spec_run.specs.OwnedRun.{settlement_of, AreCountedBy}
 use Rattle.run_laws.specs.CapacitiesStay.{pipe_at}
-use Rattle.control_rows.proofs.ListLemmas.{never}
+use Rattle.control_laws.proofs.ListLemmas.{never}
 use Rattle.control_held.specs.Held.{items_by}
 use Rattle.control_held.specs.Has.{has_after}
 use Rattle.control_held.specs.OwnAsks.{known_after}
@@ -27,7 +27,7 @@ use Rattle.ctl_holder.specs.declared.given.Given.{Given}
 use Rattle.ctl_history.specs.Past.{control_of}
 use Rattle.core_laws.specs.Sides.{is_shut, step_end, IsDoneAt}
 use Rattle.core_laws.proofs.CountedLemmas.{counts_go_on}
-use Rattle.core_stands.specs.Standing.{open_by, opens_in, PastStands}
+use Rattle.core_laws.specs.Standing.{open_by, opens_in, PastStands}
 use Rattle.past_laws.specs.Settled.{PipesAreSettled}
 use Rattle.past_laws.proofs.OfPipesLemmas.{here_not_gone}
 use Rattle.reaper_ends.specs.declared.sockets.ClosedSockets.{ClosedSockets}

@@ -10,7 +10,7 @@ use Rattle.spec_control.specs.ControlRun.{after_all}
 use Rattle.spec_control.specs.Names.{name_of}
 use Rattle.control_held.specs.Moments.{left_after}
 use Rattle.control_laws.proofs.RootLemmas.{begun_kept}
-use Rattle.control_attached.proofs.OnceLemmas.{IsOld}
+use Rattle.control_laws.proofs.AttachedOnceLemmas.{IsOld}
 use Rattle.ctl_history.specs.Past.{control_of}
 use Rattle.ctl_plane.specs.Coming.{KeepsNames}
 use Rattle.held_laws.proofs.MomentLemmas.{AsLeft, left_snoc}

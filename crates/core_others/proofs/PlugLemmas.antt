@@ -15,10 +15,10 @@ use Rattle.spec_control.specs.declared.letter.Word.TheVariants.{Own, Plug, TermR
 use Rattle.spec_control.specs.Rows.{obj}
 use Rattle.spec_control.specs.Control.{Control, begun}
 use Rattle.spec_control.specs.ControlRun.{after_all, Fits, FitsItem, IsControlRun}
-use Rattle.control_rows.proofs.ListLemmas.{never}
+use Rattle.control_laws.proofs.ListLemmas.{never}
 use Rattle.control_laws.specs.Kept.{Kept}
 use Rattle.control_laws.proofs.RootLemmas.{runs_are_kept}
-use Rattle.control_moves.proofs.GuardLemmas.{may_come}
+use Rattle.control_laws.proofs.GuardLemmas.{may_come}
 use Rattle.one_desk.specs.Lent.{IsOneOrder}
 use Rattle.core_others.specs.Arriving.{plugs, plugs_by, plugs_in, NoPlugs, TakenAreHad}
 use Rattle.core_others.proofs.GrowLemmas.{runs_on}

@@ -7,7 +7,7 @@ use Rattle.msg_pipe.specs.Known.{Known, IsThere}
 use Rattle.spec_control.specs.Place.{Place, Unmade, Away, At, is_away, is_here}
 use Rattle.spec_control.specs.Control.{Control, owner_of, place_of}
 use Rattle.spec_control.specs.Names.{name_of}
-use Rattle.control_rows.proofs.ListLemmas.{left, never}
+use Rattle.control_laws.proofs.ListLemmas.{left, never}
 use Rattle.ctl_ends.proofs.HeldLemmas.{other_twice}
 use Rattle.ctl_holder.specs.declared.given.Given.{Given}
 use Rattle.ctl_holder.specs.declared.halves.Halves.{Halves}

@@ -19,11 +19,11 @@ use Rattle.spec_control.specs.declared.letter.Word.TheVariants.{Own, Plug, TermR
 use Rattle.spec_control.specs.Rows.{obj}
 use Rattle.spec_control.specs.Control.{Control, begun}
 use Rattle.spec_control.specs.ControlRun.{after_all, after_item, is_between, word_joins, Fits, FitsItem, IsControlRun}
-use Rattle.control_rows.proofs.ListLemmas.{never}
+use Rattle.control_laws.proofs.ListLemmas.{never}
 use Rattle.control_laws.specs.Kept.{Kept}
 use Rattle.control_laws.proofs.RootLemmas.{runs_are_kept}
 use Rattle.control_held.specs.Moments.{Moment, moments_from}
-use Rattle.control_moves.specs.OwnMoves.{own_moves, word_moves}
+use Rattle.control_laws.specs.OwnMoves.{own_moves, word_moves}
 use Rattle.ctl_holder.specs.declared.given.Given.{Given}
 use Rattle.ctl_holder.specs.Joins.{come_by, IsReaped}
 use Rattle.ctl_history.specs.Past.{control_of}

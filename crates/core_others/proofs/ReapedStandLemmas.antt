@@ -17,7 +17,7 @@ use Rattle.ctl_plane.specs.Desk.{CountsWith}
 use Rattle.spec_run.specs.Act.{steps_in}
 use Rattle.spec_run.specs.Event.{acts_said}
 use Rattle.held_ends.specs.declared.changes.PipeChange.{PipeChange}
-use Rattle.core_stands.specs.Standing.{PastStands}
+use Rattle.core_laws.specs.Standing.{PastStands}
 use Rattle.past_laws.specs.Asked.{WereAsked}
 use Rattle.past_laws.specs.Changes.{IsOfPipes}
 use Rattle.past_laws.specs.Said.{sealed_with}

@@ -19,7 +19,7 @@ use Rattle.held_ends.specs.Others.{KeepsPlaces}
 use Rattle.held_ends.proofs.EndsLemmas.{some_place}
 use Rattle.held_ends.proofs.PlaceLemmas.{place_within}
 use Rattle.core_laws.specs.Past.{PastStaysOver}
-use Rattle.core_stands.specs.Standing.{PastStands, goes_in, unless_settled}
+use Rattle.core_laws.specs.Standing.{PastStands, goes_in, unless_settled}
 use Rattle.past_laws.specs.Asked.{WereAsked, EndsAreSealedOnce}
 use Rattle.past_laws.specs.Calls.{SocketCallsGoOn}
 use Rattle.past_laws.specs.Changes.{ArePlacesNamed, IsOfPipes}

@@ -12,9 +12,9 @@ use Rattle.spec_control.specs.Rows.{PairRow, end_place, no_pair, obj}
 use Rattle.spec_control.specs.Control.{Control, begun, ends_of as control_ends_of, id, next_pair, owner_of, place_of}
 use Rattle.spec_control.specs.ControlRun.{after_all, after_item, is_between, IsControlRun}
 use Rattle.spec_control.specs.Names.{name_of}
-use Rattle.control_rows.proofs.ListLemmas.{never, placed}
+use Rattle.control_laws.proofs.ListLemmas.{never, placed}
 use Rattle.control_laws.specs.Kept.{Kept}
-use Rattle.control_attached.proofs.MoveLemmas.{is_at}
+use Rattle.control_laws.proofs.MoveLemmas.{is_at}
 use Rattle.control_held.specs.Held.{Held, items_by}
 use Rattle.control_held.specs.Has.{has_after}
 use Rattle.control_held.specs.Moments.{Moment, items_in, moments_from}
@@ -36,10 +36,10 @@ use Rattle.held_laws.proofs.LawLemmas.{open_not}
 use Rattle.held_laws.proofs.MomentLemmas.{own_moments}
 use Rattle.held_ends.specs.declared.table.Place.{Place as PlaceOf}
 use Rattle.held_ends.specs.Places.{place_at}
-use Rattle.socket_laws.proofs.KnownLemmas.{known_sockets_have_kinds}
+use Rattle.held_laws.proofs.KnownLemmas.{known_sockets_have_kinds}
 use Rattle.past_laws.specs.Asked.{asked_rank, EndsAreSealedOnce, WereAsked}
 use Rattle.past_laws.specs.Said.{sealed_with}
-use Rattle.own_laws.specs.Places.{is_end_of}
+use Rattle.past_laws.specs.Places.{is_end_of}
 use Rattle.reaper_ends.specs.declared.sockets.ClosedSockets.{ClosedSockets}
 use Rattle.reaper_ends.specs.Finding.{place_given}
 use Rattle.reaper_ends.specs.Has.{all_ends, ends_of, holding_in, is_socket}

@@ -10,7 +10,7 @@ use Rattle.spec_control.specs.Control.{next_pair}
 use Rattle.spec_run.specs.OwnedRun.{pipe_capacity}
 use Rattle.run_laws.specs.CapacitiesStay.{pipe_at}
 use Rattle.zq_world.proofs.RiseLemmas.{all_both}
-use Rattle.core_stands.specs.Standing.{goes_in, unless_settled}
+use Rattle.core_laws.specs.Standing.{goes_in, unless_settled}
 use Rattle.reaper_ends.specs.Looking.{LooksGoOn}
 use Rattle.core_others.specs.Looks.{ReaperLooksGoOn}
 

@@ -14,7 +14,7 @@ use Rattle.spec_control.specs.Control.{Control, begun, ends_of, id, next_pair, o
 use Rattle.spec_control.specs.ControlRun.{after_all}
 use Rattle.spec_control.specs.Rows.{obj}
 use Rattle.spec_control.specs.Names.{name_of}
-use Rattle.control_attached.proofs.OnceLemmas.{old_run}
+use Rattle.control_laws.proofs.AttachedOnceLemmas.{old_run}
 use Rattle.control_held.specs.Has.{has_after}
 use Rattle.control_held.specs.Moments.{moments_from}
 use Rattle.msg_pipe.specs.Known.{Known, IsThere}
@@ -41,7 +41,7 @@ use Rattle.one_desk.specs.Lent.{coming_to, moments_of, GrowsBy, HasSocket, IsOne
 use Rattle.desk_laws.specs.Behind.{IsOfIts}
 use Rattle.desk_laws.proofs.NewLemmas.{away, any_of, mine, there}
 use Rattle.desk_laws.proofs.SocketLemmas.{is_in, kept_now}
-use Rattle.own_laws.specs.Places.{is_end_of}
+use Rattle.past_laws.specs.Places.{is_end_of}
 use Rattle.past_laws.specs.Asked.{EndsAreSealedOnce, WereAsked, asked_rank}
 use Rattle.past_laws.specs.Said.{sealed_with}
 use Rattle.lent_sock.specs.Owned.{IsOwned}

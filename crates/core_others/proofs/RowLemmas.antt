@@ -28,15 +28,15 @@ use Rattle.spec_control.specs.Rows.{Rows, obj}
 use Rattle.spec_control.specs.Control.{Control, begun, next_pair}
 use Rattle.spec_control.specs.After.{after, binding_by, socket_row}
 use Rattle.spec_control.specs.ControlRun.{Fits, IsControlRun, after_all, unless_refused}
-use Rattle.control_rows.proofs.ListLemmas.{never, is_here, is_elsewhere, written, is_old, is_new, pushed, right}
+use Rattle.control_laws.proofs.ListLemmas.{never, is_here, is_elsewhere, written, is_old, is_new, pushed, right}
 use Rattle.control_laws.specs.Kept.{Kept}
 use Rattle.control_laws.proofs.RootLemmas.{begun_kept}
 use Rattle.control_laws.proofs.RunLemmas.{after_kept}
-use Rattle.control_moves.specs.Move.{Move, LinkMoves, EndMoves, ObjectEnds, ObjectMade, PairDrawn, LetterPut, move_rows, move_boxes, is_named, MayMove, Leads}
-use Rattle.control_moves.specs.OwnMoves.{own_moves, word_moves, request_moves, fulfil_moves, connect_moves, having_taken}
-use Rattle.control_moves.proofs.EventGoLemmas.{event_goes}
-use Rattle.control_moves.proofs.SoundLemmas.{link_there, ending_there}
-use Rattle.control_moves.proofs.WeighLemmas.{taken_rows}
+use Rattle.control_laws.specs.Move.{Move, LinkMoves, EndMoves, ObjectEnds, ObjectMade, PairDrawn, LetterPut, move_rows, move_boxes, is_named, MayMove, Leads}
+use Rattle.control_laws.specs.OwnMoves.{own_moves, word_moves, request_moves, fulfil_moves, connect_moves, having_taken}
+use Rattle.control_laws.proofs.EventGoLemmas.{event_goes}
+use Rattle.control_laws.proofs.SoundLemmas.{link_there, ending_there}
+use Rattle.control_laws.proofs.WeighLemmas.{taken_rows}
 use Rattle.held_laws.proofs.BetweenLemmas.{reap_comes}
 
 none_first : (a b : Bool) → (a || b) ≡ false → a ≡ false

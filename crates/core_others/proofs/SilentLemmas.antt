@@ -25,7 +25,7 @@ use Rattle.ctl_plane.specs.Kinds.{kind_at_request, kind_in, kind_over}
 use Rattle.open_laws.specs.Open.{IsOf, IsOfItem}
 use Rattle.one_desk.specs.Lent.{moments_of, GrowsBy, Lent}
 use Rattle.one_desk.specs.Lent.{IsOneOrder}
-use Rattle.control_rows.proofs.ListLemmas.{never}
+use Rattle.control_laws.proofs.ListLemmas.{never}
 use Rattle.desk_laws.proofs.LastLemmas.{grown, others_stay}
 use Rattle.desk_laws.proofs.SocketLemmas.{is_in}
 use Rattle.core_others.specs.Calls.{AreCallsOn, SaySame, for_caller}

@@ -17,7 +17,7 @@ use Rattle.spec_run.specs.Event.{acts_said, seals_in}
 use Rattle.spec_run.specs.OwnedRun.{pipe_capacity, settlement_of}
 use Rattle.held_ends.specs.declared.changes.PipeChange.{PipeChange}
 use Rattle.core_laws.specs.Past.{PastStaysOver}
-use Rattle.core_stands.specs.Standing.{goes_in, unless_settled, PastStands}
+use Rattle.core_laws.specs.Standing.{goes_in, unless_settled, PastStands}
 use Rattle.past_laws.proofs.ChangeLemmas.{goes_said}
 use Rattle.past_laws.proofs.SettledLemmas.{settled_stay}
 use Rattle.reaper_ends.specs.declared.sockets.ClosedSockets.{ClosedSockets}

@@ -14,7 +14,7 @@ use Rattle.spec_control.specs.Rows.{obj}
 use Rattle.spec_control.specs.Control.{Control, begun, next_object}
 use Rattle.spec_control.specs.After.{after, answered, answers_in, without_front}
 use Rattle.spec_control.specs.ControlRun.{after_all}
-use Rattle.control_rows.proofs.ListLemmas.{never}
+use Rattle.control_laws.proofs.ListLemmas.{never}
 use Rattle.ctl_history.specs.Past.{control_of}
 use Rattle.replay_laws.specs.Mailboxes.{HaveBoxes, MayHaveBox}
 use Rattle.replay_laws.proofs.FrameLemmas.{delimited_framed, processed_framed, requested_framed}

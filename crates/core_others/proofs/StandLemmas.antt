@@ -18,7 +18,7 @@ use Rattle.spec_control.specs.Rows.{is_owner}
 use Rattle.spec_control.specs.Control.{Control, begun, id, next_object, next_pair}
 use Rattle.spec_control.specs.ControlRun.{after_all, after_item, Fits, IsControlRun}
 use Rattle.spec_control.specs.Names.{name_of}
-use Rattle.control_rows.proofs.ListLemmas.{never}
+use Rattle.control_laws.proofs.ListLemmas.{never}
 use Rattle.control_laws.specs.Kept.{Kept}
 use Rattle.control_held.specs.Held.{items_by}
 use Rattle.control_held.specs.Has.{has_after, made_by}
@@ -27,15 +27,15 @@ use Rattle.control_held.specs.OwnAsks.{Known as KnownOf, known_after, known_at_r
 use Rattle.msg_pipe.specs.Known.{Known}
 use Rattle.ctl_history.specs.Past.{control_of}
 use Rattle.held_laws.proofs.MomentLemmas.{own_moments}
-use Rattle.socket_laws.proofs.ThereLemmas.{had_objects_are_there}
+use Rattle.held_laws.proofs.ThereLemmas.{had_objects_are_there}
 use Rattle.spec_run.specs.Act.{Act, moments_in, steps_in}
 use Rattle.spec_run.specs.OwnedRun.{AreCountedBy}
 use Rattle.script_actor.specs.Piece.{Piece, pipe_steps}
 use Rattle.core_laws.specs.Sides.{is_shut, AreAtEnds, CallMayCome, OpenSockets, OpensGoOn, by_owner, by_reaper}
 use Rattle.zq_world.specs.CoreCalls.{IsOnlyReaper}
-use Rattle.core_stands.specs.Standing.{open_by, opens_in, CoreStands, PastStands}
-use Rattle.core_stands.specs.Calls.{CallStands}
-use Rattle.core_stands.proofs.AsideLemmas.{known_more, made_next}
+use Rattle.core_laws.specs.Standing.{open_by, opens_in, CoreStands, PastStands}
+use Rattle.core_laws.specs.StandingCalls.{CallStands}
+use Rattle.core_laws.proofs.AsideLemmas.{known_more, made_next}
 use Rattle.one_desk.specs.Lent.{moments_of, GrowsBy, HasSocket, IsOneOrder, Lent}
 use Rattle.desk_laws.proofs.LastLemmas.{grown, others_stay}
 use Rattle.desk_laws.proofs.SocketLemmas.{is_in}

@@ -19,7 +19,7 @@ use Rattle.spec_run.specs.Act.{Act, Step, steps_in, pipe_step_of}
 use Rattle.spec_run.specs.Event.{seals_in, acts_said}
 use Rattle.spec_run.specs.OwnedRun.{pipe_capacity}
 use Rattle.run_laws.specs.CapacitiesStay.{pipe_at}
-use Rattle.core_stands.specs.Standing.{PastStands, goes_in}
+use Rattle.core_laws.specs.Standing.{PastStands, goes_in}
 use native.Mathlib.Bridge.{le_prop}
 
 frames_set : IsSet (List Frames)

@@ -17,22 +17,22 @@ use Rattle.spec_control.specs.Row.{Row, is_socket, nobody, owner_fits, socket_fi
 use Rattle.spec_control.specs.Rows.{obj}
 use Rattle.spec_control.specs.Control.{Control, begun, id, next_object}
 use Rattle.spec_control.specs.ControlRun.{Fits, FitsItem, IsControlRun, after_all, after_item}
-use Rattle.control_rows.proofs.ListLemmas.{left, never, placed, right}
-use Rattle.control_rows.proofs.QuietLemmas.{socket_owner}
-use Rattle.control_rows.proofs.StepLemmas.{inv_of}
+use Rattle.control_laws.proofs.ListLemmas.{left, never, placed, right}
+use Rattle.control_laws.proofs.QuietLemmas.{socket_owner}
+use Rattle.control_laws.proofs.StepLemmas.{inv_of}
 use Rattle.control_laws.specs.Kept.{Kept}
 use Rattle.control_laws.proofs.EndLemmas.{kept_but}
 use Rattle.control_laws.proofs.TellLemmas.{rows_of}
 use Rattle.control_held.specs.Held.{caller_of}
 use Rattle.control_held.specs.Moments.{Moment, moments_from}
-use Rattle.control_moves.proofs.GuardLemmas.{may_come}
-use Rattle.control_moves.specs.OwnMoves.{own_moves, word_moves}
+use Rattle.control_laws.proofs.GuardLemmas.{may_come}
+use Rattle.control_laws.specs.OwnMoves.{own_moves, word_moves}
 use Rattle.ctl_holder.specs.Holding.{Holding}
 use Rattle.ctl_history.specs.Past.{control_of}
 use Rattle.held_laws.proofs.BetweenLemmas.{reap_comes}
 use Rattle.held_laws.proofs.EventLemmas.{asked_reaps}
-use Rattle.socket_laws.specs.Closed.{lives}
-use Rattle.socket_laws.proofs.ClosedLemmas.{event_ended}
+use Rattle.held_laws.specs.Closed.{lives}
+use Rattle.held_laws.proofs.ClosedLemmas.{event_ended}
 use Rattle.open_laws.specs.Open.{IsOf, IsOfItem}
 use Rattle.one_desk.specs.Lent.{GrowsBy, IsOneOrder, Lent}
 use Rattle.desk_laws.proofs.SocketLemmas.{is_in}

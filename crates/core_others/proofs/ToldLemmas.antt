@@ -11,8 +11,8 @@ use Rattle.msg_pipe.specs.Known.{Known}
 use Rattle.spec_run.specs.Act.{Act, Step, Said, moments_in}
 use Rattle.spec_pattern.specs.declared.answers.Skip.{Skip}
 use Rattle.script_actor.specs.Piece.{Piece, piece_of, AddsPiece, AreActsBy}
-use Rattle.core_stands.specs.Standing.{CoreStands}
-use Rattle.core_stands.specs.Calls.{CallStands, CallsGoOn}
+use Rattle.core_laws.specs.Standing.{CoreStands}
+use Rattle.core_laws.specs.StandingCalls.{CallStands, CallsGoOn}
 use Rattle.core_tale.specs.declared.marks.PieceMark.{PieceMark}
 use Rattle.core_tale.specs.Marks.{all_told, piece_marks, pieces_told, TalesGoOn}
 use Rattle.one_desk.specs.Lent.{GrowsBy, IsOneOrder, Lent}

@@ -11,7 +11,7 @@ use Rattle.ctl_history.specs.Past.{control_of}
 use Rattle.held_ends.specs.declared.changes.PipeChange.{PipeChange}
 use Rattle.held_ends.specs.declared.table.Place.{Place}
 use Rattle.held_ends.specs.Places.{place_at}
-use Rattle.name_laws.specs.Names.{NamesStand}
+use Rattle.past_laws.specs.Names.{NamesStand}
 use Rattle.sock_core.specs.declared.sock.SockCore.{SockCore}
 use Rattle.reaper_ends.specs.declared.sockets.ClosedSockets.{ClosedSockets}
 use Rattle.reaper_ends.specs.Has.{all_ends, is_of}

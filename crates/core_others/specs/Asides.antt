@@ -2,7 +2,7 @@
 use Rattle.std.specs.Prelude.{◌≡◌, ◌++◌, [], ◌∷◌}
 use Rattle.spec_control.specs.declared.entry.Item.{Item}
 use Rattle.control_held.specs.Held.{caller_of}
-use Rattle.core_stands.specs.Aside.{IsAside}
+use Rattle.core_laws.specs.Aside.{IsAside}
 use Rattle.one_desk.specs.Lent.{IsOneOrder, Lent}
 
 module _ {G N T : Type 0} where

@@ -7,7 +7,7 @@ use Rattle.spec_run.specs.OwnedRun.{AreCountedBy}
 use Rattle.msg_pipe.specs.Known.{Known}
 use Rattle.ctl_history.specs.Past.{control_of}
 use Rattle.core_laws.specs.Sides.{AreAtEnds}
-use Rattle.core_stands.specs.Standing.{PastStands}
+use Rattle.core_laws.specs.Standing.{PastStands}
 use Rattle.one_desk.specs.Lent.{moments_of, GrowsBy, Lent}
 
 module _ {S O I N G T : Type 0} (K : Known S O I N) where

@@ -20,7 +20,7 @@ use Rattle.spec_run.specs.Act.{steps_in}
 use Rattle.spec_run.specs.Event.{acts_said}
 use Rattle.spec_run.specs.OwnedRun.{AreCountedBy}
 use Rattle.held_ends.specs.declared.changes.PipeChange.{PipeChange}
-use Rattle.core_stands.specs.Standing.{PastStands}
+use Rattle.core_laws.specs.Standing.{PastStands}
 use Rattle.past_laws.specs.Changes.{ArePlacesNamed}
 use Rattle.past_laws.specs.Said.{sealed_with}
 use Rattle.reaper_ends.specs.declared.sockets.ClosedSockets.{ClosedSockets}

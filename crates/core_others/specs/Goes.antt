@@ -12,7 +12,7 @@ use Rattle.ctl_holder.specs.declared.given.Given.{Given}
 use Rattle.ctl_history.specs.Giving.{AreOnTheirWay}
 use Rattle.held_ends.specs.declared.table.Place.{Place}
 use Rattle.held_ends.specs.Places.{place_at}
-use Rattle.own_laws.specs.Ends.{IsGoneFrom, is_new}
+use Rattle.past_laws.specs.Ends.{IsGoneFrom, is_new}
 use Rattle.past_laws.specs.Changes.{ArePlacesNamed}
 use Rattle.reaper_ends.specs.declared.sockets.ClosedSockets.{ClosedSockets}
 use Rattle.reaper_ends.specs.Coming.{IsBrought}

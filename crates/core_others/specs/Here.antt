@@ -7,7 +7,7 @@ use Rattle.ctl_holder.specs.Lent.{HasAll}
 use Rattle.held_ends.specs.declared.table.Place.{Place}
 use Rattle.held_ends.specs.Places.{place_at}
 use Rattle.past_laws.specs.Changes.{ArePlacesNamed}
-use Rattle.own_laws.specs.Ends.{IsHeldWhere}
+use Rattle.past_laws.specs.Ends.{IsHeldWhere}
 use Rattle.reaper_ends.specs.declared.sockets.ClosedSockets.{ClosedSockets}
 use Rattle.reaper_ends.specs.Finding.{place_given}
 use Rattle.reaper_ends.specs.Has.{all_ends, holding_in}

@@ -16,7 +16,7 @@ use Rattle.ctl_holder.specs.declared.given.Given.{Given}
 use Rattle.ctl_history.specs.Past.{control_of}
 use Rattle.ctl_plane.specs.Desk.{came_with}
 use Rattle.held_ends.specs.declared.changes.PipeChange.{PipeChange}
-use Rattle.socket_laws.specs.Closed.{lives}
+use Rattle.held_laws.specs.Closed.{lives}
 use Rattle.reaper_ends.specs.declared.sockets.ClosedSockets.{ClosedSockets}
 use Rattle.reaper_ends.specs.Has.{is_socket}
 use Rattle.core_others.specs.Goes.{StandsNew}

@@ -1,3 +1,7 @@
+pub mod Drops
+pub mod EndedRows
+pub mod Table
+pub mod Counting
 pub mod ReapedCall
 pub mod Ends
 pub mod ReapedComing

@@ -9,7 +9,7 @@ use Rattle.spec_pattern.specs.PipeStep.{PipeStep, read_through}
 use Rattle.spec_control.specs.Control.{Control, next_pair}
 use Rattle.spec_run.specs.OwnedRun.{settlement_of}
 use Rattle.ctl_holder.specs.Holding.{Holding, read_in}
-use Rattle.core_stands.specs.Standing.{PastStands}
+use Rattle.core_laws.specs.Standing.{PastStands}
 use Rattle.reaper_ends.specs.Ending.{LooksOnce}
 
 -- the steps past stand with the step of the look, at a pipe that goes by its name and was not settled

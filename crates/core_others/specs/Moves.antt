@@ -10,7 +10,7 @@ use Rattle.held_ends.specs.declared.changes.PipeChange.{PipeChange}
 use Rattle.held_ends.specs.declared.table.Place.{Place}
 use Rattle.held_ends.specs.Places.{place_at}
 use Rattle.past_laws.specs.Changes.{IsOfPipes}
-use Rattle.own_laws.specs.Ends.{IsHeldWhere, IsGoneFrom, is_new}
+use Rattle.past_laws.specs.Ends.{IsHeldWhere, IsGoneFrom, is_new}
 use Rattle.past_laws.specs.Said.{sealed_with}
 use Rattle.reaper_ends.specs.declared.sockets.ClosedSockets.{ClosedSockets}
 use Rattle.reaper_ends.specs.Has.{all_ends, is_of}

@@ -8,7 +8,7 @@ use Rattle.ctl_history.specs.Giving.{AreOnTheirWay}
 use Rattle.ctl_history.specs.Past.{control_of}
 use Rattle.ctl_plane.specs.Coming.{TakesEnds}
 use Rattle.held_ends.specs.declared.changes.PipeChange.{PipeChange}
-use Rattle.name_laws.specs.Names.{NamesStand}
+use Rattle.past_laws.specs.Names.{NamesStand}
 use Rattle.reaper_ends.specs.declared.sockets.ClosedSockets.{ClosedSockets}
 use Rattle.one_desk.specs.Lent.{Lent}
 use Rattle.core_others.specs.ReapedComing.{AwayUnsealed}

@@ -15,7 +15,7 @@ use Rattle.ctl_holder.specs.TakingOver.{AreDistinct, AreGivenWith, MayTakeFirst}
 use Rattle.ctl_history.specs.Past.{control_of}
 use Rattle.ctl_plane.specs.Coming.{BindsFit}
 use Rattle.ctl_plane.specs.Desk.{HasWhatTheySay}
-use Rattle.socket_laws.specs.Closed.{lives}
+use Rattle.held_laws.specs.Closed.{lives}
 use Rattle.reaper_ends.specs.declared.sockets.ClosedSockets.{ClosedSockets}
 use Rattle.reaper_ends.specs.Finding.{HasRoom}
 use Rattle.reaper_ends.specs.Has.{holding_in}

@@ -13,7 +13,7 @@ use Rattle.spec_run.specs.Act.{steps_in}
 use Rattle.spec_run.specs.Event.{acts_said}
 use Rattle.held_ends.specs.declared.changes.PipeChange.{PipeChange}
 use Rattle.held_ends.specs.declared.table.Place.{Place}
-use Rattle.core_stands.specs.Standing.{PastStands}
+use Rattle.core_laws.specs.Standing.{PastStands}
 use Rattle.past_laws.specs.Changes.{IsOfPipes, ArePlacesNamed}
 use Rattle.past_laws.specs.Said.{sealed_with}
 use Rattle.past_laws.specs.Asked.{WereAsked}

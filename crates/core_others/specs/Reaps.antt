@@ -9,7 +9,7 @@ use Rattle.ctl_history.specs.Past.{control_of}
 use Rattle.script_actor.specs.Piece.{AddsPiece}
 use Rattle.zq_world.specs.CoreCalls.{IsOnlyReaper}
 use Rattle.core_laws.specs.Sides.{is_shut, AreAtEnds}
-use Rattle.core_stands.specs.Standing.{opens_in}
+use Rattle.core_laws.specs.Standing.{opens_in}
 use Rattle.core_tale.specs.declared.marks.PieceMark.{PieceMark}
 use Rattle.core_tale.specs.Marks.{piece_marks}
 use Rattle.one_desk.specs.Lent.{GrowsBy, IsOneOrder, Lent}

@@ -7,8 +7,8 @@ use Rattle.spec_run.specs.Act.{Act}
 use Rattle.msg_pipe.specs.Known.{Known}
 use Rattle.ctl_history.specs.Past.{control_of}
 use Rattle.script_actor.specs.Piece.{Piece}
-use Rattle.core_stands.specs.Standing.{CoreStands}
-use Rattle.core_stands.specs.Calls.{CallStands}
+use Rattle.core_laws.specs.Standing.{CoreStands}
+use Rattle.core_laws.specs.StandingCalls.{CallStands}
 use Rattle.one_desk.specs.Lent.{GrowsBy, HasSocket, IsOneOrder, Lent}
 use Rattle.core_others.specs.Done.{ActsDone}
 

@@ -6,7 +6,7 @@ use Rattle.control_held.specs.Moments.{moments_from}
 use Rattle.spec_run.specs.Act.{Act}
 use Rattle.msg_pipe.specs.Known.{Known}
 use Rattle.script_actor.specs.Piece.{Piece, AddsActs}
-use Rattle.core_stands.specs.Standing.{CoreStands}
+use Rattle.core_laws.specs.Standing.{CoreStands}
 use Rattle.core_tale.specs.declared.marks.PieceMark.{PieceMark}
 use Rattle.core_tale.specs.Marks.{all_told, piece_marks, pieces_told}
 use Rattle.one_desk.specs.Lent.{HasSocket, IsOneOrder, Lent}

@@ -8,6 +8,7 @@ mod laws;
 mod reaped;
 mod reaper;
 mod reaping;
+mod rows;
 mod standing;
 
 pub use asked::asks_its_own;
@@ -33,6 +34,7 @@ pub use reaping::{
     open_agree_still, open_has_none, reaper_keeps_given, reaper_keeps_names, reaper_keeps_taken,
     reaper_keeps_unsealed, reaper_leaves_there,
 };
+pub use rows::{calls_tell_drops, drops_go_on, ended_are_told, ended_goes_on, tables_go_on};
 pub use standing::{
     asked_stay, calls_are_told, calls_stand, else_behind, else_stay, own_join_still, reapers_keep,
     reaps_are_told,

@@ -4,7 +4,7 @@ ghost use Rattle.core_others.specs.Reaps.{ReapsAreTold};
 ghost use Rattle.core_others.specs.Stands.{CallsStand};
 ghost use Rattle.core_others.specs.Told.{CallsAreTold};
 
-use core_stands::calls_go_on;
+use core_laws::calls_go_on;
 use core_tale::tales_go_on;
 use held_ends::HeldPipes;
 use past_laws::ends_are_sealed_once;

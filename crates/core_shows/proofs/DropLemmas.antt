@@ -8,10 +8,10 @@ use Rattle.zq_base.specs.declared.ids.EndId.{EndId}
 use Rattle.zq_base.specs.Ends.{PipeId, other_end}
 use Rattle.spec_pattern.specs.declared.answers.Skip.{Skip}
 use Rattle.spec_control.specs.Control.{Control, end_of, is_end, owner_of}
-use Rattle.control_rows.proofs.ListLemmas.{Pushed, is_old, is_new, pushed, never}
+use Rattle.control_laws.proofs.ListLemmas.{Pushed, is_old, is_new, pushed, never}
 use Rattle.control_laws.proofs.AskLemmas.{same_end}
-use Rattle.core_rows.specs.Drops.{drops_told, is_told_of}
-use Rattle.core_rows.specs.Table.{drops_in, place_in}
+use Rattle.core_others.specs.Drops.{drops_told, is_told_of}
+use Rattle.core_others.specs.Table.{drops_in, place_in}
 use Rattle.core_shows.specs.Dropped.{CountsAlike, CountsOne, CountsTold}
 use Rattle.core_shows.proofs.TableLemmas.{other_ends}
 

@@ -6,9 +6,9 @@ use Rattle.std.proofs.lemmas.Bool.{eqb-true, eq-eqb, ltb-true, lt-ltb}
 use Rattle.std.proofs.lemmas.List.{append-nil, get_or-replicate, length-replicate, reverse-append, reverse-reverse}
 use Rattle.zq_base.specs.declared.ids.ObjId.{ObjId}
 use Rattle.spec_control.specs.Control.{Control, next_object}
-use Rattle.control_rows.proofs.ListLemmas.{never, left}
+use Rattle.control_laws.proofs.ListLemmas.{never, left}
 use Rattle.run_laws.specs.EndOrder.{is_numbered}
-use Rattle.core_rows.specs.Ended.{is_over, last_of, one_if}
+use Rattle.core_others.specs.EndedRows.{is_over, last_of, one_if}
 use Rattle.core_shows.specs.Ending.{marked, AreMarked}
 
 -- ---- marks

@@ -17,8 +17,8 @@ use Rattle.script_actor.specs.Piece.{Piece, pipe_steps}
 use Rattle.zq_world.specs.declared.cores.Shown.{Shown}
 use Rattle.zq_world.specs.Shown.{row_in_pieces, ShowsEnd}
 use Rattle.core_laws.specs.Given.{RowsAreCounted}
-use Rattle.core_rows.specs.Drops.{row_dropped, DropsGoOn}
-use Rattle.core_rows.specs.Table.{drops_in}
+use Rattle.core_others.specs.Drops.{row_dropped, DropsGoOn}
+use Rattle.core_others.specs.Table.{drops_in}
 use Rattle.core_shows.specs.Dropped.{AreShownBy}
 use Rattle.core_shows.specs.Settled.{row_in}
 

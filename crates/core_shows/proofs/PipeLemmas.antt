@@ -13,9 +13,9 @@ use Rattle.spec_run.specs.Fate.{is_heard_at}
 use Rattle.spec_run.specs.OwnedRun.{settlement_of}
 use Rattle.spec_run.specs.RunJournal.{rows_by}
 use Rattle.control_laws.proofs.AskLemmas.{same_end}
-use Rattle.core_rows.specs.Drops.{row_dropped}
-use Rattle.settle_laws.specs.Laws.{HasItsReason}
-use Rattle.core_rows.specs.Table.{drops_in}
+use Rattle.core_others.specs.Drops.{row_dropped}
+use Rattle.past_laws.specs.Settling.{HasItsReason}
+use Rattle.core_others.specs.Table.{drops_in}
 use Rattle.core_shows.specs.Settled.{row_in}
 
 -- ---- one row

@@ -6,7 +6,7 @@ use Rattle.spec_control.specs.declared.end.Reason.{Reason}
 use Rattle.spec_control.specs.Control.{Settlement}
 use Rattle.spec_journal.specs.declared.journal.PipeRow.{PipeRow}
 use Rattle.spec_run.specs.declared.journal.SettledRow.{SettledRow}
-use Rattle.core_rows.specs.Drops.{row_dropped}
+use Rattle.core_others.specs.Drops.{row_dropped}
 
 reason_of : (hears : Bool) (p : PipeId) (drops : ℕ) (s : Settlement) → (row_dropped hears p drops s).reason ≡ s.reason
 reason_of true p drops s = refl

@@ -10,7 +10,7 @@ use Rattle.zq_base.specs.Ends.{other_end}
 use Rattle.spec_control.specs.Control.{Control, Settlement, is_end, next_pair}
 use Rattle.control_laws.proofs.AskLemmas.{end_self, same_end}
 use Rattle.ctl_history.specs.declared.settled.PipeCounts.{PipeCounts}
-use Rattle.core_rows.specs.Table.{side_place, place_in}
+use Rattle.core_others.specs.Table.{side_place, place_in}
 use Rattle.core_shows.specs.Settled.{counts_in, noted_if, noted, noted_all, HasTable}
 
 -- ---- places

@@ -14,7 +14,7 @@ use Rattle.spec_control.specs.Control.{Control, Settlement, begun, happens, next
 use Rattle.spec_control.specs.After.{Answers, answers_in, settle, processed, without_front, after}
 use Rattle.spec_control.specs.ControlRun.{after_all, IsControlRun}
 use Rattle.spec_control.specs.Reply.{most_made_pairs}
-use Rattle.control_moves.proofs.FateLemmas.{answered_same, processed_same, happens_same, try_end_same}
+use Rattle.control_laws.proofs.FateLemmas.{answered_same, processed_same, happens_same, try_end_same}
 use Rattle.ctl_history.specs.declared.settled.PipeCounts.{PipeCounts}
 use Rattle.ctl_history.specs.Past.{as_item}
 use Rattle.ctl_history.specs.Settled.{counted, settled_by, settled_of, settled_in}

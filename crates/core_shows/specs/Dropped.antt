@@ -5,8 +5,8 @@ use Rattle.spec_pattern.specs.declared.answers.Skip.{Skip}
 use Rattle.spec_control.specs.Control.{Control}
 use Rattle.spec_run.specs.OwnedRun.{AreCountedBy}
 use Rattle.script_actor.specs.Piece.{Piece, pipe_steps}
-use Rattle.core_rows.specs.Drops.{drops_at, drops_told}
-use Rattle.core_rows.specs.Table.{drops_in}
+use Rattle.core_others.specs.Drops.{drops_at, drops_told}
+use Rattle.core_others.specs.Table.{drops_in}
 
 -- the same counts
 abbrev pub CountsAlike : (old new : List ℕ) → Type 0

@@ -8,8 +8,8 @@ use Rattle.spec_run.specs.declared.journal.SettledRow.{SettledRow}
 use Rattle.spec_run.specs.Fate.{is_heard_at}
 use Rattle.spec_run.specs.OwnedRun.{settlement_of}
 use Rattle.ctl_history.specs.declared.settled.PipeCounts.{PipeCounts}
-use Rattle.core_rows.specs.Drops.{row_dropped}
-use Rattle.core_rows.specs.Table.{drops_in, place_in}
+use Rattle.core_others.specs.Drops.{row_dropped}
+use Rattle.core_others.specs.Table.{drops_in, place_in}
 
 -- the counts are noted at the place of the end that read the pipe, unless it has some
 abbrev pub noted_if : Option (Option Settled) → PipeCounts → List (Option Settled) → List (Option Settled)

@@ -1,7 +1,7 @@
 ghost use Rattle.std.specs.Prelude.{◌≡◌, ◌<◌, ◌≤◌, ◌==◌, ◌∷◌, [], true, drop, length, OnOk};
 ghost use Rattle.spec_control.specs.Control.{owner_of};
 ghost use Rattle.ctl_history.specs.Past.{control_of};
-ghost use Rattle.core_rows.specs.Table.{place_in};
+ghost use Rattle.core_others.specs.Table.{place_in};
 ghost use Rattle.core_shows.specs.Dropped.{CountsAlike, CountsOne, CountsTold};
 
 use crate::table::place_of;

@@ -1,11 +1,11 @@
 ghost use Rattle.std.specs.Prelude.{◌≡◌, ◌++◌, ◌&&◌, false, map, not, replicate, slice_index_or, IfOk, OnOk};
 ghost use Rattle.spec_run.specs.RunJournal.{line_of};
 ghost use Rattle.ctl_history.specs.Past.{control_of};
-ghost use Rattle.core_rows.specs.Ended.{is_over, last_of, one_if};
+ghost use Rattle.core_others.specs.EndedRows.{is_over, last_of, one_if};
 ghost use Rattle.core_shows.specs.Ending.{marked};
 
 use crate::objects::lines_shown;
-use core_rows::ended_are_told;
+use core_others::ended_are_told;
 use msg_pipe::Pipes;
 use one_desk::OneDesk;
 use spec_run::ObjectLine;

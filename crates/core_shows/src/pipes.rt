@@ -3,7 +3,7 @@ ghost use Rattle.spec_control.specs.Control.{end_of, next_pair};
 ghost use Rattle.spec_run.specs.Fate.{is_heard_at, is_publisher, is_publisher_kind};
 ghost use Rattle.spec_run.specs.RunJournal.{rows_by};
 ghost use Rattle.ctl_history.specs.Past.{control_of};
-ghost use Rattle.settle_laws.specs.Laws.{HasItsReason};
+ghost use Rattle.past_laws.specs.Settling.{HasItsReason};
 ghost use Rattle.core_shows.specs.Settled.{row_in, HasTable};
 
 use crate::rows::row_shown;
@@ -11,7 +11,7 @@ use crate::table::{counts_of, drops_of, table_of};
 use msg_pipe::Pipes;
 use one_desk::OneDesk;
 use open_laws::ends_are_few;
-use settle_laws::reasons_stay;
+use past_laws::reasons_stay;
 use spec_control::ObjKind;
 use spec_pattern::PipeId;
 use spec_run::SettledRow;

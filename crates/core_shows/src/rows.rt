@@ -1,6 +1,6 @@
 ghost use Rattle.std.specs.Prelude.{◌≡◌, true, false};
 ghost use Rattle.spec_control.specs.Control.{Settlement};
-ghost use Rattle.core_rows.specs.Drops.{row_dropped};
+ghost use Rattle.core_others.specs.Drops.{row_dropped};
 
 use spec_control::Reason;
 use spec_journal::PipeRow;

@@ -1,5 +1,5 @@
 ghost use Rattle.std.specs.Prelude.{◌≡◌, None, Some, replicate, slice_get, slice_index_or, IfOk};
-ghost use Rattle.core_rows.specs.Table.{drops_in, place_in};
+ghost use Rattle.core_others.specs.Table.{drops_in, place_in};
 ghost use Rattle.core_shows.specs.Settled.{noted, noted_all};
 
 use ctl_history::PipeCounts;

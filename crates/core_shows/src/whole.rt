@@ -9,7 +9,7 @@ use crate::ending::ended_shown;
 use crate::objects::objects_shown;
 use crate::pipes::pipes_shown;
 use core_laws::rows_are_counted;
-use core_rows::drops_go_on;
+use core_others::drops_go_on;
 use msg_pipe::Pipes;
 use one_desk::OneDesk;
 use spec_control::ObjState;

@@ -9,7 +9,7 @@ use Rattle.held_ends.specs.declared.table.Place.{Place}
 use Rattle.held_ends.specs.Changes.{WereHeld, AreMakings}
 use Rattle.held_ends.specs.Places.{place_at}
 use Rattle.sock_core.specs.Came.{IsChangedAt, AreChangedAt}
-use Rattle.own_laws.specs.Places.{WasOrIsHeld}
+use Rattle.past_laws.specs.Places.{WasOrIsHeld}
 use Rattle.past_laws.specs.Changes.{IsOfPipes}
 use Rattle.past_laws.specs.OfPipes.{AreHeldSince}
 

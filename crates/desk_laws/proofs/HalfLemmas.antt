@@ -24,8 +24,8 @@ use Rattle.sock_core.specs.Sound.{AreSound, IsStanding}
 use Rattle.sock_core.proofs.FindLemmas.{held_is, end_is, found, not_found, alone_of}
 use Rattle.sock_core.proofs.FormLemmas.{sound_of}
 use Rattle.sock_core.proofs.HolderLemmas.{reads_here, names_at}
-use Rattle.core_stands.specs.Standing.{PastStands, goes_in}
-use Rattle.own_laws.specs.Ends.{IsHeldFor, AreHeldFor}
+use Rattle.core_laws.specs.Standing.{PastStands, goes_in}
+use Rattle.past_laws.specs.Ends.{IsHeldFor, AreHeldFor}
 use Rattle.past_laws.specs.Settled.{PipesAreSettled}
 use Rattle.past_laws.proofs.ChangeLemmas.{goes_so}
 use Rattle.past_laws.proofs.CountLemmas.{Counts}

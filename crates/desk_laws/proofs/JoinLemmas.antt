@@ -18,11 +18,11 @@ use Rattle.spec_control.specs.Rows.{is_owner}
 use Rattle.spec_control.specs.Control.{Control, is_end}
 use Rattle.spec_control.specs.ControlRun.{Joins, Fits, FitsItem, request_joins, unless_refused, word_joins}
 use Rattle.control_held.specs.Held.{Held, asker, heard_of, subject_of, held_as, ends_at_request, ends_at_word, ends_in, ends_then}
-use Rattle.control_attached.specs.Once.{AreOnce}
+use Rattle.control_laws.specs.AttachedOnce.{AreOnce}
 use Rattle.ctl_holder.specs.Joins.{come_by, came_in}
 use Rattle.ctl_plane.specs.Desk.{came_with}
 use Rattle.open_laws.specs.Open.{IsOf, IsOfItem}
-use Rattle.own_laws.proofs.QuietLemmas.{none_mapped}
+use Rattle.past_laws.proofs.OwnQuietLemmas.{none_mapped}
 use Rattle.past_laws.proofs.MadeLemmas.{shown}
 use Rattle.desk_laws.proofs.OnceLemmas.{Parts, once_parts, ends_of_all}
 

@@ -2,11 +2,11 @@
 use Rattle.msg_pipe.specs.Known.{Known}
 use Rattle.ends.specs.Laws.{ReadsExactly}
 use Rattle.ends.proofs.ExactLemmas.{exactly}
-use Rattle.control_attached.proofs.OnceLemmas.{ends_are_attached_once}
-use Rattle.control_counts.proofs.OrderlyLemmas.{commands_come_once}
-use Rattle.control_moves.proofs.MetLemmas.{never_cells_are_not_met}
-use Rattle.control_moves.proofs.StepsLemmas.{events_are_steps}
-use Rattle.control_rows.proofs.EndStepLemmas.{ends_live}
+use Rattle.control_laws.proofs.AttachedOnceLemmas.{ends_are_attached_once}
+use Rattle.control_laws.proofs.OrderlyLemmas.{commands_come_once}
+use Rattle.control_laws.proofs.MetLemmas.{never_cells_are_not_met}
+use Rattle.control_laws.proofs.StepsLemmas.{events_are_steps}
+use Rattle.control_laws.proofs.EndStepLemmas.{ends_live}
 use Rattle.run_laws.proofs.CapacityLemmas.{capacities_stay, steps_stay_exact}
 use Rattle.run_laws.proofs.SealLemmas.{seals_are_told}
 use Rattle.core_laws.proofs.PastLemmas.{past_goes_on, past_stays_over}

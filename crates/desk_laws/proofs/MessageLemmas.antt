@@ -26,9 +26,9 @@ use Rattle.core_laws.specs.Sides.{AreAtEnds}
 use Rattle.core_laws.proofs.CallLemmas.{steps_back}
 use Rattle.core_laws.proofs.CountedLemmas.{counts_go_on}
 use Rattle.core_laws.proofs.RowLemmas.{steps_are_at_rows}
-use Rattle.core_stands.specs.Standing.{PastStands, goes_in}
-use Rattle.own_laws.specs.Ends.{AreHeldFor}
-use Rattle.own_laws.proofs.PlaceLemmas.{places_are_held}
+use Rattle.core_laws.specs.Standing.{PastStands, goes_in}
+use Rattle.past_laws.specs.Ends.{AreHeldFor}
+use Rattle.past_laws.proofs.PlaceLemmas.{places_are_held}
 use Rattle.past_laws.specs.Messages.{AreOwned}
 use Rattle.past_laws.proofs.ChangeLemmas.{goes_said}
 use Rattle.past_laws.proofs.HeldRowLemmas.{held_rows_are_named}

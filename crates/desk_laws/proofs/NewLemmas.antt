@@ -17,14 +17,14 @@ use Rattle.spec_control.specs.ControlRun.{FitsItem, after_item}
 use Rattle.spec_control.specs.Names.{name_of}
 use Rattle.control_held.specs.Held.{Held}
 use Rattle.control_held.specs.Moments.{left_after}
-use Rattle.control_rows.proofs.ListLemmas.{never, and, left, right}
+use Rattle.control_laws.proofs.ListLemmas.{never, and, left, right}
 use Rattle.control_laws.specs.Kept.{Kept}
 use Rattle.control_laws.proofs.AskLemmas.{end_self, same_end}
 use Rattle.control_laws.proofs.RootLemmas.{begun_kept}
-use Rattle.control_attached.proofs.AttachedLemmas.{attached_after}
-use Rattle.control_attached.proofs.LeadLemmas.{old_end}
-use Rattle.control_attached.proofs.MoveLemmas.{is_at}
-use Rattle.control_attached.proofs.OnceLemmas.{AreOld, IsOld, old_run}
+use Rattle.control_laws.proofs.AttachedLemmas.{attached_after}
+use Rattle.control_laws.proofs.LeadLemmas.{old_end}
+use Rattle.control_laws.proofs.MoveLemmas.{is_at}
+use Rattle.control_laws.proofs.AttachedOnceLemmas.{AreOld, IsOld, old_run}
 use Rattle.msg_pipe.specs.Known.{Known, IsElse}
 use Rattle.ctl_ends.proofs.HeldLemmas.{other_twice}
 use Rattle.ctl_holder.specs.Holding.{has_end}
@@ -41,7 +41,7 @@ use Rattle.held_laws.proofs.OthersLemmas.{IsIts, its_ends}
 use Rattle.sock_core.specs.declared.sock.SockCore.{SockCore}
 use Rattle.sock_calls.specs.Calls.{LeavesOthers, MayJoin}
 use Rattle.sock_calls.proofs.CallsLemmas.{others_join}
-use Rattle.socket_laws.proofs.AwayLemmas.{joins_self, pairs_are_apart}
+use Rattle.held_laws.proofs.AwayLemmas.{joins_self, pairs_are_apart}
 use Rattle.one_desk.specs.Lent.{coming_to, moments_of, HasSocket, IsOneOrder, Lent}
 use Rattle.desk_laws.specs.Behind.{is_its_end, IsNoneOfIts, IsOfIts, SettlesOwn}
 use Rattle.desk_laws.specs.Laws.{BindsFitStill, ComingEndsAreNew, EndsStayIts, HeldEndsAreIts}

@@ -5,12 +5,12 @@ use Rattle.std.proofs.lemmas.List.Folds.{list_any-append}
 use Rattle.zq_base.specs.declared.ids.EndId.{EndId}
 use Rattle.spec_control.specs.declared.entry.Joining.{Joining}
 use Rattle.spec_control.specs.Control.{is_end}
-use Rattle.control_attached.specs.Once.{AreOnce}
+use Rattle.control_laws.specs.AttachedOnce.{AreOnce}
 use Rattle.control_laws.proofs.AskLemmas.{end_self, same_end}
 use Rattle.held_ends.proofs.GivingLemmas.{map_more}
 use Rattle.sock_core.specs.Came.{IsOneOf}
 use Rattle.sock_core.specs.Way.{oldest_first}
-use Rattle.own_laws.proofs.PlaceLemmas.{any_whole}
+use Rattle.past_laws.proofs.PlaceLemmas.{any_whole}
 
 pub is_false : (b : Bool) → (b ≡ true → ⊥) → b ≡ false
 is_false true never = absurd (never refl)

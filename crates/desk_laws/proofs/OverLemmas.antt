@@ -15,9 +15,9 @@ use Rattle.spec_control.specs.Place.{is_here}
 use Rattle.spec_control.specs.Control.{Control, begun, owner_of, place_of}
 use Rattle.spec_control.specs.ControlRun.{IsControlRun, after_all}
 use Rattle.spec_control.specs.Names.{name_in, name_of, named_in}
-use Rattle.control_attached.specs.Once.{AreOnce}
-use Rattle.control_attached.proofs.OnceLemmas.{ends_are_attached_once}
-use Rattle.control_bounds.proofs.BoundLemmas.{run_splits}
+use Rattle.control_laws.specs.AttachedOnce.{AreOnce}
+use Rattle.control_laws.proofs.AttachedOnceLemmas.{ends_are_attached_once}
+use Rattle.control_laws.proofs.BoundLemmas.{run_splits}
 use Rattle.control_held.specs.Held.{Held}
 use Rattle.control_held.specs.Moments.{Moment, moments_from}
 use Rattle.ctl_history.specs.Past.{control_of}
@@ -36,9 +36,9 @@ use Rattle.sock_core.specs.Has.{holding_in}
 use Rattle.sock_core.specs.Standing.{standing_joins}
 use Rattle.sock_core.specs.Way.{oldest_first}
 use Rattle.one_desk.specs.Lent.{Lent, IsOneOrder, moments_of}
-use Rattle.core_stands.specs.Standing.{PastStands}
-use Rattle.own_laws.specs.Places.{is_end_of, IsOwnPlace, AreItsPlaces, HasPlaces, Keeps}
-use Rattle.own_laws.proofs.PlaceLemmas.{led_on, own_places_stay, own_places_go_on}
+use Rattle.core_laws.specs.Standing.{PastStands}
+use Rattle.past_laws.specs.Places.{is_end_of, IsOwnPlace, AreItsPlaces, HasPlaces, Keeps}
+use Rattle.past_laws.proofs.PlaceLemmas.{led_on, own_places_stay, own_places_go_on}
 use Rattle.past_laws.specs.Asked.{WereAsked}
 use Rattle.past_laws.specs.Changes.{IsOfPipes, IsPlaceNamed, AreChangesNamed, NamesGoOn}
 use Rattle.past_laws.specs.OfPipes.{AreHeldSince}

@@ -19,9 +19,9 @@ use Rattle.spec_control.specs.Row.{is_socket, owner_fits, socket_fits, stage_fit
 use Rattle.spec_control.specs.Rows.{is_owner, obj}
 use Rattle.spec_control.specs.Control.{Control, begun, id, next_object}
 use Rattle.spec_control.specs.ControlRun.{IsOpenSocket, is_between}
-use Rattle.control_rows.proofs.ListLemmas.{never, left, right}
-use Rattle.control_rows.proofs.QuietLemmas.{socket_owner}
-use Rattle.control_rows.proofs.StepLemmas.{inv_of}
+use Rattle.control_laws.proofs.ListLemmas.{never, left, right}
+use Rattle.control_laws.proofs.QuietLemmas.{socket_owner}
+use Rattle.control_laws.proofs.StepLemmas.{inv_of}
 use Rattle.control_laws.specs.Kept.{Kept}
 use Rattle.control_laws.proofs.EndLemmas.{kept_but}
 use Rattle.control_laws.proofs.RootLemmas.{begun_kept}
@@ -37,10 +37,10 @@ use Rattle.ctl_plane.specs.Desk.{slot_after}
 use Rattle.ctl_plane.specs.Kinds.{kind_after}
 use Rattle.held_laws.proofs.LawLemmas.{open_not}
 use Rattle.held_laws.proofs.MomentLemmas.{own_moments}
-use Rattle.socket_laws.proofs.KnownLemmas.{known_sockets_have_kinds}
-use Rattle.socket_laws.proofs.OpenLemmas.{sockets_are_open}
-use Rattle.socket_laws.proofs.SlotLemmas.{slot_left}
-use Rattle.socket_laws.proofs.ThereLemmas.{had_objects_are_there}
+use Rattle.held_laws.proofs.KnownLemmas.{known_sockets_have_kinds}
+use Rattle.held_laws.proofs.OpenLemmas.{sockets_are_open}
+use Rattle.held_laws.proofs.SlotLemmas.{slot_left}
+use Rattle.held_laws.proofs.ThereLemmas.{had_objects_are_there}
 use Rattle.one_desk.specs.Lent.{moments_of, HasSocket, IsOneOrder, Lent}
 use Rattle.desk_laws.specs.Behind.{closes}
 use Rattle.desk_laws.specs.Laws.{SocketsAreAlone, SocketsStayOpen}

@@ -42,13 +42,13 @@ use Rattle.desk_laws.proofs.SendLemmas.{no_moment_no_item}
 use Rattle.open_laws.specs.Open.{IsOf, IsOfItem}
 use Rattle.core_laws.specs.Sides.{AreAtEnds}
 use Rattle.core_laws.proofs.SideLemmas.{sides_stand_on}
-use Rattle.core_stands.specs.Standing.{PastStands}
-use Rattle.own_laws.specs.Ends.{AreHeldFor}
-use Rattle.own_laws.specs.Places.{IsOwnPlace}
-use Rattle.own_laws.specs.Quiet.{may_pair_by}
-use Rattle.own_laws.proofs.HoldLemmas.{made_pipes_hold}
-use Rattle.own_laws.proofs.PlaceLemmas.{places_are_held}
-use Rattle.own_laws.proofs.QuietLemmas.{others_make_none}
+use Rattle.core_laws.specs.Standing.{PastStands}
+use Rattle.past_laws.specs.Ends.{AreHeldFor}
+use Rattle.past_laws.specs.Places.{IsOwnPlace}
+use Rattle.past_laws.specs.OwnQuiet.{may_pair_by}
+use Rattle.past_laws.proofs.HoldLemmas.{made_pipes_hold}
+use Rattle.past_laws.proofs.PlaceLemmas.{places_are_held}
+use Rattle.past_laws.proofs.OwnQuietLemmas.{others_make_none}
 use Rattle.past_laws.specs.Changes.{IsOfPipes, IsPlaceNamed, AreChangesNamed, NamesGoOn}
 use Rattle.past_laws.specs.Made.{AreMadeAll}
 use Rattle.past_laws.proofs.CountLemmas.{Counts, TellsIn, TellsCounts, item_counted, still_counted}

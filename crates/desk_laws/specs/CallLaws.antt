@@ -19,7 +19,7 @@ use Rattle.sock_core.specs.declared.sock.SockCore.{SockCore}
 use Rattle.sock_core.specs.Has.{holding_in}
 use Rattle.sock_core.specs.Sound.{AreSound}
 use Rattle.one_desk.specs.Lent.{Lent, IsOneOrder, moments_of}
-use Rattle.own_laws.specs.Quiet.{may_pair_by}
+use Rattle.past_laws.specs.OwnQuiet.{may_pair_by}
 use Rattle.desk_laws.specs.Calling.{StandsOver, IsCalledBy, AddsItem, AddsNone, LeavesIt}
 
 -- what an object's request makes, with the control plane as it found it

@@ -27,9 +27,9 @@ use Rattle.one_desk.specs.Lent.{Lent, GrowsBy, IsOneOrder, moments_of}
 use Rattle.desk_laws.specs.Behind.{IsOneCall}
 use Rattle.open_laws.specs.Open.{IsOfItem}
 use Rattle.core_laws.specs.Sides.{AreAtEnds}
-use Rattle.core_stands.specs.Standing.{PastStands}
-use Rattle.own_laws.specs.Places.{IsOwnPlace}
-use Rattle.own_laws.specs.Quiet.{may_pair_by}
+use Rattle.core_laws.specs.Standing.{PastStands}
+use Rattle.past_laws.specs.Places.{IsOwnPlace}
+use Rattle.past_laws.specs.OwnQuiet.{may_pair_by}
 use Rattle.past_laws.specs.Asked.{WereAsked}
 use Rattle.past_laws.specs.Changes.{NamesGoOn}
 

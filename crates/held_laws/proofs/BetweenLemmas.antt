@@ -15,13 +15,13 @@ use Rattle.spec_control.specs.Rows.{Rows, obj}
 use Rattle.spec_control.specs.Control.{Control}
 use Rattle.spec_control.specs.After.{after}
 use Rattle.spec_control.specs.ControlRun.{Fits, is_between}
-use Rattle.control_rows.proofs.ListLemmas.{never, left, right, is_false, pushed, is_old, is_new}
+use Rattle.control_laws.proofs.ListLemmas.{never, left, right, is_false, pushed, is_old, is_new}
 use Rattle.control_laws.specs.Kept.{Kept}
-use Rattle.control_moves.specs.Move.{Move, LinkMoves, EndMoves, ObjectEnds, ObjectMade, PairDrawn, LetterPut, move_rows, move_boxes, is_named, MayMove, Leads}
-use Rattle.control_moves.specs.OwnMoves.{own_moves, having_taken}
-use Rattle.control_moves.proofs.EventGoLemmas.{event_goes}
-use Rattle.control_moves.proofs.SoundLemmas.{link_there, ending_there}
-use Rattle.control_moves.proofs.WeighLemmas.{taken_rows}
+use Rattle.control_laws.specs.Move.{Move, LinkMoves, EndMoves, ObjectEnds, ObjectMade, PairDrawn, LetterPut, move_rows, move_boxes, is_named, MayMove, Leads}
+use Rattle.control_laws.specs.OwnMoves.{own_moves, having_taken}
+use Rattle.control_laws.proofs.EventGoLemmas.{event_goes}
+use Rattle.control_laws.proofs.SoundLemmas.{link_there, ending_there}
+use Rattle.control_laws.proofs.WeighLemmas.{taken_rows}
 
 -- the object asks to end, or its Reap is processed, in a move
 abbrev pub asks_over : ℕ → Move → Bool

@@ -22,10 +22,10 @@ use Rattle.spec_control.specs.Control.{Control, is_end, same_side, next_pair}
 use Rattle.spec_control.specs.After.{binding_by}
 use Rattle.spec_control.specs.ControlRun.{Joins, unless_refused}
 use Rattle.control_held.specs.Held.{Held, held_as}
-use Rattle.control_moves.specs.Move.{Move}
-use Rattle.control_moves.specs.OwnMoves.{fulfil_moves, connect_moves, request_moves, word_moves}
-use Rattle.control_attached.proofs.LeadLemmas.{goes_by}
-use Rattle.control_attached.proofs.AttachedLemmas.{ends_of_joins}
+use Rattle.control_laws.specs.Move.{Move}
+use Rattle.control_laws.specs.OwnMoves.{fulfil_moves, connect_moves, request_moves, word_moves}
+use Rattle.control_laws.proofs.LeadLemmas.{goes_by}
+use Rattle.control_laws.proofs.AttachedLemmas.{ends_of_joins}
 use Rattle.held_laws.proofs.BetweenLemmas.{asks_over, reap_comes, made_between}
 
 -- ---- what the moves of a request are not

@@ -15,13 +15,13 @@ use Rattle.control_held.specs.Laws.{HasNames}
 use Rattle.control_held.specs.Moments.{moments_from, moments_by, items_in, left_after}
 use Rattle.control_held.proofs.NamedLemmas.{held_ends_are_named}
 use Rattle.control_held.proofs.OwnLemmas.{own_items_are_whole, own_has}
-use Rattle.control_rows.proofs.ListLemmas.{never}
+use Rattle.control_laws.proofs.ListLemmas.{never}
 use Rattle.control_laws.proofs.RootLemmas.{begun_kept}
 use Rattle.ctl_holder.specs.Holding.{Holding, has_end}
 use Rattle.ctl_holder.specs.Lent.{has_writer, here_ends, HasBothNames, HasEnds}
 use Rattle.ctl_plane.specs.Desk.{HasWhatTheySay}
 use Rattle.held_laws.specs.Laws.{LentHoldersHaveIt}
-use Rattle.control_attached.proofs.OnceLemmas.{IsOld}
+use Rattle.control_laws.proofs.AttachedOnceLemmas.{IsOld}
 use Rattle.held_laws.proofs.MomentLemmas.{AsLeft, own_moments, left_snoc}
 use Rattle.held_laws.proofs.NobodyLemmas.{nobody_over}
 use Rattle.held_laws.proofs.OthersLemmas.{among}

@@ -12,12 +12,12 @@ use Rattle.spec_control.specs.After.{after}
 use Rattle.spec_control.specs.ControlRun.{Fits}
 use Rattle.control_held.specs.Held.{subject_of}
 use Rattle.control_laws.specs.Kept.{Kept}
-use Rattle.control_moves.specs.Move.{Move}
-use Rattle.control_moves.specs.OwnMoves.{own_moves}
+use Rattle.control_laws.specs.Move.{Move}
+use Rattle.control_laws.specs.OwnMoves.{own_moves}
 use Rattle.ctl_holder.specs.Lent.{here_ends}
-use Rattle.control_attached.proofs.LeadLemmas.{attached_by, goes_by, New, old_end, new_ends}
-use Rattle.control_attached.proofs.AttachedLemmas.{attached_after}
-use Rattle.control_attached.proofs.OnceLemmas.{IsOld, AreOld}
+use Rattle.control_laws.proofs.LeadLemmas.{attached_by, goes_by, New, old_end, new_ends}
+use Rattle.control_laws.proofs.AttachedLemmas.{attached_after}
+use Rattle.control_laws.proofs.AttachedOnceLemmas.{IsOld, AreOld}
 use Rattle.held_laws.proofs.OwnerLemmas.{mine_all}
 
 -- ---- a list of which some are left

@@ -26,16 +26,16 @@ use Rattle.spec_control.specs.Control.{Control, is_end, owner_of, place_of}
 use Rattle.spec_control.specs.After.{after}
 use Rattle.spec_control.specs.ControlRun.{Fits, IsOpenSocket, MayDeliver, is_between}
 use Rattle.control_held.specs.Held.{Held, heard_of, subject_of}
-use Rattle.control_rows.proofs.ListLemmas.{never, placed}
+use Rattle.control_laws.proofs.ListLemmas.{never, placed}
 use Rattle.control_laws.specs.Kept.{Kept}
 use Rattle.control_laws.proofs.RootLemmas.{oldest_lives}
 use Rattle.control_laws.proofs.AskLemmas.{same_end}
-use Rattle.control_moves.specs.OwnMoves.{own_moves, word_moves}
-use Rattle.control_moves.proofs.GuardLemmas.{may_come}
+use Rattle.control_laws.specs.OwnMoves.{own_moves, word_moves}
+use Rattle.control_laws.proofs.GuardLemmas.{may_come}
 use Rattle.ctl_holder.specs.Lent.{here_ends}
-use Rattle.control_attached.proofs.LeadLemmas.{attached_by, goes_by}
+use Rattle.control_laws.proofs.LeadLemmas.{attached_by, goes_by}
 use Rattle.held_laws.proofs.HereLemmas.{here_mine, here_others}
-use Rattle.control_attached.proofs.OnceLemmas.{AreOld}
+use Rattle.control_laws.proofs.AttachedOnceLemmas.{AreOld}
 use Rattle.held_laws.proofs.BetweenLemmas.{between_back, between_on, made_between, asks_over, reap_comes}
 use Rattle.held_laws.proofs.EventLemmas.{of_held, keep_all, acked, asked_stay, asked_made, word_made, closes, asked_closes, asked_reaps, reaps, word_reaps, word_closes}
 

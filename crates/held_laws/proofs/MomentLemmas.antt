@@ -24,18 +24,18 @@ use Rattle.spec_control.specs.ControlRun.{Fits, after_item, after_all, IsControl
 use Rattle.control_held.specs.Held.{caller_of, items_by}
 use Rattle.control_held.specs.Has.{acts_at_word, acts_in_request, acts_in, taken_by_word, taken_in, given_up, unless_root, has_then, has_over, has_after, AreBy}
 use Rattle.control_held.specs.Moments.{moments_from, moments_by, items_in, is_of_item, left_over}
-use Rattle.control_rows.proofs.ListLemmas.{never, left, right}
-use Rattle.control_rows.proofs.QuietLemmas.{socket_owner}
-use Rattle.control_rows.proofs.StepLemmas.{inv_of}
+use Rattle.control_laws.proofs.ListLemmas.{never, left, right}
+use Rattle.control_laws.proofs.QuietLemmas.{socket_owner}
+use Rattle.control_laws.proofs.StepLemmas.{inv_of}
 use Rattle.control_laws.proofs.TellLemmas.{rows_of}
 use Rattle.control_laws.proofs.EndLemmas.{kept_but}
-use Rattle.control_moves.proofs.GuardLemmas.{may_come}
+use Rattle.control_laws.proofs.GuardLemmas.{may_come}
 use Rattle.control_laws.specs.Kept.{Kept}
 use Rattle.control_laws.proofs.RunLemmas.{after_kept}
-use Rattle.control_others.specs.Spared.{shown, Known, Spared, touched_in}
-use Rattle.control_others.proofs.EventLemmas.{others_spared}
-use Rattle.control_attached.proofs.MoveLemmas.{is_at}
-use Rattle.control_attached.proofs.OnceLemmas.{IsOld, AreOld, old_after}
+use Rattle.control_laws.specs.Spared.{shown, Known, Spared, touched_in}
+use Rattle.control_laws.proofs.EventLemmas.{others_spared}
+use Rattle.control_laws.proofs.MoveLemmas.{is_at}
+use Rattle.control_laws.proofs.AttachedOnceLemmas.{IsOld, AreOld, old_after}
 use Rattle.held_laws.proofs.OthersLemmas.{IsIts, its_ends}
 
 none_some : {y : ℕ} → None ≡ Some y → ⊥

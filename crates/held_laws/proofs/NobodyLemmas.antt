@@ -25,11 +25,11 @@ use Rattle.spec_control.specs.After.{after}
 use Rattle.spec_control.specs.ControlRun.{Fits, after_all, is_between, IsControlRun}
 use Rattle.spec_control.specs.Reply.{unless}
 use Rattle.control_held.specs.Has.{made_by, taken_in, given_up, has_then, has_over}
-use Rattle.control_rows.proofs.ListLemmas.{never, placed}
+use Rattle.control_laws.proofs.ListLemmas.{never, placed}
 use Rattle.control_laws.specs.Kept.{Kept}
 use Rattle.control_laws.proofs.RunLemmas.{after_kept}
-use Rattle.control_moves.proofs.GuardLemmas.{may_come}
-use Rattle.control_moves.proofs.SoundLemmas.{link_there}
+use Rattle.control_laws.proofs.GuardLemmas.{may_come}
+use Rattle.control_laws.proofs.SoundLemmas.{link_there}
 use Rattle.held_laws.proofs.BetweenLemmas.{between_back}
 use Rattle.held_laws.proofs.EventLemmas.{closes, asked_closes, word_closes}
 use Rattle.held_laws.proofs.LawLemmas.{owned_by, no_and, no_socket, heard_not, made_none}

@@ -11,10 +11,10 @@ use Rattle.spec_control.specs.Control.{Control, begun, is_end, met_in, next_pair
 use Rattle.spec_control.specs.After.{after}
 use Rattle.spec_control.specs.ControlRun.{after_all}
 use Rattle.control_held.specs.Held.{Held}
-use Rattle.control_rows.proofs.ListLemmas.{never}
+use Rattle.control_laws.proofs.ListLemmas.{never}
 use Rattle.control_laws.proofs.AskLemmas.{same_end}
-use Rattle.control_others.specs.Spared.{shown, Known, Spared}
-use Rattle.control_others.proofs.EventLemmas.{other_ends_stay}
+use Rattle.control_laws.specs.Spared.{shown, Known, Spared}
+use Rattle.control_laws.proofs.EventLemmas.{other_ends_stay}
 use Rattle.ctl_holder.specs.Holding.{Holding, has_end}
 use Rattle.ctl_holder.specs.Lent.{has_writer, here_ends, HasEnds}
 use Rattle.held_laws.specs.Laws.{OtherHoldersStay}

@@ -29,17 +29,17 @@ use Rattle.spec_control.specs.Control.{Control, end_of, next_pair, owner_of, pla
 use Rattle.spec_control.specs.After.{after, binding_by, pair_or_none}
 use Rattle.spec_control.specs.ControlRun.{Fits, MayAsk}
 use Rattle.control_held.specs.Held.{subject_of}
-use Rattle.control_rows.proofs.ListLemmas.{never}
-use Rattle.control_rows.proofs.RowLemmas.{pair_there}
+use Rattle.control_laws.proofs.ListLemmas.{never}
+use Rattle.control_laws.proofs.RowLemmas.{pair_there}
 use Rattle.control_laws.specs.Kept.{Kept}
-use Rattle.control_moves.specs.Move.{Move, LinkMoves, EndMoves, ObjectEnds, ObjectMade, PairDrawn, LetterPut, move_rows, move_boxes, is_named, Leads}
-use Rattle.control_moves.specs.OwnMoves.{fulfil_moves, connect_moves, request_moves, word_moves, own_moves, having_taken}
-use Rattle.control_moves.specs.Coming.{ComesToEnd}
-use Rattle.control_moves.proofs.EventGoLemmas.{event_goes}
-use Rattle.control_moves.proofs.GuardLemmas.{may_come}
-use Rattle.control_moves.proofs.WeighLemmas.{taken_rows}
-use Rattle.control_attached.proofs.MoveLemmas.{owner_in, move_many, move_owner}
-use Rattle.control_attached.proofs.LeadLemmas.{attached_by}
+use Rattle.control_laws.specs.Move.{Move, LinkMoves, EndMoves, ObjectEnds, ObjectMade, PairDrawn, LetterPut, move_rows, move_boxes, is_named, Leads}
+use Rattle.control_laws.specs.OwnMoves.{fulfil_moves, connect_moves, request_moves, word_moves, own_moves, having_taken}
+use Rattle.control_laws.specs.Coming.{ComesToEnd}
+use Rattle.control_laws.proofs.EventGoLemmas.{event_goes}
+use Rattle.control_laws.proofs.GuardLemmas.{may_come}
+use Rattle.control_laws.proofs.WeighLemmas.{taken_rows}
+use Rattle.control_laws.proofs.MoveLemmas.{owner_in, move_many, move_owner}
+use Rattle.control_laws.proofs.LeadLemmas.{attached_by}
 
 -- ---- over moves
 leads_owner : (ms : List Move) (s : Rows) (boxes : ℕ → List Letter) (d : Control) → Leads ms s boxes d → (e : EndId) → e.pair.0 < length s.pairs → owner_of d e ≡ owner_in s e

@@ -26,22 +26,22 @@ use Rattle.spec_control.specs.Control.{Control, begun, next_pair, is_end, place_
 use Rattle.spec_control.specs.After.{after}
 use Rattle.spec_control.specs.ControlRun.{Fits, Joins, taken_over, request_joins, unless_refused, is_between, after_all, IsControlRun}
 use Rattle.control_held.specs.Held.{Held, asker, held_as, heard_of, subject_of, ends_at_request, ends_at_word, ends_in, ends_then, ends_over}
-use Rattle.control_rows.proofs.ListLemmas.{never, left, right, and, placed}
+use Rattle.control_laws.proofs.ListLemmas.{never, left, right, and, placed}
 use Rattle.control_laws.specs.Kept.{Kept}
 use Rattle.control_laws.proofs.RunLemmas.{after_kept}
 use Rattle.control_laws.proofs.RootLemmas.{begun_kept}
-use Rattle.control_moves.specs.Move.{Move}
-use Rattle.control_moves.specs.OwnMoves.{request_moves, word_moves}
-use Rattle.control_moves.proofs.GuardLemmas.{may_come}
-use Rattle.control_moves.proofs.SoundLemmas.{link_there}
-use Rattle.control_others.specs.Spared.{Known}
+use Rattle.control_laws.specs.Move.{Move}
+use Rattle.control_laws.specs.OwnMoves.{request_moves, word_moves}
+use Rattle.control_laws.proofs.GuardLemmas.{may_come}
+use Rattle.control_laws.proofs.SoundLemmas.{link_there}
+use Rattle.control_laws.specs.Spared.{Known}
 use Rattle.ctl_holder.specs.Lent.{here_ends}
 use Rattle.held_laws.specs.Laws.{EndsAreHere}
 use Rattle.held_laws.proofs.LawLemmas.{Knows, owned_by, owns, no_and, no_socket, listener_is, session_is, open_not, heard_not, others_know, mine_know, not_closed}
-use Rattle.control_attached.proofs.LeadLemmas.{attached_by, goes_by}
-use Rattle.control_attached.proofs.AttachedLemmas.{ends_of_joins, asked_ends}
+use Rattle.control_laws.proofs.LeadLemmas.{attached_by, goes_by}
+use Rattle.control_laws.proofs.AttachedLemmas.{ends_of_joins, asked_ends}
 use Rattle.held_laws.proofs.HereLemmas.{here_mine}
-use Rattle.control_attached.proofs.OnceLemmas.{IsOld, AreOld, old_after, old_run}
+use Rattle.control_laws.proofs.AttachedOnceLemmas.{IsOld, AreOld, old_after, old_run}
 use Rattle.held_laws.proofs.BetweenLemmas.{asks_over}
 use Rattle.held_laws.proofs.EventLemmas.{of_held, ends_told, with_joins, without, keep_all, none_of, without_acked, asked_stay, closes, asked_closes, word_closes}
 

@@ -11,7 +11,7 @@ use Rattle.spec_control.specs.Names.{name_of, AreNamed}
 use Rattle.control_held.specs.Held.{ends_after, items_by}
 use Rattle.control_held.specs.Has.{has_after, AreBy}
 use Rattle.control_held.specs.Moments.{moments_from, moments_by}
-use Rattle.control_others.specs.Spared.{touched_in}
+use Rattle.control_laws.specs.Spared.{touched_in}
 use Rattle.ctl_holder.specs.Holding.{Holding}
 use Rattle.ctl_holder.specs.Lent.{here_ends, HasAll}
 use Rattle.ctl_plane.specs.Desk.{HasWhatTheySay}

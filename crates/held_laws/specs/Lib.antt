@@ -1,1 +1,3 @@
+pub mod SocketLaws
+pub mod Closed
 pub mod Laws

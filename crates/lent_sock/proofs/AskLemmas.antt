@@ -34,7 +34,7 @@ use Rattle.open_sock.specs.Steps.{LeadsSome, RequestsSo}
 use Rattle.sock_open.specs.View.{pattern_told}
 use Rattle.sock_open.specs.Standing.{IsWhole, kind_told}
 use Rattle.one_desk.specs.Lent.{Lent, moments_of}
-use Rattle.own_laws.specs.Quiet.{may_pair, may_pair_by}
+use Rattle.past_laws.specs.OwnQuiet.{may_pair, may_pair_by}
 use Rattle.desk_laws.specs.Calling.{AddsItem, OpensBy, opens_none, opens_some}
 use Rattle.lent_sock.specs.Owned.{LentParts, IsLentTo, IsThereFor, Agrees, view_of, moments_since}
 use Rattle.lent_sock.specs.Called.{IsCalled}

@@ -9,8 +9,8 @@ use Rattle.spec_control.specs.Place.{At, is_here, looks}
 use Rattle.spec_control.specs.PairPhase.{Happens}
 use Rattle.spec_control.specs.Control.{Control, begun, happens, is_end, ends_of, owner_of as control_owner, place_of}
 use Rattle.spec_control.specs.ControlRun.{after_all}
-use Rattle.control_rows.proofs.RowLemmas.{pair_there}
-use Rattle.control_attached.specs.Once.{AreOnce}
+use Rattle.control_laws.proofs.RowLemmas.{pair_there}
+use Rattle.control_laws.specs.AttachedOnce.{AreOnce}
 use Rattle.control_laws.proofs.AskLemmas.{end_self, same_end}
 use Rattle.control_held.specs.Held.{Held}
 use Rattle.control_held.specs.Moments.{Moment, left_after}

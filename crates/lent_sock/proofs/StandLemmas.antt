@@ -37,13 +37,13 @@ use Rattle.open_laws.specs.Open.{IsOfItem}
 use Rattle.open_sock.proofs.StepLemmas.{no_moments}
 use Rattle.one_desk.specs.Lent.{GrowsBy, IsOneOrder, Lent, moments_of}
 use Rattle.core_laws.proofs.SideLemmas.{begun_is, grows}
-use Rattle.own_laws.specs.Ends.{IsHeldFor}
-use Rattle.own_laws.specs.Places.{IsOwnPlace, is_end_of}
-use Rattle.own_laws.specs.Quiet.{may_pair_by}
-use Rattle.own_laws.proofs.PlaceLemmas.{places_are_held}
+use Rattle.past_laws.specs.Ends.{IsHeldFor}
+use Rattle.past_laws.specs.Places.{IsOwnPlace, is_end_of}
+use Rattle.past_laws.specs.OwnQuiet.{may_pair_by}
+use Rattle.past_laws.proofs.PlaceLemmas.{places_are_held}
 use Rattle.past_laws.specs.Asked.{WereAsked}
 use Rattle.past_laws.specs.Changes.{NamesGoOn}
-use Rattle.name_laws.proofs.NameLemmas.{names_stand_on, names_stay}
+use Rattle.past_laws.proofs.NamesLemmas.{names_stand_on, names_stay}
 use Rattle.desk_laws.specs.Calling.{AddsItem, AddsNone, IsCalledBy, LeavesIt, StandsOver}
 use Rattle.desk_laws.proofs.MessageLemmas.{message_calls_stand}
 use Rattle.desk_laws.proofs.StandLemmas.{closes_stand, socket_calls_stand, still_calls_stand}

@@ -15,11 +15,11 @@ use Rattle.spec_control.specs.Rows.{obj}
 use Rattle.spec_control.specs.Control.{Control, id, is_end, next_object, owner_of, place_of, ends_of}
 use Rattle.spec_control.specs.After.{after}
 use Rattle.spec_control.specs.ControlRun.{FitsItem, after_item}
-use Rattle.control_rows.proofs.ListLemmas.{placed}
+use Rattle.control_laws.proofs.ListLemmas.{placed}
 use Rattle.control_laws.specs.Kept.{Kept}
 use Rattle.control_laws.proofs.RootLemmas.{oldest_lives}
-use Rattle.control_attached.proofs.LeadLemmas.{old_end}
-use Rattle.control_attached.proofs.OnceLemmas.{IsOld, AreOld, old_run}
+use Rattle.control_laws.proofs.LeadLemmas.{old_end}
+use Rattle.control_laws.proofs.AttachedOnceLemmas.{IsOld, AreOld, old_run}
 use Rattle.control_held.specs.Moments.{Moment, left_by}
 use Rattle.ctl_history.specs.Past.{control_of}
 use Rattle.ctl_plane.specs.Desk.{by_caller, slot_after}

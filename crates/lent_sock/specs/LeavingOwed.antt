@@ -25,8 +25,8 @@ use Rattle.one_desk.specs.Lent.{GrowsBy, IsOneOrder, Lent}
 use Rattle.one_desk.proofs.AsideLemmas.{name_stays}
 use Rattle.core_laws.specs.Sides.{AreAtEnds}
 use Rattle.core_laws.proofs.SideLemmas.{sides_stand_on}
-use Rattle.own_laws.specs.Places.{is_end_of}
-use Rattle.own_laws.proofs.PlaceLemmas.{gone_stay, its_numbered, its_stay, led_on}
+use Rattle.past_laws.specs.Places.{is_end_of}
+use Rattle.past_laws.proofs.PlaceLemmas.{gone_stay, its_numbered, its_stay, led_on}
 use Rattle.desk_laws.specs.Calling.{IsExact}
 use Rattle.lent_sock.specs.Owned.{LentParts}
 use Rattle.lent_sock.specs.Leaving.{IsNoneItSettled, IsNoneItWrites, IsNoneItReads, LeavesPipes, LeavesStanding, NamesStandIn, PastStandsIn, TellsRest}

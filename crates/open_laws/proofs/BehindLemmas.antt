@@ -23,7 +23,7 @@ use Rattle.control_held.specs.Held.{caller_of, items_by}
 use Rattle.control_held.specs.Has.{made_by, has_after, given_by_request, given_up}
 use Rattle.control_held.specs.Moments.{Moment, moments_from, moments_by, items_in, left_after, left_by}
 use Rattle.control_held.proofs.OwnLemmas.{own_items_are_whole}
-use Rattle.control_rows.proofs.ListLemmas.{never}
+use Rattle.control_laws.proofs.ListLemmas.{never}
 use Rattle.control_laws.proofs.RootLemmas.{begun_kept}
 use Rattle.ctl_holder.specs.Holding.{Holding, has_end}
 use Rattle.ctl_plane.specs.Desk.{HasWhatTheySay, came_with}
@@ -31,9 +31,9 @@ use Rattle.ctl_plane.specs.Kinds.{kind_at_request, kind_in, kind_over, kind_afte
 use Rattle.held_ends.specs.declared.table.Place.{Place}
 use Rattle.held_ends.specs.Places.{held_in, held_of}
 use Rattle.sock_core.specs.Has.{state_in}
-use Rattle.socket_laws.proofs.KnownLemmas.{known_sockets_have_kinds}
-use Rattle.socket_laws.proofs.SlotLemmas.{event_slot, slot_left}
-use Rattle.socket_laws.proofs.ThereLemmas.{had_objects_are_there}
+use Rattle.held_laws.proofs.KnownLemmas.{known_sockets_have_kinds}
+use Rattle.held_laws.proofs.SlotLemmas.{event_slot, slot_left}
+use Rattle.held_laws.proofs.ThereLemmas.{had_objects_are_there}
 use Rattle.spec_run.specs.OpenSocket.{SockEnd}
 use Rattle.open_laws.specs.Open.{ends_at, moments_of, HasOpen, moment_at, left_before, ComesTo}
 use Rattle.open_laws.specs.Ends.{state_held}

@@ -7,9 +7,9 @@ use Rattle.zq_base.specs.declared.ids.EndId.{EndId}
 use Rattle.spec_pattern.specs.PipeStep.{same_pipe}
 use Rattle.spec_pattern.proofs.Exact.{same_pipes}
 use Rattle.spec_control.specs.Control.{is_end}
-use Rattle.control_rows.proofs.ListLemmas.{never}
+use Rattle.control_laws.proofs.ListLemmas.{never}
 use Rattle.control_laws.proofs.AskLemmas.{end_self, same_end}
-use Rattle.control_attached.specs.Once.{AreOnce}
+use Rattle.control_laws.specs.AttachedOnce.{AreOnce}
 use Rattle.ends.proofs.StepLemmas.{own_pipe}
 
 -- ---- one end and another

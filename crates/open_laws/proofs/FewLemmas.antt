@@ -35,16 +35,16 @@ use Rattle.spec_control.specs.Control.{Control, begun, id, is_end, same_side, ne
 use Rattle.spec_control.specs.After.{after, binding_by, kind_of}
 use Rattle.spec_control.specs.ControlRun.{Fits, after_all, IsControlRun, unless_refused}
 use Rattle.spec_control.specs.Reply.{reply_of, unless, root_asked, connect_reply_at, has_object, has_pairs, most_made_pairs}
-use Rattle.control_rows.proofs.ListLemmas.{never, right}
+use Rattle.control_laws.proofs.ListLemmas.{never, right}
 use Rattle.control_laws.specs.Kept.{Kept}
 use Rattle.control_laws.proofs.RootLemmas.{begun_kept}
 use Rattle.control_laws.proofs.RunLemmas.{is_granted, after_kept}
-use Rattle.control_moves.specs.Move.{Move, LinkMoves, EndMoves, ObjectEnds, ObjectMade, PairDrawn, LetterPut, move_rows, move_boxes, is_named, Leads}
-use Rattle.control_moves.specs.OwnMoves.{fulfil_moves, connect_moves, request_moves, word_moves, own_moves, having_taken}
-use Rattle.control_moves.proofs.WeighLemmas.{taken_rows}
-use Rattle.control_moves.proofs.EventGoLemmas.{event_goes}
-use Rattle.control_attached.specs.Once.{AreOnce}
-use Rattle.control_attached.proofs.OnceLemmas.{IsOld, old_run, ends_are_attached_once}
+use Rattle.control_laws.specs.Move.{Move, LinkMoves, EndMoves, ObjectEnds, ObjectMade, PairDrawn, LetterPut, move_rows, move_boxes, is_named, Leads}
+use Rattle.control_laws.specs.OwnMoves.{fulfil_moves, connect_moves, request_moves, word_moves, own_moves, having_taken}
+use Rattle.control_laws.proofs.WeighLemmas.{taken_rows}
+use Rattle.control_laws.proofs.EventGoLemmas.{event_goes}
+use Rattle.control_laws.specs.AttachedOnce.{AreOnce}
+use Rattle.control_laws.proofs.AttachedOnceLemmas.{IsOld, old_run, ends_are_attached_once}
 use Rattle.open_laws.specs.Bounds.{EndsAreFew}
 use Rattle.open_laws.proofs.EndLemmas.{none_among, once_filter}
 

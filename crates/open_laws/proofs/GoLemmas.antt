@@ -25,14 +25,14 @@ use Rattle.spec_control.specs.After.{after}
 use Rattle.spec_control.specs.ControlRun.{Fits, Joins, after_all, answer_of}
 use Rattle.control_held.specs.Held.{asker, caller_of, subject_of}
 use Rattle.control_held.specs.Has.{acts_in_request}
-use Rattle.control_rows.proofs.ListLemmas.{never}
+use Rattle.control_laws.proofs.ListLemmas.{never}
 use Rattle.control_laws.specs.Kept.{Kept}
-use Rattle.control_moves.specs.OwnMoves.{own_moves, word_moves}
-use Rattle.control_others.specs.Spared.{Known, touched_in}
-use Rattle.control_others.proofs.EventLemmas.{others_spared}
-use Rattle.control_attached.proofs.LeadLemmas.{attached_by, old_end}
-use Rattle.control_attached.proofs.AttachedLemmas.{ends_of_joins, asked_ends, attached_after}
-use Rattle.control_attached.proofs.OnceLemmas.{IsOld, AreOld, old_run}
+use Rattle.control_laws.specs.OwnMoves.{own_moves, word_moves}
+use Rattle.control_laws.specs.Spared.{Known, touched_in}
+use Rattle.control_laws.proofs.EventLemmas.{others_spared}
+use Rattle.control_laws.proofs.LeadLemmas.{attached_by, old_end}
+use Rattle.control_laws.proofs.AttachedLemmas.{ends_of_joins, asked_ends, attached_after}
+use Rattle.control_laws.proofs.AttachedOnceLemmas.{IsOld, AreOld, old_run}
 use Rattle.ctl_holder.specs.Joins.{came_in, come_by}
 use Rattle.ctl_holder.specs.Turns.{turn_at, turned_over, turned_in}
 use Rattle.held_laws.proofs.MomentLemmas.{shown_at, reap_root}

@@ -26,12 +26,12 @@ use Rattle.spec_control.specs.Rows.{obj}
 use Rattle.spec_control.specs.Control.{Control, begun, with_value, end_of, next_pair}
 use Rattle.spec_control.specs.After.{after, binding_by, pair_or_none}
 use Rattle.spec_control.specs.ControlRun.{Fits, FitsItem, Joins, bind_joins, connect_joins, request_joins, unless_refused, word_joins, after_all, IsControlRun}
-use Rattle.control_rows.proofs.ListLemmas.{never, pushed, is_old, is_new}
+use Rattle.control_laws.proofs.ListLemmas.{never, pushed, is_old, is_new}
 use Rattle.control_laws.specs.Kept.{Kept}
 use Rattle.control_laws.proofs.RunLemmas.{after_kept}
-use Rattle.control_moves.specs.Move.{Move, LinkMoves, EndMoves, ObjectEnds, ObjectMade, PairDrawn, LetterPut, is_named}
-use Rattle.control_moves.specs.OwnMoves.{join_moves, fulfil_moves, connect_moves, request_moves, word_moves, own_moves, having_taken}
-use Rattle.control_moves.proofs.EventGoLemmas.{event_goes}
+use Rattle.control_laws.specs.Move.{Move, LinkMoves, EndMoves, ObjectEnds, ObjectMade, PairDrawn, LetterPut, is_named}
+use Rattle.control_laws.specs.OwnMoves.{join_moves, fulfil_moves, connect_moves, request_moves, word_moves, own_moves, having_taken}
+use Rattle.control_laws.proofs.EventGoLemmas.{event_goes}
 use Rattle.ctl_holder.specs.Joins.{come_by}
 use Rattle.ctl_plane.specs.Desk.{came_with}
 use Rattle.router_dealer.specs.Named.{IsIdentity}

@@ -20,7 +20,7 @@ use Rattle.spec_control.specs.declared.request.Req.TheVariants.{Socket as MakeSo
 use Rattle.spec_control.specs.Row.{is_socket}
 use Rattle.spec_control.specs.Rows.{obj}
 use Rattle.control_held.specs.Held.{asker}
-use Rattle.control_rows.proofs.ListLemmas.{never}
+use Rattle.control_laws.proofs.ListLemmas.{never}
 use Rattle.held_laws.proofs.LawLemmas.{session_is}
 use Rattle.spec_control.specs.Control.{Control, begun, ends_of}
 use Rattle.spec_control.specs.ControlRun.{Fits, MayAsk, after_all}

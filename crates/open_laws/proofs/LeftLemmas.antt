@@ -8,7 +8,7 @@ use Rattle.spec_control.specs.Control.{Control, begun, place_of, ends_of}
 use Rattle.spec_control.specs.ControlRun.{after_all}
 use Rattle.control_held.specs.Moments.{left_after}
 use Rattle.control_laws.proofs.RootLemmas.{begun_kept}
-use Rattle.control_attached.proofs.OnceLemmas.{IsOld}
+use Rattle.control_laws.proofs.AttachedOnceLemmas.{IsOld}
 use Rattle.held_laws.proofs.MomentLemmas.{AsLeft, AreLeft as AreLeftSo, left_snoc}
 use Rattle.spec_run.specs.OpenSocket.{SockEnd}
 use Rattle.open_laws.specs.Open.{moments_of}

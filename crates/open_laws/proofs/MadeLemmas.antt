@@ -17,7 +17,7 @@ use Rattle.spec_control.specs.Control.{begun}
 use Rattle.spec_control.specs.ControlRun.{after_all, IsControlRun}
 use Rattle.spec_control.specs.Reply.{reply_of}
 use Rattle.control_held.specs.Moments.{Moment}
-use Rattle.control_attached.specs.Once.{AreOnce}
+use Rattle.control_laws.specs.AttachedOnce.{AreOnce}
 use Rattle.pattern_laws.specs.Peers.{kept_ends, KeepsPeers}
 use Rattle.pattern_laws.proofs.EndsStayLemmas.{ends_stay}
 use Rattle.spec_run.specs.OpenSocket.{OpenSock, new_open}

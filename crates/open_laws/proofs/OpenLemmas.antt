@@ -12,18 +12,18 @@ use Rattle.spec_control.specs.ControlRun.{FitsItem, after_item, after_all, IsCon
 use Rattle.control_held.specs.Held.{items_by}
 use Rattle.control_held.specs.Has.{AreBy}
 use Rattle.control_held.specs.OwnAsks.{known_after}
-use Rattle.control_rows.proofs.ListLemmas.{never, left, right}
-use Rattle.control_rows.proofs.QuietLemmas.{socket_owner}
-use Rattle.control_rows.proofs.StepLemmas.{inv_of}
+use Rattle.control_laws.proofs.ListLemmas.{never, left, right}
+use Rattle.control_laws.proofs.QuietLemmas.{socket_owner}
+use Rattle.control_laws.proofs.StepLemmas.{inv_of}
 use Rattle.control_laws.specs.Kept.{Kept}
 use Rattle.control_laws.proofs.TellLemmas.{rows_of}
 use Rattle.control_laws.proofs.EndLemmas.{kept_but}
 use Rattle.control_laws.proofs.RootLemmas.{runs_are_kept}
 use Rattle.ctl_plane.specs.Kinds.{kind_after}
 use Rattle.held_laws.proofs.MomentLemmas.{own_moments}
-use Rattle.socket_laws.specs.Laws.{HasOpen as IsHad}
-use Rattle.socket_laws.proofs.KnownLemmas.{known_sockets_have_kinds}
-use Rattle.socket_laws.proofs.OpenLemmas.{sockets_are_open}
+use Rattle.held_laws.specs.SocketLaws.{HasOpen as IsHad}
+use Rattle.held_laws.proofs.KnownLemmas.{known_sockets_have_kinds}
+use Rattle.held_laws.proofs.OpenLemmas.{sockets_are_open}
 use Rattle.open_laws.specs.Open.{HasOpen}
 
 pub none_some : {y : ℕ} → None ≡ Some y → ⊥

@@ -12,10 +12,10 @@ use Rattle.spec_control.specs.declared.end.EndState.TheVariants.{Active, Delimit
 use Rattle.spec_control.specs.declared.entry.Joining.{Joining}
 use Rattle.spec_control.specs.Place.{Place, Unmade, Away, At, is_here}
 use Rattle.spec_control.specs.Control.{is_end}
-use Rattle.control_rows.proofs.ListLemmas.{never}
+use Rattle.control_laws.proofs.ListLemmas.{never}
 use Rattle.control_laws.proofs.AskLemmas.{end_self, same_end}
-use Rattle.control_attached.specs.Once.{AreOnce}
-use Rattle.control_attached.proofs.MoveLemmas.{is_at}
+use Rattle.control_laws.specs.AttachedOnce.{AreOnce}
+use Rattle.control_laws.proofs.MoveLemmas.{is_at}
 use Rattle.pattern_laws.specs.Peers.{listed_peers, kept_ends}
 use Rattle.ctl_holder.specs.Holding.{is_state}
 use Rattle.ctl_holder.specs.Turns.{state_before, turn_at, turned_over}

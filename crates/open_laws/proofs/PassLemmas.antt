@@ -20,13 +20,13 @@ use Rattle.spec_control.specs.Control.{Control, begun, is_end, owner_of, place_o
 use Rattle.spec_control.specs.After.{after}
 use Rattle.spec_control.specs.ControlRun.{Fits, after_all}
 use Rattle.control_held.specs.Moments.{Moment, left_by}
-use Rattle.control_rows.proofs.ListLemmas.{never}
+use Rattle.control_laws.proofs.ListLemmas.{never}
 use Rattle.control_laws.specs.Kept.{Kept}
-use Rattle.control_moves.specs.OwnMoves.{own_moves, word_moves}
-use Rattle.control_attached.specs.Once.{AreOnce}
-use Rattle.control_attached.proofs.LeadLemmas.{attached_by, goes_by, New, old_end, new_ends}
-use Rattle.control_attached.proofs.AttachedLemmas.{attached_after}
-use Rattle.control_attached.proofs.OnceLemmas.{IsOld, AreOld, old_run, ends_are_attached_once}
+use Rattle.control_laws.specs.OwnMoves.{own_moves, word_moves}
+use Rattle.control_laws.specs.AttachedOnce.{AreOnce}
+use Rattle.control_laws.proofs.LeadLemmas.{attached_by, goes_by, New, old_end, new_ends}
+use Rattle.control_laws.proofs.AttachedLemmas.{attached_after}
+use Rattle.control_laws.proofs.AttachedOnceLemmas.{IsOld, AreOld, old_run, ends_are_attached_once}
 use Rattle.pattern_laws.specs.Peers.{listed_peers, kept_ends}
 use Rattle.ctl_holder.specs.Turns.{turned_in}
 use Rattle.ctl_plane.specs.Desk.{came_with, heard_with}

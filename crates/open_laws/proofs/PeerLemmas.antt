@@ -18,7 +18,7 @@ use Rattle.spec_pattern.specs.Subscribing.{Subscriber, without_publisher}
 use Rattle.spec_pattern.specs.Pattern.{BothTurns, RouterState, Pattern, Push, Pull, Pair, Dealer, Req, Rep, Router, Pub, XPub, Sub, XSub, attach_as, taken_in, detach, without, without_both, partner_without, duty_without, without_name}
 use Rattle.spec_pattern.proofs.Exact.{same_pipes}
 use Rattle.spec_control.specs.Control.{is_end}
-use Rattle.control_attached.specs.Once.{AreOnce}
+use Rattle.control_laws.specs.AttachedOnce.{AreOnce}
 use Rattle.any_sock.proofs.PlaceLemmas.{all_front, all_behind}
 use Rattle.held_laws.proofs.EventLemmas.{keep_all}
 use Rattle.pattern_laws.specs.Peers.{out_turns, in_turns, peer_names, named_peer, listed_peers, partner_of, pattern_duty, kept_ends}

@@ -22,14 +22,14 @@ use Rattle.spec_control.specs.Control.{Control, begun, is_end, owner_of, place_o
 use Rattle.spec_control.specs.After.{after}
 use Rattle.spec_control.specs.ControlRun.{Fits, after_all}
 use Rattle.control_held.specs.Moments.{left_by}
-use Rattle.control_rows.proofs.ListLemmas.{never}
+use Rattle.control_laws.proofs.ListLemmas.{never}
 use Rattle.control_laws.specs.Kept.{Kept}
 use Rattle.control_laws.proofs.AskLemmas.{same_end}
-use Rattle.control_moves.specs.OwnMoves.{own_moves, word_moves}
-use Rattle.control_moves.proofs.GuardLemmas.{may_come}
-use Rattle.control_moves.proofs.MetLemmas.{meets_cell}
-use Rattle.control_attached.proofs.LeadLemmas.{attached_by}
-use Rattle.control_attached.proofs.OnceLemmas.{IsOld, AreOld, old_run}
+use Rattle.control_laws.specs.OwnMoves.{own_moves, word_moves}
+use Rattle.control_laws.proofs.GuardLemmas.{may_come}
+use Rattle.control_laws.proofs.MetLemmas.{meets_cell}
+use Rattle.control_laws.proofs.LeadLemmas.{attached_by}
+use Rattle.control_laws.proofs.AttachedOnceLemmas.{IsOld, AreOld, old_run}
 use Rattle.spec_run.specs.OpenSocket.{awaits_delimiter}
 use Rattle.spec_run.specs.Event.{LooksBehind, LooksWhere}
 use Rattle.open_laws.specs.Open.{moment_at, left_before, ComesTo}

@@ -17,8 +17,8 @@ use Rattle.spec_control.specs.Row.{Row, nobody, LinkEvent, OwnComes, PlugComes, 
 use Rattle.spec_control.specs.Rows.{Rows, obj, pair, end_place}
 use Rattle.spec_control.specs.Control.{Control, with_value, id, commands_in}
 use Rattle.spec_control.specs.After.{owner_or_root}
-use Rattle.control_rows.proofs.ListLemmas.{pushed, is_old, is_new}
-use Rattle.control_moves.specs.Move.{Move, LinkMoves, EndMoves, ObjectEnds, ObjectMade, PairDrawn, LetterPut, move_rows, move_boxes, move_letters, link_letters, end_letters, pair_letters, ack_letters, put_all, Leads}
+use Rattle.control_laws.proofs.ListLemmas.{pushed, is_old, is_new}
+use Rattle.control_laws.specs.Move.{Move, LinkMoves, EndMoves, ObjectEnds, ObjectMade, PairDrawn, LetterPut, move_rows, move_boxes, move_letters, link_letters, end_letters, pair_letters, ack_letters, put_all, Leads}
 use Rattle.router_dealer.specs.Named.{IsIdentity}
 
 -- the identity that a command tells

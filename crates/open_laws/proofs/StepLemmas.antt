@@ -14,11 +14,11 @@ use Rattle.spec_control.specs.Place.{Place, Unmade, Away, At, is_unmade}
 use Rattle.spec_control.specs.PairPhase.{PairEvent, Opens, BindCame, Happens, may, meets, place_after, other_after}
 use Rattle.spec_control.specs.Rows.{Rows, PairRow, no_pair, pair, end_place, end_half, pair_after}
 use Rattle.spec_control.specs.Control.{is_end, same_side}
-use Rattle.control_rows.proofs.ListLemmas.{never, right, pushed, is_old, is_new}
-use Rattle.control_rows.proofs.RowLemmas.{pair_there}
-use Rattle.control_moves.specs.Move.{Move, LinkMoves, EndMoves, ObjectEnds, ObjectMade, PairDrawn, LetterPut, move_rows, MayMove}
-use Rattle.control_moves.proofs.SoundLemmas.{Sound}
-use Rattle.control_attached.proofs.MoveLemmas.{place_in, is_at, met_there}
+use Rattle.control_laws.proofs.ListLemmas.{never, right, pushed, is_old, is_new}
+use Rattle.control_laws.proofs.RowLemmas.{pair_there}
+use Rattle.control_laws.specs.Move.{Move, LinkMoves, EndMoves, ObjectEnds, ObjectMade, PairDrawn, LetterPut, move_rows, MayMove}
+use Rattle.control_laws.proofs.SoundLemmas.{Sound}
+use Rattle.control_laws.proofs.MoveLemmas.{place_in, is_at, met_there}
 use Rattle.spec_run.specs.OpenSocket.{awaits_delimiter}
 
 -- the other end's command comes to an end

@@ -13,10 +13,10 @@ use Rattle.spec_control.specs.ControlRun.{after_all}
 use Rattle.control_held.specs.Held.{Held, ends_after}
 use Rattle.control_held.specs.Moments.{left_after}
 use Rattle.control_held.proofs.OwnLemmas.{own_items_are_whole}
-use Rattle.control_rows.proofs.ListLemmas.{never}
+use Rattle.control_laws.proofs.ListLemmas.{never}
 use Rattle.control_laws.proofs.AskLemmas.{end_self}
-use Rattle.control_attached.proofs.MoveLemmas.{is_at}
-use Rattle.control_attached.proofs.OnceLemmas.{IsOld, old_run}
+use Rattle.control_laws.proofs.MoveLemmas.{is_at}
+use Rattle.control_laws.proofs.AttachedOnceLemmas.{IsOld, old_run}
 use Rattle.ctl_holder.specs.Holding.{Holding, has_end}
 use Rattle.ctl_plane.specs.Desk.{HasWhatTheySay}
 use Rattle.held_laws.proofs.LawLemmas.{open_not}

@@ -8,7 +8,7 @@ use Rattle.spec_control.specs.declared.end.EndState.TheVariants.{Active, Delimit
 use Rattle.spec_control.specs.Place.{Place, Unmade, Away, At}
 use Rattle.spec_control.specs.Control.{place_of}
 use Rattle.control_held.specs.Moments.{left_by}
-use Rattle.control_rows.proofs.ListLemmas.{never}
+use Rattle.control_laws.proofs.ListLemmas.{never}
 use Rattle.ctl_holder.specs.Holding.{is_state}
 use Rattle.ctl_holder.specs.Turns.{state_before, turn_at, turned_over, turned_in, sealed_by}
 use Rattle.open_laws.specs.Ways.{TurnsAreSo}

@@ -14,16 +14,16 @@ use Rattle.spec_control.specs.Rows.{Rows, PairRow, no_pair, pair, end_place, pai
 use Rattle.spec_control.specs.Control.{Control, is_end, place_of}
 use Rattle.spec_control.specs.After.{after}
 use Rattle.spec_control.specs.ControlRun.{Fits}
-use Rattle.control_rows.proofs.ListLemmas.{never}
-use Rattle.control_rows.proofs.RowLemmas.{pair_there}
+use Rattle.control_laws.proofs.ListLemmas.{never}
+use Rattle.control_laws.proofs.RowLemmas.{pair_there}
 use Rattle.control_laws.specs.Kept.{Kept}
-use Rattle.control_moves.specs.Move.{Move, LinkMoves, EndMoves, ObjectEnds, ObjectMade, PairDrawn, LetterPut, move_rows, move_boxes, is_named, Leads}
-use Rattle.control_moves.specs.OwnMoves.{own_moves, having_taken}
-use Rattle.control_moves.proofs.SoundLemmas.{Sound, sound_of, sound_move}
-use Rattle.control_moves.proofs.WeighLemmas.{taken_rows}
-use Rattle.control_moves.proofs.EventGoLemmas.{event_goes}
-use Rattle.control_attached.proofs.MoveLemmas.{place_in, is_at, attached_at, move_stays, move_many, opens_joins, binds_joins}
-use Rattle.control_attached.proofs.LeadLemmas.{attached_by, attached_own}
+use Rattle.control_laws.specs.Move.{Move, LinkMoves, EndMoves, ObjectEnds, ObjectMade, PairDrawn, LetterPut, move_rows, move_boxes, is_named, Leads}
+use Rattle.control_laws.specs.OwnMoves.{own_moves, having_taken}
+use Rattle.control_laws.proofs.SoundLemmas.{Sound, sound_of, sound_move}
+use Rattle.control_laws.proofs.WeighLemmas.{taken_rows}
+use Rattle.control_laws.proofs.EventGoLemmas.{event_goes}
+use Rattle.control_laws.proofs.MoveLemmas.{place_in, is_at, attached_at, move_stays, move_many, opens_joins, binds_joins}
+use Rattle.control_laws.proofs.LeadLemmas.{attached_by, attached_own}
 use Rattle.spec_run.specs.OpenSocket.{awaits_delimiter}
 use Rattle.open_laws.proofs.StepLemmas.{term_at, term_in, Back, same_place, move_back}
 

@@ -7,7 +7,7 @@ use Rattle.spec_pattern.specs.PipeStep.{same_pipe}
 use Rattle.spec_pattern.specs.Pattern.{Pattern, attach_as, detach}
 use Rattle.spec_control.specs.Control.{is_end}
 use Rattle.pattern_laws.specs.Peers.{kept_ends, listed_peers, KeepsPeers}
-use Rattle.control_attached.specs.Once.{AreOnce}
+use Rattle.control_laws.specs.AttachedOnce.{AreOnce}
 use Rattle.spec_run.specs.OpenSocket.{OpenSock, had_out}
 
 -- an end is none of those that a socket keeps

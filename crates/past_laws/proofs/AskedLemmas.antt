@@ -16,11 +16,11 @@ use Rattle.spec_control.specs.Place.{Place, Unmade, Away, At}
 use Rattle.spec_control.specs.Rows.{Rows, Step, makes_object, draws_pair, opens_pair, link_moves, pair_moves, object_ends, pair, end_place}
 use Rattle.spec_control.specs.Control.{Control, begun, is_end, next_pair, place_of}
 use Rattle.spec_control.specs.ControlRun.{after_all, after_item, FitsItem, IsControlRun}
-use Rattle.control_rows.specs.EndStep.{EndStep, stays, awaits, attaches, lives, EndsLiveByTheTable}
-use Rattle.control_rows.specs.Reached.{IsReached, goes_on}
+use Rattle.control_laws.specs.EndStep.{EndStep, stays, awaits, attaches, lives, EndsLiveByTheTable}
+use Rattle.control_laws.specs.Reached.{IsReached, goes_on}
 use Rattle.control_laws.proofs.AskLemmas.{end_self, same_end}
-use Rattle.control_moves.specs.Steps.{Steps, no_step, one_more, EventsAreSteps}
-use Rattle.control_attached.specs.Once.{AreOnce, AttachedOnce}
+use Rattle.control_laws.specs.Steps.{Steps, no_step, one_more, EventsAreSteps}
+use Rattle.control_laws.specs.AttachedOnce.{AreOnce, AttachedOnce}
 use Rattle.control_held.specs.Moments.{Moment, left_by, moments_from}
 use Rattle.ctl_holder.specs.Turns.{turned_in}
 use Rattle.ctl_holder.proofs.TurnsLemmas.{seal_append}

@@ -6,7 +6,7 @@ use Rattle.spec_pattern.specs.PipeStep.{PipeStep}
 use Rattle.spec_control.specs.Control.{begun}
 use Rattle.spec_control.specs.ControlRun.{after_all}
 use Rattle.control_held.specs.Moments.{moments_from}
-use Rattle.core_stands.specs.Standing.{PastStands}
+use Rattle.core_laws.specs.Standing.{PastStands}
 use Rattle.past_laws.specs.Changes.{ChangesGoOn}
 use Rattle.past_laws.specs.Said.{StepsAreSaid}
 use Rattle.past_laws.specs.Asked.{WereAsked, EndsAreSealedOnce}

@@ -23,7 +23,7 @@ use Rattle.held_ends.specs.Changes.{IsPlaced, MadeWith, SealedBy, PartedBy, Sett
 use Rattle.zq_world.proofs.RiseLemmas.{all_both}
 use Rattle.core_laws.specs.Past.{HasNoStep, goes_with, PastGoesOn, PastStaysOver}
 use Rattle.core_laws.proofs.SideLemmas.{begun_is, grows}
-use Rattle.core_stands.specs.Standing.{unless_settled, goes_in}
+use Rattle.core_laws.specs.Standing.{unless_settled, goes_in}
 use Rattle.past_laws.specs.Changes.{delimited_in, IsOfPipes, IsPlaceNamed, ArePlacesNamed, AreChangesNamed, IsMade, NamesGoOn, ChangesGoOn}
 use Rattle.past_laws.proofs.SettledLemmas.{settled_stay}
 

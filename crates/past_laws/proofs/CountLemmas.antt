@@ -22,7 +22,7 @@ use Rattle.spec_control.specs.Control.{Control, Settlement, happens, place_of, c
 use Rattle.spec_control.specs.After.{Answers, answers_in, settle, processed, without_front, after}
 use Rattle.spec_control.specs.ControlRun.{FitsItem, Fits, Settles, after_item}
 use Rattle.control_laws.proofs.AskLemmas.{end_self}
-use Rattle.control_moves.proofs.FateLemmas.{answered_same, processed_same, happens_same, try_end_same}
+use Rattle.control_laws.proofs.FateLemmas.{answered_same, processed_same, happens_same, try_end_same}
 use Rattle.spec_run.specs.OwnedRun.{AreCountedBy}
 use Rattle.core_laws.proofs.CountedLemmas.{counts_go_on}
 

@@ -20,16 +20,16 @@ use Rattle.spec_control.specs.After.{Answers, answers_in, settle, processed, wit
 use Rattle.spec_control.specs.ControlRun.{after_all, after_item, Fits, FitsItem, IsControlRun}
 use Rattle.control_laws.proofs.AskLemmas.{same_end}
 use Rattle.control_laws.proofs.HearLemmas.{end_moved}
-use Rattle.control_moves.specs.Met.{NeverCellsAreNotMet}
-use Rattle.control_moves.proofs.FateLemmas.{answered_same, processed_same, happens_same, try_end_same}
+use Rattle.control_laws.specs.Met.{NeverCellsAreNotMet}
+use Rattle.control_laws.proofs.FateLemmas.{answered_same, processed_same, happens_same, try_end_same}
 use Rattle.past_laws.specs.Asked.{asked_rank}
 use Rattle.past_laws.specs.Settled.{SettledEndsAreGone}
 use Rattle.past_laws.proofs.AskedLemmas.{Led, led_more, Went, went}
-use Rattle.control_rows.proofs.ListLemmas.{placed}
-use Rattle.control_moves.specs.Met.{NeverMeets, met_by}
-use Rattle.control_rows.specs.EndStep.{EndsLiveByTheTable}
-use Rattle.control_moves.specs.Steps.{EventsAreSteps}
-use Rattle.control_attached.specs.Once.{AttachedOnce}
+use Rattle.control_laws.proofs.ListLemmas.{placed}
+use Rattle.control_laws.specs.Met.{NeverMeets, met_by}
+use Rattle.control_laws.specs.EndStep.{EndsLiveByTheTable}
+use Rattle.control_laws.specs.Steps.{EventsAreSteps}
+use Rattle.control_laws.specs.AttachedOnce.{AttachedOnce}
 use Rattle.run_laws.specs.SealsTold.{SealsAreTold}
 use Rattle.spec_control.specs.Rows.{no_pair}
 use Rattle.std.specs.Prelude.{not, length, slice_index_or}

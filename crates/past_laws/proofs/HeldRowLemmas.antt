@@ -11,7 +11,7 @@ use Rattle.spec_control.specs.ControlRun.{after_all}
 use Rattle.held_ends.specs.declared.table.Place.{Place}
 use Rattle.held_ends.specs.Places.{place_at}
 use Rattle.held_ends.specs.Sound.{StandsSo, WritesSo, IsSound}
-use Rattle.core_stands.specs.Standing.{goes_in}
+use Rattle.core_laws.specs.Standing.{goes_in}
 use Rattle.past_laws.specs.HeldRows.{HeldRowsAreNamed}
 use Rattle.past_laws.specs.Settled.{PipesAreSettled}
 use Rattle.past_laws.proofs.ChangeLemmas.{Stood, stood, goes_so}

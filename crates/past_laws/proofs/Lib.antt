@@ -1,3 +1,9 @@
+mod ReasonLemmas
+mod SettlingLemmas
+pub mod NamesLemmas
+pub mod HoldLemmas
+pub mod PlaceLemmas
+pub mod OwnQuietLemmas
 pub mod SettledLemmas
 pub mod ChangeLemmas
 pub mod SealLemmas

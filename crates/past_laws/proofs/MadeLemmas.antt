@@ -21,11 +21,11 @@ use Rattle.spec_control.specs.After.{answers_in}
 use Rattle.spec_control.specs.ControlRun.{Joins, Fits, FitsItem, after_all, after_item, all_pipes, request_joins, unless_refused}
 use Rattle.spec_control.specs.Names.{name_in, name_of, named_in, joined_in, IsTold}
 use Rattle.control_laws.proofs.AskLemmas.{same_end}
-use Rattle.control_moves.proofs.FateLemmas.{answered_same}
+use Rattle.control_laws.proofs.FateLemmas.{answered_same}
 use Rattle.ctl_holder.specs.Making.{IsMadeFor}
 use Rattle.held_ends.specs.Changes.{made_last, AreMadeFor}
 use Rattle.spec_run.specs.OwnedRun.{settlement_of, pipe_capacity}
-use Rattle.own_laws.specs.Hold.{is_done, MadePipesHold}
+use Rattle.past_laws.specs.Hold.{is_done, MadePipesHold}
 use Rattle.past_laws.specs.Changes.{IsMade}
 use Rattle.past_laws.specs.Made.{AreMadeAll, MadeNamesGoOn}
 use native.Mathlib.Bridge.{le_prop}

@@ -15,7 +15,7 @@ use Rattle.run_laws.specs.CapacitiesStay.{pipe_at}
 use Rattle.zq_world.proofs.RiseLemmas.{all_both}
 use Rattle.core_laws.specs.Rows.{AreRowsAt, StepsAreAtRows}
 use Rattle.core_laws.specs.Sides.{step_end, AreAtEnds}
-use Rattle.core_stands.specs.Standing.{goes_in}
+use Rattle.core_laws.specs.Standing.{goes_in}
 use Rattle.past_laws.specs.Messages.{AreOwned, MessagesGoOn}
 use Rattle.past_laws.proofs.ChangeLemmas.{goes_said}
 

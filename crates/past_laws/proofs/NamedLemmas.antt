@@ -14,9 +14,9 @@ use Rattle.spec_control.specs.After.{after}
 use Rattle.spec_control.specs.ControlRun.{Joins, Fits, IsControlRun, after_all, all_pipes, answer_of, opened_in, request_joins, unless_refused}
 use Rattle.spec_control.specs.Names.{name_in, named_in}
 use Rattle.control_laws.proofs.AskLemmas.{same_end}
-use Rattle.control_attached.proofs.AttachedLemmas.{ends_of_joins, asked_ends}
-use Rattle.control_attached.proofs.LeadLemmas.{New, attached_by, new_ends}
-use Rattle.control_moves.specs.OwnMoves.{own_moves}
+use Rattle.control_laws.proofs.AttachedLemmas.{ends_of_joins, asked_ends}
+use Rattle.control_laws.proofs.LeadLemmas.{New, attached_by, new_ends}
+use Rattle.control_laws.specs.OwnMoves.{own_moves}
 use Rattle.core_laws.proofs.SideLemmas.{IsKept, begun_is, grows}
 use Rattle.past_laws.specs.Named.{NamesAreMade}
 use Rattle.past_laws.proofs.MadeLemmas.{name_more, named_any}

@@ -25,8 +25,8 @@ use Rattle.held_ends.specs.declared.changes.PipeChange.{PipeChange}
 use Rattle.held_ends.specs.declared.changes.PipeChange.TheVariants.{Kept, Made, Sealed, SealedAgain, Parted, Settled}
 use Rattle.held_ends.specs.Changes.{IsPlaced, PartedBy, sealings_in, DoesChanges, WereHeld}
 use Rattle.past_laws.specs.Changes.{IsOfPipes}
-use Rattle.own_laws.specs.Ends.{is_new, PlacesGoOn}
-use Rattle.own_laws.proofs.PlaceLemmas.{run_on, led_on}
+use Rattle.past_laws.specs.Ends.{is_new, PlacesGoOn}
+use Rattle.past_laws.proofs.PlaceLemmas.{run_on, led_on}
 use Rattle.past_laws.specs.OfPipes.{AreHeldSince, ChangesAreOfPipes}
 use Rattle.past_laws.specs.Said.{sealed_with}
 use Rattle.past_laws.specs.Settled.{writes_on, PipesAreSettled}

@@ -14,7 +14,7 @@ use Rattle.spec_control.specs.declared.entry.Item.TheVariants.{Event, Seen}
 use Rattle.spec_control.specs.Control.{Control, Settlement, is_end, happens, try_end}
 use Rattle.spec_control.specs.After.{Answers, answers_in, settle, processed, without_front, after}
 use Rattle.spec_control.specs.ControlRun.{after_all}
-use Rattle.control_moves.proofs.FateLemmas.{answered_same, processed_same, happens_same, try_end_same}
+use Rattle.control_laws.proofs.FateLemmas.{answered_same, processed_same, happens_same, try_end_same}
 use Rattle.spec_run.specs.OwnedRun.{settlement_of}
 
 -- what is not settled was not settled before

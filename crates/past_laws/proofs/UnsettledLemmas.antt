@@ -12,8 +12,8 @@ use Rattle.spec_control.specs.PairPhase.{Phase, Drawn, Opened, OpenedAsked, Open
 use Rattle.spec_control.specs.Rows.{PairRow, IsInPhase, pair, end_place}
 use Rattle.spec_control.specs.Control.{Settlement, begun, is_end, next_pair, place_of}
 use Rattle.spec_control.specs.ControlRun.{after_all, IsControlRun}
-use Rattle.control_rows.proofs.RowLemmas.{holds}
-use Rattle.control_counts.specs.Once.{CommandsComeOnce}
+use Rattle.control_laws.proofs.RowLemmas.{holds}
+use Rattle.control_laws.specs.Once.{CommandsComeOnce}
 use Rattle.spec_run.specs.OwnedRun.{settlement_of}
 use Rattle.core_laws.proofs.CountedLemmas.{other_twice}
 use Rattle.core_laws.proofs.SideLemmas.{begun_is, grows}

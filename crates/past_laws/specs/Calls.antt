@@ -15,7 +15,7 @@ use Rattle.held_ends.specs.declared.changes.PipeChange.{PipeChange}
 use Rattle.held_ends.specs.Changes.{sealings_in, DoesChanges}
 use Rattle.held_ends.specs.declared.table.Place.{Place}
 use Rattle.sock_core.specs.Noted.{TellsSeals}
-use Rattle.core_stands.specs.Standing.{PastStands}
+use Rattle.core_laws.specs.Standing.{PastStands}
 use Rattle.past_laws.specs.Changes.{IsOfPipes, AreChangesNamed, NamesGoOn}
 use Rattle.past_laws.specs.Said.{sealed_with}
 use Rattle.past_laws.specs.Asked.{WereAsked}

@@ -16,7 +16,7 @@ use Rattle.held_ends.specs.declared.changes.PipeChange.TheVariants.{Kept, Made, 
 use Rattle.held_ends.specs.Changes.{sealings_in, made_last, DoesChanges}
 use Rattle.sock_core.specs.Came.{AreChangedAt}
 use Rattle.sock_core.specs.Noted.{TellsSeals}
-use Rattle.core_stands.specs.Standing.{PastStands}
+use Rattle.core_laws.specs.Standing.{PastStands}
 
 -- ---- what was done to the pipes
 

@@ -10,8 +10,8 @@ use Rattle.spec_control.specs.ControlRun.{after_all, IsControlRun}
 use Rattle.spec_run.specs.OwnedRun.{pipe_capacity}
 use Rattle.held_ends.specs.declared.table.Place.{Place}
 use Rattle.held_ends.specs.Sound.{IsSound}
-use Rattle.core_stands.specs.Standing.{goes_in}
-use Rattle.own_laws.specs.Ends.{AreHeldFor}
+use Rattle.core_laws.specs.Standing.{goes_in}
+use Rattle.past_laws.specs.Ends.{AreHeldFor}
 use Rattle.past_laws.specs.Messages.{AreOwned}
 
 -- after a control run the halves in the rows of such places are of pipes that go by their names, and the rows are of ends of the object

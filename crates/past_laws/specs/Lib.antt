@@ -1,3 +1,9 @@
+pub mod Settling
+pub mod Names
+pub mod Hold
+pub mod Ends
+pub mod Places
+pub mod OwnQuiet
 pub mod Changes
 pub mod Messages
 pub mod Said

@@ -11,7 +11,7 @@ use Rattle.spec_control.specs.Control.{Control, next_pair, owner_of}
 use Rattle.spec_run.specs.OwnedRun.{pipe_capacity}
 use Rattle.spec_run.specs.SocketCall.{step_acts}
 use Rattle.core_laws.specs.Sides.{AreAtEnds}
-use Rattle.core_stands.specs.Standing.{goes_in, PastStands}
+use Rattle.core_laws.specs.Standing.{goes_in, PastStands}
 
 -- each end of these rows is one of this object
 abbrev pub AreOwned : {O I : Type 0} → Control → ℕ → Rows O I → Type 0

@@ -12,7 +12,7 @@ use Rattle.held_ends.specs.declared.changes.PipeChange.{PipeChange}
 use Rattle.held_ends.specs.Changes.{sealings_in, DoesChanges, WereHeld}
 use Rattle.sock_core.specs.Came.{AreChangedAt}
 use Rattle.sock_core.specs.Noted.{TellsSeals}
-use Rattle.own_laws.specs.Ends.{PlacesGoOn}
+use Rattle.past_laws.specs.Ends.{PlacesGoOn}
 use Rattle.past_laws.specs.Changes.{IsOfPipes}
 use Rattle.past_laws.specs.Said.{sealed_with}
 

@@ -11,14 +11,14 @@ ghost use Rattle.past_laws.specs.Quiet.{QuietCallsGoOn};
 ghost use Rattle.past_laws.specs.Said.{StepsAreSaid};
 ghost use Rattle.past_laws.specs.Settled.{PipesAreSettled, SettledEndsAreGone};
 
-use control_attached::ends_are_attached_once;
-use control_counts::commands_come_once;
-use control_moves::{each_event_is_made_of_steps, no_never_cell_is_met};
-use control_rows::each_step_moves_ends_by_the_table;
+use crate::made_pipes_hold;
+use control_laws::{
+    commands_come_once, each_event_is_made_of_steps, each_step_moves_ends_by_the_table,
+    ends_are_attached_once, no_never_cell_is_met,
+};
 use core_laws::{past_goes_on, past_stays_over_control, steps_are_at_rows};
 use ends::calls_are_read_exactly;
 use msg_pipe::Pipes;
-use own_laws::made_pipes_hold;
 use run_laws::seals_are_told;
 
 /// Where looks are exact, the steps past go on over calls of a socket on the control plane, with a step for

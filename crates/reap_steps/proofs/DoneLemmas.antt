@@ -36,8 +36,8 @@ use Rattle.ctl_history.specs.Past.{control_of, Past}
 use Rattle.ctl_plane.specs.declared.delivery.Delivery.{Delivery}
 use Rattle.ctl_plane.specs.declared.delivery.Delivery.TheVariants.{Done, Empty}
 use Rattle.core_laws.specs.Sides.{is_shut, AreAtEnds}
-use Rattle.core_stands.specs.Standing.{opens_in}
-use Rattle.core_stands.proofs.AsideLemmas.{said_alone}
+use Rattle.core_laws.specs.Standing.{opens_in}
+use Rattle.core_laws.proofs.AsideLemmas.{said_alone}
 use Rattle.one_desk.specs.Lent.{moments_of, GrowsBy, IsOneOrder, Lent}
 use Rattle.one_desk.specs.Reaping.{FindsFirst}
 use Rattle.one_desk.specs.Waiting.{HearsAt}

@@ -9,7 +9,7 @@ use Rattle.spec_control.specs.declared.entry.Did.TheVariants.{Asked, Delivered, 
 use Rattle.spec_control.specs.declared.entry.Item.{Item}
 use Rattle.spec_control.specs.declared.entry.Item.TheVariants.{Event, Seen}
 use Rattle.spec_control.specs.Control.{Control}
-use Rattle.control_rows.proofs.ListLemmas.{never}
+use Rattle.control_laws.proofs.ListLemmas.{never}
 use Rattle.control_held.specs.Moments.{Moment, moments_from}
 use Rattle.spec_run.specs.Act.{Act, steps_in}
 use Rattle.spec_run.specs.Event.{acts_said}

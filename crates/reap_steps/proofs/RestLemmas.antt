@@ -28,7 +28,7 @@ use Rattle.ctl_plane.specs.Desk.{counts_with, CountsWith, HasWhatTheySay}
 use Rattle.ctl_plane.specs.declared.delivery.Delivery.{Delivery}
 use Rattle.ctl_plane.specs.declared.delivery.Delivery.TheVariants.{Done, Empty}
 use Rattle.core_laws.specs.Sides.{is_shut, AreAtEnds, SidesStandOn}
-use Rattle.core_stands.specs.Standing.{opens_in}
+use Rattle.core_laws.specs.Standing.{opens_in}
 use Rattle.one_desk.specs.Lent.{moments_of, IsOneOrder, Lent}
 use Rattle.one_desk.specs.Reaping.{FindsFirst}
 use Rattle.one_desk.specs.Waiting.{HearsAt}

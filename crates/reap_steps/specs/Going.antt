@@ -14,7 +14,7 @@ use Rattle.sock_core.specs.declared.sock.SockCore.{SockCore}
 use Rattle.ctl_holder.specs.TakingOver.{AreGivenWith}
 use Rattle.ctl_history.specs.Past.{control_of}
 use Rattle.ctl_plane.specs.Desk.{HasWhatTheySay}
-use Rattle.name_laws.specs.Names.{NamesStand}
+use Rattle.past_laws.specs.Names.{NamesStand}
 use Rattle.open_laws.specs.Bounds.{TellIdentities}
 use Rattle.one_desk.specs.Lent.{moments_of}
 use Rattle.core_others.specs.Agrees.{AgreesIn}

@@ -7,7 +7,6 @@ pub mod SoundLemmas
 pub mod JoinLemmas
 pub mod AddLemmas
 pub mod TakeLemmas
-pub mod CountLemmas
 pub mod PlaceLemmas
 pub mod IndexLemmas
 pub mod NotedLemmas

@@ -10,6 +10,7 @@ use Rattle.ctl_holder.specs.declared.halves.Halves.{Halves}
 use Rattle.ctl_holder.specs.Holding.{joining_with}
 use Rattle.held_ends.specs.declared.table.Place.{Place}
 use Rattle.sock_core.specs.Standing.{standing_joins}
+pub use Rattle.given_ends.specs.Placing.{given_joined, place_given}
 use Rattle.reaper_ends.specs.declared.sockets.ClosedSocket.{ClosedSocket}
 use Rattle.reaper_ends.specs.declared.sockets.ClosedSockets.{ClosedSockets}
 use Rattle.reaper_ends.specs.Has.{is_socket, is_of}
@@ -75,26 +76,7 @@ module _ {N O I : Type 0} where
     pub came : new.came.items ≡ old.came.items
     pub joins : new.joins.items ≡ old.joins.items
 
-  -- an end that joins with these halves
-  abbrev pub given_joined : (out_name : O → N) → EndId → Halves O I → Given N O I
-  given_joined out_name e h = record { end = e; written = out_name h.out; out = Some h.out; input = h.input; met = false; sealed = false; state = Active }
-
-  -- an end as it comes, at a place of its own; and as that is noted
-  abbrev pub place_given : (in_name : I → N) → Given N O I → Place N I
-  place_given in_name g = record {
-    end = g.end;
-    written = g.written;
-    read = in_name g.input;
-    state = g.state;
-    held = true;
-    writes = is_some g.out;
-    sealed = g.sealed;
-    met = g.met;
-    peer = false;
-    dropped = 0;
-    input = None;
-  }
-
+  -- an end as it comes, as that is noted
   abbrev pub came_given : (in_name : I → N) → Given N O I → Place N I × Unit {0}
   came_given in_name g = (place_given in_name g, tt)
 

@@ -1,8 +1,8 @@
+pub use Rattle.given_ends.specs.Ending
 pub mod Has
 pub mod Counting
 pub mod Finding
 pub mod Sound
-pub mod Ending
 pub mod Others
 pub mod Mixed
 pub mod Noted

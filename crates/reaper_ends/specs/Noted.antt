@@ -14,6 +14,7 @@ use Rattle.held_ends.specs.Others.{KeepsPlaces}
 use Rattle.held_ends.specs.Changes.{sealing_of, sealings_in, DoesChange, DoesChanges}
 use Rattle.sock_core.specs.Noted.{were_told, WereRead}
 use Rattle.reaper_ends.specs.declared.sockets.ClosedSockets.{ClosedSockets}
+pub use Rattle.given_ends.specs.Once.{StoodAt, WroteAt, StoodFirst, ChangesOnce}
 use Rattle.reaper_ends.specs.Finding.{place_given}
 use Rattle.reaper_ends.specs.Has.{all_ends}
 use Rattle.reaper_ends.specs.Mixed.{AreMixed}
@@ -42,27 +43,6 @@ module _ {N I : Type 0} where
   sealed_ends [] = []
   sealed_ends (p ∷ ps) = if p.sealed then p.end ∷ sealed_ends ps else sealed_ends ps
 
-  -- an end stood at the place; and so with its writing half
-  pub record StoodAt (ps : List (Place N I)) (k : ℕ) : Type 0 where
-    pub place : Place N I
-    pub there : place_at ps k ≡ Some place
-    pub held : place.held ≡ true
-
-  pub record WroteAt (ps : List (Place N I)) (k : ℕ) : Type 0 where
-    pub place : Place N I
-    pub there : place_at ps k ≡ Some place
-    pub held : place.held ≡ true
-    pub writes : place.writes ≡ true
-
-  -- no pipe was made; what was done to one was done to that of an end that stood there, with its writing half where that was lent
-  abbrev pub StoodFirst : {O : Type 0} → List (Place N I) → PipeChange O I → Type 0
-  StoodFirst ps Kept = Unit {0}
-  StoodFirst ps (Made e capacity halves) = ⊥
-  StoodFirst ps (Sealed k e half) = WroteAt ps k
-  StoodFirst ps (SealedAgain k e) = WroteAt ps k
-  StoodFirst ps (Parted k e half) = WroteAt ps k
-  StoodFirst ps (Settled k e) = StoodAt ps k
-
 module _ {N O I : Type 0} (in_name : I → N) where
   -- an end, and whether its writing half is there
   abbrev pub standing_of : Given N O I → Held N × Bool
@@ -71,14 +51,6 @@ module _ {N O I : Type 0} (in_name : I → N) where
   -- the places of the ends with which a stretch began, and behind them of those that came since, as they were then
   abbrev pub first_places : ClosedSockets N O I → List (Place N I × Unit {0}) → List (Place N I)
   first_places from came = map (place_given in_name) (all_ends from.sockets.items) ++ map (λ x. x.0) came
-
--- one change of the pipe of an end was noted, with the end at the only place; of what was to be sealed this
-pub record ChangesOnce {N O I S : Type 0} (K : Known S O I N) (p : Place N I) (sealings : List (EndId × Bool)) (xs : List (PipeChange O I × S)) (old : S) (ys : List (PipeChange O I × S)) (new : S) : Type 0 where
-  pub change : PipeChange O I
-  pub noted : ys ≡ xs ++ (change, new) ∷ []
-  pub does : DoesChange K (p ∷ []) change old new
-  pub wrote : StoodFirst (p ∷ []) change
-  pub sealings_are : sealing_of change ≡ sealings
 
 -- Since a stretch of calls began with these pipes and ends these changes were made, each at the place of its end. The ends that the reaper has are those whose places are held still; each pipe that was settled was read by one that is held no more; and each end that is sealed came so or was to be sealed since.
 pub record HasDoneTo {N O I S : Type 0} (K : Known S O I N) (first : S) (from : ClosedSockets N O I) (changes : List (PipeChange O I × S)) (now : S) (to : ClosedSockets N O I) : Type 0 where

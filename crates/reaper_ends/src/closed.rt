@@ -5,12 +5,12 @@ ghost use Rattle.reaper_ends.specs.Noted.{HasDoneTo};
 ghost use Rattle.reaper_ends.specs.Others.{Leaves};
 ghost use Rattle.reaper_ends.specs.Sound.{AreSound};
 
-use crate::ending::{look, seal, settle, turn, yield_out};
 use crate::sockets::{
     ClosedSockets, add, find, find_socket, join, make_room, none, note_heard, take_out,
 };
 use crate::stretch::Stretch;
 use ctl_holder::{Given, Halves, Holder, Made, Notice, Parting};
+use given_ends::{look, seal, settle, turn, yield_out};
 use held_ends::{HeldPipes, PipeChange};
 use http_server::Log;
 use msg_pipe::Front;

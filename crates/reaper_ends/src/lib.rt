@@ -4,7 +4,6 @@
 #![tactic(auto)]
 
 mod closed;
-mod ending;
 mod laws;
 mod reading;
 mod sockets;

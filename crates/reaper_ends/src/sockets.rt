@@ -6,10 +6,10 @@ ghost use Rattle.reaper_ends.specs.Has.{ends_of, is_of, is_socket};
 ghost use Rattle.zq_base.specs.declared.attached.Attached.TheVariants.{Yes};
 ghost use Rattle.sock_core.specs.Standing.{joining_as, standing_joins};
 ghost use Rattle.reaper_ends.specs.Finding.{AreIndexed, FindsEnd, HasRoom, IsFirst, KeepsEnds, KeepsNotes};
-ghost use Rattle.reaper_ends.specs.Finding.{AddsNone, AddsOne, AreTwoByTwo, came_given, given_joined, place_given};
+ghost use Rattle.reaper_ends.specs.Finding.{AddsNone, AddsOne, AreTwoByTwo, came_given};
 
-use crate::ending::halves_of;
 use ctl_holder::{Given, Halves, Notice};
+use given_ends::{halves_of, joined, keep_place, noted_as};
 use held_ends::{HeldPipes, Place};
 use http_server::Log;
 use indexmap::IndexMap;
@@ -74,7 +74,7 @@ pub fn make_room<N, O, I>(closed: &mut ClosedSockets<N, O, I>) -> Result<(), All
     ensures room { OnOk result (HasRoom closed.new) }
 {
     closed.sockets.reserve(1)?;
-    closed.places.reserve(1)
+    keep_place(&mut closed.places)
 }
 
 /// Where an end of a closed socket stands, if the socket has it: its socket's place, and its own among
@@ -194,25 +194,6 @@ where
     }
 }
 
-// An end as it comes, at a place of its own.
-fn noted_as<P: HeldPipes>(end: &Given<P::Name, P::Out, P::In>) -> Place<P::Name, P::In>
-    ensures { result ≡ place_given P.known.in_name end.now }
-{
-    Place {
-        end: end.end,
-        written: P::same_name(&end.written),
-        read: P::reads(&end.input),
-        state: end.state,
-        held: true,
-        writes: end.out.is_some(),
-        sealed: end.sealed,
-        met: end.met,
-        peer: false,
-        dropped: 0,
-        input: None,
-    }
-}
-
 /// Where a closed socket stands, if it is one.
 pub(crate) fn find_socket<N, O, I>(closed: &ClosedSockets<N, O, I>, number: ObjId) -> Option<usize>
     requires indexed { AreIndexed closed.now }
@@ -272,23 +253,6 @@ fn joint_of<P: HeldPipes>(end: EndId, halves: &Halves<P::Out, P::In>) -> Joint<P
         place: 0,
         written: P::name(&halves.out),
         read: P::reads(&halves.input),
-    }
-}
-
-// An end that joins with these halves.
-fn joined<P: HeldPipes>(end: EndId, halves: Halves<P::Out, P::In>) -> Given<P::Name, P::Out, P::In>
-    ensures { result ≡ given_joined P.known.out_name end halves }
-{
-    let Halves { out, input } = halves;
-    let written = P::name(&out);
-    Given {
-        end,
-        written,
-        out: Some(out),
-        input,
-        met: false,
-        sealed: false,
-        state: EndState::Active,
     }
 }
 

@@ -24,20 +24,20 @@ use Rattle.spec_control.specs.Control.{Control, place_of, owner_of, ends_of}
 use Rattle.zq_base.specs.declared.attached.Attached.TheVariants.{Yes}
 use Rattle.spec_control.specs.After.{kind_answer, after}
 use Rattle.spec_control.specs.ControlRun.{Fits, MayDeliver, LeavesOutput, Joins, joins_in, request_joins, word_joins, unless_refused, answer_of}
-use Rattle.control_rows.proofs.ListLemmas.{never}
-use Rattle.control_rows.proofs.StepLemmas.{inv_of}
+use Rattle.control_laws.proofs.ListLemmas.{never}
+use Rattle.control_laws.proofs.StepLemmas.{inv_of}
 use Rattle.control_laws.proofs.TellLemmas.{rows_of}
 use Rattle.control_laws.proofs.EndLemmas.{kept_but}
 use Rattle.control_laws.specs.Kept.{Kept}
 use Rattle.control_laws.specs.Laws.{IsForLiving}
 use Rattle.control_laws.proofs.RootLemmas.{runs_are_kept, delivered_to_living}
-use Rattle.control_moves.specs.Coming.{MayCome}
-use Rattle.control_moves.specs.OwnMoves.{own_moves, word_moves}
-use Rattle.control_moves.proofs.GuardLemmas.{oldest_may_come}
-use Rattle.control_attached.proofs.LeadLemmas.{attached_by}
-use Rattle.control_attached.proofs.AttachedLemmas.{asked_ends}
+use Rattle.control_laws.specs.Coming.{MayCome}
+use Rattle.control_laws.specs.OwnMoves.{own_moves, word_moves}
+use Rattle.control_laws.proofs.GuardLemmas.{oldest_may_come}
+use Rattle.control_laws.proofs.LeadLemmas.{attached_by}
+use Rattle.control_laws.proofs.AttachedLemmas.{asked_ends}
 use Rattle.control_held.specs.Has.{acts_in_request}
-use Rattle.control_others.specs.Spared.{touched_in}
+use Rattle.control_laws.specs.Spared.{touched_in}
 use Rattle.control_held.specs.Moments.{Moment, left_by}
 use Rattle.spec_run.specs.OpenSocket.{OpenSock, is_out, had_out, detach_all, attach_all, AreAnswered, stops, joins_of, sock_after}
 use Rattle.replay_laws.specs.Blank.{blank, AnswerAlike, AreAlike, asked, delivered}

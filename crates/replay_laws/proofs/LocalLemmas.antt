@@ -18,11 +18,11 @@ use Rattle.spec_control.specs.Row.{Row, nobody, is_session, is_listener}
 use Rattle.spec_control.specs.Control.{Control, begun, next_pair}
 use Rattle.spec_control.specs.After.{binding_by, socket_row, after}
 use Rattle.spec_control.specs.ControlRun.{unless_refused, after_all, IsControlRun}
-use Rattle.control_rows.proofs.ListLemmas.{never, Pushed, pushed, is_old, is_new}
+use Rattle.control_laws.proofs.ListLemmas.{never, Pushed, pushed, is_old, is_new}
 use Rattle.control_laws.specs.Kept.{Kept}
 use Rattle.control_laws.proofs.RootLemmas.{begun_kept}
 use Rattle.control_laws.proofs.RunLemmas.{after_kept}
-use Rattle.control_moves.specs.OwnMoves.{own_moves, request_moves}
+use Rattle.control_laws.specs.OwnMoves.{own_moves, request_moves}
 use Rattle.replay_laws.specs.Local.{is_local, is_local_did, is_local_item, LocalRunsHaveSocketsAlone}
 use Rattle.replay_laws.proofs.QuietLemmas.{IsQuiet, did_quiet}
 use Rattle.replay_laws.proofs.SlotLemmas.{Mark, mark, marks, mark_in, mark_of, marks_after, made, fulfils_none, connects_none, word_makes_none}

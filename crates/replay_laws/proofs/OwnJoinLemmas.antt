@@ -8,12 +8,12 @@ use Rattle.spec_control.specs.declared.entry.Did.{Did}
 use Rattle.spec_control.specs.Control.{Control, owner_of}
 use Rattle.spec_control.specs.After.{after}
 use Rattle.spec_control.specs.ControlRun.{Fits}
-use Rattle.control_attached.proofs.LeadLemmas.{attached_by}
-use Rattle.control_attached.proofs.AttachedLemmas.{attached_after}
-use Rattle.control_attached.proofs.OnceLemmas.{IsOld, AreOld, old_run}
-use Rattle.control_moves.specs.OwnMoves.{own_moves}
-use Rattle.control_others.specs.Spared.{Spared, touched_in}
-use Rattle.control_others.proofs.EventLemmas.{other_ends_stay}
+use Rattle.control_laws.proofs.LeadLemmas.{attached_by}
+use Rattle.control_laws.proofs.AttachedLemmas.{attached_after}
+use Rattle.control_laws.proofs.AttachedOnceLemmas.{IsOld, AreOld, old_run}
+use Rattle.control_laws.specs.OwnMoves.{own_moves}
+use Rattle.control_laws.specs.Spared.{Spared, touched_in}
+use Rattle.control_laws.proofs.EventLemmas.{other_ends_stay}
 use Rattle.replay_laws.proofs.WalkLemmas.{Reached}
 
 filter_on : {X : Type 0} (test : X → Bool) (xs ys : List X) → filter test (xs ++ ys) ≡ filter test xs ++ filter test ys

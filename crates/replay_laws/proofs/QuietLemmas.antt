@@ -35,7 +35,7 @@ use Rattle.spec_control.specs.Rows.{obj, is_owner, may_end}
 use Rattle.spec_control.specs.Control.{Control, with_value, with_end, id, end_of, next_object, next_pair, put, makes, draws, attach, open_pair, place_of, owner_of, ends_of, link, moved, tell_where, tell_children, stop_sockets, tell_other, commands_in, reason_in, happens, ask, ask_all, greet, tell_owner, finish, try_end}
 use Rattle.spec_control.specs.After.{Answers, answers_in, with_hold, named, binding_by, joins, fulfil_all, binds, connects_to, connects, session_row, tell_struck, strike_end, strikes, strikes_first, pair_or_none, uses_reason, requested, answered, settle, term_reason, term_delay, without_names, without_front, processed, after}
 use Rattle.spec_control.specs.ControlRun.{Fits}
-use Rattle.control_rows.proofs.ListLemmas.{never}
+use Rattle.control_laws.proofs.ListLemmas.{never}
 
 either : (b : Bool) (x y : Control) (o : ℕ → Bool) → x.output_left ≡ o → y.output_left ≡ o → (if b then x else y).output_left ≡ o
 either true x y o p q = p

@@ -17,9 +17,9 @@ use Rattle.spec_control.specs.Row.{Row, LinkEvent, OwnComes, PlugComes, IsTold, 
 use Rattle.spec_control.specs.Rows.{Rows, obj, Step, makes_object, draws_pair, opens_pair, link_moves, pair_moves, object_ends}
 use Rattle.spec_control.specs.Control.{Control, owner_of}
 use Rattle.spec_control.specs.ControlRun.{MayAnswer, MayAnswerAll}
-use Rattle.control_rows.proofs.ListLemmas.{never}
-use Rattle.control_rows.proofs.StepLemmas.{same_kind}
-use Rattle.control_moves.specs.Steps.{Steps, no_step, one_more}
+use Rattle.control_laws.proofs.ListLemmas.{never}
+use Rattle.control_laws.proofs.StepLemmas.{same_kind}
+use Rattle.control_laws.specs.Steps.{Steps, no_step, one_more}
 use Rattle.control_held.specs.OwnAsks.{is_none}
 use Rattle.control_held.specs.Moments.{first_waiting}
 use Rattle.replay_laws.specs.Mailboxes.{MayHaveBox, HaveBoxes}

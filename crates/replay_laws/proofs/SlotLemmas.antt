@@ -30,15 +30,15 @@ use Rattle.spec_control.specs.Rows.{Rows, obj}
 use Rattle.spec_control.specs.Control.{Control, begun, next_object, next_pair}
 use Rattle.spec_control.specs.After.{answers_in, answered, requested, binding_by, socket_row, listener_row, session_row, accepted_row, worker_slot, without_front, after}
 use Rattle.spec_control.specs.ControlRun.{Fits, MayAsk, unless_refused, after_all, IsControlRun}
-use Rattle.control_rows.proofs.ListLemmas.{never, Pushed, pushed, is_old, is_new}
-use Rattle.control_rows.proofs.StepLemmas.{same_kind, same_slot}
+use Rattle.control_laws.proofs.ListLemmas.{never, Pushed, pushed, is_old, is_new}
+use Rattle.control_laws.proofs.StepLemmas.{same_kind, same_slot}
 use Rattle.control_laws.specs.Kept.{Kept}
 use Rattle.control_laws.proofs.RootLemmas.{begun_kept}
 use Rattle.control_laws.proofs.RunLemmas.{after_kept}
-use Rattle.control_moves.specs.Move.{Move, LinkMoves, EndMoves, ObjectEnds, ObjectMade, PairDrawn, LetterPut, is_named, Leads}
-use Rattle.control_moves.specs.OwnMoves.{own_moves, word_moves, request_moves, fulfil_moves, connect_moves, having_taken}
-use Rattle.control_moves.proofs.WeighLemmas.{taken_rows}
-use Rattle.control_moves.proofs.EventGoLemmas.{event_goes}
+use Rattle.control_laws.specs.Move.{Move, LinkMoves, EndMoves, ObjectEnds, ObjectMade, PairDrawn, LetterPut, is_named, Leads}
+use Rattle.control_laws.specs.OwnMoves.{own_moves, word_moves, request_moves, fulfil_moves, connect_moves, having_taken}
+use Rattle.control_laws.proofs.WeighLemmas.{taken_rows}
+use Rattle.control_laws.proofs.EventGoLemmas.{event_goes}
 use Rattle.replay_laws.specs.Mailboxes.{MayHaveBox, HaveBoxes, SocketsHaveTheirBoxes}
 use Rattle.replay_laws.proofs.FrameLemmas.{boxes_made, closings, Requested, requested_framed, processed_framed, delimited_framed}
 

@@ -32,16 +32,16 @@ use Rattle.spec_control.specs.declared.entry.Item.TheVariants.{Event, Seen}
 use Rattle.spec_control.specs.Row.{is_socket}
 use Rattle.spec_control.specs.Rows.{obj}
 use Rattle.spec_control.specs.Control.{Control, is_end, owner_of}
-use Rattle.control_moves.specs.Coming.{MayCome}
+use Rattle.control_laws.specs.Coming.{MayCome}
 use Rattle.spec_control.specs.After.{after}
 use Rattle.spec_control.specs.ControlRun.{Fits, FitsItem, joins_in, answer_of, after_item}
-use Rattle.control_rows.proofs.ListLemmas.{never}
+use Rattle.control_laws.proofs.ListLemmas.{never}
 use Rattle.control_laws.proofs.AskLemmas.{same_end}
-use Rattle.control_moves.specs.OwnMoves.{own_moves}
-use Rattle.control_attached.specs.Once.{AreOnce}
-use Rattle.control_attached.proofs.LeadLemmas.{attached_by}
-use Rattle.control_attached.proofs.AttachedLemmas.{attached_after, asked_ends}
-use Rattle.control_attached.proofs.OnceLemmas.{ends_are_attached_once}
+use Rattle.control_laws.specs.OwnMoves.{own_moves}
+use Rattle.control_laws.specs.AttachedOnce.{AreOnce}
+use Rattle.control_laws.proofs.LeadLemmas.{attached_by}
+use Rattle.control_laws.proofs.AttachedLemmas.{attached_after, asked_ends}
+use Rattle.control_laws.proofs.AttachedOnceLemmas.{ends_are_attached_once}
 use Rattle.control_held.specs.Has.{acts_in_request}
 use Rattle.control_held.specs.Moments.{Moment}
 use Rattle.spec_run.specs.Act.{Act, Step, Said, moments_in}

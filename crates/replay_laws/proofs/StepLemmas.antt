@@ -26,11 +26,11 @@ use Rattle.spec_control.specs.Control.{Control}
 use Rattle.spec_control.specs.After.{after}
 use Rattle.spec_control.specs.Reply.{root_state}
 use Rattle.spec_control.specs.ControlRun.{Fits, FitsItem, IsSeen, AreEmpty, LeavesOutput, Joins, joins_in, after_item}
-use Rattle.control_rows.proofs.ListLemmas.{never}
-use Rattle.control_moves.specs.Steps.{Steps}
-use Rattle.control_moves.specs.OwnMoves.{own_moves}
-use Rattle.control_moves.proofs.StepsLemmas.{events_are_steps}
-use Rattle.control_attached.proofs.LeadLemmas.{attached_by}
+use Rattle.control_laws.proofs.ListLemmas.{never}
+use Rattle.control_laws.specs.Steps.{Steps}
+use Rattle.control_laws.specs.OwnMoves.{own_moves}
+use Rattle.control_laws.proofs.StepsLemmas.{events_are_steps}
+use Rattle.control_laws.proofs.LeadLemmas.{attached_by}
 use Rattle.control_held.specs.OwnAsks.{is_none}
 use Rattle.control_held.specs.Moments.{Moment, left_by, first_waiting}
 use Rattle.spec_run.specs.declared.journal.LineEntry.{LineEntry}

@@ -10,7 +10,7 @@ use Rattle.zq_base.specs.declared.options.Options.{Options}
 use Rattle.zq_script.specs.declared.script.Call.TheVariants as call
 use Rattle.spec_control.specs.declared.request.Reply.{Reply}
 use Rattle.spec_control.specs.declared.request.Reply.TheVariants.{Done, Object, Pair, Both, Wait, Asked, Before, Refused}
-use Rattle.control_rows.proofs.ListLemmas.{never}
+use Rattle.control_laws.proofs.ListLemmas.{never}
 use Rattle.control_held.specs.OwnAsks.{is_none}
 use Rattle.control_held.specs.Moments.{Moment}
 use Rattle.spec_run.specs.declared.line.LineCall.{LineCall}

@@ -2,13 +2,13 @@
 use Rattle.std.specs.Prelude.{◌≡◌, ◌<◌, ◌≤◌, ◌||◌, ℕ, Bool, true, false, List, [], ◌∷◌, ◌++◌, All, length, map, refl}
 use Rattle.std.proofs.Common.{arith, sym, ap, ◌∙◌, subst, append-nil}
 use Rattle.std.proofs.lemmas.List.Elements.{All-weaker, All-head, All-tail}
-use Rattle.control_rows.proofs.ListLemmas.{never}
+use Rattle.control_laws.proofs.ListLemmas.{never}
 use Rattle.control_laws.specs.Kept.{Kept}
 use Rattle.control_laws.proofs.AskLemmas.{same_end}
-use Rattle.control_moves.specs.Move.{Move, move_rows, move_boxes, Leads}
-use Rattle.control_moves.specs.OwnMoves.{having_taken}
-use Rattle.control_moves.proofs.WeighLemmas.{taken_rows}
-use Rattle.control_attached.proofs.MoveLemmas.{move_many}
+use Rattle.control_laws.specs.Move.{Move, move_rows, move_boxes, Leads}
+use Rattle.control_laws.specs.OwnMoves.{having_taken}
+use Rattle.control_laws.proofs.WeighLemmas.{taken_rows}
+use Rattle.control_laws.proofs.MoveLemmas.{move_many}
 use Rattle.spec_control.specs.declared.letter.Letter.{Letter}
 use Rattle.spec_control.specs.Rows.{Rows}
 use Rattle.std.specs.List.{list_any}
@@ -29,8 +29,8 @@ use Rattle.spec_control.specs.Reply.{root_asked}
 use Rattle.spec_control.specs.ControlRun.{Fits, FitsItem, after_item, after_all, IsControlRun}
 use Rattle.spec_run.specs.OwnedRun.{pipe_capacity}
 use Rattle.run_laws.specs.CapacitiesStay.{CapacitiesStay}
-use Rattle.control_moves.proofs.EventGoLemmas.{event_goes}
-use Rattle.control_attached.proofs.OnceLemmas.{IsOld}
+use Rattle.control_laws.proofs.EventGoLemmas.{event_goes}
+use Rattle.control_laws.proofs.AttachedOnceLemmas.{IsOld}
 use Rattle.control_held.specs.Moments.{Moment, left_by, items_in}
 use Rattle.spec_run.specs.Act.{Act, Step, Said, Try, steps_in, moments_in}
 use Rattle.spec_run.specs.OpenSocket.{OpenSock, can_write, waiting_ends, sock_after, PassesItems}

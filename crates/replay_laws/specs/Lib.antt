@@ -1,3 +1,14 @@
+pub mod TurnsAreEvents
+pub mod ChosenExample
+pub mod OneEventsJournal
+pub mod ScriptBounds
+pub mod ObjectsListed
+pub mod RowsListed
+pub mod JournalLaws
+pub mod LocalScript
+pub mod Resting
+pub mod DoneInTime
+pub mod WorkedTimes
 pub mod Blank
 pub mod Mailboxes
 pub mod OneJournal

@@ -14,11 +14,11 @@ use Rattle.spec_control.specs.Rows.{Rows, PairRow, no_pair, root_alone, obj, pai
 use Rattle.spec_control.specs.Control.{Control, begun, next_pair, owner_of}
 use Rattle.spec_control.specs.After.{after}
 use Rattle.spec_control.specs.ControlRun.{FitsItem, after_item, after_all, IsControlRun}
-use Rattle.control_rows.specs.Prompt.{HasShape}
-use Rattle.control_rows.proofs.ListLemmas.{placed}
+use Rattle.control_laws.specs.Prompt.{HasShape}
+use Rattle.control_laws.proofs.ListLemmas.{placed}
 use Rattle.control_laws.proofs.RootLemmas.{runs_are_kept}
-use Rattle.control_moves.specs.Steps.{Steps, no_step, one_more}
-use Rattle.control_moves.proofs.StepsLemmas.{events_are_steps}
+use Rattle.control_laws.specs.Steps.{Steps, no_step, one_more}
+use Rattle.control_laws.proofs.StepsLemmas.{events_are_steps}
 use Rattle.spec_run.specs.OwnedRun.{marks_by_sort, pipe_capacity}
 use Rattle.run_laws.specs.CapacitiesStay.{pipe_at}
 use Rattle.run_laws.proofs.OrderLemmas.{more_run, more_state}

@@ -13,17 +13,17 @@ use Rattle.spec_control.specs.Rows.{Rows, obj, pair, end_owner, Step, makes_obje
 use Rattle.spec_control.specs.Control.{Control, begun, place_of}
 use Rattle.spec_control.specs.ControlRun.{after_all, IsControlRun}
 use Rattle.spec_control.specs.Reply.{state_of, root_state}
-use Rattle.control_rows.specs.Reached.{IsReached, begins, goes_on}
-use Rattle.control_rows.proofs.ListLemmas.{never}
-use Rattle.control_rows.proofs.ClosedLemmas.{Inv}
-use Rattle.control_rows.proofs.RowLemmas.{all_is_over}
-use Rattle.control_rows.proofs.QuietLemmas.{socket_owner}
-use Rattle.control_rows.proofs.StepLemmas.{inv_of}
+use Rattle.control_laws.specs.Reached.{IsReached, begins, goes_on}
+use Rattle.control_laws.proofs.ListLemmas.{never}
+use Rattle.control_laws.proofs.ClosedLemmas.{Inv}
+use Rattle.control_laws.proofs.RowLemmas.{all_is_over}
+use Rattle.control_laws.proofs.QuietLemmas.{socket_owner}
+use Rattle.control_laws.proofs.StepLemmas.{inv_of}
 use Rattle.control_laws.specs.Kept.{Kept}
 use Rattle.control_laws.proofs.TellLemmas.{rows_of}
 use Rattle.control_laws.proofs.EndLemmas.{kept_but}
 use Rattle.control_laws.proofs.RootLemmas.{runs_are_kept}
-use Rattle.control_counts.proofs.OrderlyLemmas.{commands_come_once}
+use Rattle.control_laws.proofs.OrderlyLemmas.{commands_come_once}
 use Rattle.spec_run.specs.declared.journal.ObjectRow.{ObjectRow}
 use Rattle.spec_run.specs.InTurns.{is_ended}
 use Rattle.spec_run.specs.RunJournal.{object_shown}

@@ -23,7 +23,7 @@ use Rattle.spec_control.specs.Row.{LinkEvent, OwnComes, PlugComes, TermComes, As
 use Rattle.spec_control.specs.Rows.{obj}
 use Rattle.spec_control.specs.Control.{Control, id, end_of, with_value, next_object, next_pair, put, makes, draws, open_pair, owner_of, link, ends_of, tell_children, stop_sockets, happens, ask_all, attach}
 use Rattle.spec_control.specs.After.{Answers, with_hold, named, binding_by, socket_row, listener_row, session_row, accepted_row, pair_or_none, owner_or_root, without_names, term_reason, term_delay, settle, processed, uses_reason, requested, answered}
-use Rattle.control_rows.proofs.ListLemmas.{never}
+use Rattle.control_laws.proofs.ListLemmas.{never}
 use Rattle.spec_control.specs.declared.stage.Stage.{Stage}
 use Rattle.spec_control.specs.declared.stage.Stage.TheVariants.{Alive, Told, Ending, Cleared}
 use Rattle.spec_control.specs.declared.letter.Letter.{Letter}
@@ -33,7 +33,7 @@ use Rattle.spec_control.specs.Stage.{is_alive, is_finished}
 use Rattle.spec_control.specs.After.{answers_in, without_front, after}
 use Rattle.spec_control.specs.Reply.{reply_of, root_asked}
 use Rattle.spec_control.specs.ControlRun.{MayAsk, MayDeliver, Fits}
-use Rattle.control_moves.specs.Coming.{MayCome}
+use Rattle.control_laws.specs.Coming.{MayCome}
 use Rattle.run_laws.specs.EndOrder.{actor_of, asker_of}
 use Rattle.run_laws.proofs.KeepLemmas.{Keeps, EndsOne, Out, keeps, ends, of_same, itself, keeps_more, out_more, link_keeps, makes_keeps, try_end_out, tell_where_keeps, tell_children_keeps, stop_sockets_keeps, happens_keeps, ask_keeps, ask_all_keeps, greeted, fulfil_all_keeps, strikes_keeps, connects_to_keeps, uses_reason_keeps}
 

@@ -24,7 +24,7 @@ use Rattle.spec_control.specs.Row.{Row, LinkEvent, IsTold, AckComes, StopPut, As
 use Rattle.spec_control.specs.Rows.{obj, is_owner, may_end, with_object}
 use Rattle.spec_control.specs.Control.{Control, id, end_of, with_value, next_pair, put, makes, draws, open_pair, place_of, owner_of, link, tell_where, tell_children, stop_sockets, tell_other, commands_in, happens, ask, ask_all, greet, tell_owner, finish, try_end}
 use Rattle.spec_control.specs.After.{Answers, with_hold, joins, fulfil_all, connects_to, tell_struck, strike_end, strikes, uses_reason}
-use Rattle.control_rows.proofs.ListLemmas.{never}
+use Rattle.control_laws.proofs.ListLemmas.{never}
 use Rattle.run_laws.proofs.OverLemmas.{row_in, over_in, over, Wrote, here, as_before, wrote, wrote_here, pushed_over, ends_none, same_owner, set_length, push_length, push_row}
 
 -- no object ends between the two, and each keeps its owner

@@ -15,12 +15,12 @@ use Rattle.spec_control.specs.Rows.{obj}
 use Rattle.spec_control.specs.Control.{Control, begun, id}
 use Rattle.spec_control.specs.After.{after}
 use Rattle.spec_control.specs.ControlRun.{Fits, FitsItem, after_item, after_all, IsControlRun}
-use Rattle.control_rows.proofs.ListLemmas.{never}
-use Rattle.control_rows.proofs.RowLemmas.{all_is_over}
+use Rattle.control_laws.proofs.ListLemmas.{never}
+use Rattle.control_laws.proofs.RowLemmas.{all_is_over}
 use Rattle.control_laws.specs.Kept.{Kept}
 use Rattle.control_laws.proofs.RootLemmas.{runs_are_kept, delivered_to_living}
-use Rattle.control_moves.proofs.GuardLemmas.{oldest_may_come}
-use Rattle.control_moves.proofs.StepsLemmas.{events_are_steps}
+use Rattle.control_laws.proofs.GuardLemmas.{oldest_may_come}
+use Rattle.control_laws.proofs.StepsLemmas.{events_are_steps}
 use Rattle.run_laws.specs.EndOrder.{actor_of, is_numbered, EndInOrder}
 use Rattle.run_laws.proofs.OverLemmas.{row_in, over, is_over, ended_is, over_there, living_there, there_row}
 use Rattle.run_laws.proofs.KeepLemmas.{Keeps, EndsOne}

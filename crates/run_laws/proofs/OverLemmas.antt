@@ -6,7 +6,7 @@ use Rattle.spec_control.specs.declared.stage.Stage.TheVariants.{Alive, Told, End
 use Rattle.spec_control.specs.Stage.{has_ended, is_ending, is_alive, is_told}
 use Rattle.spec_control.specs.Row.{Row, nobody, LinkEvent, OwnComes, PlugComes, IsTold, TermComes, AsksOver, RequestComes, ReapComes, AckComes, RootAsked, StopPut, StopComes, AsksForLink, AsksForLinger, link_may, link_after}
 use Rattle.spec_control.specs.Control.{Control}
-use Rattle.control_rows.proofs.ListLemmas.{never}
+use Rattle.control_laws.proofs.ListLemmas.{never}
 
 -- what a number that no object has stands for, where it has not ended
 abbrev pub unborn : Row

@@ -5,7 +5,7 @@ use Rattle.spec_control.specs.declared.stage.Stage.TheVariants.{Finished}
 use Rattle.spec_control.specs.Stage.{has_ended}
 use Rattle.spec_control.specs.Row.{Row, LinkEvent, link_may, link_after}
 use Rattle.spec_control.specs.Rows.{Rows, obj, Step, makes_object, draws_pair, opens_pair, link_moves, pair_moves, object_ends}
-use Rattle.control_moves.specs.Steps.{Steps, no_step, one_more}
+use Rattle.control_laws.specs.Steps.{Steps, no_step, one_more}
 use Rattle.run_laws.proofs.OverLemmas.{row_in, over_in, Wrote, here, as_before, wrote, pushed_stays, stays_ended}
 
 link_stays : (s : Rows) (c : ℕ) (e : LinkEvent) (x : ℕ) → link_may e (obj s c) ≡ true → Wrote s.objects c (link_after e (obj s c)) x → over_in s.objects x ≡ true → has_ended (row_in (slice_set s.objects c (link_after e (obj s c))) x).stage ≡ true

@@ -11,7 +11,7 @@ use Rattle.spec_run.specs.InTurns.{readings_of}
 use Rattle.spec_run.specs.RunJournal.{IsRunJournal}
 use Rattle.spec_run.specs.JournalText.{run_journal_text}
 use Rattle.replay_laws.specs.OneJournal.{RunsHaveOneJournal}
-use Rattle.script_bounds.specs.ScriptBounds.{ScriptsAreDoneInTime}
+use Rattle.replay_laws.specs.ScriptBounds.{ScriptsAreDoneInTime}
 use Rattle.run_text.specs.declared.said.RunText.{RunText}
 use Rattle.zq_world.specs.Timed.{IsTimedJournal}
 use Rattle.run_text.specs.RunText.{told_as, told_of, TellsPlay, PrintsTimed, TellsRun, IsRunDue}

@@ -9,8 +9,8 @@ use Rattle.spec_run.specs.LineCall.{RunScript}
 use Rattle.spec_run.specs.InTurns.{readings_of}
 use Rattle.spec_run.specs.RunJournal.{IsRunJournal}
 use Rattle.spec_run.specs.JournalText.{run_journal_text}
-use Rattle.done_laws.specs.LocalScript.{is_local_script}
-use Rattle.script_bounds.specs.ScriptBounds.{script_turns}
+use Rattle.replay_laws.specs.LocalScript.{is_local_script}
+use Rattle.replay_laws.specs.ScriptBounds.{script_turns}
 use Rattle.zq_world.specs.Timed.{IsTimedJournal}
 use Rattle.run_text.specs.declared.said.RunText.{RunText}
 use Rattle.run_text.specs.declared.said.RunText.TheVariants.{Done, Unfinished, Fault}

@@ -6,10 +6,9 @@ ghost use Rattle.run_text.specs.RunText.{told_of, TellsPlay, TellsRun, IsRunDue}
 use crate::said::RunText;
 use msg_pipe::Pipes;
 use read_laws::scripts_that_are_read_may_be_asked;
-use replay_laws::a_script_has_one_run_journal;
+use replay_laws::{a_script_has_one_run_journal, scripts_are_done_in_time};
 use run_journal::print;
 use run_script::read_run_script;
-use script_bounds::scripts_are_done_in_time;
 use spec_run::{RunActor, RunJournal};
 use std::alloc::{AllocError, Global};
 use zq_outer::Clock;

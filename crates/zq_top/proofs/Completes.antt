@@ -10,7 +10,7 @@ use Rattle.run_script.specs.RunGrammar.{run_script_of}
 use Rattle.spec_run.specs.declared.journal.RunJournal.{RunJournal}
 use Rattle.spec_run.specs.LineCall.{RunScript}
 use Rattle.read_laws.specs.ReadScripts.{ScriptsMayBeAsked}
-use Rattle.script_bounds.specs.ScriptBounds.{script_turns, ScriptsAreDoneInTime}
+use Rattle.replay_laws.specs.ScriptBounds.{script_turns, ScriptsAreDoneInTime}
 use Rattle.zq_base.specs.declared.kind.Kind.{Kind}
 use Rattle.zq_base.specs.declared.options.Login.{Login}
 use Rattle.zq_words.specs.declared.request.Request.{Request}

@@ -11,7 +11,7 @@ use Rattle.spec_run.specs.declared.line.RunLine.{RunLine}
 use Rattle.spec_run.specs.LineCall.{RunScript}
 use Rattle.script_actor.specs.MayAsk.{IsLocal, MayAskLine, MayAskLines, MayAskScript}
 use Rattle.replay_laws.specs.Local.{is_inproc}
-use Rattle.done_laws.specs.LocalScript.{is_local_call, is_local_line, are_local_lines, is_local_script}
+use Rattle.replay_laws.specs.LocalScript.{is_local_call, is_local_line, are_local_lines, is_local_script}
 
 local_at : (at : Endpoint) → IsLocal at → is_inproc at ≡ true
 local_at (Inproc name) may = refl

@@ -9,7 +9,7 @@ use Rattle.run_script.specs.RunGrammar.{run_script_of}
 use Rattle.spec_run.specs.declared.journal.RunJournal.{RunJournal}
 use Rattle.spec_run.specs.LineCall.{RunScript}
 use Rattle.spec_run.specs.RunJournal.{IsRunJournal}
-use Rattle.script_bounds.specs.ScriptBounds.{script_turns}
+use Rattle.replay_laws.specs.ScriptBounds.{script_turns}
 use Rattle.run_text.specs.RunText.{PrintsRun}
 use Rattle.zq_top.specs.Told.{Told}
 use Rattle.zq_base.specs.declared.kind.Kind.{Kind}

@@ -5,7 +5,7 @@ use crate::plain::PlainRuns;
 use http_server::Log;
 use msg_pipe::PlainPipe;
 use read_laws::scripts_that_are_read_may_be_asked;
-use script_bounds::scripts_are_done_in_time;
+use replay_laws::scripts_are_done_in_time;
 use std::alloc::{AllocError, Global};
 use std::io::{Read, Write};
 use zq_call::Ended;

@@ -7,7 +7,7 @@ use crate::plain::PlainRuns;
 use http_server::Log;
 use msg_pipe::PlainPipe;
 use read_laws::scripts_that_are_read_may_be_asked;
-use script_bounds::scripts_are_done_in_time;
+use replay_laws::scripts_are_done_in_time;
 use std::alloc::Global;
 use zq_call::{Status, call};
 use zq_outer::{Clock, Gate, Host, Sink, Source};

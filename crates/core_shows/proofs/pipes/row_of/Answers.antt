@@ -2,8 +2,8 @@ use Rattle.std.proofs.Common.{◌∙◌, ℕ, Bool, None, ap, sym, slice_index_o
 use Rattle.zq_base.specs.declared.ids.EndId.{EndId}
 use Rattle.spec_run.specs.Fate.{is_heard_at}
 use Rattle.ctl_history.specs.Past.{control_of}
-use Rattle.core_rows.specs.Drops.{row_dropped}
-use Rattle.core_rows.specs.Table.{place_in}
+use Rattle.core_others.specs.Drops.{row_dropped}
+use Rattle.core_others.specs.Table.{place_in}
 use Rattle.core_shows.proofs.PipeLemmas.{row_some}
 use Rattle.core_shows.proofs.pipes.row_of.Goals as goal
 

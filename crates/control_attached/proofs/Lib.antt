@@ -1,4 +1,0 @@
-pub mod MoveLemmas
-pub mod LeadLemmas
-pub mod AttachedLemmas
-pub mod OnceLemmas

@@ -1,6 +1,0 @@
-ghost use Rattle.control_attached.specs.Once.{AttachedOnce};
-
-/// No end is attached twice.
-pub fn ends_are_attached_once<N, S>()
-    ensures { AttachedOnce N S }
-{}

@@ -1,5 +1,0 @@
-use Rattle.control_bounds.proofs.WorkedLemmas.{first_room_is_so}
-use Rattle.control_bounds.proofs.laws.first_room_is_so.Goals as goal
-
-pub returns : goal.returns
-returns c = first_room_is_so

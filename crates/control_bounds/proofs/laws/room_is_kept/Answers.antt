@@ -1,5 +1,0 @@
-use Rattle.control_bounds.proofs.RoomLemmas.{room_is_kept}
-use Rattle.control_bounds.proofs.laws.room_is_kept.Goals as goal
-
-pub returns : goal.returns
-returns c start = room_is_kept _ _

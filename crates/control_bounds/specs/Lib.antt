@@ -1,4 +1,0 @@
-pub mod Bound
-pub mod Room
-pub mod History
-pub mod Worked

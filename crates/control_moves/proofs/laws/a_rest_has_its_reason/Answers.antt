@@ -1,5 +1,0 @@
-use Rattle.control_moves.proofs.FateLemmas.{rest_only_where_asked}
-use Rattle.control_moves.proofs.laws.a_rest_has_its_reason.Goals as goal
-
-pub returns : goal.returns
-returns c start = rest_only_where_asked _ _

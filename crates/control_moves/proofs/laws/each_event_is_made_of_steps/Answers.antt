@@ -1,5 +1,0 @@
-use Rattle.control_moves.proofs.StepsLemmas.{events_are_steps}
-use Rattle.control_moves.proofs.laws.each_event_is_made_of_steps.Goals as goal
-
-pub returns : goal.returns
-returns c start = events_are_steps _ _

@@ -1,5 +1,0 @@
-use Rattle.control_moves.proofs.MetLemmas.{never_cells_are_not_met}
-use Rattle.control_moves.proofs.laws.no_never_cell_is_met.Goals as goal
-
-pub returns : goal.returns
-returns c start = never_cells_are_not_met _ _

@@ -1,3 +1,0 @@
-pub mod StayLemmas
-pub mod SparedLemmas
-pub mod EventLemmas

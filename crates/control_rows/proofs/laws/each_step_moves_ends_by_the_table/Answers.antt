@@ -1,5 +1,0 @@
-use Rattle.control_rows.proofs.EndStepLemmas.{ends_live}
-use Rattle.control_rows.proofs.laws.each_step_moves_ends_by_the_table.Goals as goal
-
-pub returns : goal.returns
-returns c = ends_live

@@ -1,5 +1,0 @@
-use Rattle.control_rows.proofs.RowLemmas.{nothing_for_ended}
-use Rattle.control_rows.proofs.laws.nothing_comes_for_an_ended_object.Goals as goal
-
-pub returns : goal.returns
-returns c = nothing_for_ended

@@ -1,4 +1,0 @@
-pub mod Reached
-pub mod Prompt
-pub mod TreeOf
-pub mod EndStep

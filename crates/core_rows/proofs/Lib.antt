@@ -1,5 +1,0 @@
-mod CountLemmas
-mod DropLemmas
-mod EndedLemmas
-mod EnderLemmas
-pub mod TableLemmas

@@ -1,4 +1,0 @@
-pub mod Drops
-pub mod Ended
-pub mod Table
-pub mod Counting

@@ -1,3 +1,0 @@
-pub mod AsideLemmas
-mod CallLemmas
-mod OrderLemmas

@@ -1,3 +1,0 @@
-pub mod Standing
-pub mod Aside
-pub mod Calls

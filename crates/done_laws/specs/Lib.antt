@@ -1,4 +1,0 @@
-pub mod LocalScript
-pub mod Resting
-pub mod DoneInTime
-pub mod WorkedTimes

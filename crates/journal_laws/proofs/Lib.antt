@@ -1,5 +1,0 @@
-mod ObjectLemmas
-mod LivingLemmas
-mod RowLemmas
-mod MadeLemmas
-mod DoneLemmas

@@ -1,3 +1,0 @@
-pub mod ObjectsListed
-pub mod RowsListed
-pub mod JournalLaws

@@ -1,4 +1,0 @@
-pub mod Hold
-pub mod Ends
-pub mod Places
-pub mod Quiet

@@ -1,5 +1,0 @@
-mod AskLemmas
-mod CountLemmas
-mod NameLemmas
-mod MakeLemmas
-mod BoundLemmas

@@ -1,5 +1,0 @@
-use Rattle.script_bounds.proofs.BoundLemmas.{make_so_much}
-use Rattle.script_bounds.proofs.laws.scripts_make_so_much.Goals as goal
-
-pub returns : goal.returns
-returns g c = make_so_much _ _ c.local_scripts_run_locally.ensures

@@ -1,2 +1,0 @@
-mod ReasonLemmas
-mod StayLemmas

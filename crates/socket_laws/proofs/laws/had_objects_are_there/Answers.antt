@@ -1,5 +1,0 @@
-use Rattle.socket_laws.proofs.ThereLemmas.{had_objects_are_there}
-use Rattle.socket_laws.proofs.laws.had_objects_are_there.Goals as goal
-
-pub returns : goal.returns
-returns c start = had_objects_are_there _ _

@@ -1,3 +1,0 @@
-pub mod TurnsAreEvents
-pub mod ChosenExample
-pub mod OneEventsJournal
