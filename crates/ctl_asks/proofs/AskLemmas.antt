@@ -13,13 +13,13 @@ use Rattle.spec_control.specs.Rows.{Rows, obj}
 use Rattle.spec_control.specs.declared.letter.Word.TheVariants.{Stop}
 use Rattle.spec_control.specs.Control.{Control, link, put, stop_sockets}
 use Rattle.spec_control.specs.After.{owner_or_root}
-use Rattle.control_rows.specs.Reached.{IsReached}
-use Rattle.control_rows.proofs.ListLemmas.{never, left, right}
-use Rattle.control_rows.proofs.ClosedLemmas.{none_is_some}
-use Rattle.control_rows.proofs.RowLemmas.{holds}
-use Rattle.control_rows.proofs.StepLemmas.{some_object, same_owner, same_kind}
+use Rattle.control_laws.specs.Reached.{IsReached}
+use Rattle.control_laws.proofs.ListLemmas.{never, left, right}
+use Rattle.control_laws.proofs.ClosedLemmas.{none_is_some}
+use Rattle.control_laws.proofs.RowLemmas.{holds}
+use Rattle.control_laws.proofs.StepLemmas.{some_object, same_owner, same_kind}
 use Rattle.control_laws.specs.Kept.{Kept}
-use Rattle.control_bounds.specs.Room.{up_to_come, row_to_come, for_slot, slots_of, to_come}
+use Rattle.control_laws.specs.Room.{up_to_come, row_to_come, for_slot, slots_of, to_come}
 use Rattle.own_tree.specs.Rows.{state_at, may_be_asked, asked_from, children_of, tree_of}
 use Rattle.ctl_state.specs.declared.state.State.{State}
 use Rattle.mailbox.specs.Mail.{Mail}

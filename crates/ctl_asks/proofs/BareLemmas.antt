@@ -19,15 +19,15 @@ use Rattle.spec_control.specs.Row.{Row, nobody, LinkEvent, OwnComes, RequestCome
 use Rattle.spec_control.specs.Rows.{obj}
 use Rattle.spec_control.specs.Control.{Control, link}
 use Rattle.spec_control.specs.After.{owner_or_root, without_front}
-use Rattle.control_rows.proofs.ListLemmas.{never, left}
-use Rattle.control_rows.proofs.ClosedLemmas.{has_owner}
-use Rattle.control_rows.proofs.StepLemmas.{same_owner, same_slot}
+use Rattle.control_laws.proofs.ListLemmas.{never, left}
+use Rattle.control_laws.proofs.ClosedLemmas.{has_owner}
+use Rattle.control_laws.proofs.StepLemmas.{same_owner, same_slot}
 use Rattle.control_laws.specs.Kept.{Kept}
 use Rattle.control_laws.proofs.RootLemmas.{oldest_lives}
-use Rattle.control_moves.specs.Coming.{ComesToOwner}
-use Rattle.control_moves.proofs.SoundLemmas.{link_there}
-use Rattle.control_moves.proofs.GuardLemmas.{may_come}
-use Rattle.control_bounds.specs.Room.{down_to_come, up_to_come, row_to_come, for_slot, slots_of, to_come}
+use Rattle.control_laws.specs.Coming.{ComesToOwner}
+use Rattle.control_laws.proofs.SoundLemmas.{link_there}
+use Rattle.control_laws.proofs.GuardLemmas.{may_come}
+use Rattle.control_laws.specs.Room.{down_to_come, up_to_come, row_to_come, for_slot, slots_of, to_come}
 use Rattle.own_tree.specs.Rows.{state_at}
 use Rattle.own_tree.specs.declared.row.Row.{Row as TreeRow}
 use Rattle.ctl_state.specs.declared.command.Command.{Command}

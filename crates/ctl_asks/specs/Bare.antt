@@ -7,8 +7,8 @@ use Rattle.spec_control.specs.Row.{LinkEvent, OwnComes, RequestComes, AckComes}
 use Rattle.spec_control.specs.Rows.{obj}
 use Rattle.spec_control.specs.Control.{Control}
 use Rattle.control_laws.specs.Kept.{Kept}
-use Rattle.control_moves.specs.Coming.{ComesToOwner}
-use Rattle.control_bounds.specs.Room.{to_come}
+use Rattle.control_laws.specs.Coming.{ComesToOwner}
+use Rattle.control_laws.specs.Room.{to_come}
 use Rattle.ctl_state.specs.declared.state.State.{State}
 use Rattle.ctl_state.specs.Boxes.{mail_at}
 use Rattle.ctl_state.specs.Stands.{Stands}

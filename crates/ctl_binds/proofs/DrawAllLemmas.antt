@@ -10,7 +10,7 @@ use Rattle.zq_base.specs.declared.ids.ObjId.{ObjId}
 use Rattle.spec_control.specs.Control.{end_of, is_end, next_pair}
 use Rattle.spec_control.specs.Rows.{PairRow}
 use Rattle.control_held.specs.Held.{Held}
-use Rattle.control_rows.proofs.ListLemmas.{never}
+use Rattle.control_laws.proofs.ListLemmas.{never}
 use Rattle.ctl_holder.specs.declared.load.Load.{Load}
 use Rattle.ctl_holder.specs.Holding.{HearsNone, Holding, KeepsTurns, Stays, has_end}
 use Rattle.ctl_holder.specs.Making.{capacity_between}

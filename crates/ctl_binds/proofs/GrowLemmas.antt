@@ -21,7 +21,7 @@ use Rattle.spec_control.specs.PairPhase.{PairEvent, Opens, Happens}
 use Rattle.spec_control.specs.Stage.{was_asked}
 use Rattle.spec_control.specs.Rows.{PairRow, no_pair, obj, pair, pair_after, end_owner}
 use Rattle.spec_control.specs.Control.{Control, ask, attach, commands_in, greet, happens, moved, open_pair, owner_of, place_of, put, reason_in, tell_other, with_end, with_value}
-use Rattle.control_rows.proofs.StepLemmas.{after_owner}
+use Rattle.control_laws.proofs.StepLemmas.{after_owner}
 use Rattle.ctl_state.proofs.ReadLemmas.{read_kept}
 
 -- the objects and the struck connects are the same, and as many pairs there are; so many commands were put into this mailbox at the most

@@ -10,8 +10,8 @@ use Rattle.spec_control.specs.declared.end.EndState.TheVariants.{Active}
 use Rattle.spec_control.specs.Control.{is_end, same_side}
 use Rattle.control_held.specs.Held.{Held}
 use Rattle.control_laws.proofs.AskLemmas.{end_self, same_end}
-use Rattle.control_rows.proofs.ListLemmas.{never}
-use Rattle.ctl_holder.specs.Holding.{HearsNone, BeginsNone, Holding, Left, has_end, without_end}
+use Rattle.control_laws.proofs.ListLemmas.{never}
+use Rattle.ctl_holder.specs.Holding.{HearsNone, BeginsNone, Holding, Left, Stays, has_end, without_end}
 use Rattle.ctl_state.specs.declared.state.State.{State}
 use Rattle.ctl_state.specs.Pairs.{entry_drawn}
 use Rattle.ctl_joins.specs.declared.owners.Owners.{Owners}
@@ -214,3 +214,14 @@ module _ {N : Type 0} where
             | inl is ↦ subst (λ (m : ℕ). k.ends m ≡ h.ends m) (sym is) ends_are
             | inr other ↦ gets.others i other
           ]
+
+-- ---- a holder that is as it was
+module _ {N : Type 0} where
+  pub stays_itself : (o : ℕ) (h : Holding N) → Stays o h h
+  stays_itself o h = record {
+    now = record { ends = refl; others = λ i other. refl; objects = λ i. refl; kinds = λ i. refl; output = λ i. refl; delimiters = λ i e here at. at };
+    writers = λ e. refl;
+  }
+
+  pub back_itself : (n o : ℕ) (h : Holding N) → IsBack n o h h
+  back_itself n o h = record { now = (stays_itself o h).now; writers = λ e less. refl; states = λ i e less here. refl; turns = refl; sealed = refl; joined = refl; heard = refl }

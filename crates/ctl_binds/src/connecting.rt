@@ -96,7 +96,8 @@ where
     let pair = match draw_held(state, o) {
         Ok(pair) => pair,
         Err(error) => {
-            drop((at, notes));
+            drop(at);
+            drop(notes);
             return Err(error);
         }
     };
@@ -118,7 +119,8 @@ where
         }
         Err(error) => {
             undraw_held(state, o, pair);
-            drop((at, notes));
+            drop(at);
+            drop(notes);
             return Err(error);
         }
     }

@@ -102,7 +102,8 @@ where
         ) {
             Ok(()) => {}
             Err(error) => {
-                let Batch { drawn, notes: _ } = batch;
+                let Batch { drawn, notes } = batch;
+                drop(notes);
                 undraw_all(state, holder, socket, drawn);
                 return Err(error);
             }

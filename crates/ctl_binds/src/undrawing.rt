@@ -29,12 +29,13 @@ where
     ensures calm { (came : List EndId) →
         H.calm holder.old (first_of drawn ∷ came) → H.calm holder.new came }
 {
-    let first = EndId {
-        pair: drawn.pair,
-        a: false,
-    };
-    let _halves = holder.take_back(socket, first);
-    undraw_pair(state, drawn.o, false, drawn.pair);
+    let o = drawn.o;
+    let pair = drawn.pair;
+    drop(drawn);
+    let first = EndId { pair, a: false };
+    let halves = holder.take_back(socket, first);
+    drop(halves);
+    undraw_pair(state, o, false, pair);
 }
 
 /// Takes all pairs back that were drawn, last first.

@@ -11,7 +11,7 @@ use Rattle.spec_control.specs.Place.{is_here}
 use Rattle.spec_control.specs.Rows.{PairRow}
 use Rattle.spec_control.specs.Control.{is_end}
 use Rattle.control_held.specs.Held.{Held}
-use Rattle.control_rows.proofs.ListLemmas.{never}
+use Rattle.control_laws.proofs.ListLemmas.{never}
 use Rattle.control_laws.proofs.AskLemmas.{same_end}
 use Rattle.ctl_holder.specs.Holding.{Holding, has_end, written_in, read_in}
 use Rattle.ctl_holder.specs.Lent.{place_by, owner_by, here_ends, HasBothNames, HasEnds}

@@ -3,3 +3,4 @@ pub mod HeldLemmas
 pub mod TurnLemmas
 pub mod SettleLemmas
 pub mod TurnedLemmas
+pub mod GiveLemmas

@@ -23,7 +23,7 @@ use Rattle.spec_control.specs.EndLife.{cell, comes, commands_of, state_after}
 use Rattle.spec_control.specs.Place.{Place, At, is_here}
 use Rattle.spec_control.specs.Control.{Control, reason_in, met_in, happens, is_end, owner_of, place_of, with_end}
 use Rattle.control_held.specs.Held.{Held}
-use Rattle.control_rows.proofs.ListLemmas.{never, clash}
+use Rattle.control_laws.proofs.ListLemmas.{never, clash}
 use Rattle.control_laws.proofs.AskLemmas.{same_end, end_self}
 use Rattle.ctl_holder.specs.Holding.{Holding, Left, KeepsTurns, NoneWrites, has_end, without_end}
 use Rattle.ctl_holder.specs.Lent.{has_writer, here_ends, HasBothNames, HasEnds, HasAll}

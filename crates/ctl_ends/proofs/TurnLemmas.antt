@@ -20,7 +20,7 @@ use Rattle.spec_control.specs.PairPhase.{Happens, place_after}
 use Rattle.spec_control.specs.Rows.{Rows, obj, pair, end_place, end_owner}
 use Rattle.spec_control.specs.Control.{Control, commands_in, reason_in, met_in, happens, is_end, owner_of, place_of, with_end, tell_other}
 use Rattle.control_held.specs.Held.{Held}
-use Rattle.control_rows.proofs.ListLemmas.{never, clash}
+use Rattle.control_laws.proofs.ListLemmas.{never, clash}
 use Rattle.control_laws.proofs.AskLemmas.{same_end, end_self}
 use Rattle.control_laws.proofs.HearLemmas.{EndMoved, end_moved}
 use Rattle.ctl_holder.specs.declared.load.Load.{Load}

@@ -10,12 +10,12 @@ use Rattle.spec_control.specs.declared.end.EndState.TheVariants.{Active, Delimit
 use Rattle.spec_control.specs.Place.{Place, Unmade, Away, At, is_here}
 use Rattle.spec_control.specs.Rows.{PairRow, no_pair, end_place}
 use Rattle.spec_control.specs.Control.{Control, is_end, place_of}
-use Rattle.control_rows.proofs.ListLemmas.{never}
+use Rattle.control_laws.proofs.ListLemmas.{never}
 use Rattle.control_laws.proofs.AskLemmas.{same_end, end_self}
 use Rattle.ctl_holder.specs.Holding.{Holding, KeepsTurns, is_state}
 use Rattle.ctl_holder.proofs.TurnsLemmas.{seal_append}
 use Rattle.ctl_holder.specs.Turns.{state_before, turn_at, turned_over, turned_in, sealed_by, TurnsBy}
-use Rattle.control_attached.specs.Once.{AreOnce}
+use Rattle.control_laws.specs.AttachedOnce.{AreOnce}
 
 state_self : (s : EndState) → is_state (state_before (At s) s) s ≡ true
 state_self Active = refl

@@ -19,7 +19,7 @@ use Rattle.ctl_holder.specs.Holding.{Holding, HearsNone, HoldsNow, has_end, writ
 use Rattle.ctl_holder.specs.Lent.{HasAll}
 use Rattle.ctl_holder.specs.Load.{Carries, brings_ends}
 use Rattle.ctl_holder.specs.Turns.{TurnsBy, HasTurned, turn_at}
-use Rattle.control_attached.specs.Once.{AreOnce}
+use Rattle.control_laws.specs.AttachedOnce.{AreOnce}
 use Rattle.ctl_state.specs.declared.command.Command.{Command}
 use Rattle.ctl_state.specs.declared.state.State.{State}
 use Rattle.ctl_state.specs.Boxes.{mail_at}

@@ -27,7 +27,7 @@ use Rattle.spec_control.specs.After.{answers_in, kind_answer, processed}
 use Rattle.spec_control.specs.ControlRun.{Joins, MayAnswer, MayAnswerAll}
 use Rattle.control_laws.proofs.AskLemmas.{end_self}
 use Rattle.control_laws.proofs.AttachLemmas.{Greets, any_last, greets}
-use Rattle.control_bounds.specs.Room.{to_come}
+use Rattle.control_laws.specs.Room.{to_come}
 use Rattle.ctl_holder.specs.declared.halves.Halves.{Halves}
 use Rattle.ctl_holder.specs.declared.halves.NamedHalves.{NamedHalves}
 use Rattle.ctl_holder.specs.declared.load.Load.{Load}

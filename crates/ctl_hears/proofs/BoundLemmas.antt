@@ -14,14 +14,14 @@ use Rattle.spec_control.specs.PairPhase.{BindCame, Opens, may}
 use Rattle.spec_control.specs.Place.{Place, Away, At, is_here}
 use Rattle.spec_control.specs.Rows.{PairRow, no_pair, pair, pair_after, end_half, end_owner, end_place, of_ends, bind_waits}
 use Rattle.spec_control.specs.Control.{Control, attach, end_of, is_end, met_in, owner_of, place_of}
-use Rattle.control_bounds.specs.Room.{to_come}
-use Rattle.control_bounds.proofs.RoomLemmas.{goes_room}
+use Rattle.control_laws.specs.Room.{to_come}
+use Rattle.control_laws.proofs.RoomLemmas.{goes_room}
 use Rattle.control_held.specs.Held.{Held}
 use Rattle.control_laws.proofs.AskLemmas.{end_self, same_end}
 use Rattle.control_laws.proofs.AttachLemmas.{AttachMoved, attach_moved}
-use Rattle.control_moves.specs.Move.{EndMoves, MovesTo}
-use Rattle.control_moves.proofs.SoundLemmas.{Sound}
-use Rattle.control_rows.proofs.ListLemmas.{never, clash, is_here as here_is, is_elsewhere, written}
+use Rattle.control_laws.specs.Move.{EndMoves, MovesTo}
+use Rattle.control_laws.proofs.SoundLemmas.{Sound}
+use Rattle.control_laws.proofs.ListLemmas.{never, clash, is_here as here_is, is_elsewhere, written}
 use Rattle.ctl_holder.specs.Holding.{BeginsActive, Holding, Joined, has_end}
 use Rattle.ctl_holder.specs.Lent.{has_writer, here_ends, HasBothNames, HasEnds, HasAll}
 use Rattle.ctl_ends.proofs.HeldLemmas.{has_listed}

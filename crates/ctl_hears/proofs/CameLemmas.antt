@@ -19,7 +19,7 @@ use Rattle.spec_control.specs.After.{answers_in, processed, settle}
 use Rattle.ctl_holder.specs.Holding.{HearsMore, HearsNone, Holding, IsTold, JoinsBy}
 use Rattle.ctl_holder.specs.Joins.{KeepsObjects, come_by}
 use Rattle.ctl_terms.specs.Terming.{children_told}
-use Rattle.control_moves.proofs.GoLemmas.{greet_goes, tell_where_goes, try_end_goes}
+use Rattle.control_laws.proofs.GoLemmas.{greet_goes, tell_where_goes, try_end_goes}
 use Rattle.ctl_terms.proofs.BetweenLemmas.{StayBetween, goes_between, happens_between, link_between, written_between}
 use Rattle.ctl_terms.proofs.KeepLemmas.{all_kept, ended_now, told_kept}
 use Rattle.ctl_holder.specs.Heard.{heard_by, over_if, over_in}

@@ -18,7 +18,7 @@ use Rattle.spec_control.specs.Stage.{was_asked}
 use Rattle.spec_control.specs.Control.{Control, link, try_end, happens}
 use Rattle.spec_control.specs.After.{answers_in, processed}
 use Rattle.spec_control.specs.ControlRun.{Joins, word_joins, MayAnswerAll, Settles}
-use Rattle.control_rows.proofs.ListLemmas.{never}
+use Rattle.control_laws.proofs.ListLemmas.{never}
 use Rattle.ctl_holder.specs.declared.load.Load.{Load}
 use Rattle.ctl_holder.specs.Holding.{Holding, IsTold, KeepsTurns, Stays}
 use Rattle.ctl_holder.specs.Lent.{HasAll}
@@ -34,7 +34,7 @@ use Rattle.ctl_state.specs.declared.belongings.Belongings.{Belongings}
 use Rattle.ctl_state.specs.Lists.{belongings_at}
 pub use Rattle.ctl_terms.proofs.HolderLemmas.{has_same, has_told, has_stayed, ended_has_none, bare_loaded}
 pub use Rattle.ctl_terms.proofs.PutLemmas.{told_is_put, room_for}
-pub use Rattle.control_others.proofs.StayLemmas.{SameEnds, ends_stay, ends_on, where_told, tried, link_ends_stay, own_ends_stay, ack_ends_stay}
+pub use Rattle.control_laws.proofs.StayLemmas.{SameEnds, ends_stay, ends_on, where_told, tried, link_ends_stay, own_ends_stay, ack_ends_stay}
 
 module _ {N O I : Type 0} (out_name : O → N) (in_name : I → N) (names : EndId → Option N) where
   -- objects were told, with a holder that has what it had
@@ -145,6 +145,16 @@ module _ {N O I : Type 0} (out_name : O → N) (in_name : I → N) where
     hears = w.hears;
     ends = bare_ends w.names w.control s h letter.to.0 letter.word load bare w.ends;
   }
+
+-- a command of these brings nothing
+pub bare_of : (word : Word) → ((x : ObjId) × (word ≡ Own x)) ⊎ (((x : Option EndId) × (word ≡ Plug x)) ⊎ (((x : ObjId) × (word ≡ TermReq x)) ⊎ (((x : ObjId) × (word ≡ TermAck x)) ⊎ (((x : EndId) × (word ≡ PipeTerm x)) ⊎ ((word ≡ Stop) ⊎ (word ≡ Term)))))) → is_bare word ≡ true
+bare_of word (inl w) = ap is_bare w.1
+bare_of word (inr (inl w)) = ap is_bare w.1
+bare_of word (inr (inr (inl w))) = ap is_bare w.1
+bare_of word (inr (inr (inr (inl w)))) = ap is_bare w.1
+bare_of word (inr (inr (inr (inr (inl w))))) = ap is_bare w.1
+bare_of word (inr (inr (inr (inr (inr (inl w)))))) = ap is_bare w
+bare_of word (inr (inr (inr (inr (inr (inr w)))))) = ap is_bare w
 
 pub bare_brings_none : (word : Word) → is_bare word ≡ true → brings_ends word ≡ true → ⊥
 bare_brings_none (Own child) bare brings = never brings

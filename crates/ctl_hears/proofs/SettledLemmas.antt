@@ -23,17 +23,17 @@ use Rattle.spec_control.specs.Control.{Control, commands_in, happens, is_end, ow
 use Rattle.spec_control.specs.After.{answers_in, processed, settle, owner_or_root}
 use Rattle.spec_control.specs.ControlRun.{Joins, MayAnswerAll, Settles}
 use Rattle.control_laws.specs.Kept.{Kept}
-use Rattle.control_rows.proofs.RowLemmas.{pair_there}
+use Rattle.control_laws.proofs.RowLemmas.{pair_there}
 use Rattle.control_laws.proofs.HearLemmas.{end_moved}
-use Rattle.control_moves.proofs.MetLemmas.{meets_cell}
-use Rattle.control_bounds.specs.Room.{pair_to_come, row_to_come, up_to_come, for_slot, slots_of, to_come}
-use Rattle.control_bounds.proofs.RowRoomLemmas.{place_falls}
+use Rattle.control_laws.proofs.MetLemmas.{meets_cell}
+use Rattle.control_laws.specs.Room.{pair_to_come, row_to_come, up_to_come, for_slot, slots_of, to_come}
+use Rattle.control_laws.proofs.RowRoomLemmas.{place_falls}
 use Rattle.ctl_holder.specs.declared.load.Load.{Load}
 use Rattle.ctl_holder.specs.declared.load.Load.TheVariants.{Halves, Writer, Ends}
 use Rattle.ctl_holder.specs.Holding.{Holding, IsTold, read_in}
 use Rattle.ctl_holder.specs.Lent.{HasAll}
 use Rattle.ctl_strikes.proofs.OnceLemmas.{told_kept, told_one}
-use Rattle.control_moves.proofs.GoLemmas.{try_end_goes}
+use Rattle.control_laws.proofs.GoLemmas.{try_end_goes}
 use Rattle.ctl_terms.proofs.BetweenLemmas.{goes_between, happens_between}
 use Rattle.ctl_terms.proofs.KeepLemmas.{ended_now, told_kept as one_kept}
 use Rattle.ctl_holder.specs.Load.{BringsWriterTo, IsNamed}
@@ -47,7 +47,7 @@ use Rattle.ctl_ends.proofs.MailLemmas.{puts_on}
 use Rattle.ctl_ends.proofs.HeldLemmas.{has_here, read_is}
 use Rattle.ctl_ends.proofs.TurnLemmas.{comes_here}
 use Rattle.ctl_hears.specs.Processing.{HasDone, IsAcknowledged, Acknowledges, HasCounts, IsProcessed, BringsWriter}
-use Rattle.control_others.proofs.StayLemmas.{ends_on, tried}
+use Rattle.control_laws.proofs.StayLemmas.{ends_on, tried}
 use Rattle.ctl_hears.proofs.HearLemmas.{same_places}
 use Rattle.ctl_terms.proofs.HolderLemmas.{has_same, has_told, bare_loaded}
 use Rattle.ctl_strikes.proofs.FindLemmas.{finds_at, end_of_no_root}

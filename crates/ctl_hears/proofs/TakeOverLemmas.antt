@@ -16,17 +16,17 @@ use Rattle.spec_control.specs.Rows.{obj}
 use Rattle.spec_control.specs.Control.{Control}
 use Rattle.spec_control.specs.After.{answers_in, processed}
 use Rattle.spec_control.specs.ControlRun.{Joins, MayAnswerAll}
-use Rattle.control_rows.proofs.ListLemmas.{never, left, right}
-use Rattle.control_rows.proofs.StepLemmas.{inv_of}
+use Rattle.control_laws.proofs.ListLemmas.{never, left, right}
+use Rattle.control_laws.proofs.StepLemmas.{inv_of}
 use Rattle.control_laws.specs.Kept.{Kept}
 use Rattle.control_laws.proofs.EndLemmas.{kept_but}
 use Rattle.control_laws.proofs.JoinLemmas.{socket_owned}
 use Rattle.control_laws.proofs.RootLemmas.{oldest_lives}
 use Rattle.control_laws.proofs.TellLemmas.{rows_of}
-use Rattle.control_moves.proofs.GuardLemmas.{may_come}
-use Rattle.control_moves.proofs.SoundLemmas.{socket_there}
-use Rattle.control_attached.specs.Once.{AreOnce}
-use Rattle.control_bounds.specs.Room.{to_come}
+use Rattle.control_laws.proofs.GuardLemmas.{may_come}
+use Rattle.control_laws.proofs.SoundLemmas.{socket_there}
+use Rattle.control_laws.specs.AttachedOnce.{AreOnce}
+use Rattle.control_laws.specs.Room.{to_come}
 use Rattle.ctl_holder.specs.declared.given.Given.{Given}
 use Rattle.ctl_holder.specs.declared.given.Parting.{Parting}
 use Rattle.ctl_holder.specs.declared.load.Load.{Load}

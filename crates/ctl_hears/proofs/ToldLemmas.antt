@@ -17,7 +17,7 @@ use Rattle.spec_control.specs.Row.{OwnComes, RequestComes, AckComes, ReapComes, 
 use Rattle.spec_control.specs.Rows.{obj}
 use Rattle.spec_control.specs.Control.{Control, happens, is_end, link, place_of, put, try_end}
 use Rattle.spec_control.specs.After.{answers_in, processed, settle}
-use Rattle.control_others.proofs.StayLemmas.{SameEnds, own_ends_stay, ack_ends_stay, link_ends_stay}
+use Rattle.control_laws.proofs.StayLemmas.{SameEnds, own_ends_stay, ack_ends_stay, link_ends_stay}
 use Rattle.ctl_holder.specs.Holding.{Holding}
 use Rattle.ctl_holder.specs.Turns.{TurnsBy, HasTurned, turn_at}
 use Rattle.ctl_ends.specs.Turning.{TurnsOnce, turn_of}

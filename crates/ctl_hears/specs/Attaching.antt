@@ -17,7 +17,7 @@ use Rattle.spec_control.specs.Row.{Row}
 use Rattle.spec_control.specs.Rows.{obj}
 use Rattle.spec_control.specs.Stage.{has_ended}
 use Rattle.spec_control.specs.Control.{Control, ask, attach, greet, is_end, owner_of, place_of}
-use Rattle.control_bounds.specs.Room.{to_come}
+use Rattle.control_laws.specs.Room.{to_come}
 use Rattle.ctl_holder.specs.declared.halves.Halves.{Halves}
 use Rattle.ctl_holder.specs.declared.halves.NamedHalves.{NamedHalves}
 use Rattle.ctl_holder.specs.declared.load.Load.{Load}

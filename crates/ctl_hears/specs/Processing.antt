@@ -11,7 +11,7 @@ use Rattle.spec_control.specs.Rows.{obj}
 use Rattle.spec_control.specs.Control.{Control, commands_in, happens, owner_of, place_of, try_end}
 use Rattle.spec_control.specs.Place.{is_here}
 use Rattle.spec_control.specs.Row.{TermComes, link_may}
-use Rattle.control_moves.specs.Move.{LinkMoves}
+use Rattle.control_laws.specs.Move.{LinkMoves}
 use Rattle.ctl_terms.specs.Asking.{HasRoomOver}
 use Rattle.spec_control.specs.After.{answers_in, processed, settle}
 use Rattle.spec_control.specs.ControlRun.{Joins, word_joins, MayAnswerAll, Settles, IsSettled, is_between}

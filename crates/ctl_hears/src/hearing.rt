@@ -2,10 +2,12 @@ ghost use Rattle.zq_base.specs.declared.ids.EndId.{EndId};
 ghost use Rattle.zq_base.specs.declared.ids.ObjId.{ObjId};
 ghost use Rattle.spec_control.specs.declared.letter.Word.TheVariants.{PipeTermAck, Reap};
 ghost use Rattle.spec_control.specs.declared.end.EndEvent.TheVariants.{AckCame};
-ghost use Rattle.spec_control.specs.Control.{happens, try_end};
+ghost use Rattle.spec_control.specs.declared.stage.Use.TheVariants.{Used};
+ghost use Rattle.spec_control.specs.Row.{StopComes};
+ghost use Rattle.spec_control.specs.Control.{happens, link, try_end};
 ghost use Rattle.spec_control.specs.After.{answers_in, processed, settle};
 ghost use Rattle.ctl_ends.specs.Turning.{TurnsOnce};
-ghost use Rattle.std.specs.Prelude.{◌≡◌, ◌≢◌, ◌∷◌, [], true, false, None, Some, IfOk, IsOk, IfErr, map};
+ghost use Rattle.std.specs.Prelude.{◌≡◌, ◌≢◌, ◌<◌, ◌∷◌, [], true, false, None, Some, IfOk, IsOk, IfErr, length, map};
 ghost use Rattle.ctl_holder.specs.Holding.{HearsMore, HearsNone, IsTold, KeepsTurns, NoneWrites, Stays, given_as, held_given};
 ghost use Rattle.ctl_holder.specs.TakingOver.{ComeApart};
 ghost use Rattle.ctl_holder.specs.declared.notice.Notice.TheVariants.{Stop};
@@ -13,6 +15,8 @@ ghost use Rattle.ctl_holder.specs.Heard.{over_if, over_in};
 ghost use Rattle.ctl_holder.specs.Counts.{CountsAs, IsCounted};
 ghost use Rattle.ctl_holder.specs.Load.{brings_ends, given_by};
 ghost use Rattle.ctl_holder.specs.declared.load.Load.TheVariants.{Ends, Writer};
+ghost use Rattle.ctl_state.specs.Parts.{on_detail};
+ghost use Rattle.ctl_state.specs.Stands.{Updates};
 ghost use Rattle.ctl_hears.specs.Processing.{IsSilent};
 ghost use Rattle.ctl_hears.specs.Attaching.{binds_end, FitsLoad, StaysAll};
 ghost use Rattle.spec_control.specs.declared.entry.Answered.{Answered};
@@ -63,12 +67,22 @@ fn tell_over<P: Pipes, H: Holder<P>>(holder: &mut H, o: ObjId, ended: bool)
     holder.over(o);
 }
 
-// The holder of a socket hears that its Stop was processed.
-fn tell_stop<P: Pipes, H: Holder<P>>(holder: &mut H, o: ObjId)
+// A socket processes its Stop, and its holder hears of it.
+fn hear_stop<P: Pipes, H: Holder<P>>(
+    state: &mut State<Load<P::Name, P::Out, P::In>>,
+    holder: &mut H,
+    o: ObjId,
+)
+where
+    P::Name: Drop,
+    requires { o.0 < length state.old.objects.tree }
+    ensures stands { Updates (link StopComes o.0) state.old state.new }
+    ensures next { state.new ≡ on_detail (λ d. record d { stop = Used }) o.0 state.old }
     ensures stays { Stays o.0 (H.holding holder.old) (H.holding holder.new) }
     ensures turns { KeepsTurns (H.holding holder.old) (H.holding holder.new) }
     ensures heard { HearsMore (Stop o ∷ []) (H.holding holder.old) (H.holding holder.new) }
 {
+    state.stop_comes(o);
     holder.stop(o);
 }
 
@@ -155,22 +169,6 @@ where
     counts
 }
 
-// Whether a command brings nothing.
-fn is_bare(word: &Word) -> bool
-    ensures { result ≡ is_bare word.now }
-{
-    match word {
-        Word::PipeBind(_, _) | Word::PipeTermAck(_) | Word::Reap(_) => return false,
-        Word::Own(_)
-        | Word::Plug(_)
-        | Word::TermReq(_)
-        | Word::TermAck(_)
-        | Word::PipeTerm(_)
-        | Word::Stop
-        | Word::Term => return true,
-    }
-}
-
 // An object hears a command that brings nothing: the holder has nothing to answer for.
 fn hear_bare<P: Pipes, H: Holder<P>>(
     state: &mut State<Load<P::Name, P::Out, P::In>>,
@@ -213,9 +211,7 @@ where
             return;
         }
         Word::Stop => {
-            state.needs();
-            state.stop_comes(letter.to);
-            tell_stop(holder, letter.to);
+            hear_stop(state, holder, letter.to);
             return;
         }
         Word::Term => {
@@ -273,11 +269,6 @@ where
     ensures unheard { IfErr result (λ back.
         HearsNone (H.holding holder.old) (H.holding holder.new)) }
 {
-    if is_bare(&letter.word) {
-        hear_bare(state, holder, letter);
-        drop(load);
-        return Ok(silent(alloc));
-    }
     match letter.word {
         Word::PipeTermAck(e) => {
             let counts = acknowledged(state, holder, letter.to, e, load);
@@ -297,6 +288,10 @@ where
         | Word::TermAck(_)
         | Word::PipeTerm(_)
         | Word::Stop
-        | Word::Term => unreachable!(),
+        | Word::Term => {
+            hear_bare(state, holder, letter);
+            drop(load);
+            return Ok(silent(alloc));
+        }
     }
 }

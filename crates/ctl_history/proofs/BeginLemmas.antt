@@ -5,8 +5,8 @@ use Rattle.std.proofs.lemmas.Bool.{cases_eq, ne_eqb}
 use Rattle.std.proofs.lemmas.List.{get_or-set_same, length-set, length-replicate}
 use Rattle.mailbox.specs.Mail.{Mail, no_mail, with_spare}
 use Rattle.spec_control.specs.Control.{begun}
-use Rattle.control_bounds.specs.Room.{to_come}
-use Rattle.control_bounds.proofs.WorkedLemmas.{first_room_is_so}
+use Rattle.control_laws.specs.Room.{to_come}
+use Rattle.control_laws.proofs.WorkedLemmas.{first_room_is_so}
 use Rattle.ctl_state.specs.declared.command.Command.{Command}
 use Rattle.ctl_state.specs.declared.state.State.{State}
 use Rattle.ctl_state.specs.Boxes.{mail_at, with_mail}

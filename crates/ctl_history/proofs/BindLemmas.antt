@@ -11,7 +11,7 @@ use Rattle.spec_control.specs.Register.{fulfilled_by}
 use Rattle.spec_control.specs.Control.{Control, next_pair}
 use Rattle.spec_control.specs.After.{binding_by}
 use Rattle.spec_control.specs.Reply.{reply_of, unless, bind_reply, has_pairs, most_made_pairs}
-use Rattle.control_rows.proofs.ListLemmas.{never}
+use Rattle.control_laws.proofs.ListLemmas.{never}
 use Rattle.ctl_asks.specs.Refusals.{refusal_in}
 use Rattle.ctl_history.proofs.RefusalLemmas.{is_behind, passed}
 

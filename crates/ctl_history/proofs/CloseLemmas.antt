@@ -9,8 +9,8 @@ use Rattle.spec_control.specs.Row.{nobody, is_socket, AsksOver, link_after}
 use Rattle.spec_control.specs.Rows.{Rows, obj, with_object}
 use Rattle.spec_control.specs.Control.{Control}
 use Rattle.spec_control.specs.ControlRun.{IsOpenSocket, is_between}
-use Rattle.control_rows.proofs.ListLemmas.{and}
-use Rattle.control_moves.proofs.SoundLemmas.{socket_there}
+use Rattle.control_laws.proofs.ListLemmas.{and}
+use Rattle.control_laws.proofs.SoundLemmas.{socket_there}
 use Rattle.ctl_history.proofs.ReapLemmas.{ReapBetween}
 
 module _ (c : Control) (o : ℕ) (is_open : IsOpenSocket (obj c.rows o)) where

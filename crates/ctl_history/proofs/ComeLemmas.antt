@@ -12,7 +12,7 @@ use Rattle.spec_control.specs.Rows.{Rows, obj, with_object}
 use Rattle.spec_control.specs.Control.{Control}
 use Rattle.spec_control.specs.ControlRun.{IsOpenSocket, is_between}
 use Rattle.spec_control.specs.After.{after}
-use Rattle.control_rows.proofs.ListLemmas.{never, clash}
+use Rattle.control_laws.proofs.ListLemmas.{never, clash}
 use Rattle.ctl_holder.specs.Holding.{HearsMore, HearsNone, HasGiven, Holding, JoinsBy}
 use Rattle.zq_base.specs.declared.ids.EndId.{EndId}
 use Rattle.zq_base.specs.declared.ids.Settled.{Settled}

@@ -14,8 +14,8 @@ use Rattle.spec_control.specs.Control.{Control}
 use Rattle.spec_control.specs.After.{Answers, answers_in, connects_to}
 use Rattle.spec_control.specs.ControlRun.{connect_joins, all_pipes}
 use Rattle.spec_control.specs.Reply.{reply_of, unless, connect_reply_at}
-use Rattle.control_moves.specs.OwnMoves.{connect_moves}
-use Rattle.control_moves.proofs.SoundLemmas.{socket_there}
+use Rattle.control_laws.specs.OwnMoves.{connect_moves}
+use Rattle.control_laws.proofs.SoundLemmas.{socket_there}
 use Rattle.ctl_state.specs.declared.state.State.{State}
 use Rattle.ctl_state.specs.Boxes.{PutsBare}
 use Rattle.ctl_state.specs.Needs.{AreMet}

@@ -32,11 +32,11 @@ use Rattle.spec_control.specs.After.{after, without_front}
 use Rattle.spec_control.specs.ControlRun.{Fits, IsAnswered, is_between, word_joins, Settles}
 use Rattle.control_held.specs.Held.{Held}
 use Rattle.control_held.proofs.NamedLemmas.{later}
-use Rattle.control_rows.proofs.ListLemmas.{never, clash, placed}
+use Rattle.control_laws.proofs.ListLemmas.{never, clash, placed}
 use Rattle.control_laws.specs.Kept.{Kept}
 use Rattle.control_laws.proofs.RootLemmas.{oldest_lives}
-use Rattle.control_moves.proofs.GuardLemmas.{may_come}
-use Rattle.control_bounds.specs.Room.{to_come, move_room, slots_of}
+use Rattle.control_laws.proofs.GuardLemmas.{may_come}
+use Rattle.control_laws.specs.Room.{to_come, move_room, slots_of}
 use Rattle.ctl_holder.specs.declared.load.Load.{Load}
 use Rattle.ctl_holder.specs.declared.given.Given.{Given}
 use Rattle.ctl_holder.specs.Holding.{Holding, given_as}
@@ -62,15 +62,15 @@ use Rattle.ctl_history.proofs.PlaneDoneLemmas.{word_makes}
 use Rattle.ctl_history.proofs.DoneLemmas.{taken_hears}
 use Rattle.ctl_history.proofs.OnWayLemmas.{brought_own}
 use Rattle.ctl_strikes.proofs.FindLemmas.{turns_at, end_of_no_root}
-use Rattle.control_bounds.proofs.RoomLemmas.{goes_room}
-use Rattle.control_moves.specs.Move.{LinkMoves}
-use Rattle.control_moves.proofs.SoundLemmas.{sound_of}
+use Rattle.control_laws.proofs.RoomLemmas.{goes_room}
+use Rattle.control_laws.specs.Move.{LinkMoves}
+use Rattle.control_laws.proofs.SoundLemmas.{sound_of}
 use Rattle.ctl_hears.proofs.SettledLemmas.{acknowledged_at}
 use Rattle.ctl_hears.proofs.TakeOverLemmas.{at_root, reaped_at}
 use Rattle.ctl_history.proofs.OldestBindLemmas.{bind_at, bind_taken, binds_fit_left, bound_by, fits_brought, fits_ends, fits_none, fits_writer, is_served, on_its_way, owner_is}
 use Rattle.ctl_hears.specs.Attaching.{FitsLoad}
 use Rattle.ctl_holder.specs.declared.halves.Halves.{Halves}
-use Rattle.control_attached.proofs.OnceLemmas.{old_run}
+use Rattle.control_laws.proofs.AttachedOnceLemmas.{old_run}
 use Rattle.ctl_state.specs.declared.belongings.Belongings.{Belongings}
 use Rattle.spec_control.specs.Rows.{obj}
 use Rattle.ctl_strikes.proofs.FindLemmas.{loaded_capacity}

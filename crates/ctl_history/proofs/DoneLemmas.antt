@@ -21,11 +21,11 @@ use Rattle.spec_control.specs.Reply.{reply_of}
 use Rattle.spec_control.specs.Control.{Control, link, put, stop_sockets, try_end}
 use Rattle.spec_control.specs.After.{without_front}
 use Rattle.spec_control.specs.ControlRun.{Fits, IsOpenSocket, MayAsk}
-use Rattle.control_rows.proofs.StepLemmas.{inv_of, same_slot}
+use Rattle.control_laws.proofs.StepLemmas.{inv_of, same_slot}
 use Rattle.control_laws.proofs.EndLemmas.{kept_but}
 use Rattle.control_laws.proofs.JoinLemmas.{open_is, socket_owned}
 use Rattle.control_laws.proofs.TellLemmas.{rows_of}
-use Rattle.control_moves.proofs.SoundLemmas.{socket_there}
+use Rattle.control_laws.proofs.SoundLemmas.{socket_there}
 use Rattle.own_tree.specs.declared.row.Row.{Row as TreeRow}
 use Rattle.ctl_state.specs.declared.command.Command.{Command}
 use Rattle.ctl_state.specs.declared.state.State.{State}

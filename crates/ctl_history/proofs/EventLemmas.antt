@@ -14,17 +14,17 @@ use Rattle.spec_control.specs.ControlRun.{Fits, FitsItem, after_item, after_all,
 use Rattle.spec_control.specs.Reply.{most_objects, most_made_pairs}
 use Rattle.control_laws.specs.Kept.{Kept}
 use Rattle.control_laws.proofs.RootLemmas.{runs_are_kept}
-use Rattle.control_moves.specs.Move.{Move, LinkMoves, EndMoves, ObjectEnds, ObjectMade, PairDrawn, LetterPut, move_rows, is_named, MayMove}
-use Rattle.control_moves.specs.OwnMoves.{own_moves, having_taken}
-use Rattle.control_moves.proofs.WeighLemmas.{goes_grow, taken_rows}
-use Rattle.control_moves.proofs.EventGoLemmas.{event_goes}
-use Rattle.control_moves.proofs.SoundLemmas.{leads_stay}
-use Rattle.control_rows.proofs.StepLemmas.{some_object}
-use Rattle.control_rows.proofs.ListLemmas.{never}
-use Rattle.control_bounds.specs.Room.{to_come, reserved, took_from, move_room, slots_of}
-use Rattle.control_bounds.specs.History.{entries_left, foreseen_in, entries_reserved}
-use Rattle.control_bounds.proofs.RoomLemmas.{room_is_kept}
-use Rattle.control_bounds.proofs.HistoryLemmas.{history_room_is_kept}
+use Rattle.control_laws.specs.Move.{Move, LinkMoves, EndMoves, ObjectEnds, ObjectMade, PairDrawn, LetterPut, move_rows, is_named, MayMove}
+use Rattle.control_laws.specs.OwnMoves.{own_moves, having_taken}
+use Rattle.control_laws.proofs.WeighLemmas.{goes_grow, taken_rows}
+use Rattle.control_laws.proofs.EventGoLemmas.{event_goes}
+use Rattle.control_laws.proofs.SoundLemmas.{leads_stay}
+use Rattle.control_laws.proofs.StepLemmas.{some_object}
+use Rattle.control_laws.proofs.ListLemmas.{never}
+use Rattle.control_laws.specs.Room.{to_come, reserved, took_from, move_room, slots_of}
+use Rattle.control_laws.specs.History.{entries_left, foreseen_in, entries_reserved}
+use Rattle.control_laws.proofs.RoomLemmas.{room_is_kept}
+use Rattle.control_laws.proofs.HistoryLemmas.{history_room_is_kept}
 use Rattle.ctl_state.specs.declared.state.State.{State}
 use Rattle.ctl_state.specs.Boxes.{mail_at, PutsBare}
 use Rattle.ctl_state.specs.Stands.{Stands}

@@ -28,8 +28,8 @@ use Rattle.spec_control.specs.After.{after, binding_by, pair_or_none}
 use Rattle.spec_control.specs.ControlRun.{Joins, Fits, MayAsk, bind_joins, connect_joins, request_joins, unless_refused, all_pipes, opened_in, answer_of, after_all, IsControlRun}
 use Rattle.control_laws.specs.Kept.{Kept}
 use Rattle.control_laws.proofs.RunLemmas.{after_kept}
-use Rattle.control_rows.proofs.ListLemmas.{never}
-use Rattle.control_moves.specs.OwnMoves.{request_moves, join_moves, fulfil_moves, connect_moves}
+use Rattle.control_laws.proofs.ListLemmas.{never}
+use Rattle.control_laws.specs.OwnMoves.{request_moves, join_moves, fulfil_moves, connect_moves}
 use Rattle.ctl_history.proofs.EventLemmas.{pairs_drawn, pairs_after}
 
 module _ (e : EndId) where

@@ -27,12 +27,12 @@ use Rattle.spec_control.specs.After.{after}
 use Rattle.spec_control.specs.Control.{Control, next_pair, place_of}
 use Rattle.spec_control.specs.ControlRun.{Fits}
 use Rattle.spec_control.specs.Reply.{reply_of}
-use Rattle.control_bounds.specs.Room.{move_room, reserved, slots_of, took_from}
+use Rattle.control_laws.specs.Room.{move_room, reserved, slots_of, took_from}
 use Rattle.control_held.specs.Held.{Held, held_as}
 use Rattle.control_held.proofs.NamedLemmas.{later}
 use Rattle.control_laws.specs.Kept.{Kept}
-use Rattle.control_moves.specs.Move.{Move}
-use Rattle.control_moves.specs.OwnMoves.{fulfil_moves, join_moves}
+use Rattle.control_laws.specs.Move.{Move}
+use Rattle.control_laws.specs.OwnMoves.{fulfil_moves, join_moves}
 use Rattle.ctl_holder.specs.Holding.{Holding, has_end}
 use Rattle.ctl_holder.specs.Lent.{HasAll, HasBothNames}
 use Rattle.ctl_holder.specs.Turns.{HasTurned, TurnsBy, turn_at, turned_over}
@@ -249,6 +249,18 @@ module _ {N O I S : Type 0} (out_name : O → N) (in_name : I → N) (s : State 
 module _ {N : Type 0} where
   pub back_told : (n o : ℕ) (h k : Holding N) → IsBack n o h k → TurnsBy [] h k
   back_told n o h k back = record { turns = back.turns ∙ sym (append-nil h.turns); sealed = back.sealed ∙ sym (append-nil h.sealed) }
+
+  -- a holder with which nothing was done
+  pub back_itself : (n o : ℕ) (h : Holding N) → IsBack n o h h
+  back_itself n o h = record {
+    now = record { ends = refl; others = λ i other. refl; objects = λ i. refl; kinds = λ i. refl; output = λ i. refl; delimiters = λ i e has at. at };
+    writers = λ e below. refl;
+    states = λ i e below has. refl;
+    turns = refl;
+    sealed = refl;
+    joined = refl;
+    heard = refl;
+  }
 
   pub has_back : (names : EndId → Option N) (c : Control) (o : ℕ) (h k : Holding N) → All (λ (e : EndId). e.pair.0 < length c.rows.pairs) c.attached → IsBack (length c.rows.pairs) o h k → HasAll names c h → HasAll names c k
   has_back names c o h k known back has i holds =

@@ -20,13 +20,13 @@ use Rattle.spec_control.specs.Control.{Control, end_of, is_end, next_pair, place
 use Rattle.spec_control.specs.Reply.{reply_of}
 use Rattle.control_laws.specs.Kept.{Kept, IsUnasked}
 use Rattle.control_laws.proofs.JoinLemmas.{open_is, unasked_lives}
-use Rattle.control_moves.proofs.SoundLemmas.{socket_there}
+use Rattle.control_laws.proofs.SoundLemmas.{socket_there}
 use Rattle.ctl_holder.specs.declared.given.Given.{Given}
 use Rattle.ctl_holder.specs.declared.load.Load.{Load}
 use Rattle.ctl_holder.specs.Holding.{Holding, has_end}
 use Rattle.ctl_holder.specs.Making.{MakesSo, bind_makes}
 use Rattle.ctl_holder.specs.Turns.{sealed_by, turned_over}
-use Rattle.control_rows.proofs.ListLemmas.{never}
+use Rattle.control_laws.proofs.ListLemmas.{never}
 use Rattle.control_laws.proofs.AskLemmas.{same_end}
 use Rattle.ctl_state.specs.declared.state.State.{State}
 use Rattle.ctl_state.specs.Needs.{AreMet}

@@ -11,7 +11,7 @@ use Rattle.spec_control.specs.Control.{Control, is_end, place_of}
 use Rattle.spec_control.specs.ControlRun.{Joins, taken_over}
 use Rattle.control_held.specs.Held.{Held}
 use Rattle.control_laws.proofs.AskLemmas.{end_self}
-use Rattle.control_rows.proofs.ListLemmas.{never}
+use Rattle.control_laws.proofs.ListLemmas.{never}
 use Rattle.ctl_holder.specs.declared.given.Given.{Given}
 use Rattle.ctl_holder.specs.declared.given.Parting.{Parting}
 use Rattle.ctl_holder.specs.Holding.{Holding, AllSealed, AllStated, AllTold, AllWriting, AreGivenAs, HasGiven, KeepsTurns, given_as, has_end, held_given}

@@ -27,13 +27,13 @@ use Rattle.spec_control.specs.After.{after, with_hold}
 use Rattle.spec_control.specs.Control.{Control, end_of, is_end, place_of}
 use Rattle.spec_control.specs.ControlRun.{Fits}
 use Rattle.spec_control.specs.Reply.{reply_of}
-use Rattle.control_bounds.specs.Room.{move_room, reserved, slots_of, took_from}
+use Rattle.control_laws.specs.Room.{move_room, reserved, slots_of, took_from}
 use Rattle.control_held.specs.Held.{Held, held_as}
 use Rattle.control_laws.specs.Kept.{Kept}
 use Rattle.control_laws.proofs.AskLemmas.{same_end}
-use Rattle.control_rows.proofs.ListLemmas.{never}
+use Rattle.control_laws.proofs.ListLemmas.{never}
 use Rattle.control_held.proofs.NamedLemmas.{later}
-use Rattle.control_moves.specs.OwnMoves.{connect_moves}
+use Rattle.control_laws.specs.OwnMoves.{connect_moves}
 use Rattle.ctl_holder.specs.Holding.{Holding}
 use Rattle.ctl_holder.specs.Turns.{HasTurned}
 use Rattle.ctl_holder.specs.Lent.{HasAll, HasBothNames}

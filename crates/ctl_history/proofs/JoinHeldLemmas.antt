@@ -29,8 +29,8 @@ use Rattle.spec_control.specs.ControlRun.{MayAnswer}
 use Rattle.spec_control.specs.Reply.{reply_of, unless, connect_reply_at, has_pairs, most_made_pairs}
 use Rattle.control_laws.specs.Kept.{Kept, IsUnasked}
 use Rattle.control_laws.proofs.JoinLemmas.{open_is}
-use Rattle.control_moves.proofs.SoundLemmas.{socket_there}
-use Rattle.control_rows.proofs.ListLemmas.{never}
+use Rattle.control_laws.proofs.SoundLemmas.{socket_there}
+use Rattle.control_laws.proofs.ListLemmas.{never}
 use Rattle.ctl_holder.specs.Holding.{Holding, MayRefuse}
 use Rattle.ctl_holder.specs.Making.{MakesSo, capacity_between, connect_makes}
 use Rattle.ctl_state.specs.declared.state.State.{State}

@@ -1,4 +1,5 @@
 mod SilentLemmas
+mod WalkLemmas
 mod EventLemmas
 mod BeginLemmas
 mod DoneLemmas

@@ -1,5 +1,5 @@
 -- That the making of a socket adds its event.
-use Rattle.std.specs.Prelude.{Result, Ok, Err, OnErr, ◌≡◌, ◌<◌, ◌≤◌, ◌⊎◌, ◌+◌, ◌-◌, ◌^◌, ◌==◌, ◌||◌, ◌++◌, ◌∷◌, [], ℕ, Bool, true, false, not, cond, List, None, All, flat_map, length, nat_lt, refl}
+use Rattle.std.specs.Prelude.{◌≡◌, ◌<◌, ◌≤◌, ◌⊎◌, ◌+◌, ◌-◌, ◌^◌, ◌==◌, ◌||◌, ◌++◌, ◌∷◌, [], ℕ, Bool, true, false, not, cond, List, None, All, flat_map, length, nat_lt, refl}
 use Rattle.std.proofs.Common.{arith, sym, ap, ◌∙◌, subst, inl, inr}
 use Rattle.std.proofs.lemmas.Bool.{cases_order, eq-eqb, ne_eqb}
 use Rattle.std.proofs.lemmas.Bool.Decides.{Decides-ltb}
@@ -22,9 +22,9 @@ use Rattle.spec_control.specs.Stage.{is_alive, has_ended}
 use Rattle.spec_control.specs.Control.{Control, id, makes, next_object}
 use Rattle.spec_control.specs.After.{after, socket_row}
 use Rattle.spec_control.specs.Reply.{reply_of, unless, has_object, living_sockets, most_living_sockets, most_objects}
-use Rattle.control_bounds.specs.Room.{to_come, reserved, took_from}
-use Rattle.control_rows.proofs.ListLemmas.{never}
-use Rattle.control_rows.proofs.StepLemmas.{some_object}
+use Rattle.control_laws.specs.Room.{to_come, reserved, took_from}
+use Rattle.control_laws.proofs.ListLemmas.{never}
+use Rattle.control_laws.proofs.StepLemmas.{some_object}
 use Rattle.ctl_state.specs.declared.command.Command.{Command}
 use Rattle.ctl_state.specs.declared.detail.Made.{Made}
 use Rattle.ctl_state.specs.declared.state.State.{State}
@@ -252,9 +252,3 @@ module _ {N O I S : Type 0} where
   viewed_back old s t workers l now same listed was =
       ap (λ (x : Listed (Did N S)). let y : Past (Given N O I) N S = record { workers = workers; events = x.items; given = given_in t.boxes } in y) listed
       ∙ ap (λ (x : State (Load N O I)). let y : Past (Given N O I) N S = record { workers = workers; events = l.items; given = given_in x.boxes } in y) same ∙ was
-
-module _ {T E : Type 0} where
-  -- what is so whatever the answer is
-  pub so_on_err : (P : Type 0) (r : Result T E) → P → OnErr r P
-  so_on_err P (Ok x) so = tt
-  so_on_err P (Err e) so = so

@@ -23,7 +23,7 @@ use Rattle.spec_control.specs.Rows.{Rows}
 use Rattle.spec_control.specs.After.{after, answers_in, connects_to}
 use Rattle.control_held.specs.Held.{held_as}
 use Rattle.control_held.proofs.NamedLemmas.{later}
-use Rattle.control_moves.specs.OwnMoves.{own_moves}
+use Rattle.control_laws.specs.OwnMoves.{own_moves}
 use Rattle.ctl_holder.specs.declared.given.Given.{Given}
 use Rattle.ctl_holder.specs.Holding.{Holding, Stays}
 use Rattle.ctl_holder.specs.Lent.{HasAll, HasEnds}

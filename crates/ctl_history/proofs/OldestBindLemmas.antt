@@ -19,17 +19,17 @@ use Rattle.spec_control.specs.After.{after, kind_answer, without_front}
 use Rattle.spec_control.specs.ControlRun.{Fits}
 use Rattle.spec_control.specs.declared.entry.Did.TheVariants.{Delivered}
 use Rattle.zq_base.specs.declared.ids.SlotId.{SlotId}
-use Rattle.control_rows.proofs.ListLemmas.{never, clash, placed}
-use Rattle.control_rows.proofs.RowLemmas.{pair_there}
+use Rattle.control_laws.proofs.ListLemmas.{never, clash, placed}
+use Rattle.control_laws.proofs.RowLemmas.{pair_there}
 use Rattle.control_laws.specs.Kept.{Kept}
 use Rattle.control_laws.proofs.AskLemmas.{same_end}
 use Rattle.control_laws.proofs.RootLemmas.{oldest_lives}
-use Rattle.control_moves.proofs.GoLemmas.{greet_goes}
-use Rattle.control_moves.proofs.GuardLemmas.{may_come}
-use Rattle.control_moves.proofs.PairWeighLemmas.{binds_away}
-use Rattle.control_moves.proofs.SoundLemmas.{sound_of}
-use Rattle.control_moves.specs.Coming.{ComesToEnd}
-use Rattle.control_bounds.specs.Room.{to_come}
+use Rattle.control_laws.proofs.GoLemmas.{greet_goes}
+use Rattle.control_laws.proofs.GuardLemmas.{may_come}
+use Rattle.control_laws.proofs.PairWeighLemmas.{binds_away}
+use Rattle.control_laws.proofs.SoundLemmas.{sound_of}
+use Rattle.control_laws.specs.Coming.{ComesToEnd}
+use Rattle.control_laws.specs.Room.{to_come}
 use Rattle.ctl_holder.specs.declared.halves.Halves.{Halves}
 use Rattle.ctl_holder.specs.declared.load.Load.{Load}
 use Rattle.ctl_holder.specs.declared.load.Load.TheVariants.{Halves as IsHalves, Writer, Ends}
@@ -39,8 +39,8 @@ use Rattle.ctl_state.specs.declared.belongings.Belongings.{Belongings}
 use Rattle.ctl_state.specs.declared.state.State.{State}
 use Rattle.ctl_state.specs.Boxes.{mail_at}
 use Rattle.ctl_state.specs.Lists.{belongings_at}
-use Rattle.control_attached.proofs.OnceLemmas.{AreOld, IsOld}
-use Rattle.control_attached.proofs.MoveLemmas.{is_at}
+use Rattle.control_laws.proofs.AttachedOnceLemmas.{AreOld, IsOld}
+use Rattle.control_laws.proofs.MoveLemmas.{is_at}
 use Rattle.ctl_hears.specs.Attaching.{BindsAt, FitsLoad, IsBound, KeepsPlaces, binds_end}
 use Rattle.ctl_history.specs.Hearing.{AreOfKind, IsServed}
 use Rattle.ctl_history.specs.Carried.{BindsFit}

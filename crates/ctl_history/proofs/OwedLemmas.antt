@@ -15,12 +15,12 @@ use Rattle.spec_control.specs.Rows.{Rows, PairRow, no_pair, pair, pair_after, of
 use Rattle.spec_control.specs.Control.{Control}
 use Rattle.spec_control.specs.After.{after}
 use Rattle.spec_control.specs.ControlRun.{Fits}
-use Rattle.control_rows.proofs.ListLemmas.{never, pushed, is_old, is_new}
+use Rattle.control_laws.proofs.ListLemmas.{never, pushed, is_old, is_new}
 use Rattle.control_laws.specs.Kept.{Kept}
-use Rattle.control_moves.specs.Move.{Move, LinkMoves, EndMoves, ObjectEnds, ObjectMade, PairDrawn, LetterPut, move_rows, move_boxes, is_named, Leads, MovesTo}
-use Rattle.control_moves.specs.OwnMoves.{own_moves, word_moves, having_taken}
-use Rattle.control_moves.proofs.WeighLemmas.{gain_of_own, taken_rows}
-use Rattle.control_moves.proofs.EventGoLemmas.{event_goes}
+use Rattle.control_laws.specs.Move.{Move, LinkMoves, EndMoves, ObjectEnds, ObjectMade, PairDrawn, LetterPut, move_rows, move_boxes, is_named, Leads, MovesTo}
+use Rattle.control_laws.specs.OwnMoves.{own_moves, word_moves, having_taken}
+use Rattle.control_laws.proofs.WeighLemmas.{gain_of_own, taken_rows}
+use Rattle.control_laws.proofs.EventGoLemmas.{event_goes}
 use Rattle.ctl_state.specs.declared.belongings.Belongings.{Belongings}
 use Rattle.ctl_state.specs.Listed.{Listed}
 use Rattle.ctl_state.specs.Lists.{no_belongings}

@@ -9,11 +9,11 @@ use Rattle.spec_control.specs.Stage.{is_alive, is_coming, is_told, was_asked}
 use Rattle.spec_control.specs.Row.{Row, GetsPlug, GetsStop, GetsTerm, first_if}
 use Rattle.spec_control.specs.Rows.{obj}
 use Rattle.spec_control.specs.Control.{Control}
-use Rattle.control_bounds.specs.Room.{to_come}
+use Rattle.control_laws.specs.Room.{to_come}
 use Rattle.control_laws.specs.Kept.{Kept, IsUnasked}
 use Rattle.control_laws.specs.Mail.{DownLink, Mark, down_mark, down_marks, on_way}
-use Rattle.control_moves.proofs.SoundLemmas.{socket_there}
-use Rattle.control_rows.proofs.ListLemmas.{never}
+use Rattle.control_laws.proofs.SoundLemmas.{socket_there}
+use Rattle.control_laws.proofs.ListLemmas.{never}
 use Rattle.ctl_state.specs.declared.state.State.{State}
 use Rattle.ctl_state.specs.Boxes.{letters, mail_at}
 use Rattle.ctl_state.specs.Stands.{Stands}

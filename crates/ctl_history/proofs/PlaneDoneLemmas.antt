@@ -23,15 +23,15 @@ use Rattle.spec_control.specs.Control.{Control, link}
 use Rattle.spec_control.specs.After.{after}
 use Rattle.spec_control.specs.ControlRun.{IsOpenSocket}
 use Rattle.spec_control.specs.declared.letter.Letter.{Letter}
-use Rattle.control_rows.proofs.StepLemmas.{same_slot}
-use Rattle.control_moves.specs.Move.{Move, LinkMoves, EndMoves}
-use Rattle.control_moves.specs.OwnMoves.{own_moves, word_moves}
+use Rattle.control_laws.proofs.StepLemmas.{same_slot}
+use Rattle.control_laws.specs.Move.{Move, LinkMoves, EndMoves}
+use Rattle.control_laws.specs.OwnMoves.{own_moves, word_moves}
 use Rattle.ctl_holder.specs.declared.load.Load.{Load}
 use Rattle.ctl_holder.specs.declared.load.Load.TheVariants.{Ends}
 use Rattle.ctl_holder.specs.declared.given.Given.{Given}
 use Rattle.ctl_holder.specs.declared.given.Parting.{Parting}
 use Rattle.ctl_holder.specs.Load.{AreEndsOfClosed, GivesAll, given_by}
-use Rattle.control_others.proofs.EventLemmas.{others_spared}
+use Rattle.control_laws.proofs.EventLemmas.{others_spared}
 use Rattle.ctl_state.specs.declared.command.Command.{Command}
 use Rattle.ctl_state.specs.declared.state.State.{State}
 use Rattle.ctl_state.specs.Boxes.{mail_at, with_mail, Takes}

@@ -16,13 +16,13 @@ use Rattle.spec_control.specs.Control.{Control, begun}
 use Rattle.spec_control.specs.After.{after}
 use Rattle.spec_control.specs.ControlRun.{Fits, FitsItem, answer_of, after_all, after_item, IsControlRun}
 use Rattle.control_held.proofs.NamedLemmas.{later}
-use Rattle.control_rows.proofs.ListLemmas.{pushed, is_old, is_new}
+use Rattle.control_laws.proofs.ListLemmas.{pushed, is_old, is_new}
 use Rattle.control_laws.specs.Kept.{Kept}
-use Rattle.control_moves.specs.Move.{Move, LinkMoves, EndMoves, ObjectEnds, ObjectMade, PairDrawn, LetterPut, move_rows, move_boxes, is_named, Leads}
-use Rattle.control_moves.specs.OwnMoves.{own_moves, having_taken}
+use Rattle.control_laws.specs.Move.{Move, LinkMoves, EndMoves, ObjectEnds, ObjectMade, PairDrawn, LetterPut, move_rows, move_boxes, is_named, Leads}
+use Rattle.control_laws.specs.OwnMoves.{own_moves, having_taken}
 use Rattle.std.proofs.lemmas.List.Sums.{sum_by-cons}
-use Rattle.control_moves.proofs.WeighLemmas.{gain_of_own, taken_rows}
-use Rattle.control_moves.proofs.EventGoLemmas.{event_goes}
+use Rattle.control_laws.proofs.WeighLemmas.{gain_of_own, taken_rows}
+use Rattle.control_laws.proofs.EventGoLemmas.{event_goes}
 use Rattle.ctl_holder.specs.declared.load.Load.{Load}
 use Rattle.ctl_holder.specs.declared.given.Given.{Given}
 use Rattle.ctl_holder.specs.Load.{given_by}

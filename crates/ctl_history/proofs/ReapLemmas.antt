@@ -31,9 +31,9 @@ use Rattle.control_laws.specs.Kept.{Kept}
 use Rattle.control_laws.specs.Mail.{Sign, OwnSign, RequestSign, ReapSign, AckSign, PlugSign, StopSign, TermSign, BindSign, PipeTermSign, PipeAckSign, Mark, UpLink, marks, on_way, queue, slot_of}
 use Rattle.control_laws.proofs.FrontLemmas.{up_list}
 use Rattle.control_laws.proofs.RootLemmas.{oldest_lives}
-use Rattle.control_rows.proofs.ListLemmas.{never, left, right, and, clash, placed}
-use Rattle.control_others.specs.Spared.{shown, Known, Spared, touched_in}
-use Rattle.control_others.proofs.EventLemmas.{others_spared}
+use Rattle.control_laws.proofs.ListLemmas.{never, left, right, and, clash, placed}
+use Rattle.control_laws.specs.Spared.{shown, Known, Spared, touched_in}
+use Rattle.control_laws.proofs.EventLemmas.{others_spared}
 use Rattle.ctl_holder.specs.declared.given.Given.{Given}
 use Rattle.ctl_holder.specs.declared.given.Parting.{Parting}
 use Rattle.ctl_holder.specs.declared.load.Load.{Load}

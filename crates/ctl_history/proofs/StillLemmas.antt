@@ -22,8 +22,8 @@ use Rattle.spec_control.specs.Row.{RootAsked, link_after}
 use Rattle.spec_control.specs.Rows.{is_owner, obj}
 use Rattle.spec_control.specs.Control.{Control, ask, end_of, link, next_pair, owner_of, place_of, stop_sockets, try_end, with_end, with_value}
 use Rattle.spec_control.specs.After.{Answers, answered, binding_by, connects_to, fulfil_all, joins, named, requested, socket_row, strike_end, strikes, tell_struck, with_hold}
-use Rattle.control_moves.proofs.GoLemmas.{ask_goes, stop_sockets_goes, tell_where_goes, try_end_goes}
-use Rattle.control_moves.proofs.JoinGoLemmas.{joins_objects}
+use Rattle.control_laws.proofs.GoLemmas.{ask_goes, stop_sockets_goes, tell_where_goes, try_end_goes}
+use Rattle.control_laws.proofs.JoinGoLemmas.{joins_objects}
 use Rattle.ctl_terms.proofs.BetweenLemmas.{StayBetween, goes_between, pushed_between, same_between, written_between}
 
 -- whatever the answer

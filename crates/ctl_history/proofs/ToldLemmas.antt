@@ -19,8 +19,8 @@ use Rattle.spec_control.specs.Place.{Place, Unmade, At}
 use Rattle.spec_control.specs.Rows.{Rows, pair, end_place}
 use Rattle.spec_control.specs.Control.{Control, place_of}
 use Rattle.spec_control.specs.After.{after, answers_in, connects_to}
-use Rattle.control_attached.specs.Once.{AreOnce}
-use Rattle.control_attached.proofs.OnceLemmas.{ends_are_attached_once}
+use Rattle.control_laws.specs.AttachedOnce.{AreOnce}
+use Rattle.control_laws.proofs.AttachedOnceLemmas.{ends_are_attached_once}
 use Rattle.ctl_holder.specs.Holding.{Holding}
 use Rattle.ctl_holder.specs.Turns.{TurnsBy, HasTurned, turn_at}
 use Rattle.ctl_ends.specs.Turning.{TurnsOnce}

@@ -7,8 +7,8 @@ use Rattle.spec_control.specs.Rows.{obj}
 use Rattle.spec_control.specs.Control.{Control, begun, next_object, next_pair}
 use Rattle.spec_control.specs.ControlRun.{after_all, IsControlRun}
 use Rattle.spec_control.specs.Reply.{most_objects, most_made_pairs}
-use Rattle.control_bounds.specs.Room.{to_come}
-use Rattle.control_bounds.specs.History.{entries_left}
+use Rattle.control_laws.specs.Room.{to_come}
+use Rattle.control_laws.specs.History.{entries_left}
 use Rattle.mailbox.specs.Mail.{Mail, no_mail, with_spare}
 use Rattle.ctl_state.specs.declared.command.Command.{Command}
 use Rattle.ctl_state.specs.declared.state.State.{State}

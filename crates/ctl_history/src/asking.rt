@@ -8,6 +8,7 @@ ghost use Rattle.ctl_history.specs.Past.{control_of, with_event};
 ghost use Rattle.ctl_hears.specs.Processing.{IsSilent};
 
 use crate::history::History;
+use crate::noting::note;
 use ctl_asks::{ask_root, root_lives};
 use msg_pipe::Pipes;
 use spec_control::{Answered, Did, Refusal, Reply, Req};
@@ -27,8 +28,7 @@ where
         ensures err { OnErr result (self.new ≡ self.old) }
     {
         if !root_lives(&self.state) {
-            self.events.reserve(1)?;
-            self.events.push(Did::Asked(Req::AskTerm, Reply::Before, h));
+            note(&mut self.events, Did::Asked(Req::AskTerm, Reply::Before, h))?;
             return Ok(Reply::Before);
         }
         ask_root(&mut self.state);
@@ -57,9 +57,8 @@ where
             (self.new ≡ with_event (Asked request (Refused refusal) h) self.old) }
         ensures err { OnErr result (self.new ≡ self.old) }
     {
-        self.events.reserve(1)?;
-        self.events
-            .push(Did::Asked(request, Reply::Refused(refusal), h));
+        let did = Did::Asked(request, Reply::Refused(refusal), h);
+        note(&mut self.events, did)?;
         Ok(())
     }
 }

@@ -1,25 +1,19 @@
 ghost use Rattle.std.specs.Prelude.{◌≡◌, true, []};
-ghost use Rattle.spec_control.specs.declared.request.Req.TheVariants.{Close};
-ghost use Rattle.spec_control.specs.declared.request.Reply.TheVariants.{Done};
-ghost use Rattle.spec_control.specs.declared.entry.Did.TheVariants.{Asked};
 ghost use Rattle.spec_control.specs.Rows.{obj};
 ghost use Rattle.spec_control.specs.ControlRun.{IsOpenSocket};
-ghost use Rattle.spec_control.specs.Names.{name_of};
 ghost use Rattle.ctl_holder.specs.Holding.{HasGiven};
-ghost use Rattle.ctl_holder.specs.Load.{AreEndsOfClosed, GivesAll};
 ghost use Rattle.ctl_holder.specs.Turns.{HasTurned};
 ghost use Rattle.ctl_history.specs.Coming.{ComesWith};
 ghost use Rattle.ctl_history.specs.Closing.{Closes};
 ghost use Rattle.ctl_history.specs.Hearing.{HasWhat};
-ghost use Rattle.ctl_history.specs.Past.{control_of, items_of, with_event, with_given};
-ghost use Rattle.ctl_hears.specs.Processing.{IsSilent};
+ghost use Rattle.ctl_history.specs.Past.{control_of};
 
 use crate::history::History;
 use ctl_asks::note_met;
 use ctl_hears::silent;
-use ctl_holder::{Holder, Load, Parting};
+use ctl_holder::{Holder, Load};
 use msg_pipe::Pipes;
-use spec_control::{Answered, Did, Reply, Req, Word};
+use spec_control::{Did, Reply, Req, Word};
 use std::alloc::Global;
 use zq_base::ObjId;
 
@@ -44,29 +38,11 @@ where
         ensures calm { H.calm holder.old [] → H.calm holder.new [] }
     {
         let parting = note_met(&self.state, holder.give_ends(socket));
-        self.give_over(socket, parting, silent(alloc));
-    }
-
-    // The reaper is to take a closed socket over, with these ends.
-    fn give_over(
-        &mut self,
-        socket: ObjId,
-        parting: Parting<P::Name, P::Out, P::In>,
-        h: Answered<P::Name, P::Story>,
-    )
-        requires ends { AreEndsOfClosed P.known.out_name P.known.in_name
-            (name_of (items_of self.old)) parting }
-        requires all { GivesAll (control_of self.old) socket.0 parting }
-        requires open { IsOpenSocket (obj (control_of self.old).rows socket.0) }
-        requires silent { IsSilent h }
-        ensures { self.new ≡ with_given parting.ends.items
-            (with_event (Asked (Close socket) Done h) self.old) }
-    {
         self.state.needs();
         self.state.asks_over(socket);
         let load = Some(Load::Ends(parting));
         self.state.put(ObjId(0), Word::Reap(socket), load);
         self.events
-            .push(Did::Asked(Req::Close(socket), Reply::Done, h));
+            .push(Did::Asked(Req::Close(socket), Reply::Done, silent(alloc)));
     }
 }

@@ -129,43 +129,10 @@ where
         ensures joins { ComesWith self.old self.new (H.holding holder.old) (H.holding holder.new) }
     {
         let at = Endpoint::Inproc(name);
-        match self.connect_refusal(socket, &at) {
-            Some(refusal) => {
-                self.refuse(Req::Connect(socket, at), refusal, silent(alloc))?;
-                return Ok(Reply::Refused(refusal));
-            }
-            None => return self.connect_now(alloc, socket, at, holder, wakers),
+        if let Some(refusal) = self.connect_refusal(socket, &at) {
+            self.refuse(Req::Connect(socket, at), refusal, silent(alloc))?;
+            return Ok(Reply::Refused(refusal));
         }
-    }
-
-    // Connects a socket to a name, where that is not refused.
-    fn connect_now<H: Holder<P>>(
-        &mut self,
-        alloc: Global,
-        socket: ObjId,
-        at: Endpoint,
-        holder: &mut H,
-        wakers: &[P::Waker],
-    ) -> Result<Reply, AllocError>
-        requires name { IsName at }
-        requires free { refusal_in (reply_of (control_of self.old) (Connect socket at)) ≡ None }
-        requires lends { Lends (control_of self.old) socket.0 (H.holding holder.old) }
-        requires wakers { (control_of self.old).slots ≤ length wakers.now }
-        requires has { HasWhat self.old (H.holding holder.old) }
-        requires calm { H.calm holder.old [] }
-        requires makes { MakesSo (control_of self.old) (Connect socket at) H.may_make }
-        ensures ok { IfOk result (λ reply. NotesRequest socket (Connect socket at) reply
-            self.old self.new (H.holding holder.old) (H.holding holder.new)) }
-        ensures reply { IfOk result (λ reply.
-            reply ≡ reply_of (control_of self.old) (Connect socket at)) }
-        ensures err { OnErr result ((self.new ≡ self.old)
-            × Stays socket.0 (H.holding holder.old) (H.holding holder.new)) }
-        ensures same { IsOfSame (H.holding holder.old) (H.holding holder.new) }
-        ensures keeps { HasWhat self.new (H.holding holder.new) }
-        ensures turned { HasTurned (control_of self.old) (control_of self.new)
-            (H.holding holder.old) (H.holding holder.new) }
-        ensures joins { ComesWith self.old self.new (H.holding holder.old) (H.holding holder.new) }
-    {
         let found = self.state.find(&at);
         let name = name_of(at);
         match found {

@@ -19,6 +19,7 @@ mod history;
 mod joining;
 mod mailboxes;
 mod making;
+mod noting;
 mod refused;
 mod settled;
 mod shows;

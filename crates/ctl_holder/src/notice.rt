@@ -1,7 +1,7 @@
 use zq_base::ObjId;
 
 /// What the holder of an object is told of it, beside what concerns its ends.
-#[derive(Clone, Copy, PartialEq, Eq)]
+#[derive(Clone, Copy)]
 pub enum Notice {
     /// It processed its Stop.
     Stop(ObjId),

@@ -16,7 +16,7 @@ use Rattle.spec_control.specs.Place.{Place, At, is_here}
 use Rattle.spec_control.specs.Rows.{PairRow, no_pair, end_place}
 use Rattle.spec_control.specs.Control.{Control, ask, commands_in, greet, happens, place_of, tell_other}
 use Rattle.zq_base.specs.declared.attached.Attached.TheVariants.{Yes}
-use Rattle.control_rows.proofs.ListLemmas.{never}
+use Rattle.control_laws.proofs.ListLemmas.{never}
 use Rattle.control_laws.proofs.AskLemmas.{end_self}
 use Rattle.ctl_holder.specs.declared.load.Load.{Load}
 use Rattle.ctl_holder.specs.Holding.{HearsNone, Holding, Seals, Stays, TurnsTo, has_end, is_state}

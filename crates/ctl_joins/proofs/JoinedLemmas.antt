@@ -12,7 +12,7 @@ use Rattle.spec_control.specs.declared.end.EndState.TheVariants.{Active}
 use Rattle.spec_control.specs.Place.{Place, At, is_here}
 use Rattle.spec_control.specs.Control.{Control, is_end, met_in, owner_of, place_of}
 use Rattle.control_held.specs.Held.{Held}
-use Rattle.control_rows.proofs.ListLemmas.{never}
+use Rattle.control_laws.proofs.ListLemmas.{never}
 use Rattle.control_laws.proofs.AskLemmas.{end_self, same_end}
 use Rattle.ctl_holder.specs.Holding.{Holding, Joined, KeepsTurns, BeginsActive, Stays, has_end}
 use Rattle.ctl_holder.specs.Lent.{has_writer, here_ends, place_by, owner_by, HasBothNames, HasEnds, HasAll}

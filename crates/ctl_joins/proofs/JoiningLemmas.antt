@@ -13,7 +13,7 @@ use Rattle.spec_control.specs.Stage.{was_asked}
 use Rattle.spec_control.specs.Rows.{PairRow, no_pair, obj, end_place}
 use Rattle.spec_control.specs.Control.{Control, greet, open_pair, owner_of, place_of}
 use Rattle.zq_base.specs.declared.attached.Attached.{Attached}
-use Rattle.control_rows.proofs.ListLemmas.{never}
+use Rattle.control_laws.proofs.ListLemmas.{never}
 use Rattle.control_laws.proofs.AttachLemmas.{attach_moved}
 use Rattle.control_laws.proofs.JoinLemmas.{unasked_lives}
 use Rattle.ctl_holder.specs.declared.halves.NamedHalves.{NamedHalves}

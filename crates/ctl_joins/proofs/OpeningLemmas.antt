@@ -11,7 +11,7 @@ use Rattle.spec_control.specs.PairPhase.{Opens as IsOpened}
 use Rattle.spec_control.specs.Row.{Row}
 use Rattle.spec_control.specs.Rows.{PairRow, no_pair, obj, pair, pair_after, end_owner}
 use Rattle.spec_control.specs.Control.{Control, attach, owner_of, put}
-use Rattle.control_rows.proofs.StepLemmas.{after_owner}
+use Rattle.control_laws.proofs.StepLemmas.{after_owner}
 use Rattle.ctl_state.specs.declared.command.Command.{Command}
 use Rattle.ctl_state.specs.declared.pair.Spot.TheVariants.{Unmade}
 use Rattle.ctl_state.specs.declared.state.State.{State}

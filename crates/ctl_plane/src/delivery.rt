@@ -1,5 +1,5 @@
 /// What a delivery found in a mailbox.
-#[derive(Clone, Copy, PartialEq, Eq)]
+#[derive(Clone, Copy)]
 pub enum Delivery {
     /// Its oldest command was processed.
     Done,

@@ -9,9 +9,9 @@ use Rattle.zq_base.specs.declared.ids.ObjId.{ObjId}
 use Rattle.spec_control.specs.Place.{is_here}
 use Rattle.spec_control.specs.Control.{ends_of, is_end, owner_of, place_of}
 use Rattle.control_held.specs.Held.{Held}
-use Rattle.control_attached.specs.Once.{AreOnce}
+use Rattle.control_laws.specs.AttachedOnce.{AreOnce}
 use Rattle.control_laws.proofs.AskLemmas.{end_self}
-use Rattle.control_rows.proofs.ListLemmas.{never}
+use Rattle.control_laws.proofs.ListLemmas.{never}
 use Rattle.ctl_holder.specs.declared.given.Given.{Given}
 use Rattle.ctl_holder.specs.declared.given.Parting.{Parting}
 use Rattle.ctl_holder.specs.declared.load.Load.{Load}

@@ -21,7 +21,7 @@ use Rattle.spec_control.specs.Rows.{obj}
 use Rattle.spec_control.specs.Control.{Control, ends_of, is_end, link, met_in, owner_of, place_of, put}
 use Rattle.spec_control.specs.ControlRun.{Joins, is_between, reap_joins, taken_over}
 use Rattle.control_held.specs.Held.{Held}
-use Rattle.control_rows.proofs.ListLemmas.{never, left, placed, right}
+use Rattle.control_laws.proofs.ListLemmas.{never, left, placed, right}
 use Rattle.control_laws.proofs.AskLemmas.{same_end}
 use Rattle.ctl_holder.specs.declared.given.Given.{Given}
 use Rattle.ctl_holder.specs.declared.given.Parting.{Parting}

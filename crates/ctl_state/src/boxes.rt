@@ -43,6 +43,15 @@ fn show<C>(shown: &mut Vec<u64>, place: usize, mailbox: &Mailbox<C>)
     set_bit(shown, place, waits);
 }
 
+// A mailbox with room for so many commands.
+fn mailbox_with<C: Drop>(alloc: Global, room: usize) -> Result<Mailbox<C>, AllocError>
+    ensures { IfOk result (λ m. m ≡ with_spare room no_mail) }
+{
+    let mut mailbox = Mailbox::new(alloc);
+    mailbox.reserve(room)?;
+    Ok(mailbox)
+}
+
 impl<L: Drop> Boxes<L> {
     /// So many mailboxes, with no command and no room for one.
     pub fn empty(alloc: Global, many: usize) -> Result<Boxes<L>, AllocError>
@@ -70,10 +79,9 @@ impl<L: Drop> Boxes<L> {
         ensures ok { OnOk result (self.new ≡ self.old ++ with_spare room no_mail ∷ []) }
         ensures err { OnErr result (self.new ≡ self.old) }
     {
-        let mut mailbox = Mailbox::new(alloc);
-        mailbox.reserve(room)?;
         let place = self.boxes.len();
         more_bits(&mut self.shown, place)?;
+        let mailbox = mailbox_with(alloc, room)?;
         self.boxes.push(mailbox)?;
         Ok(())
     }

@@ -14,6 +14,7 @@ ghost use Rattle.own_tree.specs.Changes.{change, without_end};
 ghost use Rattle.ctl_state.specs.Parts.{bound, on_pairs, on_tree, opened, sent_to};
 ghost use Rattle.ctl_state.specs.Stands.{Stands, Updates, letter_for, slot_of, stepped, struck_now, tells, told_word};
 
+use crate::pair::{fits_there, is_away, is_here, met_there, reason_there, state_there};
 use crate::state::State;
 use spec_control::{EndCommands, EndEvent, EndState, Reason, Word};
 use zq_base::{EndId, ObjId};
@@ -31,42 +32,63 @@ impl<L: Drop> State<L> {
     pub fn is_away(&self, e: EndId) -> bool
         ensures { (c : Control) → Stands self.now c → result ≡ is_away (place_of c e) }
     {
-        self.pairs.is_away(e)
+        match self.pairs.spot(e) {
+            Some(spot) => return is_away(spot),
+            None => return false,
+        }
     }
 
     /// Whether an end is attached and not gone.
     pub fn is_here(&self, e: EndId) -> bool
         ensures { (c : Control) → Stands self.now c → result ≡ is_here (place_of c e) }
     {
-        self.pairs.is_here(e)
+        match self.pairs.spot(e) {
+            Some(spot) => return is_here(spot),
+            None => return false,
+        }
     }
 
     /// How far an end is in its life, if it was attached.
     pub fn end_state(&self, e: EndId) -> Option<EndState>
         ensures { (c : Control) → Stands self.now c → result ≡ state_in (place_of c e) }
     {
-        self.pairs.end_state(e)
+        match self.pairs.spot(e) {
+            Some(spot) => return state_there(spot),
+            None => return Some(EndState::Gone),
+        }
     }
 
     /// Why an end was asked, if it was.
     pub fn reason(&self, e: EndId) -> Option<Reason>
         ensures { (c : Control) → Stands self.now c → result ≡ c.reasons e }
     {
-        self.pairs.reason(e)
+        match self.pairs.spot(e) {
+            Some(spot) => return reason_there(spot),
+            None => return None,
+        }
     }
 
     /// The reason of an end fits how far it is in its life. It costs nothing.
     pub fn reason_fits(&self, e: EndId)
         ensures { (c : Control) → Stands self.now c → FitsAt (place_of c e) (c.reasons e) }
     {
-        self.pairs.reason_fits(e);
+        match self.pairs.spot(e) {
+            Some(spot) => {
+                fits_there(spot);
+                return;
+            }
+            None => return,
+        }
     }
 
     /// Whether an end has met the delimiter of the pipe that it reads, and was asked for no reason.
     pub fn has_met(&self, e: EndId) -> bool
         ensures { (c : Control) → Stands self.now c → result ≡ met_in (place_of c e) (c.reasons e) }
     {
-        self.pairs.has_met(e)
+        match self.pairs.spot(e) {
+            Some(spot) => return met_there(spot),
+            None => return false,
+        }
     }
 
     /// Whether the connect of an end was struck.

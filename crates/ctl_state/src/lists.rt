@@ -1,4 +1,4 @@
-ghost use Rattle.std.specs.Prelude.{◌≡◌, ◌<◌, ◌≤◌, ℕ, find, is_some, length, map, option_map, position, OnOk, OnErr};
+ghost use Rattle.std.specs.Prelude.{◌≡◌, ◌<◌, ◌≤◌, ℕ, find, is_some, length, map, option_map, OnOk, OnErr};
 ghost use Rattle.spec_control.specs.EndpointBook.{without_first};
 ghost use Rattle.spec_control.specs.Hold.{is_bind_to, is_connect_to, waits_for, fulfil};
 ghost use Rattle.spec_control.specs.After.{with_hold};
@@ -8,7 +8,7 @@ ghost use Rattle.ctl_state.specs.Lists.{belongings_at, hold_of, with_ends, with_
 ghost use Rattle.ctl_state.specs.Parts.{on_lists};
 ghost use Rattle.ctl_state.specs.Stands.{Stands, Updates, holds_by};
 
-use crate::hold::{Hold, is_bind_to, is_connect_to, waits_for};
+use crate::hold::Hold;
 use crate::state::State;
 use std::alloc::AllocError;
 use zq_base::{EndId, Endpoint, ObjId, PairId};
@@ -77,45 +77,12 @@ impl<L: Drop> State<L> {
         self.objects.hold_comes(id, hold);
     }
 
-    // Where the first bind of a socket to the endpoint stands.
-    fn bind_place(&self, id: ObjId, to: &Endpoint) -> Option<usize>
-        ensures { result ≡ position (λ h. is_bind_to to.now (hold_of h))
-            (belongings_at self.now.objects.lists id.0).holds.items }
-    {
-        self.objects
-            .holds_of(id)
-            .iter()
-            .position(|hold| is_bind_to(hold, to))
-    }
-
-    // Where the first connect of a socket to the endpoint stands.
-    fn connect_place(&self, id: ObjId, to: &Endpoint) -> Option<usize>
-        ensures { result ≡ position (λ h. is_connect_to to.now (hold_of h))
-            (belongings_at self.now.objects.lists id.0).holds.items }
-    {
-        self.objects
-            .holds_of(id)
-            .iter()
-            .position(|hold| is_connect_to(hold, to))
-    }
-
-    // Where the longest waiting connect of a socket to the endpoint stands.
-    fn waiting_place(&self, id: ObjId, to: &Endpoint) -> Option<usize>
-        ensures { result ≡ position (λ h. waits_for to.now (hold_of h))
-            (belongings_at self.now.objects.lists id.0).holds.items }
-    {
-        self.objects
-            .holds_of(id)
-            .iter()
-            .position(|hold| waits_for(hold, to))
-    }
-
     /// Whether a socket has bound the endpoint, by a walk over what it has bound and connected.
     pub fn has_bind(&self, id: ObjId, to: &Endpoint) -> bool
         ensures { (c : Control) → Stands self.now c →
             result ≡ is_some (find (is_bind_to to.now) (c.holds id.0)) }
     {
-        self.bind_place(id, to).is_some()
+        self.objects.bind_place(id, to).is_some()
     }
 
     /// Whether a socket has connected to the endpoint, by a walk over what it has bound and connected.
@@ -123,7 +90,7 @@ impl<L: Drop> State<L> {
         ensures { (c : Control) → Stands self.now c →
             result ≡ is_some (find (is_connect_to to.now) (c.holds id.0)) }
     {
-        self.connect_place(id, to).is_some()
+        self.objects.connect_place(id, to).is_some()
     }
 
     /// Strikes the first bind of a socket to the endpoint, if there is one.
@@ -136,7 +103,7 @@ impl<L: Drop> State<L> {
         ensures ends { (i : ℕ) → (belongings_at self.new.objects.lists i).ends
             ≡ (belongings_at self.old.objects.lists i).ends }
     {
-        match self.bind_place(id, to) {
+        match self.objects.bind_place(id, to) {
             Some(place) => return Some(self.objects.hold_goes(id, place)),
             None => return None,
         }
@@ -152,7 +119,7 @@ impl<L: Drop> State<L> {
         ensures ends { (i : ℕ) → (belongings_at self.new.objects.lists i).ends
             ≡ (belongings_at self.old.objects.lists i).ends }
     {
-        match self.connect_place(id, to) {
+        match self.objects.connect_place(id, to) {
             Some(place) => return Some(self.objects.hold_goes(id, place)),
             None => return None,
         }
@@ -165,7 +132,7 @@ impl<L: Drop> State<L> {
         ensures ends { (i : ℕ) → (belongings_at self.new.objects.lists i).ends
             ≡ (belongings_at self.old.objects.lists i).ends }
     {
-        match self.waiting_place(id, at) {
+        match self.objects.waiting_place(id, at) {
             Some(place) => {
                 self.objects.hold_joins(id, place, pair);
                 return;

@@ -58,8 +58,8 @@ fn step(spot: &mut Spot, event: EndEvent) -> EndCommands
     }
 }
 
-// Whether an end there is attached and not gone.
-fn is_here(spot: &Spot) -> bool
+/// Whether an end there is attached and not gone.
+pub(crate) fn is_here(spot: &Spot) -> bool
     ensures { result ≡ is_here (place_at spot.now) }
 {
     match spot {
@@ -68,8 +68,8 @@ fn is_here(spot: &Spot) -> bool
     }
 }
 
-// Whether the bind of an end there is on its way.
-fn is_away(spot: &Spot) -> bool
+/// Whether the bind of an end there is on its way.
+pub(crate) fn is_away(spot: &Spot) -> bool
     ensures { result ≡ is_away (place_at spot.now) }
 {
     match spot {
@@ -78,28 +78,8 @@ fn is_away(spot: &Spot) -> bool
     }
 }
 
-/// Whether the bind of this end of the pair is on its way.
-pub(crate) fn is_away_in(pair: &Entry, a: bool) -> bool
-    ensures { result ≡ is_away (place_at (spot_in pair.now a)) }
-{
-    if a {
-        return is_away(&pair.a);
-    }
-    is_away(&pair.b)
-}
-
-/// Whether this end of the pair is attached and not gone.
-pub(crate) fn is_here_in(pair: &Entry, a: bool) -> bool
-    ensures { result ≡ is_here (place_at (spot_in pair.now a)) }
-{
-    if a {
-        return is_here(&pair.a);
-    }
-    is_here(&pair.b)
-}
-
-// How far an end there is, if it was attached.
-fn state_there(spot: &Spot) -> Option<EndState>
+/// How far an end there is, if it was attached.
+pub(crate) fn state_there(spot: &Spot) -> Option<EndState>
     ensures { result ≡ state_in (place_at spot.now) }
 {
     match spot {
@@ -109,18 +89,8 @@ fn state_there(spot: &Spot) -> Option<EndState>
     }
 }
 
-/// How far this end of the pair is, if it was attached.
-pub(crate) fn state_of(pair: &Entry, a: bool) -> Option<EndState>
-    ensures { result ≡ state_in (place_at (spot_in pair.now a)) }
-{
-    if a {
-        return state_there(&pair.a);
-    }
-    state_there(&pair.b)
-}
-
-// The reason of an end there fits its state. It costs nothing.
-fn fits_there(spot: &Spot)
+/// The reason of an end there fits its state. It costs nothing.
+pub(crate) fn fits_there(spot: &Spot)
     ensures { FitsAt (place_at spot.now) (reason_at spot.now) }
 {
     match spot {
@@ -132,35 +102,14 @@ fn fits_there(spot: &Spot)
     }
 }
 
-// Why an end there was asked, if it was.
-fn reason_there(spot: &Spot) -> Option<Reason>
+/// Why an end there was asked, if it was.
+pub(crate) fn reason_there(spot: &Spot) -> Option<Reason>
     ensures { result ≡ reason_at spot.now }
 {
     match spot {
         Spot::At(end) => return end.reason(),
         Spot::Unmade | Spot::Away | Spot::Over => return None,
     }
-}
-
-/// Why this end of the pair was asked, if it was.
-pub(crate) fn reason_of(pair: &Entry, a: bool) -> Option<Reason>
-    ensures { result ≡ reason_at (spot_in pair.now a) }
-{
-    if a {
-        return reason_there(&pair.a);
-    }
-    reason_there(&pair.b)
-}
-
-/// The reason of this end of the pair fits its state. It costs nothing.
-pub(crate) fn fits_in(pair: &Entry, a: bool)
-    ensures { FitsAt (place_at (spot_in pair.now a)) (reason_at (spot_in pair.now a)) }
-{
-    if a {
-        fits_there(&pair.a);
-        return;
-    }
-    fits_there(&pair.b);
 }
 
 // Whether an end with this state and reason has met the delimiter of the pipe that it reads.
@@ -177,8 +126,8 @@ fn has_met(state: EndState, reason: Option<Reason>) -> bool
     }
 }
 
-// Whether an end there has met the delimiter of the pipe that it reads, and was asked for no reason.
-fn met_there(spot: &Spot) -> bool
+/// Whether an end there has met the delimiter of the pipe that it reads, and was asked for no reason.
+pub(crate) fn met_there(spot: &Spot) -> bool
     ensures { result ≡ met_in (place_at spot.now) (reason_at spot.now) }
 {
     match spot {
@@ -187,15 +136,14 @@ fn met_there(spot: &Spot) -> bool
     }
 }
 
-/// Whether this end of the pair has met the delimiter of the pipe that it reads, and was asked for no
-/// reason.
-pub(crate) fn has_met_in(pair: &Entry, a: bool) -> bool
-    ensures { result ≡ met_in (place_at (spot_in pair.now a)) (reason_at (spot_in pair.now a)) }
+/// Where this end of the pair is.
+pub(crate) fn spot_in(pair: &Entry, a: bool) -> &Spot
+    ensures { result.now ≡ spot_in pair.now a }
 {
     if a {
-        return met_there(&pair.a);
+        return &pair.a;
     }
-    met_there(&pair.b)
+    &pair.b
 }
 
 /// Whose this end of the pair is.

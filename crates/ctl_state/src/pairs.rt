@@ -1,16 +1,11 @@
-ghost use Rattle.std.specs.Prelude.{◌≡◌, ◌<◌, ◌^◌, ◌++◌, ◌∷◌, [], true, false, length, slice_set, take, IfOk, OnOk, OnErr};
-ghost use Rattle.ctl_state.specs.declared.pair.Spot.TheVariants.{At};
+ghost use Rattle.std.specs.Prelude.{◌≡◌, ◌<◌, ◌^◌, ◌++◌, ◌∷◌, [], true, false, length, slice_set, take, IfOk, IfSome, IfNone, OnOk, OnErr};
+ghost use Rattle.ctl_state.specs.declared.pair.Spot.TheVariants.{At, Over};
 ghost use Rattle.spec_control.specs.EndLife.{new_life};
-ghost use Rattle.spec_control.specs.Place.{is_away, is_here};
-ghost use Rattle.spec_control.specs.Control.{met_in};
-ghost use Rattle.ctl_state.specs.Pairs.{state_in, reason_at, FitsAt, no_entry, entry_at, place_at, owner_at, struck_at, spot_at, with_spot, entry_struck, entry_open, entry_drawn, spot_comes, spot_after, spot_commands};
+ghost use Rattle.ctl_state.specs.Pairs.{no_entry, entry_at, owner_at, struck_at, spot_at, with_spot, entry_struck, entry_open, entry_drawn, spot_comes, spot_after, spot_commands};
 
-use crate::pair::{
-    Entry, Spot, fits_in, has_met_in, is_away_in, is_here_in, owner_in, reason_of, state_of,
-    step_in, struck_in,
-};
+use crate::pair::{Entry, Spot, owner_in, spot_in, step_in, struck_in};
 use pipe_term::End;
-use spec_control::{EndCommands, EndEvent, EndState, Reason};
+use spec_control::{EndCommands, EndEvent};
 use std::alloc::{AllocError, Global};
 use std::marker::Model;
 use zq_base::{EndId, ObjId, PairId};
@@ -90,63 +85,14 @@ impl Pairs {
         }
     }
 
-    /// Whether the bind of an end is on its way.
-    pub fn is_away(&self, e: EndId) -> bool
-        ensures { result ≡ is_away (place_at (spot_at self.now e)) }
+    /// Where an end is, if there is a pair of its number.
+    pub fn spot(&self, e: EndId) -> Option<&Spot>
+        ensures some { IfSome result (λ s. s.now ≡ spot_at self.now e) }
+        ensures none { IfNone result (spot_at self.now e ≡ Over) }
     {
         match self.pairs.get(e.pair.0 as usize) {
-            Some(pair) => return is_away_in(pair, e.a),
-            None => return false,
-        }
-    }
-
-    /// Whether an end is attached and not gone.
-    pub fn is_here(&self, e: EndId) -> bool
-        ensures { result ≡ is_here (place_at (spot_at self.now e)) }
-    {
-        match self.pairs.get(e.pair.0 as usize) {
-            Some(pair) => return is_here_in(pair, e.a),
-            None => return false,
-        }
-    }
-
-    /// How far an end is, if it was attached.
-    pub fn end_state(&self, e: EndId) -> Option<EndState>
-        ensures { result ≡ state_in (place_at (spot_at self.now e)) }
-    {
-        match self.pairs.get(e.pair.0 as usize) {
-            Some(pair) => return state_of(pair, e.a),
-            None => return Some(EndState::Gone),
-        }
-    }
-
-    /// Why an end was asked, if it was.
-    pub fn reason(&self, e: EndId) -> Option<Reason>
-        ensures { result ≡ reason_at (spot_at self.now e) }
-    {
-        match self.pairs.get(e.pair.0 as usize) {
-            Some(pair) => return reason_of(pair, e.a),
+            Some(pair) => return Some(spot_in(pair, e.a)),
             None => return None,
-        }
-    }
-
-    /// The reason of an end fits its state. It costs nothing.
-    pub fn reason_fits(&self, e: EndId)
-        ensures { FitsAt (place_at (spot_at self.now e)) (reason_at (spot_at self.now e)) }
-    {
-        match self.pairs.get(e.pair.0 as usize) {
-            Some(pair) => fits_in(pair, e.a),
-            None => return,
-        }
-    }
-
-    /// Whether an end has met the delimiter of the pipe that it reads, and was asked for no reason.
-    pub fn has_met(&self, e: EndId) -> bool
-        ensures { result ≡ met_in (place_at (spot_at self.now e)) (reason_at (spot_at self.now e)) }
-    {
-        match self.pairs.get(e.pair.0 as usize) {
-            Some(pair) => return has_met_in(pair, e.a),
-            None => return false,
         }
     }
 

@@ -30,9 +30,9 @@ impl<L: Drop> State<L> {
         ensures stands { IfOk result (λ s. Stands s (begun workers)) }
         ensures kept { IfOk result (λ s. s ≡ new_state workers) }
     {
-        let objects = Objects::new(alloc, SlotId(0))?;
         let pairs = Pairs::new(alloc)?;
         let boxes = Boxes::empty(alloc, workers as usize + 1)?;
+        let objects = Objects::new(alloc, SlotId(0))?;
         Ok(State {
             workers,
             objects,

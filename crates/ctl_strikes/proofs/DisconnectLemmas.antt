@@ -16,10 +16,10 @@ use Rattle.spec_control.specs.Rows.{obj, is_owner}
 use Rattle.spec_control.specs.Control.{Control, happens, ask, owner_of, place_of}
 use Rattle.spec_control.specs.After.{strike_end, tell_struck, strikes, strikes_first}
 use Rattle.control_laws.proofs.AskLemmas.{ask_leaves}
-use Rattle.control_moves.specs.Move.{MovesTo}
-use Rattle.control_moves.proofs.GoLemmas.{either_free, stays, ask_goes}
-use Rattle.control_bounds.specs.Room.{to_come}
-use Rattle.control_bounds.proofs.RoomLemmas.{moves_room}
+use Rattle.control_laws.specs.Move.{MovesTo}
+use Rattle.control_laws.proofs.GoLemmas.{either_free, stays, ask_goes}
+use Rattle.control_laws.specs.Room.{to_come}
+use Rattle.control_laws.proofs.RoomLemmas.{moves_room}
 use Rattle.ctl_holder.specs.declared.load.Load.{Load}
 use Rattle.ctl_holder.specs.Holding.{Holding}
 use Rattle.ctl_holder.specs.Lent.{HasAll}
@@ -33,10 +33,10 @@ use Rattle.ctl_state.specs.Stands.{Stands, struck_now, holds_by}
 use Rattle.ctl_ends.specs.Turning.{MayTurn, Leads, PutsLoaded, turn_of}
 use Rattle.ctl_ends.proofs.MailLemmas.{puts_not, puts_on}
 use Rattle.ctl_asks.specs.Bare.{Somewhere}
-use Rattle.ctl_strikes.specs.Striking.{Led, MayStrike, StrikesWith, IsStruck}
+use Rattle.ctl_strikes.specs.Striking.{Led, MayStrike, StrikesWith, IsStruck, JoinsNone}
 use Rattle.ctl_asks.proofs.CapacityLemmas.{mail_length}
 use Rattle.ctl_terms.proofs.HolderLemmas.{has_same, bare_loaded}
-use Rattle.control_others.proofs.StayLemmas.{SameEnds, ends_stay, where_told}
+use Rattle.control_laws.proofs.StayLemmas.{SameEnds, ends_stay, where_told}
 use Rattle.ctl_strikes.proofs.FindLemmas.{loaded_capacity, turns_at}
 
 -- ---- the end of a connect that was struck
@@ -75,6 +75,10 @@ module _ (i : ℕ) (e : EndId) (c : Control) where
       by true m = refl
       by false true = (ask_leaves Closed false true (λ g. refl) e c).0.objects
       by false false = refl
+
+-- nothing was done
+pub joins_none : {N : Type 0} (h : Holding N) → JoinsNone h h
+joins_none h = record { joined = refl; holds = λ i. refl; kinds = λ i. refl; heard = refl }
 
 pub not_seen : Asked Closed false ≡ DelimiterSeen → ⊥
 not_seen f = grind arith
@@ -186,3 +190,11 @@ module _ {N O I : Type 0} (out_name : O → N) (in_name : I → N) where
     puts = subst (λ (b : List (Mail (Command (Load N O I)))). PutsLoaded out_name in_name w.names b u.boxes) boxes led.puts;
     ends = λ j. ap (λ (ls : List Belongings). (belongings_at ls j).ends) led.lists ∙ ends j;
   }
+
+  -- no hold was found
+  pub struck_none : (s t : State (Load N O I)) (h : Holding N) (i : ℕ) (to : Endpoint) (w : StrikesWith out_name in_name s h i) → None ≡ find (is_connect_to to) (w.control.holds i) → t.boxes ≡ s.boxes →
+      ((j : ℕ) → (belongings_at t.objects.lists j).ends ≡ (belongings_at s.objects.lists j).ends) → Stands t (holds_by (without_first (is_connect_to to)) i w.control) →
+      IsStruck out_name in_name w.names (strikes_first i to (is_connect_to to) w.control) s t h
+  struck_none s t h i to w found boxes ends stands =
+      subst (λ (x : Option Hold). IsStruck out_name in_name w.names (strikes i to x (holds_by (without_first (is_connect_to to)) i w.control)) s t h) found
+      (record { stands = stands; has = w.has; puts = puts_not out_name in_name w.names s.boxes t.boxes boxes; ends = ends })

@@ -11,10 +11,10 @@ use Rattle.spec_control.specs.PairPhase.{Happens, may, meets}
 use Rattle.spec_control.specs.Rows.{PairRow, no_pair, obj, pair, end_place, end_half}
 use Rattle.spec_control.specs.Control.{Control, owner_of, place_of}
 use Rattle.control_laws.specs.Kept.{Kept}
-use Rattle.control_rows.proofs.ListLemmas.{never, clash}
-use Rattle.control_rows.proofs.RowLemmas.{pair_there}
-use Rattle.control_moves.proofs.MetLemmas.{meets_cell}
-use Rattle.control_bounds.specs.Room.{to_come}
+use Rattle.control_laws.proofs.ListLemmas.{never, clash}
+use Rattle.control_laws.proofs.RowLemmas.{pair_there}
+use Rattle.control_laws.proofs.MetLemmas.{meets_cell}
+use Rattle.control_laws.specs.Room.{to_come}
 use Rattle.ctl_holder.specs.declared.load.Load.{Load}
 use Rattle.ctl_holder.specs.Holding.{Holding}
 use Rattle.ctl_state.specs.declared.state.State.{State}

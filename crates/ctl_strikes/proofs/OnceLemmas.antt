@@ -6,11 +6,11 @@ use Rattle.zq_base.specs.declared.ids.EndId.{EndId}
 use Rattle.spec_control.specs.declared.end.EndEvent.{EndEvent}
 use Rattle.spec_control.specs.declared.end.EndState.{EndState}
 use Rattle.spec_control.specs.Control.{Control, happens, is_end, place_of}
-use Rattle.control_attached.specs.Once.{AreOnce}
+use Rattle.control_laws.specs.AttachedOnce.{AreOnce}
 use Rattle.control_laws.proofs.AskLemmas.{end_self}
 use Rattle.control_laws.proofs.HearLemmas.{end_moved}
-use Rattle.control_others.proofs.StayLemmas.{SameEnds}
-use Rattle.control_rows.proofs.ListLemmas.{clash}
+use Rattle.control_laws.proofs.StayLemmas.{SameEnds}
+use Rattle.control_laws.proofs.ListLemmas.{clash}
 use Rattle.ctl_holder.specs.Holding.{Holding, KeepsTurns}
 use Rattle.ctl_holder.specs.Turns.{TurnsBy, HasTurned, turned_in, turned_over}
 use Rattle.ctl_ends.specs.Turning.{TurnsOnce, turn_of}

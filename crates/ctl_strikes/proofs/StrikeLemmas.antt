@@ -7,10 +7,10 @@ use Rattle.spec_control.specs.Row.{Row, IsTold, link_may}
 use Rattle.spec_control.specs.Rows.{Rows, obj, is_owner}
 use Rattle.spec_control.specs.Stage.{is_alive, has_ended}
 use Rattle.spec_control.specs.Control.{Control}
-use Rattle.control_rows.proofs.ListLemmas.{left}
-use Rattle.control_rows.proofs.ClosedLemmas.{has_owner}
+use Rattle.control_laws.proofs.ListLemmas.{left}
+use Rattle.control_laws.proofs.ClosedLemmas.{has_owner}
 use Rattle.control_laws.proofs.StrikeLemmas.{owned_by}
-use Rattle.control_bounds.specs.Room.{all_to_come, slots_of}
+use Rattle.control_laws.specs.Room.{all_to_come, slots_of}
 use Rattle.ctl_state.specs.declared.command.Command.{Command}
 use Rattle.ctl_state.specs.declared.state.State.{State}
 use Rattle.ctl_state.specs.Boxes.{mail_at}

@@ -5,7 +5,7 @@ use Rattle.spec_control.specs.Stage.{has_ended}
 use Rattle.spec_control.specs.Rows.{obj}
 use Rattle.spec_control.specs.Control.{Control}
 use Rattle.control_laws.specs.Kept.{Kept}
-use Rattle.control_bounds.specs.Room.{to_come}
+use Rattle.control_laws.specs.Room.{to_come}
 use Rattle.ctl_holder.specs.declared.load.Load.{Load}
 use Rattle.ctl_holder.specs.Holding.{HearsNone, Holding}
 use Rattle.ctl_holder.specs.Lent.{HasAll}

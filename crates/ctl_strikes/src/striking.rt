@@ -1,7 +1,6 @@
 ghost use Rattle.std.specs.Prelude.{◌≡◌, true, Some};
 ghost use Rattle.zq_base.specs.declared.endpoint.Endpoint.{Endpoint};
 ghost use Rattle.spec_control.specs.Hold.{is_bind_to};
-ghost use Rattle.spec_control.specs.Register.{without_holder};
 ghost use Rattle.spec_control.specs.Rows.{obj, is_owner};
 ghost use Rattle.spec_control.specs.Control.{Control};
 ghost use Rattle.spec_control.specs.After.{tell_struck, strikes, strikes_first};
@@ -37,20 +36,7 @@ fn is_child<L: Drop>(state: &State<L>, owner: ObjId, child: ObjId) -> bool
     }
 }
 
-// A child of a socket is told to end, where it may be told.
-fn tell_child<L: Drop>(state: &mut State<L>, socket: ObjId, child: ObjId)
-    requires may { Somewhere state.old (MayStrike state.old socket.0) }
-    ensures stands { Updates (tell_struck socket.0 (Some child.0)) state.old state.new }
-    ensures only { Tells state.old state.new }
-{
-    if !is_child(state, socket, child) {
-        return;
-    }
-    state.needs();
-    state.tell_where(true, socket, child);
-}
-
-/// The listener or the session of what was struck is told to end, if it has one.
+/// The listener or the session of what was struck is told to end, if it has one that may be told.
 pub(crate) fn tell_struck<L: Drop>(state: &mut State<L>, socket: ObjId, child: Option<ObjId>)
     requires may { Somewhere state.old (MayStrike state.old socket.0) }
     ensures stands { Updates (tell_struck socket.0 (owner_number child)) state.old state.new }
@@ -58,26 +44,18 @@ pub(crate) fn tell_struck<L: Drop>(state: &mut State<L>, socket: ObjId, child: O
 {
     match child {
         Some(child) => {
-            tell_child(state, socket, child);
+            if !is_child(state, socket, child) {
+                return;
+            }
+            state.needs();
+            state.tell_where(true, socket, child);
             return;
         }
         None => return,
     }
 }
 
-// The name of a bind that was struck is free, and its listener is told to end.
-fn free<L: Drop>(state: &mut State<L>, socket: ObjId, to: &Endpoint, listener: Option<ObjId>)
-    requires may { Somewhere state.old (MayStrike state.old socket.0) }
-    ensures stands { Updates (λ c. tell_struck socket.0 (owner_number listener)
-        (record c { names = without_holder to.now c.names })) state.old state.new }
-    ensures only { PutsBare state.old.boxes state.new.boxes }
-    ensures ends { SameEndLists state.old.objects.lists state.new.objects.lists }
-{
-    state.free_name(to);
-    tell_struck(state, socket, listener);
-}
-
-// What follows where a bind was struck.
+// What follows where a bind was struck: its name is free, and its listener is told to end.
 fn strike<L: Drop>(state: &mut State<L>, socket: ObjId, to: &Endpoint, held: Held)
     requires may { Somewhere state.old (MayStrike state.old socket.0) }
     ensures stands { (at : Endpoint) → is_bind_to to.now (hold_at at held) ≡ true →
@@ -87,7 +65,8 @@ fn strike<L: Drop>(state: &mut State<L>, socket: ObjId, to: &Endpoint, held: Hel
 {
     match held {
         Held::Bound(listener) => {
-            free(state, socket, to, listener);
+            state.free_name(to);
+            tell_struck(state, socket, listener);
             return;
         }
         Held::Waits | Held::Joined(_, _) => return,

@@ -14,11 +14,11 @@ use Rattle.spec_control.specs.declared.letter.Letter.{Letter}
 use Rattle.spec_control.specs.EndLife.{comes}
 use Rattle.spec_control.specs.Place.{Place, Unmade, Away, At, is_here}
 use Rattle.spec_control.specs.Control.{Control, is_end, happens, ask, ask_all, ends_of, owner_of, place_of}
-use Rattle.control_rows.proofs.ListLemmas.{never}
+use Rattle.control_laws.proofs.ListLemmas.{never}
 use Rattle.control_laws.proofs.AskLemmas.{end_self, AskLeaves, ask_all_leaves}
-use Rattle.control_moves.specs.Move.{Move, MovesTo}
-use Rattle.control_moves.proofs.GoLemmas.{ask_all_goes}
-use Rattle.control_bounds.specs.Room.{to_come}
+use Rattle.control_laws.specs.Move.{Move, MovesTo}
+use Rattle.control_laws.proofs.GoLemmas.{ask_all_goes}
+use Rattle.control_laws.specs.Room.{to_come}
 use Rattle.ctl_holder.specs.declared.load.Load.{Load}
 use Rattle.ctl_holder.specs.Holding.{Holding}
 use Rattle.ctl_holder.specs.Turns.{TurnsBy}

@@ -11,12 +11,12 @@ use Rattle.spec_control.specs.declared.end.Reason.{Reason}
 use Rattle.spec_control.specs.Place.{Place, is_here}
 use Rattle.spec_control.specs.PairPhase.{Happens}
 use Rattle.spec_control.specs.Control.{Control, is_end, happens, ask, ask_all, place_of}
-use Rattle.control_rows.proofs.ListLemmas.{never, clash}
-use Rattle.control_rows.proofs.RowLemmas.{pair_there}
+use Rattle.control_laws.proofs.ListLemmas.{never, clash}
+use Rattle.control_laws.proofs.RowLemmas.{pair_there}
 use Rattle.control_laws.proofs.AskLemmas.{end_self}
 use Rattle.control_laws.proofs.HearLemmas.{end_moved}
 use Rattle.ctl_holder.specs.Turns.{turn_at, turned_over}
-use Rattle.control_attached.specs.Once.{AreOnce}
+use Rattle.control_laws.specs.AttachedOnce.{AreOnce}
 use Rattle.ctl_ends.specs.Turning.{turn_of}
 use Rattle.ctl_ends.proofs.TurnedLemmas.{stays_at, still_at, over_agree, none_of, not_end}
 use Rattle.ctl_terms.specs.Asking.{asked_turns}

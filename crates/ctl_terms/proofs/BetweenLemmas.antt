@@ -16,8 +16,8 @@ use Rattle.spec_control.specs.Stage.{is_coming}
 use Rattle.spec_control.specs.PairPhase.{Happens}
 use Rattle.spec_control.specs.Control.{Control, commands_in, happens, moved, place_of, reason_in, tell_other, with_end}
 use Rattle.spec_control.specs.ControlRun.{is_between}
-use Rattle.control_rows.proofs.ListLemmas.{never, left, right, and, clash, is_false, is_old, is_new, pushed, placed}
-use Rattle.control_moves.specs.Move.{Move, LinkMoves, EndMoves, ObjectEnds, ObjectMade, PairDrawn, LetterPut, move_rows, move_boxes, MayMove, Leads, is_named, is_named_link, MovesTo}
+use Rattle.control_laws.proofs.ListLemmas.{never, left, right, and, clash, is_false, is_old, is_new, pushed, placed}
+use Rattle.control_laws.specs.Move.{Move, LinkMoves, EndMoves, ObjectEnds, ObjectMade, PairDrawn, LetterPut, move_rows, move_boxes, MayMove, Leads, is_named, is_named_link, MovesTo}
 
 -- each closed socket whose Reap was on its way is so still
 abbrev pub StayBetween : (s t : Rows) → Type 0

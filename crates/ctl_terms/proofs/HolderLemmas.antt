@@ -15,7 +15,7 @@ use Rattle.spec_control.specs.Rows.{Rows, PairRow, no_pair, obj, pair, end_place
 use Rattle.spec_control.specs.Stage.{is_ending}
 use Rattle.spec_control.specs.Control.{Control}
 use Rattle.control_held.specs.Held.{Held}
-use Rattle.control_rows.proofs.ListLemmas.{never, left, right}
+use Rattle.control_laws.proofs.ListLemmas.{never, left, right}
 use Rattle.ctl_holder.specs.declared.load.Load.{Load}
 use Rattle.ctl_holder.specs.Holding.{Holding, IsTold, Stays, KeepsTurns, has_end}
 use Rattle.ctl_holder.specs.Lent.{place_by, owner_by, HasBothNames, HasEnds, HasAll}
@@ -23,7 +23,7 @@ use Rattle.ctl_holder.specs.Load.{Carries, brings_ends}
 use Rattle.ctl_state.specs.declared.command.Command.{Command}
 use Rattle.ctl_state.specs.Boxes.{tells_object, IsBareTold, PutsBare}
 use Rattle.ctl_ends.specs.Turning.{IsLoaded, PutsLoaded}
-use Rattle.control_others.proofs.StayLemmas.{SameEnds}
+use Rattle.control_laws.proofs.StayLemmas.{SameEnds}
 
 module _ {N : Type 0} (names : EndId → Option N) where
   pub has_same : (c d : Control) (h : Holding N) → SameEnds c d → HasAll names c h → HasAll names d h

@@ -9,7 +9,7 @@ use Rattle.spec_control.specs.Stage.{has_ended, is_ending, is_told}
 use Rattle.spec_control.specs.Row.{Row, nobody}
 use Rattle.spec_control.specs.Rows.{may_end, obj, with_object}
 use Rattle.spec_control.specs.Control.{Control, finish, id, tell_owner, try_end, with_value}
-use Rattle.control_rows.proofs.ListLemmas.{never, left, placed, clash}
+use Rattle.control_laws.proofs.ListLemmas.{never, left, placed, clash}
 use Rattle.ctl_holder.specs.Holding.{Holding, IsTold}
 use Rattle.ctl_holder.specs.Joins.{KeepsObjects}
 use Rattle.ctl_terms.proofs.BetweenLemmas.{StayBetween}

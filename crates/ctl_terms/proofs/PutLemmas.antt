@@ -11,9 +11,9 @@ use Rattle.spec_control.specs.declared.end.EndCommands.TheVariants.{Nothing, Ter
 use Rattle.spec_control.specs.Place.{to_put}
 use Rattle.spec_control.specs.Rows.{PairRow, no_pair, obj, pair, end_place, end_owner}
 use Rattle.spec_control.specs.Control.{Control, commands_in, owner_of, place_of}
-use Rattle.control_rows.proofs.ListLemmas.{never}
-use Rattle.control_bounds.specs.Room.{pair_to_come, slots_of, to_come}
-use Rattle.control_bounds.proofs.RowRoomLemmas.{place_falls, puts_end}
+use Rattle.control_laws.proofs.ListLemmas.{never}
+use Rattle.control_laws.specs.Room.{pair_to_come, slots_of, to_come}
+use Rattle.control_laws.proofs.RowRoomLemmas.{place_falls, puts_end}
 use Rattle.ctl_state.specs.declared.state.State.{State}
 use Rattle.ctl_state.specs.Boxes.{mail_at}
 use Rattle.ctl_state.specs.Stands.{tells}

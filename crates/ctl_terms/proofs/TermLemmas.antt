@@ -16,13 +16,13 @@ use Rattle.spec_control.specs.Rows.{obj, is_owner, may_end}
 use Rattle.spec_control.specs.Control.{Control, link, put, ask_all, ends_of, tell_where, tell_children, try_end, owner_of, place_of}
 use Rattle.spec_control.specs.declared.letter.Word.TheVariants.{Term}
 use Rattle.spec_control.specs.After.{owner_or_root, term_reason, term_delay}
-use Rattle.control_rows.proofs.ListLemmas.{never, left, clash, placed}
+use Rattle.control_laws.proofs.ListLemmas.{never, left, clash, placed}
 use Rattle.control_laws.proofs.AskLemmas.{ask_all_leaves}
-use Rattle.control_moves.specs.Move.{LinkMoves, MovesTo}
-use Rattle.control_moves.proofs.GoLemmas.{goes_and_free, one, ask_all_goes, tell_children_goes, try_end_goes}
-use Rattle.control_moves.proofs.SoundLemmas.{link_there}
-use Rattle.control_bounds.specs.Room.{up_to_come, row_to_come, for_slot, slots_of, to_come}
-use Rattle.control_others.proofs.StayLemmas.{SameEnds, ends_on, children_told as children_stay, tried}
+use Rattle.control_laws.specs.Move.{LinkMoves, MovesTo}
+use Rattle.control_laws.proofs.GoLemmas.{goes_and_free, one, ask_all_goes, tell_children_goes, try_end_goes}
+use Rattle.control_laws.proofs.SoundLemmas.{link_there}
+use Rattle.control_laws.specs.Room.{up_to_come, row_to_come, for_slot, slots_of, to_come}
+use Rattle.control_laws.proofs.StayLemmas.{SameEnds, ends_on, children_told as children_stay, tried}
 use Rattle.own_tree.specs.Rows.{state_at, children_of, tree_of, may_be_asked, asked_from}
 use Rattle.ctl_holder.specs.declared.load.Load.{Load}
 use Rattle.ctl_holder.specs.declared.notice.Notice.{Notice}
@@ -30,7 +30,7 @@ use Rattle.ctl_holder.specs.Holding.{HearsMore, HearsNone, Holding, IsTold}
 use Rattle.ctl_holder.specs.Heard.{heard_by, term_with}
 use Rattle.ctl_holder.specs.Lent.{HasAll}
 use Rattle.ctl_holder.specs.Turns.{turned_in, turned_over, TurnsBy}
-use Rattle.control_attached.specs.Once.{AreOnce}
+use Rattle.control_laws.specs.AttachedOnce.{AreOnce}
 use Rattle.zq_base.specs.declared.ids.EndId.{EndId}
 use Rattle.spec_control.specs.declared.end.EndState.{EndState}
 use Rattle.ctl_state.specs.declared.state.State.{State}

@@ -6,8 +6,8 @@ use Rattle.spec_control.specs.Place.{is_here}
 use Rattle.spec_control.specs.declared.end.EndState.{EndState}
 use Rattle.spec_control.specs.declared.end.Reason.{Reason}
 use Rattle.spec_control.specs.Control.{Control, is_end, ask, owner_of, place_of}
-use Rattle.control_moves.specs.Move.{Move, MovesTo}
-use Rattle.control_bounds.specs.Room.{to_come}
+use Rattle.control_laws.specs.Move.{Move, MovesTo}
+use Rattle.control_laws.specs.Room.{to_come}
 use Rattle.ctl_holder.specs.declared.load.Load.{Load}
 use Rattle.ctl_holder.specs.Holding.{Holding}
 use Rattle.ctl_holder.specs.Lent.{HasAll}

@@ -6,7 +6,7 @@ use Rattle.spec_control.specs.Row.{TermComes, link_may}
 use Rattle.spec_control.specs.Rows.{obj}
 use Rattle.spec_control.specs.Control.{Control, link, ask_all, ends_of, tell_children, try_end, owner_of, place_of}
 use Rattle.spec_control.specs.After.{term_reason, term_delay, without_names}
-use Rattle.control_moves.specs.Move.{LinkMoves}
+use Rattle.control_laws.specs.Move.{LinkMoves}
 use Rattle.ctl_holder.specs.declared.load.Load.{Load}
 use Rattle.ctl_holder.specs.Holding.{Holding}
 use Rattle.ctl_holder.specs.Joins.{KeepsObjects}

@@ -94,14 +94,8 @@ impl EndpointBook {
         ensures err { OnErr result (self.new ≡ self.old) }
     {
         match at {
-            Endpoint::Inproc(name) => {
-                self.names.hold(alloc, name.as_slice(), binding)?;
-                return Ok(());
-            }
-            Endpoint::Tcp(address) => {
-                self.addresses.hold(address, binding)?;
-                return Ok(());
-            }
+            Endpoint::Inproc(name) => return self.names.hold(alloc, name.as_slice(), binding),
+            Endpoint::Tcp(address) => return self.addresses.hold(address, binding),
         }
     }
 
@@ -157,8 +151,7 @@ impl EndpointBook {
             ++ record { at = at.now; waiter = waiter; kind = kind } ∷ []) self.old) }
         ensures err { OnErr result (self.new ≡ self.old) }
     {
-        self.waits.push(alloc, at, waiter, kind)?;
-        Ok(())
+        self.waits.push(alloc, at, waiter, kind)
     }
 
     /// How many waiting connects a bind of the endpoint fulfils, by one look-up and one walk over those that wait for it.

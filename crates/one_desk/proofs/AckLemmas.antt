@@ -9,9 +9,9 @@ use Rattle.spec_control.specs.Place.{Place, Unmade, Away, At, waiting}
 use Rattle.spec_control.specs.PairPhase.{front_is_ack}
 use Rattle.spec_control.specs.Rows.{end_place, pair}
 use Rattle.spec_control.specs.Control.{Control, id, place_of}
-use Rattle.control_rows.proofs.ListLemmas.{never}
+use Rattle.control_laws.proofs.ListLemmas.{never}
 use Rattle.control_laws.specs.Kept.{Kept}
-use Rattle.control_moves.proofs.GuardLemmas.{ack_came_may}
+use Rattle.control_laws.proofs.GuardLemmas.{ack_came_may}
 use Rattle.ctl_holder.specs.Lent.{has_writer}
 
 gave : (mine theirs : Place) → front_is_ack (waiting mine theirs) ≡ true → has_writer theirs ≡ false

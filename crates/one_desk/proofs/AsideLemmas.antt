@@ -28,8 +28,8 @@ use Rattle.spec_control.specs.After.{after, answers_in, strikes, tell_struck}
 use Rattle.spec_control.specs.ControlRun.{Fits, is_between}
 use Rattle.spec_control.specs.Names.{name_in, name_of, named_in}
 use Rattle.control_held.specs.Has.{given_up, made_by}
-use Rattle.control_others.proofs.StayLemmas.{SameEnds, ends_on, ends_stay, link_ends_stay, sockets_stopped, tried, where_told}
-use Rattle.control_rows.proofs.ListLemmas.{never, clash}
+use Rattle.control_laws.proofs.StayLemmas.{SameEnds, ends_on, ends_stay, link_ends_stay, sockets_stopped, tried, where_told}
+use Rattle.control_laws.proofs.ListLemmas.{never, clash}
 use Rattle.ctl_holder.specs.Holding.{HearsMore, Holding, JoinsBy}
 use Rattle.ctl_holder.specs.Heard.{heard_in}
 use Rattle.ctl_holder.specs.Joins.{came_in}

@@ -17,7 +17,7 @@ use Rattle.spec_control.specs.ControlRun.{after_all}
 use Rattle.spec_control.specs.Names.{name_in, name_of, named_in}
 use Rattle.control_held.specs.Held.{caller_of}
 use Rattle.control_held.specs.Moments.{moments_by, moments_from}
-use Rattle.control_rows.proofs.ListLemmas.{never}
+use Rattle.control_laws.proofs.ListLemmas.{never}
 use Rattle.msg_pipe.specs.Known.{Known}
 use Rattle.ctl_holder.specs.declared.given.Given.{Given}
 use Rattle.ctl_holder.specs.Holding.{Holding}

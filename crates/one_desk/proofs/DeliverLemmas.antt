@@ -28,16 +28,16 @@ use Rattle.spec_control.specs.Names.{AreNamed, name_in, name_of}
 use Rattle.control_held.specs.Held.{Held, items_by}
 use Rattle.control_held.specs.Has.{IsBy, acts_at_word, has_after, taken_by_word, unless_root}
 use Rattle.control_held.specs.Moments.{items_in, left_after}
-use Rattle.control_rows.proofs.ListLemmas.{never, left, right, placed}
-use Rattle.control_rows.proofs.QuietLemmas.{socket_owner}
-use Rattle.control_rows.proofs.StepLemmas.{inv_of}
+use Rattle.control_laws.proofs.ListLemmas.{never, left, right, placed}
+use Rattle.control_laws.proofs.QuietLemmas.{socket_owner}
+use Rattle.control_laws.proofs.StepLemmas.{inv_of}
 use Rattle.control_laws.specs.Kept.{Kept}
 use Rattle.control_laws.proofs.AskLemmas.{end_self}
 use Rattle.control_laws.proofs.EndLemmas.{kept_but}
 use Rattle.control_laws.proofs.RootLemmas.{begun_kept, oldest_lives}
 use Rattle.control_laws.proofs.TellLemmas.{rows_of}
-use Rattle.control_moves.specs.OwnMoves.{word_moves}
-use Rattle.control_moves.proofs.GuardLemmas.{may_come}
+use Rattle.control_laws.specs.OwnMoves.{word_moves}
+use Rattle.control_laws.proofs.GuardLemmas.{may_come}
 use Rattle.ctl_holder.specs.declared.given.Given.{Given}
 use Rattle.ctl_holder.specs.declared.halves.Halves.{Halves}
 use Rattle.ctl_holder.specs.Holding.{Holding, has_end}
@@ -52,10 +52,10 @@ use Rattle.ctl_history.specs.Coming.{ComesWith}
 use Rattle.ctl_history.specs.Hearing.{AreApart, AreOfKind, FitBinds, HasWhat, IsServed, NotesDelimiter, TakesOldest}
 use Rattle.ctl_history.specs.Past.{IsPast, Past, control_of, items_of, only_given, with_event}
 use Rattle.held_laws.proofs.MomentLemmas.{own_moments}
-use Rattle.socket_laws.proofs.OpenLemmas.{sockets_are_open}
-use Rattle.socket_laws.proofs.RowLemmas.{makes_object}
-use Rattle.socket_laws.proofs.SlotLemmas.{slot_left}
-use Rattle.socket_laws.proofs.ThereLemmas.{had_objects_are_there}
+use Rattle.held_laws.proofs.OpenLemmas.{sockets_are_open}
+use Rattle.held_laws.proofs.RowLemmas.{makes_object}
+use Rattle.held_laws.proofs.SlotLemmas.{slot_left}
+use Rattle.held_laws.proofs.ThereLemmas.{had_objects_are_there}
 use Rattle.one_desk.specs.declared.mark.Mark.{Mark}
 use Rattle.one_desk.specs.declared.mark.Mark.TheVariants.{Event}
 use Rattle.one_desk.specs.Order.{order_of, AreMarked}

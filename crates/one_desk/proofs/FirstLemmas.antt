@@ -17,13 +17,13 @@ use Rattle.spec_control.specs.ControlRun.{AreEmpty, after_all}
 use Rattle.control_held.specs.Has.{has_after}
 use Rattle.control_held.specs.Moments.{first_waiting}
 use Rattle.control_held.specs.OwnAsks.{is_none}
-use Rattle.control_rows.proofs.ListLemmas.{left, never, placed, right}
+use Rattle.control_laws.proofs.ListLemmas.{left, never, placed, right}
 use Rattle.control_laws.specs.Kept.{Kept}
 use Rattle.control_laws.proofs.RootLemmas.{oldest_lives}
 use Rattle.ctl_state.specs.Listed.{Listed}
 use Rattle.ctl_history.specs.Past.{Past, control_of}
-use Rattle.socket_laws.specs.Closed.{lives, waits}
-use Rattle.socket_laws.proofs.ReapLemmas.{all_empty, find_within, found_stands, root_waits, socket_waits}
+use Rattle.held_laws.specs.Closed.{lives, waits}
+use Rattle.held_laws.proofs.ReapLemmas.{all_empty, find_within, found_stands, root_waits, socket_waits}
 use Rattle.one_desk.specs.declared.mark.Mark.{Mark}
 use Rattle.one_desk.specs.Lent.{HaveOwnBoxes, IsLent, Lent, lent_to}
 use Rattle.one_desk.specs.Order.{order_of}

@@ -29,15 +29,15 @@ use Rattle.control_held.specs.Has.{given_up, has_after, has_over, has_then, take
 use Rattle.control_held.specs.OwnAsks.{known_after}
 use Rattle.control_held.specs.Moments.{Moment, items_in, left_after, left_by, moments_by, moments_from}
 use Rattle.control_held.proofs.OwnLemmas.{own_has}
-use Rattle.control_rows.proofs.ListLemmas.{never, left, right}
-use Rattle.control_rows.proofs.QuietLemmas.{socket_owner}
-use Rattle.control_rows.proofs.StepLemmas.{inv_of}
+use Rattle.control_laws.proofs.ListLemmas.{never, left, right}
+use Rattle.control_laws.proofs.QuietLemmas.{socket_owner}
+use Rattle.control_laws.proofs.StepLemmas.{inv_of}
 use Rattle.control_laws.specs.Kept.{Kept}
 use Rattle.control_laws.proofs.EndLemmas.{kept_but}
 use Rattle.control_laws.proofs.RootLemmas.{begun_kept}
 use Rattle.control_laws.proofs.TellLemmas.{rows_of}
-use Rattle.control_moves.specs.OwnMoves.{own_moves}
-use Rattle.control_others.specs.Spared.{Known}
+use Rattle.control_laws.specs.OwnMoves.{own_moves}
+use Rattle.control_laws.specs.Spared.{Known}
 use Rattle.ctl_holder.specs.Holding.{HearsMore, Holding, JoinsBy, has_end}
 use Rattle.ctl_holder.specs.Joins.{IsReaped, KeepsObjects}
 use Rattle.ctl_holder.specs.Lent.{HasAll}
@@ -58,7 +58,7 @@ use Rattle.held_laws.proofs.NobodyLemmas.{nobody_over}
 use Rattle.held_laws.proofs.OthersLemmas.{IsIts, among, its_here}
 use Rattle.held_laws.proofs.StepLemmas.{known_after as known_now}
 use Rattle.held_laws.proofs.SayLemmas.{holders_have_what_is_said}
-use Rattle.socket_laws.proofs.OpenLemmas.{sockets_are_open}
+use Rattle.held_laws.proofs.OpenLemmas.{sockets_are_open}
 use Rattle.one_desk.specs.declared.mark.Mark.{Mark}
 use Rattle.one_desk.specs.declared.mark.Mark.TheVariants.{Event, Seen}
 use Rattle.one_desk.specs.Order.{order_of}

@@ -8,22 +8,22 @@ use Rattle.zq_base.specs.declared.options.Options.{Options}
 use Rattle.spec_control.specs.Rows.{obj}
 use Rattle.spec_control.specs.After.{after, socket_row}
 use Rattle.spec_control.specs.ControlRun.{Fits, IsOpenSocket}
-use Rattle.control_rows.proofs.ListLemmas.{never}
+use Rattle.control_laws.proofs.ListLemmas.{never}
 use Rattle.control_laws.specs.Kept.{Kept}
 use Rattle.control_laws.proofs.RootLemmas.{begun_kept}
 use Rattle.control_laws.proofs.RunLemmas.{run_kept}
-use Rattle.control_moves.specs.OwnMoves.{own_moves}
+use Rattle.control_laws.specs.OwnMoves.{own_moves}
 use Rattle.control_held.specs.Held.{items_by}
 use Rattle.control_held.specs.OwnAsks.{known_after}
 use Rattle.control_held.specs.Moments.{items_in}
 use Rattle.ctl_plane.specs.Kinds.{kind_after}
 use Rattle.ctl_history.specs.Joining.{AllMarked}
 use Rattle.held_laws.proofs.MomentLemmas.{own_moments}
-use Rattle.socket_laws.specs.Laws.{HasOpen}
-use Rattle.socket_laws.proofs.KnownLemmas.{known_sockets_have_kinds}
-use Rattle.socket_laws.proofs.OpenLemmas.{made_new, sockets_are_open}
-use Rattle.socket_laws.proofs.ThereLemmas.{had_objects_are_there}
-use Rattle.socket_laws.proofs.RowLemmas.{event_count, makes_object}
+use Rattle.held_laws.specs.SocketLaws.{HasOpen}
+use Rattle.held_laws.proofs.KnownLemmas.{known_sockets_have_kinds}
+use Rattle.held_laws.proofs.OpenLemmas.{made_new, sockets_are_open}
+use Rattle.held_laws.proofs.ThereLemmas.{had_objects_are_there}
+use Rattle.held_laws.proofs.RowLemmas.{event_count, makes_object}
 use Rattle.spec_control.specs.declared.entry.Answered.{Answered}
 use Rattle.spec_control.specs.declared.entry.Did.{Did}
 use Rattle.spec_control.specs.declared.entry.Did.TheVariants.{Asked}

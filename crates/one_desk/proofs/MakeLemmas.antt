@@ -19,14 +19,14 @@ use Rattle.spec_control.specs.Register.{fulfilled_by}
 use Rattle.spec_control.specs.Control.{Control, makes, next_object, next_pair}
 use Rattle.spec_control.specs.After.{after, binding_by, socket_row}
 use Rattle.spec_control.specs.ControlRun.{Fits, unless_refused}
-use Rattle.control_rows.proofs.ListLemmas.{is_old, is_new, pushed}
+use Rattle.control_laws.proofs.ListLemmas.{is_old, is_new, pushed}
 use Rattle.control_laws.specs.Kept.{Kept}
-use Rattle.control_moves.specs.Move.{Move}
-use Rattle.control_moves.specs.OwnMoves.{own_moves, connect_moves, fulfil_moves}
-use Rattle.control_moves.proofs.SoundLemmas.{socket_there}
+use Rattle.control_laws.specs.Move.{Move}
+use Rattle.control_laws.specs.OwnMoves.{own_moves, connect_moves, fulfil_moves}
+use Rattle.control_laws.proofs.SoundLemmas.{socket_there}
 use Rattle.ctl_joins.specs.Papers.{HasMarks}
 use Rattle.ctl_history.specs.Joining.{AllMarked}
-use Rattle.socket_laws.proofs.RowLemmas.{KeepsMaking, event_count, event_keeps, makes_object}
+use Rattle.held_laws.proofs.RowLemmas.{KeepsMaking, event_count, event_keeps, makes_object}
 use Rattle.ctl_plane.specs.Asking.{MayHave}
 
 -- ---- requests that make none

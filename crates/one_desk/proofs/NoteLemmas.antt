@@ -13,8 +13,8 @@ use Rattle.std.specs.Int.{bit_at}
 use Rattle.ctl_state.specs.Bits.{bit_in, some_bit}
 use Rattle.ctl_state.proofs.BitLemmas.{past_words}
 use Rattle.ctl_state.proofs.ReadLemmas.{pushed_same}
-use Rattle.socket_laws.specs.Closed.{waits}
-use Rattle.socket_laws.proofs.ReapLemmas.{find_at, find_past}
+use Rattle.held_laws.specs.Closed.{waits}
+use Rattle.held_laws.proofs.ReapLemmas.{find_at, find_past}
 use Rattle.one_desk.specs.declared.notes.Notes.{Notes}
 use Rattle.one_desk.specs.Lent.{HaveOwnBoxes}
 use Rattle.one_desk.specs.Notes.{object_at, place_of, AreFollowed, AreNoted, KeepsNotes, MayNote, Noted}

@@ -14,7 +14,7 @@ use Rattle.spec_control.specs.declared.request.Reply.{Reply}
 use Rattle.spec_control.specs.Control.{Control, begun}
 use Rattle.spec_control.specs.ControlRun.{AreEmpty, after_all}
 use Rattle.spec_control.specs.Names.{name_of}
-use Rattle.control_rows.proofs.ListLemmas.{never}
+use Rattle.control_laws.proofs.ListLemmas.{never}
 use Rattle.ctl_plane.specs.declared.delivery.Delivery.{Delivery}
 use Rattle.ctl_plane.specs.declared.delivery.Delivery.TheVariants.{Done, Empty}
 use Rattle.msg_pipe.specs.Known.{Known}

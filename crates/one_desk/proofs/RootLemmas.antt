@@ -20,10 +20,10 @@ use Rattle.spec_control.specs.Control.{Control, begun, next_object}
 use Rattle.spec_control.specs.ControlRun.{after_all, is_between}
 use Rattle.spec_control.specs.Names.{AreNamed, name_of}
 use Rattle.control_held.specs.Has.{IsBy, acts_at_word, has_after, taken_by_word}
-use Rattle.control_rows.proofs.ListLemmas.{left, never, placed, right}
+use Rattle.control_laws.proofs.ListLemmas.{left, never, placed, right}
 use Rattle.control_laws.specs.Kept.{Kept}
 use Rattle.control_laws.proofs.RootLemmas.{begun_kept, oldest_lives}
-use Rattle.control_moves.proofs.GuardLemmas.{may_come}
+use Rattle.control_laws.proofs.GuardLemmas.{may_come}
 use Rattle.ctl_holder.specs.declared.given.Given.{Given}
 use Rattle.ctl_holder.specs.Holding.{Holding}
 use Rattle.ctl_holder.specs.Turns.{HasTurned}

@@ -18,7 +18,7 @@ use Rattle.ctl_plane.specs.declared.delivery.Delivery.{Delivery}
 use Rattle.ctl_plane.specs.declared.delivery.Delivery.TheVariants.{Done, Empty}
 use Rattle.ctl_state.specs.Listed.{Listed}
 use Rattle.ctl_history.specs.Past.{control_of, only_given, with_event}
-use Rattle.socket_laws.specs.Closed.{lives, unclosed}
+use Rattle.held_laws.specs.Closed.{lives, unclosed}
 use Rattle.one_desk.specs.Lent.{Lent, Sees, moments_of}
 
 -- they are the closed sockets, but for such that have ended, in the order of their closing, with room for those that may still be closed

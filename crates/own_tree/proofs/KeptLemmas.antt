@@ -11,7 +11,7 @@ use Rattle.own_tree.specs.Rows.{no_row, row_at, lives, lives_in, is_unnoted, is_
 use Rattle.own_tree.specs.Changes.{in_stage, as_plugged}
 use Rattle.own_tree.specs.Tallies.{AreTallied}
 use Rattle.own_tree.proofs.WriteLemmas.{is_it, is_other, owner_cases}
-use Rattle.own_tree.proofs.SumLemmas.{one_of, where_alike, where_same, live-set, children-set}
+use Rattle.own_tree.proofs.SumLemmas.{one_of, where_alike, where_same, where_few, live-set, children-set}
 use Rattle.own_tree.proofs.RowLemmas.{row_read}
 
 -- a row that adds up with these children not noted and awaited
@@ -127,3 +127,22 @@ asked_lives_on r h = by r.stage r.owner h
     by Ending o h = refl
     by Finished o h = absurd (never h)
     by Cleared o h = absurd (never h)
+
+-- nothing of what is kept has changed
+pub tallied_alike : (rows new_rows : List Row) (tallies new_tallies : List Tally) (lists new_lists : List (List ObjId)) (count : ℕ) →
+    new_rows ≡ rows → new_tallies ≡ tallies → new_lists ≡ lists → AreTallied rows tallies lists count → AreTallied new_rows new_tallies new_lists count
+tallied_alike rows new_rows tallies new_tallies lists new_lists count rows_are tallies_are lists_are all =
+    subst (λ (l : List Row). AreTallied l new_tallies new_lists count) (sym rows_are)
+    (subst (λ (l : List Tally). AreTallied rows l new_lists count) (sym tallies_are)
+    (subst (λ (l : List (List ObjId)). AreTallied rows tallies l count) (sym lists_are) all))
+
+-- an object's counts add up, as a call finds them
+pub now_adds : (rows now : List Row) (tallies : List Tally) (lists : List (List ObjId)) (count : ℕ) (id : ObjId) → rows ≡ now → AreTallied rows tallies lists count → AddsUp now id
+now_adds rows now tallies lists count id same all = (subst (λ (l : List Row). AreTallied l tallies lists count) same all).add_up id
+
+-- no more children are awaited than there may be
+pub awaited_few : (rows now : List Row) (tallies : List Tally) (lists : List (List ObjId)) (count : ℕ) (id : ObjId) → rows ≡ now → AreTallied rows tallies lists count → awaited_children now id ≤ 2 ^ 32
+awaited_few rows now tallies lists count id same all =
+    let few = (subst (λ (l : List Row). AreTallied l tallies lists count) same all).few in
+    let le = where_few is_awaited now id in
+    omega (arith, few, le)

@@ -93,6 +93,10 @@ where_some test rows child owner h o e =
 pub where_few : (test : Row → Bool) (rows : List Row) (id : ObjId) → children_where test rows id ≤ length rows
 where_few test rows id = count_by-le-length (λ (row : Row). is_owner id row.owner && test row) rows
 
+-- no more objects live than there are
+pub live_few : (rows : List Row) → live_objects rows ≤ length rows
+live_few rows = count_by-le-length lives rows
+
 -- how many objects live, behind a write and a push
 pub live-set : (rows : List Row) (i : ObjId) (r : Row) → i.0 < length rows →
     live_objects (slice_set rows i.0 r) + cond (lives (row_at rows i)) 1 0 ≡ live_objects rows + cond (lives r) 1 0

@@ -5,7 +5,7 @@ use spec_control::{ObjKind, ObjState, Stage, Use};
 use zq_base::{ObjId, SlotId};
 
 /// What is known of an object.
-#[derive(Clone, Copy, PartialEq, Eq)]
+#[derive(Clone, Copy)]
 pub struct Row {
     /// The owner, which the root alone has not.
     pub owner: Option<ObjId>,

@@ -61,7 +61,7 @@ pub struct Entry<N, S> {
 }
 
 /// Which mailboxes a look found empty.
-#[derive(Clone, Copy, PartialEq, Eq)]
+#[derive(Clone, Copy)]
 pub enum SeenEmpty {
     /// It was no look at mailboxes.
     Nothing,
@@ -72,7 +72,7 @@ pub enum SeenEmpty {
 }
 
 /// What a caller saw of the plane in one look.
-#[derive(Clone, Copy, PartialEq, Eq)]
+#[derive(Clone, Copy)]
 pub struct Sight {
     pub by: u32,
     pub empty: SeenEmpty,

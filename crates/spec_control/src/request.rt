@@ -27,7 +27,7 @@ pub enum Req {
 }
 
 /// Why a request is refused.
-#[derive(Clone, Copy, PartialEq, Eq)]
+#[derive(Clone, Copy)]
 pub enum Refusal {
     /// The root was asked.
     Term,
@@ -42,7 +42,7 @@ pub enum Refusal {
 }
 
 /// What a request is answered.
-#[derive(Clone, Copy, PartialEq, Eq)]
+#[derive(Clone, Copy)]
 pub enum Reply {
     Done,
     /// This object was made.

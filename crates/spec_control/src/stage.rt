@@ -1,5 +1,5 @@
 /// How far an object is in its life, and whether the Term or the TermAck of its ending is on its way.
-#[derive(Clone, Copy, PartialEq, Eq)]
+#[derive(Clone, Copy)]
 pub enum Stage {
     /// It lives, and nobody told it to end.
     Alive,

@@ -1,5 +1,5 @@
 use Rattle.std.proofs.Common.{ap, sym, ◌∙◌}
-use Rattle.control_rows.proofs.ListLemmas.{left}
+use Rattle.control_laws.proofs.ListLemmas.{left}
 use Rattle.spec_control.specs.Row.{Row, AckComes}
 use Rattle.spec_control.specs.Stage.{is_finished}
 use Rattle.spec_control.specs.Control.{link}

@@ -1,6 +1,6 @@
 use Rattle.std.specs.Prelude.{Bool, not, refl}
 use Rattle.std.proofs.Common.{ap, sym, ◌∙◌, subst}
-use Rattle.control_rows.proofs.ListLemmas.{is_false}
+use Rattle.control_laws.proofs.ListLemmas.{is_false}
 use Rattle.spec_control.specs.Row.{Row, OwnComes}
 use Rattle.spec_control.specs.Control.{link, tell_where}
 use Rattle.own_tree.specs.Changes.{with_noted}

@@ -1,6 +1,6 @@
 use Rattle.std.specs.Prelude.{Bool, not, refl}
 use Rattle.std.proofs.Common.{ap, sym, ◌∙◌, subst}
-use Rattle.control_rows.proofs.ListLemmas.{left}
+use Rattle.control_laws.proofs.ListLemmas.{left}
 use Rattle.spec_control.specs.Row.{Row, RequestComes}
 use Rattle.spec_control.specs.Stage.{is_coming}
 use Rattle.spec_control.specs.declared.stage.Use.TheVariants.{Used}

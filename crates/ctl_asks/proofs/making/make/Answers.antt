@@ -4,6 +4,7 @@ use Rattle.mailbox.specs.Mail.{no_mail, with_spare}
 use Rattle.ctl_state.specs.declared.state.State.{State}
 use Rattle.ctl_state.specs.Objects.{TakesChild}
 use Rattle.ctl_state.specs.Lists.{no_belongings}
+use Rattle.ctl_state.proofs.KeptLemmas.{so_on_err}
 use Rattle.ctl_state.proofs.MailLemmas.{boxes_back}
 use Rattle.ctl_asks.proofs.making.make.Goals as goal
 
@@ -29,3 +30,6 @@ returns-in-Ok-clause-ok g c = record {
 pub returns-in-Err-clause-err : goal.returns-in-Err-clause-err
 returns-in-Err-clause-err g c =
     boxes_back c.args.state.now c.reserve.new.self c.make_socket.new.self c.release.new.self 0 2 c.requires.takes.some c.in_ok-reserve.ensures.next c.in-Err.ensures.err c.release.ensures
+
+pub returns-in_err-reserve-clause-err : goal.returns-in_err-reserve-clause-err
+returns-in_err-reserve-clause-err g c = so_on_err _ c.from_residual.result c.in_err-reserve.ensures.err

@@ -10,6 +10,8 @@ use Rattle.ctl_joins.specs.Noting.{joins_named, pipes_named}
 use Rattle.ctl_joins.proofs.ConnectingLemmas.{connects, drawn_last, few_numbers, first_waker, last_waker, may_join, not_there, room_to_hold}
 use Rattle.ctl_joins.proofs.PapersLemmas.{drawn_makes}
 use Rattle.ctl_binds.specs.Holding.{joined_at}
+use Rattle.ctl_ends.proofs.TurnLemmas.{keeps_same}
+use Rattle.ctl_binds.proofs.TakenLemmas.{stays_itself}
 use Rattle.ctl_binds.proofs.connecting.connect_pair.Goals as goal
 
 pub make_first-requires-clause-mine : goal.make_first-requires-clause-mine
@@ -97,3 +99,27 @@ returns-in-Err-make_first-clause-keeps g c = c.in-Err-make_first.ensures.keeps
 
 pub returns-in-Err-make_first-clause-heard : goal.returns-in-Err-make_first-clause-heard
 returns-in-Err-make_first-clause-heard g c = c.in-Err-make_first.ensures.heard
+
+pub returns-in-Err-clause-err : goal.returns-in-Err-clause-err
+returns-in-Err-clause-err g c = refl
+
+pub returns-in-Err-clause-stays : goal.returns-in-Err-clause-stays
+returns-in-Err-clause-stays g c = stays_itself c.args.o.first.0 (g.H.Holder.holding c.args.holder.now)
+
+pub returns-in-Err-clause-keeps : goal.returns-in-Err-clause-keeps
+returns-in-Err-clause-keeps g c = keeps_same (g.H.Holder.holding c.args.holder.now)
+
+pub returns-in-Err-clause-heard : goal.returns-in-Err-clause-heard
+returns-in-Err-clause-heard g c = refl
+
+pub returns-in-Err-draw_held-clause-err : goal.returns-in-Err-draw_held-clause-err
+returns-in-Err-draw_held-clause-err g c = c.in-Err-draw_held.ensures.err
+
+pub returns-in-Err-draw_held-clause-stays : goal.returns-in-Err-draw_held-clause-stays
+returns-in-Err-draw_held-clause-stays g c = stays_itself c.args.o.first.0 (g.H.Holder.holding c.args.holder.now)
+
+pub returns-in-Err-draw_held-clause-keeps : goal.returns-in-Err-draw_held-clause-keeps
+returns-in-Err-draw_held-clause-keeps g c = keeps_same (g.H.Holder.holding c.args.holder.now)
+
+pub returns-in-Err-draw_held-clause-heard : goal.returns-in-Err-draw_held-clause-heard
+returns-in-Err-draw_held-clause-heard g c = refl

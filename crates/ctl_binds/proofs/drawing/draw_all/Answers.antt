@@ -1,10 +1,12 @@
-use Rattle.std.specs.Prelude.{◌+◌, ◌-◌, List, length, slice_index_or}
+use Rattle.std.specs.Prelude.{◌+◌, ◌-◌, List, length, slice_index_or, refl}
 use Rattle.std.proofs.Common.{arith, ap, sym, subst}
 use Rattle.std.proofs.lemmas.List.{get_or_default}
 use Rattle.ctl_binds.specs.declared.batch.Drawn.{Drawn}
 use Rattle.ctl_binds.specs.declared.batch.Batch.{Batch}
 use Rattle.ctl_binds.specs.Batch.{drawn_ends}
 use Rattle.ctl_binds.proofs.DrawAllLemmas.{all_drawn, may_draw_next, may_make_next, none_drawn, one_drawn, one_fits, were_taken}
+use Rattle.ctl_state.proofs.KeptLemmas.{so_on_err}
+use Rattle.ctl_binds.proofs.TakenLemmas.{back_itself}
 use Rattle.ctl_binds.proofs.drawing.draw_all.Goals as goal
 
 pub waiters-init : goal.waiters-init
@@ -63,3 +65,12 @@ waiters-preserved g c = record {
 
 pub returns-clause-ok : goal.returns-clause-ok
 returns-clause-ok g c = λ w. all_drawn g.P.Pipes.known.out_name g.P.Pipes.known.in_name c.args.state.now (g.H.Holder.holding c.args.holder.now) c.args.socket c.args.waiters.now (length c.args.wakers.now) c.waiters.place (let end = c.waiters.auto.place-end in omega arith) c.waiters.state (g.H.Holder.holding c.waiters.holder) c.waiters.batch w (c.waiters.invariant.draws w)
+
+pub returns-clause-calm : goal.returns-clause-calm
+returns-clause-calm g c = c.waiters.invariant.calm
+
+pub returns-in_err-batch-clause-err : goal.returns-in_err-batch-clause-err
+returns-in_err-batch-clause-err g c = so_on_err _ c.from_residual.result refl
+
+pub returns-in_err-batch-clause-back : goal.returns-in_err-batch-clause-back
+returns-in_err-batch-clause-back g c = so_on_err _ c.from_residual.result (back_itself (length c.args.state.now.pairs) c.args.socket.0 (g.H.Holder.holding c.args.holder.now))

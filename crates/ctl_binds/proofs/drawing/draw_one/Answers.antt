@@ -5,6 +5,9 @@ use Rattle.ctl_joins.proofs.PapersLemmas.{drawn_makes, drawn_papers}
 use Rattle.ctl_binds.proofs.CameLemmas.{drawn_more}
 use Rattle.std.proofs.Common.{ap, sym, ◌∙◌, subst}
 use Rattle.ctl_binds.proofs.DrawLemmas.{draws_now, drawn_now, few_numbers, first_waker, last_number, last_waker, makes_now, not_there, places_now}
+use Rattle.ctl_ends.proofs.TurnLemmas.{keeps_same}
+use Rattle.ctl_state.proofs.KeptLemmas.{so_on_err}
+use Rattle.ctl_binds.proofs.TakenLemmas.{stays_itself}
 use Rattle.ctl_binds.proofs.drawing.draw_one.Goals as goal
 
 pub draw_pair-requires-clause-there : goal.draw_pair-requires-clause-there
@@ -83,3 +86,18 @@ returns-in-Err-clause-heard g c = c.in-Err.ensures.heard
 
 pub returns-in-Err-clause-calm : goal.returns-in-Err-clause-calm
 returns-in-Err-clause-calm g c = c.in-Err.ensures.still (drawn_ends c.args.batch.now.drawn.items) c.requires.calm
+
+pub returns-in_err-pair-clause-err : goal.returns-in_err-pair-clause-err
+returns-in_err-pair-clause-err g c = so_on_err _ c.from_residual.result (c.in_err-pair.ensures.err, refl)
+
+pub returns-in_err-pair-clause-stays : goal.returns-in_err-pair-clause-stays
+returns-in_err-pair-clause-stays g c = so_on_err _ c.from_residual.result (stays_itself c.args.socket.0 (g.H.Holder.holding c.args.holder.now))
+
+pub returns-in_err-pair-clause-quiet : goal.returns-in_err-pair-clause-quiet
+returns-in_err-pair-clause-quiet g c = so_on_err _ c.from_residual.result (keeps_same (g.H.Holder.holding c.args.holder.now))
+
+pub returns-in_err-pair-clause-heard : goal.returns-in_err-pair-clause-heard
+returns-in_err-pair-clause-heard g c = so_on_err _ c.from_residual.result refl
+
+pub returns-in_err-pair-clause-calm : goal.returns-in_err-pair-clause-calm
+returns-in_err-pair-clause-calm g c = c.requires.calm

@@ -1,4 +1,8 @@
 use Rattle.ctl_joins.proofs.PapersLemmas.{marked_for, may_hold}
+use Rattle.ctl_ends.proofs.TurnLemmas.{keeps_same}
+use Rattle.ctl_state.proofs.KeptLemmas.{so_on_err}
+use Rattle.std.specs.Prelude.{refl}
+use Rattle.ctl_binds.proofs.TakenLemmas.{stays_itself}
 use Rattle.ctl_binds.proofs.first.make_first.Goals as goal
 
 pub capacities_of-sizes-requires : goal.capacities_of-sizes-requires
@@ -42,3 +46,21 @@ returns-in-Err-clause-heard g c = c.in-Err.ensures.heard
 
 pub returns-in-Err-clause-still : goal.returns-in-Err-clause-still
 returns-in-Err-clause-still g c = c.in-Err.ensures.still
+
+pub bounds-wakers-o : goal.bounds-wakers-o
+bounds-wakers-o g c = c.requires.mine
+
+pub bounds-wakers-o-2 : goal.bounds-wakers-o-2
+bounds-wakers-o-2 g c = c.requires.theirs
+
+pub returns-in_err-said-clause-err : goal.returns-in_err-said-clause-err
+returns-in_err-said-clause-err g c = so_on_err _ c.from_residual.result (stays_itself c.args.socket.0 (g.H.Holder.holding c.args.holder.now))
+
+pub returns-in_err-said-clause-keeps : goal.returns-in_err-said-clause-keeps
+returns-in_err-said-clause-keeps g c = so_on_err _ c.from_residual.result (keeps_same (g.H.Holder.holding c.args.holder.now))
+
+pub returns-in_err-said-clause-heard : goal.returns-in_err-said-clause-heard
+returns-in_err-said-clause-heard g c = so_on_err _ c.from_residual.result refl
+
+pub returns-in_err-said-clause-still : goal.returns-in_err-said-clause-still
+returns-in_err-said-clause-still g c = so_on_err _ c.from_residual.result (λ came calm. calm)

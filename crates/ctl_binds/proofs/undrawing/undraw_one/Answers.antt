@@ -15,3 +15,9 @@ undraw_pair-requires-clause-last g c = last_number c.args.state.now (g.H.Holder.
 
 pub returns-clause-back : goal.returns-clause-back
 returns-clause-back g c = λ w. taken_less c.args.state.now (g.H.Holder.holding c.args.holder.now) c.args.socket.0 c.args.drawn w c.undraw_pair.new.state (g.H.Holder.holding c.take_back-halves.new.self) (c.undraw_pair.ensures (was_drawn c.args.state.now (g.H.Holder.holding c.args.holder.now) c.args.socket.0 c.args.drawn w)) c.take_back-halves.ensures.left c.take_back-halves.ensures.turns c.take_back-halves.ensures.joins c.take_back-halves.ensures.heard
+
+pub take_back-halves-requires-clause-calm : goal.take_back-halves-requires-clause-calm
+take_back-halves-requires-clause-calm g c = c.requires.calm
+
+pub returns-clause-calm : goal.returns-clause-calm
+returns-clause-calm g c = λ came calm. c.take_back-halves.ensures.calm came calm

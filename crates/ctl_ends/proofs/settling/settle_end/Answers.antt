@@ -169,16 +169,21 @@ returns-clause-settles g c = λ w.
           (λ t. subst (λ (n : ℕ). 0 < (mail_at c.args.state.now.boxes n).spare) (sym slot) (w.settles.room (ap tells (sym told) ∙ t))) c.tell_other.ensures.told c.tell_other.ensures.kept room_of)));
     }
 
-pub end_goes-commands-requires : goal.end_goes-commands-requires
-end_goes-commands-requires g c =
+pub end_goes-commands-requires-clause-may : goal.end_goes-commands-requires-clause-may
+end_goes-commands-requires-clause-may g c =
     let w = c.requires.may in
-    let met = c.needs.ensures w.control w.stands in
+    (c.needs.ensures w.control w.stands).may_come c.args.e AckCame w.settles.state w.settles.there w.settles.may_come
+
+pub end_goes-commands-requires-clause-unended : goal.end_goes-commands-requires-clause-unended
+end_goes-commands-requires-clause-unended g c =
+    let w = c.requires.may in
     let owner = c.owner-owner.ensures.stands w.control w.stands ∙ ap (λ (o : ObjId). o.0) c.owner-owner.ensures.owner in
-    record {
-      may = met.may_come c.args.e AckCame w.settles.state w.settles.there w.settles.may_come;
-      unended = met.unended (kept_owner_at c.args.state.now.pairs c.args.e) (ap (λ (n : ℕ). has_ended (obj w.control.rows n).stage) (sym owner) ∙ w.settles.unended);
-      attached = met.ends c.args.e w.settles.within (ap is_here w.settles.there ∙ comes_here AckCame w.settles.state w.settles.may_come);
-    }
+    (c.needs.ensures w.control w.stands).unended (kept_owner_at c.args.state.now.pairs c.args.e) (ap (λ (n : ℕ). has_ended (obj w.control.rows n).stage) (sym owner) ∙ w.settles.unended)
+
+pub end_goes-commands-requires-clause-attached : goal.end_goes-commands-requires-clause-attached
+end_goes-commands-requires-clause-attached g c =
+    let w = c.requires.may in
+    (c.needs.ensures w.control w.stands).ends c.args.e w.settles.within (ap is_here w.settles.there ∙ comes_here AckCame w.settles.state w.settles.may_come)
 
 pub tell_other-requires : goal.tell_other-requires
 tell_other-requires g c =

@@ -122,13 +122,13 @@ returns g c = λ w.
       turned = turns_told w.control c.args.event c.args.e w.turns.state w.turns.there w.turns.within w.names h k (owner_of w.control c.args.e) has here w.turns.may_come told_one;
     }
 
-pub step_end-commands-requires : goal.step_end-commands-requires
-step_end-commands-requires g c =
+pub step_end-commands-requires-clause-may : goal.step_end-commands-requires-clause-may
+step_end-commands-requires-clause-may g c =
     let w = c.requires.may in
-    record {
-      may = (c.needs.ensures w.control w.stands).may_come c.args.e c.args.event w.turns.state w.turns.there w.turns.may_come;
-      stays = c.requires.stays;
-    }
+    (c.needs.ensures w.control w.stands).may_come c.args.e c.args.event w.turns.state w.turns.there w.turns.may_come
+
+pub step_end-commands-requires-clause-stays : goal.step_end-commands-requires-clause-stays
+step_end-commands-requires-clause-stays g c = c.requires.stays
 
 pub tell_other-requires : goal.tell_other-requires
 tell_other-requires g c =

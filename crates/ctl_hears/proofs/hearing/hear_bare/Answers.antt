@@ -1,5 +1,5 @@
-use Rattle.std.specs.Prelude.{None, refl}
-use Rattle.std.proofs.Common.{ap, sym, subst, ◌∙◌}
+use Rattle.std.specs.Prelude.{◌<◌, None, length, refl}
+use Rattle.std.proofs.Common.{ap, sym, subst, ◌∙◌, arith}
 use Rattle.spec_control.specs.declared.letter.Word.{Word}
 use Rattle.spec_control.specs.Row.{AckComes}
 use Rattle.spec_control.specs.Control.{link}
@@ -8,11 +8,11 @@ use Rattle.ctl_state.specs.declared.state.State.{State}
 use Rattle.ctl_state.proofs.BareLemmas.{tells_not}
 use Rattle.ctl_hears.proofs.HearLemmas.{own_done, request_done, ack_done, stop_done, turn_done, term_done}
 use Rattle.ctl_terms.proofs.HolderLemmas.{ended_has_none, has_same}
-use Rattle.control_others.proofs.StayLemmas.{link_ends_stay}
+use Rattle.control_laws.proofs.StayLemmas.{link_ends_stay}
 use Rattle.ctl_ends.proofs.TurnedLemmas.{turns_none, turns_same}
 use Rattle.ctl_hears.proofs.ToldLemmas.{own_told, request_told, ack_told, stop_told, turn_told, term_told}
 use Rattle.ctl_asks.specs.Bare.{Hears}
-use Rattle.control_rows.proofs.ListLemmas.{left}
+use Rattle.control_laws.proofs.ListLemmas.{left}
 use Rattle.ctl_asks.proofs.BareLemmas.{finished_is, not_ended}
 use Rattle.ctl_holder.specs.Heard.{heard_by}
 use Rattle.ctl_hears.proofs.CameLemmas.{ack_came, none_came, own_between, parent_lives, request_between, stop_between, stop_heard, term_came, turn_between, unheard}
@@ -69,10 +69,10 @@ returns-in-PipeTerm-clause-heard g c = λ a silent w.
 
 pub returns-in-Stop-clause-heard : goal.returns-in-Stop-clause-heard
 returns-in-Stop-clause-heard g c = λ a silent w.
-    stop_done g.P.Pipes.known.out_name g.P.Pipes.known.in_name c.args.state.now c.stop_comes.new.self (g.H.Holder.holding c.args.holder.now) c.args.letter.now.to a silent w.control w.names
-    (g.H.Holder.holding c.tell_stop.new.holder) c.args.letter.now.word c.in-Stop.is (c.stop_comes.ensures.stands w.control w.stands)
-    (tells_not c.args.state.now c.stop_comes.new.self (ap (λ (x : State (Load g.row.P-Name.Denot g.row.P-Out.Denot g.row.P-In.Denot)). x.boxes) c.stop_comes.ensures.next)
-    (ap (λ (x : State (Load g.row.P-Name.Denot g.row.P-Out.Denot g.row.P-In.Denot)). x.objects.lists) c.stop_comes.ensures.next)) w.has c.tell_stop.ensures.stays c.tell_stop.ensures.turns
+    stop_done g.P.Pipes.known.out_name g.P.Pipes.known.in_name c.args.state.now c.hear_stop.new.state (g.H.Holder.holding c.args.holder.now) c.args.letter.now.to a silent w.control w.names
+    (g.H.Holder.holding c.hear_stop.new.holder) c.args.letter.now.word c.in-Stop.is (c.hear_stop.ensures.stands w.control w.stands)
+    (tells_not c.args.state.now c.hear_stop.new.state (ap (λ (x : State (Load g.row.P-Name.Denot g.row.P-Out.Denot g.row.P-In.Denot)). x.boxes) c.hear_stop.ensures.next)
+    (ap (λ (x : State (Load g.row.P-Name.Denot g.row.P-Out.Denot g.row.P-In.Denot)). x.objects.lists) c.hear_stop.ensures.next)) w.has c.hear_stop.ensures.stays c.hear_stop.ensures.turns
 
 pub returns-in-Own-clause-turned : goal.returns-in-Own-clause-turned
 returns-in-Own-clause-turned g c = λ a silent w.
@@ -89,7 +89,7 @@ returns-in-TermAck-clause-turned g c = λ a silent w.
 
 pub returns-in-Stop-clause-turned : goal.returns-in-Stop-clause-turned
 returns-in-Stop-clause-turned g c = λ a silent w.
-    stop_told c.args.letter.now.to a w.control (g.H.Holder.holding c.args.holder.now) (g.H.Holder.holding c.tell_stop.new.holder) c.args.letter.now.word c.in-Stop.is (turns_none (g.H.Holder.holding c.args.holder.now) (g.H.Holder.holding c.tell_stop.new.holder) c.tell_stop.ensures.turns)
+    stop_told c.args.letter.now.to a w.control (g.H.Holder.holding c.args.holder.now) (g.H.Holder.holding c.hear_stop.new.holder) c.args.letter.now.word c.in-Stop.is (turns_none (g.H.Holder.holding c.args.holder.now) (g.H.Holder.holding c.hear_stop.new.holder) c.hear_stop.ensures.turns)
 
 pub returns-in-PipeTerm-clause-turned : goal.returns-in-PipeTerm-clause-turned
 returns-in-PipeTerm-clause-turned g c = λ a silent w.
@@ -118,9 +118,9 @@ returns-in-TermReq-clause-joins g c = λ a silent w.
 
 pub returns-in-Stop-clause-joins : goal.returns-in-Stop-clause-joins
 returns-in-Stop-clause-joins g c = λ a silent w.
-    none_came c.args.letter.now.to a w.control (g.H.Holder.holding c.args.holder.now) (g.H.Holder.holding c.tell_stop.new.holder) c.args.letter.now.word silent.joined c.tell_stop.ensures.turns.joined c.tell_stop.ensures.stays.now.objects c.tell_stop.ensures.stays.now.kinds
-    (stop_between c.args.letter.now.to a w.control (g.H.Holder.holding c.args.holder.now) (g.H.Holder.holding c.tell_stop.new.holder) c.args.letter.now.word c.in-Stop.is)
-    (stop_heard c.args.letter.now.to a w.control (g.H.Holder.holding c.args.holder.now) (g.H.Holder.holding c.tell_stop.new.holder) c.args.letter.now.word c.in-Stop.is c.tell_stop.ensures.heard)
+    none_came c.args.letter.now.to a w.control (g.H.Holder.holding c.args.holder.now) (g.H.Holder.holding c.hear_stop.new.holder) c.args.letter.now.word silent.joined c.hear_stop.ensures.turns.joined c.hear_stop.ensures.stays.now.objects c.hear_stop.ensures.stays.now.kinds
+    (stop_between c.args.letter.now.to a w.control (g.H.Holder.holding c.args.holder.now) (g.H.Holder.holding c.hear_stop.new.holder) c.args.letter.now.word c.in-Stop.is)
+    (stop_heard c.args.letter.now.to a w.control (g.H.Holder.holding c.args.holder.now) (g.H.Holder.holding c.hear_stop.new.holder) c.args.letter.now.word c.in-Stop.is c.hear_stop.ensures.heard)
 
 pub returns-in-PipeTerm-clause-joins : goal.returns-in-PipeTerm-clause-joins
 returns-in-PipeTerm-clause-joins g c = λ a silent w.
@@ -143,3 +143,21 @@ returns-in-Term-clause-joins g c = λ a silent w.
     let hears = subst (λ (x : Word). HearsEnd g.P.Pipes.known.out_name g.P.Pipes.known.in_name w.names w.control c.args.state.now (g.H.Holder.holding c.args.holder.now) c.args.letter.now.to.0 x None) c.in-Term.is w.ends in
     let done = c.process_term.ensures.terms (record { control = w.control; names = w.names; stands = w.stands; has = w.has; lent = w.lent; rootless = hears.rootless; comes = hears.comes; room = hears.room }) in
     term_came c.args.letter.now.to a w.control (g.H.Holder.holding c.args.holder.now) (g.H.Holder.holding c.process_term.new.holder) c.args.letter.now.word c.in-Term.is silent done.joined done.objects (c.process_term.ensures.heard (record { control = w.control; names = w.names; stands = w.stands; has = w.has; lent = w.lent; rootless = hears.rootless; comes = hears.comes; room = hears.room }))
+
+pub turn_end-requires-clause-may : goal.turn_end-requires-clause-may
+turn_end-requires-clause-may g c =
+    let w = c.requires.may in
+    record {
+      control = w.control;
+      names = w.names;
+      stands = w.stands;
+      has = w.has;
+      turns = subst (λ (x : Word). HearsEnd g.P.Pipes.known.out_name g.P.Pipes.known.in_name w.names w.control c.args.state.now (g.H.Holder.holding c.args.holder.now) c.args.letter.now.to.0 x None) c.in-PipeTerm.is w.ends;
+    }
+
+pub hear_stop-requires : goal.hear_stop-requires
+hear_stop-requires g c =
+    let w = c.requires.may in
+    let there : c.args.letter.now.to.0 < length w.control.rows.objects = subst (λ (x : Word). Hears c.args.state.now c.args.letter.now.to.0 x w.control) c.in-Stop.is w.hears in
+    let many = w.stands.objects.many in
+    omega (arith, there, many)

@@ -9,8 +9,8 @@ use Rattle.ctl_reaps.specs.Reaping.{ReapsAt}
 use Rattle.spec_control.specs.declared.letter.Word.{Word}
 use Rattle.ctl_holder.specs.declared.load.Load.{Load}
 use Rattle.ctl_hears.specs.Processing.{HasJoined, HearsEnd}
-use Rattle.ctl_hears.proofs.HearLemmas.{bare_may}
-use Rattle.control_rows.proofs.ListLemmas.{never}
+use Rattle.ctl_hears.proofs.HearLemmas.{bare_of, bare_may}
+use Rattle.control_laws.proofs.ListLemmas.{never}
 use Rattle.zq_base.specs.declared.ids.EndId.{EndId}
 use Rattle.ctl_holder.specs.Counts.{IsCounted}
 use Rattle.ctl_hears.specs.Attaching.{binds_end}
@@ -22,17 +22,17 @@ use Rattle.ctl_hears.proofs.BindingLemmas.{bind_processed, bind_told}
 use Rattle.ctl_hears.proofs.TakeOverLemmas.{parting_brought, reap_processed, same_parting}
 use Rattle.ctl_hears.proofs.hearing.process.Goals as goal
 
-pub returns-then-is_bare-clause-heard : goal.returns-then-is_bare-clause-heard
-returns-then-is_bare-clause-heard g c = λ w.
-    c.hear_bare.ensures.heard c.silent.result c.silent.ensures (bare_may g.P.Pipes.known.out_name g.P.Pipes.known.in_name c.args.state.now (g.H.Holder.holding c.args.holder.now) c.args.letter.now c.args.load (sym c.is_bare.ensures ∙ c.if-is_bare.true) w)
+pub returns-in-Own-clause-heard : goal.returns-in-Own-clause-heard
+returns-in-Own-clause-heard g c = λ w.
+    c.hear_bare.ensures.heard c.silent.result c.silent.ensures (bare_may g.P.Pipes.known.out_name g.P.Pipes.known.in_name c.args.state.now (g.H.Holder.holding c.args.holder.now) c.args.letter.now c.args.load (bare_of c.args.letter.now.word c.in-Own.is) w)
 
-pub returns-then-is_bare-clause-turned : goal.returns-then-is_bare-clause-turned
-returns-then-is_bare-clause-turned g c = λ w.
-    c.hear_bare.ensures.turned c.silent.result c.silent.ensures (bare_may g.P.Pipes.known.out_name g.P.Pipes.known.in_name c.args.state.now (g.H.Holder.holding c.args.holder.now) c.args.letter.now c.args.load (sym c.is_bare.ensures ∙ c.if-is_bare.true) w)
+pub returns-in-Own-clause-turned : goal.returns-in-Own-clause-turned
+returns-in-Own-clause-turned g c = λ w.
+    c.hear_bare.ensures.turned c.silent.result c.silent.ensures (bare_may g.P.Pipes.known.out_name g.P.Pipes.known.in_name c.args.state.now (g.H.Holder.holding c.args.holder.now) c.args.letter.now c.args.load (bare_of c.args.letter.now.word c.in-Own.is) w)
 
-pub returns-then-is_bare-clause-joins : goal.returns-then-is_bare-clause-joins
-returns-then-is_bare-clause-joins g c = λ w.
-    c.hear_bare.ensures.joins c.silent.result c.silent.ensures (bare_may g.P.Pipes.known.out_name g.P.Pipes.known.in_name c.args.state.now (g.H.Holder.holding c.args.holder.now) c.args.letter.now c.args.load (sym c.is_bare.ensures ∙ c.if-is_bare.true) w)
+pub returns-in-Own-clause-joins : goal.returns-in-Own-clause-joins
+returns-in-Own-clause-joins g c = λ w.
+    c.hear_bare.ensures.joins c.silent.result c.silent.ensures (bare_may g.P.Pipes.known.out_name g.P.Pipes.known.in_name c.args.state.now (g.H.Holder.holding c.args.holder.now) c.args.letter.now c.args.load (bare_of c.args.letter.now.word c.in-Own.is) w)
 
 pub acknowledged-counts-requires-clause-may : goal.acknowledged-counts-requires-clause-may
 acknowledged-counts-requires-clause-may g c =
@@ -173,8 +173,8 @@ returns-in-Ok-clause-joins g c = λ w.
     let done = c.in-Ok.ensures.ok (record { control = w.control; names = w.names; stands = w.stands; has = w.has; comes = hears }) _ c.in-PipeBind.is in
     bind_came c.args.letter.now.to c.with_joined-in-Ok.result w.control (g.H.Holder.holding c.args.holder.now) (g.H.Holder.holding c.bind_comes.new.holder) c.args.letter.now.word c.in-PipeBind.e _ c.in-Ok.joined c.in-PipeBind.is c.with_joined-in-Ok.ensures done.came done.holds done.kinds done.heard
 
-pub returns-then-is_bare-clause-counts : goal.returns-then-is_bare-clause-counts
-returns-then-is_bare-clause-counts g c = λ e is. absurd (never (sym (ap is_bare is) ∙ sym c.is_bare.ensures ∙ c.if-is_bare.true))
+pub returns-in-Own-clause-counts : goal.returns-in-Own-clause-counts
+returns-in-Own-clause-counts g c = λ e is. absurd (never (sym (ap is_bare is) ∙ (bare_of c.args.letter.now.word c.in-Own.is)))
 
 pub returns-in-PipeTermAck-clause-counts : goal.returns-in-PipeTermAck-clause-counts
 returns-in-PipeTermAck-clause-counts g c = λ e is.
@@ -193,11 +193,11 @@ pub returns-in-Err-clause-succeeds : goal.returns-in-Err-clause-succeeds
 returns-in-Err-clause-succeeds g c = λ none. absurd (never (sym none ∙ ap binds_end c.in-PipeBind.is))
 
 pub hear_bare-requires-clause-bare : goal.hear_bare-requires-clause-bare
-hear_bare-requires-clause-bare g c = sym c.is_bare.ensures ∙ c.if-is_bare.true
+hear_bare-requires-clause-bare g c = bare_of c.args.letter.now.word c.in-Own.is
 
 pub hear_bare-requires-clause-may : goal.hear_bare-requires-clause-may
 hear_bare-requires-clause-may g c =
-    bare_may g.P.Pipes.known.out_name g.P.Pipes.known.in_name c.args.state.now (g.H.Holder.holding c.args.holder.now) c.args.letter.now c.args.load (sym c.is_bare.ensures ∙ c.if-is_bare.true) c.requires.may
+    bare_may g.P.Pipes.known.out_name g.P.Pipes.known.in_name c.args.state.now (g.H.Holder.holding c.args.holder.now) c.args.letter.now c.args.load (bare_of c.args.letter.now.word c.in-Own.is) c.requires.may
 
 pub bind_comes-requires-clause-fits : goal.bind_comes-requires-clause-fits
 bind_comes-requires-clause-fits g c = c.requires.fits

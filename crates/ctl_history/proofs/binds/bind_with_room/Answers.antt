@@ -1,4 +1,4 @@
-use Rattle.std.specs.Prelude.{◌≡◌, ◌+◌, ◌*◌, ℕ, List, length}
+use Rattle.std.specs.Prelude.{◌≡◌, ◌+◌, ◌*◌, ℕ, List, length, refl}
 use Rattle.std.proofs.Common.{arith, ap, sym, ◌∙◌, subst}
 use Rattle.zq_base.specs.declared.ids.ObjId.{ObjId}
 use Rattle.spec_control.specs.declared.book.Binding.{Binding}
@@ -9,6 +9,8 @@ use Rattle.ctl_binds.specs.Drawing.{MayMakeAll}
 use Rattle.ctl_history.specs.Fulfilling.{MayFulfil}
 use Rattle.ctl_history.proofs.FulfillingLemmas.{all_fulfilled}
 use Rattle.ctl_history.proofs.MakingLemmas.{listed_back}
+use Rattle.ctl_state.proofs.KeptLemmas.{so_on_err}
+use Rattle.ctl_history.proofs.FulfilPlaneLemmas.{back_itself}
 use Rattle.ctl_history.proofs.binds.bind_with_room.Goals as goal
 
 pub fulfil_all-requires-clause-may : goal.fulfil_all-requires-clause-may
@@ -42,3 +44,33 @@ returns-in-Ok-clause-room g c = λ w.
 
 pub returns-in-Err-clause-kept : goal.returns-in-Err-clause-kept
 returns-in-Err-clause-kept g c = listed_back c.args.events.now c.reserve.new.self c.release.new.self (8 * c.len.result + 1) c.in_ok-reserve.ensures.ok c.release.ensures
+
+pub fulfil_all-requires-clause-copy : goal.fulfil_all-requires-clause-copy
+fulfil_all-requires-clause-copy g c = c.requires.copy
+
+pub fulfil_all-requires-clause-calm : goal.fulfil_all-requires-clause-calm
+fulfil_all-requires-clause-calm g c = c.requires.calm
+
+pub returns-in-Err-clause-err : goal.returns-in-Err-clause-err
+returns-in-Err-clause-err g c = c.in-Err.ensures.err
+
+pub returns-in-Err-clause-back : goal.returns-in-Err-clause-back
+returns-in-Err-clause-back g c = c.in-Err.ensures.back
+
+pub returns-in_err-reserve-clause-err : goal.returns-in_err-reserve-clause-err
+returns-in_err-reserve-clause-err g c = so_on_err _ _ refl
+
+pub returns-in_err-reserve-clause-kept : goal.returns-in_err-reserve-clause-kept
+returns-in_err-reserve-clause-kept g c = so_on_err _ _ c.in_err-reserve.ensures.err
+
+pub returns-in_err-reserve-clause-back : goal.returns-in_err-reserve-clause-back
+returns-in_err-reserve-clause-back g c = so_on_err _ _ (back_itself _ c.args.socket.0 (g.H.Holder.holding c.args.holder.now))
+
+pub returns-in_err-waiters-clause-err : goal.returns-in_err-waiters-clause-err
+returns-in_err-waiters-clause-err g c = so_on_err _ _ refl
+
+pub returns-in_err-waiters-clause-kept : goal.returns-in_err-waiters-clause-kept
+returns-in_err-waiters-clause-kept g c = so_on_err _ _ refl
+
+pub returns-in_err-waiters-clause-back : goal.returns-in_err-waiters-clause-back
+returns-in_err-waiters-clause-back g c = so_on_err _ _ (back_itself _ c.args.socket.0 (g.H.Holder.holding c.args.holder.now))

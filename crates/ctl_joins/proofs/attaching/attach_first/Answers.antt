@@ -1,15 +1,22 @@
 use Rattle.std.proofs.Common.{◌∙◌}
+use Rattle.ctl_state.proofs.KeptLemmas.{so_on_err}
 use Rattle.ctl_joins.proofs.AttachingLemmas.{attaches_first, keeps_twice, nowhere_still, stays_twice}
 use Rattle.ctl_joins.proofs.attaching.attach_first.Goals as goal
 
-pub make-requires : goal.make-requires
-make-requires g c = record {
-  here = c.requires.here;
-  new = c.requires.new c.args.o.0 c.requires.here;
-  written = c.requires.written;
-  read = c.requires.read;
-  may = c.requires.may;
-}
+pub make-requires-clause-here : goal.make-requires-clause-here
+make-requires-clause-here g c = c.requires.here
+
+pub make-requires-clause-new : goal.make-requires-clause-new
+make-requires-clause-new g c = c.requires.new c.args.o.0 c.requires.here
+
+pub make-requires-clause-written : goal.make-requires-clause-written
+make-requires-clause-written g c = c.requires.written
+
+pub make-requires-clause-read : goal.make-requires-clause-read
+make-requires-clause-read g c = c.requires.read
+
+pub make-requires-clause-may : goal.make-requires-clause-may
+make-requires-clause-may g c = c.requires.may
 
 pub returns-in-Ok-clause-calm : goal.returns-in-Ok-clause-calm
 returns-in-Ok-clause-calm g c = λ came calm. c.in-Ok.ensures.calm came (c.make.ensures.calm came calm)
@@ -42,3 +49,18 @@ returns-in-Err-clause-err g c =
 pub returns-in-Err-clause-keeps : goal.returns-in-Err-clause-keeps
 returns-in-Err-clause-keeps g c =
     keeps_twice c.args.o.0 c.args.end (g.H.Holder.holding c.args.holder.now) (g.H.Holder.holding c.make.new.self) (g.H.Holder.holding c.attach.new.self) c.make.ensures.turns c.in-Err.ensures.err.1 c.in-Err.ensures.err.2
+
+pub returns-in_err-made-clause-err : goal.returns-in_err-made-clause-err
+returns-in_err-made-clause-err g c = so_on_err _ c.from_residual.result c.make.ensures.stays
+
+pub returns-in_err-made-clause-keeps : goal.returns-in_err-made-clause-keeps
+returns-in_err-made-clause-keeps g c = so_on_err _ c.from_residual.result c.make.ensures.turns
+
+pub returns-in_err-made-clause-heard : goal.returns-in_err-made-clause-heard
+returns-in_err-made-clause-heard g c = so_on_err _ c.from_residual.result c.make.ensures.heard
+
+pub returns-in_err-made-clause-still : goal.returns-in_err-made-clause-still
+returns-in_err-made-clause-still g c = so_on_err _ c.from_residual.result (λ came calm. c.make.ensures.calm came calm)
+
+pub attach-requires-clause-calm : goal.attach-requires-clause-calm
+attach-requires-clause-calm g c = (c.requires.calm.0, c.make.ensures.calm c.requires.calm.0 c.requires.calm.1)

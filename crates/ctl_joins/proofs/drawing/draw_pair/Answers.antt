@@ -4,6 +4,9 @@ use Rattle.zq_base.specs.declared.ids.ObjId.{ObjId}
 use Rattle.ctl_state.specs.declared.state.State.{State}
 use Rattle.ctl_state.specs.Pairs.{entry_drawn}
 use Rattle.ctl_state.specs.Parts.{on_pairs}
+use Rattle.ctl_state.specs.Stands.{Stands}
+use Rattle.ctl_state.proofs.KeptLemmas.{so_on_err}
+use Rattle.spec_control.specs.Control.{draws}
 use Rattle.ctl_joins.specs.Room.{bound, connecting}
 use Rattle.ctl_joins.proofs.drawing.draw_pair.Goals as goal
 
@@ -32,3 +35,11 @@ give_room_back-requires g c = record {
 
 pub returns-in-Err-clause-err : goal.returns-in-Err-clause-err
 returns-in-Err-clause-err g c = c.give_room_back.ensures (record { before = c.args.state.now; places = c.requires.there; is = c.in-Err.ensures.err ∙ c.in_ok-keep_room.ensures.next })
+
+pub returns-in-Ok-clause-ok : goal.returns-in-Ok-clause-ok
+returns-in-Ok-clause-ok g c = λ k h.
+    subst (λ (o : ObjId). Stands c.draw.new.self (draws o.0 (bound c.args.a_first c.args.o).0 k)) c.connecting-a_owner.ensures
+    (subst (λ (o : ObjId). Stands c.draw.new.self (draws c.connecting-a_owner.result.0 o.0 k)) c.bound-b_owner.ensures (c.in-Ok.ensures.ok k (c.in_ok-keep_room.ensures.ok k h)))
+
+pub returns-in_err-keep_room-clause-err : goal.returns-in_err-keep_room-clause-err
+returns-in_err-keep_room-clause-err g c = so_on_err _ c.from_residual.result c.in_err-keep_room.ensures.err

@@ -17,11 +17,11 @@ step_end-commands-requires-clause-may g c =
 pub set_state-requires : goal.set_state-requires
 set_state-requires g c = record { here = c.requires.may.has }
 
-pub seal-requires : goal.seal-requires
-seal-requires g c = record {
-  here = ap (has_end c.args.first) c.set_state.ensures.stays.now.ends ∙ c.requires.may.has;
-  writer = c.set_state.ensures.stays.writers c.args.first ∙ c.requires.may.writes;
-}
+pub seal-requires-clause-here : goal.seal-requires-clause-here
+seal-requires-clause-here g c = ap (has_end c.args.first) c.set_state.ensures.stays.now.ends ∙ c.requires.may.has
+
+pub seal-requires-clause-writer : goal.seal-requires-clause-writer
+seal-requires-clause-writer g c = c.set_state.ensures.stays.writers c.args.first ∙ c.requires.may.writes
 
 pub tell_other-requires : goal.tell_other-requires
 tell_other-requires g c =

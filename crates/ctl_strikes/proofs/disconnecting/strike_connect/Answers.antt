@@ -9,7 +9,7 @@ use Rattle.ctl_holder.specs.declared.load.Load.{Load}
 use Rattle.ctl_state.specs.Lists.{hold_at}
 use Rattle.ctl_state.specs.Stands.{holds_by}
 use Rattle.ctl_state.specs.declared.state.State.{State}
-use Rattle.ctl_strikes.proofs.DisconnectLemmas.{holds_may, struck_found}
+use Rattle.ctl_strikes.proofs.DisconnectLemmas.{holds_may, struck_found, joins_none, struck_none}
 use Rattle.ctl_strikes.proofs.StrikeLemmas.{found_passes}
 use Rattle.ctl_strikes.proofs.OnceLemmas.{told_before, told_none}
 use Rattle.ctl_strikes.proofs.disconnecting.strike_connect.Goals as goal
@@ -48,3 +48,13 @@ returns-in-None-clause-turned g c = λ w.
     let before = holds_by (without_first (is_connect_to c.args.to.now)) c.args.socket.0 w.control in
     subst (λ (x : Option Hold). TurnsOnce w.control (strikes c.args.socket.0 c.args.to.now x before) (g.H.Holder.holding c.args.holder.now) (g.H.Holder.holding c.args.holder.now)) found
     (told_none w.control before (g.H.Holder.holding c.args.holder.now) (g.H.Holder.holding c.args.holder.now) (λ e. refl) (turns_same (g.H.Holder.holding c.args.holder.now)))
+
+pub returns-in-Some-clause-joins : goal.returns-in-Some-clause-joins
+returns-in-Some-clause-joins g c = c.strike.ensures.joins
+
+pub returns-in-None-clause-joins : goal.returns-in-None-clause-joins
+returns-in-None-clause-joins g c = joins_none (g.H.Holder.holding c.args.holder.now)
+
+pub returns-in-None-clause-struck : goal.returns-in-None-clause-struck
+returns-in-None-clause-struck g c = λ w.
+    struck_none g.P.Pipes.known.out_name g.P.Pipes.known.in_name c.args.state.now c.strike_connect.new.self (g.H.Holder.holding c.args.holder.now) c.args.socket.0 c.args.to.now w (c.in-None.ensures.found w.control w.stands) (ap (λ (x : State (Load g.row.P-Name.Denot g.row.P-Out.Denot g.row.P-In.Denot)). x.boxes) c.in-None.ensures.rest) c.in-None.ensures.ends (c.in-None.ensures.stands w.control w.stands)

@@ -3,12 +3,12 @@ use Rattle.std.proofs.Common.{sym, ap, ◌∙◌, subst}
 use Rattle.spec_control.specs.declared.end.EndEvent.TheVariants.{Asked}
 use Rattle.spec_control.specs.declared.end.Reason.TheVariants.{Closed}
 use Rattle.spec_control.specs.Control.{Control, happens, with_end}
-use Rattle.control_others.proofs.StayLemmas.{ends_stay}
+use Rattle.control_laws.proofs.StayLemmas.{ends_stay}
 use Rattle.ctl_ends.specs.Turning.{TurnsOnce}
 use Rattle.ctl_ends.proofs.TurnedLemmas.{turns_same}
 use Rattle.ctl_holder.specs.declared.load.Load.{Load}
 use Rattle.ctl_state.specs.declared.state.State.{State}
-use Rattle.ctl_strikes.proofs.DisconnectLemmas.{strikes_away, strikes_theirs, strikes_gone, strikes_here, asks_at, led_not, led_struck, led_asked}
+use Rattle.ctl_strikes.proofs.DisconnectLemmas.{strikes_away, strikes_theirs, strikes_gone, strikes_here, asks_at, led_not, led_struck, led_asked, joins_none}
 use Rattle.ctl_strikes.proofs.OnceLemmas.{told_none, told_one}
 use Rattle.ctl_strikes.proofs.disconnecting.strike_end.Goals as goal
 
@@ -78,3 +78,12 @@ returns-clause-joins g c =
     let here = sym (c.is_here.ensures w.control w.stands) ∙ c.if-not-is_here.false in
     let leads = c.turn_end.ensures (asks_at g.P.Pipes.known.out_name g.P.Pipes.known.in_name c.args.state.now (g.H.Holder.holding c.args.holder.now) c.args.socket.0 w c.args.e mine here) in
     record { joined = leads.joined; holds = leads.holds; kinds = leads.kinds; heard = leads.heard }
+
+pub returns-then-is_away-clause-joins : goal.returns-then-is_away-clause-joins
+returns-then-is_away-clause-joins g c = joins_none (g.H.Holder.holding c.args.holder.now)
+
+pub returns-then-not-is_of-clause-joins : goal.returns-then-not-is_of-clause-joins
+returns-then-not-is_of-clause-joins g c = joins_none (g.H.Holder.holding c.args.holder.now)
+
+pub returns-then-not-is_here-clause-joins : goal.returns-then-not-is_here-clause-joins
+returns-then-not-is_here-clause-joins g c = joins_none (g.H.Holder.holding c.args.holder.now)

@@ -1,4 +1,4 @@
-use Rattle.std.proofs.Common.{ap, subst}
+use Rattle.std.proofs.Common.{ap, subst, ◌∙◌, arith}
 use Rattle.std.specs.Prelude.{None}
 use Rattle.ctl_state.specs.declared.hold.Held.TheVariants.{Bound}
 use Rattle.ctl_state.specs.declared.state.State.{State}
@@ -8,7 +8,7 @@ use Rattle.zq_base.specs.declared.endpoint.Endpoint.{Endpoint}
 use Rattle.spec_control.specs.declared.book.Binding.{Binding}
 use Rattle.spec_control.specs.After.{binding_by}
 use Rattle.ctl_state.specs.Stands.{Stands}
-use Rattle.ctl_strikes.proofs.WaitLemmas.{holds_back}
+use Rattle.ctl_strikes.proofs.WaitLemmas.{holds_back, room_kept}
 use Rattle.ctl_strikes.proofs.naming.take_name.Goals as goal
 
 pub returns-in-Ok-clause-ok : goal.returns-in-Ok-clause-ok
@@ -26,3 +26,16 @@ returns-in-Ok-clause-ends g c =
     lists_on c.args.state.now.objects.lists c.hold.new.self.objects.lists c.take_waiting.new.self.objects.lists
     (held_aside c.args.state.now c.reserve_holds.new.self c.hold_name.new.self c.hold.new.self (with_room 1) (with_last (record { at = c.args.copy; held = Bound None })) c.args.socket.0 c.in_ok-reserve_holds.ensures.next (ap (λ (x : State g.row.L.Denot). x.objects.lists) c.hold_name.ensures.rest) c.hold.ensures.next)
     (same_lists c.hold.new.self.objects.lists c.take_waiting.new.self.objects.lists (ap (λ (x : State g.row.L.Denot). x.objects.lists) c.take_waiting.ensures.rest))
+
+pub hold-requires : goal.hold-requires
+hold-requires g c = record {
+  room = room_kept c.args.state.now c.reserve_holds.new.self c.hold_name.new.self c.args.socket.0 1 (omega arith) c.requires.there c.in_ok-reserve_holds.ensures.next (ap (λ (x : State g.row.L.Denot). x.objects.lists) c.hold_name.ensures.rest);
+}
+
+pub returns-in-Ok-clause-boxes : goal.returns-in-Ok-clause-boxes
+returns-in-Ok-clause-boxes g c =
+    ap (λ (x : State g.row.L.Denot). x.boxes) c.take_waiting.ensures.rest ∙ ap (λ (x : State g.row.L.Denot). x.boxes) c.hold.ensures.next ∙ ap (λ (x : State g.row.L.Denot). x.boxes) c.hold_name.ensures.rest ∙ ap (λ (x : State g.row.L.Denot). x.boxes) c.in_ok-reserve_holds.ensures.next
+
+pub returns-in-Err-OutOfMemory-clause-boxes : goal.returns-in-Err-OutOfMemory-clause-boxes
+returns-in-Err-OutOfMemory-clause-boxes g c =
+    ap (λ (x : State g.row.L.Denot). x.boxes) (holds_back c.args.state.now c.reserve_holds.new.self c.hold_name.new.self c.release_holds.new.self c.args.socket.0 1 c.requires.there c.in_ok-reserve_holds.ensures.next c.in-Err-OutOfMemory.ensures.err c.release_holds.ensures)

@@ -18,10 +18,11 @@ use Rattle.ctl_history.specs.Joining.{Lends}
 use Rattle.ctl_asks.specs.Refusals.{refusal_in}
 use Rattle.ctl_history.proofs.BindLemmas.{bind_done}
 use Rattle.ctl_history.proofs.DoneLemmas.{event_now}
-use Rattle.ctl_history.proofs.FulfilPlaneLemmas.{ends_bound, given_bound, back_told, has_back, keeps_bound, plane_bound, told_fulfilled}
+use Rattle.ctl_history.proofs.FulfilPlaneLemmas.{ends_bound, given_bound, back_told, has_back, keeps_bound, plane_bound, told_fulfilled, back_itself}
 use Rattle.ctl_history.proofs.FulfillingLemmas.{may_fulfil_all, may_make_for}
 use Rattle.ctl_holder.specs.Making.{MakesSo}
 use Rattle.ctl_history.proofs.MakingLemmas.{planed_back, viewed_back}
+use Rattle.ctl_state.proofs.KeptLemmas.{so_on_err}
 use Rattle.ctl_history.proofs.PlaneLemmas.{planed_now}
 use Rattle.ctl_holder.specs.Turns.{HasTurned}
 use Rattle.ctl_ends.proofs.TurnedLemmas.{turns_same}
@@ -33,6 +34,7 @@ use Rattle.ctl_history.proofs.ComeLemmas.{event_comes, past_comes}
 use Rattle.spec_control.specs.declared.entry.Joining.{Joining}
 use Rattle.spec_control.specs.After.{answers_in}
 use Rattle.ctl_history.proofs.StillLemmas.{bind_still}
+use Rattle.spec_control.specs.Control.{next_pair}
 use Rattle.ctl_history.proofs.history.History.bind_now.Goals as goal
 
 pub bind_with_room-requires-clause-may : goal.bind_with_room-requires-clause-may
@@ -197,3 +199,29 @@ returns-in_err-notes-clause-joins g c =
 
 pub returns-in_err-copy-clause-joins : goal.returns-in_err-copy-clause-joins
 returns-in_err-copy-clause-joins g c = past_comes c.args.self.now (g.H.Holder.holding c.args.holder.now) (g.H.Holder.holding c.args.holder.now) refl (λ i. refl) (λ i. refl) refl
+
+pub bind_with_room-requires-clause-copy : goal.bind_with_room-requires-clause-copy
+bind_with_room-requires-clause-copy g c = ap Inproc c.in_ok-copy.ensures
+
+pub bind_with_room-requires-clause-calm : goal.bind_with_room-requires-clause-calm
+bind_with_room-requires-clause-calm g c = c.requires.calm
+
+pub returns-in_err-notes-clause-err : goal.returns-in_err-notes-clause-err
+returns-in_err-notes-clause-err g c =
+    let back = subst (λ (n : ℕ). IsBack n c.args.socket.0 (g.H.Holder.holding c.args.holder.now) (g.H.Holder.holding c.bind_with_room.new.holder)) (sym c.self.invariant.history.stands.pairs.many) c.in_err-notes.ensures.back in
+    so_on_err _ c.from_residual-in_err-notes.result (
+      viewed_back c.args.self.now c.self.inside.state c.bind_with_room.new.state c.self.inside.workers c.self.inside.events c.bind_with_room.new.events c.in_err-notes.ensures.err c.in_err-notes.ensures.kept c.self.view_is,
+      subst (λ (p : Past (Given g.row.P-Name.Denot g.row.P-Out.Denot g.row.P-In.Denot) g.row.P-Name.Denot g.row.P-Story.Denot). IsBack (next_pair (control_of p)) c.args.socket.0 (g.H.Holder.holding c.args.holder.now) (g.H.Holder.holding c.bind_with_room.new.holder)) c.self.view_is back,
+    )
+
+pub returns-in_err-notes-clause-same : goal.returns-in_err-notes-clause-same
+returns-in_err-notes-clause-same g c = record { objects = c.in_err-notes.ensures.back.now.objects; kinds = c.in_err-notes.ensures.back.now.kinds; output = c.in_err-notes.ensures.back.now.output }
+
+pub returns-in_err-copy-clause-same : goal.returns-in_err-copy-clause-same
+returns-in_err-copy-clause-same g c = record { objects = λ i. refl; kinds = λ i. refl; output = λ i. refl }
+
+pub returns-in_err-copy-clause-keeps : goal.returns-in_err-copy-clause-keeps
+returns-in_err-copy-clause-keeps g c = c.requires.has
+
+pub returns-in_err-copy-clause-err : goal.returns-in_err-copy-clause-err
+returns-in_err-copy-clause-err g c = so_on_err _ c.from_residual.result (refl, back_itself _ c.args.socket.0 (g.H.Holder.holding c.args.holder.now))

@@ -1,5 +1,5 @@
 use Rattle.std.specs.Prelude.{◌≡◌, ◌≤◌, Some, None, length, refl, ◌++◌, List}
-use Rattle.std.proofs.Common.{ap, sym, ◌∙◌, subst}
+use Rattle.std.proofs.Common.{ap, sym, ◌∙◌, subst, arith}
 use Rattle.zq_base.specs.declared.endpoint.Endpoint.TheVariants.{Inproc}
 use Rattle.zq_base.specs.declared.ids.ObjId.{ObjId}
 use Rattle.ctl_holder.specs.Holding.{Stays}
@@ -7,7 +7,7 @@ use Rattle.spec_control.specs.declared.request.Req.TheVariants.{Connect}
 use Rattle.spec_control.specs.declared.request.Reply.TheVariants.{Pair}
 use Rattle.spec_control.specs.Reply.{reply_of}
 use Rattle.ctl_holder.specs.declared.given.Given.{Given}
-use Rattle.ctl_state.specs.Listed.{with_last, with_room}
+use Rattle.ctl_state.specs.Listed.{with_last, with_room, Listed}
 use Rattle.spec_control.specs.Names.{name_of}
 use Rattle.ctl_joins.proofs.JoinedLemmas.{has_stays}
 use Rattle.ctl_history.specs.Past.{Past, control_of, items_of, with_event}
@@ -19,7 +19,8 @@ use Rattle.ctl_history.proofs.DoneLemmas.{event_now}
 use Rattle.ctl_history.proofs.HeldPlaneLemmas.{ends_held, given_held, keeps_held, told_held, plane_held, reply_held}
 use Rattle.ctl_history.proofs.JoinHeldLemmas.{may_connect, may_make_held}
 use Rattle.ctl_holder.specs.Making.{MakesSo}
-use Rattle.ctl_history.proofs.MakingLemmas.{planed_back, so_on_err, viewed_back}
+use Rattle.ctl_history.proofs.MakingLemmas.{planed_back, viewed_back}
+use Rattle.ctl_state.proofs.KeptLemmas.{so_on_err}
 use Rattle.ctl_history.proofs.PlaneLemmas.{planed_now}
 use Rattle.ctl_holder.specs.Turns.{HasTurned}
 use Rattle.ctl_ends.proofs.TurnedLemmas.{turns_none, turns_same}
@@ -29,23 +30,9 @@ use Rattle.ctl_history.proofs.ComeLemmas.{event_comes, past_comes}
 use Rattle.spec_control.specs.declared.entry.Joining.{Joining}
 use Rattle.spec_control.specs.After.{answers_in}
 use Rattle.ctl_history.proofs.StillLemmas.{connect_still}
+use Rattle.spec_control.specs.declared.entry.Did.{Did}
+use Rattle.ctl_hears.proofs.BindingLemmas.{stays_itself}
 use Rattle.ctl_history.proofs.history.History.connect_held.Goals as goal
-
-pub connect_with_room-requires : goal.connect_with_room-requires
-connect_with_room-requires g c =
-    let lends = (subst (λ (p : Past (Given g.row.P-Name.Denot g.row.P-Out.Denot g.row.P-In.Denot) g.row.P-Name.Denot g.row.P-Story.Denot). Lends (control_of p) c.args.socket.0 (g.H.Holder.holding c.args.holder.now)) (sym c.self.view_is) c.requires.lends) in
-    let held = (subst (λ (p : Past (Given g.row.P-Name.Denot g.row.P-Out.Denot g.row.P-In.Denot) g.row.P-Name.Denot g.row.P-Story.Denot). (control_of p).names.held (Inproc c.args.name) ≡ Some c.args.binding) (sym c.self.view_is) c.requires.held) in
-    let free = (subst (λ (p : Past (Given g.row.P-Name.Denot g.row.P-Out.Denot g.row.P-In.Denot) g.row.P-Name.Denot g.row.P-Story.Denot). refusal_in (reply_of (control_of p) (Connect c.args.socket (Inproc c.args.name))) ≡ None) (sym c.self.view_is) c.requires.free) in
-    let stands = c.self.invariant.history.stands in
-    let are = c.of-owners.ensures _ stands in
-    let has = (subst (λ (p : Past (Given g.row.P-Name.Denot g.row.P-Out.Denot g.row.P-In.Denot) g.row.P-Name.Denot g.row.P-Story.Denot). HasWhat p (g.H.Holder.holding c.args.holder.now)) (sym c.self.view_is) c.requires.has) in
-    let may = may_connect g.P.Pipes.known.out_name g.P.Pipes.known.in_name c.self.inside.state _ _ c.args.socket c.args.name c.args.binding c.self.invariant (g.H.Holder.holding c.args.holder.now) lends held free (c.needs.ensures _ stands) c.of-owners.result are (length c.args.wakers.now) (subst (λ (p : Past (Given g.row.P-Name.Denot g.row.P-Out.Denot g.row.P-In.Denot) g.row.P-Name.Denot g.row.P-Story.Denot). (control_of p).slots ≤ length c.args.wakers.now) (sym c.self.view_is) c.requires.wakers) has in
-    record {
-      may = may;
-      calm = c.requires.calm;
-      makes = may_make_held g.P.Pipes.known.out_name g.P.Pipes.known.in_name c.self.inside.state _ _ c.args.socket c.args.name c.args.binding c.self.invariant (g.H.Holder.holding c.args.holder.now) lends held free c.of-owners.result are g.H.Holder.may_make
-          (subst (λ (p : Past (Given g.row.P-Name.Denot g.row.P-Out.Denot g.row.P-In.Denot) g.row.P-Name.Denot g.row.P-Story.Denot). MakesSo (control_of p) (Connect c.args.socket (Inproc c.args.name)) g.H.Holder.may_make) (sym c.self.view_is) c.requires.makes);
-    }
 
 pub invariant_of-self-2 : goal.invariant_of-self-2
 invariant_of-self-2 g c =
@@ -198,3 +185,44 @@ returns-in_err-made-clause-err g c =
       viewed_back c.args.self.now c.self.inside.state c.connect_with_room.new.state c.self.inside.workers c.self.inside.events c.connect_with_room.new.events c.in_err-made.ensures.err c.in_err-made.ensures.kept c.self.view_is,
       subst (λ (o : ObjId). Stays o.0 (g.H.Holder.holding c.args.holder.now) (g.H.Holder.holding c.connect_with_room.new.holder)) are.first c.in_err-made.ensures.stays,
     )
+
+pub connect_with_room-requires-clause-may : goal.connect_with_room-requires-clause-may
+connect_with_room-requires-clause-may g c =
+    let lends = (subst (λ (p : Past (Given g.row.P-Name.Denot g.row.P-Out.Denot g.row.P-In.Denot) g.row.P-Name.Denot g.row.P-Story.Denot). Lends (control_of p) c.args.socket.0 (g.H.Holder.holding c.args.holder.now)) (sym c.self.view_is) c.requires.lends) in
+    let held = (subst (λ (p : Past (Given g.row.P-Name.Denot g.row.P-Out.Denot g.row.P-In.Denot) g.row.P-Name.Denot g.row.P-Story.Denot). (control_of p).names.held (Inproc c.args.name) ≡ Some c.args.binding) (sym c.self.view_is) c.requires.held) in
+    let free = (subst (λ (p : Past (Given g.row.P-Name.Denot g.row.P-Out.Denot g.row.P-In.Denot) g.row.P-Name.Denot g.row.P-Story.Denot). refusal_in (reply_of (control_of p) (Connect c.args.socket (Inproc c.args.name))) ≡ None) (sym c.self.view_is) c.requires.free) in
+    let stands = c.self.invariant.history.stands in
+    let are = c.of-owners.ensures _ stands in
+    let has = (subst (λ (p : Past (Given g.row.P-Name.Denot g.row.P-Out.Denot g.row.P-In.Denot) g.row.P-Name.Denot g.row.P-Story.Denot). HasWhat p (g.H.Holder.holding c.args.holder.now)) (sym c.self.view_is) c.requires.has) in
+    let may = may_connect g.P.Pipes.known.out_name g.P.Pipes.known.in_name c.self.inside.state _ _ c.args.socket c.args.name c.args.binding c.self.invariant (g.H.Holder.holding c.args.holder.now) lends held free (c.needs.ensures _ stands) c.of-owners.result are (length c.args.wakers.now) (subst (λ (p : Past (Given g.row.P-Name.Denot g.row.P-Out.Denot g.row.P-In.Denot) g.row.P-Name.Denot g.row.P-Story.Denot). (control_of p).slots ≤ length c.args.wakers.now) (sym c.self.view_is) c.requires.wakers) has in
+    may
+
+pub connect_with_room-requires-clause-calm : goal.connect_with_room-requires-clause-calm
+connect_with_room-requires-clause-calm g c = c.requires.calm
+
+pub connect_with_room-requires-clause-makes : goal.connect_with_room-requires-clause-makes
+connect_with_room-requires-clause-makes g c =
+    let lends = (subst (λ (p : Past (Given g.row.P-Name.Denot g.row.P-Out.Denot g.row.P-In.Denot) g.row.P-Name.Denot g.row.P-Story.Denot). Lends (control_of p) c.args.socket.0 (g.H.Holder.holding c.args.holder.now)) (sym c.self.view_is) c.requires.lends) in
+    let held = (subst (λ (p : Past (Given g.row.P-Name.Denot g.row.P-Out.Denot g.row.P-In.Denot) g.row.P-Name.Denot g.row.P-Story.Denot). (control_of p).names.held (Inproc c.args.name) ≡ Some c.args.binding) (sym c.self.view_is) c.requires.held) in
+    let free = (subst (λ (p : Past (Given g.row.P-Name.Denot g.row.P-Out.Denot g.row.P-In.Denot) g.row.P-Name.Denot g.row.P-Story.Denot). refusal_in (reply_of (control_of p) (Connect c.args.socket (Inproc c.args.name))) ≡ None) (sym c.self.view_is) c.requires.free) in
+    let stands = c.self.invariant.history.stands in
+    let are = c.of-owners.ensures _ stands in
+    may_make_held g.P.Pipes.known.out_name g.P.Pipes.known.in_name c.self.inside.state _ _ c.args.socket c.args.name c.args.binding c.self.invariant (g.H.Holder.holding c.args.holder.now) lends held free c.of-owners.result are g.H.Holder.may_make
+    (subst (λ (p : Past (Given g.row.P-Name.Denot g.row.P-Out.Denot g.row.P-In.Denot) g.row.P-Name.Denot g.row.P-Story.Denot). MakesSo (control_of p) (Connect c.args.socket (Inproc c.args.name)) g.H.Holder.may_make) (sym c.self.view_is) c.requires.makes)
+
+pub push-requires : goal.push-requires
+push-requires g c =
+    let more = ap (λ (l : Listed (Did g.row.P-Name.Denot g.row.P-Story.Denot)). l.spare) c.in_ok-made.ensures.room in
+    record { room = omega (arith, more) }
+
+pub returns-in_err-made-clause-same : goal.returns-in_err-made-clause-same
+returns-in_err-made-clause-same g c = record { objects = c.in_err-made.ensures.stays.now.objects; kinds = c.in_err-made.ensures.stays.now.kinds; output = c.in_err-made.ensures.stays.now.output }
+
+pub returns-in_err-copy-clause-same : goal.returns-in_err-copy-clause-same
+returns-in_err-copy-clause-same g c = record { objects = λ i. refl; kinds = λ i. refl; output = λ i. refl }
+
+pub returns-in_err-copy-clause-keeps : goal.returns-in_err-copy-clause-keeps
+returns-in_err-copy-clause-keeps g c = c.requires.has
+
+pub returns-in_err-copy-clause-err : goal.returns-in_err-copy-clause-err
+returns-in_err-copy-clause-err g c = so_on_err _ c.from_residual.result (refl, stays_itself (g.H.Holder.holding c.args.holder.now) c.args.socket.0)

@@ -1,12 +1,17 @@
-use Rattle.std.proofs.Common.{ap, sym, subst}
+use Rattle.std.proofs.Common.{ap, sym, subst, arith}
 use Rattle.ctl_holder.specs.declared.given.Given.{Given}
 use Rattle.ctl_history.specs.Carried.{given_in}
 use Rattle.ctl_history.specs.Connecting.{MayWait}
 use Rattle.ctl_history.specs.Past.{Past, control_of}
 use Rattle.ctl_history.proofs.ConnectLemmas.{wait_listed, wait_reply, waits_plane}
 use Rattle.ctl_history.proofs.DoneLemmas.{noted_event}
-use Rattle.ctl_history.proofs.MakingLemmas.{planed_back, so_on_err, viewed_back}
+use Rattle.ctl_history.proofs.MakingLemmas.{planed_back, viewed_back}
+use Rattle.ctl_state.proofs.KeptLemmas.{so_on_err}
 use Rattle.ctl_history.proofs.PlaneLemmas.{planed_noted}
+use Rattle.std.specs.Prelude.{refl}
+use Rattle.zq_base.specs.declared.endpoint.Endpoint.TheVariants.{Inproc}
+use Rattle.ctl_state.specs.Listed.{Listed}
+use Rattle.spec_control.specs.declared.entry.Did.{Did}
 use Rattle.ctl_history.proofs.history.History.connect_waits.Goals as goal
 
 pub wait_with_room-requires-clause-there : goal.wait_with_room-requires-clause-there
@@ -33,6 +38,17 @@ returns-clause-reply g c = sym (wait_reply (control_of c.args.self.now) c.args.s
 
 pub returns-in_err-wait_with_room-clause-err : goal.returns-in_err-wait_with_room-clause-err
 returns-in_err-wait_with_room-clause-err g c =
-    so_on_err _ c.from_residual-in_err-wait_with_room.result
+    so_on_err _ _
     (viewed_back c.args.self.now c.self.inside.state c.wait_with_room.new.state c.self.inside.workers c.self.inside.events c.wait_with_room.new.events c.in_err-wait_with_room.ensures.err
     c.in_err-wait_with_room.ensures.kept c.self.view_is)
+
+pub wait_with_room-requires-clause-copy : goal.wait_with_room-requires-clause-copy
+wait_with_room-requires-clause-copy g c = ap Inproc c.in_ok-copy.ensures
+
+pub push-requires : goal.push-requires
+push-requires g c =
+    let more = ap (λ (l : Listed (Did g.row.P-Name.Denot g.row.P-Story.Denot)). l.spare) c.in_ok-wait_with_room.ensures.room in
+    record { room = omega (arith, more) }
+
+pub returns-in_err-copy-clause-err : goal.returns-in_err-copy-clause-err
+returns-in_err-copy-clause-err g c = so_on_err _ _ refl

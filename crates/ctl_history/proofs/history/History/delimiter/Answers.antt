@@ -7,7 +7,7 @@ use Rattle.spec_control.specs.ControlRun.{is_between}
 use Rattle.ctl_holder.specs.declared.given.Given.{Given}
 use Rattle.spec_control.specs.declared.entry.Did.TheVariants.{Delimited}
 use Rattle.spec_control.specs.declared.end.EndEvent.TheVariants.{DelimiterSeen}
-use Rattle.control_others.proofs.StayLemmas.{ends_stay}
+use Rattle.control_laws.proofs.StayLemmas.{ends_stay}
 use Rattle.ctl_holder.specs.Turns.{HasTurned}
 use Rattle.ctl_ends.proofs.TurnedLemmas.{turns_same}
 use Rattle.ctl_history.specs.Carried.{given_in}

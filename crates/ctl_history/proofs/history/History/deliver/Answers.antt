@@ -38,7 +38,7 @@ use Rattle.ctl_history.proofs.ComeLemmas.{heard_rows, objects_come, past_comes, 
 use Rattle.std.specs.Prelude.{Bool, false, []}
 use Rattle.spec_control.specs.declared.letter.Letter.{Letter}
 use Rattle.ctl_hears.specs.Attaching.{binds_end}
-use Rattle.control_rows.proofs.ListLemmas.{never}
+use Rattle.control_laws.proofs.ListLemmas.{never}
 use Rattle.ctl_history.proofs.history.History.deliver.Goals as goal
 
 -- the first of these letters attaches an end, or there is none
@@ -268,3 +268,6 @@ returns-in-Err-clause-succeeds g c = λ letter behind is none.
 pub returns-in-Err-clause-empty : goal.returns-in-Err-clause-empty
 returns-in-Err-clause-empty g c = λ is.
     absurd (never (sym (ap some_first is) ∙ ap (λ (p : Past (Given g.row.P-Name.Denot g.row.P-Out.Denot g.row.P-In.Denot) g.row.P-Name.Denot g.row.P-Story.Denot). some_first ((control_of p).boxes c.args.slot.0)) (sym c.self.view_is) ∙ ap some_first (c.in-Some.ensures.front _ c.self.invariant.history.stands)))
+
+pub process-requires-clause-calm : goal.process-requires-clause-calm
+process-requires-clause-calm g c = c.requires.calm

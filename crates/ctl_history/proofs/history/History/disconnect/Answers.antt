@@ -1,5 +1,5 @@
-use Rattle.std.specs.Prelude.{◌≡◌, refl}
-use Rattle.std.proofs.Common.{sym, subst}
+use Rattle.std.specs.Prelude.{◌≡◌, refl, None}
+use Rattle.std.proofs.Common.{sym, subst, arith, ap}
 use Rattle.spec_control.specs.Rows.{obj}
 use Rattle.spec_control.specs.ControlRun.{IsOpenSocket}
 use Rattle.ctl_holder.specs.declared.given.Given.{Given}
@@ -12,16 +12,20 @@ use Rattle.ctl_history.specs.Carried.{given_in}
 use Rattle.ctl_history.specs.Past.{Past, control_of, with_event}
 use Rattle.ctl_history.proofs.ToldLemmas.{event_told, past_told, refused_told}
 use Rattle.ctl_ends.proofs.TurnedLemmas.{turns_same}
-use Rattle.ctl_history.proofs.MakingLemmas.{viewed_back}
+use Rattle.ctl_history.proofs.MakingLemmas.{viewed_back, planed_back}
+use Rattle.ctl_state.proofs.KeptLemmas.{so_on_err}
 use Rattle.ctl_history.proofs.RefusalLemmas.{refusal_is}
 use Rattle.ctl_history.specs.Hearing.{HasWhat}
 use Rattle.ctl_history.proofs.DoneLemmas.{noted_event}
 use Rattle.ctl_history.proofs.PlaneLemmas.{planed_noted}
-use Rattle.ctl_history.proofs.StruckLemmas.{refused_has, strikes_with, disconnects, disconnects_given, disconnects_keeps}
+use Rattle.ctl_history.proofs.StruckLemmas.{refused_has, strikes_with, disconnects, disconnects_given, disconnects_keeps, disconnect_done}
 use Rattle.ctl_history.specs.Coming.{ComesWith}
 use Rattle.ctl_history.proofs.ComeLemmas.{aside_comes, past_comes}
 use Rattle.spec_control.specs.After.{answers_in}
 use Rattle.ctl_history.proofs.StillLemmas.{disconnect_still}
+use Rattle.ctl_asks.specs.Refusals.{refusal_in}
+use Rattle.spec_control.specs.declared.entry.Did.{Did}
+use Rattle.ctl_state.specs.Listed.{Listed}
 use Rattle.ctl_history.proofs.history.History.disconnect.Goals as goal
 
 pub returns-in-Some-clause-keeps : goal.returns-in-Some-clause-keeps
@@ -128,3 +132,46 @@ returns-in_err-reserve-in-None-clause-joins g c =
     subst (λ (p : Past (Given g.row.P-Name.Denot g.row.P-Out.Denot g.row.P-In.Denot) g.row.P-Name.Denot g.row.P-Story.Denot). ComesWith c.args.self.now p (g.H.Holder.holding c.args.holder.now) (g.H.Holder.holding c.args.holder.now))
     (sym (viewed_back c.args.self.now c.self.inside.state c.self.inside.state c.self.inside.workers c.self.inside.events c.reserve.new.self refl c.in_err-reserve-in-None.ensures.err c.self.view_is))
     (past_comes c.args.self.now (g.H.Holder.holding c.args.holder.now) (g.H.Holder.holding c.args.holder.now) refl (λ i. refl) (λ i. refl) refl)
+
+pub refuse-requires-clause-may : goal.refuse-requires-clause-may
+refuse-requires-clause-may g c = c.requires.«open»
+
+pub refuse-requires-clause-refused : goal.refuse-requires-clause-refused
+refuse-requires-clause-refused g c =
+    let inner : Past (Given g.row.P-Name.Denot g.row.P-Out.Denot g.row.P-In.Denot) g.row.P-Name.Denot g.row.P-Story.Denot = record { workers = c.self.inside.workers; events = c.self.inside.events.items; given = given_in c.self.inside.state.boxes } in
+    subst (λ (p : Past (Given g.row.P-Name.Denot g.row.P-Out.Denot g.row.P-In.Denot) g.row.P-Name.Denot g.row.P-Story.Denot). reply_of (control_of p) (Disconnect c.args.socket c.args.at) ≡ Refused c.in-Some.refusal) c.self.view_is
+    (refusal_is (reply_of (control_of inner) (Disconnect c.args.socket c.args.at)) c.in-Some.refusal (c.in-Some.ensures (control_of inner) c.self.invariant.history.stands))
+
+pub refuse-requires-clause-silent : goal.refuse-requires-clause-silent
+refuse-requires-clause-silent g c = c.requires.silent
+
+pub push-requires : goal.push-requires
+push-requires g c =
+    let more = ap (λ (l : Listed (Did g.row.P-Name.Denot g.row.P-Story.Denot)). l.spare) c.in_ok-reserve-in-None.ensures.ok in
+    record { room = omega (arith, more) }
+
+pub returns-in-Some-clause-ok : goal.returns-in-Some-clause-ok
+returns-in-Some-clause-ok g c = c.in_ok-refuse-in-Some.ensures.ok
+
+pub returns-in-None-clause-reply : goal.returns-in-None-clause-reply
+returns-in-None-clause-reply g c =
+    sym (disconnect_done (control_of c.args.self.now) c.args.socket c.args.at (subst (λ (p : Past (Given g.row.P-Name.Denot g.row.P-Out.Denot g.row.P-In.Denot) g.row.P-Name.Denot g.row.P-Story.Denot). refusal_in (reply_of (control_of p) (Disconnect c.args.socket c.args.at)) ≡ None) c.self.view_is (sym (c.in-None.ensures _ c.self.invariant.history.stands))))
+
+pub returns-in_err-refuse-in-Some-clause-err : goal.returns-in_err-refuse-in-Some-clause-err
+returns-in_err-refuse-in-Some-clause-err g c = so_on_err _ c.from_residual.result (c.in_err-refuse-in-Some.ensures.err, refl)
+
+pub returns-in_err-refuse-in-Some-clause-keeps : goal.returns-in_err-refuse-in-Some-clause-keeps
+returns-in_err-refuse-in-Some-clause-keeps g c =
+    subst (λ (p : Past (Given g.row.P-Name.Denot g.row.P-Out.Denot g.row.P-In.Denot) g.row.P-Name.Denot g.row.P-Story.Denot). HasWhat p (g.H.Holder.holding c.args.holder.now)) (sym c.in_err-refuse-in-Some.ensures.err) c.requires.has
+
+pub returns-in_err-reserve-in-None-clause-err : goal.returns-in_err-reserve-in-None-clause-err
+returns-in_err-reserve-in-None-clause-err g c = so_on_err _ c.from_residual-in_err-reserve-in-None.result (viewed_back c.args.self.now c.self.inside.state c.self.inside.state c.self.inside.workers c.self.inside.events c.reserve.new.self refl c.in_err-reserve-in-None.ensures.err c.self.view_is, refl)
+
+pub returns-in_err-reserve-in-None-clause-keeps : goal.returns-in_err-reserve-in-None-clause-keeps
+returns-in_err-reserve-in-None-clause-keeps g c =
+    subst (λ (p : Past (Given g.row.P-Name.Denot g.row.P-Out.Denot g.row.P-In.Denot) g.row.P-Name.Denot g.row.P-Story.Denot). HasWhat p (g.H.Holder.holding c.args.holder.now))
+    (sym (viewed_back c.args.self.now c.self.inside.state c.self.inside.state c.self.inside.workers c.self.inside.events c.reserve.new.self refl c.in_err-reserve-in-None.ensures.err c.self.view_is)) c.requires.has
+
+pub invariant_of-self : goal.invariant_of-self
+invariant_of-self g c =
+    planed_back g.P.Pipes.known.out_name g.P.Pipes.known.in_name c.self.inside.state c.self.inside.state c.self.inside.workers c.self.inside.events c.reserve.new.self refl c.in_err-reserve-in-None.ensures.err c.self.invariant

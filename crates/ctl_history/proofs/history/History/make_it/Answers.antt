@@ -1,14 +1,16 @@
-use Rattle.std.specs.Prelude.{◌≡◌, None}
-use Rattle.std.proofs.Common.{ap, sym, ◌∙◌, subst}
+use Rattle.std.specs.Prelude.{◌≡◌, None, refl}
+use Rattle.std.proofs.Common.{ap, sym, ◌∙◌, subst, arith}
 use Rattle.spec_control.specs.declared.request.Req.TheVariants.{Socket as MakeSocket}
 use Rattle.spec_control.specs.Reply.{reply_of}
 use Rattle.ctl_holder.specs.declared.given.Given.{Given}
-use Rattle.ctl_state.specs.Listed.{with_last, with_room}
+use Rattle.ctl_state.specs.Listed.{with_last, with_room, Listed}
 use Rattle.ctl_history.specs.Past.{Past, control_of}
 use Rattle.ctl_asks.specs.Refusals.{refusal_in}
 use Rattle.ctl_history.proofs.DoneLemmas.{event_now}
-use Rattle.ctl_history.proofs.MakingLemmas.{lives, takes_socket, makes_one, made_given, made_plane, copied_row}
+use Rattle.ctl_history.proofs.MakingLemmas.{lives, takes_socket, makes_one, made_given, made_plane, copied_row, viewed_back, planed_back}
+use Rattle.ctl_state.proofs.KeptLemmas.{so_on_err}
 use Rattle.ctl_history.proofs.PlaneLemmas.{planed_now}
+use Rattle.spec_control.specs.declared.entry.Did.{Did}
 use Rattle.ctl_history.proofs.history.History.make_it.Goals as goal
 
 pub make_with_room-requires : goal.make_with_room-requires
@@ -29,3 +31,22 @@ pub returns-clause-ok : goal.returns-clause-ok
 returns-clause-ok g c =
     event_now c.args.self.now c.self.inside.workers (with_room 6 c.self.inside.events) c.push.new.self _ _ _ (sym c.self.view_is)
     (c.push.ensures ∙ ap (with_last _) c.in_ok-socket.ensures.room) (made_given c.self.inside.state c.make_with_room.new.state c.socket_made-made.result c.in_ok-socket.ensures.ok)
+
+pub push-requires : goal.push-requires
+push-requires g c =
+    let more = ap (λ (l : Listed (Did g.row.P-Name.Denot g.row.P-Story.Denot)). l.spare) c.in_ok-socket.ensures.room in
+    record { room = omega (arith, more) }
+
+pub invariant_of-self : goal.invariant_of-self
+invariant_of-self g c =
+    planed_back g.P.Pipes.known.out_name g.P.Pipes.known.in_name c.self.inside.state c.make_with_room.new.state c.self.inside.workers c.self.inside.events c.make_with_room.new.events c.in_err-socket.ensures.err
+    c.in_err-socket.ensures.back c.self.invariant
+
+pub returns-in_err-socket-clause-err : goal.returns-in_err-socket-clause-err
+returns-in_err-socket-clause-err g c =
+    so_on_err _ _
+    (viewed_back c.args.self.now c.self.inside.state c.make_with_room.new.state c.self.inside.workers c.self.inside.events c.make_with_room.new.events c.in_err-socket.ensures.err
+    c.in_err-socket.ensures.back c.self.view_is)
+
+pub returns-in_err-copy-clause-err : goal.returns-in_err-copy-clause-err
+returns-in_err-copy-clause-err g c = so_on_err _ _ refl

@@ -1,4 +1,10 @@
-use Rattle.std.proofs.Common.{arith}
+use Rattle.std.specs.Prelude.{◌++◌, ◌∷◌, [], Bool, true, false, List}
+use Rattle.std.proofs.Common.{arith, ap, ◌∙◌}
+use Rattle.std.proofs.lemmas.List.{append_assoc}
+use Rattle.zq_base.specs.declared.ids.EndId.{EndId}
+use Rattle.spec_control.specs.declared.entry.PipeName.{PipeName}
+use Rattle.spec_control.specs.Control.{end_of}
+use Rattle.ctl_joins.specs.Noting.{a_name}
 use Rattle.ctl_joins.proofs.notes.Notes.note.Goals as goal
 
 pub push_reserved-requires : goal.push_reserved-requires
@@ -31,3 +37,15 @@ returns-clause-room g c = λ n h.
       joined = omega (arith, room, len, capacity);
       opened = omega (arith, opened, len_a, capacity_a, len_b, capacity_b);
     }
+
+abbrev pipe_named : {N : Type 0} → EndId → Bool → N → PipeName N
+pipe_named first a name = record { pipe = end_of first.pair.0 a; name = name }
+
+pub returns-clause-opened : goal.returns-clause-opened
+returns-clause-opened g c =
+    let had = c.args.self.now.opened.items in
+    c.push_reserved-3.ensures.items
+    ∙ ap (λ (xs : List (PipeName g.row.N.Denot)). xs ++ pipe_named c.args.first false c.by_side-a.result.1 ∷ []) c.push_reserved-2.ensures.items
+    ∙ append_assoc had (pipe_named c.args.first true c.by_side-a.result.0 ∷ []) (pipe_named c.args.first false c.by_side-a.result.1 ∷ [])
+    ∙ ap (λ (n : g.row.N.Denot). had ++ pipe_named c.args.first true n ∷ pipe_named c.args.first false c.by_side-a.result.1 ∷ []) c.by_side-a.ensures.a
+    ∙ ap (λ (n : g.row.N.Denot). had ++ pipe_named c.args.first true (a_name c.args.first.a c.args.opened) ∷ pipe_named c.args.first false n ∷ []) c.by_side-a.ensures.b

@@ -2,7 +2,7 @@ use Rattle.std.proofs.Common.{refl, sym, ap, ◌∙◌, subst}
 use Rattle.spec_control.specs.declared.request.Req.{Req}
 use Rattle.spec_control.specs.declared.request.Req.TheVariants.{Socket as MakeSocket, AskTerm, Bind, Connect, Unbind, Disconnect}
 use Rattle.spec_control.specs.declared.request.Reply.TheVariants.{Done as IsDone}
-use Rattle.control_rows.proofs.ListLemmas.{never}
+use Rattle.control_laws.proofs.ListLemmas.{never}
 use Rattle.control_held.specs.Held.{asker}
 use Rattle.control_held.specs.OwnAsks.{MayAskOwn}
 use Rattle.control_held.specs.Moments.{items_in}
@@ -184,3 +184,60 @@ returns-in-Disconnect-clause-succeeds g c = λ close. absurd (never (sym (ap is_
 
 pub returns-in-AskTerm-clause-first : goal.returns-in-AskTerm-clause-first
 returns-in-AskTerm-clause-first g c = λ is. c.ask_term.ensures.succeeds
+
+pub bind_at-requires-clause-calm : goal.bind_at-requires-clause-calm
+bind_at-requires-clause-calm g c = c.requires.calm
+
+pub connect_at-requires-clause-calm : goal.connect_at-requires-clause-calm
+connect_at-requires-clause-calm g c = c.requires.calm
+
+pub bind_at-requires-clause-has : goal.bind_at-requires-clause-has
+bind_at-requires-clause-has g c = c.requires.has
+
+pub connect_at-requires-clause-has : goal.connect_at-requires-clause-has
+connect_at-requires-clause-has g c = c.requires.has
+
+pub close-requires-clause-has : goal.close-requires-clause-has
+close-requires-clause-has g c = c.requires.has
+
+pub disconnect-requires-clause-has : goal.disconnect-requires-clause-has
+disconnect-requires-clause-has g c = c.requires.has
+
+pub returns-in-Socket-clause-err : goal.returns-in-Socket-clause-err
+returns-in-Socket-clause-err g c = c.make_socket.ensures.err
+
+pub returns-in-Socket-clause-closes : goal.returns-in-Socket-clause-closes
+returns-in-Socket-clause-closes g c = λ close. absurd (never (sym (ap is_close c.in-Socket.is) ∙ close))
+
+pub returns-in-AskTerm-clause-err : goal.returns-in-AskTerm-clause-err
+returns-in-AskTerm-clause-err g c = c.ask_term.ensures.err
+
+pub returns-in-AskTerm-clause-closes : goal.returns-in-AskTerm-clause-closes
+returns-in-AskTerm-clause-closes g c = λ close. absurd (never (sym (ap is_close c.in-AskTerm.is) ∙ close))
+
+pub returns-in-Bind-clause-err : goal.returns-in-Bind-clause-err
+returns-in-Bind-clause-err g c = c.bind_at.ensures.err
+
+pub returns-in-Bind-clause-closes : goal.returns-in-Bind-clause-closes
+returns-in-Bind-clause-closes g c = λ close. absurd (never (sym (ap is_close c.in-Bind.is) ∙ close))
+
+pub returns-in-Connect-clause-err : goal.returns-in-Connect-clause-err
+returns-in-Connect-clause-err g c = c.connect_at.ensures.err
+
+pub returns-in-Connect-clause-closes : goal.returns-in-Connect-clause-closes
+returns-in-Connect-clause-closes g c = λ close. absurd (never (sym (ap is_close c.in-Connect.is) ∙ close))
+
+pub returns-in-Unbind-clause-err : goal.returns-in-Unbind-clause-err
+returns-in-Unbind-clause-err g c = c.unbind.ensures.err
+
+pub returns-in-Unbind-clause-closes : goal.returns-in-Unbind-clause-closes
+returns-in-Unbind-clause-closes g c = λ close. absurd (never (sym (ap is_close c.in-Unbind.is) ∙ close))
+
+pub returns-in-Disconnect-clause-err : goal.returns-in-Disconnect-clause-err
+returns-in-Disconnect-clause-err g c = c.disconnect.ensures.err
+
+pub returns-in-Disconnect-clause-closes : goal.returns-in-Disconnect-clause-closes
+returns-in-Disconnect-clause-closes g c = λ close. absurd (never (sym (ap is_close c.in-Disconnect.is) ∙ close))
+
+pub returns-in-AskTerm-clause-grows : goal.returns-in-AskTerm-clause-grows
+returns-in-AskTerm-clause-grows g c = c.ask_term.ensures.grows

@@ -4,8 +4,8 @@ use Rattle.std.proofs.lemmas.List.{map-append}
 use Rattle.spec_control.specs.declared.request.Req.TheVariants.{AskTerm}
 use Rattle.spec_control.specs.Row.{RootAsked}
 use Rattle.spec_control.specs.Reply.{root_asked}
-use Rattle.control_rows.proofs.ListLemmas.{never}
-use Rattle.control_moves.specs.Move.{LinkMoves}
+use Rattle.control_laws.proofs.ListLemmas.{never}
+use Rattle.control_laws.specs.Move.{LinkMoves}
 use Rattle.ctl_holder.specs.declared.given.Given.{Given}
 use Rattle.one_desk.specs.declared.mark.Mark.{Mark}
 use Rattle.one_desk.specs.Lent.{lent_to, Asks, Lent}

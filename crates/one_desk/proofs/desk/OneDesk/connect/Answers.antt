@@ -7,11 +7,14 @@ use Rattle.ctl_holder.specs.declared.given.Given.{Given}
 use Rattle.ctl_holder.specs.Making.{MakesSo}
 use Rattle.ctl_history.specs.Past.{Past, control_of}
 use Rattle.one_desk.specs.declared.mark.Mark.{Mark}
-use Rattle.one_desk.specs.Lent.{lent_to, Asks, Lent}
+use Rattle.one_desk.specs.Lent.{lent_to, Asks, Lent, IsLent}
 use Rattle.one_desk.proofs.HoldLemmas.{desk_has, desk_keeps, desk_lends, desk_still, leaves_same}
 use Rattle.one_desk.proofs.MakeLemmas.{connect_none}
 use Rattle.one_desk.proofs.LentLemmas.{asks_more, lent_more, lent_open, socket_by}
 use Rattle.one_desk.proofs.ReapingLemmas.{reaps_asked}
+use Rattle.spec_control.specs.Reply.{reply_of}
+use Rattle.ctl_state.proofs.KeptLemmas.{so_on_err}
+use Rattle.one_desk.specs.Reaping.{IsReaping}
 use Rattle.one_desk.proofs.desk.OneDesk.connect.Goals as goal
 
 pub connect-requires-clause-lends : goal.connect-requires-clause-lends
@@ -61,3 +64,17 @@ returns-clause-keeps g c =
     now
     (leaves_same _ _ _ _ c.in_ok-reply.ensures.same (λ i x. refl) (λ i. refl))
     c.in_ok-reply.ensures.keeps c.in_ok-reply.ensures.turned c.in_ok-reply.ensures.joins
+
+pub invariant_of-self : goal.invariant_of-self
+invariant_of-self g c =
+    subst (λ (p : Past (Given g.row.P-Name.Denot g.row.P-Out.Denot g.row.P-In.Denot) g.row.P-Name.Denot g.row.P-Story.Denot). IsLent (map (λ x. x.0) c.self.inside.order.items) p (length c.self.inside.wakers.items) × IsReaping (control_of p) c.self.inside.closed) (sym c.in_err-reply.ensures.err.0) c.self.invariant
+
+pub returns-clause-reply : goal.returns-clause-reply
+returns-clause-reply g c = c.in_ok-reply.ensures.reply ∙ ap (λ (l : Lent (Given g.row.P-Name.Denot g.row.P-Out.Denot g.row.P-In.Denot) g.row.P-Name.Denot g.row.P-Story.Denot). reply_of (control_of l.past) (Connect c.args.socket (Inproc c.args.name))) c.self.view_is
+
+pub returns-in_err-reply-clause-err : goal.returns-in_err-reply-clause-err
+returns-in_err-reply-clause-err g c =
+    so_on_err _ _ (ap (λ (p : Past (Given g.row.P-Name.Denot g.row.P-Out.Denot g.row.P-In.Denot) g.row.P-Name.Denot g.row.P-Story.Denot). lent_to c.self.inside.caller (map (λ x. x.0) c.self.inside.order.items) p) c.in_err-reply.ensures.err.0 ∙ c.self.view_is)
+
+pub connect-requires-clause-calm : goal.connect-requires-clause-calm
+connect-requires-clause-calm g c = c.requires.calm

@@ -1,7 +1,7 @@
-use Rattle.std.specs.Prelude.{◌≡◌, ℕ, true, Result, Ok, Err, OnErr}
+use Rattle.std.specs.Prelude.{◌≡◌, ℕ, true}
 use Rattle.std.proofs.Common.{sym, ap, ◌∙◌, subst}
 use Rattle.spec_control.specs.declared.entry.SeenEmpty.TheVariants.{Reapers}
-use Rattle.control_rows.proofs.ListLemmas.{never}
+use Rattle.control_laws.proofs.ListLemmas.{never}
 use Rattle.zq_base.specs.declared.ids.EndId.{EndId}
 use Rattle.spec_control.specs.ControlRun.{AreEmpty}
 use Rattle.spec_control.specs.Names.{name_of}
@@ -16,11 +16,8 @@ use Rattle.one_desk.specs.Reaping.{HearsFrom, WaitsFirst, served_by}
 use Rattle.one_desk.proofs.PlaneLemmas.{takes_none}
 use Rattle.one_desk.proofs.TellLemmas.{look_tells}
 use Rattle.one_desk.proofs.WaitLemmas.{first_waits}
+use Rattle.ctl_state.proofs.KeptLemmas.{so_on_err}
 use Rattle.one_desk.proofs.desk.OneDesk.deliver_first.Goals as goal
-
-on_err : {X E : Type 0} (r : Result X E) (P : Type 0) → P → OnErr r P
-on_err (Ok x) P p = tt
-on_err (Err e) P p = p
 
 pub deliver_at-requires-clause-waits : goal.deliver_at-requires-clause-waits
 deliver_at-requires-clause-waits g c =
@@ -49,7 +46,7 @@ deliver_at-requires-clause-takes g c =
 
 pub returns-in_err-deliver_at-in-Some-clause-err : goal.returns-in_err-deliver_at-in-Some-clause-err
 returns-in_err-deliver_at-in-Some-clause-err g c =
-    on_err c.from_residual.result (c.deliver_at.new.self ≡ c.args.self.now) (c.in_err-deliver_at-in-Some.ensures.err ∙ c.first_slot.ensures.stays)
+    so_on_err _ c.from_residual.result (c.in_err-deliver_at-in-Some.ensures.err ∙ c.first_slot.ensures.stays)
 
 pub returns-in-Some-clause-ok : goal.returns-in-Some-clause-ok
 returns-in-Some-clause-ok g c =
@@ -98,3 +95,25 @@ returns-in-None-clause-keeps g c =
 pub returns-in_err-deliver_at-in-Some-clause-succeeds : goal.returns-in_err-deliver_at-in-Some-clause-succeeds
 returns-in_err-deliver_at-in-Some-clause-succeeds g c =
     λ none. absurd (never (c.in_err-deliver_at-in-Some.ensures.succeeds (subst (λ (d : Lent (Given g.row.P-Name.Denot g.row.P-Out.Denot g.row.P-In.Denot) g.row.P-Name.Denot g.row.P-Story.Denot). NoBindWaits (control_of d.past) c.in-Some.slot.0) (sym c.first_slot.ensures.stays) (none c.in-Some.slot.0 c.in-Some.ensures.some.here))))
+
+pub deliver_at-requires-clause-calm : goal.deliver_at-requires-clause-calm
+deliver_at-requires-clause-calm g c = c.requires.calm
+
+pub deliver_at-requires-clause-reaps : goal.deliver_at-requires-clause-reaps
+deliver_at-requires-clause-reaps g c = c.requires.reaps
+
+pub returns-in_err-deliver_at-in-Some-clause-brings : goal.returns-in_err-deliver_at-in-Some-clause-brings
+returns-in_err-deliver_at-in-Some-clause-brings g c =
+    subst (λ (d : Lent (Given g.row.P-Name.Denot g.row.P-Out.Denot g.row.P-In.Denot) g.row.P-Name.Denot g.row.P-Story.Denot). BringsWith g.P.Pipes.known.out_name g.P.Pipes.known.in_name (moments_of d) (moments_of c.deliver_at.new.self) d.past.given c.deliver_at.new.self.past.given) c.first_slot.ensures.stays c.deliver_at.ensures.brings
+
+pub returns-in_err-deliver_at-in-Some-clause-counts : goal.returns-in_err-deliver_at-in-Some-clause-counts
+returns-in_err-deliver_at-in-Some-clause-counts g c =
+    subst (λ (d : Lent (Given g.row.P-Name.Denot g.row.P-Out.Denot g.row.P-In.Denot) g.row.P-Name.Denot g.row.P-Story.Denot). CountsWith g.P.Pipes.known.out_name (g.H.Holder.counts c.args.holder.now) (moments_of d) (moments_of c.deliver_at.new.self) (g.H.Holder.holding c.args.holder.now)) c.first_slot.ensures.stays c.deliver_at.ensures.counts
+
+pub returns-in_err-deliver_at-in-Some-clause-given : goal.returns-in_err-deliver_at-in-Some-clause-given
+returns-in_err-deliver_at-in-Some-clause-given g c =
+    subst (λ (d : Lent (Given g.row.P-Name.Denot g.row.P-Out.Denot g.row.P-In.Denot) g.row.P-Name.Denot g.row.P-Story.Denot). TakesEnds d.past.given c.deliver_at.new.self.past.given) c.first_slot.ensures.stays c.deliver_at.ensures.given
+
+pub returns-in_err-deliver_at-in-Some-clause-keeps : goal.returns-in_err-deliver_at-in-Some-clause-keeps
+returns-in_err-deliver_at-in-Some-clause-keeps g c =
+    subst (λ (d : Lent (Given g.row.P-Name.Denot g.row.P-Out.Denot g.row.P-In.Denot) g.row.P-Name.Denot g.row.P-Story.Denot). KeepsUp c.deliver_at.new.self.caller (moments_of d) (moments_of c.deliver_at.new.self) (g.H.Holder.holding c.args.holder.now) (g.H.Holder.holding c.deliver_at.new.holder)) c.first_slot.ensures.stays c.deliver_at.ensures.keeps

@@ -1,7 +1,7 @@
 use Rattle.std.specs.Prelude.{List, Some, length, map, slice_index_or}
 use Rattle.std.proofs.Common.{sym, ap, ◌∙◌}
 use Rattle.zq_base.specs.declared.ids.ObjId.{ObjId}
-use Rattle.control_rows.proofs.ListLemmas.{never}
+use Rattle.control_laws.proofs.ListLemmas.{never}
 use Rattle.ctl_state.specs.Listed.{Listed}
 use Rattle.ctl_history.specs.Past.{control_of}
 use Rattle.one_desk.proofs.FirstLemmas.{closed_first, none_first, root_first, slots_there}
@@ -11,13 +11,6 @@ use Rattle.one_desk.proofs.desk.OneDesk.first_slot.Goals as goal
 
 pub is_empty-requires : goal.is_empty-requires
 is_empty-requires g c = record { there = root_there (map (λ x. x.0) c.self.inside.order.items) c.self.inside.history (length c.self.inside.wakers.items) c.self.invariant.0 }
-
-pub first-requires : goal.first-requires
-first-requires g c = record {
-  there = slots_there c.self.inside.history.workers (control_of c.self.inside.history) (kept_of (map (λ x. x.0) c.self.inside.order.items) c.self.inside.history (length c.self.inside.wakers.items) c.self.invariant.0) c.self.invariant.0.boxes c.self.inside.closed.items c.self.invariant.1.there;
-  boxes = c.self.invariant.0.boxes;
-  made = c.self.invariant.1.there;
-}
 
 pub returns-then-not-is_empty-clause-some : goal.returns-then-not-is_empty-clause-some
 returns-then-not-is_empty-clause-some g c =
@@ -33,3 +26,12 @@ pub returns-in-None-clause-none : goal.returns-in-None-clause-none
 returns-in-None-clause-none g c =
     none_first (map (λ x. x.0) c.self.inside.order.items) c.self.inside.history (length c.self.inside.wakers.items) c.self.inside.caller c.args.self.now c.self.view_is c.self.invariant.0 c.self.inside.closed c.self.invariant.1 (c.is_empty.ensures.0 c.if-not-is_empty.false)
     (sym c.in-None.ensures.first)
+
+pub first-requires-clause-there : goal.first-requires-clause-there
+first-requires-clause-there g c = slots_there c.self.inside.history.workers (control_of c.self.inside.history) (kept_of (map (λ x. x.0) c.self.inside.order.items) c.self.inside.history (length c.self.inside.wakers.items) c.self.invariant.0) c.self.invariant.0.boxes c.self.inside.closed.items c.self.invariant.1.there
+
+pub first-requires-clause-boxes : goal.first-requires-clause-boxes
+first-requires-clause-boxes g c = c.self.invariant.0.boxes
+
+pub first-requires-clause-made : goal.first-requires-clause-made
+first-requires-clause-made g c = c.self.invariant.1.there

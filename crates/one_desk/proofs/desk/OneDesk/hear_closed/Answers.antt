@@ -1,5 +1,5 @@
 use Rattle.std.proofs.Common.{subst}
-use Rattle.control_rows.proofs.ListLemmas.{never}
+use Rattle.control_laws.proofs.ListLemmas.{never}
 use Rattle.ctl_plane.specs.declared.delivery.Delivery.{Delivery}
 use Rattle.one_desk.specs.Lent.{FindsIn}
 use Rattle.one_desk.proofs.PlaneLemmas.{found_empty, gives_given, hears_from, same_given}

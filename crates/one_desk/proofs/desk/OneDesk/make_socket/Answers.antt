@@ -10,6 +10,10 @@ use Rattle.one_desk.specs.Lent.{lent_to, made_at_most, Asks, IsLent, Lent}
 use Rattle.one_desk.proofs.AsideLemmas.{desk_made, desk_same}
 use Rattle.one_desk.proofs.LentLemmas.{asks_more, lent_socket}
 use Rattle.one_desk.proofs.ReapingLemmas.{reaps_back, reaps_making, room_more}
+use Rattle.spec_control.specs.Reply.{reply_of}
+use Rattle.ctl_history.specs.Past.{Past, control_of}
+use Rattle.ctl_state.proofs.KeptLemmas.{so_on_err}
+use Rattle.one_desk.specs.Reaping.{IsReaping}
 use Rattle.one_desk.proofs.desk.OneDesk.make_socket.Goals as goal
 
 pub keep_room-requires : goal.keep_room-requires
@@ -61,3 +65,24 @@ returns-in-Ok-clause-keeps g c =
     (lent_socket _ _ c.self.inside.caller (length c.self.inside.wakers.items) _ _ _ _ _ _ _ marks c.in-Ok.ensures.ok c.requires.options c.self.invariant.0 c.is_run.ensures.run c.is_run.ensures.named
     (c.add_waker.ensures ∙ ap (λ (ws : List g.row.P-Waker.Denot). length ws + made_at_most c.in-Ok.reply) c.reserve.ensures.items))
     c.silent.ensures
+
+pub invariant_of-self : goal.invariant_of-self
+invariant_of-self g c = (subst (λ (ws : List g.row.P-Waker.Denot). IsLent (map (λ (m : Mark × Unit {0}). m.0) c.self.inside.order.items) c.self.inside.history (length ws)) (sym c.reserve.ensures.items) c.self.invariant.0, c.self.invariant.1)
+
+pub invariant_of-self-in_err-reserve-2 : goal.invariant_of-self-in_err-reserve-2
+invariant_of-self-in_err-reserve-2 g c = (
+  subst (λ (ws : List g.row.P-Waker.Denot). IsLent (map (λ (m : Mark × Unit {0}). m.0) c.self.inside.order.items) c.self.inside.history (length ws)) (sym c.reserve.ensures.items) c.self.invariant.0,
+  subst (λ (l : Listed ObjId). IsReaping (control_of c.self.inside.history) l) (sym c.in_err-reserve-2.ensures.err) c.self.invariant.1,
+)
+
+pub returns-in_err-reserve-clause-err : goal.returns-in_err-reserve-clause-err
+returns-in_err-reserve-clause-err g c = so_on_err _ _ c.self.view_is
+
+pub returns-in_err-reserve-2-clause-err : goal.returns-in_err-reserve-2-clause-err
+returns-in_err-reserve-2-clause-err g c = so_on_err _ _ c.self.view_is
+
+pub returns-in-Err-clause-err : goal.returns-in-Err-clause-err
+returns-in-Err-clause-err g c = ap (λ (p : Past (Given g.row.P-Name.Denot g.row.P-Out.Denot g.row.P-In.Denot) g.row.P-Name.Denot g.row.P-Story.Denot). lent_to c.self.inside.caller (map (λ x. x.0) c.self.inside.order.items) p) c.in-Err.ensures.err ∙ c.self.view_is
+
+pub returns-in-Ok-clause-reply : goal.returns-in-Ok-clause-reply
+returns-in-Ok-clause-reply g c = c.in-Ok.ensures.reply ∙ ap (λ (l : Lent (Given g.row.P-Name.Denot g.row.P-Out.Denot g.row.P-In.Denot) g.row.P-Name.Denot g.row.P-Story.Denot). reply_of (control_of l.past) (MakeSocket c.args.kind c.args.options)) c.self.view_is

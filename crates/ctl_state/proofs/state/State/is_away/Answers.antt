@@ -1,0 +1,12 @@
+use Rattle.std.proofs.Common.{ap, sym, ◌∙◌}
+use Rattle.ctl_state.specs.declared.pair.Spot.{Spot}
+use Rattle.ctl_state.specs.Pairs.{place_at}
+use Rattle.spec_control.specs.Place.{Place, is_away}
+use Rattle.ctl_state.proofs.EndLemmas.{place_stands}
+use Rattle.ctl_state.proofs.state.State.is_away.Goals as goal
+
+pub returns-in-Some : goal.returns-in-Some
+returns-in-Some g c = λ k h. c.is_away.ensures ∙ ap (λ (s : Spot). is_away (place_at s)) c.in-Some.ensures.some ∙ ap (λ (p : Place). is_away p) (sym (place_stands c.args.self.now c.args.e k h))
+
+pub returns-in-None : goal.returns-in-None
+returns-in-None g c = λ k h. ap (λ (s : Spot). is_away (place_at s)) (sym c.in-None.ensures.none) ∙ ap (λ (p : Place). is_away p) (sym (place_stands c.args.self.now c.args.e k h))
