@@ -26,6 +26,7 @@ use Rattle.req_rep.specs.declared.partner.Partner.{Partner}
 use Rattle.req_rep.specs.declared.partner.Partner.TheVariants.{Nobody, At, Gone}
 use Rattle.router_dealer.proofs.PlaceNamesLemmas.{same_place}
 use Rattle.router_dealer.proofs.TakeBackLemmas.{turns_none}
+use Rattle.router_dealer.specs.Named.{RouterState}
 use Rattle.pub_sub.specs.Places.{subs_at, AreOthers}
 use Rattle.pub_sub.specs.Publishers.{PubState, publisher_at}
 use Rattle.pub_sub.specs.Subscribing.{SubState, subscriber_at}
@@ -252,7 +253,7 @@ module _ (pair : PairId) (place : ℕ) where
 
   -- ---- kinds that refuse no peer
 
-  pub detached_back : (s t new : AnySock) → s ≡ t → takes_all (over at_places t) ≡ true → DetachedOver pair place s new → TakenBackOver place s new
+  detached_back : (s t new : AnySock) → s ≡ t → takes_all (over at_places t) ≡ true → DetachedOver pair place s new → TakenBackOver place s new
   detached_back s t new is all gone = record {
     undone = λ before came. by before came (attach_answer came.identity (over at_places before)) refl;
     places = gone.places;
@@ -279,6 +280,24 @@ module _ (pair : PairId) (place : ℕ) where
       by before came Yes is = attached_back s new before came gone (no_router (over at_places s) here) is
       by before came BadId is = absurd (bad (sym is ∙ yes before came.identity (did s new before came gone BadId is)))
       by before came Second is = absurd (second (sym is ∙ yes before came.identity (did s new before came gone Second is)))
+
+  -- all but a ROUTER and a PAIR
+  take_all : (s : AnySock) → ((r : RouterState) → s ≡ sock.Router r → ⊥) → ((turns : List ℕ) → s ≡ sock.Pair turns → ⊥) → takes_all (over at_places s) ≡ true
+  take_all (sock.Push x) router one = refl
+  take_all (sock.Pull x) router one = refl
+  take_all (sock.Pair x) router one = absurd (one x refl)
+  take_all (sock.Dealer x) router one = refl
+  take_all (sock.Req x) router one = refl
+  take_all (sock.Rep x) router one = refl
+  take_all (sock.Router x) router one = absurd (router x refl)
+  take_all (sock.Pub x) router one = refl
+  take_all (sock.XPub x) router one = refl
+  take_all (sock.Sub x) router one = refl
+  take_all (sock.XSub x) router one = refl
+
+  pub others_back : (s new : AnySock) → ((r : RouterState) → s ≡ sock.Router r → ⊥) → ((turns : List ℕ) → s ≡ sock.Pair turns → ⊥)
+      → DetachedOver pair place s new → TakenBackOver place s new
+  others_back s new router one gone = detached_back s s new refl (take_all s router one) gone
 
   -- ---- a PAIR, which refuses a second peer
 

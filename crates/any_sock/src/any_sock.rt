@@ -137,17 +137,9 @@ impl AnySock {
         ensures { TakenBackOver place self.old self.new }
     {
         match self {
-            AnySock::Push(push) => push.detach(place),
-            AnySock::Pull(pull) => pull.detach(place),
-            AnySock::Pair(peer) => peer.detach(place),
-            AnySock::Dealer(dealer) => dealer.detach(place),
-            AnySock::Req(req) => req.detach(place),
-            AnySock::Rep(rep) => rep.detach(place),
             AnySock::Router(router) => router.take_back(place),
-            AnySock::Pub(publisher) => publisher.detach(place),
-            AnySock::XPub(xpub) => xpub.detach(pair, place),
-            AnySock::Sub(subscriber) => subscriber.detach(place),
-            AnySock::XSub(subscriber) => subscriber.detach(place),
+            AnySock::Pair(peer) => peer.detach(place),
+            _ => self.detach(pair, place),
         }
     }
 }

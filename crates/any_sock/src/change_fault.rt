@@ -2,7 +2,7 @@ ghost use Rattle.std.specs.Prelude.{◌≡◌};
 ghost use Rattle.any_sock.specs.Calls.{of_subscriber};
 
 /// Why a socket did not change what it is subscribed to, or did not tell it.
-#[derive(Clone, Copy, Debug, PartialEq, Eq)]
+#[derive(Clone, Copy, PartialEq, Eq)]
 pub enum ChangeFault {
     /// The kind has no topics: it is neither SUB nor XSUB.
     NoTopics,

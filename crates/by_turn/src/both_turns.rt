@@ -6,7 +6,7 @@ use std::alloc::{AllocError, Global};
 use std::marker::Model;
 
 /// The turns of a socket that sends by turn and receives by turn, each direction in its own order.
-#[derive(Debug, Drop)]
+#[derive(Drop)]
 pub struct BothTurns {
     pub outs: Turns,
     pub ins: Turns,

@@ -8,7 +8,7 @@ use std::marker::Model;
 /// Places in the order of their turns: the one at the front is looked at first.
 ///
 /// A place that serves goes to the back with those before it, in as many moves as there are of them.
-#[derive(Debug, Drop)]
+#[derive(Drop)]
 pub struct Turns {
     places: VecDeque<usize>,
 }

@@ -1,7 +1,7 @@
 -- All peers are told, one after the other.
-use Rattle.std.proofs.Common.{◌≡◌, ◌∙◌, ◌+◌, ◌<◌, ◌≤◌, ℕ, zero, suc, Bool, true, false, cond, ◌&&◌, ◌||◌, List, [], ◌∷◌, ◌++◌, length, map, get_or, set, remove, take, nat_eq, All, refl, sym, ap, subst, arith, add-one, append_assoc, length-append}
-use Rattle.std.proofs.lemmas.List.{append-nil, map-append}
-use Rattle.std.proofs.lemmas.List.Elements.{All-cons, All-head, All-tail, All-push, All-set, All-get_or}
+use Rattle.std.proofs.Common.{◌≡◌, ◌∙◌, ◌+◌, ◌<◌, ◌≤◌, ℕ, zero, suc, Bool, true, false, cond, ◌&&◌, ◌||◌, List, [], ◌∷◌, ◌++◌, length, map, filter, get_or, set, remove, take, nat_eq, All, refl, sym, ap, subst, arith, add-one, append_assoc, length-append}
+use Rattle.std.proofs.lemmas.List.{append-nil, map-append, take_more}
+use Rattle.std.proofs.lemmas.List.Elements.{All-cons, All-head, All-tail, All-push, All-set, All-get_or, filter-append}
 use Rattle.std.proofs.lemmas.List.Folds.{list_any-append}
 use Rattle.std.specs.Cmp.{nat_eq_equiv}
 use Rattle.std.specs.Map.{keys_of, remove_entry}
@@ -253,3 +253,11 @@ no_row place [] none = refl
 no_row place (f ∷ fs) none =
     ap (λ b. cond b (rows_of fs) (row_of f ∷ remove_entry (nat_eq place) (rows_of fs))) (All-head (λ (y : Follower). nat_eq place y.place ≡ false) f fs none)
     ∙ ap (λ l. row_of f ∷ l) (no_row place fs (All-tail (λ (y : Follower). nat_eq place y.place ≡ false) f fs none))
+
+-- the places of one peer more that pass a test
+pub places-more : (test : ℕ → Bool) (fs : List Follower) (i : ℕ) (x : Follower) → i < length fs → x ≡ get_or fs i x
+    → filter test (places_of (take i fs)) ++ filter test (x.place ∷ []) ≡ filter test (places_of (take (i + 1) fs))
+places-more test fs i x within is =
+    sym (filter-append test (places_of (take i fs)) (x.place ∷ []))
+    ∙ ap (filter test) (sym (map-append (λ (f : Follower). f.place) (take i fs) (x ∷ []))
+    ∙ ap places_of ((λ j. take i fs ++ is j ∷ []) ∙ sym (take_more fs i x within)))

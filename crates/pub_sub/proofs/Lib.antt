@@ -11,3 +11,4 @@ pub mod TellLemmas
 pub mod FollowerLemmas
 pub mod SubscriberLemmas
 pub mod XSubLemmas
+pub mod ChangeLemmas

@@ -1,6 +1,7 @@
 -- What a distribution over places does at the ends that are there.
-use Rattle.std.proofs.lemmas.List.Elements.{All-head, All-tail, All-cons}
-use Rattle.std.proofs.Common.{◌≤◌, length, suc, All, arith, ◌≡◌, ◌∙◌, ℕ, Bool, true, false, cond, not, List, [], ◌∷◌, filter, map, refl, sym, ap, subst, inl, inr}
+use Rattle.std.proofs.lemmas.List.Elements.{All-head, All-tail, All-cons, filter-append}
+use Rattle.std.proofs.lemmas.List.{take_more, map-append}
+use Rattle.std.proofs.Common.{◌≤◌, ◌<◌, ◌+◌, ◌++◌, zero, take, get_or, length, suc, All, arith, ◌≡◌, ◌∙◌, ℕ, Bool, true, false, cond, not, List, [], ◌∷◌, filter, map, refl, sym, ap, subst, inl, inr}
 use Rattle.zq_base.specs.Message.{Frames}
 use Rattle.zq_base.specs.declared.ids.PairId.{PairId}
 use Rattle.spec_pattern.specs.PipeStep.{PipeStep, Commit, FullLook}
@@ -92,3 +93,20 @@ module _ {S : Type 0} (runs : S → List PipeStep → S → Type 0) (ends : ℕ 
       let f : length places ≡ length (places_of d.sent.looks) = ap length d.sent.places_are in
       let l : length (places_of (without_room d.sent.looks)) ≤ length (places_of d.sent.looks) = length-some (λ l. not l.room) d.sent.looks in
       omega arith
+
+-- the pairs of one place more
+pub pairs_at-more : (ends : ℕ → End) (places : List ℕ) (i : ℕ) → i < length places
+    → pairs_at ends (take (i + 1) places) ≡ pairs_at ends (take i places) ++ (ends (get_or places i 0)).pair ∷ []
+pairs_at-more ends places i within = ap (pairs_at ends) (take_more places i 0 within) ∙ map-append (λ p. (ends p).pair) (take i places) (get_or places i 0 ∷ [])
+
+pub pairs_at-length : (ends : ℕ → End) (places : List ℕ) (i : ℕ) → i ≤ length places → length (pairs_at ends (take i places)) ≡ i
+pairs_at-length ends [] zero within = refl
+pairs_at-length ends [] (suc i) within = absurd (omega arith)
+pairs_at-length ends (p ∷ ps) zero within = refl
+pairs_at-length ends (p ∷ ps) (suc i) within = ap suc (pairs_at-length ends ps i (omega arith))
+
+-- those of one place more that pass a test
+pub filter-more : (test : ℕ → Bool) (places : List ℕ) (i : ℕ) → i < length places
+    → filter test (take i places) ++ filter test (get_or places i 0 ∷ []) ≡ filter test (take (i + 1) places)
+filter-more test places i within =
+    sym (filter-append test (take i places) (get_or places i 0 ∷ [])) ∙ ap (filter test) (sym (take_more places i 0 within))

@@ -1,5 +1,5 @@
 -- An XPUB gives what waits first, or hears before that.
-use Rattle.std.proofs.Common.{◌≡◌, ◌∙◌, ℕ, Bool, List, [], ◌∷◌, None, refl, sym, ap, subst, length}
+use Rattle.std.proofs.Common.{◌≡◌, ◌∙◌, ℕ, Bool, List, [], ◌∷◌, Option, Some, None, MatchOption, refl, sym, ap, subst, length}
 use Rattle.std.specs.Prelude.{nat_le, if◌then◌else◌, Ok, Err}
 use Rattle.std.specs.Map.{keys_of}
 use Rattle.zq_base.specs.Message.{Frames}
@@ -17,6 +17,19 @@ use Rattle.pub_sub.specs.Places.{AreApart}
 use Rattle.pub_sub.specs.Publishers.{PubState, publisher_at, meant}
 use Rattle.pub_sub.specs.Hearing.{refusal_of, HearsThrough, HearsAll, HearsSome, XPubGives, XPubStops, in_hearing, in_giving}
 use Rattle.pub_sub.proofs.HearLemmas.{meant-none, kept-meant, keys_of-meant, HearsPeers-after, StopsHearing-after}
+
+-- what was taken out from before a user, and that nothing was
+pub given_some : (p q : PubState) (found : Option (PairId × Frames)) (n : PairId × Frames) → found ≡ Some n
+    → MatchOption found ((p.inbox ≡ []) × (q ≡ p)) (λ n. (p.inbox ≡ notice n.0 n.1 ∷ q.inbox) × (q ≡ record p { inbox = q.inbox }))
+    → (p.inbox ≡ notice n.0 n.1 ∷ q.inbox) × (q ≡ record p { inbox = q.inbox })
+given_some p q found n is given =
+    subst (λ o. MatchOption o ((p.inbox ≡ []) × (q ≡ p)) (λ n. (p.inbox ≡ notice n.0 n.1 ∷ q.inbox) × (q ≡ record p { inbox = q.inbox }))) is given
+
+pub given_none : (p q : PubState) (found : Option (PairId × Frames)) → found ≡ None
+    → MatchOption found ((p.inbox ≡ []) × (q ≡ p)) (λ n. (p.inbox ≡ notice n.0 n.1 ∷ q.inbox) × (q ≡ record p { inbox = q.inbox }))
+    → (p.inbox ≡ []) × (q ≡ p)
+given_none p q found is given =
+    subst (λ o. MatchOption o ((p.inbox ≡ []) × (q ≡ p)) (λ n. (p.inbox ≡ notice n.0 n.1 ∷ q.inbox) × (q ≡ record p { inbox = q.inbox }))) is given
 
 module _ {S : Type 0} (runs : S → List PipeStep → S → Type 0) (ends : ℕ → End) where
   -- something waits

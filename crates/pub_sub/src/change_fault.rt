@@ -1,5 +1,5 @@
 /// Why a change of what is wanted was not made, or was not told.
-#[derive(Clone, Copy, Debug, PartialEq, Eq)]
+#[derive(Clone, Copy)]
 pub enum ChangeFault {
     /// As many distinct topics are wanted as may be.
     SubLimit,

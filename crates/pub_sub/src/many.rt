@@ -1,4 +1,4 @@
-ghost use Rattle.std.specs.Prelude.{◌≡◌, ◌≤◌, [], ◌∷◌, ◌++◌, length, map, filter, All, true, vec_len, vec_capacity, nat_eq, IfOk, OnErr};
+ghost use Rattle.std.specs.Prelude.{◌≡◌, ◌≤◌, [], ◌∷◌, ◌++◌, length, map, filter, All, true, vec_len, vec_capacity, nat_eq, IfOk, OnOk, OnErr};
 ghost use Rattle.spec_pattern.specs.Pipe.{IsCommittable};
 ghost use Rattle.spec_pattern.specs.Results.{MatchSend, IfBack, answer_of};
 ghost use Rattle.msg_pipe.specs.Places.{KeepsPlaces};
@@ -7,7 +7,7 @@ ghost use Rattle.pub_sub.specs.Many.{SendsMany, pairs_at as pairs_of_places, ans
 use dist::send_to;
 use msg_pipe::Peers;
 use spec_pattern::{Report, Rule, SendFault, Sent};
-use std::alloc::Global;
+use std::alloc::{AllocError, Global};
 use zq_base::{Message, PairId, Seq};
 
 // Sends a copy of the message to each of these places that has room. Room for the answer is made
@@ -53,6 +53,23 @@ fn pairs_at<E: Peers>(peers: &E, mut pairs: Vec<PairId>, places: &[usize]) -> Ve
         pairs.push_reserved(peers.pair(*place));
     }
     pairs
+}
+
+// Adds the place where its end can be written.
+pub(crate) fn push_open<E: Peers>(
+    peers: &E,
+    place: usize,
+    found: &mut Vec<usize>,
+) -> Result<(), AllocError>
+    requires there { E.here peers.now place }
+    ensures { OnOk result
+        (found.new.items ≡ found.old.items ++ filter (E.writable peers.now) (place ∷ [])) }
+{
+    if !peers.can_write(place) {
+        return Ok(());
+    }
+    found.push(place)?;
+    Ok(())
 }
 
 // What a send to many answers.

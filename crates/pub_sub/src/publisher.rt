@@ -9,7 +9,7 @@ ghost use Rattle.spec_pattern.specs.TurnList.{End};
 
 use crate::audience::Audience;
 use crate::inbox::Inbox;
-use crate::many::send_to_many;
+use crate::many::{push_open, send_to_many};
 use msg_pipe::{Peers, Turns};
 use spec_pattern::{SendFault, SendRefusal, Sent};
 use std::alloc::{AllocError, Global};
@@ -169,9 +169,7 @@ fn open_places<E: Peers>(
 {
     let mut open = Vec::with_capacity(alloc, places.len())?;
     'places: for place in places {
-        if peers.can_write(*place) {
-            open.push(*place)?;
-        }
+        push_open(peers, *place, &mut open)?;
     }
     Ok(open)
 }

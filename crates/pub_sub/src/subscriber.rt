@@ -136,8 +136,9 @@ impl Subscriber {
         ensures same { KeepsFollowers self.old self.new }
         ensures keeps { KeepsPlaces E.here E.end_at E.writable peers.old peers.new }
     {
-        if self.wanted.unsubscribe(topic).is_err() {
-            return Err(ChangeFault::NotSub);
+        match self.wanted.unsubscribe(topic) {
+            Ok(()) => {}
+            Err(_) => return Err(ChangeFault::NotSub),
         }
         note_all(alloc, topic, self.followers.as_mut_slice());
         self.quiet = false;

@@ -11,7 +11,7 @@ ghost use Rattle.pub_sub.specs.XSubs.{MatchXSend, IfXBack, sent_by, XSubGives, X
 
 use crate::change_fault::ChangeFault;
 use crate::follower::Follower;
-use crate::many::send_to_many;
+use crate::many::{push_open, send_to_many};
 use crate::saying::{Saying, saying_of};
 use crate::subscriber::Subscriber;
 use crate::xsend_fault::{XSendFault, passed_on};
@@ -119,9 +119,7 @@ fn open_followers<E: Peers>(
 {
     let mut open = Vec::with_capacity(alloc, followers.len())?;
     for follower in followers {
-        if peers.can_write(follower.place) {
-            open.push(follower.place)?;
-        }
+        push_open(peers, follower.place, &mut open)?;
     }
     Ok(open)
 }

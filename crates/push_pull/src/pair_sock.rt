@@ -14,7 +14,7 @@ use std::marker::Model;
 use zq_base::{Message, PairId};
 
 /// A PAIR: it sends to its one peer and receives from it (zmq_socket(3), "Exclusive pair pattern").
-#[derive(Debug, Drop)]
+#[derive(Drop)]
 pub struct PairSock {
     turns: Turns,
 }

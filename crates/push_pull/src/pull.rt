@@ -13,7 +13,7 @@ use std::marker::Model;
 use zq_base::{Message, PairId};
 
 /// A PULL: it receives from its peers by turn, and never sends (RFC 30, "The PULL Socket Type").
-#[derive(Debug, Drop)]
+#[derive(Drop)]
 pub struct Pull {
     turns: Turns,
 }

@@ -13,7 +13,7 @@ use std::marker::Model;
 use zq_base::{Message, PairId};
 
 /// A PUSH: it sends to its peers by turn, and never receives (RFC 30, "The PUSH Socket Type").
-#[derive(Debug, Drop)]
+#[derive(Drop)]
 pub struct Push {
     turns: Turns,
 }

@@ -1,9 +1,10 @@
 -- The calls of a REP, as the steps of its pattern.
 use Rattle.std.specs.Prelude.{nat_le}
-use Rattle.std.proofs.Common.{◌≡◌, ◌≤◌, ◌<◌, ◌+◌, ℕ, Bool, true, false, List, [], ◌++◌, map, length, Some, None, refl, sym, subst, ◌∙◌, arith, length-append, append-nil}
+use Rattle.std.proofs.Common.{◌≡◌, ◌≤◌, ◌<◌, ◌+◌, ℕ, Bool, true, false, List, [], ◌∷◌, ◌++◌, map, length, Some, None, inl, inr, refl, sym, ap, subst, ◌∙◌, arith, length-append, append-nil}
 use Rattle.std.proofs.lemmas.Bool.{le-leb, lt-leb}
 use Rattle.zq_base.specs.Message.{Frames, max_committed}
-use Rattle.spec_pattern.specs.PipeStep.{PipeStep}
+use Rattle.zq_base.specs.declared.ids.PairId.{PairId}
+use Rattle.spec_pattern.specs.PipeStep.{PipeStep, Commit, FullLook}
 use Rattle.spec_pattern.specs.TurnList.{End}
 use Rattle.spec_pattern.specs.Duty.{Free, Owing}
 use Rattle.spec_pattern.specs.Drops.{ReceivesDropping}
@@ -12,6 +13,7 @@ use Rattle.spec_pattern.specs.RequestReply.{request_of, RepSends, RepReplies, Re
 use Rattle.spec_pattern.specs.declared.answers.Skip.{Skip}
 use Rattle.spec_pattern.specs.declared.answers.Rule.TheVariants.{ReplyGone, RouteFull, BadEnv}
 use Rattle.spec_pattern.specs.declared.answers.SendRefusal.TheVariants.{TooLarge}
+use Rattle.spec_pattern.specs.declared.answers.SendRefusal.TheVariants as send
 use Rattle.spec_pattern.specs.declared.answers.SendAnswer.TheVariants as sent
 use Rattle.spec_pattern.specs.declared.answers.RecvRefusal.TheVariants.{Fsm}
 use Rattle.spec_pattern.specs.declared.answers.RecvAnswer.{RecvAnswer}
@@ -28,6 +30,13 @@ free_is : (ends : ℕ → End) (owed : Partner) (envelope : Frames) → is_nobod
 free_is ends Nobody envelope e = refl
 free_is ends (At place) envelope e = absurd (cc e)
 free_is ends Gone envelope e = absurd (cc e)
+
+-- and sends nothing
+idle : (ends : ℕ → End) (can_write : End → Bool) (m : Frames) (owed : Partner) (envelope : Frames) → is_nobody owed ≡ true
+    → RepSends can_write m (owed_duty ends owed envelope) [] (sent.Refused send.Fsm) (owed_duty ends owed envelope)
+idle ends can_write m Nobody envelope e = (refl, refl, refl)
+idle ends can_write m (At place) envelope e = absurd (cc e)
+idle ends can_write m Gone envelope e = absurd (cc e)
 
 -- with one it doesn't receive
 fsm : (ends : ℕ → End) (ins : List ℕ) (owed : Partner) (envelope : Frames) → is_nobody owed ≡ false
@@ -56,6 +65,26 @@ module _ (ends : ℕ → End) (can_write : End → Bool) (m envelope : Frames) w
   gone Nobody some not_at few = absurd (cc some)
   gone (At place) some not_at few = absurd (not_at place refl)
   gone Gone some not_at few = subst (λ b. RepReplies can_write m None envelope b [] (sent.Dropped ReplyGone) Free) (sym (fits few)) ((refl, refl), refl)
+
+  -- a reply that is put in
+  put : (place : ℕ) → can_write (ends place) ≡ true → length envelope + length m ≤ max_committed
+      → RepSends can_write m (owed_duty ends (At place) envelope) (Commit (ends place) (envelope ++ m) ∷ []) (sent.One (ends place).pair) Free
+  put place unshut few =
+      subst (λ b. RepReplies can_write m (Some (ends place)) envelope b (Commit (ends place) (envelope ++ m) ∷ []) (sent.One (ends place).pair) Free) (sym (fits few)) (
+        subst (λ b. GoesTo (sent.Dropped ReplyGone) (sent.Dropped RouteFull) (envelope ++ m) (ends place) b (Commit (ends place) (envelope ++ m) ∷ []) (sent.One (ends place).pair))
+            (sym unshut) (inr (refl, refl)),
+        refl,
+      )
+
+  -- a reply to an end that is full
+  full : (place : ℕ) → can_write (ends place) ≡ true → length envelope + length m ≤ max_committed
+      → RepSends can_write m (owed_duty ends (At place) envelope) (FullLook (ends place) ∷ []) (sent.Dropped RouteFull) Free
+  full place unshut few =
+      subst (λ b. RepReplies can_write m (Some (ends place)) envelope b (FullLook (ends place) ∷ []) (sent.Dropped RouteFull) Free) (sym (fits few)) (
+        subst (λ b. GoesTo (sent.Dropped ReplyGone) (sent.Dropped RouteFull) (envelope ++ m) (ends place) b (FullLook (ends place) ∷ []) (sent.Dropped RouteFull))
+            (sym unshut) (inl (refl, refl)),
+        refl,
+      )
 
   -- a reply to an end that can't be written
   shut : (place : ℕ) → can_write (ends place) ≡ false → length envelope + length m ≤ max_committed
@@ -158,3 +187,47 @@ module _ {S : Type 0} (runs : S → List PipeStep → S → Type 0) (ends : ℕ 
           subst (λ (p : Partner). RepSends can_write m (owed_duty ends p r0.envelope) [] (sent.Dropped ReplyGone) Free) (sym at)
           (shut ends can_write m r0.envelope place (told ∙ closed) few);
     })
+
+  abbrev with_envelope : Frames → RepState
+  with_envelope envelope' = record { ins = r0.ins; owed = r0.owed; envelope = envelope' }
+
+  -- memory was wanting, and the envelope stays
+  pub stays_so : (envelope' : Frames) → envelope' ≡ r0.envelope → with_envelope envelope' ≡ r
+  stays_so envelope' same = ap with_envelope same ∙ is
+
+  -- no reply is owed
+  pub RepSent-fsm : (s : S) → runs s [] s → (writable : ℕ → Bool) (m : Frames) → is_nobody r0.owed ≡ true → RepSent runs ends writable m s s r (sent.Refused send.Fsm) r
+  RepSent-fsm s no_steps writable m nobody = subst (λ (q : RepState). RepSent runs ends writable m s s q (sent.Refused send.Fsm) q) is (record {
+    steps = [];
+    runs_are = no_steps;
+    step = λ can_write tells. idle ends can_write m r0.owed r0.envelope nobody;
+  })
+
+  module _ (old new : S) (writable : ℕ → Bool) (m whole : Frames) (place : ℕ) (at : r0.owed ≡ At place) (unshut : writable place ≡ true)
+      (few : length r0.envelope + length m ≤ max_committed) (whole_is : whole ≡ r0.envelope ++ m) (envelope' : Frames) where
+    -- the reply was put in
+    pub RepSent-put : (pair : PairId) → runs old (Commit (ends place) whole ∷ []) new → pair ≡ (ends place).pair
+        → RepSent runs ends writable m old new r (sent.One pair) (record { ins = r0.ins; owed = Nobody; envelope = envelope' })
+    RepSent-put pair runs_are pair_is =
+        subst (λ (q : RepState). RepSent runs ends writable m old new q (sent.One pair) (record { ins = r0.ins; owed = Nobody; envelope = envelope' })) is (record {
+          steps = Commit (ends place) (r0.envelope ++ m) ∷ [];
+          runs_are = subst (λ (w : Frames). runs old (Commit (ends place) w ∷ []) new) whole_is runs_are;
+          step = λ can_write tells.
+              let told : can_write (ends place) ≡ writable place = subst (TellsPartner can_write ends writable) at tells in
+              subst (λ (p : Partner). RepSends can_write m (owed_duty ends p r0.envelope) (Commit (ends place) (r0.envelope ++ m) ∷ []) (sent.One pair) Free) (sym at)
+              (subst (λ (e : PairId). RepSends can_write m (owed_duty ends (At place) r0.envelope) (Commit (ends place) (r0.envelope ++ m) ∷ []) (sent.One e) Free) (sym pair_is)
+              (put ends can_write m r0.envelope place (told ∙ unshut) few));
+        })
+
+    -- its pipe was full
+    pub RepSent-full : runs old (FullLook (ends place) ∷ []) new
+        → RepSent runs ends writable m old new r (sent.Dropped RouteFull) (record { ins = r0.ins; owed = Nobody; envelope = envelope' })
+    RepSent-full runs_are =
+        subst (λ (q : RepState). RepSent runs ends writable m old new q (sent.Dropped RouteFull) (record { ins = r0.ins; owed = Nobody; envelope = envelope' })) is (record {
+          steps = FullLook (ends place) ∷ [];
+          runs_are = runs_are;
+          step = λ can_write tells.
+              let told : can_write (ends place) ≡ writable place = subst (TellsPartner can_write ends writable) at tells in
+              subst (λ (p : Partner). RepSends can_write m (owed_duty ends p r0.envelope) (FullLook (ends place) ∷ []) (sent.Dropped RouteFull) Free) (sym at)
+              (full ends can_write m r0.envelope place (told ∙ unshut) few);
+        })

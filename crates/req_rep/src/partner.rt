@@ -1,5 +1,5 @@
 /// The peer of which a reply is awaited, or to which one is owed.
-#[derive(Clone, Copy, Debug, PartialEq, Eq)]
+#[derive(Clone, Copy)]
 pub enum Partner {
     Nobody,
     /// The end at this place.

@@ -13,7 +13,7 @@ use zq_base::{Frame, Message, PairId};
 
 /// A REQ: it sends a request to one of its peers by turn, and then receives the reply of that peer
 /// (RFC 28, "The REQ Socket Type").
-#[derive(Debug, Drop)]
+#[derive(Drop)]
 pub struct Req {
     turns: BothTurns,
     asked: Partner,

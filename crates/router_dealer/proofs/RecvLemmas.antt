@@ -1,5 +1,5 @@
 -- What a receive of a ROUTER took, as its step.
-use Rattle.std.proofs.Common.{◌≡◌, ℕ, List, ◌∷◌, map, All, None, Some, Result, Ok, Err, refl, sym, ap, subst, ◌∙◌, IsPermutation}
+use Rattle.std.proofs.Common.{◌≡◌, ℕ, List, ◌∷◌, map, All, Option, None, Some, Result, Ok, Err, refl, sym, ap, subst, ◌∙◌, IsPermutation}
 use Rattle.std.specs.Option.{option_map}
 use Rattle.std.proofs.lemmas.List.Sorted.{All-permutation, Contains-permutation}
 use Rattle.zq_base.specs.Message.{Frames}
@@ -13,7 +13,7 @@ use Rattle.fair_queue.specs.FairQueue.{ReceivesByTurn}
 use Rattle.fair_queue.specs.declared.turn.NextIn.TheVariants as next
 use Rattle.by_turn.proofs.EndsLemmas.{ends_around, ends_turned}
 use Rattle.router_dealer.specs.PlaceNames.{AreApart, place_named}
-use Rattle.router_dealer.specs.Named.{RouterState, HasName, AreOwnOrDrawn, GivesNamed, RouterGot, TakesNamed}
+use Rattle.router_dealer.specs.Named.{RouterState, Kept, HasName, AreOwnOrDrawn, GivesHeld, GivesNamed, RouterGot, TakesNamed, ReceivesNamed}
 use Rattle.router_dealer.proofs.PlaceNamesLemmas.{named-names_at}
 use Rattle.router_dealer.specs.NameTable.{IsReady, HasRoom}
 
@@ -84,3 +84,42 @@ module _ {S : Type 0} (runs : S → List PipeStep → S → Type 0) (ends : ℕ 
         subst (RouterGot runs ends old new r (got.Got pair (h.0 ∷ m))) (sym (ap (λ (s : RouterState). s.ins) h.2 ∙ ins)) (got_named h.0 found),
         ap (λ (s : RouterState). s.kept) h.2,
       )
+
+-- ---- a message that is kept comes first
+
+abbrev after_giving : RouterState → Option Kept → RouterState
+after_giving r k = record r { kept = k }
+
+module _ {S : Type 0} (E : Type 0) (runs : S → List PipeStep → S → Type 0) (ends : ℕ → End) (s : S) (r0 r : RouterState) (view_is : r0 ≡ r) (left : Option Kept) where
+  -- it is given
+  pub Receives-held : (found : Option (PairId × Frames)) (item : PairId × Frames) → found ≡ Some item → GivesHeld {E = E} r0.kept (Ok found) left
+      → ReceivesNamed runs ends s s r r.kept (Ok item) (record r0 { kept = left })
+  Receives-held found item is gives =
+      subst (λ (q : RouterState). ReceivesNamed runs ends s s q q.kept (Ok item) (after_giving r0 left)) view_is
+      (by r0.kept (subst (λ o. GivesHeld {E = E} r0.kept (Ok o) left) is gives))
+    where
+      by : (k : Option Kept) → GivesHeld {E = E} k (Ok (Some item)) left → ReceivesNamed runs ends s s r0 k (Ok item) (after_giving r0 left)
+      by None h = absurd h
+      by (Some k) h = (refl, refl, h)
+
+  -- or stays for want of memory
+  pub Receives-want : (e : E) → GivesHeld {E = E} r0.kept (Err e) left → ReceivesNamed runs ends s s r r.kept (Err recv.OutOfMemory) (record r0 { kept = left })
+  Receives-want e gives =
+      subst (λ (q : RouterState). ReceivesNamed runs ends s s q q.kept (Err recv.OutOfMemory) (after_giving r0 left)) view_is (by r0.kept gives)
+    where
+      by : (k : Option Kept) → GivesHeld {E = E} k (Err e) left → ReceivesNamed runs ends s s r0 k (Err recv.OutOfMemory) (after_giving r0 left)
+      by None h = absurd h
+      by (Some k) h = (refl, refl, (refl, h))
+
+  -- where none is kept a message is taken
+  pub Receives-next : (found : Option (PairId × Frames)) → found ≡ None → GivesHeld {E = E} r0.kept (Ok found) left
+      → (new : S) (result : Result (PairId × Frames) RecvFault) (r' : RouterState) → TakesNamed runs ends s new (record r0 { kept = left }) result r'
+      → ReceivesNamed runs ends s new r r.kept result r'
+  Receives-next found is gives new result r' takes =
+      let none = by r0.kept (subst (λ o. GivesHeld {E = E} r0.kept (Ok o) left) is gives) in
+      subst (λ k. ReceivesNamed runs ends s new r k result r') (sym (ap (λ (q : RouterState). q.kept) (sym view_is) ∙ none.0))
+      (subst (λ q. TakesNamed runs ends s new q result r') (ap (after_giving r0) (none.1 ∙ sym none.0) ∙ view_is) takes)
+    where
+      by : (k : Option Kept) → GivesHeld {E = E} k (Ok None) left → (k ≡ None) × (left ≡ None)
+      by None h = (refl, h)
+      by (Some k) h = absurd h

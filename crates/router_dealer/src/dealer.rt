@@ -14,7 +14,7 @@ use zq_base::{Message, PairId};
 
 /// A DEALER: it sends to its peers by turn and receives from them by turn (RFC 28, "The DEALER
 /// Socket Type").
-#[derive(Debug, Drop)]
+#[derive(Drop)]
 pub struct Dealer {
     turns: BothTurns,
 }

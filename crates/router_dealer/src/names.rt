@@ -1,7 +1,7 @@
-ghost use Rattle.std.specs.Prelude.{is_some, ◌≡◌, ◌<◌, ◌++◌, ◌∷◌, [], None, Some, OnOk, OnErr};
+ghost use Rattle.std.specs.Prelude.{is_some, ◌≡◌, ◌<◌, ◌++◌, ◌∷◌, [], ℕ, None, Some, cond, nat_eq, OnOk, OnErr};
 ghost use Rattle.router_dealer.specs.PlaceNames.{place_named, name_placed, AreApart, without_name_at, without_named};
 ghost use Rattle.router_dealer.specs.Named.{HasName};
-ghost use Rattle.router_dealer.specs.NameTable.{names_of};
+ghost use Rattle.router_dealer.specs.NameTable.{names_of, name_at};
 ghost use Rattle.indexmap.specs.IndexMap.{spare};
 
 use indexmap::IndexMap;
@@ -80,16 +80,13 @@ impl Names {
         ensures sound { OnOk result (AreApart self.new) }
     {
         let key = Vec::from_slice(alloc, name)?;
-        let Ok(frame) = Frame::of_slice(alloc, name) else {
-            return Err(AllocError);
-        };
         self.places.reserve(1)?;
-        match self.names.insert(place, frame) {
-            Ok(_) => {
+        match put_name(alloc, &mut self.names, name, place) {
+            Ok(()) => {
                 enter(&mut self.places, key, place);
                 return Ok(());
             }
-            Err(_) => return Err(AllocError),
+            Err(fault) => return Err(fault),
         }
     }
 
@@ -102,6 +99,26 @@ impl Names {
             Some(name) => free(&mut self.places, name),
             None => {}
         }
+    }
+}
+
+// The place has a copy of this name now.
+fn put_name(
+    alloc: Global,
+    names: &mut IndexMap<usize, Frame>,
+    name: &[u8],
+    place: usize,
+) -> Result<(), AllocError>
+    ensures ok { OnOk result ((p : ℕ) → name_at names.new.entries p
+        ≡ cond (nat_eq place p) (Some name.now) (name_at names.old.entries p)) }
+    ensures err { OnErr result (names.new.entries ≡ names.old.entries) }
+{
+    let Ok(frame) = Frame::of_slice(alloc, name) else {
+        return Err(AllocError);
+    };
+    match names.insert(place, frame) {
+        Ok(_) => return Ok(()),
+        Err(_) => return Err(AllocError),
     }
 }
 

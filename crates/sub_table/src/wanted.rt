@@ -5,7 +5,7 @@ use std::collections::BTreeMap;
 use std::marker::Model;
 
 /// Why a topic is not subscribed to.
-#[derive(Clone, Copy, Debug, PartialEq, Eq)]
+#[derive(Clone, Copy, PartialEq, Eq)]
 pub enum WantedError {
     SubLimit,
     OutOfMemory,
@@ -23,7 +23,7 @@ impl From<AllocError> for WantedError {
 }
 
 /// The topic is not subscribed to.
-#[derive(Clone, Copy, Debug, PartialEq, Eq)]
+#[derive(Clone, Copy, PartialEq, Eq)]
 pub struct NotSub;
 
 /// The topics that a socket wants, each with the number of its subscriptions.

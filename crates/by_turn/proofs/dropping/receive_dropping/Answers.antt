@@ -1,8 +1,8 @@
-use Rattle.std.proofs.Common.{◌≡◌, ℕ, List, All, Option, refl, sym, ap, subst, ◌∙◌, arith}
+use Rattle.std.proofs.Common.{ℕ, List, Option, refl, sym, ap, subst, ◌∙◌, arith}
 use Rattle.std.proofs.lemmas.List.Sorted.{IsPermutation-refl, IsPermutation-sym, IsPermutation-trans, All-permutation, Contains-permutation}
 use Rattle.zq_base.specs.Message.{Frames}
 use Rattle.spec_pattern.specs.TurnList.{End}
-use Rattle.spec_pattern.specs.Drops.{Given, most_drops}
+use Rattle.spec_pattern.specs.Drops.{Given}
 use Rattle.spec_pattern.specs.declared.answers.Skip.{Skip}
 use Rattle.msg_pipe.proofs.PlacesLemmas.{keeps_none, keeps_on, all_here}
 use Rattle.by_turn.specs.Dropping.{receiving, DropsMore, GivesAt, FindsNone}
@@ -79,3 +79,45 @@ returns-clause-step g c = λ duty.
     let gives = g.S.Sieve.gives c.args.sieve.now in
     Receives-busy g.E.Peers.runs ends gives c.args.rule old new duty
     (subst (λ (n : ℕ). DropsMore g.E.Peers.runs ends gives c.args.rule n old new) (omega arith) c.looks.invariant.drops)
+
+pub look-requires-clause-ready : goal.look-requires-clause-ready
+look-requires-clause-ready g c = subst g.S.Sieve.ready (sym c.looks.invariant.kept) c.requires.ready
+
+pub returns-in_default-clause-step : goal.returns-in_default-clause-step
+returns-in_default-clause-step g c =
+    let old = receiving c.args.peers.now c.args.turns.now c.args.skips.now.items in
+    record {
+      count = c.looks._count;
+      few = omega arith;
+      drops = subst (λ (l : List Skip). DropsMore g.E.Peers.runs (g.E.Peers.end_at c.args.peers.now) (g.S.Sieve.gives c.args.sieve.now) c.args.rule c.looks._count old (receiving c.looks.peers c.looks.turns l))
+          (sym c.reserve.ensures.items) c.looks.invariant.drops;
+    }
+
+pub returns-in_default-clause-kept : goal.returns-in_default-clause-kept
+returns-in_default-clause-kept g c = c.looks.invariant.kept
+
+pub returns-in_default-clause-places : goal.returns-in_default-clause-places
+returns-in_default-clause-places g c = c.looks.invariant.places
+
+pub returns-in_default-clause-keeps : goal.returns-in_default-clause-keeps
+returns-in_default-clause-keeps g c = c.looks.invariant.keeps
+
+pub returns-in-Given-clause-keeps : goal.returns-in-Given-clause-keeps
+returns-in-Given-clause-keeps g c =
+    keeps_on g.E.Peers.here g.E.Peers.end_at g.E.Peers.writable c.args.peers.now c.looks.peers c.look.new.peers c.looks.invariant.keeps c.look.ensures.keeps
+
+pub returns-in-Empty-clause-kept : goal.returns-in-Empty-clause-kept
+returns-in-Empty-clause-kept g c = c.in-Empty.ensures.kept ∙ c.looks.invariant.kept
+
+pub returns-in-Empty-clause-keeps : goal.returns-in-Empty-clause-keeps
+returns-in-Empty-clause-keeps g c =
+    keeps_on g.E.Peers.here g.E.Peers.end_at g.E.Peers.writable c.args.peers.now c.looks.peers c.look.new.peers c.looks.invariant.keeps c.look.ensures.keeps
+
+pub returns-clause-kept : goal.returns-clause-kept
+returns-clause-kept g c = c.looks.invariant.kept
+
+pub returns-clause-places : goal.returns-clause-places
+returns-clause-places g c = c.looks.invariant.places
+
+pub returns-clause-keeps : goal.returns-clause-keeps
+returns-clause-keeps g c = c.looks.invariant.keeps

@@ -20,3 +20,12 @@ looks-preserved g c =
           (take_more places i 0 within ∙ ap (λ k. take i places ++ k ∷ []) (sym c.at.ensures));
       keeps = keeps_on g.E.Peers.here g.E.Peers.end_at g.E.Peers.writable c.args.peers.now c.looks.peers c.look.new.peers inv.keeps c.look.ensures.keeps;
     }
+
+pub returns-in-Some-clause-whole : goal.returns-in-Some-clause-whole
+returns-in-Some-clause-whole g c = c.in-Some.ensures.whole
+
+pub returns-in-Some-clause-keeps : goal.returns-in-Some-clause-keeps
+returns-in-Some-clause-keeps g c = keeps_on g.E.Peers.here g.E.Peers.end_at g.E.Peers.writable c.args.peers.now c.looks.peers c.look.new.peers c.looks.invariant.keeps c.look.ensures.keeps
+
+pub returns-clause-keeps : goal.returns-clause-keeps
+returns-clause-keeps g c = c.looks.invariant.keeps

@@ -1,10 +1,12 @@
-use Rattle.std.proofs.Common.{◌∙◌, All, nat_eq, sym, ap, subst, arith, true≢false}
+use Rattle.std.proofs.Common.{◌∙◌, All, Err, nat_eq, is_ok, refl, sym, ap, subst, arith, true≢false}
 use Rattle.std.proofs.lemmas.List.{with_items_is}
 use Rattle.std.specs.List.{IsDistinct}
 use Rattle.std.specs.Map.{keys_of}
 use Rattle.pub_sub.specs.Telling.{IsFollower}
 use Rattle.pub_sub.specs.Followers.{rows_of, places_of}
 use Rattle.pub_sub.specs.Subscribing.{SubState}
+use Rattle.spec_pattern.specs.PatternCalls.{Subscribe}
+use Rattle.pub_sub.proofs.ChangeLemmas.{may_subscribe, refused_at_limit, ChangesAt-done, ChangesUntold-made, ChangesAt-limit, KeepsFollowers-made, KeepsFollowers-unchanged, unchanged}
 use Rattle.pub_sub.proofs.SubscriberLemmas.{apart_rows, alike-more, short-more}
 use Rattle.pub_sub.proofs.subscriber.Subscriber.subscribe.Goals as goal
 
@@ -30,3 +32,64 @@ tell-requires g c = record {
       (ap (λ (s : SubState). keys_of s.followers) (sym c.self.view_is) ∙ ap (λ l. keys_of (rows_of l)) (sym c.as_mut_slice.ensures.value) ∙ ap keys_of (sym c.note_all.ensures.same)
       ∙ ap (λ l. keys_of (rows_of l)) (sym (with_items_is c.self.inside.followers c.note_all.new.followers (omega (arith, c.note_all.auto.followers, c.as_mut_slice.ensures.len))))) c.requires.there;
 }
+
+pub returns-in-Ok-tell-clause-step : goal.returns-in-Ok-tell-clause-step
+returns-in-Ok-tell-clause-step g c =
+    let s0 : SubState = record { ins = c.self.inside.ins; wanted = c.self.inside.wanted; followers = rows_of c.self.inside.followers.items } in
+    let rows = ap rows_of (with_items_is c.self.inside.followers c.note_all.new.followers (omega (arith, c.note_all.auto.followers, c.as_mut_slice.ensures.len)))
+    ∙ c.note_all.ensures.same ∙ ap rows_of c.as_mut_slice.ensures.value in
+    let may = may_subscribe c.self.inside.wanted c.args.topic.now (λ h. true≢false (ap is_ok (sym c.in-Ok.is ∙ c.subscribe.ensures.limit.1 h))) in
+    ChangesAt-done g.E.Peers.runs (g.E.Peers.end_at c.args.peers.now) (g.E.Peers.writable c.args.peers.now) c.args.peers.now c.tell.new.peers s0 c.args.self.now c.self.view_is
+    Subscribe c.args.topic.now c.subscribe.new.self _ c.in-Ok.ensures.ok rows c.tell.new.self may c.in-Ok-tell.ensures.told
+
+pub returns-in-Ok-tell-clause-same : goal.returns-in-Ok-tell-clause-same
+returns-in-Ok-tell-clause-same g c =
+    let s0 : SubState = record { ins = c.self.inside.ins; wanted = c.self.inside.wanted; followers = rows_of c.self.inside.followers.items } in
+    let rows = ap rows_of (with_items_is c.self.inside.followers c.note_all.new.followers (omega (arith, c.note_all.auto.followers, c.as_mut_slice.ensures.len)))
+    ∙ c.note_all.ensures.same ∙ ap rows_of c.as_mut_slice.ensures.value in
+    KeepsFollowers-made g.E.Peers.runs (g.E.Peers.end_at c.args.peers.now) (g.E.Peers.writable c.args.peers.now) c.args.peers.now c.tell.new.peers s0 c.args.self.now c.self.view_is
+    Subscribe c.args.topic.now c.subscribe.new.self _ c.in-Ok.ensures.ok rows c.tell.new.self c.tell.ensures.same
+
+pub returns-in-Err-clause-step : goal.returns-in-Err-clause-step
+returns-in-Err-clause-step g c =
+    let s0 : SubState = record { ins = c.self.inside.ins; wanted = c.self.inside.wanted; followers = rows_of c.self.inside.followers.items } in
+    let rows = ap rows_of (with_items_is c.self.inside.followers c.note_all.new.followers (omega (arith, c.note_all.auto.followers, c.as_mut_slice.ensures.len)))
+    ∙ c.note_all.ensures.same ∙ ap rows_of c.as_mut_slice.ensures.value in
+    let may = may_subscribe c.self.inside.wanted c.args.topic.now (λ h. true≢false (ap is_ok (sym c.in-Ok.is ∙ c.subscribe.ensures.limit.1 h))) in
+    ChangesUntold-made g.E.Peers.runs (g.E.Peers.end_at c.args.peers.now) (g.E.Peers.writable c.args.peers.now) c.args.peers.now c.tell.new.peers s0 c.args.self.now c.self.view_is
+    Subscribe c.args.topic.now c.subscribe.new.self _ c.in-Ok.ensures.ok rows c.tell.new.self may c.in-Err.ensures.memory
+
+pub returns-in-Err-clause-same : goal.returns-in-Err-clause-same
+returns-in-Err-clause-same g c =
+    let s0 : SubState = record { ins = c.self.inside.ins; wanted = c.self.inside.wanted; followers = rows_of c.self.inside.followers.items } in
+    let rows = ap rows_of (with_items_is c.self.inside.followers c.note_all.new.followers (omega (arith, c.note_all.auto.followers, c.as_mut_slice.ensures.len)))
+    ∙ c.note_all.ensures.same ∙ ap rows_of c.as_mut_slice.ensures.value in
+    KeepsFollowers-made g.E.Peers.runs (g.E.Peers.end_at c.args.peers.now) (g.E.Peers.writable c.args.peers.now) c.args.peers.now c.tell.new.peers s0 c.args.self.now c.self.view_is
+    Subscribe c.args.topic.now c.subscribe.new.self _ c.in-Ok.ensures.ok rows c.tell.new.self c.tell.ensures.same
+
+pub returns-in-Err-SubLimit-clause-step : goal.returns-in-Err-SubLimit-clause-step
+returns-in-Err-SubLimit-clause-step g c =
+    let s0 : SubState = record { ins = c.self.inside.ins; wanted = c.self.inside.wanted; followers = rows_of c.self.inside.followers.items } in
+    ChangesAt-limit g.E.Peers.runs (g.E.Peers.end_at c.args.peers.now) (g.E.Peers.writable c.args.peers.now) c.args.peers.now c.args.peers.now s0 c.args.self.now c.self.view_is
+    c.args.topic.now c.subscribe.new.self c.in-Err-SubLimit.ensures.err
+    (refused_at_limit c.self.inside.wanted c.args.topic.now (c.subscribe.ensures.limit.0 (c.in-Err-SubLimit.is ∙ ap Err c.in-Err-SubLimit.field-0-is))) (g.met.E.Peers.runs_none c.args.peers.now)
+
+pub returns-in-Err-SubLimit-clause-same : goal.returns-in-Err-SubLimit-clause-same
+returns-in-Err-SubLimit-clause-same g c =
+    let s0 : SubState = record { ins = c.self.inside.ins; wanted = c.self.inside.wanted; followers = rows_of c.self.inside.followers.items } in
+    KeepsFollowers-unchanged g.E.Peers.runs (g.E.Peers.end_at c.args.peers.now) (g.E.Peers.writable c.args.peers.now) c.args.peers.now c.args.peers.now s0 c.args.self.now c.self.view_is
+    c.args.topic.now c.subscribe.new.self c.in-Err-SubLimit.ensures.err
+
+pub returns-in-Err-OutOfMemory-clause-step : goal.returns-in-Err-OutOfMemory-clause-step
+returns-in-Err-OutOfMemory-clause-step g c =
+    let s0 : SubState = record { ins = c.self.inside.ins; wanted = c.self.inside.wanted; followers = rows_of c.self.inside.followers.items } in (
+      unchanged g.E.Peers.runs (g.E.Peers.end_at c.args.peers.now) (g.E.Peers.writable c.args.peers.now) c.args.peers.now c.args.peers.now s0 c.args.self.now c.self.view_is
+          c.args.topic.now c.subscribe.new.self c.in-Err-OutOfMemory.ensures.err,
+      refl,
+    )
+
+pub returns-in-Err-OutOfMemory-clause-same : goal.returns-in-Err-OutOfMemory-clause-same
+returns-in-Err-OutOfMemory-clause-same g c =
+    let s0 : SubState = record { ins = c.self.inside.ins; wanted = c.self.inside.wanted; followers = rows_of c.self.inside.followers.items } in
+    KeepsFollowers-unchanged g.E.Peers.runs (g.E.Peers.end_at c.args.peers.now) (g.E.Peers.writable c.args.peers.now) c.args.peers.now c.args.peers.now s0 c.args.self.now c.self.view_is
+    c.args.topic.now c.subscribe.new.self c.in-Err-OutOfMemory.ensures.err

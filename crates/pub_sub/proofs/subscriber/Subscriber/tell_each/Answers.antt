@@ -5,6 +5,8 @@ use Rattle.std.specs.Map.{keys_of}
 use Rattle.pub_sub.specs.Telling.{IsFollower, IsTold}
 use Rattle.pub_sub.specs.Followers.{rows_of, places_of}
 use Rattle.pub_sub.specs.Subscribing.{SubState}
+use Rattle.pub_sub.proofs.KnownLemmas.{on_err}
+use Rattle.pub_sub.proofs.ChangeLemmas.{TellsPeers-rows, StopsTelling-rows}
 use Rattle.pub_sub.proofs.SubscriberLemmas.{keys_rows}
 use Rattle.pub_sub.proofs.subscriber.Subscriber.tell_each.Goals as goal
 
@@ -53,3 +55,18 @@ returns-in_err-none-clause-same g c = record {
       ∙ keys_rows c.tell_all.new.followers ∙ c.tell_all.ensures.same.places_are ∙ ap places_of c.as_mut_slice.ensures.value
       ∙ sym (keys_rows c.self.inside.followers.items) ∙ ap (λ (s : SubState). keys_of s.followers) c.self.view_is;
 }
+
+pub returns-clause-told : goal.returns-clause-told
+returns-clause-told g c =
+    let s0 : SubState = record { ins = c.self.inside.ins; wanted = c.self.inside.wanted; followers = rows_of c.self.inside.followers.items } in
+    TellsPeers-rows g.E.Peers.runs (g.E.Peers.end_at c.args.peers.now) (g.E.Peers.writable c.args.peers.now) c.args.peers.now c.tell_all.new.peers s0 c.args.self.now c.self.view_is _ _ _
+    (ap rows_of c.as_mut_slice.ensures.value)
+    (ap rows_of (with_items_is c.self.inside.followers c.tell_all.new.followers (omega (arith, c.tell_all.auto.followers, c.as_mut_slice.ensures.len)))) c.in_ok-none.ensures.told
+
+pub returns-in_err-none-clause-memory : goal.returns-in_err-none-clause-memory
+returns-in_err-none-clause-memory g c =
+    let s0 : SubState = record { ins = c.self.inside.ins; wanted = c.self.inside.wanted; followers = rows_of c.self.inside.followers.items } in
+    on_err c.from_residual.result _
+    (StopsTelling-rows g.E.Peers.runs (g.E.Peers.end_at c.args.peers.now) (g.E.Peers.writable c.args.peers.now) c.args.peers.now c.tell_all.new.peers s0 c.args.self.now c.self.view_is _ _ _
+    (ap rows_of c.as_mut_slice.ensures.value)
+    (ap rows_of (with_items_is c.self.inside.followers c.tell_all.new.followers (omega (arith, c.tell_all.auto.followers, c.as_mut_slice.ensures.len)))) c.in_err-none.ensures.memory)

@@ -1,8 +1,8 @@
-use Rattle.std.proofs.Common.{◌∷◌, ℕ, All, List, sym, ap, subst, ◌∙◌, arith, rules}
+use Rattle.std.proofs.Common.{◌∷◌, ℕ, All, Contains, List, sym, ap, subst, ◌∙◌, arith, rules}
 use Rattle.spec_pattern.specs.TurnList.{End}
 use Rattle.msg_pipe.proofs.TurnsLemmas.{All-middle}
 use Rattle.req_rep.specs.Asking.{ReqState}
-use Rattle.req_rep.specs.Partners.{IsReq}
+use Rattle.req_rep.specs.Partners.{IsReq, IsAt}
 use Rattle.req_rep.specs.contracts.req.Req.{the_view}
 use Rattle.req_rep.proofs.PartnersLemmas.{IsReq-asked}
 use Rattle.req_rep.proofs.ReqLemmas.{ReqSent-put, ReqSent-full, ReqSent-peerless}
@@ -44,3 +44,21 @@ returns-in-NoPeer-clause-step g c =
     (g.E.Peers.writable c.args.peers.now) (search rules) c.args.message c.push_front.new.self
     (c.in-Ok.ensures.ok ∙ ap (λ (f : List ℕ). f ∷ c.args.message) (c.of_bytes.ensures ∙ c.new.ensures)) (omega arith) c.next_out.new.turns
     g.met.E.Peers.runs_none c.in-NoPeer.back c.in-NoPeer.ensures.next
+
+pub returns-then-not-is_nobody-clause-partner : goal.returns-then-not-is_nobody-clause-partner
+returns-then-not-is_nobody-clause-partner g c = subst (λ (s : ReqState). IsAt (Contains s.ins) s.asked) c.self.view_is c.self.invariant.peer
+
+pub returns-then-len-ge-MAX_COMMITTED-clause-partner : goal.returns-then-len-ge-MAX_COMMITTED-clause-partner
+returns-then-len-ge-MAX_COMMITTED-clause-partner g c = subst (λ (s : ReqState). IsAt (Contains s.ins) s.asked) c.self.view_is c.self.invariant.peer
+
+pub returns-in_default-clause-partner : goal.returns-in_default-clause-partner
+returns-in_default-clause-partner g c = subst (λ (s : ReqState). IsAt (Contains s.ins) s.asked) c.self.view_is c.self.invariant.peer
+
+pub returns-in-AllFull-clause-partner : goal.returns-in-AllFull-clause-partner
+returns-in-AllFull-clause-partner g c = subst (λ (s : ReqState). IsAt (Contains s.ins) s.asked) c.self.view_is c.self.invariant.peer
+
+pub returns-in-NoPeer-clause-partner : goal.returns-in-NoPeer-clause-partner
+returns-in-NoPeer-clause-partner g c = subst (λ (s : ReqState). IsAt (Contains s.ins) s.asked) c.self.view_is c.self.invariant.peer
+
+pub returns-in-Put-clause-partner : goal.returns-in-Put-clause-partner
+returns-in-Put-clause-partner g c = subst (λ (s : ReqState). IsAt (Contains s.ins) s.asked) c.self.view_is c.self.invariant.peer
