@@ -4,7 +4,7 @@ ghost use Rattle.run_script.specs.RunGrammar.{ending_verb};
 use zq_script::same_text;
 
 /// What a line asks over sockets that end alone.
-#[derive(Clone, Copy, Debug)]
+#[derive(Clone, Copy)]
 pub(crate) enum EndingVerb {
     Unbind,
     Disconnect,

@@ -24,7 +24,7 @@ pub enum Answer {
 
 /// What became of the messages of a pipe: how many were committed, and how many of these were given to
 /// the application, heard as subscriptions, dropped by a rule, written to a link, lost, and left.
-#[derive(Clone, Copy, PartialEq, Eq)]
+#[derive(Clone, Copy)]
 pub struct PipeRow {
     pub pipe: PipeId,
     pub sent: u64,

@@ -1,7 +1,7 @@
 use spec_zmtp::Cause;
 
 /// Why a link ended.
-#[derive(Clone, Copy, PartialEq, Eq)]
+#[derive(Clone, Copy)]
 pub enum LinkEnd {
     /// A read or a write answered that it had ended.
     Ended,
@@ -12,7 +12,7 @@ pub enum LinkEnd {
 }
 
 /// What a session did, over all its links.
-#[derive(Clone, Copy, PartialEq, Eq)]
+#[derive(Clone, Copy)]
 pub struct SessionRow {
     /// The links that it was given.
     pub links: u64,
@@ -25,7 +25,7 @@ pub struct SessionRow {
 }
 
 /// What a listener did.
-#[derive(Clone, Copy, PartialEq, Eq)]
+#[derive(Clone, Copy)]
 pub struct ListenerRow {
     /// The accepts whose session was made.
     pub accepted: u64,

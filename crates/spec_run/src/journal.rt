@@ -32,21 +32,21 @@ pub struct ActorLines {
 }
 
 /// An object and what it is.
-#[derive(Clone, Copy, PartialEq, Eq)]
+#[derive(Clone, Copy)]
 pub struct ObjectLine {
     pub object: ObjId,
     pub kind: ObjKind,
 }
 
 /// What became of the messages of a pipe that was settled, and why the end that read it was asked.
-#[derive(Clone, Copy, PartialEq, Eq)]
+#[derive(Clone, Copy)]
 pub struct SettledRow {
     pub counts: PipeRow,
     pub reason: Option<Reason>,
 }
 
 /// What an object is, and whether it has ended.
-#[derive(Clone, Copy, PartialEq, Eq)]
+#[derive(Clone, Copy)]
 pub struct ObjectRow {
     pub kind: ObjKind,
     pub ended: bool,

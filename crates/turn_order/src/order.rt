@@ -6,7 +6,7 @@ use std::alloc::{AllocError, Global};
 
 /// Draws the order in which the workers step, turn by turn: `drawn` is the last number drawn, at
 /// first the seed.
-#[derive(Clone, Copy, Debug, PartialEq, Eq)]
+#[derive(Clone, Copy, Debug)]
 pub struct Order {
     pub seed: u64,
     pub drawn: u64,

@@ -48,8 +48,8 @@ impl Engine {
         ensures follows { IfOk result (λ e. Follows (no_past opts) e) }
         ensures current { IfOk result (λ e. IsCurrent e) }
     {
-        let stream = StreamDecoder::new(alloc, &opts)?;
         let mut writer = Writer::new(alloc)?;
+        let stream = StreamDecoder::new(alloc, &opts)?;
         writer.begin(stream.said());
         Ok(Engine { stream, writer })
     }

@@ -48,8 +48,8 @@ impl TrafficDecoder {
         ensures hears { IfOk result (λ h. Hears opts.now [] [] (hearing_of h)) }
         ensures settled { IfOk result (λ h. IsSettled (hearing_of h)) }
     {
-        let mut mech = mechanism(alloc, opts)?;
         let mut said = BytesMut::with_capacity(alloc, 2048)?;
+        let mut mech = mechanism(alloc, opts)?;
         let greeting = Greeting { role: opts.role };
         said.extend_reserved(&greeting.write());
         let first = mech.first(alloc)?;

@@ -7,7 +7,7 @@ use spec_zmtp::FrameKind;
 use std::marker::Model;
 
 /// The head of a frame: its flags octet and its size.
-#[derive(Clone, Copy, Debug)]
+#[derive(Clone, Copy)]
 pub struct Head {
     octets: [u8; 9],
     len: usize,

@@ -1,7 +1,7 @@
 use spec_zmtp::FrameKind;
 
 /// What a step of reading tells.
-#[derive(Clone, Copy, Debug, PartialEq, Eq)]
+#[derive(Clone, Copy, PartialEq, Eq)]
 pub enum Step {
     NeedMore,
     /// The kind and the size of the frame that begins.

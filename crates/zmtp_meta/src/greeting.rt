@@ -1,4 +1,5 @@
-ghost use Rattle.std.specs.Prelude.{◌≡◌};
+ghost use Rattle.std.specs.Prelude.{◌≡◌, ◌&&◌, ◌==◌, not, nat_eq, nat_le, length, drop, slice_index};
+ghost use Rattle.std.specs.List.{starts_with};
 ghost use Rattle.spec_zmtp.specs.Greeting.{greeting_of, mechanism_of, judged};
 
 use spec_zmtp::Judgement;
@@ -24,6 +25,28 @@ fn mechanism(role: Role) -> [u8; 20]
     }
 }
 
+// Whether the first octet is there and is another.
+fn has_bad_first(octets: &[u8]) -> bool
+    ensures { result ≡ (nat_le 10 (length octets.now) && not (slice_index octets.now 0 == 255)) }
+{
+    octets.len() >= 10 && octets[0] != 255
+}
+
+// Whether the tenth octet is there and is another.
+fn has_bad_tenth(octets: &[u8]) -> bool
+    ensures { result ≡ (nat_le 10 (length octets.now) && not (slice_index octets.now 9 == 127)) }
+{
+    octets.len() >= 10 && octets[9] != 127
+}
+
+// Whether a mechanism is there and is another.
+fn has_other_mechanism(role: Role, octets: &[u8]) -> bool
+    ensures { result ≡ (nat_le 32 (length octets.now)
+        && not (starts_with nat_eq (drop 12 octets.now) (mechanism_of role))) }
+{
+    octets.len() >= 32 && !octets[12..].starts_with(&mechanism(role))
+}
+
 impl Greeting {
     /// The octets that this side writes, all at once.
     pub fn write(&self) -> [u8; 64]
@@ -46,18 +69,16 @@ impl Greeting {
     pub fn read(&self, octets: &[u8]) -> Judgement
         ensures { result ≡ judged self.now.role octets.now }
     {
-        if octets.len() >= 10 {
-            if octets[0] != 255 {
-                return Judgement::BadSignature(0);
-            }
-            if octets[9] != 127 {
-                return Judgement::BadSignature(9);
-            }
+        if has_bad_first(octets) {
+            return Judgement::BadSignature(0);
+        }
+        if has_bad_tenth(octets) {
+            return Judgement::BadSignature(9);
         }
         if octets.len() >= 11 && octets[10] < 3 {
             return Judgement::OldVersion(octets[10]);
         }
-        if octets.len() >= 32 && !octets[12..].starts_with(&mechanism(self.role)) {
+        if has_other_mechanism(self.role, octets) {
             return Judgement::OtherMechanism;
         }
         if octets.len() < 64 {

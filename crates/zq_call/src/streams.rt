@@ -9,7 +9,7 @@ use std::alloc::{AllocError, Global};
 use zq_outer::{Got, Put, Sink, Source};
 
 /// Why a source wasn't read to its end.
-#[derive(Clone, Copy, Debug, PartialEq, Eq)]
+#[derive(Clone, Copy)]
 pub(crate) enum ReadError {
     Failed,
     OutOfMemory,

@@ -69,6 +69,20 @@ fn push_heard(alloc: Global, out: &mut Vec<u8>, engine: &mut Engine) -> Result<b
     Ok(refused)
 }
 
+// What is told of an engine of which nothing was told.
+fn tell(alloc: Global, engine: &mut Engine) -> Result<Heard, AllocError>
+    requires hears { (t : Told) × Tells t engine.old × IsUntold t }
+    ensures { IfOk result (λ heard. (t : Told) → Tells t engine.old → IsUntold t →
+        (heard.text ≡ hear_text t.opts t.means) × (heard.refused ≡ is_refused t.means.outcome)) }
+{
+    let mut text = Vec::new(alloc);
+    let refused = push_heard(alloc, &mut text, engine)?;
+    Ok(Heard {
+        text: Octets::of_vec(text),
+        refused,
+    })
+}
+
 /// Hears all octets of a peer as a socket of this kind: without security (RFC 23, NULL), or as a PLAIN server (RFC 24)
 /// that accepts this one login, of at most 255 octets each. Fails for want of memory alone.
 pub fn hear(
@@ -82,10 +96,5 @@ pub fn hear(
 {
     let opts = options(alloc, kind, login)?;
     let mut engine = listen(alloc, opts, octets)?;
-    let mut text = Vec::new(alloc);
-    let refused = push_heard(alloc, &mut text, &mut engine)?;
-    Ok(Heard {
-        text: Octets::of_vec(text),
-        refused,
-    })
+    tell(alloc, &mut engine)
 }

@@ -1,12 +1,15 @@
 ghost use Rattle.std.specs.Prelude.{◌≡◌, ◌++◌, OnOk, codes, decimal};
 ghost use Rattle.spec_journal.specs.Text.{answer_text, send_refusal_text, recv_refusal_text, rule_text, skip_text, skips_text};
+ghost use Rattle.spec_journal.specs.declared.journal.Answer.TheVariants.{Got};
 
 use crate::part::push_parts;
 use crate::report::push_report;
+use crate::row::push_count;
 use itoa::Buffer;
 use spec_journal::Answer;
 use spec_pattern::{RecvRefusal, Rule, SendRefusal, Skip};
 use std::alloc::{AllocError, Global};
+use zq_base::{Message, PairId};
 
 /// Appends a number in decimal digits.
 pub fn push_number(out: &mut Vec<u8>, number: u64) -> Result<(), AllocError>
@@ -59,15 +62,33 @@ fn rule_name(rule: Rule) -> &'static [u8]
     }
 }
 
+// Appends a rule behind what goes before it.
+fn push_rule(out: &mut Vec<u8>, before: &[u8], rule: Rule) -> Result<(), AllocError>
+    ensures { OnOk result (out.new.items ≡ out.old.items ++ before.now ++ rule_text rule) }
+{
+    out.extend_from_slice(before)?;
+    out.extend_from_slice(rule_name(rule))
+}
+
+// Appends a message that was received, and from which pair.
+fn push_got(
+    alloc: Global,
+    out: &mut Vec<u8>,
+    pair: PairId,
+    message: &Message,
+) -> Result<(), AllocError>
+    ensures { OnOk result (out.new.items ≡ out.old.items ++ answer_text (Got pair message.now)) }
+{
+    push_count(out, b"msg p", u64::from(pair.0))?;
+    push_parts(alloc, out, message)
+}
+
 /// Appends what a line was answered.
 pub fn push_answer(alloc: Global, out: &mut Vec<u8>, answer: &Answer) -> Result<(), AllocError>
     ensures { OnOk result (out.new.items ≡ out.old.items ++ answer_text answer.now) }
 {
     match answer {
-        Answer::Object(object) => {
-            out.extend_from_slice(b"ok o")?;
-            push_number(out, u64::from(object.0))
-        }
+        Answer::Object(object) => push_count(out, b"ok o", u64::from(object.0)),
         Answer::Done => out.extend_from_slice(b"ok"),
         Answer::Wait => out.extend_from_slice(b"wait"),
         Answer::NoSocket => out.extend_from_slice(b"nosock"),
@@ -77,20 +98,10 @@ pub fn push_answer(alloc: Global, out: &mut Vec<u8>, answer: &Answer) -> Result<
         Answer::TooMany => out.extend_from_slice(b"toomany"),
         Answer::Limit => out.extend_from_slice(b"limit"),
         Answer::NotSub => out.extend_from_slice(b"notsub"),
-        Answer::Pair(pair) => {
-            out.extend_from_slice(b"ok p")?;
-            push_number(out, u64::from(pair.0))
-        }
+        Answer::Pair(pair) => push_count(out, b"ok p", u64::from(pair.0)),
         Answer::Many(report) => push_report(out, report),
-        Answer::Got(pair, message) => {
-            out.extend_from_slice(b"msg p")?;
-            push_number(out, u64::from(pair.0))?;
-            push_parts(alloc, out, message)
-        }
-        Answer::Dropped(rule) => {
-            out.extend_from_slice(b"drop ")?;
-            out.extend_from_slice(rule_name(*rule))
-        }
+        Answer::Got(pair, message) => push_got(alloc, out, *pair, message),
+        Answer::Dropped(rule) => push_rule(out, b"drop ", *rule),
         Answer::NotSent(refusal) => out.extend_from_slice(send_refusal_name(*refusal)),
         Answer::NotReceived(refusal) => out.extend_from_slice(recv_refusal_name(*refusal)),
     }
@@ -100,10 +111,8 @@ pub fn push_answer(alloc: Global, out: &mut Vec<u8>, answer: &Answer) -> Result<
 fn push_skip(out: &mut Vec<u8>, skip: &Skip) -> Result<(), AllocError>
     ensures { OnOk result (out.new.items ≡ out.old.items ++ skip_text skip.now) }
 {
-    out.extend_from_slice(b" !")?;
-    out.extend_from_slice(rule_name(skip.rule))?;
-    out.extend_from_slice(b"@p")?;
-    push_number(out, u64::from(skip.pair.0))
+    push_rule(out, b" !", skip.rule)?;
+    push_count(out, b"@p", u64::from(skip.pair.0))
 }
 
 /// Appends the messages that were dropped, each behind a space.
@@ -122,7 +131,6 @@ pub fn push_place(out: &mut Vec<u8>, name: &[u8], line: u32) -> Result<(), Alloc
         out.old.items ++ name.now ++ codes " " ++ decimal line ++ codes " ") }
 {
     out.extend_from_slice(name)?;
-    out.extend_from_slice(b" ")?;
-    push_number(out, u64::from(line))?;
+    push_count(out, b" ", u64::from(line))?;
     out.extend_from_slice(b" ")
 }

@@ -1,7 +1,7 @@
 ghost use Rattle.std.specs.Prelude.{◌≡◌, ◌++◌, OnOk};
 ghost use Rattle.spec_journal.specs.Text.{full_text, others_text, pairs_text, report_text};
 
-use crate::entry::push_number;
+use crate::row::push_count;
 use spec_pattern::Report;
 use std::alloc::AllocError;
 use zq_base::PairId;
@@ -11,8 +11,7 @@ fn push_others(out: &mut Vec<u8>, pairs: &[PairId]) -> Result<(), AllocError>
     ensures { OnOk result (out.new.items ≡ out.old.items ++ others_text pairs.now) }
 {
     for pair in pairs {
-        out.extend_from_slice(b",p")?;
-        push_number(out, u64::from(pair.0))?;
+        push_count(out, b",p", u64::from(pair.0))?;
     }
     Ok(())
 }
@@ -24,8 +23,7 @@ fn push_pairs(out: &mut Vec<u8>, pairs: &[PairId]) -> Result<(), AllocError>
     let Some((first, others)) = pairs.split_first() else {
         return Ok(());
     };
-    out.extend_from_slice(b"p")?;
-    push_number(out, u64::from(first.0))?;
+    push_count(out, b"p", u64::from(first.0))?;
     push_others(out, others)
 }
 

@@ -10,8 +10,7 @@ use std::alloc::AllocError;
 pub fn push_pipe(out: &mut Vec<u8>, pipe: &PipeId) -> Result<(), AllocError>
     ensures { OnOk result (out.new.items ≡ out.old.items ++ pipe_text pipe.now) }
 {
-    out.extend_from_slice(b"p")?;
-    push_number(out, u64::from(pipe.pair.0))?;
+    push_count(out, b"p", u64::from(pipe.pair.0))?;
     out.extend_from_slice(if pipe.a { b"a" } else { b"b" })
 }
 

@@ -7,7 +7,7 @@ use std::sync::atomic::Ordering::SeqCst;
 use zq_base::Seq;
 
 /// What is to become of a call.
-#[derive(Clone, Copy, Debug, PartialEq, Eq)]
+#[derive(Clone, Copy)]
 pub(crate) enum Planned {
     Goes,
     Stalls,

@@ -1,4 +1,4 @@
-ghost use Rattle.std.specs.Prelude.{◌≡◌, ◌↔◌, [], None, IfOk, length};
+ghost use Rattle.std.specs.Prelude.{◌≡◌, ◌↔◌, ◌<◌, [], None, IfOk, IfSome, length};
 ghost use Rattle.std.specs.Arc.{arc_value};
 ghost use Rattle.zq_outer.specs.Plan.{number_after, cut_of, IsToFail, IsToStall};
 ghost use Rattle.zq_outer.specs.Mates.{heard_at, said_at, cut_at};
@@ -16,6 +16,11 @@ use zq_base::{Address, Seq};
 // Room for so many octets each way of a link.
 const ROOM: usize = 65_536;
 
+// What stands at an address.
+trait AtAddress {
+    fn at(&self) -> &Address;
+}
+
 // Who listens at an address.
 #[derive(Drop)]
 struct Listener {
@@ -29,6 +34,31 @@ struct Waiting {
     at: Address,
     link: MemLink,
     ghost unsaid: { (heard_at link ≡ []) × (said_at link ≡ []) },
+}
+
+impl AtAddress for MemPeer {
+    fn at(&self) -> &Address {
+        &self.at
+    }
+}
+
+impl AtAddress for Listener {
+    fn at(&self) -> &Address {
+        &self.at
+    }
+}
+
+impl AtAddress for Waiting {
+    fn at(&self) -> &Address {
+        &self.at
+    }
+}
+
+// The place of the first of these that stands at an address.
+fn first_at<T: AtAddress>(rows: &[T], at: &Address) -> Option<usize>
+    ensures { IfSome result (λ n. n < length rows.now) }
+{
+    rows.iter().position(|row| row.at() == at)
 }
 
 /// A host of links in memory, whose calls go by a plan. Want of memory is a fault, too.
@@ -118,17 +148,25 @@ impl MemHost {
         ensures unsaid { IfOk result (λ found. IfSome found (λ l. (heard_at l ≡ []) × (said_at l ≡ []) × (cut_at l ≡ None))) }
         ensures others { self.new ≡ self.old }
     {
-        let Some(n) = self.peers.iter().position(|peer| peer.at == *at) else {
+        let Some(n) = first_at(&self.peers, at) else {
             return Ok(None);
         };
         self.far_ends.reserve(1)?;
+        let (near, far) = self.ends_to(&self.peers[n])?;
+        self.far_ends.push_reserved(far);
+        drop(self.peers.remove(n));
+        Ok(Some(near))
+    }
+
+    // Both ends of a link to a peer, of which this side's goes by the plan.
+    fn ends_to(&self, peer: &MemPeer) -> Result<(MemLink, MemLink), AllocError>
+        ensures { IfOk result (λ r. (heard_at r.0 ≡ []) × (said_at r.0 ≡ []) × (cut_at r.0 ≡ None)) }
+    {
         let calls = Arc::try_clone(&self.calls)?;
-        let pieces = self.peers[n].pieces.as_slice();
+        let pieces = peer.pieces.as_slice();
         let (mut near, far) = peer_link(self.alloc, pieces, ROOM, self.most)?;
         near.follow(calls);
-        self.far_ends.push_reserved(far);
-        let _ = self.peers.remove(n);
-        Ok(Some(near))
+        Ok((near, far))
     }
 
     // The link to a listener at an address, whose other end waits for an accept.
@@ -136,15 +174,26 @@ impl MemHost {
         ensures unsaid { IfOk result (λ found. IfSome found (λ l. (heard_at l ≡ []) × (said_at l ≡ []) × (cut_at l ≡ None))) }
         ensures others { self.new ≡ self.old }
     {
-        if !self.listeners.iter().any(|listener| listener.at == *at) {
+        if first_at(&self.listeners, at).is_none() {
             return Ok(None);
         }
         self.waiting.reserve(1)?;
-        let (mut near, mut far) = MemLink::pair(self.alloc, ROOM, self.most)?;
-        near.follow(Arc::try_clone(&self.calls)?);
-        far.follow(Arc::try_clone(&self.calls)?);
+        let (near, far) = self.planned_pair()?;
         self.waiting.push_reserved(Waiting { at: *at, link: far });
         Ok(Some(near))
+    }
+
+    // Both ends of a link of this host, which go by the plan.
+    fn planned_pair(&self) -> Result<(MemLink, MemLink), AllocError>
+        ensures near { IfOk result (λ r. (heard_at r.0 ≡ []) × (said_at r.0 ≡ []) × (cut_at r.0 ≡ None)) }
+        ensures far { IfOk result (λ r. (heard_at r.1 ≡ []) × (said_at r.1 ≡ [])) }
+    {
+        let near_calls = Arc::try_clone(&self.calls)?;
+        let far_calls = Arc::try_clone(&self.calls)?;
+        let (mut near, mut far) = MemLink::pair(self.alloc, ROOM, self.most)?;
+        near.follow(near_calls);
+        far.follow(far_calls);
+        Ok((near, far))
     }
 
     // The link of a connect: to a peer, or else to a listener.
@@ -163,7 +212,7 @@ impl MemHost {
         ensures unsaid { IfSome result (λ l. (heard_at l ≡ []) × (said_at l ≡ [])) }
         ensures others { self.new ≡ self.old }
     {
-        let n = self.waiting.iter().position(|waiting| waiting.at == *at)?;
+        let n = first_at(&self.waiting, at)?;
         let waiting = self.waiting.remove(n);
         Some(waiting.link)
     }
@@ -207,19 +256,31 @@ impl MemHost {
         match self.dialled(to) {
             Ok(Some(mut link)) => {
                 self.links = self.links.saturating_add(1);
-                if let Some(octets) = find_cut(self.cuts.as_slice(), self.links) {
-                    link.cut_after(octets);
-                }
+                self.cut(&mut link);
                 Dialled::Linked(link)
             }
             Ok(None) | Err(_) => self.fail(),
         }
     }
 
+    // Cuts the newest link where the plan has it.
+    fn cut(&self, link: &mut MemLink)
+        ensures octets { (heard_at link.new ≡ heard_at link.old) × (said_at link.new ≡ said_at link.old) }
+        ensures cut { said_at link.old ≡ [] → cut_at link.old ≡ None → cut_at link.new ≡ cut_of self.now.cuts self.now.links }
+    {
+        if let Some(octets) = find_cut(self.cuts.as_slice(), self.links) {
+            link.cut_after(octets);
+        }
+    }
+
     // Where a listener listens.
     fn address_of(&self, key: u32) -> Option<Address> {
-        let listener = self.listeners.iter().find(|listener| listener.key == key)?;
-        Some(listener.at)
+        for listener in &self.listeners {
+            if listener.key == key {
+                return Some(listener.at);
+            }
+        }
+        None
     }
 
     // Counts a fault.
@@ -264,7 +325,9 @@ impl Host for MemHost {
     {
         self.listens = self.listens.saturating_add(1);
         let planned = self.calls.planned(CallKind::Listen, self.listens);
-        if planned == Planned::Fails || self.listeners.push(Listener { key, at: *at }).is_err() {
+        if matches!(planned, Planned::Fails)
+            || self.listeners.push(Listener { key, at: *at }).is_err()
+        {
             self.faults = self.faults.saturating_add(1);
             return Listened::Failed;
         }

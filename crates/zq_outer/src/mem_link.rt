@@ -31,6 +31,13 @@ pub struct MemLink {
     ends: u64,
 }
 
+// One mark for both ends.
+fn two_marks(alloc: Global) -> Result<(Arc<AtomicBool>, Arc<AtomicBool>), AllocError> {
+    let mark = Arc::new(alloc, AtomicBool::new(false))?;
+    let same = Arc::try_clone(&mark)?;
+    Ok((mark, same))
+}
+
 impl MemLink {
     /// Two ends, with room for so many octets each way. A call moves at most so many.
     pub fn pair(alloc: Global, room: usize, most: usize) -> Result<(MemLink, MemLink), AllocError>
@@ -40,11 +47,11 @@ impl MemLink {
         ensures second { IfOk result (λ r. (heard_at r.1 ≡ []) × (said_at r.1 ≡ [])) }
         ensures uncut { IfOk result (λ r. (cut_at r.0 ≡ None) × (cut_at r.1 ≡ None)) }
     {
+        let (is_cut, is_cut_too) = two_marks(alloc)?;
         let (there, there_end) = RingBuffer::new(alloc, room)?;
         let (back, back_end) = RingBuffer::new(alloc, room)?;
-        let is_cut = Arc::new(alloc, AtomicBool::new(false))?;
-        let near = MemLink::end(there, back_end, most, Arc::try_clone(&is_cut)?);
-        let far = MemLink::end(back, there_end, most, is_cut);
+        let near = MemLink::end(there, back_end, most, is_cut);
+        let far = MemLink::end(back, there_end, most, is_cut_too);
         Ok((near, far))
     }
 

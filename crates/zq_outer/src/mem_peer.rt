@@ -18,10 +18,33 @@ pub(crate) fn peer_link(
     ensures octets { IfOk result (λ r. (heard_at r.0 ≡ []) × (said_at r.0 ≡ [])) }
     ensures uncut { IfOk result (λ r. cut_at r.0 ≡ None) }
 {
-    let mut octets = Vec::new(alloc);
+    let pace = Pace::new(gaps_of(alloc, pieces)?);
+    let (mut near, mut far) = MemLink::pair(alloc, count_octets(pieces).max(room), most)?;
+    say_all(&mut far, pieces);
+    near.follow_pace(pace);
+    Ok((near, far))
+}
+
+// How many octets a peer says.
+fn count_octets(pieces: &[Piece]) -> usize {
+    let mut count: usize = 0;
+    for piece in pieces {
+        count = count.saturating_add(piece.octets.len());
+    }
+    count
+}
+
+// Says all that a peer says.
+fn say_all(far: &mut MemLink, pieces: &[Piece]) {
+    for piece in pieces {
+        far.say(piece.octets.as_slice());
+    }
+}
+
+// When the octets of a peer come.
+fn gaps_of(alloc: Global, pieces: &[Piece]) -> Result<VecDeque<Gap>, AllocError> {
     let mut gaps = VecDeque::new(alloc);
     for piece in pieces {
-        octets.extend_from_slice(piece.octets.as_slice())?;
         let gap = Gap {
             stalls: piece.stalls,
             octets: piece.octets.len(),
@@ -30,8 +53,5 @@ pub(crate) fn peer_link(
             gaps.push_back(gap)?;
         }
     }
-    let (mut near, mut far) = MemLink::pair(alloc, octets.len().max(room), most)?;
-    far.say(&octets);
-    near.follow_pace(Pace::new(gaps));
-    Ok((near, far))
+    Ok(gaps)
 }

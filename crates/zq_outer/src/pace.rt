@@ -5,7 +5,7 @@ use std::collections::VecDeque;
 use std::marker::Model;
 
 /// So many reads stall, and then so many octets come.
-#[derive(Clone, Copy, Debug, PartialEq, Eq)]
+#[derive(Clone, Copy)]
 pub(crate) struct Gap {
     pub stalls: u64,
     pub octets: usize,

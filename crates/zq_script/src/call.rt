@@ -8,7 +8,7 @@ use crate::part::{read_message, read_topic};
 use crate::script::Call;
 use crate::topic::Topic;
 use crate::verb::SocketVerb;
-use crate::words::{first_word, line_end};
+use crate::words::{first_word, last_value, line_end};
 use std::alloc::Global;
 use zq_base::{Endpoint, number_in};
 
@@ -18,9 +18,7 @@ pub fn read_last_endpoint(alloc: Global, words: &[&[u8]]) -> Result<Endpoint, Li
     ensures { Gives result (last_endpoint (map (λ x. x.now) words.now)) }
 {
     let (word, rest) = first_word(words)?;
-    let endpoint = read_endpoint(alloc, word)?;
-    line_end(rest)?;
-    Ok(endpoint)
+    last_value(read_endpoint(alloc, word)?, rest)
 }
 
 // The topic that ends a line.
@@ -29,9 +27,7 @@ fn read_last_topic(alloc: Global, words: &[&[u8]]) -> Result<Topic, LineError>
     ensures { Gives result (last_part (map (λ x. x.now) words.now)) }
 {
     let (word, rest) = first_word(words)?;
-    let topic = read_topic(alloc, word)?;
-    line_end(rest)?;
-    Ok(topic)
+    last_value(read_topic(alloc, word)?, rest)
 }
 
 // A number of tries.

@@ -12,7 +12,7 @@ use crate::options::read_options;
 use crate::script::{Call, Line};
 use crate::statement::Statement;
 use crate::verb::{SocketVerb, Verb};
-use crate::words::{first_word, line_end};
+use crate::words::{first_word, last_value};
 use std::alloc::Global;
 use zq_base::{Kind, Octets};
 
@@ -90,8 +90,7 @@ fn read_actor(alloc: Global, known: &Known, words: &[&[u8]]) -> Result<Statement
     room_for_actor(known)?;
     let (word, rest) = first_word(words)?;
     let name = read_new_name(alloc, known.has_actor(word), word)?;
-    line_end(rest)?;
-    Ok(Statement::Actor(name))
+    Ok(Statement::Actor(last_value(name, rest)?))
 }
 
 // `socket S KIND OPT..`

@@ -5,7 +5,7 @@ use crate::fault::{Cause, LineError};
 use crate::words::same_text;
 
 /// What the first word of a line asks.
-#[derive(Clone, Copy, Debug)]
+#[derive(Clone, Copy)]
 pub(crate) enum Verb {
     Actor,
     Socket,
@@ -13,7 +13,7 @@ pub(crate) enum Verb {
 }
 
 /// What a line asks of a socket.
-#[derive(Clone, Copy, Debug)]
+#[derive(Clone, Copy)]
 pub(crate) enum SocketVerb {
     Bind,
     Connect,

@@ -1,7 +1,7 @@
 ghost use Rattle.std.specs.Prelude.{◌≡◌, ℕ, List, Ok, Err, IfOk, IfErr, map, filter, nat_eq};
 ghost use Rattle.std.specs.List.{slice_split};
 ghost use Rattle.std.specs.Str.{bytes_eq};
-ghost use Rattle.zq_script.specs.Answer.{Gives};
+ghost use Rattle.zq_script.specs.Answer.{Gives, ◌>>=◌ as and_then};
 ghost use Rattle.zq_script.specs.Grammar.{first_word, line_end};
 ghost use Rattle.zq_script.specs.Words.{Words, lines_of, words_of, is_skipped};
 
@@ -88,6 +88,19 @@ pub fn line_end(words: &[&[u8]]) -> Result<(), LineError>
         Ok(())
     } else {
         Err(LineError::Fault(Cause::BadWord))
+    }
+}
+
+/// The value of a line's last word, where no more words follow.
+pub(crate) fn last_value<T: Drop>(value: T, rest: &[&[u8]]) -> Result<T, LineError>
+    ensures { Gives result (and_then (line_end (map (λ x. x.now) rest.now)) (λ _. Ok value)) }
+{
+    match line_end(rest) {
+        Ok(()) => Ok(value),
+        Err(error) => {
+            drop(value);
+            Err(error)
+        }
     }
 }
 

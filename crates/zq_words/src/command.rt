@@ -1,6 +1,6 @@
 //! The command line as clap reads it.
 ghost use Rattle.std.specs.Prelude.{◌≡◌, ◌≢◌, [], IfOk, MatchOption, false, map, option_copied, string_bytes};
-ghost use Rattle.clap.specs.Words.{app_of, fault_of, first_of, found_of, rows_of, rule_of, subcommand_of, subcommand_rows_of};
+ghost use Rattle.clap.specs.Words.{app_of, fault_of, first_of, found_of, rows_of, rule_of, subcommand_of, subcommand_rows_of, with_subcommand};
 ghost use Rattle.clap.specs.declared.builder.Command.TheViews.{out-Command};
 ghost use Rattle.zq_words.specs.Words.{option_of, run_command, hear_command, program};
 
@@ -39,9 +39,20 @@ fn program<'a>(alloc: Global) -> Result<Command<'a>, AllocError>
     ensures { IfOk result (λ c. app_of c ≡ program) }
 {
     let run = run_command(alloc)?;
-    let hear = hear_command(alloc)?;
-    let with_run = Command::new(alloc, "zbus").subcommand(run)?;
-    with_run.subcommand(hear)
+    with_hear(alloc, Command::new(alloc, "zbus").subcommand(run)?)
+}
+
+// The command with `hear` as one more of its commands.
+fn with_hear<'a>(alloc: Global, command: Command<'a>) -> Result<Command<'a>, AllocError>
+    ensures { IfOk result (λ c. app_of c ≡ with_subcommand (app_of command.entry) hear_command.top) }
+{
+    match hear_command(alloc) {
+        Ok(hear) => command.subcommand(hear),
+        Err(error) => {
+            drop(command);
+            Err(error)
+        }
+    }
 }
 
 /// What clap finds in the words, or `None` where it finds a fault with them.

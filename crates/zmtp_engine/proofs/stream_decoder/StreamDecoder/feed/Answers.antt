@@ -1,6 +1,6 @@
 use Rattle.std.proofs.Common.{◌≡◌, ℕ, ◌+◌, ◌-◌, ◌≤◌, cond, ◌++◌, [], List, Option, None, Some, length, refl, sym, ◌∙◌, ap, subst, arith, take, drop}
-use Rattle.std.specs.Prelude.{is_none, IsSome}
-use Rattle.std.proofs.lemmas.List.{take_rest, drop_all, take-take, drop-take, append-nil, take-append-drop}
+use Rattle.std.specs.Prelude.{is_none, IsSome, IfSome}
+use Rattle.std.proofs.lemmas.List.{take_rest, drop_all, take-take, drop-take, append-nil, take-append-drop, length-drop}
 use Rattle.spec_zmtp.specs.declared.cause.Refusal.{Refusal}
 use Rattle.zmtp_engine.specs.Hearing.{Hearing, Hears, IsSettledAt}
 use Rattle.zmtp_engine.specs.TrafficView.{hearing_of}
@@ -174,3 +174,60 @@ returns-in-Err-clause-listens c = λ opts octets given h.
     let open_ : mid.fault ≡ None = not_refused c.greet-count.new.self.fault (sym c.if-is_some-3.ensures) in
     greeting_goes_on opts octets piece part given old new mid k (not_refused c.args.self.now.fault (sym c.if-is_some.ensures)) h g refl refl refl open_ (λ lt. absurd (omega (arith, lt, c.if-len-lt64.false, c.len.ensures))) (take-take k (k + t) piece (omega arith))
     (λ more hears. subst (λ (l : List ℕ). Hears opts (more ++ l) given new.hearing) (part_of piece k t) (c.in-Err.ensures.hears opts more given (subst (λ (x : Hearing). Hears opts more given x) (sym g.hearing) hears)))
+
+-- ---- what is said of each way out
+
+pub returns-then-is_some-clause-room : goal.returns-then-is_some-clause-room
+returns-then-is_some-clause-room c = c.requires.room
+
+pub returns-then-is_some-2-clause-room : goal.returns-then-is_some-2-clause-room
+returns-then-is_some-2-clause-room c = c.requires.room
+
+pub returns-then-is_some-3-clause-room : goal.returns-then-is_some-3-clause-room
+returns-then-is_some-3-clause-room c = c.greet-count.ensures.room
+
+pub returns-then-len-lt64-clause-room : goal.returns-then-len-lt64-clause-room
+returns-then-len-lt64-clause-room c = c.greet-count.ensures.room
+
+pub returns-in-Ok-clause-room : goal.returns-in-Ok-clause-room
+returns-in-Ok-clause-room c = c.greet-count.ensures.room
+
+pub returns-in-Err-clause-room : goal.returns-in-Err-clause-room
+returns-in-Err-clause-room c = c.greet-count.ensures.room
+
+pub returns-then-is_some-3-clause-taken : goal.returns-then-is_some-3-clause-taken
+returns-then-is_some-3-clause-taken c = c.greet-count.ensures.greets.within
+
+pub returns-then-len-lt64-clause-taken : goal.returns-then-len-lt64-clause-taken
+returns-then-len-lt64-clause-taken c = c.greet-count.ensures.greets.within
+
+-- as much as is taken of what is behind the first octets is there
+all_within : (piece : List ℕ) (k t : ℕ) → k ≤ length piece → t ≤ length (take (length piece - k) (drop k piece)) → k + t ≤ length piece
+all_within piece k t front back =
+    let rest = ap (λ (l : List ℕ). length l) (take_rest piece k) in
+    let behind = length-drop k piece in
+    omega (arith, front, back, rest, behind)
+
+pub returns-in-Ok-clause-taken : goal.returns-in-Ok-clause-taken
+returns-in-Ok-clause-taken c = all_within c.args.piece.now c.greet-count.result c.in-Ok.taken c.greet-count.ensures.greets.within c.in-Ok.ensures.within
+
+pub returns-in-Err-clause-taken : goal.returns-in-Err-clause-taken
+returns-in-Err-clause-taken c = all_within c.args.piece.now c.greet-count.result c.in-Err.want.taken c.greet-count.ensures.greets.within c.in-Err.ensures.within
+
+-- nothing is said of a refusal where there is none
+unrefused : (P : Refusal → Type 0) (fault later : Option Refusal) → fault ≡ None → later ≡ None → IfSome (cond (is_none fault) later fault) P
+unrefused P None None e f = tt
+unrefused P None (Some r) e f = absurd cc
+unrefused P (Some r) later e f = absurd cc
+
+pub returns-then-is_some-3-clause-refused : goal.returns-then-is_some-3-clause-refused
+returns-then-is_some-3-clause-refused c = unrefused _ c.args.self.now.fault c.args.self.now.traffic.refused (not_refused c.args.self.now.fault (sym c.if-is_some.ensures)) (not_refused c.args.self.now.traffic.refused (sym c.if-is_some-2.ensures))
+
+pub returns-then-len-lt64-clause-refused : goal.returns-then-len-lt64-clause-refused
+returns-then-len-lt64-clause-refused c = unrefused _ c.args.self.now.fault c.args.self.now.traffic.refused (not_refused c.args.self.now.fault (sym c.if-is_some.ensures)) (not_refused c.args.self.now.traffic.refused (sym c.if-is_some-2.ensures))
+
+pub returns-in-Ok-clause-refused : goal.returns-in-Ok-clause-refused
+returns-in-Ok-clause-refused c = unrefused _ c.args.self.now.fault c.args.self.now.traffic.refused (not_refused c.args.self.now.fault (sym c.if-is_some.ensures)) (not_refused c.args.self.now.traffic.refused (sym c.if-is_some-2.ensures))
+
+pub returns-in-Err-clause-refused : goal.returns-in-Err-clause-refused
+returns-in-Err-clause-refused c = unrefused _ c.args.self.now.fault c.args.self.now.traffic.refused (not_refused c.args.self.now.fault (sym c.if-is_some.ensures)) (not_refused c.args.self.now.traffic.refused (sym c.if-is_some-2.ensures))
