@@ -4,3 +4,4 @@ pub mod PartLemmas
 pub mod SilentLemmas
 pub mod DropLemmas
 pub mod SayLemmas
+pub mod CountLemmas

@@ -1,6 +1,6 @@
 -- How the parts of a turn are made of their calls.
 use Rattle.std.proofs.Common.{◌≡◌, ℕ, Bool, true, false, List, [], ◌∷◌, ◌++◌, Option, Some, None, refl, sym, ap, subst, ◌∙◌, inl, inr}
-use Rattle.std.specs.Prelude.{◌⊎◌, MatchOption, IsSome, OnErr, Result, Ok, Err}
+use Rattle.std.specs.Prelude.{MatchOption, IsSome, OnErr, Result, Ok, Err}
 use Rattle.std.specs.Option.{option_to_list}
 use Rattle.std.proofs.lemmas.List.{append-nil}
 use Rattle.zmtp_engine.specs.Conversation.{waiting}
@@ -17,14 +17,12 @@ use Rattle.msg_pipe.specs.declared.pipes.PutIn.TheVariants as put_in
 use Rattle.msg_pipe.specs.declared.pipes.Taken.{Taken}
 use Rattle.msg_pipe.specs.declared.pipes.Taken.TheVariants as taken
 use Rattle.spec_link.specs.LinkAct.{LinkAct, Step}
-use Rattle.spec_link.specs.Parts.{NothingToWrite, SomethingToWrite, MayTake, NothingHeld, SomethingHeld, IsTake, IsWriteOver, PutsAll, WriteFits, ReadFits, puts, write_acts, read_acts}
+use Rattle.spec_link.specs.Parts.{NothingToWrite, SomethingToWrite, NothingHeld, SomethingHeld, IsTake, PutsAll, ReadFits, puts, read_acts}
 use Rattle.link_side.specs.declared.behind.Behind.{Behind}
-use Rattle.link_side.specs.declared.behind.Behind.TheVariants.{Nothing, Unsaid}
-use Rattle.link_side.specs.declared.wire.Fetched.{Fetched}
-use Rattle.link_side.specs.declared.write_part.Written.{Written}
+use Rattle.link_side.specs.declared.behind.Behind.TheVariants.{Nothing, Octets, Unsaid}
 use Rattle.link_side.specs.Kept.{Kept, Side, HasRun, IsAlive, IsAtRest, Acts, whole}
-use Rattle.link_side.specs.Calls.{Adds, TakeRun, PutRun, PutsRun, put_acts}
-use Rattle.link_side.specs.Works.{take_acts, fetched_of, WritesBy, ReadsBy, WantsBy}
+use Rattle.link_side.specs.Calls.{Adds, PutRun, PutsRun, put_acts}
+use Rattle.link_side.specs.Works.{ReadsBy, WantsBy}
 use Rattle.link_side.proofs.KeptLemmas.{acts_on, acts_same, stays_alive}
 use Rattle.link_side.proofs.RestLemmas.{nothing_held, something_held}
 
@@ -62,64 +60,6 @@ is_take pipe taken.Empty = inr (inl refl)
 is_take pipe taken.Delimiter = inr (inr refl)
 
 module _ {S O I N : Type 0} (K : Known S O I N) where
-  -- of a link that is over, or where no message may be taken
-  pub writes_alone : (old new : Kept) (put : Option LinkPut) (octets : List ℕ) (said said' : Option (List ℕ)) (s : S) (i : I) → Adds said octets said' → WriteFits put octets
-      → Acts old (write_acts put octets) new → WritesDue put old
-      → IsWriteOver put ⊎ ((opts : EngineOpts) (acts : List LinkAct) → HasRun opts acts new → MayTake opts acts → ⊥)
-      → WritesBy K old (record { put = put; look = None }) new said said' s i s i
-  writes_alone old new put octets said said' s i told fits f due stops =
-      let writes = write_acts put octets in
-      record {
-        octets = octets;
-        found = None;
-        fits = fits;
-        told = told;
-        look = refl;
-        took = (refl, refl);
-        run = λ _. acts_same old new writes (writes ++ []) (sym (append-nil writes)) f;
-        part = λ pipe opts acts r. record {
-          answer = put;
-          octets = octets;
-          takes = [];
-          all = refl;
-          fits = fits;
-          none = λ e. none_by put (NothingToWrite opts acts) (λ _. SomethingToWrite opts acts) e (due opts acts r);
-          some = λ e. some_by put (NothingToWrite opts acts) (SomethingToWrite opts acts) e (due opts acts r);
-          over = λ _. refl;
-          take = λ stands may. absurd (elim stops as (λ _. ⊥) [ inl over ↦ stands over | inr waits ↦ waits opts (acts ++ writes) (f opts acts r) may ]);
-          wait = λ _. refl;
-        };
-      }
-
-  -- with a take
-  pub writes_take : (old mid new : Kept) (put : Option LinkPut) (octets : List ℕ) (said said' : Option (List ℕ)) (s s' : S) (i i' : I) (found : Taken) (look : Fetched)
-      → Adds said octets said' → WriteFits put octets → Acts old (write_acts put octets) mid → ((pipe : PipeId) → Acts mid (Step (take_step pipe found) ∷ []) new) → TakeRun K s i found s' i' → look ≡ fetched_of found
-      → WritesDue put old → (IsWriteOver put → ⊥) → ((opts : EngineOpts) (acts : List LinkAct) → HasRun opts acts mid → MayTake opts acts)
-      → WritesBy K old (record { put = put; look = Some look }) new said said' s i s' i'
-  writes_take old mid new put octets said said' s s' i i' found look told fits f g takes is due stands may =
-      let writes = write_acts put octets in
-      record {
-        octets = octets;
-        found = Some found;
-        fits = fits;
-        told = told;
-        look = ap Some is;
-        took = takes;
-        run = λ pipe. acts_on old mid new writes (Step (take_step pipe found) ∷ []) f (g pipe);
-        part = λ pipe opts acts r. record {
-          answer = put;
-          octets = octets;
-          takes = Step (take_step pipe found) ∷ [];
-          all = refl;
-          fits = fits;
-          none = λ e. none_by put (NothingToWrite opts acts) (λ _. SomethingToWrite opts acts) e (due opts acts r);
-          some = λ e. some_by put (NothingToWrite opts acts) (SomethingToWrite opts acts) e (due opts acts r);
-          over = λ over. absurd (stands over);
-          take = λ _ _. (Step (take_step pipe found), is_take pipe found, refl);
-          wait = λ no. absurd (no (may opts (acts ++ writes) (f opts acts r)));
-        };
-      }
-
   -- ---- puts, one after another
 
   -- a half of a pipe that is there is of one that is there still
@@ -215,11 +155,7 @@ drained_by k false f g none = ap (λ (o : Option Frames). option_to_list o ++ wa
 pub some_pipe : PipeId
 some_pipe = record { pair = record { 0 = 0 }; a = true }
 
--- where something was written by acts, they are acts
-pub writes_run : {S O I N : Type 0} (K : Known S O I N) (old new : Kept) (done : Written) (said said' : Option (List ℕ)) (s s' : S) (i i' : I)
-    → WritesBy K old done new said said' s i s' i' → (more : List LinkAct) × Acts old more new
-writes_run K old new done said said' s s' i i' w = (write_acts done.put w.octets ++ take_acts some_pipe w.found, w.run some_pipe)
-
+-- where something was read by acts, they are acts
 pub reads_run : {S O I N : Type 0} (K : Known S O I N) (A : Type 0) (old new : Kept) (got : Option LinkGot) (heard heard' : Option (List ℕ)) (s s' : S) (o o' : O)
     → ReadsBy K A old got new heard heard' s o s' o' → (more : List LinkAct) × Acts old more new
 reads_run K A old new got heard heard' s s' o o' r = (read_acts got r.octets ++ put_acts some_pipe r.messages r.full, r.run some_pipe)
@@ -273,3 +209,10 @@ acts_alive old new k alive = stays_alive old new k.0 k.1 alive
 -- where nothing is undone, no message waits
 pub none_unsaid : (b : Behind) (m : Frames) (X : Type 0) → b ≡ Nothing → b ≡ Unsaid m → X
 none_unsaid b m X e d = absurd cc
+
+-- and where octets are, nothing else is undone
+pub octets_rest : (X : Type 0) → Octets ≡ Nothing → X
+octets_rest X e = absurd cc
+
+pub octets_unsaid : (m : Frames) (X : Type 0) → Octets ≡ Unsaid m → X
+octets_unsaid m X e = absurd cc

@@ -1,5 +1,5 @@
 -- A message that is said, and a take whose message isn't offered yet.
-use Rattle.std.proofs.Common.{◌≡◌, ℕ, List, [], ◌∷◌, ◌++◌, Option, Some, None, refl, sym, ap, ◌∙◌, inl, inr}
+use Rattle.std.proofs.Common.{◌≡◌, ℕ, List, [], ◌∷◌, ◌++◌, Option, Some, None, refl, sym, ap, subst, ◌∙◌, inl, inr}
 use Rattle.std.specs.Prelude.{◌⊎◌}
 use Rattle.std.proofs.lemmas.List.{append-nil}
 use Rattle.zq_base.specs.Message.{Frames}
@@ -14,10 +14,13 @@ use Rattle.spec_pattern.specs.PipeStep.{EmptyLook, DelimiterLook}
 use Rattle.spec_link.specs.LinkAct.{LinkAct, Wire, Step, Repeats}
 use Rattle.spec_link.specs.Parts.{NothingToWrite, SomethingToWrite, MayTake, IsWriteOver, IsWritePart, WriteFits, write_acts}
 use Rattle.link_topics.specs.Topics.{Topics}
-use Rattle.link_side.specs.declared.behind.Behind.TheVariants.{Unsaid}
-use Rattle.link_side.specs.Kept.{Kept, HasRun, Acts}
+use Rattle.link_side.specs.declared.behind.Behind.{Behind}
+use Rattle.link_side.specs.declared.behind.Behind.TheVariants.{Nothing, Unsaid}
+use Rattle.link_side.specs.declared.write_part.Written.{Written}
+use Rattle.link_side.specs.Kept.{Kept, Side, HasRun, Acts}
 use Rattle.link_side.specs.Calls.{Adds, TakeRun}
-use Rattle.link_side.specs.Says.{LookedBy, SaysBy, SaysNext, done_acts, left_by}
+use Rattle.link_side.specs.Works.{WritesBy, take_acts}
+use Rattle.link_side.specs.Says.{LookedBy, TakesBy, SaysBy, SaysNext, Forwards, done_acts, left_by}
 use Rattle.link_side.proofs.KeptLemmas.{acts_on, acts_same, no_acts, run_still}
 use Rattle.link_side.proofs.PartLemmas.{WritesDue, none_by, some_by, is_take}
 
@@ -125,3 +128,41 @@ left_item (Some (taken.Item n)) m e = ap (λ (x : Frames). Some (taken.Item x)) 
     same d = cc
 left_item (Some taken.Empty) m e = absurd cc
 left_item (Some taken.Delimiter) m e = absurd cc
+
+-- ---- a message that was taken is offered at once
+
+forwarded : (mid new : Side) (found : Option Taken) → mid.behind ≡ left_by found → Forwards mid.behind mid.kept new → Forwards (left_by found) mid.kept new
+forwarded mid new found left f = subst (λ (b : Behind). Forwards b mid.kept new) left f
+
+-- what is done by the offer is the take
+forwarded_run : (pipe : PipeId) (writes : List LinkAct) (old : Kept) (mid new : Side) (found : Option Taken) → Acts old (writes ++ done_acts pipe found) mid.kept → Forwards (left_by found) mid.kept new
+    → Acts old (writes ++ take_acts pipe found) new.kept
+forwarded_run pipe writes old mid new None run f = subst (λ (x : Side). Acts old (writes ++ []) x.kept) (sym f) run
+forwarded_run pipe writes old mid new (Some (taken.Item m)) run f =
+    let act = Step (take_step pipe (taken.Item m)) in
+    acts_on old mid.kept new.kept writes (act ∷ []) (acts_same old mid.kept (writes ++ []) writes (append-nil writes) run) (f.1 act (record { said = refl; heard = refl; offered = refl; put = refl }))
+forwarded_run pipe writes old mid new (Some taken.Empty) run f = subst (λ (x : Side). Acts old (writes ++ take_acts pipe (Some taken.Empty)) x.kept) (sym f) run
+forwarded_run pipe writes old mid new (Some taken.Delimiter) run f = subst (λ (x : Side). Acts old (writes ++ take_acts pipe (Some taken.Delimiter)) x.kept) (sym f) run
+
+forwarded_rest : (mid new : Side) (found : Option Taken) → Forwards (left_by found) mid.kept new → new.behind ≡ Nothing
+forwarded_rest mid new None f = ap (λ (x : Side). x.behind) f
+forwarded_rest mid new (Some (taken.Item m)) f = f.0
+forwarded_rest mid new (Some taken.Empty) f = ap (λ (x : Side). x.behind) f
+forwarded_rest mid new (Some taken.Delimiter) f = ap (λ (x : Side). x.behind) f
+
+module _ {S O I N : Type 0} (K : Known S O I N) where
+  pub writes_forwarded : (old : Kept) (done : Written) (mid new : Side) (said said' : Option (List ℕ)) (s s' : S) (i i' : I) → TakesBy K old done mid said said' s i s' i' → Forwards mid.behind mid.kept new
+      → WritesBy K old done new.kept said said' s i s' i'
+  writes_forwarded old done mid new said said' s s' i i' t f = record {
+    octets = t.octets;
+    found = t.found;
+    fits = t.fits;
+    told = t.told;
+    look = t.look;
+    took = t.took;
+    run = λ pipe. forwarded_run pipe (write_acts done.put t.octets) old mid new t.found (t.run pipe) (forwarded mid new t.found t.left f);
+    part = t.part;
+  }
+
+  pub rest_forwarded : (old : Kept) (done : Written) (mid new : Side) (said said' : Option (List ℕ)) (s s' : S) (i i' : I) → TakesBy K old done mid said said' s i s' i' → Forwards mid.behind mid.kept new → new.behind ≡ Nothing
+  rest_forwarded old done mid new said said' s s' i i' t f = forwarded_rest mid new t.found (forwarded mid new t.found t.left f)

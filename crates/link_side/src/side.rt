@@ -81,7 +81,9 @@ impl LinkSide {
         ensures counts { WriteCounts result.put (L.faults link.old) (L.faults link.new)
             (L.stalls link.old) (L.stalls link.new) (L.ends link.old) (L.ends link.new) }
     {
-        self.wire.write_part(pipes, input, link)
+        let written = self.take_part(pipes, input, link);
+        self.forward();
+        written
     }
 
     /// The reading part of a turn: one read of at most 8,192 octets where no message is held, and

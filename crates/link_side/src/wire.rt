@@ -7,26 +7,25 @@ ghost use Rattle.spec_zmtp.specs.OwnCommands.{IsEngineOpts};
 ghost use Rattle.spec_link.specs.LinkAct.{FitsPut, FitsGot, Step, Writes, Reads};
 ghost use Rattle.spec_link.specs.LinkAct.{Wire as OnWire};
 ghost use Rattle.msg_pipe.specs.Known.{IsThere};
-ghost use Rattle.msg_pipe.specs.Told.{take_step, put_step};
-ghost use Rattle.zmtp_engine.specs.Conversation.{lent, IsCurrent, CanOffer};
+ghost use Rattle.msg_pipe.specs.Told.{put_step};
+ghost use Rattle.zmtp_engine.specs.Conversation.{lent, IsCurrent};
 ghost use Rattle.link_side.specs.Kept.{HasRun, IsAlive, IsAtRest, Acts, whole};
-ghost use Rattle.link_side.specs.Calls.{Adds, WriteCounts, ReadCounts, TakeRun, PutRun};
+ghost use Rattle.link_side.specs.Calls.{Adds, WriteCounts, ReadCounts, PutRun};
 ghost use Rattle.link_side.specs.Calls.{octets_put, put_found};
-ghost use Rattle.link_side.specs.Works.{fetched_of};
 ghost use Rattle.link_side.specs.WireView.{unfed, kept, IsSound, KeepsHeard};
 
-use msg_pipe::{Pipes, PutIn, Taken};
+use msg_pipe::{Pipes, PutIn};
 use std::alloc::{AllocError, Global};
 use std::mem::replace;
-use zmtp_engine::{Engine, Offered, OutOfMemory};
+use zmtp_engine::{Engine, OutOfMemory};
 use zq_base::{EngineOpts, Message};
 use zq_outer::{Link, LinkGot, LinkPut};
 
 // The most octets of a read.
 const ROOM: usize = 8192;
 
-/// What a take from the pipe found. A message is with the engine.
-#[derive(Clone, Copy, PartialEq, Eq)]
+/// What a take from the pipe found, without the message.
+#[derive(Clone, Copy)]
 pub enum Fetched {
     One,
     None,
@@ -133,29 +132,6 @@ impl Wire {
                 self.fed += e.taken;
                 Err(e)
             }
-        }
-    }
-
-    /// Takes one message from the pipe to the engine, which can take it.
-    pub(crate) fn fetch<P: Pipes>(&mut self, pipes: &mut P, input: &mut P::In) -> Fetched
-        requires sound { IsSound self.old }
-        requires here { IsThere P.known pipes.old (P.known.in_name input.old) }
-        requires idle { CanOffer self.old.engine }
-        ensures sound { IsSound self.new }
-        ensures run { (found : Taken)
-            × TakeRun P.known pipes.old input.old found pipes.new input.new
-            × ((pipe : PipeId) →
-            Acts (kept self.old) (Step (take_step pipe found) ∷ []) (kept self.new))
-            × (result ≡ fetched_of found) }
-        ensures keeps { KeepsHeard self.old self.new }
-    {
-        match pipes.take(input) {
-            Taken::Item(message) => match self.engine.offer(message) {
-                Offered::Taken => return Fetched::One,
-                Offered::Again(_) => return Fetched::One,
-            },
-            Taken::Empty => return Fetched::None,
-            Taken::Delimiter => return Fetched::Delimiter,
         }
     }
 

@@ -3,21 +3,18 @@ ghost use Rattle.zq_base.specs.declared.options.EngineOpts.{EngineOpts};
 ghost use Rattle.spec_link.specs.LinkAct.{LinkAct};
 ghost use Rattle.spec_link.specs.Parts.{NothingToWrite, SomethingToWrite, MayTake, IsWriteOver};
 ghost use Rattle.spec_link.specs.Parts.{WriteFits, write_acts};
-ghost use Rattle.msg_pipe.specs.Known.{IsThere};
 ghost use Rattle.zmtp_engine.specs.Conversation.{CanOffer};
 ghost use Rattle.link_side.specs.Kept.{HasRun, IsAtRest, Acts};
 ghost use Rattle.link_side.specs.Calls.{Adds, WriteCounts};
-ghost use Rattle.link_side.specs.Works.{WritesBy};
 ghost use Rattle.link_side.specs.WireView.{kept, IsSound};
 
 use crate::wire::{Fetched, Wire};
-use msg_pipe::Pipes;
 use zmtp_engine::State;
 use zq_outer::{Link, LinkPut};
 
 /// What the writing part of a turn did: the answer of its write, and what its take found, where
 /// they were made.
-#[derive(Clone, Copy, PartialEq, Eq)]
+#[derive(Clone, Copy)]
 pub struct Written {
     pub put: Option<LinkPut>,
     pub look: Option<Fetched>,
@@ -80,38 +77,5 @@ impl Wire {
             return true;
         }
         false
-    }
-
-    /// The writing part of a turn: one write where something is to be written, and then one take
-    /// where the handshake is done and all is written.
-    pub(crate) fn write_part<P: Pipes, L: Link>(
-        &mut self,
-        pipes: &mut P,
-        input: &mut P::In,
-        link: &mut L,
-    ) -> Written
-        requires sound { IsSound self.old }
-        requires rest { IsAtRest (kept self.old) }
-        requires here { IsThere P.known pipes.old (P.known.in_name input.old) }
-        ensures sound { IsSound self.new }
-        ensures rest { IsAtRest (kept self.new) }
-        ensures writes { WritesBy P.known (kept self.old) result (kept self.new)
-            (L.said link.old) (L.said link.new) pipes.old input.old pipes.new input.new }
-        ensures others { L.heard link.new ≡ L.heard link.old }
-        ensures counts { WriteCounts result.put (L.faults link.old) (L.faults link.new)
-            (L.stalls link.old) (L.stalls link.new) (L.ends link.old) (L.ends link.new) }
-    {
-        let put = self.write_due(link);
-        if is_over(put) {
-            return Written { put, look: None };
-        }
-        if !self.may_take() {
-            return Written { put, look: None };
-        }
-        let look = self.fetch(pipes, input);
-        Written {
-            put,
-            look: Some(look),
-        }
     }
 }

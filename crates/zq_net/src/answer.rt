@@ -8,7 +8,7 @@ use std::io::ErrorKind;
 use zq_outer::{LinkGot, LinkPut};
 
 /// What an error means to a link.
-#[derive(Clone, Copy, Debug, PartialEq, Eq)]
+#[derive(Clone, Copy)]
 pub(crate) enum Trouble {
     NotReady,
     Ended,

@@ -1,6 +1,7 @@
-ghost use Rattle.std.specs.Prelude.{◌≡◌};
+ghost use Rattle.std.specs.Prelude.{◌≡◌, IfOk, OnErr, MatchOption};
 ghost use Rattle.std.specs.Net.Addr.{ipv4_octets};
 ghost use Rattle.std.specs.Net.Socket.{v4_ip, v4_port};
+ghost use Rattle.zq_outer.specs.declared.host.Dialled.TheVariants as dial;
 
 use crate::answer::{Trouble, is_drained, meaning};
 use crate::net_link::NetLink;
@@ -8,6 +9,7 @@ use crate::ready::Ready;
 use crate::watch::Watch;
 use indexmap::IndexMap;
 use mio::Interest;
+use mio::event::Source;
 use mio::net::{TcpListener, TcpStream};
 use std::alloc::{AllocError, Global};
 use std::io;
@@ -15,6 +17,7 @@ use std::io::ErrorKind;
 use std::marker::Model;
 use std::net::{Ipv4Addr, Net, SocketAddr, SocketAddrV4};
 use std::sync::Arc;
+use std::sync::atomic::AtomicU64;
 use std::time::Duration;
 use zq_base::Address;
 use zq_outer::{Dialled, Host, Listened};
@@ -68,20 +71,22 @@ impl<'r, R: Net> NetHost<'r, R> {
     fn begin_listening(&mut self, key: u32, at: &Address) -> io::Result<()>
         ensures counts { self.new ≡ self.old }
     {
-        let mut socket = TcpListener::bind(self.rt, SocketAddr::V4(socket_addr(at)))?;
-        let ready = self.watch.add(&mut socket, Interest::READABLE)?;
-        self.listeners.insert(key, Watched { socket, ready })?;
-        Ok(())
+        let socket = TcpListener::bind(self.rt, SocketAddr::V4(socket_addr(at)))?;
+        keep(
+            &mut self.watch,
+            &mut self.listeners,
+            key,
+            socket,
+            Interest::READABLE,
+        )
     }
 
     // Begins to dial.
     fn begin_dialling(&mut self, key: u32, to: &Address) -> io::Result<()>
         ensures counts { self.new ≡ self.old }
     {
-        let mut socket = TcpStream::connect(self.rt, SocketAddr::V4(socket_addr(to)))?;
-        let ready = self.watch.add(&mut socket, both_ways())?;
-        self.dials.insert(key, Watched { socket, ready })?;
-        Ok(())
+        let socket = TcpStream::connect(self.rt, SocketAddr::V4(socket_addr(to)))?;
+        keep(&mut self.watch, &mut self.dials, key, socket, both_ways())
     }
 
     // The next link that came to a listener, unless none is known to wait.
@@ -107,8 +112,10 @@ impl<'r, R: Net> NetHost<'r, R> {
                 let link = self.watched_link(stream)?;
                 Ok(Some(link))
             }
-            Err(error) if meaning(error.kind()) == Trouble::Failed => Err(error),
-            Err(_) => Ok(None),
+            Err(error) => match meaning(error.kind()) {
+                Trouble::Failed => Err(error),
+                Trouble::NotReady | Trouble::Ended => Ok(None),
+            },
         }
     }
 
@@ -162,8 +169,14 @@ impl<'r, R: Net> NetHost<'r, R> {
     fn link(&self, stream: TcpStream, ready: Arc<Ready>) -> io::Result<NetLink>
         ensures counts { IfOk result (λ l. l ≡ record { faults = 0; stalls = 0; ends = 0 }) }
     {
+        let looks = self.looks_for(&stream)?;
+        Ok(NetLink::new(stream, ready, looks))
+    }
+
+    // The count of looks for a link over a stream, which sends small pieces at once.
+    fn looks_for(&self, stream: &TcpStream) -> io::Result<Arc<AtomicU64>> {
         stream.set_nodelay(true)?;
-        Ok(NetLink::new(stream, ready, self.watch.looks()?))
+        Ok(self.watch.looks()?)
     }
 
     // The answer of an accept or a connect, counted.
@@ -173,16 +186,20 @@ impl<'r, R: Net> NetHost<'r, R> {
         ensures faults { RoseIf self.old.faults self.new.faults (result ≡ dial.Failed) }
         ensures stalls { RoseIf self.old.stalls self.new.stalls (result ≡ dial.NotReady) }
     {
-        match link {
-            Ok(Some(link)) => Dialled::Linked(link),
-            Ok(None) => {
-                self.stalls = self.stalls.saturating_add(1);
-                Dialled::NotReady
-            }
-            Err(_) => {
-                self.faults = self.faults.saturating_add(1);
-                Dialled::Failed
-            }
+        let answer = answer_of(link);
+        self.count(&answer);
+        answer
+    }
+
+    // Counts an answer.
+    fn count(&mut self, answer: &Dialled<NetLink>)
+        ensures faults { RoseIf self.old.faults self.new.faults (answer.now ≡ dial.Failed) }
+        ensures stalls { RoseIf self.old.stalls self.new.stalls (answer.now ≡ dial.NotReady) }
+    {
+        match answer {
+            Dialled::Linked(_) => {}
+            Dialled::NotReady => self.stalls = self.stalls.saturating_add(1),
+            Dialled::Failed => self.faults = self.faults.saturating_add(1),
         }
     }
 }
@@ -212,14 +229,14 @@ impl<'r, R: Net> Host for NetHost<'r, R> {
     fn connect(&mut self, key: u32, to: &Address) -> Dialled<NetLink> {
         let link = self.dialled(key, to);
         if link.is_err() {
-            self.dials.swap_remove(&key);
+            drop(self.dials.swap_remove(&key));
         }
         self.answer(link)
     }
 
     fn forget(&mut self, key: u32) {
-        self.listeners.swap_remove(&key);
-        self.dials.swap_remove(&key);
+        drop(self.listeners.swap_remove(&key));
+        drop(self.dials.swap_remove(&key));
     }
 
     fn rest(&mut self, ms: u32) {
@@ -230,6 +247,31 @@ impl<'r, R: Net> Host for NetHost<'r, R> {
         {
             self.faults = self.faults.saturating_add(1);
         }
+    }
+}
+
+// Watches a socket, and keeps it under this key.
+fn keep<S: Source + Drop>(
+    watch: &mut Watch,
+    sockets: &mut IndexMap<u32, Watched<S>>,
+    key: u32,
+    mut socket: S,
+    interests: Interest,
+) -> io::Result<()> {
+    let ready = watch.add(&mut socket, interests)?;
+    drop(sockets.insert(key, Watched { socket, ready })?);
+    Ok(())
+}
+
+// The answer of an accept or a connect.
+fn answer_of(link: io::Result<Option<NetLink>>) -> Dialled<NetLink>
+    ensures ok { IfOk link (λ found. MatchOption found (result ≡ dial.NotReady) (λ l. result ≡ dial.Linked l)) }
+    ensures err { OnErr link (result ≡ dial.Failed) }
+{
+    match link {
+        Ok(Some(link)) => Dialled::Linked(link),
+        Ok(None) => Dialled::NotReady,
+        Err(_) => Dialled::Failed,
     }
 }
 

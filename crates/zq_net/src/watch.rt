@@ -28,12 +28,14 @@ pub(crate) struct Watch {
 impl Watch {
     /// A watch of no sockets. Where the system refuses it, each call of it fails.
     pub fn new(rt: &impl Net, alloc: Global) -> Result<Watch, AllocError> {
+        let looks = Arc::new(alloc, AtomicU64::new(0))?;
+        let events = Events::with_capacity(alloc, EVENTS_A_LOOK)?;
         Ok(Watch {
             alloc,
             poll: Poll::new(rt).ok(),
-            events: Events::with_capacity(alloc, EVENTS_A_LOOK)?,
+            events,
             sockets: Slab::new(alloc),
-            looks: Arc::new(alloc, AtomicU64::new(0))?,
+            looks,
             patience: Patience::new(),
         })
     }
@@ -49,16 +51,26 @@ impl Watch {
         socket: &mut S,
         interests: Interest,
     ) -> io::Result<Arc<Ready>> {
-        let Some(poll) = &self.poll else {
-            return Err(no_poll());
-        };
         if self.sockets.len() == self.sockets.capacity() {
             self.sockets.retain(|_, ready| Arc::strong_count(ready) > 1);
         }
         let ready = Ready::new(self.alloc)?;
-        let token = Token(self.sockets.insert(Arc::try_clone(&ready)?)?);
-        poll.registry().register(socket, token, interests)?;
+        self.register(&ready, socket, interests)?;
         Ok(ready)
+    }
+
+    // Tells the system of a socket, and keeps what is known of it.
+    fn register<S: Source>(
+        &mut self,
+        ready: &Arc<Ready>,
+        socket: &mut S,
+        interests: Interest,
+    ) -> io::Result<()> {
+        let Some(poll) = &self.poll else {
+            return Err(no_poll());
+        };
+        let token = Token(self.sockets.insert(Arc::try_clone(ready)?)?);
+        poll.registry().register(socket, token, interests)
     }
 
     /// Waits so long for an event, and takes up what the system tells of all sockets.

@@ -1,15 +1,16 @@
-use Rattle.std.proofs.Common.{sym}
+use Rattle.std.proofs.Common.{refl, sym}
 use Rattle.spec_link.specs.Parts.{read_acts}
+use Rattle.link_side.specs.declared.behind.Behind.TheVariants.{Nothing}
 use Rattle.link_side.specs.WireView.{kept}
-use Rattle.link_side.proofs.PartLemmas.{on_err, acts_alive, wants_run, side_wants}
+use Rattle.link_side.proofs.PartLemmas.{on_err, acts_alive, wants_run, side_wants, octets_rest, octets_unsaid, none_unsaid}
 use Rattle.link_side.proofs.side.LinkSide.read_only.Goals as goal
 
 pub invariant_of-self : goal.invariant_of-self
 invariant_of-self g c = record {
   sound = c.read_only.ensures.sound;
   alive = acts_alive (kept c.self.inside.wire) (kept c.read_only.new.self) (wants_run _ (kept c.self.inside.wire) (kept c.read_only.new.self) _ _ _ c.in_err-got.ensures.err) c.self.invariant.alive;
-  rest = λ e. absurd cc;
-  unsaid = λ m e. absurd cc;
+  rest = λ e. octets_rest _ e;
+  unsaid = λ m e. octets_unsaid m _ e;
 }
 
 pub returns-in_err-got-clause-err : goal.returns-in_err-got-clause-err
@@ -23,5 +24,5 @@ invariant_of-self-2 g c =
       sound = c.read_only.ensures.sound;
       alive = acts_alive (kept c.self.inside.wire) (kept c.read_only.new.self) (read_acts c.in_ok-got.got r.octets, r.run) c.self.invariant.alive;
       rest = λ _. c.in_ok-got.ensures.rest;
-      unsaid = λ m e. absurd cc;
+      unsaid = λ m e. none_unsaid Nothing m _ refl e;
     }

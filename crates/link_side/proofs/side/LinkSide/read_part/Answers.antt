@@ -1,14 +1,15 @@
-use Rattle.std.proofs.Common.{sym}
+use Rattle.std.proofs.Common.{refl, sym}
+use Rattle.link_side.specs.declared.behind.Behind.TheVariants.{Nothing}
 use Rattle.link_side.specs.WireView.{kept}
-use Rattle.link_side.proofs.PartLemmas.{on_err, reads_run, acts_alive, wants_run, side_reads, side_wants}
+use Rattle.link_side.proofs.PartLemmas.{on_err, reads_run, acts_alive, wants_run, side_reads, side_wants, octets_rest, octets_unsaid, none_unsaid}
 use Rattle.link_side.proofs.side.LinkSide.read_part.Goals as goal
 
 pub invariant_of-self : goal.invariant_of-self
 invariant_of-self g c = record {
   sound = c.read_part.ensures.sound;
   alive = acts_alive (kept c.self.inside.wire) (kept c.read_part.new.self) (wants_run _ (kept c.self.inside.wire) (kept c.read_part.new.self) _ _ _ (c.in_err-got.ensures.err).2) c.self.invariant.alive;
-  rest = λ e. absurd cc;
-  unsaid = λ m e. absurd cc;
+  rest = λ e. octets_rest _ e;
+  unsaid = λ m e. octets_unsaid m _ e;
 }
 
 pub returns-in_err-got-clause-err : goal.returns-in_err-got-clause-err
@@ -21,7 +22,7 @@ invariant_of-self-2 g c = record {
   sound = c.read_part.ensures.sound;
   alive = acts_alive (kept c.self.inside.wire) (kept c.read_part.new.self) (reads_run g.P.Pipes.known _ (kept c.self.inside.wire) (kept c.read_part.new.self) c.in_ok-got.got _ _ _ _ _ _ c.in_ok-got.ensures.ok) c.self.invariant.alive;
   rest = λ _. c.in_ok-got.ensures.rest;
-  unsaid = λ m e. absurd cc;
+  unsaid = λ m e. none_unsaid Nothing m _ refl e;
 }
 
 pub returns-clause-ok : goal.returns-clause-ok

@@ -1,4 +1,5 @@
 use Rattle.std.proofs.Common.{eqb-true, sym}
+use Rattle.std.proofs.lemmas.Bool.{false≢true}
 use Rattle.std.proofs.lemmas.List.{nil_from_length}
 use Rattle.spec_zmtp.proofs.MetadataLemmas.{not_zero}
 use Rattle.zmtp_engine.specs.Answers.{IsShaking, IsRefused}
@@ -22,3 +23,9 @@ pub returns-clause-wait : goal.returns-clause-wait
 returns-clause-wait c = λ _ opts acts r may.
     take_waits_out opts acts (kept c.args.self.now) c.requires.rest.fed c.requires.rest.current
     (some_left c.args.self.now.engine c.out.result.now c.out.ensures.prefix (not_zero _ (sym c.if-is_empty.ensures))) r may
+
+pub returns-in-Shaking-clause-yes : goal.returns-in-Shaking-clause-yes
+returns-in-Shaking-clause-yes c = λ e. absurd (false≢true e)
+
+pub returns-in-Shaking-clause-due : goal.returns-in-Shaking-clause-due
+returns-in-Shaking-clause-due c = λ e. absurd (false≢true e)

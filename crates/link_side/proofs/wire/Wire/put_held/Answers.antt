@@ -35,3 +35,6 @@ returns-in-Full-clause-run g c =
           (ap (λ (x : Frames). Some x) c.in-Full.ensures.put.0 ∙ sym c.in-Some.is ∙ c.replace.ensures.value) refl r),
       refl,
     )
+
+pub returns-in-Full-clause-stays : goal.returns-in-Full-clause-stays
+returns-in-Full-clause-stays g c = λ _. refl

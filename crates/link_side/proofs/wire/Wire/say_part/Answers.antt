@@ -19,3 +19,20 @@ returns-in-Some-clause-says g c =
     let f = c.write_due-put.ensures.run in
     says_one (kept c.args.self.now) (kept c.write_due-put.new.self) (kept c.say.new.self) c.write_due-put.result f.0 _ _ c.args.topics.now c.next.new.self c.in-Some.message f.2 f.3 f.1
     (c.say.ensures.run (OnWire (Repeats c.in-Some.message)) (record { said = refl; heard = refl; offered = refl; put = refl })) c.write_due-put.ensures.due (c.is_over.ensures.no c.if-is_over.false) (c.may_take.ensures.due c.if-not-may_take.false) c.in-Some.ensures
+
+pub unreachable-requires : goal.unreachable-requires
+unreachable-requires g c =
+    let left = c.requires.left in
+    absurd (c.in-None.ensures.1 left.0 left.1 left.2)
+
+pub returns-in-Some-clause-sound : goal.returns-in-Some-clause-sound
+returns-in-Some-clause-sound g c = c.say.ensures.sound
+
+pub returns-in-Some-clause-rest : goal.returns-in-Some-clause-rest
+returns-in-Some-clause-rest g c = c.say.ensures.rest c.write_due-put.ensures.rest
+
+pub returns-in-Some-clause-others : goal.returns-in-Some-clause-others
+returns-in-Some-clause-others g c = c.write_due-put.ensures.others
+
+pub returns-in-Some-clause-counts : goal.returns-in-Some-clause-counts
+returns-in-Some-clause-counts g c = c.write_due-put.ensures.counts
