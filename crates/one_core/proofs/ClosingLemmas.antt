@@ -23,7 +23,7 @@ use Rattle.script_actor.specs.Piece.{Piece, AddsActs}
 use Rattle.script_actor.specs.Way.{ClosesSo, KeepsOthers}
 use Rattle.core_tale.specs.declared.marks.PieceMark.{PieceMark}
 use Rattle.open_laws.specs.Bounds.{TellIdentities}
-use Rattle.core_rows.specs.Counting.{CountsDrops}
+use Rattle.core_others.specs.Counting.{CountsDrops}
 use Rattle.reaper_ends.specs.declared.sockets.ClosedSockets.{ClosedSockets}
 use Rattle.one_desk.specs.Lent.{IsOneOrder, Lent}
 use Rattle.lent_sock.specs.Owned.{parts}

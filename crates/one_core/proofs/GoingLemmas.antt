@@ -23,7 +23,7 @@ use Rattle.script_actor.specs.Piece.{Piece, AddsActs}
 use Rattle.script_actor.specs.Way.{CallsOne, KeepsLent, KeepsOthers}
 use Rattle.core_tale.specs.declared.marks.PieceMark.{PieceMark}
 use Rattle.core_laws.specs.Sides.{AreAtEnds}
-use Rattle.core_rows.specs.Counting.{TablesGoOn}
+use Rattle.core_others.specs.Counting.{TablesGoOn}
 use Rattle.core_shows.specs.Dropped.{CountsTold}
 use Rattle.reaper_ends.specs.declared.sockets.ClosedSockets.{ClosedSockets}
 use Rattle.one_desk.specs.Lent.{coming_to, moments_of, HasSocket, IsOneOrder, Lent}

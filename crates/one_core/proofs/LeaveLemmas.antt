@@ -20,9 +20,9 @@ use Rattle.std.proofs.lemmas.List.{length-append}
 use Rattle.spec_control.specs.Row.{RootAsked}
 use Rattle.control_laws.proofs.RootLemmas.{begun_kept}
 use Rattle.control_laws.proofs.RunLemmas.{run_kept}
-use Rattle.control_moves.specs.Move.{LinkMoves}
-use Rattle.control_moves.proofs.SoundLemmas.{socket_there}
-use Rattle.socket_laws.proofs.RowLemmas.{event_count}
+use Rattle.control_laws.specs.Move.{LinkMoves}
+use Rattle.control_laws.proofs.SoundLemmas.{socket_there}
+use Rattle.held_laws.proofs.RowLemmas.{event_count}
 use Rattle.spec_control.specs.Place.{is_away}
 use Rattle.spec_control.specs.Rows.{PairRow, end_owner, end_place, pair}
 use Rattle.spec_control.specs.Control.{Control, begun, next_object}
@@ -34,8 +34,8 @@ use Rattle.control_held.specs.OwnAsks.{Known, known_after, known_over}
 use Rattle.ctl_holder.specs.Holding.{Holding}
 use Rattle.ctl_history.specs.Past.{control_of, Past}
 use Rattle.ctl_plane.specs.Desk.{HasWhatTheySay}
-use Rattle.core_stands.specs.Aside.{LooksAreAsides, RootAsksAreAsides, MakingsAreAsides}
-use Rattle.core_stands.proofs.AsideLemmas.{known_more, made_next, names_more, state_more}
+use Rattle.core_laws.specs.Aside.{LooksAreAsides, RootAsksAreAsides, MakingsAreAsides}
+use Rattle.core_laws.proofs.AsideLemmas.{known_more, made_next, names_more, state_more}
 use Rattle.one_desk.specs.Lent.{Lent, moments_of, Asks, IsOneOrder, KeepsAside, Sees}
 use Rattle.one_desk.proofs.MakeLemmas.{unless_none}
 use Rattle.one_desk.proofs.OrderLemmas.{other_same, own_more}

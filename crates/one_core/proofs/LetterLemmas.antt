@@ -12,7 +12,7 @@ use Rattle.spec_control.specs.Names.{name_of}
 use Rattle.spec_control.specs.Reply.{most_objects}
 use Rattle.control_held.specs.Moments.{Moment, items_in, moments_from}
 use Rattle.control_held.specs.OwnAsks.{is_none}
-use Rattle.control_rows.proofs.ListLemmas.{left, never}
+use Rattle.control_laws.proofs.ListLemmas.{left, never}
 use Rattle.spec_run.specs.Act.{Act, moments_in}
 use Rattle.spec_run.specs.CoreEvents.{may_take}
 use Rattle.spec_run.specs.OpenSocket.{OpenSock}
@@ -26,7 +26,7 @@ use Rattle.sock_open.specs.View.{open_view}
 use Rattle.open_sock.specs.Lines.{TakesOne, TakesOrNot}
 use Rattle.open_sock.specs.Steps.{FindsEmpty}
 use Rattle.script_actor.specs.Piece.{Piece}
-use Rattle.core_rows.specs.Counting.{CountsDrops}
+use Rattle.core_others.specs.Counting.{CountsDrops}
 use Rattle.core_tale.specs.declared.marks.PieceMark.{PieceMark}
 use Rattle.core_tale.specs.Marks.{piece_marks}
 use Rattle.one_desk.specs.Lent.{IsOneOrder, Lent}

@@ -25,7 +25,7 @@ use Rattle.spec_control.specs.ControlRun.{after_all, IsControlRun}
 use Rattle.control_held.specs.Has.{has_after, AreBy}
 use Rattle.control_held.specs.Held.{Held, items_by}
 use Rattle.control_held.specs.Moments.{Moment, left_after, left_by}
-use Rattle.control_rows.proofs.ListLemmas.{never, right}
+use Rattle.control_laws.proofs.ListLemmas.{never, right}
 use Rattle.any_sock.specs.declared.any_sock.AnySock.{AnySock}
 use Rattle.any_sock.specs.Fresh.{without_peers}
 use Rattle.ctl_holder.specs.declared.given.Given.{Given}

@@ -26,8 +26,8 @@ use Rattle.control_held.specs.OwnAsks.{Known, known_after}
 use Rattle.control_laws.specs.Kept.{Kept}
 use Rattle.control_laws.proofs.RootLemmas.{begun_kept}
 use Rattle.control_laws.proofs.RunLemmas.{run_kept}
-use Rattle.control_moves.proofs.SoundLemmas.{sound_of}
-use Rattle.core_stands.proofs.AsideLemmas.{known_more, state_more}
+use Rattle.control_laws.proofs.SoundLemmas.{sound_of}
+use Rattle.core_laws.proofs.AsideLemmas.{known_more, state_more}
 use Rattle.ctl_history.specs.Past.{control_of}
 use Rattle.ctl_plane.specs.Desk.{slot_after}
 use Rattle.ctl_plane.specs.Kinds.{kind_after, kind_in, kind_over}

@@ -19,7 +19,7 @@ use Rattle.ctl_holder.specs.declared.given.Given.{Given}
 use Rattle.ctl_history.specs.Past.{control_of}
 use Rattle.ctl_plane.specs.Desk.{slot_after, HasWhatTheySay}
 use Rattle.zq_world.specs.CoreCalls.{IsOnlyReaper, IsReaper, OnlyReaps, ReapsOne}
-use Rattle.core_rows.specs.Counting.{CountsDrops}
+use Rattle.core_others.specs.Counting.{CountsDrops}
 use Rattle.core_tale.specs.declared.marks.PieceMark.{PieceMark}
 use Rattle.core_tale.specs.Marks.{piece_marks}
 use Rattle.reaper_ends.specs.declared.sockets.ClosedSockets.{ClosedSockets}

@@ -11,11 +11,11 @@ use Rattle.spec_control.specs.Rows.{obj}
 use Rattle.spec_control.specs.Control.{Control, begun, next_object, owner_of}
 use Rattle.spec_control.specs.After.{after}
 use Rattle.spec_control.specs.ControlRun.{after_all, IsControlRun}
-use Rattle.control_rows.proofs.StepLemmas.{some_object}
+use Rattle.control_laws.proofs.StepLemmas.{some_object}
 use Rattle.control_laws.specs.Kept.{Kept}
 use Rattle.control_laws.proofs.RootLemmas.{begun_kept}
 use Rattle.control_laws.proofs.RunLemmas.{after_kept}
-use Rattle.socket_laws.proofs.RowLemmas.{event_keeps}
+use Rattle.held_laws.proofs.RowLemmas.{event_keeps}
 use Rattle.spec_run.specs.OwnedRun.{marks_by_sort, pipe_capacity}
 use Rattle.ctl_history.specs.Joining.{AllMarked}
 use Rattle.one_desk.specs.Lent.{Lent, IsOneOrder}

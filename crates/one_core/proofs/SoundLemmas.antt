@@ -25,9 +25,9 @@ use Rattle.zq_world.specs.Played.{IsOrderly}
 use Rattle.control_held.specs.Has.{AreBy}
 use Rattle.core_tale.specs.declared.marks.PieceMark.{PieceMark}
 use Rattle.core_tale.specs.Marks.{all_told, pieces_told, TalesGoOn}
-use Rattle.core_stands.specs.Standing.{CoreStands, CoresAreOrderly}
-use Rattle.core_stands.specs.Aside.{next_moment, IsAside, AsidesGoOn, LooksAreAsides}
-use Rattle.core_stands.proofs.AsideLemmas.{moments_more, names_more, said_alone, state_more}
+use Rattle.core_laws.specs.Standing.{CoreStands, CoresAreOrderly}
+use Rattle.core_laws.specs.Aside.{next_moment, IsAside, AsidesGoOn, LooksAreAsides}
+use Rattle.core_laws.proofs.AsideLemmas.{moments_more, names_more, said_alone, state_more}
 use Rattle.open_laws.specs.Bounds.{TellIdentities, TellsIdentity}
 use Rattle.one_desk.specs.Lent.{Lent, Asks, IsOneOrder, KeepsAside, Sees}
 use Rattle.one_core.specs.Telling.{item_marks}
@@ -39,8 +39,8 @@ use Rattle.std.proofs.lemmas.List.Elements.{All-weaker}
 use Rattle.ctl_history.specs.Past.{control_of, Past}
 use Rattle.ctl_holder.specs.declared.given.Given.{Given}
 use Rattle.ctl_holder.specs.TakingOver.{AreDistinct, AreGivenWith}
-use Rattle.core_rows.specs.Counting.{CountsDrops}
-use Rattle.core_rows.proofs.TableLemmas.{tables_go_on}
+use Rattle.core_others.specs.Counting.{CountsDrops}
+use Rattle.core_others.proofs.TableLemmas.{tables_go_on}
 use Rattle.past_laws.specs.Asked.{WereAsked}
 use Rattle.one_core.proofs.AskedLemmas.{asked_still}
 use Rattle.ctl_plane.specs.Desk.{HasWhatTheySay}

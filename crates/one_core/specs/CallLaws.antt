@@ -7,7 +7,7 @@ use Rattle.core_others.specs.Rest.{OthersAgreeStill}
 use Rattle.core_others.specs.Told.{CallsAreTold}
 use Rattle.core_others.specs.Own.{OwnJoinStill}
 use Rattle.core_others.specs.Reaper.{AskedStay, ElseBehind, ElseStay, ReapersKeep}
-use Rattle.core_rows.specs.Counting.{TablesGoOn}
+use Rattle.core_others.specs.Counting.{TablesGoOn}
 use Rattle.one_core.specs.Lending.{SocketsCanBeLent}
 
 module _ (W : Type 0) {S N O I : Type 0} (K : Known S O I N) (T : Type 0) where

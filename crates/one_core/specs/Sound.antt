@@ -16,7 +16,7 @@ use Rattle.spec_run.specs.Event.{IsRequest, acts_said}
 use Rattle.script_actor.specs.Piece.{Piece, AddsActs}
 use Rattle.core_tale.specs.declared.marks.PieceMark.{PieceMark}
 use Rattle.core_tale.specs.Marks.{all_told, pieces_told}
-use Rattle.core_stands.specs.Standing.{CoreStands}
+use Rattle.core_laws.specs.Standing.{CoreStands}
 use Rattle.one_desk.specs.Lent.{IsOneOrder, Lent}
 use Rattle.open_laws.specs.Bounds.{TellIdentities}
 use Rattle.ctl_holder.specs.declared.given.Given.{Given}
@@ -24,7 +24,7 @@ use Rattle.ctl_holder.specs.TakingOver.{AreDistinct, AreGivenWith}
 use Rattle.ctl_history.specs.Past.{control_of}
 use Rattle.ctl_plane.specs.Desk.{HasWhatTheySay}
 use Rattle.zq_world.specs.CoreCalls.{IsOnlyReaper, OnlyReaps}
-use Rattle.core_rows.specs.Counting.{CountsDrops}
+use Rattle.core_others.specs.Counting.{CountsDrops}
 use Rattle.core_others.specs.Sealed.{AllAsked}
 use Rattle.core_others.specs.ReapedComing.{AwayUnsealed, HasOnlyTaken, HasTaken}
 use Rattle.reaper_ends.specs.declared.sockets.ClosedSockets.{ClosedSockets}

@@ -9,7 +9,7 @@ ghost use Rattle.one_core.specs.Sound.{pieces_in, IsLentOn, Requests};
 use crate::answers::{number_of, reply_answer};
 use crate::context::OneCore;
 use crate::telling::OneItem;
-use core_stands::{asides_go_on, root_asks_are_asides};
+use core_laws::{asides_go_on, root_asks_are_asides};
 use core_tale::tales_go_on;
 use held_ends::HeldPipes;
 use spec_control::Reply;

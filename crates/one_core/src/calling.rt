@@ -190,7 +190,8 @@ where
         self.lent.desk.is_of_one_order();
         self.lent.desk.given_are_its();
         match close_lent(alloc, &mut self.lent, &mut self.tale, caller, socket) {
-            Ok(_) => {
+            Ok(closed) => {
+                drop(closed);
                 self.lent.desk.is_of_one_order();
                 self.lent.desk.given_are_its();
                 return Ok(());

@@ -3,9 +3,8 @@ ghost use Rattle.one_core.specs.Lending.{SocketsCanBeLent};
 
 use core_others::{
     asked_stay, calls_are_told, else_behind, else_stay, others_agree_still, own_join_still,
-    reapers_keep,
+    reapers_keep, tables_go_on,
 };
-use core_rows::tables_go_on;
 use ctl_holder::Given;
 use held_ends::HeldPipes;
 use msg_pipe::Pipes;

@@ -14,7 +14,6 @@ use ctl_holder::Given;
 use held_ends::HeldPipes;
 use http_server::Log;
 use lent_sock::LentSock;
-use sock_calls::Socket;
 use sock_core::SockCore;
 use spec_pattern::Skip;
 use spec_run::{LineAnswer, LineCall};
@@ -197,12 +196,12 @@ where
 {
     lent.desk.lend(caller);
     lent.since = Log::new();
-    lent.socket = Socket { core: socket };
-    match close_told(alloc, lent, tale, caller) {
-        Ok(()) => return Ok(mem::replace(&mut lent.socket.core, None)),
-        Err(_) => {
-            let value = mem::replace(&mut lent.socket.core, None);
-            return Err(AllocFailed { value });
-        }
+    let mut core = socket;
+    mem::swap(&mut lent.socket.core, &mut core);
+    let closed = close_told(alloc, lent, tale, caller);
+    mem::swap(&mut lent.socket.core, &mut core);
+    match closed {
+        Ok(()) => return Ok(core),
+        Err(_) => return Err(AllocFailed { value: core }),
     }
 }

@@ -8,7 +8,7 @@ ghost use Rattle.one_core.specs.Sound.{pieces_in};
 use crate::answers::number_of;
 use crate::context::OneCore;
 use crate::telling::OneItem;
-use core_stands::{asides_go_on, cores_are_orderly, looks_are_asides};
+use core_laws::{asides_go_on, cores_are_orderly, looks_are_asides};
 use core_tale::tales_go_on;
 use held_ends::HeldPipes;
 use spec_control::ObjState;

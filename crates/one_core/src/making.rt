@@ -11,7 +11,7 @@ use crate::context::OneCore;
 use crate::fresh::made_of;
 use crate::telling::OneItem;
 use any_sock::AnySock;
-use core_stands::{asides_go_on, makings_are_asides};
+use core_laws::{asides_go_on, makings_are_asides};
 use core_tale::tales_go_on;
 use held_ends::HeldPipes;
 use reaper_ends::Closed;
@@ -52,7 +52,9 @@ where
         tales_go_on::<P::Name, P::Story>();
         self.lent.desk.is_of_one_order();
         self.lent.desk.lend(by);
-        match self.lent.desk.make_socket(alloc, kind, options, &holder) {
+        let asked = self.lent.desk.make_socket(alloc, kind, options, &holder);
+        drop(holder);
+        match asked {
             Ok(reply) => {
                 self.lent.desk.is_of_one_order();
                 self.tale = self.tale.and(&OneItem { by: caller });

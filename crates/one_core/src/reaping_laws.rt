@@ -1,8 +1,7 @@
 ghost use Rattle.std.specs.Prelude.{◌≡◌, true};
 ghost use Rattle.one_core.specs.Reaping.{ReapLaws};
 
-use core_others::{keeps_only_taken, reaps_are_told};
-use core_rows::tables_go_on;
+use core_others::{keeps_only_taken, reaps_are_told, tables_go_on};
 use ctl_holder::Given;
 use held_ends::HeldPipes;
 use reap_steps::reaps_go_on;

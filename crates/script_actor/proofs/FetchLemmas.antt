@@ -89,6 +89,14 @@ module _ {O : Type 0} (as_open : O → OpenSock) where
   open_is : (o p : ObjId) (s t : O) → ◌≡◌ {A = Option (Seat O)} (Some (seat.Open o s)) (Some (seat.Open p t)) → s ≡ t
   open_is o p s t e = cc
 
+  -- the socket of that seat has the mailbox, as the code reads the seat
+  pub slot_in : (slot place : ℕ) (items seats : List (Seat O)) (x : Seat O) (object : ObjId) (s : O) → items ≡ seats → IsFirstWith as_open slot place seats → x ≡ slice_index_or items place x → x ≡ seat.Open object s
+      → (as_open s).slot ≡ slot
+  slot_in slot place items seats x object s whole first read is =
+      let there = open_at_here place items seats x object s whole (is_open_first slot place seats first) read is in
+      let here : slice_get seats place ≡ Some (seat.Open object s) = subst (λ (l : List (Seat O)). slice_get l place ≡ Some (seat.Open object s)) whole there in
+      ap (λ (z : O). (as_open z).slot) (sym (open_is first.object object first.socket s (sym first.here ∙ here))) ∙ first.slot_is
+
 module _ {W O N S : Type 0} (as_open : O → OpenSock) (agrees : W → ℕ → O → Type 0) (was_made : W → ℕ → Type 0) where
   -- a letter is taken for the socket of an open seat, as the code reads and writes the seat
   pub fetches_in : (caller slot place : ℕ) (items seats : List (Seat O)) (x : Seat O) (object : ObjId) (s t : O) (way : W) (before after : List (Piece N S))

@@ -4,3 +4,4 @@ pub mod Way
 pub mod Seats
 pub mod Stepping
 pub mod Taking
+pub mod Seated

@@ -1,5 +1,6 @@
 ghost use Rattle.std.specs.Prelude.{◌≡◌, ◌≤◌};
-ghost use Rattle.script_actor.specs.Seats.{shut_before};
+ghost use Rattle.script_actor.specs.Seats.{is_open, shut_before};
+ghost use Rattle.script_actor.specs.Seated.{seat_made, answer_made};
 
 use crate::answers::refusal_answer;
 use crate::made::Made;
@@ -8,7 +9,7 @@ use msg_pipe::Pipes;
 use spec_journal::Answer;
 use spec_pattern::Skip;
 use spec_run::{LineAnswer, LineCall};
-use std::alloc::{AllocError, AllocFailed, Global};
+use std::alloc::{AllocError, Global};
 use std::marker::Model;
 use std::mem::replace;
 use zq_base::{Kind, ObjId, Options};
@@ -59,8 +60,33 @@ fn next_open<O>(seats: &[Seat<O>], from: usize) -> usize
     place
 }
 
+/// Whether a seat is open.
+fn is_open<O>(seat: &Seat<O>) -> bool
+    ensures { result ≡ is_open seat.now }
+{
+    match seat {
+        Seat::Open(_, _) => return true,
+        Seat::Closed(_) => return false,
+        Seat::Refused => return false,
+    }
+}
+
+/// The seat of what a socket line made, and the line's answer.
+fn seated<O>(made: Made<O>) -> (Seat<O>, LineAnswer)
+    ensures seat { result.0 ≡ seat_made made }
+    ensures answer { result.1 ≡ answer_made made }
+{
+    match made {
+        Made::Socket(object, socket) => {
+            let answer = LineAnswer::Plain(Answer::Object(object));
+            return (Seat::Open(object, socket), answer);
+        }
+        Made::Refused(refusal) => return (Seat::Refused, refusal_answer(refusal)),
+    }
+}
+
 impl<O: Drop> Seats<O> {
-    ghost use Rattle.std.specs.Prelude.{◌≡◌, ◌++◌, ◌∷◌, [], List, true, IfOk, OnOk, OnErr};
+    ghost use Rattle.std.specs.Prelude.{◌≡◌, [], List, true, IfOk, OnOk};
     ghost use Rattle.zq_script.specs.declared.script.Call.TheVariants as script_call;
     ghost use Rattle.spec_pattern.specs.declared.answers.Skip.{Skip};
     ghost use Rattle.spec_run.specs.declared.line.LineCall.TheVariants.{Asks, Closes};
@@ -85,23 +111,13 @@ impl<O: Drop> Seats<O> {
         self.first < self.seats.len()
     }
 
-    /// Adds what a further line made.
-    fn push(&mut self, seat: Seat<O>) -> Result<(), AllocFailed<Seat<O>>>
-        ensures ok { OnOk result (self.new ≡ self.old ++ seat ∷ []) }
-        ensures err { OnErr result (self.new ≡ self.old) }
-    {
-        self.seats.push(seat)?;
-        self.first = next_open(&self.seats, self.first);
-        Ok(())
-    }
-
     /// Whether the seat of this place is open.
     fn is_open_at(&self, place: usize) -> bool
         ensures { result ≡ is_open_at self.now place }
     {
         match self.seats.get(place) {
-            Some(Seat::Open(_, _)) => return true,
-            _ => return false,
+            Some(seat) => return is_open(seat),
+            None => return false,
         }
     }
 
@@ -124,16 +140,11 @@ impl<O: Drop> Seats<O> {
         ensures others { LeavesOthers W.agrees W.was_made caller way.old way.new }
     {
         self.seats.reserve(1)?;
-        match way.make(alloc, caller, kind, options)? {
-            Made::Socket(object, socket) => {
-                self.push(Seat::Open(object, socket))?;
-                return Ok(LineAnswer::Plain(Answer::Object(object)));
-            }
-            Made::Refused(refusal) => {
-                self.push(Seat::Refused)?;
-                return Ok(refusal_answer(refusal));
-            }
-        }
+        let made = way.make(alloc, caller, kind, options)?;
+        let (seat, answer) = seated(made);
+        self.seats.push_reserved(seat);
+        self.first = next_open(&self.seats, self.first);
+        Ok(answer)
     }
 
     /// Pumps and calls the socket of a line. Where the line's name stands for no open socket nothing

@@ -17,3 +17,4 @@ pub mod EventLemmas
 pub mod GoesLemmas
 pub mod WorldLemmas
 pub mod RefusedLemmas
+pub mod NewLemmas

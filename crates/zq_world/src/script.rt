@@ -5,7 +5,7 @@ ghost use Rattle.script_actor.specs.Stepping.{lines_of};
 ghost use Rattle.zq_world.specs.Played.{AreNew};
 ghost use Rattle.zq_world.specs.Timed.{PlaysTimed, IsTimedJournal};
 
-use crate::cores::Core;
+use crate::cores::{Core, Shown};
 use crate::play::run;
 use msg_pipe::Pipes;
 use script_actor::Actor;
@@ -85,11 +85,24 @@ pub fn play_script<P: Pipes, W: Core<P>, C: Clock>(
 {
     let actors = play(alloc, script, way, clock, seed, turns)?;
     let shown = way.show(alloc)?;
-    Ok(RunJournal {
+    Ok(journal_of(actors, shown))
+}
+
+/// The journal of a run, by what its actors said and what its core shows.
+pub(crate) fn journal_of(actors: Seq<ActorLines>, shown: Shown) -> RunJournal
+    ensures { result ≡ record {
+      actors = actors;
+      ended = shown.ended;
+      pipes = shown.pipes;
+      objects = shown.objects;
+      done = shown.done;
+    } }
+{
+    RunJournal {
         actors,
         ended: shown.ended,
         pipes: shown.pipes,
         objects: shown.objects,
         done: shown.done,
-    })
+    }
 }

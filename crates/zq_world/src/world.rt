@@ -5,7 +5,7 @@ ghost use Rattle.zq_world.specs.ByEvents.{core_event};
 
 use crate::event::Event;
 use crate::events::step;
-use crate::script::{actors_of, parts};
+use crate::script::{actors_of, journal_of, parts};
 use crate::steps::Steps;
 use http_server::Log;
 use msg_pipe::Pipes;
@@ -113,13 +113,7 @@ impl<'a, P: Pipes, W: Steps<P> + Drop> World<'a, P, W> {
         self.way.known();
         let shown = self.way.show(alloc)?;
         let actors = parts(alloc, self.actors)?;
-        Ok(RunJournal {
-            actors,
-            ended: shown.ended,
-            pipes: shown.pipes,
-            objects: shown.objects,
-            done: shown.done,
-        })
+        Ok(journal_of(actors, shown))
     }
 }
 

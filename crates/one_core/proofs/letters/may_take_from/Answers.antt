@@ -1,6 +1,6 @@
 use Rattle.std.specs.Prelude.{◌-◌, not}
 use Rattle.std.proofs.Common.{arith, sym, ap, ◌∙◌}
-use Rattle.control_rows.proofs.ListLemmas.{never}
+use Rattle.control_laws.proofs.ListLemmas.{never}
 use Rattle.ctl_history.specs.Past.{control_of}
 use Rattle.core_others.proofs.BoxesLemmas.{takes_high, takes_low, takes_none}
 use Rattle.one_core.proofs.letters.may_take_from.Goals as goal

@@ -1,16 +1,17 @@
 use Rattle.std.proofs.Common.{List, refl, sym, subst}
-use Rattle.std.specs.Prelude.{slice_index_or}
+use Rattle.std.specs.Prelude.{◌≡◌, slice_index_or, true}
 use Rattle.std.specs.List.{Contains}
 use Rattle.std.proofs.lemmas.List.Elements.{Contains-append_left, All-contains_itself}
 use Rattle.ctl_holder.specs.declared.given.Given.{Given}
 use Rattle.ctl_history.specs.Past.{control_of}
-use Rattle.ctl_plane.specs.Desk.{counts_with}
+use Rattle.ctl_plane.specs.Desk.{counts_with, HasWhatTheySay, KeepsUp}
+use Rattle.one_desk.specs.Lent.{moments_of}
 use Rattle.reaper_ends.specs.declared.sockets.ClosedSockets.{ClosedSockets}
 use Rattle.reaper_ends.specs.Coming.{IsBrought}
 use Rattle.reaper_ends.specs.Counting.{counts_of}
 use Rattle.reaper_ends.specs.Has.{holding_in}
 use Rattle.reaper_ends.specs.Sound.{MayJoin, MayTake}
-use Rattle.reap_calls.specs.Calls.{ChangesClosed}
+use Rattle.reap_calls.specs.Calls.{ChangesClosed, FitsClosed}
 use Rattle.reap_calls.proofs.reaper.deliver_first.Goals as goal
 
 pub deliver_lent-answer-requires-clause-binds : goal.deliver_lent-answer-requires-clause-binds
@@ -38,3 +39,39 @@ returns-clause-changes g c =
     subst (λ (p : g.row.P.Denot). ChangesClosed g.P.Pipes.known brings p c.args.closed.now x.result.pipes x.result.closed) c.replace-lent.ensures.value
     (subst (λ (y : ClosedSockets _ _ _). ChangesClosed g.P.Pipes.known brings c.replace-lent.result y x.result.pipes x.result.closed) c.replace-moved.ensures.value
     (x.ensures.changes c.replace-lent.result c.replace-moved.result (refl, refl)))
+
+pub deliver_lent-answer-requires-clause-began : goal.deliver_lent-answer-requires-clause-began
+deliver_lent-answer-requires-clause-began g c = λ s t b. b
+
+pub deliver_lent-answer-requires-clause-fits : goal.deliver_lent-answer-requires-clause-fits
+deliver_lent-answer-requires-clause-fits g c =
+    subst (λ (p : g.row.P.Denot). FitsClosed g.P.Pipes.known p c.replace-moved.result) (sym c.replace-lent.ensures.value)
+    (subst (λ (y : ClosedSockets _ _ _). FitsClosed g.P.Pipes.known c.args.pipes.now y) (sym c.replace-moved.ensures.value) c.requires.fits)
+
+pub deliver_lent-answer-requires-clause-lent : goal.deliver_lent-answer-requires-clause-lent
+deliver_lent-answer-requires-clause-lent g c = λ m i served.
+    subst (λ (y : ClosedSockets _ _ _). (holding_in g.P.Pipes.known.out_name g.P.Pipes.known.in_name y).holds i ≡ true) (sym c.replace-moved.ensures.value) (c.requires.lent m i served)
+
+pub deliver_lent-answer-requires-clause-has : goal.deliver_lent-answer-requires-clause-has
+deliver_lent-answer-requires-clause-has g c =
+    subst (λ (y : ClosedSockets _ _ _). HasWhatTheySay c.args.desk.now.caller (moments_of c.args.desk.now) (holding_in g.P.Pipes.known.out_name g.P.Pipes.known.in_name y)) (sym c.replace-moved.ensures.value) c.requires.has
+
+pub deliver_lent-answer-requires-clause-distinct : goal.deliver_lent-answer-requires-clause-distinct
+deliver_lent-answer-requires-clause-distinct g c = c.requires.distinct
+
+pub returns-clause-ok : goal.returns-clause-ok
+returns-clause-ok g c = c.deliver_lent-answer.ensures.ok
+
+pub returns-clause-succeeds : goal.returns-clause-succeeds
+returns-clause-succeeds g c = c.deliver_lent-answer.ensures.succeeds
+
+pub returns-clause-err : goal.returns-clause-err
+returns-clause-err g c = c.deliver_lent-answer.ensures.err
+
+pub returns-clause-given : goal.returns-clause-given
+returns-clause-given g c = c.deliver_lent-answer.ensures.given
+
+pub returns-clause-keeps : goal.returns-clause-keeps
+returns-clause-keeps g c =
+    let x = c.deliver_lent-answer in
+    subst (λ (y : ClosedSockets _ _ _). KeepsUp x.new.desk.caller (moments_of c.args.desk.now) (moments_of x.new.desk) (holding_in g.P.Pipes.known.out_name g.P.Pipes.known.in_name y) (holding_in g.P.Pipes.known.out_name g.P.Pipes.known.in_name x.result.closed)) c.replace-moved.ensures.value x.ensures.keeps

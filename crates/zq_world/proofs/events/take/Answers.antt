@@ -1,7 +1,8 @@
-use Rattle.std.proofs.Common.{sym, subst, ◌∙◌}
+use Rattle.std.proofs.Common.{◌≡◌, true, sym, subst, ◌∙◌}
 use Rattle.std.proofs.lemmas.Option.{get_or_from_slice_get}
 use Rattle.std.proofs.lemmas.Result.{on_ok_weaker}
-use Rattle.script_actor.specs.Taking.{FetchesSo}
+use Rattle.script_actor.specs.Stepping.{standing_of, ActorAgrees}
+use Rattle.script_actor.specs.Taking.{has_slot, FetchesSo}
 use Rattle.zq_world.proofs.StepLemmas.{agree_then}
 use Rattle.zq_world.proofs.EventLemmas.{one_not_taken, one_more_fetched}
 use Rattle.zq_world.proofs.events.take.Goals as goal
@@ -21,3 +22,39 @@ pub returns-in-Some-clause-agree : goal.returns-in-Some-clause-agree
 returns-in-Some-clause-agree g c =
     agree_then g.W.Sockets.as_open g.W.Sockets.agrees g.W.Sockets.was_made c.args.way.now c.fetch.new.way c.args.actors.now c.in-Some.number c.in-Some.ensures.some.actor c.fetch.new.self
     c.in-Some.ensures.some.here c.requires.agree c.fetch.ensures.agrees c.fetch.ensures.others
+
+pub fetch-requires-clause-agrees : goal.fetch-requires-clause-agrees
+fetch-requires-clause-agrees g c =
+    subst (λ a. ActorAgrees g.W.Sockets.as_open g.W.Sockets.agrees g.W.Sockets.was_made c.args.way.now c.in-Some.number a)
+    (sym (get_or_from_slice_get c.args.actors.now c.in-Some.number c.in-Some.ensures.some.actor _ c.in-Some.ensures.some.here))
+    (c.requires.agree c.in-Some.number c.in-Some.ensures.some.actor c.in-Some.ensures.some.here)
+
+pub fetch-requires-clause-has : goal.fetch-requires-clause-has
+fetch-requires-clause-has g c =
+    subst (λ a. has_slot c.args.slot (standing_of g.W.Sockets.as_open a).mine.socks ≡ true)
+    (sym (get_or_from_slice_get c.args.actors.now c.in-Some.number c.in-Some.ensures.some.actor _ c.in-Some.ensures.some.here))
+    c.in-Some.ensures.some.has
+
+pub fetch-requires-clause-waits : goal.fetch-requires-clause-waits
+fetch-requires-clause-waits g c = sym c.may_take.ensures ∙ c.if-not-may_take.false
+
+pub reap-requires-clause-agree : goal.reap-requires-clause-agree
+reap-requires-clause-agree g c = c.requires.agree
+
+pub reap-requires-clause-alone : goal.reap-requires-clause-alone
+reap-requires-clause-alone g c = c.requires.alone
+
+pub reap-requires-clause-waits : goal.reap-requires-clause-waits
+reap-requires-clause-waits g c = sym c.may_take.ensures ∙ c.if-not-may_take.false
+
+pub reap-requires-clause-none : goal.reap-requires-clause-none
+reap-requires-clause-none g c = c.in-None.ensures.none
+
+pub returns-in-None-clause-ok : goal.returns-in-None-clause-ok
+returns-in-None-clause-ok g c = c.reap.ensures.ok
+
+pub returns-in-None-clause-agree : goal.returns-in-None-clause-agree
+returns-in-None-clause-agree g c = c.reap.ensures.agree
+
+pub returns-then-not-may_take-clause-agree : goal.returns-then-not-may_take-clause-agree
+returns-then-not-may_take-clause-agree g c = c.requires.agree

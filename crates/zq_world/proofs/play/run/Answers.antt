@@ -29,14 +29,15 @@ returns-then-not-branch-clause-ok g c =
 pub returns-then-not-branch-clause-agree : goal.returns-then-not-branch-clause-agree
 returns-then-not-branch-clause-agree g c = agree_still g.W.Sockets.as_open g.W.Sockets.agrees g.W.Sockets.was_made c.turns.way c.begin.new.way c.turns.actors c.begin.ensures.keeps c.turns.invariant.agree
 
-pub turn-requires : goal.turn-requires
-turn-requires g c = record {
-  agree = agree_still g.W.Sockets.as_open g.W.Sockets.agrees g.W.Sockets.was_made c.turns.way c.begin.new.way c.turns.actors c.begin.ensures.keeps c.turns.invariant.agree;
-  alone = alone_begun g.W.Sockets.as_open c.args.seed c.args.turns c.turns.order.drawn c.turns.left c.saturating_add-conductor.result c.args.actors.now c.turns.actors (g.W.Sockets.pieces c.args.way.now) (g.W.Sockets.pieces c.turns.way) (g.W.Sockets.pieces c.begin.new.way)
-      (clock_at (g.C.Clock.last c.args.clock.now) (g.C.Clock.to_come c.args.clock.now)) (clock_at (g.C.Clock.last c.turns.clock) (g.C.Clock.to_come c.turns.clock)) c.turns.invariant.conductor c.turns.invariant.come
-      (subst (λ b. BeginsOrEnds b c.saturating_add-conductor.result (standings g.W.Sockets.as_open c.turns.actors) (g.W.Sockets.pieces c.turns.way) (g.W.Sockets.pieces c.begin.new.way)) c.if-not-branch.false c.in_ok-begin.ensures.ok)
-      c.requires.alone;
-}
+pub turn-requires-clause-agree : goal.turn-requires-clause-agree
+turn-requires-clause-agree g c = agree_still g.W.Sockets.as_open g.W.Sockets.agrees g.W.Sockets.was_made c.turns.way c.begin.new.way c.turns.actors c.begin.ensures.keeps c.turns.invariant.agree
+
+pub turn-requires-clause-alone : goal.turn-requires-clause-alone
+turn-requires-clause-alone g c =
+    alone_begun g.W.Sockets.as_open c.args.seed c.args.turns c.turns.order.drawn c.turns.left c.saturating_add-conductor.result c.args.actors.now c.turns.actors (g.W.Sockets.pieces c.args.way.now) (g.W.Sockets.pieces c.turns.way) (g.W.Sockets.pieces c.begin.new.way)
+    (clock_at (g.C.Clock.last c.args.clock.now) (g.C.Clock.to_come c.args.clock.now)) (clock_at (g.C.Clock.last c.turns.clock) (g.C.Clock.to_come c.turns.clock)) c.turns.invariant.conductor c.turns.invariant.come
+    (subst (λ b. BeginsOrEnds b c.saturating_add-conductor.result (standings g.W.Sockets.as_open c.turns.actors) (g.W.Sockets.pieces c.turns.way) (g.W.Sockets.pieces c.begin.new.way)) c.if-not-branch.false c.in_ok-begin.ensures.ok)
+    c.requires.alone
 
 pub turns-preserved : goal.turns-preserved
 turns-preserved g c = record {

@@ -1,6 +1,6 @@
 use Rattle.std.proofs.Common.{sym, subst, arith}
 use Rattle.std.proofs.lemmas.Result.{on_ok_weaker}
-use Rattle.script_actor.specs.Stepping.{StepsSo}
+use Rattle.script_actor.specs.Stepping.{ActorAgrees, StepsSo}
 use Rattle.zq_world.specs.CoreCalls.{IsReaper}
 use Rattle.zq_world.proofs.StepLemmas.{actor_is, reaper_is, server_is, agree_then, agree_still, read_here}
 use Rattle.zq_world.proofs.play.step.Goals as goal
@@ -33,3 +33,13 @@ returns-clause-ok g c =
 
 pub reap_one-requires : goal.reap_one-requires
 reap_one-requires g c = record { alone = subst (λ n. IsReaper n (g.W.Sockets.pieces c.args.way.now)) (sym c.if-worker-actors-2.true) c.requires.alone }
+
+pub step-requires : goal.step-requires
+step-requires g c = record {
+  agrees = subst (λ a. ActorAgrees g.W.Sockets.as_open g.W.Sockets.agrees g.W.Sockets.was_made c.args.way.now c.args.worker a) c.index-actors-worker.is
+      (c.requires.agree c.args.worker c.index-actors-worker.result
+      (read_here c.args.actors.now c.args.worker c.index-actors-worker.result c.if-worker-actors.true c.index-actors-worker.is));
+}
+
+pub returns-clause-agree : goal.returns-clause-agree
+returns-clause-agree g c = c.requires.agree

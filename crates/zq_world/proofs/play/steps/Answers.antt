@@ -9,11 +9,12 @@ use Rattle.zq_world.proofs.play.steps.Goals as goal
 pub workers-init : goal.workers-init
 workers-init g c = record { have = have_none g.W.Sockets.as_open c.args.actors.now (g.W.Sockets.pieces c.args.way.now); agree = c.requires.agree }
 
-pub step-requires : goal.step-requires
-step-requires g c = record {
-  agree = c.workers.invariant.agree;
-  alone = alone_stepped g.W.Sockets.as_open (take c.workers.worker-index c.args.order.now) c.args.actors.now c.workers.actors (g.W.Sockets.pieces c.args.way.now) (g.W.Sockets.pieces c.workers.way) c.workers.invariant.have c.requires.alone;
-}
+pub step-requires-clause-agree : goal.step-requires-clause-agree
+step-requires-clause-agree g c = c.workers.invariant.agree
+
+pub step-requires-clause-alone : goal.step-requires-clause-alone
+step-requires-clause-alone g c =
+    alone_stepped g.W.Sockets.as_open (take c.workers.worker-index c.args.order.now) c.args.actors.now c.workers.actors (g.W.Sockets.pieces c.args.way.now) (g.W.Sockets.pieces c.workers.way) c.workers.invariant.have c.requires.alone
 
 pub workers-preserved : goal.workers-preserved
 workers-preserved g c = record {

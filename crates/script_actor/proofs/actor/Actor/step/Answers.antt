@@ -19,3 +19,21 @@ returns-clause-ok g c =
     c.end_try.new.self c.in-Some.line.now c.in-Some.rest.now c.in_ok-answer.answer (g.W.Sockets.pieces c.args.way.now) (g.W.Sockets.pieces c.ask.new.way)
     (search rules) refl refl refl refl c.in_ok-answer.ensures.ok h c.end_try.ensures.seats)
     c.end_try.ensures.ok
+
+pub ask-requires-clause-agree : goal.ask-requires-clause-agree
+ask-requires-clause-agree g c = c.requires.agrees.sockets
+
+pub returns-clause-others : goal.returns-clause-others
+returns-clause-others g c = c.ask.ensures.others
+
+pub returns-in_err-answer-clause-agrees : goal.returns-in_err-answer-clause-agrees
+returns-in_err-answer-clause-agrees g c = record { sockets = c.ask.ensures.agree; may = c.requires.agrees.may }
+
+pub returns-in_err-answer-clause-others : goal.returns-in_err-answer-clause-others
+returns-in_err-answer-clause-others g c = c.ask.ensures.others
+
+pub returns-in_default-clause-agrees : goal.returns-in_default-clause-agrees
+returns-in_default-clause-agrees g c = record { sockets = c.shut_first.ensures.agree; may = c.requires.agrees.may }
+
+pub returns-in_default-clause-others : goal.returns-in_default-clause-others
+returns-in_default-clause-others g c = c.shut_first.ensures.others

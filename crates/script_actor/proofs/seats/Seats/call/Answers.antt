@@ -1,7 +1,8 @@
-use Rattle.std.proofs.Common.{sym, refl, ◌∙◌}
+use Rattle.std.proofs.Common.{arith, sym, refl, ◌∙◌}
 use Rattle.std.proofs.lemmas.Result.{IfOk-weaker}
 use Rattle.script_actor.specs.declared.seats.Seat.TheVariants as seat
-use Rattle.script_actor.proofs.SeatLemmas.{all_fit, shut_same, open_at_here, not_shut_in}
+use Rattle.script_actor.proofs.SeatLemmas.{all_fit, others_left, shut_same, open_at_here, not_shut_in}
+use Rattle.script_actor.proofs.HereLemmas.{within_open, asks_socket, agreed_in, others_stay}
 use Rattle.script_actor.proofs.LineLemmas.{asked_none, calls_in, agrees_in}
 use Rattle.script_actor.proofs.seats.Seats.call.Goals as goal
 
@@ -33,3 +34,30 @@ returns-in-Open-clause-agree g c =
 pub returns-in_default : goal.returns-in_default
 returns-in_default g c =
     elim (not_shut_in c.args.place c.self.inside.seats.items c.args.self.now c.index_mut.result.now c.self.view_is (sym c.is_open_at.ensures ∙ c.if-not-is_open_at.false) c.index_mut.ensures.value c.in_default.not-Open) [ ]
+
+pub call-requires-clause-agrees : goal.call-requires-clause-agrees
+call-requires-clause-agrees g c =
+    agreed_in g.W.Sockets.as_open g.W.Sockets.agrees g.W.Sockets.was_made c.args.caller c.args.place c.self.inside.seats.items c.args.self.now c.index_mut.result.now c.in-Open.field-0 c.in-Open.socket c.args.way.now
+    c.self.view_is (sym c.is_open_at.ensures ∙ c.if-not-is_open_at.false) c.index_mut.ensures.value c.in-Open.is c.requires.agree
+
+pub call-requires-clause-asks : goal.call-requires-clause-asks
+call-requires-clause-asks g c = asks_socket c.args.line.now c.args.place c.requires.place
+
+pub call-requires-clause-may : goal.call-requires-clause-may
+call-requires-clause-may g c = c.requires.may
+
+pub returns-in-Open-clause-others : goal.returns-in-Open-clause-others
+returns-in-Open-clause-others g c = others_left g.W.Sockets.as_open g.W.Sockets.agrees g.W.Sockets.was_made c.args.caller (g.W.Sockets.as_open c.in-Open.socket).object c.args.way.now c.call.new.self c.call.ensures.keeps
+
+pub returns-then-not-is_open_at-clause-agree : goal.returns-then-not-is_open_at-clause-agree
+returns-then-not-is_open_at-clause-agree g c = c.requires.agree
+
+pub returns-then-not-is_open_at-clause-others : goal.returns-then-not-is_open_at-clause-others
+returns-then-not-is_open_at-clause-others g c = others_stay g.W.Sockets.agrees g.W.Sockets.was_made c.args.caller c.args.way.now
+
+pub invariant_of-self-in_default : goal.invariant_of-self-in_default
+invariant_of-self-in_default g c =
+    elim (not_shut_in c.args.place c.self.inside.seats.items c.args.self.now c.index_mut.result.now c.self.view_is (sym c.is_open_at.ensures ∙ c.if-not-is_open_at.false) c.index_mut.ensures.value c.in_default.not-Open) [ ]
+
+pub index_mut-requires : goal.index_mut-requires
+index_mut-requires g c = let w = within_open c.args.place c.self.inside.seats.items c.args.self.now c.self.view_is (sym c.is_open_at.ensures ∙ c.if-not-is_open_at.false) in omega (arith, w)

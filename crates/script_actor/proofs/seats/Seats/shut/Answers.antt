@@ -1,7 +1,8 @@
-use Rattle.std.proofs.Common.{sym, refl, ◌∙◌}
+use Rattle.std.proofs.Common.{arith, sym, refl, ◌∙◌}
 use Rattle.script_actor.specs.declared.seats.Seat.TheVariants as seat
 use Rattle.script_actor.proofs.SeatLemmas.{shut_closed, shut_same, open_at_here, not_shut_in, others_left}
 use Rattle.script_actor.proofs.LineLemmas.{shuts_in, shut_agrees_in, agrees_in}
+use Rattle.script_actor.proofs.HereLemmas.{within_open, agreed_in}
 use Rattle.script_actor.proofs.seats.Seats.shut.Goals as goal
 
 pub next_open-self-inside-requires : goal.next_open-self-inside-requires
@@ -42,3 +43,18 @@ invariant_of-self-in_default g c =
 pub returns-in_default : goal.returns-in_default
 returns-in_default g c =
     elim (not_shut_in c.args.place c.self.inside.seats.items c.args.self.now c.index_mut-seat.result.now c.self.view_is c.requires.here c.index_mut-seat.ensures.value (λ object socket e. c.in_default.not-Open object socket (c.replace.ensures.value ∙ e))) [ ]
+
+pub close-requires : goal.close-requires
+close-requires g c = record {
+  agrees = agreed_in g.W.Sockets.as_open g.W.Sockets.agrees g.W.Sockets.was_made c.args.caller c.args.place c.self.inside.seats.items c.args.self.now c.index_mut-seat.result.now c.in-Open.object c.in-Open.socket c.args.way.now
+      c.self.view_is c.requires.here c.index_mut-seat.ensures.value (sym c.replace.ensures.value ∙ c.in-Open.is) c.requires.agree;
+}
+
+pub returns-in-Err-clause-ok : goal.returns-in-Err-clause-ok
+returns-in-Err-clause-ok g c = tt
+
+pub returns-in-Err-clause-others : goal.returns-in-Err-clause-others
+returns-in-Err-clause-others g c = others_left g.W.Sockets.as_open g.W.Sockets.agrees g.W.Sockets.was_made c.args.caller (g.W.Sockets.as_open c.in-Open.socket).object c.args.way.now c.close.new.self c.in-Err.ensures.keeps
+
+pub index_mut-seat-requires : goal.index_mut-seat-requires
+index_mut-seat-requires g c = let w = within_open c.args.place c.self.inside.seats.items c.args.self.now c.self.view_is c.requires.here in omega (arith, w)

@@ -18,7 +18,7 @@ use Rattle.sock_core.specs.Sound.{AreSound}
 use Rattle.sock_core.specs.Standing.{joining_as, standing_joins}
 use Rattle.held_ends.proofs.OthersLemmas.{leaves_on, leaves_unchanged}
 use Rattle.std.proofs.Math.Logic.{∥∥₁_map}
-use Rattle.sock_core.specs.Way.{way_in, KindWay}
+use Rattle.sock_core.specs.Way.{way_in, IsCalm, KindWay}
 use Rattle.sock_core.specs.Peers.{AreFlagged, AreInUse, AreElse}
 use Rattle.sock_core.specs.Patterns.{AttachesAs}
 use Rattle.sock_core.proofs.FlagLemmas.{flagged_more, in_use_more}
@@ -205,3 +205,107 @@ returns-in-Ok-attach-clause-calm g c = λ came calm.
     calm_came c.args.self.now.did.items (way_in c.args.self.now.core.way.items) (way_in c.note_join.new.way.items) c.args.self.now.core.ends.places.items c.join.new.table.places.items new (joining_as c.joint_of-joint.result c.args.identity.now c.in-Ok-attach.answer) c.joint_of-joint.result.place c.args.end came
     c.note_join.ensures.way (c.join.ensures.joined ∙ ap (λ (l : List (Place _ _)). l ++ new ∷ []) c.prepare.ensures.kept.places) (c.joint_of-joint.ensures.place ∙ place)
     (ap (λ (r : EndRow _ _). r.end) c.in-Ok-prepare.ensures.ok ∙ sym c.joint_of-joint.ensures.end) refl c.joint_of-joint.ensures.end calm
+
+pub invariant_of-self : goal.invariant_of-self
+invariant_of-self g c =
+    let place : c.len-place.result ≡ length c.args.self.now.core.ends.places.items = (let n = c.len-place.ensures in omega (arith, n)) in
+    record {
+      sound = c.args.self.now.sound;
+      peers = c.args.self.now.peers;
+      room = room_of c.args.self.now.core.is_open c.len-place.result (length c.args.self.now.core.ends.places.items) c.keep.new.self (omega (arith, place)) c.keep.ensures.err;
+      gone = c.args.self.now.gone;
+      flagged = c.args.self.now.flagged;
+      in_use = c.args.self.now.in_use;
+      settled_are = c.args.self.now.settled_are;
+      sealed_are = c.args.self.now.sealed_are;
+      others = c.args.self.now.others;
+      stopped = c.args.self.now.stopped;
+      number = c.args.self.now.number;
+      done = c.args.self.now.done;
+      tied = c.args.self.now.tied;
+      came = c.args.self.now.came;
+      way = c.args.self.now.way;
+      rest = c.args.self.now.rest;
+    }
+
+pub returns-in-Err-clause-err : goal.returns-in-Err-clause-err
+returns-in-Err-clause-err g c = (
+  refl,
+  record {
+    now = record {
+      ends = refl;
+      others = λ i ne. refl;
+      objects = λ i. refl;
+      kinds = λ i. refl;
+      output = λ i. refl;
+      delimiters = λ i e has met. met;
+    };
+    writers = λ d. refl;
+  },
+  record { states = λ i d has. refl; turns = refl; sealed = refl; joined = refl },
+)
+
+pub returns-in-Err-clause-still : goal.returns-in-Err-clause-still
+returns-in-Err-clause-still g c = λ came calm. calm
+
+pub returns-in-Err-prepare-clause-still : goal.returns-in-Err-prepare-clause-still
+returns-in-Err-prepare-clause-still g c = λ came calm.
+    subst (λ (l : List (Place _ _)). IsCalm (way_in c.args.self.now.core.way.items) l c.args.self.now.did.items came) (sym c.prepare.ensures.kept.places) calm
+
+pub returns-in-Err-attach-clause-still : goal.returns-in-Err-attach-clause-still
+returns-in-Err-attach-clause-still g c = λ came calm.
+    subst (λ (l : List (Place _ _)). IsCalm (way_in c.args.self.now.core.way.items) l c.args.self.now.did.items came) (sym c.prepare.ensures.kept.places) calm
+
+pub returns-in-Err-clause-ok : goal.returns-in-Err-clause-ok
+returns-in-Err-clause-ok g c = tt
+
+pub returns-in-Err-clause-turns : goal.returns-in-Err-clause-turns
+returns-in-Err-clause-turns g c = tt
+
+pub returns-in-Err-clause-joins : goal.returns-in-Err-clause-joins
+returns-in-Err-clause-joins g c = tt
+
+pub returns-in-Err-clause-refuses : goal.returns-in-Err-clause-refuses
+returns-in-Err-clause-refuses g c = tt
+
+pub returns-in-Err-clause-calm : goal.returns-in-Err-clause-calm
+returns-in-Err-clause-calm g c = tt
+
+pub returns-in-Err-clause-heard : goal.returns-in-Err-clause-heard
+returns-in-Err-clause-heard g c = refl
+
+pub returns-in-Err-prepare-clause-ok : goal.returns-in-Err-prepare-clause-ok
+returns-in-Err-prepare-clause-ok g c = tt
+
+pub returns-in-Err-prepare-clause-turns : goal.returns-in-Err-prepare-clause-turns
+returns-in-Err-prepare-clause-turns g c = tt
+
+pub returns-in-Err-prepare-clause-joins : goal.returns-in-Err-prepare-clause-joins
+returns-in-Err-prepare-clause-joins g c = tt
+
+pub returns-in-Err-prepare-clause-refuses : goal.returns-in-Err-prepare-clause-refuses
+returns-in-Err-prepare-clause-refuses g c = tt
+
+pub returns-in-Err-prepare-clause-calm : goal.returns-in-Err-prepare-clause-calm
+returns-in-Err-prepare-clause-calm g c = tt
+
+pub returns-in-Err-prepare-clause-heard : goal.returns-in-Err-prepare-clause-heard
+returns-in-Err-prepare-clause-heard g c = refl
+
+pub returns-in-Err-attach-clause-ok : goal.returns-in-Err-attach-clause-ok
+returns-in-Err-attach-clause-ok g c = tt
+
+pub returns-in-Err-attach-clause-turns : goal.returns-in-Err-attach-clause-turns
+returns-in-Err-attach-clause-turns g c = tt
+
+pub returns-in-Err-attach-clause-joins : goal.returns-in-Err-attach-clause-joins
+returns-in-Err-attach-clause-joins g c = tt
+
+pub returns-in-Err-attach-clause-refuses : goal.returns-in-Err-attach-clause-refuses
+returns-in-Err-attach-clause-refuses g c = tt
+
+pub returns-in-Err-attach-clause-calm : goal.returns-in-Err-attach-clause-calm
+returns-in-Err-attach-clause-calm g c = tt
+
+pub returns-in-Err-attach-clause-heard : goal.returns-in-Err-attach-clause-heard
+returns-in-Err-attach-clause-heard g c = refl

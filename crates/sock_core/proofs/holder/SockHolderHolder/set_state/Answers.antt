@@ -1,4 +1,4 @@
-use Rattle.std.proofs.Common.{◌≡◌, refl, sym, ap, ◌∙◌, subst, Bool, true, false, List, [], ◌∷◌, ◌++◌, if◌then◌else◌, ◌==◌, set}
+use Rattle.std.proofs.Common.{arith, ◌≡◌, refl, sym, ap, ◌∙◌, subst, Bool, true, false, List, [], ◌∷◌, ◌++◌, if◌then◌else◌, ◌==◌, set}
 use Rattle.std.proofs.Math.Logic.{∥∥₁_map}
 use Rattle.spec_control.specs.Place.{At}
 use Rattle.spec_run.specs.OpenSocket.{is_out}
@@ -15,7 +15,7 @@ use Rattle.sock_core.proofs.FormLemmas.{sound_of, are_sound}
 use Rattle.sock_core.proofs.HolderLemmas.{owned, turned_of}
 use Rattle.zq_base.specs.declared.kind.Kind.{Kind}
 use Rattle.held_ends.proofs.SoundLemmas.{one_some}
-use Rattle.held_ends.proofs.PlaceLemmas.{place_found}
+use Rattle.held_ends.proofs.PlaceLemmas.{place_within, place_found}
 use Rattle.std.proofs.Common.{ℕ, length, length-set}
 use Rattle.sock_core.specs.Sound.{KeepsRoom}
 use Rattle.sock_core.specs.Peers.{ArePeers, AreFlagged, AreInUse}
@@ -137,3 +137,13 @@ returns-in-Some-clause-counts g c = λ writer reads.
     (ap (position (is_of c.args.end)) s.now ∙ position_same (is_of c.args.end) c.args.self.now.core.ends.places.items c.in-Some.place s.place (record s.place { state = c.args.state; peer = c.stays-peer.result }) s.there refl ∙ at)
     ∙ ap (counts_with g.P.Pipes.known c.args.self.now.pipes writer) c.set_state.ensures.half
     ∙ sym (ap (λ (p : Option ℕ). counts_at g.P.Pipes.known c.args.self.now.pipes c.args.self.now.core.ends p writer) at)
+
+pub index-requires : goal.index-requires
+index-requires g c =
+    let f = found (is_of c.args.end) c.args.self.now.core.ends.places.items c.in-Some.place (sym c.in-Some.is ∙ c.find.ensures ∙ ap (λ (l : List (Place _ _)). position (is_of c.args.end) l) c.deref.ensures.value) in
+    let w = place_within c.args.self.now.core.ends.places.items c.in-Some.place f.0 f.1 in omega (arith, w)
+
+pub index-requires-in-Some : goal.index-requires-in-Some
+index-requires-in-Some g c =
+    let f = found (is_of c.args.end) c.args.self.now.core.ends.places.items c.in-Some.place (sym c.in-Some.is ∙ c.find.ensures ∙ ap (λ (l : List (Place _ _)). position (is_of c.args.end) l) c.deref.ensures.value) in
+    let w = place_within c.args.self.now.core.ends.places.items c.in-Some.place f.0 f.1 in omega (arith, w)

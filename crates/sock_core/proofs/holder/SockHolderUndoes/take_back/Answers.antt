@@ -1,4 +1,4 @@
-use Rattle.std.proofs.Common.{refl, sym, ap, ◌∙◌, subst, Bool, false, List, [], if◌then◌else◌, ◌==◌, set, Some}
+use Rattle.std.proofs.Common.{arith, refl, sym, ap, ◌∙◌, subst, Bool, false, List, [], if◌then◌else◌, ◌==◌, set, Some}
 use Rattle.std.specs.List.{position}
 use Rattle.held_ends.specs.declared.table.Place.{Place}
 use Rattle.ctl_holder.specs.Holding.{BeginsNone, Left, read_in, written_in}
@@ -11,7 +11,7 @@ use Rattle.sock_core.proofs.HolderLemmas.{owned_last, flag_at, names_at, left_be
 use Rattle.zq_base.specs.declared.kind.Kind.{Kind}
 use Rattle.std.proofs.Common.{ℕ, length, length-set}
 use Rattle.sock_core.specs.Sound.{KeepsRoom}
-use Rattle.held_ends.proofs.PlaceLemmas.{place_found}
+use Rattle.held_ends.proofs.PlaceLemmas.{place_within, place_found}
 use Rattle.sock_core.specs.Peers.{ArePeers}
 use Rattle.sock_core.proofs.PeerLemmas.{kept_parted}
 use Rattle.spec_control.specs.declared.entry.Joining.{Joining}
@@ -148,3 +148,8 @@ returns-in-Some-clause-calm g c = λ came calm.
     calm_undone c.args.self.now.did.items (way_in c.args.self.now.core.way.items) (way_in c.note_back.new.way.items) c.args.self.now.core.ends.places.items c.take_back.new.table.places.items (record s.place { held = false; writes = false }) c.in-Some.place c.args.end came c.note_back.ensures.way s.now
     (calm_last g.P.Pipes.known c.args.self.now.did.items c.args.self.now.pipes c.args.self.now.core.ends.rows.items (way_in c.args.self.now.core.way.items) c.args.self.now.core.ends.places.items c.in-Some.place f.0 c.args.end came
     (sound_of g.P.Pipes.known c.args.self.now.pipes c.args.self.now.core.ends.rows.items c.args.self.now.core.ends.places.items c.args.self.now.sound) f.1 f.2 calm) calm
+
+pub index-requires : goal.index-requires
+index-requires g c =
+    let f = found (is_of c.args.end) c.args.self.now.core.ends.places.items c.in-Some.place (sym c.in-Some.is ∙ c.find.ensures ∙ ap (λ (l : List (Place _ _)). position (is_of c.args.end) l) c.deref.ensures.value) in
+    let w = place_within c.args.self.now.core.ends.places.items c.in-Some.place f.0 f.1 in omega (arith, w)

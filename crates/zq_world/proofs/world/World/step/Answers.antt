@@ -1,8 +1,8 @@
 use Rattle.std.specs.Prelude.{◌++◌, List, false, length, map, refl}
-use Rattle.std.proofs.Common.{rules, sym, subst, take, drop}
+use Rattle.std.proofs.Common.{rules, true, true≢false, sym, ap, subst, take, drop}
 use Rattle.zq_world.specs.CoreCalls.{IsReaper}
 use Rattle.zq_world.specs.declared.event.Event.{Event}
-use Rattle.zq_world.specs.ByEvents.{core_event, known_of, DoesEvent, IsWorld}
+use Rattle.zq_world.specs.ByEvents.{core_event, known_of, DoesEvent, Events, IsWorld}
 use Rattle.zq_world.proofs.WorldLemmas.{world_alone, world_more}
 use Rattle.zq_world.proofs.world.World.step.Goals as goal
 
@@ -18,3 +18,9 @@ invariant_of-self g c wanted =
     (c.self.invariant c.if-self.false)
     (subst (λ actors. DoesEvent g.W.Sockets.as_open (core_event c.args.event) actors c.step.new.actors (g.W.Sockets.pieces c.self.inside.way) (g.W.Sockets.pieces c.step.new.way)) c.deref_mut.ensures.value c.in-Ok.ensures.ok)
     c.step.ensures.agree) refl
+
+pub invariant_of-self-in-Err : goal.invariant_of-self-in-Err
+invariant_of-self-in-Err g c wanted = absurd (true≢false wanted)
+
+pub returns-in-Err-clause-err : goal.returns-in-Err-clause-err
+returns-in-Err-clause-err g c = ap (λ (known : Events). record known { wanted = true }) c.self.view_is
