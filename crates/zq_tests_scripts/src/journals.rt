@@ -2,49 +2,30 @@ use run_journal::{ActorLines, LineAnswer, LineEntry, RunJournal, SettledRow, pri
 use spec_control::Reason;
 use spec_pattern::{PipeId, RecvRefusal, Report, Rule, SendRefusal, Skip};
 use std::alloc::{AllocError, Global};
-use std::test::Fail;
 use zq_base::{Frame, Message, ObjId, Octets, PairId, Seq};
 use zq_journal::{Answer, PipeRow};
 
-fn message(alloc: Global, parts: &[&[u8]]) -> Result<Message, Fail> {
-    let mut frames = Vec::new(alloc);
-    for part in parts {
-        let frame = Frame::of_slice(alloc, part).ok().ok_or("a frame")?;
-        frames.push(frame)?;
-    }
-    Ok(Message::of_parts(frames).ok().ok_or("a message")?)
+/// The list of these.
+pub fn listed<T: Copy>(alloc: Global, items: &[T]) -> Result<Seq<T>, AllocError> {
+    Ok(Seq::of_vec(Vec::from_slice(alloc, items)?))
 }
 
-/// The text of a journal.
-pub fn printed(alloc: Global, journal: RunJournal) -> Result<Octets, AllocError> {
-    let text = print(alloc, &journal);
+/// Whether a journal has this text.
+pub fn is_printed(alloc: Global, journal: RunJournal, text: &[u8]) -> bool {
+    let printed = print(alloc, &journal);
     drop(journal);
-    text
+    match printed {
+        Ok(printed) => {
+            let is_text = printed.as_slice() == text;
+            drop(printed);
+            return is_text;
+        }
+        Err(_) => return false,
+    }
 }
 
-/// The text of a journal in which one actor was answered once.
-fn text_of(alloc: Global, name: &[u8], line: u32, answer: Answer) -> Result<Octets, AllocError> {
-    let skips = Seq::new(alloc);
-    text_of_entry(
-        alloc,
-        name,
-        LineEntry {
-            line,
-            answer: LineAnswer::Plain(answer),
-            skips,
-        },
-    )
-}
-
-/// The one entry of an actor.
-fn one_entry(alloc: Global, entry: LineEntry) -> Result<Seq<LineEntry>, AllocError> {
-    let mut entries = Vec::new(alloc);
-    entries.push(entry)?;
-    Ok(Seq::of_vec(entries))
-}
-
-/// An actor of this name, with these entries.
-fn part_of(alloc: Global, name: &[u8], entries: Seq<LineEntry>) -> Result<ActorLines, AllocError> {
+// An actor of this name, with these entries.
+fn actor(alloc: Global, name: &[u8], entries: Seq<LineEntry>) -> Result<ActorLines, AllocError> {
     match Octets::of_slice(alloc, name) {
         Ok(name) => return Ok(ActorLines { name, entries }),
         Err(error) => {
@@ -54,35 +35,65 @@ fn part_of(alloc: Global, name: &[u8], entries: Seq<LineEntry>) -> Result<ActorL
     }
 }
 
-/// The text of a journal of one actor.
-fn text_of_actor(alloc: Global, actor: ActorLines) -> Result<Octets, AllocError> {
-    let mut actors = Vec::new(alloc);
-    actors.push(actor)?;
-    let journal = RunJournal {
+// The journal of one actor.
+fn journal(alloc: Global, actor: ActorLines) -> Result<RunJournal, AllocError> {
+    let actors = Vec::from_array(alloc, [actor])?;
+    Ok(RunJournal {
         actors: Seq::of_vec(actors),
         ended: Seq::new(alloc),
         pipes: Seq::new(alloc),
         objects: Seq::new(alloc),
         done: true,
-    };
-    printed(alloc, journal)
+    })
 }
 
-/// The text of a journal in which an actor of this name was answered once.
-pub fn text_of_entry(alloc: Global, name: &[u8], entry: LineEntry) -> Result<Octets, AllocError> {
-    let entries = one_entry(alloc, entry)?;
-    let actor = part_of(alloc, name, entries)?;
-    text_of_actor(alloc, actor)
+// The journal of an actor that was answered once.
+fn journal_of(alloc: Global, name: &[u8], entry: LineEntry) -> Result<RunJournal, AllocError> {
+    let entries = Vec::from_array(alloc, [entry])?;
+    let actor = actor(alloc, name, Seq::of_vec(entries))?;
+    journal(alloc, actor)
 }
 
-/// Whether an answer is told so.
-fn is_told(alloc: Global, answer: Answer, text: &[u8]) -> Result<bool, AllocError> {
-    let told = text_of(alloc, b"a", 4, answer)?;
-    Ok(told.as_slice() == text)
+// Whether it has this text.
+fn is_told_of(alloc: Global, name: &[u8], entry: LineEntry, text: &[u8]) -> bool {
+    match journal_of(alloc, name, entry) {
+        Ok(journal) => return is_printed(alloc, journal, text),
+        Err(_) => return false,
+    }
+}
+
+/// Whether an answer to a line of an actor, behind which these were dropped, is told so.
+pub fn is_told(
+    alloc: Global,
+    name: &[u8],
+    line: u32,
+    answer: LineAnswer,
+    skips: &[Skip],
+    text: &[u8],
+) -> bool {
+    match listed(alloc, skips) {
+        Ok(skips) => {
+            let entry = LineEntry {
+                line,
+                answer,
+                skips,
+            };
+            return is_told_of(alloc, name, entry, text);
+        }
+        Err(_) => {
+            drop(answer);
+            return false;
+        }
+    }
+}
+
+// Whether an answer to line 4 of the actor `a` is told so.
+fn is_told_of_a(alloc: Global, answer: Answer, text: &[u8]) -> bool {
+    is_told(alloc, b"a", 4, LineAnswer::Plain(answer), &[], text)
 }
 
 /// Answers without messages or lists.
-#[derive(Clone, Copy, Debug)]
+#[derive(Clone, Copy)]
 enum Short {
     Object(u32),
     Done,
@@ -142,11 +153,10 @@ const ANSWERS: [(Short, &[u8]); 15] = [
 ];
 
 #[test]
-fn answers_have_their_texts(rt: HostRuntime) -> Result<(), Fail> {
+fn answers_have_their_texts(rt: HostRuntime) {
     for (short, text) in &ANSWERS {
-        assert!(rt; is_told(rt.alloc(), answer(*short), text)?);
+        assert!(rt; is_told_of_a(rt.alloc(), answer(*short), text));
     }
-    Ok(())
 }
 
 /// A message of each rule that was dropped, and its pair.
@@ -165,50 +175,39 @@ const SKIPS: [Skip; 3] = [
     },
 ];
 
-/// What is told of a receive that gave nothing and dropped these.
-fn text_of_skips(alloc: Global, skips: &[Skip]) -> Result<Octets, AllocError> {
-    let skips = Vec::from_slice(alloc, skips)?;
-    let entry = LineEntry {
-        line: 7,
-        answer: LineAnswer::Plain(Answer::NotReceived(RecvRefusal::Busy)),
-        skips: Seq::of_vec(skips),
-    };
-    text_of_entry(alloc, b"a", entry)
-}
-
 #[test]
-fn drops_are_told_behind_the_answer(rt: HostRuntime) -> Result<(), Fail> {
+fn drops_are_told_behind_the_answer(rt: HostRuntime) {
     let text: &[u8] = b"a 7 busy !badenv@p1 !stray@p20 !filtered@p3\ndone\n";
-    assert!(rt; text_of_skips(rt.alloc(), &SKIPS)?.as_slice() == text);
-    Ok(())
+    let answer = LineAnswer::Plain(Answer::NotReceived(RecvRefusal::Busy));
+    assert!(rt; is_told(rt.alloc(), b"a", 7, answer, &SKIPS, text));
 }
 
-/// Pairs of these numbers.
-fn pairs(alloc: Global, numbers: &[u32]) -> Result<Seq<PairId>, AllocError> {
-    let mut pairs = Vec::new(alloc);
-    for number in numbers {
-        pairs.push(PairId(*number))?;
+// Copies to these pairs, with no room at those.
+fn report(alloc: Global, put: &[PairId], full: &[PairId]) -> Result<Report<PairId>, AllocError> {
+    let put = listed(alloc, put)?;
+    let full = listed(alloc, full)?;
+    Ok(Report { put, full })
+}
+
+// Whether they are told so.
+fn copies_are_told(alloc: Global, put: &[PairId], full: &[PairId], text: &[u8]) -> bool {
+    match report(alloc, put, full) {
+        Ok(report) => return is_told_of_a(alloc, Answer::Many(report), text),
+        Err(_) => return false,
     }
-    Ok(Seq::of_vec(pairs))
 }
 
-/// Whether copies to these pairs, with no room at those, are told so.
-fn copies_are_told(
-    alloc: Global,
-    put: &[u32],
-    full: &[u32],
-    text: &[u8],
-) -> Result<bool, AllocError> {
-    let put = pairs(alloc, put)?;
-    let full = pairs(alloc, full)?;
-    is_told(alloc, Answer::Many(Report { put, full }), text)
-}
+/// Pairs that got a copy, pairs without room, and what is told of them.
+const COPIES: [(&[PairId], &[PairId], &[u8]); 2] = [
+    (&[PairId(1), PairId(2)], &[], b"a 4 ok p1,p2\ndone\n"),
+    (&[PairId(2)], &[PairId(1)], b"a 4 ok p2 full p1\ndone\n"),
+];
 
 #[test]
-fn copies_are_told_by_their_pairs(rt: HostRuntime) -> Result<(), Fail> {
-    assert!(rt; copies_are_told(rt.alloc(), &[1, 2], &[], b"a 4 ok p1,p2\ndone\n")?);
-    assert!(rt; copies_are_told(rt.alloc(), &[2], &[1], b"a 4 ok p2 full p1\ndone\n")?);
-    Ok(())
+fn copies_are_told_by_their_pairs(rt: HostRuntime) {
+    for (put, full, text) in &COPIES {
+        assert!(rt; copies_are_told(rt.alloc(), put, full, text));
+    }
 }
 
 /// The parts of a message, and what is told of it.
@@ -224,70 +223,113 @@ const PARTS: [(&[&[u8]], &[u8]); 9] = [
     (&[b"\xff\xab\x0a"], b"w1 10 msg p2 0xffab0a\ndone\n"),
 ];
 
-/// Whether a message of these parts is told so.
-fn message_is_told(alloc: Global, parts: &[&[u8]], text: &[u8]) -> Result<bool, Fail> {
-    let answer = Answer::Got(PairId(2), message(alloc, parts)?);
-    Ok(text_of(alloc, b"w1", 10, answer)?.as_slice() == text)
-}
-
-#[test]
-fn parts_are_themselves_or_hex(rt: HostRuntime) -> Result<(), Fail> {
-    for (parts, text) in &PARTS {
-        assert!(rt; message_is_told(rt.alloc(), parts, text)?);
+// Whether a frame of these octets is added.
+fn adds(alloc: Global, frames: &mut Vec<Frame>, octets: &[u8]) -> bool {
+    match Frame::of_slice(alloc, octets) {
+        Ok(frame) => return frames.push(frame).is_ok(),
+        Err(_) => return false,
     }
-    Ok(())
 }
 
-/// The row of a pipe of pair 1, with a number in each place, whose reader was closed.
-fn row(a: bool, sent: u64, others: [u64; 6]) -> Option<SettledRow> {
-    let counts = PipeRow {
-        pipe: PipeId { pair: PairId(1), a },
-        sent,
-        given: others[0],
-        heard: others[1],
-        dropped: others[2],
-        written: others[3],
-        lost: others[4],
-        rest: others[5],
-    };
-    Some(SettledRow {
-        counts,
-        reason: Some(Reason::Closed),
-    })
+// Whether a frame of each part is added.
+fn adds_all(alloc: Global, frames: &mut Vec<Frame>, parts: &[&[u8]]) -> bool {
+    for part in parts {
+        if !adds(alloc, frames, part) {
+            return false;
+        }
+    }
+    true
 }
 
-/// What is told of these rows, without actors and objects.
-fn text_of_rows(
-    alloc: Global,
-    rows: &[Option<SettledRow>],
-    done: bool,
-) -> Result<Octets, AllocError> {
-    let pipes = Seq::of_vec(Vec::from_slice(alloc, rows)?);
-    let journal = RunJournal {
-        actors: Seq::new(alloc),
-        ended: Seq::new(alloc),
-        pipes,
-        objects: Seq::new(alloc),
-        done,
-    };
-    printed(alloc, journal)
+// The message of these parts, where there is memory.
+fn message(alloc: Global, parts: &[&[u8]]) -> Option<Message> {
+    let mut frames = Vec::new(alloc);
+    if !adds_all(alloc, &mut frames, parts) {
+        drop(frames);
+        return None;
+    }
+    Message::of_parts(frames).ok()
+}
+
+// Whether a message of these parts is told so.
+fn message_is_told(alloc: Global, parts: &[&[u8]], text: &[u8]) -> bool {
+    match message(alloc, parts) {
+        Some(message) => {
+            let answer = LineAnswer::Plain(Answer::Got(PairId(2), message));
+            return is_told(alloc, b"w1", 10, answer, &[], text);
+        }
+        None => return false,
+    }
 }
 
 #[test]
-fn rows_tell_why_messages_are_left(rt: HostRuntime) -> Result<(), Fail> {
-    let rows = [
-        row(true, 6, [1, 2, 3, 0, 0, 0]),
-        row(false, 18446744073709551615, [1, 2, 3, 4, 5, 7]),
-    ];
+fn parts_are_themselves_or_hex(rt: HostRuntime) {
+    for (parts, text) in &PARTS {
+        assert!(rt; message_is_told(rt.alloc(), parts, text));
+    }
+}
+
+/// The rows of the pipes of pair 1, with numbers in all places, whose reader was closed.
+const ROWS: [Option<SettledRow>; 2] = [
+    Some(SettledRow {
+        counts: PipeRow {
+            pipe: PipeId {
+                pair: PairId(1),
+                a: true,
+            },
+            sent: 6,
+            given: 1,
+            heard: 2,
+            dropped: 3,
+            written: 0,
+            lost: 0,
+            rest: 0,
+        },
+        reason: Some(Reason::Closed),
+    }),
+    Some(SettledRow {
+        counts: PipeRow {
+            pipe: PipeId {
+                pair: PairId(1),
+                a: false,
+            },
+            sent: 18446744073709551615,
+            given: 1,
+            heard: 2,
+            dropped: 3,
+            written: 4,
+            lost: 5,
+            rest: 7,
+        },
+        reason: Some(Reason::Closed),
+    }),
+];
+
+/// Whether these rows, without actors and objects, are told so.
+pub fn rows_are_told(alloc: Global, rows: &[Option<SettledRow>], done: bool, text: &[u8]) -> bool {
+    match listed(alloc, rows) {
+        Ok(pipes) => {
+            let journal = RunJournal {
+                actors: Seq::new(alloc),
+                ended: Seq::new(alloc),
+                pipes,
+                objects: Seq::new(alloc),
+                done,
+            };
+            return is_printed(alloc, journal, text);
+        }
+        Err(_) => return false,
+    }
+}
+
+#[test]
+fn rows_tell_why_messages_are_left(rt: HostRuntime) {
     let text: &[u8] =
         b"pipe p1a sent 6 given 1 heard 2 dropped 3 written 0 lost 0 rest 0 -\npipe p1b sent 18446744073709551615 given 1 heard 2 dropped 3 written 4 lost 5 rest 7 closed\ndone\n";
-    assert!(rt; text_of_rows(rt.alloc(), &rows, true)?.as_slice() == text);
-    Ok(())
+    assert!(rt; rows_are_told(rt.alloc(), &ROWS, true, text));
 }
 
 #[test]
-fn an_unfinished_run_is_told(rt: HostRuntime) -> Result<(), Fail> {
-    let text: &[u8] = b"unfinished\n";
-    assert!(rt; text_of_rows(rt.alloc(), &[], false)?.as_slice() == text);
-    Ok(())
+fn an_unfinished_run_is_told(rt: HostRuntime) {
+    assert!(rt; rows_are_told(rt.alloc(), &[], false, b"unfinished\n"));
 }

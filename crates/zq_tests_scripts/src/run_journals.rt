@@ -1,29 +1,10 @@
-use crate::journals::{printed, text_of_entry};
-use run_journal::{LineAnswer, LineEntry, ObjectLine, ObjectRow, RunJournal, SettledRow};
+use crate::journals::{is_printed, is_told, listed, rows_are_told};
+use run_journal::{LineAnswer, ObjectLine, ObjectRow, RunJournal, SettledRow};
 use spec_control::{ObjKind, Reason};
 use spec_pattern::{Rule, Skip};
-use std::alloc::{AllocError, Global};
-use std::test::Fail;
-use zq_base::{EndId, Kind, ObjId, Octets, PairId, Seq};
+use std::alloc::Global;
+use zq_base::{EndId, Kind, ObjId, PairId, Seq};
 use zq_journal::{Answer, PipeRow};
-
-/// Whether an answer is told so.
-fn is_told(
-    alloc: Global,
-    answer: LineAnswer,
-    skips: &[Skip],
-    text: &[u8],
-) -> Result<bool, AllocError> {
-    let skips = Seq::of_vec(Vec::from_slice(alloc, skips)?);
-    let line = 12;
-    let entry = LineEntry {
-        line,
-        answer,
-        skips,
-    };
-    let told = text_of_entry(alloc, b"a", entry)?;
-    Ok(told.as_slice() == text)
-}
 
 /// A message that was dropped.
 const SKIP: Skip = Skip {
@@ -32,7 +13,7 @@ const SKIP: Skip = Skip {
 };
 
 /// Answers of sockets that end.
-#[derive(Clone, Copy, Debug)]
+#[derive(Clone, Copy)]
 enum Ending {
     Done,
     Both(u32, u32),
@@ -58,24 +39,27 @@ const ANSWERS: [(Ending, &[Skip], &[u8]); 4] = [
 ];
 
 #[test]
-fn answers_of_sockets_that_end_have_their_texts(rt: HostRuntime) -> Result<(), Fail> {
+fn answers_of_sockets_that_end_have_their_texts(rt: HostRuntime) {
     for (ending, skips, text) in &ANSWERS {
-        assert!(rt; is_told(rt.alloc(), answer(*ending), skips, text)?);
+        assert!(rt; is_told(rt.alloc(), b"a", 12, answer(*ending), skips, text));
     }
-    Ok(())
 }
 
-/// The text of a run in which these objects ended.
-fn text_of_ended(alloc: Global, ended: &[ObjectLine]) -> Result<Octets, AllocError> {
-    let ended = Seq::of_vec(Vec::from_slice(alloc, ended)?);
-    let journal = RunJournal {
-        actors: Seq::new(alloc),
-        ended,
-        pipes: Seq::new(alloc),
-        objects: Seq::new(alloc),
-        done: true,
-    };
-    printed(alloc, journal)
+// Whether the text of a run in which these objects ended is this.
+fn ends_are_told(alloc: Global, ended: &[ObjectLine], text: &[u8]) -> bool {
+    match listed(alloc, ended) {
+        Ok(ended) => {
+            let journal = RunJournal {
+                actors: Seq::new(alloc),
+                ended,
+                pipes: Seq::new(alloc),
+                objects: Seq::new(alloc),
+                done: true,
+            };
+            return is_printed(alloc, journal, text);
+        }
+        Err(_) => return false,
+    }
 }
 
 /// An object of each kind.
@@ -99,87 +83,112 @@ const ENDED: [ObjectLine; 4] = [
 ];
 
 #[test]
-fn objects_are_told_in_the_order_of_their_ending(rt: HostRuntime) -> Result<(), Fail> {
+fn objects_are_told_in_the_order_of_their_ending(rt: HostRuntime) {
     let text: &[u8] = b"end o3 SESSION\nend o2 LISTENER\nend o10 XPUB\nend o0 ctx\ndone\n";
-    assert!(rt; text_of_ended(rt.alloc(), &ENDED)?.as_slice() == text);
-    Ok(())
+    assert!(rt; ends_are_told(rt.alloc(), &ENDED, text));
 }
 
-/// The text of a run with these rows.
-fn text_of_rows(alloc: Global, rows: &[Option<SettledRow>]) -> Result<Octets, AllocError> {
-    let pipes = Seq::of_vec(Vec::from_slice(alloc, rows)?);
-    let journal = RunJournal {
-        actors: Seq::new(alloc),
-        ended: Seq::new(alloc),
-        pipes,
-        objects: Seq::new(alloc),
-        done: true,
-    };
-    printed(alloc, journal)
-}
+/// What became of messages of the pipe that end a of pair 1 writes, of which four are left.
+const FOUR_LEFT: PipeRow = PipeRow {
+    pipe: EndId {
+        pair: PairId(1),
+        a: true,
+    },
+    sent: 7,
+    given: 2,
+    heard: 0,
+    dropped: 1,
+    written: 0,
+    lost: 0,
+    rest: 4,
+};
 
-/// The row of the pipe that end a of this pair writes, with two messages given and so many left.
-const fn row(pair: u32, rest: u64, reason: Option<Reason>) -> Option<SettledRow> {
-    let counts = PipeRow {
-        pipe: EndId {
-            pair: PairId(pair),
-            a: true,
-        },
-        sent: 7,
-        given: 2,
-        heard: 0,
-        dropped: 1,
-        written: 0,
-        lost: 0,
-        rest,
-    };
-    Some(SettledRow { counts, reason })
-}
+/// The same of pair 2, of which none is left.
+const NONE_LEFT: PipeRow = PipeRow {
+    pipe: EndId {
+        pair: PairId(2),
+        a: true,
+    },
+    sent: 7,
+    given: 2,
+    heard: 0,
+    dropped: 1,
+    written: 0,
+    lost: 0,
+    rest: 0,
+};
+
+/// Rows of these, with a pipe that isn't settled between them.
+const ROWS: [Option<SettledRow>; 3] = [
+    Some(SettledRow {
+        counts: FOUR_LEFT,
+        reason: Some(Reason::BadId),
+    }),
+    None,
+    Some(SettledRow {
+        counts: NONE_LEFT,
+        reason: Some(Reason::Closed),
+    }),
+];
 
 #[test]
-fn settled_pipes_tell_why_messages_are_left(rt: HostRuntime) -> Result<(), Fail> {
-    let rows = [
-        row(1, 4, Some(Reason::BadId)),
-        None,
-        row(2, 0, Some(Reason::Closed)),
-    ];
+fn settled_pipes_tell_why_messages_are_left(rt: HostRuntime) {
     let text: &[u8] =
         b"pipe p1a sent 7 given 2 heard 0 dropped 1 written 0 lost 0 rest 4 badid\npipe p2a sent 7 given 2 heard 0 dropped 1 written 0 lost 0 rest 0 -\ndone\n";
-    assert!(rt; text_of_rows(rt.alloc(), &rows)?.as_slice() == text);
-    Ok(())
+    assert!(rt; rows_are_told(rt.alloc(), &ROWS, true, text));
 }
 
-/// Whether the text of a rest ends so.
-fn is_left_so(alloc: Global, reason: Reason, end: &[u8]) -> Result<bool, AllocError> {
-    let text = text_of_rows(alloc, &[row(1, 4, Some(reason))])?;
-    Ok(text.as_slice().ends_with(end))
+/// Reasons, and the text of a row with four messages left.
+const REASONS: [(Reason, &[u8]); 4] = [
+    (
+        Reason::Closed,
+        b"pipe p1a sent 7 given 2 heard 0 dropped 1 written 0 lost 0 rest 4 closed\ndone\n",
+    ),
+    (
+        Reason::Second,
+        b"pipe p1a sent 7 given 2 heard 0 dropped 1 written 0 lost 0 rest 4 second\ndone\n",
+    ),
+    (
+        Reason::Linger,
+        b"pipe p1a sent 7 given 2 heard 0 dropped 1 written 0 lost 0 rest 4 linger\ndone\n",
+    ),
+    (
+        Reason::Link,
+        b"pipe p1a sent 7 given 2 heard 0 dropped 1 written 0 lost 0 rest 4 link\ndone\n",
+    ),
+];
+
+// Whether a rest for this reason is told so.
+fn rest_is_told(alloc: Global, reason: Reason, text: &[u8]) -> bool {
+    let row = SettledRow {
+        counts: FOUR_LEFT,
+        reason: Some(reason),
+    };
+    rows_are_told(alloc, &[Some(row)], true, text)
 }
 
 #[test]
-fn each_reason_has_its_name(rt: HostRuntime) -> Result<(), Fail> {
-    let cases: [(Reason, &[u8]); 4] = [
-        (Reason::Closed, b" rest 4 closed\ndone\n"),
-        (Reason::Second, b" rest 4 second\ndone\n"),
-        (Reason::Linger, b" rest 4 linger\ndone\n"),
-        (Reason::Link, b" rest 4 link\ndone\n"),
-    ];
-    for (reason, end) in cases {
-        assert!(rt; is_left_so(rt.alloc(), reason, end)?);
+fn each_reason_has_its_name(rt: HostRuntime) {
+    for (reason, text) in &REASONS {
+        assert!(rt; rest_is_told(rt.alloc(), *reason, text));
     }
-    Ok(())
 }
 
-/// The text of an unfinished run with these objects.
-fn text_of_objects(alloc: Global, objects: &[ObjectRow]) -> Result<Octets, AllocError> {
-    let objects = Seq::of_vec(Vec::from_slice(alloc, objects)?);
-    let journal = RunJournal {
-        actors: Seq::new(alloc),
-        ended: Seq::new(alloc),
-        pipes: Seq::new(alloc),
-        objects,
-        done: false,
-    };
-    printed(alloc, journal)
+// Whether the text of an unfinished run with these objects is this.
+fn objects_are_told(alloc: Global, objects: &[ObjectRow], text: &[u8]) -> bool {
+    match listed(alloc, objects) {
+        Ok(objects) => {
+            let journal = RunJournal {
+                actors: Seq::new(alloc),
+                ended: Seq::new(alloc),
+                pipes: Seq::new(alloc),
+                objects,
+                done: false,
+            };
+            return is_printed(alloc, journal, text);
+        }
+        Err(_) => return false,
+    }
 }
 
 /// The root, which lives, a PULL, which has ended, and a PUSH, which lives.
@@ -199,8 +208,7 @@ const OBJECTS: [ObjectRow; 3] = [
 ];
 
 #[test]
-fn an_unfinished_run_tells_what_lives(rt: HostRuntime) -> Result<(), Fail> {
+fn an_unfinished_run_tells_what_lives(rt: HostRuntime) {
     let text: &[u8] = b"live o0 ctx\nlive o2 PUSH\nunfinished\n";
-    assert!(rt; text_of_objects(rt.alloc(), &OBJECTS)?.as_slice() == text);
-    Ok(())
+    assert!(rt; objects_are_told(rt.alloc(), &OBJECTS, text));
 }

@@ -1,16 +1,6 @@
 use std::alloc::{AllocError, Global};
-use std::test::Fail;
 use zq_base::{Endpoint, Kind, Message, Options};
 use zq_script::{Call, Cause, Line, ReadScript, Script, ScriptFault, read_script};
-
-// The text with so many more copies of another at its end.
-fn with_copies(alloc: Global, text: &[u8], more: &[u8], n: u32) -> Result<Vec<u8>, AllocError> {
-    let mut octets = Vec::from_slice(alloc, text)?;
-    for _ in 0..n {
-        octets.extend_from_slice(more)?;
-    }
-    Ok(octets)
-}
 
 // Whether the first fault of the octets is this one, or none.
 fn has_fault(alloc: Global, octets: &[u8], wanted: Option<ScriptFault>) -> bool {
@@ -24,17 +14,33 @@ fn has_fault(alloc: Global, octets: &[u8], wanted: Option<ScriptFault>) -> bool 
     }
 }
 
-// Whether the text, so many copies of another and a last one have this fault, or none.
+// Adds a text, so many copies of another, and a last one.
+fn add_all(
+    octets: &mut Vec<u8>,
+    text: &[u8],
+    copy: (&[u8], u32),
+    last: &[u8],
+) -> Result<(), AllocError> {
+    octets.extend_from_slice(text)?;
+    for _ in 0..copy.1 {
+        octets.extend_from_slice(copy.0)?;
+    }
+    octets.extend_from_slice(last)
+}
+
+// Whether these have this fault, or none.
 fn copies_have(
     alloc: Global,
     text: &[u8],
     copy: (&[u8], u32),
     last: &[u8],
     wanted: Option<ScriptFault>,
-) -> Result<bool, AllocError> {
-    let mut octets = with_copies(alloc, text, copy.0, copy.1)?;
-    octets.extend_from_slice(last)?;
-    Ok(has_fault(alloc, octets.as_slice(), wanted))
+) -> bool {
+    let mut octets = Vec::new(alloc);
+    let added = add_all(&mut octets, text, copy, last).is_ok();
+    let has = has_fault(alloc, &octets, wanted);
+    drop(octets);
+    added && has
 }
 
 // What a script shows once it is read.
@@ -78,10 +84,9 @@ fn are_4_and_6(lines: &[Line]) -> bool {
 }
 
 #[test]
-fn actors_have_their_lines(rt: HostRuntime) -> Result<(), Fail> {
+fn actors_have_their_lines(rt: HostRuntime) {
     let text = b"# two actors\n\n  actor a_1  \nsocket r PULL\n\x20# \t\nrecv  r\nactor b";
     assert!(rt; reads::<TwoActors>(rt.alloc(), text));
-    Ok(())
 }
 
 // Whether a socket has the marks and times that stand where none are given.
@@ -139,12 +144,11 @@ impl Shows for SevenLines {
 }
 
 #[test]
-fn lines_ask_what_their_words_say(rt: HostRuntime) -> Result<(), Fail> {
+fn lines_ask_what_their_words_say(rt: HostRuntime) {
     let text = b"actor a\nsocket r PULL rcvhwm=5 hwm=2 rcvhwm=10000\nsocket s PUSH\n\
         bind r inproc://q\nconnect s inproc://q\nsend s - 0x00fF 0xf x\n\
         recv r tries=100000\nrecv r";
     assert!(rt; reads::<SevenLines>(rt.alloc(), text));
-    Ok(())
 }
 
 /// Scripts, and the line and the cause of their first fault.
@@ -164,16 +168,16 @@ const FIRST_FAULTS: [(&str, u32, Cause); 13] = [
     ("actor a\nSOCKET s PUSH", 2, Cause::BadWord),
 ];
 
+// Whether this is the first fault of a script.
+fn has_first_fault(alloc: Global, text: &str, line: u32, cause: Cause) -> bool {
+    has_fault(alloc, text.as_bytes(), Some(ScriptFault { line, cause }))
+}
+
 #[test]
-fn the_first_fault_is_told_with_its_line(rt: HostRuntime) -> Result<(), Fail> {
+fn the_first_fault_is_told_with_its_line(rt: HostRuntime) {
     for (text, line, cause) in &FIRST_FAULTS {
-        let wanted = Some(ScriptFault {
-            line: *line,
-            cause: *cause,
-        });
-        assert!(rt; has_fault(rt.alloc(), text.as_bytes(), wanted));
+        assert!(rt; has_first_fault(rt.alloc(), text, *line, *cause));
     }
-    Ok(())
 }
 
 /// Scripts without a fault.
@@ -186,20 +190,17 @@ const FAULTLESS: [&str; 5] = [
 ];
 
 #[test]
-fn scripts_without_a_fault_are_read(rt: HostRuntime) -> Result<(), Fail> {
+fn scripts_without_a_fault_are_read(rt: HostRuntime) {
     for text in &FAULTLESS {
         assert!(rt; has_fault(rt.alloc(), text.as_bytes(), None));
     }
-    Ok(())
 }
 
 // Whether a line behind one that makes the socket `s` has this fault, before that of the next line.
-fn line_has(alloc: Global, line: &str, cause: Cause) -> Result<bool, AllocError> {
-    let mut text = Vec::from_slice(alloc, b"actor a\nsocket s PUSH\n")?;
-    text.extend_from_slice(line.as_bytes())?;
-    text.extend_from_slice(b"\nactor a")?;
+fn line_has(alloc: Global, line: &str, cause: Cause) -> bool {
+    let text = b"actor a\nsocket s PUSH\n";
     let wanted = Some(ScriptFault { line: 3, cause });
-    Ok(has_fault(alloc, text.as_slice(), wanted))
+    copies_have(alloc, text, (line.as_bytes(), 1), b"\nactor a", wanted)
 }
 
 /// Lines behind one that makes the socket `s`, and the cause of their leftmost fault.
@@ -241,11 +242,10 @@ const LINE_FAULTS: [(&str, Cause); 34] = [
 ];
 
 #[test]
-fn the_leftmost_fault_of_a_line_is_told(rt: HostRuntime) -> Result<(), Fail> {
+fn the_leftmost_fault_of_a_line_is_told(rt: HostRuntime) {
     for (line, cause) in &LINE_FAULTS {
-        assert!(rt; line_has(rt.alloc(), line, *cause)?);
+        assert!(rt; line_has(rt.alloc(), line, *cause));
     }
-    Ok(())
 }
 
 // Whether an XPUB has both marks and the identity 01 00.
@@ -279,10 +279,9 @@ impl Shows for ThreeLines {
 }
 
 #[test]
-fn topics_and_options_are_read(rt: HostRuntime) -> Result<(), Fail> {
+fn topics_and_options_are_read(rt: HostRuntime) {
     let text = b"actor a\nsocket t XPUB id=0x0100 verbose mandatory\nsub t ab\nunsub t -";
     assert!(rt; reads::<ThreeLines>(rt.alloc(), text));
-    Ok(())
 }
 
 /// The same of topics and of further options.
@@ -303,84 +302,97 @@ const OPTION_FAULTS: [(&str, Cause); 13] = [
 ];
 
 #[test]
-fn topics_and_options_have_their_faults(rt: HostRuntime) -> Result<(), Fail> {
+fn topics_and_options_have_their_faults(rt: HostRuntime) {
     for (line, cause) in &OPTION_FAULTS {
-        assert!(rt; line_has(rt.alloc(), line, *cause)?);
+        assert!(rt; line_has(rt.alloc(), line, *cause));
     }
-    Ok(())
 }
 
 #[test]
-fn sockets_belong_to_their_actor(rt: HostRuntime) -> Result<(), Fail> {
+fn sockets_belong_to_their_actor(rt: HostRuntime) {
     let text = b"actor a\nsocket s PUSH\nactor b\nsocket t PULL\nsocket s PULL\nrecv s\n\
         actor s\nrecv s";
     let cause = Cause::UnknownSocket;
     assert!(rt; has_fault(rt.alloc(), text, Some(ScriptFault { line: 8, cause })));
-    Ok(())
 }
+
+/// The fault of a script that is too long, and that of a bad last line.
+const TOO_LONG: Option<ScriptFault> = Some(ScriptFault {
+    line: 0,
+    cause: Cause::TooLong,
+});
+
+const BAD_LAST: Option<ScriptFault> = Some(ScriptFault {
+    line: 10_000,
+    cause: Cause::BadWord,
+});
+
+/// A text, how many copies of it stand in a script, what follows it, and the script's first fault.
+const LONG: [(&[u8], u32, &[u8], Option<ScriptFault>); 5] = [
+    (b"    ", 262_144, b"", None),
+    (b"    ", 262_144, b" ", TOO_LONG),
+    (b"\n", 9_999, b"x", BAD_LAST),
+    (b"\n", 9_999, b"x\n", BAD_LAST),
+    (b"\n", 9_999, b"x\n ", TOO_LONG),
+];
 
 #[test]
-fn scripts_have_limits(rt: HostRuntime) -> Result<(), Fail> {
-    let too_long = Some(ScriptFault {
-        line: 0,
-        cause: Cause::TooLong,
-    });
-    let last = Some(ScriptFault {
-        line: 10_000,
-        cause: Cause::BadWord,
-    });
-    let cases: [(&[u8], u32, &[u8], Option<ScriptFault>); 5] = [
-        (b"    ", 262_144, b"", None),
-        (b"    ", 262_144, b" ", too_long),
-        (b"\n", 9_999, b"x", last),
-        (b"\n", 9_999, b"x\n", last),
-        (b"\n", 9_999, b"x\n ", too_long),
-    ];
-    for (copy, count, end, wanted) in cases {
-        assert!(rt; copies_have(rt.alloc(), b"", (copy, count), end, wanted)?);
+fn scripts_have_limits(rt: HostRuntime) {
+    for (copy, count, end, wanted) in &LONG {
+        assert!(rt; copies_have(rt.alloc(), b"", (*copy, *count), end, *wanted));
     }
-    Ok(())
 }
 
-// 64 actors.
-fn many_actors(alloc: Global) -> Result<Vec<u8>, AllocError> {
-    let mut actors = Vec::new(alloc);
+// Adds 64 actors.
+fn add_actors(actors: &mut Vec<u8>) -> Result<(), AllocError> {
     for i in 0..64u8 {
         actors.extend_from_slice(b"actor a")?;
         actors.extend_from_slice(&[b'0' + i / 8, b'0' + i % 8, b'\n'])?;
     }
-    Ok(actors)
+    Ok(())
 }
 
 // Whether 64 actors are read, and a 65th is one too many, whatever its name.
-fn has_64_actors(alloc: Global) -> Result<bool, AllocError> {
-    let mut actors = many_actors(alloc)?;
+fn take_no_65th(alloc: Global, actors: &mut Vec<u8>) -> bool {
     let most = has_fault(alloc, actors.as_slice(), None);
-    actors.extend_from_slice(b"actor ?")?;
+    let added = actors.extend_from_slice(b"actor ?").is_ok();
     let cause = Cause::TooManyActors;
-    let wanted = Some(ScriptFault { line: 65, cause });
-    let more = has_fault(alloc, actors.as_slice(), wanted);
-    Ok(most && more)
+    most && added
+        && has_fault(
+            alloc,
+            actors.as_slice(),
+            Some(ScriptFault { line: 65, cause }),
+        )
 }
 
-#[test]
-fn actors_and_parts_have_limits(rt: HostRuntime) -> Result<(), Fail> {
+fn has_64_actors(alloc: Global) -> bool {
+    let mut actors = Vec::new(alloc);
+    let added = add_actors(&mut actors).is_ok();
+    let most = take_no_65th(alloc, &mut actors);
+    drop(actors);
+    added && most
+}
+
+// Whether a message of 1,024 parts is read, and one of a part more is refused.
+fn has_1024_parts(alloc: Global) -> bool {
     let text = b"actor a\nsocket s PUSH\nsend s";
     let cause = Cause::BadPart;
     let wanted = Some(ScriptFault { line: 3, cause });
-    assert!(rt; has_64_actors(rt.alloc())?);
-    assert!(rt; copies_have(rt.alloc(), text, (b" -", 1024), b"", None)?);
-    assert!(rt; copies_have(rt.alloc(), text, (b" -", 1024), b" -", wanted)?);
-    Ok(())
+    let most = copies_have(alloc, text, (b" -", 1024), b"", None);
+    most && copies_have(alloc, text, (b" -", 1024), b" -", wanted)
 }
 
 #[test]
-fn an_identity_of_256_octets_is_refused(rt: HostRuntime) -> Result<(), Fail> {
+fn actors_and_parts_have_limits(rt: HostRuntime) {
+    assert!(rt; has_64_actors(rt.alloc()) && has_1024_parts(rt.alloc()));
+}
+
+#[test]
+fn an_identity_of_256_octets_is_refused(rt: HostRuntime) {
     let text = b"actor a\nsocket t DEALER id=";
     let cause = Cause::BadPart;
     let wanted = Some(ScriptFault { line: 2, cause });
-    assert!(rt; copies_have(rt.alloc(), text, (b"x", 256), b"", wanted)?);
-    Ok(())
+    assert!(rt; copies_have(rt.alloc(), text, (b"x", 256), b"", wanted));
 }
 
 // A socket of this number, and a send at it.
@@ -397,13 +409,13 @@ fn push_socket(text: &mut Vec<u8>, number: u32) -> Result<(), AllocError> {
     text.extend_from_slice(b" x\n")
 }
 
-// An actor with 4,096 sockets.
-fn many_sockets(alloc: Global) -> Result<Vec<u8>, AllocError> {
-    let mut text = Vec::from_slice(alloc, b"actor a\n")?;
+// Adds an actor with 4,096 sockets.
+fn add_sockets(text: &mut Vec<u8>) -> Result<(), AllocError> {
+    text.extend_from_slice(b"actor a\n")?;
     for number in 0..4_096u32 {
-        push_socket(&mut text, number)?;
+        push_socket(text, number)?;
     }
-    Ok(text)
+    Ok(())
 }
 
 // 8,192 lines, of which the last sends at the last socket.
@@ -420,13 +432,15 @@ impl Shows for ManyLines {
 }
 
 // Whether an actor with so many sockets is read.
-fn reads_many_sockets(alloc: Global) -> Result<bool, AllocError> {
-    let text = many_sockets(alloc)?;
-    Ok(reads::<ManyLines>(alloc, text.as_slice()))
+fn reads_many_sockets(alloc: Global) -> bool {
+    let mut text = Vec::new(alloc);
+    let added = add_sockets(&mut text).is_ok();
+    let read = reads::<ManyLines>(alloc, &text);
+    drop(text);
+    added && read
 }
 
 #[test]
-fn many_sockets_are_read(rt: HostRuntime) -> Result<(), Fail> {
-    assert!(rt; reads_many_sockets(rt.alloc())?);
-    Ok(())
+fn many_sockets_are_read(rt: HostRuntime) {
+    assert!(rt; reads_many_sockets(rt.alloc()));
 }

@@ -1,45 +1,62 @@
 use std::alloc::Global;
-use std::test::Fail;
-use zq_base::Kind;
+use zq_base::{Kind, Login};
 use zq_words::{Request, WordsError, read_words};
 
 /// What a command line asks for.
-#[derive(Clone, Copy, Debug)]
+#[derive(Clone, Copy)]
 enum Wanted {
     Run(u64, u32),
     Hear(Kind, Option<(&'static str, &'static str)>),
     Usage,
 }
 
-/// The words of a line, between single spaces.
-fn words(alloc: Global, line: &str) -> Result<Vec<String>, Fail> {
-    let mut words = Vec::new(alloc);
-    for word in line.split(' ') {
-        words.push(String::from_str(alloc, word)?)?;
+// Whether a word is added.
+fn adds(alloc: Global, words: &mut Vec<String>, word: &str) -> bool {
+    match String::from_str(alloc, word) {
+        Ok(word) => return words.push(word).is_ok(),
+        Err(_) => return false,
     }
-    Ok(words)
+}
+
+// Whether the words of a line, between single spaces, are added.
+fn splits(alloc: Global, words: &mut Vec<String>, line: &str) -> bool {
+    for word in line.split(' ') {
+        if !adds(alloc, words, word) {
+            return false;
+        }
+    }
+    true
+}
+
+// Whether the login of a user with a password is this one, or there is none.
+fn is_login(login: &Option<Login>, wanted: Option<(&str, &str)>) -> bool {
+    match (login, wanted) {
+        (Some(login), Some((user, pass))) => {
+            login.user.as_slice() == user.as_bytes() && login.pass.as_slice() == pass.as_bytes()
+        }
+        (None, None) => true,
+        _ => false,
+    }
 }
 
 fn is_wanted(read: &Result<Request, WordsError>, wanted: Wanted) -> bool {
     match (read, wanted) {
         (Ok(Request::Run { seed, turns }), Wanted::Run(s, t)) => *seed == s && *turns == t,
-        (Ok(Request::Hear { kind, login }), Wanted::Hear(k, l)) => match (login, l) {
-            (Some(login), Some((user, pass))) => {
-                *kind == k
-                    && login.user.as_slice() == user.as_bytes()
-                    && login.pass.as_slice() == pass.as_bytes()
-            }
-            (None, None) => *kind == k,
-            _ => false,
-        },
+        (Ok(Request::Hear { kind, login }), Wanted::Hear(k, l)) => *kind == k && is_login(login, l),
         (Err(error), Wanted::Usage) => *error == WordsError::Usage,
         _ => false,
     }
 }
 
-fn read(alloc: Global, line: &str) -> Result<Result<Request, WordsError>, Fail> {
-    let words = words(alloc, line)?;
-    Ok(read_words(alloc, &words))
+// Whether a line asks for this.
+fn asks(alloc: Global, line: &str, wanted: Wanted) -> bool {
+    let mut words = Vec::new(alloc);
+    let split = splits(alloc, &mut words, line);
+    let read = read_words(alloc, &words);
+    drop(words);
+    let is_wanted = is_wanted(&read, wanted);
+    drop(read);
+    split && is_wanted
 }
 
 /// Lines in the grammar, and what they ask for.
@@ -78,11 +95,10 @@ const ASKING: [(&str, Wanted); 10] = [
 ];
 
 #[test]
-fn lines_in_the_grammar_are_read(rt: HostRuntime) -> Result<(), Fail> {
+fn lines_in_the_grammar_are_read(rt: HostRuntime) {
     for (line, wanted) in &ASKING {
-        assert!(rt; is_wanted(&read(rt.alloc(), line)?, *wanted));
+        assert!(rt; asks(rt.alloc(), line, *wanted));
     }
-    Ok(())
 }
 
 /// Lines outside the grammar.
@@ -119,32 +135,46 @@ const REFUSED: [&str; 29] = [
 ];
 
 #[test]
-fn lines_outside_the_grammar_are_refused(rt: HostRuntime) -> Result<(), Fail> {
+fn lines_outside_the_grammar_are_refused(rt: HostRuntime) {
     for line in &REFUSED {
-        assert!(rt; is_wanted(&read(rt.alloc(), line)?, Wanted::Usage));
+        assert!(rt; asks(rt.alloc(), line, Wanted::Usage));
     }
-    Ok(())
 }
 
-/// So many times the letter u.
-fn user(alloc: Global, octets: usize) -> Result<String, Fail> {
-    let mut user = String::new(alloc);
+// Adds the letter u so many times.
+fn adds_u(user: &mut String, octets: usize) -> bool {
     for _ in 0..octets {
-        user.push('u')?;
+        if user.push('u').is_err() {
+            return false;
+        }
     }
-    Ok(user)
+    true
 }
 
-/// Whether a user of so many octets is read.
-fn reads_user(alloc: Global, octets: usize) -> Result<bool, Fail> {
-    let mut words = words(alloc, "zbus hear SUB --pass p --user")?;
-    words.push(user(alloc, octets)?)?;
-    Ok(read_words(alloc, &words).is_ok())
+// Whether a user of so many octets is added.
+fn adds_user(alloc: Global, words: &mut Vec<String>, octets: usize) -> bool {
+    let mut user = String::new(alloc);
+    let added = adds_u(&mut user, octets);
+    words.push(user).is_ok() && added
+}
+
+// Whether a line with that user at its end is split.
+fn splits_user(alloc: Global, words: &mut Vec<String>, octets: usize) -> bool {
+    let split = splits(alloc, words, "zbus hear SUB --pass p --user");
+    adds_user(alloc, words, octets) && split
+}
+
+// Whether that line is read, where there is memory.
+fn reads_user(alloc: Global, octets: usize) -> Option<bool> {
+    let mut words = Vec::new(alloc);
+    let split = splits_user(alloc, &mut words, octets);
+    let is_read = read_words(alloc, &words).is_ok();
+    drop(words);
+    if split { Some(is_read) } else { None }
 }
 
 #[test]
-fn a_user_has_at_most_255_octets(rt: HostRuntime) -> Result<(), Fail> {
-    assert!(rt; reads_user(rt.alloc(), 255)?);
-    assert!(rt; !reads_user(rt.alloc(), 256)?);
-    Ok(())
+fn a_user_has_at_most_255_octets(rt: HostRuntime) {
+    let most = reads_user(rt.alloc(), 255) == Some(true);
+    assert!(rt; most && reads_user(rt.alloc(), 256) == Some(false));
 }

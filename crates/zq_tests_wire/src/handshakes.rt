@@ -1,58 +1,54 @@
-ghost use Rattle.std.specs.Prelude.{◌≡◌, IfOk};
-ghost use Rattle.spec_zmtp.specs.OwnCommands.{IsEngineOpts};
-
 use crate::checks::check;
+use crate::options::{of_login, of_null};
 use spec_zmtp::{Awaited, Cause, Command, Stage};
-use std::alloc::Global;
+use std::alloc::{AllocError, Global};
 use std::test::Fail;
 use zmtp_mech::{Answer, Mech};
-use zq_base::{EngineOpts, Kind, Login, Logins, Octets, Role};
+use zq_base::{Kind, Octets, Role};
 
-fn null(alloc: Global, kind: Kind) -> Result<Mech, Fail> {
-    let opts = EngineOpts {
-        kind,
-        id: Octets::new(alloc),
-        role: Role::Null,
-        logins: Logins::new(alloc),
-    };
+fn null(alloc: Global, kind: Kind) -> Result<Mech, AllocError> {
+    let opts = of_null(alloc, kind);
     let made = Mech::null(alloc, &opts);
     drop(opts);
-    Ok(made?)
+    made
 }
 
-fn first(alloc: Global, mech: &mut Mech) -> Result<Option<Command>, Fail> {
-    Ok(mech.first(alloc)?)
-}
-
-fn hear(alloc: Global, mech: &mut Mech, name: &[u8], content: &[u8]) -> Result<Answer, Fail> {
+fn command(alloc: Global, name: &[u8], content: &[u8]) -> Result<Command, AllocError> {
     let name = Octets::of_slice(alloc, name)?;
     let content = Octets::of_slice(alloc, content)?;
-    Ok(mech.hear(alloc, Command { name, content })?)
+    Ok(Command { name, content })
+}
+
+// Whether a READY is heard, whatever the answer.
+fn hears_ready(alloc: Global, mech: &mut Mech, content: &[u8]) -> bool {
+    match command(alloc, b"READY", content) {
+        Ok(ready) => return mech.hear(alloc, ready).is_ok(),
+        Err(_) => return false,
+    }
 }
 
 // Whether the READY of a REP ends the handshake.
-fn hears_ready(alloc: Global, mech: &mut Mech) -> Result<bool, Fail> {
-    hear(alloc, mech, b"READY", b"\x0bSocket-Type\0\0\0\x03REP")?;
+fn ends_with_a_rep(alloc: Global, mech: &mut Mech) -> bool {
+    let heard = hears_ready(alloc, mech, b"\x0bSocket-Type\0\0\0\x03REP");
     let running = mech.stage() == Stage::Running;
-    Ok(running && matches!(mech.hear_message_frame(), Answer::Wait))
+    heard && running && matches!(mech.hear_message_frame(), Answer::Wait)
 }
 
 // Whether a side begins with a command.
-fn begins(alloc: Global, mech: &mut Mech) -> Result<bool, Fail> {
-    Ok(first(alloc, mech)?.is_some())
-}
-
-// Whether a side begins with a READY, and hears one.
-fn says_and_hears_ready(alloc: Global, mech: &mut Mech) -> Result<bool, Fail> {
-    Ok(begins(alloc, mech)? && hears_ready(alloc, mech)?)
+fn begins(alloc: Global, mech: &mut Mech) -> Result<bool, AllocError> {
+    let first = mech.first(alloc)?;
+    let begins = first.is_some();
+    drop(first);
+    Ok(begins)
 }
 
 #[test]
 fn a_null_side_says_ready_and_hears_it(rt: HostRuntime) -> Result<(), Fail> {
     let mut mech = null(rt.alloc(), Kind::Dealer)?;
-    let ready = says_and_hears_ready(rt.alloc(), &mut mech);
+    let begins = begins(rt.alloc(), &mut mech) == Ok(true);
+    let ends = ends_with_a_rep(rt.alloc(), &mut mech);
     drop(mech);
-    check(ready?)
+    check(begins && ends)
 }
 
 // Whether a frame of a message that comes before the READY is refused for good.
@@ -64,75 +60,65 @@ fn refuses_a_message(mech: &mut Mech) -> bool {
     refused && mech.stage() == Stage::Refused(Cause::OutOfOrder)
 }
 
-// Whether a READY without a Socket-Type is refused.
-fn refuses_nobody(alloc: Global, mech: &mut Mech) -> Result<bool, Fail> {
-    hear(alloc, mech, b"READY", b"\x08Identity\0\0\0\x01q")?;
-    Ok(mech.stage() == Stage::Refused(Cause::NoKind))
-}
-
 // Whether a DEALER has the order.
-fn has_its_order(alloc: Global) -> Result<bool, Fail> {
-    let mut mech = null(alloc, Kind::Dealer)?;
-    let refuses = refuses_a_message(&mut mech);
-    drop(mech);
-    Ok(refuses)
+fn has_its_order(alloc: Global) -> bool {
+    match null(alloc, Kind::Dealer) {
+        Ok(mut mech) => {
+            let refuses = refuses_a_message(&mut mech);
+            drop(mech);
+            return refuses;
+        }
+        Err(_) => return false,
+    }
 }
 
-// Whether a REP wants a kind.
-fn has_its_kind(alloc: Global) -> Result<bool, Fail> {
-    let mut mech = null(alloc, Kind::Rep)?;
-    let refuses = refuses_nobody(alloc, &mut mech);
-    drop(mech);
-    refuses
+// Whether a REP wants a kind: a READY without a Socket-Type is refused.
+fn has_its_kind(alloc: Global) -> bool {
+    match null(alloc, Kind::Rep) {
+        Ok(mut mech) => {
+            let heard = hears_ready(alloc, &mut mech, b"\x08Identity\0\0\0\x01q");
+            let stage = mech.stage();
+            drop(mech);
+            return heard && stage == Stage::Refused(Cause::NoKind);
+        }
+        Err(_) => return false,
+    }
 }
 
 #[test]
-fn a_handshake_has_its_order_and_its_kind(rt: HostRuntime) -> Result<(), Fail> {
-    check(has_its_order(rt.alloc())? && has_its_kind(rt.alloc())?)
+fn a_handshake_has_its_order_and_its_kind(rt: HostRuntime) {
+    assert!(rt; has_its_order(rt.alloc()) && has_its_kind(rt.alloc()));
 }
 
-fn plain(alloc: Global, kind: Kind, role: Role) -> Result<EngineOpts, Fail>
-    ensures fits { IfOk result (λ o. IsEngineOpts o) }
-    ensures role { IfOk result (λ o. o.role ≡ role) }
-{
-    let user = Octets::of_slice(alloc, b"u")?;
-    let pass = Octets::of_slice(alloc, b"x")?;
-    let mut list = Vec::new(alloc);
-    list.push(Login { user, pass }).map_err(|_| "room")?;
-    Ok(EngineOpts {
-        kind,
-        id: Octets::new(alloc),
-        role,
-        logins: Logins::of_vec(list),
-    })
-}
-
-// Whether a client says HELLO, and awaits a WELCOME.
-fn client_awaits(alloc: Global) -> Result<bool, Fail> {
-    let opts = plain(alloc, Kind::Pull, Role::PlainClient)?;
+fn client(alloc: Global) -> Result<Mech, AllocError> {
+    let opts = of_login(alloc, Kind::Pull, Role::PlainClient, b'x')?;
     let made = Mech::plain_client(alloc, &opts);
     drop(opts);
-    let mut client = made?;
-    let says = begins(alloc, &mut client);
-    let awaits = client.stage() == Stage::Waiting(Awaited::Welcome);
-    drop(client);
-    Ok(says? && awaits)
+    made
 }
 
-// Whether a server says nothing, and awaits a HELLO.
-fn server_awaits(alloc: Global) -> Result<bool, Fail> {
-    let opts = plain(alloc, Kind::Push, Role::PlainServer)?;
+fn server(alloc: Global) -> Result<Mech, AllocError> {
+    let opts = of_login(alloc, Kind::Push, Role::PlainServer, b'x')?;
     let made = Mech::plain_server(alloc, &opts);
     drop(opts);
-    let mut server = made?;
-    let says = begins(alloc, &mut server);
-    let awaits = server.stage() == Stage::Waiting(Awaited::Hello);
-    drop(server);
-    Ok(!says? && awaits)
+    made
+}
+
+// Whether a side that was made begins with a command or doesn't, and awaits this then.
+fn awaits(alloc: Global, made: Result<Mech, AllocError>, says: bool, awaited: Awaited) -> bool {
+    match made {
+        Ok(mut mech) => {
+            let begins = begins(alloc, &mut mech);
+            let stage = mech.stage();
+            drop(mech);
+            return begins == Ok(says) && stage == Stage::Waiting(awaited);
+        }
+        Err(_) => return false,
+    }
 }
 
 #[test]
-fn plain_sides_await_each_other(rt: HostRuntime) -> Result<(), Fail> {
-    assert!(rt; client_awaits(rt.alloc())? && server_awaits(rt.alloc())?);
-    Ok(())
+fn plain_sides_await_each_other(rt: HostRuntime) {
+    let client = awaits(rt.alloc(), client(rt.alloc()), true, Awaited::Welcome);
+    assert!(rt; client && awaits(rt.alloc(), server(rt.alloc()), false, Awaited::Hello));
 }

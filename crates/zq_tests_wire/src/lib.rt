@@ -12,6 +12,12 @@ mod frames;
 #[cfg(test)]
 mod handshakes;
 #[cfg(test)]
+mod messages;
+#[cfg(test)]
 mod metadata;
+#[cfg(test)]
+mod octets;
+#[cfg(test)]
+mod options;
 #[cfg(test)]
 mod streams;
