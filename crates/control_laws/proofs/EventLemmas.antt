@@ -36,7 +36,7 @@ use Rattle.spec_control.specs.Rows.{PairRow, no_pair, obj, pair, end_place, end_
 use Rattle.spec_control.specs.Control.{Control, begun, with_value, with_end, id, end_of, put, link, makes, draws, tell_children, stop_sockets, happens, ask, ask_all, attach, open_pair, greet, ends_of, try_end, owner_of, place_of, next_object, next_pair}
 use Rattle.spec_control.specs.After.{Answers, answers_in, settle, term_reason, term_delay, without_names, processed, without_front, session_row, accepted_row, owner_or_root, with_hold, named, binding_by, joins, fulfil_all, binds, connects_to, connects, tell_struck, strike_end, strikes, strikes_first, accepts, pair_or_none, shakes, uses_reason, requested, answered, after}
 use Rattle.spec_control.specs.ControlRun.{Fits, FitsItem, MayShake, MayAsk, after_all, after_item, IsControlRun}
-use Rattle.control_held.specs.Has.{acts_in_request}
+use Rattle.spec_control.specs.Has.{acts_in_request}
 use Rattle.control_laws.proofs.ListLemmas.{never, right}
 use Rattle.control_laws.proofs.RowLemmas.{pair_there}
 use Rattle.control_laws.proofs.StepLemmas.{inv_of}

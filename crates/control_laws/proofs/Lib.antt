@@ -1,3 +1,22 @@
+pub mod KnownLemmas
+pub mod HeldOpenLemmas
+pub mod HeldRowLemmas
+pub mod ThereLemmas
+pub mod SlotLemmas
+pub mod HeldClosedLemmas
+pub mod ReapLemmas
+pub mod AwayLemmas
+pub mod OwnerLemmas
+mod HereLemmas
+pub mod BetweenLemmas
+pub mod HeldEventLemmas
+pub mod LawLemmas
+pub mod HeldStepLemmas
+pub mod HeldOthersLemmas
+pub mod MomentLemmas
+pub mod NobodyLemmas
+pub mod HaveLemmas
+pub mod SayLemmas
 pub mod MoveLemmas
 pub mod LeadLemmas
 pub mod AttachedLemmas

@@ -1,3 +1,6 @@
+pub mod SocketLaws
+pub mod Closed
+pub mod HeldLaws
 pub mod AttachedOnce
 pub mod Spared
 pub mod Bound

@@ -8,7 +8,7 @@ use Rattle.spec_control.specs.Place.{Place, Unmade, Away, At}
 use Rattle.spec_control.specs.Control.{Control, begun, next_pair, owner_of, place_of, ends_of}
 use Rattle.spec_control.specs.After.{after}
 use Rattle.spec_control.specs.ControlRun.{Fits, after_all, IsControlRun}
-use Rattle.control_held.specs.Has.{acts_in_request}
+use Rattle.spec_control.specs.Has.{acts_in_request}
 
 -- where an end is, whether or not its bind was put yet
 abbrev pub shown : Place → Place

@@ -1,15 +1,18 @@
 //! Laws of the control plane, over its definitions alone: whatever order commands are delivered in,
 //! what is asked to end ends, an object after all that it owns; each command comes once, and for one
-//! that has not ended; so many come at the most, and each mailbox has room for them.
+//! that has not ended; so many come at the most, and each mailbox has room for them. What a caller
+//! reads off its own items of the ends that it has is so in the control state.
 #![tactic(auto)]
 
 mod attached;
 mod bounds;
 mod counts;
+mod held;
 mod laws;
 mod moves;
 mod others;
 mod rows;
+mod sockets;
 
 pub use attached::ends_are_attached_once;
 pub use bounds::{
@@ -17,6 +20,9 @@ pub use bounds::{
     worked_counts_are_so,
 };
 pub use counts::{commands_come_once, worked_runs_take_so_many};
+pub use held::{
+    ends_are_here, holders_have_what_is_said, lent_holders_have_it, other_holders_stay,
+};
 pub use laws::{a_quiescent_root_has_ended, letters_are_for_the_living, runs_are_kept};
 pub use moves::{
     a_rest_has_its_reason, each_event_is_made_of_steps, no_never_cell_is_met,
@@ -27,3 +33,4 @@ pub use rows::{
     children_and_ends_go_first, each_step_moves_ends_by_the_table, each_step_moves_the_tree,
     nothing_comes_for_an_ended_object,
 };
+pub use sockets::{had_objects_are_there, known_sockets_have_kinds, sockets_are_open};

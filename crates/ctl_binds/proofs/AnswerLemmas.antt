@@ -12,7 +12,7 @@ use Rattle.spec_control.specs.Rows.{obj}
 use Rattle.spec_control.specs.After.{kind_answer}
 use Rattle.spec_control.specs.Control.{Control, end_of, is_end}
 use Rattle.spec_control.specs.ControlRun.{Joins, all_pipes, attaches, bind_joins, identity_of}
-use Rattle.control_held.specs.Held.{Held, held_as}
+use Rattle.spec_control.specs.Held.{Held, held_as}
 use Rattle.control_laws.proofs.AskLemmas.{end_self}
 use Rattle.ctl_binds.specs.declared.batch.Drawn.{Drawn}
 use Rattle.ctl_binds.specs.Batch.{AreNames, AreNumbered, first_of, held_of, joins_of, opened_of}

@@ -4,7 +4,7 @@ use Rattle.std.proofs.Common.{arith, sym, ap, ◌∙◌}
 use Rattle.std.proofs.lemmas.List.{append-nil, append_assoc, length_push}
 use Rattle.zq_base.specs.declared.ids.EndId.{EndId}
 use Rattle.spec_control.specs.declared.entry.Joining.{Joining}
-use Rattle.ctl_holder.specs.Holding.{Holding, JoinsBy, TakesBack}
+use Rattle.ctl_plane.specs.Holding.{Holding, JoinsBy, TakesBack}
 use Rattle.ctl_binds.specs.declared.batch.Drawn.{Drawn}
 use Rattle.ctl_binds.specs.Batch.{drawn_ends, first_of}
 use Rattle.ctl_binds.specs.Drawing.{HasJoinedMore}

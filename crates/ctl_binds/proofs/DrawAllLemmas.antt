@@ -9,11 +9,11 @@ use Rattle.zq_base.specs.declared.ids.EndId.{EndId}
 use Rattle.zq_base.specs.declared.ids.ObjId.{ObjId}
 use Rattle.spec_control.specs.Control.{end_of, is_end, next_pair}
 use Rattle.spec_control.specs.Rows.{PairRow}
-use Rattle.control_held.specs.Held.{Held}
+use Rattle.spec_control.specs.Held.{Held}
 use Rattle.control_laws.proofs.ListLemmas.{never}
-use Rattle.ctl_holder.specs.declared.load.Load.{Load}
-use Rattle.ctl_holder.specs.Holding.{HearsNone, Holding, KeepsTurns, Stays, has_end}
-use Rattle.ctl_holder.specs.Making.{capacity_between}
+use Rattle.ctl_plane.specs.declared.load.Load.{Load}
+use Rattle.ctl_plane.specs.Holding.{HearsNone, Holding, KeepsTurns, Stays, has_end}
+use Rattle.ctl_plane.specs.Making.{capacity_between}
 use Rattle.ctl_state.specs.declared.state.State.{State}
 use Rattle.ctl_state.specs.Stands.{Stands}
 use Rattle.ctl_joins.specs.Joined.{Gets}

@@ -14,9 +14,9 @@ use Rattle.spec_control.specs.declared.entry.Joining.{Joining}
 use Rattle.spec_control.specs.declared.entry.PipeName.{PipeName}
 use Rattle.spec_control.specs.Rows.{PairRow, obj}
 use Rattle.spec_control.specs.Control.{Control, draws, end_of, is_end}
-use Rattle.control_held.specs.Held.{Held}
-use Rattle.ctl_holder.specs.declared.load.Load.{Load}
-use Rattle.ctl_holder.specs.Holding.{HasNowhere, Holding, MayRefuse, has_end}
+use Rattle.spec_control.specs.Held.{Held}
+use Rattle.ctl_plane.specs.declared.load.Load.{Load}
+use Rattle.ctl_plane.specs.Holding.{HasNowhere, Holding, MayRefuse, has_end}
 use Rattle.ctl_state.specs.declared.state.State.{State}
 use Rattle.ctl_state.specs.Pairs.{entry_drawn}
 use Rattle.ctl_state.specs.Stands.{Stands}

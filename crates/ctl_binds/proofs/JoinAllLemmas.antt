@@ -10,13 +10,13 @@ use Rattle.spec_control.specs.Rows.{PairRow}
 use Rattle.spec_control.specs.declared.end.EndState.{EndState}
 use Rattle.spec_control.specs.Place.{Place, At, Unmade}
 use Rattle.spec_control.specs.Control.{Control, end_of, next_pair, place_of}
-use Rattle.ctl_holder.specs.declared.load.Load.{Load}
-use Rattle.ctl_holder.specs.Holding.{Holding, Stays, has_end}
-use Rattle.ctl_holder.specs.Turns.{TurnsBy, turn_at, turned_over}
-use Rattle.ctl_ends.specs.Turning.{PutsLoaded}
-use Rattle.ctl_ends.proofs.MailLemmas.{puts_not, puts_on}
-use Rattle.ctl_ends.proofs.TurnLemmas.{turned_not}
-use Rattle.ctl_ends.proofs.TurnedLemmas.{over_append, turns_on, turns_same}
+use Rattle.ctl_plane.specs.declared.load.Load.{Load}
+use Rattle.ctl_plane.specs.Holding.{Holding, Stays, has_end}
+use Rattle.ctl_plane.specs.Turns.{TurnsBy, turn_at, turned_over}
+use Rattle.ctl_moves.specs.Turning.{PutsLoaded}
+use Rattle.ctl_moves.proofs.MailLemmas.{puts_not, puts_on}
+use Rattle.ctl_moves.proofs.TurnLemmas.{turned_not}
+use Rattle.ctl_moves.proofs.TurnedLemmas.{over_append, turns_on, turns_same}
 use Rattle.ctl_state.specs.declared.state.State.{State}
 use Rattle.ctl_state.specs.Lists.{belongings_at}
 use Rattle.ctl_state.specs.Stands.{Stands}

@@ -13,11 +13,11 @@ use Rattle.spec_control.specs.declared.end.EndState.TheVariants.{Active}
 use Rattle.spec_control.specs.Stage.{has_ended, was_asked}
 use Rattle.spec_control.specs.Rows.{Rows, obj}
 use Rattle.spec_control.specs.Control.{Control, is_end, next_pair}
-use Rattle.control_held.specs.Held.{Held}
+use Rattle.spec_control.specs.Held.{Held}
 use Rattle.control_laws.proofs.ListLemmas.{never}
 use Rattle.control_laws.proofs.AskLemmas.{end_self}
-use Rattle.ctl_holder.specs.declared.load.Load.{Load}
-use Rattle.ctl_holder.specs.Holding.{Holding, has_end}
+use Rattle.ctl_plane.specs.declared.load.Load.{Load}
+use Rattle.ctl_plane.specs.Holding.{Holding, has_end}
 use Rattle.ctl_state.specs.declared.belongings.Belongings.{Belongings}
 use Rattle.ctl_state.specs.declared.command.Command.{Command}
 use Rattle.ctl_state.specs.declared.pair.Entry.{Entry}

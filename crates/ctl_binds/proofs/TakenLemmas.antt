@@ -8,10 +8,10 @@ use Rattle.std.proofs.lemmas.List.Elements.{All-cons, All-head, All-nil, All-pop
 use Rattle.zq_base.specs.declared.ids.EndId.{EndId}
 use Rattle.spec_control.specs.declared.end.EndState.TheVariants.{Active}
 use Rattle.spec_control.specs.Control.{is_end, same_side}
-use Rattle.control_held.specs.Held.{Held}
+use Rattle.spec_control.specs.Held.{Held}
 use Rattle.control_laws.proofs.AskLemmas.{end_self, same_end}
 use Rattle.control_laws.proofs.ListLemmas.{never}
-use Rattle.ctl_holder.specs.Holding.{HearsNone, BeginsNone, Holding, Left, Stays, has_end, without_end}
+use Rattle.ctl_plane.specs.Holding.{HearsNone, BeginsNone, Holding, Left, Stays, has_end, without_end}
 use Rattle.ctl_state.specs.declared.state.State.{State}
 use Rattle.ctl_state.specs.Pairs.{entry_drawn}
 use Rattle.ctl_joins.specs.declared.owners.Owners.{Owners}

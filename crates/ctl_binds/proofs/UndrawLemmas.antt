@@ -5,11 +5,11 @@ use Rattle.std.proofs.lemmas.List.{append_assoc, length_push, map-append}
 use Rattle.std.proofs.lemmas.List.Folds.{list_any-append}
 use Rattle.std.proofs.lemmas.List.Elements.{All-pop}
 use Rattle.spec_control.specs.Control.{is_end}
-use Rattle.control_held.specs.Held.{Held}
+use Rattle.spec_control.specs.Held.{Held}
 use Rattle.control_laws.proofs.ListLemmas.{never}
 use Rattle.control_laws.proofs.AskLemmas.{end_self}
-use Rattle.ctl_holder.specs.declared.load.Load.{Load}
-use Rattle.ctl_holder.specs.Holding.{HearsNone, BeginsNone, Holding, IsLast, Left, TakesBack, has_end}
+use Rattle.ctl_plane.specs.declared.load.Load.{Load}
+use Rattle.ctl_plane.specs.Holding.{HearsNone, BeginsNone, Holding, IsLast, Left, TakesBack, has_end}
 use Rattle.ctl_state.specs.declared.state.State.{State}
 use Rattle.ctl_joins.specs.Joined.{Gets}
 use Rattle.ctl_joins.specs.Room.{HasDrawn, HavePlaces}

@@ -7,7 +7,7 @@ use Rattle.spec_control.specs.declared.entry.PipeName.{PipeName}
 use Rattle.spec_control.specs.Place.{Unmade}
 use Rattle.spec_control.specs.Rows.{PairRow, obj}
 use Rattle.spec_control.specs.Control.{Control, end_of}
-use Rattle.control_held.specs.Held.{Held}
+use Rattle.spec_control.specs.Held.{Held}
 use Rattle.ctl_state.specs.declared.state.State.{State}
 use Rattle.ctl_joins.specs.declared.attaching.Names.{Names}
 use Rattle.ctl_joins.specs.Noting.{HasRoomFor, joins_named, pipes_named}

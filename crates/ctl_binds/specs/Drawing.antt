@@ -7,10 +7,10 @@ use Rattle.spec_control.specs.declared.end.EndState.TheVariants.{Active}
 use Rattle.spec_control.specs.declared.entry.Joining.{Joining}
 use Rattle.spec_control.specs.Rows.{obj}
 use Rattle.spec_control.specs.Control.{Control, end_of, next_pair}
-use Rattle.ctl_holder.specs.declared.load.Load.{Load}
-use Rattle.ctl_holder.specs.Holding.{HasNowhere, HearsNone, Holding, HoldsNow, JoinsBy, MayRefuse, has_end}
-use Rattle.ctl_holder.specs.Lent.{HasAll}
-use Rattle.ctl_holder.specs.Making.{capacity_between}
+use Rattle.ctl_plane.specs.declared.load.Load.{Load}
+use Rattle.ctl_plane.specs.Holding.{HasNowhere, HearsNone, Holding, HoldsNow, JoinsBy, MayRefuse, has_end}
+use Rattle.ctl_plane.specs.Lent.{HasAll}
+use Rattle.ctl_plane.specs.Making.{capacity_between}
 use Rattle.ctl_state.specs.declared.state.State.{State}
 use Rattle.ctl_state.specs.Stands.{Stands}
 use Rattle.ctl_joins.specs.declared.notes.Notes.{Notes}

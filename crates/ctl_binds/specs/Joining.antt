@@ -10,10 +10,10 @@ use Rattle.spec_control.specs.Hold.{fulfil}
 use Rattle.spec_control.specs.Stage.{has_ended, was_asked}
 use Rattle.spec_control.specs.Rows.{obj}
 use Rattle.spec_control.specs.Control.{Control, draws, end_of, greet, next_pair, open_pair, place_of}
-use Rattle.ctl_holder.specs.declared.load.Load.{Load}
-use Rattle.ctl_holder.specs.Holding.{HearsNone, Holding, Stays, has_end}
-use Rattle.ctl_holder.specs.Turns.{TurnsBy, turned_over}
-use Rattle.ctl_ends.specs.Turning.{PutsLoaded}
+use Rattle.ctl_plane.specs.declared.load.Load.{Load}
+use Rattle.ctl_plane.specs.Holding.{HearsNone, Holding, Stays, has_end}
+use Rattle.ctl_plane.specs.Turns.{TurnsBy, turned_over}
+use Rattle.ctl_moves.specs.Turning.{PutsLoaded}
 use Rattle.ctl_state.specs.declared.state.State.{State}
 use Rattle.ctl_state.specs.Boxes.{mail_at}
 use Rattle.ctl_state.specs.Lists.{belongings_at}

@@ -4,8 +4,8 @@ ghost use Rattle.ctl_joins.specs.Noting.{joins_named, pipes_named};
 ghost use Rattle.ctl_binds.specs.Batch.{FitsMore, drawn_with};
 
 use crate::first::FirstMade;
-use ctl_holder::NamedHalves;
 use ctl_joins::{FirstEnd, Notes, Owners, Papers};
+use ctl_plane::NamedHalves;
 use std::alloc::{AllocError, Global};
 use std::collections::VecDeque;
 use zq_base::{Attached, EndId, Octets, PairId};

@@ -2,7 +2,7 @@ ghost use Rattle.std.specs.Prelude.{◌≡◌, ◌<◌, ◌+◌, ◌^◌, [], le
 ghost use Rattle.spec_control.specs.Hold.{Joined as IsJoined};
 ghost use Rattle.spec_control.specs.After.{with_hold};
 ghost use Rattle.spec_control.specs.Control.{draws, end_of};
-ghost use Rattle.ctl_holder.specs.Holding.{HearsNone, KeepsTurns, Stays};
+ghost use Rattle.ctl_plane.specs.Holding.{HearsNone, KeepsTurns, Stays};
 ghost use Rattle.ctl_state.specs.Listed.{with_last};
 ghost use Rattle.ctl_state.specs.Lists.{belongings_at, with_holds};
 ghost use Rattle.ctl_state.specs.Parts.{on_lists};
@@ -13,8 +13,8 @@ ghost use Rattle.ctl_joins.specs.Papers.{MayMake};
 ghost use Rattle.ctl_joins.specs.Room.{HavePlaces, with_drawn};
 
 use crate::first::{FirstMade, make_first};
-use ctl_holder::{Holder, Load};
 use ctl_joins::{FirstEnd, Notes, Owners, Papers, draw_pair, join_pair, undraw_pair};
+use ctl_plane::{Holder, Load};
 use ctl_state::{Held, Hold, State};
 use msg_pipe::Pipes;
 use std::alloc::{AllocError, Global};

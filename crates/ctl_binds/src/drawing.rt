@@ -1,6 +1,6 @@
 ghost use Rattle.std.specs.Prelude.{◌≡◌, ◌+◌, ◌++◌, ◌∷◌, [], ℕ, length, true, false, IfOk, OnOk, OnErr};
 ghost use Rattle.spec_control.specs.Control.{end_of, next_pair};
-ghost use Rattle.ctl_holder.specs.Holding.{HearsNone, KeepsTurns, Stays};
+ghost use Rattle.ctl_plane.specs.Holding.{HearsNone, KeepsTurns, Stays};
 ghost use Rattle.ctl_binds.specs.Batch.{FitsMore, drawn_ends};
 ghost use Rattle.ctl_binds.specs.Drawing.{Draws, IsBack, MayDraw, MayDrawNext, MayMakeAll};
 ghost use Rattle.ctl_joins.specs.Papers.{MayMake};
@@ -8,8 +8,8 @@ ghost use Rattle.ctl_joins.specs.Papers.{MayMake};
 use crate::batch::Batch;
 use crate::first::make_first;
 use crate::undrawing::undraw_all;
-use ctl_holder::{Holder, Load, Undoes};
 use ctl_joins::{Owners, draw_pair, undraw_pair};
+use ctl_plane::{Holder, Load, Undoes};
 use ctl_state::State;
 use msg_pipe::Pipes;
 use std::alloc::{AllocError, Global};

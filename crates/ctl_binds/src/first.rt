@@ -1,13 +1,13 @@
 ghost use Rattle.std.specs.Prelude.{◌≡◌, ◌<◌, ◌∷◌, List, true, length, IfOk, OnOk, OnErr};
 ghost use Rattle.zq_base.specs.declared.ids.EndId.{EndId};
 ghost use Rattle.spec_control.specs.Control.{Control};
-ghost use Rattle.ctl_holder.specs.Holding.{HasNowhere, HearsNone, KeepsTurns, Stays};
+ghost use Rattle.ctl_plane.specs.Holding.{HasNowhere, HearsNone, KeepsTurns, Stays};
 ghost use Rattle.ctl_state.specs.Stands.{Stands};
 ghost use Rattle.ctl_joins.specs.Attaching.{AttachesFirst};
 ghost use Rattle.ctl_joins.specs.Papers.{ArePapers, MayMake};
 
-use ctl_holder::{Holder, Load};
 use ctl_joins::{FirstEnd, Owners, Papers, attach_first, capacities_of, papers_of};
+use ctl_plane::{Holder, Load};
 use ctl_state::State;
 use msg_pipe::Pipes;
 use std::alloc::{AllocError, Global};

@@ -3,8 +3,8 @@ ghost use Rattle.ctl_state.specs.Stands.{Stands};
 ghost use Rattle.ctl_binds.specs.Joining.{JoinsAll, JoinsNext, MayJoinAll, MayJoinNext, MovesAll, fulfilled_all};
 
 use crate::batch::Drawn;
-use ctl_holder::{Holder, Load};
 use ctl_joins::join_pair;
+use ctl_plane::{Holder, Load};
 use ctl_state::State;
 use msg_pipe::Pipes;
 use std::collections::VecDeque;

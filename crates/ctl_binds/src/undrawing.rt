@@ -4,8 +4,8 @@ ghost use Rattle.ctl_binds.specs.Batch.{drawn_ends, first_of};
 ghost use Rattle.ctl_binds.specs.Drawing.{AreTaken, IsBack, WasTaken, WereTaken};
 
 use crate::batch::Drawn;
-use ctl_holder::{Load, Undoes};
 use ctl_joins::undraw_pair;
+use ctl_plane::{Load, Undoes};
 use ctl_state::State;
 use msg_pipe::Pipes;
 use std::alloc::Global;

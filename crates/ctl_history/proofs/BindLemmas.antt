@@ -12,7 +12,7 @@ use Rattle.spec_control.specs.Control.{Control, next_pair}
 use Rattle.spec_control.specs.After.{binding_by}
 use Rattle.spec_control.specs.Reply.{reply_of, unless, bind_reply, has_pairs, most_made_pairs}
 use Rattle.control_laws.proofs.ListLemmas.{never}
-use Rattle.ctl_asks.specs.Refusals.{refusal_in}
+use Rattle.ctl_moves.specs.Refusals.{refusal_in}
 use Rattle.ctl_history.proofs.RefusalLemmas.{is_behind, passed}
 
 module _ (c : Control) (o : ObjId) (name : List ℕ) (allowed : refusal_in (reply_of c (Bind o (Inproc name))) ≡ None) where

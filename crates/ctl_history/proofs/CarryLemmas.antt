@@ -15,14 +15,14 @@ use Rattle.spec_control.specs.declared.letter.Word.TheVariants.{Own, Plug, TermR
 use Rattle.spec_control.specs.Names.{name_of}
 use Rattle.spec_control.specs.Control.{Control}
 use Rattle.control_laws.proofs.ListLemmas.{never}
-use Rattle.ctl_holder.specs.declared.load.Load.{Load}
-use Rattle.ctl_holder.specs.declared.load.Load.TheVariants.{Halves, Writer, Ends}
-use Rattle.ctl_holder.specs.declared.given.Given.{Given}
-use Rattle.ctl_holder.specs.Load.{IsNamed, BringsHalvesOf, BringsWriterTo, BringsEnds, Carries, ReapsAll, brings_ends, given_by}
+use Rattle.ctl_plane.specs.declared.load.Load.{Load}
+use Rattle.ctl_plane.specs.declared.load.Load.TheVariants.{Halves, Writer, Ends}
+use Rattle.ctl_plane.specs.declared.given.Given.{Given}
+use Rattle.ctl_plane.specs.Load.{IsNamed, BringsHalvesOf, BringsWriterTo, BringsEnds, Carries, ReapsAll, brings_ends, given_by}
 use Rattle.ctl_state.specs.declared.command.Command.{Command}
 use Rattle.ctl_state.specs.Boxes.{mail_at, with_mail, tells_object, IsBareTold, PutsBare, Takes}
 use Rattle.ctl_state.proofs.StandLemmas.{roomy}
-pub use Rattle.ctl_terms.proofs.HolderLemmas.{told_carries}
+pub use Rattle.ctl_moves.proofs.HolderLemmas.{told_carries}
 use Rattle.ctl_history.specs.Carried.{given_in, IsCarried, AreCarried}
 
 module _ {N O I : Type 0} (out_name : O → N) (in_name : I → N) where

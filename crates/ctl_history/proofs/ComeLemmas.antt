@@ -13,18 +13,18 @@ use Rattle.spec_control.specs.Control.{Control}
 use Rattle.spec_control.specs.ControlRun.{IsOpenSocket, is_between}
 use Rattle.spec_control.specs.After.{after}
 use Rattle.control_laws.proofs.ListLemmas.{never, clash}
-use Rattle.ctl_holder.specs.Holding.{HearsMore, HearsNone, HasGiven, Holding, JoinsBy}
+use Rattle.ctl_plane.specs.Holding.{HearsMore, HearsNone, HasGiven, Holding, JoinsBy}
 use Rattle.zq_base.specs.declared.ids.EndId.{EndId}
 use Rattle.zq_base.specs.declared.ids.Settled.{Settled}
-use Rattle.ctl_holder.specs.Counts.{CountsIn, CountsOnce}
-use Rattle.ctl_holder.specs.Joins.{IsReaped, JoinsIn, KeepsObjects, came_in}
-use Rattle.ctl_terms.proofs.BetweenLemmas.{StayBetween}
-use Rattle.ctl_terms.proofs.KeepLemmas.{all_kept}
+use Rattle.ctl_plane.specs.Counts.{CountsIn, CountsOnce}
+use Rattle.ctl_plane.specs.Joins.{IsReaped, JoinsIn, KeepsObjects, came_in}
+use Rattle.ctl_moves.proofs.BetweenLemmas.{StayBetween}
+use Rattle.ctl_moves.proofs.KeepLemmas.{all_kept}
 use Rattle.ctl_history.specs.Coming.{ComesWith}
 use Rattle.ctl_history.specs.Past.{Past, control_of, with_event}
 use Rattle.ctl_history.proofs.CloseLemmas.{closed_between, stays_between}
-use Rattle.ctl_holder.specs.Heard.{ends_between, heard_by, heard_in, over_if, term_with, HearsOnce}
-use Rattle.ctl_holder.specs.declared.notice.Notice.{Notice}
+use Rattle.ctl_plane.specs.Heard.{ends_between, heard_by, heard_in, over_if, term_with, HearsOnce}
+use Rattle.ctl_plane.specs.declared.notice.Notice.{Notice}
 use Rattle.zq_base.specs.declared.ids.ObjId.{ObjId}
 use Rattle.spec_control.specs.declared.letter.Word.{Word}
 use Rattle.spec_control.specs.declared.letter.Word.TheVariants.{Own, Plug, TermReq, Term, TermAck, PipeBind, PipeTerm, PipeTermAck, Stop, Reap}

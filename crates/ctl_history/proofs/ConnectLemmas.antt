@@ -21,14 +21,14 @@ use Rattle.ctl_state.specs.Boxes.{PutsBare}
 use Rattle.ctl_state.specs.Needs.{AreMet}
 use Rattle.ctl_state.specs.Stands.{Stands, Updates}
 use Rattle.ctl_state.proofs.BareLemmas.{bare_not}
-use Rattle.ctl_holder.specs.declared.given.Given.{Given}
-use Rattle.ctl_holder.specs.declared.load.Load.{Load}
+use Rattle.ctl_plane.specs.declared.given.Given.{Given}
+use Rattle.ctl_plane.specs.declared.load.Load.{Load}
 use Rattle.ctl_history.specs.Carried.{AreCarried, IsPlane}
-use Rattle.ctl_strikes.specs.Naming.{SameEndLists}
+use Rattle.ctl_moves.specs.Naming.{SameEndLists}
 use Rattle.ctl_history.proofs.OwedLemmas.{binds_put}
 use Rattle.ctl_history.specs.Connecting.{MayWait}
 use Rattle.ctl_history.specs.Past.{Past, control_of, items_of, with_event, IsHistory}
-use Rattle.ctl_hears.specs.Processing.{IsSilent}
+use Rattle.ctl_moves.specs.Processing.{IsSilent}
 use Rattle.ctl_history.proofs.SilentLemmas.{silent_answered}
 use Rattle.ctl_history.proofs.EventLemmas.{one_brought}
 use Rattle.ctl_history.proofs.PlaneLemmas.{unplugged_made, one_plane, tells_no_names}

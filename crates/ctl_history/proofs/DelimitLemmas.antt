@@ -14,22 +14,22 @@ use Rattle.spec_control.specs.Rows.{obj}
 use Rattle.spec_control.specs.Control.{Control, happens, owner_of, place_of}
 use Rattle.spec_control.specs.After.{after}
 use Rattle.spec_control.specs.ControlRun.{Fits, is_between}
-use Rattle.control_held.proofs.NamedLemmas.{later}
-use Rattle.ctl_holder.specs.declared.load.Load.{Load}
-use Rattle.ctl_holder.specs.declared.given.Given.{Given}
-use Rattle.ctl_holder.specs.Holding.{Holding}
-use Rattle.ctl_holder.specs.Lent.{HasAll}
+use Rattle.spec_control.proofs.NamedLemmas.{later}
+use Rattle.ctl_plane.specs.declared.load.Load.{Load}
+use Rattle.ctl_plane.specs.declared.given.Given.{Given}
+use Rattle.ctl_plane.specs.Holding.{Holding}
+use Rattle.ctl_plane.specs.Lent.{HasAll}
 use Rattle.ctl_state.specs.declared.state.State.{State}
-use Rattle.ctl_ends.specs.Turning.{MayTurn, Leads, turn_of}
+use Rattle.ctl_moves.specs.Turning.{MayTurn, Leads, turn_of}
 use Rattle.ctl_history.specs.Past.{Past, as_item, items_of, control_of, with_event}
-use Rattle.ctl_hears.specs.Processing.{IsSilent}
+use Rattle.ctl_moves.specs.Processing.{IsSilent}
 use Rattle.ctl_history.specs.Carried.{given_in, IsPlane}
 use Rattle.ctl_history.specs.Hearing.{HasWhat}
 use Rattle.ctl_history.proofs.EventLemmas.{MakesNothing, kept_past, control_more, one_foreseen, has_entry}
 use Rattle.ctl_history.proofs.SilentLemmas.{silent_answered}
 use Rattle.ctl_history.proofs.PlaneLemmas.{one_plane, tells_no_names}
-use Rattle.ctl_strikes.proofs.FindLemmas.{turns_at, loaded_capacity}
-use Rattle.ctl_strikes.proofs.NameLemmas.{same_lists}
+use Rattle.ctl_moves.proofs.FindLemmas.{turns_at, loaded_capacity}
+use Rattle.ctl_moves.proofs.NameLemmas.{same_lists}
 use Rattle.ctl_history.proofs.DeliverLemmas.{loaded_given, loaded_carried, has_later}
 
 module _ {N O I S : Type 0} (out_name : O → N) (in_name : I → N) (s : State (Load N O I)) (p : Past (Given N O I) N S) (spare : ℕ) (e : EndId) (plane : IsPlane out_name in_name s p spare) (looked_at : looks (place_of (control_of p) e) ≡ true) where

@@ -30,50 +30,50 @@ use Rattle.spec_control.specs.Stage.{has_ended}
 use Rattle.spec_control.specs.Control.{Control}
 use Rattle.spec_control.specs.After.{after, without_front}
 use Rattle.spec_control.specs.ControlRun.{Fits, IsAnswered, is_between, word_joins, Settles}
-use Rattle.control_held.specs.Held.{Held}
-use Rattle.control_held.proofs.NamedLemmas.{later}
+use Rattle.spec_control.specs.Held.{Held}
+use Rattle.spec_control.proofs.NamedLemmas.{later}
 use Rattle.control_laws.proofs.ListLemmas.{never, clash, placed}
 use Rattle.control_laws.specs.Kept.{Kept}
 use Rattle.control_laws.proofs.RootLemmas.{oldest_lives}
 use Rattle.control_laws.proofs.GuardLemmas.{may_come}
 use Rattle.control_laws.specs.Room.{to_come, move_room, slots_of}
-use Rattle.ctl_holder.specs.declared.load.Load.{Load}
-use Rattle.ctl_holder.specs.declared.given.Given.{Given}
-use Rattle.ctl_holder.specs.Holding.{Holding, given_as}
-use Rattle.ctl_holder.specs.TakingOver.{MayTakeFirst}
-use Rattle.ctl_holder.specs.Lent.{HasBothNames, HasAll}
-use Rattle.ctl_holder.specs.Load.{BringsWriterTo, Carries, IsNamed, ReapsAll, brings_ends, given_by}
-use Rattle.ctl_holder.specs.declared.load.Load.TheVariants.{Writer}
+use Rattle.ctl_plane.specs.declared.load.Load.{Load}
+use Rattle.ctl_plane.specs.declared.given.Given.{Given}
+use Rattle.ctl_plane.specs.Holding.{Holding, given_as}
+use Rattle.ctl_plane.specs.TakingOver.{MayTakeFirst}
+use Rattle.ctl_plane.specs.Lent.{HasBothNames, HasAll}
+use Rattle.ctl_plane.specs.Load.{BringsWriterTo, Carries, IsNamed, ReapsAll, brings_ends, given_by}
+use Rattle.ctl_plane.specs.declared.load.Load.TheVariants.{Writer}
 use Rattle.ctl_state.specs.declared.command.Command.{Command}
 use Rattle.ctl_state.specs.declared.state.State.{State}
 use Rattle.ctl_state.specs.Boxes.{mail_at, Takes}
 use Rattle.ctl_state.specs.Stands.{Updates}
-use Rattle.ctl_ends.specs.Turning.{IsLoaded, PutsLoaded, TurnsAt}
+use Rattle.ctl_moves.specs.Turning.{IsLoaded, PutsLoaded, TurnsAt}
 use Rattle.ctl_history.specs.Past.{Past, as_item, items_of, control_of, with_event, IsHistory}
 use Rattle.ctl_history.specs.Carried.{given_in, BindsFit, IsCarried, AreCarried, IsPlane}
-use Rattle.ctl_hears.specs.Processing.{is_heard, AreFree, IsAcknowledged, IsReaped, HearsEnd, MayHear, IsProcessed}
-use Rattle.ctl_holder.specs.Bringing.{BringsFirst}
+use Rattle.ctl_moves.specs.Processing.{is_heard, AreFree, IsAcknowledged, IsReaped, HearsEnd, MayHear, IsProcessed}
+use Rattle.ctl_plane.specs.Bringing.{BringsFirst}
 use Rattle.ctl_history.specs.Hearing.{AreOfKind, FitBinds, IsServed, HasWhat}
-use Rattle.ctl_asks.proofs.CapacityLemmas.{taken_capacity, taken_spare}
+use Rattle.ctl_moves.proofs.CapacityLemmas.{taken_capacity, taken_spare}
 use Rattle.ctl_history.proofs.EventLemmas.{MakesNothing, kept_past, control_more, one_foreseen, has_entry, objects_made, pairs_drawn}
 use Rattle.ctl_history.proofs.CarryLemmas.{brings_none, no_reap, taken_carried, taken_carries, taken_given}
 use Rattle.ctl_history.proofs.PlaneLemmas.{carried_last, plane_more, unplugged_made}
 use Rattle.ctl_history.proofs.PlaneDoneLemmas.{word_makes}
 use Rattle.ctl_history.proofs.DoneLemmas.{taken_hears}
 use Rattle.ctl_history.proofs.OnWayLemmas.{brought_own}
-use Rattle.ctl_strikes.proofs.FindLemmas.{turns_at, end_of_no_root}
+use Rattle.ctl_moves.proofs.FindLemmas.{turns_at, end_of_no_root}
 use Rattle.control_laws.proofs.RoomLemmas.{goes_room}
 use Rattle.control_laws.specs.Move.{LinkMoves}
 use Rattle.control_laws.proofs.SoundLemmas.{sound_of}
-use Rattle.ctl_hears.proofs.SettledLemmas.{acknowledged_at}
-use Rattle.ctl_hears.proofs.TakeOverLemmas.{at_root, reaped_at}
+use Rattle.ctl_moves.proofs.SettledLemmas.{acknowledged_at}
+use Rattle.ctl_moves.proofs.TakeOverLemmas.{at_root, reaped_at}
 use Rattle.ctl_history.proofs.OldestBindLemmas.{bind_at, bind_taken, binds_fit_left, bound_by, fits_brought, fits_ends, fits_none, fits_writer, is_served, on_its_way, owner_is}
-use Rattle.ctl_hears.specs.Attaching.{FitsLoad}
-use Rattle.ctl_holder.specs.declared.halves.Halves.{Halves}
+use Rattle.ctl_moves.specs.Attaching.{FitsLoad}
+use Rattle.ctl_plane.specs.declared.halves.Halves.{Halves}
 use Rattle.control_laws.proofs.AttachedOnceLemmas.{old_run}
 use Rattle.ctl_state.specs.declared.belongings.Belongings.{Belongings}
 use Rattle.spec_control.specs.Rows.{obj}
-use Rattle.ctl_strikes.proofs.FindLemmas.{loaded_capacity}
+use Rattle.ctl_moves.proofs.FindLemmas.{loaded_capacity}
 
 -- ---- commands that were put with what they bring
 module _ {N O I : Type 0} (out_name : O → N) (in_name : I → N) where

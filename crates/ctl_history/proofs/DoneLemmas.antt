@@ -35,11 +35,11 @@ use Rattle.ctl_state.specs.Parts.{on_boxes, on_tree, sent_to, Tells}
 use Rattle.ctl_state.specs.Stands.{Stands, Updates, letter_for, slot_of}
 use Rattle.ctl_state.proofs.ReadLemmas.{read_kept}
 use Rattle.ctl_history.specs.Past.{Past, control_of, only_given, with_event, with_given, IsHistory}
-use Rattle.ctl_hears.specs.Processing.{IsSilent}
-use Rattle.ctl_asks.specs.Bare.{Hears}
-use Rattle.ctl_asks.proofs.CapacityLemmas.{capacity, taken_spare, told_capacity, sent_capacity}
+use Rattle.ctl_moves.specs.Processing.{IsSilent}
+use Rattle.ctl_moves.specs.Bare.{Hears}
+use Rattle.ctl_moves.proofs.CapacityLemmas.{capacity, taken_spare, told_capacity, sent_capacity}
 use Rattle.ctl_history.proofs.EventLemmas.{MakesNothing, kept_past, one_foreseen, one_noted, has_entry}
-use Rattle.ctl_asks.proofs.BareLemmas.{ack_to_come, hears}
+use Rattle.ctl_moves.proofs.BareLemmas.{ack_to_come, hears}
 use Rattle.ctl_history.proofs.SilentLemmas.{silent_answered}
 
 module _ {L : Type 0} where

@@ -30,7 +30,7 @@ use Rattle.ctl_state.specs.Boxes.{mail_at, PutsBare}
 use Rattle.ctl_state.specs.Stands.{Stands}
 use Rattle.ctl_history.specs.Past.{Past, as_item, control_of, with_event, IsPast, IsHistory}
 use Rattle.ctl_state.proofs.BareLemmas.{bare_not}
-use Rattle.ctl_asks.proofs.CapacityLemmas.{capacity, mail_length, puts_capacity}
+use Rattle.ctl_moves.proofs.CapacityLemmas.{capacity, mail_length, puts_capacity}
 
 -- ---- one event more
 module _ {N S : Type 0} where

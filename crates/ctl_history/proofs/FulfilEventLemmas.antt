@@ -29,9 +29,9 @@ use Rattle.spec_control.specs.Reply.{reply_of}
 use Rattle.control_laws.specs.Kept.{IsUnasked}
 use Rattle.control_laws.proofs.JoinLemmas.{open_is}
 use Rattle.control_laws.proofs.RootLemmas.{begun_kept}
-use Rattle.ctl_holder.specs.Holding.{Holding}
-use Rattle.ctl_holder.specs.declared.given.Given.{Given}
-use Rattle.ctl_holder.specs.declared.load.Load.{Load}
+use Rattle.ctl_plane.specs.Holding.{Holding}
+use Rattle.ctl_plane.specs.declared.given.Given.{Given}
+use Rattle.ctl_plane.specs.declared.load.Load.{Load}
 use Rattle.ctl_state.specs.declared.state.State.{State}
 use Rattle.ctl_joins.specs.declared.notes.Notes.{Notes}
 use Rattle.ctl_binds.specs.declared.batch.Drawn.{Drawn}
@@ -42,12 +42,12 @@ use Rattle.ctl_binds.proofs.TakenLemmas.{all_from}
 use Rattle.ctl_binds.proofs.AnswerLemmas.{answers_are, joins_are, names_are, pipes_are}
 use Rattle.ctl_binds.proofs.FulfilLemmas.{AreFor, AreMade, all_made, are_for, fulfil_is}
 use Rattle.ctl_binds.proofs.ReadyLemmas.{all_of}
-use Rattle.ctl_strikes.specs.Naming.{bound_now}
+use Rattle.ctl_moves.specs.Naming.{bound_now}
 use Rattle.ctl_history.specs.Carried.{IsPlane}
 use Rattle.ctl_history.specs.Fulfilling.{Fulfils}
 use Rattle.ctl_history.specs.Joining.{IsNoted, Lends}
 use Rattle.ctl_history.specs.Past.{Past, as_item, control_of, items_of}
-use Rattle.ctl_asks.specs.Refusals.{refusal_in}
+use Rattle.ctl_moves.specs.Refusals.{refusal_in}
 use Rattle.ctl_history.proofs.BindLemmas.{bind_done}
 use Rattle.ctl_history.proofs.EventLemmas.{kept_past}
 use Rattle.ctl_history.proofs.FreshLemmas.{names_fresh}

@@ -28,20 +28,20 @@ use Rattle.spec_control.specs.Control.{Control, next_pair, place_of}
 use Rattle.spec_control.specs.ControlRun.{Fits}
 use Rattle.spec_control.specs.Reply.{reply_of}
 use Rattle.control_laws.specs.Room.{move_room, reserved, slots_of, took_from}
-use Rattle.control_held.specs.Held.{Held, held_as}
-use Rattle.control_held.proofs.NamedLemmas.{later}
+use Rattle.spec_control.specs.Held.{Held, held_as}
+use Rattle.spec_control.proofs.NamedLemmas.{later}
 use Rattle.control_laws.specs.Kept.{Kept}
 use Rattle.control_laws.specs.Move.{Move}
 use Rattle.control_laws.specs.OwnMoves.{fulfil_moves, join_moves}
-use Rattle.ctl_holder.specs.Holding.{Holding, has_end}
-use Rattle.ctl_holder.specs.Lent.{HasAll, HasBothNames}
-use Rattle.ctl_holder.specs.Turns.{HasTurned, TurnsBy, turn_at, turned_over}
-use Rattle.ctl_ends.proofs.TurnedLemmas.{from_gone}
+use Rattle.ctl_plane.specs.Holding.{Holding, has_end}
+use Rattle.ctl_plane.specs.Lent.{HasAll, HasBothNames}
+use Rattle.ctl_plane.specs.Turns.{HasTurned, TurnsBy, turn_at, turned_over}
+use Rattle.ctl_moves.proofs.TurnedLemmas.{from_gone}
 use Rattle.ctl_joins.specs.Joined.{Attaches}
-use Rattle.ctl_holder.specs.declared.given.Given.{Given}
-use Rattle.ctl_holder.specs.declared.load.Load.{Load}
-use Rattle.ctl_holder.specs.Load.{given_by}
-use Rattle.ctl_ends.specs.Turning.{PutsLoaded}
+use Rattle.ctl_plane.specs.declared.given.Given.{Given}
+use Rattle.ctl_plane.specs.declared.load.Load.{Load}
+use Rattle.ctl_plane.specs.Load.{given_by}
+use Rattle.ctl_moves.specs.Turning.{PutsLoaded}
 use Rattle.ctl_state.specs.declared.command.Command.{Command}
 use Rattle.ctl_state.specs.declared.state.State.{State}
 use Rattle.ctl_state.specs.Stands.{Stands}
@@ -55,25 +55,25 @@ use Rattle.ctl_binds.proofs.AnswerLemmas.{ends_held, held_joined}
 use Rattle.ctl_binds.proofs.FulfilLemmas.{AreFor}
 use Rattle.ctl_binds.proofs.ReadyLemmas.{drawn_commands, drawn_spare, room_in}
 use Rattle.ctl_binds.proofs.TakenLemmas.{all_from, drawn_boxes}
-use Rattle.ctl_strikes.specs.Naming.{bound_now}
+use Rattle.ctl_moves.specs.Naming.{bound_now}
 use Rattle.ctl_history.specs.Carried.{given_in, AreCarried, BindsFit, IsCarried, IsPlane}
 use Rattle.ctl_history.specs.Fulfilling.{Fulfils}
 use Rattle.ctl_history.specs.Hearing.{HasWhat}
 use Rattle.ctl_history.specs.Joining.{IsNoted, Lends}
 use Rattle.ctl_history.specs.Past.{Past, as_item, control_of, items_of, with_event, IsHistory}
-use Rattle.ctl_asks.specs.Refusals.{refusal_in}
+use Rattle.ctl_moves.specs.Refusals.{refusal_in}
 use Rattle.ctl_history.proofs.BindLemmas.{enough_pairs}
-use Rattle.ctl_asks.proofs.CapacityLemmas.{capacity}
+use Rattle.ctl_moves.proofs.CapacityLemmas.{capacity}
 use Rattle.ctl_history.proofs.CarryLemmas.{carries_later}
 use Rattle.ctl_history.proofs.DeliverLemmas.{has_later, loaded_carried, loaded_given}
-use Rattle.ctl_strikes.proofs.FindLemmas.{loaded_capacity}
+use Rattle.ctl_moves.proofs.FindLemmas.{loaded_capacity}
 use Rattle.ctl_history.proofs.EventLemmas.{control_more, kept_past, one_more, objects_made}
 use Rattle.ctl_history.proofs.FreshLemmas.{fulfils_draw}
 use Rattle.ctl_history.proofs.FulfilEventLemmas.{are, event_fits, leads_to, made, names_fit, names_then, objects_stay, waits_for_it}
 use Rattle.ctl_history.proofs.NamedPlaneLemmas.{plane_named}
 use Rattle.ctl_history.proofs.PlaneLemmas.{unplugged_made}
 use Rattle.ctl_history.proofs.ReapLemmas.{carried_later}
-use Rattle.ctl_strikes.proofs.OnceLemmas.{told_more}
+use Rattle.ctl_moves.proofs.OnceLemmas.{told_more}
 
 -- ends of pairs that had no number yet begin Active
 over_new : (p q : EndId → Place) (es : List EndId) → All (λ e. p e ≡ At Gone) es → All (λ e. is_here (q e) ≡ true) es → turned_over p q es ≡ turned_over (λ e. Unmade) q es

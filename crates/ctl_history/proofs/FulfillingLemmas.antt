@@ -21,11 +21,11 @@ use Rattle.spec_control.specs.Reply.{reply_of}
 use Rattle.control_laws.specs.Kept.{Kept, IsUnasked}
 use Rattle.control_laws.proofs.JoinLemmas.{open_is, unasked_lives}
 use Rattle.control_laws.proofs.SoundLemmas.{socket_there}
-use Rattle.ctl_holder.specs.declared.given.Given.{Given}
-use Rattle.ctl_holder.specs.declared.load.Load.{Load}
-use Rattle.ctl_holder.specs.Holding.{Holding, has_end}
-use Rattle.ctl_holder.specs.Making.{MakesSo, bind_makes}
-use Rattle.ctl_holder.specs.Turns.{sealed_by, turned_over}
+use Rattle.ctl_plane.specs.declared.given.Given.{Given}
+use Rattle.ctl_plane.specs.declared.load.Load.{Load}
+use Rattle.ctl_plane.specs.Holding.{Holding, has_end}
+use Rattle.ctl_plane.specs.Making.{MakesSo, bind_makes}
+use Rattle.ctl_plane.specs.Turns.{sealed_by, turned_over}
 use Rattle.control_laws.proofs.ListLemmas.{never}
 use Rattle.control_laws.proofs.AskLemmas.{same_end}
 use Rattle.ctl_state.specs.declared.state.State.{State}
@@ -34,7 +34,7 @@ use Rattle.ctl_state.specs.Stands.{Stands, Updates}
 use Rattle.ctl_joins.specs.declared.notes.Notes.{Notes}
 use Rattle.ctl_joins.specs.Joined.{Gets}
 use Rattle.ctl_joins.proofs.JoinedLemmas.{gets_stays}
-use Rattle.ctl_ends.specs.Turning.{PutsLoaded}
+use Rattle.ctl_moves.specs.Turning.{PutsLoaded}
 use Rattle.mailbox.specs.Mail.{Mail}
 use Rattle.ctl_state.specs.declared.command.Command.{Command}
 use Rattle.ctl_binds.specs.declared.batch.Drawn.{Drawn}
@@ -42,13 +42,13 @@ use Rattle.ctl_binds.specs.Batch.{behind, first_of, held_of, row_of}
 use Rattle.ctl_binds.specs.Drawing.{Draws, HasPlace}
 use Rattle.ctl_binds.specs.Joining.{JoinsAll, MayJoinAll, MovesAll, fulfilled_all}
 use Rattle.ctl_binds.proofs.ReadyLemmas.{can_join, none_struck, numbers_are, places_left}
-use Rattle.ctl_strikes.specs.Naming.{bound_now, SameEndLists}
+use Rattle.ctl_moves.specs.Naming.{bound_now, SameEndLists}
 use Rattle.ctl_history.specs.Carried.{IsPlane}
 use Rattle.ctl_history.specs.Fulfilling.{Fulfils, MayFulfil, MayFulfilAll, MayMakeFor}
 use Rattle.ctl_history.specs.Hearing.{HasWhat}
 use Rattle.ctl_history.specs.Joining.{Lends}
 use Rattle.ctl_history.specs.Past.{Past, control_of, items_of}
-use Rattle.ctl_asks.specs.Refusals.{refusal_in}
+use Rattle.ctl_moves.specs.Refusals.{refusal_in}
 use Rattle.ctl_history.proofs.BindLemmas.{enough_pairs, name_is_free}
 use Rattle.ctl_history.proofs.EventLemmas.{kept_past}
 use Rattle.ctl_history.proofs.FulfilEventLemmas.{waits_for_it}

@@ -9,17 +9,17 @@ use Rattle.spec_control.specs.declared.entry.Joining.{Joining}
 use Rattle.spec_control.specs.Place.{At}
 use Rattle.spec_control.specs.Control.{Control, is_end, place_of}
 use Rattle.spec_control.specs.ControlRun.{Joins, taken_over}
-use Rattle.control_held.specs.Held.{Held}
+use Rattle.spec_control.specs.Held.{Held}
 use Rattle.control_laws.proofs.AskLemmas.{end_self}
 use Rattle.control_laws.proofs.ListLemmas.{never}
-use Rattle.ctl_holder.specs.declared.given.Given.{Given}
-use Rattle.ctl_holder.specs.declared.given.Parting.{Parting}
-use Rattle.ctl_holder.specs.Holding.{Holding, AllSealed, AllStated, AllTold, AllWriting, AreGivenAs, HasGiven, KeepsTurns, given_as, has_end, held_given}
-use Rattle.ctl_holder.specs.Lent.{HasAll, HasBothNames, HasEnds, has_writer, here_ends}
-use Rattle.ctl_holder.specs.Load.{AreEndsOfClosed, GivesAll, IsNamed}
-use Rattle.ctl_holder.specs.TakingOver.{AreGivenWith, IsGivenWith}
+use Rattle.ctl_plane.specs.declared.given.Given.{Given}
+use Rattle.ctl_plane.specs.declared.given.Parting.{Parting}
+use Rattle.ctl_plane.specs.Holding.{Holding, AllSealed, AllStated, AllTold, AllWriting, AreGivenAs, HasGiven, KeepsTurns, given_as, has_end, held_given}
+use Rattle.ctl_plane.specs.Lent.{HasAll, HasBothNames, HasEnds, has_writer, here_ends}
+use Rattle.ctl_plane.specs.Load.{AreEndsOfClosed, GivesAll, IsNamed}
+use Rattle.ctl_plane.specs.TakingOver.{AreGivenWith, IsGivenWith}
 use Rattle.msg_pipe.specs.Known.{Known}
-use Rattle.ctl_asks.specs.Noting.{noted_end, noted_join}
+use Rattle.ctl_moves.specs.Noting.{noted_end, noted_join}
 use Rattle.ctl_history.proofs.ReapLemmas.{all_of_map}
 
 map_of_map : {X Y Z : Type 0} (f : Y → Z) (g : X → Y) (xs : List X) → map f (map g xs) ≡ map (λ x. f (g x)) xs

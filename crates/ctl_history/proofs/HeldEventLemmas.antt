@@ -33,9 +33,9 @@ use Rattle.spec_control.specs.ControlRun.{Joins, Fits, MayAnswerAll, all_pipes, 
 use Rattle.spec_control.specs.Reply.{reply_of}
 use Rattle.control_laws.proofs.AskLemmas.{end_self}
 use Rattle.control_laws.proofs.RootLemmas.{begun_kept}
-use Rattle.ctl_holder.specs.Holding.{Holding, MayRefuse}
-use Rattle.ctl_holder.specs.declared.given.Given.{Given}
-use Rattle.ctl_holder.specs.declared.load.Load.{Load}
+use Rattle.ctl_plane.specs.Holding.{Holding, MayRefuse}
+use Rattle.ctl_plane.specs.declared.given.Given.{Given}
+use Rattle.ctl_plane.specs.declared.load.Load.{Load}
 use Rattle.ctl_state.specs.declared.state.State.{State}
 use Rattle.ctl_joins.specs.declared.notes.Notes.{Notes}
 use Rattle.ctl_joins.specs.declared.owners.Owners.{Owners}
@@ -48,7 +48,7 @@ use Rattle.ctl_joins.proofs.PairLemmas.{Greeted, drawn_owner, greeted, opened_mi
 use Rattle.ctl_history.specs.Carried.{IsPlane}
 use Rattle.ctl_history.specs.Joining.{IsNoted, Lends}
 use Rattle.ctl_history.specs.Past.{Past, as_item, control_of, items_of}
-use Rattle.ctl_asks.specs.Refusals.{refusal_in}
+use Rattle.ctl_moves.specs.Refusals.{refusal_in}
 use Rattle.ctl_history.proofs.FreshLemmas.{names_fresh}
 use Rattle.ctl_history.proofs.JoinHeldLemmas.{held_reply, may_answer}
 

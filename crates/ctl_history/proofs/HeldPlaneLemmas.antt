@@ -28,19 +28,19 @@ use Rattle.spec_control.specs.Control.{Control, end_of, is_end, place_of}
 use Rattle.spec_control.specs.ControlRun.{Fits}
 use Rattle.spec_control.specs.Reply.{reply_of}
 use Rattle.control_laws.specs.Room.{move_room, reserved, slots_of, took_from}
-use Rattle.control_held.specs.Held.{Held, held_as}
+use Rattle.spec_control.specs.Held.{Held, held_as}
 use Rattle.control_laws.specs.Kept.{Kept}
 use Rattle.control_laws.proofs.AskLemmas.{same_end}
 use Rattle.control_laws.proofs.ListLemmas.{never}
-use Rattle.control_held.proofs.NamedLemmas.{later}
+use Rattle.spec_control.proofs.NamedLemmas.{later}
 use Rattle.control_laws.specs.OwnMoves.{connect_moves}
-use Rattle.ctl_holder.specs.Holding.{Holding}
-use Rattle.ctl_holder.specs.Turns.{HasTurned}
-use Rattle.ctl_holder.specs.Lent.{HasAll, HasBothNames}
-use Rattle.ctl_holder.specs.declared.given.Given.{Given}
-use Rattle.ctl_holder.specs.declared.load.Load.{Load}
-use Rattle.ctl_holder.specs.Load.{given_by}
-use Rattle.ctl_ends.specs.Turning.{PutsLoaded}
+use Rattle.ctl_plane.specs.Holding.{Holding}
+use Rattle.ctl_plane.specs.Turns.{HasTurned}
+use Rattle.ctl_plane.specs.Lent.{HasAll, HasBothNames}
+use Rattle.ctl_plane.specs.declared.given.Given.{Given}
+use Rattle.ctl_plane.specs.declared.load.Load.{Load}
+use Rattle.ctl_plane.specs.Load.{given_by}
+use Rattle.ctl_moves.specs.Turning.{PutsLoaded}
 use Rattle.ctl_state.specs.declared.command.Command.{Command}
 use Rattle.ctl_state.specs.declared.state.State.{State}
 use Rattle.ctl_state.specs.Boxes.{mail_at}
@@ -56,11 +56,11 @@ use Rattle.ctl_history.specs.Carried.{given_in, AreCarried, BindsFit, IsCarried,
 use Rattle.ctl_history.specs.Hearing.{HasWhat}
 use Rattle.ctl_history.specs.Joining.{IsNoted, Lends}
 use Rattle.ctl_history.specs.Past.{Past, as_item, control_of, items_of, with_event, IsHistory}
-use Rattle.ctl_asks.specs.Refusals.{refusal_in}
-use Rattle.ctl_asks.proofs.CapacityLemmas.{capacity, set_capacity}
+use Rattle.ctl_moves.specs.Refusals.{refusal_in}
+use Rattle.ctl_moves.proofs.CapacityLemmas.{capacity, set_capacity}
 use Rattle.ctl_history.proofs.CarryLemmas.{carries_later}
 use Rattle.ctl_history.proofs.DeliverLemmas.{has_later, loaded_carried, loaded_given}
-use Rattle.ctl_strikes.proofs.FindLemmas.{loaded_capacity}
+use Rattle.ctl_moves.proofs.FindLemmas.{loaded_capacity}
 use Rattle.ctl_history.proofs.EventLemmas.{control_more, kept_past, one_more, objects_made, pairs_drawn}
 use Rattle.ctl_history.proofs.HeldEventLemmas.{event_fits, leads_to, names_fit, names_read, names_written, objects_stay, pair_attached, was_greeted}
 use Rattle.ctl_history.proofs.JoinHeldLemmas.{held_reply, one_pair}

@@ -31,12 +31,12 @@ use Rattle.control_laws.specs.Kept.{Kept, IsUnasked}
 use Rattle.control_laws.proofs.JoinLemmas.{open_is}
 use Rattle.control_laws.proofs.SoundLemmas.{socket_there}
 use Rattle.control_laws.proofs.ListLemmas.{never}
-use Rattle.ctl_holder.specs.Holding.{Holding, MayRefuse}
-use Rattle.ctl_holder.specs.Making.{MakesSo, capacity_between, connect_makes}
+use Rattle.ctl_plane.specs.Holding.{Holding, MayRefuse}
+use Rattle.ctl_plane.specs.Making.{MakesSo, capacity_between, connect_makes}
 use Rattle.ctl_state.specs.declared.state.State.{State}
 use Rattle.ctl_state.specs.Needs.{AreMet}
-use Rattle.ctl_holder.specs.declared.load.Load.{Load}
-use Rattle.ctl_holder.specs.declared.given.Given.{Given}
+use Rattle.ctl_plane.specs.declared.load.Load.{Load}
+use Rattle.ctl_plane.specs.declared.given.Given.{Given}
 use Rattle.ctl_joins.specs.declared.owners.Owners.{Owners}
 use Rattle.ctl_joins.specs.Connecting.{MayConnect}
 use Rattle.ctl_joins.specs.Papers.{HasMarks, MayMake}
@@ -45,7 +45,7 @@ use Rattle.ctl_history.specs.Carried.{IsPlane}
 use Rattle.ctl_history.specs.Hearing.{HasWhat}
 use Rattle.ctl_history.specs.Joining.{Lends}
 use Rattle.ctl_history.specs.Past.{Past, control_of, items_of}
-use Rattle.ctl_asks.specs.Refusals.{refusal_in}
+use Rattle.ctl_moves.specs.Refusals.{refusal_in}
 use Rattle.ctl_history.proofs.EventLemmas.{kept_past}
 use Rattle.ctl_history.proofs.OwnerLemmas.{box_there}
 use Rattle.ctl_history.proofs.RefusalLemmas.{is_behind, passed}

@@ -36,21 +36,21 @@ use Rattle.ctl_state.specs.Parts.{on_boxes}
 use Rattle.ctl_state.specs.Stands.{Stands}
 use Rattle.ctl_state.proofs.ReadLemmas.{read_kept, pushed_same}
 use Rattle.ctl_state.proofs.StandLemmas.{roomy}
-use Rattle.ctl_holder.specs.declared.given.Given.{Given}
-use Rattle.ctl_holder.specs.declared.load.Load.{Load}
-use Rattle.ctl_holder.specs.Load.{given_by}
+use Rattle.ctl_plane.specs.declared.given.Given.{Given}
+use Rattle.ctl_plane.specs.declared.load.Load.{Load}
+use Rattle.ctl_plane.specs.Load.{given_by}
 use Rattle.ctl_history.specs.Carried.{given_in, IsPlane, IsCarried}
-use Rattle.ctl_strikes.specs.Naming.{SameEndLists}
+use Rattle.ctl_moves.specs.Naming.{SameEndLists}
 use Rattle.ctl_history.proofs.OwedLemmas.{made_aside}
 use Rattle.ctl_state.specs.declared.belongings.Belongings.{Belongings}
-use Rattle.ctl_asks.specs.Making.{TakesSocket, MakesSocket}
+use Rattle.ctl_moves.specs.Making.{TakesSocket, MakesSocket}
 use Rattle.ctl_history.specs.Past.{Past, control_of, items_of, with_event, IsHistory}
-use Rattle.ctl_hears.specs.Processing.{IsSilent}
-use Rattle.ctl_asks.specs.Refusals.{refusal_in}
-use Rattle.ctl_asks.proofs.AskLemmas.{all_fit}
-use Rattle.ctl_asks.proofs.BareLemmas.{term_to_come}
+use Rattle.ctl_moves.specs.Processing.{IsSilent}
+use Rattle.ctl_moves.specs.Refusals.{refusal_in}
+use Rattle.ctl_moves.proofs.RootLemmas.{all_fit}
+use Rattle.ctl_moves.proofs.BareLemmas.{term_to_come}
 use Rattle.ctl_history.proofs.SilentLemmas.{silent_answered}
-use Rattle.ctl_asks.proofs.CapacityLemmas.{capacity, set_capacity}
+use Rattle.ctl_moves.proofs.CapacityLemmas.{capacity, set_capacity}
 use Rattle.ctl_history.proofs.EventLemmas.{kept_past, one_more}
 use Rattle.ctl_history.proofs.PlaneLemmas.{one_plane, tells_no_names}
 use Rattle.ctl_history.proofs.RefusalLemmas.{lives_still, is_behind, passed}

@@ -21,17 +21,17 @@ use Rattle.spec_control.specs.Names.{name_of, FitsNames, AreNamed}
 use Rattle.spec_control.specs.Control.{Control}
 use Rattle.spec_control.specs.Rows.{Rows}
 use Rattle.spec_control.specs.After.{after, answers_in, connects_to}
-use Rattle.control_held.specs.Held.{held_as}
-use Rattle.control_held.proofs.NamedLemmas.{later}
+use Rattle.spec_control.specs.Held.{held_as}
+use Rattle.spec_control.proofs.NamedLemmas.{later}
 use Rattle.control_laws.specs.OwnMoves.{own_moves}
-use Rattle.ctl_holder.specs.declared.given.Given.{Given}
-use Rattle.ctl_holder.specs.Holding.{Holding, Stays}
-use Rattle.ctl_holder.specs.Lent.{HasAll, HasEnds}
-use Rattle.ctl_holder.specs.declared.load.Load.{Load}
+use Rattle.ctl_plane.specs.declared.given.Given.{Given}
+use Rattle.ctl_plane.specs.Holding.{Holding, Stays}
+use Rattle.ctl_plane.specs.Lent.{HasAll, HasEnds}
+use Rattle.ctl_plane.specs.declared.load.Load.{Load}
 use Rattle.ctl_state.specs.declared.state.State.{State}
 use Rattle.ctl_history.specs.Carried.{AreCarried, BindsFit, IsPlane}
 use Rattle.ctl_history.specs.Past.{Past, as_item, items_of, control_of, with_event, IsHistory}
-use Rattle.ctl_hears.specs.Processing.{IsSilent}
+use Rattle.ctl_moves.specs.Processing.{IsSilent}
 use Rattle.ctl_history.specs.Hearing.{HasWhat}
 use Rattle.ctl_history.specs.Joining.{IsOfSame}
 use Rattle.ctl_history.proofs.DeliverLemmas.{has_later}

@@ -30,21 +30,21 @@ use Rattle.control_laws.proofs.PairWeighLemmas.{binds_away}
 use Rattle.control_laws.proofs.SoundLemmas.{sound_of}
 use Rattle.control_laws.specs.Coming.{ComesToEnd}
 use Rattle.control_laws.specs.Room.{to_come}
-use Rattle.ctl_holder.specs.declared.halves.Halves.{Halves}
-use Rattle.ctl_holder.specs.declared.load.Load.{Load}
-use Rattle.ctl_holder.specs.declared.load.Load.TheVariants.{Halves as IsHalves, Writer, Ends}
-use Rattle.ctl_holder.specs.Holding.{Holding}
-use Rattle.ctl_holder.specs.Load.{BringsEnds, BringsHalvesOf, BringsWriterTo}
+use Rattle.ctl_plane.specs.declared.halves.Halves.{Halves}
+use Rattle.ctl_plane.specs.declared.load.Load.{Load}
+use Rattle.ctl_plane.specs.declared.load.Load.TheVariants.{Halves as IsHalves, Writer, Ends}
+use Rattle.ctl_plane.specs.Holding.{Holding}
+use Rattle.ctl_plane.specs.Load.{BringsEnds, BringsHalvesOf, BringsWriterTo}
 use Rattle.ctl_state.specs.declared.belongings.Belongings.{Belongings}
 use Rattle.ctl_state.specs.declared.state.State.{State}
 use Rattle.ctl_state.specs.Boxes.{mail_at}
 use Rattle.ctl_state.specs.Lists.{belongings_at}
 use Rattle.control_laws.proofs.AttachedOnceLemmas.{AreOld, IsOld}
 use Rattle.control_laws.proofs.MoveLemmas.{is_at}
-use Rattle.ctl_hears.specs.Attaching.{BindsAt, FitsLoad, IsBound, KeepsPlaces, binds_end}
+use Rattle.ctl_moves.specs.Attaching.{BindsAt, FitsLoad, IsBound, KeepsPlaces, binds_end}
 use Rattle.ctl_history.specs.Hearing.{AreOfKind, IsServed}
 use Rattle.ctl_history.specs.Carried.{BindsFit}
-use Rattle.ctl_hears.proofs.BoundLemmas.{binds_gone, room_stays, one_waits}
+use Rattle.ctl_moves.proofs.BoundLemmas.{binds_gone, room_stays, one_waits}
 use Rattle.ctl_history.proofs.OwedLemmas.{binds_after, binds_go, word_binds}
 
 -- ---- the oldest command is a bind

@@ -14,12 +14,12 @@ use Rattle.spec_control.specs.Rows.{obj}
 use Rattle.spec_control.specs.Control.{Control, ends_of, owner_of, place_of}
 use Rattle.spec_control.specs.ControlRun.{Joins, is_between, taken_over}
 use Rattle.control_laws.proofs.ListLemmas.{never}
-use Rattle.ctl_holder.specs.declared.given.Given.{Given}
-use Rattle.ctl_holder.specs.declared.given.Parting.{Parting}
-use Rattle.ctl_holder.specs.declared.load.Load.{Load}
-use Rattle.ctl_holder.specs.declared.load.Load.TheVariants.{Halves, Writer, Ends}
-use Rattle.ctl_holder.specs.Holding.{given_as}
-use Rattle.ctl_holder.specs.Load.{AreEndsOfClosed, BringsAll, BringsEnds, Carries, ComeToReaper, IsNamed, ReapsAll, given_by}
+use Rattle.ctl_plane.specs.declared.given.Given.{Given}
+use Rattle.ctl_plane.specs.declared.given.Parting.{Parting}
+use Rattle.ctl_plane.specs.declared.load.Load.{Load}
+use Rattle.ctl_plane.specs.declared.load.Load.TheVariants.{Halves, Writer, Ends}
+use Rattle.ctl_plane.specs.Holding.{given_as}
+use Rattle.ctl_plane.specs.Load.{AreEndsOfClosed, BringsAll, BringsEnds, Carries, ComeToReaper, IsNamed, ReapsAll, given_by}
 use Rattle.ctl_state.specs.declared.command.Command.{Command}
 use Rattle.ctl_state.specs.Boxes.{mail_at}
 use Rattle.mailbox.specs.Mail.{Mail}

@@ -25,7 +25,7 @@ use Rattle.ctl_state.specs.declared.belongings.Belongings.{Belongings}
 use Rattle.ctl_state.specs.Listed.{Listed}
 use Rattle.ctl_state.specs.Lists.{no_belongings}
 use Rattle.ctl_history.specs.Carried.{BindsFit}
-use Rattle.ctl_strikes.specs.Naming.{SameEndLists}
+use Rattle.ctl_moves.specs.Naming.{SameEndLists}
 
 -- a bind is put where a pair is made, and nowhere else
 abbrev pub bind_put : PairEvent → ℕ

@@ -19,7 +19,7 @@ use Rattle.ctl_state.specs.Boxes.{letters, mail_at}
 use Rattle.ctl_state.specs.Stands.{Stands}
 use Rattle.ctl_state.proofs.ReadLemmas.{placed_where}
 use Rattle.ctl_state.proofs.StandLemmas.{roomy}
-use Rattle.ctl_asks.proofs.BareLemmas.{term_to_come}
+use Rattle.ctl_moves.proofs.BareLemmas.{term_to_come}
 
 -- who was told has a command on its way
 abbrev down_is : ℕ → (plug stop : Bool) → List Mark

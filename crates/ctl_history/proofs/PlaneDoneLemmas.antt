@@ -26,11 +26,11 @@ use Rattle.spec_control.specs.declared.letter.Letter.{Letter}
 use Rattle.control_laws.proofs.StepLemmas.{same_slot}
 use Rattle.control_laws.specs.Move.{Move, LinkMoves, EndMoves}
 use Rattle.control_laws.specs.OwnMoves.{own_moves, word_moves}
-use Rattle.ctl_holder.specs.declared.load.Load.{Load}
-use Rattle.ctl_holder.specs.declared.load.Load.TheVariants.{Ends}
-use Rattle.ctl_holder.specs.declared.given.Given.{Given}
-use Rattle.ctl_holder.specs.declared.given.Parting.{Parting}
-use Rattle.ctl_holder.specs.Load.{AreEndsOfClosed, GivesAll, given_by}
+use Rattle.ctl_plane.specs.declared.load.Load.{Load}
+use Rattle.ctl_plane.specs.declared.load.Load.TheVariants.{Ends}
+use Rattle.ctl_plane.specs.declared.given.Given.{Given}
+use Rattle.ctl_plane.specs.declared.given.Parting.{Parting}
+use Rattle.ctl_plane.specs.Load.{AreEndsOfClosed, GivesAll, given_by}
 use Rattle.control_laws.proofs.EventLemmas.{others_spared}
 use Rattle.ctl_state.specs.declared.command.Command.{Command}
 use Rattle.ctl_state.specs.declared.state.State.{State}
@@ -41,11 +41,11 @@ use Rattle.ctl_state.specs.Stands.{Stands, Updates, letter_for, slot_of}
 use Rattle.ctl_state.proofs.ReadLemmas.{read_kept}
 use Rattle.ctl_state.proofs.StandLemmas.{roomy}
 use Rattle.ctl_history.specs.Past.{Past, as_item, items_of, control_of, with_event, IsHistory}
-use Rattle.ctl_hears.specs.Processing.{IsSilent}
+use Rattle.ctl_moves.specs.Processing.{IsSilent}
 use Rattle.ctl_state.specs.declared.belongings.Belongings.{Belongings}
 use Rattle.ctl_history.specs.Carried.{given_in, IsCarried, AreCarried, BindsFit, IsPlane}
 use Rattle.ctl_history.proofs.OwedLemmas.{binds_put, binds_fit}
-use Rattle.ctl_strikes.proofs.NameLemmas.{same_lists}
+use Rattle.ctl_moves.proofs.NameLemmas.{same_lists}
 use Rattle.ctl_history.proofs.ReapLemmas.{ReapBetween, all_of_map, reaps_between, reaps_later, untouched}
 use Rattle.ctl_history.proofs.CloseLemmas.{closed_between, close_between}
 use Rattle.ctl_history.proofs.EventLemmas.{kept_past}

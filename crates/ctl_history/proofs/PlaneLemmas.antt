@@ -15,7 +15,7 @@ use Rattle.spec_control.specs.Rows.{Rows, obj, root_alone, of_ends, bind_waits}
 use Rattle.spec_control.specs.Control.{Control, begun}
 use Rattle.spec_control.specs.After.{after}
 use Rattle.spec_control.specs.ControlRun.{Fits, FitsItem, answer_of, after_all, after_item, IsControlRun}
-use Rattle.control_held.proofs.NamedLemmas.{later}
+use Rattle.spec_control.proofs.NamedLemmas.{later}
 use Rattle.control_laws.proofs.ListLemmas.{pushed, is_old, is_new}
 use Rattle.control_laws.specs.Kept.{Kept}
 use Rattle.control_laws.specs.Move.{Move, LinkMoves, EndMoves, ObjectEnds, ObjectMade, PairDrawn, LetterPut, move_rows, move_boxes, is_named, Leads}
@@ -23,19 +23,19 @@ use Rattle.control_laws.specs.OwnMoves.{own_moves, having_taken}
 use Rattle.std.proofs.lemmas.List.Sums.{sum_by-cons}
 use Rattle.control_laws.proofs.WeighLemmas.{gain_of_own, taken_rows}
 use Rattle.control_laws.proofs.EventGoLemmas.{event_goes}
-use Rattle.ctl_holder.specs.declared.load.Load.{Load}
-use Rattle.ctl_holder.specs.declared.given.Given.{Given}
-use Rattle.ctl_holder.specs.Load.{given_by}
+use Rattle.ctl_plane.specs.declared.load.Load.{Load}
+use Rattle.ctl_plane.specs.declared.given.Given.{Given}
+use Rattle.ctl_plane.specs.Load.{given_by}
 use Rattle.ctl_state.specs.declared.command.Command.{Command}
 use Rattle.ctl_state.specs.declared.state.State.{State}
 use Rattle.ctl_state.specs.Boxes.{mail_at, with_mail}
 use Rattle.ctl_state.specs.Listed.{Listed, with_last, with_room, no_list}
 use Rattle.ctl_state.proofs.ReadLemmas.{read_kept}
 use Rattle.ctl_history.specs.Past.{Past, as_item, items_of, control_of, with_event, IsHistory}
-use Rattle.ctl_hears.specs.Processing.{IsSilent}
+use Rattle.ctl_moves.specs.Processing.{IsSilent}
 use Rattle.ctl_state.specs.Stands.{Stands}
 use Rattle.ctl_history.specs.Carried.{given_in, IsCarried, AreCarried, BindsFit, IsPlane}
-use Rattle.ctl_strikes.specs.Naming.{SameEndLists}
+use Rattle.ctl_moves.specs.Naming.{SameEndLists}
 use Rattle.ctl_history.proofs.EventLemmas.{control_more, kept_past, roomier}
 use Rattle.ctl_history.proofs.CarryLemmas.{carries_later}
 use Rattle.ctl_history.proofs.OwedLemmas.{binds_put, binds_fit}

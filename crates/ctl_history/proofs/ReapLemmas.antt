@@ -26,7 +26,7 @@ use Rattle.spec_control.specs.Stage.{has_ended, is_coming, is_finished}
 use Rattle.spec_control.specs.Control.{Control, ends_of, met_in, next_pair, owner_of, place_of}
 use Rattle.spec_control.specs.After.{after, owner_or_root}
 use Rattle.spec_control.specs.ControlRun.{Fits, IsOpenSocket, Joins, MayAsk, is_between, reap_joins, taken_over}
-use Rattle.control_held.specs.Has.{acts_in_request}
+use Rattle.spec_control.specs.Has.{acts_in_request}
 use Rattle.control_laws.specs.Kept.{Kept}
 use Rattle.control_laws.specs.Mail.{Sign, OwnSign, RequestSign, ReapSign, AckSign, PlugSign, StopSign, TermSign, BindSign, PipeTermSign, PipeAckSign, Mark, UpLink, marks, on_way, queue, slot_of}
 use Rattle.control_laws.proofs.FrontLemmas.{up_list}
@@ -34,13 +34,13 @@ use Rattle.control_laws.proofs.RootLemmas.{oldest_lives}
 use Rattle.control_laws.proofs.ListLemmas.{never, left, right, and, clash, placed}
 use Rattle.control_laws.specs.Spared.{shown, Known, Spared, touched_in}
 use Rattle.control_laws.proofs.EventLemmas.{others_spared}
-use Rattle.ctl_holder.specs.declared.given.Given.{Given}
-use Rattle.ctl_holder.specs.declared.given.Parting.{Parting}
-use Rattle.ctl_holder.specs.declared.load.Load.{Load}
-use Rattle.ctl_holder.specs.declared.load.Load.TheVariants.{Halves, Writer, Ends}
-use Rattle.ctl_holder.specs.Holding.{AreGivenAs, given_as}
-use Rattle.ctl_holder.specs.Lent.{has_writer}
-use Rattle.ctl_holder.specs.Load.{BringsEnds, Carries, GivesAll, BringsAll, ReapsAll}
+use Rattle.ctl_plane.specs.declared.given.Given.{Given}
+use Rattle.ctl_plane.specs.declared.given.Parting.{Parting}
+use Rattle.ctl_plane.specs.declared.load.Load.{Load}
+use Rattle.ctl_plane.specs.declared.load.Load.TheVariants.{Halves, Writer, Ends}
+use Rattle.ctl_plane.specs.Holding.{AreGivenAs, given_as}
+use Rattle.ctl_plane.specs.Lent.{has_writer}
+use Rattle.ctl_plane.specs.Load.{BringsEnds, Carries, GivesAll, BringsAll, ReapsAll}
 use Rattle.ctl_state.specs.declared.command.Command.{Command}
 use Rattle.ctl_state.specs.declared.state.State.{State}
 use Rattle.ctl_state.specs.Boxes.{mail_at}

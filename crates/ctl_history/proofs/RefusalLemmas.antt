@@ -9,7 +9,7 @@ use Rattle.spec_control.specs.Rows.{obj}
 use Rattle.spec_control.specs.Stage.{is_alive}
 use Rattle.spec_control.specs.Control.{Control}
 use Rattle.spec_control.specs.Reply.{unless, before_term}
-use Rattle.ctl_asks.specs.Refusals.{refusal_in}
+use Rattle.ctl_moves.specs.Refusals.{refusal_in}
 
 -- ---- where a request is not refused
 -- the root was not asked

@@ -7,7 +7,7 @@ use Rattle.spec_control.specs.declared.entry.Did.{Did}
 use Rattle.spec_control.specs.Control.{Control}
 use Rattle.spec_control.specs.After.{after}
 use Rattle.spec_control.specs.ControlRun.{IsAnswered, Joins, MayAnswerAll, SettlesIn, LeavesOutput, answer_of, joins_in, opened_in}
-use Rattle.ctl_hears.specs.Processing.{IsSilent}
+use Rattle.ctl_moves.specs.Processing.{IsSilent}
 
 -- ---- a holder that had nothing to answer
 module _ {N S : Type 0} where

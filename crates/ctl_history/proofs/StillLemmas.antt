@@ -24,7 +24,7 @@ use Rattle.spec_control.specs.Control.{Control, ask, end_of, link, next_pair, ow
 use Rattle.spec_control.specs.After.{Answers, answered, binding_by, connects_to, fulfil_all, joins, named, requested, socket_row, strike_end, strikes, tell_struck, with_hold}
 use Rattle.control_laws.proofs.GoLemmas.{ask_goes, stop_sockets_goes, tell_where_goes, try_end_goes}
 use Rattle.control_laws.proofs.JoinGoLemmas.{joins_objects}
-use Rattle.ctl_terms.proofs.BetweenLemmas.{StayBetween, goes_between, pushed_between, same_between, written_between}
+use Rattle.ctl_moves.proofs.BetweenLemmas.{StayBetween, goes_between, pushed_between, same_between, written_between}
 
 -- whatever the answer
 pub answered_still : (req : Req) (reply : Reply) (h : Answers) (c : Control) → StayBetween c.rows (requested req h c).rows → StayBetween c.rows (answered req reply h c).rows

@@ -17,13 +17,13 @@ use Rattle.spec_control.specs.Reply.{reply_of}
 use Rattle.ctl_state.specs.declared.state.State.{State}
 use Rattle.ctl_state.specs.Boxes.{PutsBare}
 use Rattle.ctl_state.specs.Stands.{Updates}
-use Rattle.ctl_holder.specs.declared.given.Given.{Given}
-use Rattle.ctl_holder.specs.declared.load.Load.{Load}
+use Rattle.ctl_plane.specs.declared.given.Given.{Given}
+use Rattle.ctl_plane.specs.declared.load.Load.{Load}
 use Rattle.ctl_history.specs.Carried.{IsPlane}
-use Rattle.ctl_strikes.specs.Naming.{SameEndLists}
+use Rattle.ctl_moves.specs.Naming.{SameEndLists}
 use Rattle.ctl_history.specs.Past.{Past, control_of, items_of, with_event, IsHistory}
-use Rattle.ctl_hears.specs.Processing.{IsSilent}
-use Rattle.ctl_asks.specs.Refusals.{refusal_in}
+use Rattle.ctl_moves.specs.Processing.{IsSilent}
+use Rattle.ctl_moves.specs.Refusals.{refusal_in}
 use Rattle.ctl_history.proofs.SilentLemmas.{silent_answered}
 use Rattle.ctl_history.proofs.CarryLemmas.{told_carried}
 use Rattle.ctl_history.proofs.EventLemmas.{one_brought}

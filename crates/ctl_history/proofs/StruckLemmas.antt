@@ -19,23 +19,23 @@ use Rattle.spec_control.specs.Control.{Control}
 use Rattle.spec_control.specs.After.{after, strikes_first}
 use Rattle.spec_control.specs.ControlRun.{Fits, IsOpenSocket}
 use Rattle.spec_control.specs.Reply.{reply_of}
-use Rattle.control_held.proofs.NamedLemmas.{later}
-use Rattle.ctl_holder.specs.declared.load.Load.{Load}
-use Rattle.ctl_holder.specs.declared.given.Given.{Given}
-use Rattle.ctl_holder.specs.Holding.{Holding}
-use Rattle.ctl_holder.specs.Lent.{HasAll}
+use Rattle.spec_control.proofs.NamedLemmas.{later}
+use Rattle.ctl_plane.specs.declared.load.Load.{Load}
+use Rattle.ctl_plane.specs.declared.given.Given.{Given}
+use Rattle.ctl_plane.specs.Holding.{Holding}
+use Rattle.ctl_plane.specs.Lent.{HasAll}
 use Rattle.ctl_state.specs.declared.state.State.{State}
 use Rattle.ctl_history.specs.Past.{Past, as_item, items_of, control_of, with_event}
-use Rattle.ctl_hears.specs.Processing.{IsSilent}
+use Rattle.ctl_moves.specs.Processing.{IsSilent}
 use Rattle.ctl_history.specs.Carried.{given_in, IsPlane}
 use Rattle.ctl_history.specs.Hearing.{HasWhat}
-use Rattle.ctl_asks.specs.Refusals.{refusal_in}
-use Rattle.ctl_strikes.specs.Striking.{StrikesWith, IsStruck}
+use Rattle.ctl_moves.specs.Refusals.{refusal_in}
+use Rattle.ctl_moves.specs.Striking.{StrikesWith, IsStruck}
 use Rattle.ctl_history.proofs.EventLemmas.{kept_past, control_more, one_more}
 use Rattle.ctl_history.proofs.SilentLemmas.{silent_answered}
 use Rattle.ctl_history.proofs.RefusalLemmas.{done_behind}
 use Rattle.ctl_history.proofs.PlaneLemmas.{one_plane, tells_no_names}
-use Rattle.ctl_strikes.proofs.FindLemmas.{loaded_capacity}
+use Rattle.ctl_moves.proofs.FindLemmas.{loaded_capacity}
 use Rattle.ctl_history.proofs.DeliverLemmas.{loaded_given, loaded_carried, has_later}
 
 -- a disconnect that is not refused

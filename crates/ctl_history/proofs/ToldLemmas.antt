@@ -21,16 +21,16 @@ use Rattle.spec_control.specs.Control.{Control, place_of}
 use Rattle.spec_control.specs.After.{after, answers_in, connects_to}
 use Rattle.control_laws.specs.AttachedOnce.{AreOnce}
 use Rattle.control_laws.proofs.AttachedOnceLemmas.{ends_are_attached_once}
-use Rattle.ctl_holder.specs.Holding.{Holding}
-use Rattle.ctl_holder.specs.Turns.{TurnsBy, HasTurned, turn_at}
-use Rattle.ctl_ends.specs.Turning.{TurnsOnce}
-use Rattle.ctl_ends.proofs.TurnedLemmas.{from_gone, in_none, turns_same}
+use Rattle.ctl_plane.specs.Holding.{Holding}
+use Rattle.ctl_plane.specs.Turns.{TurnsBy, HasTurned, turn_at}
+use Rattle.ctl_moves.specs.Turning.{TurnsOnce}
+use Rattle.ctl_moves.proofs.TurnedLemmas.{from_gone, in_none, turns_same}
 use Rattle.std.proofs.lemmas.List.Elements.{All-head}
 use Rattle.spec_control.specs.declared.end.EndState.TheVariants.{Gone}
 use Rattle.ctl_joins.specs.Joined.{Attaches, IsFresh}
 use Rattle.ctl_history.specs.Past.{Past, control_of, items_of, with_event, IsPast}
 use Rattle.ctl_history.proofs.EventLemmas.{control_more}
-use Rattle.ctl_strikes.proofs.OnceLemmas.{told_more}
+use Rattle.ctl_moves.proofs.OnceLemmas.{told_more}
 
 module _ {N : Type 0} where
   -- an end more was attached, and it alone moved

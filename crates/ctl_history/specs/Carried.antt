@@ -5,9 +5,9 @@ use Rattle.spec_control.specs.declared.entry.Item.{Item}
 use Rattle.spec_control.specs.Names.{name_of, AreNamed}
 use Rattle.spec_control.specs.Rows.{obj, of_ends, bind_waits}
 use Rattle.spec_control.specs.Control.{Control}
-use Rattle.ctl_holder.specs.declared.load.Load.{Load}
-use Rattle.ctl_holder.specs.declared.given.Given.{Given}
-use Rattle.ctl_holder.specs.Load.{Carries, ReapsAll, given_by}
+use Rattle.ctl_plane.specs.declared.load.Load.{Load}
+use Rattle.ctl_plane.specs.declared.given.Given.{Given}
+use Rattle.ctl_plane.specs.Load.{Carries, ReapsAll, given_by}
 use Rattle.ctl_state.specs.declared.belongings.Belongings.{Belongings}
 use Rattle.ctl_state.specs.declared.command.Command.{Command}
 use Rattle.ctl_state.specs.declared.state.State.{State}

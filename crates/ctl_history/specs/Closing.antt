@@ -5,12 +5,12 @@ use Rattle.spec_control.specs.declared.entry.Answered.{Answered}
 use Rattle.spec_control.specs.declared.entry.Did.TheVariants.{Asked}
 use Rattle.spec_control.specs.declared.request.Req.TheVariants.{Close}
 use Rattle.spec_control.specs.declared.request.Reply.TheVariants.{Done}
-use Rattle.ctl_holder.specs.declared.given.Given.{Given}
-use Rattle.ctl_holder.specs.Holding.{AllSealed, Holding, held_given}
-use Rattle.ctl_holder.specs.TakingOver.{AreGivenWith}
+use Rattle.ctl_plane.specs.declared.given.Given.{Given}
+use Rattle.ctl_plane.specs.Holding.{AllSealed, Holding, held_given}
+use Rattle.ctl_plane.specs.TakingOver.{AreGivenWith}
 use Rattle.msg_pipe.specs.Known.{Known}
 use Rattle.ctl_history.specs.Past.{Past, with_event, with_given}
-use Rattle.ctl_hears.specs.Processing.{IsSilent}
+use Rattle.ctl_moves.specs.Processing.{IsSilent}
 
 module _ {P N O I S : Type 0} (K : Known P O I N) where
   -- the close was noted, and all ends that the holder had of the socket are on their way, as they stood there, with halves of its pipes; it was told to seal these pipes, of those that have their delimiters

@@ -1,7 +1,7 @@
 -- The ends that join in the events more of a control plane, the objects that their holder has then, and what it was told of them (own choice).
-use Rattle.ctl_holder.specs.Holding.{Holding}
-use Rattle.ctl_holder.specs.Joins.{JoinsIn, KeepsObjects}
-use Rattle.ctl_holder.specs.Heard.{HearsOnce}
+use Rattle.ctl_plane.specs.Holding.{Holding}
+use Rattle.ctl_plane.specs.Joins.{JoinsIn, KeepsObjects}
+use Rattle.ctl_plane.specs.Heard.{HearsOnce}
 use Rattle.ctl_history.specs.Past.{Past, control_of}
 
 module _ {G N S : Type 0} where

@@ -10,11 +10,11 @@ use Rattle.spec_control.specs.Stage.{has_ended, was_asked}
 use Rattle.spec_control.specs.Rows.{obj}
 use Rattle.spec_control.specs.Place.{At, Unmade}
 use Rattle.spec_control.specs.Control.{Control, end_of, next_pair, place_of}
-use Rattle.ctl_holder.specs.declared.load.Load.{Load}
-use Rattle.ctl_holder.specs.Holding.{HearsNone, Holding, JoinsBy, has_end}
-use Rattle.ctl_holder.specs.Making.{capacity_between}
-use Rattle.ctl_holder.specs.Turns.{TurnsBy, turned_over}
-use Rattle.ctl_ends.specs.Turning.{PutsLoaded}
+use Rattle.ctl_plane.specs.declared.load.Load.{Load}
+use Rattle.ctl_plane.specs.Holding.{HearsNone, Holding, JoinsBy, has_end}
+use Rattle.ctl_plane.specs.Making.{capacity_between}
+use Rattle.ctl_plane.specs.Turns.{TurnsBy, turned_over}
+use Rattle.ctl_moves.specs.Turning.{PutsLoaded}
 use Rattle.ctl_state.specs.declared.state.State.{State}
 use Rattle.ctl_state.specs.Lists.{belongings_at}
 use Rattle.ctl_state.specs.Stands.{Stands}
@@ -25,7 +25,7 @@ use Rattle.ctl_binds.specs.declared.batch.Drawn.{Drawn}
 use Rattle.ctl_binds.specs.Batch.{AreNames, AreNumbered, drawn_all, first_of, held_of, joins_of, opened_of}
 use Rattle.ctl_binds.specs.Drawing.{IsDrawn, MayDraw}
 use Rattle.ctl_binds.specs.Joining.{bind_for, fulfilled_all}
-use Rattle.ctl_strikes.specs.Naming.{bound_now}
+use Rattle.ctl_moves.specs.Naming.{bound_now}
 
 module _ {N O I : Type 0} where
   -- nobody holds the name, neither its new holder nor any of these sockets was asked or has ended, and pairs may be drawn between them

@@ -6,8 +6,8 @@ use Rattle.spec_control.specs.Place.{At, is_here}
 use Rattle.spec_control.specs.Rows.{obj}
 use Rattle.spec_control.specs.Control.{Control, owner_of, place_of}
 use Rattle.spec_control.specs.ControlRun.{is_between}
-use Rattle.ctl_holder.specs.declared.given.Given.{Given}
-use Rattle.ctl_holder.specs.Lent.{has_writer}
+use Rattle.ctl_plane.specs.declared.given.Given.{Given}
+use Rattle.ctl_plane.specs.Lent.{has_writer}
 
 module _ {N O I : Type 0} (in_name : I → N) (c : Control) (names : EndId → Option N) where
   -- such an end goes by the names of its pipes, and is as far as it was when it was given, with its writing half where it does not acknowledge; it is a closed socket's, whose Reap is on its way

@@ -12,16 +12,16 @@ use Rattle.spec_control.specs.Rows.{obj}
 use Rattle.spec_control.specs.Control.{Control, next_object, owner_of, place_of}
 use Rattle.spec_control.specs.Place.{Away, looks}
 use Rattle.spec_control.specs.Names.{name_of}
-use Rattle.ctl_holder.specs.declared.halves.Halves.{Halves}
-use Rattle.ctl_holder.specs.declared.given.Given.{Given}
-use Rattle.ctl_holder.specs.Holding.{Holding, NoneWrites}
-use Rattle.ctl_holder.specs.Lent.{HasAll}
-use Rattle.ctl_holder.specs.Bringing.{BringsFirst}
+use Rattle.ctl_plane.specs.declared.halves.Halves.{Halves}
+use Rattle.ctl_plane.specs.declared.given.Given.{Given}
+use Rattle.ctl_plane.specs.Holding.{Holding, NoneWrites}
+use Rattle.ctl_plane.specs.Lent.{HasAll}
+use Rattle.ctl_plane.specs.Bringing.{BringsFirst}
 use Rattle.ctl_history.specs.declared.heard.Heard.{Heard}
 use Rattle.ctl_history.specs.declared.heard.Heard.TheVariants.{Done, Empty}
 use Rattle.ctl_history.specs.Past.{Past, items_of, control_of, with_event, only_given}
-use Rattle.ctl_hears.specs.Processing.{IsSilent}
-use Rattle.ctl_hears.specs.Attaching.{KindFits}
+use Rattle.ctl_moves.specs.Processing.{IsSilent}
+use Rattle.ctl_moves.specs.Attaching.{KindFits}
 
 -- an object whose commands come to this mailbox, but for the root
 pub record IsServed (c : Control) (slot i : ℕ) : Type 0 where

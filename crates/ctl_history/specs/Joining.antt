@@ -12,8 +12,8 @@ use Rattle.spec_control.specs.Rows.{obj}
 use Rattle.spec_control.specs.After.{kind_of}
 use Rattle.spec_control.specs.Control.{Control}
 use Rattle.spec_control.specs.ControlRun.{IsOpenSocket}
-use Rattle.control_held.specs.Held.{held_as}
-use Rattle.ctl_holder.specs.Holding.{Holding}
+use Rattle.spec_control.specs.Held.{held_as}
+use Rattle.ctl_plane.specs.Holding.{Holding}
 use Rattle.ctl_joins.specs.declared.notes.Notes.{Notes}
 use Rattle.ctl_joins.specs.Papers.{HasMarks}
 use Rattle.ctl_history.specs.Past.{Past, with_event}

@@ -5,11 +5,11 @@ ghost use Rattle.spec_control.specs.declared.entry.Did.TheVariants.{Asked};
 ghost use Rattle.spec_control.specs.ControlRun.{MayAsk};
 ghost use Rattle.spec_control.specs.Reply.{reply_of, root_asked};
 ghost use Rattle.ctl_history.specs.Past.{control_of, with_event};
-ghost use Rattle.ctl_hears.specs.Processing.{IsSilent};
+ghost use Rattle.ctl_moves.specs.Processing.{IsSilent};
 
 use crate::history::History;
 use crate::noting::note;
-use ctl_asks::{ask_root, root_lives};
+use ctl_moves::{ask_root, root_lives};
 use msg_pipe::Pipes;
 use spec_control::{Answered, Did, Refusal, Reply, Req};
 use std::alloc::AllocError;

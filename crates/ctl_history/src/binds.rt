@@ -3,8 +3,8 @@ ghost use Rattle.zq_base.specs.declared.endpoint.Endpoint.TheVariants.{Inproc};
 ghost use Rattle.spec_control.specs.declared.request.Req.TheVariants.{Bind};
 ghost use Rattle.spec_control.specs.Control.{next_pair};
 ghost use Rattle.spec_control.specs.Reply.{reply_of};
-ghost use Rattle.ctl_holder.specs.Making.{MakesSo};
-ghost use Rattle.ctl_holder.specs.Turns.{HasTurned};
+ghost use Rattle.ctl_plane.specs.Making.{MakesSo};
+ghost use Rattle.ctl_plane.specs.Turns.{HasTurned};
 ghost use Rattle.ctl_state.specs.Listed.{with_room};
 ghost use Rattle.ctl_binds.specs.Drawing.{IsBack};
 ghost use Rattle.ctl_history.specs.Coming.{ComesWith};
@@ -12,15 +12,14 @@ ghost use Rattle.ctl_history.specs.Fulfilling.{Fulfils, MayFulfilAll, MayMakeFor
 ghost use Rattle.ctl_history.specs.Hearing.{HasWhat};
 ghost use Rattle.ctl_history.specs.Joining.{IsOfSame, Lends, NotesRequest};
 ghost use Rattle.ctl_history.specs.Past.{control_of};
-ghost use Rattle.ctl_asks.specs.Refusals.{refusal_in};
+ghost use Rattle.ctl_moves.specs.Refusals.{refusal_in};
 
 use crate::fulfilling::fulfil_all;
 use crate::history::History;
 use crate::joining::{name_of, with_notes};
-use ctl_asks::binding_by;
-use ctl_hears::silent;
-use ctl_holder::{Load, Undoes};
 use ctl_joins::Notes;
+use ctl_moves::{binding_by, silent};
+use ctl_plane::{Load, Undoes};
 use ctl_state::{RoomList, State};
 use msg_pipe::Pipes;
 use spec_control::{Did, Reply, Req};
@@ -59,9 +58,21 @@ where
     ensures back { OnErr result (IsBack (length state.old.pairs) socket.0
         (H.holding holder.old) (H.holding holder.new)) }
 {
-    let waiters = state.waiting(alloc, at, binding_by(state, socket))?;
+    let waiters = match state.waiting(alloc, at, binding_by(state, socket)) {
+        Ok(waiters) => waiters,
+        Err(error) => {
+            drop(copy);
+            return Err(error);
+        }
+    };
     let room = 8 * waiters.len() + 1;
-    events.reserve(room)?;
+    match events.reserve(room) {
+        Ok(()) => {}
+        Err(error) => {
+            drop(copy);
+            return Err(error);
+        }
+    }
     match fulfil_all(state, alloc, holder, socket, at, copy, &waiters, wakers) {
         Ok(notes) => return Ok(notes),
         Err(error) => {

@@ -1,17 +1,16 @@
 ghost use Rattle.std.specs.Prelude.{◌≡◌, true, []};
 ghost use Rattle.spec_control.specs.Rows.{obj};
 ghost use Rattle.spec_control.specs.ControlRun.{IsOpenSocket};
-ghost use Rattle.ctl_holder.specs.Holding.{HasGiven};
-ghost use Rattle.ctl_holder.specs.Turns.{HasTurned};
+ghost use Rattle.ctl_plane.specs.Holding.{HasGiven};
+ghost use Rattle.ctl_plane.specs.Turns.{HasTurned};
 ghost use Rattle.ctl_history.specs.Coming.{ComesWith};
 ghost use Rattle.ctl_history.specs.Closing.{Closes};
 ghost use Rattle.ctl_history.specs.Hearing.{HasWhat};
 ghost use Rattle.ctl_history.specs.Past.{control_of};
 
 use crate::history::History;
-use ctl_asks::note_met;
-use ctl_hears::silent;
-use ctl_holder::{Holder, Load};
+use ctl_moves::{note_met, silent};
+use ctl_plane::{Holder, Load};
 use msg_pipe::Pipes;
 use spec_control::{Did, Reply, Req, Word};
 use std::alloc::Global;

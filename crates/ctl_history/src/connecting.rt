@@ -6,14 +6,14 @@ ghost use Rattle.spec_control.specs.Reply.{reply_of};
 ghost use Rattle.spec_control.specs.After.{Answers, connects_to};
 ghost use Rattle.ctl_state.specs.Listed.{with_room};
 ghost use Rattle.ctl_state.specs.Stands.{Updates};
-ghost use Rattle.ctl_strikes.specs.Naming.{SameEndLists};
+ghost use Rattle.ctl_moves.specs.Naming.{SameEndLists};
 ghost use Rattle.ctl_history.specs.Connecting.{MayWait};
 ghost use Rattle.ctl_history.specs.Past.{control_of, with_event};
-ghost use Rattle.ctl_hears.specs.Processing.{IsSilent};
+ghost use Rattle.ctl_moves.specs.Processing.{IsSilent};
 
 use crate::history::History;
+use ctl_moves::wait;
 use ctl_state::{RoomList, State};
-use ctl_strikes::wait;
 use msg_pipe::Pipes;
 use spec_control::{Answered, Did, Reply, Req};
 use std::alloc::{AllocError, Global};
@@ -69,12 +69,27 @@ where
             reply ≡ reply_of (control_of self.old) (Connect socket (Inproc name))) }
         ensures err { OnErr result (self.new ≡ self.old) }
     {
-        let copy = Endpoint::Inproc(name.copy(alloc)?);
+        let copy = match name.copy(alloc) {
+            Ok(copy) => Endpoint::Inproc(copy),
+            Err(error) => {
+                drop(name);
+                drop(h);
+                return Err(error);
+            }
+        };
         let at = Endpoint::Inproc(name);
         self.state.needs();
-        wait_with_room(&mut self.state, &mut self.events, alloc, socket, &at, copy)?;
-        self.events
-            .push(Did::Asked(Req::Connect(socket, at), Reply::Wait, h));
-        Ok(Reply::Wait)
+        match wait_with_room(&mut self.state, &mut self.events, alloc, socket, &at, copy) {
+            Ok(()) => {
+                self.events
+                    .push(Did::Asked(Req::Connect(socket, at), Reply::Wait, h));
+                return Ok(Reply::Wait);
+            }
+            Err(error) => {
+                drop(at);
+                drop(h);
+                return Err(error);
+            }
+        }
     }
 }

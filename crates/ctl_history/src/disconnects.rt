@@ -4,16 +4,15 @@ ghost use Rattle.spec_control.specs.declared.entry.Did.TheVariants.{Asked};
 ghost use Rattle.spec_control.specs.Rows.{obj};
 ghost use Rattle.spec_control.specs.ControlRun.{IsOpenSocket};
 ghost use Rattle.spec_control.specs.Reply.{reply_of};
-ghost use Rattle.ctl_holder.specs.Turns.{HasTurned};
+ghost use Rattle.ctl_plane.specs.Turns.{HasTurned};
 ghost use Rattle.ctl_history.specs.Coming.{ComesWith};
 ghost use Rattle.ctl_history.specs.Past.{control_of, with_event};
-ghost use Rattle.ctl_hears.specs.Processing.{IsSilent};
+ghost use Rattle.ctl_moves.specs.Processing.{IsSilent};
 ghost use Rattle.ctl_history.specs.Hearing.{HasWhat};
 
 use crate::history::History;
-use ctl_asks::disconnect_refusal;
-use ctl_holder::Holder;
-use ctl_strikes::strike_connect;
+use ctl_moves::{disconnect_refusal, strike_connect};
+use ctl_plane::Holder;
 use msg_pipe::Pipes;
 use spec_control::{Answered, Did, Reply, Req};
 use std::alloc::AllocError;
@@ -55,13 +54,19 @@ where
                 self.refuse(Req::Disconnect(socket, at), refusal, h)?;
                 return Ok(Reply::Refused(refusal));
             }
-            None => {
-                self.events.reserve(1)?;
-                strike_connect(&mut self.state, holder, socket, &at);
-                self.events
-                    .push(Did::Asked(Req::Disconnect(socket, at), Reply::Done, h));
-                return Ok(Reply::Done);
-            }
+            None => match self.events.reserve(1) {
+                Ok(()) => {
+                    strike_connect(&mut self.state, holder, socket, &at);
+                    self.events
+                        .push(Did::Asked(Req::Disconnect(socket, at), Reply::Done, h));
+                    return Ok(Reply::Done);
+                }
+                Err(error) => {
+                    drop(at);
+                    drop(h);
+                    return Err(error);
+                }
+            },
         }
     }
 }

@@ -3,10 +3,10 @@ ghost use Rattle.ctl_binds.specs.Drawing.{IsBack, MayMakeAll};
 ghost use Rattle.ctl_history.specs.Fulfilling.{Fulfils, MayFulfil};
 
 use ctl_binds::{Batch, draw_all, join_all, undraw_all};
-use ctl_holder::{Load, Undoes};
 use ctl_joins::Notes;
+use ctl_moves::take_name;
+use ctl_plane::{Load, Undoes};
 use ctl_state::State;
-use ctl_strikes::take_name;
 use msg_pipe::Pipes;
 use std::alloc::{AllocError, Global};
 use zq_base::{Endpoint, ObjId};

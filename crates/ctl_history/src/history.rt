@@ -6,7 +6,7 @@ ghost use Rattle.ctl_state.specs.Listed.{no_list, with_room};
 ghost use Rattle.ctl_state.specs.Stands.{Stands};
 ghost use Rattle.ctl_history.specs.Past.{control_of, first_boxes};
 
-use ctl_holder::Load;
+use ctl_plane::Load;
 use ctl_state::{RoomList, State};
 use msg_pipe::Pipes;
 use spec_control::{Did, ObjState};
@@ -26,7 +26,7 @@ pub struct History<P: Pipes> {
 }
 
 impl<P: Pipes> Model for History<P> {
-    ghost use Rattle.ctl_holder.specs.declared.given.Given.{Given};
+    ghost use Rattle.ctl_plane.specs.declared.given.Given.{Given};
     ghost use Rattle.ctl_history.specs.Past.{Past};
     ghost use Rattle.ctl_history.specs.Carried.{given_in, IsPlane};
 

@@ -4,9 +4,9 @@ ghost use Rattle.spec_control.specs.declared.book.Binding.{Binding};
 ghost use Rattle.spec_control.specs.declared.request.Req.TheVariants.{Connect};
 ghost use Rattle.spec_control.specs.Control.{end_of};
 ghost use Rattle.spec_control.specs.Reply.{reply_of};
-ghost use Rattle.ctl_holder.specs.Holding.{HearsNone, KeepsTurns, Stays};
-ghost use Rattle.ctl_holder.specs.Making.{MakesSo};
-ghost use Rattle.ctl_holder.specs.Turns.{HasTurned};
+ghost use Rattle.ctl_plane.specs.Holding.{HearsNone, KeepsTurns, Stays};
+ghost use Rattle.ctl_plane.specs.Making.{MakesSo};
+ghost use Rattle.ctl_plane.specs.Turns.{HasTurned};
 ghost use Rattle.ctl_state.specs.Listed.{with_room};
 ghost use Rattle.ctl_joins.specs.Connecting.{Connects, MayConnect};
 ghost use Rattle.ctl_joins.specs.Papers.{MayMake};
@@ -14,19 +14,18 @@ ghost use Rattle.ctl_history.specs.Coming.{ComesWith};
 ghost use Rattle.ctl_history.specs.Hearing.{HasWhat};
 ghost use Rattle.ctl_history.specs.Joining.{IsName, IsNoted, IsOfSame, Lends, NotesRequest};
 ghost use Rattle.ctl_history.specs.Past.{control_of};
-ghost use Rattle.ctl_asks.specs.Refusals.{refusal_in};
+ghost use Rattle.ctl_moves.specs.Refusals.{refusal_in};
 
 use crate::history::History;
 use ctl_binds::connect_pair;
-use ctl_hears::silent;
-use ctl_holder::{Holder, Load};
 use ctl_joins::{Notes, Owners};
+use ctl_moves::silent;
+use ctl_plane::{Holder, Load};
 use ctl_state::{RoomList, State};
-use http_server::Log;
 use msg_pipe::Pipes;
 use spec_control::{Answered, Binding, Did, Reply, Req};
 use std::alloc::{AllocError, Global};
-use zq_base::{Endpoint, ObjId, Octets, PairId, Seq};
+use zq_base::{Endpoint, Log, ObjId, Octets, PairId, Seq};
 
 /// What a holder answered for pairs that were made. It takes no memory.
 pub(crate) fn with_notes<N: Drop, S>(notes: Notes<N>) -> Answered<N, S>

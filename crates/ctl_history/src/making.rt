@@ -3,13 +3,13 @@ ghost use Rattle.spec_control.specs.declared.request.Req.TheVariants.{Socket as 
 ghost use Rattle.spec_control.specs.declared.entry.Did.TheVariants.{Asked};
 ghost use Rattle.spec_control.specs.Reply.{reply_of};
 ghost use Rattle.ctl_state.specs.Listed.{with_room};
-ghost use Rattle.ctl_asks.specs.Making.{MakesSocket, TakesSocket};
+ghost use Rattle.ctl_moves.specs.Making.{MakesSocket, TakesSocket};
 ghost use Rattle.ctl_history.specs.Past.{control_of, with_event};
-ghost use Rattle.ctl_hears.specs.Processing.{IsSilent};
-ghost use Rattle.ctl_asks.specs.Refusals.{refusal_in};
+ghost use Rattle.ctl_moves.specs.Processing.{IsSilent};
+ghost use Rattle.ctl_moves.specs.Refusals.{refusal_in};
 
 use crate::history::History;
-use ctl_asks::{make, socket_made, socket_refusal};
+use ctl_moves::{make, socket_made, socket_refusal};
 use ctl_state::{Made, RoomList, State};
 use msg_pipe::Pipes;
 use spec_control::{Answered, Did, Reply, Req};
@@ -89,12 +89,28 @@ where
             reply ≡ reply_of (control_of self.old) (MakeSocket kind options)) }
         ensures err { OnErr result (self.new ≡ self.old) }
     {
-        let made = socket_made(&self.state, kind, options.copy(alloc)?);
+        let copy = match options.copy(alloc) {
+            Ok(copy) => copy,
+            Err(error) => {
+                drop(options);
+                drop(h);
+                return Err(error);
+            }
+        };
+        let made = socket_made(&self.state, kind, copy);
         self.state.needs();
-        let socket = make_with_room(&mut self.state, alloc, made, &mut self.events)?;
-        let reply = Reply::Object(socket);
-        self.events
-            .push(Did::Asked(Req::Socket(kind, options), reply, h));
-        Ok(reply)
+        match make_with_room(&mut self.state, alloc, made, &mut self.events) {
+            Ok(socket) => {
+                let reply = Reply::Object(socket);
+                self.events
+                    .push(Did::Asked(Req::Socket(kind, options), reply, h));
+                return Ok(reply);
+            }
+            Err(error) => {
+                drop(options);
+                drop(h);
+                return Err(error);
+            }
+        }
     }
 }

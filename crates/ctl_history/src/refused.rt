@@ -4,10 +4,10 @@ ghost use Rattle.spec_control.specs.Register.{fulfilled_by};
 ghost use Rattle.spec_control.specs.After.{binding_by};
 ghost use Rattle.spec_control.specs.Reply.{reply_of};
 ghost use Rattle.ctl_history.specs.Past.{control_of};
-ghost use Rattle.ctl_asks.specs.Refusals.{refusal_in};
+ghost use Rattle.ctl_moves.specs.Refusals.{refusal_in};
 
 use crate::history::History;
-use ctl_asks::{bind_refusal, binding_by, connect_refusal, disconnect_refusal, unbind_refusal};
+use ctl_moves::{bind_refusal, binding_by, connect_refusal, disconnect_refusal, unbind_refusal};
 use msg_pipe::Pipes;
 use spec_control::Refusal;
 use zq_base::{Endpoint, ObjId};

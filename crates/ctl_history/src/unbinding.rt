@@ -5,11 +5,10 @@ ghost use Rattle.spec_control.specs.Rows.{obj};
 ghost use Rattle.spec_control.specs.ControlRun.{IsOpenSocket};
 ghost use Rattle.spec_control.specs.Reply.{reply_of};
 ghost use Rattle.ctl_history.specs.Past.{control_of, with_event};
-ghost use Rattle.ctl_hears.specs.Processing.{IsSilent};
+ghost use Rattle.ctl_moves.specs.Processing.{IsSilent};
 
 use crate::history::History;
-use ctl_asks::unbind_refusal;
-use ctl_strikes::strike_bind;
+use ctl_moves::{strike_bind, unbind_refusal};
 use msg_pipe::Pipes;
 use spec_control::{Answered, Did, Reply, Req};
 use std::alloc::AllocError;
@@ -42,13 +41,19 @@ where
                 self.refuse(Req::Unbind(socket, at), refusal, h)?;
                 return Ok(Reply::Refused(refusal));
             }
-            None => {
-                self.events.reserve(1)?;
-                strike_bind(&mut self.state, socket, &at);
-                self.events
-                    .push(Did::Asked(Req::Unbind(socket, at), Reply::Done, h));
-                return Ok(Reply::Done);
-            }
+            None => match self.events.reserve(1) {
+                Ok(()) => {
+                    strike_bind(&mut self.state, socket, &at);
+                    self.events
+                        .push(Did::Asked(Req::Unbind(socket, at), Reply::Done, h));
+                    return Ok(Reply::Done);
+                }
+                Err(error) => {
+                    drop(at);
+                    drop(h);
+                    return Err(error);
+                }
+            },
         }
     }
 }

@@ -5,16 +5,16 @@ use Rattle.std.proofs.lemmas.List.{append-nil}
 use Rattle.zq_base.specs.declared.attached.Attached.{Attached}
 use Rattle.zq_base.specs.declared.ids.EndId.{EndId}
 use Rattle.zq_base.specs.declared.kind.Kind.{Kind}
-use Rattle.control_held.specs.Held.{Held}
-use Rattle.ctl_holder.specs.declared.halves.Halves.{Halves}
-use Rattle.ctl_holder.specs.Holding.{HasNowhere, HearsNone, AreCrossed, Holding, Joined, JoinsBy, KeepsTurns, BeginsActive, MayRefuse, Stays, has_end, held_with, joining_with}
+use Rattle.spec_control.specs.Held.{Held}
+use Rattle.ctl_plane.specs.declared.halves.Halves.{Halves}
+use Rattle.ctl_plane.specs.Holding.{HasNowhere, HearsNone, AreCrossed, Holding, Joined, JoinsBy, KeepsTurns, BeginsActive, MayRefuse, Stays, has_end, held_with, joining_with}
 use Rattle.ctl_joins.specs.declared.attaching.FirstEnd.{FirstEnd}
 use Rattle.ctl_joins.specs.declared.attaching.Names.{Names}
 use Rattle.ctl_joins.specs.Attaching.{AttachesFirst, held_first}
 use Rattle.spec_control.specs.declared.entry.Joining.{Joining}
 use Rattle.ctl_joins.specs.Joined.{Gets}
 use Rattle.ctl_joins.specs.Noting.{joins_named}
-use Rattle.ctl_ends.proofs.TurnLemmas.{ends_same, turned_stays, turned_told}
+use Rattle.ctl_moves.proofs.TurnLemmas.{ends_same, turned_stays, turned_told}
 use Rattle.ctl_joins.proofs.JoinedLemmas.{attach_active, attach_gets}
 
 module _ {N O I : Type 0} (out_name : O → N) (in_name : I → N) (o : ℕ) (end : EndId) (peer : List ℕ) (h m k : Holding N) (mine other : Halves O I) (answer : Attached) (told opened theirs : Names N) where

@@ -17,11 +17,11 @@ use Rattle.spec_control.specs.After.{with_hold}
 use Rattle.spec_control.specs.Control.{Control, draws, end_of, greet, is_end, next_pair, open_pair, owner_of, place_of}
 use Rattle.control_laws.proofs.JoinLemmas.{unasked_lives}
 use Rattle.control_laws.proofs.AskLemmas.{same_end}
-use Rattle.ctl_holder.specs.declared.load.Load.{Load}
-use Rattle.ctl_holder.specs.Holding.{HasNowhere, Holding}
-use Rattle.ctl_holder.specs.Turns.{TurnsBy, turn_at}
-use Rattle.ctl_ends.proofs.TurnedLemmas.{turns_on}
-use Rattle.ctl_ends.specs.Turning.{PutsLoaded}
+use Rattle.ctl_plane.specs.declared.load.Load.{Load}
+use Rattle.ctl_plane.specs.Holding.{HasNowhere, Holding}
+use Rattle.ctl_plane.specs.Turns.{TurnsBy, turn_at}
+use Rattle.ctl_moves.proofs.TurnedLemmas.{turns_on}
+use Rattle.ctl_moves.specs.Turning.{PutsLoaded}
 use Rattle.ctl_state.specs.declared.belongings.Belongings.{Belongings}
 use Rattle.ctl_state.specs.declared.command.Command.{Command}
 use Rattle.ctl_state.specs.declared.hold.Hold.{Hold}

@@ -10,21 +10,23 @@ use Rattle.spec_control.specs.declared.end.EndEvent.TheVariants.{Asked, AckCame}
 use Rattle.spec_control.specs.declared.end.EndState.{EndState}
 use Rattle.spec_control.specs.declared.end.EndState.TheVariants.{Active, AskedOnce}
 use Rattle.spec_control.specs.declared.end.Reason.{Reason}
-use Rattle.spec_control.specs.declared.end.Reason.TheVariants.{Closed}
 use Rattle.spec_control.specs.declared.letter.Word.TheVariants.{PipeTerm}
 use Rattle.spec_control.specs.Place.{Place, At, is_here}
 use Rattle.spec_control.specs.Rows.{PairRow, no_pair, end_place}
 use Rattle.spec_control.specs.Control.{Control, ask, commands_in, greet, happens, place_of, tell_other}
-use Rattle.zq_base.specs.declared.attached.Attached.TheVariants.{Yes}
+use Rattle.zq_base.specs.declared.attached.Attached.{Attached}
+use Rattle.zq_base.specs.declared.attached.Attached.TheVariants.{Yes, BadId as IsBadId, Second as IsSecond}
 use Rattle.control_laws.proofs.ListLemmas.{never}
 use Rattle.control_laws.proofs.AskLemmas.{end_self}
-use Rattle.ctl_holder.specs.declared.load.Load.{Load}
-use Rattle.ctl_holder.specs.Holding.{HearsNone, Holding, Seals, Stays, TurnsTo, has_end, is_state}
-use Rattle.ctl_holder.specs.Turns.{TurnsBy, turn_at}
-use Rattle.ctl_ends.specs.Turning.{PutsLoaded}
-use Rattle.ctl_ends.proofs.MailLemmas.{puts_not, puts_sent}
-use Rattle.ctl_ends.proofs.TurnLemmas.{ToldAs, ends_same, now_at, other_slot, told_as, turned_not, turned_stays, turned_told}
-use Rattle.ctl_ends.proofs.TurnedLemmas.{still_at, turns_same}
+use Rattle.ctl_plane.specs.declared.load.Load.{Load}
+use Rattle.ctl_plane.specs.Holding.{HearsNone, Holding, Seals, Stays, TurnsTo, has_end, is_state}
+use Rattle.ctl_plane.specs.Turns.{TurnsBy, turn_at}
+use Rattle.ctl_moves.specs.Attaching.{asked_for}
+use Rattle.ctl_moves.specs.Turning.{PutsLoaded}
+use Rattle.ctl_moves.proofs.BindingLemmas.{welcomed_not}
+use Rattle.ctl_moves.proofs.MailLemmas.{puts_not, puts_sent}
+use Rattle.ctl_moves.proofs.TurnLemmas.{ToldAs, ends_same, now_at, other_slot, told_as, turned_not, turned_stays, turned_told}
+use Rattle.ctl_moves.proofs.TurnedLemmas.{still_at, turns_same}
 use Rattle.ctl_state.specs.declared.command.Command.{Command}
 use Rattle.ctl_state.specs.declared.state.State.{State}
 use Rattle.ctl_state.specs.Boxes.{mail_at, with_mail}
@@ -34,7 +36,7 @@ use Rattle.ctl_state.specs.Parts.{sent_to}
 use Rattle.ctl_state.specs.Stands.{Stands, letter_for, slot_of, stepped, tells, told_word}
 use Rattle.ctl_state.proofs.ReadLemmas.{placed_where, read_less}
 use Rattle.ctl_state.proofs.StandLemmas.{roomy}
-use Rattle.ctl_joins.specs.Greeting.{Asks, MayGreet}
+use Rattle.ctl_joins.specs.Greeting.{Asks, MayGreet, refusal}
 
 at_most_one : (b : Bool) → cond b 1 0 ≤ 1
 at_most_one true = omega arith
@@ -65,29 +67,28 @@ module _ {N O I : Type 0} (s : State (Load N O I)) (h : Holding N) (o : ℕ) (fi
   pub may_come : AreMet s w.control → (reason : Reason) → spot_comes (Asked reason false) (spot_at s.pairs first) ≡ true
   may_come met reason = met.may_come first (Asked reason false) Active w.there refl
 
+  -- what its kind's answer comes to
+  pub greeted : (a : Attached) → asked_for (refusal a) first w.control ≡ greet a first w.control
+  greeted Yes = welcomed_not w.control first w.unasked w.unstruck
+  greeted IsBadId = refl
+  greeted IsSecond = refl
+
   -- it stays
-  pub welcomed : (out_name : O → N) (in_name : I → N) → Asks out_name in_name w.control (greet Yes first w.control) o first s s h h
-  welcomed out_name in_name =
-      subst (λ (d : Control). Asks out_name in_name w.control d o first s s h h) (sym stays)
-      (record {
-        stands = w.stands;
-        stays = record { now = (turned_not o first h).now; writers = λ d. refl };
-        puts = λ names. puts_not out_name in_name names s.boxes s.boxes refl;
-        spare = λ m. omega arith;
-        lists = refl;
-        moves = record {
-          mine = w.there ∙ ap At (sym w.state);
-          others = λ i d here other. refl;
-          turned = subst (λ (ts : List (EndId × EndState)). TurnsBy ts h h) (sym (still_at first (place_of w.control first))) (turns_same h);
-          joined = refl;
-          heard = refl;
-        };
-      })
-    where
-      stays : greet Yes first w.control ≡ w.control
-      stays =
-          ap (λ (b : Bool). if b then ask Closed false first w.control else (if w.control.struck first then ask Closed false first w.control else w.control)) w.unasked
-          ∙ ap (λ (b : Bool). if b then ask Closed false first w.control else w.control) w.unstruck
+  pub welcomed : (out_name : O → N) (in_name : I → N) → Asks out_name in_name w.control w.control o first s s h h
+  welcomed out_name in_name = record {
+    stands = w.stands;
+    stays = record { now = (turned_not o first h).now; writers = λ d. refl };
+    puts = λ names. puts_not out_name in_name names s.boxes s.boxes refl;
+    spare = λ m. omega arith;
+    lists = refl;
+    moves = record {
+      mine = w.there ∙ ap At (sym w.state);
+      others = λ i d here other. refl;
+      turned = subst (λ (ts : List (EndId × EndState)). TurnsBy ts h h) (sym (still_at first (place_of w.control first))) (turns_same h);
+      joined = refl;
+      heard = refl;
+    };
+  }
 
   -- it is asked
   module _ (reason : Reason) (mid : State (Load N O I)) (commands : EndCommands) (stands : Stands mid (stepped (Asked reason false) first w.control))

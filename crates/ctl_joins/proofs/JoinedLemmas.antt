@@ -11,12 +11,12 @@ use Rattle.spec_control.specs.declared.end.Reason.{Reason}
 use Rattle.spec_control.specs.declared.end.EndState.TheVariants.{Active}
 use Rattle.spec_control.specs.Place.{Place, At, is_here}
 use Rattle.spec_control.specs.Control.{Control, is_end, met_in, owner_of, place_of}
-use Rattle.control_held.specs.Held.{Held}
+use Rattle.spec_control.specs.Held.{Held}
 use Rattle.control_laws.proofs.ListLemmas.{never}
 use Rattle.control_laws.proofs.AskLemmas.{end_self, same_end}
-use Rattle.ctl_holder.specs.Holding.{Holding, Joined, KeepsTurns, BeginsActive, Stays, has_end}
-use Rattle.ctl_holder.specs.Lent.{has_writer, here_ends, place_by, owner_by, HasBothNames, HasEnds, HasAll}
-use Rattle.ctl_ends.proofs.HeldLemmas.{has_listed}
+use Rattle.ctl_plane.specs.Holding.{Holding, Joined, KeepsTurns, BeginsActive, Stays, has_end}
+use Rattle.ctl_plane.specs.Lent.{has_writer, here_ends, place_by, owner_by, HasBothNames, HasEnds, HasAll}
+use Rattle.ctl_moves.proofs.HeldLemmas.{has_listed}
 use Rattle.ctl_joins.specs.Joined.{IsFresh, Attaches, Gets}
 
 -- ---- lists

@@ -16,16 +16,16 @@ use Rattle.zq_base.specs.declared.attached.Attached.{Attached}
 use Rattle.control_laws.proofs.ListLemmas.{never}
 use Rattle.control_laws.proofs.AttachLemmas.{attach_moved}
 use Rattle.control_laws.proofs.JoinLemmas.{unasked_lives}
-use Rattle.ctl_holder.specs.declared.halves.NamedHalves.{NamedHalves}
-use Rattle.ctl_holder.specs.declared.load.Load.{Load}
-use Rattle.ctl_holder.specs.declared.load.Load.TheVariants.{Halves}
-use Rattle.ctl_holder.specs.Holding.{Holding}
-use Rattle.ctl_holder.specs.Turns.{TurnsBy, turn_at}
-use Rattle.ctl_holder.specs.Load.{BringsHalvesOf, Carries, brings_ends}
-use Rattle.ctl_ends.specs.Turning.{IsLoaded, PutsLoaded}
-use Rattle.ctl_ends.proofs.HeldLemmas.{other_twice}
-use Rattle.ctl_ends.proofs.TurnedLemmas.{from_unmade}
-use Rattle.ctl_ends.proofs.MailLemmas.{puts_on, puts_sent}
+use Rattle.ctl_plane.specs.declared.halves.NamedHalves.{NamedHalves}
+use Rattle.ctl_plane.specs.declared.load.Load.{Load}
+use Rattle.ctl_plane.specs.declared.load.Load.TheVariants.{Halves}
+use Rattle.ctl_plane.specs.Holding.{Holding}
+use Rattle.ctl_plane.specs.Turns.{TurnsBy, turn_at}
+use Rattle.ctl_plane.specs.Load.{BringsHalvesOf, Carries, brings_ends}
+use Rattle.ctl_moves.specs.Turning.{IsLoaded, PutsLoaded}
+use Rattle.ctl_moves.proofs.HeldLemmas.{other_twice}
+use Rattle.ctl_moves.proofs.TurnedLemmas.{from_unmade}
+use Rattle.ctl_moves.proofs.MailLemmas.{puts_on, puts_sent}
 use Rattle.ctl_state.specs.declared.command.Command.{Command}
 use Rattle.ctl_state.specs.declared.state.State.{State}
 use Rattle.ctl_state.specs.Boxes.{mail_at}

@@ -24,7 +24,7 @@ use Rattle.spec_control.specs.Control.{Control, ask, commands_in, draws, greet, 
 use Rattle.control_laws.proofs.AskLemmas.{end_self, same_end}
 use Rattle.control_laws.proofs.HearLemmas.{end_moved}
 use Rattle.ctl_state.specs.Stands.{stepped}
-use Rattle.ctl_ends.proofs.TurnLemmas.{else_at, now_at, reasons_now, same_attached, same_owner}
+use Rattle.ctl_moves.proofs.TurnLemmas.{else_at, now_at, reasons_now, same_attached, same_owner}
 use Rattle.ctl_joins.specs.Joined.{IsFresh, Attaches}
 use Rattle.ctl_joins.proofs.OpeningLemmas.{opened_owner}
 

@@ -4,7 +4,7 @@ use Rattle.std.proofs.Common.{sym, subst}
 use Rattle.zq_base.specs.declared.ids.EndId.{EndId}
 use Rattle.zq_base.specs.declared.ids.PairId.{PairId}
 use Rattle.spec_control.specs.Control.{Control, draws, end_of}
-use Rattle.ctl_holder.specs.Making.{capacity_between}
+use Rattle.ctl_plane.specs.Making.{capacity_between}
 use Rattle.ctl_state.specs.declared.state.State.{State}
 use Rattle.ctl_state.specs.Stands.{Stands}
 use Rattle.ctl_joins.specs.declared.attaching.Capacities.{Capacities}

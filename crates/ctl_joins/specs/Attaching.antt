@@ -2,9 +2,9 @@
 use Rattle.std.specs.Prelude.{◌≡◌, ◌≤◌, ◌∷◌, [], ℕ, List}
 use Rattle.zq_base.specs.declared.ids.EndId.{EndId}
 use Rattle.spec_control.specs.declared.end.EndState.TheVariants.{Active}
-use Rattle.control_held.specs.Held.{Held}
-use Rattle.ctl_holder.specs.Holding.{HearsNone, Holding, JoinsBy, MayRefuse}
-use Rattle.ctl_holder.specs.Turns.{TurnsBy}
+use Rattle.spec_control.specs.Held.{Held}
+use Rattle.ctl_plane.specs.Holding.{HearsNone, Holding, JoinsBy, MayRefuse}
+use Rattle.ctl_plane.specs.Turns.{TurnsBy}
 use Rattle.ctl_joins.specs.declared.attaching.FirstEnd.{FirstEnd}
 use Rattle.ctl_joins.specs.Joined.{Gets}
 use Rattle.ctl_joins.specs.Noting.{joins_named}

@@ -11,11 +11,11 @@ use Rattle.spec_control.specs.Rows.{obj}
 use Rattle.spec_control.specs.After.{with_hold}
 use Rattle.spec_control.specs.Control.{Control, draws, end_of, greet, next_pair, open_pair, place_of}
 use Rattle.zq_base.specs.declared.ids.EndId.{EndId}
-use Rattle.ctl_holder.specs.declared.load.Load.{Load}
-use Rattle.ctl_holder.specs.Holding.{HearsNone, Holding, JoinsBy, MayRefuse}
-use Rattle.ctl_holder.specs.Lent.{HasAll}
-use Rattle.ctl_holder.specs.Turns.{TurnsBy, turn_at}
-use Rattle.ctl_ends.specs.Turning.{PutsLoaded}
+use Rattle.ctl_plane.specs.declared.load.Load.{Load}
+use Rattle.ctl_plane.specs.Holding.{HearsNone, Holding, JoinsBy, MayRefuse}
+use Rattle.ctl_plane.specs.Lent.{HasAll}
+use Rattle.ctl_plane.specs.Turns.{TurnsBy, turn_at}
+use Rattle.ctl_moves.specs.Turning.{PutsLoaded}
 use Rattle.ctl_state.specs.declared.state.State.{State}
 use Rattle.ctl_state.specs.Listed.{with_room}
 use Rattle.ctl_state.specs.Lists.{belongings_at, with_holds}

@@ -1,19 +1,29 @@
 -- A pair's first end is welcomed or asked at once (own choice, after libzmq's `pipe_t`).
-use Rattle.std.specs.Prelude.{◌≡◌, ◌<◌, ◌≤◌, ◌+◌, ℕ, true, false, Option}
+use Rattle.std.specs.Prelude.{◌≡◌, ◌<◌, ◌≤◌, ◌+◌, ℕ, true, false, Option, Some, None}
 use Rattle.zq_base.specs.Ends.{other_end}
+use Rattle.zq_base.specs.declared.attached.Attached.{Attached}
+use Rattle.zq_base.specs.declared.attached.Attached.TheVariants.{Yes, BadId as IsBadId, Second as IsSecond}
 use Rattle.zq_base.specs.declared.ids.EndId.{EndId}
+use Rattle.spec_control.specs.declared.end.Reason.{Reason}
+use Rattle.spec_control.specs.declared.end.Reason.TheVariants.{BadId, Second}
 use Rattle.spec_control.specs.declared.end.EndState.TheVariants.{Active}
 use Rattle.spec_control.specs.Place.{Place, At}
 use Rattle.spec_control.specs.Stage.{was_asked}
 use Rattle.spec_control.specs.Rows.{obj}
 use Rattle.spec_control.specs.Control.{Control, is_end, owner_of, place_of}
-use Rattle.ctl_holder.specs.declared.load.Load.{Load}
-use Rattle.ctl_holder.specs.Holding.{HearsNone, Holding, Stays, has_end}
-use Rattle.ctl_holder.specs.Turns.{TurnsBy, turn_at}
-use Rattle.ctl_ends.specs.Turning.{PutsLoaded}
+use Rattle.ctl_plane.specs.declared.load.Load.{Load}
+use Rattle.ctl_plane.specs.Holding.{HearsNone, Holding, Stays, has_end}
+use Rattle.ctl_plane.specs.Turns.{TurnsBy, turn_at}
+use Rattle.ctl_moves.specs.Turning.{PutsLoaded}
 use Rattle.ctl_state.specs.declared.state.State.{State}
 use Rattle.ctl_state.specs.Boxes.{mail_at}
 use Rattle.ctl_state.specs.Stands.{Stands}
+
+-- why an end is asked that its kind refused
+abbrev pub refusal : Attached → Option Reason
+refusal Yes = None
+refusal IsBadId = Some BadId
+refusal IsSecond = Some Second
 
 module _ {N : Type 0} where
   -- of its ends one went from one place to another, and it was told so; none joined, and of objects it was told nothing

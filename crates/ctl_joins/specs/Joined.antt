@@ -4,9 +4,9 @@ use Rattle.zq_base.specs.declared.ids.EndId.{EndId}
 use Rattle.spec_control.specs.declared.end.Reason.{Reason}
 use Rattle.spec_control.specs.Place.{Place, is_here}
 use Rattle.spec_control.specs.Control.{Control, met_in, owner_of, place_of}
-use Rattle.control_held.specs.Held.{Held}
-use Rattle.ctl_holder.specs.Holding.{Holding, has_end}
-use Rattle.ctl_holder.specs.Lent.{has_writer}
+use Rattle.spec_control.specs.Held.{Held}
+use Rattle.ctl_plane.specs.Holding.{Holding, has_end}
+use Rattle.ctl_plane.specs.Lent.{has_writer}
 
 -- an end there has its writing half, and has met nothing
 pub record IsFresh (place : Place) : Type 0 where

@@ -5,8 +5,8 @@ use Rattle.zq_base.specs.declared.ids.ObjId.{ObjId}
 use Rattle.spec_control.specs.Row.{Row}
 use Rattle.spec_control.specs.Rows.{obj}
 use Rattle.spec_control.specs.Control.{Control}
-use Rattle.ctl_holder.specs.Holding.{IsCapacity}
-use Rattle.ctl_holder.specs.Making.{capacity_between}
+use Rattle.ctl_plane.specs.Holding.{IsCapacity}
+use Rattle.ctl_plane.specs.Making.{capacity_between}
 use Rattle.ctl_state.specs.declared.state.State.{State}
 use Rattle.ctl_state.specs.Stands.{Stands}
 use Rattle.ctl_joins.specs.declared.attaching.Capacities.{Capacities}

@@ -1,9 +1,9 @@
 ghost use Rattle.std.specs.Prelude.{◌≡◌, ◌∷◌, true, false, List, IfOk, OnOk, OnErr};
 ghost use Rattle.zq_base.specs.declared.ids.EndId.{EndId};
-ghost use Rattle.ctl_holder.specs.Holding.{HasNowhere, HearsNone, IsCapacity, KeepsTurns, Stays};
+ghost use Rattle.ctl_plane.specs.Holding.{HasNowhere, HearsNone, IsCapacity, KeepsTurns, Stays};
 ghost use Rattle.ctl_joins.specs.Attaching.{AttachesFirst};
 
-use ctl_holder::{Holder, Made, NamedHalves};
+use ctl_plane::{Holder, Made, NamedHalves};
 use msg_pipe::Pipes;
 use std::alloc::{AllocError, Global};
 use zq_base::{Attached, EndId, ObjId, Octets};

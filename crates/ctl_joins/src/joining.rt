@@ -5,7 +5,7 @@ ghost use Rattle.ctl_joins.specs.Joining.{JoinsPair, MayJoin};
 
 use crate::greeting::greet_first;
 use crate::opening::open_pair;
-use ctl_holder::{Holder, Load, NamedHalves};
+use ctl_plane::{Holder, Load, NamedHalves};
 use ctl_state::State;
 use msg_pipe::Pipes;
 use zq_base::{Attached, EndId, ObjId, Octets};

@@ -5,11 +5,11 @@ use Rattle.zq_base.specs.declared.ids.EndId.{EndId}
 use Rattle.zq_base.specs.declared.ids.ObjId.{ObjId}
 use Rattle.spec_control.specs.declared.request.Req.{Req}
 use Rattle.spec_control.specs.declared.request.Req.TheVariants.{Socket as MakeSocket, AskTerm, Bind, Connect, Unbind, Disconnect, Close, Accepted, Shaken, AskEnd, AskOver, OutputOver}
-use Rattle.ctl_holder.specs.declared.given.Given.{Given}
-use Rattle.ctl_holder.specs.declared.halves.Halves.{Halves}
-use Rattle.ctl_holder.specs.Holding.{AllSealed, Holding, held_given}
-pub use Rattle.ctl_holder.specs.TakingOver.{AreDistinct}
-use Rattle.ctl_holder.specs.TakingOver.{AreGivenWith}
+use Rattle.ctl_plane.specs.declared.given.Given.{Given}
+use Rattle.ctl_plane.specs.declared.halves.Halves.{Halves}
+use Rattle.ctl_plane.specs.Holding.{AllSealed, Holding, held_given}
+pub use Rattle.ctl_plane.specs.TakingOver.{AreDistinct}
+use Rattle.ctl_plane.specs.TakingOver.{AreGivenWith}
 use Rattle.msg_pipe.specs.Known.{Known}
 
 module _ {N : Type 0} where

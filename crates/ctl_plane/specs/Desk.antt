@@ -18,21 +18,21 @@ use Rattle.spec_control.specs.declared.entry.Item.TheVariants.{Event, Seen}
 use Rattle.spec_control.specs.Place.{At, looks}
 use Rattle.spec_control.specs.Rows.{obj}
 use Rattle.spec_control.specs.Control.{Control, met_in, place_of}
-use Rattle.control_held.specs.Held.{ends_after}
-use Rattle.control_held.specs.Has.{has_after}
-use Rattle.control_held.specs.Moments.{Moment, items_in, left_after, left_by, first_waiting}
+use Rattle.spec_control.specs.Held.{ends_after}
+use Rattle.spec_control.specs.Has.{has_after}
+use Rattle.spec_control.specs.Moments.{Moment, items_in, left_after, left_by, first_waiting}
 use Rattle.ctl_plane.specs.Kinds.{kind_after}
 use Rattle.ctl_plane.specs.declared.delivery.Delivery.{Delivery}
 use Rattle.ctl_plane.specs.declared.delivery.Delivery.TheVariants.{Done, Empty}
-use Rattle.ctl_holder.specs.Bringing.{BringsIn}
-use Rattle.ctl_holder.specs.Counts.{CountsIn}
-use Rattle.ctl_holder.specs.declared.given.Given.{Given}
-use Rattle.ctl_holder.specs.Holding.{HearsMore, Holding, JoinsBy, has_end}
-use Rattle.ctl_holder.specs.Joins.{KeepsObjects, came_in}
-use Rattle.ctl_holder.specs.Lent.{has_writer}
-use Rattle.ctl_holder.specs.Heard.{heard_in}
-use Rattle.ctl_holder.specs.declared.notice.Notice.{Notice}
-use Rattle.ctl_holder.specs.Turns.{TurnsBy, turned_in}
+use Rattle.ctl_plane.specs.Bringing.{BringsIn}
+use Rattle.ctl_plane.specs.Counts.{CountsIn}
+use Rattle.ctl_plane.specs.declared.given.Given.{Given}
+use Rattle.ctl_plane.specs.Holding.{HearsMore, Holding, JoinsBy, has_end}
+use Rattle.ctl_plane.specs.Joins.{KeepsObjects, came_in}
+use Rattle.ctl_plane.specs.Lent.{has_writer}
+use Rattle.ctl_plane.specs.Heard.{heard_in}
+use Rattle.ctl_plane.specs.declared.notice.Notice.{Notice}
+use Rattle.ctl_plane.specs.Turns.{TurnsBy, turned_in}
 
 -- an end of an object that the holder has
 pub record HoldsEnd {N : Type 0} (e : EndId) (h : Holding N) : Type 0 where

@@ -9,7 +9,7 @@ use Rattle.spec_control.specs.declared.entry.Did.TheVariants.{Asked, Delivered, 
 use Rattle.spec_control.specs.declared.entry.Item.{Item}
 use Rattle.spec_control.specs.declared.entry.Item.TheVariants.{Event, Seen}
 use Rattle.spec_control.specs.Rows.{is_owner}
-use Rattle.control_held.specs.Has.{made_by}
+use Rattle.spec_control.specs.Has.{made_by}
 
 -- of object i, behind a request
 abbrev pub kind_at_request : ℕ → Req → Reply → Option Kind → Option Kind

@@ -5,7 +5,7 @@ use Rattle.zq_base.specs.declared.ids.ObjId.{ObjId}
 use Rattle.spec_control.specs.declared.letter.Letter.{Letter}
 use Rattle.spec_control.specs.declared.letter.Word.TheVariants.{PipeBind}
 use Rattle.spec_control.specs.Control.{Control}
-use Rattle.control_held.specs.Moments.{first_waiting}
+use Rattle.spec_control.specs.Moments.{first_waiting}
 
 -- a mailbox is empty, or its oldest command binds no end
 abbrev pub NoBindWaits : Control → (slot : ℕ) → Type 0

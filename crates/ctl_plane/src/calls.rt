@@ -1,6 +1,6 @@
 ghost use Rattle.std.specs.Prelude.{◌≡◌, ◌++◌, ℕ, Bool, List, true, false, IfOk, IsOk, OnErr};
-ghost use Rattle.control_held.specs.Moments.{Moment};
-ghost use Rattle.ctl_holder.specs.declared.halves.Halves.{Halves};
+ghost use Rattle.spec_control.specs.Moments.{Moment};
+ghost use Rattle.ctl_plane.specs.declared.halves.Halves.{Halves};
 
 use crate::delivery::Delivery;
 use crate::desk::Desk;
@@ -19,11 +19,11 @@ pub trait Calls<P: Pipes> {
     ghost use Rattle.spec_control.specs.declared.request.Req.TheVariants.{Disconnect};
     ghost use Rattle.spec_control.specs.Control.{Control, id, place_of};
     ghost use Rattle.spec_control.specs.Place.{looks};
-    ghost use Rattle.control_held.specs.OwnAsks.{known_after};
-    ghost use Rattle.ctl_holder.specs.Holding.{Holding};
-    ghost use Rattle.ctl_holder.specs.Making.{IsMadeFor};
-    ghost use Rattle.control_held.specs.Moments.{items_in, left_after};
-    ghost use Rattle.ctl_holder.specs.Holding.{has_end};
+    ghost use Rattle.spec_control.specs.OwnAsks.{known_after};
+    ghost use Rattle.ctl_plane.specs.Holding.{Holding};
+    ghost use Rattle.ctl_plane.specs.Making.{IsMadeFor};
+    ghost use Rattle.spec_control.specs.Moments.{items_in, left_after};
+    ghost use Rattle.ctl_plane.specs.Holding.{has_end};
     ghost use Rattle.ctl_plane.specs.Asking.{IsInproc};
     ghost use Rattle.ctl_plane.specs.Coming.{AreDistinct, BindsFit, KeepsNames};
     ghost use Rattle.ctl_plane.specs.Memory.{NoBindWaits};

@@ -1,10 +1,10 @@
 ghost use Rattle.std.specs.Prelude.{◌≡◌, [], ℕ, Bool, true, false, List, Option, Some, IfNone, IfOk, IsOk, OnErr};
-ghost use Rattle.control_held.specs.Moments.{Moment};
+ghost use Rattle.spec_control.specs.Moments.{Moment};
 ghost use Rattle.zq_base.specs.declared.ids.EndId.{EndId};
-ghost use Rattle.ctl_holder.specs.declared.given.Given.{Given};
+ghost use Rattle.ctl_plane.specs.declared.given.Given.{Given};
 
 use crate::delivery::Delivery;
-use ctl_holder::{Holder, Undoes};
+use crate::{Holder, Undoes};
 use msg_pipe::Pipes;
 use spec_control::{Reply, Req, SeenEmpty, Sight};
 use std::alloc::{AllocError, Global};
@@ -15,17 +15,17 @@ use zq_base::{EndId, ObjId, SlotId};
 ///
 /// A call is lent a holder that has of its objects what these moments say.
 pub trait Desk<P: Pipes> {
-    ghost use Rattle.control_held.specs.Held.{asker};
-    ghost use Rattle.control_held.specs.OwnAsks.{MayAskOwn};
-    ghost use Rattle.control_held.specs.Moments.{items_in, left_after};
-    ghost use Rattle.control_held.specs.Has.{has_after};
+    ghost use Rattle.spec_control.specs.Held.{asker};
+    ghost use Rattle.spec_control.specs.OwnAsks.{MayAskOwn};
+    ghost use Rattle.spec_control.specs.Moments.{items_in, left_after};
+    ghost use Rattle.spec_control.specs.Has.{has_after};
     ghost use Rattle.spec_control.specs.Control.{Control};
     ghost use Rattle.spec_control.specs.ControlRun.{AreEmpty};
     ghost use Rattle.spec_control.specs.Reply.{root_asked};
     ghost use Rattle.spec_control.specs.Rows.{obj};
     ghost use Rattle.spec_control.specs.declared.request.Req.TheVariants.{AskTerm};
-    ghost use Rattle.ctl_holder.specs.Making.{MakesSo};
-    ghost use Rattle.ctl_holder.specs.TakingOver.{AreDistinct, MayTakeFirst};
+    ghost use Rattle.ctl_plane.specs.Making.{MakesSo};
+    ghost use Rattle.ctl_plane.specs.TakingOver.{AreDistinct, MayTakeFirst};
     ghost use Rattle.ctl_plane.specs.Asking.{HasMarks, IsOfSockets};
     ghost use Rattle.ctl_plane.specs.Coming.{BindsFit, KeepsNames, SendsEnds, TakesEnds, is_close};
     ghost use Rattle.ctl_plane.specs.Memory.{NoBindIsFirst, NoBindWaits};

@@ -1,15 +1,17 @@
 -- What belongs to the objects as it is kept, and the lists of the control state that it is.
-use Rattle.std.specs.Prelude.{◌≡◌, ◌<◌, ◌==◌, ℕ, List, [], All, Option, Some, None, filter, length, map, remove, slice_index_or, slice_set}
+use Rattle.std.specs.Prelude.{◌≡◌, ◌<◌, ◌==◌, ℕ, Bool, List, [], All, Option, Some, None, filter, length, map, remove, slice_index_or, slice_set}
 use Rattle.zq_base.specs.declared.endpoint.Endpoint.{Endpoint}
 use Rattle.zq_base.specs.declared.endpoint.Endpoint.TheVariants.{Inproc}
 use Rattle.zq_base.specs.declared.ids.EndId.{EndId}
 use Rattle.zq_base.specs.declared.ids.ObjId.{ObjId}
 use Rattle.zq_base.specs.declared.ids.PairId.{PairId}
-use Rattle.spec_control.specs.Hold.{Hold as HoldSaid, Bound as IsBound, Waits as DoesWait, Joined as IsJoined}
+use Rattle.spec_control.specs.Hold.{Hold as HoldSaid, Bound as IsBound, Waits as DoesWait, Joined as IsJoined, is_bind_to, is_connect_to, waits_for}
 use Rattle.spec_control.specs.Rows.{PairRow, no_pair, end_owner}
 use Rattle.ctl_state.specs.declared.hold.Held.{Held}
 use Rattle.ctl_state.specs.declared.hold.Held.TheVariants.{Bound, Waits, Joined}
 use Rattle.ctl_state.specs.declared.hold.Hold.{Hold}
+use Rattle.ctl_state.specs.declared.hold.Sought.{Sought}
+use Rattle.ctl_state.specs.declared.hold.Sought.TheVariants.{Bind, Connect, Waiting}
 use Rattle.ctl_state.specs.declared.belongings.Belongings.{Belongings}
 use Rattle.ctl_state.specs.Listed.{Listed, no_list, with_items}
 
@@ -25,6 +27,12 @@ hold_at at (Joined pair session) = IsJoined at pair.0 (owner_number session)
 
 abbrev pub hold_of : Hold → HoldSaid
 hold_of hold = hold_at hold.at hold.held
+
+-- what is held is one of those that are sought, and of this endpoint
+abbrev pub is_sought : Sought → Endpoint → HoldSaid → Bool
+is_sought Bind to hold = is_bind_to to hold
+is_sought Connect to hold = is_connect_to to hold
+is_sought Waiting to hold = waits_for to hold
 
 -- nothing belongs to a number that no object has
 abbrev pub no_belongings : Belongings

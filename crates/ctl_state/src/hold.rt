@@ -1,6 +1,5 @@
 ghost use Rattle.std.specs.Prelude.{◌≡◌};
-ghost use Rattle.spec_control.specs.Hold.{is_bind_to, is_connect_to, waits_for};
-ghost use Rattle.ctl_state.specs.Lists.{hold_of};
+ghost use Rattle.ctl_state.specs.Lists.{hold_of, is_sought};
 
 use endpoint_book::is_same;
 use zq_base::{Endpoint, ObjId, PairId};
@@ -23,32 +22,31 @@ pub struct Hold {
     pub held: Held,
 }
 
-/// Whether it is a bind to this endpoint.
-pub(crate) fn is_bind_to(hold: &Hold, to: &Endpoint) -> bool
-    ensures { result ≡ is_bind_to to.now (hold_of hold.now) }
-{
-    match hold.held {
-        Held::Bound(_) => return is_same(&hold.at, to),
-        Held::Waits | Held::Joined(_, _) => return false,
-    }
+/// Which of its binds and connects to an endpoint a socket is searched for.
+#[derive(Clone, Copy)]
+pub(crate) enum Sought {
+    Bind,
+    Connect,
+    /// A connect that waits.
+    Waiting,
 }
 
-/// Whether it is a connect to this endpoint.
-pub(crate) fn is_connect_to(hold: &Hold, to: &Endpoint) -> bool
-    ensures { result ≡ is_connect_to to.now (hold_of hold.now) }
+/// Whether it is one of these, and of this endpoint.
+pub(crate) fn is_sought(hold: &Hold, to: &Endpoint, sought: Sought) -> bool
+    ensures { result ≡ is_sought sought to.now (hold_of hold.now) }
 {
     match hold.held {
-        Held::Bound(_) => return false,
-        Held::Waits | Held::Joined(_, _) => return is_same(&hold.at, to),
-    }
-}
-
-/// Whether it is a connect that waits for this endpoint.
-pub(crate) fn waits_for(hold: &Hold, to: &Endpoint) -> bool
-    ensures { result ≡ waits_for to.now (hold_of hold.now) }
-{
-    match hold.held {
-        Held::Waits => return is_same(&hold.at, to),
-        Held::Bound(_) | Held::Joined(_, _) => return false,
+        Held::Bound(_) => match sought {
+            Sought::Bind => return is_same(&hold.at, to),
+            Sought::Connect | Sought::Waiting => return false,
+        },
+        Held::Waits => match sought {
+            Sought::Connect | Sought::Waiting => return is_same(&hold.at, to),
+            Sought::Bind => return false,
+        },
+        Held::Joined(_, _) => match sought {
+            Sought::Connect => return is_same(&hold.at, to),
+            Sought::Bind | Sought::Waiting => return false,
+        },
     }
 }

@@ -8,7 +8,7 @@ ghost use Rattle.ctl_state.specs.Lists.{belongings_at, hold_of, with_ends, with_
 ghost use Rattle.ctl_state.specs.Parts.{on_lists};
 ghost use Rattle.ctl_state.specs.Stands.{Stands, Updates, holds_by};
 
-use crate::hold::Hold;
+use crate::hold::{Hold, Sought};
 use crate::state::State;
 use std::alloc::AllocError;
 use zq_base::{EndId, Endpoint, ObjId, PairId};
@@ -82,7 +82,7 @@ impl<L: Drop> State<L> {
         ensures { (c : Control) → Stands self.now c →
             result ≡ is_some (find (is_bind_to to.now) (c.holds id.0)) }
     {
-        self.objects.bind_place(id, to).is_some()
+        self.objects.place(id, to, Sought::Bind).is_some()
     }
 
     /// Whether a socket has connected to the endpoint, by a walk over what it has bound and connected.
@@ -90,7 +90,7 @@ impl<L: Drop> State<L> {
         ensures { (c : Control) → Stands self.now c →
             result ≡ is_some (find (is_connect_to to.now) (c.holds id.0)) }
     {
-        self.objects.connect_place(id, to).is_some()
+        self.objects.place(id, to, Sought::Connect).is_some()
     }
 
     /// Strikes the first bind of a socket to the endpoint, if there is one.
@@ -103,7 +103,7 @@ impl<L: Drop> State<L> {
         ensures ends { (i : ℕ) → (belongings_at self.new.objects.lists i).ends
             ≡ (belongings_at self.old.objects.lists i).ends }
     {
-        match self.objects.bind_place(id, to) {
+        match self.objects.place(id, to, Sought::Bind) {
             Some(place) => return Some(self.objects.hold_goes(id, place)),
             None => return None,
         }
@@ -119,7 +119,7 @@ impl<L: Drop> State<L> {
         ensures ends { (i : ℕ) → (belongings_at self.new.objects.lists i).ends
             ≡ (belongings_at self.old.objects.lists i).ends }
     {
-        match self.objects.connect_place(id, to) {
+        match self.objects.place(id, to, Sought::Connect) {
             Some(place) => return Some(self.objects.hold_goes(id, place)),
             None => return None,
         }
@@ -132,7 +132,7 @@ impl<L: Drop> State<L> {
         ensures ends { (i : ℕ) → (belongings_at self.new.objects.lists i).ends
             ≡ (belongings_at self.old.objects.lists i).ends }
     {
-        match self.objects.waiting_place(id, at) {
+        match self.objects.place(id, at, Sought::Waiting) {
             Some(place) => {
                 self.objects.hold_joins(id, place, pair);
                 return;

@@ -1,11 +1,10 @@
 ghost use Rattle.std.specs.Prelude.{◌≡◌, ◌<◌, length, position, slice_index_or, OnOk, OnErr, ◌≤◌, slice_get, IfSome, IfNone};
-ghost use Rattle.spec_control.specs.Hold.{is_bind_to, is_connect_to, waits_for};
 ghost use Rattle.ctl_state.specs.Listed.{with_room, without_room, with_last};
-ghost use Rattle.ctl_state.specs.Lists.{belongings_at, hold_of, with_ends, with_holds, without_at, joined_at};
+ghost use Rattle.ctl_state.specs.Lists.{belongings_at, hold_of, with_ends, with_holds, without_at, is_sought, joined_at};
 ghost use Rattle.ctl_state.specs.Objects.{with_lists, detail_at};
 
 use crate::detail::Detail;
-use crate::hold::{Held, Hold, is_bind_to, is_connect_to, waits_for};
+use crate::hold::{Held, Hold, Sought, is_sought};
 use crate::objects::Objects;
 use own_tree::Row;
 use std::alloc::AllocError;
@@ -47,34 +46,14 @@ impl Objects {
         }
     }
 
-    /// Where the first bind of a socket to the endpoint stands.
-    pub fn bind_place(&self, id: ObjId, to: &Endpoint) -> Option<usize>
-        ensures { result ≡ position (λ h. is_bind_to to.now (hold_of h))
+    /// Where the first of a socket's binds and connects to the endpoint stands that is sought.
+    pub fn place(&self, id: ObjId, to: &Endpoint, sought: Sought) -> Option<usize>
+        ensures { result ≡ position (λ h. is_sought sought to.now (hold_of h))
             (belongings_at self.now.lists id.0).holds.items }
     {
         self.holds_of(id)
             .iter()
-            .position(|hold| is_bind_to(hold, to))
-    }
-
-    /// Where the first connect of a socket to the endpoint stands.
-    pub fn connect_place(&self, id: ObjId, to: &Endpoint) -> Option<usize>
-        ensures { result ≡ position (λ h. is_connect_to to.now (hold_of h))
-            (belongings_at self.now.lists id.0).holds.items }
-    {
-        self.holds_of(id)
-            .iter()
-            .position(|hold| is_connect_to(hold, to))
-    }
-
-    /// Where the longest waiting connect of a socket to the endpoint stands.
-    pub fn waiting_place(&self, id: ObjId, to: &Endpoint) -> Option<usize>
-        ensures { result ≡ position (λ h. waits_for to.now (hold_of h))
-            (belongings_at self.now.lists id.0).holds.items }
-    {
-        self.holds_of(id)
-            .iter()
-            .position(|hold| waits_for(hold, to))
+            .position(|hold| is_sought(hold, to, sought))
     }
 
     /// Keeps room for so many more ends of an object.

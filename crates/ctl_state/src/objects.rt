@@ -1,17 +1,17 @@
-ghost use Rattle.std.specs.Prelude.{◌≡◌, ◌≢◌, ◌<◌, ◌+◌, ◌^◌, Some, true, false, length, IsTrue, IfOk, OnOk, OnErr};
+ghost use Rattle.std.specs.Prelude.{◌≡◌, ◌≢◌, ◌<◌, ◌+◌, ◌^◌, Some, true, false, length, vec_len, vec_capacity, IsTrue, IfOk, OnOk, OnErr};
 ghost use Rattle.spec_control.specs.declared.object.ObjState.TheVariants.{Ended as HasEnded};
 ghost use Rattle.spec_control.specs.declared.stage.Stage.TheVariants.{Alive, Ending as IsEnding, Finished};
 ghost use Rattle.spec_control.specs.declared.stage.Use.{Use};
 ghost use Rattle.spec_control.specs.declared.stage.Use.TheVariants.{Unused, OnItsWay, Used};
 ghost use Rattle.spec_control.specs.Row.{OwnComes, PlugComes, IsTold, TermComes, AsksOver, RequestComes, ReapComes, AckComes, RootAsked, StopPut, StopComes, AsksForLink, AsksForLinger};
-ghost use Rattle.own_tree.specs.Rows.{state_at, state_of, live_objects, may_be_asked, tree_of, IsRight, AddsUp};
+ghost use Rattle.own_tree.specs.Rows.{row_at, state_at, state_of, live_objects, may_be_asked, tree_of, IsRight, AddsUp};
 ghost use Rattle.own_tree.specs.declared.ending.Ending.TheVariants.{Ended as DidEnd};
-ghost use Rattle.own_tree.specs.Changes.{as_plugged, change, in_stage, with_bind_sent, with_bind_processed, with_cleared, with_noted, with_request, with_told, without_end};
+ghost use Rattle.own_tree.specs.Changes.{as_plugged, change, in_stage, with_bind_sent, with_bind_processed, with_cleared, with_made, with_noted, with_request, with_told, without_end};
 ghost use Rattle.ctl_state.specs.Objects.{tree_row, kept_row, with_tree, with_detail, with_attached, with_object, root_kept, row_made, Becomes, Links, MakesRow, TakesChild, TakesEnd, TakesBind};
 
 use crate::belongings::Belongings;
 use crate::detail::{Detail, Made, root_detail};
-use own_tree::{Ending, ObjState, OwnTree, Use};
+use own_tree::{Ending, ObjKind, ObjState, OwnTree, Use};
 use std::alloc::{AllocError, Global};
 use std::marker::Model;
 use zq_base::{EndId, ObjId, SlotId};
@@ -36,16 +36,44 @@ impl Model for Objects {
         × (length o.lists.items ≡ length o.tree) };
 }
 
+// Makes an object in the tree, with room for what belongs to it beside the tree.
+fn grow(
+    tree: &mut OwnTree,
+    details: &mut Vec<Detail>,
+    lists: &mut Vec<Belongings>,
+    alloc: Global,
+    owner: ObjId,
+    kind: ObjKind,
+    slot: SlotId,
+    plug: bool,
+) -> Result<ObjId, AllocError>
+    requires unended { state_at tree.old owner ≢ HasEnded }
+    requires few { length tree.old < 2 ^ 32 }
+    requires fits { (row_at tree.old owner).sent + 1 < 2 ^ 64 }
+    ensures number { IfOk result (λ id. id.0 ≡ length tree.old) }
+    ensures ok { OnOk result (tree.new ≡ with_made owner kind slot plug tree.old) }
+    ensures err { OnErr result (tree.new ≡ tree.old) }
+    ensures details { details.new.items ≡ details.old.items }
+    ensures lists { lists.new.items ≡ lists.old.items }
+    ensures detail_room { OnOk result (vec_len details.new < vec_capacity details.new) }
+    ensures list_room { OnOk result (vec_len lists.new < vec_capacity lists.new) }
+{
+    details.reserve(1)?;
+    lists.reserve(1)?;
+    let id = tree.make(alloc, owner, kind, slot, plug)?;
+    Ok(id)
+}
+
 impl Objects {
     /// The objects of a context at its making: its root.
     pub fn new(alloc: Global, slot: SlotId) -> Result<Objects, AllocError>
         ensures { IfOk result (λ o. o ≡ root_kept slot) }
     {
-        let tree = OwnTree::new(alloc, slot)?;
-        let mut details = Vec::new(alloc);
-        details.push(root_detail(alloc))?;
         let mut lists = Vec::new(alloc);
         lists.push(Belongings::new(alloc))?;
+        let mut details = Vec::new(alloc);
+        details.push(root_detail(alloc))?;
+        let tree = OwnTree::new(alloc, slot)?;
         Ok(Objects {
             tree,
             details,
@@ -245,14 +273,32 @@ impl Objects {
         ensures row { OnOk result (MakesRow (row_made owner made) self.old self.new) }
         ensures err { OnErr result (self.new ≡ self.old) }
     {
-        self.details.reserve(1)?;
-        self.lists.reserve(1)?;
-        let id = self
-            .tree
-            .make(alloc, owner, made.kind, made.slot, made.plug)?;
-        self.details.push_reserved(made.detail);
-        self.lists.push_reserved(Belongings::new(alloc));
-        Ok(id)
+        let Made {
+            kind,
+            slot,
+            plug,
+            detail,
+        } = made;
+        match grow(
+            &mut self.tree,
+            &mut self.details,
+            &mut self.lists,
+            alloc,
+            owner,
+            kind,
+            slot,
+            plug,
+        ) {
+            Ok(id) => {
+                self.details.push_reserved(detail);
+                self.lists.push_reserved(Belongings::new(alloc));
+                return Ok(id);
+            }
+            Err(error) => {
+                drop(detail);
+                return Err(error);
+            }
+        }
     }
 
     /// A socket's Stop is put.

@@ -3,4 +3,3 @@ pub mod WaitingLemmas
 mod KeyLemmas
 mod ListsLemmas
 mod OrderLemmas
-mod StrikeLemmas

@@ -1,7 +1,6 @@
-ghost use Rattle.std.specs.Prelude.{◌≡◌, slice_get, IfSome, OnOk, OnErr};
+ghost use Rattle.std.specs.Prelude.{◌≡◌, OnOk, OnErr};
 ghost use Rattle.std.specs.FinMap as finite;
-ghost use Rattle.spec_control.specs.EndpointBook.{is_object, names_without};
-ghost use Rattle.endpoint_book.specs.View.{octets_of, names_of, AreDistinct};
+ghost use Rattle.spec_control.specs.EndpointBook.{names_without};
 
 use indexmap::IndexMap;
 use spec_control::Binding;
@@ -27,35 +26,6 @@ impl Model for NameTable {
     ghost view = { λ t. names_of octets_of t.entries.entries };
 
     ghost invariant = { λ t. AreDistinct octets_of t.entries.entries };
-}
-
-// Whether the object holds the name that stands there.
-fn is_held_at(entries: &IndexMap<Vec<u8>, Binding>, place: usize, object: ObjId) -> bool
-    ensures { IfSome (slice_get entries.now.entries place)
-        (λ e. result ≡ is_object e.1.holder object) }
-{
-    match entries.get_index(place) {
-        Some((_, binding)) => return binding.holder == object,
-        None => return false,
-    }
-}
-
-// Strikes the names of the object, by one walk over the names.
-fn strike(entries: &mut IndexMap<Vec<u8>, Binding>, object: ObjId)
-    requires distinct { AreDistinct octets_of entries.old.entries }
-    ensures distinct { AreDistinct octets_of entries.new.entries }
-    ensures struck { names_of octets_of entries.new.entries
-        ≡ names_without object (names_of octets_of entries.old.entries) }
-{
-    let mut place = 0;
-    'names: while place < entries.len() {
-        let held = is_held_at(entries, place, object);
-        if !held {
-            place += 1;
-            continue;
-        }
-        entries.swap_remove_index(place);
-    }
 }
 
 impl NameTable {
@@ -96,6 +66,6 @@ impl NameTable {
     pub(crate) fn drop_object(&mut self, object: ObjId)
         ensures { self.new ≡ names_without object self.old }
     {
-        strike(&mut self.entries, object);
+        self.entries.retain(|_, binding| binding.holder != object);
     }
 }

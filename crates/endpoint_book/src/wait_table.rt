@@ -4,11 +4,10 @@ ghost use Rattle.spec_control.specs.EndpointBook.{is_fulfilled, waiters};
 use crate::change::Change;
 use crate::wait_lists::WaitLists;
 use crate::waits::{copy, is_fulfilled};
-use http_server::Log;
 use spec_control::{Binding, Waiting};
 use std::alloc::{AllocError, Global};
 use std::marker::Model;
-use zq_base::{Address, Endpoint, Kind, ObjId};
+use zq_base::{Address, Endpoint, Kind, Log, ObjId};
 
 /// The connects that wait, each where its endpoint is searched for. `past` has what happened to them, for proofs alone: it
 /// says in which order they wait, and takes no memory.

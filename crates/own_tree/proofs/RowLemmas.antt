@@ -1,7 +1,7 @@
 -- What the rows and their tree are behind the write of a row.
 use Rattle.std.specs.Prelude.{◌≡◌, ◌≢◌, ◌<◌, ℕ, zero, suc, Bool, false, IsTrue, List, [], ◌∷◌, ◌++◌, length, Option, Some, None, slice_index_or, slice_set, refl}
 use Rattle.std.proofs.Common.{arith, sym, ap, ◌∙◌, subst, inl, inr}
-use Rattle.std.proofs.lemmas.List.{get_or_past, map-set, map-append, set-get_or}
+use Rattle.std.proofs.lemmas.List.{get_or_past, length-set, map-set, map-append, set-get_or}
 use Rattle.std.proofs.lemmas.Bool.{cases_order}
 use Rattle.zq_base.specs.declared.ids.ObjId.{ObjId}
 use Rattle.zq_base.specs.declared.ids.SlotId.{SlotId}
@@ -15,7 +15,7 @@ use Rattle.spec_control.specs.OwnershipTree.{Object, Tree, object_at, with_state
 use Rattle.own_tree.specs.declared.row.Row.{Row}
 use Rattle.own_tree.specs.Rows.{no_row, row_at, state_of, state_at, object_of, tree_of, asked_from, may_be_asked}
 use Rattle.own_tree.specs.Changes.{change, in_stage, made_row, with_own, with_made, as_noted, one_more_processed, one_more_owed, one_less_owed, with_noted, with_told, with_cleared}
-use Rattle.own_tree.proofs.WriteLemmas.{read_within}
+use Rattle.own_tree.proofs.WriteLemmas.{read_within, reads_same}
 
 -- an object of which something is not as of a number that no object has, has a row
 pub has_row_where : {X : Type 0} (g : Row → X) (rows : List Row) (id : ObjId) → (g (row_at rows id) ≡ g no_row → ⊥) → id.0 < length rows
@@ -80,6 +80,29 @@ pub change_is : (f : Row → Row) (rows now : List Row) (id : ObjId) (x : Row) �
 change_is f rows now id x same h read =
     ap (λ (r : Row). slice_set rows id.0 (f r)) (row_read rows now id x same h read)
     ∙ ap (λ (l : List Row). slice_set l id.0 (f (row_at now id))) same
+
+-- the rows once a child's row was changed, and then its owner's
+pub both_are : (f g : Row → Row) (rows now : List Row) (child owner : ObjId) (x y : Row) → rows ≡ now → state_at now owner ≢ Ended → (row_at now child).owner ≡ Some owner →
+    x ≡ slice_index_or rows child.0 x → y ≡ slice_index_or (slice_set rows child.0 (f x)) owner.0 y →
+    slice_set (slice_set rows child.0 (f x)) owner.0 (g y) ≡ change g owner (change f child rows)
+both_are f g rows now child owner x y same unended owned read next =
+    change_is g (slice_set rows child.0 (f x)) (change f child rows) owner y
+    (change_is f rows rows child x refl (subst (λ (l : List Row). child.0 < length l) (sym same) (owned_has_row now child owner owned)) read)
+    (subst (λ n. owner.0 < n) (sym (length-set rows child.0 (f (row_at rows child)))) (subst (λ (l : List Row). owner.0 < length l) (sym same) (has_row now owner unended))) next
+
+-- a number of its owner's row that the child's change keeps
+pub owner_read : (n : Row → ℕ) (f : Row → Row) (rows now : List Row) (child owner : ObjId) (x y : Row) → ((r : Row) → n (f r) ≡ n r) → rows ≡ now → state_at now owner ≢ Ended → (row_at now child).owner ≡ Some owner →
+    x ≡ slice_index_or rows child.0 x → y ≡ slice_index_or (slice_set rows child.0 (f x)) owner.0 y → n y ≡ n (row_at now owner)
+owner_read n f rows now child owner x y keeps same unended owned read next =
+    ap n (read_within (slice_set rows child.0 (f x)) owner.0 y no_row (subst (λ k. owner.0 < k) (sym (length-set rows child.0 (f x))) held) next)
+    ∙ reads_same no_row n rows child owner (f x) there (keeps x ∙ ap n (read_within rows child.0 x no_row there read))
+    ∙ ap (λ (l : List Row). n (row_at l owner)) same
+  where
+    there : child.0 < length rows
+    there = subst (λ (l : List Row). child.0 < length l) (sym same) (owned_has_row now child owner owned)
+
+    held : owner.0 < length rows
+    held = subst (λ (l : List Row). owner.0 < length l) (sym same) (has_row now owner unended)
 
 -- a row that keeps its owner and its state makes no move
 pub keeps_tree : (rows now : List Row) (id : ObjId) (r x : Row) → rows ≡ now → id.0 < length now →

@@ -7,7 +7,6 @@ ghost use Rattle.own_tree.specs.Rows.{row_at, state_at, tree_of, may_be_asked, I
 ghost use Rattle.own_tree.specs.Changes.{change, in_stage, with_cleared, with_noted, with_told};
 
 use crate::ending::Ending;
-use crate::rows::{clear, note, tell};
 use crate::tree::OwnTree;
 use spec_control::{ObjState, Stage};
 use zq_base::ObjId;
@@ -30,7 +29,8 @@ impl OwnTree {
         ensures next { self.new ≡ with_told owner child self.old }
         ensures moves { tree_of self.new ≡ tree_of self.old }
     {
-        tell(&mut self.rows, owner, child);
+        self.rows[child.0 as usize].stage = Stage::Told;
+        self.rows[owner.0 as usize].owed += 1;
     }
 
     /// An owner processes the Own of a child, which may have ended meanwhile.
@@ -41,7 +41,8 @@ impl OwnTree {
         ensures next { self.new ≡ with_noted owner child self.old }
         ensures moves { tree_of self.new ≡ tree_of self.old }
     {
-        note(&mut self.rows, owner, child);
+        self.rows[child.0 as usize].noted = true;
+        self.rows[owner.0 as usize].processed += 1;
         self.tallies[owner.0 as usize].unnoted -= 1;
     }
 
@@ -53,7 +54,8 @@ impl OwnTree {
         ensures next { self.new ≡ with_cleared owner child self.old }
         ensures moves { tree_of self.new ≡ tree_of self.old }
     {
-        clear(&mut self.rows, owner, child);
+        self.rows[child.0 as usize].stage = Stage::Cleared;
+        self.rows[owner.0 as usize].owed -= 1;
     }
 
     /// Ends an object if nothing keeps it, and says what does.

@@ -1,6 +1,6 @@
 ghost use Rattle.std.specs.Prelude.{◌≡◌, ◌<◌, ◌+◌, ◌^◌, ◌++◌, ◌∷◌, [], vec_len, vec_capacity, slice_set, OnOk, OnErr};
 ghost use Rattle.own_tree.specs.Rows.{row_at};
-ghost use Rattle.own_tree.specs.Changes.{owns_of, with_made, with_noted, with_told, with_cleared};
+ghost use Rattle.own_tree.specs.Changes.{owns_of, with_made};
 ghost use Rattle.own_tree.specs.Tallies.{lists_of, list_at, tally_at, with_counted, with_listed};
 
 use crate::row::Row;
@@ -9,37 +9,23 @@ use spec_control::{ObjKind, Stage, Use};
 use std::alloc::{AllocError, Global};
 use zq_base::{ObjId, SlotId};
 
-/// An owner processes the Own of a child.
-pub(crate) fn note(rows: &mut Vec<Row>, owner: ObjId, child: ObjId)
-    requires owner { owner.0 < vec_len rows.old }
-    requires child { child.0 < vec_len rows.old }
-    requires fits { (row_at rows.old.items owner).processed + 1 < 2 ^ 64 }
-    ensures { rows.new.items ≡ with_noted owner child rows.old.items }
+/// Room for an object more in each.
+pub(crate) fn make_room(
+    rows: &mut Vec<Row>,
+    tallies: &mut Vec<Tally>,
+    lists: &mut Vec<Vec<ObjId>>,
+) -> Result<(), AllocError>
+    ensures rows { rows.new.items ≡ rows.old.items }
+    ensures tallies { tallies.new.items ≡ tallies.old.items }
+    ensures lists { lists.new.items ≡ lists.old.items }
+    ensures row_room { OnOk result (vec_len rows.new < vec_capacity rows.new) }
+    ensures tally_room { OnOk result (vec_len tallies.new < vec_capacity tallies.new) }
+    ensures list_room { OnOk result (vec_len lists.new < vec_capacity lists.new) }
 {
-    rows[child.0 as usize].noted = true;
-    rows[owner.0 as usize].processed += 1;
-}
-
-/// A child is told to end, and its owner waits for the acknowledgement.
-pub(crate) fn tell(rows: &mut Vec<Row>, owner: ObjId, child: ObjId)
-    requires owner { owner.0 < vec_len rows.old }
-    requires child { child.0 < vec_len rows.old }
-    requires fits { (row_at rows.old.items owner).owed + 1 < 2 ^ 64 }
-    ensures { rows.new.items ≡ with_told owner child rows.old.items }
-{
-    rows[child.0 as usize].stage = Stage::Told;
-    rows[owner.0 as usize].owed += 1;
-}
-
-/// An owner processes the acknowledgement of a child.
-pub(crate) fn clear(rows: &mut Vec<Row>, owner: ObjId, child: ObjId)
-    requires owner { owner.0 < vec_len rows.old }
-    requires child { child.0 < vec_len rows.old }
-    requires some { 0 < (row_at rows.old.items owner).owed }
-    ensures { rows.new.items ≡ with_cleared owner child rows.old.items }
-{
-    rows[child.0 as usize].stage = Stage::Cleared;
-    rows[owner.0 as usize].owed -= 1;
+    rows.reserve(1)?;
+    tallies.reserve(1)?;
+    lists.reserve(1)?;
+    Ok(())
 }
 
 // How many Own announce an object of this kind to its owner.

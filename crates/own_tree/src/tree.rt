@@ -6,7 +6,7 @@ ghost use Rattle.own_tree.specs.Rows.{row_at, state_at, tree_of, children_of, li
 ghost use Rattle.own_tree.specs.Changes.{root_row, with_made};
 
 use crate::row::Row;
-use crate::rows::{count_made, list_made, push_made};
+use crate::rows::{count_made, list_made, make_room, push_made};
 use crate::tally::Tally;
 use spec_control::{ObjKind, Stage, Use};
 use std::alloc::{AllocError, Global};
@@ -105,14 +105,20 @@ impl OwnTree {
     pub fn living_children(&self, id: ObjId) -> u64
         ensures { result ≡ living_children self.now id }
     {
-        self.tallies.get(id.0 as usize).map_or(0, |t| t.living)
+        match self.tallies.get(id.0 as usize) {
+            Some(tally) => return tally.living,
+            None => return 0,
+        }
     }
 
     /// How many children of an object are not noted yet, each of which has its Own in flight.
     pub fn unnoted_children(&self, id: ObjId) -> u64
         ensures { result ≡ unnoted_children self.now id }
     {
-        self.tallies.get(id.0 as usize).map_or(0, |t| t.unnoted)
+        match self.tallies.get(id.0 as usize) {
+            Some(tally) => return tally.unnoted,
+            None => return 0,
+        }
     }
 
     /// What was sent to each object is processed or on its way, and what it waits for is there. It costs nothing.
@@ -140,9 +146,7 @@ impl OwnTree {
         ensures err { OnErr result (self.new ≡ self.old) }
         ensures moves { OnOk result (Makes owner (tree_of self.old) (tree_of self.new)) }
     {
-        self.rows.reserve(1)?;
-        self.tallies.reserve(1)?;
-        self.children.reserve(1)?;
+        make_room(&mut self.rows, &mut self.tallies, &mut self.children)?;
         let id = ObjId(self.rows.len() as u32);
         list_made(&mut self.children, alloc, owner, id)?;
         count_made(&mut self.tallies, owner, kind);

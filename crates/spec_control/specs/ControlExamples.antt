@@ -5,7 +5,7 @@ use Rattle.zq_base.specs.declared.endpoint.Endpoint.{Endpoint}
 use Rattle.zq_base.specs.declared.endpoint.Endpoint.TheVariants.{Inproc, Tcp}
 use Rattle.zq_base.specs.declared.kind.Kind.TheVariants.{Push, Pull}
 use Rattle.zq_base.specs.declared.options.Options.{Options}
-use Rattle.http_server.specs.declared.log.Log.{Log}
+use Rattle.zq_base.specs.declared.log.Log.{Log}
 use Rattle.spec_control.specs.declared.end.Reason.TheVariants.{Closed}
 use Rattle.spec_control.specs.declared.object.ObjState.TheVariants.{Ended}
 use Rattle.spec_control.specs.declared.letter.Word.{Word}

@@ -1,8 +1,7 @@
 use crate::ObjState;
 use crate::letter::Letter;
 use crate::request::{Reply, Req};
-use http_server::Log;
-use zq_base::{Attached, EndId, Octets, Seq, Settled, SlotId};
+use zq_base::{Attached, EndId, Log, Octets, Seq, Settled, SlotId};
 
 /// An end that joined its owner, or that the reaper took over, with the names of the two pipes of
 /// its pair.

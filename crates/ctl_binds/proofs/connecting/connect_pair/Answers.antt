@@ -10,7 +10,7 @@ use Rattle.ctl_joins.specs.Noting.{joins_named, pipes_named}
 use Rattle.ctl_joins.proofs.ConnectingLemmas.{connects, drawn_last, few_numbers, first_waker, last_waker, may_join, not_there, room_to_hold}
 use Rattle.ctl_joins.proofs.PapersLemmas.{drawn_makes}
 use Rattle.ctl_binds.specs.Holding.{joined_at}
-use Rattle.ctl_ends.proofs.TurnLemmas.{keeps_same}
+use Rattle.ctl_moves.proofs.TurnLemmas.{keeps_same}
 use Rattle.ctl_binds.proofs.TakenLemmas.{stays_itself}
 use Rattle.ctl_binds.proofs.connecting.connect_pair.Goals as goal
 

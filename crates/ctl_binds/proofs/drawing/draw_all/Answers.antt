@@ -7,6 +7,7 @@ use Rattle.ctl_binds.specs.Batch.{drawn_ends}
 use Rattle.ctl_binds.proofs.DrawAllLemmas.{all_drawn, may_draw_next, may_make_next, none_drawn, one_drawn, one_fits, were_taken}
 use Rattle.ctl_state.proofs.KeptLemmas.{so_on_err}
 use Rattle.ctl_binds.proofs.TakenLemmas.{back_itself}
+use Rattle.std.proofs.lemmas.Result.{IfOk-from_err}
 use Rattle.ctl_binds.proofs.drawing.draw_all.Goals as goal
 
 pub waiters-init : goal.waiters-init
@@ -74,3 +75,9 @@ returns-in_err-batch-clause-err g c = so_on_err _ c.from_residual.result refl
 
 pub returns-in_err-batch-clause-back : goal.returns-in_err-batch-clause-back
 returns-in_err-batch-clause-back g c = so_on_err _ c.from_residual.result (back_itself (length c.args.state.now.pairs) c.args.socket.0 (g.H.Holder.holding c.args.holder.now))
+
+pub returns-in_err-batch-clause-ok : goal.returns-in_err-batch-clause-ok
+returns-in_err-batch-clause-ok g c = IfOk-from_err _ _ c.from_residual.ensures.0
+
+pub returns-in_err-batch-clause-calm : goal.returns-in_err-batch-clause-calm
+returns-in_err-batch-clause-calm g c = IfOk-from_err _ _ c.from_residual.ensures.0

@@ -5,9 +5,10 @@ use Rattle.ctl_joins.proofs.PapersLemmas.{drawn_makes, drawn_papers}
 use Rattle.ctl_binds.proofs.CameLemmas.{drawn_more}
 use Rattle.std.proofs.Common.{ap, sym, ◌∙◌, subst}
 use Rattle.ctl_binds.proofs.DrawLemmas.{draws_now, drawn_now, few_numbers, first_waker, last_number, last_waker, makes_now, not_there, places_now}
-use Rattle.ctl_ends.proofs.TurnLemmas.{keeps_same}
+use Rattle.ctl_moves.proofs.TurnLemmas.{keeps_same}
 use Rattle.ctl_state.proofs.KeptLemmas.{so_on_err}
 use Rattle.ctl_binds.proofs.TakenLemmas.{stays_itself}
+use Rattle.std.proofs.lemmas.Result.{IfOk-from_err}
 use Rattle.ctl_binds.proofs.drawing.draw_one.Goals as goal
 
 pub draw_pair-requires-clause-there : goal.draw_pair-requires-clause-there
@@ -101,3 +102,9 @@ returns-in_err-pair-clause-heard g c = so_on_err _ c.from_residual.result refl
 
 pub returns-in_err-pair-clause-calm : goal.returns-in_err-pair-clause-calm
 returns-in_err-pair-clause-calm g c = c.requires.calm
+
+pub returns-in_err-pair-clause-ok : goal.returns-in_err-pair-clause-ok
+returns-in_err-pair-clause-ok g c = IfOk-from_err _ _ c.from_residual.ensures.0
+
+pub returns-in_err-pair-clause-room : goal.returns-in_err-pair-clause-room
+returns-in_err-pair-clause-room g c = IfOk-from_err _ _ c.from_residual.ensures.0

@@ -1,8 +1,9 @@
 use Rattle.ctl_joins.proofs.PapersLemmas.{marked_for, may_hold}
-use Rattle.ctl_ends.proofs.TurnLemmas.{keeps_same}
+use Rattle.ctl_moves.proofs.TurnLemmas.{keeps_same}
 use Rattle.ctl_state.proofs.KeptLemmas.{so_on_err}
 use Rattle.std.specs.Prelude.{refl}
 use Rattle.ctl_binds.proofs.TakenLemmas.{stays_itself}
+use Rattle.std.proofs.lemmas.Result.{IfOk-from_err}
 use Rattle.ctl_binds.proofs.first.make_first.Goals as goal
 
 pub capacities_of-sizes-requires : goal.capacities_of-sizes-requires
@@ -64,3 +65,12 @@ returns-in_err-said-clause-heard g c = so_on_err _ c.from_residual.result refl
 
 pub returns-in_err-said-clause-still : goal.returns-in_err-said-clause-still
 returns-in_err-said-clause-still g c = so_on_err _ c.from_residual.result (λ came calm. calm)
+
+pub returns-in_err-said-clause-said : goal.returns-in_err-said-clause-said
+returns-in_err-said-clause-said g c = IfOk-from_err _ _ c.from_residual.ensures.0
+
+pub returns-in_err-said-clause-ok : goal.returns-in_err-said-clause-ok
+returns-in_err-said-clause-ok g c = IfOk-from_err _ _ c.from_residual.ensures.0
+
+pub returns-in_err-said-clause-calm : goal.returns-in_err-said-clause-calm
+returns-in_err-said-clause-calm g c = IfOk-from_err _ _ c.from_residual.ensures.0

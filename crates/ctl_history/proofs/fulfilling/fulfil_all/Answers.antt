@@ -1,6 +1,6 @@
 use Rattle.std.specs.Prelude.{◌<◌, ℕ, length}
 use Rattle.std.proofs.Common.{sym, ap, ◌∙◌, subst}
-use Rattle.ctl_holder.specs.declared.load.Load.{Load}
+use Rattle.ctl_plane.specs.declared.load.Load.{Load}
 use Rattle.ctl_state.specs.declared.state.State.{State}
 use Rattle.ctl_binds.specs.Drawing.{AreTaken}
 use Rattle.ctl_binds.proofs.TakenLemmas.{drawn_lists}

@@ -1,8 +1,8 @@
 use Rattle.ctl_history.proofs.MakingLemmas.{listed_back}
 use Rattle.std.specs.Prelude.{refl}
 use Rattle.ctl_state.proofs.KeptLemmas.{so_on_err}
-use Rattle.ctl_hears.proofs.BindingLemmas.{stays_itself}
-use Rattle.ctl_ends.proofs.TurnLemmas.{keeps_same}
+use Rattle.ctl_moves.proofs.BindingLemmas.{stays_itself}
+use Rattle.ctl_moves.proofs.TurnLemmas.{keeps_same}
 use Rattle.ctl_history.proofs.joining.connect_with_room.Goals as goal
 
 pub returns-in-Err-clause-kept : goal.returns-in-Err-clause-kept

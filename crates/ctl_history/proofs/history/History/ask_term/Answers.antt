@@ -2,7 +2,7 @@ use Rattle.std.specs.Prelude.{◌≡◌, Bool, not, if◌then◌else◌, refl}
 use Rattle.std.proofs.Common.{ap, sym, ◌∙◌, subst}
 use Rattle.spec_control.specs.declared.request.Reply.TheVariants.{Asked as WasAsked, Before}
 use Rattle.spec_control.specs.Reply.{root_asked}
-use Rattle.ctl_holder.specs.declared.given.Given.{Given}
+use Rattle.ctl_plane.specs.declared.given.Given.{Given}
 use Rattle.ctl_history.specs.Past.{Past, control_of}
 use Rattle.ctl_history.proofs.CarryLemmas.{told_given}
 use Rattle.ctl_history.proofs.DoneLemmas.{ask_entry, asks, asks_again, event_now, noted_event}

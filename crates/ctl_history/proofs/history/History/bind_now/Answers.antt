@@ -7,7 +7,7 @@ use Rattle.spec_control.specs.declared.request.Req.TheVariants.{Bind}
 use Rattle.spec_control.specs.Names.{name_of}
 use Rattle.spec_control.specs.Reply.{reply_of}
 use Rattle.ctl_binds.specs.Drawing.{IsBack}
-use Rattle.ctl_holder.specs.declared.given.Given.{Given}
+use Rattle.ctl_plane.specs.declared.given.Given.{Given}
 use Rattle.ctl_state.specs.Listed.{Listed, with_last, with_room}
 use Rattle.spec_control.specs.declared.entry.Did.{Did}
 use Rattle.ctl_history.specs.Carried.{given_in}
@@ -15,17 +15,17 @@ use Rattle.ctl_history.proofs.FulfilEventLemmas.{waits_for_it}
 use Rattle.ctl_history.specs.Past.{Past, control_of, items_of, with_event}
 use Rattle.ctl_history.specs.Hearing.{HasWhat}
 use Rattle.ctl_history.specs.Joining.{Lends}
-use Rattle.ctl_asks.specs.Refusals.{refusal_in}
+use Rattle.ctl_moves.specs.Refusals.{refusal_in}
 use Rattle.ctl_history.proofs.BindLemmas.{bind_done}
 use Rattle.ctl_history.proofs.DoneLemmas.{event_now}
 use Rattle.ctl_history.proofs.FulfilPlaneLemmas.{ends_bound, given_bound, back_told, has_back, keeps_bound, plane_bound, told_fulfilled, back_itself}
 use Rattle.ctl_history.proofs.FulfillingLemmas.{may_fulfil_all, may_make_for}
-use Rattle.ctl_holder.specs.Making.{MakesSo}
+use Rattle.ctl_plane.specs.Making.{MakesSo}
 use Rattle.ctl_history.proofs.MakingLemmas.{planed_back, viewed_back}
 use Rattle.ctl_state.proofs.KeptLemmas.{so_on_err}
 use Rattle.ctl_history.proofs.PlaneLemmas.{planed_now}
-use Rattle.ctl_holder.specs.Turns.{HasTurned}
-use Rattle.ctl_ends.proofs.TurnedLemmas.{turns_same}
+use Rattle.ctl_plane.specs.Turns.{HasTurned}
+use Rattle.ctl_moves.proofs.TurnedLemmas.{turns_same}
 use Rattle.ctl_history.proofs.ToldLemmas.{past_told}
 use Rattle.spec_control.specs.declared.entry.Did.TheVariants.{Asked}
 use Rattle.spec_control.specs.declared.request.Reply.TheVariants.{Done}

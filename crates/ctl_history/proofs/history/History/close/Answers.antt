@@ -6,17 +6,17 @@ use Rattle.spec_control.specs.declared.request.Req.TheVariants.{Close}
 use Rattle.spec_control.specs.declared.request.Reply.TheVariants.{Done}
 use Rattle.spec_control.specs.After.{after}
 use Rattle.spec_control.specs.Names.{name_of}
-use Rattle.ctl_holder.specs.declared.given.Given.{Given}
-use Rattle.ctl_holder.specs.Turns.{HasTurned}
-use Rattle.ctl_ends.proofs.TurnedLemmas.{turns_none}
+use Rattle.ctl_plane.specs.declared.given.Given.{Given}
+use Rattle.ctl_plane.specs.Turns.{HasTurned}
+use Rattle.ctl_moves.proofs.TurnedLemmas.{turns_none}
 use Rattle.ctl_state.specs.Stands.{Stands}
-use Rattle.ctl_terms.proofs.HolderLemmas.{has_same}
+use Rattle.ctl_moves.proofs.HolderLemmas.{has_same}
 use Rattle.ctl_history.specs.Past.{Past, control_of, items_of, IsPast}
 use Rattle.ctl_history.specs.Hearing.{HasWhat}
 use Rattle.ctl_history.proofs.GiveLemmas.{given_all, given_ends, given_halves, given_has, given_sealed, gives_all}
 use Rattle.ctl_history.proofs.StruckLemmas.{has_then}
 use Rattle.ctl_history.proofs.ToldLemmas.{event_told}
-use Rattle.ctl_strikes.proofs.OnceLemmas.{told_none}
+use Rattle.ctl_moves.proofs.OnceLemmas.{told_none}
 use Rattle.ctl_history.specs.Coming.{ComesWith}
 use Rattle.ctl_history.proofs.ComeLemmas.{close_keeps, objects_come}
 use Rattle.spec_control.specs.declared.entry.Joining.{Joining}
@@ -25,12 +25,12 @@ use Rattle.spec_control.specs.Row.{Row}
 use Rattle.spec_control.specs.ControlRun.{IsOpenSocket}
 use Rattle.spec_control.specs.declared.stage.Use.TheVariants.{OnItsWay}
 use Rattle.own_tree.specs.Changes.{change, with_request}
-use Rattle.ctl_asks.proofs.BareLemmas.{tree_boxes}
+use Rattle.ctl_moves.proofs.BareLemmas.{tree_boxes}
 use Rattle.ctl_history.proofs.DoneLemmas.{reap_room, close_entry, closes, event_given}
 use Rattle.ctl_history.proofs.PlaneLemmas.{planed_now}
 use Rattle.ctl_history.proofs.PlaneDoneLemmas.{closes_plane, closes_given}
-use Rattle.ctl_holder.specs.Load.{AreEndsOfClosed, GivesAll}
-use Rattle.ctl_holder.specs.declared.load.Load.{Load}
+use Rattle.ctl_plane.specs.Load.{AreEndsOfClosed, GivesAll}
+use Rattle.ctl_plane.specs.declared.load.Load.{Load}
 use Rattle.ctl_state.specs.declared.state.State.{State}
 use Rattle.ctl_history.proofs.history.History.close.Goals as goal
 

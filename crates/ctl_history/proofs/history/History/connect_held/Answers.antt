@@ -2,11 +2,11 @@ use Rattle.std.specs.Prelude.{◌≡◌, ◌≤◌, Some, None, length, refl, �
 use Rattle.std.proofs.Common.{ap, sym, ◌∙◌, subst, arith}
 use Rattle.zq_base.specs.declared.endpoint.Endpoint.TheVariants.{Inproc}
 use Rattle.zq_base.specs.declared.ids.ObjId.{ObjId}
-use Rattle.ctl_holder.specs.Holding.{Stays}
+use Rattle.ctl_plane.specs.Holding.{Stays}
 use Rattle.spec_control.specs.declared.request.Req.TheVariants.{Connect}
 use Rattle.spec_control.specs.declared.request.Reply.TheVariants.{Pair}
 use Rattle.spec_control.specs.Reply.{reply_of}
-use Rattle.ctl_holder.specs.declared.given.Given.{Given}
+use Rattle.ctl_plane.specs.declared.given.Given.{Given}
 use Rattle.ctl_state.specs.Listed.{with_last, with_room, Listed}
 use Rattle.spec_control.specs.Names.{name_of}
 use Rattle.ctl_joins.proofs.JoinedLemmas.{has_stays}
@@ -14,16 +14,16 @@ use Rattle.ctl_history.specs.Past.{Past, control_of, items_of, with_event}
 use Rattle.spec_control.specs.declared.entry.Did.TheVariants.{Asked}
 use Rattle.ctl_history.specs.Hearing.{HasWhat}
 use Rattle.ctl_history.specs.Joining.{Lends}
-use Rattle.ctl_asks.specs.Refusals.{refusal_in}
+use Rattle.ctl_moves.specs.Refusals.{refusal_in}
 use Rattle.ctl_history.proofs.DoneLemmas.{event_now}
 use Rattle.ctl_history.proofs.HeldPlaneLemmas.{ends_held, given_held, keeps_held, told_held, plane_held, reply_held}
 use Rattle.ctl_history.proofs.JoinHeldLemmas.{may_connect, may_make_held}
-use Rattle.ctl_holder.specs.Making.{MakesSo}
+use Rattle.ctl_plane.specs.Making.{MakesSo}
 use Rattle.ctl_history.proofs.MakingLemmas.{planed_back, viewed_back}
 use Rattle.ctl_state.proofs.KeptLemmas.{so_on_err}
 use Rattle.ctl_history.proofs.PlaneLemmas.{planed_now}
-use Rattle.ctl_holder.specs.Turns.{HasTurned}
-use Rattle.ctl_ends.proofs.TurnedLemmas.{turns_none, turns_same}
+use Rattle.ctl_plane.specs.Turns.{HasTurned}
+use Rattle.ctl_moves.proofs.TurnedLemmas.{turns_none, turns_same}
 use Rattle.ctl_history.proofs.ToldLemmas.{past_told}
 use Rattle.ctl_history.specs.Coming.{ComesWith}
 use Rattle.ctl_history.proofs.ComeLemmas.{event_comes, past_comes}
@@ -31,7 +31,7 @@ use Rattle.spec_control.specs.declared.entry.Joining.{Joining}
 use Rattle.spec_control.specs.After.{answers_in}
 use Rattle.ctl_history.proofs.StillLemmas.{connect_still}
 use Rattle.spec_control.specs.declared.entry.Did.{Did}
-use Rattle.ctl_hears.proofs.BindingLemmas.{stays_itself}
+use Rattle.ctl_moves.proofs.BindingLemmas.{stays_itself}
 use Rattle.ctl_history.proofs.history.History.connect_held.Goals as goal
 
 pub invariant_of-self-2 : goal.invariant_of-self-2

@@ -4,16 +4,16 @@ use Rattle.spec_control.specs.Place.{looks}
 use Rattle.spec_control.specs.Rows.{obj}
 use Rattle.spec_control.specs.Control.{happens, owner_of, place_of}
 use Rattle.spec_control.specs.ControlRun.{is_between}
-use Rattle.ctl_holder.specs.declared.given.Given.{Given}
+use Rattle.ctl_plane.specs.declared.given.Given.{Given}
 use Rattle.spec_control.specs.declared.entry.Did.TheVariants.{Delimited}
 use Rattle.spec_control.specs.declared.end.EndEvent.TheVariants.{DelimiterSeen}
 use Rattle.control_laws.proofs.StayLemmas.{ends_stay}
-use Rattle.ctl_holder.specs.Turns.{HasTurned}
-use Rattle.ctl_ends.proofs.TurnedLemmas.{turns_same}
+use Rattle.ctl_plane.specs.Turns.{HasTurned}
+use Rattle.ctl_moves.proofs.TurnedLemmas.{turns_same}
 use Rattle.ctl_history.specs.Carried.{given_in}
 use Rattle.ctl_history.specs.Past.{Past, control_of, with_event}
 use Rattle.ctl_history.proofs.ToldLemmas.{event_told, past_told}
-use Rattle.ctl_strikes.proofs.OnceLemmas.{told_one}
+use Rattle.ctl_moves.proofs.OnceLemmas.{told_one}
 use Rattle.ctl_history.specs.Hearing.{HasWhat}
 use Rattle.ctl_history.proofs.DoneLemmas.{event_now}
 use Rattle.ctl_history.proofs.PlaneLemmas.{planed_now}
@@ -21,7 +21,7 @@ use Rattle.ctl_history.proofs.DelimitLemmas.{may_meet, meets, meets_entry, meets
 use Rattle.ctl_history.specs.Coming.{ComesWith}
 use Rattle.ctl_history.proofs.ComeLemmas.{aside_comes, past_comes}
 use Rattle.spec_control.specs.declared.end.EndEvent.TheVariants.{DelimiterSeen}
-use Rattle.ctl_terms.proofs.BetweenLemmas.{happens_between}
+use Rattle.ctl_moves.proofs.BetweenLemmas.{happens_between}
 use Rattle.ctl_history.proofs.history.History.delimiter.Goals as goal
 
 pub turn_end-requires-clause-may : goal.turn_end-requires-clause-may

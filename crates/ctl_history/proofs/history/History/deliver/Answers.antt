@@ -4,11 +4,11 @@ use Rattle.std.specs.List.{list_any}
 use Rattle.std.proofs.Common.{ap, sym, ◌∙◌, subst}
 use Rattle.mailbox.specs.Mail.{with_put_back}
 use Rattle.spec_control.specs.ControlRun.{is_between}
-use Rattle.ctl_holder.specs.declared.given.Given.{Given}
-use Rattle.ctl_holder.specs.TakingOver.{AreDistinct, MayTakeFirst}
-use Rattle.ctl_hears.proofs.TakeOverLemmas.{heard_apart}
+use Rattle.ctl_plane.specs.declared.given.Given.{Given}
+use Rattle.ctl_plane.specs.TakingOver.{AreDistinct, MayTakeFirst}
+use Rattle.ctl_moves.proofs.TakeOverLemmas.{heard_apart}
 use Rattle.spec_control.specs.Names.{name_of}
-use Rattle.ctl_holder.specs.declared.load.Load.{Load}
+use Rattle.ctl_plane.specs.declared.load.Load.{Load}
 use Rattle.ctl_state.specs.declared.state.State.{State}
 use Rattle.ctl_state.specs.Boxes.{mail_at, with_mail}
 use Rattle.ctl_state.specs.Listed.{Listed}
@@ -18,26 +18,26 @@ use Rattle.spec_control.specs.declared.entry.Did.TheVariants.{Delivered}
 use Rattle.spec_control.specs.declared.letter.Word.{Word}
 use Rattle.spec_control.specs.After.{after, without_front}
 use Rattle.spec_control.specs.PairPhase.{behind_first}
-use Rattle.ctl_holder.specs.Turns.{HasTurned}
-use Rattle.ctl_ends.proofs.TurnedLemmas.{turns_none, turns_same}
+use Rattle.ctl_plane.specs.Turns.{HasTurned}
+use Rattle.ctl_moves.proofs.TurnedLemmas.{turns_none, turns_same}
 use Rattle.ctl_history.specs.Past.{Past, control_of, items_of, with_event}
 use Rattle.ctl_history.proofs.ToldLemmas.{event_told, once_attached, past_told}
-use Rattle.ctl_strikes.proofs.OnceLemmas.{told_before}
+use Rattle.ctl_moves.proofs.OnceLemmas.{told_before}
 use Rattle.ctl_history.specs.Carried.{given_in}
-use Rattle.ctl_holder.specs.Bringing.{BringsFirst}
+use Rattle.ctl_plane.specs.Bringing.{BringsFirst}
 use Rattle.ctl_history.specs.Hearing.{AreApart, AreOfKind, FitBinds, IsServed, HasWhat}
-use Rattle.ctl_hears.specs.Processing.{AreFree}
+use Rattle.ctl_moves.specs.Processing.{AreFree}
 use Rattle.ctl_history.proofs.DoneLemmas.{event_with, goes_back}
 use Rattle.ctl_history.proofs.PlaneLemmas.{planed_now}
 use Rattle.ctl_history.proofs.PlaneDoneLemmas.{took_lists, taken_there, back_given, back_plane, stays_there}
 use Rattle.ctl_history.proofs.DeliverLemmas.{may_hear, writer_named, reap_in_roots, take_first, fits_first, delivers, delivers_entry, delivers_brings, delivers_keeps}
 use Rattle.ctl_history.specs.Coming.{ComesWith}
-use Rattle.ctl_holder.specs.Counts.{CountsOnce}
-use Rattle.ctl_holder.specs.declared.notice.Notice.{Notice}
+use Rattle.ctl_plane.specs.Counts.{CountsOnce}
+use Rattle.ctl_plane.specs.declared.notice.Notice.{Notice}
 use Rattle.ctl_history.proofs.ComeLemmas.{heard_rows, objects_come, past_comes, none_counts, one_counts}
 use Rattle.std.specs.Prelude.{Bool, false, []}
 use Rattle.spec_control.specs.declared.letter.Letter.{Letter}
-use Rattle.ctl_hears.specs.Attaching.{binds_end}
+use Rattle.ctl_moves.specs.Attaching.{binds_end}
 use Rattle.control_laws.proofs.ListLemmas.{never}
 use Rattle.ctl_history.proofs.history.History.deliver.Goals as goal
 

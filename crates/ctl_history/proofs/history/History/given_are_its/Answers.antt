@@ -1,6 +1,6 @@
 use Rattle.std.proofs.Common.{subst}
 use Rattle.spec_control.specs.Names.{name_of}
-use Rattle.ctl_holder.specs.declared.given.Given.{Given}
+use Rattle.ctl_plane.specs.declared.given.Given.{Given}
 use Rattle.ctl_history.specs.Carried.{given_in}
 use Rattle.ctl_history.specs.Giving.{AreOnTheirWay}
 use Rattle.ctl_history.specs.Past.{Past, control_of, items_of}

@@ -3,7 +3,7 @@ use Rattle.std.proofs.lemmas.List.{get_or_past}
 use Rattle.spec_control.specs.Row.{Row, nobody}
 use Rattle.spec_control.specs.Rows.{obj}
 use Rattle.spec_control.specs.Stage.{has_ended}
-use Rattle.ctl_holder.specs.declared.given.Given.{Given}
+use Rattle.ctl_plane.specs.declared.given.Given.{Given}
 use Rattle.ctl_history.specs.Past.{Past, control_of}
 use Rattle.ctl_history.proofs.history.History.has_ended.Goals as goal
 

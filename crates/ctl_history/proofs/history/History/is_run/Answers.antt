@@ -2,7 +2,7 @@ use Rattle.std.specs.Prelude.{◌≡◌, ℕ, true, []}
 use Rattle.std.proofs.Common.{subst}
 use Rattle.spec_control.specs.Names.{AreNamed}
 use Rattle.spec_control.specs.Rows.{obj}
-use Rattle.ctl_holder.specs.declared.given.Given.{Given}
+use Rattle.ctl_plane.specs.declared.given.Given.{Given}
 use Rattle.ctl_history.specs.Past.{Past, IsPast, control_of, items_of}
 use Rattle.ctl_history.proofs.history.History.is_run.Goals as goal
 

@@ -3,9 +3,9 @@ use Rattle.std.proofs.Common.{sym, subst}
 use Rattle.spec_control.specs.declared.request.Req.TheVariants.{Socket as MakeSocket}
 use Rattle.spec_control.specs.declared.request.Reply.TheVariants.{Refused}
 use Rattle.spec_control.specs.Reply.{reply_of}
-use Rattle.ctl_holder.specs.declared.given.Given.{Given}
+use Rattle.ctl_plane.specs.declared.given.Given.{Given}
 use Rattle.ctl_history.specs.Past.{Past, control_of}
-use Rattle.ctl_asks.specs.Refusals.{refusal_in}
+use Rattle.ctl_moves.specs.Refusals.{refusal_in}
 use Rattle.ctl_history.proofs.MakingLemmas.{root_owns}
 use Rattle.ctl_history.proofs.RefusalLemmas.{refusal_is}
 use Rattle.ctl_history.proofs.history.History.make_socket.Goals as goal

@@ -3,7 +3,7 @@ use Rattle.std.proofs.Common.{sym, subst}
 use Rattle.spec_control.specs.declared.request.Reply.TheVariants.{Refused}
 use Rattle.spec_control.specs.ControlRun.{MayAsk}
 use Rattle.spec_control.specs.Reply.{reply_of}
-use Rattle.ctl_holder.specs.declared.given.Given.{Given}
+use Rattle.ctl_plane.specs.declared.given.Given.{Given}
 use Rattle.ctl_history.specs.Past.{Past, control_of}
 use Rattle.ctl_history.proofs.DoneLemmas.{refuses, noted_event}
 use Rattle.ctl_history.proofs.PlaneLemmas.{planed_noted, one_plane, tells_no_names}

@@ -1,7 +1,7 @@
 use Rattle.std.specs.Prelude.{◌≡◌}
 use Rattle.std.proofs.Common.{subst}
 use Rattle.spec_control.specs.Rows.{obj}
-use Rattle.ctl_holder.specs.declared.given.Given.{Given}
+use Rattle.ctl_plane.specs.declared.given.Given.{Given}
 use Rattle.ctl_history.specs.Past.{Past, control_of}
 use Rattle.ctl_history.proofs.history.History.slot.Goals as goal
 

@@ -4,9 +4,9 @@ use Rattle.spec_control.specs.declared.request.Req.TheVariants.{Unbind}
 use Rattle.spec_control.specs.Rows.{obj}
 use Rattle.spec_control.specs.ControlRun.{IsOpenSocket}
 use Rattle.spec_control.specs.Reply.{reply_of}
-use Rattle.ctl_holder.specs.declared.given.Given.{Given}
+use Rattle.ctl_plane.specs.declared.given.Given.{Given}
 use Rattle.ctl_history.specs.Past.{Past, control_of}
-use Rattle.ctl_asks.specs.Refusals.{refusal_in}
+use Rattle.ctl_moves.specs.Refusals.{refusal_in}
 use Rattle.ctl_history.proofs.CarryLemmas.{told_given}
 use Rattle.ctl_history.proofs.DoneLemmas.{noted_event}
 use Rattle.ctl_history.proofs.PlaneLemmas.{planed_noted}
@@ -20,20 +20,20 @@ use Rattle.ctl_state.proofs.KeptLemmas.{so_on_err}
 use Rattle.ctl_history.proofs.RefusalLemmas.{refusal_is}
 use Rattle.ctl_history.proofs.history.History.unbind.Goals as goal
 
-pub invariant_of-self-in-None : goal.invariant_of-self-in-None
-invariant_of-self-in-None g c =
-    planed_noted g.P.Pipes.known.out_name g.P.Pipes.known.in_name c.strike_bind.new.state c.self.inside.workers c.self.inside.events c.reserve.new.self c.push.new.self _ _ _ c.in_ok-reserve-in-None.ensures.ok c.push.ensures
+pub invariant_of-self : goal.invariant_of-self
+invariant_of-self g c =
+    planed_noted g.P.Pipes.known.out_name g.P.Pipes.known.in_name c.strike_bind.new.state c.self.inside.workers c.self.inside.events c.reserve.new.self c.push.new.self _ _ _ c.in-Ok.ensures.ok c.push.ensures
     (unbinds_plane g.P.Pipes.known.out_name g.P.Pipes.known.in_name c.self.inside.state c.strike_bind.new.state _ _ c.args.socket c.args.at c.args.h c.self.invariant
     (subst (λ (p : Past (Given g.row.P-Name.Denot g.row.P-Out.Denot g.row.P-In.Denot) g.row.P-Name.Denot g.row.P-Story.Denot). IsOpenSocket (obj (control_of p).rows c.args.socket.0)) (sym c.self.view_is) c.requires.open) c.requires.silent
     (sym (c.in-None.ensures _ c.self.invariant.history.stands)) c.strike_bind.ensures.stands c.strike_bind.ensures.only c.strike_bind.ensures.ends)
 
-pub returns-in-None-clause-ok : goal.returns-in-None-clause-ok
-returns-in-None-clause-ok g c =
-    noted_event c.args.self.now c.self.inside.workers c.self.inside.events c.reserve.new.self c.push.new.self _ _ _ (sym c.self.view_is) c.in_ok-reserve-in-None.ensures.ok c.push.ensures
+pub returns-in-Ok-clause-ok : goal.returns-in-Ok-clause-ok
+returns-in-Ok-clause-ok g c =
+    noted_event c.args.self.now c.self.inside.workers c.self.inside.events c.reserve.new.self c.push.new.self _ _ _ (sym c.self.view_is) c.in-Ok.ensures.ok c.push.ensures
     (told_given c.self.inside.state.boxes c.strike_bind.new.state.boxes c.strike_bind.ensures.only)
 
-pub returns-in-None-clause-reply : goal.returns-in-None-clause-reply
-returns-in-None-clause-reply g c =
+pub returns-in-Ok-clause-reply : goal.returns-in-Ok-clause-reply
+returns-in-Ok-clause-reply g c =
     sym (unbind_done (control_of c.args.self.now) c.args.socket c.args.at (subst (λ (p : Past (Given g.row.P-Name.Denot g.row.P-Out.Denot g.row.P-In.Denot) g.row.P-Name.Denot g.row.P-Story.Denot). refusal_in (reply_of (control_of p) (Unbind c.args.socket c.args.at)) ≡ None) c.self.view_is (sym (c.in-None.ensures _ c.self.invariant.history.stands))))
 
 pub refuse-requires-clause-may : goal.refuse-requires-clause-may
@@ -50,7 +50,7 @@ refuse-requires-clause-silent g c = c.requires.silent
 
 pub push-requires : goal.push-requires
 push-requires g c =
-    let more = ap (λ (l : Listed (Did g.row.P-Name.Denot g.row.P-Story.Denot)). l.spare) c.in_ok-reserve-in-None.ensures.ok in
+    let more = ap (λ (l : Listed (Did g.row.P-Name.Denot g.row.P-Story.Denot)). l.spare) c.in-Ok.ensures.ok in
     record { room = omega (arith, more) }
 
 pub returns-in-Some-clause-ok : goal.returns-in-Some-clause-ok
@@ -65,10 +65,10 @@ returns-in-Some-clause-reply g c =
 pub returns-in_err-refuse-in-Some-clause-err : goal.returns-in_err-refuse-in-Some-clause-err
 returns-in_err-refuse-in-Some-clause-err g c = so_on_err _ _ c.in_err-refuse-in-Some.ensures.err
 
-pub returns-in_err-reserve-in-None-clause-err : goal.returns-in_err-reserve-in-None-clause-err
-returns-in_err-reserve-in-None-clause-err g c =
-    so_on_err _ _ (viewed_back c.args.self.now c.self.inside.state c.self.inside.state c.self.inside.workers c.self.inside.events c.reserve.new.self refl c.in_err-reserve-in-None.ensures.err c.self.view_is)
+pub returns-in-Err-clause-err : goal.returns-in-Err-clause-err
+returns-in-Err-clause-err g c =
+    (viewed_back c.args.self.now c.self.inside.state c.self.inside.state c.self.inside.workers c.self.inside.events c.reserve.new.self refl c.in-Err.ensures.err c.self.view_is)
 
-pub invariant_of-self : goal.invariant_of-self
-invariant_of-self g c =
-    planed_back g.P.Pipes.known.out_name g.P.Pipes.known.in_name c.self.inside.state c.self.inside.state c.self.inside.workers c.self.inside.events c.reserve.new.self refl c.in_err-reserve-in-None.ensures.err c.self.invariant
+pub invariant_of-self-in-Err : goal.invariant_of-self-in-Err
+invariant_of-self-in-Err g c =
+    planed_back g.P.Pipes.known.out_name g.P.Pipes.known.in_name c.self.inside.state c.self.inside.state c.self.inside.workers c.self.inside.events c.reserve.new.self refl c.in-Err.ensures.err c.self.invariant

@@ -1,4 +1,4 @@
-use Rattle.std.specs.Prelude.{◌<◌, List, length}
+use Rattle.std.specs.Prelude.{◌<◌, ℕ, List, length}
 use Rattle.std.proofs.Common.{sym, ap, ◌∙◌, subst}
 use Rattle.std.proofs.lemmas.List.{get_or_read}
 use Rattle.mailbox.specs.Mail.{Mail, no_mail, with_put_back}
@@ -19,3 +19,11 @@ returns g c =
     ap (λ (m : Mail (Command g.row.L.Denot)). with_mail c.args.slot.0 m c.self.inside.boxes.items)
     (c.put_back.ensures ∙ ap (with_put_back c.args.command) (get_or_read c.self.inside.boxes.items c.args.slot.0 c.index_mut.result.now (subst (λ (bs : List (Mail (Command g.row.L.Denot))). c.args.slot.0 < length bs) (sym c.self.view_is) c.requires.there) c.index_mut.ensures.value no_mail))
     ∙ ap (λ (bs : List (Mail (Command g.row.L.Denot))). with_mail c.args.slot.0 (with_put_back c.args.command (mail_at bs c.args.slot.0)) bs) c.self.view_is
+
+pub index_mut-requires : goal.index_mut-requires
+index_mut-requires g c = subst (λ (n : ℕ). c.args.slot.0 < n) (sym c.self.inside.boxes.ok.0)
+    (subst (λ (bs : List (Mail (Command g.row.L.Denot))). c.args.slot.0 < length bs) (sym c.self.view_is) c.requires.there)
+
+pub index-requires : goal.index-requires
+index-requires g c = subst (λ (n : ℕ). c.args.slot.0 < n) (sym c.self.inside.boxes.ok.0)
+    (subst (λ (bs : List (Mail (Command g.row.L.Denot))). c.args.slot.0 < length bs) (sym c.self.view_is) c.requires.there)

@@ -1,4 +1,4 @@
-use Rattle.std.specs.Prelude.{◌<◌, List, length}
+use Rattle.std.specs.Prelude.{◌<◌, ℕ, List, length}
 use Rattle.std.proofs.Common.{sym, subst}
 use Rattle.mailbox.specs.Mail.{Mail}
 use Rattle.ctl_state.specs.declared.command.Command.{Command}
@@ -11,3 +11,11 @@ show-requires g c = record { there = bit_there c.self.inside.shown.items c.self.
 pub invariant_of-self : goal.invariant_of-self
 invariant_of-self g c =
     shown_read c.self.inside.shown.items c.show.new.shown.items c.self.inside.boxes.items c.args.slot.0 c.take_front-command.new.self c.index.result.now (subst (λ (bs : List (Mail (Command g.row.L.Denot))). c.args.slot.0 < length bs) (sym c.self.view_is) c.requires.there) c.self.invariant c.show.ensures.long c.index.ensures c.show.ensures.each
+
+pub index_mut-requires : goal.index_mut-requires
+index_mut-requires g c = subst (λ (n : ℕ). c.args.slot.0 < n) (sym c.self.inside.boxes.ok.0)
+    (subst (λ (bs : List (Mail (Command g.row.L.Denot))). c.args.slot.0 < length bs) (sym c.self.view_is) c.requires.there)
+
+pub index-requires : goal.index-requires
+index-requires g c = subst (λ (n : ℕ). c.args.slot.0 < n) (sym c.self.inside.boxes.ok.0)
+    (subst (λ (bs : List (Mail (Command g.row.L.Denot))). c.args.slot.0 < length bs) (sym c.self.view_is) c.requires.there)

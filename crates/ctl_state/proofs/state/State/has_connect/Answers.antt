@@ -7,6 +7,6 @@ use Rattle.ctl_state.proofs.state.State.has_connect.Goals as goal
 
 pub returns : goal.returns
 returns g c = λ k h.
-    c.is_some.ensures ∙ ap (λ (p : Option ℕ). is_some p) c.connect_place.ensures
+    c.is_some.ensures ∙ ap (λ (p : Option ℕ). is_some p) c.place.ensures
     ∙ is_found (is_connect_to c.args.to.now) (belongings_at c.args.self.now.objects.lists c.args.id.0).holds.items
     ∙ ap (λ hs. is_some (find (is_connect_to c.args.to.now) hs)) (h.lists.held c.args.id.0)

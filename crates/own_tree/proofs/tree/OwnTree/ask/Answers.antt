@@ -1,4 +1,6 @@
-use Rattle.std.specs.Prelude.{refl}
+use Rattle.std.specs.Prelude.{refl, List, length}
+use Rattle.std.proofs.Common.{arith, ap}
+use Rattle.own_tree.specs.declared.row.Row.{Row}
 use Rattle.spec_control.specs.declared.stage.Stage.TheVariants.{Ending}
 use Rattle.own_tree.specs.Rows.{row_at}
 use Rattle.own_tree.specs.Changes.{in_stage}
@@ -18,3 +20,9 @@ returns-clause-moves c =
 
 pub returns-clause-next : goal.returns-clause-next
 returns-clause-next c = change_is (in_stage Ending) _ _ c.args.id c.index_mut.result.now c.self.view_is (live_has_row _ _ (asked_lives (row_at c.args.self.now c.args.id) c.requires.told)) c.index_mut.ensures.value
+
+pub index_mut-requires : goal.index_mut-requires
+index_mut-requires c =
+    let there = live_has_row c.args.self.now c.args.id (asked_lives (row_at c.args.self.now c.args.id) c.requires.told) in
+    let same = ap (λ (l : List Row). length l) c.self.view_is in
+    omega (arith, there, same)

@@ -1,4 +1,6 @@
-use Rattle.std.specs.Prelude.{refl}
+use Rattle.std.specs.Prelude.{refl, List, length}
+use Rattle.std.proofs.Common.{arith, ap}
+use Rattle.own_tree.specs.declared.row.Row.{Row}
 use Rattle.spec_control.specs.declared.stage.Use.TheVariants.{OnItsWay}
 use Rattle.own_tree.specs.Changes.{with_request}
 use Rattle.own_tree.proofs.RowLemmas.{change_is, has_row, makes_no_move}
@@ -16,3 +18,9 @@ returns-clause-moves c = makes_no_move _ _ c.args.id _ c.index_mut.result.now c.
 
 pub returns-clause-next : goal.returns-clause-next
 returns-clause-next c = change_is (with_request OnItsWay) _ _ c.args.id c.index_mut.result.now c.self.view_is (has_row _ _ c.requires.unended) c.index_mut.ensures.value
+
+pub index_mut-requires : goal.index_mut-requires
+index_mut-requires c =
+    let there = has_row c.args.self.now c.args.id c.requires.unended in
+    let same = ap (λ (l : List Row). length l) c.self.view_is in
+    omega (arith, there, same)

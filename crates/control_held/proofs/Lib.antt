@@ -1,3 +1,0 @@
-pub mod NamedLemmas
-pub mod OwnLemmas
-pub mod TrialLemmas

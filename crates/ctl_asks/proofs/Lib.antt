@@ -1,4 +1,0 @@
-pub mod CapacityLemmas
-pub mod BareLemmas
-pub mod AskLemmas
-pub mod NotedLemmas

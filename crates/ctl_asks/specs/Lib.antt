@@ -1,4 +1,0 @@
-pub mod Bare
-pub mod Refusals
-pub mod Making
-pub mod Noting

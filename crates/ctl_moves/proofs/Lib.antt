@@ -1,0 +1,33 @@
+pub mod MailLemmas
+pub mod HeldLemmas
+pub mod TurnLemmas
+pub mod SettleLemmas
+pub mod TurnedLemmas
+pub mod GiveLemmas
+pub mod CapacityLemmas
+pub mod BareLemmas
+pub mod RootLemmas
+pub mod NotedLemmas
+pub mod HolderLemmas
+pub mod PutLemmas
+pub mod AskLemmas
+pub mod BetweenLemmas
+pub mod KeepLemmas
+pub mod TermLemmas
+pub mod AskedLemmas
+pub mod HeardLemmas
+pub mod ReapLemmas
+pub mod ApartLemmas
+pub mod NameLemmas
+mod WaitLemmas
+pub mod StrikeLemmas
+pub mod OnceLemmas
+pub mod FindLemmas
+mod DisconnectLemmas
+pub mod HearLemmas
+pub mod ToldLemmas
+pub mod CameLemmas
+pub mod SettledLemmas
+pub mod TakeOverLemmas
+pub mod BoundLemmas
+pub mod BindingLemmas

@@ -1,0 +1,13 @@
+pub mod Turning
+pub mod Settling
+pub mod Bare
+pub mod Refusals
+pub mod Making
+pub mod Noting
+pub mod Asking
+pub mod Terming
+pub mod Reaping
+pub mod Naming
+pub mod Striking
+pub mod Attaching
+pub mod Processing

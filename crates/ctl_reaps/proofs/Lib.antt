@@ -1,2 +1,0 @@
-pub mod ReapLemmas
-pub mod ApartLemmas

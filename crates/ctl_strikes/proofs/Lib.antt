@@ -1,6 +1,0 @@
-pub mod NameLemmas
-mod WaitLemmas
-pub mod StrikeLemmas
-pub mod OnceLemmas
-pub mod FindLemmas
-mod DisconnectLemmas

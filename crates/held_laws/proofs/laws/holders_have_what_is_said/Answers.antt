@@ -1,5 +1,0 @@
-use Rattle.held_laws.proofs.SayLemmas.{holders_have_what_is_said}
-use Rattle.held_laws.proofs.laws.holders_have_what_is_said.Goals as goal
-
-pub returns : goal.returns
-returns c start = holders_have_what_is_said _ _

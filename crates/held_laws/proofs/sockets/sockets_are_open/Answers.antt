@@ -1,5 +1,0 @@
-use Rattle.held_laws.proofs.OpenLemmas.{sockets_are_open}
-use Rattle.held_laws.proofs.sockets.sockets_are_open.Goals as goal
-
-pub returns : goal.returns
-returns c start = sockets_are_open _ _

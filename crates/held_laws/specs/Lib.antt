@@ -1,3 +1,0 @@
-pub mod SocketLaws
-pub mod Closed
-pub mod Laws
