@@ -30,10 +30,10 @@ use Rattle.spec_control.specs.ControlRun.{after_all, after_item, Fits, FitsItem,
 use Rattle.spec_control.specs.Reply.{has_object, living_sockets, most_living_sockets, root_asked, unless}
 use Rattle.spec_control.specs.declared.request.Refusal.TheVariants.{Term, TooMany}
 use Rattle.spec_control.specs.Names.{name_in, name_of, named_in}
-use Rattle.control_held.specs.Held.{caller_of, items_by}
-use Rattle.control_held.specs.Has.{has_after, has_over, has_then, made_by}
-use Rattle.control_held.specs.Moments.{Moment, left_by, moments_from}
-use Rattle.control_held.specs.OwnAsks.{Known as KnownOf, known_after, known_over}
+use Rattle.spec_control.specs.Held.{caller_of, items_by}
+use Rattle.spec_control.specs.Has.{has_after, has_over, has_then, made_by}
+use Rattle.spec_control.specs.Moments.{Moment, left_by, moments_from}
+use Rattle.spec_control.specs.OwnAsks.{Known as KnownOf, known_after, known_over}
 use Rattle.spec_run.specs.Act.{Act, Step, Said, moment_of, moments_in, pipe_step_of, steps_in}
 use Rattle.spec_run.specs.Event.{acts_said, is_asked_once, seals_in}
 use Rattle.spec_run.specs.OwnedRun.{settlement_of, pipe_capacity, AreCountedBy}

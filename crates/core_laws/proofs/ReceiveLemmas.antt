@@ -26,7 +26,7 @@ use Rattle.spec_pattern.specs.declared.answers.RecvRefusal.{RecvRefusal}
 use Rattle.spec_pattern.specs.declared.answers.RecvRefusal.TheVariants as recv
 use Rattle.spec_pattern.specs.declared.answers.RecvAnswer.{RecvAnswer}
 use Rattle.spec_pattern.specs.declared.answers.RecvAnswer.TheVariants as got
-use Rattle.pattern_laws.specs.Peers.{pattern_kind}
+use Rattle.spec_pattern.specs.Peers.{pattern_kind}
 use Rattle.spec_run.specs.Fate.{is_publisher_kind}
 use Rattle.core_laws.specs.Given.{pipe_taken, pipes_taken}
 

@@ -21,7 +21,7 @@ use Rattle.control_laws.proofs.RunLemmas.{run_kept}
 use Rattle.control_laws.proofs.SoundLemmas.{sound_of}
 use Rattle.control_laws.specs.Spared.{Known, Spared, touched_in}
 use Rattle.control_laws.proofs.EventLemmas.{others_spared}
-use Rattle.control_held.specs.Moments.{left_by}
+use Rattle.spec_control.specs.Moments.{left_by}
 use Rattle.spec_run.specs.Act.{Act, Step, steps_in, pipe_step_of}
 use Rattle.spec_run.specs.Event.{acts_said, is_asked_once}
 use Rattle.run_laws.specs.CapacitiesStay.{pipe_at}

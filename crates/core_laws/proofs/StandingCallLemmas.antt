@@ -10,7 +10,7 @@ use Rattle.spec_control.specs.declared.entry.Item.{Item}
 use Rattle.spec_control.specs.Control.{Control, begun}
 use Rattle.spec_control.specs.ControlRun.{after_all, after_item}
 use Rattle.spec_control.specs.Names.{name_of}
-use Rattle.control_held.specs.Moments.{Moment, moments_from}
+use Rattle.spec_control.specs.Moments.{Moment, moments_from}
 use Rattle.spec_run.specs.Act.{Act, moment_of, moments_in, pipe_step_of, steps_in}
 use Rattle.spec_run.specs.OwnedRun.{AreCountedBy}
 use Rattle.script_actor.specs.Piece.{Piece, piece_of, acts_in, pipe_steps}

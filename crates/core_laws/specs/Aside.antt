@@ -13,7 +13,7 @@ use Rattle.spec_control.specs.declared.request.Reply.{Reply}
 use Rattle.spec_control.specs.Control.{begun}
 use Rattle.spec_control.specs.ControlRun.{after_all, after_item, Fits, FitsItem, IsControlRun}
 use Rattle.spec_control.specs.Names.{named_in}
-use Rattle.control_held.specs.Moments.{Moment}
+use Rattle.spec_control.specs.Moments.{Moment}
 use Rattle.spec_run.specs.Event.{acts_said}
 use Rattle.script_actor.specs.Piece.{Piece, piece_of}
 use Rattle.core_laws.specs.Sides.{OpensGoOn}

@@ -6,7 +6,7 @@ use Rattle.spec_pattern.specs.PipeStep.{PipeStep, same_pipe, taken_from}
 use Rattle.spec_pattern.specs.declared.answers.RecvAnswer.{RecvAnswer}
 use Rattle.spec_pattern.specs.declared.answers.RecvAnswer.TheVariants as got
 use Rattle.spec_pattern.specs.declared.answers.Skip.{Skip}
-use Rattle.pattern_laws.specs.Peers.{pattern_kind}
+use Rattle.spec_pattern.specs.Peers.{pattern_kind}
 use Rattle.spec_journal.specs.Line.{got_answer}
 use Rattle.spec_run.specs.declared.journal.LineAnswer.{LineAnswer}
 use Rattle.spec_run.specs.declared.journal.LineAnswer.TheVariants.{Plain}

@@ -9,7 +9,7 @@ use Rattle.ends.specs.Runs.{is_seal}
 use Rattle.spec_control.specs.declared.entry.Item.{Item}
 use Rattle.spec_control.specs.Control.{Control, begun, next_object, next_pair, owner_of}
 use Rattle.spec_control.specs.ControlRun.{after_all, IsControlRun}
-use Rattle.control_held.specs.Moments.{Moment, left_by}
+use Rattle.spec_control.specs.Moments.{Moment, left_by}
 use Rattle.spec_run.specs.Act.{Act, steps_in}
 use Rattle.spec_run.specs.Event.{acts_said}
 use Rattle.run_laws.specs.CapacitiesStay.{pipe_at}

@@ -9,10 +9,10 @@ use Rattle.spec_control.specs.declared.entry.Item.{Item}
 use Rattle.spec_control.specs.Control.{Control, Settlement, begun, next_pair}
 use Rattle.spec_control.specs.ControlRun.{after_all, IsControlRun}
 use Rattle.spec_control.specs.Names.{name_of, AreNamed}
-use Rattle.control_held.specs.Held.{items_by}
-use Rattle.control_held.specs.Has.{has_after, AreBy}
-use Rattle.control_held.specs.Moments.{Moment, moments_from}
-use Rattle.control_held.specs.OwnAsks.{known_after}
+use Rattle.spec_control.specs.Held.{items_by}
+use Rattle.spec_control.specs.Has.{has_after, AreBy}
+use Rattle.spec_control.specs.Moments.{Moment, moments_from}
+use Rattle.spec_control.specs.OwnAsks.{known_after}
 use Rattle.spec_run.specs.Act.{moments_in}
 use Rattle.spec_run.specs.OwnedRun.{settlement_of, pipe_capacity, AreCountedBy}
 use Rattle.run_laws.specs.CapacitiesStay.{pipe_at}

@@ -8,7 +8,7 @@ use Rattle.spec_control.specs.declared.request.Req.TheVariants.{Close}
 use Rattle.spec_control.specs.declared.request.Reply.TheVariants.{Done}
 use Rattle.spec_control.specs.Control.{Control, id}
 use Rattle.control_laws.proofs.ListLemmas.{never}
-use Rattle.control_held.specs.OwnAsks.{is_none}
+use Rattle.spec_control.specs.OwnAsks.{is_none}
 use Rattle.spec_run.specs.declared.journal.LineEntry.{LineEntry}
 use Rattle.spec_run.specs.declared.line.RunLine.{RunLine}
 use Rattle.spec_run.specs.LineCall.{line_is_over}

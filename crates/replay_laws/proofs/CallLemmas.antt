@@ -7,13 +7,13 @@ use Rattle.zq_base.specs.declared.endpoint.Endpoint.{Endpoint}
 use Rattle.spec_pattern.specs.PipeStep.{PipeStep, AreExact}
 use Rattle.spec_pattern.specs.Topics.{Topic}
 use Rattle.spec_pattern.specs.PatternCalls.{Change}
-use Rattle.pattern_laws.specs.Peers.{kept_ends, peer_names, HaveOneName}
-use Rattle.pattern_laws.specs.Outcomes.{SendOutcome, RecvOutcome, ChangeOutcome}
-use Rattle.pattern_laws.specs.Laws.{AgreeOn}
-use Rattle.pattern_laws.proofs.SendLemmas.{a_send_has_one}
-use Rattle.pattern_laws.proofs.ReceiveLemmas.{a_receive_has_one}
-use Rattle.pattern_laws.proofs.PumpLemmas.{a_change_has_one}
-use Rattle.pattern_laws.proofs.PumpedLemmas.{all_written}
+use Rattle.spec_pattern.specs.Peers.{kept_ends, peer_names, HaveOneName}
+use Rattle.spec_pattern.specs.Outcomes.{SendOutcome, RecvOutcome, ChangeOutcome}
+use Rattle.spec_pattern.specs.WholeLaws.{AgreeOn}
+use Rattle.spec_pattern.proofs.SendLemmas.{a_send_has_one}
+use Rattle.spec_pattern.proofs.ReceiveLemmas.{a_receive_has_one}
+use Rattle.spec_pattern.proofs.PumpLemmas.{a_change_has_one}
+use Rattle.spec_pattern.proofs.PumpedLemmas.{all_written}
 use Rattle.spec_control.specs.declared.request.Req.{Req}
 use Rattle.spec_control.specs.declared.request.Req.TheVariants.{Bind, Connect, Unbind, Disconnect}
 use Rattle.spec_control.specs.declared.request.Reply.{Reply}
@@ -24,8 +24,8 @@ use Rattle.spec_control.specs.Control.{Control, id}
 use Rattle.spec_control.specs.ControlRun.{Fits, FitsItem, after_item}
 use Rattle.spec_journal.specs.declared.journal.Answer.TheVariants as answer
 use Rattle.spec_journal.specs.Line.{sent_answer, got_answer, changed_answer}
-use Rattle.control_held.specs.Has.{acts_in_request}
-use Rattle.control_held.specs.Moments.{Moment}
+use Rattle.spec_control.specs.Has.{acts_in_request}
+use Rattle.spec_control.specs.Moments.{Moment}
 use Rattle.spec_run.specs.declared.journal.LineAnswer.{LineAnswer}
 use Rattle.spec_run.specs.declared.journal.LineAnswer.TheVariants.{Plain, Term}
 use Rattle.spec_run.specs.ControlAnswer.{reply_answer}

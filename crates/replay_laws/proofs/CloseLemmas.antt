@@ -12,8 +12,8 @@ use Rattle.spec_control.specs.declared.entry.Did.TheVariants.{Asked, Delivered, 
 use Rattle.spec_control.specs.declared.entry.Item.{Item}
 use Rattle.spec_control.specs.declared.entry.Item.TheVariants.{Event, Seen}
 use Rattle.spec_control.specs.Control.{Control}
-use Rattle.control_held.specs.Moments.{Moment, left_by}
-use Rattle.held_laws.proofs.EventLemmas.{closes}
+use Rattle.spec_control.specs.Moments.{Moment, left_by}
+use Rattle.control_laws.proofs.HeldEventLemmas.{closes}
 use Rattle.spec_run.specs.Act.{Act, Step, Said}
 use Rattle.spec_run.specs.Event.{IsRequest, LooksFront, finds_none, finds_one, finds_end, LooksFronts, LooksWhere, LooksBehind, TakesLetter, TakesLetters, seals_in, acts_said}
 use Rattle.spec_run.specs.OpenSocket.{OpenSock, waiting_ends}

@@ -9,8 +9,8 @@ use Rattle.spec_control.specs.declared.request.Req.{Req}
 use Rattle.spec_control.specs.declared.entry.Item.{Item}
 use Rattle.spec_control.specs.Control.{Control}
 use Rattle.spec_control.specs.ControlRun.{after_item}
-use Rattle.control_held.specs.Held.{caller_of}
-use Rattle.control_held.specs.Moments.{Moment, moments_from, moments_by}
+use Rattle.spec_control.specs.Held.{caller_of}
+use Rattle.spec_control.specs.Moments.{Moment, moments_from, moments_by}
 use Rattle.spec_run.specs.Act.{Deed}
 use Rattle.spec_run.specs.OwnedRun.{AreTold}
 use Rattle.replay_laws.proofs.AskLemmas.{weight_item, weight_moments, weight_workers}

@@ -15,7 +15,7 @@ use Rattle.spec_control.specs.ControlRun.{FitsItem, IsSeen, after_item, after_al
 use Rattle.control_laws.specs.Bound.{objects_made, pairs_made}
 use Rattle.control_laws.proofs.BoundLemmas.{ending_is_bounded}
 use Rattle.control_laws.proofs.ListLemmas.{never, left, right, and}
-use Rattle.control_held.specs.Moments.{Moment, moments_from}
+use Rattle.spec_control.specs.Moments.{Moment, moments_from}
 use Rattle.spec_journal.specs.Turn.{IsOrder}
 use Rattle.spec_run.specs.declared.journal.ObjectRow.{ObjectRow}
 use Rattle.spec_run.specs.declared.journal.RunJournal.{RunJournal}

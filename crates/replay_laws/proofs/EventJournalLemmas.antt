@@ -11,8 +11,8 @@ use Rattle.spec_pattern.specs.PipeStep.{AreExact, committed_to, taken_from}
 use Rattle.spec_control.specs.declared.entry.Item.{Item}
 use Rattle.spec_control.specs.Control.{Control, begun}
 use Rattle.spec_control.specs.ControlRun.{after_all}
-use Rattle.control_held.specs.Held.{caller_of}
-use Rattle.control_held.specs.Moments.{moments_by, moments_from}
+use Rattle.spec_control.specs.Held.{caller_of}
+use Rattle.spec_control.specs.Moments.{moments_by, moments_from}
 use Rattle.spec_journal.specs.Run.{Schedule}
 use Rattle.spec_run.specs.declared.journal.ActorLines.{ActorLines}
 use Rattle.spec_run.specs.declared.journal.RunJournal.{RunJournal}

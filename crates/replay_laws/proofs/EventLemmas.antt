@@ -11,8 +11,8 @@ use Rattle.spec_control.specs.declared.entry.Item.{Item}
 use Rattle.spec_control.specs.Control.{Control}
 use Rattle.spec_control.specs.ControlRun.{is_between, MayDeliver, Fits, FitsItem, after_item}
 use Rattle.control_laws.proofs.ListLemmas.{never, and}
-use Rattle.control_held.specs.OwnAsks.{is_none}
-use Rattle.control_held.specs.Moments.{reaper_slots, first_waiting}
+use Rattle.spec_control.specs.OwnAsks.{is_none}
+use Rattle.spec_control.specs.Moments.{reaper_slots, first_waiting}
 use Rattle.spec_run.specs.Act.{Act, Deed, Tries, Shuts, Fetches, Idles, Works, Looks, AsksRoot, Reads, all_acts}
 use Rattle.spec_run.specs.Standing.{ActorStanding, has_finished}
 use Rattle.spec_run.specs.InTurns.{ActorStep, TakesFirstWaiting, ReaperStep}

@@ -11,7 +11,7 @@ use Rattle.zq_base.specs.Ends.{other_end}
 use Rattle.spec_control.specs.Control.{Control}
 use Rattle.spec_control.specs.ControlRun.{after_item}
 use Rattle.spec_control.specs.Names.{name_in, named_in, joined_in, IsTold, AreNamed}
-use Rattle.control_held.specs.Has.{has_then, has_over, has_after, IsByItem, AreBy}
+use Rattle.spec_control.specs.Has.{has_then, has_over, has_after, IsByItem, AreBy}
 use Rattle.spec_run.specs.Act.{Deed, acts_of, all_acts}
 use Rattle.spec_run.specs.Worker.{EachDoes}
 use Rattle.zq_world.proofs.AskedLemmas.{items_of, items_of-append}

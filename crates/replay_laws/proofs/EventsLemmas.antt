@@ -4,7 +4,7 @@ use Rattle.std.proofs.Common.{sym, ap, ◌∙◌, subst, append-nil}
 use Rattle.std.specs.List.{list_all, list_any}
 use Rattle.control_laws.proofs.ListLemmas.{left, right}
 use Rattle.spec_control.specs.Control.{Control, begun}
-use Rattle.control_held.specs.Moments.{Moment, reaper_slots}
+use Rattle.spec_control.specs.Moments.{Moment, reaper_slots}
 use Rattle.spec_run.specs.LineCall.{RunScript}
 use Rattle.spec_run.specs.Act.{Deed, Fetches, AsksRoot, Reads, all_acts}
 use Rattle.spec_run.specs.Standing.{ActorStanding, standing_before, has_finished}

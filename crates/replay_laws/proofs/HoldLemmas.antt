@@ -32,7 +32,7 @@ use Rattle.spec_control.specs.Reply.{most_living_sockets, living_sockets, has_ob
 use Rattle.spec_control.specs.ControlRun.{Fits, FitsItem, unless_refused, after_item}
 use Rattle.control_laws.proofs.ListLemmas.{never, left, right, pushed, is_old, is_new}
 use Rattle.control_laws.specs.OwnMoves.{own_moves, request_moves}
-use Rattle.control_held.specs.Moments.{Moment}
+use Rattle.spec_control.specs.Moments.{Moment}
 use Rattle.spec_run.specs.declared.line.LineCall.{LineCall}
 use Rattle.spec_run.specs.declared.line.LineCall.TheVariants.{Asks, Unbinds, Disconnects, Closes, Terms}
 use Rattle.spec_pattern.specs.declared.answers.Skip.{Skip}

@@ -10,7 +10,7 @@ use Rattle.spec_pattern.specs.PipeStep.{PipeStep, AreExact, committed_to, taken_
 use Rattle.spec_control.specs.declared.entry.Item.{Item}
 use Rattle.spec_control.specs.Control.{Control, Settlement, begun}
 use Rattle.spec_control.specs.ControlRun.{FitsItem, after_item, after_all, IsControlRun}
-use Rattle.control_held.specs.Moments.{Moment, moments_from}
+use Rattle.spec_control.specs.Moments.{Moment, moments_from}
 use Rattle.spec_run.specs.declared.journal.ActorLines.{ActorLines}
 use Rattle.spec_run.specs.LineCall.{RunScript}
 use Rattle.spec_run.specs.Act.{Act, Step, Said, Deed, Tries, Shuts, Fetches, Idles, Works, Looks, AsksRoot, Reads, steps_in, moments_in, acts_of, all_acts}

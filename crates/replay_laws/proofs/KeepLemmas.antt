@@ -12,8 +12,8 @@ use Rattle.spec_pattern.specs.PipeStep.{PipeStep}
 use Rattle.spec_pattern.specs.PatternCalls.{Subscribe, Unsubscribe, Change}
 use Rattle.spec_pattern.specs.Topics.{Topic}
 use Rattle.zq_base.specs.Message.{Frames}
-use Rattle.pattern_laws.specs.Peers.{peer_names, HaveOneName}
-use Rattle.pattern_laws.proofs.KeepCallLemmas.{calls_keep_peers}
+use Rattle.spec_pattern.specs.Peers.{peer_names, HaveOneName}
+use Rattle.spec_pattern.proofs.KeepCallLemmas.{calls_keep_peers}
 use Rattle.spec_control.specs.declared.request.Req.{Req}
 use Rattle.spec_control.specs.declared.request.Req.TheVariants.{Socket as MakeSocket, Bind, Connect, Unbind, Disconnect}
 use Rattle.spec_control.specs.declared.request.Refusal.TheVariants.{Term as RefusesTerm, TooMany}
@@ -32,8 +32,8 @@ use Rattle.spec_control.specs.ControlRun.{Fits, FitsItem, after_item}
 use Rattle.spec_journal.specs.NewSocket.{new_pattern}
 use Rattle.spec_journal.proofs.AttachLemmas.{no_ends}
 use Rattle.std.proofs.Math.Seq.{get_or-append_seam}
-use Rattle.control_held.specs.Has.{acts_in_request}
-use Rattle.control_held.specs.Moments.{Moment, left_by}
+use Rattle.spec_control.specs.Has.{acts_in_request}
+use Rattle.spec_control.specs.Moments.{Moment, left_by}
 use Rattle.spec_run.specs.declared.journal.LineAnswer.{LineAnswer}
 use Rattle.spec_run.specs.declared.journal.LineAnswer.TheVariants.{Term}
 use Rattle.spec_run.specs.declared.line.LineCall.{LineCall}

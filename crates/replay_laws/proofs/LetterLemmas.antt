@@ -36,9 +36,9 @@ use Rattle.control_laws.specs.OwnMoves.{own_moves, word_moves}
 use Rattle.control_laws.proofs.GuardLemmas.{oldest_may_come}
 use Rattle.control_laws.proofs.LeadLemmas.{attached_by}
 use Rattle.control_laws.proofs.AttachedLemmas.{asked_ends}
-use Rattle.control_held.specs.Has.{acts_in_request}
+use Rattle.spec_control.specs.Has.{acts_in_request}
 use Rattle.control_laws.specs.Spared.{touched_in}
-use Rattle.control_held.specs.Moments.{Moment, left_by}
+use Rattle.spec_control.specs.Moments.{Moment, left_by}
 use Rattle.spec_run.specs.OpenSocket.{OpenSock, is_out, had_out, detach_all, attach_all, AreAnswered, stops, joins_of, sock_after}
 use Rattle.replay_laws.specs.Blank.{blank, AnswerAlike, AreAlike, asked, delivered}
 use Rattle.replay_laws.specs.Mailboxes.{HaveBoxes}

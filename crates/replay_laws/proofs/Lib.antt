@@ -1,3 +1,6 @@
+mod ReadStepLemmas
+mod ValueLemmas
+mod ReadLemmas
 pub mod DeedLemmas
 pub mod ThinLemmas
 pub mod EventNameLemmas

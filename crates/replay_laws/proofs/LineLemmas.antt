@@ -18,7 +18,7 @@ use Rattle.spec_control.specs.Control.{Control, id}
 use Rattle.spec_journal.specs.NewSocket.{new_pattern}
 use Rattle.spec_control.specs.After.{after}
 use Rattle.spec_control.specs.ControlRun.{Joins, Fits, FitsItem, request_joins, unless_refused, after_item}
-use Rattle.control_held.specs.Moments.{Moment, left_by}
+use Rattle.spec_control.specs.Moments.{Moment, left_by}
 use Rattle.spec_run.specs.declared.line.LineCall.{LineCall}
 use Rattle.spec_run.specs.declared.line.LineCall.TheVariants.{Asks, Unbinds, Disconnects, Closes, Terms}
 use Rattle.spec_run.specs.ControlAnswer.{reply_answer}

@@ -20,7 +20,7 @@ use Rattle.spec_control.specs.After.{after}
 use Rattle.spec_control.specs.ControlRun.{Fits, FitsItem, Joins, after_item}
 use Rattle.control_laws.specs.OwnMoves.{own_moves}
 use Rattle.control_laws.proofs.SoundLemmas.{socket_there}
-use Rattle.control_held.specs.Moments.{Moment}
+use Rattle.spec_control.specs.Moments.{Moment}
 use Rattle.spec_run.specs.Act.{Act, Step, Said, steps_in, moments_in}
 use Rattle.spec_run.specs.OpenSocket.{OpenSock, awaits_delimiter, attach_all, sock_after, PassesItems}
 use Rattle.spec_run.specs.Event.{IsDelimited, LooksFront, finds_none, finds_one, finds_end, LooksFronts, LooksWhere, LooksBehind, seals_in, acts_said}

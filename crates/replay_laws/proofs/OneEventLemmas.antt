@@ -11,7 +11,7 @@ use Rattle.spec_control.specs.Stage.{is_used}
 use Rattle.spec_control.specs.Row.{is_socket}
 use Rattle.spec_control.specs.Rows.{obj}
 use Rattle.spec_control.specs.Control.{Control}
-use Rattle.control_held.specs.Moments.{reaper_slots}
+use Rattle.spec_control.specs.Moments.{reaper_slots}
 use Rattle.spec_run.specs.Act.{Act, Deed, Fetches, AsksRoot, Reads, moments_in, all_acts}
 use Rattle.spec_run.specs.Event.{TakesLetter}
 use Rattle.spec_run.specs.OpenSocket.{OpenSock, PassesItems}

@@ -17,13 +17,13 @@ use Rattle.spec_control.specs.Rows.{obj}
 use Rattle.spec_control.specs.Control.{Control}
 use Rattle.spec_control.specs.ControlRun.{FitsItem, after_item}
 use Rattle.control_laws.proofs.ListLemmas.{never}
-use Rattle.control_held.specs.Moments.{first_waiting}
+use Rattle.spec_control.specs.Moments.{first_waiting}
 use Rattle.control_laws.specs.OwnMoves.{own_moves}
 use Rattle.control_laws.proofs.SoundLemmas.{socket_there}
-use Rattle.held_laws.proofs.BetweenLemmas.{asks_over}
-use Rattle.held_laws.proofs.EventLemmas.{word_closes}
-use Rattle.held_laws.proofs.ClosedLemmas.{event_unused, asked_none}
-use Rattle.held_laws.proofs.RowLemmas.{event_keeps}
+use Rattle.control_laws.proofs.BetweenLemmas.{asks_over}
+use Rattle.control_laws.proofs.HeldEventLemmas.{word_closes}
+use Rattle.control_laws.proofs.HeldClosedLemmas.{event_unused, asked_none}
+use Rattle.control_laws.proofs.HeldRowLemmas.{event_keeps}
 use Rattle.spec_run.specs.LineCall.{RunScript}
 use Rattle.spec_run.specs.Act.{Act, Step, Said, Deed, all_acts}
 use Rattle.spec_run.specs.OpenSocket.{OpenSock}

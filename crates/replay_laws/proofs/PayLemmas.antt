@@ -25,8 +25,8 @@ use Rattle.spec_control.specs.Reply.{state_of, root_state, root_asked, reply_of}
 use Rattle.spec_control.specs.ControlRun.{AreEmpty, Fits, FitsItem, IsSeen, after_item, after_all, IsControlRun}
 use Rattle.spec_control.specs.Quiescence.{item_costs}
 use Rattle.control_laws.proofs.ListLemmas.{never, left, right}
-use Rattle.control_held.specs.OwnAsks.{is_none}
-use Rattle.control_held.specs.Moments.{Moment}
+use Rattle.spec_control.specs.OwnAsks.{is_none}
+use Rattle.spec_control.specs.Moments.{Moment}
 use Rattle.spec_journal.specs.Turn.{IsOrder}
 use Rattle.spec_run.specs.Act.{Act, Step, Said, Deed, Tries, Shuts, Fetches, Idles, Works, Looks, AsksRoot, Reads, steps_in, moments_in, all_acts}
 use Rattle.spec_run.specs.Event.{IsLookAt, acts_said}

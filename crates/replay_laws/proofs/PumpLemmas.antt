@@ -4,11 +4,11 @@ use Rattle.std.proofs.Common.{arith, sym, ap, ◌∙◌, subst, append_assoc}
 use Rattle.zq_base.specs.Ends.{PipeId}
 use Rattle.spec_pattern.specs.PipeStep.{PipeStep, AreExact}
 use Rattle.spec_pattern.specs.PatternCalls.{PatternPumps}
-use Rattle.pattern_laws.specs.Peers.{kept_ends}
-use Rattle.pattern_laws.specs.Outcomes.{PumpOutcome}
-use Rattle.pattern_laws.specs.Laws.{AgreeOn}
-use Rattle.pattern_laws.proofs.PumpLemmas.{a_pump_has_one}
-use Rattle.pattern_laws.proofs.PumpedLemmas.{all_written}
+use Rattle.spec_pattern.specs.Peers.{kept_ends}
+use Rattle.spec_pattern.specs.Outcomes.{PumpOutcome}
+use Rattle.spec_pattern.specs.WholeLaws.{AgreeOn}
+use Rattle.spec_pattern.proofs.PumpLemmas.{a_pump_has_one}
+use Rattle.spec_pattern.proofs.PumpedLemmas.{all_written}
 use Rattle.spec_control.specs.declared.letter.Letter.{Letter}
 use Rattle.spec_control.specs.declared.entry.Did.TheVariants.{Delivered}
 use Rattle.spec_control.specs.declared.entry.Item.{Item}
@@ -17,7 +17,7 @@ use Rattle.spec_control.specs.declared.entry.SeenEmpty.TheVariants.{Mailbox}
 use Rattle.spec_control.specs.Control.{Control}
 use Rattle.spec_control.specs.After.{after}
 use Rattle.spec_control.specs.ControlRun.{Fits, FitsItem, IsSeen, AreEmpty, after_item}
-use Rattle.control_held.specs.Moments.{Moment, left_by}
+use Rattle.spec_control.specs.Moments.{Moment, left_by}
 use Rattle.spec_run.specs.Act.{Act, Step, Said, steps_in, moments_in}
 use Rattle.spec_run.specs.OpenSocket.{OpenSock, can_write, waiting_ends, joins_of, sock_after, AreAnswered, PassesItems}
 use Rattle.spec_run.specs.Event.{LooksFronts, LooksBehind, TakesLetter, TakesLetters, seals_in, acts_said}

@@ -20,8 +20,8 @@ use Rattle.spec_control.specs.ControlRun.{MayAnswer, MayAnswerAll}
 use Rattle.control_laws.proofs.ListLemmas.{never}
 use Rattle.control_laws.proofs.StepLemmas.{same_kind}
 use Rattle.control_laws.specs.Steps.{Steps, no_step, one_more}
-use Rattle.control_held.specs.OwnAsks.{is_none}
-use Rattle.control_held.specs.Moments.{first_waiting}
+use Rattle.spec_control.specs.OwnAsks.{is_none}
+use Rattle.spec_control.specs.Moments.{first_waiting}
 use Rattle.replay_laws.specs.Mailboxes.{MayHaveBox, HaveBoxes}
 use Rattle.replay_laws.proofs.SlotLemmas.{socket_box}
 use Rattle.replay_laws.proofs.AlikeLemmas.{Told}

@@ -27,9 +27,9 @@ use Rattle.spec_control.specs.Control.{Control, id, next_object}
 use Rattle.spec_control.specs.After.{socket_row}
 use Rattle.spec_control.specs.Reply.{most_living_sockets, living_sockets, has_object, root_asked}
 use Rattle.spec_control.specs.ControlRun.{Fits, FitsItem, after_item}
-use Rattle.control_held.specs.Moments.{Moment}
+use Rattle.spec_control.specs.Moments.{Moment}
 use Rattle.control_laws.proofs.ListLemmas.{never}
-use Rattle.held_laws.proofs.EventLemmas.{closes}
+use Rattle.control_laws.proofs.HeldEventLemmas.{closes}
 use Rattle.spec_run.specs.declared.journal.LineAnswer.{LineAnswer}
 use Rattle.spec_run.specs.declared.journal.LineAnswer.TheVariants.{Term}
 use Rattle.spec_run.specs.declared.line.LineCall.{LineCall}

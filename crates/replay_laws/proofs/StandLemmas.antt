@@ -14,10 +14,10 @@ use Rattle.spec_pattern.specs.Routing.{Names}
 use Rattle.spec_pattern.specs.Topics.{Topic, Subscribers, without_peer}
 use Rattle.spec_pattern.specs.TurnList.{End}
 use Rattle.spec_pattern.specs.Pattern.{Pattern, Push, Pull, Pair, Dealer, Req as ReqKind, Rep, Router, Pub, XPub, Sub, XSub, attach, attach_as, detach, without, partner_without, duty_without}
-use Rattle.pattern_laws.specs.Peers.{kept_ends, peer_names, named_peer, partner_of, HaveOneName, KeepsPeers}
-use Rattle.pattern_laws.proofs.OnceLemmas.{unmapped}
-use Rattle.pattern_laws.proofs.NamesStayLemmas.{names_stay_one}
-use Rattle.pattern_laws.proofs.PumpedLemmas.{all_stay}
+use Rattle.spec_pattern.specs.Peers.{kept_ends, peer_names, named_peer, partner_of, HaveOneName, KeepsPeers}
+use Rattle.spec_pattern.proofs.OnceLemmas.{unmapped}
+use Rattle.spec_pattern.proofs.NamesStayLemmas.{names_stay_one}
+use Rattle.spec_pattern.proofs.PumpedLemmas.{all_stay}
 use Rattle.spec_journal.proofs.AttachLemmas.{all_front, all_behind, attach_all as kept_with_one, names_kept}
 use Rattle.spec_control.specs.declared.letter.Letter.{Letter}
 use Rattle.spec_control.specs.declared.request.Req.{Req}
@@ -42,8 +42,8 @@ use Rattle.control_laws.specs.AttachedOnce.{AreOnce}
 use Rattle.control_laws.proofs.LeadLemmas.{attached_by}
 use Rattle.control_laws.proofs.AttachedLemmas.{attached_after, asked_ends}
 use Rattle.control_laws.proofs.AttachedOnceLemmas.{ends_are_attached_once}
-use Rattle.control_held.specs.Has.{acts_in_request}
-use Rattle.control_held.specs.Moments.{Moment}
+use Rattle.spec_control.specs.Has.{acts_in_request}
+use Rattle.spec_control.specs.Moments.{Moment}
 use Rattle.spec_run.specs.Act.{Act, Step, Said, moments_in}
 use Rattle.spec_run.specs.OpenSocket.{OpenSock, attach_all, detach_all, AreAnswered, joins_of, leaves_in, sock_after, PassesItems}
 use Rattle.replay_laws.proofs.WalkLemmas.{leaves, Walks, Reached, reached_item}

@@ -31,8 +31,8 @@ use Rattle.control_laws.specs.Steps.{Steps}
 use Rattle.control_laws.specs.OwnMoves.{own_moves}
 use Rattle.control_laws.proofs.StepsLemmas.{events_are_steps}
 use Rattle.control_laws.proofs.LeadLemmas.{attached_by}
-use Rattle.control_held.specs.OwnAsks.{is_none}
-use Rattle.control_held.specs.Moments.{Moment, left_by, first_waiting}
+use Rattle.spec_control.specs.OwnAsks.{is_none}
+use Rattle.spec_control.specs.Moments.{Moment, left_by, first_waiting}
 use Rattle.spec_run.specs.declared.journal.LineEntry.{LineEntry}
 use Rattle.spec_run.specs.Act.{Act, Said, Deed, Tries, Shuts, Fetches, Idles, Works, Looks, AsksRoot, Reads, steps_in, acts_of, all_acts}
 use Rattle.spec_run.specs.Event.{IsLookAt, LooksBehind, TakesLetter, seals_in, acts_said}

@@ -11,8 +11,8 @@ use Rattle.zq_script.specs.declared.script.Call.TheVariants as call
 use Rattle.spec_control.specs.declared.request.Reply.{Reply}
 use Rattle.spec_control.specs.declared.request.Reply.TheVariants.{Done, Object, Pair, Both, Wait, Asked, Before, Refused}
 use Rattle.control_laws.proofs.ListLemmas.{never}
-use Rattle.control_held.specs.OwnAsks.{is_none}
-use Rattle.control_held.specs.Moments.{Moment}
+use Rattle.spec_control.specs.OwnAsks.{is_none}
+use Rattle.spec_control.specs.Moments.{Moment}
 use Rattle.spec_run.specs.declared.line.LineCall.{LineCall}
 use Rattle.spec_run.specs.declared.line.LineCall.TheVariants.{Asks, Unbinds, Disconnects, Closes, Terms}
 use Rattle.spec_run.specs.declared.line.RunLine.{RunLine}

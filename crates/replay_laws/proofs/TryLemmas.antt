@@ -15,9 +15,9 @@ use Rattle.std.specs.List.{list_any}
 use Rattle.zq_base.specs.Ends.{PipeId}
 use Rattle.zq_base.specs.declared.ids.EndId.{EndId}
 use Rattle.spec_pattern.specs.PipeStep.{PipeStep}
-use Rattle.pattern_laws.specs.Peers.{kept_ends}
-use Rattle.pattern_laws.specs.Laws.{AgreeOn}
-use Rattle.pattern_laws.proofs.KeepCallLemmas.{calls_keep_peers}
+use Rattle.spec_pattern.specs.Peers.{kept_ends}
+use Rattle.spec_pattern.specs.WholeLaws.{AgreeOn}
+use Rattle.spec_pattern.proofs.KeepCallLemmas.{calls_keep_peers}
 use Rattle.spec_control.specs.declared.letter.Word.{Word}
 use Rattle.spec_control.specs.declared.letter.Word.TheVariants.{Own, Plug, TermReq, Term, TermAck, PipeBind, PipeTerm, PipeTermAck, Stop, Reap}
 use Rattle.spec_control.specs.declared.entry.Did.{Did}
@@ -31,7 +31,7 @@ use Rattle.spec_run.specs.OwnedRun.{pipe_capacity}
 use Rattle.run_laws.specs.CapacitiesStay.{CapacitiesStay}
 use Rattle.control_laws.proofs.EventGoLemmas.{event_goes}
 use Rattle.control_laws.proofs.AttachedOnceLemmas.{IsOld}
-use Rattle.control_held.specs.Moments.{Moment, left_by, items_in}
+use Rattle.spec_control.specs.Moments.{Moment, left_by, items_in}
 use Rattle.spec_run.specs.Act.{Act, Step, Said, Try, steps_in, moments_in}
 use Rattle.spec_run.specs.OpenSocket.{OpenSock, can_write, waiting_ends, sock_after, PassesItems}
 use Rattle.spec_run.specs.Event.{LooksFront, finds_none, finds_one, finds_end, LooksFronts, LooksWhere, LooksBehind, TakesLetter, TakesLetters, acts_said}

@@ -7,7 +7,7 @@ use Rattle.spec_pattern.specs.PipeStep.{PipeStep, Seal, Follows, AreExact}
 use Rattle.spec_control.specs.declared.entry.Item.{Item}
 use Rattle.spec_control.specs.Control.{Control, begun, place_of}
 use Rattle.spec_control.specs.ControlRun.{FitsItem, after_item, after_all, IsControlRun}
-use Rattle.control_held.specs.Moments.{Moment}
+use Rattle.spec_control.specs.Moments.{Moment}
 use Rattle.spec_run.specs.Act.{Act, Step, Said, steps_in, moments_in}
 use Rattle.spec_run.specs.Event.{is_asked_once, seals_in, acts_said}
 use Rattle.replay_laws.specs.Blank.{blank}

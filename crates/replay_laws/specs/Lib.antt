@@ -1,3 +1,4 @@
+pub mod ReadScripts
 pub mod TurnsAreEvents
 pub mod ChosenExample
 pub mod OneEventsJournal

@@ -1,5 +1,5 @@
 //! Laws of how a run is replayed: by its script, its seed and the most turns that it may take, and by
-//! nothing else.
+//! nothing else; and what the lines of a script that is read may ask.
 #![tactic(auto)]
 
 mod bounds;
@@ -7,6 +7,7 @@ mod done;
 mod events;
 mod journals;
 mod laws;
+mod reading;
 
 pub use bounds::{scripts_are_done_in_time, scripts_make_so_much};
 pub use done::{
@@ -25,3 +26,4 @@ pub use laws::{
     a_script_has_one_run_journal, actors_finish_in_time, counts_are_not_read,
     local_runs_have_sockets_alone, sockets_have_their_mailboxes,
 };
+pub use reading::scripts_that_are_read_may_be_asked;

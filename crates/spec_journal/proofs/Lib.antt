@@ -1,3 +1,4 @@
+pub mod OrderLemmas
 pub mod ExamplePipes
 pub mod ExamplePeers
 pub mod ExampleDrops

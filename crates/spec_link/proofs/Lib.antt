@@ -1,3 +1,4 @@
+mod ShortLemmas
 pub mod AcrossLemmas
 pub mod CountLemmas
 pub mod ExampleLemmas

@@ -1,10 +1,14 @@
 //! Links, sessions and listeners as definitions: their acts, the run of a link, a session's turn,
-//! and the rows that are read off its history.
+//! and the rows that are read off its history; and the topics that a session took for its peer, which
+//! it says again at each new link.
 #![tactic(auto)]
 
+mod again;
 mod due;
 mod laws;
 mod row;
+mod saying;
+mod topics;
 
 pub use due::Due;
 pub use laws::{
@@ -12,3 +16,4 @@ pub use laws::{
     what_is_said_whole_is_written, worked_links_run,
 };
 pub use row::{LinkEnd, ListenerRow, SessionRow};
+pub use topics::LinkTopics;

@@ -1,3 +1,4 @@
+pub mod Readings
 pub mod Count
 pub mod Source
 pub mod Sink

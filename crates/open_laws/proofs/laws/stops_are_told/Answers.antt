@@ -1,5 +1,0 @@
-use Rattle.open_laws.proofs.StopLemmas.{stops_are_told}
-use Rattle.open_laws.proofs.laws.stops_are_told.Goals as goal
-
-pub returns : goal.returns
-returns c start = stops_are_told _ _

@@ -1,5 +1,0 @@
-use Rattle.past_laws.proofs.HeldRowLemmas as lemmas
-use Rattle.past_laws.proofs.laws.held_rows_are_named.Goals as goal
-
-pub returns : goal.returns
-returns g c = lemmas.held_rows_are_named g.P.Pipes.known _ c.pipes_are_settled.ensures

@@ -1,5 +1,0 @@
-use Rattle.past_laws.proofs.SealLemmas as lemmas
-use Rattle.past_laws.proofs.laws.seals_are_new.Goals as goal
-
-pub returns : goal.returns
-returns g c = lemmas.seals_are_new _ _ _

@@ -1,9 +1,0 @@
-pub mod Peers
-pub mod Outcomes
-pub mod FirstRefusals
-pub mod Laws
-pub mod PeersLaw
-pub mod Whole
-pub mod Existence
-pub mod NamesExample
-pub mod OwnSteps

@@ -1,3 +1,0 @@
-mod StepLemmas
-mod ValueLemmas
-mod ReadLemmas

@@ -1,0 +1,5 @@
+use Rattle.spec_pattern.proofs.PumpLemmas.{a_pump_has_one}
+use Rattle.spec_pattern.proofs.patterns.a_pump_has_one_outcome.Goals as goal
+
+pub returns : goal.returns
+returns c = a_pump_has_one
