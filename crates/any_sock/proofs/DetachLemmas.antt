@@ -13,7 +13,7 @@ use Rattle.spec_pattern.specs.Duty.{Asked, Owing}
 use Rattle.spec_pattern.specs.Topics.{Topic}
 use Rattle.spec_pattern.specs.Pattern.{without, duty_without}
 use Rattle.spec_pattern.specs.Pattern as by_kind
-use Rattle.pattern_laws.specs.Peers.{in_turns}
+use Rattle.spec_pattern.specs.Peers.{in_turns}
 use Rattle.msg_pipe.specs.Turns.{without_place}
 use Rattle.by_turn.specs.BothTurns.{Both, without_turns}
 use Rattle.req_rep.specs.Partners.{without_partner}

@@ -19,7 +19,7 @@ use Rattle.spec_pattern.specs.declared.answers.RecvRefusal.TheVariants.{NotSuppo
 use Rattle.spec_pattern.specs.declared.answers.RecvAnswer.{RecvAnswer}
 use Rattle.spec_pattern.specs.declared.answers.RecvAnswer.TheVariants as got
 use Rattle.spec_pattern.specs.declared.answers.RecvFault.TheVariants as fault
-use Rattle.pattern_laws.specs.Peers.{partner_of}
+use Rattle.spec_pattern.specs.Peers.{partner_of}
 use Rattle.by_turn.specs.Calls.{Receives}
 use Rattle.by_turn.specs.BothTurns.{Both}
 use Rattle.req_rep.specs.Partners.{end_of}

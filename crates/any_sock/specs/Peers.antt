@@ -6,7 +6,7 @@ use Rattle.zq_base.specs.declared.ids.PairId.{PairId}
 use Rattle.spec_pattern.specs.PipeStep.{same_pipe}
 use Rattle.spec_pattern.specs.TurnList.{End}
 use Rattle.spec_pattern.specs.Pattern.{attach_answer, attach, detach}
-use Rattle.pattern_laws.specs.Peers.{pattern_kind}
+use Rattle.spec_pattern.specs.Peers.{pattern_kind}
 use Rattle.router_dealer.specs.Named.{IsIdentity, most_drawn}
 use Rattle.pub_sub.specs.Places.{is_place, AreApart, AreOthers}
 use Rattle.pub_sub.specs.Publishers.{kept_without}

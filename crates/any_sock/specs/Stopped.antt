@@ -15,7 +15,7 @@ use Rattle.spec_pattern.specs.declared.answers.Rule.{Rule}
 use Rattle.spec_pattern.specs.declared.answers.Rule.TheVariants.{Stray, BadEnv, Filtered}
 use Rattle.spec_pattern.specs.declared.answers.Skip.{Skip}
 use Rattle.spec_pattern.specs.declared.answers.RecvAnswer.TheVariants as got
-use Rattle.pattern_laws.specs.Peers.{partner_of}
+use Rattle.spec_pattern.specs.Peers.{partner_of}
 use Rattle.router_dealer.specs.Named.{Kept}
 use Rattle.pub_sub.specs.Hearing.{HearsThrough}
 use Rattle.pub_sub.specs.Telling.{TellsThrough}

@@ -1,6 +1,6 @@
 ghost use Rattle.std.specs.Prelude.{◌≡◌, ◌<◌, ◌↔◌, ℕ, All, IsTrue, IfOk, OnErr};
 ghost use Rattle.spec_pattern.specs.TurnList.{End};
-ghost use Rattle.pattern_laws.specs.Peers.{pattern_kind};
+ghost use Rattle.spec_pattern.specs.Peers.{pattern_kind};
 ghost use Rattle.any_sock.specs.Over.{peer_places, over};
 ghost use Rattle.any_sock.specs.Peers.{CanName, AttachedOver, DetachedOver, TakenBackOver, as_taken};
 ghost use Rattle.any_sock.specs.Fresh.{IsWithoutPeers};

@@ -5,8 +5,9 @@ ghost use Rattle.any_sock.specs.Over.{peer_places, partner_places, HaveSamePlace
 ghost use Rattle.any_sock.specs.Calls.{SentOver, SendUndone, SaidUntold, RecvDone, PumpedOver, PumpStopped};
 
 use crate::any_sock::AnySock;
+use crate::group::Group;
 use msg_pipe::Peers;
-use pub_sub::{XSendFault, passed_on};
+use pub_sub::XSendFault;
 use spec_pattern::{RecvFault, Sent, Skip};
 use std::alloc::{AllocError, Global};
 use zq_base::{Message, PairId};
@@ -34,18 +35,10 @@ impl AnySock {
         ensures left { left_of self.new ≡ left_of self.old }
         ensures keeps { KeepsPlaces E.here E.end_at E.writable peers.old peers.new }
     {
-        match self {
-            AnySock::Push(push) => return passed_on(push.send(peers, message)),
-            AnySock::Pull(pull) => return passed_on(pull.send(peers, message)),
-            AnySock::Pair(pair) => return passed_on(pair.send(peers, message)),
-            AnySock::Dealer(dealer) => return passed_on(dealer.send(peers, message)),
-            AnySock::Req(req) => return passed_on(req.send(peers, message)),
-            AnySock::Rep(rep) => return passed_on(rep.send(peers, message)),
-            AnySock::Router(router) => return passed_on(router.send(peers, message)),
-            AnySock::Pub(publisher) => return passed_on(publisher.send(alloc, peers, message)),
-            AnySock::XPub(publisher) => return passed_on(publisher.send(alloc, peers, message)),
-            AnySock::Sub(subscriber) => return passed_on(subscriber.send(peers, message)),
-            AnySock::XSub(subscriber) => return subscriber.send(alloc, peers, message),
+        match self.group() {
+            Group::Pipeline => return self.send_pipeline(peers, message),
+            Group::RequestReply => return self.send_request_reply(peers, message),
+            Group::PublishSubscribe => return self.send_publish_subscribe(alloc, peers, message),
         }
     }
 
@@ -63,18 +56,10 @@ impl AnySock {
         ensures places { HaveSamePlaces (peer_places self.old) (peer_places self.new) }
         ensures keeps { KeepsPlaces E.here E.end_at E.writable peers.old peers.new }
     {
-        match self {
-            AnySock::Push(push) => return push.recv(peers),
-            AnySock::Pull(pull) => return pull.recv(peers),
-            AnySock::Pair(pair) => return pair.recv(peers),
-            AnySock::Dealer(dealer) => return dealer.recv(peers),
-            AnySock::Req(req) => return req.recv(peers, skips),
-            AnySock::Rep(rep) => return rep.recv(peers, skips),
-            AnySock::Router(router) => return router.recv(peers),
-            AnySock::Pub(publisher) => return publisher.recv(peers),
-            AnySock::XPub(publisher) => return publisher.recv(alloc, peers),
-            AnySock::Sub(subscriber) => return subscriber.recv(peers, skips),
-            AnySock::XSub(subscriber) => return subscriber.recv(peers),
+        match self.group() {
+            Group::Pipeline => return self.recv_pipeline(peers),
+            Group::RequestReply => return self.recv_request_reply(peers, skips),
+            Group::PublishSubscribe => return self.recv_publish_subscribe(alloc, peers, skips),
         }
     }
 

@@ -5,7 +5,11 @@
 mod any_sock;
 mod calls;
 mod change_fault;
+mod group;
 mod laws;
+mod pipeline;
+mod publish_subscribe;
+mod request_reply;
 mod topics;
 
 pub use any_sock::AnySock;
