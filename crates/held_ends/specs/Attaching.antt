@@ -2,7 +2,7 @@
 use Rattle.std.specs.Prelude.{◌≡◌, ◌<◌, ◌++◌, ℕ, Bool, true, false, [], ◌∷◌, Some, None, slice_set, vec_len, vec_capacity}
 use Rattle.zq_base.specs.declared.ids.EndId.{EndId}
 use Rattle.ends.specs.declared.row.EndRow.{EndRow}
-use Rattle.ctl_holder.specs.declared.halves.Halves.{Halves}
+use Rattle.ctl_plane.specs.declared.halves.Halves.{Halves}
 use Rattle.spec_control.specs.declared.end.EndState.TheVariants.{Active}
 use Rattle.held_ends.specs.declared.table.Place.{Place}
 use Rattle.held_ends.specs.declared.table.EndTable.{EndTable}

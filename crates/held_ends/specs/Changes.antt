@@ -4,7 +4,7 @@ use Rattle.std.specs.Option.{option_or}
 use Rattle.zq_base.specs.Ends.{other_end}
 use Rattle.zq_base.specs.declared.ids.EndId.{EndId}
 use Rattle.spec_control.specs.Control.{is_end}
-use Rattle.http_server.specs.declared.log.Log.{Log}
+use Rattle.zq_base.specs.declared.log.Log.{Log}
 use Rattle.spec_pattern.specs.Half.{with_delimiter, without_parts}
 use Rattle.msg_pipe.specs.Known.{Known, IsThere, KeepsAll, KeepsButOut, KeepsButPipe, MakesPipe}
 use Rattle.held_ends.specs.declared.changes.PipeChange.{PipeChange}

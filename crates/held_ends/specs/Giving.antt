@@ -4,9 +4,9 @@ use Rattle.zq_base.specs.declared.ids.EndId.{EndId}
 use Rattle.spec_control.specs.declared.end.EndState.{EndState}
 use Rattle.spec_control.specs.declared.entry.Joining.{Joining}
 use Rattle.msg_pipe.specs.Known.{Known}
-use Rattle.ctl_holder.specs.declared.given.Given.{Given}
-use Rattle.ctl_holder.specs.Holding.{given_as}
-use Rattle.ctl_holder.specs.TakingOver.{IsGivenWith, AreGivenWith}
+use Rattle.ctl_plane.specs.declared.given.Given.{Given}
+use Rattle.ctl_plane.specs.Holding.{given_as}
+use Rattle.ctl_plane.specs.TakingOver.{IsGivenWith, AreGivenWith}
 use Rattle.held_ends.specs.declared.table.Place.{Place}
 use Rattle.held_ends.specs.Places.{place_at}
 

@@ -4,7 +4,7 @@ use Rattle.msg_pipe.specs.Known.{Known, IsThere, IsElse}
 use Rattle.ends.specs.Rows.{Rows, Table}
 use Rattle.ends.specs.Runs.{DoesAll, seals}
 use Rattle.spec_pattern.specs.PipeStep.{PipeStep}
-use Rattle.ctl_holder.specs.declared.halves.Halves.{Halves}
+use Rattle.ctl_plane.specs.declared.halves.Halves.{Halves}
 use Rattle.held_ends.specs.declared.table.Place.{Place}
 use Rattle.held_ends.specs.declared.table.EndTable.{EndTable}
 use Rattle.held_ends.specs.Places.{place_at}

@@ -5,7 +5,7 @@ use Rattle.spec_control.specs.declared.end.EndState.TheVariants.{Active, Delimit
 use Rattle.msg_pipe.specs.Known.{Known, IsThere, IsElse}
 use Rattle.ends.specs.declared.row.EndRow.{EndRow}
 use Rattle.ends.specs.Rows.{Rows, row_at}
-use Rattle.ctl_holder.specs.declared.halves.Halves.{Halves}
+use Rattle.ctl_plane.specs.declared.halves.Halves.{Halves}
 use Rattle.held_ends.specs.declared.table.Place.{Place}
 use Rattle.held_ends.specs.Places.{place_at}
 

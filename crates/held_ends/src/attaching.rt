@@ -1,6 +1,6 @@
 ghost use Rattle.std.specs.Prelude.{◌≡◌, [], List, true, false, OnOk, IfOk, IfErr};
 ghost use Rattle.std.specs.List.{list_any};
-ghost use Rattle.ctl_holder.specs.Holding.{IsCapacity, AreCrossed};
+ghost use Rattle.ctl_plane.specs.Holding.{IsCapacity, AreCrossed};
 ghost use Rattle.held_ends.specs.Places.{is_of};
 ghost use Rattle.held_ends.specs.Sound.{IsSound, Fits};
 ghost use Rattle.held_ends.specs.Attaching.{new_place, new_row, halves_of, Attached, Unchanged, HasRoom, TakenBack};
@@ -13,13 +13,12 @@ ghost use Rattle.held_ends.specs.Others.{Leaves};
 use crate::changes::PipeChange;
 use crate::pipes::HeldPipes;
 use crate::table::{EndTable, Place};
-use ctl_holder::{Halves, Made};
+use ctl_plane::{Halves, Made};
 use ends::EndRow;
-use http_server::Log;
 use msg_pipe::Pipes;
 use spec_control::EndState;
 use std::alloc::{AllocError, AllocFailed, Global};
-use zq_base::EndId;
+use zq_base::{EndId, Log};
 
 /// Room for one end more, with its halves in the box in which they are to stand: all of an attach
 /// that takes memory. Want of memory hands the halves back.

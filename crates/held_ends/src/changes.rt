@@ -1,5 +1,4 @@
-use http_server::Log;
-use zq_base::EndId;
+use zq_base::{EndId, Log};
 
 /// What was done to a pipe, for proofs alone.
 #[derive(Drop)]

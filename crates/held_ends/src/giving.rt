@@ -1,5 +1,5 @@
 ghost use Rattle.std.specs.Prelude.{◌≡◌, ◌≤◌, [], false, true, Some, None, is_some, length, vec_capacity};
-ghost use Rattle.ctl_holder.specs.Holding.{given_as};
+ghost use Rattle.ctl_plane.specs.Holding.{given_as};
 ghost use Rattle.held_ends.specs.Sound.{IsSound};
 ghost use Rattle.held_ends.specs.Halving.{StandsAt};
 ghost use Rattle.held_ends.specs.Others.{Leaves};
@@ -7,7 +7,7 @@ ghost use Rattle.held_ends.specs.Giving.{AreGone, AreGiven, GivenAt, said_in, gi
 
 use crate::pipes::HeldPipes;
 use crate::table::{EndTable, Place};
-use ctl_holder::Given;
+use ctl_plane::Given;
 use ends::EndRow;
 use msg_pipe::Pipes;
 use spec_control::Joining;

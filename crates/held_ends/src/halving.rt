@@ -12,10 +12,9 @@ ghost use Rattle.held_ends.specs.Halving.{StandsAt, WritesAt, ReadsAt, StatedAt,
 use crate::changes::PipeChange;
 use crate::table::{EndTable, Place};
 use ends::EndRow;
-use http_server::Log;
 use msg_pipe::Pipes;
 use spec_control::EndState;
-use zq_base::{EndId, Settled};
+use zq_base::{EndId, Log, Settled};
 
 /// The end at a place goes to a state of its life, and is a peer of its socket's kind then or none.
 /// It is written while it is Active, and its pipe has no delimiter.

@@ -1,7 +1,6 @@
 use ends::EndRow;
-use http_server::Log;
 use spec_control::EndState;
-use zq_base::EndId;
+use zq_base::{EndId, Log};
 
 /// An end at the place of its attachment. Both its halves lie in a row of the table until it gives
 /// its writing half away; from then on the place has the reading half.

@@ -9,7 +9,7 @@ use Rattle.spec_control.specs.declared.letter.Word.{Word}
 use Rattle.spec_control.specs.declared.letter.Word.TheVariants.{PipeTerm}
 use Rattle.spec_control.specs.declared.entry.SeenEmpty.TheVariants.{Mailbox}
 use Rattle.spec_control.specs.Control.{Control, place_of}
-use Rattle.control_held.specs.Moments.{Moment, left_by}
+use Rattle.spec_control.specs.Moments.{Moment, left_by}
 use Rattle.msg_pipe.specs.declared.pipes.Front.TheVariants.{Message, Empty, Delimiter}
 use Rattle.spec_run.specs.Act.{Act, Step, Said, moment_of, moments_in}
 use Rattle.spec_run.specs.OpenSocket.{OpenSock, awaits_delimiter, waiting_ends, PassesItems, sock_after}

@@ -13,7 +13,7 @@ use Rattle.spec_control.specs.declared.request.Req.TheVariants.{Close}
 use Rattle.spec_control.specs.declared.request.Reply.TheVariants.{Done}
 use Rattle.spec_control.specs.declared.entry.SeenEmpty.TheVariants.{Mailbox}
 use Rattle.spec_control.specs.Control.{Control, id, place_of}
-use Rattle.control_held.specs.Moments.{Moment, left_by}
+use Rattle.spec_control.specs.Moments.{Moment, left_by}
 use Rattle.msg_pipe.specs.Told.{front_step}
 use Rattle.msg_pipe.specs.declared.pipes.Front.{Front}
 use Rattle.spec_run.specs.declared.journal.LineAnswer.{LineAnswer}

@@ -1,6 +1,6 @@
 ghost use Rattle.std.specs.Prelude.{◌≡◌, ℕ, List, IfOk, OnOk, OnErr};
 ghost use Rattle.zq_base.specs.declared.ids.EndId.{EndId};
-ghost use Rattle.control_held.specs.Moments.{Moment};
+ghost use Rattle.spec_control.specs.Moments.{Moment};
 ghost use Rattle.spec_run.specs.Act.{Act};
 ghost use Rattle.spec_run.specs.OpenSocket.{OpenSock};
 

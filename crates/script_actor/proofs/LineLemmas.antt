@@ -9,7 +9,7 @@ use Rattle.zq_base.specs.declared.options.Options.{Options}
 use Rattle.zq_script.specs.declared.script.Call.TheVariants as call
 use Rattle.spec_pattern.specs.PatternCalls.{Subscribe, Unsubscribe}
 use Rattle.spec_pattern.specs.declared.answers.Skip.{Skip}
-use Rattle.control_held.specs.OwnAsks.{is_none}
+use Rattle.spec_control.specs.OwnAsks.{is_none}
 use Rattle.spec_control.specs.declared.request.Refusal.{Refusal}
 use Rattle.spec_control.specs.declared.request.Reply.TheVariants as reply
 use Rattle.spec_journal.specs.declared.journal.Answer.TheVariants as answer

@@ -6,7 +6,7 @@ use Rattle.std.proofs.lemmas.Bool.{eq-eqb, ne_eqb}
 use Rattle.std.proofs.lemmas.List.{map-append}
 use Rattle.std.proofs.lemmas.Option.{slice_get_read, slice_get_within}
 use Rattle.zq_base.specs.declared.ids.ObjId.{ObjId}
-use Rattle.control_held.specs.OwnAsks.{is_none}
+use Rattle.spec_control.specs.OwnAsks.{is_none}
 use Rattle.spec_run.specs.OpenSocket.{OpenSock}
 use Rattle.spec_run.specs.Standing.{object_named, open_numbered}
 use Rattle.script_actor.specs.Way.{KeepsOthers, KeepsAll}

@@ -2,7 +2,7 @@
 use Rattle.std.specs.Prelude.{◌≡◌, ℕ, Bool, false, List, [], ◌∷◌, ◌++◌, flat_map}
 use Rattle.spec_pattern.specs.PipeStep.{PipeStep}
 use Rattle.spec_pattern.specs.declared.answers.Skip.{Skip}
-use Rattle.control_held.specs.Held.{caller_of}
+use Rattle.spec_control.specs.Held.{caller_of}
 use Rattle.spec_run.specs.Act.{Act, Step, Said, Deed, acts_of, all_acts, steps_in}
 use Rattle.spec_run.specs.Fate.{skips_of}
 

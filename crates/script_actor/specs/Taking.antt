@@ -4,7 +4,7 @@ use Rattle.std.specs.List.{list_any}
 use Rattle.zq_base.specs.declared.ids.ObjId.{ObjId}
 use Rattle.spec_control.specs.Control.{Control, begun}
 use Rattle.spec_control.specs.ControlRun.{after_all}
-use Rattle.control_held.specs.Moments.{items_in}
+use Rattle.spec_control.specs.Moments.{items_in}
 use Rattle.spec_run.specs.Act.{Act, moments_in}
 use Rattle.spec_run.specs.Event.{TakesLetter}
 use Rattle.spec_run.specs.OpenSocket.{OpenSock, PassesItems}

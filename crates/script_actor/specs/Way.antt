@@ -9,7 +9,7 @@ use Rattle.spec_control.specs.declared.request.Req.TheVariants.{Socket as MakeSo
 use Rattle.spec_control.specs.declared.request.Reply.{Reply}
 use Rattle.spec_control.specs.declared.request.Reply.TheVariants as reply
 use Rattle.spec_control.specs.Control.{id}
-use Rattle.control_held.specs.Moments.{Moment}
+use Rattle.spec_control.specs.Moments.{Moment}
 use Rattle.spec_run.specs.declared.journal.LineAnswer.{LineAnswer}
 use Rattle.spec_run.specs.declared.line.LineCall.{LineCall}
 use Rattle.spec_run.specs.declared.line.LineCall.TheVariants.{Asks, Unbinds, Disconnects, Closes, Terms}

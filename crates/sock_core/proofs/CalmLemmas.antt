@@ -10,7 +10,7 @@ use Rattle.spec_control.specs.Place.{At}
 use Rattle.spec_run.specs.OpenSocket.{is_out}
 use Rattle.msg_pipe.specs.Known.{Known}
 use Rattle.ends.specs.Rows.{Rows}
-use Rattle.ctl_holder.specs.Lent.{has_writer}
+use Rattle.ctl_plane.specs.Lent.{has_writer}
 use Rattle.held_ends.specs.declared.changes.PipeChange.{PipeChange}
 use Rattle.held_ends.specs.declared.table.Place.{Place}
 use Rattle.held_ends.specs.Places.{place_at, is_of}

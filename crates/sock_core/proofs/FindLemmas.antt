@@ -8,7 +8,7 @@ use Rattle.zq_base.specs.declared.ids.EndId.{EndId}
 use Rattle.spec_control.specs.Control.{end_of, is_end, same_side}
 use Rattle.msg_pipe.specs.Known.{Known}
 use Rattle.ends.specs.Rows.{Rows}
-use Rattle.ctl_holder.specs.Holding.{has_end}
+use Rattle.ctl_plane.specs.Holding.{has_end}
 use Rattle.held_ends.specs.declared.table.Place.{Place}
 use Rattle.held_ends.specs.Places.{IsOnce, place_at, held_of, held_in, is_of}
 use Rattle.held_ends.specs.Sound.{IsSound}

@@ -21,7 +21,7 @@ use Rattle.held_ends.specs.Sound.{IsSound}
 use Rattle.held_ends.proofs.SoundLemmas.{one_some}
 use Rattle.sock_core.specs.Peers.{ArePeers, AreFlagged, peer_at, peer_of}
 use Rattle.sock_core.specs.Patterns.{GoesAs}
-use Rattle.ctl_holder.specs.Holding.{is_state}
+use Rattle.ctl_plane.specs.Holding.{is_state}
 use Rattle.spec_control.specs.declared.entry.Joining.{Joining}
 use Rattle.std.proofs.lemmas.List.{append-nil}
 use Rattle.sock_core.specs.Patterns.{StaysAs}

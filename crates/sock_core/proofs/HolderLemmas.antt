@@ -6,8 +6,8 @@ use Rattle.zq_base.specs.declared.ids.EndId.{EndId}
 use Rattle.zq_base.specs.declared.kind.Kind.{Kind}
 use Rattle.spec_control.specs.declared.end.EndState.{EndState}
 use Rattle.spec_control.specs.Control.{is_end}
-use Rattle.control_held.specs.Held.{Held}
-use Rattle.ctl_holder.specs.Holding.{BeginsNone, Yielded, Left, KeepsTurns, TurnsTo, Seals, IsLast, is_state, has_end, without_end, read_in, written_in}
+use Rattle.spec_control.specs.Held.{Held}
+use Rattle.ctl_plane.specs.Holding.{BeginsNone, Yielded, Left, KeepsTurns, TurnsTo, Seals, IsLast, is_state, has_end, without_end, read_in, written_in}
 use Rattle.held_ends.specs.declared.table.Place.{Place}
 use Rattle.held_ends.specs.Places.{place_at, held_of, held_in, is_of, writes_of, writes_in, met_of}
 use Rattle.held_ends.proofs.SoundLemmas.{one_some}

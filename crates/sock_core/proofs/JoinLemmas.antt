@@ -9,8 +9,8 @@ use Rattle.zq_base.specs.declared.kind.Kind.{Kind}
 use Rattle.spec_control.specs.declared.end.EndState.{EndState}
 use Rattle.spec_control.specs.declared.end.EndState.TheVariants.{Active}
 use Rattle.spec_control.specs.Control.{is_end}
-use Rattle.control_held.specs.Held.{Held}
-use Rattle.ctl_holder.specs.Holding.{Joined, BeginsActive, has_end}
+use Rattle.spec_control.specs.Held.{Held}
+use Rattle.ctl_plane.specs.Holding.{Joined, BeginsActive, has_end}
 use Rattle.held_ends.specs.declared.table.Place.{Place}
 use Rattle.held_ends.specs.Places.{held_of, held_in, is_of, writes_of, writes_in, met_of, met_in}
 use Rattle.held_ends.specs.Attaching.{new_place}

@@ -10,7 +10,7 @@ use Rattle.spec_pattern.specs.Pattern.{Pattern, attach_answer, attach_as, detach
 use Rattle.spec_control.specs.declared.end.EndState.{EndState}
 use Rattle.spec_control.specs.declared.entry.Joining.{Joining}
 use Rattle.spec_control.specs.Place.{At}
-use Rattle.control_held.specs.OwnAsks.{is_none}
+use Rattle.spec_control.specs.OwnAsks.{is_none}
 use Rattle.spec_run.specs.OpenSocket.{is_out, attach_all, detach_all, AreAnswered}
 use Rattle.held_ends.specs.declared.table.Place.{Place}
 use Rattle.held_ends.specs.Places.{place_at}

@@ -7,7 +7,7 @@ use Rattle.held_ends.specs.declared.table.Place.{Place}
 use Rattle.held_ends.specs.Places.{place_at}
 use Rattle.msg_pipe.specs.Known.{Known}
 use Rattle.held_ends.specs.declared.changes.PipeChange.{PipeChange}
-use Rattle.ctl_holder.specs.declared.halves.Halves.{Halves}
+use Rattle.ctl_plane.specs.declared.halves.Halves.{Halves}
 use Rattle.held_ends.specs.Sound.{Fits}
 use Rattle.held_ends.specs.Changes.{sealings_in, WereHeld, AreMadeFor, IsMadeAt, DoesChanges}
 

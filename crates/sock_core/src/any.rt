@@ -6,7 +6,7 @@ use zq_base::{Attached, Octets, PairId};
 impl Joins for AnySock {
     ghost use Rattle.std.specs.Prelude.{◌≡◌};
     ghost use Rattle.std.specs.Coded.{codes};
-    ghost use Rattle.pattern_laws.specs.Peers.{pattern_kind};
+    ghost use Rattle.spec_pattern.specs.Peers.{pattern_kind};
     ghost use Rattle.any_sock.specs.Over.{over, peer_places, left_of, nothing_left};
     ghost use Rattle.any_sock.specs.Peers.{CanName};
     ghost use Rattle.any_sock.specs.Told.{IsToldByPeers};

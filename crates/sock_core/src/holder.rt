@@ -16,13 +16,12 @@ use crate::joint::{joint_of, note_back, note_join, note_turn};
 use crate::since::{Since, Undoing};
 use crate::sock::{Room, SockCore};
 use crate::turns::{note, note_heard, note_seal, stays, unjoin};
-use ctl_holder::{Given, Halves, Holder, Made, Notice, Parting, Undoes};
+use ctl_plane::{Given, Halves, Holder, Made, Notice, Parting, Undoes};
 use held_ends::{EndTable, HeldPipes, PipeChange, find};
-use http_server::Log;
 use spec_control::EndState;
 use std::alloc::{AllocError, AllocFailed, Global};
 use std::marker::{Brand, PhantomData};
-use zq_base::{Address, Attached, EndId, Kind, ObjId, Octets, Options, Seq, Settled};
+use zq_base::{Address, Attached, EndId, Kind, Log, ObjId, Octets, Options, Seq, Settled};
 
 /// A socket with the pipes of its ends, for a stretch of calls.
 #[derive(Drop)]
@@ -119,11 +118,11 @@ where
 {
     ghost use Rattle.std.specs.Prelude.{◌≡◌, ◌∷◌, [], true, false, List, map, OnOk, OnErr, IfOk, IfErr};
     ghost use Rattle.zq_base.specs.declared.ids.EndId.{EndId};
-    ghost use Rattle.ctl_holder.specs.Holding.{held_with, held_optional, held_given};
-    ghost use Rattle.ctl_holder.specs.Holding.{Joined, BeginsActive, MayRefuse, Stays, KeepsTurns};
-    ghost use Rattle.ctl_holder.specs.Holding.{HasNowhere, HearsNone, JoinsBy, joining_with};
-    ghost use Rattle.ctl_holder.specs.Holding.{IsPlugged, Begins, AreAtDelimiter, writes_in};
-    ghost use Rattle.ctl_holder.specs.Holding.{states_optional, states_given};
+    ghost use Rattle.ctl_plane.specs.Holding.{held_with, held_optional, held_given};
+    ghost use Rattle.ctl_plane.specs.Holding.{Joined, BeginsActive, MayRefuse, Stays, KeepsTurns};
+    ghost use Rattle.ctl_plane.specs.Holding.{HasNowhere, HearsNone, JoinsBy, joining_with};
+    ghost use Rattle.ctl_plane.specs.Holding.{IsPlugged, Begins, AreAtDelimiter, writes_in};
+    ghost use Rattle.ctl_plane.specs.Holding.{states_optional, states_given};
     ghost use Rattle.held_ends.specs.Counting.{counts_of};
     ghost use Rattle.sock_core.specs.Has.{holding_in};
     ghost use Rattle.sock_core.specs.Noted.{FitsFor};

@@ -1,11 +1,10 @@
 use crate::joint::JoinNote;
-use ctl_holder::{Given, Notice};
+use ctl_plane::{Given, Notice};
 use held_ends::EndTable;
-use http_server::Log;
 use spec_control::{EndState, Joining};
 use std::alloc::AllocError;
 use std::mem;
-use zq_base::{EndId, ObjId, Octets};
+use zq_base::{EndId, Log, ObjId, Octets};
 
 /// A socket: its kind and its ends by places.
 #[derive(Drop)]

@@ -1,7 +1,7 @@
 ghost use Rattle.std.specs.Prelude.{◌≡◌, ◌++◌, ◌∷◌, [], true, false, map, if◌then◌else◌};
 ghost use Rattle.spec_control.specs.Place.{At};
 ghost use Rattle.spec_run.specs.OpenSocket.{is_out};
-ghost use Rattle.ctl_holder.specs.Holding.{is_state};
+ghost use Rattle.ctl_plane.specs.Holding.{is_state};
 ghost use Rattle.std.specs.List.{list_any};
 ghost use Rattle.sock_core.specs.Has.{is_stop};
 ghost use Rattle.sock_core.specs.Turns.{state_number};
@@ -9,10 +9,9 @@ ghost use Rattle.sock_core.specs.Peers.{Parts, StaysPeer};
 ghost use Rattle.sock_core.specs.Patterns.{GoesAs, StaysAs, UndoesAs};
 
 use crate::joins::Joins;
-use ctl_holder::Notice;
-use http_server::Log;
+use ctl_plane::Notice;
 use spec_control::EndState;
-use zq_base::{EndId, PairId};
+use zq_base::{EndId, Log, PairId};
 
 /// Notes that an end goes from one state to another, if they are two.
 pub fn note(turns: &mut Log<EndId, EndState>, end: EndId, was: EndState, state: EndState)

@@ -12,9 +12,9 @@ use Rattle.spec_control.specs.declared.entry.Item.TheVariants.{Event, Seen}
 use Rattle.spec_control.specs.declared.entry.SeenEmpty.TheVariants.{Nothing}
 use Rattle.spec_control.specs.Control.{Control, begun}
 use Rattle.spec_control.specs.ControlRun.{after_item}
-use Rattle.control_held.specs.OwnAsks.{is_none}
-use Rattle.control_held.specs.Held.{caller_of}
-use Rattle.control_held.specs.Moments.{Moment, moments_from}
+use Rattle.spec_control.specs.OwnAsks.{is_none}
+use Rattle.spec_control.specs.Held.{caller_of}
+use Rattle.spec_control.specs.Moments.{Moment, moments_from}
 use Rattle.spec_run.specs.Act.{Act, Step, Said, moment_of, moments_in, Deed, Tries, Shuts, Fetches, Idles, Works, Looks, AsksRoot, Reads, all_acts}
 use Rattle.spec_run.specs.Event.{IsLookAt, seals_in}
 use Rattle.spec_run.specs.LineCall.{RunScript}

@@ -10,8 +10,8 @@ use Rattle.spec_pattern.specs.PipeStep.{PipeStep, AreExact, Seal}
 use Rattle.spec_control.specs.declared.entry.Item.{Item}
 use Rattle.spec_control.specs.Control.{Control, begun}
 use Rattle.spec_control.specs.ControlRun.{after_all}
-use Rattle.control_held.specs.Held.{caller_of}
-use Rattle.control_held.specs.Moments.{moments_from, moments_by}
+use Rattle.spec_control.specs.Held.{caller_of}
+use Rattle.spec_control.specs.Moments.{moments_from, moments_by}
 use Rattle.spec_run.specs.declared.journal.ActorLines.{ActorLines}
 use Rattle.spec_run.specs.LineCall.{RunScript}
 use Rattle.spec_run.specs.Act.{Act, Deed, all_acts, steps_in, moments_in}

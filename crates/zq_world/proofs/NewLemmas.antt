@@ -14,6 +14,9 @@ both_more : {X Y Z : Type 0} (f : X → Z) (h : Y → Z) (xs : List X) (x : X) (
 both_more f h xs x ys y same one =
     map-append f xs (x ∷ []) ∙ (ap (λ l. l ++ f x ∷ []) same ∙ (ap (λ z. map h ys ++ z ∷ []) one ∙ sym (map-append h ys (y ∷ []))))
 
+pub one_more : {X Y : Type 0} (f : X → Y) (xs : List X) (x : X) (ys : List Y) (y : Y) → ys ≡ map f xs → y ≡ f x → ys ++ y ∷ [] ≡ map f (xs ++ x ∷ [])
+one_more f xs x ys y same one = ap (λ l. l ++ y ∷ []) same ∙ (ap (λ z. map f xs ++ z ∷ []) one ∙ sym (map-append f xs (x ∷ [])))
+
 all_more : {X : Type 0} (P : X → Type 0) (xs : List X) (x : X) → AllByRecursion P xs → P x → AllByRecursion P (xs ++ x ∷ [])
 all_more P [] x h p = (p, tt)
 all_more P (y ∷ ys) x h p = (h.0, all_more P ys x h.1 p)

@@ -5,13 +5,13 @@ use Rattle.std.specs.List.{AllByRecursion, range_with_len}
 use Rattle.std.proofs.lemmas.List.{map-append}
 use Rattle.std.proofs.Math.Seq.{take-append_seam}
 use Rattle.zq_base.specs.Ends.{PipeId}
-use Rattle.clock_reads.specs.Readings.{ClockAt, GoesOn}
+use Rattle.zq_outer.specs.Readings.{ClockAt, GoesOn}
 use Rattle.spec_pattern.specs.PipeStep.{PipeStep, AreExact}
 use Rattle.spec_control.specs.declared.entry.Item.{Item}
 use Rattle.spec_control.specs.Rows.{PairRow}
 use Rattle.spec_control.specs.Control.{Control, begun, end_of}
 use Rattle.spec_control.specs.ControlRun.{after_all}
-use Rattle.control_held.specs.Moments.{moments_from}
+use Rattle.spec_control.specs.Moments.{moments_from}
 use Rattle.spec_journal.specs.Run.{Schedule}
 use Rattle.spec_run.specs.declared.journal.LineEntry.{LineEntry}
 use Rattle.spec_run.specs.declared.journal.ActorLines.{ActorLines}
@@ -245,7 +245,3 @@ module _ {N S : Type 0} where
   unfolding journal_so
   journal_timed script schedule lines pieces order shown clock clock_now timed shows =
       record { is_journal = journal_so script schedule lines pieces order shown timed.plays shows; reads = timed.reads }
-
-  -- the clock went on
-  pub played_on : (script : RunScript) (seed limit : ℕ) (lines : List ActorLines) (pieces : List (Piece N S)) (order : List (Item N S)) (clock clock_now : ClockAt) → PlaysTimed script seed limit lines pieces order clock clock_now → GoesOn clock clock_now
-  played_on script seed limit lines pieces order clock clock_now timed = (readings_of timed.plays.turned, timed.reads)

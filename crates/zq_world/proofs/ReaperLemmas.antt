@@ -2,7 +2,7 @@
 use Rattle.std.proofs.Common.{◌≡◌, ◌+◌, ℕ, List, [], ◌∷◌, ◌++◌, Bool, true, false, length, refl, sym, subst, true≢false, arith}
 use Rattle.std.specs.Prelude.{◌==◌, flat_map}
 use Rattle.std.proofs.lemmas.Bool.{eqb-true, eq-eqb}
-use Rattle.clock_reads.specs.Readings.{ClockAt}
+use Rattle.zq_outer.specs.Readings.{ClockAt}
 use Rattle.spec_pattern.specs.declared.answers.Skip.{Skip}
 use Rattle.spec_run.specs.Act.{Act, Deed, acts_of}
 use Rattle.spec_run.specs.Fate.{skips_of}

@@ -3,7 +3,7 @@ use Rattle.std.proofs.Common.{◌≡◌, ℕ, List, [], ◌∷◌, Bool, true, f
 use Rattle.std.specs.Prelude.{◌==◌, slice_get}
 use Rattle.std.specs.List.{list_any}
 use Rattle.spec_control.specs.Control.{Control}
-use Rattle.control_held.specs.Moments.{reaper_slots}
+use Rattle.spec_control.specs.Moments.{reaper_slots}
 use Rattle.spec_run.specs.Standing.{ActorStanding, has_finished}
 use Rattle.spec_run.specs.CoreEvents.{CoreEvent, NextLine, TakeFrom, AskRoot, Tick, Made, may_take, actor_with, StepsUnless, LineDoes, TakenBy, TakeDoes, EventDoes}
 use Rattle.zq_world.specs.RefusedEvents.{RefusedEvents}

@@ -5,8 +5,8 @@ use Rattle.std.specs.List.{list_all, range_with_len}
 use Rattle.std.proofs.lemmas.Grind.{flat_map-append}
 use Rattle.std.proofs.lemmas.List.{map-append}
 use Rattle.std.proofs.lemmas.Option.{slice_get_within, slice_get-get_or}
-use Rattle.clock_reads.specs.Readings.{ClockAt, ReadsClock, GoesOn}
-use Rattle.clock_reads.proofs.ClockLemmas.{reads_more}
+use Rattle.zq_outer.specs.Readings.{ClockAt, ReadsClock, GoesOn}
+use Rattle.zq_outer.proofs.ClockLemmas.{reads_more}
 use Rattle.spec_control.specs.declared.object.ObjState.{ObjState}
 use Rattle.spec_control.specs.declared.object.ObjState.TheVariants.{Live, Asked, Ended}
 use Rattle.spec_journal.specs.Turn.{IsOrder}

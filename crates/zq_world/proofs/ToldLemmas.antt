@@ -7,9 +7,9 @@ use Rattle.std.proofs.lemmas.List.{length-map}
 use Rattle.std.proofs.lemmas.List.FromFn.{length-range_with_len}
 use Rattle.std.proofs.lemmas.List.Elements.{filter-append, filter_map-append}
 use Rattle.spec_control.specs.declared.entry.Item.{Item}
-use Rattle.control_held.specs.Held.{caller_of}
+use Rattle.spec_control.specs.Held.{caller_of}
 use Rattle.spec_control.specs.Control.{begun}
-use Rattle.control_held.specs.Moments.{Moment, moments_by, moments_from}
+use Rattle.spec_control.specs.Moments.{Moment, moments_by, moments_from}
 use Rattle.spec_run.specs.Act.{Act, Step, Said, moment_of, moments_in, Deed, Looks, Reads, all_acts}
 use Rattle.spec_run.specs.LineCall.{RunScript}
 use Rattle.spec_run.specs.OpenSocket.{OpenSock}

@@ -6,7 +6,7 @@ use Rattle.std.proofs.lemmas.Bool.{eqb-true, eqb-false}
 use Rattle.std.proofs.lemmas.Grind.{flat_map-append}
 use Rattle.std.proofs.lemmas.List.Elements.{filter-append}
 use Rattle.spec_pattern.specs.declared.answers.Skip.{Skip}
-use Rattle.control_held.specs.Moments.{Moment}
+use Rattle.spec_control.specs.Moments.{Moment}
 use Rattle.spec_run.specs.Act.{Act, Deed, Looks, Reads, acts_of}
 use Rattle.spec_run.specs.Fate.{skips_of}
 use Rattle.spec_run.specs.OwnedRun.{deeds_in}

@@ -1,5 +1,7 @@
 -- A world at its making, behind an event, and where memory was wanting.
 use Rattle.std.proofs.Common.{◌≡◌, ℕ, List, [], ◌∷◌, ◌++◌, true, false, length, map, take, drop, sym, subst, ◌∙◌, true≢false}
+use Rattle.std.specs.Prelude.{Result, Ok, Err, IfOk, OnOk}
+use Rattle.std.specs.Result.{result_and}
 use Rattle.std.proofs.lemmas.List.{map-append}
 use Rattle.spec_run.specs.LineCall.{RunScript}
 use Rattle.spec_run.specs.OpenSocket.{OpenSock}
@@ -14,6 +16,11 @@ use Rattle.zq_world.specs.declared.event.Event.{Event}
 use Rattle.zq_world.specs.ByEvents.{core_event, known_of, DoesEvent, HasRun, HasDone, IsWorld}
 use Rattle.zq_world.proofs.EventLemmas.{has_none, has_more, alone_run}
 use Rattle.zq_world.proofs.PlayLemmas.{new_agree, written_back}
+
+-- what both gave, where what the first tells leads to what the second has
+pub both_ok : {T U E : Type 0} (r : Result T E) (s : Result U E) (Q : Type 0) (P : U → Type 0) → OnOk r Q → (Q → IfOk s P) → IfOk (result_and r s) P
+both_ok (Ok x) s Q P q h = h q
+both_ok (Err e) s Q P q h = tt
 
 -- the events behind one more
 pub events_then : (done : List (Event × Unit {0})) (event : Event) → map (λ (x : Event × Unit {0}). core_event x.0) (done ++ (event, tt) ∷ []) ≡ map (λ (x : Event × Unit {0}). core_event x.0) done ++ core_event event ∷ []

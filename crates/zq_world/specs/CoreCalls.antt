@@ -3,7 +3,7 @@ use Rattle.std.specs.Prelude.{◌≡◌, ℕ, true, List, [], ◌∷◌}
 use Rattle.std.specs.List.{AllByRecursion}
 use Rattle.spec_control.specs.declared.object.ObjState.{ObjState}
 use Rattle.spec_control.specs.declared.entry.SeenEmpty.TheVariants.{Nothing}
-use Rattle.control_held.specs.Moments.{Moment}
+use Rattle.spec_control.specs.Moments.{Moment}
 use Rattle.spec_run.specs.Act.{Act, Said, Deed, acts_of}
 use Rattle.spec_run.specs.Event.{IsLookAt}
 use Rattle.spec_run.specs.Worker.{AsksTheRoot}

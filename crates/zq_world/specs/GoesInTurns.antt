@@ -4,8 +4,8 @@ use Rattle.std.specs.List.{list_all}
 use Rattle.spec_pattern.specs.PipeStep.{AreExact}
 use Rattle.spec_control.specs.declared.entry.Item.{Item}
 use Rattle.spec_control.specs.Control.{begun}
-use Rattle.control_held.specs.Held.{caller_of}
-use Rattle.control_held.specs.Moments.{moments_from}
+use Rattle.spec_control.specs.Held.{caller_of}
+use Rattle.spec_control.specs.Moments.{moments_from}
 use Rattle.spec_run.specs.LineCall.{RunScript}
 use Rattle.spec_run.specs.Act.{moments_in}
 use Rattle.spec_run.specs.OpenSocket.{OpenSock}

@@ -7,8 +7,8 @@ use Rattle.spec_control.specs.declared.entry.Item.{Item}
 use Rattle.spec_control.specs.Control.{begun}
 use Rattle.spec_control.specs.ControlRun.{IsControlRun, after_all}
 use Rattle.spec_control.specs.Names.{AreNamed}
-use Rattle.control_held.specs.Has.{AreBy}
-use Rattle.control_held.specs.Moments.{moments_from}
+use Rattle.spec_control.specs.Has.{AreBy}
+use Rattle.spec_control.specs.Moments.{moments_from}
 use Rattle.spec_run.specs.declared.journal.ActorLines.{ActorLines}
 use Rattle.spec_run.specs.declared.line.RunActor.{RunActor}
 use Rattle.spec_run.specs.LineCall.{RunScript}

@@ -6,6 +6,8 @@ use Rattle.spec_control.specs.declared.entry.Item.{Item}
 use Rattle.spec_control.specs.Control.{Control, begun}
 use Rattle.spec_control.specs.ControlRun.{after_all}
 use Rattle.spec_control.specs.Reply.{root_state}
+use Rattle.spec_run.specs.declared.journal.ActorLines.{ActorLines}
+use Rattle.spec_run.specs.declared.journal.RunJournal.{RunJournal}
 use Rattle.spec_run.specs.declared.journal.SettledRow.{SettledRow}
 use Rattle.spec_run.specs.Act.{steps_in}
 use Rattle.spec_run.specs.OwnedRun.{settlement_of}
@@ -36,3 +38,7 @@ module _ {N S : Type 0} where
   -- what is shown of a core that began with one I/O worker and has these items
   abbrev pub ShowsSo : List (Piece N S) → List (Item N S) → Shown → Type 0
   ShowsSo pieces order shown = ShowsEnd (after_all order (begun 1)) pieces shown
+
+-- the journal of what actors said and a core shows
+abbrev pub journal_with : List ActorLines → Shown → RunJournal
+journal_with actors shown = record { actors = actors; ended = shown.ended; pipes = shown.pipes; objects = shown.objects; done = shown.done }

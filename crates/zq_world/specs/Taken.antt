@@ -2,7 +2,7 @@
 use Rattle.std.specs.Prelude.{◌==◌, ℕ, Bool, true, List, []}
 use Rattle.std.specs.List.{list_any}
 use Rattle.spec_control.specs.Control.{Control}
-use Rattle.control_held.specs.Moments.{reaper_slots}
+use Rattle.spec_control.specs.Moments.{reaper_slots}
 use Rattle.spec_run.specs.Act.{Act}
 use Rattle.spec_run.specs.Event.{TakesLetter}
 use Rattle.script_actor.specs.Piece.{Piece, AddsPiece}

@@ -1,6 +1,6 @@
 -- What was run on one thread while a clock was read: once before the first turn, and at the end of each (own choice).
 use Rattle.std.specs.Prelude.{ℕ, Bool, List}
-use Rattle.clock_reads.specs.Readings.{ClockAt, ReadsClock}
+use Rattle.zq_outer.specs.Readings.{ClockAt, ReadsClock}
 use Rattle.spec_journal.specs.Run.{Schedule}
 use Rattle.spec_control.specs.declared.entry.Item.{Item}
 use Rattle.spec_run.specs.declared.journal.ActorLines.{ActorLines}

@@ -3,7 +3,7 @@ use Rattle.std.specs.Prelude.{◌≡◌, ◌<◌, ◌≤◌, ◌==◌, ◌+◌, 
 use Rattle.std.specs.List.{range_with_len}
 use Rattle.spec_journal.specs.Turn.{IsOrder}
 use Rattle.spec_control.specs.declared.entry.SeenEmpty.TheVariants.{Nothing}
-use Rattle.control_held.specs.Moments.{Moment}
+use Rattle.spec_control.specs.Moments.{Moment}
 use Rattle.spec_run.specs.Act.{Said, Deed, Looks, all_acts}
 use Rattle.spec_run.specs.OpenSocket.{OpenSock}
 use Rattle.spec_run.specs.Event.{IsLookAt}

@@ -8,16 +8,15 @@ ghost use Rattle.zq_world.specs.CoreCalls.{IsReaper};
 ghost use Rattle.zq_world.specs.Turning.{ActorsAgree, WorkerSteps, HaveStepped, TurnSteps, times};
 ghost use Rattle.zq_world.specs.Turning.{standings, BeginsOrEnds};
 ghost use Rattle.zq_world.specs.Timed.{RunsTimed};
-ghost use Rattle.clock_reads.specs.Readings.{clock_at, GoesOn};
+ghost use Rattle.zq_outer.specs.Readings.{clock_at, GoesOn};
 
 use crate::cores::Core;
-use clock_reads::read_clock;
 use msg_pipe::Pipes;
 use script_actor::Actor;
 use spec_control::ObjState;
+use spec_journal::Order;
 use std::alloc::{AllocError, Global};
-use turn_order::Order;
-use zq_outer::Clock;
+use zq_outer::{Clock, read_clock};
 
 /// How many workers are no actors: the reaper and the one I/O worker, which does nothing yet.
 pub(crate) const OTHER_WORKERS: usize = 2;

@@ -1,9 +1,11 @@
 ghost use Rattle.std.specs.Prelude.{◌≡◌, [], IfOk, IfErr, map};
-ghost use Rattle.clock_reads.specs.Readings.{clock_at, GoesOn};
+ghost use Rattle.zq_outer.specs.Readings.{clock_at, GoesOn};
 ghost use Rattle.script_actor.specs.MayAsk.{MayAskScript};
 ghost use Rattle.script_actor.specs.Stepping.{lines_of};
-ghost use Rattle.zq_world.specs.Played.{AreNew};
-ghost use Rattle.zq_world.specs.Timed.{PlaysTimed, IsTimedJournal};
+ghost use Rattle.zq_world.specs.Played.{AreNew, IsOrderly};
+ghost use Rattle.zq_world.specs.Shown.{ShowsSo, journal_with};
+ghost use Rattle.zq_world.specs.Timed.{IsTimedJournal};
+ghost use Rattle.zq_world.specs.declared.cores.Shown.{Shown};
 
 use crate::cores::{Core, Shown};
 use crate::play::run;
@@ -42,29 +44,6 @@ pub(crate) fn parts<O: Drop>(
     Ok(Seq::of_vec(parts))
 }
 
-/// Plays a script over a new core, and gives what its actors said.
-fn play<P: Pipes, W: Core<P>, C: Clock>(
-    alloc: Global,
-    script: &[RunActor],
-    way: &mut W,
-    clock: &mut C,
-    seed: u64,
-    turns: u32,
-) -> Result<Seq<ActorLines>, AllocError>
-    requires new { W.pieces way.old ≡ [] }
-    requires may { MayAskScript script.now }
-    ensures ok { IfOk result (λ lines. PlaysTimed script.now seed turns lines
-        (W.pieces way.new) (W.order way.new)
-        (clock_at (C.last clock.old) (C.to_come clock.old)) (clock_at (C.last clock.new) (C.to_come clock.new))) }
-    ensures err { IfErr result (λ _.
-        GoesOn (clock_at (C.last clock.old) (C.to_come clock.old)) (clock_at (C.last clock.new) (C.to_come clock.new))) }
-{
-    let mut actors = actors_of(alloc, script)?;
-    run(alloc, way, &mut actors, clock, seed, turns)?;
-    way.known();
-    parts(alloc, actors)
-}
-
 /// Plays a script on one thread over a new core: in the orders that the seed draws, so many turns at
 /// the most. Whatever the script, the seed and the turns, the journal is that of a run of the script,
 /// whose readings are those that the clock gave. Without memory the clock went on by some readings.
@@ -83,20 +62,31 @@ pub fn play_script<P: Pipes, W: Core<P>, C: Clock>(
     ensures err { IfErr result (λ _.
         GoesOn (clock_at (C.last clock.old) (C.to_come clock.old)) (clock_at (C.last clock.new) (C.to_come clock.new))) }
 {
-    let actors = play(alloc, script, way, clock, seed, turns)?;
+    let mut actors = actors_of(alloc, script)?;
+    run(alloc, way, &mut actors, clock, seed, turns)?;
+    told(alloc, way, actors)
+}
+
+/// The journal of what these actors did over a core.
+pub(crate) fn told<P: Pipes, W: Core<P>>(
+    alloc: Global,
+    way: &W,
+    actors: Vec<Actor<W::Open>>,
+) -> Result<RunJournal, AllocError>
+    ensures orderly { IsOrderly (W.pieces way.now) (W.order way.now) }
+    ensures shows { IfOk result (λ journal. (shown : Shown)
+        × ShowsSo (W.pieces way.now) (W.order way.now) shown
+        × (journal ≡ journal_with (map lines_of actors.entry.items) shown)) }
+{
+    way.known();
+    let actors = parts(alloc, actors)?;
     let shown = way.show(alloc)?;
     Ok(journal_of(actors, shown))
 }
 
 /// The journal of a run, by what its actors said and what its core shows.
 pub(crate) fn journal_of(actors: Seq<ActorLines>, shown: Shown) -> RunJournal
-    ensures { result ≡ record {
-      actors = actors;
-      ended = shown.ended;
-      pipes = shown.pipes;
-      objects = shown.objects;
-      done = shown.done;
-    } }
+    ensures { result ≡ journal_with actors shown }
 {
     RunJournal {
         actors,

@@ -5,14 +5,14 @@ ghost use Rattle.zq_world.specs.ByEvents.{core_event};
 
 use crate::event::Event;
 use crate::events::step;
-use crate::script::{actors_of, journal_of, parts};
+use crate::script::{actors_of, told};
 use crate::steps::Steps;
-use http_server::Log;
 use msg_pipe::Pipes;
 use script_actor::Actor;
 use spec_run::{RunActor, RunJournal};
 use std::alloc::{AllocError, Global};
 use std::marker::{Model, PhantomData};
+use zq_base::Log;
 
 /// A script's actors over a core, and the events so far. An event that wants memory leaves the actors'
 /// sockets as what was done of it left them; from then on each step, and the journal, wants memory.
@@ -110,10 +110,8 @@ impl<'a, P: Pipes, W: Steps<P> + Drop> World<'a, P, W> {
         if self.wanted {
             return Err(AllocError);
         }
-        self.way.known();
-        let shown = self.way.show(alloc)?;
-        let actors = parts(alloc, self.actors)?;
-        Ok(journal_of(actors, shown))
+        let actors = self.actors;
+        told(alloc, &self.way, actors)
     }
 }
 
@@ -134,6 +132,5 @@ pub fn play_events<P: Pipes, W: Steps<P> + Drop>(
     let mut world = World::new(alloc, script, way)?;
     let went = world.run(alloc, events);
     let journal = world.journal(alloc);
-    went?;
-    journal
+    went.and(journal)
 }

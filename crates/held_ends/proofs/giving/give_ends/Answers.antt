@@ -1,6 +1,6 @@
 use Rattle.std.proofs.Common.{◌<◌, sym, ap, ◌∙◌, subst, arith, List, ◌++◌, ◌∷◌, [], ◌+◌, length}
 use Rattle.spec_control.specs.declared.entry.Joining.{Joining}
-use Rattle.ctl_holder.specs.declared.given.Given.{Given}
+use Rattle.ctl_plane.specs.declared.given.Given.{Given}
 use Rattle.held_ends.specs.declared.table.Place.{Place}
 use Rattle.held_ends.proofs.PlaceLemmas.{place_found}
 use Rattle.held_ends.proofs.EndsLemmas.{some_place}
@@ -64,3 +64,6 @@ returns-clause-others g c = c.each.invariant.others
 
 pub returns-clause-settled : goal.returns-clause-settled
 returns-clause-settled g c = c.each.invariant.settled
+
+pub index-requires : goal.index-requires
+index-requires g c = let t = c.each-test.true in let n = c.len-many.ensures in let k = c.each.invariant.so_far.count in omega (arith, t, n, k)

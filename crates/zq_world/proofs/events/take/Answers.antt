@@ -1,5 +1,5 @@
 use Rattle.std.proofs.Common.{◌≡◌, true, sym, subst, ◌∙◌}
-use Rattle.std.proofs.lemmas.Option.{get_or_from_slice_get}
+use Rattle.std.proofs.lemmas.Option.{get_or_from_slice_get, slice_get_within}
 use Rattle.std.proofs.lemmas.Result.{on_ok_weaker}
 use Rattle.script_actor.specs.Stepping.{standing_of, ActorAgrees}
 use Rattle.script_actor.specs.Taking.{has_slot, FetchesSo}
@@ -58,3 +58,6 @@ returns-in-None-clause-agree g c = c.reap.ensures.agree
 
 pub returns-then-not-may_take-clause-agree : goal.returns-then-not-may_take-clause-agree
 returns-then-not-may_take-clause-agree g c = c.requires.agree
+
+pub bounds-actors-number : goal.bounds-actors-number
+bounds-actors-number g c = slice_get_within c.args.actors.now c.in-Some.number c.in-Some.ensures.some.actor c.in-Some.ensures.some.here

@@ -18,3 +18,15 @@ pub returns-else-all_finished-clause-ok : goal.returns-else-all_finished-clause-
 returns-else-all_finished-clause-ok g c =
     begins_busy c.args.conductor (standings g.W.Sockets.as_open c.args.actors.now) c.in_ok-look.field-0 (g.W.Sockets.pieces c.args.way.now) (g.W.Sockets.pieces c.look.new.self) c.in-Live.is
     (sym (c.all_finished.ensures g.W.Sockets.as_open) ∙ c.if-all_finished.false) c.in_ok-look.ensures.ok
+
+pub returns-in-Ended-clause-keeps : goal.returns-in-Ended-clause-keeps
+returns-in-Ended-clause-keeps g c = c.look.ensures.keeps
+
+pub returns-in-Asked-clause-keeps : goal.returns-in-Asked-clause-keeps
+returns-in-Asked-clause-keeps g c = c.look.ensures.keeps
+
+pub returns-else-all_finished-clause-keeps : goal.returns-else-all_finished-clause-keeps
+returns-else-all_finished-clause-keeps g c = c.look.ensures.keeps
+
+pub returns-in_err-look-clause-keeps : goal.returns-in_err-look-clause-keeps
+returns-in_err-look-clause-keeps g c = c.look.ensures.keeps

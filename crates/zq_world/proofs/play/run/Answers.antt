@@ -1,5 +1,5 @@
 use Rattle.std.proofs.Common.{rules, subst, ap, ◌∙◌}
-use Rattle.clock_reads.specs.Readings.{clock_at, GoesOn}
+use Rattle.zq_outer.specs.Readings.{clock_at, GoesOn}
 use Rattle.zq_world.specs.Turning.{BeginsOrEnds, TurnSteps, standings}
 use Rattle.zq_world.proofs.StepLemmas.{agree_still}
 use Rattle.zq_world.proofs.RunLemmas.{within_first, within_more, over_early, over_late, of_error, went_on}
@@ -75,3 +75,12 @@ returns-in_err-turn-clause-err g c = of_error (GoesOn (clock_at (g.C.Clock.last 
 pub returns-in_err-root-clause-err : goal.returns-in_err-root-clause-err
 returns-in_err-root-clause-err g c = of_error (GoesOn (clock_at (g.C.Clock.last c.args.clock.now) (g.C.Clock.to_come c.args.clock.now)) (clock_at (g.C.Clock.last c.turns.clock) (g.C.Clock.to_come c.turns.clock))) c.from_residual-in_err-root.result
     (went_on g.W.Sockets.as_open c.args.seed c.args.turns c.turns.order.drawn c.turns.left c.args.actors.now c.turns.actors (g.W.Sockets.pieces c.args.way.now) (g.W.Sockets.pieces c.turns.way) (clock_at (g.C.Clock.last c.args.clock.now) (g.C.Clock.to_come c.args.clock.now)) (clock_at (g.C.Clock.last c.turns.clock) (g.C.Clock.to_come c.turns.clock)) c.turns.invariant.come)
+
+pub returns-in_err-turn-clause-agree : goal.returns-in_err-turn-clause-agree
+returns-in_err-turn-clause-agree g c = c.turn.ensures.agree
+
+pub returns-then-not-branch-clause-err : goal.returns-then-not-branch-clause-err
+returns-then-not-branch-clause-err g c = tt
+
+pub returns-clause-err : goal.returns-clause-err
+returns-clause-err g c = tt

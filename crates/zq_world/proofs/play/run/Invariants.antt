@@ -1,6 +1,6 @@
 use Rattle.std.proofs.Common.{◌≡◌, ◌+◌, List, ℕ, length}
 use Rattle.spec_run.specs.InTurns.{OneTurn}
-use Rattle.clock_reads.specs.Readings.{clock_at}
+use Rattle.zq_outer.specs.Readings.{clock_at}
 use Rattle.zq_world.specs.Turning.{ActorsAgree, HasCome}
 use Rattle.zq_world.proofs.RunLemmas.{HasRead}
 use Rattle.zq_world.proofs.play.run.Given as goal

@@ -14,3 +14,27 @@ returns-clause-ok g c = record {
   is_order = (search rules);
   have = subst (λ l. HaveStepped g.W.Sockets.as_open l c.args.actors.now c.steps.new.actors (g.W.Sockets.pieces c.args.way.now) (g.W.Sockets.pieces c.steps.new.way)) c.deref.ensures.value c.in_ok-steps.ensures.ok;
 }
+
+pub steps-requires-clause-agree : goal.steps-requires-clause-agree
+steps-requires-clause-agree g c = c.requires.agree
+
+pub steps-requires-clause-alone : goal.steps-requires-clause-alone
+steps-requires-clause-alone g c = c.requires.alone
+
+pub returns-clause-agree : goal.returns-clause-agree
+returns-clause-agree g c = c.steps.ensures.agree
+
+pub returns-in_err-steps-clause-agree : goal.returns-in_err-steps-clause-agree
+returns-in_err-steps-clause-agree g c = c.steps.ensures.agree
+
+pub returns-in_err-workers-clause-agree : goal.returns-in_err-workers-clause-agree
+returns-in_err-workers-clause-agree g c = c.requires.agree
+
+pub returns-clause-seed : goal.returns-clause-seed
+returns-clause-seed g c = c.turn.ensures.seed
+
+pub returns-in_err-steps-clause-seed : goal.returns-in_err-steps-clause-seed
+returns-in_err-steps-clause-seed g c = c.turn.ensures.seed
+
+pub returns-in_err-workers-clause-seed : goal.returns-in_err-workers-clause-seed
+returns-in_err-workers-clause-seed g c = c.turn.ensures.seed

@@ -1,5 +1,7 @@
-use Rattle.std.proofs.Common.{rules, sym, ◌∙◌, refl}
+use Rattle.std.proofs.Common.{rules, sym, subst, ◌∙◌, refl}
 use Rattle.std.proofs.lemmas.Result.{on_ok_weaker}
+use Rattle.script_actor.specs.MayAsk.{MayAskLines}
+use Rattle.script_actor.specs.Seats.{AllAgree}
 use Rattle.script_actor.proofs.StepLemmas.{steps_not, steps_shut, steps_try}
 use Rattle.script_actor.proofs.actor.Actor.step.Goals as goal
 
@@ -37,3 +39,21 @@ returns-in_default-clause-agrees g c = record { sockets = c.shut_first.ensures.a
 
 pub returns-in_default-clause-others : goal.returns-in_default-clause-others
 returns-in_default-clause-others g c = c.shut_first.ensures.others
+
+pub ask-requires-clause-may : goal.ask-requires-clause-may
+ask-requires-clause-may g c = (subst MayAskLines c.in-Some.ensures.cases.0 c.requires.agrees.may).0
+
+pub end_try-requires-clause-rest : goal.end_try-requires-clause-rest
+end_try-requires-clause-rest g c = (subst MayAskLines c.in-Some.ensures.cases.0 c.requires.agrees.may).1
+
+pub end_try-requires-clause-lines : goal.end_try-requires-clause-lines
+end_try-requires-clause-lines g c = c.requires.agrees.may
+
+pub shut_first-requires-clause-agree : goal.shut_first-requires-clause-agree
+shut_first-requires-clause-agree g c = c.requires.agrees.sockets
+
+pub returns-clause-agrees : goal.returns-clause-agrees
+returns-clause-agrees g c = record {
+  sockets = subst (AllAgree g.W.Sockets.as_open g.W.Sockets.agrees g.W.Sockets.was_made c.ask.new.way c.args.number) (sym c.end_try.ensures.seats) c.ask.ensures.agree;
+  may = c.end_try.ensures.may;
+}

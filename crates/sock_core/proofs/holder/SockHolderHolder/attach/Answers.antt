@@ -3,7 +3,7 @@ use Rattle.std.specs.List.{list_any}
 use Rattle.zq_base.specs.declared.kind.Kind.{Kind}
 use Rattle.ends.specs.Rows.{Rows}
 use Rattle.ends.specs.declared.row.EndRow.{EndRow}
-use Rattle.ctl_holder.specs.Holding.{Joined, BeginsActive, held_with}
+use Rattle.ctl_plane.specs.Holding.{Joined, BeginsActive, held_with}
 use Rattle.held_ends.specs.declared.table.Place.{Place}
 use Rattle.held_ends.specs.Places.{is_of}
 use Rattle.held_ends.specs.Sound.{IsSound, Fits}

@@ -1,7 +1,7 @@
 use Rattle.std.proofs.Common.{refl, sym, ap, ◌∙◌, subst, true, List, ◌==◌, set}
 use Rattle.std.specs.List.{position}
 use Rattle.held_ends.specs.declared.table.Place.{Place}
-use Rattle.ctl_holder.specs.Holding.{Stays, Seals}
+use Rattle.ctl_plane.specs.Holding.{Stays, Seals}
 use Rattle.held_ends.specs.Places.{IsOnce, is_of}
 use Rattle.sock_core.specs.Has.{has, told_in}
 use Rattle.sock_core.proofs.FindLemmas.{found, not_found, alone_of, once_of, held_is, never}

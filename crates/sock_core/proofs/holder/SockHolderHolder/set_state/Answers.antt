@@ -6,7 +6,7 @@ use Rattle.sock_core.specs.Standing.{standing_joins}
 use Rattle.sock_core.specs.Way.{way_in, with_turned, KindWay}
 use Rattle.std.specs.List.{position}
 use Rattle.held_ends.specs.declared.table.Place.{Place}
-use Rattle.ctl_holder.specs.Holding.{Stays, TurnsTo, is_state}
+use Rattle.ctl_plane.specs.Holding.{Stays, TurnsTo, is_state}
 use Rattle.held_ends.specs.Places.{IsOnce, is_of}
 use Rattle.sock_core.specs.Has.{has, told_in}
 use Rattle.sock_core.proofs.FindLemmas.{found, not_found, alone_of, once_of, held_is, end_is, never}

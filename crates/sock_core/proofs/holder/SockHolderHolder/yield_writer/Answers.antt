@@ -2,9 +2,9 @@ use Rattle.std.proofs.Common.{refl, sym, ap, ◌∙◌, subst, false, List, [], 
 use Rattle.std.specs.List.{position}
 use Rattle.spec_control.specs.declared.end.EndState.{EndState}
 use Rattle.spec_control.specs.Place.{At}
-use Rattle.ctl_holder.specs.Lent.{has_writer}
+use Rattle.ctl_plane.specs.Lent.{has_writer}
 use Rattle.held_ends.specs.declared.table.Place.{Place}
-use Rattle.ctl_holder.specs.Holding.{KeepsTurns, Yielded, written_in}
+use Rattle.ctl_plane.specs.Holding.{KeepsTurns, Yielded, written_in}
 use Rattle.held_ends.specs.Places.{IsOnce, is_of, held_in}
 use Rattle.sock_core.specs.Has.{has, told_in}
 use Rattle.held_ends.proofs.SoundLemmas.{one_some}
@@ -19,7 +19,7 @@ use Rattle.sock_core.proofs.PeerLemmas.{kept_parted}
 use Rattle.held_ends.proofs.OthersLemmas.{leaves_on}
 use Rattle.sock_core.proofs.GoneLemmas.{never_gone}
 use Rattle.std.specs.Prelude.{Option}
-use Rattle.ctl_holder.specs.Holding.{read_in}
+use Rattle.ctl_plane.specs.Holding.{read_in}
 use Rattle.held_ends.specs.Counting.{counts_at}
 use Rattle.held_ends.proofs.CountLemmas.{position_same}
 use Rattle.sock_core.proofs.HolderLemmas.{owned_read}

@@ -1,7 +1,7 @@
 use Rattle.std.proofs.Common.{arith, refl, sym, ap, ◌∙◌, subst, Bool, false, List, [], if◌then◌else◌, ◌==◌, set, Some}
 use Rattle.std.specs.List.{position}
 use Rattle.held_ends.specs.declared.table.Place.{Place}
-use Rattle.ctl_holder.specs.Holding.{BeginsNone, Left, read_in, written_in}
+use Rattle.ctl_plane.specs.Holding.{BeginsNone, Left, read_in, written_in}
 use Rattle.held_ends.specs.Places.{IsOnce, is_of, held_in}
 use Rattle.sock_core.specs.Has.{has, told_in}
 use Rattle.held_ends.proofs.SoundLemmas.{one_some}

@@ -2,6 +2,7 @@ use Rattle.std.specs.Prelude.{◌++◌, List, false, length, map, refl}
 use Rattle.std.proofs.Common.{rules, true, true≢false, sym, ap, subst, take, drop}
 use Rattle.zq_world.specs.CoreCalls.{IsReaper}
 use Rattle.zq_world.specs.declared.event.Event.{Event}
+use Rattle.zq_world.specs.Turning.{ActorsAgree}
 use Rattle.zq_world.specs.ByEvents.{core_event, known_of, DoesEvent, Events, IsWorld}
 use Rattle.zq_world.proofs.WorldLemmas.{world_alone, world_more}
 use Rattle.zq_world.proofs.world.World.step.Goals as goal
@@ -24,3 +25,7 @@ invariant_of-self-in-Err g c wanted = absurd (true≢false wanted)
 
 pub returns-in-Err-clause-err : goal.returns-in-Err-clause-err
 returns-in-Err-clause-err g c = ap (λ (known : Events). record known { wanted = true }) c.self.view_is
+
+pub step-requires-clause-agree : goal.step-requires-clause-agree
+step-requires-clause-agree g c =
+    subst (ActorsAgree g.W.Sockets.as_open g.W.Sockets.agrees g.W.Sockets.was_made c.self.inside.way) (sym c.deref_mut.ensures.value) (c.self.invariant c.if-self.false).agree
