@@ -1,8 +1,6 @@
-use clock_reads::read_clock;
 use std::alloc::{AllocError, Global};
-use std::test::Fail;
 use zq_call::{Runs, Status, call};
-use zq_outer::{Clock, MemSink, MemSource, NoHost, OpenGate, TickClock};
+use zq_outer::{Clock, MemSink, MemSource, NoHost, OpenGate, TickClock, read_clock};
 
 /// Says of each script its own octets, as the text of a run that is done, and reads the clock once.
 pub struct Echo;

@@ -2,7 +2,6 @@ use crate::calls::{Echo, list};
 use std::alloc::{AllocError, Global};
 use std::io;
 use std::io::{Read, Write};
-use std::test::Fail;
 use zq_call::{Ended, serve};
 
 /// A stream that fails at each call.
@@ -38,28 +37,24 @@ fn writes<R: Read + Drop>(alloc: Global, reader: R, code: u8, text: &[u8]) -> bo
 }
 
 #[test]
-fn a_script_that_is_read_ends_with_0(rt: HostRuntime) -> Result<(), Fail> {
+fn a_script_that_is_read_ends_with_0(rt: HostRuntime) {
     let octets: &[u8] = b"actor a\n";
     assert!(rt; writes(rt.alloc(), octets, 0, octets));
-    Ok(())
 }
 
 #[test]
-fn a_reader_that_fails_ends_with_3(rt: HostRuntime) -> Result<(), Fail> {
+fn a_reader_that_fails_ends_with_3(rt: HostRuntime) {
     assert!(rt; writes(rt.alloc(), Broken, 3, b"read fault\n"));
-    Ok(())
 }
 
 #[test]
-fn a_writer_that_fails_ends_with_4(rt: HostRuntime) -> Result<(), Fail> {
+fn a_writer_that_fails_ends_with_4(rt: HostRuntime) {
     let octets: &[u8] = b"actor a\n";
     assert!(rt; served(rt.alloc(), octets, Broken).code == 4);
-    Ok(())
 }
 
 #[test]
-fn words_without_memory_end_with_6(rt: HostRuntime) -> Result<(), Fail> {
+fn words_without_memory_end_with_6(rt: HostRuntime) {
     let ended = serve::<Echo, Broken, Broken>(rt.alloc(), Err(AllocError), Broken, Broken);
     assert!(rt; ended.code == 6);
-    Ok(())
 }

@@ -2,7 +2,6 @@ ghost use Rattle.std.specs.Prelude.{◌≤◌, length};
 
 use crate::calls::{Failing, answers, fails_to_read, gives};
 use std::alloc::{AllocError, Global};
-use std::test::Fail;
 use zq_call::Status;
 
 /// A greeting without security, and with a READY of a PUSH behind it (RFC 23).
@@ -341,36 +340,34 @@ const LOGINS: [Case; 4] = [
     ),
 ];
 
-#[test]
-fn peers_are_heard(rt: HostRuntime) -> Result<(), Fail> {
-    for (words, octets, status, text) in &HEARD {
-        assert!(rt; answers(rt.alloc(), words, octets, *status, text)?);
+/// Whether each of these calls gives its status and text.
+fn all_answer(alloc: Global, cases: &[Case]) -> bool {
+    for (words, octets, status, text) in cases {
+        if answers(alloc, words, octets, *status, text) != Ok(true) {
+            return false;
+        }
     }
-    Ok(())
+    true
 }
 
 #[test]
-fn peers_are_refused_with_the_cause_and_the_offset(rt: HostRuntime) -> Result<(), Fail> {
-    for (words, octets, status, text) in &REFUSED {
-        assert!(rt; answers(rt.alloc(), words, octets, *status, text)?);
-    }
-    Ok(())
+fn peers_are_heard(rt: HostRuntime) {
+    assert!(rt; all_answer(rt.alloc(), &HEARD));
 }
 
 #[test]
-fn of_two_broken_rules_one_counts(rt: HostRuntime) -> Result<(), Fail> {
-    for (words, octets, status, text) in &COLLISIONS {
-        assert!(rt; answers(rt.alloc(), words, octets, *status, text)?);
-    }
-    Ok(())
+fn peers_are_refused_with_the_cause_and_the_offset(rt: HostRuntime) {
+    assert!(rt; all_answer(rt.alloc(), &REFUSED));
 }
 
 #[test]
-fn peers_log_in(rt: HostRuntime) -> Result<(), Fail> {
-    for (words, octets, status, text) in &LOGINS {
-        assert!(rt; answers(rt.alloc(), words, octets, *status, text)?);
-    }
-    Ok(())
+fn of_two_broken_rules_one_counts(rt: HostRuntime) {
+    assert!(rt; all_answer(rt.alloc(), &COLLISIONS));
+}
+
+#[test]
+fn peers_log_in(rt: HostRuntime) {
+    assert!(rt; all_answer(rt.alloc(), &LOGINS));
 }
 
 /// The words of a call that hears as a PULL.
@@ -409,13 +406,19 @@ fn is_cut_well(alloc: Global, octets: &[u8], cut: usize) -> Result<bool, AllocEr
     is
 }
 
-#[test]
-fn a_stream_is_heard_at_each_cut(rt: HostRuntime) -> Result<(), Fail> {
-    let octets: &[u8] = NULL_PUSH_HELLO;
+/// Whether each front of the octets is told to mean what it does.
+fn all_cuts_are_well(alloc: Global, octets: &[u8]) -> bool {
     for cut in 0..=octets.len() {
-        assert!(rt; is_cut_well(rt.alloc(), octets, cut)?);
+        if is_cut_well(alloc, octets, cut) != Ok(true) {
+            return false;
+        }
     }
-    Ok(())
+    true
+}
+
+#[test]
+fn a_stream_is_heard_at_each_cut(rt: HostRuntime) {
+    assert!(rt; all_cuts_are_well(rt.alloc(), NULL_PUSH_HELLO));
 }
 
 /// Whether all octets mean the same where the first read gives so many.
@@ -440,11 +443,10 @@ fn is_joined_well(alloc: Global, cut: usize) -> Result<bool, AllocError> {
 }
 
 #[test]
-fn a_stream_means_the_same_over_each_cut(rt: HostRuntime) -> Result<(), Fail> {
+fn a_stream_means_the_same_over_each_cut(rt: HostRuntime) {
     for cut in 0..100 {
-        assert!(rt; is_joined_well(rt.alloc(), cut)?);
+        assert!(rt; is_joined_well(rt.alloc(), cut) == Ok(true));
     }
-    Ok(())
 }
 
 /// The 1,024th frame of a message, and what is told: one more, one that is too long as well, a command, and one with a flag
@@ -468,29 +470,39 @@ const LAST_FRAMES: [(&[u8], &[u8]); 4] = [
     ),
 ];
 
-/// A greeting, a READY, 1,023 frames behind which more are to come, and this one.
-fn many_frames(alloc: Global, last: &[u8]) -> Result<Vec<u8>, AllocError> {
-    let mut octets = Vec::from_slice(alloc, NULL_PUSH)?;
+/// Adds 1,023 frames behind which more are to come, and this one.
+fn add_frames(octets: &mut Vec<u8>, last: &[u8]) -> Result<(), AllocError> {
     for _ in 0..1023 {
         octets.extend_from_slice(b"\x01\0")?;
     }
-    octets.extend_from_slice(last)?;
+    octets.extend_from_slice(last)
+}
+
+/// A greeting, a READY, and those frames.
+fn many_frames(alloc: Global, last: &[u8]) -> Result<Vec<u8>, AllocError> {
+    let mut octets = Vec::from_slice(alloc, NULL_PUSH)?;
+    add_frames(&mut octets, last)?;
     Ok(octets)
 }
 
-#[test]
-fn a_frame_too_many_is_refused(rt: HostRuntime) -> Result<(), Fail> {
-    for (last, text) in &LAST_FRAMES {
-        let octets = many_frames(rt.alloc(), last)?;
-        assert!(rt; answers(rt.alloc(), HEAR, octets.as_slice(), Status::Heard, text)?);
-    }
-    Ok(())
+/// Whether that frame is refused so.
+fn refuses(alloc: Global, last: &[u8], text: &[u8]) -> Result<bool, AllocError> {
+    let octets = many_frames(alloc, last)?;
+    let is = answers(alloc, HEAR, &octets, Status::Heard, text);
+    drop(octets);
+    is
 }
 
 #[test]
-fn a_peer_that_fails_is_a_read_fault(rt: HostRuntime) -> Result<(), Fail> {
-    for number in 1..4u64 {
-        assert!(rt; fails_to_read(rt.alloc(), HEAR, NULL, number, 32)?);
+fn a_frame_too_many_is_refused(rt: HostRuntime) {
+    for (last, text) in &LAST_FRAMES {
+        assert!(rt; refuses(rt.alloc(), last, text) == Ok(true));
     }
-    Ok(())
+}
+
+#[test]
+fn a_peer_that_fails_is_a_read_fault(rt: HostRuntime) {
+    for number in 1..4u64 {
+        assert!(rt; fails_to_read(rt.alloc(), HEAR, NULL, number, 32) == Ok(true));
+    }
 }

@@ -5,9 +5,9 @@ use Rattle.spec_control.specs.declared.end.EndState.{EndState}
 use Rattle.spec_control.specs.declared.end.EndState.TheVariants.{AckSent}
 use Rattle.spec_control.specs.Control.{is_end}
 use Rattle.spec_control.specs.Place.{At}
-use Rattle.control_held.specs.Held.{Held}
-use Rattle.ctl_holder.specs.Holding.{Holding, Joined, IsLast, Seals, Stays, TurnsTo, has_end}
-use Rattle.ctl_holder.specs.Lent.{has_writer}
+use Rattle.spec_control.specs.Held.{Held}
+use Rattle.ctl_plane.specs.Holding.{Holding, Joined, IsLast, Seals, Stays, TurnsTo, has_end}
+use Rattle.ctl_plane.specs.Lent.{has_writer}
 use Rattle.zq_tests_core.specs.Ends.{the_end, HasOne}
 
 module _ (x : Held ℕ) (m k : Holding ℕ) (joined : Joined 1 x m k) (same : x.end ≡ the_end) where

@@ -1,7 +1,7 @@
 -- A socket of number 1 with one end (own choice).
 use Rattle.std.specs.Prelude.{◌≡◌, ℕ, true, List, [], ◌∷◌}
 use Rattle.zq_base.specs.declared.ids.EndId.{EndId}
-use Rattle.ctl_holder.specs.Holding.{Holding}
+use Rattle.ctl_plane.specs.Holding.{Holding}
 use Rattle.msg_pipe.specs.declared.plain_pipes.PlainIn.{PlainIn}
 use Rattle.held_ends.specs.declared.table.Place.{Place}
 

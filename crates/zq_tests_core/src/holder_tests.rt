@@ -2,7 +2,7 @@ ghost use Rattle.std.specs.Prelude.{◌≡◌, ◌∷◌, [], true};
 ghost use Rattle.zq_tests_core.specs.Ends.{the_end, HasOne};
 
 use crate::sockets::{Socket, check, the_end, with_one_end};
-use ctl_holder::{Halves, Holder, Undoes};
+use ctl_plane::{Halves, Holder, Undoes};
 use held_ends::find;
 use msg_pipe::{Pipes, PlainIn, PlainOut, PlainPipes};
 use spec_control::EndState;

@@ -8,7 +8,7 @@ ghost use Rattle.zq_tests_core.specs.Ends.{the_end, no_places};
 
 use crate::sockets::{Socket, options, the_end};
 use any_sock::AnySock;
-use ctl_holder::{Halves, Holder};
+use ctl_plane::{Halves, Holder};
 use msg_pipe::{Pipes, PlainIn, PlainOut, PlainPipes};
 use sock_core::SockHolder;
 use std::alloc::Global;

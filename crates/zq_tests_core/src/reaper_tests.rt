@@ -2,7 +2,7 @@ ghost use Rattle.std.specs.Prelude.{◌≡◌, [], IfOk};
 ghost use Rattle.reaper_ends.specs.Finding.{HasRoom};
 
 use crate::sockets::check;
-use ctl_holder::Holder;
+use ctl_plane::Holder;
 use msg_pipe::PlainPipes;
 use reaper_ends::Closed;
 use std::alloc::Global;

@@ -1,5 +1,5 @@
 use crate::bench::{check, desk, options};
-use ctl_holder::Holder;
+use ctl_plane::Holder;
 use msg_pipe::PlainPipes;
 use one_desk::OneDesk;
 use reaper_ends::Closed;

@@ -33,26 +33,27 @@ fn has_ended<L: Link>(link: &mut L) -> bool {
     link.read(&mut [0; 8]) == LinkGot::Ended
 }
 
-fn plan(
+// The list of these.
+fn listed<T: Copy>(alloc: Global, items: &[T]) -> Result<Seq<T>, AllocError> {
+    Ok(Seq::of_vec(Vec::from_slice(alloc, items)?))
+}
+
+// A host by a plan of these, whose links hold 8 octets.
+fn host(
     alloc: Global,
     fails: &[PlannedCall],
     stalls: &[PlannedCall],
     cuts: &[Cut],
-) -> Result<Plan, AllocError> {
-    Ok(Plan {
-        fails: Seq::of_vec(Vec::from_slice(alloc, fails)?),
-        stalls: Seq::of_vec(Vec::from_slice(alloc, stalls)?),
-        cuts: Seq::of_vec(Vec::from_slice(alloc, cuts)?),
+) -> Result<MemHost, AllocError> {
+    let fails = listed(alloc, fails)?;
+    let stalls = listed(alloc, stalls)?;
+    let cuts = listed(alloc, cuts)?;
+    let plan = Plan {
+        fails,
+        stalls,
+        cuts,
         peers: Seq::new(alloc),
-    })
-}
-
-fn call(kind: CallKind, number: u64) -> PlannedCall {
-    PlannedCall { kind, number }
-}
-
-// A host by this plan, whose links hold 8 octets.
-fn host(alloc: Global, plan: Plan) -> Result<MemHost, AllocError> {
+    };
     MemHost::make(alloc, plan, 8)
 }
 
@@ -96,7 +97,9 @@ fn passes_all(mut near: MemLink, far: &mut MemLink) -> bool {
 fn one_end_reads_what_the_other_wrote(rt: HostRuntime) -> Result<(), Fail> {
     let (mut near, mut far) = MemLink::pair(rt.alloc(), 5, 3)?;
     MemLink::tell(&mut far, &mut near);
-    check(passes_all(near, &mut far))
+    let passes = passes_all(near, &mut far);
+    drop(far);
+    check(passes)
 }
 
 // Whether a host's first listen fails, and its second does not.
@@ -129,12 +132,36 @@ fn fails_and_stalls<H: Host>(host: &mut H) -> bool {
     first && nobody_dials(host) && links_once(host)
 }
 
+/// Calls of a host that fail.
+const FAILING_CALLS: [PlannedCall; 2] = [
+    PlannedCall {
+        kind: CallKind::Listen,
+        number: 1,
+    },
+    PlannedCall {
+        kind: CallKind::Connect,
+        number: 2,
+    },
+];
+
+/// Calls of a host that stall.
+const STALLING_CALLS: [PlannedCall; 2] = [
+    PlannedCall {
+        kind: CallKind::Connect,
+        number: 1,
+    },
+    PlannedCall {
+        kind: CallKind::Accept,
+        number: 1,
+    },
+];
+
 #[test]
 fn a_host_fails_and_stalls_by_its_calls_numbers(rt: HostRuntime) -> Result<(), Fail> {
-    let fails = [call(CallKind::Listen, 1), call(CallKind::Connect, 2)];
-    let stalls = [call(CallKind::Connect, 1), call(CallKind::Accept, 1)];
-    let mut host = host(rt.alloc(), plan(rt.alloc(), &fails, &stalls, &[])?)?;
-    check(fails_and_stalls(&mut host))
+    let mut host = host(rt.alloc(), &FAILING_CALLS, &STALLING_CALLS, &[])?;
+    let right = fails_and_stalls(&mut host);
+    drop(host);
+    check(right)
 }
 
 // Whether a host listens at once.
@@ -156,12 +183,24 @@ fn links_fail_and_stall<H: Host>(host: &mut H) -> bool {
     }
 }
 
+/// The call of links that fails.
+const SECOND_WRITE: [PlannedCall; 1] = [PlannedCall {
+    kind: CallKind::Write,
+    number: 2,
+}];
+
+/// The call of links that stalls.
+const SECOND_READ: [PlannedCall; 1] = [PlannedCall {
+    kind: CallKind::Read,
+    number: 2,
+}];
+
 #[test]
 fn links_fail_and_stall_by_their_calls_numbers(rt: HostRuntime) -> Result<(), Fail> {
-    let fails = [call(CallKind::Write, 2)];
-    let stalls = [call(CallKind::Read, 2)];
-    let mut host = host(rt.alloc(), plan(rt.alloc(), &fails, &stalls, &[])?)?;
-    check(listens(&mut host) && links_fail_and_stall(&mut host))
+    let mut host = host(rt.alloc(), &SECOND_WRITE, &SECOND_READ, &[])?;
+    let right = listens(&mut host) && links_fail_and_stall(&mut host);
+    drop(host);
+    check(right)
 }
 
 // Whether a link is cut behind 4 octets, for both sides.
@@ -188,8 +227,11 @@ fn next_is_cut<H: Host>(host: &mut H) -> bool {
 // Whether a host's first link is whole and the second is cut.
 fn second_is_cut<H: Host>(host: &mut H) -> bool {
     match linked(host) {
-        Some((mut whole, _far)) => {
-            next_is_cut(host) && whole.write(b"abcdef") == LinkPut::Took(6)
+        Some((mut whole, far)) => {
+            let cut = next_is_cut(host);
+            let put = whole.write(b"abcdef");
+            drop((whole, far));
+            cut && put == LinkPut::Took(6)
         }
         None => false,
     }
@@ -197,37 +239,65 @@ fn second_is_cut<H: Host>(host: &mut H) -> bool {
 
 #[test]
 fn a_cut_link_ends_for_both_sides(rt: HostRuntime) -> Result<(), Fail> {
-    let cuts = [Cut { link: 2, octets: 4 }];
-    let mut host = host(rt.alloc(), plan(rt.alloc(), &[], &[], &cuts)?)?;
-    check(listens(&mut host) && second_is_cut(&mut host))
+    let mut host = host(rt.alloc(), &[], &[], &[Cut { link: 2, octets: 4 }])?;
+    let is_cut = listens(&mut host) && second_is_cut(&mut host);
+    drop(host);
+    check(is_cut)
 }
 
-fn piece(alloc: Global, stalls: u64, octets: &[u8]) -> Result<Piece, AllocError> {
+// Adds a piece that a peer says behind so many reads.
+fn add(
+    alloc: Global,
+    pieces: &mut Vec<Piece>,
+    stalls: u64,
+    octets: &[u8],
+) -> Result<(), AllocError> {
     let octets = Octets::of_slice(alloc, octets)?;
-    Ok(Piece { stalls, octets })
+    pieces.push(Piece { stalls, octets })?;
+    Ok(())
 }
 
-// A peer which says `ab` behind two reads and `c` at the next.
+// Adds `ab` behind two reads, and `c` at the next.
+fn add_both(alloc: Global, pieces: &mut Vec<Piece>) -> Result<(), AllocError> {
+    add(alloc, pieces, 2, b"ab")?;
+    add(alloc, pieces, 0, b"c")
+}
+
+// A peer which says these.
 fn peer(alloc: Global) -> Result<MemPeer, AllocError> {
-    let pieces = [piece(alloc, 2, b"ab")?, piece(alloc, 0, b"c")?];
-    let pieces = Seq::of_vec(Vec::from_array(alloc, pieces)?);
-    Ok(MemPeer { at: AT, pieces })
+    let mut pieces = Vec::new(alloc);
+    match add_both(alloc, &mut pieces) {
+        Ok(()) => {
+            let pieces = Seq::of_vec(pieces);
+            return Ok(MemPeer { at: AT, pieces });
+        }
+        Err(error) => {
+            drop(pieces);
+            return Err(error);
+        }
+    }
 }
 
-// A plan of that peer.
-fn one_peer(alloc: Global) -> Result<Plan, AllocError> {
+// A host by a plan of that peer, whose links hold 8 octets.
+fn host_of_one_peer(alloc: Global) -> Result<MemHost, AllocError> {
     let peers = Vec::from_array(alloc, [peer(alloc)?])?;
-    Ok(Plan {
+    let plan = Plan {
         fails: Seq::new(alloc),
         stalls: Seq::new(alloc),
         cuts: Seq::new(alloc),
         peers: Seq::of_vec(peers),
-    })
+    };
+    MemHost::make(alloc, plan, 8)
 }
 
 // Whether a link hears the peer's pieces.
 fn hears_the_peer<L: Link>(link: &mut L) -> bool {
     stalls(link) && stalls(link) && reads(link, b"ab") && reads(link, b"c")
+}
+
+// Whether a link hears the peer's pieces, and takes `hello`.
+fn hears_and_says<L: Link>(link: &mut L) -> bool {
+    hears_the_peer(link) && link.write(b"hello") == LinkPut::Took(5)
 }
 
 // Whether the first peer of a host reads what was written to it.
@@ -244,14 +314,18 @@ fn talks_with_the_peer(host: &mut MemHost) -> bool {
         return false;
     };
     let is_used_up = matches!(host.connect(2, &AT), Dialled::Failed);
-    let heard = hears_the_peer(&mut link) && link.write(b"hello") == LinkPut::Took(5);
-    is_used_up && heard && is_written_to(host)
+    let heard = hears_and_says(&mut link);
+    let written = is_written_to(host);
+    drop(link);
+    is_used_up && heard && written
 }
 
 #[test]
 fn a_peer_speaks_piece_by_piece(rt: HostRuntime) -> Result<(), Fail> {
-    let mut host = host(rt.alloc(), one_peer(rt.alloc())?)?;
-    check(talks_with_the_peer(&mut host))
+    let mut host = host_of_one_peer(rt.alloc())?;
+    let talks = talks_with_the_peer(&mut host);
+    drop(host);
+    check(talks)
 }
 
 // Whether a dial elsewhere finds nobody, and the next one the peer, which goes before a listener.
@@ -267,8 +341,10 @@ fn finds_the_peer<H: Host>(host: &mut H) -> bool {
 
 #[test]
 fn a_peer_goes_before_a_listener(rt: HostRuntime) -> Result<(), Fail> {
-    let mut host = host(rt.alloc(), one_peer(rt.alloc())?)?;
-    check(listens(&mut host) && finds_the_peer(&mut host))
+    let mut host = host_of_one_peer(rt.alloc())?;
+    let finds = listens(&mut host) && finds_the_peer(&mut host);
+    drop(host);
+    check(finds)
 }
 
 // Whether a link takes all that is written, and gives these octets over and over.

@@ -1,6 +1,6 @@
 ghost use Rattle.std.specs.Prelude.{◌<◌, length};
 
-use crate::checks::check;
+use crate::checks::{check, check_io, check_result};
 use std::alloc::{AllocError, Global};
 use std::io;
 use std::io::{Read, Write};
@@ -14,7 +14,9 @@ use zq_outer::{Dialled, Host, Link, LinkGot, LinkPut, Listened};
 // An address of the loopback, its port asked of the system and let go.
 fn free_address(rt: &HostRuntime) -> Result<Address, Fail> {
     let asked = TcpListener::bind(rt, "127.0.0.1:0")?;
-    address_of(&asked)
+    let address = address_of(&asked);
+    drop(asked);
+    address
 }
 
 fn address_of(listener: &TcpListener) -> Result<Address, Fail> {
@@ -88,8 +90,13 @@ fn linked<'r>(
 ) -> Result<(NetHost<'r, HostRuntime>, NetLink, TcpStream), Fail> {
     let at = address_of(listener)?;
     let (host, link) = link_to(rt, &at)?;
-    let peer = peer_of(listener)?;
-    Ok((host, link, peer))
+    match peer_of(listener) {
+        Ok(peer) => return Ok((host, link, peer)),
+        Err(fail) => {
+            drop((host, link));
+            return Err(fail);
+        }
+    }
 }
 
 // A link to a peer of the system's own.
@@ -97,7 +104,9 @@ fn link_and_peer<'r>(
     rt: &'r HostRuntime,
 ) -> Result<(NetHost<'r, HostRuntime>, NetLink, TcpStream), Fail> {
     let listener = TcpListener::bind(rt, "127.0.0.1:0")?;
-    linked(rt, &listener)
+    let linked = linked(rt, &listener);
+    drop(listener);
+    linked
 }
 
 // Whether what is written at one end is read at the other.
@@ -127,21 +136,24 @@ fn joined<H: Host>(client: &mut H, server: &mut H, key: u32, at: &Address) -> Op
     Some((near, far))
 }
 
-// Links from one host to the other's listener.
-fn many_links<H: Host>(
-    alloc: Global,
+// Whether links from one host to the other's listener are made.
+fn makes_links<H: Host>(
     client: &mut H,
     server: &mut H,
     at: &Address,
-) -> Result<Vec<(H::L, H::L)>, Fail> {
-    let mut links = Vec::new(alloc);
+    links: &mut Vec<(H::L, H::L)>,
+) -> bool {
     for key in 100..300 {
         match joined(client, server, key, at) {
-            Some(ends) => links.push(ends)?,
-            None => return Err("a link".into()),
+            Some(ends) => {
+                if links.push(ends).is_err() {
+                    return false;
+                }
+            }
+            None => return false,
         }
     }
-    Ok(links)
+    true
 }
 
 // Whether each of the links carries both ways.
@@ -158,18 +170,23 @@ fn listens<H: Host>(host: &mut H, at: &Address) -> bool {
     host.listen(1, at) == Listened::Listening
 }
 
-// Whether 200 links to one listener carry both ways.
-fn serves_200<H: Host>(
-    alloc: Global,
+// Whether 200 links to one listener are made, and carry both ways.
+fn links_carry<H: Host>(
     client: &mut H,
     server: &mut H,
     at: &Address,
-) -> Result<bool, Fail> {
-    if !listens(server, at) {
-        return Ok(false);
-    }
-    let mut links = many_links(alloc, client, server, at)?;
-    Ok(links.len() == 200 && all_carry(client, server, &mut links))
+    links: &mut Vec<(H::L, H::L)>,
+) -> bool {
+    let made = listens(server, at) && makes_links(client, server, at, links);
+    made && links.len() == 200 && all_carry(client, server, links)
+}
+
+// The same of new links.
+fn serves_200<H: Host>(alloc: Global, client: &mut H, server: &mut H, at: &Address) -> bool {
+    let mut links = Vec::new(alloc);
+    let carry = links_carry(client, server, at, &mut links);
+    drop(links);
+    carry
 }
 
 // The same of links from a host of their own.
@@ -181,7 +198,7 @@ fn serves_200_of<'r>(
     let mut client = NetHost::new(rt, rt.alloc())?;
     let serves = serves_200(rt.alloc(), &mut client, server, at);
     drop(client);
-    serves
+    Ok(serves)
 }
 
 #[test]
@@ -190,7 +207,7 @@ fn a_listener_serves_200_links(rt: HostRuntime) -> Result<(), Fail> {
     let mut server = NetHost::new(&rt, rt.alloc())?;
     let serves = serves_200_of(&rt, &mut server, &at);
     drop(server);
-    check(serves?)
+    check_result(serves)
 }
 
 // Whether an address has one listener at a time.
@@ -246,13 +263,20 @@ fn stays_waiting<H: Host>(host: &mut H, key: u32, at: &Address) -> bool {
     true
 }
 
-// Whether a dial of a listener whose queue is full waits.
-fn waits<H: Host>(alloc: Global, host: &mut H, at: &Address) -> Result<bool, AllocError> {
-    let mut links = Vec::new(alloc);
-    match first_waiting(host, at, &mut links)? {
-        Some(key) => Ok(stays_waiting(host, key, at)),
-        None => Ok(false),
+// Whether a dial of a listener waits once its queue is full; the links before it go to this list.
+fn waits_behind<H: Host>(host: &mut H, at: &Address, links: &mut Vec<H::L>) -> bool {
+    match first_waiting(host, at, links) {
+        Ok(Some(key)) => stays_waiting(host, key, at),
+        _ => false,
     }
+}
+
+// The same with a list of its own.
+fn waits<H: Host>(alloc: Global, host: &mut H, at: &Address) -> bool {
+    let mut links = Vec::new(alloc);
+    let waits = waits_behind(host, at, &mut links);
+    drop(links);
+    waits
 }
 
 // The same of a listener that accepts nobody.
@@ -261,14 +285,16 @@ fn waits_at(rt: &HostRuntime, listener: &TcpListener) -> Result<bool, Fail> {
     let mut host = NetHost::new(rt, rt.alloc())?;
     let waits = waits(rt.alloc(), &mut host, &at);
     drop(host);
-    Ok(waits?)
+    Ok(waits)
 }
 
 #[test]
 fn a_dial_that_nobody_answers_isnt_ready(rt: HostRuntime) -> Result<(), Fail> {
     // Nobody accepts here, so that its queue fills up.
     let listener = TcpListener::bind(&rt, "127.0.0.1:0")?;
-    check(waits_at(&rt, &listener)?)
+    let waits = waits_at(&rt, &listener);
+    drop(listener);
+    check_result(waits)
 }
 
 // Whether a link ends, for reads and for writes.
@@ -284,11 +310,16 @@ fn has_octets(peer: &TcpStream) -> io::Result<bool> {
     Ok(peer.peek(&mut [0; 8])? > 0)
 }
 
+// Whether octets are written that are there at the peer.
+fn says<L: Link>(link: &mut L, peer: &TcpStream) -> io::Result<bool> {
+    Ok(link.write(b"abc") == LinkPut::Took(3) && has_octets(peer)?)
+}
+
 // Whether a peer that closes with octets unread, which resets the connection, ends the link.
 fn is_reset<H: Host>(host: &mut H, link: &mut H::L, peer: TcpStream) -> io::Result<bool> {
-    let written = link.write(b"abc") == LinkPut::Took(3) && has_octets(&peer)?;
+    let said = says(link, &peer);
     drop(peer);
-    Ok(written && ends(host, link))
+    Ok(said? && ends(host, link))
 }
 
 #[test]
@@ -296,7 +327,7 @@ fn a_peer_that_resets_ends_the_link(rt: HostRuntime) -> Result<(), Fail> {
     let (mut host, mut link, peer) = link_and_peer(&rt)?;
     let is_reset = is_reset(&mut host, &mut link, peer);
     drop((host, link));
-    check(is_reset?)
+    check_io(is_reset)
 }
 
 // Says `bye` and no more.
@@ -328,7 +359,10 @@ fn reads_half_closed<H: Host>(
     peer: &mut TcpStream,
 ) -> io::Result<bool> {
     say_bye(peer)?;
-    Ok(hears_bye(host, link) && hears_on(peer)?)
+    if !hears_bye(host, link) {
+        return Ok(false);
+    }
+    hears_on(peer)
 }
 
 #[test]
@@ -336,7 +370,7 @@ fn a_half_closed_peer_still_reads(rt: HostRuntime) -> Result<(), Fail> {
     let (mut host, mut link, mut peer) = link_and_peer(&rt)?;
     let reads = reads_half_closed(&mut host, &mut link, &mut peer);
     drop((host, link, peer));
-    check(reads?)
+    check_io(reads)
 }
 
 // How many octets a link takes until it isn't ready.
@@ -383,7 +417,7 @@ fn a_full_buffer_stalls_until_the_peer_reads(rt: HostRuntime) -> Result<(), Fail
     let (mut host, mut link, mut peer) = link_and_peer(&rt)?;
     let stalls = stalls_until_read(&mut host, &mut link, &mut peer);
     drop((host, link, peer));
-    check(stalls?)
+    check_io(stalls)
 }
 
 // Whether nothing is there to be read.
@@ -440,7 +474,7 @@ fn rest_wakes_at_its_time_and_at_readiness(rt: HostRuntime) -> Result<(), Fail> 
     let (mut host, mut link, mut peer) = link_and_peer(&rt)?;
     let rests_and_wakes = rests_and_wakes(&rt, &mut host, &mut link, &mut peer);
     drop((host, link, peer));
-    check(rests_and_wakes?)
+    check_result(rests_and_wakes)
 }
 
 // Whether a link with an octet isn't ready for 31 calls, and gives it at the next.
@@ -465,5 +499,5 @@ fn a_link_that_isnt_ready_is_left_alone_for_31_calls(rt: HostRuntime) -> Result<
     let (host, mut link, mut peer) = link_and_peer(&rt)?;
     let is_asked = is_asked_in_time(&mut link, &mut peer);
     drop((host, link, peer));
-    check(is_asked?)
+    check_io(is_asked)
 }

@@ -1,3 +1,4 @@
+use crate::checks::check;
 use std::alloc::{AllocError, Global};
 use std::test::Fail;
 use zq_base::Address;
@@ -32,31 +33,37 @@ fn source(
 #[test]
 fn a_source_moves_octets_by_its_plan(rt: HostRuntime) -> Result<(), Fail> {
     let mut source = source(rt.alloc(), b"abcdefgh", &[2, 6], &[1, 9, 3])?;
-    let answers: [(Got, &[u8]); 7] = [
-        (Got::Bytes(1), b"a"),
-        (Got::Failed, b""),
-        (Got::Bytes(3), b"bcd"),
-        (Got::Bytes(3), b"efg"),
-        (Got::Bytes(1), b"h"),
-        (Got::Failed, b""),
-        (Got::End, b""),
-    ];
-    assert!(rt; gives(&mut source, &answers));
-    Ok(())
+    let right = gives(
+        &mut source,
+        &[
+            (Got::Bytes(1), b"a"),
+            (Got::Failed, b""),
+            (Got::Bytes(3), b"bcd"),
+            (Got::Bytes(3), b"efg"),
+            (Got::Bytes(1), b"h"),
+            (Got::Failed, b""),
+            (Got::End, b""),
+        ],
+    );
+    drop(source);
+    check(right)
 }
 
 #[test]
 fn a_sure_source_gives_all_that_fits_and_ends(rt: HostRuntime) -> Result<(), Fail> {
     let octets = Vec::from_slice(rt.alloc(), b"abcdef")?;
     let mut source = SureSource::new(octets, Vec::new(rt.alloc()));
-    let answers: [(Got, &[u8]); 4] = [
-        (Got::Bytes(4), b"abcd"),
-        (Got::Bytes(2), b"ef"),
-        (Got::End, b""),
-        (Got::End, b""),
-    ];
-    assert!(rt; gives(&mut source, &answers));
-    Ok(())
+    let right = gives(
+        &mut source,
+        &[
+            (Got::Bytes(4), b"abcd"),
+            (Got::Bytes(2), b"ef"),
+            (Got::End, b""),
+            (Got::End, b""),
+        ],
+    );
+    drop(source);
+    check(right)
 }
 
 // Whether a sink answers so to these pieces, in turn.
@@ -78,28 +85,35 @@ fn sink(alloc: Global, fails: &[u64], sizes: &[usize]) -> Result<MemSink, AllocE
 #[test]
 fn a_sink_keeps_what_it_took(rt: HostRuntime) -> Result<(), Fail> {
     let mut sink = sink(rt.alloc(), &[3], &[2, 0, 5])?;
-    let answers: [(&[u8], Put); 4] = [
-        (b"abc", Put::Took(2)),
-        (b"de", Put::Took(1)),
-        (b"f", Put::Failed),
-        (b"ghijklm", Put::Took(5)),
-    ];
-    assert!(rt; takes(&mut sink, &answers));
-    assert!(rt; sink.octets() == b"abdghijk".as_slice());
-    Ok(())
+    let took = takes(
+        &mut sink,
+        &[
+            (b"abc", Put::Took(2)),
+            (b"de", Put::Took(1)),
+            (b"f", Put::Failed),
+            (b"ghijklm", Put::Took(5)),
+        ],
+    );
+    let kept = sink.octets() == b"abdghijk".as_slice();
+    drop(sink);
+    check(took && kept)
 }
 
 #[test]
 fn a_sure_sink_keeps_all(rt: HostRuntime) {
     let mut sure = SureSink::new(rt.alloc(), Vec::new(rt.alloc()));
-    let answers: [(&[u8], Put); 4] = [
-        (b"abc", Put::Took(3)),
-        (b"de", Put::Took(2)),
-        (b"f", Put::Took(1)),
-        (b"ghijklm", Put::Took(7)),
-    ];
-    assert!(rt; takes(&mut sure, &answers));
-    assert!(rt; sure.octets() == b"abcdefghijklm".as_slice());
+    let took = takes(
+        &mut sure,
+        &[
+            (b"abc", Put::Took(3)),
+            (b"de", Put::Took(2)),
+            (b"f", Put::Took(1)),
+            (b"ghijklm", Put::Took(7)),
+        ],
+    );
+    let kept = sure.octets() == b"abcdefghijklm".as_slice();
+    drop(sure);
+    assert!(rt; took && kept);
 }
 
 fn fails_always<H: Host>(host: &mut H) -> bool {
@@ -122,8 +136,7 @@ fn link_fails<L: Link>(link: &mut L) -> bool {
 
 #[test]
 fn the_host_without_links_gives_none(rt: HostRuntime) {
-    assert!(rt; fails_always(&mut NoHost::new()));
-    assert!(rt; link_fails(&mut NoLink::new()));
+    assert!(rt; fails_always(&mut NoHost::new()) && link_fails(&mut NoLink::new()));
 }
 
 fn three_readings<C: Clock>(clock: &mut C) -> [u64; 3] {
@@ -137,6 +150,6 @@ fn pass_twice<G: Gate>(gate: &G) {
 
 #[test]
 fn the_clock_ticks_at_each_read(rt: HostRuntime) {
-    assert_eq!(rt; three_readings(&mut TickClock::new()), [0, 1, 2]);
+    assert!(rt; three_readings(&mut TickClock::new()) == [0, 1, 2]);
     pass_twice(&OpenGate);
 }

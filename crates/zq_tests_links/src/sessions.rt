@@ -2,7 +2,7 @@ ghost use Rattle.std.specs.Prelude.{◌≡◌, IfOk};
 ghost use Rattle.spec_zmtp.specs.OwnCommands.{IsEngineOpts};
 ghost use Rattle.msg_pipe.specs.Known.{IsThere};
 
-use crate::checks::check;
+use crate::checks::{check, check_answer};
 use link_side::{Dial, Dialler, LinkSide};
 use msg_pipe::{Pipes, PlainPipes};
 use session_life::{Accepted, Listener};
@@ -34,12 +34,20 @@ fn pair(alloc: Global) -> EngineOpts
     }
 }
 
+const FAILING_CALLS: [PlannedCall; 2] = [
+    PlannedCall {
+        kind: CallKind::Connect,
+        number: 1,
+    },
+    PlannedCall {
+        kind: CallKind::Listen,
+        number: 1,
+    },
+];
+
 // A host whose first connect and first listen fail.
 fn host(alloc: Global) -> Result<MemHost, AllocError> {
-    let mut fails = Vec::new(alloc);
-    for kind in [CallKind::Connect, CallKind::Listen] {
-        fails.push(PlannedCall { kind, number: 1 })?;
-    }
+    let fails = Vec::from_slice(alloc, &FAILING_CALLS)?;
     let plan = Plan {
         fails: Seq::of_vec(fails),
         stalls: Seq::new(alloc),
@@ -67,6 +75,18 @@ fn writes_at<P: Pipes, L: Link>(
     written.put == Some(LinkPut::Took(count)) && written.look.is_none()
 }
 
+// The same over a pipe more.
+fn writes_over<L: Link>(
+    alloc: Global,
+    pipes: &mut PlainPipes,
+    side: &mut LinkSide,
+    link: &mut L,
+    count: usize,
+) -> Result<bool, AllocError> {
+    let (_, mut input) = pipes.add(alloc, 4)?;
+    Ok(writes_at(pipes, &mut input, side, link, count))
+}
+
 // The same over a pipe of its own.
 fn writes<L: Link>(
     alloc: Global,
@@ -75,13 +95,27 @@ fn writes<L: Link>(
     count: usize,
 ) -> Result<bool, AllocError> {
     let mut pipes = PlainPipes::new(alloc);
-    let (_, mut input) = pipes.add(alloc, 4)?;
-    let right = writes_at(&mut pipes, &mut input, side, link, count);
+    let right = writes_over(alloc, &mut pipes, side, link, count);
     drop(pipes);
-    Ok(right)
+    right
 }
 
-// Whether a side's reading part read so many octets, over a pipe of its own.
+// Whether a side's reading part read so many octets, over a pipe more.
+fn reads_over<L: Link>(
+    alloc: Global,
+    pipes: &mut PlainPipes,
+    side: &mut LinkSide,
+    link: &mut L,
+    count: usize,
+) -> Result<bool, AllocError> {
+    let (mut out, _) = pipes.add(alloc, 4)?;
+    match side.read_part(alloc, pipes, &mut out, link) {
+        Ok(Some(got)) => Ok(got == LinkGot::Bytes(count)),
+        _ => Ok(false),
+    }
+}
+
+// The same over a pipe of its own.
 fn reads<L: Link>(
     alloc: Global,
     side: &mut LinkSide,
@@ -89,13 +123,9 @@ fn reads<L: Link>(
     count: usize,
 ) -> Result<bool, AllocError> {
     let mut pipes = PlainPipes::new(alloc);
-    let (mut out, _) = pipes.add(alloc, 4)?;
-    let right = match side.read_part(alloc, &mut pipes, &mut out, link) {
-        Ok(Some(got)) => got == LinkGot::Bytes(count),
-        _ => false,
-    };
+    let right = reads_over(alloc, &mut pipes, side, link, count);
     drop(pipes);
-    Ok(right)
+    right
 }
 
 /// What a dial gave, without the link.
@@ -165,12 +195,20 @@ fn accepts_with_room<H: Host>(listener: &mut Listener, host: &mut H) -> bool {
     !without && accepts(listener, host, true) && counted(listener) == 1
 }
 
-// Whether a listener asks for this object to end.
-fn asks(listener: &mut Listener, object: u32) -> bool {
-    match listener.due() {
+// Whether it is the request of this object to end.
+fn is_over(due: &Option<Due>, object: u32) -> bool {
+    match due {
         Some(Due::Request(Req::AskOver(who))) => who.0 == object,
         _ => false,
     }
+}
+
+// Whether a listener asks for this object to end.
+fn asks(listener: &mut Listener, object: u32) -> bool {
+    let due = listener.due();
+    let asks = is_over(&due, object);
+    drop(due);
+    asks
 }
 
 // Whether all octets of a greeting are there, and those of another are taken.
@@ -187,8 +225,10 @@ fn greets_both_ways<L: Link>(
     near: &mut L,
     far: &mut L,
 ) -> Result<bool, AllocError> {
-    let said = writes(alloc, side, near, 64)?;
-    Ok(said && greets(far) && reads(alloc, side, near, 64)?)
+    if !writes(alloc, side, near, 64)? || !greets(far) {
+        return Ok(false);
+    }
+    reads(alloc, side, near, 64)
 }
 
 // The same of a new side.
@@ -204,7 +244,7 @@ fn a_side_says_its_greeting_and_hears_another(rt: HostRuntime) -> Result<(), Fai
     let (mut near, mut far) = MemLink::pair(rt.alloc(), 100, 100)?;
     let greets = new_side_greets(rt.alloc(), &mut near, &mut far);
     drop((near, far));
-    check(greets?)
+    check_answer(greets)
 }
 
 // Whether a new dialler's dials at these moments give these, and one at the last moment, behind
@@ -215,22 +255,27 @@ fn waits<H: Host>(
     times: &[(u64, Gave)],
     over: u64,
     last: u64,
-) -> Result<bool, AllocError> {
+) -> bool {
     let mut dialler = Dialler::new(ObjId(2), AT, pair(alloc), 10);
     let right = dials(alloc, &mut dialler, host, times);
     dialler.link_over(over);
     let early = dial(alloc, &mut dialler, host, last);
     drop(dialler);
-    Ok(right? && early? == Gave::Nothing)
+    right == Ok(true) && early == Ok(Gave::Nothing)
 }
 
 #[test]
 fn a_dial_waits_for_its_interval(rt: HostRuntime) -> Result<(), Fail> {
     let mut host = host(rt.alloc())?;
-    let times = [(5, Gave::Fault), (14, Gave::Nothing), (15, Gave::Fault)];
-    let waits = waits(rt.alloc(), &mut host, &times, 20, 29);
+    let waits = waits(
+        rt.alloc(),
+        &mut host,
+        &[(5, Gave::Fault), (14, Gave::Nothing), (15, Gave::Fault)],
+        20,
+        29,
+    );
     drop(host);
-    check(waits?)
+    check(waits)
 }
 
 // Whether a listener asks for this object to end, once.
@@ -242,7 +287,9 @@ fn asks_once(listener: &mut Listener, object: u32) -> bool {
 fn fails_and_asks<H: Host>(host: &mut H) -> bool {
     let mut listener = Listener::new(ObjId(1), AT);
     listener.listen(host);
-    asks_once(&mut listener, 1)
+    let asks = asks_once(&mut listener, 1);
+    drop(listener);
+    asks
 }
 
 #[test]
@@ -262,13 +309,15 @@ fn listener<H: Host>(host: &mut H) -> Listener {
 }
 
 // Whether what a new dialler dials at its second try is accepted.
-fn accepts_a_dial<H: Host>(alloc: Global, host: &mut H) -> Result<bool, AllocError> {
+fn accepts_a_dial<H: Host>(alloc: Global, host: &mut H) -> bool {
     let mut listener = listener(host);
     let mut dialler = Dialler::new(ObjId(2), AT, pair(alloc), 10);
-    let times = [(0, Gave::Fault), (10, Gave::Link)];
-    let dialled = dials(alloc, &mut dialler, host, &times);
+    let times = &[(0, Gave::Fault), (10, Gave::Link)];
+    let dialled = dials(alloc, &mut dialler, host, times);
     drop(dialler);
-    Ok(dialled? && accepts_with_room(&mut listener, host))
+    let accepted = accepts_with_room(&mut listener, host);
+    drop(listener);
+    dialled == Ok(true) && accepted
 }
 
 #[test]
@@ -276,5 +325,5 @@ fn a_listener_accepts_what_is_dialled(rt: HostRuntime) -> Result<(), Fail> {
     let mut host = host(rt.alloc())?;
     let accepts = accepts_a_dial(rt.alloc(), &mut host);
     drop(host);
-    check(accepts?)
+    check(accepts)
 }

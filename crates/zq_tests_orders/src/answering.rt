@@ -4,7 +4,7 @@ ghost use Rattle.script_actor.specs.Stepping.{ActorAgrees};
 
 use msg_pipe::{Pipes, PlainPipes};
 use one_core::OneCore;
-use read_laws::scripts_that_are_read_may_be_asked;
+use replay_laws::scripts_that_are_read_may_be_asked;
 use run_journal::{ActorLines, RunJournal, print};
 use run_script::{RunActor, read_run_script};
 use script_actor::{Actor, Sockets};

@@ -3,7 +3,7 @@ ghost use Rattle.script_actor.specs.MayAsk.{MayAskScript};
 
 use msg_pipe::PlainPipes;
 use one_core::OneCore;
-use read_laws::scripts_that_are_read_may_be_asked;
+use replay_laws::scripts_that_are_read_may_be_asked;
 use run_journal::{RunJournal, print};
 use run_script::{RunActor, read_run_script};
 use std::alloc::{AllocError, Global};

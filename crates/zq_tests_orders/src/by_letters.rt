@@ -4,7 +4,7 @@ ghost use Rattle.script_actor.specs.MayAsk.{MayAskScript};
 
 use crate::arrangements::next_arrangement;
 use crate::by_events::journal_by;
-use read_laws::scripts_that_are_read_may_be_asked;
+use replay_laws::scripts_that_are_read_may_be_asked;
 use run_script::{RunActor, read_run_script};
 use std::alloc::{AllocError, Global};
 use std::test::Fail;

@@ -6,7 +6,7 @@ use crate::draws::drawn_order;
 use crate::drive::ends;
 use msg_pipe::PlainPipes;
 use one_core::OneCore;
-use read_laws::scripts_that_are_read_may_be_asked;
+use replay_laws::scripts_that_are_read_may_be_asked;
 use run_script::{RunActor, read_run_script};
 use std::alloc::{AllocError, Global};
 

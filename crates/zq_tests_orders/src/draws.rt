@@ -1,6 +1,6 @@
 //! Orders that are drawn by a seed.
+use spec_journal::Order;
 use std::alloc::{AllocError, Global};
-use turn_order::Order;
 
 // Who asks the root: a number above those of all actors and of the reaper.
 const ASKS: usize = 100;

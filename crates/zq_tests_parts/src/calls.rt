@@ -1,5 +1,5 @@
 //! Calls of a socket of any kind over the pairs of a test, by steps.
-ghost use Rattle.std.specs.Prelude.{◌≡◌, length, OnOk};
+ghost use Rattle.std.specs.Prelude.{◌≡◌, true, length};
 ghost use Rattle.zq_tests_parts.specs.Over.{IsOver};
 
 use crate::messages::message;
@@ -9,7 +9,6 @@ use any_sock::{AnySock, ChangeFault};
 use msg_pipe::Peers;
 use spec_pattern::{Attached, RecvRefusal};
 use std::alloc::Global;
-use std::test::Fail;
 
 /// Whether a pair more is answered so.
 pub fn joins(
@@ -19,16 +18,21 @@ pub fn joins(
     room: usize,
     identity: &[u8],
     answer: Attached,
-) -> Result<bool, Fail>
+) -> bool
     requires { IsOver (length peers.old) sock.old }
-    ensures { OnOk result (IsOver (length peers.new) sock.new) }
+    ensures { result ≡ true → IsOver (length peers.new) sock.new }
 {
     if !sock.can_name(identity) {
-        return Err(Fail::new("no name is left, or it may be none"));
+        return false;
     }
     let place = peers.count();
-    peers.attach(alloc, room)?;
-    Ok(sock.attach(alloc, place, identity)? == answer)
+    if !peers.attach(alloc, room) {
+        return false;
+    }
+    match sock.attach(alloc, place, identity) {
+        Ok(attached) => return attached == answer,
+        Err(_) => return false,
+    }
 }
 
 /// The end at this place is detached; false where there is none.
@@ -51,12 +55,14 @@ pub fn sends(
     head: &[u8],
     more: usize,
     told: Told,
-) -> Result<bool, Fail>
+) -> bool
     requires { IsOver (length peers.old) sock.old }
     ensures { IsOver (length peers.new) sock.new }
 {
-    let message = message(alloc, head, more)?;
-    Ok(told_of(sock.send(alloc, peers, message)) == told)
+    match message(alloc, head, more) {
+        Some(message) => return told_of(sock.send(alloc, peers, message)) == told,
+        None => return false,
+    }
 }
 
 /// Whether this message is received of this pair, behind so many that are dropped.
@@ -148,12 +154,7 @@ pub fn adds_many(alloc: Global, sock: &mut AnySock, peers: &mut TestPeers, count
 }
 
 // Whether a subscription to this number is sent.
-fn sends_number(
-    alloc: Global,
-    sock: &mut AnySock,
-    peers: &mut TestPeers,
-    number: u32,
-) -> Result<bool, Fail>
+fn sends_number(alloc: Global, sock: &mut AnySock, peers: &mut TestPeers, number: u32) -> bool
     requires { IsOver (length peers.old) sock.old }
     ensures { IsOver (length peers.new) sock.new }
 {
@@ -163,19 +164,14 @@ fn sends_number(
 }
 
 /// Whether it sends subscriptions to so many numbers.
-pub fn sends_many(
-    alloc: Global,
-    sock: &mut AnySock,
-    peers: &mut TestPeers,
-    count: u32,
-) -> Result<bool, Fail>
+pub fn sends_many(alloc: Global, sock: &mut AnySock, peers: &mut TestPeers, count: u32) -> bool
     requires { IsOver (length peers.old) sock.old }
     ensures { IsOver (length peers.new) sock.new }
 {
     'numbers: for number in 0..count {
-        if !sends_number(alloc, sock, peers, number)? {
-            return Ok(false);
+        if !sends_number(alloc, sock, peers, number) {
+            return false;
         }
     }
-    Ok(true)
+    true
 }

@@ -1,8 +1,9 @@
-ghost use Rattle.std.specs.Prelude.{IfOk};
+ghost use Rattle.std.specs.Prelude.{IfSome};
 ghost use Rattle.spec_pattern.specs.Pipe.{IsCommittable};
 
 use msg_pipe::Taken;
 use std::alloc::Global;
+use std::process::Abort;
 use std::test::Fail;
 use zq_base::{Frame, Message};
 
@@ -14,73 +15,75 @@ pub fn check(holds: bool) -> Result<(), Fail> {
     Err(Fail::new("it doesn't hold"))
 }
 
-// Adds a frame of these octets.
-fn add(alloc: Global, frames: &mut Vec<Frame>, octets: &[u8]) -> Result<(), Fail> {
-    frames.reserve(1)?;
-    frames.push_reserved(Frame::of_slice(alloc, octets)?);
-    Ok(())
+/// Stops a test of which this doesn't hold.
+pub fn must<R: Abort>(rt: &R, holds: bool) {
+    assert!(rt; holds);
 }
 
-// Adds this frame, and so many frames `x` behind it.
-fn add_many(alloc: Global, frames: &mut Vec<Frame>, head: &[u8], more: usize) -> Result<(), Fail> {
-    add(alloc, frames, head)?;
+// Whether a frame of these octets is added.
+fn adds(alloc: Global, frames: &mut Vec<Frame>, octets: &[u8]) -> bool {
+    match Frame::of_slice(alloc, octets) {
+        Ok(frame) => return frames.push(frame).is_ok(),
+        Err(_) => return false,
+    }
+}
+
+// Whether so many frames `x` are added.
+fn adds_many(alloc: Global, frames: &mut Vec<Frame>, more: usize) -> bool {
     for _ in 0..more {
-        add(alloc, frames, b"x")?;
-    }
-    Ok(())
-}
-
-// Adds a frame of each of these octets.
-fn add_letters(alloc: Global, frames: &mut Vec<Frame>, octets: &[u8]) -> Result<(), Fail> {
-    for octet in octets {
-        add(alloc, frames, &[*octet])?;
-    }
-    Ok(())
-}
-
-// A message of these frames, where they were added.
-fn of_frames(frames: Vec<Frame>, added: Result<(), Fail>) -> Result<Message, Fail> {
-    match Message::of_parts(frames) {
-        Ok(message) => match added {
-            Ok(()) => Ok(message),
-            Err(fail) => {
-                drop(message);
-                Err(fail)
-            }
-        },
-        Err(refused) => {
-            drop(refused);
-            added?;
-            Err(Fail::new("1 to 1,024 frames"))
+        if !adds(alloc, frames, b"x") {
+            return false;
         }
     }
+    true
 }
 
-/// A message of this frame, and of so many frames `x` behind it.
-pub fn message(alloc: Global, head: &[u8], more: usize) -> Result<Message, Fail> {
+// Whether a frame of each of these octets is added.
+fn adds_letters(alloc: Global, frames: &mut Vec<Frame>, octets: &[u8]) -> bool {
+    for octet in octets {
+        if !adds(alloc, frames, &[*octet]) {
+            return false;
+        }
+    }
+    true
+}
+
+// The message of these frames, where all were added.
+fn of_frames(frames: Vec<Frame>, added: bool) -> Option<Message> {
+    if !added {
+        drop(frames);
+        return None;
+    }
+    Message::of_parts(frames).ok()
+}
+
+/// The message of this frame, and of so many frames `x` behind it, where that is a message and
+/// there is memory.
+pub fn message(alloc: Global, head: &[u8], more: usize) -> Option<Message> {
     let mut frames = Vec::new(alloc);
-    let added = add_many(alloc, &mut frames, head, more);
+    let added = adds(alloc, &mut frames, head) && adds_many(alloc, &mut frames, more);
     of_frames(frames, added)
 }
 
-/// A message of one frame of each of these octets, which fits a pipe.
-pub fn letters(alloc: Global, octets: &[u8]) -> Result<Message, Fail>
-    ensures { IfOk result (λ m. IsCommittable m) }
+/// The message of one frame of each of these octets, where it fits a pipe and there is memory.
+pub fn letters(alloc: Global, octets: &[u8]) -> Option<Message>
+    ensures { IfSome result (λ m. IsCommittable m) }
 {
     let mut frames = Vec::new(alloc);
-    let added = add_letters(alloc, &mut frames, octets);
-    fitting(of_frames(frames, added)?)
+    let added = adds_letters(alloc, &mut frames, octets);
+    fitting(of_frames(frames, added))
 }
 
-/// A message that fits a pipe.
-pub fn fitting(message: Message) -> Result<Message, Fail>
-    ensures { IfOk result (λ m. IsCommittable m) }
+/// The message, where it fits a pipe.
+pub fn fitting(message: Option<Message>) -> Option<Message>
+    ensures { IfSome result (λ m. IsCommittable m) }
 {
+    let message = message?;
     if message.len() > Message::MAX_COMMITTED {
         drop(message);
-        return Err(Fail::new("it fits no pipe"));
+        return None;
     }
-    Ok(message)
+    Some(message)
 }
 
 // Whether frames are `x`.
@@ -111,10 +114,23 @@ pub fn spells(message: &Message, octets: &[u8]) -> bool {
     message.len() == octets.len()
 }
 
-/// Whether what was taken is the message of one frame of each of these octets.
-pub fn is_item(taken: Taken, octets: &[u8]) -> bool {
+/// What was taken, if it is a message.
+pub fn item_of(taken: Taken) -> Option<Message> {
     match taken {
-        Taken::Item(message) => spells(&message, octets),
-        _other => false,
+        Taken::Item(message) => return Some(message),
+        Taken::Empty | Taken::Delimiter => return None,
     }
+}
+
+/// Whether there is a message, of one frame of each of these octets.
+pub fn is_there(message: Option<Message>, octets: &[u8]) -> bool {
+    match message {
+        Some(message) => return spells(&message, octets),
+        None => return false,
+    }
+}
+
+/// Whether what was taken is that message.
+pub fn is_item(taken: Taken, octets: &[u8]) -> bool {
+    is_there(item_of(taken), octets)
 }

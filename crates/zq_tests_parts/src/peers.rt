@@ -1,10 +1,10 @@
 ghost use Rattle.std.specs.Prelude.{◌≡◌, false};
 ghost use Rattle.msg_pipe.specs.PlainPipe.{plain_writing};
 
+use crate::messages::item_of;
 use msg_pipe::{Peers, PlainPipe, PutIn, Taken};
-use std::alloc::{AllocError, Global};
+use std::alloc::Global;
 use std::marker::Model;
-use std::test::Fail;
 use zq_base::{Message, PairId};
 
 /// The writing half of a pair's near end, which is never sealed.
@@ -58,18 +58,19 @@ impl Far {
     ghost use Rattle.spec_pattern.specs.Pipe.{IsCommittable};
     ghost use Rattle.msg_pipe.specs.Told.{TakesWhole};
 
-    fn put(&mut self, message: Message) -> Result<(), Fail>
+    // Whether it is not sealed, and has room for the message.
+    fn put(&mut self, message: Message) -> bool
         requires { IsCommittable message }
     {
         if self.sealed {
             drop(message);
-            return Err(Fail::new("the far end is sealed"));
+            return false;
         }
         match self.pipe.put(message) {
-            PutIn::Ok => return Ok(()),
+            PutIn::Ok => return true,
             PutIn::Full(back) => {
                 drop(back);
-                return Err(Fail::new("there is no room at the far end"));
+                return false;
             }
         }
     }
@@ -86,9 +87,11 @@ impl Far {
     }
 }
 
-// The two pipes of a pair, which hold so many messages.
-fn two_pipes(alloc: Global, capacity: usize) -> Result<(Near, Far), AllocError> {
-    let there = PlainPipe::new(alloc, capacity)?;
+// The two pipes of a pair, which hold so many messages, where there is memory.
+fn two_pipes(alloc: Global, capacity: usize) -> Option<(Near, Far)> {
+    let Ok(there) = PlainPipe::new(alloc, capacity) else {
+        return None;
+    };
     match PlainPipe::new(alloc, capacity) {
         Ok(back) => {
             let near = Near { pipe: there };
@@ -96,17 +99,17 @@ fn two_pipes(alloc: Global, capacity: usize) -> Result<(Near, Far), AllocError> 
                 pipe: back,
                 sealed: false,
             };
-            return Ok((near, far));
+            return Some((near, far));
         }
-        Err(fault) => {
+        Err(_) => {
             drop(there);
-            return Err(fault);
+            return None;
         }
     }
 }
 
 impl TestPeers {
-    ghost use Rattle.std.specs.Prelude.{◌≡◌, ◌+◌, [], length, IfOk, OnOk};
+    ghost use Rattle.std.specs.Prelude.{◌≡◌, ◌+◌, [], true, length, IfSome};
     ghost use Rattle.spec_pattern.specs.Pipe.{IsCommittable};
 
     pub fn new(alloc: Global) -> TestPeers
@@ -119,29 +122,29 @@ impl TestPeers {
         }
     }
 
-    /// A pair for each of these, whose pipes hold so many messages.
-    pub fn of_rooms(alloc: Global, rooms: &[usize]) -> Result<TestPeers, Fail>
-        ensures { IfOk result (λ p. length p ≡ length rooms.now) }
+    /// A pair for each of these, whose pipes hold so many messages, where there is memory.
+    pub fn of_rooms(alloc: Global, rooms: &[usize]) -> Option<TestPeers>
+        ensures { IfSome result (λ p. length p ≡ length rooms.now) }
     {
         let mut peers = TestPeers::new(alloc);
-        match peers.attach_all(alloc, rooms) {
-            Ok(()) => return Ok(peers),
-            Err(fail) => {
-                drop(peers);
-                return Err(fail);
-            }
+        if !peers.attach_all(alloc, rooms) {
+            drop(peers);
+            return None;
         }
+        Some(peers)
     }
 
-    // Adds a pair for each of these, whose pipes hold so many messages.
-    fn attach_all(&mut self, alloc: Global, rooms: &[usize]) -> Result<(), Fail>
+    // Whether a pair is added for each of these, whose pipes hold so many messages.
+    fn attach_all(&mut self, alloc: Global, rooms: &[usize]) -> bool
         requires { self.old ≡ [] }
-        ensures { OnOk result (length self.new ≡ length rooms.now) }
+        ensures { result ≡ true → length self.new ≡ length rooms.now }
     {
         'rooms: for room in rooms {
-            self.attach(alloc, *room)?;
+            if !self.attach(alloc, *room) {
+                return false;
+            }
         }
-        Ok(())
+        true
     }
 
     pub fn count(&self) -> usize
@@ -150,21 +153,29 @@ impl TestPeers {
         self.writable.len()
     }
 
-    /// Adds a pair behind the others, whose two pipes hold so many messages.
-    pub fn attach(&mut self, alloc: Global, capacity: usize) -> Result<(), Fail>
-        ensures { OnOk result (length self.new ≡ length self.old + 1) }
+    /// Whether a pair is added behind the others, whose two pipes hold so many messages.
+    pub fn attach(&mut self, alloc: Global, capacity: usize) -> bool
+        ensures { result ≡ true → length self.new ≡ length self.old + 1 }
     {
         if self.writable.len() >= 1000 {
-            return Err(Fail::new("at most 1,000 pairs"));
+            return false;
         }
-        self.near.reserve(1)?;
-        self.far.reserve(1)?;
-        self.writable.reserve(1)?;
-        let (near, far) = two_pipes(alloc, capacity)?;
+        let Ok(()) = self.near.reserve(1) else {
+            return false;
+        };
+        let Ok(()) = self.far.reserve(1) else {
+            return false;
+        };
+        let Ok(()) = self.writable.reserve(1) else {
+            return false;
+        };
+        let Some((near, far)) = two_pipes(alloc, capacity) else {
+            return false;
+        };
         self.near.push_reserved(near);
         self.far.push_reserved(far);
         self.writable.push_reserved(true);
-        Ok(())
+        true
     }
 
     /// The near end of a pair can't be written any more; false where there is no such pair.
@@ -178,46 +189,47 @@ impl TestPeers {
         true
     }
 
-    /// Puts a message in at the far end of a pair.
-    pub fn far_put(&mut self, place: usize, message: Message) -> Result<(), Fail>
+    /// Whether a message goes in at the far end of a pair.
+    pub fn far_put(&mut self, place: usize, message: Message) -> bool
         requires { IsCommittable message }
         ensures { length self.new ≡ length self.old }
     {
         if place >= self.far.len() {
             drop(message);
-            return Err(Fail::new("no such place"));
+            return false;
         }
         self.far[place].put(message)
     }
 
-    pub fn far_seal(&mut self, place: usize) -> Result<(), Fail>
+    /// Seals the far end of a pair; false where there is no such pair.
+    pub fn far_seal(&mut self, place: usize) -> bool
         ensures { length self.new ≡ length self.old }
     {
         if place >= self.far.len() {
-            return Err(Fail::new("no such place"));
+            return false;
         }
         self.far[place].seal();
-        Ok(())
+        true
     }
 
-    /// Takes the oldest message at the near end of a pair.
-    pub fn near_take(&mut self, place: usize) -> Result<Taken, Fail>
+    /// Takes the oldest message at the near end of a pair, if there is one.
+    pub fn near_take(&mut self, place: usize) -> Option<Message>
         ensures { length self.new ≡ length self.old }
     {
         if place >= self.far.len() {
-            return Err(Fail::new("no such place"));
+            return None;
         }
-        Ok(self.far[place].take())
+        item_of(self.far[place].take())
     }
 
-    /// Takes the oldest message at the far end of a pair.
-    pub fn far_take(&mut self, place: usize) -> Result<Taken, Fail>
+    /// Takes the oldest message at the far end of a pair, if there is one.
+    pub fn far_take(&mut self, place: usize) -> Option<Message>
         ensures { length self.new ≡ length self.old }
     {
         if place >= self.near.len() {
-            return Err(Fail::new("no such place"));
+            return None;
         }
-        Ok(self.near[place].pipe.take())
+        item_of(self.near[place].pipe.take())
     }
 }
 

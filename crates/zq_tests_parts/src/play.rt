@@ -1,5 +1,5 @@
 //! A socket of any kind is made, and does steps.
-ghost use Rattle.std.specs.Prelude.{◌≡◌, [], length, OnOk};
+ghost use Rattle.std.specs.Prelude.{◌≡◌, [], true, length};
 ghost use Rattle.any_sock.specs.Over.{peer_places};
 ghost use Rattle.zq_tests_parts.specs.Over.{IsOver};
 
@@ -16,52 +16,45 @@ use std::test::Fail;
 use zq_base::{Kind, Options, Role, Seq};
 
 // Whether a step tells what it says.
-fn tells(alloc: Global, sock: &mut AnySock, peers: &mut TestPeers, step: Step) -> Result<bool, Fail>
+fn tells(alloc: Global, sock: &mut AnySock, peers: &mut TestPeers, step: Step) -> bool
     requires { IsOver (length peers.old) sock.old }
-    ensures { OnOk result (IsOver (length peers.new) sock.new) }
+    ensures { result ≡ true → IsOver (length peers.new) sock.new }
 {
     match step {
-        Step::Joins(room, identity, answer) => {
-            return joins(alloc, sock, peers, room, identity, answer);
-        }
-        Step::Leaves(place) => return Ok(leaves(sock, peers, place)),
-        Step::Sends(head, more, told) => return sends(alloc, sock, peers, head, more, told),
-        Step::Gets(pair, head, more, dropped) => {
-            return Ok(gets(alloc, sock, peers, pair, head, more, dropped));
-        }
-        Step::GetsNone(refusal) => return Ok(gets_none(alloc, sock, peers, refusal)),
-        Step::Pumps => return Ok(pumps(alloc, sock, peers)),
-        Step::Adds(topic, fault) => return Ok(adds(alloc, sock, peers, topic, fault)),
-        Step::Cancels(topic, fault) => return Ok(cancels(alloc, sock, peers, topic, fault)),
-        Step::AddsMany(count) => return Ok(adds_many(alloc, sock, peers, count)),
-        Step::SendsMany(count) => return sends_many(alloc, sock, peers, count),
-        Step::Says(place, head, more) => return says(alloc, peers, place, head, more),
-        Step::SaysMany(place, count) => return says_many(alloc, peers, place, count),
-        Step::Takes(place, head, more) => return takes(peers, place, head, more),
-        Step::TakesNone(place) => return takes_none(peers, place),
-        Step::Waits(place, one) => return waits(peers, place, one),
+        Step::Joins(room, identity, answer) => joins(alloc, sock, peers, room, identity, answer),
+        Step::Leaves(place) => leaves(sock, peers, place),
+        Step::Sends(head, more, told) => sends(alloc, sock, peers, head, more, told),
+        Step::Gets(pair, head, more, dropped) => gets(
+            alloc, sock, peers, pair, head, more, dropped,
+        ),
+        Step::GetsNone(refusal) => gets_none(alloc, sock, peers, refusal),
+        Step::Pumps => pumps(alloc, sock, peers),
+        Step::Adds(topic, fault) => adds(alloc, sock, peers, topic, fault),
+        Step::Cancels(topic, fault) => cancels(alloc, sock, peers, topic, fault),
+        Step::AddsMany(count) => adds_many(alloc, sock, peers, count),
+        Step::SendsMany(count) => sends_many(alloc, sock, peers, count),
+        Step::Says(place, head, more) => says(alloc, peers, place, head, more),
+        Step::SaysMany(place, count) => says_many(alloc, peers, place, count),
+        Step::Takes(place, head, more) => takes(peers, place, head, more),
+        Step::TakesNone(place) => takes_none(peers, place),
+        Step::Waits(place, one) => waits(peers, place, one),
     }
 }
 
 // Whether each step tells what it says.
-fn all_tell(
-    alloc: Global,
-    sock: &mut AnySock,
-    peers: &mut TestPeers,
-    steps: &[Step],
-) -> Result<bool, Fail>
+fn all_tell(alloc: Global, sock: &mut AnySock, peers: &mut TestPeers, steps: &[Step]) -> bool
     requires { IsOver (length peers.old) sock.old }
 {
     'steps: for step in steps {
-        if !tells(alloc, sock, peers, *step)? {
-            return Ok(false);
+        if !tells(alloc, sock, peers, *step) {
+            return false;
         }
     }
-    Ok(true)
+    true
 }
 
 // Whether the steps of a socket without peers do.
-fn do_as_told(alloc: Global, sock: &mut AnySock, steps: &[Step]) -> Result<bool, Fail>
+fn do_as_told(alloc: Global, sock: &mut AnySock, steps: &[Step]) -> bool
     requires { peer_places sock.old ≡ [] }
 {
     let mut peers = TestPeers::new(alloc);
@@ -96,5 +89,5 @@ pub fn play(alloc: Global, kind: Kind, strict: bool, steps: &[Step]) -> Result<(
     let mut sock = fresh(alloc, kind, strict);
     let done = do_as_told(alloc, &mut sock, steps);
     drop(sock);
-    check(done?)
+    check(done)
 }

@@ -47,26 +47,19 @@ fn nothing_is_received_where_no_message_is(rt: HostRuntime) -> Result<(), Fail> 
     )
 }
 
-// What an attach under the name `k` is answered.
-fn join(alloc: Global, router: &mut Router, place: usize) -> Result<Attached, Fail> {
-    if router.is_attached(place) {
-        return Err(Fail::new("the end is attached"));
+// What an attach under the name `k` is answered, where it may be asked and there is memory.
+fn join(alloc: Global, router: &mut Router, place: usize) -> Option<Attached> {
+    if router.is_attached(place) || !is_identity(b"k") || !router.can_draw() {
+        return None;
     }
-    if !is_identity(b"k") {
-        return Err(Fail::new("it may be no identity"));
-    }
-    if !router.can_draw() {
-        return Err(Fail::new("no name is left"));
-    }
-    Ok(router.attach(alloc, place, b"k")?)
+    router.attach(alloc, place, b"k").ok()
 }
 
 // Whether a name in use is refused.
-fn refuses(alloc: Global, router: &mut Router) -> Result<bool, Fail> {
-    let first = join(alloc, router, 0)?;
-    let second = join(alloc, router, 1)?;
-    let attached = router.is_attached(1);
-    Ok(first == Attached::Yes && second == Attached::BadId && !attached)
+fn refuses(alloc: Global, router: &mut Router) -> bool {
+    let first = join(alloc, router, 0) == Some(Attached::Yes);
+    let second = join(alloc, router, 1) == Some(Attached::BadId);
+    first && second && !router.is_attached(1)
 }
 
 #[test]
@@ -74,7 +67,7 @@ fn a_name_in_use_is_refused(rt: HostRuntime) -> Result<(), Fail> {
     let mut router = Router::new(rt.alloc(), false);
     let refuses = refuses(rt.alloc(), &mut router);
     drop(router);
-    check(refuses?)
+    check(refuses)
 }
 
 #[test]

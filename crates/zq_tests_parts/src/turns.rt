@@ -5,7 +5,7 @@ use crate::messages::{check, letters};
 use crate::peers::TestPeers;
 use fair_queue::{NextIn, next_in};
 use load_balancer::{NextOut, Turns, next_out};
-use std::alloc::Global;
+use std::alloc::{AllocError, Global};
 use std::test::Fail;
 
 /// What a send by turn told.
@@ -43,74 +43,75 @@ fn served(turns: &mut Turns, peers: &mut TestPeers) -> Option<usize>
 }
 
 // Whether a message of one frame goes there.
-fn sends(alloc: Global, turns: &mut Turns, peers: &mut TestPeers, put: Put) -> Result<bool, Fail>
+fn sends(alloc: Global, turns: &mut Turns, peers: &mut TestPeers, put: Put) -> bool
     requires { All (λ place. place < length peers.old) turns.old }
-    ensures { OnOk result (All (λ place. place < length peers.new) turns.new) }
+    ensures { All (λ place. place < length peers.new) turns.new }
 {
-    match next_out(turns, peers, letters(alloc, b"x")?) {
-        NextOut::Put(place) => Ok(put == Put::At(place)),
-        NextOut::AllFull(_back) => Ok(put == Put::AllFull),
-        NextOut::NoPeer(_back) => Ok(put == Put::NoPeer),
+    let Some(message) = letters(alloc, b"x") else {
+        return false;
+    };
+    match next_out(turns, peers, message) {
+        NextOut::Put(place) => put == Put::At(place),
+        NextOut::AllFull(_back) => put == Put::AllFull,
+        NextOut::NoPeer(_back) => put == Put::NoPeer,
     }
 }
 
-// The peer at this place says a message of two frames.
-fn says(alloc: Global, peers: &mut TestPeers, place: usize) -> Result<bool, Fail>
+// Whether the peer at this place says a message of two frames.
+fn says(alloc: Global, peers: &mut TestPeers, place: usize) -> bool
     ensures { length peers.new ≡ length peers.old }
 {
-    peers.far_put(place, letters(alloc, b"xy")?)?;
-    Ok(true)
-}
-
-// The peer at this place takes a message.
-fn takes(peers: &mut TestPeers, place: usize) -> Result<bool, Fail>
-    ensures { length peers.new ≡ length peers.old }
-{
-    let _taken = peers.far_take(place)?;
-    Ok(true)
+    match letters(alloc, b"xy") {
+        Some(message) => return peers.far_put(place, message),
+        None => return false,
+    }
 }
 
 // Whether a step tells what it says.
-fn tells(alloc: Global, turns: &mut Turns, peers: &mut TestPeers, turn: Turn) -> Result<bool, Fail>
+fn tells(alloc: Global, turns: &mut Turns, peers: &mut TestPeers, turn: Turn) -> bool
     requires { All (λ place. place < length peers.old) turns.old }
-    ensures { OnOk result (All (λ place. place < length peers.new) turns.new) }
+    ensures { All (λ place. place < length peers.new) turns.new }
 {
     match turn {
-        Turn::Says(place) => return says(alloc, peers, place),
-        Turn::Takes(place) => return takes(peers, place),
-        Turn::Closes(place) => return Ok(peers.close(place)),
-        Turn::Serves(place) => return Ok(served(turns, peers) == place),
-        Turn::Sends(put) => return sends(alloc, turns, peers, put),
+        Turn::Says(place) => says(alloc, peers, place),
+        Turn::Takes(place) => peers.far_take(place).is_some(),
+        Turn::Closes(place) => peers.close(place),
+        Turn::Serves(place) => served(turns, peers) == place,
+        Turn::Sends(put) => sends(alloc, turns, peers, put),
     }
 }
 
-// Whether each step of the places 0, 1, 2 in turn tells what it says.
-fn all_tell(
-    alloc: Global,
-    turns: &mut Turns,
-    peers: &mut TestPeers,
-    steps: &[Turn],
-) -> Result<bool, Fail>
-    requires none { turns.old ≡ [] }
-    requires three { length peers.old ≡ 3 }
+// Whether each step of the places of these turns tells what it says.
+fn all_tell(alloc: Global, turns: &mut Turns, peers: &mut TestPeers, steps: &[Turn]) -> bool
+    requires { All (λ place. place < length peers.old) turns.old }
+{
+    'steps: for step in steps {
+        if !tells(alloc, turns, peers, *step) {
+            return false;
+        }
+    }
+    true
+}
+
+// Adds the places 0, 1 and 2.
+fn add_three(turns: &mut Turns) -> Result<(), AllocError>
+    requires { turns.old ≡ [] }
+    ensures { OnOk result (All (λ place. place < 3) turns.new) }
 {
     turns.add(0)?;
     turns.add(1)?;
-    turns.add(2)?;
-    'steps: for step in steps {
-        if !tells(alloc, turns, peers, *step)? {
-            return Ok(false);
-        }
-    }
-    Ok(true)
+    turns.add(2)
 }
 
-// The same of new turns.
-fn do_as_told(alloc: Global, peers: &mut TestPeers, steps: &[Turn]) -> Result<bool, Fail>
+// The same of new turns of the places 0, 1 and 2.
+fn do_as_told(alloc: Global, peers: &mut TestPeers, steps: &[Turn]) -> bool
     requires { length peers.old ≡ 3 }
 {
     let mut turns = Turns::new(alloc);
-    let tell = all_tell(alloc, &mut turns, peers, steps);
+    let tell = match add_three(&mut turns) {
+        Ok(()) => all_tell(alloc, &mut turns, peers, steps),
+        Err(_) => false,
+    };
     drop(turns);
     tell
 }
@@ -118,8 +119,10 @@ fn do_as_told(alloc: Global, peers: &mut TestPeers, steps: &[Turn]) -> Result<bo
 /// Fails unless each step of three new pairs by turn, each with room for two messages, tells what it
 /// says.
 pub fn by_turn(alloc: Global, steps: &[Turn]) -> Result<(), Fail> {
-    let mut peers = TestPeers::of_rooms(alloc, &[2, 2, 2])?;
+    let Some(mut peers) = TestPeers::of_rooms(alloc, &[2, 2, 2]) else {
+        return check(false);
+    };
     let done = do_as_told(alloc, &mut peers, steps);
     drop(peers);
-    check(done?)
+    check(done)
 }

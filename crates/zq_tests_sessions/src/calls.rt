@@ -2,6 +2,7 @@ ghost use Rattle.std.specs.Prelude.{◌≡◌, false, Some};
 ghost use Rattle.spec_control.specs.declared.end.EndState.TheVariants.{Gone};
 ghost use Rattle.zq_session.specs.Sessions.{has_link};
 
+use crate::checks::{check, check_result};
 use crate::lane::{AT, END, listening};
 use crate::options::{Security, of_kind, pair};
 use crate::plans::cut_behind;
@@ -15,16 +16,32 @@ use zq_outer::Host;
 use zq_session::Session;
 
 /// Whether it is the request of session 2 to end.
-fn is_over(due: Option<Due>) -> bool {
+fn is_over(due: &Option<Due>) -> bool {
     match due {
         Some(Due::Request(Req::AskOver(object))) => object.0 == 2,
         _ => false,
     }
 }
 
+/// Whether the next thing that is due is that.
+fn asks_next(session: &mut Session<SharedPipes>) -> bool {
+    let due = session.due();
+    let asks = is_over(&due);
+    drop(due);
+    asks
+}
+
+/// Whether nothing is due.
+fn asks_nothing(session: &mut Session<SharedPipes>) -> bool {
+    let due = session.due();
+    let nothing = due.is_none();
+    drop(due);
+    nothing
+}
+
 /// Whether it asks to end, once.
 fn asks_over(session: &mut Session<SharedPipes>) -> bool {
-    is_over(session.due()) && session.due().is_none()
+    asks_next(session) && asks_nothing(session)
 }
 
 /// A connecting session whose end is gone.
@@ -83,9 +100,7 @@ fn asks_here(alloc: Global) -> Result<bool, Fail> {
 
 #[test]
 fn a_session_whose_end_is_gone_asks_to_end_once(rt: HostRuntime) -> Result<(), Fail> {
-    let right = asks_here(rt.alloc())?;
-    assert!(rt; right);
-    Ok(())
+    check_result(asks_here(rt.alloc()))
 }
 
 /// Whether a session that is told to end has output left; it hears the answer, too.
@@ -109,6 +124,5 @@ fn has_output(alloc: Global, linger: Option<u32>) -> Result<bool, Fail> {
 fn output_is_left_while_it_lingers(rt: HostRuntime) -> Result<(), Fail> {
     let lingers = has_output(rt.alloc(), None)?;
     let gives_up = has_output(rt.alloc(), Some(0))?;
-    assert!(rt; lingers && !gives_up);
-    Ok(())
+    check(lingers && !gives_up)
 }

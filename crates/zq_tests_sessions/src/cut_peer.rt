@@ -1,3 +1,4 @@
+use crate::checks::check_result;
 use crate::lane::{Caller, accepted, takes};
 use crate::options::Security;
 use crate::plans::cut_behind;
@@ -16,12 +17,11 @@ const PLAIN: &[u8] =
 /// A message of two frames, of which the second has a long head and 256 octets.
 const HEADS: &[u8] = b"\x01\x05hello\x02\0\0\0\0\0\0\x01\0";
 
-/// All that the peer says.
-fn stream(alloc: Global, front: &[u8]) -> Result<Vec<u8>, AllocError> {
-    let mut octets = Vec::from_slice(alloc, front)?;
+/// Adds all that the peer says.
+fn add_stream(octets: &mut Vec<u8>, front: &[u8]) -> Result<(), AllocError> {
+    octets.extend_from_slice(front)?;
     octets.extend_from_slice(HEADS)?;
-    octets.extend_from_slice(&[b'x'; 256])?;
-    Ok(octets)
+    octets.extend_from_slice(&[b'x'; 256])
 }
 
 /// Writes octets to a link, where there are any.
@@ -78,20 +78,33 @@ fn comes_whole(alloc: Global, security: Security, octets: &[u8]) -> Result<bool,
     Ok(comes(alloc, security, octets)? == (true, true))
 }
 
+/// The same of this front and all that a peer says behind it, added to this list.
+fn stream_comes(
+    alloc: Global,
+    security: Security,
+    octets: &mut Vec<u8>,
+    front: &[u8],
+) -> Result<bool, Fail> {
+    add_stream(octets, front)?;
+    comes_whole(alloc, security, octets)
+}
+
+/// The same with a list of its own.
+fn stream_comes_whole(alloc: Global, security: Security, front: &[u8]) -> Result<bool, Fail> {
+    let mut octets = Vec::new(alloc);
+    let comes = stream_comes(alloc, security, &mut octets, front);
+    drop(octets);
+    comes
+}
+
 #[test]
 fn a_peer_that_ends_in_the_middle_of_any_item_gives_no_message(
     rt: HostRuntime,
 ) -> Result<(), Fail> {
-    let octets = stream(rt.alloc(), NULL)?;
-    let right = comes_whole(rt.alloc(), Security::Null, &octets)?;
-    assert!(rt; right);
-    Ok(())
+    check_result(stream_comes_whole(rt.alloc(), Security::Null, NULL))
 }
 
 #[test]
 fn nor_does_one_under_plain(rt: HostRuntime) -> Result<(), Fail> {
-    let octets = stream(rt.alloc(), PLAIN)?;
-    let right = comes_whole(rt.alloc(), Security::Plain, &octets)?;
-    assert!(rt; right);
-    Ok(())
+    check_result(stream_comes_whole(rt.alloc(), Security::Plain, PLAIN))
 }

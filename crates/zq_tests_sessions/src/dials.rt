@@ -1,3 +1,4 @@
+use crate::checks::check_result;
 use crate::lane::Caller;
 use crate::options::Security;
 use crate::plans::{cut_behind, fault_of};
@@ -27,13 +28,11 @@ fn dials(alloc: Global, plan: Plan, rows: &[(u64, bool)]) -> Result<bool, Fail> 
 #[test]
 fn a_dial_that_failed_is_made_again_after_the_interval(rt: HostRuntime) -> Result<(), Fail> {
     let plan = fault_of(rt.alloc(), CallKind::Connect, 1)?;
-    let right = dials(
+    check_result(dials(
         rt.alloc(),
         plan,
         &[(0, false), (0, false), (9, false), (10, true)],
-    )?;
-    assert!(rt; right);
-    Ok(())
+    ))
 }
 
 // The greeting's tenth octet is written at moment 5; the read behind it answers that the link has
@@ -41,11 +40,9 @@ fn a_dial_that_failed_is_made_again_after_the_interval(rt: HostRuntime) -> Resul
 #[test]
 fn a_link_that_is_over_is_dialled_again_after_the_interval(rt: HostRuntime) -> Result<(), Fail> {
     let plan = cut_behind(rt.alloc(), 10)?;
-    let right = dials(
+    check_result(dials(
         rt.alloc(),
         plan,
         &[(0, true), (5, false), (14, false), (15, true)],
-    )?;
-    assert!(rt; right);
-    Ok(())
+    ))
 }

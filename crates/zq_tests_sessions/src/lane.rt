@@ -31,10 +31,11 @@ pub fn listening(alloc: Global, plan: Plan, most: usize) -> Result<MemHost, Fail
     requires { 0 < most }
 {
     let mut host = MemHost::make(alloc, plan, most)?;
-    match host.listen(1, &AT) {
-        Listened::Listening => Ok(host),
-        _ => Err("a listener".into()),
+    if host.listen(1, &AT) != Listened::Listening {
+        drop(host);
+        return Err(Fail::new("a listener"));
     }
+    Ok(host)
 }
 
 /// The link that waits to be accepted.
@@ -65,7 +66,9 @@ pub struct Ends {
 impl Ends {
     pub fn new(alloc: Global) -> Result<Ends, Fail> {
         let nobody = Waker::nobody();
-        let (out, input) = SharedPipes.make(alloc, 4, &nobody, &nobody)?;
+        let made = SharedPipes.make(alloc, 4, &nobody, &nobody);
+        drop(nobody);
+        let (out, input) = made?;
         Ok(Ends { out, input })
     }
 }
@@ -91,42 +94,74 @@ fn unfed(alloc: Global) -> Result<SharedIn, Fail> {
     Ok(ends.input)
 }
 
-/// A pipe's reading half, with one message waiting.
-fn waiting(alloc: Global) -> Result<SharedIn, Fail> {
-    let message = one_frame(alloc, b"hello")?;
-    let mut ends = Ends::new(alloc)?;
-    let _put = SharedPipes.put(&mut ends.out, message);
-    Ok(ends.input)
+/// A pipe's reading half, with one message of these octets waiting.
+fn waiting(alloc: Global, octets: &[u8]) -> Result<SharedIn, Fail> {
+    let from = Ends::new(alloc)?;
+    let mut feed = Feed { out: from.out };
+    let put = feed.put(alloc, octets);
+    drop(feed);
+    match put {
+        Ok(_) => Ok(from.input),
+        Err(why) => {
+            drop(from.input);
+            Err(why)
+        }
+    }
+}
+
+/// The reading half that was made, and a new pipe.
+fn with_pipe(alloc: Global, made: Result<SharedIn, Fail>) -> Result<(SharedIn, Ends), Fail> {
+    let input = made?;
+    match Ends::new(alloc) {
+        Ok(to) => return Ok((input, to)),
+        Err(fail) => {
+            drop(input);
+            return Err(fail);
+        }
+    }
 }
 
 /// A connecting session that reads this half, and writes that one; its interval is 10.
-pub fn connecting(
-    alloc: Global,
-    security: Security,
-    input: SharedIn,
-    to: Feed,
-) -> Result<Here, Fail> {
-    let opts = pair(alloc, security, true)?;
+pub fn connecting(alloc: Global, opts: EngineOpts, input: SharedIn, to: Feed) -> Here
+    requires opts { IsEngineOpts opts }
+{
     let session = Session::connecting(alloc, ObjId(2), END, AT, opts, 10, None);
-    Ok(Seat::new(SharedPipes, session, None, input, to.out))
+    Seat::new(SharedPipes, session, None, input, to.out)
+}
+
+/// A connecting session with these options that has one message of these octets to send, and the
+/// half that reads what it puts.
+pub fn sender_of(alloc: Global, opts: EngineOpts, octets: &[u8]) -> Result<(Here, SharedIn), Fail>
+    requires opts { IsEngineOpts opts }
+{
+    match with_pipe(alloc, waiting(alloc, octets)) {
+        Ok((input, to)) => {
+            let seat = connecting(alloc, opts, input, Feed { out: to.out });
+            return Ok((seat, to.input));
+        }
+        Err(fail) => {
+            drop(opts);
+            return Err(fail);
+        }
+    }
 }
 
 /// A connecting session that has one message to send, and the half that reads what it puts.
-pub fn sender(alloc: Global, security: Security) -> Result<(Here, SharedIn), Fail> {
-    let input = waiting(alloc)?;
-    let to = Ends::new(alloc)?;
-    let seat = connecting(alloc, security, input, Feed { out: to.out })?;
-    Ok((seat, to.input))
+fn sender(alloc: Global, security: Security) -> Result<(Here, SharedIn), Fail> {
+    let opts = pair(alloc, security, true)?;
+    sender_of(alloc, opts, b"hello")
 }
 
-/// An accepted session of this link that writes this half; the half that it reads is of a pipe of
-/// its own.
-fn answering(alloc: Global, opts: EngineOpts, link: MemLink, to: Feed) -> Result<Here, Fail>
-    requires opts { IsEngineOpts opts }
-{
-    let input = unfed(alloc)?;
-    let session = Session::accepted(alloc, ObjId(3), END, opts, None)?;
-    Ok(Seat::new(SharedPipes, session, Some(link), input, to.out))
+/// The link that waits to be accepted, the reading half of a pipe that nobody writes, and a pipe.
+fn link_and_pipes(alloc: Global, host: &mut MemHost) -> Result<(MemLink, SharedIn, Ends), Fail> {
+    let (input, to) = with_pipe(alloc, unfed(alloc))?;
+    match accepted(host) {
+        Ok(link) => return Ok((link, input, to)),
+        Err(fail) => {
+            drop((input, to));
+            return Err(fail);
+        }
+    }
 }
 
 /// An accepted session with these options, and the half that reads what it puts.
@@ -137,10 +172,17 @@ pub fn receiver_of(
 ) -> Result<(Here, SharedIn), Fail>
     requires opts { IsEngineOpts opts }
 {
-    let link = accepted(host)?;
-    let to = Ends::new(alloc)?;
-    let seat = answering(alloc, opts, link, Feed { out: to.out })?;
-    Ok((seat, to.input))
+    let session = Session::accepted(alloc, ObjId(3), END, opts, None)?;
+    match link_and_pipes(alloc, host) {
+        Ok((link, input, to)) => {
+            let seat = Seat::new(SharedPipes, session, Some(link), input, to.out);
+            return Ok((seat, to.input));
+        }
+        Err(fail) => {
+            drop(session);
+            return Err(fail);
+        }
+    }
 }
 
 /// An accepted session, and the half that reads what it puts.
@@ -167,8 +209,18 @@ impl Caller {
         requires { 0 < most }
     {
         let host = listening(alloc, plan, most)?;
-        let (near, back) = sender(alloc, security)?;
-        Ok(Caller { host, near, back })
+        Caller::of(host, sender(alloc, security))
+    }
+
+    /// One with the session that was made, on this host.
+    pub fn of(host: MemHost, made: Result<(Here, SharedIn), Fail>) -> Result<Caller, Fail> {
+        match made {
+            Ok((near, back)) => return Ok(Caller { host, near, back }),
+            Err(fail) => {
+                drop(host);
+                return Err(fail);
+            }
+        }
     }
 
     pub fn turn(&mut self, alloc: Global) -> Result<(), AllocError> {

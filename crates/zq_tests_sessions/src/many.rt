@@ -1,13 +1,14 @@
 ghost use Rattle.std.specs.Prelude.{◌<◌};
 
+use crate::checks::check_result;
 use crate::lane::{Ends, Feed, Here, connecting, listening, receiver};
-use crate::options::Security;
+use crate::options::{Security, of_kind};
 use crate::plans::cut_behind;
 use msg_pipe::{Pipes, Taken};
 use shared_pipe::{SharedIn, SharedPipes};
 use std::alloc::{AllocError, Global};
 use std::test::Fail;
-use zq_base::Message;
+use zq_base::{Kind, Message};
 use zq_outer::MemHost;
 
 const COUNT: u32 = 10_000;
@@ -60,9 +61,18 @@ fn is_message(message: &Message, number: u32) -> bool {
 /// A connecting session, and the half that feeds it.
 fn fed_session(alloc: Global) -> Result<(Here, Feed), Fail> {
     let there = Ends::new(alloc)?;
-    let unread = Ends::new(alloc)?;
-    let near = connecting(alloc, Security::Null, there.input, Feed { out: unread.out })?;
-    Ok((near, Feed { out: there.out }))
+    match Ends::new(alloc) {
+        Ok(unread) => {
+            let opts = of_kind(alloc, Kind::Pair);
+            let near = connecting(alloc, opts, there.input, Feed { out: unread.out });
+            drop(unread.input);
+            return Ok((near, Feed { out: there.out }));
+        }
+        Err(fail) => {
+            drop(there);
+            return Err(fail);
+        }
+    }
 }
 
 impl Fed {
@@ -72,8 +82,13 @@ impl Fed {
     {
         let plan = cut_behind(alloc, 1_000_000_000)?;
         let host = listening(alloc, plan, most)?;
-        let (near, feed) = fed_session(alloc)?;
-        Ok(Fed { host, near, feed })
+        match fed_session(alloc) {
+            Ok((near, feed)) => return Ok(Fed { host, near, feed }),
+            Err(fail) => {
+                drop(host);
+                return Err(fail);
+            }
+        }
     }
 
     /// Puts the next message, where there is one and room for it.
@@ -82,7 +97,9 @@ impl Fed {
             return Ok(());
         }
         let octets = vec![in alloc; octet_of(count.put); size_of(count.put)]?;
-        if self.feed.put(alloc, &octets)? {
+        let put = self.feed.put(alloc, &octets);
+        drop(octets);
+        if put? {
             count.put = count.put.saturating_add(1);
         }
         Ok(())
@@ -104,8 +121,13 @@ impl Lane {
         requires { 0 < most }
     {
         let mut fed = Fed::new(alloc, most)?;
-        let (far, from) = fed.answered(alloc)?;
-        Ok(Lane { fed, far, from })
+        match fed.answered(alloc) {
+            Ok((far, from)) => return Ok(Lane { fed, far, from }),
+            Err(fail) => {
+                drop(fed);
+                return Err(fail);
+            }
+        }
     }
 
     /// Takes a message, where there is one.
@@ -153,21 +175,15 @@ fn all_come(alloc: Global, most: usize) -> Result<bool, Fail>
 
 #[test]
 fn ten_thousand_messages_come_in_order(rt: HostRuntime) -> Result<(), Fail> {
-    let right = all_come(rt.alloc(), 8192)?;
-    assert!(rt; right);
-    Ok(())
+    check_result(all_come(rt.alloc(), 8192))
 }
 
 #[test]
 fn they_come_by_thirteen_octets_a_call(rt: HostRuntime) -> Result<(), Fail> {
-    let right = all_come(rt.alloc(), 13)?;
-    assert!(rt; right);
-    Ok(())
+    check_result(all_come(rt.alloc(), 13))
 }
 
 #[test]
 fn they_come_octet_by_octet(rt: HostRuntime) -> Result<(), Fail> {
-    let right = all_come(rt.alloc(), 1)?;
-    assert!(rt; right);
-    Ok(())
+    check_result(all_come(rt.alloc(), 1))
 }

@@ -1,28 +1,31 @@
-use std::alloc::Global;
+use std::alloc::{AllocError, Global};
 use std::test::Fail;
 use zq_base::Seq;
 use zq_outer::{CallKind, Cut, Plan, PlannedCall};
 
+/// The list of these.
+fn listed<T: Copy>(alloc: Global, items: &[T]) -> Result<Seq<T>, AllocError> {
+    Ok(Seq::of_vec(Vec::from_slice(alloc, items)?))
+}
+
 /// A plan of no fault and no stall, by which the first link ends behind so many octets of its
 /// connecting end.
 pub fn cut_behind(alloc: Global, octets: u64) -> Result<Plan, Fail> {
-    let mut cuts = Vec::new(alloc);
-    cuts.push(Cut { link: 1, octets })?;
+    let cuts = listed(alloc, &[Cut { link: 1, octets }])?;
     Ok(Plan {
         fails: Seq::new(alloc),
         stalls: Seq::new(alloc),
-        cuts: Seq::of_vec(cuts),
+        cuts,
         peers: Seq::new(alloc),
     })
 }
 
 /// A plan by which one call stalls.
 pub fn stall_of(alloc: Global, kind: CallKind, number: u64) -> Result<Plan, Fail> {
-    let mut stalls = Vec::new(alloc);
-    stalls.push(PlannedCall { kind, number })?;
+    let stalls = listed(alloc, &[PlannedCall { kind, number }])?;
     Ok(Plan {
         fails: Seq::new(alloc),
-        stalls: Seq::of_vec(stalls),
+        stalls,
         cuts: Seq::new(alloc),
         peers: Seq::new(alloc),
     })
@@ -30,10 +33,9 @@ pub fn stall_of(alloc: Global, kind: CallKind, number: u64) -> Result<Plan, Fail
 
 /// A plan by which one call fails.
 pub fn fault_of(alloc: Global, kind: CallKind, number: u64) -> Result<Plan, Fail> {
-    let mut fails = Vec::new(alloc);
-    fails.push(PlannedCall { kind, number })?;
+    let fails = listed(alloc, &[PlannedCall { kind, number }])?;
     Ok(Plan {
-        fails: Seq::of_vec(fails),
+        fails,
         stalls: Seq::new(alloc),
         cuts: Seq::new(alloc),
         peers: Seq::new(alloc),

@@ -1,44 +1,17 @@
-use crate::lane::{AT, Caller, END, Ends, Feed, Here, listening, receiver_of, takes};
+use crate::checks::check;
+use crate::lane::{Caller, Here, listening, receiver_of, sender_of, takes};
 use crate::options::of_kind;
 use crate::plans::cut_behind;
-use crate::seat::Seat;
-use shared_pipe::{SharedIn, SharedPipes};
+use shared_pipe::SharedIn;
 use std::alloc::{AllocError, Global};
 use std::test::Fail;
-use zq_base::{Kind, ObjId};
+use zq_base::Kind;
 use zq_outer::Plan;
-use zq_session::Session;
-
-/// A pipe's reading half, with one message of these octets waiting.
-fn waiting(alloc: Global, octets: &[u8]) -> Result<SharedIn, Fail> {
-    let from = Ends::new(alloc)?;
-    let mut feed = Feed { out: from.out };
-    let put = feed.put(alloc, octets);
-    drop(feed);
-    match put {
-        Ok(_) => Ok(from.input),
-        Err(why) => {
-            drop(from.input);
-            Err(why)
-        }
-    }
-}
-
-/// A connecting session of this kind that reads this half; its interval is 10.
-fn connecting(alloc: Global, kind: Kind, input: SharedIn) -> Result<(Here, SharedIn), Fail> {
-    let to = Ends::new(alloc)?;
-    let opts = of_kind(alloc, kind);
-    let session = Session::connecting(alloc, ObjId(2), END, AT, opts, 10, None);
-    let seat = Seat::new(SharedPipes, session, None, input, to.out);
-    Ok((seat, to.input))
-}
 
 /// One of this kind on a host of this plan, whose pipe has one message of these octets.
 fn caller(alloc: Global, kind: Kind, plan: Plan, octets: &[u8]) -> Result<Caller, Fail> {
     let host = listening(alloc, plan, 8192)?;
-    let input = waiting(alloc, octets)?;
-    let (near, back) = connecting(alloc, kind, input)?;
-    Ok(Caller { host, near, back })
+    Caller::of(host, sender_of(alloc, of_kind(alloc, kind), octets))
 }
 
 /// Turns of both sessions at this moment.
@@ -117,8 +90,7 @@ fn comes_twice(
 fn a_sub_says_its_topics_again_at_a_new_link(rt: HostRuntime) -> Result<(), Fail> {
     let whole = comes_twice(rt.alloc(), Kind::Sub, Kind::Pub, 95, b"\x01t")?;
     let lost = comes_twice(rt.alloc(), Kind::Sub, Kind::Pub, 94, b"\x01t")?;
-    assert!(rt; whole == (true, true) && lost == (false, true));
-    Ok(())
+    check(whole == (true, true) && lost == (false, true))
 }
 
 // A cancel is no topic, and a PAIR has none; its READY has 28 octets.
@@ -126,6 +98,5 @@ fn a_sub_says_its_topics_again_at_a_new_link(rt: HostRuntime) -> Result<(), Fail
 fn no_other_message_is_said_again(rt: HostRuntime) -> Result<(), Fail> {
     let cancel = comes_twice(rt.alloc(), Kind::Sub, Kind::Pub, 95, b"\x00t")?;
     let pair = comes_twice(rt.alloc(), Kind::Pair, Kind::Pair, 96, b"\x01t")?;
-    assert!(rt; cancel == (true, false) && pair == (true, false));
-    Ok(())
+    check(cancel == (true, false) && pair == (true, false))
 }

@@ -1,5 +1,6 @@
 ghost use Rattle.std.specs.Prelude.{◌<◌};
 
+use crate::checks::{check, check_result};
 use crate::lane::{Caller, Here, receiver, takes, turns_of_both};
 use crate::options::Security;
 use crate::plans::{cut_behind, fault_of, stall_of};
@@ -125,25 +126,20 @@ fn ends_links(alloc: Global, kind: CallKind, rows: &[(u64, bool)]) -> Result<boo
 fn a_message_goes_from_one_session_to_the_other(rt: HostRuntime) -> Result<(), Fail> {
     let slow = comes_cut(rt.alloc(), Security::Null, 1000)?;
     let plain = comes_cut(rt.alloc(), Security::Plain, 1000)?;
-    assert!(rt; slow && plain);
-    Ok(())
+    check(slow && plain)
 }
 
 // A greeting has 64 octets, the READY of a PAIR 28, and the message 7.
 #[test]
 fn a_message_that_is_cut_is_not_put(rt: HostRuntime) -> Result<(), Fail> {
-    let right = comes_from(rt.alloc(), Security::Null, 99)?;
-    assert!(rt; right);
-    Ok(())
+    check_result(comes_from(rt.alloc(), Security::Null, 99))
 }
 
 // A greeting has 64 octets, a HELLO of one octet each 12, the INITIATE of a PAIR 31, and the
 // message 7.
 #[test]
 fn a_message_that_is_cut_is_not_put_under_plain(rt: HostRuntime) -> Result<(), Fail> {
-    let right = comes_from(rt.alloc(), Security::Plain, 114)?;
-    assert!(rt; right);
-    Ok(())
+    check_result(comes_from(rt.alloc(), Security::Plain, 114))
 }
 
 // Writes are: greeting, greeting, READY, READY, message. Reads are made by turns, the accepted
@@ -153,33 +149,35 @@ fn a_stall_at_any_call_loses_nothing(rt: HostRuntime) -> Result<(), Fail> {
     let writes = comes_stalled(rt.alloc(), CallKind::Write, 5)?;
     let reads = comes_stalled(rt.alloc(), CallKind::Read, 11)?;
     let dial = comes_stalled(rt.alloc(), CallKind::Connect, 1)?;
-    assert!(rt; writes && reads && dial);
-    Ok(())
+    check(writes && reads && dial)
 }
+
+/// The numbers of writes that fail, and whether the message comes.
+const WRITES: [(u64, bool); 5] = [(1, false), (2, false), (3, false), (4, false), (5, false)];
 
 #[test]
 fn a_failure_at_any_write_ends_both_links(rt: HostRuntime) -> Result<(), Fail> {
-    let rows = [(1, false), (2, false), (3, false), (4, false), (5, false)];
-    let right = ends_links(rt.alloc(), CallKind::Write, &rows)?;
+    let right = ends_links(rt.alloc(), CallKind::Write, &WRITES)?;
     let after = failed(rt.alloc(), CallKind::Write, 6)?;
-    assert!(rt; right && after == CAME);
-    Ok(())
+    check(right && after == CAME)
 }
 
-// At the tenth read the connecting session has written the message.
+/// The same of reads. At the tenth the connecting session has written the message.
+const READS: [(u64, bool); 11] = [
+    (1, false),
+    (2, false),
+    (3, false),
+    (4, false),
+    (5, false),
+    (6, false),
+    (7, false),
+    (8, false),
+    (9, false),
+    (10, true),
+    (11, false),
+];
+
 #[test]
 fn a_failure_at_any_read_ends_both_links(rt: HostRuntime) -> Result<(), Fail> {
-    let early = [(1, false), (2, false), (3, false), (4, false), (5, false)];
-    let late = [
-        (6, false),
-        (7, false),
-        (8, false),
-        (9, false),
-        (10, true),
-        (11, false),
-    ];
-    let first = ends_links(rt.alloc(), CallKind::Read, &early)?;
-    let last = ends_links(rt.alloc(), CallKind::Read, &late)?;
-    assert!(rt; first && last);
-    Ok(())
+    check_result(ends_links(rt.alloc(), CallKind::Read, &READS))
 }
