@@ -19,8 +19,8 @@ use Rattle.spec_control.specs.declared.entry.Item.{Item}
 use Rattle.spec_control.specs.declared.entry.SeenEmpty.{SeenEmpty}
 use Rattle.spec_control.specs.Control.{Control, ends_of, id, owner_of, place_of}
 use Rattle.spec_control.specs.ControlRun.{FitsItem, Fits, after_item}
-use Rattle.control_held.specs.Held.{asker}
-use Rattle.control_held.specs.Moments.{Moment, left_by}
+use Rattle.spec_control.specs.Held.{asker}
+use Rattle.spec_control.specs.Moments.{Moment, left_by}
 use Rattle.spec_run.specs.Act.{Act, Step, Try, moments_in}
 use Rattle.spec_run.specs.OpenSocket.{OpenSock, SockEnd, PassesItems, awaits_delimiter, sock_after, waiting_ends}
 use Rattle.spec_run.specs.Event.{IsRequest, IsDelimited, IsLookAt, LooksBehind, LooksFront, LooksFronts, LooksWhere, TakesLetter, TakesLetters, acts_said, seals_in, finds_none, finds_one, finds_end}
@@ -31,7 +31,7 @@ use Rattle.spec_run.specs.declared.journal.LineAnswer.TheVariants as answer
 use Rattle.spec_run.specs.declared.line.LineCall.{LineCall}
 use Rattle.spec_run.specs.declared.line.LineCall.TheVariants.{Asks, Unbinds, Disconnects, Closes, Terms}
 use Rattle.script_actor.specs.Way.{AsksOpen}
-use Rattle.open_laws.specs.Open.{IsOfItem}
+use Rattle.core_laws.specs.Open.{IsOfItem}
 use Rattle.open_sock.proofs.StepLemmas.{moments_more, no_moments}
 use Rattle.lent_sock.proofs.StandLemmas.{said_once}
 use Rattle.core_others.proofs.ChainLemmas.{Follow, IsOwn, first, for_it, led_by, own_ends, own_led, own_then, split, term_own}

@@ -10,12 +10,12 @@ use Rattle.spec_control.specs.Place.{At, is_away}
 use Rattle.spec_control.specs.Control.{owner_of, place_of}
 use Rattle.spec_control.specs.Names.{name_of}
 use Rattle.control_laws.proofs.ListLemmas.{left, never}
-use Rattle.control_held.specs.Moments.{Moment}
+use Rattle.spec_control.specs.Moments.{Moment}
 use Rattle.msg_pipe.specs.Known.{Known}
 use Rattle.any_sock.specs.declared.any_sock.AnySock.{AnySock}
-use Rattle.ctl_holder.specs.declared.given.Given.{Given}
-use Rattle.ctl_holder.specs.declared.halves.Halves.{Halves}
-use Rattle.ctl_holder.specs.Lent.{has_writer}
+use Rattle.ctl_plane.specs.declared.given.Given.{Given}
+use Rattle.ctl_plane.specs.declared.halves.Halves.{Halves}
+use Rattle.ctl_plane.specs.Lent.{has_writer}
 use Rattle.ctl_history.specs.Past.{control_of}
 use Rattle.ctl_plane.specs.Desk.{slot_after}
 use Rattle.ends.specs.declared.row.EndRow.{EndRow}
@@ -24,9 +24,9 @@ use Rattle.held_ends.specs.declared.changes.PipeChange.{PipeChange}
 use Rattle.held_ends.specs.declared.table.Place.{Place}
 use Rattle.held_ends.specs.Places.{place_at}
 use Rattle.held_ends.specs.Sound.{Fits, IsSound, ReadsSo, StandsSo, WritesSo}
-use Rattle.past_laws.specs.Names.{NamesStand}
-use Rattle.past_laws.specs.Ends.{IsHeldFor}
-use Rattle.past_laws.specs.Asked.{EndsAreSealedOnce}
+use Rattle.core_laws.specs.Names.{NamesStand}
+use Rattle.core_laws.specs.Ends.{IsHeldFor}
+use Rattle.core_laws.specs.Asked.{EndsAreSealedOnce}
 use Rattle.sock_core.specs.declared.sock.SockCore.{SockCore}
 use Rattle.sock_core.proofs.FormLemmas.{are_sound, sound_of}
 use Rattle.sock_open.specs.Standing.{IsStanding}

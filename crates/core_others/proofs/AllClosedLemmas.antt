@@ -37,9 +37,9 @@ use Rattle.control_laws.specs.OwnMoves.{connect_moves, fulfil_moves, having_take
 use Rattle.control_laws.proofs.EventGoLemmas.{event_goes}
 use Rattle.control_laws.proofs.SoundLemmas.{ending_there, link_there}
 use Rattle.control_laws.proofs.WeighLemmas.{taken_rows}
-use Rattle.held_laws.proofs.BetweenLemmas.{asks_over, free_asks}
-use Rattle.held_laws.proofs.EventLemmas.{asked_closes, closes, word_closes}
-use Rattle.held_laws.proofs.RowLemmas.{event_keeps}
+use Rattle.control_laws.proofs.BetweenLemmas.{asks_over, free_asks}
+use Rattle.control_laws.proofs.HeldEventLemmas.{asked_closes, closes, word_closes}
+use Rattle.control_laws.proofs.HeldRowLemmas.{event_keeps}
 use Rattle.replay_laws.proofs.FrameLemmas.{closings, delimited_framed, processed_framed, requested_framed}
 use Rattle.core_others.proofs.ChainLemmas.{kept_then}
 

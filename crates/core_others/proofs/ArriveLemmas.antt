@@ -20,9 +20,9 @@ use Rattle.spec_control.specs.ControlRun.{after_all, after_item, FitsItem, IsCon
 use Rattle.control_laws.proofs.ListLemmas.{never}
 use Rattle.control_laws.specs.Kept.{Kept}
 use Rattle.control_laws.proofs.RootLemmas.{runs_are_kept}
-use Rattle.control_held.specs.Moments.{Moment, moments_from}
-use Rattle.ctl_holder.specs.declared.given.Given.{Given}
-use Rattle.ctl_holder.specs.Joins.{KeepsObjects}
+use Rattle.spec_control.specs.Moments.{Moment, moments_from}
+use Rattle.ctl_plane.specs.declared.given.Given.{Given}
+use Rattle.ctl_plane.specs.Joins.{KeepsObjects}
 use Rattle.ctl_history.specs.Past.{control_of}
 use Rattle.ctl_plane.specs.Desk.{came_with}
 use Rattle.held_ends.specs.declared.changes.PipeChange.{PipeChange}

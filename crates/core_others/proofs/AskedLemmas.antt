@@ -25,9 +25,9 @@ use Rattle.control_laws.proofs.AttachedOnceLemmas.{old_run}
 use Rattle.control_laws.specs.Coming.{ComesToEnd}
 use Rattle.control_laws.proofs.GuardLemmas.{may_come}
 use Rattle.control_laws.proofs.MetLemmas.{meets_cell}
-use Rattle.ctl_holder.specs.declared.given.Given.{Given}
+use Rattle.ctl_plane.specs.declared.given.Given.{Given}
 use Rattle.ctl_history.specs.Past.{control_of, Past}
-use Rattle.past_laws.proofs.PlaceLemmas.{led_on}
+use Rattle.core_laws.proofs.PlaceLemmas.{led_on}
 use Rattle.one_desk.specs.Lent.{IsOneOrder, Lent}
 use Rattle.one_desk.specs.Waiting.{HearsAt}
 use Rattle.one_desk.proofs.WaitLemmas.{same_box, taken_at}

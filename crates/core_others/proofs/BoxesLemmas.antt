@@ -14,8 +14,8 @@ use Rattle.spec_control.specs.Row.{Row, is_socket, nobody}
 use Rattle.spec_control.specs.Rows.{obj}
 use Rattle.spec_control.specs.Control.{Control, begun, next_object}
 use Rattle.spec_control.specs.ControlRun.{is_between}
-use Rattle.control_held.specs.Moments.{reaper_slots}
-use Rattle.control_held.specs.OwnAsks.{is_none}
+use Rattle.spec_control.specs.Moments.{reaper_slots}
+use Rattle.spec_control.specs.OwnAsks.{is_none}
 use Rattle.control_laws.proofs.ListLemmas.{and, never}
 use Rattle.control_laws.proofs.RootLemmas.{begun_kept}
 use Rattle.spec_run.specs.CoreEvents.{may_take}

@@ -5,12 +5,12 @@ use Rattle.std.specs.List.{AllByRecursion}
 use Rattle.zq_base.specs.declared.ids.ObjId.{ObjId}
 use Rattle.msg_pipe.specs.Known.{Known}
 use Rattle.spec_control.specs.declared.entry.Joining.{Joining}
-use Rattle.control_held.specs.Moments.{Moment}
-use Rattle.ctl_holder.specs.declared.given.Given.{Given}
+use Rattle.spec_control.specs.Moments.{Moment}
+use Rattle.ctl_plane.specs.declared.given.Given.{Given}
 use Rattle.ctl_plane.specs.Desk.{came_with}
 use Rattle.held_ends.proofs.SoundLemmas.{one_some}
 use Rattle.held_ends.specs.declared.table.Place.{Place}
-use Rattle.past_laws.specs.Said.{sealed_with}
+use Rattle.core_laws.specs.Said.{sealed_with}
 use Rattle.sock_core.specs.Standing.{standing_joins}
 use Rattle.reaper_ends.specs.declared.sockets.ClosedSockets.{ClosedSockets}
 use Rattle.reaper_ends.specs.Coming.{Way, CameAlone, CameClosed, IsAsJoined, IsBrought, IsWay, ends_by, joins_by, sockets_by}

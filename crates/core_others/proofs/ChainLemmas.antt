@@ -28,10 +28,10 @@ use Rattle.control_laws.proofs.MetLemmas.{meets_cell}
 use Rattle.control_laws.proofs.LeadLemmas.{old_end}
 use Rattle.control_laws.proofs.MoveLemmas.{is_at}
 use Rattle.control_laws.proofs.AttachedOnceLemmas.{AreOld, IsOld, old_after}
-use Rattle.control_held.specs.Moments.{Moment, moments_from}
-use Rattle.held_laws.proofs.RowLemmas.{event_keeps}
-use Rattle.held_laws.proofs.SlotLemmas.{event_slot}
-use Rattle.held_laws.proofs.ThereLemmas.{event_there}
+use Rattle.spec_control.specs.Moments.{Moment, moments_from}
+use Rattle.control_laws.proofs.HeldRowLemmas.{event_keeps}
+use Rattle.control_laws.proofs.SlotLemmas.{event_slot}
+use Rattle.control_laws.proofs.ThereLemmas.{event_there}
 
 -- each object but the root has the mailbox of its number behind those of the workers
 pub record HasBoxes (w : ℕ) (c : Control) : Type 0 where

@@ -12,10 +12,10 @@ use Rattle.spec_control.specs.Control.{Control, id, next_pair, owner_of, place_o
 use Rattle.spec_control.specs.ControlRun.{after_item}
 use Rattle.spec_control.specs.Names.{name_in, name_of, named_in}
 use Rattle.control_laws.proofs.ListLemmas.{and, left, right}
-use Rattle.control_held.specs.Moments.{Moment, items_in, moments_from}
+use Rattle.spec_control.specs.Moments.{Moment, items_in, moments_from}
 use Rattle.ctl_history.specs.Past.{control_of}
 use Rattle.ctl_plane.specs.Desk.{slot_after}
-use Rattle.held_laws.proofs.AwayLemmas.{away_in}
+use Rattle.control_laws.proofs.AwayLemmas.{away_in}
 use Rattle.one_desk.specs.Lent.{coming_to, moments_of, GrowsBy, HasSocket, IsOneOrder, Lent}
 use Rattle.desk_laws.proofs.SocketLemmas.{is_in}
 use Rattle.core_others.specs.Calls.{AreCallsOn, for_caller}

@@ -14,9 +14,9 @@ use Rattle.spec_control.specs.declared.entry.Item.TheVariants.{Event, Seen}
 use Rattle.spec_control.specs.Place.{is_here}
 use Rattle.spec_control.specs.Control.{Control, begun, is_end, place_of}
 use Rattle.spec_control.specs.ControlRun.{IsControlRun, after_all, after_item}
-use Rattle.ctl_holder.specs.declared.given.Given.{Given}
-use Rattle.ctl_holder.specs.Holding.{held_given, read_in}
-use Rattle.ctl_holder.specs.Lent.{HasAll}
+use Rattle.ctl_plane.specs.declared.given.Given.{Given}
+use Rattle.ctl_plane.specs.Holding.{held_given, read_in}
+use Rattle.ctl_plane.specs.Lent.{HasAll}
 use Rattle.ctl_plane.specs.Desk.{counts_with}
 use Rattle.ends.specs.Past.{Stands}
 use Rattle.ends.proofs.RowLemmas.{some_same}
@@ -25,11 +25,11 @@ use Rattle.sock_core.proofs.FindLemmas.{same_end}
 use Rattle.spec_run.specs.Event.{seals_in}
 use Rattle.spec_run.specs.OwnedRun.{pipe_capacity, AreCountedBy}
 use Rattle.core_laws.specs.Standing.{PastStands, goes_in}
-use Rattle.past_laws.specs.Settled.{PipesAreSettled}
-use Rattle.past_laws.proofs.ChangeLemmas.{goes_so}
-use Rattle.past_laws.proofs.CountLemmas.{Counts, TellsIn, TellsCounts, item_counted, still_counted}
-use Rattle.past_laws.proofs.OfPipesLemmas.{here_not_gone}
-use Rattle.past_laws.proofs.SaidLemmas.{step_seals}
+use Rattle.core_laws.specs.Settled.{PipesAreSettled}
+use Rattle.core_laws.proofs.ChangeLemmas.{goes_so}
+use Rattle.core_laws.proofs.CountLemmas.{Counts, TellsIn, TellsCounts, item_counted, still_counted}
+use Rattle.core_laws.proofs.OfPipesLemmas.{here_not_gone}
+use Rattle.core_laws.proofs.SaidLemmas.{step_seals}
 use Rattle.reaper_ends.specs.declared.sockets.ClosedSocket.{ClosedSocket}
 use Rattle.reaper_ends.specs.declared.sockets.ClosedSockets.{ClosedSockets}
 use Rattle.reaper_ends.specs.Counting.{counts_of}

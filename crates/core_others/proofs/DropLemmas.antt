@@ -20,7 +20,7 @@ use Rattle.spec_pattern.specs.declared.answers.RecvAnswer.{RecvAnswer}
 use Rattle.spec_pattern.specs.declared.answers.Rule.{Rule}
 use Rattle.spec_pattern.specs.declared.answers.Skip.{Skip}
 use Rattle.spec_pattern.proofs.Exact.{same_pipes}
-use Rattle.pattern_laws.specs.Peers.{pattern_kind}
+use Rattle.spec_pattern.specs.Peers.{pattern_kind}
 use Rattle.spec_control.specs.Rows.{PairRow, pair, end_owner}
 use Rattle.spec_control.specs.Control.{Control, begun, owner_of}
 use Rattle.spec_control.specs.ControlRun.{after_all}
@@ -33,7 +33,7 @@ use Rattle.spec_run.specs.OpenSocket.{OpenSock, can_write}
 use Rattle.spec_run.specs.Pump.{Pumps}
 use Rattle.spec_run.specs.SocketCall.{SendsOpen, ReceivesOpen, ChangesOpen, UnlessStopped, ConnectsWhere, takes_connect}
 use Rattle.script_actor.specs.Way.{AsksOpen}
-use Rattle.held_laws.proofs.AwayLemmas.{joins_self, pairs_are_apart}
+use Rattle.control_laws.proofs.AwayLemmas.{joins_self, pairs_are_apart}
 use Rattle.core_laws.specs.Given.{pipes_taken}
 use Rattle.core_laws.specs.Sides.{AreAtEnds, IsDoneAt}
 use Rattle.core_laws.proofs.CallLemmas.{passed_kind, pumped_none, steps_back}

@@ -7,11 +7,11 @@ use Rattle.spec_control.specs.Stage.{is_used}
 use Rattle.spec_control.specs.Place.{is_here}
 use Rattle.spec_control.specs.Control.{owner_of, place_of}
 use Rattle.control_laws.proofs.ListLemmas.{never}
-use Rattle.control_held.specs.Has.{has_after}
-use Rattle.control_held.specs.Moments.{Moment}
+use Rattle.spec_control.specs.Has.{has_after}
+use Rattle.spec_control.specs.Moments.{Moment}
 use Rattle.msg_pipe.specs.Known.{Known}
 use Rattle.any_sock.specs.declared.any_sock.AnySock.{AnySock}
-use Rattle.ctl_holder.specs.declared.given.Given.{Given}
+use Rattle.ctl_plane.specs.declared.given.Given.{Given}
 use Rattle.ctl_history.specs.Past.{control_of}
 use Rattle.ctl_plane.specs.Desk.{HasWhatTheySay}
 use Rattle.held_ends.specs.declared.changes.PipeChange.{PipeChange}

@@ -15,19 +15,19 @@ use Rattle.spec_control.specs.Rows.{obj}
 use Rattle.spec_control.specs.Control.{Control, begun, owner_of, place_of}
 use Rattle.spec_control.specs.ControlRun.{after_all, after_item}
 use Rattle.spec_control.specs.Names.{name_of}
-use Rattle.control_held.specs.Has.{has_after}
-use Rattle.control_held.specs.Moments.{Moment, moments_from}
-use Rattle.ctl_holder.specs.declared.given.Given.{Given}
-use Rattle.ctl_holder.specs.Joins.{StaysHad}
+use Rattle.spec_control.specs.Has.{has_after}
+use Rattle.spec_control.specs.Moments.{Moment, moments_from}
+use Rattle.ctl_plane.specs.declared.given.Given.{Given}
+use Rattle.ctl_plane.specs.Joins.{StaysHad}
 use Rattle.ctl_history.specs.Past.{control_of}
 use Rattle.ctl_plane.specs.Desk.{HasWhatTheySay}
 use Rattle.held_ends.specs.declared.changes.PipeChange.{PipeChange}
 use Rattle.held_ends.specs.declared.table.Place.{Place}
 use Rattle.held_ends.specs.Places.{place_at}
-use Rattle.past_laws.specs.Ends.{IsGoneFrom}
-use Rattle.past_laws.proofs.PlaceLemmas.{gone_is}
-use Rattle.past_laws.specs.Changes.{ArePlacesNamed}
-use Rattle.past_laws.specs.Said.{sealed_with}
+use Rattle.core_laws.specs.Ends.{IsGoneFrom}
+use Rattle.core_laws.proofs.PlaceLemmas.{gone_is}
+use Rattle.core_laws.specs.Changes.{ArePlacesNamed}
+use Rattle.core_laws.specs.Said.{sealed_with}
 use Rattle.reaper_ends.specs.declared.sockets.ClosedSockets.{ClosedSockets}
 use Rattle.reaper_ends.specs.Finding.{place_given}
 use Rattle.reaper_ends.specs.Has.{all_ends, holding_in, is_of, is_socket}

@@ -10,13 +10,13 @@ use Rattle.spec_control.specs.Place.{Place as Where, Unmade, Away, At, is_here}
 use Rattle.spec_control.specs.Rows.{obj}
 use Rattle.spec_control.specs.Control.{Control, owner_of, place_of}
 use Rattle.spec_control.specs.ControlRun.{is_between}
-use Rattle.ctl_holder.specs.declared.given.Given.{Given}
+use Rattle.ctl_plane.specs.declared.given.Given.{Given}
 use Rattle.ctl_history.specs.Giving.{AreOnTheirWay, IsOnItsWay}
 use Rattle.held_ends.specs.declared.table.Place.{Place}
 use Rattle.held_ends.specs.Places.{place_at}
 use Rattle.held_ends.proofs.SoundLemmas.{one_some}
-use Rattle.past_laws.specs.Ends.{IsHeldWhere, is_new}
-use Rattle.past_laws.specs.Changes.{ArePlacesNamed}
+use Rattle.core_laws.specs.Ends.{IsHeldWhere, is_new}
+use Rattle.core_laws.specs.Changes.{ArePlacesNamed}
 use Rattle.reaper_ends.specs.declared.sockets.ClosedSockets.{ClosedSockets}
 use Rattle.reaper_ends.specs.Coming.{IsBrought}
 use Rattle.reaper_ends.specs.Finding.{came_given, place_given}

@@ -5,11 +5,11 @@ use Rattle.std.proofs.lemmas.List.Elements.{All-tail}
 use Rattle.spec_control.specs.declared.entry.Item.{Item}
 use Rattle.spec_control.specs.Control.{Control, begun}
 use Rattle.spec_control.specs.ControlRun.{IsControlRun, after_all, after_item}
-use Rattle.ctl_holder.specs.declared.given.Given.{Given}
+use Rattle.ctl_plane.specs.declared.given.Given.{Given}
 use Rattle.ctl_history.specs.Past.{control_of}
-use Rattle.past_laws.proofs.PlaceLemmas.{led_on}
+use Rattle.core_laws.proofs.PlaceLemmas.{led_on}
 use Rattle.one_desk.specs.Lent.{GrowsBy, IsOneOrder, Lent}
-use Rattle.past_laws.specs.Asked.{EndsAreSealedOnce, WereAsked}
+use Rattle.core_laws.specs.Asked.{EndsAreSealedOnce, WereAsked}
 use Rattle.core_others.specs.Sealed.{AllAsked}
 use Rattle.core_others.proofs.SealedLemmas.{asked_go_on}
 use Rattle.core_others.specs.Ends.{GivenStay}

@@ -9,9 +9,9 @@ use Rattle.spec_control.specs.Control.{Control, begun, id, next_object}
 use Rattle.spec_control.specs.ControlRun.{IsControlRun, after_all, after_item}
 use Rattle.control_laws.specs.Kept.{Kept}
 use Rattle.control_laws.proofs.AttachedOnceLemmas.{AreOld, old_run}
-use Rattle.control_held.specs.Moments.{Moment, moments_from}
+use Rattle.spec_control.specs.Moments.{Moment, moments_from}
 use Rattle.ctl_history.specs.Past.{control_of}
-use Rattle.held_laws.proofs.ThereLemmas.{had_objects_are_there}
+use Rattle.control_laws.proofs.ThereLemmas.{had_objects_are_there}
 use Rattle.one_desk.specs.Lent.{moments_of, GrowsBy, HasSocket, IsOneOrder, Lent}
 use Rattle.desk_laws.proofs.LastLemmas.{grown}
 use Rattle.desk_laws.proofs.SocketLemmas.{is_in, kept_now}

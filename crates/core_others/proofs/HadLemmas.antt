@@ -21,19 +21,19 @@ use Rattle.control_laws.proofs.ListLemmas.{never}
 use Rattle.control_laws.proofs.RowLemmas.{all_is_over}
 use Rattle.control_laws.specs.Kept.{Kept}
 use Rattle.control_laws.proofs.RootLemmas.{begun_kept, runs_are_kept}
-use Rattle.control_held.specs.Held.{Held}
-use Rattle.control_held.specs.Has.{given_up, has_after, has_over, has_then, taken_by_word, taken_in}
-use Rattle.control_held.proofs.OwnLemmas.{own_has}
-use Rattle.ctl_holder.specs.declared.given.Given.{Given}
-use Rattle.ctl_holder.specs.Holding.{held_given, Holding}
-use Rattle.ctl_holder.specs.Lent.{here_ends, owner_by, place_by, HasAll}
+use Rattle.spec_control.specs.Held.{Held}
+use Rattle.spec_control.specs.Has.{given_up, has_after, has_over, has_then, taken_by_word, taken_in}
+use Rattle.spec_control.proofs.OwnLemmas.{own_has}
+use Rattle.ctl_plane.specs.declared.given.Given.{Given}
+use Rattle.ctl_plane.specs.Holding.{held_given, Holding}
+use Rattle.ctl_plane.specs.Lent.{here_ends, owner_by, place_by, HasAll}
 use Rattle.ctl_history.specs.Past.{control_of}
 use Rattle.ctl_plane.specs.Desk.{HasWhatTheySay}
-use Rattle.held_laws.proofs.HaveLemmas.{lent_holders_have_it}
-use Rattle.held_laws.proofs.MomentLemmas.{own_moments}
-use Rattle.held_laws.proofs.NobodyLemmas.{nobody_over}
-use Rattle.past_laws.specs.Places.{is_end_of}
-use Rattle.past_laws.proofs.PlaceLemmas.{any_filter, held_here}
+use Rattle.control_laws.proofs.HaveLemmas.{lent_holders_have_it}
+use Rattle.control_laws.proofs.MomentLemmas.{own_moments}
+use Rattle.control_laws.proofs.NobodyLemmas.{nobody_over}
+use Rattle.core_laws.specs.Places.{is_end_of}
+use Rattle.core_laws.proofs.PlaceLemmas.{any_filter, held_here}
 use Rattle.reaper_ends.specs.declared.sockets.ClosedSockets.{ClosedSockets}
 use Rattle.reaper_ends.specs.Has.{all_ends, ends_of, holding_in, is_of, is_socket}
 use Rattle.reaper_ends.specs.Sound.{AreSound}

@@ -22,17 +22,17 @@ use Rattle.spec_control.specs.Control.{Control, begun, id}
 use Rattle.spec_control.specs.ControlRun.{Fits, FitsItem, IsControlRun, after_all, after_item, is_between}
 use Rattle.control_laws.proofs.ListLemmas.{and, left, never, right}
 use Rattle.control_laws.specs.Kept.{Kept}
-use Rattle.control_held.specs.Moments.{Moment, moments_from}
+use Rattle.spec_control.specs.Moments.{Moment, moments_from}
 use Rattle.control_laws.proofs.GuardLemmas.{may_come}
 use Rattle.control_laws.specs.OwnMoves.{own_moves}
 use Rattle.msg_pipe.specs.Known.{Known}
-use Rattle.ctl_holder.specs.declared.given.Given.{Given}
-use Rattle.ctl_holder.specs.Joins.{KeepsObjects, StaysHad}
+use Rattle.ctl_plane.specs.declared.given.Given.{Given}
+use Rattle.ctl_plane.specs.Joins.{KeepsObjects, StaysHad}
 use Rattle.ctl_history.specs.Past.{control_of}
 use Rattle.held_ends.specs.declared.changes.PipeChange.{PipeChange}
-use Rattle.held_laws.proofs.BetweenLemmas.{reap_comes}
-use Rattle.held_laws.proofs.EventLemmas.{asked_reaps, reaps, word_reaps}
-use Rattle.held_laws.specs.Closed.{lives}
+use Rattle.control_laws.proofs.BetweenLemmas.{reap_comes}
+use Rattle.control_laws.proofs.HeldEventLemmas.{asked_reaps, reaps, word_reaps}
+use Rattle.control_laws.specs.Closed.{lives}
 use Rattle.reaper_ends.specs.declared.sockets.ClosedSockets.{ClosedSockets}
 use Rattle.reaper_ends.specs.Has.{holding_in}
 use Rattle.one_desk.specs.Lent.{moments_of, GrowsBy, IsOneOrder, Lent}

@@ -8,16 +8,16 @@ use Rattle.msg_pipe.specs.Known.{Known}
 use Rattle.spec_pattern.specs.PipeStep.{read_through}
 use Rattle.spec_control.specs.Place.{is_here}
 use Rattle.spec_control.specs.Control.{Control, is_end, place_of}
-use Rattle.control_held.specs.Held.{Held}
-use Rattle.ctl_holder.specs.declared.given.Given.{Given}
-use Rattle.ctl_holder.specs.Holding.{has_end, held_given}
-use Rattle.ctl_holder.specs.Lent.{has_writer, owner_by, place_by, HasBothNames, HasAll}
-use Rattle.ctl_holder.specs.TakingOver.{AreTwo, AllTwo}
+use Rattle.spec_control.specs.Held.{Held}
+use Rattle.ctl_plane.specs.declared.given.Given.{Given}
+use Rattle.ctl_plane.specs.Holding.{has_end, held_given}
+use Rattle.ctl_plane.specs.Lent.{has_writer, owner_by, place_by, HasBothNames, HasAll}
+use Rattle.ctl_plane.specs.TakingOver.{AreTwo, AllTwo}
 use Rattle.held_ends.specs.declared.table.Place.{Place}
 use Rattle.held_ends.specs.Places.{place_at}
 use Rattle.held_ends.proofs.SoundLemmas.{one_some}
 use Rattle.sock_core.proofs.FindLemmas.{end_self}
-use Rattle.past_laws.specs.Ends.{IsHeldWhere}
+use Rattle.core_laws.specs.Ends.{IsHeldWhere}
 use Rattle.reaper_ends.specs.declared.sockets.ClosedSockets.{ClosedSockets}
 use Rattle.reaper_ends.specs.Finding.{place_given}
 use Rattle.reaper_ends.specs.Has.{all_ends, ends_of, is_socket, writes_of, holding_in}

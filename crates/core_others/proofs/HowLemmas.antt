@@ -11,20 +11,20 @@ use Rattle.spec_control.specs.Rows.{obj}
 use Rattle.spec_control.specs.Control.{Control, owner_of}
 use Rattle.spec_control.specs.ControlRun.{is_between}
 use Rattle.spec_control.specs.Names.{name_of}
-use Rattle.ctl_holder.specs.declared.given.Given.{Given}
+use Rattle.ctl_plane.specs.declared.given.Given.{Given}
 use Rattle.ctl_history.specs.Giving.{AreOnTheirWay, IsOnItsWay}
 use Rattle.ctl_history.specs.Past.{control_of}
 use Rattle.held_ends.specs.declared.changes.PipeChange.{PipeChange}
 use Rattle.held_ends.specs.declared.table.Place.{Place}
 use Rattle.held_ends.specs.Places.{place_at}
-use Rattle.past_laws.specs.Ends.{IsGoneFrom}
+use Rattle.core_laws.specs.Ends.{IsGoneFrom}
 use Rattle.reaper_ends.specs.declared.sockets.ClosedSockets.{ClosedSockets}
 use Rattle.reaper_ends.specs.Coming.{IsBrought}
 use Rattle.reaper_ends.specs.Finding.{came_given, place_given}
 use Rattle.reaper_ends.specs.Has.{all_ends, holding_in, is_of, is_socket}
 use Rattle.reaper_ends.specs.Noted.{first_places}
 use Rattle.reaper_ends.proofs.NotedLemmas.{came_places}
-use Rattle.past_laws.specs.Asked.{WereAsked}
+use Rattle.core_laws.specs.Asked.{WereAsked}
 use Rattle.core_others.specs.ReaperCalls.{came_since}
 use Rattle.core_others.specs.Goes.{AreTaken, NamedGoOn}
 use Rattle.core_others.specs.Sealed.{AllAsked}

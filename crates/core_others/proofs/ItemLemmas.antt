@@ -18,11 +18,11 @@ use Rattle.control_laws.proofs.ListLemmas.{never}
 use Rattle.control_laws.specs.Kept.{Kept}
 use Rattle.control_laws.proofs.RootLemmas.{runs_are_kept}
 use Rattle.control_laws.specs.OwnMoves.{own_moves}
-use Rattle.ctl_holder.specs.Joins.{come_by, came_in}
+use Rattle.ctl_plane.specs.Joins.{come_by, came_in}
 use Rattle.ctl_plane.specs.Desk.{came_with}
-use Rattle.held_laws.proofs.BetweenLemmas.{between_on, reap_comes}
-use Rattle.held_laws.proofs.EventLemmas.{asked_reaps, reaps, word_reaps}
-use Rattle.held_laws.proofs.LawLemmas.{made_none}
+use Rattle.control_laws.proofs.BetweenLemmas.{between_on, reap_comes}
+use Rattle.control_laws.proofs.HeldEventLemmas.{asked_reaps, reaps, word_reaps}
+use Rattle.control_laws.proofs.LawLemmas.{made_none}
 use Rattle.desk_laws.specs.Behind.{is_request, is_requested}
 use Rattle.core_others.specs.Items.{ComesBy, ItemsBring, reaped_by, reaped_by_word, reaped_in}
 

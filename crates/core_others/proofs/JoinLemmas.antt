@@ -5,13 +5,13 @@ use Rattle.zq_base.specs.Ends.{other_end}
 use Rattle.zq_base.specs.declared.ids.EndId.{EndId}
 use Rattle.spec_control.specs.Place.{is_away}
 use Rattle.control_laws.proofs.ListLemmas.{never}
-use Rattle.ctl_ends.proofs.HeldLemmas.{other_twice}
+use Rattle.ctl_moves.proofs.HeldLemmas.{other_twice}
 use Rattle.spec_control.specs.Control.{id, owner_of, place_of}
 use Rattle.spec_control.specs.Names.{name_of}
 use Rattle.msg_pipe.specs.Known.{Known, IsElse, IsThere}
-use Rattle.ctl_holder.specs.Lent.{has_writer}
-use Rattle.ctl_holder.specs.declared.halves.Halves.{Halves}
-use Rattle.ctl_holder.specs.TakingOver.{AreDistinct}
+use Rattle.ctl_plane.specs.Lent.{has_writer}
+use Rattle.ctl_plane.specs.declared.halves.Halves.{Halves}
+use Rattle.ctl_plane.specs.TakingOver.{AreDistinct}
 use Rattle.ctl_history.specs.Past.{control_of}
 use Rattle.ctl_plane.specs.Desk.{slot_after}
 use Rattle.held_ends.specs.declared.table.Place.{Place}

@@ -15,10 +15,10 @@ use Rattle.control_laws.proofs.ListLemmas.{never}
 use Rattle.control_laws.specs.Kept.{Kept}
 use Rattle.control_laws.proofs.MoveLemmas.{is_at}
 use Rattle.ctl_history.specs.Past.{control_of}
-use Rattle.past_laws.specs.Places.{is_end_of}
-use Rattle.past_laws.proofs.PlaceLemmas.{any_filter, its_stay, its_there, made_above}
-use Rattle.past_laws.specs.OwnQuiet.{may_pair_by, may_pair_in}
-use Rattle.past_laws.proofs.OwnQuietLemmas.{others_make_none}
+use Rattle.core_laws.specs.Places.{is_end_of}
+use Rattle.core_laws.proofs.PlaceLemmas.{any_filter, its_stay, its_there, made_above}
+use Rattle.core_laws.specs.OwnQuiet.{may_pair_by, may_pair_in}
+use Rattle.core_laws.proofs.OwnQuietLemmas.{others_make_none}
 use Rattle.one_desk.specs.Lent.{IsOneOrder, Lent}
 use Rattle.desk_laws.specs.Behind.{is_request, is_requested}
 use Rattle.desk_laws.proofs.SocketLemmas.{kept_now}

@@ -5,7 +5,7 @@ use Rattle.spec_pattern.specs.declared.answers.Skip.{Skip}
 use Rattle.spec_control.specs.Control.{id}
 use Rattle.spec_control.specs.declared.request.Req.TheVariants.{Close}
 use Rattle.spec_control.specs.declared.request.Reply.TheVariants.{Done}
-use Rattle.control_held.specs.Moments.{Moment, moments_from}
+use Rattle.spec_control.specs.Moments.{Moment, moments_from}
 use Rattle.any_sock.specs.declared.any_sock.AnySock.{AnySock}
 use Rattle.msg_pipe.specs.Known.{Known}
 use Rattle.sock_core.specs.declared.sock.SockCore.{SockCore}

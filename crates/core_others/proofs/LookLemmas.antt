@@ -11,10 +11,10 @@ use Rattle.spec_control.specs.Names.{name_of}
 use Rattle.control_laws.proofs.ListLemmas.{left}
 use Rattle.msg_pipe.specs.Known.{Known, IsElse, KeepsButIn}
 use Rattle.any_sock.specs.declared.any_sock.AnySock.{AnySock}
-use Rattle.ctl_ends.proofs.HeldLemmas.{other_twice}
-use Rattle.ctl_holder.specs.declared.given.Given.{Given}
-use Rattle.ctl_holder.specs.declared.halves.Halves.{Halves}
-use Rattle.ctl_holder.specs.TakingOver.{IsGivenWith}
+use Rattle.ctl_moves.proofs.HeldLemmas.{other_twice}
+use Rattle.ctl_plane.specs.declared.given.Given.{Given}
+use Rattle.ctl_plane.specs.declared.halves.Halves.{Halves}
+use Rattle.ctl_plane.specs.TakingOver.{IsGivenWith}
 use Rattle.ctl_history.specs.Giving.{IsOnItsWay}
 use Rattle.ctl_history.specs.Past.{control_of}
 use Rattle.ctl_plane.specs.Desk.{slot_after}
@@ -23,8 +23,8 @@ use Rattle.ends.specs.Rows.{row_at}
 use Rattle.held_ends.specs.declared.table.Place.{Place}
 use Rattle.held_ends.specs.Places.{place_at}
 use Rattle.held_ends.specs.Sound.{Fits, IsSound, ReadsSo, StandsSo, WritesSo}
-use Rattle.past_laws.specs.Names.{NamesStand}
-use Rattle.past_laws.specs.Ends.{IsHeldFor}
+use Rattle.core_laws.specs.Names.{NamesStand}
+use Rattle.core_laws.specs.Ends.{IsHeldFor}
 use Rattle.sock_core.specs.declared.sock.SockCore.{SockCore}
 use Rattle.sock_core.proofs.FormLemmas.{are_sound, sound_of}
 use Rattle.sock_open.specs.Standing.{IsStanding}

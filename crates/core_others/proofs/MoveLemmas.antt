@@ -8,8 +8,8 @@ use Rattle.msg_pipe.specs.Known.{Known}
 use Rattle.spec_control.specs.declared.entry.Item.{Item}
 use Rattle.spec_control.specs.Control.{Control, begun, is_end, next_pair, place_of}
 use Rattle.spec_control.specs.ControlRun.{after_all, IsControlRun}
-use Rattle.control_held.specs.Moments.{moments_from}
-use Rattle.ctl_holder.specs.declared.given.Given.{Given}
+use Rattle.spec_control.specs.Moments.{moments_from}
+use Rattle.ctl_plane.specs.declared.given.Given.{Given}
 use Rattle.held_ends.specs.declared.changes.PipeChange.{PipeChange}
 use Rattle.held_ends.specs.declared.changes.PipeChange.TheVariants.{Kept, Made, Sealed, SealedAgain, Parted, Settled}
 use Rattle.held_ends.specs.declared.table.Place.{Place}
@@ -20,13 +20,13 @@ use Rattle.held_ends.proofs.EndsLemmas.{some_place}
 use Rattle.held_ends.proofs.PlaceLemmas.{place_within}
 use Rattle.held_ends.proofs.SoundLemmas.{one_some}
 use Rattle.sock_core.proofs.FindLemmas.{same_end}
-use Rattle.past_laws.specs.Changes.{IsOfPipes}
-use Rattle.past_laws.specs.Ends.{IsGoneFrom, is_new}
-use Rattle.past_laws.specs.OfPipes.{ChangesAreOfPipes}
-use Rattle.past_laws.specs.Said.{sealed_with}
-use Rattle.past_laws.proofs.OfPipesLemmas.{of_prop}
+use Rattle.core_laws.specs.Changes.{IsOfPipes}
+use Rattle.core_laws.specs.Ends.{IsGoneFrom, is_new}
+use Rattle.core_laws.specs.OfPipes.{ChangesAreOfPipes}
+use Rattle.core_laws.specs.Said.{sealed_with}
+use Rattle.core_laws.proofs.OfPipesLemmas.{of_prop}
 use Rattle.sock_core.specs.Came.{AreChangedAt}
-use Rattle.control_held.specs.Held.{Held}
+use Rattle.spec_control.specs.Held.{Held}
 use Rattle.reaper_ends.specs.Mixed.{AreMixed}
 use Rattle.reaper_ends.proofs.MixedLemmas.{mixed_any}
 use Rattle.reaper_ends.proofs.NotedLemmas.{place_front}

@@ -28,8 +28,8 @@ use Rattle.control_laws.proofs.StepLemmas.{inv_of}
 use Rattle.control_laws.specs.Kept.{Kept}
 use Rattle.control_laws.proofs.EndLemmas.{kept_but}
 use Rattle.control_laws.proofs.TellLemmas.{rows_of}
-use Rattle.control_held.specs.Held.{caller_of}
-use Rattle.control_held.specs.Has.{given_up, has_after, has_over, has_then, taken_by_word, taken_in}
+use Rattle.spec_control.specs.Held.{caller_of}
+use Rattle.spec_control.specs.Has.{given_up, has_after, has_over, has_then, taken_by_word, taken_in}
 use Rattle.control_laws.specs.Move.{EndMoves, Leads, LetterPut, LinkMoves, MayMove, Move, ObjectEnds, ObjectMade, PairDrawn, move_boxes, move_rows}
 use Rattle.control_laws.specs.OwnMoves.{having_taken}
 use Rattle.control_laws.proofs.EventGoLemmas.{event_goes}
@@ -37,8 +37,8 @@ use Rattle.control_laws.proofs.GuardLemmas.{may_come}
 use Rattle.control_laws.proofs.SoundLemmas.{ending_there, link_there, move_stays}
 use Rattle.control_laws.proofs.WeighLemmas.{taken_rows}
 use Rattle.ctl_history.specs.Past.{control_of}
-use Rattle.held_laws.proofs.LawLemmas.{owned_by}
-use Rattle.held_laws.proofs.ThereLemmas.{had_objects_are_there}
+use Rattle.control_laws.proofs.LawLemmas.{owned_by}
+use Rattle.control_laws.proofs.ThereLemmas.{had_objects_are_there}
 use Rattle.one_desk.specs.Lent.{GrowsBy, IsOneOrder, Lent}
 use Rattle.desk_laws.specs.Behind.{is_request, is_requested}
 use Rattle.core_others.proofs.ChainLemmas.{kept_then, there_then}

@@ -5,13 +5,13 @@ use Rattle.spec_control.specs.Control.{Control}
 use Rattle.spec_control.specs.Names.{name_of}
 use Rattle.msg_pipe.specs.Known.{Known}
 use Rattle.any_sock.specs.declared.any_sock.AnySock.{AnySock}
-use Rattle.ctl_holder.specs.declared.given.Given.{Given}
+use Rattle.ctl_plane.specs.declared.given.Given.{Given}
 use Rattle.ctl_history.specs.Past.{control_of}
 use Rattle.held_ends.specs.declared.table.Place.{Place}
 use Rattle.held_ends.specs.Places.{place_at}
-use Rattle.held_laws.proofs.HaveLemmas.{lent_holders_have_it}
-use Rattle.past_laws.specs.Ends.{IsHeldFor}
-use Rattle.past_laws.proofs.PlaceLemmas.{places_are_held}
+use Rattle.control_laws.proofs.HaveLemmas.{lent_holders_have_it}
+use Rattle.core_laws.specs.Ends.{IsHeldFor}
+use Rattle.core_laws.proofs.PlaceLemmas.{places_are_held}
 use Rattle.sock_core.specs.declared.sock.SockCore.{SockCore}
 use Rattle.sock_core.specs.Has.{holding_in}
 use Rattle.sock_open.specs.Standing.{kind_told}

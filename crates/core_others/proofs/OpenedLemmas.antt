@@ -39,9 +39,9 @@ use Rattle.control_laws.specs.OwnMoves.{connect_moves, fulfil_moves, join_moves,
 use Rattle.control_laws.proofs.EventGoLemmas.{event_goes}
 use Rattle.control_laws.proofs.SoundLemmas.{Sound, sound_of}
 use Rattle.control_laws.proofs.WeighLemmas.{goes_weigh, sum_of_none}
-use Rattle.control_held.specs.Held.{asker}
-use Rattle.open_laws.specs.Open.{IsOfItem}
-use Rattle.held_laws.proofs.AwayLemmas.{away_before, away_in, opening, word_opens}
+use Rattle.spec_control.specs.Held.{asker}
+use Rattle.core_laws.specs.Open.{IsOfItem}
+use Rattle.control_laws.proofs.AwayLemmas.{away_before, away_in, opening, word_opens}
 
 some_is : {x y : ℕ} → Some x ≡ Some y → x ≡ y
 some_is e = Prim.grind arith

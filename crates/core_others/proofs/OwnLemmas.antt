@@ -12,17 +12,17 @@ use Rattle.spec_control.specs.Control.{Control, ends_of, id, is_end, next_pair, 
 use Rattle.spec_control.specs.Names.{name_of}
 use Rattle.msg_pipe.specs.Known.{Known}
 use Rattle.any_sock.specs.declared.any_sock.AnySock.{AnySock}
-use Rattle.ctl_ends.proofs.HeldLemmas.{other_twice}
-use Rattle.ctl_holder.specs.declared.given.Given.{Given}
-use Rattle.ctl_holder.specs.declared.halves.Halves.{Halves}
-use Rattle.ctl_holder.specs.Lent.{has_writer}
+use Rattle.ctl_moves.proofs.HeldLemmas.{other_twice}
+use Rattle.ctl_plane.specs.declared.given.Given.{Given}
+use Rattle.ctl_plane.specs.declared.halves.Halves.{Halves}
+use Rattle.ctl_plane.specs.Lent.{has_writer}
 use Rattle.ctl_history.specs.Past.{control_of}
 use Rattle.ctl_plane.specs.Coming.{BindsFit}
 use Rattle.ctl_plane.specs.Desk.{slot_after}
 use Rattle.held_ends.specs.Sound.{Fits}
 use Rattle.sock_core.specs.declared.sock.SockCore.{SockCore}
 use Rattle.sock_calls.specs.Calls.{MayJoin}
-use Rattle.past_laws.specs.Places.{is_end_of}
+use Rattle.core_laws.specs.Places.{is_end_of}
 use Rattle.one_desk.specs.Lent.{coming_to, moments_of, GrowsBy, HasSocket, IsOneOrder, Lent}
 use Rattle.desk_laws.specs.Behind.{is_its_end, IsNoneOfIts}
 use Rattle.desk_laws.proofs.NewLemmas.{away, coming_ends_are_new}

@@ -7,20 +7,20 @@ use Rattle.spec_control.specs.Control.{Control, ends_of, is_end, met_in, place_o
 use Rattle.spec_control.specs.Names.{name_of}
 use Rattle.control_laws.proofs.ListLemmas.{right}
 use Rattle.control_laws.proofs.AskLemmas.{end_self}
-use Rattle.control_held.specs.Held.{Held}
-use Rattle.control_held.specs.Moments.{Moment}
+use Rattle.spec_control.specs.Held.{Held}
+use Rattle.spec_control.specs.Moments.{Moment}
 use Rattle.msg_pipe.specs.Known.{Known}
 use Rattle.any_sock.specs.declared.any_sock.AnySock.{AnySock}
 use Rattle.any_sock.specs.Over.{peer_places}
-use Rattle.ctl_holder.specs.declared.given.Given.{Given}
-use Rattle.ctl_holder.specs.Holding.{Holding, has_end}
-use Rattle.ctl_holder.specs.Lent.{has_writer, HasEnds}
+use Rattle.ctl_plane.specs.declared.given.Given.{Given}
+use Rattle.ctl_plane.specs.Holding.{Holding, has_end}
+use Rattle.ctl_plane.specs.Lent.{has_writer, HasEnds}
 use Rattle.ctl_history.specs.Past.{control_of}
 use Rattle.ctl_plane.specs.Desk.{HasWhatTheySay}
 use Rattle.held_ends.specs.declared.table.Place.{Place}
 use Rattle.held_ends.specs.Places.{held_in, held_of, is_of, place_at, writes_of}
-use Rattle.held_laws.proofs.HaveLemmas.{lent_holders_have_it}
-use Rattle.open_laws.specs.Open.{ends_at}
+use Rattle.control_laws.proofs.HaveLemmas.{lent_holders_have_it}
+use Rattle.core_laws.specs.Open.{ends_at}
 use Rattle.sock_core.specs.declared.sock.SockCore.{SockCore}
 use Rattle.sock_core.specs.Has.{holding_in}
 use Rattle.sock_core.proofs.FindLemmas.{has_here, one_passes}

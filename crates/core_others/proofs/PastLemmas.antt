@@ -14,22 +14,22 @@ use Rattle.spec_control.specs.Names.{name_of}
 use Rattle.spec_run.specs.OwnedRun.{settlement_of, AreCountedBy}
 use Rattle.run_laws.specs.CapacitiesStay.{pipe_at}
 use Rattle.control_laws.proofs.ListLemmas.{never}
-use Rattle.control_held.specs.Held.{items_by}
-use Rattle.control_held.specs.Has.{has_after}
-use Rattle.control_held.specs.OwnAsks.{known_after}
-use Rattle.held_laws.proofs.MomentLemmas.{own_moments}
+use Rattle.spec_control.specs.Held.{items_by}
+use Rattle.spec_control.specs.Has.{has_after}
+use Rattle.spec_control.specs.OwnAsks.{known_after}
+use Rattle.control_laws.proofs.MomentLemmas.{own_moments}
 use Rattle.msg_pipe.specs.Known.{Known}
 use Rattle.msg_pipe.specs.Told.{front_step}
 use Rattle.msg_pipe.specs.declared.pipes.Front.{Front}
 use Rattle.msg_pipe.specs.declared.pipes.Front.TheVariants.{Message, Empty, Delimiter}
-use Rattle.ctl_ends.proofs.HeldLemmas.{other_twice}
-use Rattle.ctl_holder.specs.declared.given.Given.{Given}
+use Rattle.ctl_moves.proofs.HeldLemmas.{other_twice}
+use Rattle.ctl_plane.specs.declared.given.Given.{Given}
 use Rattle.ctl_history.specs.Past.{control_of}
 use Rattle.core_laws.specs.Sides.{is_shut, step_end, IsDoneAt}
 use Rattle.core_laws.proofs.CountedLemmas.{counts_go_on}
 use Rattle.core_laws.specs.Standing.{open_by, opens_in, PastStands}
-use Rattle.past_laws.specs.Settled.{PipesAreSettled}
-use Rattle.past_laws.proofs.OfPipesLemmas.{here_not_gone}
+use Rattle.core_laws.specs.Settled.{PipesAreSettled}
+use Rattle.core_laws.proofs.OfPipesLemmas.{here_not_gone}
 use Rattle.reaper_ends.specs.declared.sockets.ClosedSockets.{ClosedSockets}
 use Rattle.reaper_ends.specs.Has.{all_ends, holding_in}
 use Rattle.core_others.specs.Looks.{ReaperLooksGoOn}

@@ -8,12 +8,12 @@ use Rattle.zq_base.specs.declared.ids.EndId.{EndId}
 use Rattle.spec_control.specs.Control.{Control, begun, ends_of, id, is_end, place_of}
 use Rattle.spec_control.specs.ControlRun.{after_all}
 use Rattle.spec_control.specs.Names.{name_of}
-use Rattle.control_held.specs.Moments.{left_after}
+use Rattle.spec_control.specs.Moments.{left_after}
 use Rattle.control_laws.proofs.RootLemmas.{begun_kept}
 use Rattle.control_laws.proofs.AttachedOnceLemmas.{IsOld}
 use Rattle.ctl_history.specs.Past.{control_of}
 use Rattle.ctl_plane.specs.Coming.{KeepsNames}
-use Rattle.held_laws.proofs.MomentLemmas.{AsLeft, left_snoc}
+use Rattle.control_laws.proofs.MomentLemmas.{AsLeft, left_snoc}
 use Rattle.one_desk.specs.Lent.{moments_of, GrowsBy, HasSocket, IsOneOrder, Lent}
 use Rattle.desk_laws.specs.Behind.{is_its_end, IsOfIts}
 use Rattle.desk_laws.proofs.NewLemmas.{any_of}

@@ -8,7 +8,7 @@ use Rattle.zq_base.specs.declared.ids.SlotId.{SlotId}
 use Rattle.spec_control.specs.declared.entry.Did.TheVariants.{Delivered, Delimited}
 use Rattle.spec_control.specs.declared.entry.Item.{Item}
 use Rattle.spec_control.specs.declared.entry.Item.TheVariants.{Event, Seen}
-use Rattle.control_held.specs.Held.{caller_of}
+use Rattle.spec_control.specs.Held.{caller_of}
 use Rattle.ctl_history.specs.Past.{Past}
 use Rattle.ctl_plane.specs.declared.delivery.Delivery.{Delivery}
 use Rattle.ctl_plane.specs.declared.delivery.Delivery.TheVariants.{Done, Empty}

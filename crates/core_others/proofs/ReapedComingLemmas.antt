@@ -8,14 +8,14 @@ use Rattle.spec_control.specs.Place.{Place, Unmade, Away, At, is_away, is_here}
 use Rattle.spec_control.specs.Control.{Control, owner_of, place_of}
 use Rattle.spec_control.specs.Names.{name_of}
 use Rattle.control_laws.proofs.ListLemmas.{left, never}
-use Rattle.ctl_ends.proofs.HeldLemmas.{other_twice}
-use Rattle.ctl_holder.specs.declared.given.Given.{Given}
-use Rattle.ctl_holder.specs.declared.halves.Halves.{Halves}
-use Rattle.ctl_holder.specs.Lent.{HasAll}
-use Rattle.ctl_holder.specs.TakingOver.{AreDistinct}
+use Rattle.ctl_moves.proofs.HeldLemmas.{other_twice}
+use Rattle.ctl_plane.specs.declared.given.Given.{Given}
+use Rattle.ctl_plane.specs.declared.halves.Halves.{Halves}
+use Rattle.ctl_plane.specs.Lent.{HasAll}
+use Rattle.ctl_plane.specs.TakingOver.{AreDistinct}
 use Rattle.ctl_history.specs.Past.{control_of}
 use Rattle.ctl_plane.specs.Desk.{HasWhatTheySay}
-use Rattle.held_laws.proofs.HaveLemmas.{lent_holders_have_it}
+use Rattle.control_laws.proofs.HaveLemmas.{lent_holders_have_it}
 use Rattle.reaper_ends.specs.declared.sockets.ClosedSockets.{ClosedSockets}
 use Rattle.reaper_ends.specs.Has.{all_ends, holding_in}
 use Rattle.reaper_ends.specs.Sound.{AreSound, IsElseOf, MayJoin}

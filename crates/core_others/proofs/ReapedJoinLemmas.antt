@@ -28,21 +28,21 @@ use Rattle.control_laws.proofs.ListLemmas.{never}
 use Rattle.control_laws.proofs.RowLemmas.{all_is_over}
 use Rattle.control_laws.specs.Kept.{Kept}
 use Rattle.control_laws.proofs.RootLemmas.{runs_are_kept}
-use Rattle.control_held.specs.Held.{caller_of}
-use Rattle.control_held.specs.Has.{has_after, unless_root, AreBy, IsByItem}
+use Rattle.spec_control.specs.Held.{caller_of}
+use Rattle.spec_control.specs.Has.{has_after, unless_root, AreBy, IsByItem}
 use Rattle.control_laws.specs.Coming.{ComesToEnd}
 use Rattle.control_laws.specs.Move.{EndMoves}
 use Rattle.control_laws.specs.OwnMoves.{own_moves}
 use Rattle.control_laws.proofs.GuardLemmas.{may_come}
 use Rattle.control_laws.proofs.PairWeighLemmas.{binds_away}
 use Rattle.control_laws.proofs.LeadLemmas.{goes_by, new_ends, New}
-use Rattle.ctl_holder.specs.declared.given.Given.{Given}
+use Rattle.ctl_plane.specs.declared.given.Given.{Given}
 use Rattle.ctl_history.specs.Past.{control_of}
 use Rattle.ctl_plane.specs.Desk.{came_with}
 use Rattle.held_ends.specs.declared.changes.PipeChange.{PipeChange}
-use Rattle.held_laws.proofs.OwnerLemmas.{mine_all}
-use Rattle.held_laws.specs.Closed.{lives}
-use Rattle.past_laws.specs.Ends.{is_new}
+use Rattle.control_laws.proofs.OwnerLemmas.{mine_all}
+use Rattle.control_laws.specs.Closed.{lives}
+use Rattle.core_laws.specs.Ends.{is_new}
 use Rattle.reaper_ends.specs.declared.sockets.ClosedSockets.{ClosedSockets}
 use Rattle.reaper_ends.specs.Has.{all_ends, is_of, is_socket}
 use Rattle.core_others.specs.Goes.{StandsNew}

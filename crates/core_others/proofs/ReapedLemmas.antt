@@ -16,10 +16,10 @@ use Rattle.spec_control.specs.Control.{Control, begun, is_end, owner_of, place_o
 use Rattle.spec_control.specs.ControlRun.{after_all}
 use Rattle.spec_control.specs.Names.{name_of}
 use Rattle.control_laws.proofs.ListLemmas.{and, left, never}
-use Rattle.control_held.specs.Moments.{Moment, moments_from}
-use Rattle.ctl_ends.proofs.HeldLemmas.{other_twice}
-use Rattle.ctl_holder.specs.declared.given.Given.{Given}
-use Rattle.ctl_holder.specs.Lent.{has_writer}
+use Rattle.spec_control.specs.Moments.{Moment, moments_from}
+use Rattle.ctl_moves.proofs.HeldLemmas.{other_twice}
+use Rattle.ctl_plane.specs.declared.given.Given.{Given}
+use Rattle.ctl_plane.specs.Lent.{has_writer}
 use Rattle.ctl_history.specs.Past.{control_of}
 use Rattle.ctl_plane.specs.Desk.{HasWhatTheySay}
 use Rattle.held_ends.specs.declared.changes.PipeChange.{PipeChange}
@@ -29,7 +29,7 @@ use Rattle.held_ends.specs.Changes.{DoesChange, DoesChanges, PartedBy, SealedBy}
 use Rattle.held_ends.specs.Others.{IsLess, KeepsPlaces}
 use Rattle.held_ends.specs.Places.{place_at}
 use Rattle.held_ends.proofs.EndsLemmas.{some_place}
-use Rattle.past_laws.specs.Names.{NamesStand}
+use Rattle.core_laws.specs.Names.{NamesStand}
 use Rattle.sock_core.proofs.FindLemmas.{same_end}
 use Rattle.reaper_ends.specs.declared.sockets.ClosedSockets.{ClosedSockets}
 use Rattle.reaper_ends.specs.Has.{all_ends, holding_in, is_of}

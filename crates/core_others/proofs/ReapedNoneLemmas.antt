@@ -22,15 +22,15 @@ use Rattle.spec_control.specs.ControlRun.{after_all, after_item, is_between, wor
 use Rattle.control_laws.proofs.ListLemmas.{never}
 use Rattle.control_laws.specs.Kept.{Kept}
 use Rattle.control_laws.proofs.RootLemmas.{runs_are_kept}
-use Rattle.control_held.specs.Moments.{Moment, moments_from}
+use Rattle.spec_control.specs.Moments.{Moment, moments_from}
 use Rattle.control_laws.specs.OwnMoves.{own_moves, word_moves}
-use Rattle.ctl_holder.specs.declared.given.Given.{Given}
-use Rattle.ctl_holder.specs.Joins.{come_by, IsReaped}
+use Rattle.ctl_plane.specs.declared.given.Given.{Given}
+use Rattle.ctl_plane.specs.Joins.{come_by, IsReaped}
 use Rattle.ctl_history.specs.Past.{control_of}
 use Rattle.ctl_plane.specs.Desk.{came_with}
 use Rattle.held_ends.specs.declared.changes.PipeChange.{PipeChange}
-use Rattle.held_laws.proofs.BetweenLemmas.{between_on, reap_comes}
-use Rattle.held_laws.proofs.LawLemmas.{made_none}
+use Rattle.control_laws.proofs.BetweenLemmas.{between_on, reap_comes}
+use Rattle.control_laws.proofs.LawLemmas.{made_none}
 use Rattle.sock_core.specs.Standing.{standing_joins}
 use Rattle.reaper_ends.specs.declared.sockets.ClosedSocket.{ClosedSocket}
 use Rattle.reaper_ends.specs.declared.sockets.ClosedSockets.{ClosedSockets}

@@ -10,17 +10,17 @@ use Rattle.spec_control.specs.declared.entry.Item.{Item}
 use Rattle.spec_control.specs.Control.{Control, begun, next_pair}
 use Rattle.spec_control.specs.ControlRun.{after_all, IsControlRun}
 use Rattle.spec_control.specs.Names.{name_of}
-use Rattle.control_held.specs.Moments.{Moment, moments_from}
-use Rattle.ctl_holder.specs.declared.given.Given.{Given}
+use Rattle.spec_control.specs.Moments.{Moment, moments_from}
+use Rattle.ctl_plane.specs.declared.given.Given.{Given}
 use Rattle.ctl_history.specs.Past.{control_of}
 use Rattle.ctl_plane.specs.Desk.{CountsWith}
 use Rattle.spec_run.specs.Act.{steps_in}
 use Rattle.spec_run.specs.Event.{acts_said}
 use Rattle.held_ends.specs.declared.changes.PipeChange.{PipeChange}
 use Rattle.core_laws.specs.Standing.{PastStands}
-use Rattle.past_laws.specs.Asked.{WereAsked}
-use Rattle.past_laws.specs.Changes.{IsOfPipes}
-use Rattle.past_laws.specs.Said.{sealed_with}
+use Rattle.core_laws.specs.Asked.{WereAsked}
+use Rattle.core_laws.specs.Changes.{IsOfPipes}
+use Rattle.core_laws.specs.Said.{sealed_with}
 use Rattle.reaper_ends.specs.declared.sockets.ClosedSockets.{ClosedSockets}
 use Rattle.reaper_ends.specs.Counting.{counts_of}
 use Rattle.reaper_ends.specs.Finding.{came_given}

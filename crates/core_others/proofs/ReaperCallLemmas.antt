@@ -10,7 +10,7 @@ use Rattle.spec_pattern.specs.PipeStep.{PipeStep, Seal, read_through}
 use Rattle.spec_control.specs.declared.entry.Item.{Item}
 use Rattle.spec_control.specs.Control.{Control, begun}
 use Rattle.spec_control.specs.ControlRun.{after_all, IsControlRun}
-use Rattle.control_held.specs.Moments.{moments_from}
+use Rattle.spec_control.specs.Moments.{moments_from}
 use Rattle.spec_run.specs.Event.{seals_in}
 use Rattle.held_ends.specs.declared.changes.PipeChange.{PipeChange}
 use Rattle.held_ends.specs.declared.changes.PipeChange.TheVariants.{Kept, Made, Sealed, SealedAgain, Parted, Settled}
@@ -20,11 +20,11 @@ use Rattle.held_ends.proofs.EndsLemmas.{some_place}
 use Rattle.held_ends.proofs.PlaceLemmas.{place_within}
 use Rattle.core_laws.specs.Past.{PastStaysOver}
 use Rattle.core_laws.specs.Standing.{PastStands, goes_in, unless_settled}
-use Rattle.past_laws.specs.Asked.{WereAsked, EndsAreSealedOnce}
-use Rattle.past_laws.specs.Calls.{SocketCallsGoOn}
-use Rattle.past_laws.specs.Changes.{ArePlacesNamed, IsOfPipes}
-use Rattle.past_laws.proofs.ChangeLemmas.{changes_named, goes_said}
-use Rattle.past_laws.proofs.SettledLemmas.{settled_stay}
+use Rattle.core_laws.specs.Asked.{WereAsked, EndsAreSealedOnce}
+use Rattle.core_laws.specs.Calls.{SocketCallsGoOn}
+use Rattle.core_laws.specs.Changes.{ArePlacesNamed, IsOfPipes}
+use Rattle.core_laws.proofs.ChangeLemmas.{changes_named, goes_said}
+use Rattle.core_laws.proofs.SettledLemmas.{settled_stay}
 use Rattle.reaper_ends.specs.declared.sockets.ClosedSockets.{ClosedSockets}
 use Rattle.reaper_ends.specs.Noted.{unplaced, sealed_ends, first_places, HasDoneTo}
 use Rattle.core_others.specs.ReaperCalls.{came_since, told_since, ReaperChanges, ReaperCallsGoOn}

@@ -15,31 +15,31 @@ use Rattle.spec_control.specs.Names.{name_of}
 use Rattle.control_laws.proofs.ListLemmas.{never, placed}
 use Rattle.control_laws.specs.Kept.{Kept}
 use Rattle.control_laws.proofs.MoveLemmas.{is_at}
-use Rattle.control_held.specs.Held.{Held, items_by}
-use Rattle.control_held.specs.Has.{has_after}
-use Rattle.control_held.specs.Moments.{Moment, items_in, moments_from}
-use Rattle.control_held.specs.OwnAsks.{known_after}
-use Rattle.control_held.proofs.OwnLemmas.{own_has}
+use Rattle.spec_control.specs.Held.{Held, items_by}
+use Rattle.spec_control.specs.Has.{has_after}
+use Rattle.spec_control.specs.Moments.{Moment, items_in, moments_from}
+use Rattle.spec_control.specs.OwnAsks.{known_after}
+use Rattle.spec_control.proofs.OwnLemmas.{own_has}
 use Rattle.spec_pattern.specs.Half.{Reading, Writing}
 use Rattle.msg_pipe.specs.Known.{Known, IsThere}
-use Rattle.ctl_ends.proofs.HeldLemmas.{other_twice}
-use Rattle.ctl_holder.specs.declared.given.Given.{Given}
-use Rattle.ctl_holder.specs.Holding.{held_given, Holding}
-use Rattle.ctl_holder.specs.Lent.{has_writer, here_ends, owner_by, place_by, HasAll}
-use Rattle.ctl_holder.specs.TakingOver.{AreDistinct, AreGivenWith, IsGivenWith}
+use Rattle.ctl_moves.proofs.HeldLemmas.{other_twice}
+use Rattle.ctl_plane.specs.declared.given.Given.{Given}
+use Rattle.ctl_plane.specs.Holding.{held_given, Holding}
+use Rattle.ctl_plane.specs.Lent.{has_writer, here_ends, owner_by, place_by, HasAll}
+use Rattle.ctl_plane.specs.TakingOver.{AreDistinct, AreGivenWith, IsGivenWith}
 use Rattle.ctl_history.specs.Giving.{IsOnItsWay}
 use Rattle.ctl_history.specs.Past.{control_of}
 use Rattle.ctl_plane.specs.Desk.{HasWhatTheySay}
 use Rattle.ctl_plane.specs.Kinds.{kind_after}
-use Rattle.held_laws.proofs.HaveLemmas.{lent_holders_have_it}
-use Rattle.held_laws.proofs.LawLemmas.{open_not}
-use Rattle.held_laws.proofs.MomentLemmas.{own_moments}
+use Rattle.control_laws.proofs.HaveLemmas.{lent_holders_have_it}
+use Rattle.control_laws.proofs.LawLemmas.{open_not}
+use Rattle.control_laws.proofs.MomentLemmas.{own_moments}
 use Rattle.held_ends.specs.declared.table.Place.{Place as PlaceOf}
 use Rattle.held_ends.specs.Places.{place_at}
-use Rattle.held_laws.proofs.KnownLemmas.{known_sockets_have_kinds}
-use Rattle.past_laws.specs.Asked.{asked_rank, EndsAreSealedOnce, WereAsked}
-use Rattle.past_laws.specs.Said.{sealed_with}
-use Rattle.past_laws.specs.Places.{is_end_of}
+use Rattle.control_laws.proofs.KnownLemmas.{known_sockets_have_kinds}
+use Rattle.core_laws.specs.Asked.{asked_rank, EndsAreSealedOnce, WereAsked}
+use Rattle.core_laws.specs.Said.{sealed_with}
+use Rattle.core_laws.specs.Places.{is_end_of}
 use Rattle.reaper_ends.specs.declared.sockets.ClosedSockets.{ClosedSockets}
 use Rattle.reaper_ends.specs.Finding.{place_given}
 use Rattle.reaper_ends.specs.Has.{all_ends, ends_of, holding_in, is_socket}

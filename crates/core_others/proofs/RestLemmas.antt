@@ -15,16 +15,16 @@ use Rattle.spec_control.specs.ControlRun.{after_all}
 use Rattle.spec_control.specs.Rows.{obj}
 use Rattle.spec_control.specs.Names.{name_of}
 use Rattle.control_laws.proofs.AttachedOnceLemmas.{old_run}
-use Rattle.control_held.specs.Has.{has_after}
-use Rattle.control_held.specs.Moments.{moments_from}
+use Rattle.spec_control.specs.Has.{has_after}
+use Rattle.spec_control.specs.Moments.{moments_from}
 use Rattle.msg_pipe.specs.Known.{Known, IsThere}
 use Rattle.any_sock.specs.declared.any_sock.AnySock.{AnySock}
 use Rattle.any_sock.specs.Over.{peer_places}
-use Rattle.ctl_ends.proofs.HeldLemmas.{other_twice}
-use Rattle.ctl_holder.specs.declared.given.Given.{Given}
-use Rattle.ctl_holder.specs.declared.halves.Halves.{Halves}
-use Rattle.ctl_holder.specs.Lent.{has_writer}
-use Rattle.ctl_holder.specs.TakingOver.{AreDistinct}
+use Rattle.ctl_moves.proofs.HeldLemmas.{other_twice}
+use Rattle.ctl_plane.specs.declared.given.Given.{Given}
+use Rattle.ctl_plane.specs.declared.halves.Halves.{Halves}
+use Rattle.ctl_plane.specs.Lent.{has_writer}
+use Rattle.ctl_plane.specs.TakingOver.{AreDistinct}
 use Rattle.ctl_history.specs.Past.{control_of}
 use Rattle.ctl_plane.specs.Desk.{slot_after}
 use Rattle.ends.specs.Rows.{row_at}
@@ -41,9 +41,9 @@ use Rattle.one_desk.specs.Lent.{coming_to, moments_of, GrowsBy, HasSocket, IsOne
 use Rattle.desk_laws.specs.Behind.{IsOfIts}
 use Rattle.desk_laws.proofs.NewLemmas.{away, any_of, mine, there}
 use Rattle.desk_laws.proofs.SocketLemmas.{is_in, kept_now}
-use Rattle.past_laws.specs.Places.{is_end_of}
-use Rattle.past_laws.specs.Asked.{EndsAreSealedOnce, WereAsked, asked_rank}
-use Rattle.past_laws.specs.Said.{sealed_with}
+use Rattle.core_laws.specs.Places.{is_end_of}
+use Rattle.core_laws.specs.Asked.{EndsAreSealedOnce, WereAsked, asked_rank}
+use Rattle.core_laws.specs.Said.{sealed_with}
 use Rattle.lent_sock.specs.Owned.{IsOwned}
 use Rattle.lent_sock.specs.Leaving.{IsNoneItReads, IsNoneItSettled, IsNoneItWrites, LeavesPipes, TellsRest}
 use Rattle.core_others.specs.Agrees.{AgreesIn}

@@ -37,7 +37,7 @@ use Rattle.control_laws.specs.OwnMoves.{own_moves, word_moves, request_moves, fu
 use Rattle.control_laws.proofs.EventGoLemmas.{event_goes}
 use Rattle.control_laws.proofs.SoundLemmas.{link_there, ending_there}
 use Rattle.control_laws.proofs.WeighLemmas.{taken_rows}
-use Rattle.held_laws.proofs.BetweenLemmas.{reap_comes}
+use Rattle.control_laws.proofs.BetweenLemmas.{reap_comes}
 
 none_first : (a b : Bool) → (a || b) ≡ false → a ≡ false
 none_first true b h = h

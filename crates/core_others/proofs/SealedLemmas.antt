@@ -10,14 +10,14 @@ use Rattle.msg_pipe.specs.Known.{Known}
 use Rattle.spec_control.specs.declared.entry.Item.{Item}
 use Rattle.spec_control.specs.Control.{Control, begun, is_end}
 use Rattle.spec_control.specs.ControlRun.{after_all, IsControlRun}
-use Rattle.control_held.specs.Moments.{moments_from}
-use Rattle.ctl_holder.specs.declared.given.Given.{Given}
-use Rattle.ctl_holder.specs.Holding.{AllSealed}
+use Rattle.spec_control.specs.Moments.{moments_from}
+use Rattle.ctl_plane.specs.declared.given.Given.{Given}
+use Rattle.ctl_plane.specs.Holding.{AllSealed}
 use Rattle.held_ends.specs.declared.changes.PipeChange.{PipeChange}
 use Rattle.held_ends.specs.declared.table.Place.{Place}
 use Rattle.sock_core.proofs.FindLemmas.{same_end}
-use Rattle.past_laws.specs.Asked.{WereAsked, EndsAreSealedOnce}
-use Rattle.past_laws.specs.Said.{sealed_with}
+use Rattle.core_laws.specs.Asked.{WereAsked, EndsAreSealedOnce}
+use Rattle.core_laws.specs.Said.{sealed_with}
 use Rattle.reaper_ends.specs.declared.sockets.ClosedSockets.{ClosedSockets}
 use Rattle.reaper_ends.specs.Finding.{came_given, place_given}
 use Rattle.reaper_ends.specs.Has.{all_ends}

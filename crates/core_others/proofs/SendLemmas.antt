@@ -15,8 +15,8 @@ use Rattle.spec_control.specs.ControlRun.{FitsItem, IsControlRun, after_all, aft
 use Rattle.spec_control.specs.Names.{name_in, name_of, named_in}
 use Rattle.control_laws.specs.Kept.{Kept}
 use Rattle.control_laws.proofs.RunLemmas.{after_kept}
-use Rattle.control_held.specs.Moments.{Moment, moments_from}
-use Rattle.held_laws.proofs.AwayLemmas.{away_in}
+use Rattle.spec_control.specs.Moments.{Moment, moments_from}
+use Rattle.control_laws.proofs.AwayLemmas.{away_in}
 use Rattle.one_desk.specs.Lent.{GrowsBy, IsOneOrder, Lent}
 use Rattle.desk_laws.specs.Behind.{is_request, SendsNone}
 use Rattle.desk_laws.proofs.SendLemmas.{coming_before, item_away, item_names}

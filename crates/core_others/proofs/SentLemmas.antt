@@ -14,13 +14,13 @@ use Rattle.spec_control.specs.ControlRun.{FitsItem, after_item}
 use Rattle.spec_control.specs.Names.{name_in, named_in}
 use Rattle.control_laws.specs.Kept.{Kept}
 use Rattle.control_laws.proofs.MoveLemmas.{move_many}
-use Rattle.control_held.specs.Moments.{Moment, items_in}
+use Rattle.spec_control.specs.Moments.{Moment, items_in}
 use Rattle.control_laws.specs.Move.{Leads, Move, move_boxes, move_rows}
 use Rattle.control_laws.specs.OwnMoves.{having_taken}
 use Rattle.control_laws.proofs.EventGoLemmas.{event_goes}
 use Rattle.control_laws.proofs.WeighLemmas.{taken_rows}
-use Rattle.open_laws.specs.Open.{IsOfItem}
-use Rattle.held_laws.proofs.AwayLemmas.{away_in}
+use Rattle.core_laws.specs.Open.{IsOfItem}
+use Rattle.control_laws.proofs.AwayLemmas.{away_in}
 use Rattle.core_others.proofs.ActLemmas.{IsOn}
 use Rattle.core_others.proofs.ChainLemmas.{Follow, IsNext, led_by}
 use Rattle.core_others.proofs.OpenedLemmas.{item_away, item_unnamed}

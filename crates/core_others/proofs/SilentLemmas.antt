@@ -17,12 +17,12 @@ use Rattle.spec_control.specs.declared.request.Reply.{Reply}
 use Rattle.spec_control.specs.Rows.{is_owner}
 use Rattle.spec_control.specs.Control.{Control, begun}
 use Rattle.spec_control.specs.ControlRun.{after_all, after_item}
-use Rattle.control_held.specs.Held.{Held, asker, ends_in, ends_over, ends_then, heard_of, subject_of}
-use Rattle.control_held.specs.Has.{acts_at_word, acts_in, acts_in_request, given_by_request, given_up, has_after, has_over, has_then, taken_by_request, taken_by_word, taken_in, unless_root, AreBy, IsByItem}
-use Rattle.control_held.specs.Moments.{Moment, is_of_item, items_in, left_by, left_over, left_then, moments_from}
-use Rattle.control_held.specs.OwnAsks.{Known, known_at_request, known_at_word, known_in, known_over, unknown}
+use Rattle.spec_control.specs.Held.{Held, asker, ends_in, ends_over, ends_then, heard_of, subject_of}
+use Rattle.spec_control.specs.Has.{acts_at_word, acts_in, acts_in_request, given_by_request, given_up, has_after, has_over, has_then, taken_by_request, taken_by_word, taken_in, unless_root, AreBy, IsByItem}
+use Rattle.spec_control.specs.Moments.{Moment, is_of_item, items_in, left_by, left_over, left_then, moments_from}
+use Rattle.spec_control.specs.OwnAsks.{Known, known_at_request, known_at_word, known_in, known_over, unknown}
 use Rattle.ctl_plane.specs.Kinds.{kind_at_request, kind_in, kind_over}
-use Rattle.open_laws.specs.Open.{IsOf, IsOfItem}
+use Rattle.core_laws.specs.Open.{IsOf, IsOfItem}
 use Rattle.one_desk.specs.Lent.{moments_of, GrowsBy, Lent}
 use Rattle.one_desk.specs.Lent.{IsOneOrder}
 use Rattle.control_laws.proofs.ListLemmas.{never}

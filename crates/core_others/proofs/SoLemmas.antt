@@ -8,8 +8,8 @@ use Rattle.spec_pattern.specs.PipeStep.{AreExact, PipeStep}
 use Rattle.spec_control.specs.Control.{Control, begun, next_pair}
 use Rattle.spec_control.specs.ControlRun.{after_all, IsControlRun}
 use Rattle.spec_control.specs.Names.{name_of}
-use Rattle.control_held.specs.Moments.{moments_from}
-use Rattle.ctl_holder.specs.declared.given.Given.{Given}
+use Rattle.spec_control.specs.Moments.{moments_from}
+use Rattle.ctl_plane.specs.declared.given.Given.{Given}
 use Rattle.ctl_history.specs.Past.{control_of}
 use Rattle.ctl_plane.specs.Desk.{CountsWith}
 use Rattle.spec_run.specs.Act.{steps_in}
@@ -18,8 +18,8 @@ use Rattle.spec_run.specs.OwnedRun.{pipe_capacity, settlement_of}
 use Rattle.held_ends.specs.declared.changes.PipeChange.{PipeChange}
 use Rattle.core_laws.specs.Past.{PastStaysOver}
 use Rattle.core_laws.specs.Standing.{goes_in, unless_settled, PastStands}
-use Rattle.past_laws.proofs.ChangeLemmas.{goes_said}
-use Rattle.past_laws.proofs.SettledLemmas.{settled_stay}
+use Rattle.core_laws.proofs.ChangeLemmas.{goes_said}
+use Rattle.core_laws.proofs.SettledLemmas.{settled_stay}
 use Rattle.reaper_ends.specs.declared.sockets.ClosedSockets.{ClosedSockets}
 use Rattle.reaper_ends.specs.Counting.{counts_of}
 use Rattle.reaper_ends.specs.Has.{holding_in}

@@ -20,14 +20,14 @@ use Rattle.spec_control.specs.ControlRun.{after_all, after_item, Fits, IsControl
 use Rattle.spec_control.specs.Names.{name_of}
 use Rattle.control_laws.proofs.ListLemmas.{never}
 use Rattle.control_laws.specs.Kept.{Kept}
-use Rattle.control_held.specs.Held.{items_by}
-use Rattle.control_held.specs.Has.{has_after, made_by}
-use Rattle.control_held.specs.Moments.{Moment, items_in, moments_from}
-use Rattle.control_held.specs.OwnAsks.{Known as KnownOf, known_after, known_at_request, known_at_word, known_in, known_over, unknown}
+use Rattle.spec_control.specs.Held.{items_by}
+use Rattle.spec_control.specs.Has.{has_after, made_by}
+use Rattle.spec_control.specs.Moments.{Moment, items_in, moments_from}
+use Rattle.spec_control.specs.OwnAsks.{Known as KnownOf, known_after, known_at_request, known_at_word, known_in, known_over, unknown}
 use Rattle.msg_pipe.specs.Known.{Known}
 use Rattle.ctl_history.specs.Past.{control_of}
-use Rattle.held_laws.proofs.MomentLemmas.{own_moments}
-use Rattle.held_laws.proofs.ThereLemmas.{had_objects_are_there}
+use Rattle.control_laws.proofs.MomentLemmas.{own_moments}
+use Rattle.control_laws.proofs.ThereLemmas.{had_objects_are_there}
 use Rattle.spec_run.specs.Act.{Act, moments_in, steps_in}
 use Rattle.spec_run.specs.OwnedRun.{AreCountedBy}
 use Rattle.script_actor.specs.Piece.{Piece, pipe_steps}

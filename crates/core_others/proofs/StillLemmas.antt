@@ -14,7 +14,7 @@ use Rattle.spec_pattern.specs.Half.{Writing, Reading}
 use Rattle.ends.specs.Past.{Stands}
 use Rattle.ends.proofs.StepLemmas.{exact_more}
 use Rattle.spec_control.specs.Control.{Control, next_pair}
-use Rattle.control_held.specs.Moments.{Moment}
+use Rattle.spec_control.specs.Moments.{Moment}
 use Rattle.spec_run.specs.Act.{Act, Step, steps_in, pipe_step_of}
 use Rattle.spec_run.specs.Event.{seals_in, acts_said}
 use Rattle.spec_run.specs.OwnedRun.{pipe_capacity}

@@ -23,17 +23,17 @@ use Rattle.control_laws.proofs.StepLemmas.{inv_of}
 use Rattle.control_laws.specs.Kept.{Kept}
 use Rattle.control_laws.proofs.EndLemmas.{kept_but}
 use Rattle.control_laws.proofs.TellLemmas.{rows_of}
-use Rattle.control_held.specs.Held.{caller_of}
-use Rattle.control_held.specs.Moments.{Moment, moments_from}
+use Rattle.spec_control.specs.Held.{caller_of}
+use Rattle.spec_control.specs.Moments.{Moment, moments_from}
 use Rattle.control_laws.proofs.GuardLemmas.{may_come}
 use Rattle.control_laws.specs.OwnMoves.{own_moves, word_moves}
-use Rattle.ctl_holder.specs.Holding.{Holding}
+use Rattle.ctl_plane.specs.Holding.{Holding}
 use Rattle.ctl_history.specs.Past.{control_of}
-use Rattle.held_laws.proofs.BetweenLemmas.{reap_comes}
-use Rattle.held_laws.proofs.EventLemmas.{asked_reaps}
-use Rattle.held_laws.specs.Closed.{lives}
-use Rattle.held_laws.proofs.ClosedLemmas.{event_ended}
-use Rattle.open_laws.specs.Open.{IsOf, IsOfItem}
+use Rattle.control_laws.proofs.BetweenLemmas.{reap_comes}
+use Rattle.control_laws.proofs.HeldEventLemmas.{asked_reaps}
+use Rattle.control_laws.specs.Closed.{lives}
+use Rattle.control_laws.proofs.HeldClosedLemmas.{event_ended}
+use Rattle.core_laws.specs.Open.{IsOf, IsOfItem}
 use Rattle.one_desk.specs.Lent.{GrowsBy, IsOneOrder, Lent}
 use Rattle.desk_laws.proofs.SocketLemmas.{is_in}
 use Rattle.core_others.proofs.ChainLemmas.{kept_then}

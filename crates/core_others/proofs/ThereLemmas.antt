@@ -5,11 +5,11 @@ use Rattle.std.proofs.Math.Logic.{∥∥₁_elim}
 use Rattle.msg_pipe.specs.Known.{Known, IsThere}
 use Rattle.spec_control.specs.Names.{name_of}
 use Rattle.control_laws.proofs.ListLemmas.{never}
-use Rattle.ctl_holder.specs.declared.given.Given.{Given}
+use Rattle.ctl_plane.specs.declared.given.Given.{Given}
 use Rattle.ctl_history.specs.Past.{control_of}
 use Rattle.held_ends.specs.declared.changes.PipeChange.{PipeChange}
-use Rattle.past_laws.specs.Names.{NamesStand}
-use Rattle.past_laws.proofs.NamesLemmas.{names_stay, stays_all}
+use Rattle.core_laws.specs.Names.{NamesStand}
+use Rattle.core_laws.proofs.NamesLemmas.{names_stay, stays_all}
 use Rattle.reaper_ends.specs.declared.sockets.ClosedSockets.{ClosedSockets}
 use Rattle.one_desk.specs.Lent.{Lent}
 use Rattle.core_others.specs.Ends.{ReaperDid}

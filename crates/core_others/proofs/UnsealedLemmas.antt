@@ -15,13 +15,13 @@ use Rattle.spec_control.specs.Names.{name_of}
 use Rattle.msg_pipe.specs.Known.{Known}
 use Rattle.control_laws.proofs.ListLemmas.{and, left, never}
 use Rattle.control_laws.proofs.MoveLemmas.{is_at}
-use Rattle.ctl_ends.proofs.HeldLemmas.{other_twice}
-use Rattle.ctl_holder.specs.declared.given.Given.{Given}
-use Rattle.ctl_holder.specs.Lent.{has_writer}
+use Rattle.ctl_moves.proofs.HeldLemmas.{other_twice}
+use Rattle.ctl_plane.specs.declared.given.Given.{Given}
+use Rattle.ctl_plane.specs.Lent.{has_writer}
 use Rattle.ctl_history.specs.Past.{control_of}
 use Rattle.core_laws.proofs.AsideLemmas.{names_more}
-use Rattle.past_laws.specs.Places.{is_end_of}
-use Rattle.past_laws.proofs.PlaceLemmas.{its_there, led_on}
+use Rattle.core_laws.specs.Places.{is_end_of}
+use Rattle.core_laws.proofs.PlaceLemmas.{its_there, led_on}
 use Rattle.one_desk.specs.Lent.{IsOneOrder, Lent}
 use Rattle.desk_laws.proofs.SocketLemmas.{kept_now}
 use Rattle.lent_sock.specs.Leaving.{IsNoneItSettled, IsNoneItWrites, LeavesPipes, TellsRest}

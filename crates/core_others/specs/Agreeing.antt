@@ -6,12 +6,12 @@ use Rattle.spec_control.specs.Control.{owner_of}
 use Rattle.spec_control.specs.Names.{name_of}
 use Rattle.msg_pipe.specs.Known.{Known}
 use Rattle.any_sock.specs.declared.any_sock.AnySock.{AnySock}
-use Rattle.ctl_holder.specs.declared.given.Given.{Given}
+use Rattle.ctl_plane.specs.declared.given.Given.{Given}
 use Rattle.ctl_history.specs.Past.{control_of}
 use Rattle.held_ends.specs.declared.changes.PipeChange.{PipeChange}
 use Rattle.held_ends.specs.declared.table.Place.{Place}
 use Rattle.held_ends.specs.Places.{place_at}
-use Rattle.past_laws.specs.Names.{NamesStand}
+use Rattle.core_laws.specs.Names.{NamesStand}
 use Rattle.sock_core.specs.declared.sock.SockCore.{SockCore}
 use Rattle.reaper_ends.specs.declared.sockets.ClosedSockets.{ClosedSockets}
 use Rattle.reaper_ends.specs.Has.{all_ends, is_of}

@@ -2,14 +2,14 @@
 use Rattle.std.specs.Prelude.{ℕ, Some, map}
 use Rattle.spec_control.specs.Names.{name_of}
 use Rattle.msg_pipe.specs.Known.{Known}
-use Rattle.ctl_holder.specs.declared.given.Given.{Given}
+use Rattle.ctl_plane.specs.declared.given.Given.{Given}
 use Rattle.ctl_history.specs.Past.{control_of}
 use Rattle.ctl_plane.specs.Coming.{BindsFit}
 use Rattle.ctl_plane.specs.Desk.{slot_after}
 use Rattle.any_sock.specs.declared.any_sock.AnySock.{AnySock}
 use Rattle.sock_core.specs.declared.sock.SockCore.{SockCore}
 use Rattle.sock_calls.specs.Calls.{MayJoin}
-use Rattle.past_laws.specs.Asked.{WereAsked}
+use Rattle.core_laws.specs.Asked.{WereAsked}
 use Rattle.lent_sock.specs.Owned.{IsOwned}
 use Rattle.one_desk.specs.Lent.{coming_to, Lent, moments_of}
 use Rattle.core_others.specs.Calls.{for_caller}

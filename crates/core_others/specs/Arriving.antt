@@ -11,7 +11,7 @@ use Rattle.spec_control.specs.declared.letter.Word.TheVariants.{Own, Plug, TermR
 use Rattle.spec_control.specs.Rows.{obj}
 use Rattle.spec_control.specs.Control.{next_pair}
 use Rattle.spec_control.specs.Names.{name_of}
-use Rattle.ctl_holder.specs.declared.given.Given.{Given}
+use Rattle.ctl_plane.specs.declared.given.Given.{Given}
 use Rattle.ctl_history.specs.Giving.{AreOnTheirWay}
 use Rattle.ctl_history.specs.Past.{control_of}
 use Rattle.ctl_plane.specs.Desk.{CountsWith}

@@ -1,7 +1,7 @@
 -- One item in the one order that leaves all pipes aside (own choice).
 use Rattle.std.specs.Prelude.{◌≡◌, ◌++◌, [], ◌∷◌}
 use Rattle.spec_control.specs.declared.entry.Item.{Item}
-use Rattle.control_held.specs.Held.{caller_of}
+use Rattle.spec_control.specs.Held.{caller_of}
 use Rattle.core_laws.specs.Aside.{IsAside}
 use Rattle.one_desk.specs.Lent.{IsOneOrder, Lent}
 

@@ -7,7 +7,7 @@ use Rattle.spec_control.specs.declared.letter.Word.TheVariants.{PipeTerm}
 use Rattle.spec_control.specs.Rows.{obj}
 use Rattle.spec_control.specs.Stage.{is_used}
 use Rattle.spec_control.specs.Control.{owner_of}
-use Rattle.ctl_holder.specs.declared.given.Given.{Given}
+use Rattle.ctl_plane.specs.declared.given.Given.{Given}
 use Rattle.ctl_history.specs.Past.{control_of}
 use Rattle.one_desk.specs.Lent.{IsOneOrder, Lent}
 use Rattle.one_desk.specs.Waiting.{HearsAt}

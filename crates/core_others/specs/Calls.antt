@@ -1,11 +1,11 @@
 -- Calls of one object in the one order of a context, and what their callers' moments say of the others (own choice).
 use Rattle.std.specs.Prelude.{◌≡◌, ◌++◌, ℕ, List, All}
-use Rattle.control_held.specs.Held.{ends_after}
-use Rattle.control_held.specs.Has.{has_after}
-use Rattle.control_held.specs.Moments.{Moment, items_in, left_after}
-use Rattle.control_held.specs.OwnAsks.{known_after}
+use Rattle.spec_control.specs.Held.{ends_after}
+use Rattle.spec_control.specs.Has.{has_after}
+use Rattle.spec_control.specs.Moments.{Moment, items_in, left_after}
+use Rattle.spec_control.specs.OwnAsks.{known_after}
 use Rattle.ctl_plane.specs.Kinds.{kind_after}
-use Rattle.open_laws.specs.Open.{IsOfItem}
+use Rattle.core_laws.specs.Open.{IsOfItem}
 use Rattle.one_desk.specs.Lent.{GrowsBy, IsOneOrder, Lent, moments_of}
 
 module _ {N S : Type 0} where

@@ -6,13 +6,13 @@ use Rattle.spec_control.specs.declared.entry.Joining.{Joining}
 use Rattle.spec_control.specs.Rows.{obj}
 use Rattle.spec_control.specs.Control.{Control}
 use Rattle.spec_control.specs.ControlRun.{is_between}
-use Rattle.control_held.specs.Moments.{Moment}
-use Rattle.ctl_holder.specs.declared.given.Given.{Given}
-use Rattle.ctl_holder.specs.Holding.{held_given}
-use Rattle.ctl_holder.specs.Joins.{KeepsObjects}
-use Rattle.ctl_holder.specs.TakingOver.{AllTwo}
+use Rattle.spec_control.specs.Moments.{Moment}
+use Rattle.ctl_plane.specs.declared.given.Given.{Given}
+use Rattle.ctl_plane.specs.Holding.{held_given}
+use Rattle.ctl_plane.specs.Joins.{KeepsObjects}
+use Rattle.ctl_plane.specs.TakingOver.{AllTwo}
 use Rattle.ctl_plane.specs.Desk.{came_with, JoinsWith, TurnsWith}
-use Rattle.past_laws.specs.Said.{sealed_with}
+use Rattle.core_laws.specs.Said.{sealed_with}
 use Rattle.reaper_ends.specs.declared.sockets.ClosedSockets.{ClosedSockets}
 use Rattle.reaper_ends.specs.Coming.{HasCome, IsAsJoined, IsBrought}
 use Rattle.reaper_ends.specs.Finding.{came_given}

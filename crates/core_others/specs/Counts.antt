@@ -6,7 +6,7 @@ use Rattle.spec_pattern.specs.PipeStep.{PipeStep}
 use Rattle.spec_control.specs.declared.entry.Item.{Item}
 use Rattle.spec_control.specs.Control.{begun}
 use Rattle.spec_control.specs.ControlRun.{FitsItem, IsControlRun, after_all, after_item}
-use Rattle.ctl_holder.specs.Lent.{HasAll}
+use Rattle.ctl_plane.specs.Lent.{HasAll}
 use Rattle.ctl_plane.specs.Desk.{counts_with}
 use Rattle.spec_run.specs.Act.{steps_in}
 use Rattle.spec_run.specs.Event.{acts_said}

@@ -9,7 +9,7 @@ use Rattle.spec_control.specs.Stage.{has_ended}
 use Rattle.spec_control.specs.Rows.{obj}
 use Rattle.spec_control.specs.Control.{Control, begun, id, next_object}
 use Rattle.spec_control.specs.ControlRun.{after_all, IsControlRun}
-use Rattle.control_held.specs.Moments.{left_by, moments_from}
+use Rattle.spec_control.specs.Moments.{left_by, moments_from}
 use Rattle.run_laws.specs.EndOrder.{actor_of, is_numbered}
 use Rattle.ctl_history.specs.Enders.{enders_in}
 use Rattle.ctl_history.specs.Past.{as_item}

@@ -11,8 +11,8 @@ use Rattle.spec_control.specs.declared.letter.Word.{Word}
 use Rattle.spec_control.specs.declared.letter.Word.TheVariants.{Own, Plug, TermReq, Term, TermAck, PipeBind, PipeTerm, PipeTermAck, Stop, Reap}
 use Rattle.spec_control.specs.Control.{next_pair}
 use Rattle.spec_control.specs.Names.{name_of}
-use Rattle.control_held.specs.Moments.{Moment, moments_from}
-use Rattle.ctl_holder.specs.declared.given.Given.{Given}
+use Rattle.spec_control.specs.Moments.{Moment, moments_from}
+use Rattle.ctl_plane.specs.declared.given.Given.{Given}
 use Rattle.ctl_history.specs.Past.{control_of}
 use Rattle.ctl_plane.specs.Coming.{TakesEnds}
 use Rattle.ctl_plane.specs.Desk.{CountsWith, HasWhatTheySay, KeepsUp}
@@ -21,8 +21,8 @@ use Rattle.spec_run.specs.Event.{acts_said}
 use Rattle.spec_run.specs.OwnedRun.{AreCountedBy}
 use Rattle.held_ends.specs.declared.changes.PipeChange.{PipeChange}
 use Rattle.core_laws.specs.Standing.{PastStands}
-use Rattle.past_laws.specs.Changes.{ArePlacesNamed}
-use Rattle.past_laws.specs.Said.{sealed_with}
+use Rattle.core_laws.specs.Changes.{ArePlacesNamed}
+use Rattle.core_laws.specs.Said.{sealed_with}
 use Rattle.reaper_ends.specs.declared.sockets.ClosedSockets.{ClosedSockets}
 use Rattle.reaper_ends.specs.Coming.{HasCome, IsBrought}
 use Rattle.reaper_ends.specs.Counting.{counts_of}

@@ -3,11 +3,11 @@ use Rattle.std.specs.Prelude.{◌≡◌, ℕ, List, Option, Some, map}
 use Rattle.zq_base.specs.Ends.{PipeId}
 use Rattle.msg_pipe.specs.Known.{Known}
 use Rattle.spec_control.specs.Control.{Control}
-use Rattle.ctl_holder.specs.Lent.{HasAll}
+use Rattle.ctl_plane.specs.Lent.{HasAll}
 use Rattle.held_ends.specs.declared.table.Place.{Place}
 use Rattle.held_ends.specs.Places.{place_at}
-use Rattle.past_laws.specs.Changes.{ArePlacesNamed}
-use Rattle.past_laws.specs.Ends.{IsHeldWhere}
+use Rattle.core_laws.specs.Changes.{ArePlacesNamed}
+use Rattle.core_laws.specs.Ends.{IsHeldWhere}
 use Rattle.reaper_ends.specs.declared.sockets.ClosedSockets.{ClosedSockets}
 use Rattle.reaper_ends.specs.Finding.{place_given}
 use Rattle.reaper_ends.specs.Has.{all_ends, holding_in}

@@ -8,14 +8,14 @@ use Rattle.msg_pipe.specs.Known.{Known}
 use Rattle.msg_pipe.specs.Told.{front_step}
 use Rattle.msg_pipe.specs.declared.pipes.Front.{Front}
 use Rattle.any_sock.specs.declared.any_sock.AnySock.{AnySock}
-use Rattle.ctl_holder.specs.declared.given.Given.{Given}
-use Rattle.ctl_holder.specs.TakingOver.{AreGivenWith}
+use Rattle.ctl_plane.specs.declared.given.Given.{Given}
+use Rattle.ctl_plane.specs.TakingOver.{AreGivenWith}
 use Rattle.ctl_history.specs.Giving.{AreOnTheirWay}
 use Rattle.ctl_history.specs.Past.{control_of}
 use Rattle.ctl_plane.specs.Desk.{HasWhatTheySay}
 use Rattle.core_laws.specs.Sides.{is_shut, IsDoneAt}
 use Rattle.core_laws.specs.Standing.{opens_in, PastStands}
-use Rattle.past_laws.specs.Names.{NamesStand}
+use Rattle.core_laws.specs.Names.{NamesStand}
 use Rattle.sock_core.specs.declared.sock.SockCore.{SockCore}
 use Rattle.reaper_ends.specs.declared.sockets.ClosedSockets.{ClosedSockets}
 use Rattle.reaper_ends.specs.Ending.{LooksOnce}

@@ -8,7 +8,7 @@ use Rattle.msg_pipe.specs.declared.pipes.Front.{Front}
 use Rattle.spec_pattern.specs.PipeStep.{PipeStep, read_through}
 use Rattle.spec_control.specs.Control.{Control, next_pair}
 use Rattle.spec_run.specs.OwnedRun.{settlement_of}
-use Rattle.ctl_holder.specs.Holding.{Holding, read_in}
+use Rattle.ctl_plane.specs.Holding.{Holding, read_in}
 use Rattle.core_laws.specs.Standing.{PastStands}
 use Rattle.reaper_ends.specs.Ending.{LooksOnce}
 

@@ -5,13 +5,13 @@ use Rattle.msg_pipe.specs.Known.{Known}
 use Rattle.spec_control.specs.declared.entry.Item.{Item}
 use Rattle.spec_control.specs.Control.{Control, begun, next_pair, place_of}
 use Rattle.spec_control.specs.ControlRun.{after_all, IsControlRun}
-use Rattle.control_held.specs.Moments.{moments_from}
+use Rattle.spec_control.specs.Moments.{moments_from}
 use Rattle.held_ends.specs.declared.changes.PipeChange.{PipeChange}
 use Rattle.held_ends.specs.declared.table.Place.{Place}
 use Rattle.held_ends.specs.Places.{place_at}
-use Rattle.past_laws.specs.Changes.{IsOfPipes}
-use Rattle.past_laws.specs.Ends.{IsHeldWhere, IsGoneFrom, is_new}
-use Rattle.past_laws.specs.Said.{sealed_with}
+use Rattle.core_laws.specs.Changes.{IsOfPipes}
+use Rattle.core_laws.specs.Ends.{IsHeldWhere, IsGoneFrom, is_new}
+use Rattle.core_laws.specs.Said.{sealed_with}
 use Rattle.reaper_ends.specs.declared.sockets.ClosedSockets.{ClosedSockets}
 use Rattle.reaper_ends.specs.Has.{all_ends, is_of}
 use Rattle.reaper_ends.specs.Noted.{first_places, HasDoneTo}

@@ -8,14 +8,14 @@ use Rattle.spec_control.specs.Rows.{obj}
 use Rattle.spec_control.specs.Stage.{is_used}
 use Rattle.spec_control.specs.Control.{Control, id, place_of}
 use Rattle.spec_control.specs.Names.{name_of}
-use Rattle.control_held.specs.Has.{has_after}
-use Rattle.ctl_holder.specs.declared.given.Given.{Given}
-use Rattle.ctl_holder.specs.Holding.{Holding}
-use Rattle.ctl_holder.specs.TakingOver.{AreDistinct, AreGivenWith, MayTakeFirst}
+use Rattle.spec_control.specs.Has.{has_after}
+use Rattle.ctl_plane.specs.declared.given.Given.{Given}
+use Rattle.ctl_plane.specs.Holding.{Holding}
+use Rattle.ctl_plane.specs.TakingOver.{AreDistinct, AreGivenWith, MayTakeFirst}
 use Rattle.ctl_history.specs.Past.{control_of}
 use Rattle.ctl_plane.specs.Coming.{BindsFit}
 use Rattle.ctl_plane.specs.Desk.{HasWhatTheySay}
-use Rattle.held_laws.specs.Closed.{lives}
+use Rattle.control_laws.specs.Closed.{lives}
 use Rattle.reaper_ends.specs.declared.sockets.ClosedSockets.{ClosedSockets}
 use Rattle.reaper_ends.specs.Finding.{HasRoom}
 use Rattle.reaper_ends.specs.Has.{holding_in}

@@ -8,15 +8,15 @@ use Rattle.spec_pattern.specs.PipeStep.{PipeStep}
 use Rattle.spec_control.specs.declared.entry.Item.{Item}
 use Rattle.spec_control.specs.Control.{Control, begun, next_pair}
 use Rattle.spec_control.specs.ControlRun.{after_all, IsControlRun}
-use Rattle.control_held.specs.Moments.{Moment, moments_from}
+use Rattle.spec_control.specs.Moments.{Moment, moments_from}
 use Rattle.spec_run.specs.Act.{steps_in}
 use Rattle.spec_run.specs.Event.{acts_said}
 use Rattle.held_ends.specs.declared.changes.PipeChange.{PipeChange}
 use Rattle.held_ends.specs.declared.table.Place.{Place}
 use Rattle.core_laws.specs.Standing.{PastStands}
-use Rattle.past_laws.specs.Changes.{IsOfPipes, ArePlacesNamed}
-use Rattle.past_laws.specs.Said.{sealed_with}
-use Rattle.past_laws.specs.Asked.{WereAsked}
+use Rattle.core_laws.specs.Changes.{IsOfPipes, ArePlacesNamed}
+use Rattle.core_laws.specs.Said.{sealed_with}
+use Rattle.core_laws.specs.Asked.{WereAsked}
 use Rattle.reaper_ends.specs.declared.sockets.ClosedSockets.{ClosedSockets}
 use Rattle.reaper_ends.specs.Noted.{sealed_ends, first_places, HasDoneTo}
 

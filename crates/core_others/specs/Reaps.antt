@@ -1,7 +1,7 @@
 -- A call of the reaper is told as one piece more of a core (own choice, after libzmq's `reaper_t`).
 use Rattle.std.specs.Prelude.{◌≡◌, ◌++◌, true, ℕ, List, []}
 use Rattle.spec_pattern.specs.PipeStep.{PipeStep}
-use Rattle.control_held.specs.Moments.{moments_from}
+use Rattle.spec_control.specs.Moments.{moments_from}
 use Rattle.spec_run.specs.Act.{Act, moments_in, steps_in}
 use Rattle.spec_run.specs.OwnedRun.{AreCountedBy}
 use Rattle.msg_pipe.specs.Known.{Known}

@@ -4,11 +4,11 @@ use Rattle.msg_pipe.specs.Known.{Known}
 use Rattle.spec_control.specs.declared.entry.Item.{Item}
 use Rattle.spec_control.specs.Control.{Control, begun}
 use Rattle.spec_control.specs.ControlRun.{after_all, IsControlRun}
-use Rattle.control_held.specs.Moments.{moments_from}
-use Rattle.ctl_holder.specs.declared.given.Given.{Given}
+use Rattle.spec_control.specs.Moments.{moments_from}
+use Rattle.ctl_plane.specs.declared.given.Given.{Given}
 use Rattle.held_ends.specs.declared.changes.PipeChange.{PipeChange}
-use Rattle.past_laws.specs.Asked.{WereAsked}
-use Rattle.past_laws.specs.Said.{sealed_with}
+use Rattle.core_laws.specs.Asked.{WereAsked}
+use Rattle.core_laws.specs.Said.{sealed_with}
 use Rattle.reaper_ends.specs.declared.sockets.ClosedSockets.{ClosedSockets}
 use Rattle.reaper_ends.specs.Finding.{came_given}
 use Rattle.reaper_ends.specs.Has.{all_ends}

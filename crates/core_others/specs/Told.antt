@@ -2,7 +2,7 @@
 use Rattle.std.specs.Prelude.{◌≡◌, ◌++◌, false, ℕ, List, length}
 use Rattle.spec_pattern.specs.declared.answers.Skip.{Skip}
 use Rattle.spec_control.specs.Control.{begun, id}
-use Rattle.control_held.specs.Moments.{moments_from}
+use Rattle.spec_control.specs.Moments.{moments_from}
 use Rattle.spec_run.specs.Act.{Act}
 use Rattle.msg_pipe.specs.Known.{Known}
 use Rattle.script_actor.specs.Piece.{Piece, AddsActs}

@@ -2,7 +2,7 @@
 use Rattle.std.specs.Prelude.{◌≡◌, ℕ, []}
 use Rattle.spec_control.specs.declared.entry.Item.{Item}
 use Rattle.msg_pipe.specs.Known.{Known}
-use Rattle.ctl_holder.specs.declared.given.Given.{Given}
+use Rattle.ctl_plane.specs.declared.given.Given.{Given}
 use Rattle.one_desk.specs.Lent.{Lent}
 use Rattle.core_others.specs.Rest.{LeavesRest}
 use Rattle.core_others.specs.ReapedComing.{AwayUnsealed}

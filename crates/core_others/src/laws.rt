@@ -2,8 +2,8 @@ ghost use Rattle.core_others.specs.Laws.{CallsSendNone, ClosedAreApart, ComingJo
 ghost use Rattle.core_others.specs.Lines.{ClosesAreOn, LinesAreOn, ObjectsStay, OldEndsCame, SendsNoOther};
 ghost use Rattle.core_others.specs.Rest.{EndingsSendNone, NoneIsSent, OthersAgreeStill, OthersAreKept};
 
+use core_laws::ends_are_sealed_once;
 use held_ends::HeldPipes;
-use past_laws::ends_are_sealed_once;
 
 /// A pipe that no end read that is held no more was not settled.
 pub fn pipes_settled_were_read<P: HeldPipes>(_pipes: &P)

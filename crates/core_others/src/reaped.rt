@@ -10,9 +10,8 @@ ghost use Rattle.core_others.specs.Ends.{GivenStay, NoneCame, ReaperCallsStand, 
 use crate::reaper::{
     reaper_calls_go_on, reaper_changes_are_of_pipes, reaper_counts_go_on, reaper_ends_were_asked,
 };
-use core_laws::past_stays_over_control;
+use core_laws::{ends_are_sealed_once, past_stays_over_control};
 use msg_pipe::Pipes;
-use past_laws::ends_are_sealed_once;
 
 /// A delivery of the reaper's, and a delimiter that it met or not, is one item of its caller's at the most.
 pub fn reapers_calls_are_so<G, N, S>()

@@ -8,11 +8,11 @@ ghost use Rattle.core_others.specs.Looks.{ReaperLooksGoOn};
 ghost use Rattle.core_others.specs.Moves.{ReaperChangesAreOfPipes};
 ghost use Rattle.core_others.specs.Sealed.{AskedGoOn, ReaperEndsWereAsked};
 
-use core_laws::past_stays_over_control;
-use msg_pipe::Pipes;
-use past_laws::{
-    changes_are_of_pipes, ends_are_sealed_once, pipes_are_settled, socket_calls_go_on,
+use core_laws::{
+    changes_are_of_pipes, ends_are_sealed_once, past_stays_over_control, pipes_are_settled,
+    socket_calls_go_on,
 };
+use msg_pipe::Pipes;
 use reaper_ends::looks_go_on;
 
 /// Where looks are exact, the steps past go on over calls of the reaper on the control plane, with the

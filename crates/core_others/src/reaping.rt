@@ -7,8 +7,8 @@ ghost use Rattle.core_others.specs.Taken.{KeepsOnlyTaken, KeepsTaken, ReaperKeep
 ghost use Rattle.core_others.specs.Unsealed.{KeepsUnsealed};
 
 use crate::reaper::reaper_looks_go_on;
+use core_laws::{ends_are_sealed_once, pipes_are_settled};
 use msg_pipe::Pipes;
-use past_laws::{ends_are_sealed_once, pipes_are_settled};
 
 /// What is on its way stays unsealed over a core's calls.
 pub fn keeps_unsealed<P: Pipes, T>(_pipes: &P)

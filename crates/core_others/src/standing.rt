@@ -4,10 +4,9 @@ ghost use Rattle.core_others.specs.Reaps.{ReapsAreTold};
 ghost use Rattle.core_others.specs.Stands.{CallsStand};
 ghost use Rattle.core_others.specs.Told.{CallsAreTold};
 
-use core_laws::calls_go_on;
+use core_laws::{calls_go_on, ends_are_sealed_once};
 use core_tale::tales_go_on;
 use held_ends::HeldPipes;
-use past_laws::ends_are_sealed_once;
 
 /// What stands goes on over the calls of an open socket.
 pub fn calls_stand<P: HeldPipes, G, T>(_pipes: &P)

@@ -14,7 +14,7 @@ use Rattle.spec_run.specs.OwnedRun.{settlement_of}
 use Rattle.spec_run.specs.RunJournal.{rows_by}
 use Rattle.control_laws.proofs.AskLemmas.{same_end}
 use Rattle.core_others.specs.Drops.{row_dropped}
-use Rattle.past_laws.specs.Settling.{HasItsReason}
+use Rattle.core_laws.specs.Settling.{HasItsReason}
 use Rattle.core_others.specs.Table.{drops_in}
 use Rattle.core_shows.specs.Settled.{row_in}
 

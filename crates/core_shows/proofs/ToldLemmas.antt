@@ -18,7 +18,7 @@ use Rattle.control_laws.proofs.FateLemmas.{answered_same, processed_same, happen
 use Rattle.ctl_history.specs.declared.settled.PipeCounts.{PipeCounts}
 use Rattle.ctl_history.specs.Past.{as_item}
 use Rattle.ctl_history.specs.Settled.{counted, settled_by, settled_of, settled_in}
-use Rattle.open_laws.specs.Bounds.{EndsAreFew}
+use Rattle.core_laws.specs.Bounds.{EndsAreFew}
 use Rattle.core_shows.specs.Settled.{counts_in}
 
 abbrev told : Control → List PipeCounts

@@ -3,15 +3,14 @@ ghost use Rattle.spec_control.specs.Control.{end_of, next_pair};
 ghost use Rattle.spec_run.specs.Fate.{is_heard_at, is_publisher, is_publisher_kind};
 ghost use Rattle.spec_run.specs.RunJournal.{rows_by};
 ghost use Rattle.ctl_history.specs.Past.{control_of};
-ghost use Rattle.past_laws.specs.Settling.{HasItsReason};
+ghost use Rattle.core_laws.specs.Settling.{HasItsReason};
 ghost use Rattle.core_shows.specs.Settled.{row_in, HasTable};
 
 use crate::rows::row_shown;
 use crate::table::{counts_of, drops_of, table_of};
+use core_laws::{ends_are_few, reasons_stay};
 use msg_pipe::Pipes;
 use one_desk::OneDesk;
-use open_laws::ends_are_few;
-use past_laws::reasons_stay;
 use spec_control::ObjKind;
 use spec_pattern::PipeId;
 use spec_run::SettledRow;

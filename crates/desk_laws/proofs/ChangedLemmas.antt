@@ -9,9 +9,9 @@ use Rattle.held_ends.specs.declared.table.Place.{Place}
 use Rattle.held_ends.specs.Changes.{WereHeld, AreMakings}
 use Rattle.held_ends.specs.Places.{place_at}
 use Rattle.sock_core.specs.Came.{IsChangedAt, AreChangedAt}
-use Rattle.past_laws.specs.Places.{WasOrIsHeld}
-use Rattle.past_laws.specs.Changes.{IsOfPipes}
-use Rattle.past_laws.specs.OfPipes.{AreHeldSince}
+use Rattle.core_laws.specs.Places.{WasOrIsHeld}
+use Rattle.core_laws.specs.Changes.{IsOfPipes}
+use Rattle.core_laws.specs.OfPipes.{AreHeldSince}
 
 pub bool_set : IsSet Bool
 bool_set = Prim.hlevel codes

@@ -15,7 +15,7 @@ use Rattle.spec_control.specs.Place.{is_here}
 use Rattle.spec_control.specs.Control.{begun, place_of}
 use Rattle.spec_control.specs.ControlRun.{IsControlRun, after_all}
 use Rattle.spec_run.specs.OwnedRun.{pipe_capacity}
-use Rattle.ctl_holder.specs.Holding.{read_in}
+use Rattle.ctl_plane.specs.Holding.{read_in}
 use Rattle.held_ends.specs.declared.table.EndTable.{EndTable}
 use Rattle.held_ends.specs.declared.table.Place.{Place}
 use Rattle.held_ends.specs.Counting.{half_at, half_in, counts_at, counts_of, counts_with}
@@ -25,11 +25,11 @@ use Rattle.sock_core.proofs.FindLemmas.{held_is, end_is, found, not_found, alone
 use Rattle.sock_core.proofs.FormLemmas.{sound_of}
 use Rattle.sock_core.proofs.HolderLemmas.{reads_here, names_at}
 use Rattle.core_laws.specs.Standing.{PastStands, goes_in}
-use Rattle.past_laws.specs.Ends.{IsHeldFor, AreHeldFor}
-use Rattle.past_laws.specs.Settled.{PipesAreSettled}
-use Rattle.past_laws.proofs.ChangeLemmas.{goes_so}
-use Rattle.past_laws.proofs.CountLemmas.{Counts}
-use Rattle.past_laws.proofs.OfPipesLemmas.{here_not_gone}
+use Rattle.core_laws.specs.Ends.{IsHeldFor, AreHeldFor}
+use Rattle.core_laws.specs.Settled.{PipesAreSettled}
+use Rattle.core_laws.proofs.ChangeLemmas.{goes_so}
+use Rattle.core_laws.proofs.CountLemmas.{Counts}
+use Rattle.core_laws.proofs.OfPipesLemmas.{here_not_gone}
 
 record SomeOf {A : Type 0} (x : Option A) : Type 0 where
   some : A

@@ -17,13 +17,13 @@ use Rattle.spec_control.specs.declared.request.Reply.TheVariants.{Done, Object, 
 use Rattle.spec_control.specs.Rows.{is_owner}
 use Rattle.spec_control.specs.Control.{Control, is_end}
 use Rattle.spec_control.specs.ControlRun.{Joins, Fits, FitsItem, request_joins, unless_refused, word_joins}
-use Rattle.control_held.specs.Held.{Held, asker, heard_of, subject_of, held_as, ends_at_request, ends_at_word, ends_in, ends_then}
+use Rattle.spec_control.specs.Held.{Held, asker, heard_of, subject_of, held_as, ends_at_request, ends_at_word, ends_in, ends_then}
 use Rattle.control_laws.specs.AttachedOnce.{AreOnce}
-use Rattle.ctl_holder.specs.Joins.{come_by, came_in}
+use Rattle.ctl_plane.specs.Joins.{come_by, came_in}
 use Rattle.ctl_plane.specs.Desk.{came_with}
-use Rattle.open_laws.specs.Open.{IsOf, IsOfItem}
-use Rattle.past_laws.proofs.OwnQuietLemmas.{none_mapped}
-use Rattle.past_laws.proofs.MadeLemmas.{shown}
+use Rattle.core_laws.specs.Open.{IsOf, IsOfItem}
+use Rattle.core_laws.proofs.OwnQuietLemmas.{none_mapped}
+use Rattle.core_laws.proofs.MadeLemmas.{shown}
 use Rattle.desk_laws.proofs.OnceLemmas.{Parts, once_parts, ends_of_all}
 
 unless_none : (reply : Reply) → unless_refused reply [] ≡ (let none : List Joins = [] in none)

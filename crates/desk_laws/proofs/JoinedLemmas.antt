@@ -11,13 +11,13 @@ use Rattle.spec_control.specs.declared.entry.Joining.{Joining}
 use Rattle.spec_control.specs.Place.{is_here}
 use Rattle.spec_control.specs.Control.{Control, begun, is_end, place_of}
 use Rattle.spec_control.specs.ControlRun.{IsControlRun, after_all}
-use Rattle.control_held.specs.Held.{Held}
+use Rattle.spec_control.specs.Held.{Held}
 use Rattle.control_laws.specs.AttachedOnce.{AreOnce}
 use Rattle.control_laws.proofs.RootLemmas.{runs_are_kept}
 use Rattle.msg_pipe.specs.Known.{Known}
 use Rattle.ends.proofs.RowLemmas.{some_same}
-use Rattle.ctl_holder.specs.Holding.{Holding}
-use Rattle.ctl_holder.specs.Lent.{HasBothNames, HasEnds}
+use Rattle.ctl_plane.specs.Holding.{Holding}
+use Rattle.ctl_plane.specs.Lent.{HasBothNames, HasEnds}
 use Rattle.held_ends.specs.declared.changes.PipeChange.{PipeChange}
 use Rattle.held_ends.specs.declared.table.Place.{Place}
 use Rattle.held_ends.specs.Changes.{made_last, AreMadeFor, IsMadeAt}
@@ -25,8 +25,8 @@ use Rattle.held_ends.specs.Others.{IsLess, KeepsPlaces}
 use Rattle.held_ends.specs.Places.{place_at, held_of, held_in}
 use Rattle.sock_core.specs.Came.{IsOneOf, JoinedAt, HasCome}
 use Rattle.sock_core.specs.Way.{oldest_first}
-use Rattle.past_laws.specs.Places.{is_end_of, HasPlaces}
-use Rattle.past_laws.proofs.PlaceLemmas.{Stood, stood, HeldAs, held_as, held_among, any_ends, gone_is, gone_run, its_there, held_here, here_is, both_names, run_on, led_on}
+use Rattle.core_laws.specs.Places.{is_end_of, HasPlaces}
+use Rattle.core_laws.proofs.PlaceLemmas.{Stood, stood, HeldAs, held_as, held_among, any_ends, gone_is, gone_run, its_there, held_here, here_is, both_names, run_on, led_on}
 use Rattle.desk_laws.proofs.OnceLemmas.{is_false, ends_of_all, any_one, any_oldest, one_place}
 use Rattle.desk_laws.proofs.JoinLemmas.{AreJoined}
 

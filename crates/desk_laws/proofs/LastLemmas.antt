@@ -7,8 +7,8 @@ use Rattle.std.proofs.lemmas.List.Elements.{All-head, All-tail, filter-append}
 use Rattle.spec_control.specs.declared.entry.Item.{Item}
 use Rattle.spec_control.specs.Control.{Control, begun}
 use Rattle.spec_control.specs.ControlRun.{FitsItem, IsControlRun, after_all, after_item}
-use Rattle.control_held.specs.Held.{caller_of}
-use Rattle.control_held.specs.Moments.{Moment, moments_by, moments_from}
+use Rattle.spec_control.specs.Held.{caller_of}
+use Rattle.spec_control.specs.Moments.{Moment, moments_by, moments_from}
 use Rattle.one_desk.specs.Lent.{moments_of, GrowsBy, Lent}
 use Rattle.one_desk.proofs.OrderLemmas.{after_more}
 use Rattle.desk_laws.specs.Laws.{MomentsAreLast, OthersStay}

@@ -10,18 +10,18 @@ use Rattle.control_laws.proofs.EndStepLemmas.{ends_live}
 use Rattle.run_laws.proofs.CapacityLemmas.{capacities_stay, steps_stay_exact}
 use Rattle.run_laws.proofs.SealLemmas.{seals_are_told}
 use Rattle.core_laws.proofs.PastLemmas.{past_goes_on, past_stays_over}
-use Rattle.past_laws.specs.Asked.{EndsAreSealedOnce}
-use Rattle.past_laws.specs.Calls.{SocketCallsGoOn}
-use Rattle.past_laws.specs.OfPipes.{ChangesAreOfPipes}
-use Rattle.past_laws.specs.Settled.{PipesAreSettled}
-use Rattle.past_laws.proofs.AskedLemmas.{ends_are_sealed_once}
-use Rattle.past_laws.proofs.CallLemmas.{socket_calls_go_on}
-use Rattle.past_laws.proofs.ChangeLemmas.{changes_go_on}
-use Rattle.past_laws.proofs.GoneLemmas.{settled_ends_are_gone}
-use Rattle.past_laws.proofs.OfPipesLemmas.{changes_are_of_pipes}
-use Rattle.past_laws.proofs.SaidLemmas.{steps_are_said}
-use Rattle.past_laws.proofs.SealLemmas.{seals_are_new}
-use Rattle.past_laws.proofs.UnsettledLemmas.{pipes_are_settled}
+use Rattle.core_laws.specs.Asked.{EndsAreSealedOnce}
+use Rattle.core_laws.specs.Calls.{SocketCallsGoOn}
+use Rattle.core_laws.specs.OfPipes.{ChangesAreOfPipes}
+use Rattle.core_laws.specs.Settled.{PipesAreSettled}
+use Rattle.core_laws.proofs.AskedLemmas.{ends_are_sealed_once}
+use Rattle.core_laws.proofs.PastCallLemmas.{socket_calls_go_on}
+use Rattle.core_laws.proofs.ChangeLemmas.{changes_go_on}
+use Rattle.core_laws.proofs.GoneLemmas.{settled_ends_are_gone}
+use Rattle.core_laws.proofs.OfPipesLemmas.{changes_are_of_pipes}
+use Rattle.core_laws.proofs.SaidLemmas.{steps_are_said}
+use Rattle.core_laws.proofs.SealLemmas.{seals_are_new}
+use Rattle.core_laws.proofs.UnsettledLemmas.{pipes_are_settled}
 use Rattle.desk_laws.specs.Calling.{IsExact}
 
 pub settled : (N T : Type 0) → PipesAreSettled N T

@@ -15,7 +15,7 @@ use Rattle.spec_control.specs.Control.{Control, begun, next_pair}
 use Rattle.spec_control.specs.ControlRun.{after_all}
 use Rattle.spec_control.specs.Names.{name_of}
 use Rattle.ctl_history.specs.Past.{control_of}
-use Rattle.held_laws.proofs.HaveLemmas.{lent_holders_have_it}
+use Rattle.control_laws.proofs.HaveLemmas.{lent_holders_have_it}
 use Rattle.spec_run.specs.OwnedRun.{settlement_of, pipe_capacity, AreCountedBy}
 use Rattle.spec_run.specs.SocketCall.{step_acts}
 use Rattle.run_laws.specs.CapacitiesStay.{pipe_at}
@@ -27,13 +27,13 @@ use Rattle.core_laws.proofs.CallLemmas.{steps_back}
 use Rattle.core_laws.proofs.CountedLemmas.{counts_go_on}
 use Rattle.core_laws.proofs.RowLemmas.{steps_are_at_rows}
 use Rattle.core_laws.specs.Standing.{PastStands, goes_in}
-use Rattle.past_laws.specs.Ends.{AreHeldFor}
-use Rattle.past_laws.proofs.PlaceLemmas.{places_are_held}
-use Rattle.past_laws.specs.Messages.{AreOwned}
-use Rattle.past_laws.proofs.ChangeLemmas.{goes_said}
-use Rattle.past_laws.proofs.HeldRowLemmas.{held_rows_are_named}
-use Rattle.past_laws.proofs.MessageLemmas.{rows_at, messages_go_on}
-use Rattle.past_laws.proofs.NamedLemmas.{names_are_made}
+use Rattle.core_laws.specs.Ends.{AreHeldFor}
+use Rattle.core_laws.proofs.PlaceLemmas.{places_are_held}
+use Rattle.core_laws.specs.Messages.{AreOwned}
+use Rattle.core_laws.proofs.ChangeLemmas.{goes_said}
+use Rattle.core_laws.proofs.HeldRowLemmas.{held_rows_are_named}
+use Rattle.core_laws.proofs.MessageLemmas.{rows_at, messages_go_on}
+use Rattle.core_laws.proofs.NamedLemmas.{names_are_made}
 use Rattle.desk_laws.specs.Calling.{PastAt}
 use Rattle.desk_laws.specs.CallLaws.{MessageCallsStand}
 use Rattle.desk_laws.proofs.LawLemmas.{settled, reads_exactly}

@@ -15,8 +15,8 @@ use Rattle.spec_control.specs.Control.{Control, begun, ends_of, id, is_end, next
 use Rattle.spec_control.specs.After.{after}
 use Rattle.spec_control.specs.ControlRun.{FitsItem, after_item}
 use Rattle.spec_control.specs.Names.{name_of}
-use Rattle.control_held.specs.Held.{Held}
-use Rattle.control_held.specs.Moments.{left_after}
+use Rattle.spec_control.specs.Held.{Held}
+use Rattle.spec_control.specs.Moments.{left_after}
 use Rattle.control_laws.proofs.ListLemmas.{never, and, left, right}
 use Rattle.control_laws.specs.Kept.{Kept}
 use Rattle.control_laws.proofs.AskLemmas.{end_self, same_end}
@@ -26,22 +26,22 @@ use Rattle.control_laws.proofs.LeadLemmas.{old_end}
 use Rattle.control_laws.proofs.MoveLemmas.{is_at}
 use Rattle.control_laws.proofs.AttachedOnceLemmas.{AreOld, IsOld, old_run}
 use Rattle.msg_pipe.specs.Known.{Known, IsElse}
-use Rattle.ctl_ends.proofs.HeldLemmas.{other_twice}
-use Rattle.ctl_holder.specs.Holding.{has_end}
-use Rattle.ctl_holder.specs.Lent.{HasBothNames, HasEnds}
-use Rattle.ctl_holder.specs.declared.halves.Halves.{Halves}
-use Rattle.ctl_holder.specs.TakingOver.{AreDistinct}
+use Rattle.ctl_moves.proofs.HeldLemmas.{other_twice}
+use Rattle.ctl_plane.specs.Holding.{has_end}
+use Rattle.ctl_plane.specs.Lent.{HasBothNames, HasEnds}
+use Rattle.ctl_plane.specs.declared.halves.Halves.{Halves}
+use Rattle.ctl_plane.specs.TakingOver.{AreDistinct}
 use Rattle.ctl_history.specs.Past.{control_of}
 use Rattle.ctl_plane.specs.Desk.{slot_after}
 use Rattle.held_ends.specs.declared.table.Place.{Place}
 use Rattle.held_ends.specs.Places.{place_at}
-use Rattle.held_laws.proofs.HaveLemmas.{lent_holders_have_it}
-use Rattle.held_laws.proofs.MomentLemmas.{left_snoc}
-use Rattle.held_laws.proofs.OthersLemmas.{IsIts, its_ends}
+use Rattle.control_laws.proofs.HaveLemmas.{lent_holders_have_it}
+use Rattle.control_laws.proofs.MomentLemmas.{left_snoc}
+use Rattle.control_laws.proofs.HeldOthersLemmas.{IsIts, its_ends}
 use Rattle.sock_core.specs.declared.sock.SockCore.{SockCore}
 use Rattle.sock_calls.specs.Calls.{LeavesOthers, MayJoin}
 use Rattle.sock_calls.proofs.CallsLemmas.{others_join}
-use Rattle.held_laws.proofs.AwayLemmas.{joins_self, pairs_are_apart}
+use Rattle.control_laws.proofs.AwayLemmas.{joins_self, pairs_are_apart}
 use Rattle.one_desk.specs.Lent.{coming_to, moments_of, HasSocket, IsOneOrder, Lent}
 use Rattle.desk_laws.specs.Behind.{is_its_end, IsNoneOfIts, IsOfIts, SettlesOwn}
 use Rattle.desk_laws.specs.Laws.{BindsFitStill, ComingEndsAreNew, EndsStayIts, HeldEndsAreIts}

@@ -10,7 +10,7 @@ use Rattle.control_laws.proofs.AskLemmas.{end_self, same_end}
 use Rattle.held_ends.proofs.GivingLemmas.{map_more}
 use Rattle.sock_core.specs.Came.{IsOneOf}
 use Rattle.sock_core.specs.Way.{oldest_first}
-use Rattle.past_laws.proofs.PlaceLemmas.{any_whole}
+use Rattle.core_laws.proofs.PlaceLemmas.{any_whole}
 
 pub is_false : (b : Bool) → (b ≡ true → ⊥) → b ≡ false
 is_false true never = absurd (never refl)

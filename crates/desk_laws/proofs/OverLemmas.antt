@@ -18,14 +18,14 @@ use Rattle.spec_control.specs.Names.{name_in, name_of, named_in}
 use Rattle.control_laws.specs.AttachedOnce.{AreOnce}
 use Rattle.control_laws.proofs.AttachedOnceLemmas.{ends_are_attached_once}
 use Rattle.control_laws.proofs.BoundLemmas.{run_splits}
-use Rattle.control_held.specs.Held.{Held}
-use Rattle.control_held.specs.Moments.{Moment, moments_from}
+use Rattle.spec_control.specs.Held.{Held}
+use Rattle.spec_control.specs.Moments.{Moment, moments_from}
 use Rattle.ctl_history.specs.Past.{control_of}
-use Rattle.ctl_holder.specs.declared.given.Given.{Given}
-use Rattle.ctl_holder.specs.Holding.{Holding}
-use Rattle.ctl_holder.specs.Lent.{HasEnds}
+use Rattle.ctl_plane.specs.declared.given.Given.{Given}
+use Rattle.ctl_plane.specs.Holding.{Holding}
+use Rattle.ctl_plane.specs.Lent.{HasEnds}
 use Rattle.ctl_plane.specs.Desk.{came_with}
-use Rattle.held_laws.proofs.HaveLemmas.{lent_holders_have_it}
+use Rattle.control_laws.proofs.HaveLemmas.{lent_holders_have_it}
 use Rattle.spec_run.specs.Act.{steps_in}
 use Rattle.spec_run.specs.Event.{acts_said}
 use Rattle.held_ends.specs.declared.table.Place.{Place}
@@ -37,14 +37,14 @@ use Rattle.sock_core.specs.Standing.{standing_joins}
 use Rattle.sock_core.specs.Way.{oldest_first}
 use Rattle.one_desk.specs.Lent.{Lent, IsOneOrder, moments_of}
 use Rattle.core_laws.specs.Standing.{PastStands}
-use Rattle.past_laws.specs.Places.{is_end_of, IsOwnPlace, AreItsPlaces, HasPlaces, Keeps}
-use Rattle.past_laws.proofs.PlaceLemmas.{led_on, own_places_stay, own_places_go_on}
-use Rattle.past_laws.specs.Asked.{WereAsked}
-use Rattle.past_laws.specs.Changes.{IsOfPipes, IsPlaceNamed, AreChangesNamed, NamesGoOn}
-use Rattle.past_laws.specs.OfPipes.{AreHeldSince}
-use Rattle.past_laws.specs.Said.{sealed_with}
-use Rattle.past_laws.proofs.MadeLemmas.{name_kept}
-use Rattle.past_laws.proofs.NamedLemmas.{names_are_made}
+use Rattle.core_laws.specs.Places.{is_end_of, IsOwnPlace, AreItsPlaces, HasPlaces, Keeps}
+use Rattle.core_laws.proofs.PlaceLemmas.{led_on, own_places_stay, own_places_go_on}
+use Rattle.core_laws.specs.Asked.{WereAsked}
+use Rattle.core_laws.specs.Changes.{IsOfPipes, IsPlaceNamed, AreChangesNamed, NamesGoOn}
+use Rattle.core_laws.specs.OfPipes.{AreHeldSince}
+use Rattle.core_laws.specs.Said.{sealed_with}
+use Rattle.core_laws.proofs.MadeLemmas.{name_kept}
+use Rattle.core_laws.proofs.NamedLemmas.{names_are_made}
 use Rattle.desk_laws.specs.Calling.{IsExact, PastAt, IsCalledBy, told_to_seal}
 use Rattle.desk_laws.proofs.ChangedLemmas.{bool_set, all_changed_prop, changed_stood, changed_there}
 use Rattle.desk_laws.proofs.JoinLemmas.{Behind, AreJoined, are_joined}

@@ -17,10 +17,10 @@ use Rattle.spec_control.specs.ControlRun.{Fits, FitsItem, IsControlRun, after_al
 use Rattle.spec_control.specs.Names.{name_in, name_of, named_in}
 use Rattle.control_laws.proofs.ListLemmas.{never, and, left, right}
 use Rattle.control_laws.specs.Kept.{Kept}
-use Rattle.control_held.specs.Moments.{Moment, moments_from}
+use Rattle.spec_control.specs.Moments.{Moment, moments_from}
 use Rattle.control_laws.specs.OwnMoves.{own_moves}
 use Rattle.ctl_history.specs.Past.{control_of}
-use Rattle.held_laws.proofs.AwayLemmas.{away_before, away_in, opening, word_opens}
+use Rattle.control_laws.proofs.AwayLemmas.{away_before, away_in, opening, word_opens}
 use Rattle.one_desk.specs.Lent.{coming_to, moments_of, GrowsBy, Lent}
 use Rattle.desk_laws.specs.Behind.{is_request, is_requested, IsOneCall}
 use Rattle.desk_laws.specs.Laws.{NoMomentNoItem, RequestsAloneSend}

@@ -27,20 +27,20 @@ use Rattle.control_laws.proofs.EndLemmas.{kept_but}
 use Rattle.control_laws.proofs.RootLemmas.{begun_kept}
 use Rattle.control_laws.proofs.RunLemmas.{run_kept}
 use Rattle.control_laws.proofs.TellLemmas.{rows_of}
-use Rattle.control_held.specs.Held.{items_by}
-use Rattle.control_held.specs.Has.{given_by_request, given_up, has_after, made_by}
-use Rattle.control_held.specs.OwnAsks.{Known, known_after, known_at_request, known_at_word, known_in, known_over, unknown}
-use Rattle.control_held.specs.Moments.{Moment, items_in}
-use Rattle.control_held.proofs.OwnLemmas.{own_items_are_whole}
+use Rattle.spec_control.specs.Held.{items_by}
+use Rattle.spec_control.specs.Has.{given_by_request, given_up, has_after, made_by}
+use Rattle.spec_control.specs.OwnAsks.{Known, known_after, known_at_request, known_at_word, known_in, known_over, unknown}
+use Rattle.spec_control.specs.Moments.{Moment, items_in}
+use Rattle.spec_control.proofs.OwnLemmas.{own_items_are_whole}
 use Rattle.ctl_history.specs.Past.{control_of}
 use Rattle.ctl_plane.specs.Desk.{slot_after}
 use Rattle.ctl_plane.specs.Kinds.{kind_after}
-use Rattle.held_laws.proofs.LawLemmas.{open_not}
-use Rattle.held_laws.proofs.MomentLemmas.{own_moments}
-use Rattle.held_laws.proofs.KnownLemmas.{known_sockets_have_kinds}
-use Rattle.held_laws.proofs.OpenLemmas.{sockets_are_open}
-use Rattle.held_laws.proofs.SlotLemmas.{slot_left}
-use Rattle.held_laws.proofs.ThereLemmas.{had_objects_are_there}
+use Rattle.control_laws.proofs.LawLemmas.{open_not}
+use Rattle.control_laws.proofs.MomentLemmas.{own_moments}
+use Rattle.control_laws.proofs.KnownLemmas.{known_sockets_have_kinds}
+use Rattle.control_laws.proofs.HeldOpenLemmas.{sockets_are_open}
+use Rattle.control_laws.proofs.SlotLemmas.{slot_left}
+use Rattle.control_laws.proofs.ThereLemmas.{had_objects_are_there}
 use Rattle.one_desk.specs.Lent.{moments_of, HasSocket, IsOneOrder, Lent}
 use Rattle.desk_laws.specs.Behind.{closes}
 use Rattle.desk_laws.specs.Laws.{SocketsAreAlone, SocketsStayOpen}

@@ -18,12 +18,12 @@ use Rattle.spec_control.specs.declared.request.Reply.{Reply}
 use Rattle.spec_control.specs.Control.{Control, begun}
 use Rattle.spec_control.specs.ControlRun.{FitsItem, after_all, after_item}
 use Rattle.spec_control.specs.Names.{name_of, joined_in, AreNamed, FitsNames, IsTold}
-use Rattle.control_held.specs.Held.{Held, ends_over, ends_then}
-use Rattle.control_held.specs.Moments.{Moment, items_in, moments_from}
+use Rattle.spec_control.specs.Held.{Held, ends_over, ends_then}
+use Rattle.spec_control.specs.Moments.{Moment, items_in, moments_from}
 use Rattle.ctl_history.specs.Past.{control_of}
-use Rattle.ctl_holder.specs.declared.given.Given.{Given}
-use Rattle.ctl_holder.specs.Holding.{Holding, read_in}
-use Rattle.ctl_holder.specs.Making.{IsMadeFor}
+use Rattle.ctl_plane.specs.declared.given.Given.{Given}
+use Rattle.ctl_plane.specs.Holding.{Holding, read_in}
+use Rattle.ctl_plane.specs.Making.{IsMadeFor}
 use Rattle.ctl_plane.specs.Desk.{came_with, counts_with}
 use Rattle.spec_run.specs.Act.{Act, steps_in}
 use Rattle.spec_run.specs.Event.{acts_said, seals_in, IsRequest}
@@ -39,22 +39,22 @@ use Rattle.one_desk.specs.Lent.{Lent, IsOneOrder, moments_of}
 use Rattle.desk_laws.specs.Behind.{IsAsBefore, IsLastItem}
 use Rattle.desk_laws.proofs.LastLemmas.{moments_are_last}
 use Rattle.desk_laws.proofs.SendLemmas.{no_moment_no_item}
-use Rattle.open_laws.specs.Open.{IsOf, IsOfItem}
+use Rattle.core_laws.specs.Open.{IsOf, IsOfItem}
 use Rattle.core_laws.specs.Sides.{AreAtEnds}
 use Rattle.core_laws.proofs.SideLemmas.{sides_stand_on}
 use Rattle.core_laws.specs.Standing.{PastStands}
-use Rattle.past_laws.specs.Ends.{AreHeldFor}
-use Rattle.past_laws.specs.Places.{IsOwnPlace}
-use Rattle.past_laws.specs.OwnQuiet.{may_pair_by}
-use Rattle.past_laws.proofs.HoldLemmas.{made_pipes_hold}
-use Rattle.past_laws.proofs.PlaceLemmas.{places_are_held}
-use Rattle.past_laws.proofs.OwnQuietLemmas.{others_make_none}
-use Rattle.past_laws.specs.Changes.{IsOfPipes, IsPlaceNamed, AreChangesNamed, NamesGoOn}
-use Rattle.past_laws.specs.Made.{AreMadeAll}
-use Rattle.past_laws.proofs.CountLemmas.{Counts, TellsIn, TellsCounts, item_counted, still_counted}
-use Rattle.past_laws.proofs.MadeLemmas.{made_names_go_on}
-use Rattle.past_laws.proofs.QuietLemmas.{quiet_calls_go_on}
-use Rattle.past_laws.proofs.SaidLemmas.{step_seals}
+use Rattle.core_laws.specs.Ends.{AreHeldFor}
+use Rattle.core_laws.specs.Places.{IsOwnPlace}
+use Rattle.core_laws.specs.OwnQuiet.{may_pair_by}
+use Rattle.core_laws.proofs.HoldLemmas.{made_pipes_hold}
+use Rattle.core_laws.proofs.PlaceLemmas.{places_are_held}
+use Rattle.core_laws.proofs.OwnQuietLemmas.{others_make_none}
+use Rattle.core_laws.specs.Changes.{IsOfPipes, IsPlaceNamed, AreChangesNamed, NamesGoOn}
+use Rattle.core_laws.specs.Made.{AreMadeAll}
+use Rattle.core_laws.proofs.CountLemmas.{Counts, TellsIn, TellsCounts, item_counted, still_counted}
+use Rattle.core_laws.proofs.MadeLemmas.{made_names_go_on}
+use Rattle.core_laws.proofs.QuietLemmas.{quiet_calls_go_on}
+use Rattle.core_laws.proofs.SaidLemmas.{step_seals}
 use Rattle.desk_laws.specs.Calling.{IsExact, OpensBy, opens_none, opens_some, PastAt, StandsOver, IsCalledBy, AddsItem, AddsNone, LeavesIt}
 use Rattle.desk_laws.specs.CallLaws.{SocketCallsStand, StillCallsStand, ClosesStand}
 use Rattle.desk_laws.proofs.ChangedLemmas.{makings_changed, makings_of_pipes}

@@ -10,11 +10,11 @@ use Rattle.spec_control.specs.declared.entry.Item.TheVariants.{Event, Seen}
 use Rattle.spec_control.specs.Rows.{is_owner}
 use Rattle.spec_control.specs.Control.{ends_of, id, is_end}
 use Rattle.spec_control.specs.Names.{name_of}
-use Rattle.control_held.specs.Has.{given_up}
-use Rattle.control_held.specs.Moments.{Moment, left_after, left_by}
+use Rattle.spec_control.specs.Has.{given_up}
+use Rattle.spec_control.specs.Moments.{Moment, left_after, left_by}
 use Rattle.msg_pipe.specs.Known.{Known, IsElse}
-use Rattle.ctl_holder.specs.Holding.{Holding}
-use Rattle.ctl_holder.specs.TakingOver.{AreDistinct}
+use Rattle.ctl_plane.specs.Holding.{Holding}
+use Rattle.ctl_plane.specs.TakingOver.{AreDistinct}
 use Rattle.ctl_history.specs.Past.{control_of}
 use Rattle.ctl_plane.specs.Desk.{KeepsUp, slot_after}
 use Rattle.held_ends.specs.declared.table.EndTable.{EndTable}

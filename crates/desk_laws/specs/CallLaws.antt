@@ -8,9 +8,9 @@ use Rattle.ends.specs.Runs.{DoesAll}
 use Rattle.spec_pattern.specs.PipeStep.{PipeStep}
 use Rattle.spec_control.specs.declared.request.Req.{Req}
 use Rattle.spec_control.specs.Control.{Control}
-use Rattle.control_held.specs.Moments.{Moment}
-use Rattle.ctl_holder.specs.declared.given.Given.{Given}
-use Rattle.ctl_holder.specs.Making.{IsMadeFor}
+use Rattle.spec_control.specs.Moments.{Moment}
+use Rattle.ctl_plane.specs.declared.given.Given.{Given}
+use Rattle.ctl_plane.specs.Making.{IsMadeFor}
 use Rattle.ctl_plane.specs.Desk.{HasWhatTheySay}
 use Rattle.spec_run.specs.Event.{acts_said}
 use Rattle.spec_run.specs.SocketCall.{step_acts}
@@ -19,7 +19,7 @@ use Rattle.sock_core.specs.declared.sock.SockCore.{SockCore}
 use Rattle.sock_core.specs.Has.{holding_in}
 use Rattle.sock_core.specs.Sound.{AreSound}
 use Rattle.one_desk.specs.Lent.{Lent, IsOneOrder, moments_of}
-use Rattle.past_laws.specs.OwnQuiet.{may_pair_by}
+use Rattle.core_laws.specs.OwnQuiet.{may_pair_by}
 use Rattle.desk_laws.specs.Calling.{StandsOver, IsCalledBy, AddsItem, AddsNone, LeavesIt}
 
 -- what an object's request makes, with the control plane as it found it

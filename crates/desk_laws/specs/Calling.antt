@@ -7,10 +7,10 @@ use Rattle.spec_pattern.specs.PipeStep.{PipeStep}
 use Rattle.spec_control.specs.declared.request.Req.{Req}
 use Rattle.spec_control.specs.declared.request.Reply.{Reply}
 use Rattle.spec_control.specs.Names.{name_of}
-use Rattle.control_held.specs.Held.{asker}
-use Rattle.control_held.specs.Moments.{Moment}
-use Rattle.ctl_holder.specs.declared.given.Given.{Given}
-use Rattle.ctl_holder.specs.Making.{IsMadeFor}
+use Rattle.spec_control.specs.Held.{asker}
+use Rattle.spec_control.specs.Moments.{Moment}
+use Rattle.ctl_plane.specs.declared.given.Given.{Given}
+use Rattle.ctl_plane.specs.Making.{IsMadeFor}
 use Rattle.ctl_history.specs.Past.{control_of}
 use Rattle.ctl_plane.specs.Desk.{HasWhatTheySay, KeepsUp, counts_with}
 use Rattle.spec_run.specs.Act.{Act, steps_in}
@@ -25,13 +25,13 @@ use Rattle.sock_core.specs.Sound.{AreSound}
 use Rattle.sock_calls.specs.Calls.{counts_by, DoesSo}
 use Rattle.one_desk.specs.Lent.{Lent, GrowsBy, IsOneOrder, moments_of}
 use Rattle.desk_laws.specs.Behind.{IsOneCall}
-use Rattle.open_laws.specs.Open.{IsOfItem}
+use Rattle.core_laws.specs.Open.{IsOfItem}
 use Rattle.core_laws.specs.Sides.{AreAtEnds}
 use Rattle.core_laws.specs.Standing.{PastStands}
-use Rattle.past_laws.specs.Places.{IsOwnPlace}
-use Rattle.past_laws.specs.OwnQuiet.{may_pair_by}
-use Rattle.past_laws.specs.Asked.{WereAsked}
-use Rattle.past_laws.specs.Changes.{NamesGoOn}
+use Rattle.core_laws.specs.Places.{IsOwnPlace}
+use Rattle.core_laws.specs.OwnQuiet.{may_pair_by}
+use Rattle.core_laws.specs.Asked.{WereAsked}
+use Rattle.core_laws.specs.Changes.{NamesGoOn}
 
 -- ---- which pipes were made
 

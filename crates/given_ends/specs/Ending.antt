@@ -3,11 +3,11 @@ use Rattle.std.specs.Prelude.{◌≡◌, ℕ, Bool, true, List, Option, Some, No
 use Rattle.msg_pipe.specs.Known.{Known, IsThere, IsElse, KeepsButIn, SeesCommits}
 use Rattle.msg_pipe.specs.Told.{FrontFinds}
 use Rattle.msg_pipe.specs.declared.pipes.Front.{Front}
-use Rattle.ctl_holder.specs.declared.given.Given.{Given}
-use Rattle.ctl_holder.specs.declared.halves.Halves.{Halves}
-use Rattle.ctl_holder.specs.Holding.{Holding, held_given, read_in}
+use Rattle.ctl_plane.specs.declared.given.Given.{Given}
+use Rattle.ctl_plane.specs.declared.halves.Halves.{Halves}
+use Rattle.ctl_plane.specs.Holding.{Holding, held_given, read_in}
 use Rattle.zq_base.specs.declared.ids.EndId.{EndId}
-use Rattle.ctl_holder.specs.TakingOver.{IsGivenWith}
+use Rattle.ctl_plane.specs.TakingOver.{IsGivenWith}
 use Rattle.held_ends.specs.Looking.{met_after}
 
 -- both halves of an end, where its writing half is there

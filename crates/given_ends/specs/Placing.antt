@@ -2,8 +2,8 @@
 use Rattle.std.specs.Prelude.{true, false, Some, None, is_some}
 use Rattle.zq_base.specs.declared.ids.EndId.{EndId}
 use Rattle.spec_control.specs.declared.end.EndState.TheVariants.{Active}
-use Rattle.ctl_holder.specs.declared.given.Given.{Given}
-use Rattle.ctl_holder.specs.declared.halves.Halves.{Halves}
+use Rattle.ctl_plane.specs.declared.given.Given.{Given}
+use Rattle.ctl_plane.specs.declared.halves.Halves.{Halves}
 use Rattle.held_ends.specs.declared.table.Place.{Place}
 
 module _ {N O I : Type 0} where

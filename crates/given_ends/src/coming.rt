@@ -1,7 +1,7 @@
 ghost use Rattle.std.specs.Prelude.{◌≡◌};
 ghost use Rattle.given_ends.specs.Placing.{given_joined, place_given};
 
-use ctl_holder::{Given, Halves};
+use ctl_plane::{Given, Halves};
 use held_ends::{HeldPipes, Place};
 use spec_control::EndState;
 use zq_base::EndId;

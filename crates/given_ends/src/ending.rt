@@ -1,7 +1,7 @@
 ghost use Rattle.std.specs.Prelude.{◌≡◌, ◌+◌, ◌++◌, ◌∷◌, [], true, false, not, None, Some, is_some};
 ghost use Rattle.spec_pattern.specs.Half.{with_delimiter, without_parts};
 ghost use Rattle.msg_pipe.specs.Known.{IsThere, KeepsButOut, KeepsButPipe};
-ghost use Rattle.ctl_holder.specs.TakingOver.{IsGivenWith};
+ghost use Rattle.ctl_plane.specs.TakingOver.{IsGivenWith};
 ghost use Rattle.held_ends.specs.declared.changes.PipeChange.TheVariants.{Sealed, Parted, Settled as SettledNow};
 ghost use Rattle.held_ends.specs.Changes.{NotesHalf};
 ghost use Rattle.held_ends.specs.Counting.{counts_with};
@@ -10,12 +10,11 @@ ghost use Rattle.given_ends.specs.Ending.{OneEnd, OneGone, LooksAt, halves_of};
 ghost use Rattle.given_ends.specs.Placing.{place_given};
 ghost use Rattle.given_ends.specs.Once.{ChangesOnce};
 
-use ctl_holder::{Given, Halves};
+use ctl_plane::{Given, Halves};
 use held_ends::PipeChange;
-use http_server::Log;
 use msg_pipe::{Front, Pipes};
 use spec_control::EndState;
-use zq_base::{EndId, Settled};
+use zq_base::{EndId, Log, Settled};
 
 /// An end goes to a state of its life.
 pub fn turn<N, O, I>(end: &mut Given<N, O, I>, state: EndState)

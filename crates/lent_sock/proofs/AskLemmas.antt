@@ -6,16 +6,16 @@ use Rattle.spec_pattern.specs.declared.answers.Skip.{Skip}
 use Rattle.spec_control.specs.declared.entry.Did.TheVariants.{Asked}
 use Rattle.spec_control.specs.declared.request.Req.{Req}
 use Rattle.spec_control.specs.declared.request.Reply.{Reply}
-use Rattle.control_held.specs.Held.{asker}
+use Rattle.spec_control.specs.Held.{asker}
 use Rattle.spec_control.specs.Control.{Control}
 use Rattle.spec_control.specs.Rows.{is_owner}
-use Rattle.control_held.specs.Has.{given_by_request}
-use Rattle.control_held.specs.Moments.{Moment, items_in, left_by}
-use Rattle.control_held.specs.OwnAsks.{known_after}
-use Rattle.ctl_holder.specs.declared.given.Given.{Given}
+use Rattle.spec_control.specs.Has.{given_by_request}
+use Rattle.spec_control.specs.Moments.{Moment, items_in, left_by}
+use Rattle.spec_control.specs.OwnAsks.{known_after}
+use Rattle.ctl_plane.specs.declared.given.Given.{Given}
 use Rattle.ctl_history.specs.Past.{control_of}
-use Rattle.ctl_holder.specs.Making.{IsMadeFor}
-use Rattle.ctl_holder.specs.Turns.{turned_in}
+use Rattle.ctl_plane.specs.Making.{IsMadeFor}
+use Rattle.ctl_plane.specs.Turns.{turned_in}
 use Rattle.ctl_plane.specs.Desk.{AsksOnce, by_caller, came_with, slot_after}
 use Rattle.desk_laws.specs.Behind.{IsOneCall, StaysOpen}
 use Rattle.desk_laws.proofs.LastLemmas.{moments_are_last}
@@ -34,7 +34,7 @@ use Rattle.open_sock.specs.Steps.{LeadsSome, RequestsSo}
 use Rattle.sock_open.specs.View.{pattern_told}
 use Rattle.sock_open.specs.Standing.{IsWhole, kind_told}
 use Rattle.one_desk.specs.Lent.{Lent, moments_of}
-use Rattle.past_laws.specs.OwnQuiet.{may_pair, may_pair_by}
+use Rattle.core_laws.specs.OwnQuiet.{may_pair, may_pair_by}
 use Rattle.desk_laws.specs.Calling.{AddsItem, OpensBy, opens_none, opens_some}
 use Rattle.lent_sock.specs.Owned.{LentParts, IsLentTo, IsThereFor, Agrees, view_of, moments_since}
 use Rattle.lent_sock.specs.Called.{IsCalled}

@@ -9,14 +9,14 @@ use Rattle.spec_control.specs.Names.{name_of}
 use Rattle.spec_control.specs.Place.{At}
 use Rattle.spec_control.specs.Control.{begun, is_end, place_of, ends_of}
 use Rattle.spec_control.specs.ControlRun.{after_all}
-use Rattle.control_held.specs.Held.{Held}
-use Rattle.control_held.specs.Moments.{items_in, left_after}
-use Rattle.control_held.specs.OwnAsks.{known_after}
-use Rattle.ctl_holder.specs.Holding.{has_end}
-use Rattle.ctl_holder.specs.Lent.{HasEnds}
-use Rattle.ctl_holder.specs.declared.given.Given.{Given}
+use Rattle.spec_control.specs.Held.{Held}
+use Rattle.spec_control.specs.Moments.{items_in, left_after}
+use Rattle.spec_control.specs.OwnAsks.{known_after}
+use Rattle.ctl_plane.specs.Holding.{has_end}
+use Rattle.ctl_plane.specs.Lent.{HasEnds}
+use Rattle.ctl_plane.specs.declared.given.Given.{Given}
 use Rattle.ctl_plane.specs.Desk.{HasWhatTheySay}
-use Rattle.held_laws.proofs.HaveLemmas.{lent_holders_have_it}
+use Rattle.control_laws.proofs.HaveLemmas.{lent_holders_have_it}
 use Rattle.msg_pipe.specs.Known.{Known}
 use Rattle.any_sock.specs.declared.any_sock.AnySock.{AnySock}
 use Rattle.any_sock.specs.Over.{peer_places}
@@ -31,10 +31,10 @@ use Rattle.spec_run.specs.OpenSocket.{SockEnd, is_active, place_in}
 use Rattle.sock_open.specs.View.{ends_told}
 use Rattle.sock_open.specs.Standing.{IsStanding, kind_told}
 use Rattle.sock_open.proofs.ViewLemmas.{same_active}
-use Rattle.open_laws.specs.Open.{ends_at, HasOpen}
-use Rattle.open_laws.specs.Ends.{AreLeft, state_held}
-use Rattle.open_laws.proofs.LeftLemmas.{open_ends_are_left}
-use Rattle.open_laws.proofs.ToldLemmas.{told_ends_are_left}
+use Rattle.core_laws.specs.Open.{ends_at, HasOpen}
+use Rattle.core_laws.specs.OpenEnds.{AreLeft, state_held}
+use Rattle.core_laws.proofs.LeftLemmas.{open_ends_are_left}
+use Rattle.core_laws.proofs.ToldLemmas.{told_ends_are_left}
 use Rattle.one_desk.specs.Lent.{Lent, IsOneOrder, moments_of}
 use Rattle.lent_sock.specs.Owned.{IsOut}
 use Rattle.lent_sock.proofs.StandingLemmas.{told_at, place_found}

@@ -15,9 +15,9 @@ use Rattle.held_ends.specs.Places.{place_at}
 use Rattle.held_ends.proofs.EndsLemmas.{some_place}
 use Rattle.sock_core.specs.Came.{AreChangedAt, IsChangedAt}
 use Rattle.one_desk.specs.Lent.{Lent}
-use Rattle.past_laws.specs.Places.{IsOwnPlace}
-use Rattle.past_laws.specs.Changes.{NamesGoOn}
-use Rattle.past_laws.proofs.NamesLemmas.{stays_all}
+use Rattle.core_laws.specs.Places.{IsOwnPlace}
+use Rattle.core_laws.specs.Changes.{NamesGoOn}
+use Rattle.core_laws.proofs.NamesLemmas.{stays_all}
 use Rattle.desk_laws.specs.Calling.{IsExact}
 use Rattle.lent_sock.specs.Leaving.{IsNoneItReads, IsNoneItSettled, IsNoneItWrites, LeavesPipes, NamesStandIn, TellsRest}
 use Rattle.lent_sock.specs.LeavingOwed.{no_reader, no_writer}

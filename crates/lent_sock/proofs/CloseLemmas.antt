@@ -6,9 +6,9 @@ use Rattle.spec_control.specs.declared.request.Req.TheVariants.{Close}
 use Rattle.spec_control.specs.declared.request.Reply.{Reply}
 use Rattle.spec_control.specs.declared.request.Reply.TheVariants.{Done}
 use Rattle.spec_control.specs.Control.{id}
-use Rattle.control_held.specs.Moments.{Moment}
-use Rattle.ctl_holder.specs.declared.given.Given.{Given}
-use Rattle.ctl_holder.specs.Holding.{Holding}
+use Rattle.spec_control.specs.Moments.{Moment}
+use Rattle.ctl_plane.specs.declared.given.Given.{Given}
+use Rattle.ctl_plane.specs.Holding.{Holding}
 use Rattle.ctl_plane.specs.Coming.{SendsEnds}
 use Rattle.ctl_plane.specs.Desk.{AsksOnce, by_caller}
 use Rattle.msg_pipe.specs.Known.{Known}
@@ -17,7 +17,7 @@ use Rattle.sock_core.specs.declared.sock.SockCore.{SockCore}
 use Rattle.sock_calls.specs.Calls.{owner_of, HasNone, OnlyMake}
 use Rattle.spec_run.specs.Event.{acts_said}
 use Rattle.open_sock.specs.Steps.{LeadsSome, ClosesOpen}
-use Rattle.open_laws.proofs.MadeLemmas.{requests_are_answered}
+use Rattle.core_laws.proofs.OpenMadeLemmas.{requests_are_answered}
 use Rattle.sock_open.specs.Standing.{kind_told}
 use Rattle.one_desk.specs.Lent.{Lent, moments_of}
 use Rattle.desk_laws.specs.Calling.{AddsItem, opens_none}

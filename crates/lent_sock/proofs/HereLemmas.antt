@@ -5,11 +5,11 @@ use Rattle.spec_control.specs.declared.end.EndState.TheVariants.{Active, Delimit
 use Rattle.spec_control.specs.Place.{Place as Where, Unmade, Away, At}
 use Rattle.spec_control.specs.Control.{begun, place_of}
 use Rattle.spec_control.specs.ControlRun.{after_all}
-use Rattle.control_held.specs.Held.{Held}
-use Rattle.control_held.specs.Moments.{left_after}
-use Rattle.ctl_holder.specs.Holding.{has_end}
-use Rattle.ctl_holder.specs.Lent.{has_writer}
-use Rattle.ctl_holder.specs.declared.given.Given.{Given}
+use Rattle.spec_control.specs.Held.{Held}
+use Rattle.spec_control.specs.Moments.{left_after}
+use Rattle.ctl_plane.specs.Holding.{has_end}
+use Rattle.ctl_plane.specs.Lent.{has_writer}
+use Rattle.ctl_plane.specs.declared.given.Given.{Given}
 use Rattle.msg_pipe.specs.Known.{Known}
 use Rattle.any_sock.specs.declared.any_sock.AnySock.{AnySock}
 use Rattle.held_ends.specs.Places.{held_in, writes_in}

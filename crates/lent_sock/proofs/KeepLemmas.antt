@@ -13,9 +13,9 @@ use Rattle.spec_pattern.specs.declared.answers.Skip.{Skip}
 use Rattle.spec_pattern.specs.declared.answers.SendAnswer.{SendAnswer}
 use Rattle.spec_pattern.specs.declared.answers.RecvAnswer.{RecvAnswer}
 use Rattle.spec_control.specs.Control.{ends_of}
-use Rattle.control_held.specs.Moments.{Moment, left_after}
-use Rattle.pattern_laws.specs.Peers.{KeepsPeers}
-use Rattle.pattern_laws.proofs.KeepCallLemmas.{calls_keep_peers}
+use Rattle.spec_control.specs.Moments.{Moment, left_after}
+use Rattle.spec_pattern.specs.Peers.{KeepsPeers}
+use Rattle.spec_pattern.proofs.KeepCallLemmas.{calls_keep_peers}
 use Rattle.msg_pipe.specs.Known.{Known}
 use Rattle.pub_sub.specs.XSubs.{MatchXSend}
 use Rattle.pub_sub.specs.declared.xsend_fault.XSendFault.{XSendFault}
@@ -31,10 +31,10 @@ use Rattle.spec_run.specs.declared.journal.LineAnswer.{LineAnswer}
 use Rattle.spec_run.specs.declared.journal.LineAnswer.TheVariants.{Plain}
 use Rattle.sock_open.specs.View.{pattern_told, open_view}
 use Rattle.sock_open.specs.Doing.{SendsSo, ReceivesSo, ChangesSo, PumpsOpen}
-use Rattle.open_laws.specs.Bounds.{drawn_of}
-use Rattle.open_laws.specs.Peers.{HasItsPeers}
-use Rattle.open_laws.proofs.JoinLemmas.{calls_draw_none}
-use Rattle.open_laws.proofs.MadeLemmas.{sockets_have_their_peers}
+use Rattle.core_laws.specs.Bounds.{drawn_of}
+use Rattle.core_laws.specs.Peers.{HasItsPeers}
+use Rattle.core_laws.proofs.JoinLemmas.{calls_draw_none}
+use Rattle.core_laws.proofs.OpenMadeLemmas.{sockets_have_their_peers}
 use Rattle.lent_sock.specs.Ready.{HasPeers, HavePeers}
 use Rattle.lent_sock.proofs.MailLemmas.{HoldsOn, HoldsOnSo}
 

@@ -10,16 +10,16 @@ use Rattle.spec_control.specs.declared.entry.Item.TheVariants.{Event, Seen}
 use Rattle.spec_control.specs.declared.entry.SeenEmpty.TheVariants.{Mailbox}
 use Rattle.spec_control.specs.declared.entry.Sight.{Sight}
 use Rattle.spec_control.specs.Control.{Control, begun, met_in, place_of}
-use Rattle.control_held.specs.Has.{has_over, has_then}
-use Rattle.control_held.specs.Held.{Held, ends_over, ends_then}
-use Rattle.control_held.specs.Moments.{Moment, items_in, left_after, left_by, left_over, left_then}
-use Rattle.ctl_ends.proofs.TurnedLemmas.{in_none}
+use Rattle.spec_control.specs.Has.{has_over, has_then}
+use Rattle.spec_control.specs.Held.{Held, ends_over, ends_then}
+use Rattle.spec_control.specs.Moments.{Moment, items_in, left_after, left_by, left_over, left_then}
+use Rattle.ctl_moves.proofs.TurnedLemmas.{in_none}
 use Rattle.ctl_history.specs.Past.{Past}
-use Rattle.ctl_holder.specs.Holding.{HearsMore, Holding, JoinsBy}
-use Rattle.ctl_holder.specs.Joins.{KeepsObjects}
-use Rattle.ctl_holder.specs.Lent.{has_writer}
-use Rattle.ctl_holder.specs.Turns.{TurnsBy, turned_in}
-use Rattle.ctl_holder.specs.declared.given.Given.{Given}
+use Rattle.ctl_plane.specs.Holding.{HearsMore, Holding, JoinsBy}
+use Rattle.ctl_plane.specs.Joins.{KeepsObjects}
+use Rattle.ctl_plane.specs.Lent.{has_writer}
+use Rattle.ctl_plane.specs.Turns.{TurnsBy, turned_in}
+use Rattle.ctl_plane.specs.declared.given.Given.{Given}
 use Rattle.ctl_plane.specs.Desk.{came_with, counts_with, heard_with, slot_after, HasWhatTheySay, KeepsUp, Looks}
 use Rattle.ctl_plane.specs.Kinds.{kind_in, kind_over}
 use Rattle.ctl_plane.specs.declared.delivery.Delivery.TheVariants.{Empty}

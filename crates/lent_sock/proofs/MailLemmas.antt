@@ -16,12 +16,12 @@ use Rattle.spec_pattern.specs.declared.answers.RecvAnswer.{RecvAnswer}
 use Rattle.spec_pattern.specs.declared.answers.RecvFault.TheVariants as rfault
 use Rattle.spec_journal.specs.Line.{sent_answer, got_answer, changed_answer}
 use Rattle.spec_control.specs.Place.{At}
-use Rattle.control_held.specs.Held.{Held}
-use Rattle.control_held.specs.Moments.{Moment, items_in, left_after}
-use Rattle.control_held.specs.OwnAsks.{known_after}
+use Rattle.spec_control.specs.Held.{Held}
+use Rattle.spec_control.specs.Moments.{Moment, items_in, left_after}
+use Rattle.spec_control.specs.OwnAsks.{known_after}
 use Rattle.ctl_history.specs.Past.{control_of}
-use Rattle.ctl_holder.specs.Holding.{has_end}
-use Rattle.ctl_holder.specs.declared.given.Given.{Given}
+use Rattle.ctl_plane.specs.Holding.{has_end}
+use Rattle.ctl_plane.specs.declared.given.Given.{Given}
 use Rattle.ctl_plane.specs.Desk.{HasWhatTheySay, slot_after}
 use Rattle.msg_pipe.specs.Known.{Known}
 use Rattle.msg_pipe.specs.Told.{front_step}
@@ -49,9 +49,9 @@ use Rattle.sock_open.specs.Standing.{IsStanding, Stands, kind_told, KeepsSocket}
 use Rattle.sock_open.specs.Doing.{MakesSteps}
 use Rattle.sock_open.specs.Looking.{LooksSo}
 use Rattle.sock_open.proofs.LookLemmas.{held_met, writes_met, met_met, state_met, told_met}
-use Rattle.open_laws.specs.Open.{ends_at}
+use Rattle.core_laws.specs.Open.{ends_at}
 use Rattle.open_sock.proofs.StepLemmas.{no_moments}
-use Rattle.past_laws.specs.Asked.{WereAsked}
+use Rattle.core_laws.specs.Asked.{WereAsked}
 use Rattle.one_desk.specs.Lent.{Lent, moments_of}
 use Rattle.lent_sock.specs.Owned.{IsOut, IsLentTo, IsThereFor}
 use Rattle.lent_sock.specs.Leaving.{LeavesStanding}

@@ -12,12 +12,12 @@ use Rattle.spec_control.specs.declared.entry.Joining.{Joining}
 use Rattle.spec_control.specs.Control.{is_end, ends_of, owner_of as control_owner}
 use Rattle.spec_control.specs.Names.{joined_in, name_of, AreNamed, FitsNames, IsTold}
 use Rattle.control_laws.proofs.AskLemmas.{end_self}
-use Rattle.control_held.specs.Held.{Held}
-use Rattle.control_held.specs.Moments.{Moment, items_in, left_after, left_by}
-use Rattle.control_held.specs.OwnAsks.{known_after}
-use Rattle.ctl_ends.proofs.HeldLemmas.{other_twice}
-use Rattle.ctl_holder.specs.declared.given.Given.{Given}
-use Rattle.ctl_holder.specs.declared.halves.Halves.{Halves}
+use Rattle.spec_control.specs.Held.{Held}
+use Rattle.spec_control.specs.Moments.{Moment, items_in, left_after, left_by}
+use Rattle.spec_control.specs.OwnAsks.{known_after}
+use Rattle.ctl_moves.proofs.HeldLemmas.{other_twice}
+use Rattle.ctl_plane.specs.declared.given.Given.{Given}
+use Rattle.ctl_plane.specs.declared.halves.Halves.{Halves}
 use Rattle.ctl_plane.specs.Desk.{came_with, slot_after, counts_with}
 use Rattle.desk_laws.specs.Behind.{closes, is_its_end, is_request, IsNoneOfIts, IsOfIts, IsOneCall, SendsNone, StaysOpen}
 use Rattle.desk_laws.proofs.LastLemmas.{moments_are_last}
@@ -39,7 +39,7 @@ use Rattle.sock_core.specs.Has.{holding_in}
 use Rattle.sock_core.specs.Standing.{standing_joins}
 use Rattle.sock_open.specs.Standing.{kind_told}
 use Rattle.spec_run.specs.OpenSocket.{joins_of}
-use Rattle.open_laws.specs.Open.{IsOfItem}
+use Rattle.core_laws.specs.Open.{IsOfItem}
 use Rattle.one_desk.specs.Lent.{Lent, coming_to, moments_of}
 use Rattle.lent_sock.specs.Owned.{IsLentTo, IsThereFor, MayTakeEnds}
 use Rattle.sock_calls.specs.Calls.{counts_by, holding_of}

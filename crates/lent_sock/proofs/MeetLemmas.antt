@@ -12,12 +12,12 @@ use Rattle.spec_control.specs.ControlRun.{after_all}
 use Rattle.control_laws.proofs.RowLemmas.{pair_there}
 use Rattle.control_laws.specs.AttachedOnce.{AreOnce}
 use Rattle.control_laws.proofs.AskLemmas.{end_self, same_end}
-use Rattle.control_held.specs.Held.{Held}
-use Rattle.control_held.specs.Moments.{Moment, left_after}
-use Rattle.ctl_holder.specs.Lent.{here_ends}
-use Rattle.ctl_holder.specs.declared.given.Given.{Given}
-use Rattle.ctl_ends.proofs.HeldLemmas.{here_same}
-use Rattle.ctl_ends.proofs.TurnLemmas.{else_at, same_attached, same_here, same_owner}
+use Rattle.spec_control.specs.Held.{Held}
+use Rattle.spec_control.specs.Moments.{Moment, left_after}
+use Rattle.ctl_plane.specs.Lent.{here_ends}
+use Rattle.ctl_plane.specs.declared.given.Given.{Given}
+use Rattle.ctl_moves.proofs.HeldLemmas.{here_same}
+use Rattle.ctl_moves.proofs.TurnLemmas.{else_at, same_attached, same_here, same_owner}
 use Rattle.ctl_plane.specs.Desk.{Delimits, DelimitsOrNot, by_caller}
 use Rattle.desk_laws.proofs.NewLemmas.{there}
 use Rattle.msg_pipe.specs.Known.{Known}

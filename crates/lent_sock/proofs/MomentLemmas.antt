@@ -5,11 +5,11 @@ use Rattle.std.proofs.lemmas.List.Elements.{All-head, All-tail}
 use Rattle.spec_control.specs.declared.entry.Item.{Item}
 use Rattle.spec_control.specs.Control.{Control, begun}
 use Rattle.spec_control.specs.ControlRun.{after_item, after_all, IsControlRun}
-use Rattle.control_held.specs.Held.{caller_of}
-use Rattle.control_held.specs.Has.{AreBy}
-use Rattle.control_held.specs.Moments.{Moment, items_in, left_by, moments_by, moments_from}
-use Rattle.control_held.specs.OwnAsks.{known_after}
-use Rattle.open_laws.specs.Open.{ComesTo, IsOfItem}
+use Rattle.spec_control.specs.Held.{caller_of}
+use Rattle.spec_control.specs.Has.{AreBy}
+use Rattle.spec_control.specs.Moments.{Moment, items_in, left_by, moments_by, moments_from}
+use Rattle.spec_control.specs.OwnAsks.{known_after}
+use Rattle.core_laws.specs.Open.{ComesTo, IsOfItem}
 use Rattle.one_desk.specs.Lent.{Lent, GrowsBy, IsOneOrder, moments_of}
 
 module _ {N T : Type 0} where

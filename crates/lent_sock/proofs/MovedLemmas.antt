@@ -5,10 +5,10 @@ use Rattle.zq_base.specs.declared.ids.EndId.{EndId}
 use Rattle.spec_pattern.specs.PipeStep.{Seal}
 use Rattle.spec_control.specs.Control.{is_end, place_of, ends_of}
 use Rattle.spec_control.specs.Reply.{root_asked}
-use Rattle.control_held.specs.Moments.{Moment, items_in, left_after, left_by}
-use Rattle.control_held.specs.OwnAsks.{known_after}
+use Rattle.spec_control.specs.Moments.{Moment, items_in, left_after, left_by}
+use Rattle.spec_control.specs.OwnAsks.{known_after}
 use Rattle.ctl_history.specs.Past.{control_of}
-use Rattle.ctl_holder.specs.declared.given.Given.{Given}
+use Rattle.ctl_plane.specs.declared.given.Given.{Given}
 use Rattle.msg_pipe.specs.Known.{Known}
 use Rattle.any_sock.specs.declared.any_sock.AnySock.{AnySock}
 use Rattle.sock_core.specs.declared.sock.SockCore.{SockCore}
@@ -18,10 +18,10 @@ use Rattle.spec_run.specs.Event.{acts_said, seals_in}
 use Rattle.spec_run.specs.SocketCall.{leave_asked}
 use Rattle.sock_open.specs.View.{ends_told}
 use Rattle.sock_open.specs.Standing.{IsStanding}
-use Rattle.open_laws.specs.Bounds.{TellIdentities}
-use Rattle.open_laws.specs.Open.{ends_at, IsOfItem}
-use Rattle.open_laws.proofs.JoinLemmas.{identities_go_on}
-use Rattle.past_laws.specs.Asked.{WereAsked}
+use Rattle.core_laws.specs.Bounds.{TellIdentities}
+use Rattle.core_laws.specs.Open.{ends_at, IsOfItem}
+use Rattle.core_laws.proofs.JoinLemmas.{identities_go_on}
+use Rattle.core_laws.specs.Asked.{WereAsked}
 use Rattle.one_desk.specs.Lent.{Lent, moments_of}
 use Rattle.lent_sock.specs.Owned.{IsOut, IsLentTo, newest}
 use Rattle.lent_sock.specs.Called.{IsCalled}

@@ -7,12 +7,12 @@ use Rattle.spec_control.specs.Row.{Row}
 use Rattle.spec_control.specs.Rows.{obj}
 use Rattle.spec_control.specs.Control.{Control, begun, place_of, ends_of}
 use Rattle.spec_control.specs.ControlRun.{after_all, IsOpenSocket}
-use Rattle.control_held.specs.Moments.{Moment, items_in, left_after, left_by, moments_by, moments_from}
-use Rattle.control_held.specs.OwnAsks.{known_after}
-use Rattle.ctl_holder.specs.Joins.{StaysHad}
-use Rattle.ctl_holder.specs.declared.given.Given.{Given}
+use Rattle.spec_control.specs.Moments.{Moment, items_in, left_after, left_by, moments_by, moments_from}
+use Rattle.spec_control.specs.OwnAsks.{known_after}
+use Rattle.ctl_plane.specs.Joins.{StaysHad}
+use Rattle.ctl_plane.specs.declared.given.Given.{Given}
 use Rattle.ctl_plane.specs.Desk.{came_with}
-use Rattle.held_laws.proofs.LawLemmas.{open_not}
+use Rattle.control_laws.proofs.LawLemmas.{open_not}
 use Rattle.msg_pipe.specs.Known.{Known}
 use Rattle.any_sock.specs.declared.any_sock.AnySock.{AnySock}
 use Rattle.sock_core.specs.declared.sock.SockCore.{SockCore}
@@ -21,11 +21,11 @@ use Rattle.sock_core.specs.Standing.{standing_joins}
 use Rattle.spec_run.specs.OpenSocket.{SockEnd, ends_left}
 use Rattle.sock_open.specs.View.{ends_told}
 use Rattle.sock_open.specs.Standing.{kind_told}
-use Rattle.open_laws.specs.Open.{ends_at, moment_at, left_before, HasOpen, ComesTo, IsOfItem}
-use Rattle.open_laws.specs.Ends.{AreLeft, GoesOn}
-use Rattle.open_laws.proofs.OpenLemmas.{had}
-use Rattle.open_laws.proofs.LeftLemmas.{open_ends_are_left}
-use Rattle.open_laws.proofs.GoLemmas.{ends_go_on}
+use Rattle.core_laws.specs.Open.{ends_at, moment_at, left_before, HasOpen, ComesTo, IsOfItem}
+use Rattle.core_laws.specs.OpenEnds.{AreLeft, GoesOn}
+use Rattle.core_laws.proofs.OpenLemmas.{had}
+use Rattle.core_laws.proofs.LeftLemmas.{open_ends_are_left}
+use Rattle.core_laws.proofs.GoLemmas.{ends_go_on}
 use Rattle.one_desk.specs.Lent.{Lent, moments_of}
 use Rattle.lent_sock.specs.Owned.{IsLentTo}
 use Rattle.lent_sock.specs.Called.{IsCalled}

@@ -9,9 +9,9 @@ use Rattle.spec_control.specs.declared.letter.Word.TheVariants.{PipeTerm}
 use Rattle.spec_control.specs.Place.{At, is_here}
 use Rattle.spec_control.specs.Control.{Control, begun, is_end, place_of, ends_of}
 use Rattle.spec_control.specs.ControlRun.{after_all}
-use Rattle.control_held.specs.Moments.{Moment, left_by}
+use Rattle.spec_control.specs.Moments.{Moment, left_by}
 use Rattle.control_laws.proofs.AskLemmas.{end_self}
-use Rattle.ctl_holder.specs.declared.given.Given.{Given}
+use Rattle.ctl_plane.specs.declared.given.Given.{Given}
 use Rattle.desk_laws.specs.Behind.{closes}
 use Rattle.msg_pipe.specs.Known.{Known}
 use Rattle.any_sock.specs.declared.any_sock.AnySock.{AnySock}
@@ -25,10 +25,10 @@ use Rattle.spec_run.specs.Event.{IsDelivery}
 use Rattle.open_sock.specs.Reading.{ReadsOnAt}
 use Rattle.open_sock.specs.Steps.{IsLeftReading}
 use Rattle.open_sock.specs.declared.found.Reader.{Reader}
-use Rattle.open_laws.specs.Open.{IsOfItem}
-use Rattle.open_laws.specs.Ways.{ReadsOn}
-use Rattle.open_laws.proofs.ReadLemmas.{among_ends, one_end_reads_on}
-use Rattle.open_laws.proofs.ToldLemmas.{pass_among}
+use Rattle.core_laws.specs.Open.{IsOfItem}
+use Rattle.core_laws.specs.Ways.{ReadsOn}
+use Rattle.core_laws.proofs.ReadLemmas.{among_ends, one_end_reads_on}
+use Rattle.core_laws.proofs.ToldLemmas.{pass_among}
 use Rattle.one_desk.specs.Lent.{Lent, moments_of}
 use Rattle.desk_laws.specs.Calling.{OpensBy}
 use Rattle.lent_sock.specs.Owned.{IsLentTo}

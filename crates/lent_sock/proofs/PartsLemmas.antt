@@ -4,7 +4,7 @@ use Rattle.zq_base.specs.declared.endpoint.Endpoint.{Endpoint}
 use Rattle.zq_base.specs.declared.endpoint.Endpoint.TheVariants.{Inproc, Tcp}
 use Rattle.spec_control.specs.Reply.{root_asked}
 use Rattle.ctl_history.specs.Past.{control_of}
-use Rattle.ctl_holder.specs.declared.given.Given.{Given}
+use Rattle.ctl_plane.specs.declared.given.Given.{Given}
 use Rattle.ctl_plane.specs.Asking.{IsInproc}
 use Rattle.msg_pipe.specs.Known.{Known}
 use Rattle.any_sock.specs.declared.any_sock.AnySock.{AnySock}

@@ -3,12 +3,12 @@ use Rattle.std.proofs.Common.{◌≡◌, ◌∙◌, ◌||◌, ℕ, Bool, true, L
 use Rattle.std.specs.List.{list_any}
 use Rattle.std.proofs.lemmas.List.Folds.{list_any-append}
 use Rattle.zq_base.specs.declared.ids.EndId.{EndId}
-use Rattle.control_held.specs.Moments.{Moment, items_in, left_after, left_by, moments_by, moments_from}
-use Rattle.control_held.specs.OwnAsks.{known_after}
+use Rattle.spec_control.specs.Moments.{Moment, items_in, left_after, left_by, moments_by, moments_from}
+use Rattle.spec_control.specs.OwnAsks.{known_after}
 use Rattle.spec_control.specs.Control.{begun}
-use Rattle.ctl_holder.specs.declared.given.Given.{Given}
-use Rattle.ctl_holder.specs.declared.notice.Notice.{Notice}
-use Rattle.ctl_holder.specs.Turns.{turned_in}
+use Rattle.ctl_plane.specs.declared.given.Given.{Given}
+use Rattle.ctl_plane.specs.declared.notice.Notice.{Notice}
+use Rattle.ctl_plane.specs.Turns.{turned_in}
 use Rattle.ctl_plane.specs.Desk.{came_with, heard_with}
 use Rattle.msg_pipe.specs.Known.{Known}
 use Rattle.any_sock.specs.declared.any_sock.AnySock.{AnySock}
@@ -22,10 +22,10 @@ use Rattle.spec_run.specs.OpenSocket.{OpenSock, attach_all, detach_all, AreAnswe
 use Rattle.sock_open.specs.View.{end_at, ends_told, pattern_told, open_view}
 use Rattle.sock_open.specs.Standing.{IsWhole}
 use Rattle.sock_open.proofs.ViewLemmas.{opens_are, end_found, caught_as_is}
-use Rattle.open_laws.specs.Open.{ends_at, moment_at, IsOfItem}
-use Rattle.open_laws.specs.Passes.{IsPassed}
-use Rattle.open_laws.specs.Peers.{HasItsPeers}
-use Rattle.open_laws.proofs.PassLemmas.{items_pass}
+use Rattle.core_laws.specs.Open.{ends_at, moment_at, IsOfItem}
+use Rattle.core_laws.specs.Passes.{IsPassed}
+use Rattle.core_laws.specs.Peers.{HasItsPeers}
+use Rattle.core_laws.proofs.PassLemmas.{items_pass}
 use Rattle.one_desk.specs.Lent.{Lent, moments_of}
 use Rattle.lent_sock.specs.Owned.{IsLentTo}
 use Rattle.lent_sock.specs.Called.{IsCalled}

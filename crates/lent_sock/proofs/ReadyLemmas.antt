@@ -5,10 +5,10 @@ use Rattle.spec_control.specs.declared.end.EndState.{EndState}
 use Rattle.spec_control.specs.declared.entry.Joining.{Joining}
 use Rattle.spec_control.specs.Control.{begun, ends_of}
 use Rattle.spec_pattern.specs.Pattern.{Pattern}
-use Rattle.control_held.specs.Moments.{Moment, items_in, left_after, left_by, moments_by, moments_from}
-use Rattle.control_held.specs.OwnAsks.{known_after}
-use Rattle.ctl_holder.specs.declared.given.Given.{Given}
-use Rattle.ctl_holder.specs.Turns.{turned_in}
+use Rattle.spec_control.specs.Moments.{Moment, items_in, left_after, left_by, moments_by, moments_from}
+use Rattle.spec_control.specs.OwnAsks.{known_after}
+use Rattle.ctl_plane.specs.declared.given.Given.{Given}
+use Rattle.ctl_plane.specs.Turns.{turned_in}
 use Rattle.ctl_plane.specs.Desk.{came_with}
 use Rattle.msg_pipe.specs.Known.{Known}
 use Rattle.any_sock.specs.declared.any_sock.AnySock.{AnySock}
@@ -20,10 +20,10 @@ use Rattle.sock_calls.specs.Passing.{GoesOn, Passes}
 use Rattle.spec_run.specs.OpenSocket.{attach_all, detach_all, AreAnswered}
 use Rattle.sock_open.specs.View.{pattern_told, open_view}
 use Rattle.sock_open.specs.Standing.{IsWhole}
-use Rattle.open_laws.specs.Bounds.{CanJoin, drawn_of}
-use Rattle.open_laws.specs.Open.{IsOfItem}
-use Rattle.open_laws.specs.Peers.{HasItsPeers}
-use Rattle.open_laws.proofs.JoinLemmas.{ends_can_join}
+use Rattle.core_laws.specs.Bounds.{CanJoin, drawn_of}
+use Rattle.core_laws.specs.Open.{IsOfItem}
+use Rattle.core_laws.specs.Peers.{HasItsPeers}
+use Rattle.core_laws.proofs.JoinLemmas.{ends_can_join}
 use Rattle.one_desk.specs.Lent.{Lent, moments_of}
 use Rattle.lent_sock.specs.Owned.{IsLentTo}
 use Rattle.lent_sock.specs.Called.{IsCalled}

@@ -5,11 +5,11 @@ use Rattle.spec_pattern.specs.declared.answers.Skip.{Skip}
 use Rattle.spec_control.specs.declared.entry.Did.TheVariants.{Asked}
 use Rattle.spec_control.specs.declared.request.Req.{Req}
 use Rattle.spec_control.specs.declared.request.Reply.{Reply}
-use Rattle.control_held.specs.Held.{asker}
-use Rattle.control_held.specs.Moments.{Moment, items_in, left_by}
-use Rattle.control_held.specs.OwnAsks.{known_after}
-use Rattle.ctl_holder.specs.declared.given.Given.{Given}
-use Rattle.ctl_holder.specs.Turns.{turned_in}
+use Rattle.spec_control.specs.Held.{asker}
+use Rattle.spec_control.specs.Moments.{Moment, items_in, left_by}
+use Rattle.spec_control.specs.OwnAsks.{known_after}
+use Rattle.ctl_plane.specs.declared.given.Given.{Given}
+use Rattle.ctl_plane.specs.Turns.{turned_in}
 use Rattle.ctl_plane.specs.Desk.{AsksOnce, by_caller, came_with, slot_after}
 use Rattle.msg_pipe.specs.Known.{Known}
 use Rattle.any_sock.specs.declared.any_sock.AnySock.{AnySock}
@@ -23,7 +23,7 @@ use Rattle.spec_run.specs.Event.{acts_said}
 use Rattle.open_sock.specs.Steps.{CallsSo}
 use Rattle.sock_open.specs.View.{pattern_told, open_view}
 use Rattle.sock_open.specs.Standing.{IsWhole}
-use Rattle.open_laws.specs.Peers.{HasItsPeers}
+use Rattle.core_laws.specs.Peers.{HasItsPeers}
 use Rattle.one_desk.specs.Lent.{Lent, moments_of}
 use Rattle.lent_sock.specs.Owned.{IsLentTo, view_of, moments_since}
 use Rattle.lent_sock.specs.Called.{IsCalled}

@@ -9,19 +9,19 @@ use Rattle.spec_control.specs.declared.end.EndState.TheVariants.{Active, Delimit
 use Rattle.spec_control.specs.Place.{Place, Unmade, Away, At}
 use Rattle.spec_control.specs.Control.{Control, begun, is_end, place_of, ends_of}
 use Rattle.spec_control.specs.ControlRun.{after_all}
-use Rattle.control_held.specs.Moments.{Moment, items_in, left_after, left_by, moments_by, moments_from}
-use Rattle.control_held.specs.OwnAsks.{known_after}
-use Rattle.ctl_holder.specs.Holding.{is_state}
-use Rattle.ctl_holder.specs.Turns.{state_before, turn_at, turned_over, turned_in, sealed_by}
-use Rattle.ctl_holder.specs.declared.given.Given.{Given}
+use Rattle.spec_control.specs.Moments.{Moment, items_in, left_after, left_by, moments_by, moments_from}
+use Rattle.spec_control.specs.OwnAsks.{known_after}
+use Rattle.ctl_plane.specs.Holding.{is_state}
+use Rattle.ctl_plane.specs.Turns.{state_before, turn_at, turned_over, turned_in, sealed_by}
+use Rattle.ctl_plane.specs.declared.given.Given.{Given}
 use Rattle.msg_pipe.specs.Known.{Known}
 use Rattle.any_sock.specs.declared.any_sock.AnySock.{AnySock}
 use Rattle.sock_core.specs.declared.sock.SockCore.{SockCore}
 use Rattle.sock_core.proofs.FindLemmas.{same_end}
 use Rattle.spec_run.specs.OpenSocket.{is_active}
-use Rattle.open_laws.specs.Open.{moment_at, left_before, IsOfItem}
-use Rattle.open_laws.proofs.LeftLemmas.{open_ends_are_left}
-use Rattle.open_laws.proofs.ReadLemmas.{active_ends_stay}
+use Rattle.core_laws.specs.Open.{moment_at, left_before, IsOfItem}
+use Rattle.core_laws.proofs.LeftLemmas.{open_ends_are_left}
+use Rattle.core_laws.proofs.ReadLemmas.{active_ends_stay}
 use Rattle.one_desk.specs.Lent.{Lent, moments_of}
 use Rattle.lent_sock.specs.Owned.{IsOut, IsLentTo}
 use Rattle.lent_sock.specs.Called.{IsCalled}

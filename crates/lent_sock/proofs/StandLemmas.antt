@@ -9,9 +9,9 @@ use Rattle.spec_control.specs.ControlRun.{after_all}
 use Rattle.spec_control.specs.Names.{name_of}
 use Rattle.spec_control.specs.Place.{is_here}
 use Rattle.control_laws.proofs.AskLemmas.{end_self}
-use Rattle.control_held.specs.Held.{Held}
-use Rattle.control_held.specs.Moments.{Moment}
-use Rattle.ctl_holder.specs.declared.given.Given.{Given}
+use Rattle.spec_control.specs.Held.{Held}
+use Rattle.spec_control.specs.Moments.{Moment}
+use Rattle.ctl_plane.specs.declared.given.Given.{Given}
 use Rattle.ctl_history.specs.Past.{control_of}
 use Rattle.msg_pipe.specs.Known.{Known}
 use Rattle.any_sock.specs.declared.any_sock.AnySock.{AnySock}
@@ -33,17 +33,17 @@ use Rattle.sock_open.specs.Standing.{kind_told}
 use Rattle.spec_run.specs.Act.{Act, Step, moments_in}
 use Rattle.spec_run.specs.Event.{acts_said, seals_in}
 use Rattle.spec_run.specs.SocketCall.{step_acts}
-use Rattle.open_laws.specs.Open.{IsOfItem}
+use Rattle.core_laws.specs.Open.{IsOfItem}
 use Rattle.open_sock.proofs.StepLemmas.{no_moments}
 use Rattle.one_desk.specs.Lent.{GrowsBy, IsOneOrder, Lent, moments_of}
 use Rattle.core_laws.proofs.SideLemmas.{begun_is, grows}
-use Rattle.past_laws.specs.Ends.{IsHeldFor}
-use Rattle.past_laws.specs.Places.{IsOwnPlace, is_end_of}
-use Rattle.past_laws.specs.OwnQuiet.{may_pair_by}
-use Rattle.past_laws.proofs.PlaceLemmas.{places_are_held}
-use Rattle.past_laws.specs.Asked.{WereAsked}
-use Rattle.past_laws.specs.Changes.{NamesGoOn}
-use Rattle.past_laws.proofs.NamesLemmas.{names_stand_on, names_stay}
+use Rattle.core_laws.specs.Ends.{IsHeldFor}
+use Rattle.core_laws.specs.Places.{IsOwnPlace, is_end_of}
+use Rattle.core_laws.specs.OwnQuiet.{may_pair_by}
+use Rattle.core_laws.proofs.PlaceLemmas.{places_are_held}
+use Rattle.core_laws.specs.Asked.{WereAsked}
+use Rattle.core_laws.specs.Changes.{NamesGoOn}
+use Rattle.core_laws.proofs.NamesLemmas.{names_stand_on, names_stay}
 use Rattle.desk_laws.specs.Calling.{AddsItem, AddsNone, IsCalledBy, LeavesIt, StandsOver}
 use Rattle.desk_laws.proofs.MessageLemmas.{message_calls_stand}
 use Rattle.desk_laws.proofs.StandLemmas.{closes_stand, socket_calls_stand, still_calls_stand}

@@ -4,10 +4,10 @@ use Rattle.std.specs.List.{list_any}
 use Rattle.zq_base.specs.declared.ids.EndId.{EndId}
 use Rattle.spec_control.specs.Place.{At, is_here}
 use Rattle.spec_control.specs.Control.{Control, is_end, place_of, ends_of}
-use Rattle.control_held.specs.Held.{Held}
+use Rattle.spec_control.specs.Held.{Held}
 use Rattle.control_laws.proofs.AskLemmas.{end_self}
-use Rattle.ctl_holder.specs.Holding.{Holding, has_end}
-use Rattle.ctl_holder.specs.Lent.{HasEnds}
+use Rattle.ctl_plane.specs.Holding.{Holding, has_end}
+use Rattle.ctl_plane.specs.Lent.{HasEnds}
 use Rattle.held_ends.specs.declared.table.Place.{Place}
 use Rattle.held_ends.specs.Places.{place_at, held_in}
 use Rattle.sock_core.specs.Has.{state_in}

@@ -6,9 +6,9 @@ use Rattle.spec_pattern.specs.Pattern.{Pattern}
 use Rattle.spec_control.specs.declared.entry.Joining.{Joining}
 use Rattle.spec_control.specs.Reply.{root_asked}
 use Rattle.spec_control.specs.Control.{is_end, place_of, ends_of}
-use Rattle.control_held.specs.Moments.{Moment, items_in, left_after}
-use Rattle.control_held.specs.OwnAsks.{known_after}
-use Rattle.ctl_holder.specs.declared.given.Given.{Given}
+use Rattle.spec_control.specs.Moments.{Moment, items_in, left_after}
+use Rattle.spec_control.specs.OwnAsks.{known_after}
+use Rattle.ctl_plane.specs.declared.given.Given.{Given}
 use Rattle.desk_laws.specs.Behind.{IsAsBefore}
 use Rattle.desk_laws.proofs.SendLemmas.{no_moment_no_item}
 use Rattle.msg_pipe.specs.Known.{Known}
@@ -23,9 +23,9 @@ use Rattle.spec_run.specs.SocketCall.{leave_asked}
 use Rattle.sock_open.specs.View.{end_at, ends_told, pattern_told}
 use Rattle.sock_open.specs.Standing.{IsWhole, kind_told}
 use Rattle.sock_open.proofs.ViewLemmas.{caught_as_is, end_found, opens_are}
-use Rattle.open_laws.specs.Bounds.{TellIdentities, drawn_of}
-use Rattle.open_laws.specs.Open.{ends_at}
-use Rattle.open_laws.specs.Peers.{HasItsPeers}
+use Rattle.core_laws.specs.Bounds.{TellIdentities, drawn_of}
+use Rattle.core_laws.specs.Open.{ends_at}
+use Rattle.core_laws.specs.Peers.{HasItsPeers}
 use Rattle.one_desk.specs.Lent.{Lent, moments_of}
 use Rattle.lent_sock.specs.Owned.{IsOut, IsLentTo, newest}
 use Rattle.lent_sock.specs.Called.{IsCalled}

@@ -7,8 +7,8 @@ use Rattle.spec_control.specs.declared.entry.Item.TheVariants.{Seen}
 use Rattle.spec_control.specs.declared.entry.SeenEmpty.TheVariants.{Mailbox}
 use Rattle.spec_control.specs.declared.entry.Sight.{Sight}
 use Rattle.spec_control.specs.Control.{Control, place_of}
-use Rattle.control_held.specs.Moments.{Moment}
-use Rattle.ctl_holder.specs.declared.given.Given.{Given}
+use Rattle.spec_control.specs.Moments.{Moment}
+use Rattle.ctl_plane.specs.declared.given.Given.{Given}
 use Rattle.ctl_plane.specs.Desk.{CountsWith, TakesOne, FindsNothing, GivesOrNot, by_caller, slot_after}
 use Rattle.ctl_plane.specs.declared.delivery.Delivery.{Delivery}
 use Rattle.ctl_plane.specs.declared.delivery.Delivery.TheVariants.{Done, Empty}

@@ -1,8 +1,8 @@
 -- What a lent socket has for a call of the control plane.
 use Rattle.std.proofs.Common.{◌≡◌, ℕ, true, Option, Some, None}
-use Rattle.control_held.specs.Moments.{items_in}
-use Rattle.control_held.specs.OwnAsks.{known_after}
-use Rattle.ctl_holder.specs.declared.given.Given.{Given}
+use Rattle.spec_control.specs.Moments.{items_in}
+use Rattle.spec_control.specs.OwnAsks.{known_after}
+use Rattle.ctl_plane.specs.declared.given.Given.{Given}
 use Rattle.ctl_plane.specs.Desk.{HasWhatTheySay, slot_after}
 use Rattle.desk_laws.proofs.SocketLemmas.{sockets_are_alone}
 use Rattle.msg_pipe.specs.Known.{Known}

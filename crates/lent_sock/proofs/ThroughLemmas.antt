@@ -1,10 +1,10 @@
 -- A lent socket behind a moment of it that does not close it: it went through the moment as a run tells it, and is lent and ready still.
 use Rattle.std.proofs.Common.{◌≡◌, ◌+◌, ◌∙◌, ℕ, Bool, true, false, List, [], ◌∷◌, ◌++◌, Option, Some, None, sym, ap, subst}
 use Rattle.zq_base.specs.declared.ids.EndId.{EndId}
-use Rattle.control_held.specs.Moments.{Moment, items_in, left_by}
-use Rattle.control_held.specs.OwnAsks.{known_after}
-use Rattle.ctl_holder.specs.declared.given.Given.{Given}
-use Rattle.ctl_holder.specs.Turns.{turned_in}
+use Rattle.spec_control.specs.Moments.{Moment, items_in, left_by}
+use Rattle.spec_control.specs.OwnAsks.{known_after}
+use Rattle.ctl_plane.specs.declared.given.Given.{Given}
+use Rattle.ctl_plane.specs.Turns.{turned_in}
 use Rattle.ctl_plane.specs.Desk.{came_with, counts_with, slot_after}
 use Rattle.desk_laws.specs.Behind.{closes, IsOneCall, StaysOpen}
 use Rattle.desk_laws.proofs.SocketLemmas.{sockets_stay_open}
@@ -21,7 +21,7 @@ use Rattle.spec_run.specs.OpenSocket.{PassesItems}
 use Rattle.open_sock.specs.Steps as steps
 use Rattle.sock_open.specs.View.{pattern_told, open_view}
 use Rattle.sock_open.specs.Standing.{IsWhole, kind_told}
-use Rattle.open_laws.specs.Open.{IsOfItem}
+use Rattle.core_laws.specs.Open.{IsOfItem}
 use Rattle.one_desk.specs.Lent.{Lent, moments_of}
 use Rattle.desk_laws.specs.Calling.{AddsItem, OpensBy}
 use Rattle.lent_sock.specs.Owned.{LentParts, IsLentTo, IsThereFor, Agrees, view_of}

@@ -20,12 +20,12 @@ use Rattle.control_laws.specs.Kept.{Kept}
 use Rattle.control_laws.proofs.RootLemmas.{oldest_lives}
 use Rattle.control_laws.proofs.LeadLemmas.{old_end}
 use Rattle.control_laws.proofs.AttachedOnceLemmas.{IsOld, AreOld, old_run}
-use Rattle.control_held.specs.Moments.{Moment, left_by}
+use Rattle.spec_control.specs.Moments.{Moment, left_by}
 use Rattle.ctl_history.specs.Past.{control_of}
 use Rattle.ctl_plane.specs.Desk.{by_caller, slot_after}
 use Rattle.sock_core.proofs.FindLemmas.{same_end}
-use Rattle.open_laws.proofs.ReadLemmas.{among_ends}
-use Rattle.open_laws.proofs.ToldLemmas.{pass_among}
+use Rattle.core_laws.proofs.ReadLemmas.{among_ends}
+use Rattle.core_laws.proofs.ToldLemmas.{pass_among}
 use Rattle.one_desk.specs.Lent.{Lent, moments_of, HasSocket, HaveOwnBoxes}
 use Rattle.desk_laws.specs.Behind.{IsLastItem, IsOneCall}
 use Rattle.desk_laws.proofs.LastLemmas.{moments_are_last}

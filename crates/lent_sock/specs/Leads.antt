@@ -1,8 +1,8 @@
 -- Acts that lead from one state of a lent socket, its pipes and the control plane to another (own choice).
 use Rattle.std.specs.Prelude.{◌≡◌, ◌+◌, ◌++◌, Bool, true, false, List, Option, Some, None, is_some, length}
 use Rattle.spec_run.specs.Act.{Act, moments_in}
-use Rattle.ctl_holder.specs.declared.given.Given.{Given}
-use Rattle.ctl_holder.specs.TakingOver.{AreGivenWith}
+use Rattle.ctl_plane.specs.declared.given.Given.{Given}
+use Rattle.ctl_plane.specs.TakingOver.{AreGivenWith}
 use Rattle.msg_pipe.specs.Known.{Known}
 use Rattle.any_sock.specs.declared.any_sock.AnySock.{AnySock}
 use Rattle.sock_core.specs.declared.sock.SockCore.{SockCore}

@@ -4,9 +4,9 @@ use Rattle.std.specs.Prelude.{is_some}
 use Rattle.std.proofs.lemmas.List.Elements.{All-nil, All-append}
 use Rattle.spec_control.specs.declared.entry.Item.{Item}
 use Rattle.spec_run.specs.Act.{Act, moments_in}
-use Rattle.control_held.specs.Held.{caller_of}
-use Rattle.ctl_holder.specs.declared.given.Given.{Given}
-use Rattle.ctl_holder.specs.TakingOver.{AreGivenWith}
+use Rattle.spec_control.specs.Held.{caller_of}
+use Rattle.ctl_plane.specs.declared.given.Given.{Given}
+use Rattle.ctl_plane.specs.TakingOver.{AreGivenWith}
 use Rattle.msg_pipe.specs.Known.{Known}
 use Rattle.any_sock.specs.declared.any_sock.AnySock.{AnySock}
 use Rattle.held_ends.proofs.OthersLemmas.{places_stay, leaves_pipes, leaves_on}

@@ -12,12 +12,12 @@ use Rattle.ctl_history.specs.Past.{control_of}
 use Rattle.spec_run.specs.Act.{Act, moments_in, steps_in}
 use Rattle.spec_run.specs.OwnedRun.{AreCountedBy}
 use Rattle.sock_calls.specs.Calls.{owner_of}
-use Rattle.open_laws.specs.Open.{IsOfItem}
+use Rattle.core_laws.specs.Open.{IsOfItem}
 use Rattle.one_desk.specs.Lent.{IsOneOrder, Lent}
 use Rattle.core_laws.specs.Sides.{AreAtEnds}
 use Rattle.core_laws.specs.Standing.{PastStands}
-use Rattle.past_laws.specs.Places.{is_end_of}
-use Rattle.past_laws.specs.Names.{NamesStand}
+use Rattle.core_laws.specs.Places.{is_end_of}
+use Rattle.core_laws.specs.Names.{NamesStand}
 use Rattle.desk_laws.specs.Calling.{IsExact}
 use Rattle.lent_sock.specs.Owned.{LentParts}
 

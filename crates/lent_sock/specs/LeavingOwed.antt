@@ -12,21 +12,21 @@ use Rattle.spec_control.specs.Place.{At}
 use Rattle.spec_control.specs.Control.{Control, begun, next_pair, place_of}
 use Rattle.spec_control.specs.ControlRun.{IsControlRun, after_all, after_item}
 use Rattle.spec_control.specs.Names.{name_in, name_of, named_in}
-use Rattle.control_held.specs.Moments.{Moment}
+use Rattle.spec_control.specs.Moments.{Moment}
 use Rattle.msg_pipe.specs.Known.{Known, IsElse, IsThere}
-use Rattle.ctl_ends.proofs.HeldLemmas.{other_twice}
+use Rattle.ctl_moves.proofs.HeldLemmas.{other_twice}
 use Rattle.ctl_history.specs.Past.{control_of}
 use Rattle.spec_run.specs.Act.{Act, moments_in, pipe_step_of, steps_in}
 use Rattle.spec_run.specs.OwnedRun.{AreCountedBy}
-use Rattle.open_laws.specs.Open.{IsOfItem}
+use Rattle.core_laws.specs.Open.{IsOfItem}
 use Rattle.open_sock.proofs.StepLemmas.{moments_more}
 use Rattle.sock_calls.specs.Calls.{owner_of}
 use Rattle.one_desk.specs.Lent.{GrowsBy, IsOneOrder, Lent}
 use Rattle.one_desk.proofs.AsideLemmas.{name_stays}
 use Rattle.core_laws.specs.Sides.{AreAtEnds}
 use Rattle.core_laws.proofs.SideLemmas.{sides_stand_on}
-use Rattle.past_laws.specs.Places.{is_end_of}
-use Rattle.past_laws.proofs.PlaceLemmas.{gone_stay, its_numbered, its_stay, led_on}
+use Rattle.core_laws.specs.Places.{is_end_of}
+use Rattle.core_laws.proofs.PlaceLemmas.{gone_stay, its_numbered, its_stay, led_on}
 use Rattle.desk_laws.specs.Calling.{IsExact}
 use Rattle.lent_sock.specs.Owned.{LentParts}
 use Rattle.lent_sock.specs.Leaving.{IsNoneItSettled, IsNoneItWrites, IsNoneItReads, LeavesPipes, LeavesStanding, NamesStandIn, PastStandsIn, TellsRest}

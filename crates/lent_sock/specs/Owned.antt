@@ -6,9 +6,9 @@ use Rattle.spec_control.specs.Names.{name_of}
 use Rattle.spec_control.specs.Place.{Place}
 use Rattle.spec_control.specs.Reply.{root_asked}
 use Rattle.spec_control.specs.Control.{is_end, place_of, ends_of}
-use Rattle.control_held.specs.Moments.{Moment, items_in, left_after}
-use Rattle.control_held.specs.OwnAsks.{known_after}
-use Rattle.ctl_holder.specs.declared.given.Given.{Given}
+use Rattle.spec_control.specs.Moments.{Moment, items_in, left_after}
+use Rattle.spec_control.specs.OwnAsks.{known_after}
+use Rattle.ctl_plane.specs.declared.given.Given.{Given}
 use Rattle.ctl_history.specs.Past.{control_of}
 use Rattle.ctl_plane.specs.Coming.{AreDistinct, BindsFit}
 use Rattle.ctl_plane.specs.Desk.{HasWhatTheySay, slot_after}
@@ -23,9 +23,9 @@ use Rattle.spec_run.specs.OpenSocket.{OpenSock, is_active}
 use Rattle.spec_run.specs.SocketCall.{leave_asked}
 use Rattle.sock_open.specs.View.{ends_told, open_view}
 use Rattle.sock_open.specs.Standing.{IsStanding, kind_told}
-use Rattle.open_laws.specs.Bounds.{TellIdentities}
-use Rattle.open_laws.specs.Open.{ends_at}
-use Rattle.past_laws.specs.Asked.{WereAsked}
+use Rattle.core_laws.specs.Bounds.{TellIdentities}
+use Rattle.core_laws.specs.Open.{ends_at}
+use Rattle.core_laws.specs.Asked.{WereAsked}
 use Rattle.one_desk.specs.Lent.{Lent, IsOneOrder, coming_to, moments_of}
 
 -- an end is among these, and can't be written where it is

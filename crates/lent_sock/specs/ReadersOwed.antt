@@ -7,10 +7,10 @@ use Rattle.spec_control.specs.Names.{name_of}
 use Rattle.spec_control.specs.Place.{Place as Where, Unmade, Away, At, is_here}
 use Rattle.spec_control.specs.Control.{Control, begun, is_end, place_of, ends_of}
 use Rattle.spec_control.specs.ControlRun.{after_all}
-use Rattle.control_held.specs.Held.{Held}
-use Rattle.control_held.specs.Moments.{left_after}
-use Rattle.ctl_holder.specs.Lent.{HasEnds}
-use Rattle.held_laws.proofs.HaveLemmas.{lent_holders_have_it}
+use Rattle.spec_control.specs.Held.{Held}
+use Rattle.spec_control.specs.Moments.{left_after}
+use Rattle.ctl_plane.specs.Lent.{HasEnds}
+use Rattle.control_laws.proofs.HaveLemmas.{lent_holders_have_it}
 use Rattle.msg_pipe.specs.Known.{Known}
 use Rattle.any_sock.specs.declared.any_sock.AnySock.{AnySock}
 use Rattle.held_ends.specs.declared.table.Place.{Place}
@@ -22,11 +22,11 @@ use Rattle.sock_core.proofs.FindLemmas.{same_end}
 use Rattle.spec_run.specs.OpenSocket.{SockEnd, awaits_delimiter, place_in, waiting_ends}
 use Rattle.sock_open.specs.View.{ends_told}
 use Rattle.sock_open.specs.Standing.{kind_told}
-use Rattle.open_laws.specs.Ends.{AreLeft}
-use Rattle.open_laws.specs.Open.{ends_at}
-use Rattle.open_laws.proofs.LeftLemmas.{open_ends_are_left}
+use Rattle.core_laws.specs.OpenEnds.{AreLeft}
+use Rattle.core_laws.specs.Open.{ends_at}
+use Rattle.core_laws.proofs.LeftLemmas.{open_ends_are_left}
 use Rattle.one_desk.specs.Lent.{Lent, moments_of}
-use Rattle.ctl_holder.specs.declared.given.Given.{Given}
+use Rattle.ctl_plane.specs.declared.given.Given.{Given}
 use Rattle.lent_sock.specs.Owned.{LentParts, IsLentTo, Agrees, view_of}
 use Rattle.lent_sock.specs.Readers.{held_places, readers_in, readers_from}
 

@@ -1,14 +1,14 @@
 -- A lent socket that is ready for a call of the control plane (own choice).
 use Rattle.std.specs.Prelude.{◌≤◌, List, Option, Some, None, length}
 use Rattle.spec_control.specs.Control.{ends_of}
-use Rattle.control_held.specs.Moments.{Moment, left_after}
+use Rattle.spec_control.specs.Moments.{Moment, left_after}
 use Rattle.any_sock.specs.declared.any_sock.AnySock.{AnySock}
 use Rattle.any_sock.specs.Told.{IsToldByPeers}
 use Rattle.sock_core.specs.declared.sock.SockCore.{SockCore}
 use Rattle.sock_open.specs.View.{pattern_told, open_view}
 use Rattle.sock_open.specs.Standing.{IsWhole}
-use Rattle.open_laws.specs.Bounds.{drawn_of}
-use Rattle.open_laws.specs.Peers.{HasItsPeers}
+use Rattle.core_laws.specs.Bounds.{drawn_of}
+use Rattle.core_laws.specs.Peers.{HasItsPeers}
 use Rattle.one_desk.specs.Lent.{moments_of}
 use Rattle.lent_sock.specs.Owned.{LentParts}
 

@@ -1,8 +1,8 @@
 use any_sock::AnySock;
 use held_ends::HeldPipes;
-use http_server::Log;
 use one_desk::OneDesk;
 use sock_calls::Socket;
+use zq_base::Log;
 
 /// A socket that its caller has open, lent with the pipes of all ends and the control plane for one
 /// call.

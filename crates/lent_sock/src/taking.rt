@@ -1,6 +1,6 @@
 ghost use Rattle.std.specs.Prelude.{◌≡◌, true, false, Some, IfOk, OnErr, drop, is_some};
-ghost use Rattle.control_held.specs.Has.{has_after};
-ghost use Rattle.control_held.specs.Moments.{items_in};
+ghost use Rattle.spec_control.specs.Has.{has_after};
+ghost use Rattle.spec_control.specs.Moments.{items_in};
 ghost use Rattle.ctl_plane.specs.Desk.{slot_after};
 ghost use Rattle.sock_calls.specs.Calls.{owner_of};
 ghost use Rattle.one_desk.specs.Lent.{moments_of, SeesNone};

@@ -1,12 +1,14 @@
--- What the counts of a link and of a host show of one call.
-use Rattle.std.proofs.Common.{◌≡◌, ℕ, Some, None, arith}
+-- What the counts of a link and of a host show of one call, and what a link tells of it.
+use Rattle.std.proofs.Common.{◌≡◌, ℕ, List, Option, Some, None, sym, ap, ◌∙◌, arith}
+use Rattle.std.proofs.lemmas.List.{append-nil}
 use Rattle.zq_outer.specs.Count.{RoseIf}
+use Rattle.zq_outer.specs.Link.{Says}
 use Rattle.zq_outer.specs.declared.link.LinkGot.{LinkGot}
 use Rattle.zq_outer.specs.declared.link.LinkGot.TheVariants as got
 use Rattle.zq_outer.specs.declared.link.LinkPut.{LinkPut}
 use Rattle.zq_outer.specs.declared.link.LinkPut.TheVariants as put
 use Rattle.spec_link.specs.LinkAct.{Linked, NotReady, Failed}
-use Rattle.link_side.specs.Calls.{ReadCounts, WriteCounts}
+use Rattle.link_side.specs.Calls.{Adds, ReadCounts, WriteCounts, octets_put}
 use Rattle.link_side.specs.Dials.{HostCounts}
 
 same_got : (a b : LinkGot) → Some a ≡ Some b → a ≡ b
@@ -55,3 +57,11 @@ failed_counted f f' s s' x y a = record {
   failed = record { kept = x.kept; rose = λ _. x.rose a };
   stalled = record { kept = y.kept; rose = λ e. absurd cc };
 }
+
+-- what a write took is added to what the link tells
+pub told_put : (a : LinkPut) (said said' : Option (List ℕ)) (piece : List ℕ) → Says said said' a piece → Adds said (octets_put a piece) said'
+told_put a None said' piece e = e
+told_put (put.Took n) (Some l) said' piece e = e
+told_put put.NotReady (Some l) said' piece e = e ∙ ap Some (sym (append-nil l))
+told_put put.Ended (Some l) said' piece e = e ∙ ap Some (sym (append-nil l))
+told_put put.Failed (Some l) said' piece e = e ∙ ap Some (sym (append-nil l))

@@ -13,7 +13,7 @@ use Rattle.msg_pipe.specs.declared.pipes.Taken.TheVariants as taken
 use Rattle.spec_pattern.specs.PipeStep.{EmptyLook, DelimiterLook}
 use Rattle.spec_link.specs.LinkAct.{LinkAct, Wire, Step, Repeats}
 use Rattle.spec_link.specs.Parts.{NothingToWrite, SomethingToWrite, MayTake, IsWriteOver, IsWritePart, WriteFits, write_acts}
-use Rattle.link_topics.specs.Topics.{Topics}
+use Rattle.spec_link.specs.Topics.{Topics}
 use Rattle.link_side.specs.declared.behind.Behind.{Behind}
 use Rattle.link_side.specs.declared.behind.Behind.TheVariants.{Nothing, Unsaid}
 use Rattle.link_side.specs.declared.write_part.Written.{Written}

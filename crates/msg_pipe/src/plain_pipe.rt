@@ -4,11 +4,10 @@ ghost use Rattle.spec_pattern.specs.PipeStep.{most_commits};
 ghost use Rattle.spec_pattern.specs.Pipe.{IsCommittable};
 
 use crate::pipes::{Committed, Front, PutIn, Taken};
-use http_server::Log;
 use std::alloc::{AllocError, AllocFailed, Global};
 use std::collections::VecDeque;
 use std::mem;
-use zq_base::{Frame, Message, Settled};
+use zq_base::{Frame, Log, Message, Settled};
 
 /// The most messages that are ever committed to one pipe.
 const MOST: u64 = 4_611_686_018_427_387_902;

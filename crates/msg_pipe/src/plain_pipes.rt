@@ -3,9 +3,8 @@ ghost use Rattle.msg_pipe.specs.Known.{IsThere, KeepsAll, MakesPipe};
 
 use crate::pipes::{Committed, Front, Pipes, PutIn, Taken};
 use crate::plain_pipe::PlainPipe;
-use http_server::Log;
 use std::alloc::{AllocError, AllocFailed, Global};
-use zq_base::{Frame, Message, Settled};
+use zq_base::{Frame, Log, Message, Settled};
 
 /// The writing half of a plain pipe: the pipe's number.
 #[derive(Drop)]

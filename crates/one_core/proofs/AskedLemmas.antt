@@ -4,7 +4,7 @@ use Rattle.std.proofs.Common.{sym, subst}
 use Rattle.zq_base.specs.declared.ids.EndId.{EndId}
 use Rattle.spec_control.specs.Control.{Control, next_pair, place_of}
 use Rattle.spec_control.specs.Place.{Place}
-use Rattle.past_laws.specs.Asked.{asked_rank, WereAsked}
+use Rattle.core_laws.specs.Asked.{asked_rank, WereAsked}
 
 pub asked_still : (c d : Control) → next_pair d ≡ next_pair c → ((e : EndId) → place_of d e ≡ place_of c e) → (es : List EndId) → WereAsked c es → WereAsked d es
 asked_still c d pairs places [] were = tt

@@ -7,11 +7,11 @@ use Rattle.spec_pattern.specs.declared.answers.Skip.{Skip}
 use Rattle.spec_control.specs.Control.{Control, begun, id, next_pair}
 use Rattle.spec_control.specs.ControlRun.{after_all}
 use Rattle.spec_control.specs.Names.{name_of}
-use Rattle.control_held.specs.Moments.{Moment, items_in, moments_by, moments_from}
+use Rattle.spec_control.specs.Moments.{Moment, items_in, moments_by, moments_from}
 use Rattle.spec_run.specs.Act.{Act, moments_in}
 use Rattle.msg_pipe.specs.Known.{Known}
-use Rattle.ctl_holder.specs.declared.given.Given.{Given}
-use Rattle.ctl_holder.specs.TakingOver.{AreGivenWith, IsGivenWith}
+use Rattle.ctl_plane.specs.declared.given.Given.{Given}
+use Rattle.ctl_plane.specs.TakingOver.{AreGivenWith, IsGivenWith}
 use Rattle.ctl_history.specs.Past.{control_of}
 use Rattle.ctl_plane.specs.Desk.{HasWhatTheySay}
 use Rattle.any_sock.specs.declared.any_sock.AnySock.{AnySock}
@@ -19,11 +19,11 @@ use Rattle.sock_core.specs.declared.sock.SockCore.{SockCore}
 use Rattle.script_actor.specs.Piece.{Piece, piece_of, AddsActs}
 use Rattle.script_actor.specs.Way.{KeepsOthers}
 use Rattle.core_tale.specs.Marks.{piece_marks}
-use Rattle.open_laws.specs.Bounds.{TellIdentities}
+use Rattle.core_laws.specs.Bounds.{TellIdentities}
 use Rattle.zq_world.specs.CoreCalls.{IsOnlyReaper, OnlyReaps}
 use Rattle.reaper_ends.specs.declared.sockets.ClosedSockets.{ClosedSockets}
 use Rattle.reaper_ends.specs.Has.{all_ends, holding_in}
-use Rattle.past_laws.specs.Asked.{WereAsked}
+use Rattle.core_laws.specs.Asked.{WereAsked}
 use Rattle.core_others.specs.Sealed.{AllAsked}
 use Rattle.desk_laws.specs.Calling.{IsExact}
 use Rattle.one_desk.specs.Lent.{moments_of, HasSocket, IsOneOrder, Lent}

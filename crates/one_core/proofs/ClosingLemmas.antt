@@ -9,12 +9,12 @@ use Rattle.spec_control.specs.declared.request.Reply.TheVariants.{Done}
 use Rattle.spec_control.specs.Control.{Control, begun, id}
 use Rattle.spec_control.specs.ControlRun.{after_all}
 use Rattle.spec_control.specs.Names.{name_of}
-use Rattle.control_held.specs.Moments.{Moment, items_in, moments_from}
+use Rattle.spec_control.specs.Moments.{Moment, items_in, moments_from}
 use Rattle.spec_run.specs.Act.{moments_in}
 use Rattle.spec_run.specs.Event.{acts_said}
 use Rattle.replay_laws.proofs.LookLemmas.{moments_said}
 use Rattle.msg_pipe.specs.Known.{Known}
-use Rattle.ctl_holder.specs.declared.given.Given.{Given}
+use Rattle.ctl_plane.specs.declared.given.Given.{Given}
 use Rattle.ctl_history.specs.Giving.{AreOnTheirWay}
 use Rattle.ctl_history.specs.Past.{control_of}
 use Rattle.any_sock.specs.declared.any_sock.AnySock.{AnySock}
@@ -22,7 +22,7 @@ use Rattle.sock_core.specs.declared.sock.SockCore.{SockCore}
 use Rattle.script_actor.specs.Piece.{Piece, AddsActs}
 use Rattle.script_actor.specs.Way.{ClosesSo, KeepsOthers}
 use Rattle.core_tale.specs.declared.marks.PieceMark.{PieceMark}
-use Rattle.open_laws.specs.Bounds.{TellIdentities}
+use Rattle.core_laws.specs.Bounds.{TellIdentities}
 use Rattle.core_others.specs.Counting.{CountsDrops}
 use Rattle.reaper_ends.specs.declared.sockets.ClosedSockets.{ClosedSockets}
 use Rattle.one_desk.specs.Lent.{IsOneOrder, Lent}

@@ -11,7 +11,7 @@ use Rattle.spec_run.specs.declared.line.LineCall.{LineCall}
 use Rattle.spec_run.specs.Act.{Act}
 use Rattle.spec_run.specs.OpenSocket.{OpenSock}
 use Rattle.msg_pipe.specs.Known.{Known}
-use Rattle.ctl_holder.specs.declared.given.Given.{Given}
+use Rattle.ctl_plane.specs.declared.given.Given.{Given}
 use Rattle.ctl_history.specs.Past.{control_of}
 use Rattle.any_sock.specs.declared.any_sock.AnySock.{AnySock}
 use Rattle.sock_core.specs.declared.sock.SockCore.{SockCore}
@@ -35,8 +35,8 @@ use Rattle.core_others.specs.Calls.{for_caller}
 use Rattle.core_others.specs.Rest.{LeavesRest}
 use Rattle.core_others.proofs.SilentLemmas.{one_order_of}
 use Rattle.ctl_history.specs.Giving.{AreOnTheirWay}
-use Rattle.ctl_holder.specs.TakingOver.{IsGivenWith}
-use Rattle.past_laws.specs.Asked.{WereAsked}
+use Rattle.ctl_plane.specs.TakingOver.{IsGivenWith}
+use Rattle.core_laws.specs.Asked.{WereAsked}
 use Rattle.one_core.specs.Agreeing.{as_open, was_made, Agrees, IsAgreed}
 use Rattle.one_core.specs.CallLaws.{CallLaws}
 use Rattle.one_core.specs.Calling.{lent_of, CallsOf, IsTold, TellsActs, TellsLine}

@@ -7,11 +7,11 @@ use Rattle.zq_base.specs.Ends.{other_end}
 use Rattle.zq_base.specs.declared.ids.EndId.{EndId}
 use Rattle.spec_control.specs.Rows.{obj}
 use Rattle.spec_control.specs.Control.{Control, begun, ends_of, is_end, place_of}
-use Rattle.control_held.specs.Moments.{Moment, items_in, left_after, moments_by, moments_from}
-use Rattle.control_held.specs.OwnAsks.{known_after, Known as KnownOf}
+use Rattle.spec_control.specs.Moments.{Moment, items_in, left_after, moments_by, moments_from}
+use Rattle.spec_control.specs.OwnAsks.{known_after, Known as KnownOf}
 use Rattle.msg_pipe.specs.Known.{Known}
-use Rattle.ctl_holder.specs.declared.given.Given.{Given}
-use Rattle.ctl_holder.specs.Holding.{Holding}
+use Rattle.ctl_plane.specs.declared.given.Given.{Given}
+use Rattle.ctl_plane.specs.Holding.{Holding}
 use Rattle.ctl_history.specs.Past.{control_of}
 use Rattle.ctl_plane.specs.Desk.{HasWhatTheySay, slot_after}
 use Rattle.any_sock.specs.declared.any_sock.AnySock.{AnySock}
@@ -19,8 +19,8 @@ use Rattle.sock_core.specs.declared.sock.SockCore.{SockCore}
 use Rattle.sock_core.specs.Has.{holding_in}
 use Rattle.sock_open.specs.Standing.{kind_told}
 use Rattle.sock_open.specs.View.{pattern_told}
-use Rattle.open_laws.specs.Bounds.{drawn_of}
-use Rattle.open_laws.specs.Open.{ends_at}
+use Rattle.core_laws.specs.Bounds.{drawn_of}
+use Rattle.core_laws.specs.Open.{ends_at}
 use Rattle.one_desk.specs.Lent.{coming_to, moments_of, Lent}
 use Rattle.lent_sock.specs.Owned.{parts, IsOut}
 use Rattle.lent_sock.specs.Ready.{IsReady}

@@ -22,16 +22,16 @@ use Rattle.control_laws.proofs.RootLemmas.{begun_kept}
 use Rattle.control_laws.proofs.RunLemmas.{run_kept}
 use Rattle.control_laws.specs.Move.{LinkMoves}
 use Rattle.control_laws.proofs.SoundLemmas.{socket_there}
-use Rattle.held_laws.proofs.RowLemmas.{event_count}
+use Rattle.control_laws.proofs.HeldRowLemmas.{event_count}
 use Rattle.spec_control.specs.Place.{is_away}
 use Rattle.spec_control.specs.Rows.{PairRow, end_owner, end_place, pair}
 use Rattle.spec_control.specs.Control.{Control, begun, next_object}
 use Rattle.spec_control.specs.ControlRun.{after_all, after_item}
 use Rattle.spec_control.specs.Names.{name_of}
-use Rattle.control_held.specs.Held.{caller_of}
-use Rattle.control_held.specs.Moments.{Moment, is_of_item, items_in, left_after, left_over, left_then, moments_by, moments_from}
-use Rattle.control_held.specs.OwnAsks.{Known, known_after, known_over}
-use Rattle.ctl_holder.specs.Holding.{Holding}
+use Rattle.spec_control.specs.Held.{caller_of}
+use Rattle.spec_control.specs.Moments.{Moment, is_of_item, items_in, left_after, left_over, left_then, moments_by, moments_from}
+use Rattle.spec_control.specs.OwnAsks.{Known, known_after, known_over}
+use Rattle.ctl_plane.specs.Holding.{Holding}
 use Rattle.ctl_history.specs.Past.{control_of, Past}
 use Rattle.ctl_plane.specs.Desk.{HasWhatTheySay}
 use Rattle.core_laws.specs.Aside.{LooksAreAsides, RootAsksAreAsides, MakingsAreAsides}

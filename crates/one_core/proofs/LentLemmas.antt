@@ -2,15 +2,15 @@
 use Rattle.std.specs.Prelude.{◌≡◌, ◌+◌, ◌≤◌, ℕ, false, List, [], Option, Some, None, length}
 use Rattle.std.proofs.Common.{sym, ap, ◌∙◌, subst}
 use Rattle.spec_control.specs.Control.{ends_of, id}
-use Rattle.control_held.specs.Moments.{Moment, left_after, moments_by, moments_from}
+use Rattle.spec_control.specs.Moments.{Moment, left_after, moments_by, moments_from}
 use Rattle.msg_pipe.specs.Known.{Known}
-use Rattle.ctl_holder.specs.declared.given.Given.{Given}
+use Rattle.ctl_plane.specs.declared.given.Given.{Given}
 use Rattle.ctl_plane.specs.Desk.{slot_after}
 use Rattle.any_sock.specs.declared.any_sock.AnySock.{AnySock}
 use Rattle.sock_core.specs.declared.sock.SockCore.{SockCore}
 use Rattle.sock_calls.specs.Calls.{owner_of}
 use Rattle.sock_open.specs.View.{open_view, pattern_told}
-use Rattle.open_laws.specs.Bounds.{drawn_of}
+use Rattle.core_laws.specs.Bounds.{drawn_of}
 use Rattle.one_desk.specs.Lent.{moments_of, HasSocket, IsOneOrder, Lent}
 use Rattle.desk_laws.proofs.SocketLemmas.{is_in}
 use Rattle.lent_sock.specs.Owned.{parts, view_of, Agrees as IsLent, IsThereFor, LentParts, MayTakeEnds}

@@ -10,14 +10,14 @@ use Rattle.spec_control.specs.Control.{Control, begun, next_object}
 use Rattle.spec_control.specs.ControlRun.{AreEmpty, FitsItem, IsControlRun, IsSeen, after_all}
 use Rattle.spec_control.specs.Names.{name_of}
 use Rattle.spec_control.specs.Reply.{most_objects}
-use Rattle.control_held.specs.Moments.{Moment, items_in, moments_from}
-use Rattle.control_held.specs.OwnAsks.{is_none}
+use Rattle.spec_control.specs.Moments.{Moment, items_in, moments_from}
+use Rattle.spec_control.specs.OwnAsks.{is_none}
 use Rattle.control_laws.proofs.ListLemmas.{left, never}
 use Rattle.spec_run.specs.Act.{Act, moments_in}
 use Rattle.spec_run.specs.CoreEvents.{may_take}
 use Rattle.spec_run.specs.OpenSocket.{OpenSock}
 use Rattle.msg_pipe.specs.Known.{Known}
-use Rattle.ctl_holder.specs.declared.given.Given.{Given}
+use Rattle.ctl_plane.specs.declared.given.Given.{Given}
 use Rattle.ctl_history.specs.Giving.{AreOnTheirWay}
 use Rattle.ctl_history.specs.Past.{control_of}
 use Rattle.any_sock.specs.declared.any_sock.AnySock.{AnySock}

@@ -10,7 +10,7 @@ use Rattle.zq_base.specs.declared.kind.Kind.{Kind}
 use Rattle.zq_base.specs.declared.kind.Kind.TheVariants.{Push, Pull, Pair, Dealer, Req, Rep, Router, Pub, XPub, Sub, XSub}
 use Rattle.zq_base.specs.declared.options.Options.{Options}
 use Rattle.msg_pipe.specs.Known.{Known}
-use Rattle.pattern_laws.specs.Peers.{pattern_kind}
+use Rattle.spec_pattern.specs.Peers.{pattern_kind}
 use Rattle.spec_journal.specs.NewSocket.{new_pattern}
 use Rattle.spec_control.specs.declared.entry.Did.TheVariants.{Asked as DidAsk}
 use Rattle.spec_control.specs.declared.entry.Item.TheVariants.{Event}
@@ -22,33 +22,33 @@ use Rattle.spec_control.specs.Place.{is_away, is_here}
 use Rattle.spec_control.specs.Rows.{obj}
 use Rattle.spec_control.specs.Control.{Control, begun, ends_of, id, is_end, owner_of, place_of}
 use Rattle.spec_control.specs.ControlRun.{after_all, IsControlRun}
-use Rattle.control_held.specs.Has.{has_after, AreBy}
-use Rattle.control_held.specs.Held.{Held, items_by}
-use Rattle.control_held.specs.Moments.{Moment, left_after, left_by}
+use Rattle.spec_control.specs.Has.{has_after, AreBy}
+use Rattle.spec_control.specs.Held.{Held, items_by}
+use Rattle.spec_control.specs.Moments.{Moment, left_after, left_by}
 use Rattle.control_laws.proofs.ListLemmas.{never, right}
 use Rattle.any_sock.specs.declared.any_sock.AnySock.{AnySock}
 use Rattle.any_sock.specs.Fresh.{without_peers}
-use Rattle.ctl_holder.specs.declared.given.Given.{Given}
-use Rattle.ctl_holder.specs.Holding.{Holding, has_end}
-use Rattle.ctl_holder.specs.Lent.{HasAll, HasBothNames}
+use Rattle.ctl_plane.specs.declared.given.Given.{Given}
+use Rattle.ctl_plane.specs.Holding.{Holding, has_end}
+use Rattle.ctl_plane.specs.Lent.{HasAll, HasBothNames}
 use Rattle.ctl_history.specs.Past.{control_of}
 use Rattle.ctl_plane.specs.Desk.{HasWhatTheySay, slot_after}
 use Rattle.ctl_plane.specs.Kinds.{kind_after}
 use Rattle.held_ends.specs.declared.table.Place.{Place}
 use Rattle.held_ends.specs.Places.{held_in}
-use Rattle.held_laws.proofs.LawLemmas.{no_and}
-use Rattle.held_laws.proofs.SayLemmas.{holders_have_what_is_said}
+use Rattle.control_laws.proofs.LawLemmas.{no_and}
+use Rattle.control_laws.proofs.SayLemmas.{holders_have_what_is_said}
 use Rattle.sock_core.specs.declared.sock.SockCore.{SockCore}
 use Rattle.sock_core.specs.Has.{holding_in}
 use Rattle.sock_core.specs.Kinds.{no_ends}
 use Rattle.sock_open.specs.Standing.{kind_told}
 use Rattle.spec_run.specs.OpenSocket.{SockEnd, new_open}
-use Rattle.open_laws.specs.Bounds.{drawn_of}
-use Rattle.open_laws.specs.Open.{ends_at}
-use Rattle.open_laws.specs.Peers.{HasItsPeers}
-use Rattle.open_laws.proofs.MadeLemmas.{sockets_have_their_peers}
+use Rattle.core_laws.specs.Bounds.{drawn_of}
+use Rattle.core_laws.specs.Open.{ends_at}
+use Rattle.core_laws.specs.Peers.{HasItsPeers}
+use Rattle.core_laws.proofs.OpenMadeLemmas.{sockets_have_their_peers}
 use Rattle.one_desk.specs.Lent.{coming_to, moments_of, Lent}
-use Rattle.past_laws.specs.Asked.{WereAsked}
+use Rattle.core_laws.specs.Asked.{WereAsked}
 use Rattle.lent_sock.specs.Owned.{IsOwned}
 use Rattle.lent_sock.specs.Ready.{HasPeers}
 use Rattle.core_others.specs.Agrees.{AgreesIn}

@@ -19,10 +19,10 @@ use Rattle.spec_control.specs.After.{socket_row}
 use Rattle.spec_control.specs.Control.{Control, begun, ends_of, id, makes, next_object, owner_of}
 use Rattle.spec_control.specs.ControlRun.{after_all, Fits, IsControlRun}
 use Rattle.spec_control.specs.Reply.{has_object, living_sockets, most_living_sockets, root_asked, unless}
-use Rattle.control_held.specs.Has.{made_by}
-use Rattle.control_held.specs.Held.{items_by}
-use Rattle.control_held.specs.Moments.{Moment, items_in, left_after, left_by, left_over, left_then, is_of_item, moments_by, moments_from}
-use Rattle.control_held.specs.OwnAsks.{Known, known_after}
+use Rattle.spec_control.specs.Has.{made_by}
+use Rattle.spec_control.specs.Held.{items_by}
+use Rattle.spec_control.specs.Moments.{Moment, items_in, left_after, left_by, left_over, left_then, is_of_item, moments_by, moments_from}
+use Rattle.spec_control.specs.OwnAsks.{Known, known_after}
 use Rattle.control_laws.specs.Kept.{Kept}
 use Rattle.control_laws.proofs.RootLemmas.{begun_kept}
 use Rattle.control_laws.proofs.RunLemmas.{run_kept}
@@ -31,7 +31,7 @@ use Rattle.core_laws.proofs.AsideLemmas.{known_more, state_more}
 use Rattle.ctl_history.specs.Past.{control_of}
 use Rattle.ctl_plane.specs.Desk.{slot_after}
 use Rattle.ctl_plane.specs.Kinds.{kind_after, kind_in, kind_over}
-use Rattle.held_laws.proofs.MomentLemmas.{own_moments}
+use Rattle.control_laws.proofs.MomentLemmas.{own_moments}
 use Rattle.one_desk.specs.Lent.{moments_of, Lent}
 use Rattle.one_desk.proofs.OrderLemmas.{own_more}
 use Rattle.desk_laws.proofs.SocketLemmas.{is_in, IsIn}

@@ -5,7 +5,7 @@ use Rattle.spec_control.specs.Rows.{obj}
 use Rattle.spec_control.specs.Control.{Control, begun, next_object}
 use Rattle.spec_control.specs.ControlRun.{after_all}
 use Rattle.msg_pipe.specs.Known.{Known}
-use Rattle.ctl_holder.specs.declared.given.Given.{Given}
+use Rattle.ctl_plane.specs.declared.given.Given.{Given}
 use Rattle.ctl_history.specs.Past.{control_of}
 use Rattle.any_sock.specs.declared.any_sock.AnySock.{AnySock}
 use Rattle.sock_core.specs.declared.sock.SockCore.{SockCore}

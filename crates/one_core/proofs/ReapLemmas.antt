@@ -6,7 +6,7 @@ use Rattle.std.proofs.lemmas.Bool.{eq-eqb, eqb-true}
 use Rattle.zq_base.specs.declared.ids.SlotId.{SlotId}
 use Rattle.spec_control.specs.Control.{Control, begun, next_object, next_pair}
 use Rattle.spec_control.specs.ControlRun.{after_all}
-use Rattle.control_held.specs.Moments.{Moment, left_after, moments_by, moments_from}
+use Rattle.spec_control.specs.Moments.{Moment, left_after, moments_by, moments_from}
 use Rattle.spec_run.specs.Act.{Act, steps_in}
 use Rattle.spec_run.specs.CoreEvents.{may_take}
 use Rattle.script_actor.specs.Piece.{Piece, piece_of, AddsPiece}
@@ -15,7 +15,7 @@ use Rattle.msg_pipe.specs.Known.{Known}
 use Rattle.any_sock.specs.declared.any_sock.AnySock.{AnySock}
 use Rattle.sock_core.specs.declared.sock.SockCore.{SockCore}
 use Rattle.sock_core.specs.Standing.{standing_joins}
-use Rattle.ctl_holder.specs.declared.given.Given.{Given}
+use Rattle.ctl_plane.specs.declared.given.Given.{Given}
 use Rattle.ctl_history.specs.Past.{control_of}
 use Rattle.ctl_plane.specs.Desk.{slot_after, HasWhatTheySay}
 use Rattle.zq_world.specs.CoreCalls.{IsOnlyReaper, IsReaper, OnlyReaps, ReapsOne}

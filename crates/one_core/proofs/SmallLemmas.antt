@@ -15,7 +15,7 @@ use Rattle.control_laws.proofs.StepLemmas.{some_object}
 use Rattle.control_laws.specs.Kept.{Kept}
 use Rattle.control_laws.proofs.RootLemmas.{begun_kept}
 use Rattle.control_laws.proofs.RunLemmas.{after_kept}
-use Rattle.held_laws.proofs.RowLemmas.{event_keeps}
+use Rattle.control_laws.proofs.HeldRowLemmas.{event_keeps}
 use Rattle.spec_run.specs.OwnedRun.{marks_by_sort, pipe_capacity}
 use Rattle.ctl_history.specs.Joining.{AllMarked}
 use Rattle.one_desk.specs.Lent.{Lent, IsOneOrder}

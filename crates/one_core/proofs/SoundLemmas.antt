@@ -16,19 +16,19 @@ use Rattle.spec_control.specs.declared.request.Reply.{Reply}
 use Rattle.spec_control.specs.Control.{Control, begun}
 use Rattle.spec_control.specs.ControlRun.{after_all, after_item, Fits, FitsItem, IsControlRun}
 use Rattle.spec_control.specs.Names.{name_of}
-use Rattle.control_held.specs.Moments.{Moment, moments_from}
+use Rattle.spec_control.specs.Moments.{Moment, moments_from}
 use Rattle.spec_run.specs.Act.{Act, Said}
 use Rattle.spec_run.specs.Event.{acts_said}
 use Rattle.spec_run.specs.OwnedRun.{pipe_capacity}
 use Rattle.script_actor.specs.Piece.{Piece, piece_of, AreActsBy}
 use Rattle.zq_world.specs.Played.{IsOrderly}
-use Rattle.control_held.specs.Has.{AreBy}
+use Rattle.spec_control.specs.Has.{AreBy}
 use Rattle.core_tale.specs.declared.marks.PieceMark.{PieceMark}
 use Rattle.core_tale.specs.Marks.{all_told, pieces_told, TalesGoOn}
 use Rattle.core_laws.specs.Standing.{CoreStands, CoresAreOrderly}
 use Rattle.core_laws.specs.Aside.{next_moment, IsAside, AsidesGoOn, LooksAreAsides}
 use Rattle.core_laws.proofs.AsideLemmas.{moments_more, names_more, said_alone, state_more}
-use Rattle.open_laws.specs.Bounds.{TellIdentities, TellsIdentity}
+use Rattle.core_laws.specs.Bounds.{TellIdentities, TellsIdentity}
 use Rattle.one_desk.specs.Lent.{Lent, Asks, IsOneOrder, KeepsAside, Sees}
 use Rattle.one_core.specs.Telling.{item_marks}
 use Rattle.one_core.specs.Sound.{Core, core_of, pieces_in, HasClosed, HasDrops, HasReaper, IsAsked, IsCore, IsSound, Requests}
@@ -37,11 +37,11 @@ use Rattle.std.proofs.Common.{true≢false}
 use Rattle.std.proofs.lemmas.Bool.{eq-eqb, eqb-true}
 use Rattle.std.proofs.lemmas.List.Elements.{All-weaker}
 use Rattle.ctl_history.specs.Past.{control_of, Past}
-use Rattle.ctl_holder.specs.declared.given.Given.{Given}
-use Rattle.ctl_holder.specs.TakingOver.{AreDistinct, AreGivenWith}
+use Rattle.ctl_plane.specs.declared.given.Given.{Given}
+use Rattle.ctl_plane.specs.TakingOver.{AreDistinct, AreGivenWith}
 use Rattle.core_others.specs.Counting.{CountsDrops}
 use Rattle.core_others.proofs.TableLemmas.{tables_go_on}
-use Rattle.past_laws.specs.Asked.{WereAsked}
+use Rattle.core_laws.specs.Asked.{WereAsked}
 use Rattle.one_core.proofs.AskedLemmas.{asked_still}
 use Rattle.ctl_plane.specs.Desk.{HasWhatTheySay}
 use Rattle.zq_world.specs.CoreCalls.{IsOnlyReaper, LooksOnce, OnlyReaps}

@@ -7,8 +7,8 @@ use Rattle.spec_pattern.specs.declared.answers.Skip.{Skip}
 use Rattle.spec_control.specs.declared.entry.Item.{Item}
 use Rattle.spec_control.specs.Control.{Control}
 use Rattle.spec_control.specs.ControlRun.{after_item}
-use Rattle.control_held.specs.Held.{caller_of}
-use Rattle.control_held.specs.Moments.{items_in, moments_from}
+use Rattle.spec_control.specs.Held.{caller_of}
+use Rattle.spec_control.specs.Moments.{items_in, moments_from}
 use Rattle.spec_run.specs.Act.{Act}
 use Rattle.script_actor.specs.Piece.{Piece, piece_of}
 use Rattle.zq_world.specs.CoreCalls.{OnlyReaps}

@@ -4,7 +4,7 @@ use Rattle.spec_control.specs.Control.{begun, next_object}
 use Rattle.spec_control.specs.ControlRun.{after_all}
 use Rattle.msg_pipe.specs.Known.{Known}
 use Rattle.spec_run.specs.OpenSocket.{OpenSock}
-use Rattle.ctl_holder.specs.declared.given.Given.{Given}
+use Rattle.ctl_plane.specs.declared.given.Given.{Given}
 use Rattle.ctl_plane.specs.Desk.{slot_after}
 use Rattle.any_sock.specs.declared.any_sock.AnySock.{AnySock}
 use Rattle.sock_core.specs.declared.sock.SockCore.{SockCore}

@@ -1,7 +1,7 @@
 -- What is so of the calls of open sockets, whichever core they are made through (own choice).
 use Rattle.std.specs.Prelude.{◌≡◌, true}
 use Rattle.msg_pipe.specs.Known.{Known}
-use Rattle.ctl_holder.specs.declared.given.Given.{Given}
+use Rattle.ctl_plane.specs.declared.given.Given.{Given}
 use Rattle.desk_laws.specs.Calling.{IsExact}
 use Rattle.core_others.specs.Rest.{OthersAgreeStill}
 use Rattle.core_others.specs.Told.{CallsAreTold}

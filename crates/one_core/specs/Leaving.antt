@@ -4,10 +4,10 @@ use Rattle.zq_base.specs.declared.ids.EndId.{EndId}
 use Rattle.spec_control.specs.Control.{begun, next_object, next_pair, place_of}
 use Rattle.spec_control.specs.ControlRun.{after_all}
 use Rattle.spec_control.specs.Names.{name_of}
-use Rattle.control_held.specs.Moments.{Moment, items_in, left_after, moments_by, moments_from}
-use Rattle.control_held.specs.OwnAsks.{known_after}
+use Rattle.spec_control.specs.Moments.{Moment, items_in, left_after, moments_by, moments_from}
+use Rattle.spec_control.specs.OwnAsks.{known_after}
 use Rattle.ctl_history.specs.Past.{control_of}
-use Rattle.ctl_holder.specs.Holding.{Holding}
+use Rattle.ctl_plane.specs.Holding.{Holding}
 use Rattle.ctl_plane.specs.Desk.{HasWhatTheySay}
 use Rattle.one_desk.specs.Lent.{Lent, coming_to}
 

@@ -1,7 +1,7 @@
 -- An open socket of a core can be lent for a call (own choice).
 use Rattle.std.specs.Prelude.{◌≡◌, ℕ, false, [], Some}
 use Rattle.msg_pipe.specs.Known.{Known}
-use Rattle.ctl_holder.specs.declared.given.Given.{Given}
+use Rattle.ctl_plane.specs.declared.given.Given.{Given}
 use Rattle.any_sock.specs.declared.any_sock.AnySock.{AnySock}
 use Rattle.sock_core.specs.declared.sock.SockCore.{SockCore}
 use Rattle.one_desk.specs.Lent.{IsOneOrder}

@@ -3,7 +3,7 @@ use Rattle.std.specs.Prelude.{◌≡◌, ℕ, true, List, []}
 use Rattle.msg_pipe.specs.Known.{Known}
 use Rattle.core_tale.specs.declared.marks.PieceMark.{PieceMark}
 use Rattle.core_tale.specs.Marks.{piece_marks}
-use Rattle.ctl_holder.specs.declared.given.Given.{Given}
+use Rattle.ctl_plane.specs.declared.given.Given.{Given}
 use Rattle.core_others.specs.Counting.{TablesGoOn}
 use Rattle.core_others.specs.Reaps.{ReapsAreTold}
 use Rattle.core_others.specs.Taken.{KeepsOnlyTaken}

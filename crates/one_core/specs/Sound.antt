@@ -11,16 +11,16 @@ use Rattle.spec_control.specs.declared.request.Reply.{Reply}
 use Rattle.spec_control.specs.Control.{begun}
 use Rattle.spec_control.specs.ControlRun.{after_all}
 use Rattle.spec_control.specs.Names.{name_of}
-use Rattle.control_held.specs.Moments.{Moment, left_by, moments_from}
+use Rattle.spec_control.specs.Moments.{Moment, left_by, moments_from}
 use Rattle.spec_run.specs.Event.{IsRequest, acts_said}
 use Rattle.script_actor.specs.Piece.{Piece, AddsActs}
 use Rattle.core_tale.specs.declared.marks.PieceMark.{PieceMark}
 use Rattle.core_tale.specs.Marks.{all_told, pieces_told}
 use Rattle.core_laws.specs.Standing.{CoreStands}
 use Rattle.one_desk.specs.Lent.{IsOneOrder, Lent}
-use Rattle.open_laws.specs.Bounds.{TellIdentities}
-use Rattle.ctl_holder.specs.declared.given.Given.{Given}
-use Rattle.ctl_holder.specs.TakingOver.{AreDistinct, AreGivenWith}
+use Rattle.core_laws.specs.Bounds.{TellIdentities}
+use Rattle.ctl_plane.specs.declared.given.Given.{Given}
+use Rattle.ctl_plane.specs.TakingOver.{AreDistinct, AreGivenWith}
 use Rattle.ctl_history.specs.Past.{control_of}
 use Rattle.ctl_plane.specs.Desk.{HasWhatTheySay}
 use Rattle.zq_world.specs.CoreCalls.{IsOnlyReaper, OnlyReaps}

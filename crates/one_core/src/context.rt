@@ -4,9 +4,8 @@ ghost use Rattle.script_actor.specs.MayAsk.{MayAskScript};
 ghost use Rattle.zq_world.specs.ByEvents.{core_event};
 ghost use Rattle.one_core.specs.Sound.{IsNewCore, pieces_in};
 
-use core_tale::PieceMark;
+use core_tale::{PieceMark, Tale};
 use held_ends::HeldPipes;
-use http_server::Log;
 use lent_sock::LentSock;
 use one_desk::OneDesk;
 use reaper_ends::{Closed, ClosedSockets};
@@ -14,7 +13,7 @@ use sock_calls::Socket;
 use spec_run::{RunActor, RunJournal};
 use std::alloc::{AllocError, Global};
 use std::marker::Model;
-use tale::Tale;
+use zq_base::Log;
 use zq_world::{Event, play_events};
 
 /// A context on one thread, with one I/O worker, and the pipes of its sockets.
@@ -34,7 +33,7 @@ pub struct OneCore<P: HeldPipes> {
 }
 
 impl<P: HeldPipes> Model for OneCore<P> {
-    ghost use Rattle.ctl_holder.specs.declared.given.Given.{Given};
+    ghost use Rattle.ctl_plane.specs.declared.given.Given.{Given};
     ghost use Rattle.one_core.specs.Sound.{Core, IsSound, core_of};
 
     ghost Value = { Core P (Given P.Name P.Out P.In) P.Name P.Story };

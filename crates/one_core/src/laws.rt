@@ -5,7 +5,7 @@ use core_others::{
     asked_stay, calls_are_told, else_behind, else_stay, others_agree_still, own_join_still,
     reapers_keep, tables_go_on,
 };
-use ctl_holder::Given;
+use ctl_plane::Given;
 use held_ends::HeldPipes;
 use msg_pipe::Pipes;
 

@@ -9,10 +9,9 @@ ghost use Rattle.one_core.specs.Calling.{IsTold, SendsAsked, TellsClose, TellsLi
 use crate::telling::{OneClose, OneLine, SomeActs, noted};
 use any_sock::AnySock;
 use core_others::asked_stay;
-use core_tale::PieceMark;
-use ctl_holder::Given;
+use core_tale::{PieceMark, Tale};
+use ctl_plane::Given;
 use held_ends::HeldPipes;
-use http_server::Log;
 use lent_sock::LentSock;
 use sock_core::SockCore;
 use spec_pattern::Skip;
@@ -20,7 +19,7 @@ use spec_run::{LineAnswer, LineCall};
 use std::alloc::{AllocError, AllocFailed, Global};
 use std::mem;
 use std::snapshot::Snapshot;
-use tale::Tale;
+use zq_base::Log;
 
 /// Makes the call of a line on the socket that is lent, and tells it.
 fn call_told<P>(

@@ -7,15 +7,14 @@ ghost use Rattle.one_core.specs.Letters.{HasLetter, TellsFetch};
 
 use crate::telling::{SomeActs, Was, noted};
 use any_sock::AnySock;
-use core_tale::PieceMark;
+use core_tale::{PieceMark, Tale, Tells};
 use held_ends::HeldPipes;
-use http_server::Log;
 use lent_sock::LentSock;
 use open_sock::take_letter;
 use sock_core::SockCore;
 use std::alloc::{AllocError, Global};
 use std::mem;
-use tale::{Tale, Tells};
+use zq_base::Log;
 
 /// A letter that was taken for a lent socket.
 #[derive(Drop)]

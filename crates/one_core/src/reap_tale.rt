@@ -6,14 +6,13 @@ ghost use Rattle.one_desk.specs.Waiting.{WaitsAt};
 ghost use Rattle.one_core.specs.Letters.{TellsReapAt};
 ghost use Rattle.one_core.specs.Reaping.{TellsReap};
 
-use core_tale::PieceMark;
+use core_tale::{PieceMark, Tale, Tells};
 use held_ends::HeldPipes;
 use one_desk::OneDesk;
 use reap_steps::{reap_at, reap_once};
 use reaper_ends::ClosedSockets;
 use std::alloc::{AllocError, Global};
 use std::snapshot::Snapshot;
-use tale::{Tale, Tells};
 use zq_base::SlotId;
 
 /// A desk, with the pipes of all sockets and the closed sockets, as they were at some time.

@@ -2,7 +2,7 @@ ghost use Rattle.std.specs.Prelude.{◌≡◌, true};
 ghost use Rattle.one_core.specs.Reaping.{ReapLaws};
 
 use core_others::{keeps_only_taken, reaps_are_told, tables_go_on};
-use ctl_holder::Given;
+use ctl_plane::Given;
 use held_ends::HeldPipes;
 use reap_steps::reaps_go_on;
 

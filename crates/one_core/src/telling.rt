@@ -2,16 +2,15 @@ ghost use Rattle.std.specs.Prelude.{◌≡◌};
 ghost use Rattle.lent_sock.specs.Owned.{parts};
 
 use any_sock::AnySock;
-use core_tale::PieceMark;
+use core_tale::{PieceMark, Tells};
 use held_ends::HeldPipes;
-use http_server::Log;
 use lent_sock::LentSock;
 use one_desk::OneDesk;
 use sock_core::SockCore;
 use spec_pattern::Skip;
 use spec_run::{LineAnswer, LineCall};
 use std::snapshot::Snapshot;
-use tale::Tells;
+use zq_base::Log;
 
 /// A call of a caller that is one item and no step at a pipe.
 #[derive(Drop)]

@@ -12,7 +12,7 @@ use Rattle.spec_control.specs.Control.{Control, id, place_of}
 use Rattle.control_laws.proofs.ListLemmas.{never}
 use Rattle.control_laws.specs.Kept.{Kept}
 use Rattle.control_laws.proofs.GuardLemmas.{ack_came_may}
-use Rattle.ctl_holder.specs.Lent.{has_writer}
+use Rattle.ctl_plane.specs.Lent.{has_writer}
 
 gave : (mine theirs : Place) → front_is_ack (waiting mine theirs) ≡ true → has_writer theirs ≡ false
 gave mine Unmade h = refl

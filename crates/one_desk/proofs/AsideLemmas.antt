@@ -27,23 +27,23 @@ use Rattle.spec_control.specs.Control.{Control, begun, is_end, link, place_of, s
 use Rattle.spec_control.specs.After.{after, answers_in, strikes, tell_struck}
 use Rattle.spec_control.specs.ControlRun.{Fits, is_between}
 use Rattle.spec_control.specs.Names.{name_in, name_of, named_in}
-use Rattle.control_held.specs.Has.{given_up, made_by}
+use Rattle.spec_control.specs.Has.{given_up, made_by}
 use Rattle.control_laws.proofs.StayLemmas.{SameEnds, ends_on, ends_stay, link_ends_stay, sockets_stopped, tried, where_told}
 use Rattle.control_laws.proofs.ListLemmas.{never, clash}
-use Rattle.ctl_holder.specs.Holding.{HearsMore, Holding, JoinsBy}
-use Rattle.ctl_holder.specs.Heard.{heard_in}
-use Rattle.ctl_holder.specs.Joins.{came_in}
-use Rattle.ctl_holder.specs.Lent.{HasAll, HasBothNames, HasEnds}
-use Rattle.ctl_holder.specs.Turns.{HasTurned, TurnsBy}
-use Rattle.ctl_ends.proofs.TurnedLemmas.{in_none}
-use Rattle.ctl_hears.specs.Processing.{IsSilent}
+use Rattle.ctl_plane.specs.Holding.{HearsMore, Holding, JoinsBy}
+use Rattle.ctl_plane.specs.Heard.{heard_in}
+use Rattle.ctl_plane.specs.Joins.{came_in}
+use Rattle.ctl_plane.specs.Lent.{HasAll, HasBothNames, HasEnds}
+use Rattle.ctl_plane.specs.Turns.{HasTurned, TurnsBy}
+use Rattle.ctl_moves.proofs.TurnedLemmas.{in_none}
+use Rattle.ctl_moves.specs.Processing.{IsSilent}
 use Rattle.ctl_plane.specs.Desk.{HasWhatTheySay, KeepsUp}
 use Rattle.ctl_plane.specs.Kinds.{kind_in}
 use Rattle.ctl_history.proofs.StillLemmas.{make_still, term_still, unbind_still}
 use Rattle.ctl_history.specs.Past.{IsPast, Past, as_item, control_of, items_of, with_event}
 use Rattle.one_desk.specs.declared.mark.Mark.{Mark}
 use Rattle.one_desk.specs.declared.mark.Mark.TheVariants.{Event, Seen}
-use Rattle.held_laws.proofs.LawLemmas.{owned_by}
+use Rattle.control_laws.proofs.LawLemmas.{owned_by}
 use Rattle.one_desk.specs.Lent.{IsLent, KeepsAside, Lent, lent_to, moments_of}
 use Rattle.one_desk.proofs.TellLemmas.{none_more, same_one}
 use Rattle.one_desk.proofs.FitLemmas.{last_fits}

@@ -15,12 +15,12 @@ use Rattle.spec_control.specs.declared.request.Reply.TheVariants.{Done as IsDone
 use Rattle.spec_control.specs.Control.{begun}
 use Rattle.spec_control.specs.ControlRun.{after_all}
 use Rattle.spec_control.specs.Names.{name_in, name_of, named_in}
-use Rattle.control_held.specs.Held.{caller_of}
-use Rattle.control_held.specs.Moments.{moments_by, moments_from}
+use Rattle.spec_control.specs.Held.{caller_of}
+use Rattle.spec_control.specs.Moments.{moments_by, moments_from}
 use Rattle.control_laws.proofs.ListLemmas.{never}
 use Rattle.msg_pipe.specs.Known.{Known}
-use Rattle.ctl_holder.specs.declared.given.Given.{Given}
-use Rattle.ctl_holder.specs.Holding.{Holding}
+use Rattle.ctl_plane.specs.declared.given.Given.{Given}
+use Rattle.ctl_plane.specs.Holding.{Holding}
 use Rattle.ctl_plane.specs.Coming.{KeepsNames, SendsEnds, is_close}
 use Rattle.ctl_plane.specs.Desk.{AsksOnce}
 use Rattle.ctl_history.specs.Past.{Past}

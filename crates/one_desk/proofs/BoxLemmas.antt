@@ -21,8 +21,8 @@ use Rattle.spec_control.specs.ControlRun.{Fits}
 use Rattle.control_laws.proofs.StepLemmas.{some_object}
 use Rattle.control_laws.specs.Kept.{Kept}
 use Rattle.control_laws.specs.OwnMoves.{own_moves}
-use Rattle.held_laws.proofs.RowLemmas.{event_count, makes_object}
-use Rattle.held_laws.proofs.SlotLemmas.{event_slot, event_slots}
+use Rattle.control_laws.proofs.HeldRowLemmas.{event_count, makes_object}
+use Rattle.control_laws.proofs.SlotLemmas.{event_slot, event_slots}
 use Rattle.one_desk.specs.Lent.{HaveOwnBoxes}
 
 pub boxes_begin : (workers : ℕ) → 1 ≤ workers → HaveOwnBoxes workers (begun workers)

@@ -12,15 +12,15 @@ use Rattle.spec_control.specs.declared.request.Reply.TheVariants.{Done}
 use Rattle.spec_control.specs.Control.{Control, begun}
 use Rattle.spec_control.specs.ControlRun.{after_all}
 use Rattle.spec_control.specs.Names.{AreNamed}
-use Rattle.control_held.specs.Has.{IsBy}
+use Rattle.spec_control.specs.Has.{IsBy}
 use Rattle.control_laws.specs.OwnMoves.{own_moves}
 use Rattle.control_laws.proofs.ListLemmas.{never}
-use Rattle.ctl_holder.specs.declared.given.Given.{Given}
-use Rattle.ctl_holder.specs.Holding.{HasGiven, Holding}
+use Rattle.ctl_plane.specs.declared.given.Given.{Given}
+use Rattle.ctl_plane.specs.Holding.{HasGiven, Holding}
 use Rattle.msg_pipe.specs.Known.{Known}
 use Rattle.ctl_history.specs.Closing.{Closes}
 use Rattle.ctl_history.specs.Past.{Past, control_of, items_of, with_event, with_given, IsPast}
-use Rattle.held_laws.proofs.RowLemmas.{makes_object}
+use Rattle.control_laws.proofs.HeldRowLemmas.{makes_object}
 use Rattle.one_desk.specs.declared.mark.Mark.{Mark}
 use Rattle.one_desk.specs.declared.mark.Mark.TheVariants.{Event}
 use Rattle.one_desk.specs.Order.{order_of, AreMarked}

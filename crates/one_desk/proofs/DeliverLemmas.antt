@@ -25,9 +25,9 @@ use Rattle.spec_control.specs.Rows.{obj}
 use Rattle.spec_control.specs.Control.{Control, begun, id, is_end, next_object, owner_of, place_of}
 use Rattle.spec_control.specs.ControlRun.{after_all, is_between}
 use Rattle.spec_control.specs.Names.{AreNamed, name_in, name_of}
-use Rattle.control_held.specs.Held.{Held, items_by}
-use Rattle.control_held.specs.Has.{IsBy, acts_at_word, has_after, taken_by_word, unless_root}
-use Rattle.control_held.specs.Moments.{items_in, left_after}
+use Rattle.spec_control.specs.Held.{Held, items_by}
+use Rattle.spec_control.specs.Has.{IsBy, acts_at_word, has_after, taken_by_word, unless_root}
+use Rattle.spec_control.specs.Moments.{items_in, left_after}
 use Rattle.control_laws.proofs.ListLemmas.{never, left, right, placed}
 use Rattle.control_laws.proofs.QuietLemmas.{socket_owner}
 use Rattle.control_laws.proofs.StepLemmas.{inv_of}
@@ -38,24 +38,24 @@ use Rattle.control_laws.proofs.RootLemmas.{begun_kept, oldest_lives}
 use Rattle.control_laws.proofs.TellLemmas.{rows_of}
 use Rattle.control_laws.specs.OwnMoves.{word_moves}
 use Rattle.control_laws.proofs.GuardLemmas.{may_come}
-use Rattle.ctl_holder.specs.declared.given.Given.{Given}
-use Rattle.ctl_holder.specs.declared.halves.Halves.{Halves}
-use Rattle.ctl_holder.specs.Holding.{Holding, has_end}
-use Rattle.ctl_holder.specs.Lent.{has_writer}
-use Rattle.ctl_holder.specs.Load.{brings_ends}
-use Rattle.ctl_holder.specs.Turns.{HasTurned}
-use Rattle.ctl_hears.specs.Attaching.{KindFits}
+use Rattle.ctl_plane.specs.declared.given.Given.{Given}
+use Rattle.ctl_plane.specs.declared.halves.Halves.{Halves}
+use Rattle.ctl_plane.specs.Holding.{Holding, has_end}
+use Rattle.ctl_plane.specs.Lent.{has_writer}
+use Rattle.ctl_plane.specs.Load.{brings_ends}
+use Rattle.ctl_plane.specs.Turns.{HasTurned}
+use Rattle.ctl_moves.specs.Attaching.{KindFits}
 use Rattle.ctl_plane.specs.Coming.{AreDistinct, BindsFit}
 use Rattle.ctl_plane.specs.Desk.{HasWhatTheySay, IsItsMailbox, KeepsUp}
 use Rattle.ctl_plane.specs.Kinds.{kind_after}
 use Rattle.ctl_history.specs.Coming.{ComesWith}
 use Rattle.ctl_history.specs.Hearing.{AreApart, AreOfKind, FitBinds, HasWhat, IsServed, NotesDelimiter, TakesOldest}
 use Rattle.ctl_history.specs.Past.{IsPast, Past, control_of, items_of, only_given, with_event}
-use Rattle.held_laws.proofs.MomentLemmas.{own_moments}
-use Rattle.held_laws.proofs.OpenLemmas.{sockets_are_open}
-use Rattle.held_laws.proofs.RowLemmas.{makes_object}
-use Rattle.held_laws.proofs.SlotLemmas.{slot_left}
-use Rattle.held_laws.proofs.ThereLemmas.{had_objects_are_there}
+use Rattle.control_laws.proofs.MomentLemmas.{own_moments}
+use Rattle.control_laws.proofs.HeldOpenLemmas.{sockets_are_open}
+use Rattle.control_laws.proofs.HeldRowLemmas.{makes_object}
+use Rattle.control_laws.proofs.SlotLemmas.{slot_left}
+use Rattle.control_laws.proofs.ThereLemmas.{had_objects_are_there}
 use Rattle.one_desk.specs.declared.mark.Mark.{Mark}
 use Rattle.one_desk.specs.declared.mark.Mark.TheVariants.{Event}
 use Rattle.one_desk.specs.Order.{order_of, AreMarked}

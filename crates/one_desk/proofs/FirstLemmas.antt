@@ -14,16 +14,16 @@ use Rattle.spec_control.specs.Row.{Row, nobody}
 use Rattle.spec_control.specs.Rows.{is_owner, obj}
 use Rattle.spec_control.specs.Control.{Control, begun, next_object}
 use Rattle.spec_control.specs.ControlRun.{AreEmpty, after_all}
-use Rattle.control_held.specs.Has.{has_after}
-use Rattle.control_held.specs.Moments.{first_waiting}
-use Rattle.control_held.specs.OwnAsks.{is_none}
+use Rattle.spec_control.specs.Has.{has_after}
+use Rattle.spec_control.specs.Moments.{first_waiting}
+use Rattle.spec_control.specs.OwnAsks.{is_none}
 use Rattle.control_laws.proofs.ListLemmas.{left, never, placed, right}
 use Rattle.control_laws.specs.Kept.{Kept}
 use Rattle.control_laws.proofs.RootLemmas.{oldest_lives}
 use Rattle.ctl_state.specs.Listed.{Listed}
 use Rattle.ctl_history.specs.Past.{Past, control_of}
-use Rattle.held_laws.specs.Closed.{lives, waits}
-use Rattle.held_laws.proofs.ReapLemmas.{all_empty, find_within, found_stands, root_waits, socket_waits}
+use Rattle.control_laws.specs.Closed.{lives, waits}
+use Rattle.control_laws.proofs.ReapLemmas.{all_empty, find_within, found_stands, root_waits, socket_waits}
 use Rattle.one_desk.specs.declared.mark.Mark.{Mark}
 use Rattle.one_desk.specs.Lent.{HaveOwnBoxes, IsLent, Lent, lent_to}
 use Rattle.one_desk.specs.Order.{order_of}

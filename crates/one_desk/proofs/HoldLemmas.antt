@@ -24,11 +24,11 @@ use Rattle.spec_control.specs.Control.{Control, begun, owner_of, place_of}
 use Rattle.spec_control.specs.After.{after, kind_of}
 use Rattle.spec_control.specs.ControlRun.{Fits, IsControlRun, IsOpenSocket, after_all, is_between}
 use Rattle.spec_control.specs.Names.{name_in, name_of}
-use Rattle.control_held.specs.Held.{caller_of, items_by}
-use Rattle.control_held.specs.Has.{given_up, has_after, has_over, has_then, taken_by_word, taken_in}
-use Rattle.control_held.specs.OwnAsks.{known_after}
-use Rattle.control_held.specs.Moments.{Moment, items_in, left_after, left_by, moments_by, moments_from}
-use Rattle.control_held.proofs.OwnLemmas.{own_has}
+use Rattle.spec_control.specs.Held.{caller_of, items_by}
+use Rattle.spec_control.specs.Has.{given_up, has_after, has_over, has_then, taken_by_word, taken_in}
+use Rattle.spec_control.specs.OwnAsks.{known_after}
+use Rattle.spec_control.specs.Moments.{Moment, items_in, left_after, left_by, moments_by, moments_from}
+use Rattle.spec_control.proofs.OwnLemmas.{own_has}
 use Rattle.control_laws.proofs.ListLemmas.{never, left, right}
 use Rattle.control_laws.proofs.QuietLemmas.{socket_owner}
 use Rattle.control_laws.proofs.StepLemmas.{inv_of}
@@ -38,35 +38,35 @@ use Rattle.control_laws.proofs.RootLemmas.{begun_kept}
 use Rattle.control_laws.proofs.TellLemmas.{rows_of}
 use Rattle.control_laws.specs.OwnMoves.{own_moves}
 use Rattle.control_laws.specs.Spared.{Known}
-use Rattle.ctl_holder.specs.Holding.{HearsMore, Holding, JoinsBy, has_end}
-use Rattle.ctl_holder.specs.Joins.{IsReaped, KeepsObjects}
-use Rattle.ctl_holder.specs.Lent.{HasAll}
-use Rattle.ctl_holder.specs.Turns.{HasTurned, TurnsBy, turned_in}
-use Rattle.ctl_ends.proofs.TurnedLemmas.{in_none}
+use Rattle.ctl_plane.specs.Holding.{HearsMore, Holding, JoinsBy, has_end}
+use Rattle.ctl_plane.specs.Joins.{IsReaped, KeepsObjects}
+use Rattle.ctl_plane.specs.Lent.{HasAll}
+use Rattle.ctl_plane.specs.Turns.{HasTurned, TurnsBy, turned_in}
+use Rattle.ctl_moves.proofs.TurnedLemmas.{in_none}
 use Rattle.ctl_plane.specs.Desk.{heard_with, HasWhatTheySay, KeepsUp, came_with}
 use Rattle.ctl_plane.specs.Kinds.{kind_after, kind_in, kind_over}
 use Rattle.ctl_history.specs.Coming.{ComesWith}
 use Rattle.ctl_history.specs.Hearing.{HasWhat}
 use Rattle.ctl_history.specs.Joining.{IsOfSame, Lends}
 use Rattle.ctl_history.specs.Past.{IsPast, Past, as_item, control_of, items_of}
-use Rattle.held_laws.proofs.BetweenLemmas.{between_on, reap_comes}
-use Rattle.held_laws.proofs.EventLemmas.{asked_reaps, reaps, word_reaps}
-use Rattle.held_laws.proofs.HaveLemmas.{lent_holders_have_it}
-use Rattle.held_laws.proofs.LawLemmas.{made_none, open_not, owns}
-use Rattle.held_laws.proofs.MomentLemmas.{own_moments}
-use Rattle.held_laws.proofs.NobodyLemmas.{nobody_over}
-use Rattle.held_laws.proofs.OthersLemmas.{IsIts, among, its_here}
-use Rattle.held_laws.proofs.StepLemmas.{known_after as known_now}
-use Rattle.held_laws.proofs.SayLemmas.{holders_have_what_is_said}
-use Rattle.held_laws.proofs.OpenLemmas.{sockets_are_open}
+use Rattle.control_laws.proofs.BetweenLemmas.{between_on, reap_comes}
+use Rattle.control_laws.proofs.HeldEventLemmas.{asked_reaps, reaps, word_reaps}
+use Rattle.control_laws.proofs.HaveLemmas.{lent_holders_have_it}
+use Rattle.control_laws.proofs.LawLemmas.{made_none, open_not, owns}
+use Rattle.control_laws.proofs.MomentLemmas.{own_moments}
+use Rattle.control_laws.proofs.NobodyLemmas.{nobody_over}
+use Rattle.control_laws.proofs.HeldOthersLemmas.{IsIts, among, its_here}
+use Rattle.control_laws.proofs.HeldStepLemmas.{known_after as known_now}
+use Rattle.control_laws.proofs.SayLemmas.{holders_have_what_is_said}
+use Rattle.control_laws.proofs.HeldOpenLemmas.{sockets_are_open}
 use Rattle.one_desk.specs.declared.mark.Mark.{Mark}
 use Rattle.one_desk.specs.declared.mark.Mark.TheVariants.{Event, Seen}
 use Rattle.one_desk.specs.Order.{order_of}
 use Rattle.one_desk.specs.Lent.{lent_to, moments_of, IsLent, Lent}
 use Rattle.one_desk.proofs.FitLemmas.{last_fits, order_names}
 use Rattle.one_desk.proofs.LentLemmas.{control_is, control_next, kept_of, opens}
-use Rattle.ctl_holder.specs.Heard.{heard_in}
-use Rattle.ctl_holder.specs.declared.notice.Notice.{Notice}
+use Rattle.ctl_plane.specs.Heard.{heard_in}
+use Rattle.ctl_plane.specs.declared.notice.Notice.{Notice}
 use Rattle.one_desk.proofs.OrderLemmas.{event_more, look_more, own_more}
 
 none_more : {X : Type 0} {x : X} {xs : List X} → [] ≡ x ∷ xs → ⊥

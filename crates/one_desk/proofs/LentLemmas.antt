@@ -13,17 +13,17 @@ use Rattle.control_laws.specs.Kept.{Kept}
 use Rattle.control_laws.proofs.RootLemmas.{begun_kept}
 use Rattle.control_laws.proofs.RunLemmas.{run_kept}
 use Rattle.control_laws.specs.OwnMoves.{own_moves}
-use Rattle.control_held.specs.Held.{items_by}
-use Rattle.control_held.specs.OwnAsks.{known_after}
-use Rattle.control_held.specs.Moments.{items_in}
+use Rattle.spec_control.specs.Held.{items_by}
+use Rattle.spec_control.specs.OwnAsks.{known_after}
+use Rattle.spec_control.specs.Moments.{items_in}
 use Rattle.ctl_plane.specs.Kinds.{kind_after}
 use Rattle.ctl_history.specs.Joining.{AllMarked}
-use Rattle.held_laws.proofs.MomentLemmas.{own_moments}
-use Rattle.held_laws.specs.SocketLaws.{HasOpen}
-use Rattle.held_laws.proofs.KnownLemmas.{known_sockets_have_kinds}
-use Rattle.held_laws.proofs.OpenLemmas.{made_new, sockets_are_open}
-use Rattle.held_laws.proofs.ThereLemmas.{had_objects_are_there}
-use Rattle.held_laws.proofs.RowLemmas.{event_count, makes_object}
+use Rattle.control_laws.proofs.MomentLemmas.{own_moments}
+use Rattle.control_laws.specs.SocketLaws.{HasOpen}
+use Rattle.control_laws.proofs.KnownLemmas.{known_sockets_have_kinds}
+use Rattle.control_laws.proofs.HeldOpenLemmas.{made_new, sockets_are_open}
+use Rattle.control_laws.proofs.ThereLemmas.{had_objects_are_there}
+use Rattle.control_laws.proofs.HeldRowLemmas.{event_count, makes_object}
 use Rattle.spec_control.specs.declared.entry.Answered.{Answered}
 use Rattle.spec_control.specs.declared.entry.Did.{Did}
 use Rattle.spec_control.specs.declared.entry.Did.TheVariants.{Asked}
@@ -36,7 +36,7 @@ use Rattle.spec_control.specs.declared.request.Reply.TheVariants.{Done, Object, 
 use Rattle.spec_control.specs.Control.{Control, begun, next_object}
 use Rattle.spec_control.specs.ControlRun.{after_all}
 use Rattle.spec_control.specs.Names.{AreNamed}
-use Rattle.control_held.specs.Has.{IsBy, acts_in, has_after, made_by, taken_in}
+use Rattle.spec_control.specs.Has.{IsBy, acts_in, has_after, made_by, taken_in}
 use Rattle.ctl_history.specs.Past.{as_item, control_of, items_of, with_event, IsPast, Past}
 use Rattle.one_desk.specs.declared.mark.Mark.{Mark}
 use Rattle.one_desk.specs.declared.mark.Mark.TheVariants.{Event, Seen}

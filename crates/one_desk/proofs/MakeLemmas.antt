@@ -26,7 +26,7 @@ use Rattle.control_laws.specs.OwnMoves.{own_moves, connect_moves, fulfil_moves}
 use Rattle.control_laws.proofs.SoundLemmas.{socket_there}
 use Rattle.ctl_joins.specs.Papers.{HasMarks}
 use Rattle.ctl_history.specs.Joining.{AllMarked}
-use Rattle.held_laws.proofs.RowLemmas.{KeepsMaking, event_count, event_keeps, makes_object}
+use Rattle.control_laws.proofs.HeldRowLemmas.{KeepsMaking, event_count, event_keeps, makes_object}
 use Rattle.ctl_plane.specs.Asking.{MayHave}
 
 -- ---- requests that make none

@@ -5,7 +5,7 @@ use Rattle.spec_control.specs.declared.letter.Letter.{Letter}
 use Rattle.spec_control.specs.declared.letter.Word.{Word}
 use Rattle.spec_control.specs.declared.letter.Word.TheVariants.{Own, Plug, TermReq, Term, TermAck, PipeBind, PipeTerm, PipeTermAck, Stop, Reap}
 use Rattle.spec_control.specs.Control.{Control}
-use Rattle.ctl_hears.specs.Attaching.{binds_end}
+use Rattle.ctl_moves.specs.Attaching.{binds_end}
 use Rattle.ctl_plane.specs.Memory.{NoBindWaits}
 
 -- what is so of an empty mailbox, and where a command waits that binds no end

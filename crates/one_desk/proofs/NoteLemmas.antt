@@ -8,13 +8,13 @@ use Rattle.spec_control.specs.declared.letter.Letter.{Letter}
 use Rattle.spec_control.specs.Rows.{obj}
 use Rattle.spec_control.specs.Stage.{is_used}
 use Rattle.spec_control.specs.Control.{Control, next_object}
-use Rattle.control_held.specs.OwnAsks.{is_none}
+use Rattle.spec_control.specs.OwnAsks.{is_none}
 use Rattle.std.specs.Int.{bit_at}
 use Rattle.ctl_state.specs.Bits.{bit_in, some_bit}
 use Rattle.ctl_state.proofs.BitLemmas.{past_words}
 use Rattle.ctl_state.proofs.ReadLemmas.{pushed_same}
-use Rattle.held_laws.specs.Closed.{waits}
-use Rattle.held_laws.proofs.ReapLemmas.{find_at, find_past}
+use Rattle.control_laws.specs.Closed.{waits}
+use Rattle.control_laws.proofs.ReapLemmas.{find_at, find_past}
 use Rattle.one_desk.specs.declared.notes.Notes.{Notes}
 use Rattle.one_desk.specs.Lent.{HaveOwnBoxes}
 use Rattle.one_desk.specs.Notes.{object_at, place_of, AreFollowed, AreNoted, KeepsNotes, MayNote, Noted}

@@ -12,9 +12,9 @@ use Rattle.spec_control.specs.Control.{Control, begun}
 use Rattle.spec_control.specs.After.{after}
 use Rattle.spec_control.specs.ControlRun.{after_all, after_item, FitsItem, IsControlRun}
 use Rattle.spec_control.specs.Names.{AreNamed, FitsNames}
-use Rattle.control_held.specs.Held.{caller_of}
-use Rattle.control_held.specs.Has.{AreBy, IsByItem}
-use Rattle.control_held.specs.Moments.{Moment, moments_by, moments_from}
+use Rattle.spec_control.specs.Held.{caller_of}
+use Rattle.spec_control.specs.Has.{AreBy, IsByItem}
+use Rattle.spec_control.specs.Moments.{Moment, moments_by, moments_from}
 use Rattle.one_desk.specs.declared.mark.Mark.{Mark}
 use Rattle.one_desk.specs.declared.mark.Mark.TheVariants.{Event, Seen}
 use Rattle.one_desk.specs.Order.{order_of, AreMarked, FitsOrder, IsOrder, events_in}

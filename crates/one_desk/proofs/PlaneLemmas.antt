@@ -18,8 +18,8 @@ use Rattle.control_laws.proofs.ListLemmas.{never}
 use Rattle.ctl_plane.specs.declared.delivery.Delivery.{Delivery}
 use Rattle.ctl_plane.specs.declared.delivery.Delivery.TheVariants.{Done, Empty}
 use Rattle.msg_pipe.specs.Known.{Known}
-use Rattle.ctl_holder.specs.declared.given.Given.{Given}
-use Rattle.ctl_holder.specs.Holding.{Holding}
+use Rattle.ctl_plane.specs.declared.given.Given.{Given}
+use Rattle.ctl_plane.specs.Holding.{Holding}
 use Rattle.ctl_plane.specs.Coming.{KeepsNames, SendsEnds, TakesEnds, is_close}
 use Rattle.ctl_plane.specs.Desk.{AsksOnce, DelimitsOrNot, GivesOrNot, Looks, LooksOrNot, ReapsOrNot}
 use Rattle.ctl_history.specs.Past.{Past, control_of, only_given, with_event}

@@ -29,17 +29,17 @@ use Rattle.control_laws.proofs.ListLemmas.{never}
 use Rattle.control_laws.specs.Kept.{Kept}
 use Rattle.control_laws.specs.OwnMoves.{own_moves}
 use Rattle.control_laws.proofs.SoundLemmas.{socket_there}
-use Rattle.ctl_holder.specs.Holding.{Holding}
+use Rattle.ctl_plane.specs.Holding.{Holding}
 use Rattle.ctl_plane.specs.Desk.{HasWhatTheySay, IsItsMailbox}
 use Rattle.ctl_state.specs.Listed.{Listed, with_last, with_room, without_room}
 use Rattle.ctl_history.specs.Past.{IsPast, Past, as_item, control_of, with_event}
-use Rattle.held_laws.proofs.BetweenLemmas.{asks_over}
-use Rattle.held_laws.specs.Closed.{is_unclosed, lives}
-use Rattle.held_laws.proofs.ReapLemmas.{closed_one, event_lives, event_unclosed, lives_on, made_one, some_unclosed}
-use Rattle.held_laws.proofs.RowLemmas.{event_count, makes_object}
-use Rattle.held_laws.proofs.EventLemmas.{closes, word_closes}
-use Rattle.held_laws.proofs.ClosedLemmas.{asked_none}
-use Rattle.held_laws.proofs.SlotLemmas.{close_of, closed_in, event_closed}
+use Rattle.control_laws.proofs.BetweenLemmas.{asks_over}
+use Rattle.control_laws.specs.Closed.{is_unclosed, lives}
+use Rattle.control_laws.proofs.ReapLemmas.{closed_one, event_lives, event_unclosed, lives_on, made_one, some_unclosed}
+use Rattle.control_laws.proofs.HeldRowLemmas.{event_count, makes_object}
+use Rattle.control_laws.proofs.HeldEventLemmas.{closes, word_closes}
+use Rattle.control_laws.proofs.HeldClosedLemmas.{asked_none}
+use Rattle.control_laws.proofs.SlotLemmas.{close_of, closed_in, event_closed}
 use Rattle.one_desk.specs.declared.mark.Mark.{Mark}
 use Rattle.one_desk.specs.Lent.{IsLent, Lent, made_at_most, moments_of}
 use Rattle.one_desk.specs.Reaping.{IsOfClosed, IsReaping, served_by}

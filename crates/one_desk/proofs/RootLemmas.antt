@@ -19,21 +19,21 @@ use Rattle.spec_control.specs.Rows.{obj}
 use Rattle.spec_control.specs.Control.{Control, begun, next_object}
 use Rattle.spec_control.specs.ControlRun.{after_all, is_between}
 use Rattle.spec_control.specs.Names.{AreNamed, name_of}
-use Rattle.control_held.specs.Has.{IsBy, acts_at_word, has_after, taken_by_word}
+use Rattle.spec_control.specs.Has.{IsBy, acts_at_word, has_after, taken_by_word}
 use Rattle.control_laws.proofs.ListLemmas.{left, never, placed, right}
 use Rattle.control_laws.specs.Kept.{Kept}
 use Rattle.control_laws.proofs.RootLemmas.{begun_kept, oldest_lives}
 use Rattle.control_laws.proofs.GuardLemmas.{may_come}
-use Rattle.ctl_holder.specs.declared.given.Given.{Given}
-use Rattle.ctl_holder.specs.Holding.{Holding}
-use Rattle.ctl_holder.specs.Turns.{HasTurned}
-use Rattle.ctl_hears.specs.Processing.{AreFree}
+use Rattle.ctl_plane.specs.declared.given.Given.{Given}
+use Rattle.ctl_plane.specs.Holding.{Holding}
+use Rattle.ctl_plane.specs.Turns.{HasTurned}
+use Rattle.ctl_moves.specs.Processing.{AreFree}
 use Rattle.ctl_plane.specs.Coming.{AreDistinct, TakesEnds}
 use Rattle.ctl_plane.specs.Desk.{HasWhatTheySay, KeepsUp}
 use Rattle.ctl_history.specs.Coming.{ComesWith}
 use Rattle.ctl_history.specs.Hearing.{HasWhat, IsServed, TakesOldest}
 use Rattle.ctl_history.specs.Past.{IsPast, Past, control_of, items_of, with_event}
-use Rattle.held_laws.proofs.NobodyLemmas.{nobody_over}
+use Rattle.control_laws.proofs.NobodyLemmas.{nobody_over}
 use Rattle.one_desk.specs.declared.mark.Mark.{Mark}
 use Rattle.one_desk.specs.declared.mark.Mark.TheVariants.{Event}
 use Rattle.one_desk.specs.Order.{order_of}

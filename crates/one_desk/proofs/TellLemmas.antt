@@ -12,10 +12,10 @@ use Rattle.spec_control.specs.declared.entry.SeenEmpty.TheVariants.{Mailbox}
 use Rattle.spec_control.specs.declared.entry.Sight.{Sight}
 use Rattle.spec_control.specs.Control.{begun}
 use Rattle.spec_control.specs.ControlRun.{after_all}
-use Rattle.control_held.specs.Held.{caller_of}
-use Rattle.control_held.specs.Moments.{Moment, moments_by, moments_from}
-use Rattle.ctl_holder.specs.Bringing.{BringsIn}
-use Rattle.ctl_holder.specs.declared.given.Given.{Given}
+use Rattle.spec_control.specs.Held.{caller_of}
+use Rattle.spec_control.specs.Moments.{Moment, moments_by, moments_from}
+use Rattle.ctl_plane.specs.Bringing.{BringsIn}
+use Rattle.ctl_plane.specs.declared.given.Given.{Given}
 use Rattle.ctl_history.specs.Hearing.{TakesOldest}
 use Rattle.ctl_history.specs.Past.{Past}
 use Rattle.one_desk.specs.Lent.{Lent, Hears, Sees, SeesNone, moments_of}

@@ -11,18 +11,18 @@ use Rattle.spec_control.specs.Stage.{has_ended, is_used}
 use Rattle.spec_control.specs.Row.{Row, nobody}
 use Rattle.spec_control.specs.Rows.{is_owner, obj}
 use Rattle.spec_control.specs.Control.{Control, begun, id, next_object}
-use Rattle.control_held.specs.Has.{has_after}
-use Rattle.control_held.specs.Moments.{first_waiting, items_in, left_after, reaper_slots}
-use Rattle.control_held.specs.OwnAsks.{is_none}
+use Rattle.spec_control.specs.Has.{has_after}
+use Rattle.spec_control.specs.Moments.{first_waiting, items_in, left_after, reaper_slots}
+use Rattle.spec_control.specs.OwnAsks.{is_none}
 use Rattle.control_laws.proofs.ListLemmas.{never, placed}
 use Rattle.control_laws.specs.Kept.{Kept}
 use Rattle.control_laws.proofs.RootLemmas.{begun_kept, oldest_lives}
 use Rattle.control_laws.proofs.RunLemmas.{run_kept}
 use Rattle.ctl_history.specs.Past.{control_of}
-use Rattle.held_laws.proofs.MomentLemmas.{own_moments}
-use Rattle.held_laws.specs.Closed.{lives}
-use Rattle.held_laws.proofs.ReapLemmas.{found_stands}
-use Rattle.held_laws.proofs.SlotLemmas.{slot_left}
+use Rattle.control_laws.proofs.MomentLemmas.{own_moments}
+use Rattle.control_laws.specs.Closed.{lives}
+use Rattle.control_laws.proofs.ReapLemmas.{found_stands}
+use Rattle.control_laws.proofs.SlotLemmas.{slot_left}
 use Rattle.one_desk.specs.Lent.{HaveOwnBoxes, IsOneOrder, Lent, moments_of}
 use Rattle.one_desk.specs.Reaping.{HearsFirst, IsOfClosed, WaitsFirst}
 use Rattle.one_desk.specs.Waiting.{HearsAt, WaitsAt}

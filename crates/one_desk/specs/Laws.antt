@@ -5,8 +5,8 @@ use Rattle.spec_control.specs.declared.entry.Item.{Item}
 use Rattle.spec_control.specs.declared.entry.Item.TheVariants.{Event as IsEvent, Seen as IsSeen}
 use Rattle.spec_control.specs.declared.entry.Sight.{Sight}
 use Rattle.spec_control.specs.Control.{Control, begun}
-use Rattle.control_held.specs.Held.{caller_of}
-use Rattle.control_held.specs.Moments.{moments_by, moments_from}
+use Rattle.spec_control.specs.Held.{caller_of}
+use Rattle.spec_control.specs.Moments.{moments_by, moments_from}
 use Rattle.spec_control.specs.ControlRun.{after_all, Fits, IsControlRun}
 use Rattle.spec_control.specs.Names.{AreNamed, FitsNames}
 use Rattle.one_desk.specs.declared.mark.Mark.{Mark}

@@ -21,13 +21,13 @@ use Rattle.spec_control.specs.declared.request.Reply.TheVariants.{Done as IsDone
 use Rattle.spec_control.specs.Place.{is_away, looks}
 use Rattle.spec_control.specs.Rows.{obj}
 use Rattle.spec_control.specs.Control.{Control, begun, next_object, owner_of, place_of}
-use Rattle.control_held.specs.Held.{caller_of}
-use Rattle.control_held.specs.OwnAsks.{known_after}
-use Rattle.control_held.specs.Moments.{Moment, items_in, moments_by, moments_from}
-use Rattle.ctl_holder.specs.declared.given.Given.{Given}
+use Rattle.spec_control.specs.Held.{caller_of}
+use Rattle.spec_control.specs.OwnAsks.{known_after}
+use Rattle.spec_control.specs.Moments.{Moment, items_in, moments_by, moments_from}
+use Rattle.ctl_plane.specs.declared.given.Given.{Given}
 use Rattle.msg_pipe.specs.Known.{Known}
-use Rattle.ctl_holder.specs.Holding.{AllSealed, Holding, held_given}
-use Rattle.ctl_holder.specs.TakingOver.{AreGivenWith}
+use Rattle.ctl_plane.specs.Holding.{AllSealed, Holding, held_given}
+use Rattle.ctl_plane.specs.TakingOver.{AreGivenWith}
 use Rattle.ctl_plane.specs.Desk.{HasWhatTheySay, KeepsUp}
 use Rattle.ctl_history.specs.Joining.{AllMarked}
 use Rattle.ctl_history.specs.Past.{Past, control_of, with_event, with_given}

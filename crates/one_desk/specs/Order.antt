@@ -6,7 +6,7 @@ use Rattle.spec_control.specs.declared.entry.Item.TheVariants.{Event as IsEvent,
 use Rattle.spec_control.specs.Control.{begun}
 use Rattle.spec_control.specs.ControlRun.{after_all, FitsItem, IsControlRun}
 use Rattle.spec_control.specs.Names.{AreNamed, FitsNames}
-use Rattle.control_held.specs.Has.{AreBy, IsByItem}
+use Rattle.spec_control.specs.Has.{AreBy, IsByItem}
 use Rattle.one_desk.specs.declared.mark.Mark.{Mark}
 use Rattle.one_desk.specs.declared.mark.Mark.TheVariants.{Event, Seen}
 

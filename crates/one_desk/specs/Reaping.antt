@@ -12,13 +12,13 @@ use Rattle.spec_control.specs.Stage.{is_used}
 use Rattle.spec_control.specs.Rows.{is_owner, obj}
 use Rattle.spec_control.specs.Control.{Control, begun, id, next_object}
 use Rattle.spec_control.specs.ControlRun.{AreEmpty, after_all}
-use Rattle.control_held.specs.Has.{has_after}
-use Rattle.control_held.specs.Moments.{first_waiting, items_in, left_after}
+use Rattle.spec_control.specs.Has.{has_after}
+use Rattle.spec_control.specs.Moments.{first_waiting, items_in, left_after}
 use Rattle.ctl_plane.specs.declared.delivery.Delivery.{Delivery}
 use Rattle.ctl_plane.specs.declared.delivery.Delivery.TheVariants.{Done, Empty}
 use Rattle.ctl_state.specs.Listed.{Listed}
 use Rattle.ctl_history.specs.Past.{control_of, only_given, with_event}
-use Rattle.held_laws.specs.Closed.{lives, unclosed}
+use Rattle.control_laws.specs.Closed.{lives, unclosed}
 use Rattle.one_desk.specs.Lent.{Lent, Sees, moments_of}
 
 -- they are the closed sockets, but for such that have ended, in the order of their closing, with room for those that may still be closed

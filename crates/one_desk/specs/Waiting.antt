@@ -2,7 +2,7 @@
 use Rattle.std.specs.Prelude.{◌≡◌, ◌≢◌, ◌==◌, ℕ, true, []}
 use Rattle.std.specs.List.{list_any}
 use Rattle.zq_base.specs.declared.ids.SlotId.{SlotId}
-use Rattle.control_held.specs.Moments.{reaper_slots}
+use Rattle.spec_control.specs.Moments.{reaper_slots}
 use Rattle.ctl_history.specs.Past.{control_of}
 use Rattle.one_desk.specs.Lent.{Lent}
 use Rattle.one_desk.specs.Reaping.{HearsFrom}

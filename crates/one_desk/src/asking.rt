@@ -2,18 +2,18 @@ ghost use Rattle.std.specs.Prelude.{◌≡◌, [], ℕ, true, false, Some, IfOk,
 ghost use Rattle.spec_control.specs.declared.request.Req.TheVariants.{AskTerm, Bind, Connect};
 ghost use Rattle.spec_control.specs.Names.{name_of};
 ghost use Rattle.spec_control.specs.Reply.{root_asked};
-ghost use Rattle.control_held.specs.Held.{asker};
-ghost use Rattle.control_held.specs.OwnAsks.{MayAskOwn};
-ghost use Rattle.control_held.specs.Moments.{items_in};
+ghost use Rattle.spec_control.specs.Held.{asker};
+ghost use Rattle.spec_control.specs.OwnAsks.{MayAskOwn};
+ghost use Rattle.spec_control.specs.Moments.{items_in};
 ghost use Rattle.ctl_history.specs.Past.{control_of};
-ghost use Rattle.ctl_holder.specs.Making.{MakesSo};
+ghost use Rattle.ctl_plane.specs.Making.{MakesSo};
 ghost use Rattle.ctl_plane.specs.Asking.{HasMarks, IsInproc, IsOfSockets};
 ghost use Rattle.ctl_plane.specs.Coming.{is_close, KeepsNames, SendsEnds};
 ghost use Rattle.ctl_plane.specs.Desk.{AsksOnce, HasWhatTheySay, KeepsUp};
 ghost use Rattle.one_desk.specs.Lent.{moments_of, Asks, GrowsBy, HasSocket};
 
 use crate::desk::OneDesk;
-use ctl_holder::{Holder, Undoes};
+use ctl_plane::{Holder, Undoes};
 use msg_pipe::Pipes;
 use spec_control::{Reply, Req};
 use std::alloc::{AllocError, Global};

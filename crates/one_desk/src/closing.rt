@@ -1,11 +1,11 @@
 ghost use Rattle.std.specs.Prelude.{◌≡◌, true, []};
-ghost use Rattle.ctl_holder.specs.Holding.{HasGiven};
+ghost use Rattle.ctl_plane.specs.Holding.{HasGiven};
 ghost use Rattle.ctl_plane.specs.Desk.{HasWhatTheySay, KeepsUp};
 ghost use Rattle.one_desk.specs.Lent.{moments_of, ClosesOnce, HasSocket};
 
 use crate::desk::OneDesk;
 use crate::mark::Mark;
-use ctl_holder::Holder;
+use ctl_plane::Holder;
 use msg_pipe::Pipes;
 use std::alloc::Global;
 use zq_base::ObjId;

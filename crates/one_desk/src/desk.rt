@@ -2,18 +2,17 @@ ghost use Rattle.std.specs.Prelude.{◌≡◌, [], false, IfOk, IsOk, OnErr};
 ghost use Rattle.spec_control.specs.declared.request.Req.TheVariants.{AskTerm};
 ghost use Rattle.spec_control.specs.Reply.{reply_of, root_asked};
 ghost use Rattle.ctl_history.specs.Past.{control_of};
-ghost use Rattle.ctl_hears.specs.Processing.{IsSilent};
+ghost use Rattle.ctl_moves.specs.Processing.{IsSilent};
 ghost use Rattle.one_desk.specs.Lent.{Asks, GrowsBy, KeepsAside};
 
 use crate::mark::Mark;
 use crate::queue::Queue;
 use ctl_history::History;
-use http_server::Log;
 use msg_pipe::Pipes;
 use spec_control::{Answered, Reply};
 use std::alloc::{AllocError, Global};
 use std::marker::Model;
-use zq_base::Seq;
+use zq_base::{Log, Seq};
 
 /// A holder that had no end to answer for. It takes no memory.
 pub(crate) fn silent<N, S>(alloc: Global) -> Answered<N, S>
@@ -42,7 +41,7 @@ pub struct OneDesk<P: Pipes> {
 
 impl<P: Pipes> Model for OneDesk<P> {
     ghost use Rattle.std.specs.Prelude.{map, length};
-    ghost use Rattle.ctl_holder.specs.declared.given.Given.{Given};
+    ghost use Rattle.ctl_plane.specs.declared.given.Given.{Given};
     ghost use Rattle.ctl_history.specs.Past.{control_of};
     ghost use Rattle.one_desk.specs.Lent.{Lent, IsLent, lent_to};
     ghost use Rattle.one_desk.specs.Reaping.{IsReaping};

@@ -2,8 +2,8 @@ ghost use Rattle.std.specs.Prelude.{◌≡◌, ◌≢◌, ◌↔◌, [], Some, I
 ghost use Rattle.spec_control.specs.declared.entry.SeenEmpty.TheVariants.{Nothing, Mailbox, Reapers};
 ghost use Rattle.spec_control.specs.ControlRun.{AreEmpty, IsSeen};
 ghost use Rattle.spec_control.specs.Rows.{obj};
-ghost use Rattle.control_held.specs.Has.{has_after};
-ghost use Rattle.control_held.specs.Moments.{items_in, left_after};
+ghost use Rattle.spec_control.specs.Has.{has_after};
+ghost use Rattle.spec_control.specs.Moments.{items_in, left_after};
 ghost use Rattle.ctl_history.specs.Past.{control_of};
 ghost use Rattle.one_desk.specs.Lent.{moments_of, KeepsAside, Sees};
 

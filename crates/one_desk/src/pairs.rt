@@ -3,13 +3,13 @@ ghost use Rattle.zq_base.specs.declared.endpoint.Endpoint.TheVariants.{Inproc};
 ghost use Rattle.spec_control.specs.declared.request.Req.TheVariants.{Bind, Connect, Disconnect};
 ghost use Rattle.spec_control.specs.Reply.{reply_of};
 ghost use Rattle.ctl_history.specs.Past.{control_of};
-ghost use Rattle.ctl_holder.specs.Making.{MakesSo};
+ghost use Rattle.ctl_plane.specs.Making.{MakesSo};
 ghost use Rattle.ctl_plane.specs.Desk.{HasWhatTheySay, KeepsUp};
 ghost use Rattle.one_desk.specs.Lent.{moments_of, Asks, HasSocket};
 
 use crate::desk::{OneDesk, silent};
 use crate::mark::Mark;
-use ctl_holder::{Holder, Undoes};
+use ctl_plane::{Holder, Undoes};
 use msg_pipe::Pipes;
 use spec_control::Reply;
 use std::alloc::{AllocError, Global};

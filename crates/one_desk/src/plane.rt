@@ -1,6 +1,5 @@
 use crate::desk::OneDesk;
-use ctl_holder::{Holder, Undoes};
-use ctl_plane::{Delivery, Desk};
+use ctl_plane::{Delivery, Desk, Holder, Undoes};
 use msg_pipe::Pipes;
 use spec_control::{Reply, Req, SeenEmpty, Sight};
 use std::alloc::{AllocError, Global};

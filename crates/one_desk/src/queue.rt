@@ -3,7 +3,7 @@ ghost use Rattle.spec_control.specs.Control.{next_object};
 ghost use Rattle.spec_control.specs.Rows.{obj};
 ghost use Rattle.ctl_history.specs.Past.{control_of};
 ghost use Rattle.ctl_state.specs.Listed.{with_items};
-ghost use Rattle.held_laws.specs.Closed.{lives, waits};
+ghost use Rattle.control_laws.specs.Closed.{lives, waits};
 ghost use Rattle.one_desk.specs.Lent.{HaveOwnBoxes};
 ghost use Rattle.one_desk.specs.Notes.{Noted};
 
@@ -148,7 +148,7 @@ impl Queue {
     ghost use Rattle.spec_control.specs.Rows.{obj};
     ghost use Rattle.ctl_history.specs.Past.{control_of};
     ghost use Rattle.ctl_state.specs.Listed.{no_list, with_last, with_room, without_room};
-    ghost use Rattle.held_laws.specs.Closed.{lives, waits};
+    ghost use Rattle.control_laws.specs.Closed.{lives, waits};
     ghost use Rattle.one_desk.specs.Lent.{HaveOwnBoxes};
 
     /// No closed socket, where so many mailboxes stand before those of the objects.

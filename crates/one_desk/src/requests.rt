@@ -10,7 +10,7 @@ ghost use Rattle.ctl_plane.specs.Asking.{MayHave};
 use crate::desk::{OneDesk, silent};
 use crate::mark::Mark;
 use crate::queue::Queue;
-use ctl_holder::Holder;
+use ctl_plane::Holder;
 use msg_pipe::Pipes;
 use spec_control::Reply;
 use std::alloc::{AllocError, Global};

@@ -4,9 +4,9 @@ use Rattle.std.proofs.lemmas.Bool.{cases_eq}
 use Rattle.zq_base.specs.declared.ids.EndId.{EndId}
 use Rattle.spec_control.specs.Place.{At, looks}
 use Rattle.spec_control.specs.Control.{place_of}
-use Rattle.control_held.specs.Held.{Held}
-use Rattle.control_held.specs.Moments.{Moment}
-use Rattle.ctl_holder.specs.Holding.{Holding, Stays, KeepsTurns, has_end}
+use Rattle.spec_control.specs.Held.{Held}
+use Rattle.spec_control.specs.Moments.{Moment}
+use Rattle.ctl_plane.specs.Holding.{Holding, Stays, KeepsTurns, has_end}
 use Rattle.ctl_history.specs.Past.{control_of}
 use Rattle.ctl_plane.specs.Desk.{HasWhatTheySay}
 use Rattle.one_desk.specs.Lent.{Lent, Meets, MeetsOrNot}

@@ -4,8 +4,8 @@ use Rattle.zq_base.specs.declared.ids.EndId.{EndId}
 use Rattle.msg_pipe.specs.Known.{Known}
 use Rattle.msg_pipe.specs.declared.pipes.Front.{Front}
 use Rattle.msg_pipe.specs.declared.pipes.Front.TheVariants.{Message, Empty, Delimiter}
-use Rattle.ctl_holder.specs.declared.given.Given.{Given}
-use Rattle.ctl_holder.specs.Holding.{Stays}
+use Rattle.ctl_plane.specs.declared.given.Given.{Given}
+use Rattle.ctl_plane.specs.Holding.{Stays}
 use Rattle.ctl_plane.specs.Desk.{HasWhatTheySay, KeepsUp}
 use Rattle.one_desk.specs.Lent.{Lent, Meets, moments_of}
 use Rattle.held_ends.specs.declared.changes.PipeChange.{PipeChange}

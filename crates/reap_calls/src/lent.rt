@@ -1,6 +1,6 @@
 ghost use Rattle.std.specs.Prelude.{◌≡◌, ℕ, true, All, IfOk, IsOk, OnOk, OnErr};
 ghost use Rattle.spec_control.specs.Names.{name_of};
-ghost use Rattle.ctl_holder.specs.TakingOver.{MayTakeFirst};
+ghost use Rattle.ctl_plane.specs.TakingOver.{MayTakeFirst};
 ghost use Rattle.ctl_history.specs.Past.{control_of};
 ghost use Rattle.ctl_plane.specs.Coming.{AreDistinct, BindsFit, TakesEnds};
 ghost use Rattle.ctl_plane.specs.Memory.{NoBindIsFirst, NoBindWaits};
@@ -14,15 +14,13 @@ ghost use Rattle.reaper_ends.specs.Sound.{MayJoin, MayTake};
 ghost use Rattle.reaper_ends.specs.declared.sockets.ClosedSockets.{ClosedSockets};
 ghost use Rattle.reap_calls.specs.Calls.{FitsClosed, ChangesClosed};
 
-use ctl_holder::Given;
-use ctl_plane::Delivery;
+use ctl_plane::{Delivery, Given};
 use held_ends::HeldPipes;
-use http_server::Log;
 use one_desk::OneDesk;
 use reaper_ends::{Closed, ClosedSockets, Stretch};
 use std::alloc::{AllocError, Global};
 use std::marker::PhantomData;
-use zq_base::{EndId, SlotId};
+use zq_base::{EndId, Log, SlotId};
 
 /// What a call of the reaper answers, whose closed sockets were moved for it, with them and their pipes.
 pub(crate) struct Back<A, P, C, W> {

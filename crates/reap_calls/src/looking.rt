@@ -1,7 +1,7 @@
 ghost use Rattle.std.specs.Prelude.{◌≡◌, true};
 ghost use Rattle.spec_control.specs.Place.{looks};
 ghost use Rattle.spec_control.specs.Control.{place_of};
-ghost use Rattle.ctl_holder.specs.Holding.{has_end};
+ghost use Rattle.ctl_plane.specs.Holding.{has_end};
 ghost use Rattle.ctl_history.specs.Past.{control_of};
 ghost use Rattle.ctl_plane.specs.Desk.{HasWhatTheySay};
 ghost use Rattle.one_desk.specs.Lent.{moments_of};

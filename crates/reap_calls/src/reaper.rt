@@ -1,8 +1,8 @@
 ghost use Rattle.std.specs.Prelude.{◌≡◌, ℕ, true, IfOk, IsOk, OnOk, OnErr};
 ghost use Rattle.spec_control.specs.Names.{name_of};
 ghost use Rattle.msg_pipe.specs.declared.pipes.Front.TheVariants.{Delimiter};
-ghost use Rattle.ctl_holder.specs.Holding.{has_end, HearsNone, KeepsTurns, Stays};
-ghost use Rattle.ctl_holder.specs.TakingOver.{MayTakeFirst};
+ghost use Rattle.ctl_plane.specs.Holding.{has_end, HearsNone, KeepsTurns, Stays};
+ghost use Rattle.ctl_plane.specs.TakingOver.{MayTakeFirst};
 ghost use Rattle.ctl_history.specs.Past.{control_of};
 ghost use Rattle.ctl_plane.specs.Coming.{AreDistinct, BindsFit, TakesEnds};
 ghost use Rattle.ctl_plane.specs.Memory.{NoBindIsFirst, NoBindWaits};
@@ -21,14 +21,13 @@ ghost use Rattle.reap_calls.specs.Calls.{FitsClosed, ChangesClosed};
 use crate::lent::{Back, deliver_at_lent, deliver_lent, meet_lent};
 use ctl_plane::Delivery;
 use held_ends::HeldPipes;
-use http_server::Log;
 use msg_pipe::Front;
 use one_desk::OneDesk;
 use reaper_ends::{Closed, ClosedSockets, none};
 use std::alloc::{AllocError, Global};
 use std::marker::{Brand, PhantomData};
 use std::mem;
-use zq_base::{EndId, ObjId, SlotId};
+use zq_base::{EndId, Log, ObjId, SlotId};
 
 /// Processes the oldest command of the first of the reaper's mailboxes that is not empty, or finds all
 /// of them empty. Want of memory leaves the command where it was; only a bind takes any. It costs what

@@ -18,8 +18,8 @@ use Rattle.spec_control.specs.Rows.{obj}
 use Rattle.spec_control.specs.Stage.{is_used}
 use Rattle.spec_control.specs.Control.{Control, begun, place_of}
 use Rattle.spec_control.specs.ControlRun.{after_all, after_item}
-use Rattle.control_held.specs.Held.{caller_of}
-use Rattle.control_held.specs.Moments.{Moment, moments_from, reaper_slots}
+use Rattle.spec_control.specs.Held.{caller_of}
+use Rattle.spec_control.specs.Moments.{Moment, moments_from, reaper_slots}
 use Rattle.spec_run.specs.Act.{Act, Deed, Fetches, Idles, Said, Step, acts_of, moments_in, pipe_step_of, steps_in}
 use Rattle.spec_run.specs.Event.{acts_said, finds_end, finds_none, finds_one, LooksBehind, LooksFront, LooksWhere}
 use Rattle.spec_run.specs.InTurns.{ReaperStep}
@@ -30,7 +30,7 @@ use Rattle.msg_pipe.specs.Known.{Known}
 use Rattle.msg_pipe.specs.Told.{front_step}
 use Rattle.msg_pipe.specs.declared.pipes.Front.{Front}
 use Rattle.msg_pipe.specs.declared.pipes.Front.TheVariants as front
-use Rattle.ctl_holder.specs.declared.given.Given.{Given}
+use Rattle.ctl_plane.specs.declared.given.Given.{Given}
 use Rattle.ctl_history.specs.Addressee.{addressee_if, addressee_of, asked_by, asked_if, asked_with, last_addressee, last_asked}
 use Rattle.ctl_history.specs.Past.{control_of, Past}
 use Rattle.ctl_plane.specs.declared.delivery.Delivery.{Delivery}

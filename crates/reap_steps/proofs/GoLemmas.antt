@@ -10,20 +10,20 @@ use Rattle.spec_control.specs.declared.entry.Item.{Item}
 use Rattle.spec_control.specs.declared.entry.Item.TheVariants.{Event, Seen}
 use Rattle.spec_control.specs.Control.{Control}
 use Rattle.control_laws.proofs.ListLemmas.{never}
-use Rattle.control_held.specs.Moments.{Moment, moments_from}
+use Rattle.spec_control.specs.Moments.{Moment, moments_from}
 use Rattle.spec_run.specs.Act.{Act, steps_in}
 use Rattle.spec_run.specs.Event.{acts_said}
 use Rattle.spec_run.specs.OwnedRun.{AreCountedBy}
 use Rattle.msg_pipe.specs.Known.{Known}
 use Rattle.msg_pipe.specs.Told.{front_step}
 use Rattle.msg_pipe.specs.declared.pipes.Front.{Front}
-use Rattle.ctl_holder.specs.declared.given.Given.{Given}
-use Rattle.ctl_holder.specs.Holding.{Stays}
+use Rattle.ctl_plane.specs.declared.given.Given.{Given}
+use Rattle.ctl_plane.specs.Holding.{Stays}
 use Rattle.ctl_history.specs.Past.{control_of}
 use Rattle.ctl_plane.specs.Coming.{TakesEnds}
 use Rattle.ctl_plane.specs.Desk.{CountsWith, HasWhatTheySay, KeepsUp}
-use Rattle.past_laws.specs.Asked.{WereAsked}
-use Rattle.open_laws.specs.Bounds.{TellIdentities, TellsIdentityIn}
+use Rattle.core_laws.specs.Asked.{WereAsked}
+use Rattle.core_laws.specs.Bounds.{TellIdentities, TellsIdentityIn}
 use Rattle.desk_laws.specs.Behind.{is_request, is_requested}
 use Rattle.one_desk.specs.Lent.{moments_of}
 use Rattle.reaper_ends.specs.declared.sockets.ClosedSockets.{ClosedSockets}

@@ -15,19 +15,19 @@ use Rattle.spec_control.specs.ControlRun.{after_all}
 use Rattle.spec_control.specs.Names.{name_of}
 use Rattle.control_laws.proofs.ListLemmas.{never}
 use Rattle.control_laws.specs.Kept.{Kept}
-use Rattle.control_held.specs.Held.{Held}
+use Rattle.spec_control.specs.Held.{Held}
 use Rattle.spec_run.specs.OpenSocket.{awaits_delimiter}
 use Rattle.msg_pipe.specs.Known.{Known}
-use Rattle.ctl_holder.specs.declared.given.Given.{Given}
-use Rattle.ctl_holder.specs.Holding.{has_end, held_given}
-use Rattle.ctl_holder.specs.Lent.{HasAll}
-use Rattle.ctl_holder.specs.TakingOver.{AllTwo, AreTwo}
+use Rattle.ctl_plane.specs.declared.given.Given.{Given}
+use Rattle.ctl_plane.specs.Holding.{has_end, held_given}
+use Rattle.ctl_plane.specs.Lent.{HasAll}
+use Rattle.ctl_plane.specs.TakingOver.{AllTwo, AreTwo}
 use Rattle.ctl_history.specs.Past.{control_of}
 use Rattle.ctl_plane.specs.Desk.{HasWhatTheySay}
-use Rattle.held_laws.specs.Closed.{lives}
+use Rattle.control_laws.specs.Closed.{lives}
 use Rattle.sock_core.proofs.FindLemmas.{same_end}
-use Rattle.past_laws.specs.Places.{is_end_of}
-use Rattle.past_laws.proofs.PlaceLemmas.{any_filter, held_here}
+use Rattle.core_laws.specs.Places.{is_end_of}
+use Rattle.core_laws.proofs.PlaceLemmas.{any_filter, held_here}
 use Rattle.lent_sock.proofs.HereLemmas.{awaits_is}
 use Rattle.reaper_ends.specs.declared.sockets.ClosedSocket.{ClosedSocket}
 use Rattle.reaper_ends.specs.declared.sockets.ClosedSockets.{ClosedSockets}

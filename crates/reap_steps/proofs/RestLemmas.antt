@@ -11,7 +11,7 @@ use Rattle.spec_control.specs.declared.entry.Item.{Item}
 use Rattle.spec_control.specs.declared.entry.Item.TheVariants.{Event}
 use Rattle.spec_control.specs.Control.{Control, begun}
 use Rattle.spec_control.specs.ControlRun.{after_all, after_item}
-use Rattle.control_held.specs.Moments.{Moment, moments_from}
+use Rattle.spec_control.specs.Moments.{Moment, moments_from}
 use Rattle.spec_run.specs.Act.{Act, Step, moments_in, steps_in}
 use Rattle.spec_run.specs.Event.{acts_said}
 use Rattle.spec_run.specs.OwnedRun.{AreCountedBy}
@@ -20,8 +20,8 @@ use Rattle.msg_pipe.specs.Known.{Known}
 use Rattle.msg_pipe.specs.Told.{front_step}
 use Rattle.msg_pipe.specs.declared.pipes.Front.{Front}
 use Rattle.msg_pipe.specs.declared.pipes.Front.TheVariants as front
-use Rattle.ctl_holder.specs.declared.given.Given.{Given}
-use Rattle.ctl_holder.specs.Holding.{Stays}
+use Rattle.ctl_plane.specs.declared.given.Given.{Given}
+use Rattle.ctl_plane.specs.Holding.{Stays}
 use Rattle.ctl_history.specs.Past.{control_of, Past}
 use Rattle.ctl_plane.specs.Coming.{TakesEnds}
 use Rattle.ctl_plane.specs.Desk.{counts_with, CountsWith, HasWhatTheySay}

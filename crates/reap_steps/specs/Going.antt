@@ -11,11 +11,11 @@ use Rattle.spec_run.specs.OwnedRun.{AreCountedBy}
 use Rattle.msg_pipe.specs.Known.{Known}
 use Rattle.any_sock.specs.declared.any_sock.AnySock.{AnySock}
 use Rattle.sock_core.specs.declared.sock.SockCore.{SockCore}
-use Rattle.ctl_holder.specs.TakingOver.{AreGivenWith}
+use Rattle.ctl_plane.specs.TakingOver.{AreGivenWith}
 use Rattle.ctl_history.specs.Past.{control_of}
 use Rattle.ctl_plane.specs.Desk.{HasWhatTheySay}
-use Rattle.past_laws.specs.Names.{NamesStand}
-use Rattle.open_laws.specs.Bounds.{TellIdentities}
+use Rattle.core_laws.specs.Names.{NamesStand}
+use Rattle.core_laws.specs.Bounds.{TellIdentities}
 use Rattle.one_desk.specs.Lent.{moments_of}
 use Rattle.core_others.specs.Agrees.{AgreesIn}
 use Rattle.core_others.specs.Done.{PastIn}

@@ -1,6 +1,6 @@
 -- What the laws of the reaper's calls lean on (own choice).
 use Rattle.msg_pipe.specs.Known.{Known}
-use Rattle.ctl_holder.specs.declared.given.Given.{Given}
+use Rattle.ctl_plane.specs.declared.given.Given.{Given}
 use Rattle.core_laws.specs.Sides.{SidesStandOn}
 use Rattle.core_others.specs.Arriving.{NoPlugs, ReaperCallsStandSo, ReaperGoesSo, TakenAreHad}
 use Rattle.core_others.specs.ReapedCall.{ReapersCallsAreSo}

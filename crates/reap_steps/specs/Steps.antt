@@ -13,7 +13,7 @@ use Rattle.spec_control.specs.Rows.{obj}
 use Rattle.spec_control.specs.Control.{begun}
 use Rattle.spec_control.specs.ControlRun.{after_all}
 use Rattle.spec_control.specs.Names.{name_of}
-use Rattle.control_held.specs.Moments.{Moment}
+use Rattle.spec_control.specs.Moments.{Moment}
 use Rattle.spec_run.specs.Act.{Act, Step}
 use Rattle.spec_run.specs.Event.{acts_said}
 use Rattle.spec_run.specs.OpenSocket.{awaits_delimiter}
@@ -21,8 +21,8 @@ use Rattle.msg_pipe.specs.Known.{Known}
 use Rattle.msg_pipe.specs.Told.{front_step}
 use Rattle.msg_pipe.specs.declared.pipes.Front.{Front}
 use Rattle.msg_pipe.specs.declared.pipes.Front.TheVariants as front
-use Rattle.ctl_holder.specs.declared.given.Given.{Given}
-use Rattle.ctl_holder.specs.TakingOver.{AreDistinct, MayTakeFirst}
+use Rattle.ctl_plane.specs.declared.given.Given.{Given}
+use Rattle.ctl_plane.specs.TakingOver.{AreDistinct, MayTakeFirst}
 use Rattle.ctl_history.specs.Addressee.{last_addressee, last_asked}
 use Rattle.ctl_history.specs.Giving.{AreOnTheirWay}
 use Rattle.ctl_history.specs.Past.{control_of}

@@ -9,7 +9,7 @@ use core_others::{
     reaper_goes_so, reaper_keeps_given, reaper_keeps_names, reaper_keeps_taken,
     reaper_keeps_unsealed, reapers_calls_are_so, served_are_had, taken_are_had,
 };
-use ctl_holder::Given;
+use ctl_plane::Given;
 use held_ends::HeldPipes;
 
 // What the laws lean on.

@@ -7,11 +7,11 @@ use Rattle.std.proofs.lemmas.List.Elements.{All-nil, All-cons, All-head, All-tai
 use Rattle.zq_base.specs.declared.ids.EndId.{EndId}
 use Rattle.spec_control.specs.declared.end.EndState.{EndState}
 use Rattle.spec_control.specs.declared.end.EndState.TheVariants.{Gone}
-use Rattle.control_held.specs.Held.{Held}
-use Rattle.ctl_holder.specs.declared.given.Given.{Given}
-use Rattle.ctl_holder.specs.declared.notice.Notice.{Notice}
-use Rattle.ctl_holder.specs.Holding.{IsPlugged, Begins, AreAtDelimiter, held_given, states_given, writes_in}
-use Rattle.ctl_holder.specs.TakingOver.{AreTwo, AllTwo, ComeApart}
+use Rattle.spec_control.specs.Held.{Held}
+use Rattle.ctl_plane.specs.declared.given.Given.{Given}
+use Rattle.ctl_plane.specs.declared.notice.Notice.{Notice}
+use Rattle.ctl_plane.specs.Holding.{IsPlugged, Begins, AreAtDelimiter, held_given, states_given, writes_in}
+use Rattle.ctl_plane.specs.TakingOver.{AreTwo, AllTwo, ComeApart}
 use Rattle.sock_core.proofs.FindLemmas.{end_self, same_end}
 use Rattle.reaper_ends.specs.declared.sockets.ClosedSocket.{ClosedSocket}
 use Rattle.reaper_ends.specs.Has.{all_ends, is_socket, ends_of, is_of, writes_of, met_of, state_in, has, Heard}

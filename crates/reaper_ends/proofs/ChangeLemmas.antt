@@ -8,10 +8,10 @@ use Rattle.zq_base.specs.declared.ids.EndId.{EndId}
 use Rattle.zq_base.specs.declared.ids.ObjId.{ObjId}
 use Rattle.spec_control.specs.declared.end.EndState.{EndState}
 use Rattle.spec_control.specs.Control.{is_end}
-use Rattle.control_held.specs.Held.{Held}
-use Rattle.ctl_holder.specs.declared.given.Given.{Given}
-use Rattle.ctl_holder.specs.Holding.{has_end, held_given, without_end}
-use Rattle.ctl_holder.specs.TakingOver.{AreTwo, AllTwo}
+use Rattle.spec_control.specs.Held.{Held}
+use Rattle.ctl_plane.specs.declared.given.Given.{Given}
+use Rattle.ctl_plane.specs.Holding.{has_end, held_given, without_end}
+use Rattle.ctl_plane.specs.TakingOver.{AreTwo, AllTwo}
 use Rattle.sock_core.proofs.FindLemmas.{same_end}
 use Rattle.reaper_ends.specs.declared.sockets.ClosedSocket.{ClosedSocket}
 use Rattle.reaper_ends.specs.Has.{all_ends, is_socket, ends_of, is_of, input_in, state_in}

@@ -6,11 +6,11 @@ use Rattle.std.proofs.lemmas.List.Elements.{All-cons, All-head, All-tail}
 use Rattle.zq_base.specs.declared.ids.EndId.{EndId}
 use Rattle.spec_control.specs.declared.end.EndState.{EndState}
 use Rattle.spec_control.specs.Control.{is_end}
-use Rattle.control_held.specs.Held.{Held}
-use Rattle.ctl_holder.specs.declared.given.Given.{Given}
-use Rattle.ctl_holder.specs.declared.notice.Notice.{Notice}
-use Rattle.ctl_holder.specs.Holding.{HoldsNow, Stays, Left, Yielded, KeepsTurns, TurnsTo, Seals, BeginsNone, has_end, held_given, is_state, written_in, read_in, without_end}
-use Rattle.ctl_holder.specs.TakingOver.{AllTwo}
+use Rattle.spec_control.specs.Held.{Held}
+use Rattle.ctl_plane.specs.declared.given.Given.{Given}
+use Rattle.ctl_plane.specs.declared.notice.Notice.{Notice}
+use Rattle.ctl_plane.specs.Holding.{HoldsNow, Stays, Left, Yielded, KeepsTurns, TurnsTo, Seals, BeginsNone, has_end, held_given, is_state, written_in, read_in, without_end}
+use Rattle.ctl_plane.specs.TakingOver.{AllTwo}
 use Rattle.sock_core.proofs.FindLemmas.{same_end}
 use Rattle.reaper_ends.specs.declared.sockets.ClosedSocket.{ClosedSocket}
 use Rattle.reaper_ends.specs.Has.{all_ends, ends_of, is_of, writes_of, met_of, input_in, state_in, has, Heard}

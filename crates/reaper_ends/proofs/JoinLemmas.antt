@@ -11,12 +11,12 @@ use Rattle.spec_control.specs.declared.end.EndState.{EndState}
 use Rattle.spec_control.specs.declared.end.EndState.TheVariants.{Active}
 use Rattle.spec_control.specs.declared.entry.Joining.{Joining}
 use Rattle.spec_control.specs.Control.{is_end}
-use Rattle.control_held.specs.Held.{Held}
+use Rattle.spec_control.specs.Held.{Held}
 use Rattle.msg_pipe.specs.Known.{Known, IsElse}
-use Rattle.ctl_holder.specs.declared.given.Given.{Given}
-use Rattle.ctl_holder.specs.declared.halves.Halves.{Halves}
-use Rattle.ctl_holder.specs.Holding.{BeginsActive, HasNowhere, HoldsNow, Joined, KeepsTurns, Stays, has_end, held_given, held_with}
-use Rattle.ctl_holder.specs.TakingOver.{AreGivenWith, AreTwo, AllTwo, IsGivenWith}
+use Rattle.ctl_plane.specs.declared.given.Given.{Given}
+use Rattle.ctl_plane.specs.declared.halves.Halves.{Halves}
+use Rattle.ctl_plane.specs.Holding.{BeginsActive, HasNowhere, HoldsNow, Joined, KeepsTurns, Stays, has_end, held_given, held_with}
+use Rattle.ctl_plane.specs.TakingOver.{AreGivenWith, AreTwo, AllTwo, IsGivenWith}
 use Rattle.held_ends.specs.declared.table.Place.{Place}
 use Rattle.sock_core.proofs.FindLemmas.{end_self, same_end}
 use Rattle.reaper_ends.specs.declared.sockets.ClosedSocket.{ClosedSocket}

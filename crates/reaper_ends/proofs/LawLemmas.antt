@@ -4,8 +4,8 @@ use Rattle.std.proofs.lemmas.List.Elements.{All-nil, All-cons, All-head, All-tai
 use Rattle.spec_pattern.specs.Half.{Writing, Reading}
 use Rattle.msg_pipe.specs.Known.{Known, IsThere}
 use Rattle.ends.specs.Rows.{row_at}
-use Rattle.ctl_holder.specs.declared.given.Given.{Given}
-use Rattle.ctl_holder.specs.TakingOver.{AreGivenWith, IsGivenWith}
+use Rattle.ctl_plane.specs.declared.given.Given.{Given}
+use Rattle.ctl_plane.specs.TakingOver.{AreGivenWith, IsGivenWith}
 use Rattle.held_ends.specs.declared.table.Place.{Place}
 use Rattle.held_ends.specs.declared.table.EndTable.{EndTable}
 use Rattle.held_ends.specs.Places.{place_at}

@@ -4,7 +4,7 @@ use Rattle.std.specs.Prelude.{remove, slice_index_or, nat_eq}
 use Rattle.std.specs.VecDeque.{deque_with_item}
 use Rattle.indexmap.specs.IndexMap.{get}
 use Rattle.zq_base.specs.declared.ids.EndId.{EndId}
-use Rattle.ctl_holder.specs.declared.given.Given.{Given}
+use Rattle.ctl_plane.specs.declared.given.Given.{Given}
 use Rattle.reaper_ends.specs.declared.sockets.ClosedSocket.{ClosedSocket}
 use Rattle.reaper_ends.specs.declared.sockets.ClosedSockets.{ClosedSockets}
 use Rattle.reaper_ends.specs.Finding.{AreIndexed, FindsEnd}

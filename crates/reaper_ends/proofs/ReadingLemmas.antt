@@ -3,7 +3,7 @@ use Rattle.std.proofs.Common.{◌≡◌, ◌||◌, ◌∙◌, ℕ, Bool, true, f
 use Rattle.std.specs.List.{list_any}
 use Rattle.zq_base.specs.declared.ids.EndId.{EndId}
 use Rattle.spec_control.specs.declared.end.EndState.TheVariants.{Gone}
-use Rattle.ctl_holder.specs.declared.given.Given.{Given}
+use Rattle.ctl_plane.specs.declared.given.Given.{Given}
 use Rattle.reaper_ends.specs.declared.sockets.ClosedSocket.{ClosedSocket}
 use Rattle.reaper_ends.specs.Has.{all_ends, is_of, ends_of, state_in}
 use Rattle.reaper_ends.specs.Finding.{FindsEnd}

@@ -5,12 +5,12 @@ use Rattle.std.proofs.lemmas.List.Elements.{All-nil, All-cons, All-head, All-tai
 use Rattle.spec_pattern.specs.Half.{Writing, Reading}
 use Rattle.zq_base.specs.declared.ids.EndId.{EndId}
 use Rattle.spec_control.specs.declared.end.EndState.{EndState}
-use Rattle.control_held.specs.Held.{Held}
+use Rattle.spec_control.specs.Held.{Held}
 use Rattle.msg_pipe.specs.Known.{Known, IsThere, IsElse}
-use Rattle.ctl_holder.specs.declared.given.Given.{Given}
+use Rattle.ctl_plane.specs.declared.given.Given.{Given}
 use Rattle.held_ends.specs.declared.table.Place.{Place}
-use Rattle.ctl_holder.specs.Holding.{held_given}
-use Rattle.ctl_holder.specs.TakingOver.{IsGivenWith, AreGivenWith, AreTwo, AllTwo}
+use Rattle.ctl_plane.specs.Holding.{held_given}
+use Rattle.ctl_plane.specs.TakingOver.{IsGivenWith, AreGivenWith, AreTwo, AllTwo}
 use Rattle.reaper_ends.specs.declared.sockets.ClosedSocket.{ClosedSocket}
 use Rattle.reaper_ends.specs.declared.sockets.ClosedSockets.{ClosedSockets}
 use Rattle.reaper_ends.specs.Has.{all_ends}

@@ -4,19 +4,19 @@ use Rattle.std.specs.Prelude.{is_some}
 use Rattle.std.specs.List.{list_any}
 use Rattle.zq_base.specs.declared.ids.EndId.{EndId}
 use Rattle.spec_control.specs.declared.end.EndState.{EndState}
-use Rattle.control_held.specs.Held.{Held}
+use Rattle.spec_control.specs.Held.{Held}
 use Rattle.msg_pipe.specs.Known.{Known, IsElse}
-use Rattle.ctl_holder.specs.declared.given.Given.{Given}
-use Rattle.ctl_holder.specs.declared.notice.Notice.{Notice}
-use Rattle.ctl_holder.specs.declared.halves.Halves.{Halves}
-use Rattle.ctl_holder.specs.Holding.{IsLast, NoneWrites, has_end, held_given, read_in}
+use Rattle.ctl_plane.specs.declared.given.Given.{Given}
+use Rattle.ctl_plane.specs.declared.notice.Notice.{Notice}
+use Rattle.ctl_plane.specs.declared.halves.Halves.{Halves}
+use Rattle.ctl_plane.specs.Holding.{IsLast, NoneWrites, has_end, held_given, read_in}
 use Rattle.spec_control.specs.Control.{is_end}
 use Rattle.msg_pipe.specs.declared.pipes.Front.{Front}
 use Rattle.msg_pipe.specs.declared.pipes.Front.TheVariants.{Message, Empty, Delimiter}
 use Rattle.held_ends.specs.Looking.{met_after}
 use Rattle.held_ends.proofs.SoundLemmas.{one_some}
 use Rattle.reaper_ends.specs.Ending.{with_input}
-use Rattle.ctl_holder.specs.TakingOver.{AreGivenWith, IsGivenWith, AllTwo, ComeApart}
+use Rattle.ctl_plane.specs.TakingOver.{AreGivenWith, IsGivenWith, AllTwo, ComeApart}
 use Rattle.reaper_ends.specs.declared.sockets.ClosedSocket.{ClosedSocket}
 use Rattle.held_ends.specs.declared.table.Place.{Place}
 use Rattle.reaper_ends.specs.declared.sockets.ClosedSockets.{ClosedSockets}

@@ -5,9 +5,9 @@ use Rattle.indexmap.specs.IndexMap.{get, spare}
 use Rattle.zq_base.specs.declared.ids.EndId.{EndId}
 use Rattle.zq_base.specs.declared.attached.Attached.TheVariants.{Yes}
 use Rattle.spec_control.specs.declared.end.EndState.TheVariants.{Active}
-use Rattle.ctl_holder.specs.declared.given.Given.{Given}
-use Rattle.ctl_holder.specs.declared.halves.Halves.{Halves}
-use Rattle.ctl_holder.specs.Holding.{joining_with}
+use Rattle.ctl_plane.specs.declared.given.Given.{Given}
+use Rattle.ctl_plane.specs.declared.halves.Halves.{Halves}
+use Rattle.ctl_plane.specs.Holding.{joining_with}
 use Rattle.held_ends.specs.declared.table.Place.{Place}
 use Rattle.sock_core.specs.Standing.{standing_joins}
 pub use Rattle.given_ends.specs.Placing.{given_joined, place_given}

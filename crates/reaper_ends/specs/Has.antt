@@ -6,9 +6,9 @@ use Rattle.spec_control.specs.declared.end.EndState.{EndState}
 use Rattle.spec_control.specs.declared.end.EndState.TheVariants.{Gone}
 use Rattle.spec_control.specs.declared.entry.Joining.{Joining}
 use Rattle.spec_control.specs.Control.{is_end}
-use Rattle.ctl_holder.specs.declared.given.Given.{Given}
-use Rattle.ctl_holder.specs.declared.notice.Notice.{Notice}
-use Rattle.ctl_holder.specs.Holding.{Holding, held_given}
+use Rattle.ctl_plane.specs.declared.given.Given.{Given}
+use Rattle.ctl_plane.specs.declared.notice.Notice.{Notice}
+use Rattle.ctl_plane.specs.Holding.{Holding, held_given}
 use Rattle.sock_core.specs.Standing.{standing_joins}
 use Rattle.reaper_ends.specs.declared.sockets.ClosedSocket.{ClosedSocket}
 use Rattle.reaper_ends.specs.declared.sockets.ClosedSockets.{ClosedSockets}

@@ -7,7 +7,7 @@ use Rattle.msg_pipe.specs.Known.{Known}
 use Rattle.msg_pipe.specs.Told.{front_step}
 use Rattle.msg_pipe.specs.declared.pipes.Front.{Front}
 use Rattle.ends.specs.Past.{OneName, IsPast}
-use Rattle.ctl_holder.specs.Holding.{Holding, read_in}
+use Rattle.ctl_plane.specs.Holding.{Holding, read_in}
 use Rattle.reaper_ends.specs.Ending.{LooksOnce}
 
 -- where looks are exact, the steps past stand with the step of the look, which follows from them

@@ -2,11 +2,11 @@
 use Rattle.std.specs.Prelude.{◌≡◌, ◌≢◌, ◌++◌, Bool, true, false, List, ◌∷◌, All, map}
 use Rattle.std.specs.List.{list_any}
 use Rattle.msg_pipe.specs.Known.{Known, IsThere}
-use Rattle.ctl_holder.specs.declared.given.Given.{Given}
-use Rattle.ctl_holder.specs.declared.halves.Halves.{Halves}
-use Rattle.ctl_holder.specs.Holding.{held_given}
-use Rattle.control_held.specs.Held.{Held}
-use Rattle.ctl_holder.specs.TakingOver.{AreGivenWith, AreTwo}
+use Rattle.ctl_plane.specs.declared.given.Given.{Given}
+use Rattle.ctl_plane.specs.declared.halves.Halves.{Halves}
+use Rattle.ctl_plane.specs.Holding.{held_given}
+use Rattle.spec_control.specs.Held.{Held}
+use Rattle.ctl_plane.specs.TakingOver.{AreGivenWith, AreTwo}
 use Rattle.reaper_ends.specs.declared.sockets.ClosedSocket.{ClosedSocket}
 use Rattle.reaper_ends.specs.declared.sockets.ClosedSockets.{ClosedSockets}
 use Rattle.reaper_ends.specs.Has.{all_ends, is_socket}

@@ -9,17 +9,16 @@ use crate::sockets::{
     ClosedSockets, add, find, find_socket, join, make_room, none, note_heard, take_out,
 };
 use crate::stretch::Stretch;
-use ctl_holder::{Given, Halves, Holder, Made, Notice, Parting};
+use ctl_plane::{Given, Halves, Holder, Made, Notice, Parting};
 use given_ends::{look, seal, settle, turn, yield_out};
 use held_ends::{HeldPipes, PipeChange};
-use http_server::Log;
 use msg_pipe::Front;
 use sock_core::{note, note_seal};
 use spec_control::EndState;
 use std::alloc::{AllocError, AllocFailed, Global};
 use std::collections::VecDeque;
 use std::marker::{Brand, PhantomData};
-use zq_base::{Address, Attached, EndId, Kind, ObjId, Octets, Options, Seq, Settled};
+use zq_base::{Address, Attached, EndId, Kind, Log, ObjId, Octets, Options, Seq, Settled};
 
 /// The reaper's holder: the closed sockets with the pipes of their ends, for a stretch of calls.
 ///
@@ -89,7 +88,7 @@ where
 impl<P: HeldPipes> Closed<P> {
     ghost use Rattle.std.specs.Prelude.{◌≡◌, true};
     ghost use Rattle.msg_pipe.specs.declared.pipes.Front.TheVariants.{Delimiter};
-    ghost use Rattle.ctl_holder.specs.Holding.{HearsNone, Stays, KeepsTurns, has_end};
+    ghost use Rattle.ctl_plane.specs.Holding.{HearsNone, Stays, KeepsTurns, has_end};
     ghost use Rattle.reaper_ends.specs.Has.{all_ends, holding_in};
     ghost use Rattle.reaper_ends.specs.Ending.{LooksOnce, seals_told};
 
@@ -138,12 +137,12 @@ where
 {
     ghost use Rattle.std.specs.Prelude.{◌≡◌, ◌∷◌, [], true, false, All, map, OnOk, IfOk, IfErr};
     ghost use Rattle.zq_base.specs.declared.ids.EndId.{EndId};
-    ghost use Rattle.ctl_holder.specs.Holding.{held_with, held_optional, held_given};
-    ghost use Rattle.ctl_holder.specs.Holding.{Joined, BeginsActive, MayRefuse, Stays, KeepsTurns};
-    ghost use Rattle.ctl_holder.specs.Holding.{HasNowhere, HearsNone, JoinsBy, joining_with};
-    ghost use Rattle.ctl_holder.specs.Holding.{IsPlugged, Begins, AreAtDelimiter, writes_in};
-    ghost use Rattle.ctl_holder.specs.Holding.{states_optional, states_given};
-    ghost use Rattle.ctl_holder.specs.TakingOver.{ComeApart};
+    ghost use Rattle.ctl_plane.specs.Holding.{held_with, held_optional, held_given};
+    ghost use Rattle.ctl_plane.specs.Holding.{Joined, BeginsActive, MayRefuse, Stays, KeepsTurns};
+    ghost use Rattle.ctl_plane.specs.Holding.{HasNowhere, HearsNone, JoinsBy, joining_with};
+    ghost use Rattle.ctl_plane.specs.Holding.{IsPlugged, Begins, AreAtDelimiter, writes_in};
+    ghost use Rattle.ctl_plane.specs.Holding.{states_optional, states_given};
+    ghost use Rattle.ctl_plane.specs.TakingOver.{ComeApart};
     ghost use Rattle.reaper_ends.specs.Counting.{counts_of};
     ghost use Rattle.reaper_ends.specs.Has.{holding_in};
     ghost use Rattle.reaper_ends.specs.Sound.{MayJoin, MayTake};

@@ -8,16 +8,15 @@ ghost use Rattle.sock_core.specs.Standing.{joining_as, standing_joins};
 ghost use Rattle.reaper_ends.specs.Finding.{AreIndexed, FindsEnd, HasRoom, IsFirst, KeepsEnds, KeepsNotes};
 ghost use Rattle.reaper_ends.specs.Finding.{AddsNone, AddsOne, AreTwoByTwo, came_given};
 
-use ctl_holder::{Given, Halves, Notice};
+use ctl_plane::{Given, Halves, Notice};
 use given_ends::{halves_of, joined, keep_place, noted_as};
 use held_ends::{HeldPipes, Place};
-use http_server::Log;
 use indexmap::IndexMap;
 use sock_core::{JoinNote, Joint};
 use spec_control::EndState;
 use std::alloc::{AllocError, AllocFailed, Global};
 use std::collections::VecDeque;
-use zq_base::{Attached, EndId, ObjId, Octets};
+use zq_base::{Attached, EndId, Log, ObjId, Octets};
 
 /// A closed socket, with those of its ends that were not settled in the order of their attachment.
 #[derive(Drop)]

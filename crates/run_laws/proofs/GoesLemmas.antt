@@ -11,7 +11,7 @@ use Rattle.std.proofs.lemmas.Option.{slice_get_within}
 use Rattle.spec_control.specs.declared.entry.Item.{Item}
 use Rattle.spec_control.specs.Control.{Control, begun}
 use Rattle.spec_control.specs.ControlRun.{after_item, after_all}
-use Rattle.control_held.specs.Moments.{Moment, moments_from, reaper_slots}
+use Rattle.spec_control.specs.Moments.{Moment, moments_from, reaper_slots}
 use Rattle.spec_run.specs.declared.line.RunActor.{RunActor}
 use Rattle.spec_run.specs.LineCall.{RunScript}
 use Rattle.spec_run.specs.Act.{Act, Deed, Tries, Shuts, Fetches, Idles, Works, Looks, AsksRoot, Reads, acts_of, all_acts, moment_of, moments_in}

@@ -3,8 +3,8 @@ use Rattle.std.specs.Prelude.{◌≡◌, ◌<◌, ◌+◌, ◌==◌, ◌||◌, �
 use Rattle.std.specs.List.{list_any, range_with_len}
 use Rattle.std.proofs.Common.{arith, sym, ap, ◌∙◌, subst}
 use Rattle.std.proofs.lemmas.Bool.{eq-eqb}
-use Rattle.control_held.specs.OwnAsks.{is_none}
-use Rattle.control_held.specs.Moments.{Moment, reaper_slots}
+use Rattle.spec_control.specs.OwnAsks.{is_none}
+use Rattle.spec_control.specs.Moments.{Moment, reaper_slots}
 use Rattle.spec_run.specs.declared.line.RunActor.{RunActor}
 use Rattle.spec_run.specs.LineCall.{RunScript}
 use Rattle.spec_run.specs.Act.{Deed, Tries, Shuts, Fetches, Idles, Works, Looks, AsksRoot, Reads}

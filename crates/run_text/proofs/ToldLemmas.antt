@@ -2,7 +2,7 @@
 use Rattle.std.specs.Prelude.{◌≡◌, Bool, true, false, ℕ, List, Result, Ok, Err, IfOk, refl}
 use Rattle.std.proofs.Common.{sym, ap, ◌∙◌, subst}
 use Rattle.zq_script.specs.declared.fault.ScriptFault.{ScriptFault}
-use Rattle.clock_reads.specs.Readings.{ClockAt}
+use Rattle.zq_outer.specs.Readings.{ClockAt}
 use Rattle.spec_journal.specs.Run.{Schedule}
 use Rattle.run_script.specs.RunGrammar.{run_script_of}
 use Rattle.spec_run.specs.declared.journal.RunJournal.{RunJournal}
@@ -13,6 +13,7 @@ use Rattle.spec_run.specs.JournalText.{run_journal_text}
 use Rattle.replay_laws.specs.OneJournal.{RunsHaveOneJournal}
 use Rattle.replay_laws.specs.ScriptBounds.{ScriptsAreDoneInTime}
 use Rattle.run_text.specs.declared.said.RunText.{RunText}
+use Rattle.run_text.specs.declared.said.RunText.TheVariants.{Fault}
 use Rattle.zq_world.specs.Timed.{IsTimedJournal}
 use Rattle.run_text.specs.RunText.{told_as, told_of, TellsPlay, PrintsTimed, TellsRun, IsRunDue}
 
@@ -76,3 +77,20 @@ module _ (N S : Type 0) (one : RunsHaveOneJournal N S) (in_time : ScriptsAreDone
   pub due_if : {E : Type 0} (script : RunScript) (result : Result RunText E) → run_script_of octets ≡ Ok script → IfOk result (TellsPlay N S script schedule clock clock_now) → IfOk result (IsRunDue N S schedule octets)
   due_if script (Ok said) is plays = play_due script said is plays
   due_if script (Err e) is plays = tt
+
+-- what is told of a script's journal is told of its play
+pub play_told : {E : Type 0} (N S : Type 0) (script : RunScript) (schedule : Schedule) (clock clock_now : ClockAt) (journal : RunJournal) (result : Result RunText E) → IsTimedJournal N S script schedule clock clock_now journal
+    → IfOk result (λ said. said ≡ told_of journal) → IfOk result (TellsPlay N S script schedule clock clock_now)
+play_told N S script schedule clock clock_now journal (Ok said) timed is = record { journal = journal; timed = timed; said_is = is }
+play_told N S script schedule clock clock_now journal (Err e) timed is = tt
+
+fault_is_one : (a b : ScriptFault) → ◌≡◌ {A = Result RunScript ScriptFault} (Err a) (Err b) → a ≡ b
+fault_is_one a b e = cc
+
+-- of octets that are no script their fault is due
+pub fault_due : (N S : Type 0) (schedule : Schedule) (octets : List ℕ) (fault : ScriptFault) → run_script_of octets ≡ Err fault → IsRunDue N S schedule octets (Fault fault)
+fault_due N S schedule octets fault is = record {
+  run = λ script j also journal_is. absurd (no_script script fault (sym also ∙ is));
+  completes = λ script also plain enough. absurd (no_script script fault (sym also ∙ is));
+  refuses = λ other also. ap Fault (fault_is_one fault other (sym is ∙ also));
+}

@@ -1,7 +1,7 @@
 -- What is told of octets that were asked to be run over sockets that end (own choice).
 use Rattle.std.specs.Prelude.{◌≡◌, ◌≤◌, Bool, true, false, ℕ, List, Ok, Err}
 use Rattle.zq_script.specs.declared.fault.ScriptFault.{ScriptFault}
-use Rattle.clock_reads.specs.Readings.{ClockAt, ReadsClock}
+use Rattle.zq_outer.specs.Readings.{ClockAt, ReadsClock}
 use Rattle.spec_journal.specs.Run.{Schedule}
 use Rattle.run_script.specs.RunGrammar.{run_script_of}
 use Rattle.spec_run.specs.declared.journal.RunJournal.{RunJournal}

@@ -1,12 +1,13 @@
 ghost use Rattle.std.specs.Prelude.{◌≡◌, [], IfOk, IfErr};
-ghost use Rattle.clock_reads.specs.Readings.{clock_at, GoesOn};
+ghost use Rattle.zq_outer.specs.Readings.{clock_at, GoesOn};
 ghost use Rattle.script_actor.specs.MayAsk.{MayAskScript};
 ghost use Rattle.run_text.specs.RunText.{told_of, TellsPlay, TellsRun, IsRunDue};
 
 use crate::said::RunText;
 use msg_pipe::Pipes;
-use read_laws::scripts_that_are_read_may_be_asked;
-use replay_laws::{a_script_has_one_run_journal, scripts_are_done_in_time};
+use replay_laws::{
+    a_script_has_one_run_journal, scripts_are_done_in_time, scripts_that_are_read_may_be_asked,
+};
 use run_journal::print;
 use run_script::read_run_script;
 use spec_run::{RunActor, RunJournal};

@@ -2,7 +2,7 @@
 use Rattle.std.specs.Prelude.{Bool, true, false, [], Option, Some, None, option_map}
 use Rattle.zq_base.specs.Message.{Frames}
 use Rattle.spec_pattern.specs.Publishing.{saying_of}
-use Rattle.link_topics.specs.Topics.{Topics, with_saying}
+use Rattle.spec_link.specs.Topics.{Topics, with_saying}
 
 -- it is noted, where there are topics
 abbrev pub noted : Frames → Option Topics → Option Topics

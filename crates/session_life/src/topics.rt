@@ -1,9 +1,9 @@
 ghost use Rattle.std.specs.Prelude.{◌≡◌, ◌⊎◌, IsSome, IfSome, option_map, OnOk, OnErr};
 ghost use Rattle.spec_link.specs.Turn.{subscribes};
-ghost use Rattle.link_topics.specs.Topics.{with_again};
+ghost use Rattle.spec_link.specs.Topics.{with_again};
 ghost use Rattle.session_life.specs.TopicSteps.{noted, over_link, topics_for};
 
-use link_topics::LinkTopics;
+use spec_link::LinkTopics;
 use std::alloc::{AllocError, Global};
 use zq_base::{Kind, Message};
 

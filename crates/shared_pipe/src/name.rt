@@ -1,8 +1,8 @@
 ghost use Rattle.std.specs.Prelude.{◌≡◌};
 
 use crate::table::PipeSeat;
-use http_server::Log;
 use std::marker::Model;
+use zq_base::Log;
 
 /// Which pipe it is, for proofs alone: it takes no memory.
 #[derive(Drop)]

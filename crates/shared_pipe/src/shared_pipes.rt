@@ -4,10 +4,9 @@ use crate::shared_in::SharedIn;
 use crate::shared_out::SharedOut;
 use crate::table::PipeSeat;
 use crate::waker::Waker;
-use http_server::Log;
 use msg_pipe::{Committed, Front, Pipes, PutIn, Taken};
 use std::alloc::{AllocError, AllocFailed, Global};
-use zq_base::{Frame, Message, Settled};
+use zq_base::{Frame, Log, Message, Settled};
 
 /// Pipes whose halves may lie in two threads. It keeps nothing itself.
 #[derive(Drop)]

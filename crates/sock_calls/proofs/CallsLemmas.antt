@@ -23,14 +23,14 @@ use Rattle.spec_control.specs.declared.entry.Did.TheVariants.{Asked}
 use Rattle.spec_control.specs.declared.request.Reply.{Reply}
 use Rattle.spec_control.specs.declared.request.Req.TheVariants.{Close}
 use Rattle.spec_control.specs.Control.{Control}
-use Rattle.control_held.specs.Has.{has_then, has_over, has_after}
-use Rattle.control_held.specs.Moments.{Moment, items_in, left_by}
+use Rattle.spec_control.specs.Has.{has_then, has_over, has_after}
+use Rattle.spec_control.specs.Moments.{Moment, items_in, left_by}
 use Rattle.msg_pipe.specs.Known.{Known, IsThere}
-use Rattle.ctl_holder.specs.declared.given.Given.{Given}
-use Rattle.ctl_holder.specs.TakingOver.{IsGivenWith}
+use Rattle.ctl_plane.specs.declared.given.Given.{Given}
+use Rattle.ctl_plane.specs.TakingOver.{IsGivenWith}
 use Rattle.held_ends.specs.Others.{IsNoneWritten, IsUnsettled}
-use Rattle.ctl_holder.specs.Holding.{Holding}
-use Rattle.ctl_holder.specs.Turns.{TurnsBy, turned_in}
+use Rattle.ctl_plane.specs.Holding.{Holding}
+use Rattle.ctl_plane.specs.Turns.{TurnsBy, turned_in}
 use Rattle.ctl_plane.specs.Desk.{heard_with, HasWhatTheySay, KeepsUp, AsksOnce, by_caller, came_with}
 use Rattle.spec_pattern.specs.Half.{Writing, Reading}
 use Rattle.held_ends.proofs.OthersLemmas.{places_stay, leaves_pipes, others_sound, halves_fitting}

@@ -10,7 +10,7 @@ use Rattle.spec_control.specs.declared.request.Req.TheVariants.{Socket as MakeSo
 use Rattle.spec_control.specs.Register.{fulfilled_by}
 use Rattle.spec_control.specs.Control.{Control, end_of, next_pair}
 use Rattle.spec_control.specs.After.{binding_by}
-use Rattle.ctl_holder.specs.Making.{bind_makes, connect_makes, request_makes, IsMadeFor}
+use Rattle.ctl_plane.specs.Making.{bind_makes, connect_makes, request_makes, IsMadeFor}
 use Rattle.ctl_plane.specs.Coming.{is_close}
 use Rattle.held_ends.proofs.SoundLemmas.{one_some}
 

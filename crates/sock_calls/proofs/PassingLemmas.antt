@@ -9,7 +9,7 @@ use Rattle.spec_pattern.specs.TurnList.{End}
 use Rattle.spec_pattern.specs.Pattern.{Pattern, attach_answer, attach_as}
 use Rattle.spec_control.specs.declared.end.EndState.{EndState}
 use Rattle.spec_control.specs.declared.entry.Joining.{Joining}
-use Rattle.control_held.specs.Moments.{Moment}
+use Rattle.spec_control.specs.Moments.{Moment}
 use Rattle.spec_run.specs.OpenSocket.{attach_all, detach_all, AreAnswered}
 use Rattle.msg_pipe.specs.Known.{Known}
 use Rattle.held_ends.specs.declared.changes.PipeChange.{PipeChange}

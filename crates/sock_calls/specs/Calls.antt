@@ -5,8 +5,8 @@ use Rattle.zq_base.specs.declared.ids.Settled.{Settled}
 use Rattle.zq_base.specs.declared.kind.Kind.{Kind}
 use Rattle.spec_control.specs.declared.end.EndState.TheVariants.{Gone}
 use Rattle.msg_pipe.specs.Known.{Known}
-use Rattle.ctl_holder.specs.declared.halves.Halves.{Halves}
-use Rattle.ctl_holder.specs.Holding.{Holding}
+use Rattle.ctl_plane.specs.declared.halves.Halves.{Halves}
+use Rattle.ctl_plane.specs.Holding.{Holding}
 use Rattle.held_ends.specs.Counting.{counts_of}
 use Rattle.held_ends.specs.Sound.{Fits}
 use Rattle.held_ends.specs.Giving.{AreGone}

@@ -1,14 +1,14 @@
 ghost use Rattle.std.specs.Prelude.{◌≡◌, ◌++◌, true, false, List, Some, IfOk, IsOk, OnErr};
-ghost use Rattle.control_held.specs.Held.{asker};
-ghost use Rattle.control_held.specs.OwnAsks.{MayAskOwn};
-ghost use Rattle.control_held.specs.Moments.{items_in};
+ghost use Rattle.spec_control.specs.Held.{asker};
+ghost use Rattle.spec_control.specs.OwnAsks.{MayAskOwn};
+ghost use Rattle.spec_control.specs.Moments.{items_in};
 ghost use Rattle.spec_control.specs.Control.{Control};
-ghost use Rattle.ctl_holder.specs.Making.{IsMadeFor};
+ghost use Rattle.ctl_plane.specs.Making.{IsMadeFor};
 ghost use Rattle.ctl_plane.specs.Asking.{HasMarks, IsOfSockets};
 ghost use Rattle.ctl_plane.specs.Coming.{is_close, KeepsNames, SendsEnds};
 ghost use Rattle.ctl_plane.specs.Desk.{HasWhatTheySay, KeepsUp, AsksOnce};
 ghost use Rattle.sock_calls.specs.Calls.{owner_of, holding_of, FitsPipes, LeavesOthers, HaveDone, OnlyMake, RestsThere};
-ghost use Rattle.control_held.specs.Moments.{Moment};
+ghost use Rattle.spec_control.specs.Moments.{Moment};
 ghost use Rattle.sock_calls.specs.Passing.{Passes};
 
 use crate::lent::ask_lent;

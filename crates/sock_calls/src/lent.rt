@@ -1,11 +1,11 @@
 ghost use Rattle.std.specs.Prelude.{◌≡◌, ℕ, true, false, Some, IfOk, IsOk, OnErr, length, map};
-ghost use Rattle.control_held.specs.Held.{asker};
-ghost use Rattle.control_held.specs.OwnAsks.{MayAskOwn};
-ghost use Rattle.control_held.specs.Moments.{items_in, left_after};
+ghost use Rattle.spec_control.specs.Held.{asker};
+ghost use Rattle.spec_control.specs.OwnAsks.{MayAskOwn};
+ghost use Rattle.spec_control.specs.Moments.{items_in, left_after};
 ghost use Rattle.spec_control.specs.Control.{Control, place_of};
 ghost use Rattle.spec_control.specs.Place.{looks};
-ghost use Rattle.ctl_holder.specs.Holding.{has_end};
-ghost use Rattle.ctl_holder.specs.Making.{MakesSo};
+ghost use Rattle.ctl_plane.specs.Holding.{has_end};
+ghost use Rattle.ctl_plane.specs.Making.{MakesSo};
 ghost use Rattle.ctl_plane.specs.Asking.{HasMarks, IsOfSockets};
 ghost use Rattle.ctl_plane.specs.Coming.{is_close, AreDistinct, BindsFit, KeepsNames, SendsEnds};
 ghost use Rattle.ctl_plane.specs.Desk.{HasWhatTheySay, KeepsUp, AsksOnce, GivesOrNot, DelimitsOrNot, slot_after};
@@ -26,12 +26,11 @@ ghost use Rattle.sock_calls.specs.Calls.{FitsCore};
 use crate::moving::Back;
 use ctl_plane::{Delivery, Desk};
 use held_ends::{HeldPipes, PipeChange};
-use http_server::Log;
 use sock_core::{Joins, Since, SockCore, SockHolder, Undoable};
 use spec_control::{Reply, Req};
 use std::alloc::{AllocError, Global};
 use std::marker::PhantomData;
-use zq_base::EndId;
+use zq_base::{EndId, Log};
 
 /// A request of a socket that was moved together with its pipes. The stretch begins with it.
 pub(crate) fn ask_lent<F, P, C, D>(

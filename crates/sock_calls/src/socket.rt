@@ -160,8 +160,8 @@ where
     C: Joins + Drop,
 {
     ghost use Rattle.std.specs.Prelude.{◌≡◌, true, false, IfOk, IsOk, OnErr};
-    ghost use Rattle.control_held.specs.OwnAsks.{known_after};
-    ghost use Rattle.control_held.specs.Moments.{items_in};
+    ghost use Rattle.spec_control.specs.OwnAsks.{known_after};
+    ghost use Rattle.spec_control.specs.Moments.{items_in};
     ghost use Rattle.spec_control.specs.Control.{id};
     ghost use Rattle.spec_control.specs.declared.request.Req.TheVariants.{Close};
     ghost use Rattle.ctl_plane.specs.Coming.{KeepsNames, SendsEnds};

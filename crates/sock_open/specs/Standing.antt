@@ -2,7 +2,7 @@
 use Rattle.std.specs.Prelude.{◌≡◌, ℕ, true, false, Option, Some, None}
 use Rattle.zq_base.specs.declared.kind.Kind.{Kind}
 use Rattle.spec_control.specs.Place.{At}
-use Rattle.pattern_laws.specs.Peers.{pattern_kind}
+use Rattle.spec_pattern.specs.Peers.{pattern_kind}
 use Rattle.msg_pipe.specs.Known.{Known}
 use Rattle.any_sock.specs.declared.any_sock.AnySock.{AnySock}
 use Rattle.any_sock.specs.Over.{over, peer_places, left_of, nothing_left}

@@ -2,7 +2,7 @@
 use Rattle.std.specs.Prelude.{◌≡◌, ℕ, [], ◌∷◌, Some, refl}
 use Rattle.zq_base.specs.declared.kind.Kind.TheVariants.{Pull}
 use Rattle.spec_journal.specs.ExampleParts.{options_with}
-use Rattle.control_held.specs.Moments.{moments_from}
+use Rattle.spec_control.specs.Moments.{moments_from}
 use Rattle.spec_run.specs.declared.line.LineCall.TheVariants.{Closes}
 use Rattle.spec_run.specs.OpenSocket.{new_open}
 use Rattle.spec_run.specs.Standing.{ActorStanding}
@@ -14,8 +14,8 @@ use Rattle.spec_control.specs.Control.{begun, id}
 use Rattle.spec_control.specs.ControlRun.{IsControlRun}
 use Rattle.spec_control.specs.Names.{AreNamed}
 use Rattle.spec_control.specs.ControlExamples.{Stories}
-use Rattle.control_held.specs.Has.{AreBy}
-use Rattle.control_held.proofs.TrialLemmas.{none, acts, takes, of_root}
+use Rattle.spec_control.specs.Has.{AreBy}
+use Rattle.spec_control.proofs.TrialLemmas.{none, acts, takes, of_root}
 use Rattle.spec_run.specs.ExampleParts.{moment, line_nr}
 use Rattle.spec_run.specs.Worker.{roles}
 use Rattle.spec_run.specs.OwnedRun.{IsRun, every_pipe, AllWork, AreTold, pipe_capacity, control_at_end}

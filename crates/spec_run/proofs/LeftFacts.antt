@@ -12,10 +12,10 @@ use Rattle.spec_control.specs.Control.{begun, id, end_of}
 use Rattle.spec_control.specs.ControlRun.{IsControlRun}
 use Rattle.spec_control.specs.Names.{AreNamed}
 use Rattle.spec_control.specs.ControlExamples.{Stories}
-use Rattle.control_held.specs.Has.{AreBy}
-use Rattle.control_held.proofs.TrialLemmas.{none, acts, takes, of_root, told}
+use Rattle.spec_control.specs.Has.{AreBy}
+use Rattle.spec_control.proofs.TrialLemmas.{none, acts, takes, of_root, told}
 use Rattle.spec_journal.specs.ExampleParts.{options_with, pair_nr, at_q}
-use Rattle.control_held.specs.Moments.{moments_from}
+use Rattle.spec_control.specs.Moments.{moments_from}
 use Rattle.spec_run.specs.ExampleParts.{moment, line_nr, over_at}
 use Rattle.spec_run.specs.declared.line.LineCall.TheVariants.{Asks, Closes}
 use Rattle.spec_run.specs.declared.line.RunLine.{RunLine}

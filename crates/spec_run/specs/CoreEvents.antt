@@ -1,11 +1,11 @@
 -- A run on one thread by any list of events: each names who acts next, or which mailbox, and the clock's readings (own choice).
 use Rattle.std.specs.Prelude.{◌≡◌, ◌==◌, ◌+◌, ◌&&◌, ℕ, Bool, true, false, not, List, [], ◌∷◌, ◌++◌, Option, Some, None, if◌then◌else◌, filter, length, map, slice_get, slice_set}
 use Rattle.std.specs.List.{list_any, range_with_len}
-use Rattle.control_held.specs.OwnAsks.{is_none}
+use Rattle.spec_control.specs.OwnAsks.{is_none}
 use Rattle.spec_pattern.specs.PipeStep.{AreExact}
 use Rattle.spec_control.specs.Control.{Control, begun}
 use Rattle.spec_control.specs.ControlRun.{is_between, after_all}
-use Rattle.control_held.specs.Moments.{moments_from, reaper_slots}
+use Rattle.spec_control.specs.Moments.{moments_from, reaper_slots}
 use Rattle.spec_run.specs.declared.journal.RunJournal.{RunJournal}
 use Rattle.spec_run.specs.LineCall.{RunScript}
 use Rattle.spec_run.specs.Act.{Act, Deed, Fetches, AsksRoot, Reads, all_acts, steps_in, moments_in}

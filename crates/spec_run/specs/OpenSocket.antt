@@ -17,7 +17,7 @@ use Rattle.spec_control.specs.Rows.{obj}
 use Rattle.spec_control.specs.Control.{is_end, place_of, owner_of, ends_of}
 use Rattle.spec_control.specs.Names.{joined_in}
 use Rattle.spec_journal.specs.NewSocket.{new_pattern}
-use Rattle.control_held.specs.Moments.{Moment, left_by}
+use Rattle.spec_control.specs.Moments.{Moment, left_by}
 
 -- an end of a socket, and where it is
 pub record SockEnd : Type 0 where

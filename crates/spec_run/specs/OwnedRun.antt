@@ -12,9 +12,9 @@ use Rattle.spec_control.specs.Rows.{obj}
 use Rattle.spec_control.specs.Control.{Control, Settlement, begun, is_end, owner_of}
 use Rattle.spec_control.specs.ControlRun.{IsControlRun, after_all}
 use Rattle.spec_control.specs.Names.{AreNamed}
-use Rattle.control_held.specs.Held.{caller_of}
-use Rattle.control_held.specs.Has.{AreBy}
-use Rattle.control_held.specs.Moments.{Moment, moments_from, moments_by}
+use Rattle.spec_control.specs.Held.{caller_of}
+use Rattle.spec_control.specs.Has.{AreBy}
+use Rattle.spec_control.specs.Moments.{Moment, moments_from, moments_by}
 use Rattle.spec_run.specs.LineCall.{RunScript}
 use Rattle.spec_run.specs.Act.{Deed, all_acts, steps_in, moments_in}
 use Rattle.spec_run.specs.Worker.{Role, roles, IsWorkOf}

@@ -4,7 +4,7 @@ use Rattle.spec_pattern.specs.PipeStep.{PipeStep}
 use Rattle.spec_pattern.specs.Pattern.{Pattern}
 use Rattle.spec_pattern.specs.PatternCalls.{PatternPumps}
 use Rattle.spec_control.specs.declared.entry.SeenEmpty.TheVariants.{Mailbox}
-use Rattle.control_held.specs.Moments.{Moment}
+use Rattle.spec_control.specs.Moments.{Moment}
 use Rattle.spec_run.specs.Act.{Act, Step, Said, moments_in}
 use Rattle.spec_run.specs.OpenSocket.{OpenSock, can_write, waiting_ends, PassesItems}
 use Rattle.spec_run.specs.Event.{IsLookAt, LooksFronts, TakesLetters}

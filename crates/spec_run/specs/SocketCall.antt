@@ -19,7 +19,7 @@ use Rattle.spec_control.specs.Control.{id}
 use Rattle.spec_control.specs.Reply.{root_asked}
 use Rattle.spec_journal.specs.declared.journal.Answer.TheVariants as answer
 use Rattle.spec_journal.specs.Line.{sent_answer, got_answer, changed_answer}
-use Rattle.control_held.specs.Moments.{Moment, left_by}
+use Rattle.spec_control.specs.Moments.{Moment, left_by}
 use Rattle.spec_run.specs.declared.journal.LineAnswer.{LineAnswer}
 use Rattle.spec_run.specs.declared.journal.LineAnswer.TheVariants.{Plain, Term}
 use Rattle.spec_run.specs.ControlAnswer.{reply_answer}

@@ -1,6 +1,6 @@
 -- How an actor stands between its steps, and what each of its deeds does (own choice).
 use Rattle.std.specs.Prelude.{◌≡◌, ◌==◌, ◌+◌, ◌&&◌, ℕ, Bool, true, false, not, List, [], ◌∷◌, ◌++◌, Option, Some, None, if◌then◌else◌, filter, find, map, slice_get}
-use Rattle.control_held.specs.OwnAsks.{is_none}
+use Rattle.spec_control.specs.OwnAsks.{is_none}
 use Rattle.zq_base.specs.declared.kind.Kind.{Kind}
 use Rattle.zq_base.specs.declared.options.Options.{Options}
 use Rattle.zq_script.specs.declared.script.Call.TheVariants as call
@@ -11,7 +11,7 @@ use Rattle.spec_control.specs.declared.request.Reply.{Reply}
 use Rattle.spec_control.specs.declared.request.Reply.TheVariants.{Done, Object, Pair, Both, Wait, Asked, Before, Refused}
 use Rattle.spec_control.specs.Control.{id}
 use Rattle.spec_journal.specs.declared.journal.Answer.TheVariants as answer
-use Rattle.control_held.specs.Moments.{Moment}
+use Rattle.spec_control.specs.Moments.{Moment}
 use Rattle.spec_run.specs.declared.journal.LineAnswer.TheVariants.{Plain}
 use Rattle.spec_run.specs.declared.line.LineCall.{LineCall}
 use Rattle.spec_run.specs.declared.line.LineCall.TheVariants.{Asks, Unbinds, Disconnects, Closes, Terms}

@@ -4,7 +4,7 @@ use Rattle.std.specs.List.{list_any}
 use Rattle.spec_control.specs.declared.request.Req.TheVariants.{AskTerm}
 use Rattle.spec_control.specs.declared.request.Reply.{Reply}
 use Rattle.spec_control.specs.declared.entry.SeenEmpty.TheVariants.{Nothing, Reapers}
-use Rattle.control_held.specs.Moments.{Moment, reaper_slots}
+use Rattle.spec_control.specs.Moments.{Moment, reaper_slots}
 use Rattle.spec_run.specs.declared.line.RunActor.{RunActor}
 use Rattle.spec_run.specs.LineCall.{RunScript}
 use Rattle.spec_run.specs.Act.{Act, Deed, Tries, Shuts, Fetches, Idles, Works, Looks, AsksRoot, Reads}

@@ -2,7 +2,7 @@
 use Rattle.std.specs.Prelude.{◌≡◌, ◌⊎◌, ◌≤◌, ℕ, List, Option, Bool, true, false, Some, None, length, codes}
 use Rattle.spec_journal.specs.Run.{Schedule}
 use Rattle.zq_outer.specs.Count.{Rose}
-use Rattle.clock_reads.specs.Readings.{ClockAt, ReadsClock, GoesOn}
+use Rattle.zq_outer.specs.Readings.{ClockAt, ReadsClock, GoesOn}
 use Rattle.zq_outer.specs.Source.{Consumes, ConsumesAll}
 use Rattle.zq_outer.specs.Sink.{Appends, AppendsFront}
 use Rattle.zq_base.specs.declared.kind.Kind.{Kind}

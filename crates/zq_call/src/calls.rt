@@ -1,5 +1,5 @@
 ghost use Rattle.std.specs.Prelude.{◌≡◌, map, string_bytes};
-ghost use Rattle.clock_reads.specs.Readings.{clock_at};
+ghost use Rattle.zq_outer.specs.Readings.{clock_at};
 ghost use Rattle.zq_call.specs.Call.{AnswersCall, outside};
 
 use crate::runs::Runs;

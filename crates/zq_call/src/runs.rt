@@ -1,6 +1,6 @@
 ghost use Rattle.std.specs.Prelude.{ℕ, Bool, List, IfOk, IfErr};
 ghost use Rattle.spec_journal.specs.Run.{Schedule};
-ghost use Rattle.clock_reads.specs.Readings.{clock_at, GoesOn};
+ghost use Rattle.zq_outer.specs.Readings.{clock_at, GoesOn};
 ghost use Rattle.zq_call.specs.Call.{SaysOf};
 
 use crate::status::Status;

@@ -1,7 +1,7 @@
 ghost use Rattle.std.specs.Prelude.{◌≡◌, ◌≤◌, ℕ, Bool, List, map, string_bytes, codes, IfOk, IfErr, IfSome};
 ghost use Rattle.spec_zmtp.specs.Metadata.{IsLogin};
 ghost use Rattle.zq_hear.specs.HearText.{IsHeard, hear_opts};
-ghost use Rattle.clock_reads.specs.Readings.{clock_at, ClockAt, GoesOn};
+ghost use Rattle.zq_outer.specs.Readings.{clock_at, ClockAt, GoesOn};
 ghost use Rattle.zq_call.specs.Call.{AsksRun, AsksHear, SaysText, input_at, heard_status};
 
 use crate::runs::Runs;

@@ -108,10 +108,7 @@ impl<'r, R: Net> NetHost<'r, R> {
         ensures counts { self.new ≡ self.old }
     {
         match got {
-            Ok((stream, _)) => {
-                let link = self.watched_link(stream)?;
-                Ok(Some(link))
-            }
+            Ok((stream, _)) => self.watched_link(stream),
             Err(error) => match meaning(error.kind()) {
                 Trouble::Failed => Err(error),
                 Trouble::NotReady | Trouble::Ended => Ok(None),
@@ -120,7 +117,7 @@ impl<'r, R: Net> NetHost<'r, R> {
     }
 
     // A link over a stream that is connected, watched from now on.
-    fn watched_link(&mut self, mut stream: TcpStream) -> io::Result<NetLink>
+    fn watched_link(&mut self, mut stream: TcpStream) -> io::Result<Option<NetLink>>
         ensures counts { self.new ≡ self.old }
     {
         let ready = self.watch.add(&mut stream, both_ways())?;
@@ -137,8 +134,7 @@ impl<'r, R: Net> NetHost<'r, R> {
         if !self.is_done(key)? {
             return Ok(None);
         }
-        let link = self.take_dial(key)?;
-        Ok(Some(link))
+        self.take_dial(key)
     }
 
     // Whether a dial is known to be connected.
@@ -155,7 +151,7 @@ impl<'r, R: Net> NetHost<'r, R> {
     }
 
     // The link of a dial that is connected, which is no dial any more.
-    fn take_dial(&mut self, key: u32) -> io::Result<NetLink>
+    fn take_dial(&mut self, key: u32) -> io::Result<Option<NetLink>>
         ensures counts { self.new ≡ self.old }
     {
         let Some(dial) = self.dials.swap_remove(&key) else {
@@ -166,11 +162,11 @@ impl<'r, R: Net> NetHost<'r, R> {
     }
 
     // A link over a stream that is connected and watched.
-    fn link(&self, stream: TcpStream, ready: Arc<Ready>) -> io::Result<NetLink>
-        ensures counts { IfOk result (λ l. l ≡ record { faults = 0; stalls = 0; ends = 0 }) }
+    fn link(&self, stream: TcpStream, ready: Arc<Ready>) -> io::Result<Option<NetLink>>
+        ensures counts { IfOk result (λ found. MatchOption found ⊥ (λ l. l ≡ record { faults = 0; stalls = 0; ends = 0 })) }
     {
         let looks = self.looks_for(&stream)?;
-        Ok(NetLink::new(stream, ready, looks))
+        Ok(Some(NetLink::new(stream, ready, looks)))
     }
 
     // The count of looks for a link over a stream, which sends small pieces at once.

@@ -37,7 +37,7 @@ use Rattle.zq_session.specs.Halves.{StepsRun, step_in}
 use Rattle.zq_session.specs.Doing.{ReadsAtBy, WantsAtBy, ReadsAs, IsFor, EndsAs}
 use Rattle.session_life.specs.Reading.{IsReading}
 use Rattle.zq_session.specs.BothParts.{PartsBy, CutBy, UnnotedBy}
-use Rattle.link_topics.specs.Topics.{Topics}
+use Rattle.spec_link.specs.Topics.{Topics}
 use Rattle.zq_session.specs.Noting.{NextBy, UnsaidBy, Next, Takes, Says, next_acts, next_look, WriteMode, taking, alone, saying, mode_of}
 use Rattle.zq_session.proofs.NotingLemmas.{writes_now, notes_more, still_on, still_none, write_still, read_still, put_still}
 use Rattle.zq_session.proofs.UnputLemmas.{does_these, does_on, does_as, unput_write, unput_next, tells_as, write_part_as, write_only_as}

@@ -28,7 +28,7 @@ use Rattle.zq_session.specs.Cuts.{IsCutAt, IsCutAtLink, CutAtLinkBy, CutUnlinked
 use Rattle.zq_session.proofs.HalfLemmas.{no_steps}
 use Rattle.zq_session.proofs.UnlinkedLemmas.{same_by, link_gone}
 use Rattle.zq_session.proofs.CourseLemmas.{acted, after_on, after_acts, steps_of_acts, acts_of_acts, due_adds, no_due_acts, no_due_steps, more_of, link_some, link_waits, link_is, dials_on, by_link, once_as, met_is, basis_is}
-use Rattle.link_topics.specs.Topics.{Topics}
+use Rattle.spec_link.specs.Topics.{Topics}
 use Rattle.link_side.specs.declared.behind.Behind.{Behind}
 use Rattle.link_side.specs.Says.{IsFree}
 use Rattle.zq_session.specs.Noting.{IsHeldOf, SaysAt}

@@ -14,7 +14,7 @@ use Rattle.spec_link.specs.LinkAct.{LinkAct, Wire, Step, Repeats, taken_of, repe
 use Rattle.spec_link.specs.Parts.{IsTake, IsWritePart, write_acts}
 use Rattle.spec_pattern.specs.Publishing.{saying_of}
 use Rattle.spec_link.specs.Turn.{IsWriteOnly, topics_by}
-use Rattle.link_topics.specs.Topics.{Topics, IsLeft}
+use Rattle.spec_link.specs.Topics.{Topics, IsLeft}
 use Rattle.link_side.specs.declared.behind.Behind.{Behind}
 use Rattle.link_side.specs.declared.write_part.Written.{Written}
 use Rattle.link_side.specs.Kept.{Kept, Side, Acts}

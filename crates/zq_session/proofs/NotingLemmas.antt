@@ -20,7 +20,7 @@ use Rattle.spec_link.specs.Rows.{ClosedLink}
 use Rattle.spec_link.specs.History.{Basis, Standing}
 use Rattle.spec_link.specs.Turn.{IsWriteOnly, WritesAt, IsNextOf, HasNext, CanRead, read_pipe, subscribes, topics_by, topics_taken, topics_due, topics_left}
 use Rattle.spec_link.specs.TopicsFirst.{topics_said}
-use Rattle.link_topics.specs.Topics.{Topics, IsLeft, with_again, made_again}
+use Rattle.spec_link.specs.Topics.{Topics, IsLeft, with_again, made_again}
 use Rattle.link_side.specs.declared.behind.Behind.{Behind}
 use Rattle.link_side.specs.declared.behind.Behind.TheVariants.{Nothing, Octets, Unsaid}
 use Rattle.link_side.specs.Kept.{Kept, Side, IsKeptOf}

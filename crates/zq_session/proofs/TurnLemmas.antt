@@ -38,7 +38,7 @@ use Rattle.zq_session.proofs.UnlinkedLemmas.{link_gone}
 use Rattle.zq_session.proofs.HalfLemmas.{no_steps}
 use Rattle.session_life.proofs.LifeLemmas.{no_step, due_step, due_output, not_due, was_due, is_due}
 use Rattle.zq_session.proofs.CourseLemmas.{after_on, due_adds, no_due_acts, no_due_steps, dials_on, same_on, basis_is, link_held, link_some, link_waits, link_is, peer_on}
-use Rattle.link_topics.specs.Topics.{Topics, with_again}
+use Rattle.spec_link.specs.Topics.{Topics, with_again}
 use Rattle.link_side.specs.declared.behind.Behind.{Behind}
 use Rattle.link_side.specs.declared.behind.Behind.TheVariants.{Nothing, Octets, Unsaid}
 use Rattle.zq_session.specs.Noting.{PassesOn, IsHeldOf, AreTopics, unsaid_by, unsaid_of}

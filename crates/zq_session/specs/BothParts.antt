@@ -16,7 +16,7 @@ use Rattle.session_life.specs.declared.life.Life.{Life}
 use Rattle.session_life.specs.declared.life.ReadMode.{ReadMode}
 use Rattle.zq_session.specs.declared.parts.Done.{Done}
 use Rattle.zq_base.specs.Message.{Frames}
-use Rattle.link_topics.specs.Topics.{Topics}
+use Rattle.spec_link.specs.Topics.{Topics}
 use Rattle.link_side.specs.declared.behind.Behind.TheVariants.{Unsaid}
 use Rattle.link_side.specs.Kept.{Kept, Side, HasRun, Acts, IsKeptOf, KeepsActs}
 use Rattle.zq_session.specs.Noting.{SaysAt, behind_acts}

@@ -16,7 +16,7 @@ use Rattle.spec_link.specs.Rows.{ClosedLink}
 use Rattle.spec_link.specs.History.{Basis}
 use Rattle.spec_link.specs.Turn.{IsWriteOnly, subscribes, topics_by, topics_taken}
 use Rattle.spec_link.specs.TopicsFirst.{topics_said}
-use Rattle.link_topics.specs.Topics.{Topics, IsLeft}
+use Rattle.spec_link.specs.Topics.{Topics, IsLeft}
 use Rattle.link_side.specs.declared.behind.Behind.{Behind}
 use Rattle.link_side.specs.declared.behind.Behind.TheVariants.{Nothing, Octets, Unsaid}
 use Rattle.link_side.specs.declared.wire.Fetched.{Fetched}

@@ -7,17 +7,16 @@ ghost use Rattle.zq_session.specs.Doing.{WritesAtBy, ReadsAtBy, WantsAtBy, EndsA
 ghost use Rattle.zq_session.specs.Shown.{ShownBy};
 ghost use Rattle.zq_session.specs.Unlinked.{LooksBy};
 ghost use Rattle.msg_pipe.specs.Known.{IsThere};
-ghost use Rattle.link_topics.specs.Topics.{IsLeft};
+ghost use Rattle.spec_link.specs.Topics.{IsLeft};
 ghost use Rattle.link_side.specs.Says.{IsFree};
 ghost use Rattle.zq_session.specs.Noting.{NextBy, UnsaidBy, NotesBy, NotesNotBy, SaysOn, mode_of};
 ghost use Rattle.zq_session.specs.BothParts.{PartsBy, CutBy, UnnotedBy, LastBy};
 
 use crate::passing::pass_on;
 use link_side::{Fetched, LinkSide, Written, is_over};
-use link_topics::LinkTopics;
 use msg_pipe::{Front, Pipes};
 use session_life::{Life, ReadMode};
-use spec_link::LinkEnd;
+use spec_link::{LinkEnd, LinkTopics};
 use std::alloc::{AllocError, Global};
 use zq_outer::{Link, LinkGot, LinkPut};
 

@@ -5,8 +5,8 @@ ghost use Rattle.link_side.specs.Says.{IsFree};
 ghost use Rattle.zq_session.specs.Noting.{PassesOn};
 
 use link_side::LinkSide;
-use link_topics::LinkTopics;
 use session_life::note;
+use spec_link::LinkTopics;
 use std::alloc::{AllocError, Global};
 
 /// Notes the message that was taken and isn't offered yet, and offers it. Where memory wants, all

@@ -9,7 +9,7 @@ use Rattle.spec_journal.specs.Run.{Schedule}
 use Rattle.run_script.specs.RunGrammar.{run_script_of}
 use Rattle.spec_run.specs.declared.journal.RunJournal.{RunJournal}
 use Rattle.spec_run.specs.LineCall.{RunScript}
-use Rattle.read_laws.specs.ReadScripts.{ScriptsMayBeAsked}
+use Rattle.replay_laws.specs.ReadScripts.{ScriptsMayBeAsked}
 use Rattle.replay_laws.specs.ScriptBounds.{script_turns, ScriptsAreDoneInTime}
 use Rattle.zq_base.specs.declared.kind.Kind.{Kind}
 use Rattle.zq_base.specs.declared.options.Login.{Login}

@@ -2,7 +2,7 @@
 use Rattle.std.proofs.Common.{ℕ, List, Option, refl, inr}
 use Rattle.std.specs.Prelude.{Result, Ok, Err, IfOk}
 use Rattle.zq_outer.specs.Count.{Rose}
-use Rattle.read_laws.specs.ReadScripts.{ScriptsMayBeAsked}
+use Rattle.replay_laws.specs.ReadScripts.{ScriptsMayBeAsked}
 use Rattle.replay_laws.specs.ScriptBounds.{ScriptsAreDoneInTime}
 use Rattle.zq_top.specs.Told.{Told}
 use Rattle.zq_call.specs.Call.{InputAt, Outside, IsSound}

@@ -1,6 +1,6 @@
 -- How the program ends: its exit code, by what was read and written.
 use Rattle.std.specs.Prelude.{◌≡◌, ℕ, List, Option, None}
-use Rattle.clock_reads.specs.Readings.{ClockAt, tick_at}
+use Rattle.zq_outer.specs.Readings.{ClockAt, tick_at}
 use Rattle.zq_call.specs.Call.{IsSound, outside}
 use Rattle.zq_call.specs.ExitCode.{exit_code}
 use Rattle.zq_call.specs.declared.status.Status.{Status}

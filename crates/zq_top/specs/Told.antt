@@ -1,6 +1,6 @@
 -- What the story of a plain pipe is made of.
 use Rattle.std.specs.Prelude.{Bool}
-use Rattle.http_server.specs.declared.log.Log.{Log}
+use Rattle.zq_base.specs.declared.log.Log.{Log}
 use Rattle.msg_pipe.specs.declared.plain_pipe.PlainPipe.{PlainPipe}
 
 -- what plain pipes tell of themselves

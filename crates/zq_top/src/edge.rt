@@ -2,12 +2,11 @@ ghost use Rattle.std.specs.Prelude.{◌≡◌, map, string_bytes, IfOk, IfErr};
 ghost use Rattle.zq_top.specs.Edge.{Exits};
 
 use crate::plain::PlainRuns;
-use http_server::Log;
 use msg_pipe::PlainPipe;
-use read_laws::scripts_that_are_read_may_be_asked;
-use replay_laws::scripts_are_done_in_time;
+use replay_laws::{scripts_are_done_in_time, scripts_that_are_read_may_be_asked};
 use std::alloc::{AllocError, Global};
 use std::io::{Read, Write};
+use zq_base::Log;
 use zq_call::Ended;
 
 /// Does what the words ask, over a reader and a writer. Without memory for the words themselves it

@@ -1,5 +1,5 @@
 ghost use Rattle.std.specs.Prelude.{ℕ, List, IfOk, IfErr};
-ghost use Rattle.clock_reads.specs.Readings.{clock_at, ClockAt, GoesOn};
+ghost use Rattle.zq_outer.specs.Readings.{clock_at, ClockAt, GoesOn};
 ghost use Rattle.spec_journal.specs.Run.{Schedule};
 ghost use Rattle.run_text.specs.RunText.{TellsRun, IsRunDue};
 ghost use Rattle.zq_top.specs.Told.{Told};

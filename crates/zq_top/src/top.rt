@@ -1,14 +1,13 @@
 ghost use Rattle.std.specs.Prelude.{◌≡◌, map, string_bytes};
-ghost use Rattle.clock_reads.specs.Readings.{clock_at};
+ghost use Rattle.zq_outer.specs.Readings.{clock_at};
 ghost use Rattle.zq_call.specs.Call.{IsSound, outside};
 ghost use Rattle.zq_top.specs.Headline.{AnswersCall, IsDue};
 
 use crate::plain::PlainRuns;
-use http_server::Log;
 use msg_pipe::PlainPipe;
-use read_laws::scripts_that_are_read_may_be_asked;
-use replay_laws::scripts_are_done_in_time;
+use replay_laws::{scripts_are_done_in_time, scripts_that_are_read_may_be_asked};
 use std::alloc::Global;
+use zq_base::Log;
 use zq_call::{Status, call};
 use zq_outer::{Clock, Gate, Host, Sink, Source};
 

@@ -1,6 +1,6 @@
 use Rattle.std.proofs.Common.{◌≡◌, List, length, refl, sym, ap, subst}
 use Rattle.std.proofs.lemmas.Result.{IfOk-at_ok}
-use Rattle.http_server.specs.declared.log.Log.{Log}
+use Rattle.zq_base.specs.declared.log.Log.{Log}
 use Rattle.spec_pattern.specs.declared.answers.Skip.{Skip}
 use Rattle.spec_control.specs.Control.{id}
 use Rattle.spec_control.specs.declared.request.Req.TheVariants.{Bind}

@@ -1,5 +1,5 @@
 use Rattle.std.proofs.Common.{length, ap}
-use Rattle.http_server.specs.declared.log.Log.{Log}
+use Rattle.zq_base.specs.declared.log.Log.{Log}
 use Rattle.lent_sock.proofs.AskLemmas.{one_longer}
 use Rattle.lent_sock.proofs.HereLemmas.{reader_here, met_there}
 use Rattle.lent_sock.proofs.MeetLemmas.{has_met}

@@ -1,6 +1,6 @@
 use Rattle.std.proofs.Common.{◌≡◌, ◌∙◌, [], length, refl, sym, subst}
 use Rattle.std.proofs.lemmas.Result.{IfOk-at_ok}
-use Rattle.ctl_holder.specs.declared.given.Given.{Given}
+use Rattle.ctl_plane.specs.declared.given.Given.{Given}
 use Rattle.one_desk.specs.Lent.{Lent}
 use Rattle.lent_sock.specs.Leads.{Leads}
 use Rattle.lent_sock.specs.LeadsOwed.{led_none}

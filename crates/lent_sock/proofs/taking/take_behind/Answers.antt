@@ -1,6 +1,6 @@
 use Rattle.std.proofs.Common.{◌≡◌, length, ap}
 use Rattle.std.proofs.lemmas.Result.{IfOk-at_ok}
-use Rattle.http_server.specs.declared.log.Log.{Log}
+use Rattle.zq_base.specs.declared.log.Log.{Log}
 use Rattle.ctl_plane.specs.declared.delivery.Delivery.{Delivery}
 use Rattle.ctl_plane.specs.Desk.{GivesOrNot, slot_after}
 use Rattle.sock_calls.specs.Calls.{owner_of}

@@ -1,7 +1,7 @@
 use Rattle.std.specs.Prelude.{◌-◌, ◌==◌, true}
 use Rattle.std.specs.List.{list_any}
 use Rattle.std.proofs.Common.{arith, sym, ap, ◌∙◌}
-use Rattle.control_held.specs.Moments.{reaper_slots}
+use Rattle.spec_control.specs.Moments.{reaper_slots}
 use Rattle.ctl_history.specs.Past.{control_of}
 use Rattle.core_others.proofs.BoxesLemmas.{high_reapers, past_reapers, root_reapers, worker_reapers}
 use Rattle.zq_world.specs.Taken.{is_reapers}

@@ -1,6 +1,6 @@
 use Rattle.std.specs.Prelude.{true, []}
 use Rattle.core_tale.specs.Marks.{piece_marks}
-use Rattle.ctl_holder.specs.declared.given.Given.{Given}
+use Rattle.ctl_plane.specs.declared.given.Given.{Given}
 use Rattle.one_desk.specs.Lent.{Lent}
 use Rattle.one_desk.specs.Waiting.{WaitsAt}
 use Rattle.reap_steps.specs.Steps.{acts_at, reap_parts}

@@ -1,7 +1,7 @@
 use Rattle.std.proofs.Common.{arith, sym, ◌∙◌}
 use Rattle.ctl_history.specs.Past.{control_of}
-use Rattle.held_laws.specs.Closed.{waits}
-use Rattle.held_laws.proofs.ReapLemmas.{find_at, find_past}
+use Rattle.control_laws.specs.Closed.{waits}
+use Rattle.control_laws.proofs.ReapLemmas.{find_at, find_past}
 use Rattle.one_desk.proofs.queue.first_of.Goals as goal
 
 pub returns-then-is_waiting-clause-first : goal.returns-then-is_waiting-clause-first

@@ -1,6 +1,6 @@
 use Rattle.std.specs.Prelude.{◌≡◌, None, find, take}
 use Rattle.ctl_history.specs.Past.{control_of}
-use Rattle.held_laws.specs.Closed.{waits}
+use Rattle.control_laws.specs.Closed.{waits}
 use Rattle.one_desk.proofs.queue.first_of.Given as goal
 
 -- nothing waits for those so far

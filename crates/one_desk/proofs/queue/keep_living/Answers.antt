@@ -5,7 +5,7 @@ use Rattle.std.proofs.lemmas.List.Filters.{FiltersInPlace, FiltersInPlace-more_n
 use Rattle.zq_base.specs.declared.ids.ObjId.{ObjId}
 use Rattle.ctl_state.specs.Listed.{Listed}
 use Rattle.ctl_history.specs.Past.{control_of}
-use Rattle.held_laws.specs.Closed.{lives}
+use Rattle.control_laws.specs.Closed.{lives}
 use Rattle.one_desk.proofs.queue.keep_living.Goals as goal
 
 -- the socket that stands there

@@ -1,7 +1,7 @@
 use Rattle.std.proofs.Common.{◌≡◌}
 use Rattle.std.proofs.lemmas.List.Filters.{FiltersInPlace}
 use Rattle.ctl_history.specs.Past.{control_of}
-use Rattle.held_laws.specs.Closed.{lives}
+use Rattle.control_laws.specs.Closed.{lives}
 use Rattle.one_desk.proofs.queue.keep_living.Given as goal
 
 -- those so far that live stand in front

@@ -2,7 +2,7 @@ use Rattle.std.proofs.Common.{◌∙◌, sym, ap}
 use Rattle.spec_control.specs.declared.end.EndState.{EndState}
 use Rattle.spec_control.specs.Place.{At}
 use Rattle.spec_run.specs.OpenSocket.{awaits_delimiter}
-use Rattle.ctl_holder.specs.declared.given.Given.{Given}
+use Rattle.ctl_plane.specs.declared.given.Given.{Given}
 use Rattle.reaper_ends.specs.Has.{ends_of}
 use Rattle.reaper_ends.proofs.PlaceLemmas.{end_is}
 use Rattle.reaper_ends.proofs.ReadingLemmas.{state_found, state_none}

@@ -1,11 +1,11 @@
-use Rattle.std.proofs.Common.{[], subst, sym}
+use Rattle.std.proofs.Common.{[], Err, refl, ap, subst, sym}
 use Rattle.std.specs.Prelude.{IfOk}
-use Rattle.clock_reads.specs.Readings.{clock_at}
-use Rattle.clock_reads.proofs.ClockLemmas.{reads_none}
+use Rattle.zq_outer.specs.Readings.{clock_at}
+use Rattle.zq_outer.proofs.ClockLemmas.{reads_none}
 use Rattle.spec_run.specs.LineCall.{RunScript}
 use Rattle.script_actor.specs.MayAsk.{MayAskScript}
 use Rattle.run_text.specs.RunText.{TellsPlay}
-use Rattle.run_text.proofs.ToldLemmas.{tells_if, due_if}
+use Rattle.run_text.proofs.ToldLemmas.{tells_if, due_if, fault_due}
 use Rattle.run_text.proofs.text.text_of_run.Goals as goal
 
 pub play-said-requires-clause-may : goal.play-said-requires-clause-may
@@ -22,3 +22,9 @@ returns-in-Ok-clause-due g c = due_if _ _ c.a_script_has_one_run_journal.ensures
 
 pub returns-in-Err-OutOfMemory-clause-err : goal.returns-in-Err-OutOfMemory-clause-err
 returns-in-Err-OutOfMemory-clause-err g c = ([], reads_none (clock_at (g.C.Clock.last c.args.clock.now) (g.C.Clock.to_come c.args.clock.now)))
+
+pub returns-in-Err-Fault-clause-tells : goal.returns-in-Err-Fault-clause-tells
+returns-in-Err-Fault-clause-tells g c = rw c.in-Err-Fault.fault-is (c.in-Err-Fault.ensures.fault c.in-Err-Fault.fault (ap Err c.in-Err-Fault.field-0-is), refl)
+
+pub returns-in-Err-Fault-clause-due : goal.returns-in-Err-Fault-clause-due
+returns-in-Err-Fault-clause-due g c = rw c.in-Err-Fault.fault-is (fault_due _ _ _ c.args.octets.now c.in-Err-Fault.fault (c.in-Err-Fault.ensures.fault c.in-Err-Fault.fault (ap Err c.in-Err-Fault.field-0-is)))

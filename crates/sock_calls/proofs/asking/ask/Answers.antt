@@ -1,7 +1,7 @@
 use Rattle.std.proofs.Common.{◌≡◌, ℕ, true, false, Option, Some, refl, sym, ap, ◌∙◌, subst}
 use Rattle.zq_base.specs.declared.ids.EndId.{EndId}
 use Rattle.spec_control.specs.Control.{Control}
-use Rattle.ctl_holder.specs.Making.{IsMadeFor}
+use Rattle.ctl_plane.specs.Making.{IsMadeFor}
 use Rattle.held_ends.proofs.SoundLemmas.{one_some}
 use Rattle.held_ends.specs.Others.{Leaves}
 use Rattle.sock_core.specs.Has.{holding_in}

@@ -1,5 +1,5 @@
-use Rattle.std.proofs.Common.{◌≡◌, ◌-◌, ℕ, true, false, List, length, take, drop, sym, subst, arith, length-drop}
-use Rattle.std.specs.Prelude.{Result, Err, MatchResult, codes, nat_eq}
+use Rattle.std.proofs.Common.{◌≡◌, ◌-◌, ℕ, true, false, List, length, take, drop, refl, sym, subst, arith, length-drop}
+use Rattle.std.specs.Prelude.{Result, Ok, Err, MatchResult, codes, nat_eq}
 use Rattle.std.specs.List.{starts_with}
 use Rattle.std.proofs.lemmas.List.{take_all}
 use Rattle.std.proofs.lemmas.Result.{err_from_is_err_and}
@@ -15,26 +15,52 @@ use Rattle.zq_script.proofs.options.set_option.Goals as goal
 match_err : {A E : Type 0} (r : Result A E) (P : A → Type 0) (Q : E → Type 0) (e : E) → r ≡ Err e → Q e → MatchResult r P Q
 match_err r P Q e is q = subst (λ x. MatchResult x P Q) (sym is) q
 
--- a fault of what stands behind the option's name
-behind : {A : Type 0} (f : List ℕ → Result A Cause) (word : List ℕ) (n : ℕ) (e : LineError) → Gives {T = A} (Err e) (f (take (length word - n) (drop n word))) → Gives {T = A} (Err e) (f (drop n word))
-behind {A} f word n e h = subst (λ l. Gives {T = A} (Err e) (f l)) (take_all (length word - n) (drop n word) (omega (arith, length-drop n word))) h
+-- what is said of the octets that were read holds of those behind the option's name
+behind : (P : List ℕ → Type 0) (word : List ℕ) (n : ℕ) → P (take (length word - n) (drop n word)) → P (drop n word)
+behind P word n h = subst P (take_all (length word - n) (drop n word) (omega (arith, length-drop n word))) h
+
+hwm_good : (word : List ℕ) (options : Options) (mark : ℕ) → true ≡ starts_with nat_eq word (codes "hwm=")
+    → mark_of (take (length word - 4) (drop 4 word)) ≡ Ok mark → with_option word options ≡ Ok (record options { hwm = mark })
+unfolding with_option
+hwm_good word options mark is h = rw (← is, behind (λ (l : List ℕ). mark_of l ≡ Ok mark) word 4 h) refl
+
+rcvhwm_good : (word : List ℕ) (options : Options) (mark : ℕ) → false ≡ starts_with nat_eq word (codes "hwm=")
+    → true ≡ starts_with nat_eq word (codes "rcvhwm=")
+    → mark_of (take (length word - 7) (drop 7 word)) ≡ Ok mark → with_option word options ≡ Ok (record options { rcvhwm = mark })
+unfolding with_option
+rcvhwm_good word options mark not_hwm is h = rw (← not_hwm, ← is, behind (λ (l : List ℕ). mark_of l ≡ Ok mark) word 7 h) refl
+
+id_good : (word : List ℕ) (options : Options) (id : List ℕ) → false ≡ starts_with nat_eq word (codes "hwm=")
+    → false ≡ starts_with nat_eq word (codes "rcvhwm=") → true ≡ starts_with nat_eq word (codes "id=")
+    → identity_of (take (length word - 3) (drop 3 word)) ≡ Ok id → with_option word options ≡ Ok (record options { id = id })
+unfolding with_option
+id_good word options id not_hwm not_rcvhwm is h = rw (← not_hwm, ← not_rcvhwm, ← is, behind (λ (l : List ℕ). identity_of l ≡ Ok id) word 3 h) refl
 
 hwm_bad : (word : List ℕ) (options : Options) (e : LineError) → true ≡ starts_with nat_eq word (codes "hwm=")
     → Gives {T = ℕ} (Err e) (mark_of (take (length word - 4) (drop 4 word))) → Gives {T = Options} (Err e) (with_option word options)
 unfolding with_option
-hwm_bad word options e is h = rw (← is) (gives_err e _ _ (behind mark_of word 4 e h))
+hwm_bad word options e is h = rw (← is) (gives_err e _ _ (behind (λ (l : List ℕ). Gives {T = ℕ} (Err e) (mark_of l)) word 4 h))
 
 rcvhwm_bad : (word : List ℕ) (options : Options) (e : LineError) → false ≡ starts_with nat_eq word (codes "hwm=")
     → true ≡ starts_with nat_eq word (codes "rcvhwm=")
     → Gives {T = ℕ} (Err e) (mark_of (take (length word - 7) (drop 7 word))) → Gives {T = Options} (Err e) (with_option word options)
 unfolding with_option
-rcvhwm_bad word options e not_hwm is h = rw (← not_hwm, ← is) (gives_err e _ _ (behind mark_of word 7 e h))
+rcvhwm_bad word options e not_hwm is h = rw (← not_hwm, ← is) (gives_err e _ _ (behind (λ (l : List ℕ). Gives {T = ℕ} (Err e) (mark_of l)) word 7 h))
 
 id_bad : (word : List ℕ) (options : Options) (e : LineError) → false ≡ starts_with nat_eq word (codes "hwm=")
     → false ≡ starts_with nat_eq word (codes "rcvhwm=") → true ≡ starts_with nat_eq word (codes "id=")
     → Gives {T = List ℕ} (Err e) (identity_of (take (length word - 3) (drop 3 word))) → Gives {T = Options} (Err e) (with_option word options)
 unfolding with_option
-id_bad word options e not_hwm not_rcvhwm is h = rw (← not_hwm, ← not_rcvhwm, ← is) (gives_err e _ _ (behind identity_of word 3 e h))
+id_bad word options e not_hwm not_rcvhwm is h = rw (← not_hwm, ← not_rcvhwm, ← is) (gives_err e _ _ (behind (λ (l : List ℕ). Gives {T = List ℕ} (Err e) (identity_of l)) word 3 h))
+
+pub returns-then-starts_with : goal.returns-then-starts_with
+returns-then-starts_with c = hwm_good c.args.word.now c.args.options.now c.in_ok-options.field-0 c.if-starts_with.ensures.value c.in_ok-options.ensures
+
+pub returns-then-starts_with-2 : goal.returns-then-starts_with-2
+returns-then-starts_with-2 c = rcvhwm_good c.args.word.now c.args.options.now c.in_ok-options-2.field-0 c.if-starts_with.ensures.value c.if-starts_with-2.ensures.value c.in_ok-options-2.ensures
+
+pub returns-then-starts_with-3 : goal.returns-then-starts_with-3
+returns-then-starts_with-3 c = id_good c.args.word.now c.args.options.now c.in_ok-options-3.field-0 c.if-starts_with.ensures.value c.if-starts_with-2.ensures.value c.if-starts_with-3.ensures.value c.in_ok-options-3.ensures
 
 pub returns-in_err-options : goal.returns-in_err-options
 returns-in_err-options c =

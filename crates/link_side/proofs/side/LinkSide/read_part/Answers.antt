@@ -28,3 +28,12 @@ invariant_of-self-2 g c = record {
 pub returns-clause-ok : goal.returns-clause-ok
 returns-clause-ok g c =
     side_reads g.P.Pipes.known c.args.self.now (kept c.self.inside.wire) (kept c.read_part.new.self) c.self.inside.behind c.in_ok-got.got _ _ _ _ _ _ (sym c.self.view_is) c.self.invariant.rest c.in_ok-got.ensures.ok
+
+pub returns-clause-others : goal.returns-clause-others
+returns-clause-others g c = c.read_part.ensures.others
+
+pub returns-in_err-got-clause-others : goal.returns-in_err-got-clause-others
+returns-in_err-got-clause-others g c = c.read_part.ensures.others
+
+pub returns-clause-counts : goal.returns-clause-counts
+returns-clause-counts g c = c.in_ok-got.ensures.counts

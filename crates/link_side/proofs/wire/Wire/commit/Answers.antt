@@ -68,3 +68,36 @@ returns-clause-run g c =
       λ pipe. acts_same (kept c.args.self.now) (kept c.hold_next.new.self) (put_acts pipe i.0 false ++ []) (put_acts pipe i.0 false) (append-nil (put_acts pipe i.0 false))
           (acts_on (kept c.args.self.now) (kept c.messages.self) (kept c.hold_next.new.self) (put_acts pipe i.0 false) [] (i.2 pipe) c.hold_next.ensures.run),
     )
+
+pub put_held-requires-clause-sound : goal.put_held-requires-clause-sound
+put_held-requires-clause-sound g c = c.hold_next.ensures.sound
+
+pub put_held-requires-clause-current : goal.put_held-requires-clause-current
+put_held-requires-clause-current g c = c.hold_next.ensures.current c.messages.invariant.current
+
+pub put_held-requires-clause-here : goal.put_held-requires-clause-here
+put_held-requires-clause-here g c = c.messages.invariant.here
+
+pub put_held-requires-clause-open : goal.put_held-requires-clause-open
+put_held-requires-clause-open g c = c.messages.invariant.unsealed
+
+pub returns-then-not-put_held-clause-sound : goal.returns-then-not-put_held-clause-sound
+returns-then-not-put_held-clause-sound g c = c.put_held.ensures.sound
+
+pub returns-then-not-put_held-clause-current : goal.returns-then-not-put_held-clause-current
+returns-then-not-put_held-clause-current g c = subst (λ (x : Conversation). IsCurrent x) (sym c.put_held.ensures.keeps.0) (c.hold_next.ensures.current c.messages.invariant.current)
+
+pub returns-then-not-put_held-clause-full : goal.returns-then-not-put_held-clause-full
+returns-then-not-put_held-clause-full g c = λ _. c.put_held.ensures.stays c.if-not-put_held.true
+
+pub returns-then-not-put_held-clause-unfed : goal.returns-then-not-put_held-clause-unfed
+returns-then-not-put_held-clause-unfed g c = c.put_held.ensures.keeps.1 ∙ c.hold_next.ensures.keeps.1 ∙ c.messages.invariant.unfed_is
+
+pub returns-clause-sound : goal.returns-clause-sound
+returns-clause-sound g c = c.hold_next.ensures.sound
+
+pub returns-clause-current : goal.returns-clause-current
+returns-clause-current g c = c.hold_next.ensures.current c.messages.invariant.current
+
+pub returns-clause-unfed : goal.returns-clause-unfed
+returns-clause-unfed g c = c.hold_next.ensures.keeps.1 ∙ c.messages.invariant.unfed_is

@@ -38,3 +38,30 @@ returns-clause-rest g c =
       current = c.commit.ensures.current;
       drained = drained_by (kept c.commit.new.self) c.commit.result c.commit.ensures.full c.commit.ensures.all;
     }
+
+pub commit-requires-clause-sound : goal.commit-requires-clause-sound
+commit-requires-clause-sound g c = c.hear.ensures.sound
+
+pub commit-requires-clause-current : goal.commit-requires-clause-current
+commit-requires-clause-current g c = c.in_ok-hear.ensures.current
+
+pub commit-requires-clause-here : goal.commit-requires-clause-here
+commit-requires-clause-here g c = c.requires.here
+
+pub commit-requires-clause-open : goal.commit-requires-clause-open
+commit-requires-clause-open g c = c.requires.open
+
+pub returns-in_err-hear-clause-sound : goal.returns-in_err-hear-clause-sound
+returns-in_err-hear-clause-sound g c = c.hear.ensures.sound
+
+pub returns-in_err-hear-clause-others : goal.returns-in_err-hear-clause-others
+returns-in_err-hear-clause-others g c = c.read_due-got.ensures.others
+
+pub returns-clause-sound : goal.returns-clause-sound
+returns-clause-sound g c = c.commit.ensures.sound
+
+pub returns-clause-others : goal.returns-clause-others
+returns-clause-others g c = c.read_due-got.ensures.others
+
+pub returns-clause-counts : goal.returns-clause-counts
+returns-clause-counts g c = c.read_due-got.ensures.counts

@@ -1,6 +1,6 @@
 use Rattle.std.specs.Prelude.{◌++◌, ℕ, List, Result, Ok, Err, OnErr, refl}
 use Rattle.std.proofs.Common.{ap, ◌∙◌, subst}
-use Rattle.ctl_holder.specs.declared.given.Given.{Given}
+use Rattle.ctl_plane.specs.declared.given.Given.{Given}
 use Rattle.spec_control.specs.declared.request.Req.TheVariants.{Socket as MakeSocket}
 use Rattle.one_desk.specs.Lent.{Lent}
 use Rattle.core_tale.specs.declared.marks.PieceMark.{PieceMark}

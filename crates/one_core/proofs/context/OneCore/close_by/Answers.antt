@@ -1,6 +1,6 @@
 use Rattle.std.specs.Prelude.{true}
 use Rattle.std.proofs.Common.{sym, ap, subst}
-use Rattle.ctl_holder.specs.declared.given.Given.{Given}
+use Rattle.ctl_plane.specs.declared.given.Given.{Given}
 use Rattle.script_actor.specs.Way.{ClosesSo, KeepsOthers}
 use Rattle.one_core.specs.Agreeing.{as_open, was_made, Agrees}
 use Rattle.one_core.specs.Sound.{Core, core_of, pieces_in}

@@ -1,6 +1,6 @@
 use Rattle.std.specs.Prelude.{◌≡◌, true}
 use Rattle.std.proofs.Common.{sym, ap, ◌∙◌, subst}
-use Rattle.ctl_holder.specs.declared.given.Given.{Given}
+use Rattle.ctl_plane.specs.declared.given.Given.{Given}
 use Rattle.spec_run.specs.CoreEvents.{may_take}
 use Rattle.script_actor.specs.Way.{KeepsOthers}
 use Rattle.one_core.specs.Agreeing.{as_open, was_made, Agrees}

@@ -1,6 +1,6 @@
 use Rattle.std.proofs.Common.{arith, sym, ap, ◌∙◌}
 use Rattle.spec_control.specs.Control.{Control}
-use Rattle.ctl_holder.specs.declared.given.Given.{Given}
+use Rattle.ctl_plane.specs.declared.given.Given.{Given}
 use Rattle.ctl_history.specs.Past.{control_of}
 use Rattle.zq_world.specs.Taken.{is_reapers}
 use Rattle.one_core.specs.Sound.{Core, core_of, pieces_in}

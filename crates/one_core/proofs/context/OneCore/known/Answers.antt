@@ -1,5 +1,5 @@
 use Rattle.std.proofs.Common.{subst}
-use Rattle.ctl_holder.specs.declared.given.Given.{Given}
+use Rattle.ctl_plane.specs.declared.given.Given.{Given}
 use Rattle.zq_world.specs.Played.{IsOrderly}
 use Rattle.one_core.specs.Sound.{Core, core_of, pieces_in}
 use Rattle.one_core.proofs.SoundLemmas as lemmas

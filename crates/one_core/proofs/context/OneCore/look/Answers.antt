@@ -1,6 +1,6 @@
 use Rattle.std.specs.Prelude.{◌++◌, ℕ, List, refl}
 use Rattle.std.proofs.Common.{ap, ◌∙◌, subst}
-use Rattle.ctl_holder.specs.declared.given.Given.{Given}
+use Rattle.ctl_plane.specs.declared.given.Given.{Given}
 use Rattle.one_desk.specs.Lent.{Lent}
 use Rattle.core_tale.specs.declared.marks.PieceMark.{PieceMark}
 use Rattle.zq_world.specs.CoreCalls.{LooksOnce}

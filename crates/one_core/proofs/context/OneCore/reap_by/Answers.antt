@@ -1,6 +1,6 @@
 use Rattle.std.specs.Prelude.{List, true}
 use Rattle.std.proofs.Common.{sym, ap, subst}
-use Rattle.ctl_holder.specs.declared.given.Given.{Given}
+use Rattle.ctl_plane.specs.declared.given.Given.{Given}
 use Rattle.core_tale.specs.declared.marks.PieceMark.{PieceMark}
 use Rattle.script_actor.specs.Way.{KeepsAll}
 use Rattle.zq_world.specs.CoreCalls.{IsReaper, ReapsOne}

@@ -3,11 +3,11 @@ use Rattle.spec_control.specs.declared.request.Req.{Req}
 use Rattle.spec_control.specs.declared.request.Req.TheVariants.{Socket as MakeSocket, AskTerm, Bind, Connect, Unbind, Disconnect}
 use Rattle.spec_control.specs.declared.request.Reply.TheVariants.{Done as IsDone}
 use Rattle.control_laws.proofs.ListLemmas.{never}
-use Rattle.control_held.specs.Held.{asker}
-use Rattle.control_held.specs.OwnAsks.{MayAskOwn}
-use Rattle.control_held.specs.Moments.{items_in}
+use Rattle.spec_control.specs.Held.{asker}
+use Rattle.spec_control.specs.OwnAsks.{MayAskOwn}
+use Rattle.spec_control.specs.Moments.{items_in}
 use Rattle.ctl_history.specs.Past.{control_of}
-use Rattle.ctl_holder.specs.Making.{MakesSo}
+use Rattle.ctl_plane.specs.Making.{MakesSo}
 use Rattle.ctl_plane.specs.Asking.{HasMarks, IsOfSockets}
 use Rattle.ctl_plane.specs.Coming.{is_close, SendsEnds}
 use Rattle.ctl_plane.specs.Desk.{AsksOnce}

@@ -6,7 +6,7 @@ use Rattle.spec_control.specs.Row.{RootAsked}
 use Rattle.spec_control.specs.Reply.{root_asked}
 use Rattle.control_laws.proofs.ListLemmas.{never}
 use Rattle.control_laws.specs.Move.{LinkMoves}
-use Rattle.ctl_holder.specs.declared.given.Given.{Given}
+use Rattle.ctl_plane.specs.declared.given.Given.{Given}
 use Rattle.one_desk.specs.declared.mark.Mark.{Mark}
 use Rattle.one_desk.specs.Lent.{lent_to, Asks, Lent}
 use Rattle.one_desk.proofs.AsideLemmas.{desk_asked, desk_same}

@@ -2,7 +2,7 @@ use Rattle.std.specs.Prelude.{List, [], ◌∷◌, length, map, refl}
 use Rattle.std.proofs.Common.{sym, ap, ◌∙◌, subst}
 use Rattle.std.proofs.lemmas.List.{map-append}
 use Rattle.zq_base.specs.declared.ids.ObjId.{ObjId}
-use Rattle.ctl_holder.specs.declared.given.Given.{Given}
+use Rattle.ctl_plane.specs.declared.given.Given.{Given}
 use Rattle.ctl_state.specs.Listed.{Listed}
 use Rattle.ctl_history.specs.Past.{Past, control_of}
 use Rattle.one_desk.specs.declared.mark.Mark.{Mark}

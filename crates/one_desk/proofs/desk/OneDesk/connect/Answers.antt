@@ -3,8 +3,8 @@ use Rattle.std.proofs.Common.{ap, sym, ◌∙◌, subst}
 use Rattle.std.proofs.lemmas.List.{map-append}
 use Rattle.zq_base.specs.declared.endpoint.Endpoint.TheVariants.{Inproc}
 use Rattle.spec_control.specs.declared.request.Req.TheVariants.{Connect}
-use Rattle.ctl_holder.specs.declared.given.Given.{Given}
-use Rattle.ctl_holder.specs.Making.{MakesSo}
+use Rattle.ctl_plane.specs.declared.given.Given.{Given}
+use Rattle.ctl_plane.specs.Making.{MakesSo}
 use Rattle.ctl_history.specs.Past.{Past, control_of}
 use Rattle.one_desk.specs.declared.mark.Mark.{Mark}
 use Rattle.one_desk.specs.Lent.{lent_to, Asks, Lent, IsLent}

@@ -1,7 +1,7 @@
 use Rattle.std.proofs.Common.{subst}
 use Rattle.zq_base.specs.declared.endpoint.Endpoint.{Endpoint}
 use Rattle.spec_control.specs.declared.request.Req.TheVariants.{Connect}
-use Rattle.ctl_holder.specs.Making.{MakesSo}
+use Rattle.ctl_plane.specs.Making.{MakesSo}
 use Rattle.ctl_history.specs.Past.{control_of}
 use Rattle.one_desk.proofs.desk.OneDesk.connect_at.Goals as goal
 

@@ -5,7 +5,7 @@ use Rattle.spec_control.specs.Place.{looks}
 use Rattle.spec_control.specs.Rows.{obj}
 use Rattle.spec_control.specs.Control.{Control, owner_of}
 use Rattle.spec_control.specs.ControlRun.{is_between}
-use Rattle.ctl_holder.specs.declared.given.Given.{Given}
+use Rattle.ctl_plane.specs.declared.given.Given.{Given}
 use Rattle.ctl_history.specs.Past.{Past, control_of}
 use Rattle.one_desk.specs.declared.mark.Mark.{Mark}
 use Rattle.one_desk.proofs.HoldLemmas.{desk_free, desk_had, desk_happens, desk_has, desk_owner, desk_place, desk_still}

@@ -5,15 +5,15 @@ use Rattle.std.proofs.Common.{sym, ap, ◌∙◌, subst}
 use Rattle.std.proofs.lemmas.List.{map-append}
 use Rattle.spec_control.specs.ControlRun.{IsSeen}
 use Rattle.control_laws.proofs.ListLemmas.{never}
-use Rattle.ctl_holder.specs.declared.given.Given.{Given}
+use Rattle.ctl_plane.specs.declared.given.Given.{Given}
 use Rattle.ctl_history.specs.declared.heard.Heard.{Heard}
 use Rattle.ctl_history.specs.Hearing.{FindsOldest}
 use Rattle.ctl_history.specs.Past.{Past, control_of}
 use Rattle.ctl_plane.specs.Desk.{brings_with, counts_with}
 use Rattle.ctl_plane.specs.Memory.{NoBindWaits}
 use Rattle.one_desk.specs.declared.mark.Mark.{Mark}
-use Rattle.ctl_holder.specs.Bringing.{BringsIn}
-use Rattle.ctl_holder.specs.Counts.{CountsOnce}
+use Rattle.ctl_plane.specs.Bringing.{BringsIn}
+use Rattle.ctl_plane.specs.Counts.{CountsOnce}
 use Rattle.one_desk.specs.Lent.{lent_to, IsLent, Lent, SeesNone}
 use Rattle.one_desk.proofs.DeliverLemmas.{deliver_apart, deliver_fits, deliver_held, deliver_kinds, deliver_lent, deliver_there, heard_done, heard_keeps, heard_lent, not_first}
 use Rattle.one_desk.proofs.HoldLemmas.{desk_has, desk_looks, desk_still}

@@ -1,6 +1,6 @@
 use Rattle.std.specs.Prelude.{◌≡◌, OnOk, OnErr}
 use Rattle.std.proofs.Common.{sym, ◌∙◌, subst}
-use Rattle.ctl_holder.specs.declared.given.Given.{Given}
+use Rattle.ctl_plane.specs.declared.given.Given.{Given}
 use Rattle.ctl_plane.specs.Coming.{TakesEnds}
 use Rattle.ctl_plane.specs.Desk.{BringsWith, CountsWith, KeepsUp}
 use Rattle.one_desk.specs.Lent.{Lent, moments_of}

@@ -5,8 +5,8 @@ use Rattle.control_laws.proofs.ListLemmas.{never}
 use Rattle.zq_base.specs.declared.ids.EndId.{EndId}
 use Rattle.spec_control.specs.ControlRun.{AreEmpty}
 use Rattle.spec_control.specs.Names.{name_of}
-use Rattle.ctl_holder.specs.declared.given.Given.{Given}
-use Rattle.ctl_holder.specs.TakingOver.{MayTakeFirst}
+use Rattle.ctl_plane.specs.declared.given.Given.{Given}
+use Rattle.ctl_plane.specs.TakingOver.{MayTakeFirst}
 use Rattle.ctl_history.specs.Past.{control_of}
 use Rattle.ctl_plane.specs.Coming.{AreDistinct, BindsFit, TakesEnds}
 use Rattle.ctl_plane.specs.Memory.{NoBindWaits}

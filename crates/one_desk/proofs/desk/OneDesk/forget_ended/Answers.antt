@@ -2,7 +2,7 @@ use Rattle.std.specs.Prelude.{◌≤◌, ℕ}
 use Rattle.std.proofs.Common.{sym, ◌∙◌, subst}
 use Rattle.spec_control.specs.Control.{next_object}
 use Rattle.ctl_history.specs.Past.{control_of}
-use Rattle.held_laws.specs.Closed.{unclosed}
+use Rattle.control_laws.specs.Closed.{unclosed}
 use Rattle.one_desk.proofs.desk.OneDesk.forget_ended.Goals as goal
 
 pub invariant_of-self : goal.invariant_of-self

@@ -3,10 +3,10 @@ use Rattle.spec_control.specs.declared.entry.Did.{Did}
 use Rattle.std.proofs.Common.{sym, ap, ◌∙◌, subst}
 use Rattle.std.proofs.lemmas.List.{map-append}
 use Rattle.control_laws.proofs.ListLemmas.{never}
-use Rattle.ctl_holder.specs.declared.given.Given.{Given}
-use Rattle.ctl_holder.specs.Bringing.{BringsIn}
-use Rattle.ctl_holder.specs.Counts.{CountsOnce}
-use Rattle.ctl_holder.specs.TakingOver.{MayTakeFirst}
+use Rattle.ctl_plane.specs.declared.given.Given.{Given}
+use Rattle.ctl_plane.specs.Bringing.{BringsIn}
+use Rattle.ctl_plane.specs.Counts.{CountsOnce}
+use Rattle.ctl_plane.specs.TakingOver.{MayTakeFirst}
 use Rattle.ctl_history.specs.declared.heard.Heard.{Heard}
 use Rattle.ctl_history.specs.Hearing.{FindsOldest}
 use Rattle.ctl_history.specs.Past.{Past, control_of}

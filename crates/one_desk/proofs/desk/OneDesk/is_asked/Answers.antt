@@ -1,6 +1,6 @@
 use Rattle.std.proofs.Common.{ap, ◌∙◌}
 use Rattle.spec_control.specs.Reply.{root_asked}
-use Rattle.ctl_holder.specs.declared.given.Given.{Given}
+use Rattle.ctl_plane.specs.declared.given.Given.{Given}
 use Rattle.ctl_history.specs.Past.{control_of}
 use Rattle.one_desk.specs.Lent.{Lent}
 use Rattle.one_desk.proofs.desk.OneDesk.is_asked.Goals as goal

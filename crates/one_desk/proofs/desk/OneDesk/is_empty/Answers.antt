@@ -1,6 +1,6 @@
 use Rattle.std.specs.Prelude.{length, map, refl}
 use Rattle.std.proofs.Common.{arith, sym, ap, ◌∙◌}
-use Rattle.ctl_holder.specs.declared.given.Given.{Given}
+use Rattle.ctl_plane.specs.declared.given.Given.{Given}
 use Rattle.ctl_history.specs.Past.{control_of}
 use Rattle.one_desk.specs.Lent.{Lent}
 use Rattle.one_desk.proofs.FirstLemmas.{past_empty}

@@ -1,7 +1,7 @@
 use Rattle.std.proofs.Common.{sym, subst}
 use Rattle.spec_control.specs.declared.entry.SeenEmpty.TheVariants.{Reapers}
 use Rattle.spec_control.specs.ControlRun.{AreEmpty}
-use Rattle.ctl_holder.specs.declared.given.Given.{Given}
+use Rattle.ctl_plane.specs.declared.given.Given.{Given}
 use Rattle.ctl_history.specs.Past.{control_of}
 use Rattle.one_desk.specs.Lent.{Lent, Sees}
 use Rattle.one_desk.proofs.desk.OneDesk.look_at_reapers.Goals as goal

@@ -1,6 +1,6 @@
 use Rattle.std.specs.Prelude.{length, map}
 use Rattle.std.proofs.Common.{sym, ap, ◌∙◌}
-use Rattle.ctl_holder.specs.declared.given.Given.{Given}
+use Rattle.ctl_plane.specs.declared.given.Given.{Given}
 use Rattle.one_desk.specs.Lent.{Lent}
 use Rattle.one_desk.proofs.DeliverLemmas.{desk_slot_is}
 use Rattle.one_desk.proofs.desk.OneDesk.slot.Goals as goal

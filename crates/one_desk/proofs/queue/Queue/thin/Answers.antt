@@ -4,7 +4,7 @@ use Rattle.std.proofs.lemmas.List.Elements.{All-filter}
 use Rattle.zq_base.specs.declared.ids.ObjId.{ObjId}
 use Rattle.ctl_state.specs.Listed.{Listed}
 use Rattle.ctl_history.specs.Past.{control_of}
-use Rattle.held_laws.specs.Closed.{lives}
+use Rattle.control_laws.specs.Closed.{lives}
 use Rattle.one_desk.proofs.queue.Queue.thin.Goals as goal
 
 -- what passes a test passes it again

@@ -1,6 +1,6 @@
 use Rattle.std.proofs.Common.{◌∙◌, ◌++◌, ◌∷◌, ◌&&◌, [], Bool, refl, sym, ap, set, map, is_some}
 use Rattle.std.specs.List.{list_any}
-use Rattle.ctl_holder.specs.declared.given.Given.{Given}
+use Rattle.ctl_plane.specs.declared.given.Given.{Given}
 use Rattle.reaper_ends.specs.Has.{ends_of, is_of, met_of, heard_in}
 use Rattle.reaper_ends.proofs.ListLemmas.{never, any_here}
 use Rattle.reaper_ends.proofs.FormLemmas.{are_sound, ends_two, sound_of}
@@ -11,7 +11,7 @@ use Rattle.reaper_ends.proofs.HasLemmas.{read_is, stays, keeps_turns}
 use Rattle.reaper_ends.proofs.TakeLemmas.{still_met}
 use Rattle.reaper_ends.proofs.ReadingLemmas.{seals_replaced}
 use Rattle.held_ends.specs.Looking.{met_after}
-use Rattle.control_held.specs.Held.{Held}
+use Rattle.spec_control.specs.Held.{Held}
 use Rattle.spec_control.specs.Control.{is_end}
 use Rattle.reaper_ends.proofs.closed.Closed+P.look.Goals as goal
 

@@ -5,8 +5,8 @@ use Rattle.std.proofs.Math.Logic.{∥∥₁_map}
 use Rattle.indexmap.specs.IndexMap.{get}
 use Rattle.zq_base.specs.declared.attached.Attached.TheVariants.{Yes}
 use Rattle.spec_control.specs.declared.entry.Joining.{Joining}
-use Rattle.ctl_holder.specs.declared.given.Given.{Given}
-use Rattle.ctl_holder.specs.Holding.{BeginsActive, Joined, KeepsTurns, Stays, held_with, joining_with}
+use Rattle.ctl_plane.specs.declared.given.Given.{Given}
+use Rattle.ctl_plane.specs.Holding.{BeginsActive, Joined, KeepsTurns, Stays, held_with, joining_with}
 use Rattle.sock_core.specs.Standing.{standing_joins}
 use Rattle.reaper_ends.specs.Coming.{CameAlone}
 use Rattle.reaper_ends.specs.Finding.{AddsNone, given_joined}

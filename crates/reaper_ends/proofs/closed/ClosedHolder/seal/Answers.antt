@@ -1,7 +1,7 @@
 use Rattle.std.proofs.Common.{◌≡◌, ◌∙◌, ◌++◌, ◌∷◌, [], true, List, not, refl, sym, ap, subst, set, map}
 use Rattle.zq_base.specs.declared.ids.EndId.{EndId}
-use Rattle.ctl_holder.specs.declared.given.Given.{Given}
-use Rattle.ctl_holder.specs.Holding.{Seals}
+use Rattle.ctl_plane.specs.declared.given.Given.{Given}
+use Rattle.ctl_plane.specs.Holding.{Seals}
 use Rattle.reaper_ends.specs.Has.{ends_of, has, heard_in}
 use Rattle.reaper_ends.proofs.ListLemmas.{never}
 use Rattle.reaper_ends.proofs.FormLemmas.{are_sound, ends_two, sound_of}
@@ -9,7 +9,7 @@ use Rattle.reaper_ends.proofs.ChangeLemmas.{has_listed}
 use Rattle.reaper_ends.proofs.PlaceLemmas.{at_stays, at_changed, alone_at, with_end}
 use Rattle.reaper_ends.proofs.NotedLemmas.{done_changed, told_last, either}
 use Rattle.std.proofs.Math.Logic.{∥∥₁_map}
-use Rattle.control_held.specs.Held.{Held}
+use Rattle.spec_control.specs.Held.{Held}
 use Rattle.spec_control.specs.Control.{is_end}
 use Rattle.sock_core.proofs.FindLemmas.{end_self, same_end}
 use Rattle.reaper_ends.proofs.ListLemmas.{any_here}

@@ -1,8 +1,8 @@
 use Rattle.std.proofs.Common.{◌≡◌, ◌∙◌, ◌++◌, ◌∷◌, [], Some, List, refl, sym, ap, subst, set, map, is_some, if◌then◌else◌}
 use Rattle.zq_base.specs.declared.ids.EndId.{EndId}
 use Rattle.spec_control.specs.declared.end.EndState.{EndState}
-use Rattle.ctl_holder.specs.declared.given.Given.{Given}
-use Rattle.ctl_holder.specs.Holding.{held_given, is_state, TurnsTo}
+use Rattle.ctl_plane.specs.declared.given.Given.{Given}
+use Rattle.ctl_plane.specs.Holding.{held_given, is_state, TurnsTo}
 use Rattle.held_ends.specs.Counting.{counts_with}
 use Rattle.reaper_ends.specs.Has.{ends_of, has, heard_in}
 use Rattle.reaper_ends.proofs.ListLemmas.{never}

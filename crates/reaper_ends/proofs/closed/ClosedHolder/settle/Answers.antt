@@ -1,6 +1,6 @@
 use Rattle.std.proofs.Common.{◌≡◌, ◌∙◌, ◌++◌, ◌∷◌, [], true, Some, All, refl, sym, ap, subst, set, map}
 use Rattle.std.specs.List.{list_any}
-use Rattle.ctl_holder.specs.Holding.{held_given}
+use Rattle.ctl_plane.specs.Holding.{held_given}
 use Rattle.held_ends.proofs.SoundLemmas.{one_some}
 use Rattle.held_ends.specs.Counting.{counts_with}
 use Rattle.msg_pipe.specs.Known.{IsElse}

@@ -1,9 +1,9 @@
 use Rattle.std.proofs.Common.{◌∙◌, ◌≡◌, ◌++◌, ◌∷◌, All, List, [], sym, ap, subst, map}
 use Rattle.std.proofs.lemmas.List.{append-nil}
 use Rattle.std.specs.List.{list_any}
-use Rattle.ctl_holder.specs.declared.given.Given.{Given}
-use Rattle.ctl_holder.specs.Holding.{IsPlugged, Begins, AreAtDelimiter, held_given, states_given, writes_in}
-use Rattle.ctl_holder.specs.TakingOver.{AreGivenWith, ComeApart}
+use Rattle.ctl_plane.specs.declared.given.Given.{Given}
+use Rattle.ctl_plane.specs.Holding.{IsPlugged, Begins, AreAtDelimiter, held_given, states_given, writes_in}
+use Rattle.ctl_plane.specs.TakingOver.{AreGivenWith, ComeApart}
 use Rattle.reaper_ends.specs.Has.{all_ends, has, holding_in, met_of, writes_of, heard_in}
 use Rattle.reaper_ends.specs.Sound.{AreSound}
 use Rattle.reaper_ends.proofs.FormLemmas.{are_sound, sound_of}

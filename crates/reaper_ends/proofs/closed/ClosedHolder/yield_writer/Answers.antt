@@ -1,7 +1,7 @@
 use Rattle.std.proofs.Common.{◌∙◌, ◌∷◌, [], Some, List, refl, sym, ap, set, map, is_some}
 use Rattle.std.specs.List.{list_any}
 use Rattle.zq_base.specs.declared.ids.EndId.{EndId}
-use Rattle.ctl_holder.specs.declared.given.Given.{Given}
+use Rattle.ctl_plane.specs.declared.given.Given.{Given}
 use Rattle.held_ends.specs.Counting.{counts_with}
 use Rattle.held_ends.proofs.SoundLemmas.{one_some}
 use Rattle.reaper_ends.specs.Has.{ends_of, heard_in}

@@ -4,7 +4,7 @@ use Rattle.spec_control.specs.declared.request.Req.{Req}
 use Rattle.spec_control.specs.declared.request.Req.TheVariants.{Bind}
 use Rattle.std.proofs.lemmas.Result.{IfOk-at_ok}
 use Rattle.zq_base.specs.declared.endpoint.Endpoint.{Endpoint}
-use Rattle.ctl_holder.specs.Making.{IsMadeFor}
+use Rattle.ctl_plane.specs.Making.{IsMadeFor}
 use Rattle.ctl_plane.specs.Asking.{IsInproc}
 use Rattle.sock_calls.specs.Calls.{owner_of, holding_of, HaveDone}
 use Rattle.sock_calls.proofs.CallsLemmas.{keeps_up_none, done_nothing, is_there}

@@ -5,7 +5,7 @@ use Rattle.zq_base.specs.declared.endpoint.Endpoint.{Endpoint}
 use Rattle.spec_control.specs.declared.request.Req.{Req}
 use Rattle.spec_control.specs.declared.request.Req.TheVariants.{Connect}
 use Rattle.spec_control.specs.Control.{Control, id}
-use Rattle.ctl_holder.specs.Making.{IsMadeFor}
+use Rattle.ctl_plane.specs.Making.{IsMadeFor}
 use Rattle.ctl_plane.specs.Asking.{IsInproc}
 use Rattle.ctl_plane.specs.Desk.{AsksOnce}
 use Rattle.sock_calls.specs.Calls.{owner_of, holding_of, HaveDone}

@@ -1,5 +1,5 @@
 use Rattle.std.proofs.Common.{◌≡◌, true, false, Option, Some, refl, sym, ap, ◌∙◌, subst, true≢false}
-use Rattle.control_held.specs.Moments.{left_after}
+use Rattle.spec_control.specs.Moments.{left_after}
 use Rattle.spec_control.specs.Control.{place_of}
 use Rattle.spec_control.specs.Place.{looks}
 use Rattle.held_ends.specs.Others.{Leaves}

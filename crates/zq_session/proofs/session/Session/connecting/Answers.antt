@@ -1,6 +1,6 @@
 use Rattle.std.proofs.Common.{true, Option, [], None, refl, ap, sym, subst}
 use Rattle.spec_link.specs.Turn.{subscribes}
-use Rattle.link_topics.specs.Topics.{Topics}
+use Rattle.spec_link.specs.Topics.{Topics}
 use Rattle.link_side.specs.Dials.{DiallerState}
 use Rattle.zq_session.specs.Noting.{AreTopics}
 use Rattle.zq_session.proofs.NotingLemmas.{topics_begin}

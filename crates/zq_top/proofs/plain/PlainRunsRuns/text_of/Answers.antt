@@ -1,4 +1,4 @@
-use Rattle.clock_reads.specs.Readings.{clock_at}
+use Rattle.zq_outer.specs.Readings.{clock_at}
 use Rattle.zq_top.proofs.plain.PlainRunsRuns.text_of.Goals as goal
 
 pub returns-clause-says : goal.returns-clause-says
