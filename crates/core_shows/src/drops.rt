@@ -43,9 +43,6 @@ fn count_end<P: Pipes>(
     object: ObjId,
     end: EndId,
 ) -> Result<(), AllocError>
-where
-    P::Name: Drop,
-    P::Waker: Drop,
     ensures { OnOk result (CountsOne (owner_of (control_of desk.now.past) end == object.0)
         (place_in end) drops.old.items drops.new.items) }
 {
@@ -62,9 +59,6 @@ fn note_drop<P: Pipes>(
     object: ObjId,
     skip: Skip,
 ) -> Result<(), AllocError>
-where
-    P::Name: Drop,
-    P::Waker: Drop,
     ensures { OnOk result (CountsTold (control_of desk.now.past) object.0 (skip ∷ [])
         drops.old.items drops.new.items) }
 {
@@ -84,9 +78,6 @@ pub fn note_drops<P: Pipes>(
     told: &[Skip],
     before: usize,
 ) -> Result<(), AllocError>
-where
-    P::Name: Drop,
-    P::Waker: Drop,
     requires some { before ≤ length told.now }
     ensures { OnOk result (CountsTold (control_of desk.now.past) object.0
         (drop before told.now) drops.old.items drops.new.items) }

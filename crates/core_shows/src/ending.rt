@@ -14,9 +14,6 @@ use zq_base::{ObjId, Seq};
 
 // Whether an object was made and has ended.
 fn is_over<P: Pipes>(desk: &OneDesk<P>, object: ObjId) -> bool
-where
-    P::Name: Drop,
-    P::Waker: Drop,
     ensures { result ≡ is_over (control_of desk.now.past) object.0 }
 {
     if (object.0 as usize) < desk.objects() {
@@ -89,9 +86,6 @@ fn last_ended<P: Pipes>(
     desk: &OneDesk<P>,
     mut objects: Vec<ObjId>,
 ) -> Result<Vec<ObjId>, AllocError>
-where
-    P::Name: Drop,
-    P::Waker: Drop,
     ensures { IfOk result (λ ended.
         ended.items ≡ last_of (is_over (control_of desk.now.past)) objects.items) }
 {
@@ -111,9 +105,6 @@ pub fn ended_shown<P: Pipes>(
     alloc: Global,
     desk: &OneDesk<P>,
 ) -> Result<Seq<ObjectLine>, AllocError>
-where
-    P::Name: Drop,
-    P::Waker: Drop,
     ensures { IfOk result (λ lines. lines ≡ map (line_of (control_of desk.now.past))
         (control_of desk.now.past).ended) }
 {

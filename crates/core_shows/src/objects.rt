@@ -14,9 +14,6 @@ pub fn lines_shown<P: Pipes>(
     desk: &OneDesk<P>,
     objects: &[ObjId],
 ) -> Result<Seq<ObjectLine>, AllocError>
-where
-    P::Name: Drop,
-    P::Waker: Drop,
     ensures { IfOk result (λ lines.
         lines ≡ map (line_of (control_of desk.now.past)) objects.now) }
 {
@@ -36,9 +33,6 @@ pub fn objects_shown<P: Pipes>(
     alloc: Global,
     desk: &OneDesk<P>,
 ) -> Result<Seq<ObjectRow>, AllocError>
-where
-    P::Name: Drop,
-    P::Waker: Drop,
     ensures { IfOk result (λ rows.
         rows ≡ map object_shown (control_of desk.now.past).rows.objects) }
 {

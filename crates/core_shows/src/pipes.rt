@@ -40,9 +40,6 @@ fn is_publisher(kind: ObjKind) -> bool
 
 // Whether the reader of a pipe does.
 fn is_heard<P: Pipes>(desk: &OneDesk<P>, pipe: PipeId) -> bool
-where
-    P::Name: Drop,
-    P::Waker: Drop,
     ensures { result ≡ is_heard_at (control_of desk.now.past) pipe }
 {
     is_publisher(desk.kind(desk.owner(pipe.other())))
@@ -55,9 +52,6 @@ fn row_of<P: Pipes>(
     drops: &[u64],
     pipe: PipeId,
 ) -> Option<SettledRow>
-where
-    P::Name: Drop,
-    P::Waker: Drop,
     requires table { HasTable (control_of desk.now.past) table.now }
     requires reasons { All (HasItsReason (control_of desk.now.past))
         (control_of desk.now.past).settlements }
@@ -83,9 +77,6 @@ fn push_rows<P: Pipes>(
     drops: &[u64],
     pair: PairId,
 ) -> Result<(), AllocError>
-where
-    P::Name: Drop,
-    P::Waker: Drop,
     requires table { HasTable (control_of desk.now.past) table.now }
     requires reasons { All (HasItsReason (control_of desk.now.past))
         (control_of desk.now.past).settlements }
@@ -106,9 +97,6 @@ fn all_rows<P: Pipes>(
     table: &[Option<Settled>],
     drops: &[u64],
 ) -> Result<Seq<Option<SettledRow>>, AllocError>
-where
-    P::Name: Drop,
-    P::Waker: Drop,
     requires table { HasTable (control_of desk.now.past) table.now }
     requires reasons { All (HasItsReason (control_of desk.now.past))
         (control_of desk.now.past).settlements }
@@ -133,9 +121,6 @@ pub fn pipes_shown<P: Pipes>(
     desk: &OneDesk<P>,
     drops: &[u64],
 ) -> Result<Seq<Option<SettledRow>>, AllocError>
-where
-    P::Name: Drop,
-    P::Waker: Drop,
     ensures { IfOk result (λ rows. rows ≡ rows_by
         (row_in (control_of desk.now.past) drops.now) 1
         (drop 1 (control_of desk.now.past).rows.pairs)) }

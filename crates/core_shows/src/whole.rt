@@ -33,9 +33,6 @@ pub fn all_shown<P: Pipes>(
     desk: &OneDesk<P>,
     drops: &[u64],
 ) -> Result<Shown, AllocError>
-where
-    P::Name: Drop,
-    P::Waker: Drop,
     ensures { IfOk result (λ shown. (pieces : List (Piece P.Name P.Story)) →
         AreShownBy (control_of desk.now.past) drops.now pieces →
         ShowsEnd (control_of desk.now.past) pieces shown) }

@@ -72,8 +72,6 @@ pub fn connect_pair<P: Pipes, H: Holder<P>>(
     at: Endpoint,
     wakers: &[P::Waker],
 ) -> Result<(PairId, Notes<P::Name>), AllocError>
-where
-    P::Name: Drop,
     requires may { MayConnect state.old (H.holding holder.old) o (length wakers.now) }
     requires calm { H.calm holder.old [] }
     requires makes { MayMake state.old o.first o.last (end_of (length state.old.pairs) true) H.may_make }

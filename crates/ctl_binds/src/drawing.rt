@@ -26,8 +26,6 @@ fn draw_one<P: Pipes, H: Holder<P>>(
     waiter: ObjId,
     wakers: &[P::Waker],
 ) -> Result<(), AllocError>
-where
-    P::Name: Drop,
     requires may { MayDrawNext P.known.out_name P.known.in_name state.old (H.holding holder.old)
         socket waiter batch.old (length wakers.now) }
     requires calm { H.calm holder.old (drawn_ends batch.old.drawn.items) }
@@ -74,8 +72,6 @@ pub fn draw_all<P: Pipes, H: Undoes<P>>(
     waiters: &[ObjId],
     wakers: &[P::Waker],
 ) -> Result<Batch<P::Name, P::Out, P::In>, AllocError>
-where
-    P::Name: Drop,
     requires may { MayDraw state.old (H.holding holder.old) socket waiters.now
         (length wakers.now) }
     requires calm { H.calm holder.old [] }

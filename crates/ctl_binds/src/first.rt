@@ -31,8 +31,6 @@ pub(crate) fn make_first<P: Pipes, H: Holder<P>>(
     first: EndId,
     wakers: &[P::Waker],
 ) -> Result<FirstMade<P::Name, P::Out, P::In>, AllocError>
-where
-    P::Name: Drop,
     requires mine { o.first_slot.0 < length wakers.now }
     requires theirs { o.last_slot.0 < length wakers.now }
     requires makes { MayMake state.now o.first o.last first H.may_make }

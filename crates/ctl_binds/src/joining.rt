@@ -18,8 +18,6 @@ fn join_one<P: Pipes, H: Holder<P>>(
     at: &Endpoint,
     drawn: Drawn<P::Name, P::Out, P::In>,
 )
-where
-    P::Name: Drop,
     requires may { MayJoinNext P.known.out_name P.known.in_name
         state.old (H.holding holder.old) socket drawn }
     ensures { (w : MayJoinNext P.known.out_name P.known.in_name
@@ -49,8 +47,6 @@ pub fn join_all<P: Pipes, H: Holder<P>>(
     at: &Endpoint,
     drawn: VecDeque<Drawn<P::Name, P::Out, P::In>>,
 )
-where
-    P::Name: Drop,
     requires may { MayJoinAll P.known.out_name P.known.in_name
         state.old (H.holding holder.old) socket drawn.items }
     ensures stands { (w : MayJoinAll P.known.out_name P.known.in_name

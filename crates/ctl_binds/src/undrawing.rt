@@ -20,8 +20,6 @@ fn undraw_one<P: Pipes, H: Undoes<P>>(
     socket: ObjId,
     drawn: Drawn<P::Name, P::Out, P::In>,
 )
-where
-    P::Name: Drop,
     requires taken { WasTaken state.old (H.holding holder.old) socket.0 drawn }
     requires calm { (came : List EndId) × H.calm holder.old (first_of drawn ∷ came) }
     ensures back { (w : WasTaken state.old (H.holding holder.old) socket.0 drawn) →
@@ -45,8 +43,6 @@ pub fn undraw_all<P: Pipes, H: Undoes<P>>(
     socket: ObjId,
     drawn: VecDeque<Drawn<P::Name, P::Out, P::In>>,
 )
-where
-    P::Name: Drop,
     requires taken { WereTaken state.old (H.holding holder.old) socket.0 drawn.items }
     requires calm { H.calm holder.old (drawn_ends drawn.items) }
     ensures state { (w : WereTaken state.old (H.holding holder.old) socket.0 drawn.items) →

@@ -15,8 +15,6 @@ use spec_control::{Answered, Did, Refusal, Reply, Req};
 use std::alloc::AllocError;
 
 impl<P: Pipes> History<P>
-where
-    P::Name: Drop,
 {
     /// Asks the root to end, once: each open socket gets a Stop. Where it was not asked before this
     /// takes no memory. It costs a walk over the sockets that were made.

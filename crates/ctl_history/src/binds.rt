@@ -38,8 +38,6 @@ fn bind_with_room<P: Pipes, H: Undoes<P>, D>(
     copy: Endpoint,
     wakers: &[P::Waker],
 ) -> Result<Notes<P::Name>, AllocError>
-where
-    P::Name: Drop,
     requires copy { copy ≡ at.now }
     requires may { MayFulfilAll state.old (H.holding holder.old) socket at.now
         (length wakers.now) }
@@ -83,8 +81,6 @@ where
 }
 
 impl<P: Pipes> History<P>
-where
-    P::Name: Drop,
 {
     /// Binds a socket to a name, with the holder of its ends (zmq_bind(3), zmq_inproc(7)). It is
     /// refused once the root was asked, where somebody holds the name, and where more connects wait

@@ -39,8 +39,6 @@ fn is_on_its_way(command: Use) -> bool
 }
 
 impl<P: Pipes> History<P>
-where
-    P::Name: Drop,
 {
     /// Whether an object has ended. It costs a look at one row.
     pub fn has_ended(&self, id: ObjId) -> bool

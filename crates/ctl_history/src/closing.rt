@@ -17,8 +17,6 @@ use std::alloc::Global;
 use zq_base::ObjId;
 
 impl<P: Pipes> History<P>
-where
-    P::Name: Drop,
 {
     /// Closes a socket with its holder (zmq_close(3)): the holder gives all ends of it, and the reaper
     /// is to take them. It takes no memory, and costs a walk over the ends.

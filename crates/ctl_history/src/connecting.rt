@@ -49,8 +49,6 @@ fn wait_with_room<L: Drop, D>(
 }
 
 impl<P: Pipes> History<P>
-where
-    P::Name: Drop,
 {
     /// Connects a socket to a name that nobody holds: the connect waits for it (zmq_connect(3),
     /// zmq_inproc(7)). It costs copies of the name.

@@ -16,8 +16,6 @@ use std::alloc::Global;
 use zq_base::EndId;
 
 impl<P: Pipes> History<P>
-where
-    P::Name: Drop,
 {
     /// Notes that an end is at the delimiter of the pipe that it reads, with the holder of its
     /// object, if the end is one in whose state that is looked at; else nothing happens. Whether it

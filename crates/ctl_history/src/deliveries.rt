@@ -25,8 +25,6 @@ use std::alloc::{AllocError, Global};
 use zq_base::SlotId;
 
 impl<P: Pipes> History<P>
-where
-    P::Name: Drop,
 {
     /// Processes the oldest command of a mailbox with the holder of the objects that it serves. The
     /// root's mailbox, 0, is the reaper's: its holder takes in the ends of closed sockets, which

@@ -19,8 +19,6 @@ use std::alloc::AllocError;
 use zq_base::{Endpoint, ObjId};
 
 impl<P: Pipes> History<P>
-where
-    P::Name: Drop,
 {
     /// Strikes the oldest connect of a socket to the endpoint, with the socket's holder
     /// (zmq_disconnect(3)): one that waits leaves the book; of one that has its pair the socket's

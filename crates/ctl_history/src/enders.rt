@@ -64,8 +64,6 @@ fn note_all<N, S>(alloc: Global, events: &[Did<N, S>]) -> Result<Seq<ObjId>, All
 }
 
 impl<P: Pipes> History<P>
-where
-    P::Name: Drop,
 {
     /// The object that each event so far may have ended, in order: who got a command, whose output was
     /// over, and the root where it was asked. It walks over all events.

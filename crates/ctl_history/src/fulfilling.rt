@@ -24,8 +24,6 @@ pub(crate) fn fulfil_all<P: Pipes, H: Undoes<P>>(
     waiters: &[ObjId],
     wakers: &[P::Waker],
 ) -> Result<Notes<P::Name>, AllocError>
-where
-    P::Name: Drop,
     requires copy { copy ≡ at.now }
     requires may { MayFulfil state.old (H.holding holder.old) socket at.now waiters.now
         (length wakers.now) }

@@ -63,8 +63,6 @@ fn first_room<D: Drop>(alloc: Global) -> Result<RoomList<D>, AllocError>
 }
 
 impl<P: Pipes> History<P>
-where
-    P::Name: Drop,
 {
     /// A context at its making, with so many I/O workers.
     pub fn new(alloc: Global, workers: u32) -> Result<History<P>, AllocError>

@@ -63,8 +63,6 @@ fn connect_with_room<P: Pipes, H: Holder<P>, D>(
     at: Endpoint,
     wakers: &[P::Waker],
 ) -> Result<(PairId, Notes<P::Name>), AllocError>
-where
-    P::Name: Drop,
     requires may { MayConnect state.old (H.holding holder.old) o (length wakers.now) }
     requires calm { H.calm holder.old [] }
     requires makes { MayMake state.old o.first o.last (end_of (length state.old.pairs) true)
@@ -91,8 +89,6 @@ where
 }
 
 impl<P: Pipes> History<P>
-where
-    P::Name: Drop,
 {
     /// Connects a socket to a name, with the holder of its ends (zmq_connect(3), zmq_inproc(7)). It
     /// is refused once the root was asked, where the name is the socket's own or its holder's kind

@@ -10,8 +10,6 @@ use msg_pipe::Pipes;
 use zq_base::SlotId;
 
 impl<P: Pipes> History<P>
-where
-    P::Name: Drop,
 {
     /// How many mailboxes there are. It costs nothing.
     pub fn mailboxes(&self) -> usize

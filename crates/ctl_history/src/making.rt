@@ -42,8 +42,6 @@ fn make_with_room<L: Drop, D>(
 }
 
 impl<P: Pipes> History<P>
-where
-    P::Name: Drop,
 {
     /// Makes a socket, with a mailbox of its own (zmq_socket(3)). It is refused once the root was
     /// asked, and where too many sockets live or too many objects were made. Room for all that may

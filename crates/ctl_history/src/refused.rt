@@ -13,8 +13,6 @@ use spec_control::Refusal;
 use zq_base::{Endpoint, ObjId};
 
 impl<P: Pipes> History<P>
-where
-    P::Name: Drop,
 {
     /// Why a bind would be refused, if it would be (zmq_bind(3)). It costs a look-up of the
     /// endpoint, and over inproc a walk over the connects that wait.

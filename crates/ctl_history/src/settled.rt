@@ -70,8 +70,6 @@ fn note_all<N, S>(alloc: Global, events: &[Did<N, S>]) -> Result<Seq<PipeCounts>
 }
 
 impl<P: Pipes> History<P>
-where
-    P::Name: Drop,
 {
     /// The pipes that were settled so far, in order, with their counts. It walks over all events.
     pub fn settled(&self, alloc: Global) -> Result<Seq<PipeCounts>, AllocError>

@@ -69,8 +69,6 @@ fn asked_last<N, S>(events: &[Did<N, S>]) -> Option<EndId>
 }
 
 impl<P: Pipes> History<P>
-where
-    P::Name: Drop,
 {
     /// How many objects were made, the root among them. This is the next one's number. It costs
     /// nothing.

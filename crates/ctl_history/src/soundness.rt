@@ -8,8 +8,6 @@ use crate::history::History;
 use msg_pipe::Pipes;
 
 impl<P: Pipes> History<P>
-where
-    P::Name: Drop,
 {
     /// The events so far are a control run, each fitting the state that those before it led to,
     /// pipes go by the names that they were given, and each object was taken in. It costs nothing.

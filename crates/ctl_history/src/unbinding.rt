@@ -15,8 +15,6 @@ use std::alloc::AllocError;
 use zq_base::{Endpoint, ObjId};
 
 impl<P: Pipes> History<P>
-where
-    P::Name: Drop,
 {
     /// Strikes the first bind of a socket to the endpoint (zmq_unbind(3)): the endpoint is free, and
     /// a listener of the socket is told to end. The pairs that were made by it stay. It is refused

@@ -59,8 +59,6 @@ pub fn attach_first<P: Pipes, H: Holder<P>>(
     mine: &P::Waker,
     other: &P::Waker,
 ) -> Result<FirstEnd<P::Name, P::Out, P::In>, AllocError>
-where
-    P::Name: Drop,
     requires here { (H.holding holder.old).holds o.0 ≡ true }
     requires new { HasNowhere end (H.holding holder.old) }
     requires written { IsCapacity capacities.written }

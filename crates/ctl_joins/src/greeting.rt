@@ -27,8 +27,6 @@ pub(crate) fn greet_first<P: Pipes, H: Holder<P>>(
     first: EndId,
     answer: Attached,
 )
-where
-    P::Name: Drop,
     requires may { MayGreet state.old (H.holding holder.old) o.0 first }
     ensures { (w : MayGreet state.old (H.holding holder.old) o.0 first) →
         Asks P.known.out_name P.known.in_name w.control (greet answer first w.control) o.0 first

@@ -22,8 +22,6 @@ pub fn join_pair<P: Pipes, H: Holder<P>>(
     answer: Attached,
     other: NamedHalves<P::Name, P::Out, P::In>,
 )
-where
-    P::Name: Drop,
     requires may { MayJoin P.known.out_name P.known.in_name
         state.old (H.holding holder.old) o.0 first other }
     ensures { (w : MayJoin P.known.out_name P.known.in_name

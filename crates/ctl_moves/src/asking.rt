@@ -18,8 +18,6 @@ pub(crate) fn ask_end<P: Pipes, H: Holder<P>>(
     reason: Reason,
     delay: bool,
 )
-where
-    P::Name: Drop,
     requires may { MayAskOne state.old (H.holding holder.old) e }
     ensures { (w : MayAskOne state.old (H.holding holder.old) e) →
         Leads P.known.out_name P.known.in_name w.names
@@ -40,8 +38,6 @@ pub(crate) fn ask_ends<P: Pipes, H: Holder<P>>(
     reason: Reason,
     delay: bool,
 )
-where
-    P::Name: Drop,
     requires may { MayAskAll state.old (H.holding holder.old) at.0 }
     ensures { (w : MayAskAll state.old (H.holding holder.old) at.0) →
         Leads P.known.out_name P.known.in_name w.names

@@ -46,8 +46,6 @@ fn greet_end<P: Pipes, H: Holder<P>>(
     e: EndId,
     answer: Attached,
 )
-where
-    P::Name: Drop,
     requires may { MayAskOne state.old (H.holding holder.old) e }
     ensures { (w : MayAskOne state.old (H.holding holder.old) e) →
         Leads P.known.out_name P.known.in_name w.names
@@ -74,8 +72,6 @@ fn attach_end<P: Pipes, H: Holder<P>>(
     identity: &Octets,
     halves: PipeHalves<P::Out, P::In>,
 ) -> Result<Attached, PipeHalves<P::Out, P::In>>
-where
-    P::Name: Drop,
     requires may { MayBind P.known.out_name P.known.in_name
         state.old (H.holding holder.old) o.0 e halves }
     requires fits { H.fits holder.old e halves }
@@ -156,8 +152,6 @@ pub(crate) fn bind_comes<P: Pipes, H: Holder<P>>(
     e: EndId,
     load: Option<Load<P::Name, P::Out, P::In>>,
 ) -> Result<Seq<Joining<P::Name>>, Option<Load<P::Name, P::Out, P::In>>>
-where
-    P::Name: Drop,
     requires may { MayComeBound P.known.out_name P.known.in_name
         state.old (H.holding holder.old) letter.now.to.0 e load }
     requires fits { FitsLoad (λ h. (d : EndId) → H.fits holder.old d h) load }

@@ -31,8 +31,6 @@ fn strike_end<P: Pipes, H: Holder<P>>(
     socket: ObjId,
     e: EndId,
 )
-where
-    P::Name: Drop,
     requires may { StrikesWith P.known.out_name P.known.in_name
         state.old (H.holding holder.old) socket.0 }
     ensures led { (w : StrikesWith P.known.out_name P.known.in_name
@@ -66,8 +64,6 @@ fn strike<P: Pipes, H: Holder<P>>(
     to: &Endpoint,
     held: Held,
 )
-where
-    P::Name: Drop,
     requires may { StrikesWith P.known.out_name P.known.in_name
         state.old (H.holding holder.old) socket.0 }
     ensures led { (w : StrikesWith P.known.out_name P.known.in_name
@@ -105,8 +101,6 @@ pub fn strike_connect<P: Pipes, H: Holder<P>>(
     socket: ObjId,
     to: &Endpoint,
 )
-where
-    P::Name: Drop,
     requires may { StrikesWith P.known.out_name P.known.in_name
         state.old (H.holding holder.old) socket.0 }
     ensures struck { (w : StrikesWith P.known.out_name P.known.in_name

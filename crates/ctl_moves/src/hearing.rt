@@ -73,8 +73,6 @@ fn hear_stop<P: Pipes, H: Holder<P>>(
     holder: &mut H,
     o: ObjId,
 )
-where
-    P::Name: Drop,
     requires { o.0 < length state.old.objects.tree }
     ensures stands { Updates (link StopComes o.0) state.old state.new }
     ensures next { state.new ≡ on_detail (λ d. record d { stop = Used }) o.0 state.old }
@@ -143,8 +141,6 @@ fn acknowledged<P: Pipes, H: Holder<P>>(
     e: EndId,
     load: Option<Load<P::Name, P::Out, P::In>>,
 ) -> Settled
-where
-    P::Name: Drop,
     requires may { MayAcknowledge P.known.out_name P.known.in_name
         state.old (H.holding holder.old) at.0 e load }
     requires apart { (writer : P.Out) → load ≡ Some (Writer writer) →
@@ -175,8 +171,6 @@ fn hear_bare<P: Pipes, H: Holder<P>>(
     holder: &mut H,
     letter: &Letter,
 )
-where
-    P::Name: Drop,
     requires bare { is_bare letter.now.word ≡ true }
     requires may { MayHear P.known.out_name P.known.in_name
         state.old (H.holding holder.old) letter.now None }
@@ -229,8 +223,6 @@ pub fn process<P: Pipes, H: Holder<P>>(
     letter: &Letter,
     load: Option<Load<P::Name, P::Out, P::In>>,
 ) -> Result<Answered<P::Name, P::Story>, Option<Load<P::Name, P::Out, P::In>>>
-where
-    P::Name: Drop,
     requires may { MayHear P.known.out_name P.known.in_name state.old (H.holding holder.old) letter.now load }
     requires apart { (e : EndId) (writer : P.Out) → letter.now.word ≡ PipeTermAck e →
         load ≡ Some (Writer writer) →

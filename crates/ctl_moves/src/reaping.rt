@@ -17,8 +17,6 @@ pub(crate) fn take_over<P: Pipes, H: Holder<P>>(
     socket: ObjId,
     parting: Parting<P::Name, P::Out, P::In>,
 ) -> Seq<Joining<P::Name>>
-where
-    P::Name: Drop,
     requires may { MayReap P.known.out_name P.known.in_name
         state.old (H.holding holder.old) socket.0 parting }
     requires reaps { H.reaps ≡ true }

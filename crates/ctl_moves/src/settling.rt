@@ -18,8 +18,6 @@ pub(crate) fn settle_end<P: Pipes, H: Holder<P>>(
     e: EndId,
     writer: P::Out,
 ) -> Settled
-where
-    P::Name: Drop,
     requires may { MaySettle P.known.out_name P.known.in_name
         state.old (H.holding holder.old) e writer }
     requires apart { NoneWrites P.known.exact (P.known.out_name writer) (H.holding holder.old) }

@@ -39,8 +39,6 @@ pub(crate) fn process_term<P: Pipes, H: Holder<P>>(
     holder: &mut H,
     at: ObjId,
 )
-where
-    P::Name: Drop,
     requires may { MayTerm state.old (H.holding holder.old) at.0 }
     ensures terms { (w : MayTerm state.old (H.holding holder.old) at.0) →
         Terms P.known.out_name P.known.in_name w.names w.control at.0

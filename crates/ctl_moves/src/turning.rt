@@ -21,8 +21,6 @@ pub(crate) fn give_for<P: Pipes, H: Holder<P>>(
     o: ObjId,
     e: EndId,
 ) -> Option<Load<P::Name, P::Out, P::In>>
-where
-    P::Name: Drop,
     requires here { has_end e ((H.holding holder.old).ends o.0) ≡ true }
     requires writer { needs_writer commands ≡ true → (H.holding holder.old).writes e ≡ true }
     requires out { yields commands ≡ true →
@@ -54,8 +52,6 @@ fn tell_state<P: Pipes, H: Holder<P>>(
     o: ObjId,
     e: EndId,
 )
-where
-    P::Name: Drop,
     requires there { IsSoFar state.now e }
     requires here { has_end e ((H.holding holder.old).ends o.0) ≡ true }
     ensures stays { Stays o.0 (H.holding holder.old) (H.holding holder.new) }
@@ -80,8 +76,6 @@ pub fn turn_end<P: Pipes, H: Holder<P>>(
     e: EndId,
     event: EndEvent,
 )
-where
-    P::Name: Drop,
     requires may { MayTurn P.known.out_name P.known.in_name state.old (H.holding holder.old) e event }
     requires stays { event ≢ AckCame }
     ensures { (w : MayTurn P.known.out_name P.known.in_name state.old (H.holding holder.old) e event) →

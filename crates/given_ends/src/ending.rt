@@ -156,8 +156,6 @@ pub fn settle<P: Pipes>(
     writer: P::Out,
     did: &mut Log<PipeChange<P::Out, P::In>, P>,
 ) -> Settled
-where
-    P::Name: Drop,
     requires given { IsGivenWith P.known pipes.old end }
     requires pipe { P.known.in_name end.input ≡ P.known.out_name writer }
     ensures gone { OneGone P.known pipes.old pipes.new end }

@@ -213,8 +213,6 @@ pub fn settle<P: Pipes>(
     place: usize,
     writer: P::Out,
 ) -> Settled
-where
-    P::Name: Drop,
     requires sound { IsSound P.known pipes.old table.old.rows.items table.old.places.items }
     requires reads { ReadsAt table.old.places.items place (P.known.out_name writer) }
     ensures sound { IsSound P.known pipes.new table.new.rows.items table.new.places.items }

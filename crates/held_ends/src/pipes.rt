@@ -2,7 +2,7 @@ use msg_pipe::Pipes;
 use std::alloc::Global;
 
 /// Pipes that an owner of ends can name by either half, and whose owner it can tell others.
-pub trait HeldPipes: Pipes {
+pub trait HeldPipes: Pipes + Drop {
     ghost use Rattle.std.specs.Prelude.{◌≡◌};
 
     /// No pipes.

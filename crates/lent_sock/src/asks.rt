@@ -30,14 +30,11 @@ pub(crate) fn is_told<W, N, O, I>(socket: &Option<SockCore<AnySock, W, N, O, I>>
 }
 
 /// Binds an endpoint (zmq_bind(3)).
-pub(crate) fn bind<P: HeldPipes + Drop>(
+pub(crate) fn bind<P: HeldPipes>(
     alloc: Global,
     lent: &mut LentSock<P>,
     to: &Endpoint,
 ) -> Result<LineAnswer, AllocError>
-where
-    P::Name: Drop,
-    P::Waker: Drop,
     requires agrees { Agrees P.known (parts lent.old.pipes lent.old.desk lent.old.socket.core lent.old.since.items) }
     requires ready { IsReady (parts lent.old.pipes lent.old.desk lent.old.socket.core lent.old.since.items) }
     requires inproc { IsInproc to.now }
@@ -62,14 +59,11 @@ where
 }
 
 /// Connects to an endpoint (zmq_connect(3)).
-pub(crate) fn connect<P: HeldPipes + Drop>(
+pub(crate) fn connect<P: HeldPipes>(
     alloc: Global,
     lent: &mut LentSock<P>,
     to: &Endpoint,
 ) -> Result<LineAnswer, AllocError>
-where
-    P::Name: Drop,
-    P::Waker: Drop,
     requires agrees { Agrees P.known (parts lent.old.pipes lent.old.desk lent.old.socket.core lent.old.since.items) }
     requires ready { IsReady (parts lent.old.pipes lent.old.desk lent.old.socket.core lent.old.since.items) }
     requires inproc { IsInproc to.now }
@@ -94,14 +88,11 @@ where
 }
 
 /// Strikes the first bind to an endpoint (zmq_unbind(3)).
-pub(crate) fn unbind<P: HeldPipes + Drop>(
+pub(crate) fn unbind<P: HeldPipes>(
     alloc: Global,
     lent: &mut LentSock<P>,
     to: &Endpoint,
 ) -> Result<LineAnswer, AllocError>
-where
-    P::Name: Drop,
-    P::Waker: Drop,
     requires agrees { Agrees P.known (parts lent.old.pipes lent.old.desk lent.old.socket.core lent.old.since.items) }
     requires ready { IsReady (parts lent.old.pipes lent.old.desk lent.old.socket.core lent.old.since.items) }
     ensures ok { IfOk result (λ answer. (told : List Skip) →
@@ -125,14 +116,11 @@ where
 }
 
 /// Strikes the first connect to an endpoint (zmq_disconnect(3)).
-pub(crate) fn disconnect<P: HeldPipes + Drop>(
+pub(crate) fn disconnect<P: HeldPipes>(
     alloc: Global,
     lent: &mut LentSock<P>,
     to: &Endpoint,
 ) -> Result<LineAnswer, AllocError>
-where
-    P::Name: Drop,
-    P::Waker: Drop,
     requires agrees { Agrees P.known (parts lent.old.pipes lent.old.desk lent.old.socket.core lent.old.since.items) }
     requires ready { IsReady (parts lent.old.pipes lent.old.desk lent.old.socket.core lent.old.since.items) }
     ensures ok { IfOk result (λ answer. (told : List Skip) →

@@ -26,14 +26,11 @@ use std::alloc::{AllocError, Global};
 use zq_base::{EndId, Endpoint};
 
 /// Binds a name.
-pub(crate) fn call_bind<P: HeldPipes + Drop>(
+pub(crate) fn call_bind<P: HeldPipes>(
     alloc: Global,
     lent: &mut LentSock<P>,
     at: &Endpoint,
 ) -> Result<Reply, AllocError>
-where
-    P::Name: Drop,
-    P::Waker: Drop,
     requires agrees { Agrees P.known (parts lent.old.pipes lent.old.desk lent.old.socket.core lent.old.since.items) }
     requires inproc { IsInproc at.now }
     ensures ok { IfOk result (λ reply. AsksOnce lent.old.desk.caller
@@ -58,14 +55,11 @@ where
 }
 
 /// Connects to a name.
-pub(crate) fn call_connect<P: HeldPipes + Drop>(
+pub(crate) fn call_connect<P: HeldPipes>(
     alloc: Global,
     lent: &mut LentSock<P>,
     at: &Endpoint,
 ) -> Result<Reply, AllocError>
-where
-    P::Name: Drop,
-    P::Waker: Drop,
     requires agrees { Agrees P.known (parts lent.old.pipes lent.old.desk lent.old.socket.core lent.old.since.items) }
     requires inproc { IsInproc at.now }
     ensures ok { IfOk result (λ reply. AsksOnce lent.old.desk.caller
@@ -92,14 +86,11 @@ where
 }
 
 /// Strikes the first bind to an endpoint.
-pub(crate) fn call_unbind<P: HeldPipes + Drop>(
+pub(crate) fn call_unbind<P: HeldPipes>(
     alloc: Global,
     lent: &mut LentSock<P>,
     at: &Endpoint,
 ) -> Result<Reply, AllocError>
-where
-    P::Name: Drop,
-    P::Waker: Drop,
     requires agrees { Agrees P.known (parts lent.old.pipes lent.old.desk lent.old.socket.core lent.old.since.items) }
     ensures ok { IfOk result (λ reply. AsksOnce lent.old.desk.caller
         (Unbind (id (owner_of lent.old.socket.core)) at.now) reply
@@ -123,14 +114,11 @@ where
 }
 
 /// Strikes the first connect to an endpoint.
-pub(crate) fn call_disconnect<P: HeldPipes + Drop>(
+pub(crate) fn call_disconnect<P: HeldPipes>(
     alloc: Global,
     lent: &mut LentSock<P>,
     at: &Endpoint,
 ) -> Result<Reply, AllocError>
-where
-    P::Name: Drop,
-    P::Waker: Drop,
     requires agrees { Agrees P.known (parts lent.old.pipes lent.old.desk lent.old.socket.core lent.old.since.items) }
     ensures ok { IfOk result (λ reply. AsksOnce lent.old.desk.caller
         (Disconnect (id (owner_of lent.old.socket.core)) at.now) reply
@@ -155,13 +143,10 @@ where
 
 /// Processes the oldest command of the socket, or finds its mailbox empty. Want of memory leaves the
 /// command where it was.
-pub(crate) fn call_take<P: HeldPipes + Drop>(
+pub(crate) fn call_take<P: HeldPipes>(
     alloc: Global,
     lent: &mut LentSock<P>,
 ) -> Result<Delivery, AllocError>
-where
-    P::Name: Drop,
-    P::Waker: Drop,
     requires agrees { Agrees P.known (parts lent.old.pipes lent.old.desk lent.old.socket.core lent.old.since.items) }
     requires may { MayTakeEnds P.known (parts lent.old.pipes lent.old.desk lent.old.socket.core lent.old.since.items) }
     ensures ok { IfOk result (λ found. GivesOrNot lent.old.desk.caller
@@ -189,14 +174,11 @@ where
 
 /// Tells that an end is at the delimiter of the pipe that it reads. Answers whether its state is one in
 /// which that is looked at; else nothing happens.
-pub(crate) fn call_meet<P: HeldPipes + Drop>(
+pub(crate) fn call_meet<P: HeldPipes>(
     alloc: Global,
     lent: &mut LentSock<P>,
     end: EndId,
 ) -> bool
-where
-    P::Name: Drop,
-    P::Waker: Drop,
     requires agrees { Agrees P.known (parts lent.old.pipes lent.old.desk lent.old.socket.core lent.old.since.items) }
     requires here { has_end end ((holding_of kind_told lent.old.socket.core).ends
         (owner_of lent.old.socket.core)) ≡ true }
@@ -224,13 +206,10 @@ where
 }
 
 /// Closes the socket: its ends are on their way to the reaper.
-pub(crate) fn call_close<P: HeldPipes + Drop>(
+pub(crate) fn call_close<P: HeldPipes>(
     alloc: Global,
     lent: &mut LentSock<P>,
 ) -> Result<Reply, AllocError>
-where
-    P::Name: Drop,
-    P::Waker: Drop,
     requires agrees { Agrees P.known (parts lent.old.pipes lent.old.desk lent.old.socket.core lent.old.since.items) }
     ensures ok { IfOk result (λ reply. AsksOnce lent.old.desk.caller
         (Close (id (owner_of lent.old.socket.core))) reply

@@ -19,10 +19,7 @@ use open_sock::Reader;
 use std::alloc::{AllocError, Global};
 
 /// Tells that an end which reads on is at its delimiter.
-pub(crate) fn meet<P: HeldPipes + Drop>(alloc: Global, lent: &mut LentSock<P>, reader: Reader)
-where
-    P::Name: Drop,
-    P::Waker: Drop,
+pub(crate) fn meet<P: HeldPipes>(alloc: Global, lent: &mut LentSock<P>, reader: Reader)
     requires agrees { Agrees P.known (parts lent.old.pipes lent.old.desk lent.old.socket.core lent.old.since.items) }
     requires ready { IsReady (parts lent.old.pipes lent.old.desk lent.old.socket.core lent.old.since.items) }
     requires reads { ReadsOnAt (readers_from lent.old.socket.core) reader }
@@ -43,13 +40,10 @@ where
 }
 
 /// Closes it (zmq_close(3)): its ends are on their way to the reaper. Want of memory leaves it open.
-pub fn close_lent<P: HeldPipes + Drop>(
+pub fn close_lent<P: HeldPipes>(
     alloc: Global,
     lent: &mut LentSock<P>,
 ) -> Result<(), AllocError>
-where
-    P::Name: Drop,
-    P::Waker: Drop,
     requires agrees { Agrees P.known (parts lent.old.pipes lent.old.desk lent.old.socket.core lent.old.since.items) }
     ensures ok { OnOk result (ClosesOpen (Leads P.known) view_of
         (parts lent.old.pipes lent.old.desk lent.old.socket.core lent.old.since.items)

@@ -15,14 +15,11 @@ use open_sock::Reader;
 use std::alloc::Global;
 
 /// Looks at the front of the pipe that an end reads which reads on, and takes nothing.
-pub(crate) fn look<P: HeldPipes + Drop>(
+pub(crate) fn look<P: HeldPipes>(
     alloc: Global,
     lent: &mut LentSock<P>,
     reader: Reader,
 ) -> Front
-where
-    P::Name: Drop,
-    P::Waker: Drop,
     requires agrees { Agrees P.known (parts lent.old.pipes lent.old.desk lent.old.socket.core lent.old.since.items) }
     requires reads { ReadsOnAt (readers_from lent.old.socket.core) reader }
     ensures looked { LooksAtFront (Leads P.known) view_of reader.end result

@@ -18,13 +18,10 @@ use std::alloc::{AllocError, Global};
 use zq_base::Message;
 
 /// What comes before each call.
-pub(crate) fn pump_kind<P: HeldPipes + Drop>(
+pub(crate) fn pump_kind<P: HeldPipes>(
     alloc: Global,
     lent: &mut LentSock<P>,
 ) -> Result<(), AllocError>
-where
-    P::Name: Drop,
-    P::Waker: Drop,
     requires agrees { Agrees P.known (parts lent.old.pipes lent.old.desk lent.old.socket.core lent.old.since.items) }
     ensures ok { OnOk result (PumpsKind (Leads P.known) view_of
         (parts lent.old.pipes lent.old.desk lent.old.socket.core lent.old.since.items)
@@ -41,14 +38,11 @@ where
 }
 
 // Sends a message that is the socket's.
-fn send_own<P: HeldPipes + Drop>(
+fn send_own<P: HeldPipes>(
     alloc: Global,
     lent: &mut LentSock<P>,
     message: Message,
 ) -> Result<LineAnswer, AllocError>
-where
-    P::Name: Drop,
-    P::Waker: Drop,
     requires agrees { Agrees P.known (parts lent.old.pipes lent.old.desk lent.old.socket.core lent.old.since.items) }
     requires ready { IsReady (parts lent.old.pipes lent.old.desk lent.old.socket.core lent.old.since.items) }
     ensures ok { IfOk result (λ answer. (told : List Skip) →
@@ -66,14 +60,11 @@ where
 }
 
 /// Sends a copy of a message by the rule of the socket's kind.
-pub(crate) fn send<P: HeldPipes + Drop>(
+pub(crate) fn send<P: HeldPipes>(
     alloc: Global,
     lent: &mut LentSock<P>,
     message: &Message,
 ) -> Result<LineAnswer, AllocError>
-where
-    P::Name: Drop,
-    P::Waker: Drop,
     requires agrees { Agrees P.known (parts lent.old.pipes lent.old.desk lent.old.socket.core lent.old.since.items) }
     requires ready { IsReady (parts lent.old.pipes lent.old.desk lent.old.socket.core lent.old.since.items) }
     ensures ok { IfOk result (λ answer. (told : List Skip) →
@@ -94,14 +85,11 @@ where
 }
 
 /// Receives by the rule of the socket's kind.
-pub(crate) fn recv<P: HeldPipes + Drop>(
+pub(crate) fn recv<P: HeldPipes>(
     alloc: Global,
     lent: &mut LentSock<P>,
     told: &mut Vec<Skip>,
 ) -> Result<LineAnswer, AllocError>
-where
-    P::Name: Drop,
-    P::Waker: Drop,
     requires agrees { Agrees P.known (parts lent.old.pipes lent.old.desk lent.old.socket.core lent.old.since.items) }
     requires ready { IsReady (parts lent.old.pipes lent.old.desk lent.old.socket.core lent.old.since.items) }
     ensures ok { IfOk result (λ answer. CallsSo (Leads P.known) view_of moments_since ReceivesOpen
@@ -119,14 +107,11 @@ where
 }
 
 /// Subscribes once more to a topic.
-pub(crate) fn subscribe<P: HeldPipes + Drop>(
+pub(crate) fn subscribe<P: HeldPipes>(
     alloc: Global,
     lent: &mut LentSock<P>,
     topic: &[u8],
 ) -> Result<LineAnswer, AllocError>
-where
-    P::Name: Drop,
-    P::Waker: Drop,
     requires agrees { Agrees P.known (parts lent.old.pipes lent.old.desk lent.old.socket.core lent.old.since.items) }
     requires ready { IsReady (parts lent.old.pipes lent.old.desk lent.old.socket.core lent.old.since.items) }
     requires short { length topic.now < max_octets }
@@ -145,14 +130,11 @@ where
 }
 
 /// Cancels one subscription to a topic.
-pub(crate) fn unsubscribe<P: HeldPipes + Drop>(
+pub(crate) fn unsubscribe<P: HeldPipes>(
     alloc: Global,
     lent: &mut LentSock<P>,
     topic: &[u8],
 ) -> Result<LineAnswer, AllocError>
-where
-    P::Name: Drop,
-    P::Waker: Drop,
     requires agrees { Agrees P.known (parts lent.old.pipes lent.old.desk lent.old.socket.core lent.old.since.items) }
     requires ready { IsReady (parts lent.old.pipes lent.old.desk lent.old.socket.core lent.old.since.items) }
     requires short { length topic.now < max_octets }

@@ -8,10 +8,7 @@ use spec_run::LineAnswer;
 use std::alloc::{AllocError, Global};
 use zq_base::{Endpoint, Message};
 
-impl<P: HeldPipes + Drop> OpenSteps for LentSock<P>
-where
-    P::Name: Drop,
-    P::Waker: Drop,
+impl<P: HeldPipes> OpenSteps for LentSock<P>
 {
     ghost use Rattle.std.specs.Prelude.{◌≡◌, true};
     ghost use Rattle.lent_sock.specs.Owned.{parts, view_of, moments_since, has_met_in, Agrees, MayTakeEnds};

@@ -90,14 +90,11 @@ fn found_now<W, N, O, I>(
 }
 
 // Takes the oldest letter of the mailbox of a socket of which these ends read on.
-fn take_behind<P: HeldPipes + Drop>(
+fn take_behind<P: HeldPipes>(
     alloc: Global,
     lent: &mut LentSock<P>,
     before: &[EndId],
 ) -> Result<Found, AllocError>
-where
-    P::Name: Drop,
-    P::Waker: Drop,
     requires agrees { Agrees P.known (parts lent.old.pipes lent.old.desk lent.old.socket.core lent.old.since.items) }
     requires ready { IsReady (parts lent.old.pipes lent.old.desk lent.old.socket.core lent.old.since.items) }
     requires may { MayTakeEnds P.known (parts lent.old.pipes lent.old.desk lent.old.socket.core lent.old.since.items) }
@@ -129,9 +126,6 @@ fn finds_empty<P: HeldPipes>(
     desk: &mut OneDesk<P>,
     socket: &Option<SockCore<AnySock, P::Waker, P::Name, P::Out, P::In>>,
 ) -> bool
-where
-    P::Name: Drop,
-    P::Waker: Drop,
     requires there { is_some socket.now ≡ true }
     requires has { has_after (owner_of socket.now) (items_in (moments_of desk.old)) ≡ Some desk.old.caller }
     ensures empty { result ≡ true →
@@ -152,13 +146,10 @@ where
 
 /// Takes the oldest letter of the socket's mailbox, or finds it empty. Want of memory leaves the letter
 /// where it was.
-pub(crate) fn take<P: HeldPipes + Drop>(
+pub(crate) fn take<P: HeldPipes>(
     alloc: Global,
     lent: &mut LentSock<P>,
 ) -> Result<Found, AllocError>
-where
-    P::Name: Drop,
-    P::Waker: Drop,
     requires agrees { Agrees P.known (parts lent.old.pipes lent.old.desk lent.old.socket.core lent.old.since.items) }
     requires ready { IsReady (parts lent.old.pipes lent.old.desk lent.old.socket.core lent.old.since.items) }
     requires may { MayTakeEnds P.known (parts lent.old.pipes lent.old.desk lent.old.socket.core lent.old.since.items) }

@@ -51,10 +51,10 @@ pub trait Pipes {
     type In: Drop;
 
     /// Wakes the owner of a half.
-    type Waker;
+    type Waker: Drop;
 
     /// Which pipe it is, as plain data.
-    type Name;
+    type Name: Drop;
 
     /// What a half committed or took, for proofs alone: it takes no memory.
     type Story: Drop;

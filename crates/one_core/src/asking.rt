@@ -17,9 +17,6 @@ use spec_run::LineAnswer;
 use std::alloc::{AllocError, Global};
 
 impl<P: HeldPipes> OneCore<P>
-where
-    P::Name: Drop,
-    P::Waker: Drop,
 {
     // The context is asked to end, and replies.
     fn ask(&mut self, alloc: Global, caller: usize) -> Result<Reply, AllocError>

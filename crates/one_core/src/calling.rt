@@ -46,9 +46,6 @@ fn count_drops<P: HeldPipes>(
     told: &Vec<Skip>,
     before: usize,
 ) -> Result<(), AllocError>
-where
-    P::Name: Drop,
-    P::Waker: Drop,
     requires some { before ≤ length told.now.items }
     ensures { OnOk result (CountsTold (control_of desk.now.past) object.0
         (drop before told.now.items) drops.old.items drops.new.items) }
@@ -58,9 +55,7 @@ where
 
 impl<P> OneCore<P>
 where
-    P: HeldPipes + Drop,
-    P::Name: Drop,
-    P::Waker: Drop,
+    P: HeldPipes,
 {
     /// Pumps a socket and then makes the call of a line, one of those that are made of a socket.
     pub fn call(

@@ -46,9 +46,7 @@ impl<P: HeldPipes> Model for OneCore<P> {
 
 impl<P> OneCore<P>
 where
-    P: HeldPipes + Drop,
-    P::Name: Drop,
-    P::Waker: Drop,
+    P: HeldPipes,
 {
     /// A context at its making, with these pipes. The reaper and the I/O worker are woken by these.
     pub fn new(

@@ -6,9 +6,7 @@ use zq_world::{Core, Shown, Steps};
 
 impl<P> Core<P> for OneCore<P>
 where
-    P: HeldPipes + Drop,
-    P::Name: Drop,
-    P::Waker: Drop,
+    P: HeldPipes,
 {
     ghost order = { λ w. w.desk.items };
 
@@ -36,9 +34,7 @@ where
 
 impl<P> Steps<P> for OneCore<P>
 where
-    P: HeldPipes + Drop,
-    P::Name: Drop,
-    P::Waker: Drop,
+    P: HeldPipes,
 {
     fn may_take(&self, slot: usize) -> bool {
         OneCore::may_take(self, slot)

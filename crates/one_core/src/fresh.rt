@@ -22,9 +22,7 @@ pub(crate) fn fresh_socket<P>(
     waker: P::Waker,
 ) -> SockCore<AnySock, P::Waker, P::Name, P::Out, P::In>
 where
-    P: HeldPipes + Drop,
-    P::Name: Drop,
-    P::Waker: Drop,
+    P: HeldPipes,
     ensures fresh { IsFresh number.0 kind options.now result }
     ensures stands { (pipes : P) → IsStanding P.known pipes result }
     ensures view { (slot : ℕ) →
@@ -50,9 +48,7 @@ pub(crate) fn made_of<P>(
     waker: P::Waker,
 ) -> Made<Option<SockCore<AnySock, P::Waker, P::Name, P::Out, P::In>>>
 where
-    P: HeldPipes + Drop,
-    P::Name: Drop,
-    P::Waker: Drop,
+    P: HeldPipes,
     requires reply { MakesOrRefuses reply }
     ensures reply { made_reply result ≡ reply }
     ensures fresh { IsFreshMade P.known kind options.now result }

@@ -31,9 +31,7 @@ fn call_told<P>(
     told: &mut Vec<Skip>,
 ) -> Result<LineAnswer, AllocError>
 where
-    P: HeldPipes + Drop,
-    P::Name: Drop,
-    P::Waker: Drop,
+    P: HeldPipes,
     requires agrees { Agrees P.known (parts lent.old.pipes lent.old.desk lent.old.socket.core lent.old.since.items) }
     requires may { MayTakeEnds P.known (parts lent.old.pipes lent.old.desk lent.old.socket.core lent.old.since.items) }
     requires ready { IsReady (parts lent.old.pipes lent.old.desk lent.old.socket.core lent.old.since.items) }
@@ -90,9 +88,7 @@ pub(crate) fn call_lent<P>(
     told: &mut Vec<Skip>,
 ) -> Result<LineAnswer, AllocError>
 where
-    P: HeldPipes + Drop,
-    P::Name: Drop,
-    P::Waker: Drop,
+    P: HeldPipes,
     requires agrees { Agrees P.known (parts lent.old.pipes (for_caller caller lent.old.desk) socket.old []) }
     requires may { MayTakeEnds P.known (parts lent.old.pipes (for_caller caller lent.old.desk) socket.old []) }
     requires ready { IsReady (parts lent.old.pipes (for_caller caller lent.old.desk) socket.old []) }
@@ -126,9 +122,7 @@ fn close_told<P>(
     caller: u32,
 ) -> Result<(), AllocError>
 where
-    P: HeldPipes + Drop,
-    P::Name: Drop,
-    P::Waker: Drop,
+    P: HeldPipes,
     requires agrees { Agrees P.known (parts lent.old.pipes lent.old.desk lent.old.socket.core lent.old.since.items) }
     ensures ok { OnOk result (IsTold (TellsClose P.known caller
         (parts lent.old.pipes lent.old.desk lent.old.socket.core lent.old.since.items)
@@ -178,9 +172,7 @@ pub(crate) fn close_lent<P>(
     AllocFailed<Option<SockCore<AnySock, P::Waker, P::Name, P::Out, P::In>>>,
 >
 where
-    P: HeldPipes + Drop,
-    P::Name: Drop,
-    P::Waker: Drop,
+    P: HeldPipes,
     requires agrees { Agrees P.known (parts lent.old.pipes (for_caller caller lent.old.desk) socket []) }
     ensures ok { IfOk result (λ closed. IsTold (TellsClose P.known caller
         (parts lent.old.pipes (for_caller caller lent.old.desk) socket [])

@@ -42,9 +42,7 @@ fn fetch_told<P>(
     caller: u32,
 ) -> Result<(), AllocError>
 where
-    P: HeldPipes + Drop,
-    P::Name: Drop,
-    P::Waker: Drop,
+    P: HeldPipes,
     requires agrees { Agrees P.known (parts lent.old.pipes lent.old.desk lent.old.socket.core lent.old.since.items) }
     requires may { MayTakeEnds P.known (parts lent.old.pipes lent.old.desk lent.old.socket.core lent.old.since.items) }
     requires ready { IsReady (parts lent.old.pipes lent.old.desk lent.old.socket.core lent.old.since.items) }
@@ -96,9 +94,7 @@ pub(crate) fn fetch_lent<P>(
     socket: &mut Option<SockCore<AnySock, P::Waker, P::Name, P::Out, P::In>>,
 ) -> Result<(), AllocError>
 where
-    P: HeldPipes + Drop,
-    P::Name: Drop,
-    P::Waker: Drop,
+    P: HeldPipes,
     requires agrees { Agrees P.known (parts lent.old.pipes (for_caller caller lent.old.desk) socket.old []) }
     requires may { MayTakeEnds P.known (parts lent.old.pipes (for_caller caller lent.old.desk) socket.old []) }
     requires ready { IsReady (parts lent.old.pipes (for_caller caller lent.old.desk) socket.old []) }

@@ -40,9 +40,6 @@ fn mailbox_of(slot: usize) -> Option<SlotId>
 
 // Whether a letter may be taken from a mailbox.
 fn may_take_from<P: HeldPipes>(desk: &OneDesk<P>, slot: SlotId) -> bool
-where
-    P::Name: Drop,
-    P::Waker: Drop,
     requires one { desk.now.past.workers ≡ 1 }
     ensures { result ≡ may_take (control_of desk.now.past) slot.0 }
 {
@@ -58,9 +55,6 @@ where
 
 // Whether a mailbox is one of the reaper's.
 fn is_of_reaper<P: HeldPipes>(desk: &OneDesk<P>, slot: SlotId) -> bool
-where
-    P::Name: Drop,
-    P::Waker: Drop,
     requires one { desk.now.past.workers ≡ 1 }
     ensures { result ≡ is_reapers (control_of desk.now.past) slot.0 }
 {
@@ -80,9 +74,7 @@ where
 
 impl<P> OneCore<P>
 where
-    P: HeldPipes + Drop,
-    P::Name: Drop,
-    P::Waker: Drop,
+    P: HeldPipes,
 {
     /// The mailbox of an open socket.
     pub fn mailbox(

@@ -15,9 +15,6 @@ use spec_control::ObjState;
 use std::alloc::AllocError;
 
 impl<P: HeldPipes> OneCore<P>
-where
-    P::Name: Drop,
-    P::Waker: Drop,
 {
     /// Looks at the root.
     pub fn look(&mut self, caller: usize) -> Result<ObjState, AllocError>

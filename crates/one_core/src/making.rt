@@ -23,9 +23,7 @@ use zq_base::{Kind, Options};
 
 impl<P> OneCore<P>
 where
-    P: HeldPipes + Drop,
-    P::Name: Drop,
-    P::Waker: Drop,
+    P: HeldPipes,
 {
     // Asks for a socket.
     fn ask_socket(

@@ -91,9 +91,7 @@ pub(crate) fn reap_lent<P>(
     caller: u32,
 ) -> Result<(), AllocError>
 where
-    P: HeldPipes + Drop,
-    P::Name: Drop,
-    P::Waker: Drop,
+    P: HeldPipes,
     requires may { MayReap P.known
         (reap_parts (for_caller caller desk.old) pipes.old closed.old) }
     ensures ok { OnOk result (IsTold (TellsReap P.known caller
@@ -134,9 +132,7 @@ pub(crate) fn reap_at_lent<P>(
     slot: SlotId,
 ) -> Result<(), AllocError>
 where
-    P: HeldPipes + Drop,
-    P::Name: Drop,
-    P::Waker: Drop,
+    P: HeldPipes,
     requires may { MayReap P.known
         (reap_parts (for_caller caller desk.old) pipes.old closed.old) }
     requires waits { WaitsAt slot (for_caller caller desk.old) }

@@ -15,9 +15,7 @@ use std::alloc::{AllocError, Global};
 
 impl<P> OneCore<P>
 where
-    P: HeldPipes + Drop,
-    P::Name: Drop,
-    P::Waker: Drop,
+    P: HeldPipes,
 {
     /// The reaper takes a letter, of the first of its mailboxes that is not empty, or finds all of
     /// them empty. There is no memory for it where a call wanted some.

@@ -10,9 +10,7 @@ use zq_world::Shown;
 
 impl<P> OneCore<P>
 where
-    P: HeldPipes + Drop,
-    P::Name: Drop,
-    P::Waker: Drop,
+    P: HeldPipes,
 {
     /// What is shown of it, with the rows of what was done through it so far. There is no memory for it
     /// where a call wanted some.

@@ -10,9 +10,7 @@ use zq_base::{Kind, Options};
 
 impl<P> Sockets<P> for OneCore<P>
 where
-    P: HeldPipes + Drop,
-    P::Name: Drop,
-    P::Waker: Drop,
+    P: HeldPipes,
 {
     ghost use Rattle.one_core.specs.Agreeing.{as_open, was_made, Agrees};
     ghost use Rattle.one_core.specs.Sound.{pieces_in};
@@ -64,9 +62,7 @@ where
 
 impl<P> Letters<P> for OneCore<P>
 where
-    P: HeldPipes + Drop,
-    P::Name: Drop,
-    P::Waker: Drop,
+    P: HeldPipes,
 {
     fn mailbox(&self, socket: &Self::Open) -> usize {
         OneCore::mailbox(self, socket)

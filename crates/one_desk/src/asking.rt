@@ -20,9 +20,6 @@ use std::alloc::{AllocError, Global};
 use zq_base::{Endpoint, ObjId};
 
 impl<P: Pipes> OneDesk<P>
-where
-    P::Name: Drop,
-    P::Waker: Drop,
 {
     // A bind to an endpoint that is a name.
     fn bind_at<H: Undoes<P>>(

@@ -11,9 +11,6 @@ use std::alloc::Global;
 use zq_base::ObjId;
 
 impl<P: Pipes> OneDesk<P>
-where
-    P::Name: Drop,
-    P::Waker: Drop,
 {
     /// The caller closes its socket (zmq_close(3)): the socket's holder gives all ends of it, and the
     /// reaper is to take them. It takes no memory, and costs a walk over the ends.

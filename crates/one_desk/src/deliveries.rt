@@ -18,9 +18,6 @@ use std::alloc::{AllocError, Global};
 use zq_base::{EndId, SlotId};
 
 impl<P: Pipes> OneDesk<P>
-where
-    P::Name: Drop,
-    P::Waker: Drop,
 {
     /// Tells that an end is at the delimiter of the pipe that it reads, with its holder. Answers
     /// whether its state is one in which that is looked at; else nothing happens. It costs looks at some

@@ -55,9 +55,6 @@ impl<P: Pipes> Model for OneDesk<P> {
 }
 
 impl<P: Pipes> OneDesk<P>
-where
-    P::Name: Drop,
-    P::Waker: Drop,
 {
     /// A context at its making, with one I/O worker. The reaper and the I/O worker are woken by
     /// these.

@@ -72,8 +72,6 @@ fn follow_word(notes: &mut Notes, word: usize, now: u64)
 
 // The bits of one word of mailboxes become those of the mailboxes as they are.
 fn follow_at<P: Pipes>(notes: &mut Notes, history: &History<P>, word: usize)
-where
-    P::Name: Drop,
     requires there { word < length notes.old.seen.items }
     ensures keeps { KeepsNotes notes.old notes.new }
     ensures long { length notes.new.seen.items ≡ length notes.old.seen.items }
@@ -87,8 +85,6 @@ where
 
 // So do those of all words from the first on in which a closed socket's mailbox is.
 fn follow_words<P: Pipes>(notes: &mut Notes, history: &History<P>)
-where
-    P::Name: Drop,
     ensures keeps { KeepsNotes notes.old notes.new }
     ensures seen { notes.new.whole ≡ true → (m : ℕ) → notes.old.first ≤ m / 64 →
         m / 64 < length notes.old.seen.items →
@@ -103,8 +99,6 @@ where
 
 // Those of the word in which the mailbox of a closed socket is.
 fn follow_socket<P: Pipes>(notes: &mut Notes, history: &History<P>, socket: ObjId)
-where
-    P::Name: Drop,
     ensures keeps { KeepsNotes notes.old notes.new }
     ensures here { notes.new.whole ≡ true → IsFollowed (control_of history.now)
         notes.new.seen.items (notes.old.workers + socket.0) }
@@ -122,8 +116,6 @@ where
 
 // Those of the words in which the mailboxes of the closed sockets are.
 fn follow_each<P: Pipes>(notes: &mut Notes, history: &History<P>, closed: &[ObjId])
-where
-    P::Name: Drop,
     ensures keeps { KeepsNotes notes.old notes.new }
     ensures seen { notes.new.whole ≡ true →
         AreFollowed (control_of history.now) closed.now notes.old.workers notes.new.seen.items }
@@ -138,8 +130,6 @@ where
 /// each word of mailboxes from the first on in which one of theirs is, or at each of the closed
 /// sockets where these are fewer, and one at each bit that changed since the last time.
 pub(crate) fn follow<P: Pipes>(notes: &mut Notes, history: &History<P>, closed: &[ObjId])
-where
-    P::Name: Drop,
     requires noted { Noted closed.now notes.old }
     ensures noted { Noted closed.now notes.new }
     ensures workers { notes.new.whole ≡ true → notes.new.workers ≡ history.now.workers }

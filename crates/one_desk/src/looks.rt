@@ -16,8 +16,6 @@ use zq_base::{ObjId, SlotId};
 
 /// What there is to see, where these mailboxes are empty.
 pub(crate) fn sight_of<P: Pipes>(history: &History<P>, by: u32, empty: SeenEmpty) -> Sight
-where
-    P::Name: Drop,
     requires empty { AreEmpty (control_of history.now) empty }
     ensures seen { IsSeen (control_of history.now) result }
     ensures by { result.by ≡ by }
@@ -34,9 +32,6 @@ where
 }
 
 impl<P: Pipes> OneDesk<P>
-where
-    P::Name: Drop,
-    P::Waker: Drop,
 {
     // The caller looks, and these mailboxes are empty.
     pub(crate) fn note_look(&mut self, empty: SeenEmpty) -> Sight

@@ -16,9 +16,6 @@ use std::alloc::{AllocError, Global};
 use zq_base::{Endpoint, ObjId, Octets};
 
 impl<P: Pipes> OneDesk<P>
-where
-    P::Name: Drop,
-    P::Waker: Drop,
 {
     /// The caller binds its socket to a name, with the holder of the socket's ends, which may make
     /// those of the pairs (zmq_bind(3), zmq_inproc(7)). It costs a walk over the connects that wait for

@@ -8,9 +8,6 @@ use zq_base::{EndId, ObjId, SlotId};
 // The control plane of a context of sockets, as the caller that it is lent to reaches it. There are no
 // listeners and no sessions: endpoints are names.
 impl<P: Pipes> Desk<P> for OneDesk<P>
-where
-    P::Name: Drop,
-    P::Waker: Drop,
 {
     ghost use Rattle.std.specs.Prelude.{◌≡◌, false};
     ghost use Rattle.ctl_history.specs.Past.{control_of};

@@ -39,8 +39,6 @@ impl Model for Queue {
 
 // Whether a command waits for a closed socket that the reaper took over.
 fn is_waiting<P: Pipes>(history: &History<P>, socket: ObjId) -> bool
-where
-    P::Name: Drop,
     requires there { (obj (control_of history.now).rows socket.0).slot
         < (control_of history.now).slots }
     ensures { result ≡ waits (control_of history.now) socket }
@@ -54,8 +52,6 @@ where
 
 // Where the first of these closed sockets stands for which a command waits.
 fn first_of<P: Pipes>(history: &History<P>, closed: &[ObjId]) -> Option<usize>
-where
-    P::Name: Drop,
     requires there { All (λ o. (obj (control_of history.now).rows o.0).slot
         < (control_of history.now).slots) closed.now }
     ensures there { IfSome result (λ place. place < length closed.now) }
@@ -74,8 +70,6 @@ where
 
 // Whether a closed socket stands there for which a command waits.
 fn is_waiting_at<P: Pipes>(history: &History<P>, closed: &[ObjId], place: usize) -> bool
-where
-    P::Name: Drop,
     requires there { All (λ o. (obj (control_of history.now).rows o.0).slot
         < (control_of history.now).slots) closed.now }
     ensures there { result ≡ true → place < length closed.now }
@@ -91,8 +85,6 @@ where
 
 // The same by the notes of them, which become those of the mailboxes as they are.
 fn first_noted<P: Pipes>(history: &History<P>, closed: &[ObjId], notes: &mut Notes) -> Option<usize>
-where
-    P::Name: Drop,
     requires there { All (λ o. (obj (control_of history.now).rows o.0).slot
         < (control_of history.now).slots) closed.now }
     requires boxes { HaveOwnBoxes history.now.workers (control_of history.now) }
@@ -124,8 +116,6 @@ where
 
 // Of the closed sockets those stay that have not ended, in their order. It costs a look at each.
 fn keep_living<P: Pipes>(history: &History<P>, closed: &mut RoomList<ObjId>)
-where
-    P::Name: Drop,
     ensures { closed.new ≡ with_items (filter (lives (control_of history.now)) closed.old.items)
         closed.old }
 {
@@ -200,8 +190,6 @@ impl Queue {
     /// 64, so that fewer stand here behind it. That costs fewer than six looks for each that was closed
     /// since; else it costs nothing.
     pub(crate) fn thin<P: Pipes>(&mut self, history: &History<P>)
-    where
-        P::Name: Drop,
         ensures living { filter (lives (control_of history.now)) self.new.items
             ≡ filter (lives (control_of history.now)) self.old.items }
         ensures there { (n : ℕ) → All (λ o. o.0 < n) self.old.items →
@@ -223,8 +211,6 @@ impl Queue {
     /// these where they are fewer, at each word of 64 of them up to the first, and at each bit of all
     /// these that changed since the last look.
     pub(crate) fn first<P: Pipes>(&mut self, history: &History<P>) -> Option<usize>
-    where
-        P::Name: Drop,
         requires there { All (λ o. (obj (control_of history.now).rows o.0).slot
             < (control_of history.now).slots) self.old.items }
         requires boxes { HaveOwnBoxes history.now.workers (control_of history.now) }

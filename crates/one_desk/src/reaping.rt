@@ -22,9 +22,6 @@ use std::alloc::{AllocError, Global};
 use zq_base::SlotId;
 
 impl<P: Pipes> OneDesk<P>
-where
-    P::Name: Drop,
-    P::Waker: Drop,
 {
     // The first of the reaper's mailboxes in which a command waits.
     pub(crate) fn first_slot(&mut self) -> Option<SlotId>

@@ -39,9 +39,6 @@ fn keep_room(closed: &mut Queue, reply: Reply)
 }
 
 impl<P: Pipes> OneDesk<P>
-where
-    P::Name: Drop,
-    P::Waker: Drop,
 {
     /// The caller makes a socket (zmq_socket(3)). The socket is woken as this holder is. It costs the same
     /// however many objects there are.

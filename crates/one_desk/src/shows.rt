@@ -17,9 +17,6 @@ use zq_base::{EndId, ObjId, Seq};
 
 // What is shown of a context, whoever looks: nothing of it is noted.
 impl<P: Pipes> OneDesk<P>
-where
-    P::Name: Drop,
-    P::Waker: Drop,
 {
     /// How far the root is. It costs a look at one row.
     pub fn root(&self) -> ObjState

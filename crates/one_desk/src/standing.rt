@@ -10,9 +10,6 @@ use crate::desk::OneDesk;
 use msg_pipe::Pipes;
 
 impl<P: Pipes> OneDesk<P>
-where
-    P::Name: Drop,
-    P::Waker: Drop,
 {
     /// What its callers did and saw is one order. It costs nothing.
     pub fn is_of_one_order(&self)

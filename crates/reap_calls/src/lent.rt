@@ -41,8 +41,6 @@ pub(crate) fn deliver_lent<F, P>(
 where
     F: Stretch<P, ClosedSockets<P::Name, P::Out, P::In>, Given<P::Name, P::Out, P::In>>,
     P: HeldPipes,
-    P::Name: Drop,
-    P::Waker: Drop,
     requires began { (s : P) (t : ClosedSockets P.Name P.Out P.In) → F.began s t →
         (s ≡ pipes) × (t ≡ closed) }
     requires fits { FitsClosed P.known pipes closed }
@@ -106,8 +104,6 @@ pub(crate) fn deliver_at_lent<F, P>(
 where
     F: Stretch<P, ClosedSockets<P::Name, P::Out, P::In>, Given<P::Name, P::Out, P::In>>,
     P: HeldPipes,
-    P::Name: Drop,
-    P::Waker: Drop,
     requires began { (s : P) (t : ClosedSockets P.Name P.Out P.In) → F.began s t →
         (s ≡ pipes) × (t ≡ closed) }
     requires fits { FitsClosed P.known pipes closed }
@@ -173,8 +169,6 @@ pub(crate) fn meet_lent<F, P>(
 where
     F: Stretch<P, ClosedSockets<P::Name, P::Out, P::In>, Given<P::Name, P::Out, P::In>>,
     P: HeldPipes,
-    P::Name: Drop,
-    P::Waker: Drop,
     requires began { (s : P) (t : ClosedSockets P.Name P.Out P.In) → F.began s t →
         (s ≡ pipes) × (t ≡ closed) }
     requires fits { FitsClosed P.known pipes closed }

@@ -29,9 +29,7 @@ pub fn look_on<P>(
     end: EndId,
 ) -> Front
 where
-    P: HeldPipes + Drop,
-    P::Name: Drop,
-    P::Waker: Drop,
+    P: HeldPipes,
     requires fits { FitsClosed P.known pipes.old closed.old }
     requires holds { (holding_in P.known.out_name P.known.in_name closed.old).holds o.0 ≡ true }
     requires here { has_end end

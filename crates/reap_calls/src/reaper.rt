@@ -40,9 +40,7 @@ pub fn deliver_first<P>(
     desk: &mut OneDesk<P>,
 ) -> Result<Delivery, AllocError>
 where
-    P: HeldPipes + Drop,
-    P::Name: Drop,
-    P::Waker: Drop,
+    P: HeldPipes,
     requires fits { FitsClosed P.known pipes.old closed.old }
     requires lent { (m i : ℕ) → served_by desk.old m i ≡ true →
         (holding_in P.known.out_name P.known.in_name closed.old).holds i ≡ true }
@@ -94,9 +92,7 @@ pub fn deliver_at<P>(
     slot: SlotId,
 ) -> Result<(), AllocError>
 where
-    P: HeldPipes + Drop,
-    P::Name: Drop,
-    P::Waker: Drop,
+    P: HeldPipes,
     requires fits { FitsClosed P.known pipes.old closed.old }
     requires waits { WaitsAt slot desk.old }
     requires lent { (m i : ℕ) → served_by desk.old m i ≡ true →
@@ -149,9 +145,7 @@ pub fn meet<P>(
     end: EndId,
 ) -> bool
 where
-    P: HeldPipes + Drop,
-    P::Name: Drop,
-    P::Waker: Drop,
+    P: HeldPipes,
     requires fits { FitsClosed P.known pipes.old closed.old }
     requires mine { HoldsEnd end (holding_in P.known.out_name P.known.in_name closed.old) }
     requires at { (holding_in P.known.out_name P.known.in_name closed.old).at_delimiter end ≡ true }
@@ -192,9 +186,7 @@ pub fn look<P>(
     end: EndId,
 ) -> Front
 where
-    P: HeldPipes + Drop,
-    P::Name: Drop,
-    P::Waker: Drop,
+    P: HeldPipes,
     requires fits { FitsClosed P.known pipes.old closed.old }
     requires here { has_end end
         ((holding_in P.known.out_name P.known.in_name closed.old).ends o.0) ≡ true }

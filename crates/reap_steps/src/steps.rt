@@ -17,9 +17,6 @@ use zq_base::{EndId, ObjId, SlotId};
 
 /// What is so of a desk, whoever called. It costs nothing.
 pub fn stands<P: HeldPipes>(desk: &OneDesk<P>)
-where
-    P::Name: Drop,
-    P::Waker: Drop,
     ensures { DeskStands P.known desk.now }
 {
     desk.is_of_one_order();
@@ -29,9 +26,6 @@ where
 
 // The end whose other end the last letter said was asked, with the object that got the letter.
 fn looker<P: HeldPipes>(desk: &OneDesk<P>) -> Option<(ObjId, EndId)>
-where
-    P::Name: Drop,
-    P::Waker: Drop,
     ensures { result ≡ last_looker desk.now.past.events }
 {
     match desk.last_addressee() {
@@ -55,9 +49,7 @@ fn look_at<P>(
     end: EndId,
 )
 where
-    P: HeldPipes + Drop,
-    P::Name: Drop,
-    P::Waker: Drop,
+    P: HeldPipes,
     requires fits { FitsClosed P.known pipes.old closed.old }
     requires has { HasWhatTheySay desk.old.caller (moments_of desk.old)
         (holding_in P.known.out_name P.known.in_name closed.old) }
@@ -82,9 +74,7 @@ fn look_behind<P>(
     desk: &mut OneDesk<P>,
 )
 where
-    P: HeldPipes + Drop,
-    P::Name: Drop,
-    P::Waker: Drop,
+    P: HeldPipes,
     requires fits { FitsClosed P.known pipes.old closed.old }
     requires has { HasWhatTheySay desk.old.caller (moments_of desk.old)
         (holding_in P.known.out_name P.known.in_name closed.old) }
@@ -111,9 +101,7 @@ pub fn reap_once<P>(
     desk: &mut OneDesk<P>,
 ) -> Result<(), AllocError>
 where
-    P: HeldPipes + Drop,
-    P::Name: Drop,
-    P::Waker: Drop,
+    P: HeldPipes,
     requires may { MayReap P.known (reap_parts desk.old pipes.old closed.old) }
     ensures ok { OnOk result (ReapedSo P.known
         (reap_parts desk.old pipes.old closed.old) (reap_parts desk.new pipes.new closed.new)) }
@@ -149,9 +137,7 @@ pub fn reap_at<P>(
     slot: SlotId,
 ) -> Result<(), AllocError>
 where
-    P: HeldPipes + Drop,
-    P::Name: Drop,
-    P::Waker: Drop,
+    P: HeldPipes,
     requires may { MayReap P.known (reap_parts desk.old pipes.old closed.old) }
     requires waits { WaitsAt slot desk.old }
     ensures ok { OnOk result (ReapedAt P.known slot

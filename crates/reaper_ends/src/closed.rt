@@ -132,7 +132,6 @@ impl<P: HeldPipes> Closed<P> {
 impl<P, F> Holder<P> for Closed<P, F>
 where
     P: HeldPipes,
-    P::Name: Drop,
     F: Stretch<P, ClosedSockets<P::Name, P::Out, P::In>, Given<P::Name, P::Out, P::In>>,
 {
     ghost use Rattle.std.specs.Prelude.{◌≡◌, ◌∷◌, [], true, false, All, map, OnOk, IfOk, IfErr};

@@ -145,8 +145,6 @@ pub(crate) fn add<P: HeldPipes>(
     number: ObjId,
     ends: VecDeque<Given<P::Name, P::Out, P::In>>,
 )
-where
-    P::Name: Drop,
     requires indexed { AreIndexed closed.old }
     requires room { HasRoom closed.old }
     requires new { list_any (is_socket number.0) closed.old.sockets.items ≡ false }
@@ -182,8 +180,6 @@ fn note_came<P: HeldPipes>(
     came: &mut Log<Place<P::Name, P::In>, ()>,
     ends: &VecDeque<Given<P::Name, P::Out, P::In>>,
 )
-where
-    P::Name: Drop,
     ensures { came.new.items ≡ came.old.items ++ map (came_given P.known.in_name) ends.now.items }
 {
     let many = ends.len();
@@ -216,8 +212,6 @@ pub(crate) fn join<P: HeldPipes>(
     identity: &Octets,
     halves: Halves<P::Out, P::In>,
 ) -> Result<(), AllocFailed<Halves<P::Out, P::In>>>
-where
-    P::Name: Drop,
     requires its { IsFirst (is_socket number.0) closed.old.sockets.items socket }
     ensures ok { OnOk result (AddsOne P.known.out_name P.known.in_name number.0 socket
         end identity.now halves closed.old closed.new) }

@@ -30,9 +30,7 @@ pub(crate) fn ask<P, C, D>(
     request: Req,
 ) -> Result<Reply, AllocError>
 where
-    P: HeldPipes + Drop,
-    P::Name: Drop,
-    P::Waker: Drop,
+    P: HeldPipes,
     C: Joins + Drop,
     D: Desk<P>,
     requires fits { FitsPipes P.known C.peers pipes.old socket.old }

@@ -48,7 +48,6 @@ pub(crate) fn ask_lent<F, P, C, D>(
 where
     F: Since<P, SockCore<C, P::Waker, P::Name, P::Out, P::In>>,
     P: HeldPipes,
-    P::Name: Drop,
     C: Joins,
     D: Desk<P>,
     requires began { (s : P) (t : SockCore C P.Waker P.Name P.Out P.In) → F.began s t →
@@ -134,7 +133,6 @@ pub(crate) fn take_lent<F, P, C, D>(
 where
     F: Since<P, SockCore<C, P::Waker, P::Name, P::Out, P::In>>,
     P: HeldPipes,
-    P::Name: Drop,
     C: Joins,
     D: Desk<P>,
     requires began { (s : P) (t : SockCore C P.Waker P.Name P.Out P.In) → F.began s t →
@@ -218,7 +216,6 @@ pub(crate) fn meet_lent<F, P, C, D>(
 where
     F: Since<P, SockCore<C, P::Waker, P::Name, P::Out, P::In>>,
     P: HeldPipes,
-    P::Name: Drop,
     C: Joins,
     D: Desk<P>,
     requires began { (s : P) (t : SockCore C P.Waker P.Name P.Out P.In) → F.began s t →

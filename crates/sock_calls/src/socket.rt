@@ -18,9 +18,7 @@ pub struct Socket<P: HeldPipes, C: Joins> {
 
 impl<P, C> Calls<P> for Socket<P, C>
 where
-    P: HeldPipes + Drop,
-    P::Name: Drop,
-    P::Waker: Drop,
+    P: HeldPipes,
     C: Joins + Drop,
 {
     ghost use Rattle.sock_calls.specs.Calls.{owner_of, holding_of, FitsPipes, MayJoin, LeavesOthers};
@@ -154,9 +152,7 @@ where
 
 impl<P, C> Socket<P, C>
 where
-    P: HeldPipes + Drop,
-    P::Name: Drop,
-    P::Waker: Drop,
+    P: HeldPipes,
     C: Joins + Drop,
 {
     ghost use Rattle.std.specs.Prelude.{◌≡◌, true, false, IfOk, IsOk, OnErr};

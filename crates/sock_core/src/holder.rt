@@ -112,7 +112,6 @@ impl<P: HeldPipes, C: Joins> SockHolder<P, C> {
 impl<P, C, F> Holder<P> for SockHolder<P, C, F>
 where
     P: HeldPipes,
-    P::Name: Drop,
     C: Joins,
     F: Since<P, SockCore<C, P::Waker, P::Name, P::Out, P::In>>,
 {
@@ -402,7 +401,6 @@ where
 impl<P, C, F> Undoes<P> for SockHolder<P, C, F>
 where
     P: HeldPipes,
-    P::Name: Drop,
     C: Joins,
     F: Undoing<P, SockCore<C, P::Waker, P::Name, P::Out, P::In>>,
 {

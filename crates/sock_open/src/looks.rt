@@ -14,15 +14,12 @@ use zq_base::EndId;
 
 /// Looks at the front of the pipe that an end reads, which is held with its writing half, and takes
 /// nothing. An end that finds the delimiter has met it.
-pub fn look<P: HeldPipes + Drop>(
+pub fn look<P: HeldPipes>(
     alloc: Global,
     pipes: &mut P,
     socket: &mut Option<SockCore<AnySock, P::Waker, P::Name, P::Out, P::In>>,
     end: EndId,
 ) -> Front
-where
-    P::Name: Drop,
-    P::Waker: Drop,
     requires stands { Stands P.known pipes.old socket.old }
     requires held { HasWhole end socket.old }
     ensures looks { LooksSo P.known end result pipes.old socket.old pipes.new socket.new }

@@ -20,14 +20,11 @@ use zq_base::{Message, PairId};
 /// What comes before each call: a publisher hears what its peers subscribe to and cancel, and a
 /// subscriber tells its peers what it wants. Where memory wants, what is left is done at the next
 /// time.
-pub fn pump<P: HeldPipes + Drop>(
+pub fn pump<P: HeldPipes>(
     alloc: Global,
     pipes: &mut P,
     socket: &mut Option<SockCore<AnySock, P::Waker, P::Name, P::Out, P::In>>,
 ) -> Result<(), AllocError>
-where
-    P::Name: Drop,
-    P::Waker: Drop,
     requires stands { Stands P.known pipes.old socket.old }
     ensures ok { OnOk result ((slot : ℕ) →
         PumpsOpen P.known slot pipes.old socket.old pipes.new socket.new) }
@@ -45,15 +42,12 @@ where
 
 /// Sends by the rule of the socket's kind (zmq_msg_send(3)). A message that is refused, or for which
 /// memory wants, comes back whole. A socket that processed its Stop is refused by its caller.
-pub fn send<P: HeldPipes + Drop>(
+pub fn send<P: HeldPipes>(
     alloc: Global,
     pipes: &mut P,
     socket: &mut Option<SockCore<AnySock, P::Waker, P::Name, P::Out, P::In>>,
     message: Message,
 ) -> Result<Sent, XSendFault>
-where
-    P::Name: Drop,
-    P::Waker: Drop,
     requires stands { Stands P.known pipes.old socket.old }
     requires whole { IsWhole socket.old }
     ensures step { MatchXSend result
@@ -75,15 +69,12 @@ where
 
 /// Receives by the rule of the socket's kind (zmq_msg_recv(3)); the messages that it drops are told
 /// behind those that were told before. A socket that processed its Stop is refused by its caller.
-pub fn recv<P: HeldPipes + Drop>(
+pub fn recv<P: HeldPipes>(
     alloc: Global,
     pipes: &mut P,
     socket: &mut Option<SockCore<AnySock, P::Waker, P::Name, P::Out, P::In>>,
     told: &mut Vec<Skip>,
 ) -> Result<(PairId, Message), RecvFault>
-where
-    P::Name: Drop,
-    P::Waker: Drop,
     requires stands { Stands P.known pipes.old socket.old }
     requires whole { IsWhole socket.old }
     ensures step { MatchRecv result
@@ -103,15 +94,12 @@ where
 
 /// Subscribes once more to the topic, of at most 16,777,215 octets, and tells the peers
 /// (zmq_setsockopt(3), "ZMQ_SUBSCRIBE"). A socket that processed its Stop is refused by its caller.
-pub fn subscribe<P: HeldPipes + Drop>(
+pub fn subscribe<P: HeldPipes>(
     alloc: Global,
     pipes: &mut P,
     socket: &mut Option<SockCore<AnySock, P::Waker, P::Name, P::Out, P::In>>,
     topic: &[u8],
 ) -> Result<(), ChangeFault>
-where
-    P::Name: Drop,
-    P::Waker: Drop,
     requires stands { Stands P.known pipes.old socket.old }
     requires whole { IsWhole socket.old }
     requires short { length topic.now < max_octets }
@@ -133,15 +121,12 @@ where
 
 /// Cancels one subscription to the topic, and tells the peers (zmq_setsockopt(3),
 /// "ZMQ_UNSUBSCRIBE"). A socket that processed its Stop is refused by its caller.
-pub fn unsubscribe<P: HeldPipes + Drop>(
+pub fn unsubscribe<P: HeldPipes>(
     alloc: Global,
     pipes: &mut P,
     socket: &mut Option<SockCore<AnySock, P::Waker, P::Name, P::Out, P::In>>,
     topic: &[u8],
 ) -> Result<(), ChangeFault>
-where
-    P::Name: Drop,
-    P::Waker: Drop,
     requires stands { Stands P.known pipes.old socket.old }
     requires whole { IsWhole socket.old }
     requires short { length topic.now < max_octets }
