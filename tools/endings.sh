@@ -14,5 +14,5 @@ mkdir -p "$work/crates/endings/src"
 for file in tools/endings/*.txt; do
     cp "$file" "$work/crates/endings/src/$(basename "$file" .txt)"
 done
-echo "endings: zq_base msg_pipe any_sock spec_control ctl_plane one_desk held_ends reaper_ends sock_core sock_calls sock_open" >> "$work/crates.txt"
+echo "endings: zq_base msg_pipe any_sock spec_control desk plain_desk end_table closed_ends sock_core sock_calls line_socket" >> "$work/crates.txt"
 cd "$work/crates/endings" && rt try --test --seconds 900

@@ -17,9 +17,9 @@ use Rattle.spec_control.proofs.NamedLemmas.{held_ends_are_named}
 use Rattle.spec_control.proofs.OwnLemmas.{own_items_are_whole, own_has}
 use Rattle.control_laws.proofs.ListLemmas.{never}
 use Rattle.control_laws.proofs.RootLemmas.{begun_kept}
-use Rattle.ctl_plane.specs.Holding.{Holding, has_end}
-use Rattle.ctl_plane.specs.Lent.{has_writer, here_ends, HasBothNames, HasEnds}
-use Rattle.ctl_plane.specs.Desk.{HasWhatTheySay}
+use Rattle.desk.specs.Holding.{Holding, has_end}
+use Rattle.desk.specs.Lent.{has_writer, here_ends, HasBothNames, HasEnds}
+use Rattle.desk.specs.Desk.{HasWhatTheySay}
 use Rattle.control_laws.specs.HeldLaws.{LentHoldersHaveIt}
 use Rattle.control_laws.proofs.AttachedOnceLemmas.{IsOld}
 use Rattle.control_laws.proofs.MomentLemmas.{AsLeft, own_moments, left_snoc}

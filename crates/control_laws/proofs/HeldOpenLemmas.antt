@@ -41,7 +41,7 @@ use Rattle.control_laws.proofs.TellLemmas.{rows_of}
 use Rattle.control_laws.specs.Move.{Move, LinkMoves, EndMoves, ObjectEnds, ObjectMade, PairDrawn, LetterPut, is_named}
 use Rattle.control_laws.specs.OwnMoves.{own_moves, request_moves}
 use Rattle.control_laws.proofs.SoundLemmas.{socket_there}
-use Rattle.ctl_plane.specs.Kinds.{kind_in, kind_over}
+use Rattle.desk.specs.Kinds.{kind_in, kind_over}
 use Rattle.control_laws.proofs.BetweenLemmas.{asks_over}
 use Rattle.control_laws.proofs.HeldEventLemmas.{closes, asked_closes, word_closes}
 use Rattle.control_laws.specs.SocketLaws.{SocketsAreOpen}

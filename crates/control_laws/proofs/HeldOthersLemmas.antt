@@ -15,8 +15,8 @@ use Rattle.control_laws.proofs.ListLemmas.{never}
 use Rattle.control_laws.proofs.AskLemmas.{same_end}
 use Rattle.control_laws.specs.Spared.{shown, Known, Spared}
 use Rattle.control_laws.proofs.EventLemmas.{other_ends_stay}
-use Rattle.ctl_plane.specs.Holding.{Holding, has_end}
-use Rattle.ctl_plane.specs.Lent.{has_writer, here_ends, HasEnds}
+use Rattle.desk.specs.Holding.{Holding, has_end}
+use Rattle.desk.specs.Lent.{has_writer, here_ends, HasEnds}
 use Rattle.control_laws.specs.HeldLaws.{OtherHoldersStay}
 use Rattle.control_laws.proofs.HeldStepLemmas.{known_after}
 

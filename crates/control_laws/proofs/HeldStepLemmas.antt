@@ -35,7 +35,7 @@ use Rattle.control_laws.specs.OwnMoves.{request_moves, word_moves}
 use Rattle.control_laws.proofs.GuardLemmas.{may_come}
 use Rattle.control_laws.proofs.SoundLemmas.{link_there}
 use Rattle.control_laws.specs.Spared.{Known}
-use Rattle.ctl_plane.specs.Lent.{here_ends}
+use Rattle.desk.specs.Lent.{here_ends}
 use Rattle.control_laws.specs.HeldLaws.{EndsAreHere}
 use Rattle.control_laws.proofs.LawLemmas.{Knows, owned_by, owns, no_and, no_socket, listener_is, session_is, open_not, heard_not, others_know, mine_know, not_closed}
 use Rattle.control_laws.proofs.LeadLemmas.{attached_by, goes_by}

@@ -14,7 +14,7 @@ use Rattle.spec_control.specs.Held.{subject_of}
 use Rattle.control_laws.specs.Kept.{Kept}
 use Rattle.control_laws.specs.Move.{Move}
 use Rattle.control_laws.specs.OwnMoves.{own_moves}
-use Rattle.ctl_plane.specs.Lent.{here_ends}
+use Rattle.desk.specs.Lent.{here_ends}
 use Rattle.control_laws.proofs.LeadLemmas.{attached_by, goes_by, New, old_end, new_ends}
 use Rattle.control_laws.proofs.AttachedLemmas.{attached_after}
 use Rattle.control_laws.proofs.AttachedOnceLemmas.{IsOld, AreOld}

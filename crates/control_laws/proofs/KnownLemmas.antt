@@ -14,7 +14,7 @@ use Rattle.spec_control.specs.Rows.{is_owner}
 use Rattle.spec_control.specs.Has.{made_by}
 use Rattle.std.proofs.Common.{◌∙◌}
 use Rattle.spec_control.specs.OwnAsks.{Known, unknown, known_at_request, known_at_word, known_in, known_over}
-use Rattle.ctl_plane.specs.Kinds.{kind_at_request, kind_in, kind_over}
+use Rattle.desk.specs.Kinds.{kind_at_request, kind_in, kind_over}
 use Rattle.control_laws.specs.SocketLaws.{KnownSocketsHaveKinds}
 
 asked : (i : ℕ) (req : Req) (reply : Reply) (k : Known) (kind : Option Kind) → k.open_socket ≡ is_some kind → (known_at_request i req reply k).open_socket ≡ is_some (kind_at_request i req reply kind)

@@ -32,7 +32,7 @@ use Rattle.control_laws.proofs.RootLemmas.{oldest_lives}
 use Rattle.control_laws.proofs.AskLemmas.{same_end}
 use Rattle.control_laws.specs.OwnMoves.{own_moves, word_moves}
 use Rattle.control_laws.proofs.GuardLemmas.{may_come}
-use Rattle.ctl_plane.specs.Lent.{here_ends}
+use Rattle.desk.specs.Lent.{here_ends}
 use Rattle.control_laws.proofs.LeadLemmas.{attached_by, goes_by}
 use Rattle.control_laws.proofs.HereLemmas.{here_mine, here_others}
 use Rattle.control_laws.proofs.AttachedOnceLemmas.{AreOld}

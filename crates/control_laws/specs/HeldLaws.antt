@@ -12,10 +12,10 @@ use Rattle.spec_control.specs.Held.{ends_after, items_by}
 use Rattle.spec_control.specs.Has.{has_after, AreBy}
 use Rattle.spec_control.specs.Moments.{moments_from, moments_by}
 use Rattle.control_laws.specs.Spared.{touched_in}
-use Rattle.ctl_plane.specs.Holding.{Holding}
-use Rattle.ctl_plane.specs.Lent.{here_ends, HasAll}
-use Rattle.ctl_plane.specs.Desk.{HasWhatTheySay}
-use Rattle.ctl_plane.specs.Kinds.{kind_after}
+use Rattle.desk.specs.Holding.{Holding}
+use Rattle.desk.specs.Lent.{here_ends, HasAll}
+use Rattle.desk.specs.Desk.{HasWhatTheySay}
+use Rattle.desk.specs.Kinds.{kind_after}
 
 -- of an object that somebody has: between a socket's close and its Reap nobody does
 abbrev pub EndsAreHere : (N S : Type 0) → Type 0

@@ -9,7 +9,7 @@ use Rattle.spec_control.specs.ControlRun.{IsControlRun, IsOpenSocket, after_all}
 use Rattle.spec_control.specs.Held.{items_by}
 use Rattle.spec_control.specs.Has.{has_after, AreBy}
 use Rattle.spec_control.specs.OwnAsks.{known_after}
-use Rattle.ctl_plane.specs.Kinds.{kind_after}
+use Rattle.desk.specs.Kinds.{kind_after}
 
 -- caller k has object i, an open socket of this kind
 pub record HasOpen {N S : Type 0} (workers : ℕ) (items : List (Item N S)) (k i : ℕ) (kind : Kind) : Type 0 where

@@ -1,158 +1,133 @@
--- The counts of settled pipes over an item: those that were settled keep them, and one that the item settles has those that it tells.
-use Rattle.std.specs.Prelude.{◌≡◌, ◌<◌, ◌++◌, ℕ, Bool, List, [], ◌∷◌, Option, Some, None, IsSome, is_some, length, map, refl, if◌then◌else◌}
-use Rattle.std.proofs.Common.{arith, sym, ap, ◌∙◌, subst, append-nil}
-use Rattle.std.proofs.lemmas.List.Elements.{filter_map-append}
+-- What the reaper tells of a pipe that it settles counts what the steps past committed and took.
+use Rattle.std.proofs.Common.{◌≡◌, ◌∙◌, ◌||◌, ℕ, Bool, true, false, List, [], ◌∷◌, All, Option, Some, None, length, map, refl, sym, ap, subst, arith, true≢false, if◌then◌else◌, ◌++◌}
+use Rattle.std.specs.List.{list_any}
+use Rattle.std.proofs.lemmas.List.Elements.{All-head, All-tail}
 use Rattle.zq_base.specs.declared.ids.EndId.{EndId}
-use Rattle.zq_base.specs.declared.ids.Settled.{Settled}
 use Rattle.zq_base.specs.Ends.{PipeId, other_end}
-use Rattle.zq_base.specs.Message.{Frames}
-use Rattle.spec_pattern.specs.PipeStep.{PipeStep, Seal, committed_by, taken_by, committed_to, taken_from}
-use Rattle.spec_control.specs.declared.end.EndCommands.{EndCommands}
-use Rattle.spec_control.specs.declared.end.EndCommands.TheVariants.{Nothing, TermAndSeal, Ack, Settle, SettleAndAck}
-use Rattle.spec_control.specs.declared.end.EndEvent.TheVariants.{DelimiterSeen, AckCame}
-use Rattle.spec_control.specs.declared.end.Reason.{Reason}
-use Rattle.spec_control.specs.declared.letter.Word.{Word}
-use Rattle.spec_control.specs.declared.letter.Word.TheVariants.{Own, Plug, TermReq, Term, TermAck, PipeBind, PipeTerm, PipeTermAck, Stop, Reap}
+use Rattle.msg_pipe.specs.Known.{Known}
+use Rattle.spec_pattern.specs.Half.{Writing, Reading}
+use Rattle.spec_pattern.specs.PipeStep.{PipeStep}
 use Rattle.spec_control.specs.declared.entry.Did.{Did}
 use Rattle.spec_control.specs.declared.entry.Did.TheVariants.{Asked, Delivered, Delimited}
 use Rattle.spec_control.specs.declared.entry.Item.{Item}
 use Rattle.spec_control.specs.declared.entry.Item.TheVariants.{Event, Seen}
-use Rattle.spec_control.specs.Place.{Place, Unmade, Away, At}
-use Rattle.spec_control.specs.Control.{Control, Settlement, happens, place_of, commands_in, reason_in, tell_other}
-use Rattle.spec_control.specs.After.{Answers, answers_in, settle, processed, without_front, after}
-use Rattle.spec_control.specs.ControlRun.{FitsItem, Fits, Settles, after_item}
-use Rattle.control_laws.proofs.AskLemmas.{end_self}
-use Rattle.control_laws.proofs.FateLemmas.{answered_same, processed_same, happens_same, try_end_same}
-use Rattle.spec_run.specs.OwnedRun.{AreCountedBy}
-use Rattle.core_laws.proofs.CountedLemmas.{counts_go_on}
+use Rattle.spec_control.specs.Place.{is_here}
+use Rattle.spec_control.specs.Control.{Control, begun, is_end, place_of}
+use Rattle.spec_control.specs.ControlRun.{IsControlRun, after_all, after_item}
+use Rattle.desk.specs.declared.given.Given.{Given}
+use Rattle.desk.specs.Holding.{held_given, read_in}
+use Rattle.desk.specs.Lent.{HasAll}
+use Rattle.desk.specs.Desk.{counts_with}
+use Rattle.end_table.specs.Past.{Stands}
+use Rattle.end_table.proofs.RowLemmas.{some_same}
+use Rattle.end_table.specs.Counting.{counts_with as joined_with}
+use Rattle.sock_core.proofs.FindLemmas.{same_end}
+use Rattle.spec_run.specs.Event.{seals_in}
+use Rattle.spec_run.specs.OwnedRun.{pipe_capacity, AreCountedBy}
+use Rattle.socket_laws.specs.Standing.{PastStands, goes_in}
+use Rattle.socket_laws.specs.Settled.{PipesAreSettled}
+use Rattle.socket_laws.proofs.ChangeLemmas.{goes_so}
+use Rattle.socket_laws.proofs.CountLemmas.{Counts, TellsIn, TellsCounts, item_counted, still_counted}
+use Rattle.socket_laws.proofs.OfPipesLemmas.{here_not_gone}
+use Rattle.socket_laws.proofs.SaidLemmas.{step_seals}
+use Rattle.closed_ends.specs.declared.sockets.ClosedSocket.{ClosedSocket}
+use Rattle.closed_ends.specs.declared.sockets.ClosedSockets.{ClosedSockets}
+use Rattle.closed_ends.specs.Counting.{counts_of}
+use Rattle.closed_ends.specs.Has.{all_ends, ends_of, holding_in, input_in, is_of, is_socket}
+use Rattle.closed_ends.specs.Sound.{AreSound}
+use Rattle.closed_ends.proofs.ChangeLemmas.{among}
+use Rattle.core_laws.specs.Counts.{ReaperCountsGoOn}
+use Rattle.core_laws.proofs.HereLemmas.{IsHere, of_socket, all_here}
 
--- ---- delimiters change no counts
+none_some : {X : Type 0} {x : X} → None ≡ Some x → ⊥
+none_some e = Prim.grind arith
 
-none_committed : (p : PipeId) (es : List EndId) → committed_to p (map Seal es) ≡ []
-none_committed p [] = refl
-none_committed p (e ∷ es) = none_committed p es
+module _ {N O I : Type 0} (out_name : O → N) (in_name : I → N) (c : Control) (names : PipeId → Option N) (e : EndId) where
+  -- an end among these, that reads the pipe of this name
+  pub record Reads (gs : List (Given N O I)) (n : N) : Type 0 where
+    pub any : list_any (is_of e) gs ≡ true
+    pub named : names (other_end e) ≡ Some n
+    pub here : is_here (place_of c e) ≡ true
 
-none_taken : (p : PipeId) (es : List EndId) → taken_from p (map Seal es) ≡ []
-none_taken p [] = refl
-none_taken p (e ∷ es) = none_taken p es
-
-still_committed : (p : PipeId) (past : List PipeStep) (es : List EndId) → committed_to p (past ++ map Seal es) ≡ committed_to p past
-still_committed p past es =
-    filter_map-append (committed_by p) past (map Seal es) ∙ ap (λ (l : List Frames). committed_to p past ++ l) (none_committed p es) ∙ append-nil (committed_to p past)
-
-still_taken : (p : PipeId) (past : List PipeStep) (es : List EndId) → taken_from p (past ++ map Seal es) ≡ taken_from p past
-still_taken p past es =
-    filter_map-append (taken_by p) past (map Seal es) ∙ ap (λ (l : List Frames). taken_from p past ++ l) (none_taken p es) ∙ append-nil (taken_from p past)
-
-pub still_counted : (past : List PipeStep) (es : List EndId) (ss : List Settlement) → AreCountedBy past ss → AreCountedBy (past ++ map Seal es) ss
-still_counted past es [] all = tt
-still_counted past es (s ∷ ss) all = (
-  record {
-    sent = all.0.sent ∙ ap length (sym (still_committed (other_end s.end) past es));
-    got = all.0.got ∙ ap length (sym (still_taken (other_end s.end) past es));
-    sum = all.0.sum;
-    reason = all.0.reason;
-  },
-  still_counted past es ss all.1,
-)
-
--- ---- an acknowledgement leaves the reason of its end
-
-told_reasons : (cmds : EndCommands) (e : EndId) (c : Control) → (tell_other cmds e c).reasons ≡ c.reasons
-told_reasons Nothing e c = refl
-told_reasons TermAndSeal e c = refl
-told_reasons Ack e c = refl
-told_reasons Settle e c = refl
-told_reasons SettleAndAck e c = refl
-
-ack_reason : (p : Place) (r : Option Reason) → reason_in AckCame p r ≡ r
-ack_reason Unmade r = refl
-ack_reason Away r = refl
-ack_reason (At state) r = refl
-
-reason_kept : (e : EndId) (c : Control) → (happens AckCame e c).reasons e ≡ c.reasons e
-reason_kept e c =
-    ap (λ (f : EndId → Option Reason). f e) (told_reasons (commands_in AckCame (place_of c e)) e _)
-    ∙ ap (λ (b : Bool). if b then reason_in AckCame (place_of c e) (c.reasons e) else c.reasons e) (end_self e) ∙ ack_reason (place_of c e) (c.reasons e)
-
--- ---- what an item settles
-
--- the counts that are told of the pipe that an end read are those of the steps past
-pub record Counts (past : List PipeStep) (e : EndId) (counts : Settled) : Type 0 where
-  pub sent : counts.sent ≡ length (committed_to (other_end e) past)
-  pub got : counts.got ≡ length (taken_from (other_end e) past)
-
-module _ {N T : Type 0} where
-  -- so are those that an item tells, if it tells any
-  abbrev pub TellsIn : List PipeStep → Did N T → Type 0
-  TellsIn past (Asked req reply h) = Unit {0}
-  TellsIn past (Delivered slot letter h) = (e : EndId) (counts : Settled) → letter.word ≡ PipeTermAck e → h.settled ≡ Some counts → Counts past e counts
-  TellsIn past (Delimited e h) = Unit {0}
-
-  abbrev pub TellsCounts : List PipeStep → Item N T → Type 0
-  TellsCounts past (Event entry) = TellsIn past entry.did
-  TellsCounts past (Seen sight) = Unit {0}
-
-has_reason : (rest : ℕ) (r : Option Reason) → (r ≡ None → rest ≡ 0) → 0 < rest → IsSome r
-has_reason rest None none some = let e = none refl in absurd (omega (arith, some, e))
-has_reason rest (Some why) none some = refl
-
-module _ (past : List PipeStep) where
-  same_counted : (c d : Control) → d.settlements ≡ c.settlements → AreCountedBy past c.settlements → AreCountedBy past d.settlements
-  same_counted c d same = subst (AreCountedBy past) (sym same)
-
-  ack_counted : (at : ℕ) (e : EndId) (h : Answers) (c : Control) → Settles c (PipeTermAck e) h.counts → ((counts : Settled) → h.counts ≡ Some counts → Counts past e counts)
-      → AreCountedBy past c.settlements → AreCountedBy past (processed at (PipeTermAck e) h c).settlements
-  ack_counted at e h c settles told all =
-      same_counted (settle e h.counts heard) (processed at (PipeTermAck e) h c) (try_end_same at h.left (settle e h.counts heard)) (by h.counts refl settles)
+  pub reads : (gs : List (Given N O I)) → All (IsHere in_name c names) gs → (n : N) → read_in (map (held_given out_name in_name) gs) e ≡ Some n → Reads gs n
+  reads [] all n h = absurd (none_some h)
+  reads (g ∷ gs) all n h = by (is_end e g.end) refl (λ k. reads gs (All-tail (IsHere in_name c names) g gs all) n k) h
     where
-      heard : Control
-      heard = happens AckCame e c
+      mine : IsHere in_name c names g
+      mine = All-head (IsHere in_name c names) g gs all
 
-      by : (x : Option Settled) → h.counts ≡ x → Settles c (PipeTermAck e) x → AreCountedBy past (settle e x heard).settlements
-      by None is none = absurd none
-      by (Some counts) is so =
-          let one = told counts is in
-          counts_go_on.settled past heard.settlements (record { end = e; counts = counts; reason = heard.reasons e }) (same_counted c heard (happens_same AckCame e c) all)
-          (record {
-            sent = one.sent;
-            got = one.got;
-            sum = so.adds_up;
-            reason = λ some. ap is_some (reason_kept e c) ∙ has_reason counts.rest (c.reasons e) so.read_out some;
-          })
+      by : (b : Bool) → is_end e g.end ≡ b → (read_in (map (held_given out_name in_name) gs) e ≡ Some n → Reads gs n) → (if b then Some (in_name g.input) else read_in (map (held_given out_name in_name) gs) e) ≡ Some n → Reads (g ∷ gs) n
+      by true is rest k = record {
+        any = ap (λ (b : Bool). b || list_any (is_of e) gs) is;
+        named = ap (λ (d : EndId). names (other_end d)) (same_end e g.end is) ∙ mine.read ∙ k;
+        here = ap (λ (d : EndId). is_here (place_of c d)) (same_end e g.end is) ∙ mine.here;
+      }
+      by false is rest k = let r = rest k in record { any = ap (λ (b : Bool). b || list_any (is_of e) gs) is ∙ r.any; named = r.named; here = r.here }
 
-  word_counted : (at : ℕ) (word : Word) (h : Answers) (c : Control) → Settles c word h.counts → ((e : EndId) (counts : Settled) → word ≡ PipeTermAck e → h.counts ≡ Some counts → Counts past e counts)
-      → AreCountedBy past c.settlements → AreCountedBy past (processed at word h c).settlements
-  word_counted at (PipeTermAck e) h c settles told all = ack_counted at e h c settles (λ counts is. told e counts refl is) all
-  word_counted at (Own child) h c settles told all = same_counted c (processed at (Own child) h c) (processed_same at (Own child) h c refl) all
-  word_counted at (Plug end) h c settles told all = same_counted c (processed at (Plug end) h c) (processed_same at (Plug end) h c refl) all
-  word_counted at (TermReq child) h c settles told all = same_counted c (processed at (TermReq child) h c) (processed_same at (TermReq child) h c refl) all
-  word_counted at Term h c settles told all = same_counted c (processed at Term h c) (processed_same at Term h c refl) all
-  word_counted at (TermAck child) h c settles told all = same_counted c (processed at (TermAck child) h c) (processed_same at (TermAck child) h c refl) all
-  word_counted at (PipeBind e peer) h c settles told all = same_counted c (processed at (PipeBind e peer) h c) (processed_same at (PipeBind e peer) h c refl) all
-  word_counted at (PipeTerm e) h c settles told all = same_counted c (processed at (PipeTerm e) h c) (processed_same at (PipeTerm e) h c refl) all
-  word_counted at Stop h c settles told all = same_counted c (processed at Stop h c) (processed_same at Stop h c refl) all
-  word_counted at (Reap socket) h c settles told all = same_counted c (processed at (Reap socket) h c) (processed_same at (Reap socket) h c refl) all
+  -- its reading half is there, of the pipe of its name
+  record HasInput (gs : List (Given N O I)) : Type 0 where
+    half : I
+    there : input_in gs e ≡ Some half
+    named : names (other_end e) ≡ Some (in_name half)
 
-  -- so settled pipes have their counts behind the item
-  pub item_counted : {N T : Type 0} (c : Control) (item : Item N T) → FitsItem c item → TellsCounts past item → AreCountedBy past c.settlements → AreCountedBy past (after_item item c).settlements
-  item_counted c (Seen sight) fits told all = all
-  item_counted {N} {T} c (Event entry) fits told all = by entry.did fits told
+  has_input : (gs : List (Given N O I)) → All (IsHere in_name c names) gs → list_any (is_of e) gs ≡ true → HasInput gs
+  has_input [] all h = absurd (true≢false (sym h))
+  has_input (g ∷ gs) all h = by (is_end e g.end) refl (λ k. has_input gs (All-tail (IsHere in_name c names) g gs all) k) h
     where
-      by : (did : Did N T) → Fits c did → TellsIn past did → AreCountedBy past (after did c).settlements
-      by (Asked req reply h) ok is = same_counted c (after (Asked req reply h) c) (answered_same req reply (answers_in h) c) all
-      by (Delivered slot letter h) ok is = word_counted letter.to.0 letter.word (answers_in h) (without_front slot.0 c) (settles_there letter.word h.settled ok.answered.settled) is all
-        where
-          settles_there : (word : Word) (x : Option Settled) → Settles c word x → Settles (without_front slot.0 c) word x
-          settles_there (PipeTermAck e) None s = absurd s
-          settles_there (PipeTermAck e) (Some counts) s = record { adds_up = s.adds_up; read_out = s.read_out }
-          settles_there (Own child) x s = s
-          settles_there (Plug end) x s = s
-          settles_there (TermReq child) x s = s
-          settles_there Term x s = s
-          settles_there (TermAck child) x s = s
-          settles_there (PipeBind e peer) x s = s
-          settles_there (PipeTerm e) x s = s
-          settles_there Stop x s = s
-          settles_there (Reap socket) x s = s
-      by (Delimited e h) ok is = same_counted c (after (Delimited e h) c) (happens_same DelimiterSeen e c) all
+      by : (b : Bool) → is_end e g.end ≡ b → (list_any (is_of e) gs ≡ true → HasInput gs) → (b || list_any (is_of e) gs) ≡ true → HasInput (g ∷ gs)
+      by true is rest k = record {
+        half = g.input;
+        there = ap (λ (b : Bool). if b then Some g.input else input_in gs e) is;
+        named = ap (λ (d : EndId). names (other_end d)) (same_end e g.end is) ∙ (All-head (IsHere in_name c names) g gs all).read;
+      }
+      by false is rest k = let r = rest k in record { half = r.half; there = ap (λ (b : Bool). if b then Some g.input else input_in gs e) is ∙ r.there; named = r.named }
+
+  -- an end that is read is one of a closed socket's
+  pub socket_there : (ss : List (ClosedSocket N O I)) (i : ℕ) (n : N) → read_in (map (held_given out_name in_name) (ends_of ss i)) e ≡ Some n → list_any (is_socket i) ss ≡ true
+  socket_there [] i n h = absurd (none_some h)
+  socket_there (s ∷ ss) i n h = by (is_socket i s) (socket_there ss i n) h
+    where
+      by : (b : Bool) → (read_in (map (held_given out_name in_name) (ends_of ss i)) e ≡ Some n → list_any (is_socket i) ss ≡ true)
+          → read_in (map (held_given out_name in_name) (if b then s.ends.items else ends_of ss i)) e ≡ Some n → (b || list_any (is_socket i) ss) ≡ true
+      by true rest k = refl
+      by false rest k = rest k
+
+module _ {S O I N : Type 0} (K : Known S O I N) (T : Type 0) (one_out : (s : S) (o p : O) → K.out_name o ≡ K.out_name p → K.writing s o ≡ K.writing s p) (one_in : (s : S) (i j : I) → K.in_name i ≡ K.in_name j → K.reading s i ≡ K.reading s j)
+    (settled : PipesAreSettled N T) (io : ℕ) (items : List (Item N T)) (run : IsControlRun (begun io) items) (names : PipeId → Option N) (pipes : S) (closed : ClosedSockets N O I) (sound : AreSound K pipes closed.sockets.items)
+    (has : HasAll names (after_all items (begun io)) (holding_in K.out_name K.in_name closed)) (past : List PipeStep) (stands : PastStands K (after_all items (begun io)) names pipes past) where
+  abbrev c : Control
+  c = after_all items (begun io)
+
+  counted : (i : ℕ) (e : EndId) (writer : O) → read_in (map (held_given K.out_name K.in_name) (ends_of closed.sockets.items i)) e ≡ Some (K.out_name writer) → Counts past e (counts_of K pipes closed.sockets.items e writer)
+  counted i e writer pipe = subst (λ (x : Option I). Counts past e (joined_with K pipes writer x)) (sym input.there) (record {
+    sent = ap (λ (v : Writing). length v.committed) (one_out pipes writer so.out (sym so.out_is)) ∙ ap length so.committed;
+    got = ap (λ (v : Reading). length v.taken) (one_in pipes input.half so.input (some_same (K.in_name input.half) (K.out_name writer) (sym input.named ∙ r.named) ∙ sym so.in_is)) ∙ ap length so.taken;
+  })
+    where
+      r : Reads K.out_name K.in_name c names e (ends_of closed.sockets.items i) (K.out_name writer)
+      r = reads K.out_name K.in_name c names e (ends_of closed.sockets.items i) (of_socket K c names pipes closed sound has i (socket_there K.out_name K.in_name c names e closed.sockets.items i (K.out_name writer) pipe)) (K.out_name writer) pipe
+
+      input : HasInput K.out_name K.in_name c names e (all_ends closed.sockets.items)
+      input = has_input K.out_name K.in_name c names e (all_ends closed.sockets.items) (all_here K c names pipes closed sound has) (among (is_of e) i closed.sockets.items r.any)
+
+      so : Stands K (goes_in c names) (pipe_capacity c) pipes past (other_end e) (K.out_name writer)
+      so = stands.past_is.stands (other_end e) (K.out_name writer) (goes_so c names (other_end e) (K.out_name writer) (settled.read io items run e (here_not_gone (place_of c e) r.here)) r.named)
+
+  tells : (item : Item N T) → counts_with K.out_name (λ e writer. counts_of K pipes closed.sockets.items e writer) (holding_in K.out_name K.in_name closed) item → TellsCounts past item
+  tells (Seen sight) counts = tt
+  tells (Event entry) counts = by entry.did counts
+    where
+      by : (did : Did N T) → counts_with K.out_name (λ e writer. counts_of K pipes closed.sockets.items e writer) (holding_in K.out_name K.in_name closed) (Event (record { by = 0; did = did })) → TellsIn past did
+      by (Asked req reply h) k = tt
+      by (Delivered slot letter h) k = λ e told word settles.
+          let x = k e word in
+          subst (Counts past e) (some_same (counts_of K pipes closed.sockets.items e x.writer) told (sym x.told_is ∙ settles)) (counted letter.to.0 e x.writer x.pipe)
+      by (Delimited e h) k = tt
+
+pub reaper_counts_go_on : {S O I N : Type 0} (K : Known S O I N) (T : Type 0) → ((s : S) (o p : O) → K.out_name o ≡ K.out_name p → K.writing s o ≡ K.writing s p) → ((s : S) (i j : I) → K.in_name i ≡ K.in_name j → K.reading s i ≡ K.reading s j)
+    → PipesAreSettled N T → ReaperCountsGoOn K T
+reaper_counts_go_on {N = N} K T one_out one_in settled io items item run fits names pipes closed sound has counts past stands all =
+    let c = after_all items (begun io) in
+    subst (λ (l : List PipeStep). AreCountedBy (past ++ l) (after_item item c).settlements) (sym (step_seals N T (seals_in (record { found = c; item = item }))))
+    (still_counted past (seals_in (record { found = c; item = item })) (after_item item c).settlements
+    (item_counted past c item fits (tells K T one_out one_in settled io items run names pipes closed sound has past stands item counts) all))

@@ -1,105 +1,69 @@
--- Steps at other pipes leave the counts of those that were settled.
-use Rattle.std.specs.Prelude.{◌≡◌, Bool, true, false, not, List, [], ◌∷◌, ◌++◌, Option, Some, None, cond, find, length, refl}
-use Rattle.std.specs.List.{AllByRecursion}
-use Rattle.std.proofs.Common.{arith, sym, ap, ◌∙◌, append-nil, true≢false}
-use Rattle.std.proofs.lemmas.List.Elements.{filter_map-append}
-use Rattle.zq_base.specs.declared.ids.EndId.{EndId}
-use Rattle.zq_base.specs.Message.{Frames}
-use Rattle.zq_base.specs.Ends.{PipeId, other_end}
-use Rattle.spec_pattern.specs.PipeStep.{PipeStep, Commit, FullLook, Take, EmptyLook, DelimiterLook, WaitingLook, Seal, same_pipe, committed_by, taken_by, committed_to, taken_from}
-use Rattle.spec_pattern.proofs.Exact.{same_pipes}
-use Rattle.spec_control.specs.Control.{Settlement, is_end, end_of}
-use Rattle.control_laws.proofs.AskLemmas.{end_self}
-use Rattle.spec_run.specs.OwnedRun.{IsCountedBy, AreCountedBy}
-use Rattle.run_laws.specs.CapacitiesStay.{pipe_at}
-use Rattle.core_laws.specs.Counted.{CountsGoOn}
+-- Settled pipes have their counts behind a call of the reaper.
+use Rattle.std.specs.Prelude.{◌≡◌, ◌≤◌, ◌++◌, ◌∷◌, [], List, flat_map, length, refl}
+use Rattle.std.proofs.Common.{arith, sym, ap, ◌∙◌, subst}
+use Rattle.std.proofs.lemmas.List.{append-nil}
+use Rattle.msg_pipe.specs.Known.{Known}
+use Rattle.spec_pattern.specs.PipeStep.{PipeStep}
+use Rattle.spec_control.specs.declared.entry.Item.{Item}
+use Rattle.spec_control.specs.Control.{Control, begun}
+use Rattle.spec_control.specs.ControlRun.{after_all, after_item, IsControlRun}
+use Rattle.spec_control.specs.Names.{name_of}
+use Rattle.spec_control.specs.Moments.{Moment, moments_from}
+use Rattle.desk.specs.declared.given.Given.{Given}
+use Rattle.desk.specs.Lent.{HasAll}
+use Rattle.ctl_plane.specs.Past.{control_of}
+use Rattle.desk.specs.Desk.{CountsWith}
+use Rattle.spec_run.specs.Act.{Act, steps_in}
+use Rattle.spec_run.specs.Event.{acts_said}
+use Rattle.spec_run.specs.OwnedRun.{AreCountedBy}
+use Rattle.end_table.specs.declared.changes.PipeChange.{PipeChange}
+use Rattle.socket_laws.specs.Standing.{PastStands}
+use Rattle.closed_ends.specs.declared.sockets.ClosedSockets.{ClosedSockets}
+use Rattle.closed_ends.specs.Counting.{counts_of}
+use Rattle.closed_ends.specs.Has.{holding_in}
+use Rattle.core_laws.specs.Counts.{ReaperCountsGoOn}
+use Rattle.plain_desk.specs.Lent.{moments_of, GrowsBy, IsOneOrder, Lent}
+use Rattle.socket_laws.proofs.LastLemmas.{grown}
+use Rattle.core_laws.specs.Ends.{ReaperDid}
+use Rattle.core_laws.proofs.ReapedComingLemmas.{has_now}
+use Rattle.core_laws.proofs.GrowLemmas.{leads_to, runs_on}
 
-some_none : {X : Type 0} {x : X} → Some x ≡ None → ⊥
-some_none e = Prim.grind arith
+module _ {S O I N T : Type 0} (K : Known S O I N) (count : ReaperCountsGoOn K T)
+    (old new : Lent (Given N O I) N T) (before behind : S) (from to : ClosedSockets N O I) (changes : List (PipeChange O I × S)) (did : ReaperDid K old new before behind from to changes)
+    (counts : CountsWith K.out_name (λ e writer. counts_of K before from.sockets.items e writer) (moments_of old) (moments_of new) (holding_in K.out_name K.in_name from))
+    (past : List PipeStep) (stands : PastStands K (control_of old.past) (name_of old.items) before past) (counted : AreCountedBy past (control_of old.past).settlements) where
+  abbrev found : Control
+  found = after_all old.items (begun old.past.workers)
 
-not_not : (a : Bool) → not (not a) ≡ a
-not_not true = refl
-not_not false = refl
+  abbrev grows : GrowsBy old new
+  grows = did.call.grows
 
-pub other_twice : (e : EndId) → other_end (other_end e) ≡ e
-other_twice e = ap (end_of e.pair.0) (not_not e.a)
+  was_order : IsOneOrder old
+  was_order = did.call.before
 
--- a pipe that is not read at this end is not the one that is
-pub apart : (e : EndId) (q : PipeId) → is_end (other_end q) e ≡ false → same_pipe (other_end e) q ≡ false
-apart e q not_here = by (same_pipe (other_end e) q) refl
-  where
-    by : (b : Bool) → same_pipe (other_end e) q ≡ b → b ≡ false
-    by false is = refl
-    by true is =
-        let same : other_end q ≡ e = ap other_end (sym (same_pipes (other_end e) q is)) ∙ other_twice e in
-        absurd (true≢false (sym (end_self e) ∙ ap (λ (d : EndId). is_end d e) (sym same) ∙ not_here))
+  order : IsOneOrder new
+  order = did.call.behind
 
--- these steps are at pipes that are not read at this end
-abbrev AreElsewhere : EndId → List PipeStep → Type 0
-AreElsewhere e steps = AllByRecursion (λ t. is_end (other_end (pipe_at t)) e ≡ false) steps
+  run : IsControlRun (begun old.past.workers) old.items
+  run = (let all = was_order.order in all.run)
 
-none_committed : (e : EndId) (steps : List PipeStep) → AreElsewhere e steps → committed_to (other_end e) steps ≡ []
-none_committed e [] all = refl
-none_committed e (Commit q m ∷ steps) all = rw (apart e q all.0) (none_committed e steps all.1)
-none_committed e (FullLook q ∷ steps) all = none_committed e steps all.1
-none_committed e (Take q m ∷ steps) all = none_committed e steps all.1
-none_committed e (EmptyLook q ∷ steps) all = none_committed e steps all.1
-none_committed e (DelimiterLook q ∷ steps) all = none_committed e steps all.1
-none_committed e (WaitingLook q ∷ steps) all = none_committed e steps all.1
-none_committed e (Seal q ∷ steps) all = none_committed e steps all.1
+  on : IsControlRun found grows.more
+  on = runs_on old new order grows
 
-none_taken : (e : EndId) (steps : List PipeStep) → AreElsewhere e steps → taken_from (other_end e) steps ≡ []
-none_taken e [] all = refl
-none_taken e (Commit q m ∷ steps) all = none_taken e steps all.1
-none_taken e (FullLook q ∷ steps) all = none_taken e steps all.1
-none_taken e (Take q m ∷ steps) all = rw (apart e q all.0) (none_taken e steps all.1)
-none_taken e (EmptyLook q ∷ steps) all = none_taken e steps all.1
-none_taken e (DelimiterLook q ∷ steps) all = none_taken e steps all.1
-none_taken e (WaitingLook q ∷ steps) all = none_taken e steps all.1
-none_taken e (Seal q ∷ steps) all = none_taken e steps all.1
+  has_found : HasAll (name_of old.items) found (holding_in K.out_name K.in_name from)
+  has_found = subst (λ (x : Control). HasAll (name_of old.items) x (holding_in K.out_name K.in_name from)) was_order.control (has_now K old was_order before from did.was_sound did.has)
 
--- so its counts stay
-counted_on : (past more : List PipeStep) (s : Settlement) → IsCountedBy past s → AreElsewhere s.end more → IsCountedBy (past ++ more) s
-counted_on past more s counted elsewhere = record {
-  sent = counted.sent
-      ∙ ap length (sym (append-nil (committed_to (other_end s.end) past))
-      ∙ ap (λ (l : List Frames). committed_to (other_end s.end) past ++ l) (sym (none_committed s.end more elsewhere))
-      ∙ sym (filter_map-append (committed_by (other_end s.end)) past more));
-  got = counted.got
-      ∙ ap length (sym (append-nil (taken_from (other_end s.end) past))
-      ∙ ap (λ (l : List Frames). taken_from (other_end s.end) past ++ l) (sym (none_taken s.end more elsewhere))
-      ∙ sym (filter_map-append (taken_by (other_end s.end)) past more));
-  sum = counted.sum;
-  reason = counted.reason;
-}
+  counts_more : (xs : List (Item N T)) → grows.more ≡ xs → length xs ≤ 1 → AreCountedBy (past ++ steps_in (flat_map acts_said (moments_from found xs))) (after_all xs found).settlements
+  counts_more [] e few = subst (λ (l : List PipeStep). AreCountedBy l found.settlements) (sym (append-nil past)) (subst (λ (x : Control). AreCountedBy past x.settlements) was_order.control counted)
+  counts_more (x ∷ []) e few =
+      let m : Moment N T = record { found = found; item = x } in
+      let one = grown old new grows ∙ ap (λ (xs : List (Item N T)). moments_of old ++ moments_from found xs) e in
+      subst (λ (l : List (Act N T)). AreCountedBy (past ++ steps_in l) (after_item x found).settlements) (sym (append-nil (acts_said m)))
+      (count old.past.workers old.items x run (subst (IsControlRun found) e on).0 (name_of old.items) before from did.was_sound has_found (counts m one) past
+      (subst (λ (y : Control). PastStands K y (name_of old.items) before past) was_order.control stands) (subst (λ (y : Control). AreCountedBy past y.settlements) was_order.control counted))
+  counts_more (x ∷ y ∷ ys) e few = absurd (omega (arith, few))
 
--- no settlement of these is of a pipe that a step is at
-abbrev AreOfNone : List Settlement → List PipeStep → Type 0
-AreOfNone settlements steps = AllByRecursion (λ t. find (λ s. is_end (other_end (pipe_at t)) s.end) settlements ≡ None) steps
-
-not_first : (b : Bool) (s : Settlement) (rest : Option Settlement) → cond b (Some s) rest ≡ None → (b ≡ false) × (rest ≡ None)
-not_first true s rest e = absurd (some_none e)
-not_first false s rest e = (refl, e)
-
-first_elsewhere : (s : Settlement) (ss : List Settlement) (steps : List PipeStep) → AreOfNone (s ∷ ss) steps → AreElsewhere s.end steps × AreOfNone ss steps
-first_elsewhere s ss [] all = (tt, tt)
-first_elsewhere s ss (t ∷ steps) all =
-    let here = not_first (is_end (other_end (pipe_at t)) s.end) s (find (λ x. is_end (other_end (pipe_at t)) x.end) ss) all.0 in
-    let rest = first_elsewhere s ss steps all.1 in
-    ((here.0, rest.0), (here.1, rest.1))
-
-all_counted_on : (past more : List PipeStep) (ss : List Settlement) → AreCountedBy past ss → AreOfNone ss more → AreCountedBy (past ++ more) ss
-all_counted_on past more [] counted none = tt
-all_counted_on past more (s ∷ ss) counted none =
-    let parts = first_elsewhere s ss more none in
-    (counted_on past more s counted.0 parts.0, all_counted_on past more ss counted.1 parts.1)
-
-one_more : (past : List PipeStep) (ss : List Settlement) (s : Settlement) → AreCountedBy past ss → IsCountedBy past s → AreCountedBy past (ss ++ s ∷ [])
-one_more past [] s counted one = (one, tt)
-one_more past (x ∷ ss) s counted one = (counted.0, one_more past ss s counted.1 one)
-
-pub counts_go_on : CountsGoOn
-counts_go_on = record {
-  steps = λ c past more counted unsettled. all_counted_on past more c.settlements counted unsettled;
-  settled = one_more;
-}
+  pub counts_on : AreCountedBy (past ++ steps_in (flat_map acts_said (moments_from (control_of old.past) did.call.grows.more))) (control_of new.past).settlements
+  counts_on =
+      subst (λ (x : Control). AreCountedBy (past ++ steps_in (flat_map acts_said (moments_from x grows.more))) (control_of new.past).settlements) (sym was_order.control)
+      (subst (λ (x : Control). AreCountedBy (past ++ steps_in (flat_map acts_said (moments_from found grows.more))) x.settlements) (sym (leads_to old new order grows)) (counts_more grows.more refl did.call.few))

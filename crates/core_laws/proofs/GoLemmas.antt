@@ -1,239 +1,189 @@
--- What joins an open socket in an item of it, and which changes of state are told.
-use Rattle.std.specs.Prelude.{◌≡◌, ◌≢◌, ◌<◌, ◌==◌, ℕ, Bool, true, false, cond, List, [], ◌∷◌, ◌++◌, Some, None, All, map, filter, refl}
-use Rattle.std.proofs.Common.{sym, ap, ◌∙◌, subst}
-use Rattle.std.proofs.lemmas.Bool.{eq-eqb}
-use Rattle.std.proofs.lemmas.List.{append-nil}
-use Rattle.std.proofs.lemmas.List.Elements.{All-nil, All-cons, All-head, All-tail, All-append, All-weaker, filter-append}
+-- The ends that the reaper had and those that came in a call are where such ends may be.
+use Rattle.std.proofs.Common.{◌≡◌, ◌≢◌, ◌++◌, ◌∙◌, ◌⊎◌, inl, inr, ℕ, zero, suc, true, false, List, [], ◌∷◌, All, Option, Some, map, refl, sym, ap, subst, arith}
+use Rattle.std.specs.List.{list_any}
 use Rattle.zq_base.specs.declared.ids.EndId.{EndId}
-use Rattle.zq_base.specs.declared.ids.ObjId.{ObjId}
-use Rattle.zq_base.specs.declared.ids.SlotId.{SlotId}
-use Rattle.spec_control.specs.declared.end.EndState.{EndState}
-use Rattle.spec_control.specs.declared.end.EndState.TheVariants.{Active, DelimiterGot, WaitDelimiter, AckSent, AskedOnce, AskedTwice, Gone}
-use Rattle.spec_control.specs.declared.letter.Word.{Word}
-use Rattle.spec_control.specs.declared.letter.Word.TheVariants.{Own, Plug, TermReq, Term, TermAck, PipeBind, PipeTerm, PipeTermAck, Stop, Reap}
-use Rattle.spec_control.specs.declared.entry.Answered.{Answered}
+use Rattle.zq_base.specs.Ends.{PipeId}
+use Rattle.msg_pipe.specs.Known.{Known}
+use Rattle.spec_pattern.specs.PipeStep.{read_through}
 use Rattle.spec_control.specs.declared.entry.Joining.{Joining}
-use Rattle.spec_control.specs.declared.entry.Did.{Did}
-use Rattle.spec_control.specs.declared.entry.Did.TheVariants.{Asked, Delivered, Delimited}
-use Rattle.spec_control.specs.declared.entry.Item.{Item}
-use Rattle.spec_control.specs.declared.entry.Item.TheVariants.{Event, Seen}
-use Rattle.spec_control.specs.declared.request.Req.{Req}
-use Rattle.spec_control.specs.declared.request.Req.TheVariants.{Socket as MakeSocket, AskTerm, Bind, Connect, Unbind, Disconnect, Close, Accepted, Shaken, AskEnd, AskOver, OutputOver}
-use Rattle.spec_control.specs.Place.{Place, Unmade, Away, At}
-use Rattle.spec_control.specs.Control.{Control, begun, next_pair, owner_of, place_of, ends_of}
-use Rattle.spec_control.specs.After.{after}
-use Rattle.spec_control.specs.ControlRun.{Fits, Joins, after_all, answer_of}
-use Rattle.spec_control.specs.Held.{asker, caller_of, subject_of}
-use Rattle.spec_control.specs.Has.{acts_in_request}
-use Rattle.control_laws.proofs.ListLemmas.{never}
-use Rattle.control_laws.specs.Kept.{Kept}
-use Rattle.control_laws.specs.OwnMoves.{own_moves, word_moves}
-use Rattle.control_laws.specs.Spared.{Known, touched_in}
-use Rattle.control_laws.proofs.EventLemmas.{others_spared}
-use Rattle.control_laws.proofs.LeadLemmas.{attached_by, old_end}
-use Rattle.control_laws.proofs.AttachedLemmas.{ends_of_joins, asked_ends, attached_after}
-use Rattle.control_laws.proofs.AttachedOnceLemmas.{IsOld, AreOld, old_run}
-use Rattle.ctl_plane.specs.Joins.{came_in, come_by}
-use Rattle.ctl_plane.specs.Turns.{turn_at, turned_over, turned_in}
-use Rattle.control_laws.proofs.MomentLemmas.{shown_at, reap_root}
-use Rattle.control_laws.proofs.OwnerLemmas.{mine_all}
-use Rattle.core_laws.specs.Open.{IsOf, HasOpen, moment_at, left_before, ComesTo}
-use Rattle.core_laws.specs.OpenEnds.{GoesOn, EndsGoOn}
-use Rattle.core_laws.proofs.OpenLemmas.{none_some, some_is, all_kept, above, run_before, run_last, callers_before}
-use Rattle.core_laws.proofs.LeftLemmas.{open_ends_are_left}
+use Rattle.spec_control.specs.Place.{Place as Where, Unmade, Away, At, is_here}
+use Rattle.spec_control.specs.Rows.{obj}
+use Rattle.spec_control.specs.Control.{Control, owner_of, place_of}
+use Rattle.spec_control.specs.ControlRun.{is_between}
+use Rattle.desk.specs.declared.given.Given.{Given}
+use Rattle.ctl_plane.specs.Giving.{AreOnTheirWay, IsOnItsWay}
+use Rattle.end_table.specs.declared.table.Place.{Place}
+use Rattle.end_table.specs.Places.{place_at}
+use Rattle.end_table.proofs.SoundLemmas.{one_some}
+use Rattle.socket_laws.specs.Ends.{IsHeldWhere, is_new}
+use Rattle.socket_laws.specs.Changes.{ArePlacesNamed}
+use Rattle.closed_ends.specs.declared.sockets.ClosedSockets.{ClosedSockets}
+use Rattle.closed_ends.specs.Coming.{IsBrought}
+use Rattle.closed_ends.specs.Finding.{came_given, place_given}
+use Rattle.closed_ends.specs.Has.{all_ends, is_of}
+use Rattle.closed_ends.specs.Noted.{first_places}
+use Rattle.closed_ends.proofs.NotedLemmas.{came_places}
+use Rattle.core_laws.specs.ReaperCalls.{came_since}
+use Rattle.core_laws.specs.Came.{CameAll, CameOne}
+use Rattle.core_laws.specs.Goes.{AreTaken, StandsNew, NamedGoOn, ReaperEndsGoOn}
+use Rattle.core_laws.proofs.ReaperCallLemmas.{behind}
+use Rattle.core_laws.proofs.HereLemmas.{at_its_place, one_place}
 
--- ---- of lists
-pub all_pass : {X : Type 0} (f : X → Bool) (xs : List X) → All (λ x. f x ≡ true) xs → filter f xs ≡ xs
-all_pass f [] all = refl
-all_pass {X = X} f (x ∷ xs) all =
-    ap (λ (b : Bool). cond b (x ∷ filter f xs) (filter f xs)) (All-head (λ y. f y ≡ true) x xs all)
-    ∙ ap (λ (ys : List X). x ∷ ys) (all_pass f xs (All-tail (λ y. f y ≡ true) x xs all))
+module _ {N I : Type 0} where
+  -- a place is in front or behind
+  pub split_at : (ps qs : List (Place N I)) (k : ℕ) (q : Place N I) → place_at (ps ++ qs) k ≡ Some q → (place_at ps k ≡ Some q) ⊎ ((i : ℕ) × (place_at qs i ≡ Some q))
+  split_at [] qs k q at = inr (k, at)
+  split_at (x ∷ xs) qs zero q at = inl at
+  split_at (x ∷ xs) qs (suc k) q at = split_at xs qs k q at
 
-pub same_filter : {X : Type 0} (f g : X → Bool) (xs : List X) → All (λ x. f x ≡ g x) xs → filter f xs ≡ filter g xs
-same_filter f g [] all = refl
-same_filter {X = X} f g (x ∷ xs) all =
-    ap (λ (b : Bool). cond b (x ∷ filter f xs) (filter f xs)) (All-head (λ y. f y ≡ g y) x xs all)
-    ∙ ap (λ (ys : List X). cond (g x) (x ∷ ys) ys) (same_filter f g xs (All-tail (λ y. f y ≡ g y) x xs all))
+  -- ends at places of their own
+  abbrev Apart : List (Place N I) → Type 0
+  Apart ps = (j k : ℕ) (p q : Place N I) → place_at ps j ≡ Some p → place_at ps k ≡ Some q → p.end ≡ q.end → j ≡ k
 
--- ---- changes of state
-pub turn_same : (e : EndId) (p : Place) → turn_at e p p ≡ []
-turn_same e Unmade = refl
-turn_same e Away = refl
-turn_same e (At Active) = refl
-turn_same e (At DelimiterGot) = refl
-turn_same e (At WaitDelimiter) = refl
-turn_same e (At AckSent) = refl
-turn_same e (At AskedOnce) = refl
-turn_same e (At AskedTwice) = refl
-turn_same e (At Gone) = refl
+  apart_rest : (x : Place N I) (xs : List (Place N I)) → Apart (x ∷ xs) → Apart xs
+  apart_rest x xs a j k p q m n same = let e = a (suc j) (suc k) p q m n same in omega (arith, e)
 
-none_turn : (f : EndId → Place) (es : List EndId) → turned_over f f es ≡ []
-none_turn f [] = refl
-none_turn f (e ∷ es) = ap (λ (ts : List (EndId × EndState)). ts ++ turned_over f f es) (turn_same e (f e)) ∙ none_turn f es
-
-module _ (before now : EndId → Place) (p : EndId → Bool) where
-  -- those of some of the ends, where the others are where they were
-  turned_among : (es : List EndId) → All (λ e. p e ≡ false → turn_at e (before e) (now e) ≡ []) es → turned_over before now es ≡ turned_over before now (filter p es)
-  turned_among [] all = refl
-  turned_among (e ∷ es) all = by (p e) refl (turned_among es (All-tail (λ x. p x ≡ false → turn_at x (before x) (now x) ≡ []) e es all))
+  -- two lists of which no end is in both
+  both_apart : (ps qs : List (Place N I)) → Apart ps → Apart qs → ((j k : ℕ) (p q : Place N I) → place_at ps j ≡ Some p → place_at qs k ≡ Some q → p.end ≢ q.end) → Apart (ps ++ qs)
+  both_apart [] qs a b cross = b
+  both_apart (x ∷ xs) qs a b cross = walk (both_apart xs qs (apart_rest x xs a) b (λ j k p q m n. cross (suc j) k p q m n))
     where
-      by : (b : Bool) → p e ≡ b → turned_over before now es ≡ turned_over before now (filter p es) → turned_over before now (e ∷ es) ≡ turned_over before now (cond b (e ∷ filter p es) (filter p es))
-      by true is rest = ap (λ (ts : List (EndId × EndState)). turn_at e (before e) (now e) ++ ts) rest
-      by false is rest =
-          ap (λ (ts : List (EndId × EndState)). ts ++ turned_over before now es) (All-head (λ x. p x ≡ false → turn_at x (before x) (now x) ≡ []) e es all is) ∙ rest
+      later : (k : ℕ) (q : Place N I) → place_at (xs ++ qs) k ≡ Some q → x.end ≢ q.end
+      later k q at same =
+          elim (split_at xs qs k q at) [
+            | inl front ↦ absurd (let e = a 0 (suc k) x q refl front same in omega (arith, e))
+            | inr back ↦ cross 0 back.0 x q refl back.1 same
+          ]
 
--- ---- what joins
-module _ {N : Type 0} where
-  joined_ends : (js : List (Joining N)) → map (λ j. j.end) js ≡ ends_of_joins (map (λ j. let x : Joins = record { end = j.end; peer = j.peer; met = j.met } in x) js)
-  joined_ends [] = refl
-  joined_ends (j ∷ js) = ap (λ (es : List EndId). j.end ∷ es) (joined_ends js)
+      walk : Apart (xs ++ qs) → Apart ((x ∷ xs) ++ qs)
+      walk rest zero zero p q m n same = refl
+      walk rest zero (suc k) p q m n same = absurd (later k q n (ap (λ (y : Place N I). y.end) (one_some x p m) ∙ same))
+      walk rest (suc j) zero p q m n same = absurd (later j p m (ap (λ (y : Place N I). y.end) (one_some x q n) ∙ sym same))
+      walk rest (suc j) (suc k) p q m n same = ap suc (rest j k p q m n same)
 
-  ends_all : (P : EndId → Type 0) (js : List (Joining N)) → All P (map (λ j. j.end) js) → All (λ j. P j.end) js
-  ends_all P [] all = All-nil (λ j. P j.end)
-  ends_all P (j ∷ js) all = All-cons (λ x. P x.end) j js (All-head P j.end (map (λ x. x.end) js) all) (ends_all P js (All-tail P j.end (map (λ x. x.end) js) all))
+  one_apart : (x : Place N I) → Apart (x ∷ [])
+  one_apart x zero zero p q m n same = refl
+  one_apart x zero (suc k) p q m n same = cc
+  one_apart x (suc j) k p q m n same = cc
 
--- the object whose ends the event may change
-asks_of : (c : Control) (o : ℕ) (req : Req) → asker req ≡ Some o → acts_in_request c req ≡ Some o
-asks_of c o (MakeSocket kind options) is = absurd (none_some is)
-asks_of c o AskTerm is = absurd (none_some is)
-asks_of c o (Bind p at) is = is
-asks_of c o (Connect p at) is = is
-asks_of c o (Unbind p at) is = is
-asks_of c o (Disconnect p at) is = is
-asks_of c o (Close p) is = is
-asks_of c o (Accepted p) is = is
-asks_of c o (Shaken p peer) is = is
-asks_of c o (AskEnd e reason) is = absurd (none_some is)
-asks_of c o (AskOver p) is = is
-asks_of c o (OutputOver p) is = is
+-- what is new is not here
+new_not_here : (x : Where) → is_new x ≡ true → is_here x ≡ true → ⊥
+new_not_here Unmade n h = cc
+new_not_here Away n h = cc
+new_not_here (At s) n h = cc
 
-module _ {N S : Type 0} (c : Control) (kept : Kept c) (o : ℕ) (not_root : o ≢ 0) where
-  touches : (did : Did N S) → IsOf o c did → touched_in c did ≡ Some o
-  touches (Asked req reply h) is = asks_of c o req is
-  touches (Delivered slot letter h) is = ap (λ (n : ℕ). Some n) is
-  touches (Delimited e h) is = ap (λ (n : ℕ). Some n) is
+module _ {S O I N : Type 0} (K : Known S O I N) (c now : Control) (names : PipeId → Option N) (from to : ClosedSockets N O I) (t : AreTaken K c now names from to) where
+  abbrev had : List (Place N I)
+  had = map (place_given K.in_name) (all_ends from.sockets.items)
 
-  -- what a command brings joins with it
-  word_comes : (slot : SlotId) (to : ObjId) (word : Word) (h : Answered N S) → Fits c (Delivered slot (record { to = to; word = word }) h) → to.0 ≡ o →
-      (come_by word h.joined ≡ h.joined) × (map (λ j. j.end) h.joined ≡ attached_by (word_moves to.0 word)) × (subject_of (Delivered slot (record { to = to; word = word }) h) ≡ Some o)
-  word_comes slot to (Own child) h fits is = (refl, joined_ends h.joined ∙ ap ends_of_joins fits.answered.joined, ap (λ (n : ℕ). Some n) is)
-  word_comes slot to (Plug None) h fits is = (refl, joined_ends h.joined ∙ ap ends_of_joins fits.answered.joined, ap (λ (n : ℕ). Some n) is)
-  word_comes slot to (Plug (Some e)) h fits is = (refl, joined_ends h.joined ∙ ap ends_of_joins fits.answered.joined, ap (λ (n : ℕ). Some n) is)
-  word_comes slot to (TermReq child) h fits is = (refl, joined_ends h.joined ∙ ap ends_of_joins fits.answered.joined, ap (λ (n : ℕ). Some n) is)
-  word_comes slot to Term h fits is = (refl, joined_ends h.joined ∙ ap ends_of_joins fits.answered.joined, ap (λ (n : ℕ). Some n) is)
-  word_comes slot to (TermAck child) h fits is = (refl, joined_ends h.joined ∙ ap ends_of_joins fits.answered.joined, ap (λ (n : ℕ). Some n) is)
-  word_comes slot to (PipeBind e peer) h fits is = (refl, joined_ends h.joined ∙ ap ends_of_joins fits.answered.joined, ap (λ (n : ℕ). Some n) is)
-  word_comes slot to (PipeTerm e) h fits is = (refl, joined_ends h.joined ∙ ap ends_of_joins fits.answered.joined, ap (λ (n : ℕ). Some n) is)
-  word_comes slot to (PipeTermAck e) h fits is = (refl, joined_ends h.joined ∙ ap ends_of_joins fits.answered.joined, ap (λ (n : ℕ). Some n) is)
-  word_comes slot to Stop h fits is = (refl, joined_ends h.joined ∙ ap ends_of_joins fits.answered.joined, ap (λ (n : ℕ). Some n) is)
-  word_comes slot to (Reap socket) h fits is = absurd (not_root (sym is ∙ reap_root c kept slot to socket h fits))
+  -- the places of the ends that it had, and of those that came
+  module _ (gs : List (Given N O I)) (came : to.came.items ≡ from.came.items ++ map (came_given K.in_name) gs) where
+    abbrev brought : List (Place N I)
+    brought = map (place_given K.in_name) gs
 
-  -- the ends that join are those that are attached, and are the object's
-  record Comes (did : Did N S) : Type 0 where
-    all : came_in did ≡ (answer_of did).joined
-    ends : map (λ j. j.end) (answer_of did).joined ≡ attached_by (own_moves c did)
-    mine : All (λ e. owner_of (after did c) e ≡ o) (attached_by (own_moves c did))
+    firsts_are : first_places K.in_name from (came_since from to) ≡ had ++ brought
+    firsts_are = ap (first_places K.in_name from) (behind from.came.items (map (came_given K.in_name) gs) to.came.items came) ∙ ap (λ (l : List (Place N I)). had ++ l) (came_places K.in_name gs)
 
-  owned : (did : Did N S) → Fits c did → subject_of did ≡ Some o → All (λ e. owner_of (after did c) e ≡ o) (attached_by (own_moves c did))
-  owned did fits is =
-      All-weaker (λ e. subject_of did ≡ Some (owner_of (after did c) e)) (λ e. owner_of (after did c) e ≡ o) (λ e own. some_is (sym own ∙ is)) (attached_by (own_moves c did)) (mine_all c kept did fits)
+    named_by : ((k : ℕ) (p : Place N I) → place_at brought k ≡ Some p → (names p.end ≡ Some p.written) × (names (read_through p.end) ≡ Some p.read)) → ArePlacesNamed names (first_places K.in_name from (came_since from to))
+    named_by its = subst (ArePlacesNamed names) (sym firsts_are) (λ k p at.
+        elim (split_at had brought k p at) [
+          | inl front ↦ t.here.named k p front
+          | inr back ↦ its back.0 p back.1
+        ])
 
-  comes : (did : Did N S) → Fits c did → IsOf o c did → Comes did
-  comes (Asked req reply h) fits is = record {
-    all = refl;
-    ends = joined_ends h.joined ∙ ap ends_of_joins fits.answered.joined ∙ asked_ends c req reply;
-    mine = owned (Asked req reply h) fits is;
+    apart_by : ((j k : ℕ) (p q : Place N I) → place_at brought j ≡ Some p → place_at brought k ≡ Some q → p.end ≡ q.end → j ≡ k)
+        → ((j k : ℕ) (p q : Place N I) → place_at had j ≡ Some p → place_at brought k ≡ Some q → p.end ≢ q.end)
+        → (j k : ℕ) (p q : Place N I) → place_at (first_places K.in_name from (came_since from to)) j ≡ Some p → place_at (first_places K.in_name from (came_since from to)) k ≡ Some q → p.end ≡ q.end → j ≡ k
+    apart_by own cross = subst (λ (ps : List (Place N I)). (j k : ℕ) (p q : Place N I) → place_at ps j ≡ Some p → place_at ps k ≡ Some q → p.end ≡ q.end → j ≡ k) (sym firsts_are) (both_apart had brought t.here.different own cross)
+
+  nothing : (ps : List (Place N I)) → ps ++ [] ≡ ps
+  nothing [] = refl
+  nothing (p ∷ ps) = ap (λ (l : List (Place N I)). p ∷ l) (nothing ps)
+
+  -- of ends that were on their way
+  all_go : (given : List (Given N O I)) (o : ℕ) → CameAll K (IsBrought c given) o from to → AreOnTheirWay K.in_name c names given → NamedGoOn K c now names from to
+  all_go given o a way = record {
+    goes = record {
+      different = apart_by a.ends a.came (one_place K.in_name K.out_name K.exact a.ends a.two) (λ j k p q m n same. let x = its k q n in
+          absurd (true_false (sym (subst (λ (e : EndId). is_between (obj c.rows (owner_of c e)) ≡ true) (sym (same ∙ ap (λ (y : Place N I). y.end) x.1)) x.2.between) ∙ t.taken j p m)));
+      was = had ++ brought a.ends a.came;
+      since = [];
+      are = firsts_are a.ends a.came ∙ sym (nothing (had ++ brought a.ends a.came));
+      held = λ k p at.
+          elim (split_at had (brought a.ends a.came) k p at) [
+            | inl front ↦ t.here.held k p front
+            | inr back ↦ (let x = its back.0 p back.1 in subst (IsHeldWhere c) (sym x.1) (record { here = x.2.here; writes = λ w. sym x.2.writes ∙ w }))
+          ];
+      new = λ k p at. cc;
+      stand = λ k p at. cc;
+      gone = t.gone;
+    };
+    named = named_by a.ends a.came (λ k p at. let x = its k p at in
+        (ap (λ (y : Place N I). names y.end) x.1 ∙ x.2.written ∙ ap (λ (y : Place N I). Some y.written) (sym x.1), ap (λ (y : Place N I). names (read_through y.end)) x.1 ∙ x.2.read ∙ ap (λ (y : Place N I). Some y.read) (sym x.1)));
   }
-  comes (Delivered slot letter h) fits is =
-      let w = word_comes slot letter.to letter.word h fits is in
-      record { all = w.0; ends = w.1; mine = owned (Delivered slot letter h) fits w.2 }
-  comes (Delimited e h) fits is = record {
-    all = refl;
-    ends = joined_ends h.joined ∙ ap ends_of_joins fits.answered.joined;
-    mine = All-nil (λ d. owner_of (after (Delimited e h) c) d ≡ o);
+    where
+      true_false : true ≡ false → ⊥
+      true_false e = cc
+
+      on_way : All (IsOnItsWay K.in_name c names) a.ends
+      on_way k d lt = let x = (a.brought k d lt).one in subst (IsOnItsWay K.in_name c names) x.2 (way x.0 _ x.1)
+
+      its : (k : ℕ) (p : Place N I) → place_at (map (place_given K.in_name) a.ends) k ≡ Some p → (g : Given N O I) × (p ≡ place_given K.in_name g) × IsOnItsWay K.in_name c names g
+      its k p at = at_its_place K.in_name (IsOnItsWay K.in_name c names) a.ends on_way k p at
+
+  -- of one that joined
+  one_goes : (j : Joining N) → CameOne K j from to → StandsNew K c now names from to j → NamedGoOn K c now names from to
+  one_goes j o s = record {
+    goes = record {
+      different = apart_by (o.end ∷ []) o.came (one_apart it) (λ i k p q m n same. not_here p q (t.here.held i p m).here same (its k q n));
+      was = had;
+      since = it ∷ [];
+      are = firsts_are (o.end ∷ []) o.came;
+      held = t.here.held;
+      new = λ k p at made. subst (λ (x : Place N I). is_new (place_of c x.end) ≡ true) (its k p at) (subst (λ (e : EndId). is_new (place_of c e) ≡ true) (sym o.joined.end) s.fresh);
+      stand = λ k p at. subst (λ (x : Place N I). list_any (is_of x.end) (all_ends to.sockets.items) ≡ true) (its k p at) (subst (λ (e : EndId). list_any (is_of e) (all_ends to.sockets.items) ≡ true) (sym o.joined.end) s.stands);
+      gone = t.gone;
+    };
+    named = named_by (o.end ∷ []) o.came (λ k p at. subst (λ (x : Place N I). (names x.end ≡ Some x.written) × (names (read_through x.end) ≡ Some x.read)) (its k p at)
+        (ap names o.joined.end ∙ s.written ∙ ap Some (sym o.joined.written), ap (λ (e : EndId). names (read_through e)) o.joined.end ∙ s.read ∙ ap Some (sym o.joined.read)));
   }
+    where
+      it : Place N I
+      it = place_given K.in_name o.end
 
-  module _ (old : AreOld c) (did : Did N S) (fits : Fits c did) (of_it : IsOf o c did) where
-    abbrev d : Control
-    d = after did c
+      its : (k : ℕ) (p : Place N I) → place_at (place_given K.in_name o.end ∷ []) k ≡ Some p → place_given K.in_name o.end ≡ p
+      its zero p at = one_some (place_given K.in_name o.end) p at
+      its (suc k) p at = cc
 
-    abbrev new : List EndId
-    new = attached_by (own_moves c did)
+      not_here : (p q : Place N I) → is_here (place_of c p.end) ≡ true → p.end ≡ q.end → place_given K.in_name o.end ≡ q → ⊥
+      not_here p q here same is = new_not_here (place_of c p.end) (subst (λ (e : EndId). is_new (place_of c e) ≡ true) (sym (same ∙ sym (ap (λ (y : Place N I). y.end) is) ∙ o.joined.end)) s.fresh) here
 
-    all_come : Comes did
-    all_come = comes did fits of_it
-
-    pub ends_of_event : map (λ j. j.end) (came_in did) ≡ new
-    ends_of_event = ap (λ (js : List (Joining N)). map (λ j. j.end) js) all_come.all ∙ all_come.ends
-
-    joins_all : filter (λ j. owner_of d j.end == o) (answer_of did).joined ≡ came_in did
-    joins_all =
-        all_pass (λ j. owner_of d j.end == o) (answer_of did).joined
-        (All-weaker (λ j. owner_of d j.end ≡ o) (λ j. (owner_of d j.end == o) ≡ true) (λ j own. eq-eqb (owner_of d j.end) o own) (answer_of did).joined
-        (ends_all (λ e. owner_of d e ≡ o) (answer_of did).joined (subst (λ (es : List EndId). All (λ e. owner_of d e ≡ o) es) (sym all_come.ends) all_come.mine)))
-        ∙ sym all_come.all
-
-    owner_stays : (e : EndId) → IsOld c e → owner_of d e ≡ owner_of c e
-    owner_stays e is = (old_end c did kept fits e is.within is.at).owner
-
-    pub ends_of_it : ends_of o d ≡ ends_of o c ++ new
-    ends_of_it =
-        ap (filter (λ e. owner_of d e == o)) (attached_after c did) ∙ filter-append (λ e. owner_of d e == o) c.attached new
-        ∙ ap (λ (es : List EndId). es ++ filter (λ e. owner_of d e == o) new)
-        (same_filter (λ e. owner_of d e == o) (λ e. owner_of c e == o) c.attached (All-weaker (IsOld c) (λ e. (owner_of d e == o) ≡ (owner_of c e == o)) (λ e is. ap (λ (n : ℕ). n == o) (owner_stays e is)) c.attached old))
-        ∙ ap (λ (es : List EndId). ends_of o c ++ es) (all_pass (λ e. owner_of d e == o) new (All-weaker (λ e. owner_of d e ≡ o) (λ e. (owner_of d e == o) ≡ true) (λ e own. eq-eqb (owner_of d e) o own) new all_come.mine))
-
-    known : Known c
-    known = All-weaker (IsOld c) (λ e. e.pair.0 < next_pair c) (λ e is. is.within) c.attached old
-
-    -- an end of another object stays where it is
-    other_stays : (e : EndId) → IsOld c e → (owner_of d e == o) ≡ false → turn_at e (place_of c e) (place_of d e) ≡ []
-    other_stays e is other =
-        ap (λ (p : Place). turn_at e (place_of c e) p)
-        (shown_at (place_of d e) (place_of c e) is.at
-        ((others_spared (owner_of c e) c kept known did fits (λ touched. never (sym other ∙ eq-eqb (owner_of d e) o (owner_stays e is ∙ some_is (sym touched ∙ touches did of_it))))).places e is.within refl))
-        ∙ turn_same e (place_of c e)
-
-    turns_of_it : turned_in c d ≡ turned_over (place_of c) (place_of d) (ends_of o d)
-    turns_of_it =
-        turned_among (place_of c) (place_of d) (λ e. owner_of d e == o) d.attached
-        (subst (λ (es : List EndId). All (λ e. (owner_of d e == o) ≡ false → turn_at e (place_of c e) (place_of d e) ≡ []) es) (sym (attached_after c did))
-        (All-append (λ e. (owner_of d e == o) ≡ false → turn_at e (place_of c e) (place_of d e) ≡ []) c.attached new
-        (All-weaker (IsOld c) (λ e. (owner_of d e == o) ≡ false → turn_at e (place_of c e) (place_of d e) ≡ []) other_stays c.attached old)
-        (All-weaker (λ e. owner_of d e ≡ o) (λ e. (owner_of d e == o) ≡ false → turn_at e (place_of c e) (place_of d e) ≡ []) (λ e own other. absurd (never (sym other ∙ eq-eqb (owner_of d e) o own))) new all_come.mine)))
-
-module _ {N S : Type 0} (io : ℕ) (before : List (Item N S)) where
-  pub open_before : (item : Item N S) (o : ℕ) → ComesTo io before item o → HasOpen io before (caller_of item) o
-  open_before item o comes_so = record {
-    run = run_before before item (begun io) comes_so.run;
-    callers = callers_before [] before item (begun io) comes_so.callers;
-    is_open = comes_so.is_open;
+  -- of none
+  none_go : to.came.items ≡ from.came.items → NamedGoOn K c now names from to
+  none_go same = record {
+    goes = record {
+      different = subst (λ (ps : List (Place N I)). (j k : ℕ) (p q : Place N I) → place_at ps j ≡ Some p → place_at ps k ≡ Some q → p.end ≡ q.end → j ≡ k) (sym firsts) t.here.different;
+      was = had;
+      since = [];
+      are = firsts ∙ sym (nothing had);
+      held = t.here.held;
+      new = λ k p at. cc;
+      stand = λ k p at. cc;
+      gone = t.gone;
+    };
+    named = subst (ArePlacesNamed names) (sym firsts) t.here.named;
   }
+    where
+      firsts : first_places K.in_name from (came_since from to) ≡ map (place_given K.in_name) (all_ends from.sockets.items)
+      firsts = firsts_are [] (same ∙ sym (keep from.came.items)) ∙ nothing (map (place_given K.in_name) (all_ends from.sockets.items))
+        where
+          keep : (xs : List (Place N I × Unit {0})) → xs ++ [] ≡ xs
+          keep [] = refl
+          keep (x ∷ xs) = ap (λ (l : List (Place N I × Unit {0})). x ∷ l) (keep xs)
 
-  pub item_goes : (item : Item N S) (o : ℕ) → ComesTo io before item o → GoesOn o (left_before io before item o) (moment_at io before item)
-  item_goes (Event entry) o comes_so =
-      let open_so = open_before (Event entry) o comes_so in
-      let c = after_all before (begun io) in
-      let kept = all_kept io before entry.by o open_so in
-      let not_root = above io before entry.by o open_so in
-      let old = old_run io before open_so.run in
-      let fits = run_last before (Event entry) (begun io) comes_so.run in
-      let same = (open_ends_are_left N S io before entry.by o open_so).ends in
-      record {
-        joins = joins_all c kept o not_root old entry.did fits comes_so.of_it;
-        ends = ends_of_it c kept o not_root old entry.did fits comes_so.of_it
-            ∙ ap (λ (es : List EndId). es ++ attached_by (own_moves c entry.did)) (sym same)
-            ∙ ap (λ (es : List EndId). ends_of o (left_before io before (Event entry) o) ++ es) (sym (ends_of_event c kept o not_root old entry.did fits comes_so.of_it));
-        turns = turns_of_it c kept o not_root old entry.did fits comes_so.of_it;
-      }
-  item_goes (Seen sight) o comes_so =
-      let open_so = open_before (Seen sight) o comes_so in
-      let c = after_all before (begun io) in
-      record {
-        joins = refl;
-        ends = sym ((append-nil (ends_of o (left_before io before (Seen sight) o))) ∙ (open_ends_are_left N S io before sight.by o open_so).ends);
-        turns = none_turn (place_of c) c.attached ∙ sym (none_turn (place_of c) (ends_of o c));
-      }
-
-pub ends_go_on : (N S : Type 0) → EndsGoOn N S
-ends_go_on N S io before item o comes_so = item_goes io before item o comes_so
+pub reaper_ends_go_on : {S O I N : Type 0} (K : Known S O I N) → ReaperEndsGoOn K
+reaper_ends_go_on K c now names from to given t = record {
+  none = none_go K c now names from to t;
+  one = one_goes K c now names from to t;
+  all = all_go K c now names from to t given;
+}

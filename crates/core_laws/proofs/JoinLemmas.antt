@@ -1,219 +1,107 @@
--- The ends that join an open socket can be named.
-use Rattle.std.specs.Prelude.{◌≡◌, ◌<◌, ◌≤◌, ◌+◌, ℕ, Bool, true, List, [], ◌∷◌, ◌++◌, Some, All, length, map, refl}
-use Rattle.std.proofs.Common.{arith, sym, ap, ◌∙◌, subst}
-use Rattle.std.proofs.lemmas.List.{length-map, length-append}
-use Rattle.std.proofs.lemmas.List.Elements.{All-head, All-tail}
-use Rattle.zq_base.specs.Message.{Frames}
+-- Halves on their way to an open socket may join it still, behind calls on another that sent it none.
+use Rattle.std.specs.Prelude.{◌≡◌, ◌≢◌, ℕ, Bool, true, false, not, List, Some}
+use Rattle.std.proofs.Common.{sym, ap, ◌∙◌}
+use Rattle.zq_base.specs.Ends.{other_end}
 use Rattle.zq_base.specs.declared.ids.EndId.{EndId}
-use Rattle.zq_base.specs.declared.attached.Attached.{Attached}
-use Rattle.zq_base.specs.declared.attached.Attached.TheVariants.{Yes, BadId, Second}
-use Rattle.spec_pattern.specs.Pattern.{Pattern, Push, Pull, Pair, Dealer, Req as OfReq, Rep, Router, Pub, XPub, Sub, XSub, attach_as, taken_in, detach}
-use Rattle.spec_pattern.specs.PatternCalls.{Change}
-use Rattle.spec_pattern.specs.Topics.{Topic}
-use Rattle.spec_control.specs.declared.entry.Joining.{Joining}
-use Rattle.spec_control.specs.declared.entry.Did.{Did}
-use Rattle.spec_control.specs.declared.entry.Did.TheVariants.{Asked, Delivered, Delimited}
-use Rattle.spec_control.specs.declared.entry.Item.{Item}
-use Rattle.spec_control.specs.declared.entry.Item.TheVariants.{Event, Seen}
-use Rattle.spec_control.specs.declared.request.Req.{Req}
-use Rattle.spec_control.specs.declared.request.Req.TheVariants.{Socket as MakeSocket, AskTerm, Bind, Connect, Unbind, Disconnect, Close, Accepted, Shaken, AskEnd, AskOver, OutputOver}
-use Rattle.spec_control.specs.Row.{is_socket}
-use Rattle.spec_control.specs.Rows.{obj}
-use Rattle.spec_control.specs.Held.{asker}
+use Rattle.spec_control.specs.Place.{is_away}
 use Rattle.control_laws.proofs.ListLemmas.{never}
-use Rattle.control_laws.proofs.LawLemmas.{session_is}
-use Rattle.spec_control.specs.Control.{Control, begun, ends_of}
-use Rattle.spec_control.specs.ControlRun.{Fits, MayAsk, after_all}
-use Rattle.spec_control.specs.Moments.{left_by}
-use Rattle.control_laws.proofs.RootLemmas.{begun_kept}
-use Rattle.ctl_plane.specs.Desk.{came_with}
-use Rattle.spec_pattern.specs.Outcomes.{SendOutcome, RecvOutcome, ChangeOutcome, PumpOutcome, SendsSo, ReceivesSo, ChangesSo, PumpsSo}
-use Rattle.router_dealer.specs.Named.{IsIdentity, most_drawn}
-use Rattle.spec_run.specs.OpenSocket.{attach_all, detach_all}
-use Rattle.sock_core.specs.Patterns.{CanJoin as CanJoinOne}
-use Rattle.sock_core.specs.Way.{CanJoinAll}
-use Rattle.core_laws.specs.Open.{IsOf, moment_at, left_before, ComesTo}
-use Rattle.core_laws.specs.Bounds.{AreFew, TellsIdentity, TellsIdentityIn, TellIdentities, IdentitiesGoOn, drawn_of, CanJoin, EndsCanJoin, CallsDrawNone}
-use Rattle.core_laws.proofs.OpenLemmas.{none_some, some_is, had, after_more, run_before, run_last}
-use Rattle.core_laws.proofs.GoLemmas.{open_before, item_goes}
-use Rattle.core_laws.proofs.FewLemmas.{ends_are_few}
-use Rattle.core_laws.proofs.IdentityLemmas.{begun_says, says_over, item_tells}
+use Rattle.ctl_moves.proofs.HeldLemmas.{other_twice}
+use Rattle.spec_control.specs.Control.{id, owner_of, place_of}
+use Rattle.spec_control.specs.Names.{name_of}
+use Rattle.msg_pipe.specs.Known.{Known, IsElse, IsThere}
+use Rattle.desk.specs.Lent.{has_writer}
+use Rattle.desk.specs.declared.halves.Halves.{Halves}
+use Rattle.desk.specs.TakingOver.{AreDistinct}
+use Rattle.ctl_plane.specs.Past.{control_of}
+use Rattle.desk.specs.Desk.{slot_after}
+use Rattle.end_table.specs.declared.table.Place.{Place}
+use Rattle.end_table.specs.declared.table.EndTable.{EndTable}
+use Rattle.end_table.specs.Others.{AreElseFrom}
+use Rattle.end_table.specs.Sound.{Fits, IsElseOf}
+use Rattle.sock_core.specs.Noted.{WereRead}
+use Rattle.sock_calls.proofs.CallsLemmas.{others_join}
+use Rattle.plain_desk.specs.Lent.{coming_to, moments_of, HasSocket, IsOneOrder, Lent}
+use Rattle.socket_laws.specs.Behind.{IsNoneOfIts, IsOfIts}
+use Rattle.socket_laws.proofs.NewLemmas.{away, coming_ends_are_new, mine, there}
+use Rattle.socket_laws.proofs.SocketLemmas.{kept_now}
+use Rattle.core_laws.specs.Apart.{AreHeldBy, ArePlacesOf, IsHeldBy, IsPlaceOf}
+use Rattle.core_laws.specs.Calls.{for_caller}
+use Rattle.core_laws.specs.Laws.{ComingJoinStill}
+use Rattle.core_laws.proofs.ApartLemmas.{across, else_of, is_out, not_second, other_out}
+use Rattle.core_laws.proofs.SettledLemmas.{settled_were_read}
+use Rattle.core_laws.proofs.SilentLemmas.{one_order_of}
 
--- ---- one end
-can_join : (identity : List ℕ) (p : Pattern) → IsIdentity identity → drawn_of p < most_drawn → CanJoinOne identity p
-can_join identity (Push outs) is few = tt
-can_join identity (Pull ins) is few = tt
-can_join identity (Pair t) is few = tt
-can_join identity (Dealer t) is few = tt
-can_join identity (OfReq t duty) is few = tt
-can_join identity (Rep ins duty) is few = tt
-can_join identity (Router r) is few = (is, few)
-can_join identity (Pub p) is few = tt
-can_join identity (XPub p) is few = tt
-can_join identity (Sub s) is few = tt
-can_join identity (XSub s) is few = tt
+module _ {P N O I : Type 0} (K : Known P O I N) {G S : Type 0} (d : Lent G N S) (order : IsOneOrder d) (distinct : AreDistinct K.exact (name_of d.items)) (i o j u : ℕ) (other : o ≢ u) (known : HasSocket (for_caller i d) (id o))
+    (theirs : HasSocket (for_caller j d) (id u)) (e : EndId) (h : Halves O I) (coming : coming_to d (slot_after u (moments_of (for_caller j d))).0 e ≡ true) (written : name_of d.items e ≡ Some (K.out_name h.out))
+    (read : name_of d.items (other_end e) ≡ Some (K.in_name h.input)) where
+  module _ (q : Place N I) (is : IsPlaceOf o (for_caller i d) q) where
+    pub its : IsOfIts o (for_caller i d) q.end q.written q.read
+    its = is.its
 
-drawn_taken : (e : EndId) (identity : List ℕ) (p : Pattern) → drawn_of (taken_in e identity p) ≤ drawn_of p + 1
-drawn_taken e identity (Push outs) = omega arith
-drawn_taken e identity (Pull ins) = omega arith
-drawn_taken e identity (Pair t) = omega arith
-drawn_taken e identity (Dealer t) = omega arith
-drawn_taken e identity (OfReq t duty) = omega arith
-drawn_taken e identity (Rep ins duty) = omega arith
-drawn_taken e [] (Router r) = omega arith
-drawn_taken e (octet ∷ octets) (Router r) = omega arith
-drawn_taken e identity (Pub p) = omega arith
-drawn_taken e identity (XPub p) = omega arith
-drawn_taken e identity (Sub s) = omega arith
-drawn_taken e identity (XSub s) = omega arith
+    pub ends : e ≢ q.end
+    ends same = other (sym (there (for_caller i d) o (one_order_of i d order) known q.end its.its).own ∙ ap (owner_of (control_of d.past)) (sym same) ∙ mine (for_caller j d) u (one_order_of j d order) theirs e coming)
 
-drawn_attached : (answer : Attached) (e : EndId) (identity : List ℕ) (p : Pattern) → drawn_of (attach_as answer e identity p) ≤ drawn_of p + 1
-drawn_attached Yes e identity p = drawn_taken e identity p
-drawn_attached BadId e identity p = omega arith
-drawn_attached Second e identity p = omega arith
+    -- a pipe that they write is none that the other read to its end
+    pub unsettled : q.held ≡ false → IsElse K (K.out_name h.out) q.read
+    unsettled gone = else_of K d distinct e (other_end q.end) (K.out_name h.out) q.read written its.read (λ same.
+        not_second (has_writer (place_of (control_of d.past) e)) (is_away (place_of (control_of d.past) e))
+        (ap (λ (x : EndId). is_out (place_of (control_of d.past) x)) same ∙ other_out (control_of d.past) (kept_now d order) q.end (is.gone gone)) (away (for_caller j d) u (one_order_of j d order) theirs e coming))
 
-drawn_gone : (e : EndId) (p : Pattern) → drawn_of (detach e p) ≡ drawn_of p
-drawn_gone e (Push outs) = refl
-drawn_gone e (Pull ins) = refl
-drawn_gone e (Pair t) = refl
-drawn_gone e (Dealer t) = refl
-drawn_gone e (OfReq t duty) = refl
-drawn_gone e (Rep ins duty) = refl
-drawn_gone e (Router r) = refl
-drawn_gone e (Pub p) = refl
-drawn_gone e (XPub p) = refl
-drawn_gone e (Sub s) = refl
-drawn_gone e (XSub s) = refl
-
-drawn_left : (es : List EndId) (p : Pattern) → drawn_of (detach_all es p) ≡ drawn_of p
-drawn_left [] p = refl
-drawn_left (e ∷ es) p = drawn_left es (detach e p) ∙ drawn_gone e p
-
--- ---- ends in order
-module _ {N : Type 0} where
-  all_join : (js : List (Joining N)) (p : Pattern) → All (λ j. IsIdentity j.peer) js → drawn_of p + length js ≤ most_drawn → CanJoinAll js p
-  all_join [] p tell few = tt
-  all_join (j ∷ js) p tell few =
-      let one = drawn_attached j.answer j.end j.peer p in (
-        can_join j.peer p (All-head (λ x. IsIdentity x.peer) j js tell) (omega (arith, few)),
-        all_join js (attach_as j.answer j.end j.peer p) (All-tail (λ x. IsIdentity x.peer) j js tell) (omega (arith, few, one)),
-      )
-
-  drawn_all : (js : List (Joining N)) (p : Pattern) → drawn_of (attach_all js p) ≤ drawn_of p + length js
-  drawn_all [] p = omega arith
-  drawn_all (j ∷ js) p =
-      let one = drawn_attached j.answer j.end j.peer p in
-      let rest = drawn_all js (attach_as j.answer j.end j.peer p) in
-      omega (arith, one, rest)
-
-module _ {N S : Type 0} (io : ℕ) (before : List (Item N S)) (item : Item N S) (o : ℕ) (comes_so : ComesTo io before item o) where
-  many : length (ends_of o (left_by (moment_at io before item))) ≡ length (ends_of o (left_before io before item o)) + length (came_with item)
-  many =
-      ap (λ (es : List EndId). length es) (item_goes io before item o comes_so).ends
-      ∙ length-append (ends_of o (left_before io before item o)) (map (λ j. j.end) (came_with item))
-      ∙ ap (λ (n : ℕ). length (ends_of o (left_before io before item o)) + n) (length-map (came_with item) (λ j. j.end))
-
-  few : AreFew o (left_by (moment_at io before item))
-  few = subst (AreFew o) (after_more before item (begun io)) (ends_are_few N S io (before ++ item ∷ []) comes_so.run o)
-
-  ends_join : TellIdentities before → (p : Pattern) → drawn_of p ≤ length (ends_of o (left_before io before item o)) → CanJoin io before item o p
-  ends_join tell p drawn = record {
-    all = all_join (came_with item) p
-        (item_tells (after_all before (begun io)) (says_over before (begun io) (begun_kept io) (run_before before item (begun io) comes_so.run) tell (begun_says io)) item (run_last before item (begun io) comes_so.run))
-        (let joined = many in let ends = few.ends in let pairs = few.pairs in omega (arith, drawn, joined, ends, pairs));
-    drawn = λ es. (let same = drawn_left es (attach_all (came_with item) p) in let more = drawn_all (came_with item) p in let joined = many in omega (arith, same, more, joined, drawn));
+  pub are_else : (from to : EndTable N O I) → ArePlacesOf o (for_caller i d) to.places.items → WereRead to.places.items to.settled.items → AreElseFrom K from to h
+  are_else from to places read_out = record {
+    outs = λ k q at wrote. else_of K d distinct e q.end (K.out_name h.out) q.written written (its q (places k q at)).written (ends q (places k q at));
+    unsettled = settled_were_read K to read_out (K.out_name h.out) (λ k q at gone. unsettled q (places k q at) gone);
+    ins = λ k q at had. else_of K d distinct (other_end e) (other_end q.end) (K.in_name h.input) q.read read (its q (places k q at)).read (across e q.end (ends q (places k q at)));
   }
 
-pub ends_can_join : (N S : Type 0) → EndsCanJoin N S
-ends_can_join N S io before item o comes_so tell p drawn = ends_join io before item o comes_so tell p drawn
+-- ---- and the ends of the socket itself
+module _ {P N O I : Type 0} (K : Known P O I N) {G S : Type 0} (d : Lent G N S) (order : IsOneOrder d) (distinct : AreDistinct K.exact (name_of d.items)) (j u : ℕ) (theirs : HasSocket (for_caller j d) (id u)) (e : EndId) (h : Halves O I)
+    (coming : coming_to d (slot_after u (moments_of (for_caller j d))).0 e ≡ true) (written : name_of d.items e ≡ Some (K.out_name h.out)) (read : name_of d.items (other_end e) ≡ Some (K.in_name h.input)) where
+  fresh : IsNoneOfIts u (for_caller j d) e
+  fresh = coming_ends_are_new G N S (for_caller j d) u (one_order_of j d order) theirs e coming
 
--- ---- calls
-sends_none : (can_write : EndId → Bool) (m : Frames) (old : Pattern) (x : SendOutcome) → SendsSo can_write m old x → drawn_of x.new ≡ drawn_of old
-sends_none can_write m (Push outs) x h = ap drawn_of h.2
-sends_none can_write m (Pull ins) x h = ap drawn_of h.2
-sends_none can_write m (Pair t) x h = ap drawn_of h.2
-sends_none can_write m (Dealer t) x h = ap drawn_of h.2
-sends_none can_write m (OfReq t duty) x h = ap drawn_of h.3
-sends_none can_write m (Rep ins duty) x h = ap drawn_of h.2
-sends_none can_write m (Router r) x h = ap drawn_of h.1
-sends_none can_write m (Pub p) x h = ap drawn_of h.1
-sends_none can_write m (XPub p) x h = ap drawn_of h.1
-sends_none can_write m (Sub s) x h = ap drawn_of h.2
-sends_none can_write m (XSub s) x h = ap drawn_of h.2
+  crossed : IsElse K (K.out_name h.out) (K.in_name h.input)
+  crossed = else_of K d distinct e (other_end e) (K.out_name h.out) (K.in_name h.input) written read (λ same. differ e.a (ap (λ (x : EndId). x.a) same))
+    where
+      differ : (b : Bool) → b ≡ not b → ⊥
+      differ true h = never (sym h)
+      differ false h = never h
 
-receives_none : (old : Pattern) (x : RecvOutcome) → ReceivesSo old x → drawn_of x.new ≡ drawn_of old
-receives_none (Push outs) x h = ap drawn_of h.1.2
-receives_none (Pull ins) x h = ap drawn_of h.1.2
-receives_none (Pair t) x h = ap drawn_of h.1.2
-receives_none (Dealer t) x h = ap drawn_of h.1.2
-receives_none (OfReq t duty) x h = ap drawn_of h.3
-receives_none (Rep ins duty) x h = ap drawn_of h.3
-receives_none (Router r) x h = ap drawn_of h.1.2
-receives_none (Pub p) x h = ap drawn_of h.1.2
-receives_none (XPub p) x h = ap drawn_of h.1.2
-receives_none (Sub s) x h = ap drawn_of h.2
-receives_none (XSub s) x h = ap drawn_of h.1.2
+  module _ (p : Place N I) (held : IsHeldBy u (for_caller j d) p) where
+    its_p : IsOfIts u (for_caller j d) p.end p.written p.read
+    its_p = held.its
 
-changes_none : (change : Change) (can_write : EndId → Bool) (topic : Topic) (old : Pattern) (x : ChangeOutcome) → ChangesSo change can_write topic old x → drawn_of x.new ≡ drawn_of old
-changes_none change can_write topic (Push outs) x h = ap drawn_of h.2
-changes_none change can_write topic (Pull ins) x h = ap drawn_of h.2
-changes_none change can_write topic (Pair t) x h = ap drawn_of h.2
-changes_none change can_write topic (Dealer t) x h = ap drawn_of h.2
-changes_none change can_write topic (OfReq t duty) x h = ap drawn_of h.2
-changes_none change can_write topic (Rep ins duty) x h = ap drawn_of h.2
-changes_none change can_write topic (Router r) x h = ap drawn_of h.2
-changes_none change can_write topic (Pub p) x h = ap drawn_of h.2
-changes_none change can_write topic (XPub p) x h = ap drawn_of h.2
-changes_none change can_write topic (Sub s) x h = ap drawn_of h.2
-changes_none change can_write topic (XSub s) x h = ap drawn_of h.2
+    apart : e ≢ p.end
+    apart = fresh.other p.end its_p.its
 
-pumps_none : (can_write : EndId → Bool) (old : Pattern) (x : PumpOutcome) → PumpsSo can_write old x → drawn_of x.new ≡ drawn_of old
-pumps_none can_write (Push outs) x h = ap drawn_of h.1
-pumps_none can_write (Pull ins) x h = ap drawn_of h.1
-pumps_none can_write (Pair t) x h = ap drawn_of h.1
-pumps_none can_write (Dealer t) x h = ap drawn_of h.1
-pumps_none can_write (OfReq t duty) x h = ap drawn_of h.1
-pumps_none can_write (Rep ins duty) x h = ap drawn_of h.1
-pumps_none can_write (Router r) x h = ap drawn_of h.1
-pumps_none can_write (Pub p) x h = ap drawn_of h.2
-pumps_none can_write (XPub p) x h = ap drawn_of h.2
-pumps_none can_write (Sub s) x h = ap drawn_of h.2
-pumps_none can_write (XSub s) x h = ap drawn_of h.2
+    beyond : e ≢ other_end p.end
+    beyond = fresh.across p.end its_p.its
 
-pub calls_draw_none : CallsDrawNone
-calls_draw_none = record { sends = sends_none; receives = receives_none; changes = changes_none; pumps = pumps_none }
+    before : p.end ≢ other_end e
+    before same = beyond (sym (other_twice e) ∙ ap other_end (sym same))
 
--- ---- an item of an open socket makes none and shakes no hand
-asks_none : (c : Control) (o : ℕ) (req : Req) → is_socket (obj c.rows o).kind ≡ true → asker req ≡ Some o → MayAsk c req → TellsIdentity req
-asks_none c o (MakeSocket kind options) socket is may_ask = absurd (none_some is)
-asks_none c o AskTerm socket is may_ask = tt
-asks_none c o (Bind p at) socket is may_ask = tt
-asks_none c o (Connect p at) socket is may_ask = tt
-asks_none c o (Unbind p at) socket is may_ask = tt
-asks_none c o (Disconnect p at) socket is may_ask = tt
-asks_none c o (Close p) socket is may_ask = tt
-asks_none c o (Accepted p) socket is may_ask = tt
-asks_none c o (Shaken p peer) socket is may_ask =
-    absurd (never (sym (session_is (obj c.rows p.0).kind may_ask.session) ∙ (ap (λ (n : ℕ). is_socket (obj c.rows n).kind) (some_is is) ∙ socket)))
-asks_none c o (AskEnd e reason) socket is may_ask = tt
-asks_none c o (AskOver p) socket is may_ask = tt
-asks_none c o (OutputOver p) socket is may_ask = tt
+    is_else : IsElseOf K p h
+    is_else = record {
+      outs = λ writes. (else_of K d distinct p.end e p.written (K.out_name h.out) its_p.written written (λ same. apart (sym same)), else_of K d distinct e p.end (K.out_name h.out) p.written written its_p.written apart);
+      ins = (
+        else_of K d distinct (other_end p.end) (other_end e) p.read (K.in_name h.input) its_p.read read (across p.end e (λ same. apart (sym same))),
+        else_of K d distinct (other_end e) (other_end p.end) (K.in_name h.input) p.read read its_p.read (across e p.end apart),
+      );
+      reads = else_of K d distinct e (other_end p.end) (K.out_name h.out) p.read written its_p.read beyond;
+      writes = λ writes. else_of K d distinct p.end (other_end e) p.written (K.in_name h.input) its_p.written read before;
+    }
 
-module _ {N S : Type 0} where
-  tells_snoc : (items : List (Item N S)) (item : Item N S) → TellIdentities items → TellIdentities (item ∷ []) → TellIdentities (items ++ item ∷ [])
-  tells_snoc [] item tell one = one
-  tells_snoc (Event entry ∷ items) item tell one = (tell.0, tells_snoc items item tell.1 one)
-  tells_snoc (Seen sight ∷ items) item tell one = tells_snoc items item tell one
+  -- halves of pipes that are there, and not sealed, may join it
+  pub joins_by : (pipes : P) (ps : List (Place N I)) → AreHeldBy u (for_caller j d) ps → IsThere K pipes (K.out_name h.out) → IsThere K pipes (K.in_name h.input) → (K.writing pipes h.out).sealed ≡ false → Fits K pipes ps h
+  joins_by pipes ps held out_there in_there unsealed = record {
+    out_there = out_there;
+    in_there = in_there;
+    unsealed = unsealed;
+    crossed = crossed;
+    others = λ k p at is_held. is_else p (held k p at is_held);
+  }
 
-  did_none : (c : Control) (o : ℕ) (did : Did N S) → is_socket (obj c.rows o).kind ≡ true → IsOf o c did → Fits c did → TellsIdentityIn did
-  did_none c o (Asked req reply h) socket is fits_so = asks_none c o req socket is fits_so.may.0
-  did_none c o (Delivered slot letter h) socket is fits_so = tt
-  did_none c o (Delimited e h) socket is fits_so = tt
-
-  item_none : (io : ℕ) (before : List (Item N S)) (item : Item N S) (o : ℕ) → ComesTo io before item o → TellIdentities (item ∷ [])
-  item_none io before (Event entry) o comes_so =
-      (did_none (after_all before (begun io)) o entry.did (had io before entry.by o (open_before io before (Event entry) o comes_so)).open_socket.socket comes_so.of_it (run_last before (Event entry) (begun io) comes_so.run), tt)
-  item_none io before (Seen sight) o comes_so = tt
-
-pub identities_go_on : (N S : Type 0) → IdentitiesGoOn N S
-identities_go_on N S io before item o comes_so tell = tells_snoc before item tell (item_none io before item o comes_so)
+pub coming_join_still : (C W : Type 0) {P N O I : Type 0} (K : Known P O I N) (G S : Type 0) → ComingJoinStill C W K G S
+coming_join_still C W K G S old new order distinct i o j u other known theirs was now t before behind leaves places read_out sends binds e h coming written read =
+    let may = binds e h (sends.coming e coming) (sym (sends.written e coming) ∙ written) (sym (sends.read e coming) ∙ read) in
+    others_join K (Some was) (Some now) (Some t) (Some t) before behind h leaves (are_else K new order distinct i o j u other known theirs e h coming written read was.ends now.ends places read_out, may.others) may

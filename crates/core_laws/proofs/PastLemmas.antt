@@ -1,274 +1,126 @@
--- The steps past, where pipes are made, sealed and settled.
-use Rattle.std.specs.Prelude.{◌≡◌, ◌≢◌, ◌||◌, ℕ, Bool, true, false, List, [], ◌∷◌, ◌++◌, Option, Some, None, refl}
-use Rattle.std.proofs.Common.{arith, sym, ap, ◌∙◌, subst, append-nil, true≢false}
-use Rattle.std.proofs.lemmas.List.Elements.{filter_map-append}
-use Rattle.std.proofs.lemmas.List.Folds.{list_any-append}
-use Rattle.zq_base.specs.declared.ids.EndId.{EndId}
+-- The steps past stand with that of a look of the reaper's, which is at no open socket's end.
+use Rattle.std.specs.Prelude.{◌≡◌, ◌<◌, ◌++◌, ◌∷◌, [], ℕ, Bool, true, false, List, Option, None, Some, if◌then◌else◌, refl}
+use Rattle.std.proofs.Common.{sym, ap, ◌∙◌, subst}
 use Rattle.zq_base.specs.Ends.{PipeId}
-use Rattle.spec_pattern.specs.PipeStep.{PipeStep, Commit, FullLook, Take, EmptyLook, DelimiterLook, WaitingLook, Seal, same_pipe, committed_by, taken_by, sealed_by, committed_to, taken_from, sealed_in, AreExact}
-use Rattle.spec_pattern.specs.Half.{Writing, Reading, with_delimiter, without_parts}
-use Rattle.spec_pattern.proofs.Exact.{same_pipes}
-use Rattle.msg_pipe.specs.Known.{Known, IsThere, KeepsAll, KeepsButOut, KeepsButPipe, MakesPipe}
-use Rattle.ends.specs.Past.{OneName, Stands, IsPast}
-use Rattle.ends.proofs.RowLemmas.{some_same}
-use Rattle.ends.proofs.StepLemmas.{own_pipe, or_false, exact_more}
-use Rattle.spec_control.specs.Control.{begun, is_end}
-use Rattle.control_laws.proofs.AskLemmas.{end_self, same_end}
+use Rattle.zq_base.specs.declared.ids.EndId.{EndId}
+use Rattle.spec_pattern.specs.PipeStep.{PipeStep, read_through}
+use Rattle.spec_control.specs.declared.entry.Item.{Item}
+use Rattle.spec_control.specs.Stage.{is_used}
+use Rattle.spec_control.specs.Place.{is_here}
+use Rattle.spec_control.specs.Rows.{obj}
+use Rattle.spec_control.specs.Control.{Control, begun, next_pair, owner_of, place_of}
 use Rattle.spec_control.specs.ControlRun.{after_all}
-use Rattle.spec_run.specs.OwnedRun.{pipe_capacity}
-use Rattle.run_laws.specs.CapacitiesStay.{CapacitiesStay, StepsStayExact}
-use Rattle.core_laws.specs.Past.{HasNoStep, goes_without, goes_with, AreFewer, PastGoesOn, PastStaysOver}
+use Rattle.spec_control.specs.Names.{name_of}
+use Rattle.spec_run.specs.OwnedRun.{settlement_of, AreCountedBy}
+use Rattle.run_laws.specs.CapacitiesStay.{pipe_at}
+use Rattle.control_laws.proofs.ListLemmas.{never}
+use Rattle.spec_control.specs.Held.{items_by}
+use Rattle.spec_control.specs.Has.{has_after}
+use Rattle.spec_control.specs.OwnAsks.{known_after}
+use Rattle.control_laws.proofs.MomentLemmas.{own_moments}
+use Rattle.msg_pipe.specs.Known.{Known}
+use Rattle.msg_pipe.specs.Told.{front_step}
+use Rattle.msg_pipe.specs.declared.pipes.Front.{Front}
+use Rattle.msg_pipe.specs.declared.pipes.Front.TheVariants.{Message, Empty, Delimiter}
+use Rattle.ctl_moves.proofs.HeldLemmas.{other_twice}
+use Rattle.desk.specs.declared.given.Given.{Given}
+use Rattle.ctl_plane.specs.Past.{control_of}
+use Rattle.socket_laws.specs.Sides.{is_shut, step_end, IsDoneAt}
+use Rattle.socket_laws.proofs.CountedLemmas.{counts_go_on}
+use Rattle.socket_laws.specs.Standing.{open_by, opens_in, PastStands}
+use Rattle.socket_laws.specs.Settled.{PipesAreSettled}
+use Rattle.socket_laws.proofs.OfPipesLemmas.{here_not_gone}
+use Rattle.closed_ends.specs.declared.sockets.ClosedSockets.{ClosedSockets}
+use Rattle.closed_ends.specs.Has.{all_ends, holding_in}
+use Rattle.core_laws.specs.Looks.{ReaperLooksGoOn}
+use Rattle.plain_desk.specs.Lent.{IsOneOrder, Lent}
+use Rattle.socket_laws.proofs.SocketLemmas.{is_in}
+use Rattle.core_laws.specs.Calls.{for_caller}
+use Rattle.core_laws.proofs.SilentLemmas.{one_order_of}
+use Rattle.core_laws.specs.ReapedCall.{IsReapersCall}
+use Rattle.core_laws.specs.ReapedComing.{HasOnlyTaken}
+use Rattle.core_laws.proofs.HadLemmas.{had_by, sockets_had}
+use Rattle.core_laws.proofs.LedLemmas.{is_still, IsStill}
+use Rattle.core_laws.specs.Looked.{LooksAreShut, LooksStand, ReaperLooked}
+use Rattle.core_laws.proofs.LookLemmas.{at_end, is_among, looked}
+use Rattle.core_laws.proofs.OnlyLemmas.{still_used}
+use Rattle.core_laws.proofs.ReapedLemmas.{of_one}
 
-none_some : {X : Type 0} {x : X} → None ≡ Some x → ⊥
-none_some e = Prim.grind arith
+front_at : (p : PipeId) (found : Front) → pipe_at (front_step p found) ≡ p
+front_at p Message = refl
+front_at p Empty = refl
+front_at p Delimiter = refl
 
--- ---- names
+front_end : (e : EndId) (found : Front) → step_end (front_step (read_through e) found) ≡ e
+front_end e Message = other_twice e
+front_end e Empty = other_twice e
+front_end e Delimiter = other_twice e
 
-module _ {N : Type 0} where
-  -- what a name without a pipe's, or with it, says
-  without_said : (p q : PipeId) (goes : PipeId → Option N) (n : N) → goes_without p goes q ≡ Some n → (is_end q p ≡ false) × (goes q ≡ Some n)
-  without_said p q goes n e = by (is_end q p) refl
-    where
-      by : (b : Bool) → is_end q p ≡ b → (is_end q p ≡ false) × (goes q ≡ Some n)
-      by true h = absurd (none_some (subst (λ (o : Option N). o ≡ Some n) (rw h refl) e))
-      by false h = (h, subst (λ (o : Option N). o ≡ Some n) (rw h refl) e)
+module _ {S O I N T : Type 0} (K : Known S O I N) (d : Lent (Given N O I) N T) (before behind : S) (from : ClosedSockets N O I) (l : ReaperLooked K d before behind from) where
+  order : IsOneOrder d
+  order = l.order
 
-  one_without : (p : PipeId) (goes : PipeId → Option N) → OneName goes → OneName (goes_without p goes)
-  one_without p goes one q r n x y = one q r n (without_said p q goes n x).1 (without_said p r goes n y).1
+  module _ (settled : PipesAreSettled N T) where
+    unsettled : settlement_of (control_of d.past) (read_through l.end) ≡ None
+    unsettled =
+        let run = order.order in
+        subst (λ (c : Control). settlement_of c (read_through l.end) ≡ None) (sym order.control)
+        (settled.read d.past.workers d.items run.run l.end
+        (here_not_gone (place_of (after_all d.items (begun d.past.workers)) l.end) (subst (λ (c : Control). is_here (place_of c l.end) ≡ true) order.control (at_end K d before behind from l).here)))
 
-  data Says (p q : PipeId) (m : N) (goes : PipeId → Option N) (n : N) : Type 0 where
-    here : q ≡ p → n ≡ m → Says p q m goes n
-    else_where : is_end q p ≡ false → goes q ≡ Some n → Says p q m goes n
+    past_on : ReaperLooksGoOn K → (past : List PipeStep) → PastStands K (control_of d.past) (name_of d.items) before past → PastStands K (control_of d.past) (name_of d.items) behind (past ++ front_step (read_through l.end) l.found ∷ [])
+    past_on go past stands =
+        go (control_of d.past) (name_of d.items) l.names.made before behind past l.object l.end l.found (holding_in K.out_name K.in_name from)
+        ((at_end K d before behind from l).named ∙ sym (looked K d before behind from l).reads) unsettled (looked K d before behind from l) stands
 
-  with_said : (p q : PipeId) (m : N) (goes : PipeId → Option N) (n : N) → goes_with p m goes q ≡ Some n → Says p q m goes n
-  with_said p q m goes n e = by (is_end q p) refl
-    where
-      by : (b : Bool) → is_end q p ≡ b → Says p q m goes n
-      by true h = here (same_end q p h) (sym (some_same m n (subst (λ (o : Option N). o ≡ Some n) (rw h refl) e)))
-      by false h = else_where h (subst (λ (o : Option N). o ≡ Some n) (rw h refl) e)
+    counted_on : (past : List PipeStep) → AreCountedBy past (control_of d.past).settlements → AreCountedBy (past ++ front_step (read_through l.end) l.found ∷ []) (control_of d.past).settlements
+    counted_on past counted =
+        counts_go_on.steps (control_of d.past) past (front_step (read_through l.end) l.found ∷ []) counted
+        (ap (settlement_of (control_of d.past)) (front_at (read_through l.end) l.found) ∙ unsettled, tt)
 
-  one_with : (p : PipeId) (m : N) (goes : PipeId → Option N) → OneName goes → ((q : PipeId) (n : N) → goes q ≡ Some n → n ≢ m) → OneName (goes_with p m goes)
-  one_with p m goes one new q r n x y = by (with_said p q m goes n x) (with_said p r m goes n y)
-    where
-      by : Says p q m goes n → Says p r m goes n → q ≡ r
-      by (here e f) (here g h) = e ∙ sym g
-      by (here e f) (else_where g h) = absurd (new r n h f)
-      by (else_where e f) (here g h) = absurd (new q n f h)
-      by (else_where e f) (else_where g h) = one q r n f h
+  module _ (new : Lent (Given N O I) N T) (call : IsReapersCall d new) (only : HasOnlyTaken d.caller d) where
+    still : IsStill d new call l.end (at_end K d before behind from l).here
+    still = is_still d new call l.end (at_end K d before behind from l).here
 
-  -- another pipe goes by another name
-  other_name : (goes : PipeId → Option N) (p : PipeId) (n : N) → OneName goes → goes p ≡ Some n → (q : PipeId) (m : N) → same_pipe q p ≡ false → goes q ≡ Some m → m ≢ n
-  other_name goes p n one named q m apart gq same =
-      let is_p : q ≡ p = one q p m gq (named ∙ ap Some (sym same)) in
-      absurd (true≢false (sym (own_pipe p) ∙ ap (λ (x : PipeId). same_pipe x p) (sym is_p) ∙ apart))
+    -- its socket is the reaper's
+    had : has_after (owner_of (control_of d.past) l.end) d.items ≡ Some d.caller
+    had =
+        of_one (λ x. has_after (owner_of (control_of d.past) x) d.items ≡ Some d.caller) l.end (all_ends from.sockets.items)
+        (λ k g lt. had_by d order (holding_in K.out_name K.in_name from) l.has _ (sockets_had K d order before from l.sound l.has k g lt)) (is_among K d before behind from l)
 
--- ---- no step was made at a pipe that is new
+    used : is_used (obj (control_of new.past).rows (owner_of (control_of new.past) l.end)).request ≡ true
+    used =
+        ap (λ (i : ℕ). is_used (obj (control_of new.past).rows i).request) still.own
+        ∙ still_used d new order call.behind call.grows d.caller only (owner_of (control_of d.past) l.end) had
 
-none_past : (p : PipeId) (past : List PipeStep) → HasNoStep p past → (committed_to p past ≡ []) × ((taken_from p past ≡ []) × (sealed_in p past ≡ false))
-none_past p [] all = (refl, (refl, refl))
-none_past p (Commit q m ∷ past) all = rw all.0 (none_past p past all.1)
-none_past p (FullLook q ∷ past) all = none_past p past all.1
-none_past p (Take q m ∷ past) all = rw all.0 (none_past p past all.1)
-none_past p (EmptyLook q ∷ past) all = none_past p past all.1
-none_past p (DelimiterLook q ∷ past) all = none_past p past all.1
-none_past p (WaitingLook q ∷ past) all = none_past p past all.1
-none_past p (Seal q ∷ past) all = rw all.0 (none_past p past all.1)
-
-module _ {S O I N : Type 0} (K : Known S O I N) where
-  -- a pipe stands still where what its halves know is as before
-  stands_still : (goes more : PipeId → Option N) (capacity now : PipeId → ℕ) (old new : S) (past : List PipeStep) (p : PipeId) (n : N) (was : Stands K goes capacity old past p n) →
-      IsThere K new n → K.writing new was.out ≡ K.writing old was.out → K.reading new was.input ≡ K.reading old was.input → now p ≡ capacity p → Stands K more now new past p n
-  stands_still goes more capacity now old new past p n was there writes reads same = record {
-    out = was.out;
-    input = was.input;
-    out_is = was.out_is;
-    in_is = was.in_is;
-    there = there;
-    committed = ap (λ (w : Writing). w.committed) writes ∙ was.committed;
-    taken = ap (λ (r : Reading). r.taken) reads ∙ was.taken;
-    capacity_is = ap (λ (w : Writing). w.capacity) writes ∙ was.capacity_is ∙ sym same;
-    sealed_is = ap (λ (w : Writing). w.sealed) writes ∙ was.sealed_is;
-  }
-
-  out_there : (goes : PipeId → Option N) (capacity : PipeId → ℕ) (old : S) (past : List PipeStep) (p : PipeId) (n : N) (was : Stands K goes capacity old past p n) → IsThere K old (K.out_name was.out)
-  out_there goes capacity old past p n was = subst (IsThere K old) (sym was.out_is) was.there
-
-  in_there : (goes : PipeId → Option N) (capacity : PipeId → ℕ) (old : S) (past : List PipeStep) (p : PipeId) (n : N) (was : Stands K goes capacity old past p n) → IsThere K old (K.in_name was.input)
-  in_there goes capacity old past p n was = subst (IsThere K old) (sym was.in_is) was.there
-
-  past_kept : (goes : PipeId → Option N) (capacity : PipeId → ℕ) (old new : S) (past : List PipeStep) → KeepsAll K old new → IsPast K goes capacity old past → IsPast K goes capacity new past
-  past_kept goes capacity old new past keeps is = record { stands = stands; exact = is.exact }
-    where
-      stands : (p : PipeId) (n : N) → goes p ≡ Some n → Stands K goes capacity new past p n
-      stands p n g =
-          let was = is.stands p n g in
-          stands_still goes goes capacity capacity old new past p n was (keeps.there n was.there)
-          (keeps.outs was.out (out_there goes capacity old past p n was)) (keeps.ins was.input (in_there goes capacity old past p n was)) refl
-
-  past_fewer : (goes fewer : PipeId → Option N) (capacity : PipeId → ℕ) (old new : S) (past : List PipeStep) (gone : N) → AreFewer goes fewer gone → KeepsButPipe K gone old new
-      → IsPast K goes capacity old past → IsPast K fewer capacity new past
-  past_fewer goes fewer capacity old new past gone are keeps is = record { stands = stands; exact = is.exact }
-    where
-      stands : (p : PipeId) (n : N) → fewer p ≡ Some n → Stands K fewer capacity new past p n
-      stands p n g =
-          let was = is.stands p n (are.were p n g) in
-          stands_still goes fewer capacity capacity old new past p n was (keeps.there n was.there)
-          (keeps.outs was.out (out_there goes capacity old past p n was) (λ exact same. are.others p n g (sym was.out_is ∙ same)))
-          (keeps.ins was.input (in_there goes capacity old past p n was) (λ exact same. are.others p n g (sym was.in_is ∙ same))) refl
-
-  past_settled : (goes : PipeId → Option N) (capacity : PipeId → ℕ) (old new : S) (past : List PipeStep) (p : PipeId) (n : N) → OneName goes → goes p ≡ Some n → KeepsButPipe K n old new
-      → IsPast K goes capacity old past → IsPast K (goes_without p goes) capacity new past × OneName (goes_without p goes)
-  past_settled goes capacity old new past p n one g keeps is =
-      (past_fewer goes (goes_without p goes) capacity old new past n (record { were = λ q m e. (without_said p q goes m e).1; others = others }) keeps is, one_without p goes one)
-    where
-      others : (q : PipeId) (m : N) → goes_without p goes q ≡ Some m → m ≢ n
-      others q m e same =
-          let said = without_said p q goes m e in
-          let is_p : q ≡ p = one q p m said.1 (g ∙ ap Some (sym same)) in
-          absurd (true≢false (sym (end_self p) ∙ ap (λ (d : EndId). is_end d p) (sym is_p) ∙ said.0))
-
-  past_capacities : (goes : PipeId → Option N) (capacity now : PipeId → ℕ) (pipes : S) (past : List PipeStep) → ((p : PipeId) (n : N) → goes p ≡ Some n → now p ≡ capacity p) → AreExact now [] past
-      → IsPast K goes capacity pipes past → IsPast K goes now pipes past
-  past_capacities goes capacity now pipes past same exact is = record {
-    stands = λ p n g. stands_still goes goes capacity now pipes pipes past p n (is.stands p n g) (is.stands p n g).there refl refl (same p n g);
-    exact = exact;
-  }
-
-  module _ (is_exact : K.exact ≡ true) where
-    past_made : (goes : PipeId → Option N) (capacity : PipeId → ℕ) (old new : S) (past : List PipeStep) (p : PipeId) (o : O) (i : I) → OneName goes → MakesPipe K (capacity p) o i old new → KeepsAll K old new
-        → HasNoStep p past → IsPast K goes capacity old past → IsPast K (goes_with p (K.out_name o) goes) capacity new past × OneName (goes_with p (K.out_name o) goes)
-    past_made goes capacity old new past p o i one makes keeps untouched is =
-        (record { stands = λ q n e. stands q n (with_said p q (K.out_name o) goes n e); exact = is.exact }, one_with p (K.out_name o) goes one new_name)
+    shut : is_shut (opens_in new.items (owner_of (control_of new.past) l.end)) ≡ true
+    shut = by (has_after (owner_of (control_of new.past) l.end) new.items)
       where
-        new_name : (q : PipeId) (n : N) → goes q ≡ Some n → n ≢ K.out_name o
-        new_name q n g same = makes.is_new is_exact (subst (IsThere K old) same (is.stands q n g).there)
+        open_to : (k : ℕ) → (known_after (owner_of (control_of new.past) l.end) (items_by k new.items)).open_socket ≡ true → ⊥
+        open_to k known =
+            let is = is_in (for_caller k new) (one_order_of k new call.behind) (owner_of (control_of new.past) l.end) (ap (λ (xs : List (Item N T)). (known_after (owner_of (control_of new.past) l.end) xs).open_socket) (own_moments k new.items (begun new.past.workers)) ∙ known) in
+            let open_now = is.open_now in
+            never (sym (ap is_used open_now.open_still) ∙ used)
 
-        none : (committed_to p past ≡ []) × ((taken_from p past ≡ []) × (sealed_in p past ≡ false))
-        none = none_past p past untouched
+        if_open : (k : ℕ) (b : Bool) → (known_after (owner_of (control_of new.past) l.end) (items_by k new.items)).open_socket ≡ b → is_shut (if b then Some k else None) ≡ true
+        if_open k true is = absurd (open_to k is)
+        if_open k false is = refl
 
-        first : Stands K (goes_with p (K.out_name o) goes) capacity new past p (K.out_name o)
-        first = record {
-          out = o;
-          input = i;
-          out_is = refl;
-          in_is = makes.one_name;
-          there = makes.there;
-          committed = ap (λ (w : Writing). w.committed) makes.writing_is ∙ sym none.0;
-          taken = ap (λ (r : Reading). r.taken) makes.reading_is ∙ sym none.1.0;
-          capacity_is = ap (λ (w : Writing). w.capacity) makes.writing_is;
-          sealed_is = ap (λ (w : Writing). w.sealed) makes.writing_is ∙ sym none.1.1;
-        }
+        by : (h : Option ℕ) → is_shut (open_by h (owner_of (control_of new.past) l.end) new.items) ≡ true
+        by None = refl
+        by (Some k) = if_open k (known_after (owner_of (control_of new.past) l.end) (items_by k new.items)).open_socket refl
 
-        stands : (q : PipeId) (n : N) → Says p q (K.out_name o) goes n → Stands K (goes_with p (K.out_name o) goes) capacity new past q n
-        stands q n (here e f) =
-            subst (λ (r : PipeId). Stands K (goes_with p (K.out_name o) goes) capacity new past r n) (sym e)
-            (subst (Stands K (goes_with p (K.out_name o) goes) capacity new past p) (sym f) first)
-        stands q n (else_where e g) =
-            let was = is.stands q n g in
-            stands_still goes (goes_with p (K.out_name o) goes) capacity capacity old new past q n was (keeps.there n was.there)
-            (keeps.outs was.out (out_there goes capacity old past q n was)) (keeps.ins was.input (in_there goes capacity old past q n was)) refl
-
-    past_pair : (goes : PipeId → Option N) (capacity : PipeId → ℕ) (old mid new : S) (past : List PipeStep) (p q : PipeId) (o u : O) (i j : I) → OneName goes
-        → MakesPipe K (capacity p) o i old mid → KeepsAll K old mid → MakesPipe K (capacity q) u j mid new → KeepsAll K mid new → HasNoStep p past → HasNoStep q past → IsPast K goes capacity old past
-        → IsPast K (goes_with q (K.out_name u) (goes_with p (K.out_name o) goes)) capacity new past × OneName (goes_with q (K.out_name u) (goes_with p (K.out_name o) goes))
-    past_pair goes capacity old mid new past p q o u i j one first kept then kept_then none none_then is =
-        let a = past_made goes capacity old mid past p o i one first kept none is in
-        past_made (goes_with p (K.out_name o) goes) capacity mid new past q u j a.1 then kept_then none_then a.0
-
-    past_sealed : (one_out : (s : S) (o p : O) → K.out_name o ≡ K.out_name p → K.writing s o ≡ K.writing s p)
-        → (goes : PipeId → Option N) (capacity : PipeId → ℕ) (old new : S) (past : List PipeStep) (p : PipeId) (lent back : O) → OneName goes → goes p ≡ Some (K.out_name lent)
-        → (K.writing old lent).sealed ≡ false → K.writing new back ≡ with_delimiter (K.writing old lent) → KeepsButOut K lent back old new
-        → IsPast K goes capacity old past → IsPast K goes capacity new (past ++ Seal p ∷ [])
-    past_sealed one_out goes capacity old new past p lent back one named unsealed seals keeps is = record {
-      stands = λ q n g. stands q n (same_pipe q p) refl g;
-      exact = exact_more capacity [] past (Seal p) is.exact (sym mine.sealed_is ∙ ap (λ (w : Writing). w.sealed) (one_out old mine.out lent mine.out_is) ∙ unsealed);
-    }
-      where
-        mine : Stands K goes capacity old past p (K.out_name lent)
-        mine = is.stands p (K.out_name lent) named
-
-        -- what a pipe holds is as before, and one is sealed
-        goes_on : (q : PipeId) (n : N) (was : Stands K goes capacity old past q n) → (K.writing new was.out).committed ≡ (K.writing old was.out).committed → (K.writing new was.out).capacity ≡ (K.writing old was.out).capacity
-            → K.reading new was.input ≡ K.reading old was.input → (K.writing new was.out).sealed ≡ ((K.writing old was.out).sealed || same_pipe q p) → Stands K goes capacity new (past ++ Seal p ∷ []) q n
-        goes_on q n was commits fits reads sealed = record {
-          out = was.out;
-          input = was.input;
-          out_is = was.out_is;
-          in_is = was.in_is;
-          there = keeps.there n was.there;
-          committed = commits ∙ was.committed ∙ sym (append-nil (committed_to q past)) ∙ sym (filter_map-append (committed_by q) past (Seal p ∷ []));
-          taken = ap (λ (r : Reading). r.taken) reads ∙ was.taken ∙ sym (append-nil (taken_from q past)) ∙ sym (filter_map-append (taken_by q) past (Seal p ∷ []));
-          capacity_is = fits ∙ was.capacity_is;
-          sealed_is = sealed ∙ ap (λ (b : Bool). b || same_pipe q p) was.sealed_is ∙ ap (λ (b : Bool). sealed_in q past || b) (sym (or_false (same_pipe q p))) ∙ sym (list_any-append (sealed_by q) past (Seal p ∷ []));
-        }
-
-        or_true : (b : Bool) → (b || true) ≡ true
-        or_true true = refl
-        or_true false = refl
-
-        stands : (q : PipeId) (n : N) (b : Bool) → same_pipe q p ≡ b → goes q ≡ Some n → Stands K goes capacity new (past ++ Seal p ∷ []) q n
-        stands q n true h g =
-            let was = is.stands q n g in
-            let name : n ≡ K.out_name lent = some_same n (K.out_name lent) (sym g ∙ ap goes (same_pipes q p h) ∙ named) in
-            let before : K.writing old was.out ≡ K.writing old lent = one_out old was.out lent (was.out_is ∙ name) in
-            let now : K.writing new was.out ≡ with_delimiter (K.writing old lent) = one_out new was.out back (was.out_is ∙ name ∙ sym keeps.name_is) ∙ seals in
-            goes_on q n was (ap (λ (w : Writing). w.committed) now ∙ ap (λ (w : Writing). w.committed) (sym before)) (ap (λ (w : Writing). w.capacity) now ∙ ap (λ (w : Writing). w.capacity) (sym before))
-            (keeps.ins was.input (in_there goes capacity old past q n was))
-            (ap (λ (w : Writing). w.sealed) now ∙ sym (or_true (K.writing old was.out).sealed) ∙ ap (λ (b : Bool). (K.writing old was.out).sealed || b) (sym h))
-        stands q n false h g =
-            let was = is.stands q n g in
-            let writes = keeps.outs was.out (out_there goes capacity old past q n was) (λ exact same. other_name goes p (K.out_name lent) one named q n h g (sym was.out_is ∙ same)) in
-            goes_on q n was (ap (λ (w : Writing). w.committed) writes) (ap (λ (w : Writing). w.capacity) writes) (keeps.ins was.input (in_there goes capacity old past q n was))
-            (ap (λ (w : Writing). w.sealed) writes ∙ sym (or_false (K.writing old was.out).sealed) ∙ ap (λ (b : Bool). (K.writing old was.out).sealed || b) (sym h))
-
-    past_parted : (one_out : (s : S) (o p : O) → K.out_name o ≡ K.out_name p → K.writing s o ≡ K.writing s p)
-        → (goes : PipeId → Option N) (capacity : PipeId → ℕ) (old new : S) (past : List PipeStep) (p : PipeId) (lent back : O) → OneName goes → goes p ≡ Some (K.out_name lent)
-        → K.writing new back ≡ without_parts (K.writing old lent) → KeepsButOut K lent back old new
-        → IsPast K goes capacity old past → IsPast K goes capacity new past
-    past_parted one_out goes capacity old new past p lent back one named parts keeps is = record { stands = λ q n g. stands q n (same_pipe q p) refl g; exact = is.exact }
-      where
-        -- but for its parts, a writing half knows what it knew
-        goes_on : (q : PipeId) (n : N) (was : Stands K goes capacity old past q n) → (K.writing new was.out).committed ≡ (K.writing old was.out).committed → (K.writing new was.out).capacity ≡ (K.writing old was.out).capacity
-            → (K.writing new was.out).sealed ≡ (K.writing old was.out).sealed → Stands K goes capacity new past q n
-        goes_on q n was commits fits sealed = record {
-          out = was.out;
-          input = was.input;
-          out_is = was.out_is;
-          in_is = was.in_is;
-          there = keeps.there n was.there;
-          committed = commits ∙ was.committed;
-          taken = ap (λ (r : Reading). r.taken) (keeps.ins was.input (in_there goes capacity old past q n was)) ∙ was.taken;
-          capacity_is = fits ∙ was.capacity_is;
-          sealed_is = sealed ∙ was.sealed_is;
-        }
-
-        stands : (q : PipeId) (n : N) (b : Bool) → same_pipe q p ≡ b → goes q ≡ Some n → Stands K goes capacity new past q n
-        stands q n true h g =
-            let was = is.stands q n g in
-            let name : n ≡ K.out_name lent = some_same n (K.out_name lent) (sym g ∙ ap goes (same_pipes q p h) ∙ named) in
-            let before : K.writing old was.out ≡ K.writing old lent = one_out old was.out lent (was.out_is ∙ name) in
-            let now : K.writing new was.out ≡ without_parts (K.writing old lent) = one_out new was.out back (was.out_is ∙ name ∙ sym keeps.name_is) ∙ parts in
-            goes_on q n was (ap (λ (w : Writing). w.committed) now ∙ ap (λ (w : Writing). w.committed) (sym before)) (ap (λ (w : Writing). w.capacity) now ∙ ap (λ (w : Writing). w.capacity) (sym before))
-            (ap (λ (w : Writing). w.sealed) now ∙ ap (λ (w : Writing). w.sealed) (sym before))
-        stands q n false h g =
-            let was = is.stands q n g in
-            let writes = keeps.outs was.out (out_there goes capacity old past q n was) (λ exact same. other_name goes p (K.out_name lent) one named q n h g (sym was.out_is ∙ same)) in
-            goes_on q n was (ap (λ (w : Writing). w.committed) writes) (ap (λ (w : Writing). w.capacity) writes) (ap (λ (w : Writing). w.sealed) writes)
-
-    pub past_goes_on : ((s : S) (o p : O) → K.out_name o ≡ K.out_name p → K.writing s o ≡ K.writing s p) → PastGoesOn K
-    past_goes_on one_out = record {
-      kept = past_kept;
-      settled = past_settled;
-      fewer = past_fewer;
-      made = past_made;
-      sealed = past_sealed one_out;
-      parted = past_parted one_out;
-      pair = past_pair;
-      capacities = past_capacities;
+    pub is_shut_at : IsDoneAt (control_of new.past) (λ i. is_shut (opens_in new.items i) ≡ true) (front_step (read_through l.end) l.found)
+    is_shut_at = record {
+      made = subst (λ (e : EndId). e.pair.0 < next_pair (control_of new.past)) (sym (front_end l.end l.found)) still.numbered;
+      owner = λ other. subst (λ (e : EndId). is_shut (opens_in new.items (owner_of (control_of new.past) e)) ≡ true) (sym (front_end l.end l.found)) shut;
     }
 
--- ---- where the control plane goes on
-pub past_stays_over : {S O I N : Type 0} (K : Known S O I N) (M T : Type 0) → CapacitiesStay M T → StepsStayExact M T → PastStaysOver K M T
-past_stays_over K M T capacities exact io items more run on goes pipes past named made is =
-    past_capacities K goes (pipe_capacity (after_all items (begun io))) (pipe_capacity (after_all more (after_all items (begun io)))) pipes past
-    (λ p n g. capacities io items more run on p (named p n g)) (exact io items more run on past made is.exact) is
+pub looks_stand : {S O I N : Type 0} (K : Known S O I N) (T : Type 0) → ReaperLooksGoOn K → PipesAreSettled N T → LooksStand K T
+looks_stand K T go settled = record {
+  past = λ d before behind from l past stands. past_on K d before behind from l settled go past stands;
+  counted = λ d before behind from l past counted. counted_on K d before behind from l settled past counted;
+}
+
+pub looks_are_shut : {S O I N : Type 0} (K : Known S O I N) (T : Type 0) → LooksAreShut K T
+looks_are_shut K T d new before behind from l call only = is_shut_at K d before behind from l new call only

@@ -1,95 +1,277 @@
--- Steps of calls at rows are at the ends of these rows.
-use Rattle.std.specs.Prelude.{◌≡◌, ◌≢◌, ◌<◌, ◌≤◌, ◌==◌, ℕ, Bool, true, false, List, [], ◌∷◌, Some, None, cond, refl}
-use Rattle.std.specs.List.{AllByRecursion}
-use Rattle.std.proofs.Common.{arith, sym, ap, ◌∙◌, subst, ⊎_elim}
-use Rattle.std.proofs.lemmas.Bool.{eqb-true}
-use Rattle.zq_base.specs.declared.ids.EndId.{EndId}
-use Rattle.zq_base.specs.Ends.{other_end}
-use Rattle.spec_pattern.specs.PipeStep.{PipeStep, Commit, FullLook, Take, EmptyLook, DelimiterLook, WaitingLook, Seal, read_through}
-use Rattle.spec_pattern.specs.Half.{Writing, Reading}
-use Rattle.msg_pipe.specs.Known.{Known}
-use Rattle.ends.specs.declared.row.EndRow.{EndRow}
-use Rattle.ends.specs.Rows.{Table, row_at}
-use Rattle.ends.specs.Runs.{OutDoes, InDoes, CallsAt, OutCall, InCall, DoesOne, DoesAll}
-use Rattle.ends.proofs.HeldLemmas.{row_after}
-use Rattle.spec_control.specs.Control.{Control, next_object, next_pair, owner_of, with_value}
-use Rattle.core_laws.specs.Sides.{step_end, IsDoneAt, OpenSockets, OpensGoOn}
-use Rattle.core_laws.specs.Rows.{AreRowsAt, StepsAreAtRows, OpensChange}
-use Rattle.core_laws.proofs.CallLemmas.{steps_back}
-use Rattle.core_laws.proofs.CountedLemmas.{other_twice}
+-- What becomes so of the rows of objects in an event: a closed socket is taken over at its Reap alone, and each socket has its Plug.
+use Rattle.std.specs.Prelude.{◌≡◌, ◌==◌, ◌&&◌, ◌||◌, ◌+◌, ◌⊎◌, ◌∷◌, [], ℕ, Bool, true, false, cond, not, List, Option, Some, None, filter, zero, suc, refl}
+use Rattle.std.specs.List.{list_any}
+use Rattle.std.proofs.Common.{sym, ap, ◌∙◌, subst, inl, inr}
+use Rattle.std.proofs.lemmas.Bool.{eq-eqb}
+use Rattle.zq_base.specs.declared.endpoint.Endpoint.TheVariants.{Inproc, Tcp}
+use Rattle.zq_base.specs.declared.kind.Kind.{Kind}
+use Rattle.zq_base.specs.declared.options.Options.{Options}
+use Rattle.spec_control.specs.declared.book.Binding.{Binding}
+use Rattle.spec_control.specs.declared.book.Waiting.{Waiting}
+use Rattle.spec_control.specs.declared.end.Reason.TheVariants.{Closed, BadId, Second, Linger, Link}
+use Rattle.spec_control.specs.declared.entry.Did.{Did}
+use Rattle.spec_control.specs.declared.entry.Did.TheVariants.{Asked, Delivered, Delimited}
+use Rattle.spec_control.specs.declared.entry.Item.{Item}
+use Rattle.spec_control.specs.declared.entry.Item.TheVariants.{Event, Seen}
+use Rattle.spec_control.specs.declared.letter.Letter.{Letter}
+use Rattle.spec_control.specs.declared.letter.Word.{Word}
+use Rattle.spec_control.specs.declared.letter.Word.TheVariants.{Own, Plug, TermReq, Term, TermAck, PipeBind, PipeTerm, PipeTermAck, Stop, Reap}
+use Rattle.spec_control.specs.declared.request.Req.{Req}
+use Rattle.spec_control.specs.declared.request.Req.TheVariants.{Socket as MakeSocket, AskTerm, Bind, Connect, Unbind, Disconnect, Close, Accepted, Shaken, AskEnd, AskOver, OutputOver}
+use Rattle.spec_control.specs.declared.request.Reply.{Reply}
+use Rattle.spec_control.specs.declared.request.Reply.TheVariants.{Done, Object, Pair, Both, Wait, Asked as WasAsked, Before, Refused}
+use Rattle.spec_control.specs.declared.stage.Stage.TheVariants.{Finished}
+use Rattle.spec_control.specs.Register.{fulfilled_by}
+use Rattle.spec_control.specs.Stage.{is_coming, is_used}
+use Rattle.spec_control.specs.Row.{Row, nobody, LinkEvent, OwnComes, PlugComes, IsTold, TermComes, AsksOver, RequestComes, ReapComes, AckComes, RootAsked, StopPut, StopComes, AsksForLink, AsksForLinger, link_may, link_after, is_socket}
+use Rattle.spec_control.specs.Rows.{Rows, obj}
+use Rattle.spec_control.specs.Control.{Control, begun, next_pair}
+use Rattle.spec_control.specs.After.{after, binding_by, socket_row}
+use Rattle.spec_control.specs.ControlRun.{Fits, IsControlRun, after_all, unless_refused}
+use Rattle.control_laws.proofs.ListLemmas.{never, is_here, is_elsewhere, written, is_old, is_new, pushed, right}
+use Rattle.control_laws.specs.Kept.{Kept}
+use Rattle.control_laws.proofs.RootLemmas.{begun_kept}
+use Rattle.control_laws.proofs.RunLemmas.{after_kept}
+use Rattle.control_laws.specs.Move.{Move, LinkMoves, EndMoves, ObjectEnds, ObjectMade, PairDrawn, LetterPut, move_rows, move_boxes, is_named, MayMove, Leads}
+use Rattle.control_laws.specs.OwnMoves.{own_moves, word_moves, request_moves, fulfil_moves, connect_moves, having_taken}
+use Rattle.control_laws.proofs.EventGoLemmas.{event_goes}
+use Rattle.control_laws.proofs.SoundLemmas.{link_there, ending_there}
+use Rattle.control_laws.proofs.WeighLemmas.{taken_rows}
+use Rattle.control_laws.proofs.BetweenLemmas.{reap_comes}
 
--- the end of a step that a half made
-out_at : (e : EndId) (s : PipeStep) (v w : Writing) → OutDoes e s v w → step_end s ≡ e
-out_at e (Commit q m) v w does = does.0
-out_at e (FullLook q) v w does = does.0
-out_at e (Seal q) v w does = does.0
-out_at e (Take q m) v w does = elim does [ ]
-out_at e (EmptyLook q) v w does = elim does [ ]
-out_at e (DelimiterLook q) v w does = elim does [ ]
-out_at e (WaitingLook q) v w does = elim does [ ]
+none_first : (a b : Bool) → (a || b) ≡ false → a ≡ false
+none_first true b h = h
+none_first false b h = refl
 
-in_at : (e : EndId) (s : PipeStep) (v w : Reading) → InDoes (read_through e) s v w → step_end s ≡ e
-in_at e (Take q m) v w does = ap other_end does.0 ∙ other_twice e
-in_at e (EmptyLook q) v w does = ap other_end does.0 ∙ other_twice e
-in_at e (DelimiterLook q) v w does = ap other_end does.0 ∙ other_twice e
-in_at e (WaitingLook q) v w does = ap other_end does.0 ∙ other_twice e
-in_at e (Commit q m) v w does = elim does [ ]
-in_at e (FullLook q) v w does = elim does [ ]
-in_at e (Seal q) v w does = elim does [ ]
+none_rest : (a b : Bool) → (a || b) ≡ false → b ≡ false
+none_rest true b h = absurd (never (sym h))
+none_rest false b h = h
 
-module _ {S O I N : Type 0} (K : Known S O I N) (c : Control) (may : ℕ → Bool) where
-  -- an end of a pair that has its number, and of such an object
-  abbrev IsIn : EndId → Type 0
-  IsIn e = (e.pair.0 < next_pair c) × (may (owner_of c e) ≡ true)
+any_first : (a b : Bool) → a ≡ true → (a || b) ≡ true
+any_first true b h = refl
+any_first false b h = absurd (never h)
 
-  done_in : (s : PipeStep) (e : EndId) → step_end s ≡ e → IsIn e → IsDoneAt c (λ i. may i ≡ true) s
-  done_in s e at is = let here : IsIn (step_end s) = subst IsIn (sym at) is in record { made = here.0; owner = λ plain. here.1 }
+any_rest : (a b : Bool) → b ≡ true → (a || b) ≡ true
+any_rest true b h = refl
+any_rest false b h = h
 
-  rows_then : (old new : Table S O I) (place : ℕ) (row back : EndRow O I) → CallsAt K old new place row back → AreRowsAt c may old.rows → AreRowsAt c may new.rows
-  rows_then old new place row back at rows k r here = ⊎_elim
-      (λ (h : (k ≡ place) × (back ≡ r)). subst (λ (x : EndRow O I). IsIn x.end) h.1 (subst IsIn (sym at.end_is) (rows place row at.here)))
-      (λ (h : (k ≢ place) × (row_at old.rows k ≡ Some r)). rows k r h.1)
-      (row_after K old new place row back at k r here)
+and_true : (b : Bool) → (b && true) ≡ b
+and_true true = refl
+and_true false = refl
 
-  one_at : (old : Table S O I) (s : PipeStep) (new : Table S O I) → DoesOne K old s new → AreRowsAt c may old.rows → IsDoneAt c (λ i. may i ≡ true) s × AreRowsAt c may new.rows
-  one_at old s new one rows = ⊎_elim
-      (λ (o : OutCall K old s new). (done_in s o.row.end (out_at o.row.end s _ _ o.does) (rows o.place o.row o.at.here), rows_then old new o.place o.row o.back o.at rows))
-      (λ (i : InCall K old s new). (done_in s i.row.end (in_at i.row.end s _ _ i.does) (rows i.place i.row i.at.here), rows_then old new i.place i.row i.back i.at rows))
-      one
+and_false : (b : Bool) → (b && false) ≡ false
+and_false true = refl
+and_false false = refl
 
-  all_at : (steps : List PipeStep) (old new : Table S O I) → DoesAll K old steps new → AreRowsAt c may old.rows → AllByRecursion (IsDoneAt c (λ i. may i ≡ true)) steps × AreRowsAt c may new.rows
-  all_at [] old new all rows = (tt, subst (λ (t : Table S O I). AreRowsAt c may t.rows) (sym all) rows)
-  all_at (s ∷ steps) old new all rows =
-      let one = one_at old s all.0 all.1 rows in
-      let rest = all_at steps all.0 new all.2 one.1 in
-      ((one.0, rest.0), rest.1)
+alone : (b : Bool) → b ≡ false → (b || false) ≡ false
+alone true h = h
+alone false h = refl
 
-pub steps_are_at_rows : {S O I N : Type 0} (K : Known S O I N) (M T : Type 0) → StepsAreAtRows K M T
-steps_are_at_rows K M T c may steps old new all rows =
-    let at = all_at K c may steps old new all rows in
-    (subst (AllByRecursion (IsDoneAt c (λ i. may i ≡ true))) (sym (steps_back M T steps)) at.0, at.1)
-
--- ---- open sockets
-
-none_some : {X : Type 0} {x : X} → None ≡ Some x → ⊥
-none_some e = Prim.grind arith
-
-closed_goes : (c : Control) (opens : OpenSockets) (o : ℕ) → OpensGoOn c opens (with_value o None opens)
-closed_goes c opens o i k lt e = by (i == o) refl
+-- of those that have a request or a command of their own
+named_any : (test : Move → Bool) (ms : List Move) → list_any (λ m. test m && is_named m) ms ≡ list_any test (filter is_named ms)
+named_any test [] = refl
+named_any test (m ∷ ms) = by (is_named m) (named_any test ms)
   where
-    by : (b : Bool) → (i == o) ≡ b → opens i ≡ Some k
-    by true h = absurd (none_some (subst (λ (b : Bool). cond b None (opens i) ≡ Some k) h e))
-    by false h = subst (λ (b : Bool). cond b None (opens i) ≡ Some k) h e
+    by : (b : Bool) → list_any (λ m. test m && is_named m) ms ≡ list_any test (filter is_named ms) → ((test m && b) || list_any (λ m. test m && is_named m) ms) ≡ list_any test (cond b (m ∷ filter is_named ms) (filter is_named ms))
+    by true rest = ap (λ (x : Bool). x || list_any (λ m. test m && is_named m) ms) (and_true (test m)) ∙ ap (λ (x : Bool). test m || x) rest
+    by false rest = ap (λ (x : Bool). x || list_any (λ m. test m && is_named m) ms) (and_false (test m)) ∙ rest
 
-made_goes : (c : Control) (opens : OpenSockets) (o k : ℕ) → next_object c ≤ o → OpensGoOn c opens (with_value o (Some k) opens)
-made_goes c opens o k new i j lt e = by (i == o) refl
-  where
-    by : (b : Bool) → (i == o) ≡ b → opens i ≡ Some j
-    by true h = absurd (no (eqb-true i o h))
-      where
-        no : i ≡ o → ⊥
-        no same = omega (arith, same, new, lt)
-    by false h = subst (λ (b : Bool). cond b (Some k) (opens i) ≡ Some j) h e
+-- ---- what sockets are not made as, and become in these moves alone
+module _ (f : Row → Bool) (touches : ℕ → Move → Bool) (linked : (event : LinkEvent) (o : Row) → link_may event o ≡ true → f (link_after event o) ≡ true → (f o ≡ true) ⊎ ((k : ℕ) → (touches k (LinkMoves k event) && is_named (LinkMoves k event)) ≡ true))
+    (finished : (o : Row) → f (record o { stage = Finished }) ≡ f o) (sockets : (kind : Kind) (options : Options) (c : Control) → f (socket_row kind options c) ≡ false) (others : (o : Row) → is_socket o.kind ≡ false → f o ≡ false) where
+  abbrev makes : Move → Bool
+  makes (LinkMoves j event) = false
+  makes (EndMoves e event) = false
+  makes (ObjectEnds j) = false
+  makes (ObjectMade row) = f row
+  makes (PairDrawn a b) = false
+  makes (LetterPut to word) = false
 
-pub opens_change : OpensChange
-opens_change = record { same = λ c opens o k lt e. e; closed = closed_goes; made = made_goes }
+  move_back : (m : Move) (s : Rows) (i : ℕ) → MayMove m s → (makes m && is_named m) ≡ false → f (obj (move_rows m s) i) ≡ true → (f (obj s i) ≡ true) ⊎ ((touches i m && is_named m) ≡ true)
+  move_back (LinkMoves j event) s i may none h =
+      elim (written s.objects (link_after event (obj s j)) nobody j i (link_there s j event may)) [
+        | is_here here same ↦ elim (linked event (obj s j) may (sym (ap f same) ∙ h)) [
+          | inl was ↦ inl (ap (λ (n : ℕ). f (obj s n)) here ∙ was)
+          | inr reaps ↦ inr (subst (λ (n : ℕ). (touches n (LinkMoves j event) && is_named (LinkMoves j event)) ≡ true) (sym here) (reaps j))
+        ]
+        | is_elsewhere same ↦ inl (sym (ap f same) ∙ h)
+      ]
+  move_back (EndMoves e event) s i may none h = inl h
+  move_back (ObjectEnds j) s i may none h =
+      elim (written s.objects (record (obj s j) { stage = Finished }) nobody j i (ending_there s j may)) [
+        | is_here here same ↦ inl (ap (λ (n : ℕ). f (obj s n)) here ∙ sym (finished (obj s j)) ∙ sym (ap f same) ∙ h)
+        | is_elsewhere same ↦ inl (sym (ap f same) ∙ h)
+      ]
+  move_back (ObjectMade row) s i may none h =
+      elim (pushed s.objects row nobody i) [
+        | is_old e ↦ inl (sym (ap f e) ∙ h)
+        | is_new at e was ↦ absurd (never (sym (sym (and_true (f row)) ∙ none) ∙ sym (ap f e) ∙ h))
+      ]
+  move_back (PairDrawn a b) s i may none h = inl h
+  move_back (LetterPut to word) s i may none h = inl h
+
+  leads_back : (ms : List Move) (s : Rows) (boxes : ℕ → List Letter) (d : Control) (i : ℕ) → Leads ms s boxes d → list_any (λ m. makes m && is_named m) ms ≡ false → f (obj d.rows i) ≡ true → (f (obj s i) ≡ true) ⊎ (list_any (λ m. touches i m && is_named m) ms ≡ true)
+  leads_back [] s boxes d i h none is = inl (sym (ap (λ (r : Rows). f (obj r i)) h.0) ∙ is)
+  leads_back (m ∷ ms) s boxes d i h none is =
+      elim (leads_back ms (move_rows m s) (move_boxes m s boxes) d i h.1 (none_rest (makes m && is_named m) _ none) is) [
+        | inl later ↦ elim (move_back m s i h.0 (none_first (makes m && is_named m) _ none) later) [
+          | inl was ↦ inl was
+          | inr reaps ↦ inr (any_first (touches i m && is_named m) _ reaps)
+        ]
+        | inr reaps ↦ inr (any_rest (touches i m && is_named m) _ reaps)
+      ]
+
+  fulfil_makes : (c : Control) (i k : ℕ) (ws : List Waiting) → list_any makes (fulfil_moves c i k ws) ≡ false
+  fulfil_makes c i k [] = refl
+  fulfil_makes c i k (w ∷ ws) = fulfil_makes c i (k + 1) ws
+
+  connect_makes : (c : Control) (i : ℕ) (held : Option Binding) → list_any makes (connect_moves c i held) ≡ false
+  connect_makes c i None = refl
+  connect_makes c i (Some binding) = refl
+
+  request_makes : (c : Control) (req : Req) → list_any makes (request_moves c req) ≡ false
+  request_makes c (MakeSocket kind options) = alone (f (socket_row kind options c)) (sockets kind options c)
+  request_makes c AskTerm = refl
+  request_makes c (Bind o (Inproc name)) = fulfil_makes c o.0 (next_pair c) (fulfilled_by (Inproc name) (binding_by o.0 c) c.names)
+  request_makes c (Bind o (Tcp address)) = alone (f _) (others _ refl)
+  request_makes c (Connect o (Inproc name)) = connect_makes c o.0 (c.names.held (Inproc name))
+  request_makes c (Connect o (Tcp address)) = alone (f _) (others _ refl)
+  request_makes c (Unbind o at) = refl
+  request_makes c (Disconnect o at) = refl
+  request_makes c (Close o) = refl
+  request_makes c (Accepted o) = alone (f _) (others _ refl)
+  request_makes c (Shaken o peer) = refl
+  request_makes c (AskEnd d Closed) = refl
+  request_makes c (AskEnd d BadId) = refl
+  request_makes c (AskEnd d Second) = refl
+  request_makes c (AskEnd d Linger) = refl
+  request_makes c (AskEnd d Link) = refl
+  request_makes c (AskOver o) = refl
+  request_makes c (OutputOver o) = refl
+
+  asked_makes : (c : Control) (req : Req) (reply : Reply) → list_any makes (unless_refused reply (request_moves c req)) ≡ false
+  asked_makes c req Done = request_makes c req
+  asked_makes c req (Object o) = request_makes c req
+  asked_makes c req (Pair p) = request_makes c req
+  asked_makes c req (Both o p) = request_makes c req
+  asked_makes c req Wait = request_makes c req
+  asked_makes c req WasAsked = request_makes c req
+  asked_makes c req Before = refl
+  asked_makes c req (Refused refusal) = refl
+
+  word_makes : (at : ℕ) (word : Word) → list_any makes (word_moves at word) ≡ false
+  word_makes at (Own child) = refl
+  word_makes at (Plug None) = refl
+  word_makes at (Plug (Some e)) = refl
+  word_makes at (TermReq child) = refl
+  word_makes at Term = refl
+  word_makes at (TermAck child) = refl
+  word_makes at (PipeBind e peer) = refl
+  word_makes at (PipeTerm e) = refl
+  word_makes at (PipeTermAck e) = refl
+  word_makes at Stop = refl
+  word_makes at (Reap socket) = refl
+
+  module _ {N S : Type 0} where
+    own_makes : (c : Control) (did : Did N S) → list_any makes (own_moves c did) ≡ false
+    own_makes c (Asked req reply h) = asked_makes c req reply
+    own_makes c (Delivered slot letter h) = word_makes letter.to.0 letter.word
+    own_makes c (Delimited e h) = refl
+
+    pub event_back : (c : Control) (did : Did N S) → Kept c → Fits c did → (i : ℕ) → f (obj (after did c).rows i) ≡ true → (f (obj c.rows i) ≡ true) ⊎ (list_any (touches i) (own_moves c did) ≡ true)
+    event_back c did kept fits i is =
+        let g = event_goes c did kept fits in
+        let none = named_any makes g.moves ∙ ap (list_any makes) g.own_are ∙ own_makes c did in
+        elim (leads_back g.moves (having_taken did c).rows (having_taken did c).boxes (after did c) i g.leads none is) [
+          | inl was ↦ inl (sym (ap (λ (r : Rows). f (obj r i)) (taken_rows did c)) ∙ was)
+          | inr reaps ↦ inr (sym (named_any (touches i) g.moves ∙ ap (list_any (touches i)) g.own_are) ∙ reaps)
+        ]
+
+-- ---- a closed socket that was taken over
+abbrev pub is_taken : Row → Bool
+is_taken o = is_socket o.kind && is_used o.request
+
+both : (a b : Bool) → a ≡ true → b ≡ true → (a && b) ≡ true
+both true b h k = k
+both false b h k = absurd (never h)
+
+no_socket : (a b : Bool) → a ≡ false → (a && b) ≡ true → ⊥
+no_socket true b out h = never (sym out)
+no_socket false b out h = never h
+
+is_not : (a : Bool) → not a ≡ true → a ≡ false
+is_not true h = absurd (never h)
+is_not false h = refl
+
+taken_linked : (event : LinkEvent) (o : Row) → link_may event o ≡ true → is_taken (link_after event o) ≡ true → (is_taken o ≡ true) ⊎ ((k : ℕ) → (reap_comes k (LinkMoves k event) && is_named (LinkMoves k event)) ≡ true)
+taken_linked OwnComes o may h = inl h
+taken_linked PlugComes o may h = inl h
+taken_linked IsTold o may h = inl h
+taken_linked TermComes o may h = inl h
+taken_linked AsksOver o may h = absurd (never (sym (and_false (is_socket o.kind)) ∙ h))
+taken_linked RequestComes o may h = absurd (no_socket (is_socket o.kind) true (is_not (is_socket o.kind) (right o.noted _ (right (is_coming o.request) _ may))) h)
+taken_linked ReapComes o may h = inr (λ k. both (k == k) true (eq-eqb k k refl) refl)
+taken_linked AckComes o may h = inl h
+taken_linked RootAsked o may h = inl h
+taken_linked StopPut o may h = inl h
+taken_linked StopComes o may h = inl h
+taken_linked AsksForLink o may h = inl h
+taken_linked AsksForLinger o may h = inl h
+
+taken_others : (o : Row) → is_socket o.kind ≡ false → is_taken o ≡ false
+taken_others o out = ap (λ (b : Bool). b && is_used o.request) out
+
+pub taken_back : {N S : Type 0} (c : Control) (did : Did N S) → Kept c → Fits c did → (i : ℕ) → is_taken (obj (after did c).rows i) ≡ true → (is_taken (obj c.rows i) ≡ true) ⊎ (list_any (reap_comes i) (own_moves c did) ≡ true)
+taken_back c did kept fits i is = event_back is_taken reap_comes taken_linked (λ o. refl) (λ kind options c. refl) taken_others c did kept fits i is
+
+-- ---- a socket whose Plug is on its way, as none is
+abbrev pub is_unplugged : Row → Bool
+is_unplugged o = is_socket o.kind && not o.plugged
+
+unplugged_linked : (event : LinkEvent) (o : Row) → link_may event o ≡ true → is_unplugged (link_after event o) ≡ true → (is_unplugged o ≡ true) ⊎ ((k : ℕ) → (false && is_named (LinkMoves k event)) ≡ true)
+unplugged_linked OwnComes o may h = inl h
+unplugged_linked PlugComes o may h = absurd (never (sym (and_false (is_socket o.kind)) ∙ h))
+unplugged_linked IsTold o may h = inl h
+unplugged_linked TermComes o may h = inl h
+unplugged_linked AsksOver o may h = inl h
+unplugged_linked RequestComes o may h = inl h
+unplugged_linked ReapComes o may h = inl h
+unplugged_linked AckComes o may h = inl h
+unplugged_linked RootAsked o may h = inl h
+unplugged_linked StopPut o may h = inl h
+unplugged_linked StopComes o may h = inl h
+unplugged_linked AsksForLink o may h = inl h
+unplugged_linked AsksForLinger o may h = inl h
+
+unplugged_others : (o : Row) → is_socket o.kind ≡ false → is_unplugged o ≡ false
+unplugged_others o out = ap (λ (b : Bool). b && not o.plugged) out
+
+none_touches : (ms : List Move) → list_any (λ (m : Move). false) ms ≡ true → ⊥
+none_touches [] h = never h
+none_touches (m ∷ ms) h = none_touches ms h
+
+begun_plugged : (w i : ℕ) → is_unplugged (obj (begun w).rows i) ≡ true → ⊥
+begun_plugged w zero is = never is
+begun_plugged w (suc i) is = never is
+
+module _ {N S : Type 0} where
+  unplugged_back : (c : Control) (did : Did N S) → Kept c → Fits c did → (i : ℕ) → is_unplugged (obj (after did c).rows i) ≡ true → is_unplugged (obj c.rows i) ≡ true
+  unplugged_back c did kept fits i is =
+      elim (event_back is_unplugged (λ (i : ℕ) (m : Move). false) unplugged_linked (λ o. refl) (λ kind options c. refl) unplugged_others c did kept fits i is) [
+        | inl was ↦ was
+        | inr none ↦ absurd (none_touches (own_moves c did) none)
+      ]
+
+  unplugged_over : (items : List (Item N S)) (c : Control) → Kept c → IsControlRun c items → (i : ℕ) → is_unplugged (obj (after_all items c).rows i) ≡ true → is_unplugged (obj c.rows i) ≡ true
+  unplugged_over [] c kept run i is = is
+  unplugged_over (Event entry ∷ items) c kept run i is =
+      unplugged_back c entry.did kept run.0 i (unplugged_over items (after entry.did c) (after_kept c entry.did kept run.0) run.1 i is)
+  unplugged_over (Seen sight ∷ items) c kept run i is = unplugged_over items c kept run.1 i is
+
+  -- a socket's Plug is never on its way
+  pub sockets_are_plugged : (w : ℕ) (items : List (Item N S)) → IsControlRun (begun w) items → (i : ℕ) → is_socket (obj (after_all items (begun w)).rows i).kind ≡ true → (obj (after_all items (begun w)).rows i).plugged ≡ true
+  sockets_are_plugged w items run i socket = by (obj (after_all items (begun w)).rows i).plugged refl
+    where
+      by : (b : Bool) → (obj (after_all items (begun w)).rows i).plugged ≡ b → b ≡ true
+      by true e = refl
+      by false e = absurd (begun_plugged w i (unplugged_over items (begun w) (begun_kept w) run i (both (is_socket (obj (after_all items (begun w)).rows i).kind) (not (obj (after_all items (begun w)).rows i).plugged) socket (ap not e))))

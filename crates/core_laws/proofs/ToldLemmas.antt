@@ -1,113 +1,103 @@
--- What a holder is told of the ends of an open socket is where they are.
-use Rattle.std.specs.Prelude.{◌≡◌, ◌≢◌, ◌==◌, ◌||◌, ℕ, Bool, true, false, cond, List, [], ◌∷◌, if◌then◌else◌, All, map, filter, refl}
-use Rattle.std.specs.List.{list_any}
-use Rattle.std.proofs.Common.{sym, ap, ◌∙◌}
-use Rattle.std.proofs.lemmas.List.Elements.{All-nil, All-cons, All-filter, All-weaker}
-use Rattle.zq_base.specs.declared.ids.EndId.{EndId}
-use Rattle.spec_control.specs.declared.end.EndState.TheVariants.{Active, DelimiterGot, WaitDelimiter, AckSent, AskedOnce, AskedTwice, Gone}
+-- The calls of an open socket are told as one piece more.
+use Rattle.std.specs.Prelude.{◌≡◌, ◌++◌, ℕ, Bool, true, false, List, [], ◌∷◌, All, length, refl}
+use Rattle.std.proofs.Common.{arith, sym, ap, ◌∙◌, subst}
+use Rattle.std.proofs.lemmas.List.Elements.{All-cons, All-head, All-nil, All-tail}
 use Rattle.spec_control.specs.declared.entry.Item.{Item}
-use Rattle.spec_control.specs.Place.{Place, Unmade, Away, At, is_here}
-use Rattle.spec_control.specs.Rows.{obj}
-use Rattle.spec_control.specs.Control.{Control, begun, is_end, owner_of, place_of, ends_of}
-use Rattle.spec_control.specs.ControlRun.{after_all}
-use Rattle.spec_control.specs.Held.{Held, ends_after}
-use Rattle.spec_control.specs.Moments.{left_after}
-use Rattle.spec_control.proofs.OwnLemmas.{own_items_are_whole}
-use Rattle.control_laws.proofs.ListLemmas.{never}
-use Rattle.control_laws.proofs.AskLemmas.{end_self}
-use Rattle.control_laws.proofs.MoveLemmas.{is_at}
-use Rattle.control_laws.proofs.AttachedOnceLemmas.{IsOld, old_run}
-use Rattle.ctl_plane.specs.Holding.{Holding, has_end}
-use Rattle.ctl_plane.specs.Desk.{HasWhatTheySay}
-use Rattle.control_laws.proofs.LawLemmas.{open_not}
-use Rattle.control_laws.proofs.MomentLemmas.{own_moments}
-use Rattle.control_laws.proofs.HeldStepLemmas.{ends_are_here}
-use Rattle.spec_run.specs.OpenSocket.{SockEnd}
-use Rattle.core_laws.specs.Open.{ends_at, moments_of, HasOpen}
-use Rattle.core_laws.specs.OpenEnds.{state_held, ToldEndsAreLeft}
-use Rattle.core_laws.proofs.OpenLemmas.{had, above}
-use Rattle.core_laws.proofs.LeftLemmas.{same_told, open_ends_are_left}
+use Rattle.spec_control.specs.Control.{Control, begun}
+use Rattle.spec_control.specs.ControlRun.{after_all, after_item, IsControlRun}
+use Rattle.spec_control.specs.Held.{caller_of}
+use Rattle.spec_control.specs.Moments.{Moment, moments_from}
+use Rattle.msg_pipe.specs.Known.{Known}
+use Rattle.spec_run.specs.Act.{Act, Step, Said, moments_in}
+use Rattle.spec_pattern.specs.declared.answers.Skip.{Skip}
+use Rattle.zq_world.specs.Piece.{Piece, piece_of, AddsPiece, AreActsBy}
+use Rattle.socket_laws.specs.Standing.{CoreStands}
+use Rattle.socket_laws.specs.StandingCalls.{CallStands, CallsGoOn}
+use Rattle.zq_world.specs.declared.marks.PieceMark.{PieceMark}
+use Rattle.zq_world.specs.Marks.{all_told, piece_marks, pieces_told, TalesGoOn}
+use Rattle.plain_desk.specs.Lent.{GrowsBy, IsOneOrder, Lent}
+use Rattle.core_laws.proofs.GrownLemmas.{run_more}
+use Rattle.core_laws.specs.Reaps.{ReapsAreTold}
+use Rattle.core_laws.specs.Told.{told_in, CallsAreTold, TaleStands}
+use Rattle.core_laws.proofs.StandLemmas.{call_stands, reap_stands}
 
--- an end that passes stands among those that do
-pub pass_among : (f : EndId → Bool) (es : List EndId) → All (λ e. f e ≡ true → list_any (is_end e) (filter f es) ≡ true) es
-pass_among f [] = All-nil (λ e. f e ≡ true → list_any (is_end e) (filter f []) ≡ true)
-pass_among f (x ∷ es) =
-    All-cons (λ e. f e ≡ true → list_any (is_end e) (filter f (x ∷ es)) ≡ true) x es first
-    (All-weaker (λ e. f e ≡ true → list_any (is_end e) (filter f es) ≡ true) (λ e. f e ≡ true → list_any (is_end e) (filter f (x ∷ es)) ≡ true) (λ e is pass. later e (f x) (is pass)) es (pass_among f es))
-  where
-    first : f x ≡ true → list_any (is_end x) (filter f (x ∷ es)) ≡ true
-    first pass =
-        ap (λ (b : Bool). list_any (is_end x) (cond b (x ∷ filter f es) (filter f es))) pass
-        ∙ ap (λ (b : Bool). b || list_any (is_end x) (filter f es)) (end_self x)
+module _ {N T : Type 0} where
+  all_moments : (xs ys : List (Item N T)) (c : Control) → moments_from c (xs ++ ys) ≡ moments_from c xs ++ moments_from (after_all xs c) ys
+  all_moments [] ys c = refl
+  all_moments (x ∷ xs) ys c = ap (λ (ms : List (Moment N T)). record { found = c; item = x } ∷ ms) (all_moments xs ys (after_item x c))
 
-    later : (e : EndId) (b : Bool) → list_any (is_end e) (filter f es) ≡ true → list_any (is_end e) (cond b (x ∷ filter f es) (filter f es)) ≡ true
-    later e true is = ap (λ (y : Bool). is_end e x || y) is ∙ either (is_end e x)
-      where
-        either : (y : Bool) → (y || true) ≡ true
-        either true = refl
-        either false = refl
-    later e false is = is
+  many : (xs : List (Item N T)) (c : Control) → length (moments_from c xs) ≡ length xs
+  many [] c = refl
+  many (x ∷ xs) c = omega (arith, many xs (after_item x c))
 
-held_among : {N : Type 0} (e : EndId) (hs : List (Held N)) → has_end e hs ≡ list_any (is_end e) (map (λ x. x.end) hs)
-held_among e [] = refl
-held_among e (h ∷ hs) = ap (λ (b : Bool). is_end e h.end || b) (held_among e hs)
+  -- items of one caller make moments of it
+  module _ (k : ℕ) where
+    abbrev IsBy : Moment N T → Type 0
+    IsBy m = caller_of m.item ≡ k
 
-gone_at : (p : Place) → is_at p ≡ true → is_here p ≡ false → p ≡ At Gone
-gone_at Unmade at off = absurd (never at)
-gone_at Away at off = absurd (never at)
-gone_at (At Active) at off = absurd (never (sym off))
-gone_at (At DelimiterGot) at off = absurd (never (sym off))
-gone_at (At WaitDelimiter) at off = absurd (never (sym off))
-gone_at (At AckSent) at off = absurd (never (sym off))
-gone_at (At AskedOnce) at off = absurd (never (sym off))
-gone_at (At AskedTwice) at off = absurd (never (sym off))
-gone_at (At Gone) at off = refl
+    by_all : (xs : List (Item N T)) (c : Control) → All (λ x. caller_of x ≡ k) xs → All (λ m. caller_of m.item ≡ k) (moments_from c xs)
+    by_all [] c all = All-nil IsBy
+    by_all (x ∷ xs) c all =
+        All-cons IsBy (record { found = c; item = x }) (moments_from (after_item x c) xs) (All-head (λ (y : Item N T). caller_of y ≡ k) x xs all)
+        (by_all xs (after_item x c) (All-tail (λ (y : Item N T). caller_of y ≡ k) x xs all))
 
-module _ {N S : Type 0} (io : ℕ) (items : List (Item N S)) (by o : ℕ) (open_so : HasOpen io items by o) (h : Holding N) (say : HasWhatTheySay by (moments_of io items by) h) (holds : h.holds o ≡ true) where
-  abbrev now : Control
-  now = after_all items (begun io)
+    -- and acts by it
+    acts_by : (acts : List (Act N T)) → All (λ m. caller_of m.item ≡ k) (moments_in acts) → AreActsBy k acts
+    acts_by [] all = tt
+    acts_by (Step step ∷ acts) all = acts_by acts all
+    acts_by (Said m ∷ acts) all = (All-head IsBy m (moments_in acts) all, acts_by acts (All-tail IsBy m (moments_in acts) all))
 
-  abbrev was : Control
-  was = left_after o (moments_of io items by)
+-- ---- a call more
+module _ {S O I N : Type 0} (K : Known S O I N) {G T : Type 0} (go : CallsGoOn K T) (tales : TalesGoOn N T) (old new : Lent G N T) (before behind : S) (was : IsOneOrder old) (is : IsOneOrder new) (grows : GrowsBy old new)
+    (k : ℕ) (reaps : Bool) (acts : List (Act N T)) (skips : List Skip) (marks now : List PieceMark) (so : now ≡ marks ++ piece_marks k reaps acts skips) (tale : TaleStands K old before marks)
+    (stands : CallStands K old.items grows.more before behind (told_in old marks) k reaps acts) where
+  said_so : moments_in acts ≡ moments_from (after_all old.items (begun 1)) grows.more
+  said_so = stands.said
 
-  not_root : o ≢ 0
-  not_root = above io items by o open_so
+  same : moments_from (begun 1) new.items ≡ moments_from (begun 1) old.items ++ moments_in acts
+  same =
+      ap (moments_from (begun 1)) grows.items ∙ all_moments old.items grows.more (begun 1)
+      ∙ ap (λ (ms : List (Moment N T)). moments_from (begun 1) old.items ++ ms) (sym said_so)
 
-  here : map (λ x. x.end) (h.ends o) ≡ filter (λ e. is_here (place_of now e)) (ends_of o now)
-  here =
-      ap (λ (hs : List (Held N)). map (λ x. x.end) hs) (say.ends o holds ∙ ap (ends_after o) (own_moments by items (begun io)) ∙ (own_items_are_whole N S (begun io) items open_so.callers o by not_root (had io items by o open_so).has).ends)
-      ∙ ends_are_here N S io items open_so.run o (open_not (obj now.rows o) (had io items by o open_so).open_socket)
+  both : (pieces_told (marks ++ piece_marks k reaps acts skips) (moments_from (begun 1) old.items ++ moments_in acts) ≡ pieces_told marks (moments_from (begun 1) old.items) ++ piece_of k reaps acts skips)
+      × (all_told (marks ++ piece_marks k reaps acts skips) ≡ length (moments_from (begun 1) old.items ++ moments_in acts))
+  both = tales marks (moments_from (begun 1) old.items) k reaps acts skips (tale.all ∙ sym (many old.items (begun 1)))
 
-  -- one end
-  record IsOne (e : EndId) : Type 0 where
-    old : IsOld now e
-    left : place_of was e ≡ place_of now e
-    among : is_here (place_of now e) ≡ true → list_any (is_end e) (filter (λ x. is_here (place_of now x)) (ends_of o now)) ≡ true
+  are : told_in new now ≡ told_in old marks ++ piece_of k reaps acts skips
+  are = ap (λ (ms : List PieceMark). told_in new ms) so ∙ ap (λ (ms : List (Moment N T)). pieces_told (marks ++ piece_marks k reaps acts skips) ms) same ∙ both.0
 
-  ones : All IsOne (ends_of o now)
-  ones =
-      all (ends_of o now) (All-filter (λ e. owner_of now e == o) (IsOld now) now.attached (old_run io items open_so.run)) (open_ends_are_left N S io items by o open_so).places
-      (pass_among (λ e. is_here (place_of now e)) (ends_of o now))
-    where
-      all : (es : List EndId) → All (IsOld now) es → All (λ e. place_of was e ≡ place_of now e) es →
-          All (λ e. is_here (place_of now e) ≡ true → list_any (is_end e) (filter (λ x. is_here (place_of now x)) (ends_of o now)) ≡ true) es → All IsOne es
-      all es a b c k d lt = record { old = a k d lt; left = b k d lt; among = c k d lt }
+  run : IsControlRun (begun 1) old.items
+  run = (let order = was.order in subst (λ (n : ℕ). IsControlRun (begun n) old.items) tale.one order.run)
 
-  told_one : (e : EndId) → IsOne e → place_of now e ≡ At (state_held h o e)
-  told_one e is = by_held (has_end e (h.ends o)) refl
-    where
-      missing : has_end e (h.ends o) ≡ false → (b : Bool) → is_here (place_of now e) ≡ b → b ≡ false
-      missing none true there = absurd (never (sym none ∙ (held_among e (h.ends o) ∙ ap (list_any (is_end e)) here ∙ is.among there)))
-      missing none false there = refl
+  on : IsControlRun (after_all old.items (begun 1)) grows.more
+  on = subst (λ (n : ℕ). IsControlRun (after_all old.items (begun n)) grows.more) tale.one (run_more old new is grows)
 
-      by_held : (b : Bool) → has_end e (h.ends o) ≡ b → place_of now e ≡ At (if b then h.state e else Gone)
-      by_held true there = sym is.left ∙ say.states o e holds there
-      by_held false none = gone_at (place_of now e) is.old.at (let off = missing none (is_here (place_of now e)) refl in off)
+  pub tale_more : TaleStands K new behind now
+  tale_more = record {
+    one = grows.workers ∙ tale.one;
+    all = ap all_told so ∙ both.1 ∙ ap length (sym same) ∙ many new.items (begun 1);
+    stands = subst (λ (ps : List (Piece N T)). CoreStands K new.items behind ps) (sym are)
+        (subst (λ (xs : List (Item N T)). CoreStands K xs behind (told_in old marks ++ piece_of k reaps acts skips)) (sym grows.items)
+        (go old.items grows.more before behind (told_in old marks) k reaps acts skips run on stands tale.stands));
+  }
 
-  pub told_all : ends_at o now ≡ map (λ e. let x : SockEnd = record { end = e; place = At (state_held h o e) } in x) (ends_of o was)
-  told_all =
-      same_told (place_of now) (λ e. At (state_held h o e)) (ends_of o now) (All-weaker IsOne (λ e. place_of now e ≡ At (state_held h o e)) told_one (ends_of o now) ones)
-      ∙ ap (λ (es : List EndId). map (λ e. let x : SockEnd = record { end = e; place = At (state_held h o e) } in x) es) (sym (open_ends_are_left N S io items by o open_so).ends)
+  pub piece_more : k ≡ old.caller → AddsPiece k reaps acts skips (told_in old marks) (told_in new now)
+  piece_more mine = record {
+    added = are;
+    by = subst (λ (n : ℕ). AreActsBy n acts) (sym mine)
+        (acts_by old.caller acts (subst (λ (ms : List (Moment N T)). All (λ m. caller_of m.item ≡ old.caller) ms) (sym said_so) (by_all old.caller grows.more (after_all old.items (begun 1)) grows.by)));
+  }
 
-pub told_ends_are_left : (N S : Type 0) → ToldEndsAreLeft N S
-told_ends_are_left N S io items by o open_so h say holds = told_all io items by o open_so h say holds
+pub calls_are_told : {S O I N : Type 0} (K : Known S O I N) (G T : Type 0) → CallsGoOn K T → TalesGoOn N T → CallsAreTold K G T
+calls_are_told K G T go tales o old new before behind acts was is had done made skips marks now so tale =
+    let stands = call_stands K o old new before behind acts was is had done tale.one made (told_in old marks) tale.stands in record {
+      tale = tale_more K go tales old new before behind was is done.grows old.caller false acts skips marks now so tale stands;
+      adds = piece_more K go tales old new before behind was is done.grows old.caller false acts skips marks now so tale stands refl;
+    }
+
+pub reaps_are_told : {S O I N : Type 0} (K : Known S O I N) (G T : Type 0) → CallsGoOn K T → TalesGoOn N T → ReapsAreTold K G T
+reaps_are_told K G T go tales old new before behind acts was is done made marks now so only tale =
+    let stands = reap_stands K old new before behind acts was is done tale.one made (told_in old marks) only tale.stands in record {
+      tale = tale_more K go tales old new before behind was is done.grows old.caller true acts [] marks now so tale stands;
+      adds = piece_more K go tales old new before behind was is done.grows old.caller true acts [] marks now so tale stands refl;
+    }

@@ -1,46 +1,37 @@
--- How an open socket goes on behind an item of it: its caller's moments, its mailbox, and what its holder is told of its ends (own choice, after libzmq's `socket_base_t`).
-use Rattle.std.specs.Prelude.{◌≡◌, ℕ, Bool, true, false, List, [], ◌∷◌, ◌++◌, map}
-use Rattle.zq_base.specs.declared.ids.EndId.{EndId}
-use Rattle.zq_base.specs.declared.kind.Kind.{Kind}
-use Rattle.spec_control.specs.declared.entry.Joining.{Joining}
-use Rattle.spec_control.specs.declared.entry.Item.{Item}
-use Rattle.spec_control.specs.declared.entry.Item.TheVariants.{Event, Seen}
-use Rattle.spec_control.specs.Place.{At}
-use Rattle.spec_control.specs.Rows.{obj, is_owner}
-use Rattle.spec_control.specs.Control.{ends_of}
-use Rattle.spec_control.specs.Held.{caller_of}
-use Rattle.spec_control.specs.Has.{given_up}
-use Rattle.spec_control.specs.Moments.{left_after, left_by}
-use Rattle.ctl_plane.specs.Holding.{Holding}
-use Rattle.ctl_plane.specs.Desk.{HasWhatTheySay, came_with}
-use Rattle.sock_core.specs.declared.sock.SockCore.{SockCore}
-use Rattle.sock_core.specs.Has.{state_in, holding_in}
-use Rattle.core_laws.specs.Open.{ends_at, moments_of, HasOpen, moment_at, left_before, ComesTo}
-use Rattle.core_laws.specs.OpenEnds.{state_held}
+-- The calls of an open socket are told as one piece more of a core (own choice).
+use Rattle.std.specs.Prelude.{◌≡◌, ◌++◌, false, ℕ, List, length}
+use Rattle.spec_pattern.specs.declared.answers.Skip.{Skip}
+use Rattle.spec_control.specs.Control.{begun, id}
+use Rattle.spec_control.specs.Moments.{moments_from}
+use Rattle.spec_run.specs.Act.{Act}
+use Rattle.msg_pipe.specs.Known.{Known}
+use Rattle.zq_world.specs.Piece.{Piece, AddsActs}
+use Rattle.socket_laws.specs.Standing.{CoreStands}
+use Rattle.zq_world.specs.declared.marks.PieceMark.{PieceMark}
+use Rattle.zq_world.specs.Marks.{all_told, piece_marks, pieces_told}
+use Rattle.plain_desk.specs.Lent.{HasSocket, IsOneOrder, Lent}
+use Rattle.core_laws.specs.Done.{ActsDone}
+use Rattle.core_laws.specs.Stands.{NamesMade}
 
-module _ {N S : Type 0} where
-  -- the item closes this socket
-  abbrev pub closes_it : ℕ → Item N S → Bool
-  closes_it o (Event entry) = is_owner o (given_up entry.did)
-  closes_it o (Seen sight) = false
+module _ {G N T : Type 0} where
+  -- the calls that are told, with the items of the one order
+  abbrev pub told_in : Lent G N T → List PieceMark → List (Piece N T)
+  told_in d marks = pieces_told marks (moments_from (begun 1) d.items)
 
-  -- its caller has it open still, with this moment more, which left its ends as they are, and in the same mailbox
-  pub record IsOpenBehind (io : ℕ) (before : List (Item N S)) (item : Item N S) (o : ℕ) : Type 0 where
-    pub moments : moments_of io (before ++ item ∷ []) (caller_of item) ≡ moments_of io before (caller_of item) ++ moment_at io before item ∷ []
-    pub opens : HasOpen io (before ++ item ∷ []) (caller_of item) o
-    pub ends : ends_at o (left_after o (moments_of io (before ++ item ∷ []) (caller_of item))) ≡ ends_at o (left_by (moment_at io before item))
-    pub slot : (obj (left_after o (moments_of io (before ++ item ∷ []) (caller_of item))).rows o).slot ≡ (obj (left_before io before item o).rows o).slot
+module _ {S O I N : Type 0} (K : Known S O I N) where
+  -- there is one I/O worker, each item is told, and what was done stands
+  pub record TaleStands {G T : Type 0} (d : Lent G N T) (pipes : S) (marks : List PieceMark) : Type 0 where
+    pub one : d.past.workers ≡ 1
+    pub all : all_told marks ≡ length d.items
+    pub stands : CoreStands K d.items pipes (told_in d marks)
 
-abbrev pub OpenGoesOn : (N S : Type 0) → Type 0
-OpenGoesOn N S = (io : ℕ) (before : List (Item N S)) (item : Item N S) (o : ℕ) → ComesTo io before item o → closes_it o item ≡ false → IsOpenBehind io before item o
+  -- so it is behind a call, which is one piece more
+  pub record IsToldSo {G T : Type 0} (k : ℕ) (acts : List (Act N T)) (skips : List Skip) (old new : Lent G N T) (behind : S) (marks now : List PieceMark) : Type 0 where
+    pub tale : TaleStands new behind now
+    pub adds : AddsActs k acts skips (told_in old marks) (told_in new now)
 
--- where the ends that joined a holder were those of the socket, they are so with those that join in the item, each told where it is
-abbrev pub ToldEndsGoOn : (N S : Type 0) → Type 0
-ToldEndsGoOn N S = (io : ℕ) (before : List (Item N S)) (item : Item N S) (o : ℕ) → ComesTo io before item o → closes_it o item ≡ false →
-    (js : List (Joining N)) → map (λ j. j.end) js ≡ ends_of o (left_before io before item o) →
-    (h : Holding N) → HasWhatTheySay (caller_of item) (moments_of io (before ++ item ∷ []) (caller_of item)) h → h.holds o ≡ true →
-    map (λ j. record { end = j.end; place = At (state_held h o j.end) }) (js ++ came_with item) ≡ ends_at o (left_by (moment_at io before item))
-
--- how far a socket is told that its ends are
-abbrev pub StatesAreHeld : (C W N O I : Type 0) → Type 0
-StatesAreHeld C W N O I = (kind : Kind) (s : SockCore C W N O I) (e : EndId) → state_held (holding_in kind s) s.number.0 e ≡ state_in s.ends.places.items e
+  -- of any open socket
+  abbrev pub CallsAreTold : (G T : Type 0) → Type 0
+  CallsAreTold G T = (o : ℕ) (old new : Lent G N T) (before behind : S) (acts : List (Act N T)) → IsOneOrder old → IsOneOrder new → HasSocket old (id o) →
+      ActsDone K o old new before behind acts → NamesMade new → (skips : List Skip) (marks now : List PieceMark) → now ≡ marks ++ piece_marks old.caller false acts skips →
+      TaleStands old before marks → IsToldSo old.caller acts skips old new behind marks now

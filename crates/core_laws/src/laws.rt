@@ -1,62 +1,105 @@
-ghost use Rattle.std.specs.Prelude.{◌≡◌, true};
-ghost use Rattle.core_laws.specs.Counted.{CountsGoOn};
-ghost use Rattle.core_laws.specs.Given.{GivenGoesOn, RowsAreCounted};
-ghost use Rattle.core_laws.specs.Past.{PastGoesOn, PastStaysOver};
-ghost use Rattle.core_laws.specs.Receives.{CallsAreCounted};
-ghost use Rattle.core_laws.specs.Rows.{OpensChange, StepsAreAtRows};
-ghost use Rattle.core_laws.specs.Sides.{SidesStandOn};
+ghost use Rattle.core_laws.specs.Laws.{CallsSendNone, ClosedAreApart, ComingJoinStill, HeldPlacesAreApart, OtherPlacesStay, OthersSayTheSame, OthersStayOwned, OwnedAreApart, SendsNoneAtAll, SettledWereRead};
+ghost use Rattle.core_laws.specs.Lines.{ClosesAreOn, LinesAreOn, ObjectsStay, OldEndsCame, SendsNoOther};
+ghost use Rattle.core_laws.specs.Rest.{EndingsSendNone, NoneIsSent, OthersAgreeStill, OthersAreKept};
 
-use msg_pipe::Pipes;
-use run_laws::{capacities_stay, steps_stay_exact};
+use end_table::HeldPipes;
+use socket_laws::ends_are_sealed_once;
 
-/// The row of a settled pipe is that of its settlement and of how many of its messages were given.
-pub fn rows_are_counted<N, S>()
-    ensures { RowsAreCounted N S }
+/// A pipe that no end read that is held no more was not settled.
+pub fn pipes_settled_were_read<P: HeldPipes>(_pipes: &P)
+    ensures { SettledWereRead P.known }
 {}
 
-/// How many messages of a pipe were given is counted call by call.
-pub fn given_goes_on<N, S>()
-    ensures { GivenGoesOn N S }
+/// Calls on one socket leave what the moments of the caller of another say of it.
+pub fn others_say_the_same<G, N, S>()
+    ensures { OthersSayTheSame G N S }
 {}
 
-/// A call that takes nothing from a pipe adds nothing to what was given there, and a receive adds what
-/// it answers.
-pub fn calls_are_counted<N, S>()
-    ensures { CallsAreCounted N S }
+/// The ends that one socket holds are of other pipes than those of another, at each time of its calls.
+pub fn held_places_are_apart<P: HeldPipes, G, S>(_pipes: &P)
+    ensures { HeldPlacesAreApart P.known G S }
 {}
 
-/// The counts of settled pipes stay where further steps are at others, and one more may be settled.
-pub fn counts_go_on()
-    ensures { CountsGoOn }
+/// The ends of a socket that its caller has open are of other pipes than those of another open socket.
+pub fn owned_are_apart<P: HeldPipes, W, T>(_pipes: &P)
+    ensures { OwnedAreApart W T P.known }
 {}
 
-/// A further call at the ends of an open socket of its caller, at those of closed sockets by the
-/// reaper, or at none, leaves each side of each pipe one caller's at a time.
-pub fn sides_stand_on<N, S>()
-    ensures { SidesStandOn N S }
+/// A socket that its caller has open stays so behind calls on another.
+pub fn others_stay_owned<P: HeldPipes, W, T>(_pipes: &P)
+    ensures { OthersStayOwned W T P.known }
 {}
 
-/// The steps of calls at the ends of a socket are at those ends.
-pub fn steps_are_at_rows<P: Pipes, N, S>(_pipes: &P)
-    ensures { StepsAreAtRows P.known N S }
+/// Halves on their way to an open socket may join it still, behind calls on another that sent it none.
+pub fn coming_join_still<P: HeldPipes, C, W, G, S>(_pipes: &P)
+    ensures { ComingJoinStill C W P.known G S }
 {}
 
-/// A close, and the making of a socket under a number that no object had, open none again.
-pub fn open_sockets_change()
-    ensures { OpensChange }
+/// The places of an open socket are of its ends still, behind calls on another.
+pub fn other_places_stay<G, N, S, I>()
+    ensures { OtherPlacesStay G N S I }
 {}
 
-/// Where looks are exact, the steps past stand still where all pipes are kept or parts are rolled back,
-/// and go on where a pipe is made, sealed or settled.
-pub fn past_goes_on<P: Pipes>(_pipes: &P)
-    requires { P.known.exact ≡ true }
-    ensures { PastGoesOn P.known }
+/// Calls of a socket that are no requests make no pipe, and put no end on its way.
+pub fn calls_send_none<G, N, S>()
+    ensures { CallsSendNone G N S }
 {}
 
-/// And they do so whatever comes in the control plane.
-pub fn past_stays_over_control<P: Pipes, N, S>(_pipes: &P)
-    ensures { PastStaysOver P.known N S }
+/// Where no end was put on its way, none was to any mailbox.
+pub fn sends_none_at_all<G, N, S>()
+    ensures { SendsNoneAtAll G N S }
+{}
+
+/// Calls that attach no end and settle no pipe leave the ends of others apart.
+pub fn closed_are_apart<P: HeldPipes>(_pipes: &P)
+    ensures { ClosedAreApart P.known }
+{}
+
+/// The acts of a lent socket's line are of that socket.
+pub fn lines_are_on<P: HeldPipes, W, T>(_pipes: &P)
+    ensures { LinesAreOn W T P.known }
+{}
+
+/// And so are those of its close.
+pub fn closes_are_on<P: HeldPipes, W, T>(_pipes: &P)
+    ensures { ClosesAreOn W T P.known }
+{}
+
+/// An end on its way whose pair was there before calls of a socket was on its way before them.
+pub fn old_ends_came<G, N, S>()
+    ensures { OldEndsCame G N S }
+{}
+
+/// Calls that made no pair with an open socket sent it nothing.
+pub fn sends_no_other<G, N, S>()
+    ensures { SendsNoOther G N S }
+{}
+
+/// Each object that was made is there still.
+pub fn objects_are_there<G, N, S>()
+    ensures { ObjectsStay G N S }
+{}
+
+/// Each other socket that its caller has open agrees still, behind calls of one.
+pub fn others_agree_still<P: HeldPipes, W, T>(_pipes: &P)
+    ensures { OthersAgreeStill W T P.known }
 {
-    capacities_stay::<N, S>();
-    steps_stay_exact::<N, S>();
+    ends_are_sealed_once::<P::Name, T>();
 }
+
+/// Whatever the calls of a socket were, its actor's others are kept.
+pub fn others_are_kept<P: HeldPipes, W, T>(_pipes: &P)
+    ensures { OthersAreKept W T P.known }
+{
+    ends_are_sealed_once::<P::Name, T>();
+}
+
+/// Where no end was put on its way, none of a pair made since was.
+pub fn none_is_sent<G, N, S>()
+    ensures { NoneIsSent G N S }
+{}
+
+/// A request that ends what a socket bound or connected, or the socket, puts no end on its way.
+pub fn endings_send_none<G, N, S>()
+    ensures { EndingsSendNone G N S }
+{}

@@ -1,38 +1,41 @@
-//! Laws for a core of sockets that is played on one thread: what its rows count, and how what it keeps
-//! of all that was done goes on from call to call: the steps past, by what was done to the pipes and
-//! by the steps of messages. What a socket's holder is told of its ends is what a run says of the open
-//! socket.
+//! What a call on one open socket leaves of a core on one thread: the other open sockets, what stands
+//! of it, and what the reaper has and is on its way to it. And what the reaper's calls and looks leave of
+//! the steps past, of closed sockets and of what is on its way to them.
 #![tactic(auto)]
 
+mod asked;
 mod laws;
-mod names;
-mod open;
-mod own;
-mod past;
-mod settling;
+mod reaped;
+mod reaper;
+mod reaping;
+mod rows;
 mod standing;
 
+pub use asked::asks_its_own;
 pub use laws::{
-    calls_are_counted, counts_go_on, given_goes_on, open_sockets_change, past_goes_on,
-    past_stays_over_control, rows_are_counted, sides_stand_on, steps_are_at_rows,
+    calls_send_none, closed_are_apart, closes_are_on, coming_join_still, endings_send_none,
+    held_places_are_apart, lines_are_on, none_is_sent, objects_are_there, old_ends_came,
+    other_places_stay, others_agree_still, others_are_kept, others_say_the_same, others_stay_owned,
+    owned_are_apart, pipes_settled_were_read, sends_no_other, sends_none_at_all,
 };
-pub use names::{names_stand_on, names_stay};
-pub use open::{
-    active_ends_stay, calls_draw_none, ends_are_few, ends_can_join, ends_go_on, identities_go_on,
-    items_pass, one_end_reads_on, open_ends_are_left, open_goes_on, peers_come_and_go,
-    requests_are_answered, sockets_have_their_peers, states_are_held, stops_are_told,
-    stops_keep_peers, told_ends_are_left, told_ends_go_on, turns_are_so, worked_items_are_met,
+pub use reaped::{
+    bound_ends_stand, closed_binds_fit, given_may_be_taken, given_stay, items_bring, no_plugs,
+    none_came, reaped_ends_go_on, reaper_calls_stand, reaper_calls_stand_however,
+    reaper_calls_stand_so, reaper_came_so, reaper_ends_go_on_however, reaper_goes_so,
+    reapers_calls_are_so, served_are_had, taken_are_had,
 };
-pub use own::{
-    made_pipes_hold, others_make_none, own_places_go_on, own_places_stay, places_are_held,
+pub use reaper::{
+    asked_go_on, no_socket_comes, one_socket_comes, reaper_calls_go_on,
+    reaper_changes_are_of_pipes, reaper_counts_go_on, reaper_ends_are_here, reaper_ends_came,
+    reaper_ends_go_on, reaper_ends_were_asked, reaper_looks_go_on,
 };
-pub use past::{
-    changes_are_of_pipes, changes_go_on, ends_are_sealed_once, held_rows_are_named,
-    made_names_go_on, messages_go_on, names_are_made, pipes_are_settled, quiet_calls_go_on,
-    seals_are_new, settled_ends_are_gone, socket_calls_go_on, steps_are_said,
+pub use reaping::{
+    keeps_only_taken, keeps_taken, keeps_unsealed, looks_are_shut, looks_keep, looks_stand,
+    open_agree_still, open_has_none, reaper_keeps_given, reaper_keeps_names, reaper_keeps_taken,
+    reaper_keeps_unsealed, reaper_leaves_there,
 };
-pub use settling::reasons_stay;
+pub use rows::{calls_tell_drops, drops_go_on, ended_are_told, ended_goes_on, tables_go_on};
 pub use standing::{
-    asides_go_on, calls_go_on, cores_are_orderly, looks_are_asides, makings_are_asides,
-    root_asks_are_asides,
+    asked_stay, calls_are_told, calls_stand, else_behind, else_stay, own_join_still, reapers_keep,
+    reaps_are_told,
 };

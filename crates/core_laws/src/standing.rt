@@ -1,42 +1,59 @@
-ghost use Rattle.core_laws.specs.Aside.{AsidesGoOn, LooksAreAsides, RootAsksAreAsides, MakingsAreAsides};
-ghost use Rattle.core_laws.specs.StandingCalls.{CallsGoOn};
-ghost use Rattle.core_laws.specs.Standing.{CoresAreOrderly};
+ghost use Rattle.core_laws.specs.Own.{OwnJoinStill};
+ghost use Rattle.core_laws.specs.Reaper.{AskedStay, ElseBehind, ElseStay, ReapersKeep};
+ghost use Rattle.core_laws.specs.Reaps.{ReapsAreTold};
+ghost use Rattle.core_laws.specs.Stands.{CallsStand};
+ghost use Rattle.core_laws.specs.Told.{CallsAreTold};
 
-use crate::{past_stays_over_control, sides_stand_on};
-use msg_pipe::Pipes;
+use end_table::HeldPipes;
+use socket_laws::{calls_go_on, ends_are_sealed_once};
+use zq_world::tales_go_on;
 
-/// What stands goes on over an item that changes no pair and settles no pipe.
-pub fn asides_go_on<P: Pipes, T>(pipes: &P)
-    ensures { AsidesGoOn P.known T }
+/// What stands goes on over the calls of an open socket.
+pub fn calls_stand<P: HeldPipes, G, T>(_pipes: &P)
+    ensures { CallsStand P.known G T }
+{}
+
+/// They are told as one piece more.
+pub fn calls_are_told<P: HeldPipes, G, T>(pipes: &P)
+    ensures { CallsAreTold P.known G T }
 {
-    past_stays_over_control::<P, P::Name, T>(pipes);
-    sides_stand_on::<P::Name, T>();
+    calls_go_on::<P, T>(pipes);
+    tales_go_on::<P::Name, T>();
 }
 
-/// A look is such an item.
-pub fn looks_are_asides<N, T>()
-    ensures { LooksAreAsides N T }
-{}
-
-/// So is the asking of the root.
-pub fn root_asks_are_asides<N, T>()
-    ensures { RootAsksAreAsides N T }
-{}
-
-/// And the making of a socket.
-pub fn makings_are_asides<N, T>()
-    ensures { MakingsAreAsides N T }
-{}
-
-/// What stands goes on over any call that leaves the steps past, and the counts of settled pipes, as
-/// they are with its own, and that may come at the sides where its steps are.
-pub fn calls_go_on<P: Pipes, T>(_pipes: &P)
-    ensures { CallsGoOn P.known T }
+/// So are those of the reaper, where no other caller reaped.
+pub fn reaps_are_told<P: HeldPipes, G, T>(pipes: &P)
+    ensures { ReapsAreTold P.known G T }
 {
-    sides_stand_on::<P::Name, T>();
+    calls_go_on::<P, T>(pipes);
+    tales_go_on::<P::Name, T>();
 }
 
-/// What stands is what a run asks of its core.
-pub fn cores_are_orderly<P: Pipes, T>(_pipes: &P)
-    ensures { CoresAreOrderly P.known T }
+/// Whoever has closed sockets has of them what its moments say, behind the calls of an open one, too.
+pub fn reapers_keep<G, N, T>()
+    ensures { ReapersKeep G N T }
 {}
+
+/// The ends of closed sockets, and those on their way to the reaper, are of other objects than a socket
+/// that was open, also behind its close.
+pub fn else_behind<P: HeldPipes, G, T>(_pipes: &P)
+    ensures { ElseBehind P.known G T }
+{}
+
+/// Ends of other objects are with their halves still behind the calls of a socket, and closed sockets
+/// are sound.
+pub fn else_stay<P: HeldPipes, G, T>(_pipes: &P)
+    ensures { ElseStay P.known G T }
+{}
+
+/// The ends on their way to an open socket may join it still behind its own calls.
+pub fn own_join_still<P: HeldPipes, W, T>(_pipes: &P)
+    ensures { OwnJoinStill W T P.known }
+{}
+
+/// Ends that were asked were so then, too.
+pub fn asked_stay<G, N, T>()
+    ensures { AskedStay G N T }
+{
+    ends_are_sealed_once::<N, T>();
+}

@@ -12,13 +12,13 @@ use Rattle.spec_control.specs.Held.{Held}
 use Rattle.control_laws.specs.AttachedOnce.{AreOnce}
 use Rattle.control_laws.proofs.AskLemmas.{end_self}
 use Rattle.control_laws.proofs.ListLemmas.{never}
-use Rattle.ctl_plane.specs.declared.given.Given.{Given}
-use Rattle.ctl_plane.specs.declared.given.Parting.{Parting}
-use Rattle.ctl_plane.specs.declared.load.Load.{Load}
-use Rattle.ctl_plane.specs.Holding.{Holding, given_as, held_given}
-use Rattle.ctl_plane.specs.Lent.{HasBothNames}
-use Rattle.ctl_plane.specs.Load.{IsNamed}
-use Rattle.ctl_plane.specs.TakingOver.{AreDistinct, AreTwo, AllTwo, ComeApart}
+use Rattle.desk.specs.declared.given.Given.{Given}
+use Rattle.desk.specs.declared.given.Parting.{Parting}
+use Rattle.desk.specs.declared.load.Load.{Load}
+use Rattle.desk.specs.Holding.{Holding, given_as, held_given}
+use Rattle.desk.specs.Lent.{HasBothNames}
+use Rattle.desk.specs.Load.{IsNamed}
+use Rattle.desk.specs.TakingOver.{AreDistinct, AreTwo, AllTwo, ComeApart}
 use Rattle.spec_control.specs.declared.entry.Joining.{Joining}
 use Rattle.ctl_state.specs.declared.state.State.{State}
 use Rattle.ctl_moves.specs.Reaping.{MayReap}

@@ -19,9 +19,9 @@ use Rattle.control_laws.proofs.AskLemmas.{end_self, AskLeaves, ask_all_leaves}
 use Rattle.control_laws.specs.Move.{Move, MovesTo}
 use Rattle.control_laws.proofs.GoLemmas.{ask_all_goes}
 use Rattle.control_laws.specs.Room.{to_come}
-use Rattle.ctl_plane.specs.declared.load.Load.{Load}
-use Rattle.ctl_plane.specs.Holding.{Holding}
-use Rattle.ctl_plane.specs.Turns.{TurnsBy}
+use Rattle.desk.specs.declared.load.Load.{Load}
+use Rattle.desk.specs.Holding.{Holding}
+use Rattle.desk.specs.Turns.{TurnsBy}
 use Rattle.ctl_state.specs.declared.command.Command.{Command}
 use Rattle.ctl_state.specs.declared.state.State.{State}
 use Rattle.ctl_state.specs.Boxes.{mail_at}

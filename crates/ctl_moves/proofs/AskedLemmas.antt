@@ -15,7 +15,7 @@ use Rattle.control_laws.proofs.ListLemmas.{never, clash}
 use Rattle.control_laws.proofs.RowLemmas.{pair_there}
 use Rattle.control_laws.proofs.AskLemmas.{end_self}
 use Rattle.control_laws.proofs.HearLemmas.{end_moved}
-use Rattle.ctl_plane.specs.Turns.{turn_at, turned_over}
+use Rattle.desk.specs.Turns.{turn_at, turned_over}
 use Rattle.control_laws.specs.AttachedOnce.{AreOnce}
 use Rattle.ctl_moves.specs.Turning.{turn_of}
 use Rattle.ctl_moves.proofs.TurnedLemmas.{stays_at, still_at, over_agree, none_of, not_end}

@@ -28,13 +28,13 @@ use Rattle.spec_control.specs.ControlRun.{Joins, MayAnswer, MayAnswerAll}
 use Rattle.control_laws.proofs.AskLemmas.{end_self}
 use Rattle.control_laws.proofs.AttachLemmas.{Greets, any_last, greets}
 use Rattle.control_laws.specs.Room.{to_come}
-use Rattle.ctl_plane.specs.declared.halves.Halves.{Halves}
-use Rattle.ctl_plane.specs.declared.halves.NamedHalves.{NamedHalves}
-use Rattle.ctl_plane.specs.declared.load.Load.{Load}
-use Rattle.ctl_plane.specs.declared.load.Load.TheVariants.{Halves as IsHalves}
-use Rattle.ctl_plane.specs.Holding.{HasNowhere, HearsNone, BeginsActive, Holding, Joined, JoinsBy, MayRefuse, Stays, held_with, joining_with}
-use Rattle.ctl_plane.specs.Turns.{HasTurned, TurnsBy, turn_at}
-use Rattle.ctl_plane.specs.Load.{AreHalvesOf, IsNamed}
+use Rattle.desk.specs.declared.halves.Halves.{Halves}
+use Rattle.desk.specs.declared.halves.NamedHalves.{NamedHalves}
+use Rattle.desk.specs.declared.load.Load.{Load}
+use Rattle.desk.specs.declared.load.Load.TheVariants.{Halves as IsHalves}
+use Rattle.desk.specs.Holding.{HasNowhere, HearsNone, BeginsActive, Holding, Joined, JoinsBy, MayRefuse, Stays, held_with, joining_with}
+use Rattle.desk.specs.Turns.{HasTurned, TurnsBy, turn_at}
+use Rattle.desk.specs.Load.{AreHalvesOf, IsNamed}
 use Rattle.ctl_moves.specs.Turning.{Leads, PutsLoaded, TurnsOnce, turn_of}
 use Rattle.ctl_moves.proofs.MailLemmas.{puts_not}
 use Rattle.ctl_moves.proofs.TurnedLemmas.{still_at, turns_on, turns_same}

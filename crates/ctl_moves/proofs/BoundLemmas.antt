@@ -22,8 +22,8 @@ use Rattle.control_laws.proofs.AttachLemmas.{AttachMoved, attach_moved}
 use Rattle.control_laws.specs.Move.{EndMoves, MovesTo}
 use Rattle.control_laws.proofs.SoundLemmas.{Sound}
 use Rattle.control_laws.proofs.ListLemmas.{never, clash, is_here as here_is, is_elsewhere, written}
-use Rattle.ctl_plane.specs.Holding.{BeginsActive, Holding, Joined, has_end}
-use Rattle.ctl_plane.specs.Lent.{has_writer, here_ends, HasBothNames, HasEnds, HasAll}
+use Rattle.desk.specs.Holding.{BeginsActive, Holding, Joined, has_end}
+use Rattle.desk.specs.Lent.{has_writer, here_ends, HasBothNames, HasEnds, HasAll}
 use Rattle.ctl_moves.proofs.HeldLemmas.{has_listed}
 use Rattle.ctl_moves.proofs.SettleLemmas.{end_sym}
 

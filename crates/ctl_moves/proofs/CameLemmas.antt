@@ -16,15 +16,15 @@ use Rattle.spec_control.specs.Rows.{obj, may_end}
 use Rattle.spec_control.specs.Stage.{has_ended, was_asked}
 use Rattle.spec_control.specs.Control.{Control, attach, happens, link, put, try_end}
 use Rattle.spec_control.specs.After.{answers_in, processed, settle}
-use Rattle.ctl_plane.specs.Holding.{HearsMore, HearsNone, Holding, IsTold, JoinsBy}
-use Rattle.ctl_plane.specs.Joins.{KeepsObjects, come_by}
+use Rattle.desk.specs.Holding.{HearsMore, HearsNone, Holding, IsTold, JoinsBy}
+use Rattle.desk.specs.Joins.{KeepsObjects, come_by}
 use Rattle.ctl_moves.specs.Terming.{children_told}
 use Rattle.control_laws.proofs.GoLemmas.{greet_goes, tell_where_goes, try_end_goes}
 use Rattle.ctl_moves.proofs.BetweenLemmas.{StayBetween, goes_between, happens_between, link_between, written_between}
 use Rattle.ctl_moves.proofs.KeepLemmas.{all_kept, ended_now, told_kept}
-use Rattle.ctl_plane.specs.Heard.{heard_by, over_if, over_in}
-use Rattle.ctl_plane.specs.declared.notice.Notice.{Notice}
-use Rattle.ctl_plane.specs.declared.notice.Notice.TheVariants as notice
+use Rattle.desk.specs.Heard.{heard_by, over_if, over_in}
+use Rattle.desk.specs.declared.notice.Notice.{Notice}
+use Rattle.desk.specs.declared.notice.Notice.TheVariants as notice
 use Rattle.ctl_moves.proofs.HeardLemmas.{end_between}
 use Rattle.ctl_moves.specs.Processing.{HasCounts, HasJoined, IsSilent, JoinsFor}
 

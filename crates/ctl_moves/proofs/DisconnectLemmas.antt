@@ -20,9 +20,9 @@ use Rattle.control_laws.specs.Move.{MovesTo}
 use Rattle.control_laws.proofs.GoLemmas.{either_free, stays, ask_goes}
 use Rattle.control_laws.specs.Room.{to_come}
 use Rattle.control_laws.proofs.RoomLemmas.{moves_room}
-use Rattle.ctl_plane.specs.declared.load.Load.{Load}
-use Rattle.ctl_plane.specs.Holding.{Holding}
-use Rattle.ctl_plane.specs.Lent.{HasAll}
+use Rattle.desk.specs.declared.load.Load.{Load}
+use Rattle.desk.specs.Holding.{Holding}
+use Rattle.desk.specs.Lent.{HasAll}
 use Rattle.ctl_state.specs.declared.belongings.Belongings.{Belongings}
 use Rattle.ctl_state.specs.declared.command.Command.{Command}
 use Rattle.ctl_state.specs.declared.state.State.{State}

@@ -15,8 +15,8 @@ use Rattle.control_laws.proofs.ListLemmas.{never, clash}
 use Rattle.control_laws.proofs.RowLemmas.{pair_there}
 use Rattle.control_laws.proofs.MetLemmas.{meets_cell}
 use Rattle.control_laws.specs.Room.{to_come}
-use Rattle.ctl_plane.specs.declared.load.Load.{Load}
-use Rattle.ctl_plane.specs.Holding.{Holding}
+use Rattle.desk.specs.declared.load.Load.{Load}
+use Rattle.desk.specs.Holding.{Holding}
 use Rattle.ctl_state.specs.declared.state.State.{State}
 use Rattle.ctl_state.specs.Boxes.{mail_at}
 use Rattle.ctl_moves.specs.Turning.{TurnsAt, PutsLoaded}

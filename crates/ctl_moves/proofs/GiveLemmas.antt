@@ -5,7 +5,7 @@ use Rattle.zq_base.specs.declared.ids.EndId.{EndId}
 use Rattle.spec_control.specs.declared.end.EndState.{EndState}
 use Rattle.spec_control.specs.declared.end.EndCommands.{EndCommands}
 use Rattle.spec_control.specs.declared.end.EndCommands.TheVariants.{TermAndSeal}
-use Rattle.ctl_plane.specs.Holding.{Holding, Seals, TurnsTo}
+use Rattle.desk.specs.Holding.{Holding, Seals, TurnsTo}
 use Rattle.ctl_moves.specs.Turning.{SealsFor}
 
 -- what holds of both holds of either

@@ -19,10 +19,10 @@ use Rattle.spec_control.specs.Control.{Control, link, try_end, happens}
 use Rattle.spec_control.specs.After.{answers_in, processed}
 use Rattle.spec_control.specs.ControlRun.{Joins, word_joins, MayAnswerAll, Settles}
 use Rattle.control_laws.proofs.ListLemmas.{never}
-use Rattle.ctl_plane.specs.declared.load.Load.{Load}
-use Rattle.ctl_plane.specs.Holding.{Holding, IsTold, KeepsTurns, Stays}
-use Rattle.ctl_plane.specs.Lent.{HasAll}
-use Rattle.ctl_plane.specs.Load.{IsNamed, brings_ends}
+use Rattle.desk.specs.declared.load.Load.{Load}
+use Rattle.desk.specs.Holding.{Holding, IsTold, KeepsTurns, Stays}
+use Rattle.desk.specs.Lent.{HasAll}
+use Rattle.desk.specs.Load.{IsNamed, brings_ends}
 use Rattle.ctl_state.specs.declared.state.State.{State}
 use Rattle.ctl_state.specs.Parts.{Tells}
 use Rattle.ctl_state.specs.Stands.{Stands}

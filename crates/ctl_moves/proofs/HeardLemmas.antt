@@ -5,14 +5,14 @@ use Rattle.spec_control.specs.Stage.{has_ended}
 use Rattle.spec_control.specs.Row.{Row}
 use Rattle.spec_control.specs.Rows.{may_end, obj}
 use Rattle.spec_control.specs.Control.{Control, finish, try_end, with_value}
-use Rattle.ctl_plane.specs.Heard.{ends_between, unless_root, over_if, term_with}
+use Rattle.desk.specs.Heard.{ends_between, unless_root, over_if, term_with}
 use Rattle.ctl_moves.proofs.KeepLemmas.{ended_now}
 use Rattle.std.proofs.lemmas.Bool.{eq-eqb, ne_eqb}
 use Rattle.std.proofs.lemmas.List.{append-nil}
 use Rattle.zq_base.specs.declared.ids.ObjId.{ObjId}
-use Rattle.ctl_plane.specs.declared.notice.Notice.{Notice}
-use Rattle.ctl_plane.specs.declared.notice.Notice.TheVariants as notice
-use Rattle.ctl_plane.specs.Holding.{Holding, IsTold, has_end}
+use Rattle.desk.specs.declared.notice.Notice.{Notice}
+use Rattle.desk.specs.declared.notice.Notice.TheVariants as notice
+use Rattle.desk.specs.Holding.{Holding, IsTold, has_end}
 
 -- one that lived ends where it can
 pub end_between : (i : ℕ) (was : Row) (c : Control) → has_ended was.stage ≡ false → has_ended (obj c.rows i).stage ≡ false → ends_between was (obj (try_end i false c).rows i) ≡ may_end c.rows i

@@ -13,8 +13,8 @@ use Rattle.spec_control.specs.Control.{is_end}
 use Rattle.spec_control.specs.Held.{Held}
 use Rattle.control_laws.proofs.ListLemmas.{never}
 use Rattle.control_laws.proofs.AskLemmas.{same_end}
-use Rattle.ctl_plane.specs.Holding.{Holding, has_end, written_in, read_in}
-use Rattle.ctl_plane.specs.Lent.{place_by, owner_by, here_ends, HasBothNames, HasEnds}
+use Rattle.desk.specs.Holding.{Holding, has_end, written_in, read_in}
+use Rattle.desk.specs.Lent.{place_by, owner_by, here_ends, HasBothNames, HasEnds}
 
 pub other_twice : (e : EndId) → other_end (other_end e) ≡ e
 other_twice e = by e.a

@@ -16,10 +16,10 @@ use Rattle.spec_control.specs.Stage.{is_ending}
 use Rattle.spec_control.specs.Control.{Control}
 use Rattle.spec_control.specs.Held.{Held}
 use Rattle.control_laws.proofs.ListLemmas.{never, left, right}
-use Rattle.ctl_plane.specs.declared.load.Load.{Load}
-use Rattle.ctl_plane.specs.Holding.{Holding, IsTold, Stays, KeepsTurns, has_end}
-use Rattle.ctl_plane.specs.Lent.{place_by, owner_by, HasBothNames, HasEnds, HasAll}
-use Rattle.ctl_plane.specs.Load.{Carries, brings_ends}
+use Rattle.desk.specs.declared.load.Load.{Load}
+use Rattle.desk.specs.Holding.{Holding, IsTold, Stays, KeepsTurns, has_end}
+use Rattle.desk.specs.Lent.{place_by, owner_by, HasBothNames, HasEnds, HasAll}
+use Rattle.desk.specs.Load.{Carries, brings_ends}
 use Rattle.ctl_state.specs.declared.command.Command.{Command}
 use Rattle.ctl_state.specs.Boxes.{tells_object, IsBareTold, PutsBare}
 use Rattle.ctl_moves.specs.Turning.{IsLoaded, PutsLoaded}

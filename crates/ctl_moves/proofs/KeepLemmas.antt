@@ -10,8 +10,8 @@ use Rattle.spec_control.specs.Row.{Row, nobody}
 use Rattle.spec_control.specs.Rows.{may_end, obj, with_object}
 use Rattle.spec_control.specs.Control.{Control, finish, id, tell_owner, try_end, with_value}
 use Rattle.control_laws.proofs.ListLemmas.{never, left, placed, clash}
-use Rattle.ctl_plane.specs.Holding.{Holding, IsTold}
-use Rattle.ctl_plane.specs.Joins.{KeepsObjects}
+use Rattle.desk.specs.Holding.{Holding, IsTold}
+use Rattle.desk.specs.Joins.{KeepsObjects}
 use Rattle.ctl_moves.proofs.BetweenLemmas.{StayBetween}
 
 -- an object that was told, or whose child has ended, has not

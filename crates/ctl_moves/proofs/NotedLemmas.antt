@@ -4,7 +4,7 @@ use Rattle.std.proofs.Common.{arith, sym, ap, ◌∙◌, subst}
 use Rattle.std.proofs.lemmas.List.{get_or_default}
 use Rattle.spec_control.specs.declared.entry.Joining.{Joining}
 use Rattle.spec_control.specs.Control.{Control, met_in, place_of}
-use Rattle.ctl_plane.specs.declared.given.Given.{Given}
+use Rattle.desk.specs.declared.given.Given.{Given}
 use Rattle.ctl_moves.specs.Noting.{noted_end, noted_join}
 
 -- ---- one after the other

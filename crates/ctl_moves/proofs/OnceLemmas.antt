@@ -11,8 +11,8 @@ use Rattle.control_laws.proofs.AskLemmas.{end_self}
 use Rattle.control_laws.proofs.HearLemmas.{end_moved}
 use Rattle.control_laws.proofs.StayLemmas.{SameEnds}
 use Rattle.control_laws.proofs.ListLemmas.{clash}
-use Rattle.ctl_plane.specs.Holding.{Holding, KeepsTurns}
-use Rattle.ctl_plane.specs.Turns.{TurnsBy, HasTurned, turned_in, turned_over}
+use Rattle.desk.specs.Holding.{Holding, KeepsTurns}
+use Rattle.desk.specs.Turns.{TurnsBy, HasTurned, turned_in, turned_over}
 use Rattle.ctl_moves.specs.Turning.{TurnsOnce, turn_of}
 use Rattle.ctl_moves.proofs.TurnedLemmas.{in_before, in_behind, in_none, in_one, over_append, over_still, place_same, turns_kept}
 

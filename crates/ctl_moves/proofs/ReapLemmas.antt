@@ -23,14 +23,14 @@ use Rattle.spec_control.specs.ControlRun.{Joins, is_between, reap_joins, taken_o
 use Rattle.spec_control.specs.Held.{Held}
 use Rattle.control_laws.proofs.ListLemmas.{never, left, placed, right}
 use Rattle.control_laws.proofs.AskLemmas.{same_end}
-use Rattle.ctl_plane.specs.declared.given.Given.{Given}
-use Rattle.ctl_plane.specs.declared.given.Parting.{Parting}
-use Rattle.ctl_plane.specs.declared.load.Load.{Load}
-use Rattle.ctl_plane.specs.Holding.{Holding, IsPlugged, Begins, AreAtDelimiter, given_as, held_given, has_end, states_given, writes_in}
-use Rattle.ctl_plane.specs.Joins.{IsReaped, KeepsObjects}
-use Rattle.ctl_plane.specs.Turns.{TurnsBy, HasTurned}
-use Rattle.ctl_plane.specs.Lent.{HasBothNames, HasEnds, HasAll, has_writer}
-use Rattle.ctl_plane.specs.Load.{IsNamed}
+use Rattle.desk.specs.declared.given.Given.{Given}
+use Rattle.desk.specs.declared.given.Parting.{Parting}
+use Rattle.desk.specs.declared.load.Load.{Load}
+use Rattle.desk.specs.Holding.{Holding, IsPlugged, Begins, AreAtDelimiter, given_as, held_given, has_end, states_given, writes_in}
+use Rattle.desk.specs.Joins.{IsReaped, KeepsObjects}
+use Rattle.desk.specs.Turns.{TurnsBy, HasTurned}
+use Rattle.desk.specs.Lent.{HasBothNames, HasEnds, HasAll, has_writer}
+use Rattle.desk.specs.Load.{IsNamed}
 use Rattle.ctl_state.specs.declared.state.State.{State}
 use Rattle.ctl_state.specs.Boxes.{mail_at}
 use Rattle.ctl_state.specs.Needs.{AreMet}

@@ -25,8 +25,8 @@ use Rattle.spec_control.specs.Control.{Control, reason_in, met_in, happens, is_e
 use Rattle.spec_control.specs.Held.{Held}
 use Rattle.control_laws.proofs.ListLemmas.{never, clash}
 use Rattle.control_laws.proofs.AskLemmas.{same_end, end_self}
-use Rattle.ctl_plane.specs.Holding.{Holding, Left, KeepsTurns, NoneWrites, has_end, without_end}
-use Rattle.ctl_plane.specs.Lent.{has_writer, here_ends, HasBothNames, HasEnds, HasAll}
+use Rattle.desk.specs.Holding.{Holding, Left, KeepsTurns, NoneWrites, has_end, without_end}
+use Rattle.desk.specs.Lent.{has_writer, here_ends, HasBothNames, HasEnds, HasAll}
 use Rattle.ctl_moves.specs.Turning.{yields, needs_writer, seals_for, Turned}
 use Rattle.ctl_moves.proofs.TurnLemmas.{ends_same, now_at, else_at, same_owner, same_attached, reasons_now, ToldAs, states_told}
 

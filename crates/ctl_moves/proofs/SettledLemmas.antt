@@ -28,15 +28,15 @@ use Rattle.control_laws.proofs.HearLemmas.{end_moved}
 use Rattle.control_laws.proofs.MetLemmas.{meets_cell}
 use Rattle.control_laws.specs.Room.{pair_to_come, row_to_come, up_to_come, for_slot, slots_of, to_come}
 use Rattle.control_laws.proofs.RowRoomLemmas.{place_falls}
-use Rattle.ctl_plane.specs.declared.load.Load.{Load}
-use Rattle.ctl_plane.specs.declared.load.Load.TheVariants.{Halves, Writer, Ends}
-use Rattle.ctl_plane.specs.Holding.{Holding, IsTold, read_in}
-use Rattle.ctl_plane.specs.Lent.{HasAll}
+use Rattle.desk.specs.declared.load.Load.{Load}
+use Rattle.desk.specs.declared.load.Load.TheVariants.{Halves, Writer, Ends}
+use Rattle.desk.specs.Holding.{Holding, IsTold, read_in}
+use Rattle.desk.specs.Lent.{HasAll}
 use Rattle.ctl_moves.proofs.OnceLemmas.{told_kept, told_one}
 use Rattle.control_laws.proofs.GoLemmas.{try_end_goes}
 use Rattle.ctl_moves.proofs.BetweenLemmas.{goes_between, happens_between}
 use Rattle.ctl_moves.proofs.KeepLemmas.{ended_now, told_kept as one_kept}
-use Rattle.ctl_plane.specs.Load.{BringsWriterTo, IsNamed}
+use Rattle.desk.specs.Load.{BringsWriterTo, IsNamed}
 use Rattle.ctl_state.specs.declared.state.State.{State}
 use Rattle.ctl_state.specs.Boxes.{mail_at}
 use Rattle.ctl_state.specs.Parts.{Tells}

@@ -27,14 +27,14 @@ use Rattle.control_laws.proofs.GuardLemmas.{may_come}
 use Rattle.control_laws.proofs.SoundLemmas.{socket_there}
 use Rattle.control_laws.specs.AttachedOnce.{AreOnce}
 use Rattle.control_laws.specs.Room.{to_come}
-use Rattle.ctl_plane.specs.declared.given.Given.{Given}
-use Rattle.ctl_plane.specs.declared.given.Parting.{Parting}
-use Rattle.ctl_plane.specs.declared.load.Load.{Load}
-use Rattle.ctl_plane.specs.declared.load.Load.TheVariants.{Halves, Writer, Ends}
-use Rattle.ctl_plane.specs.Holding.{Holding, given_as, held_given}
-use Rattle.ctl_plane.specs.Lent.{HasAll}
-use Rattle.ctl_plane.specs.TakingOver.{AreDistinct, ComeApart}
-use Rattle.ctl_plane.specs.Load.{AreEndsOfClosed, BringsAll, BringsEnds, GivesAll, IsNamed, brings_ends, given_by}
+use Rattle.desk.specs.declared.given.Given.{Given}
+use Rattle.desk.specs.declared.given.Parting.{Parting}
+use Rattle.desk.specs.declared.load.Load.{Load}
+use Rattle.desk.specs.declared.load.Load.TheVariants.{Halves, Writer, Ends}
+use Rattle.desk.specs.Holding.{Holding, given_as, held_given}
+use Rattle.desk.specs.Lent.{HasAll}
+use Rattle.desk.specs.TakingOver.{AreDistinct, ComeApart}
+use Rattle.desk.specs.Load.{AreEndsOfClosed, BringsAll, BringsEnds, GivesAll, IsNamed, brings_ends, given_by}
 use Rattle.ctl_moves.specs.Reaping.{TakesOver}
 use Rattle.ctl_moves.proofs.ApartLemmas.{reaped_apart}
 use Rattle.ctl_state.specs.declared.state.State.{State}

@@ -24,12 +24,12 @@ use Rattle.control_laws.proofs.SoundLemmas.{link_there}
 use Rattle.control_laws.specs.Room.{up_to_come, row_to_come, for_slot, slots_of, to_come}
 use Rattle.control_laws.proofs.StayLemmas.{SameEnds, ends_on, children_told as children_stay, tried}
 use Rattle.own_tree.specs.Rows.{state_at, children_of, tree_of, may_be_asked, asked_from}
-use Rattle.ctl_plane.specs.declared.load.Load.{Load}
-use Rattle.ctl_plane.specs.declared.notice.Notice.{Notice}
-use Rattle.ctl_plane.specs.Holding.{HearsMore, HearsNone, Holding, IsTold}
-use Rattle.ctl_plane.specs.Heard.{heard_by, term_with}
-use Rattle.ctl_plane.specs.Lent.{HasAll}
-use Rattle.ctl_plane.specs.Turns.{turned_in, turned_over, TurnsBy}
+use Rattle.desk.specs.declared.load.Load.{Load}
+use Rattle.desk.specs.declared.notice.Notice.{Notice}
+use Rattle.desk.specs.Holding.{HearsMore, HearsNone, Holding, IsTold}
+use Rattle.desk.specs.Heard.{heard_by, term_with}
+use Rattle.desk.specs.Lent.{HasAll}
+use Rattle.desk.specs.Turns.{turned_in, turned_over, TurnsBy}
 use Rattle.control_laws.specs.AttachedOnce.{AreOnce}
 use Rattle.zq_base.specs.declared.ids.EndId.{EndId}
 use Rattle.spec_control.specs.declared.end.EndState.{EndState}

@@ -18,8 +18,8 @@ use Rattle.spec_control.specs.Rows.{obj}
 use Rattle.spec_control.specs.Control.{Control, happens, is_end, link, place_of, put, try_end}
 use Rattle.spec_control.specs.After.{answers_in, processed, settle}
 use Rattle.control_laws.proofs.StayLemmas.{SameEnds, own_ends_stay, ack_ends_stay, link_ends_stay}
-use Rattle.ctl_plane.specs.Holding.{Holding}
-use Rattle.ctl_plane.specs.Turns.{TurnsBy, HasTurned, turn_at}
+use Rattle.desk.specs.Holding.{Holding}
+use Rattle.desk.specs.Turns.{TurnsBy, HasTurned, turn_at}
 use Rattle.ctl_moves.specs.Turning.{TurnsOnce, turn_of}
 use Rattle.ctl_moves.proofs.TurnedLemmas.{from_away, place_same}
 use Rattle.spec_control.specs.declared.end.EndState.TheVariants.{Active}

@@ -23,12 +23,12 @@ use Rattle.spec_control.specs.Held.{Held}
 use Rattle.control_laws.proofs.ListLemmas.{never, clash}
 use Rattle.control_laws.proofs.AskLemmas.{same_end, end_self}
 use Rattle.control_laws.proofs.HearLemmas.{EndMoved, end_moved}
-use Rattle.ctl_plane.specs.declared.load.Load.{Load}
-use Rattle.ctl_plane.specs.Load.{Carries}
+use Rattle.desk.specs.declared.load.Load.{Load}
+use Rattle.desk.specs.Load.{Carries}
 use Rattle.spec_control.specs.declared.letter.Word.TheVariants.{PipeTermAck}
-use Rattle.ctl_plane.specs.Holding.{Holding, Stays, Yielded, TurnsTo, KeepsTurns, has_end, is_state}
-use Rattle.ctl_plane.specs.Turns.{state_before, turn_at, sealed_by, TurnsBy}
-use Rattle.ctl_plane.specs.Lent.{has_writer, HasBothNames, HasEnds, HasAll}
+use Rattle.desk.specs.Holding.{Holding, Stays, Yielded, TurnsTo, KeepsTurns, has_end, is_state}
+use Rattle.desk.specs.Turns.{state_before, turn_at, sealed_by, TurnsBy}
+use Rattle.desk.specs.Lent.{has_writer, HasBothNames, HasEnds, HasAll}
 use Rattle.ctl_state.specs.declared.command.Command.{Command}
 use Rattle.ctl_state.specs.declared.state.State.{State}
 use Rattle.ctl_state.specs.Boxes.{mail_at, with_mail}

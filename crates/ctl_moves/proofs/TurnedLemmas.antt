@@ -12,9 +12,9 @@ use Rattle.spec_control.specs.Rows.{PairRow, no_pair, end_place}
 use Rattle.spec_control.specs.Control.{Control, is_end, place_of}
 use Rattle.control_laws.proofs.ListLemmas.{never}
 use Rattle.control_laws.proofs.AskLemmas.{same_end, end_self}
-use Rattle.ctl_plane.specs.Holding.{Holding, KeepsTurns, is_state}
-use Rattle.ctl_plane.proofs.TurnsLemmas.{seal_append}
-use Rattle.ctl_plane.specs.Turns.{state_before, turn_at, turned_over, turned_in, sealed_by, TurnsBy}
+use Rattle.desk.specs.Holding.{Holding, KeepsTurns, is_state}
+use Rattle.desk.proofs.TurnsLemmas.{seal_append}
+use Rattle.desk.specs.Turns.{state_before, turn_at, turned_over, turned_in, sealed_by, TurnsBy}
 use Rattle.control_laws.specs.AttachedOnce.{AreOnce}
 
 state_self : (s : EndState) → is_state (state_before (At s) s) s ≡ true

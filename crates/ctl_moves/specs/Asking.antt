@@ -8,9 +8,9 @@ use Rattle.spec_control.specs.declared.end.Reason.{Reason}
 use Rattle.spec_control.specs.Control.{Control, is_end, ask, owner_of, place_of}
 use Rattle.control_laws.specs.Move.{Move, MovesTo}
 use Rattle.control_laws.specs.Room.{to_come}
-use Rattle.ctl_plane.specs.declared.load.Load.{Load}
-use Rattle.ctl_plane.specs.Holding.{Holding}
-use Rattle.ctl_plane.specs.Lent.{HasAll}
+use Rattle.desk.specs.declared.load.Load.{Load}
+use Rattle.desk.specs.Holding.{Holding}
+use Rattle.desk.specs.Lent.{HasAll}
 use Rattle.ctl_state.specs.declared.state.State.{State}
 use Rattle.ctl_state.specs.Boxes.{mail_at}
 use Rattle.ctl_state.specs.Stands.{Stands}

@@ -18,14 +18,14 @@ use Rattle.spec_control.specs.Rows.{obj}
 use Rattle.spec_control.specs.Stage.{has_ended}
 use Rattle.spec_control.specs.Control.{Control, ask, attach, greet, is_end, owner_of, place_of}
 use Rattle.control_laws.specs.Room.{to_come}
-use Rattle.ctl_plane.specs.declared.halves.Halves.{Halves}
-use Rattle.ctl_plane.specs.declared.halves.NamedHalves.{NamedHalves}
-use Rattle.ctl_plane.specs.declared.load.Load.{Load}
-use Rattle.ctl_plane.specs.declared.load.Load.TheVariants.{Halves as IsHalves, Writer, Ends}
-use Rattle.ctl_plane.specs.Holding.{HearsNone, BeginsActive, Holding, JoinsBy, MayRefuse, Stays}
-use Rattle.ctl_plane.specs.Turns.{TurnsBy, turn_at}
-use Rattle.ctl_plane.specs.Lent.{HasAll}
-use Rattle.ctl_plane.specs.Load.{AreHalvesOf}
+use Rattle.desk.specs.declared.halves.Halves.{Halves}
+use Rattle.desk.specs.declared.halves.NamedHalves.{NamedHalves}
+use Rattle.desk.specs.declared.load.Load.{Load}
+use Rattle.desk.specs.declared.load.Load.TheVariants.{Halves as IsHalves, Writer, Ends}
+use Rattle.desk.specs.Holding.{HearsNone, BeginsActive, Holding, JoinsBy, MayRefuse, Stays}
+use Rattle.desk.specs.Turns.{TurnsBy, turn_at}
+use Rattle.desk.specs.Lent.{HasAll}
+use Rattle.desk.specs.Load.{AreHalvesOf}
 use Rattle.ctl_moves.specs.Turning.{PutsLoaded}
 use Rattle.ctl_state.specs.declared.belongings.Belongings.{Belongings}
 use Rattle.ctl_state.specs.declared.state.State.{State}

@@ -11,3 +11,16 @@ pub mod Naming
 pub mod Striking
 pub mod Attaching
 pub mod Processing
+pub mod Room
+pub mod Opening
+pub mod JoiningEnds
+pub mod Greeting
+pub mod Joined
+pub mod Joining
+pub mod JoinNoting
+pub mod Papers
+pub mod Connecting
+pub mod Batch
+pub mod Drawing
+pub mod Pairing
+pub mod Holding

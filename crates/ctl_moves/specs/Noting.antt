@@ -1,7 +1,7 @@
 -- What a closed socket's ends are noted with (own choice).
 use Rattle.spec_control.specs.declared.entry.Joining.{Joining}
 use Rattle.spec_control.specs.Control.{Control, met_in, place_of}
-use Rattle.ctl_plane.specs.declared.given.Given.{Given}
+use Rattle.desk.specs.declared.given.Given.{Given}
 
 module _ {N O I : Type 0} where
   -- an end is said to have met its delimiter where the control state has noted it

@@ -17,13 +17,13 @@ use Rattle.spec_control.specs.After.{answers_in, processed, settle}
 use Rattle.spec_control.specs.ControlRun.{Joins, word_joins, MayAnswerAll, Settles, IsSettled, is_between}
 use Rattle.spec_control.specs.declared.entry.Joining.{Joining}
 use Rattle.zq_base.specs.declared.ids.Settled.{Settled}
-use Rattle.ctl_plane.specs.declared.load.Load.{Load}
-use Rattle.ctl_plane.specs.declared.load.Load.TheVariants.{Halves as BringsHalves, Writer, Ends}
-use Rattle.ctl_plane.specs.declared.given.Parting.{Parting}
-use Rattle.ctl_plane.specs.Holding.{HearsMore, Holding, JoinsBy}
-use Rattle.ctl_plane.specs.Joins.{KeepsObjects, come_by}
-use Rattle.ctl_plane.specs.Lent.{HasAll}
-use Rattle.ctl_plane.specs.Load.{IsNamed}
+use Rattle.desk.specs.declared.load.Load.{Load}
+use Rattle.desk.specs.declared.load.Load.TheVariants.{Halves as BringsHalves, Writer, Ends}
+use Rattle.desk.specs.declared.given.Parting.{Parting}
+use Rattle.desk.specs.Holding.{HearsMore, Holding, JoinsBy}
+use Rattle.desk.specs.Joins.{KeepsObjects, come_by}
+use Rattle.desk.specs.Lent.{HasAll}
+use Rattle.desk.specs.Load.{IsNamed}
 use Rattle.ctl_moves.specs.Reaping.{ReapsAt}
 use Rattle.ctl_state.specs.declared.state.State.{State}
 use Rattle.ctl_state.specs.Stands.{Stands, tells}
@@ -32,7 +32,7 @@ use Rattle.ctl_moves.specs.Turning.{PutsLoaded, TurnsAt, TurnsOnce}
 use Rattle.ctl_moves.specs.Settling.{SettlesAt}
 use Rattle.ctl_moves.specs.Bare.{Hears}
 use Rattle.ctl_moves.specs.Attaching.{IsBound, KeepsPlaces}
-use Rattle.ctl_plane.specs.Heard.{heard_by}
+use Rattle.desk.specs.Heard.{heard_by}
 use Rattle.ctl_moves.specs.Striking.{Led}
 
 -- the commands that come: no object waits to be taken in

@@ -6,13 +6,13 @@ use Rattle.spec_control.specs.Row.{ReapComes, link_may}
 use Rattle.spec_control.specs.Rows.{obj}
 use Rattle.spec_control.specs.Stage.{has_ended}
 use Rattle.spec_control.specs.Control.{Control, link, put}
-use Rattle.ctl_plane.specs.declared.given.Parting.{Parting}
-use Rattle.ctl_plane.specs.declared.load.Load.{Load}
-use Rattle.ctl_plane.specs.Holding.{Holding}
-use Rattle.ctl_plane.specs.Joins.{KeepsObjects}
-use Rattle.ctl_plane.specs.Lent.{HasAll}
-use Rattle.ctl_plane.specs.Turns.{HasTurned}
-use Rattle.ctl_plane.specs.Load.{AreEndsOfClosed, GivesAll}
+use Rattle.desk.specs.declared.given.Parting.{Parting}
+use Rattle.desk.specs.declared.load.Load.{Load}
+use Rattle.desk.specs.Holding.{Holding}
+use Rattle.desk.specs.Joins.{KeepsObjects}
+use Rattle.desk.specs.Lent.{HasAll}
+use Rattle.desk.specs.Turns.{HasTurned}
+use Rattle.desk.specs.Load.{AreEndsOfClosed, GivesAll}
 use Rattle.ctl_state.specs.declared.state.State.{State}
 use Rattle.ctl_state.specs.Boxes.{mail_at}
 use Rattle.ctl_state.specs.Stands.{Stands}

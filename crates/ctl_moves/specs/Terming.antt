@@ -7,10 +7,10 @@ use Rattle.spec_control.specs.Rows.{obj}
 use Rattle.spec_control.specs.Control.{Control, link, ask_all, ends_of, tell_children, try_end, owner_of, place_of}
 use Rattle.spec_control.specs.After.{term_reason, term_delay, without_names}
 use Rattle.control_laws.specs.Move.{LinkMoves}
-use Rattle.ctl_plane.specs.declared.load.Load.{Load}
-use Rattle.ctl_plane.specs.Holding.{Holding}
-use Rattle.ctl_plane.specs.Joins.{KeepsObjects}
-use Rattle.ctl_plane.specs.Lent.{HasAll}
+use Rattle.desk.specs.declared.load.Load.{Load}
+use Rattle.desk.specs.Holding.{Holding}
+use Rattle.desk.specs.Joins.{KeepsObjects}
+use Rattle.desk.specs.Lent.{HasAll}
 use Rattle.ctl_state.specs.declared.state.State.{State}
 use Rattle.ctl_state.specs.Stands.{Stands}
 use Rattle.ctl_moves.specs.Turning.{PutsLoaded, TurnsOnce}

@@ -13,12 +13,12 @@ use Rattle.spec_control.specs.EndLife.{comes}
 use Rattle.spec_control.specs.Place.{At}
 use Rattle.spec_control.specs.Rows.{obj}
 use Rattle.spec_control.specs.Control.{Control, commands_in, is_end, owner_of, place_of}
-use Rattle.ctl_plane.specs.declared.load.Load.{Load}
-use Rattle.ctl_plane.specs.declared.load.Load.TheVariants.{Writer}
-use Rattle.ctl_plane.specs.Holding.{Holding, HearsNone, HoldsNow, has_end, written_in}
-use Rattle.ctl_plane.specs.Lent.{HasAll}
-use Rattle.ctl_plane.specs.Load.{Carries, brings_ends}
-use Rattle.ctl_plane.specs.Turns.{TurnsBy, HasTurned, turn_at}
+use Rattle.desk.specs.declared.load.Load.{Load}
+use Rattle.desk.specs.declared.load.Load.TheVariants.{Writer}
+use Rattle.desk.specs.Holding.{Holding, HearsNone, HoldsNow, has_end, written_in}
+use Rattle.desk.specs.Lent.{HasAll}
+use Rattle.desk.specs.Load.{Carries, brings_ends}
+use Rattle.desk.specs.Turns.{TurnsBy, HasTurned, turn_at}
 use Rattle.control_laws.specs.AttachedOnce.{AreOnce}
 use Rattle.ctl_state.specs.declared.command.Command.{Command}
 use Rattle.ctl_state.specs.declared.state.State.{State}

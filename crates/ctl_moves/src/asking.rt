@@ -4,8 +4,8 @@ ghost use Rattle.ctl_moves.specs.Turning.{Leads, turn_of};
 ghost use Rattle.ctl_moves.specs.Asking.{MayAskOne, MayAskAll, asked_turns};
 
 use crate::turn_end;
-use ctl_plane::{Holder, Load};
 use ctl_state::State;
+use desk::{Holder, Load};
 use msg_pipe::Pipes;
 use spec_control::{EndEvent, Reason};
 use zq_base::{EndId, ObjId};

@@ -2,8 +2,8 @@ ghost use Rattle.std.specs.Prelude.{◌≡◌, ◌≤◌, ◌+◌, ◌∷◌, []
 ghost use Rattle.std.specs.Vec.{vec_len, vec_capacity};
 ghost use Rattle.spec_control.specs.declared.letter.Word.TheVariants.{PipeBind};
 ghost use Rattle.spec_control.specs.Control.{Control, greet};
-ghost use Rattle.ctl_plane.specs.declared.load.Load.TheVariants.{Halves};
-ghost use Rattle.ctl_plane.specs.Holding.{HearsNone, JoinsBy, KeepsTurns, joining_with};
+ghost use Rattle.desk.specs.declared.load.Load.TheVariants.{Halves};
+ghost use Rattle.desk.specs.Holding.{HearsNone, JoinsBy, KeepsTurns, joining_with};
 ghost use Rattle.ctl_moves.specs.Turning.{Leads, turn_of};
 ghost use Rattle.ctl_state.specs.Stands.{Stands};
 ghost use Rattle.ctl_moves.specs.Asking.{MayAskOne};
@@ -12,8 +12,8 @@ ghost use Rattle.ctl_moves.specs.Attaching.{BindsEnd, MayBind, MayComeBound, IsA
 
 use crate::asking::ask_end;
 use crate::stages::is_asked;
-use ctl_plane::{Halves as PipeHalves, Holder, Load, NamedHalves};
 use ctl_state::State;
+use desk::{Halves as PipeHalves, Holder, Load, NamedHalves};
 use msg_pipe::Pipes;
 use spec_control::{Joining, Letter, Reason, Word};
 use std::alloc::{AllocError, Global};

@@ -11,8 +11,8 @@ ghost use Rattle.ctl_moves.specs.Striking.{StrikesWith, IsStruck, JoinsNone};
 
 use crate::striking::tell_struck;
 use crate::turn_end;
-use ctl_plane::{Holder, Load};
 use ctl_state::{Held, State};
+use desk::{Holder, Load};
 use msg_pipe::Pipes;
 use spec_control::{EndEvent, Reason};
 use zq_base::{EndId, Endpoint, ObjId};

@@ -2,37 +2,74 @@
 //! asked for: an end turns and settles, an object is asked, processes its Term and ends, a socket is
 //! made, names are taken and struck, the reaper takes a closed socket over, and an object hears the
 //! oldest command of its mailbox. Beside them stands why a request would be refused.
+//!
+//! The making of a pair between two sockets: the room that it takes, its number, the halves of its
+//! pipes, and the welcome of its first end.
+//!
+//! What can want memory comes first, and each of it can be taken back; what follows takes none.
+//!
+//! The pair that a connect makes with the holder of its name, and those that a bind makes with the
+//! sockets whose connects wait for its name.
+//!
+//! All that takes memory comes first, pair by pair, and is taken back, last first, where memory
+//! wants; the joining of the pairs takes none.
 #![tactic(auto)]
 
 mod asking;
 mod attaching;
 mod bare;
+mod batch;
+mod bind_drawing;
+mod connecting;
 mod disconnecting;
+mod drawing;
 mod ending;
+mod first;
+mod greeting;
 mod hearing;
+mod joining;
+mod joining_ends;
 mod making;
 mod naming;
+mod notes;
 mod noting;
+mod opening;
+mod owners;
+mod pairing;
+mod papers;
 mod reaping;
 mod reasons;
 mod refusals;
+mod room;
 mod settling;
 mod stages;
 mod striking;
 mod terming;
 mod turning;
+mod undrawing;
 mod waiting;
 
+pub use batch::{Batch, Drawn};
+pub use bind_drawing::draw_all;
+pub use connecting::connect_pair;
 pub use disconnecting::strike_connect;
+pub use drawing::{draw_pair, undraw_pair};
 pub use ending::ask_root;
 pub use hearing::{process, silent};
+pub use joining::join_pair;
+pub use joining_ends::{Capacities, FirstEnd, Names, attach_first};
 pub use making::{make, socket_made};
 pub use naming::take_name;
+pub use notes::Notes;
 pub use noting::note_met;
+pub use owners::Owners;
+pub use pairing::join_all;
+pub use papers::{Marks, Papers, capacities_of, papers_of};
 pub use refusals::{
     bind_refusal, binding_by, connect_refusal, disconnect_refusal, socket_refusal, unbind_refusal,
 };
 pub use stages::{is_looked_at, root_lives};
 pub use striking::strike_bind;
 pub use turning::turn_end;
+pub use undrawing::undraw_all;
 pub use waiting::wait;

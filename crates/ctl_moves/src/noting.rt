@@ -3,8 +3,8 @@ ghost use Rattle.spec_control.specs.Control.{Control};
 ghost use Rattle.ctl_state.specs.Stands.{Stands};
 ghost use Rattle.ctl_moves.specs.Noting.{noted_end, noted_join};
 
-use ctl_plane::{Given, Parting};
 use ctl_state::State;
+use desk::{Given, Parting};
 use spec_control::Joining;
 use zq_base::Seq;
 

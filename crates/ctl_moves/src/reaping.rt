@@ -1,10 +1,10 @@
 ghost use Rattle.std.specs.Prelude.{◌≡◌, true, map};
-ghost use Rattle.ctl_plane.specs.Holding.{HearsNone, held_given};
-ghost use Rattle.ctl_plane.specs.TakingOver.{ComeApart};
+ghost use Rattle.desk.specs.Holding.{HearsNone, held_given};
+ghost use Rattle.desk.specs.TakingOver.{ComeApart};
 ghost use Rattle.ctl_moves.specs.Reaping.{MayReap, TakesOver};
 
-use ctl_plane::{Holder, Load, Parting};
 use ctl_state::State;
+use desk::{Holder, Load, Parting};
 use msg_pipe::Pipes;
 use spec_control::Joining;
 use zq_base::{ObjId, Seq};

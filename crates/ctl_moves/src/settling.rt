@@ -1,10 +1,10 @@
 ghost use Rattle.std.specs.Prelude.{◌≡◌};
-ghost use Rattle.ctl_plane.specs.Holding.{NoneWrites};
+ghost use Rattle.desk.specs.Holding.{NoneWrites};
 ghost use Rattle.ctl_moves.specs.Settling.{MaySettle, SettlesEnd};
 
 use crate::turning::give_for;
-use ctl_plane::{Holder, Load};
 use ctl_state::State;
+use desk::{Holder, Load};
 use msg_pipe::Pipes;
 use spec_control::EndState;
 use zq_base::{EndId, Settled};

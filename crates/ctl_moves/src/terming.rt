@@ -1,14 +1,14 @@
 ghost use Rattle.std.specs.Prelude.{◌≡◌, ◌≢◌, [], true, false};
 ghost use Rattle.spec_control.specs.declared.letter.Word.TheVariants.{Term};
 ghost use Rattle.spec_control.specs.Control.{try_end};
-ghost use Rattle.ctl_plane.specs.Holding.{HearsMore, IsTold};
-ghost use Rattle.ctl_plane.specs.Heard.{heard_by, term_with};
+ghost use Rattle.desk.specs.Holding.{HearsMore, IsTold};
+ghost use Rattle.desk.specs.Heard.{heard_by, term_with};
 ghost use Rattle.ctl_moves.specs.Terming.{children_told, MayTerm, Terms};
 
 use crate::asking::ask_ends;
 use crate::reasons::{reads_on, term_reason};
-use ctl_plane::{Holder, Load};
 use ctl_state::State;
+use desk::{Holder, Load};
 use msg_pipe::Pipes;
 use zq_base::ObjId;
 

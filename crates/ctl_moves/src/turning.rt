@@ -2,14 +2,14 @@ ghost use Rattle.std.specs.Prelude.{◌≡◌, ◌≢◌, [], true, false};
 ghost use Rattle.spec_control.specs.declared.end.EndEvent.TheVariants.{AckCame};
 ghost use Rattle.spec_control.specs.Place.{At};
 ghost use Rattle.spec_control.specs.Control.{happens};
-ghost use Rattle.ctl_plane.specs.Holding.{has_end, HearsNone, Stays, TurnsTo};
-ghost use Rattle.ctl_plane.specs.Counts.{KeepsCounts};
-ghost use Rattle.ctl_plane.specs.Lent.{has_writer};
+ghost use Rattle.desk.specs.Holding.{has_end, HearsNone, Stays, TurnsTo};
+ghost use Rattle.desk.specs.Counts.{KeepsCounts};
+ghost use Rattle.desk.specs.Lent.{has_writer};
 ghost use Rattle.ctl_moves.specs.Turning.{yields, needs_writer, Turned, SealsFor, GivesFor};
 ghost use Rattle.ctl_moves.specs.Turning.{MayTurn, Leads, IsSoFar, seals_for, turn_of};
 
-use ctl_plane::{Holder, Load};
 use ctl_state::State;
+use desk::{Holder, Load};
 use msg_pipe::Pipes;
 use spec_control::{EndCommands, EndEvent};
 use zq_base::{EndId, ObjId};

@@ -1,1 +1,34 @@
-pub mod TurnsLemmas
+mod SilentLemmas
+mod WalkLemmas
+mod EventLemmas
+mod BeginLemmas
+mod DoneLemmas
+mod CarryLemmas
+mod OwedLemmas
+mod ReapLemmas
+mod CloseLemmas
+mod PlaneLemmas
+mod PlaneDoneLemmas
+mod OldestBindLemmas
+mod DeliverLemmas
+mod DelimitLemmas
+mod MakingLemmas
+mod RefusalLemmas
+mod StrikeLemmas
+mod StruckLemmas
+mod BindLemmas
+mod ConnectLemmas
+mod FreshLemmas
+mod OwnerLemmas
+mod NamedPlaneLemmas
+mod JoinHeldLemmas
+mod HeldEventLemmas
+mod HeldPlaneLemmas
+mod ToldLemmas
+mod GiveLemmas
+mod OnWayLemmas
+pub mod StillLemmas
+pub mod FulfilEventLemmas
+pub mod FulfilPlaneLemmas
+pub mod FulfillingLemmas
+pub mod ComeLemmas

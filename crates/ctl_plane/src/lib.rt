@@ -1,23 +1,31 @@
-//! How the holders of ends reach the control plane of a context, what it asks of them, and what its
-//! commands carry.
+//! The control events of a context in their order, with the state that they led to.
+//!
+//! Each call adds the event that its contract names; that the event fits, and that room is kept for
+//! all that may still come, always holds.
 #![tactic(auto)]
 
-mod calls;
-mod delivery;
-mod desk;
-mod given;
-mod halves;
-mod holder;
-mod load;
-mod made;
-mod notice;
+mod asking;
+mod binds;
+mod closed;
+mod closing;
+mod connecting;
+mod delimiters;
+mod deliveries;
+mod disconnects;
+mod enders;
+mod fulfilling;
+mod heard;
+mod history;
+mod joining;
+mod mailboxes;
+mod making;
+mod noting;
+mod refused;
+mod settled;
+mod shows;
+mod soundness;
+mod unbinding;
 
-pub use calls::Calls;
-pub use delivery::Delivery;
-pub use desk::Desk;
-pub use given::{Given, Parting};
-pub use halves::{Halves, NamedHalves};
-pub use holder::{Holder, Undoes};
-pub use load::Load;
-pub use made::Made;
-pub use notice::Notice;
+pub use heard::Heard;
+pub use history::History;
+pub use settled::PipeCounts;

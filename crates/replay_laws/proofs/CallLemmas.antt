@@ -22,8 +22,8 @@ use Rattle.spec_control.specs.declared.entry.Item.{Item}
 use Rattle.spec_control.specs.declared.entry.Item.TheVariants.{Event}
 use Rattle.spec_control.specs.Control.{Control, id}
 use Rattle.spec_control.specs.ControlRun.{Fits, FitsItem, after_item}
-use Rattle.spec_journal.specs.declared.journal.Answer.TheVariants as answer
-use Rattle.spec_journal.specs.Line.{sent_answer, got_answer, changed_answer}
+use Rattle.spec_run.specs.declared.texts.Answer.TheVariants as answer
+use Rattle.spec_run.specs.Line.{sent_answer, got_answer, changed_answer}
 use Rattle.spec_control.specs.Has.{acts_in_request}
 use Rattle.spec_control.specs.Moments.{Moment}
 use Rattle.spec_run.specs.declared.journal.LineAnswer.{LineAnswer}

@@ -16,7 +16,7 @@ use Rattle.control_laws.specs.Bound.{objects_made, pairs_made}
 use Rattle.control_laws.proofs.BoundLemmas.{ending_is_bounded}
 use Rattle.control_laws.proofs.ListLemmas.{never, left, right, and}
 use Rattle.spec_control.specs.Moments.{Moment, moments_from}
-use Rattle.spec_journal.specs.Turn.{IsOrder}
+use Rattle.spec_run.specs.Turn.{IsOrder}
 use Rattle.spec_run.specs.declared.journal.ObjectRow.{ObjectRow}
 use Rattle.spec_run.specs.declared.journal.RunJournal.{RunJournal}
 use Rattle.spec_run.specs.declared.journal.SettledRow.{SettledRow}

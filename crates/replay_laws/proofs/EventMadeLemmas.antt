@@ -12,7 +12,7 @@ use Rattle.spec_run.specs.OwnedRun.{deeds_in, AreTold}
 use Rattle.spec_run.specs.InTurns.{OneTurn, Turned, TurnsGo, turn_step, conductor_steps}
 use Rattle.spec_run.specs.CoreEvents.{Made}
 use Rattle.run_laws.proofs.GoesLemmas.{placed_both}
-use Rattle.script_actor.specs.Piece.{AreActsBy}
+use Rattle.zq_world.specs.Piece.{AreActsBy}
 use Rattle.zq_world.specs.ByEvents.{AreMadeBy}
 use Rattle.replay_laws.proofs.TurnLemmas.{at_place, WorksSo, acts_so, reaps_so, serves_so, works_of, as_many, acts_on}
 use Rattle.replay_laws.proofs.DeedLemmas.{made_of, steps_made, turn_made, turns_made, chosen_made}

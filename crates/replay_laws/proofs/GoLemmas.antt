@@ -6,7 +6,7 @@ use Rattle.std.proofs.lemmas.Bool.{eqb-true, eqb-false, ltb-true, ltb-false}
 use Rattle.zq_base.specs.Ends.{PipeId}
 use Rattle.spec_pattern.specs.PipeStep.{PipeStep}
 use Rattle.spec_control.specs.Control.{Control}
-use Rattle.spec_journal.specs.Turn.{IsOrder}
+use Rattle.spec_run.specs.Turn.{IsOrder}
 use Rattle.spec_run.specs.Act.{Act, Deed, Reads, steps_in, all_acts}
 use Rattle.spec_run.specs.Standing.{ActorStanding}
 use Rattle.spec_run.specs.InTurns.{OneTurn, Begins, AllStep, TurnsGo, Draws, turn_step, turn_sequence, turns_sequence}

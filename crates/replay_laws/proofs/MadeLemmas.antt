@@ -25,7 +25,7 @@ use Rattle.spec_control.specs.ControlRun.{FitsItem, after_item}
 use Rattle.control_laws.proofs.ListLemmas.{never, left, right, and}
 use Rattle.spec_control.specs.OwnAsks.{is_none}
 use Rattle.spec_control.specs.Moments.{Moment}
-use Rattle.spec_journal.specs.Turn.{IsOrder}
+use Rattle.spec_run.specs.Turn.{IsOrder}
 use Rattle.spec_run.specs.declared.line.LineCall.{LineCall}
 use Rattle.spec_run.specs.declared.line.LineCall.TheVariants.{Asks, Unbinds, Disconnects, Closes, Terms}
 use Rattle.spec_run.specs.declared.line.RunLine.{RunLine}

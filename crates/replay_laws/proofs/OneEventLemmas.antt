@@ -17,7 +17,7 @@ use Rattle.spec_run.specs.Event.{TakesLetter}
 use Rattle.spec_run.specs.OpenSocket.{OpenSock, PassesItems}
 use Rattle.spec_run.specs.Standing.{ActorStanding, FetchesOne, with_open, has_finished}
 use Rattle.spec_run.specs.CoreEvents.{CoreEvent, NextLine, TakeFrom, AskRoot, Tick, Made, deeds_made, may_take, actor_with, DoesNothing, StepsOn, StepsUnless, LineDoes, FetchesFor, ReapsOne, TakenBy, TakeDoes, AsksOnceMore, EventDoes}
-use Rattle.script_actor.proofs.SeatLemmas.{some_is}
+use Rattle.zq_world.proofs.SeatLemmas.{some_is}
 use Rattle.replay_laws.specs.Blank.{blank}
 use Rattle.replay_laws.specs.Mailboxes.{HaveBoxes}
 use Rattle.replay_laws.proofs.WalkLemmas.{leaves, Walks, Reached, Same, same_none, same_as}

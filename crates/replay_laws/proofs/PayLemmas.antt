@@ -27,7 +27,7 @@ use Rattle.spec_control.specs.Quiescence.{item_costs}
 use Rattle.control_laws.proofs.ListLemmas.{never, left, right}
 use Rattle.spec_control.specs.OwnAsks.{is_none}
 use Rattle.spec_control.specs.Moments.{Moment}
-use Rattle.spec_journal.specs.Turn.{IsOrder}
+use Rattle.spec_run.specs.Turn.{IsOrder}
 use Rattle.spec_run.specs.Act.{Act, Step, Said, Deed, Tries, Shuts, Fetches, Idles, Works, Looks, AsksRoot, Reads, steps_in, moments_in, all_acts}
 use Rattle.spec_run.specs.Event.{IsLookAt, acts_said}
 use Rattle.spec_run.specs.OpenSocket.{OpenSock}

@@ -22,7 +22,7 @@ use Rattle.spec_run.specs.declared.line.LineCall.TheVariants.{Asks, Unbinds, Dis
 use Rattle.spec_run.specs.declared.line.RunLine.{RunLine}
 use Rattle.spec_run.specs.LineCall.{RunScript}
 use Rattle.run_script.specs.RunGrammar.{ending_verb, socket_at, close_line, term_line, ending_line, run_statement, run_statement_by, run_statement_of, run_actor, run_script_of}
-use Rattle.script_actor.specs.MayAsk.{MayMake, IsLocal, MayAskLine, MayAskLines, MayAskScript}
+use Rattle.zq_world.specs.MayAsk.{MayMake, IsLocal, MayAskLine, MayAskLines, MayAskScript}
 use Rattle.replay_laws.proofs.ReadStepLemmas.{Holds, ok_holds, err_holds, held, if_then, any_then, by_test, IsSo, so_by_test}
 use Rattle.replay_laws.proofs.ValueLemmas.{local_at_last, given_may}
 

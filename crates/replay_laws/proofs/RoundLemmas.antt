@@ -9,7 +9,7 @@ use Rattle.spec_control.specs.Row.{is_socket}
 use Rattle.spec_control.specs.Rows.{obj}
 use Rattle.spec_control.specs.Control.{Control}
 use Rattle.control_laws.proofs.ListLemmas.{never}
-use Rattle.spec_journal.specs.Turn.{IsOrder}
+use Rattle.spec_run.specs.Turn.{IsOrder}
 use Rattle.spec_run.specs.Act.{Act, Deed, steps_in, all_acts}
 use Rattle.spec_run.specs.Standing.{ActorStanding}
 use Rattle.spec_run.specs.InTurns.{OneTurn, Begins, AllStep, turn_step, turn_sequence}

@@ -10,7 +10,7 @@ use Rattle.spec_control.specs.declared.entry.SeenEmpty.TheVariants.{Nothing}
 use Rattle.spec_control.specs.Control.{Control}
 use Rattle.spec_control.specs.Reply.{root_state}
 use Rattle.spec_control.specs.ControlRun.{IsSeen, FitsItem}
-use Rattle.spec_journal.specs.Turn.{next_number, choice, Chooses, IsOrder}
+use Rattle.spec_run.specs.Turn.{next_number, choice, Chooses, IsOrder}
 use Rattle.spec_control.specs.Moments.{Moment}
 use Rattle.spec_run.specs.Act.{Act, Said, Deed, Tries, Shuts, Fetches, Idles, Works, Looks, AsksRoot, Reads, steps_in, all_acts}
 use Rattle.spec_run.specs.Event.{IsLookAt}

@@ -18,7 +18,7 @@ use Rattle.spec_pattern.specs.Peers.{kept_ends, peer_names, named_peer, partner_
 use Rattle.spec_pattern.proofs.OnceLemmas.{unmapped}
 use Rattle.spec_pattern.proofs.NamesStayLemmas.{names_stay_one}
 use Rattle.spec_pattern.proofs.PumpedLemmas.{all_stay}
-use Rattle.spec_journal.proofs.AttachLemmas.{all_front, all_behind, attach_all as kept_with_one, names_kept}
+use Rattle.spec_run.proofs.AttachLemmas.{all_front, all_behind, attach_all as kept_with_one, names_kept}
 use Rattle.spec_control.specs.declared.letter.Letter.{Letter}
 use Rattle.spec_control.specs.declared.request.Req.{Req}
 use Rattle.spec_control.specs.declared.request.Reply.{Reply}

@@ -14,7 +14,7 @@ use Rattle.zq_script.specs.Part.{part_of}
 use Rattle.zq_script.specs.Place.{endpoint_of, is_inproc_name}
 use Rattle.zq_script.specs.SocketOption.{default_options, mark_of, is_identity, identity_of, with_option, with_options}
 use Rattle.zq_script.specs.Words.{Words}
-use Rattle.script_actor.specs.MayAsk.{MayBeSaid, MayMake, IsLocal}
+use Rattle.zq_world.specs.MayAsk.{MayBeSaid, MayMake, IsLocal}
 use Rattle.replay_laws.proofs.ReadStepLemmas.{Holds, ok_holds, err_holds, if_then, any_then, by_test, by_some}
 
 -- an endpoint is within the context

@@ -8,7 +8,7 @@ use Rattle.spec_control.specs.declared.entry.Item.{Item}
 use Rattle.spec_control.specs.Place.{is_unmade}
 use Rattle.spec_control.specs.Control.{begun, end_of, place_of}
 use Rattle.spec_control.specs.ControlRun.{IsControlRun, after_all}
-use Rattle.spec_journal.specs.Run.{Schedule}
+use Rattle.spec_run.specs.Run.{Schedule}
 use Rattle.spec_run.specs.declared.journal.SettledRow.{SettledRow}
 use Rattle.spec_run.specs.declared.journal.RunJournal.{RunJournal}
 use Rattle.spec_run.specs.LineCall.{RunScript}

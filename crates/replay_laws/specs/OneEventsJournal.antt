@@ -1,6 +1,6 @@
 -- That a run by events is replayed by its script and its events (own choice).
 use Rattle.std.specs.Prelude.{◌≡◌, List, length}
-use Rattle.spec_journal.specs.Run.{Schedule}
+use Rattle.spec_run.specs.Run.{Schedule}
 use Rattle.spec_run.specs.declared.journal.RunJournal.{RunJournal}
 use Rattle.spec_run.specs.LineCall.{RunScript}
 use Rattle.spec_run.specs.CoreEvents.{CoreEvent, IsEventsJournal}

@@ -1,6 +1,6 @@
 -- That a run is replayed by its script, its seed and the most turns that it may take (own choice).
 use Rattle.std.specs.Prelude.{◌≡◌}
-use Rattle.spec_journal.specs.Run.{Schedule}
+use Rattle.spec_run.specs.Run.{Schedule}
 use Rattle.spec_run.specs.declared.journal.RunJournal.{RunJournal}
 use Rattle.spec_run.specs.LineCall.{RunScript}
 use Rattle.spec_run.specs.RunJournal.{IsRunJournal}

@@ -2,7 +2,7 @@
 use Rattle.std.specs.Prelude.{◌≡◌, ℕ, List, Ok}
 use Rattle.spec_run.specs.LineCall.{RunScript}
 use Rattle.run_script.specs.RunGrammar.{run_script_of}
-use Rattle.script_actor.specs.MayAsk.{MayAskScript}
+use Rattle.zq_world.specs.MayAsk.{MayAskScript}
 
 -- each line of a script that is read may be asked
 abbrev pub ScriptsMayBeAsked : Type 0

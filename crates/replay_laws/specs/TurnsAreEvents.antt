@@ -1,6 +1,6 @@
 -- The events that a run in turns chooses (own choice): the clock's first reading; of each turn the asking of the root, if it is asked, an event of each worker in the order drawn, and the reading at its end. A look at the root, and one that finds the reaper's mailboxes empty, is no event.
 use Rattle.std.specs.Prelude.{ℕ, List, [], ◌∷◌, ◌++◌, flat_map, if◌then◌else◌, length, nat_lt}
-use Rattle.spec_journal.specs.Run.{Schedule}
+use Rattle.spec_run.specs.Run.{Schedule}
 use Rattle.spec_run.specs.declared.journal.RunJournal.{RunJournal}
 use Rattle.spec_run.specs.LineCall.{RunScript}
 use Rattle.spec_run.specs.Act.{Deed, Tries, Shuts, Fetches, Idles, Works, Looks, AsksRoot, Reads}

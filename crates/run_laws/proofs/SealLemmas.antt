@@ -7,9 +7,9 @@ use Rattle.spec_control.specs.declared.end.EndState.TheVariants.{Active, Delimit
 use Rattle.spec_control.specs.Place.{Place, Unmade, Away, At}
 use Rattle.spec_control.specs.Control.{place_of}
 use Rattle.spec_control.specs.Moments.{left_by}
-use Rattle.ctl_plane.specs.Holding.{is_state}
-use Rattle.ctl_plane.specs.Turns.{sealed_by, turn_at, turned_over}
-use Rattle.ctl_plane.proofs.TurnsLemmas.{seal_append}
+use Rattle.desk.specs.Holding.{is_state}
+use Rattle.desk.specs.Turns.{sealed_by, turn_at, turned_over}
+use Rattle.desk.proofs.TurnsLemmas.{seal_append}
 use Rattle.spec_run.specs.Event.{is_asked_once}
 use Rattle.run_laws.specs.SealsTold.{SealsAreTold}
 

@@ -3,10 +3,10 @@ use Rattle.std.proofs.Common.{◌≡◌, ℕ, Bool, true, false, List, [], ◌�
 use Rattle.std.specs.Prelude.{◌==◌, ◌&&◌, is_some, flat_map, map, if◌then◌else◌}
 use Rattle.std.proofs.Math.Logic.{∥∥₁_elim, ∥∥₁_map}
 use Rattle.zq_base.specs.declared.ids.EndId.{EndId}
-use Rattle.held_ends.proofs.PlaceLemmas.{place_within}
-use Rattle.held_ends.specs.Changes.{AreMakings}
-use Rattle.held_ends.specs.declared.changes.PipeChange.{PipeChange}
-use Rattle.held_ends.proofs.ChangeProps.{changes_prop, were_held_prop, made_out}
+use Rattle.end_table.proofs.PlaceLemmas.{place_within}
+use Rattle.end_table.specs.Changes.{AreMakings}
+use Rattle.end_table.specs.declared.changes.PipeChange.{PipeChange}
+use Rattle.end_table.proofs.ChangeProps.{changes_prop, were_held_prop, made_out}
 use Rattle.sock_core.specs.Came.{HasCome}
 use Rattle.sock_core.specs.Noted.{AreMade, HasDone}
 use Rattle.sock_core.specs.Standing.{standing_joins}
@@ -26,14 +26,14 @@ use Rattle.spec_control.specs.Control.{Control}
 use Rattle.spec_control.specs.Has.{has_then, has_over, has_after}
 use Rattle.spec_control.specs.Moments.{Moment, items_in, left_by}
 use Rattle.msg_pipe.specs.Known.{Known, IsThere}
-use Rattle.ctl_plane.specs.declared.given.Given.{Given}
-use Rattle.ctl_plane.specs.TakingOver.{IsGivenWith}
-use Rattle.held_ends.specs.Others.{IsNoneWritten, IsUnsettled}
-use Rattle.ctl_plane.specs.Holding.{Holding}
-use Rattle.ctl_plane.specs.Turns.{TurnsBy, turned_in}
-use Rattle.ctl_plane.specs.Desk.{heard_with, HasWhatTheySay, KeepsUp, AsksOnce, by_caller, came_with}
+use Rattle.desk.specs.declared.given.Given.{Given}
+use Rattle.desk.specs.TakingOver.{IsGivenWith}
+use Rattle.end_table.specs.Others.{IsNoneWritten, IsUnsettled}
+use Rattle.desk.specs.Holding.{Holding}
+use Rattle.desk.specs.Turns.{TurnsBy, turned_in}
+use Rattle.desk.specs.Desk.{heard_with, HasWhatTheySay, KeepsUp, AsksOnce, by_caller, came_with}
 use Rattle.spec_pattern.specs.Half.{Writing, Reading}
-use Rattle.held_ends.proofs.OthersLemmas.{places_stay, leaves_pipes, others_sound, halves_fitting}
+use Rattle.end_table.proofs.OthersLemmas.{places_stay, leaves_pipes, others_sound, halves_fitting}
 use Rattle.sock_core.proofs.FormLemmas.{sound_of, are_sound}
 use Rattle.sock_core.specs.declared.sock.SockCore.{SockCore}
 use Rattle.sock_calls.specs.Calls.{owner_of, holding_of, FitsPipes, LeavesOthers, HaveDone, OnlyMake, HasNone}

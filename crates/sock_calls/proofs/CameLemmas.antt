@@ -4,10 +4,10 @@ use Rattle.std.proofs.Math.Logic.{∥∥₁_elim, ∥∥₁_map}
 use Rattle.std.proofs.lemmas.List.{append_cancel_left}
 use Rattle.spec_control.specs.declared.entry.Joining.{Joining}
 use Rattle.msg_pipe.specs.Known.{Known}
-use Rattle.held_ends.specs.declared.changes.PipeChange.{PipeChange}
-use Rattle.held_ends.specs.declared.changes.PipeChange.TheVariants.{Kept, Made, Sealed, SealedAgain, Parted, Settled}
-use Rattle.held_ends.specs.declared.table.Place.{Place}
-use Rattle.held_ends.proofs.PlaceLemmas.{place_within}
+use Rattle.end_table.specs.declared.changes.PipeChange.{PipeChange}
+use Rattle.end_table.specs.declared.changes.PipeChange.TheVariants.{Kept, Made, Sealed, SealedAgain, Parted, Settled}
+use Rattle.end_table.specs.declared.table.Place.{Place}
+use Rattle.end_table.proofs.PlaceLemmas.{place_within}
 use Rattle.sock_core.specs.Came.{IsOneOf, HasJoined, JoinedAt, AreChangedAt, IsOfNew, HasCome}
 use Rattle.sock_core.specs.Way.{oldest_first}
 use Rattle.sock_calls.specs.Calls.{AreEndsApart, HaveComeBy}

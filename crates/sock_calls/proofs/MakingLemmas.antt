@@ -10,9 +10,9 @@ use Rattle.spec_control.specs.declared.request.Req.TheVariants.{Socket as MakeSo
 use Rattle.spec_control.specs.Register.{fulfilled_by}
 use Rattle.spec_control.specs.Control.{Control, end_of, next_pair}
 use Rattle.spec_control.specs.After.{binding_by}
-use Rattle.ctl_plane.specs.Making.{bind_makes, connect_makes, request_makes, IsMadeFor}
-use Rattle.ctl_plane.specs.Coming.{is_close}
-use Rattle.held_ends.proofs.SoundLemmas.{one_some}
+use Rattle.desk.specs.Making.{bind_makes, connect_makes, request_makes, IsMadeFor}
+use Rattle.desk.specs.Coming.{is_close}
+use Rattle.end_table.proofs.SoundLemmas.{one_some}
 
 none_there : {A : Type 0} (x : A) → None ≡ Some x → ⊥
 none_there x e = Prim.grind arith

@@ -12,12 +12,12 @@ use Rattle.spec_control.specs.declared.entry.Joining.{Joining}
 use Rattle.spec_control.specs.Moments.{Moment}
 use Rattle.spec_run.specs.OpenSocket.{attach_all, detach_all, AreAnswered}
 use Rattle.msg_pipe.specs.Known.{Known}
-use Rattle.held_ends.specs.declared.changes.PipeChange.{PipeChange}
-use Rattle.held_ends.specs.declared.table.Place.{Place}
-use Rattle.held_ends.specs.Places.{place_at}
-use Rattle.held_ends.specs.Others.{KeepsPlaces}
-use Rattle.held_ends.proofs.SoundLemmas.{one_some}
-use Rattle.held_ends.proofs.PlaceLemmas.{place_within}
+use Rattle.end_table.specs.declared.changes.PipeChange.{PipeChange}
+use Rattle.end_table.specs.declared.table.Place.{Place}
+use Rattle.end_table.specs.Places.{place_at}
+use Rattle.end_table.specs.Others.{KeepsPlaces}
+use Rattle.end_table.proofs.SoundLemmas.{one_some}
+use Rattle.end_table.proofs.PlaceLemmas.{place_within}
 use Rattle.sock_core.specs.declared.joint.JoinNote.{JoinNote}
 use Rattle.sock_core.specs.declared.sock.SockCore.{SockCore}
 use Rattle.sock_core.specs.Came.{HasCome}

@@ -5,18 +5,18 @@ use Rattle.zq_base.specs.declared.ids.Settled.{Settled}
 use Rattle.zq_base.specs.declared.kind.Kind.{Kind}
 use Rattle.spec_control.specs.declared.end.EndState.TheVariants.{Gone}
 use Rattle.msg_pipe.specs.Known.{Known}
-use Rattle.ctl_plane.specs.declared.halves.Halves.{Halves}
-use Rattle.ctl_plane.specs.Holding.{Holding}
-use Rattle.held_ends.specs.Counting.{counts_of}
-use Rattle.held_ends.specs.Sound.{Fits}
-use Rattle.held_ends.specs.Giving.{AreGone}
-use Rattle.held_ends.specs.Others.{Leaves}
+use Rattle.desk.specs.declared.halves.Halves.{Halves}
+use Rattle.desk.specs.Holding.{Holding}
+use Rattle.end_table.specs.Counting.{counts_of}
+use Rattle.end_table.specs.Sound.{Fits}
+use Rattle.end_table.specs.Giving.{AreGone}
+use Rattle.end_table.specs.Others.{Leaves}
 use Rattle.sock_core.specs.declared.sock.SockCore.{SockCore}
 use Rattle.sock_core.specs.Has.{IsStopped, holding_in}
-use Rattle.held_ends.specs.declared.changes.PipeChange.{PipeChange}
-use Rattle.held_ends.specs.Changes.{sealings_in, AreMakings, WereHeld, IsMadeAt, DoesChanges}
-use Rattle.held_ends.specs.declared.table.Place.{Place}
-use Rattle.held_ends.specs.Places.{place_at}
+use Rattle.end_table.specs.declared.changes.PipeChange.{PipeChange}
+use Rattle.end_table.specs.Changes.{sealings_in, AreMakings, WereHeld, IsMadeAt, DoesChanges}
+use Rattle.end_table.specs.declared.table.Place.{Place}
+use Rattle.end_table.specs.Places.{place_at}
 use Rattle.spec_control.specs.declared.entry.Joining.{Joining}
 use Rattle.sock_core.specs.Came.{IsOneOf, HasJoined, IsOfNew, AreChangedAt, HasCome}
 use Rattle.sock_core.specs.Standing.{standing_joins}

@@ -1,14 +1,14 @@
 -- What a call on one socket leaves of the others of a run (own choice).
 use Rattle.std.specs.Prelude.{◌≡◌, ℕ, true, List, Option, Some, None, All, is_some}
 use Rattle.msg_pipe.specs.Known.{Known}
-use Rattle.ctl_plane.specs.declared.given.Given.{Given}
-use Rattle.ctl_plane.specs.declared.halves.Halves.{Halves}
-use Rattle.ctl_plane.specs.TakingOver.{AreGivenWith}
-use Rattle.held_ends.specs.declared.table.Place.{Place}
-use Rattle.held_ends.specs.Places.{place_at}
-use Rattle.held_ends.specs.Sound.{IsElseOf}
-use Rattle.held_ends.specs.declared.table.EndTable.{EndTable}
-use Rattle.held_ends.specs.Others.{IsApartFrom, IsNoneWritten, IsNoneRead, IsUnsettled, AreElseFrom}
+use Rattle.desk.specs.declared.given.Given.{Given}
+use Rattle.desk.specs.declared.halves.Halves.{Halves}
+use Rattle.desk.specs.TakingOver.{AreGivenWith}
+use Rattle.end_table.specs.declared.table.Place.{Place}
+use Rattle.end_table.specs.Places.{place_at}
+use Rattle.end_table.specs.Sound.{IsElseOf}
+use Rattle.end_table.specs.declared.table.EndTable.{EndTable}
+use Rattle.end_table.specs.Others.{IsApartFrom, IsNoneWritten, IsNoneRead, IsUnsettled, AreElseFrom}
 use Rattle.sock_core.specs.declared.sock.SockCore.{SockCore}
 use Rattle.sock_calls.specs.Calls.{FitsPipes, MayJoin, LeavesOthers}
 

@@ -6,8 +6,8 @@ use Rattle.spec_pattern.specs.Pattern.{Pattern}
 use Rattle.spec_control.specs.declared.end.EndState.{EndState}
 use Rattle.spec_control.specs.declared.entry.Joining.{Joining}
 use Rattle.spec_control.specs.Moments.{Moment, left_by}
-use Rattle.ctl_plane.specs.Turns.{turned_in}
-use Rattle.ctl_plane.specs.Desk.{came_with}
+use Rattle.desk.specs.Turns.{turned_in}
+use Rattle.desk.specs.Desk.{came_with}
 use Rattle.spec_run.specs.OpenSocket.{attach_all, detach_all, AreAnswered}
 use Rattle.sock_core.specs.declared.sock.SockCore.{SockCore}
 use Rattle.sock_core.specs.Way.{outs_of, CanJoinAll, IsNaming}

@@ -1,6 +1,6 @@
 ghost use Rattle.sock_calls.specs.Others.{LeavesFit, LeavesJoining, LeavesGiven};
 
-use held_ends::HeldPipes;
+use end_table::HeldPipes;
 use sock_core::Joins;
 
 /// A call on one socket leaves the others fitting, whose ends are of other pipes.

@@ -1,8 +1,8 @@
 use crate::asking::ask;
 use crate::lent::{meet_lent, take_lent};
 use crate::moving::{Back, endpoint_of, number_of};
-use ctl_plane::{Calls, Delivery, Desk};
-use held_ends::HeldPipes;
+use desk::{Calls, Delivery, Desk};
+use end_table::HeldPipes;
 use sock_core::{Joins, SockCore};
 use spec_control::{Reply, Req};
 use std::alloc::{AllocError, Global};
@@ -160,8 +160,8 @@ where
     ghost use Rattle.spec_control.specs.Moments.{items_in};
     ghost use Rattle.spec_control.specs.Control.{id};
     ghost use Rattle.spec_control.specs.declared.request.Req.TheVariants.{Close};
-    ghost use Rattle.ctl_plane.specs.Coming.{KeepsNames, SendsEnds};
-    ghost use Rattle.ctl_plane.specs.Desk.{HasWhatTheySay, KeepsUp, AsksOnce};
+    ghost use Rattle.desk.specs.Coming.{KeepsNames, SendsEnds};
+    ghost use Rattle.desk.specs.Desk.{HasWhatTheySay, KeepsUp, AsksOnce};
     ghost use Rattle.sock_calls.specs.Calls.{owner_of, holding_of, FitsPipes, LeavesOthers, HaveDone, OnlyMake, HasNone};
 
     /// Closes the socket (zmq_close(3)): its ends are on their way to the reaper, and it has none. It

@@ -9,13 +9,13 @@ use Rattle.spec_control.specs.Control.{is_end}
 use Rattle.spec_control.specs.Place.{At}
 use Rattle.spec_run.specs.OpenSocket.{is_out}
 use Rattle.msg_pipe.specs.Known.{Known}
-use Rattle.ends.specs.Rows.{Rows}
-use Rattle.ctl_plane.specs.Lent.{has_writer}
-use Rattle.held_ends.specs.declared.changes.PipeChange.{PipeChange}
-use Rattle.held_ends.specs.declared.table.Place.{Place}
-use Rattle.held_ends.specs.Places.{place_at, is_of}
-use Rattle.held_ends.specs.Sound.{IsSound}
-use Rattle.held_ends.proofs.PlaceLemmas.{place_else}
+use Rattle.end_table.specs.Rows.{Rows}
+use Rattle.desk.specs.Lent.{has_writer}
+use Rattle.end_table.specs.declared.changes.PipeChange.{PipeChange}
+use Rattle.end_table.specs.declared.table.Place.{Place}
+use Rattle.end_table.specs.Places.{place_at, is_of}
+use Rattle.end_table.specs.Sound.{IsSound}
+use Rattle.end_table.proofs.PlaceLemmas.{place_else}
 use Rattle.sock_core.specs.Way.{Way, without_first, with_came, with_undone, IsElse, IsHeldAt, AreHeld, IsCalm}
 use Rattle.sock_core.proofs.FindLemmas.{alone_of, end_self, never}
 use Rattle.sock_core.proofs.WayLemmas.{at_before, at_last, stood_last}

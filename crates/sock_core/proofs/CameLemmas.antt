@@ -8,15 +8,15 @@ use Rattle.zq_base.specs.declared.ids.EndId.{EndId}
 use Rattle.spec_control.specs.declared.entry.Joining.{Joining}
 use Rattle.spec_control.specs.declared.end.EndState.{EndState}
 use Rattle.msg_pipe.specs.Known.{Known, IsThere}
-use Rattle.held_ends.specs.declared.changes.PipeChange.{PipeChange}
-use Rattle.held_ends.specs.declared.changes.PipeChange.TheVariants.{Kept, Made, Sealed, SealedAgain, Parted, Settled}
-use Rattle.held_ends.specs.declared.table.Place.{Place}
-use Rattle.held_ends.specs.Places.{place_at}
-use Rattle.held_ends.specs.Others.{IsLess, KeepsPlaces}
-use Rattle.held_ends.specs.Changes.{WasHeld, WereHeld, AreMakings, AddsMakings, IsMadeAt, DoesChanges, DoesMore}
-use Rattle.held_ends.proofs.EndsLemmas.{some_place}
-use Rattle.held_ends.proofs.MadeLemmas.{made_new}
-use Rattle.held_ends.proofs.PlaceLemmas.{place_within}
+use Rattle.end_table.specs.declared.changes.PipeChange.{PipeChange}
+use Rattle.end_table.specs.declared.changes.PipeChange.TheVariants.{Kept, Made, Sealed, SealedAgain, Parted, Settled}
+use Rattle.end_table.specs.declared.table.Place.{Place}
+use Rattle.end_table.specs.Places.{place_at}
+use Rattle.end_table.specs.Others.{IsLess, KeepsPlaces}
+use Rattle.end_table.specs.Changes.{WasHeld, WereHeld, AreMakings, AddsMakings, IsMadeAt, DoesChanges, DoesMore}
+use Rattle.end_table.proofs.EndsLemmas.{some_place}
+use Rattle.end_table.proofs.MadeLemmas.{made_new}
+use Rattle.end_table.proofs.PlaceLemmas.{place_within}
 use Rattle.sock_core.specs.Came.{IsOneOf, JoinedAt, IsChangedAt, AreChangedAt, IsOfNew, HasCome}
 use Rattle.sock_core.specs.Noted.{AreMade}
 use Rattle.sock_core.specs.Standing.{without_last}

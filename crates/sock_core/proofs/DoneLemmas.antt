@@ -7,12 +7,12 @@ use Rattle.std.proofs.lemmas.List.{append-nil, append_assoc, map-append}
 use Rattle.zq_base.specs.declared.ids.EndId.{EndId}
 use Rattle.spec_control.specs.Control.{is_end}
 use Rattle.msg_pipe.specs.Known.{Known}
-use Rattle.held_ends.specs.declared.changes.PipeChange.{PipeChange}
-use Rattle.held_ends.specs.declared.table.Place.{Place}
-use Rattle.held_ends.specs.Places.{place_at}
-use Rattle.held_ends.specs.Others.{KeepsPlaces}
-use Rattle.held_ends.specs.Changes.{sealings_in, sealing_at, DoesMore}
-use Rattle.held_ends.proofs.ChangeLemmas.{changes_later, since_on, held_since, sealings_since}
+use Rattle.end_table.specs.declared.changes.PipeChange.{PipeChange}
+use Rattle.end_table.specs.declared.table.Place.{Place}
+use Rattle.end_table.specs.Places.{place_at}
+use Rattle.end_table.specs.Others.{KeepsPlaces}
+use Rattle.end_table.specs.Changes.{sealings_in, sealing_at, DoesMore}
+use Rattle.end_table.proofs.ChangeLemmas.{changes_later, since_on, held_since, sealings_since}
 use Rattle.sock_core.specs.Noted.{were_told, TellsSeals, AreSealed, HasDone}
 
 -- ---- what was to be sealed

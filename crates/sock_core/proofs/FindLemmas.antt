@@ -7,12 +7,12 @@ use Rattle.std.specs.List.{list_any, position, position_or_len}
 use Rattle.zq_base.specs.declared.ids.EndId.{EndId}
 use Rattle.spec_control.specs.Control.{end_of, is_end, same_side}
 use Rattle.msg_pipe.specs.Known.{Known}
-use Rattle.ends.specs.Rows.{Rows}
-use Rattle.ctl_plane.specs.Holding.{has_end}
-use Rattle.held_ends.specs.declared.table.Place.{Place}
-use Rattle.held_ends.specs.Places.{IsOnce, place_at, held_of, held_in, is_of}
-use Rattle.held_ends.specs.Sound.{IsSound}
-use Rattle.held_ends.proofs.SoundLemmas.{one_some}
+use Rattle.end_table.specs.Rows.{Rows}
+use Rattle.desk.specs.Holding.{has_end}
+use Rattle.end_table.specs.declared.table.Place.{Place}
+use Rattle.end_table.specs.Places.{IsOnce, place_at, held_of, held_in, is_of}
+use Rattle.end_table.specs.Sound.{IsSound}
+use Rattle.end_table.proofs.SoundLemmas.{one_some}
 
 pub never : {X : Type 0} → true ≡ false → X
 never e = absurd (true≢false e)

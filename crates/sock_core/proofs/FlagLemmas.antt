@@ -9,11 +9,11 @@ use Rattle.zq_base.specs.declared.attached.Attached.TheVariants.{Yes, BadId, Sec
 use Rattle.spec_control.specs.Place.{At}
 use Rattle.spec_run.specs.OpenSocket.{is_out, awaits_delimiter}
 use Rattle.pub_sub.specs.Places.{is_place}
-use Rattle.held_ends.specs.declared.table.Place.{Place}
-use Rattle.held_ends.specs.Places.{place_at}
-use Rattle.held_ends.specs.Giving.{AreGone}
-use Rattle.held_ends.proofs.SoundLemmas.{one_some}
-use Rattle.held_ends.proofs.PlaceLemmas.{place_there, place_else}
+use Rattle.end_table.specs.declared.table.Place.{Place}
+use Rattle.end_table.specs.Places.{place_at}
+use Rattle.end_table.specs.Giving.{AreGone}
+use Rattle.end_table.proofs.SoundLemmas.{one_some}
+use Rattle.end_table.proofs.PlaceLemmas.{place_there, place_else}
 use Rattle.sock_core.specs.Peers.{AddsPeer, OthersStay, AreFlagged, AreInUse, IsInUse, is_taken}
 use Rattle.sock_core.proofs.GoneLemmas.{gone_at}
 

@@ -1,11 +1,11 @@
 -- The two forms of what stands at the places of a socket.
 use Rattle.std.proofs.Common.{◌≡◌, Bool, true, false, List, Option, Some, None, is_some, refl, sym, ap, ◌∙◌, subst, true≢false}
 use Rattle.msg_pipe.specs.Known.{Known}
-use Rattle.ends.specs.declared.row.EndRow.{EndRow}
-use Rattle.ends.specs.Rows.{Rows, row_at}
-use Rattle.held_ends.specs.declared.table.Place.{Place}
-use Rattle.held_ends.specs.Sound.{ReadsSo, WritesSo, StandsSo, IsSound}
-use Rattle.held_ends.proofs.SoundLemmas.{one_some}
+use Rattle.end_table.specs.declared.row.EndRow.{EndRow}
+use Rattle.end_table.specs.Rows.{Rows, row_at}
+use Rattle.end_table.specs.declared.table.Place.{Place}
+use Rattle.end_table.specs.Sound.{ReadsSo, WritesSo, StandsSo, IsSound}
+use Rattle.end_table.proofs.SoundLemmas.{one_some}
 use Rattle.sock_core.specs.Sound.{IsStanding, AreSound}
 
 the_some : {A : Type 0} (x : Option A) → is_some x ≡ true → (a : A) × (x ≡ Some a)

@@ -7,13 +7,13 @@ use Rattle.zq_base.specs.declared.kind.Kind.{Kind}
 use Rattle.spec_control.specs.Held.{Held}
 use Rattle.spec_control.specs.Control.{is_end}
 use Rattle.msg_pipe.specs.Known.{Known}
-use Rattle.ends.specs.Rows.{Rows}
-use Rattle.ctl_plane.specs.declared.given.Given.{Given}
-use Rattle.ctl_plane.specs.Holding.{HasGiven, KeepsTurns, AllSealed, AllTold, AllWriting, AllStated, held_given, has_end}
-use Rattle.held_ends.specs.declared.table.Place.{Place}
-use Rattle.held_ends.specs.Places.{place_at, held_of, held_in, is_of, writes_in, met_in}
-use Rattle.held_ends.specs.Sound.{IsSound}
-use Rattle.held_ends.specs.Giving.{Said, said_of, said_in, said_by, AreGone}
+use Rattle.end_table.specs.Rows.{Rows}
+use Rattle.desk.specs.declared.given.Given.{Given}
+use Rattle.desk.specs.Holding.{HasGiven, KeepsTurns, AllSealed, AllTold, AllWriting, AllStated, held_given, has_end}
+use Rattle.end_table.specs.declared.table.Place.{Place}
+use Rattle.end_table.specs.Places.{place_at, held_of, held_in, is_of, writes_in, met_in}
+use Rattle.end_table.specs.Sound.{IsSound}
+use Rattle.end_table.specs.Giving.{Said, said_of, said_in, said_by, AreGone}
 use Rattle.sock_core.specs.Has.{Told, state_in, has}
 use Rattle.sock_core.specs.Noted.{AreSealed}
 use Rattle.sock_core.proofs.FindLemmas.{never, end_self, alone_of, one_passes}

@@ -12,16 +12,16 @@ use Rattle.spec_control.specs.declared.end.EndState.{EndState}
 use Rattle.spec_control.specs.Place.{At}
 use Rattle.spec_run.specs.OpenSocket.{is_out}
 use Rattle.msg_pipe.specs.Known.{Known}
-use Rattle.ends.proofs.StepLemmas.{own_pipe, other_pipe}
-use Rattle.ends.specs.Rows.{Rows}
+use Rattle.end_table.proofs.StepLemmas.{own_pipe, other_pipe}
+use Rattle.end_table.specs.Rows.{Rows}
 use Rattle.pub_sub.specs.Places.{is_place, AreApart}
-use Rattle.held_ends.specs.declared.table.Place.{Place}
-use Rattle.held_ends.specs.Places.{place_at}
-use Rattle.held_ends.specs.Sound.{IsSound}
-use Rattle.held_ends.proofs.SoundLemmas.{one_some}
+use Rattle.end_table.specs.declared.table.Place.{Place}
+use Rattle.end_table.specs.Places.{place_at}
+use Rattle.end_table.specs.Sound.{IsSound}
+use Rattle.end_table.proofs.SoundLemmas.{one_some}
 use Rattle.sock_core.specs.Peers.{ArePeers, AreFlagged, peer_at, peer_of}
 use Rattle.sock_core.specs.Patterns.{GoesAs}
-use Rattle.ctl_plane.specs.Holding.{is_state}
+use Rattle.desk.specs.Holding.{is_state}
 use Rattle.spec_control.specs.declared.entry.Joining.{Joining}
 use Rattle.std.proofs.lemmas.List.{append-nil}
 use Rattle.sock_core.specs.Patterns.{StaysAs}

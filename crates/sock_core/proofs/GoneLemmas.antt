@@ -2,10 +2,10 @@
 use Rattle.std.proofs.Common.{◌≡◌, ℕ, zero, suc, true, false, List, [], ◌∷◌, Some, sym, ap, ◌∙◌, true≢false}
 use Rattle.std.proofs.lemmas.List.Elements.{All-head, All-tail}
 use Rattle.zq_base.specs.declared.ids.EndId.{EndId}
-use Rattle.held_ends.specs.declared.table.Place.{Place}
-use Rattle.held_ends.specs.Places.{place_at, is_of}
-use Rattle.held_ends.specs.Giving.{AreGone}
-use Rattle.held_ends.proofs.SoundLemmas.{one_some}
+use Rattle.end_table.specs.declared.table.Place.{Place}
+use Rattle.end_table.specs.Places.{place_at, is_of}
+use Rattle.end_table.specs.Giving.{AreGone}
+use Rattle.end_table.proofs.SoundLemmas.{one_some}
 use Rattle.sock_core.proofs.FindLemmas.{held_is}
 
 module _ {N I : Type 0} where

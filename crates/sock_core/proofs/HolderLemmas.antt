@@ -7,11 +7,11 @@ use Rattle.zq_base.specs.declared.kind.Kind.{Kind}
 use Rattle.spec_control.specs.declared.end.EndState.{EndState}
 use Rattle.spec_control.specs.Control.{is_end}
 use Rattle.spec_control.specs.Held.{Held}
-use Rattle.ctl_plane.specs.Holding.{BeginsNone, Yielded, Left, KeepsTurns, TurnsTo, Seals, IsLast, is_state, has_end, without_end, read_in, written_in}
-use Rattle.held_ends.specs.declared.table.Place.{Place}
-use Rattle.held_ends.specs.Places.{place_at, held_of, held_in, is_of, writes_of, writes_in, met_of}
-use Rattle.held_ends.proofs.SoundLemmas.{one_some}
-use Rattle.held_ends.proofs.PlaceLemmas.{place_there, place_else}
+use Rattle.desk.specs.Holding.{BeginsNone, Yielded, Left, KeepsTurns, TurnsTo, Seals, IsLast, is_state, has_end, without_end, read_in, written_in}
+use Rattle.end_table.specs.declared.table.Place.{Place}
+use Rattle.end_table.specs.Places.{place_at, held_of, held_in, is_of, writes_of, writes_in, met_of}
+use Rattle.end_table.proofs.SoundLemmas.{one_some}
+use Rattle.end_table.proofs.PlaceLemmas.{place_there, place_else}
 use Rattle.sock_core.specs.Has.{Told, state_in, has}
 use Rattle.sock_core.proofs.FindLemmas.{never, same_end, held_is, end_is, some_passes, one_passes, none_passes, has_here}
 use Rattle.sock_core.proofs.SeenLemmas.{any_same, held_same, state_same}

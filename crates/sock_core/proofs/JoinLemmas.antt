@@ -10,10 +10,10 @@ use Rattle.spec_control.specs.declared.end.EndState.{EndState}
 use Rattle.spec_control.specs.declared.end.EndState.TheVariants.{Active}
 use Rattle.spec_control.specs.Control.{is_end}
 use Rattle.spec_control.specs.Held.{Held}
-use Rattle.ctl_plane.specs.Holding.{Joined, BeginsActive, has_end}
-use Rattle.held_ends.specs.declared.table.Place.{Place}
-use Rattle.held_ends.specs.Places.{held_of, held_in, is_of, writes_of, writes_in, met_of, met_in}
-use Rattle.held_ends.specs.Attaching.{new_place}
+use Rattle.desk.specs.Holding.{Joined, BeginsActive, has_end}
+use Rattle.end_table.specs.declared.table.Place.{Place}
+use Rattle.end_table.specs.Places.{held_of, held_in, is_of, writes_of, writes_in, met_of, met_in}
+use Rattle.end_table.specs.Attaching.{new_place}
 use Rattle.sock_core.specs.Has.{Told, state_in, has}
 use Rattle.sock_core.proofs.FindLemmas.{never, same_end, has_here}
 

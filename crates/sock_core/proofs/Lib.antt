@@ -19,3 +19,7 @@ pub mod DoneLemmas
 pub mod MadeLemmas
 pub mod CameLemmas
 mod NewLemmas
+pub mod LentLemmas
+pub mod StopLemmas
+pub mod CallLemmas
+pub mod SteadyLemmas

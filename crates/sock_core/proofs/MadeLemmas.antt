@@ -8,14 +8,14 @@ use Rattle.zq_base.specs.Ends.{other_end}
 use Rattle.spec_pattern.specs.PipeStep.{same_side}
 use Rattle.spec_control.specs.Control.{is_end}
 use Rattle.msg_pipe.specs.Known.{Known}
-use Rattle.held_ends.specs.declared.changes.PipeChange.{PipeChange}
-use Rattle.held_ends.specs.declared.table.Place.{Place}
-use Rattle.held_ends.specs.Places.{place_at, is_of}
-use Rattle.held_ends.specs.Giving.{AreGone}
-use Rattle.held_ends.specs.Others.{IsLess, KeepsPlaces}
-use Rattle.held_ends.specs.Changes.{made_last, MakesNone, MakesOnlyOf, AreMadeFor, IsMadeAt}
-use Rattle.held_ends.proofs.EndsLemmas.{some_place}
-use Rattle.held_ends.proofs.PlaceLemmas.{place_within}
+use Rattle.end_table.specs.declared.changes.PipeChange.{PipeChange}
+use Rattle.end_table.specs.declared.table.Place.{Place}
+use Rattle.end_table.specs.Places.{place_at, is_of}
+use Rattle.end_table.specs.Giving.{AreGone}
+use Rattle.end_table.specs.Others.{IsLess, KeepsPlaces}
+use Rattle.end_table.specs.Changes.{made_last, MakesNone, MakesOnlyOf, AreMadeFor, IsMadeAt}
+use Rattle.end_table.proofs.EndsLemmas.{some_place}
+use Rattle.end_table.proofs.PlaceLemmas.{place_within}
 use Rattle.sock_core.specs.Noted.{AreMade}
 use Rattle.sock_core.proofs.FindLemmas.{one_passes}
 use Rattle.sock_core.proofs.FlagLemmas.{at_more}

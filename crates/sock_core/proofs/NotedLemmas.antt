@@ -5,13 +5,13 @@ use Rattle.std.proofs.Math.Logic.{∥∥₁_map}
 use Rattle.std.proofs.lemmas.List.Elements.{All-push}
 use Rattle.zq_base.specs.declared.ids.EndId.{EndId}
 use Rattle.spec_control.specs.Control.{is_end}
-use Rattle.held_ends.specs.declared.table.Place.{Place}
-use Rattle.held_ends.specs.Places.{place_at, is_of}
-use Rattle.held_ends.specs.Giving.{AreGone}
-use Rattle.held_ends.specs.Others.{KeepsPlaces}
-use Rattle.held_ends.proofs.ChangeLemmas.{not_back}
-use Rattle.held_ends.proofs.EndsLemmas.{some_place}
-use Rattle.held_ends.proofs.PlaceLemmas.{place_within}
+use Rattle.end_table.specs.declared.table.Place.{Place}
+use Rattle.end_table.specs.Places.{place_at, is_of}
+use Rattle.end_table.specs.Giving.{AreGone}
+use Rattle.end_table.specs.Others.{KeepsPlaces}
+use Rattle.end_table.proofs.ChangeLemmas.{not_back}
+use Rattle.end_table.proofs.EndsLemmas.{some_place}
+use Rattle.end_table.proofs.PlaceLemmas.{place_within}
 use Rattle.sock_core.specs.Noted.{ReadsNoMore, WereRead, AreSealed}
 use Rattle.sock_core.proofs.FindLemmas.{end_is}
 use Rattle.sock_core.proofs.FlagLemmas.{at_set, at_more}

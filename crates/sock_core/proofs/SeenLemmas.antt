@@ -6,10 +6,10 @@ use Rattle.zq_base.specs.declared.kind.Kind.{Kind}
 use Rattle.spec_control.specs.declared.end.EndState.{EndState}
 use Rattle.spec_control.specs.Control.{is_end}
 use Rattle.spec_control.specs.Held.{Held}
-use Rattle.ctl_plane.specs.Holding.{Stays}
-use Rattle.held_ends.specs.declared.table.Place.{Place}
-use Rattle.held_ends.specs.Places.{place_at, held_of, held_in, is_of, writes_of, writes_in, met_of, met_in}
-use Rattle.held_ends.proofs.SoundLemmas.{one_some}
+use Rattle.desk.specs.Holding.{Stays}
+use Rattle.end_table.specs.declared.table.Place.{Place}
+use Rattle.end_table.specs.Places.{place_at, held_of, held_in, is_of, writes_of, writes_in, met_of, met_in}
+use Rattle.end_table.proofs.SoundLemmas.{one_some}
 use Rattle.sock_core.specs.Has.{Told, state_in, has}
 
 -- the same ends are seen, with the same halves

@@ -2,7 +2,7 @@
 use Rattle.std.proofs.Common.{◌≡◌, ◌==◌, true, refl, sym, true≢false}
 use Rattle.spec_control.specs.declared.end.EndState.{EndState}
 use Rattle.spec_control.specs.declared.end.EndState.TheVariants.{Active, DelimiterGot, WaitDelimiter, AckSent, AskedOnce, AskedTwice, Gone}
-use Rattle.ctl_plane.specs.Holding.{is_state}
+use Rattle.desk.specs.Holding.{is_state}
 use Rattle.sock_core.specs.Turns.{state_number}
 
 pub same_number : (s t : EndState) → (state_number s == state_number t) ≡ is_state s t

@@ -12,10 +12,10 @@ use Rattle.spec_control.specs.declared.entry.Joining.{Joining}
 use Rattle.spec_control.specs.Place.{At}
 use Rattle.spec_control.specs.OwnAsks.{is_none}
 use Rattle.spec_run.specs.OpenSocket.{is_out, attach_all, detach_all, AreAnswered}
-use Rattle.held_ends.specs.declared.table.Place.{Place}
-use Rattle.held_ends.specs.Places.{place_at}
-use Rattle.held_ends.proofs.SoundLemmas.{one_some}
-use Rattle.held_ends.proofs.PlaceLemmas.{place_there, place_else}
+use Rattle.end_table.specs.declared.table.Place.{Place}
+use Rattle.end_table.specs.Places.{place_at}
+use Rattle.end_table.proofs.SoundLemmas.{one_some}
+use Rattle.end_table.proofs.PlaceLemmas.{place_there, place_else}
 use Rattle.sock_core.specs.declared.joint.JoinNote.{JoinNote}
 use Rattle.sock_core.specs.Peers.{AreElse, is_taken}
 use Rattle.sock_core.specs.Patterns.{IsAlike, CameBy, CanJoin, UndoesAs, AnswersAs, AttachesAs, NamesWhere}

@@ -2,10 +2,10 @@
 use Rattle.std.specs.Prelude.{◌≡◌, ◌≤◌, ◌⊎◌, ℕ, Bool, true, false, List, [], ◌∷◌, ◌++◌, Some}
 use Rattle.spec_control.specs.declared.entry.Joining.{Joining}
 use Rattle.msg_pipe.specs.Known.{Known, IsThere}
-use Rattle.held_ends.specs.declared.changes.PipeChange.{PipeChange}
-use Rattle.held_ends.specs.declared.changes.PipeChange.TheVariants.{Kept, Made, Sealed, SealedAgain, Parted, Settled}
-use Rattle.held_ends.specs.declared.table.Place.{Place}
-use Rattle.held_ends.specs.Places.{place_at}
+use Rattle.end_table.specs.declared.changes.PipeChange.{PipeChange}
+use Rattle.end_table.specs.declared.changes.PipeChange.TheVariants.{Kept, Made, Sealed, SealedAgain, Parted, Settled}
+use Rattle.end_table.specs.declared.table.Place.{Place}
+use Rattle.end_table.specs.Places.{place_at}
 use Rattle.sock_core.specs.Way.{oldest_first}
 
 -- one of these

@@ -4,14 +4,14 @@ use Rattle.zq_base.specs.declared.ids.EndId.{EndId}
 use Rattle.zq_base.specs.declared.kind.Kind.{Kind}
 use Rattle.spec_control.specs.declared.end.EndState.{EndState}
 use Rattle.spec_control.specs.declared.end.EndState.TheVariants.{Gone}
-use Rattle.ctl_plane.specs.Holding.{Holding}
-use Rattle.held_ends.specs.declared.table.Place.{Place}
-use Rattle.held_ends.specs.Places.{held_in, is_of, writes_in, met_in}
+use Rattle.desk.specs.Holding.{Holding}
+use Rattle.end_table.specs.declared.table.Place.{Place}
+use Rattle.end_table.specs.Places.{held_in, is_of, writes_in, met_in}
 use Rattle.spec_control.specs.declared.entry.Joining.{Joining}
 use Rattle.sock_core.specs.declared.joint.JoinNote.{JoinNote}
 use Rattle.sock_core.specs.declared.sock.SockCore.{SockCore}
-use Rattle.ctl_plane.specs.declared.notice.Notice.{Notice}
-use Rattle.ctl_plane.specs.declared.notice.Notice.TheVariants.{Stop, Term, Over}
+use Rattle.desk.specs.declared.notice.Notice.{Notice}
+use Rattle.desk.specs.declared.notice.Notice.TheVariants.{Stop, Term, Over}
 use Rattle.std.specs.List.{list_any}
 use Rattle.sock_core.specs.Standing.{standing_joins}
 

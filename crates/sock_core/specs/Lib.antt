@@ -8,3 +8,6 @@ pub mod Patterns
 pub mod Way
 pub mod Came
 pub mod Noted
+pub mod Lent
+pub mod Mails
+pub mod Holding

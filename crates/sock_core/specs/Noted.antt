@@ -3,13 +3,13 @@ use Rattle.std.specs.Prelude.{◌≡◌, ◌≤◌, ◌&&◌, ◌||◌, ◌++◌
 use Rattle.std.specs.List.{list_any}
 use Rattle.zq_base.specs.declared.ids.EndId.{EndId}
 use Rattle.spec_control.specs.Control.{is_end}
-use Rattle.held_ends.specs.declared.table.Place.{Place}
-use Rattle.held_ends.specs.Places.{place_at}
+use Rattle.end_table.specs.declared.table.Place.{Place}
+use Rattle.end_table.specs.Places.{place_at}
 use Rattle.msg_pipe.specs.Known.{Known}
-use Rattle.held_ends.specs.declared.changes.PipeChange.{PipeChange}
-use Rattle.ctl_plane.specs.declared.halves.Halves.{Halves}
-use Rattle.held_ends.specs.Sound.{Fits}
-use Rattle.held_ends.specs.Changes.{sealings_in, WereHeld, AreMadeFor, IsMadeAt, DoesChanges}
+use Rattle.end_table.specs.declared.changes.PipeChange.{PipeChange}
+use Rattle.desk.specs.declared.halves.Halves.{Halves}
+use Rattle.end_table.specs.Sound.{Fits}
+use Rattle.end_table.specs.Changes.{sealings_in, WereHeld, AreMadeFor, IsMadeAt, DoesChanges}
 
 -- of the ends that were to be sealed behind these, each that was sealed before is one of those that were told before it
 abbrev pub were_told : List EndId → List (EndId × Bool) → Bool

@@ -6,8 +6,8 @@ use Rattle.spec_control.specs.Place.{At}
 use Rattle.spec_run.specs.OpenSocket.{is_out, awaits_delimiter}
 use Rattle.pub_sub.specs.Places.{is_place}
 use Rattle.any_sock.specs.Over.{HaveSamePlaces}
-use Rattle.held_ends.specs.declared.table.Place.{Place}
-use Rattle.held_ends.specs.Places.{place_at}
+use Rattle.end_table.specs.declared.table.Place.{Place}
+use Rattle.end_table.specs.Places.{place_at}
 
 -- the kind took the end as a peer
 abbrev pub is_taken : Attached → Bool

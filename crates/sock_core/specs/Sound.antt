@@ -2,11 +2,11 @@
 use Rattle.std.specs.Prelude.{◌≡◌, ◌≢◌, ◌≤◌, ℕ, Bool, true, false, List, [], Option, Some, length, is_some, vec_capacity}
 use Rattle.sock_core.specs.declared.sock.Room.{Room}
 use Rattle.msg_pipe.specs.Known.{Known, IsElse}
-use Rattle.ends.specs.declared.row.EndRow.{EndRow}
-use Rattle.ends.specs.Rows.{Rows, row_at}
-use Rattle.held_ends.specs.declared.table.Place.{Place}
-use Rattle.held_ends.specs.Places.{place_at}
-use Rattle.held_ends.specs.Sound.{ReadsSo, WritesSo, AreApart}
+use Rattle.end_table.specs.declared.row.EndRow.{EndRow}
+use Rattle.end_table.specs.Rows.{Rows, row_at}
+use Rattle.end_table.specs.declared.table.Place.{Place}
+use Rattle.end_table.specs.Places.{place_at}
+use Rattle.end_table.specs.Sound.{ReadsSo, WritesSo, AreApart}
 
 module _ {S O I N : Type 0} (K : Known S O I N) where
   -- both halves stand in a row, or the reading half alone at the place, or nothing where the end is gone

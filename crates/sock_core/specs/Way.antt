@@ -8,10 +8,10 @@ use Rattle.spec_control.specs.declared.end.EndState.{EndState}
 use Rattle.spec_control.specs.declared.entry.Joining.{Joining}
 use Rattle.spec_control.specs.Place.{At}
 use Rattle.spec_run.specs.OpenSocket.{is_out, attach_all, detach_all, AreAnswered}
-use Rattle.held_ends.specs.declared.table.Place.{Place}
-use Rattle.held_ends.specs.Places.{place_at}
-use Rattle.held_ends.specs.Changes.{AreMakings}
-use Rattle.held_ends.specs.declared.changes.PipeChange.{PipeChange}
+use Rattle.end_table.specs.declared.table.Place.{Place}
+use Rattle.end_table.specs.Places.{place_at}
+use Rattle.end_table.specs.Changes.{AreMakings}
+use Rattle.end_table.specs.declared.changes.PipeChange.{PipeChange}
 use Rattle.sock_core.specs.declared.joint.JoinNote.{JoinNote}
 use Rattle.sock_core.specs.declared.joint.JoinNote.TheVariants.{Joined, TakenBack, Turned}
 use Rattle.sock_core.specs.declared.sock.SockCore.{SockCore}

@@ -1,6 +1,6 @@
 ghost use Rattle.std.specs.Prelude.{◌≡◌, true, false, length, map};
-ghost use Rattle.held_ends.specs.Giving.{AreGone};
-ghost use Rattle.held_ends.specs.Others.{Leaves};
+ghost use Rattle.end_table.specs.Giving.{AreGone};
+ghost use Rattle.end_table.specs.Others.{Leaves};
 ghost use Rattle.sock_core.specs.Sound.{AreSound, KeepsRoom};
 ghost use Rattle.sock_core.specs.Has.{IsStopped};
 ghost use Rattle.sock_core.specs.Peers.{ArePeers, AreFlagged, AreInUse, is_taken};
@@ -16,8 +16,8 @@ use crate::joint::{joint_of, note_back, note_join, note_turn};
 use crate::since::{Since, Undoing};
 use crate::sock::{Room, SockCore};
 use crate::turns::{note, note_heard, note_seal, stays, unjoin};
-use ctl_plane::{Given, Halves, Holder, Made, Notice, Parting, Undoes};
-use held_ends::{EndTable, HeldPipes, PipeChange, find};
+use desk::{Given, Halves, Holder, Made, Notice, Parting, Undoes};
+use end_table::{EndTable, HeldPipes, PipeChange, find};
 use spec_control::EndState;
 use std::alloc::{AllocError, AllocFailed, Global};
 use std::marker::{Brand, PhantomData};
@@ -117,12 +117,12 @@ where
 {
     ghost use Rattle.std.specs.Prelude.{◌≡◌, ◌∷◌, [], true, false, List, map, OnOk, OnErr, IfOk, IfErr};
     ghost use Rattle.zq_base.specs.declared.ids.EndId.{EndId};
-    ghost use Rattle.ctl_plane.specs.Holding.{held_with, held_optional, held_given};
-    ghost use Rattle.ctl_plane.specs.Holding.{Joined, BeginsActive, MayRefuse, Stays, KeepsTurns};
-    ghost use Rattle.ctl_plane.specs.Holding.{HasNowhere, HearsNone, JoinsBy, joining_with};
-    ghost use Rattle.ctl_plane.specs.Holding.{IsPlugged, Begins, AreAtDelimiter, writes_in};
-    ghost use Rattle.ctl_plane.specs.Holding.{states_optional, states_given};
-    ghost use Rattle.held_ends.specs.Counting.{counts_of};
+    ghost use Rattle.desk.specs.Holding.{held_with, held_optional, held_given};
+    ghost use Rattle.desk.specs.Holding.{Joined, BeginsActive, MayRefuse, Stays, KeepsTurns};
+    ghost use Rattle.desk.specs.Holding.{HasNowhere, HearsNone, JoinsBy, joining_with};
+    ghost use Rattle.desk.specs.Holding.{IsPlugged, Begins, AreAtDelimiter, writes_in};
+    ghost use Rattle.desk.specs.Holding.{states_optional, states_given};
+    ghost use Rattle.end_table.specs.Counting.{counts_of};
     ghost use Rattle.sock_core.specs.Has.{holding_in};
     ghost use Rattle.sock_core.specs.Noted.{FitsFor};
     ghost use Rattle.sock_core.specs.Way.{way_in, IsCalm};
@@ -160,7 +160,7 @@ where
         other: &P::Waker,
     ) -> Result<Made<P::Out, P::In>, AllocError> {
         let _object = o;
-        held_ends::make(
+        end_table::make(
             alloc,
             &mut self.pipes,
             &self.core.ends,
@@ -226,17 +226,17 @@ where
             Err(_) => return Err(AllocFailed { value: halves }),
         }
         self.core.kind.is_sound();
-        match held_ends::prepare(alloc, &mut self.core.ends, end, halves) {
+        match end_table::prepare(alloc, &mut self.core.ends, end, halves) {
             Ok(row) => match self.core.kind.attach(alloc, place, identity) {
                 Ok(answer) => {
-                    held_ends::join(&self.pipes, &mut self.core.ends, row, is_taken(answer));
+                    end_table::join(&self.pipes, &mut self.core.ends, row, is_taken(answer));
                     let core = &mut self.core;
                     note_join(&mut core.joins, &mut core.way, joint, identity, answer);
                     return Ok(answer);
                 }
                 Err(_) => {
                     return Err(AllocFailed {
-                        value: held_ends::give_back(row),
+                        value: end_table::give_back(row),
                     });
                 }
             },
@@ -256,7 +256,7 @@ where
                 note_turn(&mut self.core.way, alloc, end, was, state);
                 let is_peer = self.core.ends.places[place].peer;
                 let peer = stays(&mut self.core.kind, end.pair, place, is_peer, state);
-                held_ends::set_state(&self.pipes, &mut self.core.ends, place, state, peer);
+                end_table::set_state(&self.pipes, &mut self.core.ends, place, state, peer);
                 return;
             }
             None => unreachable!(),
@@ -267,7 +267,7 @@ where
         let _object = o;
         match find(&self.core.ends.places, end) {
             Some(place) => {
-                held_ends::seal(&mut self.pipes, &mut self.core.ends, &mut self.did, place);
+                end_table::seal(&mut self.pipes, &mut self.core.ends, &mut self.did, place);
                 note_seal(&mut self.core.sealed, end);
                 return;
             }
@@ -280,7 +280,7 @@ where
         let _object = o;
         match find(&self.core.ends.places, end) {
             Some(place) => {
-                return held_ends::yield_writer(
+                return end_table::yield_writer(
                     &mut self.pipes,
                     &mut self.core.ends,
                     &mut self.did,
@@ -295,7 +295,7 @@ where
         let _object = o;
         match find(&self.core.ends.places, end) {
             Some(place) => {
-                return held_ends::settle(
+                return end_table::settle(
                     &mut self.pipes,
                     &mut self.core.ends,
                     &mut self.did,
@@ -365,7 +365,7 @@ where
         let _object = o;
         self.core.is_open = false;
         let (mut ends, mut joined) = self.core.room.hand_over();
-        held_ends::give_ends(&self.pipes, &mut self.core.ends, &mut ends, &mut joined);
+        end_table::give_ends(&self.pipes, &mut self.core.ends, &mut ends, &mut joined);
         Parting {
             ends,
             joined: Seq::of_vec(joined),
@@ -413,7 +413,7 @@ where
                 let alloc = *self.core.ends.places.allocator();
                 let core = &mut self.core;
                 note_back(&mut core.joins, &mut core.way, alloc);
-                return held_ends::take_back(&self.pipes, &mut self.core.ends, place);
+                return end_table::take_back(&self.pipes, &mut self.core.ends, place);
             }
             None => unreachable!(),
         }

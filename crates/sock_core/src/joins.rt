@@ -11,7 +11,7 @@ pub trait Joins {
     ghost use Rattle.spec_pattern.specs.Pattern.{Pattern};
     ghost use Rattle.zq_base.specs.declared.ids.EndId.{EndId};
     ghost use Rattle.zq_base.specs.declared.kind.Kind.{Kind};
-    ghost use Rattle.ctl_plane.specs.Holding.{MayRefuse};
+    ghost use Rattle.desk.specs.Holding.{MayRefuse};
 
     /// The kind.
     ghost kind: { Self → Kind };

@@ -1,12 +1,12 @@
 ghost use Rattle.std.specs.Prelude.{◌≡◌, ◌++◌, ◌∷◌, []};
 ghost use Rattle.std.specs.Prelude.{if◌then◌else◌};
-ghost use Rattle.ctl_plane.specs.Holding.{is_state};
+ghost use Rattle.desk.specs.Holding.{is_state};
 ghost use Rattle.sock_core.specs.Standing.{joining_as, standing_joins, without_last};
 ghost use Rattle.sock_core.specs.Way.{way_in, with_came, with_undone, with_turned};
 
 use crate::turns::is_same;
-use ctl_plane::Halves;
-use held_ends::HeldPipes;
+use desk::Halves;
+use end_table::HeldPipes;
 use spec_control::EndState;
 use std::alloc::Global;
 use zq_base::{Attached, EndId, Log, Octets};

@@ -1,19 +1,28 @@
 //! A socket with its ends, over any pipes: what the control plane asks of it.
+//!
+//! Calls on messages of a socket over its own ends, and looks at an end that reads on.
 #![tactic(auto)]
 
 mod any;
 mod awaiting;
+mod cores;
 mod holder;
 mod joins;
 mod joint;
+mod looks;
+mod mails;
+mod over;
 mod since;
 mod sock;
 mod turns;
 
 pub use awaiting::awaits;
+pub use cores::{pump_core, recv_core, send_core, subscribe_core, unsubscribe_core};
 pub use holder::SockHolder;
 pub use joins::Joins;
 pub use joint::{JoinNote, Joint};
+pub use looks::{look, look_in};
+pub use mails::{pump, recv, send, subscribe, unsubscribe};
 pub use since::{Since, Undoable, Undoing};
 pub use sock::{Room, SockCore};
 pub use turns::{note, note_seal};

@@ -1,6 +1,6 @@
 use crate::joint::JoinNote;
-use ctl_plane::{Given, Notice};
-use held_ends::EndTable;
+use desk::{Given, Notice};
+use end_table::EndTable;
 use spec_control::{EndState, Joining};
 use std::alloc::AllocError;
 use std::mem;

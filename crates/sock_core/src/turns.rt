@@ -1,7 +1,7 @@
 ghost use Rattle.std.specs.Prelude.{◌≡◌, ◌++◌, ◌∷◌, [], true, false, map, if◌then◌else◌};
 ghost use Rattle.spec_control.specs.Place.{At};
 ghost use Rattle.spec_run.specs.OpenSocket.{is_out};
-ghost use Rattle.ctl_plane.specs.Holding.{is_state};
+ghost use Rattle.desk.specs.Holding.{is_state};
 ghost use Rattle.std.specs.List.{list_any};
 ghost use Rattle.sock_core.specs.Has.{is_stop};
 ghost use Rattle.sock_core.specs.Turns.{state_number};
@@ -9,7 +9,7 @@ ghost use Rattle.sock_core.specs.Peers.{Parts, StaysPeer};
 ghost use Rattle.sock_core.specs.Patterns.{GoesAs, StaysAs, UndoesAs};
 
 use crate::joins::Joins;
-use ctl_plane::Notice;
+use desk::Notice;
 use spec_control::EndState;
 use zq_base::{EndId, Log, PairId};
 

@@ -1,7 +1,7 @@
 -- The worked run of a socket that is made and closed is a run, and its journal is the one by hand.
 use Rattle.std.specs.Prelude.{◌≡◌, ℕ, [], ◌∷◌, Some, refl}
 use Rattle.zq_base.specs.declared.kind.Kind.TheVariants.{Pull}
-use Rattle.spec_journal.specs.ExampleParts.{options_with}
+use Rattle.spec_run.specs.TextParts.{options_with}
 use Rattle.spec_control.specs.Moments.{moments_from}
 use Rattle.spec_run.specs.declared.line.LineCall.TheVariants.{Closes}
 use Rattle.spec_run.specs.OpenSocket.{new_open}

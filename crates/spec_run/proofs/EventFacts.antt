@@ -10,8 +10,8 @@ use Rattle.spec_control.specs.ControlExamples.{Stories}
 use Rattle.spec_control.specs.Has.{AreBy}
 use Rattle.spec_control.proofs.TrialLemmas.{none, acts, takes, of_root}
 use Rattle.zq_script.specs.declared.script.Call.TheVariants as call
-use Rattle.spec_journal.specs.declared.journal.Answer.TheVariants as answer
-use Rattle.spec_journal.specs.ExampleParts.{options_with}
+use Rattle.spec_run.specs.declared.texts.Answer.TheVariants as answer
+use Rattle.spec_run.specs.TextParts.{options_with}
 use Rattle.spec_control.specs.Moments.{moments_from}
 use Rattle.spec_run.specs.declared.journal.LineAnswer.TheVariants.{Plain}
 use Rattle.spec_run.specs.declared.line.LineCall.TheVariants.{Asks, Closes}

@@ -22,11 +22,11 @@ use Rattle.spec_control.specs.Names.{AreNamed}
 use Rattle.spec_control.specs.ControlExamples.{Stories}
 use Rattle.spec_control.specs.Has.{AreBy}
 use Rattle.spec_control.proofs.TrialLemmas.{none, one, acts, takes, of_root, told}
-use Rattle.spec_journal.specs.ExampleParts.{options_with, pair_nr, at_q, got_from_1}
+use Rattle.spec_run.specs.TextParts.{options_with, pair_nr, at_q, got_from_1}
 use Rattle.spec_run.specs.ExampleParts.{moment, line_nr, over_at}
 use Rattle.spec_run.specs.declared.line.LineCall.TheVariants.{Asks, Closes}
 use Rattle.spec_run.specs.declared.line.RunLine.{RunLine}
-use Rattle.spec_journal.specs.declared.journal.Answer.TheVariants as answer
+use Rattle.spec_run.specs.declared.texts.Answer.TheVariants as answer
 use Rattle.spec_run.specs.declared.journal.LineAnswer.TheVariants.{Plain}
 use Rattle.spec_run.specs.Act.{Step, Said}
 use Rattle.spec_run.specs.OpenSocket.{OpenSock, new_open, sock_after}

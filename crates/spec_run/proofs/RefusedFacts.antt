@@ -13,7 +13,7 @@ use Rattle.spec_control.specs.declared.entry.Item.TheVariants.{Seen}
 use Rattle.spec_control.specs.declared.entry.Sight.{Sight}
 use Rattle.spec_control.specs.Control.{end_of}
 use Rattle.spec_control.specs.ControlExamples.{Stories}
-use Rattle.spec_journal.specs.declared.journal.Answer.TheVariants as answer
+use Rattle.spec_run.specs.declared.texts.Answer.TheVariants as answer
 use Rattle.spec_run.specs.declared.journal.LineAnswer.{LineAnswer}
 use Rattle.spec_run.specs.declared.journal.LineAnswer.TheVariants.{Plain, Term}
 use Rattle.spec_run.specs.declared.journal.RunJournal.{RunJournal}

@@ -18,8 +18,8 @@ use Rattle.spec_control.specs.Names.{AreNamed}
 use Rattle.spec_control.specs.ControlExamples.{Stories}
 use Rattle.spec_control.specs.Has.{AreBy}
 use Rattle.spec_control.proofs.TrialLemmas.{none, one, acts, takes, of_root, told}
-use Rattle.spec_journal.specs.declared.journal.Answer.TheVariants as answer
-use Rattle.spec_journal.specs.ExampleParts.{options_with, pair_nr, at_q}
+use Rattle.spec_run.specs.declared.texts.Answer.TheVariants as answer
+use Rattle.spec_run.specs.TextParts.{options_with, pair_nr, at_q}
 use Rattle.spec_control.specs.Moments.{moments_from}
 use Rattle.spec_run.specs.declared.journal.LineAnswer.TheVariants.{Plain}
 use Rattle.spec_run.specs.ExampleParts.{moment, line_nr, over_at}

@@ -10,9 +10,9 @@ use Rattle.spec_control.specs.declared.entry.SeenEmpty.TheVariants.{Nothing, Rea
 use Rattle.spec_control.specs.declared.entry.Item.{Item}
 use Rattle.spec_control.specs.Control.{id}
 use Rattle.spec_control.specs.ControlExamples.{Stories, silent}
-use Rattle.spec_journal.specs.declared.journal.Answer.TheVariants as answer
-use Rattle.spec_journal.specs.Run.{Schedule}
-use Rattle.spec_journal.specs.ExampleParts.{options_with}
+use Rattle.spec_run.specs.declared.texts.Answer.TheVariants as answer
+use Rattle.spec_run.specs.Run.{Schedule}
+use Rattle.spec_run.specs.TextParts.{options_with}
 use Rattle.spec_run.specs.declared.journal.LineAnswer.TheVariants.{Plain}
 use Rattle.spec_run.specs.declared.journal.RunJournal.{RunJournal}
 use Rattle.spec_run.specs.declared.line.LineCall.TheVariants.{Asks, Closes}

@@ -3,7 +3,7 @@ use Rattle.spec_control.specs.declared.request.Refusal.{Refusal}
 use Rattle.spec_control.specs.declared.request.Refusal.TheVariants as refusal
 use Rattle.spec_control.specs.declared.request.Reply.{Reply}
 use Rattle.spec_control.specs.declared.request.Reply.TheVariants as reply
-use Rattle.spec_journal.specs.declared.journal.Answer.TheVariants as answer
+use Rattle.spec_run.specs.declared.texts.Answer.TheVariants as answer
 use Rattle.spec_run.specs.declared.journal.LineAnswer.{LineAnswer}
 use Rattle.spec_run.specs.declared.journal.LineAnswer.TheVariants.{Plain, Both, NotBound, Term}
 

@@ -8,8 +8,8 @@ use Rattle.spec_control.specs.declared.request.Reply.TheVariants.{Done, Object, 
 use Rattle.spec_control.specs.declared.entry.Item.{Item}
 use Rattle.spec_control.specs.Control.{id}
 use Rattle.spec_control.specs.ControlExamples.{Stories, silent}
-use Rattle.spec_journal.specs.declared.journal.Answer.TheVariants as answer
-use Rattle.spec_journal.specs.ExampleParts.{options_with}
+use Rattle.spec_run.specs.declared.texts.Answer.TheVariants as answer
+use Rattle.spec_run.specs.TextParts.{options_with}
 use Rattle.spec_run.specs.declared.journal.LineAnswer.TheVariants.{Plain}
 use Rattle.spec_run.specs.declared.line.LineCall.TheVariants.{Asks, Closes}
 use Rattle.spec_run.specs.Act.{Said, Tries, Fetches, AsksRoot, Reads}

@@ -7,8 +7,8 @@ use Rattle.spec_control.specs.declared.end.Reason.TheVariants.{Closed, BadId, Se
 use Rattle.spec_control.specs.declared.object.ObjKind.{ObjKind}
 use Rattle.spec_control.specs.declared.object.ObjKind.TheVariants.{Root, Socket, Listener, Session}
 use Rattle.spec_control.specs.Control.{id}
-use Rattle.spec_journal.specs.declared.journal.PipeRow.{PipeRow}
-use Rattle.spec_journal.specs.Text.{answer_text, skips_text, pipe_text}
+use Rattle.spec_run.specs.declared.texts.PipeRow.{PipeRow}
+use Rattle.spec_run.specs.Text.{answer_text, skips_text, pipe_text}
 use Rattle.spec_run.specs.declared.journal.LineAnswer.{LineAnswer}
 use Rattle.spec_run.specs.declared.journal.LineAnswer.TheVariants.{Plain, Both, NotBound, Term}
 use Rattle.spec_run.specs.declared.journal.LineEntry.{LineEntry}

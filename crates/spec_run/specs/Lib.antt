@@ -23,3 +23,17 @@ pub mod EventsExample
 pub mod RefusedRuns
 pub mod WorkedRuns
 pub mod RunLaws
+pub use Rattle.spec_pattern.specs.PipeStep
+pub use Rattle.spec_pattern.specs.TurnList
+pub use Rattle.spec_pattern.specs.Call
+pub mod NewSocket
+pub mod Line
+pub mod Turn
+pub mod Run
+pub mod Text
+pub mod TextParts
+pub mod ExamplesPipes
+pub mod ExamplesPeers
+pub mod ExamplesDrops
+pub mod ExamplesTopics
+pub mod Examples

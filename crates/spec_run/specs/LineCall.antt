@@ -2,7 +2,7 @@
 use Rattle.std.specs.Prelude.{◌+◌, ◌||◌, ℕ, Bool, false, not, List, map, nat_le}
 use Rattle.zq_script.specs.declared.script.Line.{Line}
 use Rattle.zq_script.specs.declared.script.Script.{Script}
-use Rattle.spec_journal.specs.Turn.{tries_of, asks_again}
+use Rattle.spec_run.specs.Turn.{tries_of, asks_again}
 use Rattle.spec_run.specs.declared.line.LineCall.{LineCall}
 use Rattle.spec_run.specs.declared.line.LineCall.TheVariants.{Asks, Unbinds, Disconnects, Closes, Terms}
 use Rattle.spec_run.specs.declared.line.RunLine.{RunLine}

@@ -9,7 +9,7 @@ use Rattle.spec_pattern.specs.PipeStep.{Commit, DelimiterLook}
 use Rattle.spec_control.specs.declared.object.ObjKind.TheVariants.{Root, Socket}
 use Rattle.spec_control.specs.Control.{Settlement, end_of}
 use Rattle.spec_control.specs.ControlExamples.{Stories}
-use Rattle.spec_journal.specs.declared.journal.Answer.TheVariants as answer
+use Rattle.spec_run.specs.declared.texts.Answer.TheVariants as answer
 use Rattle.spec_run.specs.declared.journal.LineAnswer.TheVariants.{Plain}
 use Rattle.spec_run.specs.declared.line.LineCall.TheVariants.{Asks}
 use Rattle.spec_run.specs.Act.{Act, Try, moments_in}

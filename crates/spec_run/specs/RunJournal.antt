@@ -7,7 +7,7 @@ use Rattle.spec_control.specs.Rows.{PairRow, obj}
 use Rattle.spec_control.specs.Stage.{has_ended}
 use Rattle.spec_control.specs.Control.{Control, Settlement, end_of}
 use Rattle.spec_control.specs.Reply.{root_state}
-use Rattle.spec_journal.specs.Run.{Schedule}
+use Rattle.spec_run.specs.Run.{Schedule}
 use Rattle.spec_run.specs.declared.journal.LineEntry.{LineEntry}
 use Rattle.spec_run.specs.declared.journal.ActorLines.{ActorLines}
 use Rattle.spec_run.specs.declared.journal.ObjectLine.{ObjectLine}

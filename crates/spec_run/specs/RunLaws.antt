@@ -1,7 +1,7 @@
 -- Laws of runs over sockets that end (own choice).
 use Rattle.std.specs.Prelude.{◌≤◌, ℕ, Bool, Some, Contains}
 use Rattle.zq_base.specs.Ends.{PipeId}
-use Rattle.spec_journal.specs.Run.{Schedule}
+use Rattle.spec_run.specs.Run.{Schedule}
 use Rattle.spec_run.specs.declared.journal.SettledRow.{SettledRow}
 use Rattle.spec_run.specs.declared.journal.RunJournal.{RunJournal}
 use Rattle.spec_run.specs.LineCall.{RunScript}

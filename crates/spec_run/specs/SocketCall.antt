@@ -17,8 +17,8 @@ use Rattle.spec_control.specs.declared.request.Req.TheVariants.{Bind, Connect, U
 use Rattle.spec_control.specs.declared.request.Reply.{Reply}
 use Rattle.spec_control.specs.Control.{id}
 use Rattle.spec_control.specs.Reply.{root_asked}
-use Rattle.spec_journal.specs.declared.journal.Answer.TheVariants as answer
-use Rattle.spec_journal.specs.Line.{sent_answer, got_answer, changed_answer}
+use Rattle.spec_run.specs.declared.texts.Answer.TheVariants as answer
+use Rattle.spec_run.specs.Line.{sent_answer, got_answer, changed_answer}
 use Rattle.spec_control.specs.Moments.{Moment, left_by}
 use Rattle.spec_run.specs.declared.journal.LineAnswer.{LineAnswer}
 use Rattle.spec_run.specs.declared.journal.LineAnswer.TheVariants.{Plain, Term}

@@ -10,7 +10,7 @@ use Rattle.spec_control.specs.declared.request.Req.TheVariants.{Socket as MakeSo
 use Rattle.spec_control.specs.declared.request.Reply.{Reply}
 use Rattle.spec_control.specs.declared.request.Reply.TheVariants.{Done, Object, Pair, Both, Wait, Asked, Before, Refused}
 use Rattle.spec_control.specs.Control.{id}
-use Rattle.spec_journal.specs.declared.journal.Answer.TheVariants as answer
+use Rattle.spec_run.specs.declared.texts.Answer.TheVariants as answer
 use Rattle.spec_control.specs.Moments.{Moment}
 use Rattle.spec_run.specs.declared.journal.LineAnswer.TheVariants.{Plain}
 use Rattle.spec_run.specs.declared.line.LineCall.{LineCall}

@@ -18,9 +18,9 @@ use Rattle.spec_control.specs.declared.entry.SeenEmpty.TheVariants.{Nothing, Mai
 use Rattle.spec_control.specs.declared.entry.Item.{Item}
 use Rattle.spec_control.specs.Control.{id, end_of}
 use Rattle.spec_control.specs.ControlExamples.{Stories, silent, opened, joined, settled}
-use Rattle.spec_journal.specs.declared.journal.Answer.TheVariants as answer
-use Rattle.spec_journal.specs.Run.{Schedule}
-use Rattle.spec_journal.specs.ExampleParts.{options_with, pair_nr, at_q, row_given}
+use Rattle.spec_run.specs.declared.texts.Answer.TheVariants as answer
+use Rattle.spec_run.specs.Run.{Schedule}
+use Rattle.spec_run.specs.TextParts.{options_with, pair_nr, at_q, row_given}
 use Rattle.spec_run.specs.declared.journal.LineAnswer.TheVariants.{Plain}
 use Rattle.spec_run.specs.declared.journal.RunJournal.{RunJournal}
 use Rattle.spec_run.specs.declared.line.LineCall.TheVariants.{Asks, Unbinds, Closes, Terms}

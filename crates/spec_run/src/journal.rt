@@ -1,5 +1,5 @@
+use crate::texts::{Answer, PipeRow};
 use spec_control::{ObjKind, Reason};
-use spec_journal::{Answer, PipeRow};
 use spec_pattern::Skip;
 use zq_base::{ObjId, Octets, PairId, Seq};
 

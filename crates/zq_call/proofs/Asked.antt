@@ -6,10 +6,10 @@ use Rattle.clap.specs.Words.{Row, first_of, subcommand_of}
 use Rattle.zq_base.specs.declared.kind.Kind.{Kind}
 use Rattle.zq_base.specs.declared.options.Login.{Login}
 use Rattle.spec_zmtp.specs.Metadata.{IsLogin}
-use Rattle.zq_words.specs.Words.{are_in_order, program, login_of, hear_of, run_of, request_of, is_short, kind_of_name}
-use Rattle.zq_words.specs.Number.{number_or}
-use Rattle.zq_words.specs.declared.request.Request.{Request}
-use Rattle.zq_words.specs.declared.request.Request.TheVariants as request
+use Rattle.zq_call.specs.Words.{are_in_order, program, login_of, hear_of, run_of, request_of, is_short, kind_of_name}
+use Rattle.zq_call.specs.Number.{number_or}
+use Rattle.zq_call.specs.declared.request.Request.{Request}
+use Rattle.zq_call.specs.declared.request.Request.TheVariants as request
 use Rattle.zq_call.specs.Call.{AsksHear}
 
 some_same : {A : Type 0} (a b : A) → ◌≡◌ {A = Option A} (Some a) (Some b) → a ≡ b

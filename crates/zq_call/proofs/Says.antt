@@ -1,6 +1,6 @@
 -- What is said of a call, and that what it says and writes whole is what it answers.
 use Rattle.std.proofs.Common.{◌≡◌, ℕ, List, Bool, true, false, subst, sym, inl, inr}
-use Rattle.spec_journal.specs.Run.{Schedule}
+use Rattle.spec_run.specs.Run.{Schedule}
 use Rattle.zq_outer.specs.Sink.{Appends}
 use Rattle.zq_call.specs.Call.{AsksRun, InputAt, Outside, WasRead, SaysHeard, SaysOf, SaysText, AnswersCall, heard_status}
 use Rattle.zq_call.specs.declared.status.Status.{Status}

@@ -1,16 +1,16 @@
 -- What a call of the program says, whatever makes the texts of its runs: for each status, what was read and the text that is written (own choice).
 use Rattle.std.specs.Prelude.{◌≡◌, ◌⊎◌, ◌≤◌, ℕ, List, Option, Bool, true, false, Some, None, length, codes}
-use Rattle.spec_journal.specs.Run.{Schedule}
+use Rattle.spec_run.specs.Run.{Schedule}
 use Rattle.zq_outer.specs.Count.{Rose}
 use Rattle.zq_outer.specs.Readings.{ClockAt, ReadsClock, GoesOn}
 use Rattle.zq_outer.specs.Source.{Consumes, ConsumesAll}
 use Rattle.zq_outer.specs.Sink.{Appends, AppendsFront}
 use Rattle.zq_base.specs.declared.kind.Kind.{Kind}
 use Rattle.zq_base.specs.declared.options.Login.{Login}
-use Rattle.zq_hear.specs.HearText.{hear_opts, IsHeard}
-use Rattle.zq_words.specs.Words.{asked}
-use Rattle.zq_words.specs.declared.request.Request.{Request}
-use Rattle.zq_words.specs.declared.request.Request.TheVariants as request
+use Rattle.zq_call.specs.HearText.{hear_opts, IsHeard}
+use Rattle.zq_call.specs.Words.{asked}
+use Rattle.zq_call.specs.declared.request.Request.{Request}
+use Rattle.zq_call.specs.declared.request.Request.TheVariants as request
 use Rattle.zq_call.specs.declared.status.Status.{Status}
 use Rattle.zq_call.specs.declared.status.Status.TheVariants as status
 

@@ -1,7 +1,7 @@
 -- How the program ends, whatever makes the texts of its runs: its exit code, by what was read and written (own choice).
 use Rattle.std.specs.Prelude.{◌≡◌, ℕ, List, Option, None, Bool}
 use Rattle.zq_outer.specs.Readings.{ClockAt, tick_at}
-use Rattle.spec_journal.specs.Run.{Schedule}
+use Rattle.spec_run.specs.Run.{Schedule}
 use Rattle.zq_call.specs.Call.{AnswersCall, outside}
 use Rattle.zq_call.specs.ExitCode.{exit_code}
 use Rattle.zq_call.specs.declared.status.Status.{Status}

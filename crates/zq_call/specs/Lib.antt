@@ -1,4 +1,10 @@
-pub use Rattle.zq_hear.specs.HearText
+pub use Rattle.zq_call.specs.HearText
 pub mod ExitCode
 pub mod Call
 pub mod Edge
+pub mod Answers
+pub mod Number
+pub mod Words
+pub mod Examples
+pub mod HearText
+pub mod Told

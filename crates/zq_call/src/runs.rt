@@ -1,5 +1,5 @@
 ghost use Rattle.std.specs.Prelude.{ℕ, Bool, List, IfOk, IfErr};
-ghost use Rattle.spec_journal.specs.Run.{Schedule};
+ghost use Rattle.spec_run.specs.Run.{Schedule};
 ghost use Rattle.zq_outer.specs.Readings.{clock_at, GoesOn};
 ghost use Rattle.zq_call.specs.Call.{SaysOf};
 

@@ -1,17 +1,18 @@
 ghost use Rattle.std.specs.Prelude.{◌≡◌, ◌≤◌, ℕ, Bool, List, map, string_bytes, codes, IfOk, IfErr, IfSome};
 ghost use Rattle.spec_zmtp.specs.Metadata.{IsLogin};
-ghost use Rattle.zq_hear.specs.HearText.{IsHeard, hear_opts};
+ghost use Rattle.zq_call.specs.HearText.{IsHeard, hear_opts};
 ghost use Rattle.zq_outer.specs.Readings.{clock_at, ClockAt, GoesOn};
 ghost use Rattle.zq_call.specs.Call.{AsksRun, AsksHear, SaysText, input_at, heard_status};
 
+use crate::hearing::hear;
+use crate::read::read_words;
+use crate::request::{Request, WordsError};
 use crate::runs::Runs;
 use crate::status::Status;
 use crate::streams::{ReadError, read_all, read_script_text};
 use std::alloc::{AllocError, Global};
 use zq_base::{Kind, Login};
-use zq_hear::hear;
 use zq_outer::{Clock, Source};
-use zq_words::{Request, WordsError, read_words};
 
 /// The text of a call that was asked to run by this schedule, and its status.
 fn read_and_run<X: Runs, S: Source, C: Clock>(

@@ -1,13 +1,13 @@
 ghost use Rattle.std.specs.Prelude.{◌≡◌, ◌++◌, OnOk, codes, decimal};
-ghost use Rattle.spec_journal.specs.Text.{answer_text, send_refusal_text, recv_refusal_text, rule_text, skip_text, skips_text};
-ghost use Rattle.spec_journal.specs.declared.journal.Answer.TheVariants.{Got};
+ghost use Rattle.spec_run.specs.Text.{answer_text, send_refusal_text, recv_refusal_text, rule_text, skip_text, skips_text};
+ghost use Rattle.spec_run.specs.declared.texts.Answer.TheVariants.{Got};
 
 use crate::part::push_parts;
 use crate::report::push_report;
 use crate::row::push_count;
 use itoa::Buffer;
-use spec_journal::Answer;
 use spec_pattern::{RecvRefusal, Rule, SendRefusal, Skip};
+use spec_run::Answer;
 use std::alloc::{AllocError, Global};
 use zq_base::{Message, PairId};
 

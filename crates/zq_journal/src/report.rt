@@ -1,5 +1,5 @@
 ghost use Rattle.std.specs.Prelude.{◌≡◌, ◌++◌, OnOk};
-ghost use Rattle.spec_journal.specs.Text.{full_text, others_text, pairs_text, report_text};
+ghost use Rattle.spec_run.specs.Text.{full_text, others_text, pairs_text, report_text};
 
 use crate::row::push_count;
 use spec_pattern::Report;

@@ -1,9 +1,9 @@
 ghost use Rattle.std.specs.Prelude.{◌≡◌, ◌++◌, OnOk, decimal, codes};
-ghost use Rattle.spec_journal.specs.Text.{pipe_text};
+ghost use Rattle.spec_run.specs.Text.{pipe_text};
 
 use crate::entry::push_number;
-use spec_journal::PipeRow;
 use spec_pattern::PipeId;
+use spec_run::PipeRow;
 use std::alloc::AllocError;
 
 /// Appends a pipe: its pair and the end that writes it.

@@ -18,8 +18,8 @@ use Rattle.spec_link.specs.LinkAct.{LinkAct, said_of, heard_of, taken_of, repeat
 use Rattle.spec_link.specs.Parts.{IsSilentReadPart, NothingHeld, SomethingHeld, write_acts, read_acts, puts}
 use Rattle.spec_link.specs.Turn.{IsWriteOnly}
 use Rattle.link_side.specs.declared.write_part.Written.{Written}
-use Rattle.session_life.specs.declared.life.ReadMode.{ReadMode}
-use Rattle.session_life.specs.declared.life.ReadMode.TheVariants as mode
+use Rattle.zq_session.specs.declared.life.ReadMode.{ReadMode}
+use Rattle.zq_session.specs.declared.life.ReadMode.TheVariants as mode
 use Rattle.link_side.specs.Kept.{Kept, Acts, IsKeptOf, KeepsActs, without_puts}
 use Rattle.link_side.specs.Calls.{Adds, TakeRun, put_acts}
 use Rattle.link_side.specs.Works.{take_acts, TookRun, WritesBy, ReadsBy, WantsBy}

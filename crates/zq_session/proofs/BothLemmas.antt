@@ -26,22 +26,22 @@ use Rattle.spec_link.specs.Turn.{IsEnded, IsEndedBy, EndsBy, ReadsAt, no_more, p
 use Rattle.link_side.specs.declared.wire.Fetched.{Fetched}
 use Rattle.link_side.specs.declared.wire.Fetched.TheVariants as fetched
 use Rattle.link_side.specs.declared.write_part.Written.{Written}
-use Rattle.session_life.specs.declared.life.Life.{Life}
-use Rattle.session_life.specs.declared.life.ReadMode.{ReadMode}
-use Rattle.session_life.specs.declared.life.ReadMode.TheVariants as mode
+use Rattle.zq_session.specs.declared.life.Life.{Life}
+use Rattle.zq_session.specs.declared.life.ReadMode.{ReadMode}
+use Rattle.zq_session.specs.declared.life.ReadMode.TheVariants as mode
 use Rattle.link_side.specs.Kept.{Kept, Side}
 use Rattle.link_side.specs.Calls.{Adds, put_acts}
-use Rattle.session_life.specs.Lives.{basis_of, standing_of}
-use Rattle.session_life.specs.LifeView.{IsReadable}
+use Rattle.zq_session.specs.Lives.{basis_of, standing_of}
+use Rattle.zq_session.specs.LifeView.{IsReadable}
 use Rattle.zq_session.specs.Halves.{StepsRun, step_in}
 use Rattle.zq_session.specs.Doing.{ReadsAtBy, WantsAtBy, ReadsAs, IsFor, EndsAs}
-use Rattle.session_life.specs.Reading.{IsReading}
+use Rattle.zq_session.specs.Reading.{IsReading}
 use Rattle.zq_session.specs.BothParts.{PartsBy, CutBy, UnnotedBy}
 use Rattle.spec_link.specs.Topics.{Topics}
 use Rattle.zq_session.specs.Noting.{NextBy, UnsaidBy, Next, Takes, Says, next_acts, next_look, WriteMode, taking, alone, saying, mode_of}
 use Rattle.zq_session.proofs.NotingLemmas.{writes_now, notes_more, still_on, still_none, write_still, read_still, put_still}
 use Rattle.zq_session.proofs.UnputLemmas.{does_these, does_on, does_as, unput_write, unput_next, tells_as, write_part_as, write_only_as}
-use Rattle.session_life.proofs.ListLemmas.{in_either, in_left, in_right, in_one, the_one, in_none}
+use Rattle.zq_session.proofs.ListLemmas.{in_either, in_left, in_right, in_one, the_one, in_none}
 use Rattle.zq_session.proofs.HalfLemmas.{steps_on}
 
 -- ---- what the acts add up to

@@ -32,7 +32,7 @@ use Rattle.spec_link.specs.LinkAct.{LinkAct, Step, said_by, heard_by, said_of, h
 use Rattle.spec_link.specs.Parts.{IsWriteOver, PutsAll, SomethingHeld, NothingHeld}
 use Rattle.spec_link.specs.History.{Basis, SessionEvent, Acted, Closed, IsDue, Standing, after, after_all, later}
 use Rattle.spec_link.specs.Turn.{DueOnce, Exactly, CanWrite, PutsLast, IsWriteOnly, IsEnded, IsEndedBy, IsOverBy, ShakenIsDue, ClosesLink, written_pipe, write_end, read_end}
-use Rattle.session_life.specs.declared.life.Life.{Life}
+use Rattle.zq_session.specs.declared.life.Life.{Life}
 use Rattle.zq_session.specs.declared.course.Course.{Course}
 use Rattle.zq_session.specs.declared.parts.Done.{Done}
 use Rattle.link_side.specs.declared.wire.Fetched.TheVariants as fetched
@@ -40,22 +40,22 @@ use Rattle.link_side.specs.Kept.{Kept, Side, IsKeptOf, KeepsActs}
 use Rattle.link_side.specs.Calls.{Adds}
 use Rattle.link_side.specs.Dials.{DiallerState}
 use Rattle.link_side.specs.Silent.{IsShaken, IsUnshaken}
-use Rattle.session_life.specs.Lives.{Story, AreDue, Tells, basis_of, standing_of}
+use Rattle.zq_session.specs.Lives.{Story, AreDue, Tells, basis_of, standing_of}
 use Rattle.zq_session.specs.Courses.{IsOfLink, IsOfDials, HasStory, PeerStep, ShakeStep, ShakesBy, LinkedBy, act_at}
-use Rattle.session_life.specs.LifeSteps.{IsSame, LifeStep, LifeDoes, with_dues}
+use Rattle.zq_session.specs.LifeSteps.{IsSame, LifeStep, LifeDoes, with_dues}
 use Rattle.zq_session.specs.Halves.{StepsRun, step_in, step_at}
-use Rattle.session_life.specs.LifeView.{IsWritable}
+use Rattle.zq_session.specs.LifeView.{IsWritable}
 use Rattle.zq_session.specs.Doing.{EndsAs, IsOverNow, StandsNow, IsRefusal}
 use Rattle.zq_session.specs.BothParts.{AreParts, PartsBy, LastBy}
 use Rattle.link_side.specs.Says.{IsFree}
 use Rattle.zq_session.specs.Noting.{IsHeldOf}
-use Rattle.session_life.specs.TopicSteps.{over_link}
+use Rattle.zq_session.specs.TopicSteps.{over_link}
 use Rattle.zq_session.proofs.NotingLemmas.{kept_free, held_free, topics_worked, topics_over, says_at}
 use Rattle.zq_session.specs.Ending.{Asks, AsksBy, DialsLater}
 use Rattle.zq_session.proofs.HalfLemmas.{steps_on}
 use Rattle.zq_session.proofs.UnputLemmas.{run_of, tells_as, write_only_as, refused_of, unrefused_of, shaken_of, unshaken_of}
 use Rattle.zq_session.proofs.BothLemmas.{end_over}
-use Rattle.session_life.proofs.LifeLemmas.{no_step, due_shaken, contains_on}
+use Rattle.zq_session.proofs.LifeLemmas.{no_step, due_shaken, contains_on}
 
 -- ---- events
 

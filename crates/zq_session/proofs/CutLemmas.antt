@@ -12,13 +12,13 @@ use Rattle.spec_link.specs.Turn.{DueOnce, Exactly, GivesUp, LingerIsOver, subscr
 use Rattle.spec_link.specs.Rows.{ClosedLink}
 use Rattle.zq_base.specs.declared.options.EngineOpts.{EngineOpts}
 use Rattle.link_side.specs.declared.wire.Fetched.TheVariants as fetched
-use Rattle.session_life.specs.declared.life.Life.{Life}
+use Rattle.zq_session.specs.declared.life.Life.{Life}
 use Rattle.zq_session.specs.declared.course.Course.{Course}
 use Rattle.zq_session.specs.declared.parts.Done.{Done}
 use Rattle.link_side.specs.Kept.{Side}
 use Rattle.link_side.specs.Calls.{Adds}
-use Rattle.session_life.specs.Lives.{Story, AreDue, basis_of, standing_of}
-use Rattle.session_life.specs.LifeSteps.{LifeDoes, with_dues}
+use Rattle.zq_session.specs.Lives.{Story, AreDue, basis_of, standing_of}
+use Rattle.zq_session.specs.LifeSteps.{LifeDoes, with_dues}
 use Rattle.zq_session.specs.Halves.{StepsRun, step_in, step_at}
 use Rattle.zq_session.specs.BothParts.{PartsBy, CutBy, UnnotedBy}
 use Rattle.zq_session.specs.Courses.{HasStory, CourseStep, act_at}

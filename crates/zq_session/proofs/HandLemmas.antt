@@ -8,18 +8,18 @@ use Rattle.spec_link.specs.declared.due.Due.TheVariants.{Request}
 use Rattle.spec_link.specs.LinkAct.{LinkAct}
 use Rattle.spec_link.specs.History.{Basis, SessionEvent, Handed, Standing, standing}
 use Rattle.spec_link.specs.Handing.{MayHand, IsAllHanded, HasOutputLeft}
-use Rattle.session_life.specs.declared.life.Asked.{Asked}
+use Rattle.zq_session.specs.declared.life.Asked.{Asked}
 use Rattle.zq_session.specs.declared.course.Course.{Course}
 use Rattle.link_side.specs.Kept.{Side}
 use Rattle.link_side.specs.Silent.{HasOutput, HasNone}
-use Rattle.session_life.specs.Lives.{Story, AreDue, basis_of, standing_of}
+use Rattle.zq_session.specs.Lives.{Story, AreDue, basis_of, standing_of}
 use Rattle.zq_session.specs.Courses.{IsOfLink, HasStory}
 use Rattle.zq_session.specs.Sessions.{SessionState, HasLived}
-use Rattle.session_life.specs.Dues.{Hands, IsAllGiven}
+use Rattle.zq_session.specs.Dues.{Hands, IsAllGiven}
 use Rattle.zq_session.specs.Handings.{HandsShaken}
 use Rattle.link_side.specs.Says.{IsFree}
-use Rattle.session_life.proofs.LifeLemmas.{due_shaken}
-use Rattle.session_life.proofs.DueLemmas.{tells_false}
+use Rattle.zq_session.proofs.LifeLemmas.{due_shaken}
+use Rattle.zq_session.proofs.DueLemmas.{tells_false}
 use Rattle.zq_session.proofs.UnlinkedLemmas.{link_gone}
 use Rattle.zq_session.proofs.UnputLemmas.{output_of}
 use Rattle.zq_session.proofs.CourseLemmas.{link_some}

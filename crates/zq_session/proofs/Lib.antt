@@ -11,3 +11,6 @@ pub mod NotingLemmas
 pub mod SessionLemmas
 pub mod HandLemmas
 pub mod ShownLemmas
+pub mod ListLemmas
+pub mod LifeLemmas
+pub mod DueLemmas

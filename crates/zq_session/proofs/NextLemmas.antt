@@ -24,7 +24,7 @@ use Rattle.zq_session.specs.Halves.{StepsRun, step_in}
 use Rattle.zq_session.specs.Doing.{WritesAtBy}
 use Rattle.link_side.specs.Says.{SaysBy, SaysNext, repeat_acts, done_acts, left_by}
 use Rattle.zq_session.specs.Noting.{PassesOn, WriteMode, taking, alone, saying, plain_mode, mode_by, mode_of, Takes, Says, NextBy, UnsaidBy, NotesBy, NotesNotBy, SaysOn, behind_acts}
-use Rattle.session_life.specs.TopicSteps.{noted}
+use Rattle.zq_session.specs.TopicSteps.{noted}
 use Rattle.link_side.proofs.KeptLemmas.{acts_on, acts_same}
 use Rattle.zq_session.proofs.HalfLemmas.{no_steps}
 use Rattle.link_side.proofs.PartLemmas.{some_pipe}

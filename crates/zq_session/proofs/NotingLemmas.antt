@@ -25,7 +25,7 @@ use Rattle.link_side.specs.declared.behind.Behind.{Behind}
 use Rattle.link_side.specs.declared.behind.Behind.TheVariants.{Nothing, Octets, Unsaid}
 use Rattle.link_side.specs.Kept.{Kept, Side, IsKeptOf}
 use Rattle.link_side.specs.Calls.{put_acts}
-use Rattle.session_life.specs.TopicSteps.{noted, over_link, topics_for}
+use Rattle.zq_session.specs.TopicSteps.{noted, over_link, topics_for}
 use Rattle.link_side.specs.Says.{IsFree}
 use Rattle.zq_session.specs.Noting.{IsHeldOf, unsaid_by, unsaid_of, SaysNoTopics, taken_before, AreTopics, SaysAt, topics_with, behind_acts, WriteMode, taking, alone, saying, plain_mode, mode_by, mode_of}
 

@@ -14,22 +14,22 @@ use Rattle.spec_link.specs.Handing.{MayHand, IsAllHanded}
 use Rattle.spec_link.specs.declared.due.Due.TheVariants.{Request, Delimiter}
 use Rattle.spec_control.specs.declared.end.Reason.TheVariants.{Linger, Link}
 use Rattle.spec_control.specs.declared.request.Req.TheVariants.{Shaken, AskEnd, AskOver, OutputOver}
-use Rattle.session_life.specs.declared.life.Asked.{Asked}
-use Rattle.session_life.specs.declared.life.Life.{Life}
+use Rattle.zq_session.specs.declared.life.Asked.{Asked}
+use Rattle.zq_session.specs.declared.life.Life.{Life}
 use Rattle.zq_session.specs.declared.course.Course.{Course}
 use Rattle.link_side.specs.Kept.{Side}
 use Rattle.link_side.specs.Dials.{DiallerState}
-use Rattle.session_life.specs.Lives.{Story, AreDue, Tells, basis_of, standing_of}
+use Rattle.zq_session.specs.Lives.{Story, AreDue, Tells, basis_of, standing_of}
 use Rattle.zq_session.specs.Courses.{IsOfLink, IsOfDials, HasStory, PeerStep, CourseStep}
 use Rattle.zq_session.proofs.NotingLemmas.{topics_as}
-use Rattle.session_life.specs.Dues.{IsAllGiven}
+use Rattle.zq_session.specs.Dues.{IsAllGiven}
 use Rattle.zq_session.specs.Turns.{TurnsBy}
 use Rattle.zq_session.specs.Halves.{step_at}
 use Rattle.zq_session.specs.Cuts.{IsCutTurn, CutsBy}
 use Rattle.zq_session.proofs.HalfLemmas.{steps_keep}
 use Rattle.std.specs.List.{flat_map}
 use Rattle.zq_session.specs.Sessions.{SessionState, IsHanded, HasLived, Happens, TurnsOn, CutsOn}
-use Rattle.session_life.proofs.ListLemmas.{in_none}
+use Rattle.zq_session.proofs.ListLemmas.{in_none}
 use Rattle.zq_session.proofs.CourseLemmas.{basis_is, dials_same}
 
 -- events behind a history

@@ -16,7 +16,7 @@ use Rattle.spec_link.specs.Parts.{write_acts, read_acts}
 use Rattle.link_side.specs.Calls.{WriteCounts, ReadCounts, put_acts}
 use Rattle.zq_session.specs.Shown.{IsAnswered, HasAnswer, AreShown}
 use Rattle.zq_session.specs.Noting.{Next, Takes, Says, next_acts}
-use Rattle.session_life.proofs.ListLemmas.{in_either, in_one, in_none}
+use Rattle.zq_session.proofs.ListLemmas.{in_either, in_one, in_none}
 use Rattle.zq_session.proofs.BothLemmas.{writing, reading}
 
 -- ---- where an answer is

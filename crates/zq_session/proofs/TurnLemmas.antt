@@ -21,13 +21,13 @@ use Rattle.spec_link.specs.LinkAct.{LinkAct, Step}
 use Rattle.spec_link.specs.Parts.{SomethingToWrite}
 use Rattle.spec_link.specs.History.{Basis, SessionEvent, GaveUp, IsDue, Standing, after_all}
 use Rattle.spec_link.specs.Turn.{DueOnce, Exactly, GivesUp, LingerIsOver, HasNoOutput, IsTold, IsLinkedTurn, IsUnlinkedTurn, Works, WorksAt}
-use Rattle.session_life.specs.declared.life.Life.{Life}
+use Rattle.zq_session.specs.declared.life.Life.{Life}
 use Rattle.zq_session.specs.declared.course.Course.{Course}
 use Rattle.link_side.specs.Kept.{Kept, Side, Acts, IsKeptOf}
 use Rattle.link_side.specs.Silent.{HasOutput, HasNone}
-use Rattle.session_life.specs.Lives.{Story, basis_of, standing_of}
+use Rattle.zq_session.specs.Lives.{Story, basis_of, standing_of}
 use Rattle.zq_session.specs.Courses.{IsOfLink, HasStory, CourseStep, LinkedBy, act_at}
-use Rattle.session_life.specs.LifeSteps.{LifeStep, LifeDoes, with_dues}
+use Rattle.zq_session.specs.LifeSteps.{LifeStep, LifeDoes, with_dues}
 use Rattle.zq_session.specs.Halves.{StepsRun, step_at}
 use Rattle.zq_session.specs.Unlinked.{UnlinkedBy}
 use Rattle.zq_session.specs.Shown.{ShownBy}
@@ -36,7 +36,7 @@ use Rattle.zq_session.proofs.ShownLemmas.{shown_none}
 use Rattle.link_side.proofs.PartLemmas.{adds_none}
 use Rattle.zq_session.proofs.UnlinkedLemmas.{link_gone}
 use Rattle.zq_session.proofs.HalfLemmas.{no_steps}
-use Rattle.session_life.proofs.LifeLemmas.{no_step, due_step, due_output, not_due, was_due, is_due}
+use Rattle.zq_session.proofs.LifeLemmas.{no_step, due_step, due_output, not_due, was_due, is_due}
 use Rattle.zq_session.proofs.CourseLemmas.{after_on, due_adds, no_due_acts, no_due_steps, dials_on, same_on, basis_is, link_held, link_some, link_waits, link_is, peer_on}
 use Rattle.spec_link.specs.Topics.{Topics, with_again}
 use Rattle.link_side.specs.declared.behind.Behind.{Behind}

@@ -17,15 +17,15 @@ use Rattle.spec_link.specs.declared.due.Due.TheVariants.{Delimiter}
 use Rattle.spec_link.specs.LinkAct.{HostAnswer, Linked, LinkAct, Step}
 use Rattle.spec_link.specs.History.{Basis, SessionEvent, Acted, Dialled, IsDue, Standing, after_all, link_after, dial_at_after}
 use Rattle.spec_link.specs.Turn.{DueOnce, Exactly, CanRead, IsTold, Looks, DelimiterIsDue, DialIsDue, IsLook}
-use Rattle.session_life.specs.declared.life.Life.{Life}
+use Rattle.zq_session.specs.declared.life.Life.{Life}
 use Rattle.zq_session.specs.declared.course.Course.{Course}
 use Rattle.link_side.specs.Kept.{Side, HasRun}
 use Rattle.link_side.specs.declared.dialler.Dial.{Dial}
 use Rattle.link_side.specs.Dials.{DiallerState, HostCounts, answer_of}
-use Rattle.session_life.specs.LifeView.{IsReadable}
-use Rattle.session_life.specs.Lives.{Story, AreDue, basis_of, standing_of}
+use Rattle.zq_session.specs.LifeView.{IsReadable}
+use Rattle.zq_session.specs.Lives.{Story, AreDue, basis_of, standing_of}
 use Rattle.zq_session.specs.Courses.{IsOfLink, IsOfDials, HasStory}
-use Rattle.session_life.specs.LifeSteps.{IsSame, LifeStep, LifeDoes, with_dues}
+use Rattle.zq_session.specs.LifeSteps.{IsSame, LifeStep, LifeDoes, with_dues}
 use Rattle.zq_session.specs.Halves.{StepsRun, step_at}
 use Rattle.zq_session.specs.Cuts.{CutUnlinkedBy}
 use Rattle.zq_session.specs.Unlinked.{DialsBy, IsDialDue, LooksBy, UnlinkedBy, dial_events}
@@ -33,7 +33,7 @@ use Rattle.link_side.specs.Says.{IsFree}
 use Rattle.zq_session.specs.Noting.{AreTopics, unsaid_of}
 use Rattle.zq_session.proofs.NotingLemmas.{topics_as}
 use Rattle.zq_session.proofs.HalfLemmas.{one_step, no_steps, steps_on}
-use Rattle.session_life.proofs.ListLemmas.{in_either, in_one, in_none, the_one}
+use Rattle.zq_session.proofs.ListLemmas.{in_either, in_one, in_none, the_one}
 use Rattle.zq_session.proofs.CourseLemmas.{after_on, due_adds, no_due_steps, dials_on, once_as, same_on, basis_is, link_none, link_is, peer_on}
 use Rattle.zq_session.proofs.UnputLemmas.{of_nothing}
 

@@ -12,8 +12,8 @@ use Rattle.spec_link.specs.Parts.{NothingHeld, SomethingHeld, PutsAll, ReadFits,
 use Rattle.spec_link.specs.History.{Basis, Standing}
 use Rattle.spec_link.specs.Turn.{IsEnded, IsEndedBy, IsWriteOnly, WritesAt, ReadsAt}
 use Rattle.link_side.specs.declared.wire.Fetched.TheVariants as fetched
-use Rattle.session_life.specs.declared.life.Life.{Life}
-use Rattle.session_life.specs.declared.life.ReadMode.{ReadMode}
+use Rattle.zq_session.specs.declared.life.Life.{Life}
+use Rattle.zq_session.specs.declared.life.ReadMode.{ReadMode}
 use Rattle.zq_session.specs.declared.parts.Done.{Done}
 use Rattle.zq_base.specs.Message.{Frames}
 use Rattle.spec_link.specs.Topics.{Topics}
@@ -21,10 +21,10 @@ use Rattle.link_side.specs.declared.behind.Behind.TheVariants.{Unsaid}
 use Rattle.link_side.specs.Kept.{Kept, Side, HasRun, Acts, IsKeptOf, KeepsActs}
 use Rattle.zq_session.specs.Noting.{SaysAt, behind_acts}
 use Rattle.link_side.specs.Calls.{Adds}
-use Rattle.session_life.specs.Lives.{Story, basis_of, standing_of}
+use Rattle.zq_session.specs.Lives.{Story, basis_of, standing_of}
 use Rattle.zq_session.specs.Halves.{StepsRun, step_in}
 use Rattle.zq_session.specs.Doing.{EndsAs, ReadsOnce}
-use Rattle.session_life.specs.Reading.{IsReading}
+use Rattle.zq_session.specs.Reading.{IsReading}
 
 -- one part behind the other, of one that stands so
 pub record AreParts (b : Basis) (s : Standing) (acts writes reads : List LinkAct) : Type 0 where

@@ -10,14 +10,14 @@ use Rattle.spec_link.specs.declared.due.Due.TheVariants.{Request}
 use Rattle.spec_link.specs.LinkAct.{LinkAct, said_of, heard_of}
 use Rattle.spec_link.specs.History.{SessionEvent, Given, Dialled, Acted, Closed, EndIs, Told, Tried, GaveUp, IsDue, Handed, after_all}
 use Rattle.spec_link.specs.Turn.{IsLinkedTurn, ShakenIsDue}
-use Rattle.session_life.specs.declared.life.Life.{Life}
+use Rattle.zq_session.specs.declared.life.Life.{Life}
 use Rattle.zq_session.specs.declared.course.Course.{Course}
 use Rattle.link_side.specs.declared.behind.Behind.TheVariants.{Nothing}
 use Rattle.link_side.specs.Kept.{Kept, Side, IsKeptOf}
 use Rattle.link_side.specs.Dials.{DiallerState}
 use Rattle.link_side.specs.Calls.{Adds}
-use Rattle.session_life.specs.Lives.{Story, AreDue, basis_of, standing_of}
-use Rattle.session_life.specs.LifeSteps.{IsSame, with_dues}
+use Rattle.zq_session.specs.Lives.{Story, AreDue, basis_of, standing_of}
+use Rattle.zq_session.specs.LifeSteps.{IsSame, with_dues}
 use Rattle.zq_session.specs.Noting.{AreTopics, IsHeldOf, unsaid_of}
 use Rattle.zq_session.specs.Halves.{StepsRun, step_at}
 

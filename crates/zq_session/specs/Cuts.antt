@@ -10,7 +10,7 @@ use Rattle.spec_link.specs.History.{Basis, SessionEvent, Acted, Standing, after_
 use Rattle.spec_link.specs.Turn.{Exactly, DueOnce, GivesUp, LingerIsOver, HasNoOutput, IsTold, CanRead, Looks, DelimiterIsDue, WritesAt, subscribes}
 use Rattle.zq_session.specs.declared.course.Course.{Course}
 use Rattle.link_side.specs.Calls.{Adds}
-use Rattle.session_life.specs.Lives.{Story, basis_of, standing_of}
+use Rattle.zq_session.specs.Lives.{Story, basis_of, standing_of}
 use Rattle.zq_session.specs.Halves.{StepsRun, step_at}
 use Rattle.zq_session.specs.BothParts.{AreParts, AreCut}
 use Rattle.zq_session.specs.Courses.{CourseStep, act_at}

@@ -16,8 +16,8 @@ use Rattle.spec_link.specs.LinkAct.{LinkAct}
 use Rattle.spec_link.specs.Parts.{IsTake, NothingHeld, SomethingHeld, IsWritePart, IsReadPart, IsSilentReadPart, WriteFits, ReadFits, write_acts, read_acts}
 use Rattle.spec_link.specs.History.{Basis}
 use Rattle.spec_link.specs.Turn.{IsWriteOnly, write_end, read_end}
-use Rattle.session_life.specs.declared.life.ReadMode.{ReadMode}
-use Rattle.session_life.specs.declared.life.ReadMode.TheVariants as mode
+use Rattle.zq_session.specs.declared.life.ReadMode.{ReadMode}
+use Rattle.zq_session.specs.declared.life.ReadMode.TheVariants as mode
 use Rattle.link_side.specs.declared.write_part.Written.{Written}
 use Rattle.link_side.specs.Kept.{Kept, HasRun, Acts, IsKeptOf, KeepsActs}
 use Rattle.link_side.specs.Calls.{Adds, put_acts}

@@ -7,11 +7,11 @@ use Rattle.spec_link.specs.declared.due.Due.{Due}
 use Rattle.spec_link.specs.declared.due.Due.TheVariants.{Request}
 use Rattle.spec_link.specs.History.{SessionEvent, after_all, later}
 use Rattle.spec_link.specs.Turn.{DueOnce}
-use Rattle.session_life.specs.declared.life.Life.{Life}
+use Rattle.zq_session.specs.declared.life.Life.{Life}
 use Rattle.zq_session.specs.declared.course.Course.{Course}
-use Rattle.session_life.specs.Lives.{Story, AreDue, basis_of, standing_of}
+use Rattle.zq_session.specs.Lives.{Story, AreDue, basis_of, standing_of}
 use Rattle.zq_session.specs.Courses.{IsOfDials}
-use Rattle.session_life.specs.LifeSteps.{IsSame, with_dues}
+use Rattle.zq_session.specs.LifeSteps.{IsSame, with_dues}
 
 -- an accepted session asks its end, and asks to end
 pub record AsksBy (old new : Life) (p : Story) : Type 0 where

@@ -11,7 +11,7 @@ use Rattle.msg_pipe.specs.declared.pipes.PutIn.TheVariants as put_in
 use Rattle.msg_pipe.specs.declared.pipes.Taken.TheVariants as taken
 use Rattle.spec_link.specs.LinkAct.{LinkAct, Wire, Step}
 use Rattle.spec_link.specs.History.{SessionEvent, Given, Dialled, Acted, Closed, EndIs, Told, Tried, GaveUp, IsDue, Handed}
-use Rattle.session_life.specs.LifeView.{IsReadable, IsWritable}
+use Rattle.zq_session.specs.LifeView.{IsReadable, IsWritable}
 use Rattle.link_side.specs.Calls.{TakeRun, PutRun}
 
 -- the step at a pipe that an act is, where it is one

@@ -7,7 +7,7 @@ use Rattle.spec_pattern.specs.Half.{with_delimiter, AreHalves}
 use Rattle.spec_control.specs.declared.request.Req.TheVariants.{Shaken}
 use Rattle.spec_link.specs.declared.due.Due.{Due}
 use Rattle.spec_link.specs.declared.due.Due.TheVariants.{Request}
-use Rattle.session_life.specs.declared.life.Asked.{Asked}
+use Rattle.zq_session.specs.declared.life.Asked.{Asked}
 use Rattle.zq_session.specs.declared.course.Course.{Course}
 
 -- the handshake became due and wasn't handed out, and from now on it was, with its peer

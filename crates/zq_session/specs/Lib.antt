@@ -16,3 +16,10 @@ pub mod Cuts
 pub mod Sessions
 pub mod Handings
 pub mod Laws
+pub mod Accepts
+pub mod Lives
+pub mod LifeView
+pub mod LifeSteps
+pub mod Reading
+pub mod Dues
+pub mod TopicSteps

@@ -25,7 +25,7 @@ use Rattle.link_side.specs.Kept.{Kept, Side, HasRun, Acts, IsKeptOf}
 use Rattle.link_side.specs.Calls.{Adds}
 use Rattle.link_side.specs.Works.{take_acts, fetched_of}
 use Rattle.link_side.specs.Says.{Offers, TakesBy, SaysBy, repeat_acts}
-use Rattle.session_life.specs.TopicSteps.{noted}
+use Rattle.zq_session.specs.TopicSteps.{noted}
 use Rattle.zq_session.specs.Halves.{StepsRun, step_in}
 
 -- ---- what is kept

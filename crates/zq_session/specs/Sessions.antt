@@ -8,8 +8,8 @@ use Rattle.spec_link.specs.declared.due.Due.TheVariants.{Request}
 use Rattle.spec_link.specs.History.{Basis, SessionEvent, standing}
 use Rattle.spec_link.specs.Turn.{IsTurn}
 use Rattle.zq_session.specs.declared.course.Course.{Course}
-use Rattle.session_life.specs.declared.life.Asked.{Asked}
-use Rattle.session_life.specs.Lives.{Story, AreDue, basis_of, standing_of}
+use Rattle.zq_session.specs.declared.life.Asked.{Asked}
+use Rattle.zq_session.specs.Lives.{Story, AreDue, basis_of, standing_of}
 use Rattle.zq_session.specs.Halves.{AreThere, StepsRun, step_at}
 use Rattle.zq_session.specs.Courses.{HasStory, act_at}
 use Rattle.zq_session.specs.Turns.{IsToldBy}

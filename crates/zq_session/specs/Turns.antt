@@ -12,7 +12,7 @@ use Rattle.spec_link.specs.History.{Basis, SessionEvent, Standing, after_all}
 use Rattle.spec_link.specs.Turn.{DueOnce, Exactly, GivesUp, LingerIsOver, HasNoOutput, IsTold, IsTurn}
 use Rattle.zq_session.specs.declared.course.Course.{Course}
 use Rattle.link_side.specs.Calls.{Adds}
-use Rattle.session_life.specs.Lives.{Story, basis_of, standing_of}
+use Rattle.zq_session.specs.Lives.{Story, basis_of, standing_of}
 use Rattle.zq_session.specs.Halves.{StepsRun, step_at}
 use Rattle.zq_session.specs.Shown.{ShownBy}
 use Rattle.zq_session.specs.Courses.{HasStory, CourseStep, act_at}

@@ -10,7 +10,7 @@ use Rattle.spec_link.specs.History.{Basis, SessionEvent, Dialled, Standing}
 use Rattle.spec_link.specs.Turn.{Exactly, CanRead, IsTold, IsUnlinkedTurn}
 use Rattle.zq_session.specs.declared.course.Course.{Course}
 use Rattle.link_side.specs.Dials.{HostCounts}
-use Rattle.session_life.specs.Lives.{Story, basis_of, standing_of}
+use Rattle.zq_session.specs.Lives.{Story, basis_of, standing_of}
 use Rattle.zq_session.specs.Halves.{StepRun, StepsRun, step_at}
 use Rattle.zq_session.specs.Courses.{HasStory, CourseStep}
 

@@ -3,24 +3,25 @@ ghost use Rattle.zq_base.specs.declared.kind.Kind.TheVariants.{Push};
 ghost use Rattle.link_side.specs.declared.behind.Behind.TheVariants.{Nothing};
 ghost use Rattle.zq_outer.specs.Host.{IsNew};
 ghost use Rattle.zq_session.specs.Courses.{HasStory, IsAtEase, IsReady, ShakesBy, LinkedBy};
-ghost use Rattle.session_life.specs.TopicSteps.{over_link};
+ghost use Rattle.zq_session.specs.TopicSteps.{over_link};
 ghost use Rattle.spec_link.specs.Parts.{IsWriteOver};
-ghost use Rattle.session_life.specs.LifeView.{IsWritable, IsReadable};
+ghost use Rattle.zq_session.specs.LifeView.{IsWritable, IsReadable};
 ghost use Rattle.zq_session.specs.Shown.{ShownBy};
 ghost use Rattle.zq_session.specs.Unlinked.{DialsBy, UnlinkedBy};
 ghost use Rattle.zq_session.specs.Cuts.{CutAtLinkBy, CutUnlinkedBy};
 ghost use Rattle.spec_link.specs.History.{later};
-ghost use Rattle.session_life.specs.Lives.{Story};
+ghost use Rattle.zq_session.specs.Lives.{Story};
 ghost use Rattle.zq_session.specs.Courses.{IsOfDials};
 ghost use Rattle.zq_session.specs.Ending.{Asks, DialsLater};
 ghost use Rattle.zq_session.specs.Doing.{IsRefusal};
 ghost use Rattle.zq_session.specs.Halves.{AreThere, ReadsThere};
 
+use crate::life::Life;
 use crate::parts::{both_parts, found_delimiter, last_acts, look_at, met_delimiter, over_by};
 use crate::passing::pass_on;
+use crate::topics::{prepare, say_anew};
 use link_side::{Dial, Dialler, LinkSide, is_over, let_go};
 use msg_pipe::Pipes;
-use session_life::{Life, prepare, say_anew};
 use spec_link::{LinkEnd, LinkTopics};
 use std::alloc::{AllocError, Global};
 use std::mem::replace;
@@ -253,7 +254,7 @@ impl Course {
 impl Course {
     ghost use Rattle.std.specs.Prelude.{◌≡◌, None, is_some, true, false, OnOk, OnErr};
     ghost use Rattle.spec_link.specs.Turn.{Exactly, GivesUp, LingerIsOver};
-    ghost use Rattle.session_life.specs.Lives.{Story, basis_of, standing_of};
+    ghost use Rattle.zq_session.specs.Lives.{Story, basis_of, standing_of};
     ghost use Rattle.zq_session.specs.Courses.{HasStory, IsAtEase, IsReady, CourseStep};
     ghost use Rattle.zq_session.specs.Halves.{AreThere};
     ghost use Rattle.zq_session.specs.Turns.{IsOutputGone, OutputBy, BeginsBy, TurnsBy};

@@ -8,9 +8,9 @@ ghost use Rattle.zq_session.specs.Handings.{SealsAt, SettlesAt};
 ghost use Rattle.zq_session.specs.Sessions.{HasLived, Happens, has_link};
 
 use crate::handing::hand_shaken;
+use crate::life_handing::hand_out;
 use crate::session::Session;
 use msg_pipe::Pipes;
-use session_life::hand_out;
 use spec_link::Due;
 use std::mem::replace;
 use zq_base::Settled;

@@ -2,7 +2,8 @@ ghost use Rattle.std.specs.Prelude.{◌≡◌, None, true, false, IfSome, IfNone
 ghost use Rattle.zq_session.specs.Handings.{HandsShaken};
 
 use crate::course::Course;
-use session_life::{Asked, waits};
+use crate::life::Asked;
+use crate::life_handing::waits;
 use spec_control::Req;
 use spec_link::Due;
 use std::mem::replace;

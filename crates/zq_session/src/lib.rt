@@ -1,14 +1,25 @@
 //! A session: it drives one engine over one link, and moves whole messages between the link and the
 //! pipes of its end.
+//!
+//! How a session stands aside from its links: what becomes due and is handed out, how it reads and
+//! dials, what it does to its topics; and what listens.
 #![tactic(auto)]
 
 mod course;
 mod ending;
 mod handing;
 mod laws;
+mod life;
+mod life_handing;
+mod listener;
 mod parts;
 mod passing;
 mod session;
+mod topics;
 
 pub use laws::what_is_kept_is_of_a_link_run;
+pub use life::{Asked, Life, ReadMode};
+pub use life_handing::{hand_out, waits};
+pub use listener::{Accepted, Listener};
 pub use session::Session;
+pub use topics::{new_topics, note, prepare, say_anew};

@@ -12,10 +12,10 @@ ghost use Rattle.link_side.specs.Says.{IsFree};
 ghost use Rattle.zq_session.specs.Noting.{NextBy, UnsaidBy, NotesBy, NotesNotBy, SaysOn, mode_of};
 ghost use Rattle.zq_session.specs.BothParts.{PartsBy, CutBy, UnnotedBy, LastBy};
 
+use crate::life::{Life, ReadMode};
 use crate::passing::pass_on;
 use link_side::{Fetched, LinkSide, Written, is_over};
 use msg_pipe::{Front, Pipes};
-use session_life::{Life, ReadMode};
 use spec_link::{LinkEnd, LinkTopics};
 use std::alloc::{AllocError, Global};
 use zq_outer::{Link, LinkGot, LinkPut};

@@ -4,8 +4,8 @@ ghost use Rattle.link_side.specs.declared.behind.Behind.TheVariants.{Unsaid};
 ghost use Rattle.link_side.specs.Says.{IsFree};
 ghost use Rattle.zq_session.specs.Noting.{PassesOn};
 
+use crate::topics::note;
 use link_side::LinkSide;
-use session_life::note;
 use spec_link::LinkTopics;
 use std::alloc::{AllocError, Global};
 

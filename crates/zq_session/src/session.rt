@@ -5,9 +5,10 @@ ghost use Rattle.spec_link.specs.History.{Basis, SessionEvent, Given, EndIs, Tol
 ghost use Rattle.zq_session.specs.Sessions.{HasLived, Happens, TurnsOn, CutsOn, AreAt, has_link};
 
 use crate::course::Course;
+use crate::life::{Asked, Life};
+use crate::topics::new_topics;
 use link_side::{Dialler, LinkSide};
 use msg_pipe::Pipes;
-use session_life::{Asked, Life, new_topics};
 use spec_control::EndState;
 use std::alloc::{AllocError, Global};
 use std::marker::Model;

@@ -2,10 +2,10 @@
 use Rattle.std.proofs.Common.{◌≡◌, ℕ, [], Some, refl, ap, ◌∙◌, subst}
 use Rattle.spec_pattern.specs.Half.{Writing}
 use Rattle.msg_pipe.specs.Known.{Known, IsElse, KeepsAll, KeepsButOut, MakesPipe}
-use Rattle.held_ends.specs.declared.table.Place.{Place}
-use Rattle.held_ends.specs.Places.{place_at}
-use Rattle.held_ends.specs.Sound.{IsSound, Fits}
-use Rattle.held_ends.proofs.MakeLemmas.{made_fits}
+use Rattle.end_table.specs.declared.table.Place.{Place}
+use Rattle.end_table.specs.Places.{place_at}
+use Rattle.end_table.specs.Sound.{IsSound, Fits}
+use Rattle.end_table.proofs.MakeLemmas.{made_fits}
 
 module _ {S O I N : Type 0} (K : Known S O I N) where
   none_there : {T : Type 0} (k : ℕ) (p : Place N I) → place_at [] k ≡ Some p → T

@@ -6,8 +6,8 @@ use Rattle.spec_control.specs.declared.end.EndState.TheVariants.{AckSent}
 use Rattle.spec_control.specs.Control.{is_end}
 use Rattle.spec_control.specs.Place.{At}
 use Rattle.spec_control.specs.Held.{Held}
-use Rattle.ctl_plane.specs.Holding.{Holding, Joined, IsLast, Seals, Stays, TurnsTo, has_end}
-use Rattle.ctl_plane.specs.Lent.{has_writer}
+use Rattle.desk.specs.Holding.{Holding, Joined, IsLast, Seals, Stays, TurnsTo, has_end}
+use Rattle.desk.specs.Lent.{has_writer}
 use Rattle.zq_tests_core.specs.Ends.{the_end, HasOne}
 
 module _ (x : Held ℕ) (m k : Holding ℕ) (joined : Joined 1 x m k) (same : x.end ≡ the_end) where

@@ -1,9 +1,9 @@
 -- A socket of number 1 with one end (own choice).
 use Rattle.std.specs.Prelude.{◌≡◌, ℕ, true, List, [], ◌∷◌}
 use Rattle.zq_base.specs.declared.ids.EndId.{EndId}
-use Rattle.ctl_plane.specs.Holding.{Holding}
+use Rattle.desk.specs.Holding.{Holding}
 use Rattle.msg_pipe.specs.declared.plain_pipes.PlainIn.{PlainIn}
-use Rattle.held_ends.specs.declared.table.Place.{Place}
+use Rattle.end_table.specs.declared.table.Place.{Place}
 
 -- the end a of pair 7
 abbrev pub the_end : EndId

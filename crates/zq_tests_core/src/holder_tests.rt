@@ -2,8 +2,8 @@ ghost use Rattle.std.specs.Prelude.{◌≡◌, ◌∷◌, [], true};
 ghost use Rattle.zq_tests_core.specs.Ends.{the_end, HasOne};
 
 use crate::sockets::{Socket, check, the_end, with_one_end};
-use ctl_plane::{Halves, Holder, Undoes};
-use held_ends::find;
+use desk::{Halves, Holder, Undoes};
+use end_table::find;
 use msg_pipe::{Pipes, PlainIn, PlainOut, PlainPipes};
 use spec_control::EndState;
 use std::test::Fail;

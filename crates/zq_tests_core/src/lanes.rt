@@ -1,14 +1,14 @@
 //! A socket of any kind over plain pipes with one end, at which a message waits.
 ghost use Rattle.std.specs.Prelude.{◌≡◌, [], true, List, IfOk};
 ghost use Rattle.spec_pattern.specs.Pipe.{IsCommittable};
-ghost use Rattle.held_ends.specs.declared.table.Place.{Place};
-ghost use Rattle.held_ends.specs.Places.{writes_in};
-ghost use Rattle.held_ends.specs.Sound.{Fits};
+ghost use Rattle.end_table.specs.declared.table.Place.{Place};
+ghost use Rattle.end_table.specs.Places.{writes_in};
+ghost use Rattle.end_table.specs.Sound.{Fits};
 ghost use Rattle.zq_tests_core.specs.Ends.{the_end, no_places};
 
 use crate::sockets::{Socket, options, the_end};
 use any_sock::AnySock;
-use ctl_plane::{Halves, Holder};
+use desk::{Halves, Holder};
 use msg_pipe::{Pipes, PlainIn, PlainOut, PlainPipes};
 use sock_core::SockHolder;
 use std::alloc::Global;

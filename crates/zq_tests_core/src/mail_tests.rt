@@ -1,14 +1,14 @@
 ghost use Rattle.std.specs.Prelude.{◌≡◌, true};
 ghost use Rattle.spec_pattern.specs.Pipe.{IsCommittable};
-ghost use Rattle.held_ends.specs.declared.table.Place.{Place};
-ghost use Rattle.held_ends.specs.Places.{writes_in};
+ghost use Rattle.end_table.specs.declared.table.Place.{Place};
+ghost use Rattle.end_table.specs.Places.{writes_in};
 ghost use Rattle.zq_tests_core.specs.Ends.{the_end};
 
 use crate::lanes::{enveloped, lane, message};
 use crate::sockets::{Socket, check, the_end};
 use msg_pipe::Front;
 use pub_sub::XSendFault;
-use sock_mail::{look, pump, recv, send, subscribe, unsubscribe};
+use sock_core::{look, pump, recv, send, subscribe, unsubscribe};
 use spec_pattern::{RecvFault, Sent};
 use std::alloc::Global;
 use std::test::Fail;

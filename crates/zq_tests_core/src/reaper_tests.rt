@@ -1,10 +1,10 @@
 ghost use Rattle.std.specs.Prelude.{◌≡◌, [], IfOk};
-ghost use Rattle.reaper_ends.specs.Finding.{HasRoom};
+ghost use Rattle.closed_ends.specs.Finding.{HasRoom};
 
 use crate::sockets::check;
-use ctl_plane::Holder;
+use closed_ends::Closed;
+use desk::Holder;
 use msg_pipe::PlainPipes;
-use reaper_ends::Closed;
 use std::alloc::Global;
 use std::test::Fail;
 use zq_base::ObjId;

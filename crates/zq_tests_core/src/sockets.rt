@@ -1,10 +1,10 @@
 //! A socket over plain pipes with one end.
 ghost use Rattle.std.specs.Prelude.{◌≡◌, ◌∷◌, [], true, IfOk};
-ghost use Rattle.ctl_plane.specs.Holding.{AreCrossed};
+ghost use Rattle.desk.specs.Holding.{AreCrossed};
 ghost use Rattle.zq_tests_core.specs.Ends.{the_end, HasOne};
 
 use any_sock::AnySock;
-use ctl_plane::{Halves, Holder, Made};
+use desk::{Halves, Holder, Made};
 use msg_pipe::{Pipes, PlainIn, PlainOut, PlainPipes};
 use sock_core::SockHolder;
 use std::alloc::Global;

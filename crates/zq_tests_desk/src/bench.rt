@@ -1,8 +1,8 @@
 //! A desk of sockets over plain pipes, and what its sockets are made with.
-ghost use Rattle.ctl_plane.specs.Asking.{MayHave};
+ghost use Rattle.desk.specs.Asking.{MayHave};
 
 use msg_pipe::PlainPipes;
-use one_desk::OneDesk;
+use plain_desk::OneDesk;
 use std::alloc::Global;
 use std::test::Fail;
 use zq_base::{Octets, Options, Role, Seq};

@@ -1,8 +1,8 @@
 use crate::bench::{check, desk, options};
-use ctl_plane::Holder;
+use closed_ends::Closed;
+use desk::Holder;
 use msg_pipe::PlainPipes;
-use one_desk::OneDesk;
-use reaper_ends::Closed;
+use plain_desk::OneDesk;
 use spec_control::{ObjState, Reply, SeenEmpty, Sight};
 use std::alloc::Global;
 use std::test::Fail;

@@ -1,13 +1,37 @@
 //! Tests of the outside in memory and over TCP, and of sessions.
+//!
+//! Tests of sessions over links in memory.
 #![tactic(auto)]
 
 #[cfg(test)]
+mod calls;
+#[cfg(test)]
 mod checks;
+#[cfg(test)]
+mod cut_peer;
+#[cfg(test)]
+mod dials;
+#[cfg(test)]
+mod lane;
+#[cfg(test)]
+mod many;
 #[cfg(test)]
 mod memory_links;
 #[cfg(test)]
 mod net;
 #[cfg(test)]
+mod options;
+#[cfg(test)]
 mod outer;
 #[cfg(test)]
+mod plans;
+#[cfg(test)]
+mod seat;
+#[cfg(test)]
+mod session_checks;
+#[cfg(test)]
 mod sessions;
+#[cfg(test)]
+mod topics;
+#[cfg(test)]
+mod two_sessions;

@@ -5,13 +5,13 @@ ghost use Rattle.msg_pipe.specs.Known.{IsThere};
 use crate::checks::{check, check_answer};
 use link_side::{Dial, Dialler, LinkSide};
 use msg_pipe::{Pipes, PlainPipes};
-use session_life::{Accepted, Listener};
 use spec_control::Req;
 use spec_link::Due;
 use std::alloc::{AllocError, Global};
 use std::test::Fail;
 use zq_base::{Address, EngineOpts, Kind, Logins, ObjId, Octets, Role, Seq};
 use zq_outer::{CallKind, Host, Link, LinkGot, LinkPut, MemHost, MemLink, Plan, PlannedCall};
+use zq_session::{Accepted, Listener};
 
 /// The greeting of a side without security (RFC 23).
 const NULL: &[u8] =

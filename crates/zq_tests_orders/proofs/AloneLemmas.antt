@@ -2,8 +2,8 @@
 use Rattle.std.proofs.Common.{◌≡◌, ◌≢◌, ℕ, List, [], ◌∷◌, true, false, length, refl, sym, subst, true≢false}
 use Rattle.spec_run.specs.Act.{Act}
 use Rattle.spec_run.specs.OpenSocket.{OpenSock}
-use Rattle.script_actor.specs.Piece.{Piece, piece_of}
-use Rattle.script_actor.specs.declared.actor.Actor.{Actor}
+use Rattle.zq_world.specs.Piece.{Piece, piece_of}
+use Rattle.zq_world.specs.declared.actor.Actor.{Actor}
 use Rattle.zq_world.specs.CoreCalls.{IsReaper, AsksOnce}
 use Rattle.zq_world.specs.Turning.{WorkerSteps}
 use Rattle.zq_world.proofs.RiseLemmas.{all_both}

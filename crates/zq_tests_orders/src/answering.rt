@@ -1,15 +1,15 @@
 //! What an actor says whose lines are asked, one after the other, of the sockets of one thread.
-ghost use Rattle.script_actor.specs.MayAsk.{MayAskLines, MayAskScript};
-ghost use Rattle.script_actor.specs.Stepping.{ActorAgrees};
+ghost use Rattle.zq_world.specs.MayAsk.{MayAskLines, MayAskScript};
+ghost use Rattle.zq_world.specs.Stepping.{ActorAgrees};
 
 use msg_pipe::{Pipes, PlainPipes};
-use one_core::OneCore;
+use plain_core::OneCore;
 use replay_laws::scripts_that_are_read_may_be_asked;
-use run_journal::{ActorLines, RunJournal, print};
 use run_script::{RunActor, read_run_script};
-use script_actor::{Actor, Sockets};
 use std::alloc::{AllocError, Global};
 use zq_base::{Octets, Seq};
+use zq_journal::{ActorLines, RunJournal, print};
+use zq_world::{Actor, Sockets};
 
 // More steps than an actor of a test takes.
 const STEPS: usize = 40;

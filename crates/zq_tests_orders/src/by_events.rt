@@ -1,14 +1,14 @@
 //! A script's actors by lists of events that no turn chooses, and one by those of its turns.
-ghost use Rattle.script_actor.specs.MayAsk.{MayAskScript};
+ghost use Rattle.zq_world.specs.MayAsk.{MayAskScript};
 
 use msg_pipe::PlainPipes;
-use one_core::OneCore;
+use plain_core::OneCore;
 use replay_laws::scripts_that_are_read_may_be_asked;
-use run_journal::{RunJournal, print};
 use run_script::{RunActor, read_run_script};
 use std::alloc::{AllocError, Global};
 use std::test::Fail;
 use zq_base::Octets;
+use zq_journal::{RunJournal, print};
 use zq_outer::TickClock;
 use zq_world::{Event, play_script};
 

@@ -1,6 +1,6 @@
 //! All interleavings of two sockets' last lines with single letters of their mailboxes and of the
 //! root's, and with the asking of the root. A letter of an empty mailbox is none.
-ghost use Rattle.script_actor.specs.MayAsk.{MayAskScript};
+ghost use Rattle.zq_world.specs.MayAsk.{MayAskScript};
 
 use crate::arrangements::next_arrangement;
 use crate::by_events::journal_by;

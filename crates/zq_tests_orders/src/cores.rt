@@ -1,11 +1,11 @@
 //! Scripts over a core of plain pipes, in orders that are given.
-ghost use Rattle.script_actor.specs.MayAsk.{MayAskScript};
+ghost use Rattle.zq_world.specs.MayAsk.{MayAskScript};
 
 use crate::arrangements::next_arrangement;
 use crate::draws::drawn_order;
 use crate::drive::ends;
 use msg_pipe::PlainPipes;
-use one_core::OneCore;
+use plain_core::OneCore;
 use replay_laws::scripts_that_are_read_may_be_asked;
 use run_script::{RunActor, read_run_script};
 use std::alloc::{AllocError, Global};

@@ -1,5 +1,5 @@
 //! Orders that are drawn by a seed.
-use spec_journal::Order;
+use spec_run::Order;
 use std::alloc::{AllocError, Global};
 
 // Who asks the root: a number above those of all actors and of the reaper.

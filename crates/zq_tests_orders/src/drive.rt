@@ -1,17 +1,16 @@
 //! A script's steps over any core, one after another as an order says who steps next.
 ghost use Rattle.std.specs.Prelude.{◌≡◌, [], length, IfOk, OnOk};
-ghost use Rattle.script_actor.specs.MayAsk.{MayAskScript};
+ghost use Rattle.zq_world.specs.MayAsk.{MayAskScript};
 ghost use Rattle.zq_world.specs.CoreCalls.{IsReaper};
 ghost use Rattle.zq_world.specs.Played.{AreNew};
 ghost use Rattle.zq_world.specs.Turning.{ActorsAgree};
 
 use crate::shown::shows_the_end;
 use msg_pipe::Pipes;
-use script_actor::Actor;
 use spec_run::RunActor;
 use std::alloc::{AllocError, Global};
 use zq_outer::TickClock;
-use zq_world::{Core, run};
+use zq_world::{Actor, Core, run};
 
 // In how many turns the root has to have ended, once the steps of the order are over.
 const TURNS: u32 = 200;

@@ -1,12 +1,12 @@
 ghost use Rattle.std.specs.Prelude.{◌≡◌, ◌∷◌, [], ◌≤◌, false, All, IfSome};
 ghost use Rattle.spec_pattern.specs.Pipe.{IsCommittable, max_capacity};
-ghost use Rattle.ends.specs.declared.row.EndRow.{EndRow};
-ghost use Rattle.ends.specs.Rows.{table, row_at, IsRow, can_write_of};
-ghost use Rattle.ends.specs.Held.{IsHeld, IsReady};
+ghost use Rattle.end_table.specs.declared.row.EndRow.{EndRow};
+ghost use Rattle.end_table.specs.Rows.{table, row_at, IsRow, can_write_of};
+ghost use Rattle.end_table.specs.Held.{IsHeld, IsReady};
 
 use crate::messages::{letters, must};
 use crate::steps::{Told, is_not_got, told_of};
-use ends::{EndRow, Ends, attach};
+use end_table::{EndRow, Ends, attach};
 use msg_pipe::{Front, Pipes, PlainIn, PlainOut, PlainPipes};
 use pub_sub::passed_on;
 use push_pull::{Pull, Push};

@@ -1,12 +1,11 @@
 //! A core that does nothing: each call of it wants memory.
 use msg_pipe::PlainPipes;
-use script_actor::{Made, Sockets};
 use spec_control::ObjState;
 use spec_pattern::Skip;
 use spec_run::{LineAnswer, LineCall};
 use std::alloc::{AllocError, AllocFailed, Global};
 use zq_base::{Kind, Options};
-use zq_world::{Core, Shown};
+use zq_world::{Core, Made, Shown, Sockets};
 
 /// A socket of it, of which none is ever made.
 #[derive(Drop)]

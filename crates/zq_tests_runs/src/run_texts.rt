@@ -1,9 +1,9 @@
 use crate::no_core::NoCore;
 use msg_pipe::PlainPipes;
-use run_text::{Cause, RunText, ScriptFault, text_of_run};
 use std::alloc::{AllocError, Global};
 use std::test::Fail;
 use zq_outer::{Clock, TickClock};
+use zq_top::{Cause, RunText, ScriptFault, text_of_run};
 
 // What a run of the octets over a core that does nothing tells, and what the clock reads behind it.
 fn told_of(alloc: Global, octets: &[u8]) -> (Result<RunText, AllocError>, u64) {

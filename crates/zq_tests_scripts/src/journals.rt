@@ -1,9 +1,10 @@
-use run_journal::{ActorLines, LineAnswer, LineEntry, RunJournal, SettledRow, print};
 use spec_control::Reason;
 use spec_pattern::{PipeId, RecvRefusal, Report, Rule, SendRefusal, Skip};
 use std::alloc::{AllocError, Global};
 use zq_base::{Frame, Message, ObjId, Octets, PairId, Seq};
-use zq_journal::{Answer, PipeRow};
+use zq_journal::{
+    ActorLines, Answer, LineAnswer, LineEntry, PipeRow, RunJournal, SettledRow, print,
+};
 
 /// The list of these.
 pub fn listed<T: Copy>(alloc: Global, items: &[T]) -> Result<Seq<T>, AllocError> {

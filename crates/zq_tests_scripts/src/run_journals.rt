@@ -1,10 +1,9 @@
 use crate::journals::{is_printed, is_told, listed, rows_are_told};
-use run_journal::{LineAnswer, ObjectLine, ObjectRow, RunJournal, SettledRow};
 use spec_control::{ObjKind, Reason};
 use spec_pattern::{Rule, Skip};
 use std::alloc::Global;
 use zq_base::{EndId, Kind, ObjId, PairId, Seq};
-use zq_journal::{Answer, PipeRow};
+use zq_journal::{Answer, LineAnswer, ObjectLine, ObjectRow, PipeRow, RunJournal, SettledRow};
 
 /// A message that was dropped.
 const SKIP: Skip = Skip {

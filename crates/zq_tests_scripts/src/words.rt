@@ -1,6 +1,6 @@
 use std::alloc::Global;
 use zq_base::{Kind, Login};
-use zq_words::{Request, WordsError, read_words};
+use zq_call::{Request, WordsError, read_words};
 
 /// What a command line asks for.
 #[derive(Clone, Copy)]

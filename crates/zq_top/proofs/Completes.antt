@@ -5,7 +5,7 @@ use Rattle.std.proofs.lemmas.Bool.{lt-ltb}
 use Rattle.zq_outer.specs.Count.{Rose}
 use Rattle.zq_script.specs.Script.{actors_read}
 use Rattle.zq_script.specs.declared.fault.ScriptFault.{ScriptFault}
-use Rattle.spec_journal.specs.Run.{Schedule}
+use Rattle.spec_run.specs.Run.{Schedule}
 use Rattle.run_script.specs.RunGrammar.{run_script_of}
 use Rattle.spec_run.specs.declared.journal.RunJournal.{RunJournal}
 use Rattle.spec_run.specs.LineCall.{RunScript}
@@ -13,8 +13,8 @@ use Rattle.replay_laws.specs.ReadScripts.{ScriptsMayBeAsked}
 use Rattle.replay_laws.specs.ScriptBounds.{script_turns, ScriptsAreDoneInTime}
 use Rattle.zq_base.specs.declared.kind.Kind.{Kind}
 use Rattle.zq_base.specs.declared.options.Login.{Login}
-use Rattle.zq_words.specs.declared.request.Request.{Request}
-use Rattle.zq_words.specs.declared.request.Request.TheVariants as request
+use Rattle.zq_call.specs.declared.request.Request.{Request}
+use Rattle.zq_call.specs.declared.request.Request.TheVariants as request
 use Rattle.zq_top.specs.Told.{Told}
 use Rattle.zq_call.specs.Call.{AsksRun, AsksNothing, AsksHear, SourceAt, InputAt, WasRead}
 use Rattle.zq_call.specs.declared.status.Status.{Status}

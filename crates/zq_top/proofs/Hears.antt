@@ -6,9 +6,9 @@ use Rattle.zq_base.specs.declared.kind.Kind.{Kind}
 use Rattle.zq_base.specs.declared.options.Login.{Login}
 use Rattle.spec_zmtp.specs.DecodedStream.{Decoded, Decodes}
 use Rattle.spec_zmtp.proofs.StreamLemmas.{one_meaning}
-use Rattle.zq_hear.specs.HearText.{hear_opts, is_refused}
-use Rattle.zq_words.specs.declared.request.Request.{Request}
-use Rattle.zq_words.specs.declared.request.Request.TheVariants as request
+use Rattle.zq_call.specs.HearText.{hear_opts, is_refused}
+use Rattle.zq_call.specs.declared.request.Request.{Request}
+use Rattle.zq_call.specs.declared.request.Request.TheVariants as request
 use Rattle.zq_call.specs.Call.{AsksHear, InputAt, SaysHeard, heard_status}
 use Rattle.zq_call.specs.declared.status.Status.{Status}
 use Rattle.zq_call.specs.declared.status.Status.TheVariants as status

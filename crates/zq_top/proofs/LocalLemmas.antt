@@ -9,7 +9,7 @@ use Rattle.spec_run.specs.declared.line.LineCall.{LineCall}
 use Rattle.spec_run.specs.declared.line.LineCall.TheVariants.{Asks, Unbinds, Disconnects, Closes, Terms}
 use Rattle.spec_run.specs.declared.line.RunLine.{RunLine}
 use Rattle.spec_run.specs.LineCall.{RunScript}
-use Rattle.script_actor.specs.MayAsk.{IsLocal, MayAskLine, MayAskLines, MayAskScript}
+use Rattle.zq_world.specs.MayAsk.{IsLocal, MayAskLine, MayAskLines, MayAskScript}
 use Rattle.replay_laws.specs.Local.{is_inproc}
 use Rattle.replay_laws.specs.LocalScript.{is_local_call, is_local_line, are_local_lines, is_local_script}
 

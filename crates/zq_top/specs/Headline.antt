@@ -3,19 +3,19 @@ use Rattle.std.specs.Prelude.{◌≡◌, ◌⊎◌, ◌≤◌, ℕ, List, ◌++�
 use Rattle.zq_script.specs.declared.fault.Cause.{Cause}
 use Rattle.zq_script.specs.declared.fault.Cause.TheVariants.{BadWord, BadEndpoint, BadPart, UnknownSocket, DoubleName, TooManyActors, TooLong}
 use Rattle.zq_script.specs.declared.fault.ScriptFault.{ScriptFault}
-use Rattle.spec_journal.specs.Run.{Schedule}
+use Rattle.spec_run.specs.Run.{Schedule}
 use Rattle.zq_outer.specs.Readings.{ClockAt}
 use Rattle.run_script.specs.RunGrammar.{run_script_of}
 use Rattle.spec_run.specs.declared.journal.RunJournal.{RunJournal}
 use Rattle.spec_run.specs.LineCall.{RunScript}
 use Rattle.spec_run.specs.RunJournal.{IsRunJournal}
 use Rattle.replay_laws.specs.ScriptBounds.{script_turns}
-use Rattle.run_text.specs.RunText.{PrintsRun}
+use Rattle.zq_top.specs.RunText.{PrintsRun}
 use Rattle.zq_top.specs.Told.{Told}
 use Rattle.zq_base.specs.declared.kind.Kind.{Kind}
 use Rattle.zq_base.specs.declared.options.Login.{Login}
 use Rattle.spec_zmtp.specs.DecodedStream.{Decoded, Decodes}
-use Rattle.zq_hear.specs.HearText.{hear_opts, is_refused}
+use Rattle.zq_call.specs.HearText.{hear_opts, is_refused}
 use Rattle.zq_call.specs.Call as call
 use Rattle.zq_call.specs.Call.{AsksRun, AsksHear, InputAt, Outside, heard_status}
 use Rattle.zq_call.specs.declared.status.Status.{Status}

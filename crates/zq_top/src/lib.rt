@@ -1,14 +1,22 @@
 //! The top call: from the words of the command line and a script to the text that is written. And the
 //! edge of the program: that call over a reader and a writer, and the exit code.
+//!
+//! From octets to the text of a run over sockets that end: a script is read, played on one thread over
+//! any core, and its journal printed.
 #![tactic(auto)]
 
 mod edge;
 mod fault;
 mod laws;
 mod plain;
+mod said;
+mod text;
 mod top;
 
 pub use edge::serve;
 pub use laws::faults_work;
+pub use said::RunText;
+pub use text::text_of_run;
 pub use top::run;
 pub use zq_call::{Ended, Status, words};
+pub use zq_script::{Cause, ScriptFault};

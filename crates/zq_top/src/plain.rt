@@ -1,14 +1,15 @@
 ghost use Rattle.std.specs.Prelude.{ℕ, List, IfOk, IfErr};
 ghost use Rattle.zq_outer.specs.Readings.{clock_at, ClockAt, GoesOn};
-ghost use Rattle.spec_journal.specs.Run.{Schedule};
-ghost use Rattle.run_text.specs.RunText.{TellsRun, IsRunDue};
+ghost use Rattle.spec_run.specs.Run.{Schedule};
+ghost use Rattle.zq_top.specs.RunText.{TellsRun, IsRunDue};
 ghost use Rattle.zq_top.specs.Told.{Told};
 ghost use Rattle.zq_top.specs.Headline.{Prints, RefusesScript, SaysOf};
 
 use crate::fault::fault_text;
+use crate::said::RunText;
+use crate::text::text_of_run;
 use msg_pipe::PlainPipes;
-use one_core::OneCore;
-use run_text::{RunText, text_of_run};
+use plain_core::OneCore;
 use std::alloc::{AllocError, Global};
 use zq_call::{Runs, Status};
 use zq_outer::Clock;

@@ -21,9 +21,9 @@ use Rattle.spec_run.specs.LineCall.{RunScript}
 use Rattle.spec_run.specs.OpenSocket.{OpenSock}
 use Rattle.spec_run.specs.Standing.{ActorStanding, standing_before, has_finished}
 use Rattle.spec_run.specs.InTurns.{ActorStep, AllStep, OneTurn, AsksIf, Begins, Turned, TurnsGo, IsInTurns, worker_count, sequence, asks_root_in, asks_root_by, asks_last, is_live, turn_step, turn_sequence, turns_sequence}
-use Rattle.script_actor.specs.Piece.{Piece, AreActsBy, acts_in}
-use Rattle.script_actor.specs.Stepping.{standing_of}
-use Rattle.script_actor.specs.declared.actor.Actor.{Actor}
+use Rattle.zq_world.specs.Piece.{Piece, AreActsBy, acts_in}
+use Rattle.zq_world.specs.Stepping.{standing_of}
+use Rattle.zq_world.specs.declared.actor.Actor.{Actor}
 use Rattle.zq_world.specs.Turning.{standings, TurnBy, TurnsBy, RunsSo}
 use Rattle.zq_world.specs.GoesInTurns.{run_of}
 use Rattle.zq_world.proofs.StepLemmas.{all_acts-append}

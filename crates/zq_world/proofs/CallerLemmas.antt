@@ -5,7 +5,7 @@ use Rattle.std.specs.List.{AllByRecursion, range_with_len}
 use Rattle.std.proofs.lemmas.Bool.{eqb-true, eqb-false}
 use Rattle.std.proofs.lemmas.Grind.{flat_map-append}
 use Rattle.spec_run.specs.InTurns.{NeverFall}
-use Rattle.script_actor.specs.Piece.{Piece}
+use Rattle.zq_world.specs.Piece.{Piece}
 
 lower : (a b : ℕ) (xs : List ℕ) → a ≤ b → NeverFall b xs → NeverFall a xs
 lower a b [] le h = tt

@@ -15,11 +15,11 @@ use Rattle.spec_run.specs.InTurns.{ActorStep}
 use Rattle.spec_run.specs.CoreEvents.{CoreEvent, NextLine, TakeFrom, AskRoot, Tick, Made, may_take, actor_with, StepsUnless, LineDoes, TakenBy, TakeDoes, EventDoes}
 use Rattle.spec_run.specs.RunJournal.{entries_shown}
 use Rattle.run_laws.proofs.GoesLemmas.{deeds_by, by_own, by_other, by-append, events_more, placed_both, get_set_here, get_set_else}
-use Rattle.script_actor.specs.Piece.{Piece, AreActsBy, AddsPiece, piece_of, deed_pieces}
-use Rattle.script_actor.specs.Stepping.{standing_of, entries_of, StepsSo}
-use Rattle.script_actor.specs.Taking.{control_told, has_slot, FetchesSo}
-use Rattle.script_actor.specs.declared.actor.Actor.{Actor}
-use Rattle.script_actor.proofs.FetchLemmas.{drop_here}
+use Rattle.zq_world.specs.Piece.{Piece, AreActsBy, AddsPiece, piece_of, deed_pieces}
+use Rattle.zq_world.specs.Stepping.{standing_of, entries_of, StepsSo}
+use Rattle.zq_world.specs.Taking.{control_told, has_slot, FetchesSo}
+use Rattle.zq_world.specs.declared.actor.Actor.{Actor}
+use Rattle.zq_world.proofs.FetchLemmas.{drop_here}
 use Rattle.zq_world.specs.CoreCalls.{AsksOnce, IsReaper}
 use Rattle.zq_world.specs.Turning.{standings}
 use Rattle.zq_world.specs.Played.{AreNew}

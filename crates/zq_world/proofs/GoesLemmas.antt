@@ -24,9 +24,9 @@ use Rattle.spec_run.specs.Fate.{count_sent, fates_left, is_heard_at, reason_left
 use Rattle.spec_run.specs.RunJournal.{actors_shown, entries_shown, row_if, row_shown}
 use Rattle.run_laws.proofs.TurnLemmas.{map_length}
 use Rattle.run_laws.proofs.GoesLemmas.{steps_by, steps_are, made_moments, IsPlaced, placed_run, go_local}
-use Rattle.script_actor.specs.Piece.{Piece, deed_pieces, pipe_steps, acts_in}
-use Rattle.script_actor.specs.Stepping.{entries_of, lines_of}
-use Rattle.script_actor.specs.declared.actor.Actor.{Actor}
+use Rattle.zq_world.specs.Piece.{Piece, deed_pieces, pipe_steps, acts_in}
+use Rattle.zq_world.specs.Stepping.{entries_of, lines_of}
+use Rattle.zq_world.specs.declared.actor.Actor.{Actor}
 use Rattle.zq_world.specs.declared.cores.Shown.{Shown}
 use Rattle.zq_world.specs.OneSided.{is_written, is_read}
 use Rattle.zq_world.specs.Shown.{ShowsSo, fates_in_pieces, row_in_pieces}

@@ -18,3 +18,9 @@ pub mod GoesLemmas
 pub mod WorldLemmas
 pub mod RefusedLemmas
 pub mod NewLemmas
+pub mod SeatLemmas
+pub mod LineLemmas
+pub mod ActorStepLemmas
+pub mod FetchLemmas
+pub mod HereLemmas
+mod MarkLemmas

@@ -17,8 +17,8 @@ use Rattle.spec_run.specs.Fate.{skips_of}
 use Rattle.spec_run.specs.Worker.{ConductsSo}
 use Rattle.spec_run.specs.CoreEvents.{Made, deeds_made, control_behind}
 use Rattle.run_laws.proofs.GoesLemmas.{deeds_by, made_moments, IsPlaced}
-use Rattle.script_actor.specs.Piece.{AreActsBy, piece_of, deed_pieces, acts_in}
-use Rattle.script_actor.specs.Taking.{control_told}
+use Rattle.zq_world.specs.Piece.{AreActsBy, piece_of, deed_pieces, acts_in}
+use Rattle.zq_world.specs.Taking.{control_told}
 use Rattle.zq_world.specs.CoreCalls.{IsReaper}
 use Rattle.zq_world.specs.ByEvents.{piece_made, made_pieces, AreMadeBy}
 use Rattle.zq_world.proofs.AskedLemmas.{all-append, items_of, items_of-append}

@@ -6,8 +6,8 @@ use Rattle.spec_run.specs.declared.line.RunActor.{RunActor}
 use Rattle.spec_run.specs.LineCall.{RunScript}
 use Rattle.spec_run.specs.OpenSocket.{OpenSock}
 use Rattle.spec_run.specs.Standing.{standing_before}
-use Rattle.script_actor.specs.Stepping.{standing_of, lines_of}
-use Rattle.script_actor.specs.declared.actor.Actor.{Actor}
+use Rattle.zq_world.specs.Stepping.{standing_of, lines_of}
+use Rattle.zq_world.specs.declared.actor.Actor.{Actor}
 use Rattle.zq_world.specs.Played.{HasNone, AreNew, lines_before}
 
 both_more : {X Y Z : Type 0} (f : X → Z) (h : Y → Z) (xs : List X) (x : X) (ys : List Y) (y : Y) → map f xs ≡ map h ys → f x ≡ h y → map f (xs ++ x ∷ []) ≡ map h (ys ++ y ∷ [])

@@ -4,7 +4,7 @@ use Rattle.std.specs.Prelude.{◌==◌, nat_lt, slice_get, if◌then◌else◌}
 use Rattle.std.specs.List.{range_with_len, remove}
 use Rattle.std.proofs.lemmas.List.{take_more}
 use Rattle.std.proofs.lemmas.Bool.{eq-eqb, ne_eqb, eqb-true, eqb-false, ltb-true, ltb-false}
-use Rattle.spec_journal.specs.Turn.{next_number, choice, Chooses, IsOrder}
+use Rattle.spec_run.specs.Turn.{next_number, choice, Chooses, IsOrder}
 use Rattle.zq_world.specs.Turning.{times}
 
 pub times_it : (w v : ℕ) (vs : List ℕ) → v ≡ w → times w (v ∷ vs) ≡ times w vs + 1

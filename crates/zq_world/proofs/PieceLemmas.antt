@@ -7,8 +7,8 @@ use Rattle.spec_run.specs.Act.{Act, Deed, Looks, Reads, acts_of, all_acts}
 use Rattle.spec_run.specs.Fate.{skips_of}
 use Rattle.spec_run.specs.OpenSocket.{OpenSock}
 use Rattle.spec_run.specs.InTurns.{OneTurn, Turned, turn_step, turn_sequence, turns_sequence, sequence}
-use Rattle.script_actor.specs.Piece.{Piece, piece_of, deed_pieces, acts_in}
-use Rattle.script_actor.specs.declared.actor.Actor.{Actor}
+use Rattle.zq_world.specs.Piece.{Piece, piece_of, deed_pieces, acts_in}
+use Rattle.zq_world.specs.declared.actor.Actor.{Actor}
 use Rattle.zq_world.specs.Turning.{RunsSo, turn_pieces, turns_pieces, sequence_pieces}
 use Rattle.zq_world.proofs.StepLemmas.{all_acts-append}
 

@@ -12,7 +12,7 @@ use Rattle.spec_control.specs.Rows.{PairRow}
 use Rattle.spec_control.specs.Control.{Control, begun, end_of}
 use Rattle.spec_control.specs.ControlRun.{after_all}
 use Rattle.spec_control.specs.Moments.{moments_from}
-use Rattle.spec_journal.specs.Run.{Schedule}
+use Rattle.spec_run.specs.Run.{Schedule}
 use Rattle.spec_run.specs.declared.journal.LineEntry.{LineEntry}
 use Rattle.spec_run.specs.declared.journal.ActorLines.{ActorLines}
 use Rattle.spec_run.specs.declared.journal.ObjectLine.{ObjectLine}
@@ -30,12 +30,12 @@ use Rattle.spec_run.specs.Fate.{count_sent, fates_left, is_heard_at, reason_left
 use Rattle.spec_run.specs.RunJournal.{IsRunJournal, actors_shown, entries_shown, row_if, row_shown, rows_by}
 use Rattle.spec_run.proofs.JournalLemmas.{all_fates}
 use Rattle.run_laws.proofs.TurnLemmas.{turns_local}
-use Rattle.script_actor.specs.Piece.{Piece, acts_in, pipe_steps}
-use Rattle.script_actor.specs.MayAsk.{MayAskLines, MayAskScript}
-use Rattle.script_actor.specs.Seats.{AllAgree}
-use Rattle.script_actor.specs.Stepping.{standing_of, entries_of, lines_of}
-use Rattle.script_actor.specs.declared.seats.Seat.{Seat}
-use Rattle.script_actor.specs.declared.actor.Actor.{Actor}
+use Rattle.zq_world.specs.Piece.{Piece, acts_in, pipe_steps}
+use Rattle.zq_world.specs.MayAsk.{MayAskLines, MayAskScript}
+use Rattle.zq_world.specs.Seats.{AllAgree}
+use Rattle.zq_world.specs.Stepping.{standing_of, entries_of, lines_of}
+use Rattle.zq_world.specs.declared.seats.Seat.{Seat}
+use Rattle.zq_world.specs.declared.actor.Actor.{Actor}
 use Rattle.zq_world.specs.OneSided.{OneSided, is_written, is_read}
 use Rattle.zq_world.specs.Shown.{ShowsSo, fates_in_pieces, row_in_pieces}
 use Rattle.zq_world.specs.declared.cores.Shown.{Shown}

@@ -8,8 +8,8 @@ use Rattle.spec_run.specs.Act.{Act, Deed, acts_of}
 use Rattle.spec_run.specs.Fate.{skips_of}
 use Rattle.spec_run.specs.OpenSocket.{OpenSock}
 use Rattle.spec_run.specs.InTurns.{OneTurn, turn_step}
-use Rattle.script_actor.specs.Piece.{Piece, piece_of, deed_pieces}
-use Rattle.script_actor.specs.declared.actor.Actor.{Actor}
+use Rattle.zq_world.specs.Piece.{Piece, piece_of, deed_pieces}
+use Rattle.zq_world.specs.declared.actor.Actor.{Actor}
 use Rattle.zq_world.specs.CoreCalls.{IsReaper}
 use Rattle.zq_world.specs.Turning.{standings, HaveStepped, BeginsTurn, turn_pieces, turns_pieces}
 use Rattle.zq_world.proofs.RiseLemmas.{all_both}

@@ -12,7 +12,7 @@ use Rattle.spec_run.specs.Fate.{skips_of}
 use Rattle.spec_run.specs.Event.{seals_in}
 use Rattle.spec_run.specs.Standing.{ActorStanding, has_finished}
 use Rattle.spec_run.specs.InTurns.{AllStep, OneTurn, Turned, AsksIf, Begins, TurnsGo, NeverFall, is_live, turn_step}
-use Rattle.script_actor.specs.Piece.{Piece, piece_of, deed_pieces}
+use Rattle.zq_world.specs.Piece.{Piece, piece_of, deed_pieces}
 use Rattle.zq_world.specs.OneSided.{makes, MayFollow, AreOneSided}
 use Rattle.zq_world.specs.Turning.{turn_pieces, turns_pieces, sequence_pieces}
 use Rattle.zq_world.proofs.AskedLemmas.{as_many}

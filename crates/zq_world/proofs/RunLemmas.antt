@@ -9,7 +9,7 @@ use Rattle.zq_outer.specs.Readings.{ClockAt, ReadsClock, GoesOn}
 use Rattle.zq_outer.proofs.ClockLemmas.{reads_more}
 use Rattle.spec_control.specs.declared.object.ObjState.{ObjState}
 use Rattle.spec_control.specs.declared.object.ObjState.TheVariants.{Live, Asked, Ended}
-use Rattle.spec_journal.specs.Turn.{IsOrder}
+use Rattle.spec_run.specs.Turn.{IsOrder}
 use Rattle.spec_run.specs.declared.journal.LineEntry.{LineEntry}
 use Rattle.spec_run.specs.Act.{Act, Said, Deed, Tries, Shuts, Fetches, Idles, Works, Looks, AsksRoot, Reads, all_acts}
 use Rattle.spec_run.specs.OpenSocket.{OpenSock}
@@ -17,10 +17,10 @@ use Rattle.spec_run.specs.Standing.{ActorStanding, has_finished}
 use Rattle.spec_run.specs.OwnedRun.{deeds_in}
 use Rattle.spec_run.specs.InTurns.{AllStep, OneTurn, AsksIf, Begins, TurnsGo, NeverFall, Draws, is_ended, is_live, turn_step}
 use Rattle.spec_run.specs.RunJournal.{entries_shown, entry_shown}
-use Rattle.script_actor.specs.Piece.{Piece, AreActsBy, piece_of, deed_pieces}
-use Rattle.script_actor.specs.Stepping.{standing_of, entries_of}
-use Rattle.script_actor.specs.declared.actor.Actor.{Actor}
-use Rattle.script_actor.proofs.StepLemmas.{adds_one}
+use Rattle.zq_world.specs.Piece.{Piece, AreActsBy, piece_of, deed_pieces}
+use Rattle.zq_world.specs.Stepping.{standing_of, entries_of}
+use Rattle.zq_world.specs.declared.actor.Actor.{Actor}
+use Rattle.zq_world.proofs.ActorStepLemmas.{adds_one}
 use Rattle.zq_world.specs.CoreCalls.{LooksOnce, AsksOnce}
 use Rattle.zq_world.specs.Turning.{standings, ActorDoes, HasStepped, acted, reaped, served, TurnSteps, DrawsUpTo, TurnBy, TurnsBy, EndsHere, BeginsTurn, HasSaid, HasCome, turn_pieces, turns_pieces}
 use Rattle.zq_world.specs.Timed.{RunsTimed}

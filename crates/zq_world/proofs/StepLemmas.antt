@@ -9,12 +9,12 @@ use Rattle.spec_run.specs.Fate.{skips_of}
 use Rattle.spec_run.specs.InTurns.{ReaperStep}
 use Rattle.spec_run.specs.OpenSocket.{OpenSock}
 use Rattle.run_laws.proofs.GoesLemmas.{get_set_here, get_set_else}
-use Rattle.script_actor.specs.Piece.{Piece, AreActsBy, AddsPiece, AddsDeeds, deed_pieces}
-use Rattle.script_actor.specs.Way.{KeepsAll}
-use Rattle.script_actor.specs.Stepping.{ActorAgrees, StepsSo, LeavesOthers}
-use Rattle.script_actor.specs.declared.actor.Actor.{Actor}
-use Rattle.script_actor.proofs.SeatLemmas.{all_kept, all_left}
-use Rattle.script_actor.proofs.StepLemmas.{adds_one}
+use Rattle.zq_world.specs.Piece.{Piece, AreActsBy, AddsPiece, AddsDeeds, deed_pieces}
+use Rattle.zq_world.specs.Way.{KeepsAll}
+use Rattle.zq_world.specs.Stepping.{ActorAgrees, StepsSo, LeavesOthers}
+use Rattle.zq_world.specs.declared.actor.Actor.{Actor}
+use Rattle.zq_world.proofs.SeatLemmas.{all_kept, all_left}
+use Rattle.zq_world.proofs.ActorStepLemmas.{adds_one}
 use Rattle.zq_world.specs.CoreCalls.{ReapsOne}
 use Rattle.zq_world.specs.Turning.{times, ActorsAgree, WorkerDoes, acts_so, reaps_so, serves_so, WorkerSteps, HasStepped, acted, reaped, served, HaveStepped}
 use Rattle.zq_world.proofs.OrderLemmas.{times-append, times_it, times_not}

@@ -16,9 +16,9 @@ use Rattle.spec_run.specs.OpenSocket.{OpenSock}
 use Rattle.spec_run.specs.Standing.{ActorStanding, standing_before}
 use Rattle.spec_run.specs.OwnedRun.{deeds_in, AreTold}
 use Rattle.spec_run.specs.InTurns.{AllStep, OneTurn, TurnsGo, Draws, turn_step, turn_sequence, turns_sequence, conductor_steps}
-use Rattle.script_actor.specs.Piece.{Piece, AreActsBy, acts_in}
-use Rattle.script_actor.specs.Stepping.{standing_of}
-use Rattle.script_actor.specs.declared.actor.Actor.{Actor}
+use Rattle.zq_world.specs.Piece.{Piece, AreActsBy, acts_in}
+use Rattle.zq_world.specs.Stepping.{standing_of}
+use Rattle.zq_world.specs.declared.actor.Actor.{Actor}
 use Rattle.zq_world.specs.Turning.{times, standings, TurnBy, TurnsBy, RunsSo}
 use Rattle.zq_world.specs.GoesInTurns.{run_of}
 use Rattle.zq_world.proofs.OrderLemmas.{times_it, times_not, each_once}

@@ -7,9 +7,9 @@ use Rattle.std.proofs.lemmas.List.FromFn.{get_or-map-range_with_len}
 use Rattle.spec_run.specs.Act.{Deed}
 use Rattle.spec_run.specs.OpenSocket.{OpenSock}
 use Rattle.spec_run.specs.InTurns.{ActorStep, ReaperStep, AllStep, OneTurn, turn_step}
-use Rattle.script_actor.specs.Piece.{Piece}
-use Rattle.script_actor.specs.Stepping.{standing_of}
-use Rattle.script_actor.specs.declared.actor.Actor.{Actor}
+use Rattle.zq_world.specs.Piece.{Piece}
+use Rattle.zq_world.specs.Stepping.{standing_of}
+use Rattle.zq_world.specs.declared.actor.Actor.{Actor}
 use Rattle.zq_world.specs.Turning.{times, standings, HasStepped, acted, reaped, served, TurnSteps}
 use Rattle.zq_world.proofs.OrderLemmas.{times_it, times_not, each_once, no_others}
 

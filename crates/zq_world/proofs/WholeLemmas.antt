@@ -15,9 +15,9 @@ use Rattle.spec_run.specs.Standing.{standing_before}
 use Rattle.spec_run.specs.OwnedRun.{deeds_in, all_deeds, all_steps}
 use Rattle.spec_run.specs.InTurns.{Draws, NeverFall, turn_step, conductor_steps}
 use Rattle.spec_run.specs.Fate.{Fate, fates_taken, fates_in, skips_of}
-use Rattle.script_actor.specs.Piece.{Piece, piece_of, deed_pieces, acts_in, pipe_steps}
-use Rattle.script_actor.specs.Stepping.{standing_of}
-use Rattle.script_actor.specs.declared.actor.Actor.{Actor}
+use Rattle.zq_world.specs.Piece.{Piece, piece_of, deed_pieces, acts_in, pipe_steps}
+use Rattle.zq_world.specs.Stepping.{standing_of}
+use Rattle.zq_world.specs.declared.actor.Actor.{Actor}
 use Rattle.zq_world.specs.OneSided.{is_written, is_read, makes, AreOneSided, OneSided}
 use Rattle.zq_world.specs.Turning.{standings, RunsSo, sequence_pieces}
 use Rattle.zq_world.specs.GoesInTurns.{run_of}

@@ -11,7 +11,7 @@ use Rattle.spec_run.specs.Act.{Act, Deed, Looks, Reads, acts_of}
 use Rattle.spec_run.specs.Fate.{skips_of}
 use Rattle.spec_run.specs.OwnedRun.{deeds_in}
 use Rattle.spec_run.specs.InTurns.{OneTurn, Draws, turn_step}
-use Rattle.script_actor.specs.Piece.{Piece, piece_of, deed_pieces}
+use Rattle.zq_world.specs.Piece.{Piece, piece_of, deed_pieces}
 use Rattle.zq_world.specs.Turning.{times, turn_pieces, turns_pieces}
 use Rattle.zq_world.proofs.OrderLemmas.{times_it, times_not, each_once, no_others}
 use Rattle.zq_world.proofs.CallerLemmas.{by_one, by_callers, one_here, one_else}

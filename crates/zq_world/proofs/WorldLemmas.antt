@@ -6,9 +6,9 @@ use Rattle.std.proofs.lemmas.List.{map-append}
 use Rattle.spec_run.specs.LineCall.{RunScript}
 use Rattle.spec_run.specs.OpenSocket.{OpenSock}
 use Rattle.spec_run.specs.CoreEvents.{CoreEvent}
-use Rattle.script_actor.specs.MayAsk.{MayAskScript}
-use Rattle.script_actor.specs.Piece.{Piece}
-use Rattle.script_actor.specs.declared.actor.Actor.{Actor}
+use Rattle.zq_world.specs.MayAsk.{MayAskScript}
+use Rattle.zq_world.specs.Piece.{Piece}
+use Rattle.zq_world.specs.declared.actor.Actor.{Actor}
 use Rattle.zq_world.specs.CoreCalls.{IsReaper}
 use Rattle.zq_world.specs.Turning.{ActorsAgree}
 use Rattle.zq_world.specs.Played.{AreNew}

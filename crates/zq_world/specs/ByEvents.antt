@@ -12,10 +12,10 @@ use Rattle.spec_run.specs.OwnedRun.{OwnedRun, IsRun, every_pipe}
 use Rattle.spec_run.specs.InTurns.{worker_count}
 use Rattle.spec_run.specs.CoreEvents.{CoreEvent, NextLine, TakeFrom, AskRoot, Tick, Made, deeds_made, made_by_worker, actor_with, EventDoes, EventsGo, IsOfEvents}
 use Rattle.spec_run.specs.RunJournal.{entries_shown}
-use Rattle.script_actor.specs.Piece.{Piece, AreActsBy, piece_of}
-use Rattle.script_actor.specs.Stepping.{standing_of, entries_of}
-use Rattle.script_actor.specs.Taking.{control_told, has_slot}
-use Rattle.script_actor.specs.declared.actor.Actor.{Actor}
+use Rattle.zq_world.specs.Piece.{Piece, AreActsBy, piece_of}
+use Rattle.zq_world.specs.Stepping.{standing_of, entries_of}
+use Rattle.zq_world.specs.Taking.{control_told, has_slot}
+use Rattle.zq_world.specs.declared.actor.Actor.{Actor}
 use Rattle.zq_world.specs.declared.event.Event.{Event}
 use Rattle.zq_world.specs.declared.event.Event.TheVariants as event
 use Rattle.zq_world.specs.Turning.{standings, ActorsAgree}

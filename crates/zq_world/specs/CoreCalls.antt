@@ -8,7 +8,7 @@ use Rattle.spec_run.specs.Act.{Act, Said, Deed, acts_of}
 use Rattle.spec_run.specs.Event.{IsLookAt}
 use Rattle.spec_run.specs.Worker.{AsksTheRoot}
 use Rattle.spec_run.specs.InTurns.{ReaperStep}
-use Rattle.script_actor.specs.Piece.{Piece, AddsPiece, AddsActs}
+use Rattle.zq_world.specs.Piece.{Piece, AddsPiece, AddsActs}
 
 module _ {N S : Type 0} where
   -- no other caller took a letter in the place of closed sockets; so who took one over has it still

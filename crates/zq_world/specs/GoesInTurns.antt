@@ -12,8 +12,8 @@ use Rattle.spec_run.specs.OpenSocket.{OpenSock}
 use Rattle.spec_run.specs.Standing.{standing_before}
 use Rattle.spec_run.specs.OwnedRun.{OwnedRun, AreTold, pipe_capacity, control_at_end}
 use Rattle.spec_run.specs.InTurns.{Turned, workers_in, worker_count, IsInTurns, IsOneThread}
-use Rattle.script_actor.specs.Piece.{Piece, acts_in, pipe_steps}
-use Rattle.script_actor.specs.declared.actor.Actor.{Actor}
+use Rattle.zq_world.specs.Piece.{Piece, acts_in, pipe_steps}
+use Rattle.zq_world.specs.declared.actor.Actor.{Actor}
 use Rattle.zq_world.specs.Turning.{standings, RunsSo}
 
 module _ {N S : Type 0} where

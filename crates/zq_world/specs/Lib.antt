@@ -8,3 +8,12 @@ pub mod Timed
 pub mod Taken
 pub mod ByEvents
 pub mod RefusedEvents
+pub mod Piece
+pub mod MayAsk
+pub mod Way
+pub mod Seats
+pub mod Stepping
+pub mod Taking
+pub mod Seated
+pub mod Told
+pub mod Marks

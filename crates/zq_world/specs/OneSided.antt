@@ -4,7 +4,7 @@ use Rattle.std.specs.List.{list_any, AllByRecursion}
 use Rattle.zq_base.specs.Ends.{PipeId}
 use Rattle.spec_pattern.specs.PipeStep.{PipeStep, Commit, FullLook, Take, EmptyLook, DelimiterLook, WaitingLook, Seal, same_pipe}
 use Rattle.spec_run.specs.Act.{steps_in}
-use Rattle.script_actor.specs.Piece.{Piece}
+use Rattle.zq_world.specs.Piece.{Piece}
 
 -- a step at the side that writes the pipe; a delimiter is left out, since it changes no count and the reaper may write it
 abbrev pub is_written : PipeId → PipeStep → Bool

@@ -18,9 +18,9 @@ use Rattle.spec_run.specs.Standing.{standing_before}
 use Rattle.spec_run.specs.OwnedRun.{AreCountedBy, IsRun, every_pipe, pipe_capacity}
 use Rattle.spec_run.specs.InTurns.{Turned, IsInTurns, IsOneThread}
 use Rattle.spec_run.specs.RunJournal.{actors_shown, row_shown}
-use Rattle.script_actor.specs.Piece.{Piece, acts_in, pipe_steps}
-use Rattle.script_actor.specs.Stepping.{lines_of}
-use Rattle.script_actor.specs.declared.actor.Actor.{Actor}
+use Rattle.zq_world.specs.Piece.{Piece, acts_in, pipe_steps}
+use Rattle.zq_world.specs.Stepping.{lines_of}
+use Rattle.zq_world.specs.declared.actor.Actor.{Actor}
 use Rattle.zq_world.specs.OneSided.{OneSided}
 use Rattle.zq_world.specs.Shown.{row_in_pieces}
 use Rattle.zq_world.specs.Turning.{standings}

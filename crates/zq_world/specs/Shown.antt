@@ -14,7 +14,7 @@ use Rattle.spec_run.specs.OwnedRun.{settlement_of}
 use Rattle.spec_run.specs.InTurns.{is_ended}
 use Rattle.spec_run.specs.Fate.{Fate, fates_taken, fates_left, is_heard_at, reason_left, row_of_fates}
 use Rattle.spec_run.specs.RunJournal.{line_of, object_shown, row_if, rows_by}
-use Rattle.script_actor.specs.Piece.{Piece, pipe_steps}
+use Rattle.zq_world.specs.Piece.{Piece, pipe_steps}
 use Rattle.zq_world.specs.declared.cores.Shown.{Shown}
 
 module _ {N S : Type 0} where

@@ -5,7 +5,7 @@ use Rattle.spec_control.specs.Control.{Control}
 use Rattle.spec_control.specs.Moments.{reaper_slots}
 use Rattle.spec_run.specs.Act.{Act}
 use Rattle.spec_run.specs.Event.{TakesLetter}
-use Rattle.script_actor.specs.Piece.{Piece, AddsPiece}
+use Rattle.zq_world.specs.Piece.{Piece, AddsPiece}
 
 -- a mailbox is one of the reaper's: the root's, or that of a closed socket that it took over
 abbrev pub is_reapers : Control → ℕ → Bool

@@ -1,7 +1,7 @@
 -- What was run on one thread while a clock was read: once before the first turn, and at the end of each (own choice).
 use Rattle.std.specs.Prelude.{ℕ, Bool, List}
 use Rattle.zq_outer.specs.Readings.{ClockAt, ReadsClock}
-use Rattle.spec_journal.specs.Run.{Schedule}
+use Rattle.spec_run.specs.Run.{Schedule}
 use Rattle.spec_control.specs.declared.entry.Item.{Item}
 use Rattle.spec_run.specs.declared.journal.ActorLines.{ActorLines}
 use Rattle.spec_run.specs.declared.journal.RunJournal.{RunJournal}
@@ -9,8 +9,8 @@ use Rattle.spec_run.specs.LineCall.{RunScript}
 use Rattle.spec_run.specs.OpenSocket.{OpenSock}
 use Rattle.spec_run.specs.InTurns.{readings_of}
 use Rattle.spec_run.specs.RunJournal.{IsRunJournal}
-use Rattle.script_actor.specs.Piece.{Piece}
-use Rattle.script_actor.specs.declared.actor.Actor.{Actor}
+use Rattle.zq_world.specs.Piece.{Piece}
+use Rattle.zq_world.specs.declared.actor.Actor.{Actor}
 use Rattle.zq_world.specs.Played.{PlaysSo}
 use Rattle.zq_world.specs.Turning.{RunsSo}
 

@@ -1,7 +1,7 @@
 -- How far a run has come: the workers' steps of a turn, in the order in which they are made, and turns (own choice).
 use Rattle.std.specs.Prelude.{◌≡◌, ◌<◌, ◌≤◌, ◌==◌, ◌+◌, ℕ, Bool, true, false, List, [], ◌∷◌, ◌++◌, Some, if◌then◌else◌, flat_map, length, map, slice_get, slice_set}
 use Rattle.std.specs.List.{range_with_len}
-use Rattle.spec_journal.specs.Turn.{IsOrder}
+use Rattle.spec_run.specs.Turn.{IsOrder}
 use Rattle.spec_control.specs.declared.entry.SeenEmpty.TheVariants.{Nothing}
 use Rattle.spec_control.specs.Moments.{Moment}
 use Rattle.spec_run.specs.Act.{Said, Deed, Looks, all_acts}
@@ -11,9 +11,9 @@ use Rattle.spec_run.specs.Standing.{ActorStanding}
 use Rattle.spec_run.specs.OwnedRun.{deeds_in}
 use Rattle.spec_run.specs.InTurns.{ActorStep, ReaperStep, OneTurn, Turned, Begins, TurnsGo, NeverFall, Draws, is_ended, turn_step}
 use Rattle.spec_run.specs.RunJournal.{entries_shown}
-use Rattle.script_actor.specs.Piece.{Piece, AreActsBy, AddsActs, AddsDeeds, deed_pieces}
-use Rattle.script_actor.specs.Stepping.{standing_of, entries_of, ActorAgrees}
-use Rattle.script_actor.specs.declared.actor.Actor.{Actor}
+use Rattle.zq_world.specs.Piece.{Piece, AreActsBy, AddsActs, AddsDeeds, deed_pieces}
+use Rattle.zq_world.specs.Stepping.{standing_of, entries_of, ActorAgrees}
+use Rattle.zq_world.specs.declared.actor.Actor.{Actor}
 
 -- how often a number is in a list
 abbrev pub times : ℕ → List ℕ → ℕ

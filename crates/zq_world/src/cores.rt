@@ -1,8 +1,8 @@
 ghost use Rattle.std.specs.Prelude.{List, IfOk, OnOk};
 ghost use Rattle.spec_control.specs.declared.entry.Item.{Item};
 
+use crate::sockets::Sockets;
 use msg_pipe::Pipes;
-use script_actor::Sockets;
 use spec_control::ObjState;
 use spec_run::{ObjectLine, ObjectRow, SettledRow};
 use std::alloc::{AllocError, Global};
@@ -22,7 +22,7 @@ pub struct Shown {
 /// What a run on one thread asks beside its actors' sockets. A call is made for the caller of its
 /// number, and leaves all sockets as they are told.
 pub trait Core<P: Pipes>: Sockets<P> {
-    ghost use Rattle.script_actor.specs.Way.{KeepsAll};
+    ghost use Rattle.zq_world.specs.Way.{KeepsAll};
     ghost use Rattle.zq_world.specs.CoreCalls.{IsReaper, ReapsOne, LooksOnce, AsksOnce};
     ghost use Rattle.zq_world.specs.Shown.{ShowsSo};
     ghost use Rattle.zq_world.specs.Played.{IsOrderly};

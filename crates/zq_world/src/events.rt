@@ -1,15 +1,15 @@
 ghost use Rattle.std.specs.Prelude.{◌≡◌, true, None, length, IfSome, IfNone, OnOk};
 ghost use Rattle.spec_run.specs.CoreEvents.{AskRoot, NextLine, TakeFrom, Tick, actor_with, may_take};
-ghost use Rattle.script_actor.specs.Taking.{control_told};
+ghost use Rattle.zq_world.specs.Taking.{control_told};
 ghost use Rattle.zq_world.specs.CoreCalls.{IsReaper};
 ghost use Rattle.zq_world.specs.Turning.{ActorsAgree, standings};
 ghost use Rattle.zq_world.specs.ByEvents.{core_event, DoesEvent, HoldsFirst};
 
+use crate::actor::Actor;
 use crate::event::Event;
 use crate::play::OTHER_WORKERS;
 use crate::steps::Steps;
 use msg_pipe::Pipes;
-use script_actor::Actor;
 use std::alloc::{AllocError, Global};
 
 /// An actor's next step. There is none where it has finished, or where there is no such actor.

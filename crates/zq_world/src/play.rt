@@ -3,18 +3,18 @@ ghost use Rattle.std.specs.List.{list_all};
 ghost use Rattle.spec_run.specs.OpenSocket.{OpenSock};
 ghost use Rattle.spec_run.specs.Standing.{has_finished};
 ghost use Rattle.spec_run.specs.InTurns.{is_ended};
-ghost use Rattle.script_actor.specs.Way.{KeepsAll};
+ghost use Rattle.zq_world.specs.Way.{KeepsAll};
 ghost use Rattle.zq_world.specs.CoreCalls.{IsReaper};
 ghost use Rattle.zq_world.specs.Turning.{ActorsAgree, WorkerSteps, HaveStepped, TurnSteps, times};
 ghost use Rattle.zq_world.specs.Turning.{standings, BeginsOrEnds};
 ghost use Rattle.zq_world.specs.Timed.{RunsTimed};
 ghost use Rattle.zq_outer.specs.Readings.{clock_at, GoesOn};
 
+use crate::actor::Actor;
 use crate::cores::Core;
 use msg_pipe::Pipes;
-use script_actor::Actor;
 use spec_control::ObjState;
-use spec_journal::Order;
+use spec_run::Order;
 use std::alloc::{AllocError, Global};
 use zq_outer::{Clock, read_clock};
 

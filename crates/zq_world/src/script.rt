@@ -1,16 +1,16 @@
 ghost use Rattle.std.specs.Prelude.{◌≡◌, [], IfOk, IfErr, map};
 ghost use Rattle.zq_outer.specs.Readings.{clock_at, GoesOn};
-ghost use Rattle.script_actor.specs.MayAsk.{MayAskScript};
-ghost use Rattle.script_actor.specs.Stepping.{lines_of};
+ghost use Rattle.zq_world.specs.MayAsk.{MayAskScript};
+ghost use Rattle.zq_world.specs.Stepping.{lines_of};
 ghost use Rattle.zq_world.specs.Played.{AreNew, IsOrderly};
 ghost use Rattle.zq_world.specs.Shown.{ShowsSo, journal_with};
 ghost use Rattle.zq_world.specs.Timed.{IsTimedJournal};
 ghost use Rattle.zq_world.specs.declared.cores.Shown.{Shown};
 
+use crate::actor::Actor;
 use crate::cores::{Core, Shown};
 use crate::play::run;
 use msg_pipe::Pipes;
-use script_actor::Actor;
 use spec_run::{ActorLines, RunActor, RunJournal};
 use std::alloc::{AllocError, Global};
 use zq_base::Seq;

@@ -1,14 +1,14 @@
 use crate::cores::Core;
+use crate::letters::Letters;
 use msg_pipe::Pipes;
-use script_actor::Letters;
 use std::alloc::{AllocError, Global};
 
 /// What a run by any list of events asks of its core besides: letters one by one, of any mailbox.
 pub trait Steps<P: Pipes>: Core<P> + Letters<P> {
     ghost use Rattle.std.specs.Prelude.{◌≡◌, true, OnOk};
     ghost use Rattle.spec_run.specs.CoreEvents.{may_take};
-    ghost use Rattle.script_actor.specs.Taking.{control_told};
-    ghost use Rattle.script_actor.specs.Way.{KeepsAll};
+    ghost use Rattle.zq_world.specs.Taking.{control_told};
+    ghost use Rattle.zq_world.specs.Way.{KeepsAll};
     ghost use Rattle.zq_world.specs.CoreCalls.{IsReaper};
     ghost use Rattle.zq_world.specs.Taken.{is_reapers, ReapsAt};
 

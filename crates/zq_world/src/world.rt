@@ -1,14 +1,14 @@
 ghost use Rattle.std.specs.Prelude.{◌≡◌, [], List, IfOk, map};
-ghost use Rattle.script_actor.specs.MayAsk.{MayAskScript};
+ghost use Rattle.zq_world.specs.MayAsk.{MayAskScript};
 ghost use Rattle.spec_run.specs.CoreEvents.{IsEventsJournal};
 ghost use Rattle.zq_world.specs.ByEvents.{core_event};
 
+use crate::actor::Actor;
 use crate::event::Event;
 use crate::events::step;
 use crate::script::{actors_of, told};
 use crate::steps::Steps;
 use msg_pipe::Pipes;
-use script_actor::Actor;
 use spec_run::{RunActor, RunJournal};
 use std::alloc::{AllocError, Global};
 use std::marker::{Model, PhantomData};
@@ -43,7 +43,7 @@ impl<'a, P: Pipes, W: Steps<P> + Drop> World<'a, P, W> {
     ghost use Rattle.std.specs.Prelude.{◌≡◌, ◌<◌, ◌++◌, [], ◌∷◌, false, true, length, map};
     ghost use Rattle.std.specs.Prelude.{IfOk, OnOk, OnErr};
     ghost use Rattle.spec_run.specs.CoreEvents.{IsEventsJournal};
-    ghost use Rattle.script_actor.specs.MayAsk.{MayAskScript};
+    ghost use Rattle.zq_world.specs.MayAsk.{MayAskScript};
     ghost use Rattle.zq_world.specs.ByEvents.{core_event, WantsAmong};
 
     /// The actors of a script before their first lines, over a new core.

@@ -1,7 +1,7 @@
 use Rattle.std.specs.Prelude.{◌∷◌, [], ℕ, List, false}
 use Rattle.std.proofs.Common.{ap, ◌∙◌, subst}
 use Rattle.zq_base.specs.declared.ids.EndId.{EndId}
-use Rattle.ctl_plane.specs.Holding.{JoinsBy, joining_with}
+use Rattle.desk.specs.Holding.{JoinsBy, joining_with}
 use Rattle.spec_control.specs.declared.entry.Joining.{Joining}
 use Rattle.ctl_moves.proofs.BindingLemmas.{asks_bound, attached, fits_half, halves_brought, may_bind}
 use Rattle.ctl_moves.proofs.attaching.bind_comes.Goals as goal

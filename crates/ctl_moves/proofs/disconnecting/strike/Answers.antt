@@ -11,7 +11,7 @@ use Rattle.ctl_moves.proofs.TurnedLemmas.{turns_same}
 use Rattle.ctl_moves.proofs.OnceLemmas.{told_behind, told_none}
 use Rattle.spec_control.specs.Hold.{is_connect_to}
 use Rattle.control_laws.proofs.ListLemmas.{never}
-use Rattle.ctl_plane.specs.declared.load.Load.{Load}
+use Rattle.desk.specs.declared.load.Load.{Load}
 use Rattle.ctl_state.specs.declared.state.State.{State}
 use Rattle.ctl_moves.proofs.disconnecting.strike.Goals as goal
 

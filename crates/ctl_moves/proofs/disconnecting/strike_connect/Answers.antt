@@ -5,7 +5,7 @@ use Rattle.spec_control.specs.Hold.{Hold, is_connect_to}
 use Rattle.spec_control.specs.After.{strikes}
 use Rattle.ctl_moves.specs.Turning.{TurnsOnce}
 use Rattle.ctl_moves.proofs.TurnedLemmas.{turns_same}
-use Rattle.ctl_plane.specs.declared.load.Load.{Load}
+use Rattle.desk.specs.declared.load.Load.{Load}
 use Rattle.ctl_state.specs.Lists.{hold_at}
 use Rattle.ctl_state.specs.Stands.{holds_by}
 use Rattle.ctl_state.specs.declared.state.State.{State}

@@ -6,7 +6,7 @@ use Rattle.spec_control.specs.Control.{Control, happens, with_end}
 use Rattle.control_laws.proofs.StayLemmas.{ends_stay}
 use Rattle.ctl_moves.specs.Turning.{TurnsOnce}
 use Rattle.ctl_moves.proofs.TurnedLemmas.{turns_same}
-use Rattle.ctl_plane.specs.declared.load.Load.{Load}
+use Rattle.desk.specs.declared.load.Load.{Load}
 use Rattle.ctl_state.specs.declared.state.State.{State}
 use Rattle.ctl_moves.proofs.DisconnectLemmas.{strikes_away, strikes_theirs, strikes_gone, strikes_here, asks_at, led_not, led_struck, led_asked, joins_none}
 use Rattle.ctl_moves.proofs.OnceLemmas.{told_none, told_one}

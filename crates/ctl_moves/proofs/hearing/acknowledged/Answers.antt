@@ -6,8 +6,8 @@ use Rattle.spec_control.specs.declared.end.EndEvent.TheVariants.{AckCame}
 use Rattle.spec_control.specs.Control.{happens}
 use Rattle.spec_control.specs.After.{settle}
 use Rattle.ctl_moves.specs.Settling.{SettlesAt}
-use Rattle.ctl_plane.specs.declared.notice.Notice.{Notice}
-use Rattle.ctl_plane.specs.Heard.{over_if}
+use Rattle.desk.specs.declared.notice.Notice.{Notice}
+use Rattle.desk.specs.Heard.{over_if}
 use Rattle.ctl_moves.proofs.HeardLemmas.{end_between}
 use Rattle.ctl_moves.proofs.HolderLemmas.{ended_has_none}
 use Rattle.ctl_moves.proofs.SettledLemmas.{reads_half, settled_aside, writer_brought, same_half, acknowledges, lives_then, ack_room_then}

@@ -3,7 +3,7 @@ use Rattle.std.proofs.Common.{ap, sym, subst, ◌∙◌, arith}
 use Rattle.spec_control.specs.declared.letter.Word.{Word}
 use Rattle.spec_control.specs.Row.{AckComes}
 use Rattle.spec_control.specs.Control.{link}
-use Rattle.ctl_plane.specs.declared.load.Load.{Load}
+use Rattle.desk.specs.declared.load.Load.{Load}
 use Rattle.ctl_state.specs.declared.state.State.{State}
 use Rattle.ctl_state.proofs.BareLemmas.{tells_not}
 use Rattle.ctl_moves.proofs.HearLemmas.{own_done, request_done, ack_done, stop_done, turn_done, term_done}
@@ -14,7 +14,7 @@ use Rattle.ctl_moves.proofs.ToldLemmas.{own_told, request_told, ack_told, stop_t
 use Rattle.ctl_moves.specs.Bare.{Hears}
 use Rattle.control_laws.proofs.ListLemmas.{left}
 use Rattle.ctl_moves.proofs.BareLemmas.{finished_is, not_ended}
-use Rattle.ctl_plane.specs.Heard.{heard_by}
+use Rattle.desk.specs.Heard.{heard_by}
 use Rattle.ctl_moves.proofs.CameLemmas.{ack_came, none_came, own_between, parent_lives, request_between, stop_between, stop_heard, term_came, turn_between, unheard}
 use Rattle.ctl_moves.specs.Processing.{HearsEnd}
 use Rattle.ctl_moves.proofs.hearing.hear_bare.Goals as goal

@@ -1,18 +1,18 @@
 use Rattle.std.specs.Prelude.{List, Option, map}
 use Rattle.std.proofs.Common.{ap, ◌∙◌, subst, sym}
 use Rattle.spec_control.specs.declared.entry.Joining.{Joining}
-use Rattle.ctl_plane.specs.declared.given.Parting.{Parting}
-use Rattle.ctl_plane.specs.Holding.{given_as, held_given}
-use Rattle.ctl_plane.specs.TakingOver.{ComeApart}
-use Rattle.ctl_plane.specs.Load.{brings_ends, given_by}
+use Rattle.desk.specs.declared.given.Parting.{Parting}
+use Rattle.desk.specs.Holding.{given_as, held_given}
+use Rattle.desk.specs.TakingOver.{ComeApart}
+use Rattle.desk.specs.Load.{brings_ends, given_by}
 use Rattle.ctl_moves.specs.Reaping.{ReapsAt}
 use Rattle.spec_control.specs.declared.letter.Word.{Word}
-use Rattle.ctl_plane.specs.declared.load.Load.{Load}
+use Rattle.desk.specs.declared.load.Load.{Load}
 use Rattle.ctl_moves.specs.Processing.{HasJoined, HearsEnd}
 use Rattle.ctl_moves.proofs.HearLemmas.{bare_of, bare_may}
 use Rattle.control_laws.proofs.ListLemmas.{never}
 use Rattle.zq_base.specs.declared.ids.EndId.{EndId}
-use Rattle.ctl_plane.specs.Counts.{IsCounted}
+use Rattle.desk.specs.Counts.{IsCounted}
 use Rattle.ctl_moves.specs.Attaching.{binds_end}
 use Rattle.ctl_moves.specs.Processing.{is_bare}
 use Rattle.ctl_moves.proofs.SettledLemmas.{ack_processed, one_acked}

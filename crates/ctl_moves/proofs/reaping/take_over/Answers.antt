@@ -1,7 +1,7 @@
 use Rattle.std.proofs.Common.{ap}
 use Rattle.spec_control.specs.declared.stage.Use.TheVariants.{Used}
 use Rattle.own_tree.specs.Changes.{change, with_request, with_told}
-use Rattle.ctl_plane.specs.declared.load.Load.{Load}
+use Rattle.desk.specs.declared.load.Load.{Load}
 use Rattle.ctl_state.specs.declared.state.State.{State}
 use Rattle.ctl_moves.proofs.ReapLemmas.{reaper_has, reaper_objects, reaper_turned, living_child, request_coming, term_room, term_put}
 use Rattle.ctl_moves.proofs.reaping.take_over.Goals as goal

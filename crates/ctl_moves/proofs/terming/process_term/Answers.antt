@@ -1,5 +1,5 @@
 use Rattle.std.proofs.Common.{ap, sym, ◌∙◌}
-use Rattle.ctl_plane.specs.declared.load.Load.{Load}
+use Rattle.desk.specs.declared.load.Load.{Load}
 use Rattle.ctl_state.specs.declared.state.State.{State}
 use Rattle.ctl_moves.proofs.TermLemmas.{asks_its_ends, asked_leads, asked_puts, asked_unended, asked_room, told_unended, ack_room, ends_with_none, term_heard, termed}
 use Rattle.ctl_moves.proofs.terming.process_term.Goals as goal

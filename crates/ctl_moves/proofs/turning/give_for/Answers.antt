@@ -1,6 +1,6 @@
 use Rattle.std.specs.Prelude.{◌≡◌, [], true, None, Some, refl}
 use Rattle.spec_control.specs.declared.end.EndCommands.{EndCommands}
-use Rattle.ctl_plane.specs.declared.load.Load.TheVariants.{Writer}
+use Rattle.desk.specs.declared.load.Load.TheVariants.{Writer}
 use Rattle.ctl_moves.specs.Turning.{yields, needs_writer, seals_for, Turned, GivesFor}
 use Rattle.ctl_moves.proofs.GiveLemmas.{by_either, seals_one}
 use Rattle.ctl_moves.proofs.TurnLemmas.{keeps_same, seals_none, turned_not, turned_yielded}

@@ -7,9 +7,9 @@ use Rattle.spec_control.specs.Place.{is_here, At}
 use Rattle.spec_control.specs.Control.{commands_in, owner_of, tell_other}
 use Rattle.spec_control.specs.Held.{Held}
 use Rattle.control_laws.proofs.AskLemmas.{end_self}
-use Rattle.ctl_plane.specs.Holding.{has_end}
-use Rattle.ctl_plane.specs.Lent.{has_writer, HasBothNames}
-use Rattle.ctl_plane.specs.declared.load.Load.{Load}
+use Rattle.desk.specs.Holding.{has_end}
+use Rattle.desk.specs.Lent.{has_writer, HasBothNames}
+use Rattle.desk.specs.declared.load.Load.{Load}
 use Rattle.ctl_state.specs.declared.state.State.{State}
 use Rattle.zq_base.specs.Ends.{other_end}
 use Rattle.mailbox.specs.Mail.{Mail}

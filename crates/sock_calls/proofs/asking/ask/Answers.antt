@@ -1,15 +1,15 @@
 use Rattle.std.proofs.Common.{◌≡◌, ℕ, true, false, Option, Some, refl, sym, ap, ◌∙◌, subst}
 use Rattle.zq_base.specs.declared.ids.EndId.{EndId}
 use Rattle.spec_control.specs.Control.{Control}
-use Rattle.ctl_plane.specs.Making.{IsMadeFor}
-use Rattle.held_ends.proofs.SoundLemmas.{one_some}
-use Rattle.held_ends.specs.Others.{Leaves}
+use Rattle.desk.specs.Making.{IsMadeFor}
+use Rattle.end_table.proofs.SoundLemmas.{one_some}
+use Rattle.end_table.specs.Others.{Leaves}
 use Rattle.sock_core.specs.Has.{holding_in}
 use Rattle.sock_core.specs.declared.sock.SockCore.{SockCore}
 use Rattle.sock_calls.specs.Calls.{owner_of, holding_of, LeavesOthers, HaveDone, OnlyMake, RestsThere}
 use Rattle.std.specs.Prelude.{IfOk}
-use Rattle.ctl_plane.specs.Coming.{SendsEnds}
-use Rattle.ctl_plane.specs.Desk.{KeepsUp}
+use Rattle.desk.specs.Coming.{SendsEnds}
+use Rattle.desk.specs.Desk.{KeepsUp}
 use Rattle.sock_calls.specs.Passing.{Passes}
 use Rattle.sock_calls.proofs.PassingLemmas.{passes_by}
 use Rattle.std.specs.Coded.{Coded-set}

@@ -1,6 +1,6 @@
 use Rattle.std.specs.Prelude.{◌≡◌, true, false}
 use Rattle.spec_control.specs.Control.{Control}
-use Rattle.ctl_plane.specs.Making.{IsMadeFor}
+use Rattle.desk.specs.Making.{IsMadeFor}
 use Rattle.sock_calls.proofs.MakingLemmas.{made_side}
 use Rattle.sock_calls.proofs.asking.ask.Given as goal
 

@@ -1,8 +1,8 @@
 use Rattle.std.proofs.Common.{refl, sym, subst}
 use Rattle.sock_core.specs.declared.sock.SockCore.{SockCore}
 use Rattle.sock_calls.proofs.PassingLemmas.{calm_fresh, come_fresh, way_fresh}
-use Rattle.held_ends.specs.Others.{Leaves}
-use Rattle.held_ends.proofs.OthersLemmas.{places_stay, leaves_pipes}
+use Rattle.end_table.specs.Others.{Leaves}
+use Rattle.end_table.proofs.OthersLemmas.{places_stay, leaves_pipes}
 use Rattle.std.specs.Prelude.{length, map, true}
 use Rattle.zq_base.specs.declared.ids.EndId.{EndId}
 use Rattle.sock_core.specs.Noted.{AreMade, HasDone}

@@ -1,15 +1,15 @@
 use Rattle.std.proofs.Common.{◌≡◌, ◌∙◌, ℕ, true, refl, sym, ap, subst, true≢false}
 use Rattle.sock_core.specs.declared.sock.SockCore.{SockCore}
 use Rattle.sock_calls.proofs.PassingLemmas.{calm_fresh, come_fresh, way_fresh}
-use Rattle.held_ends.specs.Others.{Leaves}
-use Rattle.held_ends.proofs.OthersLemmas.{places_stay, leaves_pipes}
+use Rattle.end_table.specs.Others.{Leaves}
+use Rattle.end_table.proofs.OthersLemmas.{places_stay, leaves_pipes}
 use Rattle.std.specs.Prelude.{IfOk}
 use Rattle.zq_base.specs.declared.ids.SlotId.{SlotId}
-use Rattle.held_ends.specs.Sound.{Fits}
+use Rattle.end_table.specs.Sound.{Fits}
 use Rattle.sock_core.specs.Has.{holding_in}
-use Rattle.ctl_plane.specs.Coming.{BindsFit}
-use Rattle.ctl_plane.specs.Desk.{GivesOrNot}
-use Rattle.ctl_plane.specs.Memory.{NoBindWaits}
+use Rattle.desk.specs.Coming.{BindsFit}
+use Rattle.desk.specs.Desk.{GivesOrNot}
+use Rattle.desk.specs.Memory.{NoBindWaits}
 use Rattle.std.specs.Prelude.{length, map}
 use Rattle.zq_base.specs.declared.ids.EndId.{EndId}
 use Rattle.sock_core.specs.Noted.{AreMade, HasDone}

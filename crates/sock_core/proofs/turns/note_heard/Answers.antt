@@ -2,8 +2,8 @@ use Rattle.std.specs.Prelude.{◌||◌, ◌∷◌, [], Bool, true, false, List, 
 use Rattle.std.specs.List.{list_any}
 use Rattle.std.proofs.Common.{◌≡◌, ap, ◌∙◌}
 use Rattle.std.proofs.lemmas.List.Folds.{list_any-append}
-use Rattle.ctl_plane.specs.declared.notice.Notice.{Notice}
-use Rattle.held_ends.proofs.GivingLemmas.{map_more}
+use Rattle.desk.specs.declared.notice.Notice.{Notice}
+use Rattle.end_table.proofs.GivingLemmas.{map_more}
 use Rattle.sock_core.specs.Has.{is_stop}
 use Rattle.sock_core.proofs.turns.note_heard.Goals as goal
 

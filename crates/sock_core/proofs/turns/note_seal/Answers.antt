@@ -1,6 +1,6 @@
 use Rattle.std.proofs.Common.{ap, ◌∙◌, map, List}
 use Rattle.zq_base.specs.declared.ids.EndId.{EndId}
-use Rattle.held_ends.proofs.GivingLemmas.{map_more}
+use Rattle.end_table.proofs.GivingLemmas.{map_more}
 use Rattle.sock_core.proofs.turns.note_seal.Goals as goal
 
 pub returns : goal.returns

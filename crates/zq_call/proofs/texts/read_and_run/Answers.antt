@@ -1,5 +1,5 @@
 use Rattle.std.proofs.Common.{refl, rules}
-use Rattle.zq_words.specs.declared.request.Request.TheVariants as request
+use Rattle.zq_call.specs.declared.request.Request.TheVariants as request
 use Rattle.zq_call.proofs.Says.{says_read}
 use Rattle.zq_call.proofs.texts.read_and_run.Goals as goal
 

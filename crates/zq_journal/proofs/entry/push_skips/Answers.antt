@@ -1,4 +1,4 @@
-use Rattle.spec_journal.specs.Text.{skip_text}
+use Rattle.spec_run.specs.Text.{skip_text}
 use Rattle.zq_journal.proofs.PushLemmas.{pushed_more}
 use Rattle.zq_journal.proofs.entry.push_skips.Goals as goal
 

@@ -1,5 +1,5 @@
 use Rattle.std.proofs.Common.{◌≡◌, ◌++◌, take}
-use Rattle.spec_journal.specs.Text.{skips_text}
+use Rattle.spec_run.specs.Text.{skips_text}
 use Rattle.zq_journal.proofs.entry.push_skips.Given as goal
 
 -- the dropped messages so far

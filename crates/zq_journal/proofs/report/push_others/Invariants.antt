@@ -1,5 +1,5 @@
 use Rattle.std.proofs.Common.{◌≡◌, ◌++◌, take}
-use Rattle.spec_journal.specs.Text.{others_text}
+use Rattle.spec_run.specs.Text.{others_text}
 use Rattle.zq_journal.proofs.report.push_others.Given as goal
 
 abbrev pub invariant-loop-pair : goal.invariant-loop-pair

@@ -1,10 +1,10 @@
 use Rattle.std.proofs.Common.{ℕ, List, [], Option, sym, subst, inl, inr}
 use Rattle.std.specs.List.{flat_map}
-use Rattle.session_life.specs.declared.life.ReadMode.{ReadMode}
+use Rattle.zq_session.specs.declared.life.ReadMode.{ReadMode}
 use Rattle.link_side.specs.Calls.{Adds}
 use Rattle.zq_session.specs.Noting.{next_acts}
 use Rattle.zq_session.specs.Halves.{step_in}
-use Rattle.session_life.specs.Reading.{IsReading}
+use Rattle.zq_session.specs.Reading.{IsReading}
 use Rattle.zq_session.proofs.HalfLemmas.{steps_there}
 use Rattle.link_side.proofs.PartLemmas.{adds_none, some_pipe, on_err}
 use Rattle.zq_session.proofs.BothLemmas.{parts_by, parts_over, parts_cut, parts_unnoted, writes_to, reads_from, wants_from}

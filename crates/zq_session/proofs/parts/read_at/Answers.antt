@@ -1,6 +1,6 @@
 use Rattle.std.proofs.Common.{◌≡◌, Some, None, refl, sym, ap, subst, ◌∙◌}
 use Rattle.link_side.specs.declared.behind.Behind.TheVariants.{Nothing}
-use Rattle.session_life.specs.declared.life.ReadMode.{ReadMode}
+use Rattle.zq_session.specs.declared.life.ReadMode.{ReadMode}
 use Rattle.zq_session.specs.Doing.{ReadsAtBy}
 use Rattle.zq_session.proofs.AtLemmas.{reads_none, reads_puts, reads_holds, reads_drops, wants_as, wants_puts, wants_holds, wants_drops}
 use Rattle.zq_session.proofs.parts.read_at.Goals as goal

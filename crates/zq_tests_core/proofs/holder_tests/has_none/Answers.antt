@@ -1,5 +1,5 @@
 use Rattle.std.proofs.Common.{sym, subst}
-use Rattle.held_ends.specs.Places.{IsOnce}
+use Rattle.end_table.specs.Places.{IsOnce}
 use Rattle.sock_core.proofs.FindLemmas.{once_of}
 use Rattle.sock_core.proofs.FormLemmas.{sound_of}
 use Rattle.zq_tests_core.proofs.holder_tests.has_none.Goals as goal

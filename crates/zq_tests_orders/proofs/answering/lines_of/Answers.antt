@@ -1,7 +1,7 @@
 use Rattle.std.proofs.Common.{sym, ap, subst, List}
-use Rattle.script_actor.specs.MayAsk.{MayAskLines}
-use Rattle.script_actor.specs.Seats.{AllAgree}
-use Rattle.script_actor.specs.declared.seats.Seat.{Seat}
+use Rattle.zq_world.specs.MayAsk.{MayAskLines}
+use Rattle.zq_world.specs.Seats.{AllAgree}
+use Rattle.zq_world.specs.declared.seats.Seat.{Seat}
 use Rattle.zq_tests_orders.proofs.answering.lines_of.Goals as goal
 
 pub play-played-requires : goal.play-played-requires

@@ -1,4 +1,4 @@
-use Rattle.script_actor.specs.Stepping.{ActorAgrees}
+use Rattle.zq_world.specs.Stepping.{ActorAgrees}
 use Rattle.zq_tests_orders.proofs.answering.play.Given as goal
 
 -- the actor's sockets agree with what was done

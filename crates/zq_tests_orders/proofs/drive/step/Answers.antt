@@ -1,6 +1,6 @@
 use Rattle.std.proofs.Common.{sym, subst, length}
 use Rattle.std.proofs.lemmas.Result.{on_ok_weaker}
-use Rattle.script_actor.specs.Stepping.{StepsSo}
+use Rattle.zq_world.specs.Stepping.{StepsSo}
 use Rattle.zq_world.specs.CoreCalls.{IsReaper}
 use Rattle.zq_world.proofs.StepLemmas.{actor_is, reaper_is, agree_then, agree_still, read_here}
 use Rattle.zq_tests_orders.proofs.AloneLemmas.{alone_asked, alone_then}

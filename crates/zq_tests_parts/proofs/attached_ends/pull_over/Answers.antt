@@ -1,8 +1,8 @@
 use Rattle.std.proofs.Common.{rules}
 use Rattle.std.proofs.lemmas.List.Sorted.{All-permutation}
-use Rattle.ends.specs.Rows.{table, IsRow}
-use Rattle.ends.specs.Held.{IsReady}
-use Rattle.ends.proofs.HeldLemmas.{all_hold, all_rows}
+use Rattle.end_table.specs.Rows.{table, IsRow}
+use Rattle.end_table.specs.Held.{IsReady}
+use Rattle.end_table.proofs.HeldLemmas.{all_hold, all_rows}
 use Rattle.zq_tests_parts.proofs.AnswerLemmas.{MatchRecv-answer}
 use Rattle.zq_tests_parts.proofs.attached_ends.pull_over.Goals as goal
 

@@ -1,7 +1,7 @@
 use Rattle.std.proofs.Common.{sym, subst, arith}
 use Rattle.std.proofs.lemmas.Option.{slice_get_past}
 use Rattle.std.proofs.lemmas.Result.{on_ok_weaker}
-use Rattle.script_actor.specs.Stepping.{ActorAgrees, StepsSo}
+use Rattle.zq_world.specs.Stepping.{ActorAgrees, StepsSo}
 use Rattle.zq_world.proofs.StepLemmas.{agree_then, read_here}
 use Rattle.zq_world.proofs.EventLemmas.{one_more_line, one_no_line}
 use Rattle.zq_world.proofs.events.line.Goals as goal

@@ -1,8 +1,8 @@
 use Rattle.std.proofs.Common.{◌≡◌, true, sym, subst, ◌∙◌}
 use Rattle.std.proofs.lemmas.Option.{get_or_from_slice_get, slice_get_within}
 use Rattle.std.proofs.lemmas.Result.{on_ok_weaker}
-use Rattle.script_actor.specs.Stepping.{standing_of, ActorAgrees}
-use Rattle.script_actor.specs.Taking.{has_slot, FetchesSo}
+use Rattle.zq_world.specs.Stepping.{standing_of, ActorAgrees}
+use Rattle.zq_world.specs.Taking.{has_slot, FetchesSo}
 use Rattle.zq_world.proofs.StepLemmas.{agree_then}
 use Rattle.zq_world.proofs.EventLemmas.{one_not_taken, one_more_fetched}
 use Rattle.zq_world.proofs.events.take.Goals as goal

@@ -1,6 +1,6 @@
 use Rattle.std.proofs.Common.{sym, subst, arith}
 use Rattle.std.proofs.lemmas.Result.{on_ok_weaker}
-use Rattle.script_actor.specs.Stepping.{ActorAgrees, StepsSo}
+use Rattle.zq_world.specs.Stepping.{ActorAgrees, StepsSo}
 use Rattle.zq_world.specs.CoreCalls.{IsReaper}
 use Rattle.zq_world.proofs.StepLemmas.{actor_is, reaper_is, server_is, agree_then, agree_still, read_here}
 use Rattle.zq_world.proofs.play.step.Goals as goal

@@ -1,5 +1,5 @@
 use Rattle.std.proofs.Common.{◌∙◌}
-use Rattle.script_actor.specs.Stepping.{lines_of}
+use Rattle.zq_world.specs.Stepping.{lines_of}
 use Rattle.zq_world.proofs.NewLemmas.{one_more}
 use Rattle.zq_world.proofs.script.parts.Goals as goal
 

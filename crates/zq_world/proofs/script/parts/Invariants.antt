@@ -1,5 +1,5 @@
 use Rattle.std.proofs.Common.{◌≡◌, map}
-use Rattle.script_actor.specs.Stepping.{lines_of}
+use Rattle.zq_world.specs.Stepping.{lines_of}
 use Rattle.zq_world.proofs.script.parts.Given as goal
 
 -- the parts of the actors so far

@@ -2,7 +2,7 @@ use Rattle.std.proofs.Common.{[], rules, ap, map, subst, sym, ◌∙◌}
 use Rattle.std.proofs.lemmas.Result.{IfOk-weaker}
 use Rattle.zq_outer.specs.Readings.{clock_at, GoesOn}
 use Rattle.zq_outer.proofs.ClockLemmas.{reads_none}
-use Rattle.script_actor.specs.Stepping.{lines_of}
+use Rattle.zq_world.specs.Stepping.{lines_of}
 use Rattle.zq_world.specs.Timed.{RunsTimed, IsTimedJournal}
 use Rattle.zq_world.specs.Turning.{ActorsAgree}
 use Rattle.zq_world.proofs.PlayLemmas.{new_agree, plays_timed, journal_timed, written_back, ran_on}

@@ -1,6 +1,6 @@
 use Rattle.std.proofs.Common.{refl, sym, ◌∙◌}
 use Rattle.std.proofs.lemmas.Result.{IfOk-weaker}
-use Rattle.ctl_plane.specs.Desk.{AsksOnce}
+use Rattle.desk.specs.Desk.{AsksOnce}
 use Rattle.spec_control.specs.declared.request.Req.TheVariants.{Close}
 use Rattle.sock_calls.specs.Calls.{holding_of, HasNone}
 use Rattle.sock_calls.proofs.CallsLemmas.{closed_not_held, has_none}

@@ -4,8 +4,8 @@ use Rattle.spec_control.specs.declared.request.Req.{Req}
 use Rattle.spec_control.specs.declared.request.Req.TheVariants.{Bind}
 use Rattle.std.proofs.lemmas.Result.{IfOk-at_ok}
 use Rattle.zq_base.specs.declared.endpoint.Endpoint.{Endpoint}
-use Rattle.ctl_plane.specs.Making.{IsMadeFor}
-use Rattle.ctl_plane.specs.Asking.{IsInproc}
+use Rattle.desk.specs.Making.{IsMadeFor}
+use Rattle.desk.specs.Asking.{IsInproc}
 use Rattle.sock_calls.specs.Calls.{owner_of, holding_of, HaveDone}
 use Rattle.sock_calls.proofs.CallsLemmas.{keeps_up_none, done_nothing, is_there}
 use Rattle.sock_calls.proofs.PassingLemmas.{passes_none}

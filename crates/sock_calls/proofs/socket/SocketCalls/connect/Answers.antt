@@ -5,9 +5,9 @@ use Rattle.zq_base.specs.declared.endpoint.Endpoint.{Endpoint}
 use Rattle.spec_control.specs.declared.request.Req.{Req}
 use Rattle.spec_control.specs.declared.request.Req.TheVariants.{Connect}
 use Rattle.spec_control.specs.Control.{Control, id}
-use Rattle.ctl_plane.specs.Making.{IsMadeFor}
-use Rattle.ctl_plane.specs.Asking.{IsInproc}
-use Rattle.ctl_plane.specs.Desk.{AsksOnce}
+use Rattle.desk.specs.Making.{IsMadeFor}
+use Rattle.desk.specs.Asking.{IsInproc}
+use Rattle.desk.specs.Desk.{AsksOnce}
 use Rattle.sock_calls.specs.Calls.{owner_of, holding_of, HaveDone}
 use Rattle.sock_calls.proofs.CallsLemmas.{keeps_up_none, done_nothing, is_there}
 use Rattle.sock_calls.proofs.PassingLemmas.{passes_none}

@@ -2,11 +2,11 @@ use Rattle.std.proofs.Common.{◌≡◌, true, false, Option, Some, refl, sym, a
 use Rattle.spec_control.specs.Moments.{left_after}
 use Rattle.spec_control.specs.Control.{place_of}
 use Rattle.spec_control.specs.Place.{looks}
-use Rattle.held_ends.specs.Others.{Leaves}
+use Rattle.end_table.specs.Others.{Leaves}
 use Rattle.sock_core.specs.Has.{holding_in}
 use Rattle.sock_core.specs.declared.sock.SockCore.{SockCore}
 use Rattle.sock_calls.specs.Calls.{owner_of, holding_of, LeavesOthers, HaveDone, RestsThere}
-use Rattle.ctl_plane.specs.Desk.{KeepsUp}
+use Rattle.desk.specs.Desk.{KeepsUp}
 use Rattle.sock_calls.specs.Passing.{Passes}
 use Rattle.sock_calls.proofs.PassingLemmas.{passes_by}
 use Rattle.std.specs.Coded.{Coded-set}

@@ -1,14 +1,14 @@
 use Rattle.std.proofs.Common.{◌≡◌, true, false, Option, Some, refl, sym, ap, ◌∙◌, subst, true≢false}
-use Rattle.held_ends.specs.Others.{Leaves}
+use Rattle.end_table.specs.Others.{Leaves}
 use Rattle.sock_core.specs.Has.{holding_in}
 use Rattle.sock_core.specs.declared.sock.SockCore.{SockCore}
 use Rattle.sock_calls.specs.Calls.{owner_of, holding_of, counts_by, MayJoin, LeavesOthers, HaveDone, RestsThere}
 use Rattle.std.specs.Prelude.{IfOk}
-use Rattle.held_ends.specs.Sound.{Fits}
-use Rattle.ctl_plane.specs.Coming.{BindsFit}
-use Rattle.ctl_plane.specs.Desk.{CountsWith, KeepsUp, GivesOrNot, slot_after}
-use Rattle.ctl_plane.specs.Memory.{NoBindWaits}
-use Rattle.held_ends.specs.Counting.{counts_of}
+use Rattle.end_table.specs.Sound.{Fits}
+use Rattle.desk.specs.Coming.{BindsFit}
+use Rattle.desk.specs.Desk.{CountsWith, KeepsUp, GivesOrNot, slot_after}
+use Rattle.desk.specs.Memory.{NoBindWaits}
+use Rattle.end_table.specs.Counting.{counts_of}
 use Rattle.sock_calls.specs.Passing.{Passes}
 use Rattle.sock_calls.proofs.PassingLemmas.{passes_by}
 use Rattle.std.specs.Coded.{Coded-set}

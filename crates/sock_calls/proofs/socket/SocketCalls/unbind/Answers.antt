@@ -6,7 +6,7 @@ use Rattle.zq_base.specs.declared.endpoint.Endpoint.{Endpoint}
 use Rattle.spec_control.specs.declared.request.Req.{Req}
 use Rattle.spec_control.specs.declared.request.Req.TheVariants.{Unbind}
 use Rattle.spec_control.specs.Control.{id}
-use Rattle.ctl_plane.specs.Desk.{AsksOnce}
+use Rattle.desk.specs.Desk.{AsksOnce}
 use Rattle.sock_calls.specs.Calls.{owner_of, holding_of}
 use Rattle.sock_calls.proofs.CallsLemmas.{keeps_up_none, done_nothing, done_as, is_there}
 use Rattle.sock_calls.proofs.MakingLemmas.{none_made}

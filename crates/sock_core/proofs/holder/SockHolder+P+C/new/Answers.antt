@@ -1,6 +1,6 @@
 use Rattle.std.specs.List.{list_any}
 use Rattle.std.proofs.Common.{ap, sym, arith, length}
-use Rattle.ctl_plane.specs.declared.notice.Notice.{Notice}
+use Rattle.desk.specs.declared.notice.Notice.{Notice}
 use Rattle.sock_core.specs.Has.{is_stop}
 use Rattle.sock_core.proofs.NewLemmas.{calm_new}
 use Rattle.sock_core.proofs.holder.SockHolder+P+C.new.Goals as goal

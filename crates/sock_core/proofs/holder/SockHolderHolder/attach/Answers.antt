@@ -1,13 +1,13 @@
 use Rattle.std.proofs.Common.{refl, ◌≡◌, ◌+◌, ◌∙◌, ◌==◌, ◌++◌, ◌∷◌, [], ℕ, List, length, length-append, sym, ap, subst, arith, true≢false}
 use Rattle.std.specs.List.{list_any}
 use Rattle.zq_base.specs.declared.kind.Kind.{Kind}
-use Rattle.ends.specs.Rows.{Rows}
-use Rattle.ends.specs.declared.row.EndRow.{EndRow}
-use Rattle.ctl_plane.specs.Holding.{Joined, BeginsActive, held_with}
-use Rattle.held_ends.specs.declared.table.Place.{Place}
-use Rattle.held_ends.specs.Places.{is_of}
-use Rattle.held_ends.specs.Sound.{IsSound, Fits}
-use Rattle.held_ends.specs.Attaching.{new_place, halves_of}
+use Rattle.end_table.specs.Rows.{Rows}
+use Rattle.end_table.specs.declared.row.EndRow.{EndRow}
+use Rattle.desk.specs.Holding.{Joined, BeginsActive, held_with}
+use Rattle.end_table.specs.declared.table.Place.{Place}
+use Rattle.end_table.specs.Places.{is_of}
+use Rattle.end_table.specs.Sound.{IsSound, Fits}
+use Rattle.end_table.specs.Attaching.{new_place, halves_of}
 use Rattle.sock_core.specs.Has.{has, told_in}
 use Rattle.sock_core.proofs.FormLemmas.{sound_of, are_sound}
 use Rattle.sock_core.proofs.JoinLemmas.{open_of, mine_of, none_of, room_of, joined_of, begins_of}
@@ -16,7 +16,7 @@ use Rattle.sock_core.proofs.PeerLemmas.{below, kept_more}
 use Rattle.zq_base.specs.declared.ids.EndId.{EndId}
 use Rattle.sock_core.specs.Sound.{AreSound}
 use Rattle.sock_core.specs.Standing.{joining_as, standing_joins}
-use Rattle.held_ends.proofs.OthersLemmas.{leaves_on, leaves_unchanged}
+use Rattle.end_table.proofs.OthersLemmas.{leaves_on, leaves_unchanged}
 use Rattle.std.proofs.Math.Logic.{∥∥₁_map}
 use Rattle.sock_core.specs.Way.{way_in, IsCalm, KindWay}
 use Rattle.sock_core.specs.Peers.{AreFlagged, AreInUse, AreElse}
@@ -27,11 +27,11 @@ use Rattle.sock_core.proofs.PeerLemmas.{none_at, peer_none}
 use Rattle.sock_core.proofs.CalmLemmas.{calm_came}
 use Rattle.std.specs.Prelude.{map}
 use Rattle.sock_core.specs.Noted.{WereRead, AreMade, AreSealed}
-use Rattle.held_ends.specs.Changes.{AreMadeFor}
+use Rattle.end_table.specs.Changes.{AreMadeFor}
 use Rattle.sock_core.proofs.NotedLemmas.{were_read_on, sealed_more}
-use Rattle.held_ends.proofs.OthersLemmas.{places_stay}
+use Rattle.end_table.proofs.OthersLemmas.{places_stay}
 use Rattle.sock_core.proofs.DoneLemmas.{done_still}
-use Rattle.held_ends.specs.Others.{KeepsPlaces}
+use Rattle.end_table.specs.Others.{KeepsPlaces}
 use Rattle.sock_core.proofs.MadeLemmas.{made_less, made_one}
 use Rattle.sock_core.proofs.CameLemmas.{came_still, came_joined}
 use Rattle.sock_core.proofs.holder.SockHolderHolder.attach.Goals as goal

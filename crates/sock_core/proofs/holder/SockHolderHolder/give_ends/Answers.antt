@@ -1,10 +1,10 @@
 use Rattle.std.proofs.Common.{◌≡◌, ◌∙◌, ◌==◌, ℕ, Bool, List, [], ◌∷◌, length, ap, sym, true≢false, if◌then◌else◌, arith}
-use Rattle.held_ends.specs.Places.{held_in}
+use Rattle.end_table.specs.Places.{held_in}
 use Rattle.sock_core.specs.Has.{told_in}
 use Rattle.sock_core.proofs.FormLemmas.{sound_of, are_sound}
 use Rattle.sock_core.proofs.JoinLemmas.{mine_of}
 use Rattle.sock_core.proofs.GiveLemmas.{told_of, writing_of, stated_of, sealed_of, ends_of, given_all, given_turns}
-use Rattle.held_ends.proofs.OthersLemmas.{leaves_on}
+use Rattle.end_table.proofs.OthersLemmas.{leaves_on}
 use Rattle.std.proofs.Math.Logic.{∥∥₁_map}
 use Rattle.sock_core.proofs.FlagLemmas.{flagged_gone, in_use_gone}
 use Rattle.zq_base.specs.declared.ids.EndId.{EndId}
@@ -14,8 +14,8 @@ use Rattle.sock_core.proofs.DoneLemmas.{done_still}
 use Rattle.sock_core.proofs.MadeLemmas.{made_gone}
 use Rattle.sock_core.specs.Standing.{standing_joins}
 use Rattle.spec_control.specs.declared.entry.Joining.{Joining}
-use Rattle.held_ends.specs.declared.table.Place.{Place}
-use Rattle.held_ends.specs.declared.changes.PipeChange.{PipeChange}
+use Rattle.end_table.specs.declared.table.Place.{Place}
+use Rattle.end_table.specs.declared.changes.PipeChange.{PipeChange}
 use Rattle.sock_core.specs.Way.{way_in, Way, AreHeld, IsCalm}
 use Rattle.sock_core.proofs.CameLemmas.{came_still}
 use Rattle.sock_core.proofs.holder.SockHolderHolder.give_ends.Goals as goal

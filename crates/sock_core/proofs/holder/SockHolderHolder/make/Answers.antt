@@ -4,10 +4,10 @@ use Rattle.sock_core.proofs.JoinLemmas.{mine_of, none_of}
 use Rattle.sock_core.proofs.MadeLemmas.{made_else, both_ok, may_be}
 use Rattle.std.specs.Prelude.{map}
 use Rattle.zq_base.specs.declared.ids.EndId.{EndId}
-use Rattle.held_ends.proofs.OthersLemmas.{leaves_on, places_stay}
+use Rattle.end_table.proofs.OthersLemmas.{leaves_on, places_stay}
 use Rattle.sock_core.proofs.DoneLemmas.{done_more}
 use Rattle.std.proofs.Math.Logic.{∥∥₁_map}
-use Rattle.held_ends.proofs.MadeLemmas.{makings_more}
+use Rattle.end_table.proofs.MadeLemmas.{makings_more}
 use Rattle.sock_core.specs.Standing.{standing_joins}
 use Rattle.sock_core.specs.Way.{way_in}
 use Rattle.sock_core.proofs.CameLemmas.{came_made}

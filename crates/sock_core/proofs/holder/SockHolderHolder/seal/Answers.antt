@@ -1,8 +1,8 @@
 use Rattle.std.proofs.Common.{refl, sym, ap, ◌∙◌, subst, true, List, ◌==◌, set}
 use Rattle.std.specs.List.{position}
-use Rattle.held_ends.specs.declared.table.Place.{Place}
-use Rattle.ctl_plane.specs.Holding.{Stays, Seals}
-use Rattle.held_ends.specs.Places.{IsOnce, is_of}
+use Rattle.end_table.specs.declared.table.Place.{Place}
+use Rattle.desk.specs.Holding.{Stays, Seals}
+use Rattle.end_table.specs.Places.{IsOnce, is_of}
 use Rattle.sock_core.specs.Has.{has, told_in}
 use Rattle.sock_core.proofs.FindLemmas.{found, not_found, alone_of, once_of, held_is, never}
 use Rattle.sock_core.proofs.SeenLemmas.{seen_same, stays_of}
@@ -13,7 +13,7 @@ use Rattle.sock_core.specs.Sound.{KeepsRoom}
 use Rattle.std.proofs.lemmas.List.Elements.{All-contains_itself}
 use Rattle.sock_core.specs.Peers.{ArePeers}
 use Rattle.sock_core.proofs.PeerLemmas.{kept_same}
-use Rattle.held_ends.proofs.OthersLemmas.{leaves_on}
+use Rattle.end_table.proofs.OthersLemmas.{leaves_on}
 use Rattle.sock_core.proofs.GoneLemmas.{never_gone}
 use Rattle.std.proofs.Math.Logic.{∥∥₁_map}
 use Rattle.sock_core.specs.Standing.{standing_joins}
@@ -26,7 +26,7 @@ use Rattle.std.specs.Prelude.{map}
 use Rattle.sock_core.specs.Noted.{AreSealed}
 use Rattle.sock_core.proofs.NotedLemmas.{were_read_on, sealed_one, end_same}
 use Rattle.spec_control.specs.Control.{is_end}
-use Rattle.held_ends.proofs.SoundLemmas.{one_some}
+use Rattle.end_table.proofs.SoundLemmas.{one_some}
 use Rattle.sock_core.proofs.DoneLemmas.{done_seal}
 use Rattle.sock_core.proofs.FindLemmas.{end_is}
 use Rattle.sock_core.proofs.MadeLemmas.{made_less}

@@ -5,28 +5,28 @@ use Rattle.spec_run.specs.OpenSocket.{is_out}
 use Rattle.sock_core.specs.Standing.{standing_joins}
 use Rattle.sock_core.specs.Way.{way_in, with_turned, KindWay}
 use Rattle.std.specs.List.{position}
-use Rattle.held_ends.specs.declared.table.Place.{Place}
-use Rattle.ctl_plane.specs.Holding.{Stays, TurnsTo, is_state}
-use Rattle.held_ends.specs.Places.{IsOnce, is_of}
+use Rattle.end_table.specs.declared.table.Place.{Place}
+use Rattle.desk.specs.Holding.{Stays, TurnsTo, is_state}
+use Rattle.end_table.specs.Places.{IsOnce, is_of}
 use Rattle.sock_core.specs.Has.{has, told_in}
 use Rattle.sock_core.proofs.FindLemmas.{found, not_found, alone_of, once_of, held_is, end_is, never}
 use Rattle.sock_core.proofs.SeenLemmas.{seen_same, stays_of}
 use Rattle.sock_core.proofs.FormLemmas.{sound_of, are_sound}
 use Rattle.sock_core.proofs.HolderLemmas.{owned, turned_of}
 use Rattle.zq_base.specs.declared.kind.Kind.{Kind}
-use Rattle.held_ends.proofs.SoundLemmas.{one_some}
-use Rattle.held_ends.proofs.PlaceLemmas.{place_within, place_found}
+use Rattle.end_table.proofs.SoundLemmas.{one_some}
+use Rattle.end_table.proofs.PlaceLemmas.{place_within, place_found}
 use Rattle.std.proofs.Common.{ℕ, length, length-set}
 use Rattle.sock_core.specs.Sound.{KeepsRoom}
 use Rattle.sock_core.specs.Peers.{ArePeers, AreFlagged, AreInUse}
 use Rattle.sock_core.proofs.FlagLemmas.{flagged_set, in_use_stated}
 use Rattle.sock_core.proofs.GoingLemmas.{noted_turned}
 use Rattle.sock_core.proofs.PeerLemmas.{kept_stated}
-use Rattle.held_ends.proofs.OthersLemmas.{leaves_on}
+use Rattle.end_table.proofs.OthersLemmas.{leaves_on}
 use Rattle.sock_core.proofs.GoneLemmas.{never_gone}
 use Rattle.std.specs.Prelude.{Option}
-use Rattle.held_ends.specs.Counting.{counts_at, counts_with}
-use Rattle.held_ends.proofs.CountLemmas.{position_same}
+use Rattle.end_table.specs.Counting.{counts_at, counts_with}
+use Rattle.end_table.proofs.CountLemmas.{position_same}
 use Rattle.zq_base.specs.declared.ids.EndId.{EndId}
 use Rattle.std.specs.Prelude.{map}
 use Rattle.sock_core.specs.Noted.{AreSealed}

@@ -1,10 +1,10 @@
 use Rattle.std.proofs.Common.{refl, sym, ap, ◌∙◌, subst, Bool, false, None, List, [], if◌then◌else◌, ◌==◌, set}
 use Rattle.std.specs.List.{position}
-use Rattle.held_ends.specs.declared.table.Place.{Place}
-use Rattle.ctl_plane.specs.Holding.{KeepsTurns, Left, read_in}
-use Rattle.held_ends.specs.Places.{IsOnce, is_of, held_in}
+use Rattle.end_table.specs.declared.table.Place.{Place}
+use Rattle.desk.specs.Holding.{KeepsTurns, Left, read_in}
+use Rattle.end_table.specs.Places.{IsOnce, is_of, held_in}
 use Rattle.sock_core.specs.Has.{has, told_in}
-use Rattle.held_ends.proofs.SoundLemmas.{one_some}
+use Rattle.end_table.proofs.SoundLemmas.{one_some}
 use Rattle.sock_core.proofs.FindLemmas.{found, not_found, alone_of, once_of, held_is, never}
 use Rattle.sock_core.proofs.FormLemmas.{sound_of, are_sound}
 use Rattle.sock_core.proofs.HolderLemmas.{owned_read, reads_here, flag_at, flag_not, names_at, left_of, left_turns}
@@ -12,10 +12,10 @@ use Rattle.std.proofs.Common.{ℕ, length, length-set}
 use Rattle.sock_core.specs.Sound.{KeepsRoom}
 use Rattle.sock_core.specs.Peers.{ArePeers}
 use Rattle.sock_core.proofs.PeerLemmas.{kept_settled}
-use Rattle.held_ends.proofs.OthersLemmas.{leaves_on}
+use Rattle.end_table.proofs.OthersLemmas.{leaves_on}
 use Rattle.sock_core.proofs.GoneLemmas.{never_gone}
 use Rattle.std.specs.Prelude.{Option}
-use Rattle.held_ends.specs.Counting.{counts_at}
+use Rattle.end_table.specs.Counting.{counts_at}
 use Rattle.std.proofs.Math.Logic.{∥∥₁_map}
 use Rattle.sock_core.specs.Standing.{standing_joins}
 use Rattle.sock_core.specs.Way.{way_in, KindWay}
@@ -26,8 +26,8 @@ use Rattle.zq_base.specs.declared.ids.EndId.{EndId}
 use Rattle.std.specs.Prelude.{map}
 use Rattle.sock_core.specs.Noted.{AreSealed}
 use Rattle.sock_core.proofs.NotedLemmas.{were_read_more, sealed_set}
-use Rattle.held_ends.specs.Places.{place_at}
-use Rattle.held_ends.proofs.PlaceLemmas.{place_there}
+use Rattle.end_table.specs.Places.{place_at}
+use Rattle.end_table.proofs.PlaceLemmas.{place_there}
 use Rattle.sock_core.proofs.DoneLemmas.{done_more}
 use Rattle.sock_core.proofs.MadeLemmas.{made_less}
 use Rattle.sock_core.proofs.CameLemmas.{came_more}

@@ -2,12 +2,12 @@ use Rattle.std.proofs.Common.{refl, sym, ap, ◌∙◌, subst, false, List, [], 
 use Rattle.std.specs.List.{position}
 use Rattle.spec_control.specs.declared.end.EndState.{EndState}
 use Rattle.spec_control.specs.Place.{At}
-use Rattle.ctl_plane.specs.Lent.{has_writer}
-use Rattle.held_ends.specs.declared.table.Place.{Place}
-use Rattle.ctl_plane.specs.Holding.{KeepsTurns, Yielded, written_in}
-use Rattle.held_ends.specs.Places.{IsOnce, is_of, held_in}
+use Rattle.desk.specs.Lent.{has_writer}
+use Rattle.end_table.specs.declared.table.Place.{Place}
+use Rattle.desk.specs.Holding.{KeepsTurns, Yielded, written_in}
+use Rattle.end_table.specs.Places.{IsOnce, is_of, held_in}
 use Rattle.sock_core.specs.Has.{has, told_in}
-use Rattle.held_ends.proofs.SoundLemmas.{one_some}
+use Rattle.end_table.proofs.SoundLemmas.{one_some}
 use Rattle.sock_core.proofs.FindLemmas.{found, not_found, alone_of, once_of, held_is, never}
 use Rattle.sock_core.proofs.FormLemmas.{sound_of, are_sound}
 use Rattle.sock_core.proofs.HolderLemmas.{owned, flag_at, names_at, state_at, yielded_of, turns_kept}
@@ -16,12 +16,12 @@ use Rattle.sock_core.specs.Sound.{KeepsRoom}
 use Rattle.std.proofs.lemmas.List.Elements.{All-contains_itself}
 use Rattle.sock_core.specs.Peers.{ArePeers}
 use Rattle.sock_core.proofs.PeerLemmas.{kept_parted}
-use Rattle.held_ends.proofs.OthersLemmas.{leaves_on}
+use Rattle.end_table.proofs.OthersLemmas.{leaves_on}
 use Rattle.sock_core.proofs.GoneLemmas.{never_gone}
 use Rattle.std.specs.Prelude.{Option}
-use Rattle.ctl_plane.specs.Holding.{read_in}
-use Rattle.held_ends.specs.Counting.{counts_at}
-use Rattle.held_ends.proofs.CountLemmas.{position_same}
+use Rattle.desk.specs.Holding.{read_in}
+use Rattle.end_table.specs.Counting.{counts_at}
+use Rattle.end_table.proofs.CountLemmas.{position_same}
 use Rattle.sock_core.proofs.HolderLemmas.{owned_read}
 use Rattle.std.proofs.Math.Logic.{∥∥₁_map}
 use Rattle.sock_core.specs.Standing.{standing_joins}

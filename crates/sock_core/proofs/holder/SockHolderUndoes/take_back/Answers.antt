@@ -1,23 +1,23 @@
 use Rattle.std.proofs.Common.{arith, refl, sym, ap, ◌∙◌, subst, Bool, false, List, [], if◌then◌else◌, ◌==◌, set, Some}
 use Rattle.std.specs.List.{position}
-use Rattle.held_ends.specs.declared.table.Place.{Place}
-use Rattle.ctl_plane.specs.Holding.{BeginsNone, Left, read_in, written_in}
-use Rattle.held_ends.specs.Places.{IsOnce, is_of, held_in}
+use Rattle.end_table.specs.declared.table.Place.{Place}
+use Rattle.desk.specs.Holding.{BeginsNone, Left, read_in, written_in}
+use Rattle.end_table.specs.Places.{IsOnce, is_of, held_in}
 use Rattle.sock_core.specs.Has.{has, told_in}
-use Rattle.held_ends.proofs.SoundLemmas.{one_some}
+use Rattle.end_table.proofs.SoundLemmas.{one_some}
 use Rattle.sock_core.proofs.FindLemmas.{found, not_found, alone_of, once_of, held_is, never}
 use Rattle.sock_core.proofs.FormLemmas.{sound_of, are_sound}
 use Rattle.sock_core.proofs.HolderLemmas.{owned_last, flag_at, names_at, left_begins, left_of}
 use Rattle.zq_base.specs.declared.kind.Kind.{Kind}
 use Rattle.std.proofs.Common.{ℕ, length, length-set}
 use Rattle.sock_core.specs.Sound.{KeepsRoom}
-use Rattle.held_ends.proofs.PlaceLemmas.{place_within, place_found}
+use Rattle.end_table.proofs.PlaceLemmas.{place_within, place_found}
 use Rattle.sock_core.specs.Peers.{ArePeers}
 use Rattle.sock_core.proofs.PeerLemmas.{kept_parted}
 use Rattle.spec_control.specs.declared.entry.Joining.{Joining}
 use Rattle.sock_core.specs.Standing.{without_last}
 use Rattle.sock_core.proofs.StandingLemmas.{last_off}
-use Rattle.held_ends.proofs.OthersLemmas.{leaves_on}
+use Rattle.end_table.proofs.OthersLemmas.{leaves_on}
 use Rattle.sock_core.proofs.GoneLemmas.{never_gone}
 use Rattle.std.proofs.Math.Logic.{∥∥₁_map}
 use Rattle.sock_core.specs.Standing.{standing_joins}

@@ -1,6 +1,6 @@
 use Rattle.std.proofs.Common.{◌≡◌, Bool, true, false, refl, inr}
 use Rattle.std.specs.Prelude.{not}
-use Rattle.session_life.specs.Lives.{basis_of, standing_of}
+use Rattle.zq_session.specs.Lives.{basis_of, standing_of}
 use Rattle.link_side.specs.Kept.{Side}
 use Rattle.link_side.specs.declared.behind.Behind.TheVariants.{Nothing}
 use Rattle.zq_session.proofs.NotingLemmas.{free_by, ease_at}

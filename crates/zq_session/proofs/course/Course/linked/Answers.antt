@@ -1,15 +1,15 @@
 use Rattle.std.proofs.Common.{◌≡◌, [], ◌∷◌, ◌++◌, true, Some, refl, sym, ◌∙◌, subst, Option, inl, inr}
 use Rattle.spec_link.specs.declared.due.Due.TheVariants.{Delimiter}
 use Rattle.spec_link.specs.Turn.{DueOnce}
-use Rattle.session_life.specs.declared.life.Life.{Life}
-use Rattle.session_life.specs.LifeSteps.{LifeDoes}
+use Rattle.zq_session.specs.declared.life.Life.{Life}
+use Rattle.zq_session.specs.LifeSteps.{LifeDoes}
 use Rattle.std.specs.List.{flat_map}
 use Rattle.spec_control.specs.declared.end.EndState.{EndState}
-use Rattle.session_life.specs.LifeView.{IsWritable}
+use Rattle.zq_session.specs.LifeView.{IsWritable}
 use Rattle.zq_session.specs.Halves.{step_in, AreThere}
 use Rattle.link_side.specs.Kept.{Side}
 use Rattle.link_side.specs.declared.behind.Behind.TheVariants.{Nothing}
-use Rattle.session_life.specs.Lives.{Story}
+use Rattle.zq_session.specs.Lives.{Story}
 use Rattle.zq_session.specs.Courses.{HasStory}
 use Rattle.zq_session.specs.Cuts.{CutAtLinkBy}
 use Rattle.zq_session.specs.Shown.{ShownBy}

@@ -1,4 +1,4 @@
-use Rattle.session_life.specs.Lives.{basis_of, standing_of}
+use Rattle.zq_session.specs.Lives.{basis_of, standing_of}
 use Rattle.zq_session.proofs.NotingLemmas.{free_by}
 use Rattle.zq_session.proofs.HandLemmas.{left_up, left_unlinked, left_written, left_some}
 use Rattle.zq_session.proofs.course.Course.output_left.Goals as goal

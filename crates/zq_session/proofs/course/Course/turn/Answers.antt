@@ -1,7 +1,7 @@
 use Rattle.std.proofs.Common.{Option, refl, inl, inr, ap, sym, subst, ◌∙◌}
 use Rattle.std.specs.Prelude.{is_some}
 use Rattle.spec_control.specs.declared.end.EndState.{EndState}
-use Rattle.session_life.specs.LifeView.{IsReadable}
+use Rattle.zq_session.specs.LifeView.{IsReadable}
 use Rattle.zq_session.specs.Halves.{AreThere}
 use Rattle.zq_session.proofs.TurnLemmas.{none_is, turns_given_up, turns_linked, turns_unlinked}
 use Rattle.link_side.proofs.PartLemmas.{on_err}

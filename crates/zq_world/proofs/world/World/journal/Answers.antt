@@ -2,7 +2,7 @@ use Rattle.std.specs.Prelude.{IfOk, map}
 use Rattle.std.proofs.Common.{refl, subst, sym}
 use Rattle.std.proofs.lemmas.Result.{IfOk-weaker}
 use Rattle.spec_run.specs.CoreEvents.{IsEventsJournal}
-use Rattle.script_actor.specs.Stepping.{lines_of}
+use Rattle.zq_world.specs.Stepping.{lines_of}
 use Rattle.zq_world.specs.ByEvents.{core_event, Events}
 use Rattle.zq_world.proofs.GoesLemmas.{journal_made}
 use Rattle.zq_world.proofs.world.World.journal.Goals as goal

@@ -1,0 +1,14 @@
+pub use Rattle.closed_ends.specs.Ending
+pub mod Has
+pub mod Counting
+pub mod Finding
+pub mod Sound
+pub mod Others
+pub mod Mixed
+pub mod Noted
+pub mod Coming
+pub mod Looking
+pub mod Laws
+pub mod Ending
+pub mod Placing
+pub mod Once

@@ -1,5 +1,0 @@
-use Rattle.core_laws.proofs.CallLemmas as lemmas
-use Rattle.core_laws.proofs.laws.calls_are_counted.Goals as goal
-
-pub returns : goal.returns
-returns g c = lemmas.calls_are_counted _ _

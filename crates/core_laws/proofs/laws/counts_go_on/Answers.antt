@@ -1,5 +1,0 @@
-use Rattle.core_laws.proofs.CountedLemmas as lemmas
-use Rattle.core_laws.proofs.laws.counts_go_on.Goals as goal
-
-pub returns : goal.returns
-returns c = lemmas.counts_go_on

@@ -1,5 +1,0 @@
-use Rattle.core_laws.proofs.SideLemmas as lemmas
-use Rattle.core_laws.proofs.laws.sides_stand_on.Goals as goal
-
-pub returns : goal.returns
-returns g c = lemmas.sides_stand_on _ _

@@ -1,5 +1,0 @@
-use Rattle.core_laws.proofs.RowLemmas as lemmas
-use Rattle.core_laws.proofs.laws.steps_are_at_rows.Goals as goal
-
-pub returns : goal.returns
-returns g c = lemmas.steps_are_at_rows g.P.Pipes.known _ _

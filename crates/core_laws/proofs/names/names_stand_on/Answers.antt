@@ -1,5 +1,0 @@
-use Rattle.core_laws.proofs.NamesLemmas.{names_stand_on}
-use Rattle.core_laws.proofs.names.names_stand_on.Goals as goal
-
-pub returns : goal.returns
-returns g c = names_stand_on g.P.Pipes.known

@@ -1,5 +1,0 @@
-use Rattle.core_laws.proofs.NamesLemmas.{names_stay}
-use Rattle.core_laws.proofs.names.names_stay.Goals as goal
-
-pub returns : goal.returns
-returns g c = names_stay g.P.Pipes.known

@@ -1,5 +1,0 @@
-use Rattle.core_laws.proofs.JoinLemmas.{calls_draw_none}
-use Rattle.core_laws.proofs.open.calls_draw_none.Goals as goal
-
-pub returns : goal.returns
-returns c = calls_draw_none

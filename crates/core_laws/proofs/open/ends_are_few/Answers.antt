@@ -1,5 +1,0 @@
-use Rattle.core_laws.proofs.FewLemmas.{ends_are_few}
-use Rattle.core_laws.proofs.open.ends_are_few.Goals as goal
-
-pub returns : goal.returns
-returns c start = ends_are_few _ _

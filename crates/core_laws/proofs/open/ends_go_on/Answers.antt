@@ -1,5 +1,0 @@
-use Rattle.core_laws.proofs.GoLemmas.{ends_go_on}
-use Rattle.core_laws.proofs.open.ends_go_on.Goals as goal
-
-pub returns : goal.returns
-returns c start = ends_go_on _ _

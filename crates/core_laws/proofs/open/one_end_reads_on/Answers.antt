@@ -1,5 +1,0 @@
-use Rattle.core_laws.proofs.ReadLemmas.{one_end_reads_on}
-use Rattle.core_laws.proofs.open.one_end_reads_on.Goals as goal
-
-pub returns : goal.returns
-returns c start = one_end_reads_on _ _

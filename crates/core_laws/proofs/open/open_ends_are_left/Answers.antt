@@ -1,5 +1,0 @@
-use Rattle.core_laws.proofs.LeftLemmas.{open_ends_are_left}
-use Rattle.core_laws.proofs.open.open_ends_are_left.Goals as goal
-
-pub returns : goal.returns
-returns c start = open_ends_are_left _ _

@@ -1,5 +1,0 @@
-use Rattle.core_laws.proofs.BehindLemmas.{open_goes_on}
-use Rattle.core_laws.proofs.open.open_goes_on.Goals as goal
-
-pub returns : goal.returns
-returns c start = open_goes_on _ _

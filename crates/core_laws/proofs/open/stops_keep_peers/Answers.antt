@@ -1,5 +1,0 @@
-use Rattle.core_laws.proofs.WantLemmas.{stops_keep_peers}
-use Rattle.core_laws.proofs.open.stops_keep_peers.Goals as goal
-
-pub returns : goal.returns
-returns c = stops_keep_peers

@@ -1,5 +1,0 @@
-use Rattle.core_laws.proofs.BehindLemmas.{told_ends_go_on}
-use Rattle.core_laws.proofs.open.told_ends_go_on.Goals as goal
-
-pub returns : goal.returns
-returns c start = told_ends_go_on _ _

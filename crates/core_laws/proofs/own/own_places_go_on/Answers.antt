@@ -1,5 +1,0 @@
-use Rattle.core_laws.proofs.PlaceLemmas as lemmas
-use Rattle.core_laws.proofs.own.own_places_go_on.Goals as goal
-
-pub returns : goal.returns
-returns g c = lemmas.own_places_go_on _ _ _

@@ -1,5 +1,0 @@
-use Rattle.core_laws.proofs.PlaceLemmas as lemmas
-use Rattle.core_laws.proofs.own.places_are_held.Goals as goal
-
-pub returns : goal.returns
-returns g c = lemmas.places_are_held _ _ _

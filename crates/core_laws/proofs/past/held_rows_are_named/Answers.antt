@@ -1,5 +1,0 @@
-use Rattle.core_laws.proofs.HeldRowLemmas as lemmas
-use Rattle.core_laws.proofs.past.held_rows_are_named.Goals as goal
-
-pub returns : goal.returns
-returns g c = lemmas.held_rows_are_named g.P.Pipes.known _ c.pipes_are_settled.ensures

@@ -1,5 +1,0 @@
-use Rattle.core_others.proofs.SendLemmas.{calls_send_none}
-use Rattle.core_others.proofs.laws.calls_send_none.Goals as goal
-
-pub returns : goal.returns
-returns g c = calls_send_none _ _ _

@@ -1,5 +1,0 @@
-use Rattle.core_others.proofs.NoneLemmas.{endings_send_none}
-use Rattle.core_others.proofs.laws.endings_send_none.Goals as goal
-
-pub returns : goal.returns
-returns g c = endings_send_none _ _ _

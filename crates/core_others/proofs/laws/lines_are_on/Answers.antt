@@ -1,5 +1,0 @@
-use Rattle.core_others.proofs.LineLemmas.{lines_are_on}
-use Rattle.core_others.proofs.laws.lines_are_on.Goals as goal
-
-pub returns : goal.returns
-returns g c = lines_are_on _ _ g.P.Pipes.known

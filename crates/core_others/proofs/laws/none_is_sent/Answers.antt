@@ -1,5 +1,0 @@
-use Rattle.core_others.proofs.NoneLemmas.{none_is_sent}
-use Rattle.core_others.proofs.laws.none_is_sent.Goals as goal
-
-pub returns : goal.returns
-returns g c = none_is_sent _ _ _

@@ -1,5 +1,0 @@
-use Rattle.core_others.proofs.GrownLemmas.{objects_are_there}
-use Rattle.core_others.proofs.laws.objects_are_there.Goals as goal
-
-pub returns : goal.returns
-returns g c = objects_are_there _ _ _

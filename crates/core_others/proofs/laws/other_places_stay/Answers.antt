@@ -1,5 +1,0 @@
-use Rattle.core_others.proofs.PlacesLemmas.{other_places_stay}
-use Rattle.core_others.proofs.laws.other_places_stay.Goals as goal
-
-pub returns : goal.returns
-returns g c = other_places_stay _ _ _ _

@@ -1,5 +1,0 @@
-use Rattle.core_others.proofs.RestLemmas.{others_agree_still}
-use Rattle.core_others.proofs.laws.others_agree_still.Goals as goal
-
-pub returns : goal.returns
-returns g c = others_agree_still _ _ g.P.Pipes.known c.ends_are_sealed_once.ensures

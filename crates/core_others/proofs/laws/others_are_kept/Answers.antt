@@ -1,5 +1,0 @@
-use Rattle.core_others.proofs.RestLemmas.{others_are_kept}
-use Rattle.core_others.proofs.laws.others_are_kept.Goals as goal
-
-pub returns : goal.returns
-returns g c = others_are_kept _ _ g.P.Pipes.known c.ends_are_sealed_once.ensures

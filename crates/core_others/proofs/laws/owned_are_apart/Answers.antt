@@ -1,5 +1,0 @@
-use Rattle.core_others.proofs.OwnedLemmas.{owned_are_apart}
-use Rattle.core_others.proofs.laws.owned_are_apart.Goals as goal
-
-pub returns : goal.returns
-returns g c = owned_are_apart _ _ g.P.Pipes.known

@@ -1,5 +1,0 @@
-use Rattle.core_others.proofs.ComingLemmas.{sends_no_other}
-use Rattle.core_others.proofs.laws.sends_no_other.Goals as goal
-
-pub returns : goal.returns
-returns g c = sends_no_other _ _ _

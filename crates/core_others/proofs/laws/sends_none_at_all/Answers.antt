@@ -1,5 +1,0 @@
-use Rattle.core_others.proofs.SendLemmas.{sends_none_at_all}
-use Rattle.core_others.proofs.laws.sends_none_at_all.Goals as goal
-
-pub returns : goal.returns
-returns g c = sends_none_at_all _ _ _

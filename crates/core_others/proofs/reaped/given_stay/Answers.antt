@@ -1,5 +1,0 @@
-use Rattle.core_others.proofs.GrowLemmas as lemmas
-use Rattle.core_others.proofs.reaped.given_stay.Goals as goal
-
-pub returns : goal.returns
-returns g c = lemmas.given_stay _ _ _ _ c.ends_are_sealed_once.ensures

@@ -1,5 +1,0 @@
-use Rattle.core_others.proofs.PlugLemmas as lemmas
-use Rattle.core_others.proofs.reaped.no_plugs.Goals as goal
-
-pub returns : goal.returns
-returns g c = lemmas.no_plugs _ _ _

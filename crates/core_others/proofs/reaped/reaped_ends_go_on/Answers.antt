@@ -1,5 +1,0 @@
-use Rattle.core_others.proofs.EndLemmas as lemmas
-use Rattle.core_others.proofs.reaped.reaped_ends_go_on.Goals as goal
-
-pub returns : goal.returns
-returns g c = lemmas.reaped_ends_go_on g.P.Pipes.known _

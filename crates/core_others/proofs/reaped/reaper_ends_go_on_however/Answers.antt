@@ -1,5 +1,0 @@
-use Rattle.core_others.proofs.HowLemmas as lemmas
-use Rattle.core_others.proofs.reaped.reaper_ends_go_on_however.Goals as goal
-
-pub returns : goal.returns
-returns g c = lemmas.reaper_ends_go_on_however g.P.Pipes.known _

@@ -1,5 +1,0 @@
-use Rattle.core_others.proofs.ReapedCallLemmas as lemmas
-use Rattle.core_others.proofs.reaped.reapers_calls_are_so.Goals as goal
-
-pub returns : goal.returns
-returns g c = lemmas.reapers_calls_are_so _ _ _

@@ -1,5 +1,0 @@
-use Rattle.core_others.proofs.SealedLemmas as lemmas
-use Rattle.core_others.proofs.reaper.asked_go_on.Goals as goal
-
-pub returns : goal.returns
-returns g c = lemmas.asked_go_on _ _ _ _ c.ends_are_sealed_once.ensures

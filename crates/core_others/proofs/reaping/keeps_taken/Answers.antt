@@ -1,5 +1,0 @@
-use Rattle.core_others.proofs.TakenLemmas as lemmas
-use Rattle.core_others.proofs.reaping.keeps_taken.Goals as goal
-
-pub returns : goal.returns
-returns g c = lemmas.keeps_taken _ _ _

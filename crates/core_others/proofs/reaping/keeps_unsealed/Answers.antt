@@ -1,5 +1,0 @@
-use Rattle.core_others.proofs.UnsealedLemmas as lemmas
-use Rattle.core_others.proofs.reaping.keeps_unsealed.Goals as goal
-
-pub returns : goal.returns
-returns g c = lemmas.keeps_unsealed g.P.Pipes.known _

@@ -1,5 +1,0 @@
-use Rattle.core_others.proofs.LookLemmas as lemmas
-use Rattle.core_others.proofs.reaping.looks_keep.Goals as goal
-
-pub returns : goal.returns
-returns g c = lemmas.looks_keep _ _ g.P.Pipes.known

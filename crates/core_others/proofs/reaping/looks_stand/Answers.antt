@@ -1,5 +1,0 @@
-use Rattle.core_others.proofs.PastLemmas as lemmas
-use Rattle.core_others.proofs.reaping.looks_stand.Goals as goal
-
-pub returns : goal.returns
-returns g c = lemmas.looks_stand g.P.Pipes.known _ c.reaper_looks_go_on.ensures c.pipes_are_settled.ensures

@@ -1,5 +1,0 @@
-use Rattle.core_others.proofs.GivenLemmas as lemmas
-use Rattle.core_others.proofs.reaping.reaper_keeps_given.Goals as goal
-
-pub returns : goal.returns
-returns g c = lemmas.reaper_keeps_given g.P.Pipes.known _

@@ -1,5 +1,0 @@
-use Rattle.core_others.proofs.HeldLemmas as lemmas
-use Rattle.core_others.proofs.reaping.reaper_keeps_taken.Goals as goal
-
-pub returns : goal.returns
-returns g c = lemmas.reaper_keeps_taken g.P.Pipes.known _

@@ -1,5 +1,0 @@
-use Rattle.core_others.proofs.ThereLemmas as lemmas
-use Rattle.core_others.proofs.reaping.reaper_leaves_there.Goals as goal
-
-pub returns : goal.returns
-returns g c = lemmas.reaper_leaves_there g.P.Pipes.known _

@@ -1,5 +1,0 @@
-use Rattle.core_others.proofs.DropLemmas as lemmas
-use Rattle.core_others.proofs.rows.calls_tell_drops.Goals as goal
-
-pub returns : goal.returns
-returns g c = lemmas.calls_tell_drops _ _

@@ -1,5 +1,0 @@
-use Rattle.core_others.proofs.EnderLemmas as lemmas
-use Rattle.core_others.proofs.rows.ended_are_told.Goals as goal
-
-pub returns : goal.returns
-returns g c = lemmas.ended_are_told _ _

@@ -1,5 +1,0 @@
-use Rattle.core_others.proofs.EndedRowLemmas as lemmas
-use Rattle.core_others.proofs.rows.ended_goes_on.Goals as goal
-
-pub returns : goal.returns
-returns g c = lemmas.ended_goes_on _ _

@@ -1,5 +1,0 @@
-use Rattle.core_others.proofs.TableLemmas as lemmas
-use Rattle.core_others.proofs.rows.tables_go_on.Goals as goal
-
-pub returns : goal.returns
-returns g c = lemmas.tables_go_on _ _

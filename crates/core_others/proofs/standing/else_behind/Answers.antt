@@ -1,5 +1,0 @@
-use Rattle.core_others.proofs.ReaperLemmas.{else_behind}
-use Rattle.core_others.proofs.standing.else_behind.Goals as goal
-
-pub returns : goal.returns
-returns g c = else_behind g.P.Pipes.known _ _

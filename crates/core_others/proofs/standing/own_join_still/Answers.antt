@@ -1,5 +1,0 @@
-use Rattle.core_others.proofs.OwnLemmas.{own_join_still}
-use Rattle.core_others.proofs.standing.own_join_still.Goals as goal
-
-pub returns : goal.returns
-returns g c = own_join_still _ _ g.P.Pipes.known

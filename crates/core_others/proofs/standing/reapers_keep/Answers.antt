@@ -1,5 +1,0 @@
-use Rattle.core_others.proofs.ReaperLemmas.{reapers_keep}
-use Rattle.core_others.proofs.standing.reapers_keep.Goals as goal
-
-pub returns : goal.returns
-returns g c = reapers_keep _ _ _

@@ -1,5 +1,0 @@
-use Rattle.core_others.proofs.ToldLemmas.{reaps_are_told}
-use Rattle.core_others.proofs.standing.reaps_are_told.Goals as goal
-
-pub returns : goal.returns
-returns g c = reaps_are_told g.P.Pipes.known _ _ c.calls_go_on.ensures c.tales_go_on.ensures

@@ -1,7 +1,0 @@
-mod RowLemmas
-mod TableLemmas
-mod ToldLemmas
-mod PipeLemmas
-mod LastLemmas
-mod DropLemmas
-mod PieceLemmas

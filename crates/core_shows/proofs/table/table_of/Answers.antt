@@ -1,8 +1,0 @@
-use Rattle.std.proofs.Common.{None, replicate, arith}
-use Rattle.core_shows.proofs.TableLemmas.{noted_next}
-use Rattle.core_shows.proofs.table.table_of.Goals as goal
-
-pub notes-preserved : goal.notes-preserved
-notes-preserved c =
-    let test = c.notes-test.true in
-    record { so_far = noted_next c.args.notes.now (replicate c.args.ends None) c.notes.table.items c.note.new.table.items c.notes.counts-index _ (omega (arith, test)) c.notes.invariant.so_far c.note.ensures }

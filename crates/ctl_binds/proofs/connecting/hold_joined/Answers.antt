@@ -1,7 +1,0 @@
-use Rattle.ctl_binds.proofs.connecting.hold_joined.Goals as goal
-
-pub returns-clause-stands : goal.returns-clause-stands
-returns-clause-stands g c = c.hold.ensures.stands
-
-pub returns-clause-next : goal.returns-clause-next
-returns-clause-next g c = c.hold.ensures.next

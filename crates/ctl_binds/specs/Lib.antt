@@ -1,4 +1,0 @@
-pub mod Batch
-pub mod Drawing
-pub mod Joining
-pub mod Holding

@@ -1,9 +1,0 @@
-use Rattle.std.proofs.Common.{◌≡◌, take}
-use Rattle.ctl_history.specs.Enders.{enders_in}
-use Rattle.ctl_history.proofs.enders.note_all.Given as goal
-
--- those of the events so far
-abbrev pub invariant-events : goal.invariant-events
-invariant-events g l = record {
-  so_far : l.objects.items ≡ enders_in (take l.did-index l.events);
-}

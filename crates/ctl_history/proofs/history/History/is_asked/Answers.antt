@@ -1,9 +1,0 @@
-use Rattle.std.specs.Prelude.{not}
-use Rattle.std.proofs.Common.{ap, ◌∙◌}
-use Rattle.spec_control.specs.Reply.{root_asked}
-use Rattle.ctl_plane.specs.declared.given.Given.{Given}
-use Rattle.ctl_history.specs.Past.{Past, control_of}
-use Rattle.ctl_history.proofs.history.History.is_asked.Goals as goal
-
-pub returns : goal.returns
-returns g c = ap not (c.root_lives.ensures _ c.self.invariant.history.stands) ∙ ap (λ (p : Past (Given g.row.P-Name.Denot g.row.P-Out.Denot g.row.P-In.Denot) g.row.P-Name.Denot g.row.P-Story.Denot). root_asked (control_of p)) c.self.view_is

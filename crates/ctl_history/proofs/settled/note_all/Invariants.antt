@@ -1,9 +1,0 @@
-use Rattle.std.proofs.Common.{◌≡◌, take}
-use Rattle.ctl_history.specs.Settled.{settled_in}
-use Rattle.ctl_history.proofs.settled.note_all.Given as goal
-
--- those of the events so far
-abbrev pub invariant-events : goal.invariant-events
-invariant-events g l = record {
-  so_far : l.notes.items ≡ settled_in (take l.did-index l.events);
-}

@@ -1,9 +1,0 @@
-pub mod Room
-pub mod Opening
-pub mod Attaching
-pub mod Greeting
-pub mod Joined
-pub mod Joining
-pub mod Noting
-pub mod Papers
-pub mod Connecting

@@ -1,0 +1,77 @@
+ghost use Rattle.std.specs.Prelude.{◌≡◌, OnOk, OnErr};
+ghost use Rattle.ctl_state.specs.Stands.{Updates};
+ghost use Rattle.ctl_moves.specs.Room.{HavePlaces, KeepsCommands, KeepsRoom, with_commands, with_pair_room, with_places};
+
+use crate::owners::Owners;
+use ctl_state::State;
+use std::alloc::AllocError;
+
+// Keeps room for the commands that may come of a pair.
+fn keep_commands<L: Drop>(state: &mut State<L>, o: Owners) -> Result<(), AllocError>
+    requires there { HavePlaces state.old o }
+    ensures ok { OnOk result (Updates (λ c. c) state.old state.new) }
+    ensures next { OnOk result (state.new ≡ with_commands o state.old) }
+    ensures err { OnErr result (state.new ≡ state.old) }
+{
+    state.reserve(o.first_slot, 2)?;
+    match state.reserve(o.last_slot, 3) {
+        Ok(()) => return Ok(()),
+        Err(error) => {
+            state.release(o.first_slot, 2);
+            return Err(error);
+        }
+    }
+}
+
+// Gives the room for commands back.
+fn give_commands_back<L: Drop>(state: &mut State<L>, o: Owners)
+    requires kept { KeepsCommands state.old o }
+    ensures { (w : KeepsCommands state.old o) → state.new ≡ w.before }
+{
+    state.release(o.last_slot, 3);
+    state.release(o.first_slot, 2);
+}
+
+// Keeps room for a pair's ends in the lists of their owners.
+fn keep_places<L: Drop>(state: &mut State<L>, o: Owners) -> Result<(), AllocError>
+    requires there { HavePlaces state.old o }
+    ensures ok { OnOk result (Updates (λ c. c) state.old state.new) }
+    ensures next { OnOk result (state.new ≡ with_places o state.old) }
+    ensures err { OnErr result (state.new ≡ state.old) }
+{
+    state.reserve_ends(o.first, 1)?;
+    match state.reserve_ends(o.last, 1) {
+        Ok(()) => return Ok(()),
+        Err(error) => {
+            state.release_ends(o.first, 1);
+            return Err(error);
+        }
+    }
+}
+
+/// Keeps the room that a pair takes: for the commands that may come of it, and for its ends.
+pub(crate) fn keep_room<L: Drop>(state: &mut State<L>, o: Owners) -> Result<(), AllocError>
+    requires there { HavePlaces state.old o }
+    ensures ok { OnOk result (Updates (λ c. c) state.old state.new) }
+    ensures next { OnOk result (state.new ≡ with_pair_room o state.old) }
+    ensures err { OnErr result (state.new ≡ state.old) }
+{
+    keep_commands(state, o)?;
+    match keep_places(state, o) {
+        Ok(()) => return Ok(()),
+        Err(error) => {
+            give_commands_back(state, o);
+            return Err(error);
+        }
+    }
+}
+
+/// Gives a pair's room back.
+pub(crate) fn give_room_back<L: Drop>(state: &mut State<L>, o: Owners)
+    requires kept { KeepsRoom state.old o }
+    ensures { (w : KeepsRoom state.old o) → state.new ≡ w.before }
+{
+    state.release_ends(o.last, 1);
+    state.release_ends(o.first, 1);
+    give_commands_back(state, o);
+}

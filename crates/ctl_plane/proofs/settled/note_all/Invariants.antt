@@ -1,0 +1,9 @@
+use Rattle.std.proofs.Common.{◌≡◌, take}
+use Rattle.ctl_plane.specs.Settled.{settled_in}
+use Rattle.ctl_plane.proofs.settled.note_all.Given as goal
+
+-- those of the events so far
+abbrev pub invariant-events : goal.invariant-events
+invariant-events g l = record {
+  so_far : l.notes.items ≡ settled_in (take l.did-index l.events);
+}

@@ -1,0 +1,15 @@
+pub mod Holding
+pub mod TakingOver
+pub mod Load
+pub mod Bringing
+pub mod Lent
+pub mod Turns
+pub mod Joins
+pub mod Counts
+pub mod Heard
+pub mod Making
+pub mod Kinds
+pub mod Coming
+pub mod Memory
+pub mod Asking
+pub mod Desk

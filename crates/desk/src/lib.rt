@@ -1,0 +1,23 @@
+//! How the holders of ends reach the control plane of a context, what it asks of them, and what its
+//! commands carry.
+#![tactic(auto)]
+
+mod calls;
+mod delivery;
+mod desk;
+mod given;
+mod halves;
+mod holder;
+mod load;
+mod made;
+mod notice;
+
+pub use calls::Calls;
+pub use delivery::Delivery;
+pub use desk::Desk;
+pub use given::{Given, Parting};
+pub use halves::{Halves, NamedHalves};
+pub use holder::{Holder, Undoes};
+pub use load::Load;
+pub use made::Made;
+pub use notice::Notice;

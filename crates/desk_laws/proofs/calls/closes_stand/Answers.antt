@@ -1,5 +1,0 @@
-use Rattle.desk_laws.proofs.StandLemmas as lemmas
-use Rattle.desk_laws.proofs.calls.closes_stand.Goals as goal
-
-pub returns : goal.returns
-returns g c = λ kind made at o req. lemmas.closes_stand _ _ g.P.Pipes.known kind _ made _

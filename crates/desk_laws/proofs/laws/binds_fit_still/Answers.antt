@@ -1,5 +1,0 @@
-use Rattle.desk_laws.proofs.NewLemmas.{binds_fit_still}
-use Rattle.desk_laws.proofs.laws.binds_fit_still.Goals as goal
-
-pub returns : goal.returns
-returns g c = binds_fit_still _ _ _ g.P.Pipes.known _

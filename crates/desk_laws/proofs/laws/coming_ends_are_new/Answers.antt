@@ -1,5 +1,0 @@
-use Rattle.desk_laws.proofs.NewLemmas.{coming_ends_are_new}
-use Rattle.desk_laws.proofs.laws.coming_ends_are_new.Goals as goal
-
-pub returns : goal.returns
-returns g c = coming_ends_are_new _ _ _

@@ -1,5 +1,0 @@
-use Rattle.desk_laws.proofs.NewLemmas.{held_ends_are_its}
-use Rattle.desk_laws.proofs.laws.held_ends_are_its.Goals as goal
-
-pub returns : goal.returns
-returns g c = held_ends_are_its _ _ _

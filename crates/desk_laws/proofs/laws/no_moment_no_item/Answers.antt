@@ -1,5 +1,0 @@
-use Rattle.desk_laws.proofs.SendLemmas.{no_moment_no_item}
-use Rattle.desk_laws.proofs.laws.no_moment_no_item.Goals as goal
-
-pub returns : goal.returns
-returns g c = no_moment_no_item _ _ _

@@ -1,5 +1,0 @@
-use Rattle.desk_laws.proofs.SocketLemmas.{sockets_are_alone}
-use Rattle.desk_laws.proofs.laws.sockets_are_alone.Goals as goal
-
-pub returns : goal.returns
-returns g c = sockets_are_alone _ _ _

@@ -1,5 +1,0 @@
-use Rattle.desk_laws.proofs.SocketLemmas.{sockets_stay_open}
-use Rattle.desk_laws.proofs.laws.sockets_stay_open.Goals as goal
-
-pub returns : goal.returns
-returns g c = sockets_stay_open _ _ _

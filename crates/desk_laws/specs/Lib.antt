@@ -1,4 +1,0 @@
-pub mod Calling
-pub mod CallLaws
-pub mod Behind
-pub mod Laws

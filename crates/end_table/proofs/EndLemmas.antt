@@ -1,0 +1,135 @@
+-- A put and a take at the end of a place, as the code makes them.
+use Rattle.std.proofs.Common.{◌≡◌, ℕ, set, [], ◌∷◌, Option, Some, refl, sym, ap, ◌∙◌, subst, false, true≢false}
+use Rattle.std.specs.Prelude.{Box, slice_index_or}
+use Rattle.std.specs.declared.alloc.Global.{Global}
+use Rattle.std.specs.Box.{with_value}
+use Rattle.zq_base.specs.Message.{Frames}
+use Rattle.zq_base.specs.Ends.{PipeId}
+use Rattle.spec_pattern.specs.Half.{Writing, Reading, with_delimiter}
+use Rattle.spec_pattern.specs.PipeStep.{Seal, read_through}
+use Rattle.msg_pipe.specs.declared.pipes.PutIn.{PutIn}
+use Rattle.msg_pipe.specs.declared.pipes.PutIn.TheVariants as put
+use Rattle.msg_pipe.specs.declared.pipes.Taken.{Taken}
+use Rattle.msg_pipe.specs.declared.pipes.Taken.TheVariants.{Item, Empty, Delimiter}
+use Rattle.msg_pipe.specs.declared.pipes.Front.{Front}
+use Rattle.msg_pipe.specs.declared.pipes.Front.TheVariants as front
+use Rattle.msg_pipe.specs.Told.{Puts, Finds, FrontFinds, front_of, put_step, take_step, front_step}
+use Rattle.msg_pipe.specs.Known.{Known, SeesTakes, SeesCommits, KeepsButOut, KeepsButIn}
+use Rattle.end_table.specs.declared.row.EndRow.{EndRow}
+use Rattle.end_table.specs.Rows.{Rows, unboxed, table, row_at, IsRow, end_of}
+use Rattle.end_table.specs.Runs.{OutDoes, InDoes, front_at, OutCall, InCall, seals}
+use Rattle.end_table.proofs.RowLemmas.{found_at}
+
+-- the row that the code finds at a place
+pub row_here : {O I : Type 0} (rows : Rows O I) (place : ℕ) (x : Option (Box (EndRow O I) Global)) (b : Box (EndRow O I) Global) (r : EndRow O I)
+    → x ≡ slice_index_or rows place x → x ≡ Some b → r ≡ b.value → IsRow rows place → row_at rows place ≡ Some r
+row_here rows place x b r value is same here = here.1 ∙ sym (found_at rows place x here.0 value here.1) ∙ ap unboxed is ∙ ap Some (sym same)
+
+out_of_put : (p : PipeId) (m : Frames) (answer : PutIn) (v w : Writing) → v.sealed ≡ false → Puts v m answer w → OutDoes p (put_step p m answer) v w
+out_of_put p m put.Ok v w unsealed h = (refl, h, unsealed)
+out_of_put p m (put.Full back) v w unsealed h = (refl, h.1)
+
+put_sealed : (m : Frames) (answer : PutIn) (v w : Writing) → Puts v m answer w → w.sealed ≡ v.sealed
+put_sealed m put.Ok v w h = h.sealed
+put_sealed m (put.Full back) v w h = h.1.sealed
+
+-- neither writes a delimiter
+pub put_unsealing : (p : PipeId) (m : Frames) (answer : PutIn) → seals (put_step p m answer ∷ []) ≡ false
+put_unsealing p m put.Ok = refl
+put_unsealing p m (put.Full back) = refl
+
+pub take_unsealing : (p : PipeId) (found : Taken) → seals (take_step p found ∷ []) ≡ false
+take_unsealing p (Item m) = refl
+take_unsealing p Empty = refl
+take_unsealing p Delimiter = refl
+
+in_of_take : (p : PipeId) (found : Taken) (v w : Reading) → Finds v found w → InDoes p (take_step p found) v w
+in_of_take p (Item m) v w h = (refl, h)
+in_of_take p Empty v w h = (refl, h)
+in_of_take p Delimiter v w h = (refl, h)
+
+front_taken : (p : PipeId) (found : Taken) → front_at (take_step p found) ≡ front_of found
+front_taken p (Item m) = refl
+front_taken p Empty = refl
+front_taken p Delimiter = refl
+
+in_of_front : (p : PipeId) (found : Front) (v w : Reading) → FrontFinds v found w → InDoes p (front_step p found) v w
+in_of_front p front.Message v w h = (refl, h)
+in_of_front p front.Empty v w h = (refl, h)
+in_of_front p front.Delimiter v w h = (refl, h)
+
+front_looked : (p : PipeId) (found : Front) → front_at (front_step p found) ≡ found
+front_looked p front.Message = refl
+front_looked p front.Empty = refl
+front_looked p front.Delimiter = refl
+
+module _ {S O I N : Type 0} (K : Known S O I N) where
+  pub front_done : (pipes pipes' : S) (rows : Rows O I) (place : ℕ) (b : Box (EndRow O I) Global) (r : EndRow O I) (i : I) (found : Front)
+      → row_at rows place ≡ Some r
+      → FrontFinds (K.reading pipes r.input) found (K.reading pipes' i) → SeesCommits K r.input i found pipes pipes' → KeepsButIn K r.input i pipes pipes'
+      → InCall K (table pipes rows) (front_step (read_through (end_of (row_at rows place))) found) (table pipes' (set rows place (Some (with_value b (record r { input = i })))))
+  front_done pipes pipes' rows place b r i found here finds sees keeps =
+      subst (λ (x : Option (EndRow O I)). InCall K (table pipes rows) (front_step (read_through (end_of x)) found) (table pipes' (set rows place (Some (with_value b (record r { input = i })))))) (sym here)
+      (record {
+        place = place;
+        row = r;
+        back = record r { input = i };
+        at = record { here = here; boxed = with_value b (record r { input = i }); rows_are = refl; back_is = refl; end_is = refl; writable_is = refl };
+        out_is = refl;
+        does = in_of_front (read_through r.end) found (K.reading pipes r.input) (K.reading pipes' i) finds;
+        exact = subst (λ (f : Front). SeesCommits K r.input i f pipes pipes') (sym (front_looked (read_through r.end) found)) sees;
+        keeps = keeps;
+      })
+
+  pub seal_done : (pipes pipes' : S) (rows : Rows O I) (place : ℕ) (b : Box (EndRow O I) Global) (r : EndRow O I) (o : O)
+      → row_at rows place ≡ Some r → r.writable ≡ false → (K.writing pipes r.out).sealed ≡ false
+      → K.writing pipes' o ≡ with_delimiter (K.writing pipes r.out) → KeepsButOut K r.out o pipes pipes'
+      → OutCall K (table pipes rows) (Seal (end_of (row_at rows place))) (table pipes' (set rows place (Some (with_value b (record r { out = o })))))
+  seal_done pipes pipes' rows place b r o here closed unsealed seals keeps =
+      subst (λ (x : Option (EndRow O I)). OutCall K (table pipes rows) (Seal (end_of x)) (table pipes' (set rows place (Some (with_value b (record r { out = o })))))) (sym here)
+      (record {
+        place = place;
+        row = r;
+        back = record r { out = o };
+        at = record { here = here; boxed = with_value b (record r { out = o }); rows_are = refl; back_is = refl; end_is = refl; writable_is = refl };
+        input_is = refl;
+        unsealed = λ w. absurd (true≢false (sym w ∙ closed));
+        does = (refl, seals, unsealed);
+        exact = λ looks. absurd (true≢false (sym looks));
+        keeps = keeps;
+      })
+
+  pub put_done : (pipes pipes' : S) (rows : Rows O I) (place : ℕ) (b : Box (EndRow O I) Global) (r : EndRow O I) (o : O) (m : Frames) (answer : PutIn)
+      → row_at rows place ≡ Some r → (K.writing pipes r.out).sealed ≡ false
+      → Puts (K.writing pipes r.out) m answer (K.writing pipes' o) → SeesTakes K r.out o pipes pipes' → KeepsButOut K r.out o pipes pipes'
+      → OutCall K (table pipes rows) (put_step (end_of (row_at rows place)) m answer) (table pipes' (set rows place (Some (with_value b (record r { out = o })))))
+  put_done pipes pipes' rows place b r o m answer here unsealed puts sees keeps =
+      subst (λ (x : Option (EndRow O I)). OutCall K (table pipes rows) (put_step (end_of x) m answer) (table pipes' (set rows place (Some (with_value b (record r { out = o })))))) (sym here)
+      (record {
+        place = place;
+        row = r;
+        back = record r { out = o };
+        at = record { here = here; boxed = with_value b (record r { out = o }); rows_are = refl; back_is = refl; end_is = refl; writable_is = refl };
+        input_is = refl;
+        unsealed = λ _. put_sealed m answer (K.writing pipes r.out) (K.writing pipes' o) puts ∙ unsealed;
+        does = out_of_put r.end m answer (K.writing pipes r.out) (K.writing pipes' o) unsealed puts;
+        exact = λ _. sees;
+        keeps = keeps;
+      })
+
+  pub take_done : (pipes pipes' : S) (rows : Rows O I) (place : ℕ) (b : Box (EndRow O I) Global) (r : EndRow O I) (i : I) (found : Taken)
+      → row_at rows place ≡ Some r
+      → Finds (K.reading pipes r.input) found (K.reading pipes' i) → SeesCommits K r.input i (front_of found) pipes pipes' → KeepsButIn K r.input i pipes pipes'
+      → InCall K (table pipes rows) (take_step (read_through (end_of (row_at rows place))) found) (table pipes' (set rows place (Some (with_value b (record r { input = i })))))
+  take_done pipes pipes' rows place b r i found here finds sees keeps =
+      subst (λ (x : Option (EndRow O I)). InCall K (table pipes rows) (take_step (read_through (end_of x)) found) (table pipes' (set rows place (Some (with_value b (record r { input = i })))))) (sym here)
+      (record {
+        place = place;
+        row = r;
+        back = record r { input = i };
+        at = record { here = here; boxed = with_value b (record r { input = i }); rows_are = refl; back_is = refl; end_is = refl; writable_is = refl };
+        out_is = refl;
+        does = in_of_take (read_through r.end) found (K.reading pipes r.input) (K.reading pipes' i) finds;
+        exact = subst (λ (f : Front). SeesCommits K r.input i f pipes pipes') (sym (front_taken (read_through r.end) found)) sees;
+        keeps = keeps;
+      })

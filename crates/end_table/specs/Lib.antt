@@ -1,0 +1,17 @@
+pub mod Rows
+pub mod Held
+pub mod Runs
+pub mod RunsOwed
+pub mod Past
+pub mod Own
+pub mod Laws
+pub mod Places
+pub mod Sound
+pub mod Others
+pub mod Halving
+pub mod Attaching
+pub mod Giving
+pub mod Calls
+pub mod Looking
+pub mod Counting
+pub mod Changes

@@ -1,0 +1,44 @@
+//! The ends of a socket by place, over any pipes.
+//!
+//! What calls at them did is read off their steps: exactly, where the looks of the pipes are exact,
+//! else half by half.
+//!
+//! The ends of one owner with their halves, by the places of their attachment, over any pipes.
+//!
+//! What an end's halves do at each event of its life is written here once.
+#![tactic(auto)]
+
+mod attaching;
+mod changes;
+mod ends;
+mod finding;
+mod giving;
+mod halving;
+mod held_laws;
+mod laws;
+mod looking;
+mod pipes;
+mod placing;
+mod plain;
+mod row;
+mod table;
+
+pub use attaching::attach;
+pub use changes::PipeChange;
+pub use ends::Ends;
+pub use finding::find;
+pub use giving::give_ends;
+pub use halving::{seal, set_state, settle, yield_writer};
+pub use held_laws::{
+    calls_keep_ends_sound, calls_leave_others, halves_fit_still, others_stay_sound,
+    sound_ends_are_held, stretches_leave_others,
+};
+pub use laws::{
+    calls_are_read_exactly, calls_are_read_loosely, calls_keep_ends_held,
+    two_workers_keep_the_order,
+};
+pub use looking::look;
+pub use pipes::HeldPipes;
+pub use placing::{give_back, join, make, prepare, take_back};
+pub use row::EndRow;
+pub use table::{EndTable, Place};

@@ -1,5 +1,0 @@
-use Rattle.ends.proofs.OwnLemmas.{loosely}
-use Rattle.ends.proofs.laws.calls_are_read_loosely.Goals as goal
-
-pub returns : goal.returns
-returns g c = λ steps old new place row does held here. loosely g.P.Pipes.known old steps new does held place row here

@@ -1,5 +1,0 @@
-use Rattle.held_ends.proofs.EndsLemmas.{ends_held}
-use Rattle.held_ends.proofs.laws.sound_ends_are_held.Goals as goal
-
-pub returns : goal.returns
-returns g c = λ rows places sound. ends_held g.P.Pipes.known c.args.pipes.now rows places sound

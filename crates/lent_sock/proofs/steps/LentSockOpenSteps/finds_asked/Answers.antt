@@ -1,9 +1,0 @@
-use Rattle.std.proofs.Common.{sym, ◌∙◌}
-use Rattle.std.specs.Prelude.{length}
-use Rattle.lent_sock.proofs.PartsLemmas.{there_asked}
-use Rattle.lent_sock.proofs.steps.LentSockOpenSteps.finds_asked.Goals as goal
-
-pub returns : goal.returns
-returns g c =
-    let s = c.args.self.now in
-    c.is_asked.ensures ∙ sym (there_asked g.P.Pipes.known s.pipes s.desk (length s.since.items) s.socket.core c.requires.agrees c.requires.some)

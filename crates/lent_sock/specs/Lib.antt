@@ -1,9 +1,0 @@
-pub mod Owned
-pub mod Readers
-pub mod Leaving
-pub mod Leads
-pub mod ReadersOwed
-pub mod LeavingOwed
-pub mod LeadsOwed
-pub mod Called
-pub mod Ready

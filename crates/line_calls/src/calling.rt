@@ -1,0 +1,98 @@
+ghost use Rattle.std.specs.Prelude.{◌<◌, IfOk, OnOk, OnErr, length};
+ghost use Rattle.spec_run.specs.declared.line.LineCall.TheVariants.{Asks};
+ghost use Rattle.zq_world.specs.MayAsk.{MayAskLine};
+ghost use Rattle.zq_world.specs.Way.{AsksSocket, AsksOpen};
+ghost use Rattle.line_calls.specs.Steps.{LeadsSome, CallsSo};
+ghost use Rattle.line_calls.specs.Lines.{CallsLine};
+
+use crate::connecting::connects;
+use crate::messages::{receives, sends, subscribes, unsubscribes};
+use crate::pumping::pump;
+use crate::steps::OpenSteps;
+use spec_pattern::Skip;
+use spec_run::{LineAnswer, LineCall};
+use std::alloc::{AllocError, Global};
+use zq_script::Call;
+
+// Makes the call of a line that scripts have where sockets do not end.
+fn ask<M: OpenSteps>(
+    alloc: Global,
+    socket: &mut M,
+    call: &Call,
+    told: &mut Vec<Skip>,
+) -> Result<LineAnswer, AllocError>
+    requires agrees { M.agrees socket.old }
+    requires whole { M.whole socket.old }
+    requires some { 0 < length (M.moments socket.old) }
+    requires asks { AsksSocket (Asks call.now) }
+    requires allowed { MayAskLine (Asks call.now) }
+    ensures ok { IfOk result (λ answer.
+        CallsSo M.leads M.as_open M.moments (AsksOpen (Asks call.now)) answer
+        told.old.items told.new.items socket.old socket.new) }
+    ensures err { OnErr result (LeadsSome M.leads socket.old socket.new) }
+    ensures whole { OnOk result (M.whole socket.new) }
+    ensures agrees { M.agrees socket.new }
+{
+    match call {
+        Call::Bind(_, to) => return socket.bind(alloc, to),
+        Call::Connect(_, to) => return connects(alloc, socket, to),
+        Call::Send(_, message) => return sends(alloc, socket, message),
+        Call::Recv(_, _) => return receives(alloc, socket, told),
+        Call::Subscribe(_, topic) => return subscribes(alloc, socket, topic),
+        Call::Unsubscribe(_, topic) => return unsubscribes(alloc, socket, topic),
+        Call::Socket(_, _) => unreachable!(),
+    }
+}
+
+// Makes the call of a line.
+fn ask_line<M: OpenSteps>(
+    alloc: Global,
+    socket: &mut M,
+    line: &LineCall,
+    told: &mut Vec<Skip>,
+) -> Result<LineAnswer, AllocError>
+    requires agrees { M.agrees socket.old }
+    requires whole { M.whole socket.old }
+    requires some { 0 < length (M.moments socket.old) }
+    requires asks { AsksSocket line.now }
+    requires allowed { MayAskLine line.now }
+    ensures ok { IfOk result (λ answer.
+        CallsSo M.leads M.as_open M.moments (AsksOpen line.now) answer
+        told.old.items told.new.items socket.old socket.new) }
+    ensures err { OnErr result (LeadsSome M.leads socket.old socket.new) }
+    ensures whole { OnOk result (M.whole socket.new) }
+    ensures agrees { M.agrees socket.new }
+{
+    match line {
+        LineCall::Asks(call) => return ask(alloc, socket, call, told),
+        LineCall::Unbinds(_, to) => return socket.unbind(alloc, to),
+        LineCall::Disconnects(_, to) => return socket.disconnect(alloc, to),
+        LineCall::Closes(_) => unreachable!(),
+        LineCall::Terms => unreachable!(),
+    }
+}
+
+/// Pumps an open socket and then makes the call of a line, one of those that are made of a socket.
+/// The messages that the call drops are told behind those told before.
+pub fn call<M: OpenSteps>(
+    alloc: Global,
+    socket: &mut M,
+    line: &LineCall,
+    told: &mut Vec<Skip>,
+) -> Result<LineAnswer, AllocError>
+    requires agrees { M.agrees socket.old }
+    requires may { M.may_take socket.old }
+    requires whole { M.whole socket.old }
+    requires asks { AsksSocket line.now }
+    requires allowed { MayAskLine line.now }
+    ensures ok { IfOk result (λ answer. CallsLine M.leads M.as_open line.now answer
+        told.old.items told.new.items socket.old socket.new) }
+    ensures err { OnErr result (LeadsSome M.leads socket.old socket.new) }
+    ensures whole { OnOk result (M.whole socket.new) }
+    ensures agrees { M.agrees socket.new }
+{
+    match pump(alloc, socket) {
+        Ok(()) => return ask_line(alloc, socket, line, told),
+        Err(want) => return Err(want),
+    }
+}

@@ -1,0 +1,13 @@
+pub mod View
+pub mod Standing
+pub mod Doing
+pub mod Looking
+pub mod Owned
+pub mod Readers
+pub mod Leaving
+pub mod Leads
+pub mod ReadersOwed
+pub mod LeavingOwed
+pub mod LeadsOwed
+pub mod Called
+pub mod Ready

@@ -1,0 +1,153 @@
+ghost use Rattle.std.specs.Prelude.{◌≡◌, ◌<◌, List, IfOk, OnOk, OnErr, length};
+ghost use Rattle.zq_base.specs.Message.{max_octets};
+ghost use Rattle.spec_pattern.specs.PatternCalls.{Subscribe, Unsubscribe};
+ghost use Rattle.spec_pattern.specs.declared.answers.Skip.{Skip};
+ghost use Rattle.spec_run.specs.SocketCall.{SendsOpen, ReceivesOpen, ChangesOpen};
+ghost use Rattle.line_calls.specs.Steps.{LeadsSome, CallsSo, PumpsKind};
+ghost use Rattle.line_socket.specs.Standing.{IsWhole};
+ghost use Rattle.line_socket.specs.Owned.{parts, view_of, moments_since, Agrees};
+ghost use Rattle.line_socket.specs.Leads.{Leads};
+ghost use Rattle.line_socket.specs.Ready.{IsReady};
+
+use crate::answers::{changed_reply, got_reply, sent_reply};
+use crate::sock::LentSock;
+use end_table::HeldPipes;
+use spec_pattern::Skip;
+use spec_run::LineAnswer;
+use std::alloc::{AllocError, Global};
+use zq_base::Message;
+
+/// What comes before each call.
+pub(crate) fn pump_kind<P: HeldPipes>(
+    alloc: Global,
+    lent: &mut LentSock<P>,
+) -> Result<(), AllocError>
+    requires agrees { Agrees P.known (parts lent.old.pipes lent.old.desk lent.old.socket.core lent.old.since.items) }
+    ensures ok { OnOk result (PumpsKind (Leads P.known) view_of
+        (parts lent.old.pipes lent.old.desk lent.old.socket.core lent.old.since.items)
+        (parts lent.new.pipes lent.new.desk lent.new.socket.core lent.new.since.items)) }
+    ensures err { OnErr result (LeadsSome (Leads P.known)
+        (parts lent.old.pipes lent.old.desk lent.old.socket.core lent.old.since.items)
+        (parts lent.new.pipes lent.new.desk lent.new.socket.core lent.new.since.items)) }
+    ensures whole { OnOk result (IsWhole lent.old.socket.core → IsWhole lent.new.socket.core) }
+    ensures ready { OnOk result (IsReady (parts lent.old.pipes lent.old.desk lent.old.socket.core lent.old.since.items)
+        → IsReady (parts lent.new.pipes lent.new.desk lent.new.socket.core lent.new.since.items)) }
+    ensures agrees { Agrees P.known (parts lent.new.pipes lent.new.desk lent.new.socket.core lent.new.since.items) }
+{
+    crate::mails::pump(alloc, &mut lent.pipes, &mut lent.socket.core)
+}
+
+// Sends a message that is the socket's.
+fn send_own<P: HeldPipes>(
+    alloc: Global,
+    lent: &mut LentSock<P>,
+    message: Message,
+) -> Result<LineAnswer, AllocError>
+    requires agrees { Agrees P.known (parts lent.old.pipes lent.old.desk lent.old.socket.core lent.old.since.items) }
+    requires ready { IsReady (parts lent.old.pipes lent.old.desk lent.old.socket.core lent.old.since.items) }
+    ensures ok { IfOk result (λ answer. (told : List Skip) →
+        CallsSo (Leads P.known) view_of moments_since (SendsOpen message) answer told told
+        (parts lent.old.pipes lent.old.desk lent.old.socket.core lent.old.since.items)
+        (parts lent.new.pipes lent.new.desk lent.new.socket.core lent.new.since.items)) }
+    ensures err { OnErr result (LeadsSome (Leads P.known)
+        (parts lent.old.pipes lent.old.desk lent.old.socket.core lent.old.since.items)
+        (parts lent.new.pipes lent.new.desk lent.new.socket.core lent.new.since.items)) }
+    ensures whole { IsWhole lent.new.socket.core }
+    ensures ready { OnOk result (IsReady (parts lent.new.pipes lent.new.desk lent.new.socket.core lent.new.since.items)) }
+    ensures agrees { Agrees P.known (parts lent.new.pipes lent.new.desk lent.new.socket.core lent.new.since.items) }
+{
+    sent_reply(crate::mails::send(alloc, &mut lent.pipes, &mut lent.socket.core, message))
+}
+
+/// Sends a copy of a message by the rule of the socket's kind.
+pub(crate) fn send<P: HeldPipes>(
+    alloc: Global,
+    lent: &mut LentSock<P>,
+    message: &Message,
+) -> Result<LineAnswer, AllocError>
+    requires agrees { Agrees P.known (parts lent.old.pipes lent.old.desk lent.old.socket.core lent.old.since.items) }
+    requires ready { IsReady (parts lent.old.pipes lent.old.desk lent.old.socket.core lent.old.since.items) }
+    ensures ok { IfOk result (λ answer. (told : List Skip) →
+        CallsSo (Leads P.known) view_of moments_since (SendsOpen message.now) answer told told
+        (parts lent.old.pipes lent.old.desk lent.old.socket.core lent.old.since.items)
+        (parts lent.new.pipes lent.new.desk lent.new.socket.core lent.new.since.items)) }
+    ensures err { OnErr result (LeadsSome (Leads P.known)
+        (parts lent.old.pipes lent.old.desk lent.old.socket.core lent.old.since.items)
+        (parts lent.new.pipes lent.new.desk lent.new.socket.core lent.new.since.items)) }
+    ensures whole { IsWhole lent.new.socket.core }
+    ensures ready { OnOk result (IsReady (parts lent.new.pipes lent.new.desk lent.new.socket.core lent.new.since.items)) }
+    ensures agrees { Agrees P.known (parts lent.new.pipes lent.new.desk lent.new.socket.core lent.new.since.items) }
+{
+    match message.copy(alloc) {
+        Ok(copy) => return send_own(alloc, lent, copy),
+        Err(want) => return Err(want),
+    }
+}
+
+/// Receives by the rule of the socket's kind.
+pub(crate) fn recv<P: HeldPipes>(
+    alloc: Global,
+    lent: &mut LentSock<P>,
+    told: &mut Vec<Skip>,
+) -> Result<LineAnswer, AllocError>
+    requires agrees { Agrees P.known (parts lent.old.pipes lent.old.desk lent.old.socket.core lent.old.since.items) }
+    requires ready { IsReady (parts lent.old.pipes lent.old.desk lent.old.socket.core lent.old.since.items) }
+    ensures ok { IfOk result (λ answer. CallsSo (Leads P.known) view_of moments_since ReceivesOpen
+        answer told.old.items told.new.items
+        (parts lent.old.pipes lent.old.desk lent.old.socket.core lent.old.since.items)
+        (parts lent.new.pipes lent.new.desk lent.new.socket.core lent.new.since.items)) }
+    ensures err { OnErr result (LeadsSome (Leads P.known)
+        (parts lent.old.pipes lent.old.desk lent.old.socket.core lent.old.since.items)
+        (parts lent.new.pipes lent.new.desk lent.new.socket.core lent.new.since.items)) }
+    ensures whole { OnOk result (IsWhole lent.new.socket.core) }
+    ensures ready { OnOk result (IsReady (parts lent.new.pipes lent.new.desk lent.new.socket.core lent.new.since.items)) }
+    ensures agrees { Agrees P.known (parts lent.new.pipes lent.new.desk lent.new.socket.core lent.new.since.items) }
+{
+    got_reply(crate::mails::recv(alloc, &mut lent.pipes, &mut lent.socket.core, told))
+}
+
+/// Subscribes once more to a topic.
+pub(crate) fn subscribe<P: HeldPipes>(
+    alloc: Global,
+    lent: &mut LentSock<P>,
+    topic: &[u8],
+) -> Result<LineAnswer, AllocError>
+    requires agrees { Agrees P.known (parts lent.old.pipes lent.old.desk lent.old.socket.core lent.old.since.items) }
+    requires ready { IsReady (parts lent.old.pipes lent.old.desk lent.old.socket.core lent.old.since.items) }
+    requires short { length topic.now < max_octets }
+    ensures ok { IfOk result (λ answer. (told : List Skip) →
+        CallsSo (Leads P.known) view_of moments_since (ChangesOpen Subscribe topic.now) answer told told
+        (parts lent.old.pipes lent.old.desk lent.old.socket.core lent.old.since.items)
+        (parts lent.new.pipes lent.new.desk lent.new.socket.core lent.new.since.items)) }
+    ensures err { OnErr result (LeadsSome (Leads P.known)
+        (parts lent.old.pipes lent.old.desk lent.old.socket.core lent.old.since.items)
+        (parts lent.new.pipes lent.new.desk lent.new.socket.core lent.new.since.items)) }
+    ensures whole { IsWhole lent.new.socket.core }
+    ensures ready { OnOk result (IsReady (parts lent.new.pipes lent.new.desk lent.new.socket.core lent.new.since.items)) }
+    ensures agrees { Agrees P.known (parts lent.new.pipes lent.new.desk lent.new.socket.core lent.new.since.items) }
+{
+    changed_reply(crate::mails::subscribe(alloc, &mut lent.pipes, &mut lent.socket.core, topic))
+}
+
+/// Cancels one subscription to a topic.
+pub(crate) fn unsubscribe<P: HeldPipes>(
+    alloc: Global,
+    lent: &mut LentSock<P>,
+    topic: &[u8],
+) -> Result<LineAnswer, AllocError>
+    requires agrees { Agrees P.known (parts lent.old.pipes lent.old.desk lent.old.socket.core lent.old.since.items) }
+    requires ready { IsReady (parts lent.old.pipes lent.old.desk lent.old.socket.core lent.old.since.items) }
+    requires short { length topic.now < max_octets }
+    ensures ok { IfOk result (λ answer. (told : List Skip) →
+        CallsSo (Leads P.known) view_of moments_since (ChangesOpen Unsubscribe topic.now) answer told told
+        (parts lent.old.pipes lent.old.desk lent.old.socket.core lent.old.since.items)
+        (parts lent.new.pipes lent.new.desk lent.new.socket.core lent.new.since.items)) }
+    ensures err { OnErr result (LeadsSome (Leads P.known)
+        (parts lent.old.pipes lent.old.desk lent.old.socket.core lent.old.since.items)
+        (parts lent.new.pipes lent.new.desk lent.new.socket.core lent.new.since.items)) }
+    ensures whole { IsWhole lent.new.socket.core }
+    ensures ready { OnOk result (IsReady (parts lent.new.pipes lent.new.desk lent.new.socket.core lent.new.since.items)) }
+    ensures agrees { Agrees P.known (parts lent.new.pipes lent.new.desk lent.new.socket.core lent.new.since.items) }
+{
+    changed_reply(crate::mails::unsubscribe(alloc, &mut lent.pipes, &mut lent.socket.core, topic))
+}

@@ -1,5 +1,0 @@
-use Rattle.one_core.proofs.LendLemmas.{sockets_can_be_lent}
-use Rattle.one_core.proofs.laws.sockets_can_be_lent.Goals as goal
-
-pub returns : goal.returns
-returns g c = sockets_can_be_lent _ _ g.P.Pipes.known

@@ -1,5 +1,0 @@
-use Rattle.one_desk.proofs.FitLemmas.{event_fits}
-use Rattle.one_desk.proofs.laws.an_event_fits.Goals as goal
-
-pub returns : goal.returns
-returns g c = event_fits

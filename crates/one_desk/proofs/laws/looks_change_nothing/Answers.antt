@@ -1,5 +1,0 @@
-use Rattle.one_desk.proofs.OrderLemmas.{looks_nothing}
-use Rattle.one_desk.proofs.laws.looks_change_nothing.Goals as goal
-
-pub returns : goal.returns
-returns g c = looks_nothing

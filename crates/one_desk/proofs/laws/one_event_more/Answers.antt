@@ -1,5 +1,0 @@
-use Rattle.one_desk.proofs.OrderLemmas.{event_more}
-use Rattle.one_desk.proofs.laws.one_event_more.Goals as goal
-
-pub returns : goal.returns
-returns g c = event_more

@@ -1,5 +1,0 @@
-use Rattle.one_desk.proofs.OrderLemmas.{look_more}
-use Rattle.one_desk.proofs.laws.one_look_more.Goals as goal
-
-pub returns : goal.returns
-returns g c = look_more

@@ -1,5 +1,0 @@
-use Rattle.one_desk.proofs.OrderLemmas.{goes_on}
-use Rattle.one_desk.proofs.laws.order_goes_on.Goals as goal
-
-pub returns : goal.returns
-returns g c = goes_on

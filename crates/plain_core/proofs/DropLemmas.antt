@@ -1,0 +1,147 @@
+-- A table of dropped messages, and the drops that a call tells.
+use Rattle.std.specs.Prelude.{◌≡◌, ◌≢◌, ◌≤◌, ◌<◌, ◌+◌, ◌-◌, ◌==◌, ◌&&◌, ℕ, Bool, true, false, not, List, [], ◌∷◌, ◌++◌, if◌then◌else◌, drop, filter, length, slice_index_or, slice_set, take, refl}
+use Rattle.std.proofs.Common.{arith, sym, ap, ◌∙◌, subst, length-append, length-drop, get_or-set_same, get_or-set_other}
+use Rattle.std.proofs.lemmas.Bool.{eqb-true, eq-eqb}
+use Rattle.std.proofs.lemmas.List.{get_or-drop, take_more, take_rest}
+use Rattle.std.proofs.lemmas.List.Elements.{filter-append}
+use Rattle.zq_base.specs.declared.ids.EndId.{EndId}
+use Rattle.zq_base.specs.Ends.{PipeId, other_end}
+use Rattle.spec_pattern.specs.declared.answers.Skip.{Skip}
+use Rattle.spec_control.specs.Control.{Control, end_of, is_end, owner_of}
+use Rattle.control_laws.proofs.ListLemmas.{Pushed, is_old, is_new, pushed, never}
+use Rattle.control_laws.proofs.AskLemmas.{same_end}
+use Rattle.core_laws.specs.Drops.{drops_told, is_told_of}
+use Rattle.core_laws.specs.Table.{drops_in, place_in}
+use Rattle.plain_core.specs.Dropped.{CountsAlike, CountsOne, CountsTold}
+use Rattle.plain_core.proofs.TableLemmas.{other_ends}
+
+-- ---- counts
+
+-- a further count of none
+pub zero_more : (xs : List ℕ) → CountsAlike xs (xs ++ 0 ∷ [])
+zero_more xs k = by (pushed xs 0 0 k)
+  where
+    by : Pushed xs 0 0 k → slice_index_or (xs ++ 0 ∷ []) k 0 ≡ slice_index_or xs k 0
+    by (is_old same) = same
+    by (is_new at now past) = now ∙ sym past
+
+pub alike_more : (xs ys : List ℕ) → CountsAlike xs ys → CountsAlike xs (ys ++ 0 ∷ [])
+alike_more xs ys alike k = zero_more ys k ∙ alike k
+
+none_more : (n : ℕ) → n ≡ n + 0
+none_more n = omega arith
+
+pub counted_one : (xs ys zs : List ℕ) (place many : ℕ) → place < length ys → CountsAlike xs ys → many ≡ slice_index_or ys place 0 + 1 → zs ≡ slice_set ys place many → CountsOne true place xs zs
+counted_one xs ys zs place many there alike is set k = ap (λ (l : List ℕ). slice_index_or l k 0) set ∙ by (k == place) refl
+  where
+    by : (b : Bool) → (k == place) ≡ b → slice_index_or (slice_set ys place many) k 0 ≡ slice_index_or xs k 0 + (if k == place then 1 else 0)
+    by true e =
+        let at : k ≡ place = eqb-true k place e in
+        ap (λ (i : ℕ). slice_index_or (slice_set ys place many) i 0) at ∙ get_or-set_same ys place many 0 there ∙ is
+        ∙ ap (λ (i : ℕ). slice_index_or ys i 0 + 1) (sym at) ∙ ap (λ (n : ℕ). n + 1) (alike k)
+        ∙ ap (λ (b : Bool). slice_index_or xs k 0 + (if b then 1 else 0)) (sym e)
+    by false e =
+        get_or-set_other ys place k many 0 (λ same. never (sym e ∙ eq-eqb k place same)) ∙ alike k ∙ none_more (slice_index_or xs k 0)
+        ∙ ap (λ (b : Bool). slice_index_or xs k 0 + (if b then 1 else 0)) (sym e)
+
+pub counted_if : (so : Bool) (place : ℕ) (xs ys : List ℕ) → so ≡ true → CountsOne true place xs ys → CountsOne so place xs ys
+counted_if so place xs ys is one = subst (λ (b : Bool). CountsOne b place xs ys) (sym is) one
+
+pub counted_none : (so : Bool) (place : ℕ) (xs : List ℕ) → so ≡ false → CountsOne so place xs xs
+counted_none so place xs is k = none_more (slice_index_or xs k 0) ∙ ap (λ (b : Bool). slice_index_or xs k 0 + (if b && (k == place) then 1 else 0)) (sym is)
+
+-- ---- one drop
+
+not_equal : (a b : ℕ) → a ≢ b → (a == b) ≡ false
+not_equal a b other = by (a == b) refl
+  where
+    by : (v : Bool) → (a == b) ≡ v → (a == b) ≡ false
+    by true e = absurd (other (eqb-true a b e))
+    by false e = e
+
+and_false : (b : Bool) → (b && false) ≡ false
+and_false true = refl
+and_false false = refl
+
+-- at the place of an end of this object, or at that of the end that is asked for
+same_at : (c : Control) (o : ℕ) (d e : EndId) → ((owner_of c d == o) && (place_in e == place_in d)) ≡ ((owner_of c e == o) && is_end d e)
+same_at c o d e = by (is_end d e) refl
+  where
+    by : (b : Bool) → is_end d e ≡ b → ((owner_of c d == o) && (place_in e == place_in d)) ≡ ((owner_of c e == o) && b)
+    by true h =
+        let same : d ≡ e = same_end d e h in
+        ap (λ (v : Bool). (owner_of c d == o) && v) (eq-eqb (place_in e) (place_in d) (ap place_in (sym same))) ∙ ap (λ (x : EndId). (owner_of c x == o) && true) same
+    by false h =
+        ap (λ (v : Bool). (owner_of c d == o) && v) (not_equal (place_in e) (place_in d) (other_ends d e h)) ∙ and_false (owner_of c d == o) ∙ sym (and_false (owner_of c e == o))
+
+-- an end of a pair is one of its two
+one_of_two : (t k a : Bool) → (if t && (k && a) then 1 else 0) + (if t && (k && not a) then 1 else 0) ≡ (if t then (if k then 1 else 0) else 0)
+one_of_two true true true = refl
+one_of_two true true false = refl
+one_of_two true false a = refl
+one_of_two false k a = refl
+
+told_one : (b : Bool) (skip : Skip) → (if b then 1 else 0) ≡ length (if b then skip ∷ [] else [])
+told_one true skip = refl
+told_one false skip = refl
+
+pub told_of_one : (c : Control) (o : ℕ) (skip : Skip) (old mid new : List ℕ) → CountsOne (owner_of c (end_of skip.pair.0 true) == o) (place_in (end_of skip.pair.0 true)) old mid
+    → CountsOne (owner_of c (end_of skip.pair.0 false) == o) (place_in (end_of skip.pair.0 false)) mid new → CountsTold c o (skip ∷ []) old new
+told_of_one c o skip old mid new first second p =
+    let e = other_end p in
+    let a = end_of skip.pair.0 true in
+    let b = end_of skip.pair.0 false in
+    let read : ℕ = slice_index_or old (place_in e) 0 in
+    second (place_in e)
+    ∙ ap (λ (n : ℕ). n + (if (owner_of c b == o) && (place_in e == place_in b) then 1 else 0)) (first (place_in e))
+    ∙ ap (λ (v : Bool). read + (if (owner_of c a == o) && (place_in e == place_in a) then 1 else 0) + (if v then 1 else 0)) (same_at c o b e)
+    ∙ ap (λ (v : Bool). read + (if v then 1 else 0) + (if (owner_of c e == o) && is_end b e then 1 else 0)) (same_at c o a e)
+    ∙ add_assoc read _ _
+    ∙ ap (λ (n : ℕ). read + n) (one_of_two (owner_of c e == o) (skip.pair.0 == e.pair.0) e.a
+    ∙ ap (λ (n : ℕ). if owner_of c e == o then n else 0) (told_one (skip.pair.0 == e.pair.0) skip))
+  where
+    add_assoc : (x y z : ℕ) → (x + y) + z ≡ x + (y + z)
+    add_assoc x y z = omega arith
+
+-- ---- drops in order
+
+told_both : (c : Control) (o : ℕ) (p : PipeId) (xs ys : List Skip) → drops_told c o p (xs ++ ys) ≡ drops_told c o p xs + drops_told c o p ys
+told_both c o p xs ys = by (owner_of c (other_end p) == o)
+  where
+    by : (b : Bool) → (if b then length (filter (is_told_of p) (xs ++ ys)) else 0) ≡ (if b then length (filter (is_told_of p) xs) else 0) + (if b then length (filter (is_told_of p) ys) else 0)
+    by true = ap length (filter-append (is_told_of p) xs ys) ∙ length-append (filter (is_told_of p) xs) (filter (is_told_of p) ys)
+    by false = refl
+
+none_told : (c : Control) (o : ℕ) (p : PipeId) → 0 ≡ drops_told c o p []
+none_told c o p = by (owner_of c (other_end p) == o)
+  where
+    by : (b : Bool) → ◌≡◌ {A = ℕ} 0 (if b then 0 else 0)
+    by true = refl
+    by false = refl
+
+pub told_none : (c : Control) (o : ℕ) (told : List Skip) (before : ℕ) (old : List ℕ) → CountsTold c o (take (before - before) (drop before told)) old old
+told_none c o told before old p =
+    let none : before - before ≡ 0 = omega arith in
+    none_more (drops_in old p) ∙ ap (λ (n : ℕ). drops_in old p + n) (none_told c o p ∙ ap (λ (k : ℕ). drops_told c o p (take k (drop before told))) (sym none))
+
+pub told_more : (c : Control) (o : ℕ) (told : List Skip) (before place : ℕ) (d : Skip) (old mid new : List ℕ) → before ≤ place → place < length told
+    → CountsTold c o (take (place - before) (drop before told)) old mid → CountsTold c o (slice_index_or told place d ∷ []) mid new → CountsTold c o (take (place + 1 - before) (drop before told)) old new
+told_more c o told before place d old mid new from lt first one p =
+    let rest : List Skip = drop before told in
+    let k : ℕ = place - before in
+    let at : before + k ≡ place = omega (arith, from) in
+    let next : k + 1 ≡ place + 1 - before = omega (arith, from) in
+    let many = length-drop before told in
+    let few : k < length rest = omega (arith, from, lt, many) in
+    let read : slice_index_or rest k d ≡ slice_index_or told place d = get_or-drop before told k d ∙ ap (λ (i : ℕ). slice_index_or told i d) at in
+    one p ∙ ap (λ (n : ℕ). n + drops_told c o p (slice_index_or told place d ∷ [])) (first p) ∙ add_assoc (drops_in old p) _ _
+    ∙ ap (λ (n : ℕ). drops_in old p + n) (sym (told_both c o p (take k rest) (slice_index_or told place d ∷ []))
+    ∙ ap (λ (s : Skip). drops_told c o p (take k rest ++ s ∷ [])) (sym read) ∙ ap (drops_told c o p) (sym (take_more rest k d few)) ∙ ap (λ (i : ℕ). drops_told c o p (take i rest)) next)
+  where
+    add_assoc : (x y z : ℕ) → (x + y) + z ≡ x + (y + z)
+    add_assoc x y z = omega arith
+
+pub told_all : (c : Control) (o : ℕ) (told : List Skip) (before place : ℕ) (old new : List ℕ) → place ≡ length told → CountsTold c o (take (place - before) (drop before told)) old new
+    → CountsTold c o (drop before told) old new
+told_all c o told before place old new end counts =
+    subst (λ (l : List Skip). CountsTold c o l old new) (ap (λ (n : ℕ). take (n - before) (drop before told)) end ∙ take_rest told before) counts

@@ -1,0 +1,14 @@
+pub mod Telling
+pub mod Leaving
+pub mod Sound
+pub mod Fresh
+pub mod Agreeing
+pub mod Making
+pub mod Lending
+pub mod Calling
+pub mod CallLaws
+pub mod Reaping
+pub mod Letters
+pub mod Settled
+pub mod Ending
+pub mod Dropped

@@ -1,0 +1,48 @@
+ghost use Rattle.std.specs.Prelude.{◌≡◌, ◌^◌, IfOk};
+ghost use Rattle.spec_run.specs.ControlAnswer.{refusal_answer, reply_answer};
+
+use spec_control::{Refusal, Reply};
+use spec_run::{Answer, LineAnswer};
+use std::alloc::AllocError;
+
+// One less than how many callers there may be.
+const LAST_CALLER: usize = 0xffff_ffff;
+
+/// The number by which a desk knows a caller. There is no room for more callers.
+pub(crate) fn number_of(caller: usize) -> Result<u32, AllocError>
+    ensures { IfOk result (λ number. number ≡ caller) }
+{
+    if caller > LAST_CALLER {
+        return Err(AllocError);
+    }
+    Ok(caller as u32)
+}
+
+// What a line is answered whose request was refused.
+fn refusal_answer(refusal: Refusal) -> LineAnswer
+    ensures { result ≡ refusal_answer refusal }
+{
+    match refusal {
+        Refusal::Term => LineAnswer::Term,
+        Refusal::InUse => LineAnswer::Plain(Answer::InUse),
+        Refusal::NotBound => LineAnswer::NotBound,
+        Refusal::BadPair => LineAnswer::Plain(Answer::BadPair),
+        Refusal::TooMany => LineAnswer::Plain(Answer::TooMany),
+    }
+}
+
+/// What a line is answered whose request had this reply.
+pub(crate) fn reply_answer(reply: Reply) -> LineAnswer
+    ensures { result ≡ reply_answer reply }
+{
+    match reply {
+        Reply::Done => LineAnswer::Plain(Answer::Done),
+        Reply::Object(object) => LineAnswer::Plain(Answer::Object(object)),
+        Reply::Pair(pair) => LineAnswer::Plain(Answer::Pair(pair)),
+        Reply::Both(object, pair) => LineAnswer::Both(object, pair),
+        Reply::Wait => LineAnswer::Plain(Answer::Wait),
+        Reply::Asked => LineAnswer::Plain(Answer::Done),
+        Reply::Before => LineAnswer::Term,
+        Reply::Refused(refusal) => refusal_answer(refusal),
+    }
+}

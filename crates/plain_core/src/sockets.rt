@@ -1,0 +1,79 @@
+use crate::context::OneCore;
+use any_sock::AnySock;
+use end_table::HeldPipes;
+use sock_core::SockCore;
+use spec_pattern::Skip;
+use spec_run::{LineAnswer, LineCall};
+use std::alloc::{AllocError, AllocFailed, Global};
+use zq_base::{Kind, Options};
+use zq_world::{Letters, Made, Sockets};
+
+impl<P> Sockets<P> for OneCore<P>
+where
+    P: HeldPipes,
+{
+    ghost use Rattle.plain_core.specs.Agreeing.{as_open, was_made, Agrees};
+    ghost use Rattle.plain_core.specs.Sound.{pieces_in};
+
+    type Open = Option<SockCore<AnySock, P::Waker, P::Name, P::Out, P::In>>;
+
+    ghost pieces = { λ w. pieces_in w };
+
+    ghost as_open = { λ s. as_open s };
+
+    ghost agrees = { λ w k s. Agrees P.Waker P.known w k s };
+
+    ghost was_made = { λ w o. was_made w o };
+
+    fn make(
+        &mut self,
+        alloc: Global,
+        caller: usize,
+        kind: Kind,
+        options: &Options,
+    ) -> Result<Made<Self::Open>, AllocError> {
+        OneCore::make(self, alloc, caller, kind, options)
+    }
+
+    fn call(
+        &mut self,
+        alloc: Global,
+        caller: usize,
+        socket: &mut Self::Open,
+        line: &LineCall,
+        told: &mut Vec<Skip>,
+    ) -> Result<LineAnswer, AllocError> {
+        OneCore::call(self, alloc, caller, socket, line, told)
+    }
+
+    fn close(
+        &mut self,
+        alloc: Global,
+        caller: usize,
+        socket: Self::Open,
+    ) -> Result<(), AllocFailed<Self::Open>> {
+        OneCore::close(self, alloc, caller, socket)
+    }
+
+    fn term(&mut self, alloc: Global, caller: usize) -> Result<LineAnswer, AllocError> {
+        OneCore::term(self, alloc, caller)
+    }
+}
+
+impl<P> Letters<P> for OneCore<P>
+where
+    P: HeldPipes,
+{
+    fn mailbox(&self, socket: &Self::Open) -> usize {
+        OneCore::mailbox(self, socket)
+    }
+
+    fn fetch(
+        &mut self,
+        alloc: Global,
+        caller: usize,
+        socket: &mut Self::Open,
+    ) -> Result<(), AllocError> {
+        OneCore::fetch(self, alloc, caller, socket)
+    }
+}

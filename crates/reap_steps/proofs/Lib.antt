@@ -1,4 +1,0 @@
-mod ReadLemmas
-mod GoLemmas
-mod RestLemmas
-mod DoneLemmas

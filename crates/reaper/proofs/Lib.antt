@@ -1,0 +1,5 @@
+pub mod LookLemmas
+mod ReadLemmas
+mod GoLemmas
+mod RestLemmas
+mod DoneLemmas

@@ -1,5 +1,0 @@
-use Rattle.reaper_ends.proofs.LawLemmas.{closed_sound}
-use Rattle.reaper_ends.proofs.laws.closed_ends_stay.Goals as goal
-
-pub returns : goal.returns
-returns g c = closed_sound g.P.Pipes.known

@@ -1,5 +1,0 @@
-use Rattle.reaper_ends.proofs.LawLemmas.{given_stay}
-use Rattle.reaper_ends.proofs.laws.given_ends_stay.Goals as goal
-
-pub returns : goal.returns
-returns g c = given_stay g.P.Pipes.known

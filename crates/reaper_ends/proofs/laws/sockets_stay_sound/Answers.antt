@@ -1,5 +1,0 @@
-use Rattle.reaper_ends.proofs.LawLemmas.{sockets_sound}
-use Rattle.reaper_ends.proofs.laws.sockets_stay_sound.Goals as goal
-
-pub returns : goal.returns
-returns g c = sockets_sound g.P.Pipes.known

@@ -1,9 +1,0 @@
-use Rattle.session_life.proofs.LifeLemmas.{gives_not, gives_now}
-use Rattle.session_life.proofs.life.Life.give_up_due.Goals as goal
-
-pub returns-then-not-linger_is_over-clause-does : goal.returns-then-not-linger_is_over-clause-does
-returns-then-not-linger_is_over-clause-does c = gives_not c.args.self.now c.args.now (c.linger_is_over.ensures.no c.if-not-linger_is_over.true)
-
-pub returns-clause-does : goal.returns-clause-does
-returns-clause-does c =
-    gives_now c.args.self.now c.ask_linger.new.self c.args.now c.if-before.false (c.linger_is_over.ensures.yes c.if-not-linger_is_over.false) c.ask_linger.ensures.does

@@ -1,9 +1,0 @@
-pub use Rattle.spec_link.specs.History
-pub use Rattle.spec_link.specs.Listening
-pub mod Accepts
-pub mod Lives
-pub mod LifeView
-pub mod LifeSteps
-pub mod Reading
-pub mod Dues
-pub mod TopicSteps

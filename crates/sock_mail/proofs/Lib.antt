@@ -1,4 +1,0 @@
-pub mod LentLemmas
-pub mod StopLemmas
-pub mod CallLemmas
-pub mod SteadyLemmas

@@ -1,3 +1,0 @@
-pub mod ViewLemmas
-pub mod KindLemmas
-pub mod LookLemmas

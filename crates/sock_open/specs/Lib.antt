@@ -1,4 +1,0 @@
-pub mod View
-pub mod Standing
-pub mod Doing
-pub mod Looking

@@ -1,5 +1,0 @@
-use Rattle.zq_tests_sessions.proofs.CallLemmas.{gone_state}
-use Rattle.zq_tests_sessions.proofs.calls.gone_session.Goals as goal
-
-pub returns-clause-state : goal.returns-clause-state
-returns-clause-state c = gone_state _ c.connecting-session.result c.set_state.new.self c.connecting-session.ensures.lived c.set_state.ensures.happens

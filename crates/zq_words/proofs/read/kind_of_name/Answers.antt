@@ -1,7 +1,0 @@
-use Rattle.std.proofs.Common.{◌∙◌, ap}
-use Rattle.zq_words.specs.Words.{kind_of_name}
-use Rattle.zq_words.proofs.WordsLemmas.{kind_read}
-use Rattle.zq_words.proofs.read.kind_of_name.Goals as goal
-
-pub returns : goal.returns
-returns c = kind_read _ _ c.read.ensures.some c.read.ensures.none ∙ ap kind_of_name c.as_bytes.ensures.value

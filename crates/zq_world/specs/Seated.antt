@@ -1,0 +1,20 @@
+-- What a socket line made, as its actor has it and as the line is answered (own choice).
+use Rattle.spec_run.specs.declared.texts.Answer.TheVariants as answer
+use Rattle.spec_run.specs.declared.journal.LineAnswer.{LineAnswer}
+use Rattle.spec_run.specs.declared.journal.LineAnswer.TheVariants.{Plain}
+use Rattle.spec_run.specs.ControlAnswer.{refusal_answer}
+use Rattle.zq_world.specs.declared.made.Made.{Made}
+use Rattle.zq_world.specs.declared.made.Made.TheVariants as made
+use Rattle.zq_world.specs.declared.seats.Seat.{Seat}
+use Rattle.zq_world.specs.declared.seats.Seat.TheVariants as seat
+
+module _ {O : Type 0} where
+  -- its seat
+  abbrev pub seat_made : Made O → Seat O
+  seat_made (made.Socket object socket) = seat.Open object socket
+  seat_made (made.Refused refusal) = seat.Refused
+
+  -- its answer
+  abbrev pub answer_made : Made O → LineAnswer
+  answer_made (made.Socket object socket) = Plain (answer.Object object)
+  answer_made (made.Refused refusal) = refusal_answer refusal
