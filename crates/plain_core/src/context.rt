@@ -13,7 +13,8 @@ use spec_run::{RunActor, RunJournal};
 use std::alloc::{AllocError, Global};
 use std::marker::Model;
 use zq_base::Log;
-use zq_world::{Event, PieceMark, Tale, play_events};
+use zq_base::Tale;
+use zq_world::{Event, PieceMark, play_events};
 
 /// A context on one thread, with one I/O worker, and the pipes of its sockets.
 #[derive(Drop)]

@@ -19,7 +19,8 @@ use std::alloc::{AllocError, AllocFailed, Global};
 use std::mem;
 use std::snapshot::Snapshot;
 use zq_base::Log;
-use zq_world::{PieceMark, Tale};
+use zq_base::Tale;
+use zq_world::PieceMark;
 
 /// Makes the call of a line on the socket that is lent, and tells it.
 fn call_told<P>(

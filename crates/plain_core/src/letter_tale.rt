@@ -14,7 +14,8 @@ use sock_core::SockCore;
 use std::alloc::{AllocError, Global};
 use std::mem;
 use zq_base::Log;
-use zq_world::{PieceMark, Tale, Tells};
+use zq_base::{Tale, Tells};
+use zq_world::PieceMark;
 
 /// A letter that was taken for a lent socket.
 #[derive(Drop)]

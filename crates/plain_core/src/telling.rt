@@ -10,7 +10,8 @@ use spec_pattern::Skip;
 use spec_run::{LineAnswer, LineCall};
 use std::snapshot::Snapshot;
 use zq_base::Log;
-use zq_world::{PieceMark, Tells};
+use zq_base::Tells;
+use zq_world::PieceMark;
 
 /// A call of a caller that is one item and no step at a pipe.
 #[derive(Drop)]

@@ -15,5 +15,4 @@ pub mod Seats
 pub mod Stepping
 pub mod Taking
 pub mod Seated
-pub mod Told
 pub mod Marks

@@ -25,7 +25,6 @@ mod script;
 mod seats;
 mod sockets;
 mod steps;
-mod tale;
 mod tale_laws;
 mod world;
 
@@ -43,6 +42,5 @@ pub use play::run;
 pub use script::play_script;
 pub use sockets::Sockets;
 pub use steps::Steps;
-pub use tale::{Tale, Tells};
 pub use tale_laws::{tales_go_on, tales_tell_all};
 pub use world::{World, play_events};

@@ -1,6 +1,6 @@
 ghost use Rattle.std.specs.Prelude.{◌≡◌, List, [], ◌++◌};
 ghost use Rattle.std.specs.Borrow.{ftrue};
-ghost use Rattle.zq_world.specs.Told.{TellsSome, TellsMore};
+ghost use Rattle.zq_base.specs.Told.{TellsSome, TellsMore};
 
 use std::marker::{Model, PhantomData};
 
@@ -22,6 +22,9 @@ pub struct Tale<X> {
 impl<X> Model for Tale<X> {
     ghost also_owns = { λ _. ftrue };
 }
+
+// It owns nothing.
+unsafe impl<X: Send> Send for Tale<X> {}
 
 impl<X> Tale<X> {
     /// Nothing is told yet.

@@ -29,11 +29,11 @@ use denote.Triple.Table.{entered}
 use denote.Triple.Walked.{says, Stays, walk_of, ends_at, walk_Meets}
 use Rattle.std.specs.contracts.marker.PhantomData as Mark
 use Rattle.bytes.proofs.Walks.{none, one, one_made}
-use Rattle.zq_world.specs.contracts.tale.Tale as Tale
-use Rattle.zq_world.specs.contracts.tale.Tale.new as F
-use Rattle.zq_world.specs.contracts.tale.Tale.new.Key.{name as #self}
-use Rattle.zq_world.proofs.tale.Tale.new.Statement as stated
-use Rattle.zq_world.proofs.tale.Tale.new.Code as code
+use Rattle.zq_base.specs.contracts.tale.Tale as Tale
+use Rattle.zq_base.specs.contracts.tale.Tale.new as F
+use Rattle.zq_base.specs.contracts.tale.Tale.new.Key.{name as #self}
+use Rattle.zq_base.proofs.tale.Tale.new.Statement as stated
+use Rattle.zq_base.proofs.tale.Tale.new.Code as code
 
 module _ (X : RattleType) where
   abbrev args : Args

@@ -33,13 +33,13 @@ use denote.Triple.Table.{entered}
 use denote.Triple.Walked.{says, Stays, stay_dropped, walk_of, ends_at, walk_Meets, Goes-dropped}
 use Rattle.std.specs.contracts.marker.PhantomData as Mark
 use Rattle.bytes.proofs.Walks.{none, one, one_made}
-use Rattle.zq_world.specs.declared.tale.Tells as Tells
-use Rattle.zq_world.specs.contracts.tale.Tale as Tale
-use Rattle.zq_world.specs.contracts.tale.Tale.and as F
-use Rattle.zq_world.specs.contracts.tale.Tale.and.Key.{name as #self}
-use Rattle.zq_world.proofs.tale.Tale.and.Statement as stated
-use Rattle.zq_world.proofs.tale.Tale.and.Code as code
-use Rattle.zq_world.specs.Told.{TellsSome}
+use Rattle.zq_base.specs.declared.tale.Tells as Tells
+use Rattle.zq_base.specs.contracts.tale.Tale as Tale
+use Rattle.zq_base.specs.contracts.tale.Tale.and as F
+use Rattle.zq_base.specs.contracts.tale.Tale.and.Key.{name as #self}
+use Rattle.zq_base.proofs.tale.Tale.and.Statement as stated
+use Rattle.zq_base.proofs.tale.Tale.and.Code as code
+use Rattle.zq_base.specs.Told.{TellsSome}
 
 module _ (X W : RattleType) (t : Tells.Ghosts W.Denot X.Denot) (d : Dict) where
   abbrev args : Args
