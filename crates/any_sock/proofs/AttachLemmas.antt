@@ -12,7 +12,7 @@ use Rattle.spec_pattern.specs.TurnList.{End}
 use Rattle.spec_pattern.specs.Routing.{drawn_name}
 use Rattle.spec_pattern.specs.Topics.{Topic}
 use Rattle.spec_pattern.specs.Pattern as by_kind
-use Rattle.by_turn.specs.BothTurns.{Both, with_turns}
+use Rattle.msg_pipe.specs.BothTurns.{Both, with_turns}
 use Rattle.push_pull.specs.OnePeer as one_peer
 use Rattle.req_rep.specs.Asking.{ReqState, asked_duty}
 use Rattle.req_rep.specs.Answering.{RepState, owed_duty}

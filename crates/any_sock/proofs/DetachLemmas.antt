@@ -15,7 +15,7 @@ use Rattle.spec_pattern.specs.Pattern.{without, duty_without}
 use Rattle.spec_pattern.specs.Pattern as by_kind
 use Rattle.spec_pattern.specs.Peers.{in_turns}
 use Rattle.msg_pipe.specs.Turns.{without_place}
-use Rattle.by_turn.specs.BothTurns.{Both, without_turns}
+use Rattle.msg_pipe.specs.BothTurns.{Both, without_turns}
 use Rattle.req_rep.specs.Partners.{without_partner}
 use Rattle.req_rep.specs.Asking.{ReqState, asked_duty}
 use Rattle.req_rep.specs.Answering.{RepState, owed_duty}

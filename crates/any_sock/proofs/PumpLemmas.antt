@@ -8,7 +8,7 @@ use Rattle.spec_pattern.specs.TurnList.{End}
 use Rattle.std.proofs.lemmas.List.{map-append}
 use Rattle.std.specs.Map.{keys_of}
 use Rattle.spec_pattern.specs.Topics.{Topic}
-use Rattle.by_turn.specs.Calls as by_turn
+use Rattle.spec_pattern.specs.AtPlaces as places
 use Rattle.pub_sub.specs.Places.{TellsOf, subs_at, is_place}
 use Rattle.pub_sub.specs.Subscribing.{SubState, subscriber_at, TellsPeers, StopsTelling}
 use Rattle.pub_sub.specs.Hearing.{HearsPeers, StopsHearing}
@@ -68,7 +68,7 @@ module _ {S : Type 0} (runs : S → List PipeStep → S → Type 0) (ends : ℕ 
   })
 
 -- what is told of all places is told of the peers
-pub told_followers : (can_write : End → Bool) (ends : ℕ → End) (writable : ℕ → Bool) (u : SubState) → by_turn.Tells can_write ends writable (u.ins ++ keys_of u.followers)
+pub told_followers : (can_write : End → Bool) (ends : ℕ → End) (writable : ℕ → Bool) (u : SubState) → places.TellsWritable can_write ends writable (u.ins ++ keys_of u.followers)
     → TellsOf can_write ends writable (keys_of u.followers)
 told_followers can_write ends writable u all q there =
     let P = λ (k : ℕ). can_write (ends k) ≡ writable k in
@@ -77,7 +77,7 @@ told_followers can_write ends writable u all q there =
 module _ {S : Type 0} (runs : S → List PipeStep → S → Type 0) (ends : ℕ → End) (writable : ℕ → Bool) (old new : S) (u u' : SubState) where
   -- some were told
   pub told_some : (x : StopsTelling runs ends writable old new u u')
-      → ToldSome (λ can_write. by_turn.Tells can_write ends writable (u.ins ++ keys_of u.followers)) (subscriber_at ends u) (x.stops.tells.steps ++ x.stops.telling.steps) (subscriber_at ends u')
+      → ToldSome (λ can_write. places.TellsWritable can_write ends writable (u.ins ++ keys_of u.followers)) (subscriber_at ends u) (x.stops.tells.steps ++ x.stops.telling.steps) (subscriber_at ends u')
   told_some x = (
     subs_at ends u'.followers,
     (λ w reads. record {

@@ -20,8 +20,8 @@ use Rattle.spec_pattern.specs.declared.answers.RecvAnswer.{RecvAnswer}
 use Rattle.spec_pattern.specs.declared.answers.RecvAnswer.TheVariants as got
 use Rattle.spec_pattern.specs.declared.answers.RecvFault.TheVariants as fault
 use Rattle.spec_pattern.specs.Peers.{partner_of}
-use Rattle.by_turn.specs.Calls.{Receives}
-use Rattle.by_turn.specs.BothTurns.{Both}
+use Rattle.spec_pattern.specs.AtPlaces.{Receives}
+use Rattle.msg_pipe.specs.BothTurns.{Both}
 use Rattle.req_rep.specs.Partners.{end_of}
 use Rattle.req_rep.specs.Asking.{ReqState, ReqGot, ReqStopped, asked_duty}
 use Rattle.req_rep.specs.Answering.{RepState, RepGot, RepStopped, owed_duty}

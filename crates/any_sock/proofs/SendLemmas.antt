@@ -13,8 +13,8 @@ use Rattle.spec_pattern.specs.Results.{SendResult, MatchSend, IfBack, answer_of}
 use Rattle.spec_pattern.specs.declared.answers.SendAnswer.{SendAnswer}
 use Rattle.spec_pattern.specs.declared.answers.SendAnswer.TheVariants as sent
 use Rattle.spec_pattern.specs.declared.answers.SendFault.TheVariants as send
-use Rattle.by_turn.specs.Calls.{Sends, Tells}
-use Rattle.by_turn.specs.BothTurns.{Both}
+use Rattle.spec_pattern.specs.AtPlaces.{Sends, TellsWritable}
+use Rattle.msg_pipe.specs.BothTurns.{Both}
 use Rattle.req_rep.specs.Asking.{ReqState, ReqSent, asked_duty}
 use Rattle.req_rep.specs.Answering.{RepState, RepSent, TellsPartner, owed_duty}
 use Rattle.req_rep.specs.declared.partner.Partner.{Partner}
@@ -67,7 +67,7 @@ told_named P (n ∷ names) all name place e = by (bytes_eq name n.name) e (λ h.
     by false h rest = rest h
 
 -- what is told of a partner's place
-pub told_partner : (can_write : End → Bool) (ends : ℕ → End) (writable : ℕ → Bool) (p : Partner) → Tells can_write ends writable (partner_place p) → TellsPartner can_write ends writable p
+pub told_partner : (can_write : End → Bool) (ends : ℕ → End) (writable : ℕ → Bool) (p : Partner) → TellsWritable can_write ends writable (partner_place p) → TellsPartner can_write ends writable p
 told_partner can_write ends writable Nobody all = tt
 told_partner can_write ends writable (At place) all = All-head (λ k. can_write (ends k) ≡ writable k) place [] all
 told_partner can_write ends writable Gone all = tt
@@ -191,7 +191,7 @@ module _ {S : Type 0} (runs : S → List PipeStep → S → Type 0) (ends : ℕ 
   -- what was said was obeyed, and wasn't told whole
   says_some : (saying : Saying) → SaysUntold runs ends writable saying old new u u'
       → (steps : List PipeStep) × (runs old steps new)
-      × SaysSome (λ can_write. Tells can_write ends writable (u.ins ++ keys_of u.followers)) saying (subscriber_at ends u) steps (subscriber_at ends u')
+      × SaysSome (λ can_write. TellsWritable can_write ends writable (u.ins ++ keys_of u.followers)) saying (subscriber_at ends u) steps (subscriber_at ends u')
   says_some (Adds topic) x =
       let v = wanting (wanted_by Subscribe topic u.wanted) u in
       (steps_told runs ends writable old new v u' x.stops, runs_told runs ends writable old new v u' on x.stops, (x.made, told_some runs ends writable old new v u' x.stops))

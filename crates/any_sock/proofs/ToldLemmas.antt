@@ -20,7 +20,7 @@ use Rattle.pub_sub.specs.Known.{AreKnown}
 use Rattle.pub_sub.specs.Places.{subs_at, is_place}
 use Rattle.pub_sub.specs.Publishers.{PubState, publisher_at, resumed, meant, obeyed}
 use Rattle.pub_sub.specs.Subscribing.{SubState, subscriber_at}
-use Rattle.by_turn.specs.BothTurns.{Both}
+use Rattle.msg_pipe.specs.BothTurns.{Both}
 use Rattle.pub_sub.proofs.KnownLemmas.{place_of_all, all_heard}
 use Rattle.pub_sub.proofs.HearLemmas.{keys_of-meant}
 use Rattle.any_sock.specs.Over.{over, both_at}

@@ -11,7 +11,7 @@ use Rattle.spec_pattern.specs.declared.answers.SendAnswer.{SendAnswer}
 use Rattle.spec_pattern.specs.declared.answers.RecvAnswer.{RecvAnswer}
 use Rattle.spec_pattern.specs.declared.answers.Skip.{Skip}
 use Rattle.router_dealer.specs.Named.{Kept, GivesKept}
-use Rattle.by_turn.specs.Calls.{Tells}
+use Rattle.spec_pattern.specs.AtPlaces.{TellsWritable}
 use Rattle.pub_sub.specs.Places.{AreApart}
 use Rattle.pub_sub.specs.declared.change_fault.ChangeFault as followed
 use Rattle.pub_sub.specs.declared.change_fault.ChangeFault.TheVariants as follow
@@ -81,7 +81,7 @@ module _ {S : Type 0} (runs : S → List PipeStep → S → Type 0) (ends : ℕ 
   pub record SaidUntold (writable : ℕ → Bool) (m : Frames) (old new : S) (s s' : AnySock) : Type 0 where
     pub steps : List PipeStep
     pub runs_are : runs old steps new
-    pub step : StopsSend (λ can_write. Tells can_write ends writable (peer_places s)) m (over ends s) steps (over ends s')
+    pub step : StopsSend (λ can_write. TellsWritable can_write ends writable (peer_places s)) m (over ends s) steps (over ends s')
 
   -- ---- receiving
 
@@ -131,7 +131,7 @@ module _ {S : Type 0} (runs : S → List PipeStep → S → Type 0) (ends : ℕ 
   pub record PumpStopped (writable : ℕ → Bool) (old new : S) (s s' : AnySock) : Type 0 where
     pub steps : List PipeStep
     pub runs_are : runs old steps new
-    pub step : AreApart ends (peer_places s) → StopsPump (λ can_write. Tells can_write ends writable (peer_places s))
+    pub step : AreApart ends (peer_places s) → StopsPump (λ can_write. TellsWritable can_write ends writable (peer_places s))
         (over ends (caught_up ends s)) steps (over ends (caught_up ends s'))
 
   -- ---- topics
@@ -147,4 +147,4 @@ module _ {S : Type 0} (runs : S → List PipeStep → S → Type 0) (ends : ℕ 
   pub record ChangeUntold (writable : ℕ → Bool) (change : Change) (topic : Topic) (old new : S) (s s' : AnySock) : Type 0 where
     pub steps : List PipeStep
     pub runs_are : runs old steps new
-    pub step : StopsChange (λ can_write. Tells can_write ends writable (peer_places s)) change topic (over ends s) steps (over ends s')
+    pub step : StopsChange (λ can_write. TellsWritable can_write ends writable (peer_places s)) change topic (over ends s) steps (over ends s')

@@ -5,7 +5,7 @@ use Rattle.zq_base.specs.Message.{Frames}
 use Rattle.spec_pattern.specs.TurnList.{End}
 use Rattle.spec_pattern.specs.Pattern.{BothTurns}
 use Rattle.spec_pattern.specs.Pattern as by_kind
-use Rattle.by_turn.specs.Calls.{Tells}
+use Rattle.spec_pattern.specs.AtPlaces.{TellsWritable}
 use Rattle.req_rep.specs.Asking.{asked_duty}
 use Rattle.req_rep.specs.Answering.{owed_duty}
 use Rattle.req_rep.specs.declared.partner.Partner.{Partner}
@@ -102,6 +102,6 @@ as_received ends s = s
 
 -- the test says of the end at each place that the socket keeps whether it can be written, and no two of its peers have one end
 pub record IsReadingOf (can_write : End → Bool) (ends : ℕ → End) (writable : ℕ → Bool) (s : AnySock) : Type 0 where
-  pub peers : Tells can_write ends writable (peer_places s)
-  pub partner : Tells can_write ends writable (partner_places s)
+  pub peers : TellsWritable can_write ends writable (peer_places s)
+  pub partner : TellsWritable can_write ends writable (partner_places s)
   pub apart : AreApart ends (peer_places s)

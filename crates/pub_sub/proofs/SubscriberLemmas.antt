@@ -34,7 +34,7 @@ use Rattle.spec_pattern.specs.declared.answers.RecvFault.{RecvFault}
 use Rattle.spec_pattern.specs.declared.answers.RecvFault.TheVariants as recv
 use Rattle.spec_pattern.specs.declared.answers.RecvAnswer.{RecvAnswer}
 use Rattle.spec_pattern.specs.declared.answers.RecvAnswer.TheVariants as got
-use Rattle.by_turn.specs.Dropping.{receiving, DropsFew, ReceivesOver, MatchDropping}
+use Rattle.spec_pattern.specs.Dropping.{receiving, DropsFew, ReceivesOver, MatchDropping}
 use Rattle.sub_table.specs.Telling.{WantsAlike}
 use Rattle.sub_table.proofs.GoneLemmas.{others-left}
 use Rattle.msg_pipe.specs.Turns.{without_place}

@@ -18,7 +18,7 @@ use Rattle.spec_pattern.specs.declared.answers.SendAnswer.TheVariants as sent
 use Rattle.spec_pattern.specs.declared.answers.SendFault.TheVariants as send
 use Rattle.spec_pattern.specs.declared.answers.SendRefusal.TheVariants.{TooLarge}
 use Rattle.spec_pattern.specs.declared.answers.Sent.{Sent}
-use Rattle.by_turn.specs.Calls.{Receives}
+use Rattle.spec_pattern.specs.AtPlaces.{Receives}
 use Rattle.pub_sub.specs.Places.{subs_at, TellsOf}
 use Rattle.pub_sub.specs.Many.{SendsMany}
 use Rattle.pub_sub.specs.Subscribing.{SubState, subscriber_at, MatchChange, ChangesAt}

@@ -12,7 +12,7 @@ use Rattle.spec_pattern.specs.declared.answers.Rule.TheVariants.{Filtered}
 use Rattle.spec_pattern.specs.declared.answers.Skip.{Skip}
 use Rattle.spec_pattern.specs.declared.answers.RecvAnswer.{RecvAnswer}
 use Rattle.msg_pipe.specs.Turns.{without_place}
-use Rattle.by_turn.specs.Dropping.{receiving, DropsFew}
+use Rattle.spec_pattern.specs.Dropping.{receiving, DropsFew}
 use Rattle.pub_sub.specs.Notes.{IsTopic}
 use Rattle.pub_sub.specs.Places.{subs_at, is_place, AreApart, TellsOf}
 use Rattle.pub_sub.specs.Telling.{IsFollower, IsTold}

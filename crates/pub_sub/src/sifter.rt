@@ -1,4 +1,4 @@
-use by_turn::Sieve;
+use fair_queue::Sieve;
 use sub_table::Wanted;
 use zq_base::{Message, PairId};
 

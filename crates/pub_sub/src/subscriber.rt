@@ -11,7 +11,7 @@ use crate::change_fault::ChangeFault;
 use crate::follower::Follower;
 use crate::followers::{find, note_all, tell_all};
 use crate::sifter::Sifter;
-use by_turn::receive_dropping;
+use fair_queue::receive_dropping;
 use msg_pipe::{Peers, Turns};
 use spec_pattern::{RecvFault, Rule, Skip};
 use std::alloc::{AllocError, Global};

@@ -15,7 +15,7 @@ use crate::many::{push_open, send_to_many};
 use crate::saying::{Saying, saying_of};
 use crate::subscriber::Subscriber;
 use crate::xsend_fault::{XSendFault, passed_on};
-use by_turn::receive_by_turn;
+use fair_queue::receive_by_turn;
 use msg_pipe::Peers;
 use spec_pattern::{RecvFault, Rule, SendRefusal, Sent};
 use std::alloc::{AllocError, Global};

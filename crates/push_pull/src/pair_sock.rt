@@ -3,10 +3,11 @@ ghost use Rattle.zq_base.specs.declared.kind.Kind.TheVariants.{Pair as PairKind}
 ghost use Rattle.spec_pattern.specs.Results.{MatchSend, MatchRecv, IfBack};
 ghost use Rattle.msg_pipe.specs.Turns.{without_place};
 ghost use Rattle.msg_pipe.specs.Places.{KeepsPlaces};
-ghost use Rattle.by_turn.specs.Calls.{Sends, Receives};
+ghost use Rattle.spec_pattern.specs.AtPlaces.{Sends, Receives};
 ghost use Rattle.push_pull.specs.OnePeer.{attach_answer, with_peer};
 
-use by_turn::{receive_by_turn, send_by_turn};
+use fair_queue::receive_by_turn;
+use load_balancer::send_by_turn;
 use msg_pipe::{Peers, Turns};
 use spec_pattern::{Attached, RecvFault, SendFault, Sent};
 use std::alloc::{AllocError, Global};

@@ -3,9 +3,9 @@ ghost use Rattle.zq_base.specs.declared.kind.Kind.TheVariants.{Pull as PullKind}
 ghost use Rattle.spec_pattern.specs.Results.{MatchSend, MatchRecv, IfBack};
 ghost use Rattle.msg_pipe.specs.Turns.{without_place};
 ghost use Rattle.msg_pipe.specs.Places.{KeepsPlaces};
-ghost use Rattle.by_turn.specs.Calls.{Sends, Receives};
+ghost use Rattle.spec_pattern.specs.AtPlaces.{Sends, Receives};
 
-use by_turn::receive_by_turn;
+use fair_queue::receive_by_turn;
 use msg_pipe::{Peers, Turns};
 use spec_pattern::{RecvFault, SendFault, SendRefusal, Sent};
 use std::alloc::{AllocError, Global};

@@ -3,9 +3,9 @@ ghost use Rattle.zq_base.specs.declared.kind.Kind.TheVariants.{Push as PushKind}
 ghost use Rattle.spec_pattern.specs.Results.{MatchSend, MatchRecv, IfBack};
 ghost use Rattle.msg_pipe.specs.Turns.{without_place};
 ghost use Rattle.msg_pipe.specs.Places.{KeepsPlaces};
-ghost use Rattle.by_turn.specs.Calls.{Sends, Receives};
+ghost use Rattle.spec_pattern.specs.AtPlaces.{Sends, Receives};
 
-use by_turn::send_by_turn;
+use load_balancer::send_by_turn;
 use msg_pipe::{Peers, Turns};
 use spec_pattern::{RecvFault, RecvRefusal, SendFault, Sent};
 use std::alloc::{AllocError, Global};

@@ -5,8 +5,8 @@ use Rattle.std.proofs.lemmas.List.Elements.{All-contains, All-contains_itself, A
 use Rattle.std.proofs.lemmas.List.Sorted.{Contains-permutation, IsPermutation-sym}
 use Rattle.zq_base.specs.Message.{Frames}
 use Rattle.msg_pipe.specs.Turns.{without_place}
-use Rattle.by_turn.specs.BothTurns.{Both, with_turns, without_turns}
-use Rattle.by_turn.proofs.DroppingLemmas.{in_the_middle}
+use Rattle.msg_pipe.specs.BothTurns.{Both, with_turns, without_turns}
+use Rattle.fair_queue.proofs.DroppingLemmas.{in_the_middle}
 use Rattle.req_rep.specs.Partners.{IsAt, IsReq, IsRep, is_nobody, without_partner}
 use Rattle.req_rep.specs.declared.partner.Partner.{Partner}
 use Rattle.req_rep.specs.declared.partner.Partner.TheVariants.{Nobody, At, Gone}

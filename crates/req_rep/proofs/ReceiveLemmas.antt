@@ -7,7 +7,7 @@ use Rattle.spec_pattern.specs.declared.answers.RecvFault.{RecvFault}
 use Rattle.spec_pattern.specs.declared.answers.RecvFault.TheVariants as recv
 use Rattle.spec_pattern.specs.declared.answers.RecvAnswer.{RecvAnswer}
 use Rattle.spec_pattern.specs.declared.answers.RecvAnswer.TheVariants as got
-use Rattle.by_turn.specs.Dropping.{MatchDropping}
+use Rattle.spec_pattern.specs.Dropping.{MatchDropping}
 
 pub MatchRecv-fault : (D memory : Type 0) (P : ℕ → Frames → Type 0) (Q : RecvRefusal → Type 0) (R : RecvAnswer → Type 0) (f : RecvFault)
     → (D → memory) → ((refusal : RecvRefusal) → Q refusal → R (got.Refused refusal)) → MatchDropping (Err f) D P Q → MatchRecv (Err f) memory R

@@ -18,8 +18,8 @@ use Rattle.spec_pattern.specs.declared.answers.SendAnswer.TheVariants as sent
 use Rattle.spec_pattern.specs.declared.answers.RecvRefusal.TheVariants.{Fsm}
 use Rattle.spec_pattern.specs.declared.answers.RecvAnswer.{RecvAnswer}
 use Rattle.spec_pattern.specs.declared.answers.RecvAnswer.TheVariants as got
-use Rattle.by_turn.specs.Dropping.{receiving, DropsFew, ReceivesOver}
-use Rattle.by_turn.proofs.DroppingLemmas.{DropsMore-none}
+use Rattle.spec_pattern.specs.Dropping.{receiving, DropsFew, ReceivesOver}
+use Rattle.fair_queue.proofs.DroppingLemmas.{DropsMore-none}
 use Rattle.req_rep.specs.Partners.{is_nobody}
 use Rattle.req_rep.specs.Answering.{RepState, RepSent, RepGot, RepStopped, TellsPartner, owed_duty}
 use Rattle.req_rep.specs.declared.partner.Partner.{Partner}

@@ -22,10 +22,10 @@ use Rattle.spec_pattern.specs.declared.answers.RecvAnswer.{RecvAnswer}
 use Rattle.spec_pattern.specs.declared.answers.RecvAnswer.TheVariants as got
 use Rattle.msg_pipe.proofs.TurnsLemmas.{All-front, All-middle}
 use Rattle.load_balancer.specs.LoadBalancer.{PutsNext, FindsFull, HasNoPeer, full_looks}
-use Rattle.by_turn.specs.Calls.{Sends}
-use Rattle.by_turn.specs.Dropping.{receiving, DropsFew, ReceivesOver}
-use Rattle.by_turn.proofs.EndsLemmas.{ends_around, ends_turned, filter-ends}
-use Rattle.by_turn.proofs.CallsLemmas.{Sends-none, Sends-peerless}
+use Rattle.spec_pattern.specs.AtPlaces.{Sends}
+use Rattle.spec_pattern.specs.Dropping.{receiving, DropsFew, ReceivesOver}
+use Rattle.spec_pattern.proofs.AtPlacesLemmas.{ends_around, ends_turned, filter-ends}
+use Rattle.load_balancer.proofs.SendingLemmas.{Sends-none, Sends-peerless}
 use Rattle.req_rep.specs.Partners.{end_of, is_nobody}
 use Rattle.req_rep.specs.Asking.{ReqState, ReqSent, ReqGot, ReqStopped, asked_duty, reply_by}
 use Rattle.req_rep.specs.declared.partner.Partner.{Partner}

@@ -9,7 +9,7 @@ use Rattle.spec_pattern.specs.declared.answers.Rule.TheVariants.{BadEnv}
 use Rattle.spec_pattern.specs.declared.answers.Skip.{Skip}
 use Rattle.spec_pattern.specs.declared.answers.SendAnswer.{SendAnswer}
 use Rattle.spec_pattern.specs.declared.answers.RecvAnswer.{RecvAnswer}
-use Rattle.by_turn.specs.Dropping.{receiving, DropsFew}
+use Rattle.spec_pattern.specs.Dropping.{receiving, DropsFew}
 use Rattle.req_rep.specs.declared.partner.Partner.{Partner}
 use Rattle.req_rep.specs.declared.partner.Partner.TheVariants.{Nobody, At, Gone}
 

@@ -12,8 +12,8 @@ use Rattle.spec_pattern.specs.declared.answers.Rule.TheVariants.{Stray}
 use Rattle.spec_pattern.specs.declared.answers.Skip.{Skip}
 use Rattle.spec_pattern.specs.declared.answers.SendAnswer.{SendAnswer}
 use Rattle.spec_pattern.specs.declared.answers.RecvAnswer.{RecvAnswer}
-use Rattle.by_turn.specs.Calls.{Tells}
-use Rattle.by_turn.specs.Dropping.{receiving, DropsFew}
+use Rattle.spec_pattern.specs.AtPlaces.{TellsWritable}
+use Rattle.spec_pattern.specs.Dropping.{receiving, DropsFew}
 use Rattle.req_rep.specs.Partners.{end_of}
 use Rattle.req_rep.specs.declared.partner.Partner.{Partner}
 use Rattle.req_rep.specs.declared.partner.Partner.TheVariants.{Nobody, At, Gone}
@@ -43,7 +43,7 @@ module _ {S : Type 0} (runs : S → List PipeStep → S → Type 0) (ends : ℕ 
   pub record ReqSent (writable : ℕ → Bool) (m : Frames) (old new : S) (r : ReqState) (answer : SendAnswer) (r' : ReqState) : Type 0 where
     pub steps : List PipeStep
     pub runs_are : runs old steps new
-    pub step : (can_write : End → Bool) → Tells can_write ends writable r.outs →
+    pub step : (can_write : End → Bool) → TellsWritable can_write ends writable r.outs →
         ReqSends can_write m (map ends r.outs) (asked_duty ends r.asked) steps answer (map ends r'.outs) (asked_duty ends r'.asked)
 
   -- the calls between the two states made the steps of a receive of the REQ, and what it dropped was told

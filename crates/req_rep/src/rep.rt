@@ -1,7 +1,7 @@
 use crate::envelope::put_before;
 use crate::partner::Partner;
 use crate::request::Envelope;
-use by_turn::receive_dropping;
+use fair_queue::receive_dropping;
 use msg_pipe::{Peers, PutIn, Turns};
 use spec_pattern::{RecvFault, RecvRefusal, Rule, SendFault, SendRefusal, Sent, Skip};
 use std::alloc::{AllocError, Global};

@@ -4,7 +4,7 @@ ghost use Rattle.spec_pattern.specs.Envelope.{behind_empty as behind_empty_of};
 ghost use Rattle.req_rep.specs.Partners.{end_of, IsAt};
 
 use crate::partner::Partner;
-use by_turn::Sieve;
+use fair_queue::Sieve;
 use msg_pipe::Peers;
 use zq_base::{Message, PairId};
 

@@ -2,10 +2,10 @@ ghost use Rattle.std.specs.Prelude.{◌≡◌, ◌<◌, length, drop};
 
 use crate::partner::Partner;
 use crate::reply::{Reply, pair_of};
-use by_turn::{BothTurns, receive_dropping};
 use bytes::Bytes;
+use fair_queue::receive_dropping;
 use load_balancer::{NextOut, next_out};
-use msg_pipe::Peers;
+use msg_pipe::{BothTurns, Peers};
 use spec_pattern::{RecvFault, RecvRefusal, Rule, SendFault, SendRefusal, Sent, Skip};
 use std::alloc::{AllocError, Global};
 use std::marker::Model;

@@ -1,5 +1,5 @@
 use crate::envelope::split;
-use by_turn::Sieve;
+use fair_queue::Sieve;
 use zq_base::{Frame, Message, PairId};
 
 /// What a REP gives: what stands behind the envelope of a message, which is kept here.

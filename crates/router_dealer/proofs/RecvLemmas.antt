@@ -11,7 +11,7 @@ use Rattle.spec_pattern.specs.declared.answers.RecvFault.{RecvFault}
 use Rattle.spec_pattern.specs.declared.answers.RecvFault.TheVariants as recv
 use Rattle.fair_queue.specs.FairQueue.{ReceivesByTurn}
 use Rattle.fair_queue.specs.declared.turn.NextIn.TheVariants as next
-use Rattle.by_turn.proofs.EndsLemmas.{ends_around, ends_turned}
+use Rattle.spec_pattern.proofs.AtPlacesLemmas.{ends_around, ends_turned}
 use Rattle.router_dealer.specs.PlaceNames.{AreApart, place_named}
 use Rattle.router_dealer.specs.Named.{RouterState, Kept, HasName, AreOwnOrDrawn, GivesHeld, GivesNamed, RouterGot, TakesNamed, ReceivesNamed}
 use Rattle.router_dealer.proofs.PlaceNamesLemmas.{named-names_at}

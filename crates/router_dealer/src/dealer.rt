@@ -2,11 +2,12 @@ ghost use Rattle.std.specs.Prelude.{◌≡◌, All, OnOk, OnErr, IsPermutation};
 ghost use Rattle.zq_base.specs.declared.kind.Kind.TheVariants.{Dealer as DealerKind};
 ghost use Rattle.spec_pattern.specs.Results.{MatchSend, MatchRecv, IfBack};
 ghost use Rattle.msg_pipe.specs.Places.{KeepsPlaces};
-ghost use Rattle.by_turn.specs.BothTurns.{no_turns, with_turns, without_turns};
-ghost use Rattle.by_turn.specs.Calls.{Sends, Receives};
+ghost use Rattle.msg_pipe.specs.BothTurns.{no_turns, with_turns, without_turns};
+ghost use Rattle.spec_pattern.specs.AtPlaces.{Sends, Receives};
 
-use by_turn::{BothTurns, receive_by_turn, send_by_turn};
-use msg_pipe::Peers;
+use fair_queue::receive_by_turn;
+use load_balancer::send_by_turn;
+use msg_pipe::{BothTurns, Peers};
 use spec_pattern::{RecvFault, SendFault, Sent};
 use std::alloc::{AllocError, Global};
 use std::marker::Model;
@@ -20,7 +21,7 @@ pub struct Dealer {
 }
 
 impl Model for Dealer {
-    ghost use Rattle.by_turn.specs.BothTurns.{Both};
+    ghost use Rattle.msg_pipe.specs.BothTurns.{Both};
 
     ghost Value = { Both };
 

@@ -28,7 +28,7 @@ use Rattle.pub_sub.specs.declared.xsend_fault.XSendFault.TheVariants as xfault
 use Rattle.any_sock.specs.declared.change_fault.ChangeFault.{ChangeFault}
 use Rattle.any_sock.specs.declared.change_fault.ChangeFault.TheVariants as cfault
 use Rattle.msg_pipe.specs.Known.{Known}
-use Rattle.by_turn.specs.Calls.{Tells}
+use Rattle.spec_pattern.specs.AtPlaces.{TellsWritable}
 use Rattle.pub_sub.specs.Places.{AreApart}
 use Rattle.pub_sub.specs.Publishers.{PubState, resumed}
 use Rattle.any_sock.specs.declared.any_sock.AnySock.{AnySock}
@@ -128,7 +128,7 @@ module _ {S N O I : Type 0} (K : Known S O I N) (old new : Lent S N O I) (whole 
     agree_new : (ends : ℕ → EndId) → IsNaming ends old.places → Agree ends (row_end old.rows) (peer_places new.kind)
     agree_new ends names = among (λ k. ends k ≡ row_end old.rows k) (peer_places old.kind) (peer_places new.kind) same.none_new (agree_old ends names)
 
-    tells : (test : EndId → Bool) → IsTest test old.places → Tells test (row_end old.rows) (row_open old.rows) (peer_places old.kind)
+    tells : (test : EndId → Bool) → IsTest test old.places → TellsWritable test (row_end old.rows) (row_open old.rows) (peer_places old.kind)
     tells = tests_agree K old.pipes old.rows old.places whole.sound (peer_places old.kind) whole.peers
 
     apart : AreApart (row_end old.rows) (peer_places old.kind)
@@ -158,7 +158,7 @@ module _ {S N O I : Type 0} (K : Known S O I N) (old new : Lent S N O I) (whole 
         says = λ ends names.
             both_named (λ p p'. StopsSend (λ test. IsTest test old.places) m p x.steps p') (over ends old.kind) (over ends new.kind) (over (row_end old.rows) old.kind) (over (row_end old.rows) new.kind)
             (was.state ends (row_end old.rows) (agree_old ends names)) (now.state ends (row_end old.rows) (agree_new ends names))
-            (send_stops_so (λ test. Tells test (row_end old.rows) (row_open old.rows) (peer_places old.kind)) (λ test. IsTest test old.places) tells m (over (row_end old.rows) old.kind) (over (row_end old.rows) new.kind) x.steps x.step);
+            (send_stops_so (λ test. TellsWritable test (row_end old.rows) (row_open old.rows) (peer_places old.kind)) (λ test. IsTest test old.places) tells m (over (row_end old.rows) old.kind) (over (row_end old.rows) new.kind) x.steps x.step);
       }
 
       pub changes_here : (change : Change) (topic : Topic) (answer : ChangeAnswer) → ChangedOver runs (row_end old.rows) (row_open old.rows) change topic from to old.kind answer new.kind → ChangesHere K change topic old answer new
@@ -177,7 +177,7 @@ module _ {S N O I : Type 0} (K : Known S O I N) (old new : Lent S N O I) (whole 
         says = λ ends names.
             both_named (λ p p'. StopsChange (λ test. IsTest test old.places) change topic p x.steps p') (over ends old.kind) (over ends new.kind) (over (row_end old.rows) old.kind) (over (row_end old.rows) new.kind)
             (was.state ends (row_end old.rows) (agree_old ends names)) (now.state ends (row_end old.rows) (agree_new ends names))
-            (change_stops_so (λ test. Tells test (row_end old.rows) (row_open old.rows) (peer_places old.kind)) (λ test. IsTest test old.places) tells change topic (over (row_end old.rows) old.kind) (over (row_end old.rows) new.kind) x.steps x.step);
+            (change_stops_so (λ test. TellsWritable test (row_end old.rows) (row_open old.rows) (peer_places old.kind)) (λ test. IsTest test old.places) tells change topic (over (row_end old.rows) old.kind) (over (row_end old.rows) new.kind) x.steps x.step);
       }
 
       pub receives_here : (told told' : List Skip) (answer : RecvAnswer) → GotOver runs (row_end old.rows) from to told told' old.kind answer new.kind → ReceivesHere K told told' old answer new
@@ -222,7 +222,7 @@ module _ {S N O I : Type 0} (K : Known S O I N) (old new : Lent S N O I) (whole 
             both_named (λ p p'. StopsPump (λ test. IsTest test old.places) p x.steps p') (over ends (caught_up ends old.kind)) (over ends (caught_up ends new.kind))
             (over (row_end old.rows) (caught_up (row_end old.rows) old.kind)) (over (row_end old.rows) (caught_up (row_end old.rows) new.kind))
             (was.caught ends (row_end old.rows) (agree_old ends names)) (now.caught ends (row_end old.rows) (agree_new ends names))
-            (pump_stops_so (λ test. Tells test (row_end old.rows) (row_open old.rows) (peer_places old.kind)) (λ test. IsTest test old.places) tells
+            (pump_stops_so (λ test. TellsWritable test (row_end old.rows) (row_open old.rows) (peer_places old.kind)) (λ test. IsTest test old.places) tells
             (over (row_end old.rows) (caught_up (row_end old.rows) old.kind)) (over (row_end old.rows) (caught_up (row_end old.rows) new.kind)) x.steps (x.step apart));
       }
 

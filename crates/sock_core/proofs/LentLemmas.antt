@@ -9,7 +9,7 @@ use Rattle.end_table.specs.declared.row.EndRow.{EndRow}
 use Rattle.end_table.specs.Rows.{Rows, row_at, IsRow, end_of, can_write_of}
 use Rattle.std.proofs.lemmas.Bool.{eq-eqb}
 use Rattle.end_table.proofs.StepLemmas.{own_pipe, other_pipe}
-use Rattle.by_turn.specs.Calls.{Tells}
+use Rattle.spec_pattern.specs.AtPlaces.{TellsWritable}
 use Rattle.pub_sub.specs.Places.{AreApart}
 use Rattle.pub_sub.proofs.KnownLemmas.{place_of_all}
 use Rattle.any_sock.specs.Told.{Agree}
@@ -86,7 +86,7 @@ module _ {S O I N : Type 0} (K : Known S O I N) (pipes : S) (rows : Rows O I) (p
         names n r.place r.there r.is_peer ∙ sym (ap end_of r.here ∙ r.stands.end_is)
 
     -- what a test says of the peers it says of their rows
-    pub tests_agree : (test : EndId → Bool) → IsTest test places → Tells test (row_end rows) (row_open rows) peers
+    pub tests_agree : (test : EndId → Bool) → IsTest test places → TellsWritable test (row_end rows) (row_open rows) peers
     tests_agree test is = λ k d lt.
         let n = slice_index_or peers k d in
         let r = peer_here n (all k d lt) in

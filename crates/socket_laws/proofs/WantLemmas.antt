@@ -6,7 +6,7 @@ use Rattle.std.proofs.lemmas.List.{map-append}
 use Rattle.std.proofs.lemmas.List.Sorted.{IsPermutation-refl, IsPermutation-trans}
 use Rattle.std.proofs.lemmas.Map.{keys-set_value}
 use Rattle.zq_base.specs.Message.{Frames}
-use Rattle.by_turn.specs.Calls.{Tells as TellsOf}
+use Rattle.spec_pattern.specs.AtPlaces.{TellsWritable as TellsOf}
 use Rattle.spec_pattern.specs.PipeStep.{PipeStep, same_pipe}
 use Rattle.spec_pattern.specs.TurnList.{End}
 use Rattle.spec_pattern.specs.Drops.{Round, ComeByTurn}

@@ -1,6 +1,6 @@
 use Rattle.zq_base.specs.declared.kind.Kind.TheVariants.{Pull}
 use Rattle.spec_pattern.proofs.ResultsLemmas.{MatchRecv-as}
-use Rattle.by_turn.specs.Calls.{Receives}
+use Rattle.spec_pattern.specs.AtPlaces.{Receives}
 use Rattle.pub_sub.specs.Followers.{rows_of}
 use Rattle.pub_sub.specs.Subscribing.{SubState}
 use Rattle.pub_sub.specs.XSubs.{XSubGives}

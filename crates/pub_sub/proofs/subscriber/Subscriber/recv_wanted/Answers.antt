@@ -4,7 +4,7 @@ use Rattle.spec_pattern.specs.Duty.{Duty, Free}
 use Rattle.spec_pattern.specs.Subscribing.{wanted_of}
 use Rattle.spec_pattern.specs.declared.answers.Rule.TheVariants.{Filtered}
 use Rattle.spec_pattern.specs.declared.answers.RecvAnswer.TheVariants as got
-use Rattle.by_turn.specs.Dropping.{receiving, DropsFew, ReceivesOver}
+use Rattle.spec_pattern.specs.Dropping.{receiving, DropsFew, ReceivesOver}
 use Rattle.pub_sub.specs.Followers.{rows_of}
 use Rattle.pub_sub.specs.Subscribing.{SubState, SubGives, SubStops}
 use Rattle.pub_sub.proofs.SubscriberLemmas.{SubGives-over, SubStops-few, MatchRecv-fault}

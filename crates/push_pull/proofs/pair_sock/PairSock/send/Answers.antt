@@ -2,8 +2,8 @@ use Rattle.std.proofs.Common.{arith, ◌∙◌, subst}
 use Rattle.std.proofs.lemmas.List.Sorted.{length_permutation}
 use Rattle.zq_base.specs.declared.kind.Kind.TheVariants.{Push, Pair}
 use Rattle.spec_pattern.proofs.ResultsLemmas.{MatchSend-as}
-use Rattle.by_turn.specs.Calls.{Sends}
-use Rattle.by_turn.proofs.CallsLemmas.{Sends-pair}
+use Rattle.spec_pattern.specs.AtPlaces.{Sends}
+use Rattle.load_balancer.proofs.SendingLemmas.{Sends-pair}
 use Rattle.push_pull.proofs.OnePeerLemmas.{one_order}
 use Rattle.push_pull.proofs.pair_sock.PairSock.send.Goals as goal
 

@@ -4,7 +4,7 @@ use Rattle.spec_pattern.specs.Duty.{Duty, Free, Owing}
 use Rattle.spec_pattern.specs.RequestReply.{request_of}
 use Rattle.spec_pattern.specs.declared.answers.Rule.TheVariants.{BadEnv}
 use Rattle.spec_pattern.specs.declared.answers.RecvAnswer.TheVariants as got
-use Rattle.by_turn.specs.Dropping.{receiving, DropsFew, ReceivesOver}
+use Rattle.spec_pattern.specs.Dropping.{receiving, DropsFew, ReceivesOver}
 use Rattle.req_rep.specs.Answering.{RepState, RepGot, RepStopped}
 use Rattle.req_rep.specs.Partners.{is_nobody}
 use Rattle.req_rep.proofs.PartnersLemmas.{IsRep-owing}

@@ -3,7 +3,7 @@ use Rattle.spec_pattern.specs.TurnList.{End}
 use Rattle.spec_pattern.specs.Duty.{Duty, Free, Asked}
 use Rattle.spec_pattern.specs.declared.answers.Rule.TheVariants.{Stray}
 use Rattle.spec_pattern.specs.declared.answers.RecvAnswer.TheVariants as got
-use Rattle.by_turn.specs.Dropping.{receiving, DropsFew, ReceivesOver}
+use Rattle.spec_pattern.specs.Dropping.{receiving, DropsFew, ReceivesOver}
 use Rattle.req_rep.specs.Asking.{ReqState, ReqGot, ReqStopped, reply_by}
 use Rattle.req_rep.specs.Partners.{IsReq, end_of, is_nobody}
 use Rattle.req_rep.specs.contracts.req.Req.{the_view}

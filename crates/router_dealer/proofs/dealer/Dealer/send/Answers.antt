@@ -1,9 +1,9 @@
 use Rattle.std.proofs.Common.{ap, subst, ◌∙◌}
 use Rattle.zq_base.specs.declared.kind.Kind.TheVariants.{Push, Dealer}
 use Rattle.spec_pattern.proofs.ResultsLemmas.{MatchSend-as}
-use Rattle.by_turn.specs.BothTurns.{Both}
-use Rattle.by_turn.specs.Calls.{Sends}
-use Rattle.by_turn.proofs.CallsLemmas.{Sends-dealer}
+use Rattle.msg_pipe.specs.BothTurns.{Both}
+use Rattle.spec_pattern.specs.AtPlaces.{Sends}
+use Rattle.load_balancer.proofs.SendingLemmas.{Sends-dealer}
 use Rattle.router_dealer.specs.contracts.dealer.Dealer.{the_view}
 use Rattle.router_dealer.proofs.dealer.Dealer.send.Goals as goal
 

@@ -12,8 +12,6 @@ use Rattle.spec_pattern.specs.declared.answers.RecvFault.{RecvFault}
 use Rattle.spec_pattern.specs.declared.answers.RecvFault.TheVariants as fault
 use Rattle.spec_pattern.specs.declared.answers.RecvAnswer.{RecvAnswer}
 use Rattle.spec_pattern.specs.declared.answers.RecvAnswer.TheVariants as got
-use Rattle.by_turn.specs.declared.look.Look.{Look}
-use Rattle.by_turn.specs.declared.look.Look.TheVariants as look
 
 -- a socket that receives: its peers, its turns, and the drops that it told
 pub record Receiving (S : Type 0) : Type 0 where
@@ -27,18 +25,6 @@ receiving peers turns told = record { peers = peers; turns = turns; told = told 
 -- a message that is given, and what is under way then
 abbrev pub with_duty : Duty → Frames → Given
 with_duty duty m = record { message = m; duty = duty }
-
--- if a look gives a message: of the place that it came from
-abbrev pub IfGiven : Look → (ℕ → Type 0) → Type 0
-IfGiven (look.Given place m) P = P place
-IfGiven look.Dropped P = Unit {0}
-IfGiven look.Empty P = Unit {0}
-
--- what holds unless a look gives a message
-abbrev pub UnlessGiven : Look → Type 0 → Type 0
-UnlessGiven (look.Given place m) P = Unit {0}
-UnlessGiven look.Dropped P = P
-UnlessGiven look.Empty P = P
 
 -- of a receive that drops: the place and the message that it gives, its refusal, or what holds where memory was wanting
 abbrev pub MatchDropping : Result (ℕ × Frames) RecvFault → Type 0 → (ℕ → Frames → Type 0) → (RecvRefusal → Type 0) → Type 0
@@ -76,12 +62,6 @@ module _ {S : Type 0} (runs : S → List PipeStep → S → Type 0) (ends : ℕ 
     pub runs_are : runs old.peers steps new.peers
     pub none : NoneHasMessage (map ends old.turns) steps (map ends new.turns)
     pub told_are : new.told ≡ old.told
-
-  -- what a look found; after a message is given this is under way
-  abbrev pub Looks : Receiving S → Receiving S → Look → (ℕ → Duty) → Type 0
-  Looks old new (look.Given place m) duty = GivesAt old new place m (duty place)
-  Looks old new look.Dropped duty = DropsMore 1 old new
-  Looks old new look.Empty duty = FindsNone old new
 
   -- a whole receive, with what was under way before it and what is after it
   pub record ReceivesOver (old new : Receiving S) (answer : RecvAnswer) (duty duty' : Duty) : Type 0 where

@@ -1,7 +1,7 @@
 use Rattle.std.proofs.Common.{All, ap, subst, ◌∙◌}
 use Rattle.msg_pipe.proofs.TurnsLemmas.{All-middle}
-use Rattle.by_turn.proofs.CallsLemmas.{Receives-taken}
-use Rattle.by_turn.proofs.calls.receive_by_turn.Goals as goal
+use Rattle.fair_queue.proofs.ReceivingLemmas.{Receives-taken}
+use Rattle.fair_queue.proofs.receiving.receive_by_turn.Goals as goal
 
 pub pair-requires : goal.pair-requires
 pair-requires g c =

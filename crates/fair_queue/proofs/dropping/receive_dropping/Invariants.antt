@@ -1,7 +1,7 @@
 use Rattle.std.proofs.Common.{◌≡◌, IsPermutation}
 use Rattle.msg_pipe.specs.Places.{KeepsPlaces}
-use Rattle.by_turn.specs.Dropping.{receiving, DropsMore}
-use Rattle.by_turn.proofs.dropping.receive_dropping.Given as goal
+use Rattle.spec_pattern.specs.Dropping.{receiving, DropsMore}
+use Rattle.fair_queue.proofs.dropping.receive_dropping.Given as goal
 
 -- so many messages were dropped, and the sieve is as it was
 abbrev pub invariant-looks : goal.invariant-looks

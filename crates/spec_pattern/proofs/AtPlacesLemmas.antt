@@ -3,7 +3,7 @@ use Rattle.std.proofs.Common.{◌≡◌, ℕ, Bool, true, false, cond, List, [],
 use Rattle.std.proofs.lemmas.List.{map-append}
 use Rattle.std.proofs.lemmas.List.Elements.{All-head, All-tail}
 use Rattle.spec_pattern.specs.TurnList.{End, turns_after}
-use Rattle.by_turn.specs.Calls.{Tells}
+use Rattle.spec_pattern.specs.AtPlaces.{TellsWritable}
 
 -- the ends of a turn list around one of them
 pub ends_around : (ends : ℕ → End) (before after turns : List ℕ) (place : ℕ) → turns ≡ before ++ place ∷ after
@@ -18,7 +18,7 @@ ends_turned ends before after turns' place is =
 
 -- the ends that can be written are those of the places that can
 pub filter-ends : (can_write : End → Bool) (ends : ℕ → End) (writable : ℕ → Bool) (places : List ℕ)
-    → Tells can_write ends writable places → filter can_write (map ends places) ≡ map ends (filter writable places)
+    → TellsWritable can_write ends writable places → filter can_write (map ends places) ≡ map ends (filter writable places)
 filter-ends can_write ends writable [] tells = refl
 filter-ends can_write ends writable (k ∷ places) tells =
     let P = λ (place : ℕ). can_write (ends place) ≡ writable place in

@@ -2,11 +2,12 @@ ghost use Rattle.std.specs.Prelude.{◌≡◌, ◌<◌, ◌≤◌, All, Contains
 ghost use Rattle.spec_pattern.specs.Duty.{Duty};
 ghost use Rattle.spec_pattern.specs.declared.answers.RecvAnswer.TheVariants as got;
 ghost use Rattle.msg_pipe.specs.Places.{KeepsPlaces};
-ghost use Rattle.by_turn.specs.Dropping.{receiving, IfGiven, UnlessGiven, MatchDropping, DropsFew, Looks, ReceivesOver};
+ghost use Rattle.spec_pattern.specs.Dropping.{receiving, MatchDropping, DropsFew, ReceivesOver};
+ghost use Rattle.fair_queue.specs.Sifting.{IfGiven, UnlessGiven, Looks};
 
-use crate::look::Look;
 use crate::sieve::Sieve;
-use fair_queue::{NextIn, next_in};
+use crate::sifted::Sifted;
+use crate::turn::{NextIn, next_in};
 use msg_pipe::{Peers, Turns};
 use spec_pattern::{RecvFault, RecvRefusal, Rule, Skip};
 use zq_base::Message;
@@ -49,9 +50,9 @@ pub fn receive_dropping<S: Sieve, E: Peers>(
             return Err(RecvFault::OutOfMemory);
         };
         match look(turns, sieve, rule, peers, skips) {
-            Look::Given(place, message) => return Ok((place, message)),
-            Look::Dropped => {}
-            Look::Empty => return Err(RecvFault::Refused(RecvRefusal::Again)),
+            Sifted::Given(place, message) => return Ok((place, message)),
+            Sifted::Dropped => {}
+            Sifted::Empty => return Err(RecvFault::Refused(RecvRefusal::Again)),
         }
     }
     Err(RecvFault::Refused(RecvRefusal::Busy))
@@ -64,7 +65,7 @@ fn look<S: Sieve, E: Peers>(
     rule: Rule,
     peers: &mut E,
     skips: &mut Vec<Skip>,
-) -> Look
+) -> Sifted
     requires there { All (E.here peers.old) turns.old }
     requires ready { S.ready sieve.old }
     requires room { vec_len skips.old < vec_capacity skips.old }
@@ -78,14 +79,14 @@ fn look<S: Sieve, E: Peers>(
     ensures keeps { KeepsPlaces E.here E.end_at E.writable peers.old peers.new }
 {
     match next_in(turns, peers) {
-        NextIn::AllEmpty => return Look::Empty,
+        NextIn::AllEmpty => return Sifted::Empty,
         NextIn::Got(place, message) => {
             let pair = peers.pair(place);
             match sieve.sift(pair, message) {
-                Some(rest) => return Look::Given(place, rest),
+                Some(rest) => return Sifted::Given(place, rest),
                 None => {
                     skips.push_reserved(Skip { rule, pair });
-                    return Look::Dropped;
+                    return Sifted::Dropped;
                 }
             }
         }

@@ -1,7 +1,7 @@
 ghost use Rattle.std.specs.Prelude.{◌≡◌, OnOk, OnErr};
-ghost use Rattle.by_turn.specs.BothTurns.{no_turns, with_turns, without_turns};
+ghost use Rattle.msg_pipe.specs.BothTurns.{no_turns, with_turns, without_turns};
 
-use msg_pipe::Turns;
+use crate::turns::Turns;
 use std::alloc::{AllocError, Global};
 use std::marker::Model;
 
@@ -13,7 +13,7 @@ pub struct BothTurns {
 }
 
 impl Model for BothTurns {
-    ghost use Rattle.by_turn.specs.BothTurns.{Both};
+    ghost use Rattle.msg_pipe.specs.BothTurns.{Both};
 
     ghost Value = { Both };
 

@@ -4,9 +4,9 @@ use Rattle.std.specs.Prelude.{Contains}
 use Rattle.std.specs.Option.{option_map}
 use Rattle.zq_base.specs.declared.ids.PairId.{PairId}
 use Rattle.msg_pipe.proofs.TurnsLemmas.{All-middle}
-use Rattle.by_turn.specs.Dropping.{receiving, with_duty}
-use Rattle.by_turn.proofs.DroppingLemmas.{GivesAt-served, DropsMore-served, in_the_middle}
-use Rattle.by_turn.proofs.dropping.look.Goals as goal
+use Rattle.spec_pattern.specs.Dropping.{receiving, with_duty}
+use Rattle.fair_queue.proofs.DroppingLemmas.{GivesAt-served, DropsMore-served, in_the_middle}
+use Rattle.fair_queue.proofs.dropping.look.Goals as goal
 
 pub pair-pair-requires : goal.pair-pair-requires
 pair-pair-requires g c =

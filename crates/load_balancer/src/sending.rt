@@ -1,14 +1,13 @@
 ghost use Rattle.std.specs.Prelude.{◌≡◌, All, IsPermutation};
-ghost use Rattle.zq_base.specs.declared.kind.Kind.TheVariants.{Push, Pull};
-ghost use Rattle.spec_pattern.specs.Results.{MatchSend, MatchRecv, IfBack};
+ghost use Rattle.zq_base.specs.declared.kind.Kind.TheVariants.{Push};
+ghost use Rattle.spec_pattern.specs.Results.{MatchSend, IfBack};
+ghost use Rattle.spec_pattern.specs.AtPlaces.{Sends};
 ghost use Rattle.msg_pipe.specs.Places.{KeepsPlaces};
-ghost use Rattle.by_turn.specs.Calls.{Sends, Receives};
 
-use fair_queue::{NextIn, next_in};
-use load_balancer::{NextOut, next_out};
+use crate::turn::{NextOut, next_out};
 use msg_pipe::{Peers, Turns};
-use spec_pattern::{RecvFault, RecvRefusal, SendFault, SendRefusal, Sent};
-use zq_base::{Message, PairId};
+use spec_pattern::{SendFault, SendRefusal, Sent};
+use zq_base::Message;
 
 /// Sends to the first peer in turn that has room, as a PUSH does: `Again` where none has,
 /// `TooLarge` from 1,024 frames on.
@@ -31,23 +30,5 @@ pub fn send_by_turn<E: Peers>(
         NextOut::Put(place) => return Ok(Sent::One(peers.pair(place))),
         NextOut::AllFull(back) => return Err(SendFault::Refused(SendRefusal::Again, back)),
         NextOut::NoPeer(back) => return Err(SendFault::Refused(SendRefusal::Again, back)),
-    }
-}
-
-/// Receives from the first peer in turn that has a message, as a PULL does: `Again` where none has
-/// one.
-pub fn receive_by_turn<E: Peers>(
-    turns: &mut Turns,
-    peers: &mut E,
-) -> Result<(PairId, Message), RecvFault>
-    requires there { All (E.here peers.old) turns.old }
-    ensures step { MatchRecv result ⊥ (λ answer. Receives E.runs (E.end_at peers.old) Pull
-        peers.old peers.new turns.old answer turns.new) }
-    ensures places { IsPermutation turns.old turns.new }
-    ensures keeps { KeepsPlaces E.here E.end_at E.writable peers.old peers.new }
-{
-    match next_in(turns, peers) {
-        NextIn::Got(place, message) => return Ok((peers.pair(place), message)),
-        NextIn::AllEmpty => return Err(RecvFault::Refused(RecvRefusal::Again)),
     }
 }

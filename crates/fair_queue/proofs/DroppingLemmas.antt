@@ -14,8 +14,8 @@ use Rattle.spec_pattern.specs.declared.answers.RecvRefusal.TheVariants as recv
 use Rattle.spec_pattern.specs.declared.answers.RecvAnswer.TheVariants as got
 use Rattle.fair_queue.specs.FairQueue.{ServesNext, ReceivesByTurn}
 use Rattle.fair_queue.specs.declared.turn.NextIn.TheVariants as next
-use Rattle.by_turn.specs.Dropping.{Receiving, receiving, DropsMore, GivesAt, FindsNone, ReceivesOver, with_duty}
-use Rattle.by_turn.proofs.EndsLemmas.{ends_around, ends_turned}
+use Rattle.spec_pattern.specs.Dropping.{Receiving, receiving, DropsMore, GivesAt, FindsNone, ReceivesOver, with_duty}
+use Rattle.spec_pattern.proofs.AtPlacesLemmas.{ends_around, ends_turned}
 
 -- the place between two parts of a list is in it
 pub in_the_middle : (before after turns : List ℕ) (place : ℕ) → turns ≡ before ++ place ∷ after → Contains turns place

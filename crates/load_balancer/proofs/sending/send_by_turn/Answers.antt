@@ -1,7 +1,7 @@
 use Rattle.std.proofs.Common.{All, ap, subst, ◌∙◌, arith}
 use Rattle.msg_pipe.proofs.TurnsLemmas.{All-middle}
-use Rattle.by_turn.proofs.CallsLemmas.{Sends-put, Sends-none, Sends-peerless}
-use Rattle.by_turn.proofs.calls.send_by_turn.Goals as goal
+use Rattle.load_balancer.proofs.SendingLemmas.{Sends-put, Sends-none, Sends-peerless}
+use Rattle.load_balancer.proofs.sending.send_by_turn.Goals as goal
 
 pub pair-requires : goal.pair-requires
 pair-requires g c =

@@ -5,9 +5,9 @@ use Rattle.spec_pattern.specs.TurnList.{End}
 use Rattle.spec_pattern.specs.Drops.{Given}
 use Rattle.spec_pattern.specs.declared.answers.Skip.{Skip}
 use Rattle.msg_pipe.proofs.PlacesLemmas.{keeps_none, keeps_on, all_here}
-use Rattle.by_turn.specs.Dropping.{receiving, DropsMore, GivesAt, FindsNone}
-use Rattle.by_turn.proofs.DroppingLemmas.{DropsMore-none, DropsMore-more, Receives-given, Receives-again, Receives-busy}
-use Rattle.by_turn.proofs.dropping.receive_dropping.Goals as goal
+use Rattle.spec_pattern.specs.Dropping.{receiving, DropsMore, GivesAt, FindsNone}
+use Rattle.fair_queue.proofs.DroppingLemmas.{DropsMore-none, DropsMore-more, Receives-given, Receives-again, Receives-busy}
+use Rattle.fair_queue.proofs.dropping.receive_dropping.Goals as goal
 
 pub looks-init : goal.looks-init
 looks-init g c = record {

@@ -1,10 +1,10 @@
--- What a turn did, as the step of a socket.
+-- What a turn put, as the step of a socket.
 use Rattle.std.specs.List.{list_any}
 use Rattle.std.proofs.Common.{◌≡◌, ◌||◌, ◌≤◌, ℕ, Bool, true, false, cond, List, [], ◌∷◌, ◌++◌, map, filter, length, None, Some, refl, sym, ap, subst, ◌∙◌, All}
 use Rattle.std.proofs.lemmas.Bool.{le-leb}
 use Rattle.zq_base.specs.Message.{Frames, max_committed}
 use Rattle.zq_base.specs.declared.ids.PairId.{PairId}
-use Rattle.zq_base.specs.declared.kind.Kind.TheVariants.{Push, Pull, Pair, Dealer}
+use Rattle.zq_base.specs.declared.kind.Kind.TheVariants.{Push, Pair, Dealer}
 use Rattle.spec_pattern.specs.PipeStep.{PipeStep, Commit}
 use Rattle.spec_pattern.specs.TurnList.{End, full_at}
 use Rattle.spec_pattern.specs.Duty.{Free}
@@ -14,14 +14,10 @@ use Rattle.spec_pattern.specs.Call.{SendsUnless}
 use Rattle.spec_pattern.specs.declared.answers.SendRefusal.TheVariants.{TooLarge, Again}
 use Rattle.spec_pattern.specs.declared.answers.SendAnswer.{SendAnswer}
 use Rattle.spec_pattern.specs.declared.answers.SendAnswer.TheVariants as sent
-use Rattle.spec_pattern.specs.declared.answers.RecvAnswer.{RecvAnswer}
-use Rattle.spec_pattern.specs.declared.answers.RecvAnswer.TheVariants as got
-use Rattle.fair_queue.specs.FairQueue.{ReceivesByTurn}
-use Rattle.fair_queue.specs.declared.turn.NextIn.TheVariants as next
 use Rattle.load_balancer.specs.LoadBalancer.{PutsNext, FindsFull, HasNoPeer, full_looks}
 use Rattle.msg_pipe.proofs.TurnsLemmas.{All-front, All-middle}
-use Rattle.by_turn.specs.Calls.{Sends, Receives}
-use Rattle.by_turn.proofs.EndsLemmas.{ends_around, ends_turned, filter-ends}
+use Rattle.spec_pattern.specs.AtPlaces.{Sends}
+use Rattle.spec_pattern.proofs.AtPlacesLemmas.{ends_around, ends_turned, filter-ends}
 
 -- a message of so many frames isn't refused
 is_small : (m : Frames) → length m ≤ max_committed → send_refusal Push Free m ≡ None
@@ -95,32 +91,3 @@ module _ {S : Type 0} (runs : S → List PipeStep → S → Type 0) (ends : ℕ 
 
   pub Sends-dealer : (answer : SendAnswer) → Sends runs ends writable Push m old new turns answer turns' → Sends runs ends writable Dealer m old new turns answer turns'
   Sends-dealer answer s = record { steps = s.steps; runs_are = s.runs_are; step = s.step }
-
-module _ {S : Type 0} (runs : S → List PipeStep → S → Type 0) (ends : ℕ → End) (old new : S) (turns turns' : List ℕ) where
-  -- a message was taken
-  pub Receives-taken : (m : Frames) (place : ℕ) (from_ : PairId) → ReceivesByTurn runs ends old new turns (next.Got place m) turns'
-      → from_ ≡ (ends place).pair → Receives runs ends Pull old new turns (got.Got from_ m) turns'
-  Receives-taken m place from_ turn from_is =
-      let s = turn.next in
-      record {
-        steps = turn.steps;
-        runs_are = turn.runs_are;
-        step = record {
-          before = map ends s.before;
-          peer = ends place;
-          after = map ends s.after;
-          looks = s.looks;
-          turns_are = ends_around ends s.before s.after turns place s.turns_are;
-          looks_are = s.looks_are;
-          steps_are = s.steps_are;
-          from_is = from_is;
-          new_is = ends_turned ends s.before s.after turns' place s.new_is;
-        };
-      }
-
-  -- a PAIR and a DEALER receive as a PULL does
-  pub Receives-pair : (answer : RecvAnswer) → Receives runs ends Pull old new turns answer turns' → Receives runs ends Pair old new turns answer turns'
-  Receives-pair answer r = record { steps = r.steps; runs_are = r.runs_are; step = r.step }
-
-  pub Receives-dealer : (answer : RecvAnswer) → Receives runs ends Pull old new turns answer turns' → Receives runs ends Dealer old new turns answer turns'
-  Receives-dealer answer r = record { steps = r.steps; runs_are = r.runs_are; step = r.step }

@@ -9,7 +9,7 @@ use zq_base::{Message, PairId};
 
 /// What a receive gives of the messages that come; the others it drops.
 pub trait Sieve {
-    ghost use Rattle.by_turn.specs.Dropping.{with_duty};
+    ghost use Rattle.spec_pattern.specs.Dropping.{with_duty};
 
     /// It can take a message.
     ghost ready: { Self → Type 0 };
