@@ -1,5 +1,5 @@
-//! A socket of any kind over its attached ends: one type for all kinds, of which each call is that of
-//! its kind.
+//! A socket of any of the eleven kinds over its attached ends: one type, of which each call is that
+//! of its kind.
 #![tactic(auto)]
 
 mod any_sock;

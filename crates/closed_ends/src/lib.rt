@@ -1,8 +1,5 @@
-//! The ends of closed sockets, as the reaper has them, over any pipes.
-//!
-//! They come by the sockets' closing, with their halves, and are kept to their end.
-//!
-//! The ends of closed sockets one by one, over any pipes: how one comes, and what is done to its halves.
+//! The ends of closed sockets with their halves, as the reaper has them until they end, over any
+//! pipes.
 #![tactic(auto)]
 
 mod closed;

@@ -1,7 +1,6 @@
-//! Laws of the control plane, over its definitions alone: whatever order commands are delivered in,
-//! what is asked to end ends, an object after all that it owns; each command comes once, and for one
-//! that has not ended; so many come at the most, and each mailbox has room for them. What a caller
-//! reads off its own items of the ends that it has is so in the control state.
+//! Laws of the control plane over its definitions alone: whatever order commands are delivered in,
+//! what is asked to end ends, an object after all that it owns, and each command comes once, for
+//! one that lives. What callers read off their own items is so in the control state.
 #![tactic(auto)]
 
 mod attached;

@@ -1,6 +1,5 @@
-//! What a call on one open socket leaves of a core on one thread: the other open sockets, what stands
-//! of it, and what the reaper has and is on its way to it. And what the reaper's calls and looks leave of
-//! the steps past, of closed sockets and of what is on its way to them.
+//! Laws of what a call on one open socket, or of the reaper, leaves of all else on one thread: the
+//! other open sockets, the steps past, the closed sockets and what is on its way to them.
 #![tactic(auto)]
 
 mod asked;

@@ -1,18 +1,6 @@
-//! The moves of a context's kept state, each one update of it with what the holder of its ends is
-//! asked for: an end turns and settles, an object is asked, processes its Term and ends, a socket is
-//! made, names are taken and struck, the reaper takes a closed socket over, and an object hears the
-//! oldest command of its mailbox. Beside them stands why a request would be refused.
-//!
-//! The making of a pair between two sockets: the room that it takes, its number, the halves of its
-//! pipes, and the welcome of its first end.
-//!
-//! What can want memory comes first, and each of it can be taken back; what follows takes none.
-//!
-//! The pair that a connect makes with the holder of its name, and those that a bind makes with the
-//! sockets whose connects wait for its name.
-//!
-//! All that takes memory comes first, pair by pair, and is taken back, last first, where memory
-//! wants; the joining of the pairs takes none.
+//! The moves of a context's kept state, each one update of it with what is asked of the holder of
+//! its ends: requests, a pair's making, commands heard, ends that turn and settle. What can want
+//! memory comes first, and is taken back where it does.
 #![tactic(auto)]
 
 mod asking;

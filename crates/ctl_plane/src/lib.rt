@@ -1,7 +1,5 @@
-//! The control events of a context in their order, with the state that they led to.
-//!
-//! Each call adds the event that its contract names; that the event fits, and that room is kept for
-//! all that may still come, always holds.
+//! The control events of a context in their order, with the state that they led to: each call adds
+//! the event that its contract names, with room kept for all that may still come.
 #![tactic(auto)]
 
 mod asking;

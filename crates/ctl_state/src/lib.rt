@@ -1,8 +1,5 @@
-//! What the control plane keeps between two events, and the small updates that its events are made
-//! of.
-//!
-//! Each call is one update of the control state: of whatever control state it stood for before, it
-//! stands for the updated one behind it.
+//! What the control plane keeps between two events: of whatever control state it stands for, each
+//! call is one small update.
 #![tactic(auto)]
 
 mod belongings;

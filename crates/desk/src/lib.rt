@@ -1,5 +1,5 @@
-//! How the holders of ends reach the control plane of a context, what it asks of them, and what its
-//! commands carry.
+//! Traits of the control plane: how the holders of ends reach it, what it asks of them, and what
+//! its commands carry.
 #![tactic(auto)]
 
 mod calls;

@@ -1,4 +1,5 @@
-//! Copies of one message to many peers.
+//! Copies of one message to many peers: one at each place with room, told exactly, or none where
+//! memory wants.
 #![tactic(auto)]
 
 mod sending;

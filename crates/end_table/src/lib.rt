@@ -1,11 +1,5 @@
-//! The ends of a socket by place, over any pipes.
-//!
-//! What calls at them did is read off their steps: exactly, where the looks of the pipes are exact,
-//! else half by half.
-//!
-//! The ends of one owner with their halves, by the places of their attachment, over any pipes.
-//!
-//! What an end's halves do at each event of its life is written here once.
+//! The ends of one owner with their halves, by place, over any pipes: what each event of an end
+//! does to its halves, and what calls did, read off their steps.
 #![tactic(auto)]
 
 mod attaching;

@@ -1,4 +1,4 @@
-//! The endpoints that sockets are bound to, and the connects that wait for one.
+//! The endpoints that sockets are bound to, and the connects that wait for one, in their order.
 #![tactic(auto)]
 
 mod address_table;

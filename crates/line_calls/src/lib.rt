@@ -1,4 +1,5 @@
-//! An open socket of a run, over any desk: what an actor's line does to its socket.
+//! What an actor's line does to its open socket, over any body of its steps: a pump of its letters,
+//! and a call.
 #![tactic(auto)]
 
 mod calling;

@@ -1,8 +1,5 @@
-//! A socket over its own ends as a run tells it: its calls on messages, and its looks at an end that
-//! reads on.
-//!
-//! A socket that is lent to its caller for a line, with the pipes of its ends, over the control plane
-//! whose callers take turns.
+//! A socket that is lent to its caller for a line, with the pipes of its ends and the desk: its
+//! calls on messages, its requests, its commands and its close, as a run tells them.
 #![tactic(auto)]
 
 mod answers;

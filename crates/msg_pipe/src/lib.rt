@@ -1,4 +1,5 @@
-//! Pipes of whole messages: what every body of them keeps, and plain queues that meet it.
+//! Pipes of whole messages: what every body of them keeps, and plain queues that meet it. A message
+//! is visible whole, at its commit alone.
 #![tactic(auto)]
 
 mod both_turns;

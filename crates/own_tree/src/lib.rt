@@ -1,4 +1,5 @@
-//! The objects of a context: who owns whom, what was sent to each and processed, and when each may end.
+//! The objects of a context: who owns whom, what was sent to each and processed, and when each may
+//! end.
 #![tactic(auto)]
 
 mod counts;

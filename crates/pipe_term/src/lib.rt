@@ -1,4 +1,5 @@
-//! The life of a pipe's end: what it does when it is asked to end and when the other end's commands come.
+//! The life of a pipe's end: what it does when it is asked to end and when the other end's commands
+//! come.
 #![tactic(auto)]
 
 mod end;

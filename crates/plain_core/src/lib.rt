@@ -1,8 +1,5 @@
-//! The core of a run on one thread: the control plane's desk, the pipes of all sockets, and the tale of
-//! what was done.
-//!
-//! What is shown of a context whose callers take turns: the objects in the order of their ending, the
-//! row of each pipe that was settled, what each object is, and whether the context has ended.
+//! The core of a run on one thread: the desk, the pipes of all sockets and the tale of what was
+//! done, and what is shown of them in a journal.
 #![tactic(auto)]
 
 mod answers;

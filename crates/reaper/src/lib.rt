@@ -1,8 +1,5 @@
-//! The calls of the reaper on its desk: the closed sockets are moved with their pipes for each, and what
-//! was done to the pipes is told.
-//!
-//! A call of the reaper on a desk, with the pipes of all sockets and the closed sockets: a letter, and
-//! the look behind it.
+//! The calls of the reaper on its desk, with the closed sockets and all pipes: a letter, and the
+//! look behind it, and what was done to the pipes.
 #![tactic(auto)]
 
 mod laws;

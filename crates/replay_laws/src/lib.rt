@@ -1,5 +1,6 @@
-//! Laws of how a run is replayed: by its script, its seed and the most turns that it may take, and by
-//! nothing else; and what the lines of a script that is read may ask.
+//! Laws of how a run is replayed: a script has one journal by its seed and turns, or by its events,
+//! and is done in as many turns as its lines tell; what journals say; and what the lines of a
+//! script that is read may ask.
 #![tactic(auto)]
 
 mod bounds;

@@ -1,5 +1,5 @@
-//! The sockets of the request-reply pattern that route messages: a DEALER sends and receives by turn,
-//! a ROUTER names its peers.
+//! The sockets of the request-reply pattern that route messages: a DEALER sends and receives by
+//! turn, a ROUTER names its peers.
 #![tactic(auto)]
 
 mod dealer;

@@ -1,6 +1,5 @@
-//! Laws of runs of scripts over sockets that end: each object ends once, and after what it owns; where
-//! the root has ended nothing is left; what goes in turns, or by events, goes by each worker's own
-//! deeds; capacities stay, and what was exact stays exact.
+//! Laws of runs: each object ends once, after what it owns; where the root has ended nothing is
+//! left; and what goes in turns, or by events, goes by each worker's own deeds.
 #![tactic(auto)]
 
 mod laws;

@@ -1,11 +1,5 @@
-//! Pipes whose two halves may lie in two threads.
-//!
-//! A pipe of capacity c is a table of c + 1 places, each a word and a slot. The writer looks at the
-//! word of the place behind the next: where it is free, so is the next. It lays the message into the
-//! next slot, and one store of the next word makes it visible. The reader looks at the word of the
-//! oldest place, takes the message out of the slot, and one store gives the place back. The delimiter
-//! is a word alone. Each half has a seat of the table, of no memory, which knows what it did and what
-//! its looks saw; the rule of the table says that this is true of the other half.
+//! Pipes whose two halves may lie in two threads, in any schedule: a message is visible whole at
+//! one store, and looks are not exact.
 #![tactic(auto)]
 
 mod making;

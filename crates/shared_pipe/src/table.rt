@@ -1,4 +1,11 @@
-//! The table of a pipe, of one word and one slot a place.
+//! The table of a pipe: for capacity c it has c + 1 places, each a word and a slot.
+//!
+//! The writer looks at the word of the place behind the next: where it is free, so is the next. It
+//! lays the message into the next slot, and one store of the next word makes it visible. The reader
+//! looks at the word of the oldest place, takes the message out of the slot, and one store gives the
+//! place back. The delimiter is a word alone. Each half has a seat of the table, of no memory, which
+//! knows what it did and what its looks saw; the rule of the table says that this is true of the
+//! other half.
 ghost use Rattle.shared_pipe.specs.Rule.{IsSomePipe, fresh_view, writer_of, reader_of, both_of, no_view};
 
 use crate::view::View;

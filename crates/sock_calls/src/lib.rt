@@ -1,7 +1,5 @@
-//! A socket's calls on its bindings and connections, and its commands, over any desk.
-//!
-//! A socket has its ends without their pipes: each call moves both into a holder and back, and tells
-//! what it leaves of the other pipes.
+//! A socket's binds and connects, its close and its commands, over any desk: its ends are moved
+//! with their pipes into a holder and back.
 #![tactic(auto)]
 
 mod asking;

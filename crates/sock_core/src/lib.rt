@@ -1,6 +1,5 @@
-//! A socket with its ends, over any pipes: what the control plane asks of it.
-//!
-//! Calls on messages of a socket over its own ends, and looks at an end that reads on.
+//! A socket with its ends, over any pipes: its calls on messages, its looks at an end that reads
+//! on, and what the control plane asks of it.
 #![tactic(auto)]
 
 mod any;

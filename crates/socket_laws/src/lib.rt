@@ -1,11 +1,6 @@
-//! Laws for a core of sockets that is played on one thread: what its rows count, and how what it keeps
-//! of all that was done goes on from call to call: the steps past, by what was done to the pipes and
-//! by the steps of messages. What a socket's holder is told of its ends is what a run says of the open
-//! socket.
-//!
-//! Laws of the one order of a context, for the caller of an open socket: what stays from call to call, and
-//! what one call leaves of the steps past, by its item and by what it did to the pipes, or by its steps on
-//! messages.
+//! Laws of an open socket and its caller in the one order of a context: what its holder is told is
+//! what a run says of it, and what one call leaves of the steps past, of pipes' names and of
+//! counts.
 #![tactic(auto)]
 
 mod calls;

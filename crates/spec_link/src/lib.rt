@@ -1,6 +1,5 @@
-//! Links, sessions and listeners as definitions: their acts, the run of a link, a session's turn,
-//! and the rows that are read off its history; and the topics that a session took for its peer, which
-//! it says again at each new link.
+//! Links, sessions and listeners as definitions: the run of a link, a session's turn, the topics
+//! that it says again at each new link, and the rows that are read off its history.
 #![tactic(auto)]
 
 mod again;

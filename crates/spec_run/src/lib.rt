@@ -1,9 +1,5 @@
-//! What a run of a script is over sockets that are owned, closed and ended: the acts of each worker,
-//! the one order of the control plane, the turns, the journal that is printed, and its text.
-//!
-//! What the lines of a script are answered, in which order the workers of a run on one thread take
-//! their turns, and how both are shown. Seed 0 keeps the workers' own order; another seed draws it
-//! anew for each turn.
+//! What a script is and what a run of it is: the acts of each worker, the one order of the control
+//! plane, the turns that a seed draws, and the journal with its text.
 #![tactic(auto)]
 
 mod examples;

@@ -1,4 +1,5 @@
-//! The wire protocol of ZMTP 3.0 as definitions: frames, greeting, commands, handshake, decoded stream.
+//! The wire protocol of ZMTP 3.0 as definitions: frames, greeting, commands, handshake, decoded
+//! stream.
 #![tactic(auto)]
 
 mod cause;

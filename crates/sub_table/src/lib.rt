@@ -1,4 +1,5 @@
-//! The topics that peers subscribed to, those that a socket wants, and those that it told its peers.
+//! The topics that peers subscribed to, those that a socket wants, and those that it told its
+//! peers.
 #![tactic(auto)]
 
 mod holders;

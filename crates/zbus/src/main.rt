@@ -1,4 +1,4 @@
-//! The program: standard input is the script, standard output takes the journal.
+//! The program: it hands the words of the command line and the standard streams to the top call.
 #![tactic(auto)]
 
 use std::io;

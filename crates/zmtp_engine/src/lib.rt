@@ -1,4 +1,5 @@
-//! A peer's stream of octets to messages, and messages to octets: ZMTP 3.0 without input or output.
+//! A peer's stream of octets to messages, and messages to octets: ZMTP 3.0 without input or output,
+//! for any cut and any want of memory.
 #![tactic(auto)]
 
 mod answers;

@@ -1,9 +1,6 @@
-//! A call of the program, over whatever makes the texts of its runs: from the words of the command line and a
-//! source of octets to the text that a sink takes. And the same over a reader and a writer, with the exit code.
-//!
-//! The words of the command line, read as a request.
-//!
-//! Hears a peer's octets, and tells in text what they mean and what is said in return.
+//! A call of the program, over whatever makes the texts of its runs: the words as a request, a
+//! source's octets, what `hear` tells of them, and the text that a sink takes. The same over a
+//! reader and a writer, with the exit code.
 #![tactic(auto)]
 
 mod calls;

@@ -1,6 +1,5 @@
-//! Prints the parts of a journal: answers, what was dropped, and counts.
-//!
-//! Prints the journal of a run over sockets that end.
+//! The text of a journal over sockets that end, and of its parts: answers, what was dropped,
+//! counts.
 #![tactic(auto)]
 
 mod answer;

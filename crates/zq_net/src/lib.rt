@@ -1,6 +1,5 @@
-//! Hosts and links over TCP, by readiness: no call of theirs waits but `rest`.
-//!
-//! A socket that isn't known to be ready is left alone, so that an idle link costs no call of the system.
+//! Hosts and links over TCP, by readiness: no call of theirs waits but `rest`. A socket that isn't
+//! known to be ready is left alone, so that an idle link costs no call of the system.
 #![tactic(auto)]
 
 mod answer;

@@ -1,7 +1,6 @@
-//! The outside: where octets come from and go to, links and their hosts, clocks and gates.
-//!
-//! Each trait counts its faults, stalls and ends, and an answer of that kind comes only where its
-//! count rose. The versions in memory fail by a plan, or never.
+//! The outside: where octets come from and go to, links and their hosts, clocks and gates. Each
+//! trait counts its faults, stalls and ends, and an answer of that kind comes only where its count
+//! rose.
 #![tactic(auto)]
 
 mod calls;

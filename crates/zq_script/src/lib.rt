@@ -1,4 +1,4 @@
-//! Reads scripts: what each actor is to do, line by line.
+//! Reads scripts, exactly or to their first fault: what each actor is to do, line by line.
 #![tactic(auto)]
 
 mod call;

@@ -1,8 +1,6 @@
-//! A session: it drives one engine over one link, and moves whole messages between the link and the
-//! pipes of its end.
-//!
-//! How a session stands aside from its links: what becomes due and is handed out, how it reads and
-//! dials, what it does to its topics; and what listens.
+//! A session drives one engine over one link at a time, and moves whole messages between the link
+//! and the pipes of its end; it dials, lingers and says its topics anew. Beside it stands what
+//! listens.
 #![tactic(auto)]
 
 mod course;

@@ -1,6 +1,4 @@
-//! Tests of the outside in memory and over TCP, and of sessions.
-//!
-//! Tests of sessions over links in memory.
+//! Tests of the outside in memory and over TCP, and of sessions over links in memory.
 #![tactic(auto)]
 
 #[cfg(test)]

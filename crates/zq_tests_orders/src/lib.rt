@@ -1,6 +1,5 @@
-//! What an actor says whose lines are asked of the sockets of one thread, and that whatever order the
-//! single steps of a context are taken in, its root ends: of its actors, of the reaper of closed sockets,
-//! and of who asks the root; and the journal of events that no turn chooses.
+//! Tests of actors' lines over a core, and that its root ends in many orders of the single steps of
+//! actors, of the reaper and of who asks it.
 #![tactic(auto)]
 
 #[cfg(test)]

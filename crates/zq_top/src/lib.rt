@@ -1,8 +1,6 @@
-//! The top call: from the words of the command line and a script to the text that is written. And the
-//! edge of the program: that call over a reader and a writer, and the exit code.
-//!
-//! From octets to the text of a run over sockets that end: a script is read, played on one thread over
-//! any core, and its journal printed.
+//! The top call: from the words of the command line and a script's octets to the text that is
+//! written, over a context of its own. And the edge of the program: that call over a reader and a
+//! writer, and the exit code.
 #![tactic(auto)]
 
 mod edge;

@@ -1,12 +1,5 @@
 //! The run of a script on one thread, in turns or by any list of events, over any core that makes,
-//! calls and closes sockets, reaps them and ends the root, and the journal of it.
-//!
-//! An actor of a script, over any way to make, call and close sockets: line by line with tries, and
-//! behind its last line the closing of what it has left.
-//!
-//! A tale is a list that only proofs read, which tells what proofs know was done. It takes no memory,
-//! and its methods do nothing at run time. What was done through a core stands in one, call by call:
-//! the steps at pipes, and the items of the control plane in their one order.
+//! calls, closes and reaps sockets: each actor line by line, and the journal of it.
 #![tactic(auto)]
 
 mod actor;
