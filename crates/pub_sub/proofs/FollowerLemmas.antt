@@ -7,11 +7,10 @@ use Rattle.std.specs.Cmp.{nat_eq_equiv}
 use Rattle.std.specs.Map.{keys_of, remove_entry}
 use Rattle.spec_pattern.specs.PipeStep.{PipeStep}
 use Rattle.spec_pattern.specs.TurnList.{End}
-use Rattle.spec_pattern.specs.Topics.{Topic, Subscribers}
+use Rattle.spec_pattern.specs.Topics.{Topic, Subscribers, IsTopic}
 use Rattle.spec_pattern.specs.Wanted.{Wanted}
 use Rattle.spec_pattern.specs.Subscribing.{TellsWhere, TellsAll}
 use Rattle.sub_table.specs.Telling.{IsKnown, WantsAlike}
-use Rattle.pub_sub.specs.Notes.{IsTopic}
 use Rattle.pub_sub.specs.Places.{subs_at, is_place}
 use Rattle.pub_sub.specs.Telling.{IsTelling, TellsAt, IsFollower, StaysFollower}
 use Rattle.pub_sub.specs.Followers.{row_of, rows_of, places_of, StayFollowers, TellsRows, StopsRows, IsTellingAll, IsNoting}

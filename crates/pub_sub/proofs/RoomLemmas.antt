@@ -16,14 +16,13 @@ use Rattle.std.specs.Set.{remove_key}
 use Rattle.std.specs.Str.{bytes_eq}
 use Rattle.std.specs.declared.cmp.Ordering.{Ordering}
 use Rattle.std.specs.declared.cmp.Ordering.TheVariants.{Less, Equal, Greater}
-use Rattle.spec_pattern.specs.Topics.{Topic, Subscribers, topic_cmp, is_among, with_topic, without_topic, topics_of, has_topic, others_have, is_full, topics_gone, with_peer, without_peer, after_add, after_cancel}
+use Rattle.spec_pattern.specs.Topics.{Topic, Subscribers, topic_cmp, is_among, with_topic, without_topic, topics_of, has_topic, others_have, is_full, topics_gone, with_peer, without_peer, after_add, after_cancel, IsTopic}
 use Rattle.spec_pattern.specs.Publishing.{Adds, Cancels}
 use Rattle.sub_table.specs.Answers.{add_answer, cancel_answer}
 use Rattle.sub_table.specs.declared.topics.Added.{Added}
 use Rattle.sub_table.specs.declared.topics.Added.TheVariants as add
 use Rattle.sub_table.specs.declared.topics.Cancelled.TheVariants as cancels
 use Rattle.sub_table.proofs.ViewLemmas.{octets_ties}
-use Rattle.pub_sub.specs.Notes.{IsTopic}
 use Rattle.pub_sub.specs.Publishers.{is_news_at}
 use Rattle.pub_sub.specs.Audiences.{topics_held, AreShort, CanTell, is_news_of, gain_of}
 use Rattle.pub_sub.specs.Places.{is_place}

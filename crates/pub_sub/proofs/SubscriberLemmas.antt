@@ -24,7 +24,7 @@ use Rattle.spec_pattern.specs.TurnList.{End}
 use Rattle.spec_pattern.specs.Duty.{Free}
 use Rattle.spec_pattern.specs.Drops.{ReceivesDropping}
 use Rattle.spec_pattern.specs.Results.{MatchRecv}
-use Rattle.spec_pattern.specs.Topics.{Topic, topic_cmp, is_among}
+use Rattle.spec_pattern.specs.Topics.{Topic, topic_cmp, is_among, IsTopic}
 use Rattle.spec_pattern.specs.Wanted.{Wanted, wants, count_of, most_equal, with_one_more, with_one_less}
 use Rattle.spec_pattern.specs.Subscribing.{EndsTelling, TellsWhere, TellsAll, wanted_of}
 use Rattle.spec_pattern.specs.declared.answers.Rule.TheVariants.{Filtered}
@@ -38,7 +38,6 @@ use Rattle.spec_pattern.specs.Dropping.{receiving, DropsFew, ReceivesOver, Match
 use Rattle.sub_table.specs.Telling.{WantsAlike}
 use Rattle.sub_table.proofs.GoneLemmas.{others-left}
 use Rattle.msg_pipe.specs.Turns.{without_place}
-use Rattle.pub_sub.specs.Notes.{IsTopic}
 use Rattle.pub_sub.specs.Places.{is_place, subs_at, AreOthers}
 use Rattle.pub_sub.specs.Telling.{IsFollower, IsTold}
 use Rattle.pub_sub.specs.Followers.{rows_of, places_of}

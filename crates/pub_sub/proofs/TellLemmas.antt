@@ -14,10 +14,9 @@ use Rattle.std.specs.declared.cmp.Ordering.{Ordering}
 use Rattle.std.specs.declared.cmp.Ordering.TheVariants.{Less, Equal, Greater}
 use Rattle.spec_pattern.specs.PipeStep.{PipeStep, Commit, FullLook}
 use Rattle.spec_pattern.specs.TurnList.{End}
-use Rattle.spec_pattern.specs.Topics.{Topic, topic_cmp, is_among, with_topic, without_topic}
+use Rattle.spec_pattern.specs.Topics.{Topic, topic_cmp, is_among, with_topic, without_topic, IsTopic}
 use Rattle.spec_pattern.specs.Wanted.{Wanted, wants, difference}
 use Rattle.spec_pattern.specs.Subscribing.{tell_message, told_after, EndsTelling, TellsOn, TellsWhere}
-use Rattle.pub_sub.specs.Notes.{IsTopic}
 use Rattle.pub_sub.specs.Telling.{TellsThrough, IsTelling, TellsAt, TellsChange, StaysFollower}
 use Rattle.pub_sub.specs.declared.follower.Follower.{Follower}
 use Rattle.pub_sub.proofs.WeightLemmas.{ties, difference_is}

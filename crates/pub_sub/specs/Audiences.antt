@@ -2,10 +2,9 @@
 use Rattle.std.specs.Prelude.{◌≡◌, ◌+◌, ℕ, Bool, true, false, length, All}
 use Rattle.std.specs.Map.{values_of}
 use Rattle.std.specs.List.{sum_by}
-use Rattle.spec_pattern.specs.Topics.{Subscribers}
+use Rattle.spec_pattern.specs.Topics.{Subscribers, IsTopic}
 use Rattle.sub_table.specs.declared.topics.Added.{Added}
 use Rattle.sub_table.specs.declared.topics.Added.TheVariants as add
-use Rattle.pub_sub.specs.Notes.{IsTopic}
 use Rattle.pub_sub.specs.Publishers.{PubState}
 use Rattle.pub_sub.specs.Known.{AreKnown}
 

@@ -3,11 +3,10 @@ use Rattle.std.specs.Prelude.{◌≡◌, ℕ, Bool, List, ◌∷◌, ◌++◌, m
 use Rattle.std.specs.Map.{keys_of}
 use Rattle.spec_pattern.specs.PipeStep.{PipeStep}
 use Rattle.spec_pattern.specs.TurnList.{End}
-use Rattle.spec_pattern.specs.Topics.{Topic, Subscribers}
+use Rattle.spec_pattern.specs.Topics.{Topic, Subscribers, IsTopic}
 use Rattle.spec_pattern.specs.Wanted.{Wanted}
 use Rattle.spec_pattern.specs.Subscribing.{TellsAll}
 use Rattle.sub_table.specs.Telling.{WantsAlike}
-use Rattle.pub_sub.specs.Notes.{IsTopic}
 use Rattle.pub_sub.specs.Places.{subs_at, TellsOf}
 use Rattle.pub_sub.specs.Telling.{IsTelling, IsFollower}
 use Rattle.pub_sub.specs.declared.follower.Follower.{Follower}

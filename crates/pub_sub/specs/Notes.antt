@@ -2,14 +2,10 @@
 use Rattle.std.specs.Prelude.{◌<◌, ◌-◌, ℕ, List, [], ◌∷◌, ◌++◌, length}
 use Rattle.zq_base.specs.Message.{Frames, max_octets}
 use Rattle.zq_base.specs.declared.ids.PairId.{PairId}
-use Rattle.spec_pattern.specs.Topics.{Topic}
+use Rattle.spec_pattern.specs.Topics.{Topic, IsTopic}
 use Rattle.spec_pattern.specs.Publishing.{Notice}
 use Rattle.pub_sub.specs.declared.note.Note.{Note}
 use Rattle.pub_sub.specs.declared.note.Note.TheVariants.{Heard, Cancelled}
-
--- a topic leaves room in a frame for the octet before it
-abbrev pub IsTopic : Topic → Type 0
-IsTopic topic = length topic < max_octets
 
 -- a message of the peer of this pair
 abbrev pub notice : PairId → Frames → Notice

@@ -1,6 +1,6 @@
 -- What a message says, as the code tells it (own choice).
 use Rattle.spec_pattern.specs.Publishing as definition
-use Rattle.pub_sub.specs.Notes.{IsTopic}
+use Rattle.spec_pattern.specs.Topics.{IsTopic}
 use Rattle.pub_sub.specs.declared.saying.Saying.{Saying}
 use Rattle.pub_sub.specs.declared.saying.Saying.TheVariants.{Adds, Cancels, Other}
 

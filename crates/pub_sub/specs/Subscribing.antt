@@ -4,7 +4,7 @@ use Rattle.std.specs.List.{IsDistinct}
 use Rattle.std.specs.Map.{keys_of}
 use Rattle.spec_pattern.specs.PipeStep.{PipeStep}
 use Rattle.spec_pattern.specs.TurnList.{End}
-use Rattle.spec_pattern.specs.Topics.{Topic, Subscribers, with_peer, without_peer}
+use Rattle.spec_pattern.specs.Topics.{Topic, Subscribers, with_peer, without_peer, IsTopic}
 use Rattle.spec_pattern.specs.Wanted.{Wanted, wants, with_one_more, with_one_less}
 use Rattle.spec_pattern.specs.Subscribing.{Subscriber, SubAnswer, Done, Limit, NotSub, is_refused, Tells, wanted_of, SubReceives, with_publisher, without_publisher}
 use Rattle.spec_pattern.specs.PatternCalls.{Change, Subscribe, Unsubscribe, Changes}
@@ -13,7 +13,6 @@ use Rattle.spec_pattern.specs.declared.answers.Skip.{Skip}
 use Rattle.spec_pattern.specs.declared.answers.RecvAnswer.{RecvAnswer}
 use Rattle.msg_pipe.specs.Turns.{without_place}
 use Rattle.spec_pattern.specs.Dropping.{receiving, DropsFew}
-use Rattle.pub_sub.specs.Notes.{IsTopic}
 use Rattle.pub_sub.specs.Places.{subs_at, is_place, AreApart, TellsOf}
 use Rattle.pub_sub.specs.Telling.{IsFollower, IsTold}
 use Rattle.pub_sub.specs.Followers.{places_of, StopsRows}

@@ -3,11 +3,10 @@ use Rattle.std.specs.Prelude.{◌≡◌, ◌+◌, ℕ, Bool, true, false, not, L
 use Rattle.std.specs.Map.{keys_of}
 use Rattle.spec_pattern.specs.PipeStep.{PipeStep, Commit, FullLook}
 use Rattle.spec_pattern.specs.TurnList.{End}
-use Rattle.spec_pattern.specs.Topics.{Topic, is_among}
+use Rattle.spec_pattern.specs.Topics.{Topic, is_among, IsTopic}
 use Rattle.spec_pattern.specs.Wanted.{Wanted, wants, difference}
 use Rattle.spec_pattern.specs.Subscribing.{tell_message, told_after, TellsWhere}
 use Rattle.sub_table.specs.Telling.{IsKnown}
-use Rattle.pub_sub.specs.Notes.{IsTopic}
 use Rattle.pub_sub.specs.declared.follower.Follower.{Follower}
 
 -- how many topics a peer has to be told

@@ -1,9 +1,9 @@
 ghost use Rattle.std.specs.Prelude.{◌≡◌, ◌≤◌, ◌+◌, ◌++◌, ◌&&◌, [], length, nat_eq, cond, true, false, IfOk, OnOk, OnErr};
 ghost use Rattle.std.specs.Map.{keys_of};
-ghost use Rattle.spec_pattern.specs.Topics.{topics_gone, without_peer, after_add, after_cancel};
+ghost use Rattle.spec_pattern.specs.Topics.{topics_gone, without_peer, after_add, after_cancel, IsTopic};
 ghost use Rattle.spec_pattern.specs.Publishing.{Adds, Cancels, saying_of};
 ghost use Rattle.pub_sub.specs.Places.{is_place, AreOthers};
-ghost use Rattle.pub_sub.specs.Notes.{IsTopic, with_room};
+ghost use Rattle.pub_sub.specs.Notes.{with_room};
 ghost use Rattle.pub_sub.specs.Publishers.{subs_after_at, is_news_at, cancels_of};
 ghost use Rattle.pub_sub.specs.Audiences.{CanTell, is_news_of, gain_of};
 

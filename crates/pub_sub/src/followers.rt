@@ -1,10 +1,9 @@
 ghost use Rattle.std.specs.Prelude.{◌≡◌, ◌<◌, ◌&&◌, All, length, nat_eq, remove, true, MatchOption, IfOk, OnOk, OnErr};
 ghost use Rattle.std.specs.Map.{keys_of};
-ghost use Rattle.spec_pattern.specs.Topics.{without_peer};
+ghost use Rattle.spec_pattern.specs.Topics.{without_peer, IsTopic};
 ghost use Rattle.spec_pattern.specs.Wanted.{Wanted};
 ghost use Rattle.sub_table.specs.Telling.{WantsAlike};
 ghost use Rattle.msg_pipe.specs.Places.{KeepsPlaces};
-ghost use Rattle.pub_sub.specs.Notes.{IsTopic};
 ghost use Rattle.pub_sub.specs.Telling.{IsFollower, IsTold};
 ghost use Rattle.pub_sub.specs.Followers.{rows_of, places_of, StayFollowers, TellsRows, StopsRows};
 

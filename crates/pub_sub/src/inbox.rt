@@ -1,7 +1,8 @@
 ghost use Rattle.std.specs.Prelude.{◌≡◌, ◌<◌, ◌≤◌, ◌+◌, ◌-◌, [], ◌∷◌, length, IfOk, OnOk, OnErr, MatchOption};
 ghost use Rattle.zq_base.specs.Message.{max_octets};
 ghost use Rattle.spec_pattern.specs.Pipe.{IsCommittable};
-ghost use Rattle.pub_sub.specs.Notes.{IsTopic, notice, cancel, nothing_waits, with_room, with_notice};
+ghost use Rattle.pub_sub.specs.Notes.{notice, cancel, nothing_waits, with_room, with_notice};
+ghost use Rattle.spec_pattern.specs.Topics.{IsTopic};
 
 use crate::note::Note;
 use bytes::Bytes;

@@ -3,7 +3,7 @@ ghost use Rattle.std.specs.Map.{keys_of};
 ghost use Rattle.spec_pattern.specs.Results.{MatchRecv};
 ghost use Rattle.spec_pattern.specs.PatternCalls.{Subscribe, Unsubscribe};
 ghost use Rattle.msg_pipe.specs.Places.{KeepsPlaces};
-ghost use Rattle.pub_sub.specs.Notes.{IsTopic};
+ghost use Rattle.spec_pattern.specs.Topics.{IsTopic};
 ghost use Rattle.pub_sub.specs.Places.{AreOthers};
 ghost use Rattle.pub_sub.specs.Subscribing.{no_publishers, with_publisher_at, without_publisher_at, KeepsFollowers, KeepsWanted, MatchChange, TellsPeers, StopsTelling, ChangesAt, ChangesUntold, SubGives, SubStops};
 

@@ -8,9 +8,9 @@ use Rattle.std.specs.declared.cmp.Ordering.TheVariants.{Less, Equal, Greater}
 use Rattle.std.specs.Cmp.Lexicographic.{slice_cmp}
 use Rattle.std.specs.Str.{bytes_eq}
 use Rattle.zq_base.specs.Message.{Frames}
-use Rattle.spec_pattern.specs.Topics.{Topic, with_topic, without_topic}
+use Rattle.spec_pattern.specs.Topics.{Topic, with_topic, without_topic, IsTopic}
 use Rattle.sub_table.specs.View.{topics_in}
-use Rattle.spec_link.specs.Topics.{Topics, IsTopic, AreShort, IsLeft}
+use Rattle.spec_link.specs.Topics.{Topics, AreShort, IsLeft}
 
 -- with one more
 pub short_with : (t : Topic) (ts : List Topic) → IsTopic t → AreShort ts → AreShort (with_topic t ts)

@@ -1,7 +1,7 @@
 -- The topics that a session took for its peer, and the messages that say them again at a link (own choice; RFC 29, "The SUB Socket Type").
 use Rattle.std.specs.Prelude.{◌≡◌, ◌<◌, Bool, true, false, List, [], ◌∷◌, length, Option, Some, None}
 use Rattle.zq_base.specs.Message.{Frames, max_octets}
-use Rattle.spec_pattern.specs.Topics.{Topic}
+use Rattle.spec_pattern.specs.Topics.{Topic, IsTopic}
 use Rattle.spec_pattern.specs.Publishing as definition
 use Rattle.spec_link.specs.Turn.{topics_by}
 use Rattle.spec_link.specs.TopicsFirst.{topics_said}
@@ -12,10 +12,6 @@ use Rattle.spec_link.specs.declared.saying.Saying.TheVariants as saying
 pub record Topics : Type 0 where
   pub taken : List Topic
   pub again : Option (List Frames)
-
--- a topic leaves room in a frame for the octet before it
-abbrev pub IsTopic : Topic → Type 0
-IsTopic topic = length topic < max_octets
 
 abbrev pub AreShort : List Topic → Type 0
 AreShort [] = Unit {0}

@@ -1,7 +1,8 @@
 ghost use Rattle.std.specs.Prelude.{◌≡◌, ◌∷◌, [], IfOk};
 ghost use Rattle.spec_link.specs.TopicsFirst.{topics_said};
 ghost use Rattle.sub_table.specs.View.{topics_in};
-ghost use Rattle.spec_link.specs.Topics.{IsTopic, AreShort};
+ghost use Rattle.spec_link.specs.Topics.{AreShort};
+ghost use Rattle.spec_pattern.specs.Topics.{IsTopic};
 
 use bytes::Bytes;
 use std::alloc::{AllocError, Global};

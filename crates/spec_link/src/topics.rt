@@ -1,6 +1,7 @@
 ghost use Rattle.std.specs.Prelude.{◌≡◌, [], None, OnOk, OnErr};
 ghost use Rattle.spec_pattern.specs.Publishing.{saying_of, Adds, Cancels};
-ghost use Rattle.spec_link.specs.Topics.{IsTopic, with_saying, with_again, NextAgain, IsLeft};
+ghost use Rattle.spec_link.specs.Topics.{with_saying, with_again, NextAgain, IsLeft};
+ghost use Rattle.spec_pattern.specs.Topics.{IsTopic};
 
 use crate::again::adds_of;
 use crate::saying::{Saying, saying_of};

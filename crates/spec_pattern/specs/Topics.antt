@@ -1,5 +1,5 @@
 -- Who subscribed to what (RFC 29, "The PUB Socket Type" and "The XPUB Socket Type"): a message goes to each subscriber of which a topic is a prefix of the message's first frame. The most topics of a subscriber are an own choice.
-use Rattle.std.specs.Prelude.{ℕ, Bool, not, ◌&&◌, ◌||◌, List, [], ◌∷◌, ◌++◌, length, filter, nat_eq, nat_le, if◌then◌else◌}
+use Rattle.std.specs.Prelude.{◌<◌, ℕ, Bool, not, ◌&&◌, ◌||◌, List, [], ◌∷◌, ◌++◌, length, filter, nat_eq, nat_le, if◌then◌else◌}
 use Rattle.std.specs.List.{list_any, starts_with}
 use Rattle.std.specs.List.Sorted.{IsStrictlySortedBy}
 use Rattle.std.specs.Map.{keys_of, lookup, set_value, remove_entry}
@@ -9,6 +9,7 @@ use Rattle.std.specs.declared.cmp.Ordering.{Ordering}
 use Rattle.std.specs.Cmp.Lexicographic.{slice_cmp}
 use Rattle.std.specs.Str.{bytes_eq}
 use Rattle.std.specs.BTreeSet.{insert_key}
+use Rattle.zq_base.specs.Message.{max_octets}
 use Rattle.std.specs.Set.{remove_key}
 
 -- ---- topics
@@ -16,6 +17,10 @@ use Rattle.std.specs.Set.{remove_key}
 -- the octets that a message's first frame begins with
 abbrev pub Topic : Type 0
 Topic = List ℕ
+
+-- a topic leaves room in a frame for the octet before it
+abbrev pub IsTopic : Topic → Type 0
+IsTopic topic = length topic < max_octets
 
 -- the order of topics is that of their octets
 abbrev pub topic_cmp : Topic → Topic → Ordering

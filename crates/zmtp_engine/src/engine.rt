@@ -15,9 +15,7 @@ use crate::stream_decoder::StreamDecoder;
 use crate::want::OutOfMemory;
 use crate::writer::Writer;
 use std::alloc::{AllocError, Global};
-use std::collections::VecDeque;
 use std::marker::Model;
-use std::mem::replace;
 use zq_base::{EngineOpts, Message, Peer};
 
 /// One side of a link in ZMTP 3.0: it is fed the peer's octets, and lends those that are to be written.
@@ -84,18 +82,6 @@ impl Engine {
         ensures lent { self.new.output ≡ self.old.output }
     {
         self.stream.traffic.queue.pop_front()
-    }
-
-    /// Takes all whole messages out, in exchange for an empty list.
-    pub fn take_messages(&mut self, empty: VecDeque<Message>) -> VecDeque<Message>
-        requires empty { empty.items ≡ [] }
-        ensures all { result.items ≡ waiting self.old }
-        ensures none { waiting self.new ≡ [] }
-        ensures follows { (p : Past) → Follows p self.old → Follows (gave result.items p) self.new }
-        ensures current { IsCurrent self.old → IsCurrent self.new }
-        ensures lent { self.new.output ≡ self.old.output }
-    {
-        replace(&mut self.stream.traffic.queue, empty)
     }
 
     /// Takes a message to be written.

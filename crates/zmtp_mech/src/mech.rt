@@ -1,13 +1,13 @@
 ghost use Rattle.std.specs.Prelude.{◌≡◌, [], IfOk, OnOk, OnErr, IfSome};
 ghost use Rattle.std.specs.Option.{option_to_list};
 ghost use Rattle.spec_zmtp.specs.OwnCommands.{IsEngineOpts};
-ghost use Rattle.spec_zmtp.specs.Handshake.{Told, MessageFrame, handshake, next};
+ghost use Rattle.spec_zmtp.specs.Handshake.{Told, handshake, next};
 ghost use Rattle.zmtp_mech.specs.Mechanism.{begun, at_stage, answer_of, said_by, IsSayable};
 
 use crate::answer::Answer;
 use crate::commands::{our_hello, our_ready};
 use crate::steps::hear_command;
-use spec_zmtp::{Awaited, Cause, Command, Stage};
+use spec_zmtp::{Awaited, Command, Stage};
 use std::alloc::{AllocError, Global};
 use std::marker::Model;
 use zq_base::{EngineOpts, Role};
@@ -98,20 +98,5 @@ impl Mech {
         let step = hear_command(alloc, &self.opts, self.stage, &command)?;
         self.stage = step.stage;
         Ok(step.answer)
-    }
-
-    /// Hears a frame of a message.
-    pub fn hear_message_frame(&mut self) -> Answer
-        ensures answer { result ≡ answer_of (next self.old.opts self.old.stage MessageFrame) }
-        ensures stage { self.new ≡ at_stage (next self.old.opts self.old.stage MessageFrame).stage self.old }
-    {
-        match self.stage {
-            Stage::Waiting(_) => {
-                self.stage = Stage::Refused(Cause::OutOfOrder);
-                Answer::Refused(Cause::OutOfOrder, None)
-            }
-            Stage::Running => Answer::Wait,
-            Stage::Refused(cause) => Answer::Refused(cause, None),
-        }
     }
 }

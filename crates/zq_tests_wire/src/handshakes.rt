@@ -3,7 +3,7 @@ use crate::options::{of_login, of_null};
 use spec_zmtp::{Awaited, Cause, Command, Stage};
 use std::alloc::{AllocError, Global};
 use std::test::Fail;
-use zmtp_mech::{Answer, Mech};
+use zmtp_mech::Mech;
 use zq_base::{Kind, Octets, Role};
 
 fn null(alloc: Global, kind: Kind) -> Result<Mech, AllocError> {
@@ -30,8 +30,7 @@ fn hears_ready(alloc: Global, mech: &mut Mech, content: &[u8]) -> bool {
 // Whether the READY of a REP ends the handshake.
 fn ends_with_a_rep(alloc: Global, mech: &mut Mech) -> bool {
     let heard = hears_ready(alloc, mech, b"\x0bSocket-Type\0\0\0\x03REP");
-    let running = mech.stage() == Stage::Running;
-    heard && running && matches!(mech.hear_message_frame(), Answer::Wait)
+    heard && mech.stage() == Stage::Running
 }
 
 // Whether a side begins with a command.
@@ -51,27 +50,6 @@ fn a_null_side_says_ready_and_hears_it(rt: HostRuntime) -> Result<(), Fail> {
     check(begins && ends)
 }
 
-// Whether a frame of a message that comes before the READY is refused for good.
-fn refuses_a_message(mech: &mut Mech) -> bool {
-    let refused = matches!(
-        mech.hear_message_frame(),
-        Answer::Refused(Cause::OutOfOrder, None)
-    );
-    refused && mech.stage() == Stage::Refused(Cause::OutOfOrder)
-}
-
-// Whether a DEALER has the order.
-fn has_its_order(alloc: Global) -> bool {
-    match null(alloc, Kind::Dealer) {
-        Ok(mut mech) => {
-            let refuses = refuses_a_message(&mut mech);
-            drop(mech);
-            return refuses;
-        }
-        Err(_) => return false,
-    }
-}
-
 // Whether a REP wants a kind: a READY without a Socket-Type is refused.
 fn has_its_kind(alloc: Global) -> bool {
     match null(alloc, Kind::Rep) {
@@ -86,8 +64,8 @@ fn has_its_kind(alloc: Global) -> bool {
 }
 
 #[test]
-fn a_handshake_has_its_order_and_its_kind(rt: HostRuntime) {
-    assert!(rt; has_its_order(rt.alloc()) && has_its_kind(rt.alloc()));
+fn a_handshake_has_its_kind(rt: HostRuntime) {
+    assert!(rt; has_its_kind(rt.alloc()));
 }
 
 fn client(alloc: Global) -> Result<Mech, AllocError> {

@@ -1,7 +1,7 @@
 use Rattle.std.proofs.Common.{◌≡◌, ◌<◌, length, List, ℕ, Some, sym, subst, rules}
 use Rattle.std.specs.Prelude.{slice_get}
 use Rattle.std.proofs.lemmas.Map.Iter.{iter_turn}
-use Rattle.spec_link.specs.Topics.{IsTopic}
+use Rattle.spec_pattern.specs.Topics.{IsTopic}
 use Rattle.spec_link.proofs.ShortLemmas.{short_at}
 use Rattle.spec_link.proofs.again.adds_of.Goals as goal
 

@@ -1,8 +1,8 @@
 use Rattle.std.proofs.Common.{◌≡◌, ◌∙◌, ◌+◌, ◌-◌, ◌≤◌, ◌++◌, ◌∷◌, [], length, nat_eq, ap, sym, refl, suc, append_assoc, arith}
 use Rattle.std.proofs.lemmas.List.Elements.{All-rest}
-use Rattle.spec_pattern.specs.Topics.{topics_of, topics_gone, without_peer}
+use Rattle.spec_pattern.specs.Topics.{topics_of, topics_gone, without_peer, IsTopic}
 use Rattle.sub_table.proofs.GoneLemmas.{without_peer-only}
-use Rattle.pub_sub.specs.Notes.{IsTopic, InboxState, notice, cancel}
+use Rattle.pub_sub.specs.Notes.{InboxState, notice, cancel}
 use Rattle.pub_sub.specs.Publishers.{cancels_of}
 use Rattle.pub_sub.proofs.RoomLemmas.{room_of, room_gone, short_gone, CanTell-without, CanTell-as}
 use Rattle.pub_sub.proofs.audience.Audience.leave.Goals as goal

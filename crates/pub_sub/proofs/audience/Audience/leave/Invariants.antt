@@ -1,6 +1,5 @@
 use Rattle.std.proofs.Common.{◌≡◌, ◌+◌, ◌≤◌, ◌++◌, All, length, nat_eq}
-use Rattle.spec_pattern.specs.Topics.{without_peer, topics_gone}
-use Rattle.pub_sub.specs.Notes.{IsTopic}
+use Rattle.spec_pattern.specs.Topics.{without_peer, topics_gone, IsTopic}
 use Rattle.pub_sub.specs.Publishers.{cancels_of}
 use Rattle.pub_sub.proofs.audience.Audience.leave.Given as goal
 

@@ -1,5 +1,5 @@
 use Rattle.std.proofs.Common.{All, refl, sym, subst}
-use Rattle.pub_sub.specs.Notes.{IsTopic}
+use Rattle.spec_pattern.specs.Topics.{IsTopic}
 use Rattle.pub_sub.proofs.TellLemmas.{short_after}
 use Rattle.pub_sub.proofs.TellLemmas.{short_change}
 use Rattle.pub_sub.proofs.follower.Follower.tell_gone.Goals as goal

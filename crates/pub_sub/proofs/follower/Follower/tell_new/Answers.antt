@@ -1,6 +1,5 @@
 use Rattle.std.proofs.Common.{◌∙◌, All, refl, ap, sym, subst}
-use Rattle.spec_pattern.specs.Topics.{without_topic}
-use Rattle.pub_sub.specs.Notes.{IsTopic}
+use Rattle.spec_pattern.specs.Topics.{without_topic, IsTopic}
 use Rattle.pub_sub.proofs.TellLemmas.{short_after, without-with, fresh_change}
 use Rattle.pub_sub.proofs.TellLemmas.{short_change}
 use Rattle.pub_sub.proofs.follower.Follower.tell_new.Goals as goal
