@@ -1,5 +1,4 @@
 ghost use Rattle.std.specs.Prelude.{◌≡◌, map, string_bytes};
-ghost use Rattle.zq_outer.specs.Readings.{clock_at};
 ghost use Rattle.zq_call.specs.Call.{AnswersCall, outside};
 
 use crate::runs::Runs;
@@ -26,8 +25,8 @@ pub fn call<X: Runs, S: Source, K: Sink, H: Host, C: Clock, G: Gate>(
 ) -> Status
     // Each status says what was read and written; the readings of a run are those that the clock gave.
     ensures answers { AnswersCall X.prints X.refuses result (map string_bytes words.now)
-        (outside (S.left script.old) (S.faults script.old) (S.ends script.old) (clock_at (C.last clock.old) (C.to_come clock.old)) (K.taken out.old) (K.faults out.old))
-        (outside (S.left script.new) (S.faults script.new) (S.ends script.new) (clock_at (C.last clock.new) (C.to_come clock.new)) (K.taken out.new) (K.faults out.new)) }
+        (outside (S.left script.old) (S.faults script.old) (S.ends script.old) (C.at clock.old) (K.taken out.old) (K.faults out.old))
+        (outside (S.left script.new) (S.faults script.new) (S.ends script.new) (C.at clock.new) (K.taken out.new) (K.faults out.new)) }
 
     // Want of memory comes before the first write is tried.
     ensures memory { result ≡ Status.OutOfMemory → out.new ≡ out.old }

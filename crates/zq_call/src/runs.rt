@@ -1,6 +1,6 @@
 ghost use Rattle.std.specs.Prelude.{ℕ, Bool, List, IfOk, IfErr};
 ghost use Rattle.spec_run.specs.Run.{Schedule};
-ghost use Rattle.zq_outer.specs.Readings.{clock_at, GoesOn};
+ghost use Rattle.zq_outer.specs.Readings.{GoesOn};
 ghost use Rattle.zq_call.specs.Call.{SaysOf};
 
 use crate::status::Status;
@@ -28,8 +28,8 @@ pub trait Runs {
     ) -> Result<(Status, Vec<u8>), AllocError>
         ensures says { IfOk result (λ said. SaysOf prints refuses
             (record { seed = seed; turns = turns }) said.0 octets.now
-            (clock_at (C.last clock.old) (C.to_come clock.old)) (clock_at (C.last clock.new) (C.to_come clock.new))
+            (C.at clock.old) (C.at clock.new)
             said.1.items) }
         ensures err { IfErr result (λ _. GoesOn
-            (clock_at (C.last clock.old) (C.to_come clock.old)) (clock_at (C.last clock.new) (C.to_come clock.new))) };
+            (C.at clock.old) (C.at clock.new)) };
 }

@@ -1,7 +1,7 @@
 ghost use Rattle.std.specs.Prelude.{◌≡◌, ◌≤◌, ℕ, Bool, List, map, string_bytes, codes, IfOk, IfErr, IfSome};
 ghost use Rattle.spec_zmtp.specs.Metadata.{IsLogin};
 ghost use Rattle.zq_call.specs.HearText.{IsHeard, hear_opts};
-ghost use Rattle.zq_outer.specs.Readings.{clock_at, ClockAt, GoesOn};
+ghost use Rattle.zq_outer.specs.Readings.{ClockAt, GoesOn};
 ghost use Rattle.zq_call.specs.Call.{AsksRun, AsksHear, SaysText, input_at, heard_status};
 
 use crate::hearing::hear;
@@ -24,10 +24,10 @@ fn read_and_run<X: Runs, S: Source, C: Clock>(
 ) -> Result<(Status, Vec<u8>), AllocError>
     ensures says { (words : List (List ℕ)) → AsksRun words (record { seed = seed; turns = turns }) → IfOk result (λ said.
         SaysText X.prints X.refuses said.0 words
-        (input_at (S.left script.old) (S.faults script.old) (S.ends script.old) (clock_at (C.last clock.old) (C.to_come clock.old)))
-        (input_at (S.left script.new) (S.faults script.new) (S.ends script.new) (clock_at (C.last clock.new) (C.to_come clock.new))) said.1.items) }
+        (input_at (S.left script.old) (S.faults script.old) (S.ends script.old) (C.at clock.old))
+        (input_at (S.left script.new) (S.faults script.new) (S.ends script.new) (C.at clock.new)) said.1.items) }
     ensures err { IfErr result (λ _. GoesOn
-        (clock_at (C.last clock.old) (C.to_come clock.old)) (clock_at (C.last clock.new) (C.to_come clock.new))) }
+        (C.at clock.old) (C.at clock.new)) }
     ensures faults { S.faults script.old ≤ S.faults script.new }
 {
     let octets = match read_script_text(alloc, script) {
@@ -101,10 +101,10 @@ pub(crate) fn text_for<X: Runs, S: Source, C: Clock>(
     clock: &mut C,
 ) -> Result<(Status, Vec<u8>), AllocError>
     ensures says { IfOk result (λ said. SaysText X.prints X.refuses said.0 (map string_bytes words.now)
-        (input_at (S.left script.old) (S.faults script.old) (S.ends script.old) (clock_at (C.last clock.old) (C.to_come clock.old)))
-        (input_at (S.left script.new) (S.faults script.new) (S.ends script.new) (clock_at (C.last clock.new) (C.to_come clock.new))) said.1.items) }
+        (input_at (S.left script.old) (S.faults script.old) (S.ends script.old) (C.at clock.old))
+        (input_at (S.left script.new) (S.faults script.new) (S.ends script.new) (C.at clock.new)) said.1.items) }
     ensures err { IfErr result (λ _. GoesOn
-        (clock_at (C.last clock.old) (C.to_come clock.old)) (clock_at (C.last clock.new) (C.to_come clock.new))) }
+        (C.at clock.old) (C.at clock.new)) }
 {
     match read_words(alloc, words) {
         Ok(Request::Run { seed, turns }) => {

@@ -4,18 +4,17 @@ use std::marker::Model;
 
 /// A clock in milliseconds.
 pub trait Clock {
-    /// Its last reading, and 0 before the first.
-    ghost last: { Self → ℕ };
+    ghost use Rattle.zq_outer.specs.Readings.{ClockAt};
 
-    /// The n-th of its readings to come, from 0, where the clock tells it.
-    ghost to_come: { Self → ℕ → Option ℕ };
+    /// Its last reading, 0 before the first, and its readings to come, where it tells them.
+    ghost at: { Self → ClockAt };
 
     /// Reads the clock.
     fn now(&mut self) -> u64
-        ensures reading { last self.new ≡ result }
-        ensures later { last self.old ≤ result }
-        ensures told { IfSome (to_come self.old 0) (λ reading. result ≡ reading) }
-        ensures next { (n : ℕ) → to_come self.new n ≡ to_come self.old (n + 1) };
+        ensures reading { (at self.new).last ≡ result }
+        ensures later { (at self.old).last ≤ result }
+        ensures told { IfSome ((at self.old).to_come 0) (λ reading. result ≡ reading) }
+        ensures next { (n : ℕ) → (at self.new).to_come n ≡ (at self.old).to_come (n + 1) };
 }
 
 /// A clock that reads 0 at first, and one more at each read after it.
@@ -39,12 +38,9 @@ impl TickClock {
 }
 
 impl Clock for TickClock {
-    ghost use Rattle.std.specs.Prelude.{Some, unwrap_or};
-    ghost use Rattle.zq_outer.specs.Clock.{tick_to_come};
+    ghost use Rattle.zq_outer.specs.Readings.{tick_at};
 
-    ghost last = { λ last. unwrap_or last 0 };
-
-    ghost to_come = { λ last n. Some (tick_to_come last n) };
+    ghost at = { tick_at };
 
     fn now(&mut self) -> u64 {
         let reading = match self.last {

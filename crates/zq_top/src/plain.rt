@@ -1,5 +1,5 @@
 ghost use Rattle.std.specs.Prelude.{ℕ, List, IfOk, IfErr};
-ghost use Rattle.zq_outer.specs.Readings.{clock_at, ClockAt, GoesOn};
+ghost use Rattle.zq_outer.specs.Readings.{ClockAt, GoesOn};
 ghost use Rattle.spec_run.specs.Run.{Schedule};
 ghost use Rattle.zq_top.specs.RunText.{TellsRun, IsRunDue};
 ghost use Rattle.zq_top.specs.Told.{Told};
@@ -30,11 +30,11 @@ fn text_in_context<C: Clock>(
     // The text is that of the script's one journal, of a run whose readings the clock gave; a fault is
     // that of octets that are no script.
     ensures tells { IfOk result (TellsRun ℕ Told (record { seed = seed; turns = turns }) octets.now
-        (clock_at (C.last clock.old) (C.to_come clock.old)) (clock_at (C.last clock.new) (C.to_come clock.new))) }
+        (C.at clock.old) (C.at clock.new)) }
     // And which of them is told is settled by the octets, the seed and the turns.
     ensures due { IfOk result (IsRunDue ℕ Told (record { seed = seed; turns = turns }) octets.now) }
     ensures err { IfErr result (λ _. GoesOn
-        (clock_at (C.last clock.old) (C.to_come clock.old)) (clock_at (C.last clock.new) (C.to_come clock.new))) }
+        (C.at clock.old) (C.at clock.new)) }
 {
     let mut core = Context::new(alloc, PlainPipes::new(alloc), (), ())?;
     let told = text_of_run::<PlainPipes, Context, C>(alloc, octets, &mut core, clock, seed, turns);

@@ -1,5 +1,5 @@
 ghost use Rattle.std.specs.Prelude.{◌≡◌, [], IfOk, IfErr};
-ghost use Rattle.zq_outer.specs.Readings.{clock_at, GoesOn};
+ghost use Rattle.zq_outer.specs.Readings.{GoesOn};
 ghost use Rattle.zq_world.specs.MayAsk.{MayAskScript};
 ghost use Rattle.zq_top.specs.RunText.{told_of, TellsPlay, TellsRun, IsRunDue};
 
@@ -39,9 +39,9 @@ fn play<P: Pipes, W: Core<P>, C: Clock>(
     requires new { W.pieces core.old ≡ [] }
     requires may { MayAskScript script.now }
     ensures tells { IfOk result (TellsPlay P.Name P.Story script.now (record { seed = seed; turns = turns })
-        (clock_at (C.last clock.old) (C.to_come clock.old)) (clock_at (C.last clock.new) (C.to_come clock.new))) }
+        (C.at clock.old) (C.at clock.new)) }
     ensures err { IfErr result (λ _.
-        GoesOn (clock_at (C.last clock.old) (C.to_come clock.old)) (clock_at (C.last clock.new) (C.to_come clock.new))) }
+        GoesOn (C.at clock.old) (C.at clock.new)) }
 {
     let journal = play_script(alloc, script, core, clock, seed, turns)?;
     let said = tell(alloc, &journal);
@@ -63,13 +63,13 @@ pub fn text_of_run<P: Pipes, W: Core<P>, C: Clock>(
     // The text is that of the script's one journal, of a run whose readings the clock gave; a fault is
     // that of octets that are no script, and the clock is as it was.
     ensures tells { IfOk result (TellsRun P.Name P.Story (record { seed = seed; turns = turns }) octets.now
-        (clock_at (C.last clock.old) (C.to_come clock.old)) (clock_at (C.last clock.new) (C.to_come clock.new))) }
+        (C.at clock.old) (C.at clock.new)) }
     // And which of them is told is settled by the octets, the seed and the turns.
     ensures due { IfOk result (IsRunDue P.Name P.Story
         (record { seed = seed; turns = turns }) octets.now) }
     // Without memory the clock went on by some readings.
     ensures err { IfErr result (λ _.
-        GoesOn (clock_at (C.last clock.old) (C.to_come clock.old)) (clock_at (C.last clock.new) (C.to_come clock.new))) }
+        GoesOn (C.at clock.old) (C.at clock.new)) }
 {
     a_script_has_one_run_journal::<P::Name, P::Story>();
     scripts_are_done_in_time::<P::Name, P::Story>();

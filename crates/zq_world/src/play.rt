@@ -8,7 +8,7 @@ ghost use Rattle.zq_world.specs.CoreCalls.{IsReaper};
 ghost use Rattle.zq_world.specs.Turning.{ActorsAgree, WorkerSteps, HaveStepped, TurnSteps, times};
 ghost use Rattle.zq_world.specs.Turning.{standings, BeginsOrEnds};
 ghost use Rattle.zq_world.specs.Timed.{RunsTimed};
-ghost use Rattle.zq_outer.specs.Readings.{clock_at, GoesOn};
+ghost use Rattle.zq_outer.specs.Readings.{GoesOn};
 
 use crate::actor::Actor;
 use crate::cores::Core;
@@ -144,9 +144,9 @@ pub fn run<P: Pipes, W: Core<P>, C: Clock>(
     requires alone { IsReaper (length actors.old) (W.pieces way.old) }
     ensures ok { IfOk result (λ done. RunsTimed W.as_open seed turns done actors.old actors.new
         (W.pieces way.old) (W.pieces way.new)
-        (clock_at (C.last clock.old) (C.to_come clock.old)) (clock_at (C.last clock.new) (C.to_come clock.new))) }
+        (C.at clock.old) (C.at clock.new)) }
     ensures err { IfErr result (λ _.
-        GoesOn (clock_at (C.last clock.old) (C.to_come clock.old)) (clock_at (C.last clock.new) (C.to_come clock.new))) }
+        GoesOn (C.at clock.old) (C.at clock.new)) }
     ensures agree { ActorsAgree W.as_open W.agrees W.was_made way.new actors.new }
 {
     let conductor = actors.len().saturating_add(OTHER_WORKERS);

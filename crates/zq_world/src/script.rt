@@ -1,5 +1,5 @@
 ghost use Rattle.std.specs.Prelude.{◌≡◌, [], IfOk, IfErr, map};
-ghost use Rattle.zq_outer.specs.Readings.{clock_at, GoesOn};
+ghost use Rattle.zq_outer.specs.Readings.{GoesOn};
 ghost use Rattle.zq_world.specs.MayAsk.{MayAskScript};
 ghost use Rattle.zq_world.specs.Stepping.{lines_of};
 ghost use Rattle.zq_world.specs.Played.{AreNew, IsOrderly};
@@ -58,9 +58,9 @@ pub fn play_script<P: Pipes, W: Core<P>, C: Clock>(
     requires new { W.pieces way.old ≡ [] }
     requires may { MayAskScript script.now }
     ensures ok { IfOk result (IsTimedJournal P.Name P.Story script.now (record { seed = seed; turns = turns })
-        (clock_at (C.last clock.old) (C.to_come clock.old)) (clock_at (C.last clock.new) (C.to_come clock.new))) }
+        (C.at clock.old) (C.at clock.new)) }
     ensures err { IfErr result (λ _.
-        GoesOn (clock_at (C.last clock.old) (C.to_come clock.old)) (clock_at (C.last clock.new) (C.to_come clock.new))) }
+        GoesOn (C.at clock.old) (C.at clock.new)) }
 {
     let mut actors = actors_of(alloc, script)?;
     run(alloc, way, &mut actors, clock, seed, turns)?;

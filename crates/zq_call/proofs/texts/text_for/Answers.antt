@@ -1,5 +1,4 @@
 use Rattle.std.proofs.Common.{Some, Err, map, string_bytes, refl, ap, ◌∙◌}
-use Rattle.zq_outer.specs.Readings.{clock_at}
 use Rattle.zq_call.proofs.Asked.{asked_short}
 use Rattle.zq_call.proofs.texts.text_for.Goals as goal
 
@@ -11,4 +10,4 @@ returns-in-Err-Usage-clause-says g c = rw c.in_ok-said-in-Err-Usage.ensures.0 (c
 
 pub returns-in-Ok-Hear-clause-says : goal.returns-in-Ok-Hear-clause-says
 returns-in-Ok-Hear-clause-says g c =
-    c.in_ok-said-in-Ok-Hear.ensures (map string_bytes c.args.words.now) (clock_at (g.C.Clock.last c.args.clock.now) (g.C.Clock.to_come c.args.clock.now)) (c.in-Ok-Hear.ensures.ok ∙ ap Some c.in-Ok-Hear.field-0-is)
+    c.in_ok-said-in-Ok-Hear.ensures (map string_bytes c.args.words.now) (g.C.Clock.at c.args.clock.now) (c.in-Ok-Hear.ensures.ok ∙ ap Some c.in-Ok-Hear.field-0-is)

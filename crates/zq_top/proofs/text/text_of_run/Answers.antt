@@ -1,6 +1,5 @@
 use Rattle.std.proofs.Common.{[], Err, refl, ap, subst, sym}
 use Rattle.std.specs.Prelude.{IfOk}
-use Rattle.zq_outer.specs.Readings.{clock_at}
 use Rattle.zq_outer.proofs.ClockLemmas.{reads_none}
 use Rattle.spec_run.specs.LineCall.{RunScript}
 use Rattle.zq_world.specs.MayAsk.{MayAskScript}
@@ -13,15 +12,15 @@ play-said-requires-clause-may g c =
     subst MayAskScript (sym c.as_slice.ensures) (c.scripts_that_are_read_may_be_asked.ensures c.args.octets.now c.in-Ok.script c.in-Ok.ensures.ok)
 
 pub returns-in-Ok-clause-tells : goal.returns-in-Ok-clause-tells
-returns-in-Ok-clause-tells g c = tells_if _ _ c.a_script_has_one_run_journal.ensures _ c.args.octets.now (clock_at (g.C.Clock.last c.args.clock.now) (g.C.Clock.to_come c.args.clock.now)) (clock_at (g.C.Clock.last c.play-said.new.clock) (g.C.Clock.to_come c.play-said.new.clock)) c.in-Ok.script c.play-said.result c.in-Ok.ensures.ok
-    (subst (λ (x : RunScript). IfOk c.play-said.result (TellsPlay _ _ x (record { seed = c.args.seed; turns = c.args.turns }) (clock_at (g.C.Clock.last c.args.clock.now) (g.C.Clock.to_come c.args.clock.now)) (clock_at (g.C.Clock.last c.play-said.new.clock) (g.C.Clock.to_come c.play-said.new.clock)))) c.as_slice.ensures c.play-said.ensures.tells)
+returns-in-Ok-clause-tells g c = tells_if _ _ c.a_script_has_one_run_journal.ensures _ c.args.octets.now (g.C.Clock.at c.args.clock.now) (g.C.Clock.at c.play-said.new.clock) c.in-Ok.script c.play-said.result c.in-Ok.ensures.ok
+    (subst (λ (x : RunScript). IfOk c.play-said.result (TellsPlay _ _ x (record { seed = c.args.seed; turns = c.args.turns }) (g.C.Clock.at c.args.clock.now) (g.C.Clock.at c.play-said.new.clock))) c.as_slice.ensures c.play-said.ensures.tells)
 
 pub returns-in-Ok-clause-due : goal.returns-in-Ok-clause-due
-returns-in-Ok-clause-due g c = due_if _ _ c.a_script_has_one_run_journal.ensures c.scripts_are_done_in_time.ensures _ c.args.octets.now (clock_at (g.C.Clock.last c.args.clock.now) (g.C.Clock.to_come c.args.clock.now)) (clock_at (g.C.Clock.last c.play-said.new.clock) (g.C.Clock.to_come c.play-said.new.clock)) c.in-Ok.script c.play-said.result c.in-Ok.ensures.ok
-    (subst (λ (x : RunScript). IfOk c.play-said.result (TellsPlay _ _ x (record { seed = c.args.seed; turns = c.args.turns }) (clock_at (g.C.Clock.last c.args.clock.now) (g.C.Clock.to_come c.args.clock.now)) (clock_at (g.C.Clock.last c.play-said.new.clock) (g.C.Clock.to_come c.play-said.new.clock)))) c.as_slice.ensures c.play-said.ensures.tells)
+returns-in-Ok-clause-due g c = due_if _ _ c.a_script_has_one_run_journal.ensures c.scripts_are_done_in_time.ensures _ c.args.octets.now (g.C.Clock.at c.args.clock.now) (g.C.Clock.at c.play-said.new.clock) c.in-Ok.script c.play-said.result c.in-Ok.ensures.ok
+    (subst (λ (x : RunScript). IfOk c.play-said.result (TellsPlay _ _ x (record { seed = c.args.seed; turns = c.args.turns }) (g.C.Clock.at c.args.clock.now) (g.C.Clock.at c.play-said.new.clock))) c.as_slice.ensures c.play-said.ensures.tells)
 
 pub returns-in-Err-OutOfMemory-clause-err : goal.returns-in-Err-OutOfMemory-clause-err
-returns-in-Err-OutOfMemory-clause-err g c = ([], reads_none (clock_at (g.C.Clock.last c.args.clock.now) (g.C.Clock.to_come c.args.clock.now)))
+returns-in-Err-OutOfMemory-clause-err g c = ([], reads_none (g.C.Clock.at c.args.clock.now))
 
 pub returns-in-Err-Fault-clause-tells : goal.returns-in-Err-Fault-clause-tells
 returns-in-Err-Fault-clause-tells g c = rw c.in-Err-Fault.fault-is (c.in-Err-Fault.ensures.fault c.in-Err-Fault.fault (ap Err c.in-Err-Fault.field-0-is), refl)

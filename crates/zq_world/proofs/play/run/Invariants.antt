@@ -1,6 +1,5 @@
 use Rattle.std.proofs.Common.{◌≡◌, ◌+◌, List, ℕ, length}
 use Rattle.spec_run.specs.InTurns.{OneTurn}
-use Rattle.zq_outer.specs.Readings.{clock_at}
 use Rattle.zq_world.specs.Turning.{ActorsAgree, HasCome}
 use Rattle.zq_world.proofs.RunLemmas.{HasRead}
 use Rattle.zq_world.proofs.play.run.Given as goal
@@ -10,7 +9,7 @@ abbrev pub invariant-turns : goal.invariant-turns
 invariant-turns g l = record {
   come : (ts : List (OneTurn g.row.P-Name.Denot g.row.P-Story.Denot)) × (os : List (List ℕ))
       × HasCome g.W.Sockets.as_open l.fn.seed l.order.drawn ts os l.fn.actors l.actors (g.W.Sockets.pieces l.fn.way) (g.W.Sockets.pieces l.way) × (length ts + l.left ≡ l.fn.turns)
-      × HasRead ts (clock_at (g.C.Clock.last l.fn.clock) (g.C.Clock.to_come l.fn.clock)) (clock_at (g.C.Clock.last l.clock) (g.C.Clock.to_come l.clock));
+      × HasRead ts (g.C.Clock.at l.fn.clock) (g.C.Clock.at l.clock);
   seed : l.order.seed ≡ l.fn.seed;
   conductor : l.conductor ≡ length l.fn.actors + 2;
   agree : ActorsAgree g.W.Sockets.as_open g.W.Sockets.agrees g.W.Sockets.was_made l.way l.actors;

@@ -1,5 +1,4 @@
-use Rattle.zq_outer.specs.Readings.{clock_at}
 use Rattle.zq_top.proofs.plain.PlainRunsRuns.text_of.Goals as goal
 
 pub returns-clause-says : goal.returns-clause-says
-returns-clause-says g c = c.in_ok-said.ensures (record { seed = c.args.seed; turns = c.args.turns }) c.args.octets.now (clock_at (g.C.Clock.last c.args.clock.now) (g.C.Clock.to_come c.args.clock.now)) (clock_at (g.C.Clock.last c.text_in_context.new.clock) (g.C.Clock.to_come c.text_in_context.new.clock)) c.in_ok-told.ensures.tells
+returns-clause-says g c = c.in_ok-said.ensures (record { seed = c.args.seed; turns = c.args.turns }) c.args.octets.now (g.C.Clock.at c.args.clock.now) (g.C.Clock.at c.text_in_context.new.clock) c.in_ok-told.ensures.tells
