@@ -1,7 +1,5 @@
 -- Requests that make pairs, with the holder of the asking socket (zmq_connect(3), zmq_bind(3), zmq_inproc(7)).
 use Rattle.std.specs.Prelude.{◌≡◌, ◌++◌, ℕ, true, false, Some, None, map}
-use Rattle.zq_base.specs.declared.endpoint.Endpoint.{Endpoint}
-use Rattle.zq_base.specs.declared.endpoint.Endpoint.TheVariants.{Inproc, Tcp}
 use Rattle.zq_base.specs.declared.ids.ObjId.{ObjId}
 use Rattle.spec_control.specs.declared.entry.Answered.{Answered}
 use Rattle.spec_control.specs.declared.entry.Did.TheVariants.{Asked}
@@ -21,11 +19,6 @@ use Rattle.ctl_plane.specs.Past.{Past, with_event}
 -- each socket has the marks that a socket may have
 abbrev pub AllMarked : Control → Type 0
 AllMarked c = (i : ℕ) → is_socket (obj c.rows i).kind ≡ true → HasMarks (obj c.rows i)
-
--- the endpoint is a name
-abbrev pub IsName : Endpoint → Type 0
-IsName (Inproc name) = Unit {0}
-IsName (Tcp address) = ⊥
 
 module _ {N : Type 0} where
   -- an open socket asks with the holder of its ends, whose kind is the socket's

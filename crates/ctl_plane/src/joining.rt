@@ -4,6 +4,7 @@ ghost use Rattle.spec_control.specs.declared.book.Binding.{Binding};
 ghost use Rattle.spec_control.specs.declared.request.Req.TheVariants.{Connect};
 ghost use Rattle.spec_control.specs.Control.{end_of};
 ghost use Rattle.spec_control.specs.Reply.{reply_of};
+ghost use Rattle.desk.specs.Asking.{IsInproc};
 ghost use Rattle.desk.specs.Holding.{HearsNone, KeepsTurns, Stays};
 ghost use Rattle.desk.specs.Making.{MakesSo};
 ghost use Rattle.desk.specs.Turns.{HasTurned};
@@ -12,7 +13,7 @@ ghost use Rattle.ctl_moves.specs.Connecting.{Connects, MayConnect};
 ghost use Rattle.ctl_moves.specs.Papers.{MayMake};
 ghost use Rattle.ctl_plane.specs.Coming.{ComesWith};
 ghost use Rattle.ctl_plane.specs.Hearing.{HasWhat};
-ghost use Rattle.ctl_plane.specs.Joining.{IsName, IsNoted, IsOfSame, Lends, NotesRequest};
+ghost use Rattle.ctl_plane.specs.Joining.{IsNoted, IsOfSame, Lends, NotesRequest};
 ghost use Rattle.ctl_plane.specs.Past.{control_of};
 ghost use Rattle.ctl_moves.specs.Refusals.{refusal_in};
 
@@ -41,7 +42,7 @@ pub(crate) fn with_notes<N: Drop, S>(notes: Notes<N>) -> Answered<N, S>
 
 /// The name that an endpoint is.
 pub(crate) fn name_of(at: Endpoint) -> Octets
-    requires name { IsName at }
+    requires name { IsInproc at }
     ensures { at ≡ Inproc result }
 {
     match at {

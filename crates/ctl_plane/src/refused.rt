@@ -1,4 +1,4 @@
-ghost use Rattle.std.specs.Prelude.{◌≡◌, is_some, length};
+ghost use Rattle.std.specs.Prelude.{◌≡◌, length};
 ghost use Rattle.spec_control.specs.declared.request.Req.TheVariants.{Bind, Connect, Unbind, Disconnect};
 ghost use Rattle.spec_control.specs.Register.{fulfilled_by};
 ghost use Rattle.spec_control.specs.After.{binding_by};
@@ -43,13 +43,6 @@ impl<P: Pipes> History<P> {
         ensures { result ≡ refusal_in (reply_of (control_of self.now) (Disconnect socket at.now)) }
     {
         disconnect_refusal(&self.state, socket, at)
-    }
-
-    /// Whether a socket holds the endpoint. It costs a look-up.
-    pub fn is_held(&self, at: &Endpoint) -> bool
-        ensures { result ≡ is_some ((control_of self.now).names.held at.now) }
-    {
-        self.state.find(at).is_some()
     }
 
     /// How many connects that wait a bind of the endpoint would fulfil, by a walk over those that

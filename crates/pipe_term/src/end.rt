@@ -49,13 +49,6 @@ impl End {
         self.reason
     }
 
-    /// Whether the end may be written.
-    pub fn can_write(&self) -> bool
-        ensures { IsTrue result ↔ (self.now.state ≡ Active) }
-    {
-        matches!(self.state, EndState::Active)
-    }
-
     /// Whether the end may be read, and so whether its owner looks for the delimiter.
     pub fn can_read(&self) -> bool
         ensures { result ≡ comes DelimiterSeen self.now.state }

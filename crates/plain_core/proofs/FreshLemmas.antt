@@ -2,14 +2,13 @@
 use Rattle.std.specs.Prelude.{◌≡◌, ℕ, List, [], Some, None, refl}
 use Rattle.std.proofs.Common.{arith, sym, ap, ◌∙◌, subst}
 use Rattle.zq_base.specs.declared.kind.Kind.{Kind}
-use Rattle.zq_base.specs.declared.kind.Kind.TheVariants.{Push, Pull, Pair, Dealer, Req, Rep, Router, Pub, XPub, Sub, XSub}
 use Rattle.zq_base.specs.declared.options.Options.{Options}
 use Rattle.spec_pattern.specs.TurnList.{End}
-use Rattle.spec_run.specs.NewSocket.{new_pattern}
+use Rattle.spec_pattern.specs.NewSocket.{new_pattern}
 use Rattle.msg_pipe.specs.Known.{Known}
 use Rattle.any_sock.specs.declared.any_sock.AnySock.{AnySock}
 use Rattle.any_sock.specs.declared.any_sock.AnySock.TheVariants as sock
-use Rattle.any_sock.specs.Fresh.{without_peers, IsWithoutPeers}
+use Rattle.any_sock.specs.Fresh.{IsWithoutPeers}
 use Rattle.any_sock.specs.Over.{caught_up, left_of, nothing_left, over, peer_places, Leftover}
 use Rattle.pub_sub.specs.Publishers.{resumed}
 use Rattle.end_table.specs.declared.table.Place.{Place}
@@ -40,19 +39,6 @@ caught_is ends (sock.XPub p) e = ap (λ k. sock.XPub (resumed ends k p)) (ap (λ
 caught_is ends (sock.Sub u) e = refl
 caught_is ends (sock.XSub u) e = refl
 
-new_is : (kind : Kind) (options : Options) → without_peers kind options ≡ new_pattern kind options
-new_is Push options = refl
-new_is Pull options = refl
-new_is Pair options = refl
-new_is Dealer options = refl
-new_is Req options = refl
-new_is Rep options = refl
-new_is Router options = refl
-new_is Pub options = refl
-new_is XPub options = refl
-new_is Sub options = refl
-new_is XSub options = refl
-
 pub fresh_of : {W N O I : Type 0} (number : ℕ) (kind : Kind) (options : Options) (k : AnySock) (s : SockCore AnySock W N O I) → IsNew number k s → IsWithoutPeers kind options k → IsFresh number kind options s
 fresh_of number kind options k s new without = record {
   is_new = record {
@@ -77,7 +63,7 @@ module _ {W N O I : Type 0} (number : ℕ) (kind : Kind) (options : Options) (s 
   pub pattern_is : pattern_told s ≡ new_pattern kind options
   pattern_is =
       ap (over (end_at s.ends.places.items)) (caught_is (end_at s.ends.places.items) s.kind fresh.without.left_is)
-      ∙ fresh.without.state_is (end_at s.ends.places.items) ∙ new_is kind options
+      ∙ fresh.without.state_is (end_at s.ends.places.items)
 
   pub no_end : ends_told (standing_joins s.joins.items) s.ends.places.items ≡ []
   no_end = ap (λ js. ends_told (standing_joins js) s.ends.places.items) fresh.is_new.no_joins

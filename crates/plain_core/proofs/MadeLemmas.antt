@@ -11,7 +11,7 @@ use Rattle.zq_base.specs.declared.kind.Kind.TheVariants.{Push, Pull, Pair, Deale
 use Rattle.zq_base.specs.declared.options.Options.{Options}
 use Rattle.msg_pipe.specs.Known.{Known}
 use Rattle.spec_pattern.specs.Peers.{pattern_kind}
-use Rattle.spec_run.specs.NewSocket.{new_pattern}
+use Rattle.spec_pattern.specs.NewSocket.{new_pattern}
 use Rattle.spec_control.specs.declared.entry.Did.TheVariants.{Asked as DidAsk}
 use Rattle.spec_control.specs.declared.entry.Item.TheVariants.{Event}
 use Rattle.spec_control.specs.declared.request.Req.TheVariants.{Socket as MakeSocket}
@@ -27,7 +27,6 @@ use Rattle.spec_control.specs.Held.{Held, items_by}
 use Rattle.spec_control.specs.Moments.{Moment, left_after, left_by}
 use Rattle.control_laws.proofs.ListLemmas.{never, right}
 use Rattle.any_sock.specs.declared.any_sock.AnySock.{AnySock}
-use Rattle.any_sock.specs.Fresh.{without_peers}
 use Rattle.desk.specs.declared.given.Given.{Given}
 use Rattle.desk.specs.Holding.{Holding, has_end}
 use Rattle.desk.specs.Lent.{HasAll, HasBothNames}
@@ -65,18 +64,18 @@ use Rattle.plain_core.proofs.FreshLemmas.{fresh_view, no_end, pattern_is}
 use Rattle.plain_core.proofs.MakeLemmas.{box_now, has_none, in_order, is_made, is_new, kind_known, left_now, moments_now, opens, owners_before, slot_now}
 
 -- the kind of a socket without peers, which drew no name
-kind_without : (kind : Kind) (options : Options) → pattern_kind (without_peers kind options) ≡ kind
-kind_without Push options = refl
-kind_without Pull options = refl
-kind_without Pair options = refl
-kind_without Dealer options = refl
-kind_without Req options = refl
-kind_without Rep options = refl
-kind_without Router options = refl
-kind_without Pub options = refl
-kind_without XPub options = refl
-kind_without Sub options = refl
-kind_without XSub options = refl
+kind_of_new : (kind : Kind) (options : Options) → pattern_kind (new_pattern kind options) ≡ kind
+kind_of_new Push options = refl
+kind_of_new Pull options = refl
+kind_of_new Pair options = refl
+kind_of_new Dealer options = refl
+kind_of_new Req options = refl
+kind_of_new Rep options = refl
+kind_of_new Router options = refl
+kind_of_new Pub options = refl
+kind_of_new XPub options = refl
+kind_of_new Sub options = refl
+kind_of_new XSub options = refl
 
 none_drawn : (kind : Kind) (options : Options) → drawn_of (new_pattern kind options) ≡ 0
 none_drawn Push options = refl
@@ -110,7 +109,7 @@ module _ {W S N O I T : Type 0} (K : Known S O I N) (k : ℕ) (kind : Kind) (opt
   one_open = fresh.fresh.is_new.is_open
 
   its_kind : kind_told s.kind ≡ kind
-  its_kind = ap pattern_kind (fresh.fresh.without.state_is no_ends) ∙ kind_without kind options
+  its_kind = ap pattern_kind (fresh.fresh.without.state_is no_ends) ∙ kind_of_new kind options
 
   -- ---- what it has
   held_is : h.holds s.number.0 ≡ true

@@ -6,7 +6,7 @@ use Rattle.any_sock.specs.declared.any_sock.AnySock.{AnySock}
 use Rattle.any_sock.specs.Fresh.{IsWithoutPeers}
 use Rattle.sock_core.specs.declared.sock.SockCore.{SockCore}
 use Rattle.sock_core.specs.Has.{IsNew}
-use Rattle.spec_run.specs.NewSocket.{new_pattern}
+use Rattle.spec_pattern.specs.NewSocket.{new_pattern}
 use Rattle.spec_run.specs.OpenSocket.{OpenSock}
 
 -- a socket of this number, with this mailbox, as a run tells it at its making

@@ -1,7 +1,6 @@
 pub mod Places
 pub mod Many
 pub mod Notes
-pub mod Said
 pub mod Publishers
 pub mod Known
 pub mod Audiences

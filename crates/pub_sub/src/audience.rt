@@ -8,9 +8,8 @@ ghost use Rattle.pub_sub.specs.Publishers.{subs_after_at, is_news_at, cancels_of
 ghost use Rattle.pub_sub.specs.Audiences.{CanTell, is_news_of, gain_of};
 
 use crate::inbox::Inbox;
-use crate::saying::{Saying, saying_of};
 use std::alloc::{AllocError, Global};
-use sub_table::{Added, Cancelled, Topics};
+use sub_table::{Added, Cancelled, Saying, Topics, saying_of};
 use zq_base::{Message, PairId};
 
 // The peers' topics, and what waits for the user: for one who hears each add, or news alone, or for

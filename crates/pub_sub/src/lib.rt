@@ -14,7 +14,6 @@ mod note;
 mod pub_sock;
 mod pub_socket;
 mod publisher;
-mod saying;
 mod sifter;
 mod sub_sock;
 mod sub_socket;

@@ -12,13 +12,13 @@ ghost use Rattle.pub_sub.specs.XSubs.{MatchXSend, IfXBack, sent_by, XSubGives, X
 use crate::change_fault::ChangeFault;
 use crate::follower::Follower;
 use crate::many::{push_open, send_to_many};
-use crate::saying::{Saying, saying_of};
 use crate::subscriber::Subscriber;
 use crate::xsend_fault::{XSendFault, passed_on};
 use fair_queue::receive_by_turn;
 use msg_pipe::Peers;
 use spec_pattern::{RecvFault, Rule, SendRefusal, Sent};
 use std::alloc::{AllocError, Global};
+use sub_table::{Saying, saying_of};
 use zq_base::{Message, PairId};
 
 impl Subscriber {

@@ -29,7 +29,7 @@ use Rattle.spec_control.specs.Control.{Control, id, next_object}
 use Rattle.spec_control.specs.After.{socket_row, after}
 use Rattle.spec_control.specs.Reply.{most_living_sockets, living_sockets, has_object, unless, root_asked}
 use Rattle.spec_control.specs.ControlRun.{Fits, FitsItem, after_item}
-use Rattle.spec_run.specs.NewSocket.{new_pattern}
+use Rattle.spec_pattern.specs.NewSocket.{new_pattern}
 use Rattle.spec_run.proofs.AttachLemmas.{no_ends}
 use Rattle.std.proofs.Math.Seq.{get_or-append_seam}
 use Rattle.spec_control.specs.Has.{acts_in_request}

@@ -1,5 +1,5 @@
 -- What each control event does: the tables of the commands and of the requests, a line for each (own choice, after libzmq's `command_t`).
-use Rattle.std.specs.Prelude.{◌+◌, ◌%◌, ◌==◌, ◌&&◌, ℕ, Bool, true, false, not, List, [], ◌∷◌, ◌++◌, Option, Some, None, if◌then◌else◌, length, filter, find}
+use Rattle.std.specs.Prelude.{◌+◌, ◌%◌, ◌==◌, ℕ, Bool, true, false, not, List, [], ◌∷◌, ◌++◌, Option, Some, None, if◌then◌else◌, length, filter, find}
 use Rattle.zq_base.specs.declared.ids.Settled.{Settled}
 use Rattle.zq_base.specs.declared.endpoint.Endpoint.{Endpoint}
 use Rattle.zq_base.specs.declared.endpoint.Endpoint.TheVariants.{Inproc, Tcp}
@@ -34,7 +34,7 @@ use Rattle.spec_control.specs.Register.{fulfilled_by, with_holder, without_holde
 use Rattle.spec_control.specs.Hold.{Hold, Bound, Waits, Joined, is_bind_to, is_connect_to, fulfil}
 use Rattle.spec_control.specs.Place.{is_away}
 use Rattle.spec_control.specs.PairPhase.{BindCame, behind_first}
-use Rattle.spec_control.specs.Row.{Row, OwnComes, PlugComes, TermComes, AsksOver, RequestComes, ReapComes, AckComes, RootAsked, StopComes, AsksForLink, AsksForLinger, is_session, is_zero}
+use Rattle.spec_control.specs.Row.{Row, OwnComes, PlugComes, TermComes, AsksOver, RequestComes, ReapComes, AckComes, RootAsked, StopComes, AsksForLink, AsksForLinger, reads_on}
 use Rattle.spec_control.specs.Rows.{obj, is_owner}
 use Rattle.spec_control.specs.Control.{Control, with_value, with_end, is_end, id, end_of, place_of, owner_of, next_object, next_pair, put, link, makes, draws, tell_where, tell_children, stop_sockets, happens, ask, ask_all, attach, open_pair, greet, ends_of, try_end}
 use Rattle.spec_control.specs.Stage.{was_asked}
@@ -68,8 +68,9 @@ term_reason (Socket kind) = Closed
 term_reason Listener = Closed
 term_reason Session = Linger
 
+-- whether the ends that it asks then read on
 abbrev pub term_delay : Row → Bool
-term_delay o = is_session o.kind && not (is_zero o.options.linger)
+term_delay o = reads_on o
 
 -- its names and waiting connects leave the book
 abbrev pub without_names : ℕ → Control → Control

@@ -8,7 +8,7 @@ use Rattle.spec_control.specs.declared.entry.Did.TheVariants.{Asked, Delivered, 
 use Rattle.spec_control.specs.declared.entry.Item.{Item}
 use Rattle.spec_control.specs.declared.entry.Item.TheVariants.{Event, Seen}
 use Rattle.spec_control.specs.Control.{begun, is_end, end_of}
-use Rattle.spec_control.specs.ControlExamples.{Stories, crossed_run, read_out_run}
+use Rattle.spec_control.specs.ControlExamples.{Stories, read_out_run}
 use Rattle.spec_control.specs.Held.{items_by}
 use Rattle.spec_control.specs.Has.{AreBy}
 use Rattle.spec_control.specs.Trial.{with_callers, trial}

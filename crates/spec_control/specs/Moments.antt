@@ -1,5 +1,5 @@
 -- What a caller did and saw, each item with the control plane as it found it (own choice).
-use Rattle.std.specs.Prelude.{◌==◌, ◌||◌, ℕ, Bool, true, false, not, List, [], ◌∷◌, Option, if◌then◌else◌, filter, find, map}
+use Rattle.std.specs.Prelude.{◌==◌, ◌||◌, ℕ, Bool, false, not, List, [], ◌∷◌, Option, if◌then◌else◌, filter, find, map}
 use Rattle.spec_control.specs.declared.entry.Item.{Item}
 use Rattle.spec_control.specs.declared.entry.Item.TheVariants.{Event, Seen}
 use Rattle.spec_control.specs.Stage.{is_used}

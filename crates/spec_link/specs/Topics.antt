@@ -5,8 +5,6 @@ use Rattle.spec_pattern.specs.Topics.{Topic, IsTopic}
 use Rattle.spec_pattern.specs.Publishing as definition
 use Rattle.spec_link.specs.Turn.{topics_by}
 use Rattle.spec_link.specs.TopicsFirst.{topics_said}
-use Rattle.spec_link.specs.declared.saying.Saying.{Saying}
-use Rattle.spec_link.specs.declared.saying.Saying.TheVariants as saying
 
 -- the topics that were taken, and the messages that are still to be said at a link, once they are made
 pub record Topics : Type 0 where
@@ -16,17 +14,6 @@ pub record Topics : Type 0 where
 abbrev pub AreShort : List Topic → Type 0
 AreShort [] = Unit {0}
 AreShort (t ∷ topics) = IsTopic t × AreShort topics
-
-abbrev pub said : Saying → definition.Saying
-said (saying.Adds topic) = definition.Adds topic.now
-said (saying.Cancels topic) = definition.Cancels topic.now
-said saying.Other = definition.Other
-
--- a topic that is added can be told
-abbrev pub SaysTopic : Saying → Type 0
-SaysTopic (saying.Adds topic) = IsTopic topic.now
-SaysTopic (saying.Cancels topic) = Unit {0}
-SaysTopic saying.Other = Unit {0}
 
 -- behind a message that says this
 abbrev pub with_saying : definition.Saying → Topics → Topics

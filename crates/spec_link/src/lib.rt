@@ -6,7 +6,6 @@ mod again;
 mod due;
 mod laws;
 mod row;
-mod saying;
 mod topics;
 
 pub use due::Due;

@@ -4,10 +4,10 @@ ghost use Rattle.spec_link.specs.Topics.{with_saying, with_again, NextAgain, IsL
 ghost use Rattle.spec_pattern.specs.Topics.{IsTopic};
 
 use crate::again::adds_of;
-use crate::saying::{Saying, saying_of};
 use std::alloc::{AllocError, Global};
 use std::collections::{BTreeSet, VecDeque};
 use std::marker::Model;
+use sub_table::{Saying, saying_of};
 use zq_base::Message;
 
 /// The topics that a session took for its peer, and the messages that say them again at a link.

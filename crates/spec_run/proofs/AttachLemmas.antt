@@ -14,7 +14,7 @@ use Rattle.zq_base.specs.declared.attached.Attached.{Attached}
 use Rattle.zq_base.specs.declared.attached.Attached.TheVariants.{Yes, BadId, Second}
 use Rattle.spec_pattern.specs.Pattern.{Pattern, Push, Pull, Pair, Dealer, Req, Rep, Router, Pub, XPub, Sub, XSub, attach, attach_as, attach_answer, taken_in}
 use Rattle.spec_pattern.specs.Peers.{out_turns, in_turns, peer_names, named_peer, listed_peers, partner_of, pattern_duty, kept_ends}
-use Rattle.spec_run.specs.NewSocket.{new_pattern}
+use Rattle.spec_pattern.specs.NewSocket.{new_pattern}
 
 -- what holds of two lists together holds of each
 pub all_front : {A : Type 0} (P : A → Type 0) (xs ys : List A) → All P (xs ++ ys) → All P xs

@@ -26,7 +26,6 @@ pub mod RunLaws
 pub use Rattle.spec_pattern.specs.PipeStep
 pub use Rattle.spec_pattern.specs.TurnList
 pub use Rattle.spec_pattern.specs.Call
-pub mod NewSocket
 pub mod Line
 pub mod Turn
 pub mod Run

@@ -16,7 +16,7 @@ use Rattle.spec_control.specs.Place.{Place, Unmade, Away, At, looks}
 use Rattle.spec_control.specs.Rows.{obj}
 use Rattle.spec_control.specs.Control.{is_end, place_of, owner_of, ends_of}
 use Rattle.spec_control.specs.Names.{joined_in}
-use Rattle.spec_run.specs.NewSocket.{new_pattern}
+use Rattle.spec_pattern.specs.NewSocket.{new_pattern}
 use Rattle.spec_control.specs.Moments.{Moment, left_by}
 
 -- an end of a socket, and where it is

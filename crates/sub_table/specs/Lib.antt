@@ -3,3 +3,4 @@ pub mod Tables
 pub mod Answers
 pub mod Lengths
 pub mod Telling
+pub mod Said

@@ -6,11 +6,13 @@ mod holders;
 mod lengths;
 mod peer_set;
 mod rows;
+mod saying;
 mod told;
 mod topic_set;
 mod topics;
 mod wanted;
 
+pub use saying::{Saying, saying_of};
 pub use told::Told;
 pub use topic_set::TopicSet;
 pub use topics::{Added, Cancelled, Topics};

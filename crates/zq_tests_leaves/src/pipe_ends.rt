@@ -142,13 +142,12 @@ fn the_table_of_an_ends_life() -> Result<(), Fail> {
 // Whether the first ask with an effect gives the reason.
 fn gives_the_first_reason() -> bool {
     let mut end = End::new();
-    let writes = end.can_write();
     end.on_term();
     end.ask(Reason::Linger, true);
     let before = end.reason();
     end.ask(Reason::Link, false);
     end.ask(Reason::Closed, false);
-    writes && before.is_none() && end.reason() == Some(Reason::Link)
+    before.is_none() && end.reason() == Some(Reason::Link)
 }
 
 #[test]

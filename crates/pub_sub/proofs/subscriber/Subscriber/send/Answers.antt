@@ -1,7 +1,7 @@
 use Rattle.std.proofs.Common.{◌≡◌, ◌∙◌, ◌≤◌, length, refl, sym, ap, subst, arith}
 use Rattle.spec_pattern.specs.Publishing.{Adds, Cancels, Other, saying_of}
 use Rattle.pub_sub.specs.Many.{SendsMany}
-use Rattle.pub_sub.specs.Said.{said}
+use Rattle.sub_table.specs.Said.{said}
 use Rattle.pub_sub.specs.XSubs.{MatchXSend, IfXBack, XSubSent, SaysUntold}
 use Rattle.pub_sub.proofs.XSubLemmas.{XSubSent-too_large, XSubSent-other, XSubSent-adds, XSubSent-cancels, IfXBack-sent, MatchXSend-as}
 use Rattle.std.specs.Prelude.{filter}

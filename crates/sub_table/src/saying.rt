@@ -1,18 +1,18 @@
 ghost use Rattle.std.specs.Prelude.{◌≡◌};
 ghost use Rattle.spec_pattern.specs.Publishing.{saying_of};
-ghost use Rattle.spec_link.specs.Topics.{said, SaysTopic};
+ghost use Rattle.sub_table.specs.Said.{said, SaysTopic};
 
 use zq_base::Message;
 
-// What a message says: that a topic is subscribed to, or is cancelled, or something else.
-pub(crate) enum Saying<'a> {
+/// What a message says: that a topic is subscribed to, or is cancelled, or something else.
+pub enum Saying<'a> {
     Adds(&'a [u8]),
     Cancels(&'a [u8]),
     Other,
 }
 
-// What the message says.
-pub(crate) fn saying_of(message: &Message) -> Saying<'_>
+/// What the message says.
+pub fn saying_of(message: &Message) -> Saying<'_>
     ensures value { said result ≡ saying_of message.now }
     ensures short { SaysTopic result }
 {

@@ -1,8 +1,8 @@
 -- What a message says, as the code tells it (own choice).
 use Rattle.spec_pattern.specs.Publishing as definition
 use Rattle.spec_pattern.specs.Topics.{IsTopic}
-use Rattle.pub_sub.specs.declared.saying.Saying.{Saying}
-use Rattle.pub_sub.specs.declared.saying.Saying.TheVariants.{Adds, Cancels, Other}
+use Rattle.sub_table.specs.declared.saying.Saying.{Saying}
+use Rattle.sub_table.specs.declared.saying.Saying.TheVariants.{Adds, Cancels, Other}
 
 abbrev pub said : Saying → definition.Saying
 said (Adds topic) = definition.Adds topic.now
