@@ -4,7 +4,7 @@ use Rattle.std.proofs.Common.{arith, sym, ap, ◌∙◌, subst}
 use Rattle.std.proofs.lemmas.List.Elements.{All-append, All-cons, All-filter, All-head, All-map, All-nil, All-tail, All-weaker}
 use Rattle.zq_base.specs.declared.endpoint.Endpoint.{Endpoint}
 use Rattle.zq_base.specs.declared.ids.EndId.{EndId}
-use Rattle.zq_script.specs.declared.script.Call.TheVariants as call
+use Rattle.spec_run.specs.declared.script.Call.TheVariants as call
 use Rattle.spec_pattern.specs.PipeStep.{PipeStep, Seal}
 use Rattle.spec_pattern.specs.PatternCalls.{Change, Subscribe, Unsubscribe}
 use Rattle.spec_pattern.specs.Topics.{Topic}
@@ -26,10 +26,9 @@ use Rattle.spec_run.specs.OpenSocket.{OpenSock, SockEnd, PassesItems, awaits_del
 use Rattle.spec_run.specs.Event.{IsRequest, IsDelimited, IsLookAt, LooksBehind, LooksFront, LooksFronts, LooksWhere, TakesLetter, TakesLetters, acts_said, seals_in, finds_none, finds_one, finds_end}
 use Rattle.spec_run.specs.Pump.{EndsTaking, Pumps, took_all, found_empty}
 use Rattle.spec_run.specs.SocketCall.{ChangesCall, ChangesOpen, ConnectsWhere, ReceivesOpen, RefusesCall, RequestsOnce, SendsOpen, UnlessStopped, step_acts, takes_connect}
-use Rattle.spec_run.specs.declared.journal.LineAnswer.{LineAnswer}
-use Rattle.spec_run.specs.declared.journal.LineAnswer.TheVariants as answer
-use Rattle.spec_run.specs.declared.line.LineCall.{LineCall}
-use Rattle.spec_run.specs.declared.line.LineCall.TheVariants.{Asks, Unbinds, Disconnects, Closes, Terms}
+use Rattle.spec_run.specs.declared.answer.Answer.{Answer}
+use Rattle.spec_run.specs.declared.answer.Answer.TheVariants as answer
+use Rattle.spec_run.specs.declared.script.Call.{Call}
 use Rattle.zq_world.specs.Way.{AsksOpen}
 use Rattle.socket_laws.specs.Open.{IsOfItem}
 use Rattle.line_calls.proofs.StepLemmas.{moments_more, no_moments}
@@ -74,10 +73,10 @@ module _ {N S : Type 0} (o : ℕ) where
     steps_on : (steps : List PipeStep) → t.call ≡ step_acts steps → All IsOn (moments_in t.call)
     steps_on steps is = said_on t.call [] (ap moments_in is ∙ no_moments steps) (All-nil IsOn)
 
-    refuses_on : (said : LineAnswer) → RefusesCall said s t n → All IsOn (moments_in t.call)
+    refuses_on : (said : Answer) → RefusesCall said s t n → All IsOn (moments_in t.call)
     refuses_on said r = none_on t.call r.call_is
 
-    unless_on : (stopped : Bool) (said : LineAnswer) (Does : OpenSock → Try N S → OpenSock → Type 0) → (Does s t n → All IsOn (moments_in t.call)) → UnlessStopped stopped said Does s t n → All IsOn (moments_in t.call)
+    unless_on : (stopped : Bool) (said : Answer) (Does : OpenSock → Try N S → OpenSock → Type 0) → (Does s t n → All IsOn (moments_in t.call)) → UnlessStopped stopped said Does s t n → All IsOn (moments_in t.call)
     unless_on true said Does on does = refuses_on said does
     unless_on false said Does on does = on does
 
@@ -88,18 +87,18 @@ module _ {N S : Type 0} (o : ℕ) where
     changes_on : (change : Change) (topic : Topic) → ChangesCall change topic s t n → All IsOn (moments_in t.call)
     changes_on change topic does = unless_on s.stopped answer.Term (ChangesOpen change topic) (λ c. steps_on c.steps c.call_is) does
 
-    pub call_on : (asks : LineCall) → s.object ≡ o → AsksOpen asks s t n → All IsOn (moments_in t.call)
-    call_on (Asks (call.Socket kind options)) is does = absurd does
-    call_on (Asks (call.Bind place at)) is does = requests_on (Bind (id s.object) at) (ap (λ (k : ℕ). Some k) is) does
-    call_on (Asks (call.Connect place to)) is does = connects_on (takes_connect s.pattern to) s.stopped to is does
-    call_on (Asks (call.Send place m)) is does = unless_on s.stopped _ (SendsOpen m) (λ c. steps_on c.steps c.call_is) does
-    call_on (Asks (call.Recv place tries)) is does = unless_on s.stopped _ ReceivesOpen (λ c. steps_on c.steps c.call_is) does
-    call_on (Asks (call.Subscribe place topic)) is does = changes_on Subscribe topic does
-    call_on (Asks (call.Unsubscribe place topic)) is does = changes_on Unsubscribe topic does
-    call_on (Unbinds place at) is does = requests_on (Unbind (id s.object) at) (ap (λ (k : ℕ). Some k) is) does
-    call_on (Disconnects place at) is does = requests_on (Disconnect (id s.object) at) (ap (λ (k : ℕ). Some k) is) does
-    call_on (Closes place) is does = absurd does
-    call_on Terms is does = absurd does
+    pub call_on : (asks : Call) → s.object ≡ o → AsksOpen asks s t n → All IsOn (moments_in t.call)
+    call_on (call.Socket kind options) is does = absurd does
+    call_on (call.Bind place at) is does = requests_on (Bind (id s.object) at) (ap (λ (k : ℕ). Some k) is) does
+    call_on (call.Connect place to) is does = connects_on (takes_connect s.pattern to) s.stopped to is does
+    call_on (call.Send place m) is does = unless_on s.stopped _ (SendsOpen m) (λ c. steps_on c.steps c.call_is) does
+    call_on (call.Recv place tries) is does = unless_on s.stopped _ ReceivesOpen (λ c. steps_on c.steps c.call_is) does
+    call_on (call.Subscribe place topic) is does = changes_on Subscribe topic does
+    call_on (call.Unsubscribe place topic) is does = changes_on Unsubscribe topic does
+    call_on (call.Unbind place at) is does = requests_on (Unbind (id s.object) at) (ap (λ (k : ℕ). Some k) is) does
+    call_on (call.Disconnect place at) is does = requests_on (Disconnect (id s.object) at) (ap (λ (k : ℕ). Some k) is) does
+    call_on (call.Close place) is does = absurd does
+    call_on call.Term is does = absurd does
 
   -- ---- a socket in its items
   object_stays : (ms : List (Moment N S)) (s t : OpenSock) → PassesItems ms s t → t.object ≡ s.object
@@ -238,7 +237,7 @@ module _ {N S : Type 0} (o : ℕ) where
         object_stays (moments_in p.looks) (record p.heard { pattern = p.pattern }) t p.meets
         ∙ object_stays (moments_in (flat_map (λ x. x) p.letters ++ p.last)) s p.heard p.hears
 
-    pub line_on : (s : OpenSock) (pump : List (Act N S)) (p : OpenSock) (t : Try N S) (n : OpenSock) (asks : LineCall) (c : Control) → s.object ≡ o → s.slot ≡ w + o → Pumps s pump p → AsksOpen asks p t n →
+    pub line_on : (s : OpenSock) (pump : List (Act N S)) (p : OpenSock) (t : Try N S) (n : OpenSock) (asks : Call) (c : Control) → s.object ≡ o → s.slot ≡ w + o → Pumps s pump p → AsksOpen asks p t n →
         Follow w o c (moments_in (pump ++ t.call)) → All IsOn (moments_in (pump ++ t.call))
     line_on s pump p t n asks c is at pumps does f =
         let so = both c pump t.call (pump ++ t.call) refl f in

@@ -8,7 +8,7 @@ use Rattle.zq_base.specs.Ends.{PipeId, other_end}
 use Rattle.zq_base.specs.Message.{Frames}
 use Rattle.zq_base.specs.declared.endpoint.Endpoint.{Endpoint}
 use Rattle.zq_base.specs.declared.ids.PairId.{PairId}
-use Rattle.zq_script.specs.declared.script.Call.TheVariants as call
+use Rattle.spec_run.specs.declared.script.Call.TheVariants as call
 use Rattle.spec_pattern.specs.PipeStep.{PipeStep, Commit, FullLook, Take, EmptyLook, DelimiterLook, WaitingLook, Seal, read_through, same_pipe, same_side}
 use Rattle.spec_pattern.specs.TurnList.{End}
 use Rattle.spec_pattern.specs.Drops.{Given, Round, ComeByTurn, skip_of, ReceivesDropping}
@@ -24,9 +24,8 @@ use Rattle.spec_pattern.specs.Peers.{pattern_kind}
 use Rattle.spec_control.specs.Rows.{PairRow, pair, end_owner}
 use Rattle.spec_control.specs.Control.{Control, begun, owner_of}
 use Rattle.spec_control.specs.ControlRun.{after_all}
-use Rattle.spec_run.specs.declared.journal.LineAnswer.{LineAnswer}
-use Rattle.spec_run.specs.declared.line.LineCall.{LineCall}
-use Rattle.spec_run.specs.declared.line.LineCall.TheVariants.{Asks, Unbinds, Disconnects, Closes, Terms}
+use Rattle.spec_run.specs.declared.answer.Answer.{Answer}
+use Rattle.spec_run.specs.declared.script.Call.{Call}
 use Rattle.spec_run.specs.Act.{Act, Try, moments_in, pipe_step_of, steps_in}
 use Rattle.spec_run.specs.Fate.{is_publisher_kind}
 use Rattle.spec_run.specs.OpenSocket.{OpenSock, can_write}
@@ -157,16 +156,16 @@ module _ {N S : Type 0} where
       subst (λ (l : List PipeStep). DropsFirst l t.skips) (sym (ap steps_in r.call_is ∙ steps_back N S r.steps))
       (pattern_first old.pattern r.steps t.skips r.got r.pattern r.receives)
 
-  received_first : (old : OpenSock) (t : Try N S) (new : OpenSock) (stopped : Bool) (refused : LineAnswer) → UnlessStopped stopped refused ReceivesOpen old t new → DropsFirst (steps_in t.call) t.skips
+  received_first : (old : OpenSock) (t : Try N S) (new : OpenSock) (stopped : Bool) (refused : Answer) → UnlessStopped stopped refused ReceivesOpen old t new → DropsFirst (steps_in t.call) t.skips
   received_first old t new true refused is = none_first (steps_in t.call) t.skips is.skips_are
   received_first old t new false refused is = receive_first old t new is
 
-  published_none : (old : OpenSock) (t : Try N S) (new : OpenSock) (stopped : Bool) (refused : LineAnswer) → is_publisher_kind (pattern_kind old.pattern) ≡ true → UnlessStopped stopped refused ReceivesOpen old t new → t.skips ≡ []
+  published_none : (old : OpenSock) (t : Try N S) (new : OpenSock) (stopped : Bool) (refused : Answer) → is_publisher_kind (pattern_kind old.pattern) ≡ true → UnlessStopped stopped refused ReceivesOpen old t new → t.skips ≡ []
   published_none old t new true refused hears is = is.skips_are
   published_none old t new false refused hears is = publishers_drop_none old.pattern is.steps t.skips is.got is.pattern hears is.receives
 
   -- a pump and a receive behind it
-  pumped_receive : (old : OpenSock) (t : Try N S) (pumped new : OpenSock) (stopped : Bool) (refused : LineAnswer) → Pumps old t.pump pumped → UnlessStopped stopped refused ReceivesOpen pumped t new
+  pumped_receive : (old : OpenSock) (t : Try N S) (pumped new : OpenSock) (stopped : Bool) (refused : Answer) → Pumps old t.pump pumped → UnlessStopped stopped refused ReceivesOpen pumped t new
       → DropsFirst (steps_in (t.pump ++ t.call)) t.skips
   pumped_receive old t pumped new stopped refused pumps is = by (is_publisher_kind (pattern_kind old.pattern)) refl
     where
@@ -174,7 +173,7 @@ module _ {N S : Type 0} where
       by true hears = none_first (steps_in (t.pump ++ t.call)) t.skips (published_none pumped t new stopped refused (ap is_publisher_kind (pumped_kind old t.pump pumped pumps) ∙ hears) is)
       by false plain = behind_first t.pump t.call t.skips (pumped_none old t.pump pumped plain pumps).0 (received_first pumped t new stopped refused is)
 
-  unless_none : (Does : OpenSock → Try N S → OpenSock → Type 0) → ((old : OpenSock) (t : Try N S) (new : OpenSock) → Does old t new → t.skips ≡ []) → (old : OpenSock) (t : Try N S) (new : OpenSock) (stopped : Bool) (refused : LineAnswer)
+  unless_none : (Does : OpenSock → Try N S → OpenSock → Type 0) → ((old : OpenSock) (t : Try N S) (new : OpenSock) → Does old t new → t.skips ≡ []) → (old : OpenSock) (t : Try N S) (new : OpenSock) (stopped : Bool) (refused : Answer)
       → UnlessStopped stopped refused Does old t new → t.skips ≡ []
   unless_none Does none old t new true refused is = is.skips_are
   unless_none Does none old t new false refused is = none old t new is
@@ -184,18 +183,18 @@ module _ {N S : Type 0} where
   connect_none false stopped to old t new is = is.skips_are
 
   -- a pump and any call behind it
-  pumped_call : (asks : LineCall) (old : OpenSock) (t : Try N S) (pumped new : OpenSock) → Pumps old t.pump pumped → AsksOpen asks pumped t new → DropsFirst (steps_in (t.pump ++ t.call)) t.skips
-  pumped_call (Asks (call.Socket kind options)) old t pumped new pumps is = elim is [ ]
-  pumped_call (Asks (call.Bind place at)) old t pumped new pumps is = none_first _ _ is.skips_are
-  pumped_call (Asks (call.Connect place to)) old t pumped new pumps is = none_first _ _ (connect_none (takes_connect pumped.pattern to) pumped.stopped to pumped t new is)
-  pumped_call (Asks (call.Send place m)) old t pumped new pumps is = none_first _ _ (unless_none (SendsOpen m) (λ a x b does. does.skips_are) pumped t new pumped.stopped _ is)
-  pumped_call (Asks (call.Recv place tries)) old t pumped new pumps is = pumped_receive old t pumped new pumped.stopped _ pumps is
-  pumped_call (Asks (call.Subscribe place topic)) old t pumped new pumps is = none_first _ _ (unless_none (ChangesOpen Subscribe topic) (λ a x b does. does.skips_are) pumped t new pumped.stopped _ is)
-  pumped_call (Asks (call.Unsubscribe place topic)) old t pumped new pumps is = none_first _ _ (unless_none (ChangesOpen Unsubscribe topic) (λ a x b does. does.skips_are) pumped t new pumped.stopped _ is)
-  pumped_call (Unbinds place at) old t pumped new pumps is = none_first _ _ is.skips_are
-  pumped_call (Disconnects place at) old t pumped new pumps is = none_first _ _ is.skips_are
-  pumped_call (Closes place) old t pumped new pumps is = elim is [ ]
-  pumped_call Terms old t pumped new pumps is = elim is [ ]
+  pumped_call : (asks : Call) (old : OpenSock) (t : Try N S) (pumped new : OpenSock) → Pumps old t.pump pumped → AsksOpen asks pumped t new → DropsFirst (steps_in (t.pump ++ t.call)) t.skips
+  pumped_call (call.Socket kind options) old t pumped new pumps is = elim is [ ]
+  pumped_call (call.Bind place at) old t pumped new pumps is = none_first _ _ is.skips_are
+  pumped_call (call.Connect place to) old t pumped new pumps is = none_first _ _ (connect_none (takes_connect pumped.pattern to) pumped.stopped to pumped t new is)
+  pumped_call (call.Send place m) old t pumped new pumps is = none_first _ _ (unless_none (SendsOpen m) (λ a x b does. does.skips_are) pumped t new pumped.stopped _ is)
+  pumped_call (call.Recv place tries) old t pumped new pumps is = pumped_receive old t pumped new pumped.stopped _ pumps is
+  pumped_call (call.Subscribe place topic) old t pumped new pumps is = none_first _ _ (unless_none (ChangesOpen Subscribe topic) (λ a x b does. does.skips_are) pumped t new pumped.stopped _ is)
+  pumped_call (call.Unsubscribe place topic) old t pumped new pumps is = none_first _ _ (unless_none (ChangesOpen Unsubscribe topic) (λ a x b does. does.skips_are) pumped t new pumped.stopped _ is)
+  pumped_call (call.Unbind place at) old t pumped new pumps is = none_first _ _ is.skips_are
+  pumped_call (call.Disconnect place at) old t pumped new pumps is = none_first _ _ is.skips_are
+  pumped_call (call.Close place) old t pumped new pumps is = elim is [ ]
+  pumped_call call.Term old t pumped new pumps is = elim is [ ]
 
 -- ---- the pipe of a pair that an object reads
 

@@ -12,9 +12,9 @@ use Rattle.sock_core.specs.declared.sock.SockCore.{SockCore}
 use Rattle.desk.specs.Desk.{slot_after}
 use Rattle.sock_calls.specs.Calls.{owner_of}
 use Rattle.line_socket.specs.View.{open_view}
-use Rattle.spec_run.specs.declared.journal.LineAnswer.{LineAnswer}
-use Rattle.spec_run.specs.declared.line.LineCall.{LineCall}
-use Rattle.spec_run.specs.declared.line.RunLine.{RunLine}
+use Rattle.spec_run.specs.declared.answer.Answer.{Answer}
+use Rattle.spec_run.specs.declared.script.Call.{Call}
+use Rattle.spec_run.specs.declared.script.Line.{Line}
 use Rattle.spec_run.specs.Act.{Act, Try, moments_in}
 use Rattle.spec_run.specs.Event.{acts_said}
 use Rattle.spec_run.specs.OpenSocket.{OpenSock}
@@ -73,9 +73,9 @@ module _ (W T : Type 0) {P N O I : Type 0} (K : Known P O I N) (old new : LentPa
     more : 0 < o
     more = (let owned = lent.owned in above o (is_in old.desk lent.order o owned.is_open).more)
 
-    line : (asks : LineCall) (answer : LineAnswer) (told told_now : List Skip) → CallsLine (Leads K) view_of asks answer told told_now old new → AreCallsOn o old.desk new.desk
+    line : (asks : Call) (answer : Answer) (told told_now : List Skip) → CallsLine (Leads K) view_of asks answer told told_now old new → AreCallsOn o old.desk new.desk
     line asks answer told told_now calls =
-        let at : RunLine = record { number = 0; call = asks } in
+        let at : Line = record { number = 0; call = asks } in
         let t : Try N T = record { line = at; pump = calls.pump; call = calls.acts; skips = calls.skips; told = told_now; answer = answer; over = false } in
         let c = found_by old.desk new.desk behind (let led = calls.led in led.grows) in
         led_on lent.order o (calls.pump ++ calls.acts) calls.led

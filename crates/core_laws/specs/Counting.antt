@@ -5,8 +5,8 @@ use Rattle.spec_pattern.specs.declared.answers.Skip.{Skip}
 use Rattle.spec_control.specs.declared.entry.Item.{Item}
 use Rattle.spec_control.specs.Control.{begun}
 use Rattle.spec_control.specs.ControlRun.{after_all, IsControlRun}
-use Rattle.spec_run.specs.declared.journal.LineAnswer.{LineAnswer}
-use Rattle.spec_run.specs.declared.line.LineCall.{LineCall}
+use Rattle.spec_run.specs.declared.answer.Answer.{Answer}
+use Rattle.spec_run.specs.declared.script.Call.{Call}
 use Rattle.spec_run.specs.Act.{Act}
 use Rattle.spec_run.specs.OpenSocket.{OpenSock}
 use Rattle.zq_world.specs.Piece.{Piece, piece_of}
@@ -25,6 +25,6 @@ pub record TablesGoOn (N S : Type 0) : Type 0 where
   pub none : (drops : List ℕ) (pieces : List (Piece N S)) (caller : ℕ) (reaps : Bool) (acts : List (Act N S)) → CountsDrops drops pieces → CountsDrops drops (pieces ++ piece_of caller reaps acts [])
   -- and, behind a control run, behind a call of a socket at whose ends its steps are, where what the call tells is added
   pub told : (workers : ℕ) (items : List (Item N S)) → IsControlRun (begun workers) items → let c = after_all items (begun workers) in
-      (o : ℕ) → o ≢ 0 → (caller : ℕ) (asks : LineCall) (old new : OpenSock) (answer : LineAnswer) (told told_now : List Skip) (before after : List (Piece N S)) →
+      (o : ℕ) → o ≢ 0 → (caller : ℕ) (asks : Call) (old new : OpenSock) (answer : Answer) (told told_now : List Skip) (before after : List (Piece N S)) →
       (calls : CallsOne caller asks old new answer told told_now before after) → AreAtEnds c (λ i. i == o) (calls.pump ++ calls.acts) → (drops now : List ℕ) →
       CountsDrops drops before → ((p : PipeId) → drops_in now p ≡ drops_in drops p + drops_told c o p (drop (length told) told_now)) → CountsDrops now after

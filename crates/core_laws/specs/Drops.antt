@@ -6,9 +6,9 @@ use Rattle.spec_pattern.specs.declared.answers.Skip.{Skip}
 use Rattle.spec_control.specs.declared.entry.Item.{Item}
 use Rattle.spec_control.specs.Control.{Control, Settlement, begun, owner_of}
 use Rattle.spec_control.specs.ControlRun.{after_all, IsControlRun}
-use Rattle.spec_run.specs.declared.journal.LineAnswer.{LineAnswer}
+use Rattle.spec_run.specs.declared.answer.Answer.{Answer}
 use Rattle.spec_run.specs.declared.journal.SettledRow.{SettledRow}
-use Rattle.spec_run.specs.declared.line.LineCall.{LineCall}
+use Rattle.spec_run.specs.declared.script.Call.{Call}
 use Rattle.spec_run.specs.Act.{Act, steps_in}
 use Rattle.spec_run.specs.Fate.{is_heard_at}
 use Rattle.spec_run.specs.OpenSocket.{OpenSock}
@@ -61,6 +61,6 @@ pub record DropsGoOn (N S : Type 0) : Type 0 where
 -- behind a control run: a call of a socket at whose ends its steps are adds the drops that it tells of each pipe that the socket reads
 abbrev pub CallsTellDrops : (N S : Type 0) → Type 0
 CallsTellDrops N S = (workers : ℕ) (items : List (Item N S)) → IsControlRun (begun workers) items → let c = after_all items (begun workers) in
-    (o : ℕ) → o ≢ 0 → (caller : ℕ) (asks : LineCall) (old new : OpenSock) (answer : LineAnswer) (told told_now : List Skip) (before after : List (Piece N S)) →
+    (o : ℕ) → o ≢ 0 → (caller : ℕ) (asks : Call) (old new : OpenSock) (answer : Answer) (told told_now : List Skip) (before after : List (Piece N S)) →
     (calls : CallsOne caller asks old new answer told told_now before after) → AreAtEnds c (λ i. i == o) (calls.pump ++ calls.acts) →
     (p : PipeId) → drops_at p after ≡ drops_at p before + drops_told c o p calls.skips

@@ -7,8 +7,8 @@ use Rattle.msg_pipe.specs.Known.{Known}
 use Rattle.ctl_plane.specs.Past.{control_of}
 use Rattle.desk.specs.Desk.{slot_after}
 use Rattle.sock_calls.specs.Calls.{owner_of}
-use Rattle.spec_run.specs.declared.journal.LineAnswer.{LineAnswer}
-use Rattle.spec_run.specs.declared.line.LineCall.{LineCall}
+use Rattle.spec_run.specs.declared.answer.Answer.{Answer}
+use Rattle.spec_run.specs.declared.script.Call.{Call}
 use Rattle.line_calls.specs.Lines.{CallsLine}
 use Rattle.line_calls.specs.Steps.{ClosesOpen}
 use Rattle.line_socket.specs.Leads.{Leads}
@@ -20,7 +20,7 @@ use Rattle.core_laws.specs.Coming.{HasNoneMade, SendsNoneTo, WasComing}
 -- the acts of a pump and of the call behind it are of the socket that is lent
 abbrev pub LinesAreOn : (W T : Type 0) → {P N O I : Type 0} → Known P O I N → Type 0
 LinesAreOn W T {P} {N} {O} {I} K = (old new : LentParts W N O I P T) → Agrees K old → IsOneOrder new.desk →
-    (asks : LineCall) (answer : LineAnswer) (told told_now : List Skip) → CallsLine (Leads K) view_of asks answer told told_now old new → AreCallsOn (owner_of old.socket) old.desk new.desk
+    (asks : Call) (answer : Answer) (told told_now : List Skip) → CallsLine (Leads K) view_of asks answer told told_now old new → AreCallsOn (owner_of old.socket) old.desk new.desk
 
 -- and so are those of its close
 abbrev pub ClosesAreOn : (W T : Type 0) → {P N O I : Type 0} → Known P O I N → Type 0

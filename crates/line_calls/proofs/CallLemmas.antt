@@ -7,12 +7,11 @@ use Rattle.zq_base.specs.declared.endpoint.Endpoint.{Endpoint}
 use Rattle.spec_pattern.specs.declared.answers.Skip.{Skip}
 use Rattle.spec_control.specs.declared.request.Req.TheVariants.{Connect}
 use Rattle.spec_control.specs.Control.{id}
-use Rattle.spec_run.specs.declared.texts.Answer.TheVariants as answer
+use Rattle.spec_run.specs.declared.answer.Answer.TheVariants as answer
 use Rattle.spec_control.specs.Moments.{Moment}
-use Rattle.spec_run.specs.declared.journal.LineAnswer.{LineAnswer}
-use Rattle.spec_run.specs.declared.journal.LineAnswer.TheVariants.{Plain, Term}
-use Rattle.spec_run.specs.declared.line.LineCall.{LineCall}
-use Rattle.spec_run.specs.declared.line.RunLine.{RunLine}
+use Rattle.spec_run.specs.declared.answer.Answer.{Answer}
+use Rattle.spec_run.specs.declared.script.Call.{Call}
+use Rattle.spec_run.specs.declared.script.Line.{Line}
 use Rattle.spec_run.specs.Act.{Act, Try, moments_in}
 use Rattle.spec_run.specs.OpenSocket.{OpenSock}
 use Rattle.spec_run.specs.SocketCall.{takes_connect, leave_asked, UnlessStopped, ConnectsWhere, ConnectsCall}
@@ -36,27 +35,27 @@ module _ {N S : Type 0} where
 
 module _ {M N S : Type 0} (leads : M → List (Act N S) → M → Type 0) (none : (s : M) → leads s [] s) (as_open : M → OpenSock) (moments : M → List (Moment N S)) where
   -- a call that does nothing
-  nothing_done : (Does : OpenSock → Try N S → OpenSock → Type 0) (said : LineAnswer) (told : List Skip) (a : M)
-      → ((line : RunLine) (pump : List (Act N S)) (all : List Skip) (over : Bool) → EndsWith (moments_in pump) (moments a)
+  nothing_done : (Does : OpenSock → Try N S → OpenSock → Type 0) (said : Answer) (told : List Skip) (a : M)
+      → ((line : Line) (pump : List (Act N S)) (all : List Skip) (over : Bool) → EndsWith (moments_in pump) (moments a)
       → Does (as_open a) (record { line = line; pump = pump; call = []; skips = []; told = all; answer = said; over = over }) (as_open a))
       → CallsSo leads as_open moments Does said told told a a
   nothing_done Does said told a f = record { acts = []; skips = []; does = f; tells = sym (append-nil told); led = none a }
 
   -- what was asked is this call
-  pub asked_as : (r : Result LineAnswer AllocError) (asks call : LineCall) (told : List Skip) (a b : M) → asks ≡ call → IfOk r (λ said. (told : List Skip) → CallsSo leads as_open moments (AsksOpen call) said told told a b)
+  pub asked_as : (r : Result Answer AllocError) (asks call : Call) (told : List Skip) (a b : M) → asks ≡ call → IfOk r (λ said. (told : List Skip) → CallsSo leads as_open moments (AsksOpen call) said told told a b)
       → IfOk r (λ said. CallsSo leads as_open moments (AsksOpen asks) said told told a b)
   asked_as r asks call told a b is h =
       IfOk-weaker r (λ said. (told : List Skip) → CallsSo leads as_open moments (AsksOpen call) said told told a b) (λ said. CallsSo leads as_open moments (AsksOpen asks) said told told a b)
-      (λ said s. subst (λ (x : LineCall). CallsSo leads as_open moments (AsksOpen x) said told told a b) (sym is) (s told)) h
+      (λ said s. subst (λ (x : Call). CallsSo leads as_open moments (AsksOpen x) said told told a b) (sym is) (s told)) h
 
   -- a stopped socket refuses, and another does what it is asked
-  pub refuses_stopped : (said : LineAnswer) (Does : OpenSock → Try N S → OpenSock → Type 0) (told : List Skip) (a : M) → (as_open a).stopped ≡ true
+  pub refuses_stopped : (said : Answer) (Does : OpenSock → Try N S → OpenSock → Type 0) (told : List Skip) (a : M) → (as_open a).stopped ≡ true
       → CallsSo leads as_open moments (λ o t n. UnlessStopped o.stopped said Does o t n) said told told a a
   refuses_stopped said Does told a is = nothing_done (λ o t n. UnlessStopped o.stopped said Does o t n) said told a
       (λ line pump all over ends. subst (λ (b : Bool). UnlessStopped b said Does (as_open a) (record { line = line; pump = pump; call = []; skips = []; told = all; answer = said; over = over }) (as_open a)) (sym is)
       (record { call_is = refl; skips_are = refl; answer_is = refl; new_is = refl }))
 
-  pub does_open : (stopped said : LineAnswer) (Does : OpenSock → Try N S → OpenSock → Type 0) (told told_now : List Skip) (a b : M) → (as_open a).stopped ≡ false
+  pub does_open : (stopped said : Answer) (Does : OpenSock → Try N S → OpenSock → Type 0) (told told_now : List Skip) (a b : M) → (as_open a).stopped ≡ false
       → CallsSo leads as_open moments Does said told told_now a b → CallsSo leads as_open moments (λ o t n. UnlessStopped o.stopped stopped Does o t n) said told told_now a b
   does_open stopped said Does told told_now a b is s = record {
     acts = s.acts;
@@ -67,7 +66,7 @@ module _ {M N S : Type 0} (leads : M → List (Act N S) → M → Type 0) (none 
     led = s.led;
   }
 
-  pub connects_to : (to : Endpoint) (said : LineAnswer) (told : List Skip) (a b : M) → takes_connect (as_open a).pattern to ≡ true
+  pub connects_to : (to : Endpoint) (said : Answer) (told : List Skip) (a b : M) → takes_connect (as_open a).pattern to ≡ true
       → RequestsSo leads as_open moments (λ o. Connect (id o) to) said told a b → CallsSo leads as_open moments (ConnectsCall to) said told told a b
   connects_to to said told a b is s = record {
     acts = s.acts;
@@ -79,10 +78,10 @@ module _ {M N S : Type 0} (leads : M → List (Act N S) → M → Type 0) (none 
   }
 
   -- a kind that takes no such connect says so, unless the socket or the context is ending
-  abbrev refused_so : (stopped asked : Bool) → LineAnswer
-  refused_so stopped asked = if stopped || asked then Term else Plain answer.NotSupported
+  abbrev refused_so : (stopped asked : Bool) → Answer
+  refused_so stopped asked = if stopped || asked then answer.Term else answer.NotSupported
 
-  pub connects_not : (to : Endpoint) (said : LineAnswer) (told : List Skip) (a : M) → takes_connect (as_open a).pattern to ≡ false → said ≡ (if (as_open a).stopped || leave_asked (moments a) then Term else Plain answer.NotSupported)
+  pub connects_not : (to : Endpoint) (said : Answer) (told : List Skip) (a : M) → takes_connect (as_open a).pattern to ≡ false → said ≡ (if (as_open a).stopped || leave_asked (moments a) then answer.Term else answer.NotSupported)
       → CallsSo leads as_open moments (ConnectsCall to) said told told a a
   connects_not to said told a is says = nothing_done (ConnectsCall to) said told a
       (λ line pump all over ends. subst (λ (x : Bool). ConnectsWhere x (as_open a).stopped to (as_open a) (record { line = line; pump = pump; call = []; skips = []; told = all; answer = said; over = over }) (as_open a)) (sym is)
@@ -94,7 +93,7 @@ module _ {M N S : Type 0} (leads : M → List (Act N S) → M → Type 0) (more 
   pub some_moments : (a b : M) → PumpsSo leads as_open a b → 0 < length (moments b)
   some_moments a b p = let e = ap length (gained a b p.acts p.led) in let l = length-append (moments a) (moments_in p.acts) in let s = p.some in omega (arith, e, l, s)
 
-  pub calls_line : (asks : LineCall) (said : LineAnswer) (told told_now : List Skip) (a b c : M) → PumpsSo leads as_open a b → CallsSo leads as_open moments (AsksOpen asks) said told told_now b c
+  pub calls_line : (asks : Call) (said : Answer) (told told_now : List Skip) (a b c : M) → PumpsSo leads as_open a b → CallsSo leads as_open moments (AsksOpen asks) said told told_now b c
       → CallsLine leads as_open asks said told told_now a c
   calls_line asks said told told_now a b c p s = record {
     pump = p.acts;

@@ -2,9 +2,9 @@
 use Rattle.std.specs.Prelude.{◌≡◌, ◌<◌, ◌++◌, Bool, true, false, List, flat_map, length}
 use Rattle.zq_base.specs.declared.ids.EndId.{EndId}
 use Rattle.spec_pattern.specs.declared.answers.Skip.{Skip}
-use Rattle.spec_run.specs.declared.journal.LineAnswer.{LineAnswer}
-use Rattle.spec_run.specs.declared.line.LineCall.{LineCall}
-use Rattle.spec_run.specs.declared.line.RunLine.{RunLine}
+use Rattle.spec_run.specs.declared.answer.Answer.{Answer}
+use Rattle.spec_run.specs.declared.script.Call.{Call}
+use Rattle.spec_run.specs.declared.script.Line.{Line}
 use Rattle.spec_run.specs.Act.{Act, moments_in}
 use Rattle.spec_run.specs.OpenSocket.{OpenSock}
 use Rattle.spec_run.specs.Event.{LooksFront, LooksFronts, TakesLetter, TakesLetters}
@@ -56,13 +56,13 @@ module _ {M N S : Type 0} (leads : M → List (Act N S) → M → Type 0) (as_op
     pub some : 0 < length (moments_in acts)
 
   -- it was pumped and then called, as the try of any line that makes this call
-  pub record CallsLine (asks : LineCall) (answer : LineAnswer) (told told_now : List Skip) (old new : M) : Type 0 where
+  pub record CallsLine (asks : Call) (answer : Answer) (told told_now : List Skip) (old new : M) : Type 0 where
     pub pump : List (Act N S)
     pub acts : List (Act N S)
     pub skips : List Skip
     pub pumped : OpenSock
     pub pumps : Pumps (as_open old) pump pumped
-    pub does : (line : RunLine) (all : List Skip) (over : Bool) →
+    pub does : (line : Line) (all : List Skip) (over : Bool) →
         AsksOpen asks pumped (record { line = line; pump = pump; call = acts; skips = skips; told = all; answer = answer; over = over }) (as_open new)
     pub tells : told_now ≡ told ++ skips
     pub led : leads old (pump ++ acts) new

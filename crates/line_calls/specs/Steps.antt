@@ -16,8 +16,8 @@ use Rattle.spec_control.specs.Control.{Control, id, place_of}
 use Rattle.spec_control.specs.Moments.{Moment, left_by}
 use Rattle.msg_pipe.specs.Told.{front_step}
 use Rattle.msg_pipe.specs.declared.pipes.Front.{Front}
-use Rattle.spec_run.specs.declared.journal.LineAnswer.{LineAnswer}
-use Rattle.spec_run.specs.declared.line.RunLine.{RunLine}
+use Rattle.spec_run.specs.declared.answer.Answer.{Answer}
+use Rattle.spec_run.specs.declared.script.Line.{Line}
 use Rattle.spec_run.specs.Act.{Act, Step, Said, Try, moments_in}
 use Rattle.spec_run.specs.OpenSocket.{OpenSock, can_write, awaits_delimiter, PassesItems}
 use Rattle.spec_run.specs.Event.{IsRequest, IsDelivery, IsDelimited, IsLookAt, LooksBehind, acts_said}
@@ -94,14 +94,14 @@ module _ {M N S : Type 0} (leads : M → List (Act N S) → M → Type 0) where
 
     module _ (moments : M → List (Moment N S)) where
       -- the socket was called, as the try of any line that makes this call behind any pump with which its caller's moments end
-      pub record CallsSo (Does : OpenSock → Try N S → OpenSock → Type 0) (answer : LineAnswer) (told told_now : List Skip) (old new : M) : Type 0 where
+      pub record CallsSo (Does : OpenSock → Try N S → OpenSock → Type 0) (answer : Answer) (told told_now : List Skip) (old new : M) : Type 0 where
         pub acts : List (Act N S)
         pub skips : List Skip
-        pub does : (line : RunLine) (pump : List (Act N S)) (all : List Skip) (over : Bool) → EndsWith (moments_in pump) (moments old) →
+        pub does : (line : Line) (pump : List (Act N S)) (all : List Skip) (over : Bool) → EndsWith (moments_in pump) (moments old) →
             Does (as_open old) (record { line = line; pump = pump; call = acts; skips = skips; told = all; answer = answer; over = over }) (as_open new)
         pub tells : told_now ≡ told ++ skips
         pub led : leads old acts new
 
       -- it made a request
-      abbrev pub RequestsSo : (ℕ → Req) → LineAnswer → (told : List Skip) → (old new : M) → Type 0
+      abbrev pub RequestsSo : (ℕ → Req) → Answer → (told : List Skip) → (old new : M) → Type 0
       RequestsSo request answer told old new = CallsSo (λ o t n. RequestsOnce (request o.object) o t n) answer told told old new

@@ -1,5 +1,5 @@
 ghost use Rattle.std.specs.Prelude.{◌<◌, IfOk, OnOk, OnErr, length};
-ghost use Rattle.spec_run.specs.declared.line.LineCall.TheVariants.{Asks};
+ghost use Rattle.spec_run.specs.declared.script.Call.TheVariants as call;
 ghost use Rattle.zq_world.specs.MayAsk.{MayAskLine};
 ghost use Rattle.zq_world.specs.Way.{AsksSocket, AsksOpen};
 ghost use Rattle.line_calls.specs.Steps.{LeadsSome, CallsSo};
@@ -10,9 +10,8 @@ use crate::messages::{receives, sends, subscribes, unsubscribes};
 use crate::pumping::pump;
 use crate::steps::OpenSteps;
 use spec_pattern::Skip;
-use spec_run::{LineAnswer, LineCall};
+use spec_run::{Answer, Call};
 use std::alloc::{AllocError, Global};
-use zq_script::Call;
 
 // Makes the call of a line that scripts have where sockets do not end.
 fn ask<M: OpenSteps>(
@@ -20,14 +19,14 @@ fn ask<M: OpenSteps>(
     socket: &mut M,
     call: &Call,
     told: &mut Vec<Skip>,
-) -> Result<LineAnswer, AllocError>
+) -> Result<Answer, AllocError>
     requires agrees { M.agrees socket.old }
     requires whole { M.whole socket.old }
     requires some { 0 < length (M.moments socket.old) }
-    requires asks { AsksSocket (Asks call.now) }
-    requires allowed { MayAskLine (Asks call.now) }
+    requires asks { AsksSocket call.now }
+    requires allowed { MayAskLine call.now }
     ensures ok { IfOk result (λ answer.
-        CallsSo M.leads M.as_open M.moments (AsksOpen (Asks call.now)) answer
+        CallsSo M.leads M.as_open M.moments (AsksOpen call.now) answer
         told.old.items told.new.items socket.old socket.new) }
     ensures err { OnErr result (LeadsSome M.leads socket.old socket.new) }
     ensures whole { OnOk result (M.whole socket.new) }
@@ -48,9 +47,9 @@ fn ask<M: OpenSteps>(
 fn ask_line<M: OpenSteps>(
     alloc: Global,
     socket: &mut M,
-    line: &LineCall,
+    line: &Call,
     told: &mut Vec<Skip>,
-) -> Result<LineAnswer, AllocError>
+) -> Result<Answer, AllocError>
     requires agrees { M.agrees socket.old }
     requires whole { M.whole socket.old }
     requires some { 0 < length (M.moments socket.old) }
@@ -64,11 +63,11 @@ fn ask_line<M: OpenSteps>(
     ensures agrees { M.agrees socket.new }
 {
     match line {
-        LineCall::Asks(call) => return ask(alloc, socket, call, told),
-        LineCall::Unbinds(_, to) => return socket.unbind(alloc, to),
-        LineCall::Disconnects(_, to) => return socket.disconnect(alloc, to),
-        LineCall::Closes(_) => unreachable!(),
-        LineCall::Terms => unreachable!(),
+        Call::Asks(call) => return ask(alloc, socket, call, told),
+        Call::Unbind(_, to) => return socket.unbind(alloc, to),
+        Call::Disconnect(_, to) => return socket.disconnect(alloc, to),
+        Call::Close(_) => unreachable!(),
+        Call::Term => unreachable!(),
     }
 }
 
@@ -77,9 +76,9 @@ fn ask_line<M: OpenSteps>(
 pub fn call<M: OpenSteps>(
     alloc: Global,
     socket: &mut M,
-    line: &LineCall,
+    line: &Call,
     told: &mut Vec<Skip>,
-) -> Result<LineAnswer, AllocError>
+) -> Result<Answer, AllocError>
     requires agrees { M.agrees socket.old }
     requires may { M.may_take socket.old }
     requires whole { M.whole socket.old }

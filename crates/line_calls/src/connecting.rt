@@ -5,7 +5,7 @@ ghost use Rattle.zq_world.specs.MayAsk.{IsLocal};
 ghost use Rattle.line_calls.specs.Steps.{LeadsSome, CallsSo};
 
 use crate::steps::OpenSteps;
-use spec_run::{Answer, LineAnswer};
+use spec_run::Answer;
 use std::alloc::{AllocError, Global};
 use zq_base::Endpoint;
 
@@ -23,7 +23,7 @@ pub(crate) fn connects<M: OpenSteps>(
     alloc: Global,
     socket: &mut M,
     to: &Endpoint,
-) -> Result<LineAnswer, AllocError>
+) -> Result<Answer, AllocError>
     requires agrees { M.agrees socket.old }
     requires whole { M.whole socket.old }
     requires some { 0 < length (M.moments socket.old) }
@@ -39,7 +39,7 @@ pub(crate) fn connects<M: OpenSteps>(
         return socket.connect(alloc, to);
     }
     if is_ending(socket) {
-        return Ok(LineAnswer::Term);
+        return Ok(Answer::Term);
     }
-    Ok(LineAnswer::Plain(Answer::NotSupported))
+    Ok(Answer::NotSupported)
 }

@@ -6,17 +6,16 @@ ghost use Rattle.line_calls.specs.Steps.{LeadsSome, CallsSo};
 
 use crate::steps::OpenSteps;
 use spec_pattern::{RecvRefusal, SendRefusal, Skip};
-use spec_run::{Answer, LineAnswer};
+use spec_run::{Answer, Topic};
 use std::alloc::{AllocError, Global};
 use zq_base::Message;
-use zq_script::Topic;
 
 /// Sends, unless the socket processed its Stop.
 pub(crate) fn sends<M: OpenSteps>(
     alloc: Global,
     socket: &mut M,
     message: &Message,
-) -> Result<LineAnswer, AllocError>
+) -> Result<Answer, AllocError>
     requires agrees { M.agrees socket.old }
     requires whole { M.whole socket.old }
     ensures ok { IfOk result (λ answer. (told : List Skip) →
@@ -27,7 +26,7 @@ pub(crate) fn sends<M: OpenSteps>(
     ensures agrees { M.agrees socket.new }
 {
     if socket.is_stopped() {
-        return Ok(LineAnswer::Plain(Answer::NotSent(SendRefusal::Term)));
+        return Ok(Answer::NotSent(SendRefusal::Term));
     }
     socket.send(alloc, message)
 }
@@ -37,7 +36,7 @@ pub(crate) fn receives<M: OpenSteps>(
     alloc: Global,
     socket: &mut M,
     told: &mut Vec<Skip>,
-) -> Result<LineAnswer, AllocError>
+) -> Result<Answer, AllocError>
     requires agrees { M.agrees socket.old }
     requires whole { M.whole socket.old }
     ensures ok { IfOk result (λ answer. CallsSo M.leads M.as_open M.moments ReceivesCall answer
@@ -47,7 +46,7 @@ pub(crate) fn receives<M: OpenSteps>(
     ensures agrees { M.agrees socket.new }
 {
     if socket.is_stopped() {
-        return Ok(LineAnswer::Plain(Answer::NotReceived(RecvRefusal::Term)));
+        return Ok(Answer::NotReceived(RecvRefusal::Term));
     }
     socket.recv(alloc, told)
 }
@@ -57,7 +56,7 @@ pub(crate) fn subscribes<M: OpenSteps>(
     alloc: Global,
     socket: &mut M,
     topic: &Topic,
-) -> Result<LineAnswer, AllocError>
+) -> Result<Answer, AllocError>
     requires agrees { M.agrees socket.old }
     requires whole { M.whole socket.old }
     ensures ok { IfOk result (λ answer. (told : List Skip) →
@@ -68,7 +67,7 @@ pub(crate) fn subscribes<M: OpenSteps>(
     ensures agrees { M.agrees socket.new }
 {
     if socket.is_stopped() {
-        return Ok(LineAnswer::Term);
+        return Ok(Answer::Term);
     }
     socket.subscribe(alloc, topic.as_slice())
 }
@@ -78,7 +77,7 @@ pub(crate) fn unsubscribes<M: OpenSteps>(
     alloc: Global,
     socket: &mut M,
     topic: &Topic,
-) -> Result<LineAnswer, AllocError>
+) -> Result<Answer, AllocError>
     requires agrees { M.agrees socket.old }
     requires whole { M.whole socket.old }
     ensures ok { IfOk result (λ answer. (told : List Skip) →
@@ -89,7 +88,7 @@ pub(crate) fn unsubscribes<M: OpenSteps>(
     ensures agrees { M.agrees socket.new }
 {
     if socket.is_stopped() {
-        return Ok(LineAnswer::Term);
+        return Ok(Answer::Term);
     }
     socket.unsubscribe(alloc, topic.as_slice())
 }

@@ -7,7 +7,7 @@ ghost use Rattle.spec_run.specs.OpenSocket.{OpenSock};
 use crate::found::{Found, Reader};
 use msg_pipe::Front;
 use spec_pattern::Skip;
-use spec_run::LineAnswer;
+use spec_run::Answer;
 use std::alloc::{AllocError, Global};
 use zq_base::{Endpoint, Message};
 
@@ -21,17 +21,14 @@ pub trait OpenSteps {
     ghost use Rattle.zq_base.specs.Message.{max_octets};
     ghost use Rattle.spec_pattern.specs.PatternCalls.{Subscribe, Unsubscribe};
     ghost use Rattle.spec_control.specs.Control.{id};
-    ghost use Rattle.spec_control.specs.declared.request.Req.TheVariants.{Bind, Connect, Unbind};
-    ghost use Rattle.spec_control.specs.declared.request.Req.TheVariants.{Disconnect};
+    ghost use Rattle.spec_control.specs.declared.request.Req.TheVariants.{Bind, Connect, Unbind, Disconnect};
     ghost use Rattle.spec_run.specs.Act.{moments_in};
     ghost use Rattle.spec_run.specs.OpenSocket.{waiting_ends};
-    ghost use Rattle.spec_run.specs.SocketCall.{SendsOpen, ReceivesOpen, ChangesOpen};
-    ghost use Rattle.spec_run.specs.SocketCall.{takes_connect, leave_asked};
+    ghost use Rattle.spec_run.specs.SocketCall.{SendsOpen, ReceivesOpen, ChangesOpen, takes_connect, leave_asked};
     ghost use Rattle.msg_pipe.specs.declared.pipes.Front.TheVariants.{Delimiter};
     ghost use Rattle.zq_world.specs.MayAsk.{IsLocal};
     ghost use Rattle.line_calls.specs.Reading.{ReadsOnAt, IsNextReader, LeavesReader, ReadingStays};
-    ghost use Rattle.line_calls.specs.Steps.{LeadsSome, Takes, LooksAtFront, MeetsEnd, PumpsKind};
-    ghost use Rattle.line_calls.specs.Steps.{CallsSo, RequestsSo, ClosesOpen};
+    ghost use Rattle.line_calls.specs.Steps.{LeadsSome, Takes, LooksAtFront, MeetsEnd, PumpsKind, CallsSo, RequestsSo, ClosesOpen};
 
     /// What a pipe goes by.
     type Name;
@@ -130,7 +127,7 @@ pub trait OpenSteps {
         ensures agrees { agrees self.new };
 
     /// Sends a message by the rule of its kind (zmq_msg_send(3)).
-    fn send(&mut self, alloc: Global, message: &Message) -> Result<LineAnswer, AllocError>
+    fn send(&mut self, alloc: Global, message: &Message) -> Result<Answer, AllocError>
         requires agrees { agrees self.old }
         requires whole { whole self.old }
         ensures ok { IfOk result (λ answer. (told : List Skip) →
@@ -142,7 +139,7 @@ pub trait OpenSteps {
 
     /// Receives by the rule of its kind (zmq_msg_recv(3)); the messages that it drops are told behind
     /// those told before.
-    fn recv(&mut self, alloc: Global, told: &mut Vec<Skip>) -> Result<LineAnswer, AllocError>
+    fn recv(&mut self, alloc: Global, told: &mut Vec<Skip>) -> Result<Answer, AllocError>
         requires agrees { agrees self.old }
         requires whole { whole self.old }
         ensures ok { IfOk result (λ answer. CallsSo leads as_open moments ReceivesOpen answer
@@ -152,7 +149,7 @@ pub trait OpenSteps {
         ensures agrees { agrees self.new };
 
     /// Subscribes once more to a topic (zmq_setsockopt(3), "ZMQ_SUBSCRIBE").
-    fn subscribe(&mut self, alloc: Global, topic: &[u8]) -> Result<LineAnswer, AllocError>
+    fn subscribe(&mut self, alloc: Global, topic: &[u8]) -> Result<Answer, AllocError>
         requires agrees { agrees self.old }
         requires whole { whole self.old }
         requires short { length topic.now < max_octets }
@@ -164,7 +161,7 @@ pub trait OpenSteps {
         ensures agrees { agrees self.new };
 
     /// Cancels one subscription to a topic (zmq_setsockopt(3), "ZMQ_UNSUBSCRIBE").
-    fn unsubscribe(&mut self, alloc: Global, topic: &[u8]) -> Result<LineAnswer, AllocError>
+    fn unsubscribe(&mut self, alloc: Global, topic: &[u8]) -> Result<Answer, AllocError>
         requires agrees { agrees self.old }
         requires whole { whole self.old }
         requires short { length topic.now < max_octets }
@@ -176,7 +173,7 @@ pub trait OpenSteps {
         ensures agrees { agrees self.new };
 
     /// Binds an endpoint (zmq_bind(3)).
-    fn bind(&mut self, alloc: Global, to: &Endpoint) -> Result<LineAnswer, AllocError>
+    fn bind(&mut self, alloc: Global, to: &Endpoint) -> Result<Answer, AllocError>
         requires agrees { agrees self.old }
         requires whole { whole self.old }
         requires inproc { IsLocal to.now }
@@ -188,7 +185,7 @@ pub trait OpenSteps {
         ensures agrees { agrees self.new };
 
     /// Connects to an endpoint that its kind takes a connect to (zmq_connect(3)).
-    fn connect(&mut self, alloc: Global, to: &Endpoint) -> Result<LineAnswer, AllocError>
+    fn connect(&mut self, alloc: Global, to: &Endpoint) -> Result<Answer, AllocError>
         requires agrees { agrees self.old }
         requires whole { whole self.old }
         requires inproc { IsLocal to.now }
@@ -200,7 +197,7 @@ pub trait OpenSteps {
         ensures agrees { agrees self.new };
 
     /// Strikes the first bind to an endpoint (zmq_unbind(3)).
-    fn unbind(&mut self, alloc: Global, to: &Endpoint) -> Result<LineAnswer, AllocError>
+    fn unbind(&mut self, alloc: Global, to: &Endpoint) -> Result<Answer, AllocError>
         requires agrees { agrees self.old }
         requires whole { whole self.old }
         ensures ok { IfOk result (λ answer. (told : List Skip) →
@@ -211,7 +208,7 @@ pub trait OpenSteps {
         ensures agrees { agrees self.new };
 
     /// Strikes the first connect to an endpoint (zmq_disconnect(3)).
-    fn disconnect(&mut self, alloc: Global, to: &Endpoint) -> Result<LineAnswer, AllocError>
+    fn disconnect(&mut self, alloc: Global, to: &Endpoint) -> Result<Answer, AllocError>
         requires agrees { agrees self.old }
         requires whole { whole self.old }
         ensures ok { IfOk result (λ answer. (told : List Skip) →

@@ -27,8 +27,8 @@ use Rattle.any_sock.specs.Calls.{MatchChanged}
 use Rattle.sock_core.specs.declared.sock.SockCore.{SockCore}
 use Rattle.spec_run.specs.Line.{sent_answer, got_answer, changed_answer}
 use Rattle.spec_run.specs.OpenSocket.{OpenSock, can_write}
-use Rattle.spec_run.specs.declared.journal.LineAnswer.{LineAnswer}
-use Rattle.spec_run.specs.declared.journal.LineAnswer.TheVariants.{Plain}
+use Rattle.spec_run.specs.declared.answer.Answer.{Answer}
+use Rattle.spec_run.specs.declared.answer.Answer.TheVariants as answer
 use Rattle.line_socket.specs.View.{pattern_told, open_view}
 use Rattle.line_socket.specs.Doing.{SendsSo, ReceivesSo, ChangesSo, PumpsOpen}
 use Rattle.socket_laws.specs.Bounds.{drawn_of}
@@ -102,21 +102,21 @@ unanswered : {A : Type 0} (result : Result A AllocError) (E : Type 0) → IsErr 
 unanswered (Ok a) E is = absurd (true≢false (sym is))
 unanswered (Err x) E is = tt
 
-pub sent_on : (r : Result Sent XSendFault) (result : Result LineAnswer AllocError) (A B : Type 0) (P : SendAnswer → Type 0) (E : Type 0) → MatchXSend r A B P
-    → MatchXSend r (IsErr result) (IsErr result) (λ a. result ≡ Ok (Plain (sent_answer a))) → ((a : SendAnswer) → P a → E) → OnOk result E
+pub sent_on : (r : Result Sent XSendFault) (result : Result Answer AllocError) (A B : Type 0) (P : SendAnswer → Type 0) (E : Type 0) → MatchXSend r A B P
+    → MatchXSend r (IsErr result) (IsErr result) (λ a. result ≡ Ok (sent_answer a)) → ((a : SendAnswer) → P a → E) → OnOk result E
 sent_on (Ok s) result A B P E h is f = so_answered result E (f _ h)
 sent_on (Err (xfault.Refused refusal back)) result A B P E h is f = so_answered result E (f _ h)
 sent_on (Err (xfault.OutOfMemory back)) result A B P E h is f = unanswered result E is
 sent_on (Err xfault.Untold) result A B P E h is f = unanswered result E is
 
-pub got_on : (r : RecvResult) (result : Result LineAnswer AllocError) (A : Type 0) (P : RecvAnswer → Type 0) (E : Type 0) → MatchRecv r A P
-    → MatchRecv r (IsErr result) (λ a. result ≡ Ok (Plain (got_answer a))) → ((a : RecvAnswer) → P a → E) → OnOk result E
+pub got_on : (r : RecvResult) (result : Result Answer AllocError) (A : Type 0) (P : RecvAnswer → Type 0) (E : Type 0) → MatchRecv r A P
+    → MatchRecv r (IsErr result) (λ a. result ≡ Ok (got_answer a)) → ((a : RecvAnswer) → P a → E) → OnOk result E
 got_on (Ok item) result A P E h is f = so_answered result E (f _ h)
 got_on (Err (rfault.Refused refusal)) result A P E h is f = so_answered result E (f _ h)
 got_on (Err rfault.OutOfMemory) result A P E h is f = unanswered result E is
 
-pub changed_on : (r : Result (Unit {0}) ChangeFault) (result : Result LineAnswer AllocError) (A B : Type 0) (P : ChangeAnswer → Type 0) (E : Type 0) → MatchChanged r A B P
-    → MatchChanged r (IsErr result) (IsErr result) (λ a. result ≡ Ok (Plain (changed_answer a))) → ((a : ChangeAnswer) → P a → E) → OnOk result E
+pub changed_on : (r : Result (Unit {0}) ChangeFault) (result : Result Answer AllocError) (A B : Type 0) (P : ChangeAnswer → Type 0) (E : Type 0) → MatchChanged r A B P
+    → MatchChanged r (IsErr result) (IsErr result) (λ a. result ≡ Ok (changed_answer a)) → ((a : ChangeAnswer) → P a → E) → OnOk result E
 changed_on (Ok done) result A B P E h is f = so_answered result E (f _ h)
 changed_on (Err cfault.NoTopics) result A B P E h is f = so_answered result E (f _ h)
 changed_on (Err cfault.SubLimit) result A B P E h is f = so_answered result E (f _ h)

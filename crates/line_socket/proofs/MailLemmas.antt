@@ -42,8 +42,8 @@ use Rattle.sock_core.specs.Has.{holding_in, state_in}
 use Rattle.sock_core.specs.Standing.{standing_joins}
 use Rattle.sock_calls.specs.Calls.{owner_of, LeavesOthers}
 use Rattle.spec_run.specs.SocketCall.{step_acts}
-use Rattle.spec_run.specs.declared.journal.LineAnswer.{LineAnswer}
-use Rattle.spec_run.specs.declared.journal.LineAnswer.TheVariants.{Plain}
+use Rattle.spec_run.specs.declared.answer.Answer.{Answer}
+use Rattle.spec_run.specs.declared.answer.Answer.TheVariants as answer
 use Rattle.line_socket.specs.View.{ends_told}
 use Rattle.line_socket.specs.Standing.{IsStanding, Stands, kind_told, KeepsSocket}
 use Rattle.line_socket.specs.Doing.{MakesSteps}
@@ -225,34 +225,34 @@ an_error : {A : Type 0} (result : Result A AllocError) (E : Type 0) → E → On
 an_error (Ok a) E e = tt
 an_error (Err x) E e = e
 
-pub sent_ok : (r : Result Sent XSendFault) (result : Result LineAnswer AllocError) (A B : Type 0) (P : SendAnswer → Type 0) (Q : LineAnswer → Type 0) → MatchXSend r A B P
-    → MatchXSend r (IsErr result) (IsErr result) (λ a. result ≡ Ok (Plain (sent_answer a))) → ((a : SendAnswer) → P a → Q (Plain (sent_answer a))) → IfOk result Q
+pub sent_ok : (r : Result Sent XSendFault) (result : Result Answer AllocError) (A B : Type 0) (P : SendAnswer → Type 0) (Q : Answer → Type 0) → MatchXSend r A B P
+    → MatchXSend r (IsErr result) (IsErr result) (λ a. result ≡ Ok (sent_answer a)) → ((a : SendAnswer) → P a → Q (sent_answer a)) → IfOk result Q
 sent_ok (Ok s) result A B P Q h is f = answered result _ Q is (f _ h)
 sent_ok (Err (xfault.Refused refusal back)) result A B P Q h is f = answered result _ Q is (f _ h)
 sent_ok (Err (xfault.OutOfMemory back)) result A B P Q h is f = no_answer result Q is
 sent_ok (Err xfault.Untold) result A B P Q h is f = no_answer result Q is
 
-pub sent_err : (r : Result Sent XSendFault) (result : Result LineAnswer AllocError) (A B : Type 0) (P : SendAnswer → Type 0) (E : Type 0) → MatchXSend r A B P
-    → MatchXSend r (IsErr result) (IsErr result) (λ a. result ≡ Ok (Plain (sent_answer a))) → (A → E) → (B → E) → OnErr result E
+pub sent_err : (r : Result Sent XSendFault) (result : Result Answer AllocError) (A B : Type 0) (P : SendAnswer → Type 0) (E : Type 0) → MatchXSend r A B P
+    → MatchXSend r (IsErr result) (IsErr result) (λ a. result ≡ Ok (sent_answer a)) → (A → E) → (B → E) → OnErr result E
 sent_err (Ok s) result A B P E h is f g = no_error result _ E is
 sent_err (Err (xfault.Refused refusal back)) result A B P E h is f g = no_error result _ E is
 sent_err (Err (xfault.OutOfMemory back)) result A B P E h is f g = an_error result E (f h)
 sent_err (Err xfault.Untold) result A B P E h is f g = an_error result E (g h)
 
-pub got_ok : (r : RecvResult) (result : Result LineAnswer AllocError) (A : Type 0) (P : RecvAnswer → Type 0) (Q : LineAnswer → Type 0) → MatchRecv r A P
-    → MatchRecv r (IsErr result) (λ a. result ≡ Ok (Plain (got_answer a))) → ((a : RecvAnswer) → P a → Q (Plain (got_answer a))) → IfOk result Q
+pub got_ok : (r : RecvResult) (result : Result Answer AllocError) (A : Type 0) (P : RecvAnswer → Type 0) (Q : Answer → Type 0) → MatchRecv r A P
+    → MatchRecv r (IsErr result) (λ a. result ≡ Ok (got_answer a)) → ((a : RecvAnswer) → P a → Q (got_answer a)) → IfOk result Q
 got_ok (Ok item) result A P Q h is f = answered result _ Q is (f _ h)
 got_ok (Err (rfault.Refused refusal)) result A P Q h is f = answered result _ Q is (f _ h)
 got_ok (Err rfault.OutOfMemory) result A P Q h is f = no_answer result Q is
 
-pub got_err : (r : RecvResult) (result : Result LineAnswer AllocError) (A : Type 0) (P : RecvAnswer → Type 0) (E : Type 0) → MatchRecv r A P
-    → MatchRecv r (IsErr result) (λ a. result ≡ Ok (Plain (got_answer a))) → (A → E) → OnErr result E
+pub got_err : (r : RecvResult) (result : Result Answer AllocError) (A : Type 0) (P : RecvAnswer → Type 0) (E : Type 0) → MatchRecv r A P
+    → MatchRecv r (IsErr result) (λ a. result ≡ Ok (got_answer a)) → (A → E) → OnErr result E
 got_err (Ok item) result A P E h is f = no_error result _ E is
 got_err (Err (rfault.Refused refusal)) result A P E h is f = no_error result _ E is
 got_err (Err rfault.OutOfMemory) result A P E h is f = an_error result E (f h)
 
-pub changed_ok : (r : Result (Unit {0}) ChangeFault) (result : Result LineAnswer AllocError) (A B : Type 0) (P : ChangeAnswer → Type 0) (Q : LineAnswer → Type 0) → MatchChanged r A B P
-    → MatchChanged r (IsErr result) (IsErr result) (λ a. result ≡ Ok (Plain (changed_answer a))) → ((a : ChangeAnswer) → P a → Q (Plain (changed_answer a))) → IfOk result Q
+pub changed_ok : (r : Result (Unit {0}) ChangeFault) (result : Result Answer AllocError) (A B : Type 0) (P : ChangeAnswer → Type 0) (Q : Answer → Type 0) → MatchChanged r A B P
+    → MatchChanged r (IsErr result) (IsErr result) (λ a. result ≡ Ok (changed_answer a)) → ((a : ChangeAnswer) → P a → Q (changed_answer a)) → IfOk result Q
 changed_ok (Ok done) result A B P Q h is f = answered result _ Q is (f _ h)
 changed_ok (Err cfault.NoTopics) result A B P Q h is f = answered result _ Q is (f _ h)
 changed_ok (Err cfault.SubLimit) result A B P Q h is f = answered result _ Q is (f _ h)
@@ -260,8 +260,8 @@ changed_ok (Err cfault.NotSub) result A B P Q h is f = answered result _ Q is (f
 changed_ok (Err cfault.OutOfMemory) result A B P Q h is f = no_answer result Q is
 changed_ok (Err cfault.Untold) result A B P Q h is f = no_answer result Q is
 
-pub changed_err : (r : Result (Unit {0}) ChangeFault) (result : Result LineAnswer AllocError) (A B : Type 0) (P : ChangeAnswer → Type 0) (E : Type 0) → MatchChanged r A B P
-    → MatchChanged r (IsErr result) (IsErr result) (λ a. result ≡ Ok (Plain (changed_answer a))) → (A → E) → (B → E) → OnErr result E
+pub changed_err : (r : Result (Unit {0}) ChangeFault) (result : Result Answer AllocError) (A B : Type 0) (P : ChangeAnswer → Type 0) (E : Type 0) → MatchChanged r A B P
+    → MatchChanged r (IsErr result) (IsErr result) (λ a. result ≡ Ok (changed_answer a)) → (A → E) → (B → E) → OnErr result E
 changed_err (Ok done) result A B P E h is f g = no_error result _ E is
 changed_err (Err cfault.NoTopics) result A B P E h is f g = no_error result _ E is
 changed_err (Err cfault.SubLimit) result A B P E h is f g = no_error result _ E is

@@ -1,8 +1,7 @@
 ghost use Rattle.std.specs.Prelude.{◌≡◌, List, IfOk, OnErr};
 ghost use Rattle.spec_pattern.specs.declared.answers.Skip.{Skip};
 ghost use Rattle.spec_control.specs.Control.{id};
-ghost use Rattle.spec_control.specs.declared.request.Req.TheVariants.{Bind, Connect, Unbind};
-ghost use Rattle.spec_control.specs.declared.request.Req.TheVariants.{Disconnect};
+ghost use Rattle.spec_control.specs.declared.request.Req.TheVariants.{Bind, Connect, Unbind, Disconnect};
 ghost use Rattle.desk.specs.Asking.{IsInproc};
 ghost use Rattle.line_calls.specs.Steps.{LeadsSome, RequestsSo};
 ghost use Rattle.line_socket.specs.Owned.{parts, view_of, moments_since, Agrees};
@@ -15,7 +14,7 @@ use crate::sock::LentSock;
 use any_sock::AnySock;
 use end_table::HeldPipes;
 use sock_core::SockCore;
-use spec_run::LineAnswer;
+use spec_run::Answer;
 use std::alloc::{AllocError, Global};
 use zq_base::Endpoint;
 
@@ -34,7 +33,7 @@ pub(crate) fn bind<P: HeldPipes>(
     alloc: Global,
     lent: &mut LentSock<P>,
     to: &Endpoint,
-) -> Result<LineAnswer, AllocError>
+) -> Result<Answer, AllocError>
     requires agrees { Agrees P.known (parts lent.old.pipes lent.old.desk lent.old.socket.core lent.old.since.items) }
     requires ready { IsReady (parts lent.old.pipes lent.old.desk lent.old.socket.core lent.old.since.items) }
     requires inproc { IsInproc to.now }
@@ -63,7 +62,7 @@ pub(crate) fn connect<P: HeldPipes>(
     alloc: Global,
     lent: &mut LentSock<P>,
     to: &Endpoint,
-) -> Result<LineAnswer, AllocError>
+) -> Result<Answer, AllocError>
     requires agrees { Agrees P.known (parts lent.old.pipes lent.old.desk lent.old.socket.core lent.old.since.items) }
     requires ready { IsReady (parts lent.old.pipes lent.old.desk lent.old.socket.core lent.old.since.items) }
     requires inproc { IsInproc to.now }
@@ -92,7 +91,7 @@ pub(crate) fn unbind<P: HeldPipes>(
     alloc: Global,
     lent: &mut LentSock<P>,
     to: &Endpoint,
-) -> Result<LineAnswer, AllocError>
+) -> Result<Answer, AllocError>
     requires agrees { Agrees P.known (parts lent.old.pipes lent.old.desk lent.old.socket.core lent.old.since.items) }
     requires ready { IsReady (parts lent.old.pipes lent.old.desk lent.old.socket.core lent.old.since.items) }
     ensures ok { IfOk result (λ answer. (told : List Skip) →
@@ -120,7 +119,7 @@ pub(crate) fn disconnect<P: HeldPipes>(
     alloc: Global,
     lent: &mut LentSock<P>,
     to: &Endpoint,
-) -> Result<LineAnswer, AllocError>
+) -> Result<Answer, AllocError>
     requires agrees { Agrees P.known (parts lent.old.pipes lent.old.desk lent.old.socket.core lent.old.since.items) }
     requires ready { IsReady (parts lent.old.pipes lent.old.desk lent.old.socket.core lent.old.since.items) }
     ensures ok { IfOk result (λ answer. (told : List Skip) →

@@ -13,7 +13,7 @@ use crate::answers::{changed_reply, got_reply, sent_reply};
 use crate::sock::LentSock;
 use end_table::HeldPipes;
 use spec_pattern::Skip;
-use spec_run::LineAnswer;
+use spec_run::Answer;
 use std::alloc::{AllocError, Global};
 use zq_base::Message;
 
@@ -42,7 +42,7 @@ fn send_own<P: HeldPipes>(
     alloc: Global,
     lent: &mut LentSock<P>,
     message: Message,
-) -> Result<LineAnswer, AllocError>
+) -> Result<Answer, AllocError>
     requires agrees { Agrees P.known (parts lent.old.pipes lent.old.desk lent.old.socket.core lent.old.since.items) }
     requires ready { IsReady (parts lent.old.pipes lent.old.desk lent.old.socket.core lent.old.since.items) }
     ensures ok { IfOk result (λ answer. (told : List Skip) →
@@ -64,7 +64,7 @@ pub(crate) fn send<P: HeldPipes>(
     alloc: Global,
     lent: &mut LentSock<P>,
     message: &Message,
-) -> Result<LineAnswer, AllocError>
+) -> Result<Answer, AllocError>
     requires agrees { Agrees P.known (parts lent.old.pipes lent.old.desk lent.old.socket.core lent.old.since.items) }
     requires ready { IsReady (parts lent.old.pipes lent.old.desk lent.old.socket.core lent.old.since.items) }
     ensures ok { IfOk result (λ answer. (told : List Skip) →
@@ -89,7 +89,7 @@ pub(crate) fn recv<P: HeldPipes>(
     alloc: Global,
     lent: &mut LentSock<P>,
     told: &mut Vec<Skip>,
-) -> Result<LineAnswer, AllocError>
+) -> Result<Answer, AllocError>
     requires agrees { Agrees P.known (parts lent.old.pipes lent.old.desk lent.old.socket.core lent.old.since.items) }
     requires ready { IsReady (parts lent.old.pipes lent.old.desk lent.old.socket.core lent.old.since.items) }
     ensures ok { IfOk result (λ answer. CallsSo (Leads P.known) view_of moments_since ReceivesOpen
@@ -111,7 +111,7 @@ pub(crate) fn subscribe<P: HeldPipes>(
     alloc: Global,
     lent: &mut LentSock<P>,
     topic: &[u8],
-) -> Result<LineAnswer, AllocError>
+) -> Result<Answer, AllocError>
     requires agrees { Agrees P.known (parts lent.old.pipes lent.old.desk lent.old.socket.core lent.old.since.items) }
     requires ready { IsReady (parts lent.old.pipes lent.old.desk lent.old.socket.core lent.old.since.items) }
     requires short { length topic.now < max_octets }
@@ -134,7 +134,7 @@ pub(crate) fn unsubscribe<P: HeldPipes>(
     alloc: Global,
     lent: &mut LentSock<P>,
     topic: &[u8],
-) -> Result<LineAnswer, AllocError>
+) -> Result<Answer, AllocError>
     requires agrees { Agrees P.known (parts lent.old.pipes lent.old.desk lent.old.socket.core lent.old.since.items) }
     requires ready { IsReady (parts lent.old.pipes lent.old.desk lent.old.socket.core lent.old.since.items) }
     requires short { length topic.now < max_octets }

@@ -4,7 +4,7 @@ use end_table::HeldPipes;
 use line_calls::{Found, OpenSteps, Reader};
 use msg_pipe::Front;
 use spec_pattern::Skip;
-use spec_run::LineAnswer;
+use spec_run::Answer;
 use std::alloc::{AllocError, Global};
 use zq_base::{Endpoint, Message};
 
@@ -84,35 +84,35 @@ impl<P: HeldPipes> OpenSteps for LentSock<P> {
         lent_mails::pump_kind(alloc, self)
     }
 
-    fn send(&mut self, alloc: Global, message: &Message) -> Result<LineAnswer, AllocError> {
+    fn send(&mut self, alloc: Global, message: &Message) -> Result<Answer, AllocError> {
         lent_mails::send(alloc, self, message)
     }
 
-    fn recv(&mut self, alloc: Global, told: &mut Vec<Skip>) -> Result<LineAnswer, AllocError> {
+    fn recv(&mut self, alloc: Global, told: &mut Vec<Skip>) -> Result<Answer, AllocError> {
         lent_mails::recv(alloc, self, told)
     }
 
-    fn subscribe(&mut self, alloc: Global, topic: &[u8]) -> Result<LineAnswer, AllocError> {
+    fn subscribe(&mut self, alloc: Global, topic: &[u8]) -> Result<Answer, AllocError> {
         lent_mails::subscribe(alloc, self, topic)
     }
 
-    fn unsubscribe(&mut self, alloc: Global, topic: &[u8]) -> Result<LineAnswer, AllocError> {
+    fn unsubscribe(&mut self, alloc: Global, topic: &[u8]) -> Result<Answer, AllocError> {
         lent_mails::unsubscribe(alloc, self, topic)
     }
 
-    fn bind(&mut self, alloc: Global, to: &Endpoint) -> Result<LineAnswer, AllocError> {
+    fn bind(&mut self, alloc: Global, to: &Endpoint) -> Result<Answer, AllocError> {
         asks::bind(alloc, self, to)
     }
 
-    fn connect(&mut self, alloc: Global, to: &Endpoint) -> Result<LineAnswer, AllocError> {
+    fn connect(&mut self, alloc: Global, to: &Endpoint) -> Result<Answer, AllocError> {
         asks::connect(alloc, self, to)
     }
 
-    fn unbind(&mut self, alloc: Global, to: &Endpoint) -> Result<LineAnswer, AllocError> {
+    fn unbind(&mut self, alloc: Global, to: &Endpoint) -> Result<Answer, AllocError> {
         asks::unbind(alloc, self, to)
     }
 
-    fn disconnect(&mut self, alloc: Global, to: &Endpoint) -> Result<LineAnswer, AllocError> {
+    fn disconnect(&mut self, alloc: Global, to: &Endpoint) -> Result<Answer, AllocError> {
         asks::disconnect(alloc, self, to)
     }
 

@@ -6,8 +6,8 @@ use Rattle.spec_pattern.specs.declared.answers.Skip.{Skip}
 use Rattle.spec_control.specs.Control.{Control, begun, id}
 use Rattle.spec_control.specs.ControlRun.{after_all, IsControlRun}
 use Rattle.spec_control.specs.Names.{name_of}
-use Rattle.spec_run.specs.declared.journal.LineAnswer.{LineAnswer}
-use Rattle.spec_run.specs.declared.line.LineCall.{LineCall}
+use Rattle.spec_run.specs.declared.answer.Answer.{Answer}
+use Rattle.spec_run.specs.declared.script.Call.{Call}
 use Rattle.spec_run.specs.Act.{Act}
 use Rattle.spec_run.specs.OpenSocket.{OpenSock}
 use Rattle.msg_pipe.specs.Known.{Known}
@@ -47,7 +47,7 @@ use Rattle.plain_core.proofs.OthersLemmas.{control_one}
 
 -- the acts that are told are those of calls
 module _ {W N O I S T : Type 0} (K : Known S O I N) (k : ℕ) (v : Core S (Given N O I) N T) (s t : Option (SockCore AnySock W N O I)) (pipes : S) (d : Lent (Given N O I) N T) (marks : List PieceMark) (since : List (Unit {0} × Unit {0})) (wanted : Bool) where
-  pub of_line : (asks : LineCall) (answer : LineAnswer) (told told_now : List Skip) (is : IsTold (TellsLine K k asks answer told told_now (lent_of K v k s) (parts pipes d t since)) v.marks marks) →
+  pub of_line : (asks : Call) (answer : Answer) (told told_now : List Skip) (is : IsTold (TellsLine K k asks answer told told_now (lent_of K v k s) (parts pipes d t since)) v.marks marks) →
       CallsOf K k s t (is.so.called.pump ++ is.so.called.acts) is.so.called.skips v (core_of d pipes marks wanted)
   of_line asks answer told told_now is = record { since = length since; led = is.so.called.led; told = is.behind ∙ ap (λ (ms : List PieceMark). v.marks ++ ms) is.so.are }
 
@@ -119,11 +119,11 @@ module _ (W : Type 0) {S N O I T : Type 0} (K : Known S O I N) (laws : CallLaws 
 -- ---- the call of a line
 
 -- an actor's call of its socket, whose steps are at ends of this object
-record CallsAtEnds {N T : Type 0} (c : Control) (o k : ℕ) (asks : LineCall) (answer : LineAnswer) (told told_now : List Skip) (before after : List (Piece N T)) (was now : OpenSock) : Type 0 where
+record CallsAtEnds {N T : Type 0} (c : Control) (o k : ℕ) (asks : Call) (answer : Answer) (told told_now : List Skip) (before after : List (Piece N T)) (was now : OpenSock) : Type 0 where
   one : CallsOne k asks was now answer told told_now before after
   ends : AreAtEnds c (λ i. i == o) (one.pump ++ one.acts)
 
-module _ (W : Type 0) {S N O I T : Type 0} (K : Known S O I N) (tables : TablesGoOn N T) (k : ℕ) (s t : Option (SockCore AnySock W N O I)) (closed : ClosedSockets N O I) (v w : Core S (Given N O I) N T) (ready : Type 0) (order : IsOneOrder w.desk) (asks : LineCall) (answer : LineAnswer)
+module _ (W : Type 0) {S N O I T : Type 0} (K : Known S O I N) (tables : TablesGoOn N T) (k : ℕ) (s t : Option (SockCore AnySock W N O I)) (closed : ClosedSockets N O I) (v w : Core S (Given N O I) N T) (ready : Type 0) (order : IsOneOrder w.desk) (asks : Call) (answer : Answer)
     (told told_now : List Skip) (since : List (Unit {0} × Unit {0})) (is : IsTold (TellsLine K k asks answer told told_now (lent_of K v k s) (parts w.pipes w.desk t since)) v.marks w.marks)
     (goes : GoesOn W K k s t (is.so.called.pump ++ is.so.called.acts) is.so.called.skips closed v w ready) (view : view_of (lent_of K v k s) ≡ as_open s) where
   control : control_of w.desk.past ≡ after_all w.desk.items (begun 1)
@@ -173,7 +173,7 @@ pub record IsLeftSound (W : Type 0) {S N O I T : Type 0} (K : Known S O I N) (k 
   pub others : KeepsOthers as_open (Agrees W K) was_made k (as_open s).object v w
 
 -- and the call was made
-pub record LineIsDone (W : Type 0) {S N O I T : Type 0} (K : Known S O I N) (k : ℕ) (s t : Option (SockCore AnySock W N O I)) (asks : LineCall) (answer : LineAnswer) (told told_now : List Skip) (closed : ClosedSockets N O I) (drops : List ℕ) (v w : Core S (Given N O I) N T) : Type 0 where
+pub record LineIsDone (W : Type 0) {S N O I T : Type 0} (K : Known S O I N) (k : ℕ) (s t : Option (SockCore AnySock W N O I)) (asks : Call) (answer : Answer) (told told_now : List Skip) (closed : ClosedSockets N O I) (drops : List ℕ) (v w : Core S (Given N O I) N T) : Type 0 where
   pub left : IsLeftSound W K k s t closed drops v w
   pub one : CallsOne k asks (as_open s) (as_open t) answer told told_now (pieces_in v) (pieces_in w)
 
@@ -194,7 +194,7 @@ module _ (W : Type 0) {S N O I T : Type 0} (K : Known S O I N) (laws : CallLaws 
       }
 
   -- or behind it
-  module _ (asks : LineCall) (answer : LineAnswer) (told told_now : List Skip) (is : IsTold (TellsLine K k asks answer told told_now (lent_of K v k s) (parts pipes d t since)) v.marks marks) where
+  module _ (asks : Call) (answer : Answer) (told told_now : List Skip) (is : IsTold (TellsLine K k asks answer told told_now (lent_of K v k s) (parts pipes d t since)) v.marks marks) where
     pub line_left : (now : List ℕ) → IsLeftSound W K k s t closed now v (core_of d pipes marks true)
     line_left now =
         let goes = goes_by true (is.so.called.pump ++ is.so.called.acts) is.so.called.skips (of_line K k v s t pipes d marks since true asks answer told told_now is) in record {

@@ -12,7 +12,7 @@ use Rattle.spec_run.specs.declared.journal.SettledRow.{SettledRow}
 use Rattle.spec_run.specs.Fate.{is_heard_at}
 use Rattle.spec_run.specs.InTurns.{is_ended}
 use Rattle.spec_run.specs.OwnedRun.{settlement_of, IsCountedBy, AreCountedBy}
-use Rattle.spec_run.specs.RunJournal.{line_of, object_shown, rows_by}
+use Rattle.spec_run.specs.Journal.{line_of, object_shown, rows_by}
 use Rattle.zq_world.specs.Piece.{Piece, pipe_steps}
 use Rattle.zq_world.specs.declared.cores.Shown.{Shown}
 use Rattle.zq_world.specs.Shown.{row_in_pieces, ShowsEnd}

@@ -11,7 +11,7 @@ use Rattle.spec_control.specs.Control.{Control, Settlement, is_end, end_of}
 use Rattle.spec_run.specs.declared.journal.SettledRow.{SettledRow}
 use Rattle.spec_run.specs.Fate.{is_heard_at}
 use Rattle.spec_run.specs.OwnedRun.{settlement_of}
-use Rattle.spec_run.specs.RunJournal.{rows_by}
+use Rattle.spec_run.specs.Journal.{rows_by}
 use Rattle.control_laws.proofs.AskLemmas.{same_end}
 use Rattle.core_laws.specs.Drops.{row_dropped}
 use Rattle.socket_laws.specs.Settling.{HasItsReason}

@@ -4,7 +4,7 @@ use Rattle.std.proofs.Common.{◌∙◌, ap, subst, sym}
 use Rattle.zq_base.specs.Ends.{PipeId}
 use Rattle.spec_control.specs.declared.end.Reason.{Reason}
 use Rattle.spec_control.specs.Control.{Settlement}
-use Rattle.spec_run.specs.declared.texts.PipeRow.{PipeRow}
+use Rattle.spec_run.specs.declared.journal.PipeRow.{PipeRow}
 use Rattle.spec_run.specs.declared.journal.SettledRow.{SettledRow}
 use Rattle.core_laws.specs.Drops.{row_dropped}
 

@@ -2,8 +2,8 @@
 use Rattle.std.specs.Prelude.{◌≡◌, ◌++◌, ℕ, false, List, [], Option, refl}
 use Rattle.std.proofs.Common.{sym, ap, ◌∙◌, subst}
 use Rattle.spec_pattern.specs.declared.answers.Skip.{Skip}
-use Rattle.spec_run.specs.declared.journal.LineAnswer.{LineAnswer}
-use Rattle.spec_run.specs.declared.line.LineCall.{LineCall}
+use Rattle.spec_run.specs.declared.answer.Answer.{Answer}
+use Rattle.spec_run.specs.declared.script.Call.{Call}
 use Rattle.spec_run.specs.Event.{acts_said}
 use Rattle.msg_pipe.specs.Known.{Known}
 use Rattle.desk.specs.declared.given.Given.{Given}
@@ -38,13 +38,13 @@ module _ {W N O I S T : Type 0} (K : Known S O I N) (k : ℕ) (old new was now :
       subst (λ (l : LentParts W N O I S T). TellsClose K k l now marks) (sym from)
       (subst (λ (l : LentParts W N O I S T). TellsClose K k old l marks) (sym to) tells)
 
-  module _ (asks asked : LineCall) (line : asked ≡ asks) (answer answered : LineAnswer) (reply : answered ≡ answer) (told before : List Skip) (first : before ≡ told) (told_now behind : List Skip) (last : behind ≡ told_now) where
+  module _ (asks asked : Call) (line : asked ≡ asks) (answer answered : Answer) (reply : answered ≡ answer) (told before : List Skip) (first : before ≡ told) (told_now behind : List Skip) (last : behind ≡ told_now) where
     pub line_as : (marks : List PieceMark) → TellsLine K k asks answer told told_now old new marks → TellsLine K k asked answered before behind was now marks
     line_as marks tells =
         subst (λ (l : LentParts W N O I S T). TellsLine K k asked answered before behind l now marks) (sym from)
         (subst (λ (l : LentParts W N O I S T). TellsLine K k asked answered before behind old l marks) (sym to)
-        (subst (λ (x : LineCall). TellsLine K k x answered before behind old new marks) (sym line)
-        (subst (λ (x : LineAnswer). TellsLine K k asks x before behind old new marks) (sym reply)
+        (subst (λ (x : Call). TellsLine K k x answered before behind old new marks) (sym line)
+        (subst (λ (x : Answer). TellsLine K k asks x before behind old new marks) (sym reply)
         (subst (λ (x : List Skip). TellsLine K k asks answer x behind old new marks) (sym first)
         (subst (λ (x : List Skip). TellsLine K k asks answer told x old new marks) (sym last) tells)))))
 
@@ -56,6 +56,6 @@ module _ {W N O I S T : Type 0} (K : Known S O I N) (k : ℕ) (old new : LentPar
   pub close_tells : (closes : ClosesOpen (Leads K) view_of old new) → TellsClose K k old new (piece_marks k false (acts_said closes.closed) [])
   close_tells closes = record { closes = closes; are = refl }
 
-  pub line_tells : (asks : LineCall) (answer : LineAnswer) (told told_now : List Skip) (called : CallsLine (Leads K) view_of asks answer told told_now old new) →
+  pub line_tells : (asks : Call) (answer : Answer) (told told_now : List Skip) (called : CallsLine (Leads K) view_of asks answer told told_now old new) →
       TellsLine K k asks answer told told_now old new (piece_marks k false (called.pump ++ called.acts) called.skips)
   line_tells asks answer told told_now called = record { called = called; are = refl }

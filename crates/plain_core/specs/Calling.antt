@@ -1,8 +1,8 @@
 -- Calls of an open socket through a core, with what tells of them (zmq_close(3), zmq_msg_send(3), zmq_msg_recv(3); own choice).
 use Rattle.std.specs.Prelude.{◌≡◌, ◌++◌, ℕ, false, List, [], Option, Some}
 use Rattle.spec_pattern.specs.declared.answers.Skip.{Skip}
-use Rattle.spec_run.specs.declared.journal.LineAnswer.{LineAnswer}
-use Rattle.spec_run.specs.declared.line.LineCall.{LineCall}
+use Rattle.spec_run.specs.declared.answer.Answer.{Answer}
+use Rattle.spec_run.specs.declared.script.Call.{Call}
 use Rattle.spec_run.specs.Act.{Act}
 use Rattle.spec_run.specs.Event.{acts_said}
 use Rattle.msg_pipe.specs.Known.{Known}
@@ -33,7 +33,7 @@ pub record IsTold (tells : List PieceMark → Type 0) (old new : List PieceMark)
 
 module _ {W N O I S T : Type 0} (K : Known S O I N) where
   -- these tell of a line's call by a caller
-  pub record TellsLine (k : ℕ) (asks : LineCall) (answer : LineAnswer) (told told_now : List Skip) (old new : LentParts W N O I S T) (marks : List PieceMark) : Type 0 where
+  pub record TellsLine (k : ℕ) (asks : Call) (answer : Answer) (told told_now : List Skip) (old new : LentParts W N O I S T) (marks : List PieceMark) : Type 0 where
     pub called : CallsLine (Leads K) view_of asks answer told told_now old new
     pub are : marks ≡ piece_marks k false (called.pump ++ called.acts) called.skips
 

@@ -2,7 +2,7 @@ ghost use Rattle.std.specs.Prelude.{◌≡◌, ◌^◌, IfOk};
 ghost use Rattle.spec_run.specs.ControlAnswer.{refusal_answer, reply_answer};
 
 use spec_control::{Refusal, Reply};
-use spec_run::{Answer, LineAnswer};
+use spec_run::Answer;
 use std::alloc::AllocError;
 
 // One less than how many callers there may be.
@@ -19,30 +19,30 @@ pub(crate) fn number_of(caller: usize) -> Result<u32, AllocError>
 }
 
 // What a line is answered whose request was refused.
-fn refusal_answer(refusal: Refusal) -> LineAnswer
+fn refusal_answer(refusal: Refusal) -> Answer
     ensures { result ≡ refusal_answer refusal }
 {
     match refusal {
-        Refusal::Term => LineAnswer::Term,
-        Refusal::InUse => LineAnswer::Plain(Answer::InUse),
-        Refusal::NotBound => LineAnswer::NotBound,
-        Refusal::BadPair => LineAnswer::Plain(Answer::BadPair),
-        Refusal::TooMany => LineAnswer::Plain(Answer::TooMany),
+        Refusal::Term => Answer::Term,
+        Refusal::InUse => Answer::InUse,
+        Refusal::NotBound => Answer::NotBound,
+        Refusal::BadPair => Answer::BadPair,
+        Refusal::TooMany => Answer::TooMany,
     }
 }
 
 /// What a line is answered whose request had this reply.
-pub(crate) fn reply_answer(reply: Reply) -> LineAnswer
+pub(crate) fn reply_answer(reply: Reply) -> Answer
     ensures { result ≡ reply_answer reply }
 {
     match reply {
-        Reply::Done => LineAnswer::Plain(Answer::Done),
-        Reply::Object(object) => LineAnswer::Plain(Answer::Object(object)),
-        Reply::Pair(pair) => LineAnswer::Plain(Answer::Pair(pair)),
-        Reply::Both(object, pair) => LineAnswer::Both(object, pair),
-        Reply::Wait => LineAnswer::Plain(Answer::Wait),
-        Reply::Asked => LineAnswer::Plain(Answer::Done),
-        Reply::Before => LineAnswer::Term,
+        Reply::Done => Answer::Done,
+        Reply::Object(object) => Answer::Object(object),
+        Reply::Pair(pair) => Answer::Pair(pair),
+        Reply::Both(object, pair) => Answer::Both(object, pair),
+        Reply::Wait => Answer::Wait,
+        Reply::Asked => Answer::Done,
+        Reply::Before => Answer::Term,
         Reply::Refused(refusal) => refusal_answer(refusal),
     }
 }

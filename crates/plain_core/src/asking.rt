@@ -12,7 +12,7 @@ use crate::telling::OneItem;
 use end_table::HeldPipes;
 use socket_laws::{asides_go_on, root_asks_are_asides};
 use spec_control::Reply;
-use spec_run::LineAnswer;
+use spec_run::Answer;
 use std::alloc::{AllocError, Global};
 use zq_world::tales_go_on;
 
@@ -44,7 +44,7 @@ impl<P: HeldPipes> OneCore<P> {
     }
 
     /// Asks the context to end (zmq_ctx_term(3)).
-    pub fn term(&mut self, alloc: Global, caller: usize) -> Result<LineAnswer, AllocError>
+    pub fn term(&mut self, alloc: Global, caller: usize) -> Result<Answer, AllocError>
         ensures ok { IfOk result (λ answer.
             AsksToEnd caller answer (pieces_in self.old) (pieces_in self.new)) }
         ensures err { OnErr result (IsLentOn self.old self.new) }

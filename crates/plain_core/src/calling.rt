@@ -17,7 +17,7 @@ use end_table::HeldPipes;
 use plain_desk::OneDesk;
 use sock_core::SockCore;
 use spec_pattern::Skip;
-use spec_run::{LineAnswer, LineCall};
+use spec_run::{Answer, Call};
 use std::alloc::{AllocError, AllocFailed, Global};
 use zq_base::ObjId;
 
@@ -63,9 +63,9 @@ where
         alloc: Global,
         caller: usize,
         socket: &mut Option<SockCore<AnySock, P::Waker, P::Name, P::Out, P::In>>,
-        line: &LineCall,
+        line: &Call,
         told: &mut Vec<Skip>,
-    ) -> Result<LineAnswer, AllocError>
+    ) -> Result<Answer, AllocError>
         requires agrees { Agrees P.Waker P.known self.old caller socket.old }
         requires asks { AsksSocket line.now }
         requires may { MayAskLine line.now }
@@ -93,9 +93,9 @@ where
         alloc: Global,
         caller: u32,
         socket: &mut Option<SockCore<AnySock, P::Waker, P::Name, P::Out, P::In>>,
-        line: &LineCall,
+        line: &Call,
         told: &mut Vec<Skip>,
-    ) -> Result<LineAnswer, AllocError>
+    ) -> Result<Answer, AllocError>
         requires agrees { Agrees P.Waker P.known self.old caller socket.old }
         requires asks { AsksSocket line.now }
         requires may { MayAskLine line.now }

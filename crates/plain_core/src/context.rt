@@ -9,7 +9,7 @@ use end_table::HeldPipes;
 use line_socket::LentSock;
 use plain_desk::OneDesk;
 use sock_calls::Socket;
-use spec_run::{RunActor, RunJournal};
+use spec_run::{ActorScript, Journal};
 use std::alloc::{AllocError, Global};
 use std::marker::Model;
 use zq_base::Log;
@@ -88,9 +88,9 @@ where
     pub fn play_events(
         self,
         alloc: Global,
-        script: &[RunActor],
+        script: &[ActorScript],
         events: &[Event],
-    ) -> Result<RunJournal, AllocError>
+    ) -> Result<Journal, AllocError>
         requires new { pieces_in self ≡ [] }
         requires may { MayAskScript script.now }
         ensures { IfOk result

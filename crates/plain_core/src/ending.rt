@@ -1,5 +1,5 @@
 ghost use Rattle.std.specs.Prelude.{◌≡◌, ◌++◌, ◌&&◌, false, map, not, replicate, slice_index_or, IfOk, OnOk};
-ghost use Rattle.spec_run.specs.RunJournal.{line_of};
+ghost use Rattle.spec_run.specs.Journal.{line_of};
 ghost use Rattle.ctl_plane.specs.Past.{control_of};
 ghost use Rattle.core_laws.specs.EndedRows.{is_over, last_of, one_if};
 ghost use Rattle.plain_core.specs.Ending.{marked};

@@ -14,7 +14,7 @@ use end_table::HeldPipes;
 use line_socket::LentSock;
 use sock_core::SockCore;
 use spec_pattern::Skip;
-use spec_run::{LineAnswer, LineCall};
+use spec_run::{Answer, Call};
 use std::alloc::{AllocError, AllocFailed, Global};
 use std::mem;
 use std::snapshot::Snapshot;
@@ -28,9 +28,9 @@ fn call_told<P>(
     lent: &mut LentSock<P>,
     tale: &mut Tale<PieceMark>,
     caller: u32,
-    line: &LineCall,
+    line: &Call,
     told: &mut Vec<Skip>,
-) -> Result<LineAnswer, AllocError>
+) -> Result<Answer, AllocError>
 where
     P: HeldPipes,
     requires agrees { Agrees P.known (parts lent.old.pipes lent.old.desk lent.old.socket.core lent.old.since.items) }
@@ -85,9 +85,9 @@ pub(crate) fn call_lent<P>(
     tale: &mut Tale<PieceMark>,
     caller: u32,
     socket: &mut Option<SockCore<AnySock, P::Waker, P::Name, P::Out, P::In>>,
-    line: &LineCall,
+    line: &Call,
     told: &mut Vec<Skip>,
-) -> Result<LineAnswer, AllocError>
+) -> Result<Answer, AllocError>
 where
     P: HeldPipes,
     requires agrees { Agrees P.known (parts lent.old.pipes (for_caller caller lent.old.desk) socket.old []) }

@@ -1,5 +1,5 @@
 ghost use Rattle.std.specs.Prelude.{◌≡◌, map, IfOk};
-ghost use Rattle.spec_run.specs.RunJournal.{line_of, object_shown};
+ghost use Rattle.spec_run.specs.Journal.{line_of, object_shown};
 ghost use Rattle.ctl_plane.specs.Past.{control_of};
 
 use msg_pipe::Pipes;

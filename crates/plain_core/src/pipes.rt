@@ -1,7 +1,7 @@
 ghost use Rattle.std.specs.Prelude.{◌≡◌, ◌<◌, ◌^◌, ◌++◌, ◌∷◌, [], true, false, drop, All, IfOk, OnOk};
 ghost use Rattle.spec_control.specs.Control.{end_of, next_pair};
 ghost use Rattle.spec_run.specs.Fate.{is_heard_at, is_publisher, is_publisher_kind};
-ghost use Rattle.spec_run.specs.RunJournal.{rows_by};
+ghost use Rattle.spec_run.specs.Journal.{rows_by};
 ghost use Rattle.ctl_plane.specs.Past.{control_of};
 ghost use Rattle.socket_laws.specs.Settling.{HasItsReason};
 ghost use Rattle.plain_core.specs.Settled.{row_in, HasTable};

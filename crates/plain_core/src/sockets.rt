@@ -3,7 +3,7 @@ use any_sock::AnySock;
 use end_table::HeldPipes;
 use sock_core::SockCore;
 use spec_pattern::Skip;
-use spec_run::{LineAnswer, LineCall};
+use spec_run::{Answer, Call};
 use std::alloc::{AllocError, AllocFailed, Global};
 use zq_base::{Kind, Options};
 use zq_world::{Letters, Made, Sockets};
@@ -40,9 +40,9 @@ where
         alloc: Global,
         caller: usize,
         socket: &mut Self::Open,
-        line: &LineCall,
+        line: &Call,
         told: &mut Vec<Skip>,
-    ) -> Result<LineAnswer, AllocError> {
+    ) -> Result<Answer, AllocError> {
         OneCore::call(self, alloc, caller, socket, line, told)
     }
 
@@ -55,7 +55,7 @@ where
         OneCore::close(self, alloc, caller, socket)
     }
 
-    fn term(&mut self, alloc: Global, caller: usize) -> Result<LineAnswer, AllocError> {
+    fn term(&mut self, alloc: Global, caller: usize) -> Result<Answer, AllocError> {
         OneCore::term(self, alloc, caller)
     }
 }

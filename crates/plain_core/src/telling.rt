@@ -7,7 +7,7 @@ use line_socket::LentSock;
 use plain_desk::OneDesk;
 use sock_core::SockCore;
 use spec_pattern::Skip;
-use spec_run::{LineAnswer, LineCall};
+use spec_run::{Answer, Call};
 use std::snapshot::Snapshot;
 use zq_base::Log;
 use zq_base::Tells;
@@ -76,8 +76,8 @@ pub(crate) struct OneLine<P: HeldPipes> {
     pub(crate) by: u32,
     pub(crate) from: Was<P>,
     pub(crate) to: Was<P>,
-    pub(crate) line: Snapshot<LineCall>,
-    pub(crate) answer: Snapshot<LineAnswer>,
+    pub(crate) line: Snapshot<Call>,
+    pub(crate) answer: Snapshot<Answer>,
     pub(crate) told: Snapshot<Vec<Skip>>,
     pub(crate) told_now: Snapshot<Vec<Skip>>,
 }

@@ -9,9 +9,9 @@ use Rattle.spec_control.specs.declared.request.Reply.TheVariants.{Done}
 use Rattle.spec_control.specs.Control.{Control, id}
 use Rattle.control_laws.proofs.ListLemmas.{never}
 use Rattle.spec_control.specs.OwnAsks.{is_none}
-use Rattle.spec_run.specs.declared.journal.LineEntry.{LineEntry}
-use Rattle.spec_run.specs.declared.line.RunLine.{RunLine}
-use Rattle.spec_run.specs.LineCall.{line_is_over}
+use Rattle.spec_run.specs.declared.journal.Entry.{Entry}
+use Rattle.spec_run.specs.declared.script.Line.{Line}
+use Rattle.spec_run.specs.Script.{line_is_over}
 use Rattle.spec_run.specs.Act.{Act, Try, Deed, Tries, Shuts, Fetches, Idles, Works, Looks, AsksRoot, Reads, steps_in, all_acts}
 use Rattle.spec_run.specs.Event.{acts_said}
 use Rattle.spec_run.specs.Standing.{Sockets, ActorStanding, ClosesOne, DoesLine, DoesTry, ShutsFirst, standing_after}
@@ -34,7 +34,7 @@ not_none x xs ys e none = never (sym (ap is_none e) ∙ none)
 same_head : {X : Type 0} (x y : X) (xs ys : List X) → x ∷ xs ≡ y ∷ ys → (x ≡ y) × (xs ≡ ys)
 same_head x y xs ys e = (let p : x ≡ y = cc in p, let q : xs ≡ ys = cc in q)
 
-after_try : (c : Control) (over : Bool) (rest : List RunLine) (told : List Skip) (mine : Sockets) (old : ActorStanding) → EachStands c mine.socks → EachStands c (standing_after over rest told mine old).mine.socks
+after_try : (c : Control) (over : Bool) (rest : List Line) (told : List Skip) (mine : Sockets) (old : ActorStanding) → EachStands c mine.socks → EachStands c (standing_after over rest told mine old).mine.socks
 after_try c true rest told mine old each = each
 after_try c false rest told mine old each = each
 
@@ -47,7 +47,7 @@ module _ {N S : Type 0} where
   bare_try t x steps skips line answer told over = λ i. record {
     steps = steps i;
     skips = skips i;
-    entries = if over i then (let e : LineEntry = record { line = (line i).number; answer = answer i; skips = told i } in e) ∷ [] else [];
+    entries = if over i then (let e : Entry = record { line = (line i).number; answer = answer i; skips = told i } in e) ∷ [] else [];
   }
 
   try_same : (cap cup : PipeId → ℕ) (c d : Control) (past : List PipeStep) (old u v : ActorStanding) (t x : Try N S) → Reached N S c → Reached N S d → blank c ≡ blank d
@@ -56,9 +56,9 @@ module _ {N S : Type 0} where
   try_same cap cup c d past old u v t x r q p each each_too w w2 ahead ahead_too f g =
       let lines = same_head t.line x.line f.rest g.rest (sym f.lines_are ∙ g.lines_are) in
       let from_here : TriesFrom cap cup c d past t x = record { one = r; other = q; states = p; walk = w; walk_too = w2; ahead = ahead; ahead_too = ahead_too } in
-      let one = line_same cap cup c d past t x from_here old.mine f.mine g.mine each each_too t.line.call f.does (subst (λ (l : RunLine). DoesLine l.call old.mine x g.mine) (sym lines.0) g.does) in
+      let one = line_same cap cup c d past t x from_here old.mine f.mine g.mine each each_too t.line.call f.does (subst (λ (l : Line). DoesLine l.call old.mine x g.mine) (sym lines.0) g.does) in
       let told : t.told ≡ x.told = f.told_is ∙ ap (λ (l : List Skip). old.told ++ l) one.skips ∙ sym g.told_is in
-      let over : t.over ≡ x.over = f.over_is ∙ ap (λ (l : RunLine). line_is_over old.tried l.call t.answer) lines.0 ∙ ap (line_is_over old.tried x.line.call) one.answer ∙ sym g.over_is in
+      let over : t.over ≡ x.over = f.over_is ∙ ap (λ (l : Line). line_is_over old.tried l.call t.answer) lines.0 ∙ ap (line_is_over old.tried x.line.call) one.answer ∙ sym g.over_is in
       let standing : standing_after t.over f.rest t.told f.mine old ≡ standing_after x.over g.rest x.told g.mine old =
       λ i. standing_after (over i) (lines.1 i) (told i) (one.socks i) old in
       let b = bare_try t x one.same.steps one.skips lines.0 one.answer told over in

@@ -9,7 +9,7 @@ use Rattle.zq_base.specs.declared.ids.EndId.{EndId}
 use Rattle.zq_base.specs.declared.ids.ObjId.{ObjId}
 use Rattle.zq_base.specs.declared.kind.Kind.{Kind}
 use Rattle.zq_base.specs.declared.options.Options.{Options}
-use Rattle.zq_script.specs.declared.script.Call.TheVariants as call
+use Rattle.spec_run.specs.declared.script.Call.TheVariants as call
 use Rattle.spec_pattern.specs.PatternCalls.{Change, Subscribe, Unsubscribe}
 use Rattle.spec_pattern.specs.PipeStep.{PipeStep, Seal}
 use Rattle.spec_pattern.specs.Topics.{Topic}
@@ -24,12 +24,11 @@ use Rattle.spec_control.specs.declared.entry.Item.TheVariants.{Event, Seen}
 use Rattle.spec_control.specs.Control.{Control, id}
 use Rattle.control_laws.proofs.ListLemmas.{never}
 use Rattle.spec_control.specs.Moments.{Moment, left_by}
-use Rattle.spec_run.specs.declared.journal.LineAnswer.{LineAnswer}
-use Rattle.spec_run.specs.declared.journal.LineAnswer.TheVariants.{Term as SaysTerm}
-use Rattle.spec_run.specs.declared.line.LineCall.{LineCall}
-use Rattle.spec_run.specs.declared.line.LineCall.TheVariants.{Asks, Unbinds, Disconnects, Closes, Terms}
-use Rattle.spec_run.specs.declared.line.RunLine.{RunLine}
-use Rattle.spec_run.specs.LineCall.{RunScript, line_tries, is_tried_again}
+use Rattle.spec_run.specs.declared.answer.Answer.{Answer}
+use Rattle.spec_run.specs.declared.answer.Answer.TheVariants as answer
+use Rattle.spec_run.specs.declared.script.Call.{Call}
+use Rattle.spec_run.specs.declared.script.Line.{Line}
+use Rattle.spec_run.specs.Script.{Script, line_tries, is_tried_again}
 use Rattle.spec_run.specs.Act.{Act, Step, Try, Deed, Tries, Shuts, Fetches, Idles, Works, Looks, AsksRoot, Reads, acts_of, all_acts, moments_in}
 use Rattle.spec_run.specs.OpenSocket.{OpenSock, waiting_ends}
 use Rattle.spec_run.specs.Event.{LooksFront, finds_none, finds_one, finds_end, LooksFronts, LooksWhere, LooksBehind, TakesLetter, TakesLetters, seals_in, acts_said}
@@ -41,15 +40,15 @@ use Rattle.spec_run.specs.OwnedRun.{AllWork, deeds_in}
 use Rattle.replay_laws.proofs.WalkLemmas.{moments_on, no_moments, no_moments_sealed}
 
 -- a weight of requests, and one of lines that is no less than that of what they ask; a line that weighs anything is tried once
-pub record Weighs (w : Req → ℕ) (v : LineCall → ℕ) : Type 0 where
-  pub sockets : (kind : Kind) (options : Options) → w (MakeSocket kind options) ≤ v (Asks (call.Socket kind options))
-  pub binds : (o : ObjId) (place : ℕ) (at : Endpoint) → w (Bind o at) ≤ v (Asks (call.Bind place at))
-  pub connects : (o : ObjId) (place : ℕ) (to : Endpoint) → w (Connect o to) ≤ v (Asks (call.Connect place to))
-  pub unbinds : (o : ObjId) (place : ℕ) (at : Endpoint) → w (Unbind o at) ≤ v (Unbinds place at)
-  pub disconnects : (o : ObjId) (place : ℕ) (at : Endpoint) → w (Disconnect o at) ≤ v (Disconnects place at)
+pub record Weighs (w : Req → ℕ) (v : Call → ℕ) : Type 0 where
+  pub sockets : (kind : Kind) (options : Options) → w (MakeSocket kind options) ≤ v (call.Socket kind options)
+  pub binds : (o : ObjId) (place : ℕ) (at : Endpoint) → w (Bind o at) ≤ v (call.Bind place at)
+  pub connects : (o : ObjId) (place : ℕ) (to : Endpoint) → w (Connect o to) ≤ v (call.Connect place to)
+  pub unbinds : (o : ObjId) (place : ℕ) (at : Endpoint) → w (Unbind o at) ≤ v (call.Unbind place at)
+  pub disconnects : (o : ObjId) (place : ℕ) (at : Endpoint) → w (Disconnect o at) ≤ v (call.Disconnect place at)
   pub closes : (o : ObjId) → w (Close o) ≡ 0
   pub terms : w AskTerm ≡ 0
-  pub once : (line : LineCall) → 0 < v line → line_tries line ≡ 1
+  pub once : (line : Call) → 0 < v line → line_tries line ≡ 1
 
 abbrev pub weight_did : {N S : Type 0} → (Req → ℕ) → Did N S → ℕ
 weight_did w (Asked req reply h) = w req
@@ -68,12 +67,12 @@ abbrev pub weight_acts : {N S : Type 0} → (Req → ℕ) → List (Act N S) →
 weight_acts w acts = weight_moments w (moments_in acts)
 
 -- what lines may ask
-abbrev pub weight_lines : (LineCall → ℕ) → List RunLine → ℕ
+abbrev pub weight_lines : (Call → ℕ) → List Line → ℕ
 weight_lines v [] = 0
 weight_lines v (line ∷ lines) = v line.call + weight_lines v lines
 
 -- what the actors of a script may ask
-abbrev pub weight_script : (LineCall → ℕ) → RunScript → ℕ
+abbrev pub weight_script : (Call → ℕ) → Script → ℕ
 weight_script v [] = 0
 weight_script v (actor ∷ script) = weight_lines v actor.lines + weight_script v script
 
@@ -87,31 +86,31 @@ or_true : (b : Bool) → (b || true) ≡ true
 or_true true = refl
 or_true false = refl
 
-is_over : (v : LineCall → ℕ) → ((line : LineCall) → 0 < v line → line_tries line ≡ 1) → (line : LineCall) (tried : ℕ) (answer : LineAnswer) → 0 < v line → (not (is_tried_again answer) || nat_le (line_tries line) (tried + 1)) ≡ true
+is_over : (v : Call → ℕ) → ((line : Call) → 0 < v line → line_tries line ≡ 1) → (line : Call) (tried : ℕ) (answer : Answer) → 0 < v line → (not (is_tried_again answer) || nat_le (line_tries line) (tried + 1)) ≡ true
 is_over v once line tried answer some =
     let one = once line some in
     ap (λ (b : Bool). not (is_tried_again answer) || b) (le-leb (line_tries line) (tried + 1) (omega (arith, one))) ∙ or_true (not (is_tried_again answer))
 
 -- what a role may ask
-abbrev weight_role : (LineCall → ℕ) → Role → ℕ
+abbrev weight_role : (Call → ℕ) → Role → ℕ
 weight_role v (ActsBy actor) = weight_lines v actor.lines
 weight_role v Reaps = 0
 weight_role v Serves = 0
 weight_role v Conducts = 0
 
-abbrev weight_roles : (LineCall → ℕ) → List Role → ℕ
+abbrev weight_roles : (Call → ℕ) → List Role → ℕ
 weight_roles v [] = 0
 weight_roles v (role ∷ more) = weight_role v role + weight_roles v more
 
-serving : (v : LineCall → ℕ) (io : ℕ) → weight_roles v (replicate io Serves ++ Conducts ∷ []) ≡ 0
+serving : (v : Call → ℕ) (io : ℕ) → weight_roles v (replicate io Serves ++ Conducts ∷ []) ≡ 0
 serving v zero = omega arith
 serving v (suc io) = let rest = serving v io in omega (arith, rest)
 
-all_roles : (v : LineCall → ℕ) (script : RunScript) (io : ℕ) → weight_roles v (roles script io) ≡ weight_script v script
+all_roles : (v : Call → ℕ) (script : Script) (io : ℕ) → weight_roles v (roles script io) ≡ weight_script v script
 all_roles v [] io = let rest = serving v io in omega (arith, rest)
 all_roles v (actor ∷ script) io = let rest = all_roles v script io in omega (arith, rest)
 
-module _ {N S : Type 0} (w : Req → ℕ) (v : LineCall → ℕ) (weighs : Weighs w v) where
+module _ {N S : Type 0} (w : Req → ℕ) (v : Call → ℕ) (weighs : Weighs w v) where
   abbrev asked : List (Act N S) → ℕ
   asked acts = weight_acts w acts
 
@@ -188,7 +187,7 @@ module _ {N S : Type 0} (w : Req → ℕ) (v : LineCall → ℕ) (weighs : Weigh
   abbrev CallWeighs : ℕ → (OpenSock → Try N S → OpenSock → Type 0) → Type 0
   CallWeighs n Does = (s u : OpenSock) (t : Try N S) → Does s t u → asked t.call ≤ n
 
-  refused : (n : ℕ) (said_so : LineAnswer) → CallWeighs n (RefusesCall said_so)
+  refused : (n : ℕ) (said_so : Answer) → CallWeighs n (RefusesCall said_so)
   refused n said_so s u t f = let zero_so = none t.call f.call_is in omega (arith, zero_so)
 
   of_steps : (n : ℕ) (t : Try N S) (steps : List PipeStep) → t.call ≡ map (λ step. let a : Act N S = Step step in a) steps → asked t.call ≤ n
@@ -199,7 +198,7 @@ module _ {N S : Type 0} (w : Req → ℕ) (v : LineCall → ℕ) (weighs : Weigh
       let all : asked t.call ≡ w (req s) = ap asked f.call_is ∙ (asked_said f.made ∙ ap (weight_item w) f.request.item_is) in
       let few = is s in omega (arith, all, few)
 
-  unless_stopped : (n : ℕ) (stopped : Bool) (said_so : LineAnswer) (Does : OpenSock → Try N S → OpenSock → Type 0) → CallWeighs n Does → CallWeighs n (UnlessStopped stopped said_so Does)
+  unless_stopped : (n : ℕ) (stopped : Bool) (said_so : Answer) (Does : OpenSock → Try N S → OpenSock → Type 0) → CallWeighs n Does → CallWeighs n (UnlessStopped stopped said_so Does)
   unless_stopped n true said_so Does does s u t f = refused n said_so s u t f
   unless_stopped n false said_so Does does s u t f = does s u t f
 
@@ -210,7 +209,7 @@ module _ {N S : Type 0} (w : Req → ℕ) (v : LineCall → ℕ) (weighs : Weigh
   receives n s u t f = unless_stopped n s.stopped _ ReceivesOpen (λ s v t g. of_steps n t g.steps g.call_is) s u t f
 
   changes : (n : ℕ) (change : Change) (topic : Topic) → CallWeighs n (ChangesCall change topic)
-  changes n change topic s u t f = unless_stopped n s.stopped SaysTerm (ChangesOpen change topic) (λ s v t g. of_steps n t g.steps g.call_is) s u t f
+  changes n change topic s u t f = unless_stopped n s.stopped answer.Term (ChangesOpen change topic) (λ s v t g. of_steps n t g.steps g.call_is) s u t f
 
   connects_where : (n : ℕ) (takes stopped : Bool) (to : Endpoint) → ((o : ObjId) → w (Connect o to) ≤ n) → CallWeighs n (ConnectsWhere takes stopped to)
   connects_where n true stopped to few s u t f = requested n (λ x. Connect (id x.object) to) (λ x. few (id x.object)) s u t f
@@ -243,25 +242,25 @@ module _ {N S : Type 0} (w : Req → ℕ) (v : LineCall → ℕ) (weighs : Weigh
       by None g = on_none n old u t g
       by (Some s) g = let zero_so : asked (t.pump ++ t.call) ≡ 0 = ap asked (not_pumped t t.call g.no_pump refl) ∙ closes s t.call old u g.closes in omega (arith, zero_so)
 
-  line_asks : (line : LineCall) (old u : Sockets) (t : Try N S) → DoesLine line old t u → asked (t.pump ++ t.call) ≤ v line
-  line_asks (Asks (call.Socket kind options)) old u t f =
+  line_asks : (line : Call) (old u : Sockets) (t : Try N S) → DoesLine line old t u → asked (t.pump ++ t.call) ≤ v line
+  line_asks (call.Socket kind options) old u t f =
       let all : asked (t.pump ++ t.call) ≡ w (MakeSocket kind options) =
       ap asked (not_pumped t (acts_said f.made) f.no_pump f.call_is) ∙ (asked_said f.made ∙ ap (weight_item w) f.request.item_is) in
       let few = weighs.sockets kind options in omega (arith, all, few)
-  line_asks (Asks (call.Bind place at)) old u t f =
-      on_socket (v (Asks (call.Bind place at))) (BindsCall at) (requested _ (λ x. Bind (id x.object) at) (λ x. weighs.binds (id x.object) place at)) place old u t f
-  line_asks (Asks (call.Connect place to)) old u t f =
-      on_socket (v (Asks (call.Connect place to))) (ConnectsCall to) (λ s z y g. connects_where (v (Asks (call.Connect place to))) (takes_connect s.pattern to) s.stopped to (λ o. weighs.connects o place to) s z y g) place old u t f
-  line_asks (Asks (call.Send place m)) old u t f = on_socket _ (SendsCall m) (sends _ m) place old u t f
-  line_asks (Asks (call.Recv place tries)) old u t f = on_socket _ ReceivesCall (receives _) place old u t f
-  line_asks (Asks (call.Subscribe place topic)) old u t f = on_socket _ (ChangesCall Subscribe topic) (changes _ Subscribe topic) place old u t f
-  line_asks (Asks (call.Unsubscribe place topic)) old u t f = on_socket _ (ChangesCall Unsubscribe topic) (changes _ Unsubscribe topic) place old u t f
-  line_asks (Unbinds place at) old u t f =
-      on_socket (v (Unbinds place at)) (UnbindsCall at) (requested _ (λ x. Unbind (id x.object) at) (λ x. weighs.unbinds (id x.object) place at)) place old u t f
-  line_asks (Disconnects place at) old u t f =
-      on_socket (v (Disconnects place at)) (DisconnectsCall at) (requested _ (λ x. Disconnect (id x.object) at) (λ x. weighs.disconnects (id x.object) place at)) place old u t f
-  line_asks (Closes place) old u t f = on_closed _ place old u t f
-  line_asks Terms old u t f =
+  line_asks (call.Bind place at) old u t f =
+      on_socket (v (call.Bind place at)) (BindsCall at) (requested _ (λ x. Bind (id x.object) at) (λ x. weighs.binds (id x.object) place at)) place old u t f
+  line_asks (call.Connect place to) old u t f =
+      on_socket (v (call.Connect place to)) (ConnectsCall to) (λ s z y g. connects_where (v (call.Connect place to)) (takes_connect s.pattern to) s.stopped to (λ o. weighs.connects o place to) s z y g) place old u t f
+  line_asks (call.Send place m) old u t f = on_socket _ (SendsCall m) (sends _ m) place old u t f
+  line_asks (call.Recv place tries) old u t f = on_socket _ ReceivesCall (receives _) place old u t f
+  line_asks (call.Subscribe place topic) old u t f = on_socket _ (ChangesCall Subscribe topic) (changes _ Subscribe topic) place old u t f
+  line_asks (call.Unsubscribe place topic) old u t f = on_socket _ (ChangesCall Unsubscribe topic) (changes _ Unsubscribe topic) place old u t f
+  line_asks (call.Unbind place at) old u t f =
+      on_socket (v (call.Unbind place at)) (UnbindsCall at) (requested _ (λ x. Unbind (id x.object) at) (λ x. weighs.unbinds (id x.object) place at)) place old u t f
+  line_asks (call.Disconnect place at) old u t f =
+      on_socket (v (call.Disconnect place at)) (DisconnectsCall at) (requested _ (λ x. Disconnect (id x.object) at) (λ x. weighs.disconnects (id x.object) place at)) place old u t f
+  line_asks (call.Close place) old u t f = on_closed _ place old u t f
+  line_asks call.Term old u t f =
       let zero_so : asked (t.pump ++ t.call) ≡ 0 =
       ap asked (not_pumped t (acts_said f.made) f.no_pump f.call_is) ∙ (asked_said f.made ∙ (ap (weight_item w) f.request.item_is ∙ weighs.terms)) in omega (arith, zero_so)
 
@@ -347,5 +346,5 @@ module _ {N S : Type 0} (w : Req → ℕ) (v : LineCall → ℕ) (weighs : Weigh
       let one = role_asks role (deeds_in steps) f.0 in
       let rest = all_ask others more f.1 in omega (arith, one, rest)
 
-  pub workers_ask : (script : RunScript) (io : ℕ) (workers : List (List (List (Deed N S)))) → AllWork (roles script io) workers → weight_workers w workers ≤ weight_script v script
+  pub workers_ask : (script : Script) (io : ℕ) (workers : List (List (List (Deed N S)))) → AllWork (roles script io) workers → weight_workers w workers ≤ weight_script v script
   workers_ask script io workers f = let all = all_ask (roles script io) workers f in let same = all_roles v script io in omega (arith, all, same)

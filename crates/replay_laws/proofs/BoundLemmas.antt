@@ -3,14 +3,13 @@ use Rattle.std.specs.Prelude.{◌≡◌, ◌<◌, ℕ, true, List, [], ◌∷◌
 use Rattle.std.specs.List.{list_all}
 use Rattle.std.proofs.Common.{arith}
 use Rattle.std.proofs.lemmas.List.Sums.{sum_by-cons}
-use Rattle.zq_script.specs.declared.script.Call.TheVariants as call
+use Rattle.spec_run.specs.declared.script.Call.TheVariants as call
 use Rattle.spec_control.specs.Control.{begun}
 use Rattle.control_laws.proofs.RootLemmas.{begun_kept}
-use Rattle.spec_run.specs.declared.line.LineCall.{LineCall}
-use Rattle.spec_run.specs.declared.line.LineCall.TheVariants.{Asks, Unbinds, Disconnects, Closes, Terms}
-use Rattle.spec_run.specs.declared.line.RunActor.{RunActor}
-use Rattle.spec_run.specs.declared.line.RunLine.{RunLine}
-use Rattle.spec_run.specs.LineCall.{RunScript, line_tries}
+use Rattle.spec_run.specs.declared.script.Call.{Call}
+use Rattle.spec_run.specs.declared.script.ActorScript.{ActorScript}
+use Rattle.spec_run.specs.declared.script.Line.{Line}
+use Rattle.spec_run.specs.Script.{Script, line_tries}
 use Rattle.replay_laws.specs.InTime.{line_sockets}
 use Rattle.replay_laws.specs.Local.{is_local_item}
 use Rattle.replay_laws.specs.LocalScript.{LocalScriptsRunLocally}
@@ -20,31 +19,31 @@ use Rattle.replay_laws.proofs.AskLemmas.{Weighs, weight_lines, weight_script, wo
 use Rattle.replay_laws.proofs.CountLemmas.{order_asks}
 use Rattle.replay_laws.proofs.MakeLemmas.{asks_socket, asks_connect, objects_over, brought_over}
 
-socket_once : (line : LineCall) → 0 < line_sockets line → line_tries line ≡ 1
-socket_once (Asks (call.Socket kind options)) lt = refl
-socket_once (Asks (call.Bind place at)) lt = refl
-socket_once (Asks (call.Connect place to)) lt = refl
-socket_once (Asks (call.Send place m)) lt = refl
-socket_once (Asks (call.Recv place tries)) lt = absurd (omega (arith, lt))
-socket_once (Asks (call.Subscribe place topic)) lt = refl
-socket_once (Asks (call.Unsubscribe place topic)) lt = refl
-socket_once (Unbinds place at) lt = refl
-socket_once (Disconnects place at) lt = refl
-socket_once (Closes place) lt = refl
-socket_once Terms lt = refl
+socket_once : (line : Call) → 0 < line_sockets line → line_tries line ≡ 1
+socket_once (call.Socket kind options) lt = refl
+socket_once (call.Bind place at) lt = refl
+socket_once (call.Connect place to) lt = refl
+socket_once (call.Send place m) lt = refl
+socket_once (call.Recv place tries) lt = absurd (omega (arith, lt))
+socket_once (call.Subscribe place topic) lt = refl
+socket_once (call.Unsubscribe place topic) lt = refl
+socket_once (call.Unbind place at) lt = refl
+socket_once (call.Disconnect place at) lt = refl
+socket_once (call.Close place) lt = refl
+socket_once call.Term lt = refl
 
-connect_once : (line : LineCall) → 0 < line_connects line → line_tries line ≡ 1
-connect_once (Asks (call.Socket kind options)) lt = refl
-connect_once (Asks (call.Bind place at)) lt = refl
-connect_once (Asks (call.Connect place to)) lt = refl
-connect_once (Asks (call.Send place m)) lt = refl
-connect_once (Asks (call.Recv place tries)) lt = absurd (omega (arith, lt))
-connect_once (Asks (call.Subscribe place topic)) lt = refl
-connect_once (Asks (call.Unsubscribe place topic)) lt = refl
-connect_once (Unbinds place at) lt = refl
-connect_once (Disconnects place at) lt = refl
-connect_once (Closes place) lt = refl
-connect_once Terms lt = refl
+connect_once : (line : Call) → 0 < line_connects line → line_tries line ≡ 1
+connect_once (call.Socket kind options) lt = refl
+connect_once (call.Bind place at) lt = refl
+connect_once (call.Connect place to) lt = refl
+connect_once (call.Send place m) lt = refl
+connect_once (call.Recv place tries) lt = absurd (omega (arith, lt))
+connect_once (call.Subscribe place topic) lt = refl
+connect_once (call.Unsubscribe place topic) lt = refl
+connect_once (call.Unbind place at) lt = refl
+connect_once (call.Disconnect place at) lt = refl
+connect_once (call.Close place) lt = refl
+connect_once call.Term lt = refl
 
 sockets_weigh : Weighs asks_socket line_sockets
 sockets_weigh = record {
@@ -71,16 +70,16 @@ connects_weigh = record {
 }
 
 -- the weight of a script is a sum over its actors
-lines_sum : (v : LineCall → ℕ) (lines : List RunLine) → weight_lines v lines ≡ sum_by (λ line. v line.call) lines
+lines_sum : (v : Call → ℕ) (lines : List Line) → weight_lines v lines ≡ sum_by (λ line. v line.call) lines
 lines_sum v [] = refl
-lines_sum v (line ∷ lines) = let rest = lines_sum v lines in let all = sum_by-cons (λ (l : RunLine). v l.call) line lines in omega (arith, rest, all)
+lines_sum v (line ∷ lines) = let rest = lines_sum v lines in let all = sum_by-cons (λ (l : Line). v l.call) line lines in omega (arith, rest, all)
 
-script_sum : (v : LineCall → ℕ) (script : RunScript) → weight_script v script ≡ sum_by (λ actor. sum_by (λ line. v line.call) actor.lines) script
+script_sum : (v : Call → ℕ) (script : Script) → weight_script v script ≡ sum_by (λ actor. sum_by (λ line. v line.call) actor.lines) script
 script_sum v [] = refl
 script_sum v (actor ∷ script) =
     let own = lines_sum v actor.lines in
     let rest = script_sum v script in
-    let all = sum_by-cons (λ (a : RunActor). sum_by (λ (line : RunLine). v line.call) a.lines) actor script in omega (arith, own, rest, all)
+    let all = sum_by-cons (λ (a : ActorScript). sum_by (λ (line : Line). v line.call) a.lines) actor script in omega (arith, own, rest, all)
 
 module _ (N S : Type 0) (run_locally : LocalScriptsRunLocally N S) where
   pub make_so_much : ScriptsMakeSoMuch N S

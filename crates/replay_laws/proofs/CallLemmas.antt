@@ -22,12 +22,11 @@ use Rattle.spec_control.specs.declared.entry.Item.{Item}
 use Rattle.spec_control.specs.declared.entry.Item.TheVariants.{Event}
 use Rattle.spec_control.specs.Control.{Control, id}
 use Rattle.spec_control.specs.ControlRun.{Fits, FitsItem, after_item}
-use Rattle.spec_run.specs.declared.texts.Answer.TheVariants as answer
+use Rattle.spec_run.specs.declared.answer.Answer.TheVariants as answer
 use Rattle.spec_run.specs.Line.{sent_answer, got_answer, changed_answer}
 use Rattle.spec_control.specs.Has.{acts_in_request}
 use Rattle.spec_control.specs.Moments.{Moment}
-use Rattle.spec_run.specs.declared.journal.LineAnswer.{LineAnswer}
-use Rattle.spec_run.specs.declared.journal.LineAnswer.TheVariants.{Plain, Term}
+use Rattle.spec_run.specs.declared.answer.Answer.{Answer}
 use Rattle.spec_run.specs.ControlAnswer.{reply_answer}
 use Rattle.spec_run.specs.Act.{Try, moments_in}
 use Rattle.spec_run.specs.OpenSocket.{OpenSock, can_write, joins_of, sock_after, AreAnswered}
@@ -60,7 +59,7 @@ module _ {N S : Type 0} where
     pub root : leave_asked (moments_in t.pump) ≡ leave_asked (moments_in x.pump)
 
   module _ (cap cup : PipeId → ℕ) (c d : Control) (past : List PipeStep) (s : OpenSock) (t x : Try N S) (from_here : From cap cup c d past s t x) (u v : OpenSock) where
-    refused : (said_so said_too : LineAnswer) → said_so ≡ said_too → RefusesCall said_so s t u → RefusesCall said_too s x v → CallSame c d t x u v
+    refused : (said_so said_too : Answer) → said_so ≡ said_too → RefusesCall said_so s t u → RefusesCall said_too s x v → CallSame c d t x u v
     refused said_so said_too e f g = record {
       same = same_as c d t.call x.call [] [] f.call_is g.call_is (same_none c d from_here.states);
       skips = f.skips_are ∙ sym g.skips_are;
@@ -85,7 +84,7 @@ module _ {N S : Type 0} where
         record {
           same = steps_same f.steps g.steps f.call_is g.call_is (ap (λ (o : SendOutcome). o.steps) one);
           skips = f.skips_are ∙ sym g.skips_are;
-          answer = f.answer_is ∙ ap (λ (o : SendOutcome). Plain (sent_answer o.answer)) one ∙ sym g.answer_is;
+          answer = f.answer_is ∙ ap (λ (o : SendOutcome). sent_answer o.answer) one ∙ sym g.answer_is;
           socks = f.new_is ∙ ap (λ (o : SendOutcome). let z : OpenSock = record s { pattern = o.new } in z) one ∙ sym g.new_is;
         }
 
@@ -97,7 +96,7 @@ module _ {N S : Type 0} where
         record {
           same = steps_same f.steps g.steps f.call_is g.call_is (ap (λ (o : RecvOutcome). o.steps) one);
           skips = ap (λ (o : RecvOutcome). o.skips) one;
-          answer = f.answer_is ∙ ap (λ (o : RecvOutcome). Plain (got_answer o.answer)) one ∙ sym g.answer_is;
+          answer = f.answer_is ∙ ap (λ (o : RecvOutcome). got_answer o.answer) one ∙ sym g.answer_is;
           socks = f.new_is ∙ ap (λ (o : RecvOutcome). let z : OpenSock = record s { pattern = o.new } in z) one ∙ sym g.new_is;
         }
 
@@ -109,7 +108,7 @@ module _ {N S : Type 0} where
         record {
           same = steps_same f.steps g.steps f.call_is g.call_is (ap (λ (o : ChangeOutcome). o.steps) one);
           skips = f.skips_are ∙ sym g.skips_are;
-          answer = f.answer_is ∙ ap (λ (o : ChangeOutcome). Plain (changed_answer o.answer)) one ∙ sym g.answer_is;
+          answer = f.answer_is ∙ ap (λ (o : ChangeOutcome). changed_answer o.answer) one ∙ sym g.answer_is;
           socks = f.new_is ∙ ap (λ (o : ChangeOutcome). let z : OpenSock = record s { pattern = o.new } in z) one ∙ sym g.new_is;
         }
 
@@ -138,7 +137,7 @@ module _ {N S : Type 0} where
           socks = f.goes.1 ∙ ap (λ k. sock_after k s) m_is ∙ event.socks ∙ sym (ap (λ k. sock_after k s) n_is) ∙ sym g.goes.1;
         }
 
-    unless_stopped : (stopped : Bool) (said_so : LineAnswer) (Does : OpenSock → Try N S → OpenSock → Type 0) → (Does s t u → Does s x v → CallSame c d t x u v)
+    unless_stopped : (stopped : Bool) (said_so : Answer) (Does : OpenSock → Try N S → OpenSock → Type 0) → (Does s t u → Does s x v → CallSame c d t x u v)
         → UnlessStopped stopped said_so Does s t u → UnlessStopped stopped said_so Does s x v → CallSame c d t x u v
     unless_stopped true said_so Does same f g = refused said_so said_so refl f g
     unless_stopped false said_so Does same f g = same f g
@@ -150,12 +149,12 @@ module _ {N S : Type 0} where
     receives_call f g = unless_stopped s.stopped _ ReceivesOpen receives f g
 
     pub changes_call : (change : Change) (topic : Topic) → ChangesCall change topic s t u → ChangesCall change topic s x v → CallSame c d t x u v
-    changes_call change topic f g = unless_stopped s.stopped Term (ChangesOpen change topic) (changes change topic) f g
+    changes_call change topic f g = unless_stopped s.stopped answer.Term (ChangesOpen change topic) (changes change topic) f g
 
     connects_where : (takes stopped : Bool) (to : Endpoint) → ConnectsWhere takes stopped to s t u → ConnectsWhere takes stopped to s x v → CallSame c d t x u v
     connects_where true stopped to f g = requests (Connect (id s.object) to) (λ z. refl) f g
     connects_where false stopped to f g =
-        refused _ _ (ap (λ (b : Bool). let a : LineAnswer = if stopped || b then Term else Plain answer.NotSupported in a) from_here.root) f g
+        refused _ _ (ap (λ (b : Bool). let a : Answer = if stopped || b then answer.Term else answer.NotSupported in a) from_here.root) f g
 
     pub binds_call : (at : Endpoint) → BindsCall at s t u → BindsCall at s x v → CallSame c d t x u v
     binds_call at f g = requests (Bind (id s.object) at) (λ z. refl) f g

@@ -13,12 +13,12 @@ use Rattle.spec_control.specs.Rows.{PairRow}
 use Rattle.spec_control.specs.Control.{Control, Settlement, is_end, end_of, next_pair, place_of}
 use Rattle.control_laws.proofs.ListLemmas.{and}
 use Rattle.spec_run.specs.declared.journal.SettledRow.{SettledRow}
-use Rattle.spec_run.specs.declared.journal.RunJournal.{RunJournal}
-use Rattle.spec_run.specs.LineCall.{RunScript}
+use Rattle.spec_run.specs.declared.journal.Journal.{Journal}
+use Rattle.spec_run.specs.Script.{Script}
 use Rattle.spec_run.specs.OwnedRun.{OwnedRun, IsRun, every_pipe, all_steps, control_at_end}
 use Rattle.spec_run.specs.Fate.{settled_row}
 use Rattle.spec_run.specs.RunLaws.{MessagesHaveOneFate}
-use Rattle.spec_run.specs.RunJournal.{journal_at, object_shown, run_journal, row_if, row_shown, rows_by}
+use Rattle.spec_run.specs.Journal.{journal_at, object_shown, run_journal, row_if, row_shown, rows_by}
 use Rattle.run_laws.specs.EndOrder.{EndInOrder, ObjectsEndInOrder}
 use Rattle.run_laws.specs.DoneRuns.{NothingIsLeft, IsDoneWhole, DoneRunsLeaveNothing}
 use Rattle.replay_laws.specs.LocalScript.{is_local_script, LocalScriptsRunLocally}
@@ -32,10 +32,10 @@ use Rattle.replay_laws.proofs.JournalRowLemmas.{IfRow, IsGood, shown_good, row_t
 
 -- ---- objects
 
-says_of_objects : (N S : Type 0) → ObjectsEndInOrder N S → (script : RunScript) (j : RunJournal) (run : OwnedRun N S) → IsRun script 1 every_pipe run → j ≡ run_journal script 1 run → SaysOfObjects run j
+says_of_objects : (N S : Type 0) → ObjectsEndInOrder N S → (script : Script) (j : Journal) (run : OwnedRun N S) → IsRun script 1 every_pipe run → j ≡ run_journal script 1 run → SaysOfObjects run j
 says_of_objects N S in_order script j run is_run journal_is = record {
   listed =
-      subst (λ (x : RunJournal). ListsObjects (control_at_end 1 run) x) (sym journal_is)
+      subst (λ (x : Journal). ListsObjects (control_at_end 1 run) x) (sym journal_is)
       (lists_objects (control_at_end 1 run) script run (in_order script 1 every_pipe run is_run));
   «living» = lists_living j;
 }
@@ -51,7 +51,7 @@ some_is e = Prim.grind arith
 behind_one : (k : ℕ) → 0 < k → 1 + (k - 1) ≡ k
 behind_one k above = omega (arith, above)
 
-module _ {N S : Type 0} (c : Control) (script : RunScript) (run : OwnedRun N S) where
+module _ {N S : Type 0} (c : Control) (script : Script) (run : OwnedRun N S) where
   -- the row of a pipe at its place
   shown_at : (k : ℕ) (a : Bool) → 0 < k → k < next_pair c → slice_get (journal_at c script run).pipes (row_place k a) ≡ Some (row_shown c run (end_of k a))
   shown_at k a above within =
@@ -72,7 +72,7 @@ module _ {N S : Type 0} (c : Control) (script : RunScript) (run : OwnedRun N S) 
     each = λ k a row above within at. pipe_shown (end_of k a) (row_shown c run (end_of k a)) row (good (end_of k a)) (some_is (sym (shown_at k a above within) ∙ at));
   }
 
-module _ {N S : Type 0} (script : RunScript) (j : RunJournal) (run : OwnedRun N S) (is_run : IsRun script 1 every_pipe run) (journal_is : j ≡ run_journal script 1 run) where
+module _ {N S : Type 0} (script : Script) (j : Journal) (run : OwnedRun N S) (is_run : IsRun script 1 every_pipe run) (journal_is : j ≡ run_journal script 1 run) where
   abbrev at_end : Control
   at_end = control_at_end 1 run
 
@@ -82,7 +82,7 @@ module _ {N S : Type 0} (script : RunScript) (j : RunJournal) (run : OwnedRun N 
   whole_if : (P : SettledRow → Type 0) → ((p : PipeId) (row : SettledRow) → IsGood run p row → P row) → (row : SettledRow) → Contains j.pipes (Some row) → P row
   whole_if P from row held =
       All-contains (IfRow P) j.pipes (Some row)
-      (subst (λ (x : RunJournal). All (IfRow P) x.pipes) (sym journal_is) (each_row P (row_shown at_end run) (λ p. by p (row_shown at_end run p) (row_good p)) 1 (drop 1 at_end.rows.pairs))) held
+      (subst (λ (x : Journal). All (IfRow P) x.pipes) (sym journal_is) (each_row P (row_shown at_end run) (λ p. by p (row_shown at_end run p) (row_good p)) 1 (drop 1 at_end.rows.pairs))) held
     where
       by : (p : PipeId) (o : Option SettledRow) → IfRow (IsGood run p) o → IfRow P o
       by p None good = tt
@@ -90,7 +90,7 @@ module _ {N S : Type 0} (script : RunScript) (j : RunJournal) (run : OwnedRun N 
 
   pub says_of_pipes : SaysOfPipes run j
   says_of_pipes = record {
-    rows = subst (λ (x : RunJournal). ListsRows at_end x) (sym journal_is) (rows_listed at_end script run row_good);
+    rows = subst (λ (x : Journal). ListsRows at_end x) (sym journal_is) (rows_listed at_end script run row_good);
     whole = whole_if IsWholeRow (λ p row good. good.whole);
     order = whole_if (KeepsOrder run) (λ p row good. good.order);
     taken = λ p. is_run.in_order p refl;
@@ -122,7 +122,7 @@ all_some row n (p ∷ pairs) each =
     and _ _ (each n true (omega arith) (omega arith))
     (and _ _ (each n false (omega arith) (omega arith)) (all_some row (n + 1) pairs (λ k a low high. each k a (omega (arith, low)) (omega (arith, high)))))
 
-module _ {N S : Type 0} (c : Control) (script : RunScript) (run : OwnedRun N S) (order : EndInOrder c) (left : NothingIsLeft c) where
+module _ {N S : Type 0} (c : Control) (script : Script) (run : OwnedRun N S) (order : EndInOrder c) (left : NothingIsLeft c) where
   ends_once : (i : ℕ) → i < length c.rows.objects → count_by (is_line_of i) (journal_at c script run).ended ≡ 1
   ends_once i lt = count_lines c i c.ended ∙ listed c script run order i lt true (left.objects i)
 
@@ -149,7 +149,7 @@ module _ {N S : Type 0} (c : Control) (script : RunScript) (run : OwnedRun N S) 
           let pairs = length-drop 1 c.rows.pairs in
           ap is_some (row_settled k a (omega (arith, low)) (omega (arith, pairs, low, high)) (made k (not a)))
 
-module _ (N S : Type 0) (in_order : ObjectsEndInOrder N S) (leave : DoneRunsLeaveNothing N S) (script : RunScript) (j : RunJournal) (run : OwnedRun N S) (is_run : IsRun script 1 every_pipe run) (journal_is : j ≡ run_journal script 1 run) (done : j.done ≡ true) where
+module _ (N S : Type 0) (in_order : ObjectsEndInOrder N S) (leave : DoneRunsLeaveNothing N S) (script : Script) (j : Journal) (run : OwnedRun N S) (is_run : IsRun script 1 every_pipe run) (journal_is : j ≡ run_journal script 1 run) (done : j.done ≡ true) where
   abbrev end : Control
   end = control_at_end 1 run
 
@@ -157,16 +157,16 @@ module _ (N S : Type 0) (in_order : ObjectsEndInOrder N S) (leave : DoneRunsLeav
   ordered = in_order script 1 every_pipe run is_run
 
   whole : IsDoneWhole script 1 run
-  whole = leave script 1 every_pipe run is_run (ap (λ (x : RunJournal). x.done) (sym journal_is) ∙ done)
+  whole = leave script 1 every_pipe run is_run (ap (λ (x : Journal). x.done) (sym journal_is) ∙ done)
 
   each_once : (i : ℕ) → i < length (run_journal script 1 run).objects → count_by (is_line_of i) (run_journal script 1 run).ended ≡ 1
   each_once i lt = let objects = length-map end.rows.objects object_shown in ends_once end script run ordered whole.nothing_left i (omega (arith, objects, lt))
 
   says_of_the_done : (is_local_script script ≡ true → (k : ℕ) (a : Bool) → is_unmade (place_of end (end_of k a)) ≡ false) → SaysOfTheDone run j script
   says_of_the_done made = record {
-    objects = subst (λ (x : RunJournal). ListsAllEnded x) (sym journal_is) (record { each = each_once; none_live = whole.none_live });
-    pipes = subst (λ (x : RunJournal). ListsEachPipe end x) (sym journal_is) (lists_each end script run ordered whole.nothing_left);
-    all = λ plain. subst (λ (x : RunJournal). list_all is_some x.pipes ≡ true) (sym journal_is) (lists_all end script run ordered whole.nothing_left (made plain));
+    objects = subst (λ (x : Journal). ListsAllEnded x) (sym journal_is) (record { each = each_once; none_live = whole.none_live });
+    pipes = subst (λ (x : Journal). ListsEachPipe end x) (sym journal_is) (lists_each end script run ordered whole.nothing_left);
+    all = λ plain. subst (λ (x : Journal). list_all is_some x.pipes ≡ true) (sym journal_is) (lists_all end script run ordered whole.nothing_left (made plain));
   }
 
 module _ (N S : Type 0) (in_order : ObjectsEndInOrder N S) (leave : DoneRunsLeaveNothing N S) (pairs : LocalPairsAreMade N S) where

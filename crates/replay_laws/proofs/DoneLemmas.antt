@@ -18,11 +18,11 @@ use Rattle.control_laws.proofs.ListLemmas.{never, left, right, and}
 use Rattle.spec_control.specs.Moments.{Moment, moments_from}
 use Rattle.spec_run.specs.Turn.{IsOrder}
 use Rattle.spec_run.specs.declared.journal.ObjectRow.{ObjectRow}
-use Rattle.spec_run.specs.declared.journal.RunJournal.{RunJournal}
+use Rattle.spec_run.specs.declared.journal.Journal.{Journal}
 use Rattle.spec_run.specs.declared.journal.SettledRow.{SettledRow}
-use Rattle.spec_run.specs.RunJournal.{object_shown, rows_by, row_shown, run_journal}
-use Rattle.spec_run.specs.declared.line.RunLine.{RunLine}
-use Rattle.spec_run.specs.LineCall.{RunScript}
+use Rattle.spec_run.specs.Journal.{object_shown, rows_by, row_shown, run_journal}
+use Rattle.spec_run.specs.declared.script.Line.{Line}
+use Rattle.spec_run.specs.Script.{Script}
 use Rattle.spec_run.specs.Act.{Act, Said, steps_in, moments_in, all_acts}
 use Rattle.spec_run.specs.OwnedRun.{OwnedRun, IsRun, every_pipe, pipe_capacity, control_at_end}
 use Rattle.spec_run.specs.Standing.{ActorStanding, standing_before, has_finished}
@@ -43,16 +43,16 @@ use Rattle.replay_laws.proofs.RoundLemmas.{LinesLocal, IsAtTurn, turn_walks, beh
 use Rattle.replay_laws.proofs.DoneStayLemmas.{asked_on}
 
 -- ---- the count of a script's tries and sockets
-tries_and_sockets : (lines : List RunLine) → sum_by (λ (l : RunLine). line_steps l.call) lines ≡ sum_by (λ (l : RunLine). most_tries l.call) lines + sum_by (λ (l : RunLine). line_sockets l.call) lines
+tries_and_sockets : (lines : List Line) → sum_by (λ (l : Line). line_steps l.call) lines ≡ sum_by (λ (l : Line). most_tries l.call) lines + sum_by (λ (l : Line). line_sockets l.call) lines
 tries_and_sockets [] = refl
 tries_and_sockets (l ∷ lines) =
     let rest = tries_and_sockets lines in
-    let steps = sum_by-cons (λ (x : RunLine). line_steps x.call) l lines in
-    let tries = sum_by-cons (λ (x : RunLine). most_tries x.call) l lines in
-    let sockets = sum_by-cons (λ (x : RunLine). line_sockets x.call) l lines in
+    let steps = sum_by-cons (λ (x : Line). line_steps x.call) l lines in
+    let tries = sum_by-cons (λ (x : Line). most_tries x.call) l lines in
+    let sockets = sum_by-cons (λ (x : Line). line_sockets x.call) l lines in
     omega (arith, rest, steps, tries, sockets)
 
-each_within : (script : RunScript) (n : ℕ) → script_tries script + script_sockets script ≤ n → AllByRecursion (λ actor. actor_steps actor ≤ n) script
+each_within : (script : Script) (n : ℕ) → script_tries script + script_sockets script ≤ n → AllByRecursion (λ actor. actor_steps actor ≤ n) script
 each_within [] n le = tt
 each_within (actor ∷ script) n le =
     let tries = sum_by-cons actor_tries actor script in
@@ -65,7 +65,7 @@ finished_places [] done w = refl
 finished_places (st ∷ standings) done zero = left (has_finished st) _ done
 finished_places (st ∷ standings) done (suc w) = finished_places standings (right (has_finished st) _ done) w
 
-begun_lines : (script : RunScript) → is_local_script script ≡ true → LinesLocal (map standing_before script)
+begun_lines : (script : Script) → is_local_script script ≡ true → LinesLocal (map standing_before script)
 begun_lines [] is w = refl
 begun_lines (actor ∷ script) is zero = left (are_local_lines actor.lines) _ is
 begun_lines (actor ∷ script) is (suc w) = begun_lines script (right (are_local_lines actor.lines) _ is) w
@@ -202,7 +202,7 @@ module _ {N S : Type 0} where
       let few = cut.few in
       omega (arith, bound, objects, pairs, cost, few)
 
-  pub script_local : (script : RunScript) (io limit seed : ℕ) (t : Turned N S) (run : OwnedRun N S) → IsInTurns script io limit t run → IsOneThread seed script io t run → is_local_script script ≡ true → list_all is_local_item run.order ≡ true
+  pub script_local : (script : Script) (io limit seed : ℕ) (t : Turned N S) (run : OwnedRun N S) → IsInTurns script io limit t run → IsOneThread seed script io t run → is_local_script script ≡ true → list_all is_local_item run.order ≡ true
   script_local script io limit seed t run turns one is =
       let orders = one.orders in
       let look : is_local_item t.last.item ≡ true = ap is_local_item turns.last.item_is in
@@ -212,7 +212,7 @@ module _ {N S : Type 0} where
       order_local run.order (begun io) (ap test (sym one.one_order ∙ ap moments_in (sequence_acts orders t)) ∙ all)
 
   -- the root has ended where the turns are more than those in which all have finished, and those of the letters
-  module _ (script : RunScript) (limit seed : ℕ) (t : Turned N S) (run : OwnedRun N S) (is_run : IsRun script 1 every_pipe run) (turns : IsInTurns script 1 limit t run) (one : IsOneThread seed script 1 t run) (is : is_local_script script ≡ true) where
+  module _ (script : Script) (limit seed : ℕ) (t : Turned N S) (run : OwnedRun N S) (is_run : IsRun script 1 every_pipe run) (turns : IsInTurns script 1 limit t run) (one : IsOneThread seed script 1 t run) (is : is_local_script script ≡ true) where
     abbrev cap : PipeId → ℕ
     cap = pipe_capacity (control_at_end 1 run)
 
@@ -284,7 +284,7 @@ end_in_time N S script limit seed t run is_run turns one is enough = sym (ended_
 
 pub done_in_time : (N S : Type 0) → RunsAreDoneInTime N S
 done_in_time N S script schedule j is plain enough =
-    ap (λ (x : RunJournal). x.done) is.journal_is ∙ ends_by_lines script schedule.turns schedule.seed is.turned is.run is.is_run is.in_turns is.one_thread plain enough
+    ap (λ (x : Journal). x.done) is.journal_is ∙ ends_by_lines script schedule.turns schedule.seed is.turned is.run is.is_run is.in_turns is.one_thread plain enough
 
 -- ---- what a journal shows was made
 sockets_shown : (rows : List Row) → count_by (λ (o : ObjectRow). is_socket o.kind) (map object_shown rows) ≡ count_by (λ (o : Row). is_socket o.kind) rows
@@ -302,10 +302,10 @@ pipes_shown row n (p ∷ pairs) = let rest = pipes_shown row (n + 1) pairs in om
 pub shown_in_time : (N S : Type 0) → JournalsAreDoneInTime N S
 shown_in_time N S script schedule j is plain enough =
     let c = control_at_end 1 is.run in
-    let shown : turns_shown script (run_journal script 1 is.run) ≤ schedule.turns = subst (λ (x : RunJournal). turns_shown script x ≤ schedule.turns) is.journal_is enough in
+    let shown : turns_shown script (run_journal script 1 is.run) ≤ schedule.turns = subst (λ (x : Journal). turns_shown script x ≤ schedule.turns) is.journal_is enough in
     let sockets = sockets_shown c.rows.objects in
     let objects = length-map c.rows.objects object_shown in
     let pipes = pipes_shown (row_shown c is.run) 1 (drop 1 c.rows.pairs) in
     let pairs = length-drop 1 c.rows.pairs in
-    ap (λ (x : RunJournal). x.done) is.journal_is
+    ap (λ (x : Journal). x.done) is.journal_is
     ∙ ends_by_sockets script schedule.turns schedule.seed is.turned is.run is.is_run is.in_turns is.one_thread plain (omega (arith, shown, sockets, objects, pipes, pairs))

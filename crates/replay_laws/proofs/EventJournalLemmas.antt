@@ -15,8 +15,8 @@ use Rattle.spec_control.specs.Held.{caller_of}
 use Rattle.spec_control.specs.Moments.{moments_by, moments_from}
 use Rattle.spec_run.specs.Run.{Schedule}
 use Rattle.spec_run.specs.declared.journal.ActorLines.{ActorLines}
-use Rattle.spec_run.specs.declared.journal.RunJournal.{RunJournal}
-use Rattle.spec_run.specs.LineCall.{RunScript}
+use Rattle.spec_run.specs.declared.journal.Journal.{Journal}
+use Rattle.spec_run.specs.Script.{Script}
 use Rattle.spec_run.specs.Act.{Deed, Looks, Reads, all_acts, steps_in, moments_in}
 use Rattle.spec_run.specs.Standing.{ActorStanding, standing_before}
 use Rattle.spec_run.specs.Worker.{EachDoes}
@@ -24,7 +24,7 @@ use Rattle.spec_run.specs.OwnedRun.{OwnedRun, IsRun, AreCountedBy, AreTold, Look
 use Rattle.spec_run.specs.InTurns.{Turned, turn_step, conductor_steps, worker_count, sequence, turns_sequence}
 use Rattle.spec_run.specs.Fate.{fates_in, fates_left, fates_of, is_heard_at, reason_left, row_of_fates}
 use Rattle.spec_run.specs.CoreEvents.{Made, deeds_made, EventsGo, IsOfEvents, IsEventsJournal}
-use Rattle.spec_run.specs.RunJournal.{actors_shown, entries_shown, row_if, rows_by, row_shown, journal_at, run_journal, IsRunJournal}
+use Rattle.spec_run.specs.Journal.{actors_shown, entries_shown, row_if, rows_by, row_shown, journal_at, run_journal, IsRunJournal}
 use Rattle.run_laws.proofs.GoesLemmas.{steps_by, steps_are, made_moments, events_local, placed_run}
 use Rattle.run_laws.proofs.TurnLemmas.{each_more, map_length}
 use Rattle.zq_world.specs.ByEvents.{run_made, AreMadeBy}
@@ -62,7 +62,7 @@ module _ {N S : Type 0} where
   told_all (x ∷ xs) [] told = absurd told
   told_all (x ∷ xs) (y ∷ ys) told = ap (λ l. l ++ flat_map deeds_in xs) told.0 ∙ ap (λ l. filter is_told (deeds_in y) ++ l) (told_all xs ys told.1) ∙ sym (filter-append is_told (deeds_in y) (flat_map deeds_in ys))
 
-  told_actors : (script : RunScript) (xs ys : List (List (List (Deed N S)))) → ToldIn xs ys → actors_shown script xs ≡ actors_shown script ys
+  told_actors : (script : Script) (xs ys : List (List (List (Deed N S)))) → ToldIn xs ys → actors_shown script xs ≡ actors_shown script ys
   told_actors [] xs ys told = refl
   told_actors (actor ∷ actors) [] [] told = refl
   told_actors (actor ∷ actors) [] (y ∷ ys) told = absurd told
@@ -75,7 +75,7 @@ module _ {N S : Type 0} where
   same_steps : (g h : OwnedRun N S) → all_deeds g ≡ filter is_told (all_deeds h) → all_steps g ≡ all_steps h
   same_steps g h deeds = ap (λ l. steps_in (all_acts l)) deeds ∙ thin_steps (all_deeds h)
 
-  journals : (script : RunScript) (g h : OwnedRun N S) → ToldIn g.workers h.workers → control_at_end 1 g ≡ control_at_end 1 h → run_journal script 1 g ≡ run_journal script 1 h
+  journals : (script : Script) (g h : OwnedRun N S) → ToldIn g.workers h.workers → control_at_end 1 g ≡ control_at_end 1 h → run_journal script 1 g ≡ run_journal script 1 h
   journals script g h told ends =
       let deeds : all_deeds g ≡ filter is_told (all_deeds h) = told_all g.workers h.workers told in
       let steps = same_steps g h deeds in
@@ -95,7 +95,7 @@ module _ {N S : Type 0} where
       })
 
 -- ---- the run by events
-module _ {N S : Type 0} (script : RunScript) (schedule : Schedule) (j : RunJournal) (is : IsRunJournal N S script schedule j) where
+module _ {N S : Type 0} (script : Script) (schedule : Schedule) (j : Journal) (is : IsRunJournal N S script schedule j) where
   abbrev n : ℕ
   n = length script
 

@@ -5,7 +5,7 @@ use Rattle.std.specs.List.{list_all, list_any}
 use Rattle.control_laws.proofs.ListLemmas.{left, right}
 use Rattle.spec_control.specs.Control.{Control, begun}
 use Rattle.spec_control.specs.Moments.{Moment, reaper_slots}
-use Rattle.spec_run.specs.LineCall.{RunScript}
+use Rattle.spec_run.specs.Script.{Script}
 use Rattle.spec_run.specs.Act.{Deed, Fetches, AsksRoot, Reads, all_acts}
 use Rattle.spec_run.specs.Standing.{ActorStanding, standing_before, has_finished}
 use Rattle.spec_run.specs.OwnedRun.{OwnedRun}
@@ -21,7 +21,7 @@ use Rattle.replay_laws.proofs.DoneLemmas.{order_local}
 abbrev AllLocal : List ActorStanding → Type 0
 AllLocal sts = (w : ℕ) (st : ActorStanding) → slice_get sts w ≡ Some st → are_local_lines st.lines ≡ true
 
-begun_local : (script : RunScript) → is_local_script script ≡ true → AllLocal (map standing_before script)
+begun_local : (script : Script) → is_local_script script ≡ true → AllLocal (map standing_before script)
 begun_local [] is w st e = absurd (nope e)
   where
     nope : ◌≡◌ {A = Option ActorStanding} None (Some st) → ⊥
@@ -82,7 +82,7 @@ module _ {N S : Type 0} where
       ap (λ (l : List (Made N S)). are_local (all_acts (deeds_made l))) parts ∙ ap are_local (made_acts first rest)
       ∙ all_on is_local_item (all_acts (deeds_made first)) (all_acts (deeds_made rest)) one.acts (events_local io events (control_behind first c) mid news rest one.lines go)
 
-  pub script_local_by_events : (script : RunScript) (io : ℕ) (events : List CoreEvent) (run : OwnedRun N S) → IsOfEvents script io events run → is_local_script script ≡ true → list_all is_local_item run.order ≡ true
+  pub script_local_by_events : (script : Script) (io : ℕ) (events : List CoreEvent) (run : OwnedRun N S) → IsOfEvents script io events run → is_local_script script ≡ true → list_all is_local_item run.order ≡ true
   script_local_by_events script io events run of_events is =
       let test : List (Moment N S) → Bool = list_all (λ (m : Moment N S). is_local_item m.item) in
       order_local run.order (begun io) (ap test (sym of_events.one_order) ∙ events_local io events (begun io) (map standing_before script) of_events.standings of_events.made (begun_local script is) of_events.go)

@@ -9,7 +9,7 @@ use Rattle.zq_base.specs.declared.endpoint.Endpoint.TheVariants.{Inproc, Tcp}
 use Rattle.zq_base.specs.declared.ids.ObjId.{ObjId}
 use Rattle.zq_base.specs.declared.kind.Kind.{Kind}
 use Rattle.zq_base.specs.declared.options.Options.{Options}
-use Rattle.zq_script.specs.declared.script.Call.TheVariants as call
+use Rattle.spec_run.specs.declared.script.Call.TheVariants as call
 use Rattle.spec_pattern.specs.PipeStep.{PipeStep}
 use Rattle.spec_pattern.specs.PatternCalls.{Subscribe, Unsubscribe}
 use Rattle.spec_control.specs.declared.end.Reason.TheVariants.{Closed, BadId, Second, Linger, Link}
@@ -33,10 +33,9 @@ use Rattle.spec_control.specs.ControlRun.{Fits, FitsItem, unless_refused, after_
 use Rattle.control_laws.proofs.ListLemmas.{never, left, right, pushed, is_old, is_new}
 use Rattle.control_laws.specs.OwnMoves.{own_moves, request_moves}
 use Rattle.spec_control.specs.Moments.{Moment}
-use Rattle.spec_run.specs.declared.line.LineCall.{LineCall}
-use Rattle.spec_run.specs.declared.line.LineCall.TheVariants.{Asks, Unbinds, Disconnects, Closes, Terms}
+use Rattle.spec_run.specs.declared.script.Call.{Call}
 use Rattle.spec_pattern.specs.declared.answers.Skip.{Skip}
-use Rattle.spec_run.specs.declared.line.RunLine.{RunLine}
+use Rattle.spec_run.specs.declared.script.Line.{Line}
 use Rattle.spec_run.specs.Act.{Act, Step, Said, Try, Deed, Tries, Shuts, Fetches, Idles, Works, Looks, AsksRoot, Reads, all_acts}
 use Rattle.spec_run.specs.OpenSocket.{OpenSock, new_open}
 use Rattle.spec_run.specs.Event.{IsRequest, seals_in, acts_said}
@@ -146,7 +145,7 @@ pub record Holds (c d : Control) (old new : Sockets) : Type 0 where
 holds_as : (c d e : Control) (old u v : Sockets) → e ≡ d → u ≡ v → Holds c d old v → Holds c e old u
 holds_as c d e old u v p q h = subst (λ (x : Control). Holds c x old u) (sym p) (subst (Holds c d old) (sym q) h)
 
-after_try : (b : Bool) (rest : List RunLine) (told : List Skip) (mine : Sockets) (old : ActorStanding) → (standing_after b rest told mine old).mine ≡ mine
+after_try : (b : Bool) (rest : List Line) (told : List Skip) (mine : Sockets) (old : ActorStanding) → (standing_after b rest told mine old).mine ≡ mine
 after_try true rest told mine old = refl
 after_try false rest told mine old = refl
 
@@ -285,18 +284,18 @@ module _ {N S : Type 0} where
         let said = subst (Walks cap c past) acts_are w in
         makes_holds cap c past (t.pump ++ t.call) r w old u kind options f.request.by f.reply f.request.answered f.made f.request.item_is acts_are said.1 f.new_is
 
-    line_holds : (line : LineCall) → DoesLine line old t u → is_local_line line ≡ true → Holds c (leaves c (t.pump ++ t.call)) old u
-    line_holds (Asks (call.Socket kind options)) f is = make_holds kind options f
-    line_holds (Asks (call.Bind place at)) f is = calls_holds (line_plain (Asks (call.Bind place at)) old u t f is refl) (on_socket (BindsCall at) place old u t f)
-    line_holds (Asks (call.Connect place to)) f is = calls_holds (line_plain (Asks (call.Connect place to)) old u t f is refl) (on_socket (ConnectsCall to) place old u t f)
-    line_holds (Asks (call.Send place m)) f is = calls_holds (line_plain (Asks (call.Send place m)) old u t f is refl) (on_socket (SendsCall m) place old u t f)
-    line_holds (Asks (call.Recv place tries)) f is = calls_holds (line_plain (Asks (call.Recv place tries)) old u t f is refl) (on_socket ReceivesCall place old u t f)
-    line_holds (Asks (call.Subscribe place topic)) f is = calls_holds (line_plain (Asks (call.Subscribe place topic)) old u t f is refl) (on_socket (ChangesCall Subscribe topic) place old u t f)
-    line_holds (Asks (call.Unsubscribe place topic)) f is = calls_holds (line_plain (Asks (call.Unsubscribe place topic)) old u t f is refl) (on_socket (ChangesCall Unsubscribe topic) place old u t f)
-    line_holds (Unbinds place at) f is = calls_holds (line_plain (Unbinds place at) old u t f is refl) (on_socket (UnbindsCall at) place old u t f)
-    line_holds (Disconnects place at) f is = calls_holds (line_plain (Disconnects place at) old u t f is refl) (on_socket (DisconnectsCall at) place old u t f)
-    line_holds (Closes place) f is = close_holds (line_plain (Closes place) old u t f is refl) place f
-    line_holds Terms f is = as_before cap c past (t.pump ++ t.call) r w old u (line_plain Terms old u t f is refl) (ap (λ (x : Sockets). x.socks) f.new_is)
+    line_holds : (line : Call) → DoesLine line old t u → is_local_line line ≡ true → Holds c (leaves c (t.pump ++ t.call)) old u
+    line_holds (call.Socket kind options) f is = make_holds kind options f
+    line_holds (call.Bind place at) f is = calls_holds (line_plain (call.Bind place at) old u t f is refl) (on_socket (BindsCall at) place old u t f)
+    line_holds (call.Connect place to) f is = calls_holds (line_plain (call.Connect place to) old u t f is refl) (on_socket (ConnectsCall to) place old u t f)
+    line_holds (call.Send place m) f is = calls_holds (line_plain (call.Send place m) old u t f is refl) (on_socket (SendsCall m) place old u t f)
+    line_holds (call.Recv place tries) f is = calls_holds (line_plain (call.Recv place tries) old u t f is refl) (on_socket ReceivesCall place old u t f)
+    line_holds (call.Subscribe place topic) f is = calls_holds (line_plain (call.Subscribe place topic) old u t f is refl) (on_socket (ChangesCall Subscribe topic) place old u t f)
+    line_holds (call.Unsubscribe place topic) f is = calls_holds (line_plain (call.Unsubscribe place topic) old u t f is refl) (on_socket (ChangesCall Unsubscribe topic) place old u t f)
+    line_holds (call.Unbind place at) f is = calls_holds (line_plain (call.Unbind place at) old u t f is refl) (on_socket (UnbindsCall at) place old u t f)
+    line_holds (call.Disconnect place at) f is = calls_holds (line_plain (call.Disconnect place at) old u t f is refl) (on_socket (DisconnectsCall at) place old u t f)
+    line_holds (call.Close place) f is = close_holds (line_plain (call.Close place) old u t f is refl) place f
+    line_holds call.Term f is = as_before cap c past (t.pump ++ t.call) r w old u (line_plain call.Term old u t f is refl) (ap (λ (x : Sockets). x.socks) f.new_is)
 
   -- ---- an actor's step
   pub actor_holds : (cap : PipeId → ℕ) (c : Control) (past : List PipeStep) (old u : ActorStanding) (ds : List (Deed N S)) → Reached N S c → Walks cap c past (all_acts ds) → ActorStep old ds u → are_local_lines old.lines ≡ true

@@ -5,7 +5,7 @@ use Rattle.std.proofs.lemmas.List.Folds.{list_all-append}
 use Rattle.std.specs.List.{list_all}
 use Rattle.zq_base.specs.declared.endpoint.Endpoint.{Endpoint}
 use Rattle.zq_base.specs.declared.ids.EndId.{EndId}
-use Rattle.zq_script.specs.declared.script.Call.TheVariants as call
+use Rattle.spec_run.specs.declared.script.Call.TheVariants as call
 use Rattle.spec_pattern.specs.PatternCalls.{Subscribe, Unsubscribe, Change}
 use Rattle.spec_pattern.specs.PipeStep.{PipeStep}
 use Rattle.spec_pattern.specs.Topics.{Topic}
@@ -21,10 +21,9 @@ use Rattle.spec_control.specs.declared.entry.Item.TheVariants.{Event, Seen}
 use Rattle.spec_control.specs.Control.{Control, id}
 use Rattle.control_laws.proofs.ListLemmas.{left, right, and}
 use Rattle.spec_control.specs.Moments.{Moment, left_by}
-use Rattle.spec_run.specs.declared.journal.LineAnswer.{LineAnswer}
-use Rattle.spec_run.specs.declared.journal.LineAnswer.TheVariants.{Term as SaysTerm}
-use Rattle.spec_run.specs.declared.line.LineCall.{LineCall}
-use Rattle.spec_run.specs.declared.line.LineCall.TheVariants.{Asks, Unbinds, Disconnects, Closes, Terms}
+use Rattle.spec_run.specs.declared.answer.Answer.{Answer}
+use Rattle.spec_run.specs.declared.answer.Answer.TheVariants as answer
+use Rattle.spec_run.specs.declared.script.Call.{Call}
 use Rattle.spec_run.specs.Act.{Act, Step, Try, Deed, Tries, Shuts, Fetches, Idles, Works, Looks, AsksRoot, Reads, moments_in, all_acts}
 use Rattle.spec_run.specs.OpenSocket.{OpenSock, waiting_ends}
 use Rattle.spec_run.specs.Event.{LooksFront, finds_none, finds_one, finds_end, LooksFronts, LooksWhere, LooksBehind, TakesLetter, TakesLetters, seals_in, acts_said}
@@ -163,13 +162,13 @@ module _ {N S : Type 0} where
   abbrev PlainCall : (OpenSock → Try N S → OpenSock → Type 0) → Type 0
   PlainCall Does = (s u : OpenSock) (t : Try N S) → Does s t u → are_plain t.call ≡ true
 
-  refused : (said_so : LineAnswer) → PlainCall (RefusesCall said_so)
+  refused : (said_so : Answer) → PlainCall (RefusesCall said_so)
   refused said_so s u t f = none t.call f.call_is
 
   requested : (req : OpenSock → Req) → ((s : OpenSock) → is_plain (req s) ≡ true) → PlainCall (λ s. RequestsOnce (req s) s)
   requested req is s u t f = ap are_plain f.call_is ∙ all_said is_plain_item f.made (ap is_plain_item f.request.item_is ∙ is s)
 
-  unless_stopped : (stopped : Bool) (said_so : LineAnswer) (Does : OpenSock → Try N S → OpenSock → Type 0) → PlainCall Does → PlainCall (UnlessStopped stopped said_so Does)
+  unless_stopped : (stopped : Bool) (said_so : Answer) (Does : OpenSock → Try N S → OpenSock → Type 0) → PlainCall Does → PlainCall (UnlessStopped stopped said_so Does)
   unless_stopped true said_so Does does s u t f = refused said_so s u t f
   unless_stopped false said_so Does does s u t f = does s u t f
 
@@ -180,7 +179,7 @@ module _ {N S : Type 0} where
   receives s u t f = unless_stopped s.stopped _ ReceivesOpen (λ s v t g. ap are_plain g.call_is ∙ steps_plain N S g.steps) s u t f
 
   changes : (change : Change) (topic : Topic) → PlainCall (ChangesCall change topic)
-  changes change topic s u t f = unless_stopped s.stopped SaysTerm (ChangesOpen change topic) (λ s v t g. ap are_plain g.call_is ∙ steps_plain N S g.steps) s u t f
+  changes change topic s u t f = unless_stopped s.stopped answer.Term (ChangesOpen change topic) (λ s v t g. ap are_plain g.call_is ∙ steps_plain N S g.steps) s u t f
 
   binds : (at : Endpoint) → is_inproc at ≡ true → PlainCall (BindsCall at)
   binds at is s u t f = requested (λ x. Bind (id x.object) at) (λ x. inproc_plain (is_inproc at) is) s u t f
@@ -223,31 +222,31 @@ module _ {N S : Type 0} where
       by (Some s) g = ap are_plain (not_pumped t t.call g.no_pump refl) ∙ closes s t.call old u g.closes
 
   -- a line that makes no socket
-  pub line_plain : (line : LineCall) (old u : Sockets) (t : Try N S) → DoesLine line old t u → is_local_line line ≡ true → line_sockets line ≡ 0 → are_plain (t.pump ++ t.call) ≡ true
-  line_plain (Asks (call.Socket kind options)) old u t f is few = absurd (omega (arith, few))
-  line_plain (Asks (call.Bind place at)) old u t f is few = on_socket (BindsCall at) (binds at is) place old u t f
-  line_plain (Asks (call.Connect place to)) old u t f is few = on_socket (ConnectsCall to) (connects to is) place old u t f
-  line_plain (Asks (call.Send place m)) old u t f is few = on_socket (SendsCall m) (sends m) place old u t f
-  line_plain (Asks (call.Recv place tries)) old u t f is few = on_socket ReceivesCall receives place old u t f
-  line_plain (Asks (call.Subscribe place topic)) old u t f is few = on_socket (ChangesCall Subscribe topic) (changes Subscribe topic) place old u t f
-  line_plain (Asks (call.Unsubscribe place topic)) old u t f is few = on_socket (ChangesCall Unsubscribe topic) (changes Unsubscribe topic) place old u t f
-  line_plain (Unbinds place at) old u t f is few = on_socket (UnbindsCall at) (unbinds at) place old u t f
-  line_plain (Disconnects place at) old u t f is few = on_socket (DisconnectsCall at) (disconnects at) place old u t f
-  line_plain (Closes place) old u t f is few = on_closed place old u t f
-  line_plain Terms old u t f is few = ap are_plain (not_pumped t (acts_said f.made) f.no_pump f.call_is) ∙ all_said is_plain_item f.made (ap is_plain_item f.request.item_is)
+  pub line_plain : (line : Call) (old u : Sockets) (t : Try N S) → DoesLine line old t u → is_local_line line ≡ true → line_sockets line ≡ 0 → are_plain (t.pump ++ t.call) ≡ true
+  line_plain (call.Socket kind options) old u t f is few = absurd (omega (arith, few))
+  line_plain (call.Bind place at) old u t f is few = on_socket (BindsCall at) (binds at is) place old u t f
+  line_plain (call.Connect place to) old u t f is few = on_socket (ConnectsCall to) (connects to is) place old u t f
+  line_plain (call.Send place m) old u t f is few = on_socket (SendsCall m) (sends m) place old u t f
+  line_plain (call.Recv place tries) old u t f is few = on_socket ReceivesCall receives place old u t f
+  line_plain (call.Subscribe place topic) old u t f is few = on_socket (ChangesCall Subscribe topic) (changes Subscribe topic) place old u t f
+  line_plain (call.Unsubscribe place topic) old u t f is few = on_socket (ChangesCall Unsubscribe topic) (changes Unsubscribe topic) place old u t f
+  line_plain (call.Unbind place at) old u t f is few = on_socket (UnbindsCall at) (unbinds at) place old u t f
+  line_plain (call.Disconnect place at) old u t f is few = on_socket (DisconnectsCall at) (disconnects at) place old u t f
+  line_plain (call.Close place) old u t f is few = on_closed place old u t f
+  line_plain call.Term old u t f is few = ap are_plain (not_pumped t (acts_said f.made) f.no_pump f.call_is) ∙ all_said is_plain_item f.made (ap is_plain_item f.request.item_is)
 
-  line_local : (line : LineCall) (old u : Sockets) (t : Try N S) → DoesLine line old t u → is_local_line line ≡ true → are_local (t.pump ++ t.call) ≡ true
-  line_local (Asks (call.Socket kind options)) old u t f is = ap are_local (not_pumped t (acts_said f.made) f.no_pump f.call_is) ∙ all_said is_local_item f.made (ap is_local_item f.request.item_is)
-  line_local (Asks (call.Bind place at)) old u t f is = plain_local (t.pump ++ t.call) (line_plain (Asks (call.Bind place at)) old u t f is refl)
-  line_local (Asks (call.Connect place to)) old u t f is = plain_local (t.pump ++ t.call) (line_plain (Asks (call.Connect place to)) old u t f is refl)
-  line_local (Asks (call.Send place m)) old u t f is = plain_local (t.pump ++ t.call) (line_plain (Asks (call.Send place m)) old u t f is refl)
-  line_local (Asks (call.Recv place tries)) old u t f is = plain_local (t.pump ++ t.call) (line_plain (Asks (call.Recv place tries)) old u t f is refl)
-  line_local (Asks (call.Subscribe place topic)) old u t f is = plain_local (t.pump ++ t.call) (line_plain (Asks (call.Subscribe place topic)) old u t f is refl)
-  line_local (Asks (call.Unsubscribe place topic)) old u t f is = plain_local (t.pump ++ t.call) (line_plain (Asks (call.Unsubscribe place topic)) old u t f is refl)
-  line_local (Unbinds place at) old u t f is = plain_local (t.pump ++ t.call) (line_plain (Unbinds place at) old u t f is refl)
-  line_local (Disconnects place at) old u t f is = plain_local (t.pump ++ t.call) (line_plain (Disconnects place at) old u t f is refl)
-  line_local (Closes place) old u t f is = plain_local (t.pump ++ t.call) (line_plain (Closes place) old u t f is refl)
-  line_local Terms old u t f is = plain_local (t.pump ++ t.call) (line_plain Terms old u t f is refl)
+  line_local : (line : Call) (old u : Sockets) (t : Try N S) → DoesLine line old t u → is_local_line line ≡ true → are_local (t.pump ++ t.call) ≡ true
+  line_local (call.Socket kind options) old u t f is = ap are_local (not_pumped t (acts_said f.made) f.no_pump f.call_is) ∙ all_said is_local_item f.made (ap is_local_item f.request.item_is)
+  line_local (call.Bind place at) old u t f is = plain_local (t.pump ++ t.call) (line_plain (call.Bind place at) old u t f is refl)
+  line_local (call.Connect place to) old u t f is = plain_local (t.pump ++ t.call) (line_plain (call.Connect place to) old u t f is refl)
+  line_local (call.Send place m) old u t f is = plain_local (t.pump ++ t.call) (line_plain (call.Send place m) old u t f is refl)
+  line_local (call.Recv place tries) old u t f is = plain_local (t.pump ++ t.call) (line_plain (call.Recv place tries) old u t f is refl)
+  line_local (call.Subscribe place topic) old u t f is = plain_local (t.pump ++ t.call) (line_plain (call.Subscribe place topic) old u t f is refl)
+  line_local (call.Unsubscribe place topic) old u t f is = plain_local (t.pump ++ t.call) (line_plain (call.Unsubscribe place topic) old u t f is refl)
+  line_local (call.Unbind place at) old u t f is = plain_local (t.pump ++ t.call) (line_plain (call.Unbind place at) old u t f is refl)
+  line_local (call.Disconnect place at) old u t f is = plain_local (t.pump ++ t.call) (line_plain (call.Disconnect place at) old u t f is refl)
+  line_local (call.Close place) old u t f is = plain_local (t.pump ++ t.call) (line_plain (call.Close place) old u t f is refl)
+  line_local call.Term old u t f is = plain_local (t.pump ++ t.call) (line_plain call.Term old u t f is refl)
 
   -- ---- a worker's step
   pub shut_plain : (old u : ActorStanding) (acts : List (Act N S)) → ShutsFirst old acts u → are_plain (acts ++ []) ≡ true

@@ -12,13 +12,13 @@ use Rattle.spec_control.specs.Control.{Control, Settlement, begun}
 use Rattle.spec_control.specs.ControlRun.{FitsItem, after_item, after_all, IsControlRun}
 use Rattle.spec_control.specs.Moments.{Moment, moments_from}
 use Rattle.spec_run.specs.declared.journal.ActorLines.{ActorLines}
-use Rattle.spec_run.specs.LineCall.{RunScript}
+use Rattle.spec_run.specs.Script.{Script}
 use Rattle.spec_run.specs.Act.{Act, Step, Said, Deed, Tries, Shuts, Fetches, Idles, Works, Looks, AsksRoot, Reads, steps_in, moments_in, acts_of, all_acts}
 use Rattle.spec_run.specs.Standing.{standing_before}
 use Rattle.spec_run.specs.OwnedRun.{OwnedRun, IsCountedBy, AreCountedBy, pipe_capacity, deeds_in, all_deeds, all_steps, control_at_end, settlement_of}
 use Rattle.spec_run.specs.InTurns.{OneTurn, Turned, turn_step, conductor_steps, workers_in, worker_count, turns_sequence, sequence}
 use Rattle.spec_run.specs.Fate.{fates_taken, fates_left, fates_in, fates_of, is_heard_at, reason_left, row_of_fates}
-use Rattle.spec_run.specs.RunJournal.{entry_shown, entries_shown, actors_shown, row_if, rows_by, row_shown, journal_at, run_journal}
+use Rattle.spec_run.specs.Journal.{entry_shown, entries_shown, actors_shown, row_if, rows_by, row_shown, journal_at, run_journal}
 use Rattle.run_laws.specs.CapacitiesStay.{CapacitiesStay}
 use Rattle.replay_laws.specs.OneJournal.{RunsHaveOneJournal}
 use Rattle.replay_laws.specs.Blank.{uncounted, blank}
@@ -60,7 +60,7 @@ counted_same steps (x ∷ xs) (y ∷ ys) f g e =
 pub whole_again : (c d : Control) → blank c ≡ blank d → c.settlements ≡ d.settlements → c ≡ d
 whole_again c d p e = λ i. record (p i) { settlements = e i }
 
-pub none_open : (script : RunScript) (w : ℕ) → (at_place (map standing_before script) w).mine.socks ≡ []
+pub none_open : (script : Script) (w : ℕ) → (at_place (map standing_before script) w).mine.socks ≡ []
 none_open [] w = refl
 none_open (actor ∷ script) zero = refl
 none_open (actor ∷ script) (suc w) = none_open script w
@@ -98,7 +98,7 @@ module _ {N S : Type 0} where
   fates_bare hears p [] = refl
   fates_bare hears p (d ∷ ds) = ap (λ l. fates_in hears p d ++ l) (fates_bare hears p ds)
 
-  actors_bare : (script : RunScript) (xs ys : List (List (List (Deed N S)))) → bares_of xs ≡ bares_of ys → actors_shown script xs ≡ actors_shown script ys
+  actors_bare : (script : Script) (xs ys : List (List (List (Deed N S)))) → bares_of xs ≡ bares_of ys → actors_shown script xs ≡ actors_shown script ys
   actors_bare [] xs ys e = refl
   actors_bare (actor ∷ actors) [] [] e = refl
   actors_bare (actor ∷ actors) [] (y ∷ ys) e = absurd (nope e)
@@ -127,7 +127,7 @@ module _ {N S : Type 0} where
   pub same_steps_of : (g h : OwnedRun N S) → bares_of g.workers ≡ bares_of h.workers → all_steps g ≡ all_steps h
   same_steps_of g h bares = steps_bare (all_deeds g) ∙ ap (flat_map (λ (b : Bare). b.steps)) (all_bare g h bares) ∙ sym (steps_bare (all_deeds h))
 
-  pub journals : (script : RunScript) (g h : OwnedRun N S) → bares_of g.workers ≡ bares_of h.workers → control_at_end 1 g ≡ control_at_end 1 h → run_journal script 1 g ≡ run_journal script 1 h
+  pub journals : (script : Script) (g h : OwnedRun N S) → bares_of g.workers ≡ bares_of h.workers → control_at_end 1 g ≡ control_at_end 1 h → run_journal script 1 g ≡ run_journal script 1 h
   journals script g h bares ends =
       let deeds = all_bare g h bares in
       let steps = same_steps_of g h bares in

@@ -16,7 +16,7 @@ use Rattle.spec_run.specs.declared.journal.SettledRow.{SettledRow}
 use Rattle.spec_run.specs.Act.{Deed, acts_of, all_acts, steps_in, pipe_step_of}
 use Rattle.spec_run.specs.OwnedRun.{OwnedRun, IsCountedBy, AreCountedBy, all_deeds, all_steps, settlement_of}
 use Rattle.spec_run.specs.Fate.{Fate, IsLeft, fate_taken, fates_taken, skips_of, fates_in, fates_left, is_heard_at, reason_left, row_of_fates, count_sent, is_fate_given, is_fate_heard, is_fate_dropped, is_fate_written, is_fate_lost, is_fate_left}
-use Rattle.spec_run.specs.RunJournal.{row_if, row_shown, rows_by}
+use Rattle.spec_run.specs.Journal.{row_if, row_shown, rows_by}
 use Rattle.spec_run.specs.JournalText.{rest_text, why_optional_text}
 use Rattle.replay_laws.specs.RowsListed.{IsWholeRow, KeepsOrder}
 

@@ -7,7 +7,7 @@ use Rattle.zq_base.specs.declared.ids.ObjId.{ObjId}
 use Rattle.zq_base.specs.declared.kind.Kind.{Kind}
 use Rattle.zq_base.specs.declared.kind.Kind.TheVariants as kinds
 use Rattle.zq_base.specs.declared.options.Options.{Options}
-use Rattle.zq_script.specs.declared.script.Call.TheVariants as call
+use Rattle.spec_run.specs.declared.script.Call.TheVariants as call
 use Rattle.spec_pattern.specs.PipeStep.{PipeStep}
 use Rattle.spec_pattern.specs.PatternCalls.{Subscribe, Unsubscribe, Change}
 use Rattle.spec_pattern.specs.Topics.{Topic}
@@ -34,10 +34,9 @@ use Rattle.spec_run.proofs.AttachLemmas.{no_ends}
 use Rattle.std.proofs.Math.Seq.{get_or-append_seam}
 use Rattle.spec_control.specs.Has.{acts_in_request}
 use Rattle.spec_control.specs.Moments.{Moment, left_by}
-use Rattle.spec_run.specs.declared.journal.LineAnswer.{LineAnswer}
-use Rattle.spec_run.specs.declared.journal.LineAnswer.TheVariants.{Term}
-use Rattle.spec_run.specs.declared.line.LineCall.{LineCall}
-use Rattle.spec_run.specs.declared.line.LineCall.TheVariants.{Asks, Unbinds, Disconnects, Closes, Terms}
+use Rattle.spec_run.specs.declared.answer.Answer.{Answer}
+use Rattle.spec_run.specs.declared.answer.Answer.TheVariants as answer
+use Rattle.spec_run.specs.declared.script.Call.{Call}
 use Rattle.spec_run.specs.Act.{Act, Step, Said, Try, steps_in, moments_in}
 use Rattle.spec_run.specs.OpenSocket.{OpenSock, can_write, new_open, PassesItems}
 use Rattle.spec_run.specs.Event.{seals_in, acts_said}
@@ -110,7 +109,7 @@ module _ {N S : Type 0} where
     stepped : (steps : List PipeStep) → t.call ≡ step_acts steps → Stands c u → Stands (leaves c t.call) u
     stepped steps e st = subst (λ (x : Control). Stands x u) (sym (ap (leaves c) e ∙ steps_alone N S steps c)) st
 
-    refused : (said_so : LineAnswer) → RefusesCall said_so s t u → Stands (leaves c t.call) u
+    refused : (said_so : Answer) → RefusesCall said_so s t u → Stands (leaves c t.call) u
     refused said_so f = subst (λ z. Stands (leaves c t.call) z) (sym f.new_is) (subst (λ l. Stands (leaves c l) s) (sym f.call_is) stands)
 
     sends : (m : Frames) → SendsOpen m s t u → Stands (leaves c t.call) u
@@ -135,7 +134,7 @@ module _ {N S : Type 0} where
         (subst (λ l. OwnItems s.slot s.object l) (sym moments) (its_request f.request.by req f.reply f.request.answered mine f.request.item_is, tt))
         (subst (λ l. PassesItems l s u) (sym moments) f.goes) stands)
 
-    unless_stopped : (stopped : Bool) (said_so : LineAnswer) (Does : OpenSock → Try N S → OpenSock → Type 0) → (Does s t u → Stands (leaves c t.call) u) → UnlessStopped stopped said_so Does s t u → Stands (leaves c t.call) u
+    unless_stopped : (stopped : Bool) (said_so : Answer) (Does : OpenSock → Try N S → OpenSock → Type 0) → (Does s t u → Stands (leaves c t.call) u) → UnlessStopped stopped said_so Does s t u → Stands (leaves c t.call) u
     unless_stopped true said_so Does does f = refused said_so f
     unless_stopped false said_so Does does f = does f
 
@@ -150,7 +149,7 @@ module _ {N S : Type 0} where
     receives_stands f = unless_stopped s.stopped _ ReceivesOpen receives f
 
     pub changes_stands : (change : Change) (topic : Topic) → ChangesCall change topic s t u → Stands (leaves c t.call) u
-    changes_stands change topic f = unless_stopped s.stopped Term (ChangesOpen change topic) (changes change topic) f
+    changes_stands change topic f = unless_stopped s.stopped answer.Term (ChangesOpen change topic) (changes change topic) f
 
     pub binds_stands : (at : Endpoint) → BindsCall at s t u → Stands (leaves c t.call) u
     binds_stands at f = requests (Bind (id s.object) at) (λ z. refl) f
@@ -233,15 +232,15 @@ module _ {N S : Type 0} where
         by (Some s) g =
             subst (λ (x : Sockets). EachStands (leaves c (t.pump ++ t.call)) x.socks) (sym g.closes.new_is) (each_filter (leaves c (t.pump ++ t.call)) (λ z. not (z.object == s.object)) old.socks aside)
 
-    pub line_stands : (line : LineCall) → DoesLine line old t u → EachStands (leaves c (t.pump ++ t.call)) u.socks
-    line_stands (Asks (call.Socket kind options)) f = makes kind options f
-    line_stands (Asks (call.Bind place at)) f = on_socket (BindsCall at) place (λ c1 now s v q v1 st g. binds_stands cap c1 now s v t q v1 st at g) f
-    line_stands (Asks (call.Connect place to)) f = on_socket (ConnectsCall to) place (λ c1 now s v q v1 st g. connects_stands cap c1 now s v t q v1 st to g) f
-    line_stands (Asks (call.Send place m)) f = on_socket (SendsCall m) place (λ c1 now s v q v1 st g. sends_stands cap c1 now s v t q v1 st m g) f
-    line_stands (Asks (call.Recv place tries)) f = on_socket ReceivesCall place (λ c1 now s v q v1 st g. receives_stands cap c1 now s v t q v1 st g) f
-    line_stands (Asks (call.Subscribe place topic)) f = on_socket (ChangesCall Subscribe topic) place (λ c1 now s v q v1 st g. changes_stands cap c1 now s v t q v1 st Subscribe topic g) f
-    line_stands (Asks (call.Unsubscribe place topic)) f = on_socket (ChangesCall Unsubscribe topic) place (λ c1 now s v q v1 st g. changes_stands cap c1 now s v t q v1 st Unsubscribe topic g) f
-    line_stands (Unbinds place at) f = on_socket (UnbindsCall at) place (λ c1 now s v q v1 st g. unbinds_stands cap c1 now s v t q v1 st at g) f
-    line_stands (Disconnects place at) f = on_socket (DisconnectsCall at) place (λ c1 now s v q v1 st g. disconnects_stands cap c1 now s v t q v1 st at g) f
-    line_stands (Closes place) f = closes place f
-    line_stands Terms f = as_before f.new_is
+    pub line_stands : (line : Call) → DoesLine line old t u → EachStands (leaves c (t.pump ++ t.call)) u.socks
+    line_stands (call.Socket kind options) f = makes kind options f
+    line_stands (call.Bind place at) f = on_socket (BindsCall at) place (λ c1 now s v q v1 st g. binds_stands cap c1 now s v t q v1 st at g) f
+    line_stands (call.Connect place to) f = on_socket (ConnectsCall to) place (λ c1 now s v q v1 st g. connects_stands cap c1 now s v t q v1 st to g) f
+    line_stands (call.Send place m) f = on_socket (SendsCall m) place (λ c1 now s v q v1 st g. sends_stands cap c1 now s v t q v1 st m g) f
+    line_stands (call.Recv place tries) f = on_socket ReceivesCall place (λ c1 now s v q v1 st g. receives_stands cap c1 now s v t q v1 st g) f
+    line_stands (call.Subscribe place topic) f = on_socket (ChangesCall Subscribe topic) place (λ c1 now s v q v1 st g. changes_stands cap c1 now s v t q v1 st Subscribe topic g) f
+    line_stands (call.Unsubscribe place topic) f = on_socket (ChangesCall Unsubscribe topic) place (λ c1 now s v q v1 st g. changes_stands cap c1 now s v t q v1 st Unsubscribe topic g) f
+    line_stands (call.Unbind place at) f = on_socket (UnbindsCall at) place (λ c1 now s v q v1 st g. unbinds_stands cap c1 now s v t q v1 st at g) f
+    line_stands (call.Disconnect place at) f = on_socket (DisconnectsCall at) place (λ c1 now s v q v1 st g. disconnects_stands cap c1 now s v t q v1 st at g) f
+    line_stands (call.Close place) f = closes place f
+    line_stands call.Term f = as_before f.new_is

@@ -4,7 +4,7 @@ use Rattle.std.proofs.Common.{sym, ap, ◌∙◌, subst}
 use Rattle.zq_base.specs.Ends.{PipeId}
 use Rattle.zq_base.specs.declared.kind.Kind.{Kind}
 use Rattle.zq_base.specs.declared.options.Options.{Options}
-use Rattle.zq_script.specs.declared.script.Call.TheVariants as call
+use Rattle.spec_run.specs.declared.script.Call.TheVariants as call
 use Rattle.spec_pattern.specs.PipeStep.{PipeStep}
 use Rattle.spec_pattern.specs.PatternCalls.{Subscribe, Unsubscribe}
 use Rattle.spec_control.specs.declared.request.Req.{Req}
@@ -19,8 +19,7 @@ use Rattle.spec_pattern.specs.NewSocket.{new_pattern}
 use Rattle.spec_control.specs.After.{after}
 use Rattle.spec_control.specs.ControlRun.{Joins, Fits, FitsItem, request_joins, unless_refused, after_item}
 use Rattle.spec_control.specs.Moments.{Moment, left_by}
-use Rattle.spec_run.specs.declared.line.LineCall.{LineCall}
-use Rattle.spec_run.specs.declared.line.LineCall.TheVariants.{Asks, Unbinds, Disconnects, Closes, Terms}
+use Rattle.spec_run.specs.declared.script.Call.{Call}
 use Rattle.spec_run.specs.ControlAnswer.{reply_answer}
 use Rattle.spec_run.specs.Act.{Act, Try}
 use Rattle.spec_run.specs.OpenSocket.{OpenSock, new_open}
@@ -192,15 +191,15 @@ module _ {N S : Type 0} where
           found_same (CallsOpen Does) (open_at old place)
           (λ s here. open_same cap cup Does does c d past t x from_here s (open_stands c old place s each here) (open_stands d old place s each_too here) old u v) f g
 
-      pub line_same : (line : LineCall) → DoesLine line old t u → DoesLine line old x v → TrySame c d t x u v
-      line_same (Asks (call.Socket kind options)) f g = makes_same kind options f g
-      line_same (Asks (call.Bind place at)) f g = socket_same (BindsCall at) place (λ c1 d1 now s t1 x1 h a b. binds_call cap cup c1 d1 now s t1 x1 h a b at) f g
-      line_same (Asks (call.Connect place to)) f g = socket_same (ConnectsCall to) place (λ c1 d1 now s t1 x1 h a b. connects_call cap cup c1 d1 now s t1 x1 h a b to) f g
-      line_same (Asks (call.Send place m)) f g = socket_same (SendsCall m) place (λ c1 d1 now s t1 x1 h a b. sends_call cap cup c1 d1 now s t1 x1 h a b m) f g
-      line_same (Asks (call.Recv place tries)) f g = socket_same ReceivesCall place (λ c1 d1 now s t1 x1 h a b. receives_call cap cup c1 d1 now s t1 x1 h a b) f g
-      line_same (Asks (call.Subscribe place topic)) f g = socket_same (ChangesCall Subscribe topic) place (λ c1 d1 now s t1 x1 h a b. changes_call cap cup c1 d1 now s t1 x1 h a b Subscribe topic) f g
-      line_same (Asks (call.Unsubscribe place topic)) f g = socket_same (ChangesCall Unsubscribe topic) place (λ c1 d1 now s t1 x1 h a b. changes_call cap cup c1 d1 now s t1 x1 h a b Unsubscribe topic) f g
-      line_same (Unbinds place at) f g = socket_same (UnbindsCall at) place (λ c1 d1 now s t1 x1 h a b. unbinds_call cap cup c1 d1 now s t1 x1 h a b at) f g
-      line_same (Disconnects place at) f g = socket_same (DisconnectsCall at) place (λ c1 d1 now s t1 x1 h a b. disconnects_call cap cup c1 d1 now s t1 x1 h a b at) f g
-      line_same (Closes place) f g = found_same ClosesLine (open_at old place) (λ s here. closes_same s) f g
-      line_same Terms f g = asks_same f g
+      pub line_same : (line : Call) → DoesLine line old t u → DoesLine line old x v → TrySame c d t x u v
+      line_same (call.Socket kind options) f g = makes_same kind options f g
+      line_same (call.Bind place at) f g = socket_same (BindsCall at) place (λ c1 d1 now s t1 x1 h a b. binds_call cap cup c1 d1 now s t1 x1 h a b at) f g
+      line_same (call.Connect place to) f g = socket_same (ConnectsCall to) place (λ c1 d1 now s t1 x1 h a b. connects_call cap cup c1 d1 now s t1 x1 h a b to) f g
+      line_same (call.Send place m) f g = socket_same (SendsCall m) place (λ c1 d1 now s t1 x1 h a b. sends_call cap cup c1 d1 now s t1 x1 h a b m) f g
+      line_same (call.Recv place tries) f g = socket_same ReceivesCall place (λ c1 d1 now s t1 x1 h a b. receives_call cap cup c1 d1 now s t1 x1 h a b) f g
+      line_same (call.Subscribe place topic) f g = socket_same (ChangesCall Subscribe topic) place (λ c1 d1 now s t1 x1 h a b. changes_call cap cup c1 d1 now s t1 x1 h a b Subscribe topic) f g
+      line_same (call.Unsubscribe place topic) f g = socket_same (ChangesCall Unsubscribe topic) place (λ c1 d1 now s t1 x1 h a b. changes_call cap cup c1 d1 now s t1 x1 h a b Unsubscribe topic) f g
+      line_same (call.Unbind place at) f g = socket_same (UnbindsCall at) place (λ c1 d1 now s t1 x1 h a b. unbinds_call cap cup c1 d1 now s t1 x1 h a b at) f g
+      line_same (call.Disconnect place at) f g = socket_same (DisconnectsCall at) place (λ c1 d1 now s t1 x1 h a b. disconnects_call cap cup c1 d1 now s t1 x1 h a b at) f g
+      line_same (call.Close place) f g = found_same ClosesLine (open_at old place) (λ s here. closes_same s) f g
+      line_same call.Term f g = asks_same f g

@@ -8,7 +8,7 @@ use Rattle.control_laws.proofs.ListLemmas.{never}
 use Rattle.spec_control.specs.Control.{id}
 use Rattle.spec_run.specs.declared.journal.ObjectLine.{ObjectLine}
 use Rattle.spec_run.specs.declared.journal.ObjectRow.{ObjectRow}
-use Rattle.spec_run.specs.declared.journal.RunJournal.{RunJournal}
+use Rattle.spec_run.specs.declared.journal.Journal.{Journal}
 use Rattle.spec_run.specs.JournalText.{live_text, living_text, over_text}
 use Rattle.replay_laws.specs.ObjectsListed.{is_line_of, living_from, ListsTheLiving}
 
@@ -106,7 +106,7 @@ listed_below n i (o ∷ os) h = by o.ended h (listed_below (n + 1) i os)
     by true k rest = more (rest k)
     by false k rest = first (i == n) refl k rest
 
-pub lists_living : (j : RunJournal) → ListsTheLiving j
+pub lists_living : (j : Journal) → ListsTheLiving j
 lists_living j = record {
   unfinished = over_lines j.done j.objects;
   each = λ i o e. times_listed 0 i i j.objects o (omega arith) e;

@@ -8,7 +8,7 @@ use Rattle.zq_base.specs.Ends.{PipeId}
 use Rattle.zq_base.specs.declared.ids.ObjId.{ObjId}
 use Rattle.zq_base.specs.declared.kind.Kind.{Kind}
 use Rattle.zq_base.specs.declared.options.Options.{Options}
-use Rattle.zq_script.specs.declared.script.Call.TheVariants as call
+use Rattle.spec_run.specs.declared.script.Call.TheVariants as call
 use Rattle.spec_pattern.specs.PipeStep.{PipeStep}
 use Rattle.spec_control.specs.declared.request.Req.TheVariants.{Socket as MakeSocket}
 use Rattle.spec_control.specs.declared.request.Reply.{Reply}
@@ -26,10 +26,9 @@ use Rattle.control_laws.proofs.ListLemmas.{never, left, right, and}
 use Rattle.spec_control.specs.OwnAsks.{is_none}
 use Rattle.spec_control.specs.Moments.{Moment}
 use Rattle.spec_run.specs.Turn.{IsOrder}
-use Rattle.spec_run.specs.declared.line.LineCall.{LineCall}
-use Rattle.spec_run.specs.declared.line.LineCall.TheVariants.{Asks, Unbinds, Disconnects, Closes, Terms}
-use Rattle.spec_run.specs.declared.line.RunLine.{RunLine}
-use Rattle.spec_run.specs.LineCall.{RunScript, line_tries, is_tried_again}
+use Rattle.spec_run.specs.declared.script.Call.{Call}
+use Rattle.spec_run.specs.declared.script.Line.{Line}
+use Rattle.spec_run.specs.Script.{Script, line_tries, is_tried_again}
 use Rattle.spec_run.specs.Act.{Act, Step, Said, Try, Deed, Tries, Shuts, Fetches, Idles, Works, Looks, AsksRoot, Reads, steps_in, all_acts}
 use Rattle.spec_run.specs.OpenSocket.{OpenSock, new_open}
 use Rattle.spec_run.specs.Event.{acts_said}
@@ -67,13 +66,13 @@ rows_marked (o ∷ rows) =
     omega (arith, rest, first, other)
 
 -- what an actor has still to try and to close
-abbrev tries_left : List RunLine → ℕ
+abbrev tries_left : List Line → ℕ
 tries_left [] = 0
 tries_left (line ∷ lines) = most_tries line.call + tries_left lines
 
-all_tries : (lines : List RunLine) → tries_left lines ≡ sum_by (λ (line : RunLine). most_tries line.call) lines
+all_tries : (lines : List Line) → tries_left lines ≡ sum_by (λ (line : Line). most_tries line.call) lines
 all_tries [] = refl
-all_tries (line ∷ lines) = ap (λ n. most_tries line.call + n) (all_tries lines) ∙ sym (sum_by-cons (λ (l : RunLine). most_tries l.call) line lines)
+all_tries (line ∷ lines) = ap (λ n. most_tries line.call + n) (all_tries lines) ∙ sym (sum_by-cons (λ (l : Line). most_tries l.call) line lines)
 
 abbrev left_to_do : ActorStanding → ℕ
 left_to_do st = (tries_left st.lines - st.tried) + length st.mine.socks
@@ -93,7 +92,7 @@ later_ends all k now then_made st le (inr busy) = inr (record { tried = busy.tri
 none_to_do : (st : ActorStanding) → TriedFew st.lines st.tried → left_to_do st ≤ 0 → has_finished st ≡ true
 none_to_do st tried few = by st.lines st.mine.socks tried few
   where
-    by : (lines : List RunLine) (socks : List OpenSock) → TriedFew lines st.tried → (tries_left lines - st.tried) + length socks ≤ 0 → (is_none lines && is_none socks) ≡ true
+    by : (lines : List Line) (socks : List OpenSock) → TriedFew lines st.tried → (tries_left lines - st.tried) + length socks ≤ 0 → (is_none lines && is_none socks) ≡ true
     by [] [] f le = refl
     by [] (s ∷ socks) f le = absurd (omega (arith, le))
     by (l ∷ lines) socks f le = absurd (omega (arith, le, f))
@@ -160,18 +159,18 @@ module _ {N S : Type 0} where
         let acts_are : t.pump ++ t.call ≡ acts_said f.made = ap (λ l. l ++ t.call) f.no_pump.pump_is ∙ f.call_is in
         opens_by kind options f.request.by f.reply f.request.answered f.made f.request.item_is acts_are (subst (Walks cap c past) acts_are w).1 f.new_is
 
-    line_opens : (line : LineCall) → DoesLine line old t u → OpensAsMade
-    line_opens (Asks (call.Socket kind options)) f = opens_made kind options f
-    line_opens (Asks (call.Bind place at)) f = opens_none (line_few (Asks (call.Bind place at)) old u t f)
-    line_opens (Asks (call.Connect place to)) f = opens_none (line_few (Asks (call.Connect place to)) old u t f)
-    line_opens (Asks (call.Send place m)) f = opens_none (line_few (Asks (call.Send place m)) old u t f)
-    line_opens (Asks (call.Recv place tries)) f = opens_none (line_few (Asks (call.Recv place tries)) old u t f)
-    line_opens (Asks (call.Subscribe place topic)) f = opens_none (line_few (Asks (call.Subscribe place topic)) old u t f)
-    line_opens (Asks (call.Unsubscribe place topic)) f = opens_none (line_few (Asks (call.Unsubscribe place topic)) old u t f)
-    line_opens (Unbinds place at) f = opens_none (line_few (Unbinds place at) old u t f)
-    line_opens (Disconnects place at) f = opens_none (line_few (Disconnects place at) old u t f)
-    line_opens (Closes place) f = opens_none (line_few (Closes place) old u t f)
-    line_opens Terms f = opens_none (line_few Terms old u t f)
+    line_opens : (line : Call) → DoesLine line old t u → OpensAsMade
+    line_opens (call.Socket kind options) f = opens_made kind options f
+    line_opens (call.Bind place at) f = opens_none (line_few (call.Bind place at) old u t f)
+    line_opens (call.Connect place to) f = opens_none (line_few (call.Connect place to) old u t f)
+    line_opens (call.Send place m) f = opens_none (line_few (call.Send place m) old u t f)
+    line_opens (call.Recv place tries) f = opens_none (line_few (call.Recv place tries) old u t f)
+    line_opens (call.Subscribe place topic) f = opens_none (line_few (call.Subscribe place topic) old u t f)
+    line_opens (call.Unsubscribe place topic) f = opens_none (line_few (call.Unsubscribe place topic) old u t f)
+    line_opens (call.Unbind place at) f = opens_none (line_few (call.Unbind place at) old u t f)
+    line_opens (call.Disconnect place at) f = opens_none (line_few (call.Disconnect place at) old u t f)
+    line_opens (call.Close place) f = opens_none (line_few (call.Close place) old u t f)
+    line_opens call.Term f = opens_none (line_few call.Term old u t f)
 
   -- ---- each step of an actor leaves it less to do
   try_soon : (cap : PipeId → ℕ) (c : Control) (past : List PipeStep) (all k : ℕ) (old new : ActorStanding) (t : Try N S) → Reached N S c → Walks cap c past (t.pump ++ t.call) → DoesTry old t new → IsBusy all (suc k) (sockets_in c) old
@@ -291,7 +290,7 @@ pub soon_finished : (all : ℕ) (c : Control) (standings : List ActorStanding) �
 soon_finished all c [] le soon = refl
 soon_finished all c (st ∷ standings) le soon = and _ _ (soon_ended all (sockets_in c) st le (soon 0)) (soon_finished all c standings le (λ w. soon (suc w)))
 
-pub begun_soon : (all k now : ℕ) (script : RunScript) → script_tries script + all ≤ k → (w : ℕ) → EndsSoon all k now (at_place (map standing_before script) w)
+pub begun_soon : (all k now : ℕ) (script : Script) → script_tries script + all ≤ k → (w : ℕ) → EndsSoon all k now (at_place (map standing_before script) w)
 begun_soon all k now [] le w = inl refl
 begun_soon all k now (actor ∷ script) le zero =
     let first = sum_by-cons actor_tries actor script in

@@ -12,9 +12,9 @@ use Rattle.spec_control.specs.Rows.{obj}
 use Rattle.spec_control.specs.Control.{Control}
 use Rattle.spec_run.specs.declared.journal.ObjectLine.{ObjectLine}
 use Rattle.spec_run.specs.declared.journal.ObjectRow.{ObjectRow}
-use Rattle.spec_run.specs.LineCall.{RunScript}
+use Rattle.spec_run.specs.Script.{Script}
 use Rattle.spec_run.specs.OwnedRun.{OwnedRun}
-use Rattle.spec_run.specs.RunJournal.{line_of, object_shown, journal_at}
+use Rattle.spec_run.specs.Journal.{line_of, object_shown, journal_at}
 use Rattle.run_laws.specs.EndOrder.{is_numbered, EndInOrder}
 use Rattle.replay_laws.specs.ObjectsListed.{is_line_of, ShowsObject, ListsObjects}
 
@@ -116,7 +116,7 @@ lines_so : (c : Control) (os : List ObjId) → AllByRecursion (λ (line : Object
 lines_so c [] = tt
 lines_so c (o ∷ os) = (refl, lines_so c os)
 
-module _ {N S : Type 0} (c : Control) (script : RunScript) (run : OwnedRun N S) (order : EndInOrder c) where
+module _ {N S : Type 0} (c : Control) (script : Script) (run : OwnedRun N S) (order : EndInOrder c) where
   -- how often an object that was made is listed as ended
   pub listed : (i : ℕ) → i < length c.rows.objects → (b : Bool) → has_ended (obj c.rows i).stage ≡ b → count_by (is_numbered i) c.ended ≡ cond b 1 0
   listed i lt true e =

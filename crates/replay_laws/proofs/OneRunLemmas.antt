@@ -6,7 +6,7 @@ use Rattle.std.proofs.lemmas.List.{map-append}
 use Rattle.zq_base.specs.Ends.{PipeId}
 use Rattle.spec_pattern.specs.PipeStep.{PipeStep}
 use Rattle.spec_control.specs.Control.{Control, begun}
-use Rattle.spec_run.specs.LineCall.{RunScript}
+use Rattle.spec_run.specs.Script.{Script}
 use Rattle.spec_run.specs.Act.{steps_in, all_acts}
 use Rattle.spec_run.specs.Standing.{ActorStanding, standing_before}
 use Rattle.spec_run.specs.OwnedRun.{AreCountedBy, pipe_capacity, control_at_end, all_steps, deeds_in}
@@ -25,7 +25,7 @@ use Rattle.replay_laws.specs.OneEventsJournal.{EventsHaveOneJournal}
 use Rattle.replay_laws.proofs.EventLemmas.{behind_is}
 use Rattle.replay_laws.proofs.OneEventLemmas.{AllStand, shown_of, event_same}
 
-none_before : (script : RunScript) (w : ℕ) (st : ActorStanding) → slice_get (map standing_before script) w ≡ Some st → st.mine.socks ≡ []
+none_before : (script : Script) (w : ℕ) (st : ActorStanding) → slice_get (map standing_before script) w ≡ Some st → st.mine.socks ≡ []
 none_before [] w st e = absurd (nope e)
   where
     nope : ◌≡◌ {A = Option ActorStanding} None (Some st) → ⊥

@@ -24,7 +24,7 @@ use Rattle.control_laws.proofs.BetweenLemmas.{asks_over}
 use Rattle.control_laws.proofs.HeldEventLemmas.{word_closes}
 use Rattle.control_laws.proofs.HeldClosedLemmas.{event_unused, asked_none}
 use Rattle.control_laws.proofs.HeldRowLemmas.{event_keeps}
-use Rattle.spec_run.specs.LineCall.{RunScript}
+use Rattle.spec_run.specs.Script.{Script}
 use Rattle.spec_run.specs.Act.{Act, Step, Said, Deed, all_acts}
 use Rattle.spec_run.specs.OpenSocket.{OpenSock}
 use Rattle.spec_run.specs.Standing.{ActorStanding, standing_before}
@@ -84,7 +84,7 @@ pub record AllOpen (c : Control) (sts : List ActorStanding) : Type 0 where
   pub rows : (w i : ℕ) → has_sock i (socks_at sts w) ≡ true → IsOpenRow (obj c.rows i)
   pub apart : (w v i : ℕ) → has_sock i (socks_at sts w) ≡ true → has_sock i (socks_at sts v) ≡ true → w ≡ v
 
-pub open_before : (c : Control) (script : RunScript) → AllOpen c (map standing_before script)
+pub open_before : (c : Control) (script : Script) → AllOpen c (map standing_before script)
 open_before c script = record {
   stand = λ w. subst (EachStands c) (sym (none_open script w)) tt;
   rows = λ w i h. absurd (never (sym (ap (has_sock i) (none_open script w)) ∙ h));

@@ -6,9 +6,9 @@ use Rattle.std.specs.Str.{bytes_eq}
 use Rattle.zq_script.specs.declared.fault.Cause.{Cause}
 use Rattle.zq_script.specs.declared.fault.Cause.TheVariants.{TooLong}
 use Rattle.zq_base.specs.declared.endpoint.Endpoint.{Endpoint}
-use Rattle.zq_script.specs.declared.script.Call.{Call}
-use Rattle.zq_script.specs.declared.script.Call.TheVariants as call
-use Rattle.zq_script.specs.declared.script.Line.{Line}
+use Rattle.spec_run.specs.declared.script.Call.{Call}
+use Rattle.spec_run.specs.declared.script.Call.TheVariants as call
+use Rattle.spec_run.specs.declared.script.Line.{Line}
 use Rattle.zq_script.specs.declared.statement.Statement.{Statement}
 use Rattle.zq_script.specs.declared.statement.Statement.TheVariants.{Actor, Socket, Closed, Other}
 use Rattle.zq_script.specs.Answer.{◌>>=◌}
@@ -18,16 +18,14 @@ use Rattle.zq_script.specs.Part.{parts_message}
 use Rattle.zq_script.specs.SocketOption.{default_options, with_options}
 use Rattle.zq_script.specs.Statement.{Learned, is_actor, nothing_learned, learned_behind}
 use Rattle.zq_script.specs.Words.{Words, lines_of, words_of, is_skipped}
-use Rattle.spec_run.specs.declared.line.LineCall.TheVariants.{Asks, Unbinds, Disconnects, Closes, Terms}
-use Rattle.spec_run.specs.declared.line.RunLine.{RunLine}
-use Rattle.spec_run.specs.LineCall.{RunScript}
-use Rattle.run_script.specs.RunGrammar.{ending_verb, socket_at, close_line, term_line, ending_line, run_statement, run_statement_by, run_statement_of, run_actor, run_script_of}
+use Rattle.spec_run.specs.Script.{Script}
+use Rattle.run_script.specs.RunGrammar.{ending_verb, socket_at, close_line, term_line, ending_line, run_statement, run_statement_by, statement_of, actor_script, script_of}
 use Rattle.zq_world.specs.MayAsk.{MayMake, IsLocal, MayAskLine, MayAskLines, MayAskScript}
 use Rattle.replay_laws.proofs.ReadStepLemmas.{Holds, ok_holds, err_holds, held, if_then, any_then, by_test, IsSo, so_by_test}
 use Rattle.replay_laws.proofs.ValueLemmas.{local_at_last, given_may}
 
 -- the line of a statement may be asked
-abbrev MayState : Statement RunLine → Type 0
+abbrev MayState : Statement Line → Type 0
 MayState (Actor name) = Unit {0}
 MayState (Socket name line) = MayAskLine line.call
 MayState (Closed name line) = MayAskLine line.call
@@ -38,7 +36,7 @@ abbrev MaySay : Statement Line → Type 0
 MaySay statement = MayState (run_statement statement)
 
 abbrev MayCall : Call → Type 0
-MayCall asked = MayAskLine (Asks asked)
+MayCall asked = MayAskLine asked
 
 -- a call
 bind_may : (socket : ℕ) (words : Words) → Holds MayCall (last_endpoint words >>= λ at. Ok (call.Bind socket at))
@@ -96,13 +94,13 @@ flat_may number learned words = any_then MaySay (first_word words) _ (λ first. 
 close_may : (number : ℕ) (learned : Learned) (words : Words) → Holds MayState (close_line number learned words)
 unfolding close_line
 close_may number learned words = any_then MayState (some_actor learned) _ (λ some. any_then MayState (first_word words) _ (λ first. any_then MayState (known_socket learned first.0) _ (λ socket. any_then MayState (line_end first.1) _
-    (λ end. ok_holds MayState (Closed first.0 (record { number = number; call = Closes socket })) tt))))
+    (λ end. ok_holds MayState (Closed first.0 (record { number = number; call = call.Close socket })) tt))))
 
 term_may : (number : ℕ) (learned : Learned) (words : Words) → Holds MayState (term_line number learned words)
 unfolding term_line
-term_may number learned words = any_then MayState (some_actor learned) _ (λ some. any_then MayState (line_end words) _ (λ end. ok_holds MayState (Other (record { number = number; call = Terms })) tt))
+term_may number learned words = any_then MayState (some_actor learned) _ (λ some. any_then MayState (line_end words) _ (λ end. ok_holds MayState (Other (record { number = number; call = call.Term })) tt))
 
-place_may : (line : ℕ × Endpoint → RunLine) (learned : Learned) (words : Words) → ((place : ℕ × Endpoint) → MayAskLine (line place).call)
+place_may : (line : ℕ × Endpoint → Line) (learned : Learned) (words : Words) → ((place : ℕ × Endpoint) → MayAskLine (line place).call)
     → Holds MayState (socket_at learned words >>= λ place. Ok (Other (line place)))
 place_may line learned words may = any_then MayState (socket_at learned words) _ (λ place. ok_holds MayState (Other (line place)) (may place))
 
@@ -110,50 +108,50 @@ place_may line learned words may = any_then MayState (socket_at learned words) _
 by_ending : (word : List ℕ) → IsSo (λ v. (number : ℕ) (learned : Learned) (words rest : Words) → Holds MayState (run_statement_by number learned words v rest)) (ending_verb word)
 unfolding ending_verb ending_line
 by_ending word =
-    so_by_test _ (bytes_eq word (codes "unbind")) _ _ (record { so = λ number learned words rest. place_may (λ place. record { number = number; call = Unbinds place.0 place.1 }) learned rest (λ place. tt) })
-    (so_by_test _ (bytes_eq word (codes "disconnect")) _ _ (record { so = λ number learned words rest. place_may (λ place. record { number = number; call = Disconnects place.0 place.1 }) learned rest (λ place. tt) })
+    so_by_test _ (bytes_eq word (codes "unbind")) _ _ (record { so = λ number learned words rest. place_may (λ place. record { number = number; call = call.Unbind place.0 place.1 }) learned rest (λ place. tt) })
+    (so_by_test _ (bytes_eq word (codes "disconnect")) _ _ (record { so = λ number learned words rest. place_may (λ place. record { number = number; call = call.Disconnect place.0 place.1 }) learned rest (λ place. tt) })
     (so_by_test _ (bytes_eq word (codes "close")) _ _ (record { so = λ number learned words rest. close_may number learned rest })
     (so_by_test _ (bytes_eq word (codes "term")) _ _ (record { so = λ number learned words rest. term_may number learned rest })
     (record { so = λ number learned words rest. if_then MaySay MayState (statement_of number learned words) _ (flat_may number learned words) (λ statement h. ok_holds MayState (run_statement statement) h) }))))
 
-run_may : (number : ℕ) (learned : Learned) (words : Words) → Holds MayState (run_statement_of number learned words)
-unfolding run_statement_of
+run_may : (number : ℕ) (learned : Learned) (words : Words) → Holds MayState (statement_of number learned words)
+unfolding statement_of
 run_may number learned words = any_then MayState (first_word words) _ (λ first. (by_ending first.0).so number learned words first.1)
 
 -- a line that may be skipped
-abbrev MayFollow : Option (Statement RunLine) → Type 0
+abbrev MayFollow : Option (Statement Line) → Type 0
 MayFollow None = Unit {0}
 MayFollow (Some statement) = MayState statement
 
-at_may : (number : ℕ) (r : Result (Statement RunLine) Cause) → Holds MayState r → Holds MayFollow (at_line number r)
+at_may : (number : ℕ) (r : Result (Statement Line) Cause) → Holds MayState r → Holds MayFollow (at_line number r)
 unfolding at_line
 at_may number (Ok statement) h = ok_holds MayFollow _ h.given
 at_may number (Err cause) h = err_holds MayFollow _
 
-line_may : (number : ℕ) (learned : Learned) (line : List ℕ) → Holds MayFollow (line_statement run_statement_of number learned line)
+line_may : (number : ℕ) (learned : Learned) (line : List ℕ) → Holds MayFollow (line_statement statement_of number learned line)
 unfolding line_statement
 line_may number learned line =
-    by_test MayFollow (is_skipped (words_of line)) (Ok None) (at_line number (run_statement_of number learned (words_of line)))
-    (λ e. ok_holds MayFollow None tt) (at_may number (run_statement_of number learned (words_of line)) (run_may number learned (words_of line)))
+    by_test MayFollow (is_skipped (words_of line)) (Ok None) (at_line number (statement_of number learned (words_of line)))
+    (λ e. ok_holds MayFollow None tt) (at_may number (statement_of number learned (words_of line)) (run_may number learned (words_of line)))
 
 -- lines
-abbrev MayStates : List (Statement RunLine) → Type 0
+abbrev MayStates : List (Statement Line) → Type 0
 MayStates statements = AllByRecursion MayState statements
 
-behind_may : (said : Option (Statement RunLine)) (later : List (Statement RunLine)) → MayFollow said → MayStates later → MayStates (option_to_list said ++ later)
+behind_may : (said : Option (Statement Line)) (later : List (Statement Line)) → MayFollow said → MayStates later → MayStates (option_to_list said ++ later)
 behind_may None later h hs = hs
 behind_may (Some statement) later h hs = (h, hs)
 
-lines_may : (number : ℕ) (learned : Learned) (lines : List (List ℕ)) → Holds MayStates (statements_from run_statement_of number learned lines)
+lines_may : (number : ℕ) (learned : Learned) (lines : List (List ℕ)) → Holds MayStates (statements_from statement_of number learned lines)
 unfolding statements_from
 lines_may number learned [] = ok_holds MayStates _ tt
 lines_may number learned (line ∷ lines) =
-    if_then MayFollow MayStates (line_statement run_statement_of number learned line) _ (line_may number learned line)
-    (λ said h. if_then MayStates MayStates (statements_from run_statement_of (number + 1) (learned_behind said learned) lines) _ (lines_may (number + 1) (learned_behind said learned) lines)
+    if_then MayFollow MayStates (line_statement statement_of number learned line) _ (line_may number learned line)
+    (λ said h. if_then MayStates MayStates (statements_from statement_of (number + 1) (learned_behind said learned) lines) _ (lines_may (number + 1) (learned_behind said learned) lines)
     (λ later hs. ok_holds MayStates (option_to_list said ++ later) (behind_may said later h hs)))
 
 -- an actor's lines
-leading_may : (statements : List (Statement RunLine)) → MayStates statements → MayAskLines (leading_lines statements)
+leading_may : (statements : List (Statement Line)) → MayStates statements → MayAskLines (leading_lines statements)
 unfolding leading_lines
 leading_may [] h = tt
 leading_may (Actor name ∷ statements) h = tt
@@ -161,7 +159,7 @@ leading_may (Socket name line ∷ statements) h = (h.0, leading_may statements h
 leading_may (Closed name line ∷ statements) h = (h.0, leading_may statements h.1)
 leading_may (Other line ∷ statements) h = (h.0, leading_may statements h.1)
 
-actors_may : (statements : List (Statement RunLine)) → MayStates statements → MayAskScript (actors_of run_actor statements)
+actors_may : (statements : List (Statement Line)) → MayStates statements → MayAskScript (actors_of actor_script statements)
 unfolding actors_of
 actors_may [] h = tt
 actors_may (Actor name ∷ statements) h = (leading_may statements h.1, actors_may statements h.1)
@@ -170,12 +168,12 @@ actors_may (Closed name line ∷ statements) h = actors_may statements h.1
 actors_may (Other line ∷ statements) h = actors_may statements h.1
 
 -- a script
-script_may : (octets : List ℕ) → Holds MayAskScript (run_script_of octets)
-unfolding run_script_of actors_read
+script_may : (octets : List ℕ) → Holds MayAskScript (script_of octets)
+unfolding script_of actors_read
 script_may octets =
     by_test MayAskScript (is_too_long octets) (Err (record { line = 0; cause = TooLong })) _ (λ e. err_holds MayAskScript (record { line = 0; cause = TooLong }))
-    (if_then MayStates MayAskScript (statements_from run_statement_of 1 nothing_learned (lines_of octets)) _ (lines_may 1 nothing_learned (lines_of octets))
-    (λ statements h. ok_holds MayAskScript (actors_of run_actor statements) (actors_may statements h)))
+    (if_then MayStates MayAskScript (statements_from statement_of 1 nothing_learned (lines_of octets)) _ (lines_may 1 nothing_learned (lines_of octets))
+    (λ statements h. ok_holds MayAskScript (actors_of actor_script statements) (actors_may statements h)))
 
-pub read_may : (octets : List ℕ) (script : RunScript) → run_script_of octets ≡ Ok script → MayAskScript script
+pub read_may : (octets : List ℕ) (script : Script) → script_of octets ≡ Ok script → MayAskScript script
 read_may octets script e = held MayAskScript _ script (script_may octets) e

@@ -8,7 +8,7 @@ use Rattle.zq_base.specs.Message.{Frames}
 use Rattle.zq_base.specs.declared.endpoint.Endpoint.{Endpoint}
 use Rattle.zq_base.specs.declared.kind.Kind.{Kind}
 use Rattle.zq_base.specs.declared.options.Options.{Options}
-use Rattle.zq_script.specs.declared.script.Call.TheVariants as call
+use Rattle.spec_run.specs.declared.script.Call.TheVariants as call
 use Rattle.spec_pattern.specs.PipeStep.{PipeStep}
 use Rattle.spec_pattern.specs.PatternCalls.{Change, Subscribe, Unsubscribe}
 use Rattle.spec_pattern.specs.Topics.{Topic}
@@ -30,11 +30,10 @@ use Rattle.spec_control.specs.ControlRun.{Fits, FitsItem, after_item}
 use Rattle.spec_control.specs.Moments.{Moment}
 use Rattle.control_laws.proofs.ListLemmas.{never}
 use Rattle.control_laws.proofs.HeldEventLemmas.{closes}
-use Rattle.spec_run.specs.declared.journal.LineAnswer.{LineAnswer}
-use Rattle.spec_run.specs.declared.journal.LineAnswer.TheVariants.{Term}
-use Rattle.spec_run.specs.declared.line.LineCall.{LineCall}
-use Rattle.spec_run.specs.declared.line.LineCall.TheVariants.{Asks, Unbinds, Disconnects, Closes, Terms}
-use Rattle.spec_run.specs.declared.line.RunLine.{RunLine}
+use Rattle.spec_run.specs.declared.answer.Answer.{Answer}
+use Rattle.spec_run.specs.declared.answer.Answer.TheVariants as answer
+use Rattle.spec_run.specs.declared.script.Call.{Call}
+use Rattle.spec_run.specs.declared.script.Line.{Line}
 use Rattle.spec_pattern.specs.declared.answers.Skip.{Skip}
 use Rattle.spec_run.specs.Act.{Act, Step, Try, Deed, Tries, Shuts, Fetches, Idles, Works, Looks, AsksRoot, Reads, all_acts}
 use Rattle.spec_run.specs.OpenSocket.{OpenSock, new_open}
@@ -62,7 +61,7 @@ pub record Changes {N S : Type 0} (c : Control) (acts : List (Act N S)) (old new
   pub own : (i : ℕ) → has_sock i new ≡ true → ((has_sock i old ≡ true) × (closed_by i acts ≡ false)) ⊎ IsMade c (leaves c acts) i
   pub closed : (i : ℕ) → closed_by i acts ≡ true → has_sock i old ≡ true
 
-after_socks : (over : Bool) (rest : List RunLine) (told : List Skip) (mine : Sockets) (old : ActorStanding) → (standing_after over rest told mine old).mine ≡ mine
+after_socks : (over : Bool) (rest : List Line) (told : List Skip) (mine : Sockets) (old : ActorStanding) → (standing_after over rest told mine old).mine ≡ mine
 after_socks true rest told mine old = refl
 after_socks false rest told mine old = refl
 
@@ -82,7 +81,7 @@ module _ {N S : Type 0} where
     requests : (req : Req) → ((i : ℕ) → closes i req ≡ false) → RequestsOnce req s t u → Spares t.call
     requests req none f i = ap (closed_by i) f.call_is ∙ request_closes i req f.reply f.made f.request ∙ none i
 
-    unless_stopped : (stopped : Bool) (said_so : LineAnswer) (Does : OpenSock → Try N S → OpenSock → Type 0) → (Does s t u → Spares t.call) → UnlessStopped stopped said_so Does s t u → Spares t.call
+    unless_stopped : (stopped : Bool) (said_so : Answer) (Does : OpenSock → Try N S → OpenSock → Type 0) → (Does s t u → Spares t.call) → UnlessStopped stopped said_so Does s t u → Spares t.call
     unless_stopped true said_so Does does f = spares_none t.call f.call_is
     unless_stopped false said_so Does does f = does f
 
@@ -93,7 +92,7 @@ module _ {N S : Type 0} where
     receives_spares f = unless_stopped s.stopped _ ReceivesOpen (λ g. stepped g.steps g.call_is) f
 
     changes_spares : (change : Change) (topic : Topic) → ChangesCall change topic s t u → Spares t.call
-    changes_spares change topic f = unless_stopped s.stopped Term (ChangesOpen change topic) (λ g. stepped g.steps g.call_is) f
+    changes_spares change topic f = unless_stopped s.stopped answer.Term (ChangesOpen change topic) (λ g. stepped g.steps g.call_is) f
 
     connects_spares : (takes stopped : Bool) (to : Endpoint) → ConnectsWhere takes stopped to s t u → Spares t.call
     connects_spares true stopped to f = requests (Connect (id s.object) to) (λ i. refl) f
@@ -183,18 +182,18 @@ module _ {N S : Type 0} where
     asks_term : AsksTerm old t u → Changes c (t.pump ++ t.call) old.socks u.socks
     asks_term f = as_before c (t.pump ++ t.call) old u (asked_so AskTerm f.reply f.made f.request (λ i. refl) f.no_pump.pump_is f.call_is) f.new_is
 
-    pub line_changes : (line : LineCall) → DoesLine line old t u → Changes c (t.pump ++ t.call) old.socks u.socks
-    line_changes (Asks (call.Socket kind options)) f = makes kind options f
-    line_changes (Asks (call.Bind place at)) f = on_socket cap c past t w old u (BindsCall at) place (λ s v g. requests s v t (Bind (id s.object) at) (λ i. refl) g) f
-    line_changes (Asks (call.Connect place to)) f = on_socket cap c past t w old u (ConnectsCall to) place (λ s v g. connects_spares s v t (takes_connect s.pattern to) s.stopped to g) f
-    line_changes (Asks (call.Send place m)) f = on_socket cap c past t w old u (SendsCall m) place (λ s v g. sends_spares s v t m g) f
-    line_changes (Asks (call.Recv place tries)) f = on_socket cap c past t w old u ReceivesCall place (λ s v g. receives_spares s v t g) f
-    line_changes (Asks (call.Subscribe place topic)) f = on_socket cap c past t w old u (ChangesCall Subscribe topic) place (λ s v g. changes_spares s v t Subscribe topic g) f
-    line_changes (Asks (call.Unsubscribe place topic)) f = on_socket cap c past t w old u (ChangesCall Unsubscribe topic) place (λ s v g. changes_spares s v t Unsubscribe topic g) f
-    line_changes (Unbinds place at) f = on_socket cap c past t w old u (UnbindsCall at) place (λ s v g. requests s v t (Unbind (id s.object) at) (λ i. refl) g) f
-    line_changes (Disconnects place at) f = on_socket cap c past t w old u (DisconnectsCall at) place (λ s v g. requests s v t (Disconnect (id s.object) at) (λ i. refl) g) f
-    line_changes (Closes place) f = closes_line place f
-    line_changes Terms f = asks_term f
+    pub line_changes : (line : Call) → DoesLine line old t u → Changes c (t.pump ++ t.call) old.socks u.socks
+    line_changes (call.Socket kind options) f = makes kind options f
+    line_changes (call.Bind place at) f = on_socket cap c past t w old u (BindsCall at) place (λ s v g. requests s v t (Bind (id s.object) at) (λ i. refl) g) f
+    line_changes (call.Connect place to) f = on_socket cap c past t w old u (ConnectsCall to) place (λ s v g. connects_spares s v t (takes_connect s.pattern to) s.stopped to g) f
+    line_changes (call.Send place m) f = on_socket cap c past t w old u (SendsCall m) place (λ s v g. sends_spares s v t m g) f
+    line_changes (call.Recv place tries) f = on_socket cap c past t w old u ReceivesCall place (λ s v g. receives_spares s v t g) f
+    line_changes (call.Subscribe place topic) f = on_socket cap c past t w old u (ChangesCall Subscribe topic) place (λ s v g. changes_spares s v t Subscribe topic g) f
+    line_changes (call.Unsubscribe place topic) f = on_socket cap c past t w old u (ChangesCall Unsubscribe topic) place (λ s v g. changes_spares s v t Unsubscribe topic g) f
+    line_changes (call.Unbind place at) f = on_socket cap c past t w old u (UnbindsCall at) place (λ s v g. requests s v t (Unbind (id s.object) at) (λ i. refl) g) f
+    line_changes (call.Disconnect place at) f = on_socket cap c past t w old u (DisconnectsCall at) place (λ s v g. requests s v t (Disconnect (id s.object) at) (λ i. refl) g) f
+    line_changes (call.Close place) f = closes_line place f
+    line_changes call.Term f = asks_term f
 
   -- ---- an actor's step
   pub step_changes : (cap : PipeId → ℕ) (c : Control) (past : List PipeStep) (old u : ActorStanding) (ds : List (Deed N S)) → Walks cap c past (all_acts ds) → ActorStep old ds u → Changes c (all_acts ds) old.mine.socks u.mine.socks

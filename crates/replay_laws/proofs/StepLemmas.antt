@@ -33,13 +33,13 @@ use Rattle.control_laws.proofs.StepsLemmas.{events_are_steps}
 use Rattle.control_laws.proofs.LeadLemmas.{attached_by}
 use Rattle.spec_control.specs.OwnAsks.{is_none}
 use Rattle.spec_control.specs.Moments.{Moment, left_by, first_waiting}
-use Rattle.spec_run.specs.declared.journal.LineEntry.{LineEntry}
+use Rattle.spec_run.specs.declared.journal.Entry.{Entry}
 use Rattle.spec_run.specs.Act.{Act, Said, Deed, Tries, Shuts, Fetches, Idles, Works, Looks, AsksRoot, Reads, steps_in, acts_of, all_acts}
 use Rattle.spec_run.specs.Event.{IsLookAt, LooksBehind, TakesLetter, seals_in, acts_said}
 use Rattle.spec_run.specs.Standing.{ActorStanding, has_finished}
 use Rattle.spec_run.specs.InTurns.{is_live, AsksIf, Begins, TakesFirstWaiting, ReaperStep}
 use Rattle.spec_run.specs.Fate.{skips_of}
-use Rattle.spec_run.specs.RunJournal.{entries_shown}
+use Rattle.spec_run.specs.Journal.{entries_shown}
 use Rattle.replay_laws.specs.Blank.{blank, delivered}
 use Rattle.replay_laws.proofs.BlankLemmas.{counts_are_not_read, reaped_alike}
 use Rattle.replay_laws.proofs.SlotLemmas.{Mark, mark, marks, mark_in, mark_of, marks_after, word_makes_none}
@@ -84,7 +84,7 @@ waiting_alike c d p = ap first_waiting p
 pub record Bare : Type 0 where
   pub steps : List PipeStep
   pub skips : List Skip
-  pub entries : List LineEntry
+  pub entries : List Entry
 
 module _ {N S : Type 0} where
   abbrev pub bare : Deed N S → Bare

@@ -9,11 +9,11 @@ use Rattle.spec_control.specs.declared.entry.Sight.{Sight}
 use Rattle.spec_control.specs.Control.{Control}
 use Rattle.spec_control.specs.ControlRun.{after_item, after_all, IsControlRun}
 use Rattle.spec_control.specs.Moments.{Moment, moments_from}
-use Rattle.spec_run.specs.declared.journal.LineEntry.{LineEntry}
+use Rattle.spec_run.specs.declared.journal.Entry.{Entry}
 use Rattle.spec_run.specs.Act.{Act, Step, Said, Deed, Tries, Shuts, Fetches, Idles, Works, Looks, AsksRoot, Reads, acts_of, all_acts, steps_in, moments_in}
 use Rattle.spec_run.specs.Worker.{EachDoes}
 use Rattle.spec_run.specs.Fate.{fates_in}
-use Rattle.spec_run.specs.RunJournal.{entry_shown, entries_shown}
+use Rattle.spec_run.specs.Journal.{entry_shown, entries_shown}
 use Rattle.replay_laws.proofs.WalkLemmas.{leaves, Walks, leaves_on, steps_on, walks_front, walks_behind}
 use Rattle.zq_world.proofs.AskedLemmas.{items_of}
 use Rattle.replay_laws.proofs.DeedLemmas.{is_told}
@@ -132,7 +132,7 @@ module _ {N S : Type 0} where
 
   pub thin_shown : (ds : List (Deed N S)) → entries_shown (filter is_told ds) ≡ entries_shown ds
   thin_shown [] = refl
-  thin_shown (Tries t ∷ ds) = ap (λ (l : List LineEntry). if t.over then entry_shown t ∷ l else l) (thin_shown ds)
+  thin_shown (Tries t ∷ ds) = ap (λ (l : List Entry). if t.over then entry_shown t ∷ l else l) (thin_shown ds)
   thin_shown (Shuts acts ∷ ds) = thin_shown ds
   thin_shown (Fetches slot acts ∷ ds) = thin_shown ds
   thin_shown (Idles m ∷ ds) = thin_shown ds

@@ -7,16 +7,15 @@ use Rattle.std.proofs.lemmas.Bool.{leb-false}
 use Rattle.std.specs.List.{list_all, AllByRecursion}
 use Rattle.zq_base.specs.declared.kind.Kind.{Kind}
 use Rattle.zq_base.specs.declared.options.Options.{Options}
-use Rattle.zq_script.specs.declared.script.Call.TheVariants as call
+use Rattle.spec_run.specs.declared.script.Call.TheVariants as call
 use Rattle.spec_control.specs.declared.request.Reply.{Reply}
 use Rattle.spec_control.specs.declared.request.Reply.TheVariants.{Done, Object, Pair, Both, Wait, Asked, Before, Refused}
 use Rattle.control_laws.proofs.ListLemmas.{never}
 use Rattle.spec_control.specs.OwnAsks.{is_none}
 use Rattle.spec_control.specs.Moments.{Moment}
-use Rattle.spec_run.specs.declared.line.LineCall.{LineCall}
-use Rattle.spec_run.specs.declared.line.LineCall.TheVariants.{Asks, Unbinds, Disconnects, Closes, Terms}
-use Rattle.spec_run.specs.declared.line.RunLine.{RunLine}
-use Rattle.spec_run.specs.LineCall.{RunScript, line_tries, is_tried_again}
+use Rattle.spec_run.specs.declared.script.Call.{Call}
+use Rattle.spec_run.specs.declared.script.Line.{Line}
+use Rattle.spec_run.specs.Script.{Script, line_tries, is_tried_again}
 use Rattle.spec_run.specs.Act.{Act, Try, Deed, Tries, Shuts, Fetches, Idles, Works, Looks, AsksRoot, Reads}
 use Rattle.spec_run.specs.OpenSocket.{OpenSock, new_open}
 use Rattle.spec_run.specs.Standing.{Sockets, ActorStanding, standing_before, open_at, with_open, made_so, CallsOpen, ClosesLine, OnFound, DoesLine, DoesTry, ShutsFirst, standing_after, has_finished}
@@ -66,35 +65,35 @@ module _ {N S : Type 0} where
   made_few Before m kind options old = omega arith
   made_few (Refused refusal) m kind options old = omega arith
 
-  pub line_few : (line : LineCall) (old new : Sockets) (t : Try N S) → DoesLine line old t new → length new.socks ≤ length old.socks + line_sockets line
-  line_few (Asks (call.Socket kind options)) old new t f =
+  pub line_few : (line : Call) (old new : Sockets) (t : Try N S) → DoesLine line old t new → length new.socks ≤ length old.socks + line_sockets line
+  line_few (call.Socket kind options) old new t f =
       let same = ap (λ (x : Sockets). length x.socks) f.new_is in
       let few = made_few f.reply f.made kind options old in
       omega (arith, same, few)
-  line_few (Asks (call.Bind place at)) old new t f = called_few _ place old new t f
-  line_few (Asks (call.Connect place to)) old new t f = called_few _ place old new t f
-  line_few (Asks (call.Send place m)) old new t f = called_few _ place old new t f
-  line_few (Asks (call.Recv place tries)) old new t f = called_few _ place old new t f
-  line_few (Asks (call.Subscribe place topic)) old new t f = called_few _ place old new t f
-  line_few (Asks (call.Unsubscribe place topic)) old new t f = called_few _ place old new t f
-  line_few (Unbinds place at) old new t f = called_few _ place old new t f
-  line_few (Disconnects place at) old new t f = called_few _ place old new t f
-  line_few (Closes place) old new t f = closed_few place old new t f
-  line_few Terms old new t f = as_many_as old new f.new_is
+  line_few (call.Bind place at) old new t f = called_few _ place old new t f
+  line_few (call.Connect place to) old new t f = called_few _ place old new t f
+  line_few (call.Send place m) old new t f = called_few _ place old new t f
+  line_few (call.Recv place tries) old new t f = called_few _ place old new t f
+  line_few (call.Subscribe place topic) old new t f = called_few _ place old new t f
+  line_few (call.Unsubscribe place topic) old new t f = called_few _ place old new t f
+  line_few (call.Unbind place at) old new t f = called_few _ place old new t f
+  line_few (call.Disconnect place at) old new t f = called_few _ place old new t f
+  line_few (call.Close place) old new t f = closed_few place old new t f
+  line_few call.Term old new t f = as_many_as old new f.new_is
 
 -- ---- what an actor has still to do
 -- the first line was tried less often than it may be
-abbrev pub TriedFew : List RunLine → ℕ → Type 0
+abbrev pub TriedFew : List Line → ℕ → Type 0
 TriedFew [] tried = tried ≡ 0
 TriedFew (line ∷ lines) tried = tried ≤ line_tries line.call - 1
 
-abbrev lines_left : List RunLine → ℕ
+abbrev lines_left : List Line → ℕ
 lines_left [] = 0
 lines_left (line ∷ lines) = line_steps line.call + lines_left lines
 
-all_lines : (lines : List RunLine) → lines_left lines ≡ sum_by (λ (line : RunLine). line_steps line.call) lines
+all_lines : (lines : List Line) → lines_left lines ≡ sum_by (λ (line : Line). line_steps line.call) lines
 all_lines [] = refl
-all_lines (line ∷ lines) = ap (λ n. line_steps line.call + n) (all_lines lines) ∙ sym (sum_by-cons (λ (l : RunLine). line_steps l.call) line lines)
+all_lines (line ∷ lines) = ap (λ n. line_steps line.call + n) (all_lines lines) ∙ sym (sum_by-cons (λ (l : Line). line_steps l.call) line lines)
 
 abbrev work_left : ActorStanding → ℕ
 work_left st = (lines_left st.lines - st.tried) + length st.mine.socks
@@ -103,23 +102,23 @@ pub record Few (k : ℕ) (st : ActorStanding) : Type 0 where
   tried : TriedFew st.lines st.tried
   left : work_left st ≤ k
 
-pub untried : (lines : List RunLine) → TriedFew lines 0
+pub untried : (lines : List Line) → TriedFew lines 0
 untried [] = refl
 untried (line ∷ lines) = omega arith
 
 -- a line that may make a socket is tried once
-once_socket : (line : LineCall) → (line_sockets line ≡ 0) ⊎ (line_tries line ≡ 1)
-once_socket (Asks (call.Socket kind options)) = inr refl
-once_socket (Asks (call.Bind place at)) = inl refl
-once_socket (Asks (call.Connect place to)) = inl refl
-once_socket (Asks (call.Send place m)) = inl refl
-once_socket (Asks (call.Recv place tries)) = inl refl
-once_socket (Asks (call.Subscribe place topic)) = inl refl
-once_socket (Asks (call.Unsubscribe place topic)) = inl refl
-once_socket (Unbinds place at) = inl refl
-once_socket (Disconnects place at) = inl refl
-once_socket (Closes place) = inl refl
-once_socket Terms = inl refl
+once_socket : (line : Call) → (line_sockets line ≡ 0) ⊎ (line_tries line ≡ 1)
+once_socket (call.Socket kind options) = inr refl
+once_socket (call.Bind place at) = inl refl
+once_socket (call.Connect place to) = inl refl
+once_socket (call.Send place m) = inl refl
+once_socket (call.Recv place tries) = inl refl
+once_socket (call.Subscribe place topic) = inl refl
+once_socket (call.Unsubscribe place topic) = inl refl
+once_socket (call.Unbind place at) = inl refl
+once_socket (call.Disconnect place at) = inl refl
+once_socket (call.Close place) = inl refl
+once_socket call.Term = inl refl
 
 pub not_over : (a b : Bool) → (not a || b) ≡ false → b ≡ false
 not_over true b e = e
@@ -128,7 +127,7 @@ not_over false b e = absurd (never (sym e))
 finished_few : (k : ℕ) (old : ActorStanding) → has_finished old ≡ true → TriedFew old.lines old.tried → work_left old ≤ k
 finished_few k old done tried = by old.lines old.mine.socks tried done
   where
-    by : (lines : List RunLine) (socks : List OpenSock) → TriedFew lines old.tried → (is_none lines && is_none socks) ≡ true → (lines_left lines - old.tried) + length socks ≤ k
+    by : (lines : List Line) (socks : List OpenSock) → TriedFew lines old.tried → (is_none lines && is_none socks) ≡ true → (lines_left lines - old.tried) + length socks ≤ k
     by [] [] few d = omega arith
     by [] (s ∷ socks) few d = absurd (never d)
     by (l ∷ lines) socks few d = absurd (never d)
@@ -136,7 +135,7 @@ finished_few k old done tried = by old.lines old.mine.socks tried done
 none_finished : (st : ActorStanding) → TriedFew st.lines st.tried → work_left st ≤ 0 → has_finished st ≡ true
 none_finished st tried few = by st.lines st.mine.socks tried few
   where
-    by : (lines : List RunLine) (socks : List OpenSock) → TriedFew lines st.tried → (lines_left lines - st.tried) + length socks ≤ 0 → (is_none lines && is_none socks) ≡ true
+    by : (lines : List Line) (socks : List OpenSock) → TriedFew lines st.tried → (lines_left lines - st.tried) + length socks ≤ 0 → (is_none lines && is_none socks) ≡ true
     by [] [] f le = refl
     by [] (s ∷ socks) f le = absurd (omega (arith, le))
     by (l ∷ lines) socks f le = absurd (omega (arith, le, f))
@@ -215,7 +214,7 @@ all_finished (st ∷ standings) few = both (none_finished st few.0.tried few.0.l
     both : {a b : Bool} → a ≡ true → b ≡ true → (a && b) ≡ true
     both p q = grind arith
 
-pub begun_few : (n : ℕ) (script : RunScript) → AllByRecursion (λ actor. actor_steps actor ≤ n) script → AllByRecursion (Few n) (map standing_before script)
+pub begun_few : (n : ℕ) (script : Script) → AllByRecursion (λ actor. actor_steps actor ≤ n) script → AllByRecursion (Few n) (map standing_before script)
 begun_few n [] few = tt
 begun_few n (actor ∷ script) few = (record { tried = untried actor.lines; left = (let le = few.0 in let all = all_lines actor.lines in omega (arith, le, all)) }, begun_few n script few.1)
 

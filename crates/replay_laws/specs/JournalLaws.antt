@@ -10,18 +10,18 @@ use Rattle.spec_control.specs.Control.{begun, end_of, place_of}
 use Rattle.spec_control.specs.ControlRun.{IsControlRun, after_all}
 use Rattle.spec_run.specs.Run.{Schedule}
 use Rattle.spec_run.specs.declared.journal.SettledRow.{SettledRow}
-use Rattle.spec_run.specs.declared.journal.RunJournal.{RunJournal}
-use Rattle.spec_run.specs.LineCall.{RunScript}
+use Rattle.spec_run.specs.declared.journal.Journal.{Journal}
+use Rattle.spec_run.specs.Script.{Script}
 use Rattle.spec_run.specs.OwnedRun.{OwnedRun, all_steps, control_at_end}
 use Rattle.spec_run.specs.Fate.{HaveOneFate}
-use Rattle.spec_run.specs.RunJournal.{IsRunJournal, WasSettled}
+use Rattle.spec_run.specs.Journal.{IsRunJournal, WasSettled}
 use Rattle.spec_run.specs.CoreEvents.{CoreEvent, IsEventsJournal}
 use Rattle.replay_laws.specs.Local.{is_local_item}
 use Rattle.replay_laws.specs.LocalScript.{is_local_script}
 use Rattle.replay_laws.specs.ObjectsListed.{ListsObjects, ListsAllEnded, ListsTheLiving}
 use Rattle.replay_laws.specs.RowsListed.{IsWholeRow, KeepsOrder, ListsRows, ListsEachPipe}
 
-module _ {N S : Type 0} (run : OwnedRun N S) (j : RunJournal) where
+module _ {N S : Type 0} (run : OwnedRun N S) (j : Journal) where
   -- the objects that have ended are listed, each once, and behind what it owns; those that live are listed where the run is not done
   pub record SaysOfObjects : Type 0 where
     pub listed : ListsObjects (control_at_end 1 run) j
@@ -36,30 +36,30 @@ module _ {N S : Type 0} (run : OwnedRun N S) (j : RunJournal) where
     pub taken : (p : PipeId) → IsPrefix (taken_from p (all_steps run)) (committed_to p (all_steps run))
 
   -- where a run is done, nothing is left: each object has ended, and each pipe of each pair that was made is settled; without tcp each pair was made
-  pub record SaysOfTheDone (script : RunScript) : Type 0 where
+  pub record SaysOfTheDone (script : Script) : Type 0 where
     pub objects : ListsAllEnded j
     pub pipes : ListsEachPipe (control_at_end 1 run) j
     pub all : is_local_script script ≡ true → list_all is_some j.pipes ≡ true
 
 abbrev pub JournalsListObjects : (N S : Type 0) → Type 0
-JournalsListObjects N S = (script : RunScript) (schedule : Schedule) (j : RunJournal) → (is : IsRunJournal N S script schedule j) → SaysOfObjects is.run j
+JournalsListObjects N S = (script : Script) (schedule : Schedule) (j : Journal) → (is : IsRunJournal N S script schedule j) → SaysOfObjects is.run j
 
 abbrev pub JournalsCountMessages : (N S : Type 0) → Type 0
-JournalsCountMessages N S = (script : RunScript) (schedule : Schedule) (j : RunJournal) → (is : IsRunJournal N S script schedule j) → SaysOfPipes is.run j
+JournalsCountMessages N S = (script : Script) (schedule : Schedule) (j : Journal) → (is : IsRunJournal N S script schedule j) → SaysOfPipes is.run j
 
 abbrev pub DoneJournalsAreWhole : (N S : Type 0) → Type 0
-DoneJournalsAreWhole N S = (script : RunScript) (schedule : Schedule) (j : RunJournal) → (is : IsRunJournal N S script schedule j) → j.done ≡ true →
+DoneJournalsAreWhole N S = (script : Script) (schedule : Schedule) (j : Journal) → (is : IsRunJournal N S script schedule j) → j.done ≡ true →
     SaysOfTheDone is.run j script
 
 -- and by a list of events, in whatever order letters are taken: each message of a settled pipe has one fate, too
-pub record SaysOfEvents (N S : Type 0) (script : RunScript) (events : List CoreEvent) (j : RunJournal) (is : IsEventsJournal N S script events j) : Type 0 where
+pub record SaysOfEvents (N S : Type 0) (script : Script) (events : List CoreEvent) (j : Journal) (is : IsEventsJournal N S script events j) : Type 0 where
   pub objects : SaysOfObjects is.run j
   pub pipes : SaysOfPipes is.run j
   pub fates : (p : PipeId) → WasSettled (control_at_end 1 is.run) p → HaveOneFate (control_at_end 1 is.run) is.run p
   pub done : j.done ≡ true → SaysOfTheDone is.run j script
 
 abbrev pub JournalsByEventsSayAsMuch : (N S : Type 0) → Type 0
-JournalsByEventsSayAsMuch N S = (script : RunScript) (events : List CoreEvent) (j : RunJournal) → (is : IsEventsJournal N S script events j) → SaysOfEvents N S script events j is
+JournalsByEventsSayAsMuch N S = (script : Script) (events : List CoreEvent) (j : Journal) → (is : IsEventsJournal N S script events j) → SaysOfEvents N S script events j is
 
 -- over inproc alone each pair is made as its number is drawn
 abbrev pub LocalPairsAreMade : (N S : Type 0) → Type 0

@@ -1,12 +1,10 @@
 -- A script without tcp (own choice): its sockets bind and connect over inproc alone.
 use Rattle.std.specs.Prelude.{◌≡◌, ℕ, Bool, true, List}
 use Rattle.std.specs.List.{list_all}
-use Rattle.zq_script.specs.declared.script.Call.{Call}
-use Rattle.zq_script.specs.declared.script.Call.TheVariants as call
-use Rattle.spec_run.specs.declared.line.LineCall.{LineCall}
-use Rattle.spec_run.specs.declared.line.LineCall.TheVariants.{Asks, Unbinds, Disconnects, Closes, Terms}
-use Rattle.spec_run.specs.declared.line.RunLine.{RunLine}
-use Rattle.spec_run.specs.LineCall.{RunScript}
+use Rattle.spec_run.specs.declared.script.Call.{Call}
+use Rattle.spec_run.specs.declared.script.Call.TheVariants as call
+use Rattle.spec_run.specs.declared.script.Line.{Line}
+use Rattle.spec_run.specs.Script.{Script}
 use Rattle.spec_run.specs.OwnedRun.{OwnedRun}
 use Rattle.spec_run.specs.InTurns.{Turned, IsInTurns, IsOneThread}
 use Rattle.replay_laws.specs.Local.{is_inproc, is_local_item}
@@ -21,20 +19,20 @@ is_local_call (call.Recv place tries) = true
 is_local_call (call.Subscribe place topic) = true
 is_local_call (call.Unsubscribe place topic) = true
 
-abbrev pub is_local_line : LineCall → Bool
-is_local_line (Asks call) = is_local_call call
-is_local_line (Unbinds place at) = true
-is_local_line (Disconnects place at) = true
-is_local_line (Closes place) = true
-is_local_line Terms = true
+abbrev pub is_local_line : Call → Bool
+is_local_line call = is_local_call call
+is_local_line (call.Unbind place at) = true
+is_local_line (call.Disconnect place at) = true
+is_local_line (call.Close place) = true
+is_local_line call.Term = true
 
-abbrev pub are_local_lines : List RunLine → Bool
+abbrev pub are_local_lines : List Line → Bool
 are_local_lines lines = list_all (λ line. is_local_line line.call) lines
 
-abbrev pub is_local_script : RunScript → Bool
+abbrev pub is_local_script : Script → Bool
 is_local_script script = list_all (λ actor. are_local_lines actor.lines) script
 
 -- in a run on one thread, whatever the seed and the turns, such a script asks nothing over tcp
 abbrev pub LocalScriptsRunLocally : (N S : Type 0) → Type 0
-LocalScriptsRunLocally N S = (script : RunScript) (io limit seed : ℕ) (t : Turned N S) (run : OwnedRun N S) →
+LocalScriptsRunLocally N S = (script : Script) (io limit seed : ℕ) (t : Turned N S) (run : OwnedRun N S) →
     IsInTurns script io limit t run → IsOneThread seed script io t run → is_local_script script ≡ true → list_all is_local_item run.order ≡ true

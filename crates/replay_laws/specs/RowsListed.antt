@@ -7,7 +7,7 @@ use Rattle.spec_control.specs.declared.end.Reason.{Reason}
 use Rattle.spec_control.specs.Place.{is_unmade}
 use Rattle.spec_control.specs.Control.{Control, end_of, next_pair, place_of}
 use Rattle.spec_run.specs.declared.journal.SettledRow.{SettledRow}
-use Rattle.spec_run.specs.declared.journal.RunJournal.{RunJournal}
+use Rattle.spec_run.specs.declared.journal.Journal.{Journal}
 use Rattle.spec_run.specs.JournalText.{rest_text, why_optional_text}
 use Rattle.spec_run.specs.OwnedRun.{OwnedRun, all_steps}
 
@@ -37,11 +37,11 @@ abbrev pub row_place : ℕ → (a : Bool) → ℕ
 row_place k a = 2 * (k - 1) + cond a 0 1
 
 -- the rows of a journal where the control plane is c at the end: a place for each pipe of each pair whose number was drawn
-pub record ListsRows (c : Control) (j : RunJournal) : Type 0 where
+pub record ListsRows (c : Control) (j : Journal) : Type 0 where
   pub count : length j.pipes ≡ 2 * (next_pair c - 1)
   pub each : (k : ℕ) (a : Bool) (row : SettledRow) → 0 < k → k < next_pair c → slice_get j.pipes (row_place k a) ≡ Some (Some row) → row.counts.pipe ≡ end_of k a
 
 -- each pipe of each pair that was made has its row, so was settled
-abbrev pub ListsEachPipe : Control → RunJournal → Type 0
+abbrev pub ListsEachPipe : Control → Journal → Type 0
 ListsEachPipe c j = (k : ℕ) (a : Bool) → 0 < k → k < next_pair c → is_unmade (place_of c (other_end (end_of k a))) ≡ false →
     (row : SettledRow) × (slice_get j.pipes (row_place k a) ≡ Some (Some row))

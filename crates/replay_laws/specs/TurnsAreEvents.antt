@@ -1,12 +1,12 @@
 -- The events that a run in turns chooses (own choice): the clock's first reading; of each turn the asking of the root, if it is asked, an event of each worker in the order drawn, and the reading at its end. A look at the root, and one that finds the reaper's mailboxes empty, is no event.
 use Rattle.std.specs.Prelude.{ℕ, List, [], ◌∷◌, ◌++◌, flat_map, if◌then◌else◌, length, nat_lt}
 use Rattle.spec_run.specs.Run.{Schedule}
-use Rattle.spec_run.specs.declared.journal.RunJournal.{RunJournal}
-use Rattle.spec_run.specs.LineCall.{RunScript}
+use Rattle.spec_run.specs.declared.journal.Journal.{Journal}
+use Rattle.spec_run.specs.Script.{Script}
 use Rattle.spec_run.specs.Act.{Deed, Tries, Shuts, Fetches, Idles, Works, Looks, AsksRoot, Reads}
 use Rattle.spec_run.specs.InTurns.{OneTurn, Turned, turn_step}
 use Rattle.spec_run.specs.CoreEvents.{CoreEvent, NextLine, TakeFrom, AskRoot, Tick, IsEventsJournal}
-use Rattle.spec_run.specs.RunJournal.{IsRunJournal}
+use Rattle.spec_run.specs.Journal.{IsRunJournal}
 
 module _ {N S : Type 0} where
   -- the root is asked among these deeds of the conductor
@@ -50,5 +50,5 @@ module _ {N S : Type 0} where
 
 -- a journal of a run in turns is that of a run by the events that its turns choose
 abbrev pub TurnsAreEvents : (N S : Type 0) → Type 0
-TurnsAreEvents N S = (script : RunScript) (schedule : Schedule) (j : RunJournal) → (is : IsRunJournal N S script schedule j) →
+TurnsAreEvents N S = (script : Script) (schedule : Schedule) (j : Journal) → (is : IsRunJournal N S script schedule j) →
     IsEventsJournal N S script (events_chosen (length script) is.one_thread.orders is.turned) j

@@ -26,7 +26,7 @@ use Rattle.control_laws.proofs.RootLemmas.{runs_are_kept}
 use Rattle.control_laws.proofs.OrderlyLemmas.{commands_come_once}
 use Rattle.spec_run.specs.declared.journal.ObjectRow.{ObjectRow}
 use Rattle.spec_run.specs.InTurns.{is_ended}
-use Rattle.spec_run.specs.RunJournal.{object_shown}
+use Rattle.spec_run.specs.Journal.{object_shown}
 use Rattle.run_laws.specs.DoneRuns.{NothingIsLeft}
 use Rattle.run_laws.proofs.OverLemmas.{row_in, Wrote, here, as_before, wrote, same_owner, set_length, there_row}
 

@@ -12,8 +12,8 @@ use Rattle.spec_control.specs.declared.entry.Item.{Item}
 use Rattle.spec_control.specs.Control.{Control, begun}
 use Rattle.spec_control.specs.ControlRun.{after_item, after_all}
 use Rattle.spec_control.specs.Moments.{Moment, moments_from, reaper_slots}
-use Rattle.spec_run.specs.declared.line.RunActor.{RunActor}
-use Rattle.spec_run.specs.LineCall.{RunScript}
+use Rattle.spec_run.specs.declared.script.ActorScript.{ActorScript}
+use Rattle.spec_run.specs.Script.{Script}
 use Rattle.spec_run.specs.Act.{Act, Deed, Tries, Shuts, Fetches, Idles, Works, Looks, AsksRoot, Reads, acts_of, all_acts, moment_of, moments_in}
 use Rattle.spec_run.specs.Event.{TakesLetter}
 use Rattle.spec_run.specs.Standing.{ActorStanding, standing_before, has_finished, DoesDeed, LocalRun}
@@ -294,7 +294,7 @@ module _ {N S : Type 0} where
 
   -- ---- all of them
 
-  pub go_local : (script : RunScript) (io : ℕ) (order : List (Item N S)) (events : List CoreEvent) (made : List (Made N S)) (new : List ActorStanding) → EventsGo io (begun io) events (map standing_before script) made new
+  pub go_local : (script : Script) (io : ℕ) (order : List (Item N S)) (events : List CoreEvent) (made : List (Made N S)) (new : List ActorStanding) → EventsGo io (begun io) events (map standing_before script) made new
       → made_moments made ≡ moments_from (begun io) order
       → AllWork (roles script io) (map (steps_by made) (range_with_len 0 (worker_count script io)) ++ steps_by made (worker_count script io) ∷ [])
   go_local script io order events made new go e =
@@ -313,10 +313,10 @@ module _ {N S : Type 0} where
       plain : (i : ℕ) → 0 + i ≡ i
       plain i = omega arith
 
-      acted : (n : ℕ) (actor : RunActor) → ActorAt n (standing_before actor) (deeds_by n made) new → (end : ActorStanding) × LocalRun (standing_before actor) (deeds_in (steps_by made n)) end
+      acted : (n : ℕ) (actor : ActorScript) → ActorAt n (standing_before actor) (deeds_by n made) new → (end : ActorStanding) × LocalRun (standing_before actor) (deeds_in (steps_by made n)) end
       acted n actor at = (at.next, subst (λ (l : List (Deed N S)). LocalRun (standing_before actor) l at.next) (sym (steps_are n made)) at.runs)
 
-  pub events_local : (script : RunScript) (io : ℕ) (events : List CoreEvent) (run : OwnedRun N S) → IsOfEvents script io events run → AllWork (roles script io) run.workers
+  pub events_local : (script : Script) (io : ℕ) (events : List CoreEvent) (run : OwnedRun N S) → IsOfEvents script io events run → AllWork (roles script io) run.workers
   events_local script io events run is =
       subst (AllWork (roles script io)) (sym (is.workers_are ∙ map-range_with_len_more (steps_by is.made) 0 (worker_count script io) (worker_count script io) (omega arith)))
       (go_local script io run.order events is.made is.standings is.go is.one_order)

@@ -5,8 +5,8 @@ use Rattle.std.proofs.Common.{arith, sym, ap, ◌∙◌, subst}
 use Rattle.std.proofs.lemmas.Bool.{eq-eqb}
 use Rattle.spec_control.specs.OwnAsks.{is_none}
 use Rattle.spec_control.specs.Moments.{Moment, reaper_slots}
-use Rattle.spec_run.specs.declared.line.RunActor.{RunActor}
-use Rattle.spec_run.specs.LineCall.{RunScript}
+use Rattle.spec_run.specs.declared.script.ActorScript.{ActorScript}
+use Rattle.spec_run.specs.Script.{Script}
 use Rattle.spec_run.specs.Act.{Deed, Tries, Shuts, Fetches, Idles, Works, Looks, AsksRoot, Reads}
 use Rattle.spec_run.specs.Standing.{ActorStanding, standing_before, LocalRun}
 use Rattle.spec_run.specs.Worker.{Role, ActsBy, Reaps, Serves, Conducts, roles, ReapsSo, ConductsSo, EachDoes, IsWorkOf}
@@ -33,12 +33,12 @@ found_has p (x ∷ xs) k e = by (p x) refl (λ h. found_has p xs k h)
         ap (λ (b : Bool). b || list_any (λ y. y == k) xs) (eq-eqb x k same)
     by false h rest = or_true (x == k) _ (rest (subst (λ (b : Bool). cond b (Some x) (find p xs) ≡ Some k) h e))
 
-pub before_at : (script : RunScript) (i : ℕ) (actor : RunActor) → slice_get script i ≡ Some actor → slice_get (map standing_before script) i ≡ Some (standing_before actor)
+pub before_at : (script : Script) (i : ℕ) (actor : ActorScript) → slice_get script i ≡ Some actor → slice_get (map standing_before script) i ≡ Some (standing_before actor)
 before_at [] i actor e = absurd (none_some e)
-before_at (a ∷ others) zero actor e = ap (λ (x : RunActor). Some (standing_before x)) (some_is e)
+before_at (a ∷ others) zero actor e = ap (λ (x : ActorScript). Some (standing_before x)) (some_is e)
 before_at (a ∷ others) (suc i) actor e = before_at others i actor e
 
-pub map_length : (script : RunScript) → length (map standing_before script) ≡ length script
+pub map_length : (script : Script) → length (map standing_before script) ≡ length script
 map_length [] = refl
 map_length (a ∷ others) = ap suc (map_length others)
 
@@ -203,8 +203,8 @@ module _ {N S : Type 0} where
     serves_all zero k none so = (so, tt)
     serves_all (suc n) k none so = (none 0 k (omega arith) (omega arith), serves_all n (k + 1) (λ i m e lt. none (i + 1) m (omega (arith, e)) (omega (arith, lt))) so)
 
-    pub acts_all : (script : RunScript) (rest : List Role) (m k count : ℕ) → count ≡ length script + m
-        → ((i n : ℕ) (actor : RunActor) → n ≡ k + i → slice_get script i ≡ Some actor → IsWorkOf (ActsBy actor) (deeds_in (col n)))
+    pub acts_all : (script : Script) (rest : List Role) (m k count : ℕ) → count ≡ length script + m
+        → ((i n : ℕ) (actor : ActorScript) → n ≡ k + i → slice_get script i ≡ Some actor → IsWorkOf (ActsBy actor) (deeds_in (col n)))
         → ((j : ℕ) → j ≡ k + length script → AllWork rest (map col (range_with_len j m) ++ conductor ∷ []))
         → AllWork (map (λ actor. ActsBy actor) script ++ rest) (map col (range_with_len k count) ++ conductor ∷ [])
     acts_all [] rest m k count e does last =
@@ -217,7 +217,7 @@ module _ {N S : Type 0} where
     acts_all (a ∷ others) rest m k (suc count) e does last =
         (does 0 k a (omega arith) refl, acts_all others rest m (k + 1) count (omega (arith, e)) (λ i n actor f h. does (suc i) n actor (omega (arith, f)) h) (λ j f. last j (omega (arith, f))))
 
-  pub turns_local : (script : RunScript) (io limit : ℕ) (t : Turned N S) (run : OwnedRun N S) → IsInTurns script io limit t run → AllWork (roles script io) run.workers
+  pub turns_local : (script : Script) (io limit : ℕ) (t : Turned N S) (run : OwnedRun N S) → IsInTurns script io limit t run → AllWork (roles script io) run.workers
   turns_local script io limit t run is =
       let lengths = map_length script in
       let olds = map standing_before script in

@@ -10,7 +10,7 @@ use Rattle.spec_control.specs.declared.request.Req.TheVariants.{Socket, AskTerm,
 use Rattle.spec_control.specs.Stage.{has_ended}
 use Rattle.spec_control.specs.Rows.{obj}
 use Rattle.spec_control.specs.Control.{Control, next_object}
-use Rattle.spec_run.specs.LineCall.{RunScript}
+use Rattle.spec_run.specs.Script.{Script}
 use Rattle.spec_run.specs.OwnedRun.{OwnedRun, IsRun, control_at_end}
 
 -- the object that a request may end: whose output is over, and else the root
@@ -51,5 +51,5 @@ pub record EndInOrder (c : Control) : Type 0 where
 
 -- in each run of a script
 abbrev pub ObjectsEndInOrder : (N S : Type 0) → Type 0
-ObjectsEndInOrder N S = (script : RunScript) (io : ℕ) (counts : PipeId → Bool) (run : OwnedRun N S) → IsRun script io counts run →
+ObjectsEndInOrder N S = (script : Script) (io : ℕ) (counts : PipeId → Bool) (run : OwnedRun N S) → IsRun script io counts run →
     EndInOrder (control_at_end io run)

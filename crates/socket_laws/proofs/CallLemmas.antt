@@ -5,7 +5,7 @@ use Rattle.std.proofs.lemmas.List.Elements.{filter_map-append}
 use Rattle.std.proofs.lemmas.List.Sums.{sum_by-append, sum_by-cons}
 use Rattle.zq_base.specs.declared.ids.EndId.{EndId}
 use Rattle.zq_base.specs.Ends.{PipeId}
-use Rattle.zq_script.specs.declared.script.Call.TheVariants as call
+use Rattle.spec_run.specs.declared.script.Call.TheVariants as call
 use Rattle.spec_pattern.specs.PipeStep.{PipeStep, Seal, same_pipe, taken_from}
 use Rattle.spec_pattern.specs.Pattern.{Pattern, attach_as, detach}
 use Rattle.spec_pattern.specs.declared.answers.Skip.{Skip}
@@ -19,9 +19,8 @@ use Rattle.spec_control.specs.declared.letter.Word.TheVariants.{Own, Plug, TermR
 use Rattle.spec_control.specs.Control.{Control, place_of}
 use Rattle.spec_control.specs.Moments.{Moment, left_by}
 use Rattle.spec_run.specs.Line.{got_answer}
-use Rattle.spec_run.specs.declared.journal.LineAnswer.{LineAnswer}
-use Rattle.spec_run.specs.declared.journal.LineAnswer.TheVariants.{Plain}
-use Rattle.spec_run.specs.declared.line.LineCall.TheVariants.{Asks}
+use Rattle.spec_run.specs.declared.answer.Answer.{Answer}
+use Rattle.spec_run.specs.declared.answer.Answer.TheVariants as answer
 use Rattle.spec_run.specs.Act.{Act, Step, Try, steps_in, moments_in, pipe_step_of}
 use Rattle.spec_run.specs.Event.{seals_in, acts_said, LooksFront, finds_none, finds_one, finds_end, LooksFronts, LooksWhere, LooksBehind, TakesLetters}
 use Rattle.spec_run.specs.Fate.{is_publisher_kind}
@@ -188,7 +187,7 @@ module _ {N S : Type 0} where
   -- ---- a receive
 
   received : (old : OpenSock) (t : Try N S) (new : OpenSock) (stopped : Bool) → is_publisher_kind (pattern_kind old.pattern) ≡ false
-      → UnlessStopped stopped (Plain (got_answer (got.Refused recv.Term))) ReceivesOpen old t new → (a : RecvAnswer) × (t.answer ≡ Plain (got_answer a)) × TakesSo (steps_in t.call) t.skips a
+      → UnlessStopped stopped (got_answer (got.Refused recv.Term)) ReceivesOpen old t new → (a : RecvAnswer) × (t.answer ≡ got_answer a) × TakesSo (steps_in t.call) t.skips a
   received old t new true plain is = (
     got.Refused recv.Term,
     is.answer_is,
@@ -200,12 +199,12 @@ module _ {N S : Type 0} where
     subst (λ (l : List PipeStep). TakesSo l t.skips is.got) (sym (ap steps_in is.call_is ∙ steps_back N S is.steps)) (pattern_takes old.pattern is.steps t.skips is.got is.pattern plain is.receives),
   )
 
-  receives : (caller place tries : ℕ) (old new : OpenSock) (answer : LineAnswer) (told told_now : List Skip) (before after : List (Piece N S))
-      → (calls : CallsOne caller (Asks (call.Recv place tries)) old new answer told told_now before after) → is_publisher_kind (pattern_kind old.pattern) ≡ false
-      → (a : RecvAnswer) × (answer ≡ Plain (got_answer a)) × CountsGiven a (steps_in (calls.pump ++ calls.acts)) before after
+  receives : (caller place tries : ℕ) (old new : OpenSock) (answer : Answer) (told told_now : List Skip) (before after : List (Piece N S))
+      → (calls : CallsOne caller (call.Recv place tries) old new answer told told_now before after) → is_publisher_kind (pattern_kind old.pattern) ≡ false
+      → (a : RecvAnswer) × (answer ≡ got_answer a) × CountsGiven a (steps_in (calls.pump ++ calls.acts)) before after
   receives caller place tries old new answer told told_now before after c plain =
       let pumped = pumped_none old c.pump c.pumped plain c.pumps in
-      let is = received c.pumped _ new c.pumped.stopped (ap is_publisher_kind pumped.1 ∙ plain) (c.does (record { number = 0; call = Asks (call.Recv place tries) }) [] false) in
+      let is = received c.pumped _ new c.pumped.stopped (ap is_publisher_kind pumped.1 ∙ plain) (c.does (record { number = 0; call = call.Recv place tries }) [] false) in
       (is.0, is.1, counts is.0 caller c.pump c.acts c.skips before after c.adds.added pumped.0 is.2)
 
 pub calls_are_counted : (N S : Type 0) → CallsAreCounted N S

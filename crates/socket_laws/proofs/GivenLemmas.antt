@@ -13,7 +13,7 @@ use Rattle.spec_run.specs.declared.journal.SettledRow.{SettledRow}
 use Rattle.spec_run.specs.Act.{steps_in, pipe_step_of}
 use Rattle.spec_run.specs.Fate.{Fate, IsLeft, fate_taken, fates_taken, fates_left, reason_left, is_heard_at, is_fate_given, is_fate_heard, is_fate_dropped, is_fate_written, is_fate_lost, is_fate_left, row_of_fates}
 use Rattle.spec_run.specs.OwnedRun.{settlement_of, IsCountedBy}
-use Rattle.spec_run.specs.RunJournal.{row_if}
+use Rattle.spec_run.specs.Journal.{row_if}
 use Rattle.zq_world.specs.Piece.{Piece, acts_in, pipe_steps}
 use Rattle.zq_world.specs.Shown.{row_in_pieces}
 use Rattle.socket_laws.specs.Given.{pipes_taken, row_counted, given_of_call, given_at, RowsAreCounted, GivenGoesOn}

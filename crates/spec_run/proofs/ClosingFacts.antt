@@ -3,7 +3,7 @@ use Rattle.std.specs.Prelude.{◌≡◌, ℕ, [], ◌∷◌, Some, refl}
 use Rattle.zq_base.specs.declared.kind.Kind.TheVariants.{Pull}
 use Rattle.spec_run.specs.TextParts.{options_with}
 use Rattle.spec_control.specs.Moments.{moments_from}
-use Rattle.spec_run.specs.declared.line.LineCall.TheVariants.{Closes}
+use Rattle.spec_run.specs.declared.script.Call.TheVariants as call
 use Rattle.spec_run.specs.OpenSocket.{new_open}
 use Rattle.spec_run.specs.Standing.{ActorStanding}
 use Rattle.std.proofs.Common.{inl, arith}
@@ -20,8 +20,8 @@ use Rattle.spec_run.specs.ExampleParts.{moment, line_nr}
 use Rattle.spec_run.specs.Worker.{roles}
 use Rattle.spec_run.specs.OwnedRun.{IsRun, every_pipe, AllWork, AreTold, pipe_capacity, control_at_end}
 use Rattle.spec_run.specs.InTurns.{IsInTurns, IsOneThread}
-use Rattle.spec_run.specs.RunJournal.{IsRunJournal}
-use Rattle.spec_run.specs.JournalText.{run_journal_text}
+use Rattle.spec_run.specs.Journal.{IsRunJournal}
+use Rattle.spec_run.specs.JournalText.{journal_text}
 use Rattle.spec_run.specs.ClosingExample.{closing_script, closing_order, closing_turned, closing_run, closing_schedule, closing_journal, closing_text}
 use Rattle.spec_run.proofs.CapacityLemmas.{few_commits, looks_at}
 use Rattle.spec_run.proofs.JournalLemmas.{all_fates}
@@ -43,7 +43,7 @@ closing_local : (stories : Stories) → AllWork (roles closing_script 1) (closin
 closing_local stories = ((_, (_, record { rest = _; mine = _; lines_are = refl; does = record { reply = Object (id 1); made = moment (closing_order stories) 1; request = record { by = 0; answered = _; item_is = refl }; no_pump = record { pump_is = refl; skips_are = refl }; call_is = refl; answer_is = refl; new_is = refl }; told_is = refl; over_is = refl; new_is = refl }, (_, record { rest = _; mine = _; lines_are = refl; does = record { no_pump = record { pump_is = refl; skips_are = refl }; closes = record { closed = moment (closing_order stories) 4; request = record { by = 0; answered = _; item_is = refl }; acts_are = refl; new_is = refl }; answer_is = refl }; told_is = refl; over_is = refl; new_is = refl }, refl))), ((record { sight = _; empty_is = refl; item_is = refl }, (record { takes = record { taken = moment (closing_order stories) 5; letter = _; looks = []; delivery = record { by = 1; answered = _; item_is = refl }; behind = refl; acts_are = refl }; has = refl }, (record { takes = record { taken = moment (closing_order stories) 8; letter = _; looks = []; delivery = record { by = 1; answered = _; item_is = refl }; behind = refl; acts_are = refl }; has = refl }, (record { takes = record { taken = moment (closing_order stories) 10; letter = _; looks = []; delivery = record { by = 1; answered = _; item_is = refl }; behind = refl; acts_are = refl }; has = refl }, tt)))), (refl, ((tt, (record { sight = _; empty_is = refl; item_is = refl }, (tt, (record { sight = _; empty_is = refl; item_is = refl }, (tt, (record { sight = _; empty_is = refl; item_is = refl }, (record { reply = Asked; asked = moment (closing_order stories) 7; request = record { by = 3; answered = _; item_is = refl }; acts_are = refl }, (tt, (record { sight = _; empty_is = refl; item_is = refl }, (tt, (record { sight = _; empty_is = refl; item_is = refl }, tt))))))))))), tt))))
 
 abbrev has_made : Stories → ActorStanding
-has_made stories = record { lines = line_nr 3 (Closes 0) ∷ []; tried = 0; told = []; mine = record { names = Some 1 ∷ []; socks = new_open (moment (closing_order stories) 1) 1 Pull (options_with 1000) ∷ [] } }
+has_made stories = record { lines = line_nr 3 (call.Close 0) ∷ []; tried = 0; told = []; mine = record { names = Some 1 ∷ []; socks = new_open (moment (closing_order stories) 1) 1 Pull (options_with 1000) ∷ [] } }
 
 abbrev has_closed : ActorStanding
 has_closed = record { lines = []; tried = 0; told = []; mine = record { names = Some 1 ∷ []; socks = [] } }
@@ -94,6 +94,6 @@ closing taken_prefix looks_hold stories = record {
   journal_is = refl;
 }
 
-pub closing_printed : run_journal_text closing_journal ≡ closing_text
+pub closing_printed : journal_text closing_journal ≡ closing_text
 unfolding digits
 closing_printed = refl

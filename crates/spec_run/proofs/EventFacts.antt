@@ -9,12 +9,10 @@ use Rattle.spec_control.specs.Names.{AreNamed}
 use Rattle.spec_control.specs.ControlExamples.{Stories}
 use Rattle.spec_control.specs.Has.{AreBy}
 use Rattle.spec_control.proofs.TrialLemmas.{none, acts, takes, of_root}
-use Rattle.zq_script.specs.declared.script.Call.TheVariants as call
-use Rattle.spec_run.specs.declared.texts.Answer.TheVariants as answer
+use Rattle.spec_run.specs.declared.script.Call.TheVariants as call
+use Rattle.spec_run.specs.declared.answer.Answer.TheVariants as answer
 use Rattle.spec_run.specs.TextParts.{options_with}
 use Rattle.spec_control.specs.Moments.{moments_from}
-use Rattle.spec_run.specs.declared.journal.LineAnswer.TheVariants.{Plain}
-use Rattle.spec_run.specs.declared.line.LineCall.TheVariants.{Asks, Closes}
 use Rattle.spec_run.specs.Act.{Said}
 use Rattle.spec_run.specs.Event.{TakesLetter}
 use Rattle.spec_run.specs.Worker.{roles, AsksTheRoot}
@@ -29,7 +27,7 @@ use Rattle.spec_run.proofs.CapacityLemmas.{looks_in}
 use Rattle.spec_run.proofs.PlainLemmas.{never}
 
 abbrev event_made : Stories → ActorStanding
-event_made stories = record { lines = line_nr 3 (Closes 0) ∷ []; tried = 0; told = []; mine = record { names = Some 1 ∷ []; socks = new_open (moment (events_order stories) 0) 1 Pull (options_with 1000) ∷ [] } }
+event_made stories = record { lines = line_nr 3 (call.Close 0) ∷ []; tried = 0; told = []; mine = record { names = Some 1 ∷ []; socks = new_open (moment (events_order stories) 0) 1 Pull (options_with 1000) ∷ [] } }
 
 abbrev event_closed : ActorStanding
 event_closed = record { lines = []; tried = 0; told = []; mine = record { names = Some 1 ∷ []; socks = [] } }
@@ -37,10 +35,10 @@ event_closed = record { lines = []; tried = 0; told = []; mine = record { names 
 events_control : (stories : Stories) → IsControlRun (begun 1) (events_order stories)
 events_control stories = (record { may = (tt, refl); answered = record { joined = refl; kinds = tt; opened = refl; settled = refl; output = refl } }, (record { may = (record { socket = refl; open_still = refl; lives = refl }, refl); answered = record { joined = refl; kinds = tt; opened = refl; settled = refl; output = refl } }, (record { may = record { behind = _; oldest = refl; held = refl }; answered = record { joined = refl; kinds = tt; opened = refl; settled = refl; output = λ h. absurd (never h) } }, (record { may = (tt, refl); answered = record { joined = refl; kinds = tt; opened = refl; settled = refl; output = refl } }, (record { may = record { behind = _; oldest = refl; held = refl }; answered = record { joined = refl; kinds = tt; opened = refl; settled = refl; output = λ h. absurd (never h) } }, (record { may = record { behind = _; oldest = refl; held = refl }; answered = record { joined = refl; kinds = tt; opened = refl; settled = refl; output = λ h. absurd (never h) } }, tt))))))
 
-makes : (stories : Stories) → DoesTry (standing_before (record { name = codes "a"; lines = line_nr 2 (Asks (call.Socket Pull (options_with 1000))) ∷ line_nr 3 (Closes 0) ∷ [] })) (over_at (line_nr 2 (Asks (call.Socket Pull (options_with 1000)))) [] (Said (moment (events_order stories) 0) ∷ []) (Plain (answer.Object (id 1)))) (event_made stories)
+makes : (stories : Stories) → DoesTry (standing_before (record { name = codes "a"; lines = line_nr 2 (call.Socket Pull (options_with 1000)) ∷ line_nr 3 (call.Close 0) ∷ [] })) (over_at (line_nr 2 (call.Socket Pull (options_with 1000))) [] (Said (moment (events_order stories) 0) ∷ []) (answer.Object (id 1))) (event_made stories)
 makes stories = record { rest = _; mine = _; lines_are = refl; does = record { reply = Object (id 1); made = moment (events_order stories) 0; request = record { by = 0; answered = _; item_is = refl }; no_pump = record { pump_is = refl; skips_are = refl }; call_is = refl; answer_is = refl; new_is = refl }; told_is = refl; over_is = refl; new_is = refl }
 
-closes : (stories : Stories) → DoesTry (event_made stories) (over_at (line_nr 3 (Closes 0)) [] (Said (moment (events_order stories) 1) ∷ []) (Plain answer.Done)) event_closed
+closes : (stories : Stories) → DoesTry (event_made stories) (over_at (line_nr 3 (call.Close 0)) [] (Said (moment (events_order stories) 1) ∷ []) answer.Done) event_closed
 closes stories = record { rest = _; mine = _; lines_are = refl; does = record { no_pump = record { pump_is = refl; skips_are = refl }; closes = record { closed = moment (events_order stories) 1; request = record { by = 0; answered = _; item_is = refl }; acts_are = refl; new_is = refl }; answer_is = refl }; told_is = refl; over_is = refl; new_is = refl }
 
 abbrev takes_reap : (stories : Stories) → TakesLetter 0 (Said (moment (events_order stories) 2) ∷ [])

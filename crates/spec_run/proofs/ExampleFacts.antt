@@ -2,7 +2,7 @@
 use Rattle.std.proofs.Common.{◌≡◌, ℕ, [], ◌∷◌, Option, Some, None, codes, inl, inr, refl, ap, arith}
 use Rattle.std.specs.Fmt.{digits}
 use Rattle.hex.specs.Hex.{encode_with}
-use Rattle.zq_script.specs.PartText.{parts_text}
+use Rattle.spec_run.specs.PartText.{parts_text}
 use Rattle.spec_run.specs.Turn.{IsOrder}
 use Rattle.spec_run.specs.TextParts.{end_a}
 use Rattle.spec_run.specs.Examples.{four_workers, parts_example, Texts, Orders, WorkedExamples}

@@ -4,7 +4,7 @@ use Rattle.zq_base.specs.Ends.{PipeId}
 use Rattle.spec_control.specs.Control.{Control, Settlement}
 use Rattle.spec_run.specs.OwnedRun.{OwnedRun, AllSettledSo, settlement_of}
 use Rattle.spec_run.specs.Fate.{HaveOneFate}
-use Rattle.spec_run.specs.RunJournal.{WasSettled}
+use Rattle.spec_run.specs.Journal.{WasSettled}
 use Rattle.spec_run.proofs.FateLemmas.{one_fate}
 use Rattle.spec_run.proofs.PlainLemmas.{never}
 

@@ -3,7 +3,7 @@ use Rattle.std.specs.Prelude.{◌≡◌, ℕ, true, List, [], ◌∷◌, Some, O
 use Rattle.std.proofs.Common.{inl, arith}
 use Rattle.std.specs.Fmt.{digits}
 use Rattle.zq_base.specs.declared.kind.Kind.TheVariants as kind
-use Rattle.zq_script.specs.declared.script.Call.TheVariants as call
+use Rattle.spec_run.specs.declared.script.Call.TheVariants as call
 use Rattle.spec_pattern.specs.PipeStep.{Commit}
 use Rattle.spec_pattern.specs.Pattern.{Push}
 use Rattle.spec_pattern.specs.declared.answers.SendAnswer.TheVariants as sent
@@ -17,10 +17,8 @@ use Rattle.spec_control.proofs.TrialLemmas.{none, acts, takes, of_root, told}
 use Rattle.spec_run.specs.TextParts.{options_with, pair_nr, at_q}
 use Rattle.spec_control.specs.Moments.{moments_from}
 use Rattle.spec_run.specs.ExampleParts.{moment, line_nr, over_at}
-use Rattle.spec_run.specs.declared.line.LineCall.TheVariants.{Asks, Closes}
-use Rattle.spec_run.specs.declared.line.RunLine.{RunLine}
-use Rattle.spec_run.specs.declared.texts.Answer.TheVariants as answer
-use Rattle.spec_run.specs.declared.journal.LineAnswer.TheVariants.{Plain}
+use Rattle.spec_run.specs.declared.script.Line.{Line}
+use Rattle.spec_run.specs.declared.answer.Answer.TheVariants as answer
 use Rattle.spec_run.specs.Act.{Step, Said}
 use Rattle.spec_run.specs.OpenSocket.{OpenSock, new_open, sock_after}
 use Rattle.spec_run.specs.Pump.{found_empty}
@@ -28,8 +26,8 @@ use Rattle.spec_run.specs.Standing.{ActorStanding, standing_before, DoesTry, Shu
 use Rattle.spec_run.specs.Worker.{roles}
 use Rattle.spec_run.specs.OwnedRun.{IsRun, every_pipe, AllWork, AreTold, AllSettledSo, control_at_end, pipe_capacity, all_steps}
 use Rattle.spec_run.specs.InTurns.{IsInTurns, IsOneThread}
-use Rattle.spec_run.specs.RunJournal.{IsRunJournal}
-use Rattle.spec_run.specs.JournalText.{run_journal_text}
+use Rattle.spec_run.specs.Journal.{IsRunJournal}
+use Rattle.spec_run.specs.JournalText.{journal_text}
 use Rattle.spec_run.specs.LeftExample.{left_script, left_order, left_turned, left_run, left_schedule, left_journal, left_text}
 use Rattle.spec_run.proofs.CapacityLemmas.{looks_in}
 use Rattle.spec_run.proofs.JournalLemmas.{all_fates}
@@ -67,26 +65,26 @@ pushed_once stories = sock_after (moment (left_order stories) 15) (joined_push s
 abbrev pushed : Stories → OpenSock
 pushed stories = sock_after (moment (left_order stories) 18) (pushed_once stories)
 
-abbrev standing : (lines : List RunLine) → List (Option ℕ) → List OpenSock → ActorStanding
+abbrev standing : (lines : List Line) → List (Option ℕ) → List OpenSock → ActorStanding
 standing lines names socks = record { lines = lines; tried = 0; told = []; mine = record { names = names; socks = socks } }
 
 abbrev stands_1 : Stories → ActorStanding
-stands_1 stories = standing (line_nr 3 (Asks (call.Socket kind.Push (options_with 1000))) ∷ line_nr 4 (Asks (call.Bind 0 at_q)) ∷ line_nr 5 (Asks (call.Connect 1 at_q)) ∷ line_nr 6 (Asks (call.Send 1 (codes "a" ∷ []))) ∷ line_nr 7 (Asks (call.Send 1 (codes "b" ∷ []))) ∷ line_nr 8 (Closes 0) ∷ []) (Some 1 ∷ []) (pull_made stories ∷ [])
+stands_1 stories = standing (line_nr 3 (call.Socket kind.Push (options_with 1000)) ∷ line_nr 4 (call.Bind 0 at_q) ∷ line_nr 5 (call.Connect 1 at_q) ∷ line_nr 6 (call.Send 1 (codes "a" ∷ [])) ∷ line_nr 7 (call.Send 1 (codes "b" ∷ [])) ∷ line_nr 8 (call.Close 0) ∷ []) (Some 1 ∷ []) (pull_made stories ∷ [])
 
 abbrev stands_2 : Stories → ActorStanding
-stands_2 stories = standing (line_nr 4 (Asks (call.Bind 0 at_q)) ∷ line_nr 5 (Asks (call.Connect 1 at_q)) ∷ line_nr 6 (Asks (call.Send 1 (codes "a" ∷ []))) ∷ line_nr 7 (Asks (call.Send 1 (codes "b" ∷ []))) ∷ line_nr 8 (Closes 0) ∷ []) (Some 1 ∷ Some 2 ∷ []) (pull_made stories ∷ push_made stories ∷ [])
+stands_2 stories = standing (line_nr 4 (call.Bind 0 at_q) ∷ line_nr 5 (call.Connect 1 at_q) ∷ line_nr 6 (call.Send 1 (codes "a" ∷ [])) ∷ line_nr 7 (call.Send 1 (codes "b" ∷ [])) ∷ line_nr 8 (call.Close 0) ∷ []) (Some 1 ∷ Some 2 ∷ []) (pull_made stories ∷ push_made stories ∷ [])
 
 abbrev stands_3 : Stories → ActorStanding
-stands_3 stories = standing (line_nr 5 (Asks (call.Connect 1 at_q)) ∷ line_nr 6 (Asks (call.Send 1 (codes "a" ∷ []))) ∷ line_nr 7 (Asks (call.Send 1 (codes "b" ∷ []))) ∷ line_nr 8 (Closes 0) ∷ []) (Some 1 ∷ Some 2 ∷ []) (bound stories ∷ push_made stories ∷ [])
+stands_3 stories = standing (line_nr 5 (call.Connect 1 at_q) ∷ line_nr 6 (call.Send 1 (codes "a" ∷ [])) ∷ line_nr 7 (call.Send 1 (codes "b" ∷ [])) ∷ line_nr 8 (call.Close 0) ∷ []) (Some 1 ∷ Some 2 ∷ []) (bound stories ∷ push_made stories ∷ [])
 
 abbrev stands_4 : Stories → ActorStanding
-stands_4 stories = standing (line_nr 6 (Asks (call.Send 1 (codes "a" ∷ []))) ∷ line_nr 7 (Asks (call.Send 1 (codes "b" ∷ []))) ∷ line_nr 8 (Closes 0) ∷ []) (Some 1 ∷ Some 2 ∷ []) (bound stories ∷ joined_push stories ∷ [])
+stands_4 stories = standing (line_nr 6 (call.Send 1 (codes "a" ∷ [])) ∷ line_nr 7 (call.Send 1 (codes "b" ∷ [])) ∷ line_nr 8 (call.Close 0) ∷ []) (Some 1 ∷ Some 2 ∷ []) (bound stories ∷ joined_push stories ∷ [])
 
 abbrev stands_5 : Stories → ActorStanding
-stands_5 stories = standing (line_nr 7 (Asks (call.Send 1 (codes "b" ∷ []))) ∷ line_nr 8 (Closes 0) ∷ []) (Some 1 ∷ Some 2 ∷ []) (bound stories ∷ pushed_once stories ∷ [])
+stands_5 stories = standing (line_nr 7 (call.Send 1 (codes "b" ∷ [])) ∷ line_nr 8 (call.Close 0) ∷ []) (Some 1 ∷ Some 2 ∷ []) (bound stories ∷ pushed_once stories ∷ [])
 
 abbrev stands_6 : Stories → ActorStanding
-stands_6 stories = standing (line_nr 8 (Closes 0) ∷ []) (Some 1 ∷ Some 2 ∷ []) (bound stories ∷ pushed stories ∷ [])
+stands_6 stories = standing (line_nr 8 (call.Close 0) ∷ []) (Some 1 ∷ Some 2 ∷ []) (bound stories ∷ pushed stories ∷ [])
 
 abbrev stands_7 : Stories → ActorStanding
 stands_7 stories = standing ([]) (Some 1 ∷ Some 2 ∷ []) (pushed stories ∷ [])
@@ -96,25 +94,25 @@ stands_8 stories = standing ([]) (Some 1 ∷ Some 2 ∷ []) ([])
 
 -- ---- the steps
 
-step_1 : (stories : Stories) → DoesTry (standing_before (record { name = codes "a"; lines = line_nr 2 (Asks (call.Socket kind.Pull (options_with 1000))) ∷ line_nr 3 (Asks (call.Socket kind.Push (options_with 1000))) ∷ line_nr 4 (Asks (call.Bind 0 at_q)) ∷ line_nr 5 (Asks (call.Connect 1 at_q)) ∷ line_nr 6 (Asks (call.Send 1 (codes "a" ∷ []))) ∷ line_nr 7 (Asks (call.Send 1 (codes "b" ∷ []))) ∷ line_nr 8 (Closes 0) ∷ [] })) (over_at (line_nr 2 (Asks (call.Socket kind.Pull (options_with 1000)))) ([]) (Said (moment (left_order stories) 1) ∷ []) (Plain (answer.Object (id 1)))) (stands_1 stories)
+step_1 : (stories : Stories) → DoesTry (standing_before (record { name = codes "a"; lines = line_nr 2 (call.Socket kind.Pull (options_with 1000)) ∷ line_nr 3 (call.Socket kind.Push (options_with 1000)) ∷ line_nr 4 (call.Bind 0 at_q) ∷ line_nr 5 (call.Connect 1 at_q) ∷ line_nr 6 (call.Send 1 (codes "a" ∷ [])) ∷ line_nr 7 (call.Send 1 (codes "b" ∷ [])) ∷ line_nr 8 (call.Close 0) ∷ [] })) (over_at (line_nr 2 (call.Socket kind.Pull (options_with 1000))) ([]) (Said (moment (left_order stories) 1) ∷ []) (answer.Object (id 1))) (stands_1 stories)
 step_1 stories = record { rest = _; mine = _; lines_are = refl; does = record { reply = Object (id 1); made = moment (left_order stories) 1; request = record { by = 0; answered = _; item_is = refl }; no_pump = record { pump_is = refl; skips_are = refl }; call_is = refl; answer_is = refl; new_is = refl }; told_is = refl; over_is = refl; new_is = refl }
 
-step_2 : (stories : Stories) → DoesTry (stands_1 stories) (over_at (line_nr 3 (Asks (call.Socket kind.Push (options_with 1000)))) ([]) (Said (moment (left_order stories) 4) ∷ []) (Plain (answer.Object (id 2)))) (stands_2 stories)
+step_2 : (stories : Stories) → DoesTry (stands_1 stories) (over_at (line_nr 3 (call.Socket kind.Push (options_with 1000))) ([]) (Said (moment (left_order stories) 4) ∷ []) (answer.Object (id 2))) (stands_2 stories)
 step_2 stories = record { rest = _; mine = _; lines_are = refl; does = record { reply = Object (id 2); made = moment (left_order stories) 4; request = record { by = 0; answered = _; item_is = refl }; no_pump = record { pump_is = refl; skips_are = refl }; call_is = refl; answer_is = refl; new_is = refl }; told_is = refl; over_is = refl; new_is = refl }
 
-step_3 : (stories : Stories) → DoesTry (stands_2 stories) (over_at (line_nr 4 (Asks (call.Bind 0 at_q))) (Said (moment (left_order stories) 7) ∷ []) (Said (moment (left_order stories) 8) ∷ []) (Plain answer.Done)) (stands_3 stories)
+step_3 : (stories : Stories) → DoesTry (stands_2 stories) (over_at (line_nr 4 (call.Bind 0 at_q)) (Said (moment (left_order stories) 7) ∷ []) (Said (moment (left_order stories) 8) ∷ []) answer.Done) (stands_3 stories)
 step_3 stories = record { rest = _; mine = _; lines_are = refl; does = record { pumped = _; called = bound stories; pumps = record { letters = []; last = Said (moment (left_order stories) 7) ∷ []; takes = tt; ends = found_empty (moment (left_order stories) 7) (omega arith) (record { sight = _; empty_is = refl; item_is = refl }) refl; heard = sock_after (moment (left_order stories) 7) (pull_made stories); hears = (tt, refl); steps = []; pattern = _; pumps = (refl, refl); looks = []; looks_are = refl; meets = refl; acts_are = refl }; does = record { reply = Done; made = moment (left_order stories) 8; request = record { by = 0; answered = _; item_is = refl }; call_is = refl; skips_are = refl; answer_is = refl; goes = (tt, refl) }; new_is = refl }; told_is = refl; over_is = refl; new_is = refl }
 
-step_4 : (stories : Stories) → DoesTry (stands_3 stories) (over_at (line_nr 5 (Asks (call.Connect 1 at_q))) (Said (moment (left_order stories) 11) ∷ []) (Said (moment (left_order stories) 12) ∷ []) (Plain (answer.Pair (pair_nr 1)))) (stands_4 stories)
+step_4 : (stories : Stories) → DoesTry (stands_3 stories) (over_at (line_nr 5 (call.Connect 1 at_q)) (Said (moment (left_order stories) 11) ∷ []) (Said (moment (left_order stories) 12) ∷ []) (answer.Pair (pair_nr 1))) (stands_4 stories)
 step_4 stories = record { rest = _; mine = _; lines_are = refl; does = record { pumped = _; called = joined_push stories; pumps = record { letters = []; last = Said (moment (left_order stories) 11) ∷ []; takes = tt; ends = found_empty (moment (left_order stories) 11) (omega arith) (record { sight = _; empty_is = refl; item_is = refl }) refl; heard = sock_after (moment (left_order stories) 11) (push_made stories); hears = (tt, refl); steps = []; pattern = _; pumps = (refl, refl); looks = []; looks_are = refl; meets = refl; acts_are = refl }; does = record { reply = Pair (pair_nr 1); made = moment (left_order stories) 12; request = record { by = 0; answered = _; item_is = refl }; call_is = refl; skips_are = refl; answer_is = refl; goes = ((refl, tt), refl) }; new_is = refl }; told_is = refl; over_is = refl; new_is = refl }
 
-step_5 : (stories : Stories) → DoesTry (stands_4 stories) (over_at (line_nr 6 (Asks (call.Send 1 (codes "a" ∷ [])))) (Said (moment (left_order stories) 15) ∷ []) (Step (Commit (end_of 1 true) (codes "a" ∷ [])) ∷ []) (Plain (answer.Pair (pair_nr 1)))) (stands_5 stories)
+step_5 : (stories : Stories) → DoesTry (stands_4 stories) (over_at (line_nr 6 (call.Send 1 (codes "a" ∷ []))) (Said (moment (left_order stories) 15) ∷ []) (Step (Commit (end_of 1 true) (codes "a" ∷ [])) ∷ []) (answer.Pair (pair_nr 1))) (stands_5 stories)
 step_5 stories = record { rest = _; mine = _; lines_are = refl; does = record { pumped = _; called = _; pumps = record { letters = []; last = Said (moment (left_order stories) 15) ∷ []; takes = tt; ends = found_empty (moment (left_order stories) 15) (omega arith) (record { sight = _; empty_is = refl; item_is = refl }) refl; heard = sock_after (moment (left_order stories) 15) (joined_push stories); hears = (tt, refl); steps = []; pattern = _; pumps = (refl, refl); looks = []; looks_are = refl; meets = refl; acts_are = refl }; does = record { steps = Commit (end_of 1 true) (codes "a" ∷ []) ∷ []; sent = sent.One (pair_nr 1); pattern = Push (end_of 1 true ∷ []); sends = (end_of 1 true ∷ [], record { before = []; peer = end_of 1 true; after = []; turns_are = refl; open_is = refl; steps_are = refl; to_is = refl; new_is = refl }, refl); call_is = refl; skips_are = refl; answer_is = refl; new_is = refl }; new_is = refl }; told_is = refl; over_is = refl; new_is = refl }
 
-step_6 : (stories : Stories) → DoesTry (stands_5 stories) (over_at (line_nr 7 (Asks (call.Send 1 (codes "b" ∷ [])))) (Said (moment (left_order stories) 18) ∷ []) (Step (Commit (end_of 1 true) (codes "b" ∷ [])) ∷ []) (Plain (answer.Pair (pair_nr 1)))) (stands_6 stories)
+step_6 : (stories : Stories) → DoesTry (stands_5 stories) (over_at (line_nr 7 (call.Send 1 (codes "b" ∷ []))) (Said (moment (left_order stories) 18) ∷ []) (Step (Commit (end_of 1 true) (codes "b" ∷ [])) ∷ []) (answer.Pair (pair_nr 1))) (stands_6 stories)
 step_6 stories = record { rest = _; mine = _; lines_are = refl; does = record { pumped = _; called = pushed stories; pumps = record { letters = []; last = Said (moment (left_order stories) 18) ∷ []; takes = tt; ends = found_empty (moment (left_order stories) 18) (omega arith) (record { sight = _; empty_is = refl; item_is = refl }) refl; heard = sock_after (moment (left_order stories) 18) (sock_after (moment (left_order stories) 15) (joined_push stories)); hears = (tt, refl); steps = []; pattern = _; pumps = (refl, refl); looks = []; looks_are = refl; meets = refl; acts_are = refl }; does = record { steps = Commit (end_of 1 true) (codes "b" ∷ []) ∷ []; sent = sent.One (pair_nr 1); pattern = Push (end_of 1 true ∷ []); sends = (end_of 1 true ∷ [], record { before = []; peer = end_of 1 true; after = []; turns_are = refl; open_is = refl; steps_are = refl; to_is = refl; new_is = refl }, refl); call_is = refl; skips_are = refl; answer_is = refl; new_is = refl }; new_is = refl }; told_is = refl; over_is = refl; new_is = refl }
 
-step_7 : (stories : Stories) → DoesTry (stands_6 stories) (over_at (line_nr 8 (Closes 0)) ([]) (Said (moment (left_order stories) 21) ∷ []) (Plain answer.Done)) (stands_7 stories)
+step_7 : (stories : Stories) → DoesTry (stands_6 stories) (over_at (line_nr 8 (call.Close 0)) ([]) (Said (moment (left_order stories) 21) ∷ []) answer.Done) (stands_7 stories)
 step_7 stories = record { rest = _; mine = _; lines_are = refl; does = record { no_pump = record { pump_is = refl; skips_are = refl }; closes = record { closed = moment (left_order stories) 21; request = record { by = 0; answered = _; item_is = refl }; acts_are = refl; new_is = refl }; answer_is = refl }; told_is = refl; over_is = refl; new_is = refl }
 
 step_8 : (stories : Stories) → ShutsFirst (stands_7 stories) (Said (moment (left_order stories) 24) ∷ []) (stands_8 stories)
@@ -171,6 +169,6 @@ left_over stories = record {
   journal_is = refl;
 }
 
-pub left_printed : run_journal_text left_journal ≡ left_text
+pub left_printed : journal_text left_journal ≡ left_text
 unfolding digits
 left_printed = refl

@@ -3,7 +3,7 @@ use Rattle.std.specs.Prelude.{◌≡◌, ℕ, true, false, List, [], ◌∷◌, 
 use Rattle.std.proofs.Common.{inl, arith, sym, subst}
 use Rattle.std.specs.Fmt.{digits}
 use Rattle.zq_base.specs.declared.kind.Kind.TheVariants as kind
-use Rattle.zq_script.specs.declared.script.Call.TheVariants as call
+use Rattle.spec_run.specs.declared.script.Call.TheVariants as call
 use Rattle.spec_pattern.specs.PipeStep.{PipeStep, Commit, Seal, Take, WaitingLook, DelimiterLook, AreExact}
 use Rattle.spec_pattern.specs.Laws.{TakenIsPrefix}
 use Rattle.spec_pattern.specs.declared.answers.RecvRefusal.TheVariants as recv
@@ -24,10 +24,8 @@ use Rattle.spec_control.specs.Has.{AreBy}
 use Rattle.spec_control.proofs.TrialLemmas.{none, one, acts, takes, of_root, told}
 use Rattle.spec_run.specs.TextParts.{options_with, pair_nr, at_q, got_from_1}
 use Rattle.spec_run.specs.ExampleParts.{moment, line_nr, over_at}
-use Rattle.spec_run.specs.declared.line.LineCall.TheVariants.{Asks, Closes}
-use Rattle.spec_run.specs.declared.line.RunLine.{RunLine}
-use Rattle.spec_run.specs.declared.texts.Answer.TheVariants as answer
-use Rattle.spec_run.specs.declared.journal.LineAnswer.TheVariants.{Plain}
+use Rattle.spec_run.specs.declared.script.Line.{Line}
+use Rattle.spec_run.specs.declared.answer.Answer.TheVariants as answer
 use Rattle.spec_run.specs.Act.{Step, Said}
 use Rattle.spec_run.specs.OpenSocket.{OpenSock, new_open, sock_after}
 use Rattle.spec_run.specs.Event.{finds_one, finds_end}
@@ -36,8 +34,8 @@ use Rattle.spec_run.specs.Standing.{ActorStanding, standing_before, DoesTry, Shu
 use Rattle.spec_run.specs.Worker.{roles}
 use Rattle.spec_run.specs.OwnedRun.{IsRun, every_pipe, AllWork, AreTold, AllSettledSo, pipe_capacity, control_at_end, all_steps}
 use Rattle.spec_run.specs.InTurns.{IsInTurns, IsOneThread}
-use Rattle.spec_run.specs.RunJournal.{IsRunJournal}
-use Rattle.spec_run.specs.JournalText.{run_journal_text}
+use Rattle.spec_run.specs.Journal.{IsRunJournal}
+use Rattle.spec_run.specs.JournalText.{journal_text}
 use Rattle.spec_run.specs.ReadExample.{read_script, read_order, read_turned, read_run, read_schedule, read_journal, read_text}
 use Rattle.spec_run.proofs.CapacityLemmas.{looks_in}
 use Rattle.spec_run.proofs.JournalLemmas.{all_fates}
@@ -89,35 +87,35 @@ pull_reads stories = sock_after (moment (read_order stories) 29) (sock_after (mo
 abbrev pull_out : Stories → OpenSock
 pull_out stories = sock_after (moment (read_order stories) 33) (sock_after (moment (read_order stories) 32) (pull_reads stories))
 
-abbrev standing : (lines : List RunLine) → List (Option ℕ) → List OpenSock → ActorStanding
+abbrev standing : (lines : List Line) → List (Option ℕ) → List OpenSock → ActorStanding
 standing lines names socks = record { lines = lines; tried = 0; told = []; mine = record { names = names; socks = socks } }
 
 abbrev stands_1 : Stories → ActorStanding
-stands_1 stories = standing (line_nr 3 (Asks (call.Socket kind.Push (options_with 1000))) ∷ line_nr 4 (Asks (call.Bind 0 at_q)) ∷ line_nr 5 (Asks (call.Connect 1 at_q)) ∷ line_nr 6 (Asks (call.Send 1 (codes "a" ∷ []))) ∷ line_nr 7 (Asks (call.Send 1 (codes "b" ∷ []))) ∷ line_nr 8 (Closes 1) ∷ line_nr 9 (Asks (call.Recv 0 1)) ∷ line_nr 10 (Asks (call.Recv 0 1)) ∷ line_nr 11 (Asks (call.Recv 0 1)) ∷ []) (Some 1 ∷ []) (pull_made stories ∷ [])
+stands_1 stories = standing (line_nr 3 (call.Socket kind.Push (options_with 1000)) ∷ line_nr 4 (call.Bind 0 at_q) ∷ line_nr 5 (call.Connect 1 at_q) ∷ line_nr 6 (call.Send 1 (codes "a" ∷ [])) ∷ line_nr 7 (call.Send 1 (codes "b" ∷ [])) ∷ line_nr 8 (call.Close 1) ∷ line_nr 9 (call.Recv 0 1) ∷ line_nr 10 (call.Recv 0 1) ∷ line_nr 11 (call.Recv 0 1) ∷ []) (Some 1 ∷ []) (pull_made stories ∷ [])
 
 abbrev stands_2 : Stories → ActorStanding
-stands_2 stories = standing (line_nr 4 (Asks (call.Bind 0 at_q)) ∷ line_nr 5 (Asks (call.Connect 1 at_q)) ∷ line_nr 6 (Asks (call.Send 1 (codes "a" ∷ []))) ∷ line_nr 7 (Asks (call.Send 1 (codes "b" ∷ []))) ∷ line_nr 8 (Closes 1) ∷ line_nr 9 (Asks (call.Recv 0 1)) ∷ line_nr 10 (Asks (call.Recv 0 1)) ∷ line_nr 11 (Asks (call.Recv 0 1)) ∷ []) (Some 1 ∷ Some 2 ∷ []) (pull_made stories ∷ push_made stories ∷ [])
+stands_2 stories = standing (line_nr 4 (call.Bind 0 at_q) ∷ line_nr 5 (call.Connect 1 at_q) ∷ line_nr 6 (call.Send 1 (codes "a" ∷ [])) ∷ line_nr 7 (call.Send 1 (codes "b" ∷ [])) ∷ line_nr 8 (call.Close 1) ∷ line_nr 9 (call.Recv 0 1) ∷ line_nr 10 (call.Recv 0 1) ∷ line_nr 11 (call.Recv 0 1) ∷ []) (Some 1 ∷ Some 2 ∷ []) (pull_made stories ∷ push_made stories ∷ [])
 
 abbrev stands_3 : Stories → ActorStanding
-stands_3 stories = standing (line_nr 5 (Asks (call.Connect 1 at_q)) ∷ line_nr 6 (Asks (call.Send 1 (codes "a" ∷ []))) ∷ line_nr 7 (Asks (call.Send 1 (codes "b" ∷ []))) ∷ line_nr 8 (Closes 1) ∷ line_nr 9 (Asks (call.Recv 0 1)) ∷ line_nr 10 (Asks (call.Recv 0 1)) ∷ line_nr 11 (Asks (call.Recv 0 1)) ∷ []) (Some 1 ∷ Some 2 ∷ []) (bound stories ∷ push_made stories ∷ [])
+stands_3 stories = standing (line_nr 5 (call.Connect 1 at_q) ∷ line_nr 6 (call.Send 1 (codes "a" ∷ [])) ∷ line_nr 7 (call.Send 1 (codes "b" ∷ [])) ∷ line_nr 8 (call.Close 1) ∷ line_nr 9 (call.Recv 0 1) ∷ line_nr 10 (call.Recv 0 1) ∷ line_nr 11 (call.Recv 0 1) ∷ []) (Some 1 ∷ Some 2 ∷ []) (bound stories ∷ push_made stories ∷ [])
 
 abbrev stands_4 : Stories → ActorStanding
-stands_4 stories = standing (line_nr 6 (Asks (call.Send 1 (codes "a" ∷ []))) ∷ line_nr 7 (Asks (call.Send 1 (codes "b" ∷ []))) ∷ line_nr 8 (Closes 1) ∷ line_nr 9 (Asks (call.Recv 0 1)) ∷ line_nr 10 (Asks (call.Recv 0 1)) ∷ line_nr 11 (Asks (call.Recv 0 1)) ∷ []) (Some 1 ∷ Some 2 ∷ []) (bound stories ∷ joined_push stories ∷ [])
+stands_4 stories = standing (line_nr 6 (call.Send 1 (codes "a" ∷ [])) ∷ line_nr 7 (call.Send 1 (codes "b" ∷ [])) ∷ line_nr 8 (call.Close 1) ∷ line_nr 9 (call.Recv 0 1) ∷ line_nr 10 (call.Recv 0 1) ∷ line_nr 11 (call.Recv 0 1) ∷ []) (Some 1 ∷ Some 2 ∷ []) (bound stories ∷ joined_push stories ∷ [])
 
 abbrev stands_5 : Stories → ActorStanding
-stands_5 stories = standing (line_nr 7 (Asks (call.Send 1 (codes "b" ∷ []))) ∷ line_nr 8 (Closes 1) ∷ line_nr 9 (Asks (call.Recv 0 1)) ∷ line_nr 10 (Asks (call.Recv 0 1)) ∷ line_nr 11 (Asks (call.Recv 0 1)) ∷ []) (Some 1 ∷ Some 2 ∷ []) (bound stories ∷ pushed_once stories ∷ [])
+stands_5 stories = standing (line_nr 7 (call.Send 1 (codes "b" ∷ [])) ∷ line_nr 8 (call.Close 1) ∷ line_nr 9 (call.Recv 0 1) ∷ line_nr 10 (call.Recv 0 1) ∷ line_nr 11 (call.Recv 0 1) ∷ []) (Some 1 ∷ Some 2 ∷ []) (bound stories ∷ pushed_once stories ∷ [])
 
 abbrev stands_6 : Stories → ActorStanding
-stands_6 stories = standing (line_nr 8 (Closes 1) ∷ line_nr 9 (Asks (call.Recv 0 1)) ∷ line_nr 10 (Asks (call.Recv 0 1)) ∷ line_nr 11 (Asks (call.Recv 0 1)) ∷ []) (Some 1 ∷ Some 2 ∷ []) (bound stories ∷ pushed stories ∷ [])
+stands_6 stories = standing (line_nr 8 (call.Close 1) ∷ line_nr 9 (call.Recv 0 1) ∷ line_nr 10 (call.Recv 0 1) ∷ line_nr 11 (call.Recv 0 1) ∷ []) (Some 1 ∷ Some 2 ∷ []) (bound stories ∷ pushed stories ∷ [])
 
 abbrev stands_7 : Stories → ActorStanding
-stands_7 stories = standing (line_nr 9 (Asks (call.Recv 0 1)) ∷ line_nr 10 (Asks (call.Recv 0 1)) ∷ line_nr 11 (Asks (call.Recv 0 1)) ∷ []) (Some 1 ∷ Some 2 ∷ []) (bound stories ∷ [])
+stands_7 stories = standing (line_nr 9 (call.Recv 0 1) ∷ line_nr 10 (call.Recv 0 1) ∷ line_nr 11 (call.Recv 0 1) ∷ []) (Some 1 ∷ Some 2 ∷ []) (bound stories ∷ [])
 
 abbrev stands_8 : Stories → ActorStanding
-stands_8 stories = standing (line_nr 10 (Asks (call.Recv 0 1)) ∷ line_nr 11 (Asks (call.Recv 0 1)) ∷ []) (Some 1 ∷ Some 2 ∷ []) (pull_taken stories ∷ [])
+stands_8 stories = standing (line_nr 10 (call.Recv 0 1) ∷ line_nr 11 (call.Recv 0 1) ∷ []) (Some 1 ∷ Some 2 ∷ []) (pull_taken stories ∷ [])
 
 abbrev stands_9 : Stories → ActorStanding
-stands_9 stories = standing (line_nr 11 (Asks (call.Recv 0 1)) ∷ []) (Some 1 ∷ Some 2 ∷ []) (pull_reads stories ∷ [])
+stands_9 stories = standing (line_nr 11 (call.Recv 0 1) ∷ []) (Some 1 ∷ Some 2 ∷ []) (pull_reads stories ∷ [])
 
 abbrev stands_10 : Stories → ActorStanding
 stands_10 stories = standing ([]) (Some 1 ∷ Some 2 ∷ []) (pull_out stories ∷ [])
@@ -127,34 +125,34 @@ stands_11 stories = standing ([]) (Some 1 ∷ Some 2 ∷ []) ([])
 
 -- ---- the steps
 
-step_1 : (stories : Stories) → DoesTry (standing_before (record { name = codes "a"; lines = line_nr 2 (Asks (call.Socket kind.Pull (options_with 1000))) ∷ line_nr 3 (Asks (call.Socket kind.Push (options_with 1000))) ∷ line_nr 4 (Asks (call.Bind 0 at_q)) ∷ line_nr 5 (Asks (call.Connect 1 at_q)) ∷ line_nr 6 (Asks (call.Send 1 (codes "a" ∷ []))) ∷ line_nr 7 (Asks (call.Send 1 (codes "b" ∷ []))) ∷ line_nr 8 (Closes 1) ∷ line_nr 9 (Asks (call.Recv 0 1)) ∷ line_nr 10 (Asks (call.Recv 0 1)) ∷ line_nr 11 (Asks (call.Recv 0 1)) ∷ [] })) (over_at (line_nr 2 (Asks (call.Socket kind.Pull (options_with 1000)))) ([]) (Said (moment (read_order stories) 1) ∷ []) (Plain (answer.Object (id 1)))) (stands_1 stories)
+step_1 : (stories : Stories) → DoesTry (standing_before (record { name = codes "a"; lines = line_nr 2 (call.Socket kind.Pull (options_with 1000)) ∷ line_nr 3 (call.Socket kind.Push (options_with 1000)) ∷ line_nr 4 (call.Bind 0 at_q) ∷ line_nr 5 (call.Connect 1 at_q) ∷ line_nr 6 (call.Send 1 (codes "a" ∷ [])) ∷ line_nr 7 (call.Send 1 (codes "b" ∷ [])) ∷ line_nr 8 (call.Close 1) ∷ line_nr 9 (call.Recv 0 1) ∷ line_nr 10 (call.Recv 0 1) ∷ line_nr 11 (call.Recv 0 1) ∷ [] })) (over_at (line_nr 2 (call.Socket kind.Pull (options_with 1000))) ([]) (Said (moment (read_order stories) 1) ∷ []) (answer.Object (id 1))) (stands_1 stories)
 step_1 stories = record { rest = _; mine = _; lines_are = refl; does = record { reply = Object (id 1); made = moment (read_order stories) 1; request = record { by = 0; answered = _; item_is = refl }; no_pump = record { pump_is = refl; skips_are = refl }; call_is = refl; answer_is = refl; new_is = refl }; told_is = refl; over_is = refl; new_is = refl }
 
-step_2 : (stories : Stories) → DoesTry (stands_1 stories) (over_at (line_nr 3 (Asks (call.Socket kind.Push (options_with 1000)))) ([]) (Said (moment (read_order stories) 4) ∷ []) (Plain (answer.Object (id 2)))) (stands_2 stories)
+step_2 : (stories : Stories) → DoesTry (stands_1 stories) (over_at (line_nr 3 (call.Socket kind.Push (options_with 1000))) ([]) (Said (moment (read_order stories) 4) ∷ []) (answer.Object (id 2))) (stands_2 stories)
 step_2 stories = record { rest = _; mine = _; lines_are = refl; does = record { reply = Object (id 2); made = moment (read_order stories) 4; request = record { by = 0; answered = _; item_is = refl }; no_pump = record { pump_is = refl; skips_are = refl }; call_is = refl; answer_is = refl; new_is = refl }; told_is = refl; over_is = refl; new_is = refl }
 
-step_3 : (stories : Stories) → DoesTry (stands_2 stories) (over_at (line_nr 4 (Asks (call.Bind 0 at_q))) (Said (moment (read_order stories) 7) ∷ []) (Said (moment (read_order stories) 8) ∷ []) (Plain answer.Done)) (stands_3 stories)
+step_3 : (stories : Stories) → DoesTry (stands_2 stories) (over_at (line_nr 4 (call.Bind 0 at_q)) (Said (moment (read_order stories) 7) ∷ []) (Said (moment (read_order stories) 8) ∷ []) answer.Done) (stands_3 stories)
 step_3 stories = record { rest = _; mine = _; lines_are = refl; does = record { pumped = _; called = bound stories; pumps = record { letters = []; last = Said (moment (read_order stories) 7) ∷ []; takes = tt; ends = found_empty (moment (read_order stories) 7) (omega arith) (record { sight = _; empty_is = refl; item_is = refl }) refl; heard = sock_after (moment (read_order stories) 7) (pull_made stories); hears = (tt, refl); steps = []; pattern = _; pumps = (refl, refl); looks = []; looks_are = refl; meets = refl; acts_are = refl }; does = record { reply = Done; made = moment (read_order stories) 8; request = record { by = 0; answered = _; item_is = refl }; call_is = refl; skips_are = refl; answer_is = refl; goes = (tt, refl) }; new_is = refl }; told_is = refl; over_is = refl; new_is = refl }
 
-step_4 : (stories : Stories) → DoesTry (stands_3 stories) (over_at (line_nr 5 (Asks (call.Connect 1 at_q))) (Said (moment (read_order stories) 11) ∷ []) (Said (moment (read_order stories) 12) ∷ []) (Plain (answer.Pair (pair_nr 1)))) (stands_4 stories)
+step_4 : (stories : Stories) → DoesTry (stands_3 stories) (over_at (line_nr 5 (call.Connect 1 at_q)) (Said (moment (read_order stories) 11) ∷ []) (Said (moment (read_order stories) 12) ∷ []) (answer.Pair (pair_nr 1))) (stands_4 stories)
 step_4 stories = record { rest = _; mine = _; lines_are = refl; does = record { pumped = _; called = joined_push stories; pumps = record { letters = []; last = Said (moment (read_order stories) 11) ∷ []; takes = tt; ends = found_empty (moment (read_order stories) 11) (omega arith) (record { sight = _; empty_is = refl; item_is = refl }) refl; heard = sock_after (moment (read_order stories) 11) (push_made stories); hears = (tt, refl); steps = []; pattern = _; pumps = (refl, refl); looks = []; looks_are = refl; meets = refl; acts_are = refl }; does = record { reply = Pair (pair_nr 1); made = moment (read_order stories) 12; request = record { by = 0; answered = _; item_is = refl }; call_is = refl; skips_are = refl; answer_is = refl; goes = ((refl, tt), refl) }; new_is = refl }; told_is = refl; over_is = refl; new_is = refl }
 
-step_5 : (stories : Stories) → DoesTry (stands_4 stories) (over_at (line_nr 6 (Asks (call.Send 1 (codes "a" ∷ [])))) (Said (moment (read_order stories) 15) ∷ []) (Step (Commit (end_of 1 true) (codes "a" ∷ [])) ∷ []) (Plain (answer.Pair (pair_nr 1)))) (stands_5 stories)
+step_5 : (stories : Stories) → DoesTry (stands_4 stories) (over_at (line_nr 6 (call.Send 1 (codes "a" ∷ []))) (Said (moment (read_order stories) 15) ∷ []) (Step (Commit (end_of 1 true) (codes "a" ∷ [])) ∷ []) (answer.Pair (pair_nr 1))) (stands_5 stories)
 step_5 stories = record { rest = _; mine = _; lines_are = refl; does = record { pumped = _; called = _; pumps = record { letters = []; last = Said (moment (read_order stories) 15) ∷ []; takes = tt; ends = found_empty (moment (read_order stories) 15) (omega arith) (record { sight = _; empty_is = refl; item_is = refl }) refl; heard = sock_after (moment (read_order stories) 15) (joined_push stories); hears = (tt, refl); steps = []; pattern = _; pumps = (refl, refl); looks = []; looks_are = refl; meets = refl; acts_are = refl }; does = record { steps = Commit (end_of 1 true) (codes "a" ∷ []) ∷ []; sent = sent.One (pair_nr 1); pattern = Push (end_of 1 true ∷ []); sends = (end_of 1 true ∷ [], record { before = []; peer = end_of 1 true; after = []; turns_are = refl; open_is = refl; steps_are = refl; to_is = refl; new_is = refl }, refl); call_is = refl; skips_are = refl; answer_is = refl; new_is = refl }; new_is = refl }; told_is = refl; over_is = refl; new_is = refl }
 
-step_6 : (stories : Stories) → DoesTry (stands_5 stories) (over_at (line_nr 7 (Asks (call.Send 1 (codes "b" ∷ [])))) (Said (moment (read_order stories) 18) ∷ []) (Step (Commit (end_of 1 true) (codes "b" ∷ [])) ∷ []) (Plain (answer.Pair (pair_nr 1)))) (stands_6 stories)
+step_6 : (stories : Stories) → DoesTry (stands_5 stories) (over_at (line_nr 7 (call.Send 1 (codes "b" ∷ []))) (Said (moment (read_order stories) 18) ∷ []) (Step (Commit (end_of 1 true) (codes "b" ∷ [])) ∷ []) (answer.Pair (pair_nr 1))) (stands_6 stories)
 step_6 stories = record { rest = _; mine = _; lines_are = refl; does = record { pumped = _; called = pushed stories; pumps = record { letters = []; last = Said (moment (read_order stories) 18) ∷ []; takes = tt; ends = found_empty (moment (read_order stories) 18) (omega arith) (record { sight = _; empty_is = refl; item_is = refl }) refl; heard = sock_after (moment (read_order stories) 18) (sock_after (moment (read_order stories) 15) (joined_push stories)); hears = (tt, refl); steps = []; pattern = _; pumps = (refl, refl); looks = []; looks_are = refl; meets = refl; acts_are = refl }; does = record { steps = Commit (end_of 1 true) (codes "b" ∷ []) ∷ []; sent = sent.One (pair_nr 1); pattern = Push (end_of 1 true ∷ []); sends = (end_of 1 true ∷ [], record { before = []; peer = end_of 1 true; after = []; turns_are = refl; open_is = refl; steps_are = refl; to_is = refl; new_is = refl }, refl); call_is = refl; skips_are = refl; answer_is = refl; new_is = refl }; new_is = refl }; told_is = refl; over_is = refl; new_is = refl }
 
-step_7 : (stories : Stories) → DoesTry (stands_6 stories) (over_at (line_nr 8 (Closes 1)) ([]) (Said (moment (read_order stories) 21) ∷ []) (Plain answer.Done)) (stands_7 stories)
+step_7 : (stories : Stories) → DoesTry (stands_6 stories) (over_at (line_nr 8 (call.Close 1)) ([]) (Said (moment (read_order stories) 21) ∷ []) answer.Done) (stands_7 stories)
 step_7 stories = record { rest = _; mine = _; lines_are = refl; does = record { no_pump = record { pump_is = refl; skips_are = refl }; closes = record { closed = moment (read_order stories) 21; request = record { by = 0; answered = _; item_is = refl }; acts_are = refl; new_is = refl }; answer_is = refl }; told_is = refl; over_is = refl; new_is = refl }
 
-step_8 : (stories : Stories) → DoesTry (stands_7 stories) (over_at (line_nr 9 (Asks (call.Recv 0 1))) (Said (moment (read_order stories) 24) ∷ Said (moment (read_order stories) 25) ∷ []) (Step (Take (end_of 1 true) (codes "a" ∷ [])) ∷ []) (Plain (got_from_1 (codes "a")))) (stands_8 stories)
+step_8 : (stories : Stories) → DoesTry (stands_7 stories) (over_at (line_nr 9 (call.Recv 0 1)) (Said (moment (read_order stories) 24) ∷ Said (moment (read_order stories) 25) ∷ []) (Step (Take (end_of 1 true) (codes "a" ∷ [])) ∷ []) (got_from_1 (codes "a"))) (stands_8 stories)
 step_8 stories = record { rest = _; mine = _; lines_are = refl; does = record { pumped = _; called = pull_taken stories; pumps = record { letters = (Said (moment (read_order stories) 24) ∷ []) ∷ []; last = Said (moment (read_order stories) 25) ∷ []; takes = (record { taken = moment (read_order stories) 24; letter = _; looks = []; delivery = record { by = 0; answered = _; item_is = refl }; behind = refl; acts_are = refl }, tt); ends = found_empty (moment (read_order stories) 25) (omega arith) (record { sight = _; empty_is = refl; item_is = refl }) refl; heard = sock_after (moment (read_order stories) 25) (sock_after (moment (read_order stories) 24) (bound stories)); hears = ((refl, tt), (tt, refl)); steps = []; pattern = _; pumps = (refl, refl); looks = []; looks_are = refl; meets = refl; acts_are = refl }; does = record { steps = Take (end_of 1 true) (codes "a" ∷ []) ∷ []; got = got.Got (pair_nr 1) (codes "a" ∷ []); pattern = Pull (end_of 1 false ∷ []); receives = (refl, (end_of 1 false ∷ [], record { before = []; peer = end_of 1 false; after = []; looks = []; turns_are = refl; looks_are = refl; steps_are = refl; from_is = refl; new_is = refl }, refl)); call_is = refl; answer_is = refl; new_is = refl }; new_is = refl }; told_is = refl; over_is = refl; new_is = refl }
 
-step_9 : (stories : Stories) → DoesTry (stands_8 stories) (over_at (line_nr 10 (Asks (call.Recv 0 1))) (Said (moment (read_order stories) 28) ∷ Step (WaitingLook (end_of 1 true)) ∷ Said (moment (read_order stories) 29) ∷ Step (WaitingLook (end_of 1 true)) ∷ []) (Step (Take (end_of 1 true) (codes "b" ∷ [])) ∷ []) (Plain (got_from_1 (codes "b")))) (stands_9 stories)
+step_9 : (stories : Stories) → DoesTry (stands_8 stories) (over_at (line_nr 10 (call.Recv 0 1)) (Said (moment (read_order stories) 28) ∷ Step (WaitingLook (end_of 1 true)) ∷ Said (moment (read_order stories) 29) ∷ Step (WaitingLook (end_of 1 true)) ∷ []) (Step (Take (end_of 1 true) (codes "b" ∷ [])) ∷ []) (got_from_1 (codes "b"))) (stands_9 stories)
 step_9 stories = record { rest = _; mine = _; lines_are = refl; does = record { pumped = _; called = pull_reads stories; pumps = record { letters = (Said (moment (read_order stories) 28) ∷ Step (WaitingLook (end_of 1 true)) ∷ []) ∷ []; last = Said (moment (read_order stories) 29) ∷ []; takes = (record { taken = moment (read_order stories) 28; letter = _; looks = Step (WaitingLook (end_of 1 true)) ∷ []; delivery = record { by = 0; answered = _; item_is = refl }; behind = finds_one refl; acts_are = refl }, tt); ends = found_empty (moment (read_order stories) 29) (omega arith) (record { sight = _; empty_is = refl; item_is = refl }) refl; heard = pull_reads stories; hears = (tt, (tt, refl)); steps = []; pattern = _; pumps = (refl, refl); looks = Step (WaitingLook (end_of 1 true)) ∷ []; looks_are = (Step (WaitingLook (end_of 1 true)) ∷ [], [], finds_one refl, refl, refl); meets = refl; acts_are = refl }; does = record { steps = Take (end_of 1 true) (codes "b" ∷ []) ∷ []; got = got.Got (pair_nr 1) (codes "b" ∷ []); pattern = Pull (end_of 1 false ∷ []); receives = (refl, (end_of 1 false ∷ [], record { before = []; peer = end_of 1 false; after = []; looks = []; turns_are = refl; looks_are = refl; steps_are = refl; from_is = refl; new_is = refl }, refl)); call_is = refl; answer_is = refl; new_is = refl }; new_is = refl }; told_is = refl; over_is = refl; new_is = refl }
 
-step_10 : (stories : Stories) → DoesTry (stands_9 stories) (over_at (line_nr 11 (Asks (call.Recv 0 1))) (Said (moment (read_order stories) 32) ∷ Step (DelimiterLook (end_of 1 true)) ∷ Said (moment (read_order stories) 33) ∷ []) ([]) (Plain (answer.NotReceived recv.Again))) (stands_10 stories)
+step_10 : (stories : Stories) → DoesTry (stands_9 stories) (over_at (line_nr 11 (call.Recv 0 1)) (Said (moment (read_order stories) 32) ∷ Step (DelimiterLook (end_of 1 true)) ∷ Said (moment (read_order stories) 33) ∷ []) ([]) (answer.NotReceived recv.Again)) (stands_10 stories)
 step_10 stories = record { rest = _; mine = _; lines_are = refl; does = record { pumped = _; called = pull_out stories; pumps = record { letters = []; last = Said (moment (read_order stories) 32) ∷ []; takes = tt; ends = found_empty (moment (read_order stories) 32) (omega arith) (record { sight = _; empty_is = refl; item_is = refl }) refl; heard = sock_after (moment (read_order stories) 32) (pull_reads stories); hears = (tt, refl); steps = []; pattern = _; pumps = (refl, refl); looks = Step (DelimiterLook (end_of 1 true)) ∷ Said (moment (read_order stories) 33) ∷ []; looks_are = (Step (DelimiterLook (end_of 1 true)) ∷ Said (moment (read_order stories) 33) ∷ [], [], finds_end (moment (read_order stories) 33) (record { by = 0; answered = _; item_is = refl }) refl, refl, refl); meets = (tt, refl); acts_are = refl }; does = record { steps = []; got = got.Refused recv.Again; pattern = Pull []; receives = (refl, ([], (refl, record { looks_are = refl; new_is = refl }), refl)); call_is = refl; answer_is = refl; new_is = refl }; new_is = refl }; told_is = refl; over_is = refl; new_is = refl }
 
 step_11 : (stories : Stories) → ShutsFirst (stands_10 stories) (Said (moment (read_order stories) 36) ∷ []) (stands_11 stories)
@@ -219,6 +217,6 @@ read_over taken_prefix stories = record {
   journal_is = refl;
 }
 
-pub read_printed : run_journal_text read_journal ≡ read_text
+pub read_printed : journal_text read_journal ≡ read_text
 unfolding digits
 read_printed = refl

@@ -7,18 +7,16 @@ use Rattle.zq_base.specs.declared.endpoint.Endpoint.{Endpoint}
 use Rattle.zq_base.specs.declared.kind.Kind.TheVariants.{Pull}
 use Rattle.spec_pattern.specs.PipeStep.{Commit, DelimiterLook}
 use Rattle.spec_control.specs.declared.object.ObjKind.TheVariants.{Root, Socket}
-use Rattle.zq_script.specs.declared.script.Call.TheVariants as call
+use Rattle.spec_run.specs.declared.script.Call.TheVariants as call
 use Rattle.spec_control.specs.declared.entry.Item.{Item}
 use Rattle.spec_control.specs.declared.entry.Item.TheVariants.{Seen}
 use Rattle.spec_control.specs.declared.entry.Sight.{Sight}
 use Rattle.spec_control.specs.Control.{end_of}
 use Rattle.spec_control.specs.ControlExamples.{Stories}
-use Rattle.spec_run.specs.declared.texts.Answer.TheVariants as answer
-use Rattle.spec_run.specs.declared.journal.LineAnswer.{LineAnswer}
-use Rattle.spec_run.specs.declared.journal.LineAnswer.TheVariants.{Plain, Term}
-use Rattle.spec_run.specs.declared.journal.RunJournal.{RunJournal}
-use Rattle.spec_run.specs.declared.line.LineCall.TheVariants.{Asks}
-use Rattle.spec_run.specs.declared.line.RunLine.{RunLine}
+use Rattle.spec_run.specs.declared.answer.Answer.TheVariants as answer
+use Rattle.spec_run.specs.declared.answer.Answer.{Answer}
+use Rattle.spec_run.specs.declared.journal.Journal.{Journal}
+use Rattle.spec_run.specs.declared.script.Line.{Line}
 use Rattle.spec_run.specs.Act.{Act, Try, moments_in}
 use Rattle.spec_run.specs.OpenSocket.{OpenSock}
 use Rattle.spec_run.specs.SocketCall.{leave_asked, ConnectsWhere}
@@ -35,16 +33,16 @@ use Rattle.spec_run.proofs.PlainLemmas.{never}
 reasoned : (run : OwnedRun ℕ ℕ) → IsSettledSo run unreasoned → ⊥
 reasoned run s = never (s.reason (omega arith))
 
-first_line : {x y : RunLine} {xs ys : List RunLine} → x ∷ xs ≡ y ∷ ys → x ≡ y
+first_line : {x y : Line} {xs ys : List Line} → x ∷ xs ≡ y ∷ ys → x ≡ y
 first_line e = Prim.grind arith
 
-no_message : {from_ : PairId} {m : Frames} → Plain answer.NoSocket ≡ Plain (answer.Got from_ m) → ⊥
+no_message : {from_ : PairId} {m : Frames} → answer.NoSocket ≡ answer.Got from_ m → ⊥
 no_message e = Prim.grind arith
 
-given_to_none : (t : Try ℕ ℕ) (new : ActorStanding) (from_ : PairId) (m : Frames) → t.answer ≡ Plain (answer.Got from_ m) → DoesTry receives_closed t new → ⊥
+given_to_none : (t : Try ℕ ℕ) (new : ActorStanding) (from_ : PairId) (m : Frames) → t.answer ≡ answer.Got from_ m → DoesTry receives_closed t new → ⊥
 given_to_none t new from_ m e d =
-    let line : line_nr 5 (Asks (call.Recv 0 1)) ≡ t.line = first_line d.lines_are in
-    let none : HasNoSocket receives_closed.mine t d.mine = subst (λ (l : RunLine). DoesLine l.call receives_closed.mine t d.mine) (sym line) d.does in
+    let line : line_nr 5 (call.Recv 0 1) ≡ t.line = first_line d.lines_are in
+    let none : HasNoSocket receives_closed.mine t d.mine = subst (λ (l : Line). DoesLine l.call receives_closed.mine t d.mine) (sym line) d.does in
     no_message (sym none.answer_is ∙ e)
 
 few_letters : (slot : ℕ) (acts : List (Act ℕ ℕ)) → EndsTaking slot 65 acts → ⊥
@@ -67,12 +65,12 @@ or_asked : (a b : Bool) → b ≡ true → (a || b) ≡ true
 or_asked true b h = refl
 or_asked false b h = h
 
-not_term : Term ≡ Plain answer.NotSupported → ⊥
+not_term : answer.Term ≡ answer.NotSupported → ⊥
 not_term e = Prim.grind arith
 
-asked_first : (to : Endpoint) (stopped : Bool) (old new : OpenSock) (t : Try ℕ ℕ) → leave_asked (moments_in t.pump) ≡ true → t.answer ≡ Plain answer.NotSupported → ConnectsWhere false stopped to old t new → ⊥
+asked_first : (to : Endpoint) (stopped : Bool) (old new : OpenSock) (t : Try ℕ ℕ) → leave_asked (moments_in t.pump) ≡ true → t.answer ≡ answer.NotSupported → ConnectsWhere false stopped to old t new → ⊥
 asked_first to stopped old new t asked e refuses =
-    not_term (subst (λ (b : Bool). ◌≡◌ {A = LineAnswer} (if b then Term else Plain answer.NotSupported) (Plain answer.NotSupported)) (or_asked stopped (leave_asked (moments_in t.pump)) asked) (sym refuses.answer_is ∙ e))
+    not_term (subst (λ (b : Bool). ◌≡◌ {A = Answer} (if b then answer.Term else answer.NotSupported) answer.NotSupported) (or_asked stopped (leave_asked (moments_in t.pump)) asked) (sym refuses.answer_is ∙ e))
 
 read_out : LooksHoldAt 2 (end_of 1 true) (Commit (end_of 1 true) [] ∷ DelimiterLook (end_of 1 true) ∷ []) → ⊥
 read_out h = let all : 0 ≡ 1 = h.«delimiter» (Commit (end_of 1 true) [] ∷ []) [] refl in omega (arith, all)
@@ -87,7 +85,7 @@ refused = record {
   few_letters = few_letters;
   goes_on = λ s new h. never h.0;
   not_over = not_over;
-  child_first = λ stories e. not_swapped (ap (λ (j : RunJournal). j.ended) e);
+  child_first = λ stories e. not_swapped (ap (λ (j : Journal). j.ended) e);
   asked_first = asked_first;
   read_out = read_out;
   has_room = has_room;

@@ -6,11 +6,11 @@ use Rattle.zq_base.specs.Ends.{PipeId}
 use Rattle.spec_control.specs.Rows.{PairRow}
 use Rattle.spec_control.specs.Control.{Control, Settlement, end_of}
 use Rattle.spec_run.specs.declared.journal.SettledRow.{SettledRow}
-use Rattle.spec_run.specs.declared.journal.RunJournal.{RunJournal}
+use Rattle.spec_run.specs.declared.journal.Journal.{Journal}
 use Rattle.spec_run.specs.OwnedRun.{OwnedRun, AllSettledSo, settlement_of, control_at_end}
 use Rattle.spec_run.specs.Fate.{HaveOneFate, AddsUp, most_unfated, settled_row}
 use Rattle.spec_run.specs.RunLaws.{RowsOfRunsAddUp}
-use Rattle.spec_run.specs.RunJournal.{row_if, row_shown, rows_shown, run_journal}
+use Rattle.spec_run.specs.Journal.{row_if, row_shown, rows_shown, run_journal}
 use Rattle.spec_run.proofs.FateLemmas.{one_fate}
 
 abbrev RowAdds : Control → SettledRow → Type 0
@@ -38,4 +38,4 @@ pub rows_add_up : {N S : Type 0} → RowsOfRunsAddUp N S
 rows_add_up script schedule j is row held =
     let c = control_at_end 1 is.run in
     let rows : All (RowIfAdds (control_at_end 1 is.run)) (run_journal script 1 is.run).pipes = rows_add c is.run is.is_run.ended 1 (drop 1 c.rows.pairs) in
-    All-contains (RowIfAdds c) j.pipes (Some row) (subst (λ (k : RunJournal). All (RowIfAdds (control_at_end 1 is.run)) k.pipes) (sym is.journal_is) rows) held
+    All-contains (RowIfAdds c) j.pipes (Some row) (subst (λ (k : Journal). All (RowIfAdds (control_at_end 1 is.run)) k.pipes) (sym is.journal_is) rows) held

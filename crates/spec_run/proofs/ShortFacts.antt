@@ -3,7 +3,7 @@ use Rattle.std.specs.Prelude.{◌≡◌, ℕ, [], ◌∷◌, Some, refl}
 use Rattle.zq_base.specs.declared.kind.Kind.TheVariants.{Pull}
 use Rattle.spec_run.specs.TextParts.{options_with}
 use Rattle.spec_control.specs.Moments.{moments_from}
-use Rattle.spec_run.specs.declared.line.LineCall.TheVariants.{Closes}
+use Rattle.spec_run.specs.declared.script.Call.TheVariants as call
 use Rattle.spec_run.specs.OpenSocket.{new_open}
 use Rattle.spec_run.specs.Standing.{ActorStanding}
 use Rattle.std.proofs.Common.{inl, arith}
@@ -19,8 +19,8 @@ use Rattle.spec_run.specs.ExampleParts.{moment, line_nr}
 use Rattle.spec_run.specs.Worker.{roles}
 use Rattle.spec_run.specs.OwnedRun.{IsRun, every_pipe, AllWork, AreTold, pipe_capacity, all_steps, control_at_end}
 use Rattle.spec_run.specs.InTurns.{IsInTurns, IsOneThread}
-use Rattle.spec_run.specs.RunJournal.{IsRunJournal}
-use Rattle.spec_run.specs.JournalText.{run_journal_text}
+use Rattle.spec_run.specs.Journal.{IsRunJournal}
+use Rattle.spec_run.specs.JournalText.{journal_text}
 use Rattle.spec_run.specs.ShortExample.{short_order, short_turned, short_run, short_schedule, cut_journal, short_text}
 use Rattle.spec_run.specs.ClosingExample.{closing_script}
 use Rattle.spec_run.proofs.CapacityLemmas.{looks_in}
@@ -42,7 +42,7 @@ short_local : (stories : Stories) → AllWork (roles closing_script 1) (short_ru
 short_local stories = ((_, (_, record { rest = _; mine = _; lines_are = refl; does = record { reply = Object (id 1); made = moment (short_order stories) 1; request = record { by = 0; answered = _; item_is = refl }; no_pump = record { pump_is = refl; skips_are = refl }; call_is = refl; answer_is = refl; new_is = refl }; told_is = refl; over_is = refl; new_is = refl }, refl)), ((record { sight = _; empty_is = refl; item_is = refl }, tt), (refl, ((tt, (record { sight = _; empty_is = refl; item_is = refl }, (tt, (record { sight = _; empty_is = refl; item_is = refl }, tt)))), tt))))
 
 abbrev has_made : Stories → ActorStanding
-has_made stories = record { lines = line_nr 3 (Closes 0) ∷ []; tried = 0; told = []; mine = record { names = Some 1 ∷ []; socks = new_open (moment (short_order stories) 1) 1 Pull (options_with 1000) ∷ [] } }
+has_made stories = record { lines = line_nr 3 (call.Close 0) ∷ []; tried = 0; told = []; mine = record { names = Some 1 ∷ []; socks = new_open (moment (short_order stories) 1) 1 Pull (options_with 1000) ∷ [] } }
 
 short_is_run : (stories : Stories) → IsRun closing_script 1 every_pipe (short_run stories)
 short_is_run stories = record {
@@ -89,6 +89,6 @@ short stories = record {
   journal_is = refl;
 }
 
-pub short_printed : run_journal_text cut_journal ≡ short_text
+pub short_printed : journal_text cut_journal ≡ short_text
 unfolding digits
 short_printed = refl

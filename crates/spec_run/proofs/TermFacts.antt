@@ -3,7 +3,7 @@ use Rattle.std.specs.Prelude.{◌≡◌, ℕ, true, false, List, [], ◌∷◌, 
 use Rattle.std.proofs.Common.{inl, arith, sym, subst}
 use Rattle.std.specs.Fmt.{digits}
 use Rattle.zq_base.specs.declared.kind.Kind.TheVariants as kind
-use Rattle.zq_script.specs.declared.script.Call.TheVariants as call
+use Rattle.spec_run.specs.declared.script.Call.TheVariants as call
 use Rattle.spec_pattern.specs.PipeStep.{Commit, DelimiterLook}
 use Rattle.spec_pattern.specs.Pattern.{Push}
 use Rattle.spec_pattern.specs.declared.answers.SendAnswer.TheVariants as sent
@@ -18,13 +18,11 @@ use Rattle.spec_control.specs.Names.{AreNamed}
 use Rattle.spec_control.specs.ControlExamples.{Stories}
 use Rattle.spec_control.specs.Has.{AreBy}
 use Rattle.spec_control.proofs.TrialLemmas.{none, one, acts, takes, of_root, told}
-use Rattle.spec_run.specs.declared.texts.Answer.TheVariants as answer
+use Rattle.spec_run.specs.declared.answer.Answer.TheVariants as answer
 use Rattle.spec_run.specs.TextParts.{options_with, pair_nr, at_q}
 use Rattle.spec_control.specs.Moments.{moments_from}
-use Rattle.spec_run.specs.declared.journal.LineAnswer.TheVariants.{Plain}
 use Rattle.spec_run.specs.ExampleParts.{moment, line_nr, over_at}
-use Rattle.spec_run.specs.declared.line.LineCall.TheVariants.{Asks, Unbinds, Closes, Terms}
-use Rattle.spec_run.specs.declared.line.RunLine.{RunLine}
+use Rattle.spec_run.specs.declared.script.Line.{Line}
 use Rattle.spec_run.specs.Act.{Step, Said}
 use Rattle.spec_run.specs.OpenSocket.{OpenSock, new_open, sock_after}
 use Rattle.spec_run.specs.Event.{finds_end}
@@ -33,8 +31,8 @@ use Rattle.spec_run.specs.Standing.{ActorStanding, standing_before, DoesTry, Shu
 use Rattle.spec_run.specs.Worker.{roles}
 use Rattle.spec_run.specs.OwnedRun.{IsRun, every_pipe, AllWork, AreTold, AllSettledSo, control_at_end, pipe_capacity, all_steps}
 use Rattle.spec_run.specs.InTurns.{IsInTurns, IsOneThread}
-use Rattle.spec_run.specs.RunJournal.{IsRunJournal}
-use Rattle.spec_run.specs.JournalText.{run_journal_text}
+use Rattle.spec_run.specs.Journal.{IsRunJournal}
+use Rattle.spec_run.specs.JournalText.{journal_text}
 use Rattle.spec_run.specs.TermExample.{at_w, term_script, term_order, term_turned, term_run, term_schedule, term_journal, term_text}
 use Rattle.spec_run.proofs.CapacityLemmas.{looks_in}
 use Rattle.spec_run.proofs.JournalLemmas.{all_fates}
@@ -85,35 +83,35 @@ push_sent stories = sock_after (moment (term_order stories) 20) (push_joined sto
 abbrev push_stopped : Stories → OpenSock
 push_stopped stories = sock_after (moment (term_order stories) 29) (sock_after (moment (term_order stories) 28) (sock_after (moment (term_order stories) 27) (sock_after (moment (term_order stories) 26) (push_sent stories))))
 
-abbrev standing : (lines : List RunLine) → List (Option ℕ) → List OpenSock → ActorStanding
+abbrev standing : (lines : List Line) → List (Option ℕ) → List OpenSock → ActorStanding
 standing lines names socks = record { lines = lines; tried = 0; told = []; mine = record { names = names; socks = socks } }
 
 abbrev a_1 : Stories → ActorStanding
-a_1 stories = standing (line_nr 3 (Asks (call.Bind 0 at_q)) ∷ line_nr 4 (Closes 0) ∷ []) (Some 1 ∷ []) (pull_made stories ∷ [])
+a_1 stories = standing (line_nr 3 (call.Bind 0 at_q) ∷ line_nr 4 (call.Close 0) ∷ []) (Some 1 ∷ []) (pull_made stories ∷ [])
 
 abbrev a_2 : Stories → ActorStanding
-a_2 stories = standing (line_nr 4 (Closes 0) ∷ []) (Some 1 ∷ []) (pull_bound stories ∷ [])
+a_2 stories = standing (line_nr 4 (call.Close 0) ∷ []) (Some 1 ∷ []) (pull_bound stories ∷ [])
 
 abbrev a_3 : Stories → ActorStanding
 a_3 stories = standing ([]) (Some 1 ∷ []) ([])
 
 abbrev b_1 : Stories → ActorStanding
-b_1 stories = standing (line_nr 7 (Asks (call.Bind 0 at_w)) ∷ line_nr 8 (Unbinds 0 at_w) ∷ line_nr 9 (Asks (call.Connect 0 at_q)) ∷ line_nr 10 (Asks (call.Send 0 (codes "m" ∷ []))) ∷ line_nr 11 Terms ∷ line_nr 12 (Asks (call.Send 0 (codes "m" ∷ []))) ∷ []) (Some 2 ∷ []) (push_made stories ∷ [])
+b_1 stories = standing (line_nr 7 (call.Bind 0 at_w) ∷ line_nr 8 (call.Unbind 0 at_w) ∷ line_nr 9 (call.Connect 0 at_q) ∷ line_nr 10 (call.Send 0 (codes "m" ∷ [])) ∷ line_nr 11 call.Term ∷ line_nr 12 (call.Send 0 (codes "m" ∷ [])) ∷ []) (Some 2 ∷ []) (push_made stories ∷ [])
 
 abbrev b_2 : Stories → ActorStanding
-b_2 stories = standing (line_nr 8 (Unbinds 0 at_w) ∷ line_nr 9 (Asks (call.Connect 0 at_q)) ∷ line_nr 10 (Asks (call.Send 0 (codes "m" ∷ []))) ∷ line_nr 11 Terms ∷ line_nr 12 (Asks (call.Send 0 (codes "m" ∷ []))) ∷ []) (Some 2 ∷ []) (push_bound stories ∷ [])
+b_2 stories = standing (line_nr 8 (call.Unbind 0 at_w) ∷ line_nr 9 (call.Connect 0 at_q) ∷ line_nr 10 (call.Send 0 (codes "m" ∷ [])) ∷ line_nr 11 call.Term ∷ line_nr 12 (call.Send 0 (codes "m" ∷ [])) ∷ []) (Some 2 ∷ []) (push_bound stories ∷ [])
 
 abbrev b_3 : Stories → ActorStanding
-b_3 stories = standing (line_nr 9 (Asks (call.Connect 0 at_q)) ∷ line_nr 10 (Asks (call.Send 0 (codes "m" ∷ []))) ∷ line_nr 11 Terms ∷ line_nr 12 (Asks (call.Send 0 (codes "m" ∷ []))) ∷ []) (Some 2 ∷ []) (push_unbound stories ∷ [])
+b_3 stories = standing (line_nr 9 (call.Connect 0 at_q) ∷ line_nr 10 (call.Send 0 (codes "m" ∷ [])) ∷ line_nr 11 call.Term ∷ line_nr 12 (call.Send 0 (codes "m" ∷ [])) ∷ []) (Some 2 ∷ []) (push_unbound stories ∷ [])
 
 abbrev b_4 : Stories → ActorStanding
-b_4 stories = standing (line_nr 10 (Asks (call.Send 0 (codes "m" ∷ []))) ∷ line_nr 11 Terms ∷ line_nr 12 (Asks (call.Send 0 (codes "m" ∷ []))) ∷ []) (Some 2 ∷ []) (push_joined stories ∷ [])
+b_4 stories = standing (line_nr 10 (call.Send 0 (codes "m" ∷ [])) ∷ line_nr 11 call.Term ∷ line_nr 12 (call.Send 0 (codes "m" ∷ [])) ∷ []) (Some 2 ∷ []) (push_joined stories ∷ [])
 
 abbrev b_5 : Stories → ActorStanding
-b_5 stories = standing (line_nr 11 Terms ∷ line_nr 12 (Asks (call.Send 0 (codes "m" ∷ []))) ∷ []) (Some 2 ∷ []) (push_sent stories ∷ [])
+b_5 stories = standing (line_nr 11 call.Term ∷ line_nr 12 (call.Send 0 (codes "m" ∷ [])) ∷ []) (Some 2 ∷ []) (push_sent stories ∷ [])
 
 abbrev b_6 : Stories → ActorStanding
-b_6 stories = standing (line_nr 12 (Asks (call.Send 0 (codes "m" ∷ []))) ∷ []) (Some 2 ∷ []) (push_sent stories ∷ [])
+b_6 stories = standing (line_nr 12 (call.Send 0 (codes "m" ∷ [])) ∷ []) (Some 2 ∷ []) (push_sent stories ∷ [])
 
 abbrev b_7 : Stories → ActorStanding
 b_7 stories = standing ([]) (Some 2 ∷ []) (push_stopped stories ∷ [])
@@ -123,34 +121,34 @@ b_8 stories = standing ([]) (Some 2 ∷ []) ([])
 
 -- ---- the steps
 
-a_step_1 : (stories : Stories) → DoesTry (standing_before (record { name = codes "a"; lines = line_nr 2 (Asks (call.Socket kind.Pull (options_with 1000))) ∷ line_nr 3 (Asks (call.Bind 0 at_q)) ∷ line_nr 4 (Closes 0) ∷ [] })) (over_at (line_nr 2 (Asks (call.Socket kind.Pull (options_with 1000)))) ([]) (Said (moment (term_order stories) 1) ∷ []) (Plain (answer.Object (id 1)))) (a_1 stories)
+a_step_1 : (stories : Stories) → DoesTry (standing_before (record { name = codes "a"; lines = line_nr 2 (call.Socket kind.Pull (options_with 1000)) ∷ line_nr 3 (call.Bind 0 at_q) ∷ line_nr 4 (call.Close 0) ∷ [] })) (over_at (line_nr 2 (call.Socket kind.Pull (options_with 1000))) ([]) (Said (moment (term_order stories) 1) ∷ []) (answer.Object (id 1))) (a_1 stories)
 a_step_1 stories = record { rest = _; mine = _; lines_are = refl; does = record { reply = Object (id 1); made = moment (term_order stories) 1; request = record { by = 0; answered = _; item_is = refl }; no_pump = record { pump_is = refl; skips_are = refl }; call_is = refl; answer_is = refl; new_is = refl }; told_is = refl; over_is = refl; new_is = refl }
 
-a_step_2 : (stories : Stories) → DoesTry (a_1 stories) (over_at (line_nr 3 (Asks (call.Bind 0 at_q))) (Said (moment (term_order stories) 5) ∷ []) (Said (moment (term_order stories) 6) ∷ []) (Plain answer.Done)) (a_2 stories)
+a_step_2 : (stories : Stories) → DoesTry (a_1 stories) (over_at (line_nr 3 (call.Bind 0 at_q)) (Said (moment (term_order stories) 5) ∷ []) (Said (moment (term_order stories) 6) ∷ []) answer.Done) (a_2 stories)
 a_step_2 stories = record { rest = _; mine = _; lines_are = refl; does = record { pumped = _; called = pull_bound stories; pumps = record { letters = []; last = Said (moment (term_order stories) 5) ∷ []; takes = tt; ends = found_empty (moment (term_order stories) 5) (omega arith) (record { sight = _; empty_is = refl; item_is = refl }) refl; heard = sock_after (moment (term_order stories) 5) (pull_made stories); hears = (tt, refl); steps = []; pattern = _; pumps = (refl, refl); looks = []; looks_are = refl; meets = refl; acts_are = refl }; does = record { reply = Done; made = moment (term_order stories) 6; request = record { by = 0; answered = _; item_is = refl }; call_is = refl; skips_are = refl; answer_is = refl; goes = (tt, refl) }; new_is = refl }; told_is = refl; over_is = refl; new_is = refl }
 
-a_step_3 : (stories : Stories) → DoesTry (a_2 stories) (over_at (line_nr 4 (Closes 0)) ([]) (Said (moment (term_order stories) 11) ∷ []) (Plain answer.Done)) (a_3 stories)
+a_step_3 : (stories : Stories) → DoesTry (a_2 stories) (over_at (line_nr 4 (call.Close 0)) ([]) (Said (moment (term_order stories) 11) ∷ []) answer.Done) (a_3 stories)
 a_step_3 stories = record { rest = _; mine = _; lines_are = refl; does = record { no_pump = record { pump_is = refl; skips_are = refl }; closes = record { closed = moment (term_order stories) 11; request = record { by = 0; answered = _; item_is = refl }; acts_are = refl; new_is = refl }; answer_is = refl }; told_is = refl; over_is = refl; new_is = refl }
 
-b_step_1 : (stories : Stories) → DoesTry (standing_before (record { name = codes "b"; lines = line_nr 6 (Asks (call.Socket kind.Push (options_with 1000))) ∷ line_nr 7 (Asks (call.Bind 0 at_w)) ∷ line_nr 8 (Unbinds 0 at_w) ∷ line_nr 9 (Asks (call.Connect 0 at_q)) ∷ line_nr 10 (Asks (call.Send 0 (codes "m" ∷ []))) ∷ line_nr 11 Terms ∷ line_nr 12 (Asks (call.Send 0 (codes "m" ∷ []))) ∷ [] })) (over_at (line_nr 6 (Asks (call.Socket kind.Push (options_with 1000)))) ([]) (Said (moment (term_order stories) 2) ∷ []) (Plain (answer.Object (id 2)))) (b_1 stories)
+b_step_1 : (stories : Stories) → DoesTry (standing_before (record { name = codes "b"; lines = line_nr 6 (call.Socket kind.Push (options_with 1000)) ∷ line_nr 7 (call.Bind 0 at_w) ∷ line_nr 8 (call.Unbind 0 at_w) ∷ line_nr 9 (call.Connect 0 at_q) ∷ line_nr 10 (call.Send 0 (codes "m" ∷ [])) ∷ line_nr 11 call.Term ∷ line_nr 12 (call.Send 0 (codes "m" ∷ [])) ∷ [] })) (over_at (line_nr 6 (call.Socket kind.Push (options_with 1000))) ([]) (Said (moment (term_order stories) 2) ∷ []) (answer.Object (id 2))) (b_1 stories)
 b_step_1 stories = record { rest = _; mine = _; lines_are = refl; does = record { reply = Object (id 2); made = moment (term_order stories) 2; request = record { by = 1; answered = _; item_is = refl }; no_pump = record { pump_is = refl; skips_are = refl }; call_is = refl; answer_is = refl; new_is = refl }; told_is = refl; over_is = refl; new_is = refl }
 
-b_step_2 : (stories : Stories) → DoesTry (b_1 stories) (over_at (line_nr 7 (Asks (call.Bind 0 at_w))) (Said (moment (term_order stories) 7) ∷ []) (Said (moment (term_order stories) 8) ∷ []) (Plain answer.Done)) (b_2 stories)
+b_step_2 : (stories : Stories) → DoesTry (b_1 stories) (over_at (line_nr 7 (call.Bind 0 at_w)) (Said (moment (term_order stories) 7) ∷ []) (Said (moment (term_order stories) 8) ∷ []) answer.Done) (b_2 stories)
 b_step_2 stories = record { rest = _; mine = _; lines_are = refl; does = record { pumped = _; called = push_bound stories; pumps = record { letters = []; last = Said (moment (term_order stories) 7) ∷ []; takes = tt; ends = found_empty (moment (term_order stories) 7) (omega arith) (record { sight = _; empty_is = refl; item_is = refl }) refl; heard = sock_after (moment (term_order stories) 7) (push_made stories); hears = (tt, refl); steps = []; pattern = _; pumps = (refl, refl); looks = []; looks_are = refl; meets = refl; acts_are = refl }; does = record { reply = Done; made = moment (term_order stories) 8; request = record { by = 1; answered = _; item_is = refl }; call_is = refl; skips_are = refl; answer_is = refl; goes = (tt, refl) }; new_is = refl }; told_is = refl; over_is = refl; new_is = refl }
 
-b_step_3 : (stories : Stories) → DoesTry (b_2 stories) (over_at (line_nr 8 (Unbinds 0 at_w)) (Said (moment (term_order stories) 12) ∷ []) (Said (moment (term_order stories) 13) ∷ []) (Plain answer.Done)) (b_3 stories)
+b_step_3 : (stories : Stories) → DoesTry (b_2 stories) (over_at (line_nr 8 (call.Unbind 0 at_w)) (Said (moment (term_order stories) 12) ∷ []) (Said (moment (term_order stories) 13) ∷ []) answer.Done) (b_3 stories)
 b_step_3 stories = record { rest = _; mine = _; lines_are = refl; does = record { pumped = _; called = push_unbound stories; pumps = record { letters = []; last = Said (moment (term_order stories) 12) ∷ []; takes = tt; ends = found_empty (moment (term_order stories) 12) (omega arith) (record { sight = _; empty_is = refl; item_is = refl }) refl; heard = sock_after (moment (term_order stories) 12) (push_bound stories); hears = (tt, refl); steps = []; pattern = _; pumps = (refl, refl); looks = []; looks_are = refl; meets = refl; acts_are = refl }; does = record { reply = Done; made = moment (term_order stories) 13; request = record { by = 1; answered = _; item_is = refl }; call_is = refl; skips_are = refl; answer_is = refl; goes = (tt, refl) }; new_is = refl }; told_is = refl; over_is = refl; new_is = refl }
 
-b_step_4 : (stories : Stories) → DoesTry (b_3 stories) (over_at (line_nr 9 (Asks (call.Connect 0 at_q))) (Said (moment (term_order stories) 16) ∷ []) (Said (moment (term_order stories) 17) ∷ []) (Plain (answer.Pair (pair_nr 1)))) (b_4 stories)
+b_step_4 : (stories : Stories) → DoesTry (b_3 stories) (over_at (line_nr 9 (call.Connect 0 at_q)) (Said (moment (term_order stories) 16) ∷ []) (Said (moment (term_order stories) 17) ∷ []) (answer.Pair (pair_nr 1))) (b_4 stories)
 b_step_4 stories = record { rest = _; mine = _; lines_are = refl; does = record { pumped = _; called = push_joined stories; pumps = record { letters = []; last = Said (moment (term_order stories) 16) ∷ []; takes = tt; ends = found_empty (moment (term_order stories) 16) (omega arith) (record { sight = _; empty_is = refl; item_is = refl }) refl; heard = sock_after (moment (term_order stories) 16) (push_unbound stories); hears = (tt, refl); steps = []; pattern = _; pumps = (refl, refl); looks = []; looks_are = refl; meets = refl; acts_are = refl }; does = record { reply = Pair (pair_nr 1); made = moment (term_order stories) 17; request = record { by = 1; answered = _; item_is = refl }; call_is = refl; skips_are = refl; answer_is = refl; goes = ((refl, tt), refl) }; new_is = refl }; told_is = refl; over_is = refl; new_is = refl }
 
-b_step_5 : (stories : Stories) → DoesTry (b_4 stories) (over_at (line_nr 10 (Asks (call.Send 0 (codes "m" ∷ [])))) (Said (moment (term_order stories) 20) ∷ []) (Step (Commit (end_of 1 true) (codes "m" ∷ [])) ∷ []) (Plain (answer.Pair (pair_nr 1)))) (b_5 stories)
+b_step_5 : (stories : Stories) → DoesTry (b_4 stories) (over_at (line_nr 10 (call.Send 0 (codes "m" ∷ []))) (Said (moment (term_order stories) 20) ∷ []) (Step (Commit (end_of 1 true) (codes "m" ∷ [])) ∷ []) (answer.Pair (pair_nr 1))) (b_5 stories)
 b_step_5 stories = record { rest = _; mine = _; lines_are = refl; does = record { pumped = _; called = push_sent stories; pumps = record { letters = []; last = Said (moment (term_order stories) 20) ∷ []; takes = tt; ends = found_empty (moment (term_order stories) 20) (omega arith) (record { sight = _; empty_is = refl; item_is = refl }) refl; heard = sock_after (moment (term_order stories) 20) (push_joined stories); hears = (tt, refl); steps = []; pattern = _; pumps = (refl, refl); looks = []; looks_are = refl; meets = refl; acts_are = refl }; does = record { steps = Commit (end_of 1 true) (codes "m" ∷ []) ∷ []; sent = sent.One (pair_nr 1); pattern = Push (end_of 1 true ∷ []); sends = (end_of 1 true ∷ [], record { before = []; peer = end_of 1 true; after = []; turns_are = refl; open_is = refl; steps_are = refl; to_is = refl; new_is = refl }, refl); call_is = refl; skips_are = refl; answer_is = refl; new_is = refl }; new_is = refl }; told_is = refl; over_is = refl; new_is = refl }
 
-b_step_6 : (stories : Stories) → DoesTry (b_5 stories) (over_at (line_nr 11 Terms) ([]) (Said (moment (term_order stories) 23) ∷ []) (Plain answer.Done)) (b_6 stories)
+b_step_6 : (stories : Stories) → DoesTry (b_5 stories) (over_at (line_nr 11 call.Term) ([]) (Said (moment (term_order stories) 23) ∷ []) answer.Done) (b_6 stories)
 b_step_6 stories = record { rest = _; mine = _; lines_are = refl; does = record { reply = Asked; made = moment (term_order stories) 23; request = record { by = 1; answered = _; item_is = refl }; no_pump = record { pump_is = refl; skips_are = refl }; call_is = refl; answer_is = refl; new_is = refl }; told_is = refl; over_is = refl; new_is = refl }
 
-b_step_7 : (stories : Stories) → DoesTry (b_6 stories) (over_at (line_nr 12 (Asks (call.Send 0 (codes "m" ∷ [])))) (Said (moment (term_order stories) 26) ∷ Step (DelimiterLook (end_of 1 false)) ∷ Said (moment (term_order stories) 27) ∷ Said (moment (term_order stories) 28) ∷ Said (moment (term_order stories) 29) ∷ []) ([]) (Plain (answer.NotSent send.Term))) (b_7 stories)
+b_step_7 : (stories : Stories) → DoesTry (b_6 stories) (over_at (line_nr 12 (call.Send 0 (codes "m" ∷ []))) (Said (moment (term_order stories) 26) ∷ Step (DelimiterLook (end_of 1 false)) ∷ Said (moment (term_order stories) 27) ∷ Said (moment (term_order stories) 28) ∷ Said (moment (term_order stories) 29) ∷ []) ([]) (answer.NotSent send.Term)) (b_7 stories)
 b_step_7 stories = record { rest = _; mine = _; lines_are = refl; does = record { pumped = _; called = push_stopped stories; pumps = record { letters = (Said (moment (term_order stories) 26) ∷ Step (DelimiterLook (end_of 1 false)) ∷ Said (moment (term_order stories) 27) ∷ []) ∷ (Said (moment (term_order stories) 28) ∷ []) ∷ []; last = Said (moment (term_order stories) 29) ∷ []; takes = (record { taken = moment (term_order stories) 26; letter = _; looks = Step (DelimiterLook (end_of 1 false)) ∷ Said (moment (term_order stories) 27) ∷ []; delivery = record { by = 1; answered = _; item_is = refl }; behind = finds_end (moment (term_order stories) 27) (record { by = 1; answered = _; item_is = refl }) refl; acts_are = refl }, (record { taken = moment (term_order stories) 28; letter = _; looks = []; delivery = record { by = 1; answered = _; item_is = refl }; behind = refl; acts_are = refl }, tt)); ends = found_empty (moment (term_order stories) 29) (omega arith) (record { sight = _; empty_is = refl; item_is = refl }) refl; heard = push_stopped stories; hears = (tt, (tt, (tt, (tt, refl)))); steps = []; pattern = _; pumps = (refl, refl); looks = []; looks_are = refl; meets = refl; acts_are = refl }; does = record { call_is = refl; skips_are = refl; answer_is = refl; new_is = refl }; new_is = refl }; told_is = refl; over_is = refl; new_is = refl }
 
 b_step_8 : (stories : Stories) → ShutsFirst (b_7 stories) (Said (moment (term_order stories) 32) ∷ []) (b_8 stories)
@@ -207,6 +205,6 @@ term_over stories = record {
   journal_is = refl;
 }
 
-pub term_printed : run_journal_text term_journal ≡ term_text
+pub term_printed : journal_text term_journal ≡ term_text
 unfolding digits
 term_printed = refl

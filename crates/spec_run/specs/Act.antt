@@ -4,8 +4,8 @@ use Rattle.std.specs.List.{filter_map}
 use Rattle.spec_pattern.specs.PipeStep.{PipeStep}
 use Rattle.spec_pattern.specs.declared.answers.Skip.{Skip}
 use Rattle.spec_control.specs.Moments.{Moment}
-use Rattle.spec_run.specs.declared.journal.LineAnswer.{LineAnswer}
-use Rattle.spec_run.specs.declared.line.RunLine.{RunLine}
+use Rattle.spec_run.specs.declared.answer.Answer.{Answer}
+use Rattle.spec_run.specs.declared.script.Line.{Line}
 
 pub data Act (N S : Type 0) : Type 0 where
   Step : PipeStep → Act N S
@@ -13,12 +13,12 @@ pub data Act (N S : Type 0) : Type 0 where
 
 -- a try of a line: what is done before each call of a socket, what the call does, the messages that it dropped, those that all tries of the line dropped so far, its answer, and whether the line is over with it
 pub record Try (N S : Type 0) : Type 0 where
-  pub line : RunLine
+  pub line : Line
   pub pump : List (Act N S)
   pub call : List (Act N S)
   pub skips : List Skip
   pub told : List Skip
-  pub answer : LineAnswer
+  pub answer : Answer
   pub over : Bool
 
 pub data Deed (N S : Type 0) : Type 0 where

@@ -10,21 +10,19 @@ use Rattle.spec_control.specs.declared.entry.SeenEmpty.TheVariants.{Nothing, Rea
 use Rattle.spec_control.specs.declared.entry.Item.{Item}
 use Rattle.spec_control.specs.Control.{id}
 use Rattle.spec_control.specs.ControlExamples.{Stories, silent}
-use Rattle.spec_run.specs.declared.texts.Answer.TheVariants as answer
+use Rattle.spec_run.specs.declared.answer.Answer.TheVariants as answer
 use Rattle.spec_run.specs.Run.{Schedule}
 use Rattle.spec_run.specs.TextParts.{options_with}
-use Rattle.spec_run.specs.declared.journal.LineAnswer.TheVariants.{Plain}
-use Rattle.spec_run.specs.declared.journal.RunJournal.{RunJournal}
-use Rattle.spec_run.specs.declared.line.LineCall.TheVariants.{Asks, Closes}
-use Rattle.spec_run.specs.LineCall.{RunScript}
-use Rattle.zq_script.specs.declared.script.Call.TheVariants as call
+use Rattle.spec_run.specs.declared.journal.Journal.{Journal}
+use Rattle.spec_run.specs.declared.script.Call.TheVariants as call
+use Rattle.spec_run.specs.Script.{Script}
 use Rattle.spec_run.specs.Act.{Said, Tries, Fetches, Idles, Looks, AsksRoot}
 use Rattle.spec_run.specs.OwnedRun.{OwnedRun}
 use Rattle.spec_run.specs.InTurns.{Turned, workers_in}
 use Rattle.spec_run.specs.ExampleParts.{item_asked, item_taken, item_seen, moment, over_at, line_nr, turn_of, entry_nr, line_of_object, row_of_object}
 
-abbrev pub closing_script : RunScript
-closing_script = record { name = codes "a"; lines = line_nr 2 (Asks (call.Socket Pull (options_with 1000))) ∷ line_nr 3 (Closes 0) ∷ [] } ∷ []
+abbrev pub closing_script : Script
+closing_script = record { name = codes "a"; lines = line_nr 2 (call.Socket Pull (options_with 1000)) ∷ line_nr 3 (call.Close 0) ∷ [] } ∷ []
 
 module _ (stories : Stories) where
   -- caller 0 is the actor, 1 the reaper, 3 the conductor; the socket's mailbox has number 2
@@ -49,10 +47,10 @@ module _ (stories : Stories) where
     first = 0;
     turns =
         turn_of (Looks (moment closing_order 0) ∷ [])
-        ((Tries (over_at (line_nr 2 (Asks (call.Socket Pull (options_with 1000)))) [] (Said (moment closing_order 1) ∷ []) (Plain (answer.Object (id 1)))) ∷ [])
+        ((Tries (over_at (line_nr 2 (call.Socket Pull (options_with 1000))) [] (Said (moment closing_order 1) ∷ []) (answer.Object (id 1))) ∷ [])
         ∷ (Idles (moment closing_order 2) ∷ []) ∷ [] ∷ []) 1
         ∷ turn_of (Looks (moment closing_order 3) ∷ [])
-        ((Tries (over_at (line_nr 3 (Closes 0)) [] (Said (moment closing_order 4) ∷ []) (Plain answer.Done)) ∷ [])
+        ((Tries (over_at (line_nr 3 (call.Close 0)) [] (Said (moment closing_order 4) ∷ []) answer.Done) ∷ [])
         ∷ (Fetches 0 (Said (moment closing_order 5) ∷ []) ∷ []) ∷ [] ∷ []) 2
         ∷ turn_of (Looks (moment closing_order 6) ∷ AsksRoot (Said (moment closing_order 7) ∷ []) ∷ [])
         ([] ∷ (Fetches 2 (Said (moment closing_order 8) ∷ []) ∷ []) ∷ [] ∷ []) 3
@@ -68,9 +66,9 @@ module _ (stories : Stories) where
 abbrev pub closing_schedule : Schedule
 closing_schedule = record { seed = 0; turns = 4 }
 
-abbrev pub closing_journal : RunJournal
+abbrev pub closing_journal : Journal
 closing_journal = record {
-  actors = record { name = codes "a"; entries = entry_nr 2 (Plain (answer.Object (id 1))) ∷ entry_nr 3 (Plain answer.Done) ∷ [] } ∷ [];
+  actors = record { name = codes "a"; entries = entry_nr 2 (answer.Object (id 1)) ∷ entry_nr 3 answer.Done ∷ [] } ∷ [];
   ended = line_of_object 1 (Socket Pull) ∷ line_of_object 0 Root ∷ [];
   pipes = [];
   objects = row_of_object Root true ∷ row_of_object (Socket Pull) true ∷ [];

@@ -6,15 +6,15 @@ use Rattle.spec_pattern.specs.PipeStep.{AreExact}
 use Rattle.spec_control.specs.Control.{Control, begun}
 use Rattle.spec_control.specs.ControlRun.{is_between, after_all}
 use Rattle.spec_control.specs.Moments.{moments_from, reaper_slots}
-use Rattle.spec_run.specs.declared.journal.RunJournal.{RunJournal}
-use Rattle.spec_run.specs.LineCall.{RunScript}
+use Rattle.spec_run.specs.declared.journal.Journal.{Journal}
+use Rattle.spec_run.specs.Script.{Script}
 use Rattle.spec_run.specs.Act.{Act, Deed, Fetches, AsksRoot, Reads, all_acts, steps_in, moments_in}
 use Rattle.spec_run.specs.Event.{TakesLetter}
 use Rattle.spec_run.specs.Standing.{ActorStanding, standing_before, FetchesOne, has_finished}
 use Rattle.spec_run.specs.Worker.{AsksTheRoot}
 use Rattle.spec_run.specs.OwnedRun.{OwnedRun, IsRun, every_pipe, pipe_capacity, control_at_end}
 use Rattle.spec_run.specs.InTurns.{ActorStep, worker_count}
-use Rattle.spec_run.specs.RunJournal.{run_journal}
+use Rattle.spec_run.specs.Journal.{run_journal}
 
 pub data CoreEvent : Type 0 where
   -- an actor's next step
@@ -121,7 +121,7 @@ module _ {N S : Type 0} where
       × EventsGo io (control_behind first c) events mid rest new × (made ≡ first ++ rest)
 
   -- a run is that of these events: each deed is a step of its worker, and all are made one after another
-  pub record IsOfEvents (script : RunScript) (io : ℕ) (events : List CoreEvent) (run : OwnedRun N S) : Type 0 where
+  pub record IsOfEvents (script : Script) (io : ℕ) (events : List CoreEvent) (run : OwnedRun N S) : Type 0 where
     pub made : List (Made N S)
     pub standings : List ActorStanding
     pub go : EventsGo io (begun io) events (map standing_before script) made standings
@@ -130,7 +130,7 @@ module _ {N S : Type 0} where
     pub exact : AreExact (pipe_capacity (control_at_end io run)) [] (steps_in (all_acts (deeds_made made)))
 
 -- The journal is that of a run of the script on one thread by these events.
-pub record IsEventsJournal (N S : Type 0) (script : RunScript) (events : List CoreEvent) (j : RunJournal) : Type 0 where
+pub record IsEventsJournal (N S : Type 0) (script : Script) (events : List CoreEvent) (j : Journal) : Type 0 where
   pub run : OwnedRun N S
   pub is_run : IsRun script 1 every_pipe run
   pub of_events : IsOfEvents script 1 events run

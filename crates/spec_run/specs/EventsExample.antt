@@ -1,17 +1,15 @@
 -- A worked run by events, by hand from the tables: as the run of a socket that is made and closed, but with no looks; events that are not allowed do nothing.
 use Rattle.std.specs.Prelude.{ℕ, List, [], ◌∷◌}
 use Rattle.zq_base.specs.declared.kind.Kind.TheVariants.{Pull}
-use Rattle.zq_script.specs.declared.script.Call.TheVariants as call
+use Rattle.spec_run.specs.declared.script.Call.TheVariants as call
 use Rattle.spec_control.specs.declared.letter.Word.TheVariants.{Term, TermAck, Reap}
 use Rattle.spec_control.specs.declared.request.Req.TheVariants.{Socket as MakeSocket, AskTerm, Close}
 use Rattle.spec_control.specs.declared.request.Reply.TheVariants.{Done, Object, Asked}
 use Rattle.spec_control.specs.declared.entry.Item.{Item}
 use Rattle.spec_control.specs.Control.{id}
 use Rattle.spec_control.specs.ControlExamples.{Stories, silent}
-use Rattle.spec_run.specs.declared.texts.Answer.TheVariants as answer
+use Rattle.spec_run.specs.declared.answer.Answer.TheVariants as answer
 use Rattle.spec_run.specs.TextParts.{options_with}
-use Rattle.spec_run.specs.declared.journal.LineAnswer.TheVariants.{Plain}
-use Rattle.spec_run.specs.declared.line.LineCall.TheVariants.{Asks, Closes}
 use Rattle.spec_run.specs.Act.{Said, Tries, Fetches, AsksRoot, Reads}
 use Rattle.spec_run.specs.OwnedRun.{OwnedRun}
 use Rattle.spec_run.specs.CoreEvents.{CoreEvent, NextLine, TakeFrom, AskRoot, Tick, Made}
@@ -35,8 +33,8 @@ module _ (stories : Stories) where
 
   abbrev pub events_made : List (Made ℕ ℕ)
   events_made =
-      record { worker = 0; deed = Tries (over_at (line_nr 2 (Asks (call.Socket Pull (options_with 1000)))) [] (Said (moment events_order 0) ∷ []) (Plain (answer.Object (id 1)))) }
-      ∷ record { worker = 0; deed = Tries (over_at (line_nr 3 (Closes 0)) [] (Said (moment events_order 1) ∷ []) (Plain answer.Done)) }
+      record { worker = 0; deed = Tries (over_at (line_nr 2 (call.Socket Pull (options_with 1000))) [] (Said (moment events_order 0) ∷ []) (answer.Object (id 1))) }
+      ∷ record { worker = 0; deed = Tries (over_at (line_nr 3 (call.Close 0)) [] (Said (moment events_order 1) ∷ []) answer.Done) }
       ∷ record { worker = 3; deed = Reads 5 }
       ∷ record { worker = 1; deed = Fetches 0 (Said (moment events_order 2) ∷ []) }
       ∷ record { worker = 3; deed = AsksRoot (Said (moment events_order 3) ∷ []) }
@@ -47,8 +45,8 @@ module _ (stories : Stories) where
   abbrev pub events_run : OwnedRun ℕ ℕ
   events_run = record {
     workers =
-        ((Tries (over_at (line_nr 2 (Asks (call.Socket Pull (options_with 1000)))) [] (Said (moment events_order 0) ∷ []) (Plain (answer.Object (id 1)))) ∷ [])
-        ∷ (Tries (over_at (line_nr 3 (Closes 0)) [] (Said (moment events_order 1) ∷ []) (Plain answer.Done)) ∷ []) ∷ [])
+        ((Tries (over_at (line_nr 2 (call.Socket Pull (options_with 1000))) [] (Said (moment events_order 0) ∷ []) (answer.Object (id 1))) ∷ [])
+        ∷ (Tries (over_at (line_nr 3 (call.Close 0)) [] (Said (moment events_order 1) ∷ []) answer.Done) ∷ []) ∷ [])
         ∷ ((Fetches 0 (Said (moment events_order 2) ∷ []) ∷ []) ∷ (Fetches 2 (Said (moment events_order 4) ∷ []) ∷ []) ∷ (Fetches 0 (Said (moment events_order 5) ∷ []) ∷ []) ∷ [])
         ∷ []
         ∷ ((Reads 5 ∷ []) ∷ (AsksRoot (Said (moment events_order 3) ∷ []) ∷ []) ∷ []) ∷ [];

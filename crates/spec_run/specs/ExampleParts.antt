@@ -16,12 +16,12 @@ use Rattle.spec_control.specs.declared.entry.Item.TheVariants.{Event, Seen}
 use Rattle.spec_control.specs.Control.{begun, id}
 use Rattle.spec_control.specs.ControlRun.{after_all}
 use Rattle.spec_control.specs.Moments.{Moment}
-use Rattle.spec_run.specs.declared.journal.LineAnswer.{LineAnswer}
-use Rattle.spec_run.specs.declared.journal.LineEntry.{LineEntry}
+use Rattle.spec_run.specs.declared.answer.Answer.{Answer}
+use Rattle.spec_run.specs.declared.journal.Entry.{Entry}
 use Rattle.spec_run.specs.declared.journal.ObjectLine.{ObjectLine}
 use Rattle.spec_run.specs.declared.journal.ObjectRow.{ObjectRow}
-use Rattle.spec_run.specs.declared.line.LineCall.{LineCall}
-use Rattle.spec_run.specs.declared.line.RunLine.{RunLine}
+use Rattle.spec_run.specs.declared.script.Call.{Call}
+use Rattle.spec_run.specs.declared.script.Line.{Line}
 use Rattle.spec_run.specs.Act.{Act, Try, Deed}
 use Rattle.spec_run.specs.InTurns.{OneTurn}
 
@@ -43,16 +43,16 @@ abbrev pub moment : List (Item ℕ ℕ) → ℕ → Moment ℕ ℕ
 moment order k = record { found = after_all (take k order) (begun 1); item = slice_index_or order k (item_seen 0 Nothing Live 0) }
 
 -- a line that was over at its first try and dropped nothing
-abbrev pub over_at : RunLine → (pump call : List (Act ℕ ℕ)) → LineAnswer → Try ℕ ℕ
+abbrev pub over_at : Line → (pump call : List (Act ℕ ℕ)) → Answer → Try ℕ ℕ
 over_at line pump call answer = record { line = line; pump = pump; call = call; skips = []; told = []; answer = answer; over = true }
 
-abbrev pub line_nr : ℕ → LineCall → RunLine
+abbrev pub line_nr : ℕ → Call → Line
 line_nr number call = record { number = number; call = call }
 
 abbrev pub turn_of : (begins : List (Deed ℕ ℕ)) → (steps : List (List (Deed ℕ ℕ))) → (reading : ℕ) → OneTurn ℕ ℕ
 turn_of begins steps reading = record { begins = begins; steps = steps; reading = reading }
 
-abbrev pub entry_nr : ℕ → LineAnswer → LineEntry
+abbrev pub entry_nr : ℕ → Answer → Entry
 entry_nr line answer = record { line = line; answer = answer; skips = [] }
 
 abbrev pub line_of_object : ℕ → ObjKind → ObjectLine

@@ -1,13 +1,14 @@
 -- Worked examples (own choice), so that a wrong rule in the definitions does not check.
 use Rattle.std.specs.Prelude.{◌≡◌, ℕ, List, [], ◌∷◌, true, false, codes}
-use Rattle.zq_script.specs.declared.script.Call.TheVariants as call
-use Rattle.zq_script.specs.PartText.{parts_text}
+use Rattle.spec_run.specs.declared.script.Call.TheVariants as call
+use Rattle.spec_run.specs.PartText.{parts_text}
 use Rattle.spec_pattern.specs.PipeStep.{Commit, FullLook}
 use Rattle.spec_pattern.specs.TurnList.{GoesOut}
 use Rattle.spec_pattern.specs.declared.answers.Rule.TheVariants.{Stray, BadEnv}
 use Rattle.spec_pattern.specs.declared.answers.RecvRefusal.TheVariants as recv
-use Rattle.spec_run.specs.declared.texts.Answer.TheVariants as answer
-use Rattle.spec_run.specs.Turn.{IsOrder, tries_of, asks_again}
+use Rattle.spec_run.specs.declared.answer.Answer.TheVariants as answer
+use Rattle.spec_run.specs.Script.{line_tries, is_tried_again}
+use Rattle.spec_run.specs.Turn.{IsOrder}
 use Rattle.spec_run.specs.Text.{answer_text, skips_text, pipe_text}
 use Rattle.spec_run.specs.TextParts.{pair_nr, end_a, end_b, open_to_all, got_from_1, skip_at}
 use Rattle.spec_run.specs.ExamplesPipes.{Pipes}
@@ -41,9 +42,9 @@ pub record Orders : Type 0 where
   pub seed_1 : IsOrder 1 1 four_workers (2 ∷ 0 ∷ 1 ∷ 3 ∷ []) 7062582979898595269
   pub seed_0 : IsOrder 0 0 four_workers four_workers 0
   pub not_in_script_order : (after : ℕ) → IsOrder 1 1 four_workers four_workers after → ⊥
-  pub tried_twice : tries_of (call.Recv 0 2) ≡ 2
-  pub tried_again : asks_again (answer.NotReceived recv.Again) ≡ true
-  pub got_at_once : asks_again (got_from_1 (codes "a")) ≡ false
+  pub tried_twice : line_tries (call.Recv 0 2) ≡ 2
+  pub tried_again : is_tried_again (answer.NotReceived recv.Again) ≡ true
+  pub got_at_once : is_tried_again (got_from_1 (codes "a")) ≡ false
   -- the first end is full, so the message goes to the second, and these two go behind the third
   pub next_end : GoesOut open_to_all (codes "a" ∷ []) (end_a 1 ∷ end_a 2 ∷ end_a 3 ∷ []) (FullLook (end_a 1) ∷ Commit (end_a 2) (codes "a" ∷ []) ∷ []) (pair_nr 2) (end_a 3 ∷ end_a 1 ∷ end_a 2 ∷ [])
 

@@ -15,7 +15,7 @@ use Rattle.spec_control.specs.declared.entry.SeenEmpty.TheVariants.{Nothing, Rea
 use Rattle.spec_control.specs.Control.{begun}
 use Rattle.spec_run.specs.Turn.{IsOrder}
 use Rattle.spec_control.specs.Moments.{Moment, moments_from, first_waiting}
-use Rattle.spec_run.specs.LineCall.{RunScript}
+use Rattle.spec_run.specs.Script.{Script}
 use Rattle.spec_run.specs.Act.{Act, Deed, Tries, Shuts, Fetches, Idles, Works, Looks, AsksRoot, Reads, all_acts, steps_in, moments_in}
 use Rattle.spec_run.specs.Event.{IsLookAt, TakesLetter}
 use Rattle.spec_run.specs.Standing.{ActorStanding, standing_before, DoesTry, ShutsFirst, has_finished}
@@ -65,7 +65,7 @@ NeverFall x [] = Unit {0}
 NeverFall x (y ∷ ys) = (x ≤ y) × NeverFall y ys
 
 -- how many workers there are but the conductor
-abbrev pub worker_count : RunScript → (io : ℕ) → ℕ
+abbrev pub worker_count : Script → (io : ℕ) → ℕ
 worker_count script io = length script + 1 + io
 
 module _ {N S : Type 0} where
@@ -169,7 +169,7 @@ module _ {N S : Type 0} where
   workers_in count t = map (λ w. map (turn_step w) t.turns) (range_with_len 0 count) ++ conductor_steps t ∷ []
 
   -- the run goes in turns, of which it may take so many
-  pub record IsInTurns (script : RunScript) (io limit : ℕ) (t : Turned N S) (run : OwnedRun N S) : Type 0 where
+  pub record IsInTurns (script : Script) (io limit : ℕ) (t : Turned N S) (run : OwnedRun N S) : Type 0 where
     pub workers_are : run.workers ≡ workers_in (worker_count script io) t
     pub standings : List ActorStanding
     pub go : TurnsGo io (map standing_before script) t.turns standings
@@ -201,7 +201,7 @@ module _ {N S : Type 0} where
   sequence orders t = Reads t.first ∷ (turns_sequence orders t.turns ++ Looks t.last ∷ [])
 
   -- on one thread, the deeds are made one after another: their items are the order, and each look finds what was left
-  pub record IsOneThread (seed : ℕ) (script : RunScript) (io : ℕ) (t : Turned N S) (run : OwnedRun N S) : Type 0 where
+  pub record IsOneThread (seed : ℕ) (script : Script) (io : ℕ) (t : Turned N S) (run : OwnedRun N S) : Type 0 where
     pub orders : List (List ℕ)
     pub drawn : Draws seed (range_with_len 0 (worker_count script io)) seed t.turns orders
     pub one_order : moments_in (all_acts (sequence orders t)) ≡ moments_from (begun io) run.order

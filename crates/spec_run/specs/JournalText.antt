@@ -1,4 +1,4 @@
--- The text of a journal over sockets that end (own format).
+-- The text of a journal (own format).
 use Rattle.std.specs.Prelude.{◌+◌, ℕ, List, [], ◌∷◌, ◌++◌, Bool, true, false, Option, Some, None, nat_eq, if◌then◌else◌, codes, decimal, flat_map}
 use Rattle.zq_base.specs.Kind.{kind_name}
 use Rattle.zq_base.specs.declared.ids.ObjId.{ObjId}
@@ -7,32 +7,24 @@ use Rattle.spec_control.specs.declared.end.Reason.TheVariants.{Closed, BadId, Se
 use Rattle.spec_control.specs.declared.object.ObjKind.{ObjKind}
 use Rattle.spec_control.specs.declared.object.ObjKind.TheVariants.{Root, Socket, Listener, Session}
 use Rattle.spec_control.specs.Control.{id}
-use Rattle.spec_run.specs.declared.texts.PipeRow.{PipeRow}
+use Rattle.spec_run.specs.declared.journal.PipeRow.{PipeRow}
 use Rattle.spec_run.specs.Text.{answer_text, skips_text, pipe_text}
-use Rattle.spec_run.specs.declared.journal.LineAnswer.{LineAnswer}
-use Rattle.spec_run.specs.declared.journal.LineAnswer.TheVariants.{Plain, Both, NotBound, Term}
-use Rattle.spec_run.specs.declared.journal.LineEntry.{LineEntry}
+use Rattle.spec_run.specs.declared.journal.Entry.{Entry}
 use Rattle.spec_run.specs.declared.journal.ActorLines.{ActorLines}
 use Rattle.spec_run.specs.declared.journal.ObjectLine.{ObjectLine}
 use Rattle.spec_run.specs.declared.journal.ObjectRow.{ObjectRow}
 use Rattle.spec_run.specs.declared.journal.SettledRow.{SettledRow}
-use Rattle.spec_run.specs.declared.journal.RunJournal.{RunJournal}
+use Rattle.spec_run.specs.declared.journal.Journal.{Journal}
 
 abbrev pub object_text : ObjId → List ℕ
 object_text o = codes "o" ++ decimal o.0
 
-abbrev pub line_answer_text : LineAnswer → List ℕ
-line_answer_text (Plain answer) = answer_text answer
-line_answer_text (Both o p) = codes "ok " ++ object_text o ++ codes " p" ++ decimal p.0
-line_answer_text NotBound = codes "notbound"
-line_answer_text Term = codes "term"
-
 -- a line of an actor: its name, the line's number, the answer, the messages dropped
-abbrev pub line_entry_text : List ℕ → LineEntry → List ℕ
-line_entry_text name e = name ++ codes " " ++ decimal e.line ++ codes " " ++ line_answer_text e.answer ++ skips_text e.skips ++ codes "\n"
+abbrev pub entry_text : List ℕ → Entry → List ℕ
+entry_text name e = name ++ codes " " ++ decimal e.line ++ codes " " ++ answer_text e.answer ++ skips_text e.skips ++ codes "\n"
 
 abbrev pub actor_lines_text : ActorLines → List ℕ
-actor_lines_text actor = flat_map (line_entry_text actor.name) actor.entries
+actor_lines_text actor = flat_map (entry_text actor.name) actor.entries
 
 -- what an object is
 abbrev pub object_kind_text : ObjKind → List ℕ
@@ -92,5 +84,5 @@ over_text true objects = codes "done\n"
 over_text false objects = living_text 0 objects ++ codes "unfinished\n"
 
 -- the text of a journal: each actor's answers, the objects that ended, the settled pipes, and how the run ended
-abbrev pub run_journal_text : RunJournal → List ℕ
-run_journal_text j = flat_map actor_lines_text j.actors ++ flat_map ended_text j.ended ++ flat_map pipe_slot_text j.pipes ++ over_text j.done j.objects
+abbrev pub journal_text : Journal → List ℕ
+journal_text j = flat_map actor_lines_text j.actors ++ flat_map ended_text j.ended ++ flat_map pipe_slot_text j.pipes ++ over_text j.done j.objects

@@ -1,7 +1,7 @@
 -- A worked run, by hand from the tables: a PULL and a PUSH are joined, two messages are sent, and both sockets are closed with them left, so that both ends are asked at once.
 use Rattle.std.specs.Prelude.{ℕ, true, false, List, [], ◌∷◌, Some, codes}
 use Rattle.zq_base.specs.declared.kind.Kind.TheVariants.{Push, Pull}
-use Rattle.zq_script.specs.declared.script.Call.TheVariants as call
+use Rattle.spec_run.specs.declared.script.Call.TheVariants as call
 use Rattle.spec_pattern.specs.PipeStep.{Commit, Seal}
 use Rattle.spec_control.specs.declared.end.Reason.TheVariants.{Closed}
 use Rattle.spec_control.specs.declared.object.ObjKind.TheVariants.{Root, Socket}
@@ -13,29 +13,27 @@ use Rattle.spec_control.specs.declared.entry.SeenEmpty.TheVariants.{Nothing, Mai
 use Rattle.spec_control.specs.declared.entry.Item.{Item}
 use Rattle.spec_control.specs.Control.{id, end_of}
 use Rattle.spec_control.specs.ControlExamples.{Stories, silent, opened, joined, settled}
-use Rattle.spec_run.specs.declared.texts.Answer.TheVariants as answer
+use Rattle.spec_run.specs.declared.answer.Answer.TheVariants as answer
 use Rattle.spec_run.specs.Run.{Schedule}
 use Rattle.spec_run.specs.TextParts.{options_with, pair_nr, at_q, row_given}
-use Rattle.spec_run.specs.declared.journal.LineAnswer.TheVariants.{Plain}
-use Rattle.spec_run.specs.declared.journal.RunJournal.{RunJournal}
-use Rattle.spec_run.specs.declared.line.LineCall.TheVariants.{Asks, Closes}
-use Rattle.spec_run.specs.LineCall.{RunScript}
+use Rattle.spec_run.specs.declared.journal.Journal.{Journal}
+use Rattle.spec_run.specs.Script.{Script}
 use Rattle.spec_run.specs.Act.{Step, Said, Tries, Shuts, Fetches, Idles, Looks, AsksRoot}
 use Rattle.spec_run.specs.OwnedRun.{OwnedRun}
 use Rattle.spec_run.specs.InTurns.{Turned, workers_in}
 use Rattle.spec_run.specs.ExampleParts.{item_asked, item_taken, item_seen, moment, over_at, line_nr, turn_of, entry_nr, line_of_object, row_of_object}
 
-abbrev pub left_script : RunScript
+abbrev pub left_script : Script
 left_script = record {
   name = codes "a";
   lines =
-      (line_nr 2 (Asks (call.Socket Pull (options_with 1000))))
-      ∷ (line_nr 3 (Asks (call.Socket Push (options_with 1000))))
-      ∷ (line_nr 4 (Asks (call.Bind 0 at_q)))
-      ∷ (line_nr 5 (Asks (call.Connect 1 at_q)))
-      ∷ (line_nr 6 (Asks (call.Send 1 (codes "a" ∷ []))))
-      ∷ (line_nr 7 (Asks (call.Send 1 (codes "b" ∷ []))))
-      ∷ (line_nr 8 (Closes 0)) ∷ [];
+      (line_nr 2 (call.Socket Pull (options_with 1000)))
+      ∷ (line_nr 3 (call.Socket Push (options_with 1000)))
+      ∷ (line_nr 4 (call.Bind 0 at_q))
+      ∷ (line_nr 5 (call.Connect 1 at_q))
+      ∷ (line_nr 6 (call.Send 1 (codes "a" ∷ [])))
+      ∷ (line_nr 7 (call.Send 1 (codes "b" ∷ [])))
+      ∷ (line_nr 8 (call.Close 0)) ∷ [];
 } ∷ []
 
 module _ (stories : Stories) where
@@ -94,13 +92,13 @@ module _ (stories : Stories) where
   left_turned = record {
     first = 0;
     turns =
-        turn_of (Looks (moment left_order 0) ∷ []) ((Tries (over_at (line_nr 2 (Asks (call.Socket Pull (options_with 1000)))) ([]) (Said (moment left_order 1) ∷ []) (Plain (answer.Object (id 1)))) ∷ []) ∷ (Idles (moment left_order 2) ∷ []) ∷ [] ∷ []) 1
-        ∷ turn_of (Looks (moment left_order 3) ∷ []) ((Tries (over_at (line_nr 3 (Asks (call.Socket Push (options_with 1000)))) ([]) (Said (moment left_order 4) ∷ []) (Plain (answer.Object (id 2)))) ∷ []) ∷ (Idles (moment left_order 5) ∷ []) ∷ [] ∷ []) 2
-        ∷ turn_of (Looks (moment left_order 6) ∷ []) ((Tries (over_at (line_nr 4 (Asks (call.Bind 0 at_q))) (Said (moment left_order 7) ∷ []) (Said (moment left_order 8) ∷ []) (Plain answer.Done)) ∷ []) ∷ (Idles (moment left_order 9) ∷ []) ∷ [] ∷ []) 3
-        ∷ turn_of (Looks (moment left_order 10) ∷ []) ((Tries (over_at (line_nr 5 (Asks (call.Connect 1 at_q))) (Said (moment left_order 11) ∷ []) (Said (moment left_order 12) ∷ []) (Plain (answer.Pair (pair_nr 1)))) ∷ []) ∷ (Idles (moment left_order 13) ∷ []) ∷ [] ∷ []) 4
-        ∷ turn_of (Looks (moment left_order 14) ∷ []) ((Tries (over_at (line_nr 6 (Asks (call.Send 1 (codes "a" ∷ [])))) (Said (moment left_order 15) ∷ []) (Step (Commit (end_of 1 true) (codes "a" ∷ [])) ∷ []) (Plain (answer.Pair (pair_nr 1)))) ∷ []) ∷ (Idles (moment left_order 16) ∷ []) ∷ [] ∷ []) 5
-        ∷ turn_of (Looks (moment left_order 17) ∷ []) ((Tries (over_at (line_nr 7 (Asks (call.Send 1 (codes "b" ∷ [])))) (Said (moment left_order 18) ∷ []) (Step (Commit (end_of 1 true) (codes "b" ∷ [])) ∷ []) (Plain (answer.Pair (pair_nr 1)))) ∷ []) ∷ (Idles (moment left_order 19) ∷ []) ∷ [] ∷ []) 6
-        ∷ turn_of (Looks (moment left_order 20) ∷ []) ((Tries (over_at (line_nr 8 (Closes 0)) ([]) (Said (moment left_order 21) ∷ []) (Plain answer.Done)) ∷ []) ∷ (Fetches 0 (Said (moment left_order 22) ∷ []) ∷ []) ∷ [] ∷ []) 7
+        turn_of (Looks (moment left_order 0) ∷ []) ((Tries (over_at (line_nr 2 (call.Socket Pull (options_with 1000))) ([]) (Said (moment left_order 1) ∷ []) (answer.Object (id 1))) ∷ []) ∷ (Idles (moment left_order 2) ∷ []) ∷ [] ∷ []) 1
+        ∷ turn_of (Looks (moment left_order 3) ∷ []) ((Tries (over_at (line_nr 3 (call.Socket Push (options_with 1000))) ([]) (Said (moment left_order 4) ∷ []) (answer.Object (id 2))) ∷ []) ∷ (Idles (moment left_order 5) ∷ []) ∷ [] ∷ []) 2
+        ∷ turn_of (Looks (moment left_order 6) ∷ []) ((Tries (over_at (line_nr 4 (call.Bind 0 at_q)) (Said (moment left_order 7) ∷ []) (Said (moment left_order 8) ∷ []) answer.Done) ∷ []) ∷ (Idles (moment left_order 9) ∷ []) ∷ [] ∷ []) 3
+        ∷ turn_of (Looks (moment left_order 10) ∷ []) ((Tries (over_at (line_nr 5 (call.Connect 1 at_q)) (Said (moment left_order 11) ∷ []) (Said (moment left_order 12) ∷ []) (answer.Pair (pair_nr 1))) ∷ []) ∷ (Idles (moment left_order 13) ∷ []) ∷ [] ∷ []) 4
+        ∷ turn_of (Looks (moment left_order 14) ∷ []) ((Tries (over_at (line_nr 6 (call.Send 1 (codes "a" ∷ []))) (Said (moment left_order 15) ∷ []) (Step (Commit (end_of 1 true) (codes "a" ∷ [])) ∷ []) (answer.Pair (pair_nr 1))) ∷ []) ∷ (Idles (moment left_order 16) ∷ []) ∷ [] ∷ []) 5
+        ∷ turn_of (Looks (moment left_order 17) ∷ []) ((Tries (over_at (line_nr 7 (call.Send 1 (codes "b" ∷ []))) (Said (moment left_order 18) ∷ []) (Step (Commit (end_of 1 true) (codes "b" ∷ [])) ∷ []) (answer.Pair (pair_nr 1))) ∷ []) ∷ (Idles (moment left_order 19) ∷ []) ∷ [] ∷ []) 6
+        ∷ turn_of (Looks (moment left_order 20) ∷ []) ((Tries (over_at (line_nr 8 (call.Close 0)) ([]) (Said (moment left_order 21) ∷ []) answer.Done) ∷ []) ∷ (Fetches 0 (Said (moment left_order 22) ∷ []) ∷ []) ∷ [] ∷ []) 7
         ∷ turn_of (Looks (moment left_order 23) ∷ []) ((Shuts (Said (moment left_order 24) ∷ []) ∷ []) ∷ (Fetches 0 (Said (moment left_order 25) ∷ []) ∷ []) ∷ [] ∷ []) 8
         ∷ turn_of (Looks (moment left_order 26) ∷ AsksRoot (Said (moment left_order 27) ∷ []) ∷ []) ([] ∷ (Fetches 2 (Said (moment left_order 28) ∷ []) ∷ []) ∷ [] ∷ []) 9
         ∷ turn_of (Looks (moment left_order 29) ∷ []) ([] ∷ (Fetches 2 (Said (moment left_order 30) ∷ Step (Seal (end_of 1 false)) ∷ []) ∷ []) ∷ [] ∷ []) 10
@@ -121,14 +119,14 @@ module _ (stories : Stories) where
 abbrev pub left_schedule : Schedule
 left_schedule = record { seed = 0; turns = 17 }
 
-abbrev pub left_journal : RunJournal
+abbrev pub left_journal : Journal
 left_journal = record {
   actors = record {
     name = codes "a";
     entries =
-        entry_nr 2 (Plain (answer.Object (id 1))) ∷ entry_nr 3 (Plain (answer.Object (id 2))) ∷ entry_nr 4 (Plain answer.Done)
-        ∷ entry_nr 5 (Plain (answer.Pair (pair_nr 1))) ∷ entry_nr 6 (Plain (answer.Pair (pair_nr 1))) ∷ entry_nr 7 (Plain (answer.Pair (pair_nr 1)))
-        ∷ entry_nr 8 (Plain answer.Done) ∷ [];
+        entry_nr 2 (answer.Object (id 1)) ∷ entry_nr 3 (answer.Object (id 2)) ∷ entry_nr 4 answer.Done
+        ∷ entry_nr 5 (answer.Pair (pair_nr 1)) ∷ entry_nr 6 (answer.Pair (pair_nr 1)) ∷ entry_nr 7 (answer.Pair (pair_nr 1))
+        ∷ entry_nr 8 answer.Done ∷ [];
   } ∷ [];
   ended = line_of_object 1 (Socket Pull) ∷ line_of_object 2 (Socket Push) ∷ line_of_object 0 Root ∷ [];
   pipes =

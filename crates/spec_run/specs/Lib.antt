@@ -1,4 +1,4 @@
-pub mod LineCall
+pub mod Script
 pub mod ControlAnswer
 pub mod Act
 pub mod OpenSocket
@@ -11,7 +11,7 @@ pub mod OwnedRun
 pub mod InTurns
 pub mod CoreEvents
 pub mod Fate
-pub mod RunJournal
+pub mod Journal
 pub mod JournalText
 pub mod ExampleParts
 pub mod ClosingExample
@@ -29,6 +29,7 @@ pub use Rattle.spec_pattern.specs.Call
 pub mod Line
 pub mod Turn
 pub mod Run
+pub mod PartText
 pub mod Text
 pub mod TextParts
 pub mod ExamplesPipes

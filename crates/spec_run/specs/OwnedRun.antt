@@ -15,7 +15,7 @@ use Rattle.spec_control.specs.Names.{AreNamed}
 use Rattle.spec_control.specs.Held.{caller_of}
 use Rattle.spec_control.specs.Has.{AreBy}
 use Rattle.spec_control.specs.Moments.{Moment, moments_from, moments_by}
-use Rattle.spec_run.specs.LineCall.{RunScript}
+use Rattle.spec_run.specs.Script.{Script}
 use Rattle.spec_run.specs.Act.{Deed, all_acts, steps_in, moments_in}
 use Rattle.spec_run.specs.Worker.{Role, roles, IsWorkOf}
 
@@ -107,7 +107,7 @@ module _ {N S : Type 0} where
   HasLinkRun o run = Unit {0}
 
   -- the run of a script with so many I/O workers, where these pipes count
-  pub record IsRun (script : RunScript) (io : ℕ) (counts : PipeId → Bool) (run : OwnedRun N S) : Type 0 where
+  pub record IsRun (script : Script) (io : ℕ) (counts : PipeId → Bool) (run : OwnedRun N S) : Type 0 where
     -- each worker's answers and drops follow from its own deeds
     pub «local» : AllWork (roles script io) run.workers
     -- what is taken from a pipe is a prefix of what is committed to it, and looks are borne out

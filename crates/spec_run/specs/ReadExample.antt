@@ -1,7 +1,7 @@
 -- A worked run, by hand from the tables: a PULL and a PUSH are joined, two messages are sent, the PUSH is closed, and the PULL receives them and meets the delimiter before it is closed.
 use Rattle.std.specs.Prelude.{ℕ, true, false, List, [], ◌∷◌, Some, None, codes}
 use Rattle.zq_base.specs.declared.kind.Kind.TheVariants.{Push, Pull}
-use Rattle.zq_script.specs.declared.script.Call.TheVariants as call
+use Rattle.spec_run.specs.declared.script.Call.TheVariants as call
 use Rattle.spec_pattern.specs.PipeStep.{Commit, Seal, Take, WaitingLook, DelimiterLook}
 use Rattle.spec_pattern.specs.declared.answers.RecvRefusal.TheVariants as recv
 use Rattle.spec_control.specs.declared.end.Reason.TheVariants.{Closed}
@@ -14,32 +14,30 @@ use Rattle.spec_control.specs.declared.entry.SeenEmpty.TheVariants.{Nothing, Mai
 use Rattle.spec_control.specs.declared.entry.Item.{Item}
 use Rattle.spec_control.specs.Control.{id, end_of}
 use Rattle.spec_control.specs.ControlExamples.{Stories, silent, opened, joined, met_before, settled}
-use Rattle.spec_run.specs.declared.texts.Answer.TheVariants as answer
+use Rattle.spec_run.specs.declared.answer.Answer.TheVariants as answer
 use Rattle.spec_run.specs.Run.{Schedule}
 use Rattle.spec_run.specs.TextParts.{options_with, pair_nr, at_q, row_given, got_from_1}
-use Rattle.spec_run.specs.declared.journal.LineAnswer.TheVariants.{Plain}
-use Rattle.spec_run.specs.declared.journal.RunJournal.{RunJournal}
-use Rattle.spec_run.specs.declared.line.LineCall.TheVariants.{Asks, Closes}
-use Rattle.spec_run.specs.LineCall.{RunScript}
+use Rattle.spec_run.specs.declared.journal.Journal.{Journal}
+use Rattle.spec_run.specs.Script.{Script}
 use Rattle.spec_run.specs.Act.{Step, Said, Tries, Shuts, Fetches, Idles, Looks, AsksRoot}
 use Rattle.spec_run.specs.OwnedRun.{OwnedRun}
 use Rattle.spec_run.specs.InTurns.{Turned, workers_in}
 use Rattle.spec_run.specs.ExampleParts.{item_asked, item_taken, item_met, item_seen, moment, over_at, line_nr, turn_of, entry_nr, line_of_object, row_of_object}
 
-abbrev pub read_script : RunScript
+abbrev pub read_script : Script
 read_script = record {
   name = codes "a";
   lines =
-      (line_nr 2 (Asks (call.Socket Pull (options_with 1000))))
-      ∷ (line_nr 3 (Asks (call.Socket Push (options_with 1000))))
-      ∷ (line_nr 4 (Asks (call.Bind 0 at_q)))
-      ∷ (line_nr 5 (Asks (call.Connect 1 at_q)))
-      ∷ (line_nr 6 (Asks (call.Send 1 (codes "a" ∷ []))))
-      ∷ (line_nr 7 (Asks (call.Send 1 (codes "b" ∷ []))))
-      ∷ (line_nr 8 (Closes 1))
-      ∷ (line_nr 9 (Asks (call.Recv 0 1)))
-      ∷ (line_nr 10 (Asks (call.Recv 0 1)))
-      ∷ (line_nr 11 (Asks (call.Recv 0 1))) ∷ [];
+      (line_nr 2 (call.Socket Pull (options_with 1000)))
+      ∷ (line_nr 3 (call.Socket Push (options_with 1000)))
+      ∷ (line_nr 4 (call.Bind 0 at_q))
+      ∷ (line_nr 5 (call.Connect 1 at_q))
+      ∷ (line_nr 6 (call.Send 1 (codes "a" ∷ [])))
+      ∷ (line_nr 7 (call.Send 1 (codes "b" ∷ [])))
+      ∷ (line_nr 8 (call.Close 1))
+      ∷ (line_nr 9 (call.Recv 0 1))
+      ∷ (line_nr 10 (call.Recv 0 1))
+      ∷ (line_nr 11 (call.Recv 0 1)) ∷ [];
 } ∷ []
 
 module _ (stories : Stories) where
@@ -100,16 +98,16 @@ module _ (stories : Stories) where
   read_turned = record {
     first = 0;
     turns =
-        turn_of (Looks (moment read_order 0) ∷ []) ((Tries (over_at (line_nr 2 (Asks (call.Socket Pull (options_with 1000)))) ([]) (Said (moment read_order 1) ∷ []) (Plain (answer.Object (id 1)))) ∷ []) ∷ (Idles (moment read_order 2) ∷ []) ∷ [] ∷ []) 1
-        ∷ turn_of (Looks (moment read_order 3) ∷ []) ((Tries (over_at (line_nr 3 (Asks (call.Socket Push (options_with 1000)))) ([]) (Said (moment read_order 4) ∷ []) (Plain (answer.Object (id 2)))) ∷ []) ∷ (Idles (moment read_order 5) ∷ []) ∷ [] ∷ []) 2
-        ∷ turn_of (Looks (moment read_order 6) ∷ []) ((Tries (over_at (line_nr 4 (Asks (call.Bind 0 at_q))) (Said (moment read_order 7) ∷ []) (Said (moment read_order 8) ∷ []) (Plain answer.Done)) ∷ []) ∷ (Idles (moment read_order 9) ∷ []) ∷ [] ∷ []) 3
-        ∷ turn_of (Looks (moment read_order 10) ∷ []) ((Tries (over_at (line_nr 5 (Asks (call.Connect 1 at_q))) (Said (moment read_order 11) ∷ []) (Said (moment read_order 12) ∷ []) (Plain (answer.Pair (pair_nr 1)))) ∷ []) ∷ (Idles (moment read_order 13) ∷ []) ∷ [] ∷ []) 4
-        ∷ turn_of (Looks (moment read_order 14) ∷ []) ((Tries (over_at (line_nr 6 (Asks (call.Send 1 (codes "a" ∷ [])))) (Said (moment read_order 15) ∷ []) (Step (Commit (end_of 1 true) (codes "a" ∷ [])) ∷ []) (Plain (answer.Pair (pair_nr 1)))) ∷ []) ∷ (Idles (moment read_order 16) ∷ []) ∷ [] ∷ []) 5
-        ∷ turn_of (Looks (moment read_order 17) ∷ []) ((Tries (over_at (line_nr 7 (Asks (call.Send 1 (codes "b" ∷ [])))) (Said (moment read_order 18) ∷ []) (Step (Commit (end_of 1 true) (codes "b" ∷ [])) ∷ []) (Plain (answer.Pair (pair_nr 1)))) ∷ []) ∷ (Idles (moment read_order 19) ∷ []) ∷ [] ∷ []) 6
-        ∷ turn_of (Looks (moment read_order 20) ∷ []) ((Tries (over_at (line_nr 8 (Closes 1)) ([]) (Said (moment read_order 21) ∷ []) (Plain answer.Done)) ∷ []) ∷ (Fetches 0 (Said (moment read_order 22) ∷ []) ∷ []) ∷ [] ∷ []) 7
-        ∷ turn_of (Looks (moment read_order 23) ∷ []) ((Tries (over_at (line_nr 9 (Asks (call.Recv 0 1))) (Said (moment read_order 24) ∷ Said (moment read_order 25) ∷ []) (Step (Take (end_of 1 true) (codes "a" ∷ [])) ∷ []) (Plain (got_from_1 (codes "a")))) ∷ []) ∷ (Fetches 3 (Said (moment read_order 26) ∷ Step (Seal (end_of 1 true)) ∷ []) ∷ []) ∷ [] ∷ []) 8
-        ∷ turn_of (Looks (moment read_order 27) ∷ []) ((Tries (over_at (line_nr 10 (Asks (call.Recv 0 1))) (Said (moment read_order 28) ∷ Step (WaitingLook (end_of 1 true)) ∷ Said (moment read_order 29) ∷ Step (WaitingLook (end_of 1 true)) ∷ []) (Step (Take (end_of 1 true) (codes "b" ∷ [])) ∷ []) (Plain (got_from_1 (codes "b")))) ∷ []) ∷ (Idles (moment read_order 30) ∷ []) ∷ [] ∷ []) 9
-        ∷ turn_of (Looks (moment read_order 31) ∷ []) ((Tries (over_at (line_nr 11 (Asks (call.Recv 0 1))) (Said (moment read_order 32) ∷ Step (DelimiterLook (end_of 1 true)) ∷ Said (moment read_order 33) ∷ []) ([]) (Plain (answer.NotReceived recv.Again))) ∷ []) ∷ (Fetches 3 (Said (moment read_order 34) ∷ []) ∷ []) ∷ [] ∷ []) 10
+        turn_of (Looks (moment read_order 0) ∷ []) ((Tries (over_at (line_nr 2 (call.Socket Pull (options_with 1000))) ([]) (Said (moment read_order 1) ∷ []) (answer.Object (id 1))) ∷ []) ∷ (Idles (moment read_order 2) ∷ []) ∷ [] ∷ []) 1
+        ∷ turn_of (Looks (moment read_order 3) ∷ []) ((Tries (over_at (line_nr 3 (call.Socket Push (options_with 1000))) ([]) (Said (moment read_order 4) ∷ []) (answer.Object (id 2))) ∷ []) ∷ (Idles (moment read_order 5) ∷ []) ∷ [] ∷ []) 2
+        ∷ turn_of (Looks (moment read_order 6) ∷ []) ((Tries (over_at (line_nr 4 (call.Bind 0 at_q)) (Said (moment read_order 7) ∷ []) (Said (moment read_order 8) ∷ []) answer.Done) ∷ []) ∷ (Idles (moment read_order 9) ∷ []) ∷ [] ∷ []) 3
+        ∷ turn_of (Looks (moment read_order 10) ∷ []) ((Tries (over_at (line_nr 5 (call.Connect 1 at_q)) (Said (moment read_order 11) ∷ []) (Said (moment read_order 12) ∷ []) (answer.Pair (pair_nr 1))) ∷ []) ∷ (Idles (moment read_order 13) ∷ []) ∷ [] ∷ []) 4
+        ∷ turn_of (Looks (moment read_order 14) ∷ []) ((Tries (over_at (line_nr 6 (call.Send 1 (codes "a" ∷ []))) (Said (moment read_order 15) ∷ []) (Step (Commit (end_of 1 true) (codes "a" ∷ [])) ∷ []) (answer.Pair (pair_nr 1))) ∷ []) ∷ (Idles (moment read_order 16) ∷ []) ∷ [] ∷ []) 5
+        ∷ turn_of (Looks (moment read_order 17) ∷ []) ((Tries (over_at (line_nr 7 (call.Send 1 (codes "b" ∷ []))) (Said (moment read_order 18) ∷ []) (Step (Commit (end_of 1 true) (codes "b" ∷ [])) ∷ []) (answer.Pair (pair_nr 1))) ∷ []) ∷ (Idles (moment read_order 19) ∷ []) ∷ [] ∷ []) 6
+        ∷ turn_of (Looks (moment read_order 20) ∷ []) ((Tries (over_at (line_nr 8 (call.Close 1)) ([]) (Said (moment read_order 21) ∷ []) answer.Done) ∷ []) ∷ (Fetches 0 (Said (moment read_order 22) ∷ []) ∷ []) ∷ [] ∷ []) 7
+        ∷ turn_of (Looks (moment read_order 23) ∷ []) ((Tries (over_at (line_nr 9 (call.Recv 0 1)) (Said (moment read_order 24) ∷ Said (moment read_order 25) ∷ []) (Step (Take (end_of 1 true) (codes "a" ∷ [])) ∷ []) (got_from_1 (codes "a"))) ∷ []) ∷ (Fetches 3 (Said (moment read_order 26) ∷ Step (Seal (end_of 1 true)) ∷ []) ∷ []) ∷ [] ∷ []) 8
+        ∷ turn_of (Looks (moment read_order 27) ∷ []) ((Tries (over_at (line_nr 10 (call.Recv 0 1)) (Said (moment read_order 28) ∷ Step (WaitingLook (end_of 1 true)) ∷ Said (moment read_order 29) ∷ Step (WaitingLook (end_of 1 true)) ∷ []) (Step (Take (end_of 1 true) (codes "b" ∷ [])) ∷ []) (got_from_1 (codes "b"))) ∷ []) ∷ (Idles (moment read_order 30) ∷ []) ∷ [] ∷ []) 9
+        ∷ turn_of (Looks (moment read_order 31) ∷ []) ((Tries (over_at (line_nr 11 (call.Recv 0 1)) (Said (moment read_order 32) ∷ Step (DelimiterLook (end_of 1 true)) ∷ Said (moment read_order 33) ∷ []) ([]) (answer.NotReceived recv.Again)) ∷ []) ∷ (Fetches 3 (Said (moment read_order 34) ∷ []) ∷ []) ∷ [] ∷ []) 10
         ∷ turn_of (Looks (moment read_order 35) ∷ []) ((Shuts (Said (moment read_order 36) ∷ []) ∷ []) ∷ (Fetches 0 (Said (moment read_order 37) ∷ []) ∷ []) ∷ [] ∷ []) 11
         ∷ turn_of (Looks (moment read_order 38) ∷ AsksRoot (Said (moment read_order 39) ∷ []) ∷ []) ([] ∷ (Fetches 0 (Said (moment read_order 40) ∷ []) ∷ []) ∷ [] ∷ []) 12
         ∷ turn_of (Looks (moment read_order 41) ∷ []) ([] ∷ (Fetches 2 (Said (moment read_order 42) ∷ []) ∷ []) ∷ [] ∷ []) 13
@@ -125,15 +123,15 @@ module _ (stories : Stories) where
 abbrev pub read_schedule : Schedule
 read_schedule = record { seed = 0; turns = 15 }
 
-abbrev pub read_journal : RunJournal
+abbrev pub read_journal : Journal
 read_journal = record {
   actors = record {
     name = codes "a";
     entries =
-        entry_nr 2 (Plain (answer.Object (id 1))) ∷ entry_nr 3 (Plain (answer.Object (id 2))) ∷ entry_nr 4 (Plain answer.Done)
-        ∷ entry_nr 5 (Plain (answer.Pair (pair_nr 1))) ∷ entry_nr 6 (Plain (answer.Pair (pair_nr 1))) ∷ entry_nr 7 (Plain (answer.Pair (pair_nr 1)))
-        ∷ entry_nr 8 (Plain answer.Done) ∷ entry_nr 9 (Plain (got_from_1 (codes "a"))) ∷ entry_nr 10 (Plain (got_from_1 (codes "b")))
-        ∷ entry_nr 11 (Plain (answer.NotReceived recv.Again)) ∷ [];
+        entry_nr 2 (answer.Object (id 1)) ∷ entry_nr 3 (answer.Object (id 2)) ∷ entry_nr 4 answer.Done
+        ∷ entry_nr 5 (answer.Pair (pair_nr 1)) ∷ entry_nr 6 (answer.Pair (pair_nr 1)) ∷ entry_nr 7 (answer.Pair (pair_nr 1))
+        ∷ entry_nr 8 answer.Done ∷ entry_nr 9 (got_from_1 (codes "a")) ∷ entry_nr 10 (got_from_1 (codes "b"))
+        ∷ entry_nr 11 (answer.NotReceived recv.Again) ∷ [];
   } ∷ [];
   ended = line_of_object 2 (Socket Push) ∷ line_of_object 1 (Socket Pull) ∷ line_of_object 0 Root ∷ [];
   pipes =

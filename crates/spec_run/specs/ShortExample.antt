@@ -1,7 +1,7 @@
 -- A worked run, by hand from the tables: an actor makes a PULL, and there is no further turn. What has not ended is shown.
 use Rattle.std.specs.Prelude.{ℕ, false, List, [], ◌∷◌, codes}
 use Rattle.zq_base.specs.declared.kind.Kind.TheVariants.{Pull}
-use Rattle.zq_script.specs.declared.script.Call.TheVariants as call
+use Rattle.spec_run.specs.declared.script.Call.TheVariants as call
 use Rattle.spec_control.specs.declared.object.ObjKind.TheVariants.{Root, Socket}
 use Rattle.spec_control.specs.declared.object.ObjState.TheVariants.{Live}
 use Rattle.spec_control.specs.declared.request.Req.TheVariants.{Socket as MakeSocket}
@@ -10,12 +10,10 @@ use Rattle.spec_control.specs.declared.entry.SeenEmpty.TheVariants.{Nothing, Rea
 use Rattle.spec_control.specs.declared.entry.Item.{Item}
 use Rattle.spec_control.specs.Control.{id}
 use Rattle.spec_control.specs.ControlExamples.{Stories, silent}
-use Rattle.spec_run.specs.declared.texts.Answer.TheVariants as answer
+use Rattle.spec_run.specs.declared.answer.Answer.TheVariants as answer
 use Rattle.spec_run.specs.Run.{Schedule}
 use Rattle.spec_run.specs.TextParts.{options_with}
-use Rattle.spec_run.specs.declared.journal.LineAnswer.TheVariants.{Plain}
-use Rattle.spec_run.specs.declared.journal.RunJournal.{RunJournal}
-use Rattle.spec_run.specs.declared.line.LineCall.TheVariants.{Asks}
+use Rattle.spec_run.specs.declared.journal.Journal.{Journal}
 use Rattle.spec_run.specs.Act.{Said, Tries, Idles, Looks}
 use Rattle.spec_run.specs.OwnedRun.{OwnedRun}
 use Rattle.spec_run.specs.InTurns.{Turned, workers_in}
@@ -35,7 +33,7 @@ module _ (stories : Stories) where
     first = 0;
     turns =
         turn_of (Looks (moment short_order 0) ∷ [])
-        ((Tries (over_at (line_nr 2 (Asks (call.Socket Pull (options_with 1000)))) [] (Said (moment short_order 1) ∷ []) (Plain (answer.Object (id 1)))) ∷ [])
+        ((Tries (over_at (line_nr 2 (call.Socket Pull (options_with 1000))) [] (Said (moment short_order 1) ∷ []) (answer.Object (id 1))) ∷ [])
         ∷ (Idles (moment short_order 2) ∷ []) ∷ [] ∷ []) 1
         ∷ [];
     last = moment short_order 3;
@@ -47,9 +45,9 @@ module _ (stories : Stories) where
 abbrev pub short_schedule : Schedule
 short_schedule = record { seed = 0; turns = 1 }
 
-abbrev pub cut_journal : RunJournal
+abbrev pub cut_journal : Journal
 cut_journal = record {
-  actors = record { name = codes "a"; entries = entry_nr 2 (Plain (answer.Object (id 1))) ∷ [] } ∷ [];
+  actors = record { name = codes "a"; entries = entry_nr 2 (answer.Object (id 1)) ∷ [] } ∷ [];
   ended = [];
   pipes = [];
   objects = row_of_object Root false ∷ row_of_object (Socket Pull) false ∷ [];

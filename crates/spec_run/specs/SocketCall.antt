@@ -17,11 +17,10 @@ use Rattle.spec_control.specs.declared.request.Req.TheVariants.{Bind, Connect, U
 use Rattle.spec_control.specs.declared.request.Reply.{Reply}
 use Rattle.spec_control.specs.Control.{id}
 use Rattle.spec_control.specs.Reply.{root_asked}
-use Rattle.spec_run.specs.declared.texts.Answer.TheVariants as answer
+use Rattle.spec_run.specs.declared.answer.Answer.TheVariants as answer
 use Rattle.spec_run.specs.Line.{sent_answer, got_answer, changed_answer}
 use Rattle.spec_control.specs.Moments.{Moment, left_by}
-use Rattle.spec_run.specs.declared.journal.LineAnswer.{LineAnswer}
-use Rattle.spec_run.specs.declared.journal.LineAnswer.TheVariants.{Plain, Term}
+use Rattle.spec_run.specs.declared.answer.Answer.{Answer}
 use Rattle.spec_run.specs.ControlAnswer.{reply_answer}
 use Rattle.spec_run.specs.Act.{Act, Step, Try, moments_in}
 use Rattle.spec_run.specs.OpenSocket.{OpenSock, can_write, PassesItems}
@@ -39,7 +38,7 @@ module _ {N S : Type 0} where
   step_acts steps = map (λ step. Step step) steps
 
   -- a call does nothing and has this answer
-  pub record RefusesCall (said_so : LineAnswer) (old : OpenSock) (t : Try N S) (new : OpenSock) : Type 0 where
+  pub record RefusesCall (said_so : Answer) (old : OpenSock) (t : Try N S) (new : OpenSock) : Type 0 where
     pub call_is : t.call ≡ []
     pub skips_are : t.skips ≡ []
     pub answer_is : t.answer ≡ said_so
@@ -52,7 +51,7 @@ module _ {N S : Type 0} where
     pub sends : PatternSends (can_write old) m old.pattern steps sent pattern
     pub call_is : t.call ≡ step_acts steps
     pub skips_are : t.skips ≡ []
-    pub answer_is : t.answer ≡ Plain (sent_answer sent)
+    pub answer_is : t.answer ≡ sent_answer sent
     pub new_is : new ≡ record old { pattern = pattern }
 
   pub record ReceivesOpen (old : OpenSock) (t : Try N S) (new : OpenSock) : Type 0 where
@@ -61,7 +60,7 @@ module _ {N S : Type 0} where
     pub pattern : Pattern
     pub receives : PatternReceives old.pattern steps t.skips got pattern
     pub call_is : t.call ≡ step_acts steps
-    pub answer_is : t.answer ≡ Plain (got_answer got)
+    pub answer_is : t.answer ≡ got_answer got
     pub new_is : new ≡ record old { pattern = pattern }
 
   -- a topic is subscribed to, or a subscription cancelled
@@ -72,7 +71,7 @@ module _ {N S : Type 0} where
     pub changes : PatternChanges change (can_write old) topic old.pattern steps changed pattern
     pub call_is : t.call ≡ step_acts steps
     pub skips_are : t.skips ≡ []
-    pub answer_is : t.answer ≡ Plain (changed_answer changed)
+    pub answer_is : t.answer ≡ changed_answer changed
     pub new_is : new ≡ record old { pattern = pattern }
 
   -- one request to the control plane
@@ -86,18 +85,18 @@ module _ {N S : Type 0} where
     pub goes : PassesItems (made ∷ []) old new
 
   -- a socket that processed its Stop refuses, and else does this
-  abbrev pub UnlessStopped : Bool → LineAnswer → (OpenSock → Try N S → OpenSock → Type 0) → OpenSock → Try N S → OpenSock → Type 0
+  abbrev pub UnlessStopped : Bool → Answer → (OpenSock → Try N S → OpenSock → Type 0) → OpenSock → Try N S → OpenSock → Type 0
   UnlessStopped true stopped Does old t new = RefusesCall stopped old t new
   UnlessStopped false stopped Does old t new = Does old t new
 
   abbrev pub SendsCall : Frames → OpenSock → Try N S → OpenSock → Type 0
-  SendsCall m old t new = UnlessStopped old.stopped (Plain (answer.NotSent send.Term)) (SendsOpen m) old t new
+  SendsCall m old t new = UnlessStopped old.stopped (answer.NotSent send.Term) (SendsOpen m) old t new
 
   abbrev pub ReceivesCall : OpenSock → Try N S → OpenSock → Type 0
-  ReceivesCall old t new = UnlessStopped old.stopped (Plain (answer.NotReceived recv.Term)) ReceivesOpen old t new
+  ReceivesCall old t new = UnlessStopped old.stopped (answer.NotReceived recv.Term) ReceivesOpen old t new
 
   abbrev pub ChangesCall : Change → Topic → OpenSock → Try N S → OpenSock → Type 0
-  ChangesCall change topic old t new = UnlessStopped old.stopped Term (ChangesOpen change topic) old t new
+  ChangesCall change topic old t new = UnlessStopped old.stopped answer.Term (ChangesOpen change topic) old t new
 
   abbrev pub BindsCall : Endpoint → OpenSock → Try N S → OpenSock → Type 0
   BindsCall at old t new = RequestsOnce (Bind (id old.object) at) old t new
@@ -111,7 +110,7 @@ module _ {N S : Type 0} where
   -- a kind that takes no such connect says so without a request, unless the socket is stopped or its pump found the root asked
   abbrev pub ConnectsWhere : (takes stopped : Bool) → Endpoint → OpenSock → Try N S → OpenSock → Type 0
   ConnectsWhere true stopped to old t new = RequestsOnce (Connect (id old.object) to) old t new
-  ConnectsWhere false stopped to old t new = RefusesCall (if stopped || leave_asked (moments_in t.pump) then Term else Plain answer.NotSupported) old t new
+  ConnectsWhere false stopped to old t new = RefusesCall (if stopped || leave_asked (moments_in t.pump) then answer.Term else answer.NotSupported) old t new
 
   abbrev pub ConnectsCall : Endpoint → OpenSock → Try N S → OpenSock → Type 0
   ConnectsCall to old t new = ConnectsWhere (takes_connect old.pattern to) old.stopped to old t new

@@ -3,21 +3,19 @@ use Rattle.std.specs.Prelude.{◌≡◌, ◌==◌, ◌+◌, ◌&&◌, ℕ, Bool,
 use Rattle.spec_control.specs.OwnAsks.{is_none}
 use Rattle.zq_base.specs.declared.kind.Kind.{Kind}
 use Rattle.zq_base.specs.declared.options.Options.{Options}
-use Rattle.zq_script.specs.declared.script.Call.TheVariants as call
+use Rattle.spec_run.specs.declared.script.Call.TheVariants as call
 use Rattle.spec_pattern.specs.PatternCalls.{Subscribe, Unsubscribe}
 use Rattle.spec_pattern.specs.declared.answers.Skip.{Skip}
 use Rattle.spec_control.specs.declared.request.Req.TheVariants.{Socket as MakeSocket, AskTerm, Close}
 use Rattle.spec_control.specs.declared.request.Reply.{Reply}
 use Rattle.spec_control.specs.declared.request.Reply.TheVariants.{Done, Object, Pair, Both, Wait, Asked, Before, Refused}
 use Rattle.spec_control.specs.Control.{id}
-use Rattle.spec_run.specs.declared.texts.Answer.TheVariants as answer
+use Rattle.spec_run.specs.declared.answer.Answer.TheVariants as answer
 use Rattle.spec_control.specs.Moments.{Moment}
-use Rattle.spec_run.specs.declared.journal.LineAnswer.TheVariants.{Plain}
-use Rattle.spec_run.specs.declared.line.LineCall.{LineCall}
-use Rattle.spec_run.specs.declared.line.LineCall.TheVariants.{Asks, Unbinds, Disconnects, Closes, Terms}
-use Rattle.spec_run.specs.declared.line.RunLine.{RunLine}
-use Rattle.spec_run.specs.declared.line.RunActor.{RunActor}
-use Rattle.spec_run.specs.LineCall.{line_is_over}
+use Rattle.spec_run.specs.declared.script.Call.{Call}
+use Rattle.spec_run.specs.declared.script.Line.{Line}
+use Rattle.spec_run.specs.declared.script.ActorScript.{ActorScript}
+use Rattle.spec_run.specs.Script.{line_is_over}
 use Rattle.spec_run.specs.ControlAnswer.{reply_answer}
 use Rattle.spec_run.specs.Act.{Act, Try, moments_in, Deed, Tries, Shuts, Fetches, Idles, Works, Looks, AsksRoot, Reads}
 use Rattle.spec_run.specs.OpenSocket.{OpenSock, PassesItems, new_open}
@@ -32,12 +30,12 @@ pub record Sockets : Type 0 where
 
 -- the lines that are not over, how often the first of these was tried, the messages that its tries dropped, and the sockets
 pub record ActorStanding : Type 0 where
-  pub lines : List RunLine
+  pub lines : List Line
   pub tried : ℕ
   pub told : List Skip
   pub mine : Sockets
 
-abbrev pub standing_before : RunActor → ActorStanding
+abbrev pub standing_before : ActorScript → ActorStanding
 standing_before actor = record { lines = actor.lines; tried = 0; told = []; mine = record { names = []; socks = [] } }
 
 abbrev pub object_named : Option (Option ℕ) → Option ℕ
@@ -59,7 +57,7 @@ abbrev pub without_open : ℕ → Sockets → Sockets
 without_open object mine = record mine { socks = filter (λ s. not (s.object == object)) mine.socks }
 
 -- what is left behind a try of the first line
-abbrev pub standing_after : (over : Bool) → List RunLine → List Skip → Sockets → ActorStanding → ActorStanding
+abbrev pub standing_after : (over : Bool) → List Line → List Skip → Sockets → ActorStanding → ActorStanding
 standing_after true rest told mine old = record { lines = rest; tried = 0; told = []; mine = mine }
 standing_after false rest told mine old = record old { tried = old.tried + 1; told = told; mine = mine }
 
@@ -106,7 +104,7 @@ module _ {N S : Type 0} where
   pub record HasNoSocket (old : Sockets) (t : Try N S) (new : Sockets) : Type 0 where
     pub no_pump : NoPump t
     pub call_is : t.call ≡ []
-    pub answer_is : t.answer ≡ Plain answer.NoSocket
+    pub answer_is : t.answer ≡ answer.NoSocket
     pub new_is : new ≡ old
 
   -- a socket pumps, and then is called
@@ -127,7 +125,7 @@ module _ {N S : Type 0} where
   pub record ClosesLine (s : OpenSock) (old : Sockets) (t : Try N S) (new : Sockets) : Type 0 where
     pub no_pump : NoPump t
     pub closes : ClosesOne s t.call old new
-    pub answer_is : t.answer ≡ Plain answer.Done
+    pub answer_is : t.answer ≡ answer.Done
 
   abbrev pub OnFound : (OpenSock → Sockets → Try N S → Sockets → Type 0) → Option OpenSock → Sockets → Try N S → Sockets → Type 0
   OnFound Does None old t new = HasNoSocket old t new
@@ -137,22 +135,22 @@ module _ {N S : Type 0} where
   OnSocket Does place old t new = OnFound (CallsOpen Does) (open_at old place) old t new
 
   -- what a line does
-  abbrev pub DoesLine : LineCall → Sockets → Try N S → Sockets → Type 0
-  DoesLine (Asks (call.Socket kind options)) old t new = MakesSocket kind options old t new
-  DoesLine (Asks (call.Bind place at)) old t new = OnSocket (BindsCall at) place old t new
-  DoesLine (Asks (call.Connect place to)) old t new = OnSocket (ConnectsCall to) place old t new
-  DoesLine (Asks (call.Send place m)) old t new = OnSocket (SendsCall m) place old t new
-  DoesLine (Asks (call.Recv place tries)) old t new = OnSocket ReceivesCall place old t new
-  DoesLine (Asks (call.Subscribe place topic)) old t new = OnSocket (ChangesCall Subscribe topic) place old t new
-  DoesLine (Asks (call.Unsubscribe place topic)) old t new = OnSocket (ChangesCall Unsubscribe topic) place old t new
-  DoesLine (Unbinds place at) old t new = OnSocket (UnbindsCall at) place old t new
-  DoesLine (Disconnects place at) old t new = OnSocket (DisconnectsCall at) place old t new
-  DoesLine (Closes place) old t new = OnFound ClosesLine (open_at old place) old t new
-  DoesLine Terms old t new = AsksTerm old t new
+  abbrev pub DoesLine : Call → Sockets → Try N S → Sockets → Type 0
+  DoesLine (call.Socket kind options) old t new = MakesSocket kind options old t new
+  DoesLine (call.Bind place at) old t new = OnSocket (BindsCall at) place old t new
+  DoesLine (call.Connect place to) old t new = OnSocket (ConnectsCall to) place old t new
+  DoesLine (call.Send place m) old t new = OnSocket (SendsCall m) place old t new
+  DoesLine (call.Recv place tries) old t new = OnSocket ReceivesCall place old t new
+  DoesLine (call.Subscribe place topic) old t new = OnSocket (ChangesCall Subscribe topic) place old t new
+  DoesLine (call.Unsubscribe place topic) old t new = OnSocket (ChangesCall Unsubscribe topic) place old t new
+  DoesLine (call.Unbind place at) old t new = OnSocket (UnbindsCall at) place old t new
+  DoesLine (call.Disconnect place at) old t new = OnSocket (DisconnectsCall at) place old t new
+  DoesLine (call.Close place) old t new = OnFound ClosesLine (open_at old place) old t new
+  DoesLine call.Term old t new = AsksTerm old t new
 
   -- an actor tries its first line
   pub record DoesTry (old : ActorStanding) (t : Try N S) (new : ActorStanding) : Type 0 where
-    pub rest : List RunLine
+    pub rest : List Line
     pub mine : Sockets
     pub lines_are : old.lines ≡ t.line ∷ rest
     pub does : DoesLine t.line.call old.mine t mine

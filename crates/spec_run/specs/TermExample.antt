@@ -3,7 +3,7 @@ use Rattle.std.specs.Prelude.{ℕ, true, false, List, [], ◌∷◌, Some, None,
 use Rattle.zq_base.specs.declared.endpoint.Endpoint.{Endpoint}
 use Rattle.zq_base.specs.declared.endpoint.Endpoint.TheVariants.{Inproc}
 use Rattle.zq_base.specs.declared.kind.Kind.TheVariants.{Push, Pull}
-use Rattle.zq_script.specs.declared.script.Call.TheVariants as call
+use Rattle.spec_run.specs.declared.script.Call.TheVariants as call
 use Rattle.spec_pattern.specs.PipeStep.{Commit, DelimiterLook, Seal}
 use Rattle.spec_pattern.specs.declared.answers.SendRefusal.TheVariants as send
 use Rattle.spec_control.specs.declared.end.Reason.TheVariants.{Closed}
@@ -18,13 +18,11 @@ use Rattle.spec_control.specs.declared.entry.SeenEmpty.TheVariants.{Nothing, Mai
 use Rattle.spec_control.specs.declared.entry.Item.{Item}
 use Rattle.spec_control.specs.Control.{id, end_of}
 use Rattle.spec_control.specs.ControlExamples.{Stories, silent, opened, joined, settled}
-use Rattle.spec_run.specs.declared.texts.Answer.TheVariants as answer
+use Rattle.spec_run.specs.declared.answer.Answer.TheVariants as answer
 use Rattle.spec_run.specs.Run.{Schedule}
 use Rattle.spec_run.specs.TextParts.{options_with, pair_nr, at_q, row_given}
-use Rattle.spec_run.specs.declared.journal.LineAnswer.TheVariants.{Plain}
-use Rattle.spec_run.specs.declared.journal.RunJournal.{RunJournal}
-use Rattle.spec_run.specs.declared.line.LineCall.TheVariants.{Asks, Unbinds, Closes, Terms}
-use Rattle.spec_run.specs.LineCall.{RunScript}
+use Rattle.spec_run.specs.declared.journal.Journal.{Journal}
+use Rattle.spec_run.specs.Script.{Script}
 use Rattle.spec_run.specs.Act.{Step, Said, Tries, Shuts, Fetches, Idles, Looks}
 use Rattle.spec_run.specs.OwnedRun.{OwnedRun}
 use Rattle.spec_run.specs.InTurns.{Turned, workers_in}
@@ -33,19 +31,19 @@ use Rattle.spec_run.specs.ExampleParts.{item_asked, item_taken, item_met, item_s
 abbrev pub at_w : Endpoint
 at_w = Inproc (codes "w")
 
-abbrev pub term_script : RunScript
+abbrev pub term_script : Script
 term_script =
-    record { name = codes "a"; lines = (line_nr 2 (Asks (call.Socket Pull (options_with 1000)))) ∷ (line_nr 3 (Asks (call.Bind 0 at_q))) ∷ (line_nr 4 (Closes 0)) ∷ [] }
+    record { name = codes "a"; lines = (line_nr 2 (call.Socket Pull (options_with 1000))) ∷ (line_nr 3 (call.Bind 0 at_q)) ∷ (line_nr 4 (call.Close 0)) ∷ [] }
     ∷ record {
       name = codes "b";
       lines =
-          (line_nr 6 (Asks (call.Socket Push (options_with 1000))))
-          ∷ (line_nr 7 (Asks (call.Bind 0 at_w)))
-          ∷ (line_nr 8 (Unbinds 0 at_w))
-          ∷ (line_nr 9 (Asks (call.Connect 0 at_q)))
-          ∷ (line_nr 10 (Asks (call.Send 0 (codes "m" ∷ []))))
-          ∷ (line_nr 11 Terms)
-          ∷ (line_nr 12 (Asks (call.Send 0 (codes "m" ∷ []))))
+          (line_nr 6 (call.Socket Push (options_with 1000)))
+          ∷ (line_nr 7 (call.Bind 0 at_w))
+          ∷ (line_nr 8 (call.Unbind 0 at_w))
+          ∷ (line_nr 9 (call.Connect 0 at_q))
+          ∷ (line_nr 10 (call.Send 0 (codes "m" ∷ [])))
+          ∷ (line_nr 11 call.Term)
+          ∷ (line_nr 12 (call.Send 0 (codes "m" ∷ [])))
           ∷ [];
     }
     ∷ []
@@ -107,13 +105,13 @@ module _ (stories : Stories) where
   term_turned = record {
     first = 0;
     turns =
-        turn_of (Looks (moment term_order 0) ∷ []) ((Tries (over_at (line_nr 2 (Asks (call.Socket Pull (options_with 1000)))) ([]) (Said (moment term_order 1) ∷ []) (Plain (answer.Object (id 1)))) ∷ []) ∷ (Tries (over_at (line_nr 6 (Asks (call.Socket Push (options_with 1000)))) ([]) (Said (moment term_order 2) ∷ []) (Plain (answer.Object (id 2)))) ∷ []) ∷ (Idles (moment term_order 3) ∷ []) ∷ [] ∷ []) 1
-        ∷ turn_of (Looks (moment term_order 4) ∷ []) ((Tries (over_at (line_nr 3 (Asks (call.Bind 0 at_q))) (Said (moment term_order 5) ∷ []) (Said (moment term_order 6) ∷ []) (Plain answer.Done)) ∷ []) ∷ (Tries (over_at (line_nr 7 (Asks (call.Bind 0 at_w))) (Said (moment term_order 7) ∷ []) (Said (moment term_order 8) ∷ []) (Plain answer.Done)) ∷ []) ∷ (Idles (moment term_order 9) ∷ []) ∷ [] ∷ []) 2
-        ∷ turn_of (Looks (moment term_order 10) ∷ []) ((Tries (over_at (line_nr 4 (Closes 0)) ([]) (Said (moment term_order 11) ∷ []) (Plain answer.Done)) ∷ []) ∷ (Tries (over_at (line_nr 8 (Unbinds 0 at_w)) (Said (moment term_order 12) ∷ []) (Said (moment term_order 13) ∷ []) (Plain answer.Done)) ∷ []) ∷ (Fetches 0 (Said (moment term_order 14) ∷ []) ∷ []) ∷ [] ∷ []) 3
-        ∷ turn_of (Looks (moment term_order 15) ∷ []) ([] ∷ (Tries (over_at (line_nr 9 (Asks (call.Connect 0 at_q))) (Said (moment term_order 16) ∷ []) (Said (moment term_order 17) ∷ []) (Plain (answer.Pair (pair_nr 1)))) ∷ []) ∷ (Fetches 2 (Said (moment term_order 18) ∷ []) ∷ []) ∷ [] ∷ []) 4
-        ∷ turn_of (Looks (moment term_order 19) ∷ []) ([] ∷ (Tries (over_at (line_nr 10 (Asks (call.Send 0 (codes "m" ∷ [])))) (Said (moment term_order 20) ∷ []) (Step (Commit (end_of 1 true) (codes "m" ∷ [])) ∷ []) (Plain (answer.Pair (pair_nr 1)))) ∷ []) ∷ (Fetches 2 (Said (moment term_order 21) ∷ Step (Seal (end_of 1 false)) ∷ []) ∷ []) ∷ [] ∷ []) 5
-        ∷ turn_of (Looks (moment term_order 22) ∷ []) ([] ∷ (Tries (over_at (line_nr 11 Terms) ([]) (Said (moment term_order 23) ∷ []) (Plain answer.Done)) ∷ []) ∷ (Idles (moment term_order 24) ∷ []) ∷ [] ∷ []) 6
-        ∷ turn_of (Looks (moment term_order 25) ∷ []) ([] ∷ (Tries (over_at (line_nr 12 (Asks (call.Send 0 (codes "m" ∷ [])))) (Said (moment term_order 26) ∷ Step (DelimiterLook (end_of 1 false)) ∷ Said (moment term_order 27) ∷ Said (moment term_order 28) ∷ Said (moment term_order 29) ∷ []) ([]) (Plain (answer.NotSent send.Term))) ∷ []) ∷ (Fetches 2 (Said (moment term_order 30) ∷ []) ∷ []) ∷ [] ∷ []) 7
+        turn_of (Looks (moment term_order 0) ∷ []) ((Tries (over_at (line_nr 2 (call.Socket Pull (options_with 1000))) ([]) (Said (moment term_order 1) ∷ []) (answer.Object (id 1))) ∷ []) ∷ (Tries (over_at (line_nr 6 (call.Socket Push (options_with 1000))) ([]) (Said (moment term_order 2) ∷ []) (answer.Object (id 2))) ∷ []) ∷ (Idles (moment term_order 3) ∷ []) ∷ [] ∷ []) 1
+        ∷ turn_of (Looks (moment term_order 4) ∷ []) ((Tries (over_at (line_nr 3 (call.Bind 0 at_q)) (Said (moment term_order 5) ∷ []) (Said (moment term_order 6) ∷ []) answer.Done) ∷ []) ∷ (Tries (over_at (line_nr 7 (call.Bind 0 at_w)) (Said (moment term_order 7) ∷ []) (Said (moment term_order 8) ∷ []) answer.Done) ∷ []) ∷ (Idles (moment term_order 9) ∷ []) ∷ [] ∷ []) 2
+        ∷ turn_of (Looks (moment term_order 10) ∷ []) ((Tries (over_at (line_nr 4 (call.Close 0)) ([]) (Said (moment term_order 11) ∷ []) answer.Done) ∷ []) ∷ (Tries (over_at (line_nr 8 (call.Unbind 0 at_w)) (Said (moment term_order 12) ∷ []) (Said (moment term_order 13) ∷ []) answer.Done) ∷ []) ∷ (Fetches 0 (Said (moment term_order 14) ∷ []) ∷ []) ∷ [] ∷ []) 3
+        ∷ turn_of (Looks (moment term_order 15) ∷ []) ([] ∷ (Tries (over_at (line_nr 9 (call.Connect 0 at_q)) (Said (moment term_order 16) ∷ []) (Said (moment term_order 17) ∷ []) (answer.Pair (pair_nr 1))) ∷ []) ∷ (Fetches 2 (Said (moment term_order 18) ∷ []) ∷ []) ∷ [] ∷ []) 4
+        ∷ turn_of (Looks (moment term_order 19) ∷ []) ([] ∷ (Tries (over_at (line_nr 10 (call.Send 0 (codes "m" ∷ []))) (Said (moment term_order 20) ∷ []) (Step (Commit (end_of 1 true) (codes "m" ∷ [])) ∷ []) (answer.Pair (pair_nr 1))) ∷ []) ∷ (Fetches 2 (Said (moment term_order 21) ∷ Step (Seal (end_of 1 false)) ∷ []) ∷ []) ∷ [] ∷ []) 5
+        ∷ turn_of (Looks (moment term_order 22) ∷ []) ([] ∷ (Tries (over_at (line_nr 11 call.Term) ([]) (Said (moment term_order 23) ∷ []) answer.Done) ∷ []) ∷ (Idles (moment term_order 24) ∷ []) ∷ [] ∷ []) 6
+        ∷ turn_of (Looks (moment term_order 25) ∷ []) ([] ∷ (Tries (over_at (line_nr 12 (call.Send 0 (codes "m" ∷ []))) (Said (moment term_order 26) ∷ Step (DelimiterLook (end_of 1 false)) ∷ Said (moment term_order 27) ∷ Said (moment term_order 28) ∷ Said (moment term_order 29) ∷ []) ([]) (answer.NotSent send.Term)) ∷ []) ∷ (Fetches 2 (Said (moment term_order 30) ∷ []) ∷ []) ∷ [] ∷ []) 7
         ∷ turn_of (Looks (moment term_order 31) ∷ []) ([] ∷ (Shuts (Said (moment term_order 32) ∷ []) ∷ []) ∷ (Fetches 0 (Said (moment term_order 33) ∷ []) ∷ []) ∷ [] ∷ []) 8
         ∷ turn_of (Looks (moment term_order 34) ∷ []) ([] ∷ [] ∷ (Fetches 0 (Said (moment term_order 35) ∷ []) ∷ []) ∷ [] ∷ []) 9
         ∷ turn_of (Looks (moment term_order 36) ∷ []) ([] ∷ [] ∷ (Fetches 3 (Said (moment term_order 37) ∷ []) ∷ []) ∷ [] ∷ []) 10
@@ -129,16 +127,16 @@ module _ (stories : Stories) where
 abbrev pub term_schedule : Schedule
 term_schedule = record { seed = 0; turns = 100 }
 
-abbrev pub term_journal : RunJournal
+abbrev pub term_journal : Journal
 term_journal = record {
   actors =
-      record { name = codes "a"; entries = entry_nr 2 (Plain (answer.Object (id 1))) ∷ entry_nr 3 (Plain answer.Done) ∷ entry_nr 4 (Plain answer.Done) ∷ [] }
+      record { name = codes "a"; entries = entry_nr 2 (answer.Object (id 1)) ∷ entry_nr 3 answer.Done ∷ entry_nr 4 answer.Done ∷ [] }
       ∷ record {
         name = codes "b";
         entries =
-            entry_nr 6 (Plain (answer.Object (id 2))) ∷ entry_nr 7 (Plain answer.Done) ∷ entry_nr 8 (Plain answer.Done)
-            ∷ entry_nr 9 (Plain (answer.Pair (pair_nr 1))) ∷ entry_nr 10 (Plain (answer.Pair (pair_nr 1))) ∷ entry_nr 11 (Plain answer.Done)
-            ∷ entry_nr 12 (Plain (answer.NotSent send.Term)) ∷ [];
+            entry_nr 6 (answer.Object (id 2)) ∷ entry_nr 7 answer.Done ∷ entry_nr 8 answer.Done
+            ∷ entry_nr 9 (answer.Pair (pair_nr 1)) ∷ entry_nr 10 (answer.Pair (pair_nr 1)) ∷ entry_nr 11 answer.Done
+            ∷ entry_nr 12 (answer.NotSent send.Term) ∷ [];
       }
       ∷ [];
   ended = line_of_object 1 (Socket Pull) ∷ line_of_object 2 (Socket Push) ∷ line_of_object 0 Root ∷ [];

@@ -1,6 +1,6 @@
 -- How answers, messages that were dropped and pipes are shown (own format).
 use Rattle.std.specs.Prelude.{ℕ, List, [], ◌∷◌, ◌++◌, Bool, true, false, codes, decimal, flat_map}
-use Rattle.zq_script.specs.PartText.{parts_text}
+use Rattle.spec_run.specs.PartText.{parts_text}
 use Rattle.zq_base.specs.Ends.{PipeId}
 use Rattle.zq_base.specs.declared.ids.PairId.{PairId}
 use Rattle.spec_pattern.specs.declared.answers.Report.{Report}
@@ -11,8 +11,8 @@ use Rattle.spec_pattern.specs.declared.answers.RecvRefusal.TheVariants as recv
 use Rattle.spec_pattern.specs.declared.answers.Skip.{Skip}
 use Rattle.spec_pattern.specs.declared.answers.Rule.{Rule}
 use Rattle.spec_pattern.specs.declared.answers.Rule.TheVariants as rule
-use Rattle.spec_run.specs.declared.texts.Answer.{Answer}
-use Rattle.spec_run.specs.declared.texts.Answer.TheVariants as answer
+use Rattle.spec_run.specs.declared.answer.Answer.{Answer}
+use Rattle.spec_run.specs.declared.answer.Answer.TheVariants as answer
 
 abbrev pub send_refusal_text : SendRefusal → List ℕ
 send_refusal_text send.Term = codes "term"
@@ -60,18 +60,22 @@ full_text (p ∷ ps) = codes " full " ++ pairs_text (p ∷ ps)
 abbrev pub report_text : Report PairId → List ℕ
 report_text report = codes "ok " ++ pairs_text report.put ++ full_text report.full
 
+-- what a line was answered
 abbrev pub answer_text : Answer → List ℕ
 answer_text (answer.Object o) = codes "ok o" ++ decimal o.0
 answer_text answer.Done = codes "ok"
 answer_text answer.Wait = codes "wait"
+answer_text answer.Term = codes "term"
 answer_text answer.NoSocket = codes "nosock"
 answer_text answer.NotSupported = codes "notsup"
 answer_text answer.InUse = codes "inuse"
+answer_text answer.NotBound = codes "notbound"
 answer_text answer.BadPair = codes "badpair"
 answer_text answer.TooMany = codes "toomany"
 answer_text answer.Limit = codes "limit"
 answer_text answer.NotSub = codes "notsub"
 answer_text (answer.Pair p) = codes "ok p" ++ decimal p.0
+answer_text (answer.Both o p) = codes "ok o" ++ decimal o.0 ++ codes " p" ++ decimal p.0
 answer_text (answer.Many report) = report_text report
 answer_text (answer.Got p m) = codes "msg p" ++ decimal p.0 ++ parts_text m
 answer_text (answer.Dropped rule) = codes "drop " ++ rule_text rule

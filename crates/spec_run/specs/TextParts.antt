@@ -9,9 +9,9 @@ use Rattle.zq_base.specs.Ends.{PipeId}
 use Rattle.spec_pattern.specs.TurnList.{End}
 use Rattle.spec_pattern.specs.declared.answers.Skip.{Skip}
 use Rattle.spec_pattern.specs.declared.answers.Rule.{Rule}
-use Rattle.spec_run.specs.declared.texts.Answer.{Answer}
-use Rattle.spec_run.specs.declared.texts.Answer.TheVariants as answer
-use Rattle.spec_run.specs.declared.texts.PipeRow.{PipeRow}
+use Rattle.spec_run.specs.declared.answer.Answer.{Answer}
+use Rattle.spec_run.specs.declared.answer.Answer.TheVariants as answer
+use Rattle.spec_run.specs.declared.journal.PipeRow.{PipeRow}
 
 -- options that are as usual but for the mark
 abbrev pub options_with : ℕ → Options

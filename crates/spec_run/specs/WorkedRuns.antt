@@ -5,9 +5,9 @@ use Rattle.spec_control.specs.ControlExamples.{Stories}
 use Rattle.spec_control.specs.declared.end.Reason.TheVariants.{Closed}
 use Rattle.spec_run.specs.CoreEvents.{IsEventsJournal}
 use Rattle.spec_run.specs.EventsExample.{closing_events}
-use Rattle.spec_run.specs.RunJournal.{IsRunJournal, status_of_run}
+use Rattle.spec_run.specs.Journal.{IsRunJournal, status_of_run}
 use Rattle.spec_run.specs.declared.journal.SettledRow.{SettledRow}
-use Rattle.spec_run.specs.JournalText.{run_journal_text, settled_row_text}
+use Rattle.spec_run.specs.JournalText.{journal_text, settled_row_text}
 use Rattle.spec_run.specs.ClosingExample.{closing_script, closing_schedule, closing_journal, closing_text}
 use Rattle.spec_run.specs.ShortExample.{short_schedule, cut_journal, short_text}
 use Rattle.spec_run.specs.LeftExample.{left_script, left_schedule, left_journal, left_text}
@@ -23,11 +23,11 @@ row_example = record {
 
 -- the texts, and the status of a run that is done and of one that is not
 pub record RunTexts : Type 0 where
-  pub closing : run_journal_text closing_journal ≡ closing_text
-  pub short : run_journal_text cut_journal ≡ short_text
-  pub left : run_journal_text left_journal ≡ left_text
-  pub read : run_journal_text read_journal ≡ read_text
-  pub term : run_journal_text term_journal ≡ term_text
+  pub closing : journal_text closing_journal ≡ closing_text
+  pub short : journal_text cut_journal ≡ short_text
+  pub left : journal_text left_journal ≡ left_text
+  pub read : journal_text read_journal ≡ read_text
+  pub term : journal_text term_journal ≡ term_text
   pub row : settled_row_text row_example ≡ codes "pipe p12b sent 21 given 1 heard 2 dropped 3 written 4 lost 5 rest 6 closed\n"
   pub done : status_of_run closing_journal ≡ 0
   pub unfinished : status_of_run cut_journal ≡ 8

@@ -5,20 +5,20 @@ use Rattle.spec_control.specs.declared.request.Req.TheVariants.{AskTerm}
 use Rattle.spec_control.specs.declared.request.Reply.{Reply}
 use Rattle.spec_control.specs.declared.entry.SeenEmpty.TheVariants.{Nothing, Reapers}
 use Rattle.spec_control.specs.Moments.{Moment, reaper_slots}
-use Rattle.spec_run.specs.declared.line.RunActor.{RunActor}
-use Rattle.spec_run.specs.LineCall.{RunScript}
+use Rattle.spec_run.specs.declared.script.ActorScript.{ActorScript}
+use Rattle.spec_run.specs.Script.{Script}
 use Rattle.spec_run.specs.Act.{Act, Deed, Tries, Shuts, Fetches, Idles, Works, Looks, AsksRoot, Reads}
 use Rattle.spec_run.specs.Event.{IsRequest, IsLookAt, TakesLetter, acts_said}
 use Rattle.spec_run.specs.Standing.{ActorStanding, standing_before, LocalRun}
 
 pub data Role : Type 0 where
-  ActsBy : RunActor → Role
+  ActsBy : ActorScript → Role
   Reaps : Role
   Serves : Role
   Conducts : Role
 
 -- the workers by their numbers, which are those of their callers: the actors in script order, the reaper, so many I/O workers, and the conductor
-abbrev pub roles : RunScript → (io : ℕ) → List Role
+abbrev pub roles : Script → (io : ℕ) → List Role
 roles script io = map (λ actor. ActsBy actor) script ++ Reaps ∷ (replicate io Serves ++ Conducts ∷ [])
 
 module _ {N S : Type 0} where

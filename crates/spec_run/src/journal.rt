@@ -1,26 +1,13 @@
-use crate::texts::{Answer, PipeRow};
+use crate::answer::Answer;
 use spec_control::{ObjKind, Reason};
-use spec_pattern::Skip;
-use zq_base::{ObjId, Octets, PairId, Seq};
-
-/// What a line of a script was answered.
-#[derive(Drop)]
-pub enum LineAnswer {
-    /// As it is where sockets do not end.
-    Plain(Answer),
-    /// This session was made, with its pair.
-    Both(ObjId, PairId),
-    /// The socket has no such bind or connect.
-    NotBound,
-    /// The context was asked to end.
-    Term,
-}
+use spec_pattern::{PipeId, Skip};
+use zq_base::{ObjId, Octets, Seq};
 
 /// A line that was answered, by its number in the script, with the messages that all its tries dropped.
 #[derive(Drop)]
-pub struct LineEntry {
+pub struct Entry {
     pub line: u32,
-    pub answer: LineAnswer,
+    pub answer: Answer,
     pub skips: Seq<Skip>,
 }
 
@@ -28,7 +15,7 @@ pub struct LineEntry {
 #[derive(Drop)]
 pub struct ActorLines {
     pub name: Octets,
-    pub entries: Seq<LineEntry>,
+    pub entries: Seq<Entry>,
 }
 
 /// An object and what it is.
@@ -36,6 +23,20 @@ pub struct ActorLines {
 pub struct ObjectLine {
     pub object: ObjId,
     pub kind: ObjKind,
+}
+
+/// What became of the messages of a pipe: how many were committed, and how many of these were given to
+/// the application, heard as subscriptions, dropped by a rule, written to a link, lost, and left.
+#[derive(Clone, Copy)]
+pub struct PipeRow {
+    pub pipe: PipeId,
+    pub sent: u64,
+    pub given: u64,
+    pub heard: u64,
+    pub dropped: u64,
+    pub written: u64,
+    pub lost: u64,
+    pub rest: u64,
 }
 
 /// What became of the messages of a pipe that was settled, and why the end that read it was asked.
@@ -56,7 +57,7 @@ pub struct ObjectRow {
 /// pipe that was settled, from pair 1 on, that written by end a before the other's, with none where
 /// it was not; the objects by number from 0, and whether the root has ended.
 #[derive(Drop)]
-pub struct RunJournal {
+pub struct Journal {
     pub actors: Seq<ActorLines>,
     pub ended: Seq<ObjectLine>,
     pub pipes: Seq<Option<SettledRow>>,

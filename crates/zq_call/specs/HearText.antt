@@ -11,7 +11,7 @@ use Rattle.zq_base.specs.declared.options.Role.TheVariants.{Null, PlainServer}
 use Rattle.spec_zmtp.specs.declared.cause.Cause.{Cause}
 use Rattle.spec_zmtp.specs.declared.cause.Cause.TheVariants as cause
 use Rattle.spec_zmtp.specs.DecodedStream.{Outcome, Unfinished, Refused, Decoded, Decodes, octets_said}
-use Rattle.zq_script.specs.PartText.{part_text, parts_text}
+use Rattle.spec_run.specs.PartText.{part_text, parts_text}
 
 -- who hears: without security, or a PLAIN server that accepts this login alone
 abbrev pub hear_opts : Kind → Option Login → EngineOpts

@@ -1,2 +1,2 @@
 pub mod PushLemmas
-mod RunPushLemmas
+mod LivingLemmas

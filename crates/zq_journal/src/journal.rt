@@ -1,10 +1,10 @@
 ghost use Rattle.std.specs.Prelude.{◌≡◌, ◌++◌, IfOk, OnOk, flat_map};
-ghost use Rattle.spec_run.specs.JournalText.{actor_lines_text, over_text, run_journal_text};
+ghost use Rattle.spec_run.specs.JournalText.{actor_lines_text, over_text, journal_text};
 
-use crate::answer::push_actor;
+use crate::entry::push_actor;
 use crate::object::{push_all_ended, push_living};
-use crate::run_row::push_rows;
-use spec_run::{ActorLines, ObjectRow, RunJournal};
+use crate::row::push_rows;
+use spec_run::{ActorLines, Journal, ObjectRow};
 use std::alloc::{AllocError, Global};
 use zq_base::Octets;
 
@@ -30,8 +30,8 @@ fn push_over(out: &mut Vec<u8>, done: bool, objects: &[ObjectRow]) -> Result<(),
 
 /// The text of a journal: each actor's answers, the objects in the order of their ending, the pipes
 /// that were settled, and that the run is done, or what lives.
-pub fn print(alloc: Global, journal: &RunJournal) -> Result<Octets, AllocError>
-    ensures { IfOk result (λ text. text ≡ run_journal_text journal.now) }
+pub fn print(alloc: Global, journal: &Journal) -> Result<Octets, AllocError>
+    ensures { IfOk result (λ text. text ≡ journal_text journal.now) }
 {
     let mut out = Vec::new(alloc);
     push_actors(alloc, &mut out, journal.actors.as_slice())?;

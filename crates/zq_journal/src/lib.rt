@@ -1,21 +1,18 @@
-//! The text of a journal over sockets that end, and of its parts: answers, what was dropped,
-//! counts.
+//! Prints the journal of a run, and parts of messages.
 #![tactic(auto)]
 
 mod answer;
 mod entry;
 mod journal;
+mod number;
 mod object;
 mod part;
 mod report;
 mod row;
-mod run_row;
 
-pub use entry::{push_answer, push_number, push_place, push_skips};
 pub use journal::print;
+pub use number::push_number;
 pub use part::{push_part, push_parts};
-pub use row::{push_count, push_pipe, push_taken};
 pub use spec_run::{
-    ActorLines, Answer, LineAnswer, LineEntry, ObjectLine, ObjectRow, PipeRow, RunJournal,
-    SettledRow,
+    ActorLines, Answer, Entry, Journal, ObjectLine, ObjectRow, PipeRow, SettledRow,
 };

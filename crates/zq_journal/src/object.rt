@@ -2,13 +2,13 @@ ghost use Rattle.std.specs.Prelude.{◌≡◌, ◌++◌, ◌∷◌, [], OnOk, co
 ghost use Rattle.spec_control.specs.Control.{id};
 ghost use Rattle.spec_run.specs.JournalText.{object_text, object_kind_text, ended_text, live_text, living_text};
 
-use crate::entry::push_number;
+use crate::number::push_number;
 use spec_control::ObjKind;
 use spec_run::{ObjectLine, ObjectRow};
 use std::alloc::AllocError;
 
-/// Appends an object by its number.
-pub(crate) fn push_object(out: &mut Vec<u8>, number: u64) -> Result<(), AllocError>
+// Appends an object by its number.
+fn push_object(out: &mut Vec<u8>, number: u64) -> Result<(), AllocError>
     ensures { OnOk result (out.new.items ≡ out.old.items ++ object_text (id number)) }
 {
     out.extend_from_slice(b"o")?;

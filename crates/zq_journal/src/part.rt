@@ -2,7 +2,7 @@ ghost use Rattle.std.specs.Prelude.{◌≡◌, ◌++◌, OnOk, codes};
 ghost use Rattle.std.specs.Char.{is_ascii_graphic};
 ghost use Rattle.std.specs.List.{list_all};
 ghost use Rattle.std.specs.Str.{bytes_eq};
-ghost use Rattle.zq_script.specs.PartText.{is_plain_part, part_text, parts_text};
+ghost use Rattle.spec_run.specs.PartText.{is_plain_part, part_text, parts_text};
 
 use std::alloc::{AllocError, Global};
 use zq_base::Message;

@@ -1,7 +1,7 @@
 ghost use Rattle.std.specs.Prelude.{◌≡◌, ◌++◌, OnOk};
 ghost use Rattle.spec_run.specs.Text.{full_text, others_text, pairs_text, report_text};
 
-use crate::row::push_count;
+use crate::number::push_count;
 use spec_pattern::Report;
 use std::alloc::AllocError;
 use zq_base::PairId;

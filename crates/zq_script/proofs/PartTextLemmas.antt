@@ -8,7 +8,7 @@ use Rattle.std.proofs.lemmas.Bool.{le-leb}
 use Rattle.hex.specs.Hex.{IsBytes, encode_lower, lower_digits}
 use Rattle.hex.proofs.HexLemmas.{decode_of-encode_lower, length-encode_with}
 use Rattle.zq_script.specs.Part.{part_of, hex_part, plain_part}
-use Rattle.zq_script.specs.PartText.{is_plain_part, part_text}
+use Rattle.spec_run.specs.PartText.{is_plain_part, part_text}
 
 -- the three tests of a part that is itself
 record IsPlain (part : List ℕ) : Type 0 where

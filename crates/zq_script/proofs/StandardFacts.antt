@@ -5,15 +5,15 @@ use Rattle.std.specs.List.{join_with_byte}
 use Rattle.hex.proofs.OnLiterals.{hex_on_literals}
 use Rattle.zq_base.specs.declared.endpoint.Endpoint.TheVariants.{Inproc}
 use Rattle.zq_base.specs.declared.kind.Kind.TheVariants.{Push, Pull}
-use Rattle.zq_script.specs.declared.fault.Cause.TheVariants.{BadWord, BadPart, UnknownSocket}
-use Rattle.zq_script.specs.declared.script.Call.TheVariants.{Socket, Bind, Connect, Send, Recv, Subscribe, Unsubscribe}
+use Rattle.zq_script.specs.declared.fault.Cause.TheVariants.{BadWord, BadPart, UnknownSocket, DoubleName}
+use Rattle.spec_run.specs.declared.script.Call.TheVariants.{Socket, Bind, Connect, Unbind, Disconnect, Close, Term, Send, Recv, Subscribe, Unsubscribe}
 use Rattle.zq_script.specs.declared.verb.SocketVerb.TheVariants as on
-use Rattle.zq_script.specs.Grammar.{first_word, line_end, new_name, known_socket, kind_word, verb_of, room_for_actor, some_actor, last_endpoint, last_part, tries_words, call_of, actor_line, socket_line, call_line, statement_by, statement_of}
+use Rattle.zq_script.specs.Grammar.{first_word, line_end, new_name, known_socket, kind_word, verb_of, room_for_actor, some_actor, last_endpoint, last_part, tries_words, call_of, actor_line, socket_line, close_line, term_line, call_line, statement_by, statement_of}
 use Rattle.zq_script.specs.Name.{is_name}
 use Rattle.zq_base.specs.Number.{is_number, number_in}
 use Rattle.zq_script.specs.Part.{hex_part, plain_part, part_of, parts_of, parts_message}
 use Rattle.zq_script.specs.Place.{is_inproc_name, endpoint_of}
-use Rattle.zq_script.specs.Script.{at_line, line_statement, statements_from, leading_lines, actors_of, actors_read, script_of}
+use Rattle.zq_script.specs.Script.{at_line, line_statement, statements_from, leading_lines, actors_of, script_of}
 use Rattle.zq_script.specs.SocketOption.{default_options, identity_of, mark_of, with_option, with_options}
 use Rattle.zq_script.specs.Statement.{nothing_learned, with_actor, with_socket, without_socket}
 use Rattle.zq_script.specs.Words.{without_empty_end, lines_of, words_of, is_skipped}
@@ -56,35 +56,67 @@ grammar_on_literals = tt
 
 -- what computes a whole script on a literal
 unfoldable pub script_on_literals : ⊤
-unfolding actor_line socket_line call_line statement_by statement_of nothing_learned with_actor with_socket without_socket statements_from line_statement at_line actors_read
+unfolding actor_line socket_line close_line term_line call_line statement_by statement_of nothing_learned with_actor with_socket without_socket statements_from line_statement at_line script_of
 script_on_literals = tt
 
 -- a script of one actor with two sockets
 script : script_of (text (codes "actor a" ∷ codes "socket r PULL" ∷ codes "socket s PUSH" ∷ codes "bind r inproc://q"
     ∷ codes "connect s inproc://q" ∷ codes "send s a" ∷ codes "recv r" ∷ []))
     ≡ Ok (record {
-      actors = record {
-        name = codes "a";
-        lines =
-            record { number = 2; call = Socket Pull default_options }
-            ∷ record { number = 3; call = Socket Push default_options }
-            ∷ record { number = 4; call = Bind 0 (Inproc (codes "q")) }
-            ∷ record { number = 5; call = Connect 1 (Inproc (codes "q")) }
-            ∷ record { number = 6; call = Send 1 (codes "a" ∷ []) }
-            ∷ record { number = 7; call = Recv 0 1 } ∷ [];
-      } ∷ [];
-    })
-unfolding words_on_literals values_on_literals grammar_on_literals script_on_literals script_of actors_of leading_lines
+      name = codes "a";
+      lines =
+          record { number = 2; call = Socket Pull default_options }
+          ∷ record { number = 3; call = Socket Push default_options }
+          ∷ record { number = 4; call = Bind 0 (Inproc (codes "q")) }
+          ∷ record { number = 5; call = Connect 1 (Inproc (codes "q")) }
+          ∷ record { number = 6; call = Send 1 (codes "a" ∷ []) }
+          ∷ record { number = 7; call = Recv 0 1 } ∷ [];
+    } ∷ [])
+unfolding words_on_literals values_on_literals grammar_on_literals script_on_literals actors_of leading_lines
 script = refl
+
+-- each of the four lines that end something; the name of a closed socket is given again, to the next one
+ends : script_of (text (codes "actor a" ∷ codes "socket s PULL" ∷ codes "unbind s inproc://q" ∷ codes "disconnect s inproc://r"
+    ∷ codes "close s" ∷ codes "socket s PUSH" ∷ codes "close s" ∷ codes "term" ∷ []))
+    ≡ Ok (record {
+      name = codes "a";
+      lines =
+          record { number = 2; call = Socket Pull default_options }
+          ∷ record { number = 3; call = Unbind 0 (Inproc (codes "q")) }
+          ∷ record { number = 4; call = Disconnect 0 (Inproc (codes "r")) }
+          ∷ record { number = 5; call = Close 0 }
+          ∷ record { number = 6; call = Socket Push default_options }
+          ∷ record { number = 7; call = Close 1 }
+          ∷ record { number = 8; call = Term } ∷ [];
+    } ∷ [])
+unfolding words_on_literals values_on_literals grammar_on_literals script_on_literals actors_of leading_lines
+ends = refl
+
+-- a closed socket is unknown
+closed : (script_of (text (codes "actor a" ∷ codes "socket s PULL" ∷ codes "close s" ∷ codes "close s" ∷ [])) ≡ Err (record { line = 4; cause = UnknownSocket }))
+    × (script_of (text (codes "actor a" ∷ codes "socket s PULL" ∷ codes "close s" ∷ codes "recv s" ∷ [])) ≡ Err (record { line = 4; cause = UnknownSocket }))
+unfolding words_on_literals values_on_literals grammar_on_literals script_on_literals
+closed = (refl, refl)
+
+-- another socket's name is not forgotten
+double : script_of (text (codes "actor a" ∷ codes "socket s PULL" ∷ codes "socket t PULL" ∷ codes "close s" ∷ codes "socket t PULL" ∷ [])) ≡ Err (record { line = 5; cause = DoubleName })
+unfolding words_on_literals values_on_literals grammar_on_literals script_on_literals
+double = refl
+
+-- the root is asked by an actor, and by no more words
+terms : (script_of (text (codes "term" ∷ [])) ≡ Err (record { line = 1; cause = BadWord }))
+    × (script_of (text (codes "actor a" ∷ codes "term a" ∷ [])) ≡ Err (record { line = 2; cause = BadWord }))
+unfolding words_on_literals values_on_literals grammar_on_literals script_on_literals
+terms = (refl, refl)
 
 -- a socket that isn't known, at line 2
 unknown : script_of (text (codes "actor a" ∷ codes "send s x" ∷ [])) ≡ Err (record { line = 2; cause = UnknownSocket })
-unfolding words_on_literals values_on_literals grammar_on_literals script_on_literals script_of
+unfolding words_on_literals values_on_literals grammar_on_literals script_on_literals
 unknown = refl
 
 -- a line before the first actor, behind two that are skipped
 early : script_of (text ([] ∷ codes " # x" ∷ codes "recv s" ∷ codes "y" ∷ [])) ≡ Err (record { line = 3; cause = BadWord })
-unfolding words_on_literals values_on_literals grammar_on_literals script_on_literals script_of
+unfolding words_on_literals values_on_literals grammar_on_literals script_on_literals
 early = refl
 
 -- of two options for one thing the last counts

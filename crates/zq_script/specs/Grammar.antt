@@ -1,4 +1,4 @@
--- What a line says, by what the lines before it made known, or the cause of its leftmost fault (own choice).
+-- What a line says, by what the lines before it made known, or the cause of its leftmost fault (own choice; a call for each of zmq_socket(3), zmq_bind(3), zmq_connect(3), zmq_unbind(3), zmq_disconnect(3), zmq_close(3), zmq_ctx_term(3), zmq_msg_send(3), zmq_msg_recv(3), zmq_setsockopt(3)).
 use Rattle.std.specs.Prelude.{ℕ, Bool, List, [], ◌∷◌, Result, Ok, Err, ok_or, nat_eq, nat_lt, not, is_some, codes, drop, length, if◌then◌else◌}
 use Rattle.std.specs.List.{starts_with}
 use Rattle.std.specs.Str.{bytes_eq}
@@ -7,9 +7,8 @@ use Rattle.zq_base.specs.declared.kind.Kind.TheVariants.{Push, Pull, Pair, Deale
 use Rattle.zq_script.specs.declared.fault.Cause.{Cause}
 use Rattle.zq_script.specs.declared.fault.Cause.TheVariants.{BadWord, UnknownSocket, DoubleName, TooManyActors}
 use Rattle.zq_base.specs.declared.endpoint.Endpoint.{Endpoint}
-use Rattle.zq_script.specs.declared.script.Call.{Call}
-use Rattle.zq_script.specs.declared.script.Call.TheVariants as call
-use Rattle.zq_script.specs.declared.script.Line.{Line}
+use Rattle.spec_run.specs.declared.script.Call.{Call}
+use Rattle.spec_run.specs.declared.script.Call.TheVariants as call
 use Rattle.zq_script.specs.declared.statement.Statement.{Statement}
 use Rattle.zq_script.specs.declared.statement.Statement.TheVariants as says
 use Rattle.zq_script.specs.declared.verb.SocketVerb.{SocketVerb}
@@ -68,8 +67,12 @@ unfoldable pub verb_of : List ℕ → Result Verb Cause
 verb_of word =
     if bytes_eq word (codes "actor") then Ok verb.Actor
     else if bytes_eq word (codes "socket") then Ok verb.Socket
+    else if bytes_eq word (codes "close") then Ok verb.Close
+    else if bytes_eq word (codes "term") then Ok verb.Term
     else if bytes_eq word (codes "bind") then Ok (verb.On on.Bind)
     else if bytes_eq word (codes "connect") then Ok (verb.On on.Connect)
+    else if bytes_eq word (codes "unbind") then Ok (verb.On on.Unbind)
+    else if bytes_eq word (codes "disconnect") then Ok (verb.On on.Disconnect)
     else if bytes_eq word (codes "send") then Ok (verb.On on.Send)
     else if bytes_eq word (codes "recv") then Ok (verb.On on.Recv)
     else if bytes_eq word (codes "sub") then Ok (verb.On on.Subscribe)
@@ -115,18 +118,21 @@ tries_words (word ∷ words) = do
   _ ← line_end words
   Ok tries
 
--- `bind S EP`, `connect S EP`, `send S PART..`, `recv S [tries=N]`, `sub S PART`, `unsub S PART`, by the words behind S
+-- `bind S EP`, `connect S EP`, `unbind S EP`, `disconnect S EP`, `send S PART..`, `recv S [tries=N]`, `sub S PART`, `unsub S PART`, by the words behind S
 unfoldable pub call_of : SocketVerb → ℕ → Words → Result Call Cause
 call_of on.Bind socket words = last_endpoint words >>= λ endpoint. Ok (call.Bind socket endpoint)
 call_of on.Connect socket words =
     last_endpoint words >>= λ endpoint. Ok (call.Connect socket endpoint)
+call_of on.Unbind socket words = last_endpoint words >>= λ endpoint. Ok (call.Unbind socket endpoint)
+call_of on.Disconnect socket words =
+    last_endpoint words >>= λ endpoint. Ok (call.Disconnect socket endpoint)
 call_of on.Send socket words = parts_message words >>= λ message. Ok (call.Send socket message)
 call_of on.Recv socket words = tries_words words >>= λ tries. Ok (call.Recv socket tries)
 call_of on.Subscribe socket words = last_part words >>= λ topic. Ok (call.Subscribe socket topic)
 call_of on.Unsubscribe socket words = last_part words >>= λ topic. Ok (call.Unsubscribe socket topic)
 
 -- `actor A`, by the words behind the first
-unfoldable pub actor_line : Learned → Words → Result (Statement Line) Cause
+unfoldable pub actor_line : Learned → Words → Result Statement Cause
 actor_line learned words = do
   _ ← room_for_actor learned
   first ← first_word words
@@ -135,7 +141,7 @@ actor_line learned words = do
   Ok (says.Actor name)
 
 -- `socket S KIND OPT..`, by the words behind the first
-unfoldable pub socket_line : ℕ → Learned → Words → Result (Statement Line) Cause
+unfoldable pub socket_line : ℕ → Learned → Words → Result Statement Cause
 socket_line number learned words = do
   _ ← some_actor learned
   first ← first_word words
@@ -145,8 +151,24 @@ socket_line number learned words = do
   options ← with_options second.1 default_options
   Ok (says.Socket name (record { number = number; call = call.Socket kind options }))
 
+-- `close S`, by the words behind the first: behind it the name is unknown
+unfoldable pub close_line : ℕ → Learned → Words → Result Statement Cause
+close_line number learned words = do
+  _ ← some_actor learned
+  first ← first_word words
+  socket ← known_socket learned first.0
+  _ ← line_end first.1
+  Ok (says.Closed first.0 (record { number = number; call = call.Close socket }))
+
+-- `term`, by the words behind it
+unfoldable pub term_line : ℕ → Learned → Words → Result Statement Cause
+term_line number learned words = do
+  _ ← some_actor learned
+  _ ← line_end words
+  Ok (says.Other (record { number = number; call = call.Term }))
+
 -- a line that asks something of a socket, by the words behind the first
-unfoldable pub call_line : ℕ → Learned → SocketVerb → Words → Result (Statement Line) Cause
+unfoldable pub call_line : ℕ → Learned → SocketVerb → Words → Result Statement Cause
 call_line number learned verb words = do
   _ ← some_actor learned
   first ← first_word words
@@ -155,13 +177,15 @@ call_line number learned verb words = do
   Ok (says.Other (record { number = number; call = asked }))
 
 -- what a line says whose first word is this verb
-unfoldable pub statement_by : ℕ → Learned → Verb → Words → Result (Statement Line) Cause
+unfoldable pub statement_by : ℕ → Learned → Verb → Words → Result Statement Cause
 statement_by number learned verb.Actor words = actor_line learned words
 statement_by number learned verb.Socket words = socket_line number learned words
+statement_by number learned verb.Close words = close_line number learned words
+statement_by number learned verb.Term words = term_line number learned words
 statement_by number learned (verb.On asked) words = call_line number learned asked words
 
 -- what the line of this number and these words says, where so much is known
-unfoldable pub statement_of : ℕ → Learned → Words → Result (Statement Line) Cause
+unfoldable pub statement_of : ℕ → Learned → Words → Result Statement Cause
 statement_of number learned words = do
   first ← first_word words
   verb ← verb_of first.0

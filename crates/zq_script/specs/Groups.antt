@@ -2,9 +2,9 @@
 use Rattle.std.specs.Prelude.{◌≡◌, List, reverse}
 use Rattle.zq_script.specs.declared.group.Group.{Group}
 use Rattle.zq_script.specs.declared.statement.Statement.{Statement}
-use Rattle.zq_script.specs.Script.{ActorMade, actors_of, leading_lines}
+use Rattle.zq_script.specs.Script.{actors_of, leading_lines}
 
 -- these are the actors and the leading lines of the last statements, backwards
-pub record Groups {L A : Type 0} (made : ActorMade L A) (group : Group L A) (statements : List (Statement L)) : Type 0 where
-  pub actors : reverse group.actors.items ≡ actors_of made statements
+pub record Groups (group : Group) (statements : List Statement) : Type 0 where
+  pub actors : reverse group.actors.items ≡ actors_of statements
   pub lines : reverse group.lines.items ≡ leading_lines statements

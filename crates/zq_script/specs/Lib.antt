@@ -1,7 +1,6 @@
 pub mod Words
 pub mod Name
 pub mod Part
-pub mod PartText
 pub mod Place
 pub mod Answer
 pub mod Statement

@@ -3,9 +3,8 @@ use Rattle.std.specs.Prelude.{◌++◌, List, Result, Ok, Err}
 use Rattle.zq_script.specs.declared.fault.ScriptFault.{ScriptFault}
 use Rattle.zq_script.specs.declared.statement.Statement.{Statement}
 
-module _ {L : Type 0} where
-  -- what other lines say, behind what was said before
-  unfoldable pub said_with : List (Statement L) → Result (List (Statement L)) ScriptFault
-      → Result (List (Statement L)) ScriptFault
-  said_with before (Ok later) = Ok (before ++ later)
-  said_with before (Err fault) = Err fault
+-- what other lines say, behind what was said before
+unfoldable pub said_with : List Statement → Result (List Statement) ScriptFault
+    → Result (List Statement) ScriptFault
+said_with before (Ok later) = Ok (before ++ later)
+said_with before (Err fault) = Err fault

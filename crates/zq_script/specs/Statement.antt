@@ -30,18 +30,17 @@ with_socket name learned = record learned {
 unfoldable pub without_socket : List ℕ → Learned → Learned
 without_socket name learned = record learned { sockets = λ word. if bytes_eq name word then None else learned.sockets word }
 
-module _ {L : Type 0} where
-  -- behind what a line says
-  abbrev pub learned_with : Statement L → Learned → Learned
-  learned_with (Actor name) learned = with_actor name learned
-  learned_with (Socket name line) learned = with_socket name learned
-  learned_with (Closed name line) learned = without_socket name learned
-  learned_with (Other line) learned = learned
+-- behind what a line says
+abbrev pub learned_with : Statement → Learned → Learned
+learned_with (Actor name) learned = with_actor name learned
+learned_with (Socket name line) learned = with_socket name learned
+learned_with (Closed name line) learned = without_socket name learned
+learned_with (Other line) learned = learned
 
-  -- behind a line that may be skipped
-  abbrev pub learned_behind : Option (Statement L) → Learned → Learned
-  learned_behind None learned = learned
-  learned_behind (Some statement) learned = learned_with statement learned
+-- behind a line that may be skipped
+abbrev pub learned_behind : Option Statement → Learned → Learned
+learned_behind None learned = learned
+learned_behind (Some statement) learned = learned_with statement learned
 
 -- an actor of this name has begun
 abbrev pub is_actor : List ℕ → Learned → Bool

@@ -5,16 +5,15 @@ ghost use Rattle.zq_script.specs.Grammar.{last_endpoint, last_part, tries_word, 
 use crate::endpoint::read_endpoint;
 use crate::fault::{Cause, LineError};
 use crate::part::{read_message, read_topic};
-use crate::script::Call;
-use crate::topic::Topic;
 use crate::verb::SocketVerb;
 use crate::words::{first_word, last_value, line_end};
+use spec_run::{Call, Topic};
 use std::alloc::Global;
 use zq_base::{Endpoint, number_in};
 
-/// The endpoint that ends a line.
+// The endpoint that ends a line.
 #[tactic(auto, unfolding(crate::specs::Grammar::last_endpoint))]
-pub fn read_last_endpoint(alloc: Global, words: &[&[u8]]) -> Result<Endpoint, LineError>
+fn read_last_endpoint(alloc: Global, words: &[&[u8]]) -> Result<Endpoint, LineError>
     ensures { Gives result (last_endpoint (map (λ x. x.now) words.now)) }
 {
     let (word, rest) = first_word(words)?;
@@ -71,6 +70,8 @@ pub(crate) fn read_call(
     match verb {
         SocketVerb::Bind => Ok(Call::Bind(socket, read_last_endpoint(alloc, words)?)),
         SocketVerb::Connect => Ok(Call::Connect(socket, read_last_endpoint(alloc, words)?)),
+        SocketVerb::Unbind => Ok(Call::Unbind(socket, read_last_endpoint(alloc, words)?)),
+        SocketVerb::Disconnect => Ok(Call::Disconnect(socket, read_last_endpoint(alloc, words)?)),
         SocketVerb::Send => Ok(Call::Send(socket, read_message(alloc, words)?)),
         SocketVerb::Recv => Ok(Call::Recv(socket, read_tries(words)?)),
         SocketVerb::Subscribe => Ok(Call::Subscribe(socket, read_last_topic(alloc, words)?)),

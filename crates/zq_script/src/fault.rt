@@ -40,7 +40,7 @@ impl From<AllocError> for ReadScript {
 
 /// Why a line says nothing.
 #[derive(Clone, Copy, Debug)]
-pub enum LineError {
+pub(crate) enum LineError {
     Fault(Cause),
     OutOfMemory,
 }

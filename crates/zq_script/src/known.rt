@@ -6,7 +6,7 @@ use zq_base::Octets;
 
 /// What the lines so far have made known: the actors, and the sockets of the last actor by name.
 #[derive(Drop)]
-pub struct Known {
+pub(crate) struct Known {
     actors: Vec<Octets>,
     sockets: BTreeMap<Vec<u8>, u32>,
     count: u32,
@@ -94,11 +94,7 @@ impl Known {
     }
 
     /// Takes in what a line says.
-    pub(crate) fn learn<L>(
-        &mut self,
-        alloc: Global,
-        statement: &Statement<L>,
-    ) -> Result<(), AllocError>
+    pub(crate) fn learn(&mut self, alloc: Global, statement: &Statement) -> Result<(), AllocError>
         requires { self.old.count + 1 < 2 ^ 32 }
         ensures knows { OnOk result ((learned : Learned) → HasLearned self.old learned
             → HasLearned self.new (learned_with statement.now learned)) }

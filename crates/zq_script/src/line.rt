@@ -1,6 +1,6 @@
 ghost use Rattle.std.specs.Prelude.{◌≡◌, map};
 ghost use Rattle.zq_script.specs.Answer.{Gives};
-ghost use Rattle.zq_script.specs.Grammar.{new_name, known_socket, kind_word, room_for_actor, some_actor, actor_line, socket_line, call_line, statement_by, statement_of};
+ghost use Rattle.zq_script.specs.Grammar.{new_name, known_socket, kind_word, room_for_actor, some_actor, actor_line, socket_line, close_line, term_line, call_line, statement_by, statement_of};
 ghost use Rattle.zq_script.specs.Known.{HasLearned};
 ghost use Rattle.zq_script.specs.Statement.{Learned};
 
@@ -9,10 +9,10 @@ use crate::fault::{Cause, LineError};
 use crate::known::Known;
 use crate::name::is_name;
 use crate::options::read_options;
-use crate::script::{Call, Line};
 use crate::statement::Statement;
 use crate::verb::{SocketVerb, Verb};
-use crate::words::{first_word, last_value};
+use crate::words::{first_word, last_value, line_end};
+use spec_run::{Call, Line};
 use std::alloc::Global;
 use zq_base::{Kind, Octets};
 
@@ -30,9 +30,9 @@ fn read_new_name(alloc: Global, is_taken: bool, word: &[u8]) -> Result<Octets, L
     Ok(Octets::of_slice(alloc, word)?)
 }
 
-/// The socket that the word names.
+// The socket that the word names.
 #[tactic(auto, unfolding(crate::specs::Grammar::known_socket))]
-pub fn read_socket(known: &Known, word: &[u8]) -> Result<u32, LineError>
+fn read_socket(known: &Known, word: &[u8]) -> Result<u32, LineError>
     ensures { (learned : Learned) → HasLearned known.now learned
         → Gives result (known_socket learned word.now) }
 {
@@ -68,9 +68,9 @@ fn room_for_actor(known: &Known) -> Result<(), LineError>
     }
 }
 
-/// Nothing, where an actor has begun.
+// Nothing, where an actor has begun.
 #[tactic(auto, unfolding(crate::specs::Grammar::some_actor))]
-pub fn some_actor(known: &Known) -> Result<(), LineError>
+fn some_actor(known: &Known) -> Result<(), LineError>
     ensures { (learned : Learned) → HasLearned known.now learned
         → Gives result (some_actor learned) }
 {
@@ -83,7 +83,7 @@ pub fn some_actor(known: &Known) -> Result<(), LineError>
 
 // `actor A`
 #[tactic(auto, unfolding(crate::specs::Grammar::actor_line))]
-fn read_actor(alloc: Global, known: &Known, words: &[&[u8]]) -> Result<Statement<Line>, LineError>
+fn read_actor(alloc: Global, known: &Known, words: &[&[u8]]) -> Result<Statement, LineError>
     ensures { (learned : Learned) → HasLearned known.now learned
         → Gives result (actor_line learned (map (λ x. x.now) words.now)) }
 {
@@ -100,7 +100,7 @@ fn read_new_socket(
     number: u32,
     known: &Known,
     words: &[&[u8]],
-) -> Result<Statement<Line>, LineError>
+) -> Result<Statement, LineError>
     ensures { (learned : Learned) → HasLearned known.now learned
         → Gives result (socket_line number learned (map (λ x. x.now) words.now)) }
 {
@@ -114,6 +114,38 @@ fn read_new_socket(
     Ok(Statement::Socket(name, Line { number, call }))
 }
 
+// `close S`
+#[tactic(auto, unfolding(crate::specs::Grammar::close_line))]
+fn read_close(
+    alloc: Global,
+    number: u32,
+    known: &Known,
+    words: &[&[u8]],
+) -> Result<Statement, LineError>
+    ensures { (learned : Learned) → HasLearned known.now learned
+        → Gives result (close_line number learned (map (λ x. x.now) words.now)) }
+{
+    some_actor(known)?;
+    let (word, rest) = first_word(words)?;
+    let socket = read_socket(known, word)?;
+    line_end(rest)?;
+    let name = Octets::of_slice(alloc, word)?;
+    let call = Call::Close(socket);
+    Ok(Statement::Closed(name, Line { number, call }))
+}
+
+// `term`
+#[tactic(auto, unfolding(crate::specs::Grammar::term_line))]
+fn read_term(number: u32, known: &Known, words: &[&[u8]]) -> Result<Statement, LineError>
+    ensures { (learned : Learned) → HasLearned known.now learned
+        → Gives result (term_line number learned (map (λ x. x.now) words.now)) }
+{
+    some_actor(known)?;
+    line_end(words)?;
+    let call = Call::Term;
+    Ok(Statement::Other(Line { number, call }))
+}
+
 // A line that asks something of a socket.
 #[tactic(auto, unfolding(crate::specs::Grammar::call_line))]
 fn read_call_line(
@@ -122,7 +154,7 @@ fn read_call_line(
     known: &Known,
     verb: SocketVerb,
     words: &[&[u8]],
-) -> Result<Statement<Line>, LineError>
+) -> Result<Statement, LineError>
     ensures { (learned : Learned) → HasLearned known.now learned
         → Gives result (call_line number learned verb (map (λ x. x.now) words.now)) }
 {
@@ -135,12 +167,12 @@ fn read_call_line(
 
 /// What the line of this number and these words says.
 #[tactic(auto, unfolding(crate::specs::Grammar::statement_of, crate::specs::Grammar::statement_by))]
-pub fn read_line(
+pub(crate) fn read_line(
     alloc: Global,
     number: u32,
     known: &Known,
     words: &[&[u8]],
-) -> Result<Statement<Line>, LineError>
+) -> Result<Statement, LineError>
     ensures { (learned : Learned) → HasLearned known.now learned
         → Gives result (statement_of number learned (map (λ x. x.now) words.now)) }
 {
@@ -148,6 +180,8 @@ pub fn read_line(
     match Verb::read(word)? {
         Verb::Actor => read_actor(alloc, known, rest),
         Verb::Socket => read_new_socket(alloc, number, known, rest),
+        Verb::Close => read_close(alloc, number, known, rest),
+        Verb::Term => read_term(number, known, rest),
         Verb::On(verb) => read_call_line(alloc, number, known, verb, rest),
     }
 }

@@ -7,9 +7,9 @@ ghost use Rattle.zq_script.specs.declared.fault.Cause.{Cause};
 ghost use Rattle.zq_script.specs.declared.fault.LineError.TheVariants.{Fault, OutOfMemory};
 
 use crate::fault::{Cause, LineError};
-use crate::topic::Topic;
 use crate::words::same_text;
 use hex::FromHexError;
+use spec_run::Topic;
 use std::alloc::Global;
 use zq_base::{Frame, Message, Octets};
 

@@ -1,21 +1,20 @@
 ghost use Rattle.std.specs.Prelude.{◌≡◌, ◌+◌, ◌^◌, ◌<◌, ◌≤◌, ◌++◌, List, Ok, Err, IfOk, IfErr, OnOk, length, map, option_to_list};
 ghost use Rattle.zq_script.specs.Answer.{Reads};
 ghost use Rattle.zq_script.specs.Known.{HasLearned};
-ghost use Rattle.zq_script.specs.Script.{line_statement, statements_from, actors_read, script_of};
+ghost use Rattle.zq_script.specs.Script.{line_statement, statements_from, script_of};
 ghost use Rattle.zq_script.specs.Statement.{Learned, nothing_learned, learned_behind};
 ghost use Rattle.zq_script.specs.declared.fault.ReadScript.TheVariants.{Fault};
 ghost use Rattle.zq_script.specs.declared.fault.ScriptFault.{ScriptFault};
 ghost use Rattle.zq_script.specs.declared.statement.Statement.{Statement};
 
-use crate::dialect::{Dialect, FlatDialect};
 use crate::fault::{Cause, LineError, ReadScript, ScriptFault};
 use crate::group::actors;
 use crate::known::Known;
-use crate::script::Script;
+use crate::line::read_line;
 use crate::statement::Statement;
 use crate::words::{is_skipped, lines, words};
+use spec_run::Script;
 use std::alloc::{AllocError, Global};
-use zq_base::Seq;
 
 const MAX_OCTETS: usize = 1_048_576;
 
@@ -23,20 +22,20 @@ const MAX_LINES: usize = 10_000;
 
 // What the line of this number says, if it isn't skipped.
 #[tactic(auto, unfolding(crate::specs::Script::line_statement, crate::specs::Script::at_line))]
-fn read_statement<D: Dialect>(
+fn read_statement(
     alloc: Global,
     number: u32,
     known: &Known,
     line: &[u8],
-) -> Result<Option<Statement<D::Line>>, ReadScript>
+) -> Result<Option<Statement>, ReadScript>
     ensures { (learned : Learned) → HasLearned known.now learned
-        → Reads result (line_statement D.says number learned line.now) }
+        → Reads result (line_statement number learned line.now) }
 {
     let words = words(alloc, line)?;
     if is_skipped(words.as_slice()) {
         return Ok(None);
     }
-    match D::read_line(alloc, number, known, words.as_slice()) {
+    match read_line(alloc, number, known, words.as_slice()) {
         Ok(statement) => Ok(Some(statement)),
         Err(LineError::Fault(cause)) => Err(ReadScript::Fault(ScriptFault {
             line: number,
@@ -47,11 +46,11 @@ fn read_statement<D: Dialect>(
 }
 
 // Takes in what a line says, behind what those before it said.
-fn take_in<L: Drop>(
+fn take_in(
     alloc: Global,
     known: &mut Known,
-    statements: &mut Vec<Statement<L>>,
-    said: Option<Statement<L>>,
+    statements: &mut Vec<Statement>,
+    said: Option<Statement>,
 ) -> Result<(), AllocError>
     requires { known.old.count + 1 < 2 ^ 32 }
     ensures statements { OnOk result (statements.new.items
@@ -71,33 +70,29 @@ fn take_in<L: Drop>(
 }
 
 // What the lines say, in order.
-fn read_statements<D: Dialect>(
-    alloc: Global,
-    lines: &[&[u8]],
-) -> Result<Vec<Statement<D::Line>>, ReadScript>
+fn read_statements(alloc: Global, lines: &[&[u8]]) -> Result<Vec<Statement>, ReadScript>
     requires { length lines.now ≤ MAX_LINES }
     ensures ok { IfOk result (λ v.
-        statements_from D.says 1 nothing_learned (map (λ x. x.now) lines.now) ≡ Ok v.items) }
-    ensures err { IfErr result (λ e. Reads {T = List (Statement D.Line)} (Err e)
-        (statements_from D.says 1 nothing_learned (map (λ x. x.now) lines.now))) }
+        statements_from 1 nothing_learned (map (λ x. x.now) lines.now) ≡ Ok v.items) }
+    ensures err { IfErr result (λ e. Reads {T = List Statement} (Err e)
+        (statements_from 1 nothing_learned (map (λ x. x.now) lines.now))) }
 {
     let mut known = Known::new(alloc);
     let mut statements = Vec::new(alloc);
     let mut number: u32 = 0;
     for line in lines {
         number += 1;
-        let said = read_statement::<D>(alloc, number, &known, line)?;
+        let said = read_statement(alloc, number, &known, line)?;
         take_in(alloc, &mut known, &mut statements, said)?;
     }
     Ok(statements)
 }
 
-/// The actors of the script of these octets, or its first fault. Octets or lines past the most that a
-/// script may have are judged first.
-pub fn read_actors<D: Dialect>(alloc: Global, octets: &[u8]) -> Result<Seq<D::Actor>, ReadScript>
-    ensures ok { IfOk result (λ actors. actors_read D.says D.made octets.now ≡ Ok actors) }
-    ensures fault { (f : ScriptFault) → result ≡ Err (Fault f)
-        → actors_read D.says D.made octets.now ≡ Err f }
+/// The script of these octets, or its first fault. Octets or lines past the most that a script
+/// may have are judged first.
+pub fn read_script(alloc: Global, octets: &[u8]) -> Result<Script, ReadScript>
+    ensures ok { IfOk result (λ script. script_of octets.now ≡ Ok script) }
+    ensures fault { (f : ScriptFault) → result ≡ Err (Fault f) → script_of octets.now ≡ Err f }
 {
     let too_long = ScriptFault {
         line: 0,
@@ -110,18 +105,6 @@ pub fn read_actors<D: Dialect>(alloc: Global, octets: &[u8]) -> Result<Seq<D::Ac
     if MAX_LINES < lines.len() {
         return Err(ReadScript::Fault(too_long));
     }
-    let statements = read_statements::<D>(alloc, lines.as_slice())?;
-    Ok(actors::<D>(alloc, statements)?)
-}
-
-/// The script of these octets, or its first fault. Octets or lines past the most that a script
-/// may have are judged first.
-#[tactic(auto, unfolding(crate::specs::Script::script_of))]
-pub fn read_script(alloc: Global, octets: &[u8]) -> Result<Script, ReadScript>
-    ensures ok { IfOk result (λ script. script_of octets.now ≡ Ok script) }
-    ensures fault { (f : ScriptFault) → result ≡ Err (Fault f) → script_of octets.now ≡ Err f }
-{
-    Ok(Script {
-        actors: read_actors::<FlatDialect>(alloc, octets)?,
-    })
+    let statements = read_statements(alloc, lines.as_slice())?;
+    Ok(actors(alloc, statements)?)
 }

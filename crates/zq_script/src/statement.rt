@@ -1,11 +1,12 @@
+use spec_run::Line;
 use zq_base::Octets;
 
 /// What a line says: an actor begins, a socket gets a name and is made, the socket of a name is
 /// closed, or anything else.
 #[derive(Drop)]
-pub enum Statement<L> {
+pub(crate) enum Statement {
     Actor(Octets),
-    Socket(Octets, L),
-    Closed(Octets, L),
-    Other(L),
+    Socket(Octets, Line),
+    Closed(Octets, Line),
+    Other(Line),
 }

@@ -9,6 +9,8 @@ use crate::words::same_text;
 pub(crate) enum Verb {
     Actor,
     Socket,
+    Close,
+    Term,
     On(SocketVerb),
 }
 
@@ -17,6 +19,8 @@ pub(crate) enum Verb {
 pub(crate) enum SocketVerb {
     Bind,
     Connect,
+    Unbind,
+    Disconnect,
     Send,
     Recv,
     Subscribe,
@@ -35,11 +39,23 @@ impl Verb {
         if same_text(word, b"socket") {
             return Ok(Verb::Socket);
         }
+        if same_text(word, b"close") {
+            return Ok(Verb::Close);
+        }
+        if same_text(word, b"term") {
+            return Ok(Verb::Term);
+        }
         if same_text(word, b"bind") {
             return Ok(Verb::On(SocketVerb::Bind));
         }
         if same_text(word, b"connect") {
             return Ok(Verb::On(SocketVerb::Connect));
+        }
+        if same_text(word, b"unbind") {
+            return Ok(Verb::On(SocketVerb::Unbind));
+        }
+        if same_text(word, b"disconnect") {
+            return Ok(Verb::On(SocketVerb::Disconnect));
         }
         if same_text(word, b"send") {
             return Ok(Verb::On(SocketVerb::Send));

@@ -67,7 +67,9 @@ pub(crate) fn is_skipped(words: &[&[u8]]) -> bool
 
 /// The first word and those behind it.
 #[tactic(auto, unfolding(crate::specs::Grammar::first_word))]
-pub fn first_word<'w, 'a>(words: &'w [&'a [u8]]) -> Result<(&'a [u8], &'w [&'a [u8]]), LineError>
+pub(crate) fn first_word<'w, 'a>(
+    words: &'w [&'a [u8]],
+) -> Result<(&'a [u8], &'w [&'a [u8]]), LineError>
     ensures ok { IfOk result (λ p. first_word (map (λ x. x.now) words.now)
         ≡ Ok (p.0.now, map (λ x. x.now) p.1.now)) }
     ensures err { IfErr result (λ e. Gives {T = List ℕ × Words} (Err e)
@@ -81,7 +83,7 @@ pub fn first_word<'w, 'a>(words: &'w [&'a [u8]]) -> Result<(&'a [u8], &'w [&'a [
 
 /// Nothing, where there are no more words.
 #[tactic(auto, unfolding(crate::specs::Grammar::line_end))]
-pub fn line_end(words: &[&[u8]]) -> Result<(), LineError>
+pub(crate) fn line_end(words: &[&[u8]]) -> Result<(), LineError>
     ensures { Gives result (line_end (map (λ x. x.now) words.now)) }
 {
     if words.is_empty() {
@@ -105,7 +107,7 @@ pub(crate) fn last_value<T: Drop>(value: T, rest: &[&[u8]]) -> Result<T, LineErr
 }
 
 /// Whether two texts are the same.
-pub fn same_text(a: &[u8], b: &[u8]) -> bool
+pub(crate) fn same_text(a: &[u8], b: &[u8]) -> bool
     ensures { result ≡ bytes_eq a.now b.now }
 {
     a == b

@@ -3,12 +3,10 @@ use Rattle.std.proofs.Common.{◌≡◌, ◌∷◌, [], List, true, refl}
 use Rattle.std.proofs.lemmas.Bool.{and_from}
 use Rattle.zq_base.specs.declared.endpoint.Endpoint.{Endpoint}
 use Rattle.zq_base.specs.declared.endpoint.Endpoint.TheVariants.{Inproc, Tcp}
-use Rattle.zq_script.specs.declared.script.Call.{Call}
-use Rattle.zq_script.specs.declared.script.Call.TheVariants as call
-use Rattle.spec_run.specs.declared.line.LineCall.{LineCall}
-use Rattle.spec_run.specs.declared.line.LineCall.TheVariants.{Asks, Unbinds, Disconnects, Closes, Terms}
-use Rattle.spec_run.specs.declared.line.RunLine.{RunLine}
-use Rattle.spec_run.specs.LineCall.{RunScript}
+use Rattle.spec_run.specs.declared.script.Call.{Call}
+use Rattle.spec_run.specs.declared.script.Call.TheVariants as call
+use Rattle.spec_run.specs.declared.script.Line.{Line}
+use Rattle.spec_run.specs.Script.{Script}
 use Rattle.zq_world.specs.MayAsk.{IsLocal, MayAskLine, MayAskLines, MayAskScript}
 use Rattle.replay_laws.specs.Local.{is_inproc}
 use Rattle.replay_laws.specs.LocalScript.{is_local_call, is_local_line, are_local_lines, is_local_script}
@@ -17,7 +15,7 @@ local_at : (at : Endpoint) → IsLocal at → is_inproc at ≡ true
 local_at (Inproc name) may = refl
 local_at (Tcp address) may = absurd may
 
-local_call : (asked : Call) → MayAskLine (Asks asked) → is_local_call asked ≡ true
+local_call : (asked : Call) → MayAskLine asked → is_local_call asked ≡ true
 local_call (call.Socket kind options) may = refl
 local_call (call.Bind place at) may = local_at at may
 local_call (call.Connect place to) may = local_at to may
@@ -26,17 +24,17 @@ local_call (call.Recv place tries) may = refl
 local_call (call.Subscribe place topic) may = refl
 local_call (call.Unsubscribe place topic) may = refl
 
-local_line : (line : LineCall) → MayAskLine line → is_local_line line ≡ true
-local_line (Asks asked) may = local_call asked may
-local_line (Unbinds place at) may = refl
-local_line (Disconnects place at) may = refl
-local_line (Closes place) may = refl
-local_line Terms may = refl
+local_line : (line : Call) → MayAskLine line → is_local_line line ≡ true
+local_line asked may = local_call asked may
+local_line (call.Unbind place at) may = refl
+local_line (call.Disconnect place at) may = refl
+local_line (call.Close place) may = refl
+local_line call.Term may = refl
 
-local_lines : (lines : List RunLine) → MayAskLines lines → are_local_lines lines ≡ true
+local_lines : (lines : List Line) → MayAskLines lines → are_local_lines lines ≡ true
 local_lines [] may = refl
 local_lines (line ∷ lines) may = and_from _ _ (local_line line.call may.0) (local_lines lines may.1)
 
-pub local_script : (script : RunScript) → MayAskScript script → is_local_script script ≡ true
+pub local_script : (script : Script) → MayAskScript script → is_local_script script ≡ true
 local_script [] may = refl
 local_script (actor ∷ actors) may = and_from _ _ (local_lines actor.lines may.0) (local_script actors may.1)

@@ -4,12 +4,12 @@ use Rattle.std.proofs.Common.{sym, ap, ◌∙◌, subst}
 use Rattle.zq_script.specs.declared.fault.ScriptFault.{ScriptFault}
 use Rattle.zq_outer.specs.Readings.{ClockAt}
 use Rattle.spec_run.specs.Run.{Schedule}
-use Rattle.run_script.specs.RunGrammar.{run_script_of}
-use Rattle.spec_run.specs.declared.journal.RunJournal.{RunJournal}
-use Rattle.spec_run.specs.LineCall.{RunScript}
+use Rattle.run_script.specs.RunGrammar.{script_of}
+use Rattle.spec_run.specs.declared.journal.Journal.{Journal}
+use Rattle.spec_run.specs.Script.{Script}
 use Rattle.spec_run.specs.InTurns.{readings_of}
-use Rattle.spec_run.specs.RunJournal.{IsRunJournal}
-use Rattle.spec_run.specs.JournalText.{run_journal_text}
+use Rattle.spec_run.specs.Journal.{IsRunJournal}
+use Rattle.spec_run.specs.JournalText.{journal_text}
 use Rattle.replay_laws.specs.OneJournal.{RunsHaveOneJournal}
 use Rattle.replay_laws.specs.ScriptBounds.{ScriptsAreDoneInTime}
 use Rattle.zq_top.specs.declared.said.RunText.{RunText}
@@ -17,15 +17,15 @@ use Rattle.zq_top.specs.declared.said.RunText.TheVariants.{Fault}
 use Rattle.zq_world.specs.Timed.{IsTimedJournal}
 use Rattle.zq_top.specs.RunText.{told_as, told_of, TellsPlay, PrintsTimed, TellsRun, IsRunDue}
 
-script_is_one : (a b : RunScript) → ◌≡◌ {A = Result RunScript ScriptFault} (Ok a) (Ok b) → a ≡ b
+script_is_one : (a b : Script) → ◌≡◌ {A = Result Script ScriptFault} (Ok a) (Ok b) → a ≡ b
 script_is_one a b e = cc
 
-no_script : (a : RunScript) (f : ScriptFault) → ◌≡◌ {A = Result RunScript ScriptFault} (Ok a) (Err f) → ⊥
+no_script : (a : Script) (f : ScriptFault) → ◌≡◌ {A = Result Script ScriptFault} (Ok a) (Err f) → ⊥
 no_script a f e = cc
 
 module _ (N S : Type 0) (one : RunsHaveOneJournal N S) (schedule : Schedule) (octets : List ℕ) (clock clock_now : ClockAt) where
-  prints_timed : (done : Bool) (script : RunScript) (j : RunJournal) → run_script_of octets ≡ Ok script → IsTimedJournal N S script schedule clock clock_now j → j.done ≡ done
-      → PrintsTimed N S schedule done octets clock clock_now (run_journal_text j)
+  prints_timed : (done : Bool) (script : Script) (j : Journal) → script_of octets ≡ Ok script → IsTimedJournal N S script schedule clock clock_now j → j.done ≡ done
+      → PrintsTimed N S schedule done octets clock clock_now (journal_text j)
   prints_timed done script j is timed done_is = (
     readings_of timed.is_journal.turned,
     record {
@@ -46,49 +46,49 @@ module _ (N S : Type 0) (one : RunsHaveOneJournal N S) (schedule : Schedule) (oc
   told_timed false text prints = prints
 
   -- what was played of the script that the octets are
-  tells_play : (script : RunScript) (said : RunText) → run_script_of octets ≡ Ok script → TellsPlay N S script schedule clock clock_now said → TellsRun N S schedule octets clock clock_now said
+  tells_play : (script : Script) (said : RunText) → script_of octets ≡ Ok script → TellsPlay N S script schedule clock clock_now said → TellsRun N S schedule octets clock clock_now said
   tells_play script said is plays =
       subst (λ (s : RunText). TellsRun N S schedule octets clock clock_now s) (sym plays.said_is)
-      (told_timed plays.journal.done (run_journal_text plays.journal) (prints_timed plays.journal.done script plays.journal is plays.timed refl))
+      (told_timed plays.journal.done (journal_text plays.journal) (prints_timed plays.journal.done script plays.journal is plays.timed refl))
 
-  pub tells_if : {E : Type 0} (script : RunScript) (result : Result RunText E) → run_script_of octets ≡ Ok script → IfOk result (TellsPlay N S script schedule clock clock_now)
+  pub tells_if : {E : Type 0} (script : Script) (result : Result RunText E) → script_of octets ≡ Ok script → IfOk result (TellsPlay N S script schedule clock clock_now)
       → IfOk result (TellsRun N S schedule octets clock clock_now)
   tells_if script (Ok said) is plays = tells_play script said is plays
   tells_if script (Err e) is plays = tt
 
 module _ (N S : Type 0) (one : RunsHaveOneJournal N S) (in_time : ScriptsAreDoneInTime N S) (schedule : Schedule) (octets : List ℕ) (clock clock_now : ClockAt) where
   -- what was played is due
-  play_due : (script : RunScript) (said : RunText) → run_script_of octets ≡ Ok script → TellsPlay N S script schedule clock clock_now said → IsRunDue N S schedule octets said
+  play_due : (script : Script) (said : RunText) → script_of octets ≡ Ok script → TellsPlay N S script schedule clock clock_now said → IsRunDue N S schedule octets said
   play_due script said is plays = record {
     run = run;
     completes = λ other also plain enough.
         let j = plays.journal in
-        let there = subst (λ (x : RunScript). IsRunJournal N S x schedule plays.journal) (script_is_one script other (sym is ∙ also)) plays.timed.is_journal in
-        (run_journal_text j, plays.said_is ∙ ap (λ (done : Bool). told_as done (run_journal_text j)) (in_time other schedule j there plain enough));
+        let there = subst (λ (x : Script). IsRunJournal N S x schedule plays.journal) (script_is_one script other (sym is ∙ also)) plays.timed.is_journal in
+        (journal_text j, plays.said_is ∙ ap (λ (done : Bool). told_as done (journal_text j)) (in_time other schedule j there plain enough));
     refuses = λ fault also. absurd (no_script script fault (sym is ∙ also));
   }
     where
-      run : (other : RunScript) (j : RunJournal) → run_script_of octets ≡ Ok other → IsRunJournal N S other schedule j → said ≡ told_of j
+      run : (other : Script) (j : Journal) → script_of octets ≡ Ok other → IsRunJournal N S other schedule j → said ≡ told_of j
       run other j also journal_is =
           let same : other ≡ script = script_is_one other script (sym also ∙ is) in
-          let there : IsRunJournal N S script schedule j = subst (λ (x : RunScript). IsRunJournal N S x schedule j) same journal_is in
+          let there : IsRunJournal N S script schedule j = subst (λ (x : Script). IsRunJournal N S x schedule j) same journal_is in
           plays.said_is ∙ ap told_of (one script schedule plays.journal j plays.timed.is_journal there)
 
-  pub due_if : {E : Type 0} (script : RunScript) (result : Result RunText E) → run_script_of octets ≡ Ok script → IfOk result (TellsPlay N S script schedule clock clock_now) → IfOk result (IsRunDue N S schedule octets)
+  pub due_if : {E : Type 0} (script : Script) (result : Result RunText E) → script_of octets ≡ Ok script → IfOk result (TellsPlay N S script schedule clock clock_now) → IfOk result (IsRunDue N S schedule octets)
   due_if script (Ok said) is plays = play_due script said is plays
   due_if script (Err e) is plays = tt
 
 -- what is told of a script's journal is told of its play
-pub play_told : {E : Type 0} (N S : Type 0) (script : RunScript) (schedule : Schedule) (clock clock_now : ClockAt) (journal : RunJournal) (result : Result RunText E) → IsTimedJournal N S script schedule clock clock_now journal
+pub play_told : {E : Type 0} (N S : Type 0) (script : Script) (schedule : Schedule) (clock clock_now : ClockAt) (journal : Journal) (result : Result RunText E) → IsTimedJournal N S script schedule clock clock_now journal
     → IfOk result (λ said. said ≡ told_of journal) → IfOk result (TellsPlay N S script schedule clock clock_now)
 play_told N S script schedule clock clock_now journal (Ok said) timed is = record { journal = journal; timed = timed; said_is = is }
 play_told N S script schedule clock clock_now journal (Err e) timed is = tt
 
-fault_is_one : (a b : ScriptFault) → ◌≡◌ {A = Result RunScript ScriptFault} (Err a) (Err b) → a ≡ b
+fault_is_one : (a b : ScriptFault) → ◌≡◌ {A = Result Script ScriptFault} (Err a) (Err b) → a ≡ b
 fault_is_one a b e = cc
 
 -- of octets that are no script their fault is due
-pub fault_due : (N S : Type 0) (schedule : Schedule) (octets : List ℕ) (fault : ScriptFault) → run_script_of octets ≡ Err fault → IsRunDue N S schedule octets (Fault fault)
+pub fault_due : (N S : Type 0) (schedule : Schedule) (octets : List ℕ) (fault : ScriptFault) → script_of octets ≡ Err fault → IsRunDue N S schedule octets (Fault fault)
 fault_due N S schedule octets fault is = record {
   run = λ script j also journal_is. absurd (no_script script fault (sym also ∙ is));
   completes = λ script also plain enough. absurd (no_script script fault (sym also ∙ is));

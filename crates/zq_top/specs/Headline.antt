@@ -5,10 +5,10 @@ use Rattle.zq_script.specs.declared.fault.Cause.TheVariants.{BadWord, BadEndpoin
 use Rattle.zq_script.specs.declared.fault.ScriptFault.{ScriptFault}
 use Rattle.spec_run.specs.Run.{Schedule}
 use Rattle.zq_outer.specs.Readings.{ClockAt}
-use Rattle.run_script.specs.RunGrammar.{run_script_of}
-use Rattle.spec_run.specs.declared.journal.RunJournal.{RunJournal}
-use Rattle.spec_run.specs.LineCall.{RunScript}
-use Rattle.spec_run.specs.RunJournal.{IsRunJournal}
+use Rattle.run_script.specs.RunGrammar.{script_of}
+use Rattle.spec_run.specs.declared.journal.Journal.{Journal}
+use Rattle.spec_run.specs.Script.{Script}
+use Rattle.spec_run.specs.Journal.{IsRunJournal}
 use Rattle.replay_laws.specs.ScriptBounds.{script_turns}
 use Rattle.zq_top.specs.RunText.{PrintsRun}
 use Rattle.zq_top.specs.Told.{Told}
@@ -22,7 +22,7 @@ use Rattle.zq_call.specs.declared.status.Status.{Status}
 use Rattle.zq_call.specs.declared.status.Status.TheVariants as status
 
 -- The journal is that of a run of the script on one thread by the schedule.
-abbrev pub IsJournal : RunScript → Schedule → RunJournal → Type 0
+abbrev pub IsJournal : Script → Schedule → Journal → Type 0
 IsJournal script schedule j = IsRunJournal ℕ Told script schedule j
 
 -- The text is that of the one journal of the script that the octets are, by the schedule, done or not; of a run with these readings of its clock.
@@ -45,7 +45,7 @@ fault_text f = codes "script " ++ decimal f.line ++ codes " " ++ script_cause_te
 -- the octets are no script, and the text is their first fault, with its line
 pub record RefusesScript (octets text : List ℕ) : Type 0 where
   pub fault : ScriptFault
-  pub fault_is : run_script_of octets ≡ Err fault
+  pub fault_is : script_of octets ≡ Err fault
   pub text_is : text ≡ fault_text fault
 
 -- what is said of the octets that were read, with each status; the readings of a run are those that the clock gave
@@ -61,11 +61,11 @@ abbrev pub AnswersCall : Status → List (List ℕ) → Outside → Outside → 
 AnswersCall s words before after = call.AnswersCall Prints RefusesScript s words before after
 
 -- the words ask for a run by this schedule, and the source has the octets of this script
-pub record AsksScript (words : List (List ℕ)) (left : Option (List ℕ)) (schedule : Schedule) (script : RunScript) : Type 0 where
+pub record AsksScript (words : List (List ℕ)) (left : Option (List ℕ)) (schedule : Schedule) (script : Script) : Type 0 where
   pub asks : AsksRun words schedule
   pub octets : List ℕ
   pub left_is : left ≡ Some octets
-  pub script_is : run_script_of octets ≡ Ok script
+  pub script_is : script_of octets ≡ Ok script
 
 -- the status is this one, or memory was wanting
 abbrev pub ComesDue : Status → Status → Type 0
@@ -78,12 +78,12 @@ run_status false = status.Unfinished
 
 -- Which status is due where the outside has no fault: 0 exactly where the script's one journal is done, and 8 exactly where it isn't; 0 where the run may take as many turns as the script's lines tell; 1 where the octets are no script; 0 or 9 by what a peer's octets mean.
 pub record IsDue (s : Status) (words : List (List ℕ)) (left : Option (List ℕ)) : Type 0 where
-  pub run : (schedule : Schedule) (script : RunScript) (j : RunJournal) →
+  pub run : (schedule : Schedule) (script : Script) (j : Journal) →
       AsksScript words left schedule script → IsJournal script schedule j → ComesDue s (run_status j.done)
-  pub completes : (schedule : Schedule) (script : RunScript) →
+  pub completes : (schedule : Schedule) (script : Script) →
       AsksScript words left schedule script → script_turns script ≤ schedule.turns → ComesDue s status.Done
   pub refuses : (schedule : Schedule) (octets : List ℕ) (fault : ScriptFault) →
-      AsksRun words schedule → left ≡ Some octets → run_script_of octets ≡ Err fault → ComesDue s status.Script
+      AsksRun words schedule → left ≡ Some octets → script_of octets ≡ Err fault → ComesDue s status.Script
   pub hears : (kind : Kind) (login : Option Login) (octets : List ℕ) (d : Decoded) →
       AsksHear words kind login → left ≡ Some octets → Decodes (hear_opts kind login) octets d →
       ComesDue s (heard_status (is_refused d.outcome))

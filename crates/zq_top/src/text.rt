@@ -8,16 +8,15 @@ use msg_pipe::Pipes;
 use replay_laws::{
     a_script_has_one_run_journal, scripts_are_done_in_time, scripts_that_are_read_may_be_asked,
 };
-use run_script::read_run_script;
-use spec_run::{RunActor, RunJournal};
+use spec_run::{ActorScript, Journal};
 use std::alloc::{AllocError, Global};
 use zq_journal::print;
 use zq_outer::Clock;
-use zq_script::ReadScript;
+use zq_script::{ReadScript, read_script};
 use zq_world::{Core, play_script};
 
 /// What is told of a journal.
-fn tell(alloc: Global, journal: &RunJournal) -> Result<RunText, AllocError>
+fn tell(alloc: Global, journal: &Journal) -> Result<RunText, AllocError>
     ensures { IfOk result (λ said. said ≡ told_of journal.now) }
 {
     let text = print(alloc, journal)?;
@@ -30,7 +29,7 @@ fn tell(alloc: Global, journal: &RunJournal) -> Result<RunText, AllocError>
 /// Plays a script over a new core, and tells the journal.
 fn play<P: Pipes, W: Core<P>, C: Clock>(
     alloc: Global,
-    script: &[RunActor],
+    script: &[ActorScript],
     core: &mut W,
     clock: &mut C,
     seed: u64,
@@ -74,7 +73,7 @@ pub fn text_of_run<P: Pipes, W: Core<P>, C: Clock>(
     a_script_has_one_run_journal::<P::Name, P::Story>();
     scripts_are_done_in_time::<P::Name, P::Story>();
     scripts_that_are_read_may_be_asked();
-    match read_run_script(alloc, octets) {
+    match read_script(alloc, octets) {
         Ok(script) => {
             let said = play(alloc, script.as_slice(), core, clock, seed, turns);
             drop(script);

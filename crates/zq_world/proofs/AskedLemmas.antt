@@ -17,7 +17,7 @@ use Rattle.spec_control.specs.Held.{caller_of}
 use Rattle.spec_control.specs.Moments.{Moment, moments_from}
 use Rattle.spec_run.specs.Act.{Act, Step, Said, moment_of, moments_in, Deed, Tries, Shuts, Fetches, Idles, Works, Looks, AsksRoot, Reads, all_acts}
 use Rattle.spec_run.specs.Event.{IsLookAt, seals_in}
-use Rattle.spec_run.specs.LineCall.{RunScript}
+use Rattle.spec_run.specs.Script.{Script}
 use Rattle.spec_run.specs.OpenSocket.{OpenSock}
 use Rattle.spec_run.specs.Standing.{ActorStanding, standing_before, has_finished}
 use Rattle.spec_run.specs.InTurns.{ActorStep, AllStep, OneTurn, AsksIf, Begins, Turned, TurnsGo, IsInTurns, worker_count, sequence, asks_root_in, asks_root_by, asks_last, is_live, turn_step, turn_sequence, turns_sequence}
@@ -265,11 +265,11 @@ module _ {N S : Type 0} where
 
 module _ {O : Type 0} (as_open : O → OpenSock) where
   -- as many actors as the script has
-  pub as_scripted : (script : RunScript) (old : List (Actor O)) → standings as_open old ≡ map standing_before script → length old ≡ length script
+  pub as_scripted : (script : Script) (old : List (Actor O)) → standings as_open old ≡ map standing_before script → length old ≡ length script
   as_scripted script old same = sym (length-map old (standing_of as_open)) ∙ ap length same ∙ length-map script standing_before
 
 module _ {O N S : Type 0} (as_open : O → OpenSock) where
-  pub in_turns : (script : RunScript) (seed limit : ℕ) (done : Bool) (old new : List (Actor O)) (pieces : List (Piece N S)) (order : List (Item N S)) → standings as_open old ≡ map standing_before script
+  pub in_turns : (script : Script) (seed limit : ℕ) (done : Bool) (old new : List (Actor O)) (pieces : List (Piece N S)) (order : List (Item N S)) → standings as_open old ≡ map standing_before script
       → (runs : RunsSo as_open seed limit done old new [] pieces) → moments_in (acts_in pieces) ≡ moments_from (begun 1) order → IsInTurns script 1 limit runs.turned (run_of script runs.turned order)
   in_turns script seed limit done old new pieces order same runs one = record {
     workers_are = refl;

@@ -5,15 +5,15 @@ use Rattle.std.proofs.lemmas.Bool.{eqb-true, eqb-false, eq-eqb, ne_eqb}
 use Rattle.std.proofs.lemmas.List.{map-set, length-map, drop_all}
 use Rattle.std.proofs.lemmas.Option.{slice_get-map, slice_get_within, slice_get-get_or}
 use Rattle.spec_control.specs.Control.{Control, begun}
-use Rattle.spec_run.specs.declared.journal.LineEntry.{LineEntry}
-use Rattle.spec_run.specs.LineCall.{RunScript}
+use Rattle.spec_run.specs.declared.journal.Entry.{Entry}
+use Rattle.spec_run.specs.Script.{Script}
 use Rattle.spec_run.specs.Act.{Deed, Tries, Shuts, Fetches, Idles, Works, Looks, AsksRoot, Reads, acts_of, all_acts}
 use Rattle.spec_run.specs.Fate.{skips_of}
 use Rattle.spec_run.specs.OpenSocket.{OpenSock}
 use Rattle.spec_run.specs.Standing.{ActorStanding, standing_before, has_finished}
 use Rattle.spec_run.specs.InTurns.{ActorStep}
 use Rattle.spec_run.specs.CoreEvents.{CoreEvent, NextLine, TakeFrom, AskRoot, Tick, Made, may_take, actor_with, StepsUnless, LineDoes, TakenBy, TakeDoes, EventDoes}
-use Rattle.spec_run.specs.RunJournal.{entries_shown}
+use Rattle.spec_run.specs.Journal.{entries_shown}
 use Rattle.run_laws.proofs.GoesLemmas.{deeds_by, by_own, by_other, by-append, events_more, placed_both, get_set_here, get_set_else}
 use Rattle.zq_world.specs.Piece.{Piece, AreActsBy, AddsPiece, piece_of, deed_pieces}
 use Rattle.zq_world.specs.Stepping.{standing_of, entries_of, StepsSo}
@@ -279,7 +279,7 @@ module _ {O N S : Type 0} (as_open : O → OpenSock) where
 
   -- ---- events, one after another
 
-  pub has_none : (script : RunScript) (actors : List (Actor O)) (pieces : List (Piece N S)) → AreNew script actors → pieces ≡ [] → HasRun as_open script [] actors pieces
+  pub has_none : (script : Script) (actors : List (Actor O)) (pieces : List (Piece N S)) → AreNew script actors → pieces ≡ [] → HasRun as_open script [] actors pieces
   has_none script actors pieces new none = record {
     start = actors;
     is_new = new;
@@ -291,7 +291,7 @@ module _ {O N S : Type 0} (as_open : O → OpenSock) where
     pieces_are = none;
   }
 
-  pub has_more : (script : RunScript) (events : List CoreEvent) (event : CoreEvent) (mid new : List (Actor O)) (before after : List (Piece N S)) → HasRun as_open script events mid before
+  pub has_more : (script : Script) (events : List CoreEvent) (event : CoreEvent) (mid new : List (Actor O)) (before after : List (Piece N S)) → HasRun as_open script events mid before
       → DoesEvent as_open event mid new before after → HasRun as_open script (events ++ event ∷ []) new after
   has_more script events event mid new before after ran one = record {
     start = ran.start;
@@ -316,14 +316,14 @@ module _ {O N S : Type 0} (as_open : O → OpenSock) where
           let first = ran.says i a m was there in
           let behind = one.says i m b there now in
           record {
-            says = behind.says ∙ ap (λ (l : List LineEntry). l ++ entries_shown (deeds_by i one.made)) first.says
+            says = behind.says ∙ ap (λ (l : List Entry). l ++ entries_shown (deeds_by i one.made)) first.says
                 ∙ append_assoc (entries_of a) (entries_shown (deeds_by i ran.made)) (entries_shown (deeds_by i one.made))
-                ∙ ap (λ (l : List LineEntry). entries_of a ++ l) (sym (shown_more (deeds_by i ran.made) (deeds_by i one.made)) ∙ ap entries_shown (sym (by-append i ran.made one.made)));
+                ∙ ap (λ (l : List Entry). entries_of a ++ l) (sym (shown_more (deeds_by i ran.made) (deeds_by i one.made)) ∙ ap entries_shown (sym (by-append i ran.made one.made)));
             name = behind.name ∙ first.name;
           }
 
   -- the reaper's number reaps alone
-  pub alone_run : (script : RunScript) (events : List CoreEvent) (now : List (Actor O)) (pieces : List (Piece N S)) → HasRun as_open script events now pieces → IsReaper (length now) pieces
+  pub alone_run : (script : Script) (events : List CoreEvent) (now : List (Actor O)) (pieces : List (Piece N S)) → HasRun as_open script events now pieces → IsReaper (length now) pieces
   alone_run script events now pieces ran =
       subst (λ (n : ℕ). IsReaper n pieces) (sym (ran.count ∙ as_scripted as_open script ran.start (ran.is_new.stand as_open)))
       (subst (IsReaper (length script)) (sym ran.pieces_are) (alone_made (length script) ran.made))

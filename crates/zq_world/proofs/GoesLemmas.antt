@@ -13,7 +13,7 @@ use Rattle.spec_control.specs.ControlRun.{after_all}
 use Rattle.spec_control.specs.Held.{caller_of}
 use Rattle.spec_control.specs.Moments.{moments_from, moments_by}
 use Rattle.spec_run.specs.declared.journal.ActorLines.{ActorLines}
-use Rattle.spec_run.specs.LineCall.{RunScript}
+use Rattle.spec_run.specs.Script.{Script}
 use Rattle.spec_run.specs.Act.{Act, Deed, all_acts, steps_in, moments_in}
 use Rattle.spec_run.specs.OpenSocket.{OpenSock}
 use Rattle.spec_run.specs.Standing.{ActorStanding, standing_before}
@@ -21,7 +21,7 @@ use Rattle.spec_run.specs.OwnedRun.{OwnedRun, IsRun, deeds_in, all_steps, every_
 use Rattle.spec_run.specs.InTurns.{worker_count}
 use Rattle.spec_run.specs.CoreEvents.{CoreEvent, Made, deeds_made, EventsGo, IsOfEvents, IsEventsJournal}
 use Rattle.spec_run.specs.Fate.{count_sent, fates_left, is_heard_at, reason_left, row_of_fates}
-use Rattle.spec_run.specs.RunJournal.{actors_shown, entries_shown, row_if, row_shown}
+use Rattle.spec_run.specs.Journal.{actors_shown, entries_shown, row_if, row_shown}
 use Rattle.run_laws.proofs.TurnLemmas.{map_length}
 use Rattle.run_laws.proofs.GoesLemmas.{steps_by, steps_are, made_moments, IsPlaced, placed_run, go_local}
 use Rattle.zq_world.specs.Piece.{Piece, deed_pieces, pipe_steps, acts_in}
@@ -40,7 +40,7 @@ use Rattle.zq_world.proofs.RiseLemmas.{Fit}
 use Rattle.zq_world.proofs.ToldLemmas.{all_told}
 use Rattle.zq_world.proofs.WholeLemmas.{written_alike, read_alike, fates_alike}
 
-module _ {N S : Type 0} (script : RunScript) (events : List CoreEvent) (made : List (Made N S)) (new : List ActorStanding) (pieces : List (Piece N S)) (order : List (Item N S))
+module _ {N S : Type 0} (script : Script) (events : List CoreEvent) (made : List (Made N S)) (new : List ActorStanding) (pieces : List (Piece N S)) (order : List (Item N S))
     (go : EventsGo 1 (begun 1) events (map standing_before script) made new) (by : AreMadeBy made) (are : pieces ≡ made_pieces (length script) made) (orderly : IsOrderly pieces order) where
   -- the workers, the conductor last
   abbrev pub split : List (List (List (Deed N S)))
@@ -153,7 +153,7 @@ module _ {N S : Type 0} (script : RunScript) (events : List CoreEvent) (made : L
 
 module _ {O N S : Type 0} (as_open : O → OpenSock) where
   -- what the actors said
-  said_made : (script : RunScript) (events : List CoreEvent) (now : List (Actor O)) (pieces : List (Piece N S)) (order : List (Item N S)) (ran : HasRun as_open script events now pieces) → IsOrderly pieces order
+  said_made : (script : Script) (events : List CoreEvent) (now : List (Actor O)) (pieces : List (Piece N S)) (order : List (Item N S)) (ran : HasRun as_open script events now pieces) → IsOrderly pieces order
       → map lines_of now ≡ actors_shown script (run_made script ran.made order).workers
   said_made script events now pieces order ran orderly =
       all_said (length script + 1 + 1) 0 script ran.start now (steps_by ran.made) (steps_by ran.made (length script + 1 + 1) ∷ []) ran.is_new.said ran.count (omega arith)
@@ -165,7 +165,7 @@ module _ {O N S : Type 0} (as_open : O → OpenSock) where
           (ran.says i a b was at).says ∙ ap (λ (ds : List (Deed N S)). entries_of a ++ entries_shown ds) (sym (steps_are i ran.made))
           ∙ ap (λ (k : ℕ). entries_of a ++ entries_shown (deeds_in (steps_by ran.made k))) (omega (arith, e))
 
-  pub journal_made : (script : RunScript) (events : List CoreEvent) (now : List (Actor O)) (pieces : List (Piece N S)) (order : List (Item N S)) (lines : List ActorLines) (shown : Shown) → HasRun as_open script events now pieces
+  pub journal_made : (script : Script) (events : List CoreEvent) (now : List (Actor O)) (pieces : List (Piece N S)) (order : List (Item N S)) (lines : List ActorLines) (shown : Shown) → HasRun as_open script events now pieces
       → IsOrderly pieces order → ShowsSo pieces order shown → lines ≡ map lines_of now
       → IsEventsJournal N S script events (record { actors = lines; ended = shown.ended; pipes = shown.pipes; objects = shown.objects; done = shown.done })
   journal_made script events now pieces order lines shown ran orderly shows said = record {

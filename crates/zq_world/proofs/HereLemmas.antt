@@ -6,10 +6,9 @@ use Rattle.std.proofs.lemmas.Option.{slice_get_within}
 use Rattle.zq_base.specs.declared.ids.ObjId.{ObjId}
 use Rattle.zq_base.specs.declared.kind.Kind.{Kind}
 use Rattle.zq_base.specs.declared.options.Options.{Options}
-use Rattle.zq_script.specs.declared.script.Call.TheVariants as call
+use Rattle.spec_run.specs.declared.script.Call.TheVariants as call
 use Rattle.spec_pattern.specs.declared.answers.Skip.{Skip}
-use Rattle.spec_run.specs.declared.line.LineCall.{LineCall}
-use Rattle.spec_run.specs.declared.line.LineCall.TheVariants.{Asks, Unbinds, Disconnects, Closes, Terms}
+use Rattle.spec_run.specs.declared.script.Call.{Call}
 use Rattle.spec_run.specs.OpenSocket.{OpenSock}
 use Rattle.zq_world.specs.Piece.{Piece}
 use Rattle.zq_world.specs.Way.{AsksSocket, MakesOne, IsNew, KeepsAll}
@@ -27,18 +26,18 @@ no_place : (place : ℕ) → ◌≡◌ {A = Option ℕ} None (Some place) → �
 no_place place e = cc
 
 -- a line that names a place is a call of a socket
-pub asks_socket : (asks : LineCall) (place : ℕ) → called_place asks ≡ Some place → AsksSocket asks
-asks_socket (Asks (call.Socket kind options)) place e = elim (no_place place e) [ ]
-asks_socket (Asks (call.Bind p at)) place e = tt
-asks_socket (Asks (call.Connect p to)) place e = tt
-asks_socket (Asks (call.Send p m)) place e = tt
-asks_socket (Asks (call.Recv p tries)) place e = tt
-asks_socket (Asks (call.Subscribe p topic)) place e = tt
-asks_socket (Asks (call.Unsubscribe p topic)) place e = tt
-asks_socket (Unbinds p at) place e = tt
-asks_socket (Disconnects p at) place e = tt
-asks_socket (Closes p) place e = elim (no_place place e) [ ]
-asks_socket Terms place e = elim (no_place place e) [ ]
+pub asks_socket : (asks : Call) (place : ℕ) → called_place asks ≡ Some place → AsksSocket asks
+asks_socket (call.Socket kind options) place e = elim (no_place place e) [ ]
+asks_socket (call.Bind p at) place e = tt
+asks_socket (call.Connect p to) place e = tt
+asks_socket (call.Send p m) place e = tt
+asks_socket (call.Recv p tries) place e = tt
+asks_socket (call.Subscribe p topic) place e = tt
+asks_socket (call.Unsubscribe p topic) place e = tt
+asks_socket (call.Unbind p at) place e = tt
+asks_socket (call.Disconnect p at) place e = tt
+asks_socket (call.Close p) place e = elim (no_place place e) [ ]
+asks_socket call.Term place e = elim (no_place place e) [ ]
 
 -- an open seat is there
 pub within_open : {O : Type 0} (place : ℕ) (items seats : List (Seat O)) → items ≡ seats → is_open_at seats place ≡ true → place < length items
@@ -73,7 +72,7 @@ module _ {W O N S : Type 0} (as_open : O → OpenSock) (agrees : W → ℕ → O
   -- a line makes a socket, or is refused
   pub asked_made : (caller : ℕ) (kind : Kind) (options : Options) (seats : List (Seat O)) (m : Made O) (told : List Skip) (before after : List (Piece N S))
       → MakesOne as_open caller kind options m before after
-      → DoesAsked caller (Asks (call.Socket kind options)) (answer_made m) (at_seats as_open seats told before) (at_seats as_open (seats ++ seat_made m ∷ []) told after)
+      → DoesAsked caller (call.Socket kind options) (answer_made m) (at_seats as_open seats told before) (at_seats as_open (seats ++ seat_made m ∷ []) told after)
   asked_made caller kind options seats (made.Socket object s) told before after h = asked_socket as_open caller kind options seats object s told before after h
   asked_made caller kind options seats (made.Refused refusal) told before after h = asked_refused as_open caller kind options seats refusal told before after h
 

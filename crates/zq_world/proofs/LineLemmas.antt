@@ -6,18 +6,16 @@ use Rattle.std.proofs.lemmas.List.{map-append}
 use Rattle.zq_base.specs.declared.ids.ObjId.{ObjId}
 use Rattle.zq_base.specs.declared.kind.Kind.{Kind}
 use Rattle.zq_base.specs.declared.options.Options.{Options}
-use Rattle.zq_script.specs.declared.script.Call.TheVariants as call
+use Rattle.spec_run.specs.declared.script.Call.TheVariants as call
 use Rattle.spec_pattern.specs.PatternCalls.{Subscribe, Unsubscribe}
 use Rattle.spec_pattern.specs.declared.answers.Skip.{Skip}
 use Rattle.spec_control.specs.OwnAsks.{is_none}
 use Rattle.spec_control.specs.declared.request.Refusal.{Refusal}
 use Rattle.spec_control.specs.declared.request.Reply.TheVariants as reply
-use Rattle.spec_run.specs.declared.texts.Answer.TheVariants as answer
-use Rattle.spec_run.specs.declared.journal.LineAnswer.{LineAnswer}
-use Rattle.spec_run.specs.declared.journal.LineAnswer.TheVariants.{Plain}
-use Rattle.spec_run.specs.declared.line.LineCall.{LineCall}
-use Rattle.spec_run.specs.declared.line.LineCall.TheVariants.{Asks, Unbinds, Disconnects, Closes, Terms}
-use Rattle.spec_run.specs.declared.line.RunLine.{RunLine}
+use Rattle.spec_run.specs.declared.answer.Answer.TheVariants as answer
+use Rattle.spec_run.specs.declared.answer.Answer.{Answer}
+use Rattle.spec_run.specs.declared.script.Call.{Call}
+use Rattle.spec_run.specs.declared.script.Line.{Line}
 use Rattle.spec_run.specs.ControlAnswer.{refusal_answer}
 use Rattle.spec_run.specs.Act.{Try}
 use Rattle.spec_run.specs.OpenSocket.{OpenSock}
@@ -44,13 +42,13 @@ no_place place e = cc
 
 module _ {N S : Type 0} where
   -- a try that does nothing
-  abbrev idle_try : RunLine → List Skip → LineAnswer → Bool → Try N S
+  abbrev idle_try : Line → List Skip → Answer → Bool → Try N S
   idle_try line all said over = record { line = line; pump = []; call = []; skips = []; told = all; answer = said; over = over }
 
-  on_none : (Does : OpenSock → Sockets → Try N S → Sockets → Type 0) (found : Option OpenSock) (mine : Sockets) (line : RunLine) (all : List Skip) (over : Bool) → found ≡ None
-      → OnFound Does found mine (idle_try line all (Plain answer.NoSocket) over) mine
+  on_none : (Does : OpenSock → Sockets → Try N S → Sockets → Type 0) (found : Option OpenSock) (mine : Sockets) (line : Line) (all : List Skip) (over : Bool) → found ≡ None
+      → OnFound Does found mine (idle_try line all answer.NoSocket over) mine
   on_none Does found mine line all over none =
-      subst (λ f. OnFound Does f mine (idle_try line all (Plain answer.NoSocket) over) mine) (sym none)
+      subst (λ f. OnFound Does f mine (idle_try line all answer.NoSocket over) mine) (sym none)
       (record { no_pump = record { pump_is = refl; skips_are = refl }; call_is = refl; answer_is = refl; new_is = refl })
 
   on_open : (Does : OpenSock → Try N S → OpenSock → Type 0) (found : Option OpenSock) (mine : Sockets) (s pumped called : OpenSock) (t : Try N S) → found ≡ Some s
@@ -60,26 +58,26 @@ module _ {N S : Type 0} where
       (record { pumped = pumped; called = called; pumps = pumps; does = does; new_is = refl })
 
   -- a call of an open socket
-  pub calls_open : (asks : LineCall) (place : ℕ) (mine : Sockets) (s pumped called : OpenSock) (t : Try N S) → called_place asks ≡ Some place → open_at mine place ≡ Some s
+  pub calls_open : (asks : Call) (place : ℕ) (mine : Sockets) (s pumped called : OpenSock) (t : Try N S) → called_place asks ≡ Some place → open_at mine place ≡ Some s
       → Pumps s t.pump pumped → AsksOpen asks pumped t called → DoesLine asks mine t (with_open called mine)
-  calls_open (Asks (call.Socket kind options)) place mine s pumped called t is found pumps does = elim (no_place place is) [ ]
-  calls_open (Asks (call.Bind p at)) place mine s pumped called t is found pumps does = on_open (BindsCall at) (open_at mine p) mine s pumped called t (subst (λ q. open_at mine q ≡ Some s) (the_place p place is) found) pumps does
-  calls_open (Asks (call.Connect p to)) place mine s pumped called t is found pumps does = on_open (ConnectsCall to) (open_at mine p) mine s pumped called t (subst (λ q. open_at mine q ≡ Some s) (the_place p place is) found) pumps does
-  calls_open (Asks (call.Send p m)) place mine s pumped called t is found pumps does = on_open (SendsCall m) (open_at mine p) mine s pumped called t (subst (λ q. open_at mine q ≡ Some s) (the_place p place is) found) pumps does
-  calls_open (Asks (call.Recv p tries)) place mine s pumped called t is found pumps does = on_open ReceivesCall (open_at mine p) mine s pumped called t (subst (λ q. open_at mine q ≡ Some s) (the_place p place is) found) pumps does
-  calls_open (Asks (call.Subscribe p topic)) place mine s pumped called t is found pumps does = on_open (ChangesCall Subscribe topic) (open_at mine p) mine s pumped called t (subst (λ q. open_at mine q ≡ Some s) (the_place p place is) found) pumps does
-  calls_open (Asks (call.Unsubscribe p topic)) place mine s pumped called t is found pumps does = on_open (ChangesCall Unsubscribe topic) (open_at mine p) mine s pumped called t (subst (λ q. open_at mine q ≡ Some s) (the_place p place is) found) pumps does
-  calls_open (Unbinds p at) place mine s pumped called t is found pumps does = on_open (UnbindsCall at) (open_at mine p) mine s pumped called t (subst (λ q. open_at mine q ≡ Some s) (the_place p place is) found) pumps does
-  calls_open (Disconnects p at) place mine s pumped called t is found pumps does = on_open (DisconnectsCall at) (open_at mine p) mine s pumped called t (subst (λ q. open_at mine q ≡ Some s) (the_place p place is) found) pumps does
-  calls_open (Closes p) place mine s pumped called t is found pumps does = elim (no_place place is) [ ]
-  calls_open Terms place mine s pumped called t is found pumps does = elim (no_place place is) [ ]
+  calls_open (call.Socket kind options) place mine s pumped called t is found pumps does = elim (no_place place is) [ ]
+  calls_open (call.Bind p at) place mine s pumped called t is found pumps does = on_open (BindsCall at) (open_at mine p) mine s pumped called t (subst (λ q. open_at mine q ≡ Some s) (the_place p place is) found) pumps does
+  calls_open (call.Connect p to) place mine s pumped called t is found pumps does = on_open (ConnectsCall to) (open_at mine p) mine s pumped called t (subst (λ q. open_at mine q ≡ Some s) (the_place p place is) found) pumps does
+  calls_open (call.Send p m) place mine s pumped called t is found pumps does = on_open (SendsCall m) (open_at mine p) mine s pumped called t (subst (λ q. open_at mine q ≡ Some s) (the_place p place is) found) pumps does
+  calls_open (call.Recv p tries) place mine s pumped called t is found pumps does = on_open ReceivesCall (open_at mine p) mine s pumped called t (subst (λ q. open_at mine q ≡ Some s) (the_place p place is) found) pumps does
+  calls_open (call.Subscribe p topic) place mine s pumped called t is found pumps does = on_open (ChangesCall Subscribe topic) (open_at mine p) mine s pumped called t (subst (λ q. open_at mine q ≡ Some s) (the_place p place is) found) pumps does
+  calls_open (call.Unsubscribe p topic) place mine s pumped called t is found pumps does = on_open (ChangesCall Unsubscribe topic) (open_at mine p) mine s pumped called t (subst (λ q. open_at mine q ≡ Some s) (the_place p place is) found) pumps does
+  calls_open (call.Unbind p at) place mine s pumped called t is found pumps does = on_open (UnbindsCall at) (open_at mine p) mine s pumped called t (subst (λ q. open_at mine q ≡ Some s) (the_place p place is) found) pumps does
+  calls_open (call.Disconnect p at) place mine s pumped called t is found pumps does = on_open (DisconnectsCall at) (open_at mine p) mine s pumped called t (subst (λ q. open_at mine q ≡ Some s) (the_place p place is) found) pumps does
+  calls_open (call.Close p) place mine s pumped called t is found pumps does = elim (no_place place is) [ ]
+  calls_open call.Term place mine s pumped called t is found pumps does = elim (no_place place is) [ ]
 
   adds_none : (caller : ℕ) (pieces : List (Piece N S)) → AddsActs caller [] [] pieces pieces
   adds_none caller pieces = record { added = sym (append-nil pieces); by = tt }
 
   -- a caller asks the context to end
-  pub asked_term : (caller : ℕ) (said : LineAnswer) (mine : Sockets) (told : List Skip) (before after : List (Piece N S)) → AsksToEnd caller said before after
-      → DoesAsked caller Terms said (record { mine = mine; told = told; pieces = before }) (record { mine = mine; told = told; pieces = after })
+  pub asked_term : (caller : ℕ) (said : Answer) (mine : Sockets) (told : List Skip) (before after : List (Piece N S)) → AsksToEnd caller said before after
+      → DoesAsked caller call.Term said (record { mine = mine; told = told; pieces = before }) (record { mine = mine; told = told; pieces = after })
   asked_term caller said mine told before after h = record {
     pump = [];
     acts = _;
@@ -99,19 +97,19 @@ module _ {N S : Type 0} where
 
 module _ (N S : Type 0) where
   -- a call of a name that stands for no open socket
-  pub calls_none : (asks : LineCall) (place : ℕ) (mine : Sockets) (line : RunLine) (all : List Skip) (over : Bool) → called_place asks ≡ Some place → open_at mine place ≡ None
-      → DoesLine asks mine (idle_try {N = N} {S = S} line all (Plain answer.NoSocket) over) mine
-  calls_none (Asks (call.Socket kind options)) place mine line all over is none = elim (no_place place is) [ ]
-  calls_none (Asks (call.Bind p at)) place mine line all over is none = on_none {N = N} {S = S} (CallsOpen (BindsCall at)) (open_at mine p) mine line all over (subst (λ q. open_at mine q ≡ None) (the_place p place is) none)
-  calls_none (Asks (call.Connect p to)) place mine line all over is none = on_none {N = N} {S = S} (CallsOpen (ConnectsCall to)) (open_at mine p) mine line all over (subst (λ q. open_at mine q ≡ None) (the_place p place is) none)
-  calls_none (Asks (call.Send p m)) place mine line all over is none = on_none {N = N} {S = S} (CallsOpen (SendsCall m)) (open_at mine p) mine line all over (subst (λ q. open_at mine q ≡ None) (the_place p place is) none)
-  calls_none (Asks (call.Recv p tries)) place mine line all over is none = on_none {N = N} {S = S} (CallsOpen ReceivesCall) (open_at mine p) mine line all over (subst (λ q. open_at mine q ≡ None) (the_place p place is) none)
-  calls_none (Asks (call.Subscribe p topic)) place mine line all over is none = on_none {N = N} {S = S} (CallsOpen (ChangesCall Subscribe topic)) (open_at mine p) mine line all over (subst (λ q. open_at mine q ≡ None) (the_place p place is) none)
-  calls_none (Asks (call.Unsubscribe p topic)) place mine line all over is none = on_none {N = N} {S = S} (CallsOpen (ChangesCall Unsubscribe topic)) (open_at mine p) mine line all over (subst (λ q. open_at mine q ≡ None) (the_place p place is) none)
-  calls_none (Unbinds p at) place mine line all over is none = on_none {N = N} {S = S} (CallsOpen (UnbindsCall at)) (open_at mine p) mine line all over (subst (λ q. open_at mine q ≡ None) (the_place p place is) none)
-  calls_none (Disconnects p at) place mine line all over is none = on_none {N = N} {S = S} (CallsOpen (DisconnectsCall at)) (open_at mine p) mine line all over (subst (λ q. open_at mine q ≡ None) (the_place p place is) none)
-  calls_none (Closes p) place mine line all over is none = elim (no_place place is) [ ]
-  calls_none Terms place mine line all over is none = elim (no_place place is) [ ]
+  pub calls_none : (asks : Call) (place : ℕ) (mine : Sockets) (line : Line) (all : List Skip) (over : Bool) → called_place asks ≡ Some place → open_at mine place ≡ None
+      → DoesLine asks mine (idle_try {N = N} {S = S} line all answer.NoSocket over) mine
+  calls_none (call.Socket kind options) place mine line all over is none = elim (no_place place is) [ ]
+  calls_none (call.Bind p at) place mine line all over is none = on_none {N = N} {S = S} (CallsOpen (BindsCall at)) (open_at mine p) mine line all over (subst (λ q. open_at mine q ≡ None) (the_place p place is) none)
+  calls_none (call.Connect p to) place mine line all over is none = on_none {N = N} {S = S} (CallsOpen (ConnectsCall to)) (open_at mine p) mine line all over (subst (λ q. open_at mine q ≡ None) (the_place p place is) none)
+  calls_none (call.Send p m) place mine line all over is none = on_none {N = N} {S = S} (CallsOpen (SendsCall m)) (open_at mine p) mine line all over (subst (λ q. open_at mine q ≡ None) (the_place p place is) none)
+  calls_none (call.Recv p tries) place mine line all over is none = on_none {N = N} {S = S} (CallsOpen ReceivesCall) (open_at mine p) mine line all over (subst (λ q. open_at mine q ≡ None) (the_place p place is) none)
+  calls_none (call.Subscribe p topic) place mine line all over is none = on_none {N = N} {S = S} (CallsOpen (ChangesCall Subscribe topic)) (open_at mine p) mine line all over (subst (λ q. open_at mine q ≡ None) (the_place p place is) none)
+  calls_none (call.Unsubscribe p topic) place mine line all over is none = on_none {N = N} {S = S} (CallsOpen (ChangesCall Unsubscribe topic)) (open_at mine p) mine line all over (subst (λ q. open_at mine q ≡ None) (the_place p place is) none)
+  calls_none (call.Unbind p at) place mine line all over is none = on_none {N = N} {S = S} (CallsOpen (UnbindsCall at)) (open_at mine p) mine line all over (subst (λ q. open_at mine q ≡ None) (the_place p place is) none)
+  calls_none (call.Disconnect p at) place mine line all over is none = on_none {N = N} {S = S} (CallsOpen (DisconnectsCall at)) (open_at mine p) mine line all over (subst (λ q. open_at mine q ≡ None) (the_place p place is) none)
+  calls_none (call.Close p) place mine line all over is none = elim (no_place place is) [ ]
+  calls_none call.Term place mine line all over is none = elim (no_place place is) [ ]
 
 module _ {O : Type 0} (as_open : O → OpenSock) where
   none_in : (found : Option (Seat O)) → is_open_in found ≡ false → open_in as_open found ≡ None
@@ -142,9 +140,9 @@ module _ {O : Type 0} (as_open : O → OpenSock) where
 
 module _ {O N S : Type 0} (as_open : O → OpenSock) where
   -- a line calls a seat that is not open
-  pub asked_none : (caller place : ℕ) (asks : LineCall) (seats : List (Seat O)) (told : List Skip) (pieces : List (Piece N S)) → called_place asks ≡ Some place → is_open_at seats place ≡ false
+  pub asked_none : (caller place : ℕ) (asks : Call) (seats : List (Seat O)) (told : List Skip) (pieces : List (Piece N S)) → called_place asks ≡ Some place → is_open_at seats place ≡ false
       → AllByRecursion (Fits as_open) seats → AreApart (map name_of seats)
-      → DoesAsked caller asks (Plain answer.NoSocket) (at_seats as_open seats told pieces) (at_seats as_open seats told pieces)
+      → DoesAsked caller asks answer.NoSocket (at_seats as_open seats told pieces) (at_seats as_open seats told pieces)
   asked_none caller place asks seats told pieces is shut fit apart = record {
     pump = [];
     acts = [];
@@ -156,7 +154,7 @@ module _ {O N S : Type 0} (as_open : O → OpenSock) where
 
   pub closes_none : (caller place : ℕ) (seats : List (Seat O)) (told : List Skip) (pieces : List (Piece N S)) → is_open_at seats place ≡ false
       → AllByRecursion (Fits as_open) seats → AreApart (map name_of seats)
-      → DoesAsked caller (Closes place) (Plain answer.NoSocket) (at_seats as_open seats told pieces) (at_seats as_open seats told pieces)
+      → DoesAsked caller (call.Close place) answer.NoSocket (at_seats as_open seats told pieces) (at_seats as_open seats told pieces)
   closes_none caller place seats told pieces shut fit apart = record {
     pump = [];
     acts = [];
@@ -167,7 +165,7 @@ module _ {O N S : Type 0} (as_open : O → OpenSock) where
   }
 
   -- a line calls the socket of an open seat
-  pub asked_open : (caller place : ℕ) (asks : LineCall) (said : LineAnswer) (seats : List (Seat O)) (object : ObjId) (s t : O) (told told_now : List Skip) (before after : List (Piece N S))
+  pub asked_open : (caller place : ℕ) (asks : Call) (said : Answer) (seats : List (Seat O)) (object : ObjId) (s t : O) (told told_now : List Skip) (before after : List (Piece N S))
       → called_place asks ≡ Some place → slice_get seats place ≡ Some (seat.Open object s) → AllByRecursion (Fits as_open) seats → AreApart (map name_of seats) → (as_open t).object ≡ object.0
       → CallsOne caller asks (as_open s) (as_open t) said told told_now before after
       → DoesAsked caller asks said (at_seats as_open seats told before) (at_seats as_open (slice_set seats place (seat.Open object t)) told_now after)
@@ -200,13 +198,13 @@ module _ {O N S : Type 0} (as_open : O → OpenSock) where
 
   -- a line closes the socket of an open seat
   pub closes_open : (caller place : ℕ) (seats new : List (Seat O)) (told : List Skip) (before after : List (Piece N S)) → AllByRecursion (Fits as_open) seats → AreApart (map name_of seats)
-      → ShutsAt as_open caller place seats new before after → DoesAsked caller (Closes place) (Plain answer.Done) (at_seats as_open seats told before) (at_seats as_open new told after)
+      → ShutsAt as_open caller place seats new before after → DoesAsked caller (call.Close place) answer.Done (at_seats as_open seats told before) (at_seats as_open new told after)
   closes_open caller place seats new told before after fit apart h = record {
     pump = [];
     acts = h.acts;
     skips = [];
     does = λ line all over.
-        subst (λ f. OnFound ClosesLine f (sockets_of as_open seats) (record { line = line; pump = []; call = h.acts; skips = []; told = all; answer = Plain answer.Done; over = over }) (sockets_of as_open new))
+        subst (λ f. OnFound ClosesLine f (sockets_of as_open seats) (record { line = line; pump = []; call = h.acts; skips = []; told = all; answer = answer.Done; over = over }) (sockets_of as_open new))
         (sym (found_here as_open place seats h.object h.socket h.here fit apart))
         (record { no_pump = record { pump_is = refl; skips_are = refl }; closes = h.closes; answer_is = refl });
     tells = sym (append-nil told);
@@ -216,7 +214,7 @@ module _ {O N S : Type 0} (as_open : O → OpenSock) where
   -- a line makes a socket, or is refused
   pub asked_socket : (caller : ℕ) (kind : Kind) (options : Options) (seats : List (Seat O)) (object : ObjId) (s : O) (told : List Skip) (before after : List (Piece N S))
       → MakesOne as_open caller kind options (made.Socket object s) before after
-      → DoesAsked caller (Asks (call.Socket kind options)) (Plain (answer.Object object)) (at_seats as_open seats told before) (at_seats as_open (seats ++ seat.Open object s ∷ []) told after)
+      → DoesAsked caller (call.Socket kind options) (answer.Object object) (at_seats as_open seats told before) (at_seats as_open (seats ++ seat.Open object s ∷ []) told after)
   asked_socket caller kind options seats object s told before after h = record {
     pump = [];
     acts = _;
@@ -237,7 +235,7 @@ module _ {O N S : Type 0} (as_open : O → OpenSock) where
 
   pub asked_refused : (caller : ℕ) (kind : Kind) (options : Options) (seats : List (Seat O)) (refusal : Refusal) (told : List Skip) (before after : List (Piece N S))
       → MakesOne as_open caller kind options (made.Refused refusal) before after
-      → DoesAsked caller (Asks (call.Socket kind options)) (refusal_answer refusal) (at_seats as_open seats told before) (at_seats as_open (seats ++ seat.Refused ∷ []) told after)
+      → DoesAsked caller (call.Socket kind options) (refusal_answer refusal) (at_seats as_open seats told before) (at_seats as_open (seats ++ seat.Refused ∷ []) told after)
   asked_refused caller kind options seats refusal told before after h = record {
     pump = [];
     acts = _;
@@ -257,7 +255,7 @@ module _ {O N S : Type 0} (as_open : O → OpenSock) where
 
 module _ {W O N S : Type 0} (as_open : O → OpenSock) (agrees : W → ℕ → O → Type 0) (was_made : W → ℕ → Type 0) where
   -- a call goes to the socket of an open seat, as the code reads and writes the seat
-  pub calls_in : (caller place : ℕ) (asks : LineCall) (said : LineAnswer) (items seats : List (Seat O)) (x : Seat O) (object : ObjId) (s t : O) (way : W) (told told_now : List Skip) (before after : List (Piece N S))
+  pub calls_in : (caller place : ℕ) (asks : Call) (said : Answer) (items seats : List (Seat O)) (x : Seat O) (object : ObjId) (s t : O) (way : W) (told told_now : List Skip) (before after : List (Piece N S))
       → items ≡ seats → is_open_at seats place ≡ true → x ≡ slice_index_or items place x → x ≡ seat.Open object s → called_place asks ≡ Some place → AllAgree as_open agrees was_made way caller seats
       → (as_open t).object ≡ (as_open s).object → CallsOne caller asks (as_open s) (as_open t) said told told_now before after
       → DoesAsked caller asks said (at_seats as_open seats told before) (at_seats as_open (slice_set items place (seat.Open object t)) told_now after)

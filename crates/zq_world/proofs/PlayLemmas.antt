@@ -13,21 +13,21 @@ use Rattle.spec_control.specs.Control.{Control, begun, end_of}
 use Rattle.spec_control.specs.ControlRun.{after_all}
 use Rattle.spec_control.specs.Moments.{moments_from}
 use Rattle.spec_run.specs.Run.{Schedule}
-use Rattle.spec_run.specs.declared.journal.LineEntry.{LineEntry}
+use Rattle.spec_run.specs.declared.journal.Entry.{Entry}
 use Rattle.spec_run.specs.declared.journal.ActorLines.{ActorLines}
 use Rattle.spec_run.specs.declared.journal.ObjectLine.{ObjectLine}
 use Rattle.spec_run.specs.declared.journal.ObjectRow.{ObjectRow}
 use Rattle.spec_run.specs.declared.journal.SettledRow.{SettledRow}
-use Rattle.spec_run.specs.declared.journal.RunJournal.{RunJournal}
-use Rattle.spec_run.specs.declared.line.RunActor.{RunActor}
-use Rattle.spec_run.specs.LineCall.{RunScript}
+use Rattle.spec_run.specs.declared.journal.Journal.{Journal}
+use Rattle.spec_run.specs.declared.script.ActorScript.{ActorScript}
+use Rattle.spec_run.specs.Script.{Script}
 use Rattle.spec_run.specs.Act.{Act, Deed, moments_in, steps_in}
 use Rattle.spec_run.specs.OpenSocket.{OpenSock}
 use Rattle.spec_run.specs.Standing.{ActorStanding, standing_before}
 use Rattle.spec_run.specs.OwnedRun.{IsRun, all_steps, deeds_in, every_pipe, pipe_capacity, settlement_of}
 use Rattle.spec_run.specs.InTurns.{Draws, IsOneThread, conductor_steps, readings_of, turn_step}
 use Rattle.spec_run.specs.Fate.{count_sent, fates_left, is_heard_at, reason_left, row_of_fates}
-use Rattle.spec_run.specs.RunJournal.{IsRunJournal, actors_shown, entries_shown, row_if, row_shown, rows_by}
+use Rattle.spec_run.specs.Journal.{IsRunJournal, actors_shown, entries_shown, row_if, row_shown, rows_by}
 use Rattle.spec_run.proofs.JournalLemmas.{all_fates}
 use Rattle.run_laws.proofs.TurnLemmas.{turns_local}
 use Rattle.zq_world.specs.Piece.{Piece, acts_in, pipe_steps}
@@ -57,7 +57,7 @@ module _ {O : Type 0} where
   pub new_none : AreNew {O = O} [] []
   new_none = record { stand = λ as_open. refl; said = refl; each = tt }
 
-  pub new_more : (script : RunScript) (actor : RunActor) (actors : List (Actor O)) (a : Actor O) → AreNew script actors → ((as_open : O → OpenSock) → standing_of as_open a ≡ standing_before actor) → a.seats ≡ []
+  pub new_more : (script : Script) (actor : ActorScript) (actors : List (Actor O)) (a : Actor O) → AreNew script actors → ((as_open : O → OpenSock) → standing_of as_open a ≡ standing_before actor) → a.seats ≡ []
       → lines_of a ≡ lines_before actor → AreNew (script ++ actor ∷ []) (actors ++ a ∷ [])
   new_more script actor actors a new stands seats says = record {
     stand = λ as_open. map-append (standing_of as_open) actors (a ∷ []) ∙ ap (λ l. l ++ standing_of as_open a ∷ []) (new.stand as_open)
@@ -77,7 +77,7 @@ module _ {O : Type 0} where
 
 module _ {O : Type 0} (as_open : O → OpenSock) where
   -- actors before the first lines of a script that may be asked
-  may_at : (script : RunScript) (actors : List (Actor O)) → standings as_open actors ≡ map standing_before script → MayAskScript script
+  may_at : (script : Script) (actors : List (Actor O)) → standings as_open actors ≡ map standing_before script → MayAskScript script
       → (i : ℕ) (a : Actor O) → slice_get actors i ≡ Some a → MayAskLines a.lines.now
   may_at script [] stand may i a e = cc
   may_at [] (x ∷ actors) stand may i a e = cc
@@ -93,18 +93,18 @@ module _ {O : Type 0} (as_open : O → OpenSock) where
 
 module _ {W O : Type 0} (as_open : O → OpenSock) (agrees : W → ℕ → O → Type 0) (was_made : W → ℕ → Type 0) where
   -- new actors have nothing to agree with, and the lines of a script that may be asked
-  pub new_agree : (way : W) (script : RunScript) (actors : List (Actor O)) → MayAskScript script → AreNew script actors → ActorsAgree as_open agrees was_made way actors
+  pub new_agree : (way : W) (script : Script) (actors : List (Actor O)) → MayAskScript script → AreNew script actors → ActorsAgree as_open agrees was_made way actors
   new_agree way script actors may new i a e = record {
     sockets = subst (λ (seats : List (Seat O)). AllAgree as_open agrees was_made way i seats) (sym (new_at actors i a new.each e)) (record { agree = tt; apart = tt });
     may = may_at as_open script actors (new.stand as_open) may i a e;
   }
 
-lines_same : (m n : List ℕ) (es fs : List LineEntry) → m ≡ n → es ≡ fs → ◌≡◌ {A = ActorLines} (record { name = m; entries = es }) (record { name = n; entries = fs })
+lines_same : (m n : List ℕ) (es fs : List Entry) → m ≡ n → es ≡ fs → ◌≡◌ {A = ActorLines} (record { name = m; entries = es }) (record { name = n; entries = fs })
 lines_same m n es fs e f = cc
 
 module _ {O N S : Type 0} where
   -- the lines of actors at the end, from those before their first
-  pub all_said : (m k : ℕ) (script : RunScript) (olds news : List (Actor O)) (steps : ℕ → List (List (Deed N S))) (last : List (List (List (Deed N S)))) → map lines_of olds ≡ map lines_before script → length news ≡ length olds
+  pub all_said : (m k : ℕ) (script : Script) (olds news : List (Actor O)) (steps : ℕ → List (List (Deed N S))) (last : List (List (List (Deed N S)))) → map lines_of olds ≡ map lines_before script → length news ≡ length olds
       → length script ≤ m → ((i w : ℕ) (a b : Actor O) → w ≡ k + i → slice_get olds i ≡ Some a → slice_get news i ≡ Some b → entries_of b ≡ entries_of a ++ entries_shown (deeds_in (steps w)))
       → ((i : ℕ) (a b : Actor O) → slice_get olds i ≡ Some a → slice_get news i ≡ Some b → b.name ≡ a.name)
       → map lines_of news ≡ actors_shown script (map steps (range_with_len k m) ++ last)
@@ -127,7 +127,7 @@ module _ {O N S : Type 0} where
       (says 0 k a b (omega arith) refl refl ∙ ap (λ (x : ActorLines). x.entries ++ entries_shown (deeds_in (steps k))) first))
 
 module _ {O N S : Type 0} (as_open : O → OpenSock) where
-  pub on_one : (script : RunScript) (seed limit : ℕ) (done : Bool) (old new : List (Actor O)) (pieces : List (Piece N S)) (order : List (Item N S)) → standings as_open old ≡ map standing_before script
+  pub on_one : (script : Script) (seed limit : ℕ) (done : Bool) (old new : List (Actor O)) (pieces : List (Piece N S)) (order : List (Item N S)) → standings as_open old ≡ map standing_before script
       → (runs : RunsSo as_open seed limit done old new [] pieces) → moments_in (acts_in pieces) ≡ moments_from (begun 1) order → AreExact (pipe_capacity (after_all order (begun 1))) [] (pipe_steps pieces)
       → IsOneThread seed script 1 runs.turned (run_of script runs.turned order)
   on_one script seed limit done old new pieces order same runs one exact = record {
@@ -141,7 +141,7 @@ module _ {O N S : Type 0} (as_open : O → OpenSock) where
       count = let e = as_scripted as_open script old same in omega (arith, e)
 
   -- such a run is one of the script
-  is_run : (script : RunScript) (seed limit : ℕ) (done : Bool) (old new : List (Actor O)) (pieces : List (Piece N S)) (order : List (Item N S)) → (same : standings as_open old ≡ map standing_before script)
+  is_run : (script : Script) (seed limit : ℕ) (done : Bool) (old new : List (Actor O)) (pieces : List (Piece N S)) (order : List (Item N S)) → (same : standings as_open old ≡ map standing_before script)
       → (runs : RunsSo as_open seed limit done old new [] pieces) → IsOrderly pieces order → IsRun script 1 every_pipe (run_of script runs.turned order)
   is_run script seed limit done old new pieces order same runs orderly = record {
     «local» = turns_local script 1 limit runs.turned (run_of script runs.turned order) (in_turns as_open script seed limit done old new pieces order same runs orderly.same);
@@ -169,7 +169,7 @@ module _ {O N S : Type 0} (as_open : O → OpenSock) where
       read p = same_read as_open script seed limit done old new pieces order same runs orderly.sided p
 
   -- and each row is that of its pieces
-  same_rows : (script : RunScript) (seed limit : ℕ) (done : Bool) (old new : List (Actor O)) (pieces : List (Piece N S)) (order : List (Item N S)) → (same : standings as_open old ≡ map standing_before script)
+  same_rows : (script : Script) (seed limit : ℕ) (done : Bool) (old new : List (Actor O)) (pieces : List (Piece N S)) (order : List (Item N S)) → (same : standings as_open old ≡ map standing_before script)
       → (runs : RunsSo as_open seed limit done old new [] pieces) → OneSided pieces → (p : PipeId) → row_in_pieces (after_all order (begun 1)) pieces p ≡ row_shown (after_all order (begun 1)) (run_of script runs.turned order) p
   same_rows script seed limit done old new pieces order same runs sided p =
       ap (λ n. row_if (settlement_of end p) (row_of_fates p n (fates_in_pieces end pieces p) (reason_left (settlement_of end p))))
@@ -180,7 +180,7 @@ module _ {O N S : Type 0} (as_open : O → OpenSock) where
       end : Control
       end = after_all order (begun 1)
 
-  plays_so : (script : RunScript) (seed limit : ℕ) (done : Bool) (old new : List (Actor O)) (after : List (Piece N S)) (order : List (Item N S)) (lines : List ActorLines) → AreNew script old
+  plays_so : (script : Script) (seed limit : ℕ) (done : Bool) (old new : List (Actor O)) (after : List (Piece N S)) (order : List (Item N S)) (lines : List ActorLines) → AreNew script old
       → RunsSo as_open seed limit done old new [] after → IsOrderly after order → lines ≡ map lines_of new → PlaysSo script seed limit lines after order
   plays_so script seed limit done old new after order lines start run orderly said =
       let same = start.stand as_open in
@@ -195,7 +195,7 @@ module _ {O N S : Type 0} (as_open : O → OpenSock) where
         rows = λ p. same_rows script seed limit done old new after order same run orderly.sided p;
       }
 
-  pub plays_timed : (script : RunScript) (seed limit : ℕ) (done : Bool) (old new : List (Actor O)) (before after : List (Piece N S)) (order : List (Item N S)) (lines : List ActorLines) (clock clock_now : ClockAt) → before ≡ []
+  pub plays_timed : (script : Script) (seed limit : ℕ) (done : Bool) (old new : List (Actor O)) (before after : List (Piece N S)) (order : List (Item N S)) (lines : List ActorLines) (clock clock_now : ClockAt) → before ≡ []
       → AreNew script old → RunsTimed as_open seed limit done old new before after clock clock_now → IsOrderly after order → lines ≡ map lines_of new
       → PlaysTimed script seed limit lines after order clock clock_now
   unfolding plays_so
@@ -221,11 +221,11 @@ same_by row other same n (pair ∷ pairs) =
     ∙ ap (λ (l : List (Option SettledRow)). other (end_of n true) ∷ other (end_of n false) ∷ l) (same_by row other same (n + 1) pairs)
 
 pub journals_are : (a b : List ActorLines) (c d : List ObjectLine) (e f : List (Option SettledRow)) (g h : List ObjectRow) (k l : Bool) → a ≡ b → c ≡ d → e ≡ f → g ≡ h → k ≡ l
-    → ◌≡◌ {A = RunJournal} (record { actors = a; ended = c; pipes = e; objects = g; done = k }) (record { actors = b; ended = d; pipes = f; objects = h; done = l })
+    → ◌≡◌ {A = Journal} (record { actors = a; ended = c; pipes = e; objects = g; done = k }) (record { actors = b; ended = d; pipes = f; objects = h; done = l })
 journals_are a b c d e f g h k l p q r s t = cc
 
 module _ {N S : Type 0} where
-  journal_so : (script : RunScript) (schedule : Schedule) (lines : List ActorLines) (pieces : List (Piece N S)) (order : List (Item N S)) (shown : Shown) → PlaysSo script schedule.seed schedule.turns lines pieces order
+  journal_so : (script : Script) (schedule : Schedule) (lines : List ActorLines) (pieces : List (Piece N S)) (order : List (Item N S)) (shown : Shown) → PlaysSo script schedule.seed schedule.turns lines pieces order
       → ShowsSo pieces order shown → IsRunJournal N S script schedule (record { actors = lines; ended = shown.ended; pipes = shown.pipes; objects = shown.objects; done = shown.done })
   journal_so script schedule lines pieces order shown plays shows = record {
     run = run_of script plays.turned order;
@@ -239,7 +239,7 @@ module _ {N S : Type 0} where
         shows.objects shows.done_is;
   }
 
-  pub journal_timed : (script : RunScript) (schedule : Schedule) (lines : List ActorLines) (pieces : List (Piece N S)) (order : List (Item N S)) (shown : Shown) (clock clock_now : ClockAt)
+  pub journal_timed : (script : Script) (schedule : Schedule) (lines : List ActorLines) (pieces : List (Piece N S)) (order : List (Item N S)) (shown : Shown) (clock clock_now : ClockAt)
       → PlaysTimed script schedule.seed schedule.turns lines pieces order clock clock_now → ShowsSo pieces order shown
       → IsTimedJournal N S script schedule clock clock_now (record { actors = lines; ended = shown.ended; pipes = shown.pipes; objects = shown.objects; done = shown.done })
   unfolding journal_so

@@ -10,13 +10,13 @@ use Rattle.zq_outer.proofs.ClockLemmas.{reads_more}
 use Rattle.spec_control.specs.declared.object.ObjState.{ObjState}
 use Rattle.spec_control.specs.declared.object.ObjState.TheVariants.{Live, Asked, Ended}
 use Rattle.spec_run.specs.Turn.{IsOrder}
-use Rattle.spec_run.specs.declared.journal.LineEntry.{LineEntry}
+use Rattle.spec_run.specs.declared.journal.Entry.{Entry}
 use Rattle.spec_run.specs.Act.{Act, Said, Deed, Tries, Shuts, Fetches, Idles, Works, Looks, AsksRoot, Reads, all_acts}
 use Rattle.spec_run.specs.OpenSocket.{OpenSock}
 use Rattle.spec_run.specs.Standing.{ActorStanding, has_finished}
 use Rattle.spec_run.specs.OwnedRun.{deeds_in}
 use Rattle.spec_run.specs.InTurns.{AllStep, OneTurn, AsksIf, Begins, TurnsGo, NeverFall, Draws, is_ended, is_live, turn_step}
-use Rattle.spec_run.specs.RunJournal.{entries_shown, entry_shown}
+use Rattle.spec_run.specs.Journal.{entries_shown, entry_shown}
 use Rattle.zq_world.specs.Piece.{Piece, AreActsBy, piece_of, deed_pieces}
 use Rattle.zq_world.specs.Stepping.{standing_of, entries_of}
 use Rattle.zq_world.specs.declared.actor.Actor.{Actor}
@@ -27,7 +27,7 @@ use Rattle.zq_world.specs.Timed.{RunsTimed}
 use Rattle.zq_world.proofs.OrderLemmas.{each_once}
 use Rattle.zq_world.proofs.TurnLemmas.{whole_turn, turn_told, turn_of, step_of}
 
-shown_tries : (b : Bool) (e : LineEntry) (xs ys : List LineEntry) → (if b then e ∷ (xs ++ ys) else (xs ++ ys)) ≡ (if b then e ∷ xs else xs) ++ ys
+shown_tries : (b : Bool) (e : Entry) (xs ys : List Entry) → (if b then e ∷ (xs ++ ys) else (xs ++ ys)) ≡ (if b then e ∷ xs else xs) ++ ys
 shown_tries true e xs ys = refl
 shown_tries false e xs ys = refl
 

@@ -11,7 +11,7 @@ use Rattle.spec_control.specs.Held.{caller_of}
 use Rattle.spec_control.specs.Control.{begun}
 use Rattle.spec_control.specs.Moments.{Moment, moments_by, moments_from}
 use Rattle.spec_run.specs.Act.{Act, Step, Said, moment_of, moments_in, Deed, Looks, Reads, all_acts}
-use Rattle.spec_run.specs.LineCall.{RunScript}
+use Rattle.spec_run.specs.Script.{Script}
 use Rattle.spec_run.specs.OpenSocket.{OpenSock}
 use Rattle.spec_run.specs.Standing.{ActorStanding, standing_before}
 use Rattle.spec_run.specs.OwnedRun.{deeds_in, AreTold}
@@ -194,7 +194,7 @@ module _ {N S : Type 0} where
       (of_turns n m go.1.0 news ts os items (same ∙ sym (as_many olds go.1.0 t.steps go.1.1)) lt go.1.2 by.1 rest)))
 
 module _ {O N S : Type 0} (as_open : O → OpenSock) where
-  pub are_told : (script : RunScript) (seed limit : ℕ) (done : Bool) (old new : List (Actor O)) (pieces : List (Piece N S)) (order : List (Item N S)) → standings as_open old ≡ map standing_before script
+  pub are_told : (script : Script) (seed limit : ℕ) (done : Bool) (old new : List (Actor O)) (pieces : List (Piece N S)) (order : List (Item N S)) → standings as_open old ≡ map standing_before script
       → (runs : RunsSo as_open seed limit done old new [] pieces) → moments_in (acts_in pieces) ≡ moments_from (begun 1) order → AreTold 0 (moments_from (begun 1) order) (run_of script runs.turned order).workers
   are_told script seed limit done old new pieces order same runs one =
       subst (λ (ms : List (Moment N S)). AreTold 0 ms (run_of script runs.turned order).workers) (sym (ap moments_in (runs_acts as_open seed limit done old new pieces runs)) ∙ one)
@@ -221,7 +221,7 @@ module _ {O N S : Type 0} (as_open : O → OpenSock) where
       two : (w : ℕ) → w ≡ 0 + (length script + 1 + 1) → length script + 2 ≡ w
       two w e = omega (arith, e)
 
-  pub nobody_else : (script : RunScript) (seed limit : ℕ) (done : Bool) (old new : List (Actor O)) (pieces : List (Piece N S)) (order : List (Item N S)) → standings as_open old ≡ map standing_before script
+  pub nobody_else : (script : Script) (seed limit : ℕ) (done : Bool) (old new : List (Actor O)) (pieces : List (Piece N S)) (order : List (Item N S)) → standings as_open old ≡ map standing_before script
       → (runs : RunsSo as_open seed limit done old new [] pieces) → moments_in (acts_in pieces) ≡ moments_from (begun 1) order
       → list_all (λ item. nat_lt (caller_of item) (length (run_of script runs.turned order).workers)) order ≡ true
   nobody_else script seed limit done old new pieces order same runs one =

@@ -8,7 +8,7 @@ use Rattle.zq_base.specs.Ends.{PipeId}
 use Rattle.spec_pattern.specs.PipeStep.{PipeStep, Commit, FullLook, Take, EmptyLook, DelimiterLook, WaitingLook, Seal, same_pipe}
 use Rattle.spec_pattern.specs.declared.answers.Skip.{Skip}
 use Rattle.spec_control.specs.declared.entry.Item.{Item}
-use Rattle.spec_run.specs.LineCall.{RunScript}
+use Rattle.spec_run.specs.Script.{Script}
 use Rattle.spec_run.specs.Act.{Act, Deed, Looks, pipe_step_of, acts_of, all_acts, steps_in}
 use Rattle.spec_run.specs.OpenSocket.{OpenSock}
 use Rattle.spec_run.specs.Standing.{standing_before}
@@ -134,7 +134,7 @@ module _ {N S : Type 0} (n : ℕ) (pieces : List (Piece N S)) (steps_of : ℕ �
       (λ x e. none_fated hears p (steps_in x.acts) x.skips e) (λ k reaps d. fates_told hears p k reaps (acts_of d) (skips_of d))
 
 -- and so those of a run in turns
-module _ {O N S : Type 0} (as_open : O → OpenSock) (script : RunScript) (seed limit : ℕ) (done : Bool) (old new : List (Actor O)) (pieces : List (Piece N S)) (order : List (Item N S))
+module _ {O N S : Type 0} (as_open : O → OpenSock) (script : Script) (seed limit : ℕ) (done : Bool) (old new : List (Actor O)) (pieces : List (Piece N S)) (order : List (Item N S))
     (same : standings as_open old ≡ map standing_before script) (runs : RunsSo as_open seed limit done old new [] pieces) where
   count : length old ≡ length script
   count = as_scripted as_open script old same

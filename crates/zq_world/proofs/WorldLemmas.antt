@@ -3,7 +3,7 @@ use Rattle.std.proofs.Common.{◌≡◌, ℕ, List, [], ◌∷◌, ◌++◌, tru
 use Rattle.std.specs.Prelude.{Result, Ok, Err, IfOk, OnOk}
 use Rattle.std.specs.Result.{result_and}
 use Rattle.std.proofs.lemmas.List.{map-append}
-use Rattle.spec_run.specs.LineCall.{RunScript}
+use Rattle.spec_run.specs.Script.{Script}
 use Rattle.spec_run.specs.OpenSocket.{OpenSock}
 use Rattle.spec_run.specs.CoreEvents.{CoreEvent}
 use Rattle.zq_world.specs.MayAsk.{MayAskScript}
@@ -27,10 +27,10 @@ pub events_then : (done : List (Event × Unit {0})) (event : Event) → map (λ 
 events_then done event = map-append (λ (x : Event × Unit {0}). core_event x.0) done ((event, tt) ∷ [])
 
 module _ {W O N S : Type 0} (as_open : O → OpenSock) (agrees : W → ℕ → O → Type 0) (was_made : W → ℕ → Type 0) (pieces : W → List (Piece N S)) where
-  pub world_new : (script : RunScript) (way : W) (actors : List (Actor O)) → MayAskScript script → AreNew script actors → pieces way ≡ [] → IsWorld as_open agrees was_made pieces (known_of script [] false) way actors
+  pub world_new : (script : Script) (way : W) (actors : List (Actor O)) → MayAskScript script → AreNew script actors → pieces way ≡ [] → IsWorld as_open agrees was_made pieces (known_of script [] false) way actors
   world_new script way actors may new none e = record { agree = new_agree as_open agrees was_made way script actors may new; ran = has_none as_open script actors (pieces way) new none }
 
-  pub world_more : (script : RunScript) (done : List (Event × Unit {0})) (event : Event) (old new : W) (actors lent : List (Actor O)) (n : ℕ) → n ≡ length actors → HasDone as_open agrees was_made pieces script (map (λ x. core_event x.0) done) old actors
+  pub world_more : (script : Script) (done : List (Event × Unit {0})) (event : Event) (old new : W) (actors lent : List (Actor O)) (n : ℕ) → n ≡ length actors → HasDone as_open agrees was_made pieces script (map (λ x. core_event x.0) done) old actors
       → DoesEvent as_open (core_event event) actors lent (pieces old) (pieces new) → ActorsAgree as_open agrees was_made new lent
       → IsWorld as_open agrees was_made pieces (known_of script (done ++ (event, tt) ∷ []) false) new (take n (lent ++ drop (length lent) actors))
   world_more script done event old new actors lent n many world does agree e =
@@ -41,8 +41,8 @@ module _ {W O N S : Type 0} (as_open : O → OpenSock) (agrees : W → ℕ → O
             (has_more as_open script (map (λ x. core_event x.0) done) (core_event event) actors lent (pieces old) (pieces new) world.ran does);
       })
 
-  pub world_stops : (script : RunScript) (done : List (Event × Unit {0})) (way : W) (actors : List (Actor O)) → IsWorld as_open agrees was_made pieces (known_of script done true) way actors
+  pub world_stops : (script : Script) (done : List (Event × Unit {0})) (way : W) (actors : List (Actor O)) → IsWorld as_open agrees was_made pieces (known_of script done true) way actors
   world_stops script done way actors e = absurd (true≢false e)
 
-  pub world_alone : (script : RunScript) (events : List CoreEvent) (way : W) (actors : List (Actor O)) → HasDone as_open agrees was_made pieces script events way actors → IsReaper (length actors) (pieces way)
+  pub world_alone : (script : Script) (events : List CoreEvent) (way : W) (actors : List (Actor O)) → HasDone as_open agrees was_made pieces script events way actors → IsReaper (length actors) (pieces way)
   world_alone script events way actors world = alone_run as_open script events actors (pieces way) world.ran

@@ -3,7 +3,7 @@ use Rattle.std.specs.Prelude.{◌≡◌, ◌<◌, ◌==◌, ◌+◌, ◌++◌, �
 use Rattle.std.specs.List.{AllByRecursion, range_with_len}
 use Rattle.spec_control.specs.declared.entry.Item.{Item}
 use Rattle.spec_control.specs.Control.{begun}
-use Rattle.spec_run.specs.LineCall.{RunScript}
+use Rattle.spec_run.specs.Script.{Script}
 use Rattle.spec_run.specs.Act.{acts_of}
 use Rattle.spec_run.specs.Fate.{skips_of}
 use Rattle.spec_run.specs.OpenSocket.{OpenSock}
@@ -11,7 +11,7 @@ use Rattle.spec_run.specs.Standing.{ActorStanding, standing_before}
 use Rattle.spec_run.specs.OwnedRun.{OwnedRun, IsRun, every_pipe}
 use Rattle.spec_run.specs.InTurns.{worker_count}
 use Rattle.spec_run.specs.CoreEvents.{CoreEvent, NextLine, TakeFrom, AskRoot, Tick, Made, deeds_made, made_by_worker, actor_with, EventDoes, EventsGo, IsOfEvents}
-use Rattle.spec_run.specs.RunJournal.{entries_shown}
+use Rattle.spec_run.specs.Journal.{entries_shown}
 use Rattle.zq_world.specs.Piece.{Piece, AreActsBy, piece_of}
 use Rattle.zq_world.specs.Stepping.{standing_of, entries_of}
 use Rattle.zq_world.specs.Taking.{control_told, has_slot}
@@ -30,11 +30,11 @@ core_event (event.Tick now) = Tick now
 
 -- what is known of a world: its script, the events so far, and whether one of them wanted memory that there was not
 pub record Events : Type 0 where
-  pub script : RunScript
+  pub script : Script
   pub events : List CoreEvent
   pub wanted : Bool
 
-abbrev pub known_of : RunScript → List (Event × Unit {0}) → Bool → Events
+abbrev pub known_of : Script → List (Event × Unit {0}) → Bool → Events
 known_of script done wanted = record { script = script; events = map (λ x. core_event x.0) done; wanted = wanted }
 
 -- a world stands still behind some of these events, since the next wanted memory
@@ -56,7 +56,7 @@ module _ {N S : Type 0} where
   AreMadeBy made = AllByRecursion (λ m. AreActsBy m.worker (acts_of m.deed)) made
 
   -- the run in which the workers made these deeds, with the control plane's items in this order
-  abbrev pub run_made : RunScript → List (Made N S) → List (Item N S) → OwnedRun N S
+  abbrev pub run_made : Script → List (Made N S) → List (Item N S) → OwnedRun N S
   run_made script made order = record {
     workers = map (λ w. map (λ m. m.deed ∷ []) (made_by_worker w made)) (range_with_len 0 (worker_count script 1 + 1));
     order = order;
@@ -64,7 +64,7 @@ module _ {N S : Type 0} where
 
 -- what goes by events over a core is a run of the script, and that of these events
 abbrev pub RunsByEvents : (N S : Type 0) → Type 0
-RunsByEvents N S = (script : RunScript) (events : List CoreEvent) (made : List (Made N S)) (new : List ActorStanding) (pieces : List (Piece N S)) (order : List (Item N S)) →
+RunsByEvents N S = (script : Script) (events : List CoreEvent) (made : List (Made N S)) (new : List ActorStanding) (pieces : List (Piece N S)) (order : List (Item N S)) →
     EventsGo 1 (begun 1) events (map standing_before script) made new → AreMadeBy made → pieces ≡ made_pieces (length script) made → IsOrderly pieces order →
     IsRun script 1 every_pipe (run_made script made order) × IsOfEvents script 1 events (run_made script made order)
 
@@ -93,7 +93,7 @@ module _ {O N S : Type 0} (as_open : O → OpenSock) where
     pub pieces_are : after ≡ before ++ made_pieces (length old) made
 
   -- these events were done, from actors before their first lines on, and nothing else
-  pub record HasRun (script : RunScript) (events : List CoreEvent) (now : List (Actor O)) (pieces : List (Piece N S)) : Type 0 where
+  pub record HasRun (script : Script) (events : List CoreEvent) (now : List (Actor O)) (pieces : List (Piece N S)) : Type 0 where
     pub start : List (Actor O)
     pub is_new : AreNew script start
     pub made : List (Made N S)
@@ -105,7 +105,7 @@ module _ {O N S : Type 0} (as_open : O → OpenSock) where
 
 module _ {W O N S : Type 0} (as_open : O → OpenSock) (agrees : W → ℕ → O → Type 0) (was_made : W → ℕ → Type 0) (pieces : W → List (Piece N S)) where
   -- the sockets of all actors agree with what was done, and that is these events
-  pub record HasDone (script : RunScript) (events : List CoreEvent) (way : W) (actors : List (Actor O)) : Type 0 where
+  pub record HasDone (script : Script) (events : List CoreEvent) (way : W) (actors : List (Actor O)) : Type 0 where
     pub agree : ActorsAgree as_open agrees was_made way actors
     pub ran : HasRun as_open script events actors (pieces way)
 

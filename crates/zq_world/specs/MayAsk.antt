@@ -4,11 +4,10 @@ use Rattle.std.specs.List.{AllByRecursion}
 use Rattle.zq_base.specs.declared.endpoint.Endpoint.{Endpoint}
 use Rattle.zq_base.specs.declared.endpoint.Endpoint.TheVariants.{Inproc, Tcp}
 use Rattle.zq_base.specs.declared.options.Options.{Options}
-use Rattle.zq_script.specs.declared.script.Call.TheVariants as call
-use Rattle.spec_run.specs.declared.line.LineCall.{LineCall}
-use Rattle.spec_run.specs.declared.line.LineCall.TheVariants.{Asks, Unbinds, Disconnects, Closes, Terms}
-use Rattle.spec_run.specs.declared.line.RunLine.{RunLine}
-use Rattle.spec_run.specs.LineCall.{RunScript}
+use Rattle.spec_run.specs.declared.script.Call.TheVariants as call
+use Rattle.spec_run.specs.declared.script.Call.{Call}
+use Rattle.spec_run.specs.declared.script.Line.{Line}
+use Rattle.spec_run.specs.Script.{Script}
 
 -- what a peer may say as its identity: nothing, or 1 to 255 octets of which the first isn't 0
 abbrev pub MayBeSaid : List ℕ → Type 0
@@ -29,23 +28,23 @@ IsLocal (Inproc name) = Unit {0}
 IsLocal (Tcp address) = ⊥
 
 -- a line may be asked: a socket is made with such options, and a bind or a connect is to such an endpoint
-abbrev pub MayAskLine : LineCall → Type 0
-MayAskLine (Asks (call.Socket kind options)) = MayMake options
-MayAskLine (Asks (call.Bind place at)) = IsLocal at
-MayAskLine (Asks (call.Connect place to)) = IsLocal to
-MayAskLine (Asks (call.Send place m)) = Unit {0}
-MayAskLine (Asks (call.Recv place tries)) = Unit {0}
-MayAskLine (Asks (call.Subscribe place topic)) = Unit {0}
-MayAskLine (Asks (call.Unsubscribe place topic)) = Unit {0}
-MayAskLine (Unbinds place at) = Unit {0}
-MayAskLine (Disconnects place at) = Unit {0}
-MayAskLine (Closes place) = Unit {0}
-MayAskLine Terms = Unit {0}
+abbrev pub MayAskLine : Call → Type 0
+MayAskLine (call.Socket kind options) = MayMake options
+MayAskLine (call.Bind place at) = IsLocal at
+MayAskLine (call.Connect place to) = IsLocal to
+MayAskLine (call.Send place m) = Unit {0}
+MayAskLine (call.Recv place tries) = Unit {0}
+MayAskLine (call.Subscribe place topic) = Unit {0}
+MayAskLine (call.Unsubscribe place topic) = Unit {0}
+MayAskLine (call.Unbind place at) = Unit {0}
+MayAskLine (call.Disconnect place at) = Unit {0}
+MayAskLine (call.Close place) = Unit {0}
+MayAskLine call.Term = Unit {0}
 
 -- so may each of these lines
-abbrev pub MayAskLines : List RunLine → Type 0
+abbrev pub MayAskLines : List Line → Type 0
 MayAskLines lines = AllByRecursion (λ line. MayAskLine line.call) lines
 
 -- and each line of each actor
-abbrev pub MayAskScript : RunScript → Type 0
+abbrev pub MayAskScript : Script → Type 0
 MayAskScript script = AllByRecursion (λ actor. MayAskLines actor.lines) script

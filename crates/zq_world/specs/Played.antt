@@ -10,14 +10,14 @@ use Rattle.spec_control.specs.Names.{AreNamed}
 use Rattle.spec_control.specs.Has.{AreBy}
 use Rattle.spec_control.specs.Moments.{moments_from}
 use Rattle.spec_run.specs.declared.journal.ActorLines.{ActorLines}
-use Rattle.spec_run.specs.declared.line.RunActor.{RunActor}
-use Rattle.spec_run.specs.LineCall.{RunScript}
+use Rattle.spec_run.specs.declared.script.ActorScript.{ActorScript}
+use Rattle.spec_run.specs.Script.{Script}
 use Rattle.spec_run.specs.Act.{moments_in}
 use Rattle.spec_run.specs.OpenSocket.{OpenSock}
 use Rattle.spec_run.specs.Standing.{standing_before}
 use Rattle.spec_run.specs.OwnedRun.{AreCountedBy, IsRun, every_pipe, pipe_capacity}
 use Rattle.spec_run.specs.InTurns.{Turned, IsInTurns, IsOneThread}
-use Rattle.spec_run.specs.RunJournal.{actors_shown, row_shown}
+use Rattle.spec_run.specs.Journal.{actors_shown, row_shown}
 use Rattle.zq_world.specs.Piece.{Piece, acts_in, pipe_steps}
 use Rattle.zq_world.specs.Stepping.{lines_of}
 use Rattle.zq_world.specs.declared.actor.Actor.{Actor}
@@ -41,7 +41,7 @@ module _ {N S : Type 0} where
     pub settled : AreCountedBy (pipe_steps pieces) (after_all order (begun 1)).settlements
 
 -- what an actor of a script has said before its first line: nothing, under its name
-abbrev pub lines_before : RunActor → ActorLines
+abbrev pub lines_before : ActorScript → ActorLines
 lines_before actor = record { name = actor.name; entries = [] }
 
 module _ {O : Type 0} where
@@ -50,14 +50,14 @@ module _ {O : Type 0} where
   HasNone a = a.seats ≡ []
 
   -- the actors of a script, before their first lines
-  pub record AreNew (script : RunScript) (actors : List (Actor O)) : Type 0 where
+  pub record AreNew (script : Script) (actors : List (Actor O)) : Type 0 where
     pub stand : (as_open : O → OpenSock) → standings as_open actors ≡ map standing_before script
     pub said : map lines_of actors ≡ map lines_before script
     pub each : AllByRecursion HasNone actors
 
 module _ {N S : Type 0} where
   -- a script was played so: by a run of it in turns and on one thread, in which the control plane has these items in order, where each actor said these lines, and each pipe's row is that of these pieces
-  pub record PlaysSo (script : RunScript) (seed limit : ℕ) (lines : List ActorLines) (pieces : List (Piece N S)) (order : List (Item N S)) : Type 0 where
+  pub record PlaysSo (script : Script) (seed limit : ℕ) (lines : List ActorLines) (pieces : List (Piece N S)) (order : List (Item N S)) : Type 0 where
     pub turned : Turned N S
     pub is_run : IsRun script 1 every_pipe (run_of script turned order)
     pub in_turns : IsInTurns script 1 limit turned (run_of script turned order)

@@ -1,7 +1,6 @@
 -- What a socket line made, as its actor has it and as the line is answered (own choice).
-use Rattle.spec_run.specs.declared.texts.Answer.TheVariants as answer
-use Rattle.spec_run.specs.declared.journal.LineAnswer.{LineAnswer}
-use Rattle.spec_run.specs.declared.journal.LineAnswer.TheVariants.{Plain}
+use Rattle.spec_run.specs.declared.answer.Answer.TheVariants as answer
+use Rattle.spec_run.specs.declared.answer.Answer.{Answer}
 use Rattle.spec_run.specs.ControlAnswer.{refusal_answer}
 use Rattle.zq_world.specs.declared.made.Made.{Made}
 use Rattle.zq_world.specs.declared.made.Made.TheVariants as made
@@ -15,6 +14,6 @@ module _ {O : Type 0} where
   seat_made (made.Refused refusal) = seat.Refused
 
   -- its answer
-  abbrev pub answer_made : Made O → LineAnswer
-  answer_made (made.Socket object socket) = Plain (answer.Object object)
+  abbrev pub answer_made : Made O → Answer
+  answer_made (made.Socket object socket) = answer.Object object
   answer_made (made.Refused refusal) = refusal_answer refusal

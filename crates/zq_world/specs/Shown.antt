@@ -7,13 +7,13 @@ use Rattle.spec_control.specs.Control.{Control, begun}
 use Rattle.spec_control.specs.ControlRun.{after_all}
 use Rattle.spec_control.specs.Reply.{root_state}
 use Rattle.spec_run.specs.declared.journal.ActorLines.{ActorLines}
-use Rattle.spec_run.specs.declared.journal.RunJournal.{RunJournal}
+use Rattle.spec_run.specs.declared.journal.Journal.{Journal}
 use Rattle.spec_run.specs.declared.journal.SettledRow.{SettledRow}
 use Rattle.spec_run.specs.Act.{steps_in}
 use Rattle.spec_run.specs.OwnedRun.{settlement_of}
 use Rattle.spec_run.specs.InTurns.{is_ended}
 use Rattle.spec_run.specs.Fate.{Fate, fates_taken, fates_left, is_heard_at, reason_left, row_of_fates}
-use Rattle.spec_run.specs.RunJournal.{line_of, object_shown, row_if, rows_by}
+use Rattle.spec_run.specs.Journal.{line_of, object_shown, row_if, rows_by}
 use Rattle.zq_world.specs.Piece.{Piece, pipe_steps}
 use Rattle.zq_world.specs.declared.cores.Shown.{Shown}
 
@@ -40,5 +40,5 @@ module _ {N S : Type 0} where
   ShowsSo pieces order shown = ShowsEnd (after_all order (begun 1)) pieces shown
 
 -- the journal of what actors said and a core shows
-abbrev pub journal_with : List ActorLines → Shown → RunJournal
+abbrev pub journal_with : List ActorLines → Shown → Journal
 journal_with actors shown = record { actors = actors; ended = shown.ended; pipes = shown.pipes; objects = shown.objects; done = shown.done }

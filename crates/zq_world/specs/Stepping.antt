@@ -1,20 +1,19 @@
 -- What an actor's step does (own choice).
 use Rattle.std.specs.Prelude.{◌≡◌, ◌+◌, ℕ, Bool, false, List, [], ◌∷◌, ◌++◌, Option, Some, None, if◌then◌else◌, slice_get}
 use Rattle.zq_base.specs.declared.ids.ObjId.{ObjId}
-use Rattle.zq_script.specs.declared.script.Call.TheVariants as call
+use Rattle.spec_run.specs.declared.script.Call.TheVariants as call
 use Rattle.spec_pattern.specs.declared.answers.Skip.{Skip}
-use Rattle.spec_run.specs.declared.journal.LineAnswer.{LineAnswer}
-use Rattle.spec_run.specs.declared.journal.LineEntry.{LineEntry}
+use Rattle.spec_run.specs.declared.answer.Answer.{Answer}
+use Rattle.spec_run.specs.declared.journal.Entry.{Entry}
 use Rattle.spec_run.specs.declared.journal.ActorLines.{ActorLines}
-use Rattle.spec_run.specs.declared.line.LineCall.{LineCall}
-use Rattle.spec_run.specs.declared.line.LineCall.TheVariants.{Asks, Unbinds, Disconnects, Closes, Terms}
-use Rattle.spec_run.specs.declared.line.RunLine.{RunLine}
-use Rattle.spec_run.specs.LineCall.{line_is_over}
+use Rattle.spec_run.specs.declared.script.Call.{Call}
+use Rattle.spec_run.specs.declared.script.Line.{Line}
+use Rattle.spec_run.specs.Script.{line_is_over}
 use Rattle.spec_run.specs.Act.{Act, Deed}
 use Rattle.spec_run.specs.OpenSocket.{OpenSock}
 use Rattle.spec_run.specs.Standing.{Sockets, ActorStanding, DoesLine, ClosesOne}
 use Rattle.spec_run.specs.InTurns.{ActorStep}
-use Rattle.spec_run.specs.RunJournal.{entries_shown}
+use Rattle.spec_run.specs.Journal.{entries_shown}
 use Rattle.zq_world.specs.Piece.{Piece, AddsActs, AddsDeeds}
 use Rattle.zq_world.specs.Seats.{sockets_of, AllAgree}
 use Rattle.zq_world.specs.MayAsk.{MayAskLines}
@@ -23,18 +22,18 @@ use Rattle.zq_world.specs.declared.seats.Seat.TheVariants as seat
 use Rattle.zq_world.specs.declared.actor.Actor.{Actor}
 
 -- the place of the socket that a line calls
-abbrev pub called_place : LineCall → Option ℕ
-called_place (Asks (call.Socket kind options)) = None
-called_place (Asks (call.Bind place at)) = Some place
-called_place (Asks (call.Connect place to)) = Some place
-called_place (Asks (call.Send place m)) = Some place
-called_place (Asks (call.Recv place tries)) = Some place
-called_place (Asks (call.Subscribe place topic)) = Some place
-called_place (Asks (call.Unsubscribe place topic)) = Some place
-called_place (Unbinds place at) = Some place
-called_place (Disconnects place at) = Some place
-called_place (Closes place) = None
-called_place Terms = None
+abbrev pub called_place : Call → Option ℕ
+called_place (call.Socket kind options) = None
+called_place (call.Bind place at) = Some place
+called_place (call.Connect place to) = Some place
+called_place (call.Send place m) = Some place
+called_place (call.Recv place tries) = Some place
+called_place (call.Subscribe place topic) = Some place
+called_place (call.Unsubscribe place topic) = Some place
+called_place (call.Unbind place at) = Some place
+called_place (call.Disconnect place at) = Some place
+called_place (call.Close place) = None
+called_place call.Term = None
 
 -- a caller's sockets, what the tries of its line dropped so far, and all that was done so far
 pub record Midway (N S : Type 0) : Type 0 where
@@ -44,18 +43,18 @@ pub record Midway (N S : Type 0) : Type 0 where
 
 module _ {N S : Type 0} where
   -- what this line asks is done, as a try of any line that asks it
-  pub record DoesAsked (caller : ℕ) (asks : LineCall) (answer : LineAnswer) (old new : Midway N S) : Type 0 where
+  pub record DoesAsked (caller : ℕ) (asks : Call) (answer : Answer) (old new : Midway N S) : Type 0 where
     pub pump : List (Act N S)
     pub acts : List (Act N S)
     pub skips : List Skip
-    pub does : (line : RunLine) (all : List Skip) (over : Bool) →
+    pub does : (line : Line) (all : List Skip) (over : Bool) →
         DoesLine asks old.mine (record { line = line; pump = pump; call = acts; skips = skips; told = all; answer = answer; over = over }) new.mine
     pub tells : new.told ≡ old.told ++ skips
     pub adds : AddsActs caller (pump ++ acts) skips old.pieces new.pieces
 
 module _ {O : Type 0} where
   -- what an actor has said
-  abbrev pub entries_of : Actor O → List LineEntry
+  abbrev pub entries_of : Actor O → List Entry
   entries_of actor = actor.entries.items
 
   abbrev pub lines_of : Actor O → ActorLines
@@ -87,7 +86,7 @@ module _ {O N S : Type 0} (as_open : O → OpenSock) where
 
 module _ {O : Type 0} where
   -- a try of a line was answered so: with that the line is over and said, or else it stays
-  pub record AnswersOne (line : RunLine) (rest : List RunLine) (answer : LineAnswer) (old new : Actor O) : Type 0 where
+  pub record AnswersOne (line : Line) (rest : List Line) (answer : Answer) (old new : Actor O) : Type 0 where
     pub over : Bool
     pub over_is : over ≡ line_is_over old.tried line.call answer
     pub lines : new.lines.now ≡ (if over then rest else old.lines.now)

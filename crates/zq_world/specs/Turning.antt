@@ -10,7 +10,7 @@ use Rattle.spec_run.specs.Event.{IsLookAt}
 use Rattle.spec_run.specs.Standing.{ActorStanding}
 use Rattle.spec_run.specs.OwnedRun.{deeds_in}
 use Rattle.spec_run.specs.InTurns.{ActorStep, ReaperStep, OneTurn, Turned, Begins, TurnsGo, NeverFall, Draws, is_ended, turn_step}
-use Rattle.spec_run.specs.RunJournal.{entries_shown}
+use Rattle.spec_run.specs.Journal.{entries_shown}
 use Rattle.zq_world.specs.Piece.{Piece, AreActsBy, AddsActs, AddsDeeds, deed_pieces}
 use Rattle.zq_world.specs.Stepping.{standing_of, entries_of, ActorAgrees}
 use Rattle.zq_world.specs.declared.actor.Actor.{Actor}

@@ -2,7 +2,7 @@
 use Rattle.std.specs.Prelude.{◌≡◌, ◌≢◌, ℕ, Bool, List, [], ◌++◌}
 use Rattle.zq_base.specs.declared.kind.Kind.{Kind}
 use Rattle.zq_base.specs.declared.options.Options.{Options}
-use Rattle.zq_script.specs.declared.script.Call.TheVariants as call
+use Rattle.spec_run.specs.declared.script.Call.TheVariants as call
 use Rattle.spec_pattern.specs.PatternCalls.{Subscribe, Unsubscribe}
 use Rattle.spec_pattern.specs.declared.answers.Skip.{Skip}
 use Rattle.spec_control.specs.declared.request.Req.TheVariants.{Socket as MakeSocket, AskTerm, Close}
@@ -10,10 +10,9 @@ use Rattle.spec_control.specs.declared.request.Reply.{Reply}
 use Rattle.spec_control.specs.declared.request.Reply.TheVariants as reply
 use Rattle.spec_control.specs.Control.{id}
 use Rattle.spec_control.specs.Moments.{Moment}
-use Rattle.spec_run.specs.declared.journal.LineAnswer.{LineAnswer}
-use Rattle.spec_run.specs.declared.line.LineCall.{LineCall}
-use Rattle.spec_run.specs.declared.line.LineCall.TheVariants.{Asks, Unbinds, Disconnects, Closes, Terms}
-use Rattle.spec_run.specs.declared.line.RunLine.{RunLine}
+use Rattle.spec_run.specs.declared.answer.Answer.{Answer}
+use Rattle.spec_run.specs.declared.script.Call.{Call}
+use Rattle.spec_run.specs.declared.script.Line.{Line}
 use Rattle.spec_run.specs.ControlAnswer.{reply_answer}
 use Rattle.spec_run.specs.Act.{Act, Try}
 use Rattle.spec_run.specs.OpenSocket.{OpenSock, new_open}
@@ -25,42 +24,42 @@ use Rattle.zq_world.specs.declared.made.Made.{Made}
 use Rattle.zq_world.specs.declared.made.Made.TheVariants as made
 
 -- a line is a call of a socket
-abbrev pub AsksSocket : LineCall → Type 0
-AsksSocket (Asks (call.Socket kind options)) = ⊥
-AsksSocket (Asks (call.Bind place at)) = Unit {0}
-AsksSocket (Asks (call.Connect place to)) = Unit {0}
-AsksSocket (Asks (call.Send place m)) = Unit {0}
-AsksSocket (Asks (call.Recv place tries)) = Unit {0}
-AsksSocket (Asks (call.Subscribe place topic)) = Unit {0}
-AsksSocket (Asks (call.Unsubscribe place topic)) = Unit {0}
-AsksSocket (Unbinds place at) = Unit {0}
-AsksSocket (Disconnects place at) = Unit {0}
-AsksSocket (Closes place) = ⊥
-AsksSocket Terms = ⊥
+abbrev pub AsksSocket : Call → Type 0
+AsksSocket (call.Socket kind options) = ⊥
+AsksSocket (call.Bind place at) = Unit {0}
+AsksSocket (call.Connect place to) = Unit {0}
+AsksSocket (call.Send place m) = Unit {0}
+AsksSocket (call.Recv place tries) = Unit {0}
+AsksSocket (call.Subscribe place topic) = Unit {0}
+AsksSocket (call.Unsubscribe place topic) = Unit {0}
+AsksSocket (call.Unbind place at) = Unit {0}
+AsksSocket (call.Disconnect place at) = Unit {0}
+AsksSocket (call.Close place) = ⊥
+AsksSocket call.Term = ⊥
 
 module _ {N S : Type 0} where
   -- what a line's call does to the socket that was pumped before it
-  abbrev pub AsksOpen : LineCall → OpenSock → Try N S → OpenSock → Type 0
-  AsksOpen (Asks (call.Socket kind options)) old t new = ⊥
-  AsksOpen (Asks (call.Bind place at)) old t new = BindsCall at old t new
-  AsksOpen (Asks (call.Connect place to)) old t new = ConnectsCall to old t new
-  AsksOpen (Asks (call.Send place m)) old t new = SendsCall m old t new
-  AsksOpen (Asks (call.Recv place tries)) old t new = ReceivesCall old t new
-  AsksOpen (Asks (call.Subscribe place topic)) old t new = ChangesCall Subscribe topic old t new
-  AsksOpen (Asks (call.Unsubscribe place topic)) old t new = ChangesCall Unsubscribe topic old t new
-  AsksOpen (Unbinds place at) old t new = UnbindsCall at old t new
-  AsksOpen (Disconnects place at) old t new = DisconnectsCall at old t new
-  AsksOpen (Closes place) old t new = ⊥
-  AsksOpen Terms old t new = ⊥
+  abbrev pub AsksOpen : Call → OpenSock → Try N S → OpenSock → Type 0
+  AsksOpen (call.Socket kind options) old t new = ⊥
+  AsksOpen (call.Bind place at) old t new = BindsCall at old t new
+  AsksOpen (call.Connect place to) old t new = ConnectsCall to old t new
+  AsksOpen (call.Send place m) old t new = SendsCall m old t new
+  AsksOpen (call.Recv place tries) old t new = ReceivesCall old t new
+  AsksOpen (call.Subscribe place topic) old t new = ChangesCall Subscribe topic old t new
+  AsksOpen (call.Unsubscribe place topic) old t new = ChangesCall Unsubscribe topic old t new
+  AsksOpen (call.Unbind place at) old t new = UnbindsCall at old t new
+  AsksOpen (call.Disconnect place at) old t new = DisconnectsCall at old t new
+  AsksOpen (call.Close place) old t new = ⊥
+  AsksOpen call.Term old t new = ⊥
 
   -- a socket is pumped and called, as the try of any line that makes this call
-  pub record CallsOne (caller : ℕ) (asks : LineCall) (old new : OpenSock) (answer : LineAnswer) (told told_now : List Skip) (before after : List (Piece N S)) : Type 0 where
+  pub record CallsOne (caller : ℕ) (asks : Call) (old new : OpenSock) (answer : Answer) (told told_now : List Skip) (before after : List (Piece N S)) : Type 0 where
     pub pump : List (Act N S)
     pub acts : List (Act N S)
     pub skips : List Skip
     pub pumped : OpenSock
     pub pumps : Pumps old pump pumped
-    pub does : (line : RunLine) (all : List Skip) (over : Bool) →
+    pub does : (line : Line) (all : List Skip) (over : Bool) →
         AsksOpen asks pumped (record { line = line; pump = pump; call = acts; skips = skips; told = all; answer = answer; over = over }) new
     pub tells : told_now ≡ told ++ skips
     pub adds : AddsActs caller (pump ++ acts) skips before after
@@ -72,7 +71,7 @@ module _ {N S : Type 0} where
     pub adds : AddsActs caller (acts_said closed) [] before after
 
   -- the context is asked to end
-  pub record AsksToEnd (caller : ℕ) (answer : LineAnswer) (before after : List (Piece N S)) : Type 0 where
+  pub record AsksToEnd (caller : ℕ) (answer : Answer) (before after : List (Piece N S)) : Type 0 where
     pub replied : Reply
     pub asked : Moment N S
     pub request : IsRequest AskTerm replied asked

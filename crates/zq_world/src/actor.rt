@@ -3,8 +3,7 @@ ghost use Rattle.spec_run.specs.CoreEvents.{may_take};
 ghost use Rattle.spec_run.specs.OpenSocket.{OpenSock};
 ghost use Rattle.spec_run.specs.Standing.{standing_before, has_finished};
 ghost use Rattle.zq_world.specs.Seats.{AllAgree};
-ghost use Rattle.zq_world.specs.Stepping.{standing_of, entries_of, lines_of, at_seats, DoesAsked};
-ghost use Rattle.zq_world.specs.Stepping.{StepsSo, ActorAgrees, LeavesOthers, AnswersOne};
+ghost use Rattle.zq_world.specs.Stepping.{standing_of, entries_of, lines_of, at_seats, DoesAsked, StepsSo, ActorAgrees, LeavesOthers, AnswersOne};
 ghost use Rattle.zq_world.specs.MayAsk.{MayAskLine, MayAskLines};
 ghost use Rattle.zq_world.specs.Taking.{control_told, has_slot, FetchesSo};
 
@@ -14,21 +13,20 @@ use crate::seats::Seats;
 use crate::sockets::Sockets;
 use msg_pipe::Pipes;
 use spec_pattern::Skip;
-use spec_run::{ActorLines, LineAnswer, LineCall, LineEntry, RunActor, RunLine};
+use spec_run::{ActorLines, ActorScript, Answer, Call, Entry, Line};
 use std::alloc::{AllocError, Global};
 use std::mem::replace;
 use zq_base::{Octets, Seq};
-use zq_script::Call;
 
 /// An actor: the lines that are not over, how often the first of these was tried, the messages that
 /// its tries dropped, the answers so far, and what its socket lines made.
 #[derive(Drop)]
 pub struct Actor<'a, O> {
     name: &'a Octets,
-    lines: &'a [RunLine],
+    lines: &'a [Line],
     tried: u32,
     told: Vec<Skip>,
-    entries: Vec<LineEntry>,
+    entries: Vec<Entry>,
     seats: Seats<O>,
 }
 
@@ -37,10 +35,10 @@ fn ask<P: Pipes, W: Sockets<P>>(
     alloc: Global,
     way: &mut W,
     caller: usize,
-    line: &LineCall,
+    line: &Call,
     seats: &mut Seats<W::Open>,
     told: &mut Vec<Skip>,
-) -> Result<LineAnswer, AllocError>
+) -> Result<Answer, AllocError>
     requires agree { AllAgree W.as_open W.agrees W.was_made way.old caller seats.old }
     requires may { MayAskLine line.now }
     ensures ok { IfOk result (λ answer. DoesAsked caller line.now answer
@@ -50,23 +48,23 @@ fn ask<P: Pipes, W: Sockets<P>>(
     ensures others { LeavesOthers W.agrees W.was_made caller way.old way.new }
 {
     let place = match line {
-        LineCall::Asks(Call::Socket(kind, options)) => {
+        Call::Socket(kind, options) => {
             return seats.make(alloc, way, caller, *kind, options);
         }
-        LineCall::Closes(place) => return seats.close(alloc, way, caller, *place as usize),
-        LineCall::Terms => return way.term(alloc, caller),
-        LineCall::Asks(Call::Bind(place, _) | Call::Connect(place, _)) => *place,
-        LineCall::Asks(Call::Send(place, _)) => *place,
-        LineCall::Asks(Call::Recv(place, _)) => *place,
-        LineCall::Asks(Call::Subscribe(place, _) | Call::Unsubscribe(place, _)) => *place,
-        LineCall::Unbinds(place, _) | LineCall::Disconnects(place, _) => *place,
+        Call::Close(place) => return seats.close(alloc, way, caller, *place as usize),
+        Call::Term => return way.term(alloc, caller),
+        Call::Bind(place, _) | Call::Connect(place, _) => *place,
+        Call::Send(place, _) => *place,
+        Call::Recv(place, _) => *place,
+        Call::Subscribe(place, _) | Call::Unsubscribe(place, _) => *place,
+        Call::Unbind(place, _) | Call::Disconnect(place, _) => *place,
     };
     seats.call(alloc, way, caller, place as usize, line, told)
 }
 
 impl<'a, O: Drop> Actor<'a, O> {
     /// An actor before its first line.
-    pub fn new(alloc: Global, script: &'a RunActor) -> Actor<'a, O>
+    pub fn new(alloc: Global, script: &'a ActorScript) -> Actor<'a, O>
         ensures stands { (as_open : O → OpenSock) →
             standing_of as_open result ≡ standing_before script.now }
         ensures says { lines_of result ≡ record { name = script.now.name; entries = [] } }
@@ -125,9 +123,9 @@ impl<'a, O: Drop> Actor<'a, O> {
     fn end_try(
         &mut self,
         alloc: Global,
-        line: &RunLine,
-        rest: &'a [RunLine],
-        answer: LineAnswer,
+        line: &Line,
+        rest: &'a [Line],
+        answer: Answer,
     ) -> Result<(), AllocError>
         requires lines { MayAskLines self.old.lines.now }
         requires rest { MayAskLines rest.now }
@@ -142,7 +140,7 @@ impl<'a, O: Drop> Actor<'a, O> {
         self.lines = rest;
         self.tried = 0;
         let told = replace(&mut self.told, Vec::new(alloc));
-        self.entries.push(LineEntry {
+        self.entries.push(Entry {
             line: line.number,
             answer,
             skips: Seq::of_vec(told),

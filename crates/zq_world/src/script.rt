@@ -11,7 +11,7 @@ use crate::actor::Actor;
 use crate::cores::{Core, Shown};
 use crate::play::run;
 use msg_pipe::Pipes;
-use spec_run::{ActorLines, RunActor, RunJournal};
+use spec_run::{ActorLines, ActorScript, Journal};
 use std::alloc::{AllocError, Global};
 use zq_base::Seq;
 use zq_outer::Clock;
@@ -19,7 +19,7 @@ use zq_outer::Clock;
 /// The actors of a script, before their first lines.
 pub(crate) fn actors_of<'a, O: Drop>(
     alloc: Global,
-    script: &'a [RunActor],
+    script: &'a [ActorScript],
 ) -> Result<Vec<Actor<'a, O>>, AllocError>
     ensures { IfOk result (λ actors. AreNew script.now actors.items) }
 {
@@ -49,12 +49,12 @@ pub(crate) fn parts<O: Drop>(
 /// whose readings are those that the clock gave. Without memory the clock went on by some readings.
 pub fn play_script<P: Pipes, W: Core<P>, C: Clock>(
     alloc: Global,
-    script: &[RunActor],
+    script: &[ActorScript],
     way: &mut W,
     clock: &mut C,
     seed: u64,
     turns: u32,
-) -> Result<RunJournal, AllocError>
+) -> Result<Journal, AllocError>
     requires new { W.pieces way.old ≡ [] }
     requires may { MayAskScript script.now }
     ensures ok { IfOk result (IsTimedJournal P.Name P.Story script.now (record { seed = seed; turns = turns })
@@ -72,7 +72,7 @@ pub(crate) fn told<P: Pipes, W: Core<P>>(
     alloc: Global,
     way: &W,
     actors: Vec<Actor<W::Open>>,
-) -> Result<RunJournal, AllocError>
+) -> Result<Journal, AllocError>
     ensures orderly { IsOrderly (W.pieces way.now) (W.order way.now) }
     ensures shows { IfOk result (λ journal. (shown : Shown)
         × ShowsSo (W.pieces way.now) (W.order way.now) shown
@@ -85,10 +85,10 @@ pub(crate) fn told<P: Pipes, W: Core<P>>(
 }
 
 /// The journal of a run, by what its actors said and what its core shows.
-pub(crate) fn journal_of(actors: Seq<ActorLines>, shown: Shown) -> RunJournal
+pub(crate) fn journal_of(actors: Seq<ActorLines>, shown: Shown) -> Journal
     ensures { result ≡ journal_with actors shown }
 {
-    RunJournal {
+    Journal {
         actors,
         ended: shown.ended,
         pipes: shown.pipes,

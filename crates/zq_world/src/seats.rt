@@ -7,7 +7,7 @@ use crate::made::Made;
 use crate::sockets::Sockets;
 use msg_pipe::Pipes;
 use spec_pattern::Skip;
-use spec_run::{Answer, LineAnswer, LineCall};
+use spec_run::{Answer, Call};
 use std::alloc::{AllocError, Global};
 use std::marker::Model;
 use std::mem::replace;
@@ -71,13 +71,13 @@ fn is_open<O>(seat: &Seat<O>) -> bool
 }
 
 /// The seat of what a socket line made, and the line's answer.
-fn seated<O>(made: Made<O>) -> (Seat<O>, LineAnswer)
+fn seated<O>(made: Made<O>) -> (Seat<O>, Answer)
     ensures seat { result.0 ≡ seat_made made }
     ensures answer { result.1 ≡ answer_made made }
 {
     match made {
         Made::Socket(object, socket) => {
-            let answer = LineAnswer::Plain(Answer::Object(object));
+            let answer = Answer::Object(object);
             return (Seat::Open(object, socket), answer);
         }
         Made::Refused(refusal) => return (Seat::Refused, refusal_answer(refusal)),
@@ -86,9 +86,8 @@ fn seated<O>(made: Made<O>) -> (Seat<O>, LineAnswer)
 
 impl<O: Drop> Seats<O> {
     ghost use Rattle.std.specs.Prelude.{◌≡◌, [], List, true, IfOk, OnOk};
-    ghost use Rattle.zq_script.specs.declared.script.Call.TheVariants as script_call;
+    ghost use Rattle.spec_run.specs.declared.script.Call.TheVariants as script_call;
     ghost use Rattle.spec_pattern.specs.declared.answers.Skip.{Skip};
-    ghost use Rattle.spec_run.specs.declared.line.LineCall.TheVariants.{Asks, Closes};
     ghost use Rattle.zq_world.specs.Seats.{shut_before, has_open, is_open_at, AllAgree};
     ghost use Rattle.zq_world.specs.Stepping.{at_seats, called_place, DoesAsked, ShutsAt, LeavesOthers};
     ghost use Rattle.zq_world.specs.MayAsk.{MayMake, MayAskLine};
@@ -128,11 +127,11 @@ impl<O: Drop> Seats<O> {
         caller: usize,
         kind: Kind,
         options: &Options,
-    ) -> Result<LineAnswer, AllocError>
+    ) -> Result<Answer, AllocError>
         requires agree { AllAgree W.as_open W.agrees W.was_made way.old caller self.old }
         requires may { MayMake options.now }
         ensures ok { IfOk result (λ answer. (told : List Skip) →
-            DoesAsked caller (Asks (script_call.Socket kind options.now)) answer
+            DoesAsked caller (script_call.Socket kind options.now) answer
             (at_seats W.as_open self.old told (W.pieces way.old))
             (at_seats W.as_open self.new told (W.pieces way.new))) }
         ensures agree { AllAgree W.as_open W.agrees W.was_made way.new caller self.new }
@@ -154,9 +153,9 @@ impl<O: Drop> Seats<O> {
         way: &mut W,
         caller: usize,
         place: usize,
-        line: &LineCall,
+        line: &Call,
         told: &mut Vec<Skip>,
-    ) -> Result<LineAnswer, AllocError>
+    ) -> Result<Answer, AllocError>
         requires agree { AllAgree W.as_open W.agrees W.was_made way.old caller self.old }
         requires place { called_place line.now ≡ Some place }
         requires may { MayAskLine line.now }
@@ -167,38 +166,38 @@ impl<O: Drop> Seats<O> {
         ensures others { LeavesOthers W.agrees W.was_made caller way.old way.new }
     {
         if !self.is_open_at(place) {
-            return Ok(LineAnswer::Plain(Answer::NoSocket));
+            return Ok(Answer::NoSocket);
         }
         match &mut self.seats[place] {
             Seat::Open(_, socket) => return way.call(alloc, caller, socket, line, told),
-            _ => return Ok(LineAnswer::Plain(Answer::NoSocket)),
+            _ => return Ok(Answer::NoSocket),
         }
     }
 
-    /// Closes the socket of a line. Where the line's name stands for no open socket nothing is done.
+    /// script_call.Close the socket of a line. Where the line's name stands for no open socket nothing is done.
     pub(crate) fn close<P: Pipes, W: Sockets<P, Open = O>>(
         &mut self,
         alloc: Global,
         way: &mut W,
         caller: usize,
         place: usize,
-    ) -> Result<LineAnswer, AllocError>
+    ) -> Result<Answer, AllocError>
         requires agree { AllAgree W.as_open W.agrees W.was_made way.old caller self.old }
         ensures ok { IfOk result (λ answer. (told : List Skip) →
-            DoesAsked caller (Closes place) answer
+            DoesAsked caller (script_call.Close place) answer
             (at_seats W.as_open self.old told (W.pieces way.old))
             (at_seats W.as_open self.new told (W.pieces way.new))) }
         ensures agree { AllAgree W.as_open W.agrees W.was_made way.new caller self.new }
         ensures others { LeavesOthers W.agrees W.was_made caller way.old way.new }
     {
         if !self.is_open_at(place) {
-            return Ok(LineAnswer::Plain(Answer::NoSocket));
+            return Ok(Answer::NoSocket);
         }
         self.shut(alloc, way, caller, place)?;
-        Ok(LineAnswer::Plain(Answer::Done))
+        Ok(Answer::Done)
     }
 
-    /// Closes the first socket that is open.
+    /// script_call.Close the first socket that is open.
     pub(crate) fn shut_first<P: Pipes, W: Sockets<P, Open = O>>(
         &mut self,
         alloc: Global,
@@ -216,7 +215,7 @@ impl<O: Drop> Seats<O> {
         self.shut(alloc, way, caller, place)
     }
 
-    /// Closes the socket of an open seat.
+    /// script_call.Close the socket of an open seat.
     fn shut<P: Pipes, W: Sockets<P, Open = O>>(
         &mut self,
         alloc: Global,

@@ -5,7 +5,7 @@ ghost use Rattle.zq_world.specs.Piece.{Piece};
 use crate::made::Made;
 use msg_pipe::Pipes;
 use spec_pattern::Skip;
-use spec_run::{LineAnswer, LineCall};
+use spec_run::{Answer, Call};
 use std::alloc::{AllocError, AllocFailed, Global};
 use zq_base::{Kind, Options};
 
@@ -15,8 +15,7 @@ use zq_base::{Kind, Options};
 /// A call is made for a caller, by its number, and is lent one of the caller's sockets at the most.
 /// Want of memory leaves each socket as what was done so far left it.
 pub trait Sockets<P: Pipes> {
-    ghost use Rattle.zq_world.specs.Way.{AsksSocket, MakesOne, IsNew, CallsOne, ClosesSo};
-    ghost use Rattle.zq_world.specs.Way.{AsksToEnd, KeepsAll, KeepsLent, KeepsOthers};
+    ghost use Rattle.zq_world.specs.Way.{AsksSocket, MakesOne, IsNew, CallsOne, ClosesSo, AsksToEnd, KeepsAll, KeepsLent, KeepsOthers};
     ghost use Rattle.zq_world.specs.MayAsk.{MayMake, MayAskLine};
 
     /// An open socket.
@@ -57,9 +56,9 @@ pub trait Sockets<P: Pipes> {
         alloc: Global,
         caller: usize,
         socket: &mut Self::Open,
-        line: &LineCall,
+        line: &Call,
         told: &mut Vec<Skip>,
-    ) -> Result<LineAnswer, AllocError>
+    ) -> Result<Answer, AllocError>
         requires agrees { agrees self.old caller socket.old }
         requires asks { AsksSocket line.now }
         requires may { MayAskLine line.now }
@@ -85,7 +84,7 @@ pub trait Sockets<P: Pipes> {
             self.old self.new };
 
     /// Asks the context to end (zmq_ctx_term(3)).
-    fn term(&mut self, alloc: Global, caller: usize) -> Result<LineAnswer, AllocError>
+    fn term(&mut self, alloc: Global, caller: usize) -> Result<Answer, AllocError>
         ensures ok { IfOk result (λ answer. AsksToEnd caller answer
             (pieces self.old) (pieces self.new)) }
         ensures keeps { KeepsAll agrees was_made self.old self.new };

@@ -9,7 +9,7 @@ use crate::events::step;
 use crate::script::{actors_of, told};
 use crate::steps::Steps;
 use msg_pipe::Pipes;
-use spec_run::{RunActor, RunJournal};
+use spec_run::{ActorScript, Journal};
 use std::alloc::{AllocError, Global};
 use std::marker::{Model, PhantomData};
 use zq_base::Log;
@@ -18,7 +18,7 @@ use zq_base::Log;
 /// sockets as what was done of it left them; from then on each step, and the journal, wants memory.
 #[derive(Drop)]
 pub struct World<'a, P: Pipes, W: Steps<P>> {
-    script: &'a [RunActor],
+    script: &'a [ActorScript],
     way: W,
     actors: Vec<Actor<'a, W::Open>>,
     // the events that were done, for proofs alone
@@ -40,14 +40,13 @@ impl<'a, P: Pipes, W: Steps<P>> Model for World<'a, P, W> {
 }
 
 impl<'a, P: Pipes, W: Steps<P> + Drop> World<'a, P, W> {
-    ghost use Rattle.std.specs.Prelude.{◌≡◌, ◌<◌, ◌++◌, [], ◌∷◌, false, true, length, map};
-    ghost use Rattle.std.specs.Prelude.{IfOk, OnOk, OnErr};
+    ghost use Rattle.std.specs.Prelude.{◌≡◌, ◌<◌, ◌++◌, [], ◌∷◌, false, true, length, map, IfOk, OnOk, OnErr};
     ghost use Rattle.spec_run.specs.CoreEvents.{IsEventsJournal};
     ghost use Rattle.zq_world.specs.MayAsk.{MayAskScript};
     ghost use Rattle.zq_world.specs.ByEvents.{core_event, WantsAmong};
 
     /// The actors of a script before their first lines, over a new core.
-    pub fn new(alloc: Global, script: &'a [RunActor], way: W) -> Result<World<'a, P, W>, AllocError>
+    pub fn new(alloc: Global, script: &'a [ActorScript], way: W) -> Result<World<'a, P, W>, AllocError>
         requires new { W.pieces way ≡ [] }
         requires may { MayAskScript script.now }
         ensures { IfOk result (λ world. world
@@ -102,7 +101,7 @@ impl<'a, P: Pipes, W: Steps<P> + Drop> World<'a, P, W> {
     }
 
     /// The journal of the events so far: that of a run of the script by them, whatever they were.
-    pub fn journal(self, alloc: Global) -> Result<RunJournal, AllocError>
+    pub fn journal(self, alloc: Global) -> Result<Journal, AllocError>
         ensures ok { IfOk result
             (IsEventsJournal P.Name P.Story self.entry.script self.entry.events) }
         ensures stops { IfOk result (λ _. self.entry.wanted ≡ false) }
@@ -120,10 +119,10 @@ impl<'a, P: Pipes, W: Steps<P> + Drop> World<'a, P, W> {
 /// allowed do nothing.
 pub fn play_events<P: Pipes, W: Steps<P> + Drop>(
     alloc: Global,
-    script: &[RunActor],
+    script: &[ActorScript],
     way: W,
     events: &[Event],
-) -> Result<RunJournal, AllocError>
+) -> Result<Journal, AllocError>
     requires new { W.pieces way ≡ [] }
     requires may { MayAskScript script.now }
     ensures { IfOk result

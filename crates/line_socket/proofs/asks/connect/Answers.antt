@@ -5,7 +5,7 @@ use Rattle.spec_pattern.specs.declared.answers.Skip.{Skip}
 use Rattle.spec_control.specs.Control.{id}
 use Rattle.spec_control.specs.declared.request.Req.TheVariants.{Connect}
 use Rattle.spec_control.specs.declared.request.Reply.{Reply}
-use Rattle.spec_run.specs.declared.journal.LineAnswer.{LineAnswer}
+use Rattle.spec_run.specs.declared.answer.Answer.{Answer}
 use Rattle.desk.specs.Desk.{AsksOnce}
 use Rattle.sock_calls.specs.Calls.{owner_of}
 use Rattle.line_calls.specs.Steps.{RequestsSo}
@@ -20,7 +20,7 @@ returns-in-Ok-clause-ok g c =
     let l = c.args.lent.now in
     let x = c.call_connect in
     let m = x.new.lent in
-    subst (λ (a : LineAnswer). (told : List Skip) → RequestsSo (Leads g.P.Pipes.known) view_of moments_since (λ o. Connect (id o) c.args.to.now) a told
+    subst (λ (a : Answer). (told : List Skip) → RequestsSo (Leads g.P.Pipes.known) view_of moments_since (λ o. Connect (id o) c.args.to.now) a told
     (parts l.pipes l.desk l.socket.core l.since.items) (parts m.pipes m.desk m.socket.core c.and-lent.result.items)) (sym c.reply_answer.ensures)
     (has_asked g.P.Pipes.known l.pipes m.pipes l.desk m.desk (length l.since.items) l.socket.core m.socket.core c.requires.agrees c.is_told.ensures c.requires.ready x.ensures.called x.ensures.given x.ensures.whole x.ensures.passes
     (λ o. Connect (id o) c.args.to.now) c.in-Ok.reply refl refl (IfOk-at_ok (λ (r : Reply). AsksOnce l.desk.caller (Connect (id (owner_of l.socket.core)) c.args.to.now) r (moments_of l.desk) (moments_of m.desk)) c.in-Ok.is x.ensures.ok)

@@ -1,5 +1,5 @@
 use Rattle.std.proofs.Common.{◌≡◌, map, take}
-use Rattle.spec_run.specs.RunJournal.{line_of}
+use Rattle.spec_run.specs.Journal.{line_of}
 use Rattle.ctl_plane.specs.Past.{control_of}
 use Rattle.plain_core.proofs.objects.lines_shown.Given as goal
 

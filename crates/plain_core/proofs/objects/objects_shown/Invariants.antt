@@ -1,5 +1,5 @@
 use Rattle.std.proofs.Common.{◌≡◌, map, take}
-use Rattle.spec_run.specs.RunJournal.{object_shown}
+use Rattle.spec_run.specs.Journal.{object_shown}
 use Rattle.ctl_plane.specs.Past.{control_of}
 use Rattle.plain_core.proofs.objects.objects_shown.Given as goal
 

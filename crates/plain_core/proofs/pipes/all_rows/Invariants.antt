@@ -1,5 +1,5 @@
 use Rattle.std.proofs.Common.{◌≡◌, ◌≤◌, ◌-◌, drop, take}
-use Rattle.spec_run.specs.RunJournal.{rows_by}
+use Rattle.spec_run.specs.Journal.{rows_by}
 use Rattle.ctl_plane.specs.Past.{control_of}
 use Rattle.plain_core.specs.Settled.{row_in}
 use Rattle.plain_core.proofs.pipes.all_rows.Given as goal

@@ -1,5 +1,5 @@
 use Rattle.std.proofs.Common.{ℕ, ◌+◌, ap}
-use Rattle.zq_journal.proofs.RunPushLemmas.{living_more}
+use Rattle.zq_journal.proofs.LivingLemmas.{living_more}
 use Rattle.zq_journal.proofs.object.push_living.Goals as goal
 
 pub loop-object-preserved : goal.loop-object-preserved

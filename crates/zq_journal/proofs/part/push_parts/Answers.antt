@@ -1,6 +1,6 @@
 use Rattle.std.proofs.Common.{ℕ, List, ◌++◌, ◌∙◌, ap, append_assoc}
 use Rattle.std.specs.Prelude.{codes}
-use Rattle.zq_script.specs.PartText.{part_text}
+use Rattle.spec_run.specs.PartText.{part_text}
 use Rattle.zq_journal.proofs.PushLemmas.{pushed_item}
 use Rattle.zq_journal.proofs.part.push_parts.Goals as goal
 

@@ -1,5 +1,5 @@
 use Rattle.std.proofs.Common.{◌≡◌, ◌++◌, take}
-use Rattle.zq_script.specs.PartText.{parts_text}
+use Rattle.spec_run.specs.PartText.{parts_text}
 use Rattle.zq_journal.proofs.part.push_parts.Given as goal
 
 abbrev pub invariant-loop-frame : goal.invariant-loop-frame

@@ -3,4 +3,4 @@ use Rattle.std.proofs.lemmas.List.{append-nil}
 use Rattle.zq_script.proofs.group.actors.Goals as goal
 
 pub loop-statement-init : goal.loop-statement-init
-loop-statement-init g c = ([], sym (append-nil _), c.new-grouped.ensures g.D.Dialect.made)
+loop-statement-init c = ([], sym (append-nil _), c.new-grouped.ensures)

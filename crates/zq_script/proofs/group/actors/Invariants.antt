@@ -5,8 +5,8 @@ use Rattle.zq_script.proofs.group.actors.Given as goal
 
 -- the last statements are grouped
 abbrev pub invariant-loop-statement : goal.invariant-loop-statement
-invariant-loop-statement g l =
-    (rest : List (Statement g.row.D-Line.Denot)) × (l.fn.statements.items ≡ l.statements.items ++ rest) × Groups g.D.Dialect.made l.grouped rest
+invariant-loop-statement l =
+    (rest : List Statement) × (l.fn.statements.items ≡ l.statements.items ++ rest) × Groups l.grouped rest
 
 abbrev pub decreases-loop-statement : goal.decreases-loop-statement
-decreases-loop-statement g l = length l.statements.items
+decreases-loop-statement l = length l.statements.items

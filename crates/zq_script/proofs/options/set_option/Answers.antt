@@ -5,7 +5,6 @@ use Rattle.std.proofs.lemmas.List.{take_all}
 use Rattle.std.proofs.lemmas.Result.{err_from_is_err_and}
 use Rattle.zq_base.specs.declared.options.Options.{Options}
 use Rattle.zq_script.specs.declared.fault.LineError.{LineError}
-use Rattle.zq_script.specs.declared.fault.Cause.{Cause}
 use Rattle.zq_script.specs.Answer.{Gives}
 use Rattle.zq_script.specs.SocketOption.{mark_of, identity_of, with_option}
 use Rattle.zq_script.proofs.AnswerLemmas.{gives_err}

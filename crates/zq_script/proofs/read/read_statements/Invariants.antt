@@ -8,9 +8,9 @@ use Rattle.zq_script.proofs.read.read_statements.Given as goal
 
 -- the other lines go on behind what was said, which is known
 abbrev pub invariant-loop-line : goal.invariant-loop-line
-invariant-loop-line g l = record {
+invariant-loop-line l = record {
   goes_on : (learned : Learned) × HasLearned l.known learned
-      × GoesOn g.D.Dialect.says l.lines l.line-index (statements_from g.D.Dialect.says 1 nothing_learned (map (λ x. x.now) l.lines)) l.statements.items learned;
+      × GoesOn l.lines l.line-index (statements_from 1 nothing_learned (map (λ x. x.now) l.lines)) l.statements.items learned;
   number : l.number ≡ l.line-index;
   few : l.known.count ≤ l.line-index;
   lines : length l.lines ≤ 10000;

@@ -3,8 +3,8 @@ use Rattle.std.specs.Fmt.{digits}
 use Rattle.std.specs.Prelude.{codes}
 use Rattle.zq_script.specs.Grammar.{first_word, statement_of, verb_of}
 use Rattle.zq_script.specs.Script.{actors_read, at_line, line_statement, statements_from}
-use Rattle.run_script.specs.RunGrammar.{ending_verb, run_script_of, run_statement_of}
-use Rattle.spec_run.specs.LineCall.{RunScript}
+use Rattle.run_script.specs.RunGrammar.{ending_verb, script_of, statement_of}
+use Rattle.spec_run.specs.Script.{Script}
 use Rattle.zq_script.specs.Words.{is_skipped, lines_of, without_empty_end, words_of}
 use Rattle.zq_script.specs.declared.fault.Cause.TheVariants.{BadWord}
 use Rattle.zq_script.specs.declared.fault.ScriptFault.{ScriptFault}
@@ -12,14 +12,14 @@ use Rattle.zq_top.specs.Examples.{FaultsWork}
 use Rattle.zq_top.specs.Headline.{fault_text, RefusesScript}
 use Rattle.zq_top.proofs.laws.faults_work.Goals as goal
 
-one_fault : (f g : ScriptFault) → ◌≡◌ {A = Result RunScript ScriptFault} (Err f) (Err g) → f ≡ g
+one_fault : (f g : ScriptFault) → ◌≡◌ {A = Result Script ScriptFault} (Err f) (Err g) → f ≡ g
 one_fault f g same = cc
 
 abbrev first : ScriptFault
 first = record { line = 1; cause = BadWord }
 
-refused : run_script_of (codes "x\n") ≡ Err first
-unfolding run_script_of actors_read lines_of without_empty_end statements_from line_statement is_skipped words_of at_line run_statement_of ending_verb statement_of first_word verb_of
+refused : script_of (codes "x\n") ≡ Err first
+unfolding script_of actors_read lines_of without_empty_end statements_from line_statement is_skipped words_of at_line statement_of ending_verb statement_of first_word verb_of
 refused = refl
 
 said : RefusesScript (codes "x\n") (codes "script 1 BadWord\n")

@@ -1,7 +1,6 @@
 use Rattle.std.proofs.Common.{sym, ap, subst, ◌∙◌, ◌++◌, ◌∷◌, [], List}
-use Rattle.zq_script.specs.declared.script.Call.TheVariants as script_call
-use Rattle.spec_run.specs.declared.journal.LineAnswer.{LineAnswer}
-use Rattle.spec_run.specs.declared.line.LineCall.TheVariants.{Asks}
+use Rattle.spec_run.specs.declared.script.Call.TheVariants as script_call
+use Rattle.spec_run.specs.declared.answer.Answer.{Answer}
 use Rattle.zq_world.specs.Seats.{AllAgree}
 use Rattle.zq_world.specs.Seated.{seat_made, answer_made}
 use Rattle.zq_world.specs.Stepping.{at_seats, DoesAsked}
@@ -31,9 +30,9 @@ next_open-self-inside-requires g c =
 
 pub returns-clause-ok : goal.returns-clause-ok
 returns-clause-ok g c told =
-    subst (λ (said : LineAnswer). DoesAsked c.args.caller (Asks (script_call.Socket c.args.kind c.args.options.now)) said (at_seats g.W.Sockets.as_open c.args.self.now told (g.W.Sockets.pieces c.args.way.now)) (at_seats g.W.Sockets.as_open c.push_reserved.new.self.items told (g.W.Sockets.pieces c.make.new.self)))
+    subst (λ (said : Answer). DoesAsked c.args.caller (script_call.Socket c.args.kind c.args.options.now) said (at_seats g.W.Sockets.as_open c.args.self.now told (g.W.Sockets.pieces c.args.way.now)) (at_seats g.W.Sockets.as_open c.push_reserved.new.self.items told (g.W.Sockets.pieces c.make.new.self)))
     (sym c.seated-seat.ensures.answer)
-    (subst (λ (seats : List (Seat _)). DoesAsked c.args.caller (Asks (script_call.Socket c.args.kind c.args.options.now)) (answer_made c.in_ok-made.made) (at_seats g.W.Sockets.as_open c.args.self.now told (g.W.Sockets.pieces c.args.way.now)) (at_seats g.W.Sockets.as_open seats told (g.W.Sockets.pieces c.make.new.self)))
+    (subst (λ (seats : List (Seat _)). DoesAsked c.args.caller (script_call.Socket c.args.kind c.args.options.now) (answer_made c.in_ok-made.made) (at_seats g.W.Sockets.as_open c.args.self.now told (g.W.Sockets.pieces c.args.way.now)) (at_seats g.W.Sockets.as_open seats told (g.W.Sockets.pieces c.make.new.self)))
     (sym (pushed_on c.self.inside.seats.items c.reserve.new.self.items c.args.self.now c.push_reserved.new.self.items (seat_made c.in_ok-made.made) c.reserve.ensures.items c.self.view_is
     (c.push_reserved.ensures.items ∙ ap (λ (x : Seat _). c.reserve.new.self.items ++ x ∷ []) c.seated-seat.ensures.seat)))
     (asked_made g.W.Sockets.as_open g.W.Sockets.agrees g.W.Sockets.was_made c.args.caller c.args.kind c.args.options.now c.args.self.now c.in_ok-made.made told (g.W.Sockets.pieces c.args.way.now) (g.W.Sockets.pieces c.make.new.self) c.in_ok-made.ensures.ok))

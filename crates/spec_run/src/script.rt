@@ -2,10 +2,7 @@ use crate::topic::Topic;
 use zq_base::{Endpoint, Kind, Message, Octets, Options, Seq};
 
 /// A script: its actors, in the order in which they begin.
-#[derive(Drop)]
-pub struct Script {
-    pub actors: Seq<ActorScript>,
-}
+pub type Script = Seq<ActorScript>;
 
 /// An actor and its lines, in the script's order.
 #[derive(Drop)]
@@ -28,6 +25,13 @@ pub enum Call {
     Socket(Kind, Options),
     Bind(u32, Endpoint),
     Connect(u32, Endpoint),
+    /// The first bind to the endpoint is struck.
+    Unbind(u32, Endpoint),
+    /// The first connect to the endpoint is struck.
+    Disconnect(u32, Endpoint),
+    Close(u32),
+    /// The context is asked to end.
+    Term,
     Send(u32, Message),
     Recv(u32, u32),
     Subscribe(u32, Topic),

@@ -2,7 +2,7 @@ use Rattle.std.proofs.Common.{◌≡◌, ◌++◌, ℕ, List, append_assoc}
 use Rattle.std.specs.Prelude.{codes}
 use Rattle.std.proofs.lemmas.Result.{IfOk-equal}
 use Rattle.spec_run.specs.JournalText.{counts_text, rest_text, settled_row_text}
-use Rattle.zq_journal.proofs.run_row.push_settled.Goals as goal
+use Rattle.zq_journal.proofs.row.push_settled.Goals as goal
 
 -- what was appended piece by piece is the pieces' list, appended
 in_order : (o o1 counts space why end : List ℕ) → o1 ≡ o ++ counts → o1 ++ space ++ why ++ end ≡ o ++ (counts ++ space ++ why ++ end)

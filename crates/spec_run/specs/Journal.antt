@@ -1,4 +1,4 @@
--- The journal of a run over sockets that end, and its status.
+-- The journal of a run, and its status (own format).
 use Rattle.std.specs.Prelude.{◌≡◌, ◌+◌, ℕ, true, false, List, [], ◌∷◌, Option, Some, None, IsSome, drop, map, if◌then◌else◌}
 use Rattle.zq_base.specs.Ends.{PipeId}
 use Rattle.zq_base.specs.declared.ids.ObjId.{ObjId}
@@ -8,20 +8,20 @@ use Rattle.spec_control.specs.Stage.{has_ended}
 use Rattle.spec_control.specs.Control.{Control, Settlement, end_of}
 use Rattle.spec_control.specs.Reply.{root_state}
 use Rattle.spec_run.specs.Run.{Schedule}
-use Rattle.spec_run.specs.declared.journal.LineEntry.{LineEntry}
+use Rattle.spec_run.specs.declared.journal.Entry.{Entry}
 use Rattle.spec_run.specs.declared.journal.ActorLines.{ActorLines}
 use Rattle.spec_run.specs.declared.journal.ObjectLine.{ObjectLine}
 use Rattle.spec_run.specs.declared.journal.ObjectRow.{ObjectRow}
 use Rattle.spec_run.specs.declared.journal.SettledRow.{SettledRow}
-use Rattle.spec_run.specs.declared.journal.RunJournal.{RunJournal}
-use Rattle.spec_run.specs.LineCall.{RunScript}
+use Rattle.spec_run.specs.declared.journal.Journal.{Journal}
+use Rattle.spec_run.specs.Script.{Script}
 use Rattle.spec_run.specs.Act.{Try, Deed, Tries, Shuts, Fetches, Idles, Works, Looks, AsksRoot, Reads}
 use Rattle.spec_run.specs.OwnedRun.{OwnedRun, IsRun, every_pipe, deeds_in, control_at_end, settlement_of}
 use Rattle.spec_run.specs.InTurns.{Turned, IsInTurns, IsOneThread, is_ended}
 use Rattle.spec_run.specs.Fate.{settled_row, HaveOneFate}
 
 -- the status of a run that is done, and of one that is unfinished
-abbrev pub status_of_run : RunJournal → ℕ
+abbrev pub status_of_run : Journal → ℕ
 status_of_run j = if j.done then 0 else 8
 
 -- an object and what it is
@@ -48,10 +48,10 @@ WasSettled c p = IsSome (settlement_of c p)
 
 module _ {N S : Type 0} where
   -- what is shown of a line that is over: its last answer, and the messages that all its tries dropped
-  abbrev pub entry_shown : Try N S → LineEntry
+  abbrev pub entry_shown : Try N S → Entry
   entry_shown t = record { line = t.line.number; answer = t.answer; skips = t.told }
 
-  abbrev pub entries_shown : List (Deed N S) → List LineEntry
+  abbrev pub entries_shown : List (Deed N S) → List Entry
   entries_shown [] = []
   entries_shown (Tries t ∷ ds) = if t.over then entry_shown t ∷ entries_shown ds else entries_shown ds
   entries_shown (Shuts acts ∷ ds) = entries_shown ds
@@ -63,7 +63,7 @@ module _ {N S : Type 0} where
   entries_shown (Reads now ∷ ds) = entries_shown ds
 
   -- each actor's answers
-  abbrev pub actors_shown : RunScript → List (List (List (Deed N S))) → List ActorLines
+  abbrev pub actors_shown : Script → List (List (List (Deed N S))) → List ActorLines
   actors_shown [] workers = []
   actors_shown (actor ∷ actors) [] = []
   actors_shown (actor ∷ actors) (steps ∷ workers) =
@@ -78,7 +78,7 @@ module _ {N S : Type 0} where
   rows_shown c run n pairs = rows_by (row_shown c run) n pairs
 
   -- the journal, by the state of the control plane at the end
-  abbrev pub journal_at : Control → RunScript → OwnedRun N S → RunJournal
+  abbrev pub journal_at : Control → Script → OwnedRun N S → Journal
   journal_at c script run = record {
     actors = actors_shown script run.workers;
     ended = map (line_of c) c.ended;
@@ -87,11 +87,11 @@ module _ {N S : Type 0} where
     done = is_ended (root_state c);
   }
 
-  abbrev pub run_journal : RunScript → (io : ℕ) → OwnedRun N S → RunJournal
+  abbrev pub run_journal : Script → (io : ℕ) → OwnedRun N S → Journal
   run_journal script io run = journal_at (control_at_end io run) script run
 
 -- The journal is that of a run of the script on one thread by the schedule, in which the messages of each settled pipe have their fates.
-pub record IsRunJournal (N S : Type 0) (script : RunScript) (schedule : Schedule) (j : RunJournal) : Type 0 where
+pub record IsRunJournal (N S : Type 0) (script : Script) (schedule : Schedule) (j : Journal) : Type 0 where
   pub run : OwnedRun N S
   pub turned : Turned N S
   pub is_run : IsRun script 1 every_pipe run

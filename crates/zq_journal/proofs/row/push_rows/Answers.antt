@@ -1,6 +1,6 @@
 use Rattle.spec_run.specs.JournalText.{pipe_slot_text}
 use Rattle.zq_journal.proofs.PushLemmas.{pushed_more}
-use Rattle.zq_journal.proofs.run_row.push_rows.Goals as goal
+use Rattle.zq_journal.proofs.row.push_rows.Goals as goal
 
 pub loop-slot-preserved : goal.loop-slot-preserved
 loop-slot-preserved c =
