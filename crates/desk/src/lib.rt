@@ -2,7 +2,6 @@
 //! its commands carry.
 #![tactic(auto)]
 
-mod calls;
 mod delivery;
 mod desk;
 mod given;
@@ -12,7 +11,6 @@ mod load;
 mod made;
 mod notice;
 
-pub use calls::Calls;
 pub use delivery::Delivery;
 pub use desk::Desk;
 pub use given::{Given, Parting};
