@@ -26,7 +26,8 @@ use Rattle.closed_ends.specs.declared.sockets.ClosedSocket.{ClosedSocket}
 use Rattle.closed_ends.specs.declared.sockets.ClosedSockets.{ClosedSockets}
 use Rattle.closed_ends.specs.Finding.{place_given, came_given}
 use Rattle.closed_ends.specs.Has.{all_ends}
-use Rattle.closed_ends.specs.Noted.{at_place, unplaced, standing_in, sealed_ends, StoodAt, WroteAt, StoodFirst, ChangesOnce, standing_of, first_places, HasDoneTo}
+use Rattle.end_table.specs.Halving.{StandsAt, WritesAt}
+use Rattle.closed_ends.specs.Noted.{at_place, unplaced, standing_in, sealed_ends, StoodFirst, ChangesOnce, standing_of, first_places, HasDoneTo}
 use Rattle.closed_ends.proofs.ListLemmas.{never, any_back, any_front, all_both, mapped, same_ends}
 use Rattle.closed_ends.proofs.ChangeLemmas.{Replaces}
 use Rattle.closed_ends.proofs.SoundLemmas.{all_one, all_but, all_with}
@@ -186,7 +187,7 @@ module _ {N I : Type 0} where
   only_place p zero e h = (refl, h.end_is p refl)
   only_place p (suc j) e h = absurd (let w = h.within in omega (arith, w))
 
-  only_writes : (p : Place N I) (j : ℕ) → WroteAt (p ∷ []) j → p.writes ≡ true
+  only_writes : (p : Place N I) (j : ℕ) → WritesAt (p ∷ []) j → p.writes ≡ true
   only_writes p zero h = ap (λ (x : Place N I). x.writes) (one_some p h.place h.there) ∙ h.writes
   only_writes p (suc j) h = absurd (none h.place h.there)
     where
@@ -413,7 +414,7 @@ pub record LeftWith {S O I N : Type 0} (K : Known S O I N) (first : S) (qs : Lis
   pub more : List (PipeChange O I × S)
   pub noted : unplaced (placed ++ more) ≡ ys
   pub does : DoesChanges K qs first (placed ++ more) new
-  pub wrote : (fs : List (Place N I)) → StoodAt fs k → AllByRecursion (λ x. StoodFirst fs x.0) more
+  pub wrote : (fs : List (Place N I)) → StandsAt fs k → AllByRecursion (λ x. StoodFirst fs x.0) more
   pub no_seals : sealings_in more ≡ []
   pub read : WereRead qs settled
 
@@ -626,7 +627,7 @@ module _ {S O I N : Type 0} (K : Known S O I N) (first : S) (from : ClosedSocket
           l : LeftWith K first after f.at h.placed ys new settled
           l = leaves h.places after f.at q stays there f.end_is f.read_is refl (place_within after f.at q there) h.placed h.noted h.does
 
-          stood : StoodAt (firsts h.came) f.at
+          stood : StandsAt (firsts h.came) f.at
           stood =
               let x = some_place (firsts h.came) f.at (let n = h.count in let w = place_within h.places f.at f.place f.there in omega (arith, n, w)) in
               record { place = x.0; there = x.1; held = (h.keeps.each f.at x.0 f.place x.1 f.there).held f.held }

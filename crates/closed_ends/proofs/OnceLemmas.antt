@@ -9,7 +9,8 @@ use Rattle.end_table.specs.declared.table.Place.{Place}
 use Rattle.end_table.specs.Places.{place_at}
 use Rattle.end_table.specs.Changes.{IsPlaced, SealedBy, PartedBy, NotesHalf}
 use Rattle.end_table.proofs.SoundLemmas.{one_some}
-use Rattle.closed_ends.specs.Once.{WroteAt, ChangesOnce}
+use Rattle.end_table.specs.Halving.{WritesAt}
+use Rattle.closed_ends.specs.Once.{ChangesOnce}
 
 module _ {N I : Type 0} where
   pub one_placed : (p : Place N I) → IsPlaced (p ∷ []) 0 p.end
@@ -17,7 +18,7 @@ module _ {N I : Type 0} where
 
 module _ {S O I N : Type 0} (K : Known S O I N) where
   module _ (p : Place N I) (held : p.held ≡ true) (writes : p.writes ≡ true) (xs ys : List (PipeChange O I × S)) (old new : S) where
-    here : WroteAt (p ∷ []) 0
+    here : WritesAt (p ∷ []) 0
     here = record { place = p; there = refl; held = held; writes = writes }
 
     pub once_again : (s : Bool) → s ≡ true → new ≡ old → ys ≡ xs ++ (SealedAgain 0 p.end, new) ∷ [] → ChangesOnce K p ((p.end, not s) ∷ []) xs old ys new

@@ -14,7 +14,7 @@ use Rattle.end_table.specs.Others.{KeepsPlaces}
 use Rattle.end_table.specs.Changes.{sealing_of, sealings_in, DoesChange, DoesChanges}
 use Rattle.sock_core.specs.Noted.{were_told, WereRead}
 use Rattle.closed_ends.specs.declared.sockets.ClosedSockets.{ClosedSockets}
-pub use Rattle.closed_ends.specs.Once.{StoodAt, WroteAt, StoodFirst, ChangesOnce}
+pub use Rattle.closed_ends.specs.Once.{StoodFirst, ChangesOnce}
 use Rattle.closed_ends.specs.Finding.{place_given}
 use Rattle.closed_ends.specs.Has.{all_ends}
 use Rattle.closed_ends.specs.Mixed.{AreMixed}

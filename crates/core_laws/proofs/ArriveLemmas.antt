@@ -39,7 +39,8 @@ use Rattle.core_laws.specs.Arriving.{plugs, plugs_by, plugs_in, ReaperCameSo, Se
 use Rattle.core_laws.specs.Ends.{brings_none, brings_none_by, ReaperDid}
 use Rattle.core_laws.specs.However.{CameHow, CameOf}
 use Rattle.core_laws.specs.Items.{reaped_by, reaped_by_word, reaped_in, ComesBy}
-use Rattle.core_laws.specs.Joining.{binds, binds_by, binds_in}
+use Rattle.ctl_moves.specs.Attaching.{binds_end}
+use Rattle.core_laws.specs.Joining.{binds_by, binds_in}
 use Rattle.core_laws.proofs.GrowLemmas.{runs_on}
 use Rattle.core_laws.proofs.ItemLemmas.{comes_by, none_some}
 use Rattle.core_laws.proofs.ReapedJoinLemmas.{bound_stands}
@@ -47,7 +48,7 @@ use Rattle.core_laws.proofs.ReapedNoneLemmas.{any_last, any_number, no_joins_by,
 
 -- ---- an item
 -- a command is a bind, a Plug or a Reap, or no end joins with it
-word_is : (word : Word) → plugs word ≡ false → reaped_by_word word ≡ None → (brings_none word ≡ true) ⊎ (binds word ≡ true)
+word_is : (word : Word) → plugs word ≡ false → reaped_by_word word ≡ None → (brings_none word ≡ true) ⊎ (binds_end word ≡ true)
 word_is (Own child) p r = inl refl
 word_is (Plug end) p r = absurd (never (sym p))
 word_is (TermReq child) p r = inl refl

@@ -48,7 +48,8 @@ use Rattle.closed_ends.specs.Has.{all_ends, is_of, is_socket}
 use Rattle.core_laws.specs.Goes.{StandsNew}
 use Rattle.plain_desk.specs.Lent.{GrowsBy, IsOneOrder, Lent}
 use Rattle.core_laws.specs.Ends.{ReaperDid}
-use Rattle.core_laws.specs.Joining.{binds, binds_by, binds_in, BoundEndsStand, HasThem}
+use Rattle.ctl_moves.specs.Attaching.{binds_end}
+use Rattle.core_laws.specs.Joining.{binds_by, binds_in, BoundEndsStand, HasThem}
 use Rattle.core_laws.proofs.EndLemmas.{holds_still, same_names}
 use Rattle.core_laws.proofs.GrowLemmas.{leads_to, runs_on}
 use Rattle.core_laws.proofs.HadLemmas.{is_among, none_some}
@@ -199,7 +200,7 @@ module _ {S O I N T : Type 0} (K : Known S O I N) (old new : Lent (Given N O I) 
       stands = ap (λ (y : EndId). list_any (is_of y) (all_ends to.sockets.items)) end_is ∙ among;
     }
 
-  by_word : (by : ℕ) (slot : SlotId) (o : ObjId) (word : Word) (h : Answered N T) → grows.more ≡ Event (record { by = by; did = Delivered slot (record { to = o; word = word }) h }) ∷ [] → binds word ≡ true → (j : Joining N)
+  by_word : (by : ℕ) (slot : SlotId) (o : ObjId) (word : Word) (h : Answered N T) → grows.more ≡ Event (record { by = by; did = Delivered slot (record { to = o; word = word }) h }) ∷ [] → binds_end word ≡ true → (j : Joining N)
       → came_with (let item : Item N T = Event (record { by = by; did = Delivered slot (record { to = o; word = word }) h }) in item) ≡ j ∷ [] → StandsNew K (control_of old.past) (control_of new.past) (name_of old.items) from to j
   by_word by slot o (Own child) h one b j came = absurd (never b)
   by_word by slot o (Plug end) h one b j came = absurd (never b)

@@ -7,12 +7,11 @@ use Rattle.spec_control.specs.declared.entry.Did.TheVariants.{Asked, Delivered, 
 use Rattle.spec_control.specs.declared.entry.Item.{Item}
 use Rattle.spec_control.specs.declared.entry.Item.TheVariants.{Event, Seen}
 use Rattle.spec_control.specs.declared.entry.Joining.{Joining}
-use Rattle.spec_control.specs.declared.letter.Word.{Word}
-use Rattle.spec_control.specs.declared.letter.Word.TheVariants.{Own, Plug, TermReq, Term, TermAck, PipeBind, PipeTerm, PipeTermAck, Stop, Reap}
 use Rattle.spec_control.specs.Control.{id}
 use Rattle.spec_control.specs.Names.{name_of}
 use Rattle.spec_control.specs.Has.{has_after}
 use Rattle.desk.specs.declared.given.Given.{Given}
+use Rattle.ctl_moves.specs.Attaching.{binds_end}
 use Rattle.ctl_plane.specs.Past.{control_of}
 use Rattle.desk.specs.Desk.{came_with}
 use Rattle.end_table.specs.declared.changes.PipeChange.{PipeChange}
@@ -23,24 +22,11 @@ use Rattle.core_laws.specs.Goes.{StandsNew}
 use Rattle.plain_desk.specs.Lent.{Lent}
 use Rattle.core_laws.specs.Ends.{ReaperDid}
 
--- a command with which a bind comes
-abbrev pub binds : Word → Bool
-binds (Own child) = false
-binds (Plug end) = false
-binds (TermReq child) = false
-binds Term = false
-binds (TermAck child) = false
-binds (PipeBind e peer) = true
-binds (PipeTerm e) = false
-binds (PipeTermAck e) = false
-binds Stop = false
-binds (Reap socket) = false
-
 module _ {N S : Type 0} where
-  -- an event that processes one
+  -- an event that processes a command with which a bind comes
   abbrev pub binds_in : Did N S → Bool
   binds_in (Asked req reply h) = false
-  binds_in (Delivered slot letter h) = binds letter.word
+  binds_in (Delivered slot letter h) = binds_end letter.word
   binds_in (Delimited e h) = false
 
   abbrev pub binds_by : Item N S → Bool

@@ -5,8 +5,8 @@ use Rattle.std.specs.declared.alloc.Global.{Global}
 use Rattle.std.specs.Box.{with_value}
 use Rattle.zq_base.specs.Message.{Frames}
 use Rattle.zq_base.specs.Ends.{PipeId}
-use Rattle.spec_pattern.specs.Half.{Writing, Reading, with_delimiter}
-use Rattle.spec_pattern.specs.PipeStep.{Seal, read_through}
+use Rattle.spec_pattern.specs.Half.{Writing, Reading}
+use Rattle.spec_pattern.specs.PipeStep.{read_through}
 use Rattle.msg_pipe.specs.declared.pipes.PutIn.{PutIn}
 use Rattle.msg_pipe.specs.declared.pipes.PutIn.TheVariants as put
 use Rattle.msg_pipe.specs.declared.pipes.Taken.{Taken}
@@ -78,24 +78,6 @@ module _ {S O I N : Type 0} (K : Known S O I N) where
         out_is = refl;
         does = in_of_front (read_through r.end) found (K.reading pipes r.input) (K.reading pipes' i) finds;
         exact = subst (λ (f : Front). SeesCommits K r.input i f pipes pipes') (sym (front_looked (read_through r.end) found)) sees;
-        keeps = keeps;
-      })
-
-  pub seal_done : (pipes pipes' : S) (rows : Rows O I) (place : ℕ) (b : Box (EndRow O I) Global) (r : EndRow O I) (o : O)
-      → row_at rows place ≡ Some r → r.writable ≡ false → (K.writing pipes r.out).sealed ≡ false
-      → K.writing pipes' o ≡ with_delimiter (K.writing pipes r.out) → KeepsButOut K r.out o pipes pipes'
-      → OutCall K (table pipes rows) (Seal (end_of (row_at rows place))) (table pipes' (set rows place (Some (with_value b (record r { out = o })))))
-  seal_done pipes pipes' rows place b r o here closed unsealed seals keeps =
-      subst (λ (x : Option (EndRow O I)). OutCall K (table pipes rows) (Seal (end_of x)) (table pipes' (set rows place (Some (with_value b (record r { out = o })))))) (sym here)
-      (record {
-        place = place;
-        row = r;
-        back = record r { out = o };
-        at = record { here = here; boxed = with_value b (record r { out = o }); rows_are = refl; back_is = refl; end_is = refl; writable_is = refl };
-        input_is = refl;
-        unsealed = λ w. absurd (true≢false (sym w ∙ closed));
-        does = (refl, seals, unsealed);
-        exact = λ looks. absurd (true≢false (sym looks));
         keeps = keeps;
       })
 

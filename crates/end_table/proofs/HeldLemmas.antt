@@ -150,33 +150,3 @@ module _ {S O I N : Type 0} (K : Known S O I N) where
   all_rows old steps new places all rows = λ k d within.
       let row = rows k d within in
       rows_stay old steps new all _ row.0 row.1
-
--- the rows with one more
-pub at_more : {O I : Type 0} (rows : Rows O I) (b : Box (EndRow O I) Global) (k : ℕ) (r : EndRow O I) → row_at (rows ++ Some b ∷ []) k ≡ Some r
-    → (row_at rows k ≡ Some r) ⊎ ((k ≡ length rows) × (b.value ≡ r))
-at_more [] b zero r is = inr (refl, some_same b.value r is)
-at_more [] b (suc k) r is = cc
-at_more (x ∷ xs) b zero r is = inl is
-at_more (x ∷ xs) b (suc k) r is = ⊎_elim (λ h. inl h) (λ h. inr (ap suc h.0, h.1)) (at_more xs b k r is)
-
-module _ {S O I N : Type 0} (K : Known S O I N) (pipes : S) (rows : Rows O I) (b : Box (EndRow O I) Global) (row : EndRow O I) (same : b.value ≡ row)
-    (held : IsHeld K (table pipes rows)) (each : IsHeldAt K pipes row)
-    (others : (k : ℕ) (a : EndRow O I) → row_at rows k ≡ Some a → AreTwo K a row × AreTwo K row a) where
-  -- one end more is held where its halves are others
-  pub more_held : (rows' : Rows O I) → rows' ≡ rows ++ Some b ∷ [] → IsHeld K (table pipes rows')
-  more_held rows' e = subst (λ (l : Rows O I). IsHeld K (table pipes l)) (sym e) (record {
-    each = λ k r is. ⊎_elim
-        (λ (h : row_at rows k ≡ Some r). held.each k r h)
-        (λ (h : (k ≡ length rows) × (b.value ≡ r)). subst (IsHeldAt K pipes) (sym same ∙ h.1) each)
-        (at_more rows b k r is);
-    two = λ j k p q ne x y. ⊎_elim
-        (λ (h : row_at rows j ≡ Some p). ⊎_elim
-        (λ (i : row_at rows k ≡ Some q). held.two j k p q ne h i)
-        (λ (i : (k ≡ length rows) × (b.value ≡ q)). subst (λ (z : EndRow O I). AreTwo K p z) (sym same ∙ i.1) (others j p h).0)
-        (at_more rows b k q y))
-        (λ (h : (j ≡ length rows) × (b.value ≡ p)). ⊎_elim
-        (λ (i : row_at rows k ≡ Some q). subst (λ (z : EndRow O I). AreTwo K z q) (sym same ∙ h.1) (others k q i).1)
-        (λ (i : (k ≡ length rows) × (b.value ≡ q)). absurd (ne (h.0 ∙ sym i.0)))
-        (at_more rows b k q y))
-        (at_more rows b j p x);
-  })

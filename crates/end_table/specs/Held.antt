@@ -1,8 +1,8 @@
 -- The ends of one socket, each with halves of its own (own choice).
-use Rattle.std.specs.Prelude.{◌≡◌, ◌≢◌, ℕ, List, All, Some, true, false}
+use Rattle.std.specs.Prelude.{◌≡◌, ◌≢◌, ℕ, Some, true, false}
 use Rattle.msg_pipe.specs.Known.{Known, IsThere, IsElse}
 use Rattle.end_table.specs.declared.row.EndRow.{EndRow}
-use Rattle.end_table.specs.Rows.{Table, row_at, IsRow}
+use Rattle.end_table.specs.Rows.{Table, row_at}
 
 module _ {S O I N : Type 0} (K : Known S O I N) where
   -- the pipes of an end are there, and it can be written only where it hasn't sealed
@@ -20,8 +20,3 @@ module _ {S O I N : Type 0} (K : Known S O I N) where
   pub record IsHeld (t : Table S O I) : Type 0 where
     pub each : (k : ℕ) (row : EndRow O I) → row_at t.rows k ≡ Some row → IsHeldAt t.pipes row
     pub two : (j k : ℕ) (a b : EndRow O I) → j ≢ k → row_at t.rows j ≡ Some a → row_at t.rows k ≡ Some b → AreTwo a b
-
-  -- and an end is at each place of a turn list
-  pub record IsReady (t : Table S O I) (turns : List ℕ) : Type 0 where
-    pub held : IsHeld t
-    pub there : All (IsRow t.rows) turns

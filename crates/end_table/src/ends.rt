@@ -68,11 +68,10 @@ impl<P: Pipes> Peers for Ends<'_, '_, P> {
 }
 
 impl<P: Pipes> Ends<'_, '_, P> {
-    ghost use Rattle.std.specs.Prelude.{◌≡◌, ◌∷◌, [], Some, false};
-    ghost use Rattle.spec_pattern.specs.PipeStep.{Seal, read_through};
-    ghost use Rattle.end_table.specs.declared.row.EndRow.{EndRow};
+    ghost use Rattle.std.specs.Prelude.{◌≡◌, ◌∷◌, []};
+    ghost use Rattle.spec_pattern.specs.PipeStep.{read_through};
     ghost use Rattle.msg_pipe.specs.Told.{front_step};
-    ghost use Rattle.end_table.specs.Rows.{table, row_at, IsRow, end_of, can_write_of};
+    ghost use Rattle.end_table.specs.Rows.{table, row_at, IsRow, end_of};
     ghost use Rattle.end_table.specs.Held.{IsHeld};
     ghost use Rattle.end_table.specs.Runs.{DoesAll};
 
@@ -88,29 +87,6 @@ impl<P: Pipes> Ends<'_, '_, P> {
     {
         match &mut self.rows[place] {
             Some(row) => return self.pipes.front(&mut row.input),
-            None => unreachable!(),
-        }
-    }
-
-    /// Writes the delimiter at the end of a place, which can't be written any more.
-    pub fn seal(&mut self, place: usize)
-        requires held { IsHeld P.known (table self.old.pipes.now self.old.rows.now.items) }
-        requires there { IsRow self.old.rows.now.items place }
-        requires closed { can_write_of (row_at self.old.rows.now.items place) ≡ false }
-        requires open { (row : EndRow P.Out P.In) →
-            row_at self.old.rows.now.items place ≡ Some row →
-            (P.known.writing self.old.pipes.now row.out).sealed ≡ false }
-        ensures runs { DoesAll P.known (table self.old.pipes.now self.old.rows.now.items)
-            (Seal (end_of (row_at self.old.rows.now.items place)) ∷ [])
-            (table self.new.pipes.now self.new.rows.now.items) }
-        ensures same_pipes { self.new.pipes.ghost_name ≡ self.old.pipes.ghost_name }
-        ensures same_rows { self.new.rows.ghost_name ≡ self.old.rows.ghost_name }
-    {
-        match &mut self.rows[place] {
-            Some(row) => {
-                self.pipes.seal(&mut row.out);
-                return;
-            }
             None => unreachable!(),
         }
     }

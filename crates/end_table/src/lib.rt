@@ -2,7 +2,6 @@
 //! does to its halves, and what calls did, read off their steps.
 #![tactic(auto)]
 
-mod attaching;
 mod changes;
 mod ends;
 mod finding;
@@ -17,7 +16,6 @@ mod plain;
 mod row;
 mod table;
 
-pub use attaching::attach;
 pub use changes::PipeChange;
 pub use ends::Ends;
 pub use finding::find;

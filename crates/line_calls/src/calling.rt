@@ -1,5 +1,4 @@
 ghost use Rattle.std.specs.Prelude.{◌<◌, IfOk, OnOk, OnErr, length};
-ghost use Rattle.spec_run.specs.declared.script.Call.TheVariants as call;
 ghost use Rattle.zq_world.specs.MayAsk.{MayAskLine};
 ghost use Rattle.zq_world.specs.Way.{AsksSocket, AsksOpen};
 ghost use Rattle.line_calls.specs.Steps.{LeadsSome, CallsSo};
@@ -12,36 +11,6 @@ use crate::steps::OpenSteps;
 use spec_pattern::Skip;
 use spec_run::{Answer, Call};
 use std::alloc::{AllocError, Global};
-
-// Makes the call of a line that scripts have where sockets do not end.
-fn ask<M: OpenSteps>(
-    alloc: Global,
-    socket: &mut M,
-    call: &Call,
-    told: &mut Vec<Skip>,
-) -> Result<Answer, AllocError>
-    requires agrees { M.agrees socket.old }
-    requires whole { M.whole socket.old }
-    requires some { 0 < length (M.moments socket.old) }
-    requires asks { AsksSocket call.now }
-    requires allowed { MayAskLine call.now }
-    ensures ok { IfOk result (λ answer.
-        CallsSo M.leads M.as_open M.moments (AsksOpen call.now) answer
-        told.old.items told.new.items socket.old socket.new) }
-    ensures err { OnErr result (LeadsSome M.leads socket.old socket.new) }
-    ensures whole { OnOk result (M.whole socket.new) }
-    ensures agrees { M.agrees socket.new }
-{
-    match call {
-        Call::Bind(_, to) => return socket.bind(alloc, to),
-        Call::Connect(_, to) => return connects(alloc, socket, to),
-        Call::Send(_, message) => return sends(alloc, socket, message),
-        Call::Recv(_, _) => return receives(alloc, socket, told),
-        Call::Subscribe(_, topic) => return subscribes(alloc, socket, topic),
-        Call::Unsubscribe(_, topic) => return unsubscribes(alloc, socket, topic),
-        Call::Socket(_, _) => unreachable!(),
-    }
-}
 
 // Makes the call of a line.
 fn ask_line<M: OpenSteps>(
@@ -63,11 +32,15 @@ fn ask_line<M: OpenSteps>(
     ensures agrees { M.agrees socket.new }
 {
     match line {
-        Call::Asks(call) => return ask(alloc, socket, call, told),
+        Call::Bind(_, to) => return socket.bind(alloc, to),
+        Call::Connect(_, to) => return connects(alloc, socket, to),
+        Call::Send(_, message) => return sends(alloc, socket, message),
+        Call::Recv(_, _) => return receives(alloc, socket, told),
+        Call::Subscribe(_, topic) => return subscribes(alloc, socket, topic),
+        Call::Unsubscribe(_, topic) => return unsubscribes(alloc, socket, topic),
         Call::Unbind(_, to) => return socket.unbind(alloc, to),
         Call::Disconnect(_, to) => return socket.disconnect(alloc, to),
-        Call::Close(_) => unreachable!(),
-        Call::Term => unreachable!(),
+        Call::Socket(_, _) | Call::Close(_) | Call::Term => unreachable!(),
     }
 }
 

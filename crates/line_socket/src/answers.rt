@@ -3,12 +3,9 @@ ghost use Rattle.spec_pattern.specs.Results.{MatchRecv};
 ghost use Rattle.pub_sub.specs.XSubs.{MatchXSend};
 ghost use Rattle.any_sock.specs.Calls.{MatchChanged};
 ghost use Rattle.spec_run.specs.Line.{sent_answer, got_answer, changed_answer};
-ghost use Rattle.spec_run.specs.ControlAnswer.{refusal_answer, reply_answer};
-ghost use Rattle.spec_run.specs.declared.answer.Answer.TheVariants as answer;
 
 use any_sock::ChangeFault;
 use pub_sub::XSendFault;
-use spec_control::{Refusal, Reply};
 use spec_pattern::{RecvFault, Sent};
 use spec_run::Answer;
 use std::alloc::AllocError;
@@ -56,34 +53,5 @@ pub(crate) fn changed_reply(changed: Result<(), ChangeFault>) -> Result<Answer, 
         Err(ChangeFault::SubLimit) => return Ok(Answer::Limit),
         Err(ChangeFault::NotSub) => return Ok(Answer::NotSub),
         Err(ChangeFault::OutOfMemory | ChangeFault::Untold) => return Err(AllocError),
-    }
-}
-
-// What a line is answered whose request was refused.
-fn refused_answer(refusal: Refusal) -> Answer
-    ensures { result ≡ refusal_answer refusal }
-{
-    match refusal {
-        Refusal::Term => Answer::Term,
-        Refusal::InUse => Answer::InUse,
-        Refusal::NotBound => Answer::NotBound,
-        Refusal::BadPair => Answer::BadPair,
-        Refusal::TooMany => Answer::TooMany,
-    }
-}
-
-/// What a line is answered whose request the control plane answered so.
-pub(crate) fn reply_answer(reply: Reply) -> Answer
-    ensures { result ≡ reply_answer reply }
-{
-    match reply {
-        Reply::Done => Answer::Done,
-        Reply::Object(o) => Answer::Object(o),
-        Reply::Pair(p) => Answer::Pair(p),
-        Reply::Both(o, p) => Answer::Both(o, p),
-        Reply::Wait => Answer::Wait,
-        Reply::Asked => Answer::Done,
-        Reply::Before => Answer::Term,
-        Reply::Refused(refusal) => refused_answer(refusal),
     }
 }

@@ -8,7 +8,6 @@ ghost use Rattle.line_socket.specs.Owned.{parts, view_of, moments_since, Agrees}
 ghost use Rattle.line_socket.specs.Leads.{Leads};
 ghost use Rattle.line_socket.specs.Ready.{AreTold, IsReady};
 
-use crate::answers::reply_answer;
 use crate::calls::{call_bind, call_connect, call_disconnect, call_unbind};
 use crate::sock::LentSock;
 use any_sock::AnySock;
@@ -17,6 +16,7 @@ use sock_core::SockCore;
 use spec_run::Answer;
 use std::alloc::{AllocError, Global};
 use zq_base::Endpoint;
+use zq_world::reply_answer;
 
 /// What the socket's kind is over its ends is told by its peers' ends. It costs nothing.
 pub(crate) fn is_told<W, N, O, I>(socket: &Option<SockCore<AnySock, W, N, O, I>>)

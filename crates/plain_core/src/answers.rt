@@ -1,8 +1,5 @@
 ghost use Rattle.std.specs.Prelude.{◌≡◌, ◌^◌, IfOk};
-ghost use Rattle.spec_run.specs.ControlAnswer.{refusal_answer, reply_answer};
 
-use spec_control::{Refusal, Reply};
-use spec_run::Answer;
 use std::alloc::AllocError;
 
 // One less than how many callers there may be.
@@ -16,33 +13,4 @@ pub(crate) fn number_of(caller: usize) -> Result<u32, AllocError>
         return Err(AllocError);
     }
     Ok(caller as u32)
-}
-
-// What a line is answered whose request was refused.
-fn refusal_answer(refusal: Refusal) -> Answer
-    ensures { result ≡ refusal_answer refusal }
-{
-    match refusal {
-        Refusal::Term => Answer::Term,
-        Refusal::InUse => Answer::InUse,
-        Refusal::NotBound => Answer::NotBound,
-        Refusal::BadPair => Answer::BadPair,
-        Refusal::TooMany => Answer::TooMany,
-    }
-}
-
-/// What a line is answered whose request had this reply.
-pub(crate) fn reply_answer(reply: Reply) -> Answer
-    ensures { result ≡ reply_answer reply }
-{
-    match reply {
-        Reply::Done => Answer::Done,
-        Reply::Object(object) => Answer::Object(object),
-        Reply::Pair(pair) => Answer::Pair(pair),
-        Reply::Both(object, pair) => Answer::Both(object, pair),
-        Reply::Wait => Answer::Wait,
-        Reply::Asked => Answer::Done,
-        Reply::Before => Answer::Term,
-        Reply::Refused(refusal) => refusal_answer(refusal),
-    }
 }

@@ -6,7 +6,7 @@ ghost use Rattle.plain_core.specs.Agreeing.{was_made, Agrees};
 ghost use Rattle.plain_core.specs.Leaving.{LeavesSockets};
 ghost use Rattle.plain_core.specs.Sound.{pieces_in, IsLentOn, Requests};
 
-use crate::answers::{number_of, reply_answer};
+use crate::answers::number_of;
 use crate::context::OneCore;
 use crate::telling::OneItem;
 use end_table::HeldPipes;
@@ -14,7 +14,7 @@ use socket_laws::{asides_go_on, root_asks_are_asides};
 use spec_control::Reply;
 use spec_run::Answer;
 use std::alloc::{AllocError, Global};
-use zq_world::tales_go_on;
+use zq_world::{reply_answer, tales_go_on};
 
 impl<P: HeldPipes> OneCore<P> {
     // The context is asked to end, and replies.

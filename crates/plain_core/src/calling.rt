@@ -7,7 +7,6 @@ ghost use Rattle.zq_world.specs.Way.{AsksSocket, CallsOne, ClosesSo, KeepsLent, 
 ghost use Rattle.plain_core.specs.Agreeing.{as_open, was_made, Agrees};
 ghost use Rattle.plain_core.specs.Sound.{pieces_in};
 
-use crate::answers::number_of;
 use crate::context::OneCore;
 use crate::drops::note_drops;
 use crate::laws::calls_go_on_so;
@@ -57,38 +56,9 @@ impl<P> OneCore<P>
 where
     P: HeldPipes,
 {
-    /// Pumps a socket and then makes the call of a line, one of those that are made of a socket.
-    pub fn call(
-        &mut self,
-        alloc: Global,
-        caller: usize,
-        socket: &mut Option<SockCore<AnySock, P::Waker, P::Name, P::Out, P::In>>,
-        line: &Call,
-        told: &mut Vec<Skip>,
-    ) -> Result<Answer, AllocError>
-        requires agrees { Agrees P.Waker P.known self.old caller socket.old }
-        requires asks { AsksSocket line.now }
-        requires may { MayAskLine line.now }
-        ensures ok { IfOk result (λ answer. CallsOne caller line.now
-            (as_open socket.old) (as_open socket.new) answer told.old.items told.new.items
-            (pieces_in self.old) (pieces_in self.new)) }
-        ensures lent { KeepsLent as_open (Agrees P.Waker P.known) caller
-            socket.old socket.new self.new }
-        ensures wanted { OnOk result (self.new.wanted ≡ self.old.wanted) }
-        ensures keeps { KeepsOthers as_open (Agrees P.Waker P.known) was_made caller
-            (as_open socket.old).object self.old self.new }
-    {
-        if self.wanted {
-            return Err(AllocError);
-        }
-        match number_of(caller) {
-            Ok(by) => return self.call_by(alloc, by, socket, line, told),
-            Err(want) => return Err(want),
-        }
-    }
-
-    // The same by a caller that there may be, where no call wanted memory so far.
-    fn call_by(
+    /// Pumps a socket and then makes the call of a line, one of those that are made of a socket, where no
+    /// call wanted memory so far.
+    pub(crate) fn call(
         &mut self,
         alloc: Global,
         caller: u32,
@@ -144,29 +114,7 @@ where
     }
 
     /// Closes a socket (zmq_close(3)). Want of memory hands it back.
-    pub fn close(
-        &mut self,
-        alloc: Global,
-        caller: usize,
-        socket: Option<SockCore<AnySock, P::Waker, P::Name, P::Out, P::In>>,
-    ) -> Result<(), AllocFailed<Option<SockCore<AnySock, P::Waker, P::Name, P::Out, P::In>>>>
-        requires agrees { Agrees P.Waker P.known self.old caller socket }
-        ensures ok { IfOk result (λ _. ClosesSo caller (as_open socket).object
-            (pieces_in self.old) (pieces_in self.new)) }
-        ensures back { IfErr result (λ e. KeepsLent as_open (Agrees P.Waker P.known) caller
-            socket e.value self.new) }
-        ensures wanted { OnOk result (self.new.wanted ≡ self.old.wanted) }
-        ensures keeps { KeepsOthers as_open (Agrees P.Waker P.known) was_made caller
-            (as_open socket).object self.old self.new }
-    {
-        match number_of(caller) {
-            Ok(by) => return self.close_by(alloc, by, socket),
-            Err(_) => return Err(AllocFailed { value: socket }),
-        }
-    }
-
-    // The same by a caller that there may be.
-    fn close_by(
+    pub(crate) fn close(
         &mut self,
         alloc: Global,
         caller: u32,

@@ -1,7 +1,9 @@
+use crate::answers::number_of;
 use crate::context::OneCore;
 use end_table::HeldPipes;
 use spec_control::ObjState;
 use std::alloc::{AllocError, Global};
+use zq_base::SlotId;
 use zq_world::{Core, Shown, Steps};
 
 impl<P> Core<P> for OneCore<P>
@@ -11,7 +13,13 @@ where
     ghost order = { λ w. w.desk.items };
 
     fn reap_one(&mut self, alloc: Global, caller: usize) -> Result<(), AllocError> {
-        OneCore::reap_one(self, alloc, caller)
+        if self.wanted {
+            return Err(AllocError);
+        }
+        match number_of(caller) {
+            Ok(by) => return OneCore::reap_one(self, alloc, by),
+            Err(want) => return Err(want),
+        }
     }
 
     fn look(&mut self, alloc: Global, caller: usize) -> Result<ObjState, AllocError> {
@@ -45,6 +53,15 @@ where
     }
 
     fn reap_at(&mut self, alloc: Global, caller: usize, slot: usize) -> Result<(), AllocError> {
-        OneCore::reap_at(self, alloc, caller, slot)
+        if self.wanted {
+            return Err(AllocError);
+        }
+        match number_of(caller) {
+            Ok(by) => match number_of(slot) {
+                Ok(at) => return OneCore::reap_at(self, alloc, by, SlotId(at)),
+                Err(want) => return Err(want),
+            },
+            Err(want) => return Err(want),
+        }
     }
 }

@@ -8,7 +8,6 @@ ghost use Rattle.plain_core.specs.Sound.{pieces_in};
 ghost use Rattle.zq_world.specs.Taken.{is_reapers, ReapsAt};
 ghost use Rattle.zq_world.specs.Taking.{control_told, FetchesLetter};
 
-use crate::answers::number_of;
 use crate::calling::number_in;
 use crate::context::OneCore;
 use crate::laws::calls_go_on_so;
@@ -112,34 +111,8 @@ where
     }
 
     /// Takes the oldest letter of a socket's mailbox, which has one, and looks at the end that it leaves
-    /// to read on. There is no memory for it where a call wanted some.
-    pub fn fetch(
-        &mut self,
-        alloc: Global,
-        caller: usize,
-        socket: &mut Option<SockCore<AnySock, P::Waker, P::Name, P::Out, P::In>>,
-    ) -> Result<(), AllocError>
-        requires agrees { Agrees P.Waker P.known self.old caller socket.old }
-        requires waits { may_take (control_told (pieces_in self.old)) (as_open socket.old).slot ≡ true }
-        ensures ok { OnOk result (FetchesLetter caller (as_open socket.old) (as_open socket.new)
-            (pieces_in self.old) (pieces_in self.new)) }
-        ensures lent { KeepsLent as_open (Agrees P.Waker P.known) caller
-            socket.old socket.new self.new }
-        ensures wanted { OnOk result (self.new.wanted ≡ self.old.wanted) }
-        ensures keeps { KeepsOthers as_open (Agrees P.Waker P.known) was_made caller
-            (as_open socket.old).object self.old self.new }
-    {
-        if self.wanted {
-            return Err(AllocError);
-        }
-        match number_of(caller) {
-            Ok(by) => return self.fetch_by(alloc, by, socket),
-            Err(want) => return Err(want),
-        }
-    }
-
-    // The same by a caller that there may be, where no call wanted memory so far.
-    fn fetch_by(
+    /// to read on, where no call wanted memory so far.
+    pub(crate) fn fetch(
         &mut self,
         alloc: Global,
         caller: u32,
@@ -175,29 +148,13 @@ where
     }
 
     /// Takes the oldest letter of one of the reaper's mailboxes, which has one, and looks at the end that
-    /// it leaves to read on. There is no memory for it where a call wanted some.
-    pub fn reap_at(&mut self, alloc: Global, caller: usize, slot: usize) -> Result<(), AllocError>
-        requires alone { IsReaper caller (pieces_in self.old) }
-        requires waits { may_take (control_told (pieces_in self.old)) slot ≡ true }
-        requires mine { is_reapers (control_told (pieces_in self.old)) slot ≡ true }
-        ensures ok { OnOk result (ReapsAt caller slot (pieces_in self.old) (pieces_in self.new)) }
-        ensures wanted { OnOk result (self.new.wanted ≡ self.old.wanted) }
-        ensures keeps { KeepsAll (Agrees P.Waker P.known) was_made self.old self.new }
-    {
-        if self.wanted {
-            return Err(AllocError);
-        }
-        match number_of(caller) {
-            Ok(by) => match number_of(slot) {
-                Ok(at) => return self.reap_at_by(alloc, by, SlotId(at)),
-                Err(want) => return Err(want),
-            },
-            Err(want) => return Err(want),
-        }
-    }
-
-    // The same by a caller that there may be, where no call wanted memory so far.
-    fn reap_at_by(&mut self, alloc: Global, caller: u32, slot: SlotId) -> Result<(), AllocError>
+    /// it leaves to read on, where no call wanted memory so far.
+    pub(crate) fn reap_at(
+        &mut self,
+        alloc: Global,
+        caller: u32,
+        slot: SlotId,
+    ) -> Result<(), AllocError>
         requires alone { IsReaper caller (pieces_in self.old) }
         requires waits { may_take (control_told (pieces_in self.old)) slot.0 ≡ true }
         requires mine { is_reapers (control_told (pieces_in self.old)) slot.0 ≡ true }

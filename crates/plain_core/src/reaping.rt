@@ -4,7 +4,6 @@ ghost use Rattle.zq_world.specs.CoreCalls.{IsReaper, ReapsOne};
 ghost use Rattle.plain_core.specs.Agreeing.{was_made, Agrees};
 ghost use Rattle.plain_core.specs.Sound.{pieces_in};
 
-use crate::answers::number_of;
 use crate::context::OneCore;
 use crate::reap_tale::reap_lent;
 use crate::reaping_laws::reaps_go_on_so;
@@ -18,24 +17,8 @@ where
     P: HeldPipes,
 {
     /// The reaper takes a letter, of the first of its mailboxes that is not empty, or finds all of
-    /// them empty. There is no memory for it where a call wanted some.
-    pub fn reap_one(&mut self, alloc: Global, caller: usize) -> Result<(), AllocError>
-        requires alone { IsReaper caller (pieces_in self.old) }
-        ensures ok { OnOk result (ReapsOne caller (pieces_in self.old) (pieces_in self.new)) }
-        ensures wanted { OnOk result (self.new.wanted ≡ self.old.wanted) }
-        ensures keeps { KeepsAll (Agrees P.Waker P.known) was_made self.old self.new }
-    {
-        if self.wanted {
-            return Err(AllocError);
-        }
-        match number_of(caller) {
-            Ok(by) => return self.reap_by(alloc, by),
-            Err(want) => return Err(want),
-        }
-    }
-
-    // The same by a caller that there may be, where no call wanted memory so far.
-    fn reap_by(&mut self, alloc: Global, caller: u32) -> Result<(), AllocError>
+    /// them empty, where no call wanted memory so far.
+    pub(crate) fn reap_one(&mut self, alloc: Global, caller: u32) -> Result<(), AllocError>
         requires alone { IsReaper caller (pieces_in self.old) }
         requires not_wanted { self.old.wanted ≡ false }
         ensures ok { OnOk result (ReapsOne caller (pieces_in self.old) (pieces_in self.new)) }

@@ -1,3 +1,4 @@
+use crate::answers::number_of;
 use crate::context::OneCore;
 use any_sock::AnySock;
 use end_table::HeldPipes;
@@ -43,7 +44,13 @@ where
         line: &Call,
         told: &mut Vec<Skip>,
     ) -> Result<Answer, AllocError> {
-        OneCore::call(self, alloc, caller, socket, line, told)
+        if self.wanted {
+            return Err(AllocError);
+        }
+        match number_of(caller) {
+            Ok(by) => return OneCore::call(self, alloc, by, socket, line, told),
+            Err(want) => return Err(want),
+        }
     }
 
     fn close(
@@ -52,7 +59,10 @@ where
         caller: usize,
         socket: Self::Open,
     ) -> Result<(), AllocFailed<Self::Open>> {
-        OneCore::close(self, alloc, caller, socket)
+        match number_of(caller) {
+            Ok(by) => return OneCore::close(self, alloc, by, socket),
+            Err(_) => return Err(AllocFailed { value: socket }),
+        }
     }
 
     fn term(&mut self, alloc: Global, caller: usize) -> Result<Answer, AllocError> {
@@ -74,6 +84,12 @@ where
         caller: usize,
         socket: &mut Self::Open,
     ) -> Result<(), AllocError> {
-        OneCore::fetch(self, alloc, caller, socket)
+        if self.wanted {
+            return Err(AllocError);
+        }
+        match number_of(caller) {
+            Ok(by) => return OneCore::fetch(self, alloc, by, socket),
+            Err(want) => return Err(want),
+        }
     }
 }

@@ -13,13 +13,12 @@ use Rattle.zq_script.specs.declared.statement.Statement.{Statement}
 use Rattle.zq_script.specs.declared.statement.Statement.TheVariants.{Actor, Socket, Closed, Other}
 use Rattle.zq_script.specs.Answer.{◌>>=◌}
 use Rattle.zq_script.specs.Grammar.{verb_of, first_word, line_end, tries_words, last_part, new_name, known_socket, kind_word, room_for_actor, some_actor, last_endpoint, call_of, actor_line, socket_line, call_line, statement_by, statement_of}
-use Rattle.zq_script.specs.Script.{at_line, line_statement, statements_from, leading_lines, actors_of, is_too_long, actors_read}
+use Rattle.zq_script.specs.Script.{at_line, line_statement, statements_from, leading_lines, actors_of, is_too_long, actors_read, ending_verb, socket_at, close_line, term_line, ending_line, run_statement, run_statement_by, statement_of, actor_script, script_of}
 use Rattle.zq_script.specs.Part.{parts_message}
 use Rattle.zq_script.specs.SocketOption.{default_options, with_options}
 use Rattle.zq_script.specs.Statement.{Learned, is_actor, nothing_learned, learned_behind}
 use Rattle.zq_script.specs.Words.{Words, lines_of, words_of, is_skipped}
 use Rattle.spec_run.specs.Script.{Script}
-use Rattle.run_script.specs.RunGrammar.{ending_verb, socket_at, close_line, term_line, ending_line, run_statement, run_statement_by, statement_of, actor_script, script_of}
 use Rattle.zq_world.specs.MayAsk.{MayMake, IsLocal, MayAskLine, MayAskLines, MayAskScript}
 use Rattle.replay_laws.proofs.ReadStepLemmas.{Holds, ok_holds, err_holds, held, if_then, any_then, by_test, IsSo, so_by_test}
 use Rattle.replay_laws.proofs.ValueLemmas.{local_at_last, given_may}

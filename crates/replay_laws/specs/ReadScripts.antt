@@ -1,7 +1,7 @@
 -- Scripts that are read (own choice).
 use Rattle.std.specs.Prelude.{◌≡◌, ℕ, List, Ok}
 use Rattle.spec_run.specs.Script.{Script}
-use Rattle.run_script.specs.RunGrammar.{script_of}
+use Rattle.zq_script.specs.Script.{script_of}
 use Rattle.zq_world.specs.MayAsk.{MayAskScript}
 
 -- each line of a script that is read may be asked

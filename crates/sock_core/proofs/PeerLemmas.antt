@@ -8,7 +8,8 @@ use Rattle.zq_base.specs.declared.attached.Attached.TheVariants.{Yes, BadId, Sec
 use Rattle.end_table.specs.declared.table.Place.{Place}
 use Rattle.end_table.specs.Places.{place_at}
 use Rattle.end_table.proofs.SoundLemmas.{one_some}
-use Rattle.sock_core.specs.Peers.{AddsPeer, AreElse, Parts, StaysPeer, ArePeers, peer_of, peer_at, is_taken}
+use Rattle.pub_sub.specs.Places.{AreOthers}
+use Rattle.sock_core.specs.Peers.{AddsPeer, Parts, StaysPeer, ArePeers, peer_of, peer_at, is_taken}
 
 -- what holds of each of these holds of those among them
 pub all_of : {X : Type 0} (P : X → Type 0) (was now : List X) → All (Contains was) now → All P was → All P now
@@ -65,7 +66,7 @@ module _ {N I : Type 0} where
     kept_same k p q now at same from = kept (set ps k q) now from (λ j h. peer_same ps k j p q at same ∙ h)
 
     -- one at this place is none any more
-    kept_gone : (k : ℕ) (q : Place N I) (now : List ℕ) → All (Contains was) now → AreElse k now → ArePeers (set ps k q) now
+    kept_gone : (k : ℕ) (q : Place N I) (now : List ℕ) → All (Contains was) now → AreOthers k now → ArePeers (set ps k q) now
     kept_gone k q now from gone = λ j d lt.
         let other : slice_index_or now j d ≢ k = (λ same. true≢false (sym (eq-eqb k (slice_index_or now j d) (sym same)) ∙ gone j d lt)) in
         peer_else ps k (slice_index_or now j d) q other ∙ all_of (λ n. peer_at ps n ≡ true) was now from all j d lt
@@ -74,7 +75,7 @@ module _ {N I : Type 0} where
     below = λ k d lt. peer_within ps (slice_index_or was k d) (all k d lt)
 
     -- a place that is no peer's is none of them
-    pub none_at : (k : ℕ) → peer_at ps k ≡ false → AreElse k was
+    pub none_at : (k : ℕ) → peer_at ps k ≡ false → AreOthers k was
     none_at k off = λ j d lt. by (slice_index_or was j d) (nat_eq k (slice_index_or was j d)) refl (all j d lt)
       where
         by : (n : ℕ) (b : Bool) → nat_eq k n ≡ b → peer_at ps n ≡ true → b ≡ false

@@ -17,7 +17,8 @@ use Rattle.end_table.specs.Places.{place_at}
 use Rattle.end_table.proofs.SoundLemmas.{one_some}
 use Rattle.end_table.proofs.PlaceLemmas.{place_there, place_else}
 use Rattle.sock_core.specs.declared.joint.JoinNote.{JoinNote}
-use Rattle.sock_core.specs.Peers.{AreElse, is_taken}
+use Rattle.pub_sub.specs.Places.{AreOthers}
+use Rattle.sock_core.specs.Peers.{is_taken}
 use Rattle.sock_core.specs.Patterns.{IsAlike, CameBy, CanJoin, UndoesAs, AnswersAs, AttachesAs, NamesWhere}
 use Rattle.sock_core.specs.Standing.{without_last}
 use Rattle.sock_core.specs.Way.{Way, outs_of, without_first, with_came, with_undone, then_noted, way_from, oldest_first, CanJoinAll, IsNaming, StandsAs, AllStand, CameAs, HaveCome, KindWay}
@@ -168,7 +169,7 @@ module _ {N C : Type 0} (pattern : (ℕ → End) → C → Pattern) (names : C �
       (come.1.answered ends (subst (λ (p : Pattern). CanJoin x.0.peer p) (sym same) c.1) ∙ ap (λ (p : Pattern). attach_answer x.0.peer p) same)
 
   -- what an attach says
-  pub came_as : (old new : C) (j : Joining N) (place : ℕ) → sound old → NamesWhere pattern names old → AreElse place (peers old) → (j.answer ≡ Yes → names old j.peer)
+  pub came_as : (old new : C) (j : Joining N) (place : ℕ) → sound old → NamesWhere pattern names old → AreOthers place (peers old) → (j.answer ≡ Yes → names old j.peer)
       → AnswersAs pattern names j.peer old j.answer → AttachesAs pattern place j.peer j.answer old new → CameAs pattern names sound peers (j, place) old new
   came_as old new j place is_sound where_named no_peer named answers attaches = record {
     attached = attaches;

@@ -6,8 +6,7 @@ use Rattle.spec_pattern.specs.PipeStep.{same_pipe}
 use Rattle.spec_pattern.specs.TurnList.{End}
 use Rattle.spec_pattern.specs.Pattern.{Pattern, Router, attach_answer, attach_as, attach, detach}
 use Rattle.router_dealer.specs.Named.{IsIdentity, most_drawn}
-use Rattle.pub_sub.specs.Places.{is_place, AreApart}
-use Rattle.sock_core.specs.Peers.{AreElse}
+use Rattle.pub_sub.specs.Places.{is_place, AreApart, AreOthers}
 
 -- the end at a peer's place is of this pair, and no two peers have one end
 pub record IsPeersEnd (ends : ℕ → End) (pair : PairId) (place : ℕ) (peers : List ℕ) : Type 0 where
@@ -44,7 +43,7 @@ module _ {C : Type 0} (pattern : (ℕ → End) → C → Pattern) where
   -- an attach of the end at the place, which was no peer, led from the one state to the other, whatever it answered
   pub record CameBy (names : C → List ℕ → Type 0) (sound : C → Type 0) (peers : C → List ℕ) (place : ℕ) (before now : C) : Type 0 where
     pub is_sound : sound before
-    pub no_peer : AreElse place (peers before)
+    pub no_peer : AreOthers place (peers before)
     pub identity : List ℕ
     pub can_name : names before identity
     pub attached : (ends : ℕ → End) → pattern ends now ≡ attach (ends place) identity (pattern ends before)

@@ -4,7 +4,7 @@ use Rattle.zq_base.specs.declared.attached.Attached.{Attached}
 use Rattle.zq_base.specs.declared.attached.Attached.TheVariants.{Yes, BadId, Second}
 use Rattle.spec_control.specs.Place.{At}
 use Rattle.spec_run.specs.OpenSocket.{is_out, awaits_delimiter}
-use Rattle.pub_sub.specs.Places.{is_place}
+use Rattle.pub_sub.specs.Places.{is_place, AreOthers}
 use Rattle.any_sock.specs.Over.{HaveSamePlaces}
 use Rattle.end_table.specs.declared.table.Place.{Place}
 use Rattle.end_table.specs.Places.{place_at}
@@ -21,10 +21,6 @@ AddsPeer Yes place was now = HaveSamePlaces (was ++ place ∷ []) now
 AddsPeer BadId place was now = now ≡ was
 AddsPeer Second place was now = now ≡ was
 
--- no place of these is this one
-abbrev pub AreElse : ℕ → List ℕ → Type 0
-AreElse place ps = All (λ k. nat_eq place k ≡ false) ps
-
 -- each peer at another place stays
 abbrev pub OthersStay : ℕ → (was now : List ℕ) → Type 0
 OthersStay place was now = (k : ℕ) → nat_eq place k ≡ false → is_place was k ≡ true → is_place now k ≡ true
@@ -32,19 +28,19 @@ OthersStay place was now = (k : ℕ) → nat_eq place k ≡ false → is_place w
 -- no peer came, and the one at this place went
 pub record LosesPeer (place : ℕ) (was now : List ℕ) : Type 0 where
   pub none_new : All (Contains was) now
-  pub gone : AreElse place now
+  pub gone : AreOthers place now
   pub stay : OthersStay place was now
 
 -- no peer came, and if there was one at this place it went
 pub record Parts (is_peer : Bool) (place : ℕ) (was now : List ℕ) : Type 0 where
   pub none_new : All (Contains was) now
-  pub gone : is_peer ≡ true → AreElse place now
+  pub gone : is_peer ≡ true → AreOthers place now
   pub stay : OthersStay place was now
 
 -- or it went if it is none then; none comes
 pub record StaysPeer (is_peer stays : Bool) (place : ℕ) (was now : List ℕ) : Type 0 where
   pub none_new : All (Contains was) now
-  pub gone : is_peer ≡ true → stays ≡ false → AreElse place now
+  pub gone : is_peer ≡ true → stays ≡ false → AreOthers place now
   pub none_back : stays ≡ true → is_peer ≡ true
   pub stay : OthersStay place was now
   pub stays_too : stays ≡ true → is_place was place ≡ true → is_place now place ≡ true

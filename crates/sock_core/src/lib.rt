@@ -9,7 +9,6 @@ mod holder;
 mod joins;
 mod joint;
 mod looks;
-mod mails;
 mod over;
 mod since;
 mod sock;
@@ -20,8 +19,7 @@ pub use cores::{pump_core, recv_core, send_core, subscribe_core, unsubscribe_cor
 pub use holder::SockHolder;
 pub use joins::Joins;
 pub use joint::{JoinNote, Joint};
-pub use looks::{look, look_in};
-pub use mails::{pump, recv, send, subscribe, unsubscribe};
+pub use looks::look_in;
 pub use since::{Since, Undoable, Undoing};
 pub use sock::{Room, SockCore};
 pub use turns::{note, note_seal};

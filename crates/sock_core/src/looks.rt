@@ -2,26 +2,11 @@ ghost use Rattle.std.specs.Prelude.{◌≡◌, true};
 ghost use Rattle.end_table.specs.Places.{writes_in};
 ghost use Rattle.end_table.specs.Sound.{IsSound};
 ghost use Rattle.end_table.specs.Others.{Leaves};
-ghost use Rattle.sock_core.specs.Holding.{LooksHere, KeepsButEnds};
+ghost use Rattle.sock_core.specs.Holding.{LooksHere};
 
-use crate::holder::SockHolder;
-use crate::joins::Joins;
-use end_table::{EndTable, HeldPipes, find};
+use end_table::{EndTable, find};
 use msg_pipe::{Front, Pipes};
 use zq_base::EndId;
-
-/// Looks at the front of the pipe that an end reads, and takes nothing. An end that finds the
-/// delimiter has met it.
-pub fn look<P: HeldPipes, C: Joins>(holder: &mut SockHolder<P, C>, end: EndId) -> Front
-    requires writes { writes_in holder.old.core.ends.places.items end ≡ true }
-    ensures looked { LooksHere P.known end result holder.old.pipes holder.old.core.ends
-        holder.new.pipes holder.new.core.ends }
-    ensures keeps { KeepsButEnds holder.old.core holder.new.core }
-    ensures others { Leaves P.known holder.old.pipes holder.old.core.ends
-        holder.new.pipes holder.new.core.ends }
-{
-    look_in(&mut holder.core.ends, &mut holder.pipes, end)
-}
 
 /// Looks at the front of the pipe that an end of these reads, and takes nothing, over pipes that
 /// stand beside them. An end that finds the delimiter has met it.

@@ -6,7 +6,8 @@ use Rattle.clap.specs.Words.{Row, first_of, subcommand_of}
 use Rattle.zq_base.specs.declared.kind.Kind.{Kind}
 use Rattle.zq_base.specs.declared.options.Login.{Login}
 use Rattle.spec_zmtp.specs.Metadata.{IsLogin}
-use Rattle.zq_call.specs.Words.{are_in_order, program, login_of, hear_of, run_of, request_of, is_short, kind_of_name}
+use Rattle.spec_zmtp.specs.PeerMetadata.{kind_named}
+use Rattle.zq_call.specs.Words.{are_in_order, program, login_of, hear_of, run_of, request_of, is_short}
 use Rattle.zq_call.specs.Number.{number_or}
 use Rattle.zq_call.specs.declared.request.Request.{Request}
 use Rattle.zq_call.specs.declared.request.Request.TheVariants as request
@@ -57,7 +58,7 @@ found_short : (name : List ℕ) (rows : List Row) (runs hears : Bool) (kind : Ki
     → (if runs then run_of rows else (if hears then hear_of rows else None)) ≡ Some (request.Hear kind login) → IfSome login IsLogin
 found_short name rows true hears kind login is = absurd (run_no_hear (number_or 0 0 0 (first_of (codes "threads") rows)) (number_or 0 0 9223372036854775807 (first_of (codes "seed") rows))
     (number_or 100000 1 1000000000 (first_of (codes "turns") rows)) kind login is)
-found_short name rows false true kind login is = hear_short (option_and_then kind_of_name (first_of (codes "kind") rows)) (first_of (codes "user") rows) (first_of (codes "pass") rows) kind login is
+found_short name rows false true kind login is = hear_short (option_and_then kind_named (first_of (codes "kind") rows)) (first_of (codes "user") rows) (first_of (codes "pass") rows) kind login is
 found_short name rows false false kind login is = absurd (not_some (request.Hear kind login) is)
 
 request_short : (found : Option (List ℕ × List Row)) (kind : Kind) (login : Option Login) → option_and_then request_of found ≡ Some (request.Hear kind login) → IfSome login IsLogin

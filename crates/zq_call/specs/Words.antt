@@ -3,10 +3,8 @@ use Rattle.std.specs.Prelude.{◌&&◌, ◌==◌, Bool, not, List, [], ◌∷◌
 use Rattle.std.specs.List.{list_any}
 use Rattle.std.specs.Str.{bytes_eq}
 use Rattle.clap.specs.Words.{App, Row, Rule, Text, fault_of, first_of, new_app, new_rule, subcommand_of, with_rule, with_subcommand}
-use Rattle.zq_base.specs.Kind.{kind_name}
-use Rattle.zq_base.specs.declared.kind.Kind.{Kind}
-use Rattle.zq_base.specs.declared.kind.Kind.TheVariants.{Push, Pull, Pair, Dealer, Req, Rep, Router, Pub, XPub, Sub, XSub}
 use Rattle.zq_base.specs.declared.options.Login.{Login}
+use Rattle.spec_zmtp.specs.PeerMetadata.{kind_named}
 use Rattle.zq_call.specs.Number.{number_or}
 use Rattle.zq_call.specs.declared.request.Request.{Request}
 use Rattle.zq_call.specs.declared.request.Request.TheVariants.{Run, Hear}
@@ -53,13 +51,6 @@ run_of rows =
     (number_or 0 0 9223372036854775807 (first_of (codes "seed") rows)))
     (number_or 0 0 0 (first_of (codes "threads") rows))
 
-abbrev pub all_kinds : List Kind
-all_kinds = Push ∷ Pull ∷ Pair ∷ Dealer ∷ Req ∷ Rep ∷ Router ∷ Pub ∷ XPub ∷ Sub ∷ XSub ∷ []
-
--- the kind of this name
-abbrev pub kind_of_name : Text → Option Kind
-kind_of_name name = find (λ kind. bytes_eq (kind_name kind) name) all_kinds
-
 -- a user or a password: at most 255 octets
 abbrev pub is_short : Text → Bool
 is_short text = nat_le (length text) 255
@@ -78,7 +69,7 @@ hear_of rows =
     option_and_then (λ kind.
     option_map (λ login. Hear kind login)
     (login_of (first_of (codes "user") rows) (first_of (codes "pass") rows)))
-    (option_and_then kind_of_name (first_of (codes "kind") rows))
+    (option_and_then kind_named (first_of (codes "kind") rows))
 
 -- what a command asks for, by its name and what was found behind it
 abbrev pub request_of : Text × List Row → Option Request

@@ -2,7 +2,8 @@ ghost use Rattle.std.specs.Prelude.{◌≡◌, IfOk, IsErrOf, None, Some, map, o
 ghost use Rattle.std.specs.List.{list_any};
 ghost use Rattle.clap.specs.Words.{found_of, rows_of, subcommand_rows_of};
 ghost use Rattle.zq_call.specs.Answers.{Answers};
-ghost use Rattle.zq_call.specs.Words.{asked, has_lone_dash, hear_of, is_dash, is_short, kind_of_name, login_of, request_of, run_of};
+ghost use Rattle.spec_zmtp.specs.PeerMetadata.{kind_named};
+ghost use Rattle.zq_call.specs.Words.{asked, has_lone_dash, hear_of, is_dash, is_short, login_of, request_of, run_of};
 
 use crate::command::{parse, value_of};
 use crate::number::number_or;
@@ -96,7 +97,7 @@ fn read_hear(alloc: Global, found: &ArgMatches<'_>) -> Result<Request, WordsErro
 }
 
 fn kind_of_name(name: &str) -> Option<Kind>
-    ensures { result ≡ kind_of_name name.now }
+    ensures { result ≡ kind_named name.now }
 {
     Kind::read(name.as_bytes())
 }

@@ -6,13 +6,16 @@ ghost use Rattle.zq_tests_core.specs.Ends.{the_end, HasOne};
 use any_sock::AnySock;
 use desk::{Halves, Holder, Made};
 use msg_pipe::{Pipes, PlainIn, PlainOut, PlainPipes};
-use sock_core::SockHolder;
+use sock_core::{SockCore, SockHolder};
 use std::alloc::Global;
 use std::test::Fail;
 use zq_base::{EndId, Kind, ObjId, Octets, Options, PairId, Role, Seq};
 
 /// A socket of any kind over plain pipes.
 pub type Socket = SockHolder<PlainPipes, AnySock>;
+
+/// The same without its pipes.
+pub type Core = SockCore<AnySock, (), usize, PlainOut, PlainIn>;
 
 /// Fails a test of which this doesn't hold.
 pub fn check(holds: bool) -> Result<(), Fail> {

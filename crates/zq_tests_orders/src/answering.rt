@@ -5,10 +5,11 @@ ghost use Rattle.zq_world.specs.Stepping.{ActorAgrees};
 use msg_pipe::{Pipes, PlainPipes};
 use plain_core::OneCore;
 use replay_laws::scripts_that_are_read_may_be_asked;
-use run_script::{RunActor, read_run_script};
 use std::alloc::{AllocError, Global};
 use zq_base::{Octets, Seq};
-use zq_journal::{ActorLines, RunJournal, print};
+use zq_journal::{ActorLines, Journal, print};
+use spec_run::ActorScript;
+use zq_script::read_script;
 use zq_world::{Actor, Sockets};
 
 // More steps than an actor of a test takes.
@@ -34,7 +35,7 @@ fn play<P: Pipes, W: Sockets<P>>(
 fn lines_of<P: Pipes, W: Sockets<P>>(
     alloc: Global,
     way: &mut W,
-    script: &RunActor,
+    script: &ActorScript,
 ) -> Result<ActorLines, AllocError>
     requires { MayAskLines script.now.lines }
 {
@@ -49,7 +50,7 @@ fn lines_of<P: Pipes, W: Sockets<P>>(
 fn text_of(alloc: Global, lines: ActorLines) -> Result<Octets, AllocError> {
     let mut actors = Vec::new(alloc);
     actors.push(lines)?;
-    let journal = RunJournal {
+    let journal = Journal {
         actors: Seq::of_vec(actors),
         ended: Seq::new(alloc),
         pipes: Seq::new(alloc),
@@ -73,7 +74,7 @@ fn is_text(alloc: Global, lines: ActorLines, text: &[u8]) -> bool {
 fn says<P: Pipes, W: Sockets<P>>(
     alloc: Global,
     way: &mut W,
-    script: &[RunActor],
+    script: &[ActorScript],
     text: &[u8],
 ) -> bool
     requires { MayAskScript script.now }
@@ -95,7 +96,7 @@ fn is_answered<P: Pipes, W: Sockets<P>>(
     text: &[u8],
 ) -> bool {
     scripts_that_are_read_may_be_asked();
-    match read_run_script(alloc, octets) {
+    match read_script(alloc, octets) {
         Ok(script) => {
             let said = says(alloc, way, script.as_slice(), text);
             drop(script);

@@ -4,11 +4,12 @@ ghost use Rattle.zq_world.specs.MayAsk.{MayAskScript};
 use msg_pipe::PlainPipes;
 use plain_core::OneCore;
 use replay_laws::scripts_that_are_read_may_be_asked;
-use run_script::{RunActor, read_run_script};
 use std::alloc::{AllocError, Global};
 use std::test::Fail;
 use zq_base::Octets;
-use zq_journal::{RunJournal, print};
+use zq_journal::{Journal, print};
+use spec_run::ActorScript;
+use zq_script::read_script;
 use zq_outer::TickClock;
 use zq_world::{Event, play_script};
 
@@ -18,9 +19,9 @@ const TURNS: u32 = 30;
 /// The journal of these events in a context of its own, whose callers are woken by nothing.
 pub(crate) fn journal_by(
     alloc: Global,
-    script: &[RunActor],
+    script: &[ActorScript],
     events: &[Event],
-) -> Result<RunJournal, AllocError>
+) -> Result<Journal, AllocError>
     requires may { MayAskScript script.now }
 {
     let core = OneCore::new(alloc, PlainPipes::new(alloc), (), ())?;
@@ -28,7 +29,7 @@ pub(crate) fn journal_by(
 }
 
 // The journal of a run in turns, each in the script's order.
-fn journal_in_turns(alloc: Global, script: &[RunActor]) -> Result<RunJournal, AllocError>
+fn journal_in_turns(alloc: Global, script: &[ActorScript]) -> Result<Journal, AllocError>
     requires may { MayAskScript script.now }
 {
     let mut core = OneCore::new(alloc, PlainPipes::new(alloc), (), ())?;
@@ -39,7 +40,7 @@ fn journal_in_turns(alloc: Global, script: &[RunActor]) -> Result<RunJournal, Al
 }
 
 // Whether a journal has this text.
-fn is_text(alloc: Global, journal: RunJournal, text: &[u8]) -> bool {
+fn is_text(alloc: Global, journal: Journal, text: &[u8]) -> bool {
     let printed = print(alloc, &journal);
     drop(journal);
     match printed {
@@ -49,7 +50,7 @@ fn is_text(alloc: Global, journal: RunJournal, text: &[u8]) -> bool {
 }
 
 // Whether there is a journal, and it has this text.
-fn has_text(alloc: Global, journal: Result<RunJournal, AllocError>, text: &[u8]) -> bool {
+fn has_text(alloc: Global, journal: Result<Journal, AllocError>, text: &[u8]) -> bool {
     match journal {
         Ok(journal) => return is_text(alloc, journal, text),
         Err(_) => return false,
@@ -59,7 +60,7 @@ fn has_text(alloc: Global, journal: Result<RunJournal, AllocError>, text: &[u8])
 // Whether the journal of these events of the script that these octets are has this text.
 fn tells(alloc: Global, octets: &[u8], events: &[Event], text: &[u8]) -> bool {
     scripts_that_are_read_may_be_asked();
-    match read_run_script(alloc, octets) {
+    match read_script(alloc, octets) {
         Ok(script) => {
             let journal = journal_by(alloc, script.as_slice(), events);
             drop(script);
@@ -72,7 +73,7 @@ fn tells(alloc: Global, octets: &[u8], events: &[Event], text: &[u8]) -> bool {
 // Whether that of its run in turns has.
 fn tells_in_turns(alloc: Global, octets: &[u8], text: &[u8]) -> bool {
     scripts_that_are_read_may_be_asked();
-    match read_run_script(alloc, octets) {
+    match read_script(alloc, octets) {
         Ok(script) => {
             let journal = journal_in_turns(alloc, script.as_slice());
             drop(script);

@@ -5,7 +5,8 @@ ghost use Rattle.zq_world.specs.MayAsk.{MayAskScript};
 use crate::arrangements::next_arrangement;
 use crate::by_events::journal_by;
 use replay_laws::scripts_that_are_read_may_be_asked;
-use run_script::{RunActor, read_run_script};
+use spec_run::ActorScript;
+use zq_script::read_script;
 use std::alloc::{AllocError, Global};
 use std::test::Fail;
 use zq_base::Octets;
@@ -48,7 +49,7 @@ fn add_events(events: &mut Vec<Event>, order: &[usize]) -> Result<(), AllocError
 }
 
 // Whether the journal behind them says that all is done.
-fn is_done(alloc: Global, script: &[RunActor], events: &[Event]) -> Result<bool, AllocError>
+fn is_done(alloc: Global, script: &[ActorScript], events: &[Event]) -> Result<bool, AllocError>
     requires may { MayAskScript script.now }
 {
     let journal = journal_by(alloc, script, events)?;
@@ -60,7 +61,7 @@ fn is_done(alloc: Global, script: &[RunActor], events: &[Event]) -> Result<bool,
 // Whether it does behind each arrangement of the events from a place on, of which there are so many.
 fn arrangements_are_done(
     alloc: Global,
-    script: &[RunActor],
+    script: &[ActorScript],
     order: &mut [usize],
     from: usize,
     many: usize,
@@ -89,7 +90,7 @@ fn each_order_is_done(
     many: usize,
 ) -> bool {
     scripts_that_are_read_may_be_asked();
-    match read_run_script(alloc, octets) {
+    match read_script(alloc, octets) {
         Ok(script) => {
             let done = arrangements_are_done(alloc, script.as_slice(), order, from, many);
             drop(script);

@@ -7,14 +7,15 @@ use crate::drive::ends;
 use msg_pipe::PlainPipes;
 use plain_core::OneCore;
 use replay_laws::scripts_that_are_read_may_be_asked;
-use run_script::{RunActor, read_run_script};
+use spec_run::ActorScript;
+use zq_script::read_script;
 use std::alloc::{AllocError, Global};
 
 // How many steps fewer are drawn than this before the root is asked.
 const FEW: u64 = 80;
 
 // Whether all ends in a context of its own, whose callers are woken by nothing.
-fn order_ends(alloc: Global, script: &[RunActor], order: &[usize]) -> Result<bool, AllocError>
+fn order_ends(alloc: Global, script: &[ActorScript], order: &[usize]) -> Result<bool, AllocError>
     requires may { MayAskScript script.now }
 {
     let mut core = OneCore::new(alloc, PlainPipes::new(alloc), (), ())?;
@@ -26,7 +27,7 @@ fn order_ends(alloc: Global, script: &[RunActor], order: &[usize]) -> Result<boo
 // Whether all ends in each arrangement of the steps from a place on, of which there are so many.
 fn arrangements_end(
     alloc: Global,
-    script: &[RunActor],
+    script: &[ActorScript],
     order: &mut [usize],
     from: usize,
     many: usize,
@@ -45,7 +46,7 @@ fn arrangements_end(
 
 // Whether all ends in an order that is drawn by a seed, where so many steps are taken before the root
 // is asked.
-fn draw_ends(alloc: Global, script: &[RunActor], seed: u64, count: u64) -> Result<bool, AllocError>
+fn draw_ends(alloc: Global, script: &[ActorScript], seed: u64, count: u64) -> Result<bool, AllocError>
     requires may { MayAskScript script.now }
 {
     let order = drawn_order(alloc, seed, script.len().saturating_add(1), count)?;
@@ -55,7 +56,7 @@ fn draw_ends(alloc: Global, script: &[RunActor], seed: u64, count: u64) -> Resul
 }
 
 // Whether all ends in an order of each seed from 1 on, so many.
-fn draws_end(alloc: Global, script: &[RunActor], seeds: u64) -> Result<bool, AllocError>
+fn draws_end(alloc: Global, script: &[ActorScript], seeds: u64) -> Result<bool, AllocError>
     requires may { MayAskScript script.now }
 {
     'seeds: for before in 0..seeds {
@@ -84,7 +85,7 @@ pub fn each_order_ends(
     many: usize,
 ) -> bool {
     scripts_that_are_read_may_be_asked();
-    match read_run_script(alloc, octets) {
+    match read_script(alloc, octets) {
         Ok(script) => {
             let ended = arrangements_end(alloc, script.as_slice(), order, from, many);
             drop(script);
@@ -98,7 +99,7 @@ pub fn each_order_ends(
 /// more is taken before the root is asked, below 80, and then none again.
 pub fn drawn_orders_end(alloc: Global, octets: &[u8], seeds: u64) -> bool {
     scripts_that_are_read_may_be_asked();
-    match read_run_script(alloc, octets) {
+    match read_script(alloc, octets) {
         Ok(script) => {
             let ended = draws_end(alloc, script.as_slice(), seeds);
             drop(script);

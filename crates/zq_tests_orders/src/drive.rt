@@ -7,7 +7,7 @@ ghost use Rattle.zq_world.specs.Turning.{ActorsAgree};
 
 use crate::shown::shows_the_end;
 use msg_pipe::Pipes;
-use spec_run::RunActor;
+use spec_run::ActorScript;
 use std::alloc::{AllocError, Global};
 use zq_outer::TickClock;
 use zq_world::{Actor, Core, run};
@@ -73,7 +73,7 @@ fn goes<P: Pipes, W: Core<P>>(
 // The actors of a script, before their first lines.
 fn actors_of<'a, O: Drop>(
     alloc: Global,
-    script: &'a [RunActor],
+    script: &'a [ActorScript],
 ) -> Result<Vec<Actor<'a, O>>, AllocError>
     ensures { IfOk result (λ actors. AreNew script.now actors.items) }
 {
@@ -88,7 +88,7 @@ fn actors_of<'a, O: Drop>(
 fn has_ended<P: Pipes, W: Core<P>>(
     alloc: Global,
     way: &mut W,
-    script: &[RunActor],
+    script: &[ActorScript],
     order: &[usize],
 ) -> Result<bool, AllocError>
     requires new { W.pieces way.old ≡ [] }
@@ -105,7 +105,7 @@ fn has_ended<P: Pipes, W: Core<P>>(
 pub fn ends<P: Pipes, W: Core<P>>(
     alloc: Global,
     way: &mut W,
-    script: &[RunActor],
+    script: &[ActorScript],
     order: &[usize],
 ) -> Result<bool, AllocError>
     requires new { W.pieces way.old ≡ [] }

@@ -4,8 +4,6 @@
 #[cfg(test)]
 mod any_sock_tests;
 #[cfg(test)]
-mod attached_ends;
-#[cfg(test)]
 mod calls;
 #[cfg(test)]
 mod dist_tests;

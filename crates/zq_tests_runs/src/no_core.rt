@@ -2,7 +2,7 @@
 use msg_pipe::PlainPipes;
 use spec_control::ObjState;
 use spec_pattern::Skip;
-use spec_run::{LineAnswer, LineCall};
+use spec_run::{Answer, Call};
 use std::alloc::{AllocError, AllocFailed, Global};
 use zq_base::{Kind, Options};
 use zq_world::{Core, Made, Shown, Sockets};
@@ -44,9 +44,9 @@ impl Sockets<PlainPipes> for NoCore {
         _: Global,
         _: usize,
         _: &mut NoSocket,
-        _: &LineCall,
+        _: &Call,
         _: &mut Vec<Skip>,
-    ) -> Result<LineAnswer, AllocError> {
+    ) -> Result<Answer, AllocError> {
         Err(AllocError)
     }
 
@@ -59,7 +59,7 @@ impl Sockets<PlainPipes> for NoCore {
         Err(AllocFailed { value: socket })
     }
 
-    fn term(&mut self, _: Global, _: usize) -> Result<LineAnswer, AllocError> {
+    fn term(&mut self, _: Global, _: usize) -> Result<Answer, AllocError> {
         Err(AllocError)
     }
 }

@@ -1,7 +1,7 @@
-use run_script::{Cause, LineCall, ReadScript, RunActor, RunLine, ScriptFault, read_run_script};
 use std::alloc::Global;
 use zq_base::{Endpoint, Kind, Seq};
-use zq_script::Call;
+use zq_script::{Cause, ReadScript, ScriptFault, read_script};
+use spec_run::{ActorScript, Call, Line};
 
 // Whether an inproc endpoint has this name.
 fn is_named(at: &Endpoint, wanted: &[u8]) -> bool {
@@ -12,21 +12,21 @@ fn is_named(at: &Endpoint, wanted: &[u8]) -> bool {
 }
 
 // Whether a line asks what it should.
-fn asks(line: &RunLine) -> bool {
+fn asks(line: &Line) -> bool {
     match (line.number, &line.call) {
-        (2, LineCall::Asks(Call::Socket(Kind::Pull, _))) => true,
-        (3, LineCall::Unbinds(0, at)) => is_named(at, b"q"),
-        (4, LineCall::Disconnects(0, at)) => is_named(at, b"r"),
-        (5, LineCall::Closes(0)) => true,
-        (6, LineCall::Asks(Call::Socket(Kind::Push, _))) => true,
-        (7, LineCall::Closes(1)) => true,
-        (8, LineCall::Terms) => true,
+        (2, Call::Socket(Kind::Pull, _)) => true,
+        (3, Call::Unbind(0, at)) => is_named(at, b"q"),
+        (4, Call::Disconnect(0, at)) => is_named(at, b"r"),
+        (5, Call::Close(0)) => true,
+        (6, Call::Socket(Kind::Push, _)) => true,
+        (7, Call::Close(1)) => true,
+        (8, Call::Term) => true,
         (_, _) => false,
     }
 }
 
 // Whether there are seven lines, and each asks what it should.
-fn ask_all(lines: &[RunLine]) -> bool {
+fn ask_all(lines: &[Line]) -> bool {
     for line in lines {
         if !asks(line) {
             return false;
@@ -36,7 +36,7 @@ fn ask_all(lines: &[RunLine]) -> bool {
 }
 
 // Whether there is one actor, whose lines ask what they should.
-fn asks_to_end(script: &Seq<RunActor>) -> bool {
+fn asks_to_end(script: &Seq<ActorScript>) -> bool {
     match script.as_slice() {
         [actor] => ask_all(actor.lines.as_slice()),
         _ => false,
@@ -45,7 +45,7 @@ fn asks_to_end(script: &Seq<RunActor>) -> bool {
 
 // Whether the text is read so.
 fn is_read(alloc: Global, text: &[u8]) -> bool {
-    match read_run_script(alloc, text) {
+    match read_script(alloc, text) {
         Ok(script) => {
             let ends = asks_to_end(&script);
             drop(script);
@@ -64,7 +64,7 @@ fn lines_that_end_are_read(rt: HostRuntime) {
 
 // Whether the first fault of the text is this one.
 fn has_fault(alloc: Global, text: &[u8], line: u32, cause: Cause) -> bool {
-    match read_run_script(alloc, text) {
+    match read_script(alloc, text) {
         Ok(script) => {
             drop(script);
             return false;

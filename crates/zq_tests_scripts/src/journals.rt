@@ -2,9 +2,7 @@ use spec_control::Reason;
 use spec_pattern::{PipeId, RecvRefusal, Report, Rule, SendRefusal, Skip};
 use std::alloc::{AllocError, Global};
 use zq_base::{Frame, Message, ObjId, Octets, PairId, Seq};
-use zq_journal::{
-    ActorLines, Answer, LineAnswer, LineEntry, PipeRow, RunJournal, SettledRow, print,
-};
+use zq_journal::{ActorLines, Answer, Entry, Journal, PipeRow, SettledRow, print};
 
 /// The list of these.
 pub fn listed<T: Copy>(alloc: Global, items: &[T]) -> Result<Seq<T>, AllocError> {
@@ -12,7 +10,7 @@ pub fn listed<T: Copy>(alloc: Global, items: &[T]) -> Result<Seq<T>, AllocError>
 }
 
 /// Whether a journal has this text.
-pub fn is_printed(alloc: Global, journal: RunJournal, text: &[u8]) -> bool {
+pub fn is_printed(alloc: Global, journal: Journal, text: &[u8]) -> bool {
     let printed = print(alloc, &journal);
     drop(journal);
     match printed {
@@ -26,7 +24,7 @@ pub fn is_printed(alloc: Global, journal: RunJournal, text: &[u8]) -> bool {
 }
 
 // An actor of this name, with these entries.
-fn actor(alloc: Global, name: &[u8], entries: Seq<LineEntry>) -> Result<ActorLines, AllocError> {
+fn actor(alloc: Global, name: &[u8], entries: Seq<Entry>) -> Result<ActorLines, AllocError> {
     match Octets::of_slice(alloc, name) {
         Ok(name) => return Ok(ActorLines { name, entries }),
         Err(error) => {
@@ -37,9 +35,9 @@ fn actor(alloc: Global, name: &[u8], entries: Seq<LineEntry>) -> Result<ActorLin
 }
 
 // The journal of one actor.
-fn journal(alloc: Global, actor: ActorLines) -> Result<RunJournal, AllocError> {
+fn journal(alloc: Global, actor: ActorLines) -> Result<Journal, AllocError> {
     let actors = Vec::from_array(alloc, [actor])?;
-    Ok(RunJournal {
+    Ok(Journal {
         actors: Seq::of_vec(actors),
         ended: Seq::new(alloc),
         pipes: Seq::new(alloc),
@@ -49,14 +47,14 @@ fn journal(alloc: Global, actor: ActorLines) -> Result<RunJournal, AllocError> {
 }
 
 // The journal of an actor that was answered once.
-fn journal_of(alloc: Global, name: &[u8], entry: LineEntry) -> Result<RunJournal, AllocError> {
+fn journal_of(alloc: Global, name: &[u8], entry: Entry) -> Result<Journal, AllocError> {
     let entries = Vec::from_array(alloc, [entry])?;
     let actor = actor(alloc, name, Seq::of_vec(entries))?;
     journal(alloc, actor)
 }
 
 // Whether it has this text.
-fn is_told_of(alloc: Global, name: &[u8], entry: LineEntry, text: &[u8]) -> bool {
+fn is_told_of(alloc: Global, name: &[u8], entry: Entry, text: &[u8]) -> bool {
     match journal_of(alloc, name, entry) {
         Ok(journal) => return is_printed(alloc, journal, text),
         Err(_) => return false,
@@ -68,13 +66,13 @@ pub fn is_told(
     alloc: Global,
     name: &[u8],
     line: u32,
-    answer: LineAnswer,
+    answer: Answer,
     skips: &[Skip],
     text: &[u8],
 ) -> bool {
     match listed(alloc, skips) {
         Ok(skips) => {
-            let entry = LineEntry {
+            let entry = Entry {
                 line,
                 answer,
                 skips,
@@ -90,7 +88,7 @@ pub fn is_told(
 
 // Whether an answer to line 4 of the actor `a` is told so.
 fn is_told_of_a(alloc: Global, answer: Answer, text: &[u8]) -> bool {
-    is_told(alloc, b"a", 4, LineAnswer::Plain(answer), &[], text)
+    is_told(alloc, b"a", 4, answer, &[], text)
 }
 
 /// Answers without messages or lists.
@@ -179,7 +177,7 @@ const SKIPS: [Skip; 3] = [
 #[test]
 fn drops_are_told_behind_the_answer(rt: HostRuntime) {
     let text: &[u8] = b"a 7 busy !badenv@p1 !stray@p20 !filtered@p3\ndone\n";
-    let answer = LineAnswer::Plain(Answer::NotReceived(RecvRefusal::Busy));
+    let answer = Answer::NotReceived(RecvRefusal::Busy);
     assert!(rt; is_told(rt.alloc(), b"a", 7, answer, &SKIPS, text));
 }
 
@@ -256,7 +254,7 @@ fn message(alloc: Global, parts: &[&[u8]]) -> Option<Message> {
 fn message_is_told(alloc: Global, parts: &[&[u8]], text: &[u8]) -> bool {
     match message(alloc, parts) {
         Some(message) => {
-            let answer = LineAnswer::Plain(Answer::Got(PairId(2), message));
+            let answer = Answer::Got(PairId(2), message);
             return is_told(alloc, b"w1", 10, answer, &[], text);
         }
         None => return false,
@@ -310,7 +308,7 @@ const ROWS: [Option<SettledRow>; 2] = [
 pub fn rows_are_told(alloc: Global, rows: &[Option<SettledRow>], done: bool, text: &[u8]) -> bool {
     match listed(alloc, rows) {
         Ok(pipes) => {
-            let journal = RunJournal {
+            let journal = Journal {
                 actors: Seq::new(alloc),
                 ended: Seq::new(alloc),
                 pipes,

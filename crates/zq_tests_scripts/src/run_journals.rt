@@ -3,7 +3,7 @@ use spec_control::{ObjKind, Reason};
 use spec_pattern::{Rule, Skip};
 use std::alloc::Global;
 use zq_base::{EndId, Kind, ObjId, PairId, Seq};
-use zq_journal::{Answer, LineAnswer, ObjectLine, ObjectRow, PipeRow, RunJournal, SettledRow};
+use zq_journal::{Answer, Journal, ObjectLine, ObjectRow, PipeRow, SettledRow};
 
 /// A message that was dropped.
 const SKIP: Skip = Skip {
@@ -20,12 +20,12 @@ enum Ending {
     Term,
 }
 
-fn answer(ending: Ending) -> LineAnswer {
+fn answer(ending: Ending) -> Answer {
     match ending {
-        Ending::Done => LineAnswer::Plain(Answer::Done),
-        Ending::Both(object, pair) => LineAnswer::Both(ObjId(object), PairId(pair)),
-        Ending::NotBound => LineAnswer::NotBound,
-        Ending::Term => LineAnswer::Term,
+        Ending::Done => Answer::Done,
+        Ending::Both(object, pair) => Answer::Both(ObjId(object), PairId(pair)),
+        Ending::NotBound => Answer::NotBound,
+        Ending::Term => Answer::Term,
     }
 }
 
@@ -48,7 +48,7 @@ fn answers_of_sockets_that_end_have_their_texts(rt: HostRuntime) {
 fn ends_are_told(alloc: Global, ended: &[ObjectLine], text: &[u8]) -> bool {
     match listed(alloc, ended) {
         Ok(ended) => {
-            let journal = RunJournal {
+            let journal = Journal {
                 actors: Seq::new(alloc),
                 ended,
                 pipes: Seq::new(alloc),
@@ -177,7 +177,7 @@ fn each_reason_has_its_name(rt: HostRuntime) {
 fn objects_are_told(alloc: Global, objects: &[ObjectRow], text: &[u8]) -> bool {
     match listed(alloc, objects) {
         Ok(objects) => {
-            let journal = RunJournal {
+            let journal = Journal {
                 actors: Seq::new(alloc),
                 ended: Seq::new(alloc),
                 pipes: Seq::new(alloc),

@@ -1,6 +1,7 @@
 use std::alloc::{AllocError, Global};
 use zq_base::{Endpoint, Kind, Message, Options};
-use zq_script::{Call, Cause, Line, ReadScript, Script, ScriptFault, read_script};
+use zq_script::{Cause, ReadScript, ScriptFault, read_script};
+use spec_run::{Call, Line, Script};
 
 // Whether the first fault of the octets is this one, or none.
 fn has_fault(alloc: Global, octets: &[u8], wanted: Option<ScriptFault>) -> bool {

@@ -3,10 +3,9 @@ use Rattle.std.proofs.Common.{◌≡◌, ◌<◌, ◌≤◌, ◌+◌, ℕ, List,
 use Rattle.std.specs.Prelude.{Ok, Err, nat_lt}
 use Rattle.std.proofs.lemmas.Bool.{lt-ltb}
 use Rattle.zq_outer.specs.Count.{Rose}
-use Rattle.zq_script.specs.Script.{actors_read}
+use Rattle.zq_script.specs.Script.{actors_read, script_of}
 use Rattle.zq_script.specs.declared.fault.ScriptFault.{ScriptFault}
 use Rattle.spec_run.specs.Run.{Schedule}
-use Rattle.run_script.specs.RunGrammar.{script_of}
 use Rattle.spec_run.specs.declared.journal.Journal.{Journal}
 use Rattle.spec_run.specs.Script.{Script}
 use Rattle.replay_laws.specs.ReadScripts.{ScriptsMayBeAsked}

@@ -4,7 +4,7 @@ use Rattle.std.proofs.Common.{sym, ap, ◌∙◌, subst}
 use Rattle.zq_script.specs.declared.fault.ScriptFault.{ScriptFault}
 use Rattle.zq_outer.specs.Readings.{ClockAt}
 use Rattle.spec_run.specs.Run.{Schedule}
-use Rattle.run_script.specs.RunGrammar.{script_of}
+use Rattle.zq_script.specs.Script.{script_of}
 use Rattle.spec_run.specs.declared.journal.Journal.{Journal}
 use Rattle.spec_run.specs.Script.{Script}
 use Rattle.spec_run.specs.InTurns.{readings_of}

@@ -3,7 +3,7 @@ use Rattle.std.specs.Prelude.{◌≡◌, ◌≤◌, Bool, true, false, ℕ, List
 use Rattle.zq_script.specs.declared.fault.ScriptFault.{ScriptFault}
 use Rattle.zq_outer.specs.Readings.{ClockAt, ReadsClock}
 use Rattle.spec_run.specs.Run.{Schedule}
-use Rattle.run_script.specs.RunGrammar.{script_of}
+use Rattle.zq_script.specs.Script.{script_of}
 use Rattle.spec_run.specs.declared.journal.Journal.{Journal}
 use Rattle.spec_run.specs.Script.{Script}
 use Rattle.spec_run.specs.InTurns.{readings_of}

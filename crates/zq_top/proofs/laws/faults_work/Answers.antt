@@ -2,8 +2,7 @@ use Rattle.std.proofs.Common.{◌≡◌, ◌∙◌, ℕ, List, Result, Err, slic
 use Rattle.std.specs.Fmt.{digits}
 use Rattle.std.specs.Prelude.{codes}
 use Rattle.zq_script.specs.Grammar.{first_word, statement_of, verb_of}
-use Rattle.zq_script.specs.Script.{actors_read, at_line, line_statement, statements_from}
-use Rattle.run_script.specs.RunGrammar.{ending_verb, script_of, statement_of}
+use Rattle.zq_script.specs.Script.{actors_read, at_line, line_statement, statements_from, ending_verb, script_of, statement_of}
 use Rattle.spec_run.specs.Script.{Script}
 use Rattle.zq_script.specs.Words.{is_skipped, lines_of, without_empty_end, words_of}
 use Rattle.zq_script.specs.declared.fault.Cause.TheVariants.{BadWord}

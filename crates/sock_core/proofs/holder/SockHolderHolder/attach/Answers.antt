@@ -19,7 +19,8 @@ use Rattle.sock_core.specs.Standing.{joining_as, standing_joins}
 use Rattle.end_table.proofs.OthersLemmas.{leaves_on, leaves_unchanged}
 use Rattle.std.proofs.Math.Logic.{∥∥₁_map}
 use Rattle.sock_core.specs.Way.{way_in, IsCalm, KindWay}
-use Rattle.sock_core.specs.Peers.{AreFlagged, AreInUse, AreElse}
+use Rattle.pub_sub.specs.Places.{AreOthers}
+use Rattle.sock_core.specs.Peers.{AreFlagged, AreInUse}
 use Rattle.sock_core.specs.Patterns.{AttachesAs}
 use Rattle.sock_core.proofs.FlagLemmas.{flagged_more, in_use_more}
 use Rattle.sock_core.proofs.WayLemmas.{came_as, noted_came, way_kept, all_still}
@@ -81,7 +82,7 @@ invariant_of-self-in-Ok-attach g c =
           noted_came g.C.Joins.pattern g.C.Joins.names g.C.Joins.sound g.C.Joins.peers (way_in c.args.self.now.core.way.items) (way_in c.note_join.new.way.items) c.args.self.now.core.ends.places.items c.join.new.table.places.items (standing_joins t.joins.items) (standing_joins c.args.self.now.core.joins.items) (standing_joins c.note_join.new.joins.items) t.turns.items c.args.self.now.core.turns.items t.kind c.args.self.now.core.kind c.attach.new.self (joining_as c.joint_of-joint.result c.args.identity.now c.in-Ok-attach.answer) c.joint_of-joint.result.place (new_place c.in-Ok-prepare.row.value.end (g.P.Pipes.known.out_name c.in-Ok-prepare.row.value.out) (g.P.Pipes.known.in_name c.in-Ok-prepare.row.value.input) c.is_taken.result)
           c.note_join.ensures.way c.requires.calm.1.quiet more last (ap (λ (r : EndRow _ _). r.end) c.in-Ok-prepare.ensures.ok ∙ sym c.joint_of-joint.ensures.end) c.is_taken.ensures c.note_join.ensures.joins
           (came_as g.C.Joins.pattern g.C.Joins.names g.C.Joins.sound g.C.Joins.peers c.args.self.now.core.kind c.attach.new.self (joining_as c.joint_of-joint.result c.args.identity.now c.in-Ok-attach.answer) c.joint_of-joint.result.place c.is_sound.ensures.sound c.is_sound.ensures.names
-          (subst (λ (n : ℕ). AreElse n (g.C.Joins.peers c.args.self.now.core.kind)) (sym last) (none_at c.args.self.now.core.ends.places.items (g.C.Joins.peers c.args.self.now.core.kind) (c.args.self.now.peers is) (length c.args.self.now.core.ends.places.items) (peer_none c.args.self.now.core.ends.places.items)))
+          (subst (λ (n : ℕ). AreOthers n (g.C.Joins.peers c.args.self.now.core.kind)) (sym last) (none_at c.args.self.now.core.ends.places.items (g.C.Joins.peers c.args.self.now.core.kind) (c.args.self.now.peers is) (length c.args.self.now.core.ends.places.items) (peer_none c.args.self.now.core.ends.places.items)))
           c.in-Ok-attach.ensures.named c.in-Ok-attach.ensures.answers
           (subst (λ (n : ℕ). AttachesAs g.C.Joins.pattern n c.args.identity.now c.in-Ok-attach.answer c.args.self.now.core.kind c.attach.new.self) (sym c.joint_of-joint.ensures.place) c.in-Ok-attach.ensures.attaches))
           (k is));

@@ -6,7 +6,7 @@ use Rattle.plain_core.specs.Agreeing.{as_open, was_made, Agrees}
 use Rattle.plain_core.specs.Sound.{Core, core_of, pieces_in}
 use Rattle.plain_core.proofs.ClosingLemmas.{goes_shut}
 use Rattle.plain_core.proofs.GoingLemmas.{acts_left}
-use Rattle.plain_core.proofs.context.OneCore.close_by.Goals as goal
+use Rattle.plain_core.proofs.context.OneCore.close.Goals as goal
 
 pub invariant_of-self : goal.invariant_of-self
 invariant_of-self g c = (goes_shut g.row.P-Waker.Denot g.P.Pipes.known c.calls_go_on_so.ensures (core_of c.self.inside.lent.desk c.self.inside.lent.pipes c.self.inside.tale.items c.self.inside.wanted) c.self.inside.closed c.self.inside.drops.items c.self.invariant c.is_of_one_order.ensures c.args.caller c.close_lent.new.lent.pipes c.close_lent.new.lent.desk c.close_lent.new.tale.items c.is_of_one_order-in-Ok.ensures c.given_are_its.ensures c.given_are_its-in-Ok.ensures c.in-Ok.ensures.asked c.in-Ok.closed c.close_lent.new.lent.since.items c.args.socket (subst (λ (w : Core g.row.P.Denot (Given g.row.P-Name.Denot g.row.P-Out.Denot g.row.P-In.Denot) g.row.P-Name.Denot g.row.P-Story.Denot). Agrees g.row.P-Waker.Denot g.P.Pipes.known w c.args.caller c.args.socket) (sym c.self.view_is) c.requires.agrees) c.in-Ok.ensures.ok).sound

@@ -9,7 +9,7 @@ use Rattle.zq_world.specs.Taking.{control_told, FetchesLetter}
 use Rattle.plain_core.proofs.GoingLemmas.{acts_left}
 use Rattle.plain_core.proofs.LentLemmas.{lendable}
 use Rattle.plain_core.proofs.LetterLemmas.{fetch_done, lent_full}
-use Rattle.plain_core.proofs.context.OneCore.fetch_by.Goals as goal
+use Rattle.plain_core.proofs.context.OneCore.fetch.Goals as goal
 
 pub fetch_lent-requires-clause-waits : goal.fetch_lent-requires-clause-waits
 fetch_lent-requires-clause-waits g c =

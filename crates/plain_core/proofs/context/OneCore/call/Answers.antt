@@ -9,7 +9,7 @@ use Rattle.plain_core.specs.Agreeing.{as_open, was_made, Agrees}
 use Rattle.plain_core.specs.Sound.{Core, core_of, pieces_in}
 use Rattle.plain_core.proofs.GoingLemmas.{acts_left, line_done, line_left}
 use Rattle.plain_core.proofs.LentLemmas.{lendable}
-use Rattle.plain_core.proofs.context.OneCore.call_by.Goals as goal
+use Rattle.plain_core.proofs.context.OneCore.call.Goals as goal
 
 at_ok : {A E : Type 0} {r : Result A E} {a : A} (P : Type 0) → r ≡ Ok a → OnOk r P → P
 at_ok {A = A} {E = E} P is h = subst (λ (x : Result A E). OnOk x P) is h

@@ -7,7 +7,7 @@ use Rattle.zq_world.specs.CoreCalls.{IsReaper, ReapsOne}
 use Rattle.plain_core.specs.Agreeing.{was_made, Agrees}
 use Rattle.plain_core.specs.Sound.{Core, core_of, pieces_in}
 use Rattle.plain_core.proofs.ReapLemmas.{may_lend, reaped_left, room_left, wanting_left, IsLeftSo}
-use Rattle.plain_core.proofs.context.OneCore.reap_by.Goals as goal
+use Rattle.plain_core.proofs.context.OneCore.reap_one.Goals as goal
 
 pub invariant_of-self : goal.invariant_of-self
 invariant_of-self g c = (room_left g.row.P-Waker.Denot g.P.Pipes.known c.reaps_go_on_so.ensures (core_of c.self.inside.lent.desk c.self.inside.lent.pipes c.self.inside.tale.items c.self.inside.wanted) c.self.inside.closed c.make_room.new.closed c.self.inside.drops.items c.self.invariant c.make_room.ensures.kept c.make_room.ensures.indexed).sound
