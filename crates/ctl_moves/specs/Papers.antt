@@ -1,10 +1,11 @@
 -- What two sockets tell each other of themselves, and the capacities of the pipes between them (zmq_setsockopt(3): ZMQ_ROUTING_ID, ZMQ_SNDHWM, ZMQ_RCVHWM).
-use Rattle.std.specs.Prelude.{◌≡◌, ◌≤◌, ℕ}
+use Rattle.std.specs.Prelude.{◌≡◌, ℕ}
 use Rattle.zq_base.specs.declared.ids.EndId.{EndId}
 use Rattle.zq_base.specs.declared.ids.ObjId.{ObjId}
 use Rattle.spec_control.specs.Row.{Row}
 use Rattle.spec_control.specs.Rows.{obj}
 use Rattle.spec_control.specs.Control.{Control}
+use Rattle.desk.specs.Asking.{MayHave}
 use Rattle.desk.specs.Holding.{IsCapacity}
 use Rattle.desk.specs.Making.{capacity_between}
 use Rattle.ctl_state.specs.declared.state.State.{State}
@@ -15,11 +16,8 @@ use Rattle.ctl_moves.specs.declared.papers.Marks.{Marks}
 use Rattle.ctl_moves.specs.declared.papers.Papers.{Papers}
 
 -- the marks of a socket
-pub record HasMarks (o : Row) : Type 0 where
-  pub some_out : 1 ≤ o.options.hwm
-  pub few_out : o.options.hwm ≤ 10000
-  pub some_in : 1 ≤ o.options.rcvhwm
-  pub few_in : o.options.rcvhwm ≤ 10000
+abbrev pub HasMarks : Row → Type 0
+HasMarks o = MayHave o.options
 
 -- both owners have theirs
 pub record AreMarked {L : Type 0} (s : State L) (o : Owners) : Type 0 where

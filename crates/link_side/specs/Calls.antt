@@ -42,6 +42,13 @@ pub record ReadCounts (answer : Option LinkGot) (faults faults' stalls stalls' e
   pub stalled : RoseIf stalls stalls' (answer ≡ Some got.NotReady)
   pub ended : RoseIf ends ends' (answer ≡ Some got.Ended)
 
+-- the same, by what the link shows before and behind
+abbrev pub CountsWrite : {L : Type 0} → (faults stalls ends : L → ℕ) → Option LinkPut → (old new : L) → Type 0
+CountsWrite faults stalls ends answer old new = WriteCounts answer (faults old) (faults new) (stalls old) (stalls new) (ends old) (ends new)
+
+abbrev pub CountsRead : {L : Type 0} → (faults stalls ends : L → ℕ) → Option LinkGot → (old new : L) → Type 0
+CountsRead faults stalls ends answer old new = ReadCounts answer (faults old) (faults new) (stalls old) (stalls new) (ends old) (ends new)
+
 -- ---- at the halves
 
 module _ {S O I N : Type 0} (K : Known S O I N) where

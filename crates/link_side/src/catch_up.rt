@@ -1,6 +1,6 @@
 ghost use Rattle.std.specs.Prelude.{◌≡◌, [], true, false, IfOk, OnOk, OnErr, IfSome, IfNone};
 ghost use Rattle.link_side.specs.Kept.{IsAtRest, Acts};
-ghost use Rattle.link_side.specs.Calls.{ReadCounts};
+ghost use Rattle.link_side.specs.Calls.{CountsRead};
 ghost use Rattle.link_side.specs.Works.{WantsBy};
 ghost use Rattle.link_side.specs.Silent.{HearsBy, IsRefusedNow, IsUnrefused, IsShaken, IsUnshaken, HasOutput, HasNone};
 ghost use Rattle.link_side.specs.WireView.{kept, IsSound};
@@ -38,12 +38,11 @@ impl Wire {
             (kept self.old) got (kept self.new) (L.heard link.old) (L.heard link.new)) }
         ensures rest { OnOk result (IsAtRest (kept self.new)) }
         ensures err { OnErr result (WantsBy (IsAtRest (kept self.old)) (kept self.old)
-            (kept self.new) (L.heard link.old) (L.heard link.new) (λ got. ReadCounts got
-            (L.faults link.old) (L.faults link.new) (L.stalls link.old) (L.stalls link.new)
-            (L.ends link.old) (L.ends link.new))) }
+            (kept self.new) (L.heard link.old) (L.heard link.new)
+            (λ got. CountsRead L.faults L.stalls L.ends got link.old link.new)) }
         ensures others { L.said link.new ≡ L.said link.old }
-        ensures counts { IfOk result (λ got. ReadCounts got (L.faults link.old) (L.faults link.new)
-            (L.stalls link.old) (L.stalls link.new) (L.ends link.old) (L.ends link.new)) }
+        ensures counts { IfOk result
+            (λ got. CountsRead L.faults L.stalls L.ends got link.old link.new) }
     {
         let got = self.read_due(link);
         self.catch_up(alloc)?;

@@ -8,7 +8,7 @@ ghost use Rattle.spec_link.specs.Parts.{NothingHeld, SomethingHeld, ReadFits, re
 ghost use Rattle.msg_pipe.specs.Known.{IsThere};
 ghost use Rattle.zmtp_engine.specs.Conversation.{IsCurrent};
 ghost use Rattle.link_side.specs.Kept.{HasRun, IsAlive, IsAtRest, Acts, whole};
-ghost use Rattle.link_side.specs.Calls.{Adds, ReadCounts, PutsRun, put_acts};
+ghost use Rattle.link_side.specs.Calls.{Adds, CountsRead, PutsRun, put_acts};
 ghost use Rattle.link_side.specs.Works.{ReadsBy, WantsBy};
 ghost use Rattle.link_side.specs.WireView.{unfed, kept, IsSound};
 
@@ -30,8 +30,7 @@ impl Wire {
             HasRun opts acts (kept self.old) →
             MatchOption result (SomethingHeld opts acts) (λ _. NothingHeld opts acts) }
         ensures others { L.said link.new ≡ L.said link.old }
-        ensures counts { ReadCounts result (L.faults link.old) (L.faults link.new)
-            (L.stalls link.old) (L.stalls link.new) (L.ends link.old) (L.ends link.new) }
+        ensures counts { CountsRead L.faults L.stalls L.ends result link.old link.new }
     {
         if self.fed < self.read {
             return None;
@@ -89,12 +88,11 @@ impl Wire {
         ensures rest { OnOk result (IsAtRest (kept self.new)) }
         ensures err { OnErr result ((pipes.new ≡ pipes.old) × (out.new ≡ out.old)
             × WantsBy (IsAtRest (kept self.old)) (kept self.old) (kept self.new)
-            (L.heard link.old) (L.heard link.new) (λ got. ReadCounts got
-            (L.faults link.old) (L.faults link.new) (L.stalls link.old) (L.stalls link.new)
-            (L.ends link.old) (L.ends link.new))) }
+            (L.heard link.old) (L.heard link.new)
+            (λ got. CountsRead L.faults L.stalls L.ends got link.old link.new)) }
         ensures others { L.said link.new ≡ L.said link.old }
-        ensures counts { IfOk result (λ got. ReadCounts got (L.faults link.old) (L.faults link.new)
-            (L.stalls link.old) (L.stalls link.new) (L.ends link.old) (L.ends link.new)) }
+        ensures counts { IfOk result
+            (λ got. CountsRead L.faults L.stalls L.ends got link.old link.new) }
     {
         let got = self.read_due(link);
         self.hear(alloc)?;

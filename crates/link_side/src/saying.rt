@@ -7,7 +7,7 @@ ghost use Rattle.spec_link.specs.LinkAct.{LinkAct};
 ghost use Rattle.spec_link.specs.Topics.{IsLeft};
 ghost use Rattle.zmtp_engine.specs.Conversation.{CanOffer};
 ghost use Rattle.link_side.specs.declared.behind.Behind.TheVariants.{Nothing};
-ghost use Rattle.link_side.specs.Calls.{WriteCounts};
+ghost use Rattle.link_side.specs.Calls.{CountsWrite};
 ghost use Rattle.link_side.specs.Kept.{Acts, IsAtRest};
 ghost use Rattle.link_side.specs.Works.{fetched_of};
 ghost use Rattle.link_side.specs.Says.{Offers, Forwards, IsUnsaid, LookedBy, TakesBy, SaysBy, left_by};
@@ -64,8 +64,7 @@ impl Wire {
             (L.said link.old) (L.said link.new) pipes.old input.old pipes.new input.new }
         ensures idle { (m : Frames) → result.found ≡ Some (Item m) → CanOffer self.new.engine }
         ensures others { L.heard link.new ≡ L.heard link.old }
-        ensures counts { WriteCounts result.put (L.faults link.old) (L.faults link.new)
-            (L.stalls link.old) (L.stalls link.new) (L.ends link.old) (L.ends link.new) }
+        ensures counts { CountsWrite L.faults L.stalls L.ends result.put link.old link.new }
     {
         let put = self.write_due(link);
         if is_over(put) {
@@ -96,8 +95,7 @@ impl Wire {
         ensures says { SaysBy (kept self.old) result (kept self.new)
             (L.said link.old) (L.said link.new) topics.old topics.new }
         ensures others { L.heard link.new ≡ L.heard link.old }
-        ensures counts { WriteCounts result (L.faults link.old) (L.faults link.new)
-            (L.stalls link.old) (L.stalls link.new) (L.ends link.old) (L.ends link.new) }
+        ensures counts { CountsWrite L.faults L.stalls L.ends result link.old link.new }
     {
         let put = self.write_due(link);
         if is_over(put) {
@@ -181,8 +179,7 @@ impl LinkSide {
         ensures takes { TakesBy P.known self.old.kept result self.new
             (L.said link.old) (L.said link.new) pipes.old input.old pipes.new input.new }
         ensures others { L.heard link.new ≡ L.heard link.old }
-        ensures counts { WriteCounts result.put (L.faults link.old) (L.faults link.new)
-            (L.stalls link.old) (L.stalls link.new) (L.ends link.old) (L.ends link.new) }
+        ensures counts { CountsWrite L.faults L.stalls L.ends result.put link.old link.new }
     {
         let looked = self.wire.look_part(pipes, input, link);
         let look = look_of(&looked.found);
@@ -200,8 +197,7 @@ impl LinkSide {
             topics.old topics.new }
         ensures rest { self.new.behind ≡ Nothing }
         ensures others { L.heard link.new ≡ L.heard link.old }
-        ensures counts { WriteCounts result (L.faults link.old) (L.faults link.new)
-            (L.stalls link.old) (L.stalls link.new) (L.ends link.old) (L.ends link.new) }
+        ensures counts { CountsWrite L.faults L.stalls L.ends result link.old link.new }
     {
         self.wire.say_part(topics, link)
     }

@@ -3,7 +3,7 @@ ghost use Rattle.spec_zmtp.specs.OwnCommands.{IsEngineOpts};
 ghost use Rattle.msg_pipe.specs.Known.{IsThere};
 ghost use Rattle.link_side.specs.declared.behind.Behind.TheVariants.{Nothing};
 ghost use Rattle.link_side.specs.Kept.{HasRun};
-ghost use Rattle.link_side.specs.Calls.{WriteCounts, ReadCounts};
+ghost use Rattle.link_side.specs.Calls.{CountsWrite, CountsRead};
 ghost use Rattle.link_side.specs.Says.{IsFree};
 ghost use Rattle.link_side.specs.Works.{WritesBy, ReadsBy, WantsBy};
 
@@ -78,8 +78,7 @@ impl LinkSide {
             (L.said link.old) (L.said link.new) pipes.old input.old pipes.new input.new }
         ensures rest { self.new.behind ≡ Nothing }
         ensures others { L.heard link.new ≡ L.heard link.old }
-        ensures counts { WriteCounts result.put (L.faults link.old) (L.faults link.new)
-            (L.stalls link.old) (L.stalls link.new) (L.ends link.old) (L.ends link.new) }
+        ensures counts { CountsWrite L.faults L.stalls L.ends result.put link.old link.new }
     {
         let written = self.take_part(pipes, input, link);
         self.forward();
@@ -107,12 +106,11 @@ impl LinkSide {
         ensures free { IsFree self.new.behind }
         ensures err { OnErr result ((pipes.new ≡ pipes.old) × (out.new ≡ out.old)
             × WantsBy (self.old.behind ≡ Nothing) self.old.kept self.new.kept
-            (L.heard link.old) (L.heard link.new) (λ got. ReadCounts got
-            (L.faults link.old) (L.faults link.new) (L.stalls link.old) (L.stalls link.new)
-            (L.ends link.old) (L.ends link.new))) }
+            (L.heard link.old) (L.heard link.new)
+            (λ got. CountsRead L.faults L.stalls L.ends got link.old link.new)) }
         ensures others { L.said link.new ≡ L.said link.old }
-        ensures counts { IfOk result (λ got. ReadCounts got (L.faults link.old) (L.faults link.new)
-            (L.stalls link.old) (L.stalls link.new) (L.ends link.old) (L.ends link.new)) }
+        ensures counts { IfOk result
+            (λ got. CountsRead L.faults L.stalls L.ends got link.old link.new) }
     {
         self.behind = Behind::Octets;
         let got = self.wire.read_part(alloc, pipes, out, link)?;

@@ -2,7 +2,7 @@ ghost use Rattle.std.specs.Prelude.{◌≡◌, [], IfOk, OnOk, OnErr, IfSome, If
 ghost use Rattle.link_side.specs.declared.behind.Behind.TheVariants.{Nothing};
 ghost use Rattle.msg_pipe.specs.Known.{IsThere};
 ghost use Rattle.link_side.specs.Kept.{Acts};
-ghost use Rattle.link_side.specs.Calls.{WriteCounts, ReadCounts};
+ghost use Rattle.link_side.specs.Calls.{CountsWrite, CountsRead};
 ghost use Rattle.link_side.specs.Works.{WantsBy};
 ghost use Rattle.link_side.specs.Silent.{HearsBy, IsRefusedNow, IsUnrefused, IsShaken, IsUnshaken, HasOutput, HasNone};
 ghost use Rattle.link_side.specs.Says.{IsFree};
@@ -37,8 +37,7 @@ impl LinkSide {
             (L.said link.old) (L.said link.new) }
         ensures rest { self.new.behind ≡ Nothing }
         ensures others { L.heard link.new ≡ L.heard link.old }
-        ensures counts { WriteCounts result (L.faults link.old) (L.faults link.new)
-            (L.stalls link.old) (L.stalls link.new) (L.ends link.old) (L.ends link.new) }
+        ensures counts { CountsWrite L.faults L.stalls L.ends result link.old link.new }
     {
         self.wire.write_due(link)
     }
@@ -55,12 +54,11 @@ impl LinkSide {
         ensures rest { OnOk result (self.new.behind ≡ Nothing) }
         ensures free { IsFree self.new.behind }
         ensures err { OnErr result (WantsBy (self.old.behind ≡ Nothing) self.old.kept
-            self.new.kept (L.heard link.old) (L.heard link.new) (λ got. ReadCounts got
-            (L.faults link.old) (L.faults link.new) (L.stalls link.old) (L.stalls link.new)
-            (L.ends link.old) (L.ends link.new))) }
+            self.new.kept (L.heard link.old) (L.heard link.new)
+            (λ got. CountsRead L.faults L.stalls L.ends got link.old link.new)) }
         ensures others { L.said link.new ≡ L.said link.old }
-        ensures counts { IfOk result (λ got. ReadCounts got (L.faults link.old) (L.faults link.new)
-            (L.stalls link.old) (L.stalls link.new) (L.ends link.old) (L.ends link.new)) }
+        ensures counts { IfOk result
+            (λ got. CountsRead L.faults L.stalls L.ends got link.old link.new) }
     {
         self.behind = Behind::Octets;
         let got = self.wire.read_only(alloc, link)?;

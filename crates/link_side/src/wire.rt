@@ -10,7 +10,7 @@ ghost use Rattle.msg_pipe.specs.Known.{IsThere};
 ghost use Rattle.msg_pipe.specs.Told.{put_step};
 ghost use Rattle.zmtp_engine.specs.Conversation.{lent, IsCurrent};
 ghost use Rattle.link_side.specs.Kept.{HasRun, IsAlive, IsAtRest, Acts, whole};
-ghost use Rattle.link_side.specs.Calls.{Adds, WriteCounts, ReadCounts, PutRun};
+ghost use Rattle.link_side.specs.Calls.{Adds, CountsWrite, CountsRead, PutRun};
 ghost use Rattle.link_side.specs.Calls.{octets_put, put_found};
 ghost use Rattle.link_side.specs.WireView.{unfed, kept, IsSound, KeepsHeard};
 
@@ -72,8 +72,7 @@ impl Wire {
         ensures told { FitsPut result (octets_put result (lent self.old.engine))
             × Adds (L.said link.old) (octets_put result (lent self.old.engine)) (L.said link.new) }
         ensures others { L.heard link.new ≡ L.heard link.old }
-        ensures counts { WriteCounts (Some result) (L.faults link.old) (L.faults link.new)
-            (L.stalls link.old) (L.stalls link.new) (L.ends link.old) (L.ends link.new) }
+        ensures counts { CountsWrite L.faults L.stalls L.ends (Some result) link.old link.new }
         ensures keeps { KeepsHeard self.old self.new }
     {
         let answer = link.write(self.engine.out());
@@ -98,8 +97,7 @@ impl Wire {
         ensures told { FitsGot result (unfed self.new)
             × Adds (L.heard link.old) (unfed self.new) (L.heard link.new) }
         ensures others { L.said link.new ≡ L.said link.old }
-        ensures counts { ReadCounts (Some result) (L.faults link.old) (L.faults link.new)
-            (L.stalls link.old) (L.stalls link.new) (L.ends link.old) (L.ends link.new) }
+        ensures counts { CountsRead L.faults L.stalls L.ends (Some result) link.old link.new }
         ensures keeps { (self.new.held ≡ self.old.held) × (self.new.engine ≡ self.old.engine) }
     {
         match link.read(self.octets.as_mut_slice()) {

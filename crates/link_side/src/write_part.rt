@@ -5,7 +5,7 @@ ghost use Rattle.spec_link.specs.Parts.{NothingToWrite, SomethingToWrite, MayTak
 ghost use Rattle.spec_link.specs.Parts.{WriteFits, write_acts};
 ghost use Rattle.zmtp_engine.specs.Conversation.{CanOffer};
 ghost use Rattle.link_side.specs.Kept.{HasRun, IsAtRest, Acts};
-ghost use Rattle.link_side.specs.Calls.{Adds, WriteCounts};
+ghost use Rattle.link_side.specs.Calls.{Adds, CountsWrite};
 ghost use Rattle.link_side.specs.WireView.{kept, IsSound};
 
 use crate::wire::{Fetched, Wire};
@@ -49,8 +49,7 @@ impl Wire {
         ensures due { (opts : EngineOpts) (acts : List LinkAct) → HasRun opts acts (kept self.old) →
             MatchOption result (NothingToWrite opts acts) (λ _. SomethingToWrite opts acts) }
         ensures others { L.heard link.new ≡ L.heard link.old }
-        ensures counts { WriteCounts result (L.faults link.old) (L.faults link.new)
-            (L.stalls link.old) (L.stalls link.new) (L.ends link.old) (L.ends link.new) }
+        ensures counts { CountsWrite L.faults L.stalls L.ends result link.old link.new }
     {
         if self.engine.out().is_empty() {
             return None;

@@ -12,8 +12,7 @@ use sock_calls::Socket;
 use spec_run::{ActorScript, Journal};
 use std::alloc::{AllocError, Global};
 use std::marker::Model;
-use zq_base::Log;
-use zq_base::Tale;
+use zq_base::{Log, Tale};
 use zq_world::{Event, PieceMark, play_events};
 
 /// A context on one thread, with one I/O worker, and the pipes of its sockets.

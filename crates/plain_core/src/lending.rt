@@ -18,8 +18,7 @@ use spec_run::{Answer, Call};
 use std::alloc::{AllocError, AllocFailed, Global};
 use std::mem;
 use std::snapshot::Snapshot;
-use zq_base::Log;
-use zq_base::Tale;
+use zq_base::{Log, Tale};
 use zq_world::PieceMark;
 
 /// Makes the call of a line on the socket that is lent, and tells it.

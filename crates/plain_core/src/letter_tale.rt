@@ -13,8 +13,7 @@ use line_socket::LentSock;
 use sock_core::SockCore;
 use std::alloc::{AllocError, Global};
 use std::mem;
-use zq_base::Log;
-use zq_base::{Tale, Tells};
+use zq_base::{Log, Tale, Tells};
 use zq_world::PieceMark;
 
 /// A letter that was taken for a lent socket.

@@ -12,8 +12,7 @@ use plain_desk::OneDesk;
 use reaper::{reap_at, reap_once};
 use std::alloc::{AllocError, Global};
 use std::snapshot::Snapshot;
-use zq_base::SlotId;
-use zq_base::{Tale, Tells};
+use zq_base::{SlotId, Tale, Tells};
 use zq_world::PieceMark;
 
 /// A desk, with the pipes of all sockets and the closed sockets, as they were at some time.

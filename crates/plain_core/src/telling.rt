@@ -9,8 +9,7 @@ use sock_core::SockCore;
 use spec_pattern::Skip;
 use spec_run::{Answer, Call};
 use std::snapshot::Snapshot;
-use zq_base::Log;
-use zq_base::Tells;
+use zq_base::{Log, Tells};
 use zq_world::PieceMark;
 
 /// A call of a caller that is one item and no step at a pipe.

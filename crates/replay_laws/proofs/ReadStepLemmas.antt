@@ -37,12 +37,3 @@ module _ {A B E : Type 0} where
   pub any_then : (P : B → Type 0) (r : Result A E) (f : A → Result B E) → ((x : A) → Holds P (f x)) → Holds P (r >>= f)
   any_then P (Ok x) f h = h x
   any_then P (Err e) f h = record { given = tt }
-
--- something holds of a value
-pub record IsSo {A : Type 0} (P : A → Type 0) (x : A) : Type 0 where
-  pub so : P x
-
--- of what a test tells
-pub so_by_test : {A : Type 0} (P : A → Type 0) (b : Bool) (x y : A) → IsSo P x → IsSo P y → IsSo P (if b then x else y)
-so_by_test P true x y h k = h
-so_by_test P false x y h k = k

@@ -9,21 +9,9 @@ use Rattle.spec_run.specs.Standing.{ActorStanding, standing_before, has_finished
 use Rattle.spec_run.specs.InTurns.{OneTurn, TurnsGo}
 
 -- the sockets that a line may make
-abbrev pub call_sockets : Call → ℕ
-call_sockets (call.Socket kind options) = 1
-call_sockets (call.Bind place at) = 0
-call_sockets (call.Connect place to) = 0
-call_sockets (call.Send place m) = 0
-call_sockets (call.Recv place tries) = 0
-call_sockets (call.Subscribe place topic) = 0
-call_sockets (call.Unsubscribe place topic) = 0
-
 abbrev pub line_sockets : Call → ℕ
-line_sockets call = call_sockets call
-line_sockets (call.Unbind place at) = 0
-line_sockets (call.Disconnect place at) = 0
-line_sockets (call.Close place) = 0
-line_sockets call.Term = 0
+line_sockets (call.Socket kind options) = 1
+line_sockets _ = 0
 
 -- the most steps that a line takes: its tries, of which there is one at least, and one that closes its socket
 abbrev pub line_steps : Call → ℕ

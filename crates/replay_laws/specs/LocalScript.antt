@@ -10,21 +10,10 @@ use Rattle.spec_run.specs.InTurns.{Turned, IsInTurns, IsOneThread}
 use Rattle.replay_laws.specs.Local.{is_inproc, is_local_item}
 
 -- a bind and a connect are over inproc; to strike one over tcp makes nothing
-abbrev pub is_local_call : Call → Bool
-is_local_call (call.Socket kind options) = true
-is_local_call (call.Bind place at) = is_inproc at
-is_local_call (call.Connect place to) = is_inproc to
-is_local_call (call.Send place m) = true
-is_local_call (call.Recv place tries) = true
-is_local_call (call.Subscribe place topic) = true
-is_local_call (call.Unsubscribe place topic) = true
-
 abbrev pub is_local_line : Call → Bool
-is_local_line call = is_local_call call
-is_local_line (call.Unbind place at) = true
-is_local_line (call.Disconnect place at) = true
-is_local_line (call.Close place) = true
-is_local_line call.Term = true
+is_local_line (call.Bind place at) = is_inproc at
+is_local_line (call.Connect place to) = is_inproc to
+is_local_line _ = true
 
 abbrev pub are_local_lines : List Line → Bool
 are_local_lines lines = list_all (λ line. is_local_line line.call) lines

@@ -13,21 +13,9 @@ use Rattle.replay_laws.specs.LocalScript.{is_local_script}
 use Rattle.replay_laws.specs.DoneInTime.{script_tries, script_sockets}
 
 -- the pairs that a line may bring: that of its connect, at once or by a later bind
-abbrev pub call_connects : Call → ℕ
-call_connects (call.Socket kind options) = 0
-call_connects (call.Bind place at) = 0
-call_connects (call.Connect place to) = 1
-call_connects (call.Send place m) = 0
-call_connects (call.Recv place tries) = 0
-call_connects (call.Subscribe place topic) = 0
-call_connects (call.Unsubscribe place topic) = 0
-
 abbrev pub line_connects : Call → ℕ
-line_connects call = call_connects call
-line_connects (call.Unbind place at) = 0
-line_connects (call.Disconnect place at) = 0
-line_connects (call.Close place) = 0
-line_connects call.Term = 0
+line_connects (call.Connect place to) = 1
+line_connects _ = 0
 
 abbrev pub actor_connects : ActorScript → ℕ
 actor_connects actor = sum_by (λ line. line_connects line.call) actor.lines

@@ -43,6 +43,10 @@ pub record AreCut (b : Basis) (s : Standing) (acts writes reads : List LinkAct) 
   pub reading : IsReading b.opts.kind s.state s.told how
   pub once : ReadsOnce how b.opts (acts ++ writes) answer
 
+-- acts, and behind them a take of this message
+abbrev pub and_take : Life → List LinkAct → Frames → List LinkAct
+and_take l before message = before ++ Step (Take (read_through l.end) message) ∷ []
+
 module _ {S O I N : Type 0} (K : Known S O I N) where
   -- both parts, and what their answers tell of them
   pub record PartsBy (l : Life) (t t' : Option Topics) (old : Kept) (done : Done) (new : Kept) (said said' heard heard' : Option (List ℕ)) (shown : List LinkAct → Type 0) (s : S) (i : Option I) (o : Option O) (s' : S) (i' : Option I) (o' : Option O) : Type 0 where
@@ -81,17 +85,17 @@ module _ {S O I N : Type 0} (K : Known S O I N) where
     pub before : List LinkAct
     pub message : Frames
     pub some : IsSome t
-    pub said_is : Adds said (said_of (before ++ Step (Take (read_through l.end) message) ∷ [])) said'
-    pub heard_is : Adds heard (heard_of (before ++ Step (Take (read_through l.end) message) ∷ [])) heard'
-    pub shown_is : shown (before ++ Step (Take (read_through l.end) message) ∷ [])
-    pub steps : StepsRun K (flat_map step_in (before ++ Step (Take (read_through l.end) message) ∷ [])) s i o s' i' o'
+    pub said_is : Adds said (said_of (and_take l before message)) said'
+    pub heard_is : Adds heard (heard_of (and_take l before message)) heard'
+    pub shown_is : shown (and_take l before message)
+    pub steps : StepsRun K (flat_map step_in (and_take l before message)) s i o s' i' o'
     pub left : new.behind ≡ Unsaid message
     pub same : t' ≡ t
-    pub takes : taken_of (before ++ Step (Take (read_through l.end) message) ∷ []) ≡ message ∷ []
-    pub repeats : repeated_of (before ++ Step (Take (read_through l.end) message) ∷ []) ≡ []
+    pub takes : taken_of (and_take l before message) ≡ message ∷ []
+    pub repeats : repeated_of (and_take l before message) ≡ []
     pub run : (opts : EngineOpts) → KeepsActs opts old before new.kept
     pub parts : (p : Story) (acts : List LinkAct) → p.opts.kind ≡ l.kind → SaysAt l.dials p.opts p.closed acts t → IsKeptOf p.opts acts old →
-        WritesAt (basis_of l p) (standing_of l p) acts (before ++ Step (Take (read_through l.end) message) ∷ [])
+        WritesAt (basis_of l p) (standing_of l p) acts (and_take l before message)
 
   -- the last acts: puts of all that is whole, or one write of what is left, or none
   pub record LastBy (refused puts : Bool) (pipe : PipeId) (old new : Kept) (said said' : Option (List ℕ)) (shown : List LinkAct → Type 0) (s : S) (o : Option O) (s' : S) (o' : Option O) : Type 0 where

@@ -1,7 +1,7 @@
 ghost use Rattle.std.specs.Prelude.{◌≡◌, ◌⊎◌, true, false, Some, IfOk, OnOk, OnErr, IfSome, IfNone};
 ghost use Rattle.zq_base.specs.Ends.{PipeId};
 ghost use Rattle.link_side.specs.declared.behind.Behind.TheVariants.{Nothing};
-ghost use Rattle.link_side.specs.Calls.{WriteCounts, ReadCounts};
+ghost use Rattle.link_side.specs.Calls.{CountsWrite, CountsRead};
 ghost use Rattle.zq_session.specs.Halves.{ReadsThere, WritesThere, AreThere};
 ghost use Rattle.zq_session.specs.Doing.{WritesAtBy, ReadsAtBy, WantsAtBy, EndsAs, IsOverNow, StandsNow};
 ghost use Rattle.zq_session.specs.Shown.{ShownBy};
@@ -34,8 +34,7 @@ pub(crate) fn write_at<P: Pipes, L: Link>(
         (L.said link.old) (L.said link.new) pipes.old input.old pipes.new input.new }
     ensures rest { side.new.behind ≡ Nothing }
     ensures others { L.heard link.new ≡ L.heard link.old }
-    ensures counts { WriteCounts result.put (L.faults link.old) (L.faults link.new)
-        (L.stalls link.old) (L.stalls link.new) (L.ends link.old) (L.ends link.new) }
+    ensures counts { CountsWrite L.faults L.stalls L.ends result.put link.old link.new }
 {
     if !can_read {
         let put = side.write_only(link);
@@ -63,13 +62,12 @@ fn take_at<P: Pipes, L: Link>(
         side.new (L.said link.old) (L.said link.new) pipes.old half.old pipes.new half.new) }
     ensures rest { OnOk result (side.new.behind ≡ Nothing) }
     ensures err { OnErr result (NotesNotBy P.known topics.old topics.new side.old.kept
-        side.new (L.said link.old) (L.said link.new) (λ put. WriteCounts put
-        (L.faults link.old) (L.faults link.new) (L.stalls link.old) (L.stalls link.new)
-        (L.ends link.old) (L.ends link.new)) pipes.old half.old pipes.new half.new) }
+        side.new (L.said link.old) (L.said link.new)
+        (λ put. CountsWrite L.faults L.stalls L.ends put link.old link.new)
+        pipes.old half.old pipes.new half.new) }
     ensures others { L.heard link.new ≡ L.heard link.old }
-    ensures counts { IfOk result (λ done. WriteCounts done.put
-        (L.faults link.old) (L.faults link.new) (L.stalls link.old) (L.stalls link.new)
-        (L.ends link.old) (L.ends link.new)) }
+    ensures counts { IfOk result
+        (λ done. CountsWrite L.faults L.stalls L.ends done.put link.old link.new) }
 {
     let written = side.take_part(pipes, half, link);
     pass_on(topics, alloc, side)?;
@@ -89,9 +87,8 @@ fn say_at<L: Link>(
         × ((link.new ≡ link.old) × IfSome topics.old (λ t. IsLeft false t.again)))) }
     ensures rest { side.new.behind ≡ Nothing }
     ensures others { L.heard link.new ≡ L.heard link.old }
-    ensures counts { IfSome result (λ done. WriteCounts done.put
-        (L.faults link.old) (L.faults link.new) (L.stalls link.old) (L.stalls link.new)
-        (L.ends link.old) (L.ends link.new)) }
+    ensures counts { IfSome result
+        (λ done. CountsWrite L.faults L.stalls L.ends done.put link.old link.new) }
 {
     match topics {
         None => return None,
@@ -124,13 +121,12 @@ pub(crate) fn write_with<P: Pipes, L: Link>(
     ensures rest { OnOk result (side.new.behind ≡ Nothing) }
     ensures err { OnErr result (UnsaidBy P.known (mode_of can_read topics.old)
         topics.old topics.new side.old.kept side.new
-        (L.said link.old) (L.said link.new) (λ put. WriteCounts put
-        (L.faults link.old) (L.faults link.new) (L.stalls link.old) (L.stalls link.new)
-        (L.ends link.old) (L.ends link.new)) pipes.old input.old pipes.new input.new) }
+        (L.said link.old) (L.said link.new)
+        (λ put. CountsWrite L.faults L.stalls L.ends put link.old link.new)
+        pipes.old input.old pipes.new input.new) }
     ensures others { L.heard link.new ≡ L.heard link.old }
-    ensures counts { IfOk result (λ done. WriteCounts done.put
-        (L.faults link.old) (L.faults link.new) (L.stalls link.old) (L.stalls link.new)
-        (L.ends link.old) (L.ends link.new)) }
+    ensures counts { IfOk result
+        (λ done. CountsWrite L.faults L.stalls L.ends done.put link.old link.new) }
 {
     if topics.is_none() {
         let written = write_at(can_read, side, pipes, input, link);
@@ -167,12 +163,11 @@ pub(crate) fn read_at<P: Pipes, L: Link>(
     ensures free { IsFree side.new.behind }
     ensures err { OnErr result ((pipes.new ≡ pipes.old) × (out.new ≡ out.old)
         × WantsAtBy how side.old.kept side.new.kept
-        (L.heard link.old) (L.heard link.new) (λ got. ReadCounts got
-        (L.faults link.old) (L.faults link.new) (L.stalls link.old) (L.stalls link.new)
-        (L.ends link.old) (L.ends link.new))) }
+        (L.heard link.old) (L.heard link.new)
+        (λ got. CountsRead L.faults L.stalls L.ends got link.old link.new)) }
     ensures others { L.said link.new ≡ L.said link.old }
-    ensures counts { IfOk result (λ got. ReadCounts got (L.faults link.old) (L.faults link.new)
-        (L.stalls link.old) (L.stalls link.new) (L.ends link.old) (L.ends link.new)) }
+    ensures counts { IfOk result
+        (λ got. CountsRead L.faults L.stalls L.ends got link.old link.new) }
 {
     match how {
         ReadMode::Nothing => return Ok(None),

@@ -10,7 +10,9 @@ use crate::lanes::{enveloped, lane, message};
 use crate::sockets::{Core, Socket, check, the_end};
 use msg_pipe::{Front, Pipes, PlainPipes};
 use pub_sub::XSendFault;
-use sock_core::{SockHolder, look_in, pump_core, recv_core, send_core, subscribe_core, unsubscribe_core};
+use sock_core::{
+    SockHolder, look_in, pump_core, recv_core, send_core, subscribe_core, unsubscribe_core,
+};
 use spec_pattern::{RecvFault, RecvRefusal, SendRefusal, Sent};
 use std::alloc::Global;
 use std::test::Fail;
@@ -91,7 +93,10 @@ fn pumps(alloc: Global, lane: &mut Lane) -> bool {
 fn front_of(lane: Lane) -> Front
     requires { writes_in lane.core.ends.places.items the_end ≡ true }
 {
-    let Lane { mut pipes, mut core } = lane;
+    let Lane {
+        mut pipes,
+        mut core,
+    } = lane;
     let front = look_in(&mut core.ends, &mut pipes, the_end());
     drop(core);
     drop(pipes);

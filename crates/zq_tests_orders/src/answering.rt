@@ -5,10 +5,10 @@ ghost use Rattle.zq_world.specs.Stepping.{ActorAgrees};
 use msg_pipe::{Pipes, PlainPipes};
 use plain_core::OneCore;
 use replay_laws::scripts_that_are_read_may_be_asked;
+use spec_run::ActorScript;
 use std::alloc::{AllocError, Global};
 use zq_base::{Octets, Seq};
 use zq_journal::{ActorLines, Journal, print};
-use spec_run::ActorScript;
 use zq_script::read_script;
 use zq_world::{Actor, Sockets};
 

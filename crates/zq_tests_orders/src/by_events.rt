@@ -4,13 +4,13 @@ ghost use Rattle.zq_world.specs.MayAsk.{MayAskScript};
 use msg_pipe::PlainPipes;
 use plain_core::OneCore;
 use replay_laws::scripts_that_are_read_may_be_asked;
+use spec_run::ActorScript;
 use std::alloc::{AllocError, Global};
 use std::test::Fail;
 use zq_base::Octets;
 use zq_journal::{Journal, print};
-use spec_run::ActorScript;
-use zq_script::read_script;
 use zq_outer::TickClock;
+use zq_script::read_script;
 use zq_world::{Event, play_script};
 
 // In how many turns a run of a test ends.

@@ -6,10 +6,10 @@ use crate::arrangements::next_arrangement;
 use crate::by_events::journal_by;
 use replay_laws::scripts_that_are_read_may_be_asked;
 use spec_run::ActorScript;
-use zq_script::read_script;
 use std::alloc::{AllocError, Global};
 use std::test::Fail;
 use zq_base::Octets;
+use zq_script::read_script;
 use zq_world::Event;
 
 // In how many rounds all has ended behind an order.

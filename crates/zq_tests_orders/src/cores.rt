@@ -8,8 +8,8 @@ use msg_pipe::PlainPipes;
 use plain_core::OneCore;
 use replay_laws::scripts_that_are_read_may_be_asked;
 use spec_run::ActorScript;
-use zq_script::read_script;
 use std::alloc::{AllocError, Global};
+use zq_script::read_script;
 
 // How many steps fewer are drawn than this before the root is asked.
 const FEW: u64 = 80;
@@ -46,7 +46,12 @@ fn arrangements_end(
 
 // Whether all ends in an order that is drawn by a seed, where so many steps are taken before the root
 // is asked.
-fn draw_ends(alloc: Global, script: &[ActorScript], seed: u64, count: u64) -> Result<bool, AllocError>
+fn draw_ends(
+    alloc: Global,
+    script: &[ActorScript],
+    seed: u64,
+    count: u64,
+) -> Result<bool, AllocError>
     requires may { MayAskScript script.now }
 {
     let order = drawn_order(alloc, seed, script.len().saturating_add(1), count)?;

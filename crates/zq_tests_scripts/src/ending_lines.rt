@@ -1,7 +1,7 @@
+use spec_run::{Call, Line, Script};
 use std::alloc::Global;
-use zq_base::{Endpoint, Kind, Seq};
+use zq_base::{Endpoint, Kind};
 use zq_script::{Cause, ReadScript, ScriptFault, read_script};
-use spec_run::{ActorScript, Call, Line};
 
 // Whether an inproc endpoint has this name.
 fn is_named(at: &Endpoint, wanted: &[u8]) -> bool {
@@ -36,7 +36,7 @@ fn ask_all(lines: &[Line]) -> bool {
 }
 
 // Whether there is one actor, whose lines ask what they should.
-fn asks_to_end(script: &Seq<ActorScript>) -> bool {
+fn asks_to_end(script: &Script) -> bool {
     match script.as_slice() {
         [actor] => ask_all(actor.lines.as_slice()),
         _ => false,

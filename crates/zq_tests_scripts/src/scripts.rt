@@ -1,7 +1,7 @@
+use spec_run::{Call, Line, Script};
 use std::alloc::{AllocError, Global};
 use zq_base::{Endpoint, Kind, Message, Options};
 use zq_script::{Cause, ReadScript, ScriptFault, read_script};
-use spec_run::{Call, Line, Script};
 
 // Whether the first fault of the octets is this one, or none.
 fn has_fault(alloc: Global, octets: &[u8], wanted: Option<ScriptFault>) -> bool {
@@ -66,7 +66,7 @@ struct TwoActors;
 
 impl Shows for TwoActors {
     fn is_shown(script: &Script) -> bool {
-        match script.actors.as_slice() {
+        match script.as_slice() {
             [first, second] => {
                 let names = first.name.as_slice() == b"a_1".as_slice()
                     && second.name.as_slice() == b"b".as_slice();
@@ -123,7 +123,7 @@ fn asks(line: &Line) -> bool {
 
 // The lines of the first actor, if there is one.
 fn first_lines(script: &Script) -> &[Line] {
-    match script.actors.as_slice().first() {
+    match script.as_slice().first() {
         Some(actor) => actor.lines.as_slice(),
         None => &[],
     }
@@ -153,7 +153,7 @@ fn lines_ask_what_their_words_say(rt: HostRuntime) {
 }
 
 /// Scripts, and the line and the cause of their first fault.
-const FIRST_FAULTS: [(&str, u32, Cause); 13] = [
+const FIRST_FAULTS: [(&str, u32, Cause); 12] = [
     ("x", 1, Cause::BadWord),
     ("bind s inproc://x", 1, Cause::BadWord),
     ("\n#\n socket s PUSH", 3, Cause::BadWord),
@@ -165,7 +165,6 @@ const FIRST_FAULTS: [(&str, u32, Cause); 13] = [
     ("actor abcdefghijklmnopqrstuvwxyz0123456", 1, Cause::BadWord),
     ("actor a\n\nactor b\n#\nactor a", 5, Cause::DoubleName),
     ("actor a\nactor a b", 2, Cause::DoubleName),
-    ("actor a\nterm", 2, Cause::BadWord),
     ("actor a\nSOCKET s PUSH", 2, Cause::BadWord),
 ];
 
@@ -182,12 +181,14 @@ fn the_first_fault_is_told_with_its_line(rt: HostRuntime) {
 }
 
 /// Scripts without a fault.
-const FAULTLESS: [&str; 5] = [
+const FAULTLESS: [&str; 7] = [
     "",
     "\n",
     "#",
     "  \n # any \u{e9}\t\n",
     "actor abcdefghijklmnopqrstuvwxyz012345",
+    "actor a\nterm",
+    "actor a\nsocket s PUSH\nunbind s inproc://q\nclose s",
 ];
 
 #[test]
@@ -205,7 +206,7 @@ fn line_has(alloc: Global, line: &str, cause: Cause) -> bool {
 }
 
 /// Lines behind one that makes the socket `s`, and the cause of their leftmost fault.
-const LINE_FAULTS: [(&str, Cause); 34] = [
+const LINE_FAULTS: [(&str, Cause); 32] = [
     ("socket", Cause::BadWord),
     ("socket t", Cause::BadWord),
     ("socket t- PUSH", Cause::BadWord),
@@ -238,8 +239,6 @@ const LINE_FAULTS: [(&str, Cause); 34] = [
     ("recv s tries=100001", Cause::BadWord),
     ("recv s 1", Cause::BadWord),
     ("recv s tries=1 tries=1", Cause::BadWord),
-    ("unbind s inproc://q", Cause::BadWord),
-    ("close s", Cause::BadWord),
 ];
 
 #[test]

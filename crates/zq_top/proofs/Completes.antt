@@ -3,9 +3,9 @@ use Rattle.std.proofs.Common.{◌≡◌, ◌<◌, ◌≤◌, ◌+◌, ℕ, List,
 use Rattle.std.specs.Prelude.{Ok, Err, nat_lt}
 use Rattle.std.proofs.lemmas.Bool.{lt-ltb}
 use Rattle.zq_outer.specs.Count.{Rose}
-use Rattle.zq_script.specs.Script.{actors_read, script_of}
 use Rattle.zq_script.specs.declared.fault.ScriptFault.{ScriptFault}
 use Rattle.spec_run.specs.Run.{Schedule}
+use Rattle.zq_script.specs.Script.{script_of}
 use Rattle.spec_run.specs.declared.journal.Journal.{Journal}
 use Rattle.spec_run.specs.Script.{Script}
 use Rattle.replay_laws.specs.ReadScripts.{ScriptsMayBeAsked}
@@ -23,7 +23,7 @@ use Rattle.zq_top.proofs.LocalLemmas.{local_script}
 
 -- octets past the limit are no script
 too_long : (octets : List ℕ) (script : Script) → 1048576 < length octets → script_of octets ≡ Ok script → ⊥
-unfolding script_of actors_read
+unfolding script_of
 too_long octets script long is = let test : nat_lt 1048576 (length octets) ≡ true = lt-ltb 1048576 (length octets) long in
     let clash = rw test at is in cc
 

@@ -9,23 +9,20 @@ use Rattle.spec_run.specs.declared.script.Line.{Line}
 use Rattle.spec_run.specs.Script.{Script}
 use Rattle.zq_world.specs.MayAsk.{IsLocal, MayAskLine, MayAskLines, MayAskScript}
 use Rattle.replay_laws.specs.Local.{is_inproc}
-use Rattle.replay_laws.specs.LocalScript.{is_local_call, is_local_line, are_local_lines, is_local_script}
+use Rattle.replay_laws.specs.LocalScript.{is_local_line, are_local_lines, is_local_script}
 
 local_at : (at : Endpoint) → IsLocal at → is_inproc at ≡ true
 local_at (Inproc name) may = refl
 local_at (Tcp address) may = absurd may
 
-local_call : (asked : Call) → MayAskLine asked → is_local_call asked ≡ true
-local_call (call.Socket kind options) may = refl
-local_call (call.Bind place at) may = local_at at may
-local_call (call.Connect place to) may = local_at to may
-local_call (call.Send place m) may = refl
-local_call (call.Recv place tries) may = refl
-local_call (call.Subscribe place topic) may = refl
-local_call (call.Unsubscribe place topic) may = refl
-
 local_line : (line : Call) → MayAskLine line → is_local_line line ≡ true
-local_line asked may = local_call asked may
+local_line (call.Socket kind options) may = refl
+local_line (call.Bind place at) may = local_at at may
+local_line (call.Connect place to) may = local_at to may
+local_line (call.Send place m) may = refl
+local_line (call.Recv place tries) may = refl
+local_line (call.Subscribe place topic) may = refl
+local_line (call.Unsubscribe place topic) may = refl
 local_line (call.Unbind place at) may = refl
 local_line (call.Disconnect place at) may = refl
 local_line (call.Close place) may = refl

@@ -9,7 +9,7 @@ pub mod Headline
 pub mod Edge
 pub use Rattle.replay_laws.specs.LocalScript
 pub use Rattle.replay_laws.specs.OneJournal
-pub use Rattle.run_script.specs.RunGrammar
+pub use Rattle.zq_script.specs.Script
 pub use Rattle.replay_laws.specs.ScriptBounds
 pub use Rattle.spec_run.specs.JournalText
 pub use Rattle.spec_run.specs.Journal

@@ -1,4 +1,4 @@
--- What is told of octets that were asked to be run over sockets that end (own choice).
+-- What is told of octets that were asked to be run (own choice).
 use Rattle.std.specs.Prelude.{◌≡◌, ◌≤◌, Bool, true, false, ℕ, List, Ok, Err}
 use Rattle.zq_script.specs.declared.fault.ScriptFault.{ScriptFault}
 use Rattle.zq_outer.specs.Readings.{ClockAt, ReadsClock}

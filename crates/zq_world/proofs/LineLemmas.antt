@@ -16,7 +16,7 @@ use Rattle.spec_run.specs.declared.answer.Answer.TheVariants as answer
 use Rattle.spec_run.specs.declared.answer.Answer.{Answer}
 use Rattle.spec_run.specs.declared.script.Call.{Call}
 use Rattle.spec_run.specs.declared.script.Line.{Line}
-use Rattle.spec_run.specs.ControlAnswer.{refusal_answer}
+use Rattle.spec_run.specs.ControlAnswer.{reply_answer}
 use Rattle.spec_run.specs.Act.{Try}
 use Rattle.spec_run.specs.OpenSocket.{OpenSock}
 use Rattle.spec_run.specs.Pump.{Pumps}
@@ -235,7 +235,7 @@ module _ {O N S : Type 0} (as_open : O → OpenSock) where
 
   pub asked_refused : (caller : ℕ) (kind : Kind) (options : Options) (seats : List (Seat O)) (refusal : Refusal) (told : List Skip) (before after : List (Piece N S))
       → MakesOne as_open caller kind options (made.Refused refusal) before after
-      → DoesAsked caller (call.Socket kind options) (refusal_answer refusal) (at_seats as_open seats told before) (at_seats as_open (seats ++ seat.Refused ∷ []) told after)
+      → DoesAsked caller (call.Socket kind options) (reply_answer (reply.Refused refusal)) (at_seats as_open seats told before) (at_seats as_open (seats ++ seat.Refused ∷ []) told after)
   asked_refused caller kind options seats refusal told before after h = record {
     pump = [];
     acts = _;

@@ -32,14 +32,7 @@ abbrev pub MayAskLine : Call → Type 0
 MayAskLine (call.Socket kind options) = MayMake options
 MayAskLine (call.Bind place at) = IsLocal at
 MayAskLine (call.Connect place to) = IsLocal to
-MayAskLine (call.Send place m) = Unit {0}
-MayAskLine (call.Recv place tries) = Unit {0}
-MayAskLine (call.Subscribe place topic) = Unit {0}
-MayAskLine (call.Unsubscribe place topic) = Unit {0}
-MayAskLine (call.Unbind place at) = Unit {0}
-MayAskLine (call.Disconnect place at) = Unit {0}
-MayAskLine (call.Close place) = Unit {0}
-MayAskLine call.Term = Unit {0}
+MayAskLine _ = Unit {0}
 
 -- so may each of these lines
 abbrev pub MayAskLines : List Line → Type 0

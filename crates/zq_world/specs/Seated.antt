@@ -1,7 +1,8 @@
 -- What a socket line made, as its actor has it and as the line is answered (own choice).
+use Rattle.spec_control.specs.declared.request.Reply.TheVariants as reply
 use Rattle.spec_run.specs.declared.answer.Answer.TheVariants as answer
 use Rattle.spec_run.specs.declared.answer.Answer.{Answer}
-use Rattle.spec_run.specs.ControlAnswer.{refusal_answer}
+use Rattle.spec_run.specs.ControlAnswer.{reply_answer}
 use Rattle.zq_world.specs.declared.made.Made.{Made}
 use Rattle.zq_world.specs.declared.made.Made.TheVariants as made
 use Rattle.zq_world.specs.declared.seats.Seat.{Seat}
@@ -16,4 +17,4 @@ module _ {O : Type 0} where
   -- its answer
   abbrev pub answer_made : Made O → Answer
   answer_made (made.Socket object socket) = answer.Object object
-  answer_made (made.Refused refusal) = refusal_answer refusal
+  answer_made (made.Refused refusal) = reply_answer (reply.Refused refusal)

@@ -26,16 +26,9 @@ use Rattle.zq_world.specs.declared.made.Made.TheVariants as made
 -- a line is a call of a socket
 abbrev pub AsksSocket : Call → Type 0
 AsksSocket (call.Socket kind options) = ⊥
-AsksSocket (call.Bind place at) = Unit {0}
-AsksSocket (call.Connect place to) = Unit {0}
-AsksSocket (call.Send place m) = Unit {0}
-AsksSocket (call.Recv place tries) = Unit {0}
-AsksSocket (call.Subscribe place topic) = Unit {0}
-AsksSocket (call.Unsubscribe place topic) = Unit {0}
-AsksSocket (call.Unbind place at) = Unit {0}
-AsksSocket (call.Disconnect place at) = Unit {0}
 AsksSocket (call.Close place) = ⊥
 AsksSocket call.Term = ⊥
+AsksSocket _ = Unit {0}
 
 module _ {N S : Type 0} where
   -- what a line's call does to the socket that was pumped before it

@@ -1,18 +1,25 @@
 ghost use Rattle.std.specs.Prelude.{◌≡◌};
-ghost use Rattle.spec_run.specs.ControlAnswer.{refusal_answer};
+ghost use Rattle.spec_run.specs.ControlAnswer.{reply_answer};
 
-use spec_control::Refusal;
+use spec_control::{Refusal, Reply};
 use spec_run::Answer;
 
-/// What a line is answered whose request was refused.
-pub(crate) fn refusal_answer(refusal: Refusal) -> Answer
-    ensures { result ≡ refusal_answer refusal }
+/// What a line is answered where the control plane answered so.
+pub fn reply_answer(reply: Reply) -> Answer
+    ensures { result ≡ reply_answer reply }
 {
-    match refusal {
-        Refusal::Term => Answer::Term,
-        Refusal::InUse => Answer::InUse,
-        Refusal::NotBound => Answer::NotBound,
-        Refusal::BadPair => Answer::BadPair,
-        Refusal::TooMany => Answer::TooMany,
+    match reply {
+        Reply::Done => Answer::Done,
+        Reply::Object(object) => Answer::Object(object),
+        Reply::Pair(pair) => Answer::Pair(pair),
+        Reply::Both(object, pair) => Answer::Both(object, pair),
+        Reply::Wait => Answer::Wait,
+        Reply::Asked => Answer::Done,
+        Reply::Before => Answer::Term,
+        Reply::Refused(Refusal::Term) => Answer::Term,
+        Reply::Refused(Refusal::InUse) => Answer::InUse,
+        Reply::Refused(Refusal::NotBound) => Answer::NotBound,
+        Reply::Refused(Refusal::BadPair) => Answer::BadPair,
+        Reply::Refused(Refusal::TooMany) => Answer::TooMany,
     }
 }

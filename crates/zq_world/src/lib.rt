@@ -22,6 +22,7 @@ mod tale_laws;
 mod world;
 
 pub use actor::Actor;
+pub use answers::reply_answer;
 pub use cores::{Core, Shown};
 pub use event::Event;
 pub use laws::{

@@ -4,25 +4,13 @@ ghost use Rattle.spec_run.specs.Script.{line_tries, is_tried_again, line_is_over
 use spec_pattern::RecvRefusal;
 use spec_run::{Answer, Call};
 
-/// How often what a script asks is tried.
-fn line_tries(call: &Call) -> u32
-    ensures { result ≡ line_tries call.now }
-{
-    match call {
-        Call::Recv(_, tries) => *tries,
-        Call::Socket(_, _) | Call::Bind(_, _) | Call::Connect(_, _) => 1,
-        Call::Send(_, _) | Call::Subscribe(_, _) | Call::Unsubscribe(_, _) => 1,
-    }
-}
-
 /// How often a line is tried.
 fn line_tries(line: &Call) -> u32
     ensures { result ≡ line_tries line.now }
 {
     match line {
-        Call::Asks(call) => line_tries(call),
-        Call::Unbind(_, _) | Call::Disconnect(_, _) => 1,
-        Call::Close(_) | Call::Term => 1,
+        Call::Recv(_, tries) => *tries,
+        _ => 1,
     }
 }
 

@@ -2,10 +2,11 @@ ghost use Rattle.std.specs.Prelude.{◌≡◌, ◌≤◌};
 ghost use Rattle.zq_world.specs.Seats.{is_open, shut_before};
 ghost use Rattle.zq_world.specs.Seated.{seat_made, answer_made};
 
-use crate::answers::refusal_answer;
+use crate::answers::reply_answer;
 use crate::made::Made;
 use crate::sockets::Sockets;
 use msg_pipe::Pipes;
+use spec_control::Reply;
 use spec_pattern::Skip;
 use spec_run::{Answer, Call};
 use std::alloc::{AllocError, Global};
@@ -80,7 +81,10 @@ fn seated<O>(made: Made<O>) -> (Seat<O>, Answer)
             let answer = Answer::Object(object);
             return (Seat::Open(object, socket), answer);
         }
-        Made::Refused(refusal) => return (Seat::Refused, refusal_answer(refusal)),
+        Made::Refused(refusal) => {
+            let answer = reply_answer(Reply::Refused(refusal));
+            return (Seat::Refused, answer);
+        }
     }
 }
 
@@ -174,7 +178,7 @@ impl<O: Drop> Seats<O> {
         }
     }
 
-    /// script_call.Close the socket of a line. Where the line's name stands for no open socket nothing is done.
+    /// Closes the socket of a line. Where the line's name stands for no open socket nothing is done.
     pub(crate) fn close<P: Pipes, W: Sockets<P, Open = O>>(
         &mut self,
         alloc: Global,
@@ -197,7 +201,7 @@ impl<O: Drop> Seats<O> {
         Ok(Answer::Done)
     }
 
-    /// script_call.Close the first socket that is open.
+    /// Closes the first socket that is open.
     pub(crate) fn shut_first<P: Pipes, W: Sockets<P, Open = O>>(
         &mut self,
         alloc: Global,
@@ -215,7 +219,7 @@ impl<O: Drop> Seats<O> {
         self.shut(alloc, way, caller, place)
     }
 
-    /// script_call.Close the socket of an open seat.
+    /// Closes the socket of an open seat.
     fn shut<P: Pipes, W: Sockets<P, Open = O>>(
         &mut self,
         alloc: Global,

@@ -46,7 +46,11 @@ impl<'a, P: Pipes, W: Steps<P> + Drop> World<'a, P, W> {
     ghost use Rattle.zq_world.specs.ByEvents.{core_event, WantsAmong};
 
     /// The actors of a script before their first lines, over a new core.
-    pub fn new(alloc: Global, script: &'a [ActorScript], way: W) -> Result<World<'a, P, W>, AllocError>
+    pub fn new(
+        alloc: Global,
+        script: &'a [ActorScript],
+        way: W,
+    ) -> Result<World<'a, P, W>, AllocError>
         requires new { W.pieces way ≡ [] }
         requires may { MayAskScript script.now }
         ensures { IfOk result (λ world. world

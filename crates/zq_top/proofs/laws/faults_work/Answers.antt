@@ -2,7 +2,7 @@ use Rattle.std.proofs.Common.{◌≡◌, ◌∙◌, ℕ, List, Result, Err, slic
 use Rattle.std.specs.Fmt.{digits}
 use Rattle.std.specs.Prelude.{codes}
 use Rattle.zq_script.specs.Grammar.{first_word, statement_of, verb_of}
-use Rattle.zq_script.specs.Script.{actors_read, at_line, line_statement, statements_from, ending_verb, script_of, statement_of}
+use Rattle.zq_script.specs.Script.{script_of, at_line, line_statement, statements_from}
 use Rattle.spec_run.specs.Script.{Script}
 use Rattle.zq_script.specs.Words.{is_skipped, lines_of, without_empty_end, words_of}
 use Rattle.zq_script.specs.declared.fault.Cause.TheVariants.{BadWord}
@@ -18,7 +18,7 @@ abbrev first : ScriptFault
 first = record { line = 1; cause = BadWord }
 
 refused : script_of (codes "x\n") ≡ Err first
-unfolding script_of actors_read lines_of without_empty_end statements_from line_statement is_skipped words_of at_line statement_of ending_verb statement_of first_word verb_of
+unfolding script_of lines_of without_empty_end statements_from line_statement is_skipped words_of at_line statement_of first_word verb_of
 refused = refl
 
 said : RefusesScript (codes "x\n") (codes "script 1 BadWord\n")
