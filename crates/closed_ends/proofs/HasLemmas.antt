@@ -229,6 +229,3 @@ module _ {N O I : Type 0} (out_name : O → N) (in_name : I → N) (exact : Bool
 
       pub keeps_left : KeepsTurns (has out_name in_name turns sealed heard ss) (has out_name in_name turns sealed heard ts)
       keeps_left = record { states = state_left; turns = refl; sealed = refl; joined = refl }
-
-      pub begins_none : BeginsNone (has out_name in_name turns sealed heard ss) (has out_name in_name turns sealed heard ts)
-      begins_none = record { states = state_left; turns = refl; sealed = refl }

@@ -22,10 +22,6 @@ module _ {N O I : Type 0} (o : ℕ) (e : EndId) (ss : List (ClosedSocket N O I))
   pub socket_is : (x : ClosedSocket N O I) → x ≡ slice_index_or ss j x → x ≡ f.its.one
   socket_is x is = is ∙ ap (λ (l : List (ClosedSocket N O I)). slice_index_or l j x) f.its.are ∙ index_there f.its.before f.its.behind s x j f.its.at
 
-  pub end_there : (x : ClosedSocket N O I) → x ≡ slice_index_or ss j x → k < length x.ends.items
-  end_there x is = subst (λ (y : ClosedSocket N O I). k < length y.ends.items) (sym (socket_is x is))
-      (subst (λ (l : List (Given N O I)). k < length l) (sym f.here.are) (within f.here.before f.here.behind f.here.one k f.here.at))
-
   pub end_is : (x : ClosedSocket N O I) → x ≡ slice_index_or ss j x → (g : Given N O I) → g ≡ slice_index_or x.ends.items k g → g ≡ f.here.one
   end_is x is g here =
       here ∙ ap (λ (y : ClosedSocket N O I). slice_index_or y.ends.items k g) (socket_is x is) ∙ ap (λ (l : List (Given N O I)). slice_index_or l k g) f.here.are
@@ -50,10 +46,6 @@ module _ {N O I : Type 0} (o : ℕ) (e : EndId) (ss : List (ClosedSocket N O I))
   alone_still x is t number alone =
       subst AllAlone (sym (ap (λ (l : List (ClosedSocket N O I)). set l j t) f.its.are ∙ set_there f.its.before f.its.behind s t j f.its.at))
       (alone_same f.its.before f.its.behind s t (number ∙ ap (λ (y : ClosedSocket N O I). y.number) (socket_is x is)) (subst AllAlone f.its.are alone))
-
--- the sockets are found as they were
-pub indexed_still : {N O I : Type 0} (o : ℕ) (e : EndId) (g : Given N O I) (rs : List (Given N O I)) (c d : ClosedSockets N O I) → AreIndexed c → d.places ≡ c.places → Replaces o e g rs c.sockets.items d.sockets.items → AreIndexed d
-indexed_still o e g rs c d indexed places r n = ap (λ m. get nat_eq m n) places ∙ indexed n ∙ sym (r.places n)
 
 -- a socket with an end changed
 abbrev pub with_end : {N O I : Type 0} → ClosedSocket N O I → ℕ → Given N O I → ClosedSocket N O I

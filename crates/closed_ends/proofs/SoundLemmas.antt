@@ -108,15 +108,6 @@ module _ {S O I N : Type 0} (K : Known S O I N) where
         left_is r = subst (λ l. AllTwo K.exact (map (held_given K.out_name K.in_name) l)) (sym r.now)
             (left_apart K.out_name K.in_name K.exact (r.pre ++ r.front) (r.back ++ r.post) g (subst (λ l. AllTwo K.exact (map (held_given K.out_name K.in_name) l)) r.was sound.apart))
 
-    -- it was taken back with its halves
-    pub back_sound : (r : Replaces o e g [] ss ts) → AllAlone ts → IsSound K old ts
-    back_sound r alone = record {
-      halves = subst (AreGivenWith K old) (sym r.now) (others_with [] r);
-      apart = subst (λ l. AllTwo K.exact (map (held_given K.out_name K.in_name) l)) (sym r.now)
-          (left_apart K.out_name K.in_name K.exact (r.pre ++ r.front) (r.back ++ r.post) g (subst (λ l. AllTwo K.exact (map (held_given K.out_name K.in_name) l)) r.was sound.apart));
-      alone = alone;
-    }
-
   -- ---- what is left to others
 
   pub leaves_on : (old mid new : S) (from then to : ClosedSockets N O I) → Leaves K old from mid then → Leaves K mid then new to → Leaves K old from new to
@@ -198,19 +189,6 @@ module _ {S O I N : Type 0} (K : Known S O I N) where
     fewer_read : Replaces o e g [] c.sockets.items d.sockets.items → (n : N) → NoneReads K c n → NoneReads K d n
     fewer_read r n h = subst (λ l. All (λ x. IsElse K n (K.in_name x.input)) l) (sym r.now)
         (all_but (λ x. IsElse K n (K.in_name x.input)) (r.pre ++ r.front) (r.back ++ r.post) g (subst (λ l. All (λ x. IsElse K n (K.in_name x.input)) l) r.was h))
-
-    -- one was taken back
-    pub leaves_back : Replaces o e g [] c.sockets.items d.sockets.items → d.settled.items ≡ c.settled.items → Leaves K old c old d
-    leaves_back r settled = record {
-      written = λ n u t. t;
-      read = λ n h t. t;
-      outs = λ h t w u. refl;
-      ins = λ h t n. refl;
-      writes = λ n w. fewer_written r n w.first;
-      reads = λ n h. fewer_read r n h.first;
-      came = came_none;
-      settled = λ n u. subst (λ l. All (λ x. IsElse K n x.0) l) settled u;
-    }
 
     -- or its pipe was settled
     pub leaves_gone : Replaces o e g [] c.sockets.items d.sockets.items → OneGone K old new g → d.settled.items ≡ c.settled.items ++ (K.in_name g.input, tt) ∷ [] → Leaves K old c new d

@@ -75,17 +75,8 @@ module _ {O I : Type 0} where
   halves_out None i h e = cc
   halves_out (Some out) i h e = let same = one_some (record { out = out; input = i }) h e in (ap (λ (y : Halves O I). Some y.out) same, sym (ap (λ (y : Halves O I). y.input) same))
 
-  pub no_halves : (x : Option O) (i : I) → with_input x i ≡ None → is_some x ≡ false
-  no_halves None i e = refl
-  no_halves (Some out) i e = cc
-
 module _ {N O I : Type 0} where
   module _ (out_name : O → N) (in_name : I → N) (exact : Bool) where
-    pub last_here : (e : EndId) (gs : List (Given N O I)) → IsLast e (map (held_given out_name in_name) gs) → list_any (is_of e) gs ≡ true
-    last_here e gs last =
-        sym (has_listed out_name in_name exact e gs) ∙ ap (has_end e) last.are
-        ∙ any_here (λ (x : Held N). is_end e x.end) last.before [] last.last last.end
-
     pub has_read : (e : EndId) (gs : List (Given N O I)) (n : N) → read_in (map (held_given out_name in_name) gs) e ≡ Some n → list_any (is_of e) gs ≡ true
     has_read e [] n h = cc
     has_read e (x ∷ xs) n h = by (is_of e x) h (has_read e xs n)

@@ -99,45 +99,8 @@ module _ {S O I N : Type 0} (K : Known S O I N) (is_exact : K.exact ≡ true) (g
           sealed_is = ap (λ (x : Writing). x.sealed) w ∙ was.sealed_is;
         }
 
-    pub made_past : IsPast K goes' capacity new past
-    made_past = record { stands = λ p n g. made_stands p n (same_pipe p q) refl g; exact = is.exact }
-
     -- its name is a further one
     is_new : (p : PipeId) (n : N) → same_pipe p q ≡ false → goes' p ≡ Some n → goes' q ≡ Some n → ⊥
     is_new p n e g h =
         let name : n ≡ K.out_name o = some_same n (K.out_name o) (sym h ∙ goes_is) in
         made.is_new is_exact (subst (IsThere K old) name (is.stands p n (sym (others p e) ∙ g)).there)
-
-    one_each : (p r : PipeId) (n : N) (a b : Bool) → same_pipe p q ≡ a → same_pipe r q ≡ b → goes' p ≡ Some n → goes' r ≡ Some n → p ≡ r
-    one_each p r n true true e f g h = same_pipes p q e ∙ sym (same_pipes r q f)
-    one_each p r n true false e f g h = absurd (is_new r n f h (ap goes' (sym (same_pipes p q e)) ∙ g))
-    one_each p r n false true e f g h = absurd (is_new p n e g (ap goes' (sym (same_pipes r q f)) ∙ h))
-    one_each p r n false false e f g h = one_name p r n (sym (others p e) ∙ g) (sym (others r f) ∙ h)
-
-    pub made_one_name : OneName goes'
-    made_one_name p r n g h = one_each p r n (same_pipe p q) (same_pipe r q) refl refl g h
-
-  -- a pipe is settled, and goes by no name any more
-  module _ (name : N) (goes_was : goes q ≡ Some name) (goes_is : goes' q ≡ None) (keeps : KeepsButPipe K name old new) where
-    settled_stands : (p : PipeId) (n : N) (b : Bool) → same_pipe p q ≡ b → goes' p ≡ Some n → Stands K goes' capacity new past p n
-    settled_stands p n true e g = absurd (none_some (goes' p) n (ap goes' (same_pipes p q e) ∙ goes_is) g)
-    settled_stands p n false e g =
-        let gone = sym (others p e) ∙ g in
-        let was = is.stands p n gone in
-        let other : n ≢ name = λ same. absurd (true≢false (sym (own_pipe q) ∙ ap (λ (r : PipeId). same_pipe r q) (sym (one_name p q n gone (goes_was ∙ ap Some (sym same)))) ∙ e)) in
-        let w = keeps.outs was.out (subst (IsThere K old) (sym was.out_is) was.there) (λ _ same. other (sym was.out_is ∙ same)) in
-        let r = keeps.ins was.input (subst (IsThere K old) (sym was.in_is) was.there) (λ _ same. other (sym was.in_is ∙ same)) in
-        record {
-          out = was.out;
-          input = was.input;
-          out_is = was.out_is;
-          in_is = was.in_is;
-          there = keeps.there n was.there;
-          committed = ap (λ (x : Writing). x.committed) w ∙ was.committed;
-          taken = ap (λ (x : Reading). x.taken) r ∙ was.taken;
-          capacity_is = ap (λ (x : Writing). x.capacity) w ∙ was.capacity_is;
-          sealed_is = ap (λ (x : Writing). x.sealed) w ∙ was.sealed_is;
-        }
-
-    pub settled_past : IsPast K goes' capacity new past
-    settled_past = record { stands = λ p n g. settled_stands p n (same_pipe p q) refl g; exact = is.exact }

@@ -194,17 +194,6 @@ module _ {S O I N : Type 0} (K : Known S O I N) where
       → to.places.items ≡ set from.places.items k q → to.settled.items ≡ from.settled.items → Leaves K pipes from pipes to
   leaves_changed pipes from to k p q at less now = leaves_pipes pipes from to (place_now from.places.items to.places.items k p q at less now)
 
-  -- pipes were made
-  pub leaves_all : (old new : S) (from to : EndTable N O I) → KeepsAll K old new → KeepsPlaces from.places.items to.places.items → to.settled.items ≡ from.settled.items → Leaves K old from new to
-  leaves_all old new from to keeps places same = record {
-    written = λ n u t. keeps.there n t;
-    read = λ n r t. keeps.there n t;
-    outs = λ h t w u. keeps.outs h t;
-    ins = λ h t r. keeps.ins h t;
-    places = places;
-    settled = settled_same from to same;
-  }
-
   module _ (old new : S) (from to : EndTable N O I) (k : ℕ) (p : Place N I) (at : place_at from.places.items k ≡ Some p) (held : p.held ≡ true) (places : KeepsPlaces from.places.items to.places.items) where
     here : (q : Place N I) × (place_at to.places.items k ≡ Some q) × IsLess p q
     here =

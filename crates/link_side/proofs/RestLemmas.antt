@@ -132,15 +132,6 @@ none_decoded opts d (unfinished frames rest s cut e) =
 none_decoded opts d (refused frames rest cause heard s b e) =
     (let l = ap (λ (l : List ℕ). length l) (nil_front s.greeting _ (sym s.all)) in absurd (omega (arith, l, s.whole)))
 
-pub run_new : (opts : EngineOpts) (k : Kept) → k.unfed ≡ [] → k.held ≡ None → Follows (no_past opts) k.engine → HasRun opts [] k
-run_new opts k none held f = record {
-  heard = [];
-  split = none;
-  put = [];
-  offered = refl;
-  follows = subst (λ (o : Option Frames). Follows (past_by opts [] [] o []) k.engine) (sym held) f;
-}
-
 pub rest_new : (opts : EngineOpts) (k : Kept) → k.unfed ≡ [] → Follows (no_past opts) k.engine → IsCurrent k.engine → IsAtRest k
 rest_new opts k none f now =
     let d = means opts [] [] k.engine.listening f.listens now in
@@ -158,12 +149,6 @@ runs_now : (o : Option Refusal) (q : Option Peer) (peer : Peer) → standing_by 
 runs_now (Some r) q peer e = absurd cc
 runs_now None None peer e = absurd cc
 runs_now None (Some x) peer e = (refl, refl)
-
--- a message can be offered where the engine runs and nothing is lent
-pub can_offer : (c : Conversation) (peer : Peer) → standing_now c ≡ Runs peer → IsSpent c → CanOffer c
-can_offer c peer is spent =
-    let k = runs_now (refusal_now c.listening) c.listening.hearing.peer peer is in
-    record { running = k.0; unrefused = k.1; idle = spent.idle }
 
 -- a part of a stream that stands so
 abbrev pub StandsAs : Standing → Conversation → Type 0
@@ -210,13 +195,3 @@ shaking_differs peer e = absurd cc
 
 pub refused_differs : (x : Refusal) (peer : Peer) → IsRefused x ≡ Runs peer → ⊥
 refused_differs x peer e = absurd cc
-
--- ---- the same is at rest
-
--- what was heard and what waits are as before
-pub rest_same : (old new : Kept) → new.unfed ≡ old.unfed → new.held ≡ old.held → new.engine.listening ≡ old.engine.listening → IsAtRest old → IsAtRest new
-rest_same old new eu ed el rest = record {
-  fed = eu ∙ rest.fed;
-  current = subst (λ (l : Listening). IsSettledNow l) (sym el) rest.current;
-  drained = λ none. ap (λ (l : Listening). l.hearing.queue) el ∙ rest.drained (sym ed ∙ none);
-}

@@ -25,9 +25,6 @@ zero_more xs k = by (pushed xs 0 0 k)
     by (is_old same) = same
     by (is_new at now past) = now ∙ sym past
 
-pub alike_more : (xs ys : List ℕ) → CountsAlike xs ys → CountsAlike xs (ys ++ 0 ∷ [])
-alike_more xs ys alike k = zero_more ys k ∙ alike k
-
 none_more : (n : ℕ) → n ≡ n + 0
 none_more n = omega arith
 
@@ -44,64 +41,15 @@ counted_one xs ys zs place many there alike is set k = ap (λ (l : List ℕ). sl
         get_or-set_other ys place k many 0 (λ same. never (sym e ∙ eq-eqb k place same)) ∙ alike k ∙ none_more (slice_index_or xs k 0)
         ∙ ap (λ (b : Bool). slice_index_or xs k 0 + (if b then 1 else 0)) (sym e)
 
-pub counted_if : (so : Bool) (place : ℕ) (xs ys : List ℕ) → so ≡ true → CountsOne true place xs ys → CountsOne so place xs ys
-counted_if so place xs ys is one = subst (λ (b : Bool). CountsOne b place xs ys) (sym is) one
-
-pub counted_none : (so : Bool) (place : ℕ) (xs : List ℕ) → so ≡ false → CountsOne so place xs xs
-counted_none so place xs is k = none_more (slice_index_or xs k 0) ∙ ap (λ (b : Bool). slice_index_or xs k 0 + (if b && (k == place) then 1 else 0)) (sym is)
-
 -- ---- one drop
-
-not_equal : (a b : ℕ) → a ≢ b → (a == b) ≡ false
-not_equal a b other = by (a == b) refl
-  where
-    by : (v : Bool) → (a == b) ≡ v → (a == b) ≡ false
-    by true e = absurd (other (eqb-true a b e))
-    by false e = e
 
 and_false : (b : Bool) → (b && false) ≡ false
 and_false true = refl
 and_false false = refl
 
--- at the place of an end of this object, or at that of the end that is asked for
-same_at : (c : Control) (o : ℕ) (d e : EndId) → ((owner_of c d == o) && (place_in e == place_in d)) ≡ ((owner_of c e == o) && is_end d e)
-same_at c o d e = by (is_end d e) refl
-  where
-    by : (b : Bool) → is_end d e ≡ b → ((owner_of c d == o) && (place_in e == place_in d)) ≡ ((owner_of c e == o) && b)
-    by true h =
-        let same : d ≡ e = same_end d e h in
-        ap (λ (v : Bool). (owner_of c d == o) && v) (eq-eqb (place_in e) (place_in d) (ap place_in (sym same))) ∙ ap (λ (x : EndId). (owner_of c x == o) && true) same
-    by false h =
-        ap (λ (v : Bool). (owner_of c d == o) && v) (not_equal (place_in e) (place_in d) (other_ends d e h)) ∙ and_false (owner_of c d == o) ∙ sym (and_false (owner_of c e == o))
-
--- an end of a pair is one of its two
-one_of_two : (t k a : Bool) → (if t && (k && a) then 1 else 0) + (if t && (k && not a) then 1 else 0) ≡ (if t then (if k then 1 else 0) else 0)
-one_of_two true true true = refl
-one_of_two true true false = refl
-one_of_two true false a = refl
-one_of_two false k a = refl
-
 told_one : (b : Bool) (skip : Skip) → (if b then 1 else 0) ≡ length (if b then skip ∷ [] else [])
 told_one true skip = refl
 told_one false skip = refl
-
-pub told_of_one : (c : Control) (o : ℕ) (skip : Skip) (old mid new : List ℕ) → CountsOne (owner_of c (end_of skip.pair.0 true) == o) (place_in (end_of skip.pair.0 true)) old mid
-    → CountsOne (owner_of c (end_of skip.pair.0 false) == o) (place_in (end_of skip.pair.0 false)) mid new → CountsTold c o (skip ∷ []) old new
-told_of_one c o skip old mid new first second p =
-    let e = other_end p in
-    let a = end_of skip.pair.0 true in
-    let b = end_of skip.pair.0 false in
-    let read : ℕ = slice_index_or old (place_in e) 0 in
-    second (place_in e)
-    ∙ ap (λ (n : ℕ). n + (if (owner_of c b == o) && (place_in e == place_in b) then 1 else 0)) (first (place_in e))
-    ∙ ap (λ (v : Bool). read + (if (owner_of c a == o) && (place_in e == place_in a) then 1 else 0) + (if v then 1 else 0)) (same_at c o b e)
-    ∙ ap (λ (v : Bool). read + (if v then 1 else 0) + (if (owner_of c e == o) && is_end b e then 1 else 0)) (same_at c o a e)
-    ∙ add_assoc read _ _
-    ∙ ap (λ (n : ℕ). read + n) (one_of_two (owner_of c e == o) (skip.pair.0 == e.pair.0) e.a
-    ∙ ap (λ (n : ℕ). if owner_of c e == o then n else 0) (told_one (skip.pair.0 == e.pair.0) skip))
-  where
-    add_assoc : (x y z : ℕ) → (x + y) + z ≡ x + (y + z)
-    add_assoc x y z = omega arith
 
 -- ---- drops in order
 

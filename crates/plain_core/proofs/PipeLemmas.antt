@@ -40,16 +40,6 @@ found_so e c (x ∷ ss) s all h = by (is_end e x.end) refl h (λ found. found_so
         subst (Found e c) (ap or_else found) (record { end = at; reason = All-head (HasItsReason c) x ss all ∙ ap c.reasons at })
     by false is found rest = rest found
 
-pub row_none : (c : Control) (drops : List ℕ) (p : PipeId) → None ≡ option_map (λ (s : Settlement). s.counts) (settlement_of c p) → None ≡ row_in c drops p
-row_none c drops p h = by (settlement_of c p) h
-  where
-    by : (o : Option Settlement) → None ≡ option_map (λ (s : Settlement). s.counts) o → None ≡ option_map (λ (s : Settlement). row_dropped (is_heard_at c p) p (drops_in drops p) s) o
-    by None h = refl
-    by (Some s) h = absurd (none_or_some h)
-      where
-        none_or_some : None ≡ Some s.counts → ⊥
-        none_or_some h = grind arith
-
 pub row_some : (c : Control) (drops : List ℕ) (p : PipeId) (counts : Settled) (row : SettledRow) → All (HasItsReason c) c.settlements
     → Some counts ≡ option_map (λ (s : Settlement). s.counts) (settlement_of c p)
     → ((s : Settlement) → s.counts ≡ counts → s.reason ≡ c.reasons (other_end p) → row ≡ row_dropped (is_heard_at c p) p (drops_in drops p) s) → Some row ≡ row_in c drops p

@@ -58,9 +58,6 @@ module _ {G N T : Type 0} (d e : Lent G N T) (before : IsOneOrder d) (behind : I
   abbrev pub led : Control
   led = after_all d.items (begun d.past.workers)
 
-  abbrev pub led_now : Control
-  led_now = after_all more (after_all d.items (begun d.past.workers))
-
   pub whole : IsControlRun (begun d.past.workers) (d.items ++ more)
   whole = subst (λ (l : List (Item N T)). IsControlRun (begun d.past.workers) l) items (subst (λ (n : ℕ). IsControlRun (begun n) e.items) workers behind.order.run)
 

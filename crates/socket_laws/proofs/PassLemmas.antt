@@ -56,10 +56,6 @@ once_apart (x ∷ xs) ys once =
     (λ y other none. ap (λ (b : Bool). b || list_any (is_end y) xs) (turned_end x y other) ∙ none) ys
     (all_behind (λ y. is_end x y ≡ false) xs ys (none_among x (xs ++ ys) once.0)) (once_apart xs ys once.1)
 
-either_true : (b : Bool) → (b || true) ≡ true
-either_true true = refl
-either_true false = refl
-
 module _ (o slot : ℕ) (stopped : Bool) (p : Pattern) (was : Control) where
   abbrev pub socket : OpenSock
   socket = record { object = o; slot = slot; stopped = stopped; pattern = p; ends = ends_at o was }

@@ -108,11 +108,6 @@ passed opts acts dials link closed (Unsaid m) k t t' new p held topics =
       subst (λ (l : List Frames). AreTopics dials opts link closed l t') (sym (none_waits new.behind free)) (subst (λ (x : Option Topics). AreTopics dials opts link closed [] x) (sym p.1.1) (topics_passed dials opts link closed m t topics)),
     )
 
-pub free_passed : (b : Behind) (k : Kept) (t t' : Option Topics) (new : Side) → PassesOn b k t new t' → IsFree new.behind
-free_passed Nothing k t t' new p = subst (λ (x : Side). IsFree x.behind) (sym p.0) tt
-free_passed Octets k t t' new p = subst (λ (x : Side). IsFree x.behind) (sym p.0) tt
-free_passed (Unsaid m) k t t' new p = free_by new.behind p.0
-
 pub story_passed : (c : Course) (sd sd' : Side) (t : Option Topics) → c.side ≡ Some sd → PassesOn sd.behind sd.kept c.topics sd' t → (p : Story) → HasStory c p → HasStory (record c { side = Some sd'; topics = t }) p
 story_passed c sd sd' t e passes p k =
     let l = link_held p.opts p.link c.side sd e k.link in
@@ -203,11 +198,6 @@ course_same old new p e ep keeps = record {
 }
 
 -- ---- no output left
-
-pub gone_none : (link : Option (List LinkAct)) (opts : EngineOpts) (side : Option Side) → side ≡ None → IsOfLink opts link side → (acts : List LinkAct) → link ≡ Some acts → SomethingToWrite opts acts → ⊥
-gone_none None opts side e k acts d some = absurd cc
-gone_none (Some a) opts None e k acts d some = absurd k
-gone_none (Some a) opts (Some x) e k acts d some = absurd cc
 
 acts_eq : (x y : List LinkAct) → Some x ≡ Some y → x ≡ y
 acts_eq x y e = cc

@@ -215,9 +215,6 @@ module _ (opts : EngineOpts) (acts : List LinkAct) (k : Kept) (r : IsKeptOf opts
   pub none_of : HasNone k → SomethingToWrite opts acts → ⊥
   none_of none some = (none opts r.all r.run).1 (something_as opts acts r.all (tells_back r.all acts (tells_as opts acts k r)) some)
 
-  pub nothing_of : HasNone k → NothingToWrite opts acts
-  nothing_of none = nothing_as opts r.all acts (tells_as opts acts k r) (none opts r.all r.run).0
-
   heard_as : (d : Decoded) → Decodes opts (heard_of acts) d → Decodes opts (heard_of r.all) d
   heard_as d e = decodes_as opts r.all acts (tells_as opts acts k r) d e
 
